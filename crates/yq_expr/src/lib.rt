@@ -1,0 +1,2 @@
+//! Expressions: parsed into programs, and planned on documents.
+#![tactic(auto)]

@@ -1,0 +1,2 @@
+//! Records of edits, and the journal that undoes them.
+#![tactic(auto)]

@@ -1,0 +1,2 @@
+//! Every text of the profile, cut into rows.
+#![tactic(auto)]

@@ -1,0 +1,2 @@
+//! Characters, breaks and scalars of YAML, and the tree that a text stands for.
+#![tactic(auto)]

@@ -1,0 +1,2 @@
+//! Edits of a text, as splices.
+#![tactic(auto)]

@@ -1,0 +1,2 @@
+//! Documents: rows read as trees, with the places of their nodes.
+#![tactic(auto)]
