@@ -1,0 +1,5 @@
+pub mod Answers
+pub mod Characters
+pub mod Paths
+pub mod Text
+pub mod Tree

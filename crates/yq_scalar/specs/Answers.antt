@@ -1,0 +1,30 @@
+-- What an answer says of what reading a text gives.
+use Rattle.std.specs.Prelude.{◌≡◌, ℕ, ◌+◌, Option, Some, None, Result, Ok, Err}
+use Rattle.yq_scalar.specs.declared.fault.ReadError.{ReadError}
+use Rattle.yq_scalar.specs.declared.fault.ReadError.TheVariants as error
+
+infixl 10 ◌>>=◌
+-- what the second step gives of what the first one gave, if both give something (own)
+abbrev pub ◌>>=◌ : {A B : Type 0} → Option A → (A → Option B) → Option B
+(Some x) >>= f = f x
+None >>= f = None
+
+-- a length, if there is one, with k more (own)
+abbrev pub more : ℕ → Option ℕ → Option ℕ
+more k None = None
+more k (Some n) = Some (k + n)
+
+-- A fault comes where reading gives nothing; want of memory says nothing (own).
+abbrev pub Fails : {Y : Type 0} → ReadError → Option Y → Type 0
+Fails error.Memory read = Unit {0}
+Fails (error.Fault f) read = read ≡ None
+
+-- The answer, as it is seen, is what reading gives, unless memory ran out (own).
+abbrev pub Gives : {X Y : Type 0} → (X → Y) → Result X ReadError → Option Y → Type 0
+Gives view (Ok x) read = read ≡ Some (view x)
+Gives view (Err e) read = Fails e read
+
+-- The answer, as it is seen, is what reading gives; this is of functions that need no memory (own).
+abbrev pub Reads : {X Y E : Type 0} → (X → Y) → Result X E → Option Y → Type 0
+Reads view (Ok x) read = read ≡ Some (view x)
+Reads view (Err e) read = read ≡ None
