@@ -1,5 +1,5 @@
 -- What a place in an outline allows.
-use Rattle.std.proofs.Common.{◌≡◌, ℕ, ◌<◌, Option, None}
+use Rattle.std.proofs.Common.{◌≡◌, ℕ, ◌<◌, None}
 use Rattle.yq_tree.specs.Outline.{Mark, Bare, Key, Dash, level, Outline, end, row, IsOpen, IsEven}
 use Rattle.yq_tree.specs.Places.{Place, here, below, beside}
 

@@ -1,6 +1,6 @@
 -- The rules of the grammar and outlines say the same.
 use Rattle.std.proofs.Common.{◌≡◌, ℕ, ◌+◌, ◌<◌, List, [], ◌∷◌, ◌++◌, Option, Some, None, refl, sym, ap, ◌∙◌, subst, arith}
-use Rattle.yq_tree.specs.Tree.{Node, Children, none, child}
+use Rattle.yq_scalar.specs.Tree.{Node, Children, none, child}
 use Rattle.yq_tree.specs.Outline.{Mark, Bare, Key, Dash, Line, level, Outline, end, row, flatten, IsOpen, IsWhole, IsEven, anchored, head_or, null, label, collection, shaped, children, value, Stands}
 use Rattle.yq_tree.specs.Grammar.{IsNode, alone, mapping, sequence, AreEntries, no_more, entry, IsUnder, headed, missing, deeper_lines}
 use Rattle.yq_tree.proofs.Allowing.{IsEntry, IsCollection}

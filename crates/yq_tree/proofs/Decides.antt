@@ -1,7 +1,7 @@
 -- `stand` tells exactly what lines stand for.
 use Rattle.std.proofs.Common.{◌≡◌, ℕ, ◌+◌, ◌<◌, ltb, List, [], ◌∷◌, ◌++◌, Option, Some, None, Bool, true, false, cond, refl, sym, ap, ◌∙◌, arith, append_assoc}
 use Rattle.std.proofs.lemmas.Bool.{lt-ltb, ltb-true, eqb-true, eq-eqb, cond-true, and_parts, and_from, false≢true}
-use Rattle.yq_tree.specs.Tree.{Node}
+use Rattle.yq_scalar.specs.Tree.{Node}
 use Rattle.yq_tree.specs.Outline.{Mark, Bare, Key, Dash, Line, level, Outline, end, row, flatten, IsOpen, IsWhole, IsEven, value, Stands}
 use Rattle.yq_tree.specs.Group.{deeper, shallow, group}
 use Rattle.yq_tree.specs.Group.{is_open, is_whole, level_or, is_even, stand}

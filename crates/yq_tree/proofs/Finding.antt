@@ -1,8 +1,8 @@
 -- Where a path leads.
 use Rattle.std.proofs.Common.{◌≡◌, ℕ, List, [], ◌∷◌, Option, Some, None, option_map, option_and_then, Bool, true, false, cond, refl, sym, ap, ◌∙◌}
-use Rattle.yq_tree.specs.Tree.{Node, alias, scalar, list, map, Children}
-use Rattle.yq_tree.specs.Outline.{Mark, Bare, Key, Dash, Line, Outline, end, row, anchored, head_or, label, collection, children, value}
-use Rattle.yq_tree.specs.Paths.{Step, is_here, further, child_at, children_of, node_at}
+use Rattle.yq_scalar.specs.Tree.{Node, alias, scalar, list, map, Children, children_of}
+use Rattle.yq_tree.specs.Outline.{Mark, Bare, Key, Dash, Outline, end, row, anchored, head_or, label, collection, children, value}
+use Rattle.yq_scalar.specs.Paths.{Step, is_here, further, child_at, node_at}
 use Rattle.yq_tree.specs.Places.{here, below, plug, Found, next_to, find_row, inside, bare_or, in_head, find, content}
 use Rattle.yq_tree.proofs.Allowing.{IsEntry}
 use Rattle.yq_tree.proofs.Plug.{plug-compose}

@@ -1,5 +1,5 @@
 -- The law of places, from those of plugging.
-use Rattle.std.proofs.Common.{◌≡◌, ℕ, ◌<◌, ◌∷◌, ◌++◌, Option, Some, sym, ap, ◌∙◌, subst, append_assoc}
+use Rattle.std.proofs.Common.{◌≡◌, ◌<◌, ◌∷◌, ◌++◌, Option, Some, sym, ap, ◌∙◌, subst, append_assoc}
 use Rattle.yq_tree.specs.Outline.{Line, level, Outline, row, flatten, IsEven}
 use Rattle.yq_tree.specs.Places.{plug, lines_before, lines_after, Found, find}
 use Rattle.yq_tree.specs.Laws.{with_lines, Exchanged}

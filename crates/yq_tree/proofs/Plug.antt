@@ -1,6 +1,6 @@
 -- What exchanging the lines in a place does to the lines, to evenness and to the tree.
 use Rattle.std.proofs.Common.{◌≡◌, ℕ, ◌∷◌, ◌++◌, Option, Some, None, refl, sym, ap, ◌∙◌, subst, append_assoc, append-nil}
-use Rattle.yq_tree.specs.Tree.{Node}
+use Rattle.yq_scalar.specs.Tree.{Node}
 use Rattle.yq_tree.specs.Outline.{Mark, Bare, Key, Dash, Line, level, Outline, end, row, flatten, IsOpen, IsWhole, IsEven}
 use Rattle.yq_tree.specs.Places.{Place, here, below, beside, plug, lines_before, lines_after, compose}
 use Rattle.yq_tree.proofs.Allowing.{IsEntry, Allows}

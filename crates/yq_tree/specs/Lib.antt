@@ -1,5 +1,5 @@
-pub mod Tree
-pub mod Paths
+pub use Rattle.yq_scalar.specs.Tree
+pub use Rattle.yq_scalar.specs.Paths
 pub mod Outline
 pub mod Grammar
 pub mod Group

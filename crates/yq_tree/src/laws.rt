@@ -1,6 +1,6 @@
 //! Laws on the lines of block nodes, for the crates above.
 ghost use Rattle.std.specs.Prelude.{◌≡◌, ℕ, List, ◌∷◌};
-ghost use Rattle.yq_tree.specs.Tree.{Node};
+ghost use Rattle.yq_scalar.specs.Tree.{Node};
 ghost use Rattle.yq_tree.specs.Outline.{Line, Stands};
 ghost use Rattle.yq_tree.specs.Grammar.{IsNode};
 ghost use Rattle.yq_tree.specs.Laws.{Exchanged};
