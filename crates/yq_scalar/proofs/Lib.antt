@@ -1,0 +1,5 @@
+pub mod Bools
+pub mod Boundaries
+pub mod Breaks
+pub mod LineLaws
+pub mod Upto

@@ -33,6 +33,11 @@ abbrev pub is_break : List ℕ → Bool
 is_break [] = false
 is_break (b ∷ bs) = is_feed b || (is_return b && front is_feed bs)
 
+-- an LF or the end is in front (own)
+abbrev pub at_feed : List ℕ → Bool
+at_feed [] = true
+at_feed (b ∷ bs) = is_feed b
+
 -- white space or a break is in front (own)
 abbrev pub is_space : List ℕ → Bool
 is_space t = front is_white t || is_break t

@@ -1,8 +1,11 @@
 //! Characters, breaks and scalars of YAML, and the tree that a text stands for.
 #![tactic(auto)]
 
+pub mod characters;
 mod fault;
 mod kind;
+pub mod lines;
+pub mod text;
 
 pub use fault::{FaultKind, ReadError, ReadFault};
 pub use kind::Kind;

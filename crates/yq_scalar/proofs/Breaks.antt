@@ -1,0 +1,35 @@
+-- What a search for the next LF tells of breaks.
+use Rattle.std.proofs.Common.{◌≡◌, ℕ, suc, ◌+◌, ◌<◌, ◌≤◌, true, false, cond, not, min, eqb, List, [], ◌∷◌, length, Option, Some, None, refl, sym, arith}
+use Rattle.std.proofs.lemmas.Bool.{false_from_ne_true}
+use Rattle.std.proofs.lemmas.List.Sums.{position_or_len_is}
+use Rattle.std.specs.List.{position_or_len}
+use Rattle.std.specs.Option.{unwrap_or}
+use Rattle.memchr.specs.Find.{IsFirstByte, is_byte}
+use Rattle.yq_scalar.specs.Text.{upto, at_feed, line_len}
+use Rattle.yq_scalar.proofs.Upto.{upto_le_length}
+
+feed-position : (t : List ℕ) → upto at_feed t ≡ position_or_len (is_byte 10) t
+unfolding upto
+feed-position [] = refl
+feed-position (b ∷ bs) = let again = feed-position bs in
+    elim (eqb b 10) as (λ c. cond c 0 (suc (upto at_feed bs)) ≡ cond (not c) (1 + position_or_len (is_byte 10) bs) 0) [ true ↦ refl | false ↦ omega arith ]
+
+-- what a search for the LF found
+pub first_feed : (t : List ℕ) (r : Option ℕ) → IsFirstByte (is_byte 10) t r → unwrap_or r (length t) ≡ upto at_feed t
+first_feed t None h = rw feed-position (sym (position_or_len_is (is_byte 10) t (length t) 0 (omega arith)
+    (λ k below. false_from_ne_true _ (h k (omega arith) below)) (λ past. absurd (omega arith))))
+first_feed t (Some i) h = rw feed-position (sym (position_or_len_is (is_byte 10) t i 0 (omega (arith, h.0.high))
+    (λ k below. false_from_ne_true _ (h.0.before k (omega arith) below)) (λ _. h.1)))
+
+-- a line ends behind its LF, or at the end
+pub line_len-feed : (t : List ℕ) → line_len t ≡ min (upto at_feed t + 1) (length t)
+unfolding line_len upto
+line_len-feed [] = refl
+line_len-feed (b ∷ bs) = let again = line_len-feed bs in
+    elim (eqb b 10) as (λ c. cond c 1 (suc (line_len bs)) ≡ min (cond c 0 (suc (upto at_feed bs)) + 1) (suc (length bs))) [ true ↦ omega arith | false ↦ omega arith ]
+
+pub line_len_here : (t : List ℕ) (n : ℕ) → n ≡ upto at_feed t → n < length t → line_len t ≡ n + 1
+line_len_here t n e h = omega (arith, line_len-feed t)
+
+pub line_len_last : (t : List ℕ) (n : ℕ) → n ≡ upto at_feed t → length t ≤ n → line_len t ≡ n
+line_len_last t n e h = omega (arith, line_len-feed t, upto_le_length at_feed t)
