@@ -1,0 +1,105 @@
+-- Programs: what an expression says, apart from how it is written.
+use Rattle.std.specs.Prelude.{ℕ, ℤ, Bool, true, false, List, [], ◌∷◌, length, Option, Some, None, option_map}
+use Rattle.yq_scalar.specs.declared.kind.Kind.{Kind}
+use Rattle.yq_scalar.specs.Tree.{Node, alias, scalar, list, map}
+use Rattle.yq_expr.specs.declared.program.Operator.{Operator}
+use Rattle.yq_expr.specs.declared.program.Operator.TheVariants as operator
+use Rattle.yq_expr.specs.declared.program.CommentPlace.{CommentPlace}
+
+-- a step of a path: to the value of a key, to an item by its index, or to each item or value (own)
+pub data Step : Type 0 where
+  key : List ℕ → Step
+  index : ℤ → Step
+  each : Step
+
+-- what is compared: the value that steps lead to, or the number of the document (own)
+pub data Operand : Type 0 where
+  value_at : List Step → Operand
+  document_index : Operand
+
+-- what `select` asks: a comparison, equal or not, with a scalar, or that there is a key (own)
+pub data Condition : Type 0 where
+  compares : Operand → Bool → Kind → List ℕ → Condition
+  has : List ℕ → Condition
+
+-- a stage of a pipe (own)
+pub data Stage : Type 0 where
+  path : List Step → Stage
+  select : Condition → Stage
+
+-- a term of a sum: a literal, which is a node without anchors and comments, or what a pipe finds (own)
+pub data Term : Type 0 where
+  literal : Node → Term
+  found : List Stage → Term
+
+-- an update: of what a pipe finds, by a sum; its removal; or the text of its comment (own)
+pub data Update : Type 0 where
+  assign : List Stage → Operator → List Term → Update
+  delete : List Stage → Update
+  comment : List Stage → CommentPlace → List ℕ → Update
+
+-- a program: a pipe, which is a read, or updates (own)
+pub data Program : Type 0 where
+  read : List Stage → Program
+  updates : List Update → Program
+
+-- whether a program is a read (own)
+abbrev pub is_read : Program → Bool
+is_read (read stages) = true
+is_read (updates us) = false
+
+-- how many updates a program has (own)
+abbrev pub update_count : Program → ℕ
+update_count (read stages) = 0
+update_count (updates us) = length us
+
+-- the keys of steps that all lead to keys (own)
+abbrev pub keys_of : List Step → Option (List (List ℕ))
+keys_of [] = Some []
+keys_of (key k ∷ steps) = option_map (λ ks. k ∷ ks) (keys_of steps)
+keys_of (index n ∷ steps) = None
+keys_of (each ∷ steps) = None
+
+-- the kind and text of a scalar without an anchor (own)
+abbrev pub plain_scalar : Node → Option (Kind × List ℕ)
+plain_scalar (alias name) = None
+plain_scalar (scalar None kind text) = Some (kind, text)
+plain_scalar (scalar (Some name) kind text) = None
+plain_scalar (list name cs) = None
+plain_scalar (map name cs) = None
+
+-- the one literal of a sum that is a scalar (own)
+abbrev pub scalar_of : List Term → Option (Kind × List ℕ)
+scalar_of [] = None
+scalar_of (literal n ∷ []) = plain_scalar n
+scalar_of (literal n ∷ (t ∷ ts)) = None
+scalar_of (found stages ∷ ts) = None
+
+-- the keys of a pipe that is one path of one or more key steps (own)
+abbrev pub key_path : List Stage → Option (List (List ℕ))
+key_path [] = None
+key_path (select c ∷ stages) = None
+key_path (path [] ∷ stages) = None
+key_path (path (s ∷ steps) ∷ []) = keys_of (s ∷ steps)
+key_path (path (s ∷ steps) ∷ (stage ∷ stages)) = None
+
+-- both, if both are there (own)
+abbrev pub both : {A B : Type 0} → Option A → Option B → Option (A × B)
+both (Some a) (Some b) = Some (a, b)
+both (Some a) None = None
+both None b = None
+
+-- the keys and the scalar of an update that sets one key path to one scalar (own)
+abbrev pub assigned : Update → Option (List (List ℕ) × (Kind × List ℕ))
+assigned (assign left operator.Set right) = both (key_path left) (scalar_of right)
+assigned (assign left operator.Modify right) = None
+assigned (assign left operator.Add right) = None
+assigned (delete stages) = None
+assigned (comment left place text) = None
+
+-- the keys and the scalar of a program that is one such update (own)
+abbrev pub assignment_of : Program → Option (List (List ℕ) × (Kind × List ℕ))
+assignment_of (read stages) = None
+assignment_of (updates []) = None
+assignment_of (updates (u ∷ [])) = assigned u
+assignment_of (updates (u ∷ (v ∷ us))) = None

@@ -1,0 +1,135 @@
+//! Programs: what an expression says, as a syntax tree.
+ghost use Rattle.std.specs.Prelude.{◌≡◌};
+ghost use Rattle.yq_expr.specs.Program as spec;
+ghost use Rattle.yq_expr.specs.View.{program_of};
+
+use crate::scalar::Scalar;
+use crate::value::Value;
+
+/// A program: a read, or updates that are done one after the other.
+#[derive(Debug, Drop)]
+pub enum Program {
+    /// The stages of a pipe, one or more.
+    Read(Vec<Stage>),
+    /// One or more updates.
+    Updates(Vec<Update>),
+}
+
+/// A stage of a pipe, which takes each location that it is given to others.
+#[derive(Debug, Drop)]
+pub enum Stage {
+    /// The steps of a path: none for `.`.
+    Path(Vec<Step>),
+    /// Keeps the locations for which the condition holds.
+    Select(Condition),
+}
+
+/// A step of a path.
+#[derive(Debug, Drop)]
+pub enum Step {
+    /// To the value of a key.
+    Key(String),
+    /// To an item, counted from 0, or from -1 at the end.
+    Index(i64),
+    /// To each item or value.
+    Each,
+}
+
+/// What `select` asks of a location.
+#[derive(Debug, Drop)]
+pub enum Condition {
+    Compare(Comparison),
+    /// A mapping there has that key.
+    Has(String),
+}
+
+/// A value is compared with a scalar.
+#[derive(Debug, Drop)]
+pub struct Comparison {
+    pub operand: Operand,
+    /// `==`, and not `!=`.
+    pub equal: bool,
+    pub scalar: Scalar,
+}
+
+/// What is compared.
+#[derive(Debug, Drop)]
+pub enum Operand {
+    /// The value that these steps lead to. None of them is `Each`.
+    Path(Vec<Step>),
+    /// The number of the document, from 0.
+    DocumentIndex,
+}
+
+/// An update of the documents.
+#[derive(Debug, Drop)]
+pub enum Update {
+    Assign(Assignment),
+    /// Removes what the pipe finds.
+    Delete(Vec<Stage>),
+    Comment(Comment),
+}
+
+/// A sum of terms is assigned to each location that a pipe finds.
+#[derive(Debug, Drop)]
+pub struct Assignment {
+    pub left: Vec<Stage>,
+    pub operator: Operator,
+    /// One or more.
+    pub right: Vec<Term>,
+}
+
+/// How the right side of an assignment is taken.
+#[derive(Clone, Copy, PartialEq, Eq, Debug)]
+pub enum Operator {
+    /// `=`: found from the root.
+    Set,
+    /// `|=`: found from the location.
+    Modify,
+    /// `+=`: found from the root, and added to what is there.
+    Add,
+}
+
+/// A term of a sum.
+#[derive(Debug, Drop)]
+pub enum Term {
+    Literal(Value),
+    /// The value that the pipe finds.
+    Pipe(Vec<Stage>),
+}
+
+/// A comment is set at each location that a pipe finds.
+#[derive(Debug, Drop)]
+pub struct Comment {
+    pub left: Vec<Stage>,
+    pub place: CommentPlace,
+    pub text: String,
+}
+
+/// Where a comment stands.
+#[derive(Clone, Copy, PartialEq, Eq, Debug)]
+pub enum CommentPlace {
+    /// Behind the entry, on its line.
+    Line,
+    /// On lines of its own before the entry.
+    Head,
+}
+
+impl Program {
+    /// Whether it only reads.
+    pub fn is_read(&self) -> bool
+        ensures { result ≡ spec.is_read (program_of self.now) }
+    {
+        matches!(self, Program::Read(_))
+    }
+
+    /// How many updates it has: none if it only reads.
+    pub fn updates(&self) -> usize
+        ensures { result ≡ spec.update_count (program_of self.now) }
+    {
+        match self {
+            Program::Read(_) => 0,
+            Program::Updates(updates) => updates.len(),
+        }
+    }
+}
