@@ -3,3 +3,4 @@ pub mod Boundaries
 pub mod Breaks
 pub mod LineLaws
 pub mod Upto
+pub mod DistinctKeys

@@ -3,3 +3,4 @@ pub mod Characters
 pub mod Paths
 pub mod Text
 pub mod Tree
+pub mod Keys

@@ -3,9 +3,11 @@
 
 pub mod characters;
 mod fault;
+mod keys;
 mod kind;
 pub mod lines;
 pub mod text;
 
 pub use fault::{FaultKind, ReadError, ReadFault};
+pub use keys::are_distinct;
 pub use kind::Kind;
