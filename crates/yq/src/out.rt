@@ -1,0 +1,27 @@
+//! Outputs.
+ghost use Rattle.std.specs.Prelude.{◌≡◌, ◌++◌, ℕ, List, Bool, IsTrue, OnOk};
+ghost use Rattle.yq.specs.Count.{after_put};
+
+pub mod memory;
+pub mod standard;
+
+/// An output took not all bytes, or none.
+#[derive(Clone, Copy, Debug, PartialEq, Eq)]
+pub struct PutError;
+
+/// What takes the program's output.
+pub trait Out {
+    /// Whether it tells what it was given. What is said of its bytes holds only then.
+    ghost tells: { Bool };
+
+    /// The bytes put so far.
+    ghost taken: { Self → List ℕ };
+
+    /// How many calls failed, up to the last value of 64 bits, where it stays.
+    ghost failures: { Self → ℕ };
+
+    /// Puts bytes behind those put so far. After a failure nothing is known of them.
+    fn put(&mut self, bytes: &[u8]) -> Result<(), PutError>
+        ensures appended { IsTrue tells → OnOk result (taken self.new ≡ taken self.old ++ bytes.now) }
+        ensures count { failures self.new ≡ after_put result (failures self.old) };
+}

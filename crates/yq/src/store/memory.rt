@@ -1,0 +1,151 @@
+//! A store in memory, which can be told to fail.
+ghost use Rattle.std.specs.Prelude.{◌≡◌, true, [], IfOk, OnErr, option_map};
+ghost use Rattle.std.specs.FinMap as map;
+ghost use Rattle.std.specs.String.{string_bytes};
+ghost use Rattle.yq.specs.Content.{content_of};
+
+use crate::store::{FileReadError, Store, FileWriteError};
+use std::alloc::Global;
+use std::collections::VecDeque;
+
+/// What a write that fails leaves.
+#[derive(Clone, Copy, Debug, PartialEq, Eq)]
+pub enum Left {
+    OldBytes,
+    NewBytes,
+}
+
+/// Files in memory: the log of writes, the newest first.
+#[derive(Drop)]
+pub struct MemoryStore {
+    log: VecDeque<(String, Vec<u8>)>,
+    alloc: Global,
+    calls: u64,
+    fails: Option<(u64, Left)>,
+    failures: u64,
+}
+
+impl MemoryStore {
+    /// A store without files.
+    pub fn new(alloc: Global) -> MemoryStore
+        ensures log { result.log.items ≡ [] }
+        ensures failures { result.failures ≡ 0 }
+    {
+        MemoryStore {
+            log: VecDeque::new(alloc),
+            alloc,
+            calls: 0,
+            fails: None,
+            failures: 0,
+        }
+    }
+
+    /// Fails the call of this number, counted from 1 from now on.
+    pub fn fail_at(&mut self, call: u64, left: Left)
+        ensures log { self.new.log ≡ self.old.log }
+        ensures failures { self.new.failures ≡ self.old.failures }
+    {
+        self.calls = 0;
+        self.fails = Some((call, left));
+    }
+
+    /// How many calls there were since the last `fail_at`.
+    pub fn calls(&self) -> u64
+        ensures { result ≡ self.now.calls }
+    {
+        self.calls
+    }
+
+    /// How many calls failed.
+    pub fn failures(&self) -> u64
+        ensures { result ≡ self.now.failures }
+    {
+        self.failures
+    }
+
+    /// The bytes of a file, without a call of the store.
+    pub fn bytes(&self, name: &str) -> Option<&Vec<u8>>
+        ensures { option_map (λ v. v.now.items) result ≡ map.get (content_of self.now.log.items) name.now }
+    {
+        find_bytes(&self.log, name)
+    }
+
+    /// What a write of this call leaves, where this is the call to fail.
+    fn turn(&mut self) -> Option<Left>
+        ensures log { self.new.log ≡ self.old.log }
+        ensures failures { self.new.failures ≡ self.old.failures }
+        ensures alloc { self.new.alloc ≡ self.old.alloc }
+    {
+        self.calls = self.calls.saturating_add(1);
+        match self.fails {
+            Some((call, left)) if call == self.calls => Some(left),
+            _ => None,
+        }
+    }
+}
+
+/// The newest bytes of a name.
+fn find_bytes<'a>(log: &'a VecDeque<(String, Vec<u8>)>, name: &str) -> Option<&'a Vec<u8>>
+    ensures { option_map (λ v. v.now.items) result ≡ map.get (content_of log.now.items) name.now }
+{
+    'entries: for (k, bytes) in log {
+        if name == k.as_str() {
+            return Some(bytes);
+        }
+    }
+    None
+}
+
+/// An entry of the log.
+fn entry(alloc: Global, name: &str, bytes: &[u8]) -> Result<(String, Vec<u8>), FileWriteError>
+    ensures ok { IfOk result (λ e. (string_bytes e.0 ≡ name.now) × (e.1.items ≡ bytes.now)) }
+    ensures memory { OnErr result (result ≡ Err FileWriteError.OutOfMemory) }
+{
+    let Ok(name) = String::from_str(alloc, name) else {
+        return Err(FileWriteError::OutOfMemory);
+    };
+    let Ok(bytes) = bytes.to_vec(alloc) else {
+        return Err(FileWriteError::OutOfMemory);
+    };
+    Ok((name, bytes))
+}
+
+impl Store for MemoryStore {
+    ghost keeps = { true };
+
+    ghost content = { λ s. content_of s.log.items };
+
+    ghost failures = { λ s. s.failures };
+
+    fn read(&mut self, alloc: Global, name: &str) -> Result<Vec<u8>, FileReadError> {
+        if self.turn().is_some() {
+            self.failures = self.failures.saturating_add(1);
+            return Err(FileReadError::ReadFailed);
+        }
+        match find_bytes(&self.log, name) {
+            None => Err(FileReadError::NotThere),
+            Some(bytes) => match bytes.as_slice().to_vec(alloc) {
+                Ok(copy) => Ok(copy),
+                Err(_) => Err(FileReadError::OutOfMemory),
+            },
+        }
+    }
+
+    #[tactic(auto, using(crate::specs::Content::get_other))]
+    fn replace(&mut self, name: &str, bytes: &[u8]) -> Result<(), FileWriteError> {
+        let turn = self.turn();
+        if turn == Some(Left::OldBytes) {
+            self.failures = self.failures.saturating_add(1);
+            return Err(FileWriteError::WriteFailed);
+        }
+        let entry = entry(self.alloc, name, bytes)?;
+        if self.log.push_front(entry).is_err() {
+            return Err(FileWriteError::OutOfMemory);
+        }
+        if turn == Some(Left::NewBytes) {
+            self.failures = self.failures.saturating_add(1);
+            return Err(FileWriteError::WriteFailed);
+        }
+        Ok(())
+    }
+}

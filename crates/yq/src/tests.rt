@@ -1,0 +1,5 @@
+//! Tests of the program's parts.
+
+mod fault;
+mod outputs;
+mod stores;
