@@ -1,0 +1,11 @@
+pub use Rattle.yq_scalar.specs.Answers
+pub use Rattle.yq_scalar.specs.Characters
+pub use Rattle.yq_scalar.specs.Plain
+pub use Rattle.yq_scalar.specs.Text
+pub mod Built
+pub mod Comments
+pub mod Gap
+pub mod Grammar
+pub mod Reading
+pub mod Rows
+pub mod View
