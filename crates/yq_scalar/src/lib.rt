@@ -6,6 +6,7 @@ mod fault;
 mod keys;
 mod kind;
 pub mod lines;
+pub mod plain;
 pub mod text;
 
 pub use fault::{FaultKind, ReadError, ReadFault};

@@ -1,0 +1,140 @@
+//! Plain scalars (YAML 1.2.2, section 7.3.3).
+ghost use Rattle.std.specs.Prelude.{◌≡◌, true};
+ghost use Rattle.yq_scalar.specs.Plain as spec;
+ghost use Rattle.yq_scalar.specs.PlainReading as reading;
+ghost use Rattle.yq_scalar.specs.Text.{cut, upto};
+
+use crate::text::{is_break, is_marker, is_space, is_white, separates, spaces_len};
+
+/// `,`, `[`, `]`, `{` or `}`.
+fn is_flow_indicator(b: u8) -> bool
+    ensures { result ≡ spec.is_flow_indicator b }
+{
+    matches!(b, b',' | b'[' | b']' | b'{' | b'}')
+}
+
+/// Whether a safe character is in front.
+fn is_safe(flow: bool, text: &[u8]) -> bool
+    ensures { result ≡ spec.is_safe flow text.now }
+{
+    !separates(text) && !(flow && matches!(text, [b',' | b'[' | b']' | b'{' | b'}', ..]))
+}
+
+/// Whether a plain scalar has to end before the character in front.
+fn ends_text(flow: bool, text: &[u8]) -> bool
+    ensures { result ≡ spec.ends_text flow text.now }
+{
+    match text {
+        [] => false,
+        [b':', rest @ ..] => !is_safe(flow, rest),
+        [first, ..] => flow && is_flow_indicator(*first),
+    }
+}
+
+/// Whether a further line may begin so.
+fn begins_deep(spaces: Option<usize>, line: &[u8]) -> bool
+    ensures { result ≡ spec.begins_deep spaces line.now }
+{
+    match spaces {
+        None => false,
+        Some(least) => least <= spaces_len(line) && !is_marker(line),
+    }
+}
+
+/// How far it is over white space and breaks to where the scalar goes on.
+#[tactic(auto, using(crate::proofs::Bools::more_more, crate::proofs::Bools::more_none, crate::proofs::Bools::more_zero), unfolding(crate::specs::PlainReading::across))]
+fn across(flow: bool, spaces: Option<usize>, text: &[u8]) -> Option<usize>
+    ensures { result ≡ reading.across flow spaces true text.now }
+{
+    let mut n = 0;
+    let mut rest = text;
+    let mut deep = true;
+    'each: while let [first, after @ ..] = rest {
+        if is_white(*first) {
+            n += 1;
+            rest = after;
+        } else if *first == b'\n' {
+            deep = begins_deep(spaces, after);
+            n += 1;
+            rest = after;
+        } else if is_break(rest) {
+            n += 1;
+            rest = after;
+        } else if *first != b'#' && !ends_text(flow, rest) && deep {
+            return Some(n);
+        } else {
+            return None;
+        }
+    }
+    None
+}
+
+/// Whether a plain scalar may begin in front.
+pub fn begins_plain(flow: bool, text: &[u8]) -> bool
+    ensures { result ≡ spec.begins_plain flow text.now }
+{
+    match text {
+        [] => false,
+        [b'-' | b'?' | b':', rest @ ..] => is_safe(flow, rest),
+        [
+            b','
+            | b'['
+            | b']'
+            | b'{'
+            | b'}'
+            | b'#'
+            | b'&'
+            | b'*'
+            | b'!'
+            | b'|'
+            | b'>'
+            | b'\''
+            | b'"'
+            | b'%'
+            | b'@'
+            | b'`',
+            ..
+        ] => false,
+        _ => !is_space(text),
+    }
+}
+
+/// How far a plain scalar in front goes on, in bytes.
+pub fn plain_len(flow: bool, spaces: Option<usize>, text: &[u8]) -> usize
+    ensures { result ≡ upto (spec.ends_plain flow spaces) text.now }
+{
+    let mut n = 0;
+    let mut rest = text;
+    'each: while let [_, after @ ..] = rest {
+        if is_space(rest) {
+            if let Some(k) = across(flow, spaces, rest) {
+                n += k;
+                rest = rest.split_at(k).1;
+            } else {
+                return n;
+            }
+        } else if ends_text(flow, rest) {
+            return n;
+        } else {
+            n += 1;
+            rest = after;
+        }
+    }
+    n
+}
+
+/// The text cut where a plain scalar in front has to end. `flow` tells that it stands in a flow
+/// collection, and `spaces` with how many spaces a further line of it begins at least; with `None`
+/// it has one line.
+pub fn split_plain(flow: bool, spaces: Option<usize>, text: &str) -> (&str, &str)
+    ensures { (result.0.now, result.1.now) ≡ cut (spec.ends_plain flow spaces) text.now }
+{
+    text.split_at(plain_len(flow, spaces, text.as_bytes()))
+}
+
+/// Whether a break is in the text.
+pub fn holds_break(text: &str) -> bool
+    ensures { result ≡ spec.holds_break text.now }
+{
+    text.as_bytes().iter().any(|b| *b == b'\n')
+}
