@@ -6,3 +6,9 @@ pub mod DistinctKeys
 pub mod LineLaws
 pub mod PlainLaws
 pub mod Upto
+pub mod DigitLaws
+pub mod NumberLaws
+pub mod WordLaws
+pub mod FloatLaws
+pub mod SchemaLaws
+pub mod IntegerLaws

@@ -6,3 +6,6 @@ pub mod Plain
 pub mod PlainReading
 pub mod Text
 pub mod Tree
+pub mod Numbers
+pub mod Schema
+pub mod SchemaReading

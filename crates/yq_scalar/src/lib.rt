@@ -3,12 +3,16 @@
 
 pub mod characters;
 mod fault;
+mod integer;
 mod keys;
 mod kind;
 pub mod lines;
 pub mod plain;
+mod schema;
 pub mod text;
 
 pub use fault::{FaultKind, ReadError, ReadFault};
+pub use integer::int_value;
 pub use keys::are_distinct;
 pub use kind::Kind;
+pub use schema::resolve;
