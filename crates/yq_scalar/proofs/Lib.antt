@@ -2,9 +2,11 @@ pub mod Across
 pub mod Bools
 pub mod Boundaries
 pub mod Breaks
+pub mod Bytes
 pub mod DistinctKeys
 pub mod LineLaws
 pub mod PlainLaws
+pub mod PlainWritten
 pub mod Upto
 pub mod DigitLaws
 pub mod NumberLaws

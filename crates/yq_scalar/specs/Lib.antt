@@ -4,6 +4,7 @@ pub mod Keys
 pub mod Paths
 pub mod Plain
 pub mod PlainReading
+pub mod PlainText
 pub mod Text
 pub mod Tree
 pub mod Numbers

@@ -8,7 +8,9 @@ mod keys;
 mod kind;
 pub mod lines;
 pub mod plain;
+pub mod plain_text;
 mod schema;
+mod style;
 pub mod text;
 
 pub use fault::{FaultKind, ReadError, ReadFault};
@@ -16,3 +18,4 @@ pub use integer::int_value;
 pub use keys::are_distinct;
 pub use kind::Kind;
 pub use schema::resolve;
+pub use style::{Place, Style};

@@ -7,10 +7,33 @@ ghost use Rattle.yq_scalar.specs.Text.{cut, upto};
 use crate::text::{is_break, is_marker, is_space, is_white, separates, spaces_len};
 
 /// `,`, `[`, `]`, `{` or `}`.
-fn is_flow_indicator(b: u8) -> bool
+pub fn is_flow_indicator(b: u8) -> bool
     ensures { result ≡ spec.is_flow_indicator b }
 {
     matches!(b, b',' | b'[' | b']' | b'{' | b'}')
+}
+
+/// One of the characters that say what follows them.
+pub fn is_indicator(b: u8) -> bool
+    ensures { result ≡ spec.is_indicator b }
+{
+    is_flow_indicator(b)
+        || matches!(
+            b,
+            b'-' | b'?'
+                | b':'
+                | b'#'
+                | b'&'
+                | b'*'
+                | b'!'
+                | b'|'
+                | b'>'
+                | b'\''
+                | b'"'
+                | b'%'
+                | b'@'
+                | b'`'
+        )
 }
 
 /// Whether a safe character is in front.
@@ -76,26 +99,7 @@ pub fn begins_plain(flow: bool, text: &[u8]) -> bool
     match text {
         [] => false,
         [b'-' | b'?' | b':', rest @ ..] => is_safe(flow, rest),
-        [
-            b','
-            | b'['
-            | b']'
-            | b'{'
-            | b'}'
-            | b'#'
-            | b'&'
-            | b'*'
-            | b'!'
-            | b'|'
-            | b'>'
-            | b'\''
-            | b'"'
-            | b'%'
-            | b'@'
-            | b'`',
-            ..
-        ] => false,
-        _ => !is_space(text),
+        [first, ..] => !is_space(text) && !is_indicator(*first),
     }
 }
 
