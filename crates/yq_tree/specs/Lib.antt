@@ -5,3 +5,4 @@ pub mod Grammar
 pub mod Group
 pub mod Places
 pub mod Laws
+pub mod View

@@ -2,5 +2,7 @@
 #![tactic(auto)]
 
 mod laws;
+mod path;
 
 pub use laws::{exchanged, one_node, rules};
+pub use path::{Part, Path, Span, Step};

@@ -1,0 +1,38 @@
+//! Paths into documents, and places of their nodes.
+
+/// Where a node stands: its document, counted from 0, and the steps from the
+/// root of that document.
+#[derive(Debug, Drop)]
+pub struct Path {
+    pub doc: usize,
+    pub steps: Vec<Step>,
+}
+
+/// A step of a path.
+#[derive(Debug, Drop)]
+pub enum Step {
+    /// To the value of the entry with this key.
+    Key(String),
+    /// To an item, counted from 0.
+    Index(usize),
+}
+
+/// What is asked of a node.
+#[derive(Clone, Copy, Debug, PartialEq, Eq)]
+pub enum Part {
+    /// Its content.
+    Content,
+    /// Its entry or item, with the key or dash.
+    Entry,
+    /// The lines of comments before its entry or item.
+    HeadComment,
+    /// The comment behind its entry or item, on its line.
+    LineComment,
+}
+
+/// A place in a text, in bytes from its start.
+#[derive(Clone, Copy, Debug, PartialEq, Eq)]
+pub struct Span {
+    pub start: usize,
+    pub end: usize,
+}
