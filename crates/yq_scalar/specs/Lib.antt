@@ -10,3 +10,4 @@ pub mod Tree
 pub mod Numbers
 pub mod Schema
 pub mod SchemaReading
+pub mod Scalar
