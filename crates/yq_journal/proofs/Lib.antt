@@ -1,0 +1,3 @@
+pub mod GapLaws
+pub mod MoveLaws
+pub mod RecordLaws

@@ -1,0 +1,16 @@
+-- A text cut in two at a cursor.
+use Rattle.std.specs.Prelude.{List, ℕ, ◌++◌}
+use Rattle.yq_splice.specs.Patch.{Change}
+
+-- what stands before the cursor, and what behind it (own)
+pub record Cut : Type 0 where
+  pub before : List ℕ
+  pub behind : List ℕ
+
+-- the text that was cut (own)
+abbrev pub whole : Cut → List ℕ
+whole c = c.before ++ c.behind
+
+-- a splice of these parts (own)
+abbrev pub change : ℕ → List ℕ → List ℕ → Change
+change at old new = record { at = at; old = old; new = new }

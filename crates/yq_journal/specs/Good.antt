@@ -1,0 +1,50 @@
+-- A text and a journal beside a history, at rest and with a move open.
+use Rattle.std.specs.Prelude.{◌≡◌, ◌≢◌, ◌⊎◌, ℕ, ◌≤◌, List, [], ◌∷◌, length, Option, Some, None}
+use Rattle.yq_journal.specs.declared.moves.Move.{Move}
+use Rattle.yq_journal.specs.declared.moves.Move.TheVariants.{Edit, Undo, Redo}
+use Rattle.yq_journal.specs.History.{History, Revision, text_at, after_edit, after_undo, after_redo}
+use Rattle.yq_journal.specs.Record.{Patch, done}
+use Rattle.yq_journal.specs.State.{State, Pending, moved_text}
+
+-- each record leads from a text to the next, and has its expression (own)
+abbrev pub Leads : List ℕ → List Patch → List Revision → Type 0
+Leads t [] [] = Unit {0}
+Leads t (r ∷ rs) (e ∷ es) = (r.expr ≡ e.expr) × (done r t ≡ Some e.text) × Leads e.text rs es
+Leads t [] (e ∷ es) = ⊥
+Leads t (r ∷ rs) [] = ⊥
+
+-- a journal's records lead through a history, and both have one cursor (own)
+pub record Tells (s : State) (h : History) : Type 0 where
+  pub leads : Leads h.first s.records h.later
+  pub cursor : s.at ≡ h.at
+  pub within : h.at ≤ length h.later
+
+-- the history after a move that leads to a text (own)
+abbrev pub after_move : History → Move → List ℕ → History
+after_move h (Edit r) u = after_edit h r.expr u
+after_move h Undo u = after_undo h
+after_move h Redo u = after_redo h
+
+-- no open move: the text is that at the cursor (own)
+pub record AtRest (s : State) (t : List ℕ) (h : History) : Type 0 where
+  pub tells : Tells s h
+  pub text : t ≡ text_at h
+
+-- an open move: the journal tells the history before it and keeps the text at its cursor, which the move changes; the text is that one, or the one to which the move leads, with the history after it (own)
+pub record Underway (s : State) (p : Pending) (t : List ℕ) (h : History) : Type 0 where
+  pub before : History
+  pub tells : Tells s before
+  pub from : p.from ≡ text_at before
+  pub to : List ℕ
+  pub moves : moved_text s.records s.at p.step p.from ≡ Some to
+  pub changes : to ≢ p.from
+  pub stands : ((t ≡ p.from) × (h ≡ before)) ⊎ ((t ≡ to) × (h ≡ after_move before p.step to))
+
+-- the same, as a journal has an open move or none (own)
+abbrev pub DescribesPending : State → Option Pending → List ℕ → History → Type 0
+DescribesPending s None t h = AtRest s t h
+DescribesPending s (Some p) t h = Underway s p t h
+
+-- a journal beside a text describes a history (own)
+abbrev pub Describes : State → List ℕ → History → Type 0
+Describes s t h = DescribesPending s s.pending t h

@@ -1,0 +1,66 @@
+-- When a move or a squash is refused, and with which fault first.
+use Rattle.std.specs.Prelude.{◌≡◌, ◌≢◌, ◌==◌, ℕ, ◌≤◌, ◌&&◌, List, length, nat_le, if◌then◌else◌, Option, Some, None, is_some}
+use Rattle.std.specs.Option.{ForSome}
+use Rattle.yq_journal.specs.declared.fault.JournalFault.{JournalFault}
+use Rattle.yq_journal.specs.declared.fault.JournalFault.TheVariants.{NothingToUndo, NothingToRedo, DoesNotStand, Unsettled, JournalFull, BadCount}
+use Rattle.yq_journal.specs.declared.fault.JournalError.{JournalError}
+use Rattle.yq_journal.specs.declared.fault.JournalError.TheVariants as error
+use Rattle.yq_journal.specs.declared.moves.Move.{Move}
+use Rattle.yq_journal.specs.declared.moves.Move.TheVariants.{Edit, Undo, Redo}
+use Rattle.yq_journal.specs.Record.{Patch, meet}
+use Rattle.yq_journal.specs.State.{State, moved_text, last_done}
+
+-- an error names the fault; want of memory says nothing (own)
+abbrev pub Names : JournalError → Option JournalFault → Type 0
+Names error.Memory fault = Unit {0}
+Names (error.Fault f) fault = fault ≡ Some f
+
+-- how many records a journal may hold (own)
+abbrev pub most_records : ℕ
+most_records = 4096
+
+-- an edit needs room, an undo and a redo a record to move over (own)
+abbrev pub no_way : List Patch → ℕ → Move → Option JournalFault
+no_way records at (Edit r) = if nat_le most_records at then Some JournalFull else None
+no_way records at Undo = if at == 0 then Some NothingToUndo else None
+no_way records at Redo = if nat_le (length records) at then Some NothingToRedo else None
+
+-- the fault of a move that leads nowhere (own)
+abbrev pub if_moves : Option (List ℕ) → Option JournalFault
+if_moves None = Some DoesNotStand
+if_moves (Some t) = None
+
+-- the first of two faults (own)
+abbrev pub or_else : Option JournalFault → Option JournalFault → Option JournalFault
+or_else None b = b
+or_else (Some f) b = Some f
+
+-- the first fault of a move on a text, where no move is open (own)
+abbrev pub way_fault : List Patch → ℕ → Move → List ℕ → Option JournalFault
+way_fault records at step t = or_else (no_way records at step) (if_moves (moved_text records at step t))
+
+-- the first fault of a move on a text (own)
+abbrev pub move_fault : State → Move → List ℕ → Option JournalFault
+move_fault s step t = if is_some s.pending then Some Unsettled else way_fault s.records s.at step t
+
+-- the first fault of a record that is pushed (own)
+abbrev pub push_fault : State → Patch → Option JournalFault
+push_fault s r = if is_some s.pending then Some Unsettled else no_way s.records s.at (Edit r)
+
+-- the first fault of a squash of n records: there are n done ones, at least one, and each ends with the length with which the next one begins (own)
+abbrev pub squash_fault : State → ℕ → Option JournalFault
+squash_fault s n =
+    if is_some s.pending then Some Unsettled
+    else if nat_le 1 n && nat_le n s.at && meet (last_done s n) then None
+    else Some BadCount
+
+-- an open move stands on its text and changes it (own)
+pub record CanMove (records : List Patch) (at : ℕ) (step : Move) (from : List ℕ) : Type 0 where
+  pub stands : way_fault records at step from ≡ None
+  pub changes : moved_text records at step from ≢ Some from
+
+-- what holds of every journal (own)
+pub record IsSound (s : State) : Type 0 where
+  pub within : s.at ≤ length s.records
+  pub limit : length s.records ≤ most_records
+  pub open_move : ForSome s.pending (λ p. CanMove s.records s.at p.step p.from)

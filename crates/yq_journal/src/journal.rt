@@ -1,0 +1,196 @@
+//! The journal: records, a cursor, and perhaps an open move.
+ghost use Rattle.std.specs.Prelude.{◌≡◌, ◌≢◌, ◌⊎◌, ◌<◌, None, Some, IfOk, IfErr, OnOk, OnErr, IsNone, IsOk, length, slice_get};
+ghost use Rattle.yq_journal.specs.Refusals.{Names, move_fault, push_fault};
+ghost use Rattle.yq_journal.specs.State.{empty_state, moved, moved_text, opened, settled};
+
+use crate::fault::{JournalError, JournalFault};
+use crate::moves::{MAX_RECORDS, Move, lead, make, target};
+use crate::record::Record;
+use std::alloc::Global;
+use std::marker::Model;
+
+/// A move that is open, and the whole text from which it starts.
+#[derive(Drop)]
+struct Open {
+    step: Move,
+    from: Vec<u8>,
+}
+
+impl Model for Open {
+    ghost use Rattle.yq_journal.specs.State.{Pending};
+
+    ghost Value = { Pending };
+
+    ghost view = { λ o. record { step = o.step; from = o.from.items } };
+}
+
+/// Records of edits, oldest first, a cursor, and perhaps an open move.
+#[derive(Drop)]
+pub struct Journal {
+    records: Vec<Record>,
+    at: usize,
+    open: Option<Open>,
+    alloc: Global,
+}
+
+impl Model for Journal {
+    ghost use Rattle.yq_journal.specs.Refusals.{IsSound};
+    ghost use Rattle.yq_journal.specs.State.{State, state};
+
+    ghost Value = { State };
+
+    ghost view = { λ j. state j.records.items j.at j.open };
+
+    ghost invariant = { λ j. IsSound (state j.records.items j.at j.open) };
+}
+
+impl Journal {
+    /// The journal of a text that was never edited.
+    pub fn new(alloc: Global) -> Journal
+        ensures { result ≡ empty_state }
+    {
+        Journal {
+            records: Vec::new(alloc),
+            at: 0,
+            open: None,
+            alloc,
+        }
+    }
+
+    /// How many records are done.
+    pub fn at(&self) -> usize
+        ensures { result ≡ self.now.at }
+    {
+        self.at
+    }
+
+    /// How many records there are, done and undone.
+    pub fn len(&self) -> usize
+        ensures { result ≡ length self.now.records }
+    {
+        self.records.len()
+    }
+
+    /// A record, counted from 0, oldest first.
+    pub fn record(&self, i: usize) -> &Record
+        requires { i < length self.now.records }
+        ensures { slice_get self.now.records i ≡ Some result.now }
+    {
+        &self.records[i]
+    }
+
+    /// Adds a record of an edit and drops the undone ones. Refused, with the
+    /// record handed back, as `Unsettled` where a move is open, and then as
+    /// `JournalFull` where the cursor is at the last record that there may be.
+    pub fn push(&mut self, added: Record) -> Result<(), (Record, JournalError)>
+        ensures free { OnOk result (push_fault self.old added ≡ None) }
+        ensures ok { OnOk result (self.new ≡ moved self.old (Move.Edit added)) }
+        ensures fault { IfErr result (λ e. Names e.1 (push_fault self.old added)) }
+        ensures err { IfErr result (λ e. (e.0 ≡ added) × (self.new ≡ self.old)) }
+    {
+        if self.open.is_some() {
+            return Err((added, JournalError::Fault(JournalFault::Unsettled)));
+        }
+        if self.at >= MAX_RECORDS {
+            return Err((added, JournalError::Fault(JournalFault::JournalFull)));
+        }
+        match make(&mut self.records, &mut self.at, Move::Edit(added)) {
+            Err(Move::Edit(back)) => Err((back, JournalError::Memory)),
+            _ => Ok(()),
+        }
+    }
+
+    /// Moves the cursor back over a record and gives the text before it.
+    /// Refused, first to last: as `Unsettled` where a move is open, as
+    /// `NothingToUndo`, as `DoesNotStand`.
+    pub fn undo(&mut self, text: &[u8]) -> Result<Vec<u8>, JournalError>
+        ensures free { OnOk result (move_fault self.old Move.Undo text.now ≡ None) }
+        ensures ok { IfOk result (λ v. moved_text self.old.records self.old.at Move.Undo text.now ≡ Some v.items) }
+        ensures moved { OnOk result (self.new ≡ moved self.old Move.Undo) }
+        ensures fault { IfErr result (λ e. Names e (move_fault self.old Move.Undo text.now)) }
+        ensures err { OnErr result (self.new ≡ self.old) }
+    {
+        if self.open.is_some() {
+            return Err(JournalError::Fault(JournalFault::Unsettled));
+        }
+        let made = target(self.alloc, &self.records, self.at, &Move::Undo, text)?;
+        self.at -= 1;
+        Ok(made)
+    }
+
+    /// Moves the cursor on over a record and gives the text after it.
+    /// Refused, first to last: as `Unsettled` where a move is open, as
+    /// `NothingToRedo`, as `DoesNotStand`.
+    pub fn redo(&mut self, text: &[u8]) -> Result<Vec<u8>, JournalError>
+        ensures free { OnOk result (move_fault self.old Move.Redo text.now ≡ None) }
+        ensures ok { IfOk result (λ v. moved_text self.old.records self.old.at Move.Redo text.now ≡ Some v.items) }
+        ensures moved { OnOk result (self.new ≡ moved self.old Move.Redo) }
+        ensures fault { IfErr result (λ e. Names e (move_fault self.old Move.Redo text.now)) }
+        ensures err { OnErr result (self.new ≡ self.old) }
+    {
+        if self.open.is_some() {
+            return Err(JournalError::Fault(JournalFault::Unsettled));
+        }
+        let made = target(self.alloc, &self.records, self.at, &Move::Redo, text)?;
+        self.at += 1;
+        Ok(made)
+    }
+
+    /// Opens a move and keeps the whole text from which it starts. Refused,
+    /// with the move handed back, first to last: as `Unsettled` where a move
+    /// is open, as `JournalFull`, as `NothingToUndo` or `NothingToRedo`, as
+    /// `DoesNotStand`.
+    pub fn start(&mut self, step: Move, text: &[u8]) -> Result<(), (Move, JournalError)>
+        requires { moved_text self.old.records self.old.at step text.now ≢ Some text.now }
+        ensures free { OnOk result (move_fault self.old step text.now ≡ None) }
+        ensures ok { OnOk result (self.new ≡ opened self.old step text.now) }
+        ensures fault { IfErr result (λ e. Names e.1 (move_fault self.old step text.now)) }
+        ensures err { IfErr result (λ e. (e.0 ≡ step) × (self.new ≡ self.old)) }
+    {
+        if self.open.is_some() {
+            return Err((step, JournalError::Fault(JournalFault::Unsettled)));
+        }
+        match target(self.alloc, &self.records, self.at, &step, text) {
+            Err(error) => Err((step, error)),
+            Ok(_) => match text.to_vec(self.alloc) {
+                Err(_) => Err((step, JournalError::Memory)),
+                Ok(from) => {
+                    self.open = Some(Open { step, from });
+                    Ok(())
+                }
+            },
+        }
+    }
+
+    /// Settles an open move beside a text: drops it beside the text from
+    /// which it starts, finishes it beside the one to which it leads, and is
+    /// refused as `Unsettled` beside any other. With no open move it does
+    /// nothing, and takes no memory.
+    pub fn settle(&mut self, text: &[u8]) -> Result<(), JournalError>
+        ensures ok { OnOk result (settled self.old text.now ≡ Some self.new) }
+        ensures at_rest { IsNone self.old.pending → IsOk result }
+        ensures fault { IfErr result (λ e. (e ≡ JournalError.Memory) ⊎ ((e ≡ JournalError.Fault JournalFault.Unsettled) × (settled self.old text.now ≡ None))) }
+        ensures err { OnErr result (self.new ≡ self.old) }
+    {
+        let Some(held) = &self.open else {
+            return Ok(());
+        };
+        if held.from.as_slice() == text {
+            self.open = None;
+            return Ok(());
+        }
+        match lead(self.alloc, &self.records, self.at, &held.step, &held.from) {
+            Ok(made) if made.as_slice() == text => (),
+            Err(JournalError::Memory) => return Err(JournalError::Memory),
+            _ => return Err(JournalError::Fault(JournalFault::Unsettled)),
+        }
+        if let Some(taken) = self.open.take() {
+            let Open { step, from } = taken;
+            if let Err(step) = make(&mut self.records, &mut self.at, step) {
+                self.open = Some(Open { step, from });
+                return Err(JournalError::Memory);
+            }
+        }
+        Ok(())
+    }
+}

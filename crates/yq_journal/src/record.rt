@@ -1,0 +1,69 @@
+//! A record of an edit, and what it does to a text.
+ghost use Rattle.std.specs.Prelude.{◌≡◌, ◌↔◌, ℕ, List, Some, IfOk, IfErr};
+ghost use Rattle.yq_journal.specs.Record.{Patch, done, undone};
+ghost use Rattle.yq_journal.specs.Refusals.{Names, if_moves};
+
+use crate::fault::{JournalError, JournalFault};
+use crate::gap::{spliced, unspliced};
+use std::alloc::Global;
+use std::marker::Model;
+use yq_splice::Splice;
+
+/// What an edit did: its expression, its splices in order, and the lengths
+/// in bytes of the texts before and after it.
+#[derive(Drop)]
+pub struct Record {
+    pub expr: String,
+    pub splices: Vec<Splice>,
+    pub before_len: u64,
+    pub after_len: u64,
+    /// How many edits it stands for.
+    pub count: u64,
+}
+
+impl Model for Record {
+    ghost use Rattle.std.specs.String.{string_bytes};
+    ghost use Rattle.yq_journal.specs.Record.{Patch, IsRecord};
+
+    ghost Value = { Patch };
+
+    ghost view = { λ r. record { expr = string_bytes r.expr; changes = r.splices.items; before_len = r.before_len; after_len = r.after_len; count = r.count } };
+
+    ghost invariant = { λ r. IsRecord (record { expr = string_bytes r.expr; changes = r.splices.items; before_len = r.before_len; after_len = r.after_len; count = r.count }) };
+}
+
+/// The text that an edit leads to from this one: refused as `DoesNotStand`
+/// exactly where its record doesn't stand before it.
+pub fn redo_record(alloc: Global, patch: &Record, text: &[u8]) -> Result<Vec<u8>, JournalError>
+    ensures ok { IfOk result (λ v. done patch.now text.now ≡ Some v.items) }
+    ensures err { IfErr result (λ e. Names e (if_moves (done patch.now text.now))) }
+{
+    if text.len() as u64 != patch.before_len {
+        return Err(JournalError::Fault(JournalFault::DoesNotStand));
+    }
+    match spliced(alloc, &patch.splices, text)? {
+        Some(made) if made.len() as u64 == patch.after_len => Ok(made),
+        _ => Err(JournalError::Fault(JournalFault::DoesNotStand)),
+    }
+}
+
+/// The text from which an edit led to this one: refused as `DoesNotStand`
+/// exactly where its record doesn't stand after it.
+pub fn undo_record(alloc: Global, patch: &Record, text: &[u8]) -> Result<Vec<u8>, JournalError>
+    ensures ok { IfOk result (λ v. undone patch.now text.now ≡ Some v.items) }
+    ensures err { IfErr result (λ e. Names e (if_moves (undone patch.now text.now))) }
+{
+    if text.len() as u64 != patch.after_len {
+        return Err(JournalError::Fault(JournalFault::DoesNotStand));
+    }
+    match unspliced(alloc, &patch.splices, text)? {
+        Some(made) if made.len() as u64 == patch.before_len => Ok(made),
+        _ => Err(JournalError::Fault(JournalFault::DoesNotStand)),
+    }
+}
+
+/// What a record did is undone, and what it undid is done again, on every
+/// text on which it stands.
+pub fn record_inverts()
+    ensures { (r : Patch) (b c : List ℕ) → (done r b ≡ Some c) ↔ (undone r c ≡ Some b) }
+{}
