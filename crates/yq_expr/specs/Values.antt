@@ -25,7 +25,7 @@ entries (e ∷ es) = tree.child (entry e.0) e.1 (entries es)
 
 -- one level of a value, with each value inside already seen as its node (own)
 abbrev pub value_step : Value-F Node → Node
-value_step (Value-F.Scalar s) = tree.scalar None s.kind (string_bytes s.text)
+value_step (Value-F.Scalar s) = tree.scalar None s.kind s.text
 value_step (Value-F.List v) = tree.list None (items v.items)
 value_step (Value-F.Map v) = tree.map None (entries (map (λ e. (string_bytes e.0, e.1)) v.items))
 

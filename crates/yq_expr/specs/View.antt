@@ -23,7 +23,7 @@ operand_of operand.TheVariants.DocumentIndex = document_index
 
 -- the condition that one of the code stands for (own)
 abbrev pub condition_of : condition.Condition → Condition
-condition_of (condition.TheVariants.Compare c) = compares (operand_of c.operand) c.equal c.scalar.kind (string_bytes c.scalar.text)
+condition_of (condition.TheVariants.Compare c) = compares (operand_of c.operand) c.equal c.scalar.kind c.scalar.text
 condition_of (condition.TheVariants.Has k) = has (string_bytes k)
 
 -- the stage that one of the code stands for (own)

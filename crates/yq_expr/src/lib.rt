@@ -3,7 +3,6 @@
 
 mod program;
 mod refusal;
-mod scalar;
 mod value;
 
 pub use program::{
@@ -11,5 +10,4 @@ pub use program::{
     Step, Term, Update,
 };
 pub use refusal::Refusal;
-pub use scalar::Scalar;
 pub use value::Value;
