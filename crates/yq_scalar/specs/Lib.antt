@@ -11,3 +11,4 @@ pub mod Numbers
 pub mod Schema
 pub mod SchemaReading
 pub mod Scalar
+pub mod Writable

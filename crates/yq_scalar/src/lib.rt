@@ -13,6 +13,7 @@ mod scalar;
 mod schema;
 mod style;
 pub mod text;
+mod writable;
 
 pub use fault::{FaultKind, ReadError, ReadFault};
 pub use integer::int_value;
@@ -21,3 +22,4 @@ pub use kind::Kind;
 pub use scalar::Scalar;
 pub use schema::resolve;
 pub use style::{Place, Style};
+pub use writable::can_write;
