@@ -11,6 +11,8 @@ pub mod plain;
 pub mod plain_text;
 mod scalar;
 mod schema;
+#[cfg(test)]
+mod schema_tests;
 mod style;
 pub mod text;
 mod writable;

@@ -1,0 +1,135 @@
+//! The core schema's table with near misses, the values of ints, and scalars.
+
+use crate::integer::int_value;
+use crate::kind::Kind;
+use crate::scalar::Scalar;
+use crate::schema::resolve;
+use std::test::Fail;
+
+#[test]
+fn rows_of_words(rt: HostRuntime) {
+    for text in ["", "null", "Null", "NULL", "~"] {
+        assert_eq!(rt; resolve(text), Kind::Null, "at {text:?}");
+    }
+    for text in ["true", "True", "TRUE", "false", "False", "FALSE"] {
+        assert_eq!(rt; resolve(text), Kind::Bool, "at {text:?}");
+    }
+    for text in [
+        "nUll", "nul", "nulls", "~~", "tRUE", "truee", "tru", "yes", "no", "on", "off",
+    ] {
+        assert_eq!(rt; resolve(text), Kind::Text, "at {text:?}");
+    }
+}
+
+#[test]
+fn rows_of_ints(rt: HostRuntime) {
+    for text in [
+        "0",
+        "-0",
+        "+0",
+        "007",
+        "-19",
+        "+12",
+        "0o7",
+        "0o17",
+        "0x3A",
+        "0xdeadBEEF",
+    ] {
+        assert_eq!(rt; resolve(text), Kind::Int, "at {text:?}");
+    }
+    let misses = [
+        "+", "-", "+-1", "0o", "0x", "0o8", "0xg", "+0x1", "-0o7", "0O7", "0X1", "0b1", "1_000",
+        "1 ", "0x 1",
+    ];
+    for text in misses {
+        assert_eq!(rt; resolve(text), Kind::Text, "at {text:?}");
+    }
+}
+
+#[test]
+fn rows_of_floats(rt: HostRuntime) {
+    let floats = [
+        "0.", "-0.0", ".5", "+12e03", "-2E+05", "1.", "-.5", "1e3", "1.e3", ".5e-1", "01.5",
+        ".inf", "-.Inf", "+.INF", ".nan", ".NaN", ".NAN",
+    ];
+    for text in floats {
+        assert_eq!(rt; resolve(text), Kind::Float, "at {text:?}");
+    }
+    let misses = [
+        ".", "+.", "1e", "1e+", "e3", ".e3", "..5", "1.5.", "1.5e", "1e1.5", "+.nan", "-.NaN",
+        ".iNF", ".nAN", "inf", "0x1.5", "0o7e1",
+    ];
+    for text in misses {
+        assert_eq!(rt; resolve(text), Kind::Text, "at {text:?}");
+    }
+}
+
+#[test]
+fn numbers_of_ints(rt: HostRuntime) {
+    let numbers = [
+        ("0", 0),
+        ("-0", 0),
+        ("+5", 5),
+        ("-19", -19),
+        ("007", 7),
+        ("00000000000000000000000000000012", 12),
+        ("0o17", 15),
+        ("0x0F", 15),
+        ("0xdeadBEEF", 3_735_928_559),
+        ("9223372036854775807", i64::MAX),
+        ("-9223372036854775808", i64::MIN),
+        ("0o777777777777777777777", i64::MAX),
+        ("0x7fffffffffffffff", i64::MAX),
+    ];
+    for (text, number) in numbers {
+        assert_eq!(rt; int_value(text), Some(number), "at {text:?}");
+    }
+    let none = [
+        "",
+        "-",
+        "x",
+        "1.0",
+        "1e3",
+        "0x",
+        "0o8",
+        "0x-1",
+        "0o+7",
+        "+0x1",
+        "9223372036854775808",
+        "-9223372036854775809",
+        "0x8000000000000000",
+        "0o1000000000000000000000",
+    ];
+    for text in none {
+        assert_eq!(rt; int_value(text), None, "at {text:?}");
+    }
+}
+
+#[test]
+fn scalars(rt: HostRuntime) -> Result<(), Fail> {
+    let alloc = rt.alloc();
+    let plain = [
+        ("~", Kind::Null, "null"),
+        ("", Kind::Null, "null"),
+        ("True", Kind::Bool, "True"),
+        ("0x0F", Kind::Int, "0x0F"),
+        ("1.50", Kind::Float, "1.50"),
+        ("a b", Kind::Text, "a b"),
+    ];
+    for (text, kind, kept) in plain {
+        let scalar = Scalar::plain(alloc, text)?;
+        assert_eq!(rt; scalar.kind(), kind, "at {text:?}");
+        assert_eq!(rt; scalar.text(), kept, "at {text:?}");
+    }
+    let text = Scalar::string(String::from_str(alloc, "null")?);
+    let null = Scalar::null(alloc)?;
+    assert_eq!(rt; text.kind(), Kind::Text);
+    assert_eq!(rt; null.kind(), Kind::Null);
+    assert!(rt; !text.same(&null));
+    assert!(rt; text.same(&text.copy(alloc)?));
+    assert!(rt; null.same(&Scalar::plain(alloc, "NULL")?));
+    assert!(rt; !Scalar::plain(alloc, "1")?.same(&Scalar::plain(alloc, "01")?));
+    let text = text.into_text();
+    assert_eq!(rt; text.as_str(), "null");
+    Ok(())
+}
