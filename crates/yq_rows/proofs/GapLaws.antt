@@ -6,13 +6,16 @@ use Rattle.std.proofs.lemmas.List.{take-append-drop, drop-drop}
 use Rattle.std.proofs.Math.Seq.{take-append_seam, drop-append_seam, take-append-add, drop-append-add, take-add}
 use Rattle.yq_scalar.specs.Text.{upto, cut, NoneIn, no_white, is_white, is_feed, is_return, front, is_break, ends_line, is_empty, is_line, past_white, line_len, cut_line, joined}
 use Rattle.yq_scalar.proofs.Bools.{is_true, and_true, or_false, at_byte}
+use Rattle.std.proofs.lemmas.Str.{IsCharBoundary-start, IsCharBoundary-from_rest, IsUtf8-drop}
+use Rattle.std.specs.Str.{IsUtf8, IsCharBoundary}
+use Rattle.yq_scalar.proofs.Boundaries.{boundary_line}
 use Rattle.yq_scalar.proofs.LineLaws.{line_len_some, line_len_within, line_cut}
 use Rattle.yq_scalar.proofs.Upto.{cut-append}
 use Rattle.yq_rows.specs.Gap.{IsWhite, IsBreak, IsComment, IsLineEnd, IsGapLine, AreGapLines, IsGap}
 use Rattle.yq_rows.specs.Reading.{is_hash, is_gap_line, gap_lines, gap_len, cut_gap}
 
 -- white space
-none_in_white : (w rest : List ℕ) → IsWhite w → NoneIn no_white w rest
+pub none_in_white : (w rest : List ℕ) → IsWhite w → NoneIn no_white w rest
 none_in_white [] rest h = tt
 none_in_white (b ∷ w) rest h = (rw h.0 refl, none_in_white w rest h.1)
 
@@ -288,3 +291,16 @@ pub gap_again : (p rest : List ℕ) → IsGapCut p rest → cut_gap (p ++ rest) 
 gap_again p rest h =
     let n : gap_len (p ++ rest) ≡ length p = rw h.0.spelled (gap_len-lines h.0.lines rest h.0.each h.1) in
     rw n (rw (take-append_seam, drop-append_seam) refl)
+
+-- where the text is cut behind its gap
+boundary_lines : (n : ℕ) (t : List ℕ) → IsUtf8 t → IsCharBoundary t (gap_lines n t)
+unfolding gap_lines
+boundary_lines zero t u = IsCharBoundary-start t u
+boundary_lines (suc n) t u =
+    let here = boundary_line t (line_len t) refl u in
+    cond_both (is_gap_line t) (line_len t + gap_lines n (drop (line_len t) t)) 0 (λ k. IsCharBoundary t k)
+    (λ _. IsCharBoundary-from_rest t (line_len t) _ (line_len_within t) (boundary_lines n (drop (line_len t) t) (IsUtf8-drop t _ u here)))
+    (λ _. IsCharBoundary-start t u)
+
+pub boundary_gap : (t : List ℕ) (n : ℕ) → n ≡ gap_len t → IsUtf8 t → IsCharBoundary t n
+boundary_gap t n e u = rw e (boundary_lines (length t) t u)

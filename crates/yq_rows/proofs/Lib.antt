@@ -1,1 +1,4 @@
 pub mod GapLaws
+pub mod PieceLaws
+pub mod RowLaws
+pub mod RowsLaws

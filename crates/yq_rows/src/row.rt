@@ -1,6 +1,7 @@
 //! A row of a text.
 ghost use Rattle.std.specs.Prelude.{◌≡◌};
-ghost use Rattle.yq_rows.specs.Rows as spec;
+ghost use Rattle.yq_rows.specs.Grammar as grammar;
+ghost use Rattle.yq_rows.specs.View.{limit_view, view};
 ghost use Rattle.yq_rows.specs.View.{view};
 
 /// A row, as slices of its text.
@@ -63,5 +64,44 @@ impl<'t> Row<'t> {
         ensures { result.now ≡ (view self.now).tail }
     {
         self.tail
+    }
+}
+
+/// What a row asks of the next one.
+#[derive(Clone, Copy, Debug)]
+pub(crate) struct Limit {
+    /// At which column that row stands at most, if this is asked.
+    column: Option<usize>,
+}
+
+impl Limit {
+    /// What is asked of the first row: nothing.
+    pub(crate) fn none() -> Limit
+        ensures { limit_view result ≡ grammar.unlimited }
+    {
+        Limit { column: None }
+    }
+
+    /// What a row asks of the one behind it.
+    pub(crate) fn after(row: &Row<'_>) -> Limit
+        ensures { limit_view result ≡ grammar.limit_after (view row.now) }
+    {
+        Limit {
+            column: if row.head.is_empty() {
+                None
+            } else {
+                Some(row.column)
+            },
+        }
+    }
+
+    /// Whether a row may stand at a column.
+    pub(crate) fn allows(self, column: usize) -> bool
+        ensures { result ≡ grammar.allows (limit_view self) column }
+    {
+        match self.column {
+            None => true,
+            Some(most) => column <= most,
+        }
     }
 }

@@ -1,0 +1,40 @@
+//! Blank lines and comment lines.
+ghost use Rattle.std.specs.Prelude.{◌≡◌};
+ghost use Rattle.yq_rows.specs.Reading as spec;
+
+use yq_scalar::lines::line_len;
+use yq_scalar::text::{ends_line, past_white};
+
+/// Whether a `#` is in front.
+pub(crate) fn is_hash(text: &[u8]) -> bool
+    ensures { result ≡ spec.is_hash text.now }
+{
+    matches!(text, [b'#', ..])
+}
+
+/// Whether a blank line or a comment line is in front.
+fn is_gap_line(text: &[u8]) -> bool
+    ensures { result ≡ spec.is_gap_line text.now }
+{
+    let next = past_white(text);
+    !text.is_empty() && (ends_line(next) || is_hash(next))
+}
+
+/// How long the gap in front is, in bytes.
+#[tactic(auto, using(crate::proofs::GapLaws::gap_step, crate::proofs::GapLaws::gap_stop))]
+fn gap_len(text: &[u8]) -> usize
+    ensures { result ≡ spec.gap_len text.now }
+{
+    let mut rest = text;
+    'lines: while is_gap_line(rest) {
+        rest = rest.split_at(line_len(rest)).1;
+    }
+    text.len() - rest.len()
+}
+
+/// The text cut behind the gap in front.
+pub(crate) fn split_gap(text: &str) -> (&str, &str)
+    ensures { (result.0.now, result.1.now) ≡ spec.cut_gap text.now }
+{
+    text.split_at(gap_len(text.as_bytes()))
+}
