@@ -4,7 +4,8 @@ use Rattle.yq_journal.specs.declared.moves.Move.{Move}
 use Rattle.yq_journal.specs.declared.moves.Move.TheVariants.{Edit, Undo, Redo}
 use Rattle.yq_journal.specs.History.{History, Revision, text_at, after_edit, after_undo, after_redo}
 use Rattle.yq_journal.specs.Record.{Patch, done}
-use Rattle.yq_journal.specs.State.{State, Pending, moved_text}
+use Rattle.yq_journal.specs.Json.{journal_in}
+use Rattle.yq_journal.specs.State.{State, Pending, empty_state, moved_text}
 
 -- each record leads from a text to the next, and has its expression (own)
 abbrev pub Leads : List ℕ → List Patch → List Revision → Type 0
@@ -48,3 +49,21 @@ DescribesPending s (Some p) t h = Underway s p t h
 -- a journal beside a text describes a history (own)
 abbrev pub Describes : State → List ℕ → History → Type 0
 Describes s t h = DescribesPending s s.pending t h
+
+-- the journal that a name's bytes are; where there are none, that of a text that was never edited (own)
+abbrev pub journal_beside : Option (List ℕ) → Option State
+journal_beside None = Some empty_state
+journal_beside (Some bytes) = journal_in bytes
+
+-- a file is there, and its journal beside it describes the history (own)
+pub record Holds (file journal : Option (List ℕ)) (h : History) : Type 0 where
+  pub text : List ℕ
+  pub state : State
+  pub file_is : file ≡ Some text
+  pub journal_is : journal_beside journal ≡ Some state
+  pub describes : Describes state text h
+
+-- a file and its journal are good for a history; for none, the file isn't there (own)
+abbrev pub Good : Option (List ℕ) → Option (List ℕ) → Option History → Type 0
+Good file journal None = file ≡ None
+Good file journal (Some h) = Holds file journal h

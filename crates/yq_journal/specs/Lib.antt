@@ -1,6 +1,7 @@
 pub mod Gap
 pub mod Good
 pub mod History
+pub mod Json
 pub mod Record
 pub mod Refusals
 pub mod State
