@@ -30,9 +30,9 @@ get_written m k v =
 -- names that differ are told apart
 differ : (q k : List ℕ) → q ≢ k → bytes_eq q k ≡ false
 differ q k d = elim (bytes_eq q k) as (λ b. bytes_eq q k ≡ b → b ≡ false) [
-    | true ↦ λ e. absurd (d ((bytes_eq-Decides q k).0 e))
-    | false ↦ λ e. refl
-  ] refl
+  | true ↦ λ e. absurd (d ((bytes_eq-Decides q k).0 e))
+  | false ↦ λ e. refl
+] refl
 
 -- what a name holds after a write to another
 pub get_other : (m : Content) (k v q : List ℕ) → q ≢ k → get (insert m k v) q ≡ get m q

@@ -2,14 +2,13 @@
 ghost use Rattle.std.specs.Prelude.{false};
 ghost use Rattle.std.specs.FinMap as map;
 
-use crate::store::{FileReadError, Store, FileWriteError};
+use crate::store::{FileReadError, FileWriteError, Store};
 use std::alloc::Global;
-use std::fs;
 use std::fs::{OpenFile, OpenOptions};
-use std::io;
 use std::io::{ErrorKind, Read, Write};
 use std::os::unix::fs::OpenOptionsExt;
 use std::rt::Files;
+use std::{fs, io};
 
 /// What is written beside a file before it takes the file's name.
 const BESIDE: &str = ".yq-new";

@@ -4,7 +4,7 @@ ghost use Rattle.std.specs.FinMap as map;
 ghost use Rattle.std.specs.String.{string_bytes};
 ghost use Rattle.yq.specs.Content.{content_of};
 
-use crate::store::{FileReadError, Store, FileWriteError};
+use crate::store::{FileReadError, FileWriteError, Store};
 use std::alloc::Global;
 use std::collections::VecDeque;
 

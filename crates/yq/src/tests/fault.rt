@@ -50,7 +50,11 @@ fn each_fault_has_its_line(rt: HostRuntime) -> Result<(), Fail> {
 fn each_fault_of_reading_has_its_line(rt: HostRuntime) -> Result<(), Fail> {
     let rows = [
         (FaultKind::NotUtf8, 1, "Y1 line 1: not utf8"),
-        (FaultKind::ControlCharacter, 8, "Y2 line 8: control character"),
+        (
+            FaultKind::ControlCharacter,
+            8,
+            "Y2 line 8: control character",
+        ),
         (FaultKind::TabIndent, 15, "Y3 line 15: tab indent"),
         (FaultKind::Directive, 22, "Y4 line 22: directive"),
         (FaultKind::Tag, 29, "Y5 line 29: tag"),
@@ -60,15 +64,27 @@ fn each_fault_of_reading_has_its_line(rt: HostRuntime) -> Result<(), Fail> {
         (FaultKind::BadIndent, 57, "Y9 line 57: bad indent"),
         (FaultKind::BadScalar, 64, "Y10 line 64: bad scalar"),
         (FaultKind::BadFlow, 71, "Y11 line 71: bad flow"),
-        (FaultKind::BadBlockHeader, 78, "Y12 line 78: bad block header"),
+        (
+            FaultKind::BadBlockHeader,
+            78,
+            "Y12 line 78: bad block header",
+        ),
         (FaultKind::DuplicateKey, 85, "Y13 line 85: duplicate key"),
         (FaultKind::UnknownAlias, 92, "Y14 line 92: unknown alias"),
         (FaultKind::AnchorOnKey, 99, "Y15 line 99: anchor on key"),
-        (FaultKind::ContentOnMarkerLine, 106, "Y16 line 106: content on marker line"),
+        (
+            FaultKind::ContentOnMarkerLine,
+            106,
+            "Y16 line 106: content on marker line",
+        ),
         (FaultKind::TooDeep, 113, "Y17 line 113: too deep"),
         (FaultKind::TooLarge, 120, "Y18 line 120: too large"),
         (FaultKind::NoFinalBreak, 127, "Y19 line 127: no final break"),
-        (FaultKind::CarriageReturn, 134, "Y20 line 134: carriage return"),
+        (
+            FaultKind::CarriageReturn,
+            134,
+            "Y20 line 134: carriage return",
+        ),
     ];
     for (kind, line, text) in rows {
         let fault = Fault::Unreadable(ReadFault { kind, line });

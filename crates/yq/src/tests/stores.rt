@@ -29,7 +29,10 @@ fn a_call_fails_with_either_outcome(rt: HostRuntime) -> Result<(), Fail> {
         store.replace("a", b"old")?;
         store.fail_at(2, left);
         assert_eq!(rt; store.read(alloc, "a")?.as_slice(), b"old".as_slice());
-        assert_eq!(rt; store.replace("a", b"new"), Err(FileWriteError::WriteFailed));
+        assert_eq!(rt;
+            store.replace("a", b"new"),
+            Err(FileWriteError::WriteFailed)
+        );
         assert_eq!(rt; store.read(alloc, "a")?.as_slice(), bytes);
         assert_eq!(rt; store.calls(), 3);
         assert_eq!(rt; store.failures(), 1);
