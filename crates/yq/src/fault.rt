@@ -1,5 +1,7 @@
 //! Why a command is refused.
 
+use crate::out::PutError;
+use std::alloc::{AllocError, AllocFailed};
 use thiserror::Error;
 use yq_scalar::{FaultKind, ReadFault};
 
@@ -123,5 +125,38 @@ fn words_of(kind: FaultKind) -> &'static str {
         FaultKind::TooLarge => "too large",
         FaultKind::NoFinalBreak => "no final break",
         FaultKind::CarriageReturn => "carriage return",
+    }
+}
+
+impl From<AllocError> for Fault {
+    ghost use Rattle.std.specs.Prelude.{◌≡◌};
+    ghost use Rattle.yq.specs.declared.fault.Fault.TheVariants.{OutOfMemory};
+
+    ghost from_gives = { λ _ e. e ≡ OutOfMemory };
+
+    fn from(_refused: AllocError) -> Fault {
+        Fault::OutOfMemory
+    }
+}
+
+impl<T: Drop> From<AllocFailed<T>> for Fault {
+    ghost use Rattle.std.specs.Prelude.{◌≡◌};
+    ghost use Rattle.yq.specs.declared.fault.Fault.TheVariants.{OutOfMemory};
+
+    ghost from_gives = { λ _ e. e ≡ OutOfMemory };
+
+    fn from(_refused: AllocFailed<T>) -> Fault {
+        Fault::OutOfMemory
+    }
+}
+
+impl From<PutError> for Fault {
+    ghost use Rattle.std.specs.Prelude.{◌≡◌};
+    ghost use Rattle.yq.specs.declared.fault.Fault.TheVariants.{OutFailed};
+
+    ghost from_gives = { λ _ e. e ≡ OutFailed };
+
+    fn from(_refused: PutError) -> Fault {
+        Fault::OutFailed
     }
 }

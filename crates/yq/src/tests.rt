@@ -3,3 +3,4 @@
 mod fault;
 mod outputs;
 mod stores;
+mod words;

@@ -1,0 +1,88 @@
+//! The words of the command line.
+ghost use Rattle.std.specs.Prelude.{◌≡◌, ◌≢◌, ◌⊎◌, ◌∷◌, IfOk, IfErr, map, true, Ok};
+ghost use Rattle.clap.specs.Words.{subcommand_of, takes};
+ghost use Rattle.yq.specs.declared.command.Command.TheVariants.{Help};
+ghost use Rattle.yq.specs.Asked as spec;
+ghost use Rattle.yq.specs.Line.{yq};
+
+use crate::command::Command;
+use crate::fault::Fault;
+use crate::words::asked::command_in;
+use crate::words::line::matched;
+use clap::error::ErrorKind;
+use std::alloc::{AllocError, Global};
+
+pub mod asked;
+pub mod line;
+
+/// Whether a word names a command.
+fn is_command_word(word: &str) -> bool
+    ensures { result ≡ spec.is_command_word word.now }
+{
+    word == "eval" || word == "undo" || word == "redo" || word == "history" || word == "squash"
+}
+
+/// The command's word, and the words behind it.
+fn split_command<'a, 'w>(words: &'w [&'a str]) -> (&'a str, &'w [&'a str])
+    ensures { result.0.now ∷ map (λ w. w.now) result.1.now ≡ spec.with_command (map (λ w. w.now) words.entry.now) }
+{
+    match words.split_first() {
+        Some((word, rest)) if is_command_word(word) => (word, rest),
+        Some((word, rest)) if *word == "e" => ("eval", rest),
+        _ => ("eval", words),
+    }
+}
+
+/// The words as `clap` reads them.
+fn full_words<'a>(alloc: Global, words: &[&'a str]) -> Result<Vec<&'a str>, AllocError>
+    ensures { IfOk result (λ full. map (λ w. w.now) full.items ≡ spec.full_words (map (λ w. w.now) words.now)) }
+{
+    let (command, rest) = split_command(words);
+    let mut full = Vec::with_capacity(alloc, rest.len())?;
+    full.push("yq")?;
+    full.push(command)?;
+    full.extend_from_slice(rest)?;
+    Ok(full)
+}
+
+/// What is answered where `clap` finds nothing.
+fn without_matches(kind: ErrorKind) -> Result<Command, Fault>
+    ensures ok { IfOk result (λ c. (c ≡ Help) × (kind ≡ ErrorKind.DisplayHelp)) }
+    ensures err { IfErr result (λ e. ((e ≡ Fault.OutOfMemory) × (kind ≡ ErrorKind.OutOfMemory))
+        ⊎ ((e ≡ Fault.Usage) × (kind ≢ ErrorKind.OutOfMemory))) }
+{
+    match kind {
+        ErrorKind::DisplayHelp => Ok(Command::Help),
+        ErrorKind::OutOfMemory => Err(Fault::OutOfMemory),
+        _ => Err(Fault::Usage),
+    }
+}
+
+/// The command of the words as `clap` reads them.
+fn command_by(alloc: Global, full: &[&str]) -> Result<Command, Fault>
+    ensures asked { IfOk result (spec.IsAsked (subcommand_of yq (map (λ w. w.now) full.now))) }
+    ensures help { takes yq (map (λ w. w.now) full.now) ≡ true → result ≢ Ok Help }
+    ensures err { IfErr result (spec.IsRefused (map (λ w. w.now) full.now)) }
+{
+    match matched(alloc, full) {
+        Err(e) => without_matches(e.kind()),
+        Ok(matches) => match matches.subcommand() {
+            Some((name, found)) => command_in(alloc, name, found),
+            None => Err(Fault::Usage),
+        },
+    }
+}
+
+/// The command of the words, which don't include the program's name.
+///
+/// A first word that names no command is read as if `eval` stood before it. A call for help is
+/// `Help`. The words are refused with `Usage` where `clap` refuses them, where FILE is `-`, where
+/// the journal has FILE's name, and where N isn't a number of 64 bits.
+pub fn command_of(alloc: Global, words: &[&str]) -> Result<Command, Fault>
+    ensures asked { IfOk result (spec.IsAsked (subcommand_of yq (spec.full_words (map (λ w. w.now) words.now)))) }
+    ensures help { takes yq (spec.full_words (map (λ w. w.now) words.now)) ≡ true → result ≢ Ok Help }
+    ensures err { IfErr result (spec.IsRefused (spec.full_words (map (λ w. w.now) words.now))) }
+{
+    let full = full_words(alloc, words)?;
+    command_by(alloc, &full)
+}
