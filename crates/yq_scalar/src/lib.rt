@@ -8,6 +8,7 @@ mod keys;
 mod kind;
 pub mod lines;
 pub mod plain;
+pub mod plain_laws;
 pub mod plain_text;
 mod scalar;
 mod schema;

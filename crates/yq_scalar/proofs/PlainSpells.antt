@@ -1,0 +1,66 @@
+-- What is written plain is read as the same scalar.
+use Rattle.std.proofs.Common.{◌≡◌, ℕ, Bool, true, false, eqb, List, [], ◌∷◌, ◌++◌, Option, Some, refl, sym, ap, ◌∙◌, subst, inl, codes}
+use Rattle.std.proofs.lemmas.Bool.{false≢true}
+use Rattle.std.specs.Str.{IsUtf8}
+use Rattle.yq_scalar.specs.declared.kind.Kind.{Kind}
+use Rattle.yq_scalar.specs.declared.kind.Kind.TheVariants as kinds
+use Rattle.yq_scalar.specs.Plain.{IsPlain, ends_plain, holds_break, plain_at}
+use Rattle.yq_scalar.specs.PlainText.{is_plain_text}
+use Rattle.yq_scalar.specs.Scalar.{ScalarText, IsScalar, plain_of, of_kind}
+use Rattle.yq_scalar.specs.Schema.{Resolves}
+use Rattle.yq_scalar.specs.SchemaReading.{resolve}
+use Rattle.yq_scalar.specs.Writable.{can_write_plain, is_string}
+use Rattle.yq_scalar.proofs.Bools.{and_true}
+use Rattle.yq_scalar.proofs.Bytes.{Each}
+use Rattle.yq_scalar.proofs.PlainLaws.{plain_again}
+use Rattle.yq_scalar.proofs.PlainWritten.{is_quiet, quiet, quiet_parts, plain_text_parts, plain_written}
+use Rattle.yq_scalar.proofs.SchemaLaws.{resolve_takes, resolve_again}
+use Rattle.yq_scalar.proofs.SchemaPlain.{null_plain, bool_plain, int_plain, float_plain}
+
+some_is : {A : Type 0} {x y : A} → Some x ≡ Some y → x ≡ y
+some_is e = cc
+
+-- a text begins with one plain scalar at most
+pub plain_one : (flow : Bool) (spaces : Option ℕ) (p rest q other : List ℕ) → p ++ rest ≡ q ++ other → IsPlain flow spaces p rest → IsPlain flow spaces q other → (p ≡ q) × (rest ≡ other)
+plain_one flow spaces p rest q other e a b =
+    let same : (p, rest) ≡ (q, other) = some_is (sym (plain_again flow spaces p rest a) ∙ (ap (plain_at flow spaces) e ∙ plain_again flow spaces q other b)) in
+    (ap (λ (x : List ℕ × List ℕ). x.0) same, ap (λ (x : List ℕ × List ℕ). x.1) same)
+
+quiet_line : (t : List ℕ) → Each is_quiet t → holds_break t ≡ false
+quiet_line [] q = refl
+quiet_line (b ∷ t) q = rw ((quiet_parts (eqb b 9) (eqb b 10) (eqb b 13) q.0).1, quiet_line t q.1) refl
+
+-- no break is in it
+pub plain_line : (flow : Bool) (t : List ℕ) → IsUtf8 t → is_plain_text flow t ≡ true → holds_break t ≡ false
+plain_line flow t u h = quiet_line t (quiet t u (plain_text_parts flow t h).0)
+
+string_kind : (k : Kind) → is_string k ≡ true → k ≡ kinds.Text
+string_kind kinds.Null h = absurd (false≢true h)
+string_kind kinds.Bool h = absurd (false≢true h)
+string_kind kinds.Int h = absurd (false≢true h)
+string_kind kinds.Float h = absurd (false≢true h)
+string_kind kinds.Text h = refl
+
+resolved : (t : List ℕ) (k : Kind) → resolve t ≡ k → Resolves t k
+resolved t k e = subst (Resolves t) e (resolve_takes t)
+
+-- what Plain can write is of the characters that stand plain
+pub writable_text : (kind : Kind) (t : List ℕ) (flow : Bool) → IsScalar kind t → can_write_plain (record { kind = kind; text = t }) flow ≡ true → is_plain_text flow t ≡ true
+unfolding can_write_plain
+writable_text kinds.Null t flow i h = rw i (null_plain flow)
+writable_text kinds.Bool t flow i h = bool_plain flow t (resolved t kinds.Bool i)
+writable_text kinds.Int t flow i h = int_plain flow t (resolved t kinds.Int i)
+writable_text kinds.Float t flow i h = float_plain flow t (resolved t kinds.Float i).0
+writable_text kinds.Text t flow i h = (and_true (is_string (resolve t)) (is_plain_text flow t) h).1
+
+-- its text stands for it
+pub writable_same : (kind : Kind) (t : List ℕ) (flow : Bool) → IsScalar kind t → can_write_plain (record { kind = kind; text = t }) flow ≡ true → plain_of t ≡ record { kind = kind; text = t }
+unfolding can_write_plain
+writable_same kinds.Null t flow i h = rw i (ap (λ k. of_kind k (codes "null")) (resolve_again (codes "null") kinds.Null (inl refl)))
+writable_same kinds.Bool t flow i h = ap (λ k. of_kind k t) i
+writable_same kinds.Int t flow i h = ap (λ k. of_kind k t) i
+writable_same kinds.Float t flow i h = ap (λ k. of_kind k t) i
+writable_same kinds.Text t flow i h = ap (λ k. of_kind k t) (string_kind (resolve t) (and_true (is_string (resolve t)) (is_plain_text flow t) h).0)
+
+pub writable_piece : (s : ScalarText) (flow : Bool) (spaces : Option ℕ) (rest : List ℕ) → IsUtf8 s.text → IsScalar s.kind s.text → can_write_plain s flow ≡ true → ends_plain flow spaces rest ≡ true → IsPlain flow spaces s.text rest
+writable_piece s flow spaces rest u i h e = plain_written flow spaces s.text rest u (writable_text s.kind s.text flow i h) e

@@ -1,0 +1,12 @@
+use Rattle.yq_scalar.specs.Writable.{in_flow}
+use Rattle.yq_scalar.proofs.PlainSpells.{plain_line, writable_text, writable_same, writable_piece}
+use Rattle.yq_scalar.proofs.plain_laws.plain_spells.Goals as goal
+
+pub returns-clause-piece : goal.returns-clause-piece
+returns-clause-piece c = λ s place spaces rest u i h e. writable_piece s (in_flow place) spaces rest u i h e
+
+pub returns-clause-line : goal.returns-clause-line
+returns-clause-line c = λ s place u i h. plain_line (in_flow place) s.text u (writable_text s.kind s.text (in_flow place) i h)
+
+pub returns-clause-same : goal.returns-clause-same
+returns-clause-same c = λ s place i h. writable_same s.kind s.text (in_flow place) i h
