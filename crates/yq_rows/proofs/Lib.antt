@@ -1,3 +1,6 @@
+pub mod Alikes
+pub mod CharacterLaws
+pub mod ExchangeLaws
 pub mod GapLaws
 pub mod PieceLaws
 pub mod RowLaws

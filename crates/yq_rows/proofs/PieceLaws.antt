@@ -124,7 +124,7 @@ tail_again p rest h =
     ap (λ c. tail_from c (cut_line (p ++ rest))) whites ∙ (ap (tail_from (h.white, u.0)) line ∙ rw test refl)
 
 -- a head
-not_node : (u : List ℕ) → (ends_line u || is_hash u) ≡ true → (is_other_node u ≡ false) × (begins_plain false u ≡ false)
+pub not_node : (u : List ℕ) → (ends_line u || is_hash u) ≡ true → (is_other_node u ≡ false) × (begins_plain false u ≡ false)
 not_node [] h = (refl, refl)
 not_node (b ∷ bs) h = ⊎_elim {0, 0, 0}
     (λ e. ⊎_elim {0, 0, 0}
@@ -134,7 +134,7 @@ not_node (b ∷ bs) h = ⊎_elim {0, 0, 0}
     (λ e. rw (eqb-true b 35 e) (refl, refl))
     (or_cases (ends_line (b ∷ bs)) (is_hash (b ∷ bs)) h)
 
-front_of : (head rest : List ℕ) → is_other_node (head ++ rest) ≡ false → is_other_node head ≡ false
+pub front_of : (head rest : List ℕ) → is_other_node (head ++ rest) ≡ false → is_other_node head ≡ false
 front_of [] rest h = refl
 front_of (b ∷ head) rest h = h
 
@@ -167,7 +167,7 @@ head_takes n t x h =
     (λ (e : (begins_plain false c.1 ≡ false) × (Some ([], [], t) ≡ Some x)). let is : ([], [], t) ≡ x = cc in subst (HeadCut n t) is (refl, inl (refl, refl), refl))
     (chosen (begins_plain false c.1) g.1)
 
-plain_no_other : (t : List ℕ) → begins_plain false t ≡ true → is_other_node t ≡ false
+pub plain_no_other : (t : List ℕ) → begins_plain false t ≡ true → is_other_node t ≡ false
 plain_no_other [] h = refl
 plain_no_other (b ∷ bs) h =
     let test : ℕ → Bool = λ x. begins_plain false (x ∷ bs) in

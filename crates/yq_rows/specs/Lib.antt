@@ -4,6 +4,7 @@ pub use Rattle.yq_scalar.specs.Plain
 pub use Rattle.yq_scalar.specs.Text
 pub mod Built
 pub mod Comments
+pub mod Exchange
 pub mod Gap
 pub mod Grammar
 pub mod Reading

@@ -3,9 +3,11 @@
 
 mod fault;
 mod gap;
+mod laws;
 mod pieces;
 mod row;
 mod scanning;
 
+pub use laws::{head_ends, head_exchanged, head_place, head_text, one_cut};
 pub use row::Row;
-pub use scanning::{Rows, one_cut, scan};
+pub use scanning::{Rows, scan};

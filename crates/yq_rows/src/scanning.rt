@@ -1,5 +1,5 @@
 //! A text cut into rows.
-ghost use Rattle.std.specs.Prelude.{◌≡◌, ◌<◌, ◌≤◌, ℕ, List, length, IfOk, Some, slice_get};
+ghost use Rattle.std.specs.Prelude.{◌≡◌, ◌<◌, ◌≤◌, length, IfOk, Some, slice_get};
 ghost use Rattle.yq_scalar.specs.Answers.{Gives};
 ghost use Rattle.yq_rows.specs.Grammar.{IsCut, unlimited};
 ghost use Rattle.yq_rows.specs.Reading as spec;
@@ -96,8 +96,3 @@ pub fn scan(alloc: Global, text: &str) -> Result<Rows<'_>, ReadError>
 {
     scan_text(alloc, text)
 }
-
-/// A text has one cut.
-pub fn one_cut()
-    ensures { (t : List ℕ) (c other : Cut) → IsCut t c → IsCut t other → c ≡ other }
-{}

@@ -1,0 +1,29 @@
+-- A row with another head, and where that head stands in the text.
+use Rattle.std.specs.Prelude.{ℕ, zero, suc, List, [], ◌∷◌, ◌++◌, replicate}
+use Rattle.yq_rows.specs.Rows.{Row, with_head, behind_head, print_row, rows_text, Cut}
+
+-- the rows, of which row i has another head (own)
+abbrev pub with_head_at : ℕ → List ℕ → List Row → List Row
+with_head_at i head [] = []
+with_head_at zero head (r ∷ rs) = with_head head r ∷ rs
+with_head_at (suc i) head (r ∷ rs) = r ∷ with_head_at i head rs
+
+-- the cut, of which row i has another head (own)
+abbrev pub exchange_head : ℕ → List ℕ → Cut → Cut
+exchange_head i head c = record c { rows = with_head_at i head c.rows }
+
+-- the text of a row before its head (own)
+abbrev pub row_front : Row → List ℕ
+row_front r = r.gap ++ (replicate r.column 32 ++ (r.key ++ (r.colon ++ r.space)))
+
+-- the text before the head of row i (own)
+abbrev pub before_head : ℕ → List Row → List ℕ
+before_head i [] = []
+before_head zero (r ∷ rs) = row_front r
+before_head (suc i) (r ∷ rs) = print_row r (before_head i rs)
+
+-- the text behind the head of row i, with what stands behind the rows (own)
+abbrev pub behind_head_at : ℕ → List Row → List ℕ → List ℕ
+behind_head_at i [] end = end
+behind_head_at zero (r ∷ rs) end = behind_head r (rows_text rs end)
+behind_head_at (suc i) (r ∷ rs) end = behind_head_at i rs end

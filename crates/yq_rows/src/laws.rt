@@ -1,0 +1,42 @@
+//! Laws of cuts, for the crates above.
+ghost use Rattle.std.specs.Prelude.{◌≡◌, ◌≤◌, ℕ, List, ◌++◌, Some, length, slice_get, suc, true, false};
+ghost use Rattle.std.specs.Str.{IsUtf8};
+ghost use Rattle.yq_scalar.specs.Characters.{is_text, text_limit};
+ghost use Rattle.yq_scalar.specs.Plain.{IsPlain, ends_plain, holds_break};
+ghost use Rattle.yq_scalar.specs.Text.{is_empty};
+ghost use Rattle.yq_rows.specs.Exchange.{exchange_head, before_head, behind_head_at, with_head_at};
+ghost use Rattle.yq_rows.specs.Grammar.{IsCut};
+ghost use Rattle.yq_rows.specs.Rows.{Cut, Row, cut_text, parent_indent, rows_text};
+
+/// A text has one cut.
+pub fn one_cut()
+    ensures { (t : List ℕ) (c other : Cut) → IsCut t c → IsCut t other → c ≡ other }
+{}
+
+/// The text of rows is that before a row's head, the head, and that behind it, also where the
+/// head is another one.
+pub fn head_place()
+    ensures old { (rows : List Row) (end : List ℕ) (i : ℕ) (r : Row) → slice_get rows i ≡ Some r → rows_text rows end ≡ before_head i rows ++ (r.head ++ behind_head_at i rows end) }
+    ensures new { (rows : List Row) (end : List ℕ) (i : ℕ) (r : Row) (head : List ℕ) → slice_get rows i ≡ Some r → rows_text (with_head_at i head rows) end ≡ before_head i rows ++ (head ++ behind_head_at i rows end) }
+{}
+
+/// A plain scalar ends before what stands behind the head of a row of a cut.
+pub fn head_ends()
+    ensures { (t : List ℕ) (c : Cut) (i : ℕ) (r : Row) → IsCut t c → slice_get c.rows i ≡ Some r → is_empty r.head ≡ false → ends_plain false (Some (suc (parent_indent r))) (behind_head_at i c.rows c.end) ≡ true }
+{}
+
+/// A cut whose row has another plain scalar on one line as its head is a cut, where the new text
+/// may stand.
+pub fn head_exchanged()
+    ensures { (t : List ℕ) (c : Cut) (i : ℕ) (r : Row) (head : List ℕ) → IsCut t c → slice_get c.rows i ≡ Some r → is_empty r.head ≡ false →
+        IsPlain false (Some (suc (parent_indent r))) head (behind_head_at i c.rows c.end) → holds_break head ≡ false →
+        is_text (cut_text (exchange_head i head c)) ≡ true → length (cut_text (exchange_head i head c)) ≤ text_limit →
+        IsCut (cut_text (exchange_head i head c)) (exchange_head i head c) }
+{}
+
+/// The text of a cut whose row has another head holds the characters of a text, where the head
+/// does. The three pieces are those into which the text is cut at the old head's ends.
+pub fn head_text()
+    ensures { (t : List ℕ) (c : Cut) (i : ℕ) (r : Row) (head : List ℕ) → IsCut t c → slice_get c.rows i ≡ Some r → is_empty r.head ≡ false →
+        IsUtf8 (before_head i c.rows) → IsUtf8 r.head → IsUtf8 head → is_text head ≡ true → is_text (cut_text (exchange_head i head c)) ≡ true }
+{}
