@@ -9,6 +9,8 @@ mod kind;
 pub mod lines;
 pub mod plain;
 pub mod plain_laws;
+#[cfg(test)]
+mod plain_tests;
 pub mod plain_text;
 mod scalar;
 mod schema;
@@ -16,6 +18,8 @@ mod schema;
 mod schema_tests;
 mod style;
 pub mod text;
+#[cfg(test)]
+mod text_tests;
 mod writable;
 
 pub use fault::{FaultKind, ReadError, ReadFault};

@@ -1,0 +1,211 @@
+use crate::kind::Kind;
+use crate::plain::{begins_plain, holds_break, split_plain};
+use crate::plain_laws::{one_plain, plain_spells};
+use crate::scalar::Scalar;
+use crate::style::{Place, Style};
+use crate::writable::can_write;
+use std::string::String;
+use std::test::Fail;
+
+#[test]
+fn pieces(rt: HostRuntime) {
+    // the text, whether in flow, with how many spaces a further line begins at least, and the scalar in front
+    let rows = [
+        ("::vector\n- x", false, Some(1usize), "::vector"),
+        ("Up, up, and away!\n", false, Some(1), "Up, up, and away!"),
+        ("Up, up and away!", true, Some(0), "Up"),
+        (
+            "https://example.com/foo#bar ]",
+            true,
+            Some(0),
+            "https://example.com/foo#bar",
+        ),
+        ("-123,", true, Some(0), "-123"),
+        (
+            "1st non-empty\n\n 2nd non-empty \n\t3rd non-empty",
+            false,
+            Some(0),
+            "1st non-empty\n\n 2nd non-empty \n\t3rd non-empty",
+        ),
+        ("a\n  b\n\n  c\n", false, Some(1), "a\n  b\n\n  c"),
+        ("a\n  b\n\n  c\n", false, Some(3), "a"),
+        ("a\r\n  b # c\n", false, Some(1), "a\r\n  b"),
+        ("a\n # b\n  c", false, Some(1), "a"),
+        ("a  #b", false, Some(1), "a"),
+        ("a#b", false, Some(1), "a#b"),
+        ("a: b", false, Some(1), "a"),
+        ("a:b:", false, Some(1), "a:b"),
+        ("a:\tb", false, Some(1), "a"),
+        ("a\n b: c", false, Some(1), "a\n b"),
+        ("a\n---\nb", false, Some(0), "a"),
+        ("a\n ---\nb", false, Some(0), "a\n ---\nb"),
+        ("a\nb", false, Some(0), "a\nb"),
+        ("x\n \ty\n", false, Some(1), "x\n \ty"),
+        ("x\n\ty\n", false, Some(1), "x"),
+        ("a\n b ]", true, Some(0), "a\n b"),
+        ("a:]", true, Some(0), "a"),
+        ("a:]", false, Some(1), "a:]"),
+        ("a b : c", false, None, "a b"),
+        ("a\n  b", false, None, "a"),
+        ("é ü\u{2028}x", false, Some(1), "é ü\u{2028}x"),
+    ];
+    for (text, flow, spaces, piece) in rows {
+        assert_eq!(rt; split_plain(flow, spaces, text).0, piece, "{text:?}");
+    }
+    one_plain();
+    plain_spells();
+}
+
+#[test]
+fn breaks(rt: HostRuntime) {
+    for (text, held) in [
+        ("", false),
+        ("a b", false),
+        ("a\nb", true),
+        ("a\r\n", true),
+        ("a\rb", false),
+    ] {
+        assert_eq!(rt; holds_break(text), held, "a break in {text:?}");
+    }
+}
+
+#[test]
+fn beginnings(rt: HostRuntime) {
+    // the text, and whether a plain scalar may begin there in block and in flow (YAML 1.2.2, section 7.3.3)
+    let rows = [
+        ("", false, false),
+        ("a", true, true),
+        (".5", true, true),
+        ("-1", true, true),
+        ("-", false, false),
+        ("- a", false, false),
+        ("-\r\n", false, false),
+        ("-,", true, false),
+        ("?]", true, false),
+        (":a", true, true),
+        ("::", true, true),
+        (": ", false, false),
+        (" a", false, false),
+        ("\ta", false, false),
+        ("\na", false, false),
+        ("\ra", true, true),
+        ("é", true, true),
+    ];
+    for (text, block, flow) in rows {
+        assert_eq!(rt;
+            begins_plain(false, text.as_bytes()),
+            block,
+            "{text:?} in block"
+        );
+        assert_eq!(rt;
+            begins_plain(true, text.as_bytes()),
+            flow,
+            "{text:?} in flow"
+        );
+    }
+    for text in [
+        ",a", "[a", "]a", "{a", "}a", "#a", "&a", "*a", "!a", "|a", ">a", "'a", "\"a", "%a", "@a",
+        "`a",
+    ] {
+        assert!(rt; !begins_plain(false, text.as_bytes()), "{text:?}");
+    }
+}
+
+#[test]
+fn strings_in_styles(rt: HostRuntime) -> Result<(), Fail> {
+    // the string, and whether it can be written plain in block, plain in flow, in single quotes, and literal
+    let rows = [
+        ("a, b", true, false, true, true),
+        ("a", true, true, true, true),
+        ("", false, false, true, false),
+        ("true", false, false, true, true),
+        ("~", false, false, true, true),
+        ("0x1F", false, false, true, true),
+        ("1e", true, true, true, true),
+        ("-a", true, true, true, true),
+        ("-", false, false, true, true),
+        ("- a", false, false, true, true),
+        ("?a", false, false, true, true),
+        (":a", false, false, true, true),
+        ("a:b", true, true, true, true),
+        ("a: b", false, false, true, true),
+        ("a:", false, false, true, true),
+        ("a #b", false, false, true, true),
+        ("a#b", true, true, true, true),
+        (" a", false, false, true, false),
+        ("a ", false, false, true, true),
+        ("<<", false, false, true, true),
+        ("<<<", true, true, true, true),
+        ("---a", false, false, true, true),
+        ("...", false, false, true, true),
+        ("a]", true, false, true, true),
+        ("a\tb", false, false, true, true),
+        ("a\nb", false, false, false, true),
+        ("a\n", false, false, false, true),
+        ("a\n\n", false, false, false, false),
+        ("\na", false, false, false, false),
+        ("a\r\n", false, false, false, false),
+        ("é", true, true, true, true),
+        ("\u{85}", false, false, false, false),
+        ("\u{2028}", false, false, false, false),
+        ("\u{feff}", false, false, false, false),
+        ("\u{1b}", false, false, false, false),
+    ];
+    for (text, block, flow, single, literal) in rows {
+        let scalar = Scalar::string(String::from_str(rt.alloc(), text)?);
+        for (place, plain) in [
+            (Place::Block, block),
+            (Place::BlockKey, block),
+            (Place::Flow, flow),
+            (Place::FlowKey, flow),
+        ] {
+            assert_eq!(rt;
+                can_write(&scalar, Style::Plain, place),
+                plain,
+                "plain {text:?}"
+            );
+            assert_eq!(rt;
+                can_write(&scalar, Style::Single, place),
+                single,
+                "single {text:?}"
+            );
+            assert!(rt; can_write(&scalar, Style::Double, place), "double {text:?}");
+            assert_eq!(rt;
+                can_write(&scalar, Style::Literal, place),
+                literal && place == Place::Block,
+                "literal {text:?}"
+            );
+            assert!(rt;
+                !can_write(&scalar, Style::Folded, place),
+                "folded {text:?}"
+            );
+        }
+    }
+    Ok(())
+}
+
+#[test]
+fn other_kinds_are_plain(rt: HostRuntime) -> Result<(), Fail> {
+    let rows = [
+        ("", Kind::Null),
+        ("~", Kind::Null),
+        ("TRUE", Kind::Bool),
+        ("-0", Kind::Int),
+        ("+12", Kind::Int),
+        ("0xfF", Kind::Int),
+        ("-.5e-3", Kind::Float),
+        ("-.inf", Kind::Float),
+        (".NaN", Kind::Float),
+    ];
+    for (text, kind) in rows {
+        let scalar = Scalar::plain(rt.alloc(), text)?;
+        assert_eq!(rt; scalar.kind(), kind, "{text:?}");
+        for place in [Place::Block, Place::Flow, Place::BlockKey, Place::FlowKey] {
+            assert!(rt; can_write(&scalar, Style::Plain, place), "{text:?}");
+            for style in [Style::Single, Style::Double, Style::Literal, Style::Folded] {
+                assert!(rt; !can_write(&scalar, style, place), "{text:?}");
+            }
+        }
+    }
+    Ok(())
+}
