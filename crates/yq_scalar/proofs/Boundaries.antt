@@ -1,5 +1,5 @@
 -- Where a text may be cut.
-use Rattle.std.proofs.Common.{◌≡◌, ℕ, zero, suc, ◌+◌, ◌<◌, ◌≤◌, Bool, true, ◌&&◌, eqb, min, List, [], ◌∷◌, length, drop, get_or, refl, ⊎_elim, subst, arith, add-one, eqb-true, drop-cons}
+use Rattle.std.proofs.Common.{◌≡◌, ℕ, zero, suc, ◌+◌, ◌<◌, ◌≤◌, Bool, true, ◌&&◌, eqb, min, List, [], ◌∷◌, length, drop, get_or, refl, ⊎_elim, subst, arith, eqb-true, drop-cons}
 use Rattle.std.proofs.lemmas.Bool.{or_cases, cases_lt}
 use Rattle.std.proofs.lemmas.List.Sums.{prefix_len_passes}
 use Rattle.std.proofs.lemmas.Str.{IsCharBoundary-start, IsCharBoundary-end, IsCharBoundary-after_ascii}
@@ -13,7 +13,9 @@ use Rattle.yq_scalar.proofs.Breaks.{line_len-feed}
 -- behind bytes that are all ASCII
 boundary_behind : (t : List ℕ) (n : ℕ) → IsUtf8 t → n ≤ length t → ((k : ℕ) → k < n → get_or t k 0 < 128) → IsCharBoundary t n
 boundary_behind t zero u le ascii = IsCharBoundary-start t u
-boundary_behind t (suc m) u le ascii = rw (← add-one) (IsCharBoundary-after_ascii t m u (omega arith) (ascii m (omega arith)))
+boundary_behind t (suc m) u le ascii =
+    let same : m + 1 ≡ suc m = omega arith in
+    subst (λ (i : ℕ). IsCharBoundary t i) same (IsCharBoundary-after_ascii t m u (omega arith) (ascii m (omega arith)))
 
 pub boundary_unless : (p : ℕ → Bool) (t : List ℕ) → IsUtf8 t → ((b : ℕ) → p b ≡ true → b < 128) → IsCharBoundary t (upto (unless p) t)
 boundary_unless p t u ascii = boundary_behind t (upto (unless p) t) u (upto_le_length (unless p) t)
@@ -31,7 +33,7 @@ boundary_ends ends t ascii e =
     )
 
 pub white_ascii : (b : ℕ) → is_white b ≡ true → b < 128
-white_ascii b h = ⊎_elim (λ e. omega (arith, eqb-true b 32 e)) (λ e. omega (arith, eqb-true b 9 e)) (or_cases _ _ h)
+white_ascii b h = ⊎_elim (λ e. omega (arith, eqb-true b 32 e)) (λ e. omega (arith, eqb-true b 9 e)) (or_cases (eqb b 32) (eqb b 9) h)
 
 pub break_ascii : (b : ℕ) (bs : List ℕ) → is_break (b ∷ bs) ≡ true → b < 128
 break_ascii b bs h = ⊎_elim (λ e. omega (arith, eqb-true b 10 e)) (λ e. omega (arith, eqb-true b 13 (and_true (is_return b) (front is_feed bs) e).0)) (or_cases (is_feed b) (is_return b && front is_feed bs) h)

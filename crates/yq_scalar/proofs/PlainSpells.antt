@@ -1,16 +1,19 @@
 -- What is written plain is read as the same scalar.
-use Rattle.std.proofs.Common.{◌≡◌, ℕ, Bool, true, false, eqb, List, [], ◌∷◌, ◌++◌, Option, Some, refl, sym, ap, ◌∙◌, subst, inl, codes}
-use Rattle.std.proofs.lemmas.Bool.{false≢true}
-use Rattle.std.specs.Str.{IsUtf8}
+use Rattle.std.proofs.Common.{◌≡◌, ℕ, Bool, true, false, not, ◌&&◌, ◌||◌, eqb, List, [], ◌∷◌, ◌++◌, Option, Some, refl, sym, ap, ◌∙◌, subst, inl, codes}
+use Rattle.std.proofs.lemmas.Bool.{false≢true, false_from_ne_true}
+use Rattle.std.specs.List.{list_all}
+use Rattle.std.specs.Str.{IsUtf8, chars}
 use Rattle.yq_scalar.specs.declared.kind.Kind.{Kind}
 use Rattle.yq_scalar.specs.declared.kind.Kind.TheVariants as kinds
-use Rattle.yq_scalar.specs.Plain.{IsPlain, ends_plain, holds_break, plain_at}
-use Rattle.yq_scalar.specs.PlainText.{is_plain_text}
+use Rattle.yq_scalar.specs.Characters.{is_text, is_text_char, pairs_returns}
+use Rattle.yq_scalar.specs.Text.{is_empty, front}
+use Rattle.yq_scalar.specs.Plain.{is_indicator, IsPlain, ends_plain, holds_break, plain_at}
+use Rattle.yq_scalar.specs.PlainText.{is_plain_char, is_plain_text, begins_plainly}
 use Rattle.yq_scalar.specs.Scalar.{ScalarText, IsScalar, plain_of, of_kind}
 use Rattle.yq_scalar.specs.Schema.{Resolves}
 use Rattle.yq_scalar.specs.SchemaReading.{resolve}
 use Rattle.yq_scalar.specs.Writable.{can_write_plain, is_string}
-use Rattle.yq_scalar.proofs.Bools.{and_true}
+use Rattle.yq_scalar.proofs.Bools.{and_true, at_byte}
 use Rattle.yq_scalar.proofs.Bytes.{Each}
 use Rattle.yq_scalar.proofs.PlainLaws.{plain_again}
 use Rattle.yq_scalar.proofs.PlainWritten.{is_quiet, quiet, quiet_parts, plain_text_parts, plain_written}
@@ -33,6 +36,31 @@ quiet_line (b ∷ t) q = rw ((quiet_parts (eqb b 9) (eqb b 10) (eqb b 13) q.0).1
 -- no break is in it
 pub plain_line : (flow : Bool) (t : List ℕ) → IsUtf8 t → is_plain_text flow t ≡ true → holds_break t ≡ false
 plain_line flow t u h = quiet_line t (quiet t u (plain_text_parts flow t h).0)
+
+text_chars : (cs : List ℕ) → list_all is_plain_char cs ≡ true → list_all is_text_char cs ≡ true
+text_chars [] h = refl
+text_chars (c ∷ cs) h = let p = and_true (is_plain_char c) (list_all is_plain_char cs) h in rw ((and_true (is_text_char c) _ p.0).0, text_chars cs p.1) refl
+
+quiet_pairs : (t : List ℕ) → Each is_quiet t → pairs_returns t ≡ true
+unfolding pairs_returns
+quiet_pairs [] q = refl
+quiet_pairs (b ∷ t) q = rw ((quiet_parts (eqb b 9) (eqb b 10) (eqb b 13) q.0).2, quiet_pairs t q.1) refl
+
+-- it is a text
+pub plain_is_text : (flow : Bool) (t : List ℕ) → IsUtf8 t → is_plain_text flow t ≡ true → is_text t ≡ true
+plain_is_text flow t u h = let p = plain_text_parts flow t h in rw (text_chars (chars t) p.0, quiet_pairs t (quiet t u p.0)) refl
+
+pub plain_some : (flow : Bool) (t : List ℕ) → is_plain_text flow t ≡ true → is_empty t ≡ false
+plain_some flow [] h = absurd (false≢true ((plain_text_parts flow [] h).1))
+plain_some flow (b ∷ t) h = refl
+
+-- it begins with no indicator but a `-`
+pub plain_opens : (test : ℕ → Bool) (t : List ℕ) → ((b : ℕ) → test b ≡ true → is_indicator b ≡ true) → test 45 ≡ false → begins_plainly t ≡ true → front test t ≡ false
+plain_opens test [] only dash h = refl
+plain_opens test (b ∷ t) only dash h = false_from_ne_true (test b) (λ e.
+    let p = and_true (not (eqb b 32)) (not (is_indicator b) || (eqb b 45 && front (λ c. not (eqb c 32)) t)) h in
+    let d : (eqb b 45 && front (λ c. not (eqb c 32)) t) ≡ true = rw (only b e) at p.1 in
+    false≢true (sym (at_byte test b 45 e dash) ∙ (and_true (eqb b 45) (front (λ c. not (eqb c 32)) t) d).0))
 
 string_kind : (k : Kind) → is_string k ≡ true → k ≡ kinds.Text
 string_kind kinds.Null h = absurd (false≢true h)

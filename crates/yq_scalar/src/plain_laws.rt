@@ -1,8 +1,10 @@
 //! Laws of plain scalars, each the contract of a function that does nothing.
 ghost use Rattle.std.specs.Prelude.{◌≡◌, ◌++◌, Bool, List, Option, Some, false, true, ℕ};
 ghost use Rattle.std.specs.Str.{IsUtf8};
-ghost use Rattle.yq_scalar.specs.Plain.{IsPlain, ends_plain, holds_break, plain_at};
+ghost use Rattle.yq_scalar.specs.Characters.{is_text};
+ghost use Rattle.yq_scalar.specs.Plain.{IsPlain, ends_plain, holds_break, is_indicator, plain_at};
 ghost use Rattle.yq_scalar.specs.Scalar.{IsScalar, ScalarText, plain_of};
+ghost use Rattle.yq_scalar.specs.Text.{front, is_empty};
 ghost use Rattle.yq_scalar.specs.Writable.{can_write, in_flow};
 ghost use Rattle.yq_scalar.specs.declared.style.Place.{Place};
 ghost use Rattle.yq_scalar.specs.declared.style.Style.TheVariants.{Plain};
@@ -19,5 +21,10 @@ pub fn one_plain()
 pub fn plain_spells()
     ensures piece { (s : ScalarText) (place : Place) (spaces : Option ℕ) (rest : List ℕ) → IsUtf8 s.text → IsScalar s.kind s.text → can_write s Plain place ≡ true → ends_plain (in_flow place) spaces rest ≡ true → IsPlain (in_flow place) spaces s.text rest }
     ensures line { (s : ScalarText) (place : Place) → IsUtf8 s.text → IsScalar s.kind s.text → can_write s Plain place ≡ true → holds_break s.text ≡ false }
+    ensures text { (s : ScalarText) (place : Place) → IsUtf8 s.text → IsScalar s.kind s.text → can_write s Plain place ≡ true → is_text s.text ≡ true }
+    ensures some { (s : ScalarText) (place : Place) → IsScalar s.kind s.text → can_write s Plain place ≡ true → is_empty s.text ≡ false }
+
+    // It begins with no indicator but a `-`.
+    ensures opens { (s : ScalarText) (place : Place) (test : ℕ → Bool) → IsScalar s.kind s.text → can_write s Plain place ≡ true → ((b : ℕ) → test b ≡ true → is_indicator b ≡ true) → test 45 ≡ false → front test s.text ≡ false }
     ensures same { (s : ScalarText) (place : Place) → IsScalar s.kind s.text → can_write s Plain place ≡ true → plain_of s.text ≡ s }
 {}
