@@ -169,9 +169,12 @@ pub loop_init : (rows : List declared.Row) (limit : Limit) (t g r : List ℕ) �
 loop_init rows limit t g r none free e =
     rw (none, free) (no_front (rows_from unlimited g r) ∙ (ap (λ (y : List ℕ × List ℕ). rows_from unlimited y.0 y.1) e ∙ sym (rows_cut unlimited t)))
 
+pub cut_within : (t g r : List ℕ) → (g, r) ≡ cut_gap t → length r ≤ length t
+cut_within t g r e = subst (λ (y : List ℕ × List ℕ). length y.1 ≤ length t) (sym e) (behind_le t)
+
 pub loop_smaller : (row : declared.Row) (limit : Limit) (gap t after g r : List ℕ) → (g, r) ≡ cut_gap after → row_at limit gap t ≡ Some (view row, after) → length r < length t
 loop_smaller row limit gap t after g r e h =
-    let less : length r ≤ length after = subst (λ (y : List ℕ × List ℕ). length y.1 ≤ length after) (sym e) (behind_le after) in
+    let less = cut_within after g r e in
     let short = row_shorter limit gap t (view row, after) h in
     omega arith
 

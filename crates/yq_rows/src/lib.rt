@@ -7,6 +7,8 @@ mod laws;
 mod pieces;
 mod row;
 mod scanning;
+#[cfg(test)]
+mod tests;
 
 pub use laws::{head_ends, head_exchanged, head_place, head_text, one_cut};
 pub use row::Row;

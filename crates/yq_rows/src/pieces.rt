@@ -1,5 +1,5 @@
 //! The pieces of a row, read one behind the other.
-ghost use Rattle.std.specs.Prelude.{◌≡◌, ◌<◌};
+ghost use Rattle.std.specs.Prelude.{◌≡◌, ◌<◌, ◌^◌, length};
 ghost use Rattle.yq_scalar.specs.Answers.{Reads};
 ghost use Rattle.yq_rows.specs.Built as built;
 ghost use Rattle.yq_rows.specs.Grammar as grammar;
@@ -133,6 +133,7 @@ pub(crate) fn read_row<'t>(
     gap: &'t str,
     text: &'t str,
 ) -> Result<(Row<'t>, &'t str), FaultKind>
+    requires { length text.now < 2 ^ 32 }
     ensures { Reads (λ x. (view x.0, x.1.now)) result (spec.row_at (limit_view limit) gap.now text.now) }
 {
     let (indent, rest) = split_spaces(text);
@@ -149,7 +150,7 @@ pub(crate) fn read_row<'t>(
     Ok((
         Row {
             gap,
-            column,
+            column: column as u32,
             key,
             colon,
             space,

@@ -1,14 +1,17 @@
 //! A row of a text.
-ghost use Rattle.std.specs.Prelude.{◌≡◌};
+ghost use Rattle.std.specs.Prelude.{◌≡◌, pos};
 ghost use Rattle.yq_rows.specs.Grammar as grammar;
+ghost use Rattle.yq_rows.specs.Rows as rows;
 ghost use Rattle.yq_rows.specs.View.{limit_view, view};
+ghost use Rattle.yq_rows.specs.Rows as rows;
 ghost use Rattle.yq_rows.specs.View.{view};
 
 /// A row, as slices of its text.
 #[derive(Clone, Copy, Debug)]
 pub struct Row<'t> {
     pub(crate) gap: &'t str,
-    pub(crate) column: usize,
+    /// Below the limit of a text's length, which a `u32` holds.
+    pub(crate) column: u32,
     pub(crate) key: &'t str,
     pub(crate) colon: &'t str,
     pub(crate) space: &'t str,
@@ -28,7 +31,7 @@ impl<'t> Row<'t> {
     pub fn column(&self) -> usize
         ensures { result ≡ (view self.now).column }
     {
-        self.column
+        self.column as usize
     }
 
     /// The key.
@@ -57,6 +60,14 @@ impl<'t> Row<'t> {
         ensures { result.now ≡ (view self.now).head }
     {
         self.head
+    }
+
+    /// The column of the key, below which a further line of the head can't begin. It is signed,
+    /// since the parent of a root on a line of its own has the column -1.
+    pub fn parent_indent(&self) -> i64
+        ensures { result ≡ pos (rows.parent_indent (view self.now)) }
+    {
+        i64::from(self.column)
     }
 
     /// The white space, the comment and the break that end the row.
@@ -90,7 +101,7 @@ impl Limit {
             column: if row.head.is_empty() {
                 None
             } else {
-                Some(row.column)
+                Some(row.column as usize)
             },
         }
     }

@@ -1,5 +1,5 @@
 //! A text cut into rows.
-ghost use Rattle.std.specs.Prelude.{◌≡◌, ◌<◌, ◌≤◌, length, IfOk, Some, slice_get};
+ghost use Rattle.std.specs.Prelude.{◌≡◌, ◌<◌, ◌≤◌, ◌^◌, length, IfOk, Some, slice_get};
 ghost use Rattle.yq_scalar.specs.Answers.{Gives};
 ghost use Rattle.yq_rows.specs.Grammar.{IsCut, unlimited};
 ghost use Rattle.yq_rows.specs.Reading as spec;
@@ -57,6 +57,7 @@ impl<'t> Rows<'t> {
 /// The rows of a text of whose characters and length nothing is asked.
 #[tactic(auto, using(crate::proofs::RowsLaws::rows_refused))]
 fn cut<'t>(alloc: Global, text: &'t str) -> Result<Rows<'t>, ReadError>
+    requires { length text.now < 2 ^ 32 }
     ensures { Gives (λ r. r) result (spec.all_rows unlimited text.now) }
 {
     let mut rows = Vec::new(alloc);

@@ -1,4 +1,4 @@
-use Rattle.std.proofs.Common.{◌≡◌, length}
+use Rattle.std.proofs.Common.{◌≡◌, ◌≤◌, length}
 use Rattle.std.specs.Str.{IsUtf8}
 use Rattle.yq_rows.specs.Grammar.{unlimited}
 use Rattle.yq_rows.specs.Reading.{all_rows}
@@ -13,5 +13,6 @@ abbrev pub invariant-rows : goal.invariant-rows
 invariant-rows l = record {
   gap_text : IsUtf8 l.gap;
   text : IsUtf8 l.rest;
+  short : length l.rest ≤ length l.text;
   so_far : with_front (views l.rows.items) (rows_from (limit_view l.limit) l.gap l.rest) ≡ all_rows unlimited l.text;
 }
