@@ -16,3 +16,7 @@ pub mod SchemaLaws
 pub mod SchemaPlain
 pub mod Upto
 pub mod WordLaws
+pub mod EscapeLaws
+pub mod CharLaws
+pub mod QuotedLaws
+pub mod QuotedRead

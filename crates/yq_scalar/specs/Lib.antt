@@ -12,3 +12,5 @@ pub mod SchemaReading
 pub mod Text
 pub mod Tree
 pub mod Writable
+pub mod Quoted
+pub mod QuotedReading

@@ -12,6 +12,8 @@ pub mod plain_laws;
 #[cfg(test)]
 mod plain_tests;
 pub mod plain_text;
+pub mod quoted;
+pub mod quoted_laws;
 mod scalar;
 mod schema;
 #[cfg(test)]

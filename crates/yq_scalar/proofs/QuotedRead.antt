@@ -1,0 +1,300 @@
+-- Quoted scalars: the lines that were read, and the two laws.
+use Rattle.std.proofs.Common.{◌≡◌, ℕ, zero, suc, ◌+◌, ◌<◌, ◌≤◌, Bool, true, false, ◌&&◌, not, eqb, eqb-true, List, [], ◌∷◌, ◌++◌, length, drop, get_or, Option, Some, None, refl, sym, ap, ◌∙◌, subst, inl, inr, ◌⊎◌, arith, append_assoc, length-append, length-drop}
+use Rattle.std.proofs.lemmas.Bool.{false≢true, or_cases, not-true, not-false}
+use Rattle.std.proofs.Math.Seq.{take-append_seam, drop-append_seam}
+use Rattle.std.proofs.lemmas.Str.{IsCharBoundary-after_ascii}
+use Rattle.std.specs.Str.{IsUtf8, IsCharBoundary}
+use Rattle.yq_scalar.specs.Answers.{more}
+use Rattle.yq_scalar.specs.Text.{is_break, is_feed, is_return, is_marker, front}
+use Rattle.yq_scalar.specs.Quoted.{itself, doubled, IsChar, Break, feed, return_feed, spell_break, Lines, last, spell_lines, AreLines, IsQuoted}
+use Rattle.yq_scalar.specs.QuotedReading.{escape, behind, closes, quoted_len, scalar_len, cut_at, quoted_at, is_quote}
+use Rattle.yq_scalar.proofs.Bools.{is_true, and_true, or_false, guard_then, bind_some, more_some}
+use Rattle.yq_scalar.proofs.EscapeLaws.{length_item, length_of_some}
+use Rattle.yq_scalar.proofs.CharLaws.{escape_takes}
+use Rattle.yq_scalar.proofs.QuotedLaws.{Read, of_quotes, read_char, read_line, lines_again, closed_here}
+
+-- one step of the reading
+record Step (q b : ℕ) (bs : List ℕ) (n : ℕ) : Type 0 where
+  k : ℕ
+  belongs : behind q b bs ≡ Some k
+  m : ℕ
+  rest : quoted_len q 0 (drop k bs) ≡ Some m
+  size : k + 1 + m ≡ n
+
+step_back : (q b n : ℕ) (bs : List ℕ) → closes q (b ∷ bs) ≡ false → quoted_len q 0 (b ∷ bs) ≡ Some n → Step q b bs n
+unfolding quoted_len
+step_back q b n bs opened h =
+    let x = bind_some (behind q b bs) (rw opened at h) in
+    let y = more_some (x.0 + 1) n (quoted_len q 0 (drop x.0 bs)) (sym (length_item q b x.0 bs opened x.1) ∙ h) in
+    record { k = x.0; belongs = x.1; m = y.0; rest = y.1; size = y.2 }
+
+-- a step over one byte
+record Byte (q : ℕ) (t : List ℕ) (n : ℕ) : Type 0 where
+  m : ℕ
+  rest : quoted_len q 0 t ≡ Some m
+  size : 1 + m ≡ n
+
+feed_double : (n : ℕ) (t : List ℕ) → quoted_len 34 0 (10 ∷ t) ≡ Some n → (is_marker t ≡ false) × Byte 34 t n
+unfolding quoted_len
+feed_double n t h = elim (is_true (is_marker t)) [
+  | inl e ↦ absurd (let no : None ≡ Some n = (rw e at h) in cc)
+  | inr e ↦ let x = more_some 1 n (quoted_len 34 0 t) (rw e at h) in (e, record { m = x.0; rest = x.1; size = x.2 })
+]
+
+feed_single : (n : ℕ) (t : List ℕ) → quoted_len 39 0 (10 ∷ t) ≡ Some n → (is_marker t ≡ false) × Byte 39 t n
+unfolding quoted_len
+feed_single n t h = elim (is_true (is_marker t)) [
+  | inl e ↦ absurd (let no : None ≡ Some n = (rw e at h) in cc)
+  | inr e ↦ let x = more_some 1 n (quoted_len 39 0 t) (rw e at h) in (e, record { m = x.0; rest = x.1; size = x.2 })
+]
+
+return_double : (n : ℕ) (t : List ℕ) → quoted_len 34 0 (13 ∷ t) ≡ Some n → Byte 34 t n
+unfolding quoted_len
+return_double n t h = let x = more_some 1 n (quoted_len 34 0 t) h in record { m = x.0; rest = x.1; size = x.2 }
+
+return_single : (n : ℕ) (t : List ℕ) → quoted_len 39 0 (13 ∷ t) ≡ Some n → Byte 39 t n
+unfolding quoted_len
+return_single n t h = let x = more_some 1 n (quoted_len 39 0 t) h in record { m = x.0; rest = x.1; size = x.2 }
+
+feed_back : (q n : ℕ) (t : List ℕ) → (q ≡ 34) ⊎ (q ≡ 39) → quoted_len q 0 (10 ∷ t) ≡ Some n → (is_marker t ≡ false) × Byte q t n
+feed_back q n t quotes = of_quotes (λ x. quoted_len x 0 (10 ∷ t) ≡ Some n → (is_marker t ≡ false) × Byte x t n) q quotes (feed_double n t) (feed_single n t)
+
+return_back : (q n : ℕ) (t : List ℕ) → (q ≡ 34) ⊎ (q ≡ 39) → quoted_len q 0 (13 ∷ t) ≡ Some n → Byte q t n
+return_back q n t quotes = of_quotes (λ x. quoted_len x 0 (13 ∷ t) ≡ Some n → Byte x t n) q quotes (return_double n t) (return_single n t)
+
+-- a break that was read
+record Broken (q : ℕ) (t : List ℕ) (n : ℕ) : Type 0 where
+  kind : Break
+  rest : List ℕ
+  cut : t ≡ spell_break kind ++ rest
+  begins : is_marker rest ≡ false
+  m : ℕ
+  read : quoted_len q 0 rest ≡ Some m
+  size : n ≡ length (spell_break kind) + m
+
+by_feed : (q n : ℕ) (t : List ℕ) → (q ≡ 34) ⊎ (q ≡ 39) → quoted_len q 0 (10 ∷ t) ≡ Some n → Broken q (10 ∷ t) n
+by_feed q n t quotes h =
+    let x = feed_back q n t quotes h in
+    record { kind = feed; rest = t; cut = refl; begins = x.0; m = x.1.m; read = x.1.rest; size = sym x.1.size }
+
+by_return : (q n : ℕ) (t : List ℕ) → (q ≡ 34) ⊎ (q ≡ 39) → quoted_len q 0 (13 ∷ 10 ∷ t) ≡ Some n → Broken q (13 ∷ 10 ∷ t) n
+by_return q n t quotes h =
+    let r = return_back q n (10 ∷ t) quotes h in
+    let x = feed_back q r.m t quotes r.rest in
+    record { kind = return_feed; rest = t; cut = refl; begins = x.0; m = x.1.m; read = x.1.rest; size = omega (arith, r.size, x.1.size) }
+
+break_back : (q n : ℕ) (t : List ℕ) → (q ≡ 34) ⊎ (q ≡ 39) → is_break t ≡ true → quoted_len q 0 t ≡ Some n → Broken q t n
+break_back q n [] quotes brk h = absurd (false≢true brk)
+break_back q n (b ∷ []) quotes brk h = elim (or_cases (is_feed b) (is_return b && false) brk) [
+  | inl e ↦ subst (λ (x : ℕ). quoted_len q 0 (x ∷ []) ≡ Some n → Broken q (x ∷ []) n) (sym (eqb-true b 10 e)) (by_feed q n [] quotes) h
+  | inr e ↦ absurd (false≢true (and_true (is_return b) false e).1)
+]
+break_back q n (b ∷ c ∷ t) quotes brk h = elim (or_cases (is_feed b) (is_return b && is_feed c) brk) [
+  | inl e ↦ subst (λ (x : ℕ). quoted_len q 0 (x ∷ c ∷ t) ≡ Some n → Broken q (x ∷ c ∷ t) n) (sym (eqb-true b 10 e)) (by_feed q n (c ∷ t) quotes) h
+  | inr e ↦ let p = and_true (is_return b) (is_feed c) e in
+      subst (λ (x : ℕ). quoted_len q 0 (x ∷ c ∷ t) ≡ Some n → Broken q (x ∷ c ∷ t) n) (sym (eqb-true b 13 p.0))
+      (subst (λ (y : ℕ). quoted_len q 0 (13 ∷ y ∷ t) ≡ Some n → Broken q (13 ∷ y ∷ t) n) (sym (eqb-true c 10 p.1)) (by_return q n t quotes)) h
+]
+
+-- the quote that closes
+read_close : (q b n : ℕ) (bs : List ℕ) → closes q (b ∷ bs) ≡ true → quoted_len q 0 (b ∷ bs) ≡ Some n → Read q (b ∷ bs) n
+unfolding quoted_len
+read_close q b n bs e h =
+    let p = and_true (eqb b q) (not (eqb q 39 && front (λ c. eqb c 39) bs)) e in
+    let zero_is : Some 0 ≡ Some n = (rw e at h) in
+    record {
+      ls = last [];
+      rest = bs;
+      cut = ap (λ a. a ∷ bs) (eqb-true b q p.0);
+      long = cc;
+      are = tt;
+      closed = not-true (eqb q 39 && front (λ c. eqb c 39) bs) p.1;
+    }
+
+-- shorter texts are read
+Reads : ℕ → ℕ → Type 0
+Reads q most = (m : ℕ) (t : List ℕ) → length t ≤ most → quoted_len q 0 t ≡ Some m → Read q t m
+
+only_quote : (x : Bool) → not (x && false) ≡ false → ⊥
+only_quote true h = false≢true (sym h)
+only_quote false h = false≢true (sym h)
+
+step_len : (q b n k : ℕ) (bs : List ℕ) (st : Step q b bs n) → behind q b bs ≡ Some k → st.k ≡ k
+step_len q b n k bs st h = let e : Some st.k ≡ Some k = sym st.belongs ∙ h in cc
+
+shorter : (k : ℕ) (bs : List ℕ) → length (drop k bs) ≤ length bs
+shorter k bs = omega (arith, length-drop k bs)
+
+-- two single quotes
+read_doubled : (q b n : ℕ) (bs : List ℕ) → closes q (b ∷ bs) ≡ false → eqb b q ≡ true → Step q b bs n → behind q b bs ≡ Some 1 → Reads q (length bs) → Read q (b ∷ bs) n
+unfolding Reads
+read_doubled q b n [] opened same st one reads = absurd (only_quote (eqb q 39) (rw same at opened))
+read_doubled q b n (c ∷ cs) opened same st one reads =
+    let pair = and_true (eqb q 39) (eqb c 39) (not-false (eqb q 39 && eqb c 39) (rw same at opened)) in
+    let long : st.k ≡ 1 = step_len q b n 1 (c ∷ cs) st one in
+    let first : b ≡ 39 = eqb-true b q same ∙ eqb-true q 39 pair.0 in
+    let second : c ≡ 39 = eqb-true c 39 pair.1 in
+    let read : quoted_len q 0 cs ≡ Some st.m = ap (λ (j : ℕ). quoted_len q 0 (drop j (c ∷ cs))) (sym long) ∙ st.rest in
+    read_char q st.m n doubled cs (b ∷ c ∷ cs) (ap (λ x. x ∷ c ∷ cs) first ∙ ap (λ x. 39 ∷ x ∷ cs) second) (eqb-true q 39 pair.0) (reads st.m cs (omega arith) read) (omega (arith, st.size, long))
+
+-- a byte that stands for itself
+read_itself : (q b n : ℕ) (bs : List ℕ) → IsChar q (itself b) bs → Step q b bs n → behind q b bs ≡ Some 0 → Reads q (length bs) → Read q (b ∷ bs) n
+unfolding Reads
+read_itself q b n bs is st none reads =
+    let long : st.k ≡ 0 = step_len q b n 0 bs st none in
+    let read : quoted_len q 0 bs ≡ Some st.m = ap (λ (j : ℕ). quoted_len q 0 (drop j bs)) (sym long) ∙ st.rest in
+    read_char q st.m n (itself b) bs (b ∷ bs) refl is (reads st.m bs (omega arith) read) (omega (arith, st.size, long))
+
+-- an escape
+read_escape : (n : ℕ) (bs : List ℕ) → Step 34 92 bs n → is_break bs ≡ false → Reads 34 (length bs) → Read 34 (92 ∷ bs) n
+unfolding Reads
+read_escape n bs st no_break reads =
+    let x = length_of_some (escape bs) st.k (rw no_break at st.belongs) in
+    let e = escape_takes bs x.0 st.k x.1 in
+    read_char 34 st.m n e.char (drop st.k bs) (92 ∷ bs) e.spelled (e.is (drop st.k bs)) (reads st.m (drop st.k bs) (shorter st.k bs) st.rest) (omega (arith, st.size, e.long))
+
+-- a backslash before a break
+read_joined : (n : ℕ) (bs : List ℕ) → Step 34 92 bs n → is_break bs ≡ true → Reads 34 (length bs) → Read 34 (92 ∷ bs) n
+unfolding Reads
+read_joined n bs st brk reads =
+    let long : st.k ≡ 0 = step_len 34 92 n 0 bs st (rw brk refl) in
+    let read : quoted_len 34 0 bs ≡ Some st.m = ap (λ (j : ℕ). quoted_len 34 0 (drop j bs)) (sym long) ∙ st.rest in
+    let x = break_back 34 st.m bs (inl refl) brk read in
+    let less : length x.rest ≤ length bs = omega (arith, ap length x.cut, length-append (spell_break x.kind) x.rest) in
+    read_line 34 x.m n true x.kind x.rest (92 ∷ bs) (ap (λ l. 92 ∷ l) x.cut) (λ _. refl) x.begins (reads x.m x.rest less x.read) (omega (arith, st.size, long, x.size))
+
+break_some : (b : Break) → 0 < length (spell_break b)
+break_some feed = omega arith
+break_some return_feed = omega arith
+
+no_way : {A : Type 0} → false ≡ true → A
+no_way h = absurd (false≢true h)
+
+-- a break
+read_break : (q n : ℕ) (t : List ℕ) (most : ℕ) → length t ≤ most + 1 → (q ≡ 34) ⊎ (q ≡ 39) → is_break t ≡ true → quoted_len q 0 t ≡ Some n → Reads q most → Read q t n
+unfolding Reads
+read_break q n t most le quotes brk h reads =
+    let x = break_back q n t quotes brk h in
+    let some : 0 < length (spell_break x.kind) = break_some x.kind in
+    let less : length x.rest ≤ most = omega (arith, ap length x.cut, length-append (spell_break x.kind) x.rest) in
+    read_line q x.m n false x.kind x.rest t x.cut (λ e. no_way e) x.begins (reads x.m x.rest less x.read) x.size
+
+read_slash : (n : ℕ) (bs : List ℕ) → Step 34 92 bs n → Reads 34 (length bs) → Read 34 (92 ∷ bs) n
+read_slash n bs st reads = elim (is_true (is_break bs)) [
+  | inl brk ↦ read_joined n bs st brk reads
+  | inr no_break ↦ read_escape n bs st no_break reads
+]
+
+-- whatever is in front
+read_front : (q b n : ℕ) (bs : List ℕ) → (q ≡ 34) ⊎ (q ≡ 39) → closes q (b ∷ bs) ≡ false → quoted_len q 0 (b ∷ bs) ≡ Some n → Reads q (length bs) → Read q (b ∷ bs) n
+read_front q b n bs quotes opened h reads = elim (is_true (is_break (b ∷ bs))) [
+  | inl brk ↦ read_break q n (b ∷ bs) (length bs) (omega arith) quotes brk h reads
+  | inr no_break ↦
+      let st = step_back q b n bs opened h in
+      let no_feed = or_false (is_feed b) (is_return b && front is_feed bs) no_break in
+      elim (is_true (eqb q 34 && eqb b 92)) [
+        | inl slash ↦
+            let p = and_true (eqb q 34) (eqb b 92) slash in
+            let here : Step q b bs n → Reads q (length bs) → Read q (b ∷ bs) n =
+            subst (λ (x : ℕ). Step x b bs n → Reads x (length bs) → Read x (b ∷ bs) n) (sym (eqb-true q 34 p.0))
+            (subst (λ (y : ℕ). Step 34 y bs n → Reads 34 (length bs) → Read 34 (y ∷ bs) n) (sym (eqb-true b 92 p.1))
+            (read_slash n bs)) in
+            here st reads
+        | inr no_slash ↦ elim (is_true (eqb b q)) [
+          | inl same ↦ read_doubled q b n bs opened same st (rw (no_feed.0, no_slash, same) refl) reads
+          | inr other ↦ read_itself q b n bs (other, no_break, no_slash) st (rw (no_feed.0, no_slash, other) refl) reads
+        ]
+      ]
+]
+
+pub lines_takes : (fuel q n : ℕ) (t : List ℕ) → length t ≤ fuel → (q ≡ 34) ⊎ (q ≡ 39) → quoted_len q 0 t ≡ Some n → Read q t n
+unfolding quoted_len Reads
+lines_takes fuel q n [] le quotes h = absurd (let e : None ≡ Some n = h in cc)
+lines_takes zero q n (b ∷ bs) le quotes h = absurd (omega arith)
+lines_takes (suc fuel) q n (b ∷ bs) le quotes h = elim (is_true (closes q (b ∷ bs))) [
+  | inl e ↦ read_close q b n bs e h
+  | inr opened ↦ read_front q b n bs quotes opened h (λ m t less read. lines_takes fuel q m t (omega arith) quotes read)
+]
+
+pub lines_are_read : (q : ℕ) (ls : Lines) (rest : List ℕ) → (q ≡ 34) ⊎ (q ≡ 39) → AreLines q ls (q ∷ rest) → (eqb q 39 && front (λ b. eqb b 39) rest) ≡ false → quoted_len q 0 (spell_lines ls ++ (q ∷ rest)) ≡ Some (length (spell_lines ls))
+lines_are_read q ls rest quotes are closed =
+    lines_again q ls (q ∷ rest) quotes are ∙ (ap (more (length (spell_lines ls))) (closed_here q rest closed) ∙ ap (λ (k : ℕ). Some k) (omega arith))
+
+-- a quote in front
+quote_is : (b : ℕ) → is_quote b ≡ true → (b ≡ 34) ⊎ (b ≡ 39)
+quote_is b h = elim (or_cases (eqb b 34) (eqb b 39) h) [ inl e ↦ inl (eqb-true b 34 e) | inr e ↦ inr (eqb-true b 39 e) ]
+
+is_quote_again : (q : ℕ) → (q ≡ 34) ⊎ (q ≡ 39) → is_quote q ≡ true
+is_quote_again q quotes = of_quotes (λ x. is_quote x ≡ true) q quotes refl refl
+
+cut_is : (t p r : List ℕ) (n : ℕ) → t ≡ p ++ r → n ≡ length p → cut_at t (Some n) ≡ Some (p, r)
+cut_is t p r n e size = rw (e, size, take-append_seam, drop-append_seam) refl
+
+some_is : {A : Type 0} {x y : A} → Some x ≡ Some y → x ≡ y
+some_is h = cc
+
+-- a quoted scalar in front of a text
+pub record Found (t piece rest : List ℕ) : Type 0 where
+  pub quote : ℕ
+  pub ls : Lines
+  pub cut : t ≡ piece ++ rest
+  pub is : IsQuoted quote ls piece rest
+
+found : (b n : ℕ) (bs : List ℕ) (x : List ℕ × List ℕ) → is_quote b ≡ true → quoted_len b 0 bs ≡ Some n → cut_at (b ∷ bs) (Some (2 + n)) ≡ Some x → Found (b ∷ bs) x.0 x.1
+found b n bs x quote read h =
+    let quotes = quote_is b quote in
+    let r = lines_takes (length bs) b n bs (omega arith) quotes read in
+    let piece : List ℕ = b ∷ (spell_lines r.ls ++ b ∷ []) in
+    let cut : b ∷ bs ≡ piece ++ r.rest = ap (λ l. b ∷ l) (r.cut ∙ sym (append_assoc (spell_lines r.ls) (b ∷ []) r.rest)) in
+    let size : 2 + n ≡ length piece = omega (arith, r.long, length-append (spell_lines r.ls) (b ∷ [])) in
+    let same : ◌≡◌ {A = List ℕ × List ℕ} (piece, r.rest) x = some_is (sym (cut_is (b ∷ bs) piece r.rest (2 + n) cut size) ∙ h) in
+    subst (λ (y : List ℕ × List ℕ). Found (b ∷ bs) y.0 y.1) same (record {
+      quote = b;
+      ls = r.ls;
+      cut = cut;
+      is = record { quotes = quotes; spelled = refl; lines = r.are; closed = r.closed };
+    })
+
+by_len : (b : ℕ) (bs : List ℕ) (x : List ℕ × List ℕ) (o : Option ℕ) → scalar_len (b ∷ bs) ≡ o → cut_at (b ∷ bs) o ≡ Some x → Found (b ∷ bs) x.0 x.1
+by_len b bs x None e h = absurd (let no : None ≡ Some x = h in cc)
+by_len b bs x (Some k) e h =
+    let g = guard_then (is_quote b) e in
+    let m = more_some 2 k (quoted_len b 0 bs) g.1 in
+    found b m.0 bs x g.0 m.1 (ap (λ (j : ℕ). cut_at (b ∷ bs) (Some j)) m.2 ∙ h)
+
+pub quoted_takes : (t : List ℕ) (x : List ℕ × List ℕ) → quoted_at t ≡ Some x → Found t x.0 x.1
+quoted_takes [] x h = absurd (let e : None ≡ Some x = h in cc)
+quoted_takes (b ∷ bs) x h = by_len b bs x (scalar_len (b ∷ bs)) refl h
+
+pub quoted_again : (q : ℕ) (ls : Lines) (piece rest : List ℕ) → IsQuoted q ls piece rest → quoted_at (piece ++ rest) ≡ Some (piece, rest)
+quoted_again q ls piece rest is =
+    let inner = spell_lines ls in
+    let whole : piece ++ rest ≡ q ∷ (inner ++ (q ∷ rest)) = ap (λ p. p ++ rest) is.spelled ∙ ap (λ l. q ∷ l) (append_assoc inner (q ∷ []) rest) in
+    let size : scalar_len (q ∷ (inner ++ (q ∷ rest))) ≡ Some (2 + length inner) = rw (is_quote_again q is.quotes, lines_are_read q ls rest is.quotes is.lines is.closed) refl in
+    let read : scalar_len (piece ++ rest) ≡ Some (2 + length inner) = ap scalar_len whole ∙ size in
+    ap (cut_at (piece ++ rest)) read ∙ cut_is (piece ++ rest) piece rest (2 + length inner) refl (omega (arith, ap length is.spelled, length-append inner (q ∷ [])))
+
+-- a text begins with one quoted scalar at most
+pub quoted_one : (q r : ℕ) (ls ms : Lines) (p rest o other : List ℕ) → p ++ rest ≡ o ++ other → IsQuoted q ls p rest → IsQuoted r ms o other → (p ≡ o) × (rest ≡ other)
+quoted_one q r ls ms p rest o other same a b =
+    let e : ◌≡◌ {A = List ℕ × List ℕ} (p, rest) (o, other) = some_is (sym (quoted_again q ls p rest a) ∙ (ap quoted_at same ∙ quoted_again r ms o other b)) in
+    (ap (λ (x : List ℕ × List ℕ). x.0) e, ap (λ (x : List ℕ × List ℕ). x.1) e)
+
+at_seam : (p r : List ℕ) (x : ℕ) → get_or (p ++ (x ∷ r)) (length p) 0 ≡ x
+at_seam [] r x = refl
+at_seam (b ∷ p) r x = at_seam p r x
+
+-- behind the quote that closes the text may be cut
+pub boundary_quoted : (t : List ℕ) (n : ℕ) → IsUtf8 t → Some n ≡ scalar_len t → IsCharBoundary t n
+boundary_quoted [] n u h = absurd (let e : Some n ≡ None = h in cc)
+boundary_quoted (b ∷ bs) n u h =
+    let g = guard_then (is_quote b) (sym h) in
+    let quotes = quote_is b g.0 in
+    let m = more_some 2 n (quoted_len b 0 bs) g.1 in
+    let r = lines_takes (length bs) b m.0 bs (omega arith) quotes m.1 in
+    let inner = spell_lines r.ls in
+    let last_is : get_or (b ∷ bs) (suc (length inner)) 0 ≡ b = ap (λ (l : List ℕ). get_or (b ∷ l) (suc (length inner)) 0) r.cut ∙ at_seam inner r.rest b in
+    let low : b < 128 = of_quotes (λ x. x < 128) b quotes (omega arith) (omega arith) in
+    let size : length bs ≡ length inner + suc (length r.rest) = ap length r.cut ∙ length-append inner (b ∷ r.rest) in
+    let here : IsCharBoundary (b ∷ bs) (suc (length inner) + 1) = IsCharBoundary-after_ascii (b ∷ bs) (suc (length inner)) u (omega arith) (omega (arith, last_is, low)) in
+    subst (λ (k : ℕ). IsCharBoundary (b ∷ bs) k) (omega (arith, r.long, m.2)) here
