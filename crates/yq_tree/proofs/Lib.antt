@@ -6,3 +6,10 @@ pub mod Values
 pub mod Finding
 pub mod PlaceLaws
 pub mod ByRules
+pub mod Parts
+pub mod SoundLaws
+pub mod KeyLaws
+pub mod ReadLaws
+pub mod EndsLaws
+pub mod EntryLaws
+pub mod DocumentLaws

@@ -6,3 +6,9 @@ pub mod Group
 pub mod Places
 pub mod Laws
 pub mod View
+pub mod Sound
+pub mod Ends
+pub mod Lines
+pub mod Documents
+pub mod Reading
+pub mod Answers

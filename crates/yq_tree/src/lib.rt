@@ -1,8 +1,17 @@
 //! Documents: rows read as trees, with the places of their nodes.
 #![tactic(auto)]
 
+mod document;
+mod ends;
+mod entries;
+mod fault;
 mod laws;
 mod path;
+mod reading;
+#[cfg(test)]
+mod tests;
 
+pub use document::{DEPTH_LIMIT, Documents};
 pub use laws::{exchanged, one_node, rules};
 pub use path::{Part, Path, Span, Step};
+pub use reading::{one_reading, read};

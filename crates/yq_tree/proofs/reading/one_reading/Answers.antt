@@ -1,0 +1,5 @@
+use Rattle.yq_tree.proofs.ReadLaws.{one_reading}
+use Rattle.yq_tree.proofs.reading.one_reading.Goals as goal
+
+pub returns : goal.returns
+returns c = one_reading

@@ -1,0 +1,38 @@
+-- Reading (a reader may skip this: the grammar is what is believed, and found and only tie the two): what is asked of a document's lines.
+use Rattle.std.specs.Prelude.{◌≡◌, ℕ, nat_le, List, [], ◌∷◌, Bool, true, false, not, ◌&&◌, Result, Ok, Err}
+use Rattle.std.specs.List.{list_any}
+use Rattle.std.specs.Str.{bytes_eq}
+use Rattle.yq_scalar.specs.declared.fault.ReadError.{ReadError}
+use Rattle.yq_scalar.specs.declared.fault.ReadError.TheVariants as error
+use Rattle.yq_scalar.specs.Tree.{Node, alias, scalar, list, map, Children, none, child}
+use Rattle.yq_scalar.specs.Keys.{keys_of, depth}
+use Rattle.yq_tree.specs.Outline.{Outline, value}
+use Rattle.yq_tree.specs.Group.{is_fine}
+
+-- whether no two keys are equal
+abbrev pub are_distinct : List (List ℕ) → Bool
+are_distinct [] = true
+are_distinct (k ∷ ks) = not (list_any (bytes_eq k) ks) && are_distinct ks
+
+abbrev mutual
+  -- whether no mapping has a key twice
+  pub has_unique_keys : Node → Bool
+  has_unique_keys (alias name) = true
+  has_unique_keys (scalar anchor kind text) = true
+  has_unique_keys (list anchor cs) = each_has_unique_keys cs
+  has_unique_keys (map anchor cs) = are_distinct (keys_of cs) && each_has_unique_keys cs
+
+  -- the same of each item or entry
+  pub each_has_unique_keys : Children → Bool
+  each_has_unique_keys none = true
+  each_has_unique_keys (child label n cs) = has_unique_keys n && each_has_unique_keys cs
+
+-- whether an outline stands for a node in which at most d collections are nested and no mapping has a key twice
+abbrev pub is_sound : ℕ → Outline → Bool
+is_sound d o = is_fine o && (nat_le (depth (value o)) d && has_unique_keys (value o))
+
+-- the answer tells whether a test is passed, unless memory ran out
+abbrev pub Tells : {X : Type 0} → Result X ReadError → Bool → Type 0
+Tells (Ok x) passed = passed ≡ true
+Tells (Err error.Memory) passed = Unit {0}
+Tells (Err (error.Fault f)) passed = passed ≡ false

@@ -1,0 +1,81 @@
+//! Reading bytes as documents.
+ghost use Rattle.std.specs.Prelude.{◌≡◌, ◌≢◌, ◌↔◌, ℕ, List, IfOk, Some, MatchResult, true, false};
+ghost use Rattle.std.specs.Str.{is_utf8};
+ghost use Rattle.yq_scalar.specs.declared.fault.FaultKind.TheVariants.{NotUtf8};
+ghost use Rattle.yq_scalar.specs.Answers.{Gives};
+ghost use Rattle.yq_tree.specs.Documents.{Document, Reads};
+ghost use Rattle.yq_tree.specs.Answers.{IsNotUtf8};
+ghost use Rattle.yq_tree.specs.Reading as spec;
+
+use crate::document::{Documents, check_rows};
+use std::alloc::Global;
+use yq_rows::scan;
+use yq_scalar::{FaultKind, ReadError, ReadFault};
+
+/// The text that bytes are in UTF-8.
+fn text_of(bytes: &[u8]) -> Result<&str, ReadFault>
+    ensures { MatchResult result (λ s. (is_utf8 bytes.now ≡ true) × (s.now ≡ bytes.now)) (λ f. (is_utf8 bytes.now ≡ false) × (f.kind ≡ NotUtf8)) }
+{
+    match std::str::from_utf8(bytes) {
+        Ok(text) => Ok(text),
+        Err(error) => {
+            let text = bytes.iter().take(error.valid_up_to());
+            let breaks = text.filter(|b| **b == b'\n').count() as u64;
+            Err(ReadFault {
+                kind: FaultKind::NotUtf8,
+                line: breaks.saturating_add(1),
+            })
+        }
+    }
+}
+
+/// A fault of a text, which is never that its bytes are no text.
+fn text_fault(fault: ReadFault) -> ReadFault
+    ensures { result.kind ≢ NotUtf8 }
+{
+    match fault.kind {
+        FaultKind::NotUtf8 => ReadFault {
+            kind: FaultKind::ControlCharacter,
+            line: fault.line,
+        },
+        _ => fault,
+    }
+}
+
+/// Reads a text as documents.
+#[tactic(auto, unfolding(crate::specs::Reading::text_at))]
+fn read_text(alloc: Global, text: &str) -> Result<Documents<'_>, ReadError>
+    ensures { Gives (λ d. d) result (spec.text_at text.now) }
+{
+    let rows = scan(alloc, text)?;
+    let ends = check_rows(alloc, &rows)?;
+    Ok(Documents { rows, ends })
+}
+
+/// Reads bytes as documents.
+#[tactic(auto, unfolding(crate::specs::Reading::read_at))]
+pub fn read(alloc: Global, bytes: &[u8]) -> Result<Documents<'_>, ReadError>
+    // The bytes read as the documents.
+    ensures found { IfOk result (λ d. Reads bytes.now (spec.documents d)) }
+    // Bytes that read as documents are read so, unless memory runs out.
+    ensures only { (docs : List Document) → Reads bytes.now docs → Gives spec.documents result (Some docs) }
+    // The fault that bytes are no text comes where they are none.
+    ensures not_utf8 { IsNotUtf8 result ↔ (is_utf8 bytes.now ≡ false) }
+    // The rows of the documents are what reading from left to right gives.
+    ensures exact { Gives (λ d. d) result (spec.read_at bytes.now) }
+{
+    let text = match text_of(bytes) {
+        Ok(text) => text,
+        Err(fault) => return Err(ReadError::Fault(fault)),
+    };
+    match read_text(alloc, text) {
+        Ok(documents) => Ok(documents),
+        Err(ReadError::Memory) => Err(ReadError::Memory),
+        Err(ReadError::Fault(fault)) => Err(ReadError::Fault(text_fault(fault))),
+    }
+}
+
+/// No bytes have two readings.
+pub fn one_reading()
+    ensures { (bytes : List ℕ) (docs others : List Document) → Reads bytes docs → Reads bytes others → docs ≡ others }
+{}
