@@ -1,10 +1,13 @@
 -- A text and a journal beside a history, at rest and with a move open.
-use Rattle.std.specs.Prelude.{◌≡◌, ◌≢◌, ◌⊎◌, ℕ, ◌≤◌, List, [], ◌∷◌, length, Option, Some, None}
+use Rattle.std.specs.Prelude.{◌≡◌, ◌≢◌, ◌==◌, ◌⊎◌, ℕ, ◌≤◌, ◌&&◌, List, [], ◌∷◌, length, nat_le, if◌then◌else◌, Option, Some, None}
+use Rattle.yq_journal.specs.declared.fault.JournalFault.{JournalFault}
+use Rattle.yq_journal.specs.declared.fault.JournalFault.TheVariants.{NothingToUndo, NothingToRedo, JournalFull, BadCount}
 use Rattle.yq_journal.specs.declared.moves.Move.{Move}
 use Rattle.yq_journal.specs.declared.moves.Move.TheVariants.{Edit, Undo, Redo}
 use Rattle.yq_journal.specs.History.{History, Revision, text_at, after_edit, after_undo, after_redo}
 use Rattle.yq_journal.specs.Record.{Patch, done}
 use Rattle.yq_journal.specs.Json.{journal_in}
+use Rattle.yq_journal.specs.Refusals.{most_records}
 use Rattle.yq_journal.specs.State.{State, Pending, empty_state, moved_text}
 
 -- each record leads from a text to the next, and has its expression (own)
@@ -49,6 +52,23 @@ DescribesPending s (Some p) t h = Underway s p t h
 -- a journal beside a text describes a history (own)
 abbrev pub Describes : State → List ℕ → History → Type 0
 Describes s t h = DescribesPending s s.pending t h
+
+-- a journal that comes of settling is at rest with the history (own)
+pub record Rests (settled : Option State) (t : List ℕ) (h : History) : Type 0 where
+  pub rest : State
+  pub is : settled ≡ Some rest
+  pub at_rest : AtRest rest t h
+  pub closed : rest.pending ≡ None
+
+-- the fault of a move of a history: an edit needs room, an undo and a redo a text to move to (own)
+abbrev pub step_fault : History → Move → Option JournalFault
+step_fault h (Edit r) = if nat_le most_records h.at then Some JournalFull else None
+step_fault h Undo = if h.at == 0 then Some NothingToUndo else None
+step_fault h Redo = if nat_le (length h.later) h.at then Some NothingToRedo else None
+
+-- the fault of a squash of a history's last n done edits (own)
+abbrev pub squash_refusal : History → ℕ → Option JournalFault
+squash_refusal h n = if nat_le 1 n && nat_le n h.at then None else Some BadCount
 
 -- the journal that a name's bytes are; where there are none, that of a text that was never edited (own)
 abbrev pub journal_beside : Option (List ℕ) → Option State

@@ -47,12 +47,13 @@ move_fault s step t = if is_some s.pending then Some Unsettled else way_fault s.
 abbrev pub push_fault : State → Patch → Option JournalFault
 push_fault s r = if is_some s.pending then Some Unsettled else no_way s.records s.at (Edit r)
 
--- the first fault of a squash of n records: there are n done ones, at least one, and each ends with the length with which the next one begins (own)
+-- the fault of joining the last n records up to the cursor: there are so many, at least one, and each ends with the length with which the next one begins (own)
+abbrev pub count_fault : List Patch → ℕ → ℕ → Option JournalFault
+count_fault records at n = if nat_le 1 n && nat_le n at && meet (last_done records at n) then None else Some BadCount
+
+-- the first fault of a squash of the last n done records (own)
 abbrev pub squash_fault : State → ℕ → Option JournalFault
-squash_fault s n =
-    if is_some s.pending then Some Unsettled
-    else if nat_le 1 n && nat_le n s.at && meet (last_done s n) then None
-    else Some BadCount
+squash_fault s n = if is_some s.pending then Some Unsettled else count_fault s.records s.at n
 
 -- an open move stands on its text and changes it (own)
 pub record CanMove (records : List Patch) (at : ℕ) (step : Move) (from : List ℕ) : Type 0 where

@@ -62,14 +62,14 @@ abbrev pub joined_of : List Patch → List Patch
 joined_of [] = []
 joined_of (r ∷ rs) = joined r rs ∷ []
 
--- the last n done records (own)
-abbrev pub last_done : State → ℕ → List Patch
-last_done s n = drop (s.at - n) (take s.at s.records)
+-- the last n records up to the cursor (own)
+abbrev pub last_done : List Patch → ℕ → ℕ → List Patch
+last_done records at n = drop (at - n) (take at records)
 
 -- the journal with its last n done records joined into one (own)
 abbrev pub squashed : State → ℕ → State
 squashed s n = record {
-  records = take (s.at - n) s.records ++ (joined_of (last_done s n) ++ drop s.at s.records);
+  records = take (s.at - n) s.records ++ (joined_of (last_done s.records s.at n) ++ drop s.at s.records);
   at = s.at - n + 1;
   pending = None;
 }

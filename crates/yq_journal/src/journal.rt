@@ -1,11 +1,12 @@
 //! The journal: records, a cursor, and perhaps an open move.
 ghost use Rattle.std.specs.Prelude.{◌≡◌, ◌≢◌, ◌⊎◌, ◌<◌, None, Some, IfOk, IfErr, OnOk, OnErr, IsNone, IsOk, length, slice_get};
-ghost use Rattle.yq_journal.specs.Refusals.{Names, move_fault, push_fault};
-ghost use Rattle.yq_journal.specs.State.{empty_state, moved, moved_text, opened, settled};
+ghost use Rattle.yq_journal.specs.Refusals.{Names, move_fault, push_fault, squash_fault};
+ghost use Rattle.yq_journal.specs.State.{empty_state, moved, moved_text, opened, settled, squashed};
 
 use crate::fault::{JournalError, JournalFault};
 use crate::moves::{MAX_RECORDS, Move, lead, make, target};
 use crate::record::Record;
+use crate::squash::{join_last, replace_run};
 use std::alloc::Global;
 use std::marker::Model;
 
@@ -191,6 +192,25 @@ impl Journal {
                 return Err(JournalError::Memory);
             }
         }
+        Ok(())
+    }
+
+    /// Joins the last `n` done records into one. Refused, first to last: as
+    /// `Unsettled` where a move is open, as `BadCount` where there aren't so
+    /// many, or none is asked for, or the lengths of neighbours don't meet.
+    pub fn squash(&mut self, n: u64) -> Result<(), JournalError>
+        ensures free { OnOk result (squash_fault self.old n ≡ None) }
+        ensures ok { OnOk result (self.new ≡ squashed self.old n) }
+        ensures fault { IfErr result (λ e. Names e (squash_fault self.old n)) }
+        ensures err { OnErr result (self.new ≡ self.old) }
+    {
+        if self.open.is_some() {
+            return Err(JournalError::Fault(JournalFault::Unsettled));
+        }
+        let joined = join_last(self.alloc, &self.records, self.at, n)?;
+        let start = self.at - n as usize;
+        replace_run(&mut self.records, start, self.at, joined);
+        self.at = start + 1;
         Ok(())
     }
 }

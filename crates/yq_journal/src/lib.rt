@@ -4,10 +4,15 @@
 mod fault;
 mod gap;
 mod journal;
+mod laws;
 mod moves;
 mod record;
+mod squash;
 
 pub use fault::{JournalError, JournalFault};
 pub use journal::Journal;
+pub use laws::{
+    faults_are_of_history, moves_go_on, open_moves_describe, settling_rests, squashes_go_on,
+};
 pub use moves::Move;
 pub use record::{Record, record_inverts, redo_record, undo_record};

@@ -1,0 +1,171 @@
+-- What an open move, and settling it, make of a journal that describes a history.
+use Rattle.std.proofs.Common.{◌≡◌, ◌≢◌, inl, inr, ◌==◌, ℕ, suc, ◌-◌, ◌<◌, List, [], ◌∷◌, length, Option, Some, None, true, false, nat_le, refl, sym, ap, ◌∙◌, subst, arith, if◌then◌else◌}
+use Rattle.std.specs.Prelude.{option_and_then, slice_get}
+use Rattle.std.specs.Str.{bytes_eq}
+use Prim.Native.Nat.{zero}
+use Rattle.std.proofs.lemmas.Bool.Decides.{nat_tests}
+use Rattle.std.proofs.lemmas.Slice.Eq.{bytes_eq-Decides}
+use Rattle.yq_journal.specs.declared.fault.JournalFault.{JournalFault}
+use Rattle.yq_journal.specs.declared.fault.JournalFault.TheVariants as fault
+use Rattle.yq_journal.specs.declared.moves.Move.{Move}
+use Rattle.yq_journal.specs.declared.moves.Move.TheVariants.{Edit, Undo, Redo}
+use Rattle.yq_journal.specs.Good.{AtRest, Underway, DescribesPending, Describes, Rests, step_fault, after_move}
+use Rattle.yq_journal.specs.History.{History, text_behind}
+use Rattle.yq_journal.specs.Record.{Patch, done, undone}
+use Rattle.yq_journal.specs.Refusals.{most_records, no_way, or_else, if_moves, way_fault}
+use Rattle.yq_journal.specs.State.{State, Pending, moved_text, moved, closed, opened, settled, settled_pending, is_text}
+use Rattle.yq_journal.proofs.HistoryLaws.{same_length, leads_at, move_moves}
+use Rattle.yq_journal.proofs.RecordLaws.{undone_after_done}
+
+bytes_same : (t : List ℕ) → bytes_eq t t ≡ true
+bytes_same t = (bytes_eq-Decides t t).1 refl
+
+bytes_differ : (t u : List ℕ) → t ≢ u → bytes_eq t u ≡ false
+bytes_differ t u d = elim (bytes_eq t u) as (λ b. bytes_eq t u ≡ b → b ≡ false) [
+  | true ↦ λ e. absurd (d ((bytes_eq-Decides t u).0 e))
+  | false ↦ λ e. refl
+] refl
+
+-- a journal with no open move that describes a history is at rest
+pub at_rest : (s : State) (t : List ℕ) (h : History) → s.pending ≡ None → Describes s t h → AtRest s t h
+at_rest s t h none d = subst (λ o. DescribesPending s o t h) none d
+
+-- and the other way round
+pub describes : (s : State) (t : List ℕ) (h : History) → s.pending ≡ None → AtRest s t h → Describes s t h
+describes s t h none k = subst (λ o. DescribesPending s o t h) (sym none) k
+
+-- a move is opened: beside the old text the history is what it was
+pub open_before : (s : State) (h : History) (t u : List ℕ) (step : Move) → AtRest s t h → moved_text s.records s.at step t ≡ Some u → u ≢ t → Describes (opened s step t) t h
+open_before s h t u step k m d = record {
+  before = h;
+  tells = record { leads = k.tells.leads; cursor = k.tells.cursor; within = k.tells.within };
+  from = k.text;
+  to = u;
+  moves = m;
+  changes = d;
+  stands = inl (refl, refl);
+}
+
+-- and beside the new text it is the one after the move
+pub open_after : (s : State) (h : History) (t u : List ℕ) (step : Move) → AtRest s t h → moved_text s.records s.at step t ≡ Some u → u ≢ t → Describes (opened s step t) u (after_move h step u)
+open_after s h t u step k m d = record {
+  before = h;
+  tells = record { leads = k.tells.leads; cursor = k.tells.cursor; within = k.tells.within };
+  from = k.text;
+  to = u;
+  moves = m;
+  changes = d;
+  stands = inr (refl, refl);
+}
+
+moved_closed : (s : State) (step : Move) → (moved s step).pending ≡ None
+moved_closed s (Edit r) = refl
+moved_closed s Undo = refl
+moved_closed s Redo = refl
+
+settles_before : (s : State) (p : Pending) (t : List ℕ) (h : History) (k : Underway s p t h) → t ≡ p.from → h ≡ k.before → Rests (settled_pending s (Some p) t) t h
+settles_before s p t h k is same = record {
+  rest = closed s;
+  is = ap (λ b. if b then Some (closed s) else if is_text (moved_text s.records s.at p.step p.from) t then Some (moved s p.step) else None) (ap (bytes_eq p.from) is ∙ bytes_same p.from);
+  at_rest = subst (λ g. AtRest (closed s) t g) (sym same) (record {
+    tells = record { leads = k.tells.leads; cursor = k.tells.cursor; within = k.tells.within };
+    text = is ∙ k.from;
+  });
+  closed = refl;
+}
+
+settles_after : (s : State) (p : Pending) (t : List ℕ) (h : History) (k : Underway s p t h) → t ≡ k.to → h ≡ after_move k.before p.step k.to → Rests (settled_pending s (Some p) t) t h
+settles_after s p t h k is same = record {
+  rest = moved s p.step;
+  is =
+      ap (λ b. if b then Some (closed s) else if is_text (moved_text s.records s.at p.step p.from) t then Some (moved s p.step) else None)
+      (bytes_differ p.from t (λ e. k.changes (sym is ∙ sym e)))
+      ∙ ap (λ o. if is_text o t then Some (moved s p.step) else None) k.moves
+      ∙ ap (λ b. if b then Some (moved s p.step) else None) (ap (bytes_eq k.to) is ∙ bytes_same k.to);
+  at_rest = subst (λ g. AtRest (moved s p.step) t g) (sym same) (subst (λ u. AtRest (moved s p.step) u (after_move k.before p.step k.to)) (sym is)
+      (move_moves s k.before p.from k.to p.step (record { tells = k.tells; text = k.from }) k.moves));
+  closed = moved_closed s p.step;
+}
+
+settles_pending : (s : State) (o : Option Pending) (t : List ℕ) (h : History) → s.pending ≡ o → DescribesPending s o t h → Rests (settled_pending s o t) t h
+settles_pending s None t h none k = record { rest = s; is = refl; at_rest = k; closed = none }
+settles_pending s (Some p) t h is k = elim k.stands [
+  | inl a ↦ settles_before s p t h k a.0 a.1
+  | inr a ↦ settles_after s p t h k a.0 a.1
+]
+
+-- a journal that describes a history can be settled, and then is at rest with that history
+pub settles : (s : State) (t : List ℕ) (h : History) → Describes s t h → Rests (settled s t) t h
+settles s t h d = settles_pending s s.pending t h refl d
+
+some_same : {A : Type 0} (x y : A) → Some x ≡ Some y → x ≡ y
+some_same x y e = cc
+
+-- what settling gives is at rest with the history
+pub settled_rests : (s r : State) (t : List ℕ) (h : History) → Describes s t h → settled s t ≡ Some r → AtRest r t h × (r.pending ≡ None)
+settled_rests s r t h d is =
+    let k = settles s t h d in
+    let same : k.rest ≡ r = some_same k.rest r (sym k.is ∙ is) in
+    (subst (λ x. AtRest x t h) same k.at_rest, subst (λ (x : State). x.pending ≡ None) same k.closed)
+
+-- a record of the journal at a place before its end
+get_at : (rs : List Patch) (n : ℕ) → n < length rs → (r : Patch) × (slice_get rs n ≡ Some r)
+get_at [] n h = absurd (omega arith)
+get_at (r ∷ rs) zero h = (r, refl)
+get_at (r ∷ rs) (suc n) h = get_at rs n (omega arith)
+
+not_zero : (n : ℕ) → 0 < n → (n == 0) ≡ false
+not_zero n h = grind (arith, nat_tests)
+
+-- what describes a history can be undone down to its first text
+undo_stands : (s : State) (h : History) (t : List ℕ) → AtRest s t h → 0 < s.at → moved_text s.records s.at Undo t ≡ Some (text_behind h.first h.later (s.at - 1))
+undo_stands s h t k pos =
+    let place : suc (s.at - 1) ≡ h.at = omega (arith, k.tells.cursor) in
+    let found = get_at s.records (s.at - 1) (omega (arith, k.tells.within, k.tells.cursor, same_length h.first s.records h.later k.tells.leads)) in
+    let leads : done found.0 (text_behind h.first h.later (s.at - 1)) ≡ Some t =
+    leads_at h.first s.records h.later (s.at - 1) found.0 k.tells.leads found.1 ∙ ap (λ n. Some (text_behind h.first h.later n)) place ∙ ap Some (sym k.text) in
+    ap (λ b. if b then None else option_and_then (λ r. undone r t) (slice_get s.records (s.at - 1))) (not_zero s.at pos)
+    ∙ ap (option_and_then (λ r. undone r t)) found.1
+    ∙ undone_after_done found.0 (text_behind h.first h.later (s.at - 1)) t leads
+
+-- and redone up to its last
+redo_stands : (s : State) (h : History) (t : List ℕ) → AtRest s t h → s.at < length s.records → moved_text s.records s.at Redo t ≡ Some (text_behind h.first h.later (suc s.at))
+redo_stands s h t k fits =
+    let found = get_at s.records s.at fits in
+    ap (option_and_then (λ r. done r t)) found.1
+    ∙ ap (done found.0) (k.text ∙ ap (text_behind h.first h.later) (sym k.tells.cursor))
+    ∙ leads_at h.first s.records h.later s.at found.0 k.tells.leads found.1
+
+-- whether a move has a way is the history's to say
+pub way_of : (s : State) (t : List ℕ) (h : History) (step : Move) → AtRest s t h → no_way s.records s.at step ≡ step_fault h step
+way_of s t h (Edit r) k = ap (λ n. if nat_le most_records n then Some fault.JournalFull else None) k.tells.cursor
+way_of s t h Undo k = ap (λ n. if n == 0 then Some fault.NothingToUndo else None) k.tells.cursor
+way_of s t h Redo k =
+    ap (λ n. if nat_le (length s.records) n then Some fault.NothingToRedo else None) k.tells.cursor
+    ∙ ap (λ n. if nat_le n h.at then Some fault.NothingToRedo else None) (same_length h.first s.records h.later k.tells.leads)
+
+-- an undo of a journal at rest stands wherever the history has one
+pub undo_fault : (s : State) (t : List ℕ) (h : History) → AtRest s t h → way_fault s.records s.at Undo t ≡ step_fault h Undo
+undo_fault s t h k =
+    elim (s.at == 0) as (λ b. (s.at == 0) ≡ b → or_else (if b then Some fault.NothingToUndo else None) (if_moves (moved_text s.records s.at Undo t)) ≡ (if b then Some fault.NothingToUndo else None)) [
+      | true ↦ λ e. refl
+      | false ↦ λ e. let pos : 0 < s.at = grind (arith, nat_tests) in ap if_moves (undo_stands s h t k pos)
+    ] refl
+    ∙ way_of s t h Undo k
+
+-- and a redo likewise
+pub redo_fault : (s : State) (t : List ℕ) (h : History) → AtRest s t h → way_fault s.records s.at Redo t ≡ step_fault h Redo
+redo_fault s t h k =
+    elim (nat_le (length s.records) s.at) as (λ b. nat_le (length s.records) s.at ≡ b → or_else (if b then Some fault.NothingToRedo else None) (if_moves (moved_text s.records s.at Redo t)) ≡ (if b then Some fault.NothingToRedo else None)) [
+      | true ↦ λ e. refl
+      | false ↦ λ e. let fits : s.at < length s.records = grind (arith, nat_tests) in ap if_moves (redo_stands s h t k fits)
+    ] refl
+    ∙ way_of s t h Redo k
+
+or_none : (o : Option JournalFault) → or_else o None ≡ o
+or_none None = refl
+or_none (Some f) = refl
+
+-- an edit whose record stands before the text has the history's fault alone
+pub edit_fault : (s : State) (t u : List ℕ) (h : History) (r : Patch) → AtRest s t h → done r t ≡ Some u → way_fault s.records s.at (Edit r) t ≡ step_fault h (Edit r)
+edit_fault s t u h r k d = ap (or_else (no_way s.records s.at (Edit r))) (ap if_moves d) ∙ or_none (no_way s.records s.at (Edit r)) ∙ way_of s t h (Edit r) k

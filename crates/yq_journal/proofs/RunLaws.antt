@@ -1,0 +1,36 @@
+-- A run of a list gives way to one element, by turning the list.
+use Rattle.std.proofs.Common.{◌≡◌, ℕ, suc, ◌+◌, ◌-◌, ◌≤◌, ◌<◌, List, [], ◌∷◌, ◌++◌, length, take, drop, set, sym, ap, ◌∙◌, arith, append_assoc, length-drop}
+use Prim.Native.Nat.{zero}
+use Rattle.std.proofs.Math.Seq.{drop-append_seam, take-append_seam}
+use Rattle.std.proofs.lemmas.Grind.{common_steps}
+use Rattle.std.proofs.lemmas.List.{take-take}
+
+take_seam : {A : Type 0} (xs ys : List A) (n : ℕ) → n ≡ length xs → take n (xs ++ ys) ≡ xs
+take_seam xs ys n is = ap (λ m. take m (xs ++ ys)) is ∙ take-append_seam xs ys
+
+drop_seam : {A : Type 0} (xs ys : List A) (n : ℕ) → n ≡ length xs → drop n (xs ++ ys) ≡ ys
+drop_seam xs ys n is = ap (λ m. drop m (xs ++ ys)) is ∙ drop-append_seam xs ys
+
+take_over : {A : Type 0} (xs ys : List A) (n m : ℕ) → n ≡ length xs → take (n + m) (xs ++ ys) ≡ xs ++ take m ys
+take_over [] ys n m is = let none : n + m ≡ m = omega (arith, is) in ap (λ k. take k ys) none
+take_over (x ∷ xs) ys zero m is = absurd (omega (arith, is))
+take_over (x ∷ xs) ys (suc n) m is = let more : suc n + m ≡ suc (n + m) = omega arith in ap (λ k. take k (x ∷ (xs ++ ys))) more ∙ ap (λ l. x ∷ l) (take_over xs ys n m (omega (arith, is)))
+
+-- the list from a place on, then up to it, cut behind an element before that place, and turned back
+pub turned : {A : Type 0} (xs : List A) (i e k : ℕ) (y : A) → i < e → e ≤ length xs → k ≡ length xs - e
+    → drop k (take (k + i + 1) (drop e (set xs i y) ++ take e (set xs i y))) ++ take k (take (k + i + 1) (drop e (set xs i y) ++ take e (set xs i y)))
+    ≡ take i xs ++ (y ∷ drop e xs)
+turned xs i e k y run within is =
+    let behind : drop e (set xs i y) ≡ drop e xs = grind (arith, common_steps) in
+    let front : take (i + 1) (set xs i y) ≡ take i xs ++ y ∷ [] = grind (arith, common_steps) in
+    let long : k ≡ length (drop e xs) = is ∙ sym (length-drop e xs) in
+    let behind_more : k + i + 1 ≡ k + (i + 1) = omega arith in
+    let kept : take (k + i + 1) (drop e (set xs i y) ++ take e (set xs i y)) ≡ drop e xs ++ (take i xs ++ y ∷ []) =
+    ap (λ n. take n (drop e (set xs i y) ++ take e (set xs i y))) behind_more
+    ∙ take_over (drop e (set xs i y)) (take e (set xs i y)) k (i + 1) (long ∙ ap length (sym behind))
+    ∙ ap (λ l. l ++ take (i + 1) (take e (set xs i y))) behind
+    ∙ ap (λ l. drop e xs ++ l) (take-take (i + 1) e (set xs i y) (omega arith) ∙ front) in
+    ap (λ l. drop k l ++ take k l) kept
+    ∙ ap (λ l. l ++ take k (drop e xs ++ (take i xs ++ y ∷ []))) (drop_seam (drop e xs) (take i xs ++ y ∷ []) k long)
+    ∙ ap (λ l. (take i xs ++ y ∷ []) ++ l) (take_seam (drop e xs) (take i xs ++ y ∷ []) k long)
+    ∙ append_assoc (take i xs) (y ∷ []) (drop e xs)

@@ -1,0 +1,9 @@
+use Rattle.std.proofs.Common.{subst, rules}
+use Rattle.yq_journal.specs.Record.{IsRecord}
+use Rattle.yq_journal.proofs.JoinLaws.{IsRecord-join}
+use Rattle.yq_journal.proofs.squash.Parts.join.Goals as goal
+
+pub returns-clause-valid : goal.returns-clause-valid
+returns-clause-valid c = λ h meets.
+    let k : IsRecord c.args.next.now = subst IsRecord c.next.view_is c.next.invariant in
+    subst IsRecord (search rules) (IsRecord-join c.args.self.now c.args.next.now h k meets)
