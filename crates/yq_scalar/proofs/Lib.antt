@@ -20,3 +20,4 @@ pub mod EscapeLaws
 pub mod CharLaws
 pub mod QuotedLaws
 pub mod QuotedRead
+pub mod PieceLaws

@@ -14,3 +14,4 @@ pub mod Tree
 pub mod Writable
 pub mod Quoted
 pub mod QuotedReading
+pub mod Piece

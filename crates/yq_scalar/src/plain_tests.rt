@@ -1,6 +1,9 @@
+use crate::fault::FaultKind;
 use crate::kind::Kind;
+use crate::piece::Piece;
 use crate::plain::{begins_plain, holds_break, split_plain};
 use crate::plain_laws::{one_plain, plain_spells};
+use crate::plain_piece::read_plain;
 use crate::scalar::Scalar;
 use crate::style::{Place, Style};
 use crate::writable::can_write;
@@ -54,6 +57,52 @@ fn pieces(rt: HostRuntime) {
     }
     one_plain();
     plain_spells();
+}
+
+#[test]
+fn plain_scalars_at_offsets(rt: HostRuntime) {
+    // the text, where the scalar is to begin, its place, its parent's indentation, and where it ends
+    let rows = [
+        (
+            "k: a\n  b\n\n  c\n",
+            3usize,
+            Place::Block,
+            0i64,
+            Some(13usize),
+        ),
+        ("k: a\n  b\n\n  c\n", 3, Place::Block, 2, Some(4)),
+        ("x\ny", 0, Place::Block, -1, Some(3)),
+        ("x\ny", 0, Place::Block, 0, Some(1)),
+        ("[a\nb, c]", 1, Place::Flow, 8, Some(4)),
+        ("a b: c", 0, Place::BlockKey, 0, Some(3)),
+        ("{a b: c}", 1, Place::FlowKey, 0, Some(4)),
+        ("a, b", 0, Place::Block, -1, Some(4)),
+        ("a, b", 0, Place::Flow, -1, Some(1)),
+        ("a: #b", 3, Place::Block, 0, None),
+        ("a: 'b'", 3, Place::Block, 0, None),
+        ("a", 1, Place::Block, -1, None),
+    ];
+    for (text, at, place, indent, end) in rows {
+        let piece = read_plain(text, at, place, indent);
+        match end {
+            Some(end) => {
+                let want = Piece {
+                    style: Style::Plain,
+                    start: at,
+                    head_end: end,
+                    raw_start: end,
+                    end,
+                    indent: 0,
+                    keep: false,
+                };
+                assert!(rt; matches!(&piece, Ok(p) if *p == want), "{text:?} at {at}");
+            }
+            None => assert!(rt;
+                matches!(&piece, Err(FaultKind::BadScalar)),
+                "{text:?} at {at}"
+            ),
+        }
+    }
 }
 
 #[test]

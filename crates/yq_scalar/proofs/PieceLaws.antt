@@ -1,0 +1,36 @@
+-- The piece of a plain scalar.
+use Rattle.std.proofs.Common.{◌≡◌, ℕ, ◌+◌, List, length, drop, Some, Result, Ok, Err, sym, ap, ◌∙◌, IfOk, ℤ}
+use Rattle.yq_scalar.specs.declared.piece.Piece.{Piece}
+use Rattle.yq_scalar.specs.declared.style.Place.{Place}
+use Rattle.yq_scalar.specs.declared.style.Style.TheVariants as styles
+use Rattle.yq_scalar.specs.Answers.{◌>>=◌, Reads}
+use Rattle.yq_scalar.specs.Piece.{inline_piece, further_spaces, IsPlainPiece, plain_from}
+use Rattle.yq_scalar.specs.Plain.{plain_at}
+use Rattle.yq_scalar.specs.Writable.{in_flow}
+use Rattle.yq_scalar.proofs.Bools.{bind_some}
+use Rattle.yq_scalar.proofs.PlainLaws.{plain_takes, plain_again}
+
+some_is : {A : Type 0} {x y : A} → Some x ≡ Some y → x ≡ y
+some_is e = cc
+
+pub piece_takes : (place : Place) (n : ℤ) (at : ℕ) (text : List ℕ) (p : Piece) → plain_from place n at text ≡ Some p → IsPlainPiece place n at text p
+unfolding plain_from
+piece_takes place n at text p h =
+    let b = bind_some (plain_at (in_flow place) (further_spaces place n) (drop at text)) h in
+    let t = plain_takes (in_flow place) (further_spaces place n) (drop at text) b.0 b.1 in
+    record { scalar = b.0.0; rest = b.0.1; stands = t.0; plain = t.1; piece = sym (some_is b.2) }
+
+pub piece_again : (place : Place) (n : ℤ) (at : ℕ) (text : List ℕ) (p : Piece) → IsPlainPiece place n at text p → plain_from place n at text ≡ Some p
+unfolding plain_from
+piece_again place n at text p h =
+    ap (λ t. plain_at (in_flow place) (further_spaces place n) t >>= λ x. Some (inline_piece styles.Plain at (at + length x.0))) h.stands
+    ∙ (ap (λ o. o >>= λ (x : List ℕ × List ℕ). Some (inline_piece styles.Plain at (at + length x.0))) (plain_again (in_flow place) (further_spaces place n) h.scalar h.rest h.plain)
+    ∙ ap Some (sym h.piece))
+
+pub found_by : {E : Type 0} (place : Place) (n : ℤ) (at : ℕ) (text : List ℕ) (r : Result Piece E) → Reads (λ p. p) r (plain_from place n at text) → IfOk r (IsPlainPiece place n at text)
+found_by place n at text (Ok p) h = piece_takes place n at text p h
+found_by place n at text (Err e) h = tt
+
+pub only_by : {E : Type 0} (place : Place) (n : ℤ) (at : ℕ) (text : List ℕ) (r : Result Piece E) → Reads (λ p. p) r (plain_from place n at text) → (p : Piece) → IsPlainPiece place n at text p → r ≡ Ok p
+only_by place n at text (Ok q) h p i = ap Ok (some_is (sym h ∙ piece_again place n at text p i))
+only_by place n at text (Err e) h p i = absurd (let e = sym h ∙ piece_again place n at text p i in cc)

@@ -1,0 +1,54 @@
+//! The plain scalar at an offset of a text.
+ghost use Rattle.std.specs.Prelude.{◌≡◌, IfOk, Ok};
+ghost use Rattle.std.specs.Str.{IsCharBoundary};
+ghost use Rattle.yq_scalar.specs.Answers.{Reads};
+ghost use Rattle.yq_scalar.specs.Piece as spec;
+ghost use Rattle.yq_scalar.specs.declared.piece.Piece.{Piece};
+
+use crate::fault::FaultKind;
+use crate::piece::{Piece, inline_piece};
+use crate::plain::{begins_plain, split_plain};
+use crate::style::{Place, Style};
+use crate::writable::in_flow;
+
+/// With how many spaces a further line of a plain scalar begins at least, below the indentation of its
+/// parent.
+fn further_spaces(place: Place, indent: i64) -> Option<usize>
+    ensures { result ≡ spec.further_spaces place indent }
+{
+    match place {
+        Place::Block if indent < 0 => Some(0),
+        Place::Block => Some(indent as usize + 1),
+        Place::Flow => Some(0),
+        Place::BlockKey | Place::FlowKey => None,
+    }
+}
+
+/// The plain scalar that begins at an offset, in bytes, of a text, going on as far as it may. `indent`
+/// is the indentation of its parent, in columns, and -1 below no parent.
+///
+/// The error is [`FaultKind::BadScalar`], exactly where no plain scalar begins there. No memory is
+/// taken.
+#[tactic(auto, using(crate::proofs::PieceLaws::found_by))]
+pub fn read_plain(text: &str, at: usize, place: Place, indent: i64) -> Result<Piece, FaultKind>
+    requires { IsCharBoundary text.now at }
+    ensures exact { Reads (λ p. p) result (spec.plain_from place indent at text.now) }
+    ensures found { IfOk result (spec.IsPlainPiece place indent at text.now) }
+    ensures only { (p : Piece) → spec.IsPlainPiece place indent at text.now p → result ≡ Ok p }
+{
+    plain_from(text, at, place, indent)
+}
+
+#[tactic(auto, unfolding(crate::specs::Piece::plain_from, crate::specs::Plain::plain_at))]
+fn plain_from(text: &str, at: usize, place: Place, indent: i64) -> Result<Piece, FaultKind>
+    requires { IsCharBoundary text.now at }
+    ensures { Reads (λ p. p) result (spec.plain_from place indent at text.now) }
+{
+    let flow = in_flow(place);
+    let rest = text.split_at(at).1;
+    if !begins_plain(flow, rest.as_bytes()) {
+        return Err(FaultKind::BadScalar);
+    }
+    let (scalar, _) = split_plain(flow, further_spaces(place, indent), rest);
+    Ok(inline_piece(Style::Plain, at, at + scalar.len()))
+}
