@@ -13,3 +13,7 @@ pub mod ReadLaws
 pub mod EndsLaws
 pub mod EntryLaws
 pub mod DocumentLaws
+pub mod KeyLines
+pub mod RowPathLaws
+pub mod SameLaws
+pub mod ExchangeLaws

@@ -8,11 +8,11 @@ use Rattle.yq_tree.proofs.Plug.{flatten-plug, plug-even, allows_from}
 use Rattle.yq_tree.proofs.Values.{If, PathChanges, path_value}
 use Rattle.yq_tree.proofs.Finding.{IsFoundIn, path_whole}
 
-at : {A : Type 0} (P : A → Type 0) (r : Option A) (x : A) → r ≡ Some x → If r P → P x
+pub at : {A : Type 0} (P : A → Type 0) (r : Option A) (x : A) → r ≡ Some x → If r P → P x
 at {A} P r x e h = let Q : Option A → Type 0 = λ r. If r P in subst Q e h
 
 -- the lines of an outline with others in a place
-placed : (f : Found) (l : Line) (u : Outline) → flatten (plug f.place (row l u f.after)) ≡ with_lines f (l ∷ flatten u)
+pub placed : (f : Found) (l : Line) (u : Outline) → flatten (plug f.place (row l u f.after)) ≡ with_lines f (l ∷ flatten u)
 placed f l u = flatten-plug f.place (row l u f.after) ∙ ap (λ x. lines_before f.place ++ (l ∷ x)) (append_assoc (flatten u) (flatten f.after) (lines_after f.place))
 
 pub exchanged : Exchanged

@@ -27,7 +27,7 @@ root_is [] e = refl
 root_is (l ∷ ls) e =
     let s = stand-sound (l ∷ ls) (value (group (l ∷ ls))) (cond-true _ _ _ e) in (s.0, rules_from s.0 (l ∷ ls) (value (group (l ∷ ls))) s.1 l ls refl)
 
-fine_value : (b : Bool) (v w : Node) → cond b (Some v) None ≡ Some w → (b ≡ true) × (v ≡ w)
+pub fine_value : (b : Bool) (v w : Node) → cond b (Some v) None ≡ Some w → (b ≡ true) × (v ≡ w)
 fine_value true v w e = (refl, cc)
 fine_value false v w e = cc
 

@@ -20,17 +20,14 @@ abbrev pub IsRoot : List Line → Node → Type 0
 IsRoot [] node = node ≡ null
 IsRoot (l ∷ ls) node = (n : ℕ) × IsNode n (l ∷ ls) node
 
--- the gap before the first row, or the whole gap where there is no row (own)
-abbrev pub first_gap : Cut → List ℕ
-first_gap c = gap_before c.rows
-  where
-    gap_before : List Row → List ℕ
-    gap_before [] = c.end
-    gap_before (r ∷ rs) = r.gap
+-- the gap before the first row, or the gap at the end where there is no row (own)
+abbrev pub first_gap : List Row → List ℕ → List ℕ
+first_gap [] end = end
+first_gap (r ∷ rs) end = r.gap
 
 -- the comment before a document: the run of comment lines that ends its first gap (own)
 abbrev pub lead_of : Cut → List (List ℕ)
-lead_of c = head_comment (first_gap c)
+lead_of c = head_comment (first_gap c.rows c.end)
 
 -- no row's key is a plain `<<` (own)
 abbrev pub HasNoMergeKey : List Row → Type 0

@@ -11,4 +11,5 @@ pub mod Ends
 pub mod Lines
 pub mod Documents
 pub mod Reading
+pub mod RowPaths
 pub mod Answers

@@ -7,6 +7,7 @@ mod entries;
 mod fault;
 mod laws;
 mod path;
+mod path_laws;
 mod reading;
 #[cfg(test)]
 mod tests;
@@ -14,4 +15,5 @@ mod tests;
 pub use document::{DEPTH_LIMIT, Documents};
 pub use laws::{exchanged, one_node, rules};
 pub use path::{Part, Path, Span, Step};
+pub use path_laws::{head_exchanged, path_rows};
 pub use reading::{one_reading, read};
