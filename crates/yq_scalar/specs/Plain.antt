@@ -8,7 +8,8 @@ use Rattle.yq_scalar.specs.Text.{is_empty, is_feed, is_space, front, separates, 
 abbrev pub is_flow_indicator : ℕ → Bool
 is_flow_indicator b = b == 44 || b == 91 || b == 93 || b == 123 || b == 125
 
--- an indicator: one of those of flow, or `-`, `?`, `:`, `#`, `&`, `*`, `!`, `|`, `>`, `'`, `"`, `%`, `@` or a backquote (YAML 1.2.2, section 5.3)
+-- an indicator: one of those of flow, or `-`, `?`, `:`, `#`, `&`, `*`, `!`, `|`, `>`, `'`, `"`, `%`, `@` or a backquote (YAML 1.2.2,
+-- section 5.3)
 abbrev pub is_indicator : ℕ → Bool
 is_indicator b = b == 45 || b == 63 || b == 58 || is_flow_indicator b || b == 35 || b == 38 || b == 42 || b == 33 || b == 124 || b == 62 || b == 39 || b == 34 || b == 37 || b == 64 || b == 96
 
@@ -16,7 +17,8 @@ is_indicator b = b == 45 || b == 63 || b == 58 || is_flow_indicator b || b == 35
 abbrev pub is_safe : Bool → List ℕ → Bool
 is_safe flow t = not (separates t) && not (flow && front is_flow_indicator t)
 
--- a plain scalar may begin here: not with white space, a break or an indicator, but for a `-`, `?` or `:` before a safe character (YAML 1.2.2, section 7.3.3)
+-- a plain scalar may begin here: not with white space, a break or an indicator, but for a `-`, `?` or `:` before a safe character (YAML 1.2.2,
+-- section 7.3.3)
 abbrev pub begins_plain : Bool → List ℕ → Bool
 begins_plain flow [] = false
 begins_plain flow (b ∷ bs) = not (is_space (b ∷ bs)) && (not (is_indicator b) || ((b == 45 || b == 63 || b == 58) && is_safe flow bs))
@@ -35,7 +37,8 @@ abbrev pub last_line : List ℕ → Option (List ℕ)
 last_line [] = None
 last_line (b ∷ bs) = option_or (last_line bs) (if is_feed b then Some bs else None)
 
--- A further line of a plain scalar begins with so many spaces at least, and with no marker (YAML 1.2.2, sections 6.1 and 9.1.2). Where no number is given, no further line may follow.
+-- A further line of a plain scalar begins with so many spaces at least, and with no marker (YAML 1.2.2, sections 6.1 and 9.1.2). Where no
+-- number is given, no further line may follow.
 abbrev pub begins_deep : Option ℕ → List ℕ → Bool
 begins_deep None line = false
 begins_deep (Some n) line = nat_le n (prefix_len (λ b. b == 32) line) && not (is_marker line)
@@ -49,7 +52,8 @@ may_follow spaces (Some indentation) text = begins_deep spaces (indentation ++ t
 abbrev pub follows : Bool → Option ℕ → List ℕ → List ℕ → Bool
 follows flow spaces gap text = not (is_empty text) && not (front (λ b. b == 35) text) && not (ends_text flow text) && may_follow spaces (last_line gap) text
 
--- A plain scalar has to end here: where it goes on behind no white space and no break in front, or where its text ends (YAML 1.2.2, section 7.3.3).
+-- A plain scalar has to end here: at the end, where its text ends, or at white space or a break behind which it doesn't go on (YAML 1.2.2,
+-- section 7.3.3).
 abbrev pub ends_plain : Bool → Option ℕ → List ℕ → Bool
 ends_plain flow spaces t = if is_space t then not (follows flow spaces (cut no_gap t).0 (cut no_gap t).1) else (is_empty t || ends_text flow t)
 

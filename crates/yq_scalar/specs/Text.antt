@@ -5,6 +5,10 @@ use Rattle.std.specs.Prelude.{◌≡◌, ℕ, suc, Bool, true, false, ◌||◌, 
 abbrev pub is_white : ℕ → Bool
 is_white b = b == 32 || b == 9
 
+-- the byte of LF (YAML 1.2.2, section 5.4)
+abbrev pub feed : ℕ
+feed = 10
+
 -- LF, with which each break ends (YAML 1.2.2, section 5.4)
 abbrev pub is_feed : ℕ → Bool
 is_feed b = b == 10

@@ -11,7 +11,7 @@ use Rattle.yq_scalar.specs.declared.style.Place.TheVariants as places
 use Rattle.yq_scalar.specs.PlainText.{is_plain_char, is_plain_text}
 use Rattle.yq_scalar.specs.Scalar.{ScalarText}
 use Rattle.yq_scalar.specs.SchemaReading.{resolve}
-use Rattle.yq_scalar.specs.Text.{is_empty, is_feed, is_white, front}
+use Rattle.yq_scalar.specs.Text.{feed, is_empty, is_feed, is_white, front}
 
 -- a string, and no null, bool, int or float (YAML 1.2.2, section 10.3.2)
 abbrev pub is_string : Kind → Bool
@@ -46,7 +46,7 @@ is_literal_char c = is_plain_char c || c == 9 || is_feed c
 -- a text that a literal scalar holds as it is: not empty, with neither white space nor LF in front, and with one LF at most at its end (own)
 abbrev pub is_literal_text : List ℕ → Bool
 is_literal_text t =
-    not (is_empty t) && not (front is_white t) && not (front is_feed t) && not (ends_with nat_eq t (10 ∷ 10 ∷ [])) && list_all is_literal_char (chars t)
+    not (is_empty t) && not (front is_white t) && not (front is_feed t) && not (ends_with nat_eq t (feed ∷ feed ∷ [])) && list_all is_literal_char (chars t)
 
 -- Plain writes each null, bool, int and float, and the strings that are read as they are (own).
 unfoldable pub can_write_plain : ScalarText → Bool → Bool

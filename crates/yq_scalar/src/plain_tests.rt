@@ -106,6 +106,19 @@ fn plain_scalars_at_offsets(rt: HostRuntime) {
 }
 
 #[test]
+fn a_long_gap(rt: HostRuntime) -> Result<(), Fail> {
+    let mut text = String::from_str(rt.alloc(), "a")?;
+    for _ in 0..1_000_000u32 {
+        text.push_str(" \n")?;
+    }
+    text.push_str(" b: c")?;
+    let (piece, rest) = split_plain(false, Some(1), text.as_str());
+    assert_eq!(rt; piece.len(), 2_000_003);
+    assert_eq!(rt; rest, ": c");
+    Ok(())
+}
+
+#[test]
 fn breaks(rt: HostRuntime) {
     for (text, held) in [
         ("", false),
