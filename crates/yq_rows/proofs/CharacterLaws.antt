@@ -8,10 +8,7 @@ use Rattle.std.specs.Str.{chars, IsUtf8}
 use Rattle.yq_scalar.specs.Characters.{is_text, is_text_char, pairs_returns}
 use Rattle.yq_scalar.specs.Text.{front, is_feed, is_return}
 use Rattle.yq_scalar.proofs.Bools.{is_true, and_true}
-
-both_true : (x y : Bool) → x ≡ true → y ≡ true → (x && y) ≡ true
-both_true true y h g = g
-both_true false y h g = h
+use Rattle.yq_rows.proofs.PieceLaws.{both_true}
 
 -- an LF behind each CR, in pieces
 front_more : (a b : List ℕ) → front is_feed a ≡ true → front is_feed (a ++ b) ≡ true

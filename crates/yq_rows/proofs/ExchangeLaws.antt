@@ -15,7 +15,7 @@ use Rattle.yq_rows.specs.Reading.{is_hash}
 use Rattle.yq_rows.specs.Rows.{Row, with_head, behind_head, behind_colon, behind_key, behind_indent, behind_gap, print_row, rows_text, Cut, cut_text}
 use Rattle.yq_rows.proofs.Alikes.{Alike, colon, alike_append, plain_alike, gap_alike, built_alike, gap_behind, row_alike}
 use Rattle.yq_rows.proofs.CharacterLaws.{text_exchanged}
-use Rattle.yq_rows.proofs.GapLaws.{line_end_behind}
+use Rattle.yq_rows.proofs.LineEnds.{line_end_behind}
 use Rattle.yq_rows.proofs.PieceLaws.{not_node, front_of, plain_no_other}
 
 -- the head's place

@@ -12,7 +12,7 @@ use Rattle.yq_rows.specs.Built.{is_other_node, is_built_head}
 use Rattle.yq_rows.specs.Gap.{IsWhite}
 use Rattle.yq_rows.specs.Grammar.{IsColon, IsHead, IsTail, key_limit}
 use Rattle.yq_rows.specs.Reading.{is_hash, is_colon, colon_at, key_at, plain_head_at, head_at, tail_at}
-use Rattle.yq_rows.proofs.GapLaws.{none_in_white, white_cut, white_again, line_end_takes, line_end_behind, line_end_line, line_again}
+use Rattle.yq_rows.proofs.LineEnds.{none_in_white, white_cut, white_again, line_end_takes, line_end_behind, line_end_line, line_again}
 use Rattle.yq_scalar.proofs.PlainLaws.{plain_is, plain_takes, plain_again}
 
 -- what a plain scalar begins with is no white space, no break, no end and no `#`
@@ -93,7 +93,7 @@ tail_cases w u h = ⊎_elim {0, 0, 0} (λ e. (rw e refl, rw e refl))
     (λ e. let parts = and_true (not (is_empty w)) (is_hash u) e in (or_right (ends_line u) (is_hash u) parts.1, or_right (ends_line u) (not (is_empty w)) parts.0))
     (or_cases (ends_line u) (not (is_empty w) && is_hash u) h)
 
-both_true : (x y : Bool) → x ≡ true → y ≡ true → (x && y) ≡ true
+pub both_true : (x y : Bool) → x ≡ true → y ≡ true → (x && y) ≡ true
 both_true true y h g = g
 both_true false y h g = h
 

@@ -12,7 +12,7 @@ use Rattle.yq_rows.specs.Gap.{IsWhite, IsGap}
 use Rattle.yq_rows.specs.Grammar.{IsRow, IsColon, IsHead, IsTail, Limit, allows}
 use Rattle.yq_rows.specs.Reading.{is_gap_line, key_at, head_at, tail_at, keyed_row_at, row_at}
 use Rattle.yq_rows.specs.Rows.{Row, behind_head, behind_colon, behind_indent, behind_gap}
-use Rattle.yq_rows.proofs.GapLaws.{white_again}
+use Rattle.yq_rows.proofs.LineEnds.{white_again}
 use Rattle.yq_rows.proofs.PieceLaws.{IsKey, key_takes, key_again, head_takes, head_again, tail_takes, tail_again, plain_begins}
 
 -- spaces

@@ -12,7 +12,7 @@ is_dash (b ∷ bs) = b == 45 && separates bs
 abbrev pub is_other_node : List ℕ → Bool
 is_other_node t = front (λ b. b == 39 || b == 34 || b == 91 || b == 123 || b == 38 || b == 42 || b == 124 || b == 62) t
 
--- a row of a form that is read begins in front, behind its indentation: no marker, no dash, and neither as its key nor alone on its line a node that is no plain scalar (own)
+-- a row of a form that is read begins in front, behind its indentation: no marker, no dash, and neither as its key nor alone on its line a node that is no plain scalar; that it has a key is asked by the row itself (own)
 abbrev pub is_built_row : ℕ → List ℕ → Bool
 is_built_row column t = not (column == 0 && is_marker t) && not (is_dash t) && not (is_other_node t)
 

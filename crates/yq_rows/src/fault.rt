@@ -1,7 +1,7 @@
 //! Where a text is at fault.
 
 use yq_scalar::characters::{TEXT_LIMIT, is_text_char};
-use yq_scalar::{FaultKind, ReadError, ReadFault};
+use yq_scalar::{FaultKind, ReadFault};
 
 /// How many line breaks there are, each of which ends with an LF.
 fn breaks(bytes: &[u8]) -> u64 {
@@ -9,47 +9,47 @@ fn breaks(bytes: &[u8]) -> u64 {
 }
 
 /// The fault of a row. It stands on the row's first line, behind the gap.
-pub(crate) fn row_fault(kind: FaultKind, text: &str, row: &str) -> ReadError {
+pub(crate) fn row_fault(kind: FaultKind, text: &str, row: &str) -> ReadFault {
     let before = text
         .as_bytes()
         .split_at(text.len().saturating_sub(row.len()))
         .0;
-    ReadError::Fault(ReadFault {
+    ReadFault {
         kind,
         line: breaks(before).saturating_add(1),
-    })
+    }
 }
 
 /// The first fault of a text that is too large, or that holds a character that it may not hold.
-pub(crate) fn text_fault(text: &str) -> ReadError {
+pub(crate) fn text_fault(text: &str) -> ReadFault {
     if text.len() > TEXT_LIMIT {
-        return ReadError::Fault(ReadFault {
+        return ReadFault {
             kind: FaultKind::TooLarge,
             line: 1,
-        });
+        };
     }
     let mut line = 1u64;
     let mut returned = false;
     'chars: for c in text.chars() {
         if returned && c != '\n' {
-            return ReadError::Fault(ReadFault {
+            return ReadFault {
                 kind: FaultKind::CarriageReturn,
                 line,
-            });
+            };
         }
         if !is_text_char(c) {
-            return ReadError::Fault(ReadFault {
+            return ReadFault {
                 kind: FaultKind::ControlCharacter,
                 line,
-            });
+            };
         }
         if c == '\n' {
             line = line.saturating_add(1);
         }
         returned = c == '\r';
     }
-    ReadError::Fault(ReadFault {
+    ReadFault {
         kind: FaultKind::CarriageReturn,
         line,
-    })
+    }
 }

@@ -66,7 +66,7 @@ fn cut<'t>(alloc: Global, text: &'t str) -> Result<Rows<'t>, ReadError>
     'rows: while !rest.is_empty() {
         let (row, after) = match read_row(limit, gap, rest) {
             Ok(found) => found,
-            Err(kind) => return Err(row_fault(kind, text, rest)),
+            Err(kind) => return Err(ReadError::Fault(row_fault(kind, text, rest))),
         };
         rows.push(row)?;
         limit = Limit::after(&row);
@@ -81,7 +81,7 @@ fn scan_text(alloc: Global, text: &str) -> Result<Rows<'_>, ReadError>
     ensures { Gives (λ r. r) result (spec.scan_at text.now) }
 {
     if text.len() > TEXT_LIMIT || !is_text(text) {
-        return Err(text_fault(text));
+        return Err(ReadError::Fault(text_fault(text)));
     }
     cut(alloc, text)
 }
