@@ -21,3 +21,7 @@ pub mod CharLaws
 pub mod QuotedLaws
 pub mod QuotedRead
 pub mod PieceLaws
+pub mod FoldLaws
+pub mod ItemLaws
+pub mod ContentLaws
+pub mod PlainContentLaws

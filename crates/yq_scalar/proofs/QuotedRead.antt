@@ -6,7 +6,7 @@ use Rattle.std.proofs.lemmas.Str.{IsCharBoundary-after_ascii}
 use Rattle.std.specs.Str.{IsUtf8, IsCharBoundary}
 use Rattle.yq_scalar.specs.Answers.{more}
 use Rattle.yq_scalar.specs.Text.{is_break, is_feed, is_return, is_marker, front}
-use Rattle.yq_scalar.specs.Quoted.{itself, doubled, IsChar, Break, feed, return_feed, spell_break, Lines, last, spell_lines, AreLines, IsQuoted}
+use Rattle.yq_scalar.specs.Quoted.{itself, doubled, IsChar, Break, feed, return_feed, spell_break, Lines, last, spell_lines, AreLines, IsQuoted, IsQuotedText}
 use Rattle.yq_scalar.specs.QuotedReading.{escape, behind, closes, quoted_len, scalar_len, cut_at, quoted_at, is_quote}
 use Rattle.yq_scalar.proofs.Bools.{is_true, and_true, or_false, guard_then, bind_some, more_some}
 use Rattle.yq_scalar.proofs.EscapeLaws.{length_item, length_of_some}
@@ -280,7 +280,7 @@ quoted_one q r ls ms p rest o other same a b =
     let e : ◌≡◌ {A = List ℕ × List ℕ} (p, rest) (o, other) = some_is (sym (quoted_again q ls p rest a) ∙ (ap quoted_at same ∙ quoted_again r ms o other b)) in
     (ap (λ (x : List ℕ × List ℕ). x.0) e, ap (λ (x : List ℕ × List ℕ). x.1) e)
 
-at_seam : (p r : List ℕ) (x : ℕ) → get_or (p ++ (x ∷ r)) (length p) 0 ≡ x
+pub at_seam : (p r : List ℕ) (x : ℕ) → get_or (p ++ (x ∷ r)) (length p) 0 ≡ x
 at_seam [] r x = refl
 at_seam (b ∷ p) r x = at_seam p r x
 
@@ -298,3 +298,7 @@ boundary_quoted (b ∷ bs) n u h =
     let size : length bs ≡ length inner + suc (length r.rest) = ap length r.cut ∙ length-append inner (b ∷ r.rest) in
     let here : IsCharBoundary (b ∷ bs) (suc (length inner) + 1) = IsCharBoundary-after_ascii (b ∷ bs) (suc (length inner)) u (omega arith) (omega (arith, last_is, low)) in
     subst (λ (k : ℕ). IsCharBoundary (b ∷ bs) k) (omega (arith, r.long, m.2)) here
+
+-- what is in front is a quoted scalar
+pub quoted_text : (t piece rest : List ℕ) → Some (piece, rest) ≡ quoted_at t → IsQuotedText piece
+quoted_text t piece rest read = let f = quoted_takes t (piece, rest) (sym read) in (f.quote, (f.ls, (rest, f.is)))

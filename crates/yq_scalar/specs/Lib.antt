@@ -15,3 +15,5 @@ pub mod Writable
 pub mod Quoted
 pub mod QuotedReading
 pub mod Piece
+pub mod ContentReading
+pub mod PlainContent

@@ -163,3 +163,7 @@ pub record IsQuoted (quote : ℕ) (ls : Lines) (piece rest : List ℕ) : Type 0 
   pub spelled : piece ≡ quote ∷ (spell_lines ls ++ quote ∷ [])
   pub lines : AreLines quote ls (quote ∷ rest)
   pub closed : (quote == 39 && front (λ b. b == 39) rest) ≡ false
+
+-- the text is a quoted scalar, in some quotes and before some rest (own)
+abbrev pub IsQuotedText : List ℕ → Type 0
+IsQuotedText piece = (quote : ℕ) × ((ls : Lines) × ((rest : List ℕ) × IsQuoted quote ls piece rest))

@@ -2,6 +2,7 @@
 #![tactic(auto)]
 
 pub mod characters;
+pub mod content;
 mod fault;
 mod integer;
 mod keys;
@@ -16,6 +17,8 @@ mod plain_tests;
 pub mod plain_text;
 pub mod quoted;
 pub mod quoted_laws;
+#[cfg(test)]
+mod quoted_tests;
 mod scalar;
 mod schema;
 #[cfg(test)]

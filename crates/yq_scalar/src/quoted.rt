@@ -1,9 +1,9 @@
 //! Quoted scalars (YAML 1.2.2, sections 5.7, 7.3.1 and 7.3.2).
-ghost use Rattle.std.specs.Prelude.{◌≡◌, ◌==◌, ◌++◌, ◌+◌, ◌*◌, ◌<◌, ◌≤◌, length, None, Some, Result, Ok, Err};
+ghost use Rattle.std.specs.Prelude.{◌≡◌, ◌==◌, ◌++◌, ◌+◌, ◌*◌, ◌<◌, ◌≤◌, length, None, Some, Result, Ok, Err, IfOk};
 ghost use Rattle.std.specs.Option.{IfSome, option_map};
 ghost use Rattle.yq_scalar.specs.Answers.{Reads};
 ghost use Rattle.std.specs.Str.{IsCharBoundary};
-ghost use Rattle.yq_scalar.specs.Quoted.{letters, beside};
+ghost use Rattle.yq_scalar.specs.Quoted.{letters, beside, IsQuotedText};
 ghost use Rattle.yq_scalar.specs.QuotedReading as spec;
 
 use crate::fault::FaultKind;
@@ -177,7 +177,8 @@ fn cut_quoted(text: &str) -> Option<(&str, &str)>
 /// The quoted scalar in front of the text, with its quotes, and what follows it; the fault is
 /// [`FaultKind::BadScalar`], where no scalar is in front or it isn't closed.
 pub fn split_quoted(text: &str) -> Result<(&str, &str), FaultKind>
-    ensures { Reads (λ x. (x.0.now, x.1.now)) result (spec.quoted_at text.now) }
+    ensures exact { Reads (λ x. (x.0.now, x.1.now)) result (spec.quoted_at text.now) }
+    ensures found { IfOk result (λ x. IsQuotedText x.0.now) }
 {
     match cut_quoted(text) {
         Some(x) => Ok(x),
