@@ -1,14 +1,13 @@
 -- What is read as the content of a scalar is what its lines stand for.
-use Rattle.std.proofs.Common.{◌≡◌, ℕ, zero, suc, ◌+◌, ◌-◌, ◌<◌, Bool, true, false, cond, not, eqb, List, [], ◌∷◌, ◌++◌, length, take, drop, get_or, slice_index, Option, Some, None, Result, Ok, Err, IfOk, refl, sym, inl, inr, ◌⊎◌, ◌&&◌, ◌||◌, ap, ◌∙◌, subst, arith, eqb-true, append_assoc, append-nil, length-append, length-drop}
-use Rattle.std.proofs.lemmas.Bool.{false≢true, cases_cond}
+use Rattle.std.proofs.Common.{◌≡◌, ℕ, ◌+◌, ◌-◌, ◌<◌, Bool, true, false, cond, eqb, List, [], ◌∷◌, ◌++◌, length, take, drop, get_or, Option, Result, Ok, Err, IfOk, refl, sym, inl, inr, ◌&&◌, ap, ◌∙◌, subst, arith, eqb-true, append_assoc, append-nil, length-append, length-drop}
+use Rattle.std.proofs.lemmas.Bool.{false≢true}
 use Rattle.std.proofs.Math.Seq.{take-append_seam}
 use Rattle.std.proofs.Math.Utf8.{encode}
 use Rattle.std.proofs.lemmas.Str.{IsCharBoundary-after_ascii, IsCharBoundary-before_ascii}
 use Rattle.std.specs.Str.{IsUtf8, IsCharBoundary}
 use Rattle.yq_scalar.specs.Text.{is_white, is_break, is_feed, is_return, front}
-use Rattle.yq_scalar.specs.Quoted.{letters, beside, Char, itself, doubled, escape as letter_escape, code, spell_char, spell_chars, char_text, chars_text, bytes_of, IsChar, AreChars, Break, feed, return_feed, spell_break, spell_end, Lines, last, line, spell_lines, AreLines, is_blank, are_blank, past_blanks, before_blanks, Gap, folded, joined, one_more, gap_text, lines_text, content, IsQuoted}
-use Rattle.yq_scalar.specs.QuotedReading.{escape}
-use Rattle.yq_scalar.specs.ContentReading.{Before, within, after, broken, filled, content_on, content_of, quoted_content, is_pair, item}
+use Rattle.yq_scalar.specs.Quoted.{Char, itself, doubled, escape as letter_escape, code, spell_char, spell_chars, char_text, chars_text, bytes_of, IsChar, AreChars, Break, feed, return_feed, spell_break, spell_end, Lines, last, line, spell_lines, AreLines, is_blank, are_blank, past_blanks, before_blanks, Gap, folded, joined, one_more, gap_text, lines_text, content, IsQuoted}
+use Rattle.yq_scalar.specs.ContentReading.{Before, within, after, broken, filled, content_on, content_of, quoted_content, is_pair}
 use Rattle.yq_scalar.proofs.Bools.{is_true, and_true, or_false}
 use Rattle.yq_scalar.proofs.QuotedLaws.{of_quotes}
 use Rattle.yq_scalar.proofs.QuotedRead.{at_seam}
@@ -71,7 +70,7 @@ char_means q (itself b) t rest h =
 char_means q doubled t rest h = subst (λ (x : ℕ). Means x doubled t) (sym h) (doubled_means t)
 char_means q (letter_escape letter) t rest h =
     let own : Means 34 (letter_escape letter) t = λ before w. escape_means h.1.0 (letter ∷ []) t (letter_is_escape letter h.1.0 h.1.1) before w
-      ∙ ap (λ (o : Option ℕ). filled before w ++ (bytes_of o ++ content_on 34 0 within [] t)) (sym h.1.1) in
+    ∙ ap (λ (o : Option ℕ). filled before w ++ (bytes_of o ++ content_on 34 0 within [] t)) (sym h.1.1) in
     subst (λ (x : ℕ). Means x (letter_escape letter) t) (sym h.0) own
 char_means q (code letter digits) t rest h =
     let own : Means 34 (code letter digits) t = λ before w. escape_means _ (letter ∷ digits) t (code_escape letter digits h.1 h.2 h.3) before w in
@@ -134,9 +133,9 @@ within_drop q (c ∷ cs) t u w h d =
     let first = ap (content_on q 0 within w) (append_assoc (spell_char c) (spell_chars cs) t) ∙ h.0 within w in
     elim (is_true (is_blank c)) [
       | inl e ↦ (rw e at first) ∙ (within_drop q cs t u (w ++ char_text c) h.1 d ∙ elim (is_true (are_blank cs)) [
-          | inl all ↦ rw (e, all, blank_before cs all) refl
-          | inr some ↦ rw (e, some) (append_assoc w (char_text c) (chars_text (before_blanks cs) ++ x) ∙ ap (λ l. w ++ l) (sym (append_assoc (char_text c) (chars_text (before_blanks cs)) x)))
-        ])
+        | inl all ↦ rw (e, all, blank_before cs all) refl
+        | inr some ↦ rw (e, some) (append_assoc w (char_text c) (chars_text (before_blanks cs) ++ x) ∙ ap (λ l. w ++ l) (sym (append_assoc (char_text c) (chars_text (before_blanks cs)) x)))
+      ])
       | inr e ↦ (rw e at first) ∙ (ap (λ l. w ++ (char_text c ++ l)) (within_drop q cs t u [] h.1 d ∙ ap (λ l. l ++ (chars_text (before_blanks cs) ++ x)) (cond_same (are_blank cs) []))
           ∙ rw e (ap (λ l. w ++ l) (sym (append_assoc (char_text c) (chars_text (before_blanks cs)) x))))
     ]
@@ -171,7 +170,7 @@ lines_content q g (last cs) h =
     ap (content_on q 0 (after g) []) (sym (append-nil (spell_chars cs))) ∙ (after_fill q g cs [] [] [] h (fills_end q) ∙ ap (λ l. gap_text g ++ l) (append-nil (chars_text (past_blanks cs))))
 lines_content q g (line cs true b ls) h =
     let ends : Fills q (spell_end true b ++ spell_lines ls) (content_on q 0 (after (joined 0)) [] (spell_lines ls)) =
-      subst (λ (x : ℕ). Fills x (92 ∷ (spell_break b ++ spell_lines ls)) (content_on x 0 (after (joined 0)) [] (spell_lines ls))) (sym (h.1 refl)) (fills_joined b (spell_lines ls)) in
+    subst (λ (x : ℕ). Fills x (92 ∷ (spell_break b ++ spell_lines ls)) (content_on x 0 (after (joined 0)) [] (spell_lines ls))) (sym (h.1 refl)) (fills_joined b (spell_lines ls)) in
     after_fill q g cs (spell_end true b ++ spell_lines ls) _ [] h.0 ends ∙ ap (λ l. gap_text g ++ (chars_text (past_blanks cs) ++ l)) (lines_content q (joined 0) ls h.2)
 lines_content q g (line cs false b ls) h =
     after_drop q g cs (spell_end false b ++ spell_lines ls) (spell_lines ls) [] h.0 (drops_break q b (spell_lines ls))
@@ -184,7 +183,7 @@ content_is q (last cs) h =
     ap (content_on q 0 within []) (sym (append-nil (spell_chars cs))) ∙ (within_fill q cs [] [] [] h (fills_end q) ∙ append-nil (chars_text cs))
 content_is q (line cs true b ls) h =
     let ends : Fills q (spell_end true b ++ spell_lines ls) (content_on q 0 (after (joined 0)) [] (spell_lines ls)) =
-      subst (λ (x : ℕ). Fills x (92 ∷ (spell_break b ++ spell_lines ls)) (content_on x 0 (after (joined 0)) [] (spell_lines ls))) (sym (h.1 refl)) (fills_joined b (spell_lines ls)) in
+    subst (λ (x : ℕ). Fills x (92 ∷ (spell_break b ++ spell_lines ls)) (content_on x 0 (after (joined 0)) [] (spell_lines ls))) (sym (h.1 refl)) (fills_joined b (spell_lines ls)) in
     within_fill q cs (spell_end true b ++ spell_lines ls) _ [] h.0 ends ∙ ap (λ l. chars_text cs ++ l) (lines_content q (joined 0) ls h.2)
 content_is q (line cs false b ls) h =
     within_drop q cs (spell_end false b ++ spell_lines ls) (spell_lines ls) [] h.0 (drops_break q b (spell_lines ls))

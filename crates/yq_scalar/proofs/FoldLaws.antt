@@ -1,10 +1,10 @@
 -- What white space and breaks stand for.
-use Rattle.std.proofs.Common.{◌≡◌, ℕ, zero, suc, ◌+◌, ◌-◌, ◌<◌, ◌≤◌, Bool, true, false, cond, not, eqb, List, [], ◌∷◌, ◌++◌, length, take, drop, replicate, Option, Some, None, refl, sym, inl, inr, ⊎_elim, ◌⊎◌, ◌&&◌, ◌||◌, ap, ◌∙◌, subst, arith, add-one, eqb-true, append_assoc, append-nil}
-use Rattle.std.proofs.lemmas.Bool.{false≢true, false_from_ne_true, not-false, or_right}
+use Rattle.std.proofs.Common.{◌≡◌, ℕ, zero, suc, ◌+◌, Bool, true, false, cond, not, List, [], ◌∷◌, ◌++◌, take, drop, replicate, refl, sym, inl, inr, ◌&&◌, ◌||◌, ap, ◌∙◌, arith, append_assoc, append-nil}
+use Rattle.std.proofs.lemmas.Bool.{false≢true, not-false}
 use Rattle.std.proofs.lemmas.List.{take-append-drop}
 use Rattle.yq_scalar.specs.Text.{is_white, is_break, is_feed, is_return, is_space, front, upto, NoneIn}
-use Rattle.yq_scalar.specs.Quoted.{Gap, folded, joined, gap_text, one_more}
-use Rattle.yq_scalar.specs.ContentReading.{Before, within, after, filled, broken, content_on, item, item_len, item_before, no_gap, breaks, spaced, space_text, before_of}
+use Rattle.yq_scalar.specs.Quoted.{folded, joined, gap_text}
+use Rattle.yq_scalar.specs.ContentReading.{Before, within, after, filled, broken, content_on, no_gap, breaks, spaced, space_text, before_of}
 use Rattle.yq_scalar.proofs.Bools.{is_true, and_true, or_false, at_byte}
 use Rattle.yq_scalar.proofs.Upto.{none_in_cut}
 

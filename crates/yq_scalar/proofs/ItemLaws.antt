@@ -1,16 +1,15 @@
 -- What the items of a scalar stand for, and where a text may be cut.
-use Rattle.std.proofs.Common.{◌≡◌, ℕ, zero, suc, ◌+◌, ◌-◌, ◌<◌, ◌≤◌, Bool, true, false, cond, not, eqb, ltb, List, [], ◌∷◌, ◌++◌, length, take, drop, get_or, Option, Some, None, Result, Ok, Err, IfOk, refl, sym, inl, inr, ⊎_elim, ◌⊎◌, ◌&&◌, ◌||◌, ap, ◌∙◌, subst, arith, add-one, eqb-true, eq-eqb, append_assoc, append-nil, length-drop}
-use Rattle.std.proofs.lemmas.Bool.{false≢true, false_from_ne_true, not-false, or_cases, cases_lt}
+use Rattle.std.proofs.Common.{◌≡◌, ℕ, zero, suc, ◌<◌, ◌≤◌, Bool, true, false, eqb, List, [], ◌∷◌, ◌++◌, length, take, drop, get_or, Some, None, Result, Ok, Err, IfOk, refl, sym, inl, inr, ◌&&◌, ◌||◌, ap, ◌∙◌, subst, arith, add-one, eqb-true, append-nil, length-drop}
+use Rattle.std.proofs.lemmas.Bool.{false≢true, or_cases, cases_lt}
 use Rattle.std.proofs.lemmas.List.{take-append-drop}
-use Rattle.std.proofs.lemmas.Str.{IsCharBoundary-start, IsCharBoundary-after_ascii, IsUtf8-drop}
-use Rattle.std.proofs.Math.Bool.{and-false}
+use Rattle.std.proofs.lemmas.Str.{IsCharBoundary-start, IsCharBoundary-after_ascii}
 use Rattle.std.proofs.Math.Utf8.{encode}
 use Rattle.std.specs.Str.{IsUtf8, IsCharBoundary}
 use Rattle.yq_scalar.specs.Text.{is_white, is_break, is_feed, is_return, is_space, front, upto, NoneIn}
 use Rattle.yq_scalar.specs.Quoted.{joined}
 use Rattle.yq_scalar.specs.QuotedReading.{escape}
-use Rattle.yq_scalar.specs.ContentReading.{Before, within, after, filled, content_on, item, item_len, item_before, break_len, no_gap, before_of, is_pair, is_slash, ends_run}
-use Rattle.yq_scalar.proofs.Bools.{is_true, and_true, or_false, chosen}
+use Rattle.yq_scalar.specs.ContentReading.{Before, within, after, filled, content_on, break_len, no_gap, before_of, is_pair, is_slash, ends_run}
+use Rattle.yq_scalar.proofs.Bools.{is_true, and_true, or_false}
 use Rattle.yq_scalar.proofs.Upto.{upto_le_length, none_in_cut}
 use Rattle.yq_scalar.proofs.Boundaries.{boundary_ends, space_ascii, break_ascii}
 use Rattle.yq_scalar.proofs.EscapeLaws.{escape_ascii, escape_within}

@@ -1,13 +1,13 @@
 -- What is read as the content of a plain scalar is what its lines stand for.
-use Rattle.std.proofs.Common.{◌≡◌, ℕ, zero, suc, Bool, true, false, eqb, List, [], ◌∷◌, ◌++◌, refl, sym, inl, inr, ◌⊎◌, ◌&&◌, ◌||◌, ap, ◌∙◌, subst, eqb-true, append-nil}
+use Rattle.std.proofs.Common.{◌≡◌, ℕ, true, false, List, [], ◌∷◌, ◌++◌, refl, sym, inl, inr, ◌&&◌, ap, ◌∙◌, subst, eqb-true, append-nil}
 use Rattle.std.proofs.lemmas.Bool.{false≢true}
 use Rattle.std.proofs.Math.Bool.{and-false}
-use Rattle.yq_scalar.specs.Text.{is_break, is_feed, is_return, front}
-use Rattle.yq_scalar.specs.Quoted.{Char, itself, doubled, escape as letter_escape, code, spell_char, spell_chars, Break, feed, return_feed, spell_break, spell_end, Lines, last, line, spell_lines, content}
+use Rattle.yq_scalar.specs.Text.{is_break, is_feed, is_return}
+use Rattle.yq_scalar.specs.Quoted.{Char, itself, doubled, escape as letter_escape, code, spell_chars, Break, feed, return_feed, spell_break, Lines, last, line, spell_lines, content}
 use Rattle.yq_scalar.specs.PlainContent.{ArePlain, ArePlainLines, IsPlainLines}
-use Rattle.yq_scalar.specs.ContentReading.{plain_content, is_pair}
-use Rattle.yq_scalar.proofs.Bools.{is_true, and_true, or_false}
-use Rattle.yq_scalar.proofs.ContentLaws.{Means, AllMean, LinesMean, itself_means, content_is}
+use Rattle.yq_scalar.specs.ContentReading.{plain_content}
+use Rattle.yq_scalar.proofs.Bools.{is_true, and_true}
+use Rattle.yq_scalar.proofs.ContentLaws.{AllMean, LinesMean, itself_means, content_is}
 
 plain_chars_mean : (cs : List Char) (t : List ℕ) → ArePlain cs t → AllMean 0 cs t
 plain_chars_mean [] t h = tt
@@ -41,10 +41,13 @@ push_plain b (line cs true k ls) brk h = absurd (false≢true (sym h.1))
 push_plain b (line cs false k ls) brk h = ((brk, h.0), h.1, h.2)
 
 pushed : (b : ℕ) (t : List ℕ) → is_break (b ∷ t) ≡ false → ((ls : Lines) × IsPlainLines ls t) → (ls : Lines) × IsPlainLines ls (b ∷ t)
-pushed b t brk (ls, is) = (push b ls, record {
-  spelled = ap (λ l. b ∷ l) is.spelled ∙ push_spelled b ls;
-  lines = push_plain b ls (subst (λ (u : List ℕ). is_break (b ∷ u) ≡ false) is.spelled brk) is.lines;
-})
+pushed b t brk (ls, is) = (
+  push b ls,
+  record {
+    spelled = ap (λ l. b ∷ l) is.spelled ∙ push_spelled b ls;
+    lines = push_plain b ls (subst (λ (u : List ℕ). is_break (b ∷ u) ≡ false) is.spelled brk) is.lines;
+  },
+)
 
 broken : (k : Break) (t u : List ℕ) → u ≡ spell_break k ++ t → ((ls : Lines) × IsPlainLines ls t) → (ls : Lines) × IsPlainLines ls u
 broken k t u e (ls, is) = (line [] false k ls, record { spelled = e ∙ ap (λ l. spell_break k ++ l) is.spelled; lines = (tt, refl, is.lines) })

@@ -1,5 +1,5 @@
 -- The lines of plain scalars, whose content is folded as that of quoted ones (YAML 1.2.2, sections 6.5 and 7.3.3).
-use Rattle.std.specs.Prelude.{◌≡◌, ℕ, Bool, false, List, [], ◌∷◌, ◌++◌}
+use Rattle.std.specs.Prelude.{◌≡◌, ℕ, false, List, [], ◌∷◌, ◌++◌}
 use Rattle.yq_scalar.specs.Text.{is_break}
 use Rattle.yq_scalar.specs.Quoted.{Char, itself, doubled, escape, code, spell_chars, spell_break, Lines, last, line, spell_lines}
 

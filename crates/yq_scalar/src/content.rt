@@ -5,10 +5,9 @@ ghost use Rattle.yq_scalar.specs.PlainContent.{IsPlainLines};
 ghost use Rattle.yq_scalar.specs.Quoted.{Lines, IsQuoted, IsQuotedText, content};
 ghost use Rattle.yq_scalar.specs.Text.{upto, cut, is_space};
 
-use std::alloc::{AllocError, Global};
-
 use crate::quoted::escape;
 use crate::text::{is_break, is_space};
+use std::alloc::{AllocError, Global};
 
 /// How many bytes of white space and breaks are in front.
 #[tactic(auto, unfolding(crate::specs::Text::upto))]
@@ -124,13 +123,7 @@ fn break_len(text: &[u8]) -> usize
 {
     match text {
         [] => 0,
-        [first, ..] => {
-            if *first == b'\n' {
-                1
-            } else {
-                2
-            }
-        }
+        [first, ..] => { if *first == b'\n' { 1 } else { 2 } }
     }
 }
 
@@ -196,7 +189,12 @@ fn push_item<'a>(out: &mut String, quote: u8, text: &'a str) -> Result<(&'a str,
 
 /// Adds what white space, breaks and the item behind them stand for, and gives what follows, and
 /// whether that is a joined line.
-fn push_next<'a>(out: &mut String, quote: u8, joined: bool, text: &'a str) -> Result<(&'a str, bool), AllocError>
+fn push_next<'a>(
+    out: &mut String,
+    quote: u8,
+    joined: bool,
+    text: &'a str,
+) -> Result<(&'a str, bool), AllocError>
     ensures value { IfOk result (λ x. string_bytes out.new ++ spec.content_on quote 0 (spec.before_of x.1) [] x.0.now ≡ string_bytes out.old ++ spec.content_on quote 0 (spec.before_of joined) [] text.now) }
     ensures shorter { IfOk result (λ x. 0 < length text.now → length x.0.now < length text.now) }
 {

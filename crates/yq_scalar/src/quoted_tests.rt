@@ -1,10 +1,9 @@
 //! Quoted scalars, cut off a text, and what they and plain ones stand for.
 
-use std::test::Fail;
-
 use crate::content::{plain_content, quoted_content};
 use crate::fault::FaultKind;
 use crate::quoted::split_quoted;
+use std::test::Fail;
 
 #[test]
 fn cuts(rt: HostRuntime) {
@@ -18,14 +17,34 @@ fn cuts(rt: HostRuntime) {
         ("'a\n---b'", "'a\n---b'", ""),
     ];
     for (text, piece, rest) in cuts {
-        assert!(rt; matches!(split_quoted(text), Ok((p, r)) if p == piece && r == rest), "at {text:?}");
+        assert!(rt;
+            matches!(split_quoted(text), Ok((p, r)) if p == piece && r == rest),
+            "at {text:?}"
+        );
     }
     let refused = [
-        "", "x", " 'x'", "'x", "\"x", "'x''", "'x''1", "\"\\\"", "\"\\c\"", "\"\\xq-\"", "\"\\x4\"", "\"\\ud800\"",
-        "\"\\U00110000\"", "'a\n--- b'", "\"a\r\n...\r\n\"", "\"a\\\n--- b\"",
+        "",
+        "x",
+        " 'x'",
+        "'x",
+        "\"x",
+        "'x''",
+        "'x''1",
+        "\"\\\"",
+        "\"\\c\"",
+        "\"\\xq-\"",
+        "\"\\x4\"",
+        "\"\\ud800\"",
+        "\"\\U00110000\"",
+        "'a\n--- b'",
+        "\"a\r\n...\r\n\"",
+        "\"a\\\n--- b\"",
     ];
     for text in refused {
-        assert!(rt; matches!(split_quoted(text), Err(FaultKind::BadScalar)), "at {text:?}");
+        assert!(rt;
+            matches!(split_quoted(text), Err(FaultKind::BadScalar)),
+            "at {text:?}"
+        );
     }
 }
 
@@ -46,8 +65,14 @@ fn quoted_contents(rt: HostRuntime) -> Result<(), Fail> {
             "\"folded \nto a space,\t\n \nto a line feed, or \t\\\n \\ \tnon-content\"",
             "folded to a space,\nto a line feed, or \t \tnon-content",
         ),
-        ("\" 1st non-empty\n\n 2nd non-empty \n\t3rd non-empty \"", " 1st non-empty\n2nd non-empty 3rd non-empty "),
-        ("' 1st non-empty\n\n 2nd non-empty \n\t3rd non-empty '", " 1st non-empty\n2nd non-empty 3rd non-empty "),
+        (
+            "\" 1st non-empty\n\n 2nd non-empty \n\t3rd non-empty \"",
+            " 1st non-empty\n2nd non-empty 3rd non-empty ",
+        ),
+        (
+            "' 1st non-empty\n\n 2nd non-empty \n\t3rd non-empty '",
+            " 1st non-empty\n2nd non-empty 3rd non-empty ",
+        ),
         ("\"a\r\n\r\nb\"", "a\nb"),
         ("\"a \\\r\n  b\"", "a b"),
         ("\"a\\\n\n  b\"", "a\nb"),
@@ -72,7 +97,10 @@ fn plain_contents(rt: HostRuntime) -> Result<(), Fail> {
         ("", ""),
         ("a  b", "a  b"),
         ("it''s \\n \"\"", "it''s \\n \"\""),
-        ("1st non-empty\n\n 2nd non-empty \n\t3rd non-empty", "1st non-empty\n2nd non-empty 3rd non-empty"),
+        (
+            "1st non-empty\n\n 2nd non-empty \n\t3rd non-empty",
+            "1st non-empty\n2nd non-empty 3rd non-empty",
+        ),
         ("a \r\n  b", "a b"),
         ("a\n\n\nb\\\nc", "a\n\nb\\ c"),
     ];

@@ -1,4 +1,4 @@
-use Rattle.std.proofs.Common.{◌∙◌, sym, List, ℕ}
+use Rattle.std.proofs.Common.{◌∙◌, sym}
 use Rattle.yq_scalar.proofs.ItemLaws.{all_folded}
 use Rattle.yq_scalar.proofs.content.fold.Goals as goal
 

@@ -1,4 +1,4 @@
-use Rattle.std.proofs.Common.{◌≡◌, ◌++◌, ◌≤◌, drop, length, true, false, [], Some, None, sym, ap, ◌∙◌, append_assoc, subst, List, ℕ}
+use Rattle.std.proofs.Common.{◌≡◌, ◌++◌, drop, true, false, [], Some, None, sym, ap, ◌∙◌, append_assoc, subst, List, ℕ}
 use Rattle.std.proofs.lemmas.Str.{IsUtf8-drop}
 use Rattle.std.proofs.Math.Utf8.{encode}
 use Rattle.std.specs.Str.{IsUtf8, IsCharBoundary}
@@ -64,6 +64,6 @@ returns-in_ok-push-in-Some-clause-value c =
     let rest : c.split_at-in-Some.result.1.now ≡ drop c.in-Some.length (drop 1 t) = c.split_at-in-Some.ensures.back ∙ ap (drop c.in-Some.length) back in
     let tail : List ℕ = content_on 34 0 within [] (drop c.in-Some.length (drop 1 t)) in
     ap (λ l. string_bytes c.push.new.self ++ content_on 34 0 within [] l) rest
-      ∙ (ap (λ l. l ++ tail) c.in_ok-push-in-Some.ensures.bytes
-      ∙ (append_assoc (string_bytes c.args.out.now) (encode c.in-Some.c) tail
-      ∙ ap (λ l. string_bytes c.args.out.now ++ l) (sym (escape_some t c.in-Some.c c.in-Some.length c.requires here f))))
+    ∙ (ap (λ l. l ++ tail) c.in_ok-push-in-Some.ensures.bytes
+    ∙ (append_assoc (string_bytes c.args.out.now) (encode c.in-Some.c) tail
+    ∙ ap (λ l. string_bytes c.args.out.now ++ l) (sym (escape_some t c.in-Some.c c.in-Some.length c.requires here f))))

@@ -3,7 +3,7 @@ use Rattle.std.proofs.lemmas.Result.{IfOk-weaker}
 use Rattle.std.specs.String.{string_bytes}
 use Rattle.yq_scalar.specs.Text.{upto}
 use Rattle.yq_scalar.specs.ContentReading.{content_on, within}
-use Rattle.yq_scalar.specs.ContentReading.{no_gap, space_text, before_of}
+use Rattle.yq_scalar.specs.ContentReading.{no_gap, space_text}
 use Rattle.yq_scalar.proofs.FoldLaws.{content_gap, space_ends}
 use Rattle.yq_scalar.proofs.ItemLaws.{cut_within, both_if_ok, shorter_still}
 use Rattle.yq_scalar.specs.Text.{is_space}
@@ -19,11 +19,11 @@ returns-clause-value c =
     let tail : List ℕ = content_on q 0 within [] c.split_space.result.1.now in
     let gap : List ℕ = space_text c.args.joined c.split_space.result.0.now in
     IfOk-weaker c.push_item.result _ _ (λ x e. e
-      ∙ (ap (λ l. l ++ tail) c.in_ok-push_gap.ensures
-      ∙ (append_assoc out gap tail
-      ∙ ap (λ l. out ++ l) (ap (λ s. space_text c.args.joined s ++ tail) space
-        ∙ (ap (λ l. space_text c.args.joined (take (upto no_gap t) t) ++ content_on q 0 within [] l) next ∙ sym (content_gap q c.args.joined t))))))
-      c.push_item.ensures.value
+    ∙ (ap (λ l. l ++ tail) c.in_ok-push_gap.ensures
+    ∙ (append_assoc out gap tail
+    ∙ ap (λ l. out ++ l) (ap (λ s. space_text c.args.joined s ++ tail) space
+    ∙ (ap (λ l. space_text c.args.joined (take (upto no_gap t) t) ++ content_on q 0 within [] l) next ∙ sym (content_gap q c.args.joined t))))))
+    c.push_item.ensures.value
 
 pub push_item-requires : goal.push_item-requires
 push_item-requires c =

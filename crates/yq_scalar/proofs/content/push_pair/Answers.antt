@@ -1,4 +1,4 @@
-use Rattle.std.proofs.Common.{◌≡◌, ◌++◌, [], ◌∷◌, drop, sym, ap, ◌∙◌, append_assoc, List, ℕ}
+use Rattle.std.proofs.Common.{◌++◌, [], ◌∷◌, drop, sym, ap, ◌∙◌, append_assoc, List, ℕ}
 use Rattle.std.proofs.Math.Utf8.{encode}
 use Rattle.std.specs.String.{string_bytes}
 use Rattle.yq_scalar.specs.ContentReading.{content_on, within}
@@ -16,5 +16,5 @@ returns-clause-value c =
     let out : List ℕ = string_bytes c.args.out.now in
     let tail : List ℕ = content_on q 0 within [] (drop 2 t) in
     ap (λ l. string_bytes c.push.new.self ++ content_on q 0 within [] l) c.split_at.ensures.back
-      ∙ (ap (λ l. l ++ tail) c.in_ok-push.ensures.bytes
-      ∙ (append_assoc out (39 ∷ []) tail ∙ ap (λ l. out ++ l) (sym (content_pair q t c.requires))))
+    ∙ (ap (λ l. l ++ tail) c.in_ok-push.ensures.bytes
+    ∙ (append_assoc out (39 ∷ []) tail ∙ ap (λ l. out ++ l) (sym (content_pair q t c.requires))))

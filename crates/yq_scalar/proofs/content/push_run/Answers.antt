@@ -14,8 +14,8 @@ returns-clause-value c =
     let rest : c.split_run.result.1.now ≡ drop (upto (ends_run q) t) t = ap (λ (y : List ℕ × List ℕ). y.1) c.split_run.ensures in
     let tail : List ℕ = content_on q 0 within [] c.split_run.result.1.now in
     ap (λ l. l ++ tail) c.in_ok-push_str.ensures.bytes
-      ∙ (append_assoc (string_bytes c.args.out.now) c.split_run.result.0.now tail
-      ∙ ap (λ l. string_bytes c.args.out.now ++ l) (ap (λ l. l ++ tail) run ∙ (ap (λ l. take (upto (ends_run q) t) t ++ content_on q 0 within [] l) rest ∙ sym (content_run q t))))
+    ∙ (append_assoc (string_bytes c.args.out.now) c.split_run.result.0.now tail
+    ∙ ap (λ l. string_bytes c.args.out.now ++ l) (ap (λ l. l ++ tail) run ∙ (ap (λ l. take (upto (ends_run q) t) t ++ content_on q 0 within [] l) rest ∙ sym (content_run q t))))
 
 pub returns-clause-within : goal.returns-clause-within
 returns-clause-within c =
