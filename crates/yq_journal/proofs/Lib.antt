@@ -2,7 +2,10 @@ pub mod GapLaws
 pub mod GoodLaws
 pub mod HistoryLaws
 pub mod JoinLaws
+pub mod JsonLaws
+pub mod LineFeed
 pub mod MoveLaws
 pub mod RecordLaws
 pub mod RunLaws
 pub mod SquashLaws
+pub mod WriteLaws

@@ -215,10 +215,14 @@ abbrev pub pending_data : Option Pending → Data
 pending_data None = null
 pending_data (Some p) = object (member (codes "from") (bytes_data p.from) (member (codes "kind") (string (kind_text p.step)) (member (codes "record") (move_data p.step) no_members)))
 
+-- the object of a journal in version 2 (own)
+abbrev pub journal_object : ℕ → Data → Items → Data
+journal_object at open_value record_values = object (member (codes "at") (number (unsigned at)) (member (codes "pending") open_value
+    (member (codes "records") (array record_values) (member (codes "version") (number (unsigned 2)) no_members))))
+
 -- a journal as a value, in version 2 (own)
 abbrev pub journal_data : State → Data
-journal_data s = object (member (codes "at") (number (unsigned s.at)) (member (codes "pending") (pending_data s.pending)
-    (member (codes "records") (array (list_data record_data s.records)) (member (codes "version") (number (unsigned 2)) no_members))))
+journal_data s = journal_object s.at (pending_data s.pending) (list_data record_data s.records)
 
 -- the text of a journal: compact JSON and a line feed (own)
 abbrev pub journal_text : State → List ℕ

@@ -2,7 +2,7 @@
 use Rattle.std.specs.Prelude.{◌≡◌, ◌≢◌, ◌==◌, ℕ, ◌≤◌, ◌&&◌, List, length, nat_le, if◌then◌else◌, Option, Some, None, is_some}
 use Rattle.std.specs.Option.{ForSome}
 use Rattle.yq_journal.specs.declared.fault.JournalFault.{JournalFault}
-use Rattle.yq_journal.specs.declared.fault.JournalFault.TheVariants.{NothingToUndo, NothingToRedo, DoesNotStand, Unsettled, JournalFull, BadCount}
+use Rattle.yq_journal.specs.declared.fault.JournalFault.TheVariants.{NothingToUndo, NothingToRedo, DoesNotStand, BadJournal, Unsettled, JournalFull, BadCount}
 use Rattle.yq_journal.specs.declared.fault.JournalError.{JournalError}
 use Rattle.yq_journal.specs.declared.fault.JournalError.TheVariants as error
 use Rattle.yq_journal.specs.declared.moves.Move.{Move}
@@ -29,6 +29,11 @@ no_way records at Redo = if nat_le (length records) at then Some NothingToRedo e
 abbrev pub if_moves : Option (List ℕ) → Option JournalFault
 if_moves None = Some DoesNotStand
 if_moves (Some t) = None
+
+-- the fault of bytes that are no journal (own)
+abbrev pub if_journal : Option State → Option JournalFault
+if_journal None = Some BadJournal
+if_journal (Some s) = None
 
 -- the first of two faults (own)
 abbrev pub or_else : Option JournalFault → Option JournalFault → Option JournalFault

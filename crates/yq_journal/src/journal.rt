@@ -12,9 +12,9 @@ use std::marker::Model;
 
 /// A move that is open, and the whole text from which it starts.
 #[derive(Drop)]
-struct Open {
-    step: Move,
-    from: Vec<u8>,
+pub(crate) struct Open {
+    pub(crate) step: Move,
+    pub(crate) from: Vec<u8>,
 }
 
 impl Model for Open {
@@ -28,10 +28,10 @@ impl Model for Open {
 /// Records of edits, oldest first, a cursor, and perhaps an open move.
 #[derive(Drop)]
 pub struct Journal {
-    records: Vec<Record>,
-    at: usize,
-    open: Option<Open>,
-    alloc: Global,
+    pub(crate) records: Vec<Record>,
+    pub(crate) at: usize,
+    pub(crate) open: Option<Open>,
+    pub(crate) alloc: Global,
 }
 
 impl Model for Journal {

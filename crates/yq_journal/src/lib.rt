@@ -6,8 +6,10 @@ mod gap;
 mod journal;
 mod laws;
 mod moves;
+mod read;
 mod record;
 mod squash;
+mod write;
 
 pub use fault::{JournalError, JournalFault};
 pub use journal::Journal;
@@ -15,4 +17,6 @@ pub use laws::{
     faults_are_of_history, moves_go_on, open_moves_describe, settling_rests, squashes_go_on,
 };
 pub use moves::Move;
+pub use read::from_json;
 pub use record::{Record, record_inverts, redo_record, undo_record};
+pub use write::to_json;

@@ -1,0 +1,152 @@
+-- Members that are counted, lists that are read item by item, and tests that are facts.
+use Rattle.std.proofs.Common.{◌≡◌, ◌==◌, ℕ, suc, List, [], ◌∷◌, ◌++◌, length, String, Option, Some, None, Bool, true, false, refl, sym, ap, ◌∙◌, append_assoc, if◌then◌else◌, ◌+◌, ◌<◌, take, map, ap₂, get_or, eq-eqb}
+use Rattle.std.specs.Cmp.Derive.{both_true}
+use Rattle.std.proofs.lemmas.List.{take_more, map-append}
+use Rattle.std.specs.Prelude.{◌≢◌, ◌&&◌, not, is_some, option_map, option_and_then, nat_le}
+use Rattle.std.specs.Option.{ForSome}
+use Rattle.std.specs.declared.alloc.Global.{Global}
+use Rattle.std.specs.Str.{IsUtf8, bytes_eq, is_utf8}
+use Rattle.std.proofs.lemmas.Bool.{le-leb, leb-true}
+use Rattle.std.proofs.lemmas.Slice.Eq.{bytes_eq-Decides}
+use Rattle.std.proofs.lemmas.Str.{is_utf8-from_IsUtf8, IsUtf8-from_is_utf8}
+use Rattle.serde_json.specs.Data.{Data, Items, item, Members}
+use Rattle.serde_json.specs.Read.{read}
+use Rattle.serde_json.specs.View.{items_of, members_view}
+use Rattle.serde_json.specs.declared.value.Value.{Value}
+use Rattle.yq_journal.specs.Json.{count_members, counts, and_more, all_of, is_length, is_record, can_move, is_sound, record_of, pending_of, state_from, state_of, journal_of, journal_object}
+use Rattle.yq_journal.specs.Record.{Patch, IsRecord}
+use Rattle.yq_journal.specs.Refusals.{most_records, CanMove, IsSound, way_fault}
+use Rattle.yq_journal.specs.State.{Pending, State, moved_text, is_text}
+
+count_members-members_view : (es : List (String Global × Value)) → count_members (members_view es) ≡ length es
+count_members-members_view [] = refl
+count_members-members_view (e ∷ es) = ap suc (count_members-members_view es)
+
+-- an object's entries are its members
+pub counted : (n : ℕ) (es : List (String Global × Value)) (o : Option Members) → Some (members_view es) ≡ o → (length es == n) ≡ counts n o
+counted n es o e = ap (λ m. m == n) (sym (count_members-members_view es)) ∙ ap (counts n) e
+
+-- the next of a list that is being read
+pub all_of_next : {A : Type 0} (f : Data → Option A) (d : Data) (ds : Items) (xs : List A) → option_map (λ ys. xs ++ ys) (all_of f (item d ds)) ≡ option_and_then (λ x. option_map (λ ys. (xs ++ x ∷ []) ++ ys) (all_of f ds)) (f d)
+all_of_next f d ds xs =
+    elim (f d) as (λ o. option_map (λ ys. xs ++ ys) (and_more o (all_of f ds)) ≡ option_and_then (λ x. option_map (λ ys. (xs ++ x ∷ []) ++ ys) (all_of f ds)) o) [
+      | None ↦ refl
+      | Some x ↦ elim (all_of f ds) as (λ o. option_map (λ ys. xs ++ ys) (and_more (Some x) o) ≡ option_map (λ ys. (xs ++ x ∷ []) ++ ys) o) [
+        | None ↦ refl
+        | Some ys ↦ ap Some (sym (append_assoc xs (x ∷ []) ys))
+      ]
+    ]
+
+-- bytes that are a text and what is read of them
+pub utf8_read : (bs : List ℕ) (d : Data) → IsUtf8 bs → read bs ≡ Some d → Some d ≡ (if is_utf8 bs then read bs else None)
+utf8_read bs d u r = sym (ap (λ b. if b then read bs else None) (is_utf8-from_IsUtf8 bs u) ∙ r)
+
+pub not_read : (bs : List ℕ) → (IsUtf8 bs → read bs ≡ None) → None ≡ (if is_utf8 bs then read bs else None)
+not_read bs n = elim (is_utf8 bs) as (λ b. is_utf8 bs ≡ b → None ≡ (if b then read bs else None)) [
+  | true ↦ λ e. sym (n (IsUtf8-from_is_utf8 bs e))
+  | false ↦ λ e. refl
+] refl
+
+and_left : (a b : Bool) → (a && b) ≡ true → a ≡ true
+and_left true b h = refl
+and_left false b h = h
+
+and_right : (a b : Bool) → (a && b) ≡ true → b ≡ true
+and_right true b h = h
+and_right false b h = cc
+
+none_of : {A : Type 0} (o : Option A) → not (is_some o) ≡ true → o ≡ None
+none_of None h = refl
+none_of (Some x) h = cc
+
+not_reached : (o : Option (List ℕ)) (t : List ℕ) → not (is_text o t) ≡ true → o ≢ Some t
+not_reached None t h e = cc
+not_reached (Some u) t h e =
+    let same : u ≡ t = cc in
+    let yes : bytes_eq u t ≡ true = (bytes_eq-Decides u t).1 same in
+    let no : not true ≡ true = ap not (sym yes) ∙ h in
+    cc
+
+can_move-move : (rs : List Patch) (at : ℕ) (p : Pending) → can_move rs at (Some p) ≡ true → CanMove rs at p.step p.from
+can_move-move rs at p h = record {
+  stands = none_of (way_fault rs at p.step p.from) (and_left _ _ h);
+  changes = not_reached (moved_text rs at p.step p.from) p.from (and_right (not (is_some (way_fault rs at p.step p.from))) _ h);
+}
+
+-- a journal that passes the test is sound
+pub IsSound-from_is_sound : (s : State) → is_sound s ≡ true → IsSound s
+unfolding is_sound
+IsSound-from_is_sound s h =
+    let front = and_left (nat_le (length s.records) most_records && nat_le s.at (length s.records)) (can_move s.records s.at s.pending) h in
+    let open_ok : can_move s.records s.at s.pending ≡ true = and_right (nat_le (length s.records) most_records && nat_le s.at (length s.records)) (can_move s.records s.at s.pending) h in
+    record {
+      within = leb-true s.at (length s.records) (and_right (nat_le (length s.records) most_records) _ front);
+      limit = leb-true (length s.records) most_records (and_left (nat_le (length s.records) most_records) _ front);
+      open_move = λ p is. can_move-move s.records s.at p (ap (can_move s.records s.at) (sym is) ∙ open_ok);
+    }
+
+pub not_both : (b : Bool) → b ≡ false → b ≡ true → ⊥
+not_both true f t = cc
+not_both false f t = cc
+
+-- one more of a list that is read
+pub all_of_push : {A : Type 0} (f : Data → Option A) (vs : List Data) (d : Data) (xs : List A) (x : A) → all_of f (items_of vs) ≡ Some xs → f d ≡ Some x → all_of f (items_of (vs ++ d ∷ [])) ≡ Some (xs ++ x ∷ [])
+all_of_push f [] d xs x e is = ap (λ o. and_more o (Some [])) is ∙ let same : [] ≡ xs = cc in ap (λ l. Some (l ++ x ∷ [])) same
+all_of_push f (v ∷ vs) d xs x e is =
+    elim (f v) as (λ o. and_more o (all_of f (items_of vs)) ≡ Some xs → and_more o (all_of f (items_of (vs ++ d ∷ []))) ≡ Some (xs ++ x ∷ [])) [
+      | None ↦ λ n. cc
+      | Some y ↦ λ n. elim (all_of f (items_of vs)) as (λ o. all_of f (items_of vs) ≡ o → and_more (Some y) o ≡ Some xs → and_more (Some y) (all_of f (items_of (vs ++ d ∷ []))) ≡ Some (xs ++ x ∷ [])) [
+        | None ↦ λ q m. cc
+        | Some ys ↦ λ q m. ap (and_more (Some y)) (all_of_push f vs d ys x q is) ∙ let same : y ∷ ys ≡ xs = cc in ap (λ l. Some (l ++ x ∷ [])) same
+      ] refl n
+    ] e
+
+-- one more value of a list that is written
+pub record Pushed {A B : Type 0} (seen : A → Data) (data_of : B → Data) (f : Data → Option B) (vs ws : List A) (xs : List B) (i : ℕ) : Type 0 where
+  pub written : map seen ws ≡ map data_of (take (i + 1) xs)
+  pub reads_back : all_of f (items_of (map seen ws)) ≡ Some (take (i + 1) xs)
+
+pub pushed : {A B : Type 0} (seen : A → Data) (data_of : B → Data) (f : Data → Option B) (vs ws : List A) (v : A) (xs : List B) (i : ℕ) (x : B)
+    → i < length xs → x ≡ get_or xs i x → ws ≡ vs ++ v ∷ [] → seen v ≡ data_of x → f (seen v) ≡ Some x
+    → map seen vs ≡ map data_of (take i xs) → all_of f (items_of (map seen vs)) ≡ Some (take i xs) → Pushed seen data_of f vs ws xs i
+pushed seen data_of f vs ws v xs i x within is more datum reads written reads_back =
+    let one : take (i + 1) xs ≡ take i xs ++ x ∷ [] = take_more xs i x within ∙ ap (λ y. take i xs ++ y ∷ []) (sym is) in
+    let seen_more : map seen ws ≡ map seen vs ++ seen v ∷ [] = ap (map seen) more ∙ map-append seen vs (v ∷ []) in
+    record {
+      written = seen_more ∙ ap₂ (λ l y. l ++ y ∷ []) written datum ∙ sym (ap (map data_of) one ∙ map-append data_of (take i xs) (x ∷ []));
+      reads_back = ap (λ l. all_of f (items_of l)) seen_more ∙ all_of_push f (map seen vs) (seen v) (take i xs) x reads_back reads ∙ ap Some (sym one);
+    }
+
+-- and what is sound passes the test
+pub is_record-from_IsRecord : (r : Patch) → IsRecord r → is_record r ≡ true
+is_record-from_IsRecord r h = both_true (le-leb 1 r.count h.counted) (ap (λ o. is_length o r.after_len) h.lengths ∙ eq-eqb r.after_len r.after_len refl)
+
+is_some-none : {A : Type 0} (o : Option A) → o ≡ None → not (is_some o) ≡ true
+is_some-none o e = ap (λ p. not (is_some p)) e
+
+reached_other : (o : Option (List ℕ)) (t : List ℕ) → o ≢ Some t → not (is_text o t) ≡ true
+reached_other None t d = refl
+reached_other (Some u) t d = elim (bytes_eq u t) as (λ b. bytes_eq u t ≡ b → not b ≡ true) [
+  | true ↦ λ e. absurd (d (ap Some ((bytes_eq-Decides u t).0 e)))
+  | false ↦ λ e. refl
+] refl
+
+move-can_move : (rs : List Patch) (at : ℕ) (o : Option Pending) → ForSome o (λ p. CanMove rs at p.step p.from) → can_move rs at o ≡ true
+move-can_move rs at None h = refl
+move-can_move rs at (Some p) h =
+    both_true (is_some-none (way_fault rs at p.step p.from) (h p refl).stands) (reached_other (moved_text rs at p.step p.from) p.from (h p refl).changes)
+
+-- a sound journal passes the test
+pub is_sound-from_IsSound : (s : State) → IsSound s → is_sound s ≡ true
+unfolding is_sound
+is_sound-from_IsSound s h =
+    both_true (both_true (le-leb (length s.records) most_records h.limit) (le-leb s.at (length s.records) h.within)) (move-can_move s.records s.at s.pending h.open_move)
+
+-- the value of a journal is read
+pub journal_reads : (s : State) (open_value : Data) (record_values : Items) → pending_of true open_value ≡ Some s.pending → all_of (record_of true) record_values ≡ Some s.records → IsSound s
+    → journal_of (journal_object s.at open_value record_values) ≡ Some s
+unfolding journal_of state_of
+journal_reads s p rs pending records sound =
+    ap (λ o. state_from (Some s.at) o (all_of (record_of true) rs)) pending
+    ∙ ap (state_from (Some s.at) (Some s.pending)) records
+    ∙ ap (λ b. if b then Some s else None) (is_sound-from_IsSound s sound)

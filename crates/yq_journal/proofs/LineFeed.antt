@@ -1,0 +1,102 @@
+-- A line feed behind a printed JSON text changes nothing of what is read.
+use Rattle.std.proofs.Common.{◌≡◌, ℕ, Bool, true, false, cond, ◌&&◌, List, [], ◌∷◌, ◌++◌, refl, sym, ap, ap₂, ◌∙◌, subst, append_assoc, append-nil, arith}
+use Rattle.json.specs.Token.{Token, begin_object, end_object, begin_array, end_array, key, string, number, boolean, null, bad}
+use Rattle.json.specs.Word.{ends_word, word}
+use Rattle.json.specs.Lex.{Lexeme, token, comma, colon, string_token, lex, between, fresh, punctuate, tokens}
+use Rattle.json.specs.Print.{escape, quoted, token_text, begins, ends, print_from, print, IsPrintable, ArePrintable, ArePrintableOrBad}
+use Rattle.json.specs.Tree.{json_tokens, depth}
+use Rattle.json.proofs.Numbered.{ArePrintableOrBad-tokens, value-HasNumbers}
+use Rattle.json.proofs.Printed.Numbers.{lex-number, in_word-ended}
+use Rattle.json.proofs.Printed.Strings.{content-escape, lex-escape}
+use Rattle.json.proofs.Printed.Trees.{value-json_tokens, ArePrintable-json_tokens}
+use Rattle.serde_json.specs.Data.{Data}
+use Rattle.serde_json.specs.Written.{IsInOrder}
+
+-- what the lexer gives of a token
+abbrev token_lexemes : Token → List Lexeme
+token_lexemes begin_object = token begin_object ∷ []
+token_lexemes end_object = token end_object ∷ []
+token_lexemes begin_array = token begin_array ∷ []
+token_lexemes end_array = token end_array ∷ []
+token_lexemes (key s) = token (string s) ∷ colon ∷ []
+token_lexemes (string s) = token (string s) ∷ []
+token_lexemes (number s) = token (number s) ∷ []
+token_lexemes (boolean b) = token (boolean b) ∷ []
+token_lexemes null = token null ∷ []
+token_lexemes bad = []
+
+abbrev lexemes : Bool → List Token → List Lexeme
+lexemes c [] = []
+lexemes c (t ∷ ts) = cond (c && begins t) (comma ∷ []) [] ++ (token_lexemes t ++ lexemes (ends t) ts)
+
+-- after a value stands a comma, a closing bracket, or what follows the text
+ends_with : (ts : List Token) (r : List ℕ) → ends_word r ≡ true → ends_word (print_from true ts ++ r) ≡ true
+unfolding print_from
+ends_with [] r h = h
+ends_with (begin_object ∷ ts) r h = refl
+ends_with (end_object ∷ ts) r h = refl
+ends_with (begin_array ∷ ts) r h = refl
+ends_with (end_array ∷ ts) r h = refl
+ends_with (key s ∷ ts) r h = refl
+ends_with (string s ∷ ts) r h = refl
+ends_with (number s ∷ ts) r h = refl
+ends_with (boolean b ∷ ts) r h = refl
+ends_with (null ∷ ts) r h = refl
+ends_with (bad ∷ ts) r h = refl
+
+lex-quoted : (s r : List ℕ) → lex between (quoted s ++ r) ≡ token (string s) ∷ lex between r
+unfolding lex
+lex-quoted s r =
+    let e = append_assoc (escape s) (34 ∷ []) r in
+    ap (λ l. lex between (34 ∷ l)) e ∙ ap₂ (λ o l. token (string_token o) ∷ l) (content-escape s r) (lex-escape s r)
+
+lex-token_text : (t : Token) (r : List ℕ) → IsPrintable t → (ends t ≡ true → ends_word r ≡ true) → lex between (token_text t ++ r) ≡ token_lexemes t ++ lex between r
+unfolding lex word
+lex-token_text begin_object r h ended = refl
+lex-token_text end_object r h ended = refl
+lex-token_text begin_array r h ended = refl
+lex-token_text end_array r h ended = refl
+lex-token_text (key s) r h ended = ap (lex between) (append_assoc (quoted s) (58 ∷ []) r) ∙ lex-quoted s (58 ∷ r)
+lex-token_text (string s) r h ended = lex-quoted s r
+lex-token_text (number s) r h ended = lex-number s r h (ended refl)
+lex-token_text (boolean true) r h ended = ap₂ (λ b l. token (cond b (boolean true) bad) ∷ l) (ended refl) (in_word-ended r (ended refl))
+lex-token_text (boolean false) r h ended = ap₂ (λ b l. token (cond b (boolean false) bad) ∷ l) (ended refl) (in_word-ended r (ended refl))
+lex-token_text null r h ended = ap₂ (λ b l. token (cond b null bad) ∷ l) (ended refl) (in_word-ended r (ended refl))
+lex-token_text bad r h ended = absurd h
+
+lex-separator : (b : Bool) (r : List ℕ) → lex between (cond b (44 ∷ []) [] ++ r) ≡ cond b (comma ∷ []) [] ++ lex between r
+unfolding lex
+lex-separator true r = refl
+lex-separator false r = refl
+
+lex-print_from : (c : Bool) (ts : List Token) (r : List ℕ) → ArePrintable ts → ends_word r ≡ true → lex between r ≡ [] → lex between (print_from c ts ++ r) ≡ lexemes c ts
+unfolding print_from ArePrintable
+lex-print_from c [] r h ended none = none
+lex-print_from c (t ∷ ts) r h ended none =
+    ap (lex between) (append_assoc (cond (c && begins t) (44 ∷ []) []) (token_text t ++ print_from (ends t) ts) r ∙ ap (λ l. cond (c && begins t) (44 ∷ []) [] ++ l) (append_assoc (token_text t) (print_from (ends t) ts) r))
+    ∙ lex-separator (c && begins t) (token_text t ++ (print_from (ends t) ts ++ r))
+    ∙ ap (λ l. cond (c && begins t) (comma ∷ []) [] ++ l)
+    (lex-token_text t (print_from (ends t) ts ++ r) h.0 (λ e. ap (λ b. ends_word (print_from b ts ++ r)) e ∙ ends_with ts r ended)
+    ∙ ap (λ l. token_lexemes t ++ l) (lex-print_from (ends t) ts r h.1 ended none))
+
+line_feed_lexes : lex between (10 ∷ []) ≡ []
+unfolding lex
+line_feed_lexes = refl
+
+nothing_lexes : lex between [] ≡ []
+unfolding lex
+nothing_lexes = refl
+
+tokens-line_feed : (ts : List Token) → ArePrintable ts → tokens (print ts ++ 10 ∷ []) ≡ tokens (print ts)
+tokens-line_feed ts h =
+    ap (punctuate fresh) (lex-print_from false ts (10 ∷ []) h refl line_feed_lexes ∙ sym (lex-print_from false ts [] h refl nothing_lexes) ∙ ap (lex between) (append-nil (print ts)))
+
+printable : (text : List ℕ) (d : Data) → IsInOrder text d → ArePrintable (tokens text)
+printable text d w =
+    let whole = value-json_tokens w.0 (depth w.0) [] (omega arith) in
+    subst ArePrintable (sym w.1) (ArePrintable-json_tokens w.0 (value-HasNumbers (depth w.0) (json_tokens w.0 ++ []) [] w.0 (subst ArePrintableOrBad (w.1 ∙ sym (append-nil (json_tokens w.0))) (ArePrintableOrBad-tokens text)) whole))
+
+-- the tokens of a printed text with a line feed behind it are those of the text
+pub tokens_of_line : (text : List ℕ) (d : Data) → IsInOrder text d → text ≡ print (tokens text) → tokens (text ++ 10 ∷ []) ≡ tokens text
+tokens_of_line text d w same =
+    ap (λ t. tokens (t ++ 10 ∷ [])) same ∙ tokens-line_feed (tokens text) (printable text d w) ∙ ap tokens (sym same)

@@ -1,0 +1,13 @@
+use Rattle.std.proofs.Common.{Some, ap, ◌∙◌}
+use Rattle.serde_json.specs.View.{view, items_view}
+use Rattle.yq_journal.specs.Json.{journal_of}
+use Rattle.yq_journal.specs.State.{state}
+use Rattle.yq_journal.proofs.JsonLaws.{journal_reads}
+use Rattle.yq_journal.proofs.write.journal_value.Goals as goal
+
+pub returns-clause-reads_back : goal.returns-clause-reads_back
+returns-clause-reads_back c =
+    ap journal_of c.in_ok-value.ensures
+    ∙ journal_reads (state c.journal.inside.records.items c.journal.inside.at c.journal.inside.open) (view c.in_ok-pending.pending) (items_view c.in_ok-records.records.items)
+    c.in_ok-pending.ensures.reads_back (c.in_ok-records.ensures.reads_back ∙ ap Some c.deref.ensures.value) c.journal.invariant
+    ∙ ap Some c.journal.view_is

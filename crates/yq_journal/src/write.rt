@@ -1,0 +1,145 @@
+//! The text of a journal.
+ghost use Rattle.std.specs.Prelude.{◌≡◌, Some, IfOk, true};
+ghost use Rattle.serde_json.specs.View.{view, items_view};
+ghost use Rattle.yq_journal.specs.Json as spec;
+
+use crate::journal::{Journal, Open};
+use crate::moves::Move;
+use crate::record::Record;
+use base64::engine::general_purpose::STANDARD;
+use serde_json::{Value, json};
+use std::alloc::{AllocError, Global};
+use yq_splice::Splice;
+
+#[tactic(auto, unfolding(crate::specs::Json::change_of))]
+fn splice_value(alloc: Global, splice: &Splice) -> Result<Value, AllocError>
+    ensures written { IfOk result (λ v. view v ≡ spec.change_data splice.now) }
+    ensures reads_back { IfOk result (λ v. spec.change_of (view v) ≡ Some splice.now) }
+{
+    let at = splice.at;
+    let old = STANDARD.encode(alloc, &splice.old)?;
+    let new = STANDARD.encode(alloc, &splice.new)?;
+    json!(in alloc; {"at": at, "old": old, "new": new})
+}
+
+fn splice_values(alloc: Global, splices: &[Splice]) -> Result<Vec<Value>, AllocError>
+    ensures written { IfOk result (λ vs. items_view vs.items ≡ spec.list_data spec.change_data splices.now) }
+    ensures reads_back { IfOk result (λ vs. spec.all_of spec.change_of (items_view vs.items) ≡ Some splices.now) }
+{
+    let mut values = Vec::with_capacity(alloc, splices.len())?;
+    'splices: for splice in splices {
+        values.push(splice_value(alloc, splice)?)?;
+    }
+    Ok(values)
+}
+
+#[tactic(auto, unfolding(crate::specs::Json::record_of))]
+fn record_value(alloc: Global, patch: &Record) -> Result<Value, AllocError>
+    ensures written { IfOk result (λ v. view v ≡ spec.record_data patch.now) }
+    ensures reads_back { IfOk result (λ v. spec.record_of true (view v) ≡ Some patch.now) }
+{
+    let splices = Value::Array(splice_values(alloc, &patch.splices)?);
+    let after_len = patch.after_len;
+    let before_len = patch.before_len;
+    let count = patch.count;
+    let expr = patch.expr.as_str();
+    json!(in alloc; {
+        "after_len": after_len,
+        "before_len": before_len,
+        "count": count,
+        "expr": expr,
+        "splices": splices
+    })
+}
+
+fn record_values(alloc: Global, records: &[Record]) -> Result<Vec<Value>, AllocError>
+    ensures written { IfOk result (λ vs. items_view vs.items ≡ spec.list_data spec.record_data records.now) }
+    ensures reads_back { IfOk result (λ vs. spec.all_of (spec.record_of true) (items_view vs.items) ≡ Some records.now) }
+{
+    let mut values = Vec::with_capacity(alloc, records.len())?;
+    'records: for patch in records {
+        values.push(record_value(alloc, patch)?)?;
+    }
+    Ok(values)
+}
+
+/// The kind of a move.
+fn kind(step: &Move) -> &'static str
+    ensures { result.now ≡ spec.kind_text step.now }
+{
+    match step {
+        Move::Edit(_) => "edit",
+        Move::Undo => "undo",
+        Move::Redo => "redo",
+    }
+}
+
+/// The record of a move, null where it has none.
+#[tactic(auto, unfolding(crate::specs::Json::move_of))]
+fn move_value(alloc: Global, step: &Move) -> Result<Value, AllocError>
+    ensures written { IfOk result (λ v. view v ≡ spec.move_data step.now) }
+    ensures reads_back { IfOk result (λ v. spec.move_of true (spec.kind_text step.now) (view v) ≡ Some step.now) }
+{
+    match step {
+        Move::Edit(patch) => record_value(alloc, patch),
+        Move::Undo | Move::Redo => Ok(Value::Null),
+    }
+}
+
+#[tactic(auto, unfolding(crate::specs::Json::open_of))]
+fn open_value(alloc: Global, open: &Open) -> Result<Value, AllocError>
+    ensures written { IfOk result (λ v. view v ≡ spec.pending_data (Some open.now)) }
+    ensures reads_back { IfOk result (λ v. spec.open_of true (view v) ≡ Some open.now) }
+{
+    let from = STANDARD.encode(alloc, &open.from)?;
+    let kind = kind(&open.step);
+    let held = move_value(alloc, &open.step)?;
+    json!(in alloc; {"from": from, "kind": kind, "record": held})
+}
+
+/// An open move as a value, null where there is none.
+fn pending_value(alloc: Global, pending: &Option<Open>) -> Result<Value, AllocError>
+    ensures written { IfOk result (λ v. view v ≡ spec.pending_data pending.now) }
+    ensures reads_back { IfOk result (λ v. spec.pending_of true (view v) ≡ Some pending.now) }
+{
+    match pending {
+        Some(open) => open_value(alloc, open),
+        None => Ok(Value::Null),
+    }
+}
+
+/// The object of a journal in version 2.
+fn journal_object(
+    alloc: Global,
+    at: u64,
+    pending: Value,
+    records: Vec<Value>,
+) -> Result<Value, AllocError>
+    ensures { IfOk result (λ v. view v ≡ spec.journal_object at (view pending) (items_view records.items)) }
+{
+    let records = Value::Array(records);
+    json!(in alloc; {"at": at, "pending": pending, "records": records, "version": 2u64})
+}
+
+/// A journal as a value, in version 2.
+fn journal_value(alloc: Global, journal: &Journal) -> Result<Value, AllocError>
+    ensures written { IfOk result (λ v. view v ≡ spec.journal_data journal.now) }
+    ensures reads_back { IfOk result (λ v. spec.journal_of (view v) ≡ Some journal.now) }
+{
+    let pending = pending_value(alloc, &journal.open)?;
+    let records = record_values(alloc, &journal.records)?;
+    let value = journal_object(alloc, journal.at as u64, pending, records)?;
+    Ok(value)
+}
+
+/// The text of a journal in version 2: compact JSON, keys in byte order, and
+/// a line feed.
+pub fn to_json(alloc: Global, journal: &Journal) -> Result<Vec<u8>, AllocError>
+    ensures text { IfOk result (λ v. v.items ≡ spec.journal_text journal.now) }
+    ensures reads_back { IfOk result (λ v. spec.journal_in v.items ≡ Some journal.now) }
+{
+    let value = journal_value(alloc, journal)?;
+    let mut bytes = value.to_vec(alloc)?;
+    bytes.push(b'\n')?;
+    Ok(bytes)
+}
