@@ -54,7 +54,7 @@ some_head [] tail rest t h = absurd (false≢true (sym (tail_no_plain tail rest 
 some_head (b ∷ head) tail rest t h = refl
 
 -- white space stands before a head
-begins_no_space : (t : List ℕ) → begins_plain false t ≡ true → separates t ≡ false
+pub begins_no_space : (t : List ℕ) → begins_plain false t ≡ true → separates t ≡ false
 begins_no_space [] h = absurd (false≢true h)
 begins_no_space (b ∷ bs) h = not-true (is_space (b ∷ bs)) (and_true (not (is_space (b ∷ bs))) _ h).0
 

@@ -6,3 +6,4 @@ pub mod LineEnds
 pub mod PieceLaws
 pub mod RowLaws
 pub mod RowsLaws
+pub mod BoundaryLaws

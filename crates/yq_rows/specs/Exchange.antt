@@ -1,5 +1,6 @@
 -- A row with another head, and where that head stands in the text.
-use Rattle.std.specs.Prelude.{ℕ, zero, suc, List, [], ◌∷◌, ◌++◌, replicate}
+use Rattle.std.specs.Prelude.{◌≡◌, ℕ, zero, suc, ◌+◌, List, [], ◌∷◌, ◌++◌, length, replicate}
+use Rattle.std.specs.Str.{IsUtf8, IsCharBoundary}
 use Rattle.yq_rows.specs.Rows.{Row, with_head, behind_head, print_row, rows_text, Cut}
 
 -- the rows, of which row i has another head (own)
@@ -27,3 +28,11 @@ abbrev pub behind_head_at : ℕ → List Row → List ℕ → List ℕ
 behind_head_at i [] end = end
 behind_head_at zero (r ∷ rs) end = behind_head r (rows_text rs end)
 behind_head_at (suc i) (r ∷ rs) end = behind_head_at i rs end
+
+-- A text of three pieces, of which the first two are whole characters, and so is what stands behind them (own).
+pub record HasPieces (t before head behind : List ℕ) : Type 0 where
+  pub text : t ≡ before ++ (head ++ behind)
+  pub start : IsCharBoundary t (length before)
+  pub end : IsCharBoundary t (length before + length head)
+  pub before_utf8 : IsUtf8 before
+  pub head_utf8 : IsUtf8 head

@@ -4,7 +4,7 @@ ghost use Rattle.std.specs.Str.{IsUtf8};
 ghost use Rattle.yq_scalar.specs.Characters.{is_text, text_limit};
 ghost use Rattle.yq_scalar.specs.Plain.{IsPlain, ends_plain, holds_break};
 ghost use Rattle.yq_scalar.specs.Text.{is_empty};
-ghost use Rattle.yq_rows.specs.Exchange.{exchange_head, before_head, behind_head_at, with_head_at};
+ghost use Rattle.yq_rows.specs.Exchange.{exchange_head, before_head, behind_head_at, HasPieces, with_head_at};
 ghost use Rattle.yq_rows.specs.Grammar.{IsCut};
 ghost use Rattle.yq_rows.specs.Rows.{Cut, Row, cut_text, parent_indent, rows_text};
 
@@ -39,4 +39,9 @@ pub fn head_exchanged()
 pub fn head_text()
     ensures { (t : List ℕ) (c : Cut) (i : ℕ) (r : Row) (head : List ℕ) → IsCut t c → slice_get c.rows i ≡ Some r → is_empty r.head ≡ false →
         IsUtf8 (before_head i c.rows) → IsUtf8 r.head → IsUtf8 head → is_text head ≡ true → is_text (cut_text (exchange_head i head c)) ≡ true }
+{}
+
+/// A text that is a cut's is cut between characters at both ends of a row's head.
+pub fn head_pieces()
+    ensures { (t : List ℕ) (c : Cut) (i : ℕ) (r : Row) → IsCut t c → IsUtf8 t → slice_get c.rows i ≡ Some r → is_empty r.head ≡ false → HasPieces t (before_head i c.rows) r.head (behind_head_at i c.rows c.end) }
 {}

@@ -10,6 +10,6 @@ mod scanning;
 #[cfg(test)]
 mod tests;
 
-pub use laws::{head_ends, head_exchanged, head_place, head_text, one_cut};
+pub use laws::{head_ends, head_exchanged, head_pieces, head_place, head_text, one_cut};
 pub use row::Row;
 pub use scanning::{Rows, scan};
