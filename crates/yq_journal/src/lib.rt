@@ -17,6 +17,4 @@ pub use laws::{
     faults_are_of_history, moves_go_on, open_moves_describe, settling_rests, squashes_go_on,
 };
 pub use moves::Move;
-pub use read::from_json;
 pub use record::{Record, record_inverts, redo_record, undo_record};
-pub use write::to_json;

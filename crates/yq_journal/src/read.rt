@@ -344,18 +344,20 @@ fn value_of(alloc: Global, bytes: &[u8]) -> Result<Option<Value>, AllocError>
     }
 }
 
-/// The journal that bytes are, in version 1 or 2: refused as `BadJournal`
-/// exactly where they are none.
-pub fn from_json(alloc: Global, bytes: &[u8]) -> Result<Journal, JournalError>
-    ensures ok { IfOk result (λ j. spec.journal_in bytes.now ≡ Some j) }
-    ensures err { IfErr result (λ e. Names e (if_journal (spec.journal_in bytes.now))) }
-{
-    let fault = JournalError::Fault(JournalFault::BadJournal);
-    let Some(value) = value_of(alloc, bytes)? else {
-        return Err(fault);
-    };
-    match journal(alloc, &value)? {
-        Some(journal) => Ok(journal),
-        None => Err(fault),
+impl Journal {
+    /// The journal that bytes are, in version 1 or 2: refused as `BadJournal`
+    /// exactly where they are none.
+    pub fn from_json(alloc: Global, bytes: &[u8]) -> Result<Journal, JournalError>
+        ensures ok { IfOk result (λ j. spec.journal_in bytes.now ≡ Some j) }
+        ensures err { IfErr result (λ e. Names e (if_journal (spec.journal_in bytes.now))) }
+    {
+        let fault = JournalError::Fault(JournalFault::BadJournal);
+        let Some(value) = value_of(alloc, bytes)? else {
+            return Err(fault);
+        };
+        match journal(alloc, &value)? {
+            Some(journal) => Ok(journal),
+            None => Err(fault),
+        }
     }
 }

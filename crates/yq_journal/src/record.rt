@@ -1,5 +1,7 @@
 //! A record of an edit, and what it does to a text.
 ghost use Rattle.std.specs.Prelude.{◌≡◌, ◌↔◌, ℕ, List, Some, IfOk, IfErr};
+ghost use Rattle.std.specs.String.{string_bytes};
+ghost use Rattle.yq_splice.specs.Patch.{lengths_done};
 ghost use Rattle.yq_journal.specs.Record.{Patch, done, undone};
 ghost use Rattle.yq_journal.specs.Refusals.{Names, if_moves};
 
@@ -30,6 +32,23 @@ impl Model for Record {
     ghost view = { λ r. record { expr = string_bytes r.expr; changes = r.splices.items; before_len = r.before_len; after_len = r.after_len; count = r.count } };
 
     ghost invariant = { λ r. IsRecord (record { expr = string_bytes r.expr; changes = r.splices.items; before_len = r.before_len; after_len = r.after_len; count = r.count }) };
+}
+
+impl Record {
+    /// The record of one edit, on condition that each splice lies within the
+    /// length reached so far and the lengths end at `after_len`.
+    pub fn new(expr: String, splices: Vec<Splice>, before_len: u64, after_len: u64) -> Record
+        requires { lengths_done splices.items before_len ≡ Some after_len }
+        ensures { result ≡ record { expr = string_bytes expr; changes = splices.items; before_len = before_len; after_len = after_len; count = 1 } }
+    {
+        Record {
+            expr,
+            splices,
+            before_len,
+            after_len,
+            count: 1,
+        }
+    }
 }
 
 /// The text that an edit leads to from this one: refused as `DoesNotStand`

@@ -132,14 +132,16 @@ fn journal_value(alloc: Global, journal: &Journal) -> Result<Value, AllocError>
     Ok(value)
 }
 
-/// The text of a journal in version 2: compact JSON, keys in byte order, and
-/// a line feed.
-pub fn to_json(alloc: Global, journal: &Journal) -> Result<Vec<u8>, AllocError>
-    ensures text { IfOk result (λ v. v.items ≡ spec.journal_text journal.now) }
-    ensures reads_back { IfOk result (λ v. spec.journal_in v.items ≡ Some journal.now) }
-{
-    let value = journal_value(alloc, journal)?;
-    let mut bytes = value.to_vec(alloc)?;
-    bytes.push(b'\n')?;
-    Ok(bytes)
+impl Journal {
+    /// The journal's text in version 2: compact JSON, keys in byte order, and
+    /// a line feed.
+    pub fn to_json(&self, alloc: Global) -> Result<Vec<u8>, AllocError>
+        ensures text { IfOk result (λ v. v.items ≡ spec.journal_text self.now) }
+        ensures reads_back { IfOk result (λ v. spec.journal_in v.items ≡ Some self.now) }
+    {
+        let value = journal_value(alloc, self)?;
+        let mut bytes = value.to_vec(alloc)?;
+        bytes.push(b'\n')?;
+        Ok(bytes)
+    }
 }
