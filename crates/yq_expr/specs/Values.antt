@@ -1,5 +1,6 @@
 -- Values: nodes without anchors and comments.
-use Rattle.std.specs.Prelude.{ℕ, List, [], ◌∷◌, map, Some, None, string_bytes}
+use Rattle.std.specs.Prelude.{ℕ, List, [], ◌∷◌, map, Some, None, String, string_bytes}
+use Rattle.std.specs.declared.alloc.Global.{Global}
 use Rattle.yq_scalar.specs.Tree.{Label, Node, Children}
 use Rattle.yq_scalar.specs.Tree as tree
 use Rattle.yq_expr.specs.declared.value.Value.{Value, fold-Value}
@@ -32,3 +33,7 @@ value_step (Value-F.Map v) = tree.map None (entries (map (λ e. (string_bytes e.
 -- the node that a value of the code stands for (own)
 abbrev pub node_of : Value → Node
 node_of = fold-Value Node value_step
+
+-- the key and the node that an entry of the code stands for (own)
+abbrev pub field_of : String Global × Value → List ℕ × Node
+field_of e = (string_bytes e.0, node_of e.1)

@@ -1,0 +1,74 @@
+//! Texts are parsed into programs.
+ghost use Rattle.std.specs.Prelude.{◌≡◌, map};
+ghost use Rattle.yq_expr.specs.Given.{Gives};
+ghost use Rattle.yq_expr.specs.Grammar.{literal_depth};
+ghost use Rattle.yq_expr.specs.Lexing.{tokens};
+ghost use Rattle.yq_expr.specs.Outcome.{Answers};
+ghost use Rattle.yq_expr.specs.Parse as spec;
+ghost use Rattle.yq_expr.specs.View.{stage_of, update_of, program_of};
+
+mod literal;
+mod path;
+mod pipe;
+mod update;
+
+use crate::error::ParseError;
+use crate::front::is_end;
+use crate::pattern::has_pattern;
+use crate::program::{Program, Stage, Update};
+use crate::survey::survey;
+use std::alloc::Global;
+
+/// The program that a text says. Refusals come in this order: a token that can't be read, then a
+/// token of other expressions or more than 64 open brackets, then what is no program, then a
+/// pattern.
+#[tactic(auto, unfolding(crate::specs::Parse::outcome))]
+pub fn parse_expr(alloc: Global, text: &str) -> Result<Program, ParseError>
+    ensures exact { Answers program_of result (spec.outcome text.now) }
+{
+    if survey(text)? {
+        return Err(ParseError::NotInProfile);
+    }
+    let program = program(alloc, text)?;
+    if has_pattern(&program) {
+        return Err(ParseError::Pattern);
+    }
+    Ok(program)
+}
+
+/// A pipe, and no more.
+fn read(alloc: Global, text: &str) -> Result<Vec<Stage>, ParseError>
+    ensures { Gives (λ v. map stage_of v.items) result (spec.all_of spec.pipe_at (tokens text.now)) }
+{
+    let (stages, rest) = pipe::pipe(alloc, text)?;
+    if is_end(rest) {
+        Ok(stages)
+    } else {
+        Err(ParseError::Syntax)
+    }
+}
+
+/// Updates, and no more.
+#[tactic(auto, unfolding(crate::specs::Parse::updates_at))]
+fn updates(alloc: Global, text: &str) -> Result<Program, ParseError>
+    ensures { Gives program_of result (spec.updates_at literal_depth (tokens text.now)) }
+{
+    let (updates, rest) = update::updates(alloc, text)?;
+    if is_end(rest) {
+        Ok(Program::Updates(updates))
+    } else {
+        Err(ParseError::Syntax)
+    }
+}
+
+/// A program: a pipe if the text is one, and else updates.
+#[tactic(auto, unfolding(crate::specs::Parse::program_at))]
+fn program(alloc: Global, text: &str) -> Result<Program, ParseError>
+    ensures { Gives program_of result (spec.program_at literal_depth (tokens text.now)) }
+{
+    match read(alloc, text) {
+        Ok(stages) => Ok(Program::Read(stages)),
+        Err(ParseError::Syntax) => updates(alloc, text),
+        Err(e) => Err(e),
+    }
+}
