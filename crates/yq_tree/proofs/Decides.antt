@@ -8,7 +8,7 @@ use Rattle.yq_tree.specs.Group.{is_open, is_whole, level_or, is_even, stand}
 use Rattle.yq_tree.proofs.Unique.{group_even}
 
 -- the lines of an outline's two parts
-flatten-parts : (n : ℕ) (o : Outline) → flatten (deeper n o) ++ flatten (shallow n o) ≡ flatten o
+pub flatten-parts : (n : ℕ) (o : Outline) → flatten (deeper n o) ++ flatten (shallow n o) ≡ flatten o
 flatten-parts n end = refl
 flatten-parts n (row l u a) = go (ltb n (level l)) (flatten-parts n a)
   where

@@ -30,7 +30,7 @@ unfolding level
 above l = omega (arith, rank_small l.mark)
 
 -- all lines are deeper than the lowest floor
-deeper-all : (o : Outline) → deeper 0 o ≡ o
+pub deeper-all : (o : Outline) → deeper 0 o ≡ o
 deeper-all end = refl
 deeper-all (row l u a) = cond-true _ _ _ (lt-ltb 0 (level l) (above l)) ∙ ap (row l u) (deeper-all a)
 

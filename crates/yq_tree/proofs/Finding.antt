@@ -19,7 +19,7 @@ row_whole s (row k v a) = go (is_here s (label k)) (find_row (further s) a) (row
     go false (Some f) h = ap (row k v) h
 
 -- the child where a step leads
-row_child : (s : Step) (o : Outline) → child_at s (children o) ≡ option_map (λ f. content f.line f.under) (find_row s o)
+pub row_child : (s : Step) (o : Outline) → child_at s (children o) ≡ option_map (λ f. content f.line f.under) (find_row s o)
 row_child s end = refl
 row_child s (row k v a) = go (is_here s (label k)) (find_row (further s) a) (row_child (further s) a)
   where

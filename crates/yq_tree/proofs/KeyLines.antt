@@ -33,7 +33,7 @@ scalar_head head = go (is_empty head)
 key_line : (r : Row) → IsKeyLine (line_of r)
 key_line r = ((r.key, refl), refl, scalar_head r.head)
 
-key_deeper : (n : ℕ) (o : Outline) → AreKeyLines o → AreKeyLines (deeper n o) × AreKeyLines (shallow n o)
+pub key_deeper : (n : ℕ) (o : Outline) → AreKeyLines o → AreKeyLines (deeper n o) × AreKeyLines (shallow n o)
 key_deeper n end h = (tt, tt)
 key_deeper n (row l u a) h = go (ltb n (level l)) (key_deeper n a h.2)
   where

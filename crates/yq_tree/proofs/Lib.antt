@@ -17,3 +17,5 @@ pub mod KeyLines
 pub mod RowPathLaws
 pub mod SameLaws
 pub mod ExchangeLaws
+pub mod SpotLaws
+pub mod NodeLaws

@@ -13,3 +13,4 @@ pub mod Documents
 pub mod Reading
 pub mod RowPaths
 pub mod Answers
+pub mod Nodes

@@ -6,6 +6,7 @@ mod ends;
 mod entries;
 mod fault;
 mod laws;
+mod node;
 mod path;
 mod path_laws;
 mod reading;
@@ -14,6 +15,7 @@ mod tests;
 
 pub use document::{DEPTH_LIMIT, Documents};
 pub use laws::{exchanged, one_node, rules};
+pub use node::{Node, NodeKind};
 pub use path::{Part, Path, Span, Step};
 pub use path_laws::{head_exchanged, path_rows};
 pub use reading::{one_reading, read};

@@ -1,12 +1,22 @@
 //! Texts that are read, and texts that are refused.
 
-use crate::read;
+use crate::{Documents, NodeKind, Path, Step, read};
+use std::alloc::{AllocError, Global};
 use std::test::Fail;
-use yq_scalar::{FaultKind, ReadError};
+use yq_scalar::{FaultKind, Kind, ReadError};
 
-/// What reading bytes is refused with, or no kind where it is not refused.
-fn refusal(read: Result<crate::Documents<'_>, ReadError>) -> Option<(FaultKind, u64)> {
-    match read {
+/// A path of keys in a document.
+fn keys(alloc: Global, doc: usize, names: &[&str]) -> Result<Path, AllocError> {
+    let mut steps = Vec::new(alloc);
+    for name in names {
+        steps.push(Step::Key(String::from_str(alloc, name)?))?;
+    }
+    Ok(Path { doc, steps })
+}
+
+/// What a text is refused with, and on which line; none where it is read.
+fn refusal(answer: Result<Documents<'_>, ReadError>) -> Option<(FaultKind, u64)> {
+    match answer {
         Ok(_) => None,
         Err(ReadError::Memory) => None,
         Err(ReadError::Fault(fault)) => Some((fault.kind, fault.line)),
@@ -15,7 +25,7 @@ fn refusal(read: Result<crate::Documents<'_>, ReadError>) -> Option<(FaultKind, 
 
 #[test]
 fn refuses(rt: HostRuntime) {
-    let rows: [(&[u8], FaultKind, u64); 10] = [
+    let rows: [(&[u8], FaultKind, u64); 11] = [
         (b"a: 1\na: 2\n", FaultKind::DuplicateKey, 2),
         (
             b"a: 1\nb: 2\nc:\n  a: 1\nb: 3\n",
@@ -30,8 +40,104 @@ fn refuses(rt: HostRuntime) {
         (b"k: \xc3", FaultKind::NotUtf8, 1),
         (b"a:\n  <<: 1\n", FaultKind::MergeKey, 2),
         (b"# c\r\na: 1\r\na: 2\r\n", FaultKind::DuplicateKey, 3),
+        (b"a: 1\rb: 2\n", FaultKind::CarriageReturn, 1),
     ];
     for (bytes, kind, line) in rows {
         assert_eq!(rt; refusal(read(rt.alloc(), bytes)), Some((kind, line)));
     }
+}
+
+#[test]
+fn reads_nodes(rt: HostRuntime) -> Result<(), Fail> {
+    let alloc = rt.alloc();
+    let documents = read(alloc, b"a:\n  b: 1\n\n  # c\n  d: x y\ne:\r\nf: ~\nb: .5\n")?;
+    assert_eq!(rt; documents.count(), 1);
+    let root = documents.root(0);
+    assert_eq!(rt; root.kind(), NodeKind::Map);
+    assert_eq!(rt; root.key(), None);
+    let rows: [(&[&str], NodeKind, &str); 7] = [
+        (&[], NodeKind::Map, ""),
+        (&["a"], NodeKind::Map, ""),
+        (&["a", "b"], NodeKind::Scalar(Kind::Int), "1"),
+        (&["a", "d"], NodeKind::Scalar(Kind::Text), "x y"),
+        (&["e"], NodeKind::Scalar(Kind::Null), "null"),
+        (&["f"], NodeKind::Scalar(Kind::Null), "null"),
+        (&["b"], NodeKind::Scalar(Kind::Float), ".5"),
+    ];
+    for (names, kind, text) in rows {
+        let path = keys(alloc, 0, names)?;
+        let Some(node) = documents.locate(&path) else {
+            return Err(Fail::new("no node"));
+        };
+        assert_eq!(rt; node.kind(), kind);
+        assert_eq!(rt; node.text(), text);
+        assert_eq!(rt; node.key(), names.last().copied());
+    }
+    let nowhere: [(usize, &[&str]); 5] = [
+        (0, &["c"]),
+        (0, &["a", "e"]),
+        (0, &["a", "b", "b"]),
+        (0, &["e", "a"]),
+        (1, &[]),
+    ];
+    for (doc, names) in nowhere {
+        assert!(rt; documents.locate(&keys(alloc, doc, names)?).is_none());
+    }
+    let mut path = keys(alloc, 0, &["a"])?;
+    path.steps.push(Step::Index(0))?;
+    assert!(rt; documents.locate(&path).is_none());
+    Ok(())
+}
+
+/// Whether a text reads as one document whose root is a null.
+fn is_nothing(alloc: Global, text: &str) -> Result<bool, ReadError> {
+    let documents = read(alloc, text.as_bytes())?;
+    let root = documents.root(0);
+    Ok(
+        documents.count() == 1
+            && root.kind() == NodeKind::Scalar(Kind::Null)
+            && root.text() == "null",
+    )
+}
+
+#[test]
+fn reads_nothing(rt: HostRuntime) -> Result<(), Fail> {
+    for text in ["", "\n", "# c\n\n"] {
+        assert!(rt; is_nothing(rt.alloc(), text)?);
+    }
+    Ok(())
+}
+
+#[test]
+fn reads_an_entry_of_nothing(rt: HostRuntime) -> Result<(), Fail> {
+    let documents = read(rt.alloc(), b"a:\n\n")?;
+    let Some(node) = documents.root(0).entry("a") else {
+        return Err(Fail::new("no node"));
+    };
+    assert_eq!(rt; node.kind(), NodeKind::Scalar(Kind::Null));
+    Ok(())
+}
+
+/// Mappings, each but the last the value of the only entry of the one before.
+fn nested(alloc: Global, depth: usize) -> Result<String, AllocError> {
+    let mut text = String::new(alloc);
+    for column in 0..depth {
+        for _ in 0..column {
+            text.push(' ')?;
+        }
+        text.push_str(if column + 1 < depth { "a:\n" } else { "a: 1\n" })?;
+    }
+    Ok(text)
+}
+
+#[test]
+fn nests_at_most_64(rt: HostRuntime) -> Result<(), Fail> {
+    let text = nested(rt.alloc(), 64)?;
+    assert!(rt; read(rt.alloc(), text.as_bytes()).is_ok());
+    let text = nested(rt.alloc(), 65)?;
+    assert_eq!(rt;
+        refusal(read(rt.alloc(), text.as_bytes())),
+        Some((FaultKind::TooDeep, 65))
+    );
+    Ok(())
 }
