@@ -25,3 +25,5 @@ pub mod FoldLaws
 pub mod ItemLaws
 pub mod ContentLaws
 pub mod PlainContentLaws
+pub mod WrittenLaws
+pub mod WrittenText

@@ -17,3 +17,4 @@ pub mod QuotedReading
 pub mod Piece
 pub mod ContentReading
 pub mod PlainContent
+pub mod Written

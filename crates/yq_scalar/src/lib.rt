@@ -28,6 +28,7 @@ pub mod text;
 #[cfg(test)]
 mod text_tests;
 mod writable;
+mod write;
 
 pub use fault::{FaultKind, ReadError, ReadFault};
 pub use integer::int_value;
@@ -39,3 +40,4 @@ pub use scalar::Scalar;
 pub use schema::resolve;
 pub use style::{Place, Style};
 pub use writable::can_write;
+pub use write::write_scalar;

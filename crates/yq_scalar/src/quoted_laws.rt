@@ -1,9 +1,16 @@
 //! Laws of quoted scalars and of folded lines, each the contract of a function that does nothing.
-ghost use Rattle.std.specs.Prelude.{◌≡◌, ◌++◌, List, Some, ℕ};
+ghost use Rattle.std.specs.List.{list_all};
+ghost use Rattle.std.specs.Prelude.{◌≡◌, ◌==◌, ◌++◌, List, Some, false, true, ℕ};
+ghost use Rattle.std.specs.Str.{IsUtf8, chars};
+ghost use Rattle.yq_scalar.specs.Characters.{is_text};
 ghost use Rattle.yq_scalar.specs.ContentReading.{plain_content, quoted_content};
 ghost use Rattle.yq_scalar.specs.PlainContent.{IsPlainLines};
 ghost use Rattle.yq_scalar.specs.Quoted.{IsQuoted, Lines, content};
 ghost use Rattle.yq_scalar.specs.QuotedReading.{quoted_at};
+ghost use Rattle.yq_scalar.specs.Plain.{holds_break};
+ghost use Rattle.yq_scalar.specs.Text.{front};
+ghost use Rattle.yq_scalar.specs.Writable.{is_single_char};
+ghost use Rattle.yq_scalar.specs.Written.{double, single};
 
 /// What is read as a quoted scalar is one, what is one is read, and a text begins with one at most.
 pub fn one_quoted()
@@ -22,4 +29,13 @@ pub fn quoted_folds()
 pub fn plain_folds()
     ensures lines { (text : List ℕ) → ((ls : Lines) × IsPlainLines ls text) }
     ensures content { (ls : Lines) (text : List ℕ) → IsPlainLines ls text → plain_content text ≡ content ls }
+{}
+
+/// What is written in quotes is a quoted scalar that stands for its string, is a text, and holds no
+/// break; in single quotes it is one before any rest but a further quote.
+pub fn quoted_spells()
+    ensures double { (t rest : List ℕ) → IsUtf8 t → ((ls : Lines) × (IsQuoted 34 ls (double t) rest × (content ls ≡ t))) }
+    ensures double_line { (t : List ℕ) → IsUtf8 t → (is_text (double t) ≡ true) × (holds_break (double t) ≡ false) }
+    ensures single { (t rest : List ℕ) → IsUtf8 t → list_all is_single_char (chars t) ≡ true → front (λ b. b == 39) rest ≡ false → ((ls : Lines) × (IsQuoted 39 ls (single t) rest × (content ls ≡ t))) }
+    ensures single_line { (t : List ℕ) → IsUtf8 t → list_all is_single_char (chars t) ≡ true → (is_text (single t) ≡ true) × (holds_break (single t) ≡ false) }
 {}

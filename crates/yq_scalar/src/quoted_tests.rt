@@ -3,6 +3,10 @@
 use crate::content::{plain_content, quoted_content};
 use crate::fault::FaultKind;
 use crate::quoted::split_quoted;
+use crate::scalar::Scalar;
+use crate::style::{Place, Style};
+use crate::writable::can_write;
+use crate::write::write_scalar;
 use std::test::Fail;
 
 #[test]
@@ -107,6 +111,66 @@ fn plain_contents(rt: HostRuntime) -> Result<(), Fail> {
     for (text, content) in contents {
         let got = plain_content(alloc, text)?;
         assert_eq!(rt; got.as_str(), content, "at {text:?}");
+    }
+    Ok(())
+}
+
+#[test]
+fn written_single(rt: HostRuntime) -> Result<(), Fail> {
+    let alloc = rt.alloc();
+    let strings = [
+        ("", "''"),
+        ("it's", "'it''s'"),
+        ("a\tb", "'a\tb'"),
+        ("'", "''''"),
+        ("\\n \u{e9}", "'\\n \u{e9}'"),
+    ];
+    for (text, piece) in strings {
+        let scalar = Scalar::string(String::from_str(alloc, text)?);
+        if !can_write(&scalar, Style::Single, Place::Flow) {
+            panic!(rt; "at {text:?}");
+        }
+        let written = write_scalar(alloc, &scalar, Style::Single, Place::Flow)?;
+        assert_eq!(rt; written.as_str(), piece, "at {text:?}");
+    }
+    Ok(())
+}
+
+#[test]
+fn written_double(rt: HostRuntime) -> Result<(), Fail> {
+    let alloc = rt.alloc();
+    let strings = [
+        ("", "\"\""),
+        ("a\"b\\", "\"a\\\"b\\\\\""),
+        (
+            "\0\u{7}\u{8}\t\n\u{b}\u{c}\r\u{1b}\u{85}\u{2028}\u{2029}",
+            "\"\\0\\a\\b\\t\\n\\v\\f\\r\\e\\N\\L\\P\"",
+        ),
+        (
+            "\u{feff}\u{1}\u{7f}\u{9f}\u{fffe}",
+            "\"\\uFEFF\\x01\\x7F\\x9F\\uFFFE\"",
+        ),
+        ("it's / \u{a0}\u{1f600}", "\"it's / \u{a0}\u{1f600}\""),
+    ];
+    for (text, piece) in strings {
+        let scalar = Scalar::string(String::from_str(alloc, text)?);
+        if !can_write(&scalar, Style::Double, Place::BlockKey) {
+            panic!(rt; "at {text:?}");
+        }
+        let written = write_scalar(alloc, &scalar, Style::Double, Place::BlockKey)?;
+        assert_eq!(rt; written.as_str(), piece, "at {text:?}");
+        let Ok((read, _)) = split_quoted(written.as_str()) else {
+            panic!(rt; "at {text:?}");
+        };
+        let content = quoted_content(alloc, read)?;
+        assert_eq!(rt; content.as_str(), text, "at {text:?}");
+    }
+    let null = Scalar::null(alloc)?;
+    if can_write(&null, Style::Plain, Place::Block) {
+        let written = write_scalar(alloc, &null, Style::Plain, Place::Block)?;
+        assert_eq!(rt; written.as_str(), "null");
+    } else {
+        panic!(rt; "null is not written");
     }
     Ok(())
 }

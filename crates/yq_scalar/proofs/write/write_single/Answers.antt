@@ -1,0 +1,14 @@
+use Rattle.std.proofs.Common.{◌≡◌, ◌++◌, ◌∷◌, [], flat_map, sym, ap, ◌∙◌, map-id}
+use Rattle.std.specs.Str.{chars}
+use Rattle.std.proofs.Math.Utf8.{encode}
+use Rattle.std.proofs.lemmas.Iterator.{YieldsList-from_chars}
+use Rattle.std.proofs.lemmas.Iterator.Consumers.{YieldsList-end}
+use Rattle.yq_scalar.specs.Written.{in_single}
+use Rattle.yq_scalar.proofs.write.write_single.Goals as goal
+
+pub returns : goal.returns
+unfolding encode
+returns c =
+    let end = YieldsList-end (YieldsList-from_chars c.args.text.now c.utf8.text cc) c.each.yielded _ c.each.yielded_by _ _ c.in-None.is c.next.ensures.steps in
+    let all : c.each.yielded ≡ chars c.args.text.now = sym (map-id c.each.yielded) ∙ end.0 in
+    c.in_ok-push-2.ensures.bytes ∙ ap (λ l. l ++ 39 ∷ []) (c.each.invariant ∙ ap (λ cs. 39 ∷ flat_map in_single cs) all)

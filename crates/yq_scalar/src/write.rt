@@ -1,0 +1,131 @@
+//! Scalars as they are written in quotes.
+ghost use Rattle.std.specs.Prelude.{◌≡◌, ◌++◌, ◌<◌, ◌∷◌, [], OnOk, IfOk, string_bytes, true};
+ghost use Rattle.yq_scalar.specs.Writable.{can_write};
+ghost use Rattle.yq_scalar.specs.Written as spec;
+
+use crate::characters::is_text_char;
+use crate::scalar::Scalar;
+use crate::style::{Place, Style};
+use std::alloc::{AllocError, Global};
+
+/// The letter that stands behind a backslash for the character.
+fn letter_of(c: char) -> Option<char>
+    ensures { result ≡ spec.letter_of c spec.written_letters }
+{
+    match c {
+        '"' => Some('"'),
+        '\\' => Some('\\'),
+        '\0' => Some('0'),
+        '\u{7}' => Some('a'),
+        '\u{8}' => Some('b'),
+        '\t' => Some('t'),
+        '\n' => Some('n'),
+        '\u{b}' => Some('v'),
+        '\u{c}' => Some('f'),
+        '\r' => Some('r'),
+        '\u{1b}' => Some('e'),
+        '\u{85}' => Some('N'),
+        '\u{2028}' => Some('L'),
+        '\u{2029}' => Some('P'),
+        _ => None,
+    }
+}
+
+/// Adds a hexadecimal digit.
+fn push_digit(out: &mut String, digit: u32) -> Result<(), AllocError>
+    requires { digit < 16 }
+    ensures { OnOk result (string_bytes out.new ≡ string_bytes out.old ++ spec.upper digit ∷ []) }
+{
+    let first = if digit < 10 { b'0' } else { b'7' };
+    out.push(char::from(first + digit as u8))
+}
+
+/// Adds a character in single quotes.
+fn push_single(out: &mut String, c: char) -> Result<(), AllocError>
+    ensures { OnOk result (string_bytes out.new ≡ string_bytes out.old ++ spec.in_single c) }
+{
+    if c == '\'' {
+        out.push_str("''")
+    } else {
+        out.push(c)
+    }
+}
+
+/// A string in single quotes.
+fn write_single(alloc: Global, text: &str) -> Result<String, AllocError>
+    ensures { IfOk result (λ s. string_bytes s ≡ spec.single text.now) }
+{
+    let mut out = String::new(alloc);
+    out.push('\'')?;
+    'each: for c in text.chars() {
+        push_single(&mut out, c)?;
+    }
+    out.push('\'')?;
+    Ok(out)
+}
+
+/// Adds a character by its number.
+fn push_code(out: &mut String, code: u32) -> Result<(), AllocError>
+    ensures { OnOk result (string_bytes out.new ≡ string_bytes out.old ++ spec.code_escape code) }
+{
+    if code < 256 {
+        out.push_str("\\x")?;
+        push_digit(out, code / 16 % 16)?;
+        return push_digit(out, code % 16);
+    }
+    out.push_str("\\u")?;
+    push_digit(out, code / 4096 % 16)?;
+    push_digit(out, code / 256 % 16)?;
+    push_digit(out, code / 16 % 16)?;
+    push_digit(out, code % 16)
+}
+
+/// Adds a character in double quotes.
+fn push_double(out: &mut String, c: char) -> Result<(), AllocError>
+    ensures { OnOk result (string_bytes out.new ≡ string_bytes out.old ++ spec.in_double c) }
+{
+    match letter_of(c) {
+        Some(letter) => {
+            out.push('\\')?;
+            out.push(letter)
+        }
+        None => {
+            if is_text_char(c) {
+                out.push(c)
+            } else {
+                push_code(out, c as u32)
+            }
+        }
+    }
+}
+
+/// A string in double quotes.
+fn write_double(alloc: Global, text: &str) -> Result<String, AllocError>
+    ensures { IfOk result (λ s. string_bytes s ≡ spec.double text.now) }
+{
+    let mut out = String::new(alloc);
+    out.push('"')?;
+    'each: for c in text.chars() {
+        push_double(&mut out, c)?;
+    }
+    out.push('"')?;
+    Ok(out)
+}
+
+/// The scalar in plain, single or double style, at a place where that style can write it.
+pub fn write_scalar(
+    alloc: Global,
+    scalar: &Scalar,
+    style: Style,
+    place: Place,
+) -> Result<String, AllocError>
+    requires can { can_write scalar.now style place ≡ true }
+    requires inline { spec.IsInline style }
+    ensures { IfOk result (λ s. string_bytes s ≡ spec.written style scalar.now.text) }
+{
+    match style {
+        Style::Single => write_single(alloc, scalar.text()),
+        Style::Double => write_double(alloc, scalar.text()),
+        Style::Plain | Style::Literal | Style::Folded => String::from_str(alloc, scalar.text()),
+    }
+}
