@@ -1,6 +1,6 @@
 //! The journal: records, a cursor, and perhaps an open move.
 ghost use Rattle.std.specs.Prelude.{◌≡◌, ◌≢◌, ◌⊎◌, ◌<◌, None, Some, IfOk, IfErr, OnOk, OnErr, IsNone, IsOk, length, slice_get};
-ghost use Rattle.yq_journal.specs.Refusals.{Names, move_fault, push_fault, squash_fault};
+ghost use Rattle.yq_journal.specs.Refusals.{Names, move_fault, push_fault, squash_fault, way_fault};
 ghost use Rattle.yq_journal.specs.State.{empty_state, moved, moved_text, opened, settled, squashed};
 
 use crate::fault::{JournalError, JournalFault};
@@ -135,6 +135,17 @@ impl Journal {
         let made = target(self.alloc, &self.records, self.at, &Move::Redo, text)?;
         self.at += 1;
         Ok(made)
+    }
+
+    /// The text that a move leads to, where no move is open. Refused, first to
+    /// last: as `JournalFull`, as `NothingToUndo` or `NothingToRedo`, as
+    /// `DoesNotStand`.
+    pub fn target(&self, alloc: Global, step: &Move, text: &[u8]) -> Result<Vec<u8>, JournalError>
+        ensures ok { IfOk result (λ v. moved_text self.now.records self.now.at step.now text.now ≡ Some v.items) }
+        ensures free { OnOk result (way_fault self.now.records self.now.at step.now text.now ≡ None) }
+        ensures err { IfErr result (λ e. Names e (way_fault self.now.records self.now.at step.now text.now)) }
+    {
+        target(alloc, &self.records, self.at, step, text)
     }
 
     /// Opens a move and keeps the whole text from which it starts. Refused,
