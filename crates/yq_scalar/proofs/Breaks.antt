@@ -1,12 +1,13 @@
 -- What a search for the next LF tells of breaks.
-use Rattle.std.proofs.Common.{◌≡◌, ℕ, suc, ◌+◌, ◌<◌, ◌≤◌, true, false, cond, not, min, eqb, List, [], ◌∷◌, length, Option, Some, None, refl, sym, arith}
+use Rattle.std.proofs.Common.{◌≡◌, ℕ, suc, ◌+◌, ◌<◌, ◌≤◌, true, false, cond, not, min, eqb, eqb-true, List, [], ◌∷◌, length, Option, Some, None, refl, sym, ap, ◌∙◌, arith}
 use Rattle.std.proofs.lemmas.Bool.{false_from_ne_true}
 use Rattle.std.proofs.lemmas.List.Sums.{position_or_len_is}
 use Rattle.std.specs.List.{position_or_len}
 use Rattle.std.specs.Option.{unwrap_or}
 use Rattle.memchr.specs.Find.{IsFirstByte, is_byte}
-use Rattle.yq_scalar.specs.Text.{upto, at_feed, line_len}
+use Rattle.yq_scalar.specs.Text.{upto, at_feed, line_len, is_line, is_empty}
 use Rattle.yq_scalar.proofs.Upto.{upto_le_length}
+use Rattle.std.proofs.Math.Dec.{eqb-suc-suc, eqb-zero-suc}
 
 feed-position : (t : List ℕ) → upto at_feed t ≡ position_or_len (is_byte 10) t
 unfolding upto
@@ -33,3 +34,22 @@ line_len_here t n e h = omega (arith, line_len-feed t)
 
 pub line_len_last : (t : List ℕ) (n : ℕ) → n ≡ upto at_feed t → length t ≤ n → line_len t ≡ n
 line_len_last t n e h = omega (arith, line_len-feed t, upto_le_length at_feed t)
+
+empty-length : (t : List ℕ) → is_empty t ≡ eqb 0 (length t)
+empty-length [] = refl
+empty-length (b ∷ t) = sym (eqb-zero-suc (length t))
+
+-- a line with its break ends behind its first LF
+is_line-feed : (t : List ℕ) → is_line t ≡ eqb (suc (upto at_feed t)) (length t)
+unfolding is_line upto
+is_line-feed [] = refl
+is_line-feed (b ∷ bs) =
+    let again = is_line-feed bs ∙ sym (eqb-suc-suc (suc (upto at_feed bs)) (length bs)) in
+    let last = empty-length bs ∙ sym (eqb-suc-suc 0 (length bs)) in
+    elim (eqb b 10) as (λ c. cond c (is_empty bs) (is_line bs) ≡ eqb (suc (cond c 0 (suc (upto at_feed bs)))) (suc (length bs))) [ true ↦ last | false ↦ again ]
+
+pub is_line_here : (t : List ℕ) (n : ℕ) → n ≡ upto at_feed t → n < length t → is_line t ≡ eqb (n + 1) (length t)
+is_line_here t n e h = let one : suc (upto at_feed t) ≡ n + 1 = omega arith in is_line-feed t ∙ ap (λ k. eqb k (length t)) one
+
+pub is_line_last : (t : List ℕ) (n : ℕ) → n ≡ upto at_feed t → length t ≤ n → is_line t ≡ false
+is_line_last t n e h = is_line-feed t ∙ false_from_ne_true _ (λ k. absurd (omega (arith, eqb-true (suc (upto at_feed t)) (length t) k)))

@@ -27,3 +27,10 @@ pub mod ContentLaws
 pub mod PlainContentLaws
 pub mod WrittenLaws
 pub mod WrittenText
+pub mod RawLaws
+pub mod SpaceLaws
+pub mod DetectedLaws
+pub mod HeaderLaws
+pub mod BlockLaws
+pub mod BlockFound
+pub mod BlockSteps

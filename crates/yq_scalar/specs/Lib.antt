@@ -18,3 +18,6 @@ pub mod Piece
 pub mod ContentReading
 pub mod PlainContent
 pub mod Written
+pub mod Lines
+pub mod Block
+pub mod BlockReading

@@ -1,6 +1,12 @@
 //! Characters, breaks and scalars of YAML, and the tree that a text stands for.
 #![tactic(auto)]
 
+pub mod block;
+pub mod block_header;
+pub mod block_laws;
+pub mod block_lines;
+#[cfg(test)]
+mod block_tests;
 pub mod characters;
 pub mod content;
 mod fault;
@@ -30,6 +36,7 @@ mod text_tests;
 mod writable;
 mod write;
 
+pub use block::read_block;
 pub use fault::{FaultKind, ReadError, ReadFault};
 pub use integer::int_value;
 pub use keys::are_distinct;

@@ -26,6 +26,15 @@ pub fn line_len(text: &[u8]) -> usize
     if end < text.len() { end + 1 } else { end }
 }
 
+/// Whether this is one line, and ends in a break.
+#[tactic(auto, using(crate::proofs::Breaks::is_line_here, crate::proofs::Breaks::is_line_last))]
+pub fn is_line(line: &[u8]) -> bool
+    ensures { result ≡ spec.is_line line.now }
+{
+    let end = feed_at(line);
+    end < line.len() && end + 1 == line.len()
+}
+
 /// The text cut behind the line in front and its break.
 pub fn split_line(text: &str) -> (&str, &str)
     ensures { (result.0.now, result.1.now) ≡ spec.cut_line text.now }

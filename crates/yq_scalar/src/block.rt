@@ -1,0 +1,89 @@
+//! The block scalar at an offset of a text (YAML 1.2.2, section 8.1).
+ghost use Rattle.std.specs.Prelude.{◌≡◌, ◌<◌, ◌≤◌, ◌+◌, ◌^◌, length, drop, IfOk, Ok};
+ghost use Rattle.std.specs.Str.{IsCharBoundary};
+ghost use Rattle.yq_scalar.specs.Answers.{Reads};
+ghost use Rattle.yq_scalar.specs.Block as spec;
+ghost use Rattle.yq_scalar.specs.BlockReading as reading;
+ghost use Rattle.yq_scalar.specs.Piece.{deeper};
+ghost use Rattle.yq_scalar.specs.Text.{lines_of};
+ghost use Rattle.yq_scalar.specs.declared.piece.Piece.{Piece};
+
+use crate::block_header::{keeps, read_style, read_tail, split_indicators, style_of};
+use crate::block_lines::{TextIndent, detect_indent, raw_len};
+use crate::fault::FaultKind;
+use crate::piece::Piece;
+
+/// One column more than the indentation of a parent.
+fn least_indent(parent: i64) -> usize
+    ensures value { result ≡ deeper parent }
+    ensures fits { result ≤ 2 ^ 63 }
+{
+    if parent < 0 { 0 } else { parent as usize + 1 }
+}
+
+/// The indentation of the text, by the digit or by the lines.
+#[tactic(auto, unfolding(crate::specs::BlockReading::indent_at))]
+fn read_indent(least: usize, digit: Option<u8>, text: &[u8]) -> Result<TextIndent, FaultKind>
+    requires { least ≤ 2 ^ 63 }
+    ensures { Reads (λ f. f) result (reading.indent_at least digit (lines_of text.now)) }
+{
+    match digit {
+        Some(digit) => Ok(TextIndent {
+            columns: (least + usize::from(digit)).saturating_sub(1),
+            known: true,
+        }),
+        None => detect_indent(least, text),
+    }
+}
+
+/// The block scalar in front of a text that begins at an offset.
+#[tactic(auto, unfolding(crate::specs::BlockReading::block_at, crate::specs::BlockReading::block_behind))]
+fn read_at(text: &[u8], start: usize, least: usize) -> Result<Piece, FaultKind>
+    requires small { least ≤ 2 ^ 63 }
+    requires fits { start + length text.now < 2 ^ 64 }
+    ensures { Reads (λ p. p) result (reading.piece_at start least text.now) }
+{
+    let (style, rest) = read_style(text)?;
+    let (digit, chomping, rest) = split_indicators(rest);
+    let head_end = start + (text.len() - rest.len());
+    let (tail, raw) = read_tail(rest)?;
+    let indent = read_indent(least, digit, raw)?;
+    let keep = keeps(chomping);
+    let len = raw_len(keep, indent, raw)?;
+    let raw_start = head_end + tail.len();
+    Ok(Piece {
+        style: style_of(style),
+        start,
+        head_end,
+        raw_start,
+        end: raw_start + len,
+        indent: indent.columns,
+        keep,
+    })
+}
+
+/// The block scalar that begins at an offset, in bytes, of a text. `parent` is the indentation of its
+/// parent, in columns, and -1 below no parent.
+///
+/// The error comes exactly where none begins there, or where what follows it may not: it is
+/// [`FaultKind::BadBlockHeader`] at an impossible header, [`FaultKind::BadIndent`] where a blank line is
+/// longer than the indentation of the first text line, [`FaultKind::TabIndent`] where a tab stands in
+/// the indentation of a line, and [`FaultKind::NoFinalBreak`] where the text ends in a line of the
+/// scalar. No memory is taken.
+#[tactic(auto, using(crate::proofs::BlockFound::found_by))]
+pub fn read_block(text: &str, at: usize, parent: i64) -> Result<Piece, FaultKind>
+    requires { IsCharBoundary text.now at }
+    ensures exact { Reads (λ p. p) result (reading.block_from parent at text.now) }
+    ensures found { IfOk result (spec.IsBlockPiece parent at text.now) }
+    ensures only { (p : Piece) → spec.IsBlockPiece parent at text.now p → result ≡ Ok p }
+{
+    block_from(text, at, parent)
+}
+
+#[tactic(auto, unfolding(crate::specs::BlockReading::block_from))]
+fn block_from(text: &str, at: usize, parent: i64) -> Result<Piece, FaultKind>
+    requires { IsCharBoundary text.now at }
+    ensures { Reads (λ p. p) result (reading.block_from parent at text.now) }
+{
+    read_at(text.split_at(at).1.as_bytes(), at, least_indent(parent))
+}
