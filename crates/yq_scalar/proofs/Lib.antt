@@ -34,3 +34,5 @@ pub mod HeaderLaws
 pub mod BlockLaws
 pub mod BlockFound
 pub mod BlockSteps
+pub mod QuotedPieceLaws
+pub mod PieceContentLaws

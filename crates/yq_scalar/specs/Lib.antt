@@ -21,3 +21,4 @@ pub mod Written
 pub mod Lines
 pub mod Block
 pub mod BlockReading
+pub mod QuotedPiece

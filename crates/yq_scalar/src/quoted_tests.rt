@@ -1,8 +1,10 @@
 //! Quoted scalars, cut off a text, and what they and plain ones stand for.
 
-use crate::content::{plain_content, quoted_content};
 use crate::fault::FaultKind;
+use crate::folding::{plain_content, quoted_content};
+use crate::piece_content::content;
 use crate::quoted::split_quoted;
+use crate::quoted_piece::read_quoted;
 use crate::scalar::Scalar;
 use crate::style::{Place, Style};
 use crate::writable::can_write;
@@ -172,5 +174,29 @@ fn written_double(rt: HostRuntime) -> Result<(), Fail> {
     } else {
         panic!(rt; "null is not written");
     }
+    Ok(())
+}
+
+#[test]
+fn pieces(rt: HostRuntime) -> Result<(), Fail> {
+    let alloc = rt.alloc();
+    let text = "'it''s': \"a\\\n  b\"";
+    let Ok(key) = read_quoted(text, 0) else {
+        panic!(rt; "no key");
+    };
+    assert!(rt; matches!(key.style, Style::Single) && key.start == 0 && key.end == 7);
+    let got = content(alloc, text, &key)?;
+    assert_eq!(rt; got.as_str(), "it's");
+    if text.is_char_boundary(9) {
+        let Ok(value) = read_quoted(text, 9) else {
+            panic!(rt; "no value");
+        };
+        assert!(rt;
+            matches!(value.style, Style::Double) && value.end == 17 && value.head_end == 17
+        );
+        let got = content(alloc, text, &value)?;
+        assert_eq!(rt; got.as_str(), "ab");
+    }
+    assert!(rt; matches!(read_quoted("x", 0), Err(FaultKind::BadScalar)));
     Ok(())
 }

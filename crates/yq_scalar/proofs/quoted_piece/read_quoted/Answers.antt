@@ -1,0 +1,5 @@
+use Rattle.yq_scalar.proofs.QuotedPieceLaws.{only_by}
+use Rattle.yq_scalar.proofs.quoted_piece.read_quoted.Goals as goal
+
+pub returns-clause-only : goal.returns-clause-only
+returns-clause-only c = only_by c.args.at c.args.text.now c.quoted_from.result c.quoted_from.ensures

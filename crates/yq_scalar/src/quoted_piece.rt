@@ -1,0 +1,45 @@
+//! The quoted scalar at an offset of a text.
+ghost use Rattle.std.specs.Prelude.{◌≡◌, IfOk, Ok};
+ghost use Rattle.std.specs.Str.{IsCharBoundary};
+ghost use Rattle.yq_scalar.specs.Answers.{Reads};
+ghost use Rattle.yq_scalar.specs.QuotedPiece as spec;
+ghost use Rattle.yq_scalar.specs.declared.piece.Piece.{Piece};
+
+use crate::fault::FaultKind;
+use crate::piece::{Piece, inline_piece};
+use crate::quoted::split_quoted;
+use crate::style::Style;
+
+/// The style of a scalar in these quotes.
+fn style_of(quote: u8) -> Style
+    ensures { result ≡ spec.style_of quote }
+{
+    if quote == b'\'' {
+        Style::Single
+    } else {
+        Style::Double
+    }
+}
+
+/// The quoted scalar that begins at an offset, in bytes, of a text.
+///
+/// The error is [`FaultKind::BadScalar`], exactly where no quoted scalar begins there. No memory is
+/// taken.
+#[tactic(auto, using(crate::proofs::QuotedPieceLaws::found_by))]
+pub fn read_quoted(text: &str, at: usize) -> Result<Piece, FaultKind>
+    requires { IsCharBoundary text.now at }
+    ensures exact { Reads (λ p. p) result (spec.quoted_from at text.now) }
+    ensures found { IfOk result (spec.IsQuotedPiece at text.now) }
+    ensures only { (p : Piece) → spec.IsQuotedPiece at text.now p → result ≡ Ok p }
+{
+    quoted_from(text, at)
+}
+
+#[tactic(auto, unfolding(crate::specs::QuotedPiece::quoted_from))]
+fn quoted_from(text: &str, at: usize) -> Result<Piece, FaultKind>
+    requires { IsCharBoundary text.now at }
+    ensures { Reads (λ p. p) result (spec.quoted_from at text.now) }
+{
+    let (scalar, _) = split_quoted(text.split_at(at).1)?;
+    Ok(inline_piece(style_of(scalar.as_bytes()[0]), at, at + scalar.len()))
+}
