@@ -1,7 +1,9 @@
+pub mod Again
 pub mod Content
 pub mod Keys
 pub mod Lexing
 pub mod Lists
+pub mod Outcomes
 pub mod Readers
 pub mod Takes
 pub mod Turns

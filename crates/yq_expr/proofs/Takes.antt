@@ -403,7 +403,7 @@ whole_is x y h = go x.1 refl h
     go [] e k = (some_is k, e)
     go (t ∷ ts) e k = cc
 
-whole_takes : {A : Type 0} (at : Parse A) (Is : Form A) → Takes at Is → (ts : List Token) (x : A) → (at ts >>= whole) ≡ Some x → Is x ts []
+pub whole_takes : {A : Type 0} (at : Parse A) (Is : Form A) → Takes at Is → (ts : List Token) (x : A) → (at ts >>= whole) ≡ Some x → Is x ts []
 whole_takes {A} at Is takes ts x h =
     let y = bind_some (at ts) h in
     let w = whole_is y.0 x y.2 in

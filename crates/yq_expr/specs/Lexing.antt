@@ -1,5 +1,5 @@
 -- Reading (a reader may skip this: the grammar is what is believed, and found and only tie the two).
-use Rattle.std.specs.Prelude.{ℕ, zero, suc, ◌+◌, if◌then◌else◌, Bool, true, false, ◌||◌, ◌&&◌, ◌==◌, List, [], ◌∷◌, length, take, drop, Option, Some, None, is_some, option_map, not}
+use Rattle.std.specs.Prelude.{◌≡◌, ℕ, zero, suc, ◌+◌, if◌then◌else◌, Bool, true, false, ◌||◌, ◌&&◌, ◌==◌, List, [], ◌∷◌, length, take, drop, Option, Some, None, is_some, option_map, not}
 use Rattle.std.specs.Char.{is_ascii_digit}
 use Rattle.std.specs.List.{prefix_len}
 use Rattle.std.specs.Str.{bytes_eq}
@@ -195,3 +195,12 @@ taken view (t ∷ ts) = option_map (λ a. (a, ts)) (view t)
 abbrev pub is_end : List Token → Bool
 is_end [] = true
 is_end (t ∷ ts) = false
+
+-- every token is read (own)
+abbrev pub AreRead : List Token → Type 0
+AreRead [] = Unit {0}
+AreRead (t ∷ ts) = (t ≡ unread → ⊥) × AreRead ts
+
+-- the tokens of a text, all of them read (own)
+abbrev pub AreTokens : List Token → List ℕ → Type 0
+AreTokens ts text = (tokens text ≡ ts) × AreRead ts

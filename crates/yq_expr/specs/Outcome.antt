@@ -1,11 +1,12 @@
 -- What comes of a text: its program, or the first refusal in order.
-use Rattle.std.specs.Prelude.{◌≡◌, ℕ, ◌+◌, ◌<◌, Bool, false, ◌||◌, ◌==◌, List, take, codes, Result, Ok, Err}
-use Rattle.std.specs.List.{list_any, count_by}
+use Rattle.std.specs.Prelude.{◌≡◌, ℕ, ◌+◌, ◌<◌, ◌⊎◌, Bool, true, false, ◌||◌, ◌==◌, List, [], ◌∷◌, take, codes, Result, Ok, Err}
+use Rattle.std.specs.List.{list_any}
 use Rattle.yq_expr.specs.declared.error.ParseError.{ParseError}
 use Rattle.yq_expr.specs.declared.error.ParseError.TheVariants as error
 use Rattle.yq_expr.specs.Program.{Step, key, index, each, Operand, value_at, document_index, Condition, compares, has, Stage, path, select, Term, literal, found, Update, assign, delete, comment, Program, read, updates}
-use Rattle.yq_expr.specs.Tokens.{Token}
-use Rattle.yq_expr.specs.Lexing.{is_symbol}
+use Rattle.yq_expr.specs.Tokens.{Token, foreign}
+use Rattle.yq_expr.specs.Grammar.{IsProgram}
+use Rattle.yq_expr.specs.Lexing.{is_symbol, AreTokens}
 
 -- a text with `*` or `?` (own)
 abbrev pub is_pattern : List ℕ → Bool
@@ -64,9 +65,44 @@ is_opening t = is_symbol (codes "[") t || is_symbol (codes "{") t
 abbrev pub is_closing : Token → Bool
 is_closing t = is_symbol (codes "]") t || is_symbol (codes "}") t
 
--- at some place more than 64 of the brackets `[` and `{` are open (own)
+-- one more, if the test holds (own)
+abbrev pub counted : Bool → ℕ → ℕ
+counted true n = n + 1
+counted false n = n
+
+-- how many of the tokens are `[` or `{` (own)
+abbrev pub opened : List Token → ℕ
+opened [] = 0
+opened (t ∷ ts) = counted (is_opening t) (opened ts)
+
+-- how many of the tokens are `]` or `}` (own)
+abbrev pub closed : List Token → ℕ
+closed [] = 0
+closed (t ∷ ts) = counted (is_closing t) (closed ts)
+
+-- up to some place `[` and `{` outnumber `]` and `}` by more than 64 (own)
 abbrev pub IsTooDeep : List Token → Type 0
-IsTooDeep ts = (n : ℕ) × (count_by is_closing (take n ts) + 64 < count_by is_opening (take n ts))
+IsTooDeep ts = (n : ℕ) × (closed (take n ts) + 64 < opened (take n ts))
+
+-- some token is one that only other expressions have (own)
+abbrev pub HasForeign : List Token → Type 0
+HasForeign [] = ⊥
+HasForeign (t ∷ ts) = (t ≡ foreign) ⊎ HasForeign ts
+
+-- a text derives a program: its tokens are this language's, its brackets don't nest too deep, and the grammar
+-- has its tokens as that program (own)
+abbrev pub Derives : List ℕ → Program → Type 0
+Derives text p = (ts : List Token) × AreTokens ts text × ¬ HasForeign ts × ¬ IsTooDeep ts × IsProgram p ts
+
+-- When each refusal comes, the first one in this order: a text without tokens; a token of other expressions or
+-- too many open brackets; no derivation; a pattern. Want of memory says nothing (own).
+abbrev pub IsRefused : ParseError → List ℕ → Type 0
+IsRefused error.Syntax text =
+    ((ts : List Token) → ¬ AreTokens ts text)
+    ⊎ ((ts : List Token) × AreTokens ts text × ¬ HasForeign ts × ¬ IsTooDeep ts × ((p : Program) → ¬ IsProgram p ts))
+IsRefused error.NotInProfile text = (ts : List Token) × AreTokens ts text × (HasForeign ts ⊎ IsTooDeep ts)
+IsRefused error.Pattern text = (p : Program) × Derives text p × (has_pattern p ≡ true)
+IsRefused error.Memory text = Unit {0}
 
 -- what comes of a text: a program, or a refusal (own)
 pub data Outcome : Type 0 where

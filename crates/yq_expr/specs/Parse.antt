@@ -13,7 +13,7 @@ use Rattle.yq_expr.specs.declared.program.CommentPlace.{CommentPlace}
 use Rattle.yq_expr.specs.declared.program.CommentPlace.TheVariants as place
 use Rattle.yq_expr.specs.Program.{Step, key, index, each, Operand, value_at, document_index, Condition, compares, has, Stage, path, select, Term, literal, found, Update, assign, delete, comment, Program, read, updates}
 use Rattle.yq_expr.specs.Tokens.{Token, string, number, step, symbol, foreign, unread}
-use Rattle.yq_expr.specs.Outcome.{Outcome, parsed, refused, has_pattern, is_opening, is_closing}
+use Rattle.yq_expr.specs.Outcome.{Outcome, parsed, refused, has_pattern, counted, is_opening, is_closing}
 use Rattle.yq_expr.specs.Grammar.{literal_depth}
 use Rattle.yq_expr.specs.declared.error.ParseError.TheVariants as error
 use Rattle.yq_expr.specs.Lexing.{tokens, after, taken, as_number, as_string, as_step, is_end}
@@ -252,11 +252,6 @@ is_foreign_token (number w) = false
 is_foreign_token (step k) = false
 is_foreign_token (symbol w) = false
 is_foreign_token foreign = true
-
--- one more, if the test holds (own)
-abbrev pub counted : Bool → ℕ → ℕ
-counted true n = n + 1
-counted false n = n
 
 -- nothing where some token isn't read; else whether some token is foreign, or some place has more than 64
 -- brackets that are open, of so many opened and so many closed before (own)

@@ -3,6 +3,7 @@
 
 mod error;
 mod front;
+mod laws;
 mod parse;
 mod pattern;
 mod program;
@@ -14,6 +15,7 @@ mod token;
 mod value;
 
 pub use error::ParseError;
+pub use laws::one_program;
 pub use parse::parse_expr;
 pub use program::{
     Assignment, Comment, CommentPlace, Comparison, Condition, Operand, Operator, Program, Stage,

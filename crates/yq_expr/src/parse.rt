@@ -1,10 +1,11 @@
 //! Texts are parsed into programs.
-ghost use Rattle.std.specs.Prelude.{◌≡◌, map};
+ghost use Rattle.std.specs.Prelude.{◌≡◌, false, map, IfOk, IfErr};
 ghost use Rattle.yq_expr.specs.Given.{Gives};
 ghost use Rattle.yq_expr.specs.Grammar.{literal_depth};
 ghost use Rattle.yq_expr.specs.Lexing.{tokens};
-ghost use Rattle.yq_expr.specs.Outcome.{Answers};
+ghost use Rattle.yq_expr.specs.Outcome.{Answers, Derives, IsRefused, has_pattern, parsed};
 ghost use Rattle.yq_expr.specs.Parse as spec;
+ghost use Rattle.yq_expr.specs.Program.{Program as Outline};
 ghost use Rattle.yq_expr.specs.View.{stage_of, update_of, program_of};
 
 mod literal;
@@ -22,9 +23,18 @@ use std::alloc::Global;
 /// The program that a text says. Refusals come in this order: a token that can't be read, then a
 /// token of other expressions or more than 64 open brackets, then what is no program, then a
 /// pattern.
-#[tactic(auto, unfolding(crate::specs::Parse::outcome))]
 pub fn parse_expr(alloc: Global, text: &str) -> Result<Program, ParseError>
     ensures exact { Answers program_of result (spec.outcome text.now) }
+    ensures found { IfOk result (λ p. Derives text.now (program_of p) × (has_pattern (program_of p) ≡ false)) }
+    ensures only { (p : Outline) → Derives text.now p → has_pattern p ≡ false → Answers program_of result (parsed p) }
+    ensures refused { IfErr result (λ e. IsRefused e text.now) }
+{
+    parse(alloc, text)
+}
+
+#[tactic(auto, unfolding(crate::specs::Parse::outcome))]
+fn parse(alloc: Global, text: &str) -> Result<Program, ParseError>
+    ensures { Answers program_of result (spec.outcome text.now) }
 {
     if survey(text)? {
         return Err(ParseError::NotInProfile);
