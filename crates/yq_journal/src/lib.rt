@@ -18,3 +18,6 @@ pub use laws::{
 };
 pub use moves::Move;
 pub use record::{Record, record_inverts, redo_record, undo_record};
+
+#[cfg(test)]
+mod tests;

@@ -109,7 +109,7 @@ fn length_after(splice: &Splice, length: u64) -> Option<u64>
 
 /// Whether splices lead from the one length to the other, each lying within
 /// the length reached so far.
-fn leads(splices: &[Splice], before_len: u64, after_len: u64) -> bool
+pub(crate) fn leads(splices: &[Splice], before_len: u64, after_len: u64) -> bool
     ensures { result ≡ spec.is_length (lengths_done splices.now before_len) after_len }
 {
     let mut length = before_len;

@@ -1,0 +1,47 @@
+//! Journals of worked examples, and texts that are none.
+
+mod json;
+mod memory;
+mod moves;
+
+use crate::read::leads;
+use crate::{Journal, JournalFault, Record};
+use std::alloc::Global;
+use std::test::Fail;
+use yq_splice::Splice;
+
+/// The record of splices, each at an offset with its old and new bytes,
+/// between two lengths.
+fn edited(
+    alloc: Global,
+    expr: &str,
+    splices: &[(u64, &str, &str)],
+    before_len: u64,
+    after_len: u64,
+) -> Result<Record, Fail> {
+    let mut made = Vec::new(alloc);
+    for (at, old, new) in splices {
+        made.push(Splice {
+            at: *at,
+            old: Vec::from_slice(alloc, old.as_bytes())?,
+            new: Vec::from_slice(alloc, new.as_bytes())?,
+        })?;
+    }
+    if !leads(&made, before_len, after_len) {
+        return Err(Fail::from(JournalFault::BadJournal));
+    }
+    Ok(Record::new(String::from_str(alloc, expr)?, made, before_len, after_len))
+}
+
+/// The record of an edit of the digit in `n: 1` and a line feed.
+fn digit(alloc: Global, expr: &str, old: &str, new: &str) -> Result<Record, Fail> {
+    edited(alloc, expr, &[(3, old, new)], 5, 5)
+}
+
+/// Adds a record that has room.
+fn add(journal: &mut Journal, record: Record) -> Result<(), Fail> {
+    match journal.push(record) {
+        Ok(()) => Ok(()),
+        Err((_, error)) => Err(Fail::from(error)),
+    }
+}

@@ -1,0 +1,226 @@
+//! The text of a journal, in both versions, and texts that are none.
+
+use super::{add, digit, edited};
+use crate::{Journal, JournalError, JournalFault};
+use std::alloc::Global;
+use std::test::Fail;
+
+/// After one edit of a text of 28 bytes.
+pub(super) const PORT: &str =
+    r#"{"at":1,"pending":null,"records":[{"after_len":28,"before_len":28,"expr":".port = 9090","splices":[{"at":23,"new":"OTA5MA==","old":"ODA4MA=="}]}],"version":1}
+"#;
+
+/// The same in version 2.
+pub(super) const PORT_COUNTED: &str =
+    r#"{"at":1,"pending":null,"records":[{"after_len":28,"before_len":28,"count":1,"expr":".port = 9090","splices":[{"at":23,"new":"OTA5MA==","old":"ODA4MA=="}]}],"version":2}
+"#;
+
+/// An open edit of `n: 1` and a line feed.
+const OPEN: &str =
+    r#"{"at":0,"pending":{"from":"bjogMQo=","kind":"edit","record":{"after_len":5,"before_len":5,"expr":".n = 2","splices":[{"at":3,"new":"Mg==","old":"MQ=="}]}},"records":[],"version":1}
+"#;
+
+/// The same in version 2.
+pub(super) const OPEN_COUNTED: &str =
+    r#"{"at":0,"pending":{"from":"bjogMQo=","kind":"edit","record":{"after_len":5,"before_len":5,"count":1,"expr":".n = 2","splices":[{"at":3,"new":"Mg==","old":"MQ=="}]}},"records":[],"version":2}
+"#;
+
+/// An open undo of the edit from `n: 1` to `n: 2`.
+const OPEN_UNDO: &str =
+    r#"{"at":1,"pending":{"from":"bjogMgo=","kind":"undo","record":null},"records":[{"after_len":5,"before_len":5,"count":1,"expr":".n = 2","splices":[{"at":3,"new":"Mg==","old":"MQ=="}]}],"version":2}
+"#;
+
+/// Two edits joined.
+const JOINED: &str =
+    r#"{"at":1,"pending":null,"records":[{"after_len":5,"before_len":5,"count":2,"expr":".n = 2 | .n = 3","splices":[{"at":3,"new":"Mg==","old":"MQ=="},{"at":3,"new":"Mw==","old":"Mg=="}]}],"version":2}
+"#;
+
+/// The text with the first standing of a part replaced.
+fn changed(alloc: Global, text: &str, from: &str, to: &str) -> Result<String, Fail> {
+    let Some((front, back)) = text.split_once(from) else {
+        return Err(Fail::from(JournalFault::BadJournal));
+    };
+    Ok(format!(in alloc; "{front}{to}{back}")?)
+}
+
+/// Why bytes are no journal, if they are none.
+fn fault(alloc: Global, bytes: &[u8]) -> Option<JournalError> {
+    match Journal::from_json(alloc, bytes) {
+        Ok(_) => None,
+        Err(error) => Some(error),
+    }
+}
+
+#[test]
+fn writes_version_2(rt: HostRuntime) -> Result<(), Fail> {
+    let alloc = rt.alloc();
+    let mut journal = Journal::new(alloc);
+    add(
+        &mut journal,
+        edited(alloc, ".port = 9090", &[(23, "8080", "9090")], 28, 28)?,
+    )?;
+    let text = journal.to_json(alloc)?;
+    assert_eq!(rt; text.as_slice(), PORT_COUNTED.as_bytes());
+    let mut journal = Journal::new(alloc);
+    add(&mut journal, digit(alloc, ".n = 2", "1", "2")?)?;
+    add(&mut journal, digit(alloc, ".n = 3", "2", "3")?)?;
+    journal.squash(2)?;
+    let text = journal.to_json(alloc)?;
+    assert_eq!(rt; text.as_slice(), JOINED.as_bytes());
+    Ok(())
+}
+
+#[test]
+fn reads_both_versions(rt: HostRuntime) -> Result<(), Fail> {
+    let alloc = rt.alloc();
+    for (text, written) in [
+        (PORT, PORT_COUNTED),
+        (PORT_COUNTED, PORT_COUNTED),
+        (OPEN, OPEN_COUNTED),
+        (OPEN_COUNTED, OPEN_COUNTED),
+        (OPEN_UNDO, OPEN_UNDO),
+        (JOINED, JOINED),
+    ] {
+        let journal = Journal::from_json(alloc, text.as_bytes())?;
+        let again = journal.to_json(alloc)?;
+        assert_eq!(rt; again.as_slice(), written.as_bytes(), "of {text}");
+    }
+    let mut journal = Journal::from_json(alloc, PORT.as_bytes())?;
+    let text = journal.undo(b"name: web # main\nport: 9090\n")?;
+    assert_eq!(rt;
+        text.as_slice(),
+        b"name: web # main\nport: 8080\n".as_slice()
+    );
+    Ok(())
+}
+
+#[test]
+fn settles_open_moves(rt: HostRuntime) -> Result<(), Fail> {
+    let alloc = rt.alloc();
+    let unsettled = Some(JournalError::Fault(JournalFault::Unsettled));
+    for (open, beside, at, len) in [
+        (OPEN, "n: 1\n", 0, 0),
+        (OPEN, "n: 2\n", 1, 1),
+        (OPEN_UNDO, "n: 2\n", 1, 1),
+        (OPEN_UNDO, "n: 1\n", 0, 1),
+    ] {
+        let mut journal = Journal::from_json(alloc, open.as_bytes())?;
+        for other in ["n: 7\n", ""] {
+            let Err(error) = journal.settle(other.as_bytes()) else {
+                return Err(Fail::from(JournalFault::Unsettled));
+            };
+            assert_eq!(rt; Some(error), unsettled);
+        }
+        for refused in [
+            journal.undo(beside.as_bytes()),
+            journal.redo(beside.as_bytes()),
+        ] {
+            let Err(error) = refused else {
+                return Err(Fail::from(JournalFault::Unsettled));
+            };
+            assert_eq!(rt; Some(error), unsettled);
+        }
+        let Err((back, error)) = journal.push(digit(alloc, "back", "1", "2")?) else {
+            return Err(Fail::from(JournalFault::Unsettled));
+        };
+        assert_eq!(rt; back.expr.as_str(), "back");
+        assert_eq!(rt; Some(error), unsettled);
+        let Err(error) = journal.squash(1) else {
+            return Err(Fail::from(JournalFault::Unsettled));
+        };
+        assert_eq!(rt; Some(error), unsettled);
+        journal.settle(beside.as_bytes())?;
+        assert_eq!(rt; journal.at(), at);
+        assert_eq!(rt; journal.len(), len);
+        journal.settle(b"any")?;
+    }
+    Ok(())
+}
+
+#[test]
+fn texts_that_are_none(rt: HostRuntime) -> Result<(), Fail> {
+    let alloc = rt.alloc();
+    let bad = Some(JournalError::Fault(JournalFault::BadJournal));
+    for (text, from, to) in [
+        (PORT, r#""at":1"#, r#""at":2"#),
+        (PORT, r#""at":1"#, r#""at":1.5"#),
+        (PORT, r#""at":1"#, r#""at":1e0"#),
+        (PORT, r#""at":1"#, r#""at":-0"#),
+        (PORT, r#""at":1"#, r#""at":"1""#),
+        (PORT, r#""at":1"#, r#""at":18446744073709551616"#),
+        (PORT, r#""at":23"#, r#""at":25"#),
+        (PORT, r#""at":23"#, r#""at":18446744073709551615"#),
+        (PORT, "OTA5MA==", "OTA5MA="),
+        (PORT, "OTA5MA==", "OTA5MB=="),
+        (PORT, r#""after_len":28"#, r#""after_len":27"#),
+        (PORT, r#""version":1"#, r#""version":3"#),
+        (PORT, r#""version":1"#, r#""version":0"#),
+        (PORT, r#""version":1"#, r#""version":2"#),
+        (PORT, r#""version":1"#, r#""version":1,"x":0"#),
+        (PORT, r#""expr""#, r#""x":0,"expr""#),
+        (PORT, r#""old""#, r#""x":0,"old""#),
+        (PORT, r#","version":1}"#, r#","version":1"#),
+        (PORT, r#","version":1}"#, "}"),
+        (PORT, r#""pending":null,"#, ""),
+        (PORT, r#""pending":null"#, r#""pending":0"#),
+        (PORT, "{", "{,"),
+        (PORT_COUNTED, r#""count":1,"#, ""),
+        (PORT_COUNTED, r#""count":1"#, r#""count":0"#),
+        (PORT_COUNTED, r#""version":2"#, r#""version":1"#),
+        (OPEN, r#""kind":"edit""#, r#""kind":"undo""#),
+        (OPEN, r#""kind":"edit""#, r#""kind":"Edit""#),
+        (OPEN, "bjogMQo=", "bjogMgo="),
+        (OPEN, r#""new":"Mg==""#, r#""new":"MQ==""#),
+        (OPEN_UNDO, r#""kind":"undo""#, r#""kind":"redo""#),
+        (OPEN_UNDO, r#""at":1"#, r#""at":0"#),
+        (OPEN_UNDO, r#""record":null"#, r#""record":0"#),
+        (OPEN_UNDO, "bjogMgo=", "bjogMwo="),
+    ] {
+        let changed = changed(alloc, text, from, to)?;
+        assert_eq!(rt; fault(alloc, changed.as_bytes()), bad, "with {to}");
+    }
+    for text in ["", "{}", "null", "[]", "{\"at\":0}"] {
+        assert_eq!(rt; fault(alloc, text.as_bytes()), bad, "of {text}");
+    }
+    assert_eq!(rt; fault(alloc, &[b'"', 0xff, b'"']), bad);
+    Ok(())
+}
+
+#[test]
+fn texts_that_are_read(rt: HostRuntime) -> Result<(), Fail> {
+    let alloc = rt.alloc();
+    for (text, from, to) in [
+        (PORT, "{", " \r\n\t{ "),
+        (PORT, r#","version":1}"#, r#" , "version" : 1 } "#),
+        (PORT, r#""at":1"#, r#""at":7,"at":1"#),
+        (PORT, "OTA5MA==", "OTA5MQ=="),
+        (PORT, r#""expr":".port = 9090""#, r#""expr":"""#),
+    ] {
+        let changed = changed(alloc, text, from, to)?;
+        assert_eq!(rt; fault(alloc, changed.as_bytes()), None, "with {to}");
+    }
+    let other = changed(alloc, PORT, "OTA5MA==", "OTA5MQ==")?;
+    let mut journal = Journal::from_json(alloc, other.as_bytes())?;
+    let Err(error) = journal.undo(b"name: web # main\nport: 9090\n") else {
+        return Err(Fail::from(JournalFault::DoesNotStand));
+    };
+    assert_eq!(rt; error, JournalError::Fault(JournalFault::DoesNotStand));
+    Ok(())
+}
+
+#[test]
+fn faults_have_lines(rt: HostRuntime) -> Result<(), Fail> {
+    let alloc = rt.alloc();
+    for (fault, line) in [
+        (JournalFault::NothingToUndo, "J1 nothing to undo"),
+        (JournalFault::NothingToRedo, "J2 nothing to redo"),
+        (JournalFault::DoesNotStand, "J3 does not stand"),
+        (JournalFault::BadJournal, "J4 bad journal"),
+        (JournalFault::Unsettled, "J5 unsettled"),
+        (JournalFault::JournalFull, "J6 journal full"),
+        (JournalFault::BadCount, "J7 bad count"),
+    ] {
+        assert_eq!(rt; format!(in alloc; "{fault}")?.as_str(), line);
+    }
+    Ok(())
+}

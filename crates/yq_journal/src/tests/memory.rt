@@ -1,0 +1,224 @@
+//! Each growth of a call refused in turn: it answers `Memory`, leaves its
+//! arguments as they were, and with memory gives its answer.
+
+ghost use Rattle.std.specs.Prelude.{◌≢◌, Some};
+ghost use Rattle.yq_journal.specs.State.{moved_text};
+
+use super::json::{PORT, PORT_COUNTED};
+use super::{digit, edited};
+use crate::{Journal, JournalError, JournalFault, Move, redo_record};
+use std::alloc::{AllocError, Global};
+use std::test::Fail;
+
+const FIRST: &[u8] = b"name: web # main\nport: 8080\n";
+
+const EDITED: &[u8] = b"name: web # main\nport: 9090\n";
+
+/// Blocks that hold all of the process's memory, the largest first.
+fn all_memory(alloc: Global) -> Result<Vec<Vec<u8>>, AllocError> {
+    let mut held = Vec::with_capacity(alloc, 1 << 20)?;
+    let mut size = 1usize << 34;
+    for _ in 0..1u32 << 20 {
+        match Vec::with_capacity(alloc, size) {
+            Ok(block) => {
+                if held.push(block).is_err() {
+                    return Ok(held);
+                }
+            }
+            Err(_) if size <= 16 => return Ok(held),
+            Err(_) => size /= 2,
+        }
+    }
+    Ok(held)
+}
+
+#[test]
+fn undo_and_redo(rt: HostRuntime) -> Result<(), Fail> {
+    let alloc = rt.alloc();
+    let mut journal = Journal::from_json(alloc, PORT.as_bytes())?;
+    let mut held = all_memory(alloc)?;
+    let mut refused = 0u32;
+    'undo: for _ in 0..4096u32 {
+        match journal.undo(EDITED) {
+            Ok(text) => {
+                assert_eq!(rt; text.as_slice(), FIRST);
+                break 'undo;
+            }
+            Err(error) => {
+                assert_eq!(rt; error, JournalError::Memory);
+                assert_eq!(rt; journal.at(), 1);
+                refused = refused.saturating_add(1);
+                let _ = held.pop();
+            }
+        }
+    }
+    assert_eq!(rt; journal.at(), 0);
+    assert!(rt; refused > 0);
+    drop(held);
+    let mut held = all_memory(alloc)?;
+    'redo: for _ in 0..4096u32 {
+        match journal.redo(FIRST) {
+            Ok(text) => {
+                assert_eq!(rt; text.as_slice(), EDITED);
+                break 'redo;
+            }
+            Err(error) => {
+                assert_eq!(rt; error, JournalError::Memory);
+                assert_eq!(rt; journal.at(), 0);
+                let _ = held.pop();
+            }
+        }
+    }
+    assert_eq!(rt; journal.at(), 1);
+    Ok(())
+}
+
+#[test]
+fn push(rt: HostRuntime) -> Result<(), Fail> {
+    let alloc = rt.alloc();
+    let mut journal = Journal::new(alloc);
+    let mut added = digit(alloc, ".n = 2", "1", "2")?;
+    let mut held = all_memory(alloc)?;
+    let mut refused = 0u32;
+    'push: for _ in 0..4096u32 {
+        match journal.push(added) {
+            Ok(()) => break 'push,
+            Err((back, error)) => {
+                assert_eq!(rt; error, JournalError::Memory);
+                assert_eq!(rt; back.expr.as_str(), ".n = 2");
+                assert_eq!(rt; journal.len(), 0);
+                added = back;
+                refused = refused.saturating_add(1);
+                let _ = held.pop();
+            }
+        }
+    }
+    assert_eq!(rt; journal.at(), 1);
+    assert!(rt; refused > 0);
+    Ok(())
+}
+
+#[test]
+fn to_json(rt: HostRuntime) -> Result<(), Fail> {
+    let alloc = rt.alloc();
+    let journal = Journal::from_json(alloc, PORT.as_bytes())?;
+    let mut held = all_memory(alloc)?;
+    let mut refused = 0u32;
+    for _ in 0..4096u32 {
+        match journal.to_json(alloc) {
+            Ok(text) => {
+                assert_eq!(rt; text.as_slice(), PORT_COUNTED.as_bytes());
+                assert!(rt; refused > 0);
+                return Ok(());
+            }
+            Err(AllocError) => {
+                refused = refused.saturating_add(1);
+                let _ = held.pop();
+            }
+        }
+    }
+    Err(Fail::from(JournalError::Memory))
+}
+
+#[test]
+fn from_json(rt: HostRuntime) -> Result<(), Fail> {
+    let alloc = rt.alloc();
+    let mut held = all_memory(alloc)?;
+    let mut refused = 0u32;
+    for _ in 0..4096u32 {
+        match Journal::from_json(alloc, PORT.as_bytes()) {
+            Ok(journal) => {
+                assert_eq!(rt; journal.at(), 1);
+                assert!(rt; refused > 0);
+                return Ok(());
+            }
+            Err(error) => {
+                assert_eq!(rt; error, JournalError::Memory);
+                refused = refused.saturating_add(1);
+                let _ = held.pop();
+            }
+        }
+    }
+    Err(Fail::from(JournalError::Memory))
+}
+
+/// Opens a move with each growth refused in turn, and says how many were.
+fn start_in_turn(
+    alloc: Global,
+    journal: &mut Journal,
+    first: Move,
+    text: &[u8],
+) -> Result<u32, Fail>
+    requires { moved_text journal.old.records journal.old.at first text.now ≢ Some text.now }
+{
+    let mut step = first;
+    let mut held = all_memory(alloc)?;
+    let mut refused = 0u32;
+    'tries: for _ in 0..4096u32 {
+        match journal.start(step, text) {
+            Ok(()) => return Ok(refused),
+            Err((back, JournalError::Memory)) => {
+                step = back;
+                refused = refused.saturating_add(1);
+                let _ = held.pop();
+            }
+            Err((_, error)) => return Err(Fail::from(error)),
+        }
+    }
+    Err(Fail::from(JournalError::Memory))
+}
+
+#[test]
+fn start_and_settle(rt: HostRuntime) -> Result<(), Fail> {
+    let alloc = rt.alloc();
+    let mut journal = Journal::new(alloc);
+    let record = digit(alloc, ".n = 2", "1", "2")?;
+    let made = redo_record(alloc, &record, b"n: 1\n")?;
+    if made.as_slice() == b"n: 1\n".as_slice() {
+        return Err(Fail::from(JournalFault::DoesNotStand));
+    }
+    let refused = start_in_turn(alloc, &mut journal, Move::Edit(record), b"n: 1\n")?;
+    assert!(rt; refused > 0);
+    let mut held = all_memory(alloc)?;
+    let mut refused = 0u32;
+    'settle: for _ in 0..4096u32 {
+        match journal.settle(&made) {
+            Ok(()) => break 'settle,
+            Err(error) => {
+                assert_eq!(rt; error, JournalError::Memory);
+                refused = refused.saturating_add(1);
+                let _ = held.pop();
+            }
+        }
+    }
+    assert!(rt; refused > 0);
+    journal.settle(b"any")?;
+    assert_eq!(rt; journal.at(), 1);
+    Ok(())
+}
+
+#[test]
+fn squash(rt: HostRuntime) -> Result<(), Fail> {
+    let alloc = rt.alloc();
+    let mut journal = Journal::from_json(alloc, PORT.as_bytes())?;
+    let added = edited(alloc, ".port = 1", &[(23, "9090", "1")], 28, 25)?;
+    if let Err((_, error)) = journal.push(added) {
+        return Err(Fail::from(error));
+    }
+    let mut held = all_memory(alloc)?;
+    let mut refused = 0u32;
+    'squash: for _ in 0..4096u32 {
+        match journal.squash(2) {
+            Ok(()) => break 'squash,
+            Err(error) => {
+                assert_eq!(rt; error, JournalError::Memory);
+                assert_eq!(rt; journal.len(), 2);
+                refused = refused.saturating_add(1);
+                let _ = held.pop();
+            }
+        }
+    }
+    assert!(rt; refused > 0);
+    assert_eq!(rt; journal.len(), 1);
+    Ok(())
+}
