@@ -6,7 +6,7 @@ use Rattle.std.proofs.Math.Utf8.{encode}
 use Rattle.std.proofs.lemmas.Str.{IsCharBoundary-after_ascii, IsCharBoundary-before_ascii}
 use Rattle.std.specs.Str.{IsUtf8, IsCharBoundary}
 use Rattle.yq_scalar.specs.Text.{is_white, is_break, is_feed, is_return, front}
-use Rattle.yq_scalar.specs.Quoted.{Char, itself, doubled, escape as letter_escape, code, spell_char, spell_chars, char_text, chars_text, bytes_of, IsChar, AreChars, Break, feed, return_feed, spell_break, spell_end, Lines, last, line, spell_lines, AreLines, is_blank, are_blank, past_blanks, before_blanks, Gap, folded, joined, one_more, gap_text, lines_text, content, IsQuoted}
+use Rattle.yq_scalar.specs.Quoted.{Char, itself, doubled, escape as letter_escape, code, spell_char, spell_chars, char_text, chars_text, bytes_of, IsChar, AreChars, Break, line_feed, return_feed, spell_break, spell_end, Lines, last, line, spell_lines, AreLines, is_blank, are_blank, past_blanks, before_blanks, Gap, folded, joined, one_more, gap_text, lines_text, content, IsQuoted}
 use Rattle.yq_scalar.specs.ContentReading.{Before, within, after, broken, filled, content_on, content_of, quoted_content, is_pair}
 use Rattle.yq_scalar.proofs.Bools.{is_true, and_true, or_false}
 use Rattle.yq_scalar.proofs.QuotedLaws.{of_quotes}
@@ -98,12 +98,12 @@ fills_end q before w = sym (append-nil (filled before w))
 
 fills_joined : (b : Break) (u : List ℕ) → Fills 34 (92 ∷ (spell_break b ++ u)) (content_on 34 0 (after (joined 0)) [] u)
 unfolding Fills content_on
-fills_joined feed u before w = refl
+fills_joined line_feed u before w = refl
 fills_joined return_feed u before w = refl
 
 drops_break : (q : ℕ) (b : Break) (u : List ℕ) → Drops q (spell_break b ++ u) u
 unfolding Drops content_on
-drops_break q feed u before w = refl
+drops_break q line_feed u before w = refl
 drops_break q return_feed u before w = refl
 
 -- characters in a line

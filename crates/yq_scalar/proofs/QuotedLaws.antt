@@ -2,7 +2,7 @@
 use Rattle.std.proofs.Common.{◌≡◌, ℕ, ◌+◌, Bool, true, false, ◌&&◌, eqb, eq-eqb, List, [], ◌∷◌, ◌++◌, length, Some, refl, sym, ap, ◌∙◌, subst, inl, inr, ◌⊎◌, arith, append_assoc, length-append}
 use Rattle.yq_scalar.specs.Answers.{more}
 use Rattle.yq_scalar.specs.Text.{is_feed, is_return, is_marker, front}
-use Rattle.yq_scalar.specs.Quoted.{Char, itself, doubled, escape as letter_escape, code, spell_char, spell_chars, IsChar, AreChars, Break, feed, return_feed, spell_break, spell_end, Lines, last, line, spell_lines, AreLines}
+use Rattle.yq_scalar.specs.Quoted.{Char, itself, doubled, escape as letter_escape, code, spell_char, spell_chars, IsChar, AreChars, Break, line_feed, return_feed, spell_break, spell_end, Lines, last, line, spell_lines, AreLines}
 use Rattle.yq_scalar.specs.QuotedReading.{quoted_len}
 use Rattle.yq_scalar.proofs.Bools.{or_false, more_more, more_none}
 use Rattle.yq_scalar.proofs.CharLaws.{IsEscape, code_escape, letter_is_escape}
@@ -52,12 +52,12 @@ of_quotes P q (inr e) double single = subst P (sym e) single
 
 break_double : (b : Break) (t : List ℕ) → is_marker t ≡ false → quoted_len 34 0 (spell_break b ++ t) ≡ more (length (spell_break b)) (quoted_len 34 0 t)
 unfolding quoted_len
-break_double feed t h = rw h refl
+break_double line_feed t h = rw h refl
 break_double return_feed t h = rw h (sym (more_more 1 1 (quoted_len 34 0 t)))
 
 break_single : (b : Break) (t : List ℕ) → is_marker t ≡ false → quoted_len 39 0 (spell_break b ++ t) ≡ more (length (spell_break b)) (quoted_len 39 0 t)
 unfolding quoted_len
-break_single feed t h = rw h refl
+break_single line_feed t h = rw h refl
 break_single return_feed t h = rw h (sym (more_more 1 1 (quoted_len 39 0 t)))
 
 break_again : (q : ℕ) (b : Break) (t : List ℕ) → (q ≡ 34) ⊎ (q ≡ 39) → is_marker t ≡ false → quoted_len q 0 (spell_break b ++ t) ≡ more (length (spell_break b)) (quoted_len q 0 t)
@@ -65,7 +65,7 @@ break_again q b t quotes h = of_quotes (λ x. quoted_len x 0 (spell_break b ++ t
 
 slash_again : (b : Break) (t : List ℕ) → quoted_len 34 0 (92 ∷ (spell_break b ++ t)) ≡ more 1 (quoted_len 34 0 (spell_break b ++ t))
 unfolding quoted_len
-slash_again feed t = refl
+slash_again line_feed t = refl
 slash_again return_feed t = refl
 
 end_again : (q : ℕ) (escaped : Bool) (b : Break) (t : List ℕ) → (q ≡ 34) ⊎ (q ≡ 39) → (escaped ≡ true → q ≡ 34) → is_marker t ≡ false → quoted_len q 0 (spell_end escaped b ++ t) ≡ more (length (spell_end escaped b)) (quoted_len q 0 t)

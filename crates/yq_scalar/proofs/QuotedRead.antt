@@ -6,7 +6,7 @@ use Rattle.std.proofs.lemmas.Str.{IsCharBoundary-after_ascii}
 use Rattle.std.specs.Str.{IsUtf8, IsCharBoundary}
 use Rattle.yq_scalar.specs.Answers.{more}
 use Rattle.yq_scalar.specs.Text.{is_break, is_feed, is_return, is_marker, front}
-use Rattle.yq_scalar.specs.Quoted.{itself, doubled, IsChar, Break, feed, return_feed, spell_break, Lines, last, spell_lines, AreLines, IsQuoted, IsQuotedText}
+use Rattle.yq_scalar.specs.Quoted.{itself, doubled, IsChar, Break, line_feed, return_feed, spell_break, Lines, last, spell_lines, AreLines, IsQuoted, IsQuotedText}
 use Rattle.yq_scalar.specs.QuotedReading.{escape, behind, closes, quoted_len, scalar_len, cut_at, quoted_at, is_quote}
 use Rattle.yq_scalar.proofs.Bools.{is_true, and_true, or_false, guard_then, bind_some, more_some}
 use Rattle.yq_scalar.proofs.EscapeLaws.{length_item, length_of_some}
@@ -75,7 +75,7 @@ record Broken (q : ℕ) (t : List ℕ) (n : ℕ) : Type 0 where
 by_feed : (q n : ℕ) (t : List ℕ) → (q ≡ 34) ⊎ (q ≡ 39) → quoted_len q 0 (10 ∷ t) ≡ Some n → Broken q (10 ∷ t) n
 by_feed q n t quotes h =
     let x = feed_back q n t quotes h in
-    record { kind = feed; rest = t; cut = refl; begins = x.0; m = x.1.m; read = x.1.rest; size = sym x.1.size }
+    record { kind = line_feed; rest = t; cut = refl; begins = x.0; m = x.1.m; read = x.1.rest; size = sym x.1.size }
 
 by_return : (q n : ℕ) (t : List ℕ) → (q ≡ 34) ⊎ (q ≡ 39) → quoted_len q 0 (13 ∷ 10 ∷ t) ≡ Some n → Broken q (13 ∷ 10 ∷ t) n
 by_return q n t quotes h =
@@ -164,7 +164,7 @@ read_joined n bs st brk reads =
     read_line 34 x.m n true x.kind x.rest (92 ∷ bs) (ap (λ l. 92 ∷ l) x.cut) (λ _. refl) x.begins (reads x.m x.rest less x.read) (omega (arith, st.size, long, x.size))
 
 break_some : (b : Break) → 0 < length (spell_break b)
-break_some feed = omega arith
+break_some line_feed = omega arith
 break_some return_feed = omega arith
 
 no_way : {A : Type 0} → false ≡ true → A

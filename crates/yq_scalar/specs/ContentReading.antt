@@ -1,6 +1,6 @@
 -- Reading (a reader may skip this: the grammar is what is believed, and found and only tie the two).
 use Rattle.std.specs.Prelude.{ℕ, suc, zero, ◌-◌, Bool, true, false, ◌||◌, ◌&&◌, ◌==◌, not, Option, Some, None, List, [], ◌∷◌, ◌++◌, length, take, drop, replicate, if◌then◌else◌, slice_index, encode_utf8}
-use Rattle.yq_scalar.specs.Text.{is_white, is_feed, is_break, is_space, front}
+use Rattle.yq_scalar.specs.Text.{feed, is_white, is_feed, is_break, is_space, front}
 use Rattle.yq_scalar.specs.Quoted.{Gap, folded, joined, one_more, gap_text}
 use Rattle.yq_scalar.specs.QuotedReading.{escape}
 
@@ -91,7 +91,7 @@ spaced (suc k) s = gap_text (folded k)
 
 -- what white space and breaks stand for, behind an escaped break or not (own)
 abbrev pub space_text : Bool → List ℕ → List ℕ
-space_text true s = replicate (breaks s) 10
+space_text true s = replicate (breaks s) feed
 space_text false s = spaced (breaks s) s
 
 -- what stands before a text that follows an escaped break, or not (own)

@@ -1,7 +1,7 @@
 -- Quoted scalars: how they are written, and what they stand for (YAML 1.2.2, sections 5.7, 6.5, 7.3.1 and 7.3.2).
 use Rattle.std.specs.Prelude.{◌≡◌, ℕ, suc, zero, Bool, true, false, ◌==◌, ◌⊎◌, Option, Some, None, List, [], ◌∷◌, ◌++◌, length, replicate, if◌then◌else◌, nat_lt, nat_le, ◌||◌, ◌&&◌, encode_utf8}
 use Rattle.std.specs.Str.Parse.{AllDigits, digits_value}
-use Rattle.yq_scalar.specs.Text.{is_white, is_break, is_marker, front}
+use Rattle.yq_scalar.specs.Text.{feed, is_white, is_break, is_marker, front}
 
 -- each letter that may follow a backslash, and the character that the two stand for (5.7)
 abbrev pub letters : List (ℕ × ℕ)
@@ -72,13 +72,13 @@ AreChars quote (c ∷ cs) rest = IsChar quote c (spell_chars cs ++ rest) × AreC
 
 -- a break: LF or CR LF; a backslash before it joins the lines (5.4, 7.3.1)
 pub data Break : Type 0 where
-  feed : Break
+  line_feed : Break
   return_feed : Break
 
 -- how it is written (5.4)
 abbrev pub spell_break : Break → List ℕ
-spell_break feed = 10 ∷ []
-spell_break return_feed = 13 ∷ 10 ∷ []
+spell_break line_feed = feed ∷ []
+spell_break return_feed = 13 ∷ feed ∷ []
 
 -- the lines of a scalar: the last one, or one with its break and the lines behind it; `true` says that a backslash stands before the
 -- break (6.5, 7.3.1)
@@ -138,8 +138,8 @@ one_more (joined k) = joined (suc k)
 -- A break alone is a space; blank lines are an LF each; a break behind a backslash is nothing (6.5, 7.3.1).
 abbrev pub gap_text : Gap → List ℕ
 gap_text (folded zero) = 32 ∷ []
-gap_text (folded (suc k)) = replicate (suc k) 10
-gap_text (joined k) = replicate k 10
+gap_text (folded (suc k)) = replicate (suc k) feed
+gap_text (joined k) = replicate k feed
 
 -- What lines behind a gap stand for: white space round breaks is left out, but for that before a backslash; a line of white space alone
 -- that isn't the last one is blank (6.5, 7.3.1).

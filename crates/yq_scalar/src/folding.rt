@@ -3,7 +3,7 @@ ghost use Rattle.std.specs.Prelude.{◌≡◌, ◌++◌, ◌+◌, ◌<◌, ◌�
 ghost use Rattle.yq_scalar.specs.ContentReading as spec;
 ghost use Rattle.yq_scalar.specs.PlainContent.{IsPlainLines};
 ghost use Rattle.yq_scalar.specs.Quoted.{Lines, IsQuoted, IsQuotedText, content};
-ghost use Rattle.yq_scalar.specs.Text.{upto, cut, is_space};
+ghost use Rattle.yq_scalar.specs.Text.{upto, cut, is_space, feed};
 
 use crate::quoted::escape;
 use crate::text::{is_break, is_space};
@@ -45,7 +45,7 @@ fn breaks(text: &[u8]) -> usize
 }
 
 fn push_breaks(out: &mut String, count: usize) -> Result<(), AllocError>
-    ensures { OnOk result (string_bytes out.new ≡ string_bytes out.old ++ replicate count 10) }
+    ensures { OnOk result (string_bytes out.new ≡ string_bytes out.old ++ replicate count feed) }
 {
     for _ in 0..count {
         out.push('\n')?;
