@@ -19,3 +19,6 @@ pub mod SameLaws
 pub mod ExchangeLaws
 pub mod SpotLaws
 pub mod NodeLaws
+pub mod ExtentLaws
+pub mod LengthLaws
+pub mod PlacedLaws

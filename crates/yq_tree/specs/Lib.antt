@@ -14,3 +14,4 @@ pub mod Reading
 pub mod RowPaths
 pub mod Answers
 pub mod Nodes
+pub mod Extents

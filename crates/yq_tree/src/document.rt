@@ -1,7 +1,8 @@
 //! Documents, as their rows.
-ghost use Rattle.std.specs.Prelude.{◌≡◌, length, is_some, IfOk};
+ghost use Rattle.std.specs.Prelude.{◌≡◌, ◌≤◌, length, is_some, IfOk};
 ghost use Rattle.std.specs.List.{list_any};
-ghost use Rattle.yq_rows.specs.Rows.{Cut};
+ghost use Rattle.yq_scalar.specs.Characters.{text_limit};
+ghost use Rattle.yq_rows.specs.Rows.{Cut, cut_text};
 ghost use Rattle.yq_tree.specs.Ends.{AreEndsFrom};
 ghost use Rattle.yq_tree.specs.Lines.{lines_of};
 ghost use Rattle.yq_tree.specs.Reading as spec;
@@ -30,7 +31,7 @@ impl<'t> Model for Documents<'t> {
 
     ghost view = { λ d. d.rows };
 
-    ghost invariant = { λ d. (length d.ends.items ≡ length d.rows.rows) × AreEndsFrom 0 (lines_of d.rows.rows) d.ends.items };
+    ghost invariant = { λ d. (length d.ends.items ≡ length d.rows.rows) × AreEndsFrom 0 (lines_of d.rows.rows) d.ends.items × (length (cut_text d.rows) ≤ text_limit) };
 }
 
 /// The first row whose key is a plain `<<`.

@@ -4,6 +4,7 @@
 mod document;
 mod ends;
 mod entries;
+mod extent;
 mod fault;
 mod laws;
 mod node;

@@ -1,8 +1,10 @@
 //! The nodes of documents.
-ghost use Rattle.std.specs.Prelude.{◌≡◌, ◌<◌, length, not, option_map, slice_get, IfSome, Some};
+ghost use Rattle.std.specs.Prelude.{◌≡◌, ◌<◌, List, [], ◌∷◌, length, not, option_map, option_and_then, slice_get, IfSome, IsTrue, Some};
+ghost use Rattle.yq_scalar.specs.Paths as steps;
 ghost use Rattle.yq_scalar.specs.Paths.{To, child_at};
 ghost use Rattle.yq_scalar.specs.Tree.{children_of};
 ghost use Rattle.yq_tree.specs.Ends.{part, is_end, floor_of, AreEndsFrom};
+ghost use Rattle.yq_tree.specs.Extents.{IsPlaced, content_place, place_of};
 ghost use Rattle.yq_tree.specs.Lines.{lines_of};
 ghost use Rattle.yq_tree.specs.Nodes as spec;
 ghost use Rattle.yq_tree.specs.Places.{find_row};
@@ -86,7 +88,8 @@ impl<'d> Node<'d> {
 
     /// Whether rows are under it.
     pub(crate) fn has_entries(&self) -> bool
-        ensures { result ≡ not (is_end (spec.under_of self.now)) }
+        ensures some { IsTrue result → self.now.under < length self.now.documents.now.rows }
+        ensures test { result ≡ not (is_end (spec.under_of self.now)) }
     {
         let documents = self.documents;
         is_deeper(&documents.rows, self.under, self.column())
@@ -135,6 +138,15 @@ impl<'d> Node<'d> {
     pub fn entry(&self, key: &str) -> Option<Node<'d>>
         ensures { option_map spec.node_of result ≡ child_at (To key.now) (children_of (spec.node_of self.now)) }
     {
+        self.value_of(key)
+    }
+
+    /// The value of the entry of a key, and where it stands.
+    fn value_of(&self, key: &str) -> Option<Node<'d>>
+        ensures node { option_map spec.node_of result ≡ child_at (To key.now) (children_of (spec.node_of self.now)) }
+        ensures place { (steps : List steps.Step) → option_and_then (λ n. place_of n steps) result ≡ place_of self.now (To key.now ∷ steps) }
+        ensures there { IfSome result IsPlaced }
+    {
         if self.head().is_some() {
             return None;
         }
@@ -153,12 +165,14 @@ impl<'d> Node<'d> {
         })
     }
 
-    /// The node to which a step leads.
+    /// The node to which a step leads, and where it stands.
     fn child(&self, step: &Step) -> Option<Node<'d>>
-        ensures { option_map spec.node_of result ≡ child_at (step_of step.now) (children_of (spec.node_of self.now)) }
+        ensures node { option_map spec.node_of result ≡ child_at (step_of step.now) (children_of (spec.node_of self.now)) }
+        ensures place { (steps : List steps.Step) → option_and_then (λ n. place_of n steps) result ≡ place_of self.now (step_of step.now ∷ steps) }
+        ensures there { IfSome result IsPlaced }
     {
         match step {
-            Step::Key(key) => self.entry(key),
+            Step::Key(key) => self.value_of(key),
             Step::Index(_) => None,
         }
     }
@@ -188,10 +202,23 @@ impl<'t> Documents<'t> {
     pub fn locate(&self, path: &Path) -> Option<Node<'_>>
         ensures { option_map spec.node_of result ≡ spec.located path.now self.now }
     {
+        self.node_at(path)
+    }
+
+    /// The node at a path, and where it stands.
+    pub(crate) fn node_at(&self, path: &Path) -> Option<Node<'_>>
+        ensures node { option_map spec.node_of result ≡ spec.located path.now self.now }
+        ensures place { option_and_then (λ n. place_of n []) result ≡ content_place path.now self.now }
+        ensures there { IfSome result IsPlaced }
+    {
         if path.doc != 0 {
             return None;
         }
-        let mut node = self.root(0);
+        let mut node = Node {
+            documents: self,
+            row: None,
+            under: 0,
+        };
         'steps: for step in &path.steps {
             node = node.child(step)?;
         }

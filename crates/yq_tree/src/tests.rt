@@ -1,6 +1,6 @@
 //! Texts that are read, and texts that are refused.
 
-use crate::{Documents, NodeKind, Path, Step, read};
+use crate::{Documents, NodeKind, Part, Path, Step, read};
 use std::alloc::{AllocError, Global};
 use std::test::Fail;
 use yq_scalar::{FaultKind, Kind, ReadError};
@@ -139,5 +139,31 @@ fn nests_at_most_64(rt: HostRuntime) -> Result<(), Fail> {
         refusal(read(rt.alloc(), text.as_bytes())),
         Some((FaultKind::TooDeep, 65))
     );
+    Ok(())
+}
+
+#[test]
+fn tells_extents(rt: HostRuntime) -> Result<(), Fail> {
+    let alloc = rt.alloc();
+    let text = "# a\na:\n  b: 1 # x\n\n  # c\n  d : x y\r\ne:\nf:\n  g: 2 # z";
+    let documents = read(alloc, text.as_bytes())?;
+    let rows: [(&[&str], &str); 6] = [
+        (&[], "a:\n  b: 1 # x\n\n  # c\n  d : x y\r\ne:\nf:\n  g: 2 # z"),
+        (&["a"], "b: 1 # x\n\n  # c\n  d : x y"),
+        (&["a", "b"], "1"),
+        (&["a", "d"], "x y"),
+        (&["f"], "g: 2 # z"),
+        (&["f", "g"], "2"),
+    ];
+    for (names, content) in rows {
+        let Some(span) = documents.extent(&keys(alloc, 0, names)?, Part::Content) else {
+            return Err(Fail::new("no place"));
+        };
+        assert_eq!(rt; text.get(span.start..span.end), Some(content));
+    }
+    let nowhere: [(usize, &[&str]); 4] = [(0, &["e"]), (0, &["x"]), (0, &["e", "b"]), (1, &[])];
+    for (doc, names) in nowhere {
+        assert!(rt; documents.extent(&keys(alloc, doc, names)?, Part::Content).is_none());
+    }
     Ok(())
 }
