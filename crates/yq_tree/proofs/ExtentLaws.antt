@@ -1,5 +1,5 @@
 -- The place of a node's content, step by step.
-use Rattle.std.proofs.Common.{◌≡◌, ℕ, zero, suc, ◌+◌, List, [], ◌∷◌, length, Option, Some, None, option_map, option_and_then, Bool, true, false, cond, refl, sym, ap, ◌∙◌}
+use Rattle.std.proofs.Common.{◌≡◌, ℕ, zero, suc, ◌+◌, List, [], ◌∷◌, Option, Some, None, option_map, option_and_then, Bool, true, false, cond, refl, sym, ap, ◌∙◌}
 use Rattle.std.specs.List.{slice_get}
 use Rattle.yq_scalar.specs.Paths.{Step, Nth, is_item}
 use Rattle.yq_scalar.specs.Text.{is_empty}
@@ -8,8 +8,8 @@ use Rattle.yq_tree.specs.Ends.{part, floor_of}
 use Rattle.yq_tree.specs.Extents.{own_place, without_head, entry_at, entry_place, place_from}
 use Rattle.yq_tree.specs.Lines.{plain_node, line_of, lines_of}
 use Rattle.yq_tree.specs.Nodes.{head_of, lines_under, spot, seen}
-use Rattle.yq_tree.specs.Outline.{Line, level, Outline, end, row, key_of}
-use Rattle.yq_tree.specs.Places.{here, Found, next_to, find_row}
+use Rattle.yq_tree.specs.Outline.{level, Outline, end, row, key_of}
+use Rattle.yq_tree.specs.Places.{here, next_to, find_row}
 use Rattle.yq_tree.proofs.EndsLaws.{line_at, level_is}
 use Rattle.yq_tree.proofs.KeyLines.{AreKeyLines}
 use Rattle.yq_tree.proofs.NodeLaws.{part_keys}

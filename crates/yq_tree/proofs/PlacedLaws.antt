@@ -1,8 +1,6 @@
 -- The place of a node that stands in a row.
-use Rattle.std.proofs.Common.{◌≡◌, ℕ, zero, suc, ◌+◌, ◌-◌, ◌<◌, ◌≤◌, List, [], length, get_or, Option, Some, None, Bool, true, false, not, cond, refl, sym, ap, ◌∙◌, subst, arith}
+use Rattle.std.proofs.Common.{◌≡◌, ℕ, zero, suc, ◌+◌, ◌-◌, ◌<◌, ◌≤◌, List, length, get_or, Option, Some, None, Bool, true, false, not, cond, refl, sym, ap, ◌∙◌, arith}
 use Rattle.std.proofs.lemmas.Option.{slice_get_within}
-use Rattle.std.specs.List.{slice_get}
-use Rattle.yq_scalar.specs.Characters.{text_limit}
 use Rattle.yq_scalar.specs.Text.{is_empty}
 use Rattle.yq_rows.specs.Exchange.{before_head}
 use Rattle.yq_rows.specs.Rows.{Row, Cut, cut_text}

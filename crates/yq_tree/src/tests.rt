@@ -148,7 +148,10 @@ fn tells_extents(rt: HostRuntime) -> Result<(), Fail> {
     let text = "# a\na:\n  b: 1 # x\n\n  # c\n  d : x y\r\ne:\nf:\n  g: 2 # z";
     let documents = read(alloc, text.as_bytes())?;
     let rows: [(&[&str], &str); 6] = [
-        (&[], "a:\n  b: 1 # x\n\n  # c\n  d : x y\r\ne:\nf:\n  g: 2 # z"),
+        (
+            &[],
+            "a:\n  b: 1 # x\n\n  # c\n  d : x y\r\ne:\nf:\n  g: 2 # z",
+        ),
         (&["a"], "b: 1 # x\n\n  # c\n  d : x y"),
         (&["a", "b"], "1"),
         (&["a", "d"], "x y"),
@@ -163,7 +166,11 @@ fn tells_extents(rt: HostRuntime) -> Result<(), Fail> {
     }
     let nowhere: [(usize, &[&str]); 4] = [(0, &["e"]), (0, &["x"]), (0, &["e", "b"]), (1, &[])];
     for (doc, names) in nowhere {
-        assert!(rt; documents.extent(&keys(alloc, doc, names)?, Part::Content).is_none());
+        assert!(rt;
+            documents
+                .extent(&keys(alloc, doc, names)?, Part::Content)
+                .is_none()
+        );
     }
     Ok(())
 }

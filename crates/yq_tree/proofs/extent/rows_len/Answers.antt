@@ -1,4 +1,4 @@
-use Rattle.std.proofs.Common.{◌∙◌, sym, ap, arith}
+use Rattle.std.proofs.Common.{arith}
 use Rattle.yq_rows.specs.View.{view}
 use Rattle.yq_tree.proofs.LengthLaws.{before_more}
 use Rattle.yq_tree.proofs.extent.rows_len.Goals as goal

@@ -1,4 +1,4 @@
-use Rattle.std.proofs.Common.{◌≡◌, ◌+◌, ◌∷◌, Some, option_and_then, refl, sym, ap, ◌∙◌, drop, map}
+use Rattle.std.proofs.Common.{◌≡◌, ◌+◌, ◌∷◌, option_and_then, refl, sym, ap, ◌∙◌, drop, map}
 use Rattle.std.proofs.lemmas.List.{drop_more}
 use Rattle.yq_scalar.specs.Paths.{node_at}
 use Rattle.yq_tree.specs.Extents.{place_of}

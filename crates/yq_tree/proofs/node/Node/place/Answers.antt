@@ -1,8 +1,7 @@
-use Rattle.std.proofs.Common.{◌≡◌, ◌-◌, Some, option_map, length, sym, ap, ◌∙◌, subst, arith}
+use Rattle.std.proofs.Common.{◌≡◌, ◌-◌, option_map, length, ap, arith}
 use Rattle.yq_rows.specs.Exchange.{before_head}
 use Rattle.yq_rows.specs.Rows.{cut_text}
 use Rattle.yq_rows.specs.View.{view}
-use Rattle.yq_tree.specs.Extents.{IsEntryOf}
 use Rattle.yq_tree.proofs.PlacedLaws.{in_row}
 use Rattle.yq_tree.proofs.node.Node.place.Goals as goal
 

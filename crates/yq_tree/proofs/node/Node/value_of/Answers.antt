@@ -21,7 +21,7 @@ returns-in_err-at-clause-place c =
     let is : c.documents.inside.rows ≡ c.args.self.now.documents.now = c.documents.view_is in
     let found = rw c.column.ensures at c.in_err-at.ensures.found in
     λ steps. rw c.from_residual.ensures (no_place c.args.self.now.documents.now (option_map view c.args.self.now.row) c.args.self.now.under (To c.args.key.now) steps
-        (ap (λ d. spot c.args.self.now.under (find_row (To c.args.key.now) (lines_under d (option_map view c.args.self.now.row) c.args.self.now.under))) (sym is) ∙ found))
+    (ap (λ d. spot c.args.self.now.under (find_row (To c.args.key.now) (lines_under d (option_map view c.args.self.now.row) c.args.self.now.under))) (sym is) ∙ found))
 
 pub returns-clause-node : goal.returns-clause-node
 returns-clause-node c =
@@ -36,5 +36,5 @@ returns-clause-place c =
     let is : c.documents.inside.rows ≡ c.args.self.now.documents.now = c.documents.view_is in
     let found = rw c.column.ensures at c.in_ok-at.ensures.found in
     λ steps. place_found c.args.self.now.documents.now (option_map view c.args.self.now.row) c.args.self.now.under (To c.args.key.now) steps c.in_ok-at.at (view c.row.result) (not_there _ _ _ c.if-is_some.ensures c.head.ensures)
-        (ap (λ d. slice_get d.rows c.in_ok-at.at) (sym is) ∙ c.row.ensures)
-        (ap (λ d. spot c.args.self.now.under (find_row (To c.args.key.now) (lines_under d (option_map view c.args.self.now.row) c.args.self.now.under))) (sym is) ∙ (found ∙ ap (λ d. seen (lines_of d.rows) (Some c.in_ok-at.at)) is))
+    (ap (λ d. slice_get d.rows c.in_ok-at.at) (sym is) ∙ c.row.ensures)
+    (ap (λ d. spot c.args.self.now.under (find_row (To c.args.key.now) (lines_under d (option_map view c.args.self.now.row) c.args.self.now.under))) (sym is) ∙ (found ∙ ap (λ d. seen (lines_of d.rows) (Some c.in_ok-at.at)) is))
