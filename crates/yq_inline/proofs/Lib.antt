@@ -1,0 +1,7 @@
+pub mod Binds
+pub mod GapLaws
+pub mod PieceLaws
+pub mod NodeTakes
+pub mod NodeAgain
+pub mod NodeLaws
+pub mod Bounds

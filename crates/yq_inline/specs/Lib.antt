@@ -1,0 +1,12 @@
+pub use Rattle.yq_scalar.specs.Answers
+pub use Rattle.yq_scalar.specs.Plain
+pub use Rattle.yq_scalar.specs.Piece
+pub use Rattle.yq_scalar.specs.Quoted
+pub use Rattle.yq_scalar.specs.Scalar
+pub use Rattle.yq_scalar.specs.Text
+pub mod Gaps
+pub mod Scalars
+pub mod Nodes
+pub mod Reading
+pub mod Places
+pub mod View

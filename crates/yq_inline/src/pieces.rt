@@ -1,0 +1,215 @@
+//! The pieces of inline nodes, read one behind the other.
+ghost use Rattle.std.specs.Prelude.{◌≡◌, ◌<◌, ◌≤◌, IfOk, MatchOption, drop, false, length, true};
+ghost use Rattle.yq_scalar.specs.Answers.{Reads};
+ghost use Rattle.yq_scalar.specs.Quoted.{IsQuotedText};
+ghost use Rattle.yq_inline.specs.Nodes as nodes;
+ghost use Rattle.yq_inline.specs.Places as places;
+ghost use Rattle.yq_inline.specs.Reading as spec;
+ghost use Rattle.yq_inline.specs.Scalars as scalars;
+ghost use Rattle.std.specs.List.{prefix_len};
+
+use crate::fault::fault;
+use crate::gap::read_gap;
+use yq_scalar::plain::{begins_plain, holds_break, is_flow_indicator, split_plain};
+use yq_scalar::quoted::split_quoted;
+use yq_scalar::text::{is_white, separates, split_white};
+use yq_scalar::{FaultKind, ReadFault};
+
+/// Whether this byte is in front.
+pub(crate) fn first_is(k: u8, text: &[u8]) -> bool
+    ensures { result ≡ nodes.first_is k text.now }
+{
+    match text {
+        [] => false,
+        [first, ..] => *first == k,
+    }
+}
+
+/// What follows this ASCII byte in front.
+pub(crate) fn strip(k: u8, text: &str) -> Option<&str>
+    requires { k < 128 }
+    ensures { MatchOption result (nodes.first_is k text.now ≡ false) (λ r. (nodes.first_is k text.now ≡ true) × (r.now ≡ drop 1 text.now) × (length r.now < length text.now)) }
+{
+    if first_is(k, text.as_bytes()) {
+        Some(text.split_at(1).1)
+    } else {
+        None
+    }
+}
+
+/// Whether a name holds this byte.
+fn in_name(b: u8) -> bool
+    ensures { result ≡ nodes.in_name b }
+{
+    !(is_white(b) || matches!(b, b'\n' | b'\r') || is_flow_indicator(b))
+}
+
+fn name_len(text: &[u8]) -> usize
+    ensures { result ≡ prefix_len nodes.in_name text.now }
+{
+    text.iter().take_while(|b| in_name(**b)).count()
+}
+
+/// The name of an anchor or alias in front, and what follows it.
+#[tactic(auto, unfolding(crate::specs::Reading::name_at), using(yq_scalar::proofs::Upto::upto_unless, crate::proofs::Bounds::name_none))]
+pub(crate) fn read_name<'t>(whole: &str, text: &'t str) -> Result<(&'t str, &'t str), ReadFault>
+    ensures read { Reads (λ x. (x.0.now, x.1.now)) result (spec.name_at text.now) }
+    ensures shorter { IfOk result (λ x. length x.1.now ≤ length text.now) }
+{
+    let n = name_len(text.as_bytes());
+    if n == 0 {
+        return Err(fault(FaultKind::BadScalar, whole, text));
+    }
+    Ok(text.split_at(n))
+}
+
+/// Whether a quote is in front.
+pub(crate) fn is_quoted(text: &[u8]) -> bool
+    ensures { result ≡ scalars.is_quoted text.now }
+{
+    matches!(text, [b'"' | b'\'', ..])
+}
+
+/// Whether a scalar may begin in front.
+fn begins_scalar(flow: bool, text: &[u8]) -> bool
+    ensures { result ≡ scalars.begins_scalar flow text.now }
+{
+    is_quoted(text) || begins_plain(flow, text)
+}
+
+/// Whether an alias, a scalar or a collection may begin in front.
+pub(crate) fn begins_content(flow: bool, text: &[u8]) -> bool
+    ensures { result ≡ nodes.begins_content flow text.now }
+{
+    first_is(b'*', text) || first_is(b'[', text) || first_is(b'{', text) || begins_scalar(flow, text)
+}
+
+/// Why no scalar begins with this text.
+fn no_scalar(text: &[u8]) -> FaultKind {
+    match text {
+        [b'!', ..] => FaultKind::Tag,
+        [b'?', ..] => FaultKind::ExplicitKey,
+        _ => FaultKind::BadScalar,
+    }
+}
+
+/// The quoted scalar in front, and what follows it; without a number of spaces it has one line.
+fn read_quoted<'t>(spaces: Option<usize>, whole: &str, text: &'t str) -> Result<(&'t str, &'t str), ReadFault>
+    ensures read { Reads (λ x. (x.0.now, x.1.now)) result (spec.in_quotes_at spaces text.now) }
+    ensures quoted { IfOk result (λ x. IsQuotedText x.0.now) }
+{
+    match split_quoted(text) {
+        Ok((piece, rest)) if spaces.is_some() || !holds_break(piece) => Ok((piece, rest)),
+        Ok(_) => Err(fault(FaultKind::BadFlow, whole, text)),
+        Err(kind) => Err(fault(kind, whole, text)),
+    }
+}
+
+/// The scalar in front, and what follows it. A further line of it begins with so many spaces at least;
+/// without a number it has one line.
+#[tactic(auto, unfolding(crate::specs::Reading::scalar_at, yq_scalar::specs::Plain::plain_at), using(crate::proofs::Bounds::plain_unquoted))]
+pub(crate) fn read_scalar<'t>(
+    flow: bool,
+    spaces: Option<usize>,
+    whole: &str,
+    text: &'t str,
+) -> Result<(&'t str, &'t str), ReadFault>
+    ensures read { Reads (λ x. (x.0.now, x.1.now)) result (spec.scalar_at flow spaces text.now) }
+    ensures quoted { IfOk result (λ x. scalars.is_quoted x.0.now ≡ true → IsQuotedText x.0.now) }
+    ensures shorter { IfOk result (λ x. length x.1.now ≤ length text.now) }
+{
+    if is_quoted(text.as_bytes()) {
+        return read_quoted(spaces, whole, text);
+    }
+    if !begins_plain(flow, text.as_bytes()) {
+        return Err(fault(no_scalar(text.as_bytes()), whole, text));
+    }
+    Ok(split_plain(flow, spaces, text))
+}
+
+/// What stands between an anchor and its node, and what follows it.
+fn read_apart<'t>(flow: bool, whole: &str, text: &'t str) -> Result<(&'t str, &'t str), ReadFault>
+    ensures read { Reads (λ x. (x.0.now, x.1.now)) result (spec.apart_at flow text.now) }
+    ensures shorter { IfOk result (λ x. length x.1.now ≤ length text.now) }
+{
+    if flow { read_gap(whole, text) } else { Ok(split_white(text)) }
+}
+
+/// The same, if a content begins behind it.
+#[tactic(auto, unfolding(crate::specs::Reading::lead_at))]
+pub(crate) fn read_lead<'t>(flow: bool, whole: &str, text: &'t str) -> Result<(&'t str, &'t str), ReadFault>
+    ensures read { Reads (λ x. (x.0.now, x.1.now)) result (spec.lead_at flow (nodes.begins_content flow) text.now) }
+    ensures shorter { IfOk result (λ x. length x.1.now ≤ length text.now) }
+{
+    let (gap, rest) = read_apart(flow, whole, text)?;
+    if begins_content(flow, rest.as_bytes()) {
+        Ok((gap, rest))
+    } else {
+        Ok(("", text))
+    }
+}
+
+/// The gap behind a `:`, if a node begins behind it.
+#[tactic(auto, unfolding(crate::specs::Reading::lead_at))]
+fn read_value_lead<'t>(whole: &str, text: &'t str) -> Result<(&'t str, &'t str), ReadFault>
+    ensures read { Reads (λ x. (x.0.now, x.1.now)) result (spec.lead_at true (nodes.begins_node true) text.now) }
+    ensures shorter { IfOk result (λ x. length x.1.now ≤ length text.now) }
+{
+    let (gap, rest) = read_gap(whole, text)?;
+    if first_is(b'&', rest.as_bytes()) || begins_content(true, rest.as_bytes()) {
+        Ok((gap, rest))
+    } else {
+        Ok(("", text))
+    }
+}
+
+/// Whether a key may end before a `:` that this follows.
+fn ends_key(piece: &str, text: &[u8]) -> bool
+    ensures { result ≡ nodes.ends_key piece.now text.now }
+{
+    is_quoted(piece.as_bytes()) || separates(text) || first_is(b',', text) || first_is(b'}', text)
+}
+
+/// What follows the `:` of a key.
+#[tactic(auto, unfolding(crate::specs::Reading::colon_at))]
+fn read_colon<'t>(piece: &str, whole: &str, text: &'t str) -> Result<&'t str, ReadFault>
+    ensures read { Reads (λ x. x.now) result (spec.colon_at piece.now text.now) }
+    ensures shorter { IfOk result (λ x. length x.now < length text.now) }
+{
+    match strip(b':', text) {
+        Some(rest) if ends_key(piece, rest.as_bytes()) => Ok(rest),
+        _ => Err(fault(FaultKind::BadFlow, whole, text)),
+    }
+}
+
+/// What follows an item and the comma behind it, if there is one.
+#[tactic(auto, unfolding(crate::specs::Reading::sep_at, crate::specs::Reading::sep_behind))]
+pub(crate) fn read_sep<'t>(close: u8, whole: &str, text: &'t str) -> Result<&'t str, ReadFault>
+    ensures read { Reads (λ x. x.now) result (places.past_sep close text.now) }
+    ensures shorter { IfOk result (λ x. length x.now ≤ length text.now) }
+{
+    let (_, rest) = read_gap(whole, text)?;
+    if let Some(behind) = strip(b',', rest) {
+        let (_, rest) = read_gap(whole, behind)?;
+        return Ok(rest);
+    }
+    if first_is(close, rest.as_bytes()) {
+        Ok(rest)
+    } else {
+        Err(fault(FaultKind::BadFlow, whole, rest))
+    }
+}
+
+/// A key with what quotes it, and what follows its `:` and the gap behind it.
+#[tactic(auto, unfolding(crate::specs::Reading::key_at))]
+pub(crate) fn read_key<'t>(whole: &str, text: &'t str) -> Result<(&'t str, &'t str), ReadFault>
+    ensures read { Reads (λ x. (x.0.now, x.1.now)) result (places.seen_key text.now) }
+    ensures quoted { IfOk result (λ x. scalars.is_quoted x.0.now ≡ true → IsQuotedText x.0.now) }
+    ensures shorter { IfOk result (λ x. length x.1.now < length text.now) }
+{
+    let (key, rest) = read_scalar(true, None, whole, text)?;
+    let (_, rest) = read_gap(whole, rest)?;
+    let rest = read_colon(key, whole, rest)?;
+    let (_, rest) = read_value_lead(whole, rest)?;
+    Ok((key, rest))
+}
