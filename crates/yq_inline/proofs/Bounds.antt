@@ -1,13 +1,11 @@
 -- Where a text may be cut.
-use Rattle.std.proofs.Common.{◌≡◌, ◌⊎◌, ℕ, zero, suc, ◌+◌, ◌<◌, Bool, true, false, cond, not, ◌||◌, ◌&&◌, eqb, List, [], ◌∷◌, length, take, drop, get_or, refl, sym, ap, ◌∙◌, subst, inl, inr, ⊎_elim, arith, eqb-true}
+use Rattle.std.proofs.Common.{◌≡◌, ◌⊎◌, ℕ, zero, suc, ◌+◌, ◌<◌, true, false, cond, not, ◌||◌, eqb, List, [], ◌∷◌, length, take, get_or, refl, sym, ap, ◌∙◌, subst, inl, inr, ⊎_elim, arith, eqb-true}
 use Rattle.std.proofs.lemmas.Bool.{false≢true, cond_both, or_cases, cases_lt, false_from_ne_true}
 use Rattle.std.proofs.lemmas.Str.{IsCharBoundary-start, IsCharBoundary-end, IsCharBoundary-after_ascii}
 use Rattle.std.specs.List.{prefix_len}
 use Rattle.std.specs.Str.{IsUtf8, IsCharBoundary}
-use Rattle.yq_scalar.specs.Plain.{ends_plain, is_flow_indicator}
 use Rattle.yq_scalar.specs.Quoted.{IsQuotedText}
-use Rattle.yq_scalar.specs.QuotedReading.{is_quote}
-use Rattle.yq_scalar.specs.Text.{upto, unless, is_space, is_white, is_feed, is_return}
+use Rattle.yq_scalar.specs.Text.{unless, is_space}
 use Rattle.yq_scalar.proofs.Boundaries.{boundary_ends, space_ascii}
 use Rattle.yq_scalar.proofs.Upto.{upto_unless}
 use Rattle.yq_inline.specs.declared.gap.Before.{Before}
@@ -34,7 +32,7 @@ goes_ascii Break b bs h = inr (space_or_hash b bs h)
 
 after_comment : (s : Before) (b : ℕ) → is_comment s ≡ true → (b < 128) ⊎ (next s b ≡ Comment)
 after_comment s b h = elim (eqb b 10) as (λ c. eqb b 10 ≡ c → (b < 128) ⊎ (cond c Break (cond (eqb b 35 || is_comment s) Comment White) ≡ Comment)) [
-  true ↦ (λ e. inl (omega (arith, eqb-true b 10 e)))
+  | true ↦ (λ e. inl (omega (arith, eqb-true b 10 e)))
   | false ↦ (λ e. inr (rw h (elim (eqb b 35) as (λ c. cond (c || true) Comment White ≡ Comment) [ true ↦ refl | false ↦ refl ])))
 ] refl
 

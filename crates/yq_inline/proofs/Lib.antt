@@ -5,3 +5,6 @@ pub mod NodeTakes
 pub mod NodeAgain
 pub mod NodeLaws
 pub mod Bounds
+pub mod Steps
+pub mod Loops
+pub mod InlineLaws

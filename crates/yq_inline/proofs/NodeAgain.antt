@@ -1,12 +1,12 @@
 -- A node is read again.
-use Rattle.std.proofs.Common.{◌≡◌, ℕ, zero, suc, ◌+◌, ◌≤◌, ◌<◌, Bool, true, false, cond, not, ◌&&◌, ◌||◌, eqb, List, [], ◌∷◌, ◌++◌, length, take, drop, Option, Some, None, refl, sym, ap, ◌∙◌, subst, inl, inr, ◌⊎◌, ⊎_elim, arith, append_assoc, length-append, eqb-true, eq-eqb}
-use Rattle.std.proofs.lemmas.Bool.{false≢true, cond_both, not-true, not-false, or_right, or_cases}
-use Rattle.yq_scalar.specs.Text.{unless, is_empty}
+use Rattle.std.proofs.Common.{◌≡◌, ℕ, zero, suc, ◌≤◌, ◌<◌, Bool, true, false, cond, not, ◌||◌, eqb, List, ◌∷◌, ◌++◌, length, Option, Some, None, refl, sym, ap, ◌∙◌, subst, ⊎_elim, arith, length-append, eqb-true, eq-eqb}
+use Rattle.std.proofs.lemmas.Bool.{false≢true, cond_both, not-true, or_cases}
+use Rattle.yq_scalar.specs.Text.{is_empty}
 use Rattle.yq_scalar.specs.Answers.{◌>>=◌}
 use Rattle.yq_inline.specs.Gaps.{IsGap}
 use Rattle.yq_inline.specs.Scalars.{IsScalar, begins_scalar}
-use Rattle.yq_inline.specs.Nodes.{first_is, Key, bare, keyed, Sep, last, comma, Node, empty, alias, scalar, coll, anchored, Items, none, item, key_text, sep_text, node_text, items_text, begins_content, IsLead, IsName, IsKey, IsSep, is_keyed, is_bare, takes_anchor, Deeper, IsNode, AreItems, is_close, open_of}
-use Rattle.yq_inline.specs.Reading.{gap_at, scalar_at, name_at, lead_at, key_at, sep_at, Kids, coll_at, content_at, node_at, deeper, items_at, all_items, kids_of, all_node}
+use Rattle.yq_inline.specs.Nodes.{first_is, Key, bare, keyed, Sep, last, comma, Node, empty, alias, scalar, coll, anchored, Items, none, item, key_text, sep_text, node_text, items_text, begins_content, IsLead, IsName, IsKey, is_keyed, is_bare, takes_anchor, IsNode, AreItems, is_close, open_of}
+use Rattle.yq_inline.specs.Reading.{sep_at, Kids, coll_at, content_at, node_at, deeper, items_at}
 use Rattle.yq_inline.proofs.GapLaws.{gap_again}
 use Rattle.yq_inline.proofs.PieceLaws.{scalar_begins, scalar_again, name_again, lead_again, key_again, sep_again, front_not, scalar_some}
 use Rattle.yq_inline.proofs.NodeTakes.{key_in}
@@ -77,6 +77,7 @@ keyed_longer (keyed t b g) rest h = omega (arith, length-append t (b ++ (58 ∷ 
 
 mutual
   unfolding node_text items_text
+
   pub node_longer : (node : Node) (rest : List ℕ) → length rest ≤ length (node_text node rest)
   node_longer empty rest = omega arith
   node_longer (alias n) rest = omega (arith, length-append n rest)
@@ -147,6 +148,7 @@ takes_unanchored (anchored n g node) h = absurd (false≢true h)
 
 mutual
   unfolding node_text IsNode items_text AreItems items_at
+
   pub content_again : (flow : Bool) (spaces : Option ℕ) (node : Node) (n d : ℕ) (rest : List ℕ) → is_anchored node ≡ false → IsNode flow spaces d node rest → length (node_text node rest) ≤ n → content_at flow spaces (kids_by n d) (node_text node rest) ≡ Some (node, rest)
   content_again flow spaces empty n d rest e h short = empty_content flow spaces (kids_by n d) rest h.0
   content_again flow spaces (alias a) n d rest e h short = alias_content flow spaces (kids_by n d) a rest h

@@ -1,16 +1,15 @@
 -- How many steps are allowed makes no difference.
-use Rattle.std.proofs.Common.{◌≡◌, ℕ, zero, suc, ◌+◌, ◌≤◌, ◌<◌, Bool, true, false, cond, not, ◌&&◌, ◌||◌, eqb, List, [], ◌∷◌, ◌++◌, length, take, drop, Option, Some, None, refl, sym, ap, ◌∙◌, subst, arith, length-append}
-use Rattle.std.proofs.lemmas.Bool.{false≢true}
+use Rattle.std.proofs.Common.{◌≡◌, ℕ, zero, suc, ◌≤◌, ◌<◌, Bool, true, false, cond, not, ◌&&◌, ◌||◌, eqb, List, [], ◌∷◌, ◌++◌, length, drop, Option, Some, None, refl, sym, ap, ◌∙◌, arith, length-append}
 use Rattle.yq_scalar.specs.Text.{is_empty}
 use Rattle.yq_scalar.specs.Answers.{◌>>=◌}
 use Rattle.yq_scalar.proofs.Bools.{guard_then}
-use Rattle.yq_inline.specs.Nodes.{first_is, key_text, Key, Sep, Node, empty, alias, scalar, coll, anchored, Items, none, item, sep_text, node_text, items_text, begins_content, is_keyed, is_bare, takes_anchor, IsNode, is_close, AreItems}
+use Rattle.yq_inline.specs.Nodes.{first_is, key_text, Key, Sep, Node, empty, alias, scalar, coll, anchored, Items, none, item, node_text, begins_content, is_keyed, is_bare, takes_anchor, IsNode}
 use Rattle.yq_inline.specs.Reading.{gap_at, scalar_at, name_at, lead_at, sep_at, Kids, coll_at, content_at, node_at, deeper, items_at, all_items, kids_of, all_node}
 use Rattle.yq_inline.proofs.Binds.{some_same, bind_same}
 use Rattle.yq_inline.proofs.GapLaws.{gap_takes}
 use Rattle.yq_inline.proofs.PieceLaws.{name_takes, lead_takes, sep_takes}
-use Rattle.yq_inline.proofs.NodeTakes.{node_takes, items_takes, kids_take, key_in, key_in_takes, Nodal}
-use Rattle.yq_inline.proofs.NodeAgain.{sep_longer, key_longer, node_longer, items_longer, item_longer, kids_by, node_again, items_again}
+use Rattle.yq_inline.proofs.NodeTakes.{node_takes, items_takes, kids_take, key_in, key_in_takes}
+use Rattle.yq_inline.proofs.NodeAgain.{sep_longer, key_longer, item_longer, kids_by, node_again}
 
 pub behind : (t a b : List ℕ) → t ≡ a ++ b → length b ≤ length t
 behind t a b h = rw h (omega (arith, length-append a b))

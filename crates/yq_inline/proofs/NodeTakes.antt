@@ -1,11 +1,10 @@
 -- What is read is a node.
-use Rattle.std.proofs.Common.{◌≡◌, ℕ, zero, suc, ◌+◌, ◌≤◌, ◌<◌, Bool, true, false, cond, not, ◌&&◌, ◌||◌, eqb, List, [], ◌∷◌, ◌++◌, length, take, drop, Option, Some, None, refl, sym, ap, ◌∙◌, subst, inl, inr, ◌⊎◌, ⊎_elim, arith, append_assoc, length-append, eqb-true}
-use Rattle.std.proofs.lemmas.Bool.{false≢true, cond_both, not-true, not-false, or_right}
+use Rattle.std.proofs.Common.{◌≡◌, ℕ, zero, suc, Bool, true, false, cond, not, ◌&&◌, ◌||◌, eqb, List, [], ◌∷◌, ◌++◌, drop, Option, Some, None, refl, ap, ◌∙◌, subst, inl, inr, ◌⊎◌, ⊎_elim, eqb-true}
+use Rattle.std.proofs.lemmas.Bool.{false≢true}
 use Rattle.yq_scalar.specs.Text.{unless, is_empty}
-use Rattle.yq_scalar.specs.Answers.{◌>>=◌}
 use Rattle.yq_scalar.proofs.Bools.{and_true, bind_some, chosen, guard_some, guard_then}
 use Rattle.yq_inline.specs.Gaps.{IsGap}
-use Rattle.yq_inline.specs.Nodes.{first_is, in_name, open_of, is_close, Key, bare, keyed, Sep, last, comma, Node, empty, alias, scalar, coll, anchored, Items, none, item, key_text, sep_text, node_text, items_text, begins_content, IsLead, IsName, IsKey, IsSep, is_keyed, is_bare, takes_anchor, Deeper, IsNode, AreItems}
+use Rattle.yq_inline.specs.Nodes.{first_is, in_name, open_of, is_close, Key, bare, Node, Items, key_text, sep_text, node_text, items_text, begins_content, IsLead, IsName, IsKey, IsSep, is_keyed, is_bare, takes_anchor, Deeper, IsNode, AreItems}
 use Rattle.yq_inline.specs.Reading.{gap_at, scalar_at, name_at, lead_at, key_at, sep_at, Kids, coll_at, content_at, node_at, deeper, items_at}
 use Rattle.yq_inline.proofs.Binds.{some_same}
 use Rattle.yq_inline.proofs.GapLaws.{gap_takes}
@@ -55,7 +54,7 @@ content_takes flow spaces kids d t x take_kids amp h = ⊎_elim {0, 0, 0}
 no_amp : (t : List ℕ) → unless in_name t ≡ true → first_is 38 t ≡ false
 no_amp [] h = refl
 no_amp (b ∷ t) h = elim (eqb b 38) as (λ c. eqb b 38 ≡ c → c ≡ false) [
-  true ↦ (λ e. let same : b ≡ 38 = eqb-true b 38 e in absurd (false≢true (subst (λ (x : ℕ). unless in_name (x ∷ t) ≡ true) same h)))
+  | true ↦ (λ e. let same : b ≡ 38 = eqb-true b 38 e in absurd (false≢true (subst (λ (x : ℕ). unless in_name (x ∷ t) ≡ true) same h)))
   | false ↦ (λ e. refl)
 ] refl
 
@@ -79,9 +78,10 @@ node_takes flow spaces kids d t x take_kids h = ⊎_elim {0, 0, 0}
     let b = lead_takes flow (begins_content flow) name.0.1 gap.0 gap.1 in
     let c = content_takes flow spaces kids d gap.0.1 node.0 take_kids (lead_amp flow name.0.1 gap.0.0 gap.0.1 a.1.ends b.0 b.1) node.1 in
     let behind : name.0.1 ≡ gap.0.0 ++ node_text node.0.0 node.0.1 = b.0 ∙ ap (λ l. gap.0.0 ++ l) c.0 in
-    subst (Nodal flow spaces d t) tests.1
-    (front_is 38 t e.0 ∙ ap (λ l. 38 ∷ l) (a.0 ∙ ap (λ l. name.0.0 ++ l) behind),
-    (subst (IsName name.0.0) behind a.1, subst (IsLead flow (begins_content flow) gap.0.0) c.0 b.1, both.0, both.1, c.1)))
+    subst (Nodal flow spaces d t) tests.1 (
+      front_is 38 t e.0 ∙ ap (λ l. 38 ∷ l) (a.0 ∙ ap (λ l. name.0.0 ++ l) behind),
+      (subst (IsName name.0.0) behind a.1, subst (IsLead flow (begins_content flow) gap.0.0) c.0 b.1, both.0, both.1, c.1),
+    ))
     (λ e. content_takes flow spaces kids d t x take_kids e.0 e.1)
     (chosen (first_is 38 t) h)
 
@@ -117,7 +117,8 @@ items_takes (suc n) d k t x h = ⊎_elim {0, 0, 0}
     let r = items_takes n d k sep.0.1 rest.0 rest.1 in
     let behind : node.0.1 ≡ sep_text sep.0.0 (items_text k rest.0.0 rest.0.1) = c.0 ∙ ap (sep_text sep.0.0) r.0 in
     let inner : key.0.1 ≡ node_text node.0.0 (sep_text sep.0.0 (items_text k rest.0.0 rest.0.1)) = b.0 ∙ ap (node_text node.0.0) behind in
-    subst (Inside d k t) (some_same rest.2)
-    (a.0 ∙ ap (key_text key.0.0) inner,
-    (subst (IsKey k key.0.0) inner a.1, some.0, subst (IsNode true (Some 0) d node.0.0) behind b.1, subst (IsSep k sep.0.0) r.0 c.1, r.1)))
+    subst (Inside d k t) (some_same rest.2) (
+      a.0 ∙ ap (key_text key.0.0) inner,
+      (subst (IsKey k key.0.0) inner a.1, some.0, subst (IsNode true (Some 0) d node.0.0) behind b.1, subst (IsSep k sep.0.0) r.0 c.1, r.1),
+    ))
     (chosen (first_is k t) h)

@@ -1,21 +1,20 @@
 -- The pieces of a node, read and spelled.
-use Rattle.std.proofs.Common.{◌≡◌, ◌⊎◌, ℕ, suc, ◌+◌, ◌<◌, Bool, true, false, cond, not, ◌&&◌, ◌||◌, eqb, List, [], ◌∷◌, ◌++◌, length, drop, Option, Some, None, refl, sym, ap, ◌∙◌, subst, inl, inr, ⊎_elim, arith, append_assoc, length-append, eqb-true}
+use Rattle.std.proofs.Common.{◌≡◌, ◌⊎◌, ℕ, ◌<◌, Bool, true, false, not, ◌&&◌, ◌||◌, eqb, List, [], ◌∷◌, ◌++◌, length, drop, Option, Some, None, refl, sym, ap, ◌∙◌, subst, inl, inr, ⊎_elim, arith, eqb-true}
 use Rattle.std.proofs.Math.Bool.{and-false}
-use Rattle.std.proofs.lemmas.Bool.{false≢true, cond_both, or_cases, not-true, false_from_ne_true}
-use Rattle.std.proofs.lemmas.List.{take-append-drop}
+use Rattle.std.proofs.lemmas.Bool.{false≢true, cond_both, not-true, false_from_ne_true}
 use Rattle.yq_scalar.specs.Answers.{◌>>=◌}
-use Rattle.yq_scalar.specs.Plain.{IsPlain, begins_plain, ends_plain, ends_text, is_flow_indicator, is_safe, plain_at, holds_break}
-use Rattle.yq_scalar.specs.Quoted.{Lines, IsQuoted, spell_lines}
+use Rattle.yq_scalar.specs.Plain.{begins_plain, ends_plain, ends_text, is_flow_indicator, is_safe}
+use Rattle.yq_scalar.specs.Quoted.{spell_lines}
 use Rattle.yq_scalar.specs.QuotedReading.{is_quote, quoted_at}
-use Rattle.yq_scalar.specs.Text.{upto, cut, NoneIn, unless, is_empty, is_space, no_white, front}
+use Rattle.yq_scalar.specs.Text.{upto, cut, unless, is_empty, is_space, no_white}
 use Rattle.yq_scalar.proofs.Bools.{and_true, bind_some, chosen, guard_some}
 use Rattle.yq_scalar.proofs.PlainLaws.{plain_takes, plain_again}
 use Rattle.yq_scalar.proofs.QuotedRead.{quoted_takes, quoted_again}
 use Rattle.yq_scalar.proofs.Upto.{upto_ends, none_in_cut, cut-append, cut_takes}
 use Rattle.yq_inline.specs.Gaps.{IsGap}
-use Rattle.yq_inline.specs.Nodes.{Key, bare, keyed, Sep, last, comma, key_text, sep_text, first_is, in_name, begins_content, begins_node, IsApart, IsLead, IsName, ends_key, IsKey, IsSep, is_keyed}
+use Rattle.yq_inline.specs.Nodes.{Key, bare, keyed, Sep, last, comma, key_text, sep_text, first_is, in_name, begins_node, IsApart, IsLead, IsName, ends_key, IsKey, IsSep, is_keyed}
 use Rattle.yq_inline.specs.Reading.{gap_at, scalar_at, with_its_lines, name_at, apart_at, lead_at, colon_at, key_at, sep_at, sep_behind}
-use Rattle.yq_inline.specs.Scalars.{is_quoted, IsInQuotes, has_its_lines, IsScalar, begins_scalar}
+use Rattle.yq_inline.specs.Scalars.{is_quoted, has_its_lines, IsScalar, begins_scalar}
 use Rattle.yq_inline.proofs.Binds.{not_then, some_same}
 use Rattle.yq_inline.proofs.GapLaws.{gap_takes, gap_again}
 
@@ -36,10 +35,10 @@ no_flow flow b bs h =
 
 goes_on : (flow : Bool) (b : ℕ) (bs : List ℕ) → begins_plain flow (b ∷ bs) ≡ true → ends_text flow (b ∷ bs) ≡ false
 goes_on flow b bs h = elim (eqb b 58) as (λ c. eqb b 58 ≡ c → ((c && not (is_safe flow bs)) || (flow && is_flow_indicator b)) ≡ false) [
-  true ↦ (λ e.
-  let colon : begins_plain flow (58 ∷ bs) ≡ true = subst (λ (x : ℕ). begins_plain flow (x ∷ bs) ≡ true) (eqb-true b 58 e) h in
-  let safe : is_safe flow bs ≡ true = colon in
-  rw (safe, no_flow flow b bs h) (and-false flow))
+  | true ↦ (λ e.
+      let colon : begins_plain flow (58 ∷ bs) ≡ true = subst (λ (x : ℕ). begins_plain flow (x ∷ bs) ≡ true) (eqb-true b 58 e) h in
+      let safe : is_safe flow bs ≡ true = colon in
+      rw (safe, no_flow flow b bs h) (and-false flow))
   | false ↦ (λ e. rw (no_flow flow b bs h) (and-false flow))
 ] refl
 

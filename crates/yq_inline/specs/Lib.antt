@@ -9,4 +9,5 @@ pub mod Scalars
 pub mod Nodes
 pub mod Reading
 pub mod Places
+pub mod Inline
 pub mod View

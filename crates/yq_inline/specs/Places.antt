@@ -1,12 +1,12 @@
 -- An inline node with the places of its parts, by how much of the text follows them.
-use Rattle.std.specs.Prelude.{ℕ, ◌+◌, ◌-◌, ◌==◌, List, [], ◌∷◌, ◌++◌, length, if◌then◌else◌, Option, Some, None, Bool, true, false, not, ◌||◌, ◌&&◌}
+use Rattle.std.specs.Prelude.{ℕ, ◌+◌, ◌-◌, ◌==◌, List, [], length, if◌then◌else◌, Option, Some, None, Bool, true, false, not, ◌||◌, ◌&&◌}
 use Rattle.yq_scalar.specs.declared.piece.Piece.{Piece}
 use Rattle.yq_scalar.specs.Answers.{◌>>=◌}
 use Rattle.yq_scalar.specs.Piece.{inline_piece}
 use Rattle.yq_scalar.specs.Scalar.{ScalarText}
 use Rattle.yq_scalar.specs.Text.{is_empty}
-use Rattle.yq_inline.specs.Nodes.{Key, bare, keyed, Sep, Node, empty, alias, scalar, coll, anchored, Items, none, item, key_text, sep_text, node_text, items_text}
-use Rattle.yq_inline.specs.Reading.{gap_at, key_at, sep_at, content_at, all_items, kids_of, all_node}
+use Rattle.yq_inline.specs.Nodes.{Key, bare, keyed, Node, empty, alias, scalar, coll, anchored, Items, none, item, key_text, sep_text, node_text, items_text}
+use Rattle.yq_inline.specs.Reading.{gap_at, scalar_at, key_at, sep_at, content_at, all_items, kids_of, all_node}
 use Rattle.yq_inline.specs.Scalars.{style_of, content_of, scalar_of}
 
 mutual
@@ -66,9 +66,9 @@ unfoldable mutual
   locate_items total k none rest = end
   locate_items total k (item key n s is) rest =
       part
-        (key_placed total (key_text key (node_text n (sep_text s (items_text k is rest)))) key)
-        (locate total n (sep_text s (items_text k is rest)))
-        (locate_items total k is rest)
+      (key_placed total (key_text key (node_text n (sep_text s (items_text k is rest)))) key)
+      (locate total n (sep_text s (items_text k is rest)))
+      (locate_items total k is rest)
 
 -- what a node without an anchor is, that stands between two rests (own)
 abbrev pub content_in : ℕ → List ℕ → Node → List ℕ → Content
@@ -86,14 +86,6 @@ placed_node flow spaces total d t = all_node flow spaces d t >>= λ x. Some (loc
 abbrev pub placed_items : ℕ → ℕ → ℕ → List ℕ → Option (Parts × List ℕ)
 placed_items total d k t = all_items d k t >>= λ x. Some (locate_items total k x.0 x.1, x.1)
 
--- the node without an anchor in front, and what follows it (own)
-abbrev pub placed_content : Bool → Option ℕ → ℕ → ℕ → List ℕ → Option (Placed × List ℕ)
-placed_content flow spaces total d t = content_at flow spaces (kids_of d) t >>= λ x. Some (placed_between total t x.1 (content_in total t x.0 x.1), x.1)
-
--- a collection behind its opening bracket, and what follows it (own)
-abbrev pub placed_coll : ℕ → ℕ → ℕ → List ℕ → Option (Content × List ℕ)
-placed_coll total d k t = gap_at t >>= λ gap. kids_of d k gap.1 >>= λ x. Some (holder k (locate_items total k x.0 x.1), x.1)
-
 -- a key as it is written (own)
 abbrev pub piece_of : Key → List ℕ
 piece_of bare = []
@@ -102,6 +94,22 @@ piece_of (keyed p b g) = p
 -- the key in front as it is written, and what follows its `:` (own)
 abbrev pub seen_key : List ℕ → Option (List ℕ × List ℕ)
 seen_key t = key_at t >>= λ x. Some (piece_of x.0, x.1)
+
+-- the scalar in front with its piece, and what follows it (own)
+abbrev pub placed_text : Bool → Option ℕ → ℕ → List ℕ → Option (Content × List ℕ)
+placed_text flow spaces total t = scalar_at flow spaces t >>= λ x. Some (scalar_between total t x.1 x.0, x.1)
+
+-- the key in front with its content and piece, and what follows its `:` (own)
+abbrev pub placed_key : ℕ → List ℕ → Option ((List ℕ × Piece) × List ℕ)
+placed_key total t = seen_key t >>= λ x. Some (key_here total t x.0, x.1)
+
+-- the node without an anchor in front, and what follows it (own)
+abbrev pub placed_content : Bool → Option ℕ → ℕ → ℕ → List ℕ → Option (Placed × List ℕ)
+placed_content flow spaces total d t = content_at flow spaces (kids_of d) t >>= λ x. Some (placed_between total t x.1 (content_in total t x.0 x.1), x.1)
+
+-- a collection behind its opening bracket, and what follows it (own)
+abbrev pub placed_coll : ℕ → ℕ → ℕ → List ℕ → Option (Content × List ℕ)
+placed_coll total d k t = gap_at t >>= λ gap. kids_of d k gap.1 >>= λ x. Some (holder k (locate_items total k x.0 x.1), x.1)
 
 -- what follows what stands behind an item (own)
 abbrev pub past_sep : ℕ → List ℕ → Option (List ℕ)

@@ -5,5 +5,9 @@ mod fault;
 mod gap;
 mod inline;
 mod pieces;
+mod read;
+mod reading;
 
 pub use inline::{Form, Inline};
+pub use read::read_inline;
+pub use yq_scalar::ReadFault;

@@ -81,7 +81,10 @@ fn begins_scalar(flow: bool, text: &[u8]) -> bool
 pub(crate) fn begins_content(flow: bool, text: &[u8]) -> bool
     ensures { result ≡ nodes.begins_content flow text.now }
 {
-    first_is(b'*', text) || first_is(b'[', text) || first_is(b'{', text) || begins_scalar(flow, text)
+    first_is(b'*', text)
+        || first_is(b'[', text)
+        || first_is(b'{', text)
+        || begins_scalar(flow, text)
 }
 
 /// Why no scalar begins with this text.
@@ -94,7 +97,11 @@ fn no_scalar(text: &[u8]) -> FaultKind {
 }
 
 /// The quoted scalar in front, and what follows it; without a number of spaces it has one line.
-fn read_quoted<'t>(spaces: Option<usize>, whole: &str, text: &'t str) -> Result<(&'t str, &'t str), ReadFault>
+fn read_quoted<'t>(
+    spaces: Option<usize>,
+    whole: &str,
+    text: &'t str,
+) -> Result<(&'t str, &'t str), ReadFault>
     ensures read { Reads (λ x. (x.0.now, x.1.now)) result (spec.in_quotes_at spaces text.now) }
     ensures quoted { IfOk result (λ x. IsQuotedText x.0.now) }
 {
@@ -132,12 +139,20 @@ fn read_apart<'t>(flow: bool, whole: &str, text: &'t str) -> Result<(&'t str, &'
     ensures read { Reads (λ x. (x.0.now, x.1.now)) result (spec.apart_at flow text.now) }
     ensures shorter { IfOk result (λ x. length x.1.now ≤ length text.now) }
 {
-    if flow { read_gap(whole, text) } else { Ok(split_white(text)) }
+    if flow {
+        read_gap(whole, text)
+    } else {
+        Ok(split_white(text))
+    }
 }
 
 /// The same, if a content begins behind it.
 #[tactic(auto, unfolding(crate::specs::Reading::lead_at))]
-pub(crate) fn read_lead<'t>(flow: bool, whole: &str, text: &'t str) -> Result<(&'t str, &'t str), ReadFault>
+pub(crate) fn read_lead<'t>(
+    flow: bool,
+    whole: &str,
+    text: &'t str,
+) -> Result<(&'t str, &'t str), ReadFault>
     ensures read { Reads (λ x. (x.0.now, x.1.now)) result (spec.lead_at flow (nodes.begins_content flow) text.now) }
     ensures shorter { IfOk result (λ x. length x.1.now ≤ length text.now) }
 {

@@ -84,3 +84,14 @@ impl<T: Drop> From<AllocFailed<T>> for ReadError {
         ReadError::Memory
     }
 }
+
+impl From<ReadFault> for ReadError {
+    ghost use Rattle.std.specs.Prelude.{◌≡◌};
+    ghost use Rattle.yq_scalar.specs.declared.fault.ReadError.TheVariants.{Fault};
+
+    ghost from_gives = { λ fault e. e ≡ Fault fault };
+
+    fn from(fault: ReadFault) -> ReadError {
+        ReadError::Fault(fault)
+    }
+}

@@ -13,7 +13,7 @@ use crate::writable::in_flow;
 
 /// With how many spaces a further line of a plain scalar begins at least, below the indentation of its
 /// parent.
-fn further_spaces(place: Place, indent: i64) -> Option<usize>
+pub fn further_spaces(place: Place, indent: i64) -> Option<usize>
     ensures { result ≡ spec.further_spaces place indent }
 {
     match place {

@@ -1,0 +1,78 @@
+//! The inline node at an offset of a text.
+ghost use Rattle.std.specs.Prelude.{◌≡◌, ◌⊎◌, IfOk, Some};
+ghost use Rattle.std.specs.Str.{IsCharBoundary};
+ghost use Rattle.yq_scalar.specs.Answers.{Gives};
+ghost use Rattle.yq_scalar.specs.declared.style.Place.TheVariants.{Block, Flow};
+ghost use Rattle.yq_inline.specs.Inline as spec;
+ghost use Rattle.yq_inline.specs.Places.{Placed};
+ghost use Rattle.yq_inline.specs.View.{view};
+
+use crate::fault::fault;
+use crate::inline::{Form, Inline};
+use crate::reading::read_node;
+use std::alloc::Global;
+use yq_scalar::{FaultKind, Place, ReadError, further_spaces, in_flow};
+
+/// How many collections may be nested.
+const DEPTH_LIMIT: usize = 64;
+
+/// Whether the node may stand there: outside flow collections it is something.
+fn may_stand(place: Place, node: &Inline<'_>) -> bool
+    ensures { result ≡ spec.may_stand place (view node.now) }
+{
+    in_flow(place) || !(node.anchor.is_none() && matches!(node.form, Form::Empty))
+}
+
+fn inline_at<'t>(
+    alloc: Global,
+    text: &'t str,
+    at: usize,
+    place: Place,
+    indent: i64,
+    depth: usize,
+) -> Result<Inline<'t>, ReadError>
+    requires { IsCharBoundary text.now at }
+    ensures { Gives view result (spec.inline_at place indent depth at text.now) }
+{
+    let rest = text.split_at(at).1;
+    let room = DEPTH_LIMIT.saturating_sub(depth);
+    let (node, _) = read_node(
+        alloc,
+        in_flow(place),
+        further_spaces(place, indent),
+        text,
+        room,
+        rest,
+    )?;
+    if may_stand(place, &node) {
+        Ok(node)
+    } else {
+        Err(ReadError::from(fault(FaultKind::BadScalar, text, rest)))
+    }
+}
+
+/// The inline node that begins at an offset, in bytes, of a text. `indent` is the indentation of its
+/// parent, in columns, and -1 below no parent; `depth` is how many collections stand round the node.
+///
+/// In a flow collection the node may be nothing; elsewhere it is something, if only an anchor, and what
+/// an anchor stands before is on the anchor's line. A node with which more than 64 collections would be
+/// nested is refused, before it is read.
+#[tactic(auto, using(crate::proofs::InlineLaws::found_by, crate::proofs::InlineLaws::only_by))]
+pub fn read_inline<'t>(
+    alloc: Global,
+    text: &'t str,
+    at: usize,
+    place: Place,
+    indent: i64,
+    depth: usize,
+) -> Result<Inline<'t>, ReadError>
+    requires { IsCharBoundary text.now at × ((place ≡ Block) ⊎ (place ≡ Flow)) }
+    // The node is what reading from left to right gives.
+    ensures exact { Gives view result (spec.inline_at place indent depth at text.now) }
+    // What is read is an inline node that begins there, with the places of its parts.
+    ensures found { IfOk result (λ node. spec.IsInlineAt place indent depth at text.now (view node)) }
+    // Where one begins it is given, unless memory runs out.
+    ensures only { (p : Placed) → spec.IsInlineAt place indent depth at text.now p → Gives view result (Some p) }
+{
+    inline_at(alloc, text, at, place, indent, depth)
+}

@@ -1,0 +1,315 @@
+//! Inline nodes, read from left to right.
+ghost use Rattle.std.specs.Prelude.{◌≡◌, ◌<◌, ◌≤◌, IfOk, Some, length, string_bytes, true};
+ghost use Rattle.yq_scalar.specs.Answers.{Gives};
+ghost use Rattle.yq_scalar.specs.Quoted.{IsQuotedText};
+ghost use Rattle.yq_inline.specs.Places as spec;
+ghost use Rattle.yq_inline.specs.Scalars as scalars;
+ghost use Rattle.yq_inline.specs.View.{entries_end, form_view, items_end, view};
+
+use crate::fault::fault;
+use crate::gap::read_gap;
+use crate::inline::{Form, Inline};
+use crate::pieces::{
+    begins_content, is_quoted, read_key, read_lead, read_name, read_scalar, read_sep, strip,
+};
+use std::alloc::{AllocError, Global};
+use yq_scalar::folding::{plain_content, quoted_content};
+use yq_scalar::piece::inline_piece;
+use yq_scalar::{FaultKind, Piece, ReadError, Scalar, Style};
+
+/// A node without an anchor between two rests of the whole text.
+fn placed_between<'t>(whole: &str, text: &str, rest: &str, form: Form<'t>) -> Inline<'t>
+    requires { (length text.now ≤ length whole.now) × (length rest.now ≤ length whole.now) }
+    ensures { view result ≡ spec.placed_between (length whole.now) text.now rest.now (form_view form.entry) }
+{
+    let start = whole.len() - text.len();
+    Inline {
+        anchor: None,
+        start,
+        content: start,
+        end: whole.len() - rest.len(),
+        form,
+    }
+}
+
+/// Whether the node is nothing, not even an anchor.
+fn is_bare(node: &Inline<'_>) -> bool
+    ensures { result ≡ spec.bare_placed (view node.now) }
+{
+    node.anchor.is_none() && matches!(node.form, Form::Empty)
+}
+
+/// Whether an anchor may stand before the node.
+fn takes_anchor(node: &Inline<'_>) -> bool
+    ensures { result ≡ spec.takes_placed (view node.now) }
+{
+    node.anchor.is_none() && !matches!(node.form, Form::Alias(_))
+}
+
+/// Whether the node may stand behind an anchor and this gap.
+fn stands_behind(gap: &str, node: &Inline<'_>) -> bool
+    ensures { result ≡ spec.stands_behind gap.now (view node.now) }
+{
+    (is_bare(node) || !gap.is_empty()) && takes_anchor(node)
+}
+
+/// The node with its anchor, that begins with the text.
+fn put_anchor<'t>(
+    whole: &str,
+    text: &'t str,
+    name: &'t str,
+    gap: &'t str,
+    node: Inline<'t>,
+    rest: &'t str,
+) -> Result<(Inline<'t>, &'t str), ReadError>
+    requires { length text.now ≤ length whole.now }
+    ensures shorter { IfOk result (λ x. x.1.now ≡ rest.now) }
+    ensures read { Gives (λ x. (view x.0, x.1.now)) result (spec.then_anchored (length whole.now) text.now name.now gap.now (view node.entry, rest.now)) }
+{
+    if !stands_behind(gap, &node) {
+        return Err(ReadError::from(fault(FaultKind::BadScalar, whole, text)));
+    }
+    Ok((
+        Inline {
+            anchor: Some(name),
+            start: whole.len() - text.len(),
+            content: node.content,
+            end: node.end,
+            form: node.form,
+        },
+        rest,
+    ))
+}
+
+/// How a scalar is written.
+fn style_of(piece: &[u8]) -> Style
+    ensures { result ≡ scalars.style_of piece.now }
+{
+    match piece {
+        [b'\'', ..] => Style::Single,
+        [b'"', ..] => Style::Double,
+        _ => Style::Plain,
+    }
+}
+
+/// The text that a scalar, as it is written, stands for.
+#[tactic(auto, unfolding(crate::specs::Scalars::content_of))]
+fn content_of(alloc: Global, piece: &str) -> Result<String, AllocError>
+    requires { scalars.is_quoted piece.now ≡ true → IsQuotedText piece.now }
+    ensures { IfOk result (λ s. string_bytes s ≡ scalars.content_of piece.now) }
+{
+    if is_quoted(piece.as_bytes()) {
+        quoted_content(alloc, piece)
+    } else {
+        plain_content(alloc, piece)
+    }
+}
+
+/// The scalar that it stands for.
+#[tactic(auto, unfolding(crate::specs::Scalars::scalar_of))]
+fn scalar_of(alloc: Global, piece: &str) -> Result<Scalar, AllocError>
+    requires { scalars.is_quoted piece.now ≡ true → IsQuotedText piece.now }
+    ensures { IfOk result (λ s. s ≡ scalars.scalar_of piece.now) }
+{
+    if is_quoted(piece.as_bytes()) {
+        let text = quoted_content(alloc, piece)?;
+        return Ok(Scalar::string(text));
+    }
+    let text = plain_content(alloc, piece)?;
+    Scalar::plain(alloc, text.as_str())
+}
+
+/// The scalar in front, with its piece, and what follows it.
+fn read_text<'t>(
+    alloc: Global,
+    flow: bool,
+    spaces: Option<usize>,
+    whole: &str,
+    text: &'t str,
+) -> Result<(Form<'t>, &'t str), ReadError>
+    requires { length text.now ≤ length whole.now }
+    ensures shorter { IfOk result (λ x. length x.1.now ≤ length text.now) }
+    ensures read { Gives (λ x. (form_view x.0, x.1.now)) result (spec.placed_text flow spaces (length whole.now) text.now) }
+{
+    let (piece, rest) = read_scalar(flow, spaces, whole, text)?;
+    let scalar = scalar_of(alloc, piece)?;
+    let place = inline_piece(
+        style_of(piece.as_bytes()),
+        whole.len() - text.len(),
+        whole.len() - rest.len(),
+    );
+    Ok((Form::Scalar(scalar, place), rest))
+}
+
+/// The key in front with its content and piece, and what follows its `:`.
+fn read_entry_key<'t>(
+    alloc: Global,
+    whole: &str,
+    text: &'t str,
+) -> Result<(String, Piece, &'t str), ReadError>
+    requires { length text.now ≤ length whole.now }
+    ensures shorter { IfOk result (λ x. length x.2.now < length text.now) }
+    ensures read { Gives (λ x. ((string_bytes x.0, x.1), x.2.now)) result (spec.placed_key (length whole.now) text.now) }
+{
+    let (piece, rest) = read_key(whole, text)?;
+    let key = content_of(alloc, piece)?;
+    let start = whole.len() - text.len();
+    let place = inline_piece(style_of(piece.as_bytes()), start, start + piece.len());
+    Ok((key, place, rest))
+}
+
+/// The node in front, with at most `depth` collections nested, and what follows it.
+#[cycle(nodes)]
+#[tactic(auto, using(crate::proofs::Steps::node_plain, crate::proofs::Steps::node_fails, crate::proofs::Steps::node_gives, crate::proofs::Steps::node_no_name, crate::proofs::Steps::node_no_lead))]
+pub(crate) fn read_node<'t>(
+    alloc: Global,
+    flow: bool,
+    spaces: Option<usize>,
+    whole: &'t str,
+    depth: usize,
+    text: &'t str,
+) -> Result<(Inline<'t>, &'t str), ReadError>
+    requires { length text.now ≤ length whole.now }
+    ensures shorter { IfOk result (λ x. length x.1.now ≤ length text.now) }
+    ensures read { Gives (λ x. (view x.0, x.1.now)) result (spec.placed_node flow spaces (length whole.now) depth text.now) }
+{
+    let Some(behind) = strip(b'&', text) else {
+        return read_content(alloc, flow, spaces, whole, depth, text);
+    };
+    let (name, rest) = read_name(whole, behind)?;
+    let (gap, rest) = read_lead(flow, whole, rest)?;
+    match read_content(alloc, flow, spaces, whole, depth, rest) {
+        Ok((node, rest)) => put_anchor(whole, text, name, gap, node, rest),
+        Err(e) => Err(e),
+    }
+}
+
+/// The node in front, which has no anchor, and what follows it.
+#[cycle(nodes)]
+#[tactic(auto, unfolding(crate::specs::Reading::content_at, crate::specs::Reading::coll_at))]
+fn read_content<'t>(
+    alloc: Global,
+    flow: bool,
+    spaces: Option<usize>,
+    whole: &'t str,
+    depth: usize,
+    text: &'t str,
+) -> Result<(Inline<'t>, &'t str), ReadError>
+    requires { length text.now ≤ length whole.now }
+    ensures shorter { IfOk result (λ x. length x.1.now ≤ length text.now) }
+    ensures read { Gives (λ x. (view x.0, x.1.now)) result (spec.placed_content flow spaces (length whole.now) depth text.now) }
+{
+    if let Some(behind) = strip(b'*', text) {
+        let (name, rest) = read_name(whole, behind)?;
+        return Ok((placed_between(whole, text, rest, Form::Alias(name)), rest));
+    }
+    if let Some(behind) = strip(b'[', text) {
+        let (form, rest) = read_sequence(alloc, whole, depth, behind)?;
+        return Ok((placed_between(whole, text, rest, form), rest));
+    }
+    if let Some(behind) = strip(b'{', text) {
+        let (form, rest) = read_mapping(alloc, whole, depth, behind)?;
+        return Ok((placed_between(whole, text, rest, form), rest));
+    }
+    if begins_content(flow, text.as_bytes()) {
+        let (form, rest) = read_text(alloc, flow, spaces, whole, text)?;
+        return Ok((placed_between(whole, text, rest, form), rest));
+    }
+    Ok((placed_between(whole, text, text, Form::Empty), text))
+}
+
+/// A sequence behind its `[`, and what follows it.
+#[cycle(nodes)]
+fn read_sequence<'t>(
+    alloc: Global,
+    whole: &'t str,
+    depth: usize,
+    text: &'t str,
+) -> Result<(Form<'t>, &'t str), ReadError>
+    requires { length text.now ≤ length whole.now }
+    ensures shorter { IfOk result (λ x. length x.1.now ≤ length text.now) }
+    ensures read { Gives (λ x. (form_view x.0, x.1.now)) result (spec.placed_coll (length whole.now) depth 93 text.now) }
+{
+    let (_, rest) = read_gap(whole, text)?;
+    if depth == 0 {
+        return Err(ReadError::from(fault(FaultKind::TooDeep, whole, text)));
+    }
+    let (items, rest) = read_items(alloc, whole, depth - 1, rest)?;
+    Ok((Form::List(items), rest))
+}
+
+/// A mapping behind its `{`, and what follows it.
+#[cycle(nodes)]
+fn read_mapping<'t>(
+    alloc: Global,
+    whole: &'t str,
+    depth: usize,
+    text: &'t str,
+) -> Result<(Form<'t>, &'t str), ReadError>
+    requires { length text.now ≤ length whole.now }
+    ensures shorter { IfOk result (λ x. length x.1.now ≤ length text.now) }
+    ensures read { Gives (λ x. (form_view x.0, x.1.now)) result (spec.placed_coll (length whole.now) depth 125 text.now) }
+{
+    let (_, rest) = read_gap(whole, text)?;
+    if depth == 0 {
+        return Err(ReadError::from(fault(FaultKind::TooDeep, whole, text)));
+    }
+    let (entries, rest) = read_entries(alloc, whole, depth - 1, rest)?;
+    Ok((Form::Map(entries), rest))
+}
+
+/// The items in front, and what follows their `]`.
+#[cycle(nodes)]
+#[tactic(auto, using(crate::proofs::Steps::items_more, crate::proofs::Steps::items_end))]
+fn read_items<'t>(
+    alloc: Global,
+    whole: &'t str,
+    depth: usize,
+    text: &'t str,
+) -> Result<(Vec<Inline<'t>>, &'t str), ReadError>
+    requires { length text.now ≤ length whole.now }
+    ensures shorter { IfOk result (λ x. length x.1.now ≤ length text.now) }
+    ensures read { Gives (λ x. (items_end x.0.items, x.1.now)) result (spec.placed_items (length whole.now) depth 93 text.now) }
+{
+    let mut items = Vec::new(alloc);
+    let mut rest = text;
+    'each: loop {
+        if let Some(behind) = strip(b']', rest) {
+            return Ok((items, behind));
+        }
+        let (item, after) = read_node(alloc, true, Some(0), whole, depth, rest)?;
+        if is_bare(&item) {
+            return Err(ReadError::from(fault(FaultKind::BadFlow, whole, rest)));
+        }
+        let after = read_sep(b']', whole, after)?;
+        items.push(item)?;
+        rest = after;
+    }
+}
+
+/// The entries in front, and what follows their `}`.
+#[cycle(nodes)]
+#[tactic(auto, using(crate::proofs::Steps::entries_more, crate::proofs::Steps::items_end))]
+fn read_entries<'t>(
+    alloc: Global,
+    whole: &'t str,
+    depth: usize,
+    text: &'t str,
+) -> Result<(Vec<(String, Piece, Inline<'t>)>, &'t str), ReadError>
+    requires { length text.now ≤ length whole.now }
+    ensures shorter { IfOk result (λ x. length x.1.now ≤ length text.now) }
+    ensures read { Gives (λ x. (entries_end x.0.items, x.1.now)) result (spec.placed_items (length whole.now) depth 125 text.now) }
+{
+    let mut entries = Vec::new(alloc);
+    let mut rest = text;
+    'each: loop {
+        if let Some(behind) = strip(b'}', rest) {
+            return Ok((entries, behind));
+        }
+        let (key, piece, after) = read_entry_key(alloc, whole, rest)?;
+        let (value, after) = read_node(alloc, true, Some(0), whole, depth, after)?;
+        let after = read_sep(b'}', whole, after)?;
+        entries.push((key, piece, value))?;
+        rest = after;
+    }
+}
