@@ -46,7 +46,7 @@ key_lines [] = tt
 key_lines (r ∷ rs) = let p = key_deeper (level (line_of r)) (group (lines_of rs)) (key_lines rs) in (key_line r, p.0, p.1)
 
 -- a line found among them is one
-row_key : (s : Step) (o : Outline) → AreKeyLines o → If (find_row s o) (λ f. IsKeyLine f.line × AreKeyLines f.under)
+pub row_key : (s : Step) (o : Outline) → AreKeyLines o → If (find_row s o) (λ f. IsKeyLine f.line × AreKeyLines f.under)
 row_key s end h = tt
 row_key s (row k v a) h = go (is_here s (label k)) (find_row (further s) a) (row_key (further s) a h.2)
   where

@@ -22,3 +22,4 @@ pub mod NodeLaws
 pub mod ExtentLaws
 pub mod LengthLaws
 pub mod PlacedLaws
+pub mod ContentLaws

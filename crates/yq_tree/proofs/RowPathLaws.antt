@@ -60,7 +60,7 @@ found_line ls s ss i r =
 pub same_line : {x y : Line} → Some x ≡ Some y → x ≡ y
 same_line e = cc
 
-map_get : (rows : List Row) (i : ℕ) (l : Line) → slice_get (lines_of rows) i ≡ Some l → (r : Row) × (slice_get rows i ≡ Some r) × (l ≡ line_of r)
+pub map_get : (rows : List Row) (i : ℕ) (l : Line) → slice_get (lines_of rows) i ≡ Some l → (r : Row) × (slice_get rows i ≡ Some r) × (l ≡ line_of r)
 map_get [] i l e = absurd (none_some e)
   where
     none_some : {x : Line} → None ≡ Some x → ⊥
@@ -72,7 +72,7 @@ map_get (r ∷ rs) (suc i) l e = map_get rs i l e
 pub headed : (r : Row) (u : Outline) → is_empty r.head ≡ false → content (line_of r) u ≡ plain_node r.head
 headed r u e = ap (λ b. anchored None (head_or (cond b None (Some (plain_node r.head))) (value u))) e
 
-headless : (r : Row) (u : Outline) → is_empty r.head ≡ true → content (line_of r) u ≡ anchored None (value u)
+pub headless : (r : Row) (u : Outline) → is_empty r.head ≡ true → content (line_of r) u ≡ anchored None (value u)
 headless r u e = ap (λ b. anchored None (head_or (cond b None (Some (plain_node r.head))) (value u))) e
 
 -- lines that begin with keys make a mapping, or none is there

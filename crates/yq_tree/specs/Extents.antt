@@ -1,16 +1,21 @@
 -- Where the content of a node stands in its text (own).
-use Rattle.std.specs.Prelude.{◌≡◌, ℕ, zero, suc, ◌+◌, ◌-◌, ◌<◌, ◌==◌, List, [], ◌∷◌, ◌++◌, length, take, replicate, slice_get, Option, Some, None, option_map, option_and_then, if◌then◌else◌}
+use Rattle.std.specs.Prelude.{◌≡◌, ℕ, zero, suc, ◌+◌, ◌-◌, ◌<◌, ◌==◌, List, [], ◌∷◌, ◌++◌, length, take, replicate, slice_get, Option, Some, None, option_map, option_and_then, if◌then◌else◌, true, false}
 use Rattle.std.specs.List.{sum_by}
-use Rattle.yq_scalar.specs.Paths.{Step}
+use Rattle.yq_scalar.specs.declared.kind.Kind.{Kind}
+use Rattle.yq_scalar.specs.Paths.{Step, node_at}
 use Rattle.yq_scalar.specs.Text.{is_empty, cut, ends_line}
 use Rattle.yq_rows.specs.Exchange.{row_front, before_head}
 use Rattle.yq_rows.specs.Rows.{Row, print_row, Cut}
 use Rattle.yq_rows.specs.View.{view}
+use Rattle.yq_scalar.specs.Tree.{Node}
 use Rattle.yq_tree.specs.declared.node.Node as declared
+use Rattle.yq_tree.specs.declared.node.NodeKind.TheVariants.{Scalar}
 use Rattle.yq_tree.specs.declared.path.Path.{Path}
-use Rattle.yq_tree.specs.Nodes.{head_of, lines_under, spot}
+use Rattle.yq_tree.specs.Nodes.{head_of, kind_of, lines_under, spot}
 use Rattle.yq_tree.specs.Outline.{Line, Outline, flatten}
 use Rattle.yq_tree.specs.Places.{find_row}
+use Rattle.yq_tree.specs.Reading.{root_of}
+use Rattle.yq_tree.specs.RowPaths.{row_at}
 use Rattle.yq_tree.specs.View.{steps_of}
 
 -- the text before the key of row i
@@ -82,3 +87,19 @@ IsEntryOf rows (Some r) under = (0 < under) × (slice_get rows (under - 1) ≡ S
 -- a node of the code is one of these
 abbrev pub IsPlaced : declared.Node → Type 0
 IsPlaced n = IsEntryOf n.documents.now.rows (option_map view n.row) n.under
+
+-- Where a path leads to a row with a head, the content of the node there stands where the head does (own).
+abbrev pub HeadHasPlace : Type 0
+HeadHasPlace =
+    (c : Cut) (s : Step) (ss : List Step) (i : ℕ) (r : Row) → row_at (s ∷ ss) c.rows ≡ Some i → slice_get c.rows i ≡ Some r → is_empty r.head ≡ false →
+    place_from c None 0 (s ∷ ss) ≡ Some (head_place c.rows i r)
+
+-- A scalar that no head spells, as a null of which nothing is written, has no place (own).
+abbrev pub HeadlessHasNone : Type 0
+HeadlessHasNone =
+    (c : Cut) (s : Step) (ss : List Step) (i : ℕ) (r : Row) (n : Node) (k : Kind) → row_at (s ∷ ss) c.rows ≡ Some i → slice_get c.rows i ≡ Some r → is_empty r.head ≡ true →
+    node_at (s ∷ ss) (root_of c) ≡ Some n → kind_of n ≡ Scalar k → place_from c None 0 (s ∷ ss) ≡ None
+
+-- Nor has a root that is a scalar (own).
+abbrev pub RootHasNone : Type 0
+RootHasNone = (c : Cut) (k : Kind) → kind_of (root_of c) ≡ Scalar k → place_from c None 0 [] ≡ None

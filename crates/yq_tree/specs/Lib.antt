@@ -15,3 +15,5 @@ pub mod RowPaths
 pub mod Answers
 pub mod Nodes
 pub mod Extents
+pub use Rattle.yq_rows.specs.Rows
+pub use Rattle.yq_rows.specs.Exchange

@@ -18,5 +18,5 @@ pub use document::{DEPTH_LIMIT, Documents};
 pub use laws::{exchanged, one_node, rules};
 pub use node::{Node, NodeKind};
 pub use path::{Part, Path, Span, Step};
-pub use path_laws::{head_exchanged, path_rows};
+pub use path_laws::{content_places, head_exchanged, path_rows};
 pub use reading::{one_reading, read};
