@@ -7,8 +7,8 @@ use Rattle.yq_scalar.specs.Text.{unless, upto, cut}
 use Rattle.yq_scalar.proofs.Boundaries.{boundary_ends}
 use Rattle.yq_scalar.proofs.Bools.{is_true, and_true, guard_then}
 use Rattle.yq_scalar.proofs.Upto.{upto_ends, upto_unless}
-use Rattle.yq_expr.specs.Tokens.{escape}
-use Rattle.yq_expr.specs.Lexing.{put, content, content_escaped, is_plain, escape_front}
+use Rattle.yq_expr.specs.Tokens.{escape, put}
+use Rattle.yq_expr.specs.Lexing.{content, content_escaped, is_plain, escape_front}
 
 plain_ends : (b : ℕ) (bs : List ℕ) → unless is_plain (b ∷ bs) ≡ true → b < 128
 plain_ends b bs h = grind arith

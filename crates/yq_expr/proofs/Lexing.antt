@@ -94,7 +94,7 @@ name_ascii b h = grind arith
 digit_ascii : (b : ℕ) → is_ascii_digit b ≡ true → b < 128
 digit_ascii b h = grind arith
 
-begins_is_name : (b : ℕ) → begins_name b ≡ true → is_name_byte b ≡ true
+pub begins_is_name : (b : ℕ) → begins_name b ≡ true → is_name_byte b ≡ true
 begins_is_name b h = grind arith
 
 dotted_ends : (t : List ℕ) (y : Form × ℕ) → dotted t ≡ Some y → EndsAscii (46 ∷ t) y.1

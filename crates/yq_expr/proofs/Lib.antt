@@ -5,5 +5,9 @@ pub mod Lexing
 pub mod Lists
 pub mod Outcomes
 pub mod Readers
+pub mod RunLaws
 pub mod Takes
+pub mod TextTokens
+pub mod TokenAgain
+pub mod TokenTakes
 pub mod Turns

@@ -5,12 +5,13 @@ use Rattle.std.specs.Prelude.{IfOk, IfErr}
 use Rattle.yq_scalar.proofs.Bools.{or_false, chosen}
 use Rattle.yq_expr.specs.declared.error.ParseError.{ParseError}
 use Rattle.yq_expr.specs.declared.error.ParseError.TheVariants as error
-use Rattle.yq_expr.specs.Tokens.{Token, string, number, step, symbol, foreign, unread}
-use Rattle.yq_expr.specs.Lexing.{tokens, AreRead, AreTokens}
+use Rattle.yq_expr.specs.Tokens.{Token, string, number, step, symbol, foreign, unread, AreTokens}
+use Rattle.yq_expr.specs.Lexing.{tokens, AreRead}
 use Rattle.yq_expr.specs.Program.{Program}
 use Rattle.yq_expr.specs.Grammar.{literal_depth}
 use Rattle.yq_expr.specs.Outcome.{parsed, refused, counted, is_opening, is_closing, opened, closed, IsTooDeep, HasForeign, has_pattern, Derives, IsRefused, Answers}
 use Rattle.yq_expr.specs.Parse.{is_unread, is_foreign_token, surveyed, program_at, unless_pattern, outcome_of, outcome}
+use Rattle.yq_expr.proofs.TextTokens.{tokens_take, tokens_again}
 use Rattle.yq_expr.proofs.Takes.{program_takes}
 use Rattle.yq_expr.proofs.Again.{program_again}
 
@@ -146,19 +147,19 @@ pub survey_refuses : (text : List ℕ) → surveyed false 0 0 (tokens text) ≡ 
 survey_refuses text h = elim (refused_in (tokens text) false 0 0 h) [
   | inl before ↦ cc
   | inr found ↦ elim found [
-    | inl other ↦ (tokens text, (refl, all_read (tokens text) false 0 0 true h), inl other)
-    | inr deep ↦ (tokens text, (refl, all_read (tokens text) false 0 0 true h), inr (too_deep (tokens text) deep.0 deep.1))
+    | inl other ↦ (tokens text, tokens_take text (all_read (tokens text) false 0 0 true h), inl other)
+    | inr deep ↦ (tokens text, tokens_take text (all_read (tokens text) false 0 0 true h), inr (too_deep (tokens text) deep.0 deep.1))
   ]
 ]
 
 pub survey_fails : (text : List ℕ) → surveyed false 0 0 (tokens text) ≡ None → (ts : List Token) → AreTokens ts text → ⊥
-survey_fails text h ts are = unread_in (tokens text) false 0 0 h (subst AreRead (sym are.0) are.1)
+survey_fails text h ts are = unread_in (tokens text) false 0 0 h (let read = tokens_again ts text are in subst AreRead (sym read.0) read.1)
 
 -- the tokens are this language's, and don't nest too deep
 pub survey_passes : (text : List ℕ) → surveyed false 0 0 (tokens text) ≡ Some false → AreTokens (tokens text) text × (HasForeign (tokens text) → ⊥) × (IsTooDeep (tokens text) → ⊥)
 survey_passes text h =
     let none = none_in (tokens text) false 0 0 h (λ lt. omega arith) in
-    ((refl, all_read (tokens text) false 0 0 false h), none.0, λ deep. none.1 deep.0 (omega (arith, deep.1)))
+    (tokens_take text (all_read (tokens text) false 0 0 false h), none.0, λ deep. none.1 deep.0 (omega (arith, deep.1)))
 
 pub derives_in : (text : List ℕ) (p : Program) → surveyed false 0 0 (tokens text) ≡ Some false → program_at literal_depth (tokens text) ≡ Some p → Derives text p
 derives_in text p h k =
@@ -175,9 +176,10 @@ surveys ts r f d (Some true) e = elim (refused_in ts false 0 0 e) [
 
 pub derives_again : (text : List ℕ) (p : Program) → Derives text p → (surveyed false 0 0 (tokens text) ≡ Some false) × (program_at literal_depth (tokens text) ≡ Some p)
 derives_again text p h =
-    let s = surveys h.0 h.1.1 h.2 h.3 (surveyed false 0 0 h.0) refl in
+    let read = tokens_again h.0 text h.1 in
+    let s = surveys h.0 read.1 h.2 h.3 (surveyed false 0 0 h.0) refl in
     let r = program_again p h.0 h.4 in
-    rw h.1.0 (s, r)
+    rw read.0 (s, r)
 
 pub one_of : (text : List ℕ) (p q : Program) → Derives text p → Derives text q → p ≡ q
 one_of text p q h k = let a = (derives_again text p h).1 in let b = (derives_again text q k).1 in let e : Some p ≡ Some q = sym a ∙ b in cc

@@ -4,8 +4,8 @@ use Rattle.std.specs.Cmp.Lexicographic.{same_text}
 use Rattle.std.specs.Prelude.{option_map}
 use Rattle.yq_scalar.specs.Answers.{◌>>=◌}
 use Rattle.yq_scalar.proofs.Bools.{bind_some, guard_some}
-use Rattle.yq_expr.specs.Tokens.{Token, string, number, step, symbol, foreign, unread}
-use Rattle.yq_expr.specs.Lexing.{is_symbol, after, taken, as_number, as_string, as_step}
+use Rattle.yq_expr.specs.Tokens.{Token, is_symbol, string, number, step, symbol, foreign, unread}
+use Rattle.yq_expr.specs.Lexing.{after, taken, as_number, as_string, as_step}
 use Rattle.yq_expr.specs.Grammar.{Form, Mark, Are, Behind, AreParted, Between}
 use Rattle.yq_expr.specs.Parse.{Parse, either, with_front, many_in, many, behind_at, parted_at, closed_at}
 

@@ -2,9 +2,8 @@
 use Rattle.std.specs.Prelude.{◌≡◌, ℕ, zero, suc, ◌+◌, if◌then◌else◌, Bool, true, false, ◌||◌, ◌&&◌, ◌==◌, List, [], ◌∷◌, length, take, drop, Option, Some, None, is_some, option_map, not}
 use Rattle.std.specs.Char.{is_ascii_digit}
 use Rattle.std.specs.List.{prefix_len}
-use Rattle.std.specs.Str.{bytes_eq}
 use Rattle.yq_scalar.specs.Text.{front}
-use Rattle.yq_expr.specs.Tokens.{Token, string, number, step, symbol, foreign, unread, is_blank, begins_name, is_name_byte, is_word, is_mark, is_mark_before, is_foreign, escape}
+use Rattle.yq_expr.specs.Tokens.{Token, is_symbol, string, number, step, symbol, foreign, unread, is_blank, begins_name, is_name_byte, is_word, is_mark, is_mark_before, is_foreign, escape, put}
 use Rattle.yq_expr.specs.declared.token.Form.{Form}
 use Rattle.yq_expr.specs.declared.token.Form.TheVariants as form
 
@@ -71,11 +70,6 @@ measure (b ∷ bs) =
     else (if b == 45 && front is_ascii_digit bs then Some (form.Number, 1 + number_len bs)
     else (if is_ascii_digit b then Some (form.Number, number_len (b ∷ bs))
     else worded (b ∷ bs))))
-
--- a character, if there is one, before what follows it (own)
-abbrev pub put : Option ℕ → List ℕ → List ℕ
-put None cs = []
-put (Some c) cs = c ∷ cs
 
 unfoldable mutual
   -- the content of a string, from behind its opening quote (own)
@@ -145,15 +139,6 @@ tokens_in (suc n) t = ahead (tokens_in n) (next t)
 unfoldable pub tokens : List ℕ → List Token
 tokens t = tokens_in (1 + length t) t
 
--- a symbol is this one (own)
-abbrev pub is_symbol : List ℕ → Token → Bool
-is_symbol s (symbol w) = bytes_eq w s
-is_symbol s (string c) = false
-is_symbol s (number w) = false
-is_symbol s (step k) = false
-is_symbol s foreign = false
-is_symbol s unread = false
-
 -- what follows the token in front, if that is the symbol (own)
 abbrev pub after : List ℕ → List Token → Option (List Token)
 after s [] = None
@@ -200,7 +185,3 @@ is_end (t ∷ ts) = false
 abbrev pub AreRead : List Token → Type 0
 AreRead [] = Unit {0}
 AreRead (t ∷ ts) = (t ≡ unread → ⊥) × AreRead ts
-
--- the tokens of a text, all of them read (own)
-abbrev pub AreTokens : List Token → List ℕ → Type 0
-AreTokens ts text = (tokens text ≡ ts) × AreRead ts

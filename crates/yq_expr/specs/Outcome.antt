@@ -4,9 +4,8 @@ use Rattle.std.specs.List.{list_any}
 use Rattle.yq_expr.specs.declared.error.ParseError.{ParseError}
 use Rattle.yq_expr.specs.declared.error.ParseError.TheVariants as error
 use Rattle.yq_expr.specs.Program.{Step, key, index, each, Operand, value_at, document_index, Condition, compares, has, Stage, path, select, Term, literal, found, Update, assign, delete, comment, Program, read, updates}
-use Rattle.yq_expr.specs.Tokens.{Token, foreign}
+use Rattle.yq_expr.specs.Tokens.{Token, foreign, is_symbol, AreTokens}
 use Rattle.yq_expr.specs.Grammar.{IsProgram}
-use Rattle.yq_expr.specs.Lexing.{is_symbol, AreTokens}
 
 -- a text with `*` or `?` (own)
 abbrev pub is_pattern : List ℕ → Bool

@@ -4,6 +4,7 @@ ghost use Rattle.std.specs.Prelude.{◌≡◌, ◌<◌, ◌≤◌, length, is_so
 ghost use Rattle.yq_expr.specs.Lexing as spec;
 ghost use Rattle.yq_expr.specs.Parse as parse;
 ghost use Rattle.yq_expr.specs.Seen.{seen};
+ghost use Rattle.yq_expr.specs.Tokens as grammar;
 ghost use Rattle.yq_expr.specs.Tokens.{is_blank};
 
 mod measure;
@@ -87,7 +88,7 @@ pub(crate) fn split_token(text: &str) -> Option<(Token<'_>, &str)>
 impl<'t> Token<'t> {
     /// Whether it is the mark or the word.
     pub(crate) fn is_symbol(self, symbol: &str) -> bool
-        ensures { result ≡ spec.is_symbol symbol.now (seen self.entry) }
+        ensures { result ≡ grammar.is_symbol symbol.now (seen self.entry) }
     {
         match self.form {
             Form::Symbol => self.piece == symbol,
