@@ -1,5 +1,5 @@
 -- Steps of the loops over lines.
-use Rattle.std.proofs.Common.{◌≡◌, ℕ, zero, suc, ◌+◌, ◌<◌, ◌≤◌, Bool, true, false, cond, eqb, ltb, List, [], ◌∷◌, length, take, drop, Option, Some, None, refl, sym, ap, ◌∙◌, ⊎_elim, arith, eqb-true, ltb-true, length-append, length-take}
+use Rattle.std.proofs.Common.{◌≡◌, ℕ, zero, suc, ◌+◌, ◌<◌, ◌≤◌, Bool, true, false, cond, eqb, ltb, List, [], ◌∷◌, length, take, drop, Option, Some, None, refl, sym, ap, ◌∙◌, ⊎_elim, arith, eqb-true, ltb-true, length-append, length-take, length-drop}
 use Rattle.std.proofs.lemmas.Bool.{false≢true, lt-ltb, false_from_ne_true}
 use Rattle.yq_scalar.proofs.Bools.{is_true}
 use Rattle.yq_scalar.proofs.LineLaws.{line_step, line_len_some, line_len_within}
@@ -7,7 +7,7 @@ use Rattle.yq_scalar.specs.Answers.{◌>>=◌}
 use Rattle.yq_scalar.specs.Block.{Lines, is_less_indented}
 use Rattle.yq_scalar.specs.BlockReading.{is_empty_at, is_text_at, with_line, with_empty, raw_at, raw_len, len_at, counted, detected_at}
 use Rattle.yq_scalar.specs.Lines.{spaces, is_blank}
-use Rattle.yq_scalar.specs.Text.{is_empty, line_len, lines_of, joined}
+use Rattle.yq_scalar.specs.Text.{is_empty, line_len, lines_of, joined, cut_line}
 use Rattle.yq_scalar.specs.declared.block_lines.TextIndent.{TextIndent}
 
 -- the line in front of a text that is not empty
@@ -17,6 +17,14 @@ at_line (x ∷ t) l a n e is none m f b =
     let s : List ℕ = x ∷ t in
     let some : 0 < length s = omega arith in
     (rw (f, b, m) (line_step s some), omega (arith, line_len_some s some), rw f (omega (arith, length-take n s, line_len_within s)))
+
+-- the same of the text cut behind its line
+pub at_cut : (t l a : List ℕ) (e : Bool) → e ≡ eqb (length t) 0 → e ≡ false → (l, a) ≡ cut_line t → (lines_of t ≡ l ∷ lines_of a) × (length a < length t)
+at_cut t l a e is none cut =
+    let front_is : l ≡ take (line_len t) t = ap (λ (x : List ℕ × List ℕ). x.0) cut in
+    let back_is : a ≡ drop (line_len t) t = ap (λ (x : List ℕ × List ℕ). x.1) cut in
+    let line = at_line t l a (line_len t) e is none refl front_is back_is in
+    (line.0, omega (arith, line.1, line_len_within t, length-drop (line_len t) t, ap length back_is))
 
 pub at_end : (t : List ℕ) (e : Bool) → e ≡ eqb (length t) 0 → e ≡ true → t ≡ []
 at_end [] e is h = refl

@@ -44,6 +44,11 @@ space_ascii b bs h = ⊎_elim (λ e. white_ascii b e) (λ e. break_ascii b bs e)
 pub boundary_spaces : (t : List ℕ) (n : ℕ) → n ≡ prefix_len (λ b. eqb b 32) t → IsUtf8 t → IsCharBoundary t n
 boundary_spaces t n e u = rw e (rw (← upto_unless) (boundary_unless (λ b. eqb b 32) t u (λ b h. omega (arith, eqb-true b 32 h))))
 
+pub boundary_in_spaces : (t : List ℕ) (n : ℕ) → n ≤ prefix_len (λ b. eqb b 32) t → IsUtf8 t → IsCharBoundary t n
+boundary_in_spaces t n few u =
+    let within : prefix_len (λ b. eqb b 32) t ≤ length t = rw (← upto_unless) (upto_le_length (unless (λ b. eqb b 32)) t) in
+    boundary_behind t n u (omega arith) (λ k below. let is : get_or t k 0 ≡ 32 = eqb-true (get_or t k 0) 32 (prefix_len_passes (λ b. eqb b 32) t k 0 (omega arith)) in omega arith)
+
 pub boundary_white : (t : List ℕ) (n : ℕ) → n ≡ prefix_len is_white t → IsUtf8 t → IsCharBoundary t n
 boundary_white t n e u = rw e (rw (← upto_unless) (boundary_unless is_white t u white_ascii))
 

@@ -36,3 +36,5 @@ pub mod BlockFound
 pub mod BlockSteps
 pub mod QuotedPieceLaws
 pub mod PieceContentLaws
+pub mod BlockContentSteps
+pub mod BlockPieceLaws

@@ -151,3 +151,7 @@ pub record IsBlockPiece (n : ℤ) (at : ℕ) (text : List ℕ) (p : Piece) : Typ
   pub stands : drop at text ≡ block_text block rest
   pub scalar : IsBlock (deeper n) block rest
   pub piece : p ≡ block_piece at block
+
+-- the piece is that of a block scalar of the text (own)
+abbrev pub IsBlockScalar : List ℕ → Piece → Type 0
+IsBlockScalar text p = (n : ℤ) × IsBlockPiece n p.start text p

@@ -1,13 +1,17 @@
 -- Reading (a reader may skip this: the grammar is what is believed, and found and only tie the two).
 use Rattle.std.specs.Prelude.{ℕ, ◌+◌, ◌-◌, Bool, true, false, ◌||◌, ◌&&◌, not, ◌==◌, nat_le, nat_lt, List, [], ◌∷◌, ◌++◌, length, take, drop, if◌then◌else◌, Option, Some, None, ℤ}
+use Rattle.std.specs.Option.{unwrap_or}
 use Rattle.yq_scalar.specs.declared.block_header.BlockStyle.{BlockStyle}
 use Rattle.yq_scalar.specs.declared.block_header.BlockStyle.TheVariants as styles
 use Rattle.yq_scalar.specs.declared.block_header.Chomping.{Chomping}
 use Rattle.yq_scalar.specs.declared.block_header.Chomping.TheVariants as chompings
 use Rattle.yq_scalar.specs.declared.block_lines.TextIndent.{TextIndent}
 use Rattle.yq_scalar.specs.declared.piece.Piece.{Piece}
+use Rattle.yq_scalar.specs.declared.style.Style.{Style}
+use Rattle.yq_scalar.specs.declared.style.Style.TheVariants as all_styles
 use Rattle.yq_scalar.specs.Answers.{◌>>=◌}
 use Rattle.yq_scalar.specs.Block.{Lines, is_empty_line, is_text_line, is_less_indented, digit_text, sign_text, keeps, is_tail, BlockText, block_piece}
+use Rattle.yq_scalar.specs.BlockContent.{content_of}
 use Rattle.yq_scalar.specs.Lines.{spaces, is_blank}
 use Rattle.yq_scalar.specs.Piece.{deeper}
 use Rattle.yq_scalar.specs.Text.{is_empty, is_line, line_len, lines_of, joined}
@@ -118,3 +122,24 @@ piece_at start least t = block_at least t >>= λ x. Some (block_piece start x.0)
 -- the piece of the block scalar that begins at this offset, if one does (own)
 unfoldable pub block_from : ℤ → ℕ → List ℕ → Option Piece
 block_from n at text = piece_at at (deeper n) (drop at text)
+
+-- the style of a block scalar's piece (own)
+abbrev pub block_style : Style → BlockStyle
+block_style all_styles.Plain = styles.Literal
+block_style all_styles.Single = styles.Literal
+block_style all_styles.Double = styles.Literal
+block_style all_styles.Literal = styles.Literal
+block_style all_styles.Folded = styles.Folded
+
+-- the indentation of raw lines whose text is indented by so many columns (own)
+unfoldable pub indent_of : Option ℕ → ℕ → Lines → TextIndent
+indent_of (Some d) n ls = record { columns = n; known = true }
+indent_of None n ls = unwrap_or (detected_at n 0 ls) (record { columns = n; known = true })
+
+-- what the raw lines of a piece stand for, behind these indicators (own)
+abbrev pub raw_content : Piece → Option ℕ × Chomping × List ℕ → List ℕ → List ℕ
+raw_content p m raw = content_of (block_style p.style) m.1 (indent_of m.0 p.indent (lines_of raw)) (lines_of raw)
+
+-- what the block scalar at a piece of a text stands for (own)
+unfoldable pub piece_content : List ℕ → Piece → List ℕ
+piece_content text p = raw_content p (values (indicators_at (drop (p.start + 1) text))) (take (p.end - p.raw_start) (drop p.raw_start text))

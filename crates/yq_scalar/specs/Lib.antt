@@ -22,3 +22,4 @@ pub mod Lines
 pub mod Block
 pub mod BlockReading
 pub mod QuotedPiece
+pub mod BlockContent

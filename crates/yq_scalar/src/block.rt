@@ -76,6 +76,7 @@ pub fn read_block(text: &str, at: usize, parent: i64) -> Result<Piece, FaultKind
     ensures exact { Reads (λ p. p) result (reading.block_from parent at text.now) }
     ensures found { IfOk result (spec.IsBlockPiece parent at text.now) }
     ensures only { (p : Piece) → spec.IsBlockPiece parent at text.now p → result ≡ Ok p }
+    ensures scalar { IfOk result (spec.IsBlockScalar text.now) }
 {
     block_from(text, at, parent)
 }

@@ -2,6 +2,7 @@
 #![tactic(auto)]
 
 pub mod block;
+pub mod block_content;
 pub mod block_header;
 pub mod block_laws;
 pub mod block_lines;

@@ -1,0 +1,263 @@
+//! What a block scalar stands for (YAML 1.2.2, sections 8.1.1.2, 8.1.2 and 8.1.3).
+ghost use Rattle.std.specs.Prelude.{◌≡◌, ◌<◌, ◌≤◌, ◌==◌, ◌&&◌, not, ◌++◌, ℤ, length, take, drop, replicate, OnOk, IfOk};
+ghost use Rattle.std.specs.Str.{IsCharBoundary};
+ghost use Rattle.std.specs.String.{string_bytes};
+ghost use Rattle.yq_scalar.specs.Block.{IsBlockPiece, IsBlockScalar};
+ghost use Rattle.yq_scalar.specs.BlockContent as spec;
+ghost use Rattle.yq_scalar.specs.BlockReading as reading;
+ghost use Rattle.yq_scalar.specs.Text.{feed, front, is_white, lines_of, cut_line};
+ghost use Rattle.yq_scalar.specs.declared.block_content.Before.TheVariants.{Nothing};
+
+use crate::block_header::{BlockStyle, Chomping, split_indicators};
+use crate::block_lines::{TextIndent, detect_indent};
+use crate::lines::{split_at_break, split_line};
+use crate::piece::Piece;
+use crate::style::Style;
+use crate::text::{is_white, spaces_len};
+use std::alloc::{AllocError, Global};
+
+/// What stands before a line of folded text.
+#[derive(Clone, Copy, Debug, PartialEq, Eq)]
+pub enum Before {
+    /// Empty lines alone.
+    Nothing,
+    /// A line of text.
+    Text,
+    /// A line that begins with white space behind the indentation.
+    Spaced,
+}
+
+/// The line without its indentation.
+fn unindented(indent: TextIndent, line: &str) -> &str
+    ensures { result.now ≡ spec.unindented indent line.now }
+{
+    let spaces = spaces_len(line.as_bytes());
+    let n = if indent.known {
+        usize::min(indent.columns, spaces)
+    } else {
+        spaces
+    };
+    line.split_at(n).1
+}
+
+/// The line without its indentation and its break.
+fn part_of(indent: TextIndent, line: &str) -> &str
+    ensures { result.now ≡ spec.part_of indent line.now }
+{
+    split_at_break(unindented(indent, line)).0
+}
+
+/// Whether white space is in front.
+fn begins_white(text: &[u8]) -> bool
+    ensures { result ≡ front is_white text.now }
+{
+    matches!(text, [first, ..] if is_white(*first))
+}
+
+/// Adds so many LFs.
+fn push_breaks(out: &mut String, count: usize) -> Result<(), AllocError>
+    ensures { OnOk result (string_bytes out.new ≡ string_bytes out.old ++ replicate count feed) }
+{
+    for _ in 0..count {
+        out.push('\n')?;
+    }
+    Ok(())
+}
+
+/// Adds what stands between a line and the one before it.
+fn push_joint(
+    out: &mut String,
+    before: Before,
+    white: bool,
+    empty: usize,
+) -> Result<(), AllocError>
+    ensures { OnOk result (string_bytes out.new ≡ string_bytes out.old ++ spec.joint before white empty) }
+{
+    match before {
+        Before::Nothing => push_breaks(out, empty),
+        Before::Text if !white => {
+            if empty == 0 {
+                out.push_str(" ")
+            } else {
+                push_breaks(out, empty)
+            }
+        }
+        _ => {
+            out.push_str("\n")?;
+            push_breaks(out, empty)
+        }
+    }
+}
+
+/// Adds what stands behind the last line.
+fn push_ending(
+    out: &mut String,
+    chomping: Chomping,
+    before: Before,
+    empty: usize,
+) -> Result<(), AllocError>
+    ensures { OnOk result (string_bytes out.new ≡ string_bytes out.old ++ spec.ending chomping before empty) }
+{
+    match (chomping, before) {
+        (Chomping::Strip, _) | (Chomping::Clip, Before::Nothing) => Ok(()),
+        (Chomping::Clip, _) => out.push_str("\n"),
+        (Chomping::Keep, Before::Nothing) => push_breaks(out, empty),
+        (Chomping::Keep, _) => {
+            out.push_str("\n")?;
+            push_breaks(out, empty)
+        }
+    }
+}
+
+/// Adds a line's text, and perhaps an LF.
+fn push_line(out: &mut String, text: &str, broken: bool) -> Result<(), AllocError>
+    ensures { OnOk result (string_bytes out.new ≡ string_bytes out.old ++ (text.now ++ spec.broken broken)) }
+{
+    out.push_str(text)?;
+    if broken {
+        out.push_str("\n")?;
+    }
+    Ok(())
+}
+
+/// Whether an LF stands behind a line's text.
+fn goes_on(strip: bool, after: &str) -> bool
+    ensures { result ≡ not (strip && length after.now == 0) }
+{
+    !(strip && after.is_empty())
+}
+
+/// Adds what raw lines in literal style stand for.
+fn push_literal(
+    out: &mut String,
+    strip: bool,
+    indent: TextIndent,
+    raw: &str,
+) -> Result<(), AllocError>
+    ensures { OnOk result (string_bytes out.new ≡ string_bytes out.old ++ spec.literal strip indent (lines_of raw.now)) }
+{
+    let mut rest = raw;
+    'each: while !rest.is_empty() {
+        let (line, after) = split_line(rest);
+        push_line(out, part_of(indent, line), goes_on(strip, after))?;
+        rest = after;
+    }
+    Ok(())
+}
+
+/// What a line of text is for the one behind it.
+fn kind_of(text: &[u8]) -> Before
+    ensures { result ≡ spec.kind_of text.now }
+{
+    if begins_white(text) {
+        Before::Spaced
+    } else {
+        Before::Text
+    }
+}
+
+/// Adds what raw lines in folded style stand for.
+fn push_folded(
+    out: &mut String,
+    chomping: Chomping,
+    indent: TextIndent,
+    raw: &str,
+) -> Result<(), AllocError>
+    ensures { OnOk result (string_bytes out.new ≡ string_bytes out.old ++ spec.folded chomping indent Nothing 0 (lines_of raw.now)) }
+{
+    let mut before = Before::Nothing;
+    let mut empty = 0usize;
+    let mut rest = raw;
+    'each: while !rest.is_empty() {
+        let (line, after) = split_line(rest);
+        let text = part_of(indent, line);
+        if text.is_empty() {
+            empty += 1;
+        } else {
+            push_joint(out, before, begins_white(text.as_bytes()), empty)?;
+            out.push_str(text)?;
+            before = kind_of(text.as_bytes());
+            empty = 0;
+        }
+        rest = after;
+    }
+    push_ending(out, chomping, before, empty)?;
+    Ok(())
+}
+
+/// Whether the last break is stripped.
+fn strips(chomping: Chomping) -> bool
+    ensures { result ≡ spec.strips chomping }
+{
+    matches!(chomping, Chomping::Strip)
+}
+
+/// What raw lines stand for, which is no longer than they are.
+fn content_of(
+    alloc: Global,
+    style: BlockStyle,
+    chomping: Chomping,
+    indent: TextIndent,
+    raw: &str,
+) -> Result<String, AllocError>
+    ensures { IfOk result (λ s. string_bytes s ≡ spec.content_of style chomping indent (lines_of raw.now)) }
+{
+    let mut out = String::with_capacity(alloc, raw.len())?;
+    match style {
+        BlockStyle::Literal => push_literal(&mut out, strips(chomping), indent, raw)?,
+        BlockStyle::Folded => push_folded(&mut out, chomping, indent, raw)?,
+    }
+    Ok(out)
+}
+
+/// The style of a block scalar's piece.
+fn block_style(style: Style) -> BlockStyle
+    ensures { result ≡ reading.block_style style }
+{
+    match style {
+        Style::Folded => BlockStyle::Folded,
+        _ => BlockStyle::Literal,
+    }
+}
+
+/// The indentation of raw lines whose text is indented by so many columns.
+#[tactic(auto, unfolding(crate::specs::BlockReading::indent_of))]
+fn indent_of(digit: Option<u8>, columns: usize, raw: &[u8]) -> TextIndent
+    ensures { result ≡ reading.indent_of digit columns (lines_of raw.now) }
+{
+    let known = TextIndent {
+        columns,
+        known: true,
+    };
+    if digit.is_some() {
+        return known;
+    }
+    match detect_indent(columns, raw) {
+        Ok(indent) => indent,
+        Err(_) => known,
+    }
+}
+
+#[tactic(auto, unfolding(crate::specs::BlockReading::piece_content))]
+fn content_at(alloc: Global, text: &str, piece: &Piece) -> Result<String, AllocError>
+    requires header { piece.now.start < length text.now }
+    requires order { piece.now.raw_start ≤ piece.now.end }
+    requires begins { IsCharBoundary text.now piece.now.raw_start }
+    requires ends { IsCharBoundary text.now piece.now.end }
+    ensures { IfOk result (λ s. string_bytes s ≡ reading.piece_content text.now piece.now) }
+{
+    let (digit, chomping, _) = split_indicators(text.as_bytes().split_at(piece.start + 1).1);
+    let raw = &text[piece.raw_start..piece.end];
+    let indent = indent_of(digit, piece.indent, raw.as_bytes());
+    content_of(alloc, block_style(piece.style), chomping, indent, raw)
+}
+
+/// What the block scalar at a piece of a text stands for: its lines without their indentation, each
+/// break as an LF or folded, the breaks at the end as its header asks.
+pub fn block_content(alloc: Global, text: &str, piece: &Piece) -> Result<String, AllocError>
+    requires { IsBlockScalar text.now piece.now }
+    ensures exact { IfOk result (λ s. string_bytes s ≡ reading.piece_content text.now piece.now) }
+    ensures found { (n : ℤ) (p : IsBlockPiece n piece.now.start text.now piece.now) → IfOk result (λ s. string_bytes s ≡ spec.block_content p.block) }
+{
+    content_at(alloc, text, piece)
+}
