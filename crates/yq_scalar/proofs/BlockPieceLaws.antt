@@ -1,5 +1,5 @@
 -- Where a piece may be cut out of its text.
-use Rattle.std.proofs.Common.{◌≡◌, ℕ, suc, ◌+◌, ◌-◌, ◌<◌, ◌≤◌, true, false, eqb, List, [], ◌∷◌, ◌++◌, length, take, drop, get_or, Option, Some, None, refl, sym, ap, ◌∙◌, subst, inl, inr, ◌⊎◌, ⊎_elim, arith, eqb-true, append_assoc, append-nil, length-append, length-take, length-drop, min, ℤ}
+use Rattle.std.proofs.Common.{◌≡◌, ℕ, suc, ◌+◌, ◌-◌, ◌<◌, ◌≤◌, true, eqb, List, [], ◌∷◌, ◌++◌, length, take, drop, get_or, Option, Some, None, refl, sym, ap, ◌∙◌, subst, inl, inr, ◌⊎◌, ⊎_elim, arith, eqb-true, append_assoc, append-nil, length-append, length-take, length-drop, min, ℤ}
 use Rattle.std.proofs.lemmas.Bool.{false≢true}
 use Rattle.std.proofs.lemmas.List.{take-append-drop, drop-drop}
 use Rattle.std.proofs.Math.Seq.{take-append_seam, drop-append_seam}
@@ -106,9 +106,9 @@ stands n text p u h =
       order = omega arith;
       begins = begins;
       ends = ⊎_elim {0, 0, 0}
-        (λ e. let same : p.raw_start ≡ p.end = (let none : length raw ≡ 0 = ap length e in omega arith) in subst (IsCharBoundary text) same begins)
-        (λ e. cut_lf text ((before ++ head) ++ raw) h.rest p.end to_end (append_lf (before ++ head) raw e) (omega arith) u)
-        (raw_lf b.indent b.raw h.scalar.lines);
+          (λ e. let same : p.raw_start ≡ p.end = (let none : length raw ≡ 0 = ap length e in omega arith) in subst (IsCharBoundary text) same begins)
+          (λ e. cut_lf text ((before ++ head) ++ raw) h.rest p.end to_end (append_lf (before ++ head) raw e) (omega arith) u)
+          (raw_lf b.indent b.raw h.scalar.lines);
     }
 
 indent_same : (least : ℕ) (digit : Option ℕ) (f : TextIndent) (raw : Lines) → IsTextIndent least digit f raw → AreRaw f raw → indent_of digit f.columns (lines_of (joined raw)) ≡ f

@@ -65,12 +65,7 @@ fn push_breaks(out: &mut String, count: usize) -> Result<(), AllocError>
 }
 
 /// Adds what stands between a line and the one before it.
-fn push_joint(
-    out: &mut String,
-    before: Before,
-    white: bool,
-    empty: usize,
-) -> Result<(), AllocError>
+fn push_joint(out: &mut String, before: Before, white: bool, empty: usize) -> Result<(), AllocError>
     ensures { OnOk result (string_bytes out.new ≡ string_bytes out.old ++ spec.joint before white empty) }
 {
     match before {

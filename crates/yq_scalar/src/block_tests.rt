@@ -142,7 +142,11 @@ fn block_contents(rt: HostRuntime) -> Result<(), Fail> {
         ("|2-\n   x\n\n", 0, " x"),
         ("|+\n  x\n\n", 0, "x\n\n"),
         (">+\n\n    \n", 0, "\n\n"),
-        ("|\n    By four\n      spaces\n Flow style: x\n", 1, "By four\n  spaces\n"),
+        (
+            "|\n    By four\n      spaces\n Flow style: x\n",
+            1,
+            "By four\n  spaces\n",
+        ),
         (">-\r\n  a\r\n  b\r\n\r\n  c\r\n\r\n", 0, "a b\nc"),
         ("|+\r\n  a\r\n\r\n", 0, "a\n\n"),
         (">+\n  a\n\n\n", 0, "a\n\n\n"),
@@ -150,7 +154,11 @@ fn block_contents(rt: HostRuntime) -> Result<(), Fail> {
         ("|\n  \u{e9}\n   \u{1f600}\n", 0, "\u{e9}\n \u{1f600}\n"),
     ];
     for (text, parent, content) in contents {
-        assert_eq!(rt; content_of(alloc, text, parent)?.as_str(), content, "at {text:?}");
+        assert_eq!(rt;
+            content_of(alloc, text, parent)?.as_str(),
+            content,
+            "at {text:?}"
+        );
     }
     Ok(())
 }
@@ -160,17 +168,33 @@ fn examples_of_chapter_8_1(rt: HostRuntime) -> Result<(), Fail> {
     let alloc = rt.alloc();
     let contents = [
         ("| # Empty header\n literal\n- x\n", 0, "literal\n"),
-        (">1 # Indentation indicator\n  folded\n- x\n", 0, " folded\n"),
+        (
+            ">1 # Indentation indicator\n  folded\n- x\n",
+            0,
+            " folded\n",
+        ),
         ("|+ # Chomping indicator\n keep\n\n- x\n", 0, "keep\n\n"),
         (">1- # Both indicators\n  strip\n", 0, " strip"),
-        ("|-\n  # text\n  \n # Clip\n  # comments:\n\nclip: x\n", 0, "# text"),
-        ("|\n  # text\n \n # Keep\n  # comments:\n\nkeep: x\n", 0, "# text\n"),
+        (
+            "|-\n  # text\n  \n # Clip\n  # comments:\n\nclip: x\n",
+            0,
+            "# text",
+        ),
+        (
+            "|\n  # text\n \n # Keep\n  # comments:\n\nkeep: x\n",
+            0,
+            "# text\n",
+        ),
         ("|+\n  # text\n\n # Trail\n  # Comments\n", 0, "# text\n\n"),
         (">-\n\nclip: x\n", 0, ""),
         (">\n\nkeep: x\n", 0, ""),
         ("|+\n\n", 0, "\n"),
         ("|\n literal\n \ttext\n\n", -1, "literal\n\ttext\n"),
-        ("|\n \n  \n  literal\n   \n  \n  text\n\n # Comment\n", -1, "\n\nliteral\n \n\ntext\n"),
+        (
+            "|\n \n  \n  literal\n   \n  \n  text\n\n # Comment\n",
+            -1,
+            "\n\nliteral\n \n\ntext\n",
+        ),
         (">\n folded\n text\n\n", -1, "folded text\n"),
         (
             ">\n\n folded\n line\n\n next\n line\n   * bullet\n\n   * list\n   * lines\n\n last\n line\n\n# Comment\n",
@@ -181,7 +205,11 @@ fn examples_of_chapter_8_1(rt: HostRuntime) -> Result<(), Fail> {
         (">\n  some\n  text\n", 0, "some text\n"),
     ];
     for (text, parent, content) in contents {
-        assert_eq!(rt; content_of(alloc, text, parent)?.as_str(), content, "at {text:?}");
+        assert_eq!(rt;
+            content_of(alloc, text, parent)?.as_str(),
+            content,
+            "at {text:?}"
+        );
     }
     Ok(())
 }

@@ -1,5 +1,4 @@
-use Rattle.std.proofs.Common.{◌<◌, length, arith, rules, refl, sym, ◌∙◌}
-use Rattle.yq_scalar.specs.Text.{line_len}
+use Rattle.std.proofs.Common.{arith, rules}
 use Rattle.yq_scalar.proofs.BlockSteps.{at_cut, at_end}
 use Rattle.yq_scalar.proofs.BlockContentSteps.{fold_blank, fold_text, fold_end}
 use Rattle.yq_scalar.proofs.block_content.push_folded.Goals as goal

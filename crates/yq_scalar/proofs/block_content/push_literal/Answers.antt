@@ -1,5 +1,4 @@
-use Rattle.std.proofs.Common.{◌<◌, length, arith, rules, refl, eqb-true}
-use Rattle.yq_scalar.specs.Text.{line_len}
+use Rattle.std.proofs.Common.{rules}
 use Rattle.yq_scalar.proofs.BlockSteps.{at_cut, at_end}
 use Rattle.yq_scalar.proofs.BlockContentSteps.{literal_step, literal_end}
 use Rattle.yq_scalar.proofs.block_content.push_literal.Goals as goal
