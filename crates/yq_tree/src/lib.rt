@@ -19,4 +19,4 @@ pub use laws::{exchanged, one_node, rules};
 pub use node::{Node, NodeKind};
 pub use path::{Part, Path, Span, Step};
 pub use path_laws::{content_places, head_exchanged, path_rows};
-pub use reading::{one_reading, read};
+pub use reading::{one_reading, read, text_of};
