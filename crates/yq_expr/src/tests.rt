@@ -1,5 +1,6 @@
 //! Texts and the programs or refusals that they are.
 
+mod memory;
 mod shown;
 
 use crate::error::ParseError;
@@ -111,6 +112,75 @@ fn updates(rt: HostRuntime) -> Result<(), Fail> {
         assert_eq!(rt; written.as_str(), wanted, "at {text:?}");
         assert!(rt; !program.is_read(), "at {text:?}");
         assert_eq!(rt; program.updates(), count, "at {text:?}");
+    }
+    Ok(())
+}
+
+/// Expressions that are used elsewhere, with how many updates each has.
+#[test]
+fn worked(rt: HostRuntime) -> Result<(), Fail> {
+    let alloc = rt.alloc();
+    let rows = [
+        (".port = 9090", 1),
+        (".name = \"true\"", 1),
+        (".a.b = 1", 1),
+        (".k += [\"b\"]", 1),
+        ("del(.b)", 1),
+        ("del(.[0].a)", 1),
+        ("del(.x.a)", 1),
+        (".x = {\"b\": 1}", 1),
+        ("del(.p[1])", 1),
+        ("del(.p[0])", 1),
+        (".a = 2", 1),
+        ("del(.a)", 1),
+        (".b.c = 1", 1),
+        (".b = 3", 1),
+        (".n += 1", 1),
+        (".run = \"echo b\\n\"", 1),
+        (".run = \"x\\n\\n\"", 1),
+        ("(select(di == 1) | .a) = 3", 1),
+        (".a = 1 | .b.c = 2", 2),
+        (".a[5] = 1", 1),
+        ("del(.a[-2])", 1),
+        (".b[0] = 1", 1),
+        ("del(.)", 1),
+        (".a[0] line_comment=\"z\"", 1),
+        (".a line_comment=\"p\\nq\"", 1),
+        (".b = .a[]", 1),
+        (".b = .b[]", 1),
+        (".a += [2]", 1),
+        (".a += 2", 1),
+        (".b head_comment=\"one\\ntwo\" | .a line_comment=\"x\"", 2),
+        (".list[0] = {\"k\": [1]}", 1),
+        ("del(.[])", 1),
+        (".c = 3", 1),
+        (".a = 1", 1),
+        (".n.m = 1", 1),
+        (".k = \"it's\"", 1),
+        (".k = 5", 1),
+        (".k = \"c\"", 1),
+        (".x.y = 1", 1),
+        (".z += 1", 1),
+        (".m += null", 1),
+        (".b += {\"c\": 1, \"d\": 2}", 1),
+        (".t = {\"u\": [1]}", 1),
+        (".b head_comment=\"\" | .a line_comment=\"\"", 2),
+        (".[0] = {\"k\": 1, \"j\": 2}", 1),
+        (".c = [1, {\"d\": null}]", 1),
+        (". += [\"b\"]", 1),
+        ("del(.[0])", 1),
+        (". = {\"a\": 1}", 1),
+        (". = 5", 1),
+        (". = {\"b\": [1]}", 1),
+        (".b = 2", 1),
+        (".a", 0),
+        (".z", 0),
+        (".a = \"x\"", 1),
+    ];
+    for (text, count) in rows {
+        let program = parse_expr(alloc, text)?;
+        assert_eq!(rt; program.updates(), count, "at {text:?}");
+        assert_eq!(rt; program.is_read(), count == 0, "at {text:?}");
     }
     Ok(())
 }
