@@ -11,3 +11,8 @@ pub mod TextTokens
 pub mod TokenAgain
 pub mod TokenTakes
 pub mod Turns
+pub mod KeySteps
+pub mod PlanLaws
+pub mod Leading
+pub mod Steps
+pub mod WrittenLaws

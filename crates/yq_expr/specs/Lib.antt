@@ -9,3 +9,9 @@ pub mod Tokens
 pub mod Values
 pub mod View
 pub use Rattle.yq_scalar.specs.Tree
+pub mod Matching
+pub mod Operations
+pub mod Judgement
+pub mod Meaning
+pub mod Plan
+pub mod Written

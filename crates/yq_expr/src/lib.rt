@@ -4,8 +4,11 @@
 mod error;
 mod front;
 mod laws;
+mod matching;
+mod op;
 mod parse;
 mod pattern;
+mod planning;
 mod program;
 mod refusal;
 mod survey;
@@ -13,13 +16,17 @@ mod survey;
 mod tests;
 mod token;
 mod value;
+mod written;
 
 pub use error::ParseError;
 pub use laws::one_program;
+pub use op::Op;
 pub use parse::parse_expr;
+pub use planning::{PlanError, plan};
 pub use program::{
     Assignment, Comment, CommentPlace, Comparison, Condition, Operand, Operator, Program, Stage,
     Step, Term, Update,
 };
 pub use refusal::Refusal;
 pub use value::Value;
+pub use written::{Written, written_at};

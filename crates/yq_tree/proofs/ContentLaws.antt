@@ -46,6 +46,7 @@ deep_found start f (Some x) = go x.1
   where
     size : length (lines_before (compose f.place (below f.line x.0.place f.after))) ≡ length (lines_before f.place) + suc (length (lines_before x.0.place))
     size = ap length (before-compose f.place (below f.line x.0.place f.after)) ∙ length-append (lines_before f.place) (f.line ∷ lines_before x.0.place)
+
     go : (ss : List Step) → entry_of (start + length (lines_before f.place) + 1) x.0 ss ≡ entry_of start (inside f x.0) ss
     go [] = ap (λ n. Some (n, x.0.line, x.0.under)) (omega (arith, size))
     go (s ∷ ss) = refl
@@ -61,11 +62,12 @@ entry_found (t ∷ ts) start s (row l u a) h =
     ∙ sym (ap (λ m. found_entry start (bare_or m (Some (record { place = here; line = l; under = u; after = a }, s ∷ (t ∷ ts))) (option_and_then (λ f. in_head f.line.head (Some (f, t ∷ ts)) (option_map (λ x. (inside f x.0, x.1)) (find t ts f.under))) (find_row s (row l u a))))) h.0.0.1)
   where
     head : ((st : ℕ) (o : Outline) → AreKeyLines o → entry_at st t ts o ≡ found_entry st (find t ts o)) → (f : Found) → AreKeyLines f.under → (n : Option Node) →
-      without_head n (entry_at (start + length (lines_before f.place) + 1) t ts f.under) ≡ found_entry start (in_head n (Some (f, t ∷ ts)) (option_map (λ x. (inside f x.0, x.1)) (find t ts f.under)))
+        without_head n (entry_at (start + length (lines_before f.place) + 1) t ts f.under) ≡ found_entry start (in_head n (Some (f, t ∷ ts)) (option_map (λ x. (inside f x.0, x.1)) (find t ts f.under)))
     head ih f k None = ih (start + length (lines_before f.place) + 1) f.under k ∙ deep_found start f (find t ts f.under)
     head ih f k (Some n) = refl
+
     go : ((st : ℕ) (o : Outline) → AreKeyLines o → entry_at st t ts o ≡ found_entry st (find t ts o)) → (r : Option Found) → If r (λ f. IsKeyLine f.line × AreKeyLines f.under) →
-      option_and_then (λ e. without_head e.1.head (entry_at (e.0 + 1) t ts e.2)) (spot start r) ≡ found_entry start (option_and_then (λ f. in_head f.line.head (Some (f, t ∷ ts)) (option_map (λ x. (inside f x.0, x.1)) (find t ts f.under))) r)
+        option_and_then (λ e. without_head e.1.head (entry_at (e.0 + 1) t ts e.2)) (spot start r) ≡ found_entry start (option_and_then (λ f. in_head f.line.head (Some (f, t ∷ ts)) (option_map (λ x. (inside f x.0, x.1)) (find t ts f.under))) r)
     go ih None k = refl
     go ih (Some f) k = head ih f k.1 f.line.head
 
@@ -83,7 +85,7 @@ entry_is c s ss i r at_row is =
     let line : f.found.line ≡ line_of r = m.2 ∙ ap line_of same in
     let under : AreKeyLines f.found.under = (at IsAtKey (find s ss o) (f.found, []) f.is (path_key s ss o (key_lines c.rows))).1 in
     let entry : entry_at 0 s ss (lines_under c None 0) ≡ Some (i, f.found.line, f.found.under) =
-      ap (entry_at 0 s ss) (root_lines c) ∙ (entry_found ss 0 s o (key_lines c.rows) ∙ (ap (found_entry 0) f.is ∙ ap (λ n. Some (n, f.found.line, f.found.under)) (let n : 0 + length (lines_before f.found.place) ≡ i = omega (arith, f.row_is) in n))) in (
+    ap (entry_at 0 s ss) (root_lines c) ∙ (entry_found ss 0 s o (key_lines c.rows) ∙ (ap (found_entry 0) f.is ∙ ap (λ n. Some (n, f.found.line, f.found.under)) (let n : 0 + length (lines_before f.found.place) ≡ i = omega (arith, f.row_is) in n))) in (
       f.found.under,
       under,
       row_node c s ss i f ∙ ap (λ l. Some (content l f.found.under)) line,
