@@ -7,6 +7,8 @@ mod inline;
 mod pieces;
 mod read;
 mod reading;
+#[cfg(test)]
+mod tests;
 
 pub use inline::{Form, Inline};
 pub use read::read_inline;
