@@ -190,7 +190,9 @@ listed_begins opening closing Is (x ∷ xs) ts rest h = (h.0, h.2)
 
 literal_begins : (depth : ℕ) (n : Node) (ts rest : List Token) → IsLiteral depth n ts rest → BeginsLiteral ts
 unfolding IsLiteral
-literal_begins zero n ts rest h = absurd h
+literal_begins zero n ts rest h =
+    let none = scalar_begins h.0 ts rest h.2 in
+    record { item = none (codes "]") refl; entry = none (codes "}") refl; left = rw (scalar_unnamed h.0 ts rest h.2, none (codes ".") refl, none (codes "(") refl) refl }
 literal_begins (suc depth) n ts rest (inl h) =
     let none = scalar_begins h.0 ts rest h.2 in
     record { item = none (codes "]") refl; entry = none (codes "}") refl; left = rw (scalar_unnamed h.0 ts rest h.2, none (codes ".") refl, none (codes "(") refl) refl }
@@ -219,7 +221,7 @@ field_again at Is again e ts rest h f = rw (h.1, again e.1 h.0 rest h.2 f) refl
 
 literal_again : (depth : ℕ) → Again (literal_at depth) (IsLiteral depth) Anything
 unfolding IsLiteral literal_at
-literal_again zero n ts rest h f = absurd h
+literal_again zero n ts rest h f = rw (scalar_again h.0 ts rest h.2 f, h.1) refl
 literal_again (suc depth) n ts rest (inl h) f =
     let none = scalar_begins h.0 ts rest h.2 in
     rw (none (codes "[") refl, none (codes "{") refl, scalar_again h.0 ts rest h.2 f, h.1) refl

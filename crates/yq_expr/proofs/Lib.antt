@@ -3,6 +3,7 @@ pub mod Content
 pub mod Keys
 pub mod Lexing
 pub mod Lists
+pub mod Literals
 pub mod Outcomes
 pub mod Readers
 pub mod RunLaws

@@ -7,10 +7,11 @@ use Rattle.yq_expr.specs.declared.error.ParseError.{ParseError}
 use Rattle.yq_expr.specs.declared.error.ParseError.TheVariants as error
 use Rattle.yq_expr.specs.Tokens.{Token, string, number, step, symbol, foreign, unread, AreTokens}
 use Rattle.yq_expr.specs.Lexing.{tokens, AreRead}
-use Rattle.yq_expr.specs.Program.{Program}
+use Rattle.yq_expr.specs.Program.{Program, LiteralsHold}
 use Rattle.yq_expr.specs.Grammar.{literal_depth}
 use Rattle.yq_expr.specs.Outcome.{parsed, refused, counted, is_opening, is_closing, opened, closed, IsTooDeep, HasForeign, has_pattern, Derives, IsRefused, Answers}
 use Rattle.yq_expr.specs.Parse.{is_unread, is_foreign_token, surveyed, program_at, unless_pattern, outcome_of, outcome}
+use Rattle.yq_expr.proofs.Literals.{literals_hold}
 use Rattle.yq_expr.proofs.TextTokens.{tokens_take, tokens_again}
 use Rattle.yq_expr.proofs.Takes.{program_takes}
 use Rattle.yq_expr.proofs.Again.{program_again}
@@ -241,3 +242,7 @@ refused_by view text (Err error.Memory) h = tt
 pub only_by : {X : Type 0} (view : X → Program) (text : List ℕ) (r : Result X ParseError) → Answers view r (outcome text)
     → (p : Program) → Derives text p → has_pattern p ≡ false → Answers view r (parsed p)
 only_by view text r h p d none = subst (Answers view r) (outcome_again text p d none) h
+
+pub values_by : {X : Type 0} (view : X → Program) (text : List ℕ) (r : Result X ParseError) → Answers view r (outcome text) → IfOk r (λ x. LiteralsHold (view x))
+values_by view text (Ok x) h = let d = (outcome_parsed text (view x) h).0 in literals_hold (view x) d.0 d.4
+values_by view text (Err e) h = tt

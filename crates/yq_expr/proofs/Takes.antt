@@ -10,8 +10,8 @@ use Rattle.yq_expr.specs.declared.program.CommentPlace.{CommentPlace}
 use Rattle.yq_expr.specs.Program.{Step, key, index, each, Operand, value_at, document_index, compares, has, Stage, path, select, literal, found, Update, assign, delete, comment, Program}
 use Rattle.yq_expr.specs.Tokens.{Token, string, number, symbol, is_one_of, scalar_words}
 use Rattle.yq_expr.specs.Lexing.{after, taken, as_number, as_string, as_step, is_end}
-use Rattle.yq_expr.specs.Grammar.{Form, Mark, IsBracket, IsDotted, IsNamed, IsFirst, IsNext, Are, AreParted, IsPath, IsScalar, AreListed, IsField, IsLiteral, IsSimple, IsOperand, comparison, IsCondition, InParentheses, IsStage, IsPipe, IsLeft, literal_depth, IsTerm, IsRight, operator_mark, place_word, IsUpdate, IsProgram}
-use Rattle.yq_expr.specs.Parse.{Parse, many, parted_at, parenthesized_at, bracketed_at, bracket_at, step_at, path_of, path_at, word_at, scalar_at, listed_at, field_at, distinct, mapping_of, literal_at, is_simple, operand_at, comparison_at, condition_at, stage_at, pipe_at, left_at, begins_left, term_at, right_at, operator_at, place_at, action_at, update_at, whole, updates_at, program_at}
+use Rattle.yq_expr.specs.Grammar.{Form, Mark, IsBracket, IsDotted, IsNamed, IsFirst, IsNext, Are, AreParted, IsPath, IsScalar, AreListed, IsField, IsScalarNode, IsLiteral, IsSimple, IsOperand, comparison, IsCondition, InParentheses, IsStage, IsPipe, IsLeft, literal_depth, IsTerm, IsRight, operator_mark, place_word, IsUpdate, IsProgram}
+use Rattle.yq_expr.specs.Parse.{Parse, many, parted_at, parenthesized_at, bracketed_at, bracket_at, step_at, path_of, path_at, word_at, scalar_at, listed_at, field_at, distinct, mapping_of, scalar_node_at, literal_at, is_simple, operand_at, comparison_at, condition_at, stage_at, pipe_at, left_at, begins_left, term_at, right_at, operator_at, place_at, action_at, update_at, whole, updates_at, program_at}
 use Rattle.yq_expr.proofs.Keys.{distinct_keys}
 use Rattle.yq_expr.proofs.Readers.{some_is, either_cases, after_takes, string_takes, number_takes, named_takes, Takes, TakesMaybe, Shortens, same_form, many_takes, parted_takes, closed_takes, many_shortens, behind_shortens, parted_shortens, between_shortens}
 
@@ -181,9 +181,14 @@ mapping_takes depth all y x are h =
     let g = guard_some (distinct (map (λ e. e.0) y.0)) h in
     subst (λ (p : Node × List Token). IsLiteral (suc depth) p.0 all p.1) g.1 (inr (inr (y.0, refl, distinct_keys _ g.0, are)))
 
+scalar_node_takes : Takes scalar_node_at IsScalarNode
+scalar_node_takes ts x h =
+    let s = bind_some (scalar_at ts) h in
+    same_form IsScalarNode ts s.2 (s.0.0, refl, scalar_takes ts s.0 s.1)
+
 pub literal_takes : (depth : ℕ) → Takes (literal_at depth) (IsLiteral depth)
 unfolding literal_at IsLiteral
-literal_takes zero ts x h = cc
+literal_takes zero ts x h = scalar_node_takes ts x h
 literal_takes (suc depth) ts x h = elim (either_cases (after (codes "[") ts) h) [
   | inl opened ↦
       let y = bind_some (listed_at (codes "]") (literal_at depth) opened.0) opened.2 in
@@ -195,9 +200,7 @@ literal_takes (suc depth) ts x h = elim (either_cases (after (codes "[") ts) h) 
         mapping_takes depth ts y.0 x
         (listed_takes (codes "{") (codes "}") (field_at (literal_at depth)) (IsField (IsLiteral depth)) (field_takes (literal_at depth) (IsLiteral depth) (literal_takes depth)) ts opened.0 y.0 (after_takes (codes "{") ts opened.0 opened.1) y.1)
         y.2
-    | inr other ↦
-        let s = bind_some (scalar_at ts) other.1 in
-        same_form (IsLiteral (suc depth)) ts s.2 (inl (s.0.0, refl, scalar_takes ts s.0 s.1))
+    | inr other ↦ inl (scalar_node_takes ts x other.1)
   ]
 ]
 
@@ -210,7 +213,7 @@ field_shortens Is less e ts rest h = let one = less e.1 h.0 rest h.2 in omega (a
 
 pub literal_shortens : (depth : ℕ) → Shortens (IsLiteral depth)
 unfolding IsLiteral
-literal_shortens zero n ts rest h = absurd h
+literal_shortens zero n ts rest h = scalar_shortens h.0 ts rest h.2
 literal_shortens (suc depth) n ts rest (inl h) = scalar_shortens h.0 ts rest h.2
 literal_shortens (suc depth) n ts rest (inr (inl h)) = listed_shortens (codes "[") (codes "]") (IsLiteral depth) (literal_shortens depth) h.0 ts rest h.2
 literal_shortens (suc depth) n ts rest (inr (inr h)) = listed_shortens (codes "{") (codes "}") (IsField (IsLiteral depth)) (field_shortens (IsLiteral depth) (literal_shortens depth)) h.0 ts rest h.3

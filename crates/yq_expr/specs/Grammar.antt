@@ -84,14 +84,19 @@ AreListed opening closing Is (x ∷ xs) ts rest = Between opening closing (ArePa
 abbrev pub IsField : {A : Type 0} → Form A → Form (List ℕ × A)
 IsField Is e ts rest = (after : List Token) × (ts ≡ string e.0 ∷ symbol (codes ":") ∷ after) × Is e.1 after rest
 
--- literal = scalar | "[" literals "]" | "{" string ":" literal ... "}", whose keys differ, and in which fewer
--- than so many collections are nested (own)
+-- a scalar as a node (own)
+abbrev pub IsScalarNode : Form Node
+IsScalarNode n ts rest = (s : ScalarText) × (n ≡ tree.scalar None s.kind s.text) × IsScalar s ts rest
+
+-- literal = scalar | "[" literals "]" | "{" string ":" literal ... "}", whose keys differ, and in which so many
+-- collections are nested at most (own)
 unfoldable pub IsLiteral : ℕ → Form Node
-IsLiteral zero n ts rest = ⊥
+IsLiteral zero n ts rest = IsScalarNode n ts rest
 IsLiteral (suc depth) n ts rest =
-    ((s : ScalarText) × (n ≡ tree.scalar None s.kind s.text) × IsScalar s ts rest)
+    IsScalarNode n ts rest
     ⊎ ((ns : List Node) × (n ≡ tree.list None (items ns)) × AreListed (codes "[") (codes "]") (IsLiteral depth) ns ts rest)
-    ⊎ ((es : List (List ℕ × Node)) × (n ≡ tree.map None (entries es)) × AreDistinct (map (λ e. e.0) es) × AreListed (codes "{") (codes "}") (IsField (IsLiteral depth)) es ts rest)
+    ⊎ ((es : List (List ℕ × Node)) × (n ≡ tree.map None (entries es)) × AreDistinct (map (λ e. e.0) es)
+    × AreListed (codes "{") (codes "}") (IsField (IsLiteral depth)) es ts rest)
 
 -- a path without "[" "]" is simple (own)
 abbrev pub IsSimple : List Step → Type 0
@@ -136,7 +141,7 @@ IsLeft stages ts rest =
 
 -- the literals of an expression nest 64 collections at most (own)
 unfoldable pub literal_depth : ℕ
-literal_depth = 65
+literal_depth = 64
 
 -- term = literal | path | "(" pipe ")" (own)
 abbrev pub IsTerm : Form Term

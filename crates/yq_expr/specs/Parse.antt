@@ -123,13 +123,17 @@ distinct (k ∷ ks) = not (list_any (bytes_eq k) ks) && distinct ks
 abbrev pub mapping_of : List (List ℕ × Node) × List Token → Option (Node × List Token)
 mapping_of x = if distinct (map (λ e. e.0) x.0) then Some (tree.map None (entries x.0), x.1) else None
 
--- a literal, in which fewer than so many collections are nested (own)
+-- a scalar as a node (own)
+abbrev pub scalar_node_at : Parse Node
+scalar_node_at ts = scalar_at ts >>= λ x. Some (tree.scalar None x.0.kind x.0.text, x.1)
+
+-- a literal, in which so many collections are nested at most (own)
 unfoldable pub literal_at : ℕ → Parse Node
-literal_at zero ts = None
+literal_at zero ts = scalar_node_at ts
 literal_at (suc depth) ts =
     either (after (codes "[") ts) (λ r. listed_at (codes "]") (literal_at depth) r >>= λ x. Some (tree.list None (items x.0), x.1))
     (either (after (codes "{") ts) (λ r. listed_at (codes "}") (field_at (literal_at depth)) r >>= mapping_of)
-    (scalar_at ts >>= λ x. Some (tree.scalar None x.0.kind x.0.text, x.1)))
+    (scalar_node_at ts))
 
 -- whether a step leads to one item or value at most (own)
 abbrev pub is_single : Step → Bool

@@ -1,6 +1,7 @@
 -- Programs: what an expression says, apart from how it is written.
-use Rattle.std.specs.Prelude.{ℕ, ℤ, Bool, true, false, List, [], ◌∷◌, length, Option, Some, None, option_map}
+use Rattle.std.specs.Prelude.{ℕ, ℤ, ◌≤◌, Bool, true, false, List, [], ◌∷◌, length, Option, Some, None, option_map, ⊤}
 use Rattle.yq_scalar.specs.declared.kind.Kind.{Kind}
+use Rattle.yq_scalar.specs.Keys.{HasUniqueKeys, depth}
 use Rattle.yq_scalar.specs.Tree.{Node, alias, scalar, list, map}
 use Rattle.yq_expr.specs.declared.program.Operator.{Operator}
 use Rattle.yq_expr.specs.declared.program.Operator.TheVariants as operator
@@ -103,3 +104,25 @@ assignment_of (read stages) = None
 assignment_of (updates []) = None
 assignment_of (updates (u ∷ [])) = assigned u
 assignment_of (updates (u ∷ (v ∷ us))) = None
+
+-- a literal may be written: the keys of each mapping differ, and 64 collections at most are nested (own)
+abbrev pub IsValue : Node → Type 0
+IsValue n = HasUniqueKeys n × (depth n ≤ 64)
+
+-- each literal of a sum is such (own)
+abbrev pub SumHolds : List Term → Type 0
+SumHolds [] = ⊤
+SumHolds (literal n ∷ terms) = IsValue n × SumHolds terms
+SumHolds (found stages ∷ terms) = SumHolds terms
+
+-- each literal of updates is such (own)
+abbrev pub UpdatesHold : List Update → Type 0
+UpdatesHold [] = ⊤
+UpdatesHold (assign left operator right ∷ us) = SumHolds right × UpdatesHold us
+UpdatesHold (delete stages ∷ us) = UpdatesHold us
+UpdatesHold (comment left place text ∷ us) = UpdatesHold us
+
+-- each literal of a program is such (own)
+abbrev pub LiteralsHold : Program → Type 0
+LiteralsHold (read stages) = ⊤
+LiteralsHold (updates us) = UpdatesHold us

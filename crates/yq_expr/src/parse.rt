@@ -5,7 +5,7 @@ ghost use Rattle.yq_expr.specs.Grammar.{literal_depth};
 ghost use Rattle.yq_expr.specs.Lexing.{tokens};
 ghost use Rattle.yq_expr.specs.Outcome.{Answers, Derives, IsRefused, has_pattern, parsed};
 ghost use Rattle.yq_expr.specs.Parse as spec;
-ghost use Rattle.yq_expr.specs.Program.{Program as Outline};
+ghost use Rattle.yq_expr.specs.Program.{Program as Outline, LiteralsHold};
 ghost use Rattle.yq_expr.specs.View.{stage_of, update_of, program_of};
 
 mod literal;
@@ -27,6 +27,7 @@ pub fn parse_expr(alloc: Global, text: &str) -> Result<Program, ParseError>
     ensures exact { Answers program_of result (spec.outcome text.now) }
     ensures found { IfOk result (λ p. Derives text.now (program_of p) × (has_pattern (program_of p) ≡ false)) }
     ensures only { (p : Outline) → Derives text.now p → has_pattern p ≡ false → Answers program_of result (parsed p) }
+    ensures values { IfOk result (λ p. LiteralsHold (program_of p)) }
     ensures refused { IfErr result (λ e. IsRefused e text.now) }
 {
     parse(alloc, text)

@@ -383,6 +383,8 @@ fn nests(rt: HostRuntime) -> Result<(), Fail> {
             ParseError::NotInProfile,
         );
     }
+    let empty = nested(alloc, 64, "[", "", "]")?;
+    assert!(rt; parse_expr(alloc, empty.as_str()).is_ok());
     let unclosed = nested(alloc, 100_000, "[", "", "")?;
     refuses(
         &rt,

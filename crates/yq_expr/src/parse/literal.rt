@@ -64,7 +64,16 @@ fn keys_differ(alloc: Global, fields: &Vec<(String, Value)>) -> Result<bool, All
     Ok(are_distinct(&mut keys))
 }
 
-/// A literal in which fewer than `depth` collections are nested.
+/// A scalar as a value.
+fn scalar_value(alloc: Global, text: &str) -> Result<(Value, &str), ParseError>
+    ensures value { Reads node_of result (spec.scalar_node_at (tokens text.now)) }
+    ensures shorter { Shortens text.now result }
+{
+    let (scalar, rest) = scalar(alloc, text)?;
+    Ok((Value::Scalar(scalar), rest))
+}
+
+/// A literal in which `depth` collections are nested at most.
 #[cycle(literal)]
 #[tactic(auto, unfolding(crate::specs::Parse::literal_at))]
 pub(super) fn literal(alloc: Global, text: &str, depth: usize) -> Result<(Value, &str), ParseError>
@@ -72,7 +81,7 @@ pub(super) fn literal(alloc: Global, text: &str, depth: usize) -> Result<(Value,
     ensures shorter { Shortens text.now result }
 {
     if depth == 0 {
-        return Err(ParseError::Syntax);
+        return scalar_value(alloc, text);
     }
     if let Some(rest) = after(text, "[") {
         let (items, rest) = list(alloc, rest, depth - 1)?;
@@ -85,8 +94,7 @@ pub(super) fn literal(alloc: Global, text: &str, depth: usize) -> Result<(Value,
         }
         return Err(ParseError::Syntax);
     }
-    let (scalar, rest) = scalar(alloc, text)?;
-    Ok((Value::Scalar(scalar), rest))
+    scalar_value(alloc, text)
 }
 
 /// The items of a list, from behind its opening bracket.

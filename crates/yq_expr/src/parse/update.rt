@@ -13,8 +13,8 @@ use crate::front::{after, begins_step, expect, string};
 use crate::program::{Assignment, Comment, CommentPlace, Operator, Stage, Term, Update};
 use std::alloc::Global;
 
-/// How many collections may be nested in a literal, and one more.
-const LITERAL_DEPTH: usize = 65;
+/// How many collections may be nested in a literal.
+const LITERAL_DEPTH: usize = 64;
 
 #[tactic(auto, unfolding(crate::specs::Grammar::literal_depth))]
 fn depth() -> usize
