@@ -1,5 +1,5 @@
 -- The place of a node's content, by the row of its entry.
-use Rattle.std.proofs.Common.{◌≡◌, ℕ, suc, ◌+◌, ◌-◌, List, [], ◌∷◌, ◌++◌, length, Option, Some, None, option_map, option_and_then, Bool, true, false, cond, refl, sym, ap, ◌∙◌, subst, append_assoc, length-append, arith}
+use Rattle.std.proofs.Common.{◌≡◌, ℕ, suc, ◌+◌, ◌-◌, List, [], ◌∷◌, ◌++◌, length, Option, Some, None, option_map, option_and_then, true, false, cond, refl, sym, ap, ◌∙◌, append_assoc, length-append, arith}
 use Rattle.std.specs.List.{slice_get}
 use Rattle.yq_scalar.specs.declared.kind.Kind.{Kind}
 use Rattle.yq_scalar.specs.Paths.{Step, node_at}
@@ -7,19 +7,17 @@ use Rattle.yq_scalar.specs.Text.{is_empty}
 use Rattle.yq_scalar.specs.Tree.{Node}
 use Rattle.yq_rows.specs.Rows.{Row, Cut}
 use Rattle.yq_tree.specs.declared.node.NodeKind.TheVariants.{Scalar}
-use Rattle.yq_tree.specs.declared.path.Path.{Path}
-use Rattle.yq_tree.specs.Extents.{head_place, rows_place, own_place, without_head, entry_at, entry_place, place_from, content_place}
-use Rattle.yq_tree.specs.Group.{group, deeper}
+use Rattle.yq_tree.specs.Extents.{head_place, rows_place, own_place, without_head, entry_at, entry_place, place_from}
+use Rattle.yq_tree.specs.Group.{group}
 use Rattle.yq_tree.specs.Lines.{line_of, lines_of}
 use Rattle.yq_tree.specs.Nodes.{kind_of, lines_under, spot}
-use Rattle.yq_tree.specs.Outline.{Mark, Bare, Key, Dash, Line, Outline, end, row, flatten, value, children, collection, anchored}
+use Rattle.yq_tree.specs.Outline.{Key, Line, Outline, end, row, flatten, value, children, collection, anchored}
 use Rattle.yq_tree.specs.Places.{content, Place, here, below, beside, lines_before, compose, Found, find_row, inside, bare_or, in_head, find}
 use Rattle.yq_tree.specs.Reading.{root_of}
 use Rattle.yq_tree.specs.RowPaths.{row_at}
-use Rattle.yq_tree.specs.View.{steps_of}
 use Rattle.yq_tree.proofs.DocumentLaws.{deeper-all}
 use Rattle.yq_tree.proofs.KeyLines.{IsKeyLine, AreKeyLines, key_lines, row_key, IsAtKey, path_key}
-use Rattle.yq_tree.proofs.RowPathLaws.{reached, found_line, map_get, headless, row_node, leads_nowhere}
+use Rattle.yq_tree.proofs.RowPathLaws.{reached, found_line, map_get, headless, row_node}
 use Rattle.yq_tree.proofs.PlaceLaws.{at}
 use Rattle.yq_tree.proofs.Values.{If}
 

@@ -23,3 +23,4 @@ pub mod ExtentLaws
 pub mod LengthLaws
 pub mod PlacedLaws
 pub mod ContentLaws
+pub mod ChildLaws

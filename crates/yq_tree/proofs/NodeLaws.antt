@@ -28,7 +28,7 @@ value_keys (row l v a) h =
     let is : value (row l v a) ≡ collection (Key h.0.0.0) (children (row l v a)) = ap (λ m. collection m (children (row l v a))) h.0.0.1 in
     ap (anchored None) is ∙ sym is
 
-children_keys : (u : Outline) → AreKeyLines u → children_of (value u) ≡ children u
+pub children_keys : (u : Outline) → AreKeyLines u → children_of (value u) ≡ children u
 children_keys end h = refl
 children_keys (row l v a) h = ap (λ m. children_of (collection m (children (row l v a)))) h.0.0.1
 

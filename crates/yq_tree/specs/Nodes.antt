@@ -1,17 +1,18 @@
 -- The nodes of the code, as those of trees.
-use Rattle.std.specs.Prelude.{ℕ, ◌+◌, List, [], length, slice_get, Option, Some, None, option_map, option_and_then, if◌then◌else◌}
+use Rattle.std.specs.Prelude.{◌≡◌, ℕ, ◌+◌, List, [], length, slice_get, Option, Some, None, option_map, option_and_then, if◌then◌else◌}
 use Rattle.yq_scalar.specs.Paths.{node_at}
 use Rattle.yq_scalar.specs.Text.{is_empty}
-use Rattle.yq_scalar.specs.Tree.{Node, alias, scalar, list, map}
+use Rattle.yq_scalar.specs.Tree.{Label, Node, alias, scalar, list, map, Children, none, child}
 use Rattle.yq_rows.specs.Rows.{Row, Cut}
 use Rattle.yq_rows.specs.View.{view}
+use Rattle.yq_tree.specs.declared.children.Children as children
 use Rattle.yq_tree.specs.declared.node.Node as declared
 use Rattle.yq_tree.specs.declared.node.NodeKind.{NodeKind}
 use Rattle.yq_tree.specs.declared.node.NodeKind.TheVariants as kinds
 use Rattle.yq_tree.specs.declared.path.Path.{Path}
 use Rattle.yq_tree.specs.Ends.{part, floor_of}
 use Rattle.yq_tree.specs.Lines.{plain_node, lines_of}
-use Rattle.yq_tree.specs.Outline.{Line, level, Outline, value}
+use Rattle.yq_tree.specs.Outline.{Line, level, Outline, children as children_in, value}
 use Rattle.yq_tree.specs.Places.{lines_before, Found}
 use Rattle.yq_tree.specs.Reading.{documents}
 use Rattle.yq_tree.specs.View.{steps_of}
@@ -64,3 +65,12 @@ spot start found = option_map (λ f. (start + length (lines_before f.place), f.l
 abbrev pub seen : List Line → Option ℕ → Option (ℕ × Line × Outline)
 seen ls None = None
 seen ls (Some i) = option_map (λ l. (i, l, part ls (i + 1) (level l))) (slice_get ls i)
+
+-- the items or entries that an iterator of the code has not yielded yet (own)
+abbrev pub left_of : children.Children → Children
+left_of c = children_in (part (lines_of c.documents.now.rows) c.next (floor_of c.floor))
+
+-- the first of these items or entries, by its key and its node, is yielded, and the others are left; where there is none, nothing is yielded (own)
+abbrev pub YieldsChild : children.Children → Option declared.Node → children.Children → Type 0
+YieldsChild old None new = (left_of old ≡ none) × (left_of new ≡ none)
+YieldsChild old (Some n) new = (label : Label) × (label.key ≡ option_map (λ r. (view r).key) n.row) × (left_of old ≡ child label (node_of n) (left_of new))

@@ -1,6 +1,7 @@
 //! Documents: rows read as trees, with the places of their nodes.
 #![tactic(auto)]
 
+mod children;
 mod document;
 mod ends;
 mod entries;
@@ -14,6 +15,7 @@ mod reading;
 #[cfg(test)]
 mod tests;
 
+pub use children::Children;
 pub use document::{DEPTH_LIMIT, Documents};
 pub use laws::{exchanged, one_node, rules};
 pub use node::{Node, NodeKind};

@@ -77,7 +77,7 @@ impl<'d> Node<'d> {
     }
 
     /// The column of the row of its entry.
-    fn column(&self) -> Option<usize>
+    pub(crate) fn column(&self) -> Option<usize>
         ensures { result ≡ option_map (λ r. r.column) (option_map view self.now.row) }
     {
         match self.row {

@@ -174,3 +174,79 @@ fn tells_extents(rt: HostRuntime) -> Result<(), Fail> {
     }
     Ok(())
 }
+
+#[test]
+fn yields_children(rt: HostRuntime) -> Result<(), Fail> {
+    let documents = read(rt.alloc(), b"a: 1\nb:\n  c: 2\n  d:\ne: x\n")?;
+    let mut children = documents.root(0).children();
+    let Some(a) = children.next() else {
+        return Err(Fail::new("no child"));
+    };
+    let Some(b) = children.next() else {
+        return Err(Fail::new("no child"));
+    };
+    assert_eq!(rt; a.key(), Some("a"));
+    assert_eq!(rt; a.kind(), NodeKind::Scalar(Kind::Int));
+    assert_eq!(rt; b.key(), Some("b"));
+    assert_eq!(rt; b.kind(), NodeKind::Map);
+    assert!(rt; children.next().is_some());
+    assert!(rt; children.next().is_none());
+    let mut nothing = a.children();
+    assert!(rt; nothing.next().is_none());
+    Ok(())
+}
+
+/// Blocks that hold all of the process's memory, the largest first.
+fn all_memory(alloc: Global) -> Result<Vec<Vec<u8>>, AllocError> {
+    let mut held = Vec::with_capacity(alloc, 1 << 20)?;
+    let mut size = 1usize << 34;
+    for _ in 0..1u32 << 20 {
+        match Vec::with_capacity(alloc, size) {
+            Ok(block) => {
+                if held.push(block).is_err() {
+                    return Ok(held);
+                }
+            }
+            Err(_) if size <= 16 => return Ok(held),
+            Err(_) => size /= 2,
+        }
+    }
+    Ok(held)
+}
+
+#[test]
+fn answers_memory(rt: HostRuntime) -> Result<(), Fail> {
+    let mut held = all_memory(rt.alloc())?;
+    let mut refused = false;
+    for _ in 0..4096 {
+        match read(rt.alloc(), b"a: 1\nb:\n  c: 2\n") {
+            Err(ReadError::Memory) => {
+                refused = true;
+                let _ = held.pop();
+            }
+            Err(ReadError::Fault(_)) => return Err(Fail::new("a fault")),
+            Ok(_) => break,
+        }
+    }
+    assert!(rt; refused);
+    assert!(rt; read(rt.alloc(), b"a: 1\nb:\n  c: 2\n").is_ok());
+    Ok(())
+}
+
+/// A mapping of so many entries.
+fn wide(alloc: Global, entries: usize) -> Result<String, AllocError> {
+    let mut text = String::new(alloc);
+    for i in 0..entries {
+        text.push_str("key")?;
+        text.push_str(&i.to_string(alloc)?)?;
+        text.push_str(": 1\n")?;
+    }
+    Ok(text)
+}
+
+#[test]
+fn reads_35000_keys(rt: HostRuntime) -> Result<(), Fail> {
+    let text = wide(rt.alloc(), 35_000)?;
+    assert!(rt; read(rt.alloc(), text.as_bytes()).is_ok());
+    Ok(())
+}
