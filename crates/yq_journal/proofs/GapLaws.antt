@@ -43,7 +43,7 @@ moved_back front back rest front' back' same =
     sym (append_assoc front' (reverse back') rest) ∙ ap (λ x. x ++ rest) turned ∙ append_assoc front (reverse back) rest
 
 -- no splice is done on a text on which it exchanges nothing
-none_done : (s : Change) (b : List ℕ) → ((c : List ℕ) → Exchanges s b c → ⊥) → change_done s b ≡ None
+pub none_done : (s : Change) (b : List ℕ) → ((c : List ℕ) → Exchanges s b c → ⊥) → change_done s b ≡ None
 none_done s b never = elim (change_done s b) as (λ o. change_done s b ≡ o → o ≡ None) [
   | None ↦ λ e. refl
   | Some c ↦ λ e. absurd (never c (exchanges-from_done s b c e))

@@ -8,4 +8,5 @@ pub mod MoveLaws
 pub mod RecordLaws
 pub mod RunLaws
 pub mod SquashLaws
+pub mod StandLaws
 pub mod WriteLaws

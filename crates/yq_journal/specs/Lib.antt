@@ -5,4 +5,5 @@ pub mod Json
 pub mod Record
 pub mod Refusals
 pub mod State
+pub mod Turned
 pub use Rattle.yq_splice.specs.Patch

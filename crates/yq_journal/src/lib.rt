@@ -9,6 +9,7 @@ mod moves;
 mod read;
 mod record;
 mod squash;
+mod stands;
 mod write;
 
 pub use fault::{JournalError, JournalFault};
@@ -18,6 +19,7 @@ pub use laws::{
 };
 pub use moves::Move;
 pub use record::{Record, record_inverts, redo_record, undo_record};
+pub use stands::{stands_after, stands_before};
 
 #[cfg(test)]
 mod tests;

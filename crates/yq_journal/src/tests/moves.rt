@@ -2,7 +2,10 @@
 
 use super::json::OPEN_COUNTED;
 use super::{add, digit, edited};
-use crate::{Journal, JournalError, JournalFault, Move, Record, redo_record, undo_record};
+use crate::{
+    Journal, JournalError, JournalFault, Move, Record, redo_record, stands_after, stands_before,
+    undo_record,
+};
 use std::alloc::Global;
 use std::test::Fail;
 
@@ -59,6 +62,11 @@ fn records_go_both_ways(rt: HostRuntime) -> Result<(), Fail> {
         assert_eq!(rt; done.as_slice(), after.as_bytes(), "done on {before}");
         let undone = undo_record(alloc, record, after.as_bytes())?;
         assert_eq!(rt; undone.as_slice(), before.as_bytes(), "undone on {after}");
+        assert!(rt;
+            stands_before(record, before.as_bytes()),
+            "before, on {before}"
+        );
+        assert!(rt; stands_after(record, after.as_bytes()), "after, on {after}");
     }
     let fault = Some(JournalError::Fault(JournalFault::DoesNotStand));
     for (record, after) in [
@@ -73,6 +81,10 @@ fn records_go_both_ways(rt: HostRuntime) -> Result<(), Fail> {
             fault,
             "undone on {after}"
         );
+        assert!(rt;
+            !stands_after(record, after.as_bytes()),
+            "after, on {after}"
+        );
     }
     for (record, before) in [
         (&port, EDITED),
@@ -83,6 +95,10 @@ fn records_go_both_ways(rt: HostRuntime) -> Result<(), Fail> {
             refused(redo_record(alloc, record, before.as_bytes())),
             fault,
             "done on {before}"
+        );
+        assert!(rt;
+            !stands_before(record, before.as_bytes()),
+            "before, on {before}"
         );
     }
     Ok(())

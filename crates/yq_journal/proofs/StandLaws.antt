@@ -1,0 +1,292 @@
+-- Splices that can be done, told from the bytes of the text before them.
+use Rattle.std.proofs.Common.{◌≡◌, ◌≢◌, ◌⊎◌, inl, inr, ℕ, suc, ◌+◌, ◌-◌, ◌≤◌, ◌<◌, ◌&&◌, Bool, true, false, List, [], ◌∷◌, ◌++◌, length, take, drop, nat_le, nat_lt, Option, Some, None, refl, sym, ap, ◌∙◌, subst, arith, length-append, if◌then◌else◌, eq-eqb}
+use Rattle.std.specs.Prelude.{◌==◌, ◌^◌, option_and_then, slice_get, is_some}
+use Prim.Native.Nat.{zero}
+use Rattle.std.specs.Cmp.Derive.{both_true}
+use Rattle.std.proofs.Math.Seq.{drop-append_seam, take-append_seam}
+use Rattle.std.proofs.lemmas.Bool.{le-leb, leb-true, lt-ltb, ltb-true}
+use Rattle.std.proofs.lemmas.Bool.Decides.{nat_tests}
+use Rattle.std.proofs.lemmas.List.{take-append-drop, take_more, length-take-le}
+use Rattle.std.proofs.lemmas.Option.{slice_get_within, get_or_from_slice_get}
+use Rattle.yq_splice.specs.Patch.{Change, swapped, change_done, all_done, flipped, length_done, lengths_done}
+use Rattle.yq_splice.proofs.PatchLaws.{done-from_exchanges, exchanges-from_done, all_done-append, lengths_done-append}
+use Rattle.yq_journal.specs.Turned.{turned}
+use Rattle.yq_journal.proofs.GapLaws.{none_done}
+use Rattle.yq_journal.specs.Record.{if_length}
+
+pub some_same : {A : Type 0} (x y : A) → Some x ≡ Some y → x ≡ y
+some_same x y e = cc
+
+pub some_none : {A : Type 0} (x : A) → Some x ≡ None → ⊥
+some_none x e = cc
+
+and_then_one : (o : Option (List ℕ)) (s : Change) → option_and_then (all_done (s ∷ [])) o ≡ option_and_then (change_done s) o
+and_then_one None s = refl
+and_then_one (Some b) s = elim (change_done s b) as (λ r. option_and_then (λ d. Some d) r ≡ r) [ None ↦ refl | Some d ↦ refl ]
+
+-- ---- elements by their places
+
+get_front : {A : Type 0} (xs ys : List A) (i : ℕ) → i < length xs → slice_get (xs ++ ys) i ≡ slice_get xs i
+get_front [] ys i h = absurd (omega arith)
+get_front (x ∷ xs) ys zero h = refl
+get_front (x ∷ xs) ys (suc i) h = get_front xs ys i (omega arith)
+
+get_behind : {A : Type 0} (xs ys : List A) (i j : ℕ) → i ≡ length xs + j → slice_get (xs ++ ys) i ≡ slice_get ys j
+get_behind [] ys i j is = let e : i ≡ j = omega (arith, is) in ap (slice_get ys) e
+get_behind (x ∷ xs) ys zero j is = absurd (omega (arith, is))
+get_behind (x ∷ xs) ys (suc i) j is = get_behind xs ys i j (omega (arith, is))
+
+get_some : {A : Type 0} (xs : List A) (i : ℕ) → i < length xs → (x : A) × (slice_get xs i ≡ Some x)
+get_some [] i h = absurd (omega arith)
+get_some (x ∷ xs) zero h = (x, refl)
+get_some (x ∷ xs) (suc i) h = get_some xs i (omega arith)
+
+-- a list is its front, an element and the rest
+pub split_at : {A : Type 0} (xs : List A) (k : ℕ) (x : A) → slice_get xs k ≡ Some x → xs ≡ take k xs ++ x ∷ drop (suc k) xs
+split_at [] k x is = cc
+split_at (y ∷ xs) zero x is = let same : y ≡ x = cc in ap (λ z. z ∷ xs) same
+split_at (y ∷ xs) (suc k) x is = ap (λ l. y ∷ l) (split_at xs k x is)
+
+pub take_next : {A : Type 0} (xs : List A) (k : ℕ) (x : A) → slice_get xs k ≡ Some x → take (k + 1) xs ≡ take k xs ++ x ∷ []
+take_next xs k x is = take_more xs k x (slice_get_within xs k x is) ∙ ap (λ y. take k xs ++ y ∷ []) (get_or_from_slice_get xs k x x is)
+
+pub length-flipped : (ss : List Change) → length (flipped ss) ≡ length ss
+length-flipped [] = refl
+length-flipped (x ∷ ss) = length-append (flipped ss) (swapped x ∷ []) ∙ omega (arith, length-flipped ss)
+
+-- the splices taken back, from the last on
+pub flipped_at : (ss : List Change) (k : ℕ) (s : Change) → k < length ss → slice_get ss (length ss - 1 - k) ≡ Some s → slice_get (flipped ss) k ≡ Some (swapped s)
+flipped_at [] k s h is = absurd (omega arith)
+flipped_at (x ∷ ss) k s h is =
+    elim (nat_le (suc k) (length ss)) as (λ t. nat_le (suc k) (length ss) ≡ t → slice_get (flipped ss ++ swapped x ∷ []) k ≡ Some (swapped s)) [
+      | true ↦ λ e.
+          let before : suc k ≤ length ss = leb-true (suc k) (length ss) e in
+          let place : suc (length ss) - 1 - k ≡ suc (length ss - 1 - k) = omega arith in
+          get_front (flipped ss) (swapped x ∷ []) k (omega (arith, length-flipped ss))
+          ∙ flipped_at ss k s before (sym (ap (slice_get (x ∷ ss)) place) ∙ is)
+      | false ↦ λ e.
+          let last : k ≡ length ss = grind (arith, nat_tests) in
+          let place : suc (length ss) - 1 - k ≡ 0 = omega arith in
+          let same : x ≡ s = some_same x s (sym (ap (slice_get (x ∷ ss)) place) ∙ is) in
+          get_behind (flipped ss) (swapped x ∷ []) k 0 (omega (arith, length-flipped ss)) ∙ ap (λ y. Some (swapped y)) same
+    ] refl
+
+-- ---- lengths
+
+-- what a splice does to a length
+record Lengths (s : Change) (n m : ℕ) : Type 0 where
+  fits : s.at + length s.old ≤ n
+  small : m < 2 ^ 64
+  is : m ≡ n - length s.old + length s.new
+
+parts_of_length : (s : Change) (n m : ℕ) → length_done s n ≡ Some m → Lengths s n m
+unfolding length_done
+parts_of_length s n m h =
+    elim (nat_le (s.at + length s.old) n) as (λ t. nat_le (s.at + length s.old) n ≡ t → (if t && nat_lt (n - length s.old + length s.new) (2 ^ 64) then Some (n - length s.old + length s.new) else None) ≡ Some m → Lengths s n m) [
+      | true ↦ λ e k.
+          elim (nat_lt (n - length s.old + length s.new) (2 ^ 64)) as (λ t. nat_lt (n - length s.old + length s.new) (2 ^ 64) ≡ t → (if t then Some (n - length s.old + length s.new) else None) ≡ Some m → Lengths s n m) [
+            | true ↦ λ f q.
+                let same : n - length s.old + length s.new ≡ m = some_same (n - length s.old + length s.new) m q in
+                record { fits = leb-true (s.at + length s.old) n e; small = subst (λ x. x < 2 ^ 64) same (ltb-true (n - length s.old + length s.new) (2 ^ 64) f); is = sym same }
+            | false ↦ λ f q. cc
+          ] refl k
+      | false ↦ λ e k. cc
+    ] refl h
+
+length_of_parts : (s : Change) (n m : ℕ) → Lengths s n m → length_done s n ≡ Some m
+unfolding length_done
+length_of_parts s n m p =
+    let small : n - length s.old + length s.new < 2 ^ 64 = subst (λ x. x < 2 ^ 64) p.is p.small in
+    ap (λ t. if t then Some (n - length s.old + length s.new) else None)
+    (both_true (le-leb (s.at + length s.old) n p.fits) (lt-ltb (n - length s.old + length s.new) (2 ^ 64) small))
+    ∙ ap Some (sym p.is)
+
+-- the lengths of a text before and after a splice
+record Grown (s : Change) (b c : List ℕ) : Type 0 where
+  within : s.at + length s.old ≤ length b
+  long : length c ≡ length b - length s.old + length s.new
+
+grown : (s : Change) (b c : List ℕ) → change_done s b ≡ Some c → Grown s b c
+grown s b c e =
+    let x = exchanges-from_done s b c e in
+    let old : length b ≡ length x.front + (length s.old + length x.rest) = ap length x.before ∙ length-append x.front (s.old ++ x.rest) ∙ ap (λ n. length x.front + n) (length-append s.old x.rest) in
+    let new : length c ≡ length x.front + (length s.new + length x.rest) = ap length x.after ∙ length-append x.front (s.new ++ x.rest) ∙ ap (λ n. length x.front + n) (length-append s.new x.rest) in
+    let offset : length x.front ≡ s.at = x.offset in
+    record { within = omega (arith, old, offset); long = omega (arith, old, new, offset) }
+
+-- lengths that are reached are those of the texts
+pub lengths_follow : (ss : List Change) (b c : List ℕ) → all_done ss b ≡ Some c → lengths_done ss (length b) ≢ None → lengths_done ss (length b) ≡ Some (length c)
+lengths_follow [] b c e h = ap Some (ap length (some_same b c e))
+lengths_follow (s ∷ ss) b c e h =
+    elim (change_done s b) as (λ r. change_done s b ≡ r → option_and_then (all_done ss) r ≡ Some c → option_and_then (lengths_done ss) (length_done s (length b)) ≡ Some (length c)) [
+      | None ↦ λ _ k. cc
+      | Some d ↦ λ is k.
+          elim (length_done s (length b)) as (λ o. length_done s (length b) ≡ o → option_and_then (lengths_done ss) o ≢ None → option_and_then (lengths_done ss) o ≡ Some (length c)) [
+            | None ↦ λ _ q. absurd (q refl)
+            | Some n ↦ λ to q.
+                let same : n ≡ length d = (parts_of_length s (length b) n to).is ∙ sym (grown s b d is).long in
+                ap (lengths_done ss) same ∙ lengths_follow ss d c k (λ none. q (ap (lengths_done ss) same ∙ none))
+          ] refl h
+    ] refl e
+
+lengths_small : (ss : List Change) (n m : ℕ) → lengths_done ss n ≡ Some m → n < 2 ^ 64 → m < 2 ^ 64
+lengths_small [] n m e h = subst (λ x. x < 2 ^ 64) (some_same n m e) h
+lengths_small (s ∷ ss) n m e h =
+    elim (length_done s n) as (λ o. length_done s n ≡ o → option_and_then (lengths_done ss) o ≡ Some m → m < 2 ^ 64) [
+      | None ↦ λ _ k. cc
+      | Some x ↦ λ is k. lengths_small ss x m k (parts_of_length s n x is).small
+    ] refl e
+
+-- splices taken back lead back from the one length to the other
+pub lengths_flip : (ss : List Change) (n m : ℕ) → lengths_done ss n ≡ Some m → n < 2 ^ 64 → lengths_done (flipped ss) m ≡ Some n
+lengths_flip [] n m e h = sym e
+lengths_flip (s ∷ ss) n m e h =
+    elim (length_done s n) as (λ o. length_done s n ≡ o → option_and_then (lengths_done ss) o ≡ Some m → lengths_done (flipped ss ++ swapped s ∷ []) m ≡ Some n) [
+      | None ↦ λ _ k. cc
+      | Some x ↦ λ is k.
+          let p = parts_of_length s n x is in
+          let fits : s.at + length s.old ≤ n = p.fits in
+          let long : x ≡ n - length s.old + length s.new = p.is in
+          let back : length_done (swapped s) x ≡ Some n = length_of_parts (swapped s) x n (record { fits = omega (arith, fits, long); small = h; is = omega (arith, fits, long) }) in
+          lengths_done-append (flipped ss) (swapped s ∷ []) m
+          ∙ ap (option_and_then (lengths_done (swapped s ∷ []))) (lengths_flip ss x m k p.small)
+          ∙ ap (option_and_then (λ d. Some d)) back
+    ] refl e
+
+and_then_some : {A B : Type 0} (f : A → Option B) (o : Option A) → option_and_then f o ≢ None → (x : A) × (o ≡ Some x) × (f x ≢ None)
+and_then_some f None h = absurd (h refl)
+and_then_some f (Some x) h = (x, refl, h)
+
+-- the lengths up to a place of splices whose lengths are all within
+lengths_up_to : (ss rest : List Change) (text b : List ℕ) → lengths_done (ss ++ rest) (length text) ≢ None → all_done ss text ≡ Some b → (lengths_done ss (length text) ≡ Some (length b)) × (lengths_done rest (length b) ≢ None)
+lengths_up_to ss rest text b h e =
+    let there = and_then_some (lengths_done rest) (lengths_done ss (length text)) (λ none. h (lengths_done-append ss rest (length text) ∙ none)) in
+    let reached : lengths_done ss (length text) ≡ Some (length b) = lengths_follow ss text b e (λ none. some_none there.0 (sym there.1 ∙ none)) in
+    let same : there.0 ≡ length b = some_same there.0 (length b) (sym there.1 ∙ reached) in
+    (reached, λ none. there.2 (ap (lengths_done rest) same ∙ none))
+
+-- each splice lies within the text that it finds
+pub lies_within : (ss : List Change) (k : ℕ) (s : Change) (text b : List ℕ) → lengths_done ss (length text) ≢ None → all_done (take k ss) text ≡ Some b → slice_get ss k ≡ Some s → s.at + length s.old ≤ length b
+lies_within ss k s text b h e is =
+    let up = lengths_up_to (take k ss) (s ∷ drop (suc k) ss) text b (λ none. h (ap (λ l. lengths_done l (length text)) (split_at ss k s is) ∙ none)) e in
+    let there = and_then_some (lengths_done (drop (suc k) ss)) (length_done s (length b)) up.1 in
+    (parts_of_length s (length b) there.0 there.1).fits
+
+-- and that text's length is held by 64 bits
+pub stays_small : (ss : List Change) (k : ℕ) (text b : List ℕ) → lengths_done ss (length text) ≢ None → all_done (take k ss) text ≡ Some b → length text < 2 ^ 64 → length b < 2 ^ 64
+stays_small ss k text b h e small =
+    let up = lengths_up_to (take k ss) (drop k ss) text b (λ none. h (ap (λ l. lengths_done l (length text)) (sym (take-append-drop k ss)) ∙ none)) e in
+    lengths_small (take k ss) (length text) (length b) up.0 small
+
+-- ---- one splice more
+
+pub done_next : (ss : List Change) (k : ℕ) (s : Change) (text : List ℕ) → slice_get ss k ≡ Some s → all_done (take (k + 1) ss) text ≡ option_and_then (change_done s) (all_done (take k ss) text)
+done_next ss k s text is =
+    ap (λ l. all_done l text) (take_next ss k s is) ∙ all_done-append (take k ss) (s ∷ []) text
+    ∙ and_then_one (all_done (take k ss) text) s
+
+-- where one isn't done, not all are
+pub not_all : (ss : List Change) (k : ℕ) (s : Change) (text b : List ℕ) → slice_get ss k ≡ Some s → all_done (take k ss) text ≡ Some b → change_done s b ≡ None → all_done ss text ≡ None
+not_all ss k s text b is e none =
+    ap (λ l. all_done l text) (split_at ss k s is) ∙ all_done-append (take k ss) (s ∷ drop (suc k) ss) text
+    ∙ ap (option_and_then (all_done (s ∷ drop (suc k) ss))) e ∙ ap (option_and_then (all_done (drop (suc k) ss))) none
+
+-- ---- a byte before a splice
+
+pub record Before (s : Change) (b c : List ℕ) : Type 0 where
+  pub front : (i : ℕ) → i < s.at → slice_get c i ≡ slice_get b i
+  pub inside : (i : ℕ) → s.at ≤ i → i < s.at + length s.new → slice_get c i ≡ slice_get s.new (i - s.at)
+  pub behind : (i : ℕ) → s.at + length s.new ≤ i → slice_get c i ≡ slice_get b (i - length s.new + length s.old)
+  pub long : length c ≡ length b - length s.old + length s.new
+  pub within : s.at + length s.old ≤ length b
+
+pub before : (s : Change) (b c : List ℕ) → change_done s b ≡ Some c → Before s b c
+before s b c e =
+    let x = exchanges-from_done s b c e in
+    let offset : length x.front ≡ s.at = x.offset in
+    let g = grown s b c e in
+    record {
+      front = λ i h. ap (λ l. slice_get l i) x.after ∙ get_front x.front (s.new ++ x.rest) i (omega (arith, offset)) ∙ sym (get_front x.front (s.old ++ x.rest) i (omega (arith, offset))) ∙ ap (λ l. slice_get l i) (sym x.before);
+      inside = λ i h k. ap (λ l. slice_get l i) x.after ∙ get_behind x.front (s.new ++ x.rest) i (i - s.at) (omega (arith, offset)) ∙ get_front s.new x.rest (i - s.at) (omega arith);
+      behind = λ i h.
+          ap (λ l. slice_get l i) x.after ∙ get_behind x.front (s.new ++ x.rest) i (i - s.at) (omega (arith, offset)) ∙ get_behind s.new x.rest (i - s.at) (i - s.at - length s.new) (omega arith)
+          ∙ sym (ap (λ l. slice_get l (i - length s.new + length s.old)) x.before
+          ∙ get_behind x.front (s.old ++ x.rest) (i - length s.new + length s.old) (i - s.at - length s.new + length s.old) (omega (arith, offset))
+          ∙ get_behind s.old x.rest (i - s.at - length s.new + length s.old) (i - s.at - length s.new) (omega arith));
+      long = g.long;
+      within = g.within;
+    }
+
+-- where a byte came from over a splice
+pub came_from : (s : Change) (b c : List ℕ) (i j : ℕ) → Before s b c → i < length c → ((i < s.at) × (j ≡ i)) ⊎ ((s.at + length s.new ≤ i) × (j ≡ i - length s.new + length s.old)) → (j < length b) × (slice_get b j ≡ slice_get c i)
+came_from s b c i j x h (inl (low, is)) =
+    let long : length c ≡ length b - length s.old + length s.new = x.long in
+    let within : s.at + length s.old ≤ length b = x.within in
+    (omega (arith, low, is, within), ap (slice_get b) is ∙ sym (x.front i low))
+came_from s b c i j x h (inr (high, is)) =
+    let long : length c ≡ length b - length s.old + length s.new = x.long in
+    let within : s.at + length s.old ≤ length b = x.within in
+    (omega (arith, high, is, within, long), ap (slice_get b) is ∙ sym (x.behind i high))
+
+-- the text before a splice that was done
+pub record Earlier (ss : List Change) (text : List ℕ) (k : ℕ) (s : Change) (c : List ℕ) : Type 0 where
+  pub text_before : List ℕ
+  pub is : all_done (take k ss) text ≡ Some text_before
+  pub bytes : Before s text_before c
+  pub small : length text_before < 2 ^ 64
+
+pub earlier : (ss : List Change) (text : List ℕ) (k : ℕ) (s : Change) (c : List ℕ) → lengths_done ss (length text) ≢ None → length text < 2 ^ 64 → slice_get ss k ≡ Some s → all_done (take (k + 1) ss) text ≡ Some c → Earlier ss text k s c
+earlier ss text k s c h small is e =
+    let one = sym (done_next ss k s text is) ∙ e in
+    elim (all_done (take k ss) text) as (λ o. all_done (take k ss) text ≡ o → option_and_then (change_done s) o ≡ Some c → Earlier ss text k s c) [
+      | None ↦ λ _ q. cc
+      | Some b ↦ λ to q. record { text_before = b; is = to; bytes = before s b c q; small = stays_small ss k text b h to small }
+    ] refl one
+
+-- the same, from a place down
+pub one_earlier : (ss : List Change) (text : List ℕ) (n : ℕ) (s : Change) (c : List ℕ) → 0 < n → lengths_done ss (length text) ≢ None → length text < 2 ^ 64 → slice_get ss (n - 1) ≡ Some s → all_done (take n ss) text ≡ Some c → Earlier ss text (n - 1) s c
+one_earlier ss text n s c pos h small is e =
+    let one : n - 1 + 1 ≡ n = omega arith in
+    earlier ss text (n - 1) s c h small is (ap (λ k. all_done (take k ss) text) one ∙ e)
+
+-- ---- whether a splice's old bytes are there
+
+pub some_of : {A : Type 0} (o : Option A) → is_some o ≡ true → (x : A) × (o ≡ Some x)
+some_of None h = cc
+some_of (Some x) h = (x, refl)
+
+pub found_there : (s : Change) (b : List ℕ) → s.at + length s.old ≤ length b → take (length s.old) (drop s.at b) ≡ s.old → (c : List ℕ) × (change_done s b ≡ Some c)
+found_there s b within is = (
+  take s.at b ++ (s.new ++ drop (length s.old) (drop s.at b)),
+  done-from_exchanges s b (take s.at b ++ (s.new ++ drop (length s.old) (drop s.at b))) (record {
+    front = take s.at b;
+    rest = drop (length s.old) (drop s.at b);
+    offset = length-take-le s.at b (omega arith);
+    before = sym (take-append-drop s.at b) ∙ ap (λ l. take s.at b ++ l) (sym (take-append-drop (length s.old) (drop s.at b)) ∙ ap (λ l. l ++ drop (length s.old) (drop s.at b)) is);
+    after = refl;
+  }),
+)
+
+pub not_there : (s : Change) (b : List ℕ) → take (length s.old) (drop s.at b) ≢ s.old → change_done s b ≡ None
+not_there s b other = none_done s b (λ c x.
+    other (ap (λ l. take (length s.old) (drop s.at l)) x.before
+    ∙ ap (λ n. take (length s.old) (drop n (x.front ++ (s.old ++ x.rest)))) (sym x.offset)
+    ∙ ap (take (length s.old)) (drop-append_seam x.front (s.old ++ x.rest))
+    ∙ take-append_seam s.old x.rest))
+
+pub length-turned : (back : Bool) (ss : List Change) → length (turned back ss) ≡ length ss
+length-turned false ss = refl
+length-turned true ss = length-flipped ss
+
+-- where lengths are within, splices that are done end with the length that is told
+pub ends_alike : (ss : List Change) (n m : ℕ) (b : List ℕ) → lengths_done ss n ≡ Some m → length b ≡ n → is_some (all_done ss b) ≡ is_some (if length b == n then if_length m (all_done ss b) else None)
+ends_alike ss n m b lengths long =
+    elim (all_done ss b) as (λ o. all_done ss b ≡ o → is_some o ≡ is_some (if_length m o)) [
+      | None ↦ λ e. refl
+      | Some c ↦ λ e.
+          let reached : lengths_done ss (length b) ≡ Some m = ap (lengths_done ss) long ∙ lengths in
+          let follow = lengths_follow ss b c e (λ none. some_none m (sym reached ∙ none)) in
+          let same : length c ≡ m = some_same (length c) m (sym follow ∙ reached) in
+          sym (ap (λ t. is_some (if t then Some c else None)) (eq-eqb (length c) m same))
+    ] refl
+    ∙ sym (ap (λ t. is_some (if t then if_length m (all_done ss b) else None)) (eq-eqb (length b) n long))

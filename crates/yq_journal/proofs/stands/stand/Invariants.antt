@@ -1,0 +1,8 @@
+use Rattle.std.proofs.Common.{◌≡◌, true, take}
+use Rattle.std.specs.Prelude.{is_some}
+use Rattle.yq_splice.specs.Patch.{all_done}
+use Rattle.yq_journal.specs.Turned.{turned}
+use Rattle.yq_journal.proofs.stands.stand.Given as goal
+
+abbrev pub invariant-splices : goal.invariant-splices
+invariant-splices l = is_some (all_done (take l.k (turned l.back l.splices)) l.text) ≡ true

@@ -1,0 +1,126 @@
+//! Whether splices can be done on a text, told without memory.
+ghost use Rattle.std.specs.Prelude.{◌≡◌, ◌≢◌, ◌⊎◌, ◌+◌, ◌-◌, ◌^◌, ◌<◌, ◌≤◌, ◌↔◌, ℕ, IfSome, IsTrue, List, None, Some, drop, length, is_some, slice_get, take};
+ghost use Rattle.yq_splice.specs.Patch.{Change, all_done, flipped, lengths_done};
+ghost use Rattle.yq_journal.specs.Gap.{change};
+ghost use Rattle.yq_journal.specs.Record.{done, undone};
+ghost use Rattle.yq_journal.specs.Turned.{turned};
+
+use crate::record::Record;
+use yq_splice::Splice;
+
+/// The splice at a place: its offset, the bytes that it finds and those that
+/// it puts there.
+fn nth<'a>(splices: &'a [Splice], back: bool, k: usize) -> (usize, &'a [u8], &'a [u8])
+    requires { k < length splices.now }
+    ensures { slice_get (turned back splices.entry.now) k ≡ Some (change result.0 result.1.now result.2.now) }
+{
+    if back {
+        let splice = &splices[splices.len() - 1 - k];
+        (splice.at as usize, &splice.new, &splice.old)
+    } else {
+        let splice = &splices[k];
+        (splice.at as usize, &splice.old, &splice.new)
+    }
+}
+
+/// Where a byte came from over a splice: `None` where the splice put it there.
+fn origin(i: usize, start: usize, old_len: usize, new_len: usize) -> Option<usize>
+    requires { start + new_len ≤ i → i - new_len + old_len ≤ usize.MAX }
+    ensures outside { IfSome result (λ j. ((i < start) × (j ≡ i)) ⊎ ((start + new_len ≤ i) × (j ≡ i - new_len + old_len))) }
+    ensures inside { result ≡ None → (start ≤ i) × (i < start + new_len) }
+{
+    if i < start {
+        Some(i)
+    } else if i - start < new_len {
+        None
+    } else {
+        Some(i - new_len + old_len)
+    }
+}
+
+/// The byte at an offset, if the bytes reach so far.
+fn byte_at(bytes: &[u8], i: usize) -> Option<u8>
+    ensures { result ≡ slice_get bytes.now i }
+{
+    bytes.get(i).copied()
+}
+
+/// A byte of the text that the first splices make of a text.
+fn byte_after(splices: &[Splice], back: bool, count: usize, text: &[u8], at: usize) -> Option<u8>
+    requires within { count ≤ length splices.now }
+    requires lengths { lengths_done (turned back splices.now) (length text.now) ≢ None }
+    requires done { (b : List ℕ) × (all_done (take count (turned back splices.now)) text.now ≡ Some b) × (at < length b) }
+    ensures { (b : List ℕ) → all_done (take count (turned back splices.now)) text.now ≡ Some b → result ≡ slice_get b at }
+{
+    let mut left = count;
+    let mut i = at;
+    'splices: while left > 0 {
+        left -= 1;
+        let (start, old, new) = nth(splices, back, left);
+        match origin(i, start, old.len(), new.len()) {
+            Some(next) => i = next,
+            None => return byte_at(new, i - start),
+        }
+    }
+    byte_at(text, i)
+}
+
+/// Whether bytes stand at an offset of the text that the first splices make.
+fn is_there(
+    splices: &[Splice],
+    back: bool,
+    count: usize,
+    text: &[u8],
+    at: usize,
+    old: &[u8],
+) -> bool
+    requires within { count ≤ length splices.now }
+    requires lengths { lengths_done (turned back splices.now) (length text.now) ≢ None }
+    requires done { (b : List ℕ) × (all_done (take count (turned back splices.now)) text.now ≡ Some b) × (at + length old.now ≤ length b) × (length b < 2 ^ 64) }
+    ensures { (b : List ℕ) → all_done (take count (turned back splices.now)) text.now ≡ Some b → (IsTrue result ↔ (take (length old.now) (drop at b) ≡ old.now)) }
+{
+    'bytes: for j in 0..old.len() {
+        if byte_after(splices, back, count, text, at + j) != Some(old[j]) {
+            return false;
+        }
+    }
+    true
+}
+
+/// Whether splices can be done on a text one after the other, or taken back.
+fn stand(splices: &[Splice], back: bool, text: &[u8]) -> bool
+    requires { lengths_done (turned back splices.now) (length text.now) ≢ None }
+    ensures { result ≡ is_some (all_done (turned back splices.now) text.now) }
+{
+    'splices: for k in 0..splices.len() {
+        let (at, old, _) = nth(splices, back, k);
+        if !is_there(splices, back, k, text, at, old) {
+            return false;
+        }
+    }
+    true
+}
+
+/// Whether a record stands before a text: the text has its length, and the
+/// splices find their old bytes, one after the other. This takes no memory.
+pub fn stands_before(patch: &Record, text: &[u8]) -> bool
+    ensures { result ≡ is_some (done patch.now text.now) }
+{
+    text.len() as u64 == patch.before_len && stand(&patch.splices, false, text)
+}
+
+/// Whether splices that led from a length to that of a text can be taken back.
+fn stand_back(splices: &[Splice], _before_len: u64, text: &[u8]) -> bool
+    requires { lengths_done splices.now _before_len ≡ Some (length text.now) }
+    ensures { result ≡ is_some (all_done (flipped splices.now) text.now) }
+{
+    stand(splices, true, text)
+}
+
+/// Whether a record stands after a text: the text has its length, and the
+/// splices, the last one first, find their new bytes. This takes no memory.
+pub fn stands_after(patch: &Record, text: &[u8]) -> bool
+    ensures { result ≡ is_some (undone patch.now text.now) }
+{
+    text.len() as u64 == patch.after_len && stand_back(&patch.splices, patch.before_len, text)
+}
