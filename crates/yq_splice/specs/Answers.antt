@@ -1,0 +1,33 @@
+-- What an answer to an edit says.
+use Rattle.std.specs.Prelude.{◌≡◌, Result, Ok, Err, string_bytes}
+use Rattle.yq_scalar.specs.declared.fault.ReadError.{ReadError}
+use Rattle.yq_scalar.specs.declared.fault.ReadError.TheVariants as reading
+use Rattle.yq_expr.specs.declared.planning.PlanError.{PlanError}
+use Rattle.yq_expr.specs.declared.planning.PlanError.TheVariants as planning
+use Rattle.yq_splice.specs.Edit.{Edit, unreadable, refuses, unbuilt, gives}
+use Rattle.yq_splice.specs.declared.edited.Edited.{Edited}
+use Rattle.yq_splice.specs.declared.edited.EditError.{EditError}
+use Rattle.yq_splice.specs.declared.edited.EditError.TheVariants as error
+
+-- the error of an edit whose text is not read (own)
+abbrev pub of_reading : ReadError → EditError
+of_reading reading.Memory = error.Memory
+of_reading (reading.Fault fault) = error.Read fault
+
+-- the error of an edit whose update is not planned (own)
+abbrev pub of_planning : PlanError → EditError
+of_planning (planning.Refused why) = error.Refused why
+of_planning planning.NotInProfile = error.NotInProfile
+of_planning planning.Memory = error.Memory
+
+-- what an error says of the edit; want of memory says nothing (own)
+abbrev pub Fails : EditError → Edit → Type 0
+Fails (error.Read fault) edit = edit ≡ unreadable
+Fails (error.Refused why) edit = edit ≡ refuses why
+Fails error.NotInProfile edit = edit ≡ unbuilt
+Fails error.Memory edit = Unit {0}
+
+-- the answer is what the edit comes to (own)
+abbrev pub Edits : Result Edited EditError → Edit → Type 0
+Edits (Ok e) edit = edit ≡ gives (string_bytes e.text) e.splices.items
+Edits (Err e) edit = Fails e edit

@@ -1,0 +1,208 @@
+//! Editing: a program carried out on a text.
+ghost use Rattle.std.specs.Prelude.{◌≡◌, ◌++◌, ◌+◌, [], List, ℕ, Some, IfOk, ◌-◌, ◌≤◌, length, nat_le, take, drop, string_bytes};
+ghost use Rattle.std.specs.Str.{IsCharBoundary};
+ghost use Rattle.yq_scalar.specs.Characters.{text_limit};
+ghost use Rattle.yq_rows.specs.Grammar.{IsCut};
+ghost use Rattle.yq_rows.specs.Rows.{Cut};
+ghost use Rattle.yq_tree.specs.Documents.{Document, Reads};
+ghost use Rattle.yq_tree.specs.Reading.{read_at};
+ghost use Rattle.yq_tree.specs.View.{steps_of};
+ghost use Rattle.yq_expr.specs.View.{program_of};
+ghost use Rattle.yq_expr.specs.Operations.{operation_of, operations_of};
+ghost use Rattle.yq_expr.specs.Written as written;
+ghost use Rattle.yq_splice.specs.Answers.{Edits};
+ghost use Rattle.yq_splice.specs.Edit as spec;
+ghost use Rattle.yq_splice.specs.Style as style;
+ghost use Rattle.yq_splice.specs.Theorems.{IsInside, IsMeant, AreSplices};
+ghost use Rattle.yq_splice.specs.Valid.{IsValid, HasOperand, HaveOperands, HasOperands};
+
+use crate::edited::{EditError, Edited};
+use crate::splice::Splice;
+use std::alloc::{AllocError, Global};
+use yq_expr::{Op, Program, Refusal, Value, plan, written_at};
+use yq_scalar::characters::TEXT_LIMIT;
+use yq_scalar::{Kind, Place, Scalar, Style, can_write};
+use yq_tree::{Documents, Path, Span, read};
+
+/// The text as it is.
+fn unchanged(alloc: Global, text: &str) -> Result<Edited, AllocError>
+    ensures { IfOk result (λ e. (string_bytes e.text ≡ text.now) × (e.splices.items ≡ [])) }
+{
+    Ok(Edited {
+        text: String::from_str(alloc, text)?,
+        splices: Vec::new(alloc),
+    })
+}
+
+/// Whether the text of three pieces may stand.
+fn may_stand(before: &str, new: &str, behind: &str) -> bool
+    ensures { result ≡ nat_le (length (before.now ++ (new.now ++ behind.now))) text_limit }
+{
+    before.len() <= TEXT_LIMIT
+        && new.len() <= TEXT_LIMIT - before.len()
+        && behind.len() <= TEXT_LIMIT - before.len() - new.len()
+}
+
+/// The text whose middle piece is exchanged.
+fn put_between(
+    alloc: Global,
+    before: &str,
+    old: &str,
+    new: &str,
+    behind: &str,
+) -> Result<Edited, EditError>
+    ensures { Edits result (spec.put_between before.now old.now new.now behind.now) }
+{
+    if !may_stand(before, new, behind) {
+        return Err(EditError::Refused(Refusal::TooLarge));
+    }
+    let mut text = String::with_capacity(alloc, before.len() + new.len() + behind.len())?;
+    text.push_str(before)?;
+    text.push_str(new)?;
+    text.push_str(behind)?;
+    let splice = Splice {
+        at: before.len() as u64,
+        old: Vec::from_slice(alloc, old.as_bytes())?,
+        new: Vec::from_slice(alloc, new.as_bytes())?,
+    };
+    let mut splices = Vec::with_capacity(alloc, 1)?;
+    splices.push(splice)?;
+    Ok(Edited { text, splices })
+}
+
+/// The text whose piece at a place is exchanged.
+fn put_at(alloc: Global, text: &str, span: Span, new: &str) -> Result<Edited, EditError>
+    requires order { span.start ≤ span.end }
+    requires start { IsCharBoundary text.now span.start }
+    requires end { IsCharBoundary (drop span.start text.now) (span.end - span.start) }
+    ensures { Edits result (spec.put_between (take span.start text.now) (take (span.end - span.start) (drop span.start text.now)) new.now (drop (span.end - span.start) (drop span.start text.now))) }
+{
+    let (before, rest) = text.split_at(span.start);
+    let (old, behind) = rest.split_at(span.end - span.start);
+    put_between(alloc, before, old, new, behind)
+}
+
+/// Whether a scalar has that kind and that text.
+fn is_same(kind: Kind, text: &str, scalar: &Scalar) -> bool
+    ensures value { result ≡ style.is_same (record { kind = kind; text = text.now }) scalar.now }
+    ensures valid { IsValid scalar.now }
+{
+    let other = scalar.text();
+    kind == scalar.kind() && text == other
+}
+
+/// A scalar in the place of the one that is written at a path.
+fn replace_scalar(
+    alloc: Global,
+    text: &str,
+    documents: &Documents<'_>,
+    path: &Path,
+    scalar: &Scalar,
+) -> Result<Edited, EditError>
+    requires cut { IsCut text.now documents.now }
+    requires first { path.now.doc ≡ 0 }
+    ensures exact { Edits result (spec.replace_at scalar.now (written.written_at (steps_of path.now) documents.now.rows) documents.now) }
+    ensures valid { IfOk result (λ e. IsValid scalar.now) }
+{
+    let Some(old) = written_at(documents, path) else {
+        return Err(EditError::NotInProfile);
+    };
+    if is_same(old.kind, old.text, scalar) {
+        return Ok(unchanged(alloc, text)?);
+    }
+    if !can_write(scalar, Style::Plain, Place::Block) {
+        return Err(EditError::NotInProfile);
+    }
+    put_at(alloc, text, old.span, scalar.text())
+}
+
+/// An operation carried out on a text.
+fn carry_one(
+    alloc: Global,
+    text: &str,
+    documents: &Documents<'_>,
+    op: &Op,
+) -> Result<Edited, EditError>
+    requires { IsCut text.now documents.now }
+    ensures exact { Edits result (spec.carry_one (operation_of op.now) documents.now) }
+    ensures valid { IfOk result (λ e. HasOperand (operation_of op.now)) }
+{
+    let Op::Replace(path, value) = op else {
+        return Err(EditError::NotInProfile);
+    };
+    if path.doc != 0 {
+        return Err(EditError::NotInProfile);
+    }
+    let Value::Scalar(scalar) = value else {
+        return Err(EditError::NotInProfile);
+    };
+    replace_scalar(alloc, text, documents, path, scalar)
+}
+
+/// Operations carried out on a text.
+fn carry_all(
+    alloc: Global,
+    text: &str,
+    documents: &Documents<'_>,
+    ops: &[Op],
+) -> Result<Edited, EditError>
+    requires { IsCut text.now documents.now }
+    ensures exact { Edits result (spec.carry_all (operations_of ops.now) documents.now) }
+    ensures valid { IfOk result (λ e. HaveOperands (operations_of ops.now)) }
+{
+    match ops {
+        [] => Ok(unchanged(alloc, text)?),
+        [op] => carry_one(alloc, text, documents, op),
+        _ => Err(EditError::NotInProfile),
+    }
+}
+
+/// A program carried out on a text that was read.
+fn edit_documents(
+    alloc: Global,
+    text: &str,
+    program: &Program,
+    documents: &Documents<'_>,
+) -> Result<Edited, EditError>
+    requires { IsCut text.now documents.now }
+    ensures exact { Edits result (spec.edit_rows (program_of program.now) documents.now) }
+    ensures valid { IfOk result (λ e. HasOperands (program_of program.now) documents.now) }
+{
+    if program.is_read() {
+        return Err(EditError::Refused(Refusal::NotAnUpdate));
+    }
+    if program.updates() != 1 {
+        return Err(EditError::NotInProfile);
+    }
+    let ops = plan(alloc, program, 0, documents)?;
+    carry_all(alloc, text, documents, &ops)
+}
+
+/// A program carried out on a text.
+#[tactic(auto, unfolding(crate::specs::Edit::edit_of))]
+fn edit_text(alloc: Global, text: &str, program: &Program) -> Result<Edited, EditError>
+    ensures exact { Edits result (spec.edit_of (program_of program.now) text.now) }
+    ensures valid { IfOk result (λ e. (c : Cut) → read_at text.now ≡ Some c → HasOperands (program_of program.now) c) }
+{
+    let documents = read(alloc, text.as_bytes())?;
+    edit_documents(alloc, text, program, &documents)
+}
+
+/// Carries out a program on a text, one update after the other: each byte
+/// that no update names stays as it is.
+///
+/// The errors, in their order: the text has no reading; the program is a read
+/// ([`Refusal::NotAnUpdate`]); an update is refused, as its plan is; the new
+/// text would be larger than 16,777,216 bytes ([`Refusal::TooLarge`]).
+pub fn edit(alloc: Global, text: &str, program: &Program) -> Result<Edited, EditError>
+    // The new text, or why there is none.
+    ensures exact { Edits result (spec.edit_of (program_of program.now) text.now) }
+    // One head is exchanged, and the text before it and behind it stays.
+    ensures inside { IfOk result (λ e. IsInside (program_of program.now) text.now (string_bytes e.text)) }
+    // The new text reads as what the program means.
+    ensures meaning { IfOk result (λ e. (docs : List Document) → Reads text.now docs → IsMeant (program_of program.now) docs (string_bytes e.text)) }
+    // The splices lead from the old text to the new one.
+    ensures splices { IfOk result (λ e. AreSplices e.splices.items text.now (string_bytes e.text)) }
+{
+    edit_text(alloc, text, program)
+}
