@@ -1,0 +1,104 @@
+"""A folder of its own for each check, and the program run in it."""
+
+import os
+import shutil
+import subprocess
+import sys
+import tempfile
+import traceback
+
+NOBODY = 65534
+SECONDS = 120
+
+
+class Skip(Exception):
+    """The machine lacks what a check needs."""
+
+
+class Folder:
+    """A temporary folder with the program, as the user who runs the tests or as nobody."""
+
+    def __init__(self, yq, path):
+        self.yq = yq
+        self.path = path
+
+    def name(self, file):
+        return os.path.join(self.path, file)
+
+    def write(self, file, data):
+        with open(self.name(file), "wb") as out:
+            out.write(data)
+
+    def read(self, file):
+        with open(self.name(file), "rb") as text:
+            return text.read()
+
+    def names(self):
+        return sorted(os.listdir(self.path))
+
+    def mode(self, file):
+        return os.stat(self.name(file)).st_mode & 0o7777
+
+    def run(self, *words, nobody=False):
+        line = [self.yq, *words]
+        if nobody:
+            line = as_nobody() + line
+        done = subprocess.run(line, cwd=self.path, stdin=subprocess.DEVNULL, capture_output=True, timeout=SECONDS)
+        return done.returncode, done.stdout, done.stderr
+
+    def accepts(self, *words, nobody=False):
+        """The command ends with status 0 and writes nothing to standard error."""
+        status, out, err = self.run(*words, nobody=nobody)
+        equal((status, err), (0, b""), words)
+        return out
+
+    def refuses(self, line, *words, nobody=False):
+        """The command ends with status 1, prints nothing, and its first line on standard error is this."""
+        status, out, err = self.run(*words, nobody=nobody)
+        equal((status, out, err.split(b"\n")[0]), (1, b"", b"Error: " + line.encode()), words)
+
+    def give_away(self):
+        """Lets nobody into the folder."""
+        os.chmod(self.path, 0o777)
+
+
+def as_nobody():
+    if os.geteuid() != 0 or shutil.which("setpriv") is None:
+        raise Skip("needs root and setpriv")
+    return ["setpriv", f"--reuid={NOBODY}", f"--regid={NOBODY}", "--clear-groups"]
+
+
+def equal(seen, wanted, what=""):
+    if seen != wanted:
+        raise AssertionError(f"{what}: {shown(seen)} is not {shown(wanted)}")
+
+
+def shown(value):
+    text = repr(value)
+    return text if len(text) < 400 else text[:400] + ".."
+
+
+def run_all(modules, argv):
+    if len(argv) < 2 or not os.access(argv[1], os.X_OK):
+        print("no program to run", file=sys.stderr)
+        return 1
+    yq = os.path.realpath(argv[1])
+    wanted = argv[2] if len(argv) > 2 else ""
+    passed = failed = skipped = 0
+    with tempfile.TemporaryDirectory(prefix="yq-cli-") as top:
+        os.chmod(top, 0o755)
+        program = shutil.copy(yq, os.path.join(top, "yq"))
+        for module in modules:
+            for name in [n for n in vars(module) if n.startswith("check_") and wanted in n]:
+                folder = Folder(program, tempfile.mkdtemp(dir=top))
+                try:
+                    getattr(module, name)(folder)
+                    passed += 1
+                except Skip as why:
+                    skipped += 1
+                    print(f"skipped {name}: {why}")
+                except Exception:
+                    failed += 1
+                    print(f"failed {name}\n{traceback.format_exc()}")
+    print(f"{passed} passed, {failed} failed" + (f", {skipped} skipped" if skipped else ""))
+    return 0 if passed and not failed else 1

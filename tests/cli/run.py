@@ -1,0 +1,17 @@
+"""What only real files show: runs the program on files in temporary folders.
+
+usage: run.py PATH_OF_YQ [WORD]      with WORD, only the checks whose names hold it
+Its last line is `N passed, N failed` (and `, N skipped` where the machine lacks what a check needs).
+"""
+
+import os
+import sys
+
+sys.path.insert(0, os.path.dirname(os.path.abspath(__file__)))
+
+import edits
+import failures
+import words
+from harness import run_all
+
+sys.exit(run_all([edits, words, failures], sys.argv))
