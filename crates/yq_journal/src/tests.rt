@@ -1,6 +1,6 @@
 //! Journals of worked examples, and texts that are none.
 
-mod json;
+mod journal_texts;
 mod memory;
 mod moves;
 
