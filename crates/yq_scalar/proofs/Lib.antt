@@ -38,3 +38,8 @@ pub mod QuotedPieceLaws
 pub mod PieceContentLaws
 pub mod BlockContentSteps
 pub mod BlockPieceLaws
+pub mod LiteralText
+pub mod BlockWrittenLines
+pub mod BlockWrittenLaws
+pub mod BlockWrittenHeader
+pub mod BlockRepairLaws

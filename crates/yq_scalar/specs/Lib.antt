@@ -23,3 +23,5 @@ pub mod Block
 pub mod BlockReading
 pub mod QuotedPiece
 pub mod BlockContent
+pub mod BlockWritten
+pub mod BlockRepair

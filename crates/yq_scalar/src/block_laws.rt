@@ -1,7 +1,18 @@
-//! What holds of block scalars.
-ghost use Rattle.std.specs.Prelude.{◌≡◌, ℕ, List, Some};
-ghost use Rattle.yq_scalar.specs.Block.{BlockText, IsBlock, block_text};
+//! Laws of block scalars, each the contract of a function that does nothing.
+ghost use Rattle.std.specs.Prelude.{◌≡◌, ◌<◌, ◌≤◌, ◌++◌, Bool, List, Some, false, true, ℕ};
+ghost use Rattle.std.specs.Str.{IsUtf8};
+ghost use Rattle.yq_scalar.specs.Block.{BlockText, IsBlock, Lines, block_text, ends_block, is_tail};
+ghost use Rattle.yq_scalar.specs.BlockContent.{block_content};
 ghost use Rattle.yq_scalar.specs.BlockReading.{block_at};
+ghost use Rattle.yq_scalar.specs.BlockRepair.{AreGap, is_behind, remarks, repair};
+ghost use Rattle.yq_scalar.specs.BlockWritten.{break_text, written_block};
+ghost use Rattle.yq_scalar.specs.Scalar.{ScalarText};
+ghost use Rattle.yq_scalar.specs.Text.{lines_of};
+ghost use Rattle.yq_scalar.specs.Writable.{can_write};
+ghost use Rattle.yq_scalar.specs.declared.block_lines.TextIndent.{TextIndent};
+ghost use Rattle.yq_scalar.specs.declared.block_written.Break.{Break};
+ghost use Rattle.yq_scalar.specs.declared.style.Place.TheVariants.{Block};
+ghost use Rattle.yq_scalar.specs.declared.style.Style.TheVariants.{Literal};
 
 /// What is read is a block scalar in front of its rest, what is one is read, and a text begins with one
 /// block scalar at most.
@@ -9,4 +20,18 @@ pub fn one_block()
     ensures takes { (least : ℕ) (t : List ℕ) (x : BlockText × List ℕ) → block_at least t ≡ Some x → (t ≡ block_text x.0 x.1) × IsBlock least x.0 x.1 }
     ensures again { (least : ℕ) (b : BlockText) (rest : List ℕ) → IsBlock least b rest → block_at least (block_text b rest) ≡ Some (b, rest) }
     ensures one { (least : ℕ) (a b : BlockText) (rest other : List ℕ) → block_text a rest ≡ block_text b other → IsBlock least a rest → IsBlock least b other → (a ≡ b) × (rest ≡ other) }
+{}
+
+/// What is written for a string that can be written literal is a block scalar, before whatever may
+/// stand behind one, and stands for the string.
+pub fn literal_spells()
+    ensures block { (least m : ℕ) (b : Break) (s : ScalarText) (tail rest : List ℕ) → IsUtf8 s.text → can_write s Literal Block ≡ true → least ≤ m → is_tail tail ≡ true → ends_block false (record { columns = m; known = true }) (lines_of rest) ≡ true → IsBlock least (written_block s.text m (break_text b) tail) rest }
+    ensures content { (m : ℕ) (b : Break) (s : ScalarText) (tail : List ℕ) → IsUtf8 s.text → can_write s Literal Block ≡ true → block_content (written_block s.text m (break_text b) tail) ≡ s.text }
+{}
+
+/// A repaired gap may stand behind a block scalar, before a less indented line or the end, and its
+/// comments are the same.
+pub fn repaired()
+    ensures ends { (keep : Bool) (indent : TextIndent) (column : ℕ) (gap rest : Lines) → AreGap gap → is_behind indent rest ≡ true → column < indent.columns → ends_block keep indent (repair keep indent column gap ++ rest) ≡ true }
+    ensures comments { (keep : Bool) (indent : TextIndent) (column : ℕ) (gap : Lines) → AreGap gap → remarks (repair keep indent column gap) ≡ remarks gap }
 {}

@@ -3,11 +3,14 @@
 
 pub mod block;
 pub mod block_content;
+#[cfg(test)]
+mod block_content_tests;
 pub mod block_header;
 pub mod block_laws;
 pub mod block_lines;
 #[cfg(test)]
 mod block_tests;
+pub mod block_written;
 pub mod characters;
 mod fault;
 pub mod folding;
@@ -40,6 +43,7 @@ mod writable;
 mod write;
 
 pub use block::read_block;
+pub use block_written::{Break, write_block};
 pub use fault::{FaultKind, ReadError, ReadFault};
 pub use integer::int_value;
 pub use keys::are_distinct;

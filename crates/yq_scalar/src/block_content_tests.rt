@@ -1,0 +1,140 @@
+//! What block scalars stand for, and how they are written.
+
+use crate::block::read_block;
+use crate::block_content::block_content;
+use crate::block_laws::{literal_spells, one_block, repaired};
+use crate::block_written::{Break, write_block};
+use std::alloc::Global;
+use std::string::String;
+use std::test::Fail;
+
+/// What the block scalar in front stands for.
+fn content_of(alloc: Global, text: &str, parent: i64) -> Result<String, Fail> {
+    let piece = read_block(text, 0, parent)?;
+    Ok(block_content(alloc, text, &piece)?)
+}
+
+#[test]
+fn block_contents(rt: HostRuntime) -> Result<(), Fail> {
+    let alloc = rt.alloc();
+    let contents = [
+        (">\n  a\n  b\n\n  c\n   d\n  e\n", 0, "a b\nc\n d\ne\n"),
+        ("|2-\n   x\n\n", 0, " x"),
+        ("|+\n  x\n\n", 0, "x\n\n"),
+        (">+\n\n    \n", 0, "\n\n"),
+        (
+            "|\n    By four\n      spaces\n Flow style: x\n",
+            1,
+            "By four\n  spaces\n",
+        ),
+        (">-\r\n  a\r\n  b\r\n\r\n  c\r\n\r\n", 0, "a b\nc"),
+        ("|+\r\n  a\r\n\r\n", 0, "a\n\n"),
+        (">+\n  a\n\n\n", 0, "a\n\n\n"),
+        (">\n  a\n  \tb\n  c\n", 0, "a\n\tb\nc\n"),
+        ("|\n  \u{e9}\n   \u{1f600}\n", 0, "\u{e9}\n \u{1f600}\n"),
+    ];
+    for (text, parent, content) in contents {
+        assert_eq!(rt;
+            content_of(alloc, text, parent)?.as_str(),
+            content,
+            "at {text:?}"
+        );
+    }
+    Ok(())
+}
+
+#[test]
+fn examples_of_chapter_8_1(rt: HostRuntime) -> Result<(), Fail> {
+    let alloc = rt.alloc();
+    let contents = [
+        ("| # Empty header\n literal\n- x\n", 0, "literal\n"),
+        (
+            ">1 # Indentation indicator\n  folded\n- x\n",
+            0,
+            " folded\n",
+        ),
+        ("|+ # Chomping indicator\n keep\n\n- x\n", 0, "keep\n\n"),
+        (">1- # Both indicators\n  strip\n", 0, " strip"),
+        (
+            "|-\n  # text\n  \n # Clip\n  # comments:\n\nclip: x\n",
+            0,
+            "# text",
+        ),
+        (
+            "|\n  # text\n \n # Keep\n  # comments:\n\nkeep: x\n",
+            0,
+            "# text\n",
+        ),
+        ("|+\n  # text\n\n # Trail\n  # Comments\n", 0, "# text\n\n"),
+        (">-\n\nclip: x\n", 0, ""),
+        (">\n\nkeep: x\n", 0, ""),
+        ("|+\n\n", 0, "\n"),
+        ("|\n literal\n \ttext\n\n", -1, "literal\n\ttext\n"),
+        (
+            "|\n \n  \n  literal\n   \n  \n  text\n\n # Comment\n",
+            -1,
+            "\n\nliteral\n \n\ntext\n",
+        ),
+        (">\n folded\n text\n\n", -1, "folded text\n"),
+        (
+            ">\n\n folded\n line\n\n next\n line\n   * bullet\n\n   * list\n   * lines\n\n last\n line\n\n# Comment\n",
+            -1,
+            "\nfolded line\nnext line\n  * bullet\n\n  * list\n  * lines\n\nlast line\n",
+        ),
+        ("|\n  some\n  text\nfolded: x\n", 0, "some\ntext\n"),
+        (">\n  some\n  text\n", 0, "some text\n"),
+    ];
+    for (text, parent, content) in contents {
+        assert_eq!(rt;
+            content_of(alloc, text, parent)?.as_str(),
+            content,
+            "at {text:?}"
+        );
+    }
+    Ok(())
+}
+
+/// What is written for a text, its header on a line of its own.
+fn written_text(alloc: Global, content: &str, indent: usize, br: Break) -> Result<String, Fail> {
+    let (header, raw) = write_block(alloc, content, indent, br)?;
+    let mut text = String::new(alloc);
+    text.push_str(header)?;
+    text.push_str("\n")?;
+    text.push_str(raw.as_str())?;
+    Ok(text)
+}
+
+#[test]
+fn written(rt: HostRuntime) -> Result<(), Fail> {
+    let alloc = rt.alloc();
+    let rows = [
+        ("echo b\n", 4, Break::Lf, "|\n    echo b\n"),
+        ("echo b\n", 4, Break::CrLf, "|\n    echo b\r\n"),
+        ("x", 1, Break::Lf, "|-\n x\n"),
+        ("a\n\n b", 2, Break::Lf, "|-\n  a\n\n   b\n"),
+        ("a\n\n b\n", 2, Break::CrLf, "|\n  a\r\n\r\n   b\r\n"),
+        (
+            "\u{e9}: \t# |\n- y",
+            3,
+            Break::Lf,
+            "|-\n   \u{e9}: \t# |\n   - y\n",
+        ),
+    ];
+    for (content, indent, br, text) in rows {
+        let got = written_text(alloc, content, indent, br)?;
+        assert_eq!(rt; got.as_str(), text, "what is written");
+        assert_eq!(rt;
+            content_of(alloc, text, 0)?.as_str(),
+            content,
+            "of {text:?}"
+        );
+    }
+    Ok(())
+}
+
+#[test]
+fn laws() {
+    one_block();
+    literal_spells();
+    repaired();
+}

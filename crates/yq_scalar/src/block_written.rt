@@ -1,0 +1,90 @@
+//! A text written as a literal block scalar.
+ghost use Rattle.std.specs.Prelude.{◌≡◌, ◌++◌, length, replicate, OnOk, IfOk};
+ghost use Rattle.std.specs.String.{string_bytes};
+ghost use Rattle.yq_scalar.specs.BlockContent.{line_text};
+ghost use Rattle.yq_scalar.specs.BlockWritten as spec;
+ghost use Rattle.yq_scalar.specs.Text.{joined, lines_of};
+
+use crate::lines::{split_at_break, split_line};
+use std::alloc::{AllocError, Global};
+
+/// The break that is written.
+#[derive(Clone, Copy, Debug, PartialEq, Eq)]
+pub enum Break {
+    Lf,
+    CrLf,
+}
+
+/// The bytes of a break.
+pub fn break_text(br: Break) -> &'static str
+    ensures { result.now ≡ spec.break_text br }
+{
+    match br {
+        Break::Lf => "\n",
+        Break::CrLf => "\r\n",
+    }
+}
+
+/// Adds so many spaces.
+fn push_spaces(out: &mut String, count: usize) -> Result<(), AllocError>
+    ensures { OnOk result (string_bytes out.new ≡ string_bytes out.old ++ replicate count 32) }
+{
+    for _ in 0..count {
+        out.push(' ')?;
+    }
+    Ok(())
+}
+
+/// Adds a line of that text.
+fn push_written(out: &mut String, indent: usize, br: Break, text: &str) -> Result<(), AllocError>
+    ensures { OnOk result (string_bytes out.new ≡ string_bytes out.old ++ (spec.indented indent text.now ++ spec.break_text br)) }
+{
+    if !text.is_empty() {
+        push_spaces(out, indent)?;
+        out.push_str(text)?;
+    }
+    out.push_str(break_text(br))?;
+    Ok(())
+}
+
+/// Adds the lines of a text.
+fn push_lines(out: &mut String, indent: usize, br: Break, text: &str) -> Result<(), AllocError>
+    ensures { OnOk result (string_bytes out.new ≡ string_bytes out.old ++ joined (spec.written indent (spec.break_text br) (lines_of text.now))) }
+{
+    let mut rest = text;
+    'each: while !rest.is_empty() {
+        let (line, after) = split_line(rest);
+        push_written(out, indent, br, split_at_break(line).0)?;
+        rest = after;
+    }
+    Ok(())
+}
+
+/// Whether the text is empty or ends in LF.
+fn ends_in_feed(text: &[u8]) -> bool
+    ensures { result ≡ spec.ends_in_feed text.now }
+{
+    matches!(text, []) || text.ends_with(b"\n")
+}
+
+fn header_text(closed: bool) -> &'static str
+    ensures { result.now ≡ spec.header_text (spec.chomping_by closed) }
+{
+    if closed { "|" } else { "|-" }
+}
+
+/// The header and the raw lines of a literal block scalar whose text is indented by so many columns:
+/// each line of the text, behind the indentation unless it is empty, with this break.
+pub fn write_block(
+    alloc: Global,
+    text: &str,
+    indent: usize,
+    br: Break,
+) -> Result<(&'static str, String), AllocError>
+    ensures header { IfOk result (λ r. r.0.now ≡ spec.header_text (spec.chomping_of (lines_of text.now))) }
+    ensures raw { IfOk result (λ r. string_bytes r.1 ≡ joined (spec.written indent (spec.break_text br) (lines_of text.now))) }
+{
+    let mut raw = String::new(alloc);
+    push_lines(&mut raw, indent, br, text)?;
+    Ok((header_text(ends_in_feed(text.as_bytes())), raw))
+}
