@@ -1,0 +1,16 @@
+use Rattle.std.proofs.lemmas.Result.{err_from_is_err_and}
+use Rattle.yq.proofs.MoveLaws.{refused_walk, equal_walk, other_walk}
+use Rattle.yq.proofs.moves.walk_from.Goals as goal
+
+pub returns-in_err-new-clause-arrives : goal.returns-in_err-new-clause-arrives
+returns-in_err-new-clause-arrives g c = λ keeps apart h k.
+    let p = err_from_is_err_and c.from_residual.result c.from_residual.ensures.1 in
+    refused_walk _ (g.D.Store.content c.args.store.now) _ _ _ _ _ _ _ c.step.ensures k c.from_residual.result p.0 _ p.1 p.2 c.in_err-new.ensures.err
+
+pub returns-then-eq-clause-arrives : goal.returns-then-eq-clause-arrives
+returns-then-eq-clause-arrives g c = λ keeps apart h k.
+    equal_walk _ _ _ _ _ _ _ _ _ c.step.ensures k c.turn.result c.in_ok-new.ensures.free (c.turn.ensures.ok keeps _ apart h k) (c.turn.ensures.err keeps _ apart h k) c.turn.ensures.outside
+
+pub returns-clause-arrives : goal.returns-clause-arrives
+returns-clause-arrives g c = λ keeps apart h k.
+    other_walk _ _ _ _ _ _ _ _ _ c.step.ensures k c.carry_out.result _ _ c.step-else-eq.ensures c.in_ok-new.ensures.free (c.carry_out.ensures.ok keeps apart h k) (c.carry_out.ensures.err keeps apart h k) c.carry_out.ensures.fault

@@ -1,0 +1,87 @@
+-- What an expression makes of a text.
+use Rattle.std.specs.Prelude.{◌≡◌, ℕ, Bool, true, false, List, Result, Ok, Err, IsTrue}
+use Rattle.yq_expr.specs.Program.{Program}
+use Rattle.yq_expr.specs.Parse.{outcome}
+use Rattle.yq_expr.specs.Outcome as expr
+use Rattle.yq_expr.specs.declared.error.ParseError.{ParseError}
+use Rattle.yq_expr.specs.declared.error.ParseError.TheVariants as parse
+use Rattle.yq_expr.specs.declared.refusal.Refusal.{Refusal}
+use Rattle.yq_expr.specs.declared.refusal.Refusal.TheVariants as refusal
+use Rattle.yq_splice.specs.Patch.{Change}
+use Rattle.yq_splice.specs.Edit.{Edit, edit_of}
+use Rattle.yq_splice.specs.Edit as edit
+use Rattle.yq_splice.specs.declared.edited.EditError.{EditError}
+use Rattle.yq_splice.specs.declared.edited.EditError.TheVariants as error
+use Rattle.yq.specs.declared.fault.Fault.{Fault}
+use Rattle.yq.specs.declared.fault.Fault.TheVariants as fault
+use Rattle.yq.specs.declared.fault.Fault.TheVariants.{Syntax, NotInProfile, Pattern, OutOfMemory, Unreadable}
+
+-- what an edit comes to: the text has no reading, or the program is refused on it, or it gives a text by splices (own)
+pub data Outcome : Type 0 where
+  unreadable : Outcome
+  refused : Fault → Outcome
+  edited : List ℕ → List Change → Outcome
+
+-- a fault that tells that the text has no reading (own)
+abbrev pub is_unreadable : Fault → Bool
+is_unreadable (Unreadable f) = true
+is_unreadable _ = false
+
+-- the fault tells why nothing is given; which fault of reading it is, is left open (own)
+abbrev pub Refuses : Outcome → Fault → Type 0
+Refuses unreadable e = IsTrue (is_unreadable e)
+Refuses (refused f) e = e ≡ f
+Refuses (edited text changes) e = ⊥
+
+-- why an expression has no program (own)
+abbrev pub of_parse : ParseError → Fault
+of_parse parse.Syntax = Syntax
+of_parse parse.NotInProfile = NotInProfile
+of_parse parse.Pattern = Pattern
+of_parse parse.Memory = OutOfMemory
+
+-- what comes of an expression, as a program or a fault (own)
+abbrev pub result_of : expr.Outcome → Result Program Fault
+result_of (expr.parsed p) = Ok p
+result_of (expr.refused e) = Err (of_parse e)
+
+-- the program of an expression, or the fault of one that has none (own)
+unfoldable pub program_in : List ℕ → Result Program Fault
+program_in expr = result_of (outcome expr)
+
+-- why a program is refused on a text (own)
+abbrev pub of_refusal : Refusal → Fault
+of_refusal refusal.NotAMap = fault.NotAMap
+of_refusal refusal.NotASequence = fault.NotASequence
+of_refusal refusal.IndexOutOfRange = fault.IndexOutOfRange
+of_refusal refusal.ThroughAlias = fault.ThroughAlias
+of_refusal refusal.AnchorInUse = fault.AnchorInUse
+of_refusal refusal.NotOneValue = fault.NotOneValue
+of_refusal refusal.KindMismatch = fault.KindMismatch
+of_refusal refusal.IntegerRange = fault.IntegerRange
+of_refusal refusal.FloatArithmetic = fault.FloatArithmetic
+of_refusal refusal.NoPlaceForComment = fault.NoPlaceForComment
+of_refusal refusal.BadCommentText = fault.BadCommentText
+of_refusal refusal.RootDelete = fault.RootDelete
+of_refusal refusal.TooDeep = fault.TooDeep
+of_refusal refusal.TooLarge = fault.TooLarge
+of_refusal refusal.NotAnUpdate = fault.NotAnUpdate
+of_refusal refusal.KeyTooLong = fault.KeyTooLong
+
+-- why a text isn't edited (own)
+abbrev pub of_edit : EditError → Fault
+of_edit (error.Read fault) = Unreadable fault
+of_edit (error.Refused why) = of_refusal why
+of_edit error.NotInProfile = NotInProfile
+of_edit error.Memory = OutOfMemory
+
+-- what an edit of a text comes to; one that isn't carried out yet is refused as not in the profile (own)
+abbrev pub outcome_of : Edit → Outcome
+outcome_of edit.unreadable = unreadable
+outcome_of (edit.refuses why) = refused (of_refusal why)
+outcome_of edit.unbuilt = refused NotInProfile
+outcome_of (edit.gives text changes) = edited text changes
+
+-- what a program makes of a text (own)
+unfoldable pub edits : Program → List ℕ → Outcome
+edits program text = outcome_of (edit_of program text)

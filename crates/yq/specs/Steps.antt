@@ -1,0 +1,92 @@
+-- What a command does to a history, and why it is refused (own).
+use Rattle.std.specs.Prelude.{◌≡◌, ℕ, true, false, if◌then◌else◌, List, [], nat_le, Option, Some, None, option_map, Result, Ok, Err, IsTrue}
+use Rattle.std.specs.Str.{bytes_eq}
+use Rattle.std.specs.String.{string_bytes}
+use Rattle.yq_expr.specs.Program.{Program}
+use Rattle.yq_journal.specs.declared.fault.JournalFault.{JournalFault}
+use Rattle.yq_journal.specs.declared.moves.Move.{Move}
+use Rattle.yq_journal.specs.declared.moves.Move.TheVariants as move
+use Rattle.yq_journal.specs.Good.{after_move, step_fault}
+use Rattle.yq_journal.specs.History.{History, text_at, after_edit}
+use Rattle.yq_journal.specs.Refusals.{most_records}
+use Rattle.yq.specs.declared.command.Command.{Command}
+use Rattle.yq.specs.declared.command.Command.TheVariants.{Eval, Undo, Redo, History as Lists, Squash, Help}
+use Rattle.yq.specs.declared.fault.Fault.{Fault}
+use Rattle.yq.specs.declared.fault.Fault.TheVariants.{NotInProfile, NotThere, JournalFull}
+use Rattle.yq.specs.Editing.{Outcome, unreadable, refused, edited, is_unreadable, program_in, edits}
+use Rattle.yq.specs.Faults.{of_fault}
+
+-- why a command is refused: a named fault, or that the text has no reading
+pub data Cause : Type 0 where
+  named : Fault → Cause
+  no_reading : Cause
+
+-- the fault tells the cause; which fault of reading it is, is left open
+abbrev pub IsFor : Option Cause → Fault → Type 0
+IsFor None e = ⊥
+IsFor (Some (named f)) e = e ≡ f
+IsFor (Some no_reading) e = IsTrue (is_unreadable e)
+
+-- a history that stays where there is a fault, and else goes on
+abbrev pub unless_fault : Option JournalFault → History → History → History
+unless_fault None h k = k
+unless_fault (Some f) h k = h
+
+-- why an undo or a redo is refused
+abbrev pub walk_cause : Move → Option History → Option Cause
+walk_cause step None = Some (named NotThere)
+walk_cause step (Some h) = option_map (λ f. named (of_fault f)) (step_fault h step)
+
+-- the history after it
+abbrev pub walk_next : Move → Option History → Option History
+walk_next step None = None
+walk_next step (Some h) = Some (unless_fault (step_fault h step) h (after_move h step []))
+
+-- an edit to another text wants room in the journal
+abbrev pub room_cause : History → List ℕ → Option Cause
+room_cause h text =
+    if bytes_eq text (text_at h) then None
+    else if nat_le most_records h.at then Some (named JournalFull) else None
+
+-- why an edit is refused, by what it comes to
+abbrev pub edit_cause : History → Outcome → Option Cause
+edit_cause h unreadable = Some no_reading
+edit_cause h (refused f) = Some (named f)
+edit_cause h (edited text changes) = room_cause h text
+
+-- the history after it: one to an equal text leaves it
+abbrev pub edit_next : History → List ℕ → Outcome → History
+edit_next h expr unreadable = h
+edit_next h expr (refused f) = h
+edit_next h expr (edited text changes) =
+    if bytes_eq text (text_at h) then h
+    else if nat_le most_records h.at then h else after_edit h expr text
+
+-- why the edit of a file is refused, by what its expression is
+abbrev pub update_cause : Result Program Fault → Option History → Option Cause
+update_cause (Err f) h = Some (named f)
+update_cause (Ok p) None = Some (named NotThere)
+update_cause (Ok p) (Some h) = edit_cause h (edits p (text_at h))
+
+-- the history after it
+abbrev pub update_next : List ℕ → Result Program Fault → Option History → Option History
+update_next expr (Err f) h = h
+update_next expr (Ok p) None = None
+update_next expr (Ok p) (Some h) = Some (edit_next h expr (edits p (text_at h)))
+
+-- why a command is refused: of those that are not yet carried out, that they are none
+abbrev pub cause_of : Command → Option History → Option Cause
+cause_of (Eval expr file journal true exit_status no_doc) h = update_cause (program_in (string_bytes expr)) h
+cause_of (Eval expr file journal false exit_status no_doc) h = Some (named NotInProfile)
+cause_of (Undo file journal) h = walk_cause move.Undo h
+cause_of (Redo file journal) h = walk_cause move.Redo h
+cause_of (Lists file journal) h = Some (named NotInProfile)
+cause_of (Squash n file journal) h = Some (named NotInProfile)
+cause_of Help h = None
+
+-- the history after a command
+abbrev pub next_of : Command → Option History → Option History
+next_of (Eval expr file journal true exit_status no_doc) h = update_next (string_bytes expr) (program_in (string_bytes expr)) h
+next_of (Undo file journal) h = walk_next move.Undo h
+next_of (Redo file journal) h = walk_next move.Redo h
+next_of _ h = h

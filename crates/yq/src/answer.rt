@@ -1,0 +1,14 @@
+//! Answers to commands.
+
+use crate::fault::Fault;
+
+/// What a command comes to.
+#[derive(Clone, Copy, Debug, PartialEq, Eq)]
+pub enum Answer {
+    /// It was carried out.
+    Done,
+    /// It was carried out, and what it was asked for isn't there.
+    NoMatch,
+    /// It was refused.
+    Refused(Fault),
+}

@@ -1,0 +1,36 @@
+//! What an expression makes of a text.
+ghost use Rattle.std.specs.Prelude.{◌≡◌, ◌≢◌, ◌⊎◌, Some, Ok, Err, IfOk, IfErr, false, length};
+ghost use Rattle.std.specs.String.{string_bytes};
+ghost use Rattle.yq_expr.specs.View.{program_of};
+ghost use Rattle.yq_splice.specs.Patch.{all_done, lengths_done};
+ghost use Rattle.yq.specs.Editing.{Refuses, edited, edits, program_in};
+ghost use Rattle.yq.specs.Faults.{is_failure};
+
+use crate::fault::Fault;
+use std::alloc::Global;
+use yq_expr::{Program, parse_expr};
+use yq_splice::{Edited, edit};
+use yq_tree::text_of;
+
+/// The program of an expression.
+#[tactic(auto, unfolding(crate::specs::Editing::program_in))]
+pub fn parse(alloc: Global, expr: &str) -> Result<Program, Fault>
+    ensures ok { IfOk result (λ p. program_in expr.now ≡ Ok (program_of p)) }
+    ensures err { IfErr result (λ e. e ≢ Fault.OutOfMemory → program_in expr.now ≡ Err e) }
+    ensures inside { IfErr result (λ e. is_failure e ≡ false) }
+{
+    Ok(parse_expr(alloc, expr)?)
+}
+
+/// Edits a text, which need be no UTF-8, by a program.
+#[tactic(auto, unfolding(crate::specs::Editing::edits), using(crate::proofs::EditingLaws::not_utf8))]
+pub fn edit_text(alloc: Global, program: &Program, text: &[u8]) -> Result<Edited, Fault>
+    ensures ok { IfOk result (λ e. edits (program_of program.now) text.now ≡ edited (string_bytes e.text) e.splices.items) }
+    ensures splices { IfOk result (λ e. all_done e.splices.items text.now ≡ Some (string_bytes e.text)) }
+    ensures lengths { IfOk result (λ e. lengths_done e.splices.items (length text.now) ≡ Some (length (string_bytes e.text))) }
+    ensures err { IfErr result (λ e. e ≢ Fault.OutOfMemory → Refuses (edits (program_of program.now) text.now) e) }
+    ensures inside { IfErr result (λ e. is_failure e ≡ false) }
+{
+    let text = text_of(text)?;
+    Ok(edit(alloc, text, program)?)
+}

@@ -1,0 +1,49 @@
+//! The program's words, carried out over real files and standard output.
+
+use crate::answer::Answer;
+use crate::command::Command;
+use crate::fault::Fault;
+use crate::out::standard::StandardOut;
+use crate::run::run_list;
+use crate::store::disk::DiskStore;
+use crate::words::command_of;
+use std::io::ErrorKind;
+
+/// The program's words, less its own name.
+fn given_words(rt: &HostRuntime) -> Result<Vec<String>, Fault> {
+    match std::env::args(rt) {
+        Ok(args) => Ok(args.skip(1).collect(rt.alloc())?),
+        Err(e) if e.kind() == ErrorKind::OutOfMemory => Err(Fault::OutOfMemory),
+        Err(_) => Err(Fault::Usage),
+    }
+}
+
+/// The command that the words ask for.
+fn asked_command(rt: &HostRuntime) -> Result<Command, Fault> {
+    let given = given_words(rt)?;
+    let mut words = Vec::with_capacity(rt.alloc(), given.len())?;
+    for word in &given {
+        words.push(word.as_str())?;
+    }
+    command_of(rt.alloc(), &words)
+}
+
+/// The answer to the command.
+fn answer_to(rt: &HostRuntime) -> Result<Answer, Fault> {
+    let command = asked_command(rt)?;
+    let mut store = DiskStore::new(rt);
+    let mut out = StandardOut::new(rt);
+    let answers = run_list(rt.alloc(), &mut store, &mut out, &[command])?;
+    match answers.first() {
+        Some(answer) => Ok(*answer),
+        None => Ok(Answer::Done),
+    }
+}
+
+/// The answer to the program's words.
+pub fn answer_to_words(rt: &HostRuntime) -> Answer {
+    match answer_to(rt) {
+        Ok(answer) => answer,
+        Err(fault) => Answer::Refused(fault),
+    }
+}
