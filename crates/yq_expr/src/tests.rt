@@ -1,6 +1,7 @@
 //! Texts and the programs or refusals that they are.
 
 mod memory;
+mod plans;
 mod shown;
 
 use crate::error::ParseError;

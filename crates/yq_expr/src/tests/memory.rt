@@ -2,8 +2,10 @@
 
 use crate::error::ParseError;
 use crate::parse::parse_expr;
+use crate::planning::{PlanError, plan};
 use std::alloc::{AllocError, Global};
 use std::test::Fail;
+use yq_tree::read;
 
 /// Blocks that hold all of the process's memory, the largest first.
 fn all_memory(alloc: Global) -> Result<Vec<Vec<u8>>, AllocError> {
@@ -44,5 +46,30 @@ fn refused(rt: HostRuntime) -> Result<(), Fail> {
         }
     }
     assert!(rt; false, "never parsed");
+    Ok(())
+}
+
+/// The same of the plan of an update.
+#[test]
+fn refused_plan(rt: HostRuntime) -> Result<(), Fail> {
+    let alloc = rt.alloc();
+    let program = parse_expr(alloc, ".a.b = 2")?;
+    let documents = read(alloc, b"a:\n  b: 1\n")?;
+    let mut held = all_memory(alloc)?;
+    for turn in 0..4096u32 {
+        assert!(rt; program.updates() > 0);
+        match plan(alloc, &program, 0, &documents) {
+            Ok(ops) => {
+                assert_eq!(rt; ops.len(), 1);
+                assert!(rt; turn > 3);
+                return Ok(());
+            }
+            Err(e) => {
+                assert_eq!(rt; e, PlanError::Memory);
+                let _ = held.pop();
+            }
+        }
+    }
+    assert!(rt; false, "never planned");
     Ok(())
 }
