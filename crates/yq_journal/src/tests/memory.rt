@@ -4,7 +4,7 @@
 ghost use Rattle.std.specs.Prelude.{◌≢◌, Some};
 ghost use Rattle.yq_journal.specs.State.{moved_text};
 
-use super::json::{PORT, PORT_COUNTED};
+use super::journal_texts::{PORT, PORT_COUNTED};
 use super::{digit, edited};
 use crate::{Journal, JournalError, JournalFault, Move, redo_record};
 use std::alloc::{AllocError, Global};

@@ -1,6 +1,6 @@
 //! Records done and undone, and lists of moves.
 
-use super::json::OPEN_COUNTED;
+use super::journal_texts::OPEN_COUNTED;
 use super::{add, digit, edited};
 use crate::{
     Journal, JournalError, JournalFault, Move, Record, redo_record, stands_after, stands_before,
