@@ -1,6 +1,6 @@
 //! Why a command is refused.
 
-use crate::out::PutError;
+use crate::output::PutError;
 use crate::store::{FileReadError, FileWriteError};
 use std::alloc::{AllocError, AllocFailed};
 use thiserror::Error;

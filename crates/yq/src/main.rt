@@ -8,7 +8,7 @@ mod editing;
 mod fault;
 mod help;
 mod moves;
-mod out;
+mod output;
 mod pair;
 mod program;
 mod run;

@@ -3,7 +3,7 @@
 use crate::answer::Answer;
 use crate::command::Command;
 use crate::fault::Fault;
-use crate::out::standard::StandardOut;
+use crate::output::standard::StandardOut;
 use crate::run::run_list;
 use crate::store::disk::DiskStore;
 use crate::words::command_of;

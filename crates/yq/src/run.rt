@@ -18,7 +18,7 @@ use crate::editing::parse;
 use crate::fault::Fault;
 use crate::help::{HELP, USAGE};
 use crate::moves::walk_from;
-use crate::out::Out;
+use crate::output::Out;
 use crate::pair::open_pair;
 use crate::store::Store;
 use crate::walk::Walk;

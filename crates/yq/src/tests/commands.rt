@@ -2,7 +2,7 @@
 
 use crate::answer::Answer;
 use crate::fault::Fault;
-use crate::out::memory::MemoryOut;
+use crate::output::memory::MemoryOut;
 use crate::run::run_list;
 use crate::store::Store;
 use crate::store::memory::{Left, MemoryStore};

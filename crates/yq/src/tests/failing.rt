@@ -3,7 +3,7 @@
 use crate::answer::Answer;
 use crate::command::Command;
 use crate::fault::Fault;
-use crate::out::memory::MemoryOut;
+use crate::output::memory::MemoryOut;
 use crate::run::run_list;
 use crate::store::memory::{Left, MemoryStore};
 use crate::tests::commands::{answer, assert_file, store_of};

@@ -1,7 +1,7 @@
 //! The output in memory.
 
-use crate::out::memory::MemoryOut;
-use crate::out::{Out, PutError};
+use crate::output::memory::MemoryOut;
+use crate::output::{Out, PutError};
 use std::test::Fail;
 
 #[test]

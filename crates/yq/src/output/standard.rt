@@ -1,0 +1,38 @@
+//! Standard output.
+ghost use Rattle.std.specs.Prelude.{false, []};
+
+use crate::output::{Out, PutError};
+use std::io;
+use std::io::{Print, Write};
+
+/// What goes to standard output.
+#[derive(Drop)]
+pub struct StandardOut<R: Print + Drop> {
+    rt: R,
+    failures: u64,
+}
+
+impl<R: Print + Drop> StandardOut<R> {
+    /// The standard output that `rt` prints to.
+    pub fn new(rt: R) -> Self {
+        StandardOut { rt, failures: 0 }
+    }
+}
+
+impl<R: Print + Drop> Out for StandardOut<R> {
+    ghost tells = { false };
+
+    ghost taken = { λ _. [] };
+
+    ghost failures = { λ w. w.failures };
+
+    fn put(&mut self, bytes: &[u8]) -> Result<(), PutError> {
+        match io::writer(&self.rt).write_all(bytes) {
+            Ok(()) => Ok(()),
+            Err(_) => {
+                self.failures = self.failures.saturating_add(1);
+                Err(PutError)
+            }
+        }
+    }
+}
