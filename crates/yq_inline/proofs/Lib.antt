@@ -8,3 +8,4 @@ pub mod Bounds
 pub mod Steps
 pub mod Loops
 pub mod InlineLaws
+pub mod WrittenLaws

@@ -11,3 +11,5 @@ pub mod Reading
 pub mod Places
 pub mod Inline
 pub mod View
+pub mod Values
+pub mod Written

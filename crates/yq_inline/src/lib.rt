@@ -9,7 +9,11 @@ mod read;
 mod reading;
 #[cfg(test)]
 mod tests;
+mod value;
+mod write;
 
 pub use inline::{Form, Inline};
 pub use read::read_inline;
+pub use value::Value;
+pub use write::write_inline;
 pub use yq_scalar::ReadFault;

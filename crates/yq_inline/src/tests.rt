@@ -1,9 +1,9 @@
 //! Inline nodes that are read, and texts that are refused.
 
-use crate::{Form, Inline, read_inline};
+use crate::{Form, Inline, Value, read_inline, write_inline};
 use std::alloc::Global;
 use std::test::Fail;
-use yq_scalar::{FaultKind, Kind, Place, ReadError, Style};
+use yq_scalar::{FaultKind, Kind, Place, ReadError, Scalar, Style};
 
 /// The node that the text begins with, in a flow collection or not.
 fn read<'t>(
@@ -241,6 +241,33 @@ fn counts_collections(rt: HostRuntime) -> Result<(), Fail> {
     assert!(rt; fault_of(alloc, &text, true, 0) == deep);
     let text = nested(alloc, 100_000, 0)?;
     assert!(rt; fault_of(alloc, &text, true, 0) == deep);
+    Ok(())
+}
+
+/// A string as a value.
+fn string(alloc: Global, text: &str) -> Result<Value, Fail> {
+    Ok(Value::Scalar(Scalar::string(String::from_str(alloc, text)?)))
+}
+
+#[test]
+fn writes_in_flow_style(rt: HostRuntime) -> Result<(), Fail> {
+    let alloc = rt.alloc();
+    let mut items = Vec::new(alloc);
+    items.push(Value::Scalar(Scalar::plain(alloc, "1")?))?;
+    items.push(string(alloc, "true")?)?;
+    let mut entries = Vec::new(alloc);
+    entries.push((String::from_str(alloc, "a b")?, Value::List(items)))?;
+    let text = write_inline(alloc, &Value::Map(entries))?;
+    assert_eq!(rt; text.as_str(), "{a b: [1, \"true\"]}");
+    let mut items = Vec::new(alloc);
+    items.push(string(alloc, "a, b")?)?;
+    items.push(Value::Scalar(Scalar::null(alloc)?))?;
+    items.push(Value::List(Vec::new(alloc)))?;
+    items.push(Value::Map(Vec::new(alloc)))?;
+    items.push(string(alloc, "c: d")?)?;
+    items.push(string(alloc, "it's")?)?;
+    let text = write_inline(alloc, &Value::List(items))?;
+    assert_eq!(rt; text.as_str(), "[\"a, b\", null, [], {}, \"c: d\", it's]");
     Ok(())
 }
 
