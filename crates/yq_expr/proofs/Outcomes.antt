@@ -13,8 +13,8 @@ use Rattle.yq_expr.specs.Outcome.{parsed, refused, counted, is_opening, is_closi
 use Rattle.yq_expr.specs.Parse.{is_unread, is_foreign_token, surveyed, program_at, unless_pattern, outcome_of, outcome}
 use Rattle.yq_expr.proofs.Literals.{literals_hold}
 use Rattle.yq_expr.proofs.TextTokens.{tokens_take, tokens_again}
-use Rattle.yq_expr.proofs.Takes.{program_takes}
-use Rattle.yq_expr.proofs.Again.{program_again}
+use Rattle.yq_expr.proofs.UpdateTakes.{program_takes}
+use Rattle.yq_expr.proofs.ProgramAgain.{program_again}
 
 none_some : {A : Type 0} {x : A} → None ≡ Some x → ⊥
 none_some h = cc

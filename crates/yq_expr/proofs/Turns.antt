@@ -12,7 +12,10 @@ use Rattle.yq_expr.specs.Parse.{Parse, either, with_front, many, step_at, behind
 use Rattle.std.specs.Prelude.{codes}
 use Rattle.yq_expr.proofs.Readers.{Lessens, many_turn, Takes, Shortens, behind_takes, behind_shortens}
 use Rattle.yq_expr.specs.Grammar.{Form, IsLiteral, IsField, IsStage, IsTerm, IsUpdate, literal_depth}
-use Rattle.yq_expr.proofs.Takes.{step_takes, next_shortens, literal_takes, literal_shortens, field_takes, field_shortens, stage_takes, stage_shortens, term_takes, term_shortens, update_takes, update_shortens}
+use Rattle.yq_expr.proofs.PathTakes.{step_takes, next_shortens}
+use Rattle.yq_expr.proofs.LiteralTakes.{literal_takes, literal_shortens, field_takes, field_shortens}
+use Rattle.yq_expr.proofs.PipeTakes.{stage_takes, stage_shortens}
+use Rattle.yq_expr.proofs.UpdateTakes.{term_takes, term_shortens, update_takes, update_shortens}
 
 -- the forms read so far before those to come
 abbrev pub onto : {A : Type 0} → List A → Option (List A × List Token) → Option (List A × List Token)
