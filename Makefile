@@ -21,6 +21,7 @@ install: $(YQ)
 
 bench: $(YQ)
 	python3 bench/edit.py $(YQ)
+	python3 bench/expressions.py $(YQ)
 
 clean:
 	rm -rf crates/*/out
