@@ -25,6 +25,10 @@ class Folder:
     def name(self, file):
         return os.path.join(self.path, file)
 
+    def copy(self, path):
+        """The same files in a new folder of this path."""
+        return Folder(self.yq, shutil.copytree(self.path, path, symlinks=True))
+
     def write(self, file, data):
         with open(self.name(file), "wb") as out:
             out.write(data)
@@ -39,16 +43,16 @@ class Folder:
     def mode(self, file):
         return os.stat(self.name(file)).st_mode & 0o7777
 
-    def run(self, *words, nobody=False):
-        line = [self.yq, *words]
+    def run(self, *words, nobody=False, before=()):
+        line = [*before, self.yq, *words]
         if nobody:
             line = as_nobody() + line
         done = subprocess.run(line, cwd=self.path, stdin=subprocess.DEVNULL, capture_output=True, timeout=SECONDS)
         return done.returncode, done.stdout, done.stderr
 
-    def accepts(self, *words, nobody=False):
+    def accepts(self, *words, nobody=False, before=()):
         """The command ends with status 0 and writes nothing to standard error."""
-        status, out, err = self.run(*words, nobody=nobody)
+        status, out, err = self.run(*words, nobody=nobody, before=before)
         equal((status, err), (0, b""), words)
         return out
 
@@ -56,6 +60,10 @@ class Folder:
         """The command ends with status 1, prints nothing, and its first line on standard error is this."""
         status, out, err = self.run(*words, nobody=nobody)
         equal((status, out, err.split(b"\n")[0]), (1, b"", b"Error: " + line.encode()), words)
+
+    def can(self, *words):
+        """Whether the command is carried out by now."""
+        return self.run(*words)[2] != b"Error: E2 not in profile\n"
 
     def give_away(self):
         """Lets nobody into the folder."""

@@ -9,9 +9,15 @@ import sys
 
 sys.path.insert(0, os.path.dirname(os.path.abspath(__file__)))
 
+import cuts
+import disks
 import edits
 import failures
+import leftovers
+import links
+import owners
+import together
 import words
 from harness import run_all
 
-sys.exit(run_all([edits, words, failures], sys.argv))
+sys.exit(run_all([edits, words, failures, links, owners, leftovers, disks, together, cuts], sys.argv))

@@ -2,16 +2,18 @@
 ghost use Rattle.std.specs.Prelude.{false};
 ghost use Rattle.std.specs.FinMap as map;
 
+mod links;
+mod ownership;
+mod replacing;
+
+use crate::store::disk::replacing::replace_file;
 use crate::store::{FileReadError, FileWriteError, Store};
 use std::alloc::Global;
-use std::fs::{OpenFile, OpenOptions};
-use std::io::{ErrorKind, Read, Write};
-use std::os::unix::fs::OpenOptionsExt;
+use std::io::{ErrorKind, Read};
+use std::os::fd::AsFd;
+use std::random::RandomSource;
 use std::rt::Files;
 use std::{fs, io};
-
-/// What is written beside a file before it takes the file's name.
-const BESIDE: &str = ".yq-new";
 
 /// How many calls may read one file.
 const MOST_READS: u64 = 1 << 32;
@@ -19,14 +21,15 @@ const MOST_READS: u64 = 1 << 32;
 /// How many bytes one call reads at most.
 const CHUNK: usize = 65_536;
 
-/// Real files: a new file is written beside the old one, and then takes its name.
+/// Real files. A temporary file with the new bytes is written beside the old file, and renamed over
+/// it. What is said of a store's content holds for none of this.
 #[derive(Drop)]
-pub struct DiskStore<R: Files + Alloc<A = Global> + Drop> {
+pub struct DiskStore<R: Drop> {
     rt: R,
     failures: u64,
 }
 
-impl<R: Files + Alloc<A = Global> + Drop> DiskStore<R> {
+impl<R: Drop> DiskStore<R> {
     /// A store over the files that `rt` opens.
     pub fn new(rt: R) -> Self {
         DiskStore { rt, failures: 0 }
@@ -48,29 +51,10 @@ fn read_whole<F: Read>(alloc: Global, file: &mut F) -> io::Result<Vec<u8>> {
     Err(io::Error::from(ErrorKind::FileTooLarge))
 }
 
-/// Removes a file, if it is there.
-fn remove<R: Files>(files: &R, name: &str) -> io::Result<()> {
-    match fs::remove_file(files, name) {
-        Err(e) if e.kind() != ErrorKind::NotFound => Err(e),
-        _ => Ok(()),
-    }
-}
-
-/// Makes a file that only its owner may read, and writes it out to the disk with the old file's mode.
-fn write_beside<R: Files>(files: &R, beside: &str, name: &str, bytes: &[u8]) -> io::Result<()> {
-    let mut options = OpenOptions::new();
-    options.write(true).create_new(true).mode(0o600);
-    let mut file = options.open(files, beside)?;
-    file.write_all(bytes)?;
-    match fs::metadata(files, name) {
-        Ok(old) => file.set_permissions(old.permissions())?,
-        Err(e) if e.kind() == ErrorKind::NotFound => (),
-        Err(e) => return Err(e),
-    }
-    file.sync_all()
-}
-
-impl<R: Files + Alloc<A = Global> + Drop> Store for DiskStore<R> {
+impl<R: Files + RandomSource + Alloc<A = Global> + Drop> Store for DiskStore<R>
+where
+    R::File: AsFd,
+{
     ghost keeps = { false };
 
     ghost content = { λ _. map.empty };
@@ -94,19 +78,10 @@ impl<R: Files + Alloc<A = Global> + Drop> Store for DiskStore<R> {
     }
 
     fn replace(&mut self, name: &str, bytes: &[u8]) -> Result<(), FileWriteError> {
-        let Ok(beside) = format!(in self.rt.alloc(); "{name}{BESIDE}") else {
-            return Err(FileWriteError::OutOfMemory);
-        };
-        let written = remove(&self.rt, beside.as_str())
-            .and_then(|()| write_beside(&self.rt, beside.as_str(), name, bytes))
-            .and_then(|()| fs::rename(&self.rt, beside.as_str(), name));
-        match written {
-            Ok(()) => Ok(()),
-            Err(_) => {
-                let _ = remove(&self.rt, beside.as_str());
-                self.failures = self.failures.saturating_add(1);
-                Err(FileWriteError::WriteFailed)
-            }
+        let replaced = replace_file(&self.rt, name, bytes);
+        if let Err(FileWriteError::WriteFailed) = replaced {
+            self.failures = self.failures.saturating_add(1);
         }
+        replaced
     }
 }
