@@ -9,3 +9,9 @@ pub mod Steps
 pub mod Loops
 pub mod InlineLaws
 pub mod WrittenLaws
+pub mod TreeLaws
+pub mod SpelledScalars
+pub mod SpelledLaws
+pub mod PathLaws
+pub mod ValuedLaws
+pub mod PathLoops

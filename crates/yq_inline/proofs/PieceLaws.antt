@@ -42,7 +42,7 @@ goes_on flow b bs h = elim (eqb b 58) as (λ c. eqb b 58 ≡ c → ((c && not (i
   | false ↦ (λ e. rw (no_flow flow b bs h) (and-false flow))
 ] refl
 
-no_space : (flow : Bool) (b : ℕ) (bs : List ℕ) → begins_plain flow (b ∷ bs) ≡ true → is_space (b ∷ bs) ≡ false
+pub no_space : (flow : Bool) (b : ℕ) (bs : List ℕ) → begins_plain flow (b ∷ bs) ≡ true → is_space (b ∷ bs) ≡ false
 no_space flow b bs h = not-true (is_space (b ∷ bs)) (and_true _ _ h).0
 
 plain_no_end : (flow : Bool) (spaces : Option ℕ) (t : List ℕ) → begins_plain flow t ≡ true → ends_plain flow spaces t ≡ false

@@ -6,6 +6,8 @@ use Rattle.yq_inline.specs.declared.value.Value.{Value}
 use Rattle.yq_inline.specs.declared.value.Value.TheVariants as values
 use Rattle.yq_inline.specs.declared.value.Value.TheFolds.{the_lemmas}
 use Rattle.std.proofs.lemmas.Bool.{false≢true}
+use Rattle.yq_scalar.specs.declared.kind.Kind.{Kind}
+use Rattle.yq_scalar.specs.declared.kind.Kind.TheVariants as kinds
 use Rattle.yq_scalar.specs.declared.style.Place.{Place}
 use Rattle.yq_scalar.specs.declared.style.Style.TheVariants as styles
 use Rattle.yq_scalar.specs.PlainText.{is_plain_text}
@@ -13,34 +15,39 @@ use Rattle.yq_scalar.specs.Scalar.{ScalarText}
 use Rattle.yq_scalar.specs.SchemaReading.{resolve}
 use Rattle.yq_scalar.specs.Tree as tree
 use Rattle.yq_scalar.specs.Writable.{can_write, can_write_plain, in_flow, is_string}
-use Rattle.yq_scalar.specs.Written.{IsInline}
 use Rattle.yq_inline.specs.Nodes.{Key, bare, keyed, Sep, last, comma, Node, empty, alias, scalar, coll, anchored, Items, none, item, key_text, sep_text, node_text, items_text, open_of}
 use Rattle.yq_inline.specs.Values.{node_of, items, entries, item as an_item, entry}
-use Rattle.yq_inline.specs.Written.{style_at, flow_of, flow_items, flow_sep, flow_key, flow_text, key_front, listed, entry_text}
+use Rattle.yq_inline.specs.Written.{flow_of, flow_items, flow_sep, flow_key, flow_text, key_front, listed, entry_text}
 
 -- the style of a scalar can write it
 double_can : (string resolved plain : Bool) → (not string || (resolved && plain)) ≡ false → string ≡ true
 double_can true resolved plain h = refl
 double_can false resolved plain h = absurd (false≢true (sym h))
 
-pub style_can : (s : ScalarText) (place : Place) → can_write s (style_at s place) place ≡ true
+-- what is no string stands plain
+pub other_plain : (s : ScalarText) (place : Place) → (s.kind ≡ kinds.Text → ⊥) → can_write s styles.Plain place ≡ true
 unfolding can_write_plain
-style_can s place = elim (can_write_plain s (in_flow place)) as (λ b. can_write_plain s (in_flow place) ≡ b → can_write s (cond b styles.Plain styles.Double) place ≡ true) [
-  | true ↦ (λ e. e)
-  | false ↦ (λ e. double_can (is_string s.kind) (is_string (resolve s.text)) (is_plain_text (in_flow place) s.text) e)
-] refl
+other_plain s place h = go s.kind h where
+  go : (k : Kind) → (k ≡ kinds.Text → ⊥) → (not (is_string k) || (is_string (resolve s.text) && is_plain_text (in_flow place) s.text)) ≡ true
+  go kinds.Null e = refl
+  go kinds.Bool e = refl
+  go kinds.Int e = refl
+  go kinds.Float e = refl
+  go kinds.Text e = absurd (e refl)
 
-pub style_inline : (s : ScalarText) (place : Place) → IsInline (style_at s place)
-style_inline s place = elim (can_write_plain s (in_flow place)) as (λ b. IsInline (cond b styles.Plain styles.Double)) [ true ↦ tt | false ↦ tt ]
+-- what isn't plain is a string
+pub double_when : (s : ScalarText) (place : Place) → can_write s styles.Plain place ≡ false → can_write s styles.Double place ≡ true
+unfolding can_write_plain
+double_when s place h = double_can (is_string s.kind) (is_string (resolve s.text)) (is_plain_text (in_flow place) s.text) h
 
-key_append : (key : Key) (r s : List ℕ) → key_text key (r ++ s) ≡ key_text key r ++ s
+pub key_append : (key : Key) (r s : List ℕ) → key_text key (r ++ s) ≡ key_text key r ++ s
 key_append bare r s = refl
 key_append (keyed t b g) r s =
     let inner : g ++ (r ++ s) ≡ (g ++ r) ++ s = sym (append_assoc g r s) in
     ap (λ l. t ++ (b ++ (58 ∷ l))) inner
     ∙ (ap (λ l. t ++ l) (sym (append_assoc b (58 ∷ (g ++ r)) s)) ∙ sym (append_assoc t (b ++ (58 ∷ (g ++ r))) s))
 
-sep_append : (sep : Sep) (r s : List ℕ) → sep_text sep (r ++ s) ≡ sep_text sep r ++ s
+pub sep_append : (sep : Sep) (r s : List ℕ) → sep_text sep (r ++ s) ≡ sep_text sep r ++ s
 sep_append (last b) r s = sym (append_assoc b r s)
 sep_append (comma b g) r s =
     ap (λ l. b ++ (44 ∷ l)) (sym (append_assoc g r s)) ∙ sym (append_assoc b (44 ∷ (g ++ r)) s)
@@ -124,7 +131,7 @@ pub map_text : (es : List (List ℕ × tree.Node)) → flow_text (tree.map None 
 unfolding node_text flow_of
 map_text es = ap (λ l. 123 ∷ l) (entries_all 125 es)
 
-map_twice : {A B C : Type 0} (f : A → B) (g : B → C) (xs : List A) → map g (map f xs) ≡ map (λ x. g (f x)) xs
+pub map_twice : {A B C : Type 0} (f : A → B) (g : B → C) (xs : List A) → map g (map f xs) ≡ map (λ x. g (f x)) xs
 map_twice f g [] = refl
 map_twice f g (x ∷ xs) = ap (λ l. g (f x) ∷ l) (map_twice f g xs)
 

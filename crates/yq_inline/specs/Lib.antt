@@ -13,3 +13,10 @@ pub mod Inline
 pub mod View
 pub mod Values
 pub mod Written
+pub mod Trees
+pub mod Valued
+pub mod Entries
+pub use Rattle.yq_scalar.specs.Keys
+pub use Rattle.yq_scalar.specs.Paths
+pub use Rattle.yq_scalar.specs.Tree
+pub use Rattle.yq_scalar.specs.Writable

@@ -37,3 +37,11 @@ node_of = fold-Value Node value_step
 -- the key and the node that an entry of the code stands for (own)
 abbrev pub field_of : String Global × Value → List ℕ × Node
 field_of e = (string_bytes e.0, node_of e.1)
+
+-- the items that values of the code stand for (own)
+abbrev pub items_of : List Value → Children
+items_of vs = items (map node_of vs)
+
+-- the entries that those of the code stand for (own)
+abbrev pub entries_of : List (String Global × Value) → Children
+entries_of es = entries (map field_of es)

@@ -4,15 +4,19 @@
 mod fault;
 mod gap;
 mod inline;
-mod pieces;
+mod laws;
+mod path;
+pub mod pieces;
 mod read;
-mod reading;
+pub mod reading;
 #[cfg(test)]
 mod tests;
 mod value;
 mod write;
 
 pub use inline::{Form, Inline};
+pub use laws::{entry_places, flow_spells, one_inline, one_tree};
+pub use path::{Entry, Step};
 pub use read::read_inline;
 pub use value::Value;
 pub use write::write_inline;

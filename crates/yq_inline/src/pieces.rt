@@ -16,7 +16,7 @@ use yq_scalar::text::{is_white, separates, split_white};
 use yq_scalar::{FaultKind, ReadFault};
 
 /// Whether this byte is in front.
-pub(crate) fn first_is(k: u8, text: &[u8]) -> bool
+pub fn first_is(k: u8, text: &[u8]) -> bool
     ensures { result ≡ nodes.first_is k text.now }
 {
     match text {
@@ -26,7 +26,7 @@ pub(crate) fn first_is(k: u8, text: &[u8]) -> bool
 }
 
 /// What follows this ASCII byte in front.
-pub(crate) fn strip(k: u8, text: &str) -> Option<&str>
+pub fn strip(k: u8, text: &str) -> Option<&str>
     requires { k < 128 }
     ensures { MatchOption result (nodes.first_is k text.now ≡ false) (λ r. (nodes.first_is k text.now ≡ true) × (r.now ≡ drop 1 text.now) × (length r.now < length text.now)) }
 {
@@ -52,7 +52,7 @@ fn name_len(text: &[u8]) -> usize
 
 /// The name of an anchor or alias in front, and what follows it.
 #[tactic(auto, unfolding(crate::specs::Reading::name_at), using(yq_scalar::proofs::Upto::upto_unless, crate::proofs::Bounds::name_none))]
-pub(crate) fn read_name<'t>(whole: &str, text: &'t str) -> Result<(&'t str, &'t str), ReadFault>
+pub fn read_name<'t>(whole: &str, text: &'t str) -> Result<(&'t str, &'t str), ReadFault>
     ensures read { Reads (λ x. (x.0.now, x.1.now)) result (spec.name_at text.now) }
     ensures shorter { IfOk result (λ x. length x.1.now ≤ length text.now) }
 {
@@ -64,7 +64,7 @@ pub(crate) fn read_name<'t>(whole: &str, text: &'t str) -> Result<(&'t str, &'t 
 }
 
 /// Whether a quote is in front.
-pub(crate) fn is_quoted(text: &[u8]) -> bool
+pub fn is_quoted(text: &[u8]) -> bool
     ensures { result ≡ scalars.is_quoted text.now }
 {
     matches!(text, [b'"' | b'\'', ..])
@@ -78,7 +78,7 @@ fn begins_scalar(flow: bool, text: &[u8]) -> bool
 }
 
 /// Whether an alias, a scalar or a collection may begin in front.
-pub(crate) fn begins_content(flow: bool, text: &[u8]) -> bool
+pub fn begins_content(flow: bool, text: &[u8]) -> bool
     ensures { result ≡ nodes.begins_content flow text.now }
 {
     first_is(b'*', text)
@@ -87,12 +87,22 @@ pub(crate) fn begins_content(flow: bool, text: &[u8]) -> bool
         || begins_scalar(flow, text)
 }
 
-/// Why no scalar begins with this text.
-fn no_scalar(text: &[u8]) -> FaultKind {
+/// Why no node begins with this text, where nothing else is known.
+pub(crate) fn no_node(text: &[u8], otherwise: FaultKind) -> FaultKind {
     match text {
         [b'!', ..] => FaultKind::Tag,
         [b'?', ..] => FaultKind::ExplicitKey,
-        _ => FaultKind::BadScalar,
+        _ => otherwise,
+    }
+}
+
+/// Why no key begins with this text.
+fn no_key(text: &[u8]) -> FaultKind {
+    match text {
+        [] | [b',' | b']' | b'}', ..] => FaultKind::BadFlow,
+        [b'&', ..] => FaultKind::AnchorOnKey,
+        [b'*' | b'[' | b'{' | b':', ..] => FaultKind::BadKey,
+        _ => no_node(text, FaultKind::BadScalar),
     }
 }
 
@@ -115,7 +125,7 @@ fn read_quoted<'t>(
 /// The scalar in front, and what follows it. A further line of it begins with so many spaces at least;
 /// without a number it has one line.
 #[tactic(auto, unfolding(crate::specs::Reading::scalar_at, yq_scalar::specs::Plain::plain_at), using(crate::proofs::Bounds::plain_unquoted))]
-pub(crate) fn read_scalar<'t>(
+pub fn read_scalar<'t>(
     flow: bool,
     spaces: Option<usize>,
     whole: &str,
@@ -129,7 +139,7 @@ pub(crate) fn read_scalar<'t>(
         return read_quoted(spaces, whole, text);
     }
     if !begins_plain(flow, text.as_bytes()) {
-        return Err(fault(no_scalar(text.as_bytes()), whole, text));
+        return Err(fault(no_key(text.as_bytes()), whole, text));
     }
     Ok(split_plain(flow, spaces, text))
 }
@@ -211,7 +221,7 @@ pub(crate) fn read_sep<'t>(close: u8, whole: &str, text: &'t str) -> Result<&'t 
     if first_is(close, rest.as_bytes()) {
         Ok(rest)
     } else {
-        Err(fault(FaultKind::BadFlow, whole, rest))
+        Err(fault(no_node(rest.as_bytes(), FaultKind::BadFlow), whole, rest))
     }
 }
 

@@ -9,6 +9,7 @@ ghost use Rattle.yq_inline.specs.View.{view};
 
 use crate::fault::fault;
 use crate::inline::{Form, Inline};
+use crate::pieces::no_node;
 use crate::reading::read_node;
 use std::alloc::Global;
 use yq_scalar::{FaultKind, Place, ReadError, further_spaces, in_flow};
@@ -47,7 +48,8 @@ fn inline_at<'t>(
     if may_stand(place, &node) {
         Ok(node)
     } else {
-        Err(ReadError::from(fault(FaultKind::BadScalar, text, rest)))
+        let kind = no_node(rest.as_bytes(), FaultKind::BadScalar);
+        Err(ReadError::from(fault(kind, text, rest)))
     }
 }
 

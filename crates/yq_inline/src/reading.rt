@@ -10,7 +10,7 @@ use crate::fault::fault;
 use crate::gap::read_gap;
 use crate::inline::{Form, Inline};
 use crate::pieces::{
-    begins_content, is_quoted, read_key, read_lead, read_name, read_scalar, read_sep, strip,
+    begins_content, is_quoted, no_node, read_key, read_lead, read_name, read_scalar, read_sep, strip,
 };
 use std::alloc::{AllocError, Global};
 use yq_scalar::folding::{plain_content, quoted_content};
@@ -161,7 +161,7 @@ fn read_entry_key<'t>(
 /// The node in front, with at most `depth` collections nested, and what follows it.
 #[cycle(nodes)]
 #[tactic(auto, using(crate::proofs::Steps::node_plain, crate::proofs::Steps::node_fails, crate::proofs::Steps::node_gives, crate::proofs::Steps::node_no_name, crate::proofs::Steps::node_no_lead))]
-pub(crate) fn read_node<'t>(
+pub fn read_node<'t>(
     alloc: Global,
     flow: bool,
     spaces: Option<usize>,
@@ -279,7 +279,8 @@ fn read_items<'t>(
         }
         let (item, after) = read_node(alloc, true, Some(0), whole, depth, rest)?;
         if is_bare(&item) {
-            return Err(ReadError::from(fault(FaultKind::BadFlow, whole, rest)));
+            let kind = no_node(rest.as_bytes(), FaultKind::BadFlow);
+            return Err(ReadError::from(fault(kind, whole, rest)));
         }
         let after = read_sep(b']', whole, after)?;
         items.push(item)?;

@@ -1,24 +1,27 @@
 //! Values, written in flow style.
-ghost use Rattle.std.specs.Prelude.{◌≡◌, ◌++◌, IfOk, OnOk, map, string_bytes, true};
-ghost use Rattle.yq_inline.specs.Values.{node_of};
+ghost use Rattle.std.specs.Prelude.{◌≡◌, ◌++◌, IfOk, OnOk, false, map, string_bytes, true};
+ghost use Rattle.std.specs.Str.{IsUtf8};
+ghost use Rattle.yq_scalar.specs.Scalar.{IsScalar};
+ghost use Rattle.yq_scalar.specs.Writable as writable;
+ghost use Rattle.yq_scalar.specs.declared.style.Style.TheVariants.{Plain};
+ghost use Rattle.yq_inline.specs.Valued.{AreValueTrees, IsValid, IsValueTree, Spells};
+ghost use Rattle.yq_inline.specs.Values.{entries_of, items_of, node_of};
 ghost use Rattle.yq_inline.specs.Written as spec;
 
 use crate::value::Value;
 use std::alloc::{AllocError, Global};
-use yq_scalar::{Place, Scalar, Style, can_write, write_scalar};
+use yq_scalar::{Kind, Place, Scalar, Style, can_write, write_scalar};
 
-/// The style in which the scalar is written there.
-fn style_at(scalar: &Scalar, place: Place) -> Style
-    ensures { result ≡ spec.style_at scalar.now place }
+/// Whether the scalar stands plain there.
+#[tactic(auto, unfolding(yq_scalar::specs::Writable::can_write_plain), using(crate::proofs::WrittenLaws::other_plain))]
+fn is_plain(scalar: &Scalar, place: Place) -> bool
+    ensures value { result ≡ writable.can_write scalar.now Plain place }
+    ensures kind { IsScalar scalar.now.kind scalar.now.text }
 {
-    if can_write(scalar, Style::Plain, place) {
-        Style::Plain
-    } else {
-        Style::Double
-    }
+    scalar.kind() != Kind::Text || can_write(scalar, Style::Plain, place)
 }
 
-/// Adds a scalar.
+/// Adds a scalar, without quotes if it can be.
 #[tactic(auto, unfolding(crate::specs::Written::scalar_text, yq_scalar::specs::Writable::can_write_plain))]
 fn push_scalar(
     alloc: Global,
@@ -26,15 +29,21 @@ fn push_scalar(
     scalar: &Scalar,
     place: Place,
 ) -> Result<(), AllocError>
-    ensures { OnOk result (string_bytes out.new ≡ string_bytes out.old ++ spec.scalar_text scalar.now place) }
+    ensures text { OnOk result (string_bytes out.new ≡ string_bytes out.old ++ spec.scalar_text scalar.now place) }
+    ensures valid { IfOk result (λ x. IsValid scalar.now) }
 {
-    let text = write_scalar(alloc, scalar, style_at(scalar, place), place)?;
-    out.push_str(&text)
+    let text = scalar.text();
+    if is_plain(scalar, place) {
+        return out.push_str(text);
+    }
+    let quoted = write_scalar(alloc, scalar, Style::Double, place)?;
+    out.push_str(&quoted)
 }
 
 /// Adds a key with its `:` and a space.
 fn push_key(alloc: Global, out: &mut String, key: &str) -> Result<(), AllocError>
-    ensures { OnOk result (string_bytes out.new ≡ string_bytes out.old ++ spec.key_front key.now) }
+    ensures text { OnOk result (string_bytes out.new ≡ string_bytes out.old ++ spec.key_front key.now) }
+    ensures valid { IfOk result (λ x. IsUtf8 key.now) }
 {
     let scalar = Scalar::string(String::from_str(alloc, key)?);
     push_scalar(alloc, out, &scalar, Place::FlowKey)?;
@@ -45,7 +54,8 @@ fn push_key(alloc: Global, out: &mut String, key: &str) -> Result<(), AllocError
 #[cycle(write)]
 #[tactic(auto, unfolding(crate::specs::Written::flow_of, crate::specs::Nodes::node_text))]
 fn push_value(alloc: Global, out: &mut String, value: &Value) -> Result<(), AllocError>
-    ensures { OnOk result (string_bytes out.new ≡ string_bytes out.old ++ spec.flow_text (node_of value.now)) }
+    ensures text { OnOk result (string_bytes out.new ≡ string_bytes out.old ++ spec.flow_text (node_of value.now)) }
+    ensures valid { IfOk result (λ x. IsValueTree (node_of value.now)) }
 {
     match value {
         Value::Scalar(scalar) => push_scalar(alloc, out, scalar, Place::Flow),
@@ -65,7 +75,8 @@ fn push_value(alloc: Global, out: &mut String, value: &Value) -> Result<(), Allo
 /// Adds the items of a list.
 #[cycle(write)]
 fn push_items(alloc: Global, out: &mut String, items: &Vec<Value>) -> Result<(), AllocError>
-    ensures { OnOk result (string_bytes out.new ≡ string_bytes out.old ++ spec.listed true (map (λ v. spec.flow_text (node_of v)) items.now.items)) }
+    ensures text { OnOk result (string_bytes out.new ≡ string_bytes out.old ++ spec.listed true (map (λ v. spec.flow_text (node_of v)) items.now.items)) }
+    ensures valid { IfOk result (λ x. AreValueTrees false (items_of items.now.items)) }
 {
     let mut first = true;
     'each: for item in items {
@@ -86,7 +97,8 @@ fn push_entries(
     out: &mut String,
     entries: &Vec<(String, Value)>,
 ) -> Result<(), AllocError>
-    ensures { OnOk result (string_bytes out.new ≡ string_bytes out.old ++ spec.listed true (map (λ e. spec.entry_text (string_bytes e.0, node_of e.1)) entries.now.items)) }
+    ensures text { OnOk result (string_bytes out.new ≡ string_bytes out.old ++ spec.listed true (map (λ e. spec.entry_text (string_bytes e.0, node_of e.1)) entries.now.items)) }
+    ensures valid { IfOk result (λ x. AreValueTrees true (entries_of entries.now.items)) }
 {
     let mut first = true;
     'each: for entry in entries {
@@ -103,8 +115,12 @@ fn push_entries(
 
 /// The value in flow style: `[a, b]`, `{k: v}`; each scalar and key plain if it can be, else
 /// double-quoted.
+#[tactic(auto, using(crate::proofs::SpelledLaws::flow_spells))]
 pub fn write_inline(alloc: Global, value: &Value) -> Result<String, AllocError>
-    ensures { IfOk result (λ s. string_bytes s ≡ spec.flow_text (node_of value.now)) }
+    // It is the text that the style defines.
+    ensures text { IfOk result (λ s. string_bytes s ≡ spec.flow_text (node_of value.now)) }
+    // It spells the value.
+    ensures spells { IfOk result (λ s. Spells (node_of value.now) (string_bytes s)) }
 {
     let mut out = String::new(alloc);
     push_value(alloc, &mut out, value)?;

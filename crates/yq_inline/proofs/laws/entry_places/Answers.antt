@@ -1,0 +1,5 @@
+use Rattle.yq_inline.proofs.PathLaws.{path_places, path_stands, path_holds}
+use Rattle.yq_inline.proofs.laws.entry_places.Goals as goal
+
+pub returns : goal.returns
+returns c = record { places = path_places; text = path_stands; node = path_holds }

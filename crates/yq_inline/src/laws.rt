@@ -1,0 +1,37 @@
+//! Laws of inline nodes, each the contract of a function that does nothing.
+ghost use Rattle.std.specs.Prelude.{◌≡◌, ◌∷◌, Bool, List, Option, Some, option_map, true, ℕ, ℤ};
+ghost use Rattle.yq_scalar.specs.Paths.{Step};
+ghost use Rattle.yq_scalar.specs.Tree as tree;
+ghost use Rattle.yq_scalar.specs.declared.style.Place.{Place};
+ghost use Rattle.yq_inline.specs.Inline.{IsInline, IsInlineAt, inline_at};
+ghost use Rattle.yq_inline.specs.Nodes.{IsNode, Node, node_text};
+ghost use Rattle.yq_inline.specs.Entries.{Spot, StandsIn, slot_at, spot_at, spot_placed, spot_text};
+ghost use Rattle.yq_inline.specs.Places.{Placed, locate};
+ghost use Rattle.yq_inline.specs.Trees.{placed_tree, tree_of};
+ghost use Rattle.yq_inline.specs.Valued.{IsValueTree, Spells};
+ghost use Rattle.yq_inline.specs.Written.{flow_text};
+
+/// What is read as an inline node is one, what is one is read, and a text begins with one at most.
+pub fn one_inline()
+    ensures takes { (place : Place) (n : ℤ) (depth at : ℕ) (text : List ℕ) (p : Placed) → inline_at place n depth at text ≡ Some p → IsInlineAt place n depth at text p }
+    ensures again { (place : Place) (n : ℤ) (depth at : ℕ) (text : List ℕ) (p : Placed) → IsInlineAt place n depth at text p → inline_at place n depth at text ≡ Some p }
+    ensures one { (place : Place) (n : ℤ) (depth : ℕ) (a b : Node) (rest other : List ℕ) → node_text a rest ≡ node_text b other → IsInline place n depth a rest → IsInline place n depth b other → (a ≡ b) × (rest ≡ other) }
+{}
+
+/// The tree of an inline node with its places is that of its pieces.
+pub fn one_tree()
+    ensures { (total : ℕ) (node : Node) (rest : List ℕ) → placed_tree (locate total node rest) ≡ tree_of node }
+{}
+
+/// What is written in flow style spells the tree that is written.
+pub fn flow_spells()
+    ensures { (v : tree.Node) → IsValueTree v → Spells v (flow_text v) }
+{}
+
+/// Each item and entry to which a path leads stands in the text of the node where its places say, and
+/// its node is an inline node there.
+pub fn entry_places()
+    ensures places { (total : ℕ) (steps : List Step) (x : Spot) → slot_at steps (spot_placed total x) ≡ option_map (spot_placed total) (spot_at steps x) }
+    ensures text { (steps : List Step) (x y : Spot) → spot_at steps x ≡ Some y → StandsIn (spot_text x) y }
+    ensures node { (flow : Bool) (spaces : Option ℕ) (d : ℕ) (s : Step) (ss : List Step) (x y : Spot) → IsNode flow spaces d x.node x.rest → spot_at (s ∷ ss) x ≡ Some y → (e : ℕ) × IsNode true (Some 0) e y.node y.rest }
+{}
