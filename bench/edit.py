@@ -3,7 +3,8 @@
 usage: edit.py PATH_OF_YQ [TURNS]
 
 The floor does what each of the two commands cannot do without: it starts a process that ends at once, reads the file,
-writes a journal of that size beside its name, syncs it and renames it, then the file, then the journal again.
+writes a journal of that size beside its name, syncs it, renames it and syncs the folder, then the file, then the
+journal again.
 All numbers of a table are of one run; the ratios are what to look at.
 """
 
@@ -49,6 +50,9 @@ def written(folder, name, data):
     os.fsync(out)
     os.close(out)
     os.rename(beside, os.path.join(folder, name))
+    names = os.open(folder, os.O_RDONLY)
+    os.fsync(names)
+    os.close(names)
 
 
 def floor(folder, text):
