@@ -1,12 +1,12 @@
 -- Where the block scalar that is found stands.
-use Rattle.std.proofs.Common.{◌≡◌, ℕ, ◌+◌, ◌-◌, ◌≤◌, Bool, List, ◌++◌, length, drop, Option, Some, refl, sym, subst, ap, ◌∙◌, arith, length-append, Result, Ok, Err, IfOk, ℤ}
+use Rattle.std.proofs.Common.{◌≡◌, ℕ, ◌+◌, ◌-◌, ◌≤◌, Bool, List, ◌++◌, length, drop, Option, Some, refl, sym, ap, ◌∙◌, arith, length-append, Result, Ok, Err, IfOk, ℤ}
 use Rattle.yq_scalar.proofs.BlockLaws.{block_takes, block_again}
 use Rattle.yq_scalar.proofs.Bools.{bind_some}
 use Rattle.yq_scalar.proofs.HeaderLaws.{head_length}
 use Rattle.yq_scalar.proofs.LineLaws.{joined_lines, joined-append}
 use Rattle.yq_scalar.proofs.RawLaws.{some_same, raw_split}
 use Rattle.yq_scalar.specs.Answers.{◌>>=◌, Reads}
-use Rattle.yq_scalar.specs.Block.{style_of, keeps, BlockText, block_piece, IsBlockPiece, IsBlockScalar}
+use Rattle.yq_scalar.specs.Block.{style_of, keeps, BlockText, block_piece, IsBlockPiece}
 use Rattle.yq_scalar.specs.BlockReading.{raw_at, len_at, indent_at, style_at, indicators_at, values, tail_at, block_behind, block_at, piece_at, block_from}
 use Rattle.yq_scalar.specs.Piece.{deeper}
 use Rattle.yq_scalar.specs.Text.{lines_of, joined}
@@ -61,9 +61,3 @@ found_by n at text (Err e) h = tt
 pub only_by : {E : Type 0} (n : ℤ) (at : ℕ) (text : List ℕ) (r : Result Piece E) → Reads (λ p. p) r (block_from n at text) → (p : Piece) → IsBlockPiece n at text p → r ≡ Ok p
 only_by n at text (Ok q) h p i = ap Ok (some_same (sym h ∙ from_again n at text p i))
 only_by n at text (Err e) h p i = absurd (let e = sym h ∙ from_again n at text p i in cc)
-
-pub scalar_by : {E : Type 0} (n : ℤ) (at : ℕ) (text : List ℕ) (r : Result Piece E) → Reads (λ p. p) r (block_from n at text) → IfOk r (IsBlockScalar text)
-scalar_by n at text (Ok p) h =
-    let is = from_takes n at text p h in
-    (n, subst (λ k. IsBlockPiece n k text p) (sym (ap (λ (q : Piece). q.start) is.piece)) is)
-scalar_by n at text (Err e) h = tt

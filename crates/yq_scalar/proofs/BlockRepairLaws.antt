@@ -1,11 +1,11 @@
 -- A repaired gap may stand behind a block scalar and keeps its comments.
-use Rattle.std.proofs.Common.{◌≡◌, ℕ, zero, suc, ◌+◌, ◌<◌, Bool, true, false, cond, not, ◌&&◌, ◌||◌, eqb, leb, ltb, List, [], ◌∷◌, ◌++◌, drop, replicate, refl, sym, ap, ◌∙◌, subst, ⊎_elim, arith, eqb-true}
+use Rattle.std.proofs.Common.{◌≡◌, ℕ, zero, suc, ◌+◌, ◌<◌, Bool, true, false, not, ◌&&◌, ◌||◌, eqb, leb, ltb, List, [], ◌∷◌, ◌++◌, drop, replicate, refl, sym, ap, ◌∙◌, subst, ⊎_elim, arith, eqb-true}
 use Rattle.std.proofs.lemmas.Bool.{false≢true, cond_both, or_cases, false_from_ne_true, le-leb, or_right, lt-ltb}
 use Rattle.yq_scalar.proofs.Bools.{is_true, and_true}
 use Rattle.yq_scalar.proofs.RawLaws.{next_not_empty, both}
 use Rattle.yq_scalar.proofs.SpaceLaws.{white_drop, spaces_blank, prefix_none, spaces_front, drop_front}
 use Rattle.yq_scalar.specs.Block.{Lines, is_empty_line, is_less_indented, ends_block}
-use Rattle.yq_scalar.specs.BlockRepair.{AreGap, is_short, repair, remarks, is_behind}
+use Rattle.yq_scalar.specs.BlockRepair.{AreGap, is_short, is_outside, repaired_blank, repaired_comment, repair, remarks, is_behind}
 use Rattle.yq_scalar.specs.Lines.{spaces, behind_spaces, is_tab, is_hash, is_blank}
 use Rattle.yq_scalar.specs.Text.{ends_line, past_white, upto}
 use Rattle.yq_scalar.specs.declared.block_lines.TextIndent.{TextIndent}
@@ -22,12 +22,12 @@ end_empty f (b ∷ t) h =
     let low : leb (spaces (b ∷ t)) f.columns ≡ true = le-leb (spaces (b ∷ t)) f.columns (let z : spaces (b ∷ t) ≡ 0 = n.0 in omega arith) in
     both (ends_line (behind_spaces (b ∷ t))) (not f.known || leb (spaces (b ∷ t)) f.columns) (ap ends_line n.1 ∙ h) (or_right (not f.known) (leb (spaces (b ∷ t)) f.columns) low)
 
-short_empty : (f : TextIndent) (l : List ℕ) → is_short f l ≡ true → is_empty_line f l ≡ true
+short_empty : (f : TextIndent) (l : List ℕ) → is_short f.columns l ≡ true → is_empty_line f l ≡ true
 short_empty f l h = let parts = and_true (ends_line (behind_spaces l)) (leb (spaces l) f.columns) h in
     both (ends_line (behind_spaces l)) (not f.known || leb (spaces l) f.columns) parts.0 (or_right (not f.known) (leb (spaces l) f.columns) parts.1)
 
-blank_empty : (f : TextIndent) (l : List ℕ) → is_blank l ≡ true → is_empty_line f (cond (is_short f l) l (past_white l)) ≡ true
-blank_empty f l h = cond_both (is_short f l) l (past_white l) (λ x. is_empty_line f x ≡ true) (λ k. short_empty f l k) (λ _. end_empty f (past_white l) h)
+pub blank_empty : (f : TextIndent) (l : List ℕ) → is_blank l ≡ true → is_empty_line f (repaired_blank f.columns l) ≡ true
+blank_empty f l h = cond_both (is_short f.columns l) l (past_white l) (λ x. is_empty_line f x ≡ true) (λ k. short_empty f l k) (λ _. end_empty f (past_white l) h)
 
 -- a comment line that is moved
 moved : (f : TextIndent) (column : ℕ) (t : List ℕ) → column < f.columns → is_hash t ≡ true → is_less_indented f (replicate column 32 ++ t) ≡ true
@@ -43,33 +43,36 @@ moved f column (b ∷ t) lt h =
     let tab : not (is_tab (behind_spaces (replicate column 32 ++ (b ∷ t)))) ≡ true = ap (λ x. not (is_tab x)) behind ∙ rw is refl in
     both _ _ (both _ _ end low) tab
 
-stays : (f : TextIndent) (l : List ℕ) → is_blank l ≡ false → (ltb (spaces l) f.columns && not (is_tab (behind_spaces l))) ≡ true → is_less_indented f l ≡ true
+stays : (f : TextIndent) (l : List ℕ) → is_blank l ≡ false → (is_outside f.columns l) ≡ true → is_less_indented f l ≡ true
 stays f l n h =
     let parts = and_true (ltb (spaces l) f.columns) (not (is_tab (behind_spaces l))) h in
     let end : ends_line (behind_spaces l) ≡ false = false_from_ne_true _ (λ e. false≢true (sym n ∙ spaces_blank l e)) in
     both (not (ends_line (behind_spaces l)) && ltb (spaces l) f.columns) (not (is_tab (behind_spaces l))) (both (not (ends_line (behind_spaces l))) (ltb (spaces l) f.columns) (rw end refl) parts.0) parts.1
 
-ends_less : (keep : Bool) (f : TextIndent) (l : List ℕ) (ls : Lines) → is_less_indented f l ≡ true → ends_block keep f (l ∷ ls) ≡ true
+pub ends_less : (keep : Bool) (f : TextIndent) (l : List ℕ) (ls : Lines) → is_less_indented f l ≡ true → ends_block keep f (l ∷ ls) ≡ true
 unfolding ends_block
 ends_less keep f l ls h = rw (next_not_empty f l h) h
 
-ends_blank : (f : TextIndent) (l : List ℕ) (ls : Lines) → is_empty_line f l ≡ true → ends_block false f ls ≡ true → ends_block false f (l ∷ ls) ≡ true
+pub ends_blank : (f : TextIndent) (l : List ℕ) (ls : Lines) → is_empty_line f l ≡ true → ends_block false f ls ≡ true → ends_block false f (l ∷ ls) ≡ true
 unfolding ends_block
 ends_blank f l ls h k = rw h k
 
-ends_behind : (keep : Bool) (f : TextIndent) (rest : Lines) → is_behind f rest ≡ true → ends_block keep f rest ≡ true
+pub ends_behind : (keep : Bool) (f : TextIndent) (rest : Lines) → is_behind f rest ≡ true → ends_block keep f rest ≡ true
 unfolding ends_block
 ends_behind keep f [] h = refl
 ends_behind keep f (l ∷ ls) h = ends_less keep f l ls h
 
-first_comment : (keep : Bool) (f : TextIndent) (column : ℕ) (l : List ℕ) (ls : Lines) → is_blank l ≡ false → (is_blank l || is_hash (past_white l)) ≡ true → column < f.columns →
-    ends_block keep f (cond (ltb (spaces l) f.columns && not (is_tab (behind_spaces l))) l (replicate column 32 ++ past_white l) ∷ ls) ≡ true
-first_comment keep f column l ls n h lt =
+pub comment_less : (f : TextIndent) (column : ℕ) (l : List ℕ) → is_blank l ≡ false → (is_blank l || is_hash (past_white l)) ≡ true → column < f.columns → is_less_indented f (repaired_comment f.columns column l) ≡ true
+comment_less f column l n h lt =
     let hash : is_hash (past_white l) ≡ true = ⊎_elim {0, 0, 0} (λ b. absurd (false≢true (sym n ∙ b))) (λ b. b) (or_cases (is_blank l) (is_hash (past_white l)) h) in
-    ends_less keep f _ ls (cond_both (ltb (spaces l) f.columns && not (is_tab (behind_spaces l))) l (replicate column 32 ++ past_white l) (λ x. is_less_indented f x ≡ true) (λ k. stays f l n k) (λ _. moved f column (past_white l) lt hash))
+    cond_both (is_outside f.columns l) l (replicate column 32 ++ past_white l) (λ x. is_less_indented f x ≡ true) (λ k. stays f l n k) (λ _. moved f column (past_white l) lt hash)
+
+first_comment : (keep : Bool) (f : TextIndent) (column : ℕ) (l : List ℕ) (ls : Lines) → is_blank l ≡ false → (is_blank l || is_hash (past_white l)) ≡ true → column < f.columns →
+    ends_block keep f (repaired_comment f.columns column l ∷ ls) ≡ true
+first_comment keep f column l ls n h lt = ends_less keep f _ ls (comment_less f column l n h lt)
 
 -- the repaired gap before what follows it
-pub repair_ends : (keep : Bool) (f : TextIndent) (column : ℕ) (gap rest : Lines) → AreGap gap → is_behind f rest ≡ true → column < f.columns → ends_block keep f (repair keep f column gap ++ rest) ≡ true
+pub repair_ends : (keep : Bool) (f : TextIndent) (column : ℕ) (gap rest : Lines) → AreGap gap → is_behind f rest ≡ true → column < f.columns → ends_block keep f (repair keep f.columns column gap ++ rest) ≡ true
 unfolding repair
 repair_ends keep f column [] rest h e lt = ends_behind keep f rest e
 repair_ends true f column (l ∷ ls) rest h e lt = ⊎_elim {0, 0, 0}
@@ -77,7 +80,7 @@ repair_ends true f column (l ∷ ls) rest h e lt = ⊎_elim {0, 0, 0}
     (λ b. rw b (first_comment true f column l (ls ++ rest) b h.0 lt))
     (is_true (is_blank l))
 repair_ends false f column (l ∷ ls) rest h e lt = ⊎_elim {0, 0, 0}
-    (λ b. rw b (ends_blank f (cond (is_short f l) l (past_white l)) (repair false f column ls ++ rest) (blank_empty f l b) (repair_ends false f column ls rest h.1 e lt)))
+    (λ b. rw b (ends_blank f (repaired_blank f.columns l) (repair false f.columns column ls ++ rest) (blank_empty f l b) (repair_ends false f column ls rest h.1 e lt)))
     (λ b. rw b (first_comment false f column l (ls ++ rest) b h.0 lt))
     (is_true (is_blank l))
 
@@ -110,24 +113,24 @@ moved_same column l h =
     let same : past_white (replicate column 32 ++ past_white l) ≡ past_white l = white_front column (past_white l) ∙ past_hash (past_white l) h in
     (ap ends_line same ∙ hash_end (past_white l) h, same)
 
-comment_same : (f : TextIndent) (column : ℕ) (l : List ℕ) → is_blank l ≡ false → (is_blank l || is_hash (past_white l)) ≡ true → SameRemark l (cond (ltb (spaces l) f.columns && not (is_tab (behind_spaces l))) l (replicate column 32 ++ past_white l))
+comment_same : (f : TextIndent) (column : ℕ) (l : List ℕ) → is_blank l ≡ false → (is_blank l || is_hash (past_white l)) ≡ true → SameRemark l (repaired_comment f.columns column l)
 comment_same f column l n h =
     let hash : is_hash (past_white l) ≡ true = ⊎_elim {0, 0, 0} (λ b. absurd (false≢true (sym n ∙ b))) (λ b. b) (or_cases (is_blank l) (is_hash (past_white l)) h) in
-    cond_both (ltb (spaces l) f.columns && not (is_tab (behind_spaces l))) l (replicate column 32 ++ past_white l) (SameRemark l) (λ _. (n, refl)) (λ _. moved_same column l hash)
+    cond_both (is_outside f.columns l) l (replicate column 32 ++ past_white l) (SameRemark l) (λ _. (n, refl)) (λ _. moved_same column l hash)
 
 same_first : (l x : List ℕ) (ls : Lines) → SameRemark l x → remarks (x ∷ ls) ≡ past_white l ∷ remarks ls
 unfolding remarks
 same_first l x ls h = rw h.0 (ap (λ y. y ∷ remarks ls) h.1)
 
-pub repair_remarks : (keep : Bool) (f : TextIndent) (column : ℕ) (gap : Lines) → AreGap gap → remarks (repair keep f column gap) ≡ remarks gap
+pub repair_remarks : (keep : Bool) (f : TextIndent) (column : ℕ) (gap : Lines) → AreGap gap → remarks (repair keep f.columns column gap) ≡ remarks gap
 unfolding repair remarks
 repair_remarks keep f column [] h = refl
 repair_remarks true f column (l ∷ ls) h = ⊎_elim {0, 0, 0}
     (λ b. rw b (repair_remarks true f column ls h.1))
-    (λ b. rw b (same_first l (cond (ltb (spaces l) f.columns && not (is_tab (behind_spaces l))) l (replicate column 32 ++ past_white l)) ls (comment_same f column l b h.0)))
+    (λ b. rw b (same_first l (repaired_comment f.columns column l) ls (comment_same f column l b h.0)))
     (is_true (is_blank l))
 repair_remarks false f column (l ∷ ls) h = ⊎_elim {0, 0, 0}
-    (λ b. let stays_ : is_blank (cond (is_short f l) l (past_white l)) ≡ true = cond_both (is_short f l) l (past_white l) (λ x. is_blank x ≡ true) (λ _. b) (λ _. end_blank (past_white l) b) in
+    (λ b. let stays_ : is_blank (repaired_blank f.columns l) ≡ true = cond_both (is_short f.columns l) l (past_white l) (λ x. is_blank x ≡ true) (λ _. b) (λ _. end_blank (past_white l) b) in
     rw b (rw stays_ (repair_remarks false f column ls h.1)))
-    (λ b. rw b (same_first l (cond (ltb (spaces l) f.columns && not (is_tab (behind_spaces l))) l (replicate column 32 ++ past_white l)) ls (comment_same f column l b h.0)))
+    (λ b. rw b (same_first l (repaired_comment f.columns column l) ls (comment_same f column l b h.0)))
     (is_true (is_blank l))

@@ -10,7 +10,7 @@ use Rattle.yq_scalar.specs.Quoted.{Char, itself, doubled, escape as letter_escap
 use Rattle.yq_scalar.specs.ContentReading.{Before, within, after, broken, filled, content_on, content_of, quoted_content, is_pair}
 use Rattle.yq_scalar.proofs.Bools.{is_true, and_true, or_false}
 use Rattle.yq_scalar.proofs.QuotedLaws.{of_quotes}
-use Rattle.yq_scalar.proofs.QuotedRead.{at_seam}
+use Rattle.yq_scalar.proofs.QuotedFound.{at_seam}
 use Rattle.yq_scalar.proofs.CharLaws.{IsEscape, code_escape, letter_is_escape}
 
 -- what a character stands for before a text: white space is held, and anything else stands behind what is before it

@@ -13,6 +13,7 @@ pub mod PlainLaws
 pub mod PlainSpells
 pub mod PlainWritten
 pub mod SchemaLaws
+pub mod WordPlain
 pub mod SchemaPlain
 pub mod Upto
 pub mod WordLaws
@@ -20,6 +21,7 @@ pub mod EscapeLaws
 pub mod CharLaws
 pub mod QuotedLaws
 pub mod QuotedRead
+pub mod QuotedFound
 pub mod PieceLaws
 pub mod FoldLaws
 pub mod ItemLaws
@@ -36,10 +38,15 @@ pub mod BlockFound
 pub mod BlockSteps
 pub mod QuotedPieceLaws
 pub mod PieceContentLaws
+pub mod GivenLaws
+pub mod ReadBackLaws
 pub mod BlockContentSteps
 pub mod BlockPieceLaws
 pub mod LiteralText
 pub mod BlockWrittenLines
 pub mod BlockWrittenLaws
 pub mod BlockWrittenHeader
+pub mod BlockWrittenLengths
 pub mod BlockRepairLaws
+pub mod BlockRepairSteps
+pub mod BlockRepairText

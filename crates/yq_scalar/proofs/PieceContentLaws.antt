@@ -3,21 +3,28 @@ use Rattle.std.proofs.Common.{◌≡◌, ℕ, ◌+◌, ◌-◌, ◌<◌, List, [
 use Rattle.std.proofs.Math.Seq.{take-append_seam}
 use Rattle.std.proofs.lemmas.Str.{IsCharBoundary-after_ascii}
 use Rattle.std.specs.Str.{IsUtf8, IsCharBoundary}
+use Rattle.yq_scalar.proofs.BlockPieceLaws.{content_is}
+use Rattle.yq_scalar.specs.Block as block
+use Rattle.yq_scalar.specs.BlockContent.{block_content}
+use Rattle.yq_scalar.specs.BlockReading as blocks
+use Rattle.yq_scalar.specs.declared.block_header.BlockStyle.{BlockStyle}
+use Rattle.yq_scalar.specs.declared.block_header.BlockStyle.TheVariants as block_styles
 use Rattle.yq_scalar.specs.declared.piece.Piece.{Piece}
 use Rattle.yq_scalar.specs.declared.style.Style.TheVariants as styles
 use Rattle.yq_scalar.specs.declared.style.Place.{Place}
 use Rattle.yq_scalar.specs.Piece.{inline_piece, further_spaces, IsPlainPiece}
 use Rattle.yq_scalar.specs.Plain.{ends_plain}
-use Rattle.yq_scalar.specs.Quoted.{Lines, spell_lines, IsQuoted, IsQuotedText, content}
+use Rattle.yq_scalar.specs.Quoted.{Lines, spell_lines, IsQuoted, content}
 use Rattle.yq_scalar.specs.PlainContent.{IsPlainLines}
 use Rattle.yq_scalar.specs.ContentReading.{plain_content, quoted_content}
-use Rattle.yq_scalar.specs.QuotedPiece.{style_of, IsQuotedPiece, IsGiven, IsQuotedStyle, content_by, piece_content}
+use Rattle.yq_scalar.specs.QuotedPiece.{style_of, IsQuotedPiece}
+use Rattle.yq_scalar.specs.Given.{IsInlineScalar, piece_text, content_in, piece_content}
 use Rattle.yq_scalar.specs.Writable.{in_flow}
 use Rattle.yq_scalar.proofs.ContentLaws.{quoted_content_is}
 use Rattle.yq_scalar.proofs.PlainContentLaws.{plain_content_is}
 use Rattle.yq_scalar.proofs.PlainLaws.{boundary_plain}
 use Rattle.yq_scalar.proofs.QuotedLaws.{of_quotes}
-use Rattle.yq_scalar.proofs.QuotedRead.{at_seam}
+use Rattle.yq_scalar.proofs.QuotedFound.{at_seam}
 use Rattle.yq_scalar.proofs.Upto.{upto-append}
 
 -- the scalar of a piece
@@ -27,7 +34,6 @@ pub record Scalar (text : List ℕ) (p : Piece) : Type 0 where
   pub stands : drop p.start text ≡ scalar ++ rest
   pub size : p.end ≡ p.start + length scalar
   pub cut : IsUtf8 (scalar ++ rest) → IsCharBoundary (scalar ++ rest) (length scalar)
-  pub quoted : IsQuotedStyle p.style → IsQuotedText scalar
 
 plain_scalar : (place : Place) (n : ℤ) (at : ℕ) (text : List ℕ) (p : Piece) → IsPlainPiece place n at text p → Scalar text p
 plain_scalar place n at text p h =
@@ -39,7 +45,6 @@ plain_scalar place n at text p h =
       stands = h.stands;
       size = refl;
       cut = λ _. boundary_plain flow spaces (h.scalar ++ h.rest) (length h.scalar) (sym (upto-append (ends_plain flow spaces) h.scalar h.rest h.plain.inside h.plain.ends));
-      quoted = λ no. absurd no;
     } in
     subst (λ (q : Piece). Scalar text q) (sym h.piece) whole
 
@@ -61,11 +66,10 @@ quoted_scalar at text p h =
       stands = h.stands;
       size = refl;
       cut = λ u. behind_quote h.quote h.ls h.scalar h.rest h.quoted u;
-      quoted = λ _. (h.quote, (h.ls, (h.rest, h.quoted)));
     } in
     subst (λ (q : Piece). Scalar text q) (sym h.piece) whole
 
-pub scalar_of : (text : List ℕ) (p : Piece) → IsGiven text p → Scalar text p
+pub scalar_of : (text : List ℕ) (p : Piece) → IsInlineScalar text p → Scalar text p
 scalar_of text p h = elim h.piece [
   | inl x ↦ plain_scalar x.0 x.1.0 x.1.1.0 text p x.1.1.1
   | inr x ↦ quoted_scalar x.0 text p x.1
@@ -85,8 +89,8 @@ boundary_end text rest p s e u =
     subst (λ (k : ℕ). IsCharBoundary rest k) size (subst (λ (l : List ℕ). IsCharBoundary l (length s.scalar)) (sym same) here)
 
 -- what a quoted piece stands for
-quoted_by : (q : ℕ) (t : List ℕ) → (q ≡ 34) ⊎ (q ≡ 39) → content_by (style_of q) t ≡ quoted_content t
-quoted_by q t quotes = of_quotes (λ x. content_by (style_of x) t ≡ quoted_content t) q quotes refl refl
+quoted_by : (q : ℕ) (text : List ℕ) (p : Piece) → (q ≡ 34) ⊎ (q ≡ 39) → content_in (style_of q) text p ≡ quoted_content (piece_text text p)
+quoted_by q text p quotes = of_quotes (λ x. content_in (style_of x) text p ≡ quoted_content (piece_text text p)) q quotes refl refl
 
 pub quoted_piece_content : (at : ℕ) (text : List ℕ) (p : Piece) (h : IsQuotedPiece at text p) → piece_content text p ≡ content h.ls
 quoted_piece_content at text p h =
@@ -94,8 +98,8 @@ quoted_piece_content at text p h =
     let size : n - at ≡ length h.scalar = omega arith in
     let cut : take (n - at) (drop at text) ≡ h.scalar = rw (h.stands, size, take-append_seam) refl in
     ap (piece_content text) h.piece
-    ∙ (ap (content_by (style_of h.quote)) cut
-    ∙ (quoted_by h.quote h.scalar h.quoted.quotes ∙ quoted_content_is h.quote h.ls h.scalar h.rest h.quoted))
+    ∙ (quoted_by h.quote text (inline_piece (style_of h.quote) at n) h.quoted.quotes
+    ∙ (ap quoted_content cut ∙ quoted_content_is h.quote h.ls h.scalar h.rest h.quoted))
 
 pub plain_piece_content : (place : Place) (n : ℤ) (at : ℕ) (text : List ℕ) (p : Piece) (h : IsPlainPiece place n at text p) (ls : Lines) → IsPlainLines ls h.scalar → piece_content text p ≡ content ls
 plain_piece_content place n at text p h ls is =
@@ -103,3 +107,12 @@ plain_piece_content place n at text p h ls is =
     let size : k - at ≡ length h.scalar = omega arith in
     let cut : take (k - at) (drop at text) ≡ h.scalar = rw (h.stands, size, take-append_seam) refl in
     ap (piece_content text) h.piece ∙ (ap plain_content cut ∙ plain_content_is ls h.scalar is)
+
+-- what the piece of a block scalar stands for
+block_style_content : (s : BlockStyle) (text : List ℕ) (p : Piece) → content_in (block.style_of s) text p ≡ blocks.piece_content text p
+block_style_content block_styles.Literal text p = refl
+block_style_content block_styles.Folded text p = refl
+
+pub block_piece_content : (n : ℤ) (text : List ℕ) (p : Piece) (h : block.IsBlockPiece n p.start text p) → piece_content text p ≡ block_content h.block
+block_piece_content n text p h =
+    ap (λ (q : Piece). content_in q.style text p) h.piece ∙ (block_style_content h.block.style text p ∙ content_is n text p h)

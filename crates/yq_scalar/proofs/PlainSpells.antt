@@ -62,7 +62,7 @@ plain_opens test (b ∷ t) only dash h = false_from_ne_true (test b) (λ e.
     let d : (eqb b 45 && front (λ c. not (eqb c 32)) t) ≡ true = rw (only b e) at p.1 in
     false≢true (sym (at_byte test b 45 e dash) ∙ (and_true (eqb b 45) (front (λ c. not (eqb c 32)) t) d).0))
 
-string_kind : (k : Kind) → is_string k ≡ true → k ≡ kinds.Text
+pub string_kind : (k : Kind) → is_string k ≡ true → k ≡ kinds.Text
 string_kind kinds.Null h = absurd (false≢true h)
 string_kind kinds.Bool h = absurd (false≢true h)
 string_kind kinds.Int h = absurd (false≢true h)

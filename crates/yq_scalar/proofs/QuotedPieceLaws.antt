@@ -7,7 +7,7 @@ use Rattle.yq_scalar.specs.Quoted.{Lines, IsQuoted}
 use Rattle.yq_scalar.specs.QuotedReading.{quoted_at}
 use Rattle.yq_scalar.specs.QuotedPiece.{style_of, IsQuotedPiece, piece_of, quoted_from}
 use Rattle.yq_scalar.proofs.Bools.{bind_some}
-use Rattle.yq_scalar.proofs.QuotedRead.{quoted_takes, quoted_again}
+use Rattle.yq_scalar.proofs.QuotedFound.{quoted_takes, quoted_again}
 
 some_is : {A : Type 0} {x y : A} → Some x ≡ Some y → x ≡ y
 some_is e = cc

@@ -10,17 +10,29 @@ abbrev pub AreGap : Lines → Type 0
 AreGap [] = Unit {0}
 AreGap (l ∷ ls) = ((is_blank l || is_hash (past_white l)) ≡ true) × AreGap ls
 
--- a blank line that stays as it is: of spaces alone, no more than the indentation has (own)
-abbrev pub is_short : TextIndent → List ℕ → Bool
-is_short f l = ends_line (behind_spaces l) && nat_le (spaces l) f.columns
+-- a blank line that stays as it is: of spaces alone, no more than the scalar's text is indented by (own)
+abbrev pub is_short : ℕ → List ℕ → Bool
+is_short m l = ends_line (behind_spaces l) && nat_le (spaces l) m
 
--- The blank lines in front go if the scalar keeps empty lines; else those that don't stay are emptied, their breaks staying. The first comment
--- line, where it isn't less indented, is moved to this column (own).
-unfoldable pub repair : Bool → TextIndent → ℕ → Lines → Lines
-repair keep f column [] = []
-repair keep f column (l ∷ ls) =
-    if is_blank l then (if keep then repair keep f column ls else ((if is_short f l then l else past_white l) ∷ repair keep f column ls))
-    else ((if nat_lt (spaces l) f.columns && not (is_tab (behind_spaces l)) then l else (replicate column 32 ++ past_white l)) ∷ ls)
+-- a comment line that stays as it is: less indented, with no tab before its `#` (own)
+abbrev pub is_outside : ℕ → List ℕ → Bool
+is_outside m l = nat_lt (spaces l) m && not (is_tab (behind_spaces l))
+
+-- a blank line, emptied if it doesn't stay as it is; its break stays (own)
+abbrev pub repaired_blank : ℕ → List ℕ → List ℕ
+repaired_blank m l = if is_short m l then l else past_white l
+
+-- a comment line, moved to this column if it doesn't stay as it is (own)
+abbrev pub repaired_comment : ℕ → ℕ → List ℕ → List ℕ
+repaired_comment m column l = if is_outside m l then l else replicate column 32 ++ past_white l
+
+-- A gap behind a block scalar whose text is indented by m columns: the blank lines in front go if the scalar keeps empty lines, else those are
+-- emptied that don't stay as they are; the first comment line is moved to this column if it doesn't stay as it is (own).
+unfoldable pub repair : Bool → ℕ → ℕ → Lines → Lines
+repair keep m column [] = []
+repair keep m column (l ∷ ls) =
+    if is_blank l then (if keep then repair keep m column ls else (repaired_blank m l ∷ repair keep m column ls))
+    else (repaired_comment m column l ∷ ls)
 
 -- the comments, with what stands behind them on their lines (own)
 unfoldable pub remarks : Lines → Lines

@@ -22,6 +22,8 @@ pub mod Lines
 pub mod Block
 pub mod BlockReading
 pub mod QuotedPiece
+pub mod Given
 pub mod BlockContent
 pub mod BlockWritten
 pub mod BlockRepair
+pub mod ReadBack

@@ -249,7 +249,7 @@ fn content_at(alloc: Global, text: &str, piece: &Piece) -> Result<String, AllocE
 
 /// What the block scalar at a piece of a text stands for: its lines without their indentation, each
 /// break as an LF or folded, the breaks at the end as its header asks.
-pub fn block_content(alloc: Global, text: &str, piece: &Piece) -> Result<String, AllocError>
+pub(crate) fn block_content(alloc: Global, text: &str, piece: &Piece) -> Result<String, AllocError>
     requires { IsBlockScalar text.now piece.now }
     ensures exact { IfOk result (λ s. string_bytes s ≡ reading.piece_content text.now piece.now) }
     ensures found { (n : ℤ) (p : IsBlockPiece n piece.now.start text.now piece.now) → IfOk result (λ s. string_bytes s ≡ spec.block_content p.block) }

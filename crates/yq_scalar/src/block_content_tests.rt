@@ -1,9 +1,10 @@
 //! What block scalars stand for, and how they are written.
 
 use crate::block::read_block;
-use crate::block_content::block_content;
 use crate::block_laws::{literal_spells, one_block, repaired};
+use crate::block_repair::repair;
 use crate::block_written::{Break, write_block};
+use crate::piece_content::content;
 use std::alloc::Global;
 use std::string::String;
 use std::test::Fail;
@@ -11,7 +12,7 @@ use std::test::Fail;
 /// What the block scalar in front stands for.
 fn content_of(alloc: Global, text: &str, parent: i64) -> Result<String, Fail> {
     let piece = read_block(text, 0, parent)?;
-    Ok(block_content(alloc, text, &piece)?)
+    Ok(content(alloc, text, &piece)?)
 }
 
 #[test]
@@ -44,31 +45,9 @@ fn block_contents(rt: HostRuntime) -> Result<(), Fail> {
 }
 
 #[test]
-fn examples_of_chapter_8_1(rt: HostRuntime) -> Result<(), Fail> {
+fn block_scalars_at_the_root(rt: HostRuntime) -> Result<(), Fail> {
     let alloc = rt.alloc();
     let contents = [
-        ("| # Empty header\n literal\n- x\n", 0, "literal\n"),
-        (
-            ">1 # Indentation indicator\n  folded\n- x\n",
-            0,
-            " folded\n",
-        ),
-        ("|+ # Chomping indicator\n keep\n\n- x\n", 0, "keep\n\n"),
-        (">1- # Both indicators\n  strip\n", 0, " strip"),
-        (
-            "|-\n  # text\n  \n # Clip\n  # comments:\n\nclip: x\n",
-            0,
-            "# text",
-        ),
-        (
-            "|\n  # text\n \n # Keep\n  # comments:\n\nkeep: x\n",
-            0,
-            "# text\n",
-        ),
-        ("|+\n  # text\n\n # Trail\n  # Comments\n", 0, "# text\n\n"),
-        (">-\n\nclip: x\n", 0, ""),
-        (">\n\nkeep: x\n", 0, ""),
-        ("|+\n\n", 0, "\n"),
         ("|\n literal\n \ttext\n\n", -1, "literal\n\ttext\n"),
         (
             "|\n \n  \n  literal\n   \n  \n  text\n\n # Comment\n",
@@ -81,8 +60,6 @@ fn examples_of_chapter_8_1(rt: HostRuntime) -> Result<(), Fail> {
             -1,
             "\nfolded line\nnext line\n  * bullet\n\n  * list\n  * lines\n\nlast line\n",
         ),
-        ("|\n  some\n  text\nfolded: x\n", 0, "some\ntext\n"),
-        (">\n  some\n  text\n", 0, "some text\n"),
     ];
     for (text, parent, content) in contents {
         assert_eq!(rt;
@@ -128,6 +105,30 @@ fn written(rt: HostRuntime) -> Result<(), Fail> {
             content,
             "of {text:?}"
         );
+    }
+    Ok(())
+}
+
+#[test]
+fn repaired_gaps(rt: HostRuntime) -> Result<(), Fail> {
+    let alloc = rt.alloc();
+    // the scalar in front, the column of the row behind the gap, the gap, and the repaired one
+    let rows = [
+        ("|\n  x\n", 0, "", ""),
+        ("|\n  x\n", 0, "\n  \n   \n \t\n", "\n  \n\n\n"),
+        ("|\n  x\n", 0, "   \r\n", "\r\n"),
+        ("|+\n  x\n", 0, "\n  \n # c\n", " # c\n"),
+        ("|+\n  x\n", 0, "\n  \n", ""),
+        ("|\n  x\n", 1, " # c\n   # d\n", " # c\n   # d\n"),
+        ("|\n  x\n", 1, "  # c\n   # d\n", " # c\n   # d\n"),
+        ("|\n  x\n", 0, "\n    # c\n\n", "\n# c\n\n"),
+        ("|\n  x\n", 1, " \t# c", " # c"),
+        ("|\n  x\n", 1, "   ", ""),
+    ];
+    for (text, column, gap, repaired) in rows {
+        let piece = read_block(text, 0, 0)?;
+        let got = repair(alloc, &piece, column, gap)?;
+        assert_eq!(rt; got.as_str(), repaired, "of {gap:?} behind {text:?}");
     }
     Ok(())
 }

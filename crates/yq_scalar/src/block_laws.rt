@@ -1,13 +1,13 @@
 //! Laws of block scalars, each the contract of a function that does nothing.
-ghost use Rattle.std.specs.Prelude.{◌≡◌, ◌<◌, ◌≤◌, ◌++◌, Bool, List, Some, false, true, ℕ};
+ghost use Rattle.std.specs.Prelude.{◌≡◌, ◌<◌, ◌≤◌, ◌++◌, ◌⊎◌, [], Bool, List, Some, false, true, ℕ};
 ghost use Rattle.std.specs.Str.{IsUtf8};
-ghost use Rattle.yq_scalar.specs.Block.{BlockText, IsBlock, Lines, block_text, ends_block, is_tail};
+ghost use Rattle.yq_scalar.specs.Block.{BlockText, IsBlock, Lines, block_text, ends_block, is_tail, keeps};
 ghost use Rattle.yq_scalar.specs.BlockContent.{block_content};
 ghost use Rattle.yq_scalar.specs.BlockReading.{block_at};
 ghost use Rattle.yq_scalar.specs.BlockRepair.{AreGap, is_behind, remarks, repair};
-ghost use Rattle.yq_scalar.specs.BlockWritten.{break_text, written_block};
+ghost use Rattle.yq_scalar.specs.BlockWritten.{break_text, closed, written_block};
 ghost use Rattle.yq_scalar.specs.Scalar.{ScalarText};
-ghost use Rattle.yq_scalar.specs.Text.{lines_of};
+ghost use Rattle.yq_scalar.specs.Text.{joined, lines_of};
 ghost use Rattle.yq_scalar.specs.Writable.{can_write};
 ghost use Rattle.yq_scalar.specs.declared.block_lines.TextIndent.{TextIndent};
 ghost use Rattle.yq_scalar.specs.declared.block_written.Break.{Break};
@@ -30,8 +30,9 @@ pub fn literal_spells()
 {}
 
 /// A repaired gap may stand behind a block scalar, before a less indented line or the end, and its
-/// comments are the same.
+/// comments are the same. The gap ends in a break, or the text with it.
 pub fn repaired()
-    ensures ends { (keep : Bool) (indent : TextIndent) (column : ℕ) (gap rest : Lines) → AreGap gap → is_behind indent rest ≡ true → column < indent.columns → ends_block keep indent (repair keep indent column gap ++ rest) ≡ true }
-    ensures comments { (keep : Bool) (indent : TextIndent) (column : ℕ) (gap : Lines) → AreGap gap → remarks (repair keep indent column gap) ≡ remarks gap }
+    ensures stands { (least column : ℕ) (b : BlockText) (old gap rest : List ℕ) → IsBlock least b old → AreGap (lines_of gap) → ((closed (lines_of gap) ≡ true) ⊎ (rest ≡ [])) → is_behind b.indent (lines_of rest) ≡ true → column < b.indent.columns → IsBlock least b (joined (repair (keeps b.chomping) b.indent.columns column (lines_of gap)) ++ rest) }
+    ensures ends { (keep : Bool) (indent : TextIndent) (column : ℕ) (gap rest : Lines) → AreGap gap → is_behind indent rest ≡ true → column < indent.columns → ends_block keep indent (repair keep indent.columns column gap ++ rest) ≡ true }
+    ensures comments { (keep : Bool) (indent column : ℕ) (gap : Lines) → AreGap gap → remarks (repair keep indent column gap) ≡ remarks gap }
 {}

@@ -18,7 +18,7 @@ pub struct TextIndent {
 }
 
 /// What stands behind the spaces in front.
-fn behind_spaces(line: &[u8]) -> &[u8]
+pub fn behind_spaces(line: &[u8]) -> &[u8]
     ensures { result.now ≡ lines_spec.behind_spaces line.now }
 {
     line.split_at(spaces_len(line)).1

@@ -1,5 +1,5 @@
 //! A text written as a literal block scalar.
-ghost use Rattle.std.specs.Prelude.{◌≡◌, ◌++◌, length, replicate, OnOk, IfOk};
+ghost use Rattle.std.specs.Prelude.{◌≡◌, ◌++◌, ◌-◌, ◌^◌, length, min, replicate, OnOk, IfOk};
 ghost use Rattle.std.specs.String.{string_bytes};
 ghost use Rattle.yq_scalar.specs.BlockContent.{line_text};
 ghost use Rattle.yq_scalar.specs.BlockWritten as spec;
@@ -25,8 +25,35 @@ pub fn break_text(br: Break) -> &'static str
     }
 }
 
+/// How long a line of that text is as it is written, in bytes.
+fn written_line_len(indent: usize, br: Break, text: &str) -> usize
+    ensures { result ≡ min (length (spec.indented indent text.now ++ spec.break_text br)) (2 ^ 64 - 1) }
+{
+    if text.is_empty() {
+        break_text(br).len()
+    } else {
+        indent
+            .saturating_add(text.len())
+            .saturating_add(break_text(br).len())
+    }
+}
+
+/// How long the lines of a text are as they are written, in bytes, or 2^64 - 1 where they are longer.
+fn written_len(indent: usize, br: Break, text: &str) -> usize
+    ensures { result ≡ min (length (joined (spec.written indent (spec.break_text br) (lines_of text.now)))) (2 ^ 64 - 1) }
+{
+    let mut len = 0usize;
+    let mut rest = text;
+    'each: while !rest.is_empty() {
+        let (line, after) = split_line(rest);
+        len = len.saturating_add(written_line_len(indent, br, split_at_break(line).0));
+        rest = after;
+    }
+    len
+}
+
 /// Adds so many spaces.
-fn push_spaces(out: &mut String, count: usize) -> Result<(), AllocError>
+pub(crate) fn push_spaces(out: &mut String, count: usize) -> Result<(), AllocError>
     ensures { OnOk result (string_bytes out.new ≡ string_bytes out.old ++ replicate count 32) }
 {
     for _ in 0..count {
@@ -75,6 +102,8 @@ fn header_text(closed: bool) -> &'static str
 
 /// The header and the raw lines of a literal block scalar whose text is indented by so many columns:
 /// each line of the text, behind the indentation unless it is empty, with this break.
+///
+/// Memory is taken once.
 pub fn write_block(
     alloc: Global,
     text: &str,
@@ -84,7 +113,7 @@ pub fn write_block(
     ensures header { IfOk result (λ r. r.0.now ≡ spec.header_text (spec.chomping_of (lines_of text.now))) }
     ensures raw { IfOk result (λ r. string_bytes r.1 ≡ joined (spec.written indent (spec.break_text br) (lines_of text.now))) }
 {
-    let mut raw = String::new(alloc);
+    let mut raw = String::with_capacity(alloc, written_len(indent, br, text))?;
     push_lines(&mut raw, indent, br, text)?;
     Ok((header_text(ends_in_feed(text.as_bytes())), raw))
 }

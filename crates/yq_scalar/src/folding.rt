@@ -203,11 +203,23 @@ fn push_next<'a>(
     push_item(out, quote, next)
 }
 
+/// How many bytes what stands in these quotes, or in none, may stand for: in double quotes an escape of
+/// two bytes stands for three at most.
+fn content_room(quote: u8, len: usize) -> usize
+    ensures { len ≤ result }
+{
+    if quote == b'"' {
+        len.saturating_add(len / 2)
+    } else {
+        len
+    }
+}
+
 /// The content of what stands in these quotes, or in none.
 fn fold(alloc: Global, quote: u8, text: &str) -> Result<String, AllocError>
     ensures { IfOk result (λ s. string_bytes s ≡ spec.content_of quote text.now) }
 {
-    let mut out = String::with_capacity(alloc, text.len())?;
+    let mut out = String::with_capacity(alloc, content_room(quote, text.len()))?;
     let mut joined = false;
     let mut rest = text;
     'each: while !rest.is_empty() {

@@ -8,18 +8,25 @@ mod block_content_tests;
 pub mod block_header;
 pub mod block_laws;
 pub mod block_lines;
+pub mod block_repair;
 #[cfg(test)]
 mod block_tests;
 pub mod block_written;
 pub mod characters;
+#[cfg(test)]
+mod example_tests;
 mod fault;
 pub mod folding;
 mod integer;
 mod keys;
 mod kind;
 pub mod lines;
+#[cfg(test)]
+mod memory_tests;
 pub mod piece;
 mod piece_content;
+#[cfg(test)]
+mod piece_tests;
 pub mod plain;
 pub mod plain_laws;
 mod plain_piece;
@@ -41,8 +48,10 @@ pub mod text;
 mod text_tests;
 mod writable;
 mod write;
+pub mod written_laws;
 
 pub use block::read_block;
+pub use block_repair::repair;
 pub use block_written::{Break, write_block};
 pub use fault::{FaultKind, ReadError, ReadFault};
 pub use integer::int_value;

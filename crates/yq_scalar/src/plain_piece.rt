@@ -2,6 +2,7 @@
 ghost use Rattle.std.specs.Prelude.{◌≡◌, IfOk, Ok};
 ghost use Rattle.std.specs.Str.{IsCharBoundary};
 ghost use Rattle.yq_scalar.specs.Answers.{Reads};
+ghost use Rattle.yq_scalar.specs.Given.{IsGiven};
 ghost use Rattle.yq_scalar.specs.Piece as spec;
 ghost use Rattle.yq_scalar.specs.declared.piece.Piece.{Piece};
 
@@ -35,6 +36,7 @@ pub fn read_plain(text: &str, at: usize, place: Place, indent: i64) -> Result<Pi
     ensures exact { Reads (λ p. p) result (spec.plain_from place indent at text.now) }
     ensures found { IfOk result (spec.IsPlainPiece place indent at text.now) }
     ensures only { (p : Piece) → spec.IsPlainPiece place indent at text.now p → result ≡ Ok p }
+    ensures given { IfOk result (IsGiven text.now) }
 {
     plain_from(text, at, place, indent)
 }

@@ -2,6 +2,7 @@
 ghost use Rattle.std.specs.Prelude.{◌≡◌, IfOk, Ok};
 ghost use Rattle.std.specs.Str.{IsCharBoundary};
 ghost use Rattle.yq_scalar.specs.Answers.{Reads};
+ghost use Rattle.yq_scalar.specs.Given.{IsGiven};
 ghost use Rattle.yq_scalar.specs.QuotedPiece as spec;
 ghost use Rattle.yq_scalar.specs.declared.piece.Piece.{Piece};
 
@@ -31,6 +32,7 @@ pub fn read_quoted(text: &str, at: usize) -> Result<Piece, FaultKind>
     ensures exact { Reads (λ p. p) result (spec.quoted_from at text.now) }
     ensures found { IfOk result (spec.IsQuotedPiece at text.now) }
     ensures only { (p : Piece) → spec.IsQuotedPiece at text.now p → result ≡ Ok p }
+    ensures given { IfOk result (IsGiven text.now) }
 {
     quoted_from(text, at)
 }

@@ -152,6 +152,7 @@ fn written_double(rt: HostRuntime) -> Result<(), Fail> {
             "\u{feff}\u{1}\u{7f}\u{9f}\u{fffe}",
             "\"\\uFEFF\\x01\\x7F\\x9F\\uFFFE\"",
         ),
+        ("\t\u{85}\u{1b}\u{1}", "\"\\t\\N\\e\\x01\""),
         ("it's / \u{a0}\u{1f600}", "\"it's / \u{a0}\u{1f600}\""),
     ];
     for (text, piece) in strings {

@@ -80,7 +80,8 @@ impl Scalar {
     pub fn into_text(self) -> String
         ensures { string_bytes result ≡ self.text }
     {
-        self.text
+        let Scalar { text, .. } = self;
+        text
     }
 
     /// Whether the two have the same kind and the same text.

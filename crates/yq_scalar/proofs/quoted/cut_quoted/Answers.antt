@@ -1,6 +1,6 @@
 use Rattle.std.proofs.Common.{◌∙◌, ap}
 use Rattle.yq_scalar.specs.QuotedReading as spec
-use Rattle.yq_scalar.proofs.QuotedRead.{boundary_quoted}
+use Rattle.yq_scalar.proofs.QuotedFound.{boundary_quoted}
 use Rattle.yq_scalar.proofs.quoted.cut_quoted.Goals as goal
 
 pub split_at-requires : goal.split_at-requires

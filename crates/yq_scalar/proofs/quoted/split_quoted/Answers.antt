@@ -1,4 +1,4 @@
-use Rattle.yq_scalar.proofs.QuotedRead.{quoted_text}
+use Rattle.yq_scalar.proofs.QuotedFound.{quoted_text}
 use Rattle.yq_scalar.proofs.quoted.split_quoted.Goals as goal
 
 pub returns-in-Some-clause-found : goal.returns-in-Some-clause-found

@@ -1,0 +1,15 @@
+use Rattle.std.proofs.Common.{◌≡◌, ◌++◌, length}
+use Rattle.std.specs.Str.{IsUtf8}
+use Rattle.std.specs.String.{string_bytes}
+use Rattle.yq_scalar.specs.Text.{lines_of, joined}
+use Rattle.yq_scalar.specs.BlockRepair as spec
+use Rattle.yq_scalar.proofs.block_repair.push_gap.Given as goal
+
+abbrev pub decreases-each : goal.decreases-each
+decreases-each l = length l.rest
+
+abbrev pub invariant-each : goal.invariant-each
+invariant-each l = record {
+  utf8 : IsUtf8 l.rest;
+  so_far : string_bytes l.out ++ joined (spec.repair l.keep l.indent l.column (lines_of l.rest)) ≡ string_bytes l.fn.out ++ joined (spec.repair l.keep l.indent l.column (lines_of l.gap));
+}

@@ -1,0 +1,20 @@
+use Rattle.std.proofs.Common.{rules, ap, arith, List, ℕ}
+use Rattle.yq_scalar.specs.BlockWritten.{break_text}
+use Rattle.yq_scalar.proofs.BlockSteps.{at_cut, at_end}
+use Rattle.yq_scalar.proofs.BlockWrittenLengths.{len_step, len_end}
+use Rattle.yq_scalar.proofs.block_written.written_len.Goals as goal
+
+pub each-smaller : goal.each-smaller
+each-smaller c = (at_cut _ _ _ _ c.is_empty.ensures c.each-test.true c.split_line.ensures).1
+
+pub each-preserved : goal.each-preserved
+each-preserved c =
+    let cut = at_cut _ _ _ _ c.is_empty.ensures c.each-test.true c.split_line.ensures in
+    record {
+      utf8 = search rules;
+      fits = omega (arith, c.saturating_add-len.ensures);
+      so_far = len_step c.args.indent (break_text c.args.br) _ _ _ _ _ _ _ _ cut.0 (ap (λ (x : List ℕ × List ℕ). x.0) c.split_at_break.ensures) c.written_line_len.ensures c.saturating_add-len.ensures c.each.invariant.so_far;
+    }
+
+pub returns : goal.returns
+returns c = len_end c.args.indent (break_text c.args.br) _ _ _ (at_end _ _ c.is_empty.ensures c.each-test.false) c.each.invariant.so_far c.each.invariant.fits

@@ -1,0 +1,5 @@
+use Rattle.yq_scalar.proofs.ReadBackLaws.{double_back}
+use Rattle.yq_scalar.proofs.written_laws.double_is_read_back.Goals as goal
+
+pub returns : goal.returns
+returns c = double_back

@@ -1,0 +1,100 @@
+//! A gap that comes to stand behind a block scalar.
+ghost use Rattle.std.specs.Prelude.{◌≡◌, ◌++◌, [], OnOk, IfOk, if◌then◌else◌};
+ghost use Rattle.std.specs.String.{string_bytes};
+ghost use Rattle.yq_scalar.specs.BlockRepair as spec;
+ghost use Rattle.yq_scalar.specs.Text.{joined, lines_of};
+
+use crate::block_lines::{behind_spaces, is_blank};
+use crate::block_written::push_spaces;
+use crate::lines::split_line;
+use crate::piece::Piece;
+use crate::text::{ends_line, spaces_len, split_white};
+use std::alloc::{AllocError, Global};
+
+/// A line of spaces alone, so many at most.
+fn is_short(indent: usize, line: &[u8]) -> bool
+    ensures { result ≡ spec.is_short indent line.now }
+{
+    ends_line(behind_spaces(line)) && spaces_len(line) <= indent
+}
+
+/// A line that begins with fewer spaces, and no tab behind them.
+fn is_outside(indent: usize, line: &[u8]) -> bool
+    ensures { result ≡ spec.is_outside indent line.now }
+{
+    spaces_len(line) < indent && !matches!(behind_spaces(line), [b'\t', ..])
+}
+
+/// A blank line, emptied if it is not short.
+fn repaired_blank(indent: usize, line: &str) -> &str
+    ensures { result.now ≡ spec.repaired_blank indent line.now }
+{
+    if is_short(indent, line.as_bytes()) {
+        line
+    } else {
+        split_white(line).1
+    }
+}
+
+/// Adds a blank line, unless the scalar keeps empty lines.
+fn push_blank(out: &mut String, keep: bool, indent: usize, line: &str) -> Result<(), AllocError>
+    ensures { OnOk result (string_bytes out.new ≡ string_bytes out.old ++ (if keep then [] else spec.repaired_blank indent line.now)) }
+{
+    if keep {
+        return Ok(());
+    }
+    out.push_str(repaired_blank(indent, line))
+}
+
+/// Adds a comment line, at this column if it is not outside the indentation.
+fn push_comment(
+    out: &mut String,
+    indent: usize,
+    column: usize,
+    line: &str,
+) -> Result<(), AllocError>
+    ensures { OnOk result (string_bytes out.new ≡ string_bytes out.old ++ spec.repaired_comment indent column line.now) }
+{
+    if is_outside(indent, line.as_bytes()) {
+        return out.push_str(line);
+    }
+    push_spaces(out, column)?;
+    out.push_str(split_white(line).1)
+}
+
+/// Adds a repaired gap.
+fn push_gap(
+    out: &mut String,
+    keep: bool,
+    indent: usize,
+    column: usize,
+    gap: &str,
+) -> Result<(), AllocError>
+    ensures { OnOk result (string_bytes out.new ≡ string_bytes out.old ++ joined (spec.repair keep indent column (lines_of gap.now))) }
+{
+    let mut rest = gap;
+    'each: while !rest.is_empty() {
+        let (line, after) = split_line(rest);
+        if !is_blank(line.as_bytes()) {
+            push_comment(out, indent, column, line)?;
+            out.push_str(after)?;
+            return Ok(());
+        }
+        push_blank(out, keep, indent, line)?;
+        rest = after;
+    }
+    Ok(())
+}
+
+/// The gap made fit to stand behind the block scalar of a piece: its blank lines go if the scalar keeps
+/// empty lines, else those that are no empty lines of the scalar are emptied; its first comment line is
+/// moved to a column if it would be text of the scalar.
+///
+/// Memory is taken once.
+pub fn repair(alloc: Global, scalar: &Piece, column: usize, gap: &str) -> Result<String, AllocError>
+    ensures exact { IfOk result (λ s. string_bytes s ≡ joined (spec.repair scalar.now.keep scalar.now.indent column (lines_of gap.now))) }
+{
+    let mut out = String::with_capacity(alloc, gap.len().saturating_add(column))?;
+    push_gap(&mut out, scalar.keep, scalar.indent, column, gap)?;
+    Ok(out)
+}
