@@ -3,9 +3,10 @@
 mod journal_texts;
 mod memory;
 mod moves;
+mod records;
 
-use crate::read::leads;
-use crate::{Journal, JournalFault, Record};
+use crate::read::edits::leads;
+use crate::{Journal, JournalError, JournalFault, Record};
 use std::alloc::Global;
 use std::test::Fail;
 use yq_splice::Splice;
@@ -43,5 +44,13 @@ fn add(journal: &mut Journal, record: Record) -> Result<(), Fail> {
     match journal.push(record) {
         Ok(()) => Ok(()),
         Err((_, error)) => Err(Fail::from(error)),
+    }
+}
+
+/// What is refused, if anything is.
+fn refused<T: Drop>(answer: Result<T, JournalError>) -> Option<JournalError> {
+    match answer {
+        Ok(_) => None,
+        Err(error) => Some(error),
     }
 }

@@ -1,0 +1,160 @@
+//! Records of edits from their values.
+ghost use Rattle.std.specs.Prelude.{◌≡◌, IfOk, option_map, option_and_then};
+ghost use Rattle.serde_json.specs.Find.{get};
+ghost use Rattle.serde_json.specs.View.{view};
+ghost use Rattle.yq_splice.specs.Patch.{length_done, lengths_done};
+ghost use Rattle.yq_journal.specs.Json as spec;
+
+use super::fields::{bytes, has_keys, number, text};
+use crate::record::Record;
+use serde_json::Value;
+use std::alloc::{AllocError, Global};
+use yq_splice::Splice;
+
+/// A splice, whose keys are `at`, `new` and `old`.
+#[tactic(auto, unfolding(crate::specs::Json::change_of))]
+fn splice(alloc: Global, value: &Value) -> Result<Option<Splice>, AllocError>
+    ensures { IfOk result (λ o. o ≡ spec.change_of (view value.now)) }
+{
+    if !has_keys(value, 3) {
+        return Ok(None);
+    }
+    let Some(at) = number(value, "at") else {
+        return Ok(None);
+    };
+    let Some(old) = bytes(alloc, value, "old")? else {
+        return Ok(None);
+    };
+    let Some(new) = bytes(alloc, value, "new")? else {
+        return Ok(None);
+    };
+    Ok(Some(Splice { at, old, new }))
+}
+
+/// A list of splices.
+fn splices(alloc: Global, value: &Value) -> Result<Option<Vec<Splice>>, AllocError>
+    ensures { IfOk result (λ o. option_map (λ v. v.items) o ≡ spec.changes_of (view value.now)) }
+{
+    let Some(values) = value.as_array() else {
+        return Ok(None);
+    };
+    let mut found = Vec::new(alloc);
+    'values: for entry in values {
+        match splice(alloc, entry)? {
+            Some(splice) => found.push(splice)?,
+            None => return Ok(None),
+        }
+    }
+    Ok(Some(found))
+}
+
+/// The length that a splice leaves, where it lies within the length before it.
+#[tactic(auto, unfolding(yq_splice::specs::Patch::length_done))]
+fn length_after(splice: &Splice, length: u64) -> Option<u64>
+    ensures { result ≡ length_done splice.now length }
+{
+    let old = splice.old.len() as u64;
+    let end = splice.at.checked_add(old)?;
+    if end > length {
+        return None;
+    }
+    (length - old).checked_add(splice.new.len() as u64)
+}
+
+/// Whether splices lead from the one length to the other, each lying within
+/// the length reached so far.
+pub(crate) fn leads(splices: &[Splice], before_len: u64, after_len: u64) -> bool
+    ensures { result ≡ spec.is_length (lengths_done splices.now before_len) after_len }
+{
+    let mut length = before_len;
+    'splices: for splice in splices {
+        match length_after(splice, length) {
+            Some(next) => length = next,
+            None => return false,
+        }
+    }
+    length == after_len
+}
+
+/// How many edits a record stands for: before version 2 it is one, with no key.
+fn count(value: &Value, counted: bool) -> Option<u64>
+    ensures { result ≡ spec.count_at counted (view value.now) }
+{
+    if counted {
+        number(value, "count")
+    } else {
+        Some(1)
+    }
+}
+
+/// The splices under a key.
+fn splices_at(alloc: Global, value: &Value, key: &str) -> Result<Option<Vec<Splice>>, AllocError>
+    ensures { IfOk result (λ o. option_map (λ v. v.items) o ≡ option_and_then spec.changes_of (get key.now (view value.now))) }
+{
+    match value.get(key) {
+        Some(value) => splices(alloc, value),
+        None => Ok(None),
+    }
+}
+
+/// A record, whose keys are `after_len`, `before_len`, from version 2 on
+/// `count`, `expr` and `splices`.
+#[tactic(auto, unfolding(crate::specs::Json::record_of))]
+pub(super) fn record(
+    alloc: Global,
+    value: &Value,
+    counted: bool,
+) -> Result<Option<Record>, AllocError>
+    ensures { IfOk result (λ o. o ≡ spec.record_of counted (view value.now)) }
+{
+    if !has_keys(value, if counted { 5 } else { 4 }) {
+        return Ok(None);
+    }
+    let Some(expr) = text(value, "expr") else {
+        return Ok(None);
+    };
+    let Some(splices) = splices_at(alloc, value, "splices")? else {
+        return Ok(None);
+    };
+    let (Some(before_len), Some(after_len)) = (
+        number(value, "before_len"),
+        number(value, "after_len"),
+    ) else {
+        return Ok(None);
+    };
+    let Some(count) = count(value, counted) else {
+        return Ok(None);
+    };
+    if count == 0 || !leads(&splices, before_len, after_len) {
+        return Ok(None);
+    }
+    let expr = String::from_str(alloc, expr)?;
+    Ok(Some(Record {
+        expr,
+        splices,
+        before_len,
+        after_len,
+        count,
+    }))
+}
+
+/// A list of records.
+pub(super) fn records(
+    alloc: Global,
+    value: &Value,
+    counted: bool,
+) -> Result<Option<Vec<Record>>, AllocError>
+    ensures { IfOk result (λ o. option_map (λ v. v.items) o ≡ spec.records_of counted (view value.now)) }
+{
+    let Some(values) = value.as_array() else {
+        return Ok(None);
+    };
+    let mut found = Vec::new(alloc);
+    'values: for entry in values {
+        match record(alloc, entry, counted)? {
+            Some(record) => found.push(record)?,
+            None => return Ok(None),
+        }
+    }
+    Ok(Some(found))
+}
