@@ -169,7 +169,8 @@ def each_call(folder, name, scenario):
                 jobs.append(pool.submit(tried, fails, first, f"{path}-{error}", scenario, call, error, call in own))
         for job in jobs:
             job.result()
-    print(f"{name}: {len(calls)} system calls ({len(own)} of its own), each failing with {', '.join(ERRORS)}, and killed before")
+    calls = f"{len(calls)} system calls, {len(own)} of them its own"
+    print(f"{name}: {calls}; each failed with {', '.join(ERRORS)}, and was the first that a killed run didn't make")
 
 
 def check_each_call_of_a_first_edit(folder):
@@ -206,6 +207,9 @@ def check_a_temporary_file_that_can_not_be_removed(folder):
         goes_on(later, outcome(first, later, EDIT), walk_through, edit_on)
 
 
+STEPS = ["write", "fchown", "fchmod", "fsync", "rename", "fsync"]
+
+
 def check_each_write_is_synced_before_and_after_its_rename(folder):
     first = prepared(folder, EDIT)
     _status, _err, trace = traced(first, EDIT.words)
@@ -216,6 +220,6 @@ def check_each_write_is_synced_before_and_after_its_rename(folder):
     for i in begun:
         folder_fd, file_fd = steps[i - 1].split("=")[-1], steps[i].split("=")[-1]
         equal("0600" in steps[i], True, steps[i])
-        equal([line.split("(")[0] for line in steps[i + 1 : i + 7]], ["write", "fchown", "fchmod", "fsync", "rename", "fsync"])
+        equal([line.split("(")[0] for line in steps[i + 1 : i + 7]], STEPS)
         equal(steps[i + 4].startswith(f"fsync({file_fd})"), True, steps[i + 4])
         equal(steps[i + 6].startswith(f"fsync({folder_fd})"), True, steps[i + 6])

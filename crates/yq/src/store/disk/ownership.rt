@@ -16,8 +16,8 @@ const ALL_BITS: u32 = 0o7777;
 /// The bits of the group.
 const GROUP_BITS: u32 = 0o070;
 
-/// The mode of a file that could not keep its group: the new group may do no more than both the old
-/// group and everyone.
+/// The mode of a file that could not keep its group: the new group may do what both the old group
+/// and everyone could.
 fn mode_in_another_group(mode: u32) -> u32
     ensures { bit_and result mode ≡ result }
 {
