@@ -158,14 +158,14 @@ def each_call(folder, name, scenario):
     first = prepared(folder, scenario)
     status, _err, trace = traced(first.copy(folder.name("whole")), scenario.words)
     equal(status, 0)
-    calls = [call for call in calls_in(trace) if call.name != "exit_group"]
+    calls = calls_in(trace)
     own = own_calls(calls, FILE)
     with ThreadPoolExecutor(WORKERS) as pool:
         jobs = []
         for call in calls:
             path = folder.name(f"{call.name}-{call.number}")
             jobs.append(pool.submit(tried, is_killed, first, path + "-killed", scenario, call))
-            for error in ERRORS:
+            for error in ERRORS if call.name != "exit_group" else ():
                 jobs.append(pool.submit(tried, fails, first, f"{path}-{error}", scenario, call, error, call in own))
         for job in jobs:
             job.result()
