@@ -1,17 +1,18 @@
 //! What a block scalar stands for (YAML 1.2.2, sections 8.1.1.2, 8.1.2 and 8.1.3).
-ghost use Rattle.std.specs.Prelude.{◌≡◌, ◌<◌, ◌≤◌, ◌==◌, ◌&&◌, not, ◌++◌, ℤ, length, take, drop, replicate, OnOk, IfOk};
+ghost use Rattle.std.specs.Prelude.{◌≡◌, ◌<◌, ◌≤◌, ◌==◌, ◌&&◌, not, ◌++◌, ℤ, length, take, drop, OnOk, IfOk};
 ghost use Rattle.std.specs.Str.{IsCharBoundary};
 ghost use Rattle.std.specs.String.{string_bytes};
 ghost use Rattle.yq_scalar.specs.Block.{IsBlockPiece, IsBlockScalar};
 ghost use Rattle.yq_scalar.specs.BlockContent as spec;
 ghost use Rattle.yq_scalar.specs.BlockReading as reading;
-ghost use Rattle.yq_scalar.specs.Text.{feed, front, is_white, lines_of, cut_line};
+ghost use Rattle.yq_scalar.specs.Text.{front, is_white, lines_of, cut_line};
 ghost use Rattle.yq_scalar.specs.declared.block_content.Before.TheVariants.{Nothing};
 
 use crate::block_header::{BlockStyle, Chomping, split_indicators};
 use crate::block_lines::{TextIndent, detect_indent};
 use crate::lines::{split_at_break, split_line};
 use crate::piece::Piece;
+use crate::pushing::push_breaks;
 use crate::style::Style;
 use crate::text::{is_white, spaces_len};
 use std::alloc::{AllocError, Global};
@@ -52,16 +53,6 @@ fn begins_white(text: &[u8]) -> bool
     ensures { result ≡ front is_white text.now }
 {
     matches!(text, [first, ..] if is_white(*first))
-}
-
-/// Adds so many LFs.
-fn push_breaks(out: &mut String, count: usize) -> Result<(), AllocError>
-    ensures { OnOk result (string_bytes out.new ≡ string_bytes out.old ++ replicate count feed) }
-{
-    for _ in 0..count {
-        out.push('\n')?;
-    }
-    Ok(())
 }
 
 /// Adds what stands between a line and the one before it.

@@ -5,9 +5,9 @@ ghost use Rattle.yq_scalar.specs.BlockRepair as spec;
 ghost use Rattle.yq_scalar.specs.Text.{joined, lines_of};
 
 use crate::block_lines::{behind_spaces, is_blank};
-use crate::block_written::push_spaces;
 use crate::lines::split_line;
 use crate::piece::Piece;
+use crate::pushing::push_spaces;
 use crate::text::{ends_line, spaces_len, split_white};
 use std::alloc::{AllocError, Global};
 

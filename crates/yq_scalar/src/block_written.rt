@@ -1,11 +1,12 @@
 //! A text written as a literal block scalar.
-ghost use Rattle.std.specs.Prelude.{◌≡◌, ◌++◌, ◌-◌, ◌^◌, length, min, replicate, OnOk, IfOk};
+ghost use Rattle.std.specs.Prelude.{◌≡◌, ◌++◌, ◌-◌, ◌^◌, length, min, OnOk, IfOk};
 ghost use Rattle.std.specs.String.{string_bytes};
 ghost use Rattle.yq_scalar.specs.BlockContent.{line_text};
 ghost use Rattle.yq_scalar.specs.BlockWritten as spec;
 ghost use Rattle.yq_scalar.specs.Text.{joined, lines_of};
 
 use crate::lines::{split_at_break, split_line};
+use crate::pushing::push_spaces;
 use std::alloc::{AllocError, Global};
 
 /// The break that is written.
@@ -50,16 +51,6 @@ fn written_len(indent: usize, br: Break, text: &str) -> usize
         rest = after;
     }
     len
-}
-
-/// Adds so many spaces.
-pub(crate) fn push_spaces(out: &mut String, count: usize) -> Result<(), AllocError>
-    ensures { OnOk result (string_bytes out.new ≡ string_bytes out.old ++ replicate count 32) }
-{
-    for _ in 0..count {
-        out.push(' ')?;
-    }
-    Ok(())
 }
 
 /// Adds a line of that text.

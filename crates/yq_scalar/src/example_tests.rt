@@ -38,9 +38,6 @@ const MULTI_LINE_COMMENTS: &str = "key:    # Comment\n        # lines\n  value\n
 
 const NODE_ANCHORS: &str = "First occurrence: &anchor Value\nSecond occurrence: *anchor";
 
-const ALIAS_NODES: &str =
-    "First occurrence: &anchor Foo\nSecond occurrence: *anchor\nOverride anchor: &anchor Bar\nReuse anchor: *anchor";
-
 const DOUBLE_QUOTED_LINE_BREAKS: &str =
     "\"folded \nto a space,\t\n \nto a line feed, or \t\\\n \\ \tnon-content\"";
 
@@ -128,8 +125,6 @@ fn values_in_block(rt: HostRuntime) -> Result<(), Fail> {
         (SEPARATED_COMMENT, 20, 0, "value"),
         (MULTI_LINE_COMMENTS, 36, 0, "value"),
         (NODE_ANCHORS, 26, 0, "Value"),
-        (ALIAS_NODES, 26, 0, "Foo"),
-        (ALIAS_NODES, 82, 0, "Bar"),
         (
             DOUBLE_QUOTED_LINE_BREAKS,
             0,

@@ -1,10 +1,11 @@
 //! What plain and quoted scalars stand for (YAML 1.2.2, sections 5.7, 6.5 and 7.3).
-ghost use Rattle.std.specs.Prelude.{◌≡◌, ◌++◌, ◌+◌, ◌<◌, ◌≤◌, ℕ, List, length, true, false, [], replicate, OnOk, IfOk, string_bytes};
+ghost use Rattle.std.specs.Prelude.{◌≡◌, ◌++◌, ◌+◌, ◌<◌, ◌≤◌, ℕ, List, length, true, false, [], OnOk, IfOk, string_bytes};
 ghost use Rattle.yq_scalar.specs.ContentReading as spec;
 ghost use Rattle.yq_scalar.specs.PlainContent.{IsPlainLines};
 ghost use Rattle.yq_scalar.specs.Quoted.{Lines, IsQuoted, IsQuotedText, content};
-ghost use Rattle.yq_scalar.specs.Text.{upto, cut, is_space, feed};
+ghost use Rattle.yq_scalar.specs.Text.{upto, cut, is_space};
 
+use crate::pushing::push_breaks;
 use crate::quoted::escape;
 use crate::text::{is_break, is_space};
 use std::alloc::{AllocError, Global};
@@ -42,15 +43,6 @@ fn breaks(text: &[u8]) -> usize
         }
     }
     n
-}
-
-fn push_breaks(out: &mut String, count: usize) -> Result<(), AllocError>
-    ensures { OnOk result (string_bytes out.new ≡ string_bytes out.old ++ replicate count feed) }
-{
-    for _ in 0..count {
-        out.push('\n')?;
-    }
-    Ok(())
 }
 
 /// Adds what white space and breaks stand for, behind an escaped break or not.

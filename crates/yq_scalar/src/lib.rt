@@ -33,6 +33,7 @@ mod plain_piece;
 #[cfg(test)]
 mod plain_tests;
 pub mod plain_text;
+mod pushing;
 pub mod quoted;
 pub mod quoted_laws;
 mod quoted_piece;
@@ -47,6 +48,8 @@ pub mod text;
 #[cfg(test)]
 mod text_tests;
 mod writable;
+#[cfg(test)]
+mod writable_tests;
 mod write;
 pub mod written_laws;
 
