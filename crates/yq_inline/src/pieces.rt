@@ -44,7 +44,8 @@ fn in_name(b: u8) -> bool
     !(is_white(b) || matches!(b, b'\n' | b'\r') || is_flow_indicator(b))
 }
 
-fn name_len(text: &[u8]) -> usize
+/// How long the name in front is, in bytes.
+pub fn name_len(text: &[u8]) -> usize
     ensures { result ≡ prefix_len nodes.in_name text.now }
 {
     text.iter().take_while(|b| in_name(**b)).count()

@@ -1,176 +1,184 @@
--- Two texts that are the same up to the `:` of a key: a row before the one is a row before the other.
-use Rattle.std.proofs.Common.{◌≡◌, ℕ, suc, Bool, true, false, ◌&&◌, ◌||◌, eqb, List, [], ◌∷◌, ◌++◌, Option, Some, None, refl, sym, ap, ◌∙◌, inl, inr, ⊎_elim, replicate}
+-- Two texts that are the same up to a seam, behind which nobody looks: the tests of what is in front.
+use Rattle.std.proofs.Common.{◌≡◌, inl, inr, ℕ, Bool, true, false, eqb, List, [], ◌∷◌, ◌++◌, Option, Some, None, refl, sym, ap, ◌∙◌}
 use Rattle.std.proofs.Math.Bool.{and-false}
 use Rattle.std.specs.List.{prefix_len}
-use Rattle.yq_scalar.specs.Plain.{begins_plain, ends_plain, ends_text, is_safe, no_gap, last_line, begins_deep, may_follow, follows, IsPlain}
-use Rattle.yq_scalar.specs.Text.{upto, cut, NoneIn, front, is_empty, is_white, is_feed, is_break, is_space, separates, is_marker, joined}
-use Rattle.yq_scalar.proofs.Bools.{is_true}
-use Rattle.yq_rows.specs.Built.{is_dash, is_built_row, is_built_head}
-use Rattle.yq_rows.specs.Gap.{IsBreak, IsLineEnd, AreGapLines, IsGap}
-use Rattle.yq_rows.specs.Grammar.{IsHead, Limit, IsRow}
-use Rattle.yq_rows.specs.Rows.{Row, behind_head, behind_colon, behind_key, behind_indent, behind_gap, parent_indent}
+use Rattle.yq_scalar.specs.Plain.{begins_plain, ends_plain, ends_text, is_flow_indicator, is_safe, no_gap, last_line, begins_deep, may_follow, follows, IsPlain}
+use Rattle.yq_scalar.specs.QuotedReading.{is_quote}
+use Rattle.yq_scalar.specs.Text.{upto, cut, NoneIn, front, unless, is_empty, is_white, is_feed, is_break, is_space, separates, is_marker}
+use Rattle.yq_scalar.proofs.Bools.{is_true, at_byte}
+use Rattle.yq_inline.specs.Nodes.{first_is, begins_content, begins_node}
+use Rattle.yq_rows.specs.Alike.{Alike, colon, dash, bracket, brace, after}
 
--- the same text up to a `:` that ends a key
-pub data Alike : List ℕ → List ℕ → Type 0 where
-  colon : {t u : List ℕ} → separates t ≡ true → separates u ≡ true → Alike (58 ∷ t) (58 ∷ u)
-  after : {b : ℕ} {t u : List ℕ} → Alike t u → Alike (b ∷ t) (b ∷ u)
-
-pub alike_append : (p t u : List ℕ) → Alike t u → Alike (p ++ t) (p ++ u)
-alike_append [] t u h = h
-alike_append (b ∷ p) t u h = after (alike_append p t u h)
+pub alike_append : (f : Bool) (p t u : List ℕ) → Alike f t u → Alike f (p ++ t) (p ++ u)
+alike_append f [] t u h = h
+alike_append f (b ∷ p) t u h = after (alike_append f p t u h)
 
 -- each test of what stands in front
-alike_front : (p : ℕ → Bool) (t u : List ℕ) → Alike t u → front p t ≡ front p u
-alike_front p _ _ (colon {t} {u} x y) = refl
-alike_front p _ _ (after {b} {t} {u} h) = refl
+pub alike_front : (p : ℕ → Bool) (f : Bool) (t u : List ℕ) → Alike f t u → front p t ≡ front p u
+alike_front p _ _ _ (colon {t} {u} x y) = refl
+alike_front p _ _ _ (dash {t} {u} x y) = refl
+alike_front p _ _ _ (bracket {t} {u}) = refl
+alike_front p _ _ _ (brace {t} {u}) = refl
+alike_front p _ _ _ (after {f} {b} {t} {u} h) = refl
 
-alike_empty : (t u : List ℕ) → Alike t u → is_empty t ≡ is_empty u
-alike_empty _ _ (colon {t} {u} x y) = refl
-alike_empty _ _ (after {b} {t} {u} h) = refl
+pub alike_unless : (p : ℕ → Bool) (f : Bool) (t u : List ℕ) → Alike f t u → unless p t ≡ unless p u
+alike_unless p _ _ _ (colon {t} {u} x y) = refl
+alike_unless p _ _ _ (dash {t} {u} x y) = refl
+alike_unless p _ _ _ (bracket {t} {u}) = refl
+alike_unless p _ _ _ (brace {t} {u}) = refl
+alike_unless p _ _ _ (after {f} {b} {t} {u} h) = refl
 
-alike_some : (t u : List ℕ) → Alike t u → t ≡ [] → ⊥
-alike_some _ _ (colon {t} {u} x y) e = cc
-alike_some _ _ (after {b} {t} {u} h) e = cc
+pub alike_first : (k : ℕ) (f : Bool) (t u : List ℕ) → Alike f t u → first_is k t ≡ first_is k u
+alike_first k _ _ _ (colon {t} {u} x y) = refl
+alike_first k _ _ _ (dash {t} {u} x y) = refl
+alike_first k _ _ _ (bracket {t} {u}) = refl
+alike_first k _ _ _ (brace {t} {u}) = refl
+alike_first k _ _ _ (after {f} {b} {t} {u} h) = refl
 
-alike_break : (t u : List ℕ) → Alike t u → is_break t ≡ is_break u
-alike_break _ _ (colon {t} {u} x y) = refl
-alike_break _ _ (after {b} {t} {u} h) = rw (alike_front is_feed t u h) refl
+pub alike_empty : (f : Bool) (t u : List ℕ) → Alike f t u → is_empty t ≡ is_empty u
+alike_empty _ _ _ (colon {t} {u} x y) = refl
+alike_empty _ _ _ (dash {t} {u} x y) = refl
+alike_empty _ _ _ (bracket {t} {u}) = refl
+alike_empty _ _ _ (brace {t} {u}) = refl
+alike_empty _ _ _ (after {f} {b} {t} {u} h) = refl
 
-alike_space : (t u : List ℕ) → Alike t u → is_space t ≡ is_space u
-alike_space t u h = rw (alike_front is_white t u h, alike_break t u h) refl
+pub alike_some : (f : Bool) (t u : List ℕ) → Alike f t u → t ≡ [] → ⊥
+alike_some _ _ _ (colon {t} {u} x y) e = cc
+alike_some _ _ _ (dash {t} {u} x y) e = cc
+alike_some _ _ _ (bracket {t} {u}) e = cc
+alike_some _ _ _ (brace {t} {u}) e = cc
+alike_some _ _ _ (after {f} {b} {t} {u} h) e = cc
 
-alike_separates : (t u : List ℕ) → Alike t u → separates t ≡ separates u
-alike_separates _ _ (colon {t} {u} x y) = refl
-alike_separates _ _ (after {b} {t} {u} h) = alike_space (b ∷ t) (b ∷ u) (after h)
+pub alike_break : (f : Bool) (t u : List ℕ) → Alike f t u → is_break t ≡ is_break u
+alike_break _ _ _ (colon {t} {u} x y) = refl
+alike_break _ _ _ (dash {t} {u} x y) = refl
+alike_break _ _ _ (bracket {t} {u}) = refl
+alike_break _ _ _ (brace {t} {u}) = refl
+alike_break _ _ _ (after {f} {b} {t} {u} h) = rw (alike_front is_feed f t u h) refl
 
-alike_safe : (t u : List ℕ) → Alike t u → is_safe false t ≡ is_safe false u
-alike_safe t u h = rw (alike_separates t u h) refl
+pub alike_space : (f : Bool) (t u : List ℕ) → Alike f t u → is_space t ≡ is_space u
+alike_space f t u h = rw (alike_front is_white f t u h, alike_break f t u h) refl
 
-first_no_marker : (t : List ℕ) → is_marker (58 ∷ t) ≡ false
-first_no_marker [] = refl
-first_no_marker (x ∷ []) = refl
-first_no_marker (x ∷ (y ∷ t)) = refl
+pub alike_separates : (f : Bool) (t u : List ℕ) → Alike f t u → separates t ≡ separates u
+alike_separates _ _ _ (colon {t} {u} x y) = refl
+alike_separates _ _ _ (dash {t} {u} x y) = refl
+alike_separates _ _ _ (bracket {t} {u}) = refl
+alike_separates _ _ _ (brace {t} {u}) = refl
+alike_separates _ _ _ (after {f} {b} {t} {u} h) = alike_space f (b ∷ t) (b ∷ u) (after h)
 
-second_no_marker : (b : ℕ) (t : List ℕ) → is_marker (b ∷ (58 ∷ t)) ≡ false
-second_no_marker b [] = refl
-second_no_marker b (y ∷ t) = simp and-false refl
+alike_safe : (f : Bool) (t u : List ℕ) → Alike f t u → is_safe f t ≡ is_safe f u
+alike_safe f t u h = rw (alike_separates f t u h, alike_front is_flow_indicator f t u h) refl
 
-third_no_marker : (a b : ℕ) (t : List ℕ) → is_marker (a ∷ (b ∷ (58 ∷ t))) ≡ false
-third_no_marker a b t = simp and-false refl
+-- markers
+no_first : (b : ℕ) (t : List ℕ) → eqb b 45 ≡ false → eqb b 46 ≡ false → is_marker (b ∷ t) ≡ false
+no_first b [] x y = refl
+no_first b (c ∷ []) x y = refl
+no_first b (c ∷ (d ∷ t)) x y = rw (x, y) refl
 
-alike_marker : (t u : List ℕ) → Alike t u → is_marker t ≡ is_marker u
-alike_marker _ _ (colon {t} {u} x y) = first_no_marker t ∙ sym (first_no_marker u)
-alike_marker _ _ (after {b = b} (colon {t} {u} x y)) = second_no_marker b t ∙ sym (second_no_marker b u)
-alike_marker _ _ (after {b = a} (after {b = b} (colon {t} {u} x y))) = third_no_marker a b t ∙ sym (third_no_marker a b u)
-alike_marker _ _ (after {b = a} (after {b = b} (after {b = c} {t = t} {u = u} h))) = rw (alike_separates t u h) refl
+no_second : (a b : ℕ) (t : List ℕ) → eqb b 45 ≡ false → eqb b 46 ≡ false → is_marker (a ∷ (b ∷ t)) ≡ false
+no_second a b [] x y = refl
+no_second a b (d ∷ t) x y = rw (x, y) (simp and-false refl)
 
-alike_spaces : (t u : List ℕ) → Alike t u → prefix_len (λ b. eqb b 32) t ≡ prefix_len (λ b. eqb b 32) u
-alike_spaces _ _ (colon {t} {u} x y) = refl
-alike_spaces _ _ (after {b} {t} {u} h) = rw (alike_spaces t u h) refl
+no_third : (a b c : ℕ) (t : List ℕ) → eqb c 45 ≡ false → eqb c 46 ≡ false → is_marker (a ∷ (b ∷ (c ∷ t))) ≡ false
+no_third a b c t x y = rw (x, y) (simp and-false refl)
 
-alike_text : (t u : List ℕ) → Alike t u → ends_text false t ≡ ends_text false u
-alike_text _ _ (colon {t} {u} x y) = rw (x, y) refl
-alike_text _ _ (after {b} {t} {u} h) = rw (alike_safe t u h) refl
+dash_first : (t : List ℕ) → separates t ≡ true → is_marker (45 ∷ t) ≡ false
+dash_first [] h = refl
+dash_first (b ∷ []) h = refl
+dash_first (b ∷ (c ∷ t)) h = rw (at_byte (λ x. separates (x ∷ (c ∷ t))) b 45 h refl) refl
 
-alike_begins : (t u : List ℕ) → Alike t u → begins_plain false t ≡ begins_plain false u
-alike_begins _ _ (colon {t} {u} x y) = rw (x, y) refl
-alike_begins _ _ (after {b} {t} {u} h) = rw (alike_space (b ∷ t) (b ∷ u) (after h), alike_safe t u h) refl
+dash_second : (a : ℕ) (t : List ℕ) → separates t ≡ true → is_marker (a ∷ (45 ∷ t)) ≡ false
+dash_second a [] h = refl
+dash_second a (c ∷ t) h = rw (at_byte (λ x. separates (x ∷ t)) c 45 h refl) (simp and-false refl)
 
-alike_deep : (spaces : Option ℕ) (t u : List ℕ) → Alike t u → begins_deep spaces t ≡ begins_deep spaces u
-alike_deep None t u h = refl
-alike_deep (Some n) t u h = rw (alike_spaces t u h, alike_marker t u h) refl
+pub alike_marker : (f : Bool) (t u : List ℕ) → Alike f t u → is_marker t ≡ is_marker u
+alike_marker _ _ _ (colon {t} {u} x y) = no_first 58 t refl refl ∙ sym (no_first 58 u refl refl)
+alike_marker _ _ _ (dash {t} {u} x y) = dash_first t x ∙ sym (dash_first u y)
+alike_marker _ _ _ (bracket {t} {u}) = no_first 93 t refl refl ∙ sym (no_first 93 u refl refl)
+alike_marker _ _ _ (brace {t} {u}) = no_first 125 t refl refl ∙ sym (no_first 125 u refl refl)
+alike_marker _ _ _ (after {b = a} (colon {t} {u} x y)) = no_second a 58 t refl refl ∙ sym (no_second a 58 u refl refl)
+alike_marker _ _ _ (after {b = a} (dash {t} {u} x y)) = dash_second a t x ∙ sym (dash_second a u y)
+alike_marker _ _ _ (after {b = a} (bracket {t} {u})) = no_second a 93 t refl refl ∙ sym (no_second a 93 u refl refl)
+alike_marker _ _ _ (after {b = a} (brace {t} {u})) = no_second a 125 t refl refl ∙ sym (no_second a 125 u refl refl)
+alike_marker _ _ _ (after {b = a} (after {b = b} (colon {t} {u} x y))) = no_third a b 58 t refl refl ∙ sym (no_third a b 58 u refl refl)
+alike_marker _ _ _ (after {b = a} (after {b = b} (dash {t} {u} x y))) = rw (x, y) refl
+alike_marker _ _ _ (after {b = a} (after {b = b} (bracket {t} {u}))) = no_third a b 93 t refl refl ∙ sym (no_third a b 93 u refl refl)
+alike_marker _ _ _ (after {b = a} (after {b = b} (brace {t} {u}))) = no_third a b 125 t refl refl ∙ sym (no_third a b 125 u refl refl)
+alike_marker _ _ _ (after {b = a} (after {b = b} (after {f = f} {b = c} {t = t} {u = u} h))) = rw (alike_separates f t u h) refl
 
-alike_may : (spaces : Option ℕ) (line : Option (List ℕ)) (t u : List ℕ) → Alike t u → may_follow spaces line t ≡ may_follow spaces line u
-alike_may spaces None t u h = refl
-alike_may spaces (Some p) t u h = alike_deep spaces (p ++ t) (p ++ u) (alike_append p t u h)
+pub alike_spaces : (f : Bool) (t u : List ℕ) → Alike f t u → prefix_len (λ b. eqb b 32) t ≡ prefix_len (λ b. eqb b 32) u
+alike_spaces _ _ _ (colon {t} {u} x y) = refl
+alike_spaces _ _ _ (dash {t} {u} x y) = refl
+alike_spaces _ _ _ (bracket {t} {u}) = refl
+alike_spaces _ _ _ (brace {t} {u}) = refl
+alike_spaces _ _ _ (after {f} {b} {t} {u} h) = rw (alike_spaces f t u h) refl
 
-alike_follows : (spaces : Option ℕ) (gap t u : List ℕ) → Alike t u → follows false spaces gap t ≡ follows false spaces gap u
-alike_follows spaces gap t u h = rw (alike_empty t u h, alike_front (λ b. eqb b 35) t u h, alike_text t u h, alike_may spaces (last_line gap) t u h) refl
+-- where plain scalars begin and end
+alike_text : (f : Bool) (t u : List ℕ) → Alike f t u → ends_text f t ≡ ends_text f u
+alike_text _ _ _ (colon {t} {u} x y) = rw (x, y) refl
+alike_text _ _ _ (dash {t} {u} x y) = refl
+alike_text _ _ _ (bracket {t} {u}) = refl
+alike_text _ _ _ (brace {t} {u}) = refl
+alike_text _ _ _ (after {f} {b} {t} {u} h) = rw (alike_safe f t u h) refl
+
+alike_begins : (f : Bool) (t u : List ℕ) → Alike f t u → begins_plain f t ≡ begins_plain f u
+alike_begins _ _ _ (colon {t} {u} x y) = rw (x, y) refl
+alike_begins _ _ _ (dash {t} {u} x y) = rw (x, y) refl
+alike_begins _ _ _ (bracket {t} {u}) = refl
+alike_begins _ _ _ (brace {t} {u}) = refl
+alike_begins _ _ _ (after {f} {b} {t} {u} h) = rw (alike_space f (b ∷ t) (b ∷ u) (after h), alike_safe f t u h) refl
+
+alike_deep : (spaces : Option ℕ) (f : Bool) (t u : List ℕ) → Alike f t u → begins_deep spaces t ≡ begins_deep spaces u
+alike_deep None f t u h = refl
+alike_deep (Some n) f t u h = rw (alike_spaces f t u h, alike_marker f t u h) refl
+
+alike_may : (spaces : Option ℕ) (line : Option (List ℕ)) (f : Bool) (t u : List ℕ) → Alike f t u → may_follow spaces line t ≡ may_follow spaces line u
+alike_may spaces None f t u h = refl
+alike_may spaces (Some p) f t u h = alike_deep spaces f (p ++ t) (p ++ u) (alike_append f p t u h)
+
+alike_follows : (spaces : Option ℕ) (gap : List ℕ) (f : Bool) (t u : List ℕ) → Alike f t u → follows f spaces gap t ≡ follows f spaces gap u
+alike_follows spaces gap f t u h = rw (alike_empty f t u h, alike_front (λ b. eqb b 35) f t u h, alike_text f t u h, alike_may spaces (last_line gap) f t u h) refl
 
 -- the white space and breaks in front are the same, and what follows is alike
-abbrev SameGap : List ℕ × List ℕ → List ℕ × List ℕ → Type 0
-SameGap a b = (a.0 ≡ b.0) × Alike a.1 b.1
+abbrev SameGap : Bool → List ℕ × List ℕ → List ℕ × List ℕ → Type 0
+SameGap f a b = (a.0 ≡ b.0) × Alike f a.1 b.1
 
-alike_cut : (t u : List ℕ) → Alike t u → SameGap (cut no_gap t) (cut no_gap u)
+alike_cut : (f : Bool) (t u : List ℕ) → Alike f t u → SameGap f (cut no_gap t) (cut no_gap u)
 unfolding upto
-alike_cut _ _ (colon {t} {u} x y) = (refl, colon x y)
-alike_cut _ _ (after {b} {t} {u} h) =
-    let again = alike_cut t u h in
-    let same = alike_space (b ∷ t) (b ∷ u) (after h) in
+alike_cut _ _ _ (colon {t} {u} x y) = (refl, colon x y)
+alike_cut _ _ _ (dash {t} {u} x y) = (refl, dash x y)
+alike_cut _ _ _ (bracket {t} {u}) = (refl, bracket)
+alike_cut _ _ _ (brace {t} {u}) = (refl, brace)
+alike_cut _ _ _ (after {f} {b} {t} {u} h) =
+    let again = alike_cut f t u h in
+    let same = alike_space f (b ∷ t) (b ∷ u) (after h) in
     elim (is_true (is_space (b ∷ t))) [
-      | inl e ↦ (let f : is_space (b ∷ u) ≡ true = sym same ∙ e in rw (e, f) (ap (λ l. b ∷ l) again.0, again.1))
-      | inr e ↦ (let f : is_space (b ∷ u) ≡ false = sym same ∙ e in rw (e, f) (refl, after h))
+      | inl e ↦ (let g : is_space (b ∷ u) ≡ true = sym same ∙ e in rw (e, g) (ap (λ l. b ∷ l) again.0, again.1))
+      | inr e ↦ (let g : is_space (b ∷ u) ≡ false = sym same ∙ e in rw (e, g) (refl, after h))
     ]
 
-alike_ends : (spaces : Option ℕ) (t u : List ℕ) → Alike t u → ends_plain false spaces t ≡ ends_plain false spaces u
-alike_ends spaces t u h =
-    let c = alike_cut t u h in
-    let on : follows false spaces (cut no_gap t).0 (cut no_gap t).1 ≡ follows false spaces (cut no_gap u).0 (cut no_gap u).1 =
-    rw c.0 (alike_follows spaces (cut no_gap u).0 (cut no_gap t).1 (cut no_gap u).1 c.1) in
-    rw (alike_space t u h, on, alike_empty t u h, alike_text t u h) refl
+alike_ends : (spaces : Option ℕ) (f : Bool) (t u : List ℕ) → Alike f t u → ends_plain f spaces t ≡ ends_plain f spaces u
+alike_ends spaces f t u h =
+    let c = alike_cut f t u h in
+    let on : follows f spaces (cut no_gap t).0 (cut no_gap t).1 ≡ follows f spaces (cut no_gap u).0 (cut no_gap u).1 =
+    rw c.0 (alike_follows spaces (cut no_gap u).0 f (cut no_gap t).1 (cut no_gap u).1 c.1) in
+    rw (alike_space f t u h, on, alike_empty f t u h, alike_text f t u h) refl
 
-alike_dash : (t u : List ℕ) → Alike t u → is_dash t ≡ is_dash u
-alike_dash _ _ (colon {t} {u} x y) = refl
-alike_dash _ _ (after {b} {t} {u} h) = rw (alike_separates t u h) refl
+pub alike_none : (ends : List ℕ → Bool) (f : Bool) → ((t u : List ℕ) → Alike f t u → ends t ≡ ends u) → (p t u : List ℕ) → Alike f t u → NoneIn ends p t → NoneIn ends p u
+alike_none ends f same [] t u h n = tt
+alike_none ends f same (b ∷ p) t u h n = (sym (same (b ∷ (p ++ t)) (b ∷ (p ++ u)) (after (alike_append f p t u h))) ∙ n.0, alike_none ends f same p t u h n.1)
 
-alike_none : (ends : List ℕ → Bool) → ((t u : List ℕ) → Alike t u → ends t ≡ ends u) → (p t u : List ℕ) → Alike t u → NoneIn ends p t → NoneIn ends p u
-alike_none ends same [] t u h n = tt
-alike_none ends same (b ∷ p) t u h n = (sym (same (b ∷ (p ++ t)) (b ∷ (p ++ u)) (after (alike_append p t u h))) ∙ n.0, alike_none ends same p t u h n.1)
-
--- each piece before the one text is one before the other
-pub plain_alike : (spaces : Option ℕ) (p t u : List ℕ) → Alike t u → IsPlain false spaces p t → IsPlain false spaces p u
-plain_alike spaces p t u h g = record {
-  begins = sym (alike_begins (p ++ t) (p ++ u) (alike_append p t u h)) ∙ g.begins;
-  inside = alike_none (ends_plain false spaces) (alike_ends spaces) p t u h g.inside;
-  ends = sym (alike_ends spaces t u h) ∙ g.ends;
+-- a plain scalar before the one text is one before the other
+pub plain_alike : (f : Bool) (spaces : Option ℕ) (p t u : List ℕ) → Alike f t u → IsPlain f spaces p t → IsPlain f spaces p u
+plain_alike f spaces p t u h g = record {
+  begins = sym (alike_begins f (p ++ t) (p ++ u) (alike_append f p t u h)) ∙ g.begins;
+  inside = alike_none (ends_plain f spaces) f (alike_ends spaces f) p t u h g.inside;
+  ends = sym (alike_ends spaces f t u h) ∙ g.ends;
 }
 
-break_alike : (p t u : List ℕ) → Alike t u → IsBreak p t → IsBreak p u
-break_alike p t u h g = ⊎_elim {0, 0, 0} (λ e. inl e) (λ e. absurd (alike_some t u h e.1)) g
+-- where nodes begin
+pub alike_content : (f : Bool) (t u : List ℕ) → Alike f t u → begins_content f t ≡ begins_content f u
+alike_content f t u h = rw (alike_first 42 f t u h, alike_first 91 f t u h, alike_first 123 f t u h, alike_front is_quote f t u h, alike_begins f t u h) refl
 
-line_end_alike : (white comment p t u : List ℕ) → Alike t u → IsLineEnd white comment p t → IsLineEnd white comment p u
-line_end_alike white comment p t u h g = record { break = g.break; spelled = g.spelled; blank = g.blank; remark = g.remark; ends = break_alike g.break t u h g.ends }
-
-lines_alike : (lines : List (List ℕ)) (t u : List ℕ) → Alike t u → AreGapLines lines t → AreGapLines lines u
-lines_alike [] t u h g = tt
-lines_alike (l ∷ ls) t u h g = (
-  record { white = g.0.white; comment = g.0.comment; line = line_end_alike g.0.white g.0.comment l (joined ls ++ t) (joined ls ++ u) (alike_append (joined ls) t u h) g.0.line; some = g.0.some },
-  lines_alike ls t u h g.1,
-)
-
-pub gap_alike : (p t u : List ℕ) → Alike t u → IsGap p t → IsGap p u
-gap_alike p t u h g = record { lines = g.lines; spelled = g.spelled; each = lines_alike g.lines t u h g.each }
-
-head_alike : (n : ℕ) (space head t u : List ℕ) → Alike t u → IsHead n space head t → IsHead n space head u
-head_alike n space head t u h g = ⊎_elim {0, 0, 0} (λ e. inl e) (λ e. inr (e.0, plain_alike (Some (suc n)) head t u h e.1)) g
-
-pub built_alike : (column : ℕ) (t u : List ℕ) → Alike t u → is_built_row column t ≡ is_built_row column u
-built_alike column t u h = rw (alike_marker t u h, alike_dash t u h, alike_front (λ b. eqb b 39 || eqb b 34 || eqb b 91 || eqb b 123 || eqb b 38 || eqb b 42 || eqb b 124 || eqb b 62) t u h) refl
-
--- the texts behind the row's pieces
-tail_behind : (r : Row) (t u : List ℕ) → Alike t u → Alike (behind_head r t) (behind_head r u)
-tail_behind r t u h = alike_append r.tail t u h
-
-colon_behind : (r : Row) (t u : List ℕ) → Alike t u → Alike (behind_colon r t) (behind_colon r u)
-colon_behind r t u h = alike_append r.space _ _ (alike_append r.head _ _ (tail_behind r t u h))
-
-pub gap_behind : (r : Row) (t u : List ℕ) → Alike (behind_key r t) (behind_key r u) → Alike (behind_gap r t) (behind_gap r u)
-gap_behind r t u h = alike_append (replicate r.column 32) _ _ (alike_append r.key _ _ h)
-
--- a row before the one text is one before the other
-pub row_alike : (limit : Limit) (r : Row) (t u : List ℕ) → Alike t u → IsRow limit r t → IsRow limit r u
-row_alike limit r t u h g =
-    let tail = tail_behind r t u h in
-    let colon = colon_behind r t u h in
-    let key = alike_append r.colon _ _ colon in
-    let indent : Alike (behind_indent r t) (behind_indent r u) = alike_append r.key _ _ key in
-    record {
-      gap = gap_alike r.gap _ _ (gap_behind r t u key) g.gap;
-      allowed = g.allowed;
-      key = plain_alike None r.key _ _ key g.key;
-      colon = record { white = g.colon.white; spelled = g.colon.spelled; blank = g.colon.blank; separated = sym (alike_separates _ _ colon) ∙ g.colon.separated };
-      near = g.near;
-      head = head_alike (parent_indent r) r.space r.head _ _ tail g.head;
-      tail = record { white = g.tail.white; comment = g.tail.comment; line = line_end_alike g.tail.white g.tail.comment r.tail t u h g.tail.line; apart = g.tail.apart };
-      built = ap (λ b. b && is_built_head r.head) (sym (built_alike r.column _ _ indent)) ∙ g.built;
-    }
+pub alike_node : (f : Bool) (t u : List ℕ) → Alike f t u → begins_node f t ≡ begins_node f u
+alike_node f t u h = rw (alike_first 38 f t u h, alike_content f t u h) refl

@@ -1,179 +1,132 @@
--- A row's head, exchanged for another one.
-use Rattle.std.proofs.Common.{◌≡◌, ℕ, zero, suc, ◌≤◌, true, false, not, ◌&&◌, ◌||◌, List, [], ◌∷◌, ◌++◌, length, Some, None, refl, sym, ap, ◌∙◌, subst, inr, ⊎_elim, append_assoc, replicate}
-use Rattle.std.proofs.lemmas.Bool.{false≢true, not-true}
+-- What stands behind the mark of a row, exchanged for something else.
+use Rattle.std.proofs.Common.{◌≡◌, inl, inr, ℕ, zero, suc, ◌-◌, ◌<◌, ◌≤◌, Bool, true, false, ◌&&◌, ◌||◌, eqb, List, [], ◌∷◌, ◌++◌, length, drop, Some, None, refl, sym, ap, ◌∙◌, subst, arith, append_assoc, replicate}
+use Rattle.std.proofs.Math.Dec.{ltb}
+use Rattle.std.proofs.lemmas.Bool.{false≢true, ltb-true, ltb-false}
 use Rattle.std.specs.List.{slice_get}
-use Rattle.std.specs.Str.{IsUtf8}
 use Rattle.yq_scalar.specs.Characters.{is_text, text_limit}
-use Rattle.yq_scalar.specs.Plain.{begins_plain, ends_plain, IsPlain, holds_break}
-use Rattle.yq_scalar.specs.Text.{separates, is_empty, is_space, is_white, is_break, is_feed, is_return, front, ends_line}
-use Rattle.yq_scalar.proofs.Bools.{and_true, or_false}
-use Rattle.yq_rows.specs.Built.{is_built_row, is_built_head, is_other_node}
-use Rattle.yq_rows.specs.Exchange.{with_head_at, exchange_head, row_front, before_head, behind_head_at}
-use Rattle.yq_rows.specs.Gap.{IsWhite}
-use Rattle.yq_rows.specs.Grammar.{IsTail, IsRow, Limit, limit_after, unlimited, AreRows, IsCut}
-use Rattle.yq_rows.specs.Reading.{is_hash}
-use Rattle.yq_rows.specs.Rows.{Row, with_head, behind_head, behind_colon, behind_key, behind_indent, behind_gap, print_row, rows_text, Cut, cut_text}
-use Rattle.yq_rows.proofs.Alikes.{Alike, colon, alike_append, plain_alike, gap_alike, built_alike, gap_behind, row_alike}
-use Rattle.yq_rows.proofs.CharacterLaws.{text_exchanged}
-use Rattle.yq_rows.proofs.LineEnds.{line_end_behind}
-use Rattle.yq_rows.proofs.PieceLaws.{not_node, front_of, plain_no_other}
+use Rattle.yq_scalar.specs.Text.{separates}
+use Rattle.yq_scalar.proofs.Bools.{is_true}
+use Rattle.yq_rows.specs.Exchange.{with_content, with_content_at, with_content_in, exchange, behind_at, behind_row, rows_behind, allows_first, asked_behind, Fits}
+use Rattle.yq_rows.specs.Grammar.{IsContent, IsMark, is_entry, IsRow, Limit, unlimited, limit_after, AreRows, no_rows, IsPart, begins_document, AreParts, IsCut}
+use Rattle.yq_rows.specs.Rows.{Mark, Bare, Dash, Key, Content, mark_text, content_text, Row, behind_indent, behind_gap, parent_indent, print_row, rows_text, Part, part_text, Cut, last, marked, cut_text}
+use Rattle.yq_rows.specs.View.{rows_of}
+use Rattle.yq_rows.specs.Alike.{Alike, colon, dash}
+use Rattle.yq_rows.proofs.Alikes.{alike_append, alike_marker}
+use Rattle.yq_rows.proofs.AlikePieces.{scalar_alike}
+use Rattle.yq_rows.proofs.AlikeRows.{row_gap_alike, dashes_text_alike, row_text_alike, row_alike, part_alike, part_text_alike, marker_line_alike}
 
--- the head's place
-row_front-append : (r : Row) (rest : List ℕ) → print_row r rest ≡ row_front r ++ (r.head ++ behind_head r rest)
-row_front-append r rest = simp append_assoc refl
+-- a mark before one content and before another one
+colon_seam : (p white t u : List ℕ) → p ≡ white ++ 58 ∷ [] → separates t ≡ true → separates u ≡ true → Alike false (p ++ t) (p ++ u)
+colon_seam p white t u is x y =
+    let group : (z : List ℕ) → p ++ z ≡ white ++ (58 ∷ z) = λ z. rw is (append_assoc white (58 ∷ []) z) in
+    rw (group t, group u) (alike_append false white (58 ∷ t) (58 ∷ u) (colon x y))
 
-print_row-append : (r : Row) (a b : List ℕ) → print_row r (a ++ b) ≡ print_row r a ++ b
-print_row-append r a b = simp append_assoc refl
+mark_seam : (mark : Mark) (c : Content) (rest new : List ℕ) → is_entry mark ≡ true → IsMark mark c rest → separates new ≡ true → Alike false (mark_text mark (content_text c rest)) (mark_text mark new)
+mark_seam Bare c rest new e m s = absurd (false≢true e)
+mark_seam Dash c rest new e m s = dash m s
+mark_seam (Key key sign) c rest new e m s = alike_append false key _ _ (colon_seam sign m.colon_is.white (content_text c rest) new m.colon_is.spelled m.colon_is.separated s)
 
-pub head_place : (rows : List Row) (i : ℕ) (r : Row) (end : List ℕ) → slice_get rows i ≡ Some r → rows_text rows end ≡ before_head i rows ++ (r.head ++ behind_head_at i rows end)
-head_place [] i r end h = cc
-head_place (x ∷ rows) zero r end h =
-    let is : x ≡ r = cc in
-    subst (λ (y : Row). rows_text (x ∷ rows) end ≡ row_front x ++ (y.head ++ behind_head x (rows_text rows end))) is (row_front-append x (rows_text rows end))
-head_place (x ∷ rows) (suc i) r end h =
-    ap (print_row x) (head_place rows i r end h) ∙ print_row-append x (before_head i rows) (r.head ++ behind_head_at i rows end)
-
-pub new_head_place : (rows : List Row) (i : ℕ) (r : Row) (head end : List ℕ) → slice_get rows i ≡ Some r → rows_text (with_head_at i head rows) end ≡ before_head i rows ++ (head ++ behind_head_at i rows end)
-new_head_place [] i r head end h = cc
-new_head_place (x ∷ rows) zero r head end h = row_front-append (with_head head x) (rows_text rows end)
-new_head_place (x ∷ rows) (suc i) r head end h =
-    ap (print_row x) (new_head_place rows i r head end h) ∙ print_row-append x (before_head i rows) (head ++ behind_head_at i rows end)
-
--- a plain scalar doesn't begin where a tail does
-no_plain_front : (w u : List ℕ) → IsWhite w → (ends_line u || is_hash u) ≡ true → begins_plain false (w ++ u) ≡ false
-no_plain_front [] u blank h = (not_node u h).1
-no_plain_front (b ∷ w) u blank h = rw blank.0 refl
-
-tail_no_plain : (tail rest : List ℕ) → IsTail tail rest → begins_plain false (tail ++ rest) ≡ false
-tail_no_plain tail rest h =
-    let u = line_end_behind h.white h.comment tail rest h.line in
-    ap (begins_plain false) u.1 ∙ no_plain_front h.white u.0 h.line.blank u.3
-
-some_head : (head tail rest : List ℕ) → IsTail tail rest → begins_plain false (head ++ (tail ++ rest)) ≡ true → is_empty head ≡ false
-some_head [] tail rest t h = absurd (false≢true (sym (tail_no_plain tail rest t) ∙ h))
-some_head (b ∷ head) tail rest t h = refl
-
--- white space stands before a head
-pub begins_no_space : (t : List ℕ) → begins_plain false t ≡ true → separates t ≡ false
-begins_no_space [] h = absurd (false≢true h)
-begins_no_space (b ∷ bs) h = not-true (is_space (b ∷ bs)) (and_true (not (is_space (b ∷ bs))) _ h).0
-
-space_separates : (space old new : List ℕ) → IsWhite space → separates (space ++ old) ≡ true → begins_plain false old ≡ true → separates (space ++ new) ≡ true
-space_separates [] old new blank h begins = absurd (false≢true (sym (begins_no_space old begins) ∙ h))
-space_separates (b ∷ space) old new blank h begins = rw blank.0 refl
-
--- what stands in the head's place: white space before it, and a plain scalar
-pub record HasHead (r : Row) (rest : List ℕ) : Type 0 where
-  pub blank : IsWhite r.space
-  pub plain : IsPlain false (Some (suc r.column)) r.head (behind_head r rest)
-
-pub has_head : (limit : Limit) (r : Row) (rest : List ℕ) → IsRow limit r rest → is_empty r.head ≡ false → HasHead r rest
-has_head limit r rest h some = ⊎_elim {0, 0, 0}
-    (λ e. absurd (let empty : is_empty r.head ≡ true = rw e.1 refl in false≢true (sym some ∙ empty)))
-    (λ e. record { blank = e.0; plain = e.1 })
-    h.head
-
--- the row, up to its head
-head_alikes : (limit : Limit) (r : Row) (head rest : List ℕ) → IsRow limit r rest → HasHead r rest → Alike (behind_key r rest) (behind_key (with_head head r) rest)
-head_alikes limit r head rest h g =
-    let new : List ℕ = head ++ behind_head r rest in
-    let sep : separates (r.space ++ new) ≡ true = space_separates r.space (r.head ++ behind_head r rest) new g.blank h.colon.separated g.plain.begins in
-    let both : Alike (h.colon.white ++ (58 ∷ behind_colon r rest)) (h.colon.white ++ (58 ∷ (r.space ++ new))) = alike_append h.colon.white _ _ (colon h.colon.separated sep) in
-    let group : (x : List ℕ) → r.colon ++ x ≡ h.colon.white ++ (58 ∷ x) = λ x. rw h.colon.spelled (append_assoc h.colon.white (58 ∷ []) x) in
-    rw (group (behind_colon r rest), group (r.space ++ new)) both
+mark_kept : (mark : Mark) (c new : Content) (rest : List ℕ) → is_entry mark ≡ true → IsMark mark c rest → separates (content_text new rest) ≡ true → IsMark mark new rest
+mark_kept Bare c new rest e m s = absurd (false≢true e)
+mark_kept Dash c new rest e m s = s
+mark_kept (Key key sign) c new rest e m s =
+    let seam = colon_seam sign m.colon_is.white (content_text c rest) (content_text new rest) m.colon_is.spelled m.colon_is.separated s in
+    record {
+      scalar = scalar_alike false None key (sign ++ content_text c rest) (sign ++ content_text new rest) seam m.scalar;
+      colon_is = record { white = m.colon_is.white; spelled = m.colon_is.spelled; blank = m.colon_is.blank; separated = s };
+      near = m.near;
+    }
 
 -- one row, and how its text begins
-one_row : (limit : Limit) (r : Row) (head rest : List ℕ) → IsRow limit r rest → is_empty r.head ≡ false → IsPlain false (Some (suc r.column)) head (behind_head r rest) → holds_break head ≡ false →
-    IsRow limit (with_head head r) rest × Alike (print_row r rest) (print_row (with_head head r) rest) × (limit_after (with_head head r) ≡ limit_after r)
-one_row limit r head rest h some plain one =
-    let g = has_head limit r rest h some in
-    let new : Row = with_head head r in
-    let key : Alike (behind_key r rest) (behind_key new rest) = head_alikes limit r head rest h g in
-    let indent : Alike (behind_indent r rest) (behind_indent new rest) = alike_append r.key _ _ key in
-    let gap : Alike (behind_gap r rest) (behind_gap new rest) = alike_append (replicate r.column 32) _ _ indent in
-    let begins : is_other_node head ≡ false = front_of head (behind_head r rest) (plain_no_other (head ++ behind_head r rest) plain.begins) in
-    let built = and_true (is_built_row r.column (behind_indent r rest)) (is_built_head r.head) h.built in
-    let row : is_built_row r.column (behind_indent new rest) ≡ true = sym (built_alike r.column _ _ indent) ∙ built.0 in
-    let sep : separates (behind_colon new rest) ≡ true = space_separates r.space (r.head ++ behind_head r rest) (head ++ behind_head r rest) g.blank h.colon.separated g.plain.begins in
-    let full : is_empty head ≡ false = some_head head r.tail rest h.tail plain.begins in (
+pub one_row : (limit : Limit) (r : Row) (new : Content) (rest : List ℕ) → IsRow limit r rest → is_entry r.mark ≡ true → IsContent (parent_indent r) new rest → separates (content_text new rest) ≡ true →
+    IsRow limit (with_content new r) rest × Alike false (print_row r rest) (print_row (with_content new r) rest)
+one_row limit r new rest h entry c s =
+    let indent : Alike false (behind_indent r rest) (behind_indent (with_content new r) rest) = dashes_text_alike r.dashes _ _ (mark_seam r.mark r.content rest (content_text new rest) entry h.mark s) in
+    let gap : Alike false (behind_gap r rest) (behind_gap (with_content new r) rest) = alike_append false (replicate r.column 32) _ _ indent in (
       record {
-        gap = gap_alike r.gap _ _ gap h.gap;
+        gap = row_gap_alike r.gap (behind_gap r rest) (behind_gap (with_content new r) rest) gap h.gap;
         allowed = h.allowed;
-        key = plain_alike None r.key _ _ key h.key;
-        colon = record { white = h.colon.white; spelled = h.colon.spelled; blank = h.colon.blank; separated = sep };
-        near = h.near;
-        head = inr (g.blank, plain);
-        tail = h.tail;
-        built = rw (row, begins, one) refl;
+        unmarked = ap (λ b. eqb r.column 0 && b) (sym (alike_marker false (behind_indent r rest) (behind_indent (with_content new r) rest) indent)) ∙ h.unmarked;
+        dashes = h.dashes;
+        mark = mark_kept r.mark r.content new rest entry h.mark s;
+        content = c;
       },
-      alike_append r.gap _ _ gap,
-      rw (full, some) refl,
+      alike_append false r.gap _ _ gap,
     )
 
--- What is asked of the head that stands in row i's place.
-pub record FitsHead (i : ℕ) (rows : List Row) (end head : List ℕ) : Type 0 where
-  pub row : Row
-  pub is : slice_get rows i ≡ Some row
-  pub some : is_empty row.head ≡ false
-  pub plain : IsPlain false (Some (suc row.column)) head (behind_head_at i rows end)
-  pub one : holds_break head ≡ false
+-- another limit before rows
+relimit : (limit other : Limit) (rs : List Row) (end rest : List ℕ) → allows_first other rs ≡ true → AreRows limit rs end rest → AreRows other rs end rest
+relimit limit other [] end rest a h = h
+relimit limit other (r ∷ rs) end rest a h = (record { gap = h.0.gap; allowed = a; unmarked = h.0.unmarked; dashes = h.0.dashes; mark = h.0.mark; content = h.0.content }, h.1)
 
-pub rows_exchanged : (i : ℕ) (rows : List Row) (limit : Limit) (end head : List ℕ) → AreRows limit rows end → FitsHead i rows end head →
-    AreRows limit (with_head_at i head rows) end × Alike (rows_text rows end) (rows_text (with_head_at i head rows) end)
-rows_exchanged i [] limit end head h f = let e = f.is in cc
-rows_exchanged zero (r ∷ rows) limit end head h f =
-    let is : r ≡ f.row = let e = f.is in cc in
-    let some : is_empty r.head ≡ false = subst (λ (x : Row). is_empty x.head ≡ false) (sym is) f.some in
-    let plain : IsPlain false (Some (suc r.column)) head (behind_head r (rows_text rows end)) = subst (λ (x : Row). IsPlain false (Some (suc x.column)) head (behind_head r (rows_text rows end))) (sym is) f.plain in
-    let one = one_row limit r head (rows_text rows end) h.0 some plain f.one in
-    ((one.0, subst (λ (l : Limit). AreRows l rows end) (sym one.2) h.1), one.1)
-rows_exchanged (suc i) (r ∷ rows) limit end head h f =
-    let again = rows_exchanged i rows (limit_after r) end head h.1 (record { row = f.row; is = f.is; some = f.some; plain = f.plain; one = f.one }) in (
-      (row_alike limit r (rows_text rows end) (rows_text (with_head_at i head rows) end) again.1 h.0, again.0),
-      alike_append r.gap _ _ (gap_behind r _ _ (alike_append r.colon _ _ (alike_append r.space _ _ (alike_append r.head _ _ (alike_append r.tail _ _ again.1))))),
-    )
+-- rows before other rows: what neighbours ask of each other is the limit behind and how the text in front begins
+pub chain : (front rows new : List Row) (limit : Limit) (end rest other_end other : List ℕ) → AreRows limit (front ++ rows) end rest → AreRows (asked_behind limit front) new other_end other → Alike false (rows_text rows (end ++ rest)) (rows_text new (other_end ++ other)) → AreRows limit (front ++ new) other_end other × Alike false (rows_text (front ++ rows) (end ++ rest)) (rows_text (front ++ new) (other_end ++ other))
+chain [] rows new limit end rest other_end other h n a = (n, a)
+chain (r ∷ front) rows new limit end rest other_end other h n a =
+    let again = chain front rows new (limit_after r) end rest other_end other h.1 n a in
+    let t = rows_text (front ++ rows) (end ++ rest) in
+    let u = rows_text (front ++ new) (other_end ++ other) in
+    ((row_alike limit r t u again.1 h.0, again.0), row_text_alike r t u again.1)
 
-pub cut_exchanged : (t : List ℕ) (c : Cut) (i : ℕ) (r : Row) (head : List ℕ) → IsCut t c → slice_get c.rows i ≡ Some r → is_empty r.head ≡ false →
-    IsPlain false (Some (suc r.column)) head (behind_head_at i c.rows c.end) → holds_break head ≡ false →
-    is_text (cut_text (exchange_head i head c)) ≡ true → length (cut_text (exchange_head i head c)) ≤ text_limit →
-    IsCut (cut_text (exchange_head i head c)) (exchange_head i head c)
-cut_exchanged t c i r head h is some plain one characters size = record {
-  text = refl;
-  rows = (rows_exchanged i c.rows unlimited c.end head h.rows (record { row = r; is = is; some = some; plain = plain; one = one })).0;
-  characters = characters;
-  size = size;
-}
-
--- a plain scalar ends where the old head did
-ends_at : (rows : List Row) (i : ℕ) (limit : Limit) (r : Row) (end : List ℕ) → AreRows limit rows end → slice_get rows i ≡ Some r → is_empty r.head ≡ false → ends_plain false (Some (suc r.column)) (behind_head_at i rows end) ≡ true
-ends_at [] i limit r end h is some = cc
-ends_at (x ∷ rows) zero limit r end h is some =
+rows_exchanged : (i : ℕ) (rows : List Row) (limit : Limit) (end rest : List ℕ) (new : Content) (r : Row) → AreRows limit rows end rest → slice_get rows i ≡ Some r → Fits new r (behind_at i rows (end ++ rest)) (drop (suc i) rows) →
+    AreRows limit (with_content_at i new rows) end rest × Alike false (rows_text rows (end ++ rest)) (rows_text (with_content_at i new rows) (end ++ rest))
+rows_exchanged i [] limit end rest new r h is f = cc
+rows_exchanged zero (x ∷ rows) limit end rest new r h is f =
     let same : x ≡ r = cc in
-    let full : is_empty x.head ≡ false = subst (λ (y : Row). is_empty y.head ≡ false) (sym same) some in
-    subst (λ (y : Row). ends_plain false (Some (suc y.column)) (behind_head x (rows_text rows end)) ≡ true) same (has_head limit x (rows_text rows end) h.0 full).plain.ends
-ends_at (x ∷ rows) (suc i) limit r end h is some = ends_at rows i (limit_after x) r end h.1 is some
+    let g : Fits new x (rows_text rows (end ++ rest)) rows = subst (λ (y : Row). Fits new y (rows_text rows (end ++ rest)) rows) (sym same) f in
+    let one = one_row limit x new (rows_text rows (end ++ rest)) h.0 g.entry g.content g.apart in
+    ((one.0, relimit (limit_after x) (limit_after (with_content new x)) rows end rest g.next h.1), one.1)
+rows_exchanged (suc i) (x ∷ rows) limit end rest new r h is f =
+    let again = rows_exchanged i rows (limit_after x) end rest new r h.1 is f in
+    let t = rows_text rows (end ++ rest) in
+    let u = rows_text (with_content_at i new rows) (end ++ rest) in
+    ((row_alike limit x t u again.1 h.0, again.0), row_text_alike x t u again.1)
 
-pub head_ends : (t : List ℕ) (c : Cut) (i : ℕ) (r : Row) → IsCut t c → slice_get c.rows i ≡ Some r → is_empty r.head ≡ false → ends_plain false (Some (suc r.column)) (behind_head_at i c.rows c.end) ≡ true
-head_ends t c i r h is some = ends_at c.rows i unlimited r c.end h.rows is some
+-- row i, counted through all parts
+pub slice_front : (a b : List Row) (i : ℕ) (r : Row) → i < length a → slice_get (a ++ b) i ≡ Some r → slice_get a i ≡ Some r
+slice_front [] b i r less h = absurd (omega arith)
+slice_front (x ∷ a) b zero r less h = h
+slice_front (x ∷ a) b (suc i) r less h = slice_front a b i r (omega arith) h
 
--- the characters of the new text
-begins_no_feed : (t : List ℕ) → begins_plain false t ≡ true → front is_feed t ≡ false
-begins_no_feed [] h = refl
-begins_no_feed (b ∷ bs) h =
-    let space = or_false (is_white b) (is_break (b ∷ bs)) (not-true (is_space (b ∷ bs)) (and_true (not (is_space (b ∷ bs))) _ h).0) in
-    (or_false (is_feed b) (is_return b && front is_feed bs) space.1).0
+pub slice_back : (a b : List Row) (i : ℕ) (r : Row) → length a ≤ i → slice_get (a ++ b) i ≡ Some r → slice_get b (i - length a) ≡ Some r
+slice_back [] b i r more h = let e : i - 0 ≡ i = omega arith in rw e h
+slice_back (x ∷ a) b zero r more h = absurd (omega arith)
+slice_back (x ∷ a) b (suc i) r more h = let e : suc i - suc (length a) ≡ i - length a = omega arith in rw e (slice_back a b i r (omega arith) h)
 
-begins_at : (rows : List Row) (i : ℕ) (limit : Limit) (r : Row) (end : List ℕ) → AreRows limit rows end → slice_get rows i ≡ Some r → is_empty r.head ≡ false → begins_plain false (r.head ++ behind_head_at i rows end) ≡ true
-begins_at [] i limit r end h is some = cc
-begins_at (x ∷ rows) zero limit r end h is some =
-    let same : x ≡ r = cc in
-    let full : is_empty x.head ≡ false = subst (λ (y : Row). is_empty y.head ≡ false) (sym same) some in
-    subst (λ (y : Row). begins_plain false (y.head ++ behind_head x (rows_text rows end)) ≡ true) same (has_head limit x (rows_text rows end) h.0 full).plain.begins
-begins_at (x ∷ rows) (suc i) limit r end h is some = begins_at rows i (limit_after x) r end h.1 is some
+rows_left : (i : ℕ) (new : Content) (rows : List Row) → no_rows (with_content_at i new rows) ≡ no_rows rows
+rows_left i new [] = refl
+rows_left zero new (r ∷ rows) = refl
+rows_left (suc i) new (r ∷ rows) = refl
 
-pub head_text : (t : List ℕ) (c : Cut) (i : ℕ) (r : Row) (head : List ℕ) → IsCut t c → slice_get c.rows i ≡ Some r → is_empty r.head ≡ false →
-    IsUtf8 (before_head i c.rows) → IsUtf8 r.head → IsUtf8 head → is_text head ≡ true → is_text (cut_text (exchange_head i head c)) ≡ true
-head_text t c i r head h is some u v w new =
-    let whole : is_text (before_head i c.rows ++ (r.head ++ behind_head_at i c.rows c.end)) ≡ true = rw (← head_place c.rows i r c.end is, ← h.text) h.characters in
-    rw (new_head_place c.rows i r head c.end is)
-    (text_exchanged (before_head i c.rows) r.head head (behind_head_at i c.rows c.end) u v w (begins_no_feed (r.head ++ behind_head_at i c.rows c.end) (begins_at c.rows i unlimited r c.end h.rows is some)) whole new)
+abbrev PartExchanged : Bool → ℕ → Content → Part → List ℕ → Type 0
+PartExchanged started i new p rest = IsPart started (with_content_in i new p) rest × Alike false (part_text p rest) (part_text (with_content_in i new p) rest)
+
+part_exchanged : (started : Bool) (i : ℕ) (new : Content) (p : Part) (rest : List ℕ) (r : Row) → IsPart started p rest → slice_get p.rows i ≡ Some r → Fits new r (behind_at i p.rows (p.end ++ rest)) (drop (suc i) p.rows) → PartExchanged started i new p rest
+part_exchanged started i new p rest r h is f =
+    let rows = rows_exchanged i p.rows unlimited p.end rest new r h.rows is f in
+    (record { rows = rows.0; inside = ap (λ b. started || b) (rows_left i new p.rows) ∙ h.inside }, rows.1)
+
+abbrev pub CutExchanged : Bool → Cut → Cut → Type 0
+CutExchanged started c d = AreParts started d × Alike false (cut_text c) (cut_text d)
+
+marked_behind : (started : Bool) (p : Part) (marker : List ℕ) (c d : Cut) → AreParts started (marked p marker c) → CutExchanged (begins_document marker) c d → CutExchanged started (marked p marker c) (marked p marker d)
+marked_behind started p marker c d h more =
+    let text = alike_append false marker (cut_text c) (cut_text d) more.1 in
+    ((part_alike started p (marker ++ cut_text c) (marker ++ cut_text d) text h.0, marker_line_alike marker (cut_text c) (cut_text d) more.1 h.1, more.0), part_text_alike p (marker ++ cut_text c) (marker ++ cut_text d) text)
+
+pub parts_exchanged : (c : Cut) (i : ℕ) (started : Bool) (new : Content) (r : Row) → AreParts started c → slice_get (rows_of c) i ≡ Some r → Fits new r (behind_row i c) (rows_behind i c) → CutExchanged started c (exchange i new c)
+parts_exchanged (last p) i started new r h is f = part_exchanged started i new p [] r h is f
+parts_exchanged (marked p marker c) i started new r h is f = elim (is_true (ltb i (length p.rows))) [
+  | inl e ↦ (
+      let g : Fits new r (behind_at i p.rows (p.end ++ (marker ++ cut_text c))) (drop (suc i) p.rows) = rw e at f in
+      let part = part_exchanged started i new p (marker ++ cut_text c) r h.0 (slice_front p.rows (rows_of c) i r (ltb-true i (length p.rows) e) is) g in
+      rw e ((part.0, h.1, h.2), part.1))
+  | inr e ↦ (
+      let g : Fits new r (behind_row (i - length p.rows) c) (rows_behind (i - length p.rows) c) = rw e at f in
+      let more = parts_exchanged c (i - length p.rows) (begins_document marker) new r h.2 (slice_back p.rows (rows_of c) i r (ltb-false i (length p.rows) e) is) g in
+      rw e (marked_behind started p marker c (exchange (i - length p.rows) new c) h more))
+]
+
+pub content_exchanged : (t : List ℕ) (c : Cut) (i : ℕ) (r : Row) (new : Content) → IsCut t c → slice_get (rows_of c) i ≡ Some r → Fits new r (behind_row i c) (rows_behind i c) →
+    is_text (cut_text (exchange i new c)) ≡ true → length (cut_text (exchange i new c)) ≤ text_limit → IsCut (cut_text (exchange i new c)) (exchange i new c)
+content_exchanged t c i r new h is f characters size = record { text = refl; parts = (parts_exchanged c i true new r h.parts is f).0; characters = characters; size = size }

@@ -1,123 +1,136 @@
 -- A row, read and spelled.
-use Rattle.std.proofs.Common.{◌≡◌, ℕ, zero, suc, true, false, cond, not, ◌&&◌, eqb, List, [], ◌∷◌, ◌++◌, length, take, Some, None, refl, sym, ap, ◌∙◌, subst, eqb-true, replicate}
-use Rattle.std.proofs.Math.Bool.{and-false}
-use Rattle.std.proofs.lemmas.Bool.{cond_both, not-false}
-use Rattle.std.proofs.lemmas.List.{take-append-drop, length-replicate}
-use Rattle.yq_scalar.specs.Plain.{begins_plain}
-use Rattle.yq_scalar.specs.Text.{upto, cut, NoneIn, no_space, past_white}
-use Rattle.yq_scalar.proofs.Bools.{and_true, guard_then, bind_some}
-use Rattle.yq_scalar.proofs.Upto.{cut-append}
-use Rattle.yq_rows.specs.Built.{is_built_row, is_built_head}
-use Rattle.yq_rows.specs.Gap.{IsWhite, IsGap}
-use Rattle.yq_rows.specs.Grammar.{IsRow, IsColon, IsHead, IsTail, Limit, allows}
-use Rattle.yq_rows.specs.Reading.{is_gap_line, key_at, head_at, tail_at, keyed_row_at, row_at}
-use Rattle.yq_rows.specs.Rows.{Row, behind_head, behind_colon, behind_indent, behind_gap}
-use Rattle.yq_rows.proofs.LineEnds.{white_again}
-use Rattle.yq_rows.proofs.PieceLaws.{IsKey, key_takes, key_again, head_takes, head_again, tail_takes, tail_again, plain_begins}
-
--- spaces
-spaces_are : (t : List ℕ) → (cut no_space t).0 ≡ replicate (length (cut no_space t).0) 32
-unfolding upto
-spaces_are [] = refl
-spaces_are (b ∷ bs) = let again = spaces_are bs in
-    cond_both (not (eqb b 32)) 0 (suc (upto no_space bs)) (λ n. take n (b ∷ bs) ≡ replicate (length (take n (b ∷ bs))) 32)
-    (λ _. refl) (λ h. let same : b ≡ 32 = eqb-true b 32 (not-false (eqb b 32) h) in rw same (ap (λ l. 32 ∷ l) again))
-
-none_in_spaces : (n : ℕ) (rest : List ℕ) → NoneIn no_space (replicate n 32) rest
-none_in_spaces zero rest = tt
-none_in_spaces (suc n) rest = (refl, none_in_spaces n rest)
-
-spaces_again : (n : ℕ) (rest : List ℕ) → no_space rest ≡ true → cut no_space (replicate n 32 ++ rest) ≡ (replicate n 32, rest)
-spaces_again n rest h = cut-append no_space (replicate n 32) rest (none_in_spaces n rest) h
-
-white_spaces : (n : ℕ) → IsWhite (replicate n 32)
-white_spaces zero = tt
-white_spaces (suc n) = (refl, white_spaces n)
-
--- a key is in no gap
-keyed_no_gap : (n : ℕ) (t : List ℕ) → begins_plain false t ≡ true → is_gap_line (replicate n 32 ++ t) ≡ false
-keyed_no_gap n t h =
-    let b = plain_begins t h in
-    let behind : past_white (replicate n 32 ++ t) ≡ t = ap (λ (y : List ℕ × List ℕ). y.1) (white_again (replicate n 32) t (white_spaces n) b.0) in
-    rw (behind, b.1, b.2) (and-false _)
-
-pub row_no_gap : (limit : Limit) (r : Row) (rest : List ℕ) → IsRow limit r rest → is_gap_line (behind_gap r rest) ≡ false
-row_no_gap limit r rest h = keyed_no_gap r.column (behind_indent r rest) h.key.begins
+use Rattle.std.proofs.Common.{◌≡◌, ℕ, ℤ, ◌<◌, ◌≤◌, true, false, not, ◌&&◌, eqb, List, [], ◌∷◌, ◌++◌, length, Option, Some, None, refl, ap, ◌∙◌, subst, arith, replicate, length-append}
+use Rattle.std.proofs.lemmas.Bool.{not-true}
+use Rattle.yq_scalar.specs.Block.{block_text}
+use Rattle.yq_scalar.specs.Piece.{deeper}
+use Rattle.yq_scalar.specs.Text.{cut, no_space, is_marker, separates, joined}
+use Rattle.yq_scalar.proofs.Bools.{and_true, guard_then, guard_some, bind_some}
+use Rattle.yq_scalar.proofs.Upto.{cut_takes}
+use Rattle.yq_inline.specs.Inline.{depth_limit}
+use Rattle.yq_inline.specs.Nodes.{bare, node_text}
+use Rattle.yq_inline.proofs.NodeAgain.{item_longer}
+use Rattle.yq_rows.specs.Gap.{IsGap}
+use Rattle.yq_rows.specs.Grammar.{IsRow, IsContent, IsMark, AreDashes, may_be_alone, Limit, allows}
+use Rattle.yq_rows.specs.Reading.{marks_at, content_at, fits, marked_row_at, row_at}
+use Rattle.yq_rows.specs.Rows.{Mark, Bare, Dash, Key, Anchor, Content, Nothing, Inline, Block, dashes_text, mark_text, anchor_text, content_text, Row, behind_dashes, behind_indent, behind_gap, behind_columns, parent_of, parent_indent}
+use Rattle.yq_rows.proofs.ContentLaws.{content_takes}
+use Rattle.yq_rows.proofs.MarkLaws.{spaces_are, IsMarked, marks_take}
 
 -- A row behind its gap and its indentation.
-pub record Keyed (gap : List ℕ) (column : ℕ) (t : List ℕ) (r : Row) (rest : List ℕ) : Type 0 where
+pub record Marked (gap : List ℕ) (column : ℕ) (t : List ℕ) (r : Row) (rest : List ℕ) : Type 0 where
   pub gap_is : r.gap ≡ gap
   pub column_is : r.column ≡ column
   pub text : t ≡ behind_indent r rest
-  pub key : IsKey r.key r.colon (behind_colon r rest)
-  pub head : IsHead column r.space r.head (behind_head r rest)
-  pub tail : IsTail r.tail rest
-  pub built : is_built_head r.head ≡ true
+  pub dashes : AreDashes r.dashes r.mark
+  pub mark : IsMark r.mark r.content rest
+  pub content : IsContent (parent_indent r) r.content rest
 
-keyed_takes : (gap : List ℕ) (column : ℕ) (t : List ℕ) (x : Row × List ℕ) → keyed_row_at gap column t ≡ Some x → Keyed gap column t x.0 x.1
-unfolding keyed_row_at
-keyed_takes gap column t x h =
-    let key = bind_some (key_at t) h in
-    let head = bind_some (head_at column key.0.2) key.2 in
-    let tail = bind_some (tail_at head.0.2) head.2 in
-    let key_law = key_takes t key.0 key.1 in
-    let head_law = head_takes column key.0.2 head.0 head.1 in
-    let tail_law = tail_takes head.0.2 tail.0 tail.1 in
-    let row : Row = record { gap = gap; column = column; key = key.0.0; colon = key.0.1; space = head.0.0; head = head.0.1; tail = tail.0.0 } in
-    let behind : key.0.2 ≡ behind_colon row tail.0.1 = rw (← tail_law.0) head_law.0 in
-    let is : (row, tail.0.1) ≡ x = cc in
-    subst (λ (y : Row × List ℕ). Keyed gap column t y.0 y.1) is (record {
+mark_holds : (mark : Mark) (c : Content) (t rest : List ℕ) → t ≡ content_text c rest → IsMarked mark t → fits mark c ≡ true → IsMark mark c rest
+mark_holds Bare c t rest e h f = f
+mark_holds Dash c t rest e h f = subst (λ (s : List ℕ). separates s ≡ true) e h
+mark_holds (Key key colon) c t rest e h f = subst (λ (s : List ℕ). IsMarked (Key key colon) s) e h
+
+marked_takes : (gap : List ℕ) (column : ℕ) (t : List ℕ) (x : Row × List ℕ) → marked_row_at gap column (marks_at t) ≡ Some x → Marked gap column t x.0 x.1
+unfolding marked_row_at
+marked_takes gap column t x h =
+    let m = marks_at t in
+    let n = parent_of m.1 (behind_columns column m.0) in
+    let content = bind_some (content_at n m.2) h in
+    let g = guard_some (fits m.1 content.0.0) content.2 in
+    let marks = marks_take t in
+    let c = content_takes n m.2 content.0 content.1 in
+    let row : Row = record { gap = gap; column = column; dashes = m.0; mark = m.1; content = content.0.0 } in
+    let is : (row, content.0.1) ≡ x = g.1 in
+    subst (λ (y : Row × List ℕ). Marked gap column t y.0 y.1) is (record {
       gap_is = refl;
       column_is = refl;
-      text = rw (← behind) key_law.0;
-      key = subst (λ (s : List ℕ). IsKey key.0.0 key.0.1 s) behind key_law.1;
-      head = subst (λ (s : List ℕ). IsHead column head.0.0 head.0.1 s) tail_law.0 head_law.1;
-      tail = tail_law.1;
-      built = head_law.2;
+      text = marks.0 ∙ ap (λ l. dashes_text m.0 (mark_text m.1 l)) c.0;
+      dashes = marks.1;
+      mark = mark_holds m.1 content.0.0 m.2 content.0.1 c.0 marks.2 g.0;
+      content = c.1;
     })
 
-keyed_again : (limit : Limit) (r : Row) (rest : List ℕ) → IsRow limit r rest → keyed_row_at r.gap r.column (behind_indent r rest) ≡ Some (r, rest)
-unfolding keyed_row_at
-keyed_again limit r rest h =
-    let key = key_again r.key r.colon (behind_colon r rest) (record { plain = h.key; colon_is = h.colon; near = h.near }) in
-    let head = head_again r.column r.space r.head r.tail rest h.head (and_true (is_built_row r.column (behind_indent r rest)) (is_built_head r.head) h.built).1 h.tail in
-    let tail = tail_again r.tail rest h.tail in
-    rw (key, head, tail) refl
+-- A row that was read behind its gap, before a rest.
+pub record RowCut (limit : Limit) (gap t : List ℕ) (r : Row) (rest : List ℕ) : Type 0 where
+  pub gap_is : r.gap ≡ gap
+  pub text : t ≡ behind_gap r rest
+  pub mark : IsMark r.mark r.content rest
+  pub content : IsContent (parent_indent r) r.content rest
+  pub row : IsGap gap t → IsRow limit r rest
 
--- a row behind its gap
-abbrev pub RowCut : Limit → List ℕ → List ℕ → Row × List ℕ → Type 0
-RowCut limit gap t x = (x.0.gap ≡ gap) × (t ≡ behind_gap x.0 x.1) × IsColon x.0.colon (behind_colon x.0 x.1) × (IsGap gap t → IsRow limit x.0 x.1)
-
-row_parts : (limit : Limit) (gap : List ℕ) (column : ℕ) (t : List ℕ) (r : Row) (rest : List ℕ) → allows limit column ≡ true → is_built_row column t ≡ true → Keyed gap column t r rest → IsGap r.gap (behind_gap r rest) → IsRow limit r rest
-row_parts limit gap column t r rest allowed built k g = record {
+row_parts : (limit : Limit) (gap : List ℕ) (column : ℕ) (t : List ℕ) (r : Row) (rest : List ℕ) → allows limit column ≡ true → (eqb column 0 && is_marker t) ≡ false → Marked gap column t r rest → IsGap r.gap (behind_gap r rest) → IsRow limit r rest
+row_parts limit gap column t r rest a u m g = record {
   gap = g;
-  allowed = rw k.column_is allowed;
-  key = k.key.plain;
-  colon = k.key.colon_is;
-  near = k.key.near;
-  head = rw k.column_is k.head;
-  tail = k.tail;
-  built = rw (k.column_is, ← k.text, built) k.built;
+  allowed = rw m.column_is a;
+  unmarked = rw (m.column_is, ← m.text) u;
+  dashes = m.dashes;
+  mark = m.mark;
+  content = m.content;
 }
 
-pub row_takes : (limit : Limit) (gap t : List ℕ) (x : Row × List ℕ) → row_at limit gap t ≡ Some x → RowCut limit gap t x
+pub row_takes : (limit : Limit) (gap t : List ℕ) (x : Row × List ℕ) → row_at limit gap t ≡ Some x → RowCut limit gap t x.0 x.1
 unfolding row_at
 row_takes limit gap t x h =
     let indent = cut no_space t in
     let column = length indent.0 in
-    let g = guard_then (allows limit column && is_built_row column indent.1) h in
-    let tests = and_true (allows limit column) (is_built_row column indent.1) g.0 in
-    let k = keyed_takes gap column indent.1 x g.1 in
-    let join : indent.0 ++ indent.1 ≡ t = take-append-drop (upto no_space t) t in
+    let g = guard_then (allows limit column && not (eqb column 0 && is_marker indent.1)) h in
+    let tests = and_true (allows limit column) (not (eqb column 0 && is_marker indent.1)) g.0 in
+    let m = marked_takes gap column indent.1 x g.1 in
+    let join : t ≡ indent.0 ++ indent.1 = cut_takes no_space t in
     let spaces : indent.0 ≡ replicate column 32 = spaces_are t in
-    let behind : t ≡ behind_gap x.0 x.1 = rw (k.column_is, ← k.text, ← spaces) (sym join) in
-    (k.gap_is, behind, k.key.colon_is, λ gap_law. row_parts limit gap column indent.1 x.0 x.1 tests.0 tests.1 k (rw k.gap_is (subst (λ (s : List ℕ). IsGap gap s) behind gap_law)))
+    let behind : t ≡ behind_gap x.0 x.1 = rw (m.column_is, ← m.text, ← spaces) join in
+    record {
+      gap_is = m.gap_is;
+      text = behind;
+      mark = m.mark;
+      content = m.content;
+      row = λ gap_law. row_parts limit gap column indent.1 x.0 x.1 tests.0 (not-true _ tests.1) m (rw m.gap_is (subst (λ (s : List ℕ). IsGap gap s) behind gap_law));
+    }
 
-pub row_again : (limit : Limit) (r : Row) (rest : List ℕ) → IsRow limit r rest → row_at limit r.gap (behind_gap r rest) ≡ Some (r, rest)
-unfolding row_at
-row_again limit r rest h =
-    let t : List ℕ = behind_indent r rest in
-    let indent = spaces_again r.column t (plain_begins t h.key.begins).3 in
-    let built = and_true (is_built_row r.column t) (is_built_head r.head) h.built in
-    ap (λ (i : List ℕ × List ℕ). cond (allows limit (length i.0) && is_built_row (length i.0) i.1) (keyed_row_at r.gap (length i.0) i.1) None) indent
-    ∙ rw (length-replicate {A = ℕ} r.column 32) (rw (h.allowed, built.0) (keyed_again limit r rest h))
+-- what follows a row is shorter
+pub suffix_le : (a b : List ℕ) → length b ≤ length (a ++ b)
+suffix_le a b = omega (arith, length-append a b)
+
+anchor_le : (anchor : Option Anchor) (t : List ℕ) → length t ≤ length (anchor_text anchor t)
+anchor_le None t = omega arith
+anchor_le (Some a) t = omega (arith, suffix_le a.name (a.gap ++ t), suffix_le a.gap t)
+
+inline_longer : (n : ℤ) (space : List ℕ) (node : _) (tail rest : List ℕ) → IsContent n (Inline space node tail) rest → length rest < length (content_text (Inline space node tail) rest)
+inline_longer n space node tail rest h =
+    let node_longer : length (tail ++ rest) < length (node_text node (tail ++ rest)) = item_longer false (Some (deeper n)) depth_limit bare node (tail ++ rest) h.1.something h.1.valid in
+    omega (arith, suffix_le tail rest, suffix_le space (node_text node (tail ++ rest)))
+
+content_le : (n : ℤ) (c : Content) (rest : List ℕ) → IsContent n c rest → length rest ≤ length (content_text c rest)
+content_le n (Nothing tail) rest h = suffix_le tail rest
+content_le n (Inline space node tail) rest h = let longer = inline_longer n space node tail rest h in omega arith
+content_le n (Block space anchor block) rest h =
+    let a = joined block.raw ++ rest in let b = block.tail ++ a in
+    omega (arith, suffix_le (joined block.raw) rest, suffix_le block.tail a, suffix_le block.indicators b, anchor_le anchor (block_text block rest), suffix_le space (anchor_text anchor (block_text block rest)))
+
+alone_longer : (n : ℤ) (c : Content) (rest : List ℕ) → may_be_alone c ≡ true → IsContent n c rest → length rest < length (content_text c rest)
+alone_longer n (Nothing tail) rest alone h = cc
+alone_longer n (Inline space node tail) rest alone h = inline_longer n space node tail rest h
+alone_longer n (Block space anchor block) rest alone h = cc
+
+mark_longer : (mark : Mark) (n : ℤ) (c : Content) (rest : List ℕ) → IsMark mark c rest → IsContent n c rest → length rest < length (mark_text mark (content_text c rest))
+mark_longer Bare n c rest m h = alone_longer n c rest m h
+mark_longer Dash n c rest m h = let less = content_le n c rest h in omega arith
+mark_longer (Key key colon) n c rest m h =
+    let t = content_text c rest in
+    let less = content_le n c rest h in
+    let long : 0 < length colon = rw m.colon_is.spelled (omega (arith, length-append m.colon_is.white (58 ∷ []))) in
+    omega (arith, length-append colon t, suffix_le key (colon ++ t))
+
+dashes_le : (ns t : List ℕ) → length t ≤ length (dashes_text ns t)
+dashes_le [] t = omega arith
+dashes_le (n ∷ ns) t = let less = dashes_le ns t in omega (arith, suffix_le (replicate n 32) (dashes_text ns t))
+
+pub row_longer : (r : Row) (rest : List ℕ) → IsMark r.mark r.content rest → IsContent (parent_indent r) r.content rest → length rest < length (behind_gap r rest)
+row_longer r rest m h =
+    let longer = mark_longer r.mark (parent_indent r) r.content rest m h in
+    let dashes = dashes_le r.dashes (behind_dashes r rest) in
+    let spaces = suffix_le (replicate r.column 32) (behind_indent r rest) in
+    omega arith
+
+pub row_shorter : (limit : Limit) (gap t : List ℕ) (x : Row × List ℕ) → row_at limit gap t ≡ Some x → length x.1 < length t
+row_shorter limit gap t x h = let l = row_takes limit gap t x h in rw l.text (row_longer x.0 x.1 l.mark l.content)

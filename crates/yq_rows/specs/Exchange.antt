@@ -1,38 +1,89 @@
--- A row with another head, and where that head stands in the text.
-use Rattle.std.specs.Prelude.{◌≡◌, ℕ, zero, suc, ◌+◌, List, [], ◌∷◌, ◌++◌, length, replicate}
+-- What stands behind the mark of a row, exchanged for something else.
+use Rattle.std.specs.Prelude.{◌≡◌, ◌⊎◌, ℕ, zero, suc, ◌+◌, ◌-◌, Bool, true, false, nat_lt, List, [], ◌∷◌, ◌++◌, length, drop, replicate, if◌then◌else◌}
 use Rattle.std.specs.Str.{IsUtf8, IsCharBoundary}
-use Rattle.yq_rows.specs.Rows.{Row, with_head, behind_head, print_row, rows_text, Cut}
+use Rattle.yq_scalar.specs.Text.{separates}
+use Rattle.yq_inline.specs.Nodes.{Node}
+use Rattle.yq_rows.specs.Grammar.{IsContent, is_entry, is_plain, Limit, allows, limit_after}
+use Rattle.yq_rows.specs.Rows.{Content, Inline, content_text, dashes_text, mark_text, Row, parent_indent, print_row, rows_text, Part, part_text, Cut, last, marked, cut_text}
 
--- the rows, of which row i has another head (own)
-abbrev pub with_head_at : ℕ → List ℕ → List Row → List Row
-with_head_at i head [] = []
-with_head_at zero head (r ∷ rs) = with_head head r ∷ rs
-with_head_at (suc i) head (r ∷ rs) = r ∷ with_head_at i head rs
+-- a row with another content (own)
+abbrev pub with_content : Content → Row → Row
+with_content content r = record r { content = content }
 
--- the cut, of which row i has another head (own)
-abbrev pub exchange_head : ℕ → List ℕ → Cut → Cut
-exchange_head i head c = record c { rows = with_head_at i head c.rows }
+-- the rows, of which row i has another content (own)
+abbrev pub with_content_at : ℕ → Content → List Row → List Row
+with_content_at i content [] = []
+with_content_at zero content (r ∷ rs) = with_content content r ∷ rs
+with_content_at (suc i) content (r ∷ rs) = r ∷ with_content_at i content rs
 
--- the text of a row before its head (own)
+-- a part, of which row i has another content (own)
+abbrev pub with_content_in : ℕ → Content → Part → Part
+with_content_in i content p = record p { rows = with_content_at i content p.rows }
+
+-- a cut, of which row i, counted through all parts, has another content (own)
+abbrev pub exchange : ℕ → Content → Cut → Cut
+exchange i content (last p) = last (with_content_in i content p)
+exchange i content (marked p marker c) =
+    if nat_lt i (length p.rows) then marked (with_content_in i content p) marker c else marked p marker (exchange (i - length p.rows) content c)
+
+-- the text of a row before its content (own)
 abbrev pub row_front : Row → List ℕ
-row_front r = r.gap ++ (replicate r.column 32 ++ (r.key ++ (r.colon ++ r.space)))
+row_front r = r.gap ++ (replicate r.column 32 ++ dashes_text r.dashes (mark_text r.mark []))
 
--- the text before the head of row i (own)
-abbrev pub before_head : ℕ → List Row → List ℕ
-before_head i [] = []
-before_head zero (r ∷ rs) = row_front r
-before_head (suc i) (r ∷ rs) = print_row r (before_head i rs)
+-- the text of rows before the content of row i (own)
+abbrev pub before_at : ℕ → List Row → List ℕ
+before_at i [] = []
+before_at zero (r ∷ rs) = row_front r
+before_at (suc i) (r ∷ rs) = print_row r (before_at i rs)
 
--- the text behind the head of row i, with what stands behind the rows (own)
-abbrev pub behind_head_at : ℕ → List Row → List ℕ → List ℕ
-behind_head_at i [] end = end
-behind_head_at zero (r ∷ rs) end = behind_head r (rows_text rs end)
-behind_head_at (suc i) (r ∷ rs) end = behind_head_at i rs end
+-- the text of rows behind row i, before a rest (own)
+abbrev pub behind_at : ℕ → List Row → List ℕ → List ℕ
+behind_at i [] rest = rest
+behind_at zero (r ∷ rs) rest = rows_text rs rest
+behind_at (suc i) (r ∷ rs) rest = behind_at i rs rest
+
+-- the text of a cut before the content of row i (own)
+abbrev pub before_content : ℕ → Cut → List ℕ
+before_content i (last p) = before_at i p.rows
+before_content i (marked p marker c) = if nat_lt i (length p.rows) then before_at i p.rows else part_text p (marker ++ before_content (i - length p.rows) c)
+
+-- the text of a cut behind row i (own)
+abbrev pub behind_row : ℕ → Cut → List ℕ
+behind_row i (last p) = behind_at i p.rows (p.end ++ [])
+behind_row i (marked p marker c) = if nat_lt i (length p.rows) then behind_at i p.rows (p.end ++ (marker ++ cut_text c)) else behind_row (i - length p.rows) c
+
+-- the rows of the same part behind row i (own)
+abbrev pub rows_behind : ℕ → Cut → List Row
+rows_behind i (last p) = drop (suc i) p.rows
+rows_behind i (marked p marker c) = if nat_lt i (length p.rows) then drop (suc i) p.rows else rows_behind (i - length p.rows) c
+
+-- the first of these rows, if there is one, may stand where this is asked (own)
+abbrev pub allows_first : Limit → List Row → Bool
+allows_first limit [] = true
+allows_first limit (r ∷ rs) = allows limit r.column
+
+-- what is asked behind rows of which that was asked (own)
+abbrev pub asked_behind : Limit → List Row → Limit
+asked_behind limit [] = limit
+asked_behind limit (r ∷ rs) = asked_behind (limit_after r) rs
+
+-- What is asked of a content that stands in the place of a row's, behind a dash or a key: it stands there, behind it the next row of the part may
+-- stand, and white space, a break or the end is in front of it (own).
+pub record Fits (new : Content) (r : Row) (rest : List ℕ) (behind : List Row) : Type 0 where
+  pub entry : is_entry r.mark ≡ true
+  pub content : IsContent (parent_indent r) new rest
+  pub apart : separates (content_text new rest) ≡ true
+  pub next : allows_first (limit_after (with_content new r)) behind ≡ true
+
+-- Another node may stand in the place of a row's, as far as the next row of the part goes: it is no plain scalar, or the old one is, or that row stands
+-- where the new one allows it (own).
+abbrev pub MayFollow : Row → (space : List ℕ) → (node new : Node) → (tail : List ℕ) → List Row → Type 0
+MayFollow r space node new tail behind = ((is_plain new ≡ false) ⊎ (is_plain node ≡ true)) ⊎ (allows_first (limit_after (with_content (Inline space new tail) r)) behind ≡ true)
 
 -- A text of three pieces, of which the first two are whole characters, and so is what stands behind them (own).
-pub record HasPieces (t before head behind : List ℕ) : Type 0 where
-  pub text : t ≡ before ++ (head ++ behind)
+pub record HasPieces (t before old behind : List ℕ) : Type 0 where
+  pub text : t ≡ before ++ (old ++ behind)
   pub start : IsCharBoundary t (length before)
-  pub end : IsCharBoundary t (length before + length head)
+  pub end : IsCharBoundary t (length before + length old)
   pub before_utf8 : IsUtf8 before
-  pub head_utf8 : IsUtf8 head
+  pub old_utf8 : IsUtf8 old

@@ -2,7 +2,7 @@ pub use Rattle.yq_scalar.specs.Answers
 pub use Rattle.yq_scalar.specs.Characters
 pub use Rattle.yq_scalar.specs.Plain
 pub use Rattle.yq_scalar.specs.Text
-pub mod Built
+pub mod Alike
 pub mod Comments
 pub mod Exchange
 pub mod Gap
@@ -10,3 +10,4 @@ pub mod Grammar
 pub mod Reading
 pub mod Rows
 pub mod View
+pub mod Lending

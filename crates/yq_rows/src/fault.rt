@@ -1,22 +1,19 @@
 //! Where a text is at fault.
+ghost use Rattle.std.specs.Prelude.{◌≡◌};
 
 use yq_scalar::characters::{TEXT_LIMIT, is_text_char};
 use yq_scalar::{FaultKind, ReadFault};
 
-/// How many line breaks there are, each of which ends with an LF.
-fn breaks(bytes: &[u8]) -> u64 {
-    bytes.iter().filter(|b| **b == b'\n').count() as u64
-}
-
-/// The fault of a row. It stands on the row's first line, behind the gap.
-pub(crate) fn row_fault(kind: FaultKind, text: &str, row: &str) -> ReadFault {
-    let before = text
+/// A fault that begins where this rest of the whole text does.
+pub(crate) fn fault(kind: FaultKind, whole: &str, rest: &str) -> ReadFault {
+    let before = whole
         .as_bytes()
-        .split_at(text.len().saturating_sub(row.len()))
+        .split_at(whole.len().saturating_sub(rest.len()))
         .0;
+    let breaks = before.iter().filter(|b| **b == b'\n').count() as u64;
     ReadFault {
         kind,
-        line: breaks(before).saturating_add(1),
+        line: breaks.saturating_add(1),
     }
 }
 

@@ -1,47 +1,75 @@
 //! Laws of cuts, for the crates above.
-ghost use Rattle.std.specs.Prelude.{◌≡◌, ◌≤◌, ℕ, List, ◌++◌, Some, length, slice_get, suc, true, false};
+ghost use Rattle.std.specs.Prelude.{◌≡◌, ◌≤◌, ℕ, List, [], ◌++◌, Some, length, slice_get, true, false};
 ghost use Rattle.std.specs.Str.{IsUtf8};
 ghost use Rattle.yq_scalar.specs.Characters.{is_text, text_limit};
-ghost use Rattle.yq_scalar.specs.Plain.{IsPlain, ends_plain, holds_break};
-ghost use Rattle.yq_scalar.specs.Text.{is_empty};
-ghost use Rattle.yq_rows.specs.Exchange.{exchange_head, before_head, behind_head_at, HasPieces, with_head_at};
-ghost use Rattle.yq_rows.specs.Grammar.{IsCut};
-ghost use Rattle.yq_rows.specs.Rows.{Cut, Row, cut_text, parent_indent, rows_text};
+ghost use Rattle.yq_scalar.specs.declared.style.Place.TheVariants.{Block};
+ghost use Rattle.yq_inline.specs.Inline.{IsInline};
+ghost use Rattle.yq_inline.specs.Nodes.{Node, node_text};
+ghost use Rattle.yq_rows.specs.Alike.{Alike};
+ghost use Rattle.yq_rows.specs.Exchange.{exchange, before_content, behind_row, rows_behind, asked_behind, Fits, MayFollow, HasPieces};
+ghost use Rattle.yq_rows.specs.Grammar.{is_entry, Limit, AreRows, IsCut};
+ghost use Rattle.yq_rows.specs.Reading.{scan_at};
+ghost use Rattle.yq_rows.specs.Rows.{Content, Inline, content_text, Row, parent_indent, print_row, rows_text, Cut, cut_text};
+ghost use Rattle.yq_rows.specs.View.{slices, rows_of, slices_text};
 
-/// A text has one cut.
+/// A text has one cut, and it is what reading from left to right gives.
 pub fn one_cut()
-    ensures { (t : List ℕ) (c other : Cut) → IsCut t c → IsCut t other → c ≡ other }
+    ensures one { (t : List ℕ) (c other : Cut) → IsCut t c → IsCut t other → c ≡ other }
+    ensures taken { (t : List ℕ) (c : Cut) → scan_at t ≡ Some c → IsCut t c }
+    ensures given { (t : List ℕ) (c : Cut) → IsCut t c → scan_at t ≡ Some c }
 {}
 
-/// The text of rows is that before a row's head, the head, and that behind it, also where the
-/// head is another one.
-pub fn head_place()
-    ensures old { (rows : List Row) (end : List ℕ) (i : ℕ) (r : Row) → slice_get rows i ≡ Some r → rows_text rows end ≡ before_head i rows ++ (r.head ++ behind_head_at i rows end) }
-    ensures new { (rows : List Row) (end : List ℕ) (i : ℕ) (r : Row) (head : List ℕ) → slice_get rows i ≡ Some r → rows_text (with_head_at i head rows) end ≡ before_head i rows ++ (head ++ behind_head_at i rows end) }
+/// A row is its pieces, in order.
+pub fn row_pieces()
+    ensures { (r : Row) (rest : List ℕ) → slices_text (slices r) rest ≡ print_row r rest }
 {}
 
-/// A plain scalar ends before what stands behind the head of a row of a cut.
-pub fn head_ends()
-    ensures { (t : List ℕ) (c : Cut) (i : ℕ) (r : Row) → IsCut t c → slice_get c.rows i ≡ Some r → is_empty r.head ≡ false → ends_plain false (Some (suc (parent_indent r))) (behind_head_at i c.rows c.end) ≡ true }
+/// Rows behind rows, exchanged for others: what neighbours ask of each other is the limit behind
+/// and how the text in front begins.
+pub fn rows_chained()
+    ensures { (before rows new : List Row) (limit : Limit) (end rest new_end new_rest : List ℕ) → AreRows limit (before ++ rows) end rest → AreRows (asked_behind limit before) new new_end new_rest →
+        Alike false (rows_text rows (end ++ rest)) (rows_text new (new_end ++ new_rest)) → AreRows limit (before ++ new) new_end new_rest }
 {}
 
-/// A cut whose row has another plain scalar on one line as its head is a cut, where the new text
-/// may stand.
-pub fn head_exchanged()
-    ensures { (t : List ℕ) (c : Cut) (i : ℕ) (r : Row) (head : List ℕ) → IsCut t c → slice_get c.rows i ≡ Some r → is_empty r.head ≡ false →
-        IsPlain false (Some (suc (parent_indent r))) head (behind_head_at i c.rows c.end) → holds_break head ≡ false →
-        is_text (cut_text (exchange_head i head c)) ≡ true → length (cut_text (exchange_head i head c)) ≤ text_limit →
-        IsCut (cut_text (exchange_head i head c)) (exchange_head i head c) }
+/// The text of a cut is that before a row's content, the content, and that behind it, also where
+/// the content is another one.
+pub fn content_place()
+    ensures old { (c : Cut) (i : ℕ) (r : Row) → slice_get (rows_of c) i ≡ Some r → cut_text c ≡ before_content i c ++ content_text r.content (behind_row i c) }
+    ensures new { (c : Cut) (i : ℕ) (r : Row) (new : Content) → slice_get (rows_of c) i ≡ Some r → cut_text (exchange i new c) ≡ before_content i c ++ content_text new (behind_row i c) }
 {}
 
-/// The text of a cut whose row has another head holds the characters of a text, where the head
-/// does. The three pieces are those into which the text is cut at the old head's ends.
-pub fn head_text()
-    ensures { (t : List ℕ) (c : Cut) (i : ℕ) (r : Row) (head : List ℕ) → IsCut t c → slice_get c.rows i ≡ Some r → is_empty r.head ≡ false →
-        IsUtf8 (before_head i c.rows) → IsUtf8 r.head → IsUtf8 head → is_text head ≡ true → is_text (cut_text (exchange_head i head c)) ≡ true }
+/// A cut whose row has another content, which fits, is a cut, where the new text may stand: the
+/// text is cut into the same rows but for that content.
+pub fn content_exchanged()
+    ensures { (t : List ℕ) (c : Cut) (i : ℕ) (r : Row) (new : Content) → IsCut t c → slice_get (rows_of c) i ≡ Some r → Fits new r (behind_row i c) (rows_behind i c) →
+        is_text (cut_text (exchange i new c)) ≡ true → length (cut_text (exchange i new c)) ≤ text_limit → IsCut (cut_text (exchange i new c)) (exchange i new c) }
 {}
 
-/// A text that is a cut's is cut between characters at both ends of a row's head.
-pub fn head_pieces()
-    ensures { (t : List ℕ) (c : Cut) (i : ℕ) (r : Row) → IsCut t c → IsUtf8 t → slice_get c.rows i ≡ Some r → is_empty r.head ≡ false → HasPieces t (before_head i c.rows) r.head (behind_head_at i c.rows c.end) }
+/// A node that stands in the place of a row's node behind a dash or a key fits, where the next row
+/// may follow it.
+pub fn node_fits()
+    ensures { (t : List ℕ) (c : Cut) (i : ℕ) (r : Row) (space : List ℕ) (node new : Node) (tail : List ℕ) → IsCut t c → slice_get (rows_of c) i ≡ Some r → r.content ≡ Inline space node tail → is_entry r.mark ≡ true →
+        IsInline Block (parent_indent r) 0 new (tail ++ behind_row i c) → MayFollow r space node new tail (rows_behind i c) → Fits (Inline space new tail) r (behind_row i c) (rows_behind i c) }
+{}
+
+/// The text of a cut is that before a row's node, the node, and that behind it, also where the node
+/// is another one.
+pub fn node_place()
+    ensures old { (c : Cut) (i : ℕ) (r : Row) (space : List ℕ) (node : Node) (tail : List ℕ) → slice_get (rows_of c) i ≡ Some r → r.content ≡ Inline space node tail →
+        cut_text c ≡ (before_content i c ++ space) ++ (node_text node [] ++ (tail ++ behind_row i c)) }
+    ensures new { (c : Cut) (i : ℕ) (r : Row) (space : List ℕ) (new : Node) (tail : List ℕ) → slice_get (rows_of c) i ≡ Some r →
+        cut_text (exchange i (Inline space new tail) c) ≡ (before_content i c ++ space) ++ (node_text new [] ++ (tail ++ behind_row i c)) }
+{}
+
+/// The text of a cut whose row has another node holds the characters of a text, where the node
+/// does. The three pieces are those into which the text is cut at the old node's ends.
+pub fn node_characters()
+    ensures { (t : List ℕ) (c : Cut) (i : ℕ) (r : Row) (space : List ℕ) (node new : Node) (tail : List ℕ) → IsCut t c → slice_get (rows_of c) i ≡ Some r → r.content ≡ Inline space node tail → is_entry r.mark ≡ true →
+        IsUtf8 (before_content i c ++ space) → IsUtf8 (node_text node []) → IsUtf8 (node_text new []) → is_text (node_text new []) ≡ true → is_text (cut_text (exchange i (Inline space new tail) c)) ≡ true }
+{}
+
+/// A text that is a cut's is cut between characters at both ends of a row's node.
+pub fn node_pieces()
+    ensures { (t : List ℕ) (c : Cut) (i : ℕ) (r : Row) (space : List ℕ) (node : Node) (tail : List ℕ) → IsCut t c → IsUtf8 t → slice_get (rows_of c) i ≡ Some r → r.content ≡ Inline space node tail → is_entry r.mark ≡ true →
+        HasPieces t (before_content i c ++ space) (node_text node []) (tail ++ behind_row i c) }
 {}

@@ -1,15 +1,17 @@
 //! Every text of the profile, cut into rows.
 #![tactic(auto)]
 
+mod content;
 mod fault;
 mod gap;
-mod laws;
-mod pieces;
+pub mod laws;
+mod marks;
+mod naming;
+mod reading;
 mod row;
 mod scanning;
 #[cfg(test)]
 mod tests;
 
-pub use laws::{head_ends, head_exchanged, head_pieces, head_place, head_text, one_cut};
 pub use row::Row;
-pub use scanning::{Rows, scan};
+pub use scanning::{Bound, Rows, scan};

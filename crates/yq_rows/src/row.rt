@@ -1,10 +1,10 @@
 //! A row of a text.
-ghost use Rattle.std.specs.Prelude.{◌≡◌, pos};
+ghost use Rattle.std.specs.Prelude.{◌≡◌};
 ghost use Rattle.yq_rows.specs.Grammar as grammar;
-ghost use Rattle.yq_rows.specs.Rows as rows;
+ghost use Rattle.yq_rows.specs.Lending as lending;
 ghost use Rattle.yq_rows.specs.View.{limit_view, view};
-ghost use Rattle.yq_rows.specs.Rows as rows;
-ghost use Rattle.yq_rows.specs.View.{view};
+
+use yq_scalar::{Place, further_spaces};
 
 /// A row, as slices of its text.
 #[derive(Clone, Copy, Debug)]
@@ -12,11 +12,16 @@ pub struct Row<'t> {
     pub(crate) gap: &'t str,
     /// Below the limit of a text's length, which a `u32` holds.
     pub(crate) column: u32,
+    pub(crate) dashes: &'t str,
     pub(crate) key: &'t str,
     pub(crate) colon: &'t str,
     pub(crate) space: &'t str,
+    pub(crate) anchor: &'t str,
+    pub(crate) apart: &'t str,
     pub(crate) head: &'t str,
     pub(crate) tail: &'t str,
+    pub(crate) raw: &'t str,
+    pub(crate) parent: i64,
 }
 
 impl<'t> Row<'t> {
@@ -27,14 +32,21 @@ impl<'t> Row<'t> {
         self.gap
     }
 
-    /// How many spaces stand before the row's key.
+    /// How many spaces stand before the row's first dash, its key or its head.
     pub fn column(&self) -> usize
         ensures { result ≡ (view self.now).column }
     {
         self.column as usize
     }
 
-    /// The key.
+    /// The dashes with the spaces between them and before a key.
+    pub fn dashes(&self) -> &'t str
+        ensures { result.now ≡ (view self.now).dashes }
+    {
+        self.dashes
+    }
+
+    /// The key with its quotes, or nothing.
     pub fn key(&self) -> &'t str
         ensures { result.now ≡ (view self.now).key }
     {
@@ -48,40 +60,61 @@ impl<'t> Row<'t> {
         self.colon
     }
 
-    /// The white space before the head.
+    /// The white space before the anchor or the head.
     pub fn space(&self) -> &'t str
         ensures { result.now ≡ (view self.now).space }
     {
         self.space
     }
 
-    /// The scalar behind the key, or nothing.
+    /// The anchor with its `&`, or nothing.
+    pub fn anchor(&self) -> &'t str
+        ensures { result.now ≡ (view self.now).anchor }
+    {
+        self.anchor
+    }
+
+    /// The white space between the anchor and the head.
+    pub fn apart(&self) -> &'t str
+        ensures { result.now ≡ (view self.now).apart }
+    {
+        self.apart
+    }
+
+    /// An alias, a plain or quoted scalar, a flow collection, a block scalar's header, or nothing.
     pub fn head(&self) -> &'t str
         ensures { result.now ≡ (view self.now).head }
     {
         self.head
     }
 
-    /// The column of the key, below which a further line of the head can't begin. It is signed,
-    /// since the parent of a root on a line of its own has the column -1.
-    pub fn parent_indent(&self) -> i64
-        ensures { result ≡ pos (rows.parent_indent (view self.now)) }
-    {
-        i64::from(self.column)
-    }
-
-    /// The white space, the comment and the break that end the row.
+    /// The white space, the comment and the break that end the line.
     pub fn tail(&self) -> &'t str
         ensures { result.now ≡ (view self.now).tail }
     {
         self.tail
+    }
+
+    /// The lines of a block scalar.
+    pub fn raw(&self) -> &'t str
+        ensures { result.now ≡ (view self.now).raw }
+    {
+        self.raw
+    }
+
+    /// The indentation, in columns, that further lines of the head must pass: the column of the key,
+    /// else that of the last dash, else one less than the head's, so -1 for a root in column 0.
+    pub fn parent_indent(&self) -> i64
+        ensures { result ≡ (view self.now).parent }
+    {
+        self.parent
     }
 }
 
 /// What a row asks of the next one.
 #[derive(Clone, Copy, Debug)]
 pub(crate) struct Limit {
-    /// At which column that row stands at most, if this is asked.
+    /// Below which column that row stands, if this is asked.
     column: Option<usize>,
 }
 
@@ -93,15 +126,15 @@ impl Limit {
         Limit { column: None }
     }
 
-    /// What a row asks of the one behind it.
-    pub(crate) fn after(row: &Row<'_>) -> Limit
-        ensures { limit_view result ≡ grammar.limit_after (view row.now) }
+    /// What a row asks of the next one, below a parent of this indentation.
+    pub(crate) fn behind(parent: i64, is_plain: bool) -> Limit
+        ensures { limit_view result ≡ lending.limit_by parent is_plain }
     {
         Limit {
-            column: if row.head.is_empty() {
-                None
+            column: if is_plain {
+                further_spaces(Place::Block, parent)
             } else {
-                Some(row.column as usize)
+                None
             },
         }
     }
@@ -112,7 +145,7 @@ impl Limit {
     {
         match self.column {
             None => true,
-            Some(most) => column <= most,
+            Some(bound) => column < bound,
         }
     }
 }

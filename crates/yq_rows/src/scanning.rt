@@ -1,31 +1,43 @@
-//! A text cut into rows.
-ghost use Rattle.std.specs.Prelude.{◌≡◌, ◌<◌, ◌≤◌, ◌^◌, length, IfOk, Some, slice_get};
+//! A text cut into rows and markers.
+ghost use Rattle.std.specs.Prelude.{◌≡◌, ◌<◌, ◌≤◌, ◌^◌, length, true, IfOk, Some, slice_get};
 ghost use Rattle.yq_scalar.specs.Answers.{Gives};
-ghost use Rattle.yq_rows.specs.Grammar.{IsCut, unlimited};
+ghost use Rattle.yq_rows.specs.Grammar.{IsCut};
+ghost use Rattle.yq_rows.specs.Grammar as grammar;
+ghost use Rattle.yq_rows.specs.Lending.{shown_read};
 ghost use Rattle.yq_rows.specs.Reading as spec;
-ghost use Rattle.yq_rows.specs.Rows.{Cut, rest_of};
-ghost use Rattle.yq_rows.specs.View.{view, views};
+ghost use Rattle.yq_rows.specs.Rows.{Cut};
+ghost use Rattle.yq_rows.specs.View.{bound_view, bound_views, shown, view, views, Shown};
 
-use crate::fault::{row_fault, text_fault};
-use crate::gap::split_gap;
-use crate::pieces::read_row;
-use crate::row::{Limit, Row};
+use crate::fault::text_fault;
+use crate::reading::{read_marker, read_part};
+use crate::row::Row;
 use std::alloc::Global;
 use std::marker::Model;
 use yq_scalar::ReadError;
 use yq_scalar::characters::{TEXT_LIMIT, is_text};
 
-/// The rows of a text, and the gap behind the last one.
+/// The end of a part: the rows between two markers or the ends of the text.
+#[derive(Clone, Copy, Debug)]
+pub struct Bound<'t> {
+    /// How many rows stand before it, from the beginning of the text.
+    pub rows: usize,
+    /// The gap behind the part's last row.
+    pub end: &'t str,
+    /// The line of the marker behind that gap; behind the last part there is none.
+    pub marker: &'t str,
+}
+
+/// The rows of a text, and the gaps and markers that belong to no row.
 #[derive(Debug, Drop)]
 pub struct Rows<'t> {
     rows: Vec<Row<'t>>,
-    end: &'t str,
+    bounds: Vec<Bound<'t>>,
 }
 
 impl<'t> Model for Rows<'t> {
-    ghost Value = { Cut };
+    ghost Value = { Shown };
 
-    ghost view = { λ r. record { rows = views r.rows.items; end = r.end.now } };
+    ghost view = { λ r. record { rows = views r.rows.items; bounds = bound_views r.bounds.items } };
 }
 
 impl<'t> Rows<'t> {
@@ -44,41 +56,71 @@ impl<'t> Rows<'t> {
         self.rows[i]
     }
 
-    /// What stands before the gap of row `i` and belongs to no row; behind the last row, the gap
-    /// at the end.
-    pub fn rest(&self, i: usize) -> &'t str
-        requires { i ≤ length self.now.rows }
-        ensures { result.now ≡ rest_of self.now i }
+    /// How many parts there are: one more than markers.
+    pub fn parts(&self) -> usize
+        ensures { result ≡ length self.now.bounds }
     {
-        if i == self.rows.len() { self.end } else { "" }
+        self.bounds.len()
+    }
+
+    /// Where part `i` ends, counted from 0.
+    pub fn part(&self, i: usize) -> Bound<'t>
+        requires { i < length self.now.bounds }
+        ensures { slice_get self.now.bounds i ≡ Some (bound_view result) }
+    {
+        self.bounds[i]
     }
 }
 
-/// The rows of a text of whose characters and length nothing is asked.
-#[tactic(auto, using(crate::proofs::RowsLaws::rows_refused))]
+/// Whether a document begins behind the line of this marker.
+fn begins_document(marker: &[u8]) -> bool
+    ensures { result ≡ grammar.begins_document marker.now }
+{
+    matches!(marker, [b'-', ..])
+}
+
+/// The rows and markers of a text of whose characters and length nothing is asked.
 fn cut<'t>(alloc: Global, text: &'t str) -> Result<Rows<'t>, ReadError>
     requires { length text.now < 2 ^ 32 }
-    ensures { Gives (λ r. r) result (spec.all_rows unlimited text.now) }
+    ensures { Gives (λ s. s) result (shown_read (spec.all_parts true text.now)) }
 {
     let mut rows = Vec::new(alloc);
-    let mut limit = Limit::none();
-    let (mut gap, mut rest) = split_gap(text);
-    'rows: while !rest.is_empty() {
-        let (row, after) = match read_row(limit, gap, rest) {
-            Ok(found) => found,
-            Err(kind) => return Err(ReadError::Fault(row_fault(kind, text, rest))),
+    let mut bounds = Vec::new(alloc);
+    let mut is_open = true;
+    let mut rest = text;
+    'parts: loop {
+        let (found, end, after) = match read_part(alloc, rows, is_open, text, rest) {
+            Ok(part) => part,
+            Err(e) => return Err(e),
         };
-        rows.push(row)?;
-        limit = Limit::after(&row);
-        (gap, rest) = split_gap(after);
+        rows = found;
+        let count = rows.len();
+        if after.is_empty() {
+            bounds.push(Bound {
+                rows: count,
+                end,
+                marker: "",
+            })?;
+            return Ok(Rows { rows, bounds });
+        }
+        let (marker, next) = match read_marker(text, after) {
+            Ok(line) => line,
+            Err(fault) => return Err(ReadError::Fault(fault)),
+        };
+        bounds.push(Bound {
+            rows: count,
+            end,
+            marker,
+        })?;
+        is_open = begins_document(marker.as_bytes());
+        rest = next;
     }
-    Ok(Rows { rows, end: gap })
 }
 
-/// The rows of a text, if it is one.
+/// The rows and markers of a text, if it is one.
 #[tactic(auto, unfolding(crate::specs::Reading::scan_at))]
 fn scan_text(alloc: Global, text: &str) -> Result<Rows<'_>, ReadError>
-    ensures { Gives (λ r. r) result (spec.scan_at text.now) }
+    ensures { Gives (λ s. s) result (shown_read (spec.scan_at text.now)) }
 {
     if text.len() > TEXT_LIMIT || !is_text(text) {
         return Err(ReadError::Fault(text_fault(text)));
@@ -86,14 +128,14 @@ fn scan_text(alloc: Global, text: &str) -> Result<Rows<'_>, ReadError>
     cut(alloc, text)
 }
 
-/// Cuts a text into its rows.
+/// Cuts a text into its rows and markers.
 pub fn scan(alloc: Global, text: &str) -> Result<Rows<'_>, ReadError>
-    // The pieces of the rows and the gap behind them are the text, in order.
-    ensures found { IfOk result (λ c. IsCut text.now c) }
+    // The pieces of the rows, the gaps behind them and the markers are the text, in order.
+    ensures found { IfOk result (λ s. (c : Cut) × IsCut text.now c × (s ≡ shown c)) }
     // A text that has a cut is cut so, unless memory runs out.
-    ensures only { (c : Cut) → IsCut text.now c → Gives (λ r. r) result (Some c) }
+    ensures only { (c : Cut) → IsCut text.now c → Gives (λ s. s) result (Some (shown c)) }
     // The cut is what reading from left to right gives.
-    ensures exact { Gives (λ r. r) result (spec.scan_at text.now) }
+    ensures exact { Gives (λ s. s) result (shown_read (spec.scan_at text.now)) }
 {
     scan_text(alloc, text)
 }

@@ -1,31 +1,38 @@
 //! Texts with their rows, and texts that are refused.
 
-use crate::{Rows, head_ends, head_exchanged, head_place, head_text, one_cut, scan};
+use crate::{Row, scan};
 use std::alloc::{AllocError, Global};
 use std::test::Fail;
 use yq_scalar::{FaultKind, ReadError, ReadFault};
 
-/// A line for each row: its gap, column, key, colon, space, head and tail.
-fn lines(alloc: Global, rows: &Rows<'_>) -> Result<String, AllocError> {
+mod block;
+mod characters;
+mod flow;
+mod memory;
+mod preview;
+mod refusals;
+mod structures;
+
+/// A row's gap, column, dashes, key, colon, space, anchor, apart, head, tail and raw lines.
+fn pieces(alloc: Global, row: &Row<'_>) -> Result<String, AllocError> {
     let mut all = String::new(alloc);
-    for i in 0..rows.len() {
-        let row = rows.row(i);
-        let front = format!(in alloc;
-            "{:?} {} {:?} {:?}",
-            row.gap(),
-            row.column(),
-            row.key(),
-            row.colon()
-        )?;
-        let back = format!(in alloc; " {:?} {:?} {:?}\n", row.space(), row.head(), row.tail())?;
-        all.push_str(&front)?;
-        all.push_str(&back)?;
+    let front = format!(in alloc; "{}·{}·{}", row.gap(), row.column(), row.dashes())?;
+    all.push_str(&front)?;
+    let texts = [
+        row.key(),
+        row.colon(),
+        row.space(),
+        row.anchor(),
+        row.apart(),
+        row.head(),
+        row.tail(),
+        row.raw(),
+    ];
+    for text in texts {
+        all.push_str("·")?;
+        all.push_str(text)?;
     }
     Ok(all)
-}
-
-fn refused(kind: FaultKind, line: u64) -> ReadError {
-    ReadError::Fault(ReadFault { kind, line })
 }
 
 /// Why a text is refused, if it is.
@@ -36,186 +43,143 @@ fn fault(alloc: Global, text: &str) -> Option<ReadError> {
     }
 }
 
+/// A refusal by its kind and line.
+fn refused(kind: FaultKind, line: u64) -> Option<ReadError> {
+    Some(ReadError::Fault(ReadFault { kind, line }))
+}
+
 #[test]
-fn rows_of_texts(rt: HostRuntime) -> Result<(), Fail> {
+fn pieces_of_rows(rt: HostRuntime) -> Result<(), Fail> {
     let alloc = rt.alloc();
-    for (text, want, end) in [
-        ("", "", ""),
-        ("# hi", "", "# hi"),
-        ("\n \t\n  # c\n", "", "\n \t\n  # c\n"),
-        ("a: 1", "\"\" 0 \"a\" \":\" \" \" \"1\" \"\"\n", ""),
-        ("a:\n\n", "\"\" 0 \"a\" \":\" \"\" \"\" \"\\n\"\n", "\n"),
-        (
-            "name: web # main\nport: 8080\n",
-            "\"\" 0 \"name\" \":\" \" \" \"web\" \" # main\\n\"\n\"\" 0 \"port\" \":\" \" \" \"8080\" \"\\n\"\n",
-            "",
-        ),
-        (
-            "a:\n  b: 1\n\n  # c\n  d: x y\n",
-            "\"\" 0 \"a\" \":\" \"\" \"\" \"\\n\"\n\"\" 2 \"b\" \":\" \" \" \"1\" \"\\n\"\n\"\\n  # c\\n\" 2 \"d\" \":\" \" \" \"x y\" \"\\n\"\n",
-            "",
-        ),
-        (
-            "a: 1\r\nb: \r\n\t# c\r\n",
-            "\"\" 0 \"a\" \":\" \" \" \"1\" \"\\r\\n\"\n\"\" 0 \"b\" \":\" \"\" \"\" \" \\r\\n\"\n",
-            "\t# c\r\n",
-        ),
-        (
-            "a :\t# c\n",
-            "\"\" 0 \"a\" \" :\" \"\" \"\" \"\\t# c\\n\"\n",
-            "",
-        ),
-        (
-            "a#b: c#d:-e\n",
-            "\"\" 0 \"a#b\" \":\" \" \" \"c#d:-e\" \"\\n\"\n",
-            "",
-        ),
-        ("?x: :y\n", "\"\" 0 \"?x\" \":\" \" \" \":y\" \"\\n\"\n", ""),
-        (
-            "k: --- é\n",
-            "\"\" 0 \"k\" \":\" \" \" \"--- é\" \"\\n\"\n",
-            "",
-        ),
-        (
-            "   a: 1\n  b: 2\n",
-            "\"\" 3 \"a\" \":\" \" \" \"1\" \"\\n\"\n\"\" 2 \"b\" \":\" \" \" \"2\" \"\\n\"\n",
-            "",
-        ),
+    for (text, want) in [
+        ("a: 1", "·0··a·:· ···1··"),
+        ("a :\t# c\n", "·0··a· :·····\t# c\n·"),
+        ("a:  x y \t\n", "·0··a·:·  ···x y· \t\n·"),
+        ("\n# c\n  a: é\r\n", "\n# c\n·2··a·:· ···é·\r\n·"),
+        ("\"a b\": 'x'\n", "·0··\"a b\"·:· ···'x'·\n·"),
+        ("'a':\n", "·0··'a'·:·····\n·"),
+        ("-: 1\n", "·0··-·:· ···1·\n·"),
+        ("a:: b\n", "·0··a:·:· ···b·\n·"),
+        ("?x: :y\n", "·0··?x·:· ···:y·\n·"),
+        ("- a\n", "·0·-··· ···a·\n·"),
+        ("-", "·0·-········"),
+        ("-\t5\n", "·0·-···\t···5·\n·"),
+        (" -   -  - # c\n", "·1·-   -  -······· # c\n·"),
+        ("- - a: 1\n", "·0·- - ·a·:· ···1·\n·"),
+        ("x\n", "·0·······x·\n·"),
+        ("[a, # c\n b] # d\n", "·0·······[a, # c\n b]· # d\n·"),
+        ("a: &x [1]\n", "·0··a·:· ·&x· ·[1]·\n·"),
+        ("a: &x # c\n", "·0··a·:· ·&x··· # c\n·"),
+        ("- &a: 1\n", "·0·-··· ·&a:· ·1·\n·"),
+        ("&x {}\n", "·0·····&x· ·{}·\n·"),
+        ("a: *x\n", "·0··a·:· ···*x·\n·"),
+        ("*x\n", "·0·······*x·\n·"),
+        ("a: b\n  c\n", "·0··a·:· ···b\n  c·\n·"),
+        ("k: \"é\n  x\"\n", "·0··k·:· ···\"é\n  x\"·\n·"),
+        ("a: ---\n", "·0··a·:· ···---·\n·"),
+        ("a: |\n", "·0··a·:· ···|·\n·"),
+        ("a: >2- # c\n  x\n", "·0··a·:· ···>2-· # c\n·  x\n"),
+        ("- &b |+\n x\n\n", "·0·-··· ·&b· ·|+·\n· x\n\n"),
     ] {
         let rows = scan(alloc, text)?;
-        assert_eq!(rt; lines(alloc, &rows)?.as_str(), want, "at {text:?}");
-        assert_eq!(rt; rows.rest(rows.len()), end, "at {text:?}");
-    }
-    Ok(())
-}
-
-#[test]
-fn parts_of_a_row(rt: HostRuntime) -> Result<(), Fail> {
-    let rows = scan(
-        rt.alloc(),
-        "server:\n  # public\n  port: 8080 # http\n  host: web\n",
-    )?;
-    assert_eq!(rt; rows.len(), 3);
-    if rows.len() == 3 {
-        let port = rows.row(1);
-        assert_eq!(rt; port.gap(), "  # public\n");
-        assert_eq!(rt; port.parent_indent(), 2);
-        assert_eq!(rt; port.tail(), " # http\n");
-        assert_eq!(rt; rows.row(0).head(), "");
-        assert_eq!(rt; rows.rest(1), "");
-    }
-    Ok(())
-}
-
-#[test]
-fn texts_that_are_refused(rt: HostRuntime) -> Result<(), Fail> {
-    for (text, kind, line) in [
-        ("a: 1\n  b: 2\n", FaultKind::BadScalar, 1),
-        ("a: x: y\n", FaultKind::BadScalar, 1),
-        ("a:1\n", FaultKind::BadScalar, 1),
-        ("# c\n\na: @x\n", FaultKind::BadScalar, 3),
-        ("a: 1 # c\n  b: 2\n", FaultKind::BadIndent, 2),
-        ("a:\n    b: 1\n# c\n     c: 2\n", FaultKind::BadIndent, 4),
-        ("\ta: 1\n", FaultKind::TabIndent, 1),
-        ("a:\n \tb: 1\n", FaultKind::TabIndent, 2),
-        (": 1\n", FaultKind::BadKey, 1),
-        ("a: x\ry\n", FaultKind::CarriageReturn, 1),
-        ("a: x\r\nb: y\r", FaultKind::CarriageReturn, 2),
-        ("a: \u{feff}", FaultKind::ControlCharacter, 1),
-        ("\u{feff}a: 1\n", FaultKind::ControlCharacter, 1),
-        ("a: 1\nb: \u{7}\n", FaultKind::ControlCharacter, 2),
-        ("a: \u{7f}\n", FaultKind::ControlCharacter, 1),
-    ] {
-        assert_eq!(rt;
-            fault(rt.alloc(), text),
-            Some(refused(kind, line)),
-            "at {text:?}"
-        );
-    }
-    Ok(())
-}
-
-#[test]
-fn forms_that_are_not_read_yet(rt: HostRuntime) -> Result<(), Fail> {
-    for (text, line) in [
-        ("---\na: 1\n", 1),
-        ("a: 1\n...\n", 2),
-        ("- a\n", 1),
-        ("a:\n- b: 1\n", 2),
-        ("x\n", 1),
-        ("a:\n  x\n", 2),
-        ("'a': 1\n", 1),
-        ("\"a\": 1\n", 1),
-        ("[a]\n", 1),
-        ("a: x\n  y\n", 1),
-        ("a: 'x'\n", 1),
-        ("a: \"x\"\n", 1),
-        ("a: [1]\n", 1),
-        ("b: 1\na: {}\n", 2),
-        ("a: &x 1\n", 1),
-        ("a: *x\n", 1),
-        ("a: |\n  x\n", 1),
-        ("a: >\n  x\n", 1),
-    ] {
-        assert_eq!(rt;
-            fault(rt.alloc(), text),
-            Some(refused(FaultKind::BadScalar, line)),
-            "at {text:?}"
-        );
-    }
-    Ok(())
-}
-
-#[test]
-fn keys_up_to_their_limit(rt: HostRuntime) -> Result<(), Fail> {
-    let alloc = rt.alloc();
-    for letter in ["k", "é"] {
-        let longest = letter.repeat(alloc, 1024)?;
-        let read = format!(in alloc; "{longest}: 1\n")?;
-        assert_eq!(rt; fault(alloc, &read), None);
-        let longer = format!(in alloc; "a: 1\n{longest}{letter}: 1\n")?;
-        assert_eq!(rt; fault(alloc, &longer), Some(refused(FaultKind::BadKey, 2)));
-        let wider = format!(in alloc; "{longest} : 1\n")?;
-        assert_eq!(rt; fault(alloc, &wider), Some(refused(FaultKind::BadKey, 1)));
-    }
-    Ok(())
-}
-
-#[test]
-fn texts_up_to_their_limit(rt: HostRuntime) -> Result<(), Fail> {
-    let alloc = rt.alloc();
-    let mut text = "#".repeat(alloc, 16_777_216)?;
-    assert_eq!(rt; fault(alloc, &text), None);
-    text.push_str("#")?;
-    assert_eq!(rt; fault(alloc, &text), Some(refused(FaultKind::TooLarge, 1)));
-    for line in ["a: 1\n", "\n", "# c\n", "a: 1 # c\n\n"] {
-        let text = line.repeat(alloc, 1_600_000)?;
-        assert_eq!(rt; fault(alloc, &text), None, "at {line:?}");
-    }
-    Ok(())
-}
-
-#[test]
-fn prefixes_are_read_or_refused(rt: HostRuntime) -> Result<(), Fail> {
-    let text = "name: web # main\nport: 8080\n";
-    for at in 0..text.len() + 1 {
-        if let Some((prefix, _)) = text.split_at_checked(at) {
-            let has_no_colon = matches!(at, 1..=4 | 18..=21);
-            assert_eq!(rt;
-                scan(rt.alloc(), prefix).is_err(),
-                has_no_colon,
-                "at {prefix:?}"
-            );
+        assert_eq!(rt; rows.len(), 1, "at {text:?}");
+        if rows.len() == 1 {
+            assert_eq!(rt; pieces(alloc, &rows.row(0))?.as_str(), want, "at {text:?}");
         }
     }
     Ok(())
 }
 
 #[test]
-fn laws_are_there(_rt: HostRuntime) {
-    one_cut();
-    head_place();
-    head_ends();
-    head_exchanged();
-    head_text();
+fn parent_indentations(rt: HostRuntime) -> Result<(), Fail> {
+    for (text, indent) in [
+        ("a: 1\n", 0),
+        ("   a: 1\n", 3),
+        ("- - a: 1\n", 4),
+        ("-   -\n", 4),
+        ("x\n", -1),
+        ("  x\n", 1),
+    ] {
+        let rows = scan(rt.alloc(), text)?;
+        if rows.len() == 1 {
+            assert_eq!(rt; rows.row(0).parent_indent(), indent, "at {text:?}");
+        }
+    }
+    Ok(())
+}
+
+#[test]
+fn heads_of_rows(rt: HostRuntime) -> Result<(), Fail> {
+    for (text, want) in [
+        ("name: web # main\nport: 8080\n", ["web", "8080"]),
+        ("- a: 1\n  # about b\n  b: 2\n", ["1", "2"]),
+        ("x: # note\n  a: 1\n", ["", "1"]),
+        ("a: |+\n  text\n# head\nb: 1\n", ["|+", "1"]),
+        ("a: |\n  text\nb: 1\n", ["|", "1"]),
+        ("a:\n  - b\n", ["", "b"]),
+        ("x\n---\ny\n", ["x", "y"]),
+        ("a: 1\n---\n  b: 2\n", ["1", "2"]),
+        ("a: x\n \ty\nb: 2\n", ["x\n \ty", "2"]),
+        (
+            "p: [\n  a, # one\n  b\n]\nq: 'x'\n",
+            ["[\n  a, # one\n  b\n]", "'x'"],
+        ),
+    ] {
+        let rows = scan(rt.alloc(), text)?;
+        assert_eq!(rt; rows.len(), 2, "at {text:?}");
+        for i in 0..rows.len() {
+            if i < 2 {
+                assert_eq!(rt; rows.row(i).head(), want[i], "at {text:?}");
+            }
+        }
+    }
+    Ok(())
+}
+
+#[test]
+fn gaps_behind_block_scalars(rt: HostRuntime) -> Result<(), Fail> {
+    for (text, raw, gap) in [
+        ("a: |\n  x\n# h\nb: 1\n", "  x\n", "# h\n"),
+        ("a: |\n  x\n\n \nb: 1\n", "  x\n", "\n \n"),
+        ("a: |+\n  x\n\n \nb: 1\n", "  x\n\n \n", ""),
+        ("a: |+\n  x\n\n# h\n\nb: 1\n", "  x\n\n", "# h\n\n"),
+        ("a: |-\n  x\n  # text\n\nb: 1\n", "  x\n  # text\n", "\n"),
+        ("a: |\n\n# h\nb: 1\n", "", "\n# h\n"),
+    ] {
+        let rows = scan(rt.alloc(), text)?;
+        assert_eq!(rt; rows.len(), 2, "at {text:?}");
+        if rows.len() == 2 {
+            assert_eq!(rt; rows.row(0).raw(), raw, "at {text:?}");
+            assert_eq!(rt; rows.row(1).gap(), gap, "at {text:?}");
+        }
+    }
+    Ok(())
+}
+
+#[test]
+fn ends_of_parts(rt: HostRuntime) -> Result<(), Fail> {
+    for (text, want) in [
+        ("", ["0 \"\" \"\"", ""]),
+        ("# hi", ["0 \"# hi\" \"\"", ""]),
+        ("\n \t\n  # c\n", ["0 \"\\n \\t\\n  # c\\n\" \"\"", ""]),
+        ("a: 1\n\n", ["1 \"\\n\" \"\"", ""]),
+        ("---\n", ["0 \"\" \"---\\n\"", "0 \"\" \"\""]),
+        (
+            "a: 1\n# c\n--- # d\nb: 1\n\n",
+            ["1 \"# c\\n\" \"--- # d\\n\"", "2 \"\\n\" \"\""],
+        ),
+        ("...\n# c\n", ["0 \"\" \"...\\n\"", "0 \"# c\\n\" \"\""]),
+        ("a:\n- b\n...", ["2 \"\" \"...\"", "2 \"\" \"\""]),
+    ] {
+        let alloc = rt.alloc();
+        let rows = scan(alloc, text)?;
+        for i in 0..rows.parts() {
+            let part = rows.part(i);
+            let seen = format!(in alloc; "{} {:?} {:?}", part.rows, part.end, part.marker)?;
+            if i < 2 {
+                assert_eq!(rt; seen.as_str(), want[i], "at {text:?}");
+            }
+        }
+    }
+    Ok(())
 }

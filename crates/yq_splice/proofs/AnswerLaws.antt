@@ -1,6 +1,6 @@
 -- The promises of an accepted edit, of an answer of the code.
 use Rattle.std.proofs.Common.{◌≡◌, ℕ, List, Some, Result, Ok, Err, IfOk, string_bytes, sym, ◌∙◌, subst}
-use Rattle.yq_rows.specs.Rows.{Cut}
+use Rattle.yq_tree.specs.Rows.{Cut}
 use Rattle.yq_tree.specs.Documents.{Document, Reads}
 use Rattle.yq_tree.specs.Reading.{read_at}
 use Rattle.yq_expr.specs.Program.{Program}

@@ -14,8 +14,8 @@ use Rattle.yq_scalar.proofs.Bools.{and_true}
 use Rattle.yq_splice.specs.Edit.{gives, unbuilt, refuses, put_head, replace_head}
 use Rattle.yq_splice.specs.Patch.{Change}
 use Rattle.yq_splice.specs.Style.{table_row, is_same}
-use Rattle.yq_rows.specs.Exchange.{exchange_head, before_head}
-use Rattle.yq_rows.specs.Rows.{Cut, cut_text}
+use Rattle.yq_tree.specs.Exchange.{exchange_head, before_head}
+use Rattle.yq_tree.specs.Rows.{Cut, cut_text}
 use Rattle.yq_expr.specs.declared.refusal.Refusal.TheVariants.{TooLarge}
 
 same_kind : (a b : Kind) → table_row a ≡ table_row b → a ≡ b

@@ -3,7 +3,7 @@ use Rattle.std.proofs.Common.{◌≡◌, ℕ, cond, List, [], ◌∷◌, Option,
 use Rattle.yq_scalar.specs.declared.kind.Kind.{Kind}
 use Rattle.yq_scalar.specs.Scalar.{ScalarText}
 use Rattle.yq_scalar.specs.Tree.{Node, scalar}
-use Rattle.yq_rows.specs.Rows.{Row, Cut}
+use Rattle.yq_tree.specs.Rows.{Row, Cut}
 use Rattle.yq_tree.specs.Reading.{read_at, root_of}
 use Rattle.yq_expr.specs.Judgement.{Judgement}
 use Rattle.yq_expr.specs.Judgement as judgement

@@ -11,11 +11,10 @@ use Rattle.yq_scalar.specs.Writable.{can_write}
 use Rattle.yq_scalar.specs.declared.kind.Kind.{Kind}
 use Rattle.yq_scalar.specs.declared.style.Place.TheVariants.{Block}
 use Rattle.yq_scalar.specs.declared.style.Style.TheVariants.{Plain}
-use Rattle.yq_rows.specs.Exchange.{before_head, behind_head_at, HasPieces}
-use Rattle.yq_rows.specs.Rows.{Row, Cut}
-use Rattle.yq_rows.specs.Grammar.{IsCut}
-use Rattle.yq_rows.proofs.BoundaryLaws.{head_pieces}
-use Rattle.yq_rows.proofs.ExchangeLaws.{new_head_place}
+use Rattle.yq_tree.specs.Exchange.{before_head, behind_head_at, HasPieces}
+use Rattle.yq_tree.specs.Rows.{Row, Cut, end_of}
+use Rattle.yq_tree.specs.Built.{IsCut}
+use Rattle.yq_tree.proofs.HeadLaws.{head_pieces, new_head_place}
 use Rattle.yq_expr.specs.Written.{written_at, written_scalar}
 use Rattle.yq_expr.proofs.WrittenLaws.{IsRowOf, row_of}
 use Rattle.yq_splice.specs.Edit.{refuses, gives, put_head, put_between, replace_at}
@@ -70,9 +69,9 @@ put_pieces t before head behind new h =
     let tail : drop (length before + length head - length before) (drop (length before) t) ≡ behind = ap (λ (k : ℕ). drop k (drop (length before) t)) n ∙ (ap (drop (length head)) rest ∙ drop-append_seam head behind) in
     λ i. put_between (front i) (old i) new (tail i)
 
-pub put_head_is : (i : ℕ) (c : Cut) (r : Row) (new : List ℕ) → slice_get c.rows i ≡ Some r → put_head i r.head new c ≡ put_between (before_head i c.rows) r.head new (behind_head_at i c.rows c.end)
+pub put_head_is : (i : ℕ) (c : Cut) (r : Row) (new : List ℕ) → slice_get c.rows i ≡ Some r → put_head i r.head new c ≡ put_between (before_head i c.rows) r.head new (behind_head_at i c.rows (end_of c))
 put_head_is i c r new is =
-    ap (λ (t : List ℕ). cond (leb (length t) text_limit) (gives t (record { at = length (before_head i c.rows); old = r.head; new = new } ∷ [])) (refuses TooLarge)) (new_head_place c.rows i r new c.end is)
+    ap (λ (t : List ℕ). cond (leb (length t) text_limit) (gives t (record { at = length (before_head i c.rows); old = r.head; new = new } ∷ [])) (refuses TooLarge)) (new_head_place c.rows i r new (end_of c) is)
 
 -- another scalar is written in the old one's place
 pub replaced_is : (s : ScalarText) (o : Option (ℕ × Row)) (x : ℕ × Row) (c : Cut) → o ≡ Some x → is_same (plain_of x.1.head) s ≡ false → can_write s Plain Block ≡ true → replace_at s o c ≡ put_head x.0 x.1.head s.text c
@@ -82,7 +81,7 @@ replaced_is s o x c e other can = ap (λ (y : Option (ℕ × Row)). replace_at s
 pub record IsPlace (t : List ℕ) (c : Cut) (steps : List Step) (kind : Kind) (text : List ℕ) (start end : ℕ) : Type 0 where
   pub told : IsTold c.rows (written_at steps c.rows) kind text start end
   pub row : IsRowOf steps c.rows told.row
-  pub pieces : HasPieces t (before_head told.row.0 c.rows) told.row.1.head (behind_head_at told.row.0 c.rows c.end)
+  pub pieces : HasPieces t (before_head told.row.0 c.rows) told.row.1.head (behind_head_at told.row.0 c.rows (end_of c))
 
 pub place_of : (t : List ℕ) (c : Cut) (steps : List Step) (kind : Kind) (text : List ℕ) (start end : ℕ) → IsCut t c → IsUtf8 t →
     Some (kind, text, start, end) ≡ option_map (written_scalar c.rows) (written_at steps c.rows) → IsPlace t c steps kind text start end
@@ -108,6 +107,6 @@ place_put t c steps kind text start end s p other can =
     let x : ℕ × Row = p.told.row in
     let before : List ℕ = before_head x.0 c.rows in
     let same : is_same (plain_of x.1.head) s ≡ false = subst (λ (k : Kind). is_same (record { kind = k; text = (plain_of x.1.head).text }) s ≡ false) p.told.kind_is (subst (λ (u : List ℕ). is_same (record { kind = kind; text = u }) s ≡ false) p.told.text_is other) in
-    let pieces : put_between (take start t) (take (end - start) (drop start t)) s.text (drop (end - start) (drop start t)) ≡ put_between before x.1.head s.text (behind_head_at x.0 c.rows c.end) =
-    (λ i. put_between (take (p.told.start_is i) t) (take (p.told.end_is i - p.told.start_is i) (drop (p.told.start_is i) t)) s.text (drop (p.told.end_is i - p.told.start_is i) (drop (p.told.start_is i) t))) ∙ put_pieces t before x.1.head (behind_head_at x.0 c.rows c.end) s.text p.pieces in
+    let pieces : put_between (take start t) (take (end - start) (drop start t)) s.text (drop (end - start) (drop start t)) ≡ put_between before x.1.head s.text (behind_head_at x.0 c.rows (end_of c)) =
+    (λ i. put_between (take (p.told.start_is i) t) (take (p.told.end_is i - p.told.start_is i) (drop (p.told.start_is i) t)) s.text (drop (p.told.end_is i - p.told.start_is i) (drop (p.told.start_is i) t))) ∙ put_pieces t before x.1.head (behind_head_at x.0 c.rows (end_of c)) s.text p.pieces in
     pieces ∙ (sym (put_head_is x.0 c x.1 s.text p.row.is) ∙ sym (replaced_is s (written_at steps c.rows) x c p.told.is same can))

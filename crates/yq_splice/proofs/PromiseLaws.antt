@@ -15,13 +15,12 @@ use Rattle.yq_scalar.specs.declared.style.Place.TheVariants.{Block}
 use Rattle.yq_scalar.specs.declared.style.Style.TheVariants.{Plain}
 use Rattle.yq_scalar.proofs.Bools.{guard_then, guard_some, bind_some}
 use Rattle.yq_scalar.proofs.PlainSpells.{writable_text, writable_same, writable_piece, plain_line, plain_is_text, plain_some}
-use Rattle.yq_rows.specs.Exchange.{with_head_at, exchange_head, before_head, behind_head_at, HasPieces}
-use Rattle.yq_rows.specs.Grammar.{IsCut}
-use Rattle.yq_rows.specs.Reading.{scan_at}
-use Rattle.yq_rows.specs.Rows.{Row, Cut, cut_text}
-use Rattle.yq_rows.proofs.BoundaryLaws.{head_pieces}
-use Rattle.yq_rows.proofs.ExchangeLaws.{new_head_place, cut_exchanged, head_ends, head_text}
-use Rattle.yq_rows.proofs.RowsLaws.{scan_takes, scan_again}
+use Rattle.yq_tree.specs.Exchange.{with_head_at, exchange_head, before_head, behind_head_at, HasPieces}
+use Rattle.yq_tree.specs.Built.{IsCut}
+use Rattle.yq_tree.specs.Reading.{cut_at}
+use Rattle.yq_tree.specs.Rows.{Row, Cut, end_of, cut_text}
+use Rattle.yq_tree.proofs.HeadLaws.{head_pieces, new_head_place, cut_exchanged, head_ends, head_text}
+use Rattle.yq_tree.proofs.ReadLaws.{cut_takes, cut_again}
 use Rattle.yq_tree.specs.Documents.{Document, Reads, lead_of}
 use Rattle.yq_tree.specs.Lines.{plain_node, scalar_node}
 use Rattle.yq_tree.specs.Reading.{read_at, text_at, is_document, documents, root_of}
@@ -52,17 +51,17 @@ pub read_as : (t : List ℕ) (c : Cut) → read_at t ≡ Some c → IsReadAs t c
 unfolding read_at text_at
 read_as t c h =
     let p = guard_then (is_utf8 t) h in
-    let q = bind_some (scan_at t) p.1 in
+    let q = bind_some (cut_at t) p.1 in
     let r = guard_some (is_document q.0) q.2 in
     record {
       utf8 = IsUtf8-from_is_utf8 t p.0;
-      cut = subst (IsCut t) r.1 (scan_takes t q.0 q.1);
+      cut = subst (IsCut t) r.1 (cut_takes t q.0 q.1);
       document = subst (λ (x : Cut). is_document x ≡ true) r.1 r.0;
     }
 
 pub read_of : (t : List ℕ) (c : Cut) → IsReadAs t c → read_at t ≡ Some c
 unfolding read_at text_at
-read_of t c h = rw (is_utf8-from_IsUtf8 t h.utf8, scan_again t c h.cut, h.document) refl
+read_of t c h = rw (is_utf8-from_IsUtf8 t h.utf8, cut_again t c h.cut, h.document) refl
 
 -- a head exchanged for itself
 same_head : (rows : List Row) (i : ℕ) (r : Row) → slice_get rows i ≡ Some r → with_head_at i r.head rows ≡ rows
@@ -103,17 +102,17 @@ meant_by p t new changes f x docs reads is same =
 put_read : (t : List ℕ) (c : Cut) (i : ℕ) (r : Row) (s : ScalarText) → IsReadAs t c → slice_get c.rows i ≡ Some r → is_empty r.head ≡ false → IsValid s → can_write s Plain Block ≡ true →
     length (cut_text (exchange_head i s.text c)) ≤ text_limit → is_document (exchange_head i s.text c) ≡ true → IsReadAs (cut_text (exchange_head i s.text c)) (exchange_head i s.text c)
 put_read t c i r s read is some valid can size document =
-    let pieces : HasPieces t (before_head i c.rows) r.head (behind_head_at i c.rows c.end) = head_pieces t c i r read.cut read.utf8 is some in
-    let whole : t ≡ (before_head i c.rows ++ r.head) ++ behind_head_at i c.rows c.end = pieces.text ∙ sym (append_assoc (before_head i c.rows) r.head (behind_head_at i c.rows c.end)) in
-    let tail : drop (length (before_head i c.rows) + length r.head) t ≡ behind_head_at i c.rows c.end =
-    ap (λ (n : ℕ). drop n t) (sym (length-append (before_head i c.rows) r.head)) ∙ (ap (drop (length (before_head i c.rows ++ r.head))) whole ∙ drop-append_seam (before_head i c.rows ++ r.head) (behind_head_at i c.rows c.end)) in
-    let behind : IsUtf8 (behind_head_at i c.rows c.end) = subst IsUtf8 tail (IsUtf8-drop t (length (before_head i c.rows) + length r.head) read.utf8 pieces.end) in
+    let pieces : HasPieces t (before_head i c.rows) r.head (behind_head_at i c.rows (end_of c)) = head_pieces t c i r read.cut read.utf8 is some in
+    let whole : t ≡ (before_head i c.rows ++ r.head) ++ behind_head_at i c.rows (end_of c) = pieces.text ∙ sym (append_assoc (before_head i c.rows) r.head (behind_head_at i c.rows (end_of c))) in
+    let tail : drop (length (before_head i c.rows) + length r.head) t ≡ behind_head_at i c.rows (end_of c) =
+    ap (λ (n : ℕ). drop n t) (sym (length-append (before_head i c.rows) r.head)) ∙ (ap (drop (length (before_head i c.rows ++ r.head))) whole ∙ drop-append_seam (before_head i c.rows ++ r.head) (behind_head_at i c.rows (end_of c))) in
+    let behind : IsUtf8 (behind_head_at i c.rows (end_of c)) = subst IsUtf8 tail (IsUtf8-drop t (length (before_head i c.rows) + length r.head) read.utf8 pieces.end) in
     let text = writable_text s.kind s.text false valid.scalar can in
-    let utf8 : IsUtf8 (before_head i c.rows ++ (s.text ++ behind_head_at i c.rows c.end)) = IsUtf8-append _ _ pieces.before_utf8 (IsUtf8-append _ _ valid.utf8 behind) in
+    let utf8 : IsUtf8 (before_head i c.rows ++ (s.text ++ behind_head_at i c.rows (end_of c))) = IsUtf8-append _ _ pieces.before_utf8 (IsUtf8-append _ _ valid.utf8 behind) in
     record {
-      utf8 = subst IsUtf8 (sym (new_head_place c.rows i r s.text c.end is)) utf8;
+      utf8 = subst IsUtf8 (sym (new_head_place c.rows i r s.text (end_of c) is)) utf8;
       cut = cut_exchanged t c i r s.text read.cut is some
-          (writable_piece s false (Some (suc r.column)) (behind_head_at i c.rows c.end) valid.utf8 valid.scalar can (head_ends t c i r read.cut is some))
+          (writable_piece s false (Some (suc r.column)) (behind_head_at i c.rows (end_of c)) valid.utf8 valid.scalar can (head_ends t c i r read.cut is some))
           (plain_line false s.text valid.utf8 text)
           (head_text t c i r s.text read.cut is some pieces.before_utf8 pieces.head_utf8 valid.utf8 (plain_is_text false s.text valid.utf8 text))
           size;
@@ -161,7 +160,7 @@ inside_by p t new changes f read head text =
       is = at.is;
       head = head;
       before = (head_pieces t f.rows f.carried.row.0 f.carried.row.1 read.cut read.utf8 at.is at.some).text;
-      after = sym text ∙ new_head_place f.rows.rows f.carried.row.0 f.carried.row.1 head f.rows.end at.is;
+      after = sym text ∙ new_head_place f.rows.rows f.carried.row.0 f.carried.row.1 head (end_of f.rows) at.is;
     }
 
 pub edit_inside : (p : Program) (t new : List ℕ) (changes : List Change) → edit_of p t ≡ gives new changes → IsInside p t new
@@ -211,9 +210,9 @@ edit_splices p t new changes h =
         subst (λ (cs : List Change). AreSplices cs t new) (sym k.none) (record { texts = ap Some same; lengths = ap (λ (u : List ℕ). Some (length u)) same })
     go f read at (inr k) =
         let before : List ℕ = before_head f.carried.row.0 f.rows.rows in
-        let behind : List ℕ = behind_head_at f.carried.row.0 f.rows.rows f.rows.end in
+        let behind : List ℕ = behind_head_at f.carried.row.0 f.rows.rows (end_of f.rows) in
         let pieces : HasPieces t before f.carried.row.1.head behind = head_pieces t f.rows f.carried.row.0 f.carried.row.1 read.cut read.utf8 at.is at.some in
-        let put : cut_text (exchange_head f.carried.row.0 f.carried.value.1 f.rows) ≡ before ++ (f.carried.value.1 ++ behind) = new_head_place f.rows.rows f.carried.row.0 f.carried.row.1 f.carried.value.1 f.rows.end at.is in
+        let put : cut_text (exchange_head f.carried.row.0 f.carried.value.1 f.rows) ≡ before ++ (f.carried.value.1 ++ behind) = new_head_place f.rows.rows f.carried.row.0 f.carried.row.1 f.carried.value.1 (end_of f.rows) at.is in
         let small : length (before ++ (f.carried.value.1 ++ behind)) < 2 ^ 64 = omega (arith, ap length put, k.size) in
         let all : AreSplices (record { at = length before; old = f.carried.row.1.head; new = f.carried.value.1 } ∷ []) t (before ++ (f.carried.value.1 ++ behind)) = one_splice t before f.carried.row.1.head f.carried.value.1 behind pieces.text small in
         subst (λ (u : List ℕ). AreSplices changes t u) (sym put ∙ k.text) (subst (λ (cs : List Change). AreSplices cs t (before ++ (f.carried.value.1 ++ behind))) (sym k.one) all)

@@ -6,8 +6,8 @@ use Rattle.yq_scalar.specs.Tree.{Node, alias, scalar, list, map}
 use Rattle.yq_scalar.specs.Writable.{can_write}
 use Rattle.yq_scalar.specs.declared.style.Place.TheVariants.{Block}
 use Rattle.yq_scalar.specs.declared.style.Style.TheVariants.{Plain}
-use Rattle.yq_rows.specs.Exchange.{exchange_head, before_head}
-use Rattle.yq_rows.specs.Rows.{Row, Cut, cut_text}
+use Rattle.yq_tree.specs.Exchange.{exchange_head, before_head}
+use Rattle.yq_tree.specs.Rows.{Row, Cut, cut_text}
 use Rattle.yq_tree.specs.Reading.{read_at}
 use Rattle.yq_expr.specs.Operations.{Operation, replace, append, remove, line_comment, head_comment}
 use Rattle.yq_expr.specs.Judgement.{Judgement}

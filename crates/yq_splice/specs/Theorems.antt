@@ -1,8 +1,8 @@
 -- What an accepted edit promises.
 use Rattle.std.specs.Prelude.{◌≡◌, ℕ, List, ◌++◌, Some, slice_get, length}
 use Rattle.yq_scalar.specs.declared.kind.Kind.{Kind}
-use Rattle.yq_rows.specs.Exchange.{before_head, behind_head_at}
-use Rattle.yq_rows.specs.Rows.{Row, Cut}
+use Rattle.yq_tree.specs.Exchange.{before_head, behind_head_at}
+use Rattle.yq_tree.specs.Rows.{Row, Cut, end_of}
 use Rattle.yq_tree.specs.Documents.{Document, Reads}
 use Rattle.yq_tree.specs.Reading.{read_at}
 use Rattle.yq_tree.specs.RowPaths.{row_at}
@@ -23,8 +23,8 @@ pub record IsInside (p : Program) (t new : List ℕ) : Type 0 where
   pub old : Row
   pub is : slice_get rows.rows row ≡ Some old
   pub head : List ℕ
-  pub before : t ≡ before_head row rows.rows ++ (old.head ++ behind_head_at row rows.rows rows.end)
-  pub after : new ≡ before_head row rows.rows ++ (head ++ behind_head_at row rows.rows rows.end)
+  pub before : t ≡ before_head row rows.rows ++ (old.head ++ behind_head_at row rows.rows (end_of rows))
+  pub after : new ≡ before_head row rows.rows ++ (head ++ behind_head_at row rows.rows (end_of rows))
 
 -- The new text reads as what the program makes of the documents of the old one (own).
 pub record IsMeant (p : Program) (docs : List Document) (new : List ℕ) : Type 0 where

@@ -3,7 +3,7 @@ use Rattle.std.specs.Prelude.{◌≡◌, List, [], ◌∷◌, ⊤}
 use Rattle.std.specs.Str.{IsUtf8}
 use Rattle.yq_scalar.specs.Scalar.{ScalarText, IsScalar}
 use Rattle.yq_scalar.specs.Tree.{Node, alias, scalar, list, map}
-use Rattle.yq_rows.specs.Rows.{Cut}
+use Rattle.yq_tree.specs.Rows.{Cut}
 use Rattle.yq_expr.specs.Operations.{Operation, replace, append, remove, line_comment, head_comment}
 use Rattle.yq_expr.specs.Judgement.{gives}
 use Rattle.yq_expr.specs.Plan.{plan_of}

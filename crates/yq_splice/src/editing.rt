@@ -2,8 +2,8 @@
 ghost use Rattle.std.specs.Prelude.{◌≡◌, ◌++◌, ◌+◌, [], List, ℕ, Some, IfOk, ◌-◌, ◌≤◌, length, nat_le, take, drop, string_bytes};
 ghost use Rattle.std.specs.Str.{IsCharBoundary};
 ghost use Rattle.yq_scalar.specs.Characters.{text_limit};
-ghost use Rattle.yq_rows.specs.Grammar.{IsCut};
-ghost use Rattle.yq_rows.specs.Rows.{Cut};
+ghost use Rattle.yq_tree.specs.Built.{IsCut};
+ghost use Rattle.yq_tree.specs.Rows.{Cut};
 ghost use Rattle.yq_tree.specs.Documents.{Document, Reads};
 ghost use Rattle.yq_tree.specs.Reading.{read_at};
 ghost use Rattle.yq_tree.specs.View.{steps_of};

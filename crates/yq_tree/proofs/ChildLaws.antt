@@ -3,7 +3,7 @@ use Rattle.std.proofs.Common.{◌≡◌, ℕ, ◌+◌, ◌<◌, ◌≤◌, List,
 use Rattle.std.proofs.lemmas.List.{get_or_default}
 use Rattle.std.specs.List.{slice_get}
 use Rattle.yq_scalar.specs.Tree.{none, child, children_of}
-use Rattle.yq_rows.specs.Rows.{Row, Cut}
+use Rattle.yq_tree.specs.Rows.{Row, Cut}
 use Rattle.yq_tree.specs.Ends.{part, is_end, floor_of, IsEndOf, AreEndsFrom}
 use Rattle.yq_tree.specs.Group.{group}
 use Rattle.yq_tree.specs.Lines.{line_of, lines_of}

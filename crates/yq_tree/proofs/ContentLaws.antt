@@ -5,7 +5,7 @@ use Rattle.yq_scalar.specs.declared.kind.Kind.{Kind}
 use Rattle.yq_scalar.specs.Paths.{Step, node_at}
 use Rattle.yq_scalar.specs.Text.{is_empty}
 use Rattle.yq_scalar.specs.Tree.{Node}
-use Rattle.yq_rows.specs.Rows.{Row, Cut}
+use Rattle.yq_tree.specs.Rows.{Row, Cut}
 use Rattle.yq_tree.specs.declared.node.NodeKind.TheVariants.{Scalar}
 use Rattle.yq_tree.specs.Extents.{head_place, rows_place, own_place, without_head, entry_at, entry_place, place_from}
 use Rattle.yq_tree.specs.Group.{group}

@@ -1,10 +1,11 @@
 -- What is asked of the rows of a document.
 use Rattle.std.proofs.Common.{◌≡◌, ℕ, ◌+◌, ◌<◌, List, drop, Some, Bool, true, false, not, ◌&&◌, ◌||◌, Err, refl, sym, ap, ◌∙◌, arith}
 use Rattle.std.proofs.lemmas.Bool.{lt-ltb, cond-true}
-use Rattle.std.specs.List.{list_any, slice_get}
+use Rattle.std.specs.List.{list_any, list_all, slice_get}
 use Rattle.yq_scalar.specs.declared.fault.ReadError.{ReadError}
 use Rattle.yq_scalar.specs.declared.fault.ReadError.TheVariants as error
-use Rattle.yq_rows.specs.Rows.{Row, Cut}
+use Rattle.yq_tree.specs.Rows.{Row, Cut}
+use Rattle.yq_tree.specs.Built.{is_built}
 use Rattle.yq_tree.specs.Documents.{depth_limit}
 use Rattle.yq_tree.specs.Ends.{part}
 use Rattle.yq_tree.specs.Group.{deeper}
@@ -24,6 +25,16 @@ merge_found rows at r is e so_far = sym (so_far ∙ (merge_step rows at r is ∙
 
 pub merge_passed : (rows : List Row) (at : ℕ) (r : Row) → slice_get rows at ≡ Some r → is_merge r ≡ false → list_any is_merge rows ≡ list_any is_merge (drop at rows) → list_any is_merge rows ≡ list_any is_merge (drop (at + 1) rows)
 merge_passed rows at r is e so_far = so_far ∙ (merge_step rows at r is ∙ ap (λ b. b || list_any is_merge (drop (at + 1) rows)) e)
+
+-- one row tested for its form
+built_step : (rows : List Row) (at : ℕ) (r : Row) → slice_get rows at ≡ Some r → list_all is_built (drop at rows) ≡ (is_built r && list_all is_built (drop (at + 1) rows))
+built_step rows at r is = ap (list_all is_built) (drop_at rows at r is)
+
+pub other_found : (rows : List Row) (at : ℕ) (r : Row) → slice_get rows at ≡ Some r → is_built r ≡ false → list_all is_built rows ≡ list_all is_built (drop at rows) → true ≡ not (list_all is_built rows)
+other_found rows at r is e so_far = sym (ap not (so_far ∙ (built_step rows at r is ∙ ap (λ b. b && list_all is_built (drop (at + 1) rows)) e)))
+
+pub built_passed : (rows : List Row) (at : ℕ) (r : Row) → slice_get rows at ≡ Some r → is_built r ≡ true → list_all is_built rows ≡ list_all is_built (drop at rows) → list_all is_built rows ≡ list_all is_built (drop (at + 1) rows)
+built_passed rows at r is e so_far = so_far ∙ (built_step rows at r is ∙ ap (λ b. b && list_all is_built (drop (at + 1) rows)) e)
 
 above : (l : Line) → 0 < level l
 unfolding level

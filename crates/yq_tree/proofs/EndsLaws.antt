@@ -4,7 +4,7 @@ use Rattle.std.proofs.lemmas.Bool.{lt-ltb, le-ltb, cases_lt, cases_eq, false≢t
 use Rattle.std.proofs.lemmas.List.{length-map}
 use Rattle.std.proofs.lemmas.Option.{slice_get_cases, slice_get-map}
 use Rattle.std.specs.List.{slice_get}
-use Rattle.yq_rows.specs.Rows.{Row}
+use Rattle.yq_tree.specs.Rows.{Row}
 use Rattle.yq_tree.specs.Outline.{Line, level, Outline, end, row}
 use Rattle.yq_tree.specs.Group.{deeper, shallow, group}
 use Rattle.yq_tree.specs.Lines.{line_of, lines_of}

@@ -6,7 +6,7 @@ use Rattle.yq_scalar.specs.declared.fault.ReadError.{ReadError}
 use Rattle.yq_scalar.specs.declared.fault.ReadError.TheVariants as error
 use Rattle.yq_scalar.specs.Text.{is_empty}
 use Rattle.yq_scalar.specs.Tree.{Node}
-use Rattle.yq_rows.specs.Rows.{Row}
+use Rattle.yq_tree.specs.Rows.{Row}
 use Rattle.yq_tree.specs.Outline.{Line, level, Outline, end, row}
 use Rattle.yq_tree.specs.Group.{deeper, group, is_open, level_or}
 use Rattle.yq_tree.specs.Lines.{plain_node, head_node, line_of, lines_of}

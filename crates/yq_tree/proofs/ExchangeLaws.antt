@@ -7,8 +7,8 @@ use Rattle.yq_scalar.specs.Paths.{Step, node_at, change}
 use Rattle.yq_scalar.specs.Text.{is_empty}
 use Rattle.yq_scalar.specs.Tree.{Node}
 use Rattle.yq_rows.specs.Comments.{head_comment}
-use Rattle.yq_rows.specs.Exchange.{with_head_at, exchange_head}
-use Rattle.yq_rows.specs.Rows.{Row, with_head, Cut}
+use Rattle.yq_tree.specs.Exchange.{with_head_at, exchange_head}
+use Rattle.yq_tree.specs.Rows.{Row, with_head, Cut, end_of}
 use Rattle.yq_tree.specs.Documents.{first_gap, depth_limit}
 use Rattle.yq_tree.specs.Group.{level_or, is_fine}
 use Rattle.yq_tree.specs.Laws.{with_lines}
@@ -110,5 +110,5 @@ head_exchanged c s ss i r head g is_doc path is old new change_is =
     let unique : has_unique_keys (root_of c') ≡ true = ap has_unique_keys st.1 ∙ (alike.1 ∙ d.1) in (
       and_from (not (list_any is_merge c'.rows)) (is_sound depth_limit (outline_of c')) (ap not (merge_stays i head c.rows) ∙ p.0)
           (and_from (is_fine (outline_of c')) (leb (depth (root_of c')) depth_limit && has_unique_keys (root_of c')) st.0 (and_from (leb (depth (root_of c')) depth_limit) (has_unique_keys (root_of c')) nested unique)),
-      λ j. record { lead = head_comment (gap_stays i head c.rows c.end j); root = st.1 j } ∷ [],
+      λ j. record { lead = head_comment (gap_stays i head c.rows (end_of c) j); root = st.1 j } ∷ [],
     )

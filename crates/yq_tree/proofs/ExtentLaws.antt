@@ -3,7 +3,7 @@ use Rattle.std.proofs.Common.{◌≡◌, ℕ, zero, suc, ◌+◌, List, [], ◌�
 use Rattle.std.specs.List.{slice_get}
 use Rattle.yq_scalar.specs.Paths.{Step, Nth, is_item}
 use Rattle.yq_scalar.specs.Text.{is_empty}
-use Rattle.yq_rows.specs.Rows.{Row, Cut}
+use Rattle.yq_tree.specs.Rows.{Row, Cut}
 use Rattle.yq_tree.specs.Ends.{part, floor_of}
 use Rattle.yq_tree.specs.Extents.{own_place, without_head, entry_at, entry_place, place_from}
 use Rattle.yq_tree.specs.Lines.{plain_node, line_of, lines_of}

@@ -4,7 +4,7 @@ use Rattle.yq_scalar.specs.declared.kind.Kind.{Kind}
 use Rattle.yq_scalar.specs.Paths.{Step, is_here, further}
 use Rattle.yq_scalar.specs.Text.{is_empty}
 use Rattle.yq_scalar.specs.Tree.{Node, scalar}
-use Rattle.yq_rows.specs.Rows.{Row}
+use Rattle.yq_tree.specs.Rows.{Row}
 use Rattle.yq_tree.specs.Group.{deeper, shallow, group}
 use Rattle.yq_tree.specs.Lines.{plain_node, head_node, line_of, lines_of}
 use Rattle.yq_tree.specs.Outline.{Mark, Bare, Key, Dash, Line, level, Outline, end, row, label}

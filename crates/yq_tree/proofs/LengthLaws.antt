@@ -6,23 +6,28 @@ use Rattle.std.proofs.lemmas.Option.{get_or_from_slice_get, slice_get_within}
 use Rattle.std.specs.List.{slice_get, sum_by}
 use Rattle.yq_scalar.specs.Text.{cut, upto, ends_line}
 use Rattle.yq_scalar.proofs.Upto.{upto_le_length}
-use Rattle.yq_rows.specs.Exchange.{row_front, before_head}
-use Rattle.yq_rows.specs.Rows.{Row, print_row, rows_text, Cut, cut_text}
+use Rattle.yq_rows.specs.View.{slices_text}
+use Rattle.yq_tree.specs.Exchange.{row_front, before_head}
+use Rattle.yq_tree.specs.Rows.{Row, rows_text, Cut, end_of, cut_text}
 use Rattle.yq_tree.specs.Extents.{before_key, before_break, row_length, rows_before}
 
-print-length : (r : Row) (rest : List ℕ) → length (print_row r rest) ≡ row_length r + length rest
+print-length : (r : Row) (rest : List ℕ) → length (slices_text r rest) ≡ row_length r + length rest
 print-length r rest =
     let spaces : length (replicate r.column 32) ≡ r.column = length-replicate {A = ℕ} r.column 32 in
     omega (
       arith,
       spaces,
-      length-append r.gap (replicate r.column 32 ++ (r.key ++ (r.colon ++ (r.space ++ (r.head ++ (r.tail ++ rest)))))),
-      length-append (replicate r.column 32) (r.key ++ (r.colon ++ (r.space ++ (r.head ++ (r.tail ++ rest))))),
-      length-append r.key (r.colon ++ (r.space ++ (r.head ++ (r.tail ++ rest)))),
-      length-append r.colon (r.space ++ (r.head ++ (r.tail ++ rest))),
-      length-append r.space (r.head ++ (r.tail ++ rest)),
-      length-append r.head (r.tail ++ rest),
-      length-append r.tail rest,
+      length-append r.gap (replicate r.column 32 ++ (r.dashes ++ (r.key ++ (r.colon ++ (r.space ++ (r.anchor ++ (r.apart ++ (r.head ++ (r.tail ++ (r.raw ++ rest)))))))))),
+      length-append (replicate r.column 32) (r.dashes ++ (r.key ++ (r.colon ++ (r.space ++ (r.anchor ++ (r.apart ++ (r.head ++ (r.tail ++ (r.raw ++ rest))))))))),
+      length-append r.dashes (r.key ++ (r.colon ++ (r.space ++ (r.anchor ++ (r.apart ++ (r.head ++ (r.tail ++ (r.raw ++ rest)))))))),
+      length-append r.key (r.colon ++ (r.space ++ (r.anchor ++ (r.apart ++ (r.head ++ (r.tail ++ (r.raw ++ rest))))))),
+      length-append r.colon (r.space ++ (r.anchor ++ (r.apart ++ (r.head ++ (r.tail ++ (r.raw ++ rest)))))),
+      length-append r.space (r.anchor ++ (r.apart ++ (r.head ++ (r.tail ++ (r.raw ++ rest))))),
+      length-append r.anchor (r.apart ++ (r.head ++ (r.tail ++ (r.raw ++ rest)))),
+      length-append r.apart (r.head ++ (r.tail ++ (r.raw ++ rest))),
+      length-append r.head (r.tail ++ (r.raw ++ rest)),
+      length-append r.tail (r.raw ++ rest),
+      length-append r.raw rest,
     )
 
 rows-length : (rows : List Row) (rest : List ℕ) → length (rows_text rows rest) ≡ sum_by row_length rows + length rest
@@ -39,7 +44,7 @@ before_more c at r is =
     let there = get_or_from_slice_get c.rows at r r is in
     let most = sum_by_more_le row_length c.rows at r within in (
       sum_by_more row_length c.rows at r within ∙ ap (λ x. rows_before at c.rows + row_length x) there,
-      omega (arith, ap row_length there, most, rows-length c.rows c.end),
+      omega (arith, ap row_length there, most, rows-length c.rows (end_of c)),
     )
 
 key-length : (rows : List Row) (at : ℕ) (r : Row) → slice_get rows at ≡ Some r → length (before_key at rows) ≡ rows_before at rows + (length r.gap + r.column)
@@ -53,11 +58,11 @@ key-length (x ∷ rows) (suc at) r is =
     let sum : rows_before (suc at) (x ∷ rows) ≡ row_length x + rows_before at rows = sum_by-cons row_length x (take at rows) in
     omega (arith, text, sum, key-length rows at r is)
 
-front-length : (r : Row) → length (row_front r) ≡ length r.gap + r.column + length r.key + length r.colon + length r.space
+front-length : (r : Row) → length (row_front r) ≡ length r.gap + r.column + length r.dashes + length r.key + length r.colon + length r.space + length r.anchor + length r.apart
 front-length r =
-    omega (arith, length-append r.gap (replicate r.column 32 ++ (r.key ++ (r.colon ++ r.space))), length-append (replicate r.column 32) (r.key ++ (r.colon ++ r.space)), length-replicate {A = ℕ} r.column 32, length-append r.key (r.colon ++ r.space), length-append r.colon r.space)
+    omega (arith, length-replicate {A = ℕ} r.column 32, length-append r.gap (replicate r.column 32 ++ (r.dashes ++ (r.key ++ (r.colon ++ (r.space ++ (r.anchor ++ r.apart)))))), length-append (replicate r.column 32) (r.dashes ++ (r.key ++ (r.colon ++ (r.space ++ (r.anchor ++ r.apart))))), length-append r.dashes (r.key ++ (r.colon ++ (r.space ++ (r.anchor ++ r.apart)))), length-append r.key (r.colon ++ (r.space ++ (r.anchor ++ r.apart))), length-append r.colon (r.space ++ (r.anchor ++ r.apart)), length-append r.space (r.anchor ++ r.apart), length-append r.anchor r.apart)
 
-head-length : (rows : List Row) (at : ℕ) (r : Row) → slice_get rows at ≡ Some r → length (before_head at rows) ≡ rows_before at rows + (length r.gap + r.column + length r.key + length r.colon + length r.space)
+head-length : (rows : List Row) (at : ℕ) (r : Row) → slice_get rows at ≡ Some r → length (before_head at rows) ≡ rows_before at rows + (length r.gap + r.column + length r.dashes + length r.key + length r.colon + length r.space + length r.anchor + length r.apart)
 head-length [] at r is = cc
 head-length (x ∷ rows) zero r is = rw (some is) (omega (arith, front-length r))
   where
@@ -69,7 +74,7 @@ head-length (x ∷ rows) (suc at) r is =
     omega (arith, text, sum, head-length rows at r is)
 
 break-length : (rows : List Row) (at : ℕ) (r : Row) → slice_get rows at ≡ Some r →
-    length (before_break at rows) ≡ rows_before at rows + (length r.gap + r.column + length r.key + length r.colon + length r.space + length r.head + length (cut ends_line r.tail).0)
+    length (before_break at rows) ≡ rows_before at rows + (length r.gap + r.column + length r.dashes + length r.key + length r.colon + length r.space + length r.anchor + length r.apart + length r.head + length (cut ends_line r.tail).0)
 break-length [] at r is = cc
 break-length (x ∷ rows) zero r is = rw (some is) (omega (arith, front-length r, length-append (row_front r) (r.head ++ (cut ends_line r.tail).0), length-append r.head (cut ends_line r.tail).0))
   where
@@ -83,7 +88,7 @@ break-length (x ∷ rows) (suc at) r is =
 -- where the pieces of a row stand
 pub record Places (c : Cut) (at : ℕ) (r : Row) : Type 0 where
   pub key : length (before_key at c.rows) ≡ rows_before at c.rows + (length r.gap + r.column)
-  pub head : length (before_head at c.rows) ≡ length (before_key at c.rows) + (length r.key + length r.colon + length r.space)
+  pub head : length (before_head at c.rows) ≡ length (before_key at c.rows) + (length r.dashes + length r.key + length r.colon + length r.space + length r.anchor + length r.apart)
   pub break : length (before_break at c.rows) ≡ length (before_head at c.rows) + (length r.head + upto ends_line r.tail)
   pub within : length (before_break at c.rows) ≤ length (cut_text c)
 

@@ -24,3 +24,13 @@ pub mod LengthLaws
 pub mod PlacedLaws
 pub mod ContentLaws
 pub mod ChildLaws
+pub mod Fronts
+pub mod KeyRows
+pub mod Alikes
+pub mod CharacterLaws
+pub mod KeyExchange
+pub mod BoundaryLaws
+pub mod KeyShapes
+pub mod KeyCuts
+pub mod HeadLaws
+pub mod PartLaws

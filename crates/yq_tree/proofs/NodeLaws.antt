@@ -5,7 +5,7 @@ use Rattle.std.specs.List.{slice_get}
 use Rattle.yq_scalar.specs.Paths.{Step, Nth, is_item, child_at}
 use Rattle.yq_scalar.specs.Text.{is_empty}
 use Rattle.yq_scalar.specs.Tree.{children_of}
-use Rattle.yq_rows.specs.Rows.{Row, Cut}
+use Rattle.yq_tree.specs.Rows.{Row, Cut}
 use Rattle.yq_tree.specs.declared.node.NodeKind.TheVariants as kinds
 use Rattle.yq_tree.specs.Ends.{part, is_end, floor_of}
 use Rattle.yq_tree.specs.Group.{deeper, group}

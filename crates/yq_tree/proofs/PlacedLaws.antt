@@ -2,8 +2,8 @@
 use Rattle.std.proofs.Common.{◌≡◌, ℕ, zero, suc, ◌+◌, ◌-◌, ◌<◌, ◌≤◌, List, length, get_or, Option, Some, None, Bool, true, false, not, cond, refl, sym, ap, ◌∙◌, arith}
 use Rattle.std.proofs.lemmas.Option.{slice_get_within}
 use Rattle.yq_scalar.specs.Text.{is_empty}
-use Rattle.yq_rows.specs.Exchange.{before_head}
-use Rattle.yq_rows.specs.Rows.{Row, Cut, cut_text}
+use Rattle.yq_tree.specs.Exchange.{before_head}
+use Rattle.yq_tree.specs.Rows.{Row, Cut, cut_text}
 use Rattle.yq_tree.specs.Ends.{part, is_end, AreEndsFrom}
 use Rattle.yq_tree.specs.Extents.{before_key, before_break, rows_place, head_place, own_place, IsEntryOf}
 use Rattle.yq_tree.specs.Group.{group}

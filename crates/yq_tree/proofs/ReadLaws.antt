@@ -1,24 +1,30 @@
 -- Reading bytes and spelling what they read as, both ways.
-use Rattle.std.proofs.Common.{◌≡◌, ℕ, leb, List, [], ◌∷◌, Bool, true, false, not, ◌&&◌, Option, Some, None, cond, refl, sym, ap, ◌∙◌, subst, codes}
-use Rattle.std.proofs.lemmas.Bool.{and_parts, and_from, or_parts, or_from, leb-true, le-leb, cond-true}
-use Rattle.std.specs.List.{list_any}
+use Rattle.std.proofs.Common.{◌≡◌, ℕ, leb, ◌+◌, ◌≤◌, List, [], ◌∷◌, length, Bool, true, false, not, ◌&&◌, Option, Some, None, cond, refl, sym, ap, ◌∙◌, subst, codes}
+use Rattle.std.proofs.lemmas.Bool.{and_parts, and_from, or_parts, or_from, leb-true, le-leb, cond-true, false≢true}
+use Rattle.std.specs.List.{list_any, list_all}
 use Rattle.std.specs.Str.{is_utf8}
 use Rattle.yq_scalar.specs.Answers.{◌>>=◌}
+use Rattle.yq_scalar.specs.Characters.{text_limit}
 use Rattle.yq_scalar.specs.Tree.{Node}
 use Rattle.yq_scalar.specs.Keys.{depth}
-use Rattle.yq_scalar.proofs.Bools.{bind_some, guard_then}
-use Rattle.yq_rows.specs.Grammar.{IsCut}
+use Rattle.yq_scalar.proofs.Bools.{bind_some, guard_some, guard_then}
+use Rattle.yq_rows.specs.Grammar as grammar
+use Rattle.yq_rows.specs.Lending.{shown_read}
 use Rattle.yq_rows.specs.Reading.{scan_at}
-use Rattle.yq_rows.specs.Rows.{Row, Cut}
-use Rattle.yq_rows.proofs.RowsLaws.{scan_takes, scan_again}
+use Rattle.yq_tree.specs.Rows.{Row, Cut, cut_text}
+use Rattle.yq_rows.specs.Rows as parts
+use Rattle.yq_rows.specs.View.{Bound, shown, bounds_from}
+use Rattle.yq_rows.proofs.ScanLaws.{scan_takes, scan_again}
+use Rattle.yq_tree.specs.Built.{is_built, IsCut}
 use Rattle.yq_tree.specs.Documents.{Document, IsRoot, HasNoMergeKey, IsDocument, Reads, lead_of, depth_limit}
 use Rattle.yq_tree.specs.Group.{group, is_fine}
 use Rattle.yq_tree.specs.Lines.{lines_of}
 use Rattle.yq_tree.specs.Outline.{Line, value}
-use Rattle.yq_tree.specs.Reading.{outline_of, root_of, documents, is_merge, is_document, checked, text_at, read_at}
+use Rattle.yq_tree.specs.Reading.{outline_of, root_of, documents, is_merge, is_document, checked, is_one, are_built, if_built, cut_at, text_at, read_at}
 use Rattle.yq_tree.specs.Sound.{has_unique_keys, is_sound}
 use Rattle.yq_tree.proofs.ByRules.{rules_from, rules_give}
 use Rattle.yq_tree.proofs.Decides.{stand-sound, stand-complete}
+use Rattle.yq_tree.proofs.PartLaws.{part_text}
 use Rattle.yq_tree.proofs.KeyLaws.{differ, differs, unique_is, is_unique}
 
 -- the root of lines, as a test and as a fact
@@ -76,20 +82,63 @@ checked_is c d e = let p = guard_then (is_document c) e in (p.0, some p.1)
     some : {x y : Cut} → Some x ≡ Some y → x ≡ y
     some e = cc
 
+-- a text of one part
+many_bounds : (n : ℕ) (c : parts.Cut) (b : Bound) → is_one (b ∷ bounds_from n c) ≡ true → ⊥
+many_bounds n (parts.last p) b e = false≢true e
+many_bounds n (parts.marked p marker c) b e = false≢true e
+
+one_part : (c : parts.Cut) → is_one (shown c).bounds ≡ true → (p : parts.Part) × (c ≡ parts.last p)
+one_part (parts.last p) e = (p, refl)
+one_part (parts.marked p marker c) e = absurd (many_bounds (0 + length p.rows) c (record { rows = 0 + length p.rows; end = p.end; marker = marker }) e)
+
+built_is : (c d : Cut) → if_built c ≡ Some d → (are_built c ≡ true) × (c ≡ d)
+built_is c d e = guard_some (are_built c) e
+
+read_some : (o : Option parts.Cut) (c : Cut) → (shown_read o >>= if_built) ≡ Some c → (d : parts.Cut) × (o ≡ Some d) × (if_built (shown d) ≡ Some c)
+read_some None c e = cc
+read_some (Some d) c e = (d, refl, e)
+
+pub cut_takes : (t : List ℕ) (c : Cut) → cut_at t ≡ Some c → IsCut t c
+unfolding cut_at
+cut_takes t c e =
+    let q = read_some (scan_at t) c e in
+    let b = built_is (shown q.0) c q.2 in
+    let tests = and_parts (is_one (shown q.0).bounds) (list_all is_built (shown q.0).rows) b.0 in
+    let one = one_part q.0 tests.0 in
+    let is : c ≡ shown (parts.last one.0) = sym b.1 ∙ ap shown one.1 in
+    let cut : grammar.IsCut t (parts.last one.0) = subst (grammar.IsCut t) one.1 (scan_takes t q.0 q.1) in
+    record {
+      text = cut.text ∙ (part_text one.0 ∙ ap cut_text (sym is));
+      part = one.0;
+      cut = cut;
+      is = is;
+      built = subst (λ (x : Cut). list_all is_built x.rows ≡ true) b.1 tests.1;
+    }
+
+-- a text that is cut so is no larger than a text may be
+pub cut_short : (t : List ℕ) (c : Cut) → cut_at t ≡ Some c → length (cut_text c) ≤ text_limit
+cut_short t c e = let h : IsCut t c = cut_takes t c e in subst (λ (u : List ℕ). length u ≤ text_limit) h.text h.cut.size
+
+pub cut_again : (t : List ℕ) (c : Cut) → IsCut t c → cut_at t ≡ Some c
+unfolding cut_at
+cut_again t c h =
+    let built : are_built (shown (parts.last h.part)) ≡ true = subst (λ (x : Cut). list_all is_built x.rows ≡ true) h.is h.built in
+    ap (λ x. shown_read x >>= if_built) (scan_again t (parts.last h.part) h.cut) ∙ (cond-true _ _ _ built ∙ ap Some (sym h.is))
+
 pub read_takes : (bytes : List ℕ) (c : Cut) → read_at bytes ≡ Some c → Reads bytes (documents c)
 unfolding read_at text_at
 read_takes bytes c e =
     let p = guard_then (is_utf8 bytes) e in
-    let q = bind_some (scan_at bytes) p.1 in
+    let q = bind_some (cut_at bytes) p.1 in
     let r = checked_is q.0 c q.2 in
-    let cut : IsCut bytes c = subst (λ x. IsCut bytes x) r.1 (scan_takes bytes q.0 q.1) in
+    let cut : IsCut bytes c = subst (λ x. IsCut bytes x) r.1 (cut_takes bytes q.0 q.1) in
     record { utf8 = p.0; rows = c; cut = cut; document = record { lead = lead_of c; root = root_of c }; stands = document_is c (ap is_document (sym r.1) ∙ r.0); one = refl }
 
 pub read_again : (bytes : List ℕ) (docs : List Document) → Reads bytes docs → (c : Cut) × (read_at bytes ≡ Some c) × (documents c ≡ docs)
 unfolding read_at text_at
 read_again bytes docs h =
     let d = is_document_of h.rows h.document h.stands in
-    let read : (scan_at bytes >>= checked) ≡ Some h.rows = ap (λ x. x >>= checked) (scan_again bytes h.rows h.cut) ∙ cond-true _ _ _ d.0 in
+    let read : (cut_at bytes >>= checked) ≡ Some h.rows = ap (λ x. x >>= checked) (cut_again bytes h.rows h.cut) ∙ cond-true _ _ _ d.0 in
     (h.rows, cond-true _ _ _ h.utf8 ∙ read, d.1 ∙ sym h.one)
 
 same_some : {x y : Cut} → Some x ≡ Some y → x ≡ y

@@ -5,7 +5,7 @@ use Rattle.yq_scalar.specs.declared.kind.Kind.{Kind}
 use Rattle.yq_scalar.specs.Paths.{Step, node_at}
 use Rattle.yq_scalar.specs.Text.{is_empty}
 use Rattle.yq_scalar.specs.Tree.{Node, scalar}
-use Rattle.yq_rows.specs.Rows.{Row, Cut}
+use Rattle.yq_tree.specs.Rows.{Row, Cut}
 use Rattle.yq_tree.specs.Group.{group}
 use Rattle.yq_tree.specs.Laws.{with_lines}
 use Rattle.yq_tree.specs.Lines.{plain_node, line_of, lines_of}

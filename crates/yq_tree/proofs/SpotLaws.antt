@@ -3,7 +3,7 @@ use Rattle.std.proofs.Common.{◌≡◌, ℕ, suc, ◌+◌, ◌<◌, List, ◌++
 use Rattle.std.proofs.lemmas.Bool.{cond-true, cond-false, false≢true}
 use Rattle.std.specs.List.{slice_get}
 use Rattle.yq_scalar.specs.Paths.{Step, is_here, further}
-use Rattle.yq_rows.specs.Rows.{Row}
+use Rattle.yq_tree.specs.Rows.{Row}
 use Rattle.yq_tree.specs.Ends.{part, is_end, IsEndOf}
 use Rattle.yq_tree.specs.Group.{deeper, shallow, group}
 use Rattle.yq_tree.specs.Lines.{line_of, lines_of}

@@ -4,11 +4,11 @@ use Rattle.std.specs.Str.{is_utf8}
 use Rattle.yq_scalar.specs.Tree.{Node}
 use Rattle.yq_scalar.specs.Keys.{HasUniqueKeys, depth}
 use Rattle.yq_rows.specs.Comments.{head_comment}
-use Rattle.yq_rows.specs.Grammar.{IsCut}
-use Rattle.yq_rows.specs.Rows.{Row, Cut}
+use Rattle.yq_tree.specs.Built.{IsCut}
 use Rattle.yq_tree.specs.Grammar.{IsNode}
 use Rattle.yq_tree.specs.Lines.{lines_of}
 use Rattle.yq_tree.specs.Outline.{Line, null}
+use Rattle.yq_tree.specs.Rows.{Row, Cut, end_of}
 
 -- A document: the comment before it and its root node (9.1, own).
 pub record Document : Type 0 where
@@ -27,7 +27,7 @@ first_gap (r ∷ rs) end = r.gap
 
 -- the comment before a document: the run of comment lines that ends its first gap (own)
 abbrev pub lead_of : Cut → List (List ℕ)
-lead_of c = head_comment (first_gap c.rows c.end)
+lead_of c = head_comment (first_gap c.rows (end_of c))
 
 -- no row's key is a plain `<<` (own)
 abbrev pub HasNoMergeKey : List Row → Type 0

@@ -4,9 +4,8 @@ use Rattle.std.specs.List.{sum_by}
 use Rattle.yq_scalar.specs.declared.kind.Kind.{Kind}
 use Rattle.yq_scalar.specs.Paths.{Step, node_at}
 use Rattle.yq_scalar.specs.Text.{is_empty, cut, ends_line}
-use Rattle.yq_rows.specs.Exchange.{row_front, before_head}
-use Rattle.yq_rows.specs.Rows.{Row, print_row, Cut}
-use Rattle.yq_rows.specs.View.{view}
+use Rattle.yq_tree.specs.Exchange.{row_front, before_head}
+use Rattle.yq_rows.specs.View.{view, slices_text}
 use Rattle.yq_scalar.specs.Tree.{Node}
 use Rattle.yq_tree.specs.declared.node.Node as declared
 use Rattle.yq_tree.specs.declared.node.NodeKind.TheVariants.{Scalar}
@@ -16,19 +15,20 @@ use Rattle.yq_tree.specs.Outline.{Line, Outline, flatten}
 use Rattle.yq_tree.specs.Places.{find_row}
 use Rattle.yq_tree.specs.Reading.{root_of}
 use Rattle.yq_tree.specs.RowPaths.{row_at}
+use Rattle.yq_tree.specs.Rows.{Row, Cut}
 use Rattle.yq_tree.specs.View.{steps_of}
 
 -- the text before the key of row i
 abbrev pub before_key : ℕ → List Row → List ℕ
 before_key i [] = []
 before_key zero (r ∷ rs) = r.gap ++ replicate r.column 32
-before_key (suc i) (r ∷ rs) = print_row r (before_key i rs)
+before_key (suc i) (r ∷ rs) = slices_text r (before_key i rs)
 
 -- the text up to the end of row i, before its break
 abbrev pub before_break : ℕ → List Row → List ℕ
 before_break i [] = []
 before_break zero (r ∷ rs) = row_front r ++ (r.head ++ (cut ends_line r.tail).0)
-before_break (suc i) (r ∷ rs) = print_row r (before_break i rs)
+before_break (suc i) (r ∷ rs) = slices_text r (before_break i rs)
 
 -- the place of so many rows from row i on: from the key of the first to the end of the last, before its break; where there are none, no place
 abbrev pub rows_place : List Row → ℕ → ℕ → Option (ℕ × ℕ)
@@ -73,7 +73,8 @@ content_place path c = if path.doc == 0 then place_from c None 0 (steps_of path)
 
 -- how long a row is, with its gap
 abbrev pub row_length : Row → ℕ
-row_length r = length r.gap + r.column + length r.key + length r.colon + length r.space + length r.head + length r.tail
+row_length r =
+    length r.gap + r.column + length r.dashes + length r.key + length r.colon + length r.space + length r.anchor + length r.apart + length r.head + length r.tail + length r.raw
 
 -- how long the first rows are
 abbrev pub rows_before : ℕ → List Row → ℕ

@@ -15,5 +15,6 @@ pub mod RowPaths
 pub mod Answers
 pub mod Nodes
 pub mod Extents
-pub use Rattle.yq_rows.specs.Rows
-pub use Rattle.yq_rows.specs.Exchange
+pub mod Rows
+pub mod Exchange
+pub mod Built

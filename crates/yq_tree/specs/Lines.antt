@@ -3,7 +3,7 @@ use Rattle.std.specs.Prelude.{ℕ, List, map, Option, Some, None, if◌then◌el
 use Rattle.yq_scalar.specs.Scalar.{ScalarText, plain_of}
 use Rattle.yq_scalar.specs.Text.{is_empty}
 use Rattle.yq_scalar.specs.Tree.{Node, scalar}
-use Rattle.yq_rows.specs.Rows.{Row}
+use Rattle.yq_tree.specs.Rows.{Row}
 use Rattle.yq_rows.specs.Comments as comments
 use Rattle.yq_tree.specs.Outline.{Key, Line}
 

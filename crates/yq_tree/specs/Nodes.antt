@@ -3,7 +3,7 @@ use Rattle.std.specs.Prelude.{◌≡◌, ℕ, ◌+◌, List, [], length, slice_g
 use Rattle.yq_scalar.specs.Paths.{node_at}
 use Rattle.yq_scalar.specs.Text.{is_empty}
 use Rattle.yq_scalar.specs.Tree.{Label, Node, alias, scalar, list, map, Children, none, child}
-use Rattle.yq_rows.specs.Rows.{Row, Cut}
+use Rattle.yq_tree.specs.Rows.{Row, Cut}
 use Rattle.yq_rows.specs.View.{view}
 use Rattle.yq_tree.specs.declared.children.Children as children
 use Rattle.yq_tree.specs.declared.node.Node as declared

@@ -3,8 +3,8 @@ use Rattle.std.specs.Prelude.{◌≡◌, ◌⊎◌, ℕ, List, [], ◌∷◌, le
 use Rattle.yq_scalar.specs.Paths.{Step, node_at, change}
 use Rattle.yq_scalar.specs.Text.{is_empty}
 use Rattle.yq_scalar.specs.Tree.{Node, map, Children}
-use Rattle.yq_rows.specs.Exchange.{exchange_head}
-use Rattle.yq_rows.specs.Rows.{Row, Cut}
+use Rattle.yq_tree.specs.Exchange.{exchange_head}
+use Rattle.yq_tree.specs.Rows.{Row, Cut}
 use Rattle.yq_tree.specs.Documents.{lead_of}
 use Rattle.yq_tree.specs.Group.{group}
 use Rattle.yq_tree.specs.Lines.{plain_node, lines_of}

@@ -2,7 +2,7 @@
 ghost use Rattle.std.specs.Prelude.{◌≡◌, ◌≤◌, length, is_some, IfOk};
 ghost use Rattle.std.specs.List.{list_any};
 ghost use Rattle.yq_scalar.specs.Characters.{text_limit};
-ghost use Rattle.yq_rows.specs.Rows.{Cut, cut_text};
+ghost use Rattle.yq_tree.specs.Rows.{Cut, cut_text};
 ghost use Rattle.yq_tree.specs.Ends.{AreEndsFrom};
 ghost use Rattle.yq_tree.specs.Lines.{lines_of};
 ghost use Rattle.yq_tree.specs.Reading as spec;

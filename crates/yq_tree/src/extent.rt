@@ -1,8 +1,8 @@
 //! Where the content of nodes stands in their text.
 ghost use Rattle.std.specs.Prelude.{◌≡◌, ◌+◌, ◌<◌, ◌≤◌, length, [], option_map};
 ghost use Rattle.yq_scalar.specs.Characters.{text_limit};
-ghost use Rattle.yq_rows.specs.Exchange.{before_head};
-ghost use Rattle.yq_rows.specs.Rows.{cut_text};
+ghost use Rattle.yq_tree.specs.Exchange.{before_head};
+ghost use Rattle.yq_tree.specs.Rows.{cut_text};
 ghost use Rattle.yq_rows.specs.View.{view};
 ghost use Rattle.yq_tree.specs.declared.path.Part.TheVariants.{Content};
 ghost use Rattle.yq_tree.specs.Extents as spec;
@@ -22,11 +22,15 @@ fn row_len(row: &Row<'_>) -> usize
 {
     row.gap().len()
         + row.column()
+        + row.dashes().len()
         + row.key().len()
         + row.colon().len()
         + row.space().len()
+        + row.anchor().len()
+        + row.apart().len()
         + row.head().len()
         + row.tail().len()
+        + row.raw().len()
 }
 
 /// How long the first rows are.
@@ -59,7 +63,13 @@ fn head_start(rows: &Rows<'_>, at: usize) -> usize
     ensures { result ≡ length (before_head at rows.now.rows) }
 {
     let row = rows.row(at);
-    key_start(rows, at) + row.key().len() + row.colon().len() + row.space().len()
+    key_start(rows, at)
+        + row.dashes().len()
+        + row.key().len()
+        + row.colon().len()
+        + row.space().len()
+        + row.anchor().len()
+        + row.apart().len()
 }
 
 /// Where a row ends, before its break.

@@ -7,6 +7,8 @@ mod ends;
 mod entries;
 mod extent;
 mod fault;
+mod forms;
+mod head_laws;
 mod laws;
 mod node;
 mod path;
@@ -17,6 +19,7 @@ mod tests;
 
 pub use children::Children;
 pub use document::{DEPTH_LIMIT, Documents};
+pub use head_laws::{cut_exchanged, cut_read, head_ends, head_pieces, head_place, head_text};
 pub use laws::{exchanged, one_node, rules};
 pub use node::{Node, NodeKind};
 pub use path::{Part, Path, Span, Step};

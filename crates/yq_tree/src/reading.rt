@@ -8,8 +8,9 @@ ghost use Rattle.yq_tree.specs.Answers.{IsNotUtf8};
 ghost use Rattle.yq_tree.specs.Reading as spec;
 
 use crate::document::{Documents, check_rows};
+use crate::forms::form_fault;
 use std::alloc::Global;
-use yq_rows::scan;
+use yq_rows::{Rows, scan};
 use yq_scalar::{FaultKind, ReadError, ReadFault};
 
 /// The text that bytes are in UTF-8. Bytes that are none are refused as
@@ -43,12 +44,24 @@ fn text_fault(fault: ReadFault) -> ReadFault
     }
 }
 
+/// Cuts a text into rows of forms that are read.
+#[tactic(auto, unfolding(crate::specs::Reading::cut_at))]
+fn cut(alloc: Global, text: &str) -> Result<Rows<'_>, ReadError>
+    ensures { Gives (λ c. c) result (spec.cut_at text.now) }
+{
+    let rows = scan(alloc, text)?;
+    match form_fault(&rows) {
+        None => Ok(rows),
+        Some(fault) => Err(ReadError::Fault(fault)),
+    }
+}
+
 /// Reads a text as documents.
 #[tactic(auto, unfolding(crate::specs::Reading::text_at))]
 fn read_text(alloc: Global, text: &str) -> Result<Documents<'_>, ReadError>
     ensures { Gives (λ d. d) result (spec.text_at text.now) }
 {
-    let rows = scan(alloc, text)?;
+    let rows = cut(alloc, text)?;
     let ends = check_rows(alloc, &rows)?;
     Ok(Documents { rows, ends })
 }

@@ -48,6 +48,28 @@ fn refuses(rt: HostRuntime) {
 }
 
 #[test]
+fn refuses_other_forms(rt: HostRuntime) {
+    let rows: [(&[u8], u64); 12] = [
+        (b"- a\n", 1),
+        (b"a: 1\n- b\n", 2),
+        (b"x\n", 1),
+        (b"'k': 1\n", 1),
+        (b"a: 1\nb: 'x'\n", 2),
+        (b"# c\na: &x 1\n", 2),
+        (b"a: *x\n", 1),
+        (b"a: 1\nb: [1,\n  2]\nc: 3\n", 2),
+        (b"a: 1\nb: x\n  y\n", 2),
+        (b"a: 1\nb: |\n  x\n\nc: 2\n", 2),
+        (b"a: 1\nb: 2\n\n---\nc: |\n  x\n", 4),
+        (b"---\na: 1\n", 1),
+    ];
+    for (bytes, line) in rows {
+        let wanted = Some((FaultKind::BadScalar, line));
+        assert_eq!(rt; refusal(read(rt.alloc(), bytes)), wanted);
+    }
+}
+
+#[test]
 fn reads_nodes(rt: HostRuntime) -> Result<(), Fail> {
     let alloc = rt.alloc();
     let documents = read(alloc, b"a:\n  b: 1\n\n  # c\n  d: x y\ne:\r\nf: ~\nb: .5\n")?;

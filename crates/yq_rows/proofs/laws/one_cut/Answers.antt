@@ -1,5 +1,11 @@
-use Rattle.yq_rows.proofs.RowsLaws.{one_cut}
+use Rattle.yq_rows.proofs.ScanLaws.{one_cut, scan_takes, scan_again}
 use Rattle.yq_rows.proofs.laws.one_cut.Goals as goal
 
-pub returns : goal.returns
-returns c = one_cut
+pub returns-clause-one : goal.returns-clause-one
+returns-clause-one c = one_cut
+
+pub returns-clause-taken : goal.returns-clause-taken
+returns-clause-taken c = scan_takes
+
+pub returns-clause-given : goal.returns-clause-given
+returns-clause-given c = scan_again

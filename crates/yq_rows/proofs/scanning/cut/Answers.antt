@@ -1,26 +1,48 @@
-use Rattle.std.proofs.Common.{arith, rules, true, false}
-use Rattle.yq_rows.specs.View.{limit_view}
-use Rattle.yq_rows.proofs.RowsLaws.{cut_within, empty_by, loop_init, loop_smaller, loop_step, loop_end}
+use Rattle.std.proofs.Common.{◌≡◌, true, false, length, List, Some, rules, arith, sym, ap, ◌∙◌}
+use Rattle.yq_scalar.specs.Text.{is_empty}
+use Rattle.yq_rows.specs.Grammar.{begins_document}
+use Rattle.yq_rows.specs.View.{Bound, views, bound_views}
+use Rattle.yq_rows.proofs.Failing.{fails_by}
+use Rattle.yq_rows.proofs.PartLending.{empty_by, bounds_push, views_length, part_is_marker, part_smaller, parts_none, parts_unmarked, parts_done, parts_more}
 use Rattle.yq_rows.proofs.scanning.cut.Goals as goal
 
-pub rows-init : goal.rows-init
-rows-init c = record {
-  gap_text = search rules;
-  text = search rules;
-  short = cut_within c.args.text.now _ _ c.split_gap.ensures;
-  so_far = loop_init c.new-rows.result.items _ c.args.text.now _ _ c.new-rows.ensures.items c.none-limit.ensures c.split_gap.ensures;
-}
+pub returns-in-Err : goal.returns-in-Err
+returns-in-Err c = fails_by c.in-Err.e _ _ c.in-Err.ensures (λ none. sym c.parts.invariant.so_far ∙ parts_none (views c.parts.rows.items) (bound_views c.parts.bounds.items) c.parts.is_open c.parts.rest.now none)
 
-pub rows-smaller : goal.rows-smaller
-rows-smaller c = loop_smaller c.in-Ok.found.0 (limit_view c.rows.limit) c.rows.gap.now c.rows.rest.now _ _ _ c.split_gap-in-rows.ensures c.in-Ok.ensures
+pub returns-then-is_empty : goal.returns-then-is_empty
+returns-then-is_empty c =
+    let none : is_empty c.in-Ok.part.2.now ≡ true = empty_by c.in-Ok.part.2.now _ true c.is_empty.ensures c.if-is_empty.true in
+    let count : c.len-count.result ≡ length (views c.in-Ok.part.0.items) = c.len-count.ensures ∙ (c.in-Ok.part.0.ok.0 ∙ views_length c.in-Ok.part.0.items) in
+    sym c.parts.invariant.so_far
+    ∙ (parts_done (views c.parts.rows.items) (bound_views c.parts.bounds.items) c.parts.is_open c.parts.rest.now (views c.in-Ok.part.0.items) c.in-Ok.part.1.now c.in-Ok.part.2.now c.len-count.result c.in-Ok.ensures none count
+    ∙ ap (λ (l : List Bound). Some (record { rows = views c.in-Ok.part.0.items; bounds = l })) (sym (bounds_push c.parts.bounds.items c.push.new.self.items _ c.in_ok-push.ensures.items)))
 
-pub rows-preserved : goal.rows-preserved
-rows-preserved c = record {
-  gap_text = search rules;
-  text = search rules;
-  short = omega (arith, loop_smaller c.in-Ok.found.0 (limit_view c.rows.limit) c.rows.gap.now c.rows.rest.now c.in-Ok.found.1.now c.split_gap-in-rows.result.0.now c.split_gap-in-rows.result.1.now c.split_gap-in-rows.ensures c.in-Ok.ensures, c.rows.invariant.short);
-  so_far = rw c.after-limit.ensures (loop_step c.rows.rows.items _ c.in-Ok.found.0 (limit_view c.rows.limit) c.rows.gap.now c.rows.rest.now _ _ _ _ c.split_gap-in-rows.ensures (empty_by c.rows.rest.now _ false c.is_empty.ensures c.rows-test.true) c.in-Ok.ensures c.in_ok-push.ensures.items c.rows.invariant.so_far);
-}
+pub read_marker-requires : goal.read_marker-requires
+read_marker-requires c =
+    let some : is_empty c.in-Ok.part.2.now ≡ false = empty_by c.in-Ok.part.2.now _ false c.is_empty.ensures c.if-is_empty.false in
+    part_is_marker (views c.parts.rows.items) c.parts.is_open c.parts.rest.now (views c.in-Ok.part.0.items) c.in-Ok.part.1.now c.in-Ok.part.2.now c.in-Ok.ensures some
 
-pub returns : goal.returns
-returns c = loop_end c.rows.rows.items (limit_view c.rows.limit) c.rows.gap.now c.rows.rest.now _ (empty_by c.rows.rest.now _ true c.is_empty.ensures c.rows-test.false) c.rows.invariant.so_far
+pub returns-in-Err-read_marker : goal.returns-in-Err-read_marker
+returns-in-Err-read_marker c =
+    let some : is_empty c.in-Ok.part.2.now ≡ false = empty_by c.in-Ok.part.2.now _ false c.is_empty.ensures c.if-is_empty.false in
+    sym c.parts.invariant.so_far
+    ∙ parts_unmarked (views c.parts.rows.items) (bound_views c.parts.bounds.items) c.parts.is_open c.parts.rest.now (views c.in-Ok.part.0.items) c.in-Ok.part.1.now c.in-Ok.part.2.now c.in-Ok.ensures some c.in-Err-read_marker.ensures
+
+pub parts-smaller : goal.parts-smaller
+parts-smaller c =
+    let some : is_empty c.in-Ok.part.2.now ≡ false = empty_by c.in-Ok.part.2.now _ false c.is_empty.ensures c.if-is_empty.false in
+    part_smaller (views c.parts.rows.items) c.parts.is_open c.parts.rest.now (views c.in-Ok.part.0.items) c.in-Ok.part.1.now c.in-Ok.part.2.now c.in-Ok-read_marker.line.0.now c.in-Ok-read_marker.line.1.now c.in-Ok.ensures some c.in-Ok-read_marker.ensures
+
+pub parts-preserved : goal.parts-preserved
+parts-preserved c =
+    let some : is_empty c.in-Ok.part.2.now ≡ false = empty_by c.in-Ok.part.2.now _ false c.is_empty.ensures c.if-is_empty.false in
+    let count : c.len-count.result ≡ length (views c.in-Ok.part.0.items) = c.len-count.ensures ∙ (c.in-Ok.part.0.ok.0 ∙ views_length c.in-Ok.part.0.items) in
+    let short = part_smaller (views c.parts.rows.items) c.parts.is_open c.parts.rest.now (views c.in-Ok.part.0.items) c.in-Ok.part.1.now c.in-Ok.part.2.now c.in-Ok-read_marker.line.0.now c.in-Ok-read_marker.line.1.now c.in-Ok.ensures some c.in-Ok-read_marker.ensures in
+    let is_open : c.begins_document-is_open.result ≡ begins_document c.in-Ok-read_marker.line.0.now = c.begins_document-is_open.ensures ∙ ap begins_document c.as_bytes.ensures.value in
+    record {
+      text = search rules;
+      short = omega (arith, short, c.parts.invariant.short);
+      so_far = rw (is_open, bounds_push c.parts.bounds.items c.push-in-parts.new.self.items _ c.in_ok-push-2.ensures.items)
+          (sym (parts_more (views c.parts.rows.items) (bound_views c.parts.bounds.items) c.parts.is_open c.parts.rest.now (views c.in-Ok.part.0.items) c.in-Ok.part.1.now c.in-Ok.part.2.now c.in-Ok-read_marker.line.0.now c.in-Ok-read_marker.line.1.now c.len-count.result c.in-Ok.ensures some c.in-Ok-read_marker.ensures count)
+          ∙ c.parts.invariant.so_far);
+    }

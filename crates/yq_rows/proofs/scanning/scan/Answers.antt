@@ -1,8 +1,8 @@
-use Rattle.yq_rows.proofs.RowsLaws.{found_by, only_by}
+use Rattle.yq_rows.proofs.ScanLaws.{found_by, only_by}
 use Rattle.yq_rows.proofs.scanning.scan.Goals as goal
 
 pub returns-clause-found : goal.returns-clause-found
-returns-clause-found c = found_by c.args.text.now _ c.scan_text.ensures
+returns-clause-found c = found_by _ c.args.text.now _ c.scan_text.ensures
 
 pub returns-clause-only : goal.returns-clause-only
-returns-clause-only c = only_by c.args.text.now _ c.scan_text.ensures
+returns-clause-only c = only_by _ c.args.text.now _ c.scan_text.ensures

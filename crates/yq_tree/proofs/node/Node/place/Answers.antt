@@ -1,6 +1,6 @@
 use Rattle.std.proofs.Common.{◌≡◌, ◌-◌, option_map, length, ap, arith}
-use Rattle.yq_rows.specs.Exchange.{before_head}
-use Rattle.yq_rows.specs.Rows.{cut_text}
+use Rattle.yq_tree.specs.Exchange.{before_head}
+use Rattle.yq_tree.specs.Rows.{cut_text}
 use Rattle.yq_rows.specs.View.{view}
 use Rattle.yq_tree.proofs.PlacedLaws.{in_row}
 use Rattle.yq_tree.proofs.node.Node.place.Goals as goal

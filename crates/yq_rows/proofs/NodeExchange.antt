@@ -1,0 +1,105 @@
+-- An inline node behind a dash or a key, exchanged for another one.
+use Rattle.std.proofs.Common.{◌≡◌, inl, inr, ℕ, ℤ, true, false, List, [], ◌∷◌, ◌++◌, Some, refl, sym, ap, ◌∙◌, subst, append_assoc}
+use Rattle.std.proofs.lemmas.Bool.{false≢true}
+use Rattle.std.specs.List.{slice_get}
+use Rattle.std.specs.Str.{IsUtf8}
+use Rattle.yq_scalar.specs.declared.style.Place.TheVariants as places
+use Rattle.yq_scalar.specs.Characters.{is_text}
+use Rattle.yq_scalar.specs.Piece.{deeper}
+use Rattle.yq_scalar.specs.Text.{front, is_feed, separates}
+use Rattle.yq_scalar.proofs.Bools.{is_true, or_false}
+use Rattle.yq_inline.specs.Inline.{depth_limit, IsInline}
+use Rattle.yq_inline.specs.Nodes.{Node, node_text}
+use Rattle.yq_inline.proofs.WrittenLaws.{node_then}
+use Rattle.yq_rows.specs.Exchange.{with_content, exchange, before_content, behind_row, rows_behind, allows_first, Fits, MayFollow}
+use Rattle.yq_rows.specs.Gap.{IsWhite}
+use Rattle.yq_rows.specs.Grammar.{IsTail, IsContent, IsMark, is_entry, is_plain, unlimited, limit_after, limit_behind, IsCut}
+use Rattle.yq_rows.specs.Rows.{Mark, Bare, Dash, Key, Content, Inline, content_text, Row, parent_indent, Cut, cut_text}
+use Rattle.yq_rows.specs.View.{rows_of}
+use Rattle.yq_rows.proofs.CharacterLaws.{text_exchanged}
+use Rattle.yq_rows.proofs.Fronts.{Starts, node_starts}
+use Rattle.yq_rows.proofs.NodeFronts.{node_begins}
+use Rattle.yq_rows.proofs.PlaceLaws.{place, new_place, RowIn, row_in}
+
+-- white space stands before the node
+pub inline_starts : (n : ℤ) (node : Node) (rest : List ℕ) → IsInline places.Block n 0 node rest → Starts (node_text node rest)
+inline_starts n node rest h = node_starts (node_text node rest) (node_begins (Some (deeper n)) depth_limit node rest h.valid h.something)
+
+mark_apart : (mark : Mark) (c : Content) (rest : List ℕ) → is_entry mark ≡ true → IsMark mark c rest → separates (content_text c rest) ≡ true
+mark_apart Bare c rest e m = absurd (false≢true e)
+mark_apart Dash c rest e m = m
+mark_apart (Key key colon) c rest e m = m.colon_is.separated
+
+space_apart : (space old new : List ℕ) → IsWhite space → separates (space ++ old) ≡ true → separates old ≡ false → separates (space ++ new) ≡ true
+space_apart [] old new blank h none = absurd (false≢true (sym none ∙ h))
+space_apart (b ∷ space) old new blank h none = rw blank.0 refl
+
+-- what is asked of the next row
+free_first : (rs : List Row) → allows_first unlimited rs ≡ true
+free_first [] = refl
+free_first (r ∷ rs) = refl
+
+next_allowed : (r : Row) (space : List ℕ) (node new : Node) (tail : List ℕ) (behind : List Row) → r.content ≡ Inline space node tail → allows_first (limit_after r) behind ≡ true → MayFollow r space node new tail behind → allows_first (limit_after (with_content (Inline space new tail) r)) behind ≡ true
+next_allowed r space node new tail behind is next (inr a) = a
+next_allowed r space node new tail behind is next (inl (inl e)) = rw e (free_first behind)
+next_allowed r space node new tail behind is next (inl (inr e)) =
+    let n = parent_indent r in
+    let old : allows_first (limit_behind n (Inline space node tail)) behind ≡ true = subst (λ (c : Content). allows_first (limit_behind n c) behind ≡ true) is next in
+    let plain : allows_first (record { column = Some (deeper n) }) behind ≡ true = rw e at old in
+    elim (is_true (is_plain new)) [
+      | inl f ↦ rw f plain
+      | inr f ↦ rw f (free_first behind)
+    ]
+
+-- What stands in a row: white space, a node and a tail, behind a dash or a key.
+pub record HoldsNode (r : Row) (space : List ℕ) (node : Node) (end rest : List ℕ) : Type 0 where
+  pub blank : IsWhite space
+  pub inline : IsInline places.Block (parent_indent r) 0 node (end ++ rest)
+  pub tail : IsTail end rest
+  pub apart : separates (space ++ node_text node (end ++ rest)) ≡ true
+
+pub holds_node : (r : Row) (space : List ℕ) (node : Node) (end rest : List ℕ) (behind : List Row) → RowIn r rest behind → r.content ≡ Inline space node end → is_entry r.mark ≡ true → HoldsNode r space node end rest
+holds_node r space node end rest behind h is entry =
+    let c : IsContent (parent_indent r) (Inline space node end) rest = subst (λ (x : Content). IsContent (parent_indent r) x rest) is h.row.content in
+    let a : separates (content_text (Inline space node end) rest) ≡ true = subst (λ (x : Content). separates (content_text x rest) ≡ true) is (mark_apart r.mark r.content rest entry h.row.mark) in
+    record { blank = c.0; inline = c.1; tail = c.2; apart = a }
+
+pub node_fits : (t : List ℕ) (c : Cut) (i : ℕ) (r : Row) (space : List ℕ) (node new : Node) (tail : List ℕ) → IsCut t c → slice_get (rows_of c) i ≡ Some r → r.content ≡ Inline space node tail → is_entry r.mark ≡ true →
+    IsInline places.Block (parent_indent r) 0 new (tail ++ behind_row i c) → MayFollow r space node new tail (rows_behind i c) → Fits (Inline space new tail) r (behind_row i c) (rows_behind i c)
+node_fits t c i r space node new tail h is content entry inline may =
+    let rest = behind_row i c in
+    let row = row_in c i true r h.parts is in
+    let old = holds_node r space node tail rest (rows_behind i c) row content entry in
+    record {
+      entry = entry;
+      content = (old.blank, inline, old.tail);
+      apart = space_apart space (node_text node (tail ++ rest)) (node_text new (tail ++ rest)) old.blank old.apart (inline_starts (parent_indent r) node (tail ++ rest) old.inline).joined;
+      next = next_allowed r space node new tail (rows_behind i c) content row.next may;
+    }
+
+-- where the node stands
+regroup : (before space : List ℕ) (node : Node) (rest : List ℕ) → before ++ (space ++ node_text node rest) ≡ (before ++ space) ++ (node_text node [] ++ rest)
+regroup before space node rest = ap (λ l. before ++ (space ++ l)) (node_then node rest) ∙ sym (append_assoc before space (node_text node [] ++ rest))
+
+pub node_place : (c : Cut) (i : ℕ) (r : Row) (space : List ℕ) (node : Node) (tail : List ℕ) → slice_get (rows_of c) i ≡ Some r → r.content ≡ Inline space node tail → cut_text c ≡ (before_content i c ++ space) ++ (node_text node [] ++ (tail ++ behind_row i c))
+node_place c i r space node tail is content =
+    place c i r is ∙ (ap (λ (x : Content). before_content i c ++ content_text x (behind_row i c)) content ∙ regroup (before_content i c) space node (tail ++ behind_row i c))
+
+pub new_node_place : (c : Cut) (i : ℕ) (r : Row) (space : List ℕ) (new : Node) (tail : List ℕ) → slice_get (rows_of c) i ≡ Some r → cut_text (exchange i (Inline space new tail) c) ≡ (before_content i c ++ space) ++ (node_text new [] ++ (tail ++ behind_row i c))
+new_node_place c i r space new tail is =
+    new_place c i r (Inline space new tail) is ∙ regroup (before_content i c) space new (tail ++ behind_row i c)
+
+-- the characters of the new text
+starts_no_feed : (t : List ℕ) → Starts t → front is_feed t ≡ false
+starts_no_feed [] h = refl
+starts_no_feed (b ∷ bs) h = (or_false (is_feed b) _ h.no_end).0
+
+pub node_text_law : (t : List ℕ) (c : Cut) (i : ℕ) (r : Row) (space : List ℕ) (node new : Node) (tail : List ℕ) → IsCut t c → slice_get (rows_of c) i ≡ Some r → r.content ≡ Inline space node tail → is_entry r.mark ≡ true →
+    IsUtf8 (before_content i c ++ space) → IsUtf8 (node_text node []) → IsUtf8 (node_text new []) → is_text (node_text new []) ≡ true → is_text (cut_text (exchange i (Inline space new tail) c)) ≡ true
+node_text_law t c i r space node new tail h is content entry u v w fresh =
+    let rest = tail ++ behind_row i c in
+    let before = before_content i c ++ space in
+    let old = holds_node r space node tail (behind_row i c) (rows_behind i c) (row_in c i true r h.parts is) content entry in
+    let whole : is_text (before ++ (node_text node [] ++ rest)) ≡ true = rw (← node_place c i r space node tail is content, ← h.text) h.characters in
+    let no_feed : front is_feed (node_text node [] ++ rest) ≡ false = rw (← node_then node rest) (starts_no_feed (node_text node rest) (inline_starts (parent_indent r) node rest old.inline)) in
+    rw (new_node_place c i r space new tail is) (text_exchanged before (node_text node []) (node_text new []) rest u v w no_feed whole fresh)

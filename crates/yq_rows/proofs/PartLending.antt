@@ -1,0 +1,128 @@
+-- Parts and markers, as the code lends them.
+use Rattle.std.proofs.lemmas.Bool.{eqb-true, false_from_ne_true}
+use Rattle.std.proofs.Common.{◌≡◌, ℕ, suc, ◌+◌, ◌-◌, ◌<◌, ◌≤◌, Bool, true, false, eqb, List, [], ◌∷◌, ◌++◌, length, map, take, drop, Option, Some, None, refl, sym, ap, ◌∙◌, arith, append_assoc, length-append}
+use Rattle.std.proofs.lemmas.List.{take-append-drop, length-map, map-append}
+use Rattle.std.specs.Str.{IsUtf8, IsCharBoundary}
+use Rattle.yq_scalar.specs.Answers.{◌>>=◌}
+use Rattle.yq_scalar.specs.Text.{is_empty, is_marker}
+use Rattle.yq_scalar.proofs.Bools.{bind_some}
+use Rattle.yq_inline.proofs.Binds.{some_same}
+use Rattle.yq_rows.specs.Grammar.{begins_document}
+use Rattle.yq_rows.specs.Lending.{PartLent, behind_rows, rows_lent, shown_read, behind_parts, parts_lent}
+use Rattle.yq_rows.specs.Reading.{tail_at, marker_at, part_at, all_parts}
+use Rattle.yq_rows.specs.Rows.{Part, Cut, last, marked}
+use Rattle.yq_rows.specs.View.{Slices, slices, Bound, rows_of, bounds_from, view, views, bound_view, bound_views}
+use Rattle.yq_rows.specs.declared.row.Row as declared
+use Rattle.yq_rows.specs.declared.scanning.Bound as ends
+use Rattle.yq_rows.proofs.PartsLaws.{parts_refused, parts_last, parts_no_marker, parts_marked, part_marker, part_le, parts_smaller}
+use Rattle.yq_rows.proofs.PieceLaws.{tail_takes}
+use Rattle.yq_rows.proofs.Seams.{seam_take, seam_boundary, seam_le}
+
+-- the line of a marker
+marker_is : (t behind tail rest : List ℕ) → behind ≡ drop 3 t → tail_at behind ≡ Some (tail, rest) → t ≡ (take 3 t ++ tail) ++ rest
+marker_is t behind tail rest three h =
+    let is : drop 3 t ≡ tail ++ rest = sym three ∙ (tail_takes behind (tail, rest) h).0 in
+    sym (take-append-drop 3 t) ∙ (ap (λ r. take 3 t ++ r) is ∙ sym (append_assoc (take 3 t) tail rest))
+
+pub marker_within : (t behind tail rest : List ℕ) → behind ≡ drop 3 t → tail_at behind ≡ Some (tail, rest) → length rest ≤ length t
+marker_within t behind tail rest three h = seam_le t (take 3 t ++ tail) rest (marker_is t behind tail rest three h)
+
+pub marker_boundary : (t behind tail rest : List ℕ) → behind ≡ drop 3 t → tail_at behind ≡ Some (tail, rest) → IsUtf8 rest → IsCharBoundary t (length t - length rest)
+marker_boundary t behind tail rest three h u = seam_boundary t (take 3 t ++ tail) rest (marker_is t behind tail rest three h) u
+
+pub marker_some : (t behind tail rest line : List ℕ) → behind ≡ drop 3 t → tail_at behind ≡ Some (tail, rest) → line ≡ take (length t - length rest) t → marker_at t ≡ Some (line, rest)
+unfolding marker_at
+marker_some t behind tail rest line three h e =
+    let whole = e ∙ seam_take t (take 3 t ++ tail) rest (marker_is t behind tail rest three h) in
+    ap (λ o. o >>= λ x. Some (take 3 t ++ x.0, x.1)) (ap tail_at (sym three) ∙ h) ∙ ap (λ (l : List ℕ). Some (l, rest)) (sym whole)
+
+pub marker_none : (t behind : List ℕ) → behind ≡ drop 3 t → tail_at behind ≡ None → marker_at t ≡ None
+unfolding marker_at
+marker_none t behind three h = ap (λ o. o >>= λ x. Some (take 3 t ++ x.0, x.1)) (ap tail_at (sym three) ∙ h)
+
+-- A part that was read, behind other rows.
+pub record OnePart (rows : List Slices) (started : Bool) (t : List ℕ) (found : List Slices) (end after : List ℕ) : Type 0 where
+  pub part : Part
+  pub read : part_at started t ≡ Some (part, after)
+  pub rows_is : found ≡ rows ++ map slices part.rows
+  pub end_is : end ≡ part.end
+  pub count : length found ≡ length rows + length part.rows
+
+pub one_part : (rows : List Slices) (started : Bool) (t : List ℕ) (found : List Slices) (end after : List ℕ) → rows_lent rows (part_at started t) ≡ Some (found, end, after) → OnePart rows started t found end after
+one_part rows started t found end after h =
+    let x = bind_some (part_at started t) h in
+    let is : behind_rows rows x.0 ≡ (found, end, after) = some_same x.2 in
+    let behind : x.0.1 ≡ after = ap (λ (y : PartLent). y.2) is in
+    let rows_here : found ≡ rows ++ map slices x.0.0.rows = ap (λ (y : PartLent). y.0) (sym is) in
+    record {
+      part = x.0.0;
+      read = x.1 ∙ ap (λ (r : List ℕ). Some (x.0.0, r)) behind;
+      rows_is = rows_here;
+      end_is = ap (λ (y : PartLent). y.1) (sym is);
+      count = ap length rows_here ∙ (length-append rows (map slices x.0.0.rows) ∙ ap (λ n. length rows + n) (length-map x.0.0.rows slices));
+    }
+
+pub part_within : (rows : List Slices) (started : Bool) (t : List ℕ) (found : List Slices) (end after : List ℕ) → rows_lent rows (part_at started t) ≡ Some (found, end, after) → length after ≤ length t
+part_within rows started t found end after h = let p = one_part rows started t found end after h in part_le started t (p.part, after) p.read
+
+pub part_is_marker : (rows : List Slices) (started : Bool) (t : List ℕ) (found : List Slices) (end after : List ℕ) → rows_lent rows (part_at started t) ≡ Some (found, end, after) → is_empty after ≡ false → is_marker after ≡ true
+part_is_marker rows started t found end after h some = let p = one_part rows started t found end after h in part_marker started t (p.part, after) p.read some
+
+pub part_smaller : (rows : List Slices) (started : Bool) (t : List ℕ) (found : List Slices) (end after marker next : List ℕ) → rows_lent rows (part_at started t) ≡ Some (found, end, after) → is_empty after ≡ false → marker_at after ≡ Some (marker, next) → length next < length t
+part_smaller rows started t found end after marker next h some m = let p = one_part rows started t found end after h in parts_smaller started t (p.part, after) (marker, next) p.read some m
+
+no_part : (rows : List Slices) (o : Option (Part × List ℕ)) → rows_lent rows o ≡ None → o ≡ None
+no_part rows None h = refl
+no_part rows (Some x) h = cc
+
+pub parts_none : (rows : List Slices) (bounds : List Bound) (started : Bool) (t : List ℕ) → rows_lent rows (part_at started t) ≡ None → parts_lent rows bounds (all_parts started t) ≡ None
+parts_none rows bounds started t h = ap (parts_lent rows bounds) (parts_refused started t (no_part rows (part_at started t) h))
+
+pub parts_unmarked : (rows : List Slices) (bounds : List Bound) (started : Bool) (t : List ℕ) (found : List Slices) (end after : List ℕ) → rows_lent rows (part_at started t) ≡ Some (found, end, after) → is_empty after ≡ false → marker_at after ≡ None → parts_lent rows bounds (all_parts started t) ≡ None
+parts_unmarked rows bounds started t found end after h some m = let p = one_part rows started t found end after h in ap (parts_lent rows bounds) (parts_no_marker started t (p.part, after) p.read some m)
+
+-- the last part
+last_shown : (rows : List Slices) (bounds : List Bound) (p : Part) (found : List Slices) (end : List ℕ) (k : ℕ) → k ≡ length rows + length p.rows → found ≡ rows ++ map slices p.rows → end ≡ p.end →
+    behind_parts rows bounds (last p) ≡ record { rows = found; bounds = bounds ++ record { rows = k; end = end; marker = [] } ∷ [] }
+last_shown rows bounds p found end k count rows_is end_is = rw (count, rows_is, end_is) refl
+
+pub parts_done : (rows : List Slices) (bounds : List Bound) (started : Bool) (t : List ℕ) (found : List Slices) (end after : List ℕ) (k : ℕ) → rows_lent rows (part_at started t) ≡ Some (found, end, after) → is_empty after ≡ true → k ≡ length found →
+    parts_lent rows bounds (all_parts started t) ≡ Some (record { rows = found; bounds = bounds ++ record { rows = k; end = end; marker = [] } ∷ [] })
+parts_done rows bounds started t found end after k h none e =
+    let p = one_part rows started t found end after h in
+    ap (parts_lent rows bounds) (parts_last started t (p.part, after) p.read none)
+    ∙ ap Some (last_shown rows bounds p.part found end k (e ∙ p.count) p.rows_is p.end_is)
+
+-- a part with a marker behind it
+more_shown : (rows : List Slices) (bounds : List Bound) (p : Part) (found : List Slices) (end marker : List ℕ) (k : ℕ) (o : Option Cut) → k ≡ length rows + length p.rows → found ≡ rows ++ map slices p.rows → end ≡ p.end → k ≡ length found →
+    parts_lent rows bounds (o >>= λ c. Some (marked p marker c)) ≡ parts_lent found (bounds ++ record { rows = k; end = end; marker = marker } ∷ []) o
+more_shown rows bounds p found end marker k None count rows_is end_is e = refl
+more_shown rows bounds p found end marker k (Some c) count rows_is end_is e =
+    let b : Bound = record { rows = k; end = end; marker = marker } in
+    let rows_here : rows ++ map slices (p.rows ++ rows_of c) ≡ found ++ map slices (rows_of c) = ap (λ l. rows ++ l) (map-append slices p.rows (rows_of c)) ∙ (sym (append_assoc rows (map slices p.rows) (map slices (rows_of c))) ∙ ap (λ l. l ++ map slices (rows_of c)) (sym rows_is)) in
+    let one : bounds_from (length rows) (marked p marker c) ≡ b ∷ bounds_from (length found) c = ap (λ (n : ℕ). record { rows = n; end = p.end; marker = marker } ∷ bounds_from n c) (sym count) ∙ (ap (λ (l : List ℕ). record { rows = k; end = l; marker = marker } ∷ bounds_from k c) (sym end_is) ∙ ap (λ (n : ℕ). b ∷ bounds_from n c) e) in
+    let bounds_here : bounds ++ bounds_from (length rows) (marked p marker c) ≡ (bounds ++ b ∷ []) ++ bounds_from (length found) c = ap (λ l. bounds ++ l) one ∙ sym (append_assoc bounds (b ∷ []) (bounds_from (length found) c)) in
+    ap (λ (l : List Slices). Some (record { rows = l; bounds = bounds ++ bounds_from (length rows) (marked p marker c) })) rows_here
+    ∙ ap (λ (l : List Bound). Some (record { rows = found ++ map slices (rows_of c); bounds = l })) bounds_here
+
+pub parts_more : (rows : List Slices) (bounds : List Bound) (started : Bool) (t : List ℕ) (found : List Slices) (end after marker next : List ℕ) (k : ℕ) → rows_lent rows (part_at started t) ≡ Some (found, end, after) → is_empty after ≡ false → marker_at after ≡ Some (marker, next) → k ≡ length found →
+    parts_lent rows bounds (all_parts started t) ≡ parts_lent found (bounds ++ record { rows = k; end = end; marker = marker } ∷ []) (all_parts (begins_document marker) next)
+parts_more rows bounds started t found end after marker next k h some m e =
+    let p = one_part rows started t found end after h in
+    ap (parts_lent rows bounds) (parts_marked started t (p.part, after) (marker, next) p.read some m)
+    ∙ more_shown rows bounds p.part found end marker k (all_parts (begins_document marker) next) (e ∙ p.count) p.rows_is p.end_is e
+
+-- the loop over the parts
+pub all_shown : (o : Option Cut) → parts_lent [] [] o ≡ shown_read o
+all_shown (Some c) = refl
+all_shown None = refl
+
+pub bounds_push : (bounds items : List ends.Bound) (b : ends.Bound) → items ≡ bounds ++ b ∷ [] → bound_views items ≡ bound_views bounds ++ bound_view b ∷ []
+bounds_push bounds items b e = ap bound_views e ∙ map-append bound_view bounds (b ∷ [])
+
+pub views_length : (rows : List declared.Row) → length rows ≡ length (views rows)
+views_length rows = sym (length-map rows view)
+
+pub empty_by : (t : List ℕ) (b c : Bool) → b ≡ eqb (length t) 0 → b ≡ c → is_empty t ≡ c
+empty_by [] b c e f = sym e ∙ f
+empty_by (x ∷ t) b c e f = sym (false_from_ne_true (eqb (suc (length t)) 0) (λ h. absurd (omega (arith, eqb-true (suc (length t)) 0 h)))) ∙ (sym e ∙ f)

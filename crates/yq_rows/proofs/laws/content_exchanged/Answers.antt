@@ -1,0 +1,5 @@
+use Rattle.yq_rows.proofs.ExchangeLaws.{content_exchanged}
+use Rattle.yq_rows.proofs.laws.content_exchanged.Goals as goal
+
+pub returns : goal.returns
+returns c = content_exchanged

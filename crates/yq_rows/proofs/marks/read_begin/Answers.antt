@@ -1,0 +1,39 @@
+use Rattle.std.proofs.Common.{◌≡◌, ◌-◌, length, take, rules, sym, ap, ◌∙◌, true, false, arith}
+use Rattle.yq_rows.specs.Reading.{is_dash}
+use Rattle.yq_rows.proofs.BeginSteps.{dash_further, dash_boundary, dash_last, no_dash, mark_within}
+use Rattle.yq_rows.proofs.Seams.{seam_join, seam_boundary}
+use Rattle.yq_rows.proofs.marks.read_begin.Goals as goal
+
+pub split_at-requires-then-not-goes_on : goal.split_at-requires-then-not-goes_on
+split_at-requires-then-not-goes_on c =
+    let dash : is_dash c.dashes.rest.now ≡ true = ap is_dash (sym c.as_bytes.ensures.value) ∙ (sym c.is_dash.ensures ∙ c.dashes-test.true) in
+    dash_boundary c.args.text.now c.dashes.rest.now c.split_at.result.1.now c.dashes.invariant.stands dash c.split_at.ensures.back (search rules)
+
+pub returns-then-not-goes_on-clause-read : goal.returns-then-not-goes_on-clause-read
+returns-then-not-goes_on-clause-read c =
+    let dash : is_dash c.dashes.rest.now ≡ true = ap is_dash (sym c.as_bytes.ensures.value) ∙ (sym c.is_dash.ensures ∙ c.dashes-test.true) in
+    rw c.split_at-then-not-goes_on.ensures.front
+    (dash_last c.args.text.now c.dashes.rest.now c.split_at.result.1.now c.split_spaces.result.0.now c.split_spaces.result.1.now c.dashes.invariant.stands c.dashes.invariant.short c.dashes.invariant.so_far dash c.split_at.ensures.back c.split_spaces.ensures (sym c.goes_on.ensures ∙ c.if-not-goes_on.true))
+
+pub dashes-preserved : goal.dashes-preserved
+dashes-preserved c =
+    let dash : is_dash c.dashes.rest.now ≡ true = ap is_dash (sym c.as_bytes.ensures.value) ∙ (sym c.is_dash.ensures ∙ c.dashes-test.true) in
+    let step = dash_further c.args.text.now c.dashes.rest.now c.split_at.result.1.now c.split_spaces.result.0.now c.split_spaces.result.1.now c.dashes.invariant.stands c.dashes.invariant.so_far dash c.split_at.ensures.back c.split_spaces.ensures (sym c.goes_on.ensures ∙ c.if-not-goes_on.false) in
+    record {
+      text = search rules;
+      short = omega (arith, step.shorter, c.dashes.invariant.short);
+      stands = step.stands;
+      so_far = step.so_far;
+    }
+
+pub split_at-requires-2 : goal.split_at-requires-2
+split_at-requires-2 c = seam_boundary c.args.text.now (take (length c.args.text.now - length c.dashes.rest.now) c.args.text.now) c.dashes.rest.now (seam_join c.args.text.now c.dashes.rest.now c.dashes.invariant.stands) c.dashes.invariant.text
+
+pub returns-clause-read : goal.returns-clause-read
+returns-clause-read c =
+    let none : is_dash c.dashes.rest.now ≡ false = ap is_dash (sym c.as_bytes.ensures.value) ∙ (sym c.is_dash.ensures ∙ c.dashes-test.false) in
+    rw c.split_at-2.ensures.front
+    (no_dash c.args.text.now c.dashes.rest.now c.read_mark.result.1.now _ c.dashes.invariant.stands c.dashes.invariant.short c.dashes.invariant.so_far none c.read_mark.ensures)
+
+pub returns-clause-shorter : goal.returns-clause-shorter
+returns-clause-shorter c = omega (arith, mark_within c.dashes.rest.now c.read_mark.result.1.now _ c.read_mark.ensures, c.dashes.invariant.short)

@@ -1,0 +1,16 @@
+use Rattle.std.proofs.Common.{◌≡◌, ◌-◌, ◌≤◌, length, take, drop}
+use Rattle.std.specs.Str.{IsUtf8}
+use Rattle.yq_rows.specs.Lending.{begun, behind_front}
+use Rattle.yq_rows.specs.Reading.{marks_at}
+use Rattle.yq_rows.proofs.marks.read_begin.Given as goal
+
+abbrev pub decreases-dashes : goal.decreases-dashes
+decreases-dashes l = length l.rest
+
+abbrev pub invariant-dashes : goal.invariant-dashes
+invariant-dashes l = record {
+  text : IsUtf8 l.rest;
+  short : length l.rest ≤ length l.text;
+  stands : drop (length l.text - length l.rest) l.text ≡ l.rest;
+  so_far : behind_front (take (length l.text - length l.rest) l.text) (begun (marks_at l.rest)) ≡ begun (marks_at l.text);
+}

@@ -1,0 +1,244 @@
+//! What stands behind a row's mark.
+ghost use Rattle.std.specs.Option.{option_map};
+ghost use Rattle.std.specs.Prelude.{◌≡◌, ◌≤◌, ◌==◌, ◌||◌, ◌&&◌, not, length, false};
+ghost use Rattle.yq_scalar.specs.Answers.{Gives};
+ghost use Rattle.yq_inline.specs.Nodes as nodes;
+ghost use Rattle.yq_inline.specs.View.{view as node_view};
+ghost use Rattle.yq_rows.specs.Lending as lending;
+ghost use Rattle.yq_rows.specs.Lending.{filled_at, filling_view};
+ghost use Rattle.yq_scalar.specs.Text.{front, is_empty};
+ghost use Rattle.yq_rows.specs.Reading as spec;
+
+use crate::fault::fault;
+use crate::gap::is_hash;
+use crate::marks::Mark;
+use crate::naming::{no_content, no_tail};
+use std::alloc::Global;
+use yq_inline::pieces::{begins_content, first_is, name_len, strip};
+use yq_inline::reading::read_node;
+use yq_inline::{Form, Inline};
+use yq_scalar::lines::split_line;
+use yq_scalar::text::{ends_line, split_white};
+use yq_scalar::{FaultKind, Place, ReadError, Style, further_spaces, read_block};
+
+/// How many collections may be nested.
+const DEPTH_LIMIT: usize = 64;
+
+/// What stands behind a mark, by its pieces.
+#[derive(Clone, Copy, Debug)]
+pub struct Filling<'t> {
+    pub space: &'t str,
+    pub anchor: &'t str,
+    /// The white space behind the anchor.
+    pub apart: &'t str,
+    pub head: &'t str,
+    pub tail: &'t str,
+    /// The raw lines of a block scalar.
+    pub raw: &'t str,
+    /// Whether it is a plain scalar.
+    pub plain: bool,
+    /// Whether it may stand on a line of its own.
+    pub alone: bool,
+    /// What follows it.
+    pub rest: &'t str,
+}
+
+/// The tail in front, and what follows.
+#[tactic(auto, unfolding(crate::specs::Reading::tail_at))]
+pub(crate) fn find_tail(text: &str) -> Option<(&str, &str)>
+    ensures { option_map (λ x. (x.0.now, x.1.now)) result ≡ spec.tail_at text.now }
+{
+    let (white, rest) = split_white(text);
+    let next = rest.as_bytes();
+    if ends_line(next) || (!white.is_empty() && is_hash(next)) {
+        Some(split_line(text))
+    } else {
+        None
+    }
+}
+
+/// The text cut behind the anchor in front.
+fn split_anchor(text: &str) -> (&str, &str)
+    ensures { (result.0.now, result.1.now) ≡ lending.cut_anchor text.now }
+{
+    match strip(b'&', text) {
+        Some(behind) => text.split_at(name_len(behind.as_bytes()) + 1),
+        None => ("", text),
+    }
+}
+
+/// The anchor in front, the white space behind it, and what follows.
+fn split_apart(text: &str) -> (&str, &str, &str)
+    ensures { (result.0.now, result.1.now, result.2.now) ≡ lending.cut_apart text.now }
+{
+    if !first_is(b'&', text.as_bytes()) {
+        return ("", "", text);
+    }
+    let (anchor, rest) = split_anchor(text);
+    let (apart, rest) = split_white(rest);
+    (anchor, apart, rest)
+}
+
+/// Whether the mark of a block scalar is in front.
+fn is_block_mark(text: &[u8]) -> bool
+    ensures { result ≡ front (λ b. b == 124 || b == 62) text.now }
+{
+    matches!(text, [b'|' | b'>', ..])
+}
+
+/// Whether a block scalar begins here, perhaps behind an anchor.
+#[tactic(auto, using(crate::proofs::BlockLending::block_begins))]
+fn begins_block(text: &str) -> bool
+    ensures { result ≡ spec.begins_block text.now }
+{
+    is_block_mark(split_apart(text).2.as_bytes())
+}
+
+/// Whether an inline node begins here.
+fn begins_node(text: &[u8]) -> bool
+    ensures { result ≡ nodes.begins_node false text.now }
+{
+    first_is(b'&', text) || begins_content(false, text)
+}
+
+/// A block scalar behind white space.
+fn read_block_content<'t>(
+    whole: &str,
+    parent: i64,
+    space: &'t str,
+    text: &'t str,
+) -> Result<Filling<'t>, ReadError>
+    ensures { Gives filling_view result (lending.block_lent parent space.now text.now) }
+{
+    let (anchor, apart, rest) = split_apart(text);
+    if anchor.len() == 1 {
+        return Err(ReadError::Fault(fault(FaultKind::BadScalar, whole, text)));
+    }
+    let piece = match read_block(rest, 0, parent) {
+        Ok(piece) => piece,
+        Err(kind) => return Err(ReadError::Fault(fault(kind, whole, rest))),
+    };
+    let (head, rest) = rest.split_at(piece.head_end);
+    let (tail, rest) = rest.split_at(piece.raw_start - piece.head_end);
+    let (raw, rest) = rest.split_at(piece.end - piece.raw_start);
+    Ok(Filling {
+        space,
+        anchor,
+        apart,
+        head,
+        tail,
+        raw,
+        plain: false,
+        alone: false,
+        rest,
+    })
+}
+
+/// Whether the node is a plain scalar, perhaps behind an anchor.
+fn is_plain(node: &Inline<'_>) -> bool
+    ensures { result ≡ lending.plain_placed (node_view node.now) }
+{
+    match &node.form {
+        Form::Scalar(_, piece) => matches!(piece.style, Style::Plain),
+        _ => false,
+    }
+}
+
+/// Whether the node is nothing, perhaps behind an anchor.
+fn is_nothing(node: &Inline<'_>) -> bool
+    ensures { result ≡ lending.nothing_placed (node_view node.now) }
+{
+    matches!(node.form, Form::Empty)
+}
+
+/// The white space between an anchor and its node, and what follows it; before nothing stands none.
+fn split_lead(nothing: bool, text: &str) -> (&str, &str)
+    ensures { (result.0.now, result.1.now) ≡ lending.cut_lead nothing text.now }
+{
+    if nothing {
+        ("", text)
+    } else {
+        split_white(text)
+    }
+}
+
+/// Whether a node behind this white space may stand on a line of its own.
+fn may_be_alone(space: &str, nothing: bool) -> bool
+    ensures { result ≡ (is_empty space.now && not nothing) }
+{
+    space.is_empty() && !nothing
+}
+
+/// An inline node behind white space, and its tail.
+fn read_inline_content<'t>(
+    alloc: Global,
+    whole: &'t str,
+    mark: Mark<'t>,
+    parent: i64,
+    space: &'t str,
+    text: &'t str,
+) -> Result<Filling<'t>, ReadError>
+    requires { length text.now ≤ length whole.now }
+    ensures { Gives filling_view result (lending.inline_lent parent space.now text.now) }
+{
+    let spaces = further_spaces(Place::Block, parent);
+    let (node, behind) = match read_node(alloc, false, spaces, whole, DEPTH_LIMIT, text) {
+        Ok(found) => found,
+        Err(e) => return Err(e),
+    };
+    let (anchor, rest) = split_anchor(text);
+    let nothing = is_nothing(&node);
+    let (apart, rest) = split_lead(nothing, rest);
+    let head = rest.split_at(rest.len() - behind.len()).0;
+    match find_tail(behind) {
+        Some((tail, rest)) => Ok(Filling {
+            space,
+            anchor,
+            apart,
+            head,
+            tail,
+            raw: "",
+            plain: is_plain(&node),
+            alone: may_be_alone(space, nothing),
+            rest,
+        }),
+        None => {
+            let kind = no_tail(mark, space, anchor, head, behind);
+            Err(ReadError::Fault(fault(kind, whole, text)))
+        }
+    }
+}
+
+/// What stands behind a mark, below a parent of this indentation.
+pub(crate) fn read_content<'t>(
+    alloc: Global,
+    whole: &'t str,
+    mark: Mark<'t>,
+    parent: i64,
+    text: &'t str,
+) -> Result<Filling<'t>, ReadError>
+    requires { length text.now ≤ length whole.now }
+    ensures { Gives filling_view result (filled_at parent text.now) }
+{
+    let (space, rest) = split_white(text);
+    if begins_block(rest) {
+        return read_block_content(whole, parent, space, rest);
+    }
+    if begins_node(rest.as_bytes()) {
+        return read_inline_content(alloc, whole, mark, parent, space, rest);
+    }
+    match find_tail(text) {
+        Some((tail, rest)) => Ok(Filling {
+            space: "",
+            anchor: "",
+            apart: "",
+            head: "",
+            tail,
+            raw: "",
+            plain: false,
+            alone: false,
+            rest,
+        }),
+        None => Err(ReadError::Fault(fault(no_content(mark, parent, space, rest), whole, rest))),
+    }
+}

@@ -1,0 +1,167 @@
+//! Dashes and keys.
+ghost use Rattle.std.specs.Option.{option_map};
+ghost use Rattle.std.specs.Prelude.{◌≡◌, ◌≤◌, ◌&&◌, length, not};
+ghost use Rattle.yq_scalar.specs.Text.{is_empty};
+ghost use Rattle.yq_rows.specs.Grammar as grammar;
+ghost use Rattle.yq_rows.specs.Lending.{begin_view, begun, mark_view};
+ghost use Rattle.yq_rows.specs.Reading as spec;
+ghost use Rattle.yq_rows.specs.Rows as rows;
+
+use yq_inline::pieces::read_scalar;
+use yq_scalar::characters::char_count;
+use yq_scalar::text::{separates, split_spaces, split_white};
+
+/// How many characters a key's `:` may stand behind the key's first one.
+const KEY_LIMIT: usize = 1024;
+
+/// What a row begins with behind the dashes before it.
+#[derive(Clone, Copy, Debug)]
+pub enum Mark<'t> {
+    /// Neither a dash nor a key.
+    Bare,
+    /// A dash.
+    Dash,
+    /// A key, and what stands behind it up to its `:`.
+    Key(&'t str, &'t str),
+}
+
+/// How a row begins behind its indentation.
+#[derive(Clone, Copy, Debug)]
+pub struct Begin<'t> {
+    /// The dashes, also one that is the mark.
+    pub dashes: &'t str,
+    /// How many columns stand before the mark.
+    pub columns: usize,
+    pub mark: Mark<'t>,
+    /// What follows the mark.
+    pub rest: &'t str,
+}
+
+/// Whether the mark is a dash or a key.
+pub(crate) fn is_entry(mark: Mark<'_>) -> bool
+    ensures { result ≡ grammar.is_entry (mark_view mark.entry) }
+{
+    matches!(mark, Mark::Dash | Mark::Key(..))
+}
+
+/// The parent indentation of what stands behind a mark in a column: that column, or, without a key
+/// or dash, one less.
+pub(crate) fn parent_of(mark: Mark<'_>, column: usize) -> i64
+    requires { column ≤ 4294967295 }
+    ensures { result ≡ rows.parent_of (mark_view mark.entry) column }
+{
+    match mark {
+        Mark::Bare => before_column(column),
+        Mark::Dash | Mark::Key(..) => column as i64,
+    }
+}
+
+/// One column less, from -1 on.
+fn before_column(column: usize) -> i64
+    requires { column ≤ 4294967295 }
+    ensures { result ≡ rows.before_column column }
+{
+    if column == 0 { -1 } else { (column - 1) as i64 }
+}
+
+/// Whether the `:` of a key is in front.
+pub(crate) fn is_colon(text: &[u8]) -> bool
+    ensures { result ≡ spec.is_colon text.now }
+{
+    match text {
+        [b':', rest @ ..] => separates(rest),
+        _ => false,
+    }
+}
+
+/// White space and the `:` of a key in front, and what follows.
+#[tactic(auto, unfolding(crate::specs::Reading::colon_at))]
+fn find_colon(text: &str) -> Option<(&str, &str)>
+    ensures { option_map (λ x. (x.0.now, x.1.now)) result ≡ spec.colon_at text.now }
+{
+    let (white, rest) = split_white(text);
+    if !is_colon(rest.as_bytes()) {
+        return None;
+    }
+    Some(text.split_at(white.len() + 1))
+}
+
+/// The key in front, what stands behind it up to its `:`, and what follows.
+#[tactic(auto, unfolding(crate::specs::Reading::key_at))]
+fn find_key(text: &str) -> Option<(&str, &str, &str)>
+    ensures { option_map (λ x. (x.0.now, x.1.now, x.2.now)) result ≡ spec.key_at text.now }
+{
+    let Ok((key, rest)) = read_scalar(false, None, text, text) else {
+        return None;
+    };
+    let (colon, rest) = find_colon(rest)?;
+    let key_chars = char_count(key);
+    if key_chars > KEY_LIMIT + 1 || char_count(colon) > KEY_LIMIT + 1 - key_chars {
+        return None;
+    }
+    Some((key, colon, rest))
+}
+
+/// Whether a dash is in front.
+pub(crate) fn is_dash(text: &[u8]) -> bool
+    ensures { result ≡ spec.is_dash text.now }
+{
+    match text {
+        [b'-', rest @ ..] => separates(rest),
+        _ => false,
+    }
+}
+
+/// Whether a dash or a key is in front.
+pub(crate) fn begins_entry(text: &str) -> bool
+    ensures { result ≡ spec.begins_entry text.now }
+{
+    is_dash(text.as_bytes()) || find_key(text).is_some()
+}
+
+/// Whether behind a dash and these spaces a further dash or a key stands.
+fn goes_on(spaces: &str, next: &str) -> bool
+    ensures { result ≡ (not (is_empty spaces.now) && spec.begins_entry next.now) }
+{
+    !spaces.is_empty() && begins_entry(next)
+}
+
+/// The mark in front that is no dash, and what follows.
+fn read_mark(text: &str) -> (Mark<'_>, &str)
+    ensures { (mark_view result.0, result.1.now) ≡ spec.mark_at text.now }
+{
+    match find_key(text) {
+        Some((key, colon, rest)) => (Mark::Key(key, colon), rest),
+        None => (Mark::Bare, text),
+    }
+}
+
+/// The dashes in front, the mark behind them, and what follows.
+pub(crate) fn read_begin(text: &str) -> Begin<'_>
+    ensures read { begin_view result ≡ begun (spec.marks_at text.now) }
+    ensures within { result.columns ≤ length text.now }
+    ensures shorter { length result.rest.now ≤ length text.now }
+{
+    let mut rest = text;
+    'dashes: while is_dash(rest.as_bytes()) {
+        let behind = rest.split_at(1).1;
+        let (spaces, next) = split_spaces(behind);
+        if !goes_on(spaces, next) {
+            return Begin {
+                dashes: text.split_at(text.len() - behind.len()).0,
+                columns: text.len() - rest.len(),
+                mark: Mark::Dash,
+                rest: behind,
+            };
+        }
+        rest = next;
+    }
+    let columns = text.len() - rest.len();
+    let (mark, behind) = read_mark(rest);
+    Begin {
+        dashes: text.split_at(columns).0,
+        columns,
+        mark,
+        rest: behind,
+    }
+}

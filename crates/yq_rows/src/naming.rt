@@ -1,0 +1,60 @@
+//! Which fault a row has that can't be read.
+
+use crate::marks::{Mark, begins_entry, is_colon};
+use yq_scalar::FaultKind;
+use yq_scalar::text::{past_white, separates};
+
+/// Whether a tab is in this white space.
+fn holds_tab(space: &str) -> bool {
+    space.as_bytes().iter().any(|b| *b == b'\t')
+}
+
+/// Why nothing can be read behind a mark and this white space, below a parent of this indentation.
+pub(crate) fn no_content(mark: Mark<'_>, parent: i64, space: &str, rest: &str) -> FaultKind {
+    let is_bare = matches!(mark, Mark::Bare);
+    if holds_tab(space) && (is_bare || begins_entry(rest)) {
+        return FaultKind::TabIndent;
+    }
+    match rest.as_bytes() {
+        [b'!', ..] => FaultKind::Tag,
+        [b'?', after @ ..] if separates(after) => FaultKind::ExplicitKey,
+        [b':', after @ ..] if is_bare && separates(after) => FaultKind::BadKey,
+        [b'%', ..] if parent < 0 => FaultKind::Directive,
+        _ => FaultKind::BadScalar,
+    }
+}
+
+/// Why the line can't end behind a mark, white space, and a node whose content is this head.
+pub(crate) fn no_tail(
+    mark: Mark<'_>,
+    space: &str,
+    anchor: &str,
+    head: &str,
+    rest: &str,
+) -> FaultKind {
+    let next = past_white(rest.as_bytes());
+    if head.is_empty() && matches!(next, [b'!', ..]) {
+        return FaultKind::Tag;
+    }
+    let is_key = is_colon(next) && !matches!(mark, Mark::Key(..));
+    if holds_tab(space) && (is_key || matches!(mark, Mark::Bare)) {
+        FaultKind::TabIndent
+    } else if is_key && !anchor.is_empty() {
+        FaultKind::AnchorOnKey
+    } else if is_key {
+        FaultKind::BadKey
+    } else {
+        FaultKind::BadScalar
+    }
+}
+
+/// Why this can't stand on a line of its own, behind white space.
+pub(crate) fn not_alone(space: &str, head: &str) -> FaultKind {
+    if !space.is_empty() {
+        FaultKind::TabIndent
+    } else if matches!(head.as_bytes(), [b'|' | b'>', ..]) {
+        FaultKind::BadBlockHeader
+    } else {
+        FaultKind::BadScalar
+    }
+}

@@ -1,0 +1,169 @@
+//! Rows, read one behind the other.
+ghost use Rattle.std.specs.Prelude.{◌≡◌, ◌<◌, ◌≤◌, ◌+◌, ◌^◌, ◌==◌, ◌&&◌, ◌||◌, not, length, true};
+ghost use Rattle.yq_scalar.specs.Answers.{Gives, Reads};
+ghost use Rattle.yq_scalar.specs.Text;
+ghost use Rattle.yq_rows.specs.Grammar as grammar;
+ghost use Rattle.yq_rows.specs.Grammar.{unlimited};
+ghost use Rattle.yq_rows.specs.Lending.{begin_view, marked_lent, row_lent, rows_lent};
+ghost use Rattle.yq_rows.specs.Reading as spec;
+ghost use Rattle.yq_rows.specs.View.{limit_view, view, views};
+
+use crate::content::{find_tail, read_content};
+use crate::fault::fault;
+use crate::gap::split_gap;
+use crate::marks::{Begin, Mark, is_entry, parent_of, read_begin};
+use crate::naming::not_alone;
+use crate::row::{Limit, Row};
+use std::alloc::Global;
+use yq_scalar::text::{is_marker, split_spaces};
+use yq_scalar::{FaultKind, ReadError, ReadFault};
+
+/// The row whose gap, indentation and marks are read already, what it asks of the next one, and
+/// what follows.
+fn read_marked<'t>(
+    alloc: Global,
+    whole: &'t str,
+    gap: &'t str,
+    column: usize,
+    begin: Begin<'t>,
+) -> Result<(Row<'t>, Limit, &'t str), ReadError>
+    requires short { length begin.rest.now ≤ length whole.now }
+    requires columns { column + begin.columns < 2 ^ 32 }
+    ensures { Gives (λ x. (view x.0, limit_view x.1, x.2.now)) result (marked_lent gap.now column (begin_view begin.entry)) }
+{
+    let parent = parent_of(begin.mark, column + begin.columns);
+    let content = read_content(alloc, whole, begin.mark, parent, begin.rest)?;
+    if !(is_entry(begin.mark) || content.alone) {
+        let kind = not_alone(content.space, content.head);
+        return Err(ReadError::Fault(fault(kind, whole, begin.rest)));
+    }
+    let (key, colon) = match begin.mark {
+        Mark::Key(key, colon) => (key, colon),
+        Mark::Bare | Mark::Dash => ("", ""),
+    };
+    let row = Row {
+        gap,
+        column: column as u32,
+        dashes: begin.dashes,
+        key,
+        colon,
+        space: content.space,
+        anchor: content.anchor,
+        apart: content.apart,
+        head: content.head,
+        tail: content.tail,
+        raw: content.raw,
+        parent,
+    };
+    Ok((row, Limit::behind(parent, content.plain), content.rest))
+}
+
+/// Whether a row may stand at a column before this text.
+fn may_stand(limit: Limit, column: usize, text: &[u8]) -> bool
+    ensures { result ≡ (grammar.allows (limit_view limit) column && not (column == 0 && Text.is_marker text.now)) }
+{
+    limit.allows(column) && !(column == 0 && is_marker(text))
+}
+
+/// The row whose gap is read already, what it asks of the next one, and what follows.
+#[tactic(auto, unfolding(crate::specs::Reading::row_at))]
+fn read_row<'t>(
+    alloc: Global,
+    whole: &'t str,
+    limit: Limit,
+    gap: &'t str,
+    text: &'t str,
+) -> Result<(Row<'t>, Limit, &'t str), ReadError>
+    requires short { length text.now ≤ length whole.now }
+    requires small { length whole.now < 2 ^ 32 }
+    ensures { Gives (λ x. (view x.0, limit_view x.1, x.2.now)) result (row_lent (limit_view limit) gap.now text.now) }
+{
+    let (indent, rest) = split_spaces(text);
+    let column = indent.len();
+    if !may_stand(limit, column, rest.as_bytes()) {
+        return Err(ReadError::Fault(fault(FaultKind::BadIndent, whole, text)));
+    }
+    read_marked(alloc, whole, gap, column, read_begin(rest))
+}
+
+/// Whether no row follows: the end is in front, or a marker.
+fn ends_rows(text: &[u8]) -> bool
+    ensures { result ≡ spec.ends_rows text.now }
+{
+    text.is_empty() || is_marker(text)
+}
+
+/// Adds the rows in front up to a marker or the end; gives the gap behind them, and what follows.
+fn read_rows<'t>(
+    alloc: Global,
+    rows: Vec<Row<'t>>,
+    whole: &'t str,
+    text: &'t str,
+) -> Result<(Vec<Row<'t>>, &'t str, &'t str), ReadError>
+    requires short { length text.now ≤ length whole.now }
+    requires small { length whole.now < 2 ^ 32 }
+    ensures { Gives (λ x. (views x.0.items, x.1.now, x.2.now)) result (rows_lent (views rows.entry.items) (spec.all_rows unlimited text.now)) }
+{
+    let mut rows = rows;
+    let mut limit = Limit::none();
+    let (mut gap, mut rest) = split_gap(text);
+    'rows: while !ends_rows(rest.as_bytes()) {
+        let (row, next, after) = match read_row(alloc, whole, limit, gap, rest) {
+            Ok(found) => found,
+            Err(e) => return Err(e),
+        };
+        rows.push(row)?;
+        limit = next;
+        (gap, rest) = split_gap(after);
+    }
+    Ok((rows, gap, rest))
+}
+
+/// Why no row may stand here, where no document is open.
+fn no_document(text: &[u8]) -> FaultKind {
+    match text {
+        [b'%', ..] => FaultKind::Directive,
+        _ => FaultKind::ContentOnMarkerLine,
+    }
+}
+
+/// Whether rows may stand in front: where a document is open, or where there are none.
+fn may_begin(is_open: bool, text: &[u8]) -> bool
+    ensures { result ≡ (is_open || spec.ends_rows text.now) }
+{
+    is_open || ends_rows(text)
+}
+
+/// Adds the rows of a part; gives the gap behind them, and what follows. Where no document is open
+/// there may be no rows.
+#[tactic(auto, unfolding(crate::specs::Reading::part_at))]
+pub(crate) fn read_part<'t>(
+    alloc: Global,
+    rows: Vec<Row<'t>>,
+    is_open: bool,
+    whole: &'t str,
+    text: &'t str,
+) -> Result<(Vec<Row<'t>>, &'t str, &'t str), ReadError>
+    requires short { length text.now ≤ length whole.now }
+    requires small { length whole.now < 2 ^ 32 }
+    ensures { Gives (λ x. (views x.0.items, x.1.now, x.2.now)) result (rows_lent (views rows.entry.items) (spec.part_at is_open text.now)) }
+{
+    let first = split_gap(text).1;
+    if !may_begin(is_open, first.as_bytes()) {
+        let kind = no_document(first.as_bytes());
+        return Err(ReadError::Fault(fault(kind, whole, first)));
+    }
+    read_rows(alloc, rows, whole, text)
+}
+
+/// The line of the marker in front, and what follows.
+#[tactic(auto, unfolding(crate::specs::Reading::marker_at))]
+pub(crate) fn read_marker<'t>(whole: &str, text: &'t str) -> Result<(&'t str, &'t str), ReadFault>
+    requires { Text.is_marker text.now ≡ true }
+    ensures { Reads (λ x. (x.0.now, x.1.now)) result (spec.marker_at text.now) }
+{
+    match find_tail(text.split_at(3).1) {
+        Some((_, rest)) => Ok((text.split_at(text.len() - rest.len()).0, rest)),
+        None => Err(fault(FaultKind::ContentOnMarkerLine, whole, text)),
+    }
+}

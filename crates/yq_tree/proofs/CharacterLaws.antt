@@ -1,0 +1,62 @@
+-- The characters of a text of which a piece is exchanged.
+use Rattle.std.proofs.Common.{inl, inr, ◌≡◌, ℕ, Bool, true, false, ◌&&◌, List, [], ◌∷◌, ◌++◌, refl, sym, ap, ◌∙◌}
+use Rattle.std.proofs.lemmas.Bool.{false≢true}
+use Rattle.std.proofs.lemmas.List.Folds.{list_all-append}
+use Rattle.std.proofs.lemmas.Str.{chars-append}
+use Rattle.std.specs.List.{list_all}
+use Rattle.std.specs.Str.{chars, IsUtf8}
+use Rattle.yq_scalar.specs.Characters.{is_text, is_text_char, pairs_returns}
+use Rattle.yq_scalar.specs.Text.{front, is_feed, is_return}
+use Rattle.yq_scalar.proofs.Bools.{is_true, and_true}
+use Rattle.yq_tree.proofs.Fronts.{both_true}
+
+-- an LF behind each CR, in pieces
+front_more : (a b : List ℕ) → front is_feed a ≡ true → front is_feed (a ++ b) ≡ true
+front_more [] b h = absurd (false≢true h)
+front_more (x ∷ a) b h = h
+
+front_less : (a b : List ℕ) → front is_feed b ≡ false → front is_feed (a ++ b) ≡ true → front is_feed a ≡ true
+front_less [] b n h = absurd (false≢true (sym n ∙ h))
+front_less (x ∷ a) b n h = h
+
+pairs_join : (a b : List ℕ) → pairs_returns a ≡ true → pairs_returns b ≡ true → pairs_returns (a ++ b) ≡ true
+unfolding pairs_returns
+pairs_join [] b h g = g
+pairs_join (x ∷ a) b h g = elim (is_true (is_return x)) [
+  | inl r ↦ (let parts = and_true (front is_feed a) (pairs_returns a) (rw r at h) in rw r (both_true _ _ (front_more a b parts.0) (pairs_join a b parts.1 g)))
+  | inr r ↦ rw r (pairs_join a b (rw r at h) g)
+]
+
+pairs_back : (a b : List ℕ) → pairs_returns (a ++ b) ≡ true → pairs_returns b ≡ true
+unfolding pairs_returns
+pairs_back [] b h = h
+pairs_back (x ∷ a) b h = elim (is_true (is_return x)) [
+  | inl r ↦ pairs_back a b (and_true (front is_feed (a ++ b)) (pairs_returns (a ++ b)) (rw r at h)).1
+  | inr r ↦ pairs_back a b (rw r at h)
+]
+
+pairs_front : (a b : List ℕ) → front is_feed b ≡ false → pairs_returns (a ++ b) ≡ true → pairs_returns a ≡ true
+unfolding pairs_returns
+pairs_front [] b n h = refl
+pairs_front (x ∷ a) b n h = elim (is_true (is_return x)) [
+  | inl r ↦ (let parts = and_true (front is_feed (a ++ b)) (pairs_returns (a ++ b)) (rw r at h) in rw r (both_true _ _ (front_less a b n parts.0) (pairs_front a b n parts.1)))
+  | inr r ↦ rw r (pairs_front a b n (rw r at h))
+]
+
+abbrev all_text : List ℕ → Bool
+all_text t = list_all is_text_char (chars t)
+
+all_join : (a b : List ℕ) → IsUtf8 a → all_text (a ++ b) ≡ (all_text a && all_text b)
+all_join a b u = ap (list_all is_text_char) (chars-append a b u) ∙ list_all-append is_text_char (chars a) (chars b)
+
+-- a piece that no LF begins is exchanged
+pub text_exchanged : (before old new behind : List ℕ) → IsUtf8 before → IsUtf8 old → IsUtf8 new → front is_feed (old ++ behind) ≡ false → is_text (before ++ (old ++ behind)) ≡ true → is_text new ≡ true → is_text (before ++ (new ++ behind)) ≡ true
+text_exchanged before old new behind u v w n h g =
+    let whole = and_true (all_text (before ++ (old ++ behind))) (pairs_returns (before ++ (old ++ behind))) h in
+    let fresh = and_true (all_text new) (pairs_returns new) g in
+    let first = and_true (all_text before) (all_text (old ++ behind)) (sym (all_join before (old ++ behind) u) ∙ whole.0) in
+    let last = and_true (all_text old) (all_text behind) (sym (all_join old behind v) ∙ first.1) in
+    let chars_are : all_text (before ++ (new ++ behind)) ≡ true = all_join before (new ++ behind) u ∙ both_true _ _ first.0 (all_join new behind w ∙ both_true _ _ fresh.0 last.1) in
+    let rest : pairs_returns behind ≡ true = pairs_back old behind (pairs_back before (old ++ behind) whole.1) in
+    let pairs : pairs_returns (before ++ (new ++ behind)) ≡ true = pairs_join before (new ++ behind) (pairs_front before (old ++ behind) n whole.1) (pairs_join new behind fresh.1 rest) in
+    both_true _ _ chars_are pairs
