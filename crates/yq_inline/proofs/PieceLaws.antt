@@ -9,7 +9,7 @@ use Rattle.yq_scalar.specs.QuotedReading.{is_quote, quoted_at}
 use Rattle.yq_scalar.specs.Text.{upto, cut, unless, is_empty, is_space, no_white}
 use Rattle.yq_scalar.proofs.Bools.{and_true, bind_some, chosen, guard_some}
 use Rattle.yq_scalar.proofs.PlainLaws.{plain_takes, plain_again}
-use Rattle.yq_scalar.proofs.QuotedRead.{quoted_takes, quoted_again}
+use Rattle.yq_scalar.proofs.QuotedFound.{quoted_takes, quoted_again}
 use Rattle.yq_scalar.proofs.Upto.{upto_ends, none_in_cut, cut-append, cut_takes}
 use Rattle.yq_inline.specs.Gaps.{IsGap}
 use Rattle.yq_inline.specs.Nodes.{Key, bare, keyed, Sep, last, comma, key_text, sep_text, first_is, in_name, begins_node, IsApart, IsLead, IsName, ends_key, IsKey, IsSep, is_keyed}

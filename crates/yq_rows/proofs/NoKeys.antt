@@ -8,7 +8,7 @@ use Rattle.yq_scalar.specs.Plain.{begins_plain, ends_plain, ends_text, follows, 
 use Rattle.yq_scalar.specs.QuotedReading.{is_quote}
 use Rattle.yq_scalar.specs.Text.{upto, cut, NoneIn, is_white, is_break, is_space, is_empty, front, past_white}
 use Rattle.yq_scalar.proofs.Bools.{is_true, and_true, or_false, at_byte}
-use Rattle.yq_scalar.proofs.QuotedRead.{quoted_again}
+use Rattle.yq_scalar.proofs.QuotedFound.{quoted_again}
 use Rattle.yq_scalar.proofs.Upto.{upto_here}
 use Rattle.yq_inline.specs.Nodes.{Node, empty, alias, scalar, coll, anchored, node_text, is_bare, IsNode}
 use Rattle.yq_inline.specs.Reading.{scalar_at}
