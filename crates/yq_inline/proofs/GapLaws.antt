@@ -30,7 +30,7 @@ gap_takes t x h =
     subst (λ (y : List ℕ × List ℕ). (t ≡ y.0 ++ y.1) × IsGap y.0 y.1) (some_same g.1)
     (sym (take-append-drop n t), record { inside = c.0; ends = c.1; unmarked = subst (λ (s : Before). (is_break s && is_marker (drop n t)) ≡ false) c.2 g.0 })
 
-gap_append : (s : Before) (p rest : List ℕ) → AllGo s p rest → stops (behind s p) rest ≡ true → (gap_len s (p ++ rest) ≡ length p) × (gap_end s (p ++ rest) ≡ behind s p)
+pub gap_append : (s : Before) (p rest : List ℕ) → AllGo s p rest → stops (behind s p) rest ≡ true → (gap_len s (p ++ rest) ≡ length p) × (gap_end s (p ++ rest) ≡ behind s p)
 unfolding gap_len gap_end
 gap_append s [] [] h e = (refl, refl)
 gap_append s [] (b ∷ rest) h e = let g = not-true (goes s b rest) e in (rw g refl, rw g refl)

@@ -15,3 +15,5 @@ pub mod SpelledLaws
 pub mod PathLaws
 pub mod ValuedLaws
 pub mod PathLoops
+pub mod PastLaws
+pub mod SpanLaws

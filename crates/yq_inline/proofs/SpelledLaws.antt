@@ -1,27 +1,24 @@
 -- What is written in flow style is a node that stands for its tree.
-use Rattle.std.proofs.Common.{◌≡◌, ℕ, zero, suc, ◌+◌, ◌-◌, ◌≤◌, max, Bool, true, false, cond, not, ◌||◌, eqb, List, [], ◌∷◌, ◌++◌, drop, Option, Some, None, refl, sym, ap, ◌∙◌, subst, inl, arith, eq-eqb, ⊎_elim}
-use Rattle.std.proofs.Math.Bool.{or-true}
+use Rattle.std.proofs.Common.{◌≡◌, ℕ, zero, suc, ◌-◌, ◌≤◌, Bool, true, false, not, ◌||◌, eqb, List, [], ◌∷◌, ◌++◌, drop, Option, Some, None, refl, ap, inl, arith, eq-eqb, ⊎_elim}
 use Rattle.std.proofs.Math.Nat.{le-max_left, le-max_right}
-use Rattle.std.proofs.lemmas.Bool.{false≢true, or_cases, or_right, not-true}
+use Rattle.std.proofs.lemmas.Bool.{or_cases, or_right}
 use Rattle.std.specs.Str.{IsUtf8}
-use Rattle.yq_scalar.specs.declared.style.Place.{Place}
 use Rattle.yq_scalar.specs.declared.style.Place.TheVariants as places
-use Rattle.yq_scalar.specs.declared.style.Style.TheVariants as styles
 use Rattle.yq_scalar.specs.Keys.{depth, deepest}
 use Rattle.yq_scalar.specs.Piece.{further_spaces}
 use Rattle.yq_scalar.specs.Plain.{ends_plain, begins_plain}
 use Rattle.yq_scalar.specs.Scalar.{ScalarText, string_of}
-use Rattle.yq_scalar.specs.Text.{is_space, is_empty}
+use Rattle.yq_scalar.specs.Text.{is_space}
 use Rattle.yq_scalar.specs.Tree as tree
 use Rattle.yq_scalar.specs.Writable.{can_write_plain, in_flow}
 use Rattle.yq_inline.specs.declared.gap.Before.TheVariants.{Token, White}
 use Rattle.yq_inline.specs.Gaps.{IsGap, stops}
 use Rattle.yq_inline.specs.Inline.{depth_limit}
-use Rattle.yq_inline.specs.Nodes.{Key, bare, Sep, last, comma, Node, alias, scalar, coll, anchored, Items, none, item, key_text, sep_text, node_text, items_text, first_is, begins_content, begins_node, is_bare, is_keyed, is_close, IsKey, IsSep, IsNode, AreItems}
-use Rattle.yq_inline.specs.Scalars.{is_quoted, begins_scalar, IsScalar, content_of, scalar_of}
+use Rattle.yq_inline.specs.Nodes.{key_text, sep_text, node_text, items_text, first_is, begins_content, is_bare, is_keyed, IsKey, IsSep, IsNode, AreItems}
+use Rattle.yq_inline.specs.Scalars.{is_quoted, begins_scalar, IsScalar}
 use Rattle.yq_inline.specs.Trees.{inner, scalar_node, key_content, tree_of, items_tree}
 use Rattle.yq_inline.specs.Valued.{IsValid, IsLabel, IsValueTree, AreValueTrees, Spells}
-use Rattle.yq_inline.specs.Written.{scalar_text, behind_anchor, flow_key, flow_sep, flow_of, flow_items, flow_text}
+use Rattle.yq_inline.specs.Written.{scalar_text, flow_key, flow_sep, flow_of, flow_items, flow_text}
 use Rattle.yq_inline.proofs.GapLaws.{none_gap}
 use Rattle.yq_inline.proofs.PieceLaws.{front_is, front_not, no_space, scalar_begins}
 use Rattle.yq_inline.proofs.SpelledScalars.{IsWritten, written_by}
@@ -164,8 +161,7 @@ mutual
   written_items k keyed fits tree.none d rest h deep = tt
   written_items k keyed fits (tree.child label n cs) d rest h deep =
       let behind : List ℕ = sep_text (flow_sep cs) (items_text k (flow_items cs) rest) in
-      let ends = sep_ends k keyed fits cs rest in
-      (
+      let ends = sep_ends k keyed fits cs rest in (
         (fits.key label h.0 (node_text (flow_of n) behind) (node_begins n behind h.1 ends)).0,
         or_right (is_keyed (flow_key label.key)) (not (is_bare (flow_of n))) (rw (no_bare n h.1) refl),
         written_node n true (Some 0) d behind h.1 (omega (arith, deep, le-max_left (depth n) (deepest cs))) ends,

@@ -1,14 +1,13 @@
 -- Scalars that are written are read as they were.
-use Rattle.std.proofs.Common.{◌≡◌, ◌⊎◌, ℕ, Bool, true, false, cond, not, ◌&&◌, ◌||◌, eqb, List, [], ◌∷◌, ◌++◌, Option, Some, None, refl, sym, ap, ◌∙◌, inl, inr, ⊎_elim, append_assoc, append-nil, eqb-true}
+use Rattle.std.proofs.Common.{◌≡◌, ℕ, Bool, true, false, cond, not, ◌&&◌, ◌||◌, eqb, List, [], ◌∷◌, ◌++◌, Option, Some, None, refl, sym, ap, ◌∙◌, inl, inr, ⊎_elim, append_assoc, append-nil, eqb-true}
 use Rattle.std.proofs.Math.Bool.{and-false}
 use Rattle.std.proofs.lemmas.Bool.{false≢true, cond_both, or_cases}
-use Rattle.std.specs.Str.{IsUtf8}
 use Rattle.yq_scalar.specs.declared.kind.Kind.{Kind}
 use Rattle.yq_scalar.specs.declared.kind.Kind.TheVariants as kinds
 use Rattle.yq_scalar.specs.declared.style.Style.TheVariants as styles
-use Rattle.yq_scalar.specs.ContentReading.{Before, within, broken, content_on}
+use Rattle.yq_scalar.specs.ContentReading.{within, broken, content_on}
 use Rattle.yq_scalar.specs.Plain.{ends_plain, holds_break, is_indicator, is_flow_indicator}
-use Rattle.yq_scalar.specs.PlainText.{is_plain_text, is_plain_char, begins_plainly, needs_quotes, no_rest, is_merge, begins_marker}
+use Rattle.yq_scalar.specs.PlainText.{is_plain_text, begins_plainly, needs_quotes, no_rest, is_merge, begins_marker}
 use Rattle.yq_scalar.specs.Quoted.{last}
 use Rattle.yq_scalar.specs.QuotedReading.{is_quote}
 use Rattle.yq_scalar.specs.Scalar.{ScalarText, string_of, plain_of}
@@ -43,7 +42,7 @@ line_on white (b ∷ t) h =
     let no_break : (is_feed b || (is_return b && front is_feed t)) ≡ false = rw p.0 (rw (front_none t p.1) (and-false (is_return b))) in
     let on : List ℕ = white ++ (b ∷ content_on 0 0 within [] t) in
     let here : cond (is_feed b) (content_on 0 0 (broken within) [] t) (cond (is_break (b ∷ t)) (content_on 0 0 within white t) on) ≡ on =
-        chosen_last (is_feed b) (is_break (b ∷ t)) _ _ on p.0 no_break in
+    chosen_last (is_feed b) (is_break (b ∷ t)) _ _ on p.0 no_break in
     cond_both (is_white b) (content_on 0 0 within (white ++ b ∷ []) t) (cond (is_feed b) (content_on 0 0 (broken within) [] t) (cond (is_break (b ∷ t)) (content_on 0 0 within white t) on)) (λ l. l ≡ white ++ (b ∷ t))
     (λ _. line_on (white ++ b ∷ []) t p.1 ∙ append_assoc white (b ∷ []) t)
     (λ _. here ∙ ap (λ l. white ++ (b ∷ l)) (line_on [] t p.1))

@@ -20,3 +20,4 @@ pub use Rattle.yq_scalar.specs.Keys
 pub use Rattle.yq_scalar.specs.Paths
 pub use Rattle.yq_scalar.specs.Tree
 pub use Rattle.yq_scalar.specs.Writable
+pub mod Spans

@@ -5,7 +5,7 @@ ghost use Rattle.yq_scalar.specs.Tree as tree;
 ghost use Rattle.yq_scalar.specs.declared.style.Place.{Place};
 ghost use Rattle.yq_inline.specs.Inline.{IsInline, IsInlineAt, inline_at};
 ghost use Rattle.yq_inline.specs.Nodes.{IsNode, Node, node_text};
-ghost use Rattle.yq_inline.specs.Entries.{Spot, StandsIn, slot_at, spot_at, spot_placed, spot_text};
+ghost use Rattle.yq_inline.specs.Entries.{EntryPieces, StandsIn, placed_entry_at, entry_pieces_at, locate_entry, pieces_text};
 ghost use Rattle.yq_inline.specs.Places.{Placed, locate};
 ghost use Rattle.yq_inline.specs.Trees.{placed_tree, tree_of};
 ghost use Rattle.yq_inline.specs.Valued.{IsValueTree, Spells};
@@ -31,7 +31,7 @@ pub fn flow_spells()
 /// Each item and entry to which a path leads stands in the text of the node where its places say, and
 /// its node is an inline node there.
 pub fn entry_places()
-    ensures places { (total : ℕ) (steps : List Step) (x : Spot) → slot_at steps (spot_placed total x) ≡ option_map (spot_placed total) (spot_at steps x) }
-    ensures text { (steps : List Step) (x y : Spot) → spot_at steps x ≡ Some y → StandsIn (spot_text x) y }
-    ensures node { (flow : Bool) (spaces : Option ℕ) (d : ℕ) (s : Step) (ss : List Step) (x y : Spot) → IsNode flow spaces d x.node x.rest → spot_at (s ∷ ss) x ≡ Some y → (e : ℕ) × IsNode true (Some 0) e y.node y.rest }
+    ensures places { (total : ℕ) (steps : List Step) (x : EntryPieces) → placed_entry_at steps (locate_entry total x) ≡ option_map (locate_entry total) (entry_pieces_at steps x) }
+    ensures text { (steps : List Step) (x y : EntryPieces) → entry_pieces_at steps x ≡ Some y → StandsIn (pieces_text x) y }
+    ensures node { (flow : Bool) (spaces : Option ℕ) (d : ℕ) (s : Step) (ss : List Step) (x y : EntryPieces) → IsNode flow spaces d x.node x.rest → entry_pieces_at (s ∷ ss) x ≡ Some y → (e : ℕ) × IsNode true (Some 0) e y.node y.rest }
 {}

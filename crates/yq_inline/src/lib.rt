@@ -9,6 +9,7 @@ mod path;
 pub mod pieces;
 mod read;
 pub mod reading;
+mod scalar;
 #[cfg(test)]
 mod tests;
 mod value;

@@ -91,7 +91,7 @@ impl<'t> Inline<'t> {
 
     /// The item or entry at a path from this node, which itself is the entry of the empty path.
     fn find(&self, steps: &[Step]) -> Option<Entry<'_, 't>>
-        ensures { option_map spec.entry_view result ≡ spec.slot_at (map spec.step_of steps.now) (None, view self.now) }
+        ensures { option_map spec.entry_view result ≡ spec.placed_entry_at (map spec.step_of steps.now) (None, view self.now) }
     {
         let mut found = Entry {
             key: None,
@@ -107,7 +107,7 @@ impl<'t> Inline<'t> {
     #[tactic(auto, using(crate::proofs::PathLoops::by_tree))]
     pub fn entry(&self, steps: &[Step]) -> Option<Entry<'_, 't>>
         // It is the one to which the steps lead, with its places.
-        ensures exact { option_map spec.entry_view result ≡ spec.slot_at (map spec.step_of steps.now) (None, view self.now) }
+        ensures exact { option_map spec.entry_view result ≡ spec.placed_entry_at (map spec.step_of steps.now) (None, view self.now) }
         // There is one exactly where the path exists in the node's tree, and its node is the one there.
         ensures node { option_map (λ e. placed_tree (view e.node.now)) result ≡ paths.node_at (map spec.step_of steps.now) (placed_tree (view self.now)) }
     {

@@ -5,6 +5,7 @@ ghost use Rattle.yq_scalar.specs.Answers.{Gives};
 ghost use Rattle.yq_scalar.specs.declared.style.Place.TheVariants.{Block, Flow};
 ghost use Rattle.yq_inline.specs.Inline as spec;
 ghost use Rattle.yq_inline.specs.Places.{Placed};
+ghost use Rattle.yq_inline.specs.Spans.{HasSpans};
 ghost use Rattle.yq_inline.specs.View.{view};
 
 use crate::fault::fault;
@@ -59,7 +60,7 @@ fn inline_at<'t>(
 /// In a flow collection the node may be nothing; elsewhere it is something, if only an anchor, and what
 /// an anchor stands before is on the anchor's line. A node with which more than 64 collections would be
 /// nested is refused, before it is read.
-#[tactic(auto, using(crate::proofs::InlineLaws::found_by, crate::proofs::InlineLaws::only_by))]
+#[tactic(auto, using(crate::proofs::InlineLaws::found_by, crate::proofs::InlineLaws::only_by, crate::proofs::SpanLaws::spans_by))]
 pub fn read_inline<'t>(
     alloc: Global,
     text: &'t str,
@@ -75,6 +76,8 @@ pub fn read_inline<'t>(
     ensures found { IfOk result (λ node. spec.IsInlineAt place indent depth at text.now (view node)) }
     // Where one begins it is given, unless memory runs out.
     ensures only { (p : Placed) → spec.IsInlineAt place indent depth at text.now p → Gives view result (Some p) }
+    // Its places lie in order, each at a character of the text or at its end.
+    ensures spans { IfOk result (λ node. HasSpans text.now (view node)) }
 {
     inline_at(alloc, text, at, place, indent, depth)
 }

@@ -45,11 +45,7 @@ fn flow_collections_of_the_standard(rt: HostRuntime) -> Result<(), Fail> {
             8,
             "=VAL &anchor \"c ",
         ),
-        (
-            "- 'b'\n- &anchor \"c\"\n- *anchor\n",
-            22,
-            "=ALI *anchor ",
-        ),
+        ("- 'b'\n- &anchor \"c\"\n- *anchor\n", 22, "=ALI *anchor "),
     ] {
         assert!(rt; text.is_char_boundary(at), "{text}");
         let node = read_inline(rt.alloc(), text, at, Place::Block, 0, 0)?;
@@ -86,10 +82,7 @@ fn flow_collections_that_are_refused(rt: HostRuntime) {
         // Single pair implicit entries.
         ("[ YAML : separate ]", FaultKind::BadFlow),
         ("[ : empty key entry ]", FaultKind::BadFlow),
-        (
-            "[ {JSON: like}:adjacent ]",
-            FaultKind::BadFlow,
-        ),
+        ("[ {JSON: like}:adjacent ]", FaultKind::BadFlow),
         // Invalid implicit keys.
         ("[ foo\n bar: invalid,", FaultKind::BadFlow),
         // A tag.

@@ -52,9 +52,7 @@ fn writes_when_memory_is_there(rt: HostRuntime) -> Result<(), Fail> {
     let alloc = rt.alloc();
     let mut items = Vec::new(alloc);
     items.push(Value::Scalar(Scalar::plain(alloc, "1")?))?;
-    items.push(Value::Scalar(Scalar::string(String::from_str(
-        alloc, "a, b",
-    )?)))?;
+    items.push(Value::Scalar(Scalar::string(String::from_str(alloc, "a, b")?)))?;
     let mut entries = Vec::new(alloc);
     entries.push((String::from_str(alloc, "k")?, Value::List(items)))?;
     let value = Value::Map(entries);

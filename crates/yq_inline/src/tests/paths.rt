@@ -1,6 +1,7 @@
 //! Paths inside inline nodes.
 
-use super::{read, shown::shown};
+use super::read;
+use super::shown::shown;
 use crate::{Entry, Inline, Step};
 use std::alloc::Global;
 use std::test::Fail;

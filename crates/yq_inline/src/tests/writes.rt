@@ -64,9 +64,18 @@ fn writes_what_was_read(rt: HostRuntime) -> Result<(), Fail> {
         ("[ one, two, ]", "[one, two]"),
         ("{five: six,seven : eight}", "{five: six, seven: eight}"),
         ("{\n\"adjacent\":value, 'b':}", "{adjacent: value, b: null}"),
-        ("[~, 0x1F, 1.50, True, 'true', \"\"]", "[null, 0x1F, 1.50, True, \"true\", \"\"]"),
-        ("[\"a\\tb\", 'c\n\nd', '- e', ' f', 'g#', ' #']", "[\"a\\tb\", \"c\\nd\", \"- e\", \" f\", g#, \" #\"]"),
-        ("{'{': '}', 'a: b': ['[]', \"\\u263a\"]}", "{\"{\": \"}\", \"a: b\": [\"[]\", \u{263a}]}"),
+        (
+            "[~, 0x1F, 1.50, True, 'true', \"\"]",
+            "[null, 0x1F, 1.50, True, \"true\", \"\"]",
+        ),
+        (
+            "[\"a\\tb\", 'c\n\nd', '- e', ' f', 'g#', ' #']",
+            "[\"a\\tb\", \"c\\nd\", \"- e\", \" f\", g#, \" #\"]",
+        ),
+        (
+            "{'{': '}', 'a: b': ['[]', \"\\u263a\"]}",
+            "{\"{\": \"}\", \"a: b\": [\"[]\", \u{263a}]}",
+        ),
         ("[[[]], {a: {b: {}}}]", "[[[]], {a: {b: {}}}]"),
     ] {
         let node = read(alloc, text, true, 0)?;

@@ -1,0 +1,34 @@
+-- The places of an inline node and of its parts lie in order, each from one character of the text to another or to the end.
+use Rattle.std.specs.Prelude.{ℕ, ◌≤◌, List, Option, Some, None, ⊤}
+use Rattle.std.specs.Str.{IsCharBoundary}
+use Rattle.yq_scalar.specs.declared.piece.Piece.{Piece}
+use Rattle.yq_inline.specs.Places.{Placed, placed, Content, nothing, name, text, sequence, mapping, Parts, end, part}
+
+-- from one character of a text to another, or to its end (own)
+pub record IsSpan (t : List ℕ) (from to : ℕ) : Type 0 where
+  pub ordered : from ≤ to
+  pub begins : IsCharBoundary t from
+  pub ends : IsCharBoundary t to
+
+-- a key, if there is one, is a span (own)
+abbrev pub HasKeySpan : List ℕ → Option (List ℕ × Piece) → Type 0
+HasKeySpan t None = ⊤
+HasKeySpan t (Some k) = IsSpan t k.1.start k.1.end
+
+abbrev mutual
+  -- A node is a span from its anchor on, and behind that, and so are its parts (own).
+  pub HasSpans : List ℕ → Placed → Type 0
+  HasSpans t (placed a s c e f) = IsSpan t s c × IsSpan t c e × ContentHasSpans t f
+
+  -- the same of what a collection holds (own)
+  pub ContentHasSpans : List ℕ → Content → Type 0
+  ContentHasSpans t nothing = ⊤
+  ContentHasSpans t (name n) = ⊤
+  ContentHasSpans t (text s p) = IsSpan t p.start p.end
+  ContentHasSpans t (sequence parts) = PartsHaveSpans t parts
+  ContentHasSpans t (mapping parts) = PartsHaveSpans t parts
+
+  -- the same of items or entries with their keys (own)
+  pub PartsHaveSpans : List ℕ → Parts → Type 0
+  PartsHaveSpans t end = ⊤
+  PartsHaveSpans t (part key n parts) = HasKeySpan t key × HasSpans t n × PartsHaveSpans t parts

@@ -1,0 +1,91 @@
+//! Scalars and keys with what they stand for and their pieces.
+ghost use Rattle.std.specs.Prelude.{◌≡◌, ◌<◌, ◌≤◌, IfOk, length, string_bytes, true};
+ghost use Rattle.yq_scalar.specs.Answers.{Gives};
+ghost use Rattle.yq_scalar.specs.Quoted.{IsQuotedText};
+ghost use Rattle.yq_inline.specs.Places as spec;
+ghost use Rattle.yq_inline.specs.Scalars as scalars;
+ghost use Rattle.yq_inline.specs.View.{form_view};
+
+use crate::inline::Form;
+use crate::pieces::{is_quoted, read_key, read_scalar};
+use std::alloc::{AllocError, Global};
+use yq_scalar::folding::{plain_content, quoted_content};
+use yq_scalar::piece::inline_piece;
+use yq_scalar::{Piece, ReadError, Scalar, Style};
+
+/// How a scalar is written.
+fn style_of(piece: &[u8]) -> Style
+    ensures { result ≡ scalars.style_of piece.now }
+{
+    match piece {
+        [b'\'', ..] => Style::Single,
+        [b'"', ..] => Style::Double,
+        _ => Style::Plain,
+    }
+}
+
+/// The text that a scalar, as it is written, stands for.
+#[tactic(auto, unfolding(crate::specs::Scalars::content_of))]
+fn content_of(alloc: Global, piece: &str) -> Result<String, AllocError>
+    requires { scalars.is_quoted piece.now ≡ true → IsQuotedText piece.now }
+    ensures { IfOk result (λ s. string_bytes s ≡ scalars.content_of piece.now) }
+{
+    if is_quoted(piece.as_bytes()) {
+        quoted_content(alloc, piece)
+    } else {
+        plain_content(alloc, piece)
+    }
+}
+
+/// The scalar that it stands for.
+#[tactic(auto, unfolding(crate::specs::Scalars::scalar_of))]
+fn scalar_of(alloc: Global, piece: &str) -> Result<Scalar, AllocError>
+    requires { scalars.is_quoted piece.now ≡ true → IsQuotedText piece.now }
+    ensures { IfOk result (λ s. s ≡ scalars.scalar_of piece.now) }
+{
+    if is_quoted(piece.as_bytes()) {
+        let text = quoted_content(alloc, piece)?;
+        return Ok(Scalar::string(text));
+    }
+    let text = plain_content(alloc, piece)?;
+    Scalar::plain(alloc, text.as_str())
+}
+
+/// The scalar in front, with its piece, and what follows it.
+pub(crate) fn read_text<'t>(
+    alloc: Global,
+    flow: bool,
+    spaces: Option<usize>,
+    whole: &str,
+    text: &'t str,
+) -> Result<(Form<'t>, &'t str), ReadError>
+    requires { length text.now ≤ length whole.now }
+    ensures shorter { IfOk result (λ x. length x.1.now ≤ length text.now) }
+    ensures read { Gives (λ x. (form_view x.0, x.1.now)) result (spec.placed_text flow spaces (length whole.now) text.now) }
+{
+    let (piece, rest) = read_scalar(flow, spaces, whole, text)?;
+    let scalar = scalar_of(alloc, piece)?;
+    let place = inline_piece(
+        style_of(piece.as_bytes()),
+        whole.len() - text.len(),
+        whole.len() - rest.len(),
+    );
+    Ok((Form::Scalar(scalar, place), rest))
+}
+
+/// The key in front with its content and piece, and what follows its `:`.
+pub(crate) fn read_entry_key<'t>(
+    alloc: Global,
+    whole: &str,
+    text: &'t str,
+) -> Result<(String, Piece, &'t str), ReadError>
+    requires { length text.now ≤ length whole.now }
+    ensures shorter { IfOk result (λ x. length x.2.now < length text.now) }
+    ensures read { Gives (λ x. ((string_bytes x.0, x.1), x.2.now)) result (spec.placed_key (length whole.now) text.now) }
+{
+    let (piece, rest) = read_key(whole, text)?;
+    let key = content_of(alloc, piece)?;
+    let start = whole.len() - text.len();
+    let place = inline_piece(style_of(piece.as_bytes()), start, start + piece.len());
+    Ok((key, place, rest))
+}
