@@ -8,7 +8,7 @@ import json
 import os
 from concurrent.futures import ThreadPoolExecutor
 
-from harness import Skip, equal
+from harness import NOT_BUILT, Skip, equal
 from tracing import calls_in, own_calls, traced
 
 ERRORS = ("ENOSPC", "EIO", "EACCES")
@@ -110,9 +110,23 @@ def edit_on(folder, history):
     folder.refuses("J1 nothing to undo", *UNDO)
 
 
+def tells_its_history(folder, history):
+    """Lists what is done and what is undone, and writes nothing."""
+    before = {name: folder.read(name) for name in folder.names()}
+    status, out, err = folder.run("history", FILE)
+    if err == NOT_BUILT:
+        return
+    equal((status, err), (0, b""))
+    marks = [line.split()[1] for line in out.split(b"\n")[:-1]]
+    undone = len(history.texts) - 1 - history.at
+    equal(marks, [b"done"] * history.at + [b"undone"] * undone)
+    equal({name: folder.read(name) for name in folder.names()}, before)
+
+
 def goes_on(folder, history, *ways):
     left = leftovers(folder)
     modes_stay(folder)
+    tells_its_history(folder, history)
     for way in ways:
         later = folder.copy(f"{folder.path}-{way.__name__}")
         way(later, history)

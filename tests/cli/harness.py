@@ -9,6 +9,7 @@ import traceback
 
 NOBODY = 65534
 SECONDS = 120
+NOT_BUILT = b"Error: E2 not in profile\n"
 
 
 class Skip(Exception):
@@ -63,7 +64,7 @@ class Folder:
 
     def can(self, *words):
         """Whether the command is carried out by now."""
-        return self.run(*words)[2] != b"Error: E2 not in profile\n"
+        return self.run(*words)[2] != NOT_BUILT
 
     def give_away(self):
         """Lets nobody into the folder."""
