@@ -1,5 +1,6 @@
 -- Runs of commands.
-use Rattle.std.proofs.Common.{◌≡◌, ◌⊎◌, inl, inr, ℕ, ◌+◌, ◌-◌, ◌^◌, ◌≤◌, min, Bool, true, false, ◌&&◌, not, nat_le, if◌then◌else◌, List, [], ◌∷◌, ◌++◌, Option, Some, None, Result, Ok, Err, OnOk, MatchResult, MatchBool, IfErr, option_map, sym, ap, ap₂, ◌∙◌, subst, refl, arith}
+use Rattle.std.proofs.Common.{◌≡◌, ◌≢◌, ◌⊎◌, inl, inr, ℕ, ◌+◌, ◌-◌, ◌^◌, ◌<◌, ◌≤◌, min, Bool, true, false, ◌&&◌, ◌||◌, not, nat_le, if◌then◌else◌, List, [], ◌∷◌, ◌++◌, append_assoc, Option, Some, None, Result, Ok, Err, OnOk, MatchResult, MatchBool, IfErr, option_map, sym, ap, ap₂, ◌∙◌, subst, refl, arith}
+use Rattle.std.proofs.lemmas.List.{append-nil}
 use Rattle.std.specs.List.{list_all}
 use Rattle.std.specs.Str.{bytes_eq}
 use Rattle.std.specs.FinMap.{get}
@@ -7,10 +8,9 @@ use Rattle.std.specs.String.{string_bytes}
 use Rattle.yq_expr.specs.Program.{Program}
 use Rattle.yq_journal.specs.declared.moves.Move.{Move}
 use Rattle.yq_journal.specs.declared.moves.Move.TheVariants as move
-use Rattle.yq_journal.specs.Good.{Good, after_move, step_fault}
-use Rattle.yq_journal.specs.History.{History, text_at, after_edit}
+use Rattle.yq_journal.specs.Good.{Good, after_move, squash_refusal, step_fault}
+use Rattle.yq_journal.specs.History.{History, text_at, after_edit, after_squash}
 use Rattle.yq_journal.specs.Refusals.{most_records}
-use Rattle.yq_journal.proofs.GoodLaws.{settles}
 use Rattle.yq.specs.declared.answer.Answer.{Answer}
 use Rattle.yq.specs.declared.answer.Answer.TheVariants.{Done, NoMatch, Refused}
 use Rattle.yq.specs.declared.command.Command.{Command}
@@ -20,37 +20,94 @@ use Rattle.yq.specs.declared.fault.Fault.TheVariants as fault
 use Rattle.yq.specs.Content.{Content}
 use Rattle.yq.specs.Count.{one_more}
 use Rattle.yq.specs.Editing.{Outcome, unreadable, refused, edited, edits, program_in}
-use Rattle.yq.specs.Faults.{is_failure, is_outside, of_fault, counted}
-use Rattle.yq.specs.Lists.{IsOn, IsApart, IsStranger, Steps, Goes, Run, IsRecorded, Records, IsAnswer, GoesExactly, RunExactly, tells_failure, failures_in, is_kept, is_memory, has_memory}
+use Rattle.yq.specs.Faults.{is_failure, is_outside, is_output, of_fault, counted}
+use Rattle.yq.specs.Lists.{IsOn, IsApart, IsStranger, Reply, answers_in, printed_in, IsRefused, Steps, Goes, Run, IsRecorded, Records, IsReply, GoesExactly, RunExactly, Leaves, Keeps, tells_failure, tells_output, count_told, failures_in, output_failures_in, is_kept, is_memory, has_memory}
 use Rattle.yq.specs.Pair.{GoodIn, Arrives}
-use Rattle.yq.specs.Steps.{Cause, IsFor, named, cause_of, next_of, unless_fault, walk_cause, walk_next, edit_cause, edit_next, update_cause, update_next}
+use Rattle.yq.specs.Prints.{output_of, prints}
+use Rattle.yq.specs.Steps.{Cause, IsFor, named, cause_of, next_of, unless_fault, walk_cause, walk_next, edit_cause, edit_next, update_cause, update_next, squash_cause, squash_next}
+use Rattle.yq.proofs.PairLaws.{good_text}
+
+-- ---- what a command that was carried out, or refused, is told as
+
+-- the answer to what a command came to, with what it prints
+abbrev pub Told : {T : Type 0} → Result T Fault → Answer → List ℕ → Type 0
+Told r a o = MatchResult r (λ _. (a ≡ Done) ⊎ ((a ≡ Refused fault.OutFailed) × (o ≢ []))) (λ x. a ≡ Refused x)
+
+-- the reply of an answer: only what is done prints
+abbrev pub reply : Answer → List ℕ → Reply
+reply Done o = record { answer = Done; printed = o }
+reply NoMatch o = record { answer = NoMatch; printed = [] }
+reply (Refused e) o = record { answer = Refused e; printed = [] }
+
+reply-answer : (a : Answer) (o : List ℕ) → (reply a o).answer ≡ a
+reply-answer Done o = refl
+reply-answer NoMatch o = refl
+reply-answer (Refused e) o = refl
+
+answers_push : (rs : List Reply) (r : Reply) → answers_in (rs ++ r ∷ []) ≡ answers_in rs ++ r.answer ∷ []
+answers_push [] r = refl
+answers_push (x ∷ rs) r = ap (λ as'. x.answer ∷ as') (answers_push rs r)
+
+-- the answers, one reply more
+pub answers_more : (rs : List Reply) (as' : List Answer) (a : Answer) (o : List ℕ) → answers_in rs ≡ as' → answers_in (rs ++ reply a o ∷ []) ≡ as' ++ a ∷ []
+answers_more rs as' a o is = answers_push rs (reply a o) ∙ ap₂ (λ xs x. xs ++ x ∷ []) is (reply-answer a o)
 
 -- ---- a run goes on
 
 -- a run goes on by one command
-pub run_more : (f j : List ℕ) (h m k : Option History) (cs : List Command) (rs : List Answer) (c : Command) (a : Answer) → Run f j h cs rs m → Goes f j c m a k → Run f j h (cs ++ c ∷ []) (rs ++ a ∷ []) k
+pub run_more : (f j : List ℕ) (h m k : Option History) (cs : List Command) (rs : List Reply) (c : Command) (r : Reply) → Run f j h cs rs m → Goes f j c m r k → Run f j h (cs ++ c ∷ []) (rs ++ r ∷ []) k
 run_more f j h m k [] [] c a r s = (k, subst (λ x. Goes f j c x a k) r s, refl)
 run_more f j h m k (d ∷ cs) (b ∷ rs) c a r s = (r.0, r.1, run_more f j r.0 m k cs rs c a r.2 s)
 run_more f j h m k [] (b ∷ rs) c a r s = absurd r
 run_more f j h m k (d ∷ cs) [] c a r s = absurd r
 
+-- a command that prints leaves its history
+printing_stays : (c : Command) (h : Option History) → output_of c h ≢ [] → next_of c h ≡ h
+printing_stays (Eval expr file journal true s d) h some = absurd (some refl)
+printing_stays (Eval expr file journal false s d) h some = refl
+printing_stays (Undo file journal) h some = absurd (some refl)
+printing_stays (Redo file journal) h some = absurd (some refl)
+printing_stays (Lists file journal) h some = refl
+printing_stays (Squash n file journal) h some = absurd (some refl)
+printing_stays Help h some = refl
+
+module _ (c : Command) (h k : Option History) (x : Fault) (quiet : is_output x ≡ false) where
+  by_output : MatchBool (is_outside x) ((k ≡ h) ⊎ (k ≡ next_of c h)) (IsFor (cause_of c h) x × (k ≡ h)) → IsRefused c h x k
+  by_output p = subst (λ b. MatchBool b ((cause_of c h ≡ None) × (k ≡ h)) (MatchBool (is_outside x) ((k ≡ h) ⊎ (k ≡ next_of c h)) (IsFor (cause_of c h) x × (k ≡ h)))) (sym quiet) p
+
+  outside_refused : is_outside x ≡ true → (k ≡ h) ⊎ (k ≡ next_of c h) → IsRefused c h x k
+  outside_refused out p = by_output (subst (λ b. MatchBool b ((k ≡ h) ⊎ (k ≡ next_of c h)) (IsFor (cause_of c h) x × (k ≡ h))) (sym out) p)
+
+  inside_refused : is_outside x ≡ false → IsFor (cause_of c h) x × (k ≡ h) → IsRefused c h x k
+  inside_refused out p = by_output (subst (λ b. MatchBool b ((k ≡ h) ⊎ (k ≡ next_of c h)) (IsFor (cause_of c h) x × (k ≡ h))) (sym out) p)
+
 module _ (e : Content) (f j : List ℕ) (c : Command) (h : Option History) where
-  refused_step : (x : Fault) (a : Answer) (b : Bool) → a ≡ Refused x → is_outside x ≡ b → MatchBool b (GoodIn e f j h ⊎ GoodIn e f j (next_of c h)) (IsFor (cause_of c h) x × GoodIn e f j h) → (k : Option History) × Steps c h a k × GoodIn e f j k
-  refused_step x a true is out (inl g) = (h, subst (λ y. Steps c h y h) (sym is) (subst (λ b. MatchBool b ((h ≡ h) ⊎ (h ≡ next_of c h)) (IsFor (cause_of c h) x × (h ≡ h))) (sym out) (inl refl)), g)
-  refused_step x a true is out (inr g) = (next_of c h, subst (λ y. Steps c h y (next_of c h)) (sym is) (subst (λ b. MatchBool b ((next_of c h ≡ h) ⊎ (next_of c h ≡ next_of c h)) (IsFor (cause_of c h) x × (next_of c h ≡ h))) (sym out) (inr refl)), g)
-  refused_step x a false is out p = (h, subst (λ y. Steps c h y h) (sym is) (subst (λ b. MatchBool b ((h ≡ h) ⊎ (h ≡ next_of c h)) (IsFor (cause_of c h) x × (h ≡ h))) (sym out) (p.0, refl)), p.1)
+  refused_step : (x : Fault) (b : Bool) → is_output x ≡ false → is_outside x ≡ b → MatchBool b (GoodIn e f j h ⊎ GoodIn e f j (next_of c h)) (IsFor (cause_of c h) x × GoodIn e f j h) → (k : Option History) × IsRefused c h x k × GoodIn e f j k
+  refused_step x true quiet out (inl g) = (h, outside_refused c h h x quiet out (inl refl), g)
+  refused_step x true quiet out (inr g) = (next_of c h, outside_refused c h (next_of c h) x quiet out (inr refl), g)
+  refused_step x false quiet out p = (h, inside_refused c h h x quiet out (p.0, refl), p.1)
 
   -- a command that arrives is a step
-  arrived : {T : Type 0} (r : Result T Fault) (a : Answer) → MatchResult r (λ _. a ≡ Done) (λ x. a ≡ Refused x) → Arrives e f j (cause_of c h) h (next_of c h) r → (k : Option History) × Steps c h a k × GoodIn e f j k
-  arrived (Ok v) a is p = (next_of c h, subst (λ y. Steps c h y (next_of c h)) (sym is) (p.0, refl), p.1)
-  arrived (Err x) a is p = refused_step x a (is_outside x) is refl p
+  arrived : {T : Type 0} (r : Result T Fault) (a : Answer) (o : List ℕ) → Told r a o → OnOk r (o ≡ output_of c h) → IfErr r (λ x. is_output x ≡ false) → Arrives e f j (cause_of c h) h (next_of c h) r → (k : Option History) × Steps c h (reply a o).answer (reply a o).printed k × GoodIn e f j k
+  arrived (Ok v) a o (inl is) shows quiet p = (next_of c h, subst (λ y. Steps c h (reply y o).answer (reply y o).printed (next_of c h)) (sym is) (p.0, shows, refl), p.1)
+  arrived (Ok v) a o (inr is) shows quiet p =
+      let stays : next_of c h ≡ h = printing_stays c h (λ none. is.1 (shows ∙ none)) in
+      (h, subst (λ y. Steps c h (reply y o).answer (reply y o).printed h) (sym is.0) (refl, (p.0, refl)), subst (GoodIn e f j) stays p.1)
+  arrived (Err x) a o is shows quiet p =
+      let s = refused_step x (is_outside x) quiet refl p in
+      (s.0, subst (λ y. Steps c h (reply y o).answer (reply y o).printed s.0) (sym is) (refl, s.1), s.2)
+
+-- what is printed, by another name of its bytes
+pub shows : {T : Type 0} (r : Result T Fault) (text o wanted : List ℕ) → text ≡ o → OnOk r (text ≡ wanted) → OnOk r (o ≡ wanted)
+shows (Ok v) text o wanted is p = sym is ∙ p
+shows (Err x) text o wanted is p = tt
 
 -- a command goes on, on the pair or apart from it
-pub goes_on : (c e : Content) (f j : List ℕ) (cmd : Command) (h : Option History) {T : Type 0} (r : Result T Fault) (a : Answer) → IsOn f j cmd ⊎ IsApart f j cmd → GoodIn c f j h → (IsOn f j cmd → Arrives e f j (cause_of cmd h) h (next_of cmd h) r) → ((q : List ℕ) → IsStranger q cmd → get e q ≡ get c q) → MatchResult r (λ _. a ≡ Done) (λ x. a ≡ Refused x) → (k : Option History) × Goes f j cmd h a k × GoodIn e f j k
-goes_on c e f j cmd h r a (inl on) good arrives others is =
-    let p = arrived e f j cmd h r a is (arrives on) in
+pub goes_on : (c e : Content) (f j : List ℕ) (cmd : Command) (h : Option History) {T : Type 0} (r : Result T Fault) (a : Answer) (o : List ℕ) → IsOn f j cmd ⊎ IsApart f j cmd → GoodIn c f j h → (IsOn f j cmd → Arrives e f j (cause_of cmd h) h (next_of cmd h) r) → (IsOn f j cmd → OnOk r (o ≡ output_of cmd h)) → IfErr r (λ x. is_output x ≡ false) → ((q : List ℕ) → IsStranger q cmd → get e q ≡ get c q) → Told r a o → (k : Option History) × Goes f j cmd h (reply a o) k × GoodIn e f j k
+goes_on c e f j cmd h r a o (inl on) good arrives shows quiet others is =
+    let p = arrived e f j cmd h r a o is (shows on) quiet (arrives on) in
     (p.0, inl (on, p.1), p.2)
-goes_on c e f j cmd h r a (inr apart) good arrives others is =
+goes_on c e f j cmd h r a o (inr apart) good arrives shows quiet others is =
     (h, inr (apart, refl), subst (λ x. Good x (get e j) h) (sym (others f apart.0)) (subst (λ y. Good (get c f) y h) (sym (others j apart.1)) good))
 
 -- ---- what a refused command leaves
@@ -61,6 +118,13 @@ none_is_some x e = cc
 walk_stays : (step : Move) (h : Option History) (x : Cause) → walk_cause step h ≡ Some x → walk_next step h ≡ h
 walk_stays step None x is = refl
 walk_stays step (Some h) x is = ap Some (elim (step_fault h step) as (λ o. option_map (λ y. named (of_fault y)) o ≡ Some x → unless_fault o h (after_move h step []) ≡ h) [
+  | None ↦ λ e. none_is_some x e
+  | Some y ↦ λ e. refl
+] is)
+
+squash_stays : (n : ℕ) (h : Option History) (x : Cause) → squash_cause n h ≡ Some x → squash_next n h ≡ h
+squash_stays n None x is = refl
+squash_stays n (Some h) x is = ap Some (elim (squash_refusal h n) as (λ o. option_map (λ y. named (of_fault y)) o ≡ Some x → unless_fault o h (after_squash h n) ≡ h) [
   | None ↦ λ e. none_is_some x e
   | Some y ↦ λ e. refl
 ] is)
@@ -87,7 +151,7 @@ stays (Eval expr file journal false s d) h x is = refl
 stays (Undo file journal) h x is = walk_stays move.Undo h x is
 stays (Redo file journal) h x is = walk_stays move.Redo h x is
 stays (Lists file journal) h x is = refl
-stays (Squash n file journal) h x is = refl
+stays (Squash n file journal) h x is = squash_stays n h x is
 stays Help h x is = refl
 
 -- ---- where nothing fails from outside
@@ -95,7 +159,7 @@ stays Help h x is = refl
 abbrev pub is_inside : Answer → Bool
 is_inside Done = true
 is_inside NoMatch = true
-is_inside (Refused e) = not (is_outside e)
+is_inside (Refused e) = not (is_outside e) && not (is_output e)
 
 and_first : (a b : Bool) → (a && b) ≡ true → a ≡ true
 and_first true b e = refl
@@ -105,30 +169,41 @@ and_rest : (a b : Bool) → (a && b) ≡ true → b ≡ true
 and_rest true b e = e
 and_rest false b e = cc
 
+both : (a b : Bool) → a ≡ true → b ≡ true → (a && b) ≡ true
+both true b p q = q
+both false b p q = cc
+
 not_true : (b : Bool) → not b ≡ true → b ≡ false
 not_true true e = cc
 not_true false e = refl
 
-for_some : (o : Option Cause) (e : Fault) (a : Answer) → a ≡ Refused e → IsFor o e → IsAnswer o a × ((x : Cause) × (o ≡ Some x))
-for_some None e a is f = absurd f
-for_some (Some x) e a is f = ((e, is, f), (x, refl))
+for_some : (o : Option Cause) (e : Fault) (output : List ℕ) (r : Reply) → r.answer ≡ Refused e → r.printed ≡ [] → IsFor o e → IsReply o output r × ((x : Cause) × (o ≡ Some x))
+for_some None e output r is none f = absurd f
+for_some (Some x) e output r is none f = (((e, is, f), none), (x, refl))
 
-exact_step : (c : Command) (h k : Option History) (a : Answer) → Steps c h a k → is_inside a ≡ true → IsAnswer (cause_of c h) a × (k ≡ next_of c h)
-exact_step c h k Done s i = (subst (λ o. IsAnswer o Done) (sym s.0) refl, s.1)
-exact_step c h k NoMatch s i = absurd s
-exact_step c h k (Refused e) s i =
-    let p = subst (λ b. MatchBool b ((k ≡ h) ⊎ (k ≡ next_of c h)) (IsFor (cause_of c h) e × (k ≡ h))) (not_true (is_outside e) i) s in
-    let q = for_some (cause_of c h) e (Refused e) refl p.0 in
+inside_step : (c : Command) (h k : Option History) (e : Fault) → is_outside e ≡ false → is_output e ≡ false → IsRefused c h e k → IsFor (cause_of c h) e × (k ≡ h)
+inside_step c h k e out quiet s =
+    subst (λ b. MatchBool b ((k ≡ h) ⊎ (k ≡ next_of c h)) (IsFor (cause_of c h) e × (k ≡ h))) out
+    (subst (λ b. MatchBool b ((cause_of c h ≡ None) × (k ≡ h)) (MatchBool (is_outside e) ((k ≡ h) ⊎ (k ≡ next_of c h)) (IsFor (cause_of c h) e × (k ≡ h)))) quiet s)
+
+exact_step : (c : Command) (h k : Option History) (r : Reply) (a : Answer) → r.answer ≡ a → Steps c h a r.printed k → is_inside a ≡ true → IsReply (cause_of c h) (output_of c h) r × (k ≡ next_of c h)
+exact_step c h k r Done is s i = (subst (λ o. IsReply o (output_of c h) r) (sym s.0) (is, s.1), s.2)
+exact_step c h k r NoMatch is s i = absurd s
+exact_step c h k r (Refused e) is s i =
+    let out = not_true (is_outside e) (and_first (not (is_outside e)) (not (is_output e)) i) in
+    let quiet = not_true (is_output e) (and_rest (not (is_outside e)) (not (is_output e)) i) in
+    let p = inside_step c h k e out quiet s.1 in
+    let q = for_some (cause_of c h) e (output_of c h) r is s.0 p.0 in
     (q.0, p.1 ∙ sym (stays c h q.1.0 q.1.1))
 
-exact_goes : (f j : List ℕ) (c : Command) (h k : Option History) (a : Answer) → Goes f j c h a k → is_inside a ≡ true → GoesExactly f j c h a k
-exact_goes f j c h k a (inl s) i = let p = exact_step c h k a s.1 i in inl (s.0, p.0, p.1)
-exact_goes f j c h k a (inr s) i = inr s
+exact_goes : (f j : List ℕ) (c : Command) (h k : Option History) (r : Reply) → Goes f j c h r k → is_inside r.answer ≡ true → GoesExactly f j c h r k
+exact_goes f j c h k r (inl s) i = let p = exact_step c h k r r.answer refl s.1 i in inl (s.0, p.0, p.1)
+exact_goes f j c h k r (inr s) i = inr s
 
-pub exact_run : (f j : List ℕ) (cs : List Command) (rs : List Answer) (h k : Option History) → Run f j h cs rs k → list_all is_inside rs ≡ true → RunExactly f j h cs rs k
+pub exact_run : (f j : List ℕ) (cs : List Command) (rs : List Reply) (h k : Option History) → Run f j h cs rs k → list_all is_inside (answers_in rs) ≡ true → RunExactly f j h cs rs k
 exact_run f j [] [] h k r i = r
 exact_run f j (c ∷ cs) (a ∷ rs) h k r i =
-    (r.0, exact_goes f j c h r.0 a r.1 (and_first (is_inside a) (list_all is_inside rs) i), exact_run f j cs rs r.0 k r.2 (and_rest (is_inside a) (list_all is_inside rs) i))
+    (r.0, exact_goes f j c h r.0 a r.1 (and_first (is_inside a.answer) (list_all is_inside (answers_in rs)) i), exact_run f j cs rs r.0 k r.2 (and_rest (is_inside a.answer) (list_all is_inside (answers_in rs)) i))
 exact_run f j [] (a ∷ rs) h k r i = absurd r
 exact_run f j (c ∷ cs) [] h k r i = absurd r
 
@@ -140,53 +215,111 @@ outside_parts fault.WriteFailed p q = p
 outside_parts fault.OutOfMemory p q = q
 outside_parts _ p q = refl
 
-inside_one : (a : Answer) → tells_failure a ≡ false → has_memory a ≡ true → is_inside a ≡ true
-inside_one Done p q = refl
-inside_one NoMatch p q = refl
-inside_one (Refused e) p q = ap not (outside_parts e p (not_true (is_memory e) q))
+inside_one : (a : Answer) → tells_failure a ≡ false → tells_output a ≡ false → has_memory a ≡ true → is_inside a ≡ true
+inside_one Done p o q = refl
+inside_one NoMatch p o q = refl
+inside_one (Refused e) p o q = both (not (is_outside e)) (not (is_output e)) (ap not (outside_parts e p (not_true (is_memory e) q))) (ap not o)
 
-both : (a b : Bool) → a ≡ true → b ≡ true → (a && b) ≡ true
-both true b p q = q
-both false b p q = cc
-
--- where no answer tells of a failure or of want of memory, all come from inside
-pub all_inside : (rs : List Answer) → failures_in rs ≡ 0 → list_all has_memory rs ≡ true → list_all is_inside rs ≡ true
-all_inside [] none m = refl
-all_inside (a ∷ rs) none m = elim (tells_failure a) as (λ b. tells_failure a ≡ b → (if b then failures_in rs + 1 else failures_in rs) ≡ 0 → (is_inside a && list_all is_inside rs) ≡ true) [
+none_first : (told : Answer → Bool) (a : Answer) (rs : List Answer) → count_told told (a ∷ rs) ≡ 0 → (told a ≡ false) × (count_told told rs ≡ 0)
+none_first told a rs none = elim (told a) as (λ b. told a ≡ b → (if b then count_told told rs + 1 else count_told told rs) ≡ 0 → (told a ≡ false) × (count_told told rs ≡ 0)) [
   | true ↦ λ is e. absurd (omega (arith, e))
-  | false ↦ λ is e. both (is_inside a) (list_all is_inside rs) (inside_one a is (and_first (has_memory a) (list_all has_memory rs) m)) (all_inside rs e (and_rest (has_memory a) (list_all has_memory rs) m))
+  | false ↦ λ is e. (is, e)
 ] refl none
 
--- the count of the answers that tell of a failure, one answer more
-pub failures_more : (rs : List Answer) (a : Answer) → failures_in (rs ++ a ∷ []) ≡ failures_in rs + (if tells_failure a then 1 else 0)
-failures_more [] a = elim (tells_failure a) as (λ b. (if b then 0 + 1 else 0) ≡ 0 + (if b then 1 else 0)) [ true ↦ refl | false ↦ refl ]
-failures_more (b ∷ rs) a = elim (tells_failure b) as (λ x. (if x then failures_in (rs ++ a ∷ []) + 1 else failures_in (rs ++ a ∷ [])) ≡ (if x then failures_in rs + 1 else failures_in rs) + (if tells_failure a then 1 else 0)) [
-  | true ↦ let more = failures_more rs a in omega (arith, more)
-  | false ↦ failures_more rs a
+-- where no answer tells of a failure or of want of memory, all come from inside
+pub all_inside : (rs : List Answer) → failures_in rs ≡ 0 → output_failures_in rs ≡ 0 → list_all has_memory rs ≡ true → list_all is_inside rs ≡ true
+all_inside [] none quiet m = refl
+all_inside (a ∷ rs) none quiet m =
+    let p = none_first tells_failure a rs none in
+    let q = none_first tells_output a rs quiet in
+    both (is_inside a) (list_all is_inside rs) (inside_one a p.0 q.0 (and_first (has_memory a) (list_all has_memory rs) m))
+    (all_inside rs p.1 q.1 (and_rest (has_memory a) (list_all has_memory rs) m))
+
+-- the count of the answers that tell something, one answer more
+pub told_more : (told : Answer → Bool) (rs : List Answer) (a : Answer) → count_told told (rs ++ a ∷ []) ≡ count_told told rs + (if told a then 1 else 0)
+told_more told [] a = elim (told a) as (λ b. (if b then 0 + 1 else 0) ≡ 0 + (if b then 1 else 0)) [ true ↦ refl | false ↦ refl ]
+told_more told (b ∷ rs) a = elim (told b) as (λ x. (if x then count_told told (rs ++ a ∷ []) + 1 else count_told told (rs ++ a ∷ [])) ≡ (if x then count_told told rs + 1 else count_told told rs) + (if told a then 1 else 0)) [
+  | true ↦ let more = told_more told rs a in omega (arith, more)
+  | false ↦ told_more told rs a
 ]
 
--- the store's count keeps up with the answers
-pub count_more : {T : Type 0} (r : Result T Fault) (rs : List Answer) (a : Answer) (old n m : ℕ) → MatchResult r (λ _. a ≡ Done) (λ x. a ≡ Refused x) → min (old + failures_in rs) (2 ^ 64 - 1) ≤ n → m ≡ counted r n → min (old + failures_in (rs ++ a ∷ [])) (2 ^ 64 - 1) ≤ m
-count_more (Ok v) rs a old n m is before after =
-    let more = failures_more rs a ∙ ap (λ x. failures_in rs + (if tells_failure x then 1 else 0)) is in omega (arith, more, after, before)
-count_more (Err x) rs a old n m is before after =
-    let more : failures_in (rs ++ a ∷ []) ≡ failures_in rs + (if is_failure x then 1 else 0) = failures_more rs a ∙ ap (λ y. failures_in rs + (if tells_failure y then 1 else 0)) is in
-    elim (is_failure x) as (λ b. failures_in (rs ++ a ∷ []) ≡ failures_in rs + (if b then 1 else 0) → m ≡ (if b then one_more n else n) → min (old + failures_in (rs ++ a ∷ [])) (2 ^ 64 - 1) ≤ m) [
+-- a count of failures keeps up with the answers
+sum_more : (told : Answer → Bool) (rs : List Answer) (a : Answer) (old n m : ℕ) → min (old + count_told told rs) (2 ^ 64 - 1) ≤ n → m ≡ (if told a then one_more n else n) → min (old + count_told told (rs ++ a ∷ [])) (2 ^ 64 - 1) ≤ m
+sum_more told rs a old n m before after =
+    elim (told a) as (λ b. count_told told (rs ++ a ∷ []) ≡ count_told told rs + (if b then 1 else 0) → m ≡ (if b then one_more n else n) → min (old + count_told told (rs ++ a ∷ [])) (2 ^ 64 - 1) ≤ m) [
       | true ↦ λ e g. omega (arith, e, g, before)
       | false ↦ λ e g. omega (arith, e, g, before)
-    ] more after
+    ] (told_more told rs a) after
 
--- a list of refusals, one answer more
-pub kept_more : (rs : List Answer) (a : Answer) → list_all is_kept (rs ++ a ∷ []) ≡ true → (list_all is_kept rs ≡ true) × (is_kept a ≡ true)
-kept_more [] a e = (refl, and_first (is_kept a) true e)
-kept_more (b ∷ rs) a e =
-    let p = kept_more rs a (and_rest (is_kept b) (list_all is_kept (rs ++ a ∷ [])) e) in
-    (both (is_kept b) (list_all is_kept rs) (and_first (is_kept b) (list_all is_kept (rs ++ a ∷ [])) e) p.0, p.1)
+counted_told : {T : Type 0} (r : Result T Fault) (a : Answer) (o : List ℕ) (n : ℕ) → Told r a o → counted r n ≡ (if tells_failure a then one_more n else n)
+counted_told (Ok v) a o n (inl is) = ap (λ y. if tells_failure y then one_more n else n) (sym is)
+counted_told (Ok v) a o n (inr is) = ap (λ y. if tells_failure y then one_more n else n) (sym is.0)
+counted_told (Err x) a o n is = ap (λ y. if tells_failure y then one_more n else n) (sym is)
+
+-- the store's count keeps up with the answers
+pub count_more : {T : Type 0} (r : Result T Fault) (rs : List Answer) (a : Answer) (o : List ℕ) (old n m : ℕ) → Told r a o → min (old + failures_in rs) (2 ^ 64 - 1) ≤ n → m ≡ counted r n → min (old + failures_in (rs ++ a ∷ [])) (2 ^ 64 - 1) ≤ m
+count_more r rs a o old n m is before after = sum_more tells_failure rs a old n m before (after ∙ counted_told r a o n is)
+
+-- the output's count after an answer
+pub put_told : {T : Type 0} (r : Result T Fault) (a : Answer) (o : List ℕ) (n m : ℕ) → Told r a o → IfErr r (λ x. is_output x ≡ false) → MatchResult r (λ _. m ≡ (if tells_output a then one_more n else n)) (λ _. m ≡ n) → m ≡ (if tells_output a then one_more n else n)
+put_told (Ok v) a o n m is quiet after = after
+put_told (Err x) a o n m is quiet after = after ∙ ap (λ b. if b then one_more n else n) (sym (ap tells_output is ∙ quiet))
+
+-- the output's count keeps up with them
+pub put_more : (rs : List Answer) (a : Answer) (old n m : ℕ) → min (old + output_failures_in rs) (2 ^ 64 - 1) ≤ n → m ≡ (if tells_output a then one_more n else n) → min (old + output_failures_in (rs ++ a ∷ [])) (2 ^ 64 - 1) ≤ m
+put_more rs a old n m before after = sum_more tells_output rs a old n m before after
+
+-- ---- what was printed
+
+printed_push : (rs : List Reply) (r : Reply) → printed_in (rs ++ r ∷ []) ≡ printed_in rs ++ r.printed
+printed_push [] r = append-nil r.printed
+printed_push (x ∷ rs) r = ap (λ os. x.printed ++ os) (printed_push rs r) ∙ sym (append_assoc x.printed (printed_in rs) r.printed)
+
+-- the output failed at no answer, if its count stands where it stood
+not_output : (a : Answer) (c start n m : ℕ) → min (start + c) (2 ^ 64 - 1) ≤ n → m ≡ (if tells_output a then one_more n else n) → m ≡ start → m < 2 ^ 64 - 1 → (tells_output a ≡ false) × (n ≡ start)
+not_output a c start n m before after same below = elim (tells_output a) as (λ b. tells_output a ≡ b → m ≡ (if b then one_more n else n) → (tells_output a ≡ false) × (n ≡ start)) [
+  | true ↦ λ is e. absurd (omega (arith, before, e, same, below))
+  | false ↦ λ is e. (is, sym e ∙ same)
+] refl after
+
+took : {T : Type 0} (r : Result T Fault) (a : Answer) (o now after : List ℕ) → Told r a o → tells_output a ≡ false → MatchResult r (λ _. a ≡ Done → after ≡ now ++ o) (λ _. after ≡ now) → after ≡ now ++ (reply a o).printed
+took (Ok v) a o now after (inl is) quiet puts = puts is ∙ ap (λ y. now ++ (reply y o).printed) (sym is)
+took (Ok v) a o now after (inr is) quiet puts = let no : true ≡ false = sym (ap tells_output is.0) ∙ quiet in cc
+took (Err x) a o now after is quiet puts = puts ∙ sym (append-nil now) ∙ ap (λ y. now ++ (reply y o).printed) (sym is)
+
+-- the bytes that were put, one command more
+pub taken_more : {T : Type 0} (r : Result T Fault) (a : Answer) (o : List ℕ) (rs : List Reply) (start now after : List ℕ) (c first n m : ℕ) → Told r a o → min (first + c) (2 ^ 64 - 1) ≤ n → m ≡ (if tells_output a then one_more n else n) → m ≡ first → m < 2 ^ 64 - 1 → (n ≡ first → n < 2 ^ 64 - 1 → now ≡ start ++ printed_in rs) → MatchResult r (λ _. a ≡ Done → after ≡ now ++ o) (λ _. after ≡ now) → after ≡ start ++ printed_in (rs ++ reply a o ∷ [])
+taken_more r a o rs start now after c first n m is sum count same below before puts =
+    let quiet = not_output a c first n m sum count same below in
+    took r a o now after is quiet.0 puts
+    ∙ ap (λ x. x ++ (reply a o).printed) (before quiet.1 (omega (arith, quiet.1, same, below)))
+    ∙ append_assoc start (printed_in rs) (reply a o).printed
+    ∙ ap (λ os. start ++ os) (sym (printed_push rs (reply a o)))
+
+-- ---- what the store's names hold
+
+-- one command more
+pub keeps_more : (old m new : Content) (cs : List Command) (rs : List Answer) (c : Command) (a : Answer) → Keeps old cs rs m → Leaves c a m new → Keeps old (cs ++ c ∷ []) (rs ++ a ∷ []) new
+keeps_more old m new [] [] c a r s = (new, subst (λ x. Leaves c a x new) r s, refl)
+keeps_more old m new (d ∷ cs) (b ∷ rs) c a r s = (r.0, r.1, keeps_more r.0 m new cs rs c a r.2 s)
+keeps_more old m new [] (b ∷ rs) c a r s = absurd r
+keeps_more old m new (d ∷ cs) [] c a r s = absurd r
 
 -- a refusal from inside left the content
-pub kept_by : {T : Type 0} (c e : Content) (r : Result T Fault) (a : Answer) → MatchResult r (λ _. a ≡ Done) (λ x. a ≡ Refused x) → is_kept a ≡ true → IfErr r (λ x. is_outside x ≡ false → e ≡ c) → e ≡ c
-kept_by c e (Ok v) a is k same = let no : false ≡ true = sym (ap is_kept is) ∙ k in cc
-kept_by c e (Err x) a is k same = same (not_true (is_outside x) (sym (ap is_kept is) ∙ k))
+kept_by : {T : Type 0} (c e : Content) (r : Result T Fault) (a : Answer) (o : List ℕ) → Told r a o → o ≡ [] → is_kept a ≡ true → IfErr r (λ x. is_outside x ≡ false → e ≡ c) → e ≡ c
+kept_by c e (Ok v) a o (inl is) silent k same = let no : false ≡ true = sym (ap is_kept is) ∙ k in cc
+kept_by c e (Ok v) a o (inr is) silent k same = absurd (is.1 silent)
+kept_by c e (Err x) a o is silent k same = same (not_true (is_outside x) (sym (ap is_kept is) ∙ k))
+
+-- what a command leaves
+pub leaves : {T : Type 0} (c e : Content) (cmd : Command) (r : Result T Fault) (a : Answer) (o : List ℕ) → Told r a o → (prints cmd ≡ true → e ≡ c) → (prints cmd ≡ false → o ≡ []) → IfErr r (λ x. is_outside x ≡ false → e ≡ c) → ((q : List ℕ) → IsStranger q cmd → get e q ≡ get c q) → Leaves cmd a c e
+leaves c e cmd r a o is still silent kept others = record {
+  all = λ holds. elim (prints cmd) as (λ b. prints cmd ≡ b → (b || is_kept a) ≡ true → e ≡ c) [
+    | true ↦ λ p k. still p
+    | false ↦ λ p k. kept_by c e r a o is (silent p) k kept
+  ] refl holds;
+  others = others;
+}
 
 -- ---- records
 
@@ -207,25 +340,22 @@ no_last : {A B : Type 0} (xs : List A) (x : A) → [] ≡ xs ++ x ∷ [] → B
 no_last [] x e = cc
 no_last (y ∷ xs) x e = cc
 
--- the file of a good pair is the text at the cursor
-pub good_text : (c : Content) (f j : List ℕ) (m : Option History) → GoodIn c f j m → get c f ≡ option_map text_at m
-good_text c f j None good = good
-good_text c f j (Some h) k = k.file_is ∙ ap Some (settles k.state k.text h k.describes).at_rest.text
-
-on_ok : {T : Type 0} {P : Type 0} (r : Result T Fault) (a : Answer) → MatchResult r (λ _. a ≡ Done) (λ x. a ≡ Refused x) → a ≡ Done → OnOk r P → P
-on_ok (Ok v) a is done p = p
-on_ok (Err e) a is done p = let no : Refused e ≡ Done = sym is ∙ done in cc
+on_ok : {T : Type 0} {P : Type 0} (r : Result T Fault) (a : Answer) (o : List ℕ) → Told r a o → a ≡ Done → OnOk r P → P
+on_ok (Ok v) a o is done p = p
+on_ok (Err e) a o is done p = let no : Refused e ≡ Done = sym is ∙ done in cc
 
 -- the last command of a run, where it was carried out
-pub last_more : (c e : Content) (f j : List ℕ) (h m : Option History) (cs : List Command) (rs : List Answer) (cmd : Command) (a : Answer) {T : Type 0} (r : Result T Fault) → Run f j h cs rs m → GoodIn c f j m → MatchResult r (λ _. a ≡ Done) (λ x. a ≡ Refused x) → OnOk r ((x y : List ℕ) → IsOn x y cmd → IsRecorded cmd (get c x) (get e y)) → (ds : List Command) (d : Command) (before : List Answer) → cs ++ cmd ∷ [] ≡ ds ++ d ∷ [] → rs ++ a ∷ [] ≡ before ++ Done ∷ [] → IsOn f j d → (k : Option History) × Run f j h ds before k × Records d k (get e j)
-last_more c e f j h m cs rs cmd a r run good is recorded ds d before commands answers on =
+pub last_more : (c e : Content) (f j : List ℕ) (h m : Option History) (cs : List Command) (rps : List Reply) (rs : List Answer) (cmd : Command) (a : Answer) (o : List ℕ) {T : Type 0} (r : Result T Fault) → answers_in rps ≡ rs → Run f j h cs rps m → GoodIn c f j m → Told r a o → OnOk r ((x y : List ℕ) → IsOn x y cmd → IsRecorded cmd (get c x) (get e y)) → (ds : List Command) (d : Command) (before : List Answer) → cs ++ cmd ∷ [] ≡ ds ++ d ∷ [] → rs ++ a ∷ [] ≡ before ++ Done ∷ [] → IsOn f j d → (k : Option History) × (replies : List Reply) × (answers_in replies ≡ before) × Run f j h ds replies k × Records d k (get e j)
+last_more c e f j h m cs rps rs cmd a o r answered run good is recorded ds d before commands answers on =
     let p = last_same cs ds cmd d commands in
     let q = last_same rs before a Done answers in (
       m,
-      subst (λ x. Run f j h x before m) p.0 (subst (λ x. Run f j h cs x m) q.0 run),
+      rps,
+      answered ∙ q.0,
+      subst (λ x. Run f j h x rps m) p.0 run,
       subst (λ x. IsRecorded x (option_map text_at m) (get e j)) p.1
           (subst (λ x. IsRecorded cmd x (get e j)) (good_text c f j m good)
-          (on_ok r a is q.1 recorded f j (subst (IsOn f j) (sym p.1) on))),
+          (on_ok r a o is q.1 recorded f j (subst (IsOn f j) (sym p.1) on))),
     )
 
 pub no_command : {A : Type 0} (h : Option History) (cs : List Command) (c : Command) → [] ≡ cs ++ c ∷ [] → A

@@ -29,13 +29,13 @@ moved_closed s (Edit r) = refl
 moved_closed s Undo = refl
 moved_closed s Redo = refl
 
-none_of : {A : Type 0} (o : Option A) → IsNone o → o ≡ None
+pub none_of : {A : Type 0} (o : Option A) → IsNone o → o ≡ None
 none_of None h = refl
 none_of (Some x) h = cc
 
 module _ (f j : List ℕ) (apart : f ≢ j) where
   -- a journal written beside a text
-  wrote_journal : (c e : Content) (t : List ℕ) (s : State) (h : History) → get c f ≡ Some t → Writes c e j s → Describes s t h → Stands e f j h
+  pub wrote_journal : (c e : Content) (t : List ℕ) (s : State) (h : History) → get c f ≡ Some t → Writes c e j s → Describes s t h → Stands e f j h
   wrote_journal c e t s h is w k = record {
     text = t;
     state = s;
@@ -107,7 +107,7 @@ pub either : {A B C : Type 0} → A ⊎ B → (A → C) → (B → C) → C
 either (inl a) f h = f a
 either (inr b) f h = h b
 
-fault_inside : (f : JournalFault) → is_outside (of_fault f) ≡ false
+pub fault_inside : (f : JournalFault) → is_outside (of_fault f) ≡ false
 fault_inside journal.NothingToUndo = refl
 fault_inside journal.NothingToRedo = refl
 fault_inside journal.DoesNotStand = refl
@@ -136,6 +136,17 @@ module _ (c : Content) (f j : List ℕ) (cause : Option Cause) (h k : Option His
 
 pub same_content : (c e : Content) (f j : List ℕ) (h : History) → e ≡ c → Stands c f j h → Stands e f j h
 same_content c e f j h is k = subst (λ m. Stands m f j h) (sym is) k
+
+some_fault : (x y : JournalFault) → Some x ≡ Some y → x ≡ y
+some_fault x y e = cc
+
+not_both : {A : Type 0} (f : JournalFault) → None ≡ Some f → A
+not_both f e = cc
+
+-- what the journal refuses has the name of its fault, where want of memory has none
+pub named_fault : (x : JournalError) (o p : Option JournalFault) (f : JournalFault) → o ≡ p → Names x o → (x ≡ error.Memory → p ≡ None) → p ≡ Some f → of_journal x ≡ of_fault f
+named_fault error.Memory o p f same names memory is = not_both f (sym (memory refl) ∙ is)
+named_fault (error.Fault y) o p f same names memory is = ap of_fault (some_fault y f (sym names ∙ same ∙ is))
 
 -- an undo or a redo goes on with the history, whatever its text
 pub same_walk : (h : History) (w : Walk) (u : List ℕ) → after_move h (step_of w) u ≡ after_move h (step_of w) []

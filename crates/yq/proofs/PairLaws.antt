@@ -1,12 +1,12 @@
 -- What reading a pair and writing to it leave.
-use Rattle.std.proofs.Common.{◌≡◌, ◌⊎◌, inl, inr, ℕ, List, Option, Some, None, Ok, Err, Vec, sym, ap, ◌∙◌, subst}
+use Rattle.std.proofs.Common.{◌≡◌, ◌⊎◌, inl, inr, ℕ, List, Option, Some, None, Ok, Err, Vec, option_map, sym, ap, ◌∙◌, subst}
 use Rattle.std.specs.FinMap.{get}
 use Rattle.std.specs.declared.alloc.Global.{Global}
 use Rattle.yq_journal.specs.declared.fault.JournalError.{JournalError}
 use Rattle.yq_journal.specs.declared.fault.JournalError.TheVariants as error
 use Rattle.yq_journal.specs.declared.fault.JournalFault.TheVariants as journal
 use Rattle.yq_journal.specs.Good.{Describes, journal_beside}
-use Rattle.yq_journal.specs.History.{History}
+use Rattle.yq_journal.specs.History.{History, text_at}
 use Rattle.yq_journal.specs.State.{State, settled}
 use Rattle.yq_journal.proofs.GoodLaws.{settles, settled_rests}
 use Rattle.yq.specs.Content.{Content}
@@ -18,6 +18,11 @@ some_same x y e = cc
 
 pub some_none : {A : Type 0} (x : A) → Some x ≡ None → ⊥
 some_none x e = cc
+
+-- the file of a good pair is the text at the cursor
+pub good_text : (c : Content) (f j : List ℕ) (m : Option History) → GoodIn c f j m → get c f ≡ option_map text_at m
+good_text c f j None good = good
+good_text c f j (Some h) k = k.file_is ∙ ap Some (settles k.state k.text h k.describes).at_rest.text
 
 -- a pair in a store that holds the same
 pub same_pair : (c e : Content) (f j : List ℕ) (h : Option History) → e ≡ c → GoodIn c f j h → GoodIn e f j h

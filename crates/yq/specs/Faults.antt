@@ -5,7 +5,7 @@ use Rattle.yq_journal.specs.declared.fault.JournalError.TheVariants as error
 use Rattle.yq_journal.specs.declared.fault.JournalFault.{JournalFault}
 use Rattle.yq_journal.specs.declared.fault.JournalFault.TheVariants as journal
 use Rattle.yq.specs.declared.fault.Fault.{Fault}
-use Rattle.yq.specs.declared.fault.Fault.TheVariants.{NotThere, ReadFailed, WriteFailed, NothingToUndo, NothingToRedo, DoesNotStand, BadJournal, Unsettled, JournalFull, BadCount, OutOfMemory}
+use Rattle.yq.specs.declared.fault.Fault.TheVariants.{NotThere, ReadFailed, WriteFailed, OutFailed, NothingToUndo, NothingToRedo, DoesNotStand, BadJournal, Unsettled, JournalFull, BadCount, OutOfMemory}
 use Rattle.yq.specs.declared.store.FileReadError.{FileReadError}
 use Rattle.yq.specs.declared.store.FileReadError.TheVariants as read
 use Rattle.yq.specs.declared.store.FileWriteError.{FileWriteError}
@@ -43,6 +43,11 @@ abbrev pub is_failure : Fault → Bool
 is_failure ReadFailed = true
 is_failure WriteFailed = true
 is_failure _ = false
+
+-- the output failed
+abbrev pub is_output : Fault → Bool
+is_output OutFailed = true
+is_output _ = false
 
 -- a call of the store failed, or memory was refused
 abbrev pub is_outside : Fault → Bool

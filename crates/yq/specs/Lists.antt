@@ -1,5 +1,6 @@
 -- Lists of commands as runs of a history (own).
-use Rattle.std.specs.Prelude.{◌≡◌, ◌≢◌, ◌⊎◌, ◌+◌, ℕ, Bool, true, false, not, List, [], ◌∷◌, if◌then◌else◌, MatchBool, Option, Some, None, option_map, Ok}
+use Rattle.std.specs.Prelude.{◌≡◌, ◌≢◌, ◌⊎◌, ◌||◌, ◌+◌, ℕ, Bool, true, false, not, List, [], ◌∷◌, map, flat_map, All, if◌then◌else◌, MatchBool, Option, Some, None, option_map, Ok}
+use Rattle.std.specs.FinMap.{get}
 use Rattle.std.specs.String.{string_bytes}
 use Rattle.yq_journal.specs.History.{History, text_at}
 use Rattle.yq.specs.declared.answer.Answer.{Answer}
@@ -8,11 +9,13 @@ use Rattle.yq.specs.declared.command.Command.{Command}
 use Rattle.yq.specs.declared.command.Command.TheVariants.{Eval, Undo, Redo, History as Lists, Squash, Help}
 use Rattle.yq.specs.declared.fault.Fault.{Fault}
 use Rattle.yq.specs.declared.fault.Fault.TheVariants.{OutOfMemory}
-use Rattle.yq.specs.Faults.{is_failure, is_outside}
+use Rattle.yq.specs.Content.{Content}
+use Rattle.yq.specs.Faults.{is_failure, is_outside, is_output}
 use Rattle.yq_expr.specs.Program.{Program}
 use Rattle.yq_splice.specs.Patch.{Change}
 use Rattle.yq.specs.Editing.{program_in, edits, edited}
 use Rattle.yq.specs.Pair.{HasLast}
+use Rattle.yq.specs.Prints.{output_of, prints}
 use Rattle.yq.specs.Steps.{Cause, IsFor, cause_of, next_of}
 
 -- the command works on this file with this journal; an expression that isn't carried out in place, with any
@@ -29,9 +32,10 @@ IsOn file name Help = ⊥
 abbrev pub Differs : List ℕ → List ℕ → List ℕ → Type 0
 Differs q file name = (q ≢ file) × (q ≢ name)
 
--- the command doesn't name this name
+-- the command doesn't name this name; an expression that isn't carried out in place needs no journal
 abbrev pub IsStranger : List ℕ → Command → Type 0
-IsStranger q (Eval expr f j in_place exit_status no_doc) = Differs q (string_bytes f) (string_bytes j)
+IsStranger q (Eval expr f j true exit_status no_doc) = Differs q (string_bytes f) (string_bytes j)
+IsStranger q (Eval expr f j false exit_status no_doc) = q ≢ string_bytes f
 IsStranger q (Undo f j) = Differs q (string_bytes f) (string_bytes j)
 IsStranger q (Redo f j) = Differs q (string_bytes f) (string_bytes j)
 IsStranger q (Lists f j) = Differs q (string_bytes f) (string_bytes j)
@@ -42,41 +46,83 @@ IsStranger q Help = Unit {0}
 abbrev pub IsApart : List ℕ → List ℕ → Command → Type 0
 IsApart file name c = IsStranger file c × IsStranger name c
 
--- from a history, a command gives this answer and goes on to another one: it is carried out; or it is refused for its cause, and the history stays;
--- or, where a call of the store failed or memory was refused, it is carried out or not
-abbrev pub Steps : Command → Option History → Answer → Option History → Type 0
-Steps c h Done k = (cause_of c h ≡ None) × (k ≡ next_of c h)
-Steps c h NoMatch k = ⊥
-Steps c h (Refused e) k = MatchBool (is_outside e) ((k ≡ h) ⊎ (k ≡ next_of c h)) (IsFor (cause_of c h) e × (k ≡ h))
+-- each command is on the pair, or shares no name with it
+abbrev pub AllFit : List ℕ → List ℕ → List Command → Type 0
+AllFit file name cs = All (λ c. IsOn file name c ⊎ IsApart file name c) cs
+
+-- what a command comes to: its answer, and the bytes that it printed
+pub record Reply : Type 0 where
+  pub answer : Answer
+  pub printed : List ℕ
+
+-- the answers of several
+abbrev pub answers_in : List Reply → List Answer
+answers_in rs = map (λ (r : Reply). r.answer) rs
+
+-- the bytes that they printed, one after the other
+abbrev pub printed_in : List Reply → List ℕ
+printed_in rs = flat_map (λ (r : Reply). r.printed) rs
+
+-- a command was refused: its output failed, and the history stays; or, where a call of the store failed or memory was refused, it was carried out or not;
+-- or it was refused for its cause, and the history stays
+abbrev pub IsRefused : Command → Option History → Fault → Option History → Type 0
+IsRefused c h e k =
+    MatchBool (is_output e) ((cause_of c h ≡ None) × (k ≡ h))
+    (MatchBool (is_outside e) ((k ≡ h) ⊎ (k ≡ next_of c h)) (IsFor (cause_of c h) e × (k ≡ h)))
+
+-- from a history, a command gives this answer, prints these bytes, and goes on to another history: it is carried out, or it is refused and prints nothing
+abbrev pub Steps : Command → Option History → Answer → List ℕ → Option History → Type 0
+Steps c h Done o k = (cause_of c h ≡ None) × (o ≡ output_of c h) × (k ≡ next_of c h)
+Steps c h NoMatch o k = ⊥
+Steps c h (Refused e) o k = (o ≡ []) × IsRefused c h e k
 
 -- a command on the pair steps its history, and one apart from it leaves it
-abbrev pub Goes : List ℕ → List ℕ → Command → Option History → Answer → Option History → Type 0
-Goes file name c h a k = (IsOn file name c × Steps c h a k) ⊎ (IsApart file name c × (k ≡ h))
+abbrev pub Goes : List ℕ → List ℕ → Command → Option History → Reply → Option History → Type 0
+Goes file name c h r k = (IsOn file name c × Steps c h r.answer r.printed k) ⊎ (IsApart file name c × (k ≡ h))
 
 -- one command after another
-abbrev pub Run : List ℕ → List ℕ → Option History → List Command → List Answer → Option History → Type 0
+abbrev pub Run : List ℕ → List ℕ → Option History → List Command → List Reply → Option History → Type 0
 Run file name h [] [] k = k ≡ h
-Run file name h (c ∷ cs) (a ∷ as') k = (m : Option History) × Goes file name c h a m × Run file name m cs as' k
-Run file name h [] (a ∷ as') k = ⊥
+Run file name h (c ∷ cs) (r ∷ rs) k = (m : Option History) × Goes file name c h r m × Run file name m cs rs k
+Run file name h [] (r ∷ rs) k = ⊥
 Run file name h (c ∷ cs) [] k = ⊥
 
 -- ---- where nothing failed from outside
 
--- the answer that a cause calls for
-abbrev pub IsAnswer : Option Cause → Answer → Type 0
-IsAnswer None a = a ≡ Done
-IsAnswer (Some x) a = (e : Fault) × (a ≡ Refused e) × IsFor (Some x) e
+-- the reply that a cause calls for: the output where there is none, and else a refusal that prints nothing
+abbrev pub IsReply : Option Cause → List ℕ → Reply → Type 0
+IsReply None output r = (r.answer ≡ Done) × (r.printed ≡ output)
+IsReply (Some x) output r = ((e : Fault) × (r.answer ≡ Refused e) × IsFor (Some x) e) × (r.printed ≡ [])
 
--- a command on the pair has the answer that its cause calls for, and steps its history; one apart leaves it
-abbrev pub GoesExactly : List ℕ → List ℕ → Command → Option History → Answer → Option History → Type 0
-GoesExactly file name c h a k = (IsOn file name c × IsAnswer (cause_of c h) a × (k ≡ next_of c h)) ⊎ (IsApart file name c × (k ≡ h))
+-- a command on the pair has the reply that its cause calls for, and steps its history; one apart leaves it
+abbrev pub GoesExactly : List ℕ → List ℕ → Command → Option History → Reply → Option History → Type 0
+GoesExactly file name c h r k = (IsOn file name c × IsReply (cause_of c h) (output_of c h) r × (k ≡ next_of c h)) ⊎ (IsApart file name c × (k ≡ h))
 
 -- one command after another
-abbrev pub RunExactly : List ℕ → List ℕ → Option History → List Command → List Answer → Option History → Type 0
+abbrev pub RunExactly : List ℕ → List ℕ → Option History → List Command → List Reply → Option History → Type 0
 RunExactly file name h [] [] k = k ≡ h
-RunExactly file name h (c ∷ cs) (a ∷ as') k = (m : Option History) × GoesExactly file name c h a m × RunExactly file name m cs as' k
-RunExactly file name h [] (a ∷ as') k = ⊥
+RunExactly file name h (c ∷ cs) (r ∷ rs) k = (m : Option History) × GoesExactly file name c h r m × RunExactly file name m cs rs k
+RunExactly file name h [] (r ∷ rs) k = ⊥
 RunExactly file name h (c ∷ cs) [] k = ⊥
+
+-- ---- what the store's names hold between two commands
+
+-- the answer is a refusal in which no call of the store failed and no memory was refused
+abbrev pub is_kept : Answer → Bool
+is_kept (Refused e) = not (is_outside e)
+is_kept _ = false
+
+-- a command that prints, or is refused so, leaves every name; any other leaves the names that it doesn't name
+pub record Leaves (c : Command) (a : Answer) (old new : Content) : Type 0 where
+  pub all : (prints c || is_kept a) ≡ true → new ≡ old
+  pub others : (q : List ℕ) → IsStranger q c → get new q ≡ get old q
+
+-- one command after another
+abbrev pub Keeps : Content → List Command → List Answer → Content → Type 0
+Keeps old [] [] new = new ≡ old
+Keeps old (c ∷ cs) (a ∷ as') new = (m : Content) × Leaves c a old m × Keeps m cs as' new
+Keeps old [] (a ∷ as') new = ⊥
+Keeps old (c ∷ cs) [] new = ⊥
 
 -- ---- records
 
@@ -105,15 +151,23 @@ abbrev pub tells_failure : Answer → Bool
 tells_failure (Refused e) = is_failure e
 tells_failure _ = false
 
--- how many answers do
-abbrev pub failures_in : List Answer → ℕ
-failures_in [] = 0
-failures_in (a ∷ as') = if tells_failure a then failures_in as' + 1 else failures_in as'
+-- the answer tells that the output failed
+abbrev pub tells_output : Answer → Bool
+tells_output (Refused e) = is_output e
+tells_output _ = false
 
--- the answer is a refusal that comes from inside
-abbrev pub is_kept : Answer → Bool
-is_kept (Refused e) = not (is_outside e)
-is_kept _ = false
+-- how many answers tell it
+abbrev pub count_told : (Answer → Bool) → List Answer → ℕ
+count_told told [] = 0
+count_told told (a ∷ as') = if told a then count_told told as' + 1 else count_told told as'
+
+-- how many tell of a call of the store that failed
+abbrev pub failures_in : List Answer → ℕ
+failures_in as' = count_told tells_failure as'
+
+-- how many tell that the output failed
+abbrev pub output_failures_in : List Answer → ℕ
+output_failures_in as' = count_told tells_output as'
 
 -- the answer doesn't tell of want of memory
 abbrev pub has_memory : Answer → Bool

@@ -2,12 +2,12 @@
 use Rattle.std.specs.Prelude.{◌≡◌, ℕ, true, false, if◌then◌else◌, List, [], nat_le, Option, Some, None, option_map, Result, Ok, Err, IsTrue}
 use Rattle.std.specs.Str.{bytes_eq}
 use Rattle.std.specs.String.{string_bytes}
-use Rattle.yq_expr.specs.Program.{Program}
+use Rattle.yq_expr.specs.Program.{Program, is_read}
 use Rattle.yq_journal.specs.declared.fault.JournalFault.{JournalFault}
 use Rattle.yq_journal.specs.declared.moves.Move.{Move}
 use Rattle.yq_journal.specs.declared.moves.Move.TheVariants as move
-use Rattle.yq_journal.specs.Good.{after_move, step_fault}
-use Rattle.yq_journal.specs.History.{History, text_at, after_edit}
+use Rattle.yq_journal.specs.Good.{after_move, squash_refusal, step_fault}
+use Rattle.yq_journal.specs.History.{History, text_at, after_edit, after_squash}
 use Rattle.yq_journal.specs.Refusals.{most_records}
 use Rattle.yq.specs.declared.command.Command.{Command}
 use Rattle.yq.specs.declared.command.Command.TheVariants.{Eval, Undo, Redo, History as Lists, Squash, Help}
@@ -74,14 +74,45 @@ update_next expr (Err f) h = h
 update_next expr (Ok p) None = None
 update_next expr (Ok p) (Some h) = Some (edit_next h expr (edits p (text_at h)))
 
--- why a command is refused: of those that are not yet carried out, that they are none
+-- why a squash is refused
+abbrev pub squash_cause : ℕ → Option History → Option Cause
+squash_cause n None = Some (named NotThere)
+squash_cause n (Some h) = option_map (λ f. named (of_fault f)) (squash_refusal h n)
+
+-- the history after it
+abbrev pub squash_next : ℕ → Option History → Option History
+squash_next n None = None
+squash_next n (Some h) = Some (unless_fault (squash_refusal h n) h (after_squash h n))
+
+-- why a file's history isn't listed
+abbrev pub listing_cause : Option History → Option Cause
+listing_cause None = Some (named NotThere)
+listing_cause (Some h) = None
+
+-- why an edited text isn't printed, by what the edit comes to
+abbrev pub print_cause : Outcome → Option Cause
+print_cause unreadable = Some no_reading
+print_cause (refused f) = Some (named f)
+print_cause (edited text changes) = None
+
+-- the same, by the file
+abbrev pub preview_of : Program → Option History → Option Cause
+preview_of p None = Some (named NotThere)
+preview_of p (Some h) = print_cause (edits p (text_at h))
+
+-- the same, by what its expression is; what reads isn't carried out yet, and is refused as not in the profile
+abbrev pub preview_cause : Result Program Fault → Option History → Option Cause
+preview_cause (Err f) h = Some (named f)
+preview_cause (Ok p) h = if is_read p then Some (named NotInProfile) else preview_of p h
+
+-- why a command is refused
 abbrev pub cause_of : Command → Option History → Option Cause
 cause_of (Eval expr file journal true exit_status no_doc) h = update_cause (program_in (string_bytes expr)) h
-cause_of (Eval expr file journal false exit_status no_doc) h = Some (named NotInProfile)
+cause_of (Eval expr file journal false exit_status no_doc) h = preview_cause (program_in (string_bytes expr)) h
 cause_of (Undo file journal) h = walk_cause move.Undo h
 cause_of (Redo file journal) h = walk_cause move.Redo h
-cause_of (Lists file journal) h = Some (named NotInProfile)
-cause_of (Squash n file journal) h = Some (named NotInProfile)
+cause_of (Lists file journal) h = listing_cause h
+cause_of (Squash n file journal) h = squash_cause n h
 cause_of Help h = None
 
 -- the history after a command
@@ -89,4 +120,5 @@ abbrev pub next_of : Command → Option History → Option History
 next_of (Eval expr file journal true exit_status no_doc) h = update_next (string_bytes expr) (program_in (string_bytes expr)) h
 next_of (Undo file journal) h = walk_next move.Undo h
 next_of (Redo file journal) h = walk_next move.Redo h
+next_of (Squash n file journal) h = squash_next n h
 next_of _ h = h

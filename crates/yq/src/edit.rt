@@ -7,7 +7,7 @@ ghost use Rattle.std.specs.FinMap as map;
 ghost use Rattle.yq_expr.specs.Program as spec;
 ghost use Rattle.yq.specs.Editing.{edited, edits};
 ghost use Rattle.yq.specs.Edits.{edit_record};
-ghost use Rattle.yq.specs.Faults.{is_outside, counted};
+ghost use Rattle.yq.specs.Faults.{is_outside, is_output, counted};
 ghost use Rattle.yq.specs.Pair.{Arrives, HasLast, OthersStay, Rest};
 ghost use Rattle.yq.specs.Steps.{update_cause, update_next};
 
@@ -57,6 +57,7 @@ fn commit<D: Store>(
     ensures recorded { IsTrue D.keeps → OnOk result (HasLast (map.get (D.content store.new) name.now) splices.items) }
     ensures kept { IsTrue D.keeps → IfErr result (λ e. is_outside e ≡ false → D.content store.new ≡ D.content store.old) }
     ensures others { IsTrue D.keeps → OthersStay (D.content store.old) (D.content store.new) file.now name.now }
+    ensures quiet { IfErr result (λ e. is_output e ≡ false) }
     ensures count { D.failures store.new ≡ counted result (D.failures store.old) }
 {
     let edit = record_of(alloc, expr, splices, old, new)?;
@@ -91,6 +92,7 @@ pub fn edit_from<D: Store>(
         u ≢ text.now → HasLast (map.get (D.content store.new) name.now) changes) }
     ensures kept { IsTrue D.keeps → IfErr result (λ e. is_outside e ≡ false → D.content store.new ≡ D.content store.old) }
     ensures others { IsTrue D.keeps → OthersStay (D.content store.old) (D.content store.new) file.now name.now }
+    ensures quiet { IfErr result (λ e. is_output e ≡ false) }
     ensures count { D.failures store.new ≡ counted result (D.failures store.old) }
 {
     let Edited {

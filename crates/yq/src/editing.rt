@@ -4,7 +4,7 @@ ghost use Rattle.std.specs.String.{string_bytes};
 ghost use Rattle.yq_expr.specs.View.{program_of};
 ghost use Rattle.yq_splice.specs.Patch.{all_done, lengths_done};
 ghost use Rattle.yq.specs.Editing.{Refuses, edited, edits, program_in};
-ghost use Rattle.yq.specs.Faults.{is_failure};
+ghost use Rattle.yq.specs.Faults.{is_failure, is_output};
 
 use crate::fault::Fault;
 use std::alloc::Global;
@@ -18,6 +18,7 @@ pub fn parse(alloc: Global, expr: &str) -> Result<Program, Fault>
     ensures ok { IfOk result (λ p. program_in expr.now ≡ Ok (program_of p)) }
     ensures err { IfErr result (λ e. e ≢ Fault.OutOfMemory → program_in expr.now ≡ Err e) }
     ensures inside { IfErr result (λ e. is_failure e ≡ false) }
+    ensures quiet { IfErr result (λ e. is_output e ≡ false) }
 {
     Ok(parse_expr(alloc, expr)?)
 }
@@ -30,6 +31,7 @@ pub fn edit_text(alloc: Global, program: &Program, text: &[u8]) -> Result<Edited
     ensures lengths { IfOk result (λ e. lengths_done e.splices.items (length text.now) ≡ Some (length (string_bytes e.text))) }
     ensures err { IfErr result (λ e. e ≢ Fault.OutOfMemory → Refuses (edits (program_of program.now) text.now) e) }
     ensures inside { IfErr result (λ e. is_failure e ≡ false) }
+    ensures quiet { IfErr result (λ e. is_output e ≡ false) }
 {
     let text = text_of(text)?;
     Ok(edit(alloc, text, program)?)

@@ -10,8 +10,10 @@ mod help;
 mod moves;
 mod output;
 mod pair;
+mod printing;
 mod program;
 mod run;
+mod squash;
 mod store;
 #[cfg(test)]
 mod tests;

@@ -1,11 +1,12 @@
 //! Moves of a file and its journal.
-ghost use Rattle.std.specs.Prelude.{◌≡◌, ◌≢◌, ◌⊎◌, ℕ, List, Option, Some, None, false, IsTrue, IsNone, IfErr, OnOk, OnErr, option_map};
+ghost use Rattle.std.specs.Prelude.{◌≡◌, ◌≢◌, ◌⊎◌, ℕ, List, Option, Some, None, Err, false, IsTrue, IsNone, IfErr, OnOk, OnErr, option_map};
 ghost use Rattle.std.specs.FinMap as map;
 ghost use Rattle.yq_journal.specs.Good.{after_move, journal_beside};
 ghost use Rattle.yq_journal.specs.History.{History};
 ghost use Rattle.yq_journal.specs.Refusals.{no_way, way_fault};
 ghost use Rattle.yq_journal.specs.State.{State, moved, moved_text};
-ghost use Rattle.yq.specs.Faults.{is_outside, counted, of_fault};
+ghost use Rattle.yq_journal.specs.declared.fault.JournalFault.{JournalFault};
+ghost use Rattle.yq.specs.Faults.{is_outside, is_output, counted, of_fault};
 ghost use Rattle.yq.specs.Pair.{Arrives, OthersStay, Rest, Stands};
 ghost use Rattle.yq.specs.Steps.{walk_cause, walk_next};
 ghost use Rattle.yq.specs.Walks.{step_of};
@@ -39,9 +40,11 @@ pub fn carry_out<D: Store>(
     ensures moved { IsTrue D.keeps → OnOk result (journal_beside (map.get (D.content store.new) name.now) ≡ Some (moved journal.old step)) }
     ensures free { OnOk result (no_way journal.old.records journal.old.at step ≡ None) }
     ensures fault { IfErr result (λ e. is_outside e ≡ false → option_map of_fault (no_way journal.old.records journal.old.at step) ≡ Some e) }
+    ensures refused { (f : JournalFault) → no_way journal.old.records journal.old.at step ≡ Some f → result ≡ Err (of_fault f) }
     ensures kept { IsTrue D.keeps → IfErr result (λ e. is_outside e ≡ false → D.content store.new ≡ D.content store.old) }
     ensures barred { IsTrue D.keeps → no_way journal.old.records journal.old.at step ≢ None → D.content store.new ≡ D.content store.old }
     ensures others { IsTrue D.keeps → OthersStay (D.content store.old) (D.content store.new) file.now name.now }
+    ensures quiet { IfErr result (λ e. is_output e ≡ false) }
     ensures count { D.failures store.new ≡ counted result (D.failures store.old) }
 {
     match journal.start(step, old) {
@@ -72,6 +75,7 @@ fn turn<D: Store>(
         OnErr result (Stands (D.content store.new) file name.now h ⊎ Stands (D.content store.new) file name.now (after_move h (step_of walk) text.now)) }
     ensures outside { IfErr result (λ e. IsTrue (is_outside e)) }
     ensures others { IsTrue D.keeps → (q : List ℕ) → q ≢ name.now → map.get (D.content store.new) q ≡ map.get (D.content store.old) q }
+    ensures quiet { IfErr result (λ e. is_output e ≡ false) }
     ensures count { D.failures store.new ≡ counted result (D.failures store.old) }
 {
     walk.make(journal, text)?;
@@ -93,6 +97,7 @@ pub fn walk_from<D: Store>(
         Arrives (D.content store.new) file.now name.now (walk_cause (step_of walk) (Some h)) (Some h) (walk_next (step_of walk) (Some h)) result }
     ensures kept { IsTrue D.keeps → IfErr result (λ e. is_outside e ≡ false → D.content store.new ≡ D.content store.old) }
     ensures others { IsTrue D.keeps → OthersStay (D.content store.old) (D.content store.new) file.now name.now }
+    ensures quiet { IfErr result (λ e. is_output e ≡ false) }
     ensures count { D.failures store.new ≡ counted result (D.failures store.old) }
 {
     let new = journal.target(alloc, &walk.step(), text)?;

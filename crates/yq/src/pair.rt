@@ -1,9 +1,9 @@
 //! A file and its journal, read from a store and written to it.
-ghost use Rattle.std.specs.Prelude.{◌≡◌, ◌≢◌, ◌⊎◌, ℕ, List, Option, Some, None, IfOk, OnOk, IfErr, OnErr, IsTrue, IsNone};
+ghost use Rattle.std.specs.Prelude.{◌≡◌, ◌≢◌, ◌⊎◌, ℕ, List, Option, Some, None, false, IfOk, OnOk, IfErr, OnErr, IsTrue, IsNone};
 ghost use Rattle.std.specs.FinMap as map;
 ghost use Rattle.yq_journal.specs.Good.{journal_beside};
 ghost use Rattle.yq_journal.specs.History.{History};
-ghost use Rattle.yq.specs.Faults.{is_outside, counted};
+ghost use Rattle.yq.specs.Faults.{is_outside, is_output, counted};
 ghost use Rattle.yq.specs.Pair.{GoodIn, Opens, Writes};
 
 use crate::fault::Fault;
@@ -17,6 +17,7 @@ fn read_journal<D: Store>(alloc: Global, store: &mut D, name: &str) -> Result<Jo
     ensures err { IsTrue D.keeps → IfErr result (λ e.
         ((e ≡ Fault.BadJournal) × (journal_beside (map.get (D.content store.old) name.now) ≡ None)) ⊎ IsTrue (is_outside e)) }
     ensures same { IsTrue D.keeps → D.content store.new ≡ D.content store.old }
+    ensures quiet { IfErr result (λ e. is_output e ≡ false) }
     ensures count { D.failures store.new ≡ counted result (D.failures store.old) }
 {
     match store.read(alloc, name) {
@@ -38,6 +39,7 @@ pub fn write_journal<D: Store>(
         ⊎ Writes (D.content store.old) (D.content store.new) name.now journal.now) }
     ensures outside { IfErr result (λ e. IsTrue (is_outside e)) }
     ensures others { IsTrue D.keeps → (q : List ℕ) → q ≢ name.now → map.get (D.content store.new) q ≡ map.get (D.content store.old) q }
+    ensures quiet { IfErr result (λ e. is_output e ≡ false) }
     ensures count { D.failures store.new ≡ counted result (D.failures store.old) }
 {
     let bytes = journal.to_json(alloc)?;
@@ -57,6 +59,7 @@ pub fn open_pair<D: Store>(
     ensures same { IsTrue D.keeps → D.content store.new ≡ D.content store.old }
     ensures text { IsTrue D.keeps → IfOk result (λ p. map.get (D.content store.old) file.now ≡ Some p.0.items) }
     ensures at_rest { IfOk result (λ p. IsNone p.1.pending) }
+    ensures quiet { IfErr result (λ e. is_output e ≡ false) }
     ensures count { D.failures store.new ≡ counted result (D.failures store.old) }
 {
     let text = store.read(alloc, file)?;

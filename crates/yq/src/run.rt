@@ -1,13 +1,15 @@
 //! Lists of commands, carried out over a store.
-ghost use Rattle.std.specs.Prelude.{◌≡◌, ◌≢◌, ◌⊎◌, ◌+◌, ◌-◌, ◌^◌, ◌<◌, ◌≤◌, ℕ, List, [], ◌∷◌, ◌++◌, Option, Some, None, IfOk, OnOk, IfErr, OnErr, IsTrue, MatchResult, All, true, false, min, length};
+ghost use Rattle.std.specs.Prelude.{◌≡◌, ◌≢◌, ◌⊎◌, ◌+◌, ◌-◌, ◌^◌, ◌<◌, ◌≤◌, ℕ, List, [], ◌∷◌, ◌++◌, Option, Some, None, IfOk, OnOk, IfErr, OnErr, IsTrue, MatchResult, All, true, false, if◌then◌else◌, min, length};
 ghost use Rattle.std.specs.List.{list_all};
 ghost use Rattle.std.specs.FinMap as map;
 ghost use Rattle.std.specs.String.{string_bytes};
 ghost use Rattle.yq_journal.specs.History.{History};
+ghost use Rattle.yq.specs.Count.{one_more};
 ghost use Rattle.yq.specs.Editing.{program_in};
-ghost use Rattle.yq.specs.Faults.{is_outside, counted};
-ghost use Rattle.yq.specs.Lists.{IsOn, IsApart, IsStranger, Run, RunExactly, Recorded, IsRecorded, Records, has_memory, is_kept, failures_in};
+ghost use Rattle.yq.specs.Faults.{is_outside, is_output, counted};
+ghost use Rattle.yq.specs.Lists.{AllFit, IsOn, IsStranger, Keeps, Run, RunExactly, Recorded, IsRecorded, Records, Reply, answers_in, printed_in, has_memory, failures_in, output_failures_in, tells_output};
 ghost use Rattle.yq.specs.Pair.{Arrives, GoodIn, OthersStay};
+ghost use Rattle.yq.specs.Prints.{output_of, prints};
 ghost use Rattle.yq.specs.Steps.{cause_of, next_of, update_cause, update_next, walk_cause, walk_next};
 ghost use Rattle.yq.specs.Walks.{step_of};
 
@@ -16,10 +18,11 @@ use crate::command::Command;
 use crate::edit::edit_from;
 use crate::editing::parse;
 use crate::fault::Fault;
-use crate::help::{HELP, USAGE};
 use crate::moves::walk_from;
 use crate::output::Out;
 use crate::pair::open_pair;
+use crate::printing::{help, listing, preview};
+use crate::squash::squash;
 use crate::store::Store;
 use crate::walk::Walk;
 use std::alloc::{AllocError, Global};
@@ -36,6 +39,7 @@ fn walk<D: Store>(
         Arrives (D.content store.new) file.now name.now (walk_cause (step_of walk) h) h (walk_next (step_of walk) h) result }
     ensures kept { IsTrue D.keeps → IfErr result (λ e. is_outside e ≡ false → D.content store.new ≡ D.content store.old) }
     ensures others { IsTrue D.keeps → OthersStay (D.content store.old) (D.content store.new) file.now name.now }
+    ensures quiet { IfErr result (λ e. is_output e ≡ false) }
     ensures count { D.failures store.new ≡ counted result (D.failures store.old) }
 {
     let (text, mut journal) = open_pair(alloc, store, file, name)?;
@@ -63,6 +67,7 @@ fn update<D: Store>(
     ensures recorded { IsTrue D.keeps → OnOk result (Recorded expr.now (map.get (D.content store.old) file.now) (map.get (D.content store.new) name.now)) }
     ensures kept { IsTrue D.keeps → IfErr result (λ e. is_outside e ≡ false → D.content store.new ≡ D.content store.old) }
     ensures others { IsTrue D.keeps → OthersStay (D.content store.old) (D.content store.new) file.now name.now }
+    ensures quiet { IfErr result (λ e. is_output e ≡ false) }
     ensures count { D.failures store.new ≡ counted result (D.failures store.old) }
 {
     let program = parse(alloc, expr)?;
@@ -79,29 +84,27 @@ fn update<D: Store>(
     )
 }
 
-/// Prints the help.
-fn help<W: Out>(out: &mut W) -> Result<(), Fault>
-    ensures { IfErr result (λ e. e ≡ Fault.OutFailed) }
-{
-    out.put(USAGE.as_bytes())?;
-    out.put(HELP.as_bytes())?;
-    Ok(())
-}
-
-/// Carries out a command. What isn't built yet is refused as not in the profile.
-fn run_one<D: Store, W: Out>(
+/// Carries out a command but for its output, and tells what it prints.
+fn execute<D: Store>(
     alloc: Global,
     store: &mut D,
-    out: &mut W,
     command: &Command,
+    printed: &mut String,
 ) -> Result<(), Fault>
+    requires empty { string_bytes printed.old ≡ [] }
     ensures arrives { IsTrue D.keeps → (file name : List ℕ) → file ≢ name → IsOn file name command.now →
         (h : Option History) → GoodIn (D.content store.old) file name h →
         Arrives (D.content store.new) file name (cause_of command.now h) h (next_of command.now h) result }
+    ensures output { IsTrue D.keeps → (file name : List ℕ) → IsOn file name command.now →
+        (h : Option History) → GoodIn (D.content store.old) file name h →
+        OnOk result (string_bytes printed.new ≡ output_of command.now h) }
+    ensures silent { prints command.now ≡ false → string_bytes printed.new ≡ [] }
+    ensures still { IsTrue D.keeps → prints command.now ≡ true → D.content store.new ≡ D.content store.old }
     ensures recorded { IsTrue D.keeps → OnOk result ((file name : List ℕ) → IsOn file name command.now →
         IsRecorded command.now (map.get (D.content store.old) file) (map.get (D.content store.new) name)) }
     ensures kept { IsTrue D.keeps → IfErr result (λ e. is_outside e ≡ false → D.content store.new ≡ D.content store.old) }
     ensures others { IsTrue D.keeps → (q : List ℕ) → IsStranger q command.now → map.get (D.content store.new) q ≡ map.get (D.content store.old) q }
+    ensures quiet { IfErr result (λ e. is_output e ≡ false) }
     ensures count { D.failures store.new ≡ counted result (D.failures store.old) }
 {
     match command {
@@ -112,55 +115,77 @@ fn run_one<D: Store, W: Out>(
             in_place: true,
             ..
         } => update(alloc, store, file.as_str(), journal.as_str(), expr.as_str()),
+        Command::Eval { expr, file, .. } => {
+            preview(alloc, store, file.as_str(), expr.as_str(), printed)
+        }
         Command::Undo { file, journal } => {
             walk(alloc, store, file.as_str(), journal.as_str(), Walk::Undo)
         }
         Command::Redo { file, journal } => {
             walk(alloc, store, file.as_str(), journal.as_str(), Walk::Redo)
         }
-        Command::Help => help(out),
-        _ => Err(Fault::NotInProfile),
+        Command::History { file, journal } => {
+            listing(alloc, store, file.as_str(), journal.as_str(), printed)
+        }
+        Command::Squash { n, file, journal } => {
+            squash(alloc, store, file.as_str(), journal.as_str(), *n)
+        }
+        Command::Help => help(alloc, printed),
     }
 }
 
-/// The answer to a command.
-fn answer_of(done: Result<(), Fault>) -> Answer
-    ensures { MatchResult done (λ _. result ≡ Answer.Done) (λ e. result ≡ Answer.Refused e) }
+/// The answer to a command that came to this: where it was carried out, what it prints is put.
+fn answer_of<W: Out>(out: &mut W, done: Result<(), Fault>, printed: &[u8]) -> Answer
+    ensures told { MatchResult done (λ _. (result ≡ Answer.Done) ⊎ ((result ≡ Answer.Refused Fault.OutFailed) × (printed.now ≢ []))) (λ e. result ≡ Answer.Refused e) }
+    ensures taken { IsTrue W.tells → MatchResult done (λ _. result ≡ Answer.Done → W.taken out.new ≡ W.taken out.old ++ printed.now) (λ _. W.taken out.new ≡ W.taken out.old) }
+    ensures count { MatchResult done (λ _. W.failures out.new ≡ (if tells_output result then one_more (W.failures out.old) else W.failures out.old)) (λ _. W.failures out.new ≡ W.failures out.old) }
 {
-    match done {
+    if let Err(fault) = done {
+        return Answer::Refused(fault);
+    }
+    if printed.is_empty() {
+        return Answer::Done;
+    }
+    match out.put(printed) {
         Ok(()) => Answer::Done,
-        Err(fault) => Answer::Refused(fault),
+        Err(_) => Answer::Refused(Fault::OutFailed),
     }
 }
 
 /// Carries out commands in order, and gives an answer to each. A refused command changes no file,
-/// and doesn't end the list. An error means that none was carried out.
+/// prints nothing, and doesn't end the list. An error means that none was carried out.
 pub fn run_list<D: Store, W: Out>(
     alloc: Global,
     store: &mut D,
     out: &mut W,
     commands: &[Command],
 ) -> Result<Vec<Answer>, AllocError>
-    ensures run { IsTrue D.keeps → IfOk result (λ answers. (file name : List ℕ) → file ≢ name →
-        All (λ c. IsOn file name c ⊎ IsApart file name c) commands.now → (h : Option History) → GoodIn (D.content store.old) file name h →
-        (k : Option History) × Run file name h commands.now answers.items k × GoodIn (D.content store.new) file name k) }
+    ensures run { IsTrue D.keeps → IfOk result (λ answers. (replies : List Reply) × (answers_in replies ≡ answers.items)
+        × (IsTrue W.tells → W.failures out.new ≡ W.failures out.old → W.failures out.new < 2 ^ 64 - 1 → W.taken out.new ≡ W.taken out.old ++ printed_in replies)
+        × ((file name : List ℕ) → file ≢ name → AllFit file name commands.now → (h : Option History) → GoodIn (D.content store.old) file name h →
+        (k : Option History) × Run file name h commands.now replies k × GoodIn (D.content store.new) file name k)) }
     ensures exact { IsTrue D.keeps → D.failures store.new ≡ D.failures store.old → D.failures store.new < 2 ^ 64 - 1 →
-        IfOk result (λ answers. list_all has_memory answers.items ≡ true → (file name : List ℕ) → file ≢ name →
-        All (λ c. IsOn file name c ⊎ IsApart file name c) commands.now → (h : Option History) → GoodIn (D.content store.old) file name h →
-        (k : Option History) × RunExactly file name h commands.now answers.items k × GoodIn (D.content store.new) file name k) }
+        W.failures out.new ≡ W.failures out.old → W.failures out.new < 2 ^ 64 - 1 →
+        IfOk result (λ answers. list_all has_memory answers.items ≡ true → (replies : List Reply) × (answers_in replies ≡ answers.items)
+        × (IsTrue W.tells → W.taken out.new ≡ W.taken out.old ++ printed_in replies)
+        × ((file name : List ℕ) → file ≢ name → AllFit file name commands.now → (h : Option History) → GoodIn (D.content store.old) file name h →
+        (k : Option History) × RunExactly file name h commands.now replies k × GoodIn (D.content store.new) file name k)) }
     ensures recorded { IsTrue D.keeps → IfOk result (λ answers. (file name : List ℕ) → file ≢ name →
-        All (λ c. IsOn file name c ⊎ IsApart file name c) commands.now → (h : Option History) → GoodIn (D.content store.old) file name h →
+        AllFit file name commands.now → (h : Option History) → GoodIn (D.content store.old) file name h →
         (cs : List Command) → (c : Command) → (before : List Answer) → commands.now ≡ cs ++ c ∷ [] → answers.items ≡ before ++ Answer.Done ∷ [] → IsOn file name c →
-        (m : Option History) × Run file name h cs before m × Records c m (map.get (D.content store.new) name)) }
-    ensures kept { IsTrue D.keeps → IfOk result (λ answers. list_all is_kept answers.items ≡ true → D.content store.new ≡ D.content store.old) }
+        (m : Option History) × (replies : List Reply) × (answers_in replies ≡ before) × Run file name h cs replies m × Records c m (map.get (D.content store.new) name)) }
+    ensures kept { IsTrue D.keeps → IfOk result (λ answers. Keeps (D.content store.old) commands.now answers.items (D.content store.new)) }
     ensures others { IsTrue D.keeps → (q : List ℕ) → All (IsStranger q) commands.now → map.get (D.content store.new) q ≡ map.get (D.content store.old) q }
     ensures count { IfOk result (λ answers. min (D.failures store.old + failures_in answers.items) (2 ^ 64 - 1) ≤ D.failures store.new) }
+    ensures out_count { IfOk result (λ answers. min (W.failures out.old + output_failures_in answers.items) (2 ^ 64 - 1) ≤ W.failures out.new) }
     ensures one_each { IfOk result (λ answers. length answers.items ≡ length commands.now) }
     ensures err { OnErr result ((store.new ≡ store.old) × (out.new ≡ out.old)) }
 {
     let mut answers = Vec::with_capacity(alloc, commands.len())?;
     'commands: for command in commands {
-        let answer = answer_of(run_one(alloc, store, out, command));
+        let mut printed = String::new(alloc);
+        let done = execute(alloc, store, command, &mut printed);
+        let answer = answer_of(out, done, printed.as_bytes());
         answers.push(answer).unwrap();
     }
     Ok(answers)

@@ -3,6 +3,9 @@
 mod commands;
 mod failing;
 mod fault;
+mod old_journals;
 mod outputs;
+mod printing;
+mod squash;
 mod stores;
 mod words;

@@ -1,5 +1,5 @@
 -- Records joined one after the other.
-use Rattle.std.proofs.Common.{◌≡◌, ℕ, ◌≤◌, ◌<◌, List, [], ◌∷◌, ◌++◌, length, suc, Some, None, true, refl, ap, ◌∙◌, arith}
+use Rattle.std.proofs.Common.{◌≡◌, ℕ, ◌≤◌, ◌<◌, List, [], ◌∷◌, ◌++◌, length, suc, Option, Some, None, Result, Err, IfErr, true, refl, ap, ◌∙◌, subst, arith}
 use Rattle.std.specs.Prelude.{◌==◌, ◌&&◌, Bool, false, option_and_then, slice_get, take}
 use Prim.Native.Nat.{zero}
 use Rattle.std.proofs.lemmas.Bool.{eqb-true}
@@ -10,8 +10,11 @@ use Rattle.std.specs.Cmp.Derive.{both_true}
 use Rattle.std.proofs.Common.{sym, get_or, take_all}
 use Rattle.std.proofs.lemmas.Bool.{le-leb}
 use Rattle.std.proofs.lemmas.List.{drop-take}
+use Rattle.yq_journal.specs.declared.fault.JournalError.{JournalError}
+use Rattle.yq_journal.specs.declared.fault.JournalError.TheVariants as error
+use Rattle.yq_journal.specs.declared.fault.JournalFault.{JournalFault}
 use Rattle.yq_journal.specs.declared.fault.JournalFault.TheVariants.{BadCount}
-use Rattle.yq_journal.specs.Refusals.{count_fault}
+use Rattle.yq_journal.specs.Refusals.{Tells, count_fault}
 use Rattle.yq_journal.specs.State.{last_done}
 use Rattle.yq_journal.specs.Record.{Patch, IsRecord, join, joined, meet}
 
@@ -74,3 +77,7 @@ split_first [] r some is = absurd (omega arith)
 split_first (q ∷ rs) r some is =
     let one : suc (length rs) - 1 ≡ length rs = omega arith in
     ap (λ x. x ∷ rs) (sym is) ∙ ap (λ l. r ∷ l) (sym (take_all (length rs) rs (omega arith)) ∙ ap (λ n. take n rs) (sym one))
+
+-- want of memory is told where there is no fault
+pub tells_memory : {T : Type 0} (r : Result T JournalError) (e : JournalError) (o : Option JournalFault) → r ≡ Err e → e ≡ error.Memory → o ≡ None → IfErr r (λ x. Tells x o)
+tells_memory r e o is memory none = subst (λ x. IfErr x (λ y. Tells y o)) (sym (is ∙ ap Err memory)) none

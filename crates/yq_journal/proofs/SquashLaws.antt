@@ -1,5 +1,5 @@
 -- Joining the last done records of a journal is a squash of its history.
-use Rattle.std.proofs.Common.{◌≡◌, ℕ, suc, ◌+◌, ◌-◌, ◌≤◌, ◌<◌, ◌&&◌, List, [], ◌∷◌, ◌++◌, length, take, drop, Some, None, Bool, true, false, nat_le, refl, sym, ap, ◌∙◌, subst, arith, append_assoc, length-append, length-drop, if◌then◌else◌, eq-eqb}
+use Rattle.std.proofs.Common.{◌≡◌, ℕ, suc, ◌+◌, ◌-◌, ◌≤◌, ◌<◌, ◌&&◌, List, [], ◌∷◌, ◌++◌, length, take, drop, Some, None, Bool, true, false, nat_le, refl, sym, ap, ap₂, ◌∙◌, subst, arith, append_assoc, length-append, length-drop, if◌then◌else◌, eq-eqb}
 use Rattle.std.specs.Prelude.{option_and_then, codes, is_some}
 use Rattle.std.specs.Cmp.Derive.{both_true}
 use Prim.Native.Nat.{zero}
@@ -191,3 +191,23 @@ squash_rests s t h n k some fits =
       text = k.text ∙ sym (text_end-squashed_front h n within) ∙ sym (text_behind-length h.first (squashed_front h n) (drop h.at h.later))
           ∙ ap (text_behind h.first (squashed_front h n ++ drop h.at h.later)) long ∙ ap (λ es. text_behind h.first es (h.at - n + 1)) whole;
     }
+
+one_latest : (es : List Revision) → length es ≡ 1 → latest_of es ≡ es
+one_latest [] h = absurd (omega (arith, h))
+one_latest (e ∷ []) h = refl
+one_latest (e ∷ f ∷ es) h = absurd (omega (arith, h))
+
+-- a squash of one edit leaves the history
+pub squash_one : (h : History) → 1 ≤ h.at → h.at ≤ length h.later → after_squash h 1 ≡ h
+squash_one h some within =
+    let inner = take h.at h.later in
+    let long : length inner ≡ h.at = length-take-le h.at h.later within in
+    let last : length (drop (h.at - 1) inner) ≡ 1 = length-drop (h.at - 1) inner ∙ omega (arith, long) in
+    let later : take (h.at - 1) h.later ++ (latest_of (drop (h.at - 1) inner) ++ drop h.at h.later) ≡ h.later =
+    ap (λ es. take (h.at - 1) h.later ++ (es ++ drop h.at h.later)) (one_latest (drop (h.at - 1) inner) last)
+    ∙ sym (append_assoc (take (h.at - 1) h.later) (drop (h.at - 1) inner) (drop h.at h.later))
+    ∙ ap (λ es. (es ++ drop (h.at - 1) inner) ++ drop h.at h.later) (sym (take-take (h.at - 1) h.at h.later (omega arith)))
+    ∙ ap (λ es. es ++ drop h.at h.later) (take-append-drop (h.at - 1) inner)
+    ∙ take-append-drop h.at h.later in
+    let at : h.at - 1 + 1 ≡ h.at = omega arith in
+    ap₂ (λ es n. record { first = h.first; later = es; at = n }) later at

@@ -15,6 +15,11 @@ abbrev pub Names : JournalError → Option JournalFault → Type 0
 Names error.Memory fault = Unit {0}
 Names (error.Fault f) fault = fault ≡ Some f
 
+-- an error names the fault; want of memory is told only where there is none (own)
+abbrev pub Tells : JournalError → Option JournalFault → Type 0
+Tells error.Memory fault = fault ≡ None
+Tells (error.Fault f) fault = fault ≡ Some f
+
 -- how many records a journal may hold (own)
 abbrev pub most_records : ℕ
 most_records = 4096

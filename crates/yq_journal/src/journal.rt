@@ -1,6 +1,6 @@
 //! The journal: records, a cursor, and perhaps an open move.
 ghost use Rattle.std.specs.Prelude.{◌≡◌, ◌≢◌, ◌⊎◌, ◌<◌, None, Some, IfOk, IfErr, OnOk, OnErr, IsNone, IsOk, length, slice_get};
-ghost use Rattle.yq_journal.specs.Refusals.{Names, move_fault, push_fault, squash_fault, way_fault};
+ghost use Rattle.yq_journal.specs.Refusals.{Names, Tells, move_fault, no_way, push_fault, squash_fault, way_fault};
 ghost use Rattle.yq_journal.specs.State.{empty_state, moved, moved_text, opened, settled, squashed};
 
 use crate::fault::{JournalError, JournalFault};
@@ -82,11 +82,12 @@ impl Journal {
 
     /// Adds a record of an edit and drops the undone ones. Refused, with the
     /// record handed back, as `Unsettled` where a move is open, and then as
-    /// `JournalFull` where the cursor is at the last record that there may be.
+    /// `JournalFull` where the cursor is at the last record that there may be;
+    /// as want of memory only where neither is so.
     pub fn push(&mut self, added: Record) -> Result<(), (Record, JournalError)>
         ensures free { OnOk result (push_fault self.old added ≡ None) }
         ensures ok { OnOk result (self.new ≡ moved self.old (Move.Edit added)) }
-        ensures fault { IfErr result (λ e. Names e.1 (push_fault self.old added)) }
+        ensures fault { IfErr result (λ e. Tells e.1 (push_fault self.old added)) }
         ensures err { IfErr result (λ e. (e.0 ≡ added) × (self.new ≡ self.old)) }
     {
         if self.open.is_some() {
@@ -151,12 +152,13 @@ impl Journal {
     /// Opens a move and keeps the whole text from which it starts. Refused,
     /// with the move handed back, first to last: as `Unsettled` where a move
     /// is open, as `JournalFull`, as `NothingToUndo` or `NothingToRedo`, as
-    /// `DoesNotStand`.
+    /// `DoesNotStand`. All but the last come before any memory is asked for.
     pub fn start(&mut self, step: Move, text: &[u8]) -> Result<(), (Move, JournalError)>
         requires { moved_text self.old.records self.old.at step text.now ≢ Some text.now }
         ensures free { OnOk result (move_fault self.old step text.now ≡ None) }
         ensures ok { OnOk result (self.new ≡ opened self.old step text.now) }
         ensures fault { IfErr result (λ e. Names e.1 (move_fault self.old step text.now)) }
+        ensures memory { IfErr result (λ e. e.1 ≡ JournalError.Memory → IsNone self.old.pending × (no_way self.old.records self.old.at step ≡ None)) }
         ensures err { IfErr result (λ e. (e.0 ≡ step) × (self.new ≡ self.old)) }
     {
         if self.open.is_some() {
@@ -208,11 +210,12 @@ impl Journal {
 
     /// Joins the last `n` done records into one. Refused, first to last: as
     /// `Unsettled` where a move is open, as `BadCount` where there aren't so
-    /// many, or none is asked for, or the lengths of neighbours don't meet.
+    /// many, or none is asked for, or the lengths of neighbours don't meet; as
+    /// want of memory only where neither is so.
     pub fn squash(&mut self, n: u64) -> Result<(), JournalError>
         ensures free { OnOk result (squash_fault self.old n ≡ None) }
         ensures ok { OnOk result (self.new ≡ squashed self.old n) }
-        ensures fault { IfErr result (λ e. Names e (squash_fault self.old n)) }
+        ensures fault { IfErr result (λ e. Tells e (squash_fault self.old n)) }
         ensures err { OnErr result (self.new ≡ self.old) }
     {
         if self.open.is_some() {

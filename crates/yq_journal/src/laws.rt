@@ -1,5 +1,5 @@
 //! Laws: what a journal's moves are for a history of whole texts.
-ghost use Rattle.std.specs.Prelude.{◌≡◌, ◌≢◌, ◌≤◌, ℕ, List, None, Some};
+ghost use Rattle.std.specs.Prelude.{◌≡◌, ◌≢◌, ◌≤◌, ℕ, List, None, Some, length};
 ghost use Rattle.yq_journal.specs.Good.{AtRest, Describes, Rests, after_move, squash_refusal, step_fault};
 ghost use Rattle.yq_journal.specs.History.{History, after_squash};
 ghost use Rattle.yq_journal.specs.Record.{Patch, done};
@@ -36,7 +36,9 @@ pub fn faults_are_of_history()
     ensures squash { (s : State) (t : List ℕ) (h : History) (n : ℕ) → s.pending ≡ None → AtRest s t h → squash_fault s n ≡ squash_refusal h n }
 {}
 
-/// Joining the last done records of a journal is a squash of its history.
+/// Joining the last done records of a journal is a squash of its history; of
+/// one record, it leaves the history.
 pub fn squashes_go_on()
-    ensures { (s : State) (t : List ℕ) (h : History) (n : ℕ) → AtRest s t h → 1 ≤ n → n ≤ h.at → AtRest (squashed s n) t (after_squash h n) }
+    ensures one { (h : History) → 1 ≤ h.at → h.at ≤ length h.later → after_squash h 1 ≡ h }
+    ensures rests { (s : State) (t : List ℕ) (h : History) (n : ℕ) → AtRest s t h → 1 ≤ n → n ≤ h.at → AtRest (squashed s n) t (after_squash h n) }
 {}

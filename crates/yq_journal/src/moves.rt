@@ -74,6 +74,7 @@ pub(crate) fn target(
     ensures ok { IfOk result (λ v. moved_text records.now at step.now text.now ≡ Some v.items) }
     ensures free { OnOk result (way_fault records.now at step.now text.now ≡ None) }
     ensures err { IfErr result (λ e. Names e (way_fault records.now at step.now text.now)) }
+    ensures memory { IfErr result (λ e. e ≡ JournalError.Memory → no_way records.now at step.now ≡ None) }
 {
     if let Some(fault) = obstacle(records, at, step) {
         return Err(JournalError::Fault(fault));

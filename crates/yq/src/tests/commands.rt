@@ -13,13 +13,13 @@ use std::test::Fail;
 use yq_scalar::{FaultKind, ReadFault};
 
 /// Two entries, of which the first has a comment.
-const WEB: &str = "name: web # main\nport: 8080\n";
+pub const WEB: &str = "name: web # main\nport: 8080\n";
 
 /// The same with another port.
-const WEB_9090: &str = "name: web # main\nport: 9090\n";
+pub const WEB_9090: &str = "name: web # main\nport: 9090\n";
 
 /// The journal of an open edit from `n: 1` to `n: 2`.
-const OPEN_EDIT: &str =
+pub const OPEN_EDIT: &str =
     "{\"at\":0,\"pending\":{\"from\":\"bjogMQo=\",\"kind\":\"edit\",\"record\":{\"after_len\":5,\"before_len\":5,\"count\":1,\"expr\":\".n = 2\",\"splices\":[{\"at\":3,\"new\":\"Mg==\",\"old\":\"MQ==\"}]}},\"records\":[],\"version\":2}\n";
 
 /// A store that holds one file.
@@ -309,24 +309,6 @@ fn a_full_journal_takes_no_further_edit(rt: HostRuntime) -> Result<(), Fail> {
         answer(alloc, &mut store, &["-i", ".n = 1", "f"])?,
         Answer::Done
     );
-    assert_file(&rt, &store, "f", "n: 1\n");
-    Ok(())
-}
-
-#[test]
-fn what_isnt_built_is_not_in_the_profile(rt: HostRuntime) -> Result<(), Fail> {
-    let alloc = rt.alloc();
-    let mut store = store_of(alloc, "f", "n: 1\n")?;
-    let rows: [&[&str]; 4] = [
-        &[".n", "f"],
-        &[".n = 2", "f"],
-        &["history", "f"],
-        &["squash", "1", "f"],
-    ];
-    for words in rows {
-        let refused = answer(alloc, &mut store, words)?;
-        assert_eq!(rt; refused, Answer::Refused(Fault::NotInProfile), "{words:?}");
-    }
     assert_file(&rt, &store, "f", "n: 1\n");
     Ok(())
 }

@@ -13,9 +13,9 @@ use std::test::Fail;
 
 const WEB: &str = "name: web # main\nport: 8080\n";
 
-/// Edits, undos and redos of `n: 1`.
+/// Edits, undos, redos and a squash of `n: 1`, and what is printed of it.
 fn commands(alloc: Global) -> Result<Vec<Command>, Fail> {
-    let rows: [&[&str]; 10] = [
+    let rows: [&[&str]; 14] = [
         &["-i", ".n = 2", "f"],
         &["-i", ".n = 3", "f"],
         &["undo", "f"],
@@ -23,6 +23,10 @@ fn commands(alloc: Global) -> Result<Vec<Command>, Fail> {
         &["redo", "f"],
         &["-i", ".n = 5", "f"],
         &["redo", "f"],
+        &["history", "f"],
+        &["squash", "2", "f"],
+        &[".n = 7", "f"],
+        &["history", "f"],
         &["undo", "f"],
         &["undo", "f"],
         &["undo", "f"],
@@ -90,12 +94,12 @@ fn a_list_goes_on_over_a_failing_call(rt: HostRuntime) -> Result<(), Fail> {
     let alloc = rt.alloc();
     let commands = commands(alloc)?;
     for left in [Left::OldBytes, Left::NewBytes] {
-        for call in 1..60u64 {
+        for call in 1..70u64 {
             let mut store = store_of(alloc, "f", "n: 1\n")?;
             let mut out = MemoryOut::new(alloc);
             store.fail_at(call, left);
             let answers = run_list(alloc, &mut store, &mut out, &commands)?;
-            assert_eq!(rt; answers.len(), 10);
+            assert_eq!(rt; answers.len(), 14);
             let failed = answers.iter().filter(|a| tells_failure(*a)).count();
             assert_eq!(rt; failed as u64, store.failures(), "call {call} {left:?}");
             for _ in 0..10 {
@@ -132,6 +136,9 @@ fn each_growth_of_a_list_is_refused_in_turn(rt: HostRuntime) -> Result<(), Fail>
     let alloc = rt.alloc();
     let commands = [
         command_of(alloc, &["-i", ".n = 2", "f"])?,
+        command_of(alloc, &["squash", "1", "f"])?,
+        command_of(alloc, &["history", "f"])?,
+        command_of(alloc, &[".n = 3", "f"])?,
         command_of(alloc, &["undo", "f"])?,
     ];
     let mut rounds = 0u32;

@@ -1,11 +1,10 @@
-use Rattle.std.proofs.Common.{◌≡◌, ◌≢◌, ◌⊎◌, ◌+◌, ◌-◌, ◌^◌, ◌≤◌, ℕ, List, [], ◌∷◌, ◌++◌, Option, IsTrue, true, take, length, min, vec_len, vec_capacity, All}
+use Rattle.std.proofs.Common.{◌≡◌, ◌≢◌, ◌+◌, ◌-◌, ◌^◌, ◌<◌, ◌≤◌, ℕ, List, [], ◌∷◌, ◌++◌, Option, IsTrue, take, length, min, vec_len, vec_capacity, All}
 use Rattle.std.specs.FinMap.{get}
-use Rattle.std.specs.List.{list_all}
 use Rattle.yq_journal.specs.History.{History}
 use Rattle.yq.specs.declared.answer.Answer.{Answer}
 use Rattle.yq.specs.declared.answer.Answer.TheVariants.{Done}
 use Rattle.yq.specs.declared.command.Command.{Command}
-use Rattle.yq.specs.Lists.{IsOn, IsApart, IsStranger, Run, Records, failures_in, is_kept}
+use Rattle.yq.specs.Lists.{AllFit, IsOn, IsStranger, Keeps, Reply, Run, Records, answers_in, printed_in, failures_in, output_failures_in}
 use Rattle.yq.specs.Pair.{GoodIn}
 use Rattle.yq.proofs.run.run_list.Given as goal
 
@@ -15,14 +14,16 @@ invariant-commands g l =
     record {
       count : vec_len l.answers ≡ l.command-index;
       room : length l.commands ≤ vec_capacity l.answers;
-      run : IsTrue g.D.Store.keeps → (file name : List ℕ) → file ≢ name → All (λ c. IsOn file name c ⊎ IsApart file name c) l.commands →
-          (h : Option History) → GoodIn (content l.fn.store) file name h →
-          (k : Option History) × Run file name h (take l.command-index l.commands) l.answers.items k × GoodIn (content l.store) file name k;
-      recorded : IsTrue g.D.Store.keeps → (file name : List ℕ) → file ≢ name → All (λ c. IsOn file name c ⊎ IsApart file name c) l.commands →
+      run : IsTrue g.D.Store.keeps → (replies : List Reply) × (answers_in replies ≡ l.answers.items)
+          × (IsTrue g.W.Out.tells → g.W.Out.failures l.out ≡ g.W.Out.failures l.fn.out → g.W.Out.failures l.out < 2 ^ 64 - 1 → g.W.Out.taken l.out ≡ g.W.Out.taken l.fn.out ++ printed_in replies)
+          × ((file name : List ℕ) → file ≢ name → AllFit file name l.commands → (h : Option History) → GoodIn (content l.fn.store) file name h →
+          (k : Option History) × Run file name h (take l.command-index l.commands) replies k × GoodIn (content l.store) file name k);
+      recorded : IsTrue g.D.Store.keeps → (file name : List ℕ) → file ≢ name → AllFit file name l.commands →
           (h : Option History) → GoodIn (content l.fn.store) file name h →
           (cs : List Command) (c : Command) (before : List Answer) → take l.command-index l.commands ≡ cs ++ c ∷ [] → l.answers.items ≡ before ++ Done ∷ [] → IsOn file name c →
-          (m : Option History) × Run file name h cs before m × Records c m (get (content l.store) name);
-      kept : IsTrue g.D.Store.keeps → list_all is_kept l.answers.items ≡ true → content l.store ≡ content l.fn.store;
+          (m : Option History) × (replies : List Reply) × (answers_in replies ≡ before) × Run file name h cs replies m × Records c m (get (content l.store) name);
+      kept : IsTrue g.D.Store.keeps → Keeps (content l.fn.store) (take l.command-index l.commands) l.answers.items (content l.store);
       others : IsTrue g.D.Store.keeps → (q : List ℕ) → All (IsStranger q) l.commands → get (content l.store) q ≡ get (content l.fn.store) q;
       sum : min (g.D.Store.failures l.fn.store + failures_in l.answers.items) (2 ^ 64 - 1) ≤ g.D.Store.failures l.store;
+      out_sum : min (g.W.Out.failures l.fn.out + output_failures_in l.answers.items) (2 ^ 64 - 1) ≤ g.W.Out.failures l.out;
     }
