@@ -12,10 +12,10 @@ use Rattle.std.specs.Prelude.{codes, string_bytes, String, Vec}
 use Rattle.std.specs.declared.alloc.Global.{Global}
 use Rattle.yq_scalar.specs.Tree.{Node}
 use Rattle.yq_scalar.specs.Tree as tree
-use Rattle.yq_expr.specs.declared.value.Value.{Value, Map as MapValue, the_lemmas}
+use Rattle.yq_inline.specs.declared.value.Value.{Value, Map as MapValue, the_lemmas}
 use Rattle.yq_expr.specs.Lexing.{after}
 use Rattle.yq_expr.specs.Tokens.{Token}
-use Rattle.yq_expr.specs.Values.{node_of, field_of, entries}
+use Rattle.yq_inline.specs.Values.{node_of, field_of, entries}
 use Rattle.yq_expr.specs.Parse.{distinct, listed_at, field_at, literal_at}
 
 others : (k : List ℕ) (ks : List (List ℕ)) → list_any (bytes_eq k) ks ≡ false → All (λ x. k ≢ x) ks

@@ -5,7 +5,7 @@ use Rattle.yq_scalar.specs.Keys.{keys_of, HasUniqueKeys, EachHasUniqueKeys, dept
 use Rattle.yq_scalar.specs.Tree.{Node}
 use Rattle.yq_expr.specs.Program.{Term, literal, found, Update, assign, delete, comment, Program, read, updates, IsValue, SumHolds, UpdatesHold, LiteralsHold}
 use Rattle.yq_expr.specs.Tokens.{Token}
-use Rattle.yq_expr.specs.Values.{items, entries}
+use Rattle.yq_inline.specs.Values.{items, entries}
 use Rattle.yq_expr.specs.Grammar.{Form, Are, Behind, AreParted, AreListed, IsField, IsScalarNode, IsLiteral, literal_depth, IsTerm, IsUpdate, IsProgram}
 
 -- a fact of each element

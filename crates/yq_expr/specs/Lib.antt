@@ -6,7 +6,7 @@ pub mod Parse
 pub mod Program
 pub mod Seen
 pub mod Tokens
-pub mod Values
+pub use Rattle.yq_inline.specs.Values
 pub mod View
 pub use Rattle.yq_scalar.specs.Tree
 pub mod Matching

@@ -15,7 +15,6 @@ mod survey;
 #[cfg(test)]
 mod tests;
 mod token;
-mod value;
 mod written;
 
 pub use error::ParseError;
@@ -28,5 +27,5 @@ pub use program::{
     Step, Term, Update,
 };
 pub use refusal::Refusal;
-pub use value::Value;
+pub use yq_inline::Value;
 pub use written::{Written, written_at};

@@ -1,5 +1,5 @@
 //! Operations: what a program does to documents, one node at a time.
-use crate::value::Value;
+use yq_inline::Value;
 use yq_tree::Path;
 
 /// An operation on documents. The keys of a mapping in its value differ.

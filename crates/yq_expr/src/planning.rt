@@ -16,7 +16,7 @@ use crate::matching::{Location, keys_lead};
 use crate::op::Op;
 use crate::program::{Assignment, Operator, Program, Stage, Step, Term, Update};
 use crate::refusal::Refusal;
-use crate::value::Value;
+use yq_inline::Value;
 use crate::written::written_at;
 use std::alloc::{AllocError, AllocFailed, Global};
 use yq_scalar::Scalar;

@@ -3,7 +3,7 @@ ghost use Rattle.std.specs.Prelude.{◌≡◌};
 ghost use Rattle.yq_expr.specs.Program as spec;
 ghost use Rattle.yq_expr.specs.View.{program_of};
 
-use crate::value::Value;
+use yq_inline::Value;
 use yq_scalar::Scalar;
 
 /// A program: a read, or updates that are done one after the other.

@@ -3,11 +3,11 @@ ghost use Rattle.std.specs.Prelude.{◌≡◌, ◌<◌, codes, length, map, opti
 ghost use Rattle.yq_expr.specs.Given.{Reads, ReadsMaybe, Shortens, IsBefore, with_tokens};
 ghost use Rattle.yq_expr.specs.Lexing.{tokens};
 ghost use Rattle.yq_expr.specs.Parse as spec;
-ghost use Rattle.yq_expr.specs.Values.{node_of, field_of};
+ghost use Rattle.yq_inline.specs.Values.{node_of, field_of};
 
 use crate::error::ParseError;
 use crate::front::{after, expect, number, string};
-use crate::value::Value;
+use yq_inline::Value;
 use std::alloc::{AllocError, Global};
 use yq_scalar::{Scalar, are_distinct};
 

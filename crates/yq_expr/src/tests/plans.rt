@@ -4,7 +4,7 @@ use crate::op::Op;
 use crate::parse::parse_expr;
 use crate::planning::{PlanError, plan};
 use crate::refusal::Refusal;
-use crate::value::Value;
+use yq_inline::Value;
 use crate::written::written_at;
 use std::alloc::{AllocError, Global};
 use std::process::Abort;

@@ -3,7 +3,7 @@
 use crate::program::{
     CommentPlace, Condition, Operand, Operator, Program, Stage, Step, Term, Update,
 };
-use crate::value::Value;
+use yq_inline::Value;
 use std::alloc::{AllocError, Global};
 use yq_scalar::{Kind, Scalar};
 

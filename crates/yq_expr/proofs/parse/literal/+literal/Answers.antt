@@ -6,7 +6,7 @@ use Rattle.yq_expr.proofs.Turns.{turn_more, turn_end, loop_fails, failed, before
 use Rattle.yq_expr.specs.Parse.{behind_at, literal_at, field_at, distinct}
 use Rattle.yq_expr.specs.Lexing.{tokens, after}
 use Rattle.yq_expr.proofs.Keys.{map_is, node_of-map}
-use Rattle.yq_expr.specs.Values.{node_of, field_of}
+use Rattle.yq_inline.specs.Values.{node_of, field_of}
 use Rattle.yq_expr.proofs.parse.literal.+literal.Goals as goal
 
 pub items-returns-in_err-item-clause-value : goal.items-returns-in_err-item-clause-value

@@ -4,7 +4,7 @@ use denote.Text.{Utf8}
 use denote.Shadow.{shadow}
 use Rattle.yq_expr.specs.Lexing.{tokens}
 use Rattle.yq_expr.specs.Parse.{many, behind_at, parted_at, field_at, literal_at}
-use Rattle.yq_expr.specs.Values.{node_of, field_of}
+use Rattle.yq_inline.specs.Values.{node_of, field_of}
 use Rattle.yq_expr.proofs.Turns.{onto}
 use Rattle.yq_expr.proofs.parse.literal.+literal.Given as goal
 
