@@ -40,6 +40,7 @@ fn updates(rt: HostRuntime) -> Result<(), Fail> {
     let rows = [
         (".port = 9090", 1, "/port = Int 9090"),
         (".a=.b", 1, "/a = (/b)"),
+        (".a = 1 | del(.b)", 2, "/a = Int 1 ; del /b"),
         (".a |= . + \"y\"", 1, "/a |= (.) + Text y"),
         (".a += [\"b\"]", 1, "/a += [Text b, ]"),
         (
