@@ -27,5 +27,5 @@ pub use program::{
     Step, Term, Update,
 };
 pub use refusal::Refusal;
-pub use yq_inline::Value;
 pub use written::{Written, written_at};
+pub use yq_inline::Value;

@@ -16,9 +16,9 @@ use crate::matching::{Location, keys_lead};
 use crate::op::Op;
 use crate::program::{Assignment, Operator, Program, Stage, Step, Term, Update};
 use crate::refusal::Refusal;
-use yq_inline::Value;
 use crate::written::written_at;
 use std::alloc::{AllocError, AllocFailed, Global};
+use yq_inline::Value;
 use yq_scalar::Scalar;
 use yq_tree::{Documents, Path};
 

@@ -7,8 +7,8 @@ ghost use Rattle.yq_inline.specs.Values.{node_of, field_of};
 
 use crate::error::ParseError;
 use crate::front::{after, expect, number, string};
-use yq_inline::Value;
 use std::alloc::{AllocError, Global};
+use yq_inline::Value;
 use yq_scalar::{Scalar, are_distinct};
 
 /// A word for a scalar, if one is in front, and what follows it.

@@ -4,11 +4,11 @@ use crate::op::Op;
 use crate::parse::parse_expr;
 use crate::planning::{PlanError, plan};
 use crate::refusal::Refusal;
-use yq_inline::Value;
 use crate::written::written_at;
 use std::alloc::{AllocError, Global};
 use std::process::Abort;
 use std::test::Fail;
+use yq_inline::Value;
 use yq_scalar::Kind;
 use yq_tree::{Path, Step, read};
 

@@ -3,8 +3,8 @@
 use crate::program::{
     CommentPlace, Condition, Operand, Operator, Program, Stage, Step, Term, Update,
 };
-use yq_inline::Value;
 use std::alloc::{AllocError, Global};
+use yq_inline::Value;
 use yq_scalar::{Kind, Scalar};
 
 /// The program's form, with kinds before scalars.
