@@ -11,6 +11,7 @@ pub mod InlineLaws
 pub mod WrittenLaws
 pub mod TreeLaws
 pub mod SpelledScalars
+pub mod StyledScalars
 pub mod SpelledLaws
 pub mod PathLaws
 pub mod ValuedLaws

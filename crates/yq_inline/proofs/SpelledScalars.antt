@@ -34,7 +34,7 @@ chosen_last true k y z u p q = absurd (false≢true (sym p))
 chosen_last false true y z u p q = absurd (false≢true (sym q))
 chosen_last false false y z u p q = refl
 
-line_on : (white t : List ℕ) → holds_break t ≡ false → content_on 0 0 within white t ≡ white ++ t
+pub line_on : (white t : List ℕ) → holds_break t ≡ false → content_on 0 0 within white t ≡ white ++ t
 unfolding content_on
 line_on white [] h = sym (append-nil white)
 line_on white (b ∷ t) h =
@@ -93,7 +93,7 @@ plain_anywhere s flow h = go (not (is_string s.kind)) (is_string (resolve s.text
   go false false e = e
 
 -- a plain text
-quote_indicates : (b : ℕ) → is_quote b ≡ true → is_indicator b ≡ true
+pub quote_indicates : (b : ℕ) → is_quote b ≡ true → is_indicator b ≡ true
 quote_indicates b h = ⊎_elim {0, 0, 0}
     (λ e. let same : b ≡ 34 = eqb-true b 34 e in rw same refl)
     (λ e. let same : b ≡ 39 = eqb-true b 39 e in rw same refl)
@@ -106,7 +106,7 @@ plain_text : (s : ScalarText) → IsValid s → can_write_plain s true ≡ true 
 plain_text s v h = line_on [] s.text (plain_line true s.text v.utf8 (writable_text s.kind s.text true v.kind h))
 
 -- the kind of a string
-kind_is : (k : Kind) → is_string k ≡ true → k ≡ kinds.Text
+pub kind_is : (k : Kind) → is_string k ≡ true → k ≡ kinds.Text
 kind_is kinds.Null h = absurd (false≢true h)
 kind_is kinds.Bool h = absurd (false≢true h)
 kind_is kinds.Int h = absurd (false≢true h)

@@ -1,15 +1,17 @@
 -- The trees that values stand for, and the texts that spell them.
-use Rattle.std.specs.Prelude.{◌≡◌, ℕ, ◌+◌, ◌≤◌, Bool, true, false, List, ◌++◌, Some, None, ⊤, ℤ}
+use Rattle.std.specs.Prelude.{◌≡◌, ℕ, ◌+◌, ◌≤◌, Bool, true, false, List, ◌++◌, Option, Some, None, ⊤, ℤ}
 use Rattle.std.specs.Str.{IsUtf8}
 use Rattle.yq_scalar.specs.declared.style.Place.{Place}
+use Rattle.yq_scalar.specs.Characters.{is_text}
 use Rattle.yq_scalar.specs.Keys.{depth}
 use Rattle.yq_scalar.specs.Piece.{further_spaces}
-use Rattle.yq_scalar.specs.Plain.{ends_plain}
+use Rattle.yq_scalar.specs.Plain.{ends_plain, holds_break}
 use Rattle.yq_scalar.specs.Scalar.{ScalarText, IsScalar}
 use Rattle.yq_scalar.specs.Tree as tree
 use Rattle.yq_scalar.specs.Writable.{in_flow}
 use Rattle.yq_inline.specs.Inline.{IsInline, depth_limit}
 use Rattle.yq_inline.specs.Nodes.{Node, node_text}
+use Rattle.yq_inline.specs.Scalars as scalars
 use Rattle.yq_inline.specs.Trees.{inner, tree_of}
 
 -- a scalar's kind fits its text, which is UTF-8 (YAML 1.2.2, section 10.3.2)
@@ -42,3 +44,12 @@ pub record Spells (v : tree.Node) (t : List ℕ) : Type 0 where
   pub written : (rest : List ℕ) → node_text node rest ≡ t ++ rest
   pub stands : (place : Place) (n : ℤ) (around : ℕ) (rest : List ℕ) → depth v + around ≤ depth_limit → ends_plain (in_flow place) (further_spaces place n) rest ≡ true → IsInline place n around node rest
   pub same : tree_of node ≡ v
+
+-- A text spells a scalar outside flow collections: it stands for the scalar, is one line of a text, and is a scalar before any rest at which a plain
+-- one ends (YAML 1.2.2, section 7.3).
+pub record SpellsScalar (s : ScalarText) (p : List ℕ) : Type 0 where
+  pub same : scalars.scalar_of p ≡ s
+  pub utf8 : IsUtf8 p
+  pub text : is_text p ≡ true
+  pub line : holds_break p ≡ false
+  pub stands : (spaces : Option ℕ) (rest : List ℕ) → ends_plain false spaces rest ≡ true → scalars.IsScalar false spaces p rest

@@ -8,7 +8,12 @@ ghost use Rattle.yq_inline.specs.Nodes.{IsNode, Node, node_text};
 ghost use Rattle.yq_inline.specs.Entries.{EntryPieces, StandsIn, placed_entry_at, entry_pieces_at, locate_entry, pieces_text};
 ghost use Rattle.yq_inline.specs.Places.{Placed, locate};
 ghost use Rattle.yq_inline.specs.Trees.{placed_tree, tree_of};
-ghost use Rattle.yq_inline.specs.Valued.{IsValueTree, Spells};
+ghost use Rattle.yq_scalar.specs.Scalar.{ScalarText};
+ghost use Rattle.yq_scalar.specs.Writable.{can_write};
+ghost use Rattle.yq_scalar.specs.Written as scalars;
+ghost use Rattle.yq_scalar.specs.declared.style.Place.TheVariants.{Block};
+ghost use Rattle.yq_scalar.specs.declared.style.Style.{Style};
+ghost use Rattle.yq_inline.specs.Valued.{IsValid, IsValueTree, Spells, SpellsScalar};
 ghost use Rattle.yq_inline.specs.Written.{flow_text};
 
 /// What is read as an inline node is one, what is one is read, and a text begins with one at most.
@@ -26,6 +31,12 @@ pub fn one_tree()
 /// What is written in flow style spells the tree that is written.
 pub fn flow_spells()
     ensures { (v : tree.Node) → IsValueTree v → Spells v (flow_text v) }
+{}
+
+/// What is written for a scalar outside flow collections, in a style that can write it on one line,
+/// spells it.
+pub fn scalar_spells()
+    ensures { (s : ScalarText) (style : Style) → IsValid s → scalars.IsInline style → can_write s style Block ≡ true → SpellsScalar s (scalars.written style s.text) }
 {}
 
 /// Each item and entry to which a path leads stands in the text of the node where its places say, and

@@ -16,7 +16,7 @@ mod value;
 mod write;
 
 pub use inline::{Form, Inline};
-pub use laws::{entry_places, flow_spells, one_inline, one_tree};
+pub use laws::{entry_places, flow_spells, one_inline, one_tree, scalar_spells};
 pub use path::{Entry, Step};
 pub use read::read_inline;
 pub use value::Value;
