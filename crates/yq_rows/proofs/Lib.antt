@@ -32,3 +32,4 @@ pub mod BlockLending
 pub mod RowLending
 pub mod PartLending
 pub mod Failing
+pub mod PlainEnds

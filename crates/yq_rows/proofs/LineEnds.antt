@@ -147,7 +147,7 @@ pub line_end_takes : (w u : List ℕ) → IsWhite w → (ends_line u || is_hash 
 line_end_takes w u blank h = subst (EndsLine w u) (sym (line_cut-append w u blank)) (line_end_takes_at w u blank h)
 
 -- its parts again
-one_feed : (b : ℕ) → (is_feed b || (is_return b && false)) ≡ true → is_feed b ≡ true
+pub one_feed : (b : ℕ) → (is_feed b || (is_return b && false)) ≡ true → is_feed b ≡ true
 one_feed b h = ⊎_elim {0, 0, 0} (λ e. e) (λ e. absurd (false≢true (sym (and-false (is_return b)) ∙ e))) (or_cases (is_feed b) (is_return b && false) h)
 
 some_is_none : (b : ℕ) (bs : List ℕ) → (b ∷ bs) ≡ [] → ⊥

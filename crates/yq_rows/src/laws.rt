@@ -2,12 +2,13 @@
 ghost use Rattle.std.specs.Prelude.{◌≡◌, ◌≤◌, ℕ, List, [], ◌++◌, Some, length, slice_get, true, false};
 ghost use Rattle.std.specs.Str.{IsUtf8};
 ghost use Rattle.yq_scalar.specs.Characters.{is_text, text_limit};
+ghost use Rattle.yq_scalar.specs.Plain.{ends_plain};
 ghost use Rattle.yq_scalar.specs.declared.style.Place.TheVariants.{Block};
 ghost use Rattle.yq_inline.specs.Inline.{IsInline};
 ghost use Rattle.yq_inline.specs.Nodes.{Node, node_text};
 ghost use Rattle.yq_rows.specs.Alike.{Alike};
-ghost use Rattle.yq_rows.specs.Exchange.{exchange, before_content, behind_row, rows_behind, asked_behind, Fits, MayFollow, HasPieces};
-ghost use Rattle.yq_rows.specs.Grammar.{is_entry, Limit, AreRows, IsCut};
+ghost use Rattle.yq_rows.specs.Exchange.{exchange, before_content, behind_row, rows_behind, allows_first, asked_behind, Fits, MayFollow, HasPieces};
+ghost use Rattle.yq_rows.specs.Grammar.{is_entry, IsTail, Limit, AreRows, IsCut};
 ghost use Rattle.yq_rows.specs.Reading.{scan_at};
 ghost use Rattle.yq_rows.specs.Rows.{Content, Inline, content_text, Row, parent_indent, print_row, rows_text, Cut, cut_text};
 ghost use Rattle.yq_rows.specs.View.{slices, rows_of, slices_text};
@@ -72,4 +73,10 @@ pub fn node_characters()
 pub fn node_pieces()
     ensures { (t : List ℕ) (c : Cut) (i : ℕ) (r : Row) (space : List ℕ) (node : Node) (tail : List ℕ) → IsCut t c → IsUtf8 t → slice_get (rows_of c) i ≡ Some r → r.content ≡ Inline space node tail → is_entry r.mark ≡ true →
         HasPieces t (before_content i c ++ space) (node_text node []) (tail ++ behind_row i c) }
+{}
+
+/// A plain scalar ends before a tail behind a row, where the next row of the part stands at a column
+/// below that from which the scalar could go on.
+pub fn plain_ends()
+    ensures { (t : List ℕ) (c : Cut) (i : ℕ) (r : Row) (tail : List ℕ) (column : ℕ) → IsCut t c → slice_get (rows_of c) i ≡ Some r → IsTail tail (behind_row i c) → allows_first (record { column = Some column }) (rows_behind i c) ≡ true → ends_plain false (Some column) (tail ++ behind_row i c) ≡ true }
 {}
