@@ -31,5 +31,6 @@ pub mod InlineLending
 pub mod BlockLending
 pub mod RowLending
 pub mod PartLending
+pub mod RestLending
 pub mod Failing
 pub mod PlainEnds

@@ -11,7 +11,7 @@ use Rattle.yq_rows.specs.Grammar.{begins_document}
 use Rattle.yq_rows.specs.Lending.{PartLent, behind_rows, rows_lent, shown_read, behind_parts, parts_lent}
 use Rattle.yq_rows.specs.Reading.{tail_at, marker_at, part_at, all_parts}
 use Rattle.yq_rows.specs.Rows.{Part, Cut, last, marked}
-use Rattle.yq_rows.specs.View.{Slices, slices, Bound, rows_of, bounds_from, view, views, bound_view, bound_views}
+use Rattle.yq_rows.specs.View.{Slices, slices, Bound, Shown, rows_of, bounds_from, view, views, bound_view, bound_views}
 use Rattle.yq_rows.specs.declared.row.Row as declared
 use Rattle.yq_rows.specs.declared.scanning.Bound as ends
 use Rattle.yq_rows.proofs.PartsLaws.{parts_refused, parts_last, parts_no_marker, parts_marked, part_marker, part_le, parts_smaller}
@@ -119,6 +119,15 @@ all_shown None = refl
 
 pub bounds_push : (bounds items : List ends.Bound) (b : ends.Bound) → items ≡ bounds ++ b ∷ [] → bound_views items ≡ bound_views bounds ++ bound_view b ∷ []
 bounds_push bounds items b e = ap bound_views e ∙ map-append bound_view bounds (b ∷ [])
+
+pub parts_end : (rows found : List Slices) (bounds items : List ends.Bound) (started : Bool) (t after : List ℕ) (b : ends.Bound) (all : Option Shown) → rows_lent rows (part_at started t) ≡ Some (found, b.end.now, after) → is_empty after ≡ true → b.rows ≡ length found → b.marker.now ≡ [] →
+    items ≡ bounds ++ b ∷ [] → parts_lent rows (bound_views bounds) (all_parts started t) ≡ all → all ≡ Some (record { rows = found; bounds = bound_views items })
+parts_end rows found bounds items started t after b all h none count unmarked pushed so_far =
+    let b_is : record { rows = b.rows; end = b.end.now; marker = [] } ≡ bound_view b = ap (λ (m : List ℕ). record { rows = b.rows; end = b.end.now; marker = m }) (sym unmarked) in
+    let bounds_here : bound_views bounds ++ record { rows = b.rows; end = b.end.now; marker = [] } ∷ [] ≡ bound_views items = ap (λ (x : Bound). bound_views bounds ++ x ∷ []) b_is ∙ sym (bounds_push bounds items b pushed) in
+    sym so_far
+    ∙ (parts_done rows (bound_views bounds) started t found b.end.now after b.rows h none count
+    ∙ ap (λ (l : List Bound). Some (record { rows = found; bounds = l })) bounds_here)
 
 pub views_length : (rows : List declared.Row) → length rows ≡ length (views rows)
 views_length rows = sym (length-map rows view)

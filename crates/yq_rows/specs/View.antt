@@ -106,6 +106,16 @@ bounds_from n (marked p marker c) = record { rows = n + length p.rows; end = p.e
 abbrev pub bounds_of : Cut → List Bound
 bounds_of c = bounds_from 0 c
 
+-- those bounds before which i rows stand (own)
+abbrev pub bounds_at : ℕ → List Bound → List Bound
+bounds_at i [] = []
+bounds_at i (b ∷ bs) = if i == b.rows then b ∷ bounds_at i bs else bounds_at i bs
+
+-- the texts of the ends and markers of bounds (own)
+abbrev pub bounds_text : List Bound → List ℕ
+bounds_text [] = []
+bounds_text (b ∷ bs) = (b.end ++ b.marker) ++ bounds_text bs
+
 -- the texts of the ends and markers of those bounds before which i rows stand (own)
 abbrev pub rest_from : ℕ → List Bound → List ℕ
 rest_from i [] = []

@@ -1,12 +1,13 @@
 //! A text cut into rows and markers.
 ghost use Rattle.std.specs.Prelude.{◌≡◌, ◌<◌, ◌≤◌, ◌^◌, length, true, IfOk, Some, slice_get};
+ghost use Rattle.std.specs.List.Sorted.{IsNonDecreasingBy};
 ghost use Rattle.yq_scalar.specs.Answers.{Gives};
 ghost use Rattle.yq_rows.specs.Grammar.{IsCut};
 ghost use Rattle.yq_rows.specs.Grammar as grammar;
 ghost use Rattle.yq_rows.specs.Lending.{shown_read};
 ghost use Rattle.yq_rows.specs.Reading as spec;
 ghost use Rattle.yq_rows.specs.Rows.{Cut};
-ghost use Rattle.yq_rows.specs.View.{bound_view, bound_views, shown, view, views, Shown};
+ghost use Rattle.yq_rows.specs.View.{bound_view, bound_views, bounds_at, bounds_text, rest_from, shown, view, views, Shown};
 
 use crate::fault::text_fault;
 use crate::reading::{read_marker, read_part};
@@ -38,6 +39,8 @@ impl<'t> Model for Rows<'t> {
     ghost Value = { Shown };
 
     ghost view = { λ r. record { rows = views r.rows.items; bounds = bound_views r.bounds.items } };
+
+    ghost invariant = { λ r. IsNonDecreasingBy (λ b. b.rows) r.bounds.items };
 }
 
 impl<'t> Rows<'t> {
@@ -69,6 +72,19 @@ impl<'t> Rows<'t> {
         ensures { slice_get self.now.bounds i ≡ Some (bound_view result) }
     {
         self.bounds[i]
+    }
+
+    /// The ends of the parts directly before row `i`'s gap, in order; for `i` = `len`, those at the
+    /// end. Before a row that isn't the first of its part there are none.
+    pub fn rest(&self, i: usize) -> &[Bound<'t>]
+        ensures bounds { bound_views result.now ≡ bounds_at i self.now.bounds }
+        ensures text { bounds_text (bound_views result.now) ≡ rest_from i self.now.bounds }
+    {
+        let bounds = self.bounds.as_slice();
+        let from = bounds.partition_point(|b| b.rows < i);
+        let ahead = &bounds[from..];
+        let count = ahead.partition_point(|b| b.rows <= i);
+        &ahead[..count]
     }
 }
 

@@ -183,3 +183,36 @@ fn ends_of_parts(rt: HostRuntime) -> Result<(), Fail> {
     }
     Ok(())
 }
+
+#[test]
+fn ends_before_rows(rt: HostRuntime) -> Result<(), Fail> {
+    for (text, want) in [
+        ("", ["", "", ""]),
+        ("# hi", ["# hi", "", ""]),
+        ("a: 1\n\n", ["", "\n", ""]),
+        ("# c\na:\n\n- b\n# d\n", ["", "", "# d\n"]),
+        ("# c\n---\n\na: 1\nb: 1\n", ["# c\n---\n", "", ""]),
+        (
+            "a: 1\n# c\n--- # d\n\nb: 1\n\n",
+            ["", "# c\n--- # d\n", "\n"],
+        ),
+        (
+            "---\n---\na: 1\n...\n# e\n---\nb: 1\n...",
+            ["---\n---\n", "...\n# e\n---\n", "..."],
+        ),
+    ] {
+        let alloc = rt.alloc();
+        let rows = scan(alloc, text)?;
+        for i in 0..=rows.len() {
+            let mut seen = String::new(alloc);
+            for part in rows.rest(i) {
+                seen.push_str(part.end)?;
+                seen.push_str(part.marker)?;
+            }
+            if i < 3 {
+                assert_eq!(rt; seen.as_str(), want[i], "before row {i} of {text:?}");
+            }
+        }
+    }
+    Ok(())
+}

@@ -1,21 +1,26 @@
-use Rattle.std.proofs.Common.{◌≡◌, true, false, length, List, Some, rules, arith, sym, ap, ◌∙◌}
+use Rattle.std.proofs.Common.{◌≡◌, true, false, length, rules, arith, refl, sym, ap, ◌∙◌}
 use Rattle.yq_scalar.specs.Text.{is_empty}
 use Rattle.yq_rows.specs.Grammar.{begins_document}
-use Rattle.yq_rows.specs.View.{Bound, views, bound_views}
+use Rattle.yq_rows.specs.View.{views, bound_views}
 use Rattle.yq_rows.proofs.Failing.{fails_by}
-use Rattle.yq_rows.proofs.PartLending.{empty_by, bounds_push, views_length, part_is_marker, part_smaller, parts_none, parts_unmarked, parts_done, parts_more}
+use Rattle.yq_rows.proofs.PartLending.{empty_by, bounds_push, views_length, part_is_marker, part_smaller, parts_none, parts_unmarked, parts_end, parts_more}
+use Rattle.yq_rows.proofs.RestLending.{read_rises}
 use Rattle.yq_rows.proofs.scanning.cut.Goals as goal
 
 pub returns-in-Err : goal.returns-in-Err
 returns-in-Err c = fails_by c.in-Err.e _ _ c.in-Err.ensures (λ none. sym c.parts.invariant.so_far ∙ parts_none (views c.parts.rows.items) (bound_views c.parts.bounds.items) c.parts.is_open c.parts.rest.now none)
 
+pub invariant_of-result : goal.invariant_of-result
+invariant_of-result c =
+    let none : is_empty c.in-Ok.part.2.now ≡ true = empty_by c.in-Ok.part.2.now _ true c.is_empty.ensures c.if-is_empty.true in
+    let count : c.len-count.result ≡ length (views c.in-Ok.part.0.items) = c.len-count.ensures ∙ (c.in-Ok.part.0.ok.0 ∙ views_length c.in-Ok.part.0.items) in
+    read_rises _ (views c.in-Ok.part.0.items) _ (parts_end _ (views c.in-Ok.part.0.items) _ _ _ _ _ _ _ c.in-Ok.ensures none count refl c.in_ok-push.ensures.items c.parts.invariant.so_far)
+
 pub returns-then-is_empty : goal.returns-then-is_empty
 returns-then-is_empty c =
     let none : is_empty c.in-Ok.part.2.now ≡ true = empty_by c.in-Ok.part.2.now _ true c.is_empty.ensures c.if-is_empty.true in
     let count : c.len-count.result ≡ length (views c.in-Ok.part.0.items) = c.len-count.ensures ∙ (c.in-Ok.part.0.ok.0 ∙ views_length c.in-Ok.part.0.items) in
-    sym c.parts.invariant.so_far
-    ∙ (parts_done (views c.parts.rows.items) (bound_views c.parts.bounds.items) c.parts.is_open c.parts.rest.now (views c.in-Ok.part.0.items) c.in-Ok.part.1.now c.in-Ok.part.2.now c.len-count.result c.in-Ok.ensures none count
-    ∙ ap (λ (l : List Bound). Some (record { rows = views c.in-Ok.part.0.items; bounds = l })) (sym (bounds_push c.parts.bounds.items c.push.new.self.items _ c.in_ok-push.ensures.items)))
+    parts_end _ (views c.in-Ok.part.0.items) _ _ _ _ _ _ _ c.in-Ok.ensures none count refl c.in_ok-push.ensures.items c.parts.invariant.so_far
 
 pub read_marker-requires : goal.read_marker-requires
 read_marker-requires c =
