@@ -1,6 +1,7 @@
 -- What the words of a command line ask for, by what clap finds in them (own).
 use Rattle.std.specs.Prelude.{◌≡◌, ◌≢◌, ◌⊎◌, ◌&&◌, ◌^◌, ℕ, Bool, true, false, not, List, [], ◌∷◌, ◌++◌, length, codes, nat_lt, if◌then◌else◌, Option, Some, None, is_some, option_and_then}
 use Rattle.std.specs.List.{list_any}
+use Rattle.std.specs.Option.{option_map_or}
 use Rattle.std.specs.Str.{bytes_eq, all_ascii_digits}
 use Rattle.std.specs.Str.Parse.{digits_value}
 use Rattle.std.specs.String.{string_bytes}
@@ -74,10 +75,14 @@ IsAsked found (Squash n file journal) = Follows (codes "squash") (λ rows.
     × HasNames rows (string_bytes file) (string_bytes journal)) found
 IsAsked found Help = Unit {0}
 
--- the names may stand: the file's isn't `-`, and the journal's is another
+-- the file's name isn't `-`, and the journal's is another
+abbrev pub name_fits : Option Text → Text → Bool
+name_fits journal file = not (bytes_eq file (codes "-")) && not (bytes_eq (journal_name journal file) file)
+
+-- the names are there, and may stand
 abbrev pub names_fit : Option Text → Option Text → Bool
 names_fit None journal = false
-names_fit (Some file) journal = not (bytes_eq file (codes "-")) && not (bytes_eq (journal_name journal file) file)
+names_fit (Some file) journal = name_fits journal file
 
 -- what a command has besides its names
 abbrev pub words_fit : Text → List Row → Bool
@@ -86,20 +91,31 @@ words_fit name rows =
     else if bytes_eq name (codes "squash") then is_some (option_and_then count_in (first_of (codes "n") rows))
     else list_any (λ x. bytes_eq name x) (codes "undo" ∷ codes "redo" ∷ codes "history" ∷ [])
 
--- the program's own checks of what clap finds
+-- the texts that a command needs are there, and may stand
 abbrev pub passes : Text → List Row → Bool
 passes name rows = names_fit (first_of (codes "file") rows) (first_of (codes "journal") rows) && words_fit name rows
 
--- memory ran out, or a check of the program failed
+-- memory ran out, or a text that the command needs is missing or may not stand
 abbrev pub IsMissed : Text → List Row → Fault → Type 0
 IsMissed name rows fault = (fault ≡ OutOfMemory) ⊎ ((fault ≡ Usage) × (passes name rows ≡ false))
 
--- the checks of what clap finds in the words, where it finds a command
+-- clap finds a command, whose texts are there and may stand
 abbrev pub finds : Option (Text × List Row) → Bool
 finds None = false
 finds (Some found) = passes found.0 found.1
 
--- memory ran out, or the words don't fit the command line or the program's checks
-abbrev pub IsRefused : List Text → Fault → Type 0
-IsRefused full fault =
+-- memory ran out, or clap doesn't take the words, or finds no such command in them
+abbrev pub IsUnread : List Text → Fault → Type 0
+IsUnread full fault =
     (fault ≡ OutOfMemory) ⊎ ((fault ≡ Usage) × (takes yq full ≡ true → finds (subcommand_of yq full) ≡ false))
+
+-- the program's own checks of the texts that clap finds: FILE isn't `-`, the journal has another name, and N is a number of 64 bits
+abbrev pub checks : List Row → Bool
+checks rows =
+    option_map_or (name_fits (first_of (codes "journal") rows)) (first_of (codes "file") rows) true
+    && option_map_or (λ text. is_some (count_in text)) (first_of (codes "n") rows) true
+
+-- memory ran out, or clap doesn't take the words, or they fail the program's own checks
+abbrev pub IsRefused : List Text → Fault → Type 0
+IsRefused full fault = (fault ≡ OutOfMemory) ⊎ ((fault ≡ Usage)
+    × (takes yq full ≡ true → option_map_or (λ found. checks found.1) (subcommand_of yq full) true ≡ false))

@@ -62,7 +62,7 @@ fn without_matches(kind: ErrorKind) -> Result<Command, Fault>
 fn command_by(alloc: Global, full: &[&str]) -> Result<Command, Fault>
     ensures asked { IfOk result (spec.IsAsked (subcommand_of yq (map (λ w. w.now) full.now))) }
     ensures help { takes yq (map (λ w. w.now) full.now) ≡ true → result ≢ Ok Help }
-    ensures err { IfErr result (spec.IsRefused (map (λ w. w.now) full.now)) }
+    ensures err { IfErr result (spec.IsUnread (map (λ w. w.now) full.now)) }
 {
     match matched(alloc, full) {
         Err(e) => without_matches(e.kind()),
@@ -78,6 +78,7 @@ fn command_by(alloc: Global, full: &[&str]) -> Result<Command, Fault>
 /// A first word that names no command is read as if `eval` stood before it. A call for help is
 /// `Help`. The words are refused with `Usage` where `clap` refuses them, where FILE is `-`, where
 /// the journal has FILE's name, and where N isn't a number of 64 bits.
+#[tactic(auto, using(crate::proofs::WordsFound::refused_by_checks))]
 pub fn command_of(alloc: Global, words: &[&str]) -> Result<Command, Fault>
     ensures asked { IfOk result (spec.IsAsked (subcommand_of yq (spec.full_words (map (λ w. w.now) words.now)))) }
     ensures help { takes yq (spec.full_words (map (λ w. w.now) words.now)) ≡ true → result ≢ Ok Help }
