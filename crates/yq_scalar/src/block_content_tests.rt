@@ -85,20 +85,33 @@ fn written_text(alloc: Global, content: &str, indent: usize, br: Break) -> Resul
 fn written(rt: HostRuntime) -> Result<(), Fail> {
     let alloc = rt.alloc();
     let rows = [
-        ("echo b\n", 4, Break::Lf, "|\n    echo b\n"),
-        ("echo b\n", 4, Break::CrLf, "|\n    echo b\r\n"),
-        ("x", 1, Break::Lf, "|-\n x\n"),
-        ("a\n\n b", 2, Break::Lf, "|-\n  a\n\n   b\n"),
-        ("a\n\n b\n", 2, Break::CrLf, "|\n  a\r\n\r\n   b\r\n"),
-        (
-            "\u{e9}: \t# |\n- y",
-            3,
-            Break::Lf,
-            "|-\n   \u{e9}: \t# |\n   - y\n",
-        ),
+        ("echo b\n", 4, "|\n    echo b\n"),
+        ("x", 1, "|-\n x\n"),
+        ("a\n\n b", 2, "|-\n  a\n\n   b\n"),
+        ("\u{e9}: \t# |\n- y", 3, "|-\n   \u{e9}: \t# |\n   - y\n"),
     ];
-    for (content, indent, br, text) in rows {
-        let got = written_text(alloc, content, indent, br)?;
+    for (content, indent, text) in rows {
+        let got = written_text(alloc, content, indent, Break::Lf)?;
+        assert_eq!(rt; got.as_str(), text, "what is written");
+        assert_eq!(rt;
+            content_of(alloc, text, 0)?.as_str(),
+            content,
+            "of {text:?}"
+        );
+    }
+    Ok(())
+}
+
+#[test]
+fn written_with_cr_lf(rt: HostRuntime) -> Result<(), Fail> {
+    let alloc = rt.alloc();
+    let rows = [
+        ("echo b\n", 4, "|\n    echo b\r\n"),
+        ("z\nw\n", 2, "|\n  z\r\n  w\r\n"),
+        ("a\n\n b\n", 2, "|\n  a\r\n\r\n   b\r\n"),
+    ];
+    for (content, indent, text) in rows {
+        let got = written_text(alloc, content, indent, Break::CrLf)?;
         assert_eq!(rt; got.as_str(), text, "what is written");
         assert_eq!(rt;
             content_of(alloc, text, 0)?.as_str(),

@@ -11,32 +11,35 @@ use std::alloc::Global;
 use std::string::String;
 use std::test::Fail;
 
-const FLOW_COLLECTION_INDICATORS: &str =
+pub const FLOW_COLLECTION_INDICATORS: &str =
     "sequence: [ one, two, ]\nmapping: { sky: blue, sea: green }";
 
-const BLOCK_SCALAR_INDICATORS: &str = "literal: |\n  some\n  text\nfolded: >\n  some\n  text\n";
+pub const BLOCK_SCALAR_INDICATORS: &str = "literal: |\n  some\n  text\nfolded: >\n  some\n  text\n";
 
-const QUOTED_SCALAR_INDICATORS: &str = "single: 'text'\ndouble: \"text\"";
+pub const QUOTED_SCALAR_INDICATORS: &str = "single: 'text'\ndouble: \"text\"";
 
 const ESCAPED_CHARACTERS: &str =
     "\"Fun with \\\\\n\\\" \\a \\b \\e \\f \\\n\\n \\r \\t \\v \\0 \\\n\\  \\_ \\N \\L \\P \\\n\\x41 \\u0041 \\U00000041\"";
 
-const INDENTATION_SPACES: &str =
+pub const INDENTATION_SPACES: &str =
     "  # Leading comment line spaces are\n   # neither content nor indentation.\n    \nNot indented:\n By one space: |\n    By four\n      spaces\n Flow style: [    # Leading spaces\n   By two,        # in flow style\n  Also by two,    # are neither\n  \tStill by two   # content nor\n    ]             # indentation.";
 
-const LINE_PREFIXES: &str =
+pub const LINE_PREFIXES: &str =
     "plain: text\n  lines\nquoted: \"text\n  \tlines\"\nblock: |\n  text\n   \tlines\n";
 
-const EMPTY_LINES: &str =
+pub const EMPTY_LINES: &str =
     "Folding:\n  \"Empty line\n   \t\n  as a line feed\"\nChomping: |\n  Clipped empty lines\n ";
 
 const FLOW_FOLDING: &str = "\"\n  foo \n \n  \t bar\n\n  baz\n\"";
 
-const SEPARATED_COMMENT: &str = "key:    # Comment\n  value";
+pub const SEPARATED_COMMENT: &str = "key:    # Comment\n  value";
 
-const MULTI_LINE_COMMENTS: &str = "key:    # Comment\n        # lines\n  value\n\n";
+pub const MULTI_LINE_COMMENTS: &str = "key:    # Comment\n        # lines\n  value\n\n";
 
-const NODE_ANCHORS: &str = "First occurrence: &anchor Value\nSecond occurrence: *anchor";
+pub const NODE_ANCHORS: &str = "First occurrence: &anchor Value\nSecond occurrence: *anchor";
+
+pub const ALIAS_NODES: &str =
+    "First occurrence: &anchor Foo\nSecond occurrence: *anchor\nOverride anchor: &anchor Bar\nReuse anchor: *anchor";
 
 const DOUBLE_QUOTED_LINE_BREAKS: &str =
     "\"folded \nto a space,\t\n \nto a line feed, or \t\\\n \\ \tnon-content\"";
@@ -59,22 +62,23 @@ const FLOW_CONTENT: &str = "- [ a, b ]\n- { a: b }\n- \"a\"\n- 'b'\n- c";
 const BLOCK_SCALAR_HEADER: &str =
     "- | # Empty header\n literal\n- >1 # Indentation indicator\n  folded\n- |+ # Chomping indicator\n keep\n\n- >1- # Both indicators\n  strip\n";
 
-const CHOMPING_FINAL_LINE_BREAK: &str = "strip: |-\n  text\nclip: |\n  text\nkeep: |+\n  text\n";
+pub const CHOMPING_FINAL_LINE_BREAK: &str =
+    "strip: |-\n  text\nclip: |\n  text\nkeep: |+\n  text\n";
 
-const CHOMPING_TRAILING_LINES: &str =
+pub const CHOMPING_TRAILING_LINES: &str =
     " # Strip\n  # Comments:\nstrip: |-\n  # text\n  \n # Clip\n  # comments:\n\nclip: |\n  # text\n \n # Keep\n  # comments:\n\nkeep: |+\n  # text\n\n # Trail\n  # Comments\n";
 
-const EMPTY_SCALAR_CHOMPING: &str = "strip: >-\n\nclip: >\n\nkeep: |+\n\n";
+pub const EMPTY_SCALAR_CHOMPING: &str = "strip: >-\n\nclip: >\n\nkeep: |+\n\n";
 
-const BLOCK_SEQUENCE: &str = "block sequence:\n  - one\n  - two : three\n";
+pub const BLOCK_SEQUENCE: &str = "block sequence:\n  - one\n  - two : three\n";
 
-const BLOCK_SEQUENCE_ENTRY_TYPES: &str =
+pub const BLOCK_SEQUENCE_ENTRY_TYPES: &str =
     "- # Empty\n- |\n block node\n- - one # Compact\n  - two # sequence\n- one: two # Compact mapping\n";
 
-const BLOCK_MAPPINGS: &str = "block mapping:\n key: value\n";
+pub const BLOCK_MAPPINGS: &str = "block mapping:\n key: value\n";
 
 /// What the scalar at an offset stands for, below a parent of this indentation.
-fn content_at(
+pub fn content_at(
     alloc: Global,
     text: &str,
     at: usize,
@@ -125,6 +129,8 @@ fn values_in_block(rt: HostRuntime) -> Result<(), Fail> {
         (SEPARATED_COMMENT, 20, 0, "value"),
         (MULTI_LINE_COMMENTS, 36, 0, "value"),
         (NODE_ANCHORS, 26, 0, "Value"),
+        (ALIAS_NODES, 26, 0, "Foo"),
+        (ALIAS_NODES, 82, 0, "Bar"),
         (
             DOUBLE_QUOTED_LINE_BREAKS,
             0,
@@ -226,24 +232,6 @@ fn scalars_in_flow(rt: HostRuntime) -> Result<(), Fail> {
     ];
     for (text, at, expected) in rows {
         let got = content_at(alloc, text, at, Place::Flow, 0)?;
-        assert_eq!(rt; got.as_str(), expected, "at {at} of {text:?}");
-    }
-    Ok(())
-}
-
-#[test]
-fn keys(rt: HostRuntime) -> Result<(), Fail> {
-    let alloc = rt.alloc();
-    // the same of keys in block mappings
-    let rows = [
-        (FLOW_COLLECTION_INDICATORS, 0usize, "sequence"),
-        (INDENTATION_SPACES, 79, "Not indented"),
-        (NODE_ANCHORS, 0, "First occurrence"),
-        (BLOCK_SEQUENCE, 0, "block sequence"),
-        (BLOCK_SEQUENCE, 28, "two"),
-    ];
-    for (text, at, expected) in rows {
-        let got = content_at(alloc, text, at, Place::BlockKey, 0)?;
         assert_eq!(rt; got.as_str(), expected, "at {at} of {text:?}");
     }
     Ok(())

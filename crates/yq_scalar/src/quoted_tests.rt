@@ -84,6 +84,7 @@ fn quoted_contents(rt: HostRuntime) -> Result<(), Fail> {
         ("\"a\\\n\n  b\"", "a\nb"),
         ("\"a\n\\\nb\"", "a b"),
         ("\"a\\t\n\\ b\"", "a\t  b"),
+        ("\"a\\\tb\"", "a\tb"),
         ("'\n'", " "),
     ];
     for (text, content) in contents {
@@ -153,6 +154,7 @@ fn written_double(rt: HostRuntime) -> Result<(), Fail> {
             "\"\\uFEFF\\x01\\x7F\\x9F\\uFFFE\"",
         ),
         ("\t\u{85}\u{1b}\u{1}", "\"\\t\\N\\e\\x01\""),
+        ("x\n\n", "\"x\\n\\n\""),
         ("it's / \u{a0}\u{1f600}", "\"it's / \u{a0}\u{1f600}\""),
     ];
     for (text, piece) in strings {
