@@ -8,6 +8,7 @@ mod records;
 use crate::read::edits::leads;
 use crate::{Journal, JournalError, JournalFault, Record};
 use std::alloc::Global;
+use std::process::Abort;
 use std::test::Fail;
 use yq_splice::Splice;
 
@@ -53,4 +54,25 @@ fn refused<T: Drop>(answer: Result<T, JournalError>) -> Option<JournalError> {
         Ok(_) => None,
         Err(error) => Some(error),
     }
+}
+
+/// The bytes are those of this text.
+fn is_text(rt: &impl Abort, bytes: &[u8], text: &str) {
+    assert_eq!(rt; bytes, text.as_bytes(), "for {text:?}");
+}
+
+/// What was refused is this, or nothing was.
+fn is_refused(
+    rt: &impl Abort,
+    found: Option<JournalError>,
+    wanted: Option<JournalError>,
+    of: &str,
+) {
+    assert_eq!(rt; found, wanted, "of {of:?}");
+}
+
+/// The journal has this cursor and this many records.
+fn stands_at(rt: &impl Abort, journal: &Journal, at: usize, len: usize) {
+    assert_eq!(rt; journal.at(), at);
+    assert_eq!(rt; journal.len(), len);
 }

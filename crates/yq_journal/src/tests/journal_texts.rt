@@ -1,8 +1,9 @@
 //! The text of a journal, in both versions, and texts that are none.
 
-use super::{add, digit, edited};
+use super::{add, digit, edited, is_refused, is_text, refused, stands_at};
 use crate::{Journal, JournalError, JournalFault};
 use std::alloc::Global;
+use std::process::Abort;
 use std::test::Fail;
 
 /// After one edit of a text of 28 bytes.
@@ -60,13 +61,19 @@ fn writes_version_2(rt: HostRuntime) -> Result<(), Fail> {
         edited(alloc, ".port = 9090", &[(23, "8080", "9090")], 28, 28)?,
     )?;
     let text = journal.to_json(alloc)?;
-    assert_eq!(rt; text.as_slice(), PORT_COUNTED.as_bytes());
+    is_text(&rt, &text, PORT_COUNTED);
+    Ok(())
+}
+
+#[test]
+fn writes_counts(rt: HostRuntime) -> Result<(), Fail> {
+    let alloc = rt.alloc();
     let mut journal = Journal::new(alloc);
     add(&mut journal, digit(alloc, ".n = 2", "1", "2")?)?;
     add(&mut journal, digit(alloc, ".n = 3", "2", "3")?)?;
     journal.squash(2)?;
     let text = journal.to_json(alloc)?;
-    assert_eq!(rt; text.as_slice(), JOINED.as_bytes());
+    is_text(&rt, &text, JOINED);
     Ok(())
 }
 
@@ -83,21 +90,60 @@ fn reads_both_versions(rt: HostRuntime) -> Result<(), Fail> {
     ] {
         let journal = Journal::from_json(alloc, text.as_bytes())?;
         let again = journal.to_json(alloc)?;
-        assert_eq!(rt; again.as_slice(), written.as_bytes(), "of {text}");
+        is_text(&rt, &again, written);
     }
+    Ok(())
+}
+
+#[test]
+fn undoes_what_was_read(rt: HostRuntime) -> Result<(), Fail> {
+    let alloc = rt.alloc();
     let mut journal = Journal::from_json(alloc, PORT.as_bytes())?;
     let text = journal.undo(b"name: web # main\nport: 9090\n")?;
-    assert_eq!(rt;
-        text.as_slice(),
-        b"name: web # main\nport: 8080\n".as_slice()
+    is_text(&rt, &text, "name: web # main\nport: 8080\n");
+    Ok(())
+}
+
+/// With an open move, a journal takes no other text and no other command.
+fn takes_nothing(
+    rt: &impl Abort,
+    alloc: Global,
+    journal: &mut Journal,
+    beside: &str,
+) -> Result<(), Fail> {
+    let unsettled = Some(JournalError::Fault(JournalFault::Unsettled));
+    for other in ["n: 7\n", ""] {
+        is_refused(
+            rt,
+            refused(journal.settle(other.as_bytes())),
+            unsettled,
+            other,
+        );
+    }
+    is_refused(
+        rt,
+        refused(journal.undo(beside.as_bytes())),
+        unsettled,
+        "undo",
     );
+    is_refused(
+        rt,
+        refused(journal.redo(beside.as_bytes())),
+        unsettled,
+        "redo",
+    );
+    is_refused(rt, refused(journal.squash(1)), unsettled, "squash");
+    let Err((back, error)) = journal.push(digit(alloc, "back", "1", "2")?) else {
+        return Err(Fail::from(JournalFault::Unsettled));
+    };
+    is_text(rt, back.expr.as_bytes(), "back");
+    is_refused(rt, Some(error), unsettled, "push");
     Ok(())
 }
 
 #[test]
 fn settles_open_moves(rt: HostRuntime) -> Result<(), Fail> {
     let alloc = rt.alloc();
-    let unsettled = Some(JournalError::Fault(JournalFault::Unsettled));
     for (open, beside, at, len) in [
         (OPEN, "n: 1\n", 0, 0),
         (OPEN, "n: 2\n", 1, 1),
@@ -105,33 +151,9 @@ fn settles_open_moves(rt: HostRuntime) -> Result<(), Fail> {
         (OPEN_UNDO, "n: 1\n", 0, 1),
     ] {
         let mut journal = Journal::from_json(alloc, open.as_bytes())?;
-        for other in ["n: 7\n", ""] {
-            let Err(error) = journal.settle(other.as_bytes()) else {
-                return Err(Fail::from(JournalFault::Unsettled));
-            };
-            assert_eq!(rt; Some(error), unsettled);
-        }
-        for refused in [
-            journal.undo(beside.as_bytes()),
-            journal.redo(beside.as_bytes()),
-        ] {
-            let Err(error) = refused else {
-                return Err(Fail::from(JournalFault::Unsettled));
-            };
-            assert_eq!(rt; Some(error), unsettled);
-        }
-        let Err((back, error)) = journal.push(digit(alloc, "back", "1", "2")?) else {
-            return Err(Fail::from(JournalFault::Unsettled));
-        };
-        assert_eq!(rt; back.expr.as_str(), "back");
-        assert_eq!(rt; Some(error), unsettled);
-        let Err(error) = journal.squash(1) else {
-            return Err(Fail::from(JournalFault::Unsettled));
-        };
-        assert_eq!(rt; Some(error), unsettled);
+        takes_nothing(&rt, alloc, &mut journal, beside)?;
         journal.settle(beside.as_bytes())?;
-        assert_eq!(rt; journal.at(), at);
-        assert_eq!(rt; journal.len(), len);
+        stands_at(&rt, &journal, at, len);
         journal.settle(b"any")?;
     }
     Ok(())
@@ -177,13 +199,19 @@ fn texts_that_are_none(rt: HostRuntime) -> Result<(), Fail> {
         (OPEN_UNDO, "bjogMgo=", "bjogMwo="),
     ] {
         let changed = changed(alloc, text, from, to)?;
-        assert_eq!(rt; fault(alloc, changed.as_bytes()), bad, "with {to}");
+        is_refused(&rt, fault(alloc, changed.as_bytes()), bad, to);
     }
-    for text in ["", "{}", "null", "[]", "{\"at\":0}"] {
-        assert_eq!(rt; fault(alloc, text.as_bytes()), bad, "of {text}");
-    }
-    assert_eq!(rt; fault(alloc, &[b'"', 0xff, b'"']), bad);
     Ok(())
+}
+
+#[test]
+fn short_texts_that_are_none(rt: HostRuntime) {
+    let alloc = rt.alloc();
+    let bad = Some(JournalError::Fault(JournalFault::BadJournal));
+    for text in ["", "{}", "null", "[]", "{\"at\":0}"] {
+        is_refused(&rt, fault(alloc, text.as_bytes()), bad, text);
+    }
+    is_refused(&rt, fault(alloc, &[b'"', 0xff, b'"']), bad, "no text");
 }
 
 #[test]
@@ -197,14 +225,19 @@ fn texts_that_are_read(rt: HostRuntime) -> Result<(), Fail> {
         (PORT, r#""expr":".port = 9090""#, r#""expr":"""#),
     ] {
         let changed = changed(alloc, text, from, to)?;
-        assert_eq!(rt; fault(alloc, changed.as_bytes()), None, "with {to}");
+        is_refused(&rt, fault(alloc, changed.as_bytes()), None, to);
     }
+    Ok(())
+}
+
+#[test]
+fn other_bytes_do_not_stand(rt: HostRuntime) -> Result<(), Fail> {
+    let alloc = rt.alloc();
     let other = changed(alloc, PORT, "OTA5MA==", "OTA5MQ==")?;
     let mut journal = Journal::from_json(alloc, other.as_bytes())?;
-    let Err(error) = journal.undo(b"name: web # main\nport: 9090\n") else {
-        return Err(Fail::from(JournalFault::DoesNotStand));
-    };
-    assert_eq!(rt; error, JournalError::Fault(JournalFault::DoesNotStand));
+    let fault = Some(JournalError::Fault(JournalFault::DoesNotStand));
+    let answer = journal.undo(b"name: web # main\nport: 9090\n");
+    is_refused(&rt, refused(answer), fault, "undo");
     Ok(())
 }
 
@@ -220,7 +253,7 @@ fn faults_have_lines(rt: HostRuntime) -> Result<(), Fail> {
         (JournalFault::JournalFull, "J6 journal full"),
         (JournalFault::BadCount, "J7 bad count"),
     ] {
-        assert_eq!(rt; format!(in alloc; "{fault}")?.as_str(), line);
+        is_text(&rt, format!(in alloc; "{fault}")?.as_bytes(), line);
     }
     Ok(())
 }

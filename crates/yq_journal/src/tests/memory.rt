@@ -5,14 +5,16 @@ ghost use Rattle.std.specs.Prelude.{◌≢◌, Some};
 ghost use Rattle.yq_journal.specs.State.{moved_text};
 
 use super::journal_texts::{PORT, PORT_COUNTED};
-use super::{digit, edited};
+use super::{digit, edited, is_refused, is_text, stands_at};
 use crate::{Journal, JournalError, JournalFault, Move, redo_record};
 use std::alloc::{AllocError, Global};
 use std::test::Fail;
 
-const FIRST: &[u8] = b"name: web # main\nport: 8080\n";
+const FIRST: &str = "name: web # main\nport: 8080\n";
 
-const EDITED: &[u8] = b"name: web # main\nport: 9090\n";
+const EDITED: &str = "name: web # main\nport: 9090\n";
+
+const MEMORY: Option<JournalError> = Some(JournalError::Memory);
 
 /// Blocks that hold all of the process's memory, the largest first.
 fn all_memory(alloc: Global) -> Result<Vec<Vec<u8>>, AllocError> {
@@ -33,43 +35,53 @@ fn all_memory(alloc: Global) -> Result<Vec<Vec<u8>>, AllocError> {
 }
 
 #[test]
-fn undo_and_redo(rt: HostRuntime) -> Result<(), Fail> {
+fn undo(rt: HostRuntime) -> Result<(), Fail> {
     let alloc = rt.alloc();
     let mut journal = Journal::from_json(alloc, PORT.as_bytes())?;
     let mut held = all_memory(alloc)?;
     let mut refused = 0u32;
     'undo: for _ in 0..4096u32 {
-        match journal.undo(EDITED) {
+        match journal.undo(EDITED.as_bytes()) {
             Ok(text) => {
-                assert_eq!(rt; text.as_slice(), FIRST);
+                is_text(&rt, &text, FIRST);
                 break 'undo;
             }
             Err(error) => {
-                assert_eq!(rt; error, JournalError::Memory);
-                assert_eq!(rt; journal.at(), 1);
+                is_refused(&rt, Some(error), MEMORY, "undo");
+                stands_at(&rt, &journal, 1, 1);
                 refused = refused.saturating_add(1);
                 let _ = held.pop();
             }
         }
     }
-    assert_eq!(rt; journal.at(), 0);
+    stands_at(&rt, &journal, 0, 1);
     assert!(rt; refused > 0);
-    drop(held);
+    Ok(())
+}
+
+#[test]
+fn redo(rt: HostRuntime) -> Result<(), Fail> {
+    let alloc = rt.alloc();
+    let mut journal = Journal::from_json(alloc, PORT.as_bytes())?;
+    let _ = journal.undo(EDITED.as_bytes())?;
     let mut held = all_memory(alloc)?;
+    let mut refused = 0u32;
     'redo: for _ in 0..4096u32 {
-        match journal.redo(FIRST) {
+        match journal.redo(FIRST.as_bytes()) {
             Ok(text) => {
-                assert_eq!(rt; text.as_slice(), EDITED);
+                is_text(&rt, &text, EDITED);
                 break 'redo;
             }
             Err(error) => {
-                assert_eq!(rt; error, JournalError::Memory);
-                assert_eq!(rt; journal.at(), 0);
+                is_refused(&rt, Some(error), MEMORY, "redo");
+                stands_at(&rt, &journal, 0, 1);
+                refused = refused.saturating_add(1);
                 let _ = held.pop();
             }
         }
     }
-    assert_eq!(rt; journal.at(), 1);
+    stands_at(&rt, &journal, 1, 1);
+    assert!(rt; refused > 0);
     Ok(())
 }
 
@@ -84,16 +96,16 @@ fn push(rt: HostRuntime) -> Result<(), Fail> {
         match journal.push(added) {
             Ok(()) => break 'push,
             Err((back, error)) => {
-                assert_eq!(rt; error, JournalError::Memory);
-                assert_eq!(rt; back.expr.as_str(), ".n = 2");
-                assert_eq!(rt; journal.len(), 0);
+                is_refused(&rt, Some(error), MEMORY, "push");
+                is_text(&rt, back.expr.as_bytes(), ".n = 2");
+                stands_at(&rt, &journal, 0, 0);
                 added = back;
                 refused = refused.saturating_add(1);
                 let _ = held.pop();
             }
         }
     }
-    assert_eq!(rt; journal.at(), 1);
+    stands_at(&rt, &journal, 1, 1);
     assert!(rt; refused > 0);
     Ok(())
 }
@@ -107,7 +119,7 @@ fn to_json(rt: HostRuntime) -> Result<(), Fail> {
     for _ in 0..4096u32 {
         match journal.to_json(alloc) {
             Ok(text) => {
-                assert_eq!(rt; text.as_slice(), PORT_COUNTED.as_bytes());
+                is_text(&rt, &text, PORT_COUNTED);
                 assert!(rt; refused > 0);
                 return Ok(());
             }
@@ -128,12 +140,12 @@ fn from_json(rt: HostRuntime) -> Result<(), Fail> {
     for _ in 0..4096u32 {
         match Journal::from_json(alloc, PORT.as_bytes()) {
             Ok(journal) => {
-                assert_eq!(rt; journal.at(), 1);
+                stands_at(&rt, &journal, 1, 1);
                 assert!(rt; refused > 0);
                 return Ok(());
             }
             Err(error) => {
-                assert_eq!(rt; error, JournalError::Memory);
+                is_refused(&rt, Some(error), MEMORY, "a text");
                 refused = refused.saturating_add(1);
                 let _ = held.pop();
             }
@@ -185,7 +197,7 @@ fn start_and_settle(rt: HostRuntime) -> Result<(), Fail> {
         match journal.settle(&made) {
             Ok(()) => break 'settle,
             Err(error) => {
-                assert_eq!(rt; error, JournalError::Memory);
+                is_refused(&rt, Some(error), MEMORY, "settle");
                 refused = refused.saturating_add(1);
                 let _ = held.pop();
             }
@@ -193,7 +205,7 @@ fn start_and_settle(rt: HostRuntime) -> Result<(), Fail> {
     }
     assert!(rt; refused > 0);
     journal.settle(b"any")?;
-    assert_eq!(rt; journal.at(), 1);
+    stands_at(&rt, &journal, 1, 1);
     Ok(())
 }
 
@@ -211,14 +223,14 @@ fn squash(rt: HostRuntime) -> Result<(), Fail> {
         match journal.squash(2) {
             Ok(()) => break 'squash,
             Err(error) => {
-                assert_eq!(rt; error, JournalError::Memory);
-                assert_eq!(rt; journal.len(), 2);
+                is_refused(&rt, Some(error), MEMORY, "squash");
+                stands_at(&rt, &journal, 2, 2);
                 refused = refused.saturating_add(1);
                 let _ = held.pop();
             }
         }
     }
     assert!(rt; refused > 0);
-    assert_eq!(rt; journal.len(), 1);
+    stands_at(&rt, &journal, 1, 1);
     Ok(())
 }

@@ -1,9 +1,10 @@
 //! Lists of moves.
 
 use super::journal_texts::OPEN_COUNTED;
-use super::{add, digit, edited, refused};
+use super::{add, digit, edited, is_refused, is_text, refused, stands_at};
 use crate::{Journal, JournalError, JournalFault, Move, Record, redo_record};
 use std::alloc::Global;
+use std::process::Abort;
 use std::test::Fail;
 
 /// One command of a list.
@@ -64,16 +65,16 @@ fn list_of_commands(rt: HostRuntime) -> Result<(), Fail> {
             2,
         ),
     ] {
+        let fault = fault.map(JournalError::Fault);
         match run(alloc, &mut journal, &text, &command)? {
             Ok(made) => {
-                assert_eq!(rt; None, fault, "before {want}");
+                is_refused(&rt, None, fault, want);
                 text = made;
             }
-            Err(error) => assert_eq!(rt; Some(error), fault.map(JournalError::Fault), "at {want}"),
+            Err(error) => is_refused(&rt, Some(error), fault, want),
         }
-        assert_eq!(rt; text.as_slice(), want.as_bytes());
-        assert_eq!(rt; journal.at(), at);
-        assert_eq!(rt; journal.len(), len);
+        is_text(&rt, &text, want);
+        stands_at(&rt, &journal, at, len);
     }
     Ok(())
 }
@@ -105,16 +106,45 @@ fn opens_an_edit(rt: HostRuntime) -> Result<(), Fail> {
         digit(alloc, ".n = 2", "1", "2")?,
         b"n: 1\n",
     )?;
-    assert_eq!(rt; refused, None);
+    is_refused(&rt, refused, None, "the first");
     let text = journal.to_json(alloc)?;
-    assert_eq!(rt; text.as_slice(), OPEN_COUNTED.as_bytes());
+    is_text(&rt, &text, OPEN_COUNTED);
     let refused = open_edit(
         alloc,
         &mut journal,
         digit(alloc, ".n = 3", "1", "3")?,
         b"n: 1\n",
     )?;
-    assert_eq!(rt; refused, Some(JournalError::Fault(JournalFault::Unsettled)));
+    let unsettled = Some(JournalError::Fault(JournalFault::Unsettled));
+    is_refused(&rt, refused, unsettled, "the second");
+    Ok(())
+}
+
+/// One record is taken back.
+fn undone(rt: &impl Abort, journal: &mut Journal, from: &str, to: &str) -> Result<(), Fail> {
+    let text = journal.undo(from.as_bytes())?;
+    is_text(rt, &text, to);
+    Ok(())
+}
+
+/// One record is done again.
+fn redone(rt: &impl Abort, journal: &mut Journal, from: &str, to: &str) -> Result<(), Fail> {
+    let text = journal.redo(from.as_bytes())?;
+    is_text(rt, &text, to);
+    Ok(())
+}
+
+#[test]
+fn squashes_no_other_count(rt: HostRuntime) -> Result<(), Fail> {
+    let alloc = rt.alloc();
+    let mut journal = Journal::new(alloc);
+    add(&mut journal, digit(alloc, ".n = 2", "1", "2")?)?;
+    let fault = Some(JournalError::Fault(JournalFault::BadCount));
+    for count in [0, 2, u64::MAX] {
+        is_refused(&rt, refused(journal.squash(count)), fault, "one record");
+    }
+    journal.squash(1)?;
+    stands_at(&rt, &journal, 1, 1);
     Ok(())
 }
 
@@ -123,30 +153,15 @@ fn squashes(rt: HostRuntime) -> Result<(), Fail> {
     let alloc = rt.alloc();
     let mut journal = Journal::new(alloc);
     add(&mut journal, digit(alloc, ".n = 2", "1", "2")?)?;
-    let fault = Some(JournalError::Fault(JournalFault::BadCount));
-    for count in [0, 2, u64::MAX] {
-        assert_eq!(rt;
-            refused(journal.squash(count)),
-            fault,
-            "of one record, {count}"
-        );
-    }
-    journal.squash(1)?;
     add(&mut journal, digit(alloc, ".n = 3", "2", "3")?)?;
     add(&mut journal, digit(alloc, ".n = 4", "3", "4")?)?;
-    let three = journal.undo(b"n: 4\n")?;
-    assert_eq!(rt; three.as_slice(), b"n: 3\n".as_slice());
+    undone(&rt, &mut journal, "n: 4\n", "n: 3\n")?;
     journal.squash(2)?;
-    assert_eq!(rt; journal.at(), 1);
-    assert_eq!(rt; journal.len(), 2);
-    let four = journal.redo(&three)?;
-    assert_eq!(rt; four.as_slice(), b"n: 4\n".as_slice());
-    let three = journal.undo(&four)?;
-    let one = journal.undo(&three)?;
-    assert_eq!(rt; one.as_slice(), b"n: 1\n".as_slice());
-    let three = journal.redo(&one)?;
-    assert_eq!(rt; three.as_slice(), b"n: 3\n".as_slice());
-    Ok(())
+    stands_at(&rt, &journal, 1, 2);
+    redone(&rt, &mut journal, "n: 3\n", "n: 4\n")?;
+    undone(&rt, &mut journal, "n: 4\n", "n: 3\n")?;
+    undone(&rt, &mut journal, "n: 3\n", "n: 1\n")?;
+    redone(&rt, &mut journal, "n: 1\n", "n: 3\n")
 }
 
 #[test]
@@ -156,26 +171,40 @@ fn squashes_what_meets(rt: HostRuntime) -> Result<(), Fail> {
     add(&mut journal, edited(alloc, "", &[], 5, 5)?)?;
     add(&mut journal, edited(alloc, "", &[], 6, 6)?)?;
     let fault = Some(JournalError::Fault(JournalFault::BadCount));
-    assert_eq!(rt; refused(journal.squash(2)), fault);
-    assert_eq!(rt; journal.len(), 2);
+    is_refused(&rt, refused(journal.squash(2)), fault, "what does not meet");
+    stands_at(&rt, &journal, 2, 2);
     Ok(())
+}
+
+/// A journal with as many records as one may have.
+fn full(alloc: Global) -> Result<Journal, Fail> {
+    let mut journal = Journal::new(alloc);
+    for _ in 0..4096u32 {
+        add(&mut journal, edited(alloc, "e", &[], 0, 0)?)?;
+    }
+    Ok(journal)
 }
 
 #[test]
 fn full_journals_take_no_edit(rt: HostRuntime) -> Result<(), Fail> {
     let alloc = rt.alloc();
-    let mut journal = Journal::new(alloc);
-    for _ in 0..4096u32 {
-        add(&mut journal, edited(alloc, "e", &[], 0, 0)?)?;
-    }
+    let mut journal = full(alloc)?;
     let Err((back, error)) = journal.push(edited(alloc, "last", &[], 0, 0)?) else {
         return Err(Fail::from(JournalFault::JournalFull));
     };
-    assert_eq!(rt; error, JournalError::Fault(JournalFault::JournalFull));
-    assert_eq!(rt; back.expr.as_str(), "last");
-    assert_eq!(rt; journal.len(), 4096);
+    let fault = Some(JournalError::Fault(JournalFault::JournalFull));
+    is_refused(&rt, Some(error), fault, "push");
+    is_text(&rt, back.expr.as_bytes(), "last");
+    stands_at(&rt, &journal, 4096, 4096);
+    Ok(())
+}
+
+#[test]
+fn full_journals_are_read(rt: HostRuntime) -> Result<(), Fail> {
+    let alloc = rt.alloc();
+    let journal = full(alloc)?;
     let text = journal.to_json(alloc)?;
     let read = Journal::from_json(alloc, &text)?;
-    assert_eq!(rt; read.at(), 4096);
+    stands_at(&rt, &read, 4096, 4096);
     Ok(())
 }

@@ -1,94 +1,102 @@
 //! Records done and undone.
 
-use super::{edited, refused};
+use super::{edited, is_refused, is_text, refused};
 use crate::{
     JournalError, JournalFault, Record, redo_record, stands_after, stands_before, undo_record,
 };
+use std::alloc::Global;
+use std::process::Abort;
 use std::test::Fail;
 
 const FIRST: &str = "name: web # main\nport: 8080\n";
 
 const EDITED: &str = "name: web # main\nport: 9090\n";
 
+const DOES_NOT_STAND: Option<JournalError> = Some(JournalError::Fault(JournalFault::DoesNotStand));
+
+/// The record leads from a text to another one and back.
+fn goes(
+    rt: &impl Abort,
+    alloc: Global,
+    record: &Record,
+    before: &str,
+    after: &str,
+) -> Result<(), Fail> {
+    let done = redo_record(alloc, record, before.as_bytes())?;
+    is_text(rt, &done, after);
+    let undone = undo_record(alloc, record, after.as_bytes())?;
+    is_text(rt, &undone, before);
+    assert!(rt;
+        stands_before(record, before.as_bytes()),
+        "before, on {before}"
+    );
+    assert!(rt; stands_after(record, after.as_bytes()), "after, on {after}");
+    Ok(())
+}
+
+/// The record is not taken back from these texts.
+fn is_not_undone(rt: &impl Abort, alloc: Global, record: &Record, texts: &[&str]) {
+    for text in texts {
+        let answer = undo_record(alloc, record, text.as_bytes());
+        is_refused(rt, refused(answer), DOES_NOT_STAND, text);
+        assert!(rt; !stands_after(record, text.as_bytes()), "after, on {text}");
+    }
+}
+
+/// The record is not done on these texts.
+fn is_not_done(rt: &impl Abort, alloc: Global, record: &Record, texts: &[&str]) {
+    for text in texts {
+        let answer = redo_record(alloc, record, text.as_bytes());
+        is_refused(rt, refused(answer), DOES_NOT_STAND, text);
+        assert!(rt;
+            !stands_before(record, text.as_bytes()),
+            "before, on {text}"
+        );
+    }
+}
+
 #[test]
-fn records_go_both_ways(rt: HostRuntime) -> Result<(), Fail> {
+fn one_splice(rt: HostRuntime) -> Result<(), Fail> {
     let alloc = rt.alloc();
     let port = edited(alloc, ".port = 9090", &[(23, "8080", "9090")], 28, 28)?;
-    let two = edited(
+    goes(&rt, alloc, &port, FIRST, EDITED)?;
+    goes(
+        &rt,
         alloc,
-        ".a = 10 | .b = 3",
-        &[(3, "1", "10"), (9, "2", "3")],
-        10,
-        11,
+        &port,
+        "name: api # main\nport: 8080\n",
+        "name: api # main\nport: 9090\n",
     )?;
-    let grown = edited(
-        alloc,
-        ".x = {\"b\": 1}",
-        &[(2, " 5", ""), (6, "", "\n  b: 1")],
-        8,
-        13,
-    )?;
-    let back = edited(
-        alloc,
-        "",
-        &[(4, "e", "EE"), (0, "ab", ""), (1, "dE", "x"), (0, "", "<")],
-        6,
-        5,
-    )?;
-    for (record, before, after) in [
-        (&port, FIRST, EDITED),
-        (
-            &port,
-            "name: api # main\nport: 8080\n",
-            "name: api # main\nport: 9090\n",
-        ),
-        (&two, "a: 1\nb: 2\n", "a: 10\nb: 3\n"),
-        (&two, "x: 1\ny: 2\n", "x: 10\ny: 3\n"),
-        (&grown, "x: 5 # n", "x: # n\n  b: 1"),
-        (&back, "abcdef", "<cxEf"),
-    ] {
-        let done = redo_record(alloc, record, before.as_bytes())?;
-        assert_eq!(rt; done.as_slice(), after.as_bytes(), "done on {before}");
-        let undone = undo_record(alloc, record, after.as_bytes())?;
-        assert_eq!(rt; undone.as_slice(), before.as_bytes(), "undone on {after}");
-        assert!(rt;
-            stands_before(record, before.as_bytes()),
-            "before, on {before}"
-        );
-        assert!(rt; stands_after(record, after.as_bytes()), "after, on {after}");
-    }
-    let fault = Some(JournalError::Fault(JournalFault::DoesNotStand));
-    for (record, after) in [
-        (&port, "name: web # main\nport: 9091\n"),
-        (&two, "a: 10\nb: 4\n"),
-        (&two, "a: 10\nb: 3\n\n"),
-        (&two, "a: 10\nb: 3"),
-        (&port, ""),
-    ] {
-        assert_eq!(rt;
-            refused(undo_record(alloc, record, after.as_bytes())),
-            fault,
-            "undone on {after}"
-        );
-        assert!(rt;
-            !stands_after(record, after.as_bytes()),
-            "after, on {after}"
-        );
-    }
-    for (record, before) in [
-        (&port, EDITED),
-        (&two, "a: 1\nb: 3\n"),
-        (&two, "a: 1\nb: 2\n\n"),
-    ] {
-        assert_eq!(rt;
-            refused(redo_record(alloc, record, before.as_bytes())),
-            fault,
-            "done on {before}"
-        );
-        assert!(rt;
-            !stands_before(record, before.as_bytes()),
-            "before, on {before}"
-        );
-    }
+    is_not_undone(&rt, alloc, &port, &["name: web # main\nport: 9091\n", ""]);
+    is_not_done(&rt, alloc, &port, &[EDITED]);
     Ok(())
+}
+
+#[test]
+fn two_splices(rt: HostRuntime) -> Result<(), Fail> {
+    let alloc = rt.alloc();
+    let splices = [(3, "1", "10"), (9, "2", "3")];
+    let two = edited(alloc, ".a = 10 | .b = 3", &splices, 10, 11)?;
+    goes(&rt, alloc, &two, "a: 1\nb: 2\n", "a: 10\nb: 3\n")?;
+    goes(&rt, alloc, &two, "x: 1\ny: 2\n", "x: 10\ny: 3\n")?;
+    let others = ["a: 10\nb: 4\n", "a: 10\nb: 3\n\n", "a: 10\nb: 3"];
+    is_not_undone(&rt, alloc, &two, &others);
+    is_not_done(&rt, alloc, &two, &["a: 1\nb: 3\n", "a: 1\nb: 2\n\n"]);
+    Ok(())
+}
+
+#[test]
+fn splices_of_other_lengths(rt: HostRuntime) -> Result<(), Fail> {
+    let alloc = rt.alloc();
+    let splices = [(2, " 5", ""), (6, "", "\n  b: 1")];
+    let grown = edited(alloc, ".x = {\"b\": 1}", &splices, 8, 13)?;
+    goes(&rt, alloc, &grown, "x: 5 # n", "x: # n\n  b: 1")
+}
+
+#[test]
+fn splices_one_before_the_other(rt: HostRuntime) -> Result<(), Fail> {
+    let alloc = rt.alloc();
+    let splices = [(4, "e", "EE"), (0, "ab", ""), (1, "dE", "x"), (0, "", "<")];
+    let back = edited(alloc, "", &splices, 6, 5)?;
+    goes(&rt, alloc, &back, "abcdef", "<cxEf")
 }
