@@ -6,6 +6,7 @@ use crate::block_repair::repair;
 use crate::block_written::{Break, write_block};
 use crate::piece_content::content;
 use std::alloc::Global;
+use std::process::Abort;
 use std::string::String;
 use std::test::Fail;
 
@@ -15,9 +16,18 @@ fn content_of(alloc: Global, text: &str, parent: i64) -> Result<String, Fail> {
     Ok(content(alloc, text, &piece)?)
 }
 
+/// Each block scalar in front of a text stands for a content: the text, the parent's indentation,
+/// and the content.
+fn stand_for(rt: &impl Abort, alloc: Global, rows: &[(&str, i64, &str)]) -> Result<(), Fail> {
+    for (text, parent, content) in rows {
+        let got = content_of(alloc, text, *parent)?;
+        assert_eq!(rt; got.as_str(), *content, "at {text:?}");
+    }
+    Ok(())
+}
+
 #[test]
 fn block_contents(rt: HostRuntime) -> Result<(), Fail> {
-    let alloc = rt.alloc();
     let contents = [
         (">\n  a\n  b\n\n  c\n   d\n  e\n", 0, "a b\nc\n d\ne\n"),
         ("|2-\n   x\n\n", 0, " x"),
@@ -34,19 +44,11 @@ fn block_contents(rt: HostRuntime) -> Result<(), Fail> {
         (">\n  a\n  \tb\n  c\n", 0, "a\n\tb\nc\n"),
         ("|\n  \u{e9}\n   \u{1f600}\n", 0, "\u{e9}\n \u{1f600}\n"),
     ];
-    for (text, parent, content) in contents {
-        assert_eq!(rt;
-            content_of(alloc, text, parent)?.as_str(),
-            content,
-            "at {text:?}"
-        );
-    }
-    Ok(())
+    stand_for(&rt, rt.alloc(), &contents)
 }
 
 #[test]
 fn block_scalars_at_the_root(rt: HostRuntime) -> Result<(), Fail> {
-    let alloc = rt.alloc();
     let contents = [
         ("|\n literal\n \ttext\n\n", -1, "literal\n\ttext\n"),
         (
@@ -61,14 +63,7 @@ fn block_scalars_at_the_root(rt: HostRuntime) -> Result<(), Fail> {
             "\nfolded line\nnext line\n  * bullet\n\n  * list\n  * lines\n\nlast line\n",
         ),
     ];
-    for (text, parent, content) in contents {
-        assert_eq!(rt;
-            content_of(alloc, text, parent)?.as_str(),
-            content,
-            "at {text:?}"
-        );
-    }
-    Ok(())
+    stand_for(&rt, rt.alloc(), &contents)
 }
 
 /// What is written for a text, its header on a line of its own.
@@ -113,11 +108,7 @@ fn written_with_cr_lf(rt: HostRuntime) -> Result<(), Fail> {
     for (content, indent, text) in rows {
         let got = written_text(alloc, content, indent, Break::CrLf)?;
         assert_eq!(rt; got.as_str(), text, "what is written");
-        assert_eq!(rt;
-            content_of(alloc, text, 0)?.as_str(),
-            content,
-            "of {text:?}"
-        );
+        stand_for(&rt, alloc, &[(text, 0, content)])?;
     }
     Ok(())
 }

@@ -8,6 +8,7 @@ use crate::plain_piece::read_plain;
 use crate::quoted_piece::read_quoted;
 use crate::style::Place;
 use std::alloc::Global;
+use std::process::Abort;
 use std::string::String;
 use std::test::Fail;
 
@@ -104,9 +105,23 @@ pub fn content_at(
     }
 }
 
+/// Each scalar stands for the content in its row: the text, where the scalar begins, its parent's
+/// indentation, and its content.
+fn stand_for(
+    rt: &impl Abort,
+    alloc: Global,
+    place: Place,
+    rows: &[(&str, usize, i64, &str)],
+) -> Result<(), Fail> {
+    for (text, at, parent, expected) in rows {
+        let got = content_at(alloc, text, *at, place, *parent)?;
+        assert_eq!(rt; got.as_str(), *expected, "at {at} of {text:?}");
+    }
+    Ok(())
+}
+
 #[test]
 fn values_in_block(rt: HostRuntime) -> Result<(), Fail> {
-    let alloc = rt.alloc();
     // chapters 5 to 7: the text, where the scalar begins, its parent's indentation, and its content
     let rows = [
         (BLOCK_SCALAR_INDICATORS, 9usize, 0i64, "some\ntext\n"),
@@ -154,16 +169,11 @@ fn values_in_block(rt: HostRuntime) -> Result<(), Fail> {
         (FLOW_CONTENT, 30, 0, "b"),
         (FLOW_CONTENT, 36, 0, "c"),
     ];
-    for (text, at, parent, expected) in rows {
-        let got = content_at(alloc, text, at, Place::Block, parent)?;
-        assert_eq!(rt; got.as_str(), expected, "at {at} of {text:?}");
-    }
-    Ok(())
+    stand_for(&rt, rt.alloc(), Place::Block, &rows)
 }
 
 #[test]
 fn block_styles(rt: HostRuntime) -> Result<(), Fail> {
-    let alloc = rt.alloc();
     // chapter 8, with the same columns
     let rows = [
         (BLOCK_SCALAR_HEADER, 2usize, 0i64, "literal\n"),
@@ -187,52 +197,43 @@ fn block_styles(rt: HostRuntime) -> Result<(), Fail> {
         (BLOCK_SEQUENCE_ENTRY_TYPES, 70, 0, "two"),
         (BLOCK_MAPPINGS, 21, 1, "value"),
     ];
-    for (text, at, parent, expected) in rows {
-        let got = content_at(alloc, text, at, Place::Block, parent)?;
-        assert_eq!(rt; got.as_str(), expected, "at {at} of {text:?}");
-    }
-    Ok(())
+    stand_for(&rt, rt.alloc(), Place::Block, &rows)
 }
 
 #[test]
 fn scalars_in_flow(rt: HostRuntime) -> Result<(), Fail> {
-    let alloc = rt.alloc();
-    // the text, where the scalar begins, and its content
+    // with the same columns
     let rows = [
-        (FLOW_COLLECTION_INDICATORS, 12usize, "one"),
-        (FLOW_COLLECTION_INDICATORS, 17, "two"),
-        (FLOW_COLLECTION_INDICATORS, 35, "sky"),
-        (FLOW_COLLECTION_INDICATORS, 40, "blue"),
-        (FLOW_COLLECTION_INDICATORS, 46, "sea"),
-        (FLOW_COLLECTION_INDICATORS, 51, "green"),
-        (INDENTATION_SPACES, 173, "By two"),
-        (INDENTATION_SPACES, 206, "Also by two"),
-        (INDENTATION_SPACES, 239, "Still by two"),
-        (FLOW_SEQUENCE, 4, "one"),
-        (FLOW_SEQUENCE, 9, "two"),
-        (FLOW_SEQUENCE, 19, "three"),
-        (FLOW_SEQUENCE, 26, "four"),
-        (FLOW_MAPPINGS, 4, "one"),
-        (FLOW_MAPPINGS, 10, "two"),
-        (FLOW_MAPPINGS, 16, "three"),
-        (FLOW_MAPPINGS, 23, "four"),
-        (FLOW_MAPPINGS, 35, "five"),
-        (FLOW_MAPPINGS, 41, "six"),
-        (FLOW_MAPPINGS, 45, "seven"),
-        (FLOW_MAPPINGS, 53, "eight"),
-        (FLOW_MAPPING_ADJACENT_VALUES, 2, "adjacent"),
-        (FLOW_MAPPING_ADJACENT_VALUES, 13, "value"),
-        (FLOW_MAPPING_ADJACENT_VALUES, 20, "readable"),
-        (FLOW_MAPPING_ADJACENT_VALUES, 31, "value"),
-        (FLOW_MAPPING_ADJACENT_VALUES, 38, "empty"),
-        (FLOW_CONTENT, 4, "a"),
-        (FLOW_CONTENT, 7, "b"),
-        (FLOW_CONTENT, 15, "a"),
-        (FLOW_CONTENT, 18, "b"),
+        (FLOW_COLLECTION_INDICATORS, 12usize, 0i64, "one"),
+        (FLOW_COLLECTION_INDICATORS, 17, 0, "two"),
+        (FLOW_COLLECTION_INDICATORS, 35, 0, "sky"),
+        (FLOW_COLLECTION_INDICATORS, 40, 0, "blue"),
+        (FLOW_COLLECTION_INDICATORS, 46, 0, "sea"),
+        (FLOW_COLLECTION_INDICATORS, 51, 0, "green"),
+        (INDENTATION_SPACES, 173, 0, "By two"),
+        (INDENTATION_SPACES, 206, 0, "Also by two"),
+        (INDENTATION_SPACES, 239, 0, "Still by two"),
+        (FLOW_SEQUENCE, 4, 0, "one"),
+        (FLOW_SEQUENCE, 9, 0, "two"),
+        (FLOW_SEQUENCE, 19, 0, "three"),
+        (FLOW_SEQUENCE, 26, 0, "four"),
+        (FLOW_MAPPINGS, 4, 0, "one"),
+        (FLOW_MAPPINGS, 10, 0, "two"),
+        (FLOW_MAPPINGS, 16, 0, "three"),
+        (FLOW_MAPPINGS, 23, 0, "four"),
+        (FLOW_MAPPINGS, 35, 0, "five"),
+        (FLOW_MAPPINGS, 41, 0, "six"),
+        (FLOW_MAPPINGS, 45, 0, "seven"),
+        (FLOW_MAPPINGS, 53, 0, "eight"),
+        (FLOW_MAPPING_ADJACENT_VALUES, 2, 0, "adjacent"),
+        (FLOW_MAPPING_ADJACENT_VALUES, 13, 0, "value"),
+        (FLOW_MAPPING_ADJACENT_VALUES, 20, 0, "readable"),
+        (FLOW_MAPPING_ADJACENT_VALUES, 31, 0, "value"),
+        (FLOW_MAPPING_ADJACENT_VALUES, 38, 0, "empty"),
+        (FLOW_CONTENT, 4, 0, "a"),
+        (FLOW_CONTENT, 7, 0, "b"),
+        (FLOW_CONTENT, 15, 0, "a"),
+        (FLOW_CONTENT, 18, 0, "b"),
     ];
-    for (text, at, expected) in rows {
-        let got = content_at(alloc, text, at, Place::Flow, 0)?;
-        assert_eq!(rt; got.as_str(), expected, "at {at} of {text:?}");
-    }
-    Ok(())
+    stand_for(&rt, rt.alloc(), Place::Flow, &rows)
 }

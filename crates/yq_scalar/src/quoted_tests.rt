@@ -9,6 +9,8 @@ use crate::scalar::Scalar;
 use crate::style::{Place, Style};
 use crate::writable::can_write;
 use crate::write::write_scalar;
+use std::alloc::Global;
+use std::process::Abort;
 use std::test::Fail;
 
 #[test]
@@ -54,6 +56,14 @@ fn cuts(rt: HostRuntime) {
     }
 }
 
+/// The quoted scalar in front of a text stands for a content.
+fn stands_for(rt: &impl Abort, alloc: Global, text: &str, content: &str) -> Result<(), Fail> {
+    let (piece, _) = split_quoted(text)?;
+    let got = quoted_content(alloc, piece)?;
+    assert_eq!(rt; got.as_str(), content, "at {text:?}");
+    Ok(())
+}
+
 #[test]
 fn quoted_contents(rt: HostRuntime) -> Result<(), Fail> {
     let alloc = rt.alloc();
@@ -88,11 +98,7 @@ fn quoted_contents(rt: HostRuntime) -> Result<(), Fail> {
         ("'\n'", " "),
     ];
     for (text, content) in contents {
-        let Ok((piece, _)) = split_quoted(text) else {
-            panic!(rt; "at {text:?}");
-        };
-        let got = quoted_content(alloc, piece)?;
-        assert_eq!(rt; got.as_str(), content, "at {text:?}");
+        stands_for(&rt, alloc, text, content)?;
     }
     Ok(())
 }
@@ -164,12 +170,14 @@ fn written_double(rt: HostRuntime) -> Result<(), Fail> {
         }
         let written = write_scalar(alloc, &scalar, Style::Double, Place::BlockKey)?;
         assert_eq!(rt; written.as_str(), piece, "at {text:?}");
-        let Ok((read, _)) = split_quoted(written.as_str()) else {
-            panic!(rt; "at {text:?}");
-        };
-        let content = quoted_content(alloc, read)?;
-        assert_eq!(rt; content.as_str(), text, "at {text:?}");
+        stands_for(&rt, alloc, piece, text)?;
     }
+    Ok(())
+}
+
+#[test]
+fn null_is_written(rt: HostRuntime) -> Result<(), Fail> {
+    let alloc = rt.alloc();
     let null = Scalar::null(alloc)?;
     if can_write(&null, Style::Plain, Place::Block) {
         let written = write_scalar(alloc, &null, Style::Plain, Place::Block)?;

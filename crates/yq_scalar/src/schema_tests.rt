@@ -4,46 +4,56 @@ use crate::integer::int_value;
 use crate::kind::Kind;
 use crate::scalar::Scalar;
 use crate::schema::resolve;
+use std::process::Abort;
 use std::test::Fail;
 
-#[test]
-fn rows_of_words(rt: HostRuntime) {
-    for text in ["", "null", "Null", "NULL", "~"] {
-        assert_eq!(rt; resolve(text), Kind::Null, "at {text:?}");
-    }
-    for text in ["true", "True", "TRUE", "false", "False", "FALSE"] {
-        assert_eq!(rt; resolve(text), Kind::Bool, "at {text:?}");
-    }
-    for text in [
-        "nUll", "nul", "nulls", "~~", "tRUE", "truee", "tru", "yes", "no", "on", "off",
-    ] {
-        assert_eq!(rt; resolve(text), Kind::Text, "at {text:?}");
+/// Each text resolves to a scalar of this kind.
+fn resolve_to(rt: &impl Abort, texts: &[&str], kind: Kind) {
+    for text in texts {
+        assert_eq!(rt; resolve(text), kind, "at {text:?}");
     }
 }
 
 #[test]
+fn rows_of_words(rt: HostRuntime) {
+    resolve_to(&rt, &["", "null", "Null", "NULL", "~"], Kind::Null);
+    resolve_to(
+        &rt,
+        &["true", "True", "TRUE", "false", "False", "FALSE"],
+        Kind::Bool,
+    );
+    resolve_to(
+        &rt,
+        &[
+            "nUll", "nul", "nulls", "~~", "tRUE", "truee", "tru", "yes", "no", "on", "off",
+        ],
+        Kind::Text,
+    );
+}
+
+#[test]
 fn rows_of_ints(rt: HostRuntime) {
-    for text in [
-        "0",
-        "-0",
-        "+0",
-        "007",
-        "-19",
-        "+12",
-        "0o7",
-        "0o17",
-        "0x3A",
-        "0xdeadBEEF",
-    ] {
-        assert_eq!(rt; resolve(text), Kind::Int, "at {text:?}");
-    }
+    resolve_to(
+        &rt,
+        &[
+            "0",
+            "-0",
+            "+0",
+            "007",
+            "-19",
+            "+12",
+            "0o7",
+            "0o17",
+            "0x3A",
+            "0xdeadBEEF",
+        ],
+        Kind::Int,
+    );
     let misses = [
         "+", "-", "+-1", "0o", "0x", "0o8", "0xg", "+0x1", "-0o7", "0O7", "0X1", "0b1", "1_000",
         "1 ", "0x 1",
     ];
-    for text in misses {
-        assert_eq!(rt; resolve(text), Kind::Text, "at {text:?}");
-    }
+    resolve_to(&rt, &misses, Kind::Text);
 }
 
 #[test]
@@ -52,16 +62,12 @@ fn rows_of_floats(rt: HostRuntime) {
         "0.", "-0.0", ".5", "+12e03", "-2E+05", "1.", "-.5", "1e3", "1.e3", ".5e-1", "01.5",
         ".inf", "-.Inf", "+.INF", ".nan", ".NaN", ".NAN",
     ];
-    for text in floats {
-        assert_eq!(rt; resolve(text), Kind::Float, "at {text:?}");
-    }
+    resolve_to(&rt, &floats, Kind::Float);
     let misses = [
         ".", "+.", "1e", "1e+", "e3", ".e3", "..5", "1.5.", "1.5e", "1e1.5", "+.nan", "-.NaN",
         ".iNF", ".nAN", "inf", "0x1.5", "0o7e1",
     ];
-    for text in misses {
-        assert_eq!(rt; resolve(text), Kind::Text, "at {text:?}");
-    }
+    resolve_to(&rt, &misses, Kind::Text);
 }
 
 #[test]
@@ -121,15 +127,33 @@ fn scalars(rt: HostRuntime) -> Result<(), Fail> {
         assert_eq!(rt; scalar.kind(), kind, "at {text:?}");
         assert_eq!(rt; scalar.text(), kept, "at {text:?}");
     }
+    Ok(())
+}
+
+#[test]
+fn strings(rt: HostRuntime) -> Result<(), Fail> {
+    let alloc = rt.alloc();
     let text = Scalar::string(String::from_str(alloc, "null")?);
-    let null = Scalar::null(alloc)?;
     assert_eq!(rt; text.kind(), Kind::Text);
-    assert_eq!(rt; null.kind(), Kind::Null);
-    assert!(rt; !text.same(&null));
-    assert!(rt; text.same(&text.copy(alloc)?));
-    assert!(rt; null.same(&Scalar::plain(alloc, "NULL")?));
-    assert!(rt; !Scalar::plain(alloc, "1")?.same(&Scalar::plain(alloc, "01")?));
     let text = text.into_text();
     assert_eq!(rt; text.as_str(), "null");
+    Ok(())
+}
+
+#[test]
+fn nulls(rt: HostRuntime) -> Result<(), Fail> {
+    let null = Scalar::null(rt.alloc())?;
+    assert_eq!(rt; null.kind(), Kind::Null);
+    assert!(rt; null.same(&Scalar::plain(rt.alloc(), "NULL")?));
+    Ok(())
+}
+
+#[test]
+fn same_scalars(rt: HostRuntime) -> Result<(), Fail> {
+    let alloc = rt.alloc();
+    let text = Scalar::string(String::from_str(alloc, "null")?);
+    assert!(rt; !text.same(&Scalar::null(alloc)?));
+    assert!(rt; text.same(&text.copy(alloc)?));
+    assert!(rt; !Scalar::plain(alloc, "1")?.same(&Scalar::plain(alloc, "01")?));
     Ok(())
 }
