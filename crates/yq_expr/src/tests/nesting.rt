@@ -40,6 +40,13 @@ fn nests(rt: HostRuntime) -> Result<(), Fail> {
             ParseError::NotInProfile,
         );
     }
+    Ok(())
+}
+
+/// Brackets that are never closed, closed before they are opened, or none.
+#[test]
+fn nests_other_brackets(rt: HostRuntime) -> Result<(), Fail> {
+    let alloc = rt.alloc();
     let empty = nested(alloc, 64, "[", "", "]")?;
     assert!(rt; parse_expr(alloc, empty.as_str()).is_ok());
     let unclosed = nested(alloc, 100_000, "[", "", "")?;

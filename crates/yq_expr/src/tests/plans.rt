@@ -10,7 +10,7 @@ use std::process::Abort;
 use std::test::Fail;
 use yq_inline::Value;
 use yq_scalar::Kind;
-use yq_tree::{Path, Step, read};
+use yq_tree::{Documents, Path, Step, read};
 
 const TEXT: &[u8] = b"a: 1\nb: # c\n  d: x y\n  e: ~ # f\ng:\n";
 
@@ -38,6 +38,23 @@ fn op_text(alloc: Global, op: &Op) -> Result<String, AllocError> {
     format!(in alloc; "{} {:?} {}", at.as_str(), scalar.kind(), scalar.text())
 }
 
+/// The update is planned as one operation, told so.
+fn is_planned(
+    rt: &impl Abort,
+    alloc: Global,
+    documents: &Documents<'_>,
+    text: &str,
+    wanted: &str,
+) -> Result<(), Fail> {
+    let program = parse_expr(alloc, text)?;
+    assert!(rt; program.updates() > 0);
+    let ops = plan(alloc, &program, 0, documents)?;
+    assert_eq!(rt; ops.len(), 1, "at {text:?}");
+    let told = op_text(alloc, &ops[0])?;
+    assert_eq!(rt; told.as_str(), wanted, "at {text:?}");
+    Ok(())
+}
+
 /// Each update is planned as the operation shown beside it.
 #[test]
 fn plans(rt: HostRuntime) -> Result<(), Fail> {
@@ -52,12 +69,7 @@ fn plans(rt: HostRuntime) -> Result<(), Fail> {
         (".[\"b\"][\"d\"] = true", "0/b/d Bool true"),
     ];
     for (text, wanted) in rows {
-        let program = parse_expr(alloc, text)?;
-        assert!(rt; program.updates() > 0);
-        let ops = plan(alloc, &program, 0, &documents)?;
-        assert_eq!(rt; ops.len(), 1, "at {text:?}");
-        let told = op_text(alloc, &ops[0])?;
-        assert_eq!(rt; told.as_str(), wanted, "at {text:?}");
+        is_planned(&rt, alloc, &documents, text, wanted)?;
     }
     Ok(())
 }

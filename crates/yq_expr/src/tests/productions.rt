@@ -1,6 +1,7 @@
 //! Each production of the grammar once, with the program that a text of it is.
 
 use super::derives;
+use std::alloc::{AllocError, Global};
 use std::test::Fail;
 
 /// Paths: a step `.name` or `."string"`, a bracket, and what may follow.
@@ -110,6 +111,18 @@ fn literals(rt: HostRuntime) -> Result<(), Fail> {
     derives(&rt, rt.alloc(), &rows, false)
 }
 
+/// The text with a word for each `%`.
+fn with_word(alloc: Global, text: &str, word: &str) -> Result<String, AllocError> {
+    let mut made = String::new(alloc);
+    for (nth, part) in text.split('%').enumerate() {
+        if nth > 0 {
+            made.push_str(word)?;
+        }
+        made.push_str(part)?;
+    }
+    Ok(made)
+}
+
 /// Words of this language and of the program's commands are names of steps like all others.
 #[test]
 fn names_of_steps(rt: HostRuntime) -> Result<(), Fail> {
@@ -137,12 +150,12 @@ fn names_of_steps(rt: HostRuntime) -> Result<(), Fail> {
         "not",
     ];
     for word in words {
-        let read = format!(in alloc; ".{word}.a[0].{word}")?;
-        let path = format!(in alloc; "read /{word}/a#0/{word}")?;
-        derives(&rt, alloc, &[(read.as_str(), path.as_str())], true)?;
-        let update = format!(in alloc; ".{word} = (.{word} | select(.{word} == null))")?;
-        let set = format!(in alloc; "/{word} = (/{word} | select(/{word} == Null null))")?;
-        derives(&rt, alloc, &[(update.as_str(), set.as_str())], false)?;
+        let read = with_word(alloc, ".%.a[0].%", word)?;
+        let path = with_word(alloc, "read /%/a#0/%", word)?;
+        derives(&rt, alloc, &[(&read, &path)], true)?;
+        let update = with_word(alloc, ".% = (.% | select(.% == null))", word)?;
+        let set = with_word(alloc, "/% = (/% | select(/% == Null null))", word)?;
+        derives(&rt, alloc, &[(&update, &set)], false)?;
     }
     Ok(())
 }

@@ -1,9 +1,18 @@
 //! Texts with the programs that they are.
 
 use super::derives;
-use super::shown::shown;
 use crate::parse::parse_expr;
+use std::alloc::Global;
+use std::process::Abort;
 use std::test::Fail;
+
+/// The text is a program of so many updates, or a read where there are none.
+fn has_updates(rt: &impl Abort, alloc: Global, text: &str, count: usize) -> Result<(), Fail> {
+    let program = parse_expr(alloc, text)?;
+    assert_eq!(rt; program.updates(), count, "at {text:?}");
+    assert_eq!(rt; program.is_read(), count == 0, "at {text:?}");
+    Ok(())
+}
 
 /// Each text is the program shown beside it.
 #[test]
@@ -83,11 +92,8 @@ fn updates(rt: HostRuntime) -> Result<(), Fail> {
         (".true = true", 1, "/true = Bool true"),
     ];
     for (text, count, wanted) in rows {
-        let program = parse_expr(alloc, text)?;
-        let written = shown(alloc, &program)?;
-        assert_eq!(rt; written.as_str(), wanted, "at {text:?}");
-        assert!(rt; !program.is_read(), "at {text:?}");
-        assert_eq!(rt; program.updates(), count, "at {text:?}");
+        derives(&rt, alloc, &[(text, wanted)], false)?;
+        has_updates(&rt, alloc, text, count)?;
     }
     Ok(())
 }
@@ -154,9 +160,7 @@ fn worked(rt: HostRuntime) -> Result<(), Fail> {
         (".a = \"x\"", 1),
     ];
     for (text, count) in rows {
-        let program = parse_expr(alloc, text)?;
-        assert_eq!(rt; program.updates(), count, "at {text:?}");
-        assert_eq!(rt; program.is_read(), count == 0, "at {text:?}");
+        has_updates(&rt, alloc, text, count)?;
     }
     Ok(())
 }
