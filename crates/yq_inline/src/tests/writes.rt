@@ -61,6 +61,15 @@ fn writes_in_flow_style(rt: HostRuntime) -> Result<(), Fail> {
 fn writes_what_was_read(rt: HostRuntime) -> Result<(), Fail> {
     let alloc = rt.alloc();
     for (text, written) in [
+        ("[]", "[]"),
+        ("{}", "{}"),
+        ("[1]", "[1]"),
+        ("[1, 2]", "[1, 2]"),
+        ("{c: 1}", "{c: 1}"),
+        (
+            "{a: 1, b: 2, c: [1, {d: null}]}",
+            "{a: 1, b: 2, c: [1, {d: null}]}",
+        ),
         ("[ one, two, ]", "[one, two]"),
         ("{five: six,seven : eight}", "{five: six, seven: eight}"),
         ("{\n\"adjacent\":value, 'b':}", "{adjacent: value, b: null}"),
