@@ -76,6 +76,7 @@ fn pieces_of_rows(rt: HostRuntime) -> Result<(), Fail> {
         ("*x\n", "·0·······*x·\n·"),
         ("a: b\n  c\n", "·0··a·:· ···b\n  c·\n·"),
         ("k: \"é\n  x\"\n", "·0··k·:· ···\"é\n  x\"·\n·"),
+        ("[ --- ]\n", "·0·······[ --- ]·\n·"),
         ("a: ---\n", "·0··a·:· ···---·\n·"),
         ("a: |\n", "·0··a·:· ···|·\n·"),
         ("a: >2- # c\n  x\n", "·0··a·:· ···>2-· # c\n·  x\n"),
@@ -145,12 +146,55 @@ fn gaps_behind_block_scalars(rt: HostRuntime) -> Result<(), Fail> {
         ("a: |+\n  x\n\n# h\n\nb: 1\n", "  x\n\n", "# h\n\n"),
         ("a: |-\n  x\n  # text\n\nb: 1\n", "  x\n  # text\n", "\n"),
         ("a: |\n\n# h\nb: 1\n", "", "\n# h\n"),
+        ("a: |+\n  text\n\nc: 2\n", "  text\n\n", ""),
+        ("a: |+\n  text\nc: 2\n", "  text\n", ""),
+        (
+            "a: |\n  text\n    # deep\nc: 2\n",
+            "  text\n    # deep\n",
+            "",
+        ),
+        ("a: |\n  text\n# deep\nc: 2\n", "  text\n", "# deep\n"),
+        ("a: |\n  x\n    \nc: 2\n", "  x\n    \n", ""),
+        ("a: |\n  x\n\nc: 2\n", "  x\n", "\n"),
     ] {
         let rows = scan(rt.alloc(), text)?;
         assert_eq!(rt; rows.len(), 2, "at {text:?}");
         if rows.len() == 2 {
             assert_eq!(rt; rows.row(0).raw(), raw, "at {text:?}");
             assert_eq!(rt; rows.row(1).gap(), gap, "at {text:?}");
+        }
+    }
+    Ok(())
+}
+
+#[test]
+fn gaps_round_a_row_behind_a_block_scalar(rt: HostRuntime) -> Result<(), Fail> {
+    for (text, raw, before, behind) in [
+        (
+            "a: |+\n  text\n# head\nb: 1\n\nc: 2\n",
+            "  text\n",
+            "# head\n",
+            "\n",
+        ),
+        (
+            "a: |\n  text\nb: 1\n    # deep\nc: 2\n",
+            "  text\n",
+            "",
+            "    # deep\n",
+        ),
+        (
+            "a: |\n  x\n# h\nb: 1\n    \nc: 2\n",
+            "  x\n",
+            "# h\n",
+            "    \n",
+        ),
+    ] {
+        let rows = scan(rt.alloc(), text)?;
+        assert_eq!(rt; rows.len(), 3, "at {text:?}");
+        if rows.len() == 3 {
+            assert_eq!(rt; rows.row(0).raw(), raw, "at {text:?}");
+            assert_eq!(rt; rows.row(1).gap(), before, "at {text:?}");
+            assert_eq!(rt; rows.row(2).gap(), behind, "at {text:?}");
         }
     }
     Ok(())
