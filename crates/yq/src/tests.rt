@@ -6,6 +6,7 @@ mod fault;
 mod old_journals;
 mod outputs;
 mod printing;
+mod refused;
 mod squash;
 mod stores;
 mod words;

@@ -10,7 +10,6 @@ use crate::words::command_of;
 use std::alloc::Global;
 use std::process::Abort;
 use std::test::Fail;
-use yq_scalar::{FaultKind, ReadFault};
 
 /// Two entries, of which the first has a comment.
 pub const WEB: &str = "name: web # main\nport: 8080\n";
@@ -163,8 +162,11 @@ fn an_undo_stands_on_a_changed_file_or_not(rt: HostRuntime) -> Result<(), Fail> 
             Answer::Done
         );
         store.replace("f", changed.as_bytes())?;
+        let journal = store.read(alloc, "f.undo.json")?;
         assert_eq!(rt; answer(alloc, &mut store, &["undo", "f"])?, want);
         assert_file(&rt, &store, "f", left);
+        let stays = store.read(alloc, "f.undo.json")? == journal;
+        assert_eq!(rt; stays, want != Answer::Done);
     }
     Ok(())
 }
@@ -201,61 +203,6 @@ fn edits_undos_and_redos_move_along_a_history(rt: HostRuntime) -> Result<(), Fai
 }
 
 #[test]
-fn faults_come_in_order(rt: HostRuntime) -> Result<(), Fail> {
-    let alloc = rt.alloc();
-    let mut store = store_of(alloc, "f", "n: 1\n")?;
-    store.replace("twice", b"a: 1\na: 2\n")?;
-    store.replace("broken", b"n: 1\n")?;
-    store.replace("broken.undo.json", b"{}")?;
-    let duplicate = ReadFault {
-        kind: FaultKind::DuplicateKey,
-        line: 2,
-    };
-    let rows: [(&[&str], Fault); 12] = [
-        (&["-i", ".a ==", "none"], Fault::Syntax),
-        (&["-i", ".n = 1 * 2", "none"], Fault::NotInProfile),
-        (&["-i", ".[\"x*\"] = 1", "none"], Fault::Pattern),
-        (&["-i", ".n = 2", "none"], Fault::NotThere),
-        (&["undo", "none"], Fault::NotThere),
-        (&["redo", "none"], Fault::NotThere),
-        (&["-i", ".n = 2", "broken"], Fault::BadJournal),
-        (&["undo", "broken"], Fault::BadJournal),
-        (&["-i", ".a = 2", "twice"], Fault::Unreadable(duplicate)),
-        (&["-i", ".n", "f"], Fault::NotAnUpdate),
-        (&["-i", ".n.m = 1", "f"], Fault::NotAMap),
-        (&["undo", "f"], Fault::NothingToUndo),
-    ];
-    for (words, fault) in rows {
-        assert_eq!(rt;
-            answer(alloc, &mut store, words)?,
-            Answer::Refused(fault),
-            "{words:?}"
-        );
-    }
-    assert_file(&rt, &store, "f", "n: 1\n");
-    assert_file(&rt, &store, "broken.undo.json", "{}");
-    assert!(rt; store.bytes("f.undo.json").is_none());
-    Ok(())
-}
-
-#[test]
-fn an_open_move_beside_another_text_is_refused(rt: HostRuntime) -> Result<(), Fail> {
-    let alloc = rt.alloc();
-    let rows: [&[&str]; 3] = [&["undo", "f"], &["redo", "f"], &["-i", ".n = 9", "f"]];
-    for words in rows {
-        let mut store = store_of(alloc, "f", "n: 7\n")?;
-        store.replace("f.undo.json", OPEN_EDIT.as_bytes())?;
-        assert_eq!(rt;
-            answer(alloc, &mut store, words)?,
-            Answer::Refused(Fault::Unsettled)
-        );
-        assert_file(&rt, &store, "f", "n: 7\n");
-        assert_file(&rt, &store, "f.undo.json", OPEN_EDIT);
-    }
-    Ok(())
-}
-
-#[test]
 fn an_edit_to_an_equal_text_writes_nothing(rt: HostRuntime) -> Result<(), Fail> {
     let alloc = rt.alloc();
     let mut store = store_of(alloc, "f", "n: 1\n")?;
@@ -285,48 +232,5 @@ fn an_undo_to_an_equal_text_writes_the_journal_alone(rt: HostRuntime) -> Result<
     assert_file(&rt, &store, "f.undo.json", undone);
     let again = answer(alloc, &mut store, &["undo", "f"])?;
     assert_eq!(rt; again, Answer::Refused(Fault::NothingToUndo));
-    Ok(())
-}
-
-#[test]
-fn a_full_journal_takes_no_further_edit(rt: HostRuntime) -> Result<(), Fail> {
-    let alloc = rt.alloc();
-    let mut journal = String::from_str(alloc, "{\"at\":4096,\"pending\":null,\"records\":[")?;
-    for i in 0..4096u32 {
-        if i > 0 {
-            journal.push(',')?;
-        }
-        journal.push_str(
-            "{\"after_len\":5,\"before_len\":5,\"count\":1,\"expr\":\".\",\"splices\":[]}",
-        )?;
-    }
-    journal.push_str("],\"version\":2}")?;
-    let mut store = store_of(alloc, "f", "n: 1\n")?;
-    store.replace("f.undo.json", journal.as_bytes())?;
-    let refused = answer(alloc, &mut store, &["-i", ".n = 2", "f"])?;
-    assert_eq!(rt; refused, Answer::Refused(Fault::JournalFull));
-    assert_eq!(rt;
-        answer(alloc, &mut store, &["-i", ".n = 1", "f"])?,
-        Answer::Done
-    );
-    assert_file(&rt, &store, "f", "n: 1\n");
-    Ok(())
-}
-
-#[test]
-fn help_is_printed(rt: HostRuntime) -> Result<(), Fail> {
-    let alloc = rt.alloc();
-    let mut store = MemoryStore::new(alloc);
-    let mut out = MemoryOut::new(alloc);
-    let commands = [command_of(alloc, &["--help"])?];
-    let answers = run_list(alloc, &mut store, &mut out, &commands)?;
-    assert_eq!(rt; answers.as_slice(), [Answer::Done].as_slice());
-    assert!(rt; out.bytes().starts_with(b"Usage: yq [eval|e]"));
-    out.fail_at(1);
-    let answers = run_list(alloc, &mut store, &mut out, &commands)?;
-    assert_eq!(rt;
-        answers.as_slice(),
-        [Answer::Refused(Fault::OutFailed)].as_slice()
-    );
     Ok(())
 }

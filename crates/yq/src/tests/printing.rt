@@ -38,10 +38,13 @@ fn edits_are_listed_as_done_and_undone(rt: HostRuntime) -> Result<(), Fail> {
     let both = "1 done \".port = 9090\"\n2 done \".name = \\\"api\\\"\"\n";
     let first = "1 done \".port = 9090\"\n2 undone \".name = \\\"api\\\"\"\n";
     let none = "1 undone \".port = 9090\"\n2 undone \".name = \\\"api\\\"\"\n";
-    let rows: [(&[&str], &str); 12] = [
+    let rows: [(&[&str], &str); 15] = [
         (&["history", "f"], ""),
         (&["-i", ".port = 9090", "f"], ""),
         (&["history", "f"], one),
+        (&["undo", "f"], ""),
+        (&["history", "f"], "1 undone \".port = 9090\"\n"),
+        (&["redo", "f"], ""),
         (&["-i", ".port = 9090", "f"], ""),
         (&["history", "f"], one),
         (&["-i", ".name = \"api\"", "f"], ""),
@@ -205,5 +208,23 @@ fn an_open_move_beside_another_text_is_not_listed(rt: HostRuntime) -> Result<(),
     assert_printed(&rt, alloc, &mut store, &["history", "f"], refused, "")?;
     assert_file(&rt, &store, "f", "n: 7\n");
     assert_file(&rt, &store, "f.undo.json", OPEN_EDIT);
+    Ok(())
+}
+
+#[test]
+fn help_is_printed(rt: HostRuntime) -> Result<(), Fail> {
+    let alloc = rt.alloc();
+    let mut store = MemoryStore::new(alloc);
+    let mut out = MemoryOut::new(alloc);
+    let commands = [command_of(alloc, &["--help"])?];
+    let answers = run_list(alloc, &mut store, &mut out, &commands)?;
+    assert_eq!(rt; answers.as_slice(), [Answer::Done].as_slice());
+    assert!(rt; out.bytes().starts_with(b"Usage: yq [eval|e]"));
+    out.fail_at(1);
+    let answers = run_list(alloc, &mut store, &mut out, &commands)?;
+    assert_eq!(rt;
+        answers.as_slice(),
+        [Answer::Refused(Fault::OutFailed)].as_slice()
+    );
     Ok(())
 }
