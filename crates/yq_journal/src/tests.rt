@@ -2,6 +2,7 @@
 
 mod journal_texts;
 mod memory;
+mod memory_of_records;
 mod moves;
 mod records;
 

@@ -36,6 +36,11 @@ const JOINED: &str =
     r#"{"at":1,"pending":null,"records":[{"after_len":5,"before_len":5,"count":2,"expr":".n = 2 | .n = 3","splices":[{"at":3,"new":"Mg==","old":"MQ=="},{"at":3,"new":"Mw==","old":"Mg=="}]}],"version":2}
 "#;
 
+/// One edit of two changes, of `a: 1` and `b: 2`.
+const TWO: &str =
+    r#"{"at":1,"pending":null,"records":[{"after_len":11,"before_len":10,"count":1,"expr":".a = 10 | .b = 3","splices":[{"at":3,"new":"MTA=","old":"MQ=="},{"at":9,"new":"Mw==","old":"Mg=="}]}],"version":2}
+"#;
+
 /// The text with the first standing of a part replaced.
 fn changed(alloc: Global, text: &str, from: &str, to: &str) -> Result<String, Fail> {
     let Some((front, back)) = text.split_once(from) else {
@@ -87,6 +92,7 @@ fn reads_both_versions(rt: HostRuntime) -> Result<(), Fail> {
         (OPEN_COUNTED, OPEN_COUNTED),
         (OPEN_UNDO, OPEN_UNDO),
         (JOINED, JOINED),
+        (TWO, TWO),
     ] {
         let journal = Journal::from_json(alloc, text.as_bytes())?;
         let again = journal.to_json(alloc)?;

@@ -10,14 +10,14 @@ use crate::{Journal, JournalError, JournalFault, Move, redo_record};
 use std::alloc::{AllocError, Global};
 use std::test::Fail;
 
-const FIRST: &str = "name: web # main\nport: 8080\n";
+pub(super) const FIRST: &str = "name: web # main\nport: 8080\n";
 
-const EDITED: &str = "name: web # main\nport: 9090\n";
+pub(super) const EDITED: &str = "name: web # main\nport: 9090\n";
 
-const MEMORY: Option<JournalError> = Some(JournalError::Memory);
+pub(super) const MEMORY: Option<JournalError> = Some(JournalError::Memory);
 
 /// Blocks that hold all of the process's memory, the largest first.
-fn all_memory(alloc: Global) -> Result<Vec<Vec<u8>>, AllocError> {
+pub(super) fn all_memory(alloc: Global) -> Result<Vec<Vec<u8>>, AllocError> {
     let mut held = Vec::with_capacity(alloc, 1 << 20)?;
     let mut size = 1usize << 34;
     for _ in 0..1u32 << 20 {
