@@ -131,6 +131,19 @@ fn all_memory(alloc: Global) -> Result<Vec<Vec<u8>>, AllocError> {
     Ok(held)
 }
 
+/// Whether a command was carried out, lacked memory, or had no edit to undo
+/// or to join since one before it lacked memory.
+fn lacks_only_memory(answer: &Answer) -> bool {
+    match answer {
+        Answer::Done => true,
+        Answer::Refused(fault) => matches!(
+            fault,
+            Fault::OutOfMemory | Fault::OutFailed | Fault::NothingToUndo | Fault::BadCount
+        ),
+        Answer::NoMatch => false,
+    }
+}
+
 #[test]
 fn each_growth_of_a_list_is_refused_in_turn(rt: HostRuntime) -> Result<(), Fail> {
     let alloc = rt.alloc();
@@ -147,9 +160,18 @@ fn each_growth_of_a_list_is_refused_in_turn(rt: HostRuntime) -> Result<(), Fail>
     let mut held = all_memory(alloc)?;
     for round in 0..4096u32 {
         rounds = round;
+        store.fail_at(999, Left::OldBytes);
+        let put = out.bytes().len();
         let done = match run_list(alloc, &mut store, &mut out, &commands) {
-            Err(_) => false,
-            Ok(answers) => answers.iter().all(|a| *a == Answer::Done),
+            Err(_) => {
+                assert_eq!(rt; store.calls(), 0);
+                assert_eq!(rt; out.bytes().len(), put);
+                false
+            }
+            Ok(answers) => {
+                assert!(rt; answers.iter().all(|a| lacks_only_memory(a)), "{answers:?}");
+                answers.iter().all(|a| *a == Answer::Done)
+            }
         };
         if done {
             break;
