@@ -1,9 +1,10 @@
 # make test: the whole gate. make demo: one edit and its undo. make install: the program into PREFIX/bin.
+# make corpus DIR=FOLDER: one edit and its undo in a copy of each YAML file of a folder.
 PREFIX ?= $(HOME)/.local
 YQ := crates/yq/out/yq
 SOURCES := $(shell find crates -path '*/out' -prune -o -type f \( -name '*.rt' -o -name '*.antt' \) -print) crates.txt
 
-.PHONY: test demo install bench clean
+.PHONY: test demo install bench corpus clean
 
 $(YQ): $(SOURCES)
 	cd crates/yq && rt run -- --help > /dev/null
@@ -22,6 +23,9 @@ install: $(YQ)
 bench: $(YQ)
 	python3 bench/edit.py $(YQ)
 	python3 bench/expressions.py $(YQ)
+
+corpus: $(YQ)
+	python3 tests/cli/corpus.py $(YQ) $(DIR)
 
 clean:
 	rm -rf crates/*/out

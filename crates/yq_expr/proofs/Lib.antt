@@ -24,4 +24,3 @@ pub mod TokenTakes
 pub mod Turns
 pub mod UpdateAgain
 pub mod UpdateTakes
-pub mod WrittenLaws

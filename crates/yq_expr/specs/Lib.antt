@@ -14,4 +14,3 @@ pub mod Operations
 pub mod Judgement
 pub mod Meaning
 pub mod Plan
-pub mod Written

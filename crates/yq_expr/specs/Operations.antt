@@ -5,7 +5,7 @@ use Rattle.yq_scalar.specs.Tree as tree
 use Rattle.yq_scalar.specs.Paths.{Step, change}
 use Rattle.yq_tree.specs.Documents.{Document}
 use Rattle.yq_tree.specs.Outline.{anchored}
-use Rattle.yq_tree.specs.View.{steps_of}
+use Rattle.yq_tree.specs.Located.{steps_of}
 use Rattle.yq_inline.specs.Values.{node_of}
 use Rattle.yq_expr.specs.Judgement.{Judgement, gives, unbuilt, and_then}
 use Rattle.yq_expr.specs.declared.op.Op as declared

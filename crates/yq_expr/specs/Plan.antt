@@ -3,7 +3,7 @@ use Rattle.std.specs.Prelude.{◌≡◌, ℕ, Bool, List, [], ◌∷◌, Option,
 use Rattle.yq_scalar.specs.declared.kind.Kind.{Kind}
 use Rattle.yq_scalar.specs.Tree.{Node, scalar}
 use Rattle.yq_scalar.specs.Paths.{Step}
-use Rattle.yq_tree.specs.Rows.{Row, Cut}
+use Rattle.yq_rows.specs.Rows.{Cut}
 use Rattle.yq_tree.specs.Documents.{Document}
 use Rattle.yq_tree.specs.Reading.{documents}
 use Rattle.yq_expr.specs.Program.{Update, Program, read, updates, assigned}
@@ -12,7 +12,7 @@ use Rattle.yq_expr.specs.Meaning.{to_keys}
 use Rattle.yq_expr.specs.Operations.{Operation, replace}
 use Rattle.yq_expr.specs.Judgement.{Judgement, gives, refuses, unbuilt}
 use Rattle.yq_tree.specs.Nodes.{node_of}
-use Rattle.yq_expr.specs.Written.{written_at}
+use Rattle.yq_tree.specs.Written.{written_at}
 use Rattle.yq_expr.specs.declared.matching.Location as declared
 use Rattle.yq_expr.specs.declared.planning.PlanError.{PlanError}
 use Rattle.yq_expr.specs.declared.planning.PlanError.TheVariants as error
@@ -28,30 +28,30 @@ abbrev pub update_at : ℕ → Program → Option Update
 update_at n (read stages) = None
 update_at n (updates us) = slice_get us n
 
--- a head is written in the row of the entry at a path (own)
-abbrev pub is_written : List Step → List Row → Bool
-is_written steps rows = is_some (written_at steps rows)
+-- a scalar is written behind a key or dash at a path (own)
+abbrev pub is_written : List Step → Cut → Bool
+is_written steps c = is_some (written_at steps c)
 
 -- the operation that puts a value in the place of a scalar that is written; any other node is not exchanged yet (own)
-abbrev pub replace_written : List Step → Node → List Row → Judgement (List Operation)
-replace_written steps v rows = if is_written steps rows then gives (replace 0 steps v ∷ []) else unbuilt
+abbrev pub replace_written : List Step → Node → Cut → Judgement (List Operation)
+replace_written steps v c = if is_written steps c then gives (replace 0 steps v ∷ []) else unbuilt
 
 -- the operations that set a value at a location; nothing is made at a missing one yet (own)
-abbrev pub plan_at : List Step → Node → List Row → Location → Judgement (List Operation)
-plan_at steps v rows (there old) = replace_written steps v rows
-plan_at steps v rows missing = unbuilt
-plan_at steps v rows (refused why) = refuses why
+abbrev pub plan_at : List Step → Node → Cut → Location → Judgement (List Operation)
+plan_at steps v c (there old) = replace_written steps v c
+plan_at steps v c missing = unbuilt
+plan_at steps v c (refused why) = refuses why
 
 -- the operations that set a value where keys lead in each document; so far there is one document (own)
-abbrev pub plan_in : List (List ℕ) → Node → List Row → List Document → Judgement (List Operation)
-plan_in keys v rows [] = unbuilt
-plan_in keys v rows (d ∷ []) = plan_at (to_keys keys) v rows (keys_lead keys d.root)
-plan_in keys v rows (d ∷ (e ∷ ds)) = unbuilt
+abbrev pub plan_in : List (List ℕ) → Node → Cut → List Document → Judgement (List Operation)
+plan_in keys v c [] = unbuilt
+plan_in keys v c (d ∷ []) = plan_at (to_keys keys) v c (keys_lead keys d.root)
+plan_in keys v c (d ∷ (e ∷ ds)) = unbuilt
 
 -- the operations that set one scalar where keys lead (own)
 abbrev pub plan_scalar : Option (List (List ℕ) × (Kind × List ℕ)) → Cut → Judgement (List Operation)
 plan_scalar None c = unbuilt
-plan_scalar (Some x) c = plan_in x.0 (scalar None x.1.0 x.1.1) c.rows (documents c)
+plan_scalar (Some x) c = plan_in x.0 (scalar None x.1.0 x.1.1) c (documents c)
 
 -- the operations that carry out an update on the documents of a text that is cut so (own)
 unfoldable pub plan_of : Update → Cut → Judgement (List Operation)

@@ -15,7 +15,6 @@ mod survey;
 #[cfg(test)]
 mod tests;
 mod token;
-mod written;
 
 pub use error::ParseError;
 pub use laws::one_program;
@@ -27,5 +26,4 @@ pub use program::{
     Step, Term, Update,
 };
 pub use refusal::Refusal;
-pub use written::{Written, written_at};
 pub use yq_inline::Value;

@@ -10,9 +10,9 @@ use yq_tree::{Node, NodeKind};
 
 /// Where steps lead.
 #[derive(Clone, Copy, Debug)]
-pub enum Location<'d> {
+pub enum Location<'d, 't> {
     /// To a node.
-    There(Node<'d>),
+    There(Node<'d, 't>),
     /// To where no node is.
     Missing,
     /// Nowhere.
@@ -20,7 +20,7 @@ pub enum Location<'d> {
 }
 
 /// Where a key leads from a node.
-fn key_step<'d>(node: Node<'d>, key: &str) -> Location<'d>
+fn key_step<'d, 't>(node: Node<'d, 't>, key: &str) -> Location<'d, 't>
     ensures { location_of result ≡ spec.key_step key.now (node_of node.entry) }
 {
     match node.kind() {
@@ -35,7 +35,7 @@ fn key_step<'d>(node: Node<'d>, key: &str) -> Location<'d>
 }
 
 /// Where keys lead from a node, one after the other.
-pub fn keys_lead<'d>(root: Node<'d>, keys: &[&str]) -> Location<'d>
+pub fn keys_lead<'d, 't>(root: Node<'d, 't>, keys: &[&str]) -> Location<'d, 't>
     ensures { location_of result ≡ spec.keys_lead (map (λ k. k.now) keys.now) (node_of root.entry) }
 {
     let mut node = root;

@@ -2,8 +2,8 @@
 ghost use Rattle.std.specs.Prelude.{◌≡◌, ◌<◌, List, ℕ, map, IfOk, IfErr, Some, None, Option, option_map, option_and_then, string_bytes};
 ghost use Rattle.yq_scalar.specs.declared.kind.Kind.{Kind};
 ghost use Rattle.yq_scalar.specs.Tree as tree;
-ghost use Rattle.yq_tree.specs.Reading.{documents as documents_of};
-ghost use Rattle.yq_tree.specs.View.{steps_of};
+ghost use Rattle.yq_tree.specs.Reading.{cut_of, documents_of};
+ghost use Rattle.yq_tree.specs.Located.{steps_of};
 ghost use Rattle.yq_expr.specs.Meaning.{to_keys, meaning};
 ghost use Rattle.yq_expr.specs.Operations.{operations_of, all_after};
 ghost use Rattle.yq_expr.specs.Judgement.{refuses};
@@ -16,7 +16,6 @@ use crate::matching::{Location, keys_lead};
 use crate::op::Op;
 use crate::program::{Assignment, Operator, Program, Stage, Step, Term, Update};
 use crate::refusal::Refusal;
-use crate::written::written_at;
 use std::alloc::{AllocError, AllocFailed, Global};
 use yq_inline::Value;
 use yq_scalar::Scalar;
@@ -139,10 +138,10 @@ fn replace_written(
     scalar: &Scalar,
     documents: &Documents<'_>,
 ) -> Result<Vec<Op>, PlanError>
-    ensures { Plans (λ v. operations_of v.items) result (plan.replace_written (to_keys (map (λ k. k.now) keys.now)) (tree.scalar None scalar.now.kind scalar.now.text) documents.now.rows) }
+    ensures { Plans (λ v. operations_of v.items) result (plan.replace_written (to_keys (map (λ k. k.now) keys.now)) (tree.scalar None scalar.now.kind scalar.now.text) (cut_of documents.now)) }
 {
     let path = path_to(alloc, keys)?;
-    if written_at(documents, &path).is_none() {
+    if documents.written(&path.steps).is_none() {
         return Err(PlanError::NotInProfile);
     }
     let value = Value::Scalar(scalar.copy(alloc)?);
@@ -158,7 +157,7 @@ fn set_scalar(
     scalar: &Scalar,
     documents: &Documents<'_>,
 ) -> Result<Vec<Op>, PlanError>
-    ensures { Plans (λ v. operations_of v.items) result (plan.plan_in (map (λ k. k.now) keys.now) (tree.scalar None scalar.now.kind scalar.now.text) documents.now.rows (documents_of documents.now)) }
+    ensures { Plans (λ v. operations_of v.items) result (plan.plan_in (map (λ k. k.now) keys.now) (tree.scalar None scalar.now.kind scalar.now.text) (cut_of documents.now) (documents_of documents.now)) }
 {
     if documents.count() != 1 {
         return Err(PlanError::NotInProfile);
@@ -177,7 +176,7 @@ fn plan_update(
     update: &Update,
     documents: &Documents<'_>,
 ) -> Result<Vec<Op>, PlanError>
-    ensures { Plans (λ v. operations_of v.items) result (plan.plan_of (update_of update.now) documents.now) }
+    ensures { Plans (λ v. operations_of v.items) result (plan.plan_of (update_of update.now) (cut_of documents.now)) }
 {
     let Some((keys, scalar)) = assigned(alloc, update)? else {
         return Err(PlanError::NotInProfile);
@@ -193,7 +192,7 @@ fn planned(
     documents: &Documents<'_>,
 ) -> Result<Vec<Op>, PlanError>
     requires { nth < spec.update_count (program_of program.now) }
-    ensures { (u : spec.Update) → plan.update_at nth (program_of program.now) ≡ Some u → Plans (λ v. operations_of v.items) result (plan.plan_of u documents.now) }
+    ensures { (u : spec.Update) → plan.update_at nth (program_of program.now) ≡ Some u → Plans (λ v. operations_of v.items) result (plan.plan_of u (cut_of documents.now)) }
 {
     let Program::Updates(updates) = program else {
         return Err(PlanError::NotInProfile);
@@ -211,7 +210,7 @@ pub fn plan(
 ) -> Result<Vec<Op>, PlanError>
     requires { nth < spec.update_count (program_of program.now) }
     // The operations, or why there are none.
-    ensures exact { (u : spec.Update) → plan.update_at nth (program_of program.now) ≡ Some u → Plans (λ v. operations_of v.items) result (plan.plan_of u documents.now) }
+    ensures exact { (u : spec.Update) → plan.update_at nth (program_of program.now) ≡ Some u → Plans (λ v. operations_of v.items) result (plan.plan_of u (cut_of documents.now)) }
     // The operations, one after the other, make what the update means.
     ensures meaning { (u : spec.Update) → plan.update_at nth (program_of program.now) ≡ Some u → IfOk result (λ ops. meaning u (documents_of documents.now) ≡ all_after (operations_of ops.items) (documents_of documents.now)) }
     // A refusal is that of what the update means.

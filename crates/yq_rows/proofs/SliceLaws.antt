@@ -13,7 +13,7 @@ anchor_slices (scalar p) rest = sym (node_then (scalar p) rest)
 anchor_slices (coll close gap items) rest = sym (node_then (coll close gap items) rest)
 anchor_slices (anchored name gap node) rest = ap (λ l. 38 ∷ (name ++ (gap ++ l))) (sym (node_then node rest))
 
-content_slices : (c : Content) (rest : List ℕ) → (content_cut c).0 ++ ((content_cut c).1 ++ ((content_cut c).2 ++ ((content_cut c).3 ++ ((content_cut c).4 ++ ((content_cut c).5 ++ rest))))) ≡ content_text c rest
+pub content_slices : (c : Content) (rest : List ℕ) → (content_cut c).0 ++ ((content_cut c).1 ++ ((content_cut c).2 ++ ((content_cut c).3 ++ ((content_cut c).4 ++ ((content_cut c).5 ++ rest))))) ≡ content_text c rest
 content_slices (Nothing tail) rest = refl
 content_slices (Inline space node tail) rest = ap (λ l. space ++ l) (anchor_slices node (tail ++ rest))
 content_slices (Block space None block) rest = refl

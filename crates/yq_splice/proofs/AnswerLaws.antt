@@ -1,6 +1,10 @@
 -- The promises of an accepted edit, of an answer of the code.
 use Rattle.std.proofs.Common.{◌≡◌, ℕ, List, Some, Result, Ok, Err, IfOk, string_bytes, sym, ◌∙◌, subst}
-use Rattle.yq_tree.specs.Rows.{Cut}
+use Rattle.std.specs.Str.{is_utf8}
+use Rattle.yq_scalar.proofs.Bools.{guard_then}
+use Rattle.yq_rows.specs.Grammar.{IsCut}
+use Rattle.yq_rows.specs.Rows.{Cut}
+use Rattle.yq_tree.proofs.ReadLaws.{text_takes}
 use Rattle.yq_tree.specs.Documents.{Document, Reads}
 use Rattle.yq_tree.specs.Reading.{read_at}
 use Rattle.yq_expr.specs.Program.{Program}
@@ -28,3 +32,8 @@ answer_splices (Err e) p t h = tt
 pub answer_valid : (r : Result Edited EditError) (p : Program) (t : List ℕ) (c : Cut) → read_at t ≡ Some c → IfOk r (λ e. HasOperands p c) → IfOk r (λ e. (other : Cut) → read_at t ≡ Some other → HasOperands p other)
 answer_valid (Ok e) p t c read valid = λ other again. let same : c ≡ other = let h = sym read ∙ again in cc in subst (HasOperands p) same valid
 answer_valid (Err e) p t c read valid = tt
+
+-- what is read is cut so
+pub cut_read : (t : List ℕ) (c : Cut) → read_at t ≡ Some c → IsCut t c
+unfolding read_at
+cut_read t c h = (text_takes t c (guard_then (is_utf8 t) h).1).0

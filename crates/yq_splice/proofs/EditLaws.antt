@@ -1,22 +1,31 @@
 -- What an accepted edit promises.
-use Rattle.std.proofs.Common.{◌≡◌, ℕ, ◌≤◌, Bool, true, false, cond, eqb, leb, ◌⊎◌, inl, inr, List, [], ◌∷◌, length, refl, eqb-true}
-use Rattle.std.proofs.lemmas.Bool.{leb-true}
+use Rattle.std.proofs.Common.{rules, ◌≡◌, ℕ, ◌≤◌, Bool, true, false, cond, eqb, leb, ◌⊎◌, inl, inr, List, [], ◌∷◌, ◌++◌, length, map, Option, Some, None, option_map, refl, sym, ap, ◌∙◌, eqb-true, arith}
+use Rattle.std.proofs.lemmas.Bool.{leb-true, cond-true, cond-false}
 use Rattle.std.proofs.lemmas.Slice.Eq.{bytes_eq-Decides}
 use Rattle.std.specs.Str.{bytes_eq}
 use Rattle.yq_scalar.specs.Characters.{text_limit}
-use Rattle.yq_scalar.specs.Scalar.{ScalarText, plain_of}
-use Rattle.yq_scalar.specs.Writable.{can_write}
+use Rattle.yq_scalar.specs.Scalar.{ScalarText}
+use Rattle.yq_scalar.specs.Written.{written}
 use Rattle.yq_scalar.specs.declared.kind.Kind.{Kind}
 use Rattle.yq_scalar.specs.declared.kind.Kind.TheVariants as kinds
-use Rattle.yq_scalar.specs.declared.style.Place.TheVariants.{Block}
-use Rattle.yq_scalar.specs.declared.style.Style.TheVariants.{Plain}
 use Rattle.yq_scalar.proofs.Bools.{and_true}
-use Rattle.yq_splice.specs.Edit.{gives, unbuilt, refuses, put_head, replace_head}
-use Rattle.yq_splice.specs.Patch.{Change}
-use Rattle.yq_splice.specs.Style.{table_row, is_same}
-use Rattle.yq_tree.specs.Exchange.{exchange_head, before_head}
-use Rattle.yq_tree.specs.Rows.{Cut, cut_text}
+use Rattle.yq_inline.specs.Scalars.{style_of, scalar_of}
+use Rattle.yq_rows.specs.Rows.{Cut, cut_text}
+use Rattle.yq_tree.specs.Told.{Telling, telling}
+use Rattle.yq_tree.specs.Written.{Written, written_at}
+use Rattle.yq_tree.specs.declared.path.Path.{Path}
+use Rattle.yq_inline.specs.Entries.{step_of}
+use Rattle.yq_inline.specs.Values.{node_of}
+use Rattle.yq_inline.specs.declared.value.Value.{Value, the_lemmas}
+use Rattle.yq_scalar.specs.Tree.{Node, scalar}
+use Rattle.yq_inline.specs.declared.value.Value.TheVariants as values
+use Rattle.yq_expr.specs.Operations.{operation_of, operations_of}
+use Rattle.yq_expr.specs.declared.op.Op.{Op}
+use Rattle.yq_expr.specs.declared.op.Op.TheVariants as ops
 use Rattle.yq_expr.specs.declared.refusal.Refusal.TheVariants.{TooLarge}
+use Rattle.yq_splice.specs.Edit.{gives, unbuilt, refuses, put_between, replace_scalar, replace_at, replace_by, carry_one, carry_all}
+use Rattle.yq_splice.specs.Patch.{Change}
+use Rattle.yq_splice.specs.Style.{table_row, is_same, new_style}
 
 same_kind : (a b : Kind) → table_row a ≡ table_row b → a ≡ b
 same_kind kinds.Null kinds.Null h = refl
@@ -53,34 +62,84 @@ same_is a b h =
     let text : a.text ≡ b.text = (bytes_eq-Decides a.text b.text).0 p.1 in
     λ i. record { kind = kind i; text = text i }
 
--- what a head gives way to: nothing, or another head
-pub record IsKept (s : ScalarText) (head : List ℕ) (c : Cut) (new : List ℕ) (changes : List Change) : Type 0 where
-  pub same : plain_of head ≡ s
+-- what a scalar gives way to: nothing, or another one
+pub record IsKept (s : ScalarText) (w : Written) (c : Cut) (new : List ℕ) (changes : List Change) : Type 0 where
+  pub same : scalar_of w.scalar ≡ s
   pub text : cut_text c ≡ new
   pub none : changes ≡ []
 
-pub record IsPut (s : ScalarText) (i : ℕ) (head : List ℕ) (c : Cut) (new : List ℕ) (changes : List Change) : Type 0 where
-  pub can : can_write s Plain Block ≡ true
-  pub size : length (cut_text (exchange_head i s.text c)) ≤ text_limit
-  pub text : cut_text (exchange_head i s.text c) ≡ new
-  pub one : changes ≡ record { at = length (before_head i c.rows); old = head; new = s.text } ∷ []
+-- another scalar as it is written in the old one's place
+abbrev pub new_scalar : ScalarText → Written → List ℕ
+new_scalar s w = written (new_style s (style_of w.scalar)) s.text
 
-put_size : (i : ℕ) (old head : List ℕ) (c : Cut) (new : List ℕ) (changes : List Change) (b : Bool) → leb (length (cut_text (exchange_head i head c))) text_limit ≡ b →
-    cond b (gives (cut_text (exchange_head i head c)) (record { at = length (before_head i c.rows); old = old; new = head } ∷ [])) (refuses TooLarge) ≡ gives new changes →
-    (length (cut_text (exchange_head i head c)) ≤ text_limit) × (cut_text (exchange_head i head c) ≡ new) × (changes ≡ record { at = length (before_head i c.rows); old = old; new = head } ∷ [])
-put_size i old head c new changes true e h = (leb-true (length (cut_text (exchange_head i head c))) text_limit e, cc, cc)
-put_size i old head c new changes false e h = absurd (cc)
+-- the text with it
+abbrev pub new_text : ScalarText → Written → List ℕ
+new_text s w = w.before ++ (new_scalar s w ++ w.behind)
 
-put_can : (s : ScalarText) (i : ℕ) (head : List ℕ) (c : Cut) (new : List ℕ) (changes : List Change) (b : Bool) → can_write s Plain Block ≡ b →
-    cond b (put_head i head s.text c) unbuilt ≡ gives new changes → IsPut s i head c new changes
-put_can s i head c new changes true e h =
-    let p = put_size i head s.text c new changes (leb (length (cut_text (exchange_head i s.text c))) text_limit) refl h in
-    record { can = e; size = p.0; text = p.1; one = p.2 }
-put_can s i head c new changes false e h = absurd (cc)
+pub record IsPut (s : ScalarText) (w : Written) (new : List ℕ) (changes : List Change) : Type 0 where
+  pub size : length (new_text s w) ≤ text_limit
+  pub text : new_text s w ≡ new
+  pub one : changes ≡ record { at = length w.before; old = w.scalar; new = new_scalar s w } ∷ []
 
-pub head_put : (s : ScalarText) (i : ℕ) (head : List ℕ) (c : Cut) (new : List ℕ) (changes : List Change) → replace_head s i head c ≡ gives new changes → IsKept s head c new changes ⊎ IsPut s i head c new changes
-head_put s i head c new changes h = go (is_same (plain_of head) s) refl h
+put_size : (s : ScalarText) (w : Written) (new : List ℕ) (changes : List Change) (b : Bool) → leb (length (new_text s w)) text_limit ≡ b →
+    cond b (gives (new_text s w) (record { at = length w.before; old = w.scalar; new = new_scalar s w } ∷ [])) (refuses TooLarge) ≡ gives new changes → IsPut s w new changes
+put_size s w new changes true e h = record { size = leb-true (length (new_text s w)) text_limit e; text = cc; one = cc }
+put_size s w new changes false e h = absurd (cc)
+
+pub scalar_put : (s : ScalarText) (w : Written) (c : Cut) (new : List ℕ) (changes : List Change) → replace_scalar s w c ≡ gives new changes → IsKept s w c new changes ⊎ IsPut s w new changes
+scalar_put s w c new changes h = go (is_same (scalar_of w.scalar) s) refl h
   where
-    go : (b : Bool) → is_same (plain_of head) s ≡ b → cond b (gives (cut_text c) []) (cond (can_write s Plain Block) (put_head i head s.text c) unbuilt) ≡ gives new changes → IsKept s head c new changes ⊎ IsPut s i head c new changes
-    go true e f = inl (record { same = same_is (plain_of head) s e; text = cc; none = cc })
-    go false e f = inr (put_can s i head c new changes (can_write s Plain Block) refl f)
+    go : (b : Bool) → is_same (scalar_of w.scalar) s ≡ b → cond b (gives (cut_text c) []) (put_between w.before w.scalar (new_scalar s w) w.behind) ≡ gives new changes → IsKept s w c new changes ⊎ IsPut s w new changes
+    go true e f = inl (record { same = same_is (scalar_of w.scalar) s e; text = cc; none = cc })
+    go false e f = inr (put_size s w new changes (leb (length (new_text s w)) text_limit) refl f)
+
+-- what the code is told of a scalar that is written
+pub record IsTold (o : Option Written) (x : Telling) : Type 0 where
+  pub written : Written
+  pub is : o ≡ Some written
+  pub same : x ≡ telling written
+
+pub told_is : (o : Option Written) (x : Telling) → Some x ≡ option_map telling o → IsTold o x
+told_is None x h = absurd (cc)
+told_is (Some w) x h = record { written = w; is = refl; same = cc }
+
+pub none_told : (s : ScalarText) (o : Option Written) (c : Cut) → None ≡ option_map telling o → replace_at s o c ≡ unbuilt
+none_told s None c h = refl
+none_told s (Some w) c h = absurd (cc)
+
+-- the scalar that is told
+abbrev told_scalar : Telling → ScalarText
+told_scalar x = record { kind = x.0; text = x.1 }
+
+-- an equal scalar
+pub same_told : (s : ScalarText) (o : Option Written) (c : Cut) (x : Telling) → Some x ≡ option_map telling o → is_same (told_scalar x) s ≡ true → replace_at s o c ≡ gives (cut_text c) []
+same_told s o c x h e =
+    let t = told_is o x h in
+    let same : is_same (scalar_of t.written.scalar) s ≡ true = ap (λ (y : Telling). is_same (told_scalar y) s) (sym t.same) ∙ e in
+    ap (λ (y : Option Written). replace_at s y c) t.is ∙ cond-true _ _ _ same
+
+-- another scalar
+pub other_told : (s : ScalarText) (o : Option Written) (c : Cut) (x : Telling) → Some x ≡ option_map telling o → is_same (told_scalar x) s ≡ false →
+    replace_at s o c ≡ put_between x.2 x.3 (written (new_style s (style_of x.3)) s.text) x.4
+other_told s o c x h e =
+    let t = told_is o x h in
+    let other : is_same (scalar_of t.written.scalar) s ≡ false = ap (λ (y : Telling). is_same (told_scalar y) s) (sym t.same) ∙ e in
+    ap (λ (y : Option Written). replace_at s y c) t.is
+    ∙ (cond-false _ _ _ other ∙ ap (λ (y : Telling). put_between y.2 y.3 (written (new_style s (style_of y.3)) s.text) y.4) (sym t.same))
+
+-- operations of the code
+scalar_value : (s : ScalarText) → node_of (values.Scalar s) ≡ scalar None s.kind s.text
+scalar_value s = search (rules, the_lemmas)
+
+pub one_op : (op : Op) (path : Path) (value : Value) (s : ScalarText) (c : Cut) → op ≡ ops.Replace path value → path.doc ≡ 0 → value ≡ values.Scalar s →
+    carry_one (operation_of op) c ≡ replace_at s (written_at (map step_of path.steps.items) c) c
+one_op op path value s c is first is_scalar =
+    let w : Option Written = written_at (map step_of path.steps.items) c in
+    ap (λ (o : Op). carry_one (operation_of o) c) is
+    ∙ (ap (λ (n : ℕ). cond (eqb n 0) (replace_by (node_of value) w c) unbuilt) first
+    ∙ (ap (λ (v : Value). replace_by (node_of v) w c) is_scalar ∙ ap (λ (n : Node). replace_by n w c) (scalar_value s)))
+
+pub many_ops : (os : List Op) (c : Cut) → 2 ≤ length os → carry_all (operations_of os) c ≡ unbuilt
+many_ops [] c h = absurd (omega (arith, h))
+many_ops (o ∷ []) c h = absurd (omega (arith, h))
+many_ops (o ∷ (p ∷ os)) c h = refl

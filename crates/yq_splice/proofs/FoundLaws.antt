@@ -2,18 +2,19 @@
 use Rattle.std.proofs.Common.{◌≡◌, ℕ, cond, List, [], ◌∷◌, Option, Some, None, is_some, refl, sym, ap, ◌∙◌}
 use Rattle.yq_scalar.specs.declared.kind.Kind.{Kind}
 use Rattle.yq_scalar.specs.Scalar.{ScalarText}
-use Rattle.yq_scalar.specs.Tree.{Node, scalar}
-use Rattle.yq_tree.specs.Rows.{Row, Cut}
-use Rattle.yq_tree.specs.Reading.{read_at, root_of}
+use Rattle.yq_scalar.specs.Tree.{scalar}
+use Rattle.yq_rows.specs.Rows.{Cut}
+use Rattle.yq_tree.specs.Documents.{Document}
+use Rattle.yq_tree.specs.Reading.{read_at, documents}
+use Rattle.yq_tree.specs.Written.{Written, written_at}
 use Rattle.yq_expr.specs.Judgement.{Judgement}
 use Rattle.yq_expr.specs.Judgement as judgement
 use Rattle.yq_expr.specs.Matching.{Location, there, missing, refused, keys_lead}
 use Rattle.yq_expr.specs.Meaning.{to_keys}
 use Rattle.yq_expr.specs.Operations.{Operation, replace}
-use Rattle.yq_expr.specs.Plan.{plan_at, plan_scalar, plan_of}
+use Rattle.yq_expr.specs.Plan.{plan_at, plan_in, plan_scalar, plan_of}
 use Rattle.yq_expr.specs.Program.{Program, read, updates, Update, assigned}
-use Rattle.yq_expr.specs.Written.{written_at}
-use Rattle.yq_splice.specs.Edit.{gives, unbuilt, replace_head, replace_at, carry_out, edit_rows, edit_read, edit_of}
+use Rattle.yq_splice.specs.Edit.{gives, replace_scalar, replace_at, carry_out, edit_rows, edit_read, edit_of}
 use Rattle.yq_splice.specs.Patch.{Change}
 
 -- a scalar by its kind and its text
@@ -25,11 +26,11 @@ pub record IsCarried (u : Update) (c : Cut) (new : List ℕ) (changes : List Cha
   pub keys : List (List ℕ)
   pub value : Kind × List ℕ
   pub assigned : assigned u ≡ Some (keys, value)
-  pub node : Node
-  pub leads : keys_lead keys (root_of c) ≡ there node
-  pub row : ℕ × Row
-  pub written : written_at (to_keys keys) c.rows ≡ Some row
-  pub put : replace_head (scalar_of value) row.0 row.1.head c ≡ gives new changes
+  pub document : Document
+  pub one : documents c ≡ document ∷ []
+  pub old : Written
+  pub is : written_at (to_keys keys) c ≡ Some old
+  pub put : replace_scalar (scalar_of value) old c ≡ gives new changes
   pub planned : plan_of u c ≡ judgement.gives (replace 0 (to_keys keys) (scalar None value.0 value.1) ∷ [])
 
 -- what is known of an edit that is accepted
@@ -40,41 +41,51 @@ pub record IsFound (p : Program) (t new : List ℕ) (changes : List Change) : Ty
   pub program : p ≡ updates (update ∷ [])
   pub carried : IsCarried update rows new changes
 
-carried : (u : Update) (c : Cut) (new : List ℕ) (changes : List Change) → carry_out (plan_of u c) c ≡ gives new changes → IsCarried u c new changes
+not_built : (u : Update) (c : Cut) (new : List ℕ) (changes : List Change) (j : Judgement (List Operation)) → plan_of u c ≡ j → carry_out (plan_of u c) c ≡ gives new changes → carry_out j c ≡ gives new changes
+not_built u c new changes j is h = ap (λ (o : Judgement (List Operation)). carry_out o c) (sym is) ∙ h
+
+abbrev operation : List (List ℕ) × (Kind × List ℕ) → List Operation
+operation x = replace 0 (to_keys x.0) (scalar None x.1.0 x.1.1) ∷ []
+
+written_at_row : (u : Update) (c : Cut) (new : List ℕ) (changes : List Change) (x : List (List ℕ) × (Kind × List ℕ)) (d : Document) → assigned u ≡ Some x → documents c ≡ d ∷ [] → (o : Option Written) → written_at (to_keys x.0) c ≡ o →
+    plan_of u c ≡ cond (is_some o) (judgement.gives (operation x)) judgement.unbuilt → carry_out (plan_of u c) c ≡ gives new changes → IsCarried u c new changes
+written_at_row u c new changes x d is one None at planned h = absurd (let none = not_built u c new changes judgement.unbuilt planned h in cc)
+written_at_row u c new changes x d is one (Some w) at planned h =
+    let done : replace_at (scalar_of x.1) (written_at (to_keys x.0) c) c ≡ gives new changes = not_built u c new changes (judgement.gives (operation x)) planned h in
+    record {
+      keys = x.0;
+      value = x.1;
+      assigned = is;
+      document = d;
+      one = one;
+      old = w;
+      is = at;
+      put = sym (ap (λ (o : Option Written). replace_at (scalar_of x.1) o c) at) ∙ done;
+      planned = planned;
+    }
+
+location : (u : Update) (c : Cut) (new : List ℕ) (changes : List Change) (x : List (List ℕ) × (Kind × List ℕ)) (d : Document) → assigned u ≡ Some x → documents c ≡ d ∷ [] → (l : Location) →
+    plan_of u c ≡ plan_at (to_keys x.0) (scalar None x.1.0 x.1.1) c l → carry_out (plan_of u c) c ≡ gives new changes → IsCarried u c new changes
+location u c new changes x d is one (there n) planned h = written_at_row u c new changes x d is one (written_at (to_keys x.0) c) refl planned h
+location u c new changes x d is one missing planned h = absurd (let none = not_built u c new changes judgement.unbuilt planned h in cc)
+location u c new changes x d is one (refused why) planned h = absurd (let none = not_built u c new changes (judgement.refuses why) planned h in cc)
+
+in_documents : (u : Update) (c : Cut) (new : List ℕ) (changes : List Change) (x : List (List ℕ) × (Kind × List ℕ)) → assigned u ≡ Some x → (ds : List Document) → documents c ≡ ds →
+    plan_of u c ≡ plan_in x.0 (scalar None x.1.0 x.1.1) c ds → carry_out (plan_of u c) c ≡ gives new changes → IsCarried u c new changes
+in_documents u c new changes x is [] one planned h = absurd (let none = not_built u c new changes judgement.unbuilt planned h in cc)
+in_documents u c new changes x is (d ∷ []) one planned h = location u c new changes x d is one (keys_lead x.0 d.root) planned h
+in_documents u c new changes x is (d ∷ (e ∷ ds)) one planned h = absurd (let none = not_built u c new changes judgement.unbuilt planned h in cc)
+
+planned : (u : Update) (c : Cut) → plan_of u c ≡ plan_scalar (assigned u) c
 unfolding plan_of
-carried u c new changes h = assigned_at (assigned u) refl h
+planned u c = refl
+
+carried : (u : Update) (c : Cut) (new : List ℕ) (changes : List Change) → carry_out (plan_of u c) c ≡ gives new changes → IsCarried u c new changes
+carried u c new changes h = go (assigned u) refl (planned u c)
   where
-    row_at : (x : List (List ℕ) × (Kind × List ℕ)) (n : Node) (row : ℕ × Row) → assigned u ≡ Some x → keys_lead x.0 (root_of c) ≡ there n → written_at (to_keys x.0) c.rows ≡ Some row →
-        plan_scalar (assigned u) c ≡ judgement.gives (replace 0 (to_keys x.0) (scalar None x.1.0 x.1.1) ∷ []) → carry_out (plan_scalar (assigned u) c) c ≡ gives new changes → IsCarried u c new changes
-    row_at x n row is leads written planned f =
-        let at : replace_at (scalar_of x.1) (written_at (to_keys x.0) c.rows) c ≡ gives new changes = sym (ap (λ (o : Judgement (List Operation)). carry_out o c) planned) ∙ f in
-        record {
-          keys = x.0;
-          value = x.1;
-          assigned = is;
-          node = n;
-          leads = leads;
-          row = row;
-          written = written;
-          put = sym (ap (λ (o : Option (ℕ × Row)). replace_at (scalar_of x.1) o c) written) ∙ at;
-          planned = planned;
-        }
-
-    written_row : (x : List (List ℕ) × (Kind × List ℕ)) (n : Node) (o : Option (ℕ × Row)) → assigned u ≡ Some x → keys_lead x.0 (root_of c) ≡ there n → written_at (to_keys x.0) c.rows ≡ o →
-        plan_scalar (assigned u) c ≡ cond (is_some o) (judgement.gives (replace 0 (to_keys x.0) (scalar None x.1.0 x.1.1) ∷ [])) judgement.unbuilt → carry_out (plan_scalar (assigned u) c) c ≡ gives new changes → IsCarried u c new changes
-    written_row x n None is leads written planned f = absurd (let none : carry_out (plan_scalar (assigned u) c) c ≡ unbuilt = ap (λ (o : Judgement (List Operation)). carry_out o c) planned in cc)
-    written_row x n (Some row) is leads written planned f = row_at x n row is leads written planned f
-
-    location_at : (x : List (List ℕ) × (Kind × List ℕ)) (l : Location) → assigned u ≡ Some x → keys_lead x.0 (root_of c) ≡ l →
-        plan_scalar (assigned u) c ≡ plan_at (to_keys x.0) (scalar None x.1.0 x.1.1) c.rows l → carry_out (plan_scalar (assigned u) c) c ≡ gives new changes → IsCarried u c new changes
-    location_at x (there n) is leads planned f =
-        written_row x n (written_at (to_keys x.0) c.rows) is leads refl planned f
-    location_at x missing is leads planned f = absurd (let none : carry_out (plan_scalar (assigned u) c) c ≡ unbuilt = ap (λ (o : Judgement (List Operation)). carry_out o c) planned in cc)
-    location_at x (refused why) is leads planned f = absurd (let none : carry_out (plan_scalar (assigned u) c) c ≡ carry_out (judgement.refuses why) c = ap (λ (o : Judgement (List Operation)). carry_out o c) planned in cc)
-
-    assigned_at : (x : Option (List (List ℕ) × (Kind × List ℕ))) → assigned u ≡ x → carry_out (plan_scalar (assigned u) c) c ≡ gives new changes → IsCarried u c new changes
-    assigned_at None e f = absurd (let none : carry_out (plan_scalar (assigned u) c) c ≡ unbuilt = ap (λ (x : Option (List (List ℕ) × (Kind × List ℕ))). carry_out (plan_scalar x c) c) e in cc)
-    assigned_at (Some x) e f = location_at x (keys_lead x.0 (root_of c)) e refl (ap (λ (y : Option (List (List ℕ) × (Kind × List ℕ))). plan_scalar y c) e) f
+    go : (x : Option (List (List ℕ) × (Kind × List ℕ))) → assigned u ≡ x → plan_of u c ≡ plan_scalar x c → IsCarried u c new changes
+    go None is e = absurd (let none = not_built u c new changes judgement.unbuilt e h in cc)
+    go (Some x) is e = in_documents u c new changes x is (documents c) refl e h
 
 program_carried : (p : Program) (c : Cut) (new : List ℕ) (changes : List Change) → edit_rows p c ≡ gives new changes → (u : Update) × (p ≡ updates (u ∷ [])) × IsCarried u c new changes
 program_carried (read stages) c new changes h = absurd (cc)

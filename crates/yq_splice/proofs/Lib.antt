@@ -1,5 +1,5 @@
 pub mod PatchLaws
-pub mod PlaceLaws
+pub mod StyleLaws
 pub mod FoundLaws
 pub mod EditLaws
 pub mod PromiseLaws

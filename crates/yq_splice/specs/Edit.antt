@@ -1,24 +1,22 @@
 -- What a program makes of a text.
 use Rattle.std.specs.Prelude.{ℕ, ◌==◌, List, [], ◌∷◌, ◌++◌, length, nat_le, if◌then◌else◌, Option, Some, None}
 use Rattle.yq_scalar.specs.Characters.{text_limit}
-use Rattle.yq_scalar.specs.Scalar.{ScalarText, plain_of}
+use Rattle.yq_scalar.specs.Scalar.{ScalarText}
 use Rattle.yq_scalar.specs.Tree.{Node, alias, scalar, list, map}
-use Rattle.yq_scalar.specs.Writable.{can_write}
-use Rattle.yq_scalar.specs.declared.style.Place.TheVariants.{Block}
-use Rattle.yq_scalar.specs.declared.style.Style.TheVariants.{Plain}
-use Rattle.yq_tree.specs.Exchange.{exchange_head, before_head}
-use Rattle.yq_tree.specs.Rows.{Row, Cut, cut_text}
+use Rattle.yq_scalar.specs.Written.{written}
+use Rattle.yq_inline.specs.Scalars.{style_of, scalar_of}
+use Rattle.yq_rows.specs.Rows.{Cut, cut_text}
 use Rattle.yq_tree.specs.Reading.{read_at}
+use Rattle.yq_tree.specs.Written.{Written, written_at}
 use Rattle.yq_expr.specs.Operations.{Operation, replace, append, remove, line_comment, head_comment}
 use Rattle.yq_expr.specs.Judgement.{Judgement}
 use Rattle.yq_expr.specs.Judgement as judgement
 use Rattle.yq_expr.specs.Plan.{plan_of}
 use Rattle.yq_expr.specs.Program.{Program, read, updates}
-use Rattle.yq_expr.specs.Written.{written_at}
 use Rattle.yq_expr.specs.declared.refusal.Refusal.{Refusal}
 use Rattle.yq_expr.specs.declared.refusal.Refusal.TheVariants.{NotAnUpdate, TooLarge}
 use Rattle.yq_splice.specs.Patch.{Change}
-use Rattle.yq_splice.specs.Style.{is_same}
+use Rattle.yq_splice.specs.Style.{is_same, new_style}
 
 -- What an edit comes to: the text has no reading, it is refused, or it gives a new text by these changes; or it isn't carried out yet, a case that goes when all are (own).
 pub data Edit : Type 0 where
@@ -27,13 +25,6 @@ pub data Edit : Type 0 where
   unbuilt : Edit
   gives : List ℕ → List Change → Edit
 
--- the head of row i exchanged, unless the new text is too large (own)
-abbrev pub put_head : ℕ → List ℕ → List ℕ → Cut → Edit
-put_head i old new c =
-    if nat_le (length (cut_text (exchange_head i new c))) text_limit
-    then gives (cut_text (exchange_head i new c)) (record { at = length (before_head i c.rows); old = old; new = new } ∷ [])
-    else refuses TooLarge
-
 -- a text whose middle piece is exchanged, unless it is too large (own)
 abbrev pub put_between : List ℕ → List ℕ → List ℕ → List ℕ → Edit
 put_between before old new behind =
@@ -41,27 +32,27 @@ put_between before old new behind =
     then gives (before ++ (new ++ behind)) (record { at = length before; old = old; new = new } ∷ [])
     else refuses TooLarge
 
--- A scalar in the place of the one that the head of row i spells: an equal one leaves the text as it is, another is written plain, if it can be (own).
-abbrev pub replace_head : ScalarText → ℕ → List ℕ → Cut → Edit
-replace_head s i head c =
-    if is_same (plain_of head) s then gives (cut_text c) []
-    else (if can_write s Plain Block then put_head i head s.text c else unbuilt)
+-- A scalar in the place of one that is written: an equal one leaves the text as it is, another is written in the old one's style, if that can write it (own).
+abbrev pub replace_scalar : ScalarText → Written → Cut → Edit
+replace_scalar s w c =
+    if is_same (scalar_of w.scalar) s then gives (cut_text c) []
+    else put_between w.before w.scalar (written (new_style s (style_of w.scalar)) s.text) w.behind
 
--- a scalar in the place of the one that is written in a row, if one is (own)
-abbrev pub replace_at : ScalarText → Option (ℕ × Row) → Cut → Edit
+-- a scalar in the place of one that is written behind a key or dash, if one is (own)
+abbrev pub replace_at : ScalarText → Option Written → Cut → Edit
 replace_at s None c = unbuilt
-replace_at s (Some x) c = replace_head s x.0 x.1.head c
+replace_at s (Some w) c = replace_scalar s w c
 
--- a value in the place of a node of the first document; so far a scalar (own)
-abbrev pub replace_by : Node → Option (ℕ × Row) → Cut → Edit
-replace_by (alias name) row c = unbuilt
-replace_by (scalar anchor kind text) row c = replace_at (record { kind = kind; text = text }) row c
-replace_by (list anchor cs) row c = unbuilt
-replace_by (map anchor cs) row c = unbuilt
+-- a value in the place of a scalar that is written; so far another scalar (own)
+abbrev pub replace_by : Node → Option Written → Cut → Edit
+replace_by (alias name) w c = unbuilt
+replace_by (scalar anchor kind text) w c = replace_at (record { kind = kind; text = text }) w c
+replace_by (list anchor cs) w c = unbuilt
+replace_by (map anchor cs) w c = unbuilt
 
 -- an operation carried out (own)
 abbrev pub carry_one : Operation → Cut → Edit
-carry_one (replace doc steps v) c = if doc == 0 then replace_by v (written_at steps c.rows) c else unbuilt
+carry_one (replace doc steps v) c = if doc == 0 then replace_by v (written_at steps c) c else unbuilt
 carry_one (append doc steps key v) c = unbuilt
 carry_one (remove doc steps) c = unbuilt
 carry_one (line_comment doc steps text) c = unbuilt

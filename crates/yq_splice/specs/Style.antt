@@ -1,9 +1,13 @@
 -- How a scalar is written in the place of another.
-use Rattle.std.specs.Prelude.{ℕ, Bool, ◌&&◌, ◌==◌}
+use Rattle.std.specs.Prelude.{ℕ, Bool, ◌&&◌, ◌==◌, if◌then◌else◌}
 use Rattle.std.specs.Str.{bytes_eq}
 use Rattle.yq_scalar.specs.declared.kind.Kind.{Kind}
 use Rattle.yq_scalar.specs.declared.kind.Kind.TheVariants as kinds
 use Rattle.yq_scalar.specs.Scalar.{ScalarText}
+use Rattle.yq_scalar.specs.Writable.{can_write}
+use Rattle.yq_scalar.specs.declared.style.Place.TheVariants.{Block}
+use Rattle.yq_scalar.specs.declared.style.Style.{Style}
+use Rattle.yq_scalar.specs.declared.style.Style.TheVariants.{Plain, Double}
 
 -- the row of the core schema's table that a kind has, from 0 (YAML 1.2.2, section 10.3.2)
 abbrev pub table_row : Kind → ℕ
@@ -16,3 +20,7 @@ table_row kinds.Text = 4
 -- whether two scalars are equal: their kinds and their texts are (YAML 1.2.2, section 3.2.1.3)
 abbrev pub is_same : ScalarText → ScalarText → Bool
 is_same a b = table_row a.kind == table_row b.kind && bytes_eq a.text b.text
+
+-- the style in which a scalar is written in the place of one of a style: in that style if it can be, else plain if it can be, else in double quotes (own)
+abbrev pub new_style : ScalarText → Style → Style
+new_style s old = if can_write s old Block then old else (if can_write s Plain Block then Plain else Double)

@@ -1,30 +1,27 @@
 -- What an accepted edit promises.
-use Rattle.std.specs.Prelude.{◌≡◌, ℕ, List, ◌++◌, Some, slice_get, length}
+use Rattle.std.specs.Prelude.{◌≡◌, ℕ, List, ◌++◌, Some, length}
 use Rattle.yq_scalar.specs.declared.kind.Kind.{Kind}
-use Rattle.yq_tree.specs.Exchange.{before_head, behind_head_at}
-use Rattle.yq_tree.specs.Rows.{Row, Cut, end_of}
+use Rattle.yq_rows.specs.Rows.{Cut}
 use Rattle.yq_tree.specs.Documents.{Document, Reads}
 use Rattle.yq_tree.specs.Reading.{read_at}
-use Rattle.yq_tree.specs.RowPaths.{row_at}
+use Rattle.yq_tree.specs.Written.{Written, written_at}
 use Rattle.yq_expr.specs.Judgement.{gives}
 use Rattle.yq_expr.specs.Meaning.{to_keys, program_meaning}
 use Rattle.yq_expr.specs.Program.{Program, assignment_of}
 use Rattle.yq_splice.specs.Patch.{Change, all_done, lengths_done}
 
--- One head is exchanged: that of the row of the entry to which the program's keys lead. The text before it and the text behind it stay (own).
+-- One scalar is exchanged: the one that is written where the program's keys lead. The text before it and the text behind it stay (own).
 pub record IsInside (p : Program) (t new : List ℕ) : Type 0 where
   pub rows : Cut
   pub read : read_at t ≡ Some rows
   pub keys : List (List ℕ)
   pub value : Kind × List ℕ
   pub program : assignment_of p ≡ Some (keys, value)
-  pub row : ℕ
-  pub entry : row_at (to_keys keys) rows.rows ≡ Some row
-  pub old : Row
-  pub is : slice_get rows.rows row ≡ Some old
-  pub head : List ℕ
-  pub before : t ≡ before_head row rows.rows ++ (old.head ++ behind_head_at row rows.rows (end_of rows))
-  pub after : new ≡ before_head row rows.rows ++ (head ++ behind_head_at row rows.rows (end_of rows))
+  pub old : Written
+  pub is : written_at (to_keys keys) rows ≡ Some old
+  pub scalar : List ℕ
+  pub before : t ≡ old.before ++ (old.scalar ++ old.behind)
+  pub after : new ≡ old.before ++ (scalar ++ old.behind)
 
 -- The new text reads as what the program makes of the documents of the old one (own).
 pub record IsMeant (p : Program) (docs : List Document) (new : List ℕ) : Type 0 where

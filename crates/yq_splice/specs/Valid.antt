@@ -1,18 +1,12 @@
 -- What is known of the scalars of a program, since the code holds no others.
 use Rattle.std.specs.Prelude.{◌≡◌, List, [], ◌∷◌, ⊤}
-use Rattle.std.specs.Str.{IsUtf8}
-use Rattle.yq_scalar.specs.Scalar.{ScalarText, IsScalar}
 use Rattle.yq_scalar.specs.Tree.{Node, alias, scalar, list, map}
-use Rattle.yq_tree.specs.Rows.{Cut}
+use Rattle.yq_inline.specs.Valued.{IsValid}
+use Rattle.yq_rows.specs.Rows.{Cut}
 use Rattle.yq_expr.specs.Operations.{Operation, replace, append, remove, line_comment, head_comment}
 use Rattle.yq_expr.specs.Judgement.{gives}
 use Rattle.yq_expr.specs.Plan.{plan_of}
 use Rattle.yq_expr.specs.Program.{Program, Update, updates}
-
--- a scalar's kind fits its text, which is UTF-8 (YAML 1.2.2, section 10.3.2)
-pub record IsValid (s : ScalarText) : Type 0 where
-  pub scalar : IsScalar s.kind s.text
-  pub utf8 : IsUtf8 s.text
 
 -- a scalar that is put in the place of a node is one (own)
 abbrev pub HasValue : Node → Type 0

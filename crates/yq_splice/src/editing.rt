@@ -1,28 +1,32 @@
 //! Editing: a program carried out on a text.
-ghost use Rattle.std.specs.Prelude.{◌≡◌, ◌++◌, ◌+◌, [], List, ℕ, Some, IfOk, ◌-◌, ◌≤◌, length, nat_le, take, drop, string_bytes};
-ghost use Rattle.std.specs.Str.{IsCharBoundary};
+ghost use Rattle.std.specs.Prelude.{◌≡◌, ◌++◌, [], List, ℕ, Some, IfOk, length, map, nat_le, string_bytes, true};
 ghost use Rattle.yq_scalar.specs.Characters.{text_limit};
-ghost use Rattle.yq_tree.specs.Built.{IsCut};
-ghost use Rattle.yq_tree.specs.Rows.{Cut};
+ghost use Rattle.yq_scalar.specs.Writable as writable;
+ghost use Rattle.yq_scalar.specs.Written.{IsInline};
+ghost use Rattle.yq_scalar.specs.declared.style.Place.TheVariants as places;
+ghost use Rattle.yq_inline.specs.Entries.{step_of};
+ghost use Rattle.yq_inline.specs.Scalars as scalars;
+ghost use Rattle.yq_inline.specs.Valued.{IsValid};
+ghost use Rattle.yq_rows.specs.Grammar.{IsCut};
+ghost use Rattle.yq_rows.specs.Rows.{Cut};
 ghost use Rattle.yq_tree.specs.Documents.{Document, Reads};
-ghost use Rattle.yq_tree.specs.Reading.{read_at};
-ghost use Rattle.yq_tree.specs.View.{steps_of};
+ghost use Rattle.yq_tree.specs.Reading.{cut_of, read_at};
+ghost use Rattle.yq_tree.specs.Written.{written_at};
 ghost use Rattle.yq_expr.specs.View.{program_of};
 ghost use Rattle.yq_expr.specs.Operations.{operation_of, operations_of};
-ghost use Rattle.yq_expr.specs.Written as written;
 ghost use Rattle.yq_splice.specs.Answers.{Edits};
 ghost use Rattle.yq_splice.specs.Edit as spec;
 ghost use Rattle.yq_splice.specs.Style as style;
 ghost use Rattle.yq_splice.specs.Theorems.{IsInside, IsMeant, AreSplices};
-ghost use Rattle.yq_splice.specs.Valid.{IsValid, HasOperand, HaveOperands, HasOperands};
+ghost use Rattle.yq_splice.specs.Valid.{HasOperand, HaveOperands, HasOperands};
 
 use crate::edited::{EditError, Edited};
 use crate::splice::Splice;
 use std::alloc::{AllocError, Global};
-use yq_expr::{Op, Program, Refusal, Value, plan, written_at};
+use yq_expr::{Op, Program, Refusal, Value, plan};
 use yq_scalar::characters::TEXT_LIMIT;
-use yq_scalar::{Kind, Place, Scalar, Style, can_write};
-use yq_tree::{Documents, Path, Span, read};
+use yq_scalar::{Kind, Place, Scalar, Style, can_write, write_scalar};
+use yq_tree::{Documents, Step, read};
 
 /// The text as it is.
 fn unchanged(alloc: Global, text: &str) -> Result<Edited, AllocError>
@@ -70,18 +74,6 @@ fn put_between(
     Ok(Edited { text, splices })
 }
 
-/// The text whose piece at a place is exchanged.
-fn put_at(alloc: Global, text: &str, span: Span, new: &str) -> Result<Edited, EditError>
-    requires order { span.start ≤ span.end }
-    requires start { IsCharBoundary text.now span.start }
-    requires end { IsCharBoundary (drop span.start text.now) (span.end - span.start) }
-    ensures { Edits result (spec.put_between (take span.start text.now) (take (span.end - span.start) (drop span.start text.now)) new.now (drop (span.end - span.start) (drop span.start text.now))) }
-{
-    let (before, rest) = text.split_at(span.start);
-    let (old, behind) = rest.split_at(span.end - span.start);
-    put_between(alloc, before, old, new, behind)
-}
-
 /// Whether a scalar has that kind and that text.
 fn is_same(kind: Kind, text: &str, scalar: &Scalar) -> bool
     ensures value { result ≡ style.is_same (record { kind = kind; text = text.now }) scalar.now }
@@ -91,29 +83,55 @@ fn is_same(kind: Kind, text: &str, scalar: &Scalar) -> bool
     kind == scalar.kind() && text == other
 }
 
+/// The style of a scalar as it is written.
+fn style_of(scalar: &[u8]) -> Style
+    ensures value { result ≡ scalars.style_of scalar.now }
+    ensures inline { IsInline result }
+{
+    match scalar {
+        [b'\'', ..] => Style::Single,
+        [b'"', ..] => Style::Double,
+        _ => Style::Plain,
+    }
+}
+
+/// The style in which a scalar is written in the place of one of a style.
+fn new_style(scalar: &Scalar, old: Style) -> Style
+    requires { IsInline old }
+    ensures value { result ≡ style.new_style scalar.now old }
+    ensures can { writable.can_write scalar.now result places.Block ≡ true }
+    ensures inline { IsInline result }
+{
+    if can_write(scalar, old, Place::Block) {
+        old
+    } else if can_write(scalar, Style::Plain, Place::Block) {
+        Style::Plain
+    } else {
+        Style::Double
+    }
+}
+
 /// A scalar in the place of the one that is written at a path.
 fn replace_scalar(
     alloc: Global,
     text: &str,
     documents: &Documents<'_>,
-    path: &Path,
+    steps: &[Step],
     scalar: &Scalar,
 ) -> Result<Edited, EditError>
-    requires cut { IsCut text.now documents.now }
-    requires first { path.now.doc ≡ 0 }
-    ensures exact { Edits result (spec.replace_at scalar.now (written.written_at (steps_of path.now) documents.now.rows) documents.now) }
+    requires { IsCut text.now (cut_of documents.now) }
+    ensures exact { Edits result (spec.replace_at scalar.now (written_at (map step_of steps.now) (cut_of documents.now)) (cut_of documents.now)) }
     ensures valid { IfOk result (λ e. IsValid scalar.now) }
 {
-    let Some(old) = written_at(documents, path) else {
+    let Some(old) = documents.written(steps) else {
         return Err(EditError::NotInProfile);
     };
     if is_same(old.kind, old.text, scalar) {
         return Ok(unchanged(alloc, text)?);
     }
-    if !can_write(scalar, Style::Plain, Place::Block) {
-        return Err(EditError::NotInProfile);
-    }
-    put_at(alloc, text, old.span, scalar.text())
+    let style = new_style(scalar, style_of(old.scalar.as_bytes()));
+    let new = write_scalar(alloc, scalar, style, Place::Block)?;
+    put_between(alloc, old.before, old.scalar, &new, old.behind)
 }
 
 /// An operation carried out on a text.
@@ -123,8 +141,8 @@ fn carry_one(
     documents: &Documents<'_>,
     op: &Op,
 ) -> Result<Edited, EditError>
-    requires { IsCut text.now documents.now }
-    ensures exact { Edits result (spec.carry_one (operation_of op.now) documents.now) }
+    requires { IsCut text.now (cut_of documents.now) }
+    ensures exact { Edits result (spec.carry_one (operation_of op.now) (cut_of documents.now)) }
     ensures valid { IfOk result (λ e. HasOperand (operation_of op.now)) }
 {
     let Op::Replace(path, value) = op else {
@@ -136,7 +154,7 @@ fn carry_one(
     let Value::Scalar(scalar) = value else {
         return Err(EditError::NotInProfile);
     };
-    replace_scalar(alloc, text, documents, path, scalar)
+    replace_scalar(alloc, text, documents, &path.steps, scalar)
 }
 
 /// Operations carried out on a text.
@@ -146,8 +164,8 @@ fn carry_all(
     documents: &Documents<'_>,
     ops: &[Op],
 ) -> Result<Edited, EditError>
-    requires { IsCut text.now documents.now }
-    ensures exact { Edits result (spec.carry_all (operations_of ops.now) documents.now) }
+    requires { IsCut text.now (cut_of documents.now) }
+    ensures exact { Edits result (spec.carry_all (operations_of ops.now) (cut_of documents.now)) }
     ensures valid { IfOk result (λ e. HaveOperands (operations_of ops.now)) }
 {
     match ops {
@@ -164,9 +182,9 @@ fn edit_documents(
     program: &Program,
     documents: &Documents<'_>,
 ) -> Result<Edited, EditError>
-    requires { IsCut text.now documents.now }
-    ensures exact { Edits result (spec.edit_rows (program_of program.now) documents.now) }
-    ensures valid { IfOk result (λ e. HasOperands (program_of program.now) documents.now) }
+    requires { IsCut text.now (cut_of documents.now) }
+    ensures exact { Edits result (spec.edit_rows (program_of program.now) (cut_of documents.now)) }
+    ensures valid { IfOk result (λ e. HasOperands (program_of program.now) (cut_of documents.now)) }
 {
     if program.is_read() {
         return Err(EditError::Refused(Refusal::NotAnUpdate));
@@ -197,7 +215,7 @@ fn edit_text(alloc: Global, text: &str, program: &Program) -> Result<Edited, Edi
 pub fn edit(alloc: Global, text: &str, program: &Program) -> Result<Edited, EditError>
     // The new text, or why there is none.
     ensures exact { Edits result (spec.edit_of (program_of program.now) text.now) }
-    // One head is exchanged, and the text before it and behind it stays.
+    // One scalar is exchanged, and the text before it and behind it stays.
     ensures inside { IfOk result (λ e. IsInside (program_of program.now) text.now (string_bytes e.text)) }
     // The new text reads as what the program means.
     ensures meaning { IfOk result (λ e. (docs : List Document) → Reads text.now docs → IsMeant (program_of program.now) docs (string_bytes e.text)) }

@@ -24,7 +24,7 @@ fn text_of(alloc: Global, row: &Row, middle: &str) -> Result<String, AllocError>
     Ok(text)
 }
 
-/// One head gives way to another, and one splice says so.
+/// One scalar gives way to another, and one splice says so.
 #[test]
 fn edits(rt: HostRuntime) -> Result<(), Fail> {
     let alloc = rt.alloc();
@@ -78,6 +78,69 @@ fn edits(rt: HostRuntime) -> Result<(), Fail> {
             new: "1.5",
             behind: "\n  d: 1\n",
         },
+        Row {
+            expression: ".name = \"true\"",
+            before: "name: ",
+            old: "web",
+            new: "\"true\"",
+            behind: " # main\nport: 8080\n",
+        },
+        Row {
+            expression: ".a = 2",
+            before: "a: &x ",
+            old: "1",
+            new: "2",
+            behind: "\nb: *x\n",
+        },
+        Row {
+            expression: ".a = \"y\"",
+            before: "# é\na: &x  ",
+            old: "'it''s'",
+            new: "'y'",
+            behind: "  # c\nb:\n- *x\n",
+        },
+        Row {
+            expression: ".a = 3",
+            before: "a: ",
+            old: "'x'",
+            new: "3",
+            behind: "\nb: 1\n",
+        },
+        Row {
+            expression: ".a = \"b\\nc\"",
+            before: "a: ",
+            old: "'x'",
+            new: "\"b\\nc\"",
+            behind: " # d\n",
+        },
+        Row {
+            expression: ".a = \"it's\"",
+            before: "\"a\": ",
+            old: "'x'",
+            new: "'it''s'",
+            behind: "\nb: |\n  'y'\n",
+        },
+        Row {
+            expression: ".a = \"y\"",
+            before: "\"a\" : ",
+            old: "\"x\\ty\"",
+            new: "\"y\"",
+            behind: "\nb: [1, {c: 2}]\n",
+        },
+        Row {
+            expression: ".a = \"- b\"",
+            before: "---\na: ",
+            old: "x",
+            new: "\"- b\"",
+            behind: "\n...\n# end\n",
+        },
+        Row {
+            expression: ".a = \"b c\"",
+            before: "z: |+\n  text\n# about a\na: ",
+            old: "one\n  two",
+            new: "b c",
+            behind: "\nl:\n- - 1\n  - k: v\n",
+        },
     ];
     for row in rows {
         let old = text_of(alloc, &row, row.old)?;
@@ -103,6 +166,9 @@ fn leaves_equal_scalars(rt: HostRuntime) -> Result<(), Fail> {
         ("a: ~\n", ".a = null"),
         ("a: NULL\n", ".a = null"),
         ("a: ---x\n", ".a = \"---x\""),
+        ("a: 'x' # c\n", ".a = \"x\""),
+        ("a: \"\\x41\"\n", ".a = \"A\""),
+        ("a: &n 'x\n  y'\nb: *n\n", ".a = \"x y\""),
     ];
     for (text, expression) in rows {
         let program = parse_expr(alloc, expression)?;
@@ -155,7 +221,16 @@ fn refuses(rt: HostRuntime) -> Result<(), Fail> {
         ("a:\nb: 1\n", ".a = 1", EditError::NotInProfile),
         ("a:\n  b: 1\n", ".a = 1", EditError::NotInProfile),
         ("a: 1\n", ". = 1", EditError::NotInProfile),
-        ("a: 1\n", ".a = \"1\"", EditError::NotInProfile),
+        ("a: |\n  x\n", ".a = \"1\"", EditError::NotInProfile),
+        ("a: [1]\n", ".a = 1", EditError::NotInProfile),
+        ("a: &x 1\nb: *x\n", ".b = 1", EditError::NotInProfile),
+        (
+            "a: &x 1\nb: *x\n",
+            ".b.c = 1",
+            EditError::Refused(Refusal::ThroughAlias),
+        ),
+        ("a: [1]\n", ".a.b = 1", EditError::Refused(Refusal::NotAMap)),
+        ("a: 1\n---\na: 1\n", ".a = 2", EditError::NotInProfile),
         ("a: 1\n", ".a = [1]", EditError::NotInProfile),
         ("a: 1\n", ".a = .a", EditError::NotInProfile),
         ("a: 1\n", ".a |= 2", EditError::NotInProfile),

@@ -1,56 +1,85 @@
--- What is asked of the rows of a document.
-use Rattle.std.proofs.Common.{◌≡◌, ℕ, ◌+◌, ◌<◌, List, drop, Some, Bool, true, false, not, ◌&&◌, ◌||◌, Err, refl, sym, ap, ◌∙◌, arith}
-use Rattle.std.proofs.lemmas.Bool.{lt-ltb, cond-true}
-use Rattle.std.specs.List.{list_any, list_all, slice_get}
-use Rattle.yq_scalar.specs.declared.fault.ReadError.{ReadError}
-use Rattle.yq_scalar.specs.declared.fault.ReadError.TheVariants as error
-use Rattle.yq_tree.specs.Rows.{Row, Cut}
-use Rattle.yq_tree.specs.Built.{is_built}
-use Rattle.yq_tree.specs.Documents.{depth_limit}
-use Rattle.yq_tree.specs.Ends.{part}
-use Rattle.yq_tree.specs.Group.{deeper}
+-- Documents, read from parts and told by them.
+use Rattle.std.proofs.Common.{◌≡◌, leb, List, [], ◌∷◌, map, Bool, true, false, ◌&&◌, Some, None, cond, refl, sym, ap, ◌∙◌}
+use Rattle.std.proofs.lemmas.Bool.{and_parts, and_from, leb-true, le-leb, cond-true}
+use Rattle.std.specs.List.{list_all}
+use Rattle.yq_scalar.specs.Tree.{Node}
+use Rattle.yq_scalar.specs.Keys.{depth}
+use Rattle.yq_rows.specs.Rows.{Part}
+use Rattle.yq_tree.specs.Anchors.{names_of}
+use Rattle.yq_tree.specs.Documents.{Document, IsRoot, IsDocument, AreDocuments, depth_limit}
+use Rattle.yq_tree.specs.Group.{group, is_fine}
 use Rattle.yq_tree.specs.Lines.{lines_of}
-use Rattle.yq_tree.specs.Outline.{Line, level, Outline, end, row}
-use Rattle.yq_tree.specs.Reading.{outline_of, is_merge, is_document}
-use Rattle.yq_tree.specs.Sound.{is_sound, Tells}
-use Rattle.yq_tree.proofs.Parts.{drop_at}
-use Rattle.yq_tree.proofs.Values.{rank_small}
+use Rattle.yq_tree.specs.Outline.{Line, value}
+use Rattle.yq_tree.specs.Reading.{outline_of, root_of, document_of, have_fit_keys, has_short_root, have_one_anchor_each, are_bound, is_document}
+use Rattle.yq_tree.specs.Sound.{has_unique_keys, is_sound}
+use Rattle.yq_tree.proofs.ByRules.{rules_from, rules_give}
+use Rattle.yq_tree.proofs.Conditions.{keys_are, are_keys, short_is, is_short, anchors_are, are_anchors, bound_are, are_bound_of}
+use Rattle.yq_tree.proofs.Decides.{stand-sound, stand-complete}
+use Rattle.yq_tree.proofs.KeyLaws.{unique_is, is_unique}
 
--- one row tested for a merge key
-merge_step : (rows : List Row) (at : ℕ) (r : Row) → slice_get rows at ≡ Some r → list_any is_merge (drop at rows) ≡ (is_merge r || list_any is_merge (drop (at + 1) rows))
-merge_step rows at r is = ap (list_any is_merge) (drop_at rows at r is)
+-- the root of lines, as a test and as a fact
+root_is : (ls : List Line) → is_fine (group ls) ≡ true → IsRoot ls (value (group ls))
+root_is [] e = refl
+root_is (l ∷ ls) e =
+    let s = stand-sound (l ∷ ls) (value (group (l ∷ ls))) (cond-true _ _ _ e) in (s.0, rules_from s.0 (l ∷ ls) (value (group (l ∷ ls))) s.1 l ls refl)
 
-pub merge_found : (rows : List Row) (at : ℕ) (r : Row) → slice_get rows at ≡ Some r → is_merge r ≡ true → list_any is_merge rows ≡ list_any is_merge (drop at rows) → true ≡ list_any is_merge rows
-merge_found rows at r is e so_far = sym (so_far ∙ (merge_step rows at r is ∙ ap (λ b. b || list_any is_merge (drop (at + 1) rows)) e))
+pub fine_value : (b : Bool) (v w : Node) → cond b (Some v) None ≡ Some w → (b ≡ true) × (v ≡ w)
+fine_value true v w e = (refl, cc)
+fine_value false v w e = cc
 
-pub merge_passed : (rows : List Row) (at : ℕ) (r : Row) → slice_get rows at ≡ Some r → is_merge r ≡ false → list_any is_merge rows ≡ list_any is_merge (drop at rows) → list_any is_merge rows ≡ list_any is_merge (drop (at + 1) rows)
-merge_passed rows at r is e so_far = so_far ∙ (merge_step rows at r is ∙ ap (λ b. b || list_any is_merge (drop (at + 1) rows)) e)
+is_root : (ls : List Line) (node : Node) → IsRoot ls node → (is_fine (group ls) ≡ true) × (value (group ls) ≡ node)
+is_root [] node h = (refl, sym h)
+is_root (l ∷ ls) node h = fine_value (is_fine (group (l ∷ ls))) (value (group (l ∷ ls))) node (stand-complete (l ∷ ls) node h.0 (rules_give h.0 (l ∷ ls) node h.1))
 
--- one row tested for its form
-built_step : (rows : List Row) (at : ℕ) (r : Row) → slice_get rows at ≡ Some r → list_all is_built (drop at rows) ≡ (is_built r && list_all is_built (drop (at + 1) rows))
-built_step rows at r is = ap (list_all is_built) (drop_at rows at r is)
+-- what the tests of a document are, one behind the other
+abbrev Tests : Bool → Bool → Bool → Bool → Bool → Type 0
+Tests a b c d e = (a ≡ true) × (b ≡ true) × (c ≡ true) × (d ≡ true) × (e ≡ true)
 
-pub other_found : (rows : List Row) (at : ℕ) (r : Row) → slice_get rows at ≡ Some r → is_built r ≡ false → list_all is_built rows ≡ list_all is_built (drop at rows) → true ≡ not (list_all is_built rows)
-other_found rows at r is e so_far = sym (ap not (so_far ∙ (built_step rows at r is ∙ ap (λ b. b && list_all is_built (drop (at + 1) rows)) e)))
+tests_are : (a b c d e : Bool) → (a && (b && (c && (d && e)))) ≡ true → Tests a b c d e
+tests_are a b c d e h =
+    let p = and_parts a (b && (c && (d && e))) h in let q = and_parts b (c && (d && e)) p.1 in let r = and_parts c (d && e) q.1 in let s = and_parts d e r.1 in
+    (p.0, q.0, r.0, s.0, s.1)
 
-pub built_passed : (rows : List Row) (at : ℕ) (r : Row) → slice_get rows at ≡ Some r → is_built r ≡ true → list_all is_built rows ≡ list_all is_built (drop at rows) → list_all is_built rows ≡ list_all is_built (drop (at + 1) rows)
-built_passed rows at r is e so_far = so_far ∙ (built_step rows at r is ∙ ap (λ b. b && list_all is_built (drop (at + 1) rows)) e)
+are_tests : (a b c d e : Bool) → Tests a b c d e → (a && (b && (c && (d && e)))) ≡ true
+are_tests a b c d e h = and_from a _ h.0 (and_from b _ h.1 (and_from c _ h.2 (and_from d e h.3 h.4)))
 
-above : (l : Line) → 0 < level l
-unfolding level
-above l = omega (arith, rank_small l.mark)
+pub document_is : (p : Part) → is_document p ≡ true → IsDocument p (document_of p)
+document_is p e =
+    let t = tests_are (have_fit_keys p.rows) (has_short_root p.rows) (have_one_anchor_each (lines_of p.rows)) (are_bound [] (names_of (root_of p))) (is_sound depth_limit (outline_of p)) e in
+    let q = and_parts (is_fine (outline_of p)) (leb (depth (root_of p)) depth_limit && has_unique_keys (root_of p)) t.4 in
+    let r = and_parts (leb (depth (root_of p)) depth_limit) (has_unique_keys (root_of p)) q.1 in
+    record {
+      lead = refl;
+      root = root_is (lines_of p.rows) q.0;
+      keys = keys_are p.rows t.0;
+      unique = unique_is (root_of p) r.1;
+      nested = leb-true (depth (root_of p)) depth_limit r.0;
+      anchors = anchors_are (lines_of p.rows) t.2;
+      bound = bound_are [] (names_of (root_of p)) t.3;
+      short = short_is p.rows t.1;
+    }
 
--- all lines are deeper than the lowest floor
-pub deeper-all : (o : Outline) → deeper 0 o ≡ o
-deeper-all end = refl
-deeper-all (row l u a) = cond-true _ _ _ (lt-ltb 0 (level l) (above l)) ∙ ap (row l u) (deeper-all a)
+pub is_document_of : (p : Part) (d : Document) → IsDocument p d → (is_document p ≡ true) × (document_of p ≡ d)
+is_document_of p d h =
+    let root = is_root (lines_of p.rows) d.root h.root in
+    let nested : leb (depth (root_of p)) depth_limit ≡ true = ap (λ n. leb (depth n) depth_limit) root.1 ∙ le-leb (depth d.root) depth_limit h.nested in
+    let unique : has_unique_keys (root_of p) ≡ true = ap has_unique_keys root.1 ∙ is_unique d.root h.unique in
+    let bound : are_bound [] (names_of (root_of p)) ≡ true = ap (λ n. are_bound [] (names_of n)) root.1 ∙ are_bound_of [] (names_of d.root) h.bound in
+    let sound : is_sound depth_limit (outline_of p) ≡ true = and_from (is_fine (outline_of p)) _ root.0 (and_from (leb (depth (root_of p)) depth_limit) (has_unique_keys (root_of p)) nested unique) in (
+      are_tests (have_fit_keys p.rows) (has_short_root p.rows) (have_one_anchor_each (lines_of p.rows)) (are_bound [] (names_of (root_of p))) (is_sound depth_limit (outline_of p))
+          (are_keys p.rows h.keys, is_short p.rows h.short, are_anchors (lines_of p.rows) h.anchors, bound, sound),
+      λ i. record { lead = sym h.lead i; root = root.1 i },
+    )
 
-document_is : (c : Cut) → false ≡ list_any is_merge c.rows → is_document c ≡ is_sound depth_limit (part (lines_of c.rows) 0 0)
-document_is c e = ap (λ b. not b && is_sound depth_limit (outline_of c)) (sym e) ∙ ap (is_sound depth_limit) (sym (deeper-all (outline_of c)))
+pub documents_take : (ps : List Part) → list_all is_document ps ≡ true → AreDocuments ps (map document_of ps)
+documents_take [] e = tt
+documents_take (p ∷ ps) e = let t = and_parts (is_document p) (list_all is_document ps) e in (document_is p t.0, documents_take ps t.1)
 
-pub told_document : (c : Cut) (b : Bool) → false ≡ list_any is_merge c.rows → is_sound depth_limit (part (lines_of c.rows) 0 0) ≡ b → is_document c ≡ b
-told_document c b e told = document_is c e ∙ told
-
-pub tells_document : (e : ReadError) (c : Cut) → false ≡ list_any is_merge c.rows → Tells {X = Unit {0}} (Err e) (is_sound depth_limit (part (lines_of c.rows) 0 0)) → Tells {X = Unit {0}} (Err e) (is_document c)
-tells_document error.Memory c m h = tt
-tells_document (error.Fault f) c m h = document_is c m ∙ h
+pub documents_again : (ps : List Part) (ds : List Document) → AreDocuments ps ds → (list_all is_document ps ≡ true) × (map document_of ps ≡ ds)
+documents_again [] [] h = (refl, refl)
+documents_again [] (d ∷ ds) h = absurd h
+documents_again (p ∷ ps) [] h = absurd h
+documents_again (p ∷ ps) (d ∷ ds) h =
+    let one = is_document_of p d h.0 in
+    let more = documents_again ps ds h.1 in
+    (and_from (is_document p) (list_all is_document ps) one.0 more.0, λ i. one.1 i ∷ more.1 i)

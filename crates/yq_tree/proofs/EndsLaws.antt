@@ -1,50 +1,39 @@
 -- Where the lines under each line end.
-use Rattle.std.proofs.Common.{◌≡◌, ℕ, ◌+◌, ◌*◌, ◌<◌, ◌≤◌, ltb, List, length, drop, set, get_or, Some, None, option_map, Bool, true, false, not, cond, ◌⊎◌, inl, inr, refl, sym, ap, ◌∙◌, subst, arith, ⊎_elim, get_or-set_same, get_or-set_other}
+use Rattle.std.proofs.Common.{◌≡◌, ℕ, ◌+◌, ◌<◌, ◌≤◌, ltb, List, length, drop, set, get_or, Some, None, option_map, Bool, true, false, not, cond, ◌⊎◌, inl, inr, refl, sym, ap, ◌∙◌, subst, arith, ⊎_elim, get_or-set_same, get_or-set_other}
 use Rattle.std.proofs.lemmas.Bool.{lt-ltb, le-ltb, cases_lt, cases_eq, false≢true}
 use Rattle.std.proofs.lemmas.List.{length-map}
 use Rattle.std.proofs.lemmas.Option.{slice_get_cases, slice_get-map}
 use Rattle.std.specs.List.{slice_get}
-use Rattle.yq_tree.specs.Rows.{Row}
+use Rattle.yq_tree.specs.declared.line.Line as declared
 use Rattle.yq_tree.specs.Outline.{Line, level, Outline, end, row}
 use Rattle.yq_tree.specs.Group.{deeper, shallow, group}
-use Rattle.yq_tree.specs.Lines.{line_of, lines_of}
+use Rattle.yq_tree.specs.View.{view, views}
 use Rattle.yq_tree.specs.Ends.{part, rest, is_end, IsEndOf, AreEndsFrom}
 use Rattle.yq_tree.proofs.Parts.{part_row, part_stop, part_past, passed}
 
-pub line_at : (rows : List Row) (i : ℕ) (r : Row) → slice_get rows i ≡ Some r → slice_get (lines_of rows) i ≡ Some (line_of r)
-line_at rows i r e = slice_get-map line_of rows i ∙ ap (option_map line_of) e
+pub line_at : (ls : List declared.Line) (i : ℕ) (l : declared.Line) → slice_get ls i ≡ Some l → slice_get (views ls) i ≡ Some (view l)
+line_at ls i l e = slice_get-map view ls i ∙ ap (option_map view) e
 
-pub has_row : {A : Type 0} (rows : List A) (i : ℕ) → i < length rows → (r : A) × (slice_get rows i ≡ Some r)
-has_row {A = A} rows i h = go ((slice_get_cases rows i).1)
+pub has_line : (ls : List Line) (i : ℕ) → i < length ls → (l : Line) × (slice_get ls i ≡ Some l)
+has_line ls i h = go ((slice_get_cases ls i).1)
   where
-    go : ((x : A) × (i < length rows) × (slice_get rows i ≡ Some x) × (get_or rows i x ≡ x)) ⊎ ((length rows ≤ i) × (slice_get rows i ≡ None)) → (r : A) × (slice_get rows i ≡ Some r)
+    go : ((x : Line) × (i < length ls) × (slice_get ls i ≡ Some x) × (get_or ls i x ≡ x)) ⊎ ((length ls ≤ i) × (slice_get ls i ≡ None)) → (l : Line) × (slice_get ls i ≡ Some l)
     go (inl there) = (there.0, there.2)
     go (inr past) = absurd (omega (arith, past.0, h))
 
-pub lines-length : (rows : List Row) → length (lines_of rows) ≡ length rows
-lines-length rows = length-map rows line_of
+pub views-length : (ls : List declared.Line) → length (views ls) ≡ length ls
+views-length ls = length-map ls view
 
-pub level_is : (r : Row) → level (line_of r) ≡ 3 * r.column + 2
-unfolding level
-level_is r = refl
-
-above : (r : Row) → 0 < level (line_of r)
-above r = omega (arith, level_is r)
-
-pub deeper_root : (rows : List Row) (i : ℕ) → i < length rows → true ≡ not (is_end (part (lines_of rows) i 0))
-deeper_root rows i h =
-    let r = has_row rows i h in
-    sym (ap (λ o. not (is_end o)) (part_row (lines_of rows) i 0 (line_of r.0) (line_at rows i r.0 r.1) (above r.0)))
-
-pub deeper_row : (rows : List Row) (i column : ℕ) (r : Row) → slice_get rows i ≡ Some r → ltb column r.column ≡ not (is_end (part (lines_of rows) i (3 * column + 2)))
-deeper_row rows i column r is = go (cases_lt column r.column)
+-- a line is among the deeper ones exactly where its level is greater
+pub deeper_at : (ls : List Line) (i floor : ℕ) (l : Line) → slice_get ls i ≡ Some l → ltb floor (level l) ≡ not (is_end (part ls i floor))
+deeper_at ls i floor l is = go (cases_lt floor (level l))
   where
-    go : (column < r.column) ⊎ (r.column ≤ column) → ltb column r.column ≡ not (is_end (part (lines_of rows) i (3 * column + 2)))
-    go (inl h) = lt-ltb column r.column h ∙ sym (ap (λ o. not (is_end o)) (part_row (lines_of rows) i (3 * column + 2) (line_of r) (line_at rows i r is) (omega (arith, level_is r))))
-    go (inr h) = le-ltb column r.column h ∙ sym (ap (λ o. not (is_end o)) (part_stop (lines_of rows) i (3 * column + 2) (line_of r) (line_at rows i r is) (omega (arith, level_is r))))
+    go : (floor < level l) ⊎ (level l ≤ floor) → ltb floor (level l) ≡ not (is_end (part ls i floor))
+    go (inl h) = lt-ltb floor (level l) h ∙ sym (ap (λ o. not (is_end o)) (part_row ls i floor l is h))
+    go (inr h) = le-ltb floor (level l) h ∙ sym (ap (λ o. not (is_end o)) (part_stop ls i floor l is h))
 
-pub deeper_past : (rows : List Row) (i floor : ℕ) → length rows ≤ i → false ≡ not (is_end (part (lines_of rows) i floor))
-deeper_past rows i floor h = sym (ap (λ o. not (is_end o)) (part_past (lines_of rows) i floor (omega (arith, lines-length rows))))
+pub deeper_past : (ls : List declared.Line) (i floor : ℕ) → length ls ≤ i → false ≡ not (is_end (part (views ls) i floor))
+deeper_past ls i floor h = sym (ap (λ o. not (is_end o)) (part_past (views ls) i floor (omega (arith, views-length ls))))
 
 pub not_end : (e : Bool) → true ≡ not e → e ≡ false
 not_end true h = h
@@ -75,28 +64,26 @@ deeper_line ls i floor l is h = go (cases_lt floor (level l))
     go (inr le) = absurd (false≢true (sym h ∙ ap is_end (part_stop ls i floor l is le)))
 
 -- one step of the search for the end
-pub end_step : (rows : List Row) (ends : List ℕ) (at next floor : ℕ) → AreEndsFrom (at + 1) (lines_of rows) ends → at < next → next < length rows →
-    true ≡ not (is_end (part (lines_of rows) next floor)) → (next < get_or ends next 0) × (get_or ends next 0 ≤ length rows) × (rest (lines_of rows) next floor ≡ rest (lines_of rows) (get_or ends next 0) floor)
-end_step rows ends at next floor later lt within deep =
-    let r = has_row rows next within in
-    let l = line_at rows next r.0 r.1 in
-    let e : IsEndOf (lines_of rows) next (get_or ends next 0) = later next (omega arith) (omega (arith, lines-length rows)) in (
+pub end_step : (ls : List Line) (ends : List ℕ) (at next floor : ℕ) → AreEndsFrom (at + 1) ls ends → at < next → next < length ls →
+    true ≡ not (is_end (part ls next floor)) → (next < get_or ends next 0) × (get_or ends next 0 ≤ length ls) × (rest ls next floor ≡ rest ls (get_or ends next 0) floor)
+end_step ls ends at next floor later lt within deep =
+    let r = has_line ls next within in
+    let e : IsEndOf ls next (get_or ends next 0) = later next (omega arith) within in (
       e.0,
-      omega (arith, lines-length rows, e.1),
-      passed (lines_of rows) floor next (get_or ends next 0) (line_of r.0) l (deeper_line (lines_of rows) next floor (line_of r.0) l (not_end _ deep)) (e.2 (line_of r.0) l),
+      e.1,
+      passed ls floor next (get_or ends next 0) r.0 r.1 (deeper_line ls next floor r.0 r.1 (not_end _ deep)) (e.2 r.0 r.1),
     )
 
 same_line : {x y : Line} → Some x ≡ Some y → x ≡ y
 same_line e = cc
 
 -- where the search stops is the end
-pub end_found : (rows : List Row) (at next column : ℕ) (r : Row) → slice_get rows at ≡ Some r → column ≡ r.column → at < next → next ≤ length rows →
-    rest (lines_of rows) (at + 1) (3 * column + 2) ≡ rest (lines_of rows) next (3 * column + 2) → false ≡ not (is_end (part (lines_of rows) next (3 * column + 2))) → IsEndOf (lines_of rows) at next
-end_found rows at next column r is same lt within so_far stop = (
+pub end_found : (ls : List Line) (at next floor : ℕ) (l : Line) → slice_get ls at ≡ Some l → floor ≡ level l → at < next → next ≤ length ls →
+    rest ls (at + 1) floor ≡ rest ls next floor → false ≡ not (is_end (part ls next floor)) → IsEndOf ls at next
+end_found ls at next floor l is same lt within so_far stop = (
   lt,
-  omega (arith, lines-length rows),
-  λ l e. let lev : level l ≡ 3 * column + 2 = ap level (same_line (sym e ∙ line_at rows at r is)) ∙ (level_is r ∙ ap (λ c. 3 * c + 2) (sym same)) in
-      ap (rest (lines_of rows) (at + 1)) lev ∙ (so_far ∙ rest_end (lines_of rows) next (3 * column + 2) (is_at_end _ stop)),
+  within,
+  λ m e. ap (rest ls (at + 1)) (ap level (same_line (sym e ∙ is)) ∙ sym same) ∙ (so_far ∙ rest_end ls next floor (is_at_end _ stop)),
 )
 
 -- the end of the lines under one more line

@@ -1,142 +1,184 @@
--- The heads of rows: where they stand, and what stands in their place.
-use Rattle.std.proofs.Common.{◌≡◌, ℕ, zero, suc, ◌≤◌, false, true, List, [], ◌∷◌, ◌++◌, length, map, Some, refl, sym, ap, ◌∙◌, subst, append_assoc, append-nil, replicate}
-use Rattle.std.specs.List.{slice_get}
-use Rattle.std.specs.Str.{IsUtf8}
-use Rattle.yq_scalar.specs.Characters.{is_text, text_limit}
-use Rattle.yq_scalar.specs.Plain.{ends_plain, IsPlain, holds_break}
+-- The head of a row is that of its content.
+use Rattle.std.proofs.Common.{◌≡◌, ℕ, ℤ, ◌-◌, ◌≤◌, arith, Bool, true, false, cond, not, eqb, List, [], ◌∷◌, ◌++◌, length, drop, Option, Some, None, refl, sym, ap, ◌∙◌, ⊎_elim, append-nil, length-append, subst}
+use Rattle.std.proofs.lemmas.Bool.{false≢true, cond_both}
+use Rattle.std.proofs.lemmas.List.{drop_at}
+use Rattle.std.proofs.lemmas.Str.{IsCharBoundary-at_seam}
+use Rattle.std.specs.Str.{IsUtf8, IsCharBoundary}
+use Rattle.yq_scalar.specs.declared.block_header.BlockStyle.{BlockStyle}
+use Rattle.yq_scalar.specs.declared.block_header.BlockStyle.TheVariants as styles
+use Rattle.yq_scalar.specs.Block.{mark_of, BlockText, block_text, IsBlock}
+use Rattle.yq_scalar.specs.Answers.{◌>>=◌}
+use Rattle.yq_scalar.specs.declared.style.Place.TheVariants as places
+use Rattle.yq_scalar.specs.Piece.{deeper}
+use Rattle.yq_scalar.specs.Tree as trees
+use Rattle.yq_scalar.specs.Plain.{holds_break}
+use Rattle.yq_scalar.specs.Scalar.{plain_of}
 use Rattle.yq_scalar.specs.Text.{is_empty}
-use Rattle.yq_rows.specs.View.{slices_text}
-use Rattle.yq_tree.specs.Built.{IsCut}
-use Rattle.yq_tree.specs.Exchange.{with_head_at, exchange_head, row_front, before_head, behind_head_at, HasPieces}
-use Rattle.yq_tree.specs.Rows.{Row, with_head, behind_head, rows_text, Cut, end_of, cut_text}
-use Rattle.yq_tree.proofs.BoundaryLaws as boundaries
-use Rattle.yq_tree.proofs.KeyCuts.{HasKeys, end_is, cut_keys, keys_cut}
-use Rattle.yq_tree.proofs.KeyExchange as exchange
-use Rattle.yq_tree.proofs.KeyRows as keys
-use Rattle.yq_tree.proofs.KeyRows.{KeyRow, slices_of, keys_text, IsKeyCut}
+use Rattle.yq_scalar.proofs.BlockLaws.{block_again}
+use Rattle.yq_scalar.proofs.Bools.{is_true, and_true}
+use Rattle.yq_inline.specs.Inline.{depth_limit, IsInlineAt}
+use Rattle.yq_inline.specs.Nodes.{Node, empty, alias, scalar, coll, anchored, node_text, items_text, is_bare, takes_anchor, IsNode}
+use Rattle.yq_inline.specs.Places.{placed, mapping, sequence, Parts, holder, locate, locate_items}
+use Rattle.yq_inline.specs.Scalars.{IsScalar, is_quoted, begins_scalar, scalar_of}
+use Rattle.yq_inline.specs.Trees.{scalar_node, placed_tree, tree_of}
+use Rattle.yq_inline.proofs.NodeAgain.{is_anchored}
+use Rattle.yq_inline.proofs.InlineLaws.{inline_again}
+use Rattle.yq_inline.proofs.PieceLaws.{front_not, scalar_begins, scalar_some}
+use Rattle.yq_inline.proofs.TreeLaws.{node_tree}
+use Rattle.yq_inline.proofs.WrittenLaws.{node_then}
+use Rattle.yq_rows.specs.Grammar.{IsContent}
+use Rattle.yq_rows.specs.Rows.{Content, Nothing, Inline, Block}
+use Rattle.yq_rows.specs.View.{anchor_cut, content_cut}
+use Rattle.yq_tree.specs.KeyReading.{EndsIn}
+use Rattle.yq_tree.specs.Lines.{node_head, head_of}
+use Rattle.yq_tree.specs.Reading.{has_fit_keys, content_is_fit}
+use Rattle.yq_tree.specs.RowReading.{placed_head, is_short_plain, begins_block, block_head_at, fit_head, node_head_at, head_at}
+use Rattle.yq_tree.proofs.FlowKeyLaws.{keys_there}
+use Rattle.yq_tree.proofs.OneLine.{one_line}
 
--- the head's place
-row_front-append : (r : Row) (rest : List ℕ) → slices_text r rest ≡ row_front r ++ (r.head ++ behind_head r rest)
-row_front-append r rest = simp append_assoc refl
+-- an inline node that is read is its head
+holder_head : (s c e k : ℕ) (parts : Parts) → placed_head (placed None s c e (holder k parts)) ≡ Some (placed_tree (placed None s c e (holder k parts)))
+holder_head s c e k parts = elim (eqb k 125) as (λ x. placed_head (placed None s c e (cond x (mapping parts) (sequence parts))) ≡ Some (placed_tree (placed None s c e (cond x (mapping parts) (sequence parts))))) [ true ↦ refl | false ↦ refl ]
 
-slices_text-append : (r : Row) (a b : List ℕ) → slices_text r (a ++ b) ≡ slices_text r a ++ b
-slices_text-append r a b = simp append_assoc refl
+placed_head_is : (total : ℕ) (node : Node) (rest : List ℕ) → is_anchored node ≡ false → placed_head (locate total node rest) ≡ node_head node
+unfolding locate tree_of
+placed_head_is total empty rest a = refl
+placed_head_is total (alias n) rest a = refl
+placed_head_is total (scalar p) rest a = refl
+placed_head_is total (coll k g is) rest a = (let t = node_text (coll k g is) rest in holder_head (total - length t) (total - length t) (total - length rest) k (locate_items total k is rest)) ∙ ap Some (node_tree total (coll k g is) rest)
+placed_head_is total (anchored n g node) rest a = absurd (false≢true (sym a))
 
-pub head_place : (rows : List Row) (i : ℕ) (r : Row) (end : List ℕ) → slice_get rows i ≡ Some r → rows_text rows end ≡ before_head i rows ++ (r.head ++ behind_head_at i rows end)
-head_place [] i r end h = cc
-head_place (x ∷ rows) zero r end h =
-    let is : x ≡ r = cc in
-    subst (λ (y : Row). rows_text (x ∷ rows) end ≡ row_front x ++ (y.head ++ behind_head x (rows_text rows end))) is (row_front-append x (rows_text rows end))
-head_place (x ∷ rows) (suc i) r end h =
-    ap (slices_text x) (head_place rows i r end h) ∙ slices_text-append x (before_head i rows) (r.head ++ behind_head_at i rows end)
+-- where a text ends
+pub ends_drop : (whole t : List ℕ) → EndsIn whole t → drop (length whole - length t) whole ≡ t
+ends_drop whole t h =
+    let start : length whole - length t ≡ length h.0 = omega (arith, ap length h.1, length-append h.0 t) in
+    (λ i. drop (start i) (h.1 i)) ∙ drop_at h.0 t (length h.0) refl
 
-pub new_head_place : (rows : List Row) (i : ℕ) (r : Row) (head end : List ℕ) → slice_get rows i ≡ Some r → rows_text (with_head_at i head rows) end ≡ before_head i rows ++ (head ++ behind_head_at i rows end)
-new_head_place [] i r head end h = cc
-new_head_place (x ∷ rows) zero r head end h = row_front-append (with_head head x) (rows_text rows end)
-new_head_place (x ∷ rows) (suc i) r head end h =
-    ap (slices_text x) (new_head_place rows i r head end h) ∙ slices_text-append x (before_head i rows) (head ++ behind_head_at i rows end)
+-- a head, where keys are fit
+abbrev pub fitting : Bool → Option trees.Node → Option (Option trees.Node)
+fitting fit head = cond fit (Some head) None
 
--- the rows of keys
-keys_text-is : (ks : List KeyRow) (end : List ℕ) → rows_text (map slices_of ks) end ≡ keys_text ks end
-keys_text-is [] end = refl
-keys_text-is (k ∷ ks) end = ap (keys.print_row k) (keys_text-is ks end)
+node_again : (whole : List ℕ) (n : ℤ) (node : Node) (rest : List ℕ) → is_anchored node ≡ false → is_bare node ≡ false → EndsIn whole (node_text node rest) → IsNode false (Some (deeper n)) depth_limit node rest →
+    node_head_at whole n (node_text node rest) ≡ fitting (has_fit_keys node) (node_head node)
+node_again whole n node rest a some ends h =
+    let at : ℕ = length whole - length (node_text node rest) in
+    let p = locate (length whole) node rest in
+    let is : IsInlineAt places.Block n 0 at whole p = record {
+      node = node;
+      rest = rest;
+      stands = ends_drop whole (node_text node rest) ends;
+      inline = record { valid = h; something = ap not some };
+      places = refl;
+    } in
+    ap (λ o. o >>= fit_head whole) (inline_again places.Block n 0 at whole p is)
+    ∙ (λ i. fitting (keys_there whole node rest ends i) (placed_head_is (length whole) node rest a i))
 
-before-is : (i : ℕ) (ks : List KeyRow) → before_head i (map slices_of ks) ≡ keys.before_head i ks
-before-is i [] = refl
-before-is zero (k ∷ ks) = ap (λ x. k.gap ++ (replicate k.column 32 ++ (k.key ++ (k.colon ++ x)))) (append-nil k.space)
-before-is (suc i) (k ∷ ks) = ap (keys.print_row k) (before-is i ks)
+-- which head a text is
+by_node : (whole : List ℕ) (n : ℤ) (head t : List ℕ) → is_empty head ≡ false → begins_block head ≡ false → is_short_plain head ≡ false → head_at whole n head t ≡ node_head_at whole n t
+unfolding head_at
+by_node whole n head t some block short = rw (some, block, short) refl
 
-behind-is : (i : ℕ) (ks : List KeyRow) (end : List ℕ) → behind_head_at i (map slices_of ks) end ≡ keys.behind_head_at i ks end
-behind-is i [] end = refl
-behind-is zero (k ∷ ks) end = ap (λ x. k.tail ++ x) (keys_text-is ks end)
-behind-is (suc i) (k ∷ ks) end = behind-is i ks end
+by_plain : (whole : List ℕ) (n : ℤ) (head t : List ℕ) → is_empty head ≡ false → begins_block head ≡ false → is_short_plain head ≡ true → head_at whole n head t ≡ Some (Some (scalar_node (plain_of head)))
+unfolding head_at
+by_plain whole n head t some block short = rw (some, block, short) refl
 
-with-is : (i : ℕ) (head : List ℕ) (ks : List KeyRow) → with_head_at i head (map slices_of ks) ≡ map slices_of (keys.with_head_at i head ks)
-with-is i head [] = refl
-with-is zero head (k ∷ ks) = refl
-with-is (suc i) head (k ∷ ks) = ap (λ x. slices_of k ∷ x) (with-is i head ks)
+by_block : (whole : List ℕ) (n : ℤ) (head t : List ℕ) → is_empty head ≡ false → begins_block head ≡ true → head_at whole n head t ≡ block_head_at n t
+unfolding head_at
+by_block whole n head t some block = rw (some, block) refl
 
-with-length : (i : ℕ) (head : List ℕ) (ks : List KeyRow) → length (keys.with_head_at i head ks) ≡ length ks
-with-length i head [] = refl
-with-length zero head (k ∷ ks) = refl
-with-length (suc i) head (k ∷ ks) = ap suc (with-length i head ks)
+by_nothing : (whole : List ℕ) (n : ℤ) (t : List ℕ) → head_at whole n [] t ≡ Some None
+unfolding head_at
+by_nothing whole n t = refl
 
--- a row of a cut, as the key that it is
-record IsKeyAt (ks : List KeyRow) (i : ℕ) (r : Row) : Type 0 where
-  key : KeyRow
-  is : slice_get ks i ≡ Some key
-  same : slices_of key ≡ r
+-- a scalar's head
+short_is : (p : List ℕ) → is_short_plain p ≡ true → scalar_of p ≡ plain_of p
+unfolding scalar_of
+short_is p h =
+    let quoted : is_quoted p ≡ false = ⊎_elim {0, 0, 0} (λ e. absurd (false≢true (let no : is_short_plain p ≡ false = rw e refl in sym no ∙ h))) (λ e. e) (is_true (is_quoted p)) in
+    let broken : holds_break p ≡ false = ⊎_elim {0, 0, 0} (λ e. absurd (false≢true (sym (ap not e) ∙ (and_true _ (not (holds_break p)) h).1))) (λ e. e) (is_true (holds_break p)) in
+    rw quoted (ap plain_of (one_line p broken))
 
-key_at : (ks : List KeyRow) (i : ℕ) (r : Row) → slice_get (map slices_of ks) i ≡ Some r → IsKeyAt ks i r
-key_at [] i r e = cc
-key_at (k ∷ ks) zero r e = record { key = k; is = refl; same = let same : slices_of k ≡ r = cc in same }
-key_at (k ∷ ks) (suc i) r e = let more = key_at ks i r e in record { key = more.key; is = more.is; same = more.same }
+scalar_some_is : (n : ℤ) (p rest : List ℕ) → IsScalar false (Some (deeper n)) p rest → (is_empty p ≡ false) × (begins_block p ≡ false)
+scalar_some_is n [] rest h = absurd (omega (arith, scalar_some false (Some (deeper n)) [] rest h))
+scalar_some_is n (b ∷ bs) rest h =
+    let begins = scalar_begins false (Some (deeper n)) (b ∷ bs) rest h in
+    let bar : eqb b 124 ≡ false = front_not (begins_scalar false) 124 (λ cs. refl) (b ∷ (bs ++ rest)) begins in
+    let more : eqb b 62 ≡ false = front_not (begins_scalar false) 62 (λ cs. refl) (b ∷ (bs ++ rest)) begins in
+    (refl, rw (bar, more) refl)
 
--- what is needed of a cut and one of its rows
-record IsHeadAt (t : List ℕ) (c : Cut) (i : ℕ) (r : Row) : Type 0 where
-  cut : HasKeys t c
-  row : IsKeyAt cut.keys i r
-  before : before_head i c.rows ≡ keys.before_head i cut.keys
-  behind : behind_head_at i c.rows (end_of c) ≡ keys.behind_head_at i cut.keys cut.end
-  some : is_empty row.key.head ≡ false
+scalar_is : (whole : List ℕ) (n : ℤ) (p rest : List ℕ) → EndsIn whole (node_text (scalar p) rest) → IsNode false (Some (deeper n)) depth_limit (scalar p) rest → head_at whole n p (node_text (scalar p) rest) ≡ Some (node_head (scalar p))
+unfolding IsNode tree_of
+scalar_is whole n p rest ends h =
+    let s = scalar_some_is n p rest h in
+    ⊎_elim {0, 0, 0}
+    (λ e. by_plain whole n p (node_text (scalar p) rest) s.0 s.1 e ∙ ap (λ x. Some (Some (scalar_node x))) (sym (short_is p e)))
+    (λ e. by_node whole n p (node_text (scalar p) rest) s.0 s.1 e ∙ node_again whole n (scalar p) rest refl refl ends h)
+    (is_true (is_short_plain p))
 
-head_at : (t : List ℕ) (c : Cut) (i : ℕ) (r : Row) → IsCut t c → slice_get c.rows i ≡ Some r → is_empty r.head ≡ false → IsHeadAt t c i r
-head_at t c i r h is some =
-    let k : HasKeys t c = cut_keys t c h in
-    let row : IsKeyAt k.keys i r = key_at k.keys i r (ap (λ x. slice_get x i) (sym k.rows_are) ∙ is) in
-    record {
-      cut = k;
-      row = row;
-      before = ap (before_head i) k.rows_are ∙ before-is i k.keys;
-      behind = (λ j. behind_head_at i (k.rows_are j) (end_is t c k j)) ∙ behind-is i k.keys k.end;
-      some = ap (λ (x : Row). is_empty x.head) row.same ∙ some;
-    }
+-- the head of a node without an anchor
+abbrev Opens : ℕ → Type 0
+Opens b = (t : List ℕ) → (begins_block (b ∷ t) ≡ false) × (is_short_plain (b ∷ t) ≡ false)
 
-pub head_ends : (t : List ℕ) (c : Cut) (i : ℕ) (r : Row) → IsCut t c → slice_get c.rows i ≡ Some r → is_empty r.head ≡ false → ends_plain false (Some (suc r.column)) (behind_head_at i c.rows (end_of c)) ≡ true
-head_ends t c i r h is some =
-    let a : IsHeadAt t c i r = head_at t c i r h is some in
-    subst (λ (x : Row). ends_plain false (Some (suc x.column)) (behind_head_at i c.rows (end_of c)) ≡ true) a.row.same
-    (ap (ends_plain false (Some (suc a.row.key.column))) a.behind ∙ exchange.head_ends t a.cut.keys a.cut.end i a.row.key a.cut.is a.row.is a.some)
+opens : (k : ℕ) → Opens (cond (eqb k 125) 123 91)
+opens k = cond_both (eqb k 125) 123 91 Opens (λ _ t. (refl, refl)) (λ _ t. (refl, refl))
 
--- the text of a cut with another head
-new_text : (t : List ℕ) (c : Cut) (i : ℕ) (r : Row) (head : List ℕ) (a : IsHeadAt t c i r) → cut_text (exchange_head i head c) ≡ keys_text (keys.with_head_at i head a.cut.keys) a.cut.end
-new_text t c i r head a =
-    ap (λ (rows : List Row). rows_text (with_head_at i head rows) (end_of c)) a.cut.rows_are
-    ∙ (ap (λ (rows : List Row). rows_text rows (end_of c)) (with-is i head a.cut.keys)
-    ∙ (keys_text-is (keys.with_head_at i head a.cut.keys) (end_of c) ∙ ap (keys_text (keys.with_head_at i head a.cut.keys)) (end_is t c a.cut)))
+unnamed_is : (whole : List ℕ) (n : ℤ) (node : Node) (rest : List ℕ) → is_anchored node ≡ false → EndsIn whole (node_text node rest) → IsNode false (Some (deeper n)) depth_limit node rest →
+    head_at whole n (node_text node []) (node_text node rest) ≡ fitting (has_fit_keys node) (node_head node)
+unfolding node_text
+unnamed_is whole n empty rest a ends h = by_nothing whole n rest
+unnamed_is whole n (alias name) rest a ends h = by_node whole n (42 ∷ (name ++ [])) (42 ∷ (name ++ rest)) refl refl refl ∙ node_again whole n (alias name) rest refl refl ends h
+unnamed_is whole n (scalar p) rest a ends h = ap (λ q. head_at whole n q (p ++ rest)) (append-nil p) ∙ scalar_is whole n p rest ends h
+unnamed_is whole n (coll k g is) rest a ends h =
+    let o = opens k (g ++ items_text k is []) in
+    by_node whole n (node_text (coll k g is) []) (node_text (coll k g is) rest) refl o.0 o.1 ∙ node_again whole n (coll k g is) rest refl refl ends h
+unnamed_is whole n (anchored name g node) rest a ends h = absurd (false≢true (sym a))
 
--- the cut with another plain scalar on one line as a head is a cut, where the new text may stand
-pub cut_exchanged : (t : List ℕ) (c : Cut) (i : ℕ) (r : Row) (head : List ℕ) → IsCut t c → slice_get c.rows i ≡ Some r → is_empty r.head ≡ false →
-    IsPlain false (Some (suc r.column)) head (behind_head_at i c.rows (end_of c)) → holds_break head ≡ false →
-    is_text (cut_text (exchange_head i head c)) ≡ true → length (cut_text (exchange_head i head c)) ≤ text_limit →
-    IsCut (cut_text (exchange_head i head c)) (exchange_head i head c)
-cut_exchanged t c i r head h is some plain one characters size =
-    let a : IsHeadAt t c i r = head_at t c i r h is some in
-    let text = new_text t c i r head a in
-    let there : IsPlain false (Some (suc a.row.key.column)) head (keys.behind_head_at i a.cut.keys a.cut.end) =
-    subst (λ (x : List ℕ). IsPlain false (Some (suc a.row.key.column)) head x) a.behind (subst (λ (x : Row). IsPlain false (Some (suc x.column)) head (behind_head_at i c.rows (end_of c))) (sym a.row.same) plain) in
-    let new : IsKeyCut (keys_text (keys.with_head_at i head a.cut.keys) a.cut.end) (keys.with_head_at i head a.cut.keys) a.cut.end =
-    exchange.cut_exchanged t a.cut.keys a.cut.end i a.row.key head a.cut.is a.row.is a.some there one (ap is_text (sym text) ∙ characters) (subst (λ (x : List ℕ). length x ≤ text_limit) text size) in
-    keys_cut (cut_text (exchange_head i head c)) (exchange_head i head c) (record {
-      keys = keys.with_head_at i head a.cut.keys;
-      end = a.cut.end;
-      is = subst (λ (x : List ℕ). IsKeyCut x (keys.with_head_at i head a.cut.keys) a.cut.end) (sym text) new;
-      rows_are = ap (with_head_at i head) a.cut.rows_are ∙ with-is i head a.cut.keys;
-      bounds_are = a.cut.bounds_are ∙ ap (λ (n : ℕ). record { rows = n; end = a.cut.end; marker = [] } ∷ []) (sym (with-length i head a.cut.keys));
-    })
+pub no_anchor : (node : Node) → takes_anchor node ≡ true → is_anchored node ≡ false
+no_anchor empty h = refl
+no_anchor (alias n) h = refl
+no_anchor (scalar p) h = refl
+no_anchor (coll k g is) h = refl
+no_anchor (anchored n g node) h = absurd (false≢true h)
 
--- the text with another head holds the characters of a text, where the head does
-pub head_text : (t : List ℕ) (c : Cut) (i : ℕ) (r : Row) (head : List ℕ) → IsCut t c → slice_get c.rows i ≡ Some r → is_empty r.head ≡ false →
-    IsUtf8 (before_head i c.rows) → IsUtf8 r.head → IsUtf8 head → is_text head ≡ true → is_text (cut_text (exchange_head i head c)) ≡ true
-head_text t c i r head h is some u v w new =
-    let a : IsHeadAt t c i r = head_at t c i r h is some in
-    ap is_text (new_text t c i r head a)
-    ∙ exchange.head_text t a.cut.keys a.cut.end i a.row.key head a.cut.is a.row.is a.some (subst IsUtf8 a.before u) (subst (λ (x : Row). IsUtf8 x.head) (sym a.row.same) v) w new
+written_is : (whole : List ℕ) (n : ℤ) (node : Node) (rest : List ℕ) → is_anchored node ≡ false → EndsIn whole (node_text node [] ++ rest) → IsNode false (Some (deeper n)) depth_limit node rest →
+    head_at whole n (node_text node []) (node_text node [] ++ rest) ≡ fitting (has_fit_keys node) (node_head node)
+written_is whole n node rest a ends h =
+    ap (head_at whole n (node_text node [])) (sym (node_then node rest)) ∙ unnamed_is whole n node rest a (subst (EndsIn whole) (sym (node_then node rest)) ends) h
 
--- a text is cut between characters at both ends of a head
-pub head_pieces : (t : List ℕ) (c : Cut) (i : ℕ) (r : Row) → IsCut t c → IsUtf8 t → slice_get c.rows i ≡ Some r → is_empty r.head ≡ false → HasPieces t (before_head i c.rows) r.head (behind_head_at i c.rows (end_of c))
-head_pieces t c i r h u is some =
-    let a : IsHeadAt t c i r = head_at t c i r h is some in
-    let p : HasPieces t (keys.before_head i a.cut.keys) a.row.key.head (keys.behind_head_at i a.cut.keys a.cut.end) = boundaries.head_pieces t a.cut.keys a.cut.end i a.row.key a.cut.is u a.row.is a.some in
-    subst (λ (x : Row). HasPieces t (before_head i c.rows) x.head (behind_head_at i c.rows (end_of c))) a.row.same
-    (subst (λ (x : List ℕ). HasPieces t x a.row.key.head (behind_head_at i c.rows (end_of c))) (sym a.before) (subst (λ (x : List ℕ). HasPieces t (keys.before_head i a.cut.keys) a.row.key.head x) (sym a.behind) p))
+node_is : (whole : List ℕ) (n : ℤ) (node : Node) (rest : List ℕ) → EndsIn whole ((anchor_cut node).2 ++ rest) → IsNode false (Some (deeper n)) depth_limit node rest →
+    head_at whole n (anchor_cut node).2 ((anchor_cut node).2 ++ rest) ≡ fitting (has_fit_keys node) (node_head node)
+unfolding IsNode
+node_is whole n empty rest ends h = by_nothing whole n rest
+node_is whole n (alias name) rest ends h = written_is whole n (alias name) rest refl ends h
+node_is whole n (scalar p) rest ends h = written_is whole n (scalar p) rest refl ends h
+node_is whole n (coll k g is) rest ends h = written_is whole n (coll k g is) rest refl ends h
+node_is whole n (anchored name g node) rest ends h = written_is whole n node rest (no_anchor node h.3) ends h.4
+
+-- a block scalar's
+block_marks : (style : BlockStyle) (t : List ℕ) → begins_block (mark_of style ∷ t) ≡ true
+block_marks styles.Literal t = refl
+block_marks styles.Folded t = refl
+
+block_is : (whole : List ℕ) (n : ℤ) (space : List ℕ) (b : BlockText) (rest : List ℕ) → IsBlock (deeper n) b rest → head_at whole n (mark_of b.style ∷ b.indicators) (block_text b rest) ≡ Some (head_of (Block space None b))
+block_is whole n space b rest h =
+    by_block whole n (mark_of b.style ∷ b.indicators) (block_text b rest) refl (block_marks b.style b.indicators)
+    ∙ rw (block_again (deeper n) b rest h) refl
+
+-- the text of a row's content from its head on
+abbrev pub head_text : Content → List ℕ → List ℕ
+head_text c rest = (content_cut c).3 ++ ((content_cut c).4 ++ ((content_cut c).5 ++ rest))
+
+-- the head of a row's content, where its keys are fit
+pub head_is : (whole : List ℕ) (n : ℤ) (c : Content) (rest : List ℕ) → EndsIn whole (head_text c rest) → IsContent n c rest → head_at whole n (content_cut c).3 (head_text c rest) ≡ fitting (content_is_fit c) (head_of c)
+head_is whole n (Nothing tail) rest ends h = by_nothing whole n (tail ++ rest)
+head_is whole n (Inline space node tail) rest ends h = node_is whole n node (tail ++ rest) ends h.1.valid
+head_is whole n (Block space anchor block) rest ends h = block_is whole n space block rest h.2
+
+-- where a text ends in a whole one
+pub ends_within : (whole t : List ℕ) → EndsIn whole t → length t ≤ length whole
+ends_within whole t h = omega (arith, ap length h.1, length-append h.0 t)
+
+pub ends_seam : (whole t : List ℕ) → EndsIn whole t → IsUtf8 t → IsCharBoundary whole (length whole - length t)
+ends_seam whole t h u =
+    let there : length h.0 ≡ length whole - length t = omega (arith, ap length h.1, length-append h.0 t) in
+    subst (λ (n : ℕ). IsCharBoundary whole n) there (IsCharBoundary-at_seam whole h.0 t h.1 u)

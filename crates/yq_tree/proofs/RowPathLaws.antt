@@ -1,44 +1,57 @@
 -- Where a path leads among rows.
-use Rattle.std.proofs.Common.{◌≡◌, inl, inr, ℕ, zero, suc, List, [], ◌∷◌, ◌++◌, length, Option, Some, None, option_and_then, true, false, cond, refl, sym, ap, ◌∙◌, subst}
-use Rattle.std.specs.List.{slice_get}
-use Rattle.yq_scalar.specs.declared.kind.Kind.{Kind}
+use Rattle.std.proofs.Common.{◌≡◌, ℕ, suc, List, [], ◌∷◌, ◌++◌, length, map, Option, Some, None, is_some, option_and_then, true, refl, sym, ap, ◌∙◌, subst}
+use Rattle.std.proofs.lemmas.Bool.{and_parts}
+use Rattle.std.specs.List.{slice_get, list_all}
+use Rattle.std.specs.Str.{is_utf8}
+use Rattle.yq_scalar.specs.Answers.{◌>>=◌}
 use Rattle.yq_scalar.specs.Paths.{Step, node_at}
-use Rattle.yq_scalar.specs.Text.{is_empty}
-use Rattle.yq_scalar.specs.Tree.{Node, scalar}
-use Rattle.yq_tree.specs.Rows.{Row, Cut}
-use Rattle.yq_tree.specs.Group.{group}
+use Rattle.yq_scalar.specs.Tree.{Node}
+use Rattle.yq_scalar.proofs.Bools.{guard_then}
+use Rattle.yq_rows.specs.Grammar.{IsCut}
+use Rattle.yq_rows.specs.Rows.{Row, Part, Cut}
+use Rattle.yq_rows.specs.View.{rows_of}
+use Rattle.yq_tree.specs.Anchors.{names_of}
+use Rattle.yq_tree.specs.Documents.{Document, document_parts}
+use Rattle.yq_tree.specs.Ends.{is_end}
+use Rattle.yq_tree.specs.Group.{group, level_or, is_fine}
 use Rattle.yq_tree.specs.Laws.{with_lines}
-use Rattle.yq_tree.specs.Lines.{plain_node, line_of, lines_of}
-use Rattle.yq_tree.specs.Outline.{Line, Outline, end, row, flatten, anchored, head_or, collection, children, value}
-use Rattle.yq_tree.specs.Places.{plug, lines_before, Found, find, content}
-use Rattle.yq_tree.specs.Reading.{root_of}
-use Rattle.yq_tree.specs.RowPaths.{row_of, HasNoText, LeadsToRow, LeadsNowhere}
-use Rattle.yq_tree.proofs.Decides.{flatten-group}
+use Rattle.yq_tree.specs.Lines.{head_of, lines_of}
+use Rattle.yq_tree.specs.Outline.{Line, level, Outline, end, row, flatten, IsOpen, IsEven, value}
+use Rattle.yq_tree.specs.Places.{plug, lines_before, lines_after, Found, find, content}
+use Rattle.yq_tree.specs.Reading.{outline_of, root_of, document_of, have_fit_keys, has_short_root, have_one_anchor_each, are_bound, is_document, documents, read_at}
+use Rattle.yq_tree.specs.RowPaths.{line_row, found_line, line_of, has_none_under, is_leaf, row_at, spelled, HeadIsLeaf, LeadsToRow}
+use Rattle.yq_tree.proofs.Decides.{flatten-group, even_from}
 use Rattle.yq_tree.proofs.Finding.{FoundNode, path_node, IsFoundIn, path_whole}
-use Rattle.yq_tree.proofs.KeyLines.{IsScalarHead, IsKeyLine, AreKeyLines, GoesOn, IsAtKey, key_lines, path_key}
+use Rattle.yq_tree.proofs.OneDocument.{rows_of_one}
 use Rattle.yq_tree.proofs.PlaceLaws.{at, placed}
-use Rattle.yq_tree.proofs.Values.{If}
+use Rattle.yq_tree.proofs.Plug.{allows_from}
+use Rattle.yq_tree.proofs.ReadLaws.{text_takes}
+use Rattle.yq_tree.proofs.RowLines.{IsLast, last_line, last_row, same_rows}
 
--- a path that leads to a row, by what is found there
-pub record Reached (o : Outline) (s : Step) (ss : List Step) (i : ℕ) : Type 0 where
+none_some : {A : Type 0} {x : A} → None ≡ Some x → ⊥
+none_some e = cc
+
+some_same : {A : Type 0} {x y : A} → Some x ≡ Some y → x ≡ y
+some_same e = cc
+
+-- A path that leads to a row, by the line that is found there, which is the row's last one.
+pub record Reached (steps : List Step) (i : ℕ) (rows : List Row) : Type 0 where
+  pub first : Step
+  pub others : List Step
+  pub steps_are : steps ≡ first ∷ others
   pub found : Found
-  pub is : find s ss o ≡ Some (found, [])
-  pub row_is : length (lines_before found.place) ≡ i
+  pub is : find first others (group (lines_of rows)) ≡ Some (found, [])
+  pub last : IsLast (length (lines_before found.place)) i rows
 
-pub reached : (o : Outline) (s : Step) (ss : List Step) (i : ℕ) → option_and_then (λ x. row_of x.0 x.1) (find s ss o) ≡ Some i → Reached o s ss i
-reached o s ss i e = go (find s ss o) refl e
+pub reached : (steps : List Step) (i : ℕ) (rows : List Row) → (line_of steps (lines_of rows) >>= λ n. line_row n rows) ≡ Some i → Reached steps i rows
+reached [] i rows e = absurd (none_some e)
+reached (s ∷ ss) i rows e = go (find s ss (group (lines_of rows))) refl e
   where
-    none_some : {j : ℕ} → None ≡ Some j → ⊥
-    none_some e = cc
-
-    same : {j k : ℕ} → Some j ≡ Some k → j ≡ k
-    same e = cc
-
-    rest : (f : Found) (ts : List Step) → find s ss o ≡ Some (f, ts) → row_of f ts ≡ Some i → Reached o s ss i
-    rest f [] is e = record { found = f; is = is; row_is = same e }
+    rest : (f : Found) (ts : List Step) → find s ss (group (lines_of rows)) ≡ Some (f, ts) → (found_line f ts >>= λ n. line_row n rows) ≡ Some i → Reached (s ∷ ss) i rows
+    rest f [] is e = record { first = s; others = ss; steps_are = refl; found = f; is = is; last = last_row (length (lines_before f.place)) i rows e }
     rest f (t ∷ ts) is e = absurd (none_some e)
 
-    go : (r : Option (Found × List Step)) → find s ss o ≡ r → option_and_then (λ x. row_of x.0 x.1) r ≡ Some i → Reached o s ss i
+    go : (r : Option (Found × List Step)) → find s ss (group (lines_of rows)) ≡ r → (option_and_then (λ x. found_line x.0 x.1) r >>= λ n. line_row n rows) ≡ Some i → Reached (s ∷ ss) i rows
     go None is e = absurd (none_some e)
     go (Some x) is e = rest x.0 x.1 is e
 
@@ -48,76 +61,132 @@ found_lines ls s ss rest f is =
     let whole : plug f.place (row f.line f.under f.after) ≡ group ls = at (IsFoundIn (group ls)) (find s ss (group ls)) (f, rest) is (path_whole s ss (group ls)) in
     sym (flatten-group ls) ∙ (ap flatten (sym whole) ∙ placed f f.line f.under)
 
-get-append : {A : Type 0} (xs : List A) (y : A) (zs : List A) → slice_get (xs ++ (y ∷ zs)) (length xs) ≡ Some y
-get-append [] y zs = refl
-get-append (x ∷ xs) y zs = get-append xs y zs
+-- lists that are cut at the same place
+abbrev Same : List Line → Line → List Line → List Line → Line → List Line → Type 0
+Same before x behind front y rest = (before ≡ front) × (x ≡ y) × (behind ≡ rest)
 
--- the line of the row
-pub found_line : (ls : List Line) (s : Step) (ss : List Step) (i : ℕ) (r : Reached (group ls) s ss i) → slice_get ls i ≡ Some r.found.line
-found_line ls s ss i r =
-    ap (λ k. slice_get ls k) (sym r.row_is) ∙ (ap (λ x. slice_get x (length (lines_before r.found.place))) (found_lines ls s ss [] r.found r.is) ∙ get-append (lines_before r.found.place) r.found.line _)
-
-pub same_line : {x y : Line} → Some x ≡ Some y → x ≡ y
-same_line e = cc
-
-pub map_get : (rows : List Row) (i : ℕ) (l : Line) → slice_get (lines_of rows) i ≡ Some l → (r : Row) × (slice_get rows i ≡ Some r) × (l ≡ line_of r)
-map_get [] i l e = absurd (none_some e)
+pub same_cut : (before front behind rest : List Line) (x y : Line) → length before ≡ length front → before ++ (x ∷ behind) ≡ front ++ (y ∷ rest) → Same before x behind front y rest
+same_cut [] [] behind rest x y n e = (refl, first e, others e)
   where
-    none_some : {x : Line} → None ≡ Some x → ⊥
-    none_some e = cc
-map_get (r ∷ rs) zero l e = (r, refl, sym (same_line e))
-map_get (r ∷ rs) (suc i) l e = map_get rs i l e
+    first : x ∷ behind ≡ y ∷ rest → x ≡ y
+    first e = cc
 
--- what a row with a head stands for
-pub headed : (r : Row) (u : Outline) → is_empty r.head ≡ false → content (line_of r) u ≡ plain_node r.head
-headed r u e = ap (λ b. anchored None (head_or (cond b None (Some (plain_node r.head))) (value u))) e
+    others : x ∷ behind ≡ y ∷ rest → behind ≡ rest
+    others e = cc
+same_cut [] (l ∷ front) behind rest x y n e = absurd (cc)
+same_cut (l ∷ before) [] behind rest x y n e = absurd (cc)
+same_cut (k ∷ before) (l ∷ front) behind rest x y n e =
+    let again = same_cut before front behind rest x y (lengths n) (others e) in ((λ i. first e i ∷ again.0 i), again.1, again.2)
+  where
+    lengths : suc (length before) ≡ suc (length front) → length before ≡ length front
+    lengths e = cc
 
-pub headless : (r : Row) (u : Outline) → is_empty r.head ≡ true → content (line_of r) u ≡ anchored None (value u)
-headless r u e = ap (λ b. anchored None (head_or (cond b None (Some (plain_node r.head))) (value u))) e
+    first : k ∷ (before ++ (x ∷ behind)) ≡ l ∷ (front ++ (y ∷ rest)) → k ≡ l
+    first e = cc
 
--- lines that begin with keys make a mapping, or none is there
-pub no_text : (u : Outline) → AreKeyLines u → HasNoText (anchored None (value u))
-no_text end h = inl refl
-no_text (row l v a) h = inr (children (row l v a), ap (λ m. anchored None (collection m (children (row l v a)))) h.0.0.1)
+    others : k ∷ (before ++ (x ∷ behind)) ≡ l ∷ (front ++ (y ∷ rest)) → before ++ (x ∷ behind) ≡ front ++ (y ∷ rest)
+    others e = cc
 
-pub row_node : (c : Cut) (s : Step) (ss : List Step) (i : ℕ) (r : Reached (group (lines_of c.rows)) s ss i) → node_at (s ∷ ss) (root_of c) ≡ Some (content r.found.line r.found.under)
-row_node c s ss i r = path_node s ss (group (lines_of c.rows)) ∙ ap FoundNode r.is
+-- the line that was found is the last one of the row
+pub reached_lines : (steps : List Step) (i : ℕ) (rows : List Row) (h : Reached steps i rows) →
+    Same h.last.before (last_line h.last.row h.last.row.content) h.last.behind (lines_before h.found.place) h.found.line (flatten h.found.under ++ (flatten h.found.after ++ lines_after h.found.place))
+reached_lines steps i rows h =
+    same_cut h.last.before (lines_before h.found.place) h.last.behind _ (last_line h.last.row h.last.row.content) h.found.line h.last.count
+    (sym (h.last.lines h.last.row.content) ∙ (ap lines_of (same_rows i rows h.last.row h.last.there) ∙ found_lines (lines_of rows) h.first h.others [] h.found h.is))
+
+-- the node at the path
+pub row_node : (steps : List Step) (i : ℕ) (rows : List Row) (h : Reached steps i rows) → node_at steps (value (group (lines_of rows))) ≡ Some (content h.found.line h.found.under)
+row_node steps i rows h = ap (λ (ss : List Step). node_at ss (value (group (lines_of rows)))) h.steps_are ∙ (path_node h.first h.others (group (lines_of rows)) ∙ ap FoundNode h.is)
+
+-- A text with one document, by its cut and the part that is the document.
+pub record IsOne (t : List ℕ) (c : Cut) (d : Document) : Type 0 where
+  pub utf8 : is_utf8 t ≡ true
+  pub cut : IsCut t c
+  pub part : Part
+  pub one : document_parts c ≡ part ∷ []
+  pub document : is_document part ≡ true
+  pub is : document_of part ≡ d
+
+single : (ps : List Part) (d : Document) → map document_of ps ≡ d ∷ [] → (p : Part) × (ps ≡ p ∷ []) × (document_of p ≡ d)
+single [] d e = absurd (cc)
+single (p ∷ []) d e = (p, refl, cc)
+single (p ∷ (q ∷ ps)) d e = absurd (cc)
+
+pub is_one : (t : List ℕ) (c : Cut) (d : Document) → read_at t ≡ Some c → documents c ≡ d ∷ [] → IsOne t c d
+unfolding read_at
+is_one t c d read one =
+    let utf8 = guard_then (is_utf8 t) read in
+    let text = text_takes t c utf8.1 in
+    let p = single (document_parts c) d one in
+    let all : list_all is_document (p.0 ∷ []) ≡ true = ap (list_all is_document) (sym p.1) ∙ text.1 in
+    record { utf8 = utf8.0; cut = text.0; part = p.0; one = p.1; document = (and_parts (is_document p.0) true all).0; is = p.2 }
+
+-- the rows of the text are those of the document
+pub rows_are : (t : List ℕ) (c : Cut) (d : Document) (h : IsOne t c d) → rows_of c ≡ h.part.rows
+rows_are t c d h = rows_of_one c h.part h.cut.parts h.one
+
+pub path_reached : (t : List ℕ) (c : Cut) (d : Document) (steps : List Step) (i : ℕ) (h : IsOne t c d) → row_at steps c ≡ Some i → Reached steps i h.part.rows
+path_reached t c d steps i h path = reached steps i h.part.rows (ap (λ (rs : List Row). line_of steps (lines_of rs) >>= λ n. line_row n rs) (sym (rows_are t c d h)) ∙ path)
+
+pub same_row : (t : List ℕ) (c : Cut) (d : Document) (steps : List Step) (i : ℕ) (r : Row) (h : IsOne t c d) (f : Reached steps i h.part.rows) → slice_get (rows_of c) i ≡ Some r → f.last.row ≡ r
+same_row t c d steps i r h f there = some_same (sym f.last.there ∙ (ap (λ (rs : List Row). slice_get rs i) (sym (rows_are t c d h)) ∙ there))
+
+-- nothing is under the line that was found, as a test
+end_is : (o : Outline) → is_end o ≡ true → o ≡ end
+end_is end e = refl
+end_is (row l u a) e = absurd (cc)
+
+leaf_found : (rows : List Row) (s : Step) (ss : List Step) (f : Found) → find s ss (group (lines_of rows)) ≡ Some (f, []) → is_leaf (s ∷ ss) (lines_of rows) ≡ is_end f.under
+leaf_found rows s ss f is = ap has_none_under is
+
+pub reached_leaf : (steps : List Step) (i : ℕ) (rows : List Row) (h : Reached steps i rows) → is_leaf steps (lines_of rows) ≡ is_end h.found.under
+reached_leaf steps i rows h = ap (λ (ss : List Step). is_leaf ss (lines_of rows)) h.steps_are ∙ leaf_found rows h.first h.others h.found h.is
+
+pub under_end : (steps : List Step) (i : ℕ) (rows : List Row) (h : Reached steps i rows) → is_leaf steps (lines_of rows) ≡ true → h.found.under ≡ end
+under_end steps i rows h leaf = end_is h.found.under (sym (reached_leaf steps i rows h) ∙ leaf)
+
+-- the node of a row under which no lines are
+pub leaf_node : (steps : List Step) (i : ℕ) (rows : List Row) (h : Reached steps i rows) → h.found.under ≡ end → content h.found.line h.found.under ≡ spelled h.last.row.content
+leaf_node steps i rows h none =
+    ap (λ (u : Outline). content h.found.line u) none ∙ ap (λ (l : Line). content l end) (sym (reached_lines steps i rows h).1)
+
+-- what is found stands in an even outline
+pub reached_even : (steps : List Step) (i : ℕ) (rows : List Row) (h : Reached steps i rows) → is_fine (group (lines_of rows)) ≡ true → IsEven (level h.found.line) (row h.found.line h.found.under h.found.after)
+reached_even steps i rows h fine =
+    let o : Outline = group (lines_of rows) in
+    let whole : plug h.found.place (row h.found.line h.found.under h.found.after) ≡ o = at (IsFoundIn o) (find h.first h.others o) (h.found, []) h.is (path_whole h.first h.others o) in
+    (allows_from (level_or 0 o) h.found.place h.found.line h.found.under h.found.after (subst (λ x. IsEven (level_or 0 o) x) (sym whole) (even_from (level_or 0 o) o fine))).1
+
+open_end : (h : Option Node) (u : Outline) → is_some h ≡ true → IsOpen h u → is_end u ≡ true
+open_end None u e o = absurd (cc)
+open_end (Some n) end e o = refl
+open_end (Some n) (row l v a) e o = absurd o
+
+-- the lines of a document are even
+pub document_fine : (p : Part) → is_document p ≡ true → is_fine (group (lines_of p.rows)) ≡ true
+document_fine p e =
+    let a = and_parts (have_fit_keys p.rows) _ e in
+    let b = and_parts (has_short_root p.rows) _ a.1 in
+    let c = and_parts (have_one_anchor_each (lines_of p.rows)) _ b.1 in
+    let d = and_parts (are_bound [] (names_of (root_of p))) _ c.1 in
+    (and_parts (is_fine (outline_of p)) _ d.1).0
+
+pub head_is_leaf : HeadIsLeaf
+head_is_leaf t c d steps i r leads some =
+    let h = is_one t c d leads.read leads.one in
+    let f = path_reached t c d steps i h leads.path in
+    let same = same_row t c d steps i r h f leads.row in
+    let head : is_some (head_of f.last.row.content) ≡ true = ap (λ (x : Row). is_some (head_of x.content)) same ∙ some in
+    let line : is_some f.found.line.head ≡ true = ap (λ (l : Line). is_some l.head) (sym (reached_lines steps i h.part.rows f).1) ∙ head in
+    let even = reached_even steps i h.part.rows f (document_fine h.part h.document) in
+    ap (λ (rs : List Row). is_leaf steps (lines_of rs)) (rows_are t c d h)
+    ∙ (reached_leaf steps i h.part.rows f ∙ open_end f.found.line.head f.found.under line even.1)
 
 pub leads_to_row : LeadsToRow
-leads_to_row c s ss i e =
-    let f = reached (group (lines_of c.rows)) s ss i e in
-    let r = map_get c.rows i f.found.line (found_line (lines_of c.rows) s ss i f) in
-    let line_is : content f.found.line f.found.under ≡ content (line_of r.0) f.found.under = ap (λ l. content l f.found.under) r.2 in
-    let under : AreKeyLines f.found.under = (at IsAtKey (find s ss (group (lines_of c.rows))) (f.found, []) f.is (path_key s ss (group (lines_of c.rows)) (key_lines c.rows))).1 in (
-      r.0,
-      r.1,
-      content f.found.line f.found.under,
-      row_node c s ss i f,
-      λ head. line_is ∙ headed r.0 f.found.under head,
-      λ head. subst HasNoText (sym (line_is ∙ headless r.0 f.found.under head)) (no_text f.found.under under),
-    )
-
-pub leads_nowhere : LeadsNowhere
-leads_nowhere c s ss e = path_node s ss o ∙ go (find s ss o) e (path_key s ss o (key_lines c.rows))
-  where
-    o : Outline
-    o = group (lines_of c.rows)
-
-    some_none : {j : ℕ} → Some j ≡ None → ⊥
-    some_none e = cc
-
-    scalar_end : (n : Node) (t : Step) (ts : List Step) → ((k : Kind) × (x : List ℕ) × (n ≡ scalar None k x)) → node_at (t ∷ ts) (anchored None n) ≡ None
-    scalar_end n t ts h = ap (λ m. node_at (t ∷ ts) (anchored None m)) h.2
-
-    head_end : (f : Found) (h : Option Node) (t : Step) (ts : List Step) → f.line.head ≡ h → IsKeyLine f.line → GoesOn h (t ∷ ts) → node_at (t ∷ ts) (content f.line f.under) ≡ None
-    head_end f None t ts e key on = absurd on
-    head_end f (Some n) t ts e key on =
-        (λ j. node_at (t ∷ ts) (anchored (key.1 j) (head_or (e j) (value f.under)))) ∙ scalar_end n t ts (subst IsScalarHead e key.2)
-
-    rest : (f : Found) (ts : List Step) → row_of f ts ≡ None → IsAtKey (f, ts) → node_at ts (content f.line f.under) ≡ None
-    rest f [] e key = absurd (some_none e)
-    rest f (t ∷ ts) e key = head_end f f.line.head t ts refl key.0 key.2
-
-    go : (r : Option (Found × List Step)) → option_and_then (λ x. row_of x.0 x.1) r ≡ None → If r IsAtKey → FoundNode r ≡ None
-    go None e h = refl
-    go (Some x) e h = rest x.0 x.1 e h
+leads_to_row t c d steps i r leads leaf =
+    let h = is_one t c d leads.read leads.one in
+    let f = path_reached t c d steps i h leads.path in
+    let none = under_end steps i h.part.rows f (ap (λ (rs : List Row). is_leaf steps (lines_of rs)) (sym (rows_are t c d h)) ∙ leaf) in
+    ap (λ (x : Document). node_at steps x.root) (sym h.is)
+    ∙ (row_node steps i h.part.rows f
+    ∙ (ap Some (leaf_node steps i h.part.rows f none) ∙ ap (λ (x : Row). Some (spelled x.content)) (same_row t c d steps i r h f leads.row)))

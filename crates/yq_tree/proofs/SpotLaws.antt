@@ -1,17 +1,15 @@
--- Where a step leads among rows, one row after the other.
-use Rattle.std.proofs.Common.{◌≡◌, ℕ, suc, ◌+◌, ◌<◌, List, ◌++◌, length, drop, Option, Some, None, option_map, true, false, not, refl, sym, ap, ◌∙◌, arith, length-append, length-drop}
-use Rattle.std.proofs.lemmas.Bool.{cond-true, cond-false, false≢true}
+-- Where a step leads among lines, one line after the other.
+use Rattle.std.proofs.Common.{◌≡◌, ℕ, zero, suc, ◌+◌, ◌-◌, ◌<◌, eqb, List, ◌++◌, length, drop, Option, Some, None, option_map, true, false, not, ◌&&◌, refl, sym, ap, ◌∙◌, arith, length-append, length-drop}
+use Rattle.std.proofs.lemmas.Bool.{cond-true, cond-false, ne_eqb, false≢true}
 use Rattle.std.specs.List.{slice_get}
-use Rattle.yq_scalar.specs.Paths.{Step, is_here, further}
-use Rattle.yq_tree.specs.Rows.{Row}
+use Rattle.yq_scalar.specs.Paths.{Step, Nth, is_here, further, is_item}
 use Rattle.yq_tree.specs.Ends.{part, is_end, IsEndOf}
 use Rattle.yq_tree.specs.Group.{deeper, shallow, group}
-use Rattle.yq_tree.specs.Lines.{line_of, lines_of}
-use Rattle.yq_tree.specs.Nodes.{spot, seen}
-use Rattle.yq_tree.specs.Outline.{Line, level, Outline, end, row, flatten, label}
+use Rattle.yq_tree.specs.Outline.{Line, level, Outline, end, row, flatten, key_of, label}
 use Rattle.yq_tree.specs.Places.{lines_before, Found, next_to, find_row}
+use Rattle.yq_tree.specs.Spots.{spot, seen}
 use Rattle.yq_tree.proofs.Decides.{flatten-parts, flatten-group}
-use Rattle.yq_tree.proofs.EndsLaws.{line_at, deeper_line, not_end}
+use Rattle.yq_tree.proofs.EndsLaws.{deeper_line, not_end}
 use Rattle.yq_tree.proofs.Parts.{part_row, row_parts}
 
 -- how many lines are under a line
@@ -29,23 +27,31 @@ spot-next at next l u None e = refl
 spot-next at next l u (Some f) e =
     ap (λ i. Some (i, f.line, f.under)) (omega (arith, e, length-append (flatten u) (lines_before f.place)))
 
-module _ (rows : List Row) (at floor : ℕ) (r : Row) (is : slice_get rows at ≡ Some r) (deep : true ≡ not (is_end (part (lines_of rows) at floor))) where
-  lt : floor < level (line_of r)
-  lt = deeper_line (lines_of rows) at floor (line_of r) (line_at rows at r is) (not_end _ deep)
+module _ (ls : List Line) (at floor : ℕ) (l : Line) (is : slice_get ls at ≡ Some l) (deep : true ≡ not (is_end (part ls at floor))) where
+  lt : floor < level l
+  lt = deeper_line ls at floor l is (not_end _ deep)
 
-  pub spot_here : (s : Step) → is_here s (label (line_of r)) ≡ true → spot at (find_row s (part (lines_of rows) at floor)) ≡ seen (lines_of rows) (Some at)
+  pub spot_here : (s : Step) → is_here s (label l) ≡ true → spot at (find_row s (part ls at floor)) ≡ seen ls (Some at)
   spot_here s here =
-      ap (λ o. spot at (find_row s o)) (part_row (lines_of rows) at floor (line_of r) (line_at rows at r is) lt)
-      ∙ (ap (spot at) (cond-true _ _ _ here) ∙ (ap (λ i. Some (i, line_of r, part (lines_of rows) (at + 1) (level (line_of r)))) (omega arith)
-      ∙ sym (ap (option_map (λ l. (at, l, part (lines_of rows) (at + 1) (level l)))) (line_at rows at r is))))
+      ap (λ o. spot at (find_row s o)) (part_row ls at floor l is lt)
+      ∙ (ap (spot at) (cond-true _ _ _ here) ∙ (ap (λ i. Some (i, l, part ls (at + 1) (level l))) (omega arith)
+      ∙ sym (ap (option_map (λ m. (at, m, part ls (at + 1) (level m)))) is)))
 
-  pub spot_passed : (s : Step) (next : ℕ) → IsEndOf (lines_of rows) at next → is_here s (label (line_of r)) ≡ false →
-      spot at (find_row s (part (lines_of rows) at floor)) ≡ spot next (find_row (further s) (part (lines_of rows) next floor))
+  pub spot_passed : (s : Step) (next : ℕ) → IsEndOf ls at next → is_here s (label l) ≡ false →
+      spot at (find_row s (part ls at floor)) ≡ spot next (find_row (further s) (part ls next floor))
   spot_passed s next ends other =
-      let l = line_at rows at r is in
-      ap (λ o. spot at (find_row s o)) (row_parts (lines_of rows) at floor next (line_of r) l lt (ends.2 (line_of r) l))
-      ∙ (ap (spot at) (cond-false _ _ _ other) ∙ spot-next at next (line_of r) (part (lines_of rows) (at + 1) (level (line_of r))) (find_row (further s) (part (lines_of rows) next floor)) (under-length (lines_of rows) at next (line_of r) l ends))
+      ap (λ o. spot at (find_row s o)) (row_parts ls at floor next l is lt (ends.2 l is))
+      ∙ (ap (spot at) (cond-false _ _ _ other) ∙ spot-next at next l (part ls (at + 1) (level l)) (find_row (further s) (part ls next floor)) (under-length ls at next l is ends))
 
 pub spot_end : (at : ℕ) (s : Step) (o : Outline) → false ≡ not (is_end o) → spot at (find_row s o) ≡ None
 spot_end at s end e = refl
 spot_end at s (row l u a) e = absurd (false≢true e)
+
+-- an index leads to the first item where it is 0
+pub here_item : (n : ℕ) (l : Line) → is_here (Nth n) (label l) ≡ (eqb n 0 && is_item (key_of l.mark))
+here_item zero l = refl
+here_item (suc n) l = sym (ap (λ b. b && is_item (key_of l.mark)) (ne_eqb (suc n) 0 (λ e. omega (arith, e))))
+
+pub further_item : (n : ℕ) → further (Nth n) ≡ Nth (n - 1)
+further_item zero = refl
+further_item (suc n) = ap Nth (omega arith)

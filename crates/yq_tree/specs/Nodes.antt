@@ -1,43 +1,67 @@
 -- The nodes of the code, as those of trees.
-use Rattle.std.specs.Prelude.{◌≡◌, ℕ, ◌+◌, List, [], length, slice_get, Option, Some, None, option_map, option_and_then, if◌then◌else◌}
-use Rattle.yq_scalar.specs.Paths.{node_at}
-use Rattle.yq_scalar.specs.Text.{is_empty}
-use Rattle.yq_scalar.specs.Tree.{Label, Node, alias, scalar, list, map, Children, none, child}
-use Rattle.yq_tree.specs.Rows.{Row, Cut}
-use Rattle.yq_rows.specs.View.{view}
-use Rattle.yq_tree.specs.declared.children.Children as children
+use Rattle.std.specs.Prelude.{ℕ, ◌+◌, List, [], Option, None, option_map}
+use denote.Bor.{Bor}
+use Rattle.yq_scalar.specs.Tree.{Label, Node, alias, scalar, list, map}
+use Rattle.yq_inline.specs.Trees.{inner, placed_tree}
+use Rattle.yq_inline.specs.View as inline
+use Rattle.yq_tree.specs.declared.body.Body as bodies
+use Rattle.yq_tree.specs.declared.body.Named.{Named}
+use Rattle.yq_tree.specs.declared.body.Under.{Under}
+use Rattle.yq_tree.specs.declared.line.Line as lines
 use Rattle.yq_tree.specs.declared.node.Node as declared
 use Rattle.yq_tree.specs.declared.node.NodeKind.{NodeKind}
 use Rattle.yq_tree.specs.declared.node.NodeKind.TheVariants as kinds
-use Rattle.yq_tree.specs.declared.path.Path.{Path}
-use Rattle.yq_tree.specs.Ends.{part, floor_of}
-use Rattle.yq_tree.specs.Lines.{plain_node, lines_of}
-use Rattle.yq_tree.specs.Outline.{Line, level, Outline, children as children_in, value}
-use Rattle.yq_tree.specs.Places.{lines_before, Found}
-use Rattle.yq_tree.specs.Reading.{documents}
-use Rattle.yq_tree.specs.View.{steps_of}
+use Rattle.yq_tree.specs.declared.node.Slot as slots
+use Rattle.yq_tree.specs.Ends.{part}
+use Rattle.yq_tree.specs.Outline as outline
+use Rattle.yq_tree.specs.Outline.{Line, level, Outline, anchored, null, children}
+use Rattle.yq_tree.specs.View.{view, views}
 
--- what is written of a node in the row of its entry, if anything is (own)
-abbrev pub head_of : Option Row → Option (List ℕ)
-head_of None = None
-head_of (Some r) = if is_empty r.head then None else Some r.head
+-- a text that the code lends, if there is one (own)
+abbrev pub lent : Option (Bor (List ℕ)) → Option (List ℕ)
+lent t = option_map (λ x. x.now) t
 
--- the lines under a row, or all lines of a document, where they begin at a place (own)
-abbrev pub lines_under : Cut → Option Row → ℕ → Outline
-lines_under c row under = part (lines_of c.rows) under (floor_of (option_map (λ r. r.column) row))
+-- the lines of a document of the code (own)
+abbrev pub lines_in : List ℕ × List lines.Line → List Line
+lines_in d = views d.1
 
--- the lines under a node of the code (own)
-abbrev pub under_of : declared.Node → Outline
-under_of n = lines_under n.documents.now (option_map view n.row) n.under
+-- the lines from one on that are deeper than a level (own)
+abbrev pub under_of : List Line → Under → Outline
+under_of ls u = part ls u.first u.floor
 
--- the node of a head, or else of the lines under it (own)
-abbrev pub node_from : Option (List ℕ) → Outline → Node
-node_from None under = value under
-node_from (Some head) under = plain_node head
+-- the lines under a line, by its index (own)
+abbrev pub lines_under : List Line → ℕ → Line → Outline
+lines_under ls i l = part ls (i + 1) (level l)
+
+-- what a node of the code stands for, but for the anchor before it (own)
+abbrev pub body_node : List Line → bodies.Body → Node
+body_node ls bodies.TheVariants.Null = null
+body_node ls (bodies.TheVariants.Scalar kind text) = scalar None kind text.now
+body_node ls (bodies.TheVariants.Map under) = map None (children (under_of ls under))
+body_node ls (bodies.TheVariants.List under) = list None (children (under_of ls under))
+body_node ls (bodies.TheVariants.Inline node) = placed_tree (inline.view node.now)
+
+-- the same with that anchor (own)
+abbrev pub named_node : List Line → Named → Node
+named_node ls n = anchored (lent n.anchor) (body_node ls n.body)
 
 -- the node that one of the code stands for (own)
 abbrev pub node_of : declared.Node → Node
-node_of n = node_from (head_of (option_map view n.row)) (under_of n)
+node_of n = named_node (lines_in n.document.now) n.named
+
+-- what is told of a root, which is no entry and no item (own)
+abbrev pub unlabelled : Label
+unlabelled = record { key = None; head_comment = []; line_comment = None }
+
+-- what is told of what stands in such a place (own)
+abbrev pub slot_label : slots.Slot → Label
+slot_label slots.TheVariants.Root = unlabelled
+slot_label (slots.TheVariants.Line l) = outline.label (view l.now)
+slot_label (slots.TheVariants.Inline key) = inner (lent key)
+
+-- what is told of the entry or item of a node of the code (own)
+abbrev pub label_of : declared.Node → Label
+label_of n = slot_label n.slot
 
 -- what a node is: an alias, a scalar of its kind, a sequence or a mapping (YAML 1.2.2, section 3.2.1)
 abbrev pub kind_of : Node → NodeKind
@@ -53,24 +77,9 @@ text_of (scalar anchor kind text) = text
 text_of (list anchor cs) = []
 text_of (map anchor cs) = []
 
--- the node at a path, if it leads to one (own)
-abbrev pub located : Path → Cut → Option Node
-located path c = option_and_then (λ d. node_at (steps_of path) d.root) (slice_get (documents c) path.doc)
-
--- where a line stands that was found among those from a place on (own)
-abbrev pub spot : ℕ → Option Found → Option (ℕ × Line × Outline)
-spot start found = option_map (λ f. (start + length (lines_before f.place), f.line, f.under)) found
-
--- a line by its index, with those under it (own)
-abbrev pub seen : List Line → Option ℕ → Option (ℕ × Line × Outline)
-seen ls None = None
-seen ls (Some i) = option_map (λ l. (i, l, part ls (i + 1) (level l))) (slice_get ls i)
-
--- the items or entries that an iterator of the code has not yielded yet (own)
-abbrev pub left_of : children.Children → Children
-left_of c = children_in (part (lines_of c.documents.now.rows) c.next (floor_of c.floor))
-
--- the first of these items or entries, by its key and its node, is yielded, and the others are left; where there is none, nothing is yielded (own)
-abbrev pub YieldsChild : children.Children → Option declared.Node → children.Children → Type 0
-YieldsChild old None new = (left_of old ≡ none) × (left_of new ≡ none)
-YieldsChild old (Some n) new = (label : Label) × (label.key ≡ option_map (λ r. (view r).key) n.row) × (left_of old ≡ child label (node_of n) (left_of new))
+-- the anchor of a node, if it has one (YAML 1.2.2, section 6.9.2)
+abbrev pub anchor_of : Node → Option (List ℕ)
+anchor_of (alias name) = None
+anchor_of (scalar anchor kind text) = anchor
+anchor_of (list anchor cs) = anchor
+anchor_of (map anchor cs) = anchor

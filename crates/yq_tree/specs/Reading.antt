@@ -1,66 +1,145 @@
 -- Reading (a reader may skip this: the grammar is what is believed, and found and only tie the two): bytes read as documents.
-use Rattle.std.specs.Prelude.{ℕ, List, [], ◌∷◌, Bool, true, false, not, ◌&&◌, codes, Option, Some, None, if◌then◌else◌}
-use Rattle.std.specs.List.{list_any, list_all}
-use Rattle.std.specs.Str.{bytes_eq, is_utf8}
+use Rattle.std.specs.Prelude.{ℕ, nat_le, List, [], ◌∷◌, length, map, Bool, true, false, not, ◌&&◌, codes, Option, Some, None, if◌then◌else◌}
+use Rattle.std.specs.List.{list_all, list_any}
+use Rattle.std.specs.Str.{bytes_eq, chars, is_utf8}
 use Rattle.yq_scalar.specs.Answers.{◌>>=◌}
-use Rattle.yq_scalar.specs.Tree.{Node}
-use Rattle.yq_rows.specs.Lending.{shown_read}
+use Rattle.yq_scalar.specs.Tree.{Node, alias, scalar, list}
+use Rattle.yq_scalar.specs.Tree as tree
+use Rattle.yq_inline.specs.Nodes as inline
+use Rattle.yq_inline.specs.Nodes.{Items, none, item}
+use Rattle.yq_rows.specs.Grammar.{key_limit}
 use Rattle.yq_rows.specs.Reading.{scan_at}
-use Rattle.yq_rows.specs.View.{Bound}
-use Rattle.yq_tree.specs.Built.{is_built}
-use Rattle.yq_tree.specs.Documents.{Document, lead_of, depth_limit}
+use Rattle.yq_rows.specs.Rows as rows
+use Rattle.yq_rows.specs.Rows.{Content, Nothing, Inline, Block, Row, Part, Cut, last}
+use Rattle.yq_tree.specs.Anchors.{Name, Anchors, Refers, names_of}
+use Rattle.yq_tree.specs.Documents.{Document, document_parts, lead_of, is_long_plain, depth_limit}
 use Rattle.yq_tree.specs.Group.{group}
 use Rattle.yq_tree.specs.Lines.{lines_of}
-use Rattle.yq_tree.specs.Outline.{Outline, value}
-use Rattle.yq_tree.specs.Rows.{Row, Cut}
+use Rattle.yq_tree.specs.Outline.{Mark, Bare, Key, Dash, Line, Outline, value}
 use Rattle.yq_tree.specs.Sound.{is_sound}
 
--- the outline of rows
-abbrev pub outline_of : Cut → Outline
-outline_of c = group (lines_of c.rows)
+-- the outline of a part
+abbrev pub outline_of : Part → Outline
+outline_of p = group (lines_of p.rows)
 
--- the root node that rows stand for
-abbrev pub root_of : Cut → Node
-root_of c = value (outline_of c)
+-- the root node that a part stands for
+abbrev pub root_of : Part → Node
+root_of p = value (outline_of p)
 
--- the documents that rows stand for, if they stand for any
+-- the document that a part stands for, if it stands for one
+abbrev pub document_of : Part → Document
+document_of p = record { lead = lead_of p; root = root_of p }
+
+-- whether a key as it is written is fit
+abbrev pub is_fit : List ℕ → Bool
+is_fit key = not (bytes_eq key (codes "<<")) && nat_le (length (chars key)) key_limit
+
+-- whether the key of an entry is fit
+abbrev pub has_fit_key : inline.Key → Bool
+has_fit_key inline.bare = true
+has_fit_key (inline.keyed text before gap) = is_fit text
+
+abbrev mutual
+  -- whether each key of an inline node is fit
+  pub has_fit_keys : inline.Node → Bool
+  has_fit_keys inline.empty = true
+  has_fit_keys (inline.alias name) = true
+  has_fit_keys (inline.scalar p) = true
+  has_fit_keys (inline.coll close gap items) = each_has_fit_keys items
+  has_fit_keys (inline.anchored name gap node) = has_fit_keys node
+
+  -- the same of each item or entry
+  pub each_has_fit_keys : Items → Bool
+  each_has_fit_keys none = true
+  each_has_fit_keys (item key node sep items) = has_fit_key key && (has_fit_keys node && each_has_fit_keys items)
+
+-- whether each key in a row's content is fit
+abbrev pub content_is_fit : Content → Bool
+content_is_fit (Nothing tail) = true
+content_is_fit (Inline space node tail) = has_fit_keys node
+content_is_fit (Block space anchor block) = true
+
+-- whether the key of a row is no plain `<<`
+abbrev pub mark_is_fit : rows.Mark → Bool
+mark_is_fit rows.Bare = true
+mark_is_fit rows.Dash = true
+mark_is_fit (rows.Key key colon) = not (bytes_eq key (codes "<<"))
+
+-- whether each key in rows is fit
+abbrev pub have_fit_keys : List Row → Bool
+have_fit_keys [] = true
+have_fit_keys (r ∷ rs) = mark_is_fit r.mark && (content_is_fit r.content && have_fit_keys rs)
+
+-- whether the root is no plain scalar of several lines
+abbrev pub has_short_root : List Row → Bool
+has_short_root [] = true
+has_short_root (r ∷ rs) = not (is_long_plain r.mark r.content)
+
+-- whether there is no alias
+abbrev pub is_no_alias : Option Node → Bool
+is_no_alias None = true
+is_no_alias (Some (alias name)) = false
+is_no_alias (Some (scalar a kind text)) = true
+is_no_alias (Some (list a cs)) = true
+is_no_alias (Some (tree.map a cs)) = true
+
+-- whether a node on a line of its own may take an anchor
+abbrev pub may_take : Mark → Option (List ℕ) → Option Node → Bool
+may_take Bare None head = is_no_alias head
+may_take Bare (Some a) head = false
+may_take (Key k) a head = true
+may_take Dash a head = true
+
+-- whether an anchor before lines is the only one of their node
+abbrev pub is_free : Option (List ℕ) → List Line → Bool
+is_free None ls = true
+is_free (Some a) [] = true
+is_free (Some a) (l ∷ ls) = may_take l.mark l.anchor l.head
+
+-- whether no node has two anchors, and no alias has one
+abbrev pub have_one_anchor_each : List Line → Bool
+have_one_anchor_each [] = true
+have_one_anchor_each (l ∷ ls) = is_free l.anchor ls && have_one_anchor_each ls
+
+-- whether each alias has an earlier anchor, where these are known already
+abbrev pub are_bound : List (List ℕ) → List Name → Bool
+are_bound known [] = true
+are_bound known (Anchors a ∷ names) = are_bound (a ∷ known) names
+are_bound known (Refers a ∷ names) = list_any (bytes_eq a) known && are_bound known names
+
+-- whether a part stands for a document
+abbrev pub is_document : Part → Bool
+is_document p = have_fit_keys p.rows && (has_short_root p.rows && (have_one_anchor_each (lines_of p.rows) && (are_bound [] (names_of (root_of p)) && is_sound depth_limit (outline_of p))))
+
+-- the documents that the parts of a cut stand for, where each stands for one
 abbrev pub documents : Cut → List Document
-documents c = record { lead = lead_of c; root = root_of c } ∷ []
+documents c = map document_of (document_parts c)
 
--- whether a row's key is a plain `<<`
-abbrev pub is_merge : Row → Bool
-is_merge r = bytes_eq r.key (codes "<<")
+-- whether the parts of a cut stand for documents
+abbrev pub all_documents : Cut → Bool
+all_documents c = list_all is_document (document_parts c)
 
--- whether rows stand for documents
-abbrev pub is_document : Cut → Bool
-is_document c = not (list_any is_merge c.rows) && is_sound depth_limit (outline_of c)
-
--- rows that stand for documents
+-- a cut whose parts stand for documents
 abbrev pub checked : Cut → Option Cut
-checked c = if is_document c then Some c else None
+checked c = if all_documents c then Some c else None
 
--- whether there is one part (own)
-abbrev pub is_one : List Bound → Bool
-is_one [] = false
-is_one (b ∷ []) = true
-is_one (b ∷ (other ∷ bs)) = false
-
--- whether rows are those of one part, and of forms that are read (own)
-abbrev pub are_built : Cut → Bool
-are_built c = is_one c.bounds && list_all is_built c.rows
-
--- rows of forms that are read (own)
-abbrev pub if_built : Cut → Option Cut
-if_built c = if are_built c then Some c else None
-
--- a text of one part, cut into rows of forms that are read (own)
-unfoldable pub cut_at : List ℕ → Option Cut
-cut_at text = shown_read (scan_at text) >>= if_built
-
--- a text, cut into rows that stand for documents
+-- a text, cut into parts that stand for documents
 unfoldable pub text_at : List ℕ → Option Cut
-text_at text = cut_at text >>= checked
+text_at text = scan_at text >>= checked
 
--- bytes, which are UTF-8, cut into rows that stand for documents
+-- bytes, which are UTF-8, cut into parts that stand for documents
 unfoldable pub read_at : List ℕ → Option Cut
 read_at bytes = if is_utf8 bytes then text_at bytes else None
+
+-- a cut, or that of no text
+abbrev pub cut_or : Option Cut → Cut
+cut_or None = last (record { rows = []; end = [] })
+cut_or (Some c) = c
+
+-- the cut of a text that has one
+unfoldable pub cut_of : List ℕ → Cut
+cut_of text = cut_or (scan_at text)
+
+-- the documents of a text that reads as documents
+abbrev pub documents_of : List ℕ → List Document
+documents_of text = documents (cut_of text)

@@ -1,13 +1,13 @@
 -- Reading (a reader may skip this: the grammar is what is believed, and found and only tie the two): what is asked of a document's lines.
-use Rattle.std.specs.Prelude.{◌≡◌, ℕ, nat_le, List, [], ◌∷◌, Bool, true, false, not, ◌&&◌, Result, Ok, Err}
+use Rattle.std.specs.Prelude.{◌≡◌, ℕ, nat_le, nat_eq, List, [], ◌∷◌, Option, Some, None, Bool, true, false, not, ◌&&◌, Result, Ok, Err}
 use Rattle.std.specs.List.{list_any}
 use Rattle.std.specs.Str.{bytes_eq}
 use Rattle.yq_scalar.specs.declared.fault.ReadError.{ReadError}
 use Rattle.yq_scalar.specs.declared.fault.ReadError.TheVariants as error
 use Rattle.yq_scalar.specs.Tree.{Node, alias, scalar, list, map, Children, none, child}
-use Rattle.yq_scalar.specs.Keys.{keys_of, depth}
-use Rattle.yq_tree.specs.Outline.{Outline, value}
-use Rattle.yq_tree.specs.Group.{is_fine}
+use Rattle.yq_scalar.specs.Keys.{keys_of, depth, deepest}
+use Rattle.yq_tree.specs.Outline.{Mark, Bare, Key, Dash, Line, level, Outline, value}
+use Rattle.yq_tree.specs.Group.{is_fine, is_open}
 
 -- whether no two keys are equal
 abbrev pub are_distinct : List (List ℕ) → Bool
@@ -36,3 +36,22 @@ abbrev pub Tells : {X : Type 0} → Result X ReadError → Bool → Type 0
 Tells (Ok x) passed = passed ≡ true
 Tells (Err error.Memory) passed = Unit {0}
 Tells (Err (error.Fault f)) passed = passed ≡ false
+
+-- whether at most d collections are nested in a head, and no mapping in it has a key twice
+abbrev pub head_is_sound : ℕ → Option Node → Bool
+head_is_sound d None = true
+head_is_sound d (Some n) = nat_le (depth n) d && has_unique_keys n
+
+-- the same of each item or entry
+abbrev pub are_sound : ℕ → Children → Bool
+are_sound d cs = nat_le (deepest cs) d && each_has_unique_keys cs
+
+-- whether a line is at a level, has no head where lines are under it, and a head as is asked
+abbrev pub line_is_sound : ℕ → ℕ → Line → Outline → Bool
+line_is_sound d n l under = nat_eq (level l) n && (is_open l.head under && head_is_sound d l.head)
+
+-- whether a line begins an item or an entry, and is no node itself
+abbrev pub is_entry : Mark → Bool
+is_entry Bare = false
+is_entry (Key k) = true
+is_entry Dash = true

@@ -1,61 +1,71 @@
-//! Documents, as their rows.
-ghost use Rattle.std.specs.Prelude.{◌≡◌, ◌≤◌, length, is_some, IfOk};
-ghost use Rattle.std.specs.List.{list_any};
-ghost use Rattle.yq_scalar.specs.Characters.{text_limit};
-ghost use Rattle.yq_tree.specs.Rows.{Cut, cut_text};
-ghost use Rattle.yq_tree.specs.Ends.{AreEndsFrom};
-ghost use Rattle.yq_tree.specs.Lines.{lines_of};
+//! Documents, as their lines.
+ghost use Rattle.std.specs.Prelude.{◌≡◌, ◌<◌, ℕ, List, length, option_map, Some};
+ghost use Rattle.yq_tree.specs.Documents.{Document};
+ghost use Rattle.yq_tree.specs.Located.{document_at, located};
+ghost use Rattle.yq_tree.specs.Nodes.{node_of, label_of, unlabelled};
 ghost use Rattle.yq_tree.specs.Reading as spec;
-ghost use Rattle.yq_tree.specs.Sound.{Tells};
+ghost use Rattle.yq_tree.specs.SoundReading.{Holds};
+ghost use Rattle.yq_tree.specs.Texts.{texts_left};
 
-use crate::ends::ends_of;
-use crate::entries::check_entries;
-use crate::fault::fault;
-use std::alloc::Global;
+use crate::comments::Comments;
+use crate::lined::Lined;
+use crate::node::Node;
+use crate::path::Path;
 use std::marker::Model;
 use yq_rows::Rows;
-use yq_scalar::{FaultKind, ReadError};
 
 /// How many collections may be nested.
 pub const DEPTH_LIMIT: usize = 64;
 
-/// The documents of a text, which lend what they say of it.
+/// The documents of a text, which lend what they say of it. They are known by their text.
 #[derive(Debug, Drop)]
 pub struct Documents<'t> {
+    pub(crate) text: &'t str,
     pub(crate) rows: Rows<'t>,
-    pub(crate) ends: Vec<usize>,
+    pub(crate) documents: Vec<Lined<'t>>,
 }
 
 impl<'t> Model for Documents<'t> {
-    ghost Value = { Cut };
+    ghost Value = { List ℕ };
 
-    ghost view = { λ d. d.rows };
+    ghost view = { λ d. d.text.now };
 
-    ghost invariant = { λ d. (length d.ends.items ≡ length d.rows.rows) × AreEndsFrom 0 (lines_of d.rows.rows) d.ends.items × (length (cut_text d.rows) ≤ text_limit) };
+    ghost invariant = { λ d. Holds d.text.now d.rows d.documents.items };
 }
 
-/// The first row whose key is a plain `<<`.
-fn merge_key(rows: &Rows<'_>) -> Option<usize>
-    ensures { is_some result ≡ list_any spec.is_merge rows.now.rows }
-{
-    'rows: for at in 0..rows.len() {
-        if rows.row(at).key() == "<<" {
-            return Some(at);
+impl<'t> Documents<'t> {
+    /// How many documents there are.
+    pub fn count(&self) -> usize
+        ensures { result ≡ length (spec.documents_of self.now) }
+    {
+        self.documents.len()
+    }
+
+    /// The root of document `i`, counted from 0.
+    pub fn root(&self, i: usize) -> Node<'_, 't>
+        requires { i < length (spec.documents_of self.now) }
+        ensures node { (d : Document) → document_at self.now i ≡ Some d → node_of result ≡ d.root }
+        ensures label { label_of result ≡ unlabelled }
+    {
+        Node::root(&self.documents[i])
+    }
+
+    /// The comment before document `i`, counted from 0, line by line.
+    pub fn lead(&self, i: usize) -> Comments<'_>
+        requires { i < length (spec.documents_of self.now) }
+        ensures { (d : Document) → document_at self.now i ≡ Some d → texts_left result ≡ d.lead }
+    {
+        Comments::of(self.documents[i].lead)
+    }
+
+    /// The node at a path.
+    pub fn locate(&self, path: &Path) -> Option<Node<'_, 't>>
+        ensures { option_map node_of result ≡ located path.now self.now }
+    {
+        if path.doc >= self.count() {
+            return None;
         }
+        let root = self.root(path.doc);
+        root.walk(&path.steps)
     }
-    None
-}
-
-/// Whether rows stand for documents, and then where the rows under each row end.
-pub(crate) fn check_rows(alloc: Global, rows: &Rows<'_>) -> Result<Vec<usize>, ReadError>
-    ensures told { Tells result (spec.is_document rows.now) }
-    ensures each { IfOk result (λ ends. length ends.items ≡ length rows.now.rows) }
-    ensures ends { IfOk result (λ ends. AreEndsFrom 0 (lines_of rows.now.rows) ends.items) }
-{
-    if let Some(at) = merge_key(rows) {
-        return Err(ReadError::Fault(fault(rows, at, FaultKind::MergeKey)));
-    }
-    let ends = ends_of(alloc, rows)?;
-    check_entries(alloc, rows, &ends, 0, None, DEPTH_LIMIT)?;
-    Ok(ends)
 }

@@ -1,50 +1,61 @@
-//! Where the rows under each row end.
-ghost use Rattle.std.specs.Prelude.{◌≡◌, ℕ, ◌+◌, ◌<◌, ◌≤◌, length, not, IfOk, IsTrue};
-ghost use Rattle.yq_tree.specs.Ends.{part, is_end, floor_of, IsEndOf, AreEndsFrom};
-ghost use Rattle.yq_tree.specs.Lines.{lines_of};
+//! How far lines are indented, and where the lines under each line end.
+ghost use Rattle.std.specs.Prelude.{◌≡◌, ◌+◌, ◌<◌, length, not, IfOk, IsTrue};
+ghost use Rattle.yq_tree.specs.Ends.{part, is_end, IsEndOf, AreEndsFrom};
+ghost use Rattle.yq_tree.specs.Outline as spec;
+ghost use Rattle.yq_tree.specs.View.{view, views};
 
+use crate::line::{Line, Mark};
 use std::alloc::{AllocError, Global};
-use yq_rows::Rows;
 
-/// Whether there is a row at a place, and it is deeper than a column, if one is given.
-pub(crate) fn is_deeper(rows: &Rows<'_>, at: usize, floor: Option<usize>) -> bool
-    ensures some { IsTrue result → at < length rows.now.rows }
-    ensures test { result ≡ not (is_end (part (lines_of rows.now.rows) at (floor_of floor))) }
+/// How far a line is indented: three for each column, and by what it begins with.
+#[tactic(auto, unfolding(crate::specs::Outline::level))]
+pub(crate) fn level(line: &Line<'_>) -> usize
+    ensures { result ≡ spec.level (view line.now) }
 {
-    if at >= rows.len() {
-        return false;
-    }
-    match floor {
-        None => true,
-        Some(column) => column < rows.row(at).column(),
-    }
+    let rank = match line.mark {
+        Mark::Bare => 1,
+        Mark::Key(_) => 2,
+        Mark::Dash => 3,
+    };
+    3 * line.column as usize + rank
 }
 
-/// Where the rows under a row end, by where those under each later row end.
-fn end_under(rows: &Rows<'_>, ends: &[usize], at: usize) -> usize
-    requires within { at < length rows.now.rows }
-    requires each { length ends.now ≡ length rows.now.rows }
-    requires later { AreEndsFrom (at + 1) (lines_of rows.now.rows) ends.now }
-    ensures { IsEndOf (lines_of rows.now.rows) at result }
+/// Whether there is a line at a place, and it is deeper than a level.
+pub(crate) fn is_deeper(lines: &[Line<'_>], at: usize, floor: usize) -> bool
+    ensures some { IsTrue result → at < length lines.now }
+    ensures test { result ≡ not (is_end (part (views lines.now) at floor)) }
 {
-    let floor = Some(rows.row(at).column());
+    if at >= lines.len() {
+        return false;
+    }
+    floor < level(&lines[at])
+}
+
+/// Where the lines under a line end, by where those under each later line end.
+fn end_under(lines: &[Line<'_>], ends: &[usize], at: usize) -> usize
+    requires within { at < length lines.now }
+    requires each { length ends.now ≡ length lines.now }
+    requires later { AreEndsFrom (at + 1) (views lines.now) ends.now }
+    ensures { IsEndOf (views lines.now) at result }
+{
+    let floor = level(&lines[at]);
     let mut next = at + 1;
-    'rows: while is_deeper(rows, next, floor) {
+    'lines: while is_deeper(lines, next, floor) {
         next = ends[next];
     }
     next
 }
 
-/// Where the rows under each row end.
-pub(crate) fn ends_of(alloc: Global, rows: &Rows<'_>) -> Result<Vec<usize>, AllocError>
-    ensures each { IfOk result (λ ends. length ends.items ≡ length rows.now.rows) }
-    ensures ends { IfOk result (λ ends. AreEndsFrom 0 (lines_of rows.now.rows) ends.items) }
+/// Where the lines under each line end.
+pub(crate) fn ends_of(alloc: Global, lines: &[Line<'_>]) -> Result<Vec<usize>, AllocError>
+    ensures each { IfOk result (λ ends. length ends.items ≡ length lines.now) }
+    ensures ends { IfOk result (λ ends. AreEndsFrom 0 (views lines.now) ends.items) }
 {
-    let mut ends = vec![in alloc; 0; rows.len()]?;
-    let mut at = rows.len();
-    'rows: while at > 0 {
+    let mut ends = vec![in alloc; 0; lines.len()]?;
+    let mut at = lines.len();
+    'lines: while at > 0 {
         at -= 1;
-        ends[at] = end_under(rows, &ends, at);
+        ends[at] = end_under(lines, &ends, at);
     }
     Ok(ends)
 }

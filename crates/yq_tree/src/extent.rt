@@ -1,19 +1,18 @@
-//! Where the content of nodes stands in their text.
-ghost use Rattle.std.specs.Prelude.{◌≡◌, ◌+◌, ◌<◌, ◌≤◌, length, [], option_map};
+//! Where what rows spell stands in their text.
+ghost use Rattle.std.specs.Prelude.{◌≡◌, ◌<◌, ◌≤◌, ◌&&◌, ℕ, List, length, take, slice_get, Some, IfSome, option_map};
+ghost use Rattle.std.specs.List.{sum_by};
 ghost use Rattle.yq_scalar.specs.Characters.{text_limit};
-ghost use Rattle.yq_tree.specs.Exchange.{before_head};
-ghost use Rattle.yq_tree.specs.Rows.{cut_text};
-ghost use Rattle.yq_rows.specs.View.{view};
-ghost use Rattle.yq_tree.specs.declared.path.Part.TheVariants.{Content};
+ghost use Rattle.yq_rows.specs.Grammar.{IsCut};
+ghost use Rattle.yq_rows.specs.Rows.{Cut, Row as RowOf};
+ghost use Rattle.yq_rows.specs.View.{bound_view, rows_of, shown, view};
 ghost use Rattle.yq_tree.specs.Extents as spec;
-ghost use Rattle.yq_tree.specs.Nodes.{under_of};
-ghost use Rattle.yq_tree.specs.Outline.{flatten};
+ghost use Rattle.yq_tree.specs.RowPaths as paths;
+ghost use Rattle.yq_tree.specs.Written.{row_scalar};
 
-use crate::document::Documents;
-use crate::node::Node;
-use crate::path::{Part, Path, Span};
-use yq_rows::{Row, Rows};
-use yq_scalar::lines::text_len;
+use crate::head::begins_block;
+use crate::path::Span;
+use yq_inline::pieces::first_is;
+use yq_rows::{Bound, Row, Rows};
 
 /// How long a row is, with its gap.
 fn row_len(row: &Row<'_>) -> usize
@@ -33,37 +32,13 @@ fn row_len(row: &Row<'_>) -> usize
         + row.raw().len()
 }
 
-/// How long the first rows are.
-fn rows_len(rows: &Rows<'_>, count: usize) -> usize
-    requires within { count ≤ length rows.now.rows }
-    requires short { length (cut_text rows.now) ≤ text_limit }
-    ensures { result ≡ spec.rows_before count rows.now.rows }
+/// How long the pieces of a row before its head are.
+fn front_len(row: &Row<'_>) -> usize
+    requires { spec.row_length (view row.now) ≤ text_limit }
+    ensures { result ≡ spec.front_length (view row.now) }
 {
-    let mut len = 0;
-    'rows: for at in 0..count {
-        len += row_len(&rows.row(at));
-    }
-    len
-}
-
-/// Where the key of a row stands.
-fn key_start(rows: &Rows<'_>, at: usize) -> usize
-    requires within { at < length rows.now.rows }
-    requires short { length (cut_text rows.now) ≤ text_limit }
-    ensures { result ≡ length (spec.before_key at rows.now.rows) }
-{
-    let row = rows.row(at);
-    rows_len(rows, at) + row.gap().len() + row.column()
-}
-
-/// Where the head of a row stands.
-fn head_start(rows: &Rows<'_>, at: usize) -> usize
-    requires within { at < length rows.now.rows }
-    requires short { length (cut_text rows.now) ≤ text_limit }
-    ensures { result ≡ length (before_head at rows.now.rows) }
-{
-    let row = rows.row(at);
-    key_start(rows, at)
+    row.gap().len()
+        + row.column()
         + row.dashes().len()
         + row.key().len()
         + row.colon().len()
@@ -72,65 +47,135 @@ fn head_start(rows: &Rows<'_>, at: usize) -> usize
         + row.apart().len()
 }
 
-/// Where a row ends, before its break.
-fn row_end(rows: &Rows<'_>, at: usize) -> usize
-    requires within { at < length rows.now.rows }
-    requires short { length (cut_text rows.now) ≤ text_limit }
-    ensures { result ≡ length (spec.before_break at rows.now.rows) }
+/// How long the first rows are.
+fn rows_len(rows: &Rows<'_>, count: usize) -> usize
+    requires within { count ≤ length rows.now.rows }
+    requires short { spec.shown_length rows.now ≤ text_limit }
+    ensures { result ≡ sum_by spec.row_length (take count rows.now.rows) }
 {
-    let row = rows.row(at);
-    head_start(rows, at) + row.head().len() + text_len(row.tail().as_bytes())
+    let mut len = 0;
+    'rows: for at in 0..count {
+        len += row_len(&rows.row(at));
+    }
+    len
 }
 
-impl<'d> Node<'d> {
-    /// Where the rows under it end.
-    fn rows_end(&self) -> usize
-        requires { spec.IsPlaced self.now }
-        ensures end { result ≡ self.now.under + length (flatten (under_of self.now)) }
-        ensures within { result ≤ length self.now.documents.now.rows }
-    {
-        let documents = self.documents;
-        match self.row {
-            None => documents.rows.len(),
-            Some(_) => documents.ends[self.under - 1],
-        }
+/// How long the end of a part is, with the marker behind it, where that part ends before a row.
+fn passed_len(bound: &Bound<'_>, row: usize) -> usize
+    requires { spec.bound_length (bound_view bound.now) ≤ text_limit }
+    ensures { result ≡ spec.passed_length row (bound_view bound.now) }
+{
+    if bound.rows <= row {
+        bound.end.len() + bound.marker.len()
+    } else {
+        0
     }
+}
 
-    /// Where its content stands.
-    fn place(&self) -> Option<Span>
-        requires { spec.IsPlaced self.now }
-        ensures { option_map (λ s. (s.start, s.end)) result ≡ spec.place_of self.now [] }
-    {
-        let documents = self.documents;
-        if let Some(head) = self.head() {
-            let start = head_start(&documents.rows, self.under - 1);
-            return Some(Span {
-                start,
-                end: start + head.len(),
-            });
-        }
-        if !self.has_entries() {
+/// How long the ends and markers of the parts before a row are.
+fn ends_len(rows: &Rows<'_>, row: usize) -> usize
+    requires { spec.shown_length rows.now ≤ text_limit }
+    ensures { result ≡ sum_by (spec.passed_length row) rows.now.bounds }
+{
+    let mut len = 0;
+    'parts: for at in 0..rows.parts() {
+        len += passed_len(&rows.part(at), row);
+    }
+    len
+}
+
+/// Where the head of row `i` begins and ends, in bytes, or where it would begin.
+pub(crate) fn head_place(rows: &Rows<'_>, i: usize) -> (usize, usize)
+    requires within { i < length rows.now.rows }
+    requires shown { spec.IsShown rows.now }
+    ensures { (c : Cut) → rows.now ≡ shown c → (r : RowOf) → slice_get (rows_of c) i ≡ Some r → (result.0, result.1) ≡ spec.head_place i c r }
+{
+    let row = rows.row(i);
+    let start = rows_len(rows, i) + ends_len(rows, i) + front_len(&row);
+    (start, start + row.head().len())
+}
+
+/// How many dashes stand in a text.
+fn dash_count(text: &str) -> usize
+    ensures { result ≡ spec.dash_count text.now }
+{
+    text.as_bytes().iter().filter(|b| **b == b'-').count()
+}
+
+/// How many lines of a row stand before its last one.
+fn lines_before_mark(row: &Row<'_>) -> usize
+    ensures { result ≡ spec.lines_before_mark (view row.now) }
+{
+    let count = dash_count(row.dashes());
+    if row.colon().is_empty() {
+        count.saturating_sub(1)
+    } else {
+        count
+    }
+}
+
+/// The row whose last line is this one, by its pieces.
+fn find_row(rows: &Rows<'_>, line: usize) -> Option<usize>
+    ensures within { IfSome result (λ i. i < length rows.now.rows) }
+    ensures found { result ≡ spec.slices_row line rows.now.rows }
+{
+    let mut left = line;
+    'rows: for at in 0..rows.len() {
+        let before = lines_before_mark(&rows.row(at));
+        if left < before {
             return None;
         }
-        let last = self.rows_end() - 1;
-        Some(Span {
-            start: key_start(&documents.rows, self.under),
-            end: row_end(&documents.rows, last),
-        })
+        if left == before {
+            return Some(at);
+        }
+        left -= before + 1;
     }
+    None
 }
 
-impl<'t> Documents<'t> {
-    /// The place of a part of the node at a path, in bytes, where there is one.
-    ///
-    /// Only the place of the content is told yet: that of a scalar in the row of its entry, and
-    /// that of a block mapping from its first key to the end of its last line, before its break.
-    pub fn extent(&self, path: &Path, part: Part) -> Option<Span>
-        ensures content { part ≡ Content → option_map (λ s. (s.start, s.end)) result ≡ spec.content_place path.now self.now }
-    {
-        match part {
-            Part::Content => self.node_at(path)?.place(),
-            Part::Entry | Part::HeadComment | Part::LineComment => None,
-        }
+/// The row whose last line is this one, by their indexes from 0; none, where it is that of a dash
+/// before a mark, or behind all rows.
+pub(crate) fn line_row(rows: &Rows<'_>, line: usize) -> Option<usize>
+    ensures within { IfSome result (λ i. i < length rows.now.rows) }
+    ensures found { (t : List ℕ) (c : Cut) → IsCut t c → rows.now ≡ shown c → result ≡ paths.line_row line (rows_of c) }
+{
+    find_row(rows, line)
+}
+
+/// Whether a head is a plain or quoted scalar.
+fn is_scalar(head: &str) -> bool
+    ensures { result ≡ spec.is_scalar_head head.now }
+{
+    let bytes = head.as_bytes();
+    let other = begins_block(bytes)
+        || (first_is(b'*', bytes) || (first_is(b'[', bytes) || first_is(b'{', bytes)));
+    !head.is_empty() && !other
+}
+
+/// Whether a row is that of a key or dash.
+fn is_entry(row: &Row<'_>) -> bool
+    ensures { result ≡ spec.begins_entry (view row.now) }
+{
+    !(row.dashes().is_empty() && row.colon().is_empty())
+}
+
+/// Whether a scalar is written behind the key or dash of a row.
+fn has_scalar(row: &Row<'_>) -> bool
+    ensures { result ≡ (spec.begins_entry (view row.now) && spec.is_scalar_head (view row.now).head) }
+{
+    is_entry(row) && is_scalar(row.head())
+}
+
+/// The place of the scalar that is written behind the key or dash of row `i`, if one is.
+pub(crate) fn scalar_place(rows: &Rows<'_>, i: usize) -> Option<Span>
+    requires within { i < length rows.now.rows }
+    requires shown { spec.IsShown rows.now }
+    ensures { (t : List ℕ) (c : Cut) → IsCut t c → rows.now ≡ shown c → option_map spec.span result ≡ option_map spec.scalar_span (row_scalar i (slice_get (rows_of c) i) c) }
+{
+    if has_scalar(&rows.row(i)) {
+        let (start, end) = head_place(rows, i);
+        Some(Span { start, end })
+    } else {
+        None
     }
 }

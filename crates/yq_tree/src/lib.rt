@@ -1,27 +1,58 @@
 //! Documents: rows read as trees, with the places of their nodes.
 #![tactic(auto)]
 
+mod anchors;
+mod body;
+mod bound;
+mod checks;
 mod children;
+mod comments;
+mod content;
 mod document;
+mod documents;
 mod ends;
-mod entries;
 mod extent;
 mod fault;
-mod forms;
-mod head_laws;
+mod find;
+mod fit;
+mod flow;
+mod flow_keys;
+mod front;
+mod head;
 mod laws;
+mod line;
+mod line_at;
+mod lined;
+mod lines_fault;
+#[cfg(test)]
+mod lines_tests;
+mod names;
+mod nested;
 mod node;
+#[cfg(test)]
+mod node_tests;
+mod part_lines;
 mod path;
 mod path_laws;
 mod reading;
+mod row_lines;
+mod sound;
+mod steps;
 #[cfg(test)]
 mod tests;
+mod written;
+mod written_laws;
+mod written_place;
 
 pub use children::Children;
+pub use comments::Comments;
 pub use document::{DEPTH_LIMIT, Documents};
-pub use head_laws::{cut_exchanged, cut_read, head_ends, head_pieces, head_place, head_text};
 pub use laws::{exchanged, one_node, rules};
+pub use line::Line;
 pub use node::{Node, NodeKind};
-pub use path::{Part, Path, Span, Step};
-pub use path_laws::{content_places, head_exchanged, path_rows};
-pub use reading::{one_reading, read, text_of};
+pub use path::{Part, Path, Span};
+pub use path_laws::{path_rows, scalar_fits, scalar_put};
+pub use reading::{cut_read, one_reading, read, text_of};
+pub use written::Written;
+pub use written_laws::scalar_written;
+pub use yq_inline::Step;

@@ -1,20 +1,12 @@
 //! Paths into documents, and places of their nodes.
 
-/// Where a node stands: its document, counted from 0, and the steps from the
-/// root of that document.
+use yq_inline::Step;
+
+/// Where a node stands: its document, counted from 0, and the steps from the root of that document.
 #[derive(Debug, Drop)]
 pub struct Path {
     pub doc: usize,
     pub steps: Vec<Step>,
-}
-
-/// A step of a path.
-#[derive(Debug, Drop)]
-pub enum Step {
-    /// To the value of the entry with this key.
-    Key(String),
-    /// To an item, counted from 0.
-    Index(usize),
 }
 
 /// What is asked of a node.

@@ -1,22 +1,19 @@
 //! Laws on paths and rows, for the crates above.
-ghost use Rattle.yq_tree.specs.Extents.{HeadHasPlace, HeadlessHasNone, RootHasNone};
-ghost use Rattle.yq_tree.specs.RowPaths.{HeadExchanged, LeadsNowhere, LeadsToRow};
+ghost use Rattle.yq_tree.specs.RowPaths.{HeadIsLeaf, LeadsToRow, ScalarFits, ScalarPut, ScalarSpelled};
 
-/// A path leads to the node of a row, or to none.
+/// A path that leads to a row without lines under it leads to what the row spells behind its mark.
 pub fn path_rows()
-    ensures there { LeadsToRow }
-    ensures nowhere { LeadsNowhere }
+    ensures headed { HeadIsLeaf }
+    ensures node { LeadsToRow }
 {}
 
-/// With the head of a row exchanged, the document is the same but for that row's node.
-pub fn head_exchanged()
-    ensures { HeadExchanged }
+/// With a scalar put into a row, the document is the same but for that row's node.
+pub fn scalar_put()
+    ensures spelled { ScalarSpelled }
+    ensures read { ScalarPut }
 {}
 
-/// The content of a node stands where the head of its row does; a scalar
-/// without a head has no place.
-pub fn content_places()
-    ensures head { HeadHasPlace }
-    ensures headless { HeadlessHasNone }
-    ensures root { RootHasNone }
+/// A scalar fits in the place of a row's own, or behind a space where nothing is written.
+pub fn scalar_fits()
+    ensures { ScalarFits }
 {}

@@ -3,14 +3,17 @@ ghost use Rattle.std.specs.Prelude.{◌≡◌, ◌≢◌, ◌↔◌, ℕ, List, 
 ghost use Rattle.std.specs.Str.{is_utf8};
 ghost use Rattle.yq_scalar.specs.declared.fault.FaultKind.TheVariants.{NotUtf8};
 ghost use Rattle.yq_scalar.specs.Answers.{Gives};
-ghost use Rattle.yq_tree.specs.Documents.{Document, Reads};
+ghost use Rattle.yq_rows.specs.Grammar.{IsCut};
+ghost use Rattle.yq_rows.specs.Rows.{Cut};
 ghost use Rattle.yq_tree.specs.Answers.{IsNotUtf8};
+ghost use Rattle.yq_tree.specs.Documents.{Document, Reads};
 ghost use Rattle.yq_tree.specs.Reading as spec;
 
-use crate::document::{Documents, check_rows};
-use crate::forms::form_fault;
+use crate::checks::check_parts;
+use crate::document::Documents;
+use crate::documents::document_lines;
 use std::alloc::Global;
-use yq_rows::{Rows, scan};
+use yq_rows::scan;
 use yq_scalar::{FaultKind, ReadError, ReadFault};
 
 /// The text that bytes are in UTF-8. Bytes that are none are refused as
@@ -44,39 +47,42 @@ fn text_fault(fault: ReadFault) -> ReadFault
     }
 }
 
-/// Cuts a text into rows of forms that are read.
-#[tactic(auto, unfolding(crate::specs::Reading::cut_at))]
-fn cut(alloc: Global, text: &str) -> Result<Rows<'_>, ReadError>
-    ensures { Gives (λ c. c) result (spec.cut_at text.now) }
-{
-    let rows = scan(alloc, text)?;
-    match form_fault(&rows) {
-        None => Ok(rows),
-        Some(fault) => Err(ReadError::Fault(fault)),
-    }
-}
-
 /// Reads a text as documents.
-#[tactic(auto, unfolding(crate::specs::Reading::text_at))]
 fn read_text(alloc: Global, text: &str) -> Result<Documents<'_>, ReadError>
-    ensures { Gives (λ d. d) result (spec.text_at text.now) }
+    ensures text { IfOk result (λ d. d ≡ text.now) }
+    ensures exact { Gives spec.cut_of result (spec.text_at text.now) }
 {
-    let rows = cut(alloc, text)?;
-    let ends = check_rows(alloc, &rows)?;
-    Ok(Documents { rows, ends })
+    let rows = match scan(alloc, text) {
+        Ok(rows) => rows,
+        Err(e) => return Err(e),
+    };
+    let parts = match document_lines(alloc, text, &rows) {
+        Ok(parts) => parts,
+        Err(e) => return Err(e),
+    };
+    let documents = match check_parts(alloc, &rows, parts) {
+        Ok(documents) => documents,
+        Err(e) => return Err(e),
+    };
+    Ok(Documents {
+        text,
+        rows,
+        documents,
+    })
 }
 
 /// Reads bytes as documents.
 #[tactic(auto, unfolding(crate::specs::Reading::read_at))]
 pub fn read(alloc: Global, bytes: &[u8]) -> Result<Documents<'_>, ReadError>
     // The bytes read as the documents.
-    ensures found { IfOk result (λ d. Reads bytes.now (spec.documents d)) }
+    ensures found { IfOk result (λ d. Reads bytes.now (spec.documents_of d)) }
     // Bytes that read as documents are read so, unless memory runs out.
-    ensures only { (docs : List Document) → Reads bytes.now docs → Gives spec.documents result (Some docs) }
+    ensures only { (docs : List Document) → Reads bytes.now docs → Gives spec.documents_of result (Some docs) }
     // The fault that bytes are no text comes where they are none.
     ensures not_utf8 { IsNotUtf8 result ↔ (is_utf8 bytes.now ≡ false) }
-    // The rows of the documents are what reading from left to right gives.
-    ensures exact { Gives (λ d. d) result (spec.read_at bytes.now) }
+    // The documents are known by the bytes, and their cut is what reading from left to right gives.
+    ensures text { IfOk result (λ d. d ≡ bytes.now) }
+    ensures exact { Gives spec.cut_of result (spec.read_at bytes.now) }
 {
     let text = match text_of(bytes) {
         Ok(text) => text,
@@ -92,4 +98,10 @@ pub fn read(alloc: Global, bytes: &[u8]) -> Result<Documents<'_>, ReadError>
 /// No bytes have two readings.
 pub fn one_reading()
     ensures { (bytes : List ℕ) (docs others : List Document) → Reads bytes docs → Reads bytes others → docs ≡ others }
+{}
+
+/// What reading from left to right gives is a text's cut, whose parts stand for documents.
+pub fn cut_read()
+    ensures taken { (t : List ℕ) (c : Cut) → spec.text_at t ≡ Some c → IsCut t c × (spec.all_documents c ≡ true) }
+    ensures given { (t : List ℕ) (c : Cut) → IsCut t c → spec.all_documents c ≡ true → spec.text_at t ≡ Some c }
 {}

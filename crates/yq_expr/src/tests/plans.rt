@@ -4,15 +4,14 @@ use crate::op::Op;
 use crate::parse::parse_expr;
 use crate::planning::{PlanError, plan};
 use crate::refusal::Refusal;
-use crate::written::written_at;
 use std::alloc::{AllocError, Global};
 use std::process::Abort;
 use std::test::Fail;
 use yq_inline::Value;
-use yq_scalar::Kind;
 use yq_tree::{Documents, Path, Step, read};
 
-const TEXT: &[u8] = b"a: 1\nb: # c\n  d: x y\n  e: ~ # f\ng:\n";
+const TEXT: &[u8] =
+    b"a: 1\nb: # c\n  d: x y\n  e: ~ # f\ng:\nh: [1]\ni: |\n  x\nj: &n 'k'\nl: *n\n";
 
 /// A path as text: its document, and each key behind a `/`.
 fn path_text(alloc: Global, path: &Path) -> Result<String, AllocError> {
@@ -67,6 +66,7 @@ fn plans(rt: HostRuntime) -> Result<(), Fail> {
         (".b.d = null", "0/b/d Null null"),
         (".b.e = 1.50", "0/b/e Float 1.50"),
         (".[\"b\"][\"d\"] = true", "0/b/d Bool true"),
+        (".j = 1", "0/j Int 1"),
     ];
     for (text, wanted) in rows {
         is_planned(&rt, alloc, &documents, text, wanted)?;
@@ -99,6 +99,11 @@ fn refuses_plans(rt: HostRuntime) -> Result<(), Fail> {
         (".b.e.x = 1", PlanError::NotInProfile),
         (".g.x = 1", PlanError::NotInProfile),
         (".g = 1", PlanError::NotInProfile),
+        (".h = 1", PlanError::NotInProfile),
+        (".h.x = 1", PlanError::Refused(Refusal::NotAMap)),
+        (".i = 1", PlanError::NotInProfile),
+        (".l = 1", PlanError::NotInProfile),
+        (".l.x = 1", PlanError::Refused(Refusal::ThroughAlias)),
         (".b = 1", PlanError::NotInProfile),
         (".x = 1", PlanError::NotInProfile),
         (".x.y = 1", PlanError::NotInProfile),
@@ -119,34 +124,6 @@ fn refuses_plans(rt: HostRuntime) -> Result<(), Fail> {
         assert!(rt; program.updates() > 0);
         let answer = plan(alloc, &program, 0, &documents);
         assert_eq!(rt; answer.err(), Some(wanted), "at {text:?}");
-    }
-    Ok(())
-}
-
-/// A scalar is told with its place where it is written, and no other node.
-#[test]
-fn tells_what_is_written(rt: HostRuntime) -> Result<(), Fail> {
-    let alloc = rt.alloc();
-    let documents = read(alloc, TEXT)?;
-    let rows: [(&[&str], Option<(Kind, &str, usize, usize)>); 6] = [
-        (&["a"], Some((Kind::Int, "1", 3, 4))),
-        (&["b", "d"], Some((Kind::Text, "x y", 17, 20))),
-        (&["b", "e"], Some((Kind::Null, "null", 26, 27))),
-        (&["b"], None),
-        (&["g"], None),
-        (&[], None),
-    ];
-    for (keys, wanted) in rows {
-        let mut steps = Vec::new(alloc);
-        for key in keys {
-            steps.push(Step::Key(String::from_str(alloc, key)?))?;
-        }
-        let path = Path { doc: 0, steps };
-        let told = match written_at(&documents, &path) {
-            Some(w) => Some((w.kind, w.text, w.span.start, w.span.end)),
-            None => None,
-        };
-        assert_eq!(rt; told, wanted);
     }
     Ok(())
 }

@@ -1,7 +1,7 @@
 use Rattle.std.proofs.Common.{◌++◌, [], ◌∷◌, List, map, take, string_bytes, sym, ap, ◌∙◌}
 use Rattle.std.proofs.lemmas.List.{map_push}
 use Rattle.yq_scalar.specs.Paths.{Step, To}
-use Rattle.yq_tree.specs.View as tree
+use Rattle.yq_inline.specs.Entries as tree
 use Rattle.yq_expr.specs.Meaning.{to_keys}
 use Rattle.yq_expr.proofs.Steps.{next_step}
 use Rattle.yq_expr.proofs.planning.path_to.Goals as goal

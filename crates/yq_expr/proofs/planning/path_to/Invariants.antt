@@ -1,5 +1,5 @@
 use Rattle.std.proofs.Common.{◌≡◌, map, take}
-use Rattle.yq_tree.specs.View as tree
+use Rattle.yq_inline.specs.Entries as tree
 use Rattle.yq_expr.specs.Meaning.{to_keys}
 use Rattle.yq_expr.proofs.planning.path_to.Given as goal
 

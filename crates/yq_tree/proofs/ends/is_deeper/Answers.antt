@@ -1,10 +1,10 @@
-use Rattle.std.proofs.Common.{arith}
-use Rattle.yq_rows.specs.View.{view}
-use Rattle.yq_tree.proofs.EndsLaws.{deeper_root, deeper_row}
+use Rattle.std.proofs.Common.{length, refl, arith}
+use Rattle.std.proofs.lemmas.Option.{slice_get_read}
+use Rattle.yq_tree.specs.View.{view, views}
+use Rattle.yq_tree.proofs.EndsLaws.{deeper_at, line_at}
 use Rattle.yq_tree.proofs.ends.is_deeper.Goals as goal
 
-pub returns-in-None-clause-test : goal.returns-in-None-clause-test
-returns-in-None-clause-test c = rw c.in-None.is (deeper_root c.args.rows.now.rows c.args.at (omega (arith, c.len.ensures)))
-
-pub returns-in-Some-clause-test : goal.returns-in-Some-clause-test
-returns-in-Some-clause-test c = rw (c.in-Some.is, c.column.ensures) (deeper_row c.args.rows.now.rows c.args.at c.in-Some.column (view c.row.result) c.row.ensures)
+pub returns-clause-test : goal.returns-clause-test
+returns-clause-test c =
+    let is = slice_get_read c.args.lines.now (length c.args.lines.now) c.args.at c.index-lines-at.result refl (omega (arith, c.if-at-lines.false)) c.index-lines-at.is in
+    rw c.level.ensures (deeper_at (views c.args.lines.now) c.args.at c.args.floor (view c.index-lines-at.result) (line_at c.args.lines.now c.args.at c.index-lines-at.result is))

@@ -1,8 +1,8 @@
-use Rattle.yq_tree.proofs.RowPathLaws.{leads_to_row, leads_nowhere}
+use Rattle.yq_tree.proofs.RowPathLaws.{head_is_leaf, leads_to_row}
 use Rattle.yq_tree.proofs.path_laws.path_rows.Goals as goal
 
-pub returns-clause-there : goal.returns-clause-there
-returns-clause-there c = leads_to_row
+pub returns-clause-headed : goal.returns-clause-headed
+returns-clause-headed c = head_is_leaf
 
-pub returns-clause-nowhere : goal.returns-clause-nowhere
-returns-clause-nowhere c = leads_nowhere
+pub returns-clause-node : goal.returns-clause-node
+returns-clause-node c = leads_to_row

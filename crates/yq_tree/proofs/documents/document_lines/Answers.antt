@@ -1,0 +1,13 @@
+use Rattle.std.proofs.Common.{subst}
+use Rattle.yq_scalar.specs.Answers.{Gives}
+use Rattle.yq_tree.specs.PartReading.{lined_views}
+use Rattle.yq_tree.proofs.PartsLinedLaws.{cut_parts, documents_are}
+use Rattle.yq_tree.proofs.documents.document_lines.Goals as goal
+
+pub chosen_lines-requires-clause-parts : goal.chosen_lines-requires-clause-parts
+chosen_lines-requires-clause-parts c = cut_parts c.args.text.now c.requires.0 c.args.rows.now c.requires.1 c.requires.2
+
+pub returns : goal.returns
+returns c = λ k cut e.
+    subst (Gives (λ d. lined_views d.items) c.chosen_lines.result) (documents_are c.args.text.now k c.args.rows.now cut e c.first_is_document.result c.first_is_document.ensures)
+    (c.chosen_lines.ensures (cut_parts c.args.text.now k c.args.rows.now cut e))

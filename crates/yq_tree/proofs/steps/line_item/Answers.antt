@@ -1,0 +1,30 @@
+use Rattle.std.proofs.Common.{◌≡◌, ◌∙◌, Some, None, length, sym, ap, subst, arith}
+use Rattle.yq_scalar.specs.Paths.{Nth}
+use Rattle.yq_tree.specs.Ends.{part}
+use Rattle.yq_tree.specs.Nodes.{lines_in}
+use Rattle.yq_tree.specs.Places.{find_row}
+use Rattle.yq_tree.specs.Spots.{spot, seen}
+use Rattle.yq_tree.specs.View.{views}
+use Rattle.yq_tree.proofs.ChildLaws.{child_spot, child_found}
+use Rattle.yq_tree.proofs.EndsLaws.{has_line, views-length}
+use Rattle.yq_tree.proofs.steps.line_item.Goals as goal
+
+pub returns-in_err-at : goal.returns-in_err-at
+returns-in_err-at c =
+    let ls = lines_in c.args.document.now in
+    let same : views c.document.inside.lines.items ≡ ls = ap lines_in c.document.view_is in
+    let u = c.args.under in
+    let s = Nth c.args.index in
+    let found = subst (λ x. spot u.first (find_row s (part x u.first u.floor)) ≡ seen x None) same (rw c.deref.ensures.value at c.in_err-at.ensures.found) in
+    rw c.from_residual.ensures (sym (child_spot s (part ls u.first u.floor) u.first None found))
+
+pub returns : goal.returns
+returns c =
+    let ls = lines_in c.args.document.now in
+    let same : views c.document.inside.lines.items ≡ ls = ap lines_in c.document.view_is in
+    let u = c.args.under in
+    let s = Nth c.args.index in
+    let found = subst (λ x. spot u.first (find_row s (part x u.first u.floor)) ≡ seen x (Some c.in_ok-at.at)) same (rw c.deref.ensures.value at c.in_ok-at.ensures.found) in
+    let within = rw c.deref.ensures.value at c.in_ok-at.ensures.within in
+    let line = has_line ls c.in_ok-at.at (omega (arith, within, views-length c.document.inside.lines.items, ap length same)) in
+    ap Some (c.of_line.ensures.node line.0 line.1) ∙ child_found s ls u.first u.floor c.in_ok-at.at line.0 line.1 found

@@ -1,0 +1,52 @@
+//! Documents, each checked by its lines.
+ghost use Rattle.std.specs.Prelude.{Some};
+ghost use Rattle.yq_scalar.specs.Answers.{Gives};
+ghost use Rattle.yq_tree.specs.Names.{HaveHeadsApart};
+ghost use Rattle.yq_tree.specs.PartReading.{document_view, lined_view, lined_views};
+ghost use Rattle.yq_tree.specs.SoundReading as spec;
+ghost use Rattle.yq_tree.specs.View.{views};
+
+use crate::fault::line_fault;
+use crate::lined::Lined;
+use crate::lines_fault::lines_fault;
+use crate::part_lines::PartLines;
+use std::alloc::Global;
+use yq_rows::Rows;
+use yq_scalar::ReadError;
+
+/// A document, by its index, where its lines are sound.
+fn check_part<'t>(
+    alloc: Global,
+    rows: &Rows<'t>,
+    index: usize,
+    part: PartLines<'t>,
+) -> Result<Lined<'t>, ReadError>
+    requires { HaveHeadsApart (views part.lines.items) }
+    ensures { Gives document_view result (spec.if_sound (lined_view part.entry)) }
+{
+    if let Some(flaw) = lines_fault(alloc, &part.lines)? {
+        return Err(ReadError::Fault(line_fault(rows, index, flaw)));
+    }
+    let document = Lined::new(alloc, part)?;
+    Ok(document)
+}
+
+/// The documents of a text that is cut into these rows, where the lines of each are sound.
+pub(crate) fn check_parts<'t>(
+    alloc: Global,
+    rows: &Rows<'t>,
+    parts: Vec<PartLines<'t>>,
+) -> Result<Vec<Lined<'t>>, ReadError>
+    requires { spec.AllApart (lined_views parts.items) }
+    ensures { Gives (λ d. spec.document_views d.items) result (spec.if_all_sound (lined_views parts.entry.items)) }
+{
+    let mut documents = Vec::with_capacity(alloc, parts.len())?;
+    'parts: for part in parts {
+        let document = match check_part(alloc, rows, documents.len(), part) {
+            Ok(document) => document,
+            Err(e) => return Err(e),
+        };
+        documents.push(document)?;
+    }
+    Ok(documents)
+}

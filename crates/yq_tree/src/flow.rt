@@ -1,0 +1,79 @@
+//! Nodes in flow collections.
+ghost use Rattle.std.specs.Prelude.{◌≡◌, option_map};
+ghost use Rattle.yq_inline.specs.Trees.{parts_tree, placed_tree};
+ghost use Rattle.yq_inline.specs.View.{entries_end, items_end, view};
+ghost use Rattle.yq_scalar.specs.Paths.{To, Nth, child_at};
+ghost use Rattle.yq_tree.specs.Nodes as spec;
+ghost use Rattle.yq_tree.specs.Outline.{anchored};
+
+use crate::body::first_anchor;
+use crate::node::NodeKind;
+use yq_inline::{Form, Inline};
+use yq_scalar::{Kind, Piece};
+
+/// What a node of a flow collection is.
+#[tactic(auto, using(crate::proofs::NodeLaws::kind_named))]
+pub(crate) fn inline_kind(node: &Inline<'_>) -> NodeKind
+    ensures { result ≡ spec.kind_of (placed_tree (view node.now)) }
+{
+    match &node.form {
+        Form::Empty => NodeKind::Scalar(Kind::Null),
+        Form::Alias(_) => NodeKind::Alias,
+        Form::Scalar(scalar, _) => NodeKind::Scalar(scalar.kind()),
+        Form::List(_) => NodeKind::List,
+        Form::Map(_) => NodeKind::Map,
+    }
+}
+
+/// The text of a scalar in a flow collection, or the name of an alias.
+#[tactic(auto, using(crate::proofs::NodeLaws::text_named))]
+pub(crate) fn inline_text<'d>(node: &'d Inline<'_>) -> &'d str
+    ensures { result.now ≡ spec.text_of (placed_tree (view node.now)) }
+{
+    match &node.form {
+        Form::Empty => "null",
+        Form::Alias(name) => name,
+        Form::Scalar(scalar, _) => scalar.text(),
+        Form::List(_) => "",
+        Form::Map(_) => "",
+    }
+}
+
+/// The anchor of a node behind another anchor; an alias has none.
+#[tactic(auto, using(crate::proofs::NodeLaws::anchor_scalar, crate::proofs::NodeLaws::anchor_list, crate::proofs::NodeLaws::anchor_map, crate::proofs::NodeLaws::anchor_alias))]
+pub(crate) fn inline_anchor<'t>(before: Option<&'t str>, node: &Inline<'t>) -> Option<&'t str>
+    ensures { spec.lent result ≡ spec.anchor_of (anchored (spec.lent before.entry) (placed_tree (view node.now))) }
+{
+    match node.form {
+        Form::Alias(_) => None,
+        Form::Empty => first_anchor(before, node.anchor),
+        Form::Scalar(..) => first_anchor(before, node.anchor),
+        Form::List(_) => first_anchor(before, node.anchor),
+        Form::Map(_) => first_anchor(before, node.anchor),
+    }
+}
+
+/// The item of an index.
+pub(crate) fn item_at<'d, 't>(items: &'d [Inline<'t>], index: usize) -> Option<&'d Inline<'t>>
+    ensures { option_map (λ n. placed_tree (view n.now)) result ≡ child_at (Nth index) (parts_tree (items_end items.now)) }
+{
+    match items.get(index) {
+        Some(item) => Some(item),
+        None => None,
+    }
+}
+
+/// The entry of a key, by its key and its node.
+pub(crate) fn entry_at<'d, 't>(
+    entries: &'d [(String, Piece, Inline<'t>)],
+    key: &str,
+) -> Option<(&'d str, &'d Inline<'t>)>
+    ensures { option_map (λ e. placed_tree (view e.1.now)) result ≡ child_at (To key.now) (parts_tree (entries_end entries.now)) }
+{
+    'each: for entry in entries {
+        if entry.0.as_str() == key {
+            return Some((entry.0.as_str(), &entry.2));
+        }
+    }
+    None
+}

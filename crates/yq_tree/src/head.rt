@@ -1,0 +1,106 @@
+//! The heads of rows.
+ghost use Rattle.std.specs.Prelude.{◌≡◌};
+ghost use Rattle.yq_scalar.specs.Answers.{Gives};
+ghost use Rattle.yq_inline.specs.View.{view as node_view};
+ghost use Rattle.yq_tree.specs.KeyReading.{EndsIn};
+ghost use Rattle.yq_tree.specs.RowReading as spec;
+ghost use Rattle.yq_tree.specs.View.{head_view};
+
+use crate::content::plain_head;
+use crate::flow_keys::keys_fault;
+use crate::line::{Content, Head};
+use std::alloc::Global;
+use yq_inline::pieces::{first_is, is_quoted};
+use yq_inline::{Form, Inline, read_inline};
+use yq_scalar::plain::holds_break;
+use yq_scalar::{Kind, Place, ReadError, ReadFault, content, read_block};
+
+/// Whether a head is a plain scalar on one line.
+fn is_short_plain(head: &str) -> bool
+    ensures { result ≡ spec.is_short_plain head.now }
+{
+    let bytes = head.as_bytes();
+    let other = is_quoted(bytes)
+        || (first_is(b'*', bytes) || (first_is(b'[', bytes) || first_is(b'{', bytes)));
+    !other && !holds_break(head)
+}
+
+/// Whether a head is the header of a block scalar.
+pub(crate) fn begins_block(head: &[u8]) -> bool
+    ensures { result ≡ spec.begins_block head.now }
+{
+    matches!(head, [b'|' | b'>', ..])
+}
+
+/// The head that a node without an anchor is.
+fn node_head(node: Inline<'_>) -> Head<'_>
+    ensures { head_view result ≡ spec.placed_head (node_view node.entry) }
+{
+    match node.form {
+        Form::Empty => Head::Nothing,
+        Form::Scalar(scalar, _) => {
+            let kind = scalar.kind();
+            Head::Scalar(kind, Content::Own(scalar.into_text()))
+        }
+        _ => Head::Inline(node),
+    }
+}
+
+/// The inline node in front, as a head, where its keys are fit.
+fn read_node_head<'t>(
+    alloc: Global,
+    whole: &'t str,
+    parent: i64,
+    text: &str,
+) -> Result<Head<'t>, ReadError>
+    requires { EndsIn whole.now text.now }
+    ensures { Gives head_view result (spec.node_head_at whole.now parent text.now) }
+{
+    let at = whole.len() - text.len();
+    let node = match read_inline(alloc, whole, at, Place::Block, parent, 0) {
+        Ok(node) => node,
+        Err(e) => return Err(e),
+    };
+    match keys_fault(whole, &node) {
+        None => Ok(node_head(node)),
+        Some(fault) => Err(ReadError::Fault(fault)),
+    }
+}
+
+/// The block scalar in front, as a head.
+fn read_block_head<'t>(alloc: Global, parent: i64, text: &str) -> Result<Head<'t>, ReadError>
+    ensures { Gives head_view result (spec.block_head_at parent text.now) }
+{
+    let piece = match read_block(text, 0, parent) {
+        Ok(piece) => piece,
+        Err(kind) => return Err(ReadError::Fault(ReadFault { kind, line: 1 })),
+    };
+    let text = content(alloc, text, &piece)?;
+    Ok(Head::Scalar(Kind::Text, Content::Own(text)))
+}
+
+/// The head of a row below a parent of this indentation, that is written so and with which the text
+/// begins, where its keys are fit. A plain scalar on one line is lent. The text ends where the whole one
+/// does.
+#[tactic(auto, unfolding(crate::specs::RowReading::head_at))]
+pub(crate) fn read_head<'t>(
+    alloc: Global,
+    whole: &'t str,
+    parent: i64,
+    head: &'t str,
+    text: &'t str,
+) -> Result<Head<'t>, ReadError>
+    requires { EndsIn whole.now text.now }
+    ensures { Gives head_view result (spec.head_at whole.now parent head.now text.now) }
+{
+    if head.is_empty() {
+        return Ok(Head::Nothing);
+    }
+    if begins_block(head.as_bytes()) {
+        return read_block_head(alloc, parent, text);
+    }
+    if is_short_plain(head) {
+        return Ok(plain_head(head));
+    }
+    read_node_head(alloc, whole, parent, text)
+}

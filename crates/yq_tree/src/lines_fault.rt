@@ -1,0 +1,51 @@
+//! What is asked of a document's lines.
+ghost use Rattle.std.specs.Prelude.{◌≡◌, is_none, IfOk};
+ghost use Rattle.yq_tree.specs.LinesReading as spec;
+ghost use Rattle.yq_tree.specs.Names.{HaveHeadsApart};
+ghost use Rattle.yq_tree.specs.View.{views};
+
+use crate::anchors::second_anchor;
+use crate::bound::unbound_line;
+use crate::ends::ends_of;
+use crate::line::Line;
+use crate::names::names_of;
+use crate::sound::{Flaw, find_flaw};
+use std::alloc::{AllocError, Global};
+use yq_scalar::FaultKind;
+
+/// How many collections may be nested.
+const DEPTH_LIMIT: usize = 64;
+
+/// What is at fault in the anchors and aliases of lines: a second anchor of a node, an anchor of an
+/// alias, or an alias without an earlier anchor of its name.
+fn name_fault(alloc: Global, lines: &[Line<'_>]) -> Result<Option<Flaw>, AllocError>
+    ensures { IfOk result (λ f. is_none f ≡ spec.names_are_sound (views lines.now)) }
+{
+    if let Some(line) = second_anchor(lines) {
+        return Ok(Some(Flaw {
+            line,
+            kind: FaultKind::BadScalar,
+        }));
+    }
+    let names = names_of(alloc, lines)?;
+    match unbound_line(alloc, &names)? {
+        Some(line) => Ok(Some(Flaw {
+            line,
+            kind: FaultKind::UnknownAlias,
+        })),
+        None => Ok(None),
+    }
+}
+
+/// What is at fault in the lines of a document: their columns, how deep collections are nested, keys
+/// that a mapping has already, anchors and aliases.
+pub(crate) fn lines_fault(alloc: Global, lines: &[Line<'_>]) -> Result<Option<Flaw>, AllocError>
+    requires { HaveHeadsApart (views lines.now) }
+    ensures { IfOk result (λ f. is_none f ≡ spec.lines_are_sound (views lines.now)) }
+{
+    let ends = ends_of(alloc, lines)?;
+    match find_flaw(alloc, lines, &ends, 0, 0, DEPTH_LIMIT)? {
+        Some(flaw) => Ok(Some(flaw)),
+        None => name_fault(alloc, lines),
+    }
+}
