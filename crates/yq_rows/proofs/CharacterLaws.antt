@@ -1,5 +1,5 @@
 -- The characters of a text of which a piece is exchanged.
-use Rattle.std.proofs.Common.{inl, inr, ◌≡◌, ℕ, Bool, true, false, ◌&&◌, List, [], ◌∷◌, ◌++◌, refl, sym, ap, ◌∙◌}
+use Rattle.std.proofs.Common.{inl, inr, ◌≡◌, ℕ, Bool, true, false, ◌&&◌, List, [], ◌∷◌, ◌++◌, refl, sym, ap, ◌∙◌, append_assoc}
 use Rattle.std.proofs.lemmas.Bool.{false≢true}
 use Rattle.std.proofs.lemmas.List.Folds.{list_all-append}
 use Rattle.std.proofs.lemmas.Str.{chars-append}
@@ -60,3 +60,37 @@ text_exchanged before old new behind u v w n h g =
     let rest : pairs_returns behind ≡ true = pairs_back old behind (pairs_back before (old ++ behind) whole.1) in
     let pairs : pairs_returns (before ++ (new ++ behind)) ≡ true = pairs_join before (new ++ behind) (pairs_front before (old ++ behind) n whole.1) (pairs_join new behind fresh.1 rest) in
     both_true _ _ chars_are pairs
+
+-- A text that ends in a byte, and that is no CR.
+pub record EndsBlack (p : List ℕ) : Type 0 where
+  pub front : List ℕ
+  pub last : ℕ
+  pub is : p ≡ front ++ last ∷ []
+  pub no_return : is_return last ≡ false
+
+pub ends_after : (xs p : List ℕ) → EndsBlack p → EndsBlack (xs ++ p)
+ends_after xs p e = record { front = xs ++ e.front; last = e.last; is = ap (λ (q : List ℕ). xs ++ q) e.is ∙ sym (append_assoc xs e.front (e.last ∷ [])); no_return = e.no_return }
+
+feed_stays : (f rest : List ℕ) (b : ℕ) → front is_feed (f ++ b ∷ rest) ≡ true → front is_feed (f ++ b ∷ []) ≡ true
+feed_stays [] rest b h = h
+feed_stays (x ∷ f) rest b h = h
+
+pairs_cut : (f rest : List ℕ) (b : ℕ) → is_return b ≡ false → pairs_returns (f ++ b ∷ rest) ≡ true → pairs_returns (f ++ b ∷ []) ≡ true
+unfolding pairs_returns
+pairs_cut [] rest b n h = rw n refl
+pairs_cut (x ∷ f) rest b n h = elim (is_true (is_return x)) [
+  | inl r ↦ (let parts = and_true (front is_feed (f ++ b ∷ rest)) (pairs_returns (f ++ b ∷ rest)) (rw r at h) in rw r (both_true _ _ (feed_stays f rest b parts.0) (pairs_cut f rest b n parts.1)))
+  | inr r ↦ rw r (pairs_cut f rest b n (rw r at h))
+]
+
+-- a piece is put behind a byte that is no CR
+pub text_inserted : (before new behind : List ℕ) → IsUtf8 before → IsUtf8 new → EndsBlack before → is_text (before ++ behind) ≡ true → is_text new ≡ true → is_text (before ++ (new ++ behind)) ≡ true
+text_inserted before new behind u w e h g =
+    let whole = and_true (all_text (before ++ behind)) (pairs_returns (before ++ behind)) h in
+    let fresh = and_true (all_text new) (pairs_returns new) g in
+    let first = and_true (all_text before) (all_text behind) (sym (all_join before behind u) ∙ whole.0) in
+    let chars_are : all_text (before ++ (new ++ behind)) ≡ true = all_join before (new ++ behind) u ∙ both_true _ _ first.0 (all_join new behind w ∙ both_true _ _ fresh.0 first.1) in
+    let split : before ++ behind ≡ e.front ++ (e.last ∷ behind) = ap (λ (q : List ℕ). q ++ behind) e.is ∙ append_assoc e.front (e.last ∷ []) behind in
+    let alone : pairs_returns before ≡ true = ap pairs_returns e.is ∙ pairs_cut e.front behind e.last e.no_return (ap pairs_returns (sym split) ∙ whole.1) in
+    let rest : pairs_returns behind ≡ true = pairs_back before behind whole.1 in
+    both_true _ _ chars_are (pairs_join before (new ++ behind) alone (pairs_join new behind fresh.1 rest))

@@ -11,6 +11,7 @@ pub mod Fronts
 pub mod GapLaws
 pub mod LineEnds
 pub mod MarkAgain
+pub mod MarkEnds
 pub mod MarkLaws
 pub mod NoKeys
 pub mod NodeExchange

@@ -47,7 +47,7 @@ behind_ascii p rest u e =
     (IsCharBoundary-after_ascii (p ++ rest) (length e.front) u (omega (arith, length-append p rest, size)) small)
 
 -- the first byte is ASCII, or there is none
-abbrev BeginsAscii : List ℕ → Type 0
+abbrev pub BeginsAscii : List ℕ → Type 0
 BeginsAscii [] = Unit {0}
 BeginsAscii (b ∷ t) = b < 128
 
@@ -65,12 +65,12 @@ white_before : (w t : List ℕ) → IsWhite w → BeginsAscii t → BeginsAscii 
 white_before [] t blank h = h
 white_before (b ∷ w) t blank h = white_ascii b blank.0
 
-tail_ascii : (tail rest : List ℕ) → IsTail tail rest → BeginsAscii (tail ++ rest)
+pub tail_ascii : (tail rest : List ℕ) → IsTail tail rest → BeginsAscii (tail ++ rest)
 tail_ascii tail rest h =
     let u = line_end_behind h.white h.comment tail rest h.line in
     subst BeginsAscii (sym u.1) (white_before h.white u.0 h.line.blank (stop_ascii u.0 u.3))
 
-before_ascii : (p rest : List ℕ) → BeginsAscii rest → IsCharBoundary (p ++ rest) (length p)
+pub before_ascii : (p rest : List ℕ) → BeginsAscii rest → IsCharBoundary (p ++ rest) (length p)
 before_ascii p [] h = subst (λ (q : List ℕ). IsCharBoundary q (length p)) (sym (append-nil p)) (IsCharBoundary-end p)
 before_ascii p (b ∷ rest) h =
     let small : get_or (p ++ (b ∷ rest)) (length p) 0 < 128 = subst (λ (n : ℕ). n < 128) (sym (get_or-append_seam p b rest 0)) h in

@@ -36,7 +36,7 @@ row_front-append r rest =
     ap (λ l. r.gap ++ (replicate r.column 32 ++ l)) (ap (dashes_text r.dashes) (mark_then r.mark [] t) ∙ dashes_then r.dashes (mark_text r.mark []) t)
     ∙ (ap (λ l. r.gap ++ l) (sym (append_assoc (replicate r.column 32) front t)) ∙ sym (append_assoc r.gap (replicate r.column 32 ++ front) t))
 
-row_then : (r : Row) (t u : List ℕ) → print_row r (t ++ u) ≡ print_row r t ++ u
+pub row_then : (r : Row) (t u : List ℕ) → print_row r (t ++ u) ≡ print_row r t ++ u
 row_then r t u =
     row_front-append r (t ++ u) ∙ (ap (λ l. row_front r ++ l) (content_then r.content t u)
     ∙ (sym (append_assoc (row_front r) (content_text r.content t) u) ∙ ap (λ l. l ++ u) (sym (row_front-append r t))))
@@ -45,7 +45,7 @@ rows_then : (rs : List Row) (t u : List ℕ) → rows_text rs (t ++ u) ≡ rows_
 rows_then [] t u = refl
 rows_then (r ∷ rs) t u = ap (print_row r) (rows_then rs t u) ∙ row_then r (rows_text rs t) u
 
-part_then : (p : Part) (t u : List ℕ) → part_text p (t ++ u) ≡ part_text p t ++ u
+pub part_then : (p : Part) (t u : List ℕ) → part_text p (t ++ u) ≡ part_text p t ++ u
 part_then p t u = ap (rows_text p.rows) (sym (append_assoc p.end t u)) ∙ rows_then p.rows (p.end ++ t) u
 
 -- the place of a row's content

@@ -52,5 +52,10 @@ pub mod ScalarLaws
 pub mod CoreLaws
 pub mod NextLaws
 pub mod WrittenLaws
+pub mod EmptyLaws
+pub mod EmptySpans
+pub mod EmptyTold
+pub mod LeafLaws
+pub mod ScalarPlaceLaws
 pub mod ScalarFitLaws
 pub mod ToldLaws

@@ -1,5 +1,5 @@
 -- The lines of rows, of which one has another content.
-use Rattle.std.proofs.Common.{◌≡◌, ◌⊎◌, inl, inr, ℕ, zero, suc, ◌+◌, ◌-◌, ◌<◌, ◌≤◌, ltb, eqb, List, [], ◌∷◌, ◌++◌, length, Option, Some, None, option_map, Bool, true, false, cond, refl, sym, ap, ◌∙◌, subst, arith, append_assoc, length-append}
+use Rattle.std.proofs.Common.{◌≡◌, ◌⊎◌, inl, inr, ℕ, zero, suc, ◌+◌, ◌-◌, ◌<◌, ◌≤◌, ltb, eqb, List, [], ◌∷◌, ◌++◌, length, drop, Option, Some, None, option_map, Bool, true, false, cond, refl, sym, ap, ◌∙◌, subst, arith, append_assoc, length-append}
 use Rattle.std.proofs.lemmas.Bool.{ltb-false, eqb-true, eqb-false, cases_lt}
 use Rattle.std.specs.List.{slice_get}
 use Rattle.yq_rows.specs.Comments.{head_comment}
@@ -51,6 +51,7 @@ pub record IsLast (n i : ℕ) (rows : List Row) : Type 0 where
   pub before : List Line
   pub behind : List Line
   pub count : length before ≡ n
+  pub behind_are : behind ≡ lines_of (drop (suc i) rows)
   pub lines : (c : Content) → lines_of (with_content_at i c rows) ≡ before ++ (last_line row c ∷ behind)
 
 first_last : (r : Row) (rs : List Row) → IsLast (length r.dashes) 0 (r ∷ rs)
@@ -59,6 +60,7 @@ first_last r rs = record {
   there = refl;
   before = lines_before_last r;
   behind = lines_of rs;
+  behind_are = refl;
   count = dash_count (head_comment r.gap) r.column r.dashes;
   lines = λ c. ap (λ (ls : List Line). ls ++ lines_of rs) (row_split r c) ∙ append_assoc (lines_before_last r) (last_line r c ∷ []) (lines_of rs);
 }
@@ -69,6 +71,7 @@ later_last n j r rs more h = record {
   there = h.there;
   before = row_lines r ++ h.before;
   behind = h.behind;
+  behind_are = h.behind_are;
   count = omega (arith, more, length-append (row_lines r) h.before, row_count r, h.count);
   lines = λ c. ap (λ (ls : List Line). row_lines r ++ ls) (h.lines c) ∙ sym (append_assoc (row_lines r) h.before (last_line h.row c ∷ h.behind));
 }

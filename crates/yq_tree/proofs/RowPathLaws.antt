@@ -20,6 +20,7 @@ use Rattle.yq_tree.specs.Outline.{Line, level, Outline, end, row, flatten, IsOpe
 use Rattle.yq_tree.specs.Places.{plug, lines_before, lines_after, Found, find, content}
 use Rattle.yq_tree.specs.Reading.{outline_of, root_of, document_of, have_fit_keys, has_short_root, have_one_anchor_each, are_bound, is_document, documents, read_at}
 use Rattle.yq_tree.specs.RowPaths.{line_row, found_line, line_of, has_none_under, is_leaf, row_at, spelled, HeadIsLeaf, LeadsToRow}
+use Rattle.yq_tree.proofs.Allowing.{Allows}
 use Rattle.yq_tree.proofs.Decides.{flatten-group, even_from}
 use Rattle.yq_tree.proofs.Finding.{FoundNode, path_node, IsFoundIn, path_whole}
 use Rattle.yq_tree.proofs.OneDocument.{rows_of_one}
@@ -151,11 +152,15 @@ leaf_node steps i rows h none =
     ap (λ (u : Outline). content h.found.line u) none ∙ ap (λ (l : Line). content l end) (sym (reached_lines steps i rows h).1)
 
 -- what is found stands in an even outline
+pub found_place : (ls : List Line) (s : Step) (ss rest : List Step) (f : Found) → find s ss (group ls) ≡ Some (f, rest) → is_fine (group ls) ≡ true →
+    Allows (level_or 0 (group ls)) f.place (level f.line) × IsEven (level f.line) (row f.line f.under f.after)
+found_place ls s ss rest f is fine =
+    let o : Outline = group ls in
+    let whole : plug f.place (row f.line f.under f.after) ≡ o = at (IsFoundIn o) (find s ss o) (f, rest) is (path_whole s ss o) in
+    allows_from (level_or 0 o) f.place f.line f.under f.after (subst (λ x. IsEven (level_or 0 o) x) (sym whole) (even_from (level_or 0 o) o fine))
+
 pub reached_even : (steps : List Step) (i : ℕ) (rows : List Row) (h : Reached steps i rows) → is_fine (group (lines_of rows)) ≡ true → IsEven (level h.found.line) (row h.found.line h.found.under h.found.after)
-reached_even steps i rows h fine =
-    let o : Outline = group (lines_of rows) in
-    let whole : plug h.found.place (row h.found.line h.found.under h.found.after) ≡ o = at (IsFoundIn o) (find h.first h.others o) (h.found, []) h.is (path_whole h.first h.others o) in
-    (allows_from (level_or 0 o) h.found.place h.found.line h.found.under h.found.after (subst (λ x. IsEven (level_or 0 o) x) (sym whole) (even_from (level_or 0 o) o fine))).1
+reached_even steps i rows h fine = (found_place (lines_of rows) h.first h.others [] h.found h.is fine).1
 
 open_end : (h : Option Node) (u : Outline) → is_some h ≡ true → IsOpen h u → is_end u ≡ true
 open_end None u e o = absurd (cc)

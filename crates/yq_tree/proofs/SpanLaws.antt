@@ -99,7 +99,7 @@ content_told n i (Inline space node tail) c rest start end h e f =
 content_told n i (Block space anchor block) c rest start end h e f = none_told _ _ (no_scalar block.style block.indicators)
 
 -- a key or dash, by the pieces
-entry_told : (ns : List ℕ) (m : rows.Mark) (x : Content) (rest : List ℕ) → AreDashes ns m → IsMark m x rest → not (is_empty (dashes_text ns (last_dash m)) && is_empty (colon_of m)) ≡ is_entry m
+pub entry_told : (ns : List ℕ) (m : rows.Mark) (x : Content) (rest : List ℕ) → AreDashes ns m → IsMark m x rest → not (is_empty (dashes_text ns (last_dash m)) && is_empty (colon_of m)) ≡ is_entry m
 entry_told [] rows.Bare x rest d m = refl
 entry_told (k ∷ ns) rows.Bare x rest d m = absurd (false≢true d.1)
 entry_told [] rows.Dash x rest d m = refl
@@ -118,7 +118,7 @@ mapped false i x c = refl
 some_same : {x y : Slices} → Some x ≡ Some y → x ≡ y
 some_same e = cc
 
-get_row : (rs : List Row) (i : ℕ) (x : Slices) → option_map slices (slice_get rs i) ≡ Some x → (r : Row) × (slice_get rs i ≡ Some r) × (slices r ≡ x)
+pub get_row : (rs : List Row) (i : ℕ) (x : Slices) → option_map slices (slice_get rs i) ≡ Some x → (r : Row) × (slice_get rs i ≡ Some r) × (slices r ≡ x)
 get_row rs i x e = go (slice_get rs i) refl e
   where
     go : (o : Option Row) → slice_get rs i ≡ o → option_map slices o ≡ Some x → (r : Row) × (slice_get rs i ≡ Some r) × (slices r ≡ x)

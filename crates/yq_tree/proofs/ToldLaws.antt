@@ -1,5 +1,5 @@
 -- What is told of a scalar that is written.
-use Rattle.std.proofs.Common.{◌≡◌, ℕ, ◌+◌, ◌-◌, ◌≤◌, ◌<◌, true, false, cond, eqb, List, [], ◌∷◌, ◌++◌, length, take, drop, Option, Some, None, option_map, refl, sym, ap, ◌∙◌, subst, append_assoc, length-append, arith, eqb-true}
+use Rattle.std.proofs.Common.{◌≡◌, ℕ, ◌+◌, ◌-◌, ◌≤◌, ◌<◌, true, eqb, List, [], ◌∷◌, ◌++◌, length, take, drop, Option, Some, None, option_map, refl, sym, ap, ◌∙◌, subst, append_assoc, length-append, arith, eqb-true}
 use Rattle.std.proofs.Math.Seq.{take-append_seam, drop-append_seam}
 use Rattle.std.proofs.lemmas.Bool.{cond-true}
 use Rattle.std.proofs.lemmas.Str.{IsCharBoundary-at_seam, IsUtf8-drop, is_utf8-from_IsUtf8}
@@ -12,13 +12,12 @@ use Rattle.yq_scalar.proofs.Bools.{guard_then}
 use Rattle.yq_inline.specs.Scalars.{scalar_of}
 use Rattle.yq_rows.specs.Exchange.{HasPieces}
 use Rattle.yq_rows.specs.Grammar.{IsCut}
-use Rattle.yq_rows.specs.Rows.{Cut}
 use Rattle.yq_tree.specs.declared.node.NodeKind.TheVariants as kinds
 use Rattle.yq_tree.specs.Documents.{Document}
 use Rattle.yq_tree.specs.Extents.{scalar_span}
 use Rattle.yq_tree.specs.Nodes.{kind_of, text_of}
 use Rattle.yq_tree.specs.Reading.{documents, all_documents, cut_of, read_at}
-use Rattle.yq_tree.specs.Told.{Telling, telling}
+use Rattle.yq_tree.specs.Told.{telling}
 use Rattle.yq_tree.specs.Written.{Written, written_at}
 use Rattle.yq_tree.proofs.ReadLaws.{text_again}
 use Rattle.yq_tree.proofs.WrittenLaws.{scalar_stands}
@@ -45,7 +44,7 @@ spanned : (o : Option Written) (x : ℕ × ℕ) → Some x ≡ option_map scalar
 spanned None x e = absurd (none_some (sym e))
 spanned (Some w) x e = (w, refl, some_same e)
 
-alone : (ds : List Document) → eqb (length ds) 1 ≡ true → (d : Document) × (ds ≡ d ∷ [])
+pub alone : (ds : List Document) → eqb (length ds) 1 ≡ true → (d : Document) × (ds ≡ d ∷ [])
 alone [] e = absurd (cc)
 alone (d ∷ []) e = (d, refl)
 alone (d ∷ (c ∷ ds)) e = absurd (let two = eqb-true (length (d ∷ (c ∷ ds))) 1 e in cc)

@@ -72,7 +72,7 @@ at_row steps c w h =
     row i (Some r) path there e = let p = guard_then (is_entry r.mark) e in content i r r.content path there p.0 refl p.1
 
 -- pieces of a text between whole characters
-pieces_from : (t before old behind : List ℕ) → IsUtf8 t → t ≡ before ++ (old ++ behind) → IsUtf8 (old ++ behind) → IsCharBoundary t (length before + length old) → HasPieces t before old behind
+pub pieces_from : (t before old behind : List ℕ) → IsUtf8 t → t ≡ before ++ (old ++ behind) → IsUtf8 (old ++ behind) → IsCharBoundary t (length before + length old) → HasPieces t before old behind
 pieces_from t before old behind u text rest end =
     let start : IsCharBoundary t (length before) = IsCharBoundary-at_seam t before (old ++ behind) text rest in
     let front : take (length before) t ≡ before = ap (take (length before)) text ∙ take-append_seam before (old ++ behind) in
@@ -143,7 +143,7 @@ module _ (t : List ℕ) (c : Cut) (w : Written) (steps : List Step) (u : IsUtf8 
       ∙ (sym (append_assoc (before_content i c) a.space (node_text (with_core p a.node) behind)) ∙ sym (core.text p))
 
 -- a scalar that a row spells
-scalar_tree : (a : Option (List ℕ)) (q : List ℕ) → anchored a (tree_of (scalar q)) ≡ tree.scalar (first_anchor a None) (scalar_of q).kind (scalar_of q).text
+pub scalar_tree : (a : Option (List ℕ)) (q : List ℕ) → anchored a (tree_of (scalar q)) ≡ tree.scalar (first_anchor a None) (scalar_of q).kind (scalar_of q).text
 unfolding tree_of
 scalar_tree a q = refl
 
@@ -167,7 +167,7 @@ scalar_stands t c d steps w h =
     )
 
 -- what stands behind a key or dash goes on one column further in
-deeper_is : (m : Mark) (column : ℕ) → is_entry m ≡ true → deeper (parent_of m column) ≡ suc column
+pub deeper_is : (m : Mark) (column : ℕ) → is_entry m ≡ true → deeper (parent_of m column) ≡ suc column
 deeper_is Bare column e = absurd (cc)
 deeper_is Dash column e = refl
 deeper_is (Key key colon) column e = refl
@@ -183,6 +183,13 @@ may_follow r space new tail rs h = go (is_plain new)
     go true = h
     go false = free_first rs
 
+pub behind_utf8 : (t before old behind : List ℕ) → IsUtf8 t → HasPieces t before old behind → IsUtf8 behind
+behind_utf8 t before old behind u h =
+    let whole : t ≡ (before ++ old) ++ behind = h.text ∙ sym (append_assoc before old behind) in
+    let tail : drop (length before + length old) t ≡ behind =
+    ap (λ (n : ℕ). drop n t) (sym (length-append before old)) ∙ (ap (drop (length (before ++ old))) whole ∙ drop-append_seam (before ++ old) behind) in
+    subst IsUtf8 tail (IsUtf8-drop t (length before + length old) u h.end)
+
 pub scalar_set : ScalarSet
 scalar_set t c d steps w s style g h valid inline can size keeps =
     let a = at_row steps c w h.at in
@@ -197,8 +204,10 @@ scalar_set t c d steps w s style g h valid inline can size keeps =
     let spells : SpellsScalar s p = styled_spells s style valid inline can in
     let head : head_of r.content ≡ Some (tree_of (scalar w.scalar)) = ap head_of a.content ∙ k.head in
     let deep : suc (mark_column r) ≡ deeper (parent_indent r) = sym (deeper_is r.mark (mark_column r) a.entry) in
+    let leads = leads_of t c d steps w h a in
+    let leaf = head_is_leaf t c d steps i r leads (ap is_some head) in
     let next : allows_first (record { column = Some (deeper (parent_indent r)) }) (rows_behind i c) ≡ true =
-    subst (λ (n : ℕ). allows_first (record { column = Some n }) (rows_behind i c) ≡ true) deep (next_allowed t c d i r h.read h.one a.there (ap is_some head)) in
+    subst (λ (n : ℕ). allows_first (record { column = Some n }) (rows_behind i c) ≡ true) deep (next_allowed t c d steps i r leads leaf) in
     let ends : ends_plain false (Some (deeper (parent_indent r))) rest ≡ true = plain_ends t c i r a.tail (deeper (parent_indent r)) one.cut a.there (holds t c w steps u one.cut a).tail next in
     let stands : IsInline places.Block (parent_indent r) 0 new rest = record {
       valid = core_stands (Some (deeper (parent_indent r))) (depth_limit - 0) a.node rest p s k.core (ap is_some k.head) (holds t c w steps u one.cut a).inline.valid spells ends;
@@ -215,8 +224,6 @@ scalar_set t c d steps w s style g h valid inline can size keeps =
     let readable : IsReadable (cut_text (exchange i (put_scalar p r.content) c)) =
     subst IsReadable (sym text) (record { utf8 = is_utf8-from_IsUtf8 (w.before ++ (p ++ w.behind)) utf8; characters = characters; size = size }) in
     let takes : takes_scalar r.content ≡ true = ap takes_scalar a.content ∙ k.core in
-    let leads = leads_of t c d steps w h a in
-    let leaf = head_is_leaf t c d steps i r leads (ap is_some head) in
     let anchor : Option (List ℕ) = first_anchor (anchor_of r.content) None in
     let same : g (spelled r.content) ≡ spelled (put_scalar p r.content) =
     ap g (spelled_is r.content w.scalar head)
@@ -224,10 +231,3 @@ scalar_set t c d steps w s style g h valid inline can size keeps =
     ∙ (ap (λ (x : ScalarText). tree.scalar anchor x.kind x.text) (sym spells.same) ∙ (sym (scalar_tree (anchor_of r.content) p) ∙ sym (scalar_spelled r.content p takes)))) in
     let done = scalar_put t c d steps i r p g leads leaf takes (subst (λ (x : Content). Fits x r (behind_row i c) (rows_behind i c)) (sym put) fits) same readable in
     record { cut = exchange i (put_scalar p r.content) c; read = ap read_at (sym text) ∙ done.read; documents_are = done.documents_are }
-  where
-    behind_utf8 : (t before old behind : List ℕ) → IsUtf8 t → HasPieces t before old behind → IsUtf8 behind
-    behind_utf8 t before old behind u h =
-        let whole : t ≡ (before ++ old) ++ behind = h.text ∙ sym (append_assoc before old behind) in
-        let tail : drop (length before + length old) t ≡ behind =
-        ap (λ (n : ℕ). drop n t) (sym (length-append before old)) ∙ (ap (drop (length (before ++ old))) whole ∙ drop-append_seam (before ++ old) behind) in
-        subst IsUtf8 tail (IsUtf8-drop t (length before + length old) u h.end)

@@ -26,6 +26,7 @@ pub mod Extents
 pub mod Names
 pub mod LinesReading
 pub mod Nodes
+pub mod ScalarPlaces
 pub mod Spots
 pub mod Written
 pub mod Texts

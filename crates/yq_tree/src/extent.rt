@@ -153,7 +153,7 @@ fn is_scalar(head: &str) -> bool
 }
 
 /// Whether a row is that of a key or dash.
-fn is_entry(row: &Row<'_>) -> bool
+pub(crate) fn is_entry(row: &Row<'_>) -> bool
     ensures { result ≡ spec.begins_entry (view row.now) }
 {
     !(row.dashes().is_empty() && row.colon().is_empty())

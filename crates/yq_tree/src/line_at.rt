@@ -1,9 +1,10 @@
 //! The line to which a path leads.
-ghost use Rattle.std.specs.Prelude.{◌≡◌, ◌<◌, List, ◌∷◌, length, map, option_and_then, IfSome, Some};
+ghost use Rattle.std.specs.Prelude.{◌≡◌, ◌<◌, List, ◌∷◌, length, map, not, option_and_then, slice_get, IfSome, Some};
 ghost use Rattle.yq_inline.specs.Entries.{step_of};
 ghost use Rattle.yq_scalar.specs.Paths as steps;
-ghost use Rattle.yq_tree.specs.Ends.{AreEndsFrom};
-ghost use Rattle.yq_tree.specs.Nodes.{lines_in, under_of};
+ghost use Rattle.yq_tree.specs.Ends.{AreEndsFrom, is_end};
+ghost use Rattle.yq_tree.specs.Nodes.{lines_in, lines_under, under_of};
+ghost use Rattle.yq_tree.specs.Outline as outline;
 ghost use Rattle.yq_tree.specs.RowPaths.{line_of};
 ghost use Rattle.yq_tree.specs.Spots as spec;
 ghost use Rattle.yq_tree.specs.View.{mark_view, views};
@@ -85,6 +86,14 @@ fn line_at(lines: &[Line<'_>], ends: &[usize], steps: &[Step]) -> Option<usize>
     found
 }
 
+/// Whether lines are under line `at`.
+fn has_under(lines: &[Line<'_>], at: usize) -> bool
+    requires { at < length lines.now }
+    ensures { (l : outline.Line) → slice_get (views lines.now) at ≡ Some l → result ≡ not (is_end (lines_under (views lines.now) at l)) }
+{
+    is_deeper(lines, at + 1, level(&lines[at]))
+}
+
 impl<'t> Lined<'t> {
     /// The line of the entry or item to which steps lead, where none go on in a head.
     pub(crate) fn line_at(&self, steps: &[Step]) -> Option<usize>
@@ -92,5 +101,13 @@ impl<'t> Lined<'t> {
         ensures found { result ≡ line_of (map step_of steps.now) (lines_in self.now) }
     {
         line_at(&self.lines, &self.ends, steps)
+    }
+
+    /// Whether lines are under line `at`.
+    pub(crate) fn has_under(&self, at: usize) -> bool
+        requires { at < length (lines_in self.now) }
+        ensures { (l : outline.Line) → slice_get (lines_in self.now) at ≡ Some l → result ≡ not (is_end (lines_under (lines_in self.now) at l)) }
+    {
+        has_under(&self.lines, at)
     }
 }

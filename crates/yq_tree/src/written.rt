@@ -42,7 +42,7 @@ fn cut_at(text: &str, start: usize, end: usize) -> (&str, &str, &str)
 
 impl<'t> Documents<'t> {
     /// The text.
-    fn whole(&self) -> &str
+    pub(crate) fn whole(&self) -> &str
         ensures text { result.now ≡ self.now }
         ensures cut { IsCut self.now (cut_of self.now) }
         ensures documents { all_documents (cut_of self.now) ≡ true }
