@@ -25,7 +25,7 @@ mark_view (marks.TheVariants.Key k) = Key (content_view k)
 abbrev pub head_view : heads.Head → Option Node
 head_view heads.TheVariants.Nothing = None
 head_view (heads.TheVariants.Scalar kind text) = Some (scalar None kind (content_view text))
-head_view (heads.TheVariants.Inline node) = Some (placed_tree (inline.view node))
+head_view (heads.TheVariants.Inline node) = Some (placed_tree (inline.view node.value))
 
 -- the line that one of the code shows (own)
 abbrev pub view : declared.Line → Line

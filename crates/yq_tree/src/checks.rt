@@ -24,11 +24,11 @@ fn check_part<'t>(
     requires { HaveHeadsApart (views part.lines.items) }
     ensures { Gives document_view result (spec.if_sound (lined_view part.entry)) }
 {
-    if let Some(flaw) = lines_fault(alloc, &part.lines)? {
-        return Err(ReadError::Fault(line_fault(rows, index, flaw)));
-    }
     let document = Lined::new(alloc, part)?;
-    Ok(document)
+    match lines_fault(alloc, &document)? {
+        Some(flaw) => Err(ReadError::Fault(line_fault(rows, index, flaw))),
+        None => Ok(document),
+    }
 }
 
 /// The documents of a text that is cut into these rows, where the lines of each are sound.

@@ -1,5 +1,5 @@
 //! The heads of rows.
-ghost use Rattle.std.specs.Prelude.{◌≡◌};
+ghost use Rattle.std.specs.Prelude.{◌≡◌, IfOk};
 ghost use Rattle.yq_scalar.specs.Answers.{Gives};
 ghost use Rattle.yq_inline.specs.View.{view as node_view};
 ghost use Rattle.yq_tree.specs.KeyReading.{EndsIn};
@@ -9,7 +9,7 @@ ghost use Rattle.yq_tree.specs.View.{head_view};
 use crate::content::plain_head;
 use crate::flow_keys::keys_fault;
 use crate::line::{Content, Head};
-use std::alloc::Global;
+use std::alloc::{AllocError, Global};
 use yq_inline::pieces::{first_is, is_quoted};
 use yq_inline::{Form, Inline, read_inline};
 use yq_scalar::plain::holds_break;
@@ -33,16 +33,16 @@ pub(crate) fn begins_block(head: &[u8]) -> bool
 }
 
 /// The head that a node without an anchor is.
-fn node_head(node: Inline<'_>) -> Head<'_>
-    ensures { head_view result ≡ spec.placed_head (node_view node.entry) }
+fn node_head<'t>(alloc: Global, node: Inline<'t>) -> Result<Head<'t>, AllocError>
+    ensures { IfOk result (λ h. head_view h ≡ spec.placed_head (node_view node.entry)) }
 {
     match node.form {
-        Form::Empty => Head::Nothing,
+        Form::Empty => Ok(Head::Nothing),
         Form::Scalar(scalar, _) => {
             let kind = scalar.kind();
-            Head::Scalar(kind, Content::Own(scalar.into_text()))
+            Ok(Head::Scalar(kind, Content::Own(scalar.into_text())))
         }
-        _ => Head::Inline(node),
+        _ => Ok(Head::Inline(Box::new(alloc, node)?)),
     }
 }
 
@@ -62,7 +62,7 @@ fn read_node_head<'t>(
         Err(e) => return Err(e),
     };
     match keys_fault(whole, &node) {
-        None => Ok(node_head(node)),
+        None => Ok(node_head(alloc, node)?),
         Some(fault) => Err(ReadError::Fault(fault)),
     }
 }

@@ -44,8 +44,8 @@ pub enum Head<'t> {
     Nothing,
     /// A scalar.
     Scalar(Kind, Content<'t>),
-    /// An alias or a flow collection.
-    Inline(Inline<'t>),
+    /// An alias or a flow collection. Few lines have one, so it stands apart from them.
+    Inline(Box<Inline<'t>>),
 }
 
 /// A line of a document. A row has one for each dash before its last dash or key, and one for that.

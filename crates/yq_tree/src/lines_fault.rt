@@ -1,13 +1,15 @@
 //! What is asked of a document's lines.
-ghost use Rattle.std.specs.Prelude.{◌≡◌, is_none, IfOk};
+ghost use Rattle.std.specs.Prelude.{◌≡◌, length, is_none, IfOk};
+ghost use Rattle.yq_tree.specs.Ends.{AreEndsFrom};
 ghost use Rattle.yq_tree.specs.LinesReading as spec;
 ghost use Rattle.yq_tree.specs.Names.{HaveHeadsApart};
+ghost use Rattle.yq_tree.specs.Nodes.{lines_in};
 ghost use Rattle.yq_tree.specs.View.{views};
 
 use crate::anchors::second_anchor;
 use crate::bound::unbound_line;
-use crate::ends::ends_of;
 use crate::line::Line;
+use crate::lined::Lined;
 use crate::names::names_of;
 use crate::sound::{Flaw, find_flaw};
 use std::alloc::{AllocError, Global};
@@ -37,15 +39,24 @@ fn name_fault(alloc: Global, lines: &[Line<'_>]) -> Result<Option<Flaw>, AllocEr
     }
 }
 
-/// What is at fault in the lines of a document: their columns, how deep collections are nested, keys
-/// that a mapping has already, anchors and aliases.
-pub(crate) fn lines_fault(alloc: Global, lines: &[Line<'_>]) -> Result<Option<Flaw>, AllocError>
-    requires { HaveHeadsApart (views lines.now) }
+/// What is at fault in lines, by where those under each of them end.
+fn flaw_of(alloc: Global, lines: &[Line<'_>], ends: &[usize]) -> Result<Option<Flaw>, AllocError>
+    requires apart { HaveHeadsApart (views lines.now) }
+    requires each { length ends.now ≡ length lines.now }
+    requires ends { AreEndsFrom 0 (views lines.now) ends.now }
     ensures { IfOk result (λ f. is_none f ≡ spec.lines_are_sound (views lines.now)) }
 {
-    let ends = ends_of(alloc, lines)?;
-    match find_flaw(alloc, lines, &ends, 0, 0, DEPTH_LIMIT)? {
+    match find_flaw(alloc, lines, ends, 0, 0, DEPTH_LIMIT)? {
         Some(flaw) => Ok(Some(flaw)),
         None => name_fault(alloc, lines),
     }
+}
+
+/// What is at fault in the lines of a document: their columns, how deep collections are nested, keys
+/// that a mapping has already, anchors and aliases.
+pub(crate) fn lines_fault(alloc: Global, document: &Lined<'_>) -> Result<Option<Flaw>, AllocError>
+    requires { HaveHeadsApart (lines_in document.now) }
+    ensures { IfOk result (λ f. is_none f ≡ spec.lines_are_sound (lines_in document.now)) }
+{
+    flaw_of(alloc, &document.lines, &document.ends)
 }

@@ -42,7 +42,7 @@ pub(crate) fn part_lines<'t>(
     ensures lines { (h : spec.HasRows (to - from) (drop from rows.now.rows) text.now) → Gives (λ x. (views x.0.items, x.1.now)) result (spec.part_made h.rows (h.end ++ h.rest)) }
     ensures ends { IfOk result (λ x. EndsIn text.now x.1.now) }
 {
-    let mut lines = Vec::new(alloc);
+    let mut lines = Vec::with_capacity(alloc, to - from)?;
     let mut rest = text;
     let mut at = from;
     'rows: while at < to {

@@ -25,7 +25,7 @@ rows-init c = record {
   within = c.requires.order;
   ends = ([], refl);
   rest_text = c.utf8.text;
-  so_far = goes_init (c.args.to - c.args.from) (drop c.args.from c.args.rows.now.rows) c.args.text.now (views c.new-lines.result.items) (ap views c.new-lines.ensures.items);
+  so_far = goes_init (c.args.to - c.args.from) (drop c.args.from c.args.rows.now.rows) c.args.text.now _ (ap views c.in_ok-lines.ensures.items);
 }
 
 pub rows-preserved : goal.rows-preserved
