@@ -21,6 +21,7 @@ install: $(YQ)
 	install -Dm755 $(YQ) $(DESTDIR)$(PREFIX)/bin/yq
 
 bench: $(YQ)
+	python3 bench/read.py $(YQ)
 	python3 bench/edit.py $(YQ)
 	python3 bench/expressions.py $(YQ)
 

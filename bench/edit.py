@@ -109,4 +109,5 @@ def main():
             print(f"{len(text):>10} {f:>9.4f} {e:>9.4f} {u:>9.4f} {e / f:>11.2f} {u / f:>11.2f} {used / len(text):>11.1f}")
 
 
-main()
+if __name__ == "__main__":
+    main()
