@@ -48,7 +48,7 @@ before_mark ns (Key key colon) c rest d m =
     cond-false _ _ _ some ∙ count
 
 -- each row has a line for each dash before its mark
-abbrev AreCounted : List Row → Type 0
+abbrev pub AreCounted : List Row → Type 0
 AreCounted [] = Unit {0}
 AreCounted (r ∷ rs) = (lines_before_mark (slices r) ≡ length r.dashes) × AreCounted rs
 
@@ -60,7 +60,7 @@ rows_counted : (rs : List Row) (limit : Limit) (end rest : List ℕ) → AreRows
 rows_counted [] limit end rest h = tt
 rows_counted (r ∷ rs) limit end rest h = (before_mark r.dashes r.mark r.content (rows_text rs (end ++ rest)) h.0.dashes h.0.mark, rows_counted rs (limit_after r) end rest h.1)
 
-cut_counted : (started : Bool) (c : Cut) → AreParts started c → AreCounted (rows_of c)
+pub cut_counted : (started : Bool) (c : Cut) → AreParts started c → AreCounted (rows_of c)
 cut_counted started (last p) h = rows_counted p.rows unlimited p.end [] h.rows
 cut_counted started (marked p marker c) h = both_counted p.rows (rows_of c) (rows_counted p.rows unlimited p.end (marker ++ cut_text c) h.0.rows) (cut_counted (begins_document marker) c h.2)
 

@@ -36,6 +36,7 @@ pub mod NodeLaws
 pub mod Parts
 pub mod PathLines
 pub mod Plug
+pub mod SeatLaws
 pub mod SoundLaws
 pub mod SpanLaws
 pub mod SpotLaws

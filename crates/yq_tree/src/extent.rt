@@ -103,7 +103,7 @@ fn dash_count(text: &str) -> usize
 }
 
 /// How many lines of a row stand before its last one.
-fn lines_before_mark(row: &Row<'_>) -> usize
+pub(crate) fn lines_before_mark(row: &Row<'_>) -> usize
     ensures { result ≡ spec.lines_before_mark (view row.now) }
 {
     let count = dash_count(row.dashes());

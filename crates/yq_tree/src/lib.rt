@@ -36,8 +36,10 @@ mod part_lines;
 mod path;
 mod path_laws;
 mod reading;
+mod room;
 mod row_lines;
 mod scalar_place;
+mod seat;
 mod sound;
 mod steps;
 #[cfg(test)]

@@ -11,6 +11,7 @@ use yq_scalar::{FaultKind, ReadError, ReadFault};
 mod examples;
 mod memory;
 mod refusals;
+mod room;
 
 /// Why bytes are refused, if they are.
 fn fault(alloc: Global, bytes: &[u8]) -> Option<ReadError> {

@@ -1,0 +1,230 @@
+-- Which line of which row a line is, by the pieces of rows, and where the rows of a document begin.
+use Rattle.std.proofs.Common.{◌≡◌, ℕ, zero, suc, ◌+◌, ◌-◌, ◌<◌, ◌≤◌, ltb, eqb, List, [], ◌∷◌, ◌++◌, length, map, drop, Option, Some, None, option_map, Bool, true, false, cond, not, ◌||◌, ◌&&◌, refl, sym, ap, ◌∙◌, subst, arith, append-nil, length-append}
+use Rattle.std.proofs.lemmas.Bool.{lt-ltb, le-ltb, eq-eqb, eqb-true, ltb-true, cond-true, cond-false, false≢true}
+use Rattle.std.proofs.lemmas.List.{drop-map}
+use Rattle.std.specs.List.{slice_get}
+use Rattle.yq_scalar.specs.Answers.{◌>>=◌}
+use Rattle.yq_scalar.specs.Paths.{Step}
+use Rattle.yq_rows.specs.Comments as comments
+use Rattle.yq_rows.specs.Grammar.{begins_document, IsCut}
+use Rattle.yq_rows.specs.Rows as rows
+use Rattle.yq_rows.specs.Rows.{Content, Row, Part, Cut, last, marked}
+use Rattle.yq_rows.specs.View.{Slices, slices, Bound, bounds_from, rows_of, Shown, shown}
+use Rattle.yq_tree.specs.declared.line.Line as declared
+use Rattle.yq_tree.specs.declared.path.Part.{Part as Place}
+use Rattle.yq_tree.specs.declared.path.Path.{Path}
+use Rattle.yq_tree.specs.Documents.{parts_from, document_parts, begins_bare, has_begin}
+use Rattle.yq_tree.specs.Extents.{lines_before_mark}
+use Rattle.yq_tree.specs.Lines.{lines_from, row_lines, lines_of}
+use Rattle.yq_tree.specs.Located.{steps_of}
+use Rattle.yq_tree.specs.Nodes.{lines_in}
+use Rattle.yq_tree.specs.Outline.{Line}
+use Rattle.yq_tree.specs.PartReading.{Lined, lined, document_view, some_begin, first_rows}
+use Rattle.yq_tree.specs.Reading.{cut_of}
+use Rattle.yq_tree.specs.RowPaths.{line_of}
+use Rattle.yq_tree.specs.Seats.{Seat, behind_one, seat, seat_of, seat_at, rows_before, document_row, begin_row, Numbers, behind, slices_seat, numbers, line_has_room, seat_has_room}
+use Rattle.yq_tree.specs.SoundReading.{Holds}
+use Rattle.yq_tree.proofs.CountLaws.{AreCounted, cut_counted}
+use Rattle.yq_tree.proofs.Parts.{drop_at}
+use Rattle.yq_tree.proofs.PartsLinedLaws.{document_is}
+
+-- a line of rows, in front of other rows
+lines_count : (above : List (List ℕ)) (column : ℕ) (ns : List ℕ) (m : rows.Mark) (x : Content) → length (lines_from above column ns m x) ≡ suc (length ns)
+lines_count above column [] m x = refl
+lines_count above column (n ∷ ns) m x = ap suc (lines_count [] (suc (column + n)) ns m x)
+
+seat_front : (rs more : List Row) (n : ℕ) → n < length (lines_of rs) → seat n (rs ++ more) ≡ seat n rs
+seat_front [] more n h = absurd (omega (arith, h))
+seat_front (r ∷ rs) more n h = go (ltb (length r.dashes) n) refl (λ k. seat_front rs more (n - suc (length r.dashes)) k)
+  where
+    count : length (row_lines r) ≡ suc (length r.dashes)
+    count = lines_count (comments.head_comment r.gap) r.column r.dashes r.mark r.content
+
+    go : (b : Bool) → ltb (length r.dashes) n ≡ b → (n - suc (length r.dashes) < length (lines_of rs) → seat (n - suc (length r.dashes)) (rs ++ more) ≡ seat (n - suc (length r.dashes)) rs) →
+        cond b (option_map behind_one (seat (n - suc (length r.dashes)) (rs ++ more))) (Some (record { before = 0; row = r; line = n })) ≡ cond b (option_map behind_one (seat (n - suc (length r.dashes)) rs)) (Some (record { before = 0; row = r; line = n }))
+    go true e again = ap (option_map behind_one) (again (omega (arith, h, ltb-true (length r.dashes) n e, length-append (row_lines r) (lines_of rs), count)))
+    go false e again = refl
+
+-- the numbers of a line, by the pieces of rows
+behind_twice : (j k : ℕ) (o : Option Numbers) → behind j (behind k o) ≡ behind (j + k) o
+behind_twice j k None = refl
+behind_twice j k (Some x) = ap (λ (n : ℕ). Some (n, x.1, x.2)) (omega arith)
+
+behind_numbers : (k : ℕ) (o : Option Seat) → behind k (option_map (numbers 0) o) ≡ option_map (numbers k) o
+behind_numbers k None = refl
+behind_numbers k (Some s) = ap (λ (n : ℕ). Some (n, s.line, length s.row.dashes)) (omega arith)
+
+one_more : (o : Option Seat) → behind 1 (option_map (numbers 0) o) ≡ option_map (numbers 0) (option_map behind_one o)
+one_more None = refl
+one_more (Some s) = ap (λ (n : ℕ). Some (n, s.line, length s.row.dashes)) (omega arith)
+
+same_seat : (n : ℕ) (rs : List Row) → AreCounted rs → slices_seat n (map slices rs) ≡ option_map (numbers 0) (seat n rs)
+same_seat n [] h = refl
+same_seat n (r ∷ rs) h =
+    (λ i. cond (ltb (h.0 i) n) (behind 1 (slices_seat (n - suc (h.0 i)) (map slices rs))) (Some (0, n, h.0 i)))
+    ∙ go (ltb (length r.dashes) n) (same_seat (n - suc (length r.dashes)) rs h.1)
+  where
+    go : (b : Bool) → slices_seat (n - suc (length r.dashes)) (map slices rs) ≡ option_map (numbers 0) (seat (n - suc (length r.dashes)) rs) →
+        cond b (behind 1 (slices_seat (n - suc (length r.dashes)) (map slices rs))) (Some (0, n, length r.dashes)) ≡ option_map (numbers 0) (cond b (option_map behind_one (seat (n - suc (length r.dashes)) rs)) (Some (record { before = 0; row = r; line = n })))
+    go true e = ap (behind 1) e ∙ one_more (seat (n - suc (length r.dashes)) rs)
+    go false e = refl
+
+counted_drop : (k : ℕ) (rs : List Row) → AreCounted rs → AreCounted (drop k rs)
+counted_drop zero rs h = h
+counted_drop (suc k) [] h = h
+counted_drop (suc k) (r ∷ rs) h = counted_drop k rs h.1
+
+pub seat_told : (t : List ℕ) (c : Cut) (s : Shown) (p : Part) (more : List Row) (first n : ℕ) (found : Option Numbers) → IsCut t c → s ≡ shown c → drop first (rows_of c) ≡ p.rows ++ more → n < length (lines_of p.rows) →
+    found ≡ behind first (slices_seat n (drop first s.rows)) → found ≡ option_map (numbers first) (seat n p.rows)
+seat_told t c s p more first n found cut is there within e =
+    let pieces : drop first s.rows ≡ map slices (p.rows ++ more) = ap (λ (x : Shown). drop first x.rows) is ∙ (drop-map slices first (rows_of c) ∙ ap (map slices) there) in
+    let counted : AreCounted (p.rows ++ more) = subst AreCounted there (counted_drop first (rows_of c) (cut_counted true c cut.parts)) in
+    e
+    ∙ (ap (λ (l : List Slices). behind first (slices_seat n l)) pieces
+    ∙ (ap (behind first) (same_seat n (p.rows ++ more) counted)
+    ∙ (behind_numbers first (seat n (p.rows ++ more)) ∙ ap (option_map (numbers first)) (seat_front p.rows more n within))))
+
+-- row after row
+pub seat_here : (ss : List Slices) (at left : ℕ) (x : Slices) → slice_get ss at ≡ Some x → left ≤ lines_before_mark x → Some (at, left, lines_before_mark x) ≡ behind at (slices_seat left (drop at ss))
+seat_here ss at left x is less =
+    sym (ap (λ (l : List Slices). behind at (slices_seat left l)) (drop_at ss at x is)
+    ∙ (ap (behind at) (cond-false _ _ _ (le-ltb (lines_before_mark x) left less)) ∙ ap (λ (k : ℕ). Some (k, left, lines_before_mark x)) (omega arith)))
+
+pub seat_later : (ss : List Slices) (at left : ℕ) (x : Slices) → slice_get ss at ≡ Some x → lines_before_mark x < left →
+    behind at (slices_seat left (drop at ss)) ≡ behind (at + 1) (slices_seat (left - (lines_before_mark x + 1)) (drop (at + 1) ss))
+seat_later ss at left x is less =
+    ap (λ (l : List Slices). behind at (slices_seat left l)) (drop_at ss at x is)
+    ∙ (ap (behind at) (cond-true _ _ _ (lt-ltb (lines_before_mark x) left less))
+    ∙ (behind_twice at 1 _ ∙ ap (λ (j : ℕ). behind (at + 1) (slices_seat (left - j) (drop (at + 1) ss))) (omega arith)))
+
+-- the line to which steps lead
+pub line_told : (steps : List Step) (rs : List Row) (ls : List Line) (n first : ℕ) (found : Option Numbers) → ls ≡ lines_of rs → Some n ≡ line_of steps ls → found ≡ option_map (numbers first) (seat n rs) → found ≡ option_map (numbers first) (seat_of steps rs)
+line_told steps rs ls n first found is e told = told ∙ ap (λ (o : Option ℕ). option_map (numbers first) (o >>= λ n. seat n rs)) (e ∙ ap (line_of steps) is)
+
+pub no_line_told : (steps : List Step) (rs : List Row) (ls : List Line) (first : ℕ) → ls ≡ lines_of rs → None ≡ line_of steps ls → None ≡ option_map (numbers first) (seat_of steps rs)
+no_line_told steps rs ls first is e = ap (λ (o : Option ℕ). option_map (numbers first) (o >>= λ n. seat n rs)) (e ∙ ap (line_of steps) is)
+
+-- whether a line has room, by its numbers
+number_same : {x y : Numbers} → Some x ≡ Some y → x ≡ y
+number_same e = cc
+
+pub room_told : (part : Place) (k : ℕ) (x : Numbers) (o : Option Seat) (room : Bool) → Some x ≡ option_map (numbers k) o → ((j : ℕ) (s : Seat) → x ≡ numbers j s → room ≡ line_has_room part s) → room ≡ seat_has_room part o
+room_told part k x None room e told = absurd (cc)
+room_told part k x (Some s) room e told = told k s (number_same e)
+
+pub no_room_told : (part : Place) (k : ℕ) (o : Option Seat) → None ≡ option_map (numbers k) o → false ≡ seat_has_room part o
+no_room_told part k None e = refl
+no_room_told part k (Some s) e = absurd (cc)
+
+-- part after part
+pub begin_here : (is : Bool) (n k : ℕ) (b : Bound) (bs rest : List Bound) → bs ≡ b ∷ rest → true ≡ (is && eqb n 0) → Some k ≡ begin_row is n k bs
+begin_here is n k b bs rest e found = go is n found ∙ sym (ap (begin_row is n k) e)
+  where
+    go : (is : Bool) (n : ℕ) → true ≡ (is && eqb n 0) → Some k ≡ begin_row is n k (b ∷ rest)
+    go true zero f = refl
+    go true (suc n) f = absurd (omega (arith, eqb-true (suc n) 0 (sym f)))
+    go false n f = absurd (false≢true (sym f))
+
+pub begin_later : (is : Bool) (n k : ℕ) (b : Bound) (bs rest : List Bound) → bs ≡ b ∷ rest → false ≡ (is && eqb n 0) → begin_row is n k bs ≡ begin_row (begins_document b.marker) (cond is (n - 1) n) b.rows rest
+begin_later is n k b bs rest e other = ap (begin_row is n k) e ∙ go is n other
+  where
+    go : (is : Bool) (n : ℕ) → false ≡ (is && eqb n 0) → begin_row is n k (b ∷ rest) ≡ begin_row (begins_document b.marker) (cond is (n - 1) n) b.rows rest
+    go true zero f = absurd (false≢true (f ∙ eq-eqb 0 0 refl))
+    go true (suc n) f = ap (λ (j : ℕ). begin_row (begins_document b.marker) j b.rows rest) (omega arith)
+    go false n f = refl
+
+drop_front : (xs ys : List Row) (r : ℕ) → drop (length xs + r) (xs ++ ys) ≡ drop r ys
+drop_front [] ys r = ap (λ (k : ℕ). drop k ys) (omega arith)
+drop_front (x ∷ xs) ys r =
+    let more : suc (length xs) + r ≡ suc (length xs + r) = omega arith in
+    ap (λ (k : ℕ). drop k (x ∷ (xs ++ ys))) more ∙ drop_front xs ys r
+
+-- A document's rows begin there among those of a cut, behind so many others.
+record Begins (is : Bool) (n k : ℕ) (c : Cut) (p : Part) : Type 0 where
+  pub told : begin_row is n k (bounds_from k c) ≡ Some (k + rows_before is n c)
+  pub more : List Row
+  pub there : drop (rows_before is n c) (rows_of c) ≡ p.rows ++ more
+
+begins : (is : Bool) (n k : ℕ) (c : Cut) (p : Part) → slice_get (parts_from is c) n ≡ Some p → Begins is n k c p
+begins true zero k (last q) p e =
+    let same : q ≡ p = cc in
+    record { told = ap Some (omega arith); more = []; there = ap (λ (x : Part). x.rows) same ∙ sym (append-nil p.rows) }
+begins true (suc n) k (last q) p e = absurd (cc)
+begins false n k (last q) p e = absurd (cc)
+begins true zero k (marked q marker c) p e =
+    let same : q ≡ p = cc in
+    record { told = ap Some (omega arith); more = rows_of c; there = ap (λ (x : Part). x.rows ++ rows_of c) same }
+begins true (suc n) k (marked q marker c) p e =
+    let again = begins (begins_document marker) n (k + length q.rows) c p e in
+    record { told = again.told ∙ ap Some (omega arith); more = again.more; there = drop_front q.rows (rows_of c) (rows_before (begins_document marker) n c) ∙ again.there }
+begins false n k (marked q marker c) p e =
+    let again = begins (begins_document marker) n (k + length q.rows) c p e in
+    record { told = again.told ∙ ap Some (omega arith); more = again.more; there = drop_front q.rows (rows_of c) (rows_before (begins_document marker) n c) ∙ again.there }
+
+pub part_begins : (c : Cut) (n : ℕ) (p : Part) → slice_get (document_parts c) n ≡ Some p → (more : List Row) × (drop (document_row n c) (rows_of c) ≡ p.rows ++ more)
+part_begins c n p at = let b = begins (begins_bare c || not (has_begin c)) n 0 c p at in (b.more, b.there)
+
+-- what documents hold
+abbrev Held : Type 0
+Held = List ℕ × List declared.Line
+
+part_at : (ds : List Held) (ps : List Part) → map document_view ds ≡ map lined ps → (i : ℕ) (d : Held) → slice_get ds i ≡ Some d → (p : Part) × (slice_get ps i ≡ Some p) × (document_view d ≡ lined p)
+part_at [] ps e i d is = absurd (cc)
+part_at (x ∷ ds) [] e i d is = absurd (cc)
+part_at (x ∷ ds) (p ∷ ps) e zero d is =
+    let same : x ≡ d = cc in
+    let first : document_view x ≡ lined p = cc in
+    (p, refl, ap document_view (sym same) ∙ first)
+part_at (x ∷ ds) (p ∷ ps) e (suc i) d is = part_at ds ps (others e) i d is
+  where
+    others : {y z : Lined} {ys zs : List Lined} → y ∷ ys ≡ z ∷ zs → ys ≡ zs
+    others e = cc
+
+none_past : (ds : List Held) (ps : List Part) → map document_view ds ≡ map lined ps → (i : ℕ) → length ds ≤ i → slice_get ps i ≡ None
+none_past [] [] e i h = refl
+none_past [] (p ∷ ps) e i h = absurd (cc)
+none_past (x ∷ ds) [] e i h = refl
+none_past (x ∷ ds) (p ∷ ps) e zero h = absurd (omega (arith, h))
+none_past (x ∷ ds) (p ∷ ps) e (suc i) h = none_past ds ps (others e) i (omega (arith, h))
+  where
+    others : {y z : Lined} {ys zs : List Lined} → y ∷ ys ≡ z ∷ zs → ys ≡ zs
+    others e = cc
+
+pub held_outside : (t : List ℕ) (s : Shown) (ds : List Held) (path : Path) (k : ℕ) → Holds t s ds → length ds ≤ path.doc → None ≡ option_map (numbers k) (seat_at path (cut_of t))
+held_outside t s ds path k h past = sym (ap (λ (o : Option Part). option_map (numbers k) (o >>= λ d. seat_of (steps_of path) d.rows)) (none_past ds (document_parts (cut_of t)) h.lined path.doc past))
+
+-- the first row of a document that is held
+held_begin : (t : List ℕ) (s : Shown) (ds : List Held) (i : ℕ) (p : Part) → Holds t s ds → slice_get (document_parts (cut_of t)) i ≡ Some p →
+    (begin_row (first_rows s.bounds || not (some_begin s.bounds)) i 0 s.bounds ≡ Some (document_row i (cut_of t))) × ((more : List Row) × (drop (document_row i (cut_of t)) (rows_of (cut_of t)) ≡ p.rows ++ more))
+held_begin t s ds i p h at =
+    let c : Cut = cut_of t in
+    let b = begins (begins_bare c || not (has_begin c)) i 0 c p at in
+    (ap (λ (is : Bool). begin_row is i 0 s.bounds) (document_is c s h.rows) ∙ (ap (λ (x : Shown). begin_row (begins_bare c || not (has_begin c)) i 0 x.bounds) h.rows ∙ (b.told ∙ ap Some (omega arith))), (b.more, b.there))
+
+some_same : {x y : ℕ} → Some x ≡ Some y → x ≡ y
+some_same e = cc
+
+got : (ds : List Held) (i : ℕ) → i < length ds → (d : Held) × (slice_get ds i ≡ Some d)
+got [] i h = absurd (omega (arith, h))
+got (d ∷ ds) zero h = (d, refl)
+got (d ∷ ds) (suc i) h = got ds i (omega (arith, h))
+
+none_some : {x : ℕ} → None ≡ Some x → ⊥
+none_some e = cc
+
+pub held_some : (t : List ℕ) (s : Shown) (ds : List Held) (i : ℕ) → Holds t s ds → i < length ds → None ≡ begin_row (first_rows s.bounds || not (some_begin s.bounds)) i 0 s.bounds → ⊥
+held_some t s ds i h within e =
+    let there = got ds i within in
+    let part = part_at ds (document_parts (cut_of t)) h.lined i there.0 there.1 in
+    none_some (e ∙ (held_begin t s ds i part.0 h part.1).0)
+
+pub held_seat : (t : List ℕ) (s : Shown) (ds : List Held) (path : Path) (first : ℕ) (d : Held) (found : Option Numbers) → Holds t s ds → slice_get ds path.doc ≡ Some d → Some first ≡ begin_row (first_rows s.bounds || not (some_begin s.bounds)) path.doc 0 s.bounds →
+    ((u : List ℕ) (c : Cut) (p : Part) (more : List Row) → IsCut u c → s ≡ shown c → lines_in d ≡ lines_of p.rows → drop first (rows_of c) ≡ p.rows ++ more → found ≡ option_map (numbers first) (seat_of (steps_of path) p.rows)) →
+    found ≡ option_map (numbers (document_row path.doc (cut_of t))) (seat_at path (cut_of t))
+held_seat t s ds path first d found h there begin told =
+    let part = part_at ds (document_parts (cut_of t)) h.lined path.doc d there in
+    let b = held_begin t s ds path.doc part.0 h part.1 in
+    let same : first ≡ document_row path.doc (cut_of t) = some_same (begin ∙ b.0) in
+    told t (cut_of t) part.0 b.1.0 h.cut h.rows (ap (λ (x : Lined). x.1) part.2) (ap (λ (k : ℕ). drop k (rows_of (cut_of t))) same ∙ b.1.1)
+    ∙ ((λ i. option_map (numbers (same i)) (seat_of (steps_of path) part.0.rows))
+    ∙ sym (ap (λ (o : Option Part). option_map (numbers (document_row path.doc (cut_of t))) (o >>= λ d. seat_of (steps_of path) d.rows)) part.1))
