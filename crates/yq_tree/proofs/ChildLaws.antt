@@ -2,17 +2,18 @@
 use Rattle.std.proofs.Common.{◌≡◌, ℕ, ◌<◌, List, Option, Some, None, option_map, true, not, length, get_or, drop, refl, sym, ap, ◌∙◌, arith}
 use Rattle.std.proofs.lemmas.List.{get_or_default}
 use Rattle.std.specs.List.{slice_get}
-use Rattle.yq_scalar.specs.Tree.{Node, alias, scalar, list, map, none, child, children_of}
+use Rattle.yq_scalar.specs.Tree.{Label, Node, alias, scalar, list, map, none, child, children_of}
 use Rattle.yq_inline.specs.Trees.{named}
 use Rattle.yq_tree.specs.Ends.{part, is_end, IsEndOf, AreEndsFrom}
-use Rattle.yq_scalar.specs.Paths.{Step, child_at}
+use Rattle.yq_scalar.specs.Paths.{Step}
 use Rattle.yq_tree.specs.Group.{group}
+use Rattle.yq_tree.specs.Labelled.{labelled_at}
 use Rattle.yq_tree.specs.Nodes.{lines_under}
 use Rattle.yq_tree.specs.Outline.{Line, Outline, anchored, label, children}
 use Rattle.yq_tree.specs.Places.{Found, find_row, content}
 use Rattle.yq_tree.specs.Spots.{spot, seen}
 use Rattle.yq_tree.proofs.EndsLaws.{deeper_line, not_end}
-use Rattle.yq_tree.proofs.Finding.{row_child}
+use Rattle.yq_tree.proofs.Finding.{entry_of, row_labelled}
 use Rattle.yq_tree.proofs.Parts.{part_past, row_parts}
 
 pub anchored_children : (a : Option (List ℕ)) (n : Node) → children_of (anchored a n) ≡ children_of n
@@ -43,13 +44,14 @@ end_read ls ends at next each all within is =
     (omega (arith, e.0, same), omega (arith, e.1, same), λ l h. e.2 l h ∙ ap (λ k. group (drop k ls)) (sym same))
 
 -- where a step leads among lines, by the line that was found
-pub child_spot : (s : Step) (u : Outline) (start : ℕ) (x : Option (ℕ × Line × Outline)) → spot start (find_row s u) ≡ x → child_at s (children u) ≡ option_map (λ y. content y.1 y.2) x
-child_spot s u start x e = row_child s u ∙ (same (find_row s u) ∙ ap (option_map (λ y. content y.1 y.2)) e)
+pub child_spot : (s : Step) (u : Outline) (start : ℕ) (x : Option (ℕ × Line × Outline)) → spot start (find_row s u) ≡ x → labelled_at s (children u) ≡ option_map (λ y. entry_of y.1 y.2) x
+child_spot s u start x e = row_labelled s u ∙ (same (find_row s u) ∙ ap (option_map (λ y. entry_of y.1 y.2)) e)
   where
-    same : (r : Option Found) → option_map (λ f. content f.line f.under) r ≡ option_map (λ y. content y.1 y.2) (spot start r)
+    same : (r : Option Found) → option_map (λ f. entry_of f.line f.under) r ≡ option_map (λ y. entry_of y.1 y.2) (spot start r)
     same None = refl
     same (Some f) = refl
 
-pub child_found : (s : Step) (ls : List Line) (first floor at : ℕ) (l : Line) → slice_get ls at ≡ Some l → spot first (find_row s (part ls first floor)) ≡ seen ls (Some at) →
-    Some (content l (lines_under ls at l)) ≡ child_at s (children (part ls first floor))
-child_found s ls first floor at l is e = sym (child_spot s (part ls first floor) first (Some (at, l, lines_under ls at l)) (e ∙ ap (option_map (λ m. (at, m, lines_under ls at m))) is))
+pub child_found : (s : Step) (ls : List Line) (first floor at : ℕ) (l : Line) (x : Label) (n : Node) → slice_get ls at ≡ Some l → spot first (find_row s (part ls first floor)) ≡ seen ls (Some at) →
+    x ≡ label l → n ≡ content l (lines_under ls at l) → Some (x, n) ≡ labelled_at s (children (part ls first floor))
+child_found s ls first floor at l x n is e told same =
+    rw (told, same) (sym (child_spot s (part ls first floor) first (Some (at, l, lines_under ls at l)) (e ∙ ap (option_map (λ m. (at, m, lines_under ls at m))) is)))

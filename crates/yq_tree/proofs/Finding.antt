@@ -1,10 +1,12 @@
 -- Where a path leads.
 use Rattle.std.proofs.Common.{◌≡◌, ℕ, List, [], ◌∷◌, Option, Some, None, option_map, option_and_then, Bool, true, false, cond, refl, sym, ap, ◌∙◌}
 use Rattle.yq_scalar.specs.Tree.{Node, alias, scalar, list, map, Children, children_of}
-use Rattle.yq_tree.specs.Outline.{Mark, Bare, Key, Dash, Outline, end, row, anchored, head_or, label, collection, children, value}
+use Rattle.yq_tree.specs.Outline.{Mark, Bare, Key, Dash, Line, Outline, end, row, anchored, head_or, label, collection, children, value}
 use Rattle.yq_scalar.specs.Paths.{Step, is_here, further, child_at, node_at}
 use Rattle.yq_tree.specs.Places.{here, below, plug, Found, next_to, find_row, inside, bare_or, in_head, find, content}
+use Rattle.yq_tree.specs.Labelled.{Labelled, labelled_at}
 use Rattle.yq_tree.proofs.Allowing.{IsEntry}
+use Rattle.yq_tree.proofs.LabelledLaws.{labelled_child}
 use Rattle.yq_tree.proofs.Plug.{plug-compose}
 use Rattle.yq_tree.proofs.Values.{If}
 
@@ -18,16 +20,28 @@ row_whole s (row k v a) = go (is_here s (label k)) (find_row (further s) a) (row
     go false None h = tt
     go false (Some f) h = ap (row k v) h
 
--- the child where a step leads
-pub row_child : (s : Step) (o : Outline) → child_at s (children o) ≡ option_map (λ f. content f.line f.under) (find_row s o)
-row_child s end = refl
-row_child s (row k v a) = go (is_here s (label k)) (find_row (further s) a) (row_child (further s) a)
+-- what a line's entry or item is
+abbrev pub entry_of : Line → Outline → Labelled
+entry_of l under = (label l, content l under)
+
+-- the item or entry where a step leads
+pub row_labelled : (s : Step) (o : Outline) → labelled_at s (children o) ≡ option_map (λ f. entry_of f.line f.under) (find_row s o)
+row_labelled s end = refl
+row_labelled s (row k v a) = go (is_here s (label k)) (find_row (further s) a) (row_labelled (further s) a)
   where
-    go : (b : Bool) (r : Option Found) → child_at (further s) (children a) ≡ option_map (λ f. content f.line f.under) r →
-        cond b (Some (content k v)) (child_at (further s) (children a)) ≡ option_map (λ f. content f.line f.under) (cond b (Some (record { place = here; line = k; under = v; after = a })) (option_map (next_to k v) r))
+    go : (b : Bool) (r : Option Found) → labelled_at (further s) (children a) ≡ option_map (λ f. entry_of f.line f.under) r →
+        cond b (Some (entry_of k v)) (labelled_at (further s) (children a)) ≡ option_map (λ f. entry_of f.line f.under) (cond b (Some (record { place = here; line = k; under = v; after = a })) (option_map (next_to k v) r))
     go true r h = refl
     go false None h = h
     go false (Some f) h = h
+
+-- its node
+pub row_child : (s : Step) (o : Outline) → child_at s (children o) ≡ option_map (λ f. content f.line f.under) (find_row s o)
+row_child s o = sym (labelled_child s (children o)) ∙ (ap (option_map (λ x. x.1)) (row_labelled s o) ∙ same (find_row s o))
+  where
+    same : (r : Option Found) → option_map (λ x. x.1) (option_map (λ f. entry_of f.line f.under) r) ≡ option_map (λ f. content f.line f.under) r
+    same None = refl
+    same (Some f) = refl
 
 node-anchored : (a : Option (List ℕ)) (s : Step) (ss : List Step) (n : Node) → node_at (s ∷ ss) (anchored a n) ≡ node_at (s ∷ ss) n
 node-anchored a s ss (alias n) = refl

@@ -5,11 +5,12 @@ use Rattle.std.proofs.lemmas.List.{drop_more, drop_all}
 use Rattle.std.specs.declared.alloc.Global.{Global}
 use Rattle.std.specs.Str.{bytes_eq}
 use Rattle.yq_scalar.specs.declared.piece.Piece.{Piece}
-use Rattle.yq_scalar.specs.Paths.{To, Nth, child_at}
-use Rattle.yq_scalar.specs.Tree.{Node, Children}
+use Rattle.yq_scalar.specs.Paths.{To, Nth}
+use Rattle.yq_scalar.specs.Tree.{Children}
 use Rattle.yq_inline.specs.declared.inline.Inline.{Inline}
-use Rattle.yq_inline.specs.Trees.{placed_tree, parts_tree}
+use Rattle.yq_inline.specs.Trees.{inner, placed_tree, parts_tree}
 use Rattle.yq_inline.specs.View.{view, items_end, entries_end}
+use Rattle.yq_tree.specs.Labelled.{Labelled, labelled_at}
 
 abbrev pub items_tree : List Inline → Children
 items_tree is = parts_tree (items_end is)
@@ -20,46 +21,46 @@ Field = String Global × Piece × Inline
 abbrev pub entries_tree : List Field → Children
 entries_tree es = parts_tree (entries_end es)
 
-item_there : (is : List Inline) (i : ℕ) (d : Inline) → i < length is → child_at (Nth i) (items_tree is) ≡ Some (placed_tree (view (get_or is i d)))
+item_there : (is : List Inline) (i : ℕ) (d : Inline) → i < length is → labelled_at (Nth i) (items_tree is) ≡ Some (inner None, placed_tree (view (get_or is i d)))
 item_there [] i d lt = absurd (omega (arith, lt))
 item_there (x ∷ is) zero d lt = refl
 item_there (x ∷ is) (suc i) d lt = item_there is i d (omega (arith, lt))
 
-no_item : (is : List Inline) (i : ℕ) → length is ≤ i → child_at (Nth i) (items_tree is) ≡ None
+no_item : (is : List Inline) (i : ℕ) → length is ≤ i → labelled_at (Nth i) (items_tree is) ≡ None
 no_item [] zero h = refl
 no_item [] (suc i) h = refl
 no_item (x ∷ is) zero h = absurd (omega (arith, h))
 no_item (x ∷ is) (suc i) h = no_item is i (omega (arith, h))
 
-pub item_found : (is : List Inline) (i : ℕ) (x d : Inline) → true ≡ ltb i (length is) → x ≡ get_or is i d → Some (placed_tree (view x)) ≡ child_at (Nth i) (items_tree is)
-item_found is i x d lt at = ap (λ (y : Inline). Some (placed_tree (view y))) at ∙ sym (item_there is i d (ltb-true i (length is) (sym lt)))
+pub item_found : (is : List Inline) (i : ℕ) (x d : Inline) → true ≡ ltb i (length is) → x ≡ get_or is i d → Some (inner None, placed_tree (view x)) ≡ labelled_at (Nth i) (items_tree is)
+item_found is i x d lt at = ap (λ (y : Inline). Some (inner None, placed_tree (view y))) at ∙ sym (item_there is i d (ltb-true i (length is) (sym lt)))
 
-pub item_missing : (is : List Inline) (i : ℕ) → false ≡ ltb i (length is) → None ≡ child_at (Nth i) (items_tree is)
+pub item_missing : (is : List Inline) (i : ℕ) → false ≡ ltb i (length is) → None ≡ labelled_at (Nth i) (items_tree is)
 item_missing is i ge = ⊎_elim (λ lt. absurd (false≢true (ge ∙ lt-ltb i (length is) lt))) (λ le. sym (no_item is i le)) (cases_lt i (length is))
 
-pub entry_found : (key : List ℕ) (es : List Field) (i : ℕ) (e d : Field) (s : List ℕ) (all : Option Node) → i < length es → e ≡ get_or es i d → s ≡ string_bytes e.0 → bytes_eq s key ≡ true →
-    child_at (To key) (entries_tree (drop i es)) ≡ all → Some (placed_tree (view e.2)) ≡ all
+pub entry_found : (key : List ℕ) (es : List Field) (i : ℕ) (e d : Field) (s : List ℕ) (all : Option Labelled) → i < length es → e ≡ get_or es i d → s ≡ string_bytes e.0 → bytes_eq s key ≡ true →
+    labelled_at (To key) (entries_tree (drop i es)) ≡ all → Some (inner (Some s), placed_tree (view e.2)) ≡ all
 entry_found key es i e d s all lt at text same so_far =
     let next : drop i es ≡ e ∷ drop (i + 1) es = drop_more es i d lt ∙ ap (λ (f : Field). f ∷ drop (i + 1) es) (sym at) in
-    let here : child_at (To key) (entries_tree (e ∷ drop (i + 1) es)) ≡ Some (placed_tree (view e.2)) = rw (rw text at same) refl in
-    sym here ∙ (ap (λ (l : List Field). child_at (To key) (entries_tree l)) (sym next) ∙ so_far)
+    let here : labelled_at (To key) (entries_tree (e ∷ drop (i + 1) es)) ≡ Some (inner (Some s), placed_tree (view e.2)) = rw (text, rw text at same) refl in
+    sym here ∙ (ap (λ (l : List Field). labelled_at (To key) (entries_tree l)) (sym next) ∙ so_far)
 
-pub entry_past : (key : List ℕ) (es : List Field) (i : ℕ) (e d : Field) (s : List ℕ) (all : Option Node) → i < length es → e ≡ get_or es i d → s ≡ string_bytes e.0 → bytes_eq s key ≡ false →
-    child_at (To key) (entries_tree (drop i es)) ≡ all → child_at (To key) (entries_tree (drop (i + 1) es)) ≡ all
+pub entry_past : (key : List ℕ) (es : List Field) (i : ℕ) (e d : Field) (s : List ℕ) (all : Option Labelled) → i < length es → e ≡ get_or es i d → s ≡ string_bytes e.0 → bytes_eq s key ≡ false →
+    labelled_at (To key) (entries_tree (drop i es)) ≡ all → labelled_at (To key) (entries_tree (drop (i + 1) es)) ≡ all
 entry_past key es i e d s all lt at text other so_far =
     let next : drop i es ≡ e ∷ drop (i + 1) es = drop_more es i d lt ∙ ap (λ (f : Field). f ∷ drop (i + 1) es) (sym at) in
-    let on : child_at (To key) (entries_tree (e ∷ drop (i + 1) es)) ≡ child_at (To key) (entries_tree (drop (i + 1) es)) = rw (rw text at other) refl in
-    sym on ∙ (ap (λ (l : List Field). child_at (To key) (entries_tree l)) (sym next) ∙ so_far)
+    let on : labelled_at (To key) (entries_tree (e ∷ drop (i + 1) es)) ≡ labelled_at (To key) (entries_tree (drop (i + 1) es)) = rw (rw text at other) refl in
+    sym on ∙ (ap (λ (l : List Field). labelled_at (To key) (entries_tree l)) (sym next) ∙ so_far)
 
-pub entry_missing : (key : List ℕ) (es : List Field) (i : ℕ) (all : Option Node) → length es ≤ i → child_at (To key) (entries_tree (drop i es)) ≡ all → None ≡ all
-entry_missing key es i all ge so_far = ap (λ (l : List Field). child_at (To key) (entries_tree l)) (sym (drop_all i es ge)) ∙ so_far
+pub entry_missing : (key : List ℕ) (es : List Field) (i : ℕ) (all : Option Labelled) → length es ≤ i → labelled_at (To key) (entries_tree (drop i es)) ≡ all → None ≡ all
+entry_missing key es i all ge so_far = ap (λ (l : List Field). labelled_at (To key) (entries_tree l)) (sym (drop_all i es ge)) ∙ so_far
 
 -- a key leads to no item, and an index to no entry
-pub no_key : (key : List ℕ) (is : List Inline) → child_at (To key) (items_tree is) ≡ None
+pub no_key : (key : List ℕ) (is : List Inline) → labelled_at (To key) (items_tree is) ≡ None
 no_key key [] = refl
 no_key key (x ∷ is) = no_key key is
 
-pub no_index : (i : ℕ) (es : List Field) → child_at (Nth i) (entries_tree es) ≡ None
+pub no_index : (i : ℕ) (es : List Field) → labelled_at (Nth i) (entries_tree es) ≡ None
 no_index zero [] = refl
 no_index (suc i) [] = refl
 no_index zero (e ∷ es) = no_index zero es

@@ -12,6 +12,7 @@ pub mod DocumentLaws
 pub mod EndsLaws
 pub mod EntryLaws
 pub mod HeldLaws
+pub mod LabelledLaws
 pub mod KeyLaws
 pub mod LaidLaws
 pub mod OneLine

@@ -13,6 +13,7 @@ pub mod Lines
 pub mod Anchors
 pub mod Answers
 pub mod Children
+pub mod Labelled
 pub mod Documents
 pub mod Reading
 pub mod Located

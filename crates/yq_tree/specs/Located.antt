@@ -5,6 +5,8 @@ use Rattle.yq_scalar.specs.Paths.{Step, node_at}
 use Rattle.yq_scalar.specs.Tree.{Node}
 use Rattle.yq_tree.specs.declared.path.Path.{Path}
 use Rattle.yq_tree.specs.Documents.{Document}
+use Rattle.yq_tree.specs.Labelled.{Labelled, labelled_from}
+use Rattle.yq_tree.specs.Nodes.{unlabelled}
 use Rattle.yq_tree.specs.Reading.{documents_of}
 
 -- the steps of a path (own)
@@ -18,3 +20,7 @@ document_at text i = slice_get (documents_of text) i
 -- the node at a path in a text, if it leads to one (own)
 abbrev pub located : Path → List ℕ → Option Node
 located p text = option_and_then (λ d. node_at (steps_of p) d.root) (document_at text p.doc)
+
+-- the same with its label, which tells nothing at a root (own)
+abbrev pub labelled_located : Path → List ℕ → Option Labelled
+labelled_located p text = option_and_then (λ d. labelled_from (steps_of p) (unlabelled, d.root)) (document_at text p.doc)

@@ -13,6 +13,7 @@ use Rattle.yq_tree.specs.declared.node.NodeKind.{NodeKind}
 use Rattle.yq_tree.specs.declared.node.NodeKind.TheVariants as kinds
 use Rattle.yq_tree.specs.declared.node.Slot as slots
 use Rattle.yq_tree.specs.Ends.{part}
+use Rattle.yq_tree.specs.Labelled.{Labelled}
 use Rattle.yq_tree.specs.Outline as outline
 use Rattle.yq_tree.specs.Outline.{Line, level, Outline, anchored, null, children}
 use Rattle.yq_tree.specs.View.{view, views}
@@ -62,6 +63,10 @@ slot_label (slots.TheVariants.Inline key) = inner (lent key)
 -- what is told of the entry or item of a node of the code (own)
 abbrev pub label_of : declared.Node → Label
 label_of n = slot_label n.slot
+
+-- the node that one of the code stands for, with its label (own)
+abbrev pub labelled_of : declared.Node → Labelled
+labelled_of n = (label_of n, node_of n)
 
 -- what a node is: an alias, a scalar of its kind, a sequence or a mapping (YAML 1.2.2, section 3.2.1)
 abbrev pub kind_of : Node → NodeKind

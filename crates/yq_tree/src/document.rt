@@ -1,8 +1,8 @@
 //! Documents, as their lines.
 ghost use Rattle.std.specs.Prelude.{◌≡◌, ◌<◌, ℕ, List, length, option_map, Some};
 ghost use Rattle.yq_tree.specs.Documents.{Document};
-ghost use Rattle.yq_tree.specs.Located.{document_at, located};
-ghost use Rattle.yq_tree.specs.Nodes.{node_of, label_of, unlabelled};
+ghost use Rattle.yq_tree.specs.Located.{document_at, labelled_located, located};
+ghost use Rattle.yq_tree.specs.Nodes.{node_of, label_of, labelled_of, unlabelled};
 ghost use Rattle.yq_tree.specs.Reading as spec;
 ghost use Rattle.yq_tree.specs.SoundReading.{Holds};
 ghost use Rattle.yq_tree.specs.Texts.{texts_left};
@@ -60,7 +60,8 @@ impl<'t> Documents<'t> {
 
     /// The node at a path.
     pub fn locate(&self, path: &Path) -> Option<Node<'_, 't>>
-        ensures { option_map node_of result ≡ located path.now self.now }
+        ensures node { option_map node_of result ≡ located path.now self.now }
+        ensures labelled { option_map labelled_of result ≡ labelled_located path.now self.now }
     {
         if path.doc >= self.count() {
             return None;

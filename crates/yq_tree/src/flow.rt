@@ -1,8 +1,9 @@
 //! Nodes in flow collections.
-ghost use Rattle.std.specs.Prelude.{◌≡◌, option_map};
-ghost use Rattle.yq_inline.specs.Trees.{parts_tree, placed_tree};
+ghost use Rattle.std.specs.Prelude.{◌≡◌, Some, None, option_map};
+ghost use Rattle.yq_inline.specs.Trees.{inner, parts_tree, placed_tree};
 ghost use Rattle.yq_inline.specs.View.{entries_end, items_end, view};
-ghost use Rattle.yq_scalar.specs.Paths.{To, Nth, child_at};
+ghost use Rattle.yq_scalar.specs.Paths.{To, Nth};
+ghost use Rattle.yq_tree.specs.Labelled.{labelled_at};
 ghost use Rattle.yq_tree.specs.Nodes as spec;
 ghost use Rattle.yq_tree.specs.Outline.{anchored};
 
@@ -55,7 +56,7 @@ pub(crate) fn inline_anchor<'t>(before: Option<&'t str>, node: &Inline<'t>) -> O
 
 /// The item of an index.
 pub(crate) fn item_at<'d, 't>(items: &'d [Inline<'t>], index: usize) -> Option<&'d Inline<'t>>
-    ensures { option_map (λ n. placed_tree (view n.now)) result ≡ child_at (Nth index) (parts_tree (items_end items.now)) }
+    ensures { option_map (λ n. (inner None, placed_tree (view n.now))) result ≡ labelled_at (Nth index) (parts_tree (items_end items.now)) }
 {
     match items.get(index) {
         Some(item) => Some(item),
@@ -68,7 +69,7 @@ pub(crate) fn entry_at<'d, 't>(
     entries: &'d [(String, Piece, Inline<'t>)],
     key: &str,
 ) -> Option<(&'d str, &'d Inline<'t>)>
-    ensures { option_map (λ e. placed_tree (view e.1.now)) result ≡ child_at (To key.now) (parts_tree (entries_end entries.now)) }
+    ensures { option_map (λ e. (inner (Some e.0.now), placed_tree (view e.1.now))) result ≡ labelled_at (To key.now) (parts_tree (entries_end entries.now)) }
 {
     'each: for entry in entries {
         if entry.0.as_str() == key {

@@ -4,7 +4,8 @@ ghost use Rattle.yq_inline.specs.Entries.{step_of};
 ghost use Rattle.yq_scalar.specs.Paths.{To, Nth, child_at, node_at};
 ghost use Rattle.yq_scalar.specs.Tree.{children_of};
 ghost use Rattle.yq_tree.specs.Children.{rest_of};
-ghost use Rattle.yq_tree.specs.Nodes.{lines_in, node_of, under_of};
+ghost use Rattle.yq_tree.specs.Labelled.{labelled_at, labelled_from};
+ghost use Rattle.yq_tree.specs.Nodes.{labelled_of, lines_in, node_of, under_of};
 ghost use Rattle.yq_tree.specs.Outline.{children};
 
 use crate::body::Under;
@@ -17,7 +18,7 @@ use yq_inline::Step;
 
 /// The entry of a key among those of lines.
 fn line_entry<'d, 't>(document: &'d Lined<'t>, under: Under, key: &str) -> Option<Node<'d, 't>>
-    ensures { option_map node_of result ≡ child_at (To key.now) (children (under_of (lines_in document.now) under)) }
+    ensures { option_map labelled_of result ≡ labelled_at (To key.now) (children (under_of (lines_in document.now) under)) }
 {
     let at = find_key(
         &document.lines,
@@ -31,7 +32,7 @@ fn line_entry<'d, 't>(document: &'d Lined<'t>, under: Under, key: &str) -> Optio
 
 /// The item of an index among those of lines.
 fn line_item<'d, 't>(document: &'d Lined<'t>, under: Under, index: usize) -> Option<Node<'d, 't>>
-    ensures { option_map node_of result ≡ child_at (Nth index) (children (under_of (lines_in document.now) under)) }
+    ensures { option_map labelled_of result ≡ labelled_at (Nth index) (children (under_of (lines_in document.now) under)) }
 {
     let at = find_item(
         &document.lines,
@@ -50,7 +51,7 @@ fn rest_entry<'d, 't>(
     rest: Rest<'d, 't>,
     key: &str,
 ) -> Option<Node<'d, 't>>
-    ensures { option_map node_of result ≡ child_at (To key.now) (rest_of (lines_in document.now) rest.entry) }
+    ensures { option_map labelled_of result ≡ labelled_at (To key.now) (rest_of (lines_in document.now) rest.entry) }
 {
     match rest {
         Rest::Lines(under) => line_entry(document, under, key),
@@ -69,7 +70,7 @@ fn rest_item<'d, 't>(
     rest: Rest<'d, 't>,
     index: usize,
 ) -> Option<Node<'d, 't>>
-    ensures { option_map node_of result ≡ child_at (Nth index) (rest_of (lines_in document.now) rest.entry) }
+    ensures { option_map labelled_of result ≡ labelled_at (Nth index) (rest_of (lines_in document.now) rest.entry) }
 {
     match rest {
         Rest::Lines(under) => line_item(document, under, index),
@@ -84,21 +85,24 @@ fn rest_item<'d, 't>(
 impl<'d, 't> Node<'d, 't> {
     /// The value of the entry of a key.
     pub fn entry(&self, key: &str) -> Option<Node<'d, 't>>
-        ensures { option_map node_of result ≡ child_at (To key.now) (children_of (node_of self.now)) }
+        ensures node { option_map node_of result ≡ child_at (To key.now) (children_of (node_of self.now)) }
+        ensures labelled { option_map labelled_of result ≡ labelled_at (To key.now) (children_of (node_of self.now)) }
     {
         rest_entry(self.document, self.rest(), key)
     }
 
     /// The item of an index, counted from 0.
     pub fn item(&self, index: usize) -> Option<Node<'d, 't>>
-        ensures { option_map node_of result ≡ child_at (Nth index) (children_of (node_of self.now)) }
+        ensures node { option_map node_of result ≡ child_at (Nth index) (children_of (node_of self.now)) }
+        ensures labelled { option_map labelled_of result ≡ labelled_at (Nth index) (children_of (node_of self.now)) }
     {
         rest_item(self.document, self.rest(), index)
     }
 
     /// The node to which a step leads.
     pub fn child(&self, step: &Step) -> Option<Node<'d, 't>>
-        ensures { option_map node_of result ≡ child_at (step_of step.now) (children_of (node_of self.now)) }
+        ensures node { option_map node_of result ≡ child_at (step_of step.now) (children_of (node_of self.now)) }
+        ensures labelled { option_map labelled_of result ≡ labelled_at (step_of step.now) (children_of (node_of self.now)) }
     {
         match step {
             Step::Key(key) => self.entry(key.as_str()),
@@ -108,7 +112,8 @@ impl<'d, 't> Node<'d, 't> {
 
     /// The node to which steps lead.
     pub(crate) fn walk(&self, steps: &[Step]) -> Option<Node<'d, 't>>
-        ensures { option_map node_of result ≡ node_at (map step_of steps.now) (node_of self.now) }
+        ensures node { option_map node_of result ≡ node_at (map step_of steps.now) (node_of self.now) }
+        ensures labelled { option_map labelled_of result ≡ labelled_from (map step_of steps.now) (labelled_of self.now) }
     {
         let mut node = *self;
         'steps: for step in steps {

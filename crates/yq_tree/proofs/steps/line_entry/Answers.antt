@@ -1,7 +1,7 @@
 use Rattle.std.proofs.Common.{◌≡◌, ◌∙◌, Some, None, length, sym, ap, subst, arith}
 use Rattle.yq_scalar.specs.Paths.{To}
 use Rattle.yq_tree.specs.Ends.{part}
-use Rattle.yq_tree.specs.Nodes.{lines_in}
+use Rattle.yq_tree.specs.Nodes.{label_of, lines_in, node_of}
 use Rattle.yq_tree.specs.Places.{find_row}
 use Rattle.yq_tree.specs.Spots.{spot, seen}
 use Rattle.yq_tree.specs.View.{views}
@@ -27,4 +27,4 @@ returns c =
     let found = subst (λ x. spot u.first (find_row s (part x u.first u.floor)) ≡ seen x (Some c.in_ok-at.at)) same (rw c.deref.ensures.value at c.in_ok-at.ensures.found) in
     let within = rw c.deref.ensures.value at c.in_ok-at.ensures.within in
     let line = has_line ls c.in_ok-at.at (omega (arith, within, views-length c.document.inside.lines.items, ap length same)) in
-    ap Some (c.of_line.ensures.node line.0 line.1) ∙ child_found s ls u.first u.floor c.in_ok-at.at line.0 line.1 found
+    child_found s ls u.first u.floor c.in_ok-at.at line.0 (label_of c.of_line.result) (node_of c.of_line.result) line.1 found (c.of_line.ensures.label line.0 line.1) (c.of_line.ensures.node line.0 line.1)

@@ -12,7 +12,7 @@ returns-in_default-walk c =
     let steps : List Step = map step_of c.args.steps.now in
     let u : IsUtf8 t = subst IsUtf8 c.whole-whole.ensures.text c.whole-whole.utf8 in
     let h = is_there t steps c.in-Some.span.start c.in-Some.span.end u c.whole-whole.ensures.cut c.whole-whole.ensures.documents c.in-Some.ensures in
-    absurd (never_lost _ _ c.in_default-walk.ensures (there_root t steps c.in-Some.span.start c.in-Some.span.end h (node_of c.root-root.result) c.root-root.ensures.node))
+    absurd (never_lost _ _ c.in_default-walk.ensures.node (there_root t steps c.in-Some.span.start c.in-Some.span.end h (node_of c.root-root.result) c.root-root.ensures.node))
 
 pub returns-in_default-kind : goal.returns-in_default-kind
 returns-in_default-kind c =
@@ -20,7 +20,7 @@ returns-in_default-kind c =
     let steps : List Step = map step_of c.args.steps.now in
     let u : IsUtf8 t = subst IsUtf8 c.whole-whole.ensures.text c.whole-whole.utf8 in
     let h = is_there t steps c.in-Some.span.start c.in-Some.span.end u c.whole-whole.ensures.cut c.whole-whole.ensures.documents c.in-Some.ensures in
-    let node = c.in-Some-walk.ensures ∙ there_root t steps c.in-Some.span.start c.in-Some.span.end h (node_of c.root-root.result) c.root-root.ensures.node in
+    let node = c.in-Some-walk.ensures.node ∙ there_root t steps c.in-Some.span.start c.in-Some.span.end h (node_of c.root-root.result) c.root-root.ensures.node in
     absurd (c.in_default-kind.not-Scalar _ (c.kind.ensures ∙ scalar_kind (node_of c.in-Some-walk.node) _ _ _ node))
 
 pub cut_at-requires-clause-start : goal.cut_at-requires-clause-start
@@ -48,7 +48,7 @@ returns c =
     let text = c.whole-whole.ensures.text in
     let u : IsUtf8 t = subst IsUtf8 text c.whole-whole.utf8 in
     let h = is_there t steps start end u c.whole-whole.ensures.cut c.whole-whole.ensures.documents c.in-Some.ensures in
-    let node = c.in-Some-walk.ensures ∙ there_root t steps start end h (node_of c.root-root.result) c.root-root.ensures.node in
+    let node = c.in-Some-walk.ensures.node ∙ there_root t steps start end h (node_of c.root-root.result) c.root-root.ensures.node in
     let same = kind_is (node_of c.in-Some-walk.node) _ _ c.in-Scalar.kind _ node c.in-Scalar.ensures in
     there_told t steps start end h c.in-Scalar.kind c.text-text.result.now c.cut_at.result.0.now c.cut_at.result.1.now c.cut_at.result.2.now same.0 (c.text-text.ensures ∙ same.1)
     (c.cut_at.ensures.before ∙ ap (take start) text) (c.cut_at.ensures.middle ∙ ap (λ (x : List ℕ). take (end - start) (drop start x)) text) (c.cut_at.ensures.behind ∙ ap (λ (x : List ℕ). drop (end - start) (drop start x)) text)
