@@ -1,6 +1,5 @@
 pub mod Content
 pub mod FormsAgain
-pub mod KeySteps
 pub mod Keys
 pub mod Leading
 pub mod Lexing
@@ -8,6 +7,7 @@ pub mod Lists
 pub mod LiteralAgain
 pub mod LiteralTakes
 pub mod Literals
+pub mod MakingLaws
 pub mod Outcomes
 pub mod PathAgain
 pub mod PathTakes

@@ -1,11 +1,11 @@
 -- Conditions, stages and pipes of the grammar are read again.
 use Rattle.std.proofs.Common.{◌≡◌, Bool, true, false, List, [], ◌∷◌, Some, None, refl, sym, subst, inl, inr}
 use Rattle.std.specs.Prelude.{codes}
-use Rattle.yq_expr.specs.Program.{Step, key, index, each, Operand, value_at, document_index, compares, has, Stage, path, select}
+use Rattle.yq_expr.specs.Program.{is_simple, Step, key, index, each, Operand, value_at, document_index, compares, has, Stage, path, select}
 use Rattle.yq_expr.specs.Tokens.{Token, symbol}
 use Rattle.yq_expr.specs.Lexing.{after}
 use Rattle.yq_expr.specs.Grammar.{Form, Mark, IsSimple, IsOperand, comparison, IsCondition, InParentheses, IsStage, IsPipe, IsLeft}
-use Rattle.yq_expr.specs.Parse.{Parse, parenthesized_at, is_simple, operand_at, comparison_at, condition_at, stage_at, pipe_at, left_at, begins_left}
+use Rattle.yq_expr.specs.Parse.{Parse, parenthesized_at, operand_at, comparison_at, condition_at, stage_at, pipe_at, left_at, begins_left}
 use Rattle.yq_expr.proofs.Turns.{stage_lessens}
 use Rattle.yq_expr.proofs.FormsAgain.{after_again, Again, parted_again, Anything, Ends}
 use Rattle.yq_expr.proofs.PathAgain.{BeginsPath, path_begins, path_again}

@@ -2,11 +2,11 @@
 use Rattle.std.proofs.Common.{◌≡◌, Bool, true, List, [], ◌∷◌, length, Some, refl, ap, subst, inl, inr, arith}
 use Rattle.std.specs.Prelude.{codes}
 use Rattle.yq_scalar.proofs.Bools.{bind_some, guard_some}
-use Rattle.yq_expr.specs.Program.{Step, key, index, each, Operand, value_at, document_index, compares, has, path, select}
+use Rattle.yq_expr.specs.Program.{is_simple, Step, key, index, each, Operand, value_at, document_index, compares, has, path, select}
 use Rattle.yq_expr.specs.Tokens.{Token, string, symbol}
 use Rattle.yq_expr.specs.Lexing.{after, taken, as_string}
 use Rattle.yq_expr.specs.Grammar.{Form, Mark, IsSimple, IsOperand, comparison, IsCondition, InParentheses, IsStage, IsPipe, IsLeft}
-use Rattle.yq_expr.specs.Parse.{Parse, parenthesized_at, path_at, scalar_at, is_simple, operand_at, comparison_at, condition_at, stage_at, pipe_at, left_at}
+use Rattle.yq_expr.specs.Parse.{Parse, parenthesized_at, path_at, scalar_at, operand_at, comparison_at, condition_at, stage_at, pipe_at, left_at}
 use Rattle.yq_expr.proofs.Readers.{either_cases, after_takes, string_takes, Takes, Shortens, same_form, parted_takes, closed_takes, behind_shortens, parted_shortens, between_shortens}
 use Rattle.yq_expr.proofs.PathTakes.{path_takes, path_shortens}
 use Rattle.yq_expr.proofs.LiteralTakes.{scalar_takes, scalar_shortens}

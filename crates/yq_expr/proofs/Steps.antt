@@ -1,13 +1,17 @@
--- The steps to keys, one after the other.
-use Rattle.std.proofs.Common.{◌≡◌, ◌<◌, ℕ, ◌+◌, List, [], ◌∷◌, ◌++◌, length, map, take, get_or, ap, ◌∙◌, add-one}
-use Rattle.std.proofs.Math.Seq.{take-suc}
-use Rattle.std.proofs.lemmas.List.{map_push}
-use Rattle.yq_scalar.specs.Paths.{To}
-use Rattle.yq_expr.specs.Meaning.{to_keys}
+-- Steps to keys and items.
+use Rattle.std.proofs.Common.{◌≡◌, ◌≢◌, cond, List, [], ◌∷◌, length, map, Some, None, refl, ap, arith}
+use Rattle.std.specs.List.{list_all}
+use Rattle.yq_expr.specs.Program.{is_single, simple_steps}
+use Rattle.yq_expr.specs.View.{step_of}
+use Rattle.yq_expr.specs.declared.program.Step as declared
+use Rattle.yq_expr.proofs.Lists.{list_all_map}
 
--- the steps to one key more
-pub next_step : {X : Type 0} (f : X → List ℕ) (xs : List X) (i : ℕ) (d : X) → i < length xs → to_keys (map f (take (i + 1) xs)) ≡ to_keys (map f (take i xs)) ++ To (f (get_or xs i d)) ∷ []
-next_step f xs i d lt =
-    rw add-one (ap (λ ys. to_keys (map f ys)) (take-suc xs i d lt)
-    ∙ (ap to_keys (map_push f (take i xs) (get_or xs i d))
-    ∙ map_push To (map f (take i xs)) (f (get_or xs i d))))
+-- a path without steps
+pub no_steps : (xs : List declared.Step) → length xs ≡ 0 → simple_steps (map step_of xs) ≡ None
+no_steps [] h = refl
+no_steps (x ∷ xs) h = absurd (omega arith)
+
+-- a path of one step or more
+pub some_steps : (xs : List declared.Step) → length xs ≢ 0 → simple_steps (map step_of xs) ≡ cond (list_all (λ s. is_single (step_of s)) xs) (Some (map step_of xs)) None
+some_steps [] h = absurd (h refl)
+some_steps (x ∷ xs) h = ap (λ b. cond b (Some (map step_of (x ∷ xs))) None) (list_all_map is_single step_of (x ∷ xs))

@@ -1,4 +1,7 @@
 -- What comes of a program.
+use Rattle.std.specs.Prelude.{◌≡◌, Result, Ok, Err}
+use Rattle.yq_expr.specs.declared.plan_error.PlanError.{PlanError}
+use Rattle.yq_expr.specs.declared.plan_error.PlanError.TheVariants as error
 use Rattle.yq_expr.specs.declared.refusal.Refusal.{Refusal}
 
 -- something, a refusal, or neither, where that is not carried out yet: this third case goes when all is (own)
@@ -12,3 +15,10 @@ abbrev pub and_then : {A B : Type 0} → (A → Judgement B) → Judgement A →
 and_then f (gives x) = f x
 and_then f (refuses why) = refuses why
 and_then f unbuilt = unbuilt
+
+-- what planning answers, as it is seen: what comes of a program, or why nothing does; want of memory says nothing (own)
+abbrev pub Plans : {X Y : Type 0} → (X → Y) → Result X PlanError → Judgement Y → Type 0
+Plans view (Ok x) outcome = outcome ≡ gives (view x)
+Plans view (Err (error.Refused why)) outcome = outcome ≡ refuses why
+Plans view (Err error.NotInProfile) outcome = outcome ≡ unbuilt
+Plans view (Err error.Memory) outcome = Unit {0}

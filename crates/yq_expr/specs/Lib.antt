@@ -10,6 +10,7 @@ pub use Rattle.yq_inline.specs.Values
 pub mod View
 pub use Rattle.yq_scalar.specs.Tree
 pub mod Matching
+pub mod Making
 pub mod Operations
 pub mod Judgement
 pub mod Meaning

@@ -1,45 +1,85 @@
--- Where key steps lead in a document.
-use Rattle.std.specs.Prelude.{ℕ, List, [], ◌∷◌, Option, Some, None}
+-- Where steps to keys and items lead in a document.
+use Rattle.std.specs.Prelude.{ℕ, suc, ◌-◌, nat_lt, ℤ, pos, negsuc, List, [], ◌∷◌, Option, Some, None, option_map, if◌then◌else◌}
 use Rattle.yq_scalar.specs.declared.kind.Kind.{Kind}
 use Rattle.yq_scalar.specs.declared.kind.Kind.TheVariants as kinds
-use Rattle.yq_scalar.specs.Tree.{Node, alias, scalar, list, map}
-use Rattle.yq_scalar.specs.Paths.{To, child_at}
+use Rattle.yq_scalar.specs.Paths as paths
+use Rattle.yq_scalar.specs.Paths.{To, Nth, child_at}
+use Rattle.yq_scalar.specs.Tree.{Node, alias, scalar, list, map, Children, none, child}
 use Rattle.yq_expr.specs.declared.refusal.Refusal.{Refusal}
-use Rattle.yq_expr.specs.declared.refusal.Refusal.TheVariants.{NotAMap, ThroughAlias}
+use Rattle.yq_expr.specs.declared.refusal.Refusal.TheVariants.{NotAMap, NotASequence, IndexOutOfRange, ThroughAlias}
+use Rattle.yq_expr.specs.Judgement.{Judgement, gives, refuses, unbuilt, and_then}
+use Rattle.yq_expr.specs.Program.{Step, key, index, each}
 
--- where steps lead: to a node, to a location that is missing, or to a refusal (own)
+-- where steps lead: along steps of the tree to a node; or along such steps to a node from which the other steps are missing (own)
 pub data Location : Type 0 where
-  there : Node → Location
-  missing : Location
-  refused : Refusal → Location
+  there : List paths.Step → Location
+  missing : List paths.Step → List Step → Location
 
--- the node that was found, or a missing location (own)
-abbrev pub found_or_missing : Option Node → Location
-found_or_missing (Some n) = there n
-found_or_missing None = missing
+-- the item or entry to which a step of the tree leads, with that step, or none (own)
+abbrev pub Found : Type 0
+Found = Option (paths.Step × Node)
 
--- where a step leads on from a location: a missing one stays missing (own)
-abbrev pub on_from : (Node → Location) → Location → Location
-on_from step (there n) = step n
-on_from step missing = missing
-on_from step (refused why) = refused why
+-- what a step of the tree leads to (own)
+abbrev pub find : paths.Step → Children → Found
+find s cs = option_map (λ n. (s, n)) (child_at s cs)
 
--- where a key step leads from a scalar: nothing is there in a null, and any other scalar refuses (own)
-abbrev pub in_scalar : Kind → Location
-in_scalar kinds.Null = missing
-in_scalar kinds.Bool = refused NotAMap
-in_scalar kinds.Int = refused NotAMap
-in_scalar kinds.Float = refused NotAMap
-in_scalar kinds.Text = refused NotAMap
+-- where a step leads from a scalar: to none in a null; any other scalar refuses (own)
+abbrev pub in_scalar : Refusal → Kind → Judgement Found
+in_scalar why kinds.Null = gives None
+in_scalar why kinds.Bool = refuses why
+in_scalar why kinds.Int = refuses why
+in_scalar why kinds.Float = refuses why
+in_scalar why kinds.Text = refuses why
 
 -- where a key step leads from a node: in a mapping to the entry of that key (own)
-abbrev pub key_step : List ℕ → Node → Location
-key_step k (alias name) = refused ThroughAlias
-key_step k (scalar anchor kind text) = in_scalar kind
-key_step k (list anchor cs) = refused NotAMap
-key_step k (map anchor cs) = found_or_missing (child_at (To k) cs)
+abbrev pub key_step : List ℕ → Node → Judgement Found
+key_step k (alias name) = refuses ThroughAlias
+key_step k (scalar anchor kind text) = in_scalar NotAMap kind
+key_step k (list anchor cs) = refuses NotAMap
+key_step k (map anchor cs) = gives (find (To k) cs)
 
--- where key steps lead from a node, one after the other (own)
-abbrev pub keys_lead : List (List ℕ) → Node → Location
-keys_lead [] n = there n
-keys_lead (k ∷ ks) n = on_from (keys_lead ks) (key_step k n)
+-- how many items there are (own)
+abbrev pub count : Children → ℕ
+count none = 0
+count (child label n cs) = suc (count cs)
+
+-- the number from 0 of the item that is so many before the last one, of so many items; before the first one there is none (own)
+abbrev pub before_last : ℕ → ℕ → Judgement ℕ
+before_last n all = if nat_lt n all then gives (all - suc n) else refuses IndexOutOfRange
+
+-- the number from 0 of the item of an index: from 0 on it counts from the first item, from -1 down from the last one (own)
+abbrev pub item_number : ℤ → Children → Judgement ℕ
+item_number (pos n) cs = gives n
+item_number (negsuc n) cs = before_last n (count cs)
+
+-- the item of an index, if there is one (own)
+abbrev pub item : ℤ → Children → Judgement Found
+item i cs = and_then (λ n. gives (find (Nth n) cs)) (item_number i cs)
+
+-- where an index step leads from a node: in a sequence to the item of that index (own)
+abbrev pub index_step : ℤ → Node → Judgement Found
+index_step i (alias name) = refuses ThroughAlias
+index_step i (scalar anchor kind text) = in_scalar NotASequence kind
+index_step i (list anchor cs) = item i cs
+index_step i (map anchor cs) = refuses NotASequence
+
+-- where a step leads from a node; `[]` isn't carried out yet (own)
+abbrev pub step_leads : Step → Node → Judgement Found
+step_leads (key k) n = key_step k n
+step_leads (index i) n = index_step i n
+step_leads each n = unbuilt
+
+-- a location behind a step of the tree (own)
+abbrev pub behind : paths.Step → Location → Location
+behind s (there path) = there (s ∷ path)
+behind s (missing path steps) = missing (s ∷ path) steps
+
+-- where steps lead, the first of which leads to what was found: the others lead on from there, or all of them are missing (own)
+abbrev pub lead_on : (Node → Judgement Location) → List Step → Found → Judgement Location
+lead_on others steps None = gives (missing [] steps)
+lead_on others steps (Some x) = and_then (λ l. gives (behind x.0 l)) (others x.1)
+
+-- where steps lead from a node, one after the other (own)
+abbrev pub steps_lead : List Step → Node → Judgement Location
+steps_lead [] n = gives (there [])
+steps_lead (s ∷ ss) n = and_then (lead_on (steps_lead ss) (s ∷ ss)) (step_leads s n)

@@ -1,6 +1,6 @@
 -- Reading (a reader may skip this: the grammar is what is believed, and found and only tie the two).
 use Rattle.std.specs.Prelude.{ℕ, zero, suc, ◌+◌, nat_lt, if◌then◌else◌, Bool, true, false, ◌||◌, ◌&&◌, not, List, [], ◌∷◌, length, map, Option, Some, None, is_some, codes}
-use Rattle.std.specs.List.{list_any, list_all}
+use Rattle.std.specs.List.{list_any}
 use Rattle.std.specs.Str.{bytes_eq}
 use Rattle.yq_scalar.specs.Answers.{◌>>=◌}
 use Rattle.yq_scalar.specs.Scalar.{ScalarText, string_of, plain_of}
@@ -11,7 +11,7 @@ use Rattle.yq_expr.specs.declared.program.Operator.{Operator}
 use Rattle.yq_expr.specs.declared.program.Operator.TheVariants as operator
 use Rattle.yq_expr.specs.declared.program.CommentPlace.{CommentPlace}
 use Rattle.yq_expr.specs.declared.program.CommentPlace.TheVariants as place
-use Rattle.yq_expr.specs.Program.{Step, key, index, each, Operand, value_at, document_index, Condition, compares, has, Stage, path, select, Term, literal, found, Update, assign, delete, comment, Program, read, updates}
+use Rattle.yq_expr.specs.Program.{is_simple, Step, key, index, each, Operand, value_at, document_index, Condition, compares, has, Stage, path, select, Term, literal, found, Update, assign, delete, comment, Program, read, updates}
 use Rattle.yq_expr.specs.Tokens.{Token, string, number, step, symbol, foreign, unread}
 use Rattle.yq_expr.specs.Outcome.{Outcome, parsed, refused, has_pattern, counted, is_opening, is_closing}
 use Rattle.yq_expr.specs.Grammar.{literal_depth}
@@ -134,16 +134,6 @@ literal_at (suc depth) ts =
     either (after (codes "[") ts) (λ r. listed_at (codes "]") (literal_at depth) r >>= λ x. Some (tree.list None (items x.0), x.1))
     (either (after (codes "{") ts) (λ r. listed_at (codes "}") (field_at (literal_at depth)) r >>= mapping_of)
     (scalar_node_at ts))
-
--- whether a step leads to one item or value at most (own)
-abbrev pub is_single : Step → Bool
-is_single (key k) = true
-is_single (index n) = true
-is_single each = false
-
--- whether a path has no `[]` (own)
-abbrev pub is_simple : List Step → Bool
-is_simple steps = list_all is_single steps
 
 -- steps as what is compared, if they are simple (own)
 abbrev pub simple_of : List Step × List Token → Option (Operand × List Token)

@@ -1,5 +1,6 @@
 -- Programs: what an expression says, apart from how it is written.
-use Rattle.std.specs.Prelude.{ℕ, ℤ, ◌≤◌, Bool, true, false, List, [], ◌∷◌, length, Option, Some, None, option_map, ⊤}
+use Rattle.std.specs.Prelude.{ℕ, ℤ, ◌≤◌, if◌then◌else◌, Bool, true, false, List, [], ◌∷◌, length, Option, Some, None, ⊤}
+use Rattle.std.specs.List.{list_all}
 use Rattle.yq_scalar.specs.declared.kind.Kind.{Kind}
 use Rattle.yq_scalar.specs.Keys.{HasUniqueKeys, depth}
 use Rattle.yq_scalar.specs.Tree.{Node, alias, scalar, list, map}
@@ -54,12 +55,15 @@ abbrev pub update_count : Program → ℕ
 update_count (read stages) = 0
 update_count (updates us) = length us
 
--- the keys of steps that all lead to keys (own)
-abbrev pub keys_of : List Step → Option (List (List ℕ))
-keys_of [] = Some []
-keys_of (key k ∷ steps) = option_map (λ ks. k ∷ ks) (keys_of steps)
-keys_of (index n ∷ steps) = None
-keys_of (each ∷ steps) = None
+-- whether a step leads to one item or value at most (own)
+abbrev pub is_single : Step → Bool
+is_single (key k) = true
+is_single (index n) = true
+is_single each = false
+
+-- whether a path has no `[]` (own)
+abbrev pub is_simple : List Step → Bool
+is_simple steps = list_all is_single steps
 
 -- the kind and text of a scalar without an anchor (own)
 abbrev pub plain_scalar : Node → Option (Kind × List ℕ)
@@ -76,13 +80,17 @@ scalar_of (literal n ∷ []) = plain_scalar n
 scalar_of (literal n ∷ (t ∷ ts)) = None
 scalar_of (found stages ∷ ts) = None
 
--- the keys of a pipe that is one path of one or more key steps (own)
-abbrev pub key_path : List Stage → Option (List (List ℕ))
-key_path [] = None
-key_path (select c ∷ stages) = None
-key_path (path [] ∷ stages) = None
-key_path (path (s ∷ steps) ∷ []) = keys_of (s ∷ steps)
-key_path (path (s ∷ steps) ∷ (stage ∷ stages)) = None
+-- the steps of a path, if it has one or more and each is to a key or an item (own)
+abbrev pub simple_steps : List Step → Option (List Step)
+simple_steps [] = None
+simple_steps (s ∷ steps) = if is_simple (s ∷ steps) then Some (s ∷ steps) else None
+
+-- the steps of a pipe that is one such path (own)
+abbrev pub simple_path : List Stage → Option (List Step)
+simple_path [] = None
+simple_path (select c ∷ stages) = None
+simple_path (path steps ∷ []) = simple_steps steps
+simple_path (path steps ∷ (stage ∷ stages)) = None
 
 -- both, if both are there (own)
 abbrev pub both : {A B : Type 0} → Option A → Option B → Option (A × B)
@@ -90,16 +98,16 @@ both (Some a) (Some b) = Some (a, b)
 both (Some a) None = None
 both None b = None
 
--- the keys and the scalar of an update that sets one key path to one scalar (own)
-abbrev pub assigned : Update → Option (List (List ℕ) × (Kind × List ℕ))
-assigned (assign left operator.Set right) = both (key_path left) (scalar_of right)
+-- the steps and the scalar of an update that sets what one such path leads to to one scalar (own)
+abbrev pub assigned : Update → Option (List Step × (Kind × List ℕ))
+assigned (assign left operator.Set right) = both (simple_path left) (scalar_of right)
 assigned (assign left operator.Modify right) = None
 assigned (assign left operator.Add right) = None
 assigned (delete stages) = None
 assigned (comment left place text) = None
 
--- the keys and the scalar of a program that is one such update (own)
-abbrev pub assignment_of : Program → Option (List (List ℕ) × (Kind × List ℕ))
+-- the steps and the scalar of a program that is one such update (own)
+abbrev pub assignment_of : Program → Option (List Step × (Kind × List ℕ))
 assignment_of (read stages) = None
 assignment_of (updates []) = None
 assignment_of (updates (u ∷ [])) = assigned u

@@ -4,10 +4,12 @@
 mod error;
 mod front;
 mod laws;
+mod making;
 mod matching;
 mod op;
 mod parse;
 mod pattern;
+mod plan_error;
 mod planning;
 mod program;
 mod refusal;
@@ -20,7 +22,8 @@ pub use error::ParseError;
 pub use laws::one_program;
 pub use op::Op;
 pub use parse::parse_expr;
-pub use planning::{PlanError, plan};
+pub use plan_error::PlanError;
+pub use planning::plan;
 pub use program::{
     Assignment, Comment, CommentPlace, Comparison, Condition, Operand, Operator, Program, Stage,
     Step, Term, Update,

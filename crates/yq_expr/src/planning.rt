@@ -1,58 +1,26 @@
 //! Planning: the operations that carry out an update on documents.
-ghost use Rattle.std.specs.Prelude.{◌≡◌, ◌<◌, List, ℕ, map, IfOk, IfErr, Some, None, Option, option_map, option_and_then, string_bytes};
-ghost use Rattle.yq_scalar.specs.declared.kind.Kind.{Kind};
+ghost use Rattle.std.specs.Prelude.{◌≡◌, ◌<◌, map, IfOk, Some, None, option_map};
+ghost use Rattle.yq_inline.specs.Entries.{step_of as tree_step};
 ghost use Rattle.yq_scalar.specs.Tree as tree;
 ghost use Rattle.yq_tree.specs.Reading.{cut_of, documents_of};
-ghost use Rattle.yq_tree.specs.Located.{steps_of};
-ghost use Rattle.yq_expr.specs.Meaning.{to_keys, meaning};
+ghost use Rattle.yq_expr.specs.Judgement.{Plans, refuses};
+ghost use Rattle.yq_expr.specs.Meaning.{meaning};
 ghost use Rattle.yq_expr.specs.Operations.{operations_of, all_after};
-ghost use Rattle.yq_expr.specs.Judgement.{refuses};
-ghost use Rattle.yq_expr.specs.Plan.{Plans};
 ghost use Rattle.yq_expr.specs.Plan as plan;
+ghost use Rattle.yq_expr.specs.Plan.{location_of};
 ghost use Rattle.yq_expr.specs.Program as spec;
 ghost use Rattle.yq_expr.specs.View.{step_of, stage_of, term_of, update_of, program_of};
 
-use crate::matching::{Location, keys_lead};
+use crate::making::make;
+use crate::matching::{Location, steps_lead};
 use crate::op::Op;
-use crate::program::{Assignment, Operator, Program, Stage, Step, Term, Update};
+use crate::plan_error::PlanError;
+use crate::program::{Assignment, Operator, Program, Stage, Step, Term, Update, is_simple};
 use crate::refusal::Refusal;
-use std::alloc::{AllocError, AllocFailed, Global};
+use std::alloc::Global;
 use yq_inline::Value;
 use yq_scalar::Scalar;
 use yq_tree::{Documents, Path};
-
-/// Why no operations are planned for an update.
-#[derive(Clone, Copy, PartialEq, Eq, Debug)]
-pub enum PlanError {
-    /// The documents refuse the update.
-    Refused(Refusal),
-    /// The update is not carried out yet, or not at such a location.
-    NotInProfile,
-    /// Memory ran out.
-    Memory,
-}
-
-impl From<AllocError> for PlanError {
-    ghost use Rattle.std.specs.Prelude.{◌≡◌};
-    ghost use Rattle.yq_expr.specs.declared.planning.PlanError.TheVariants.{Memory};
-
-    ghost from_gives = { λ _ e. e ≡ Memory };
-
-    fn from(_refused: AllocError) -> PlanError {
-        PlanError::Memory
-    }
-}
-
-impl<T: Drop> From<AllocFailed<T>> for PlanError {
-    ghost use Rattle.std.specs.Prelude.{◌≡◌};
-    ghost use Rattle.yq_expr.specs.declared.planning.PlanError.TheVariants.{Memory};
-
-    ghost from_gives = { λ _ e. e ≡ Memory };
-
-    fn from(_refused: AllocFailed<T>) -> PlanError {
-        PlanError::Memory
-    }
-}
 
 /// The one literal of a sum that is a scalar.
 fn scalar_of(terms: &[Term]) -> Option<&Scalar>
@@ -64,39 +32,31 @@ fn scalar_of(terms: &[Term]) -> Option<&Scalar>
     }
 }
 
-/// The steps of a pipe that is one path of one or more steps.
-fn path_of(stages: &[Stage]) -> Option<&[Step]>
-    ensures { option_and_then (λ steps. spec.keys_of (map step_of steps.now)) result ≡ spec.key_path (map stage_of stages.now) }
+/// The steps of a path, if it has one or more and each is to a key or an item.
+#[tactic(auto, using(crate::proofs::Steps::no_steps, crate::proofs::Steps::some_steps))]
+fn simple_steps(steps: &Vec<Step>) -> Option<&[Step]>
+    ensures { option_map (λ s. map step_of s.now) result ≡ spec.simple_steps (map step_of steps.now.items) }
 {
-    let [Stage::Path(steps)] = stages else {
-        return None;
-    };
-    if steps.is_empty() {
+    if steps.len() == 0 || !is_simple(steps) {
         return None;
     }
     Some(steps.as_slice())
 }
 
-/// The keys of steps, if all of them lead to keys.
-fn keys_of<'p>(alloc: Global, steps: &'p [Step]) -> Result<Option<Vec<&'p str>>, AllocError>
-    ensures { IfOk result (λ keys. option_map (λ v. map (λ k. k.now) v.items) keys ≡ spec.keys_of (map step_of steps.now)) }
+/// The steps of a pipe that is one such path.
+fn path_of(stages: &[Stage]) -> Option<&[Step]>
+    ensures { option_map (λ steps. map step_of steps.now) result ≡ spec.simple_path (map stage_of stages.now) }
 {
-    let mut keys = Vec::new(alloc);
-    'each: for step in steps {
-        let Step::Key(key) = step else {
-            return Ok(None);
-        };
-        keys.push(key.as_str())?;
+    match stages {
+        [Stage::Path(steps)] => simple_steps(steps),
+        _ => None,
     }
-    Ok(Some(keys))
 }
 
-/// The keys and the scalar of an update that sets one key path to one scalar.
-fn assigned<'p>(
-    alloc: Global,
-    update: &'p Update,
-) -> Result<Option<(Vec<&'p str>, &'p Scalar)>, AllocError>
-    ensures { IfOk result (λ found. option_map (λ x. (map (λ k. k.now) x.0.items, (x.1.now.kind, x.1.now.text))) found ≡ spec.assigned (update_of update.now)) }
+/// The steps and the scalar of an update that sets what one such path leads to
+/// to one scalar.
+fn assigned(update: &Update) -> Option<(&[Step], &Scalar)>
+    ensures { option_map (λ x. (map step_of x.0.now, (x.1.now.kind, x.1.now.text))) result ≡ spec.assigned (update_of update.now) }
 {
     let Update::Assign(
         Assignment {
@@ -106,67 +66,62 @@ fn assigned<'p>(
         },
     ) = update
     else {
-        return Ok(None);
+        return None;
     };
-    let Some(scalar) = scalar_of(right) else {
-        return Ok(None);
-    };
-    let Some(steps) = path_of(left) else {
-        return Ok(None);
-    };
-    let Some(keys) = keys_of(alloc, steps)? else {
-        return Ok(None);
-    };
-    Ok(Some((keys, scalar)))
+    let steps = path_of(left)?;
+    let scalar = scalar_of(right)?;
+    Some((steps, scalar))
 }
 
-/// The path to the entry of these keys, one after the other, in the first document.
-fn path_to(alloc: Global, keys: &[&str]) -> Result<Path, AllocError>
-    ensures { IfOk result (λ p. (p.doc ≡ 0) × (steps_of p ≡ to_keys (map (λ k. k.now) keys.now))) }
-{
-    let mut steps = Vec::with_capacity(alloc, keys.len())?;
-    'each: for key in keys {
-        steps.push(yq_tree::Step::Key(String::from_str(alloc, key)?))?;
-    }
-    Ok(Path { doc: 0, steps })
-}
-
-/// The operation that puts a scalar in the place of one that is written.
+/// The operation that puts a scalar in the place of one that is written in the
+/// first document.
 fn replace_written(
     alloc: Global,
-    keys: &[&str],
+    steps: Vec<yq_tree::Step>,
     scalar: &Scalar,
     documents: &Documents<'_>,
 ) -> Result<Vec<Op>, PlanError>
-    ensures { Plans (λ v. operations_of v.items) result (plan.replace_written (to_keys (map (λ k. k.now) keys.now)) (tree.scalar None scalar.now.kind scalar.now.text) (cut_of documents.now)) }
+    ensures { Plans (λ v. operations_of v.items) result (plan.replace_written (map tree_step steps.items) (tree.scalar None scalar.now.kind scalar.now.text) (cut_of documents.now)) }
 {
-    let path = path_to(alloc, keys)?;
-    if documents.written(&path.steps).is_none() {
+    if documents.written(&steps).is_none() {
         return Err(PlanError::NotInProfile);
     }
+    let path = Path { doc: 0, steps };
     let value = Value::Scalar(scalar.copy(alloc)?);
     let mut ops = Vec::with_capacity(alloc, 1)?;
     ops.push(Op::Replace(path, value))?;
     Ok(ops)
 }
 
-/// The operations that set a scalar where keys lead.
-fn set_scalar(
+/// The operations that set a scalar at a location.
+fn set_at(
     alloc: Global,
-    keys: &[&str],
+    location: Location<'_>,
     scalar: &Scalar,
     documents: &Documents<'_>,
 ) -> Result<Vec<Op>, PlanError>
-    ensures { Plans (λ v. operations_of v.items) result (plan.plan_in (map (λ k. k.now) keys.now) (tree.scalar None scalar.now.kind scalar.now.text) (cut_of documents.now) (documents_of documents.now)) }
+    ensures { Plans (λ v. operations_of v.items) result (plan.plan_at (tree.scalar None scalar.now.kind scalar.now.text) (cut_of documents.now) (location_of location.entry)) }
+{
+    match location {
+        Location::There(steps) => replace_written(alloc, steps, scalar, documents),
+        Location::Missing(path, steps) => make(alloc, &path, steps),
+    }
+}
+
+/// The operations that set a scalar where steps lead.
+fn set_scalar(
+    alloc: Global,
+    steps: &[Step],
+    scalar: &Scalar,
+    documents: &Documents<'_>,
+) -> Result<Vec<Op>, PlanError>
+    ensures { Plans (λ v. operations_of v.items) result (plan.plan_in (map step_of steps.now) (tree.scalar None scalar.now.kind scalar.now.text) (cut_of documents.now) (documents_of documents.now)) }
 {
     if documents.count() != 1 {
         return Err(PlanError::NotInProfile);
     }
-    match keys_lead(documents.root(0), keys) {
-        Location::There(_) => replace_written(alloc, keys, scalar, documents),
-        Location::Missing => Err(PlanError::NotInProfile),
-        Location::Refused(why) => Err(PlanError::Refused(why)),
-    }
+    let location = steps_lead(alloc, documents.root(0), steps)?;
+    set_at(alloc, location, scalar, documents)
 }
 
 /// The operations that carry out an update.
@@ -178,10 +133,10 @@ fn plan_update(
 ) -> Result<Vec<Op>, PlanError>
     ensures { Plans (λ v. operations_of v.items) result (plan.plan_of (update_of update.now) (cut_of documents.now)) }
 {
-    let Some((keys, scalar)) = assigned(alloc, update)? else {
+    let Some((steps, scalar)) = assigned(update) else {
         return Err(PlanError::NotInProfile);
     };
-    set_scalar(alloc, &keys, scalar, documents)
+    set_scalar(alloc, steps, scalar, documents)
 }
 
 /// The operations that carry out update `nth` of a program.

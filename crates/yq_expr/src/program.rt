@@ -1,7 +1,8 @@
 //! Programs: what an expression says, as a syntax tree.
+ghost use Rattle.std.specs.List.{list_all};
 ghost use Rattle.std.specs.Prelude.{◌≡◌};
 ghost use Rattle.yq_expr.specs.Program as spec;
-ghost use Rattle.yq_expr.specs.View.{program_of};
+ghost use Rattle.yq_expr.specs.View.{program_of, step_of};
 
 use yq_inline::Value;
 use yq_scalar::Scalar;
@@ -113,6 +114,19 @@ pub enum CommentPlace {
     Line,
     /// On lines of its own before the entry.
     Head,
+}
+
+fn is_single(step: &Step) -> bool
+    ensures { result ≡ spec.is_single (step_of step.now) }
+{
+    !matches!(step, Step::Each)
+}
+
+/// Whether each step leads to one item or value at most.
+pub(crate) fn is_simple(steps: &Vec<Step>) -> bool
+    ensures { result ≡ list_all (λ s. spec.is_single (step_of s)) steps.now.items }
+{
+    steps.iter().all(|step| is_single(step))
 }
 
 impl Program {

@@ -1,19 +1,22 @@
 -- What an accepted edit rests on.
-use Rattle.std.proofs.Common.{◌≡◌, ℕ, cond, List, [], ◌∷◌, Option, Some, None, is_some, refl, sym, ap, ◌∙◌}
+use Rattle.std.proofs.Common.{◌≡◌, ℕ, ◌+◌, Bool, true, false, cond, ltb, List, [], ◌∷◌, length, Option, Some, None, is_some, refl, sym, ap, ◌∙◌}
+use Rattle.std.specs.List.{list_any}
 use Rattle.yq_scalar.specs.declared.kind.Kind.{Kind}
+use Rattle.yq_scalar.specs.Paths as paths
 use Rattle.yq_scalar.specs.Scalar.{ScalarText}
-use Rattle.yq_scalar.specs.Tree.{scalar}
+use Rattle.yq_scalar.specs.Tree.{Node, scalar}
 use Rattle.yq_rows.specs.Rows.{Cut}
-use Rattle.yq_tree.specs.Documents.{Document}
+use Rattle.yq_tree.specs.Documents.{Document, depth_limit}
 use Rattle.yq_tree.specs.Reading.{read_at, documents}
 use Rattle.yq_tree.specs.Written.{Written, written_at}
 use Rattle.yq_expr.specs.Judgement.{Judgement}
 use Rattle.yq_expr.specs.Judgement as judgement
-use Rattle.yq_expr.specs.Matching.{Location, there, missing, refused, keys_lead}
-use Rattle.yq_expr.specs.Meaning.{to_keys}
+use Rattle.yq_expr.specs.Making.{is_index, is_too_long, make}
+use Rattle.yq_expr.specs.Matching.{Location, there, missing, steps_lead}
 use Rattle.yq_expr.specs.Operations.{Operation, replace}
 use Rattle.yq_expr.specs.Plan.{plan_at, plan_in, plan_scalar, plan_of}
-use Rattle.yq_expr.specs.Program.{Program, read, updates, Update, assigned}
+use Rattle.yq_expr.specs.Program.{Step, Program, read, updates, Update, assigned}
+use Rattle.yq_expr.specs.declared.refusal.Refusal.TheVariants.{IndexOutOfRange, TooDeep, KeyTooLong}
 use Rattle.yq_splice.specs.Edit.{gives, replace_scalar, replace_at, carry_out, edit_rows, edit_read, edit_of}
 use Rattle.yq_splice.specs.Patch.{Change}
 
@@ -23,15 +26,17 @@ scalar_of x = record { kind = x.0; text = x.1 }
 
 -- what is known of an update that is carried out on rows
 pub record IsCarried (u : Update) (c : Cut) (new : List ℕ) (changes : List Change) : Type 0 where
-  pub keys : List (List ℕ)
+  pub steps : List Step
   pub value : Kind × List ℕ
-  pub assigned : assigned u ≡ Some (keys, value)
+  pub assigned : assigned u ≡ Some (steps, value)
   pub document : Document
   pub one : documents c ≡ document ∷ []
+  pub path : List paths.Step
+  pub leads : steps_lead steps document.root ≡ judgement.gives (there path)
   pub old : Written
-  pub is : written_at (to_keys keys) c ≡ Some old
+  pub is : written_at path c ≡ Some old
   pub put : replace_scalar (scalar_of value) old c ≡ gives new changes
-  pub planned : plan_of u c ≡ judgement.gives (replace 0 (to_keys keys) (scalar None value.0 value.1) ∷ [])
+  pub planned : plan_of u c ≡ judgement.gives (replace 0 path (scalar None value.0 value.1) ∷ [])
 
 -- what is known of an edit that is accepted
 pub record IsFound (p : Program) (t new : List ℕ) (changes : List Change) : Type 0 where
@@ -44,36 +49,60 @@ pub record IsFound (p : Program) (t new : List ℕ) (changes : List Change) : Ty
 not_built : (u : Update) (c : Cut) (new : List ℕ) (changes : List Change) (j : Judgement (List Operation)) → plan_of u c ≡ j → carry_out (plan_of u c) c ≡ gives new changes → carry_out j c ≡ gives new changes
 not_built u c new changes j is h = ap (λ (o : Judgement (List Operation)). carry_out o c) (sym is) ∙ h
 
-abbrev operation : List (List ℕ) × (Kind × List ℕ) → List Operation
-operation x = replace 0 (to_keys x.0) (scalar None x.1.0 x.1.1) ∷ []
+abbrev Assignment : Type 0
+Assignment = List Step × (Kind × List ℕ)
 
-written_at_row : (u : Update) (c : Cut) (new : List ℕ) (changes : List Change) (x : List (List ℕ) × (Kind × List ℕ)) (d : Document) → assigned u ≡ Some x → documents c ≡ d ∷ [] → (o : Option Written) → written_at (to_keys x.0) c ≡ o →
-    plan_of u c ≡ cond (is_some o) (judgement.gives (operation x)) judgement.unbuilt → carry_out (plan_of u c) c ≡ gives new changes → IsCarried u c new changes
-written_at_row u c new changes x d is one None at planned h = absurd (let none = not_built u c new changes judgement.unbuilt planned h in cc)
-written_at_row u c new changes x d is one (Some w) at planned h =
-    let done : replace_at (scalar_of x.1) (written_at (to_keys x.0) c) c ≡ gives new changes = not_built u c new changes (judgement.gives (operation x)) planned h in
+abbrev value_of : Assignment → Node
+value_of x = scalar None x.1.0 x.1.1
+
+abbrev operation : List paths.Step → Assignment → List Operation
+operation path x = replace 0 path (value_of x) ∷ []
+
+-- an update that sets what steps lead to in the one document
+record IsSet (u : Update) (c : Cut) (x : Assignment) (d : Document) : Type 0 where
+  is : assigned u ≡ Some x
+  one : documents c ≡ d ∷ []
+
+written_at_row : (u : Update) (c : Cut) (new : List ℕ) (changes : List Change) (x : Assignment) (d : Document) → IsSet u c x d → (path : List paths.Step) → steps_lead x.0 d.root ≡ judgement.gives (there path) → (o : Option Written) → written_at path c ≡ o →
+    plan_of u c ≡ cond (is_some o) (judgement.gives (operation path x)) judgement.unbuilt → carry_out (plan_of u c) c ≡ gives new changes → IsCarried u c new changes
+written_at_row u c new changes x d set path leads None at planned h = absurd (let none = not_built u c new changes judgement.unbuilt planned h in cc)
+written_at_row u c new changes x d set path leads (Some w) at planned h =
+    let done : replace_at (scalar_of x.1) (written_at path c) c ≡ gives new changes = not_built u c new changes (judgement.gives (operation path x)) planned h in
     record {
-      keys = x.0;
+      steps = x.0;
       value = x.1;
-      assigned = is;
+      assigned = set.is;
       document = d;
-      one = one;
+      one = set.one;
+      path = path;
+      leads = leads;
       old = w;
       is = at;
       put = sym (ap (λ (o : Option Written). replace_at (scalar_of x.1) o c) at) ∙ done;
       planned = planned;
     }
 
-location : (u : Update) (c : Cut) (new : List ℕ) (changes : List Change) (x : List (List ℕ) × (Kind × List ℕ)) (d : Document) → assigned u ≡ Some x → documents c ≡ d ∷ [] → (l : Location) →
-    plan_of u c ≡ plan_at (to_keys x.0) (scalar None x.1.0 x.1.1) c l → carry_out (plan_of u c) c ≡ gives new changes → IsCarried u c new changes
-location u c new changes x d is one (there n) planned h = written_at_row u c new changes x d is one (written_at (to_keys x.0) c) refl planned h
-location u c new changes x d is one missing planned h = absurd (let none = not_built u c new changes judgement.unbuilt planned h in cc)
-location u c new changes x d is one (refused why) planned h = absurd (let none = not_built u c new changes (judgement.refuses why) planned h in cc)
+-- nothing is made at a missing location
+none_made : (c : Cut) (new : List ℕ) (changes : List Change) (path : List paths.Step) (steps : List Step) → carry_out (make path steps) c ≡ gives new changes → ⊥
+none_made c new changes path steps h = go (list_any is_index steps) (list_any is_too_long steps) (ltb depth_limit (length path + length steps)) h
+  where
+    go : (a b d : Bool) → carry_out (cond a (judgement.refuses IndexOutOfRange) (cond b (judgement.refuses KeyTooLong) (cond d (judgement.refuses TooDeep) judgement.unbuilt))) c ≡ gives new changes → ⊥
+    go true b d e = cc
+    go false true d e = cc
+    go false false true e = cc
+    go false false false e = cc
 
-in_documents : (u : Update) (c : Cut) (new : List ℕ) (changes : List Change) (x : List (List ℕ) × (Kind × List ℕ)) → assigned u ≡ Some x → (ds : List Document) → documents c ≡ ds →
-    plan_of u c ≡ plan_in x.0 (scalar None x.1.0 x.1.1) c ds → carry_out (plan_of u c) c ≡ gives new changes → IsCarried u c new changes
+location : (u : Update) (c : Cut) (new : List ℕ) (changes : List Change) (x : Assignment) (d : Document) → IsSet u c x d → (j : Judgement Location) → steps_lead x.0 d.root ≡ j →
+    plan_of u c ≡ judgement.and_then (plan_at (value_of x) c) j → carry_out (plan_of u c) c ≡ gives new changes → IsCarried u c new changes
+location u c new changes x d set (judgement.gives (there path)) leads planned h = written_at_row u c new changes x d set path leads (written_at path c) refl planned h
+location u c new changes x d set (judgement.gives (missing path steps)) leads planned h = absurd (none_made c new changes path steps (not_built u c new changes (make path steps) planned h))
+location u c new changes x d set (judgement.refuses why) leads planned h = absurd (let none = not_built u c new changes (judgement.refuses why) planned h in cc)
+location u c new changes x d set judgement.unbuilt leads planned h = absurd (let none = not_built u c new changes judgement.unbuilt planned h in cc)
+
+in_documents : (u : Update) (c : Cut) (new : List ℕ) (changes : List Change) (x : Assignment) → assigned u ≡ Some x → (ds : List Document) → documents c ≡ ds →
+    plan_of u c ≡ plan_in x.0 (value_of x) c ds → carry_out (plan_of u c) c ≡ gives new changes → IsCarried u c new changes
 in_documents u c new changes x is [] one planned h = absurd (let none = not_built u c new changes judgement.unbuilt planned h in cc)
-in_documents u c new changes x is (d ∷ []) one planned h = location u c new changes x d is one (keys_lead x.0 d.root) planned h
+in_documents u c new changes x is (d ∷ []) one planned h = location u c new changes x d (record { is = is; one = one }) (steps_lead x.0 d.root) refl planned h
 in_documents u c new changes x is (d ∷ (e ∷ ds)) one planned h = absurd (let none = not_built u c new changes judgement.unbuilt planned h in cc)
 
 planned : (u : Update) (c : Cut) → plan_of u c ≡ plan_scalar (assigned u) c
@@ -83,7 +112,7 @@ planned u c = refl
 carried : (u : Update) (c : Cut) (new : List ℕ) (changes : List Change) → carry_out (plan_of u c) c ≡ gives new changes → IsCarried u c new changes
 carried u c new changes h = go (assigned u) refl (planned u c)
   where
-    go : (x : Option (List (List ℕ) × (Kind × List ℕ))) → assigned u ≡ x → plan_of u c ≡ plan_scalar x c → IsCarried u c new changes
+    go : (x : Option Assignment) → assigned u ≡ x → plan_of u c ≡ plan_scalar x c → IsCarried u c new changes
     go None is e = absurd (let none = not_built u c new changes judgement.unbuilt e h in cc)
     go (Some x) is e = in_documents u c new changes x is (documents c) refl e h
 

@@ -20,7 +20,7 @@ use Rattle.yq_tree.proofs.ReadLaws.{read_takes, one_reading}
 use Rattle.yq_tree.proofs.RowPathLaws.{is_one}
 use Rattle.yq_tree.proofs.WrittenLaws.{scalar_stands, scalar_set}
 use Rattle.yq_expr.specs.Judgement as judgement
-use Rattle.yq_expr.specs.Meaning.{to_keys, program_meaning, meaning}
+use Rattle.yq_expr.specs.Meaning.{program_meaning, meaning}
 use Rattle.yq_expr.specs.Operations.{replace, replaced, all_after}
 use Rattle.yq_expr.specs.Program.{Program, updates, assignment_of}
 use Rattle.yq_expr.proofs.PlanLaws.{plan_means}
@@ -34,12 +34,12 @@ use Rattle.yq_splice.proofs.FoundLaws.{IsFound, scalar_of, edit_found}
 use Rattle.yq_splice.proofs.PatchLaws.{done-from_exchanges}
 use Rattle.yq_splice.proofs.StyleLaws.{style_writes, style_inline}
 
--- what is written where the program's keys lead
-written_of : (p : Program) (t new : List ℕ) (changes : List Change) (f : IsFound p t new changes) → IsWritten t f.rows f.carried.document (to_keys f.carried.keys) f.carried.old
+-- what is written where the program's steps lead
+written_of : (p : Program) (t new : List ℕ) (changes : List Change) (f : IsFound p t new changes) → IsWritten t f.rows f.carried.document f.carried.path f.carried.old
 written_of p t new changes f = record { read = f.read; one = f.carried.one; at = f.carried.is }
 
 pieces_of : (p : Program) (t new : List ℕ) (changes : List Change) (f : IsFound p t new changes) → HasPieces t f.carried.old.before f.carried.old.scalar f.carried.old.behind
-pieces_of p t new changes f = (scalar_stands t f.rows f.carried.document (to_keys f.carried.keys) f.carried.old (written_of p t new changes f)).0
+pieces_of p t new changes f = (scalar_stands t f.rows f.carried.document f.carried.path f.carried.old (written_of p t new changes f)).0
 
 -- the text of the rows
 text_of : (p : Program) (t new : List ℕ) (changes : List Change) (f : IsFound p t new changes) → t ≡ cut_text f.rows
@@ -90,12 +90,12 @@ change_kept (s ∷ ss) g n k e same = go (child_at s (children_of n)) refl e (λ
 
 -- what is meant, where the new text reads as the document with the node changed
 meant_by : (p : Program) (t new : List ℕ) (changes : List Change) (f : IsFound p t new changes) (docs : List Document) → Reads t docs →
-    IsSet new f.carried.document (to_keys f.carried.keys) (replaced (scalar None f.carried.value.0 f.carried.value.1)) → IsMeant p docs new
+    IsSet new f.carried.document f.carried.path (replaced (scalar None f.carried.value.0 f.carried.value.1)) → IsMeant p docs new
 meant_by p t new changes f docs reads x =
     let old : docs ≡ documents f.rows = one_reading t docs (documents f.rows) reads (read_takes t f.rows f.read) in
-    let planned : meaning f.update (documents f.rows) ≡ all_after (replace 0 (to_keys f.carried.keys) (scalar None f.carried.value.0 f.carried.value.1) ∷ []) (documents f.rows) = plan_means f.update f.rows _ f.carried.planned in
-    let done : all_after (replace 0 (to_keys f.carried.keys) (scalar None f.carried.value.0 f.carried.value.1) ∷ []) (documents f.rows) ≡ judgement.gives (documents x.cut) =
-    ap (all_after (replace 0 (to_keys f.carried.keys) (scalar None f.carried.value.0 f.carried.value.1) ∷ [])) f.carried.one ∙ ap judgement.gives (sym x.documents_are) in
+    let planned : meaning f.update (documents f.rows) ≡ all_after (replace 0 f.carried.path (scalar None f.carried.value.0 f.carried.value.1) ∷ []) (documents f.rows) = plan_means f.update f.rows _ f.carried.planned in
+    let done : all_after (replace 0 f.carried.path (scalar None f.carried.value.0 f.carried.value.1) ∷ []) (documents f.rows) ≡ judgement.gives (documents x.cut) =
+    ap (all_after (replace 0 f.carried.path (scalar None f.carried.value.0 f.carried.value.1) ∷ [])) f.carried.one ∙ ap judgement.gives (sym x.documents_are) in
     record {
       documents = documents x.cut;
       meant =
@@ -106,29 +106,29 @@ meant_by p t new changes f docs reads x =
 
 -- the scalar of a program that is carried out
 valid_of : (p : Program) (t new : List ℕ) (changes : List Change) (f : IsFound p t new changes) → ((c : Cut) → read_at t ≡ Some c → HasOperands p c) → IsValid (scalar_of f.carried.value)
-valid_of p t new changes f valid = (valid f.rows f.read f.update (replace 0 (to_keys f.carried.keys) (scalar None f.carried.value.0 f.carried.value.1) ∷ []) f.program f.carried.planned).0
+valid_of p t new changes f valid = (valid f.rows f.read f.update (replace 0 f.carried.path (scalar None f.carried.value.0 f.carried.value.1) ∷ []) f.program f.carried.planned).0
 
 -- the text with an equal scalar
 kept_set : (p : Program) (t new : List ℕ) (changes : List Change) (f : IsFound p t new changes) → IsKept (scalar_of f.carried.value) f.carried.old f.rows new changes →
-    IsSet new f.carried.document (to_keys f.carried.keys) (replaced (scalar None f.carried.value.0 f.carried.value.1))
+    IsSet new f.carried.document f.carried.path (replaced (scalar None f.carried.value.0 f.carried.value.1))
 kept_set p t new changes f k =
     let g : Node → Node = replaced (scalar None f.carried.value.0 f.carried.value.1) in
     let d : Document = f.carried.document in
-    let at = (scalar_stands t f.rows d (to_keys f.carried.keys) f.carried.old (written_of p t new changes f)).1 in
+    let at = (scalar_stands t f.rows d f.carried.path f.carried.old (written_of p t new changes f)).1 in
     let q : ScalarText = inline.scalar_of f.carried.old.scalar in
     let same : g (scalar at.0 q.kind q.text) ≡ scalar at.0 q.kind q.text = stays (scalar_of f.carried.value) at.0 q ∙ ap (λ (s : ScalarText). scalar at.0 s.kind s.text) (sym k.same) in
-    let root : change (to_keys f.carried.keys) g d.root ≡ d.root = change_kept (to_keys f.carried.keys) g d.root _ at.1 same in
+    let root : change f.carried.path g d.root ≡ d.root = change_kept f.carried.path g d.root _ at.1 same in
     let text : t ≡ new = text_of p t new changes f ∙ k.text in
     record { cut = f.rows; read = ap read_at (sym text) ∙ f.read; documents_are = f.carried.one ∙ (λ i. record { lead = d.lead; root = sym root i } ∷ []) }
 
 -- the text with another scalar
 put_set : (p : Program) (t new : List ℕ) (changes : List Change) (f : IsFound p t new changes) → IsValid (scalar_of f.carried.value) → IsPut (scalar_of f.carried.value) f.carried.old new changes →
-    IsSet new f.carried.document (to_keys f.carried.keys) (replaced (scalar None f.carried.value.0 f.carried.value.1))
+    IsSet new f.carried.document f.carried.path (replaced (scalar None f.carried.value.0 f.carried.value.1))
 put_set p t new changes f valid k =
     let s : ScalarText = scalar_of f.carried.value in
     let style = new_style s (inline.style_of f.carried.old.scalar) in
-    subst (λ (u : List ℕ). IsSet u f.carried.document (to_keys f.carried.keys) (replaced (scalar None f.carried.value.0 f.carried.value.1))) k.text
-    (scalar_set t f.rows f.carried.document (to_keys f.carried.keys) f.carried.old s style (replaced (scalar None f.carried.value.0 f.carried.value.1)) (written_of p t new changes f) valid
+    subst (λ (u : List ℕ). IsSet u f.carried.document f.carried.path (replaced (scalar None f.carried.value.0 f.carried.value.1))) k.text
+    (scalar_set t f.rows f.carried.document f.carried.path f.carried.old s style (replaced (scalar None f.carried.value.0 f.carried.value.1)) (written_of p t new changes f) valid
     (style_inline s (inline.style_of f.carried.old.scalar) (old_inline f.carried.old.scalar)) (style_writes s (inline.style_of f.carried.old.scalar)) k.size (stays s))
 
 pub edit_meant : (p : Program) (t new : List ℕ) (changes : List Change) → edit_of p t ≡ gives new changes → ((c : Cut) → read_at t ≡ Some c → HasOperands p c) → (docs : List Document) → Reads t docs → IsMeant p docs new
@@ -145,9 +145,13 @@ inside_by : (p : Program) (t new : List ℕ) (changes : List Change) (f : IsFoun
 inside_by p t new changes f q text = record {
   rows = f.rows;
   read = f.read;
-  keys = f.carried.keys;
+  document = f.carried.document;
+  one = f.carried.one;
+  steps = f.carried.steps;
   value = f.carried.value;
   program = ap assignment_of f.program ∙ f.carried.assigned;
+  path = f.carried.path;
+  leads = f.carried.leads;
   old = f.carried.old;
   is = f.carried.is;
   scalar = q;

@@ -2,8 +2,8 @@
 use Rattle.std.specs.Prelude.{◌≡◌, Result, Ok, Err, string_bytes}
 use Rattle.yq_scalar.specs.declared.fault.ReadError.{ReadError}
 use Rattle.yq_scalar.specs.declared.fault.ReadError.TheVariants as reading
-use Rattle.yq_expr.specs.declared.planning.PlanError.{PlanError}
-use Rattle.yq_expr.specs.declared.planning.PlanError.TheVariants as planning
+use Rattle.yq_expr.specs.declared.plan_error.PlanError.{PlanError}
+use Rattle.yq_expr.specs.declared.plan_error.PlanError.TheVariants as planning
 use Rattle.yq_splice.specs.Edit.{Edit, unreadable, refuses, unbuilt, gives}
 use Rattle.yq_splice.specs.declared.edited.Edited.{Edited}
 use Rattle.yq_splice.specs.declared.edited.EditError.{EditError}

@@ -1,24 +1,30 @@
 -- What an accepted edit promises.
-use Rattle.std.specs.Prelude.{◌≡◌, ℕ, List, ◌++◌, Some, length}
+use Rattle.std.specs.Prelude.{◌≡◌, ℕ, List, [], ◌∷◌, ◌++◌, Some, length}
 use Rattle.yq_scalar.specs.declared.kind.Kind.{Kind}
+use Rattle.yq_scalar.specs.Paths as paths
 use Rattle.yq_rows.specs.Rows.{Cut}
 use Rattle.yq_tree.specs.Documents.{Document, Reads}
-use Rattle.yq_tree.specs.Reading.{read_at}
+use Rattle.yq_tree.specs.Reading.{read_at, documents}
 use Rattle.yq_tree.specs.Written.{Written, written_at}
 use Rattle.yq_expr.specs.Judgement.{gives}
-use Rattle.yq_expr.specs.Meaning.{to_keys, program_meaning}
-use Rattle.yq_expr.specs.Program.{Program, assignment_of}
+use Rattle.yq_expr.specs.Matching.{there, steps_lead}
+use Rattle.yq_expr.specs.Meaning.{program_meaning}
+use Rattle.yq_expr.specs.Program.{Step, Program, assignment_of}
 use Rattle.yq_splice.specs.Patch.{Change, all_done, lengths_done}
 
--- One scalar is exchanged: the one that is written where the program's keys lead. The text before it and the text behind it stay (own).
+-- One scalar is exchanged: the one that is written where the program's steps lead in the one document. The text before it and the text behind it stay (own).
 pub record IsInside (p : Program) (t new : List ℕ) : Type 0 where
   pub rows : Cut
   pub read : read_at t ≡ Some rows
-  pub keys : List (List ℕ)
+  pub document : Document
+  pub one : documents rows ≡ document ∷ []
+  pub steps : List Step
   pub value : Kind × List ℕ
-  pub program : assignment_of p ≡ Some (keys, value)
+  pub program : assignment_of p ≡ Some (steps, value)
+  pub path : List paths.Step
+  pub leads : steps_lead steps document.root ≡ gives (there path)
   pub old : Written
-  pub is : written_at (to_keys keys) rows ≡ Some old
+  pub is : written_at path rows ≡ Some old
   pub scalar : List ℕ
   pub before : t ≡ old.before ++ (old.scalar ++ old.behind)
   pub after : new ≡ old.before ++ (scalar ++ old.behind)

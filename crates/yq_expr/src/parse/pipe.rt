@@ -1,30 +1,16 @@
 //! Conditions, stages and pipes.
 ghost use Rattle.std.specs.Prelude.{◌≡◌, ◌<◌, codes, length, map, option_map, IfOk};
-ghost use Rattle.std.specs.List.{list_all};
 ghost use Rattle.yq_expr.specs.Given.{Reads, ReadsMaybe, Shortens, IsBefore, with_tokens};
 ghost use Rattle.yq_expr.specs.Lexing.{tokens};
 ghost use Rattle.yq_expr.specs.Parse as spec;
-ghost use Rattle.yq_expr.specs.View.{step_of, operand_of, condition_of, stage_of};
+ghost use Rattle.yq_expr.specs.View.{operand_of, condition_of, stage_of};
 
 use super::literal::scalar;
 use super::path::path;
 use crate::error::ParseError;
 use crate::front::{after, expect, string};
-use crate::program::{Comparison, Condition, Operand, Stage, Step};
+use crate::program::{Comparison, Condition, Operand, Stage, is_simple};
 use std::alloc::Global;
-
-fn is_single(step: &Step) -> bool
-    ensures { result ≡ spec.is_single (step_of step.now) }
-{
-    !matches!(step, Step::Each)
-}
-
-/// Whether each step leads to one item or value at most.
-fn is_simple(steps: &Vec<Step>) -> bool
-    ensures { result ≡ list_all (λ s. spec.is_single (step_of s)) steps.now.items }
-{
-    steps.iter().all(|step| is_single(step))
-}
 
 /// What is compared.
 #[tactic(auto, using(crate::proofs::Lists::list_all_map), unfolding(crate::specs::Parse::operand_at))]

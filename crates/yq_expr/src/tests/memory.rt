@@ -2,7 +2,8 @@
 
 use crate::error::ParseError;
 use crate::parse::parse_expr;
-use crate::planning::{PlanError, plan};
+use crate::plan_error::PlanError;
+use crate::planning::plan;
 use std::alloc::{AllocError, Global};
 use std::test::Fail;
 use yq_tree::read;

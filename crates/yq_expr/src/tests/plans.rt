@@ -2,7 +2,8 @@
 
 use crate::op::Op;
 use crate::parse::parse_expr;
-use crate::planning::{PlanError, plan};
+use crate::plan_error::PlanError;
+use crate::planning::plan;
 use crate::refusal::Refusal;
 use std::alloc::{AllocError, Global};
 use std::process::Abort;
@@ -108,7 +109,7 @@ fn refuses_plans(rt: HostRuntime) -> Result<(), Fail> {
         (".x = 1", PlanError::NotInProfile),
         (".x.y = 1", PlanError::NotInProfile),
         (". = 1", PlanError::NotInProfile),
-        (".a[0] = 1", PlanError::NotInProfile),
+        (".a[0] = 1", PlanError::Refused(Refusal::NotASequence)),
         (".a[] = 1", PlanError::NotInProfile),
         (".a += 1", PlanError::NotInProfile),
         (".a |= 1", PlanError::NotInProfile),
