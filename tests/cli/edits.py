@@ -67,6 +67,17 @@ def check_an_equal_value_writes_nothing(folder):
     equal(folder.names(), ["f"])
 
 
+def check_a_value_is_put_where_nothing_is_written(folder):
+    text = b"a: # c\nl:\n- &x\n- *x\n"
+    folder.write("f", text)
+    folder.accepts("-i", ".a = 1", "f")
+    folder.accepts("-i", ".l[0] = \"y\"", "f")
+    equal(folder.read("f"), b"a: 1 # c\nl:\n- &x y\n- *x\n")
+    folder.accepts("undo", "f")
+    folder.accepts("undo", "f")
+    equal(folder.read("f"), text)
+
+
 def check_a_journal_of_another_name(folder):
     folder.write("f.yaml", b"n: 1\n")
     folder.accepts("-i", "--journal", "j.json", ".n = 2", "f.yaml")

@@ -12,7 +12,7 @@ use Rattle.yq_expr.specs.Making.{is_index, is_too_long, make}
 use Rattle.yq_expr.specs.Matching.{Location, there, missing, steps_lead}
 use Rattle.yq_expr.specs.Meaning.{set_at, set_in_each, set_scalar, meaning}
 use Rattle.yq_expr.specs.Operations.{Operation, replace, all_after}
-use Rattle.yq_expr.specs.Plan.{is_written, plan_at, plan_in, plan_scalar, plan_of}
+use Rattle.yq_expr.specs.Plan.{has_place, plan_at, plan_in, plan_scalar, plan_of}
 use Rattle.yq_expr.specs.Program.{Step, Update, assigned}
 use Rattle.yq_expr.specs.declared.plan_error.PlanError.{PlanError}
 use Rattle.yq_expr.specs.declared.plan_error.PlanError.TheVariants as error
@@ -45,27 +45,27 @@ made_nothing A path steps x h = go (list_any is_index steps) (list_any is_too_lo
     go false false true e = cc
     go false false false e = cc
 
-written_means : (path : List paths.Step) (v : Node) (d : Document) (b : Bool) (ops : List Operation) → cond b (gives (replace 0 path v ∷ [])) unbuilt ≡ gives ops →
+placed_means : (path : List paths.Step) (v : Node) (d : Document) (b : Bool) (ops : List Operation) → cond b (gives (replace 0 path v ∷ [])) unbuilt ≡ gives ops →
     and_then (λ first. gives (first ∷ [])) (set_at v d (there path)) ≡ all_after ops (d ∷ [])
-written_means path v d true ops h =
+placed_means path v d true ops h =
     let same : (replace 0 path v ∷ []) ≡ ops = cc in
     subst (λ (xs : List Operation). and_then (λ first. gives (first ∷ [])) (set_at v d (there path)) ≡ all_after xs (d ∷ [])) same refl
-written_means path v d false ops h = absurd (cc)
+placed_means path v d false ops h = absurd (cc)
 
 location_means : (v : Node) (c : Cut) (d : Document) (j : Judgement Location) (ops : List Operation) → and_then (plan_at v c) j ≡ gives ops →
     and_then (λ first. gives (first ∷ [])) (and_then (set_at v d) j) ≡ all_after ops (d ∷ [])
-location_means v c d (gives (there path)) ops h = written_means path v d (is_written path c) ops h
+location_means v c d (gives (there path)) ops h = placed_means path v d (has_place path c) ops h
 location_means v c d (gives (missing path steps)) ops h = absurd (made_nothing (List Operation) path steps ops h)
 location_means v c d (refuses why) ops h = absurd (cc)
 location_means v c d unbuilt ops h = absurd (cc)
 
 refused_means : (v : Node) (c : Cut) (d : Document) (j : Judgement Location) (why : Refusal) → and_then (plan_at v c) j ≡ refuses why →
     and_then (λ first. gives (first ∷ [])) (and_then (set_at v d) j) ≡ refuses why
-refused_means v c d (gives (there path)) why h = unwritten (is_written path c) h
+refused_means v c d (gives (there path)) why h = unplaced (has_place path c) h
   where
-    unwritten : (b : Bool) → cond b (gives (replace 0 path v ∷ [])) unbuilt ≡ refuses why → and_then (λ first. gives (first ∷ [])) (set_at v d (there path)) ≡ refuses why
-    unwritten true e = absurd (cc)
-    unwritten false e = absurd (cc)
+    unplaced : (b : Bool) → cond b (gives (replace 0 path v ∷ [])) unbuilt ≡ refuses why → and_then (λ first. gives (first ∷ [])) (set_at v d (there path)) ≡ refuses why
+    unplaced true e = absurd (cc)
+    unplaced false e = absurd (cc)
 refused_means v c d (gives (missing path steps)) why h = ap (and_then (λ first. gives (first ∷ []))) (made_refuses (List Operation) Document path steps why h)
 refused_means v c d (refuses other) why h = cc
 refused_means v c d unbuilt why h = absurd (cc)

@@ -10,7 +10,7 @@ use Rattle.yq_tree.specs.declared.node.Node as nodes
 use Rattle.yq_tree.specs.Documents.{Document}
 use Rattle.yq_tree.specs.Nodes.{node_of}
 use Rattle.yq_tree.specs.Reading.{documents}
-use Rattle.yq_tree.specs.Written.{written_at}
+use Rattle.yq_tree.specs.ScalarPlaces.{place_at}
 use Rattle.yq_expr.specs.declared.matching.Location as declared
 use Rattle.yq_expr.specs.Program.{Step, Update, Program, read, updates, assigned}
 use Rattle.yq_expr.specs.View.{step_of}
@@ -33,17 +33,17 @@ abbrev pub update_at : ℕ → Program → Option Update
 update_at n (read stages) = None
 update_at n (updates us) = slice_get us n
 
--- a scalar is written behind a key or dash at a path (own)
-abbrev pub is_written : List paths.Step → Cut → Bool
-is_written path c = is_some (written_at path c)
+-- a scalar can be set at a path (own)
+abbrev pub has_place : List paths.Step → Cut → Bool
+has_place path c = is_some (place_at path c)
 
--- the operation that puts a value in the place of a scalar that is written; any other node is not exchanged yet (own)
-abbrev pub replace_written : List paths.Step → Node → Cut → Judgement (List Operation)
-replace_written path v c = if is_written path c then gives (replace 0 path v ∷ []) else unbuilt
+-- the operation that puts a value in a place where a scalar can be set; any other node is not exchanged yet (own)
+abbrev pub replace_placed : List paths.Step → Node → Cut → Judgement (List Operation)
+replace_placed path v c = if has_place path c then gives (replace 0 path v ∷ []) else unbuilt
 
 -- the operations that set a value at a location (own)
 abbrev pub plan_at : Node → Cut → Location → Judgement (List Operation)
-plan_at v c (there path) = replace_written path v c
+plan_at v c (there path) = replace_placed path v c
 plan_at v c (missing path steps) = make path steps
 
 -- the operations that set a value where steps lead in each document; so far there is one document (own)

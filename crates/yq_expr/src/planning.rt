@@ -73,17 +73,17 @@ fn assigned(update: &Update) -> Option<(&[Step], &Scalar)>
     Some((steps, scalar))
 }
 
-/// The operation that puts a scalar in the place of one that is written in the
-/// first document.
-fn replace_written(
+/// The operation that puts a scalar in a place of the first document where one
+/// can be set.
+fn replace_placed(
     alloc: Global,
     steps: Vec<yq_tree::Step>,
     scalar: &Scalar,
     documents: &Documents<'_>,
 ) -> Result<Vec<Op>, PlanError>
-    ensures { Plans (λ v. operations_of v.items) result (plan.replace_written (map tree_step steps.items) (tree.scalar None scalar.now.kind scalar.now.text) (cut_of documents.now)) }
+    ensures { Plans (λ v. operations_of v.items) result (plan.replace_placed (map tree_step steps.items) (tree.scalar None scalar.now.kind scalar.now.text) (cut_of documents.now)) }
 {
-    if documents.written(&steps).is_none() {
+    if documents.place(&steps).is_none() {
         return Err(PlanError::NotInProfile);
     }
     let path = Path { doc: 0, steps };
@@ -103,7 +103,7 @@ fn set_at(
     ensures { Plans (λ v. operations_of v.items) result (plan.plan_at (tree.scalar None scalar.now.kind scalar.now.text) (cut_of documents.now) (location_of location.entry)) }
 {
     match location {
-        Location::There(steps) => replace_written(alloc, steps, scalar, documents),
+        Location::There(steps) => replace_placed(alloc, steps, scalar, documents),
         Location::Missing(path, steps) => make(alloc, &path, steps),
     }
 }

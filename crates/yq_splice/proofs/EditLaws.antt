@@ -5,14 +5,12 @@ use Rattle.std.proofs.lemmas.Slice.Eq.{bytes_eq-Decides}
 use Rattle.std.specs.Str.{bytes_eq}
 use Rattle.yq_scalar.specs.Characters.{text_limit}
 use Rattle.yq_scalar.specs.Scalar.{ScalarText}
-use Rattle.yq_scalar.specs.Written.{written}
 use Rattle.yq_scalar.specs.declared.kind.Kind.{Kind}
 use Rattle.yq_scalar.specs.declared.kind.Kind.TheVariants as kinds
 use Rattle.yq_scalar.proofs.Bools.{and_true}
-use Rattle.yq_inline.specs.Scalars.{style_of, scalar_of}
 use Rattle.yq_rows.specs.Rows.{Cut, cut_text}
-use Rattle.yq_tree.specs.Told.{Telling, telling}
-use Rattle.yq_tree.specs.Written.{Written, written_at}
+use Rattle.yq_tree.specs.ScalarPlaces.{ScalarPlace, place_at, held, replaced}
+use Rattle.yq_tree.specs.Told.{PlaceTelling, place_telling}
 use Rattle.yq_tree.specs.declared.path.Path.{Path}
 use Rattle.yq_inline.specs.Entries.{step_of}
 use Rattle.yq_inline.specs.Values.{node_of}
@@ -23,9 +21,9 @@ use Rattle.yq_expr.specs.Operations.{operation_of, operations_of}
 use Rattle.yq_expr.specs.declared.op.Op.{Op}
 use Rattle.yq_expr.specs.declared.op.Op.TheVariants as ops
 use Rattle.yq_expr.specs.declared.refusal.Refusal.TheVariants.{TooLarge}
-use Rattle.yq_splice.specs.Edit.{gives, unbuilt, refuses, put_between, replace_scalar, replace_at, replace_by, carry_one, carry_all}
+use Rattle.yq_splice.specs.Edit.{gives, unbuilt, refuses, put_between, put_scalar, replace_scalar, replace_at, replace_by, carry_one, carry_all}
 use Rattle.yq_splice.specs.Patch.{Change}
-use Rattle.yq_splice.specs.Style.{table_row, is_same, new_style}
+use Rattle.yq_splice.specs.Style.{table_row, is_same}
 
 same_kind : (a b : Kind) → table_row a ≡ table_row b → a ≡ b
 same_kind kinds.Null kinds.Null h = refl
@@ -63,78 +61,74 @@ same_is a b h =
     λ i. record { kind = kind i; text = text i }
 
 -- what a scalar gives way to: nothing, or another one
-pub record IsKept (s : ScalarText) (w : Written) (c : Cut) (new : List ℕ) (changes : List Change) : Type 0 where
-  pub same : scalar_of w.scalar ≡ s
+pub record IsKept (s : ScalarText) (w : ScalarPlace) (c : Cut) (new : List ℕ) (changes : List Change) : Type 0 where
+  pub same : held w.old ≡ s
   pub text : cut_text c ≡ new
   pub none : changes ≡ []
 
--- another scalar as it is written in the old one's place
-abbrev pub new_scalar : ScalarText → Written → List ℕ
-new_scalar s w = written (new_style s (style_of w.scalar)) s.text
+-- the text with another scalar
+abbrev pub new_text : ScalarText → ScalarPlace → List ℕ
+new_text s w = w.before ++ (put_scalar s w.old ++ w.behind)
 
--- the text with it
-abbrev pub new_text : ScalarText → Written → List ℕ
-new_text s w = w.before ++ (new_scalar s w ++ w.behind)
-
-pub record IsPut (s : ScalarText) (w : Written) (new : List ℕ) (changes : List Change) : Type 0 where
+pub record IsPut (s : ScalarText) (w : ScalarPlace) (new : List ℕ) (changes : List Change) : Type 0 where
   pub size : length (new_text s w) ≤ text_limit
   pub text : new_text s w ≡ new
-  pub one : changes ≡ record { at = length w.before; old = w.scalar; new = new_scalar s w } ∷ []
+  pub one : changes ≡ record { at = length w.before; old = replaced w.old; new = put_scalar s w.old } ∷ []
 
-put_size : (s : ScalarText) (w : Written) (new : List ℕ) (changes : List Change) (b : Bool) → leb (length (new_text s w)) text_limit ≡ b →
-    cond b (gives (new_text s w) (record { at = length w.before; old = w.scalar; new = new_scalar s w } ∷ [])) (refuses TooLarge) ≡ gives new changes → IsPut s w new changes
+put_size : (s : ScalarText) (w : ScalarPlace) (new : List ℕ) (changes : List Change) (b : Bool) → leb (length (new_text s w)) text_limit ≡ b →
+    cond b (gives (new_text s w) (record { at = length w.before; old = replaced w.old; new = put_scalar s w.old } ∷ [])) (refuses TooLarge) ≡ gives new changes → IsPut s w new changes
 put_size s w new changes true e h = record { size = leb-true (length (new_text s w)) text_limit e; text = cc; one = cc }
 put_size s w new changes false e h = absurd (cc)
 
-pub scalar_put : (s : ScalarText) (w : Written) (c : Cut) (new : List ℕ) (changes : List Change) → replace_scalar s w c ≡ gives new changes → IsKept s w c new changes ⊎ IsPut s w new changes
-scalar_put s w c new changes h = go (is_same (scalar_of w.scalar) s) refl h
+pub scalar_put : (s : ScalarText) (w : ScalarPlace) (c : Cut) (new : List ℕ) (changes : List Change) → replace_scalar s w c ≡ gives new changes → IsKept s w c new changes ⊎ IsPut s w new changes
+scalar_put s w c new changes h = go (is_same (held w.old) s) refl h
   where
-    go : (b : Bool) → is_same (scalar_of w.scalar) s ≡ b → cond b (gives (cut_text c) []) (put_between w.before w.scalar (new_scalar s w) w.behind) ≡ gives new changes → IsKept s w c new changes ⊎ IsPut s w new changes
-    go true e f = inl (record { same = same_is (scalar_of w.scalar) s e; text = cc; none = cc })
+    go : (b : Bool) → is_same (held w.old) s ≡ b → cond b (gives (cut_text c) []) (put_between w.before (replaced w.old) (put_scalar s w.old) w.behind) ≡ gives new changes → IsKept s w c new changes ⊎ IsPut s w new changes
+    go true e f = inl (record { same = same_is (held w.old) s e; text = cc; none = cc })
     go false e f = inr (put_size s w new changes (leb (length (new_text s w)) text_limit) refl f)
 
--- what the code is told of a scalar that is written
-pub record IsTold (o : Option Written) (x : Telling) : Type 0 where
-  pub written : Written
-  pub is : o ≡ Some written
-  pub same : x ≡ telling written
+-- what the code is told of a place
+pub record IsTold (o : Option ScalarPlace) (x : PlaceTelling) : Type 0 where
+  pub place : ScalarPlace
+  pub is : o ≡ Some place
+  pub same : x ≡ place_telling place
 
-pub told_is : (o : Option Written) (x : Telling) → Some x ≡ option_map telling o → IsTold o x
+pub told_is : (o : Option ScalarPlace) (x : PlaceTelling) → Some x ≡ option_map place_telling o → IsTold o x
 told_is None x h = absurd (cc)
-told_is (Some w) x h = record { written = w; is = refl; same = cc }
+told_is (Some w) x h = record { place = w; is = refl; same = cc }
 
-pub none_told : (s : ScalarText) (o : Option Written) (c : Cut) → None ≡ option_map telling o → replace_at s o c ≡ unbuilt
+pub none_told : (s : ScalarText) (o : Option ScalarPlace) (c : Cut) → None ≡ option_map place_telling o → replace_at s o c ≡ unbuilt
 none_told s None c h = refl
 none_told s (Some w) c h = absurd (cc)
 
 -- the scalar that is told
-abbrev told_scalar : Telling → ScalarText
+abbrev told_scalar : PlaceTelling → ScalarText
 told_scalar x = record { kind = x.0; text = x.1 }
 
 -- an equal scalar
-pub same_told : (s : ScalarText) (o : Option Written) (c : Cut) (x : Telling) → Some x ≡ option_map telling o → is_same (told_scalar x) s ≡ true → replace_at s o c ≡ gives (cut_text c) []
+pub same_told : (s : ScalarText) (o : Option ScalarPlace) (c : Cut) (x : PlaceTelling) → Some x ≡ option_map place_telling o → is_same (told_scalar x) s ≡ true → replace_at s o c ≡ gives (cut_text c) []
 same_told s o c x h e =
     let t = told_is o x h in
-    let same : is_same (scalar_of t.written.scalar) s ≡ true = ap (λ (y : Telling). is_same (told_scalar y) s) (sym t.same) ∙ e in
-    ap (λ (y : Option Written). replace_at s y c) t.is ∙ cond-true _ _ _ same
+    let same : is_same (held t.place.old) s ≡ true = ap (λ (y : PlaceTelling). is_same (told_scalar y) s) (sym t.same) ∙ e in
+    ap (λ (y : Option ScalarPlace). replace_at s y c) t.is ∙ cond-true _ _ _ same
 
 -- another scalar
-pub other_told : (s : ScalarText) (o : Option Written) (c : Cut) (x : Telling) → Some x ≡ option_map telling o → is_same (told_scalar x) s ≡ false →
-    replace_at s o c ≡ put_between x.2 x.3 (written (new_style s (style_of x.3)) s.text) x.4
+pub other_told : (s : ScalarText) (o : Option ScalarPlace) (c : Cut) (x : PlaceTelling) → Some x ≡ option_map place_telling o → is_same (told_scalar x) s ≡ false →
+    replace_at s o c ≡ put_between x.2 (replaced x.3) (put_scalar s x.3) x.4
 other_told s o c x h e =
     let t = told_is o x h in
-    let other : is_same (scalar_of t.written.scalar) s ≡ false = ap (λ (y : Telling). is_same (told_scalar y) s) (sym t.same) ∙ e in
-    ap (λ (y : Option Written). replace_at s y c) t.is
-    ∙ (cond-false _ _ _ other ∙ ap (λ (y : Telling). put_between y.2 y.3 (written (new_style s (style_of y.3)) s.text) y.4) (sym t.same))
+    let other : is_same (held t.place.old) s ≡ false = ap (λ (y : PlaceTelling). is_same (told_scalar y) s) (sym t.same) ∙ e in
+    ap (λ (y : Option ScalarPlace). replace_at s y c) t.is
+    ∙ (cond-false _ _ _ other ∙ ap (λ (y : PlaceTelling). put_between y.2 (replaced y.3) (put_scalar s y.3) y.4) (sym t.same))
 
 -- operations of the code
 scalar_value : (s : ScalarText) → node_of (values.Scalar s) ≡ scalar None s.kind s.text
 scalar_value s = search (rules, the_lemmas)
 
 pub one_op : (op : Op) (path : Path) (value : Value) (s : ScalarText) (c : Cut) → op ≡ ops.Replace path value → path.doc ≡ 0 → value ≡ values.Scalar s →
-    carry_one (operation_of op) c ≡ replace_at s (written_at (map step_of path.steps.items) c) c
+    carry_one (operation_of op) c ≡ replace_at s (place_at (map step_of path.steps.items) c) c
 one_op op path value s c is first is_scalar =
-    let w : Option Written = written_at (map step_of path.steps.items) c in
+    let w : Option ScalarPlace = place_at (map step_of path.steps.items) c in
     ap (λ (o : Op). carry_one (operation_of o) c) is
     ∙ (ap (λ (n : ℕ). cond (eqb n 0) (replace_by (node_of value) w c) unbuilt) first
     ∙ (ap (λ (v : Value). replace_by (node_of v) w c) is_scalar ∙ ap (λ (n : Node). replace_by n w c) (scalar_value s)))

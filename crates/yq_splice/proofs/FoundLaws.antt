@@ -8,7 +8,7 @@ use Rattle.yq_scalar.specs.Tree.{Node, scalar}
 use Rattle.yq_rows.specs.Rows.{Cut}
 use Rattle.yq_tree.specs.Documents.{Document, depth_limit}
 use Rattle.yq_tree.specs.Reading.{read_at, documents}
-use Rattle.yq_tree.specs.Written.{Written, written_at}
+use Rattle.yq_tree.specs.ScalarPlaces.{ScalarPlace, place_at}
 use Rattle.yq_expr.specs.Judgement.{Judgement}
 use Rattle.yq_expr.specs.Judgement as judgement
 use Rattle.yq_expr.specs.Making.{is_index, is_too_long, make}
@@ -33,8 +33,8 @@ pub record IsCarried (u : Update) (c : Cut) (new : List ℕ) (changes : List Cha
   pub one : documents c ≡ document ∷ []
   pub path : List paths.Step
   pub leads : steps_lead steps document.root ≡ judgement.gives (there path)
-  pub old : Written
-  pub is : written_at path c ≡ Some old
+  pub old : ScalarPlace
+  pub is : place_at path c ≡ Some old
   pub put : replace_scalar (scalar_of value) old c ≡ gives new changes
   pub planned : plan_of u c ≡ judgement.gives (replace 0 path (scalar None value.0 value.1) ∷ [])
 
@@ -63,11 +63,11 @@ record IsSet (u : Update) (c : Cut) (x : Assignment) (d : Document) : Type 0 whe
   is : assigned u ≡ Some x
   one : documents c ≡ d ∷ []
 
-written_at_row : (u : Update) (c : Cut) (new : List ℕ) (changes : List Change) (x : Assignment) (d : Document) → IsSet u c x d → (path : List paths.Step) → steps_lead x.0 d.root ≡ judgement.gives (there path) → (o : Option Written) → written_at path c ≡ o →
+placed_at_row : (u : Update) (c : Cut) (new : List ℕ) (changes : List Change) (x : Assignment) (d : Document) → IsSet u c x d → (path : List paths.Step) → steps_lead x.0 d.root ≡ judgement.gives (there path) → (o : Option ScalarPlace) → place_at path c ≡ o →
     plan_of u c ≡ cond (is_some o) (judgement.gives (operation path x)) judgement.unbuilt → carry_out (plan_of u c) c ≡ gives new changes → IsCarried u c new changes
-written_at_row u c new changes x d set path leads None at planned h = absurd (let none = not_built u c new changes judgement.unbuilt planned h in cc)
-written_at_row u c new changes x d set path leads (Some w) at planned h =
-    let done : replace_at (scalar_of x.1) (written_at path c) c ≡ gives new changes = not_built u c new changes (judgement.gives (operation path x)) planned h in
+placed_at_row u c new changes x d set path leads None at planned h = absurd (let none = not_built u c new changes judgement.unbuilt planned h in cc)
+placed_at_row u c new changes x d set path leads (Some w) at planned h =
+    let done : replace_at (scalar_of x.1) (place_at path c) c ≡ gives new changes = not_built u c new changes (judgement.gives (operation path x)) planned h in
     record {
       steps = x.0;
       value = x.1;
@@ -78,7 +78,7 @@ written_at_row u c new changes x d set path leads (Some w) at planned h =
       leads = leads;
       old = w;
       is = at;
-      put = sym (ap (λ (o : Option Written). replace_at (scalar_of x.1) o c) at) ∙ done;
+      put = sym (ap (λ (o : Option ScalarPlace). replace_at (scalar_of x.1) o c) at) ∙ done;
       planned = planned;
     }
 
@@ -94,7 +94,7 @@ none_made c new changes path steps h = go (list_any is_index steps) (list_any is
 
 location : (u : Update) (c : Cut) (new : List ℕ) (changes : List Change) (x : Assignment) (d : Document) → IsSet u c x d → (j : Judgement Location) → steps_lead x.0 d.root ≡ j →
     plan_of u c ≡ judgement.and_then (plan_at (value_of x) c) j → carry_out (plan_of u c) c ≡ gives new changes → IsCarried u c new changes
-location u c new changes x d set (judgement.gives (there path)) leads planned h = written_at_row u c new changes x d set path leads (written_at path c) refl planned h
+location u c new changes x d set (judgement.gives (there path)) leads planned h = placed_at_row u c new changes x d set path leads (place_at path c) refl planned h
 location u c new changes x d set (judgement.gives (missing path steps)) leads planned h = absurd (none_made c new changes path steps (not_built u c new changes (make path steps) planned h))
 location u c new changes x d set (judgement.refuses why) leads planned h = absurd (let none = not_built u c new changes (judgement.refuses why) planned h in cc)
 location u c new changes x d set judgement.unbuilt leads planned h = absurd (let none = not_built u c new changes judgement.unbuilt planned h in cc)

@@ -1,7 +1,6 @@
 -- The promises of an accepted edit.
-use Rattle.std.proofs.Common.{◌≡◌, ℕ, ◌+◌, ◌-◌, ◌^◌, ◌<◌, ◌≤◌, Bool, true, false, leb, ltb, cond, ◌⊎◌, inl, inr, List, [], ◌∷◌, ◌++◌, length, Option, Some, None, option_and_then, refl, sym, ap, ◌∙◌, subst, length-append, arith}
+use Rattle.std.proofs.Common.{◌≡◌, ℕ, ◌+◌, ◌-◌, ◌^◌, ◌<◌, Bool, true, false, leb, ltb, cond, ◌⊎◌, inl, inr, List, [], ◌∷◌, ◌++◌, length, Option, Some, None, option_and_then, refl, sym, ap, ◌∙◌, subst, length-append, arith}
 use Rattle.std.proofs.lemmas.Bool.{le-leb, lt-ltb}
-use Rattle.yq_scalar.specs.Characters.{text_limit}
 use Rattle.yq_scalar.specs.Paths.{Step, is_here, further, child_at, node_at, change_child, within, change}
 use Rattle.yq_scalar.specs.Scalar.{ScalarText}
 use Rattle.yq_scalar.specs.Tree.{Node, alias, scalar, list, map, Children, none, child, children_of}
@@ -15,31 +14,33 @@ use Rattle.yq_rows.specs.Rows.{Cut, cut_text}
 use Rattle.yq_tree.specs.Documents.{Document, Reads}
 use Rattle.yq_tree.specs.Outline.{first_anchor}
 use Rattle.yq_tree.specs.Reading.{read_at, documents}
-use Rattle.yq_tree.specs.Written.{Written, IsWritten, IsSet}
+use Rattle.yq_tree.specs.ScalarPlaces.{ScalarPlace, IsPlace, held}
+use Rattle.yq_tree.specs.ScalarPlaces as places
+use Rattle.yq_tree.specs.Written.{IsSet}
 use Rattle.yq_tree.proofs.ReadLaws.{read_takes, one_reading}
 use Rattle.yq_tree.proofs.RowPathLaws.{is_one}
-use Rattle.yq_tree.proofs.WrittenLaws.{scalar_stands, scalar_set}
+use Rattle.yq_tree.proofs.ScalarPlaceLaws.{place_stands, place_set}
 use Rattle.yq_expr.specs.Judgement as judgement
 use Rattle.yq_expr.specs.Meaning.{program_meaning, meaning}
 use Rattle.yq_expr.specs.Operations.{replace, replaced, all_after}
 use Rattle.yq_expr.specs.Program.{Program, updates, assignment_of}
 use Rattle.yq_expr.proofs.PlanLaws.{plan_means}
-use Rattle.yq_splice.specs.Edit.{gives, edit_of}
+use Rattle.yq_splice.specs.Edit.{gives, put_scalar, edit_of}
 use Rattle.yq_splice.specs.Patch.{Change, change_done, all_done, length_done, lengths_done}
 use Rattle.yq_splice.specs.Style.{new_style}
 use Rattle.yq_splice.specs.Theorems.{IsInside, IsMeant, AreSplices}
 use Rattle.yq_splice.specs.Valid.{HasOperands}
-use Rattle.yq_splice.proofs.EditLaws.{IsKept, IsPut, new_scalar, scalar_put}
+use Rattle.yq_splice.proofs.EditLaws.{IsKept, IsPut, scalar_put}
 use Rattle.yq_splice.proofs.FoundLaws.{IsFound, scalar_of, edit_found}
 use Rattle.yq_splice.proofs.PatchLaws.{done-from_exchanges}
 use Rattle.yq_splice.proofs.StyleLaws.{style_writes, style_inline}
 
--- what is written where the program's steps lead
-written_of : (p : Program) (t new : List ℕ) (changes : List Change) (f : IsFound p t new changes) → IsWritten t f.rows f.carried.document f.carried.path f.carried.old
-written_of p t new changes f = record { read = f.read; one = f.carried.one; at = f.carried.is }
+-- the place where the program's steps lead
+place_of : (p : Program) (t new : List ℕ) (changes : List Change) (f : IsFound p t new changes) → IsPlace t f.rows f.carried.document f.carried.path f.carried.old
+place_of p t new changes f = record { read = f.read; one = f.carried.one; at = f.carried.is }
 
-pieces_of : (p : Program) (t new : List ℕ) (changes : List Change) (f : IsFound p t new changes) → HasPieces t f.carried.old.before f.carried.old.scalar f.carried.old.behind
-pieces_of p t new changes f = (scalar_stands t f.rows f.carried.document f.carried.path f.carried.old (written_of p t new changes f)).0
+pieces_of : (p : Program) (t new : List ℕ) (changes : List Change) (f : IsFound p t new changes) → HasPieces t f.carried.old.before (places.replaced f.carried.old.old) f.carried.old.behind
+pieces_of p t new changes f = (place_stands t f.rows f.carried.document f.carried.path f.carried.old (place_of p t new changes f)).0
 
 -- the text of the rows
 text_of : (p : Program) (t new : List ℕ) (changes : List Change) (f : IsFound p t new changes) → t ≡ cut_text f.rows
@@ -114,8 +115,8 @@ kept_set : (p : Program) (t new : List ℕ) (changes : List Change) (f : IsFound
 kept_set p t new changes f k =
     let g : Node → Node = replaced (scalar None f.carried.value.0 f.carried.value.1) in
     let d : Document = f.carried.document in
-    let at = (scalar_stands t f.rows d f.carried.path f.carried.old (written_of p t new changes f)).1 in
-    let q : ScalarText = inline.scalar_of f.carried.old.scalar in
+    let at = (place_stands t f.rows d f.carried.path f.carried.old (place_of p t new changes f)).1 in
+    let q : ScalarText = held f.carried.old.old in
     let same : g (scalar at.0 q.kind q.text) ≡ scalar at.0 q.kind q.text = stays (scalar_of f.carried.value) at.0 q ∙ ap (λ (s : ScalarText). scalar at.0 s.kind s.text) (sym k.same) in
     let root : change f.carried.path g d.root ≡ d.root = change_kept f.carried.path g d.root _ at.1 same in
     let text : t ≡ new = text_of p t new changes f ∙ k.text in
@@ -126,10 +127,10 @@ put_set : (p : Program) (t new : List ℕ) (changes : List Change) (f : IsFound 
     IsSet new f.carried.document f.carried.path (replaced (scalar None f.carried.value.0 f.carried.value.1))
 put_set p t new changes f valid k =
     let s : ScalarText = scalar_of f.carried.value in
-    let style = new_style s (inline.style_of f.carried.old.scalar) in
+    let style = new_style s (inline.style_of (places.replaced f.carried.old.old)) in
     subst (λ (u : List ℕ). IsSet u f.carried.document f.carried.path (replaced (scalar None f.carried.value.0 f.carried.value.1))) k.text
-    (scalar_set t f.rows f.carried.document f.carried.path f.carried.old s style (replaced (scalar None f.carried.value.0 f.carried.value.1)) (written_of p t new changes f) valid
-    (style_inline s (inline.style_of f.carried.old.scalar) (old_inline f.carried.old.scalar)) (style_writes s (inline.style_of f.carried.old.scalar)) k.size (stays s))
+    (place_set t f.rows f.carried.document f.carried.path f.carried.old s style (replaced (scalar None f.carried.value.0 f.carried.value.1)) (place_of p t new changes f) valid
+    (style_inline s (inline.style_of (places.replaced f.carried.old.old)) (old_inline (places.replaced f.carried.old.old))) (style_writes s (inline.style_of (places.replaced f.carried.old.old))) k.size (stays s))
 
 pub edit_meant : (p : Program) (t new : List ℕ) (changes : List Change) → edit_of p t ≡ gives new changes → ((c : Cut) → read_at t ≡ Some c → HasOperands p c) → (docs : List Document) → Reads t docs → IsMeant p docs new
 edit_meant p t new changes h valid docs reads =
@@ -154,7 +155,7 @@ inside_by p t new changes f q text = record {
   leads = f.carried.leads;
   old = f.carried.old;
   is = f.carried.is;
-  scalar = q;
+  put = q;
   before = (pieces_of p t new changes f).text;
   after = text;
 }
@@ -165,8 +166,8 @@ edit_inside p t new changes h =
     go f (scalar_put (scalar_of f.carried.value) f.carried.old f.rows new changes f.carried.put)
   where
     go : (f : IsFound p t new changes) → IsKept (scalar_of f.carried.value) f.carried.old f.rows new changes ⊎ IsPut (scalar_of f.carried.value) f.carried.old new changes → IsInside p t new
-    go f (inl k) = inside_by p t new changes f f.carried.old.scalar (sym k.text ∙ (sym (text_of p t new changes f) ∙ (pieces_of p t new changes f).text))
-    go f (inr k) = inside_by p t new changes f (new_scalar (scalar_of f.carried.value) f.carried.old) (sym k.text)
+    go f (inl k) = inside_by p t new changes f (places.replaced f.carried.old.old) (sym k.text ∙ (sym (text_of p t new changes f) ∙ (pieces_of p t new changes f).text))
+    go f (inr k) = inside_by p t new changes f (put_scalar (scalar_of f.carried.value) f.carried.old.old) (sym k.text)
 
 -- the splices of a text whose middle piece is exchanged
 one_length : (before old new behind : List ℕ) → length (before ++ (new ++ behind)) < 2 ^ 64 →
@@ -201,8 +202,8 @@ edit_splices p t new changes h =
         let same : t ≡ new = text_of p t new changes f ∙ k.text in
         subst (λ (cs : List Change). AreSplices cs t new) (sym k.none) (record { texts = ap Some same; lengths = ap (λ (u : List ℕ). Some (length u)) same })
     go f (inr k) =
-        let w : Written = f.carried.old in
-        let q : List ℕ = new_scalar (scalar_of f.carried.value) w in
+        let w : ScalarPlace = f.carried.old in
+        let q : List ℕ = put_scalar (scalar_of f.carried.value) w.old in
         let small : length (w.before ++ (q ++ w.behind)) < 2 ^ 64 = omega (arith, k.size) in
-        let all : AreSplices (record { at = length w.before; old = w.scalar; new = q } ∷ []) t (w.before ++ (q ++ w.behind)) = one_splice t w.before w.scalar q w.behind (pieces_of p t new changes f).text small in
+        let all : AreSplices (record { at = length w.before; old = places.replaced w.old; new = q } ∷ []) t (w.before ++ (q ++ w.behind)) = one_splice t w.before (places.replaced w.old) q w.behind (pieces_of p t new changes f).text small in
         subst (λ (u : List ℕ). AreSplices changes t u) k.text (subst (λ (cs : List Change). AreSplices cs t (w.before ++ (q ++ w.behind))) (sym k.one) all)

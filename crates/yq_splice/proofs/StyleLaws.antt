@@ -1,5 +1,5 @@
 -- The style of a scalar in the place of another one can write it.
-use Rattle.std.proofs.Common.{◌≡◌, Bool, true, false, not, ◌||◌, ◌&&◌, cond, refl, sym, ap, ◌∙◌}
+use Rattle.std.proofs.Common.{◌≡◌, Bool, true, false, not, ◌||◌, ◌&&◌, cond, refl}
 use Rattle.yq_scalar.specs.PlainText.{is_plain_text}
 use Rattle.yq_scalar.specs.Scalar.{ScalarText}
 use Rattle.yq_scalar.specs.SchemaReading.{resolve}

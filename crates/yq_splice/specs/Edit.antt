@@ -4,10 +4,10 @@ use Rattle.yq_scalar.specs.Characters.{text_limit}
 use Rattle.yq_scalar.specs.Scalar.{ScalarText}
 use Rattle.yq_scalar.specs.Tree.{Node, alias, scalar, list, map}
 use Rattle.yq_scalar.specs.Written.{written}
-use Rattle.yq_inline.specs.Scalars.{style_of, scalar_of}
+use Rattle.yq_inline.specs.Scalars.{style_of}
 use Rattle.yq_rows.specs.Rows.{Cut, cut_text}
 use Rattle.yq_tree.specs.Reading.{read_at}
-use Rattle.yq_tree.specs.Written.{Written, written_at}
+use Rattle.yq_tree.specs.ScalarPlaces.{ScalarPlace, place_at, held, replaced, spaced}
 use Rattle.yq_expr.specs.Operations.{Operation, replace, append, remove, line_comment, head_comment}
 use Rattle.yq_expr.specs.Judgement.{Judgement}
 use Rattle.yq_expr.specs.Judgement as judgement
@@ -32,19 +32,23 @@ put_between before old new behind =
     then gives (before ++ (new ++ behind)) (record { at = length before; old = old; new = new } ∷ [])
     else refuses TooLarge
 
--- A scalar in the place of one that is written: an equal one leaves the text as it is, another is written in the old one's style, if that can write it (own).
-abbrev pub replace_scalar : ScalarText → Written → Cut → Edit
-replace_scalar s w c =
-    if is_same (scalar_of w.scalar) s then gives (cut_text c) []
-    else put_between w.before w.scalar (written (new_style s (style_of w.scalar)) s.text) w.behind
+-- a scalar as it is put in the place of another or of nothing: in the old one's style, if that can write it, and behind a space where nothing is written (own)
+abbrev pub put_scalar : ScalarText → Option (List ℕ) → List ℕ
+put_scalar s old = spaced old (written (new_style s (style_of (replaced old))) s.text)
 
--- a scalar in the place of one that is written behind a key or dash, if one is (own)
-abbrev pub replace_at : ScalarText → Option Written → Cut → Edit
+-- a scalar in a place: one that is equal to what that holds leaves the text as it is, another is put there (own)
+abbrev pub replace_scalar : ScalarText → ScalarPlace → Cut → Edit
+replace_scalar s w c =
+    if is_same (held w.old) s then gives (cut_text c) []
+    else put_between w.before (replaced w.old) (put_scalar s w.old) w.behind
+
+-- a scalar in a place, if there is one (own)
+abbrev pub replace_at : ScalarText → Option ScalarPlace → Cut → Edit
 replace_at s None c = unbuilt
 replace_at s (Some w) c = replace_scalar s w c
 
--- a value in the place of a scalar that is written; so far another scalar (own)
-abbrev pub replace_by : Node → Option Written → Cut → Edit
+-- a value in a place where a scalar can be set; so far a scalar (own)
+abbrev pub replace_by : Node → Option ScalarPlace → Cut → Edit
 replace_by (alias name) w c = unbuilt
 replace_by (scalar anchor kind text) w c = replace_at (record { kind = kind; text = text }) w c
 replace_by (list anchor cs) w c = unbuilt
@@ -52,7 +56,7 @@ replace_by (map anchor cs) w c = unbuilt
 
 -- an operation carried out (own)
 abbrev pub carry_one : Operation → Cut → Edit
-carry_one (replace doc steps v) c = if doc == 0 then replace_by v (written_at steps c) c else unbuilt
+carry_one (replace doc steps v) c = if doc == 0 then replace_by v (place_at steps c) c else unbuilt
 carry_one (append doc steps key v) c = unbuilt
 carry_one (remove doc steps) c = unbuilt
 carry_one (line_comment doc steps text) c = unbuilt

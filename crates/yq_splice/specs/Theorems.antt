@@ -5,14 +5,14 @@ use Rattle.yq_scalar.specs.Paths as paths
 use Rattle.yq_rows.specs.Rows.{Cut}
 use Rattle.yq_tree.specs.Documents.{Document, Reads}
 use Rattle.yq_tree.specs.Reading.{read_at, documents}
-use Rattle.yq_tree.specs.Written.{Written, written_at}
+use Rattle.yq_tree.specs.ScalarPlaces.{ScalarPlace, place_at, replaced}
 use Rattle.yq_expr.specs.Judgement.{gives}
 use Rattle.yq_expr.specs.Matching.{there, steps_lead}
 use Rattle.yq_expr.specs.Meaning.{program_meaning}
 use Rattle.yq_expr.specs.Program.{Step, Program, assignment_of}
 use Rattle.yq_splice.specs.Patch.{Change, all_done, lengths_done}
 
--- One scalar is exchanged: the one that is written where the program's steps lead in the one document. The text before it and the text behind it stay (own).
+-- One scalar is set: in the place where the program's steps lead in the one document, what is put there replaces the scalar that is written, or nothing. The text before it and the text behind it stay (own).
 pub record IsInside (p : Program) (t new : List ℕ) : Type 0 where
   pub rows : Cut
   pub read : read_at t ≡ Some rows
@@ -23,11 +23,11 @@ pub record IsInside (p : Program) (t new : List ℕ) : Type 0 where
   pub program : assignment_of p ≡ Some (steps, value)
   pub path : List paths.Step
   pub leads : steps_lead steps document.root ≡ gives (there path)
-  pub old : Written
-  pub is : written_at path rows ≡ Some old
-  pub scalar : List ℕ
-  pub before : t ≡ old.before ++ (old.scalar ++ old.behind)
-  pub after : new ≡ old.before ++ (scalar ++ old.behind)
+  pub old : ScalarPlace
+  pub is : place_at path rows ≡ Some old
+  pub put : List ℕ
+  pub before : t ≡ old.before ++ (replaced old.old ++ old.behind)
+  pub after : new ≡ old.before ++ (put ++ old.behind)
 
 -- The new text reads as what the program makes of the documents of the old one (own).
 pub record IsMeant (p : Program) (docs : List Document) (new : List ℕ) : Type 0 where

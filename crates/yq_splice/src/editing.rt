@@ -10,8 +10,9 @@ ghost use Rattle.yq_inline.specs.Valued.{IsValid};
 ghost use Rattle.yq_rows.specs.Grammar.{IsCut};
 ghost use Rattle.yq_rows.specs.Rows.{Cut};
 ghost use Rattle.yq_tree.specs.Documents.{Document, Reads};
+ghost use Rattle.yq_tree.specs.Nodes.{lent};
 ghost use Rattle.yq_tree.specs.Reading.{cut_of, read_at};
-ghost use Rattle.yq_tree.specs.Written.{written_at};
+ghost use Rattle.yq_tree.specs.ScalarPlaces as placed;
 ghost use Rattle.yq_expr.specs.View.{program_of};
 ghost use Rattle.yq_expr.specs.Operations.{operation_of, operations_of};
 ghost use Rattle.yq_splice.specs.Answers.{Edits};
@@ -111,7 +112,31 @@ fn new_style(scalar: &Scalar, old: Style) -> Style
     }
 }
 
-/// A scalar in the place of the one that is written at a path.
+/// The scalar that is written in a place, or nothing.
+fn replaced<'d>(old: Option<&'d str>) -> &'d str
+    ensures { result.now ≡ placed.replaced (lent old.entry) }
+{
+    match old {
+        Some(scalar) => scalar,
+        None => "",
+    }
+}
+
+/// A scalar as it is put in a place: behind a space where nothing is written.
+fn spaced(alloc: Global, old: Option<&str>, scalar: &str) -> Result<String, AllocError>
+    ensures { IfOk result (λ s. string_bytes s ≡ placed.spaced (lent old.entry) scalar.now) }
+{
+    match old {
+        Some(_) => String::from_str(alloc, scalar),
+        None => {
+            let mut text = String::from_str(alloc, " ")?;
+            text.push_str(scalar)?;
+            Ok(text)
+        }
+    }
+}
+
+/// A scalar in the place at a path, if one can be set there.
 fn replace_scalar(
     alloc: Global,
     text: &str,
@@ -120,18 +145,20 @@ fn replace_scalar(
     scalar: &Scalar,
 ) -> Result<Edited, EditError>
     requires { IsCut text.now (cut_of documents.now) }
-    ensures exact { Edits result (spec.replace_at scalar.now (written_at (map step_of steps.now) (cut_of documents.now)) (cut_of documents.now)) }
+    ensures exact { Edits result (spec.replace_at scalar.now (placed.place_at (map step_of steps.now) (cut_of documents.now)) (cut_of documents.now)) }
     ensures valid { IfOk result (λ e. IsValid scalar.now) }
 {
-    let Some(old) = documents.written(steps) else {
+    let Some(place) = documents.place(steps) else {
         return Err(EditError::NotInProfile);
     };
-    if is_same(old.kind, old.text, scalar) {
+    if is_same(place.kind, place.text, scalar) {
         return Ok(unchanged(alloc, text)?);
     }
-    let style = new_style(scalar, style_of(old.scalar.as_bytes()));
-    let new = write_scalar(alloc, scalar, style, Place::Block)?;
-    put_between(alloc, old.before, old.scalar, &new, old.behind)
+    let old = replaced(place.old);
+    let style = new_style(scalar, style_of(old.as_bytes()));
+    let written = write_scalar(alloc, scalar, style, Place::Block)?;
+    let new = spaced(alloc, place.old, &written)?;
+    put_between(alloc, place.before, old, &new, place.behind)
 }
 
 /// An operation carried out on a text.
@@ -215,7 +242,7 @@ fn edit_text(alloc: Global, text: &str, program: &Program) -> Result<Edited, Edi
 pub fn edit(alloc: Global, text: &str, program: &Program) -> Result<Edited, EditError>
     // The new text, or why there is none.
     ensures exact { Edits result (spec.edit_of (program_of program.now) text.now) }
-    // One scalar is exchanged, and the text before it and behind it stays.
+    // One scalar is set, and the text before it and behind it stays.
     ensures inside { IfOk result (λ e. IsInside (program_of program.now) text.now (string_bytes e.text)) }
     // The new text reads as what the program means.
     ensures meaning { IfOk result (λ e. (docs : List Document) → Reads text.now docs → IsMeant (program_of program.now) docs (string_bytes e.text)) }

@@ -2,6 +2,7 @@
 
 use crate::{EditError, Edited, Splice, edit};
 use std::alloc::{AllocError, Global};
+use std::process::Abort;
 use std::test::Fail;
 use yq_expr::{Refusal, parse_expr};
 use yq_scalar::{FaultKind, ReadFault};
@@ -22,6 +23,21 @@ fn text_of(alloc: Global, row: &Row, middle: &str) -> Result<String, AllocError>
     text.push_str(middle)?;
     text.push_str(row.behind)?;
     Ok(text)
+}
+
+/// The edit of a row is made, and one splice says so.
+fn is_edited(rt: &impl Abort, alloc: Global, row: &Row) -> Result<(), Fail> {
+    let old = text_of(alloc, row, row.old)?;
+    let new = text_of(alloc, row, row.new)?;
+    let program = parse_expr(alloc, row.expression)?;
+    let edited = edit(alloc, &old, &program)?;
+    assert_eq!(rt; edited.text.as_str(), new.as_str());
+    assert_eq!(rt; edited.splices.len(), 1);
+    let splice = &edited.splices[0];
+    assert_eq!(rt; splice.at, row.before.len() as u64);
+    assert_eq!(rt; splice.old.as_slice(), row.old.as_bytes());
+    assert_eq!(rt; splice.new.as_slice(), row.new.as_bytes());
+    Ok(())
 }
 
 /// One scalar gives way to another, and one splice says so.
@@ -143,16 +159,61 @@ fn edits(rt: HostRuntime) -> Result<(), Fail> {
         },
     ];
     for row in rows {
-        let old = text_of(alloc, &row, row.old)?;
-        let new = text_of(alloc, &row, row.new)?;
-        let program = parse_expr(alloc, row.expression)?;
-        let edited = edit(alloc, &old, &program)?;
-        assert_eq!(rt; edited.text.as_str(), new.as_str());
-        assert_eq!(rt; edited.splices.len(), 1);
-        let splice = &edited.splices[0];
-        assert_eq!(rt; splice.at, row.before.len() as u64);
-        assert_eq!(rt; splice.old.as_slice(), row.old.as_bytes());
-        assert_eq!(rt; splice.new.as_slice(), row.new.as_bytes());
+        is_edited(&rt, alloc, &row)?;
+    }
+    Ok(())
+}
+
+/// Where nothing is written, a scalar is put behind a space.
+#[test]
+fn edits_where_nothing_is_written(rt: HostRuntime) -> Result<(), Fail> {
+    let alloc = rt.alloc();
+    let rows = [
+        Row {
+            expression: ".a = 1",
+            before: "a:",
+            old: "",
+            new: " 1",
+            behind: "\nb: 2\n",
+        },
+        Row {
+            expression: ".[0] = \"y\"",
+            before: "- &x",
+            old: "",
+            new: " y",
+            behind: " # c\n- *x\n",
+        },
+        Row {
+            expression: ".k.a = \": x\"",
+            before: "k:\r\n  b: 1\r\n  a:",
+            old: "",
+            new: " \": x\"",
+            behind: "  # c\r\n",
+        },
+        Row {
+            expression: ".l[1] = true",
+            before: "l:\n- 1\n-",
+            old: "",
+            new: " true",
+            behind: "\n# c\n- 2\n",
+        },
+        Row {
+            expression: ".a[0].b = \"x y\"",
+            before: "a:\n- \"b\" :",
+            old: "",
+            new: " x y",
+            behind: " \n  c: 1\n",
+        },
+        Row {
+            expression: ".a = \"null\"",
+            before: "a:",
+            old: "",
+            new: " \"null\"",
+            behind: "",
+        },
+    ];
+    for row in rows {
+        is_edited(&rt, alloc, &row)?;
     }
     Ok(())
 }
@@ -164,6 +225,8 @@ fn leaves_equal_scalars(rt: HostRuntime) -> Result<(), Fail> {
     let rows = [
         ("a:   1  # c\n", ".a = 1"),
         ("a: ~\n", ".a = null"),
+        ("a:\n", ".a = null"),
+        ("- &x # c\n- *x\n", ".[0] = null"),
         ("a: NULL\n", ".a = null"),
         ("a: ---x\n", ".a = \"---x\""),
         ("a: 'x' # c\n", ".a = \"x\""),
@@ -218,7 +281,9 @@ fn refuses(rt: HostRuntime) -> Result<(), Fail> {
         ("a: 1\n", ".b = 1", EditError::NotInProfile),
         ("a: 1\n", ".b.c = 1", EditError::NotInProfile),
         ("a: ~\n", ".a.c = 1", EditError::NotInProfile),
-        ("a:\nb: 1\n", ".a = 1", EditError::NotInProfile),
+        ("a:\n- 1\n", ".a = 1", EditError::NotInProfile),
+        ("a:\n  x\n", ".a = 1", EditError::NotInProfile),
+        ("a: {b: }\n", ".a.b = 1", EditError::NotInProfile),
         ("a:\n  b: 1\n", ".a = 1", EditError::NotInProfile),
         ("a: 1\n", ". = 1", EditError::NotInProfile),
         ("a: |\n  x\n", ".a = \"1\"", EditError::NotInProfile),

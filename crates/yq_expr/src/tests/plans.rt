@@ -67,6 +67,7 @@ fn plans(rt: HostRuntime) -> Result<(), Fail> {
         (".b.d = null", "0/b/d Null null"),
         (".b.e = 1.50", "0/b/e Float 1.50"),
         (".[\"b\"][\"d\"] = true", "0/b/d Bool true"),
+        (".g = 1", "0/g Int 1"),
         (".j = 1", "0/j Int 1"),
     ];
     for (text, wanted) in rows {
@@ -99,7 +100,6 @@ fn refuses_plans(rt: HostRuntime) -> Result<(), Fail> {
         (".b.d.x.y = 1", PlanError::Refused(Refusal::NotAMap)),
         (".b.e.x = 1", PlanError::NotInProfile),
         (".g.x = 1", PlanError::NotInProfile),
-        (".g = 1", PlanError::NotInProfile),
         (".h = 1", PlanError::NotInProfile),
         (".h.x = 1", PlanError::Refused(Refusal::NotAMap)),
         (".i = 1", PlanError::NotInProfile),
