@@ -47,15 +47,24 @@ def check_another_hand_changes_the_file(folder):
     equal((folder.read("f"), folder.read("f.undo.json")), (b"name: api # main\nport: 9091\n", journal))
 
 
-def check_line_breaks_of_both_kinds_stay(folder):
-    text = b"n: 1\r\nm: 2\r\nk: # none\n  o: p \n"
+def edits_are_undone(folder, text, expressions, wanted):
+    """The expressions, one after the other, make the wanted text, and as many undos give the first bytes."""
     folder.write("f", text)
-    folder.accepts("-i", ".m = 30", "f")
-    folder.accepts("-i", ".k.o = -1.5", "f")
-    equal(folder.read("f"), b"n: 1\r\nm: 30\r\nk: # none\n  o: -1.5 \n")
-    folder.accepts("undo", "f")
-    folder.accepts("undo", "f")
+    for expression in expressions:
+        folder.accepts("-i", expression, "f")
+    equal(folder.read("f"), wanted)
+    for _ in expressions:
+        folder.accepts("undo", "f")
     equal(folder.read("f"), text)
+
+
+def check_line_breaks_of_both_kinds_stay(folder):
+    edits_are_undone(
+        folder,
+        b"n: 1\r\nm: 2\r\nk: # none\n  o: p \n",
+        [".m = 30", ".k.o = -1.5"],
+        b"n: 1\r\nm: 30\r\nk: # none\n  o: -1.5 \n",
+    )
 
 
 def check_an_equal_value_writes_nothing(folder):
@@ -68,14 +77,12 @@ def check_an_equal_value_writes_nothing(folder):
 
 
 def check_a_value_is_put_where_nothing_is_written(folder):
-    text = b"a: # c\nl:\n- &x\n- *x\n"
-    folder.write("f", text)
-    folder.accepts("-i", ".a = 1", "f")
-    folder.accepts("-i", ".l[0] = \"y\"", "f")
-    equal(folder.read("f"), b"a: 1 # c\nl:\n- &x y\n- *x\n")
-    folder.accepts("undo", "f")
-    folder.accepts("undo", "f")
-    equal(folder.read("f"), text)
+    edits_are_undone(
+        folder,
+        b"a: # c\nl:\n- &x\n- *x\n",
+        [".a = 1", ".l[0] = \"y\""],
+        b"a: 1 # c\nl:\n- &x y\n- *x\n",
+    )
 
 
 def check_a_journal_of_another_name(folder):
