@@ -26,36 +26,36 @@ mark_seam Bare c rest new e m s = absurd (false≢true e)
 mark_seam Dash c rest new e m s = dash m s
 mark_seam (Key key sign) c rest new e m s = alike_append false key _ _ (colon_seam sign m.colon_is.white (content_text c rest) new m.colon_is.spelled m.colon_is.separated s)
 
-mark_kept : (mark : Mark) (c new : Content) (rest : List ℕ) → is_entry mark ≡ true → IsMark mark c rest → separates (content_text new rest) ≡ true → IsMark mark new rest
-mark_kept Bare c new rest e m s = absurd (false≢true e)
-mark_kept Dash c new rest e m s = s
-mark_kept (Key key sign) c new rest e m s =
-    let seam = colon_seam sign m.colon_is.white (content_text c rest) (content_text new rest) m.colon_is.spelled m.colon_is.separated s in
+mark_kept : (mark : Mark) (c new : Content) (rest other : List ℕ) → is_entry mark ≡ true → IsMark mark c rest → separates (content_text new other) ≡ true → IsMark mark new other
+mark_kept Bare c new rest other e m s = absurd (false≢true e)
+mark_kept Dash c new rest other e m s = s
+mark_kept (Key key sign) c new rest other e m s =
+    let seam = colon_seam sign m.colon_is.white (content_text c rest) (content_text new other) m.colon_is.spelled m.colon_is.separated s in
     record {
-      scalar = scalar_alike false None key (sign ++ content_text c rest) (sign ++ content_text new rest) seam m.scalar;
+      scalar = scalar_alike false None key (sign ++ content_text c rest) (sign ++ content_text new other) seam m.scalar;
       colon_is = record { white = m.colon_is.white; spelled = m.colon_is.spelled; blank = m.colon_is.blank; separated = s };
       near = m.near;
     }
 
--- one row, and how its text begins
-pub one_row : (limit : Limit) (r : Row) (new : Content) (rest : List ℕ) → IsRow limit r rest → is_entry r.mark ≡ true → IsContent (parent_indent r) new rest → separates (content_text new rest) ≡ true →
-    IsRow limit (with_content new r) rest × Alike false (print_row r rest) (print_row (with_content new r) rest)
-one_row limit r new rest h entry c s =
-    let indent : Alike false (behind_indent r rest) (behind_indent (with_content new r) rest) = dashes_text_alike r.dashes _ _ (mark_seam r.mark r.content rest (content_text new rest) entry h.mark s) in
-    let gap : Alike false (behind_gap r rest) (behind_gap (with_content new r) rest) = alike_append false (replicate r.column 32) _ _ indent in (
+-- one row before two texts, and how its text begins
+pub one_row : (limit : Limit) (r : Row) (new : Content) (rest other : List ℕ) → IsRow limit r rest → is_entry r.mark ≡ true → IsContent (parent_indent r) new other → separates (content_text new other) ≡ true →
+    IsRow limit (with_content new r) other × Alike false (print_row r rest) (print_row (with_content new r) other)
+one_row limit r new rest other h entry c s =
+    let indent : Alike false (behind_indent r rest) (behind_indent (with_content new r) other) = dashes_text_alike r.dashes _ _ (mark_seam r.mark r.content rest (content_text new other) entry h.mark s) in
+    let gap : Alike false (behind_gap r rest) (behind_gap (with_content new r) other) = alike_append false (replicate r.column 32) _ _ indent in (
       record {
-        gap = row_gap_alike r.gap (behind_gap r rest) (behind_gap (with_content new r) rest) gap h.gap;
+        gap = row_gap_alike r.gap (behind_gap r rest) (behind_gap (with_content new r) other) gap h.gap;
         allowed = h.allowed;
-        unmarked = ap (λ b. eqb r.column 0 && b) (sym (alike_marker false (behind_indent r rest) (behind_indent (with_content new r) rest) indent)) ∙ h.unmarked;
+        unmarked = ap (λ b. eqb r.column 0 && b) (sym (alike_marker false (behind_indent r rest) (behind_indent (with_content new r) other) indent)) ∙ h.unmarked;
         dashes = h.dashes;
-        mark = mark_kept r.mark r.content new rest entry h.mark s;
+        mark = mark_kept r.mark r.content new rest other entry h.mark s;
         content = c;
       },
       alike_append false r.gap _ _ gap,
     )
 
 -- another limit before rows
-relimit : (limit other : Limit) (rs : List Row) (end rest : List ℕ) → allows_first other rs ≡ true → AreRows limit rs end rest → AreRows other rs end rest
+pub relimit : (limit other : Limit) (rs : List Row) (end rest : List ℕ) → allows_first other rs ≡ true → AreRows limit rs end rest → AreRows other rs end rest
 relimit limit other [] end rest a h = h
 relimit limit other (r ∷ rs) end rest a h = (record { gap = h.0.gap; allowed = a; unmarked = h.0.unmarked; dashes = h.0.dashes; mark = h.0.mark; content = h.0.content }, h.1)
 
@@ -74,7 +74,7 @@ rows_exchanged i [] limit end rest new r h is f = cc
 rows_exchanged zero (x ∷ rows) limit end rest new r h is f =
     let same : x ≡ r = cc in
     let g : Fits new x (rows_text rows (end ++ rest)) rows = subst (λ (y : Row). Fits new y (rows_text rows (end ++ rest)) rows) (sym same) f in
-    let one = one_row limit x new (rows_text rows (end ++ rest)) h.0 g.entry g.content g.apart in
+    let one = one_row limit x new (rows_text rows (end ++ rest)) (rows_text rows (end ++ rest)) h.0 g.entry g.content g.apart in
     ((one.0, relimit (limit_after x) (limit_after (with_content new x)) rows end rest g.next h.1), one.1)
 rows_exchanged (suc i) (x ∷ rows) limit end rest new r h is f =
     let again = rows_exchanged i rows (limit_after x) end rest new r h.1 is f in
@@ -93,7 +93,7 @@ slice_back [] b i r more h = let e : i - 0 ≡ i = omega arith in rw e h
 slice_back (x ∷ a) b zero r more h = absurd (omega arith)
 slice_back (x ∷ a) b (suc i) r more h = let e : suc i - suc (length a) ≡ i - length a = omega arith in rw e (slice_back a b i r (omega arith) h)
 
-rows_left : (i : ℕ) (new : Content) (rows : List Row) → no_rows (with_content_at i new rows) ≡ no_rows rows
+pub rows_left : (i : ℕ) (new : Content) (rows : List Row) → no_rows (with_content_at i new rows) ≡ no_rows rows
 rows_left i new [] = refl
 rows_left zero new (r ∷ rows) = refl
 rows_left (suc i) new (r ∷ rows) = refl
@@ -109,7 +109,7 @@ part_exchanged started i new p rest r h is f =
 abbrev pub CutExchanged : Bool → Cut → Cut → Type 0
 CutExchanged started c d = AreParts started d × Alike false (cut_text c) (cut_text d)
 
-marked_behind : (started : Bool) (p : Part) (marker : List ℕ) (c d : Cut) → AreParts started (marked p marker c) → CutExchanged (begins_document marker) c d → CutExchanged started (marked p marker c) (marked p marker d)
+pub marked_behind : (started : Bool) (p : Part) (marker : List ℕ) (c d : Cut) → AreParts started (marked p marker c) → CutExchanged (begins_document marker) c d → CutExchanged started (marked p marker c) (marked p marker d)
 marked_behind started p marker c d h more =
     let text = alike_append false marker (cut_text c) (cut_text d) more.1 in
     ((part_alike started p (marker ++ cut_text c) (marker ++ cut_text d) text h.0, marker_line_alike marker (cut_text c) (cut_text d) more.1 h.1, more.0), part_text_alike p (marker ++ cut_text c) (marker ++ cut_text d) text)

@@ -35,3 +35,6 @@ pub mod PartLending
 pub mod RestLending
 pub mod Failing
 pub mod PlainEnds
+pub mod NothingLaws
+pub mod AloneLaws
+pub mod AlonePieces

@@ -25,12 +25,12 @@ use Rattle.yq_rows.proofs.PlaceLaws.{place, new_place, RowIn, row_in}
 pub inline_starts : (n : ℤ) (node : Node) (rest : List ℕ) → IsInline places.Block n 0 node rest → Starts (node_text node rest)
 inline_starts n node rest h = node_starts (node_text node rest) (node_begins (Some (deeper n)) depth_limit node rest h.valid h.something)
 
-mark_apart : (mark : Mark) (c : Content) (rest : List ℕ) → is_entry mark ≡ true → IsMark mark c rest → separates (content_text c rest) ≡ true
+pub mark_apart : (mark : Mark) (c : Content) (rest : List ℕ) → is_entry mark ≡ true → IsMark mark c rest → separates (content_text c rest) ≡ true
 mark_apart Bare c rest e m = absurd (false≢true e)
 mark_apart Dash c rest e m = m
 mark_apart (Key key colon) c rest e m = m.colon_is.separated
 
-space_apart : (space old new : List ℕ) → IsWhite space → separates (space ++ old) ≡ true → separates old ≡ false → separates (space ++ new) ≡ true
+pub space_apart : (space old new : List ℕ) → IsWhite space → separates (space ++ old) ≡ true → separates old ≡ false → separates (space ++ new) ≡ true
 space_apart [] old new blank h none = absurd (false≢true (sym none ∙ h))
 space_apart (b ∷ space) old new blank h none = rw blank.0 refl
 

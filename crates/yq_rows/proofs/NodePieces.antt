@@ -20,16 +20,16 @@ use Rattle.yq_rows.proofs.NodeExchange.{inline_starts, holds_node, node_place}
 use Rattle.yq_rows.proofs.PlaceLaws.{row_in}
 
 -- the last byte is ASCII
-record EndsAscii (p : List ℕ) : Type 0 where
-  front : List ℕ
-  last : ℕ
-  is : p ≡ front ++ last ∷ []
-  ascii : last < 128
+pub record EndsAscii (p : List ℕ) : Type 0 where
+  pub front : List ℕ
+  pub last : ℕ
+  pub is : p ≡ front ++ last ∷ []
+  pub ascii : last < 128
 
-ends_behind : (xs p : List ℕ) → EndsAscii p → EndsAscii (xs ++ p)
+pub ends_behind : (xs p : List ℕ) → EndsAscii p → EndsAscii (xs ++ p)
 ends_behind xs p e = record { front = xs ++ e.front; last = e.last; is = ap (λ (q : List ℕ). xs ++ q) e.is ∙ sym (append_assoc xs e.front (e.last ∷ [])); ascii = e.ascii }
 
-white_ends : (b : ℕ) (space : List ℕ) → IsWhite (b ∷ space) → EndsAscii (b ∷ space)
+pub white_ends : (b : ℕ) (space : List ℕ) → IsWhite (b ∷ space) → EndsAscii (b ∷ space)
 white_ends b [] h = record { front = []; last = b; is = refl; ascii = white_ascii b h.0 }
 white_ends b (d ∷ space) h = ends_behind (b ∷ []) (d ∷ space) (white_ends d space h.1)
 
@@ -76,7 +76,7 @@ before_ascii p (b ∷ rest) h =
     let small : get_or (p ++ (b ∷ rest)) (length p) 0 < 128 = subst (λ (n : ℕ). n < 128) (sym (get_or-append_seam p b rest 0)) h in
     IsCharBoundary-before_ascii (p ++ (b ∷ rest)) (length p) (omega (arith, length-append p (b ∷ rest))) small
 
-pieces_of : (before old behind : List ℕ) → IsUtf8 (before ++ (old ++ behind)) → EndsAscii before → BeginsAscii behind → HasPieces (before ++ (old ++ behind)) before old behind
+pub pieces_of : (before old behind : List ℕ) → IsUtf8 (before ++ (old ++ behind)) → EndsAscii before → BeginsAscii behind → HasPieces (before ++ (old ++ behind)) before old behind
 pieces_of before old behind u e h =
     let t : List ℕ = before ++ (old ++ behind) in
     let start : IsCharBoundary t (length before) = behind_ascii before (old ++ behind) u e in

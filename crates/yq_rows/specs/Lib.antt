@@ -3,6 +3,7 @@ pub use Rattle.yq_scalar.specs.Characters
 pub use Rattle.yq_scalar.specs.Plain
 pub use Rattle.yq_scalar.specs.Text
 pub mod Alike
+pub mod Alone
 pub mod Comments
 pub mod Exchange
 pub mod Gap

@@ -1,5 +1,5 @@
 //! Laws of cuts, for the crates above.
-ghost use Rattle.std.specs.Prelude.{◌≡◌, ◌≤◌, ℕ, List, [], ◌++◌, Some, length, slice_get, true, false};
+ghost use Rattle.std.specs.Prelude.{◌≡◌, ◌≤◌, ℕ, suc, List, [], ◌∷◌, ◌++◌, Some, length, slice_get, true, false};
 ghost use Rattle.std.specs.Str.{IsUtf8};
 ghost use Rattle.yq_scalar.specs.Characters.{is_text, text_limit};
 ghost use Rattle.yq_scalar.specs.Plain.{ends_plain};
@@ -7,6 +7,7 @@ ghost use Rattle.yq_scalar.specs.declared.style.Place.TheVariants.{Block};
 ghost use Rattle.yq_inline.specs.Inline.{IsInline};
 ghost use Rattle.yq_inline.specs.Nodes.{Node, node_text};
 ghost use Rattle.yq_rows.specs.Alike.{Alike};
+ghost use Rattle.yq_rows.specs.Alone.{FitsAlone};
 ghost use Rattle.yq_rows.specs.Exchange.{exchange, before_content, behind_row, rows_behind, allows_first, asked_behind, Fits, MayFollow, HasPieces};
 ghost use Rattle.yq_rows.specs.Grammar.{is_entry, IsTail, Limit, AreRows, IsCut};
 ghost use Rattle.yq_rows.specs.Reading.{scan_at};
@@ -46,6 +47,13 @@ pub fn content_exchanged()
         is_text (cut_text (exchange i new c)) ≡ true → length (cut_text (exchange i new c)) ≤ text_limit → IsCut (cut_text (exchange i new c)) (exchange i new c) }
 {}
 
+/// A cut is one also where another content, which fits, stands in the place of what is alone on its
+/// line under a row behind whose dash or key is nothing, where the new text may stand.
+pub fn alone_exchanged()
+    ensures { (t : List ℕ) (c : Cut) (i : ℕ) (above r : Row) (behind : List Row) (new : Content) → IsCut t c → slice_get (rows_of c) i ≡ Some above → rows_behind i c ≡ r ∷ behind → FitsAlone new above r (behind_row (suc i) c) behind →
+        is_text (cut_text (exchange (suc i) new c)) ≡ true → length (cut_text (exchange (suc i) new c)) ≤ text_limit → IsCut (cut_text (exchange (suc i) new c)) (exchange (suc i) new c) }
+{}
+
 /// A node that stands in the place of a row's node behind a dash or a key fits, where the next row
 /// may follow it.
 pub fn node_fits()
@@ -72,6 +80,12 @@ pub fn node_characters()
 /// A text that is a cut's is cut between characters at both ends of a row's node.
 pub fn node_pieces()
     ensures { (t : List ℕ) (c : Cut) (i : ℕ) (r : Row) (space : List ℕ) (node : Node) (tail : List ℕ) → IsCut t c → IsUtf8 t → slice_get (rows_of c) i ≡ Some r → r.content ≡ Inline space node tail → is_entry r.mark ≡ true →
+        HasPieces t (before_content i c ++ space) (node_text node []) (tail ++ behind_row i c) }
+{}
+
+/// The same where the node is alone on its line, which is indented.
+pub fn alone_pieces()
+    ensures { (t : List ℕ) (c : Cut) (i : ℕ) (r : Row) (space : List ℕ) (node : Node) (tail : List ℕ) → IsCut t c → IsUtf8 t → slice_get (rows_of c) i ≡ Some r → r.content ≡ Inline space node tail → is_entry r.mark ≡ false → 1 ≤ r.column →
         HasPieces t (before_content i c ++ space) (node_text node []) (tail ++ behind_row i c) }
 {}
 

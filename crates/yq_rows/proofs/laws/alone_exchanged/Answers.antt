@@ -1,0 +1,5 @@
+use Rattle.yq_rows.proofs.AloneLaws.{alone_exchanged}
+use Rattle.yq_rows.proofs.laws.alone_exchanged.Goals as goal
+
+pub returns : goal.returns
+returns c = alone_exchanged
