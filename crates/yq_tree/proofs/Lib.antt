@@ -5,6 +5,7 @@ pub mod ByRules
 pub mod CheckLaws
 pub mod ChildLaws
 pub mod CommentLaws
+pub mod CommentPlaceLaws
 pub mod Conditions
 pub mod CountLaws
 pub mod Decides
@@ -41,6 +42,7 @@ pub mod SeatLaws
 pub mod SoundLaws
 pub mod SpanLaws
 pub mod SpotLaws
+pub mod StartLaws
 pub mod Unique
 pub mod Values
 pub mod Finding

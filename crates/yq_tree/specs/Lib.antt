@@ -13,6 +13,8 @@ pub mod Lines
 pub mod Anchors
 pub mod Answers
 pub mod Children
+pub mod CommentPlaces
+pub mod CommentReading
 pub mod Labelled
 pub mod Documents
 pub mod Reading
@@ -28,6 +30,8 @@ pub mod Extents
 pub mod Names
 pub mod LinesReading
 pub mod Nodes
+pub mod PartPlaces
+pub mod Passages
 pub mod ScalarPlaces
 pub mod Spots
 pub mod Written

@@ -33,7 +33,7 @@ pub(crate) fn comment_text(text: &str) -> Option<&str>
 }
 
 /// Whether this is a comment line.
-fn is_comment(line: &str) -> bool
+pub(crate) fn is_comment(line: &str) -> bool
     ensures { result ≡ front (λ b. b == 35) (past_white line.now) }
 {
     matches!(past_white(line.as_bytes()), [b'#', ..])

@@ -33,7 +33,7 @@ fn row_len(row: &Row<'_>) -> usize
 }
 
 /// How long the pieces of a row before its head are.
-fn front_len(row: &Row<'_>) -> usize
+pub(crate) fn front_len(row: &Row<'_>) -> usize
     requires { spec.row_length (view row.now) ≤ text_limit }
     ensures { result ≡ spec.front_length (view row.now) }
 {
@@ -82,6 +82,15 @@ fn ends_len(rows: &Rows<'_>, row: usize) -> usize
         len += passed_len(&rows.part(at), row);
     }
     len
+}
+
+/// Where row `i` begins, with its gap.
+pub(crate) fn row_start(rows: &Rows<'_>, i: usize) -> usize
+    requires within { i < length rows.now.rows }
+    requires shown { spec.IsShown rows.now }
+    ensures { result ≡ spec.row_start i rows.now }
+{
+    rows_len(rows, i) + ends_len(rows, i)
 }
 
 /// Where the head of row `i` begins and ends, in bytes, or where it would begin.

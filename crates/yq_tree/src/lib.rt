@@ -6,6 +6,7 @@ mod body;
 mod bound;
 mod checks;
 mod children;
+mod comment_place;
 mod comments;
 mod content;
 mod document;
@@ -33,6 +34,7 @@ mod node;
 #[cfg(test)]
 mod node_tests;
 mod part_lines;
+mod part_place;
 mod path;
 mod path_laws;
 mod reading;

@@ -1,0 +1,26 @@
+-- Where the comments of entries and items stand in a text (YAML 1.2.2, 6.6; own).
+use Rattle.std.specs.Prelude.{ℕ, ◌+◌, ◌==◌, List, ◌++◌, length, Option, Some, None, option_map, if◌then◌else◌}
+use Rattle.yq_scalar.specs.Answers.{◌>>=◌}
+use Rattle.yq_scalar.specs.Text.{cut, front, ends_line, no_white, past_white}
+use Rattle.yq_rows.specs.Exchange.{before_content}
+use Rattle.yq_rows.specs.Rows.{Row, Cut}
+use Rattle.yq_rows.specs.View.{slices}
+use Rattle.yq_tree.specs.declared.path.Path.{Path}
+use Rattle.yq_tree.specs.Passages.{Passage, passage_span}
+use Rattle.yq_tree.specs.Seats.{Seat, seat_at, document_row}
+
+-- the comment in a tail that stands behind a text: from its `#` to the end of the line, before its break (6.6)
+abbrev pub tail_comment : List ℕ → List ℕ → Option Passage
+tail_comment before tail = if front (λ b. b == 35) (past_white tail) then Some (record { before = before ++ (cut no_white tail).0; text = (cut ends_line (past_white tail)).0 }) else None
+
+-- the text of a cut before the tail of row i (own)
+abbrev pub before_tail : ℕ → Row → Cut → List ℕ
+before_tail i r c = let s = slices r in before_content i c ++ (s.space ++ (s.anchor ++ (s.apart ++ s.head)))
+
+-- the line comment of a line of row i: the comment in the row's tail, where the line is that of the row's mark (own)
+abbrev pub line_comment_in : ℕ → Seat → Cut → Option Passage
+line_comment_in i s c = if s.line == length s.row.dashes then tail_comment (before_tail i s.row c) (slices s.row).tail else None
+
+-- where the line comment of the entry or item at a path stands (own)
+abbrev pub line_comment_at : Path → Cut → Option (ℕ × ℕ)
+line_comment_at p c = option_map passage_span (seat_at p c >>= λ s. line_comment_in (document_row p.doc c + s.before) s c)

@@ -1,0 +1,16 @@
+-- Reading (a reader may skip this): where comments stand, by the pieces of rows.
+use Rattle.std.specs.Prelude.{ℕ, ◌+◌, ◌==◌, List, length, Option, Some, None, if◌then◌else◌}
+use Rattle.yq_scalar.specs.Text.{cut, front, ends_line, no_white, past_white}
+use Rattle.yq_rows.specs.View.{Slices}
+use Rattle.yq_tree.specs.Extents.{front_length}
+use Rattle.yq_tree.specs.Seats.{Numbers}
+
+-- where the comment in a tail stands that begins at a place
+abbrev pub tail_span : ℕ → List ℕ → Option (ℕ × ℕ)
+tail_span start tail =
+    let white = length (cut no_white tail).0 in
+    if front (λ b. b == 35) (past_white tail) then Some (start + white, start + white + length (cut ends_line (past_white tail)).0) else None
+
+-- where the line comment of a line stands, by where its row begins and that row's pieces
+abbrev pub line_comment_span : ℕ → Slices → Numbers → Option (ℕ × ℕ)
+line_comment_span start x s = if s.1 == s.2 then tail_span (start + front_length x + length x.head) x.tail else None
