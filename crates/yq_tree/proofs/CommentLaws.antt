@@ -31,29 +31,6 @@ all_texts (l ∷ ls) h =
     let p = both _ _ h in
     ap (text_then (comment_text l)) (all_texts ls p.1) ∙ (with_then l (last_comments ls) p.0 ∙ sym (cond-true _ _ _ h))
 
--- the texts of a run, if all lines behind it are comments, else those of the last comments
-abbrev pub run_texts : List (List ℕ) → List (List ℕ) → List (List ℕ)
-run_texts run rest = cond (are_comments rest) (texts run) (last_comments rest)
-
-pub run_here : (ls : List (List ℕ)) → last_comments ls ≡ run_texts ls ls
-run_here ls = go (are_comments ls) refl
-  where
-    go : (b : Bool) → are_comments ls ≡ b → last_comments ls ≡ cond b (texts ls) (last_comments ls)
-    go true h = sym (all_texts ls h)
-    go false h = refl
-
-pub run_on : (run ls : List (List ℕ)) (l : List ℕ) → front (λ b. eqb b 35) (past_white l) ≡ true → run_texts run (l ∷ ls) ≡ run_texts run ls
-run_on run ls l h = go (are_comments ls) refl (ap (λ b. b && are_comments ls) h)
-  where
-    go : (b : Bool) → are_comments ls ≡ b → are_comments (l ∷ ls) ≡ are_comments ls → run_texts run (l ∷ ls) ≡ run_texts run ls
-    go true h e = cond-true _ _ _ (e ∙ h) ∙ sym (cond-true _ _ _ h)
-    go false h e = cond-false _ _ _ (e ∙ h) ∙ (cond-false _ _ _ (e ∙ h) ∙ sym (cond-false _ _ _ h))
-
-pub run_anew : (run ls : List (List ℕ)) (l : List ℕ) → front (λ b. eqb b 35) (past_white l) ≡ false → run_texts run (l ∷ ls) ≡ run_texts ls ls
-run_anew run ls l h =
-    let e : are_comments (l ∷ ls) ≡ false = ap (λ b. b && are_comments ls) h in
-    cond-false _ _ _ e ∙ (cond-false _ _ _ e ∙ run_here ls)
-
 -- a line that is no comment
 pub no_text : (l : List ℕ) (ls : List (List ℕ)) → None ≡ comment_text l → texts (l ∷ ls) ≡ []
 no_text l ls h = ap (λ o. text_then o (texts ls)) (sym h)
@@ -65,7 +42,3 @@ one_text l t ls h = ap (λ o. text_then o (texts ls)) (sym h)
 pub none_left : (t : List ℕ) → t ≡ [] → texts (lines_of t) ≡ []
 unfolding lines_of
 none_left t e = ap (λ x. texts (lines_of x)) e
-
-pub run_end : (run : List (List ℕ)) (t : List ℕ) → t ≡ [] → run_texts run (lines_of t) ≡ texts run
-unfolding lines_of
-run_end run t e = ap (λ x. run_texts run (lines_of x)) e

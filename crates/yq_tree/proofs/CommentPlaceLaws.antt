@@ -1,70 +1,21 @@
--- Where line comments stand, by the pieces of rows.
-use Rattle.std.proofs.Common.{◌≡◌, ℕ, zero, suc, ◌+◌, ◌-◌, ◌<◌, ◌≤◌, ltb, eqb, List, [], ◌∷◌, ◌++◌, length, map, take, drop, Option, Some, None, option_map, Bool, true, false, cond, refl, sym, ap, ◌∙◌, subst, arith, length-append}
-use Rattle.std.proofs.lemmas.Option.{slice_get_within, slice_get-map}
+-- Where the comments of a row stand, by its pieces.
+use Rattle.std.proofs.Common.{◌≡◌, ℕ, zero, suc, ◌+◌, ◌-◌, ◌<◌, ◌≤◌, eqb, ltb, List, [], ◌∷◌, ◌++◌, length, take, Option, Some, None, option_map, Bool, true, false, cond, refl, sym, ap, ◌∙◌, subst, arith, length-append}
+use Rattle.std.proofs.lemmas.Option.{slice_get-map}
 use Rattle.std.specs.List.{slice_get, sum_by}
-use Rattle.yq_scalar.specs.Answers.{◌>>=◌}
-use Rattle.yq_scalar.specs.Text.{cut, front, ends_line, no_white, past_white}
+use Rattle.yq_scalar.specs.Text.{cut, front, ends_line, no_white, past_white, is_empty, joined, lines_of}
 use Rattle.yq_rows.specs.Exchange.{before_content}
-use Rattle.yq_rows.specs.Rows.{Row, Part, Cut}
-use Rattle.yq_rows.specs.View.{Slices, slices, rows_of, Shown, shown}
-use Rattle.yq_tree.specs.CommentPlaces.{tail_comment, before_tail, line_comment_in, line_comment_at}
-use Rattle.yq_tree.specs.CommentReading.{tail_span, line_comment_span}
-use Rattle.yq_tree.specs.declared.line.Line as declared
-use Rattle.yq_tree.specs.declared.path.Path.{Path}
-use Rattle.yq_tree.specs.Documents.{document_parts}
+use Rattle.yq_rows.specs.Rows.{Row, Cut}
+use Rattle.yq_rows.specs.View.{Slices, slices, rows_of, shown}
+use Rattle.yq_scalar.proofs.LineLaws.{joined_lines}
+use Rattle.yq_tree.specs.CommentPlaces.{tail_comment, before_tail, line_comment_in, before_run, last_run, gap_comment, head_comment_in}
+use Rattle.yq_tree.specs.CommentReading.{tail_span, line_comment_span, gap_span, head_comment_span}
 use Rattle.yq_tree.specs.Extents.{row_length, passed_length, row_start, front_length, head_place}
-use Rattle.yq_tree.specs.Lines.{lines_of}
-use Rattle.yq_tree.specs.Located.{steps_of}
-use Rattle.yq_tree.specs.Passages.{passage_span}
-use Rattle.yq_tree.specs.Reading.{cut_of}
-use Rattle.yq_tree.specs.RowPaths.{line_of}
-use Rattle.yq_tree.specs.Seats.{Seat, behind_one, seat, seat_of, seat_at, document_row, Numbers, numbers}
-use Rattle.yq_tree.specs.SoundReading.{Holds}
+use Rattle.yq_tree.specs.Passages.{passage_span, before_row}
+use Rattle.yq_tree.specs.SeatReading.{numbers}
+use Rattle.yq_tree.specs.Seats.{Seat}
 use Rattle.yq_tree.proofs.LengthLaws.{head_told}
-use Rattle.yq_tree.proofs.SeatLaws.{part_begins}
-use Rattle.yq_tree.proofs.Values.{If}
-
--- the row of a line
-seat_row : (n : ℕ) (rs : List Row) → If (seat n rs) (λ s. slice_get rs s.before ≡ Some s.row)
-seat_row n [] = tt
-seat_row n (r ∷ rs) = go (ltb (length r.dashes) n) (seat (n - suc (length r.dashes)) rs) (seat_row (n - suc (length r.dashes)) rs)
-  where
-    go : (b : Bool) (o : Option Seat) → If o (λ s. slice_get rs s.before ≡ Some s.row) → If (cond b (option_map behind_one o) (Some (record { before = 0; row = r; line = n }))) (λ s. slice_get (r ∷ rs) s.before ≡ Some s.row)
-    go true None h = tt
-    go true (Some s) h = h
-    go false o h = refl
-
-of_some : (P : Seat → Type 0) (o : Option Seat) (s : Seat) → If o P → o ≡ Some s → P s
-of_some P None s h e = absurd (cc)
-of_some P (Some q) s h e = subst P (same e) h
-  where
-    same : {x y : Seat} → Some x ≡ Some y → x ≡ y
-    same e = cc
-
-steps_row : (steps : Option ℕ) (rs : List Row) (s : Seat) → (steps >>= λ n. seat n rs) ≡ Some s → slice_get rs s.before ≡ Some s.row
-steps_row None rs s e = absurd (cc)
-steps_row (Some n) rs s e = of_some (λ q. slice_get rs q.before ≡ Some q.row) (seat n rs) s (seat_row n rs) e
-
-get_front : (xs more : List Row) (i : ℕ) (r : Row) → slice_get xs i ≡ Some r → slice_get (xs ++ more) i ≡ Some r
-get_front [] more i r e = absurd (cc)
-get_front (x ∷ xs) more zero r e = e
-get_front (x ∷ xs) more (suc i) r e = get_front xs more i r e
-
-get_drop : (k : ℕ) (xs : List Row) (i : ℕ) → slice_get (drop k xs) i ≡ slice_get xs (k + i)
-get_drop zero xs i = let same : i ≡ 0 + i = omega arith in ap (slice_get xs) same
-get_drop (suc k) [] i = refl
-get_drop (suc k) (x ∷ xs) i = let same : suc (k + i) ≡ suc k + i = omega arith in get_drop k xs i ∙ ap (slice_get (x ∷ xs)) same
-
-document_seat : (path : Path) (c : Cut) (o : Option Part) (s : Seat) → slice_get (document_parts c) path.doc ≡ o → (o >>= λ d. seat_of (steps_of path) d.rows) ≡ Some s → slice_get (rows_of c) (document_row path.doc c + s.before) ≡ Some s.row
-document_seat path c None s is e = absurd (cc)
-document_seat path c (Some p) s is e =
-    let b = part_begins c path.doc p is in
-    sym (get_drop (document_row path.doc c) (rows_of c) s.before)
-    ∙ (ap (λ (rs : List Row). slice_get rs s.before) b.1
-    ∙ get_front p.rows b.0 s.before s.row (steps_row (line_of (steps_of path) (lines_of p.rows)) p.rows s e))
-
-path_row : (path : Path) (c : Cut) (s : Seat) → seat_at path c ≡ Some s → slice_get (rows_of c) (document_row path.doc c + s.before) ≡ Some s.row
-path_row path c s e = document_seat path c (slice_get (document_parts c) path.doc) s refl e
+use Rattle.yq_tree.proofs.RunLaws.{run_split}
+use Rattle.yq_tree.proofs.StartLaws.{start_told}
 
 -- the comment in a tail
 pair : (a b c d : ℕ) → a ≡ b → c ≡ d → ◌≡◌ {A = ℕ × ℕ} (a, c) (b, d)
@@ -102,7 +53,7 @@ before_length c i r is =
       length-append s.apart s.head,
     )
 
-line_told : (c : Cut) (i : ℕ) (s : Seat) (k : ℕ) → slice_get (rows_of c) i ≡ Some s.row → line_comment_span (row_start i (shown c)) (slices s.row) (numbers k s) ≡ option_map passage_span (line_comment_in i s c)
+pub line_told : (c : Cut) (i : ℕ) (s : Seat) (k : ℕ) → slice_get (rows_of c) i ≡ Some s.row → line_comment_span (row_start i (shown c)) (slices s.row) (numbers k s) ≡ option_map passage_span (line_comment_in i s c)
 line_told c i s k is = go (eqb s.line (length s.row.dashes))
   where
     x : Slices
@@ -112,45 +63,48 @@ line_told c i s k is = go (eqb s.line (length s.row.dashes))
     go true = tail_told (before_tail i s.row c) x.tail (row_start i (shown c) + front_length x + length x.head) (before_length c i s.row is)
     go false = refl
 
-slices_same : {x y : Slices} → Some x ≡ Some y → x ≡ y
-slices_same e = cc
+-- the run in a gap
+run_length : (gap : List ℕ) → length gap ≡ length (joined (before_run (lines_of gap))) + length (joined (last_run (lines_of gap)))
+run_length gap =
+    let ls : List (List ℕ) = lines_of gap in
+    ap length (sym (run_split ls ∙ joined_lines gap)) ∙ length-append (joined (before_run ls)) (joined (last_run ls))
 
-numbers_same : {x y : Numbers} → Some x ≡ Some y → x ≡ y
-numbers_same e = cc
+pub run_within : (gap run : List ℕ) → lines_of run ≡ last_run (lines_of gap) → length run ≤ length gap
+run_within gap run e = let same : run ≡ joined (last_run (lines_of gap)) = sym (joined_lines run) ∙ ap joined e in omega (arith, run_length gap, ap length same)
 
--- the row of the code's line is there
-row_slices : (path : Path) (c : Cut) (s : Seat) (n : Numbers) → seat_at path c ≡ Some s → n ≡ numbers (document_row path.doc c) s → slice_get (shown c).rows n.0 ≡ Some (slices s.row)
-row_slices path c s n is e = ap (λ (x : Numbers). slice_get (shown c).rows x.0) e ∙ (slice_get-map slices (rows_of c) (document_row path.doc c + s.before) ∙ ap (option_map slices) (path_row path c s is))
+run_is : (gap run : List ℕ) → lines_of run ≡ last_run (lines_of gap) → joined (last_run (lines_of gap)) ≡ run
+run_is gap run e = ap joined (sym e) ∙ joined_lines run
 
-abbrev Held : Type 0
-Held = List ℕ × List declared.Line
+-- where a run stands in a gap, by its length
+abbrev span_of : ℕ → List ℕ → List ℕ → Option (ℕ × ℕ)
+span_of start gap run = cond (is_empty run) None (Some (start + length gap - length run, start + length gap))
 
-pub row_within : (t : List ℕ) (x : Shown) (ds : List Held) (path : Path) (n : Numbers) → Holds t x ds → Some n ≡ option_map (numbers (document_row path.doc (cut_of t))) (seat_at path (cut_of t)) → n.0 < length x.rows
-row_within t x ds path n h e = go (seat_at path (cut_of t)) refl e
+pub no_run : (start : ℕ) (gap run : List ℕ) → lines_of run ≡ last_run (lines_of gap) → run ≡ [] → None ≡ gap_span start gap
+no_run start gap run e none = ap (span_of start gap) (sym (run_is gap run e ∙ none))
+
+some_span : (start : ℕ) (gap run : List ℕ) → 0 < length run → Some (start + length gap - length run, start + length gap) ≡ span_of start gap run
+some_span start gap [] some = absurd (omega (arith, some))
+some_span start gap (b ∷ run) some = refl
+
+pub some_run : (start : ℕ) (gap run : List ℕ) → lines_of run ≡ last_run (lines_of gap) → 0 < length run → Some (start + length gap - length run, start + length gap) ≡ gap_span start gap
+some_run start gap run e some = some_span start gap run some ∙ ap (span_of start gap) (sym (run_is gap run e))
+
+gap_told : (before gap : List ℕ) (start : ℕ) → start ≡ length before → gap_span start gap ≡ option_map passage_span (gap_comment before gap)
+gap_told before gap start e = go (is_empty (joined (last_run (lines_of gap))))
   where
-    go : (o : Option Seat) → seat_at path (cut_of t) ≡ o → Some n ≡ option_map (numbers (document_row path.doc (cut_of t))) o → n.0 < length x.rows
-    go None is e = absurd (cc)
-    go (Some s) is e = subst (λ (y : Shown). n.0 < length y.rows) (sym h.rows) (slice_get_within (shown (cut_of t)).rows n.0 (slices s.row) (row_slices path (cut_of t) s n is (numbers_same e)))
+    run : List ℕ
+    run = joined (last_run (lines_of gap))
 
-pub line_comment_told : (t : List ℕ) (x : Shown) (ds : List Held) (path : Path) (n : Numbers) (found : Option (ℕ × ℕ)) → Holds t x ds → Some n ≡ option_map (numbers (document_row path.doc (cut_of t))) (seat_at path (cut_of t)) →
-    ((y : Slices) → slice_get x.rows n.0 ≡ Some y → found ≡ line_comment_span (row_start n.0 x) y n) → found ≡ line_comment_at path (cut_of t)
-line_comment_told t x ds path n found h e told = go (seat_at path (cut_of t)) refl e
+    other : List ℕ
+    other = joined (before_run (lines_of gap))
+
+    go : (b : Bool) → cond b None (Some (start + length gap - length run, start + length gap)) ≡ option_map passage_span (cond b None (Some (record { before = before ++ other; text = run })))
+    go true = refl
+    go false = ap Some (pair _ _ _ _ (omega (arith, e, run_length gap, length-append before other)) (omega (arith, e, run_length gap, length-append before other)))
+
+pub above_told : (c : Cut) (i : ℕ) (s : Seat) (k : ℕ) → slice_get (rows_of c) i ≡ Some s.row → head_comment_span (row_start i (shown c)) (slices s.row) (numbers k s) ≡ option_map passage_span (head_comment_in i s c)
+above_told c i s k is = go (eqb s.line 0)
   where
-    c : Cut
-    c = cut_of t
-
-    go : (o : Option Seat) → seat_at path (cut_of t) ≡ o → Some n ≡ option_map (numbers (document_row path.doc (cut_of t))) o → found ≡ option_map passage_span (o >>= λ s. line_comment_in (document_row path.doc (cut_of t) + s.before) s (cut_of t))
-    go None is e = absurd (cc)
-    go (Some s) is e =
-        let k : ℕ = document_row path.doc (cut_of t) in
-        let same = numbers_same e in
-        told (slices s.row) (ap (λ (y : Shown). slice_get y.rows n.0) h.rows ∙ row_slices path (cut_of t) s n is same)
-        ∙ ((λ j. line_comment_span (row_start (same j).0 (h.rows j)) (slices s.row) (same j))
-        ∙ line_told (cut_of t) (k + s.before) s k (path_row path (cut_of t) s is))
-
-pub no_line_comment : (t : List ℕ) (path : Path) → None ≡ option_map (numbers (document_row path.doc (cut_of t))) (seat_at path (cut_of t)) → None ≡ line_comment_at path (cut_of t)
-no_line_comment t path e = go (seat_at path (cut_of t)) e
-  where
-    go : (o : Option Seat) → None ≡ option_map (numbers (document_row path.doc (cut_of t))) o → None ≡ option_map passage_span (o >>= λ s. line_comment_in (document_row path.doc (cut_of t) + s.before) s (cut_of t))
-    go None e = refl
-    go (Some s) e = absurd (cc)
+    go : (b : Bool) → cond b (gap_span (row_start i (shown c)) s.row.gap) None ≡ option_map passage_span (cond b (gap_comment (before_row i c) s.row.gap) None)
+    go true = gap_told (before_row i c) s.row.gap (row_start i (shown c)) (start_told c i s.row is)
+    go false = refl

@@ -32,7 +32,7 @@ slices-length s rest =
       length-append s.raw rest,
     )
 
-print-length : (r : Row) (rest : List ℕ) → length (print_row r rest) ≡ row_length (slices r) + length rest
+pub print-length : (r : Row) (rest : List ℕ) → length (print_row r rest) ≡ row_length (slices r) + length rest
 print-length r rest = ap length (sym (slices_are r rest)) ∙ slices-length (slices r) rest
 
 -- how long rows are
@@ -46,7 +46,7 @@ rows-length : (rows : List Row) (rest : List ℕ) → length (rows_text rows res
 rows-length [] rest = omega arith
 rows-length (r ∷ rows) rest = omega (arith, print-length r (rows_text rows rest), rows_sum-cons r rows, rows-length rows rest)
 
-part-length : (p : Part) (rest : List ℕ) → length (part_text p rest) ≡ rows_sum p.rows + (length p.end + length rest)
+pub part-length : (p : Part) (rest : List ℕ) → length (part_text p rest) ≡ rows_sum p.rows + (length p.end + length rest)
 part-length p rest = omega (arith, rows-length p.rows (p.end ++ rest), length-append p.end rest)
 
 -- all pieces are the text
@@ -78,7 +78,7 @@ dashes-length (k ∷ ns) t u n e =
 abbrev begin_length : Slices → ℕ
 begin_length s = length s.gap + s.column + length s.dashes + length s.key + length s.colon
 
-front-length : (r : Row) → length (row_front r) ≡ begin_length (slices r)
+pub front-length : (r : Row) → length (row_front r) ≡ begin_length (slices r)
 front-length r =
     let spaces : length (replicate r.column 32) ≡ r.column = length-replicate {A = ℕ} r.column 32 in
     omega (

@@ -51,7 +51,9 @@ pub mod PlaceLaws
 pub mod RowLines
 pub mod RowPathLaws
 pub mod SameLaws
+pub mod SeatedLaws
 pub mod RowExchange
+pub mod RunLaws
 pub mod ScalarLaws
 pub mod CoreLaws
 pub mod NextLaws

@@ -22,7 +22,8 @@ use Rattle.yq_tree.specs.Outline.{Line}
 use Rattle.yq_tree.specs.PartReading.{Lined, lined, document_view, some_begin, first_rows}
 use Rattle.yq_tree.specs.Reading.{cut_of}
 use Rattle.yq_tree.specs.RowPaths.{line_of}
-use Rattle.yq_tree.specs.Seats.{Seat, behind_one, seat, seat_of, seat_at, rows_before, document_row, begin_row, Numbers, behind, slices_seat, numbers, line_has_room, seat_has_room}
+use Rattle.yq_tree.specs.SeatReading.{begin_row, Numbers, behind, slices_seat, numbers}
+use Rattle.yq_tree.specs.Seats.{Seat, behind_one, seat, seat_of, seat_at, rows_before, document_row, line_has_room, seat_has_room}
 use Rattle.yq_tree.specs.SoundReading.{Holds}
 use Rattle.yq_tree.proofs.CountLaws.{AreCounted, cut_counted}
 use Rattle.yq_tree.proofs.Parts.{drop_at}

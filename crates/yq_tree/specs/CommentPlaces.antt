@@ -1,12 +1,13 @@
 -- Where the comments of entries and items stand in a text (YAML 1.2.2, 6.6; own).
-use Rattle.std.specs.Prelude.{ℕ, ◌+◌, ◌==◌, List, ◌++◌, length, Option, Some, None, option_map, if◌then◌else◌}
+use Rattle.std.specs.Prelude.{ℕ, ◌+◌, ◌==◌, List, [], ◌∷◌, ◌++◌, length, Option, Some, None, option_map, if◌then◌else◌}
 use Rattle.yq_scalar.specs.Answers.{◌>>=◌}
-use Rattle.yq_scalar.specs.Text.{cut, front, ends_line, no_white, past_white}
+use Rattle.yq_scalar.specs.Text.{cut, front, ends_line, is_empty, joined, lines_of, no_white, past_white}
+use Rattle.yq_rows.specs.Comments.{are_comments}
 use Rattle.yq_rows.specs.Exchange.{before_content}
 use Rattle.yq_rows.specs.Rows.{Row, Cut}
 use Rattle.yq_rows.specs.View.{slices}
 use Rattle.yq_tree.specs.declared.path.Path.{Path}
-use Rattle.yq_tree.specs.Passages.{Passage, passage_span}
+use Rattle.yq_tree.specs.Passages.{Passage, passage_span, before_row}
 use Rattle.yq_tree.specs.Seats.{Seat, seat_at, document_row}
 
 -- the comment in a tail that stands behind a text: from its `#` to the end of the line, before its break (6.6)
@@ -24,3 +25,27 @@ line_comment_in i s c = if s.line == length s.row.dashes then tail_comment (befo
 -- where the line comment of the entry or item at a path stands (own)
 abbrev pub line_comment_at : Path → Cut → Option (ℕ × ℕ)
 line_comment_at p c = option_map passage_span (seat_at p c >>= λ s. line_comment_in (document_row p.doc c + s.before) s c)
+
+-- the run of comment lines, of any indentation, that ends lines (6.6; own)
+abbrev pub last_run : List (List ℕ) → List (List ℕ)
+last_run [] = []
+last_run (l ∷ ls) = if are_comments (l ∷ ls) then l ∷ ls else last_run ls
+
+-- the lines before that run (own)
+abbrev pub before_run : List (List ℕ) → List (List ℕ)
+before_run [] = []
+before_run (l ∷ ls) = if are_comments (l ∷ ls) then [] else l ∷ before_run ls
+
+-- the run that ends a gap that stands behind a text, if there is one: its lines with their breaks (own)
+abbrev pub gap_comment : List ℕ → List ℕ → Option Passage
+gap_comment before gap =
+    let run = joined (last_run (lines_of gap)) in
+    if is_empty run then None else Some (record { before = before ++ joined (before_run (lines_of gap)); text = run })
+
+-- the head comment of a line of row i: the run that ends the row's gap, where the line is the first of the row (own)
+abbrev pub head_comment_in : ℕ → Seat → Cut → Option Passage
+head_comment_in i s c = if s.line == 0 then gap_comment (before_row i c) s.row.gap else None
+
+-- where the head comment of the entry or item at a path stands (own)
+abbrev pub head_comment_at : Path → Cut → Option (ℕ × ℕ)
+head_comment_at p c = option_map passage_span (seat_at p c >>= λ s. head_comment_in (document_row p.doc c + s.before) s c)

@@ -5,6 +5,7 @@ pub mod Grammar
 pub mod Group
 pub mod Places
 pub mod Laws
+pub mod SeatReading
 pub mod Seats
 pub mod Sound
 pub mod SoundReading

@@ -1,5 +1,6 @@
 -- Passages of a text (own).
-use Rattle.std.specs.Prelude.{ℕ, ◌+◌, List, length}
+use Rattle.std.specs.Prelude.{ℕ, ◌+◌, ◌-◌, nat_lt, List, [], ◌++◌, length, take, if◌then◌else◌}
+use Rattle.yq_rows.specs.Rows.{rows_text, part_text, Cut, last, marked}
 
 -- A passage of a text: the text before it, and its own (own).
 pub record Passage : Type 0 where
@@ -9,3 +10,8 @@ pub record Passage : Type 0 where
 -- where a passage begins and ends, in bytes (own)
 abbrev pub passage_span : Passage → ℕ × ℕ
 passage_span p = (length p.before, length p.before + length p.text)
+
+-- the text of a cut before row i (own)
+abbrev pub before_row : ℕ → Cut → List ℕ
+before_row i (last p) = rows_text (take i p.rows) []
+before_row i (marked p marker c) = if nat_lt i (length p.rows) then rows_text (take i p.rows) [] else part_text p (marker ++ before_row (i - length p.rows) c)

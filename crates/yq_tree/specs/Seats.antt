@@ -4,13 +4,10 @@ use Rattle.yq_scalar.specs.Answers.{◌>>=◌}
 use Rattle.yq_scalar.specs.Paths.{Step}
 use Rattle.yq_rows.specs.Grammar.{begins_document}
 use Rattle.yq_rows.specs.Rows.{Row, Cut, last, marked}
-use Rattle.yq_rows.specs.View.{Slices, Bound}
 use Rattle.yq_tree.specs.declared.path.Part.{Part}
 use Rattle.yq_tree.specs.declared.path.Part.TheVariants.{Content, Entry, HeadComment, LineComment}
 use Rattle.yq_tree.specs.declared.path.Path.{Path}
-use Rattle.yq_tree.specs.declared.seat.Seat as declared
 use Rattle.yq_tree.specs.Documents.{document_parts, begins_bare, has_begin}
-use Rattle.yq_tree.specs.Extents.{lines_before_mark}
 use Rattle.yq_tree.specs.Lines.{lines_of}
 use Rattle.yq_tree.specs.Located.{steps_of}
 use Rattle.yq_tree.specs.Reading.{cut_of}
@@ -66,31 +63,3 @@ rows_before false n (marked p marker c) = length p.rows + rows_before (begins_do
 -- how many rows stand before document n of a cut (own)
 abbrev pub document_row : ℕ → Cut → ℕ
 document_row n c = rows_before (begins_bare c || not (has_begin c)) n c
-
--- the same by where the parts end, before which so many rows stand (own)
-abbrev pub begin_row : Bool → ℕ → ℕ → List Bound → Option ℕ
-begin_row is n k [] = None
-begin_row true zero k (b ∷ bs) = Some k
-begin_row true (suc n) k (b ∷ bs) = begin_row (begins_document b.marker) n b.rows bs
-begin_row false n k (b ∷ bs) = begin_row (begins_document b.marker) n b.rows bs
-
--- a line by three numbers: the rows before its row, the lines of its row before it, and the lines of its row before that of the mark (own)
-abbrev pub Numbers : Type 0
-Numbers = ℕ × ℕ × ℕ
-
--- the same behind so many rows (own)
-abbrev pub behind : ℕ → Option Numbers → Option Numbers
-behind k x = option_map (λ s. (k + s.0, s.1, s.2)) x
-
--- line n of rows, by their pieces (own)
-abbrev pub slices_seat : ℕ → List Slices → Option Numbers
-slices_seat n [] = None
-slices_seat n (s ∷ ss) = if nat_lt (lines_before_mark s) n then behind 1 (slices_seat (n - suc (lines_before_mark s)) ss) else Some (0, n, lines_before_mark s)
-
--- the numbers of a line, behind so many rows (own)
-abbrev pub numbers : ℕ → Seat → Numbers
-numbers k s = (k + s.before, s.line, length s.row.dashes)
-
--- the numbers that the code tells (own)
-abbrev pub told : declared.Seat → Numbers
-told s = (s.row, s.line, s.dashes)

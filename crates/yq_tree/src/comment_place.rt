@@ -7,9 +7,9 @@ ghost use Rattle.yq_tree.specs.CommentReading as spec;
 ghost use Rattle.yq_tree.specs.Extents as extents;
 ghost use Rattle.yq_tree.specs.Extents.{span, IsShown};
 ghost use Rattle.yq_tree.specs.Reading.{cut_of};
-ghost use Rattle.yq_tree.specs.Seats.{told};
+ghost use Rattle.yq_tree.specs.SeatReading.{told};
 
-use crate::comments::is_comment;
+use crate::comments::{is_comment, last_run};
 use crate::document::Documents;
 use crate::extent::{front_len, row_start};
 use crate::path::{Path, Span};
@@ -46,6 +46,32 @@ fn line_comment_in(rows: &Rows<'_>, seat: Seat) -> Option<Span>
     tail_comment(start, row.tail())
 }
 
+/// The place of the run of comments that ends a gap, where the gap begins at a place.
+fn gap_comment(start: usize, gap: &str) -> Option<Span>
+    requires { start + length gap.now ≤ text_limit }
+    ensures { option_map span result ≡ spec.gap_span start gap.now }
+{
+    let run = last_run(gap);
+    if run.is_empty() {
+        return None;
+    }
+    let end = start + gap.len();
+    let start = end - run.len();
+    Some(Span { start, end })
+}
+
+/// The place of the head comment of a line.
+fn head_comment_in(rows: &Rows<'_>, seat: Seat) -> Option<Span>
+    requires within { seat.row < length rows.now.rows }
+    requires shown { IsShown rows.now }
+    ensures { (x : Slices) → slice_get rows.now.rows seat.row ≡ Some x → option_map span result ≡ spec.head_comment_span (extents.row_start seat.row rows.now) x (told seat) }
+{
+    if seat.line != 0 {
+        return None;
+    }
+    gap_comment(row_start(rows, seat.row), rows.row(seat.row).gap())
+}
+
 impl Documents<'_> {
     /// The place of the comment behind the entry or item at a path, on the line of its key or dash.
     pub(crate) fn line_comment_place(&self, path: &Path) -> Option<Span>
@@ -55,5 +81,15 @@ impl Documents<'_> {
             return None;
         };
         line_comment_in(&self.rows, seat)
+    }
+
+    /// The place of the run of comments above the entry or item at a path, with the breaks.
+    pub(crate) fn head_comment_place(&self, path: &Path) -> Option<Span>
+        ensures { option_map span result ≡ places.head_comment_at path.now (cut_of self.now) }
+    {
+        let Some(seat) = self.seat(path) else {
+            return None;
+        };
+        head_comment_in(&self.rows, seat)
     }
 }

@@ -3,8 +3,9 @@ ghost use Rattle.std.specs.Iterator.{at_most};
 ghost use Rattle.std.specs.Prelude.{◌≡◌, ◌==◌, [], length, option_map};
 ghost use Rattle.yq_rows.specs.Comments as spec;
 ghost use Rattle.yq_scalar.specs.Text.{front, lines_of, past_white};
+ghost use Rattle.yq_tree.specs.CommentPlaces as places;
 ghost use Rattle.yq_tree.specs.Nodes.{label_of, lent};
-ghost use Rattle.yq_tree.specs.Texts.{texts, texts_left, YieldsText};
+ghost use Rattle.yq_tree.specs.Texts.{texts_left, YieldsText};
 
 use crate::node::{Node, Slot};
 use yq_inline::pieces::strip;
@@ -40,8 +41,8 @@ pub(crate) fn is_comment(line: &str) -> bool
 }
 
 /// The run of comment lines that ends a gap.
-fn last_run(gap: &str) -> &str
-    ensures { texts (lines_of result.now) ≡ spec.head_comment gap.now }
+pub(crate) fn last_run(gap: &str) -> &str
+    ensures { lines_of result.now ≡ places.last_run (lines_of gap.now) }
 {
     let mut run = gap;
     let mut rest = gap;

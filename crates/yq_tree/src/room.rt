@@ -1,5 +1,6 @@
 //! Where a text has room for comments.
 ghost use Rattle.std.specs.Prelude.{◌≡◌, ℕ};
+ghost use Rattle.yq_tree.specs.SeatReading.{numbers, told};
 ghost use Rattle.yq_tree.specs.Seats as spec;
 
 use crate::document::Documents;
@@ -8,7 +9,7 @@ use crate::seat::Seat;
 
 /// Whether a line has room for a comment.
 fn line_has_room(seat: Seat, part: Part) -> bool
-    ensures { (k : ℕ) (s : spec.Seat) → spec.told seat ≡ spec.numbers k s → result ≡ spec.line_has_room part s }
+    ensures { (k : ℕ) (s : spec.Seat) → told seat ≡ numbers k s → result ≡ spec.line_has_room part s }
 {
     match part {
         Part::Content => false,

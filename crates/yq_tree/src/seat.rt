@@ -8,7 +8,8 @@ ghost use Rattle.yq_tree.specs.Lines.{lines_of};
 ghost use Rattle.yq_tree.specs.Nodes.{lines_in};
 ghost use Rattle.yq_tree.specs.PartReading.{first_rows, some_begin};
 ghost use Rattle.yq_tree.specs.Reading.{cut_of};
-ghost use Rattle.yq_tree.specs.Seats as spec;
+ghost use Rattle.yq_tree.specs.SeatReading as spec;
+ghost use Rattle.yq_tree.specs.Seats.{document_row, seat_at, seat_of};
 
 use crate::document::Documents;
 use crate::documents::{begins_document, first_is_document};
@@ -90,7 +91,7 @@ fn begin_row(rows: &Rows<'_>, first: bool, i: usize) -> Option<usize>
 /// how many rows stand before it.
 fn seat_in(rows: &Rows<'_>, first: usize, lines: &Lined<'_>, steps: &[Step]) -> Option<Seat>
     ensures within { IfSome result (λ s. s.row < length rows.now.rows) }
-    ensures found { (t : List ℕ) (c : Cut) (p : Part) (more : List RowOf) → IsCut t c → rows.now ≡ shown c → lines_in lines.now ≡ lines_of p.rows → drop first (rows_of c) ≡ p.rows ++ more → option_map spec.told result ≡ option_map (spec.numbers first) (spec.seat_of (map step_of steps.now) p.rows) }
+    ensures found { (t : List ℕ) (c : Cut) (p : Part) (more : List RowOf) → IsCut t c → rows.now ≡ shown c → lines_in lines.now ≡ lines_of p.rows → drop first (rows_of c) ≡ p.rows ++ more → option_map spec.told result ≡ option_map (spec.numbers first) (seat_of (map step_of steps.now) p.rows) }
 {
     let Some(line) = lines.line_at(steps) else {
         return None;
@@ -101,7 +102,7 @@ fn seat_in(rows: &Rows<'_>, first: usize, lines: &Lined<'_>, steps: &[Step]) -> 
 impl<'t> Documents<'t> {
     /// The line of the entry or item at a path, if one of a row is.
     pub(crate) fn seat(&self, path: &Path) -> Option<Seat>
-        ensures { option_map spec.told result ≡ option_map (spec.numbers (spec.document_row path.now.doc (cut_of self.now))) (spec.seat_at path.now (cut_of self.now)) }
+        ensures { option_map spec.told result ≡ option_map (spec.numbers (document_row path.now.doc (cut_of self.now))) (seat_at path.now (cut_of self.now)) }
     {
         let doc = path.doc;
         let count = self.documents.len();

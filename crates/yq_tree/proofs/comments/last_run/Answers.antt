@@ -1,7 +1,7 @@
 use Rattle.std.proofs.Common.{rules, sym, ap, ◌∙◌}
 use Rattle.yq_scalar.proofs.BlockSteps.{at_cut, at_end}
 use Rattle.yq_scalar.specs.Text.{lines_of}
-use Rattle.yq_tree.proofs.CommentLaws.{run_texts, run_here, run_on, run_anew, run_end}
+use Rattle.yq_tree.proofs.RunLaws.{run_or, run_here, run_on, run_anew, run_end}
 use Rattle.yq_tree.proofs.comments.last_run.Goals as goal
 
 pub lines-init : goal.lines-init
@@ -21,7 +21,7 @@ lines-preserved-then-not-is_comment c =
     record {
       run_text = search rules;
       rest_text = search rules;
-      so_far = c.lines.invariant.so_far ∙ (ap (run_texts run) cut.0 ∙ run_anew run after c.split_line.result.0.now (sym c.is_comment.ensures ∙ c.if-not-is_comment.true));
+      so_far = c.lines.invariant.so_far ∙ (ap (run_or run) cut.0 ∙ run_anew run after c.split_line.result.0.now (sym c.is_comment.ensures ∙ c.if-not-is_comment.true));
     }
 
 pub lines-preserved : goal.lines-preserved
@@ -32,7 +32,7 @@ lines-preserved c =
     record {
       run_text = c.lines.invariant.run_text;
       rest_text = search rules;
-      so_far = c.lines.invariant.so_far ∙ (ap (run_texts run) cut.0 ∙ run_on run after c.split_line.result.0.now (sym c.is_comment.ensures ∙ c.if-not-is_comment.false));
+      so_far = c.lines.invariant.so_far ∙ (ap (run_or run) cut.0 ∙ run_on run after c.split_line.result.0.now (sym c.is_comment.ensures ∙ c.if-not-is_comment.false));
     }
 
 pub returns : goal.returns

@@ -1,5 +1,5 @@
 use Rattle.std.proofs.Common.{◌≡◌, drop}
-use Rattle.yq_tree.specs.Seats.{begin_row}
+use Rattle.yq_tree.specs.SeatReading.{begin_row}
 use Rattle.yq_tree.proofs.seat.begin_row.Given as goal
 
 abbrev pub invariant-parts : goal.invariant-parts

@@ -1,5 +1,5 @@
 use Rattle.std.proofs.Common.{◌≡◌, drop}
-use Rattle.yq_tree.specs.Seats.{behind, slices_seat}
+use Rattle.yq_tree.specs.SeatReading.{behind, slices_seat}
 use Rattle.yq_tree.proofs.seat.find_seat.Given as goal
 
 abbrev pub invariant-rows : goal.invariant-rows

@@ -1,4 +1,4 @@
-use Rattle.yq_tree.specs.Seats.{told}
+use Rattle.yq_tree.specs.SeatReading.{told}
 use Rattle.yq_tree.proofs.SeatLaws.{room_told}
 use Rattle.yq_tree.proofs.document.Documents.has_room.Goals as goal
 

@@ -1,13 +1,16 @@
 use Rattle.std.proofs.Common.{option_map, sym, ap, ◌∙◌}
-use Rattle.yq_tree.specs.CommentPlaces.{line_comment_at}
+use Rattle.yq_tree.specs.CommentPlaces.{line_comment_at, line_comment_in}
+use Rattle.yq_tree.specs.CommentReading.{line_comment_span}
 use Rattle.yq_tree.specs.Reading.{cut_of}
-use Rattle.yq_tree.specs.Seats.{told, numbers, document_row, seat_at}
-use Rattle.yq_tree.proofs.CommentPlaceLaws.{line_comment_told, no_line_comment, row_within}
+use Rattle.yq_tree.specs.SeatReading.{told, numbers}
+use Rattle.yq_tree.specs.Seats.{document_row, seat_at}
+use Rattle.yq_tree.proofs.CommentPlaceLaws.{line_told}
 use Rattle.yq_tree.proofs.HeldLaws.{held_shown}
+use Rattle.yq_tree.proofs.SeatedLaws.{part_told, no_part, row_within}
 use Rattle.yq_tree.proofs.document.Documents.line_comment_place.Goals as goal
 
 pub returns-in_default : goal.returns-in_default
-returns-in_default c = no_line_comment c.args.self.now c.args.path.now c.in_default.ensures
+returns-in_default c = no_part line_comment_in c.args.self.now c.args.path.now c.in_default.ensures
 
 pub line_comment_in-requires-clause-within : goal.line_comment_in-requires-clause-within
 line_comment_in-requires-clause-within c =
@@ -19,7 +22,7 @@ line_comment_in-requires-clause-shown c = held_shown c.self.inside.text.now c.se
 
 pub returns : goal.returns
 returns c =
-    line_comment_told c.self.inside.text.now c.self.inside.rows c.self.inside.documents.items c.args.path.now (told c.in-Some.seat) _ c.self.invariant
+    part_told line_comment_span line_comment_in line_told c.self.inside.text.now c.self.inside.rows c.self.inside.documents.items c.args.path.now (told c.in-Some.seat) _ c.self.invariant
     (c.in-Some.ensures ∙ ap (λ t. option_map (numbers (document_row c.args.path.now.doc (cut_of t))) (seat_at c.args.path.now (cut_of t))) (sym c.self.view_is))
     c.line_comment_in.ensures
     ∙ ap (line_comment_at c.args.path.now) (ap cut_of c.self.view_is)

@@ -2,7 +2,8 @@ use Rattle.std.proofs.Common.{rules, ◌≡◌, length, map, option_map, refl, s
 use Rattle.std.proofs.lemmas.Option.{slice_get_read}
 use Rattle.yq_inline.specs.Entries.{step_of}
 use Rattle.yq_tree.specs.Reading.{cut_of}
-use Rattle.yq_tree.specs.Seats.{begin_row, document_row, numbers, seat_at, seat_of}
+use Rattle.yq_tree.specs.SeatReading.{begin_row, numbers}
+use Rattle.yq_tree.specs.Seats.{document_row, seat_at, seat_of}
 use Rattle.yq_tree.proofs.SeatLaws.{held_seat, held_some}
 use Rattle.yq_tree.proofs.document.Documents.seat.Goals as goal
 
