@@ -8,6 +8,7 @@ use std::test::Fail;
 use yq_rows::scan;
 use yq_scalar::{FaultKind, ReadError, ReadFault};
 
+mod comment_places;
 mod examples;
 mod memory;
 mod refusals;
