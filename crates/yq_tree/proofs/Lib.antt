@@ -6,6 +6,7 @@ pub mod CheckLaws
 pub mod ChildLaws
 pub mod CommentLaws
 pub mod CommentPlaceLaws
+pub mod CommentStandLaws
 pub mod Conditions
 pub mod CountLaws
 pub mod Decides
@@ -14,6 +15,9 @@ pub mod EndsLaws
 pub mod EntryLaws
 pub mod HeldLaws
 pub mod LabelledLaws
+pub mod LabelPaths
+pub mod QuietLaws
+pub mod RemarkLaws
 pub mod KeyLaws
 pub mod LaidLaws
 pub mod OneLine
@@ -39,6 +43,7 @@ pub mod Parts
 pub mod PathLines
 pub mod Plug
 pub mod SeatLaws
+pub mod SeatLineLaws
 pub mod SoundLaws
 pub mod SpanLaws
 pub mod SpotLaws

@@ -1,4 +1,5 @@
 //! Laws on paths and rows, for the crates above.
+ghost use Rattle.yq_tree.specs.CommentPlaces.{CommentsStand};
 ghost use Rattle.yq_tree.specs.RowPaths.{HeadIsLeaf, LeadsToRow, ScalarFits, ScalarPut, ScalarSpelled};
 
 /// A path that leads to a row without lines under it leads to what the row spells behind its mark.
@@ -16,4 +17,9 @@ pub fn scalar_put()
 /// A scalar fits in the place of a row's own, or behind a space where nothing is written.
 pub fn scalar_fits()
     ensures { ScalarFits }
+{}
+
+/// The comments of the tree at a path stand at their places, each exactly where there is one.
+pub fn comments_stand()
+    ensures { CommentsStand }
 {}

@@ -1,0 +1,84 @@
+-- What is told of the line that is in a seat.
+use Rattle.std.proofs.Common.{◌≡◌, ◌⊎◌, inl, inr, ℕ, zero, suc, ◌+◌, ◌-◌, ◌<◌, ◌≤◌, List, [], ◌∷◌, ◌++◌, length, Option, Some, None, option_map, refl, sym, ap, ◌∙◌, subst, arith}
+use Rattle.std.proofs.lemmas.Bool.{cases_lt, lt-ltb, le-ltb, cond-true, cond-false}
+use Rattle.std.specs.List.{slice_get}
+use Rattle.yq_rows.specs.Comments as comments
+use Rattle.yq_rows.specs.Rows as rows
+use Rattle.yq_rows.specs.Rows.{Content, Row}
+use Rattle.yq_tree.specs.Lines.{tail_of, mark_line, dash_line, lines_from, row_lines, lines_of}
+use Rattle.yq_tree.specs.Outline.{Line}
+use Rattle.yq_tree.specs.Seats.{Seat, behind_one, seat}
+use Rattle.yq_tree.proofs.QuietLaws.{Quiet, quiet_content}
+use Rattle.yq_tree.proofs.Values.{If}
+
+-- What is told of line n of a row: the comments above at the first, the comment in the tail at the last.
+pub record IsTold (above : List (List ℕ)) (dashes : ℕ) (c : Content) (n : ℕ) (l : Line) : Type 0 where
+  pub within : n ≤ dashes
+  pub first : n ≡ 0 → l.head_comment ≡ above
+  pub later : 0 < n → l.head_comment ≡ []
+  pub last : n ≡ dashes → l.line_comment ≡ comments.line_comment (tail_of c)
+  pub before : n < dashes → l.line_comment ≡ None
+  pub head : If l.head Quiet
+
+none_above : (dashes : ℕ) (c : Content) (n : ℕ) (l : Line) → IsTold [] dashes c n l → l.head_comment ≡ []
+none_above dashes c n l h = go (cases_lt 0 n)
+  where
+    go : (0 < n) ⊎ (n ≤ 0) → l.head_comment ≡ []
+    go (inl more) = h.later more
+    go (inr zero_is) = h.first (omega (arith, zero_is))
+
+some_same : {x y : Line} → Some x ≡ Some y → x ≡ y
+some_same e = cc
+
+line_from : (above : List (List ℕ)) (column : ℕ) (ns : List ℕ) (m : rows.Mark) (c : Content) (n : ℕ) (l : Line) → slice_get (lines_from above column ns m c) n ≡ Some l → IsTold above (length ns) c n l
+line_from above column [] m c zero l e =
+    subst (IsTold above 0 c 0) (some_same e) (record { within = omega arith; first = λ z. refl; later = λ p. absurd (omega (arith, p)); last = λ z. refl; before = λ p. absurd (omega (arith, p)); head = quiet_content c })
+line_from above column [] m c (suc n) l e = absurd (cc)
+line_from above column (k ∷ ns) m c zero l e =
+    subst (IsTold above (suc (length ns)) c 0) (some_same e) (record { within = omega arith; first = λ z. refl; later = λ p. absurd (omega (arith, p)); last = λ z. absurd (omega (arith, z)); before = λ p. refl; head = tt })
+line_from above column (k ∷ ns) m c (suc n) l e =
+    let h : IsTold [] (length ns) c n l = line_from [] (suc (column + k)) ns m c n l e in
+    record {
+      within = omega (arith, h.within);
+      first = λ z. absurd (omega (arith, z));
+      later = λ p. none_above (length ns) c n l h;
+      last = λ z. h.last (omega (arith, z));
+      before = λ p. h.before (omega (arith, p));
+      head = h.head;
+    }
+
+lines_count : (above : List (List ℕ)) (column : ℕ) (ns : List ℕ) (m : rows.Mark) (x : Content) → length (lines_from above column ns m x) ≡ suc (length ns)
+lines_count above column [] m x = refl
+lines_count above column (n ∷ ns) m x = ap suc (lines_count [] (suc (column + n)) ns m x)
+
+get_front : (xs ys : List Line) (n : ℕ) (l : Line) → n < length xs → slice_get (xs ++ ys) n ≡ Some l → slice_get xs n ≡ Some l
+get_front [] ys n l h e = absurd (omega (arith, h))
+get_front (x ∷ xs) ys zero l h e = e
+get_front (x ∷ xs) ys (suc n) l h e = get_front xs ys n l (omega (arith, h)) e
+
+get_back : (xs ys : List Line) (n : ℕ) (l : Line) → length xs ≤ n → slice_get (xs ++ ys) n ≡ Some l → slice_get ys (n - length xs) ≡ Some l
+get_back [] ys n l h e = let same : n - 0 ≡ n = omega arith in ap (slice_get ys) same ∙ e
+get_back (x ∷ xs) ys zero l h e = absurd (omega (arith, h))
+get_back (x ∷ xs) ys (suc n) l h e = let same : suc n - suc (length xs) ≡ n - length xs = omega arith in ap (slice_get ys) same ∙ get_back xs ys n l (omega (arith, h)) e
+
+-- the same of a seat
+abbrev pub Tells : Seat → Line → Type 0
+Tells s l = IsTold (comments.head_comment s.row.gap) (length s.row.dashes) s.row.content s.line l
+
+pub seat_line : (rs : List Row) (n : ℕ) (l : Line) → slice_get (lines_of rs) n ≡ Some l → (s : Seat) × (seat n rs ≡ Some s) × Tells s l
+seat_line [] n l e = absurd (cc)
+seat_line (r ∷ rs) n l e = go (cases_lt (length r.dashes) n) (λ k there. seat_line rs k l there)
+  where
+    count : length (row_lines r) ≡ suc (length r.dashes)
+    count = lines_count (comments.head_comment r.gap) r.column r.dashes r.mark r.content
+
+    go : (length r.dashes < n) ⊎ (n ≤ length r.dashes) → ((k : ℕ) → slice_get (lines_of rs) k ≡ Some l → (s : Seat) × (seat k rs ≡ Some s) × Tells s l) → (s : Seat) × (seat n (r ∷ rs) ≡ Some s) × Tells s l
+    go (inl past) again =
+        let at : n - length (row_lines r) ≡ n - suc (length r.dashes) = ap (λ (k : ℕ). n - k) count in
+        let q = again (n - suc (length r.dashes)) (ap (slice_get (lines_of rs)) (sym at) ∙ get_back (row_lines r) (lines_of rs) n l (omega (arith, past, count)) e) in
+        (behind_one q.0, cond-true _ _ _ (lt-ltb (length r.dashes) n past) ∙ ap (option_map behind_one) q.1, q.2)
+    go (inr here) again = (
+      record { before = 0; row = r; line = n },
+      cond-false _ _ _ (le-ltb (length r.dashes) n here),
+      line_from (comments.head_comment r.gap) r.column r.dashes r.mark r.content n l (get_front (row_lines r) (lines_of rs) n l (omega (arith, here, count)) e),
+    )
