@@ -85,6 +85,15 @@ def check_a_value_is_put_where_nothing_is_written(folder):
     )
 
 
+def check_a_value_alone_on_its_line_gives_way(folder):
+    edits_are_undone(
+        folder,
+        b"a: &x # c\n  word # d\nl:\n-\n  'y'\n- *x\n",
+        [".a = 1", ".l[0] = \"z\""],
+        b"a: &x # c\n  1 # d\nl:\n-\n  'z'\n- *x\n",
+    )
+
+
 def check_a_journal_of_another_name(folder):
     folder.write("f.yaml", b"n: 1\n")
     folder.accepts("-i", "--journal", "j.json", ".n = 2", "f.yaml")

@@ -14,7 +14,7 @@ use Rattle.yq_tree.specs.Lines.{lines_of}
 use Rattle.yq_tree.specs.Nodes.{lines_in}
 use Rattle.yq_tree.specs.PartReading.{Lined, lined, document_view}
 use Rattle.yq_tree.specs.Reading.{document_of, is_document, documents, cut_of}
-use Rattle.yq_tree.specs.ScalarPlaces.{empty_in, empty_at}
+use Rattle.yq_tree.specs.ScalarPlaces.{empty_in, empty_at, alone_in, alone_at}
 use Rattle.yq_tree.specs.SoundReading.{Holds}
 use Rattle.yq_tree.specs.Told.{place_start}
 use Rattle.yq_tree.specs.Written.{written_at}
@@ -72,3 +72,12 @@ held_empty t s ds steps found h one told =
 pub held_no_empty : (t : List ℕ) (s : Shown) (ds : List Held) (steps : List Step) → Holds t s ds → (length ds ≡ 1 → ⊥) → None ≡ option_map place_start (empty_at steps (cut_of t))
 held_no_empty t s ds steps h other =
     ap (option_map place_start) (sym (cond-false _ (empty_in steps (cut_of t)) None (ne_eqb (length (documents (cut_of t))) 1 (λ e. other (count_held t s ds h ∙ e)))))
+
+-- scalars that are alone on their lines
+pub held_alone : (t : List ℕ) (s : Shown) (ds : List Held) (steps : List Step) (found : Option (ℕ × ℕ)) → Holds t s ds → length ds ≡ 1 → found ≡ option_map scalar_span (alone_in steps (cut_of t)) → found ≡ option_map scalar_span (alone_at steps (cut_of t))
+held_alone t s ds steps found h one told =
+    told ∙ ap (option_map scalar_span) (sym (cond-true _ (alone_in steps (cut_of t)) None (eq-eqb (length (documents (cut_of t))) 1 (sym (count_held t s ds h) ∙ one))))
+
+pub held_no_alone : (t : List ℕ) (s : Shown) (ds : List Held) (steps : List Step) → Holds t s ds → (length ds ≡ 1 → ⊥) → None ≡ option_map scalar_span (alone_at steps (cut_of t))
+held_no_alone t s ds steps h other =
+    ap (option_map scalar_span) (sym (cond-false _ (alone_in steps (cut_of t)) None (ne_eqb (length (documents (cut_of t))) 1 (λ e. other (count_held t s ds h ∙ e)))))

@@ -62,7 +62,13 @@ pub mod RunLaws
 pub mod ScalarLaws
 pub mod CoreLaws
 pub mod NextLaws
+pub mod HeldScalars
 pub mod WrittenLaws
+pub mod UnderLaws
+pub mod UnderExchange
+pub mod AloneLaws
+pub mod AloneSpans
+pub mod AloneTold
 pub mod EmptyLaws
 pub mod EmptySpans
 pub mod EmptyTold

@@ -1,7 +1,7 @@
--- The rows of a cut with one document, of which one row has another content.
-use Rattle.std.proofs.Common.{◌≡◌, ℕ, zero, suc, ◌-◌, ◌<◌, ltb, List, [], ◌∷◌, ◌++◌, length, Bool, true, false, not, ◌||◌, cond, refl, sym, ap, ◌∙◌, arith, append-nil, length-append}
+-- The rows of a cut with one document, of which one row has another content, and those behind a row.
+use Rattle.std.proofs.Common.{◌≡◌, ℕ, zero, suc, ◌-◌, ◌<◌, ltb, List, [], ◌∷◌, ◌++◌, length, drop, Bool, true, false, not, ◌||◌, cond, refl, sym, ap, ◌∙◌, arith, append-nil, length-append}
 use Rattle.std.proofs.lemmas.Bool.{lt-ltb, cond-true, cond-false, le-ltb}
-use Rattle.yq_rows.specs.Exchange.{with_content_at, with_content_in, exchange}
+use Rattle.yq_rows.specs.Exchange.{with_content_at, with_content_in, exchange, rows_behind}
 use Rattle.yq_rows.specs.Grammar.{no_rows, begins_document, AreParts}
 use Rattle.yq_rows.specs.Rows.{Content, Row, Part, Cut, last, marked}
 use Rattle.yq_rows.specs.View.{rows_of}
@@ -107,3 +107,24 @@ pub one_exchanged : (i : ℕ) (new : Content) (c : Cut) (p : Part) → AreParts 
 one_exchanged i new c p h within one =
     let first : Bool = begins_bare c || not (has_begin c) in
     (λ j. parts_from (bare_stays i new c j || not (begin_stays i new c j)) (exchange i new c)) ∙ parts_with first true i new c p (first_bare c) h within one
+
+-- the rows behind a row are all of the same part
+behind_with : (is started : Bool) (i : ℕ) (c : Cut) (p : Part) → IsBare is c → AreParts started c → i < length (rows_of c) → parts_from is c ≡ p ∷ [] → rows_behind i c ≡ drop (suc i) (rows_of c)
+behind_with is started i (last q) p bare h within e = refl
+behind_with true started i (marked q marker c) p bare h within e =
+    let b : Bool = begins_document marker in
+    let none : parts_from b c ≡ [] = tail_same e in
+    let rows : rows_of c ≡ [] = rows_are b b c (closed b c h.2) h.2 ∙ ap rows_in none in
+    let here : i < length q.rows = omega (arith, within, length-append q.rows (rows_of c), ap length rows) in
+    cond-true _ _ _ (lt-ltb i (length q.rows) here) ∙ ap (drop (suc i)) (sym (append-nil q.rows) ∙ ap (λ (x : List Row). q.rows ++ x) (sym rows))
+behind_with false started i (marked q marker c) p bare h within e =
+    let b : Bool = begins_document marker in
+    let rows : q.rows ≡ [] = bare refl in
+    let past : length q.rows ≡ 0 = ap length rows in
+    let more : i - length q.rows ≡ i = omega (arith, past) in
+    let inside : i < length (rows_of c) = omega (arith, within, length-append q.rows (rows_of c), past) in
+    cond-false _ _ _ (le-ltb i (length q.rows) (omega (arith, past)))
+    ∙ (ap (λ (k : ℕ). rows_behind k c) more ∙ (behind_with b b i c p (closed b c h.2) h.2 inside e ∙ ap (λ (x : List Row). drop (suc i) (x ++ rows_of c)) (sym rows)))
+
+pub one_behind : (i : ℕ) (c : Cut) (p : Part) → AreParts true c → i < length (rows_of c) → document_parts c ≡ p ∷ [] → rows_behind i c ≡ drop (suc i) (rows_of c)
+one_behind i c p h within one = behind_with (begins_bare c || not (has_begin c)) true i c p (first_bare c) h within one

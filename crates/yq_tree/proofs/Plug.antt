@@ -45,11 +45,11 @@ never_end P here l u a f = f l u a
 never_end P (below k p b) l u a f = f k (plug p (row l u a)) b
 never_end P (beside k v p) l u a f = f k v (plug p (row l u a))
 
-headless : (h : Option Node) (k : Line) (v b : Outline) → IsOpen h (row k v b) → h ≡ None
+pub headless : (h : Option Node) (k : Line) (v b : Outline) → IsOpen h (row k v b) → h ≡ None
 headless None k v b e = refl
 headless (Some n) k v b e = absurd e
 
-headless_entry : (m : Mark) (h : Option Node) (b : Outline) → h ≡ None → IsWhole m h b → IsEntry m
+pub headless_entry : (m : Mark) (h : Option Node) (b : Outline) → h ≡ None → IsWhole m h b → IsEntry m
 headless_entry (Key k) h b e w = tt
 headless_entry Dash h b e w = tt
 headless_entry Bare None b e w = w

@@ -29,7 +29,7 @@ use Rattle.yq_tree.proofs.RowLines.{last_line, same_rows}
 use Rattle.yq_tree.proofs.RowPathLaws.{Reached, reached_lines, leaf_node, document_fine}
 
 -- keys
-fit_stays : (i : ℕ) (new : Content) (rows : List Row) → content_is_fit new ≡ true → have_fit_keys rows ≡ true → have_fit_keys (with_content_at i new rows) ≡ true
+pub fit_stays : (i : ℕ) (new : Content) (rows : List Row) → content_is_fit new ≡ true → have_fit_keys rows ≡ true → have_fit_keys (with_content_at i new rows) ≡ true
 fit_stays i new [] fit e = e
 fit_stays zero new (r ∷ rows) fit e =
     let a = and_parts (mark_is_fit r.mark) (content_is_fit r.content && have_fit_keys rows) e in
@@ -54,7 +54,7 @@ short_stays zero new (x ∷ rows) r is entry e = ap not (entry_short x.mark new 
     same e = cc
 short_stays (suc i) new (x ∷ rows) r is entry e = e
 
-gap_stays : (i : ℕ) (new : Content) (rows : List Row) (gap : List ℕ) → first_gap (with_content_at i new rows) gap ≡ first_gap rows gap
+pub gap_stays : (i : ℕ) (new : Content) (rows : List Row) (gap : List ℕ) → first_gap (with_content_at i new rows) gap ≡ first_gap rows gap
 gap_stays i new [] gap = refl
 gap_stays zero new (r ∷ rows) gap = refl
 gap_stays (suc i) new (r ∷ rows) gap = refl
@@ -65,14 +65,14 @@ takes Bare a h e = absurd e
 takes (Key k) a h e = refl
 takes Dash a h e = refl
 
-free_stays : (a : Option (List ℕ)) (before behind : List Line) (l k : Line) → IsEntry l.mark → IsEntry k.mark → is_free a (before ++ (k ∷ behind)) ≡ is_free a (before ++ (l ∷ behind))
-free_stays None before behind l k e f = refl
-free_stays (Some a) [] behind l k e f = takes k.mark k.anchor k.head f ∙ sym (takes l.mark l.anchor l.head e)
-free_stays (Some a) (x ∷ before) behind l k e f = refl
+free_stays : (a : Option (List ℕ)) (before behind : List Line) (l k : Line) → may_take k.mark k.anchor k.head ≡ may_take l.mark l.anchor l.head → is_free a (before ++ (k ∷ behind)) ≡ is_free a (before ++ (l ∷ behind))
+free_stays None before behind l k may = refl
+free_stays (Some a) [] behind l k may = may
+free_stays (Some a) (x ∷ before) behind l k may = refl
 
-each_stays : (before behind : List Line) (l k : Line) → IsEntry l.mark → IsEntry k.mark → k.anchor ≡ l.anchor → have_one_anchor_each (before ++ (k ∷ behind)) ≡ have_one_anchor_each (before ++ (l ∷ behind))
-each_stays [] behind l k e f same = ap (λ (a : Option (List ℕ)). is_free a behind && have_one_anchor_each behind) same
-each_stays (x ∷ before) behind l k e f same = λ i. free_stays x.anchor before behind l k e f i && each_stays before behind l k e f same i
+pub each_stays : (before behind : List Line) (l k : Line) → may_take k.mark k.anchor k.head ≡ may_take l.mark l.anchor l.head → k.anchor ≡ l.anchor → have_one_anchor_each (before ++ (k ∷ behind)) ≡ have_one_anchor_each (before ++ (l ∷ behind))
+each_stays [] behind l k may same = ap (λ (a : Option (List ℕ)). is_free a behind && have_one_anchor_each behind) same
+each_stays (x ∷ before) behind l k may same = λ i. free_stays x.anchor before behind l k may i && each_stays before behind l k may same i
 
 -- the line of a row with another content
 mark_entry : (m : rows.Mark) → is_entry m ≡ true → IsEntry (mark_of m)
@@ -88,7 +88,7 @@ same_label : (r : Row) (c d : Content) → tail_of c ≡ tail_of d → label (la
 same_label r c d e =
     let put : List ℕ → Label = λ (x : List ℕ). record { key = key_of (mark_of r.mark); head_comment = (last_line r c).head_comment; line_comment = line_comment x } in ap put e
 
-open_end : (h : Option Node) → IsOpen h end
+pub open_end : (h : Option Node) → IsOpen h end
 open_end None = tt
 open_end (Some n) = tt
 
@@ -139,9 +139,12 @@ module _ (p : Part) (steps : List Step) (i : ℕ) (new : Content) (g : Node → 
       let fine = document_fine p doc in
       let st = fine_value (is_fine (outline_of q)) (root_of q) root (stand-complete (lines_of q.rows) root (level_or 0 (outline_of p)) (stands fine entry none keeps.tail is)) in
       let marks = mark_entry h.last.row.mark entry in
+      let l : Line = last_line h.last.row old in
+      let k : Line = last_line h.last.row new in
+      let may : may_take k.mark k.anchor k.head ≡ may_take l.mark l.anchor l.head = takes k.mark k.anchor k.head marks ∙ sym (takes l.mark l.anchor l.head marks) in
       let each : have_one_anchor_each (lines_of q.rows) ≡ true =
       ap have_one_anchor_each (h.last.lines new)
-      ∙ (each_stays h.last.before h.last.behind (last_line h.last.row old) (last_line h.last.row new) marks marks keeps.anchor
+      ∙ (each_stays h.last.before h.last.behind l k may keeps.anchor
       ∙ (ap have_one_anchor_each (sym (h.last.lines old) ∙ ap lines_of (same_rows i p.rows h.last.row h.last.there)) ∙ c.0)) in
       let sound : is_sound depth_limit (outline_of q) ≡ true = and_from (is_fine (outline_of q)) _ st.0 (and_from (leb (depth (root_of q)) depth_limit) (has_unique_keys (root_of q)) (ap (λ n. leb (depth n) depth_limit) st.1 ∙ nested) (ap has_unique_keys st.1 ∙ unique)) in (
         and_from (have_fit_keys q.rows) _ (fit_stays i new p.rows keeps.fit a.0)

@@ -39,6 +39,10 @@ lines_before_last r = dash_lines (head_comment r.gap) r.column r.dashes
 row_split : (r : Row) (c : Content) → row_lines (with_content c r) ≡ lines_before_last r ++ (last_line r c ∷ [])
 row_split r c = dashes_before (head_comment r.gap) r.column r.dashes r.mark c
 
+-- without dashes it is the only one
+pub bare_lines : (r : Row) (c : Content) → r.dashes ≡ [] → row_lines (with_content c r) ≡ last_line r c ∷ []
+bare_lines r c none = row_split r c ∙ ap (λ (ns : List ℕ). dash_lines (head_comment r.gap) r.column ns ++ (last_line r c ∷ [])) none
+
 row_count : (r : Row) → length (row_lines r) ≡ suc (length r.dashes)
 row_count r =
     let cut : length (row_lines r) ≡ length (lines_before_last r) + 1 = ap length (row_split r r.content) ∙ length-append (lines_before_last r) (last_line r r.content ∷ []) in

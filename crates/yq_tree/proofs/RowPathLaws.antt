@@ -133,7 +133,7 @@ pub same_row : (t : List ℕ) (c : Cut) (d : Document) (steps : List Step) (i : 
 same_row t c d steps i r h f there = some_same (sym f.last.there ∙ (ap (λ (rs : List Row). slice_get rs i) (sym (rows_are t c d h)) ∙ there))
 
 -- nothing is under the line that was found, as a test
-end_is : (o : Outline) → is_end o ≡ true → o ≡ end
+pub end_is : (o : Outline) → is_end o ≡ true → o ≡ end
 end_is end e = refl
 end_is (row l u a) e = absurd (cc)
 
@@ -162,7 +162,7 @@ found_place ls s ss rest f is fine =
 pub reached_even : (steps : List Step) (i : ℕ) (rows : List Row) (h : Reached steps i rows) → is_fine (group (lines_of rows)) ≡ true → IsEven (level h.found.line) (row h.found.line h.found.under h.found.after)
 reached_even steps i rows h fine = (found_place (lines_of rows) h.first h.others [] h.found h.is fine).1
 
-open_end : (h : Option Node) (u : Outline) → is_some h ≡ true → IsOpen h u → is_end u ≡ true
+pub open_end : (h : Option Node) (u : Outline) → is_some h ≡ true → IsOpen h u → is_end u ≡ true
 open_end None u e o = absurd (cc)
 open_end (Some n) end e o = refl
 open_end (Some n) (row l v a) e o = absurd o

@@ -1,19 +1,19 @@
 -- A scalar stands in the place of a row's own, or behind a space where nothing is written.
-use Rattle.std.proofs.Common.{◌≡◌, ◌⊎◌, inl, inr, ℕ, Bool, true, false, not, ◌||◌, List, [], ◌∷◌, ◌++◌, Option, Some, refl, sym, ap, ◌∙◌, subst}
+use Rattle.std.proofs.Common.{◌≡◌, inl, inr, ℕ, Bool, true, false, not, ◌||◌, List, [], ◌∷◌, ◌++◌, Option, Some, refl, ap, subst}
 use Rattle.std.proofs.lemmas.Bool.{false≢true, or_right}
 use Rattle.std.specs.List.{slice_get}
 use Rattle.yq_scalar.specs.Text.{unless, is_empty, no_white, NoneIn}
 use Rattle.yq_scalar.specs.Piece.{deeper}
 use Rattle.yq_inline.specs.Inline.{depth_limit, IsInline}
 use Rattle.yq_scalar.specs.declared.style.Place.TheVariants as places
-use Rattle.yq_inline.specs.Nodes.{Node, empty, alias, scalar, coll, anchored, node_text, first_is, in_name, begins_content, begins_node, IsApart, IsLead, IsName, is_bare, takes_anchor, IsNode}
+use Rattle.yq_inline.specs.Nodes.{Node, empty, alias, scalar, coll, anchored, node_text, first_is, in_name, begins_content, IsLead, IsName, is_bare, IsNode}
 use Rattle.yq_inline.specs.Scalars.{IsScalar, begins_scalar}
 use Rattle.yq_inline.proofs.PieceLaws.{scalar_begins}
 use Rattle.yq_rows.specs.Exchange.{with_content, behind_row, rows_behind, allows_first, Fits}
 use Rattle.yq_rows.specs.Grammar.{IsTail, IsContent, is_entry, is_plain, unlimited, limit_after, IsCut}
 use Rattle.yq_rows.specs.Rows.{Content, Nothing, Inline, Block, Row, parent_indent, Cut}
 use Rattle.yq_rows.specs.View.{rows_of}
-use Rattle.yq_rows.proofs.Fronts.{Starts, node_starts}
+use Rattle.yq_rows.proofs.Fronts.{node_starts}
 use Rattle.yq_rows.proofs.NodeExchange.{node_fits}
 use Rattle.yq_rows.proofs.PlaceLaws.{row_in}
 use Rattle.yq_tree.specs.Lines.{tail_of}
@@ -71,7 +71,7 @@ core_valid spaces d (anchored n g (scalar old)) p rest e h s =
 core_valid spaces d (anchored n g (coll close gap items)) p rest e h s = absurd (false≢true e)
 core_valid spaces d (anchored n g (anchored m gap node)) p rest e h s = absurd (false≢true h.3)
 
-some_core : (node : Node) (p : List ℕ) → is_core node ≡ true → is_bare (with_core p node) ≡ false
+pub some_core : (node : Node) (p : List ℕ) → is_core node ≡ true → is_bare (with_core p node) ≡ false
 some_core empty p e = refl
 some_core (alias n) p e = refl
 some_core (scalar old) p e = refl

@@ -30,7 +30,7 @@ use Rattle.yq_tree.proofs.RowPathLaws.{is_one, rows_are, path_reached, same_row,
 use Rattle.yq_tree.proofs.SameLaws.{AreAlike, change_alike}
 
 -- a scalar without an anchor
-abbrev IsScalar : Node → Type 0
+abbrev pub IsScalar : Node → Type 0
 IsScalar n = (k : Kind) × (t : List ℕ) × (n ≡ scalar None k t)
 
 -- what a node with a scalar keeps and spells
@@ -40,7 +40,7 @@ record CoreKept (old new : inline.Node) (p : List ℕ) : Type 0 where
   pub fit : has_fit_keys new ≡ true
   pub scalar : IsScalar (head_or (node_head old) null)
 
-scalar_tree : (p : List ℕ) → IsScalar (tree_of (inline.scalar p))
+pub scalar_tree : (p : List ℕ) → IsScalar (tree_of (inline.scalar p))
 unfolding tree_of
 scalar_tree p = ((scalar_of p).kind, (scalar_of p).text, refl)
 
@@ -52,7 +52,7 @@ core_kept (inline.coll close gap items) p e = absurd (cc)
 core_kept (inline.anchored name gap n) p e = let k = core_kept n p e in record { anchor = refl; head = k.head; fit = k.fit; scalar = k.scalar }
 
 -- the same of what stands behind a mark
-record ScalarKept (old new : Content) (p : List ℕ) : Type 0 where
+pub record ScalarKept (old new : Content) (p : List ℕ) : Type 0 where
   pub keeps : Keeps old new
   pub head : head_of new ≡ Some (tree_of (inline.scalar p))
   pub scalar : IsScalar (head_or (head_of old) null)
@@ -61,7 +61,7 @@ block_kept : (a : Option rows.Anchor) (p : List ℕ) → (node_anchor (behind_an
 block_kept None p = (refl, refl, refl)
 block_kept (Some a) p = (refl, refl, refl)
 
-scalar_kept : (c : Content) (p : List ℕ) → takes_scalar c ≡ true → ScalarKept c (put_scalar p c) p
+pub scalar_kept : (c : Content) (p : List ℕ) → takes_scalar c ≡ true → ScalarKept c (put_scalar p c) p
 scalar_kept (Nothing tail) p e = record { keeps = record { anchor = refl; tail = refl; fit = refl }; head = refl; scalar = (_, _, refl) }
 scalar_kept (Inline space n tail) p e = let k = core_kept n p e in record { keeps = record { anchor = k.anchor; tail = refl; fit = k.fit }; head = k.head; scalar = k.scalar }
 scalar_kept (Block space anchor block) p e = let k = block_kept anchor p in record { keeps = record { anchor = k.0; tail = refl; fit = k.2 }; head = k.1; scalar = (_, _, refl) }
@@ -75,6 +75,11 @@ alike_scalars a n m h k =
     let same : AreAlike (anchored a (scalar None h.0 h.1)) (anchored a (scalar None k.0 k.1)) = (refl, refl, refl) in
     subst (λ (x : Node). AreAlike (anchored a x) (anchored a m)) (sym h.2) (subst (λ (x : Node). AreAlike (anchored a (scalar None h.0 h.1)) (anchored a x)) (sym k.2) same)
 
+pub alike_anchored : (o a : Option (List ℕ)) (n m : Node) → IsScalar n → IsScalar m → AreAlike (anchored o (anchored a n)) (anchored o (anchored a m))
+alike_anchored o a n m h k =
+    let same : AreAlike (anchored o (anchored a (scalar None h.0 h.1))) (anchored o (anchored a (scalar None k.0 k.1))) = (refl, refl, refl) in
+    subst (λ (x : Node). AreAlike (anchored o (anchored a x)) (anchored o (anchored a m))) (sym h.2) (subst (λ (x : Node). AreAlike (anchored o (anchored a (scalar None h.0 h.1))) (anchored o (anchored a x))) (sym k.2) same)
+
 put_alike : (c : Content) (p : List ℕ) (g : Node → Node) → takes_scalar c ≡ true → g (spelled c) ≡ spelled (put_scalar p c) → AreAlike (g (spelled c)) (spelled c)
 put_alike c p g e is =
     subst (λ (x : Node). AreAlike x (spelled c)) (sym (is ∙ scalar_spelled c p e)) (alike_scalars (anchor_of c) (tree_of (inline.scalar p)) (head_or (head_of c) null) (scalar_tree p) (scalar_kept c p e).scalar)
@@ -85,7 +90,7 @@ get_within (x ∷ rows) zero r e = omega arith
 get_within (x ∷ rows) (suc i) r e = let again = get_within rows i r e in omega (arith, again)
 
 -- what is asked of the root of a document
-root_tests : (p : Part) → is_document p ≡ true → (are_bound [] (names_of (root_of p)) ≡ true) × (leb (depth (root_of p)) depth_limit ≡ true) × (has_unique_keys (root_of p) ≡ true)
+pub root_tests : (p : Part) → is_document p ≡ true → (are_bound [] (names_of (root_of p)) ≡ true) × (leb (depth (root_of p)) depth_limit ≡ true) × (has_unique_keys (root_of p) ≡ true)
 root_tests p e =
     let a = and_parts (have_fit_keys p.rows) _ e in
     let b = and_parts (has_short_root p.rows) _ a.1 in
@@ -94,7 +99,7 @@ root_tests p e =
     let f = and_parts (is_fine (outline_of p)) _ d.1 in
     let h = and_parts (leb (depth (root_of p)) depth_limit) (has_unique_keys (root_of p)) f.1 in (d.0, h.0, h.1)
 
-reads_changed : (c x : Cut) (q : Part) (d : Document) (steps : List Step) (g : Node → Node) → document_parts x ≡ q ∷ [] → is_document q ≡ true → document_of q ≡ record { lead = d.lead; root = change steps g d.root } →
+pub reads_changed : (c x : Cut) (q : Part) (d : Document) (steps : List Step) (g : Node → Node) → document_parts x ≡ q ∷ [] → is_document q ≡ true → document_of q ≡ record { lead = d.lead; root = change steps g d.root } →
     (all_documents x ≡ true → read_at (cut_text x) ≡ Some x) → ReadsChanged x d steps g
 reads_changed c x q d steps g one doc is read = record {
   read = read (ap (list_all is_document) one ∙ and_from (is_document q) true doc refl);

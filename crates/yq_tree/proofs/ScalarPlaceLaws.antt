@@ -27,14 +27,16 @@ use Rattle.yq_tree.specs.Outline.{first_anchor, anchored, head_or}
 use Rattle.yq_tree.specs.Outline as outline
 use Rattle.yq_tree.specs.Reading.{documents, read_at}
 use Rattle.yq_tree.specs.RowPaths.{Leads, spelled, put_scalar, IsReadable}
-use Rattle.yq_tree.specs.ScalarPlaces.{ScalarPlace, place_of, empty_in, empty_at, first_place, place_at, null, held, replaced, spaced, text_with, PlaceStands, PlaceSet}
+use Rattle.yq_tree.specs.ScalarPlaces.{ScalarPlace, place_of, empty_in, empty_at, alone_at, first_place, place_at, null, held, replaced, spaced, text_with, PlaceStands, PlaceSet}
 use Rattle.yq_tree.specs.Written.{Written, written_at, IsSet}
+use Rattle.yq_tree.proofs.AloneLaws.{alone_row, alone_pieces_are, alone_node, alone_set}
 use Rattle.yq_tree.proofs.EmptyLaws.{IsEmptyAt, empty_row, spot, spot_pieces, spot_ends}
 use Rattle.yq_tree.proofs.NextLaws.{next_allowed}
 use Rattle.yq_tree.proofs.RowPathLaws.{is_one, leads_to_row}
 use Rattle.yq_tree.proofs.ScalarFitLaws.{scalar_fits}
 use Rattle.yq_tree.proofs.ScalarLaws.{scalar_spelled, scalar_put}
-use Rattle.yq_tree.proofs.WrittenLaws.{scalar_tree, deeper_is, behind_utf8, scalar_stands, scalar_set}
+use Rattle.yq_tree.proofs.HeldScalars.{scalar_tree, behind_utf8}
+use Rattle.yq_tree.proofs.WrittenLaws.{deeper_is, scalar_stands, scalar_set}
 
 -- where nothing is written, a row spells a null
 null_tree : (a : Option (List ℕ)) → anchored a outline.null ≡ tree.scalar (first_anchor a None) null.kind null.text
@@ -118,35 +120,51 @@ empty_set t c d steps w s style g read one at valid inline can size keeps =
 some_same : {A : Type 0} {x y : A} → Some x ≡ Some y → x ≡ y
 some_same e = cc
 
-abbrev Either : List Step → Cut → ScalarPlace → Type 0
-Either steps c w = ((x : Written) × (written_at steps c ≡ Some x) × (place_of x ≡ w)) ⊎ (empty_at steps c ≡ Some w)
+none_some : {A : Type 0} {x : A} → None ≡ Some x → ⊥
+none_some e = cc
 
-either : (steps : List Step) (c : Cut) (w : ScalarPlace) → place_at steps c ≡ Some w → Either steps c w
-either steps c w h = go (written_at steps c) refl h
+abbrev IsOf : Option Written → ScalarPlace → Type 0
+IsOf o w = (x : Written) × (o ≡ Some x) × (place_of x ≡ w)
+
+abbrev OneOf : List Step → Cut → ScalarPlace → Type 0
+OneOf steps c w = IsOf (written_at steps c) w ⊎ ((empty_at steps c ≡ Some w) ⊎ IsOf (alone_at steps c) w)
+
+one_of : (steps : List Step) (c : Cut) (w : ScalarPlace) → place_at steps c ≡ Some w → OneOf steps c w
+one_of steps c w h = go (written_at steps c) refl (empty_at steps c) refl (alone_at steps c) refl h
   where
-    go : (o : Option Written) → written_at steps c ≡ o → first_place (option_map place_of o) (empty_at steps c) ≡ Some w → Either steps c w
-    go None is e = inr e
-    go (Some x) is e = inl (x, is, some_same e)
+    go : (o : Option Written) → written_at steps c ≡ o → (q : Option ScalarPlace) → empty_at steps c ≡ q → (r : Option Written) → alone_at steps c ≡ r →
+        first_place (option_map place_of o) (first_place q (option_map place_of r)) ≡ Some w → OneOf steps c w
+    go (Some x) is q empty r alone e = inl (x, is, some_same e)
+    go None is (Some y) empty r alone e = inr (inl (empty ∙ e))
+    go None is None empty (Some x) alone e = inr (inr (x, alone, some_same e))
+    go None is None empty None alone e = absurd (none_some e)
 
 pub place_stands : PlaceStands
-place_stands t c d steps w h = elim (either steps c w h.at) [
-  | inl x ↦ (
-      let same : place_of x.0 ≡ w = x.2 in
-      subst (Stands t d steps) same (scalar_stands t c d steps x.0 (record { read = h.read; one = h.one; at = x.1 })))
-  | inr e ↦ empty_stands t c d steps w h.read h.one (guard_then _ e).1
-]
+place_stands t c d steps w h = go (one_of steps c w h.at)
+  where
+    go : OneOf steps c w → Stands t d steps w
+    go (inl x) = subst (Stands t d steps) x.2 (scalar_stands t c d steps x.0 (record { read = h.read; one = h.one; at = x.1 }))
+    go (inr (inl e)) = empty_stands t c d steps w h.read h.one (guard_then _ e).1
+    go (inr (inr x)) =
+        let a = alone_row steps c x.0 (guard_then _ x.1).1 in
+        subst (Stands t d steps) x.2 (alone_pieces_are t c d steps x.0 h.read h.one a, alone_node t c d steps x.0 h.read h.one a)
 
 pub place_set : PlaceSet
-place_set t c d steps w s style g h valid inline can size keeps = elim (either steps c w h.at) [
-  | inl x ↦ (
-      let same : place_of x.0 ≡ w = x.2 in
-      let p : List ℕ = scalars.written style s.text in
-      subst (λ (q : ScalarPlace). IsSet (text_with q p) d steps g) same
-      (scalar_set t c d steps x.0 s style g (record { read = h.read; one = h.one; at = x.1 }) valid inline can (subst (λ (q : ScalarPlace). length (text_with q p) ≤ text_limit) (sym same) size) keeps))
-  | inr e ↦ (
-      let p : List ℕ = scalars.written style s.text in
-      let at : empty_in steps c ≡ Some w = (guard_then _ e).1 in
-      let none : w.old ≡ None = empty_old t c d steps w h.read h.one at in
-      subst (λ (o : Option (List ℕ)). IsSet (w.before ++ (spaced o p ++ w.behind)) d steps g) (sym none)
-      (empty_set t c d steps w s style g h.read h.one at valid inline can (subst (λ (o : Option (List ℕ)). length (w.before ++ (spaced o p ++ w.behind)) ≤ text_limit) none size) keeps))
-]
+place_set t c d steps w s style g h valid inline can size keeps = go (one_of steps c w h.at)
+  where
+    short : (x : Written) → place_of x ≡ w → length (text_with (place_of x) (scalars.written style s.text)) ≤ text_limit
+    short x is = subst (λ (q : ScalarPlace). length (text_with q (scalars.written style s.text)) ≤ text_limit) (sym is) size
+
+    go : OneOf steps c w → IsSet (text_with w (scalars.written style s.text)) d steps g
+    go (inl x) =
+        subst (λ (q : ScalarPlace). IsSet (text_with q (scalars.written style s.text)) d steps g) x.2
+        (scalar_set t c d steps x.0 s style g (record { read = h.read; one = h.one; at = x.1 }) valid inline can (short x.0 x.2) keeps)
+    go (inr (inl e)) =
+        let p : List ℕ = scalars.written style s.text in
+        let at : empty_in steps c ≡ Some w = (guard_then _ e).1 in
+        let none : w.old ≡ None = empty_old t c d steps w h.read h.one at in
+        subst (λ (o : Option (List ℕ)). IsSet (w.before ++ (spaced o p ++ w.behind)) d steps g) (sym none)
+        (empty_set t c d steps w s style g h.read h.one at valid inline can (subst (λ (o : Option (List ℕ)). length (w.before ++ (spaced o p ++ w.behind)) ≤ text_limit) none size) keeps)
+    go (inr (inr x)) =
+        let a = alone_row steps c x.0 (guard_then _ x.1).1 in
+        subst (λ (q : ScalarPlace). IsSet (text_with q (scalars.written style s.text)) d steps g) x.2 (alone_set t c d steps x.0 h.read h.one a s style g valid inline can (short x.0 x.2) keeps)

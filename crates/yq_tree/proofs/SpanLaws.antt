@@ -88,7 +88,7 @@ node_told n before (coll k g is) rest behind h = none_told _ _ (opens k (g ++ it
 node_told n before (anchored name gap node) rest behind h = named_told n before name gap node rest behind h.3 h.4
 
 -- the same of what stands behind a mark
-content_told : (n : ℤ) (i : ℕ) (x : Content) (c : Cut) (rest : List ℕ) (start end : ℕ) → IsContent n x rest →
+pub content_told : (n : ℤ) (i : ℕ) (x : Content) (c : Cut) (rest : List ℕ) (start end : ℕ) → IsContent n x rest →
     start ≡ length (before_content i c) + (length (content_cut x).0 + (length (content_cut x).1 + length (content_cut x).2)) → end ≡ start + length (content_cut x).3 →
     if_so (is_scalar_head (content_cut x).3) (start, end) ≡ option_map scalar_span (content_scalar i x c)
 content_told n i (Nothing tail) c rest start end h e f = refl

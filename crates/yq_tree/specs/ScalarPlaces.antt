@@ -1,5 +1,6 @@
--- Where a scalar can be set: in the place of one that is written, or where nothing is written behind a key, a dash or an anchor (own).
-use Rattle.std.specs.Prelude.{◌≡◌, ℕ, ◌≤◌, ◌==◌, List, [], ◌∷◌, ◌++◌, length, slice_get, Option, Some, None, option_map, if◌then◌else◌, true, codes}
+-- Where a scalar can be set: in the place of one that is written, behind a key or dash or alone on the line under it, or where nothing is written behind
+-- a key, a dash or an anchor (own).
+use Rattle.std.specs.Prelude.{◌≡◌, ℕ, suc, ◌≤◌, ◌==◌, List, [], ◌∷◌, ◌++◌, length, slice_get, Option, Some, None, option_map, if◌then◌else◌, true, codes}
 use Rattle.yq_scalar.specs.Answers.{◌>>=◌}
 use Rattle.yq_scalar.specs.Characters.{text_limit}
 use Rattle.yq_scalar.specs.Paths.{Step, node_at}
@@ -21,7 +22,7 @@ use Rattle.yq_tree.specs.Documents.{Document}
 use Rattle.yq_tree.specs.Lines.{lines_of}
 use Rattle.yq_tree.specs.Reading.{documents, read_at}
 use Rattle.yq_tree.specs.RowPaths.{row_at, is_leaf}
-use Rattle.yq_tree.specs.Written.{Written, written_at, IsSet}
+use Rattle.yq_tree.specs.Written.{Written, content_scalar, written_at, IsSet}
 
 -- A place for a scalar in a text: the text before it, the scalar that is written there, if one is, and the text behind it.
 pub record ScalarPlace : Type 0 where
@@ -60,14 +61,28 @@ empty_in steps c = if is_leaf steps (lines_of (rows_of c)) then (row_at steps c 
 abbrev pub empty_at : List Step → Cut → Option ScalarPlace
 empty_at steps c = if length (documents c) == 1 then empty_in steps c else None
 
+-- the scalar that row i is, if that is a row and has neither key nor dash (own)
+abbrev pub bare_scalar : ℕ → Option Row → Cut → Option Written
+bare_scalar i None c = None
+bare_scalar i (Some r) c = if is_entry r.mark then None else content_scalar i r.content c
+
+-- the scalar that is alone on the line under the key or dash to which a path leads among all rows of a cut, perhaps behind an anchor (own)
+abbrev pub alone_in : List Step → Cut → Option Written
+alone_in steps c = if is_leaf steps (lines_of (rows_of c)) then None else (row_at steps c >>= λ i. bare_scalar (suc i) (slice_get (rows_of c) (suc i)) c)
+
+-- the same in a text with one document (own)
+abbrev pub alone_at : List Step → Cut → Option Written
+alone_at steps c = if length (documents c) == 1 then alone_in steps c else None
+
 -- the first of two places, if there is one, else the second (own)
 abbrev pub first_place : Option ScalarPlace → Option ScalarPlace → Option ScalarPlace
 first_place None q = q
 first_place (Some p) q = Some p
 
--- the place at a path where a scalar can be set: that of one that is written, or else where nothing is written (own)
+-- the place at a path where a scalar can be set: that of one that is written behind the key or dash, or else where nothing is written there, or else that
+-- of the scalar that is alone on the line under it (own)
 abbrev pub place_at : List Step → Cut → Option ScalarPlace
-place_at steps c = first_place (option_map place_of (written_at steps c)) (empty_at steps c)
+place_at steps c = first_place (option_map place_of (written_at steps c)) (first_place (empty_at steps c) (option_map place_of (alone_at steps c)))
 
 -- a null, as it is read where nothing is written (7.2)
 abbrev pub null : ScalarText

@@ -152,7 +152,7 @@ pub(crate) fn line_row(rows: &Rows<'_>, line: usize) -> Option<usize>
 }
 
 /// Whether a head is a plain or quoted scalar.
-fn is_scalar(head: &str) -> bool
+pub(crate) fn is_scalar(head: &str) -> bool
     ensures { result ≡ spec.is_scalar_head head.now }
 {
     let bytes = head.as_bytes();

@@ -1,6 +1,7 @@
 //! Documents: rows read as trees, with the places of their nodes.
 #![tactic(auto)]
 
+mod alone_place;
 mod anchors;
 mod body;
 mod bound;

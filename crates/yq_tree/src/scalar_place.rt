@@ -70,13 +70,19 @@ impl<'t> Documents<'t> {
 
     /// The place at a path in a text with one document where a scalar can be set: that of one that
     /// is written behind a key or dash, or else where nothing is written there but perhaps an
-    /// anchor, and no lines are under it.
+    /// anchor, and no lines are under it, or else that of one that is alone on the line under it.
     pub fn place(&self, steps: &[Step]) -> Option<ScalarPlace<'_>>
         ensures { option_map spec.place_told result ≡ option_map spec.place_telling (place_at (map step_of steps.now) (cut_of self.now)) }
     {
-        match self.written(steps) {
+        if let Some(written) = self.written(steps) {
+            return Some(place_of(written));
+        }
+        if let Some(place) = self.empty_place(steps) {
+            return Some(place);
+        }
+        match self.alone(steps) {
             Some(written) => Some(place_of(written)),
-            None => self.empty_place(steps),
+            None => None,
         }
     }
 }

@@ -11,6 +11,7 @@ use yq_scalar::{FaultKind, ReadError, ReadFault};
 mod comment_places;
 mod examples;
 mod memory;
+mod places;
 mod refusals;
 mod room;
 

@@ -1,14 +1,15 @@
 //! Scalars that are written behind keys and dashes.
-ghost use Rattle.std.specs.Prelude.{◌≡◌, ◌≤◌, ◌-◌, drop, map, option_map, take, true};
+ghost use Rattle.std.specs.Prelude.{◌≡◌, ◌≤◌, ◌-◌, Some, drop, map, option_map, take, true};
 ghost use Rattle.std.specs.Str.{IsCharBoundary};
 ghost use Rattle.yq_inline.specs.Entries.{step_of};
 ghost use Rattle.yq_rows.specs.Grammar.{IsCut};
 ghost use Rattle.yq_tree.specs.Reading.{all_documents, cut_of};
 ghost use Rattle.yq_tree.specs.Told as spec;
-ghost use Rattle.yq_tree.specs.Written.{written_at};
+ghost use Rattle.yq_tree.specs.Written.{Written as WrittenIn, written_at};
 
 use crate::document::Documents;
 use crate::node::NodeKind;
+use crate::path::Span;
 use yq_inline::Step;
 use yq_scalar::Kind;
 
@@ -50,14 +51,17 @@ impl<'t> Documents<'t> {
         self.text
     }
 
-    /// The scalar at a path in a text with one document, if it is written behind a key or dash.
-    pub fn written(&self, steps: &[Step]) -> Option<Written<'_>>
-        ensures { option_map spec.told result ≡ option_map spec.telling (written_at (map step_of steps.now) (cut_of self.now)) }
+    /// The scalar that stands between two places, in bytes, and to which steps lead; with the text.
+    pub(crate) fn scalar_from<'d>(
+        &'d self,
+        whole: &'d str,
+        steps: &[Step],
+        span: Span,
+    ) -> Option<Written<'d>>
+        requires whole { whole.now ≡ self.now }
+        requires there { spec.HasScalarAt self.now (map step_of steps.now) span.start span.end }
+        ensures { (w : WrittenIn) → spec.IsScalarAt self.now (map step_of steps.now) w span.start span.end → option_map spec.told result ≡ Some (spec.telling w) }
     {
-        let whole = self.whole();
-        let Some(span) = self.scalar_at(steps) else {
-            return None;
-        };
         let root = self.root(0);
         let Some(node) = root.walk(steps) else {
             return None;
@@ -74,5 +78,16 @@ impl<'t> Documents<'t> {
             scalar,
             behind,
         })
+    }
+
+    /// The scalar at a path in a text with one document, if it is written behind a key or dash.
+    pub fn written(&self, steps: &[Step]) -> Option<Written<'_>>
+        ensures { option_map spec.told result ≡ option_map spec.telling (written_at (map step_of steps.now) (cut_of self.now)) }
+    {
+        let whole = self.whole();
+        let Some(span) = self.scalar_at(steps) else {
+            return None;
+        };
+        self.scalar_from(whole, steps, span)
     }
 }

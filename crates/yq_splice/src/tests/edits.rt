@@ -265,6 +265,121 @@ fn edits_where_nothing_is_written(rt: HostRuntime) -> Result<(), Fail> {
     Ok(())
 }
 
+/// A scalar that is alone on the line under its key or dash gives way as one behind it does.
+#[test]
+fn edits_alone_on_lines(rt: HostRuntime) -> Result<(), Fail> {
+    let alloc = rt.alloc();
+    let rows = [
+        Row {
+            expression: ".a = 2",
+            before: "a:\n  ",
+            old: "word",
+            new: "2",
+            behind: "\nb: 1\n",
+        },
+        Row {
+            expression: ".a = 2",
+            before: "a:\r\n  ",
+            old: "word",
+            new: "2",
+            behind: "\r\nb: 1\r\n",
+        },
+        Row {
+            expression: ".a = \"y z\"",
+            before: "a: # c\n# d\n\n    ",
+            old: "x",
+            new: "y z",
+            behind: " # e\n",
+        },
+        Row {
+            expression: ".a = 2",
+            before: "a: &x\n  ",
+            old: "1",
+            new: "2",
+            behind: "\nb: *x\n",
+        },
+        Row {
+            expression: ".a = 2",
+            before: "a:\n  &x ",
+            old: "1",
+            new: "2",
+            behind: "\nb: *x\n",
+        },
+        Row {
+            expression: ".l[1] = \"y\"",
+            before: "l:\n- 1\n- # c\n  ",
+            old: "'x'",
+            new: "'y'",
+            behind: "  # d\n- 2\n",
+        },
+        Row {
+            expression: ".[0][1] = \"- x\"",
+            before: "- - 1\n  -\n    ",
+            old: "2",
+            new: "\"- x\"",
+            behind: "",
+        },
+    ];
+    for row in rows {
+        is_edited(&rt, alloc, &row)?;
+    }
+    Ok(())
+}
+
+/// Alone on its line a scalar keeps its style, if that can write the new one.
+#[test]
+fn styles_alone_on_lines(rt: HostRuntime) -> Result<(), Fail> {
+    let alloc = rt.alloc();
+    let rows = [
+        Row {
+            expression: ".a = \"true\"",
+            before: "a:\n  ",
+            old: "web",
+            new: "\"true\"",
+            behind: " # c\n",
+        },
+        Row {
+            expression: ".a = \"it's\"",
+            before: "a:\n  ",
+            old: "'x'",
+            new: "'it''s'",
+            behind: "\n",
+        },
+        Row {
+            expression: ".a = \"b\\nc\"",
+            before: "a:\n  ",
+            old: "'x'",
+            new: "\"b\\nc\"",
+            behind: "\n",
+        },
+        Row {
+            expression: ".a = \"it's\"",
+            before: "a:\n  ",
+            old: "\"x\\ty\"",
+            new: "\"it's\"",
+            behind: "\n",
+        },
+        Row {
+            expression: ".a = 1",
+            before: "a:\n  ",
+            old: "\"x\n  y\"",
+            new: "1",
+            behind: "\n",
+        },
+        Row {
+            expression: ".k.a = \"b\"",
+            before: "k:\n  a:\n    ",
+            old: "one\n     two\n\n    three",
+            new: "b",
+            behind: "\n  b: 1\n",
+        },
+    ];
+    for row in rows {
+        is_edited(&rt, alloc, &row)?;
+    }
+    Ok(())
+}
+
 /// An equal scalar leaves the text as it is, and makes no splice.
 #[test]
 fn leaves_equal_scalars(rt: HostRuntime) -> Result<(), Fail> {
@@ -279,6 +394,8 @@ fn leaves_equal_scalars(rt: HostRuntime) -> Result<(), Fail> {
         ("a: 'x' # c\n", ".a = \"x\""),
         ("a: \"\\x41\"\n", ".a = \"A\""),
         ("a: &n 'x\n  y'\nb: *n\n", ".a = \"x y\""),
+        ("a:\n  word # c\n", ".a = \"word\""),
+        ("- &x\n  'y'\n- *x\n", ".[0] = \"y\""),
     ];
     for (text, expression) in rows {
         let program = parse_expr(alloc, expression)?;
