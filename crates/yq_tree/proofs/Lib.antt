@@ -12,6 +12,11 @@ pub mod CountLaws
 pub mod Decides
 pub mod DocumentLaws
 pub mod EndsLaws
+pub mod LineEnds
+pub mod RowStarts
+pub mod EntryPlaceLaws
+pub mod HeadEnds
+pub mod StartLaws
 pub mod EntryLaws
 pub mod HeldLaws
 pub mod LabelledLaws
@@ -47,7 +52,6 @@ pub mod SeatLineLaws
 pub mod SoundLaws
 pub mod SpanLaws
 pub mod SpotLaws
-pub mod StartLaws
 pub mod Unique
 pub mod Values
 pub mod Finding

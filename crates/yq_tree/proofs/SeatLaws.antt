@@ -169,7 +169,7 @@ part_begins c n p at = let b = begins (begins_bare c || not (has_begin c)) n 0 c
 abbrev Held : Type 0
 Held = List ℕ × List declared.Line
 
-part_at : (ds : List Held) (ps : List Part) → map document_view ds ≡ map lined ps → (i : ℕ) (d : Held) → slice_get ds i ≡ Some d → (p : Part) × (slice_get ps i ≡ Some p) × (document_view d ≡ lined p)
+pub part_at : (ds : List Held) (ps : List Part) → map document_view ds ≡ map lined ps → (i : ℕ) (d : Held) → slice_get ds i ≡ Some d → (p : Part) × (slice_get ps i ≡ Some p) × (document_view d ≡ lined p)
 part_at [] ps e i d is = absurd (cc)
 part_at (x ∷ ds) [] e i d is = absurd (cc)
 part_at (x ∷ ds) (p ∷ ps) e zero d is =
@@ -181,7 +181,7 @@ part_at (x ∷ ds) (p ∷ ps) e (suc i) d is = part_at ds ps (others e) i d is
     others : {y z : Lined} {ys zs : List Lined} → y ∷ ys ≡ z ∷ zs → ys ≡ zs
     others e = cc
 
-none_past : (ds : List Held) (ps : List Part) → map document_view ds ≡ map lined ps → (i : ℕ) → length ds ≤ i → slice_get ps i ≡ None
+pub none_past : (ds : List Held) (ps : List Part) → map document_view ds ≡ map lined ps → (i : ℕ) → length ds ≤ i → slice_get ps i ≡ None
 none_past [] [] e i h = refl
 none_past [] (p ∷ ps) e i h = absurd (cc)
 none_past (x ∷ ds) [] e i h = refl
@@ -195,7 +195,7 @@ pub held_outside : (t : List ℕ) (s : Shown) (ds : List Held) (path : Path) (k 
 held_outside t s ds path k h past = sym (ap (λ (o : Option Part). option_map (numbers k) (o >>= λ d. seat_of (steps_of path) d.rows)) (none_past ds (document_parts (cut_of t)) h.lined path.doc past))
 
 -- the first row of a document that is held
-held_begin : (t : List ℕ) (s : Shown) (ds : List Held) (i : ℕ) (p : Part) → Holds t s ds → slice_get (document_parts (cut_of t)) i ≡ Some p →
+pub held_begin : (t : List ℕ) (s : Shown) (ds : List Held) (i : ℕ) (p : Part) → Holds t s ds → slice_get (document_parts (cut_of t)) i ≡ Some p →
     (begin_row (first_rows s.bounds || not (some_begin s.bounds)) i 0 s.bounds ≡ Some (document_row i (cut_of t))) × ((more : List Row) × (drop (document_row i (cut_of t)) (rows_of (cut_of t)) ≡ p.rows ++ more))
 held_begin t s ds i p h at =
     let c : Cut = cut_of t in

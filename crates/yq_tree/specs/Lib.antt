@@ -28,6 +28,8 @@ pub mod KeyReading
 pub mod View
 pub mod Ends
 pub mod Extents
+pub mod EntryPlaces
+pub mod EntryReading
 pub mod Names
 pub mod LinesReading
 pub mod Nodes

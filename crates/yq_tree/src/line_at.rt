@@ -17,7 +17,7 @@ use crate::lined::Lined;
 use yq_inline::Step;
 
 /// Whether a line is a node itself.
-fn is_bare(mark: &Mark<'_>) -> bool
+pub(crate) fn is_bare(mark: &Mark<'_>) -> bool
     ensures { result ≡ spec.is_bare (mark_view mark.now) }
 {
     match mark {

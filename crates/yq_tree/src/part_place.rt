@@ -9,15 +9,19 @@ use crate::path::{Part, Path, Span};
 
 impl Documents<'_> {
     /// The place of a part of the node at a path, in bytes from the start of the text; none, where the
-    /// path leads nowhere or the node has no such part. `HeadComment` is the lines of the run of comments
-    /// above the row that its key or dash begins, with their breaks; `LineComment` goes from `#` to the
-    /// line's end, before its break. The places of the other parts aren't told yet.
+    /// path leads nowhere or the node has no such part. `Content` is what stands in the head, without its
+    /// anchor: a block scalar with its lines and their breaks; or a block collection, from its first key
+    /// or dash to the end of its last line, before its break; a null of which nothing but perhaps an
+    /// anchor is written has none. `Entry` goes from the key or dash to the end of the entry's or item's
+    /// last line, before its break; a root has none. `HeadComment` is the lines of the run of comments
+    /// above the row that the key or dash begins, with their breaks; `LineComment` goes from `#` to the
+    /// line's end, before its break. Entries, items and contents in flow have no place that is told yet.
     pub fn extent(&self, path: &Path, part: Part) -> Option<Span>
         ensures { option_map span result ≡ spec.extent_at path.now part (cut_of self.now) }
     {
         match part {
-            Part::Content => None,
-            Part::Entry => None,
+            Part::Content => self.content_place(path),
+            Part::Entry => self.entry_place(path),
             Part::HeadComment => self.head_comment_place(path),
             Part::LineComment => self.line_comment_place(path),
         }

@@ -4,6 +4,7 @@ ghost use Rattle.yq_inline.specs.Entries.{step_of};
 ghost use Rattle.yq_rows.specs.Grammar.{IsCut};
 ghost use Rattle.yq_rows.specs.Rows.{Cut, Part, Row as RowOf};
 ghost use Rattle.yq_rows.specs.View.{rows_of, shown};
+ghost use Rattle.yq_tree.specs.EntryReading as reading;
 ghost use Rattle.yq_tree.specs.Lines.{lines_of};
 ghost use Rattle.yq_tree.specs.Nodes.{lines_in};
 ghost use Rattle.yq_tree.specs.PartReading.{first_rows, some_begin};
@@ -31,7 +32,7 @@ pub(crate) struct Seat {
 }
 
 /// A line by its number, among the rows from one on.
-fn find_seat(rows: &Rows<'_>, first: usize, line: usize) -> Option<Seat>
+pub(crate) fn find_seat(rows: &Rows<'_>, first: usize, line: usize) -> Option<Seat>
     ensures within { IfSome result (λ s. s.row < length rows.now.rows) }
     ensures found { option_map spec.told result ≡ spec.behind first (spec.slices_seat line (drop first rows.now.rows)) }
 {
@@ -100,6 +101,17 @@ fn seat_in(rows: &Rows<'_>, first: usize, lines: &Lined<'_>, steps: &[Step]) -> 
 }
 
 impl<'t> Documents<'t> {
+    /// How many rows stand before document `doc`, counted from 0, if there is one.
+    pub(crate) fn first_row(&self, doc: usize) -> Option<usize>
+        ensures { result ≡ reading.first_row doc (cut_of self.now) }
+    {
+        let count = self.documents.len();
+        if doc >= count {
+            return None;
+        }
+        begin_row(&self.rows, first_is_document(&self.rows), doc)
+    }
+
     /// The line of the entry or item at a path, if one of a row is.
     pub(crate) fn seat(&self, path: &Path) -> Option<Seat>
         ensures { option_map spec.told result ≡ option_map (spec.numbers (document_row path.now.doc (cut_of self.now))) (seat_at path.now (cut_of self.now)) }

@@ -9,6 +9,7 @@ use yq_rows::scan;
 use yq_scalar::{FaultKind, ReadError, ReadFault};
 
 mod comment_places;
+mod entry_places;
 mod examples;
 mod memory;
 mod places;

@@ -1,0 +1,224 @@
+-- The places of entries and of their contents, line by line.
+use Rattle.std.proofs.Common.{◌≡◌, ℕ, zero, suc, ◌+◌, ◌-◌, ◌<◌, ◌≤◌, ltb, List, [], ◌∷◌, ◌++◌, length, drop, Option, Some, None, option_map, option_and_then, Bool, true, false, cond, not, ◌||◌, refl, sym, ap, ◌∙◌, subst, arith}
+use Rattle.std.proofs.lemmas.Bool.{ltb-false, eq-eqb, ne_eqb, cond-true, cond-false}
+use Rattle.std.proofs.lemmas.List.{length-map}
+use Rattle.std.proofs.lemmas.Option.{slice_get_within, slice_get-map}
+use Rattle.std.specs.List.{slice_get}
+use Rattle.std.specs.Prelude.{is_some}
+use Rattle.yq_scalar.specs.Answers.{◌>>=◌}
+use Rattle.yq_scalar.specs.Paths.{Step}
+use Rattle.yq_rows.specs.Grammar.{IsCut}
+use Rattle.yq_rows.specs.Rows.{Row, Part, Cut}
+use Rattle.yq_rows.specs.View.{Slices, slices, rows_of, Shown, shown}
+use Rattle.yq_tree.specs.declared.line.Line as declared
+use Rattle.yq_tree.specs.Documents.{document_parts}
+use Rattle.yq_tree.specs.EntryPlaces.{before_line, through_row, lines_end, lines_place, head_extent, line_head, lines_content, line_content, are_left, goes_on, leads_on, untold}
+use Rattle.yq_tree.specs.EntryReading.{line_begin, first_row}
+use Rattle.yq_tree.specs.Extents.{row_start}
+use Rattle.yq_tree.specs.Group.{group}
+use Rattle.yq_tree.specs.Lines.{lines_of}
+use Rattle.yq_tree.specs.Nodes.{lines_in}
+use Rattle.yq_tree.specs.Outline.{Line}
+use Rattle.yq_tree.specs.PartReading.{Lined, lined, document_view, first_rows, some_begin}
+use Rattle.yq_tree.specs.Reading.{cut_of}
+use Rattle.yq_tree.specs.SeatReading.{begin_row, Numbers, numbers}
+use Rattle.yq_tree.specs.Seats.{Seat, behind_one, seat, document_row}
+use Rattle.yq_tree.specs.Places.{Found, find}
+use Rattle.yq_tree.specs.RowPaths.{found_line, line_of}
+use Rattle.yq_tree.specs.SoundReading.{Holds}
+use Rattle.yq_tree.specs.Spots.{is_bare}
+use Rattle.yq_tree.proofs.EndsLaws.{has_line}
+use Rattle.yq_tree.proofs.RowStarts.{line_begins}
+use Rattle.yq_tree.proofs.SeatLaws.{part_begins, part_at, none_past, held_begin}
+use Rattle.yq_tree.proofs.Values.{If}
+
+-- a line is one of its row, and that is one of the rows
+abbrev IsSeated : List Row → Seat → Type 0
+IsSeated rs s = (slice_get rs s.before ≡ Some s.row) × (s.line ≤ length s.row.dashes)
+
+seated : (n : ℕ) (rs : List Row) → If (seat n rs) (IsSeated rs)
+seated n [] = tt
+seated n (r ∷ rs) = go (ltb (length r.dashes) n) refl (seat (n - suc (length r.dashes)) rs) (seated (n - suc (length r.dashes)) rs)
+  where
+    go : (b : Bool) → ltb (length r.dashes) n ≡ b → (o : Option Seat) → If o (IsSeated rs) → If (cond b (option_map behind_one o) (Some (record { before = 0; row = r; line = n }))) (IsSeated (r ∷ rs))
+    go true e None h = tt
+    go true e (Some s) h = h
+    go false e o h = (refl, ltb-false (length r.dashes) n e)
+
+seat_is : (n : ℕ) (rs : List Row) (s : Seat) → seat n rs ≡ Some s → IsSeated rs s
+seat_is n rs s e = go (seat n rs) (seated n rs) e
+  where
+    same : {x y : Seat} → Some x ≡ Some y → x ≡ y
+    same e = cc
+
+    go : (o : Option Seat) → If o (IsSeated rs) → o ≡ Some s → IsSeated rs s
+    go None h e = absurd (cc)
+    go (Some q) h e = subst (IsSeated rs) (same e) h
+
+get_front : (xs more : List Row) (i : ℕ) (r : Row) → slice_get xs i ≡ Some r → slice_get (xs ++ more) i ≡ Some r
+get_front [] more i r e = absurd (cc)
+get_front (x ∷ xs) more zero r e = e
+get_front (x ∷ xs) more (suc i) r e = get_front xs more i r e
+
+get_drop : (k : ℕ) (xs : List Row) (i : ℕ) → slice_get (drop k xs) i ≡ slice_get xs (k + i)
+get_drop zero xs i = let same : i ≡ 0 + i = omega arith in ap (slice_get xs) same
+get_drop (suc k) [] i = refl
+get_drop (suc k) (x ∷ xs) i = let same : suc (k + i) ≡ suc k + i = omega arith in get_drop k xs i ∙ ap (slice_get (x ∷ xs)) same
+
+-- the row of a line of rows that stand among those of a cut
+row_there : (c : Cut) (rs more : List Row) (first n : ℕ) (s : Seat) → drop first (rows_of c) ≡ rs ++ more → seat n rs ≡ Some s → slice_get (rows_of c) (first + s.before) ≡ Some s.row
+row_there c rs more first n s there e =
+    sym (get_drop first (rows_of c) s.before) ∙ (ap (λ (xs : List Row). slice_get xs s.before) there ∙ get_front rs more s.before s.row (seat_is n rs s e).0)
+
+numbers_same : {x y : Numbers} → Some x ≡ Some y → x ≡ y
+numbers_same e = cc
+
+-- the place from one line to the end of another one's row
+abbrev between : ℕ → Cut → Seat → Seat → Option (ℕ × ℕ)
+between first c s q = Some (length (before_line (first + s.before) s.line s.row c), length (through_row (first + q.before) q.row c))
+
+pub lines_told : (c : Cut) (x : Shown) (rs more : List Row) (first from to start end : ℕ) (a b : Numbers) → x ≡ shown c → drop first (rows_of c) ≡ rs ++ more →
+    Some a ≡ option_map (numbers first) (seat from rs) → Some b ≡ option_map (numbers first) (seat to rs) →
+    ((y : Slices) → slice_get x.rows a.0 ≡ Some y → start ≡ line_begin (row_start a.0 x) y a.1) →
+    ((r : Row) → slice_get (rows_of c) b.0 ≡ Some r → end ≡ length (through_row b.0 r c)) → ◌≡◌ {A = Option (ℕ × ℕ)} (Some (start, end)) (lines_place first c rs from to)
+lines_told c x rs more first from to start end a b is there ea eb told_start told_end = go (seat from rs) refl (seat to rs) refl ea eb
+  where
+    go : (o : Option Seat) → seat from rs ≡ o → (u : Option Seat) → seat to rs ≡ u → Some a ≡ option_map (numbers first) o → Some b ≡ option_map (numbers first) u →
+        ◌≡◌ {A = Option (ℕ × ℕ)} (Some (start, end)) (o >>= λ s. u >>= λ q. between first c s q)
+    go None so u qu ea eb = absurd (cc)
+    go (Some s) so None qu ea eb = absurd (cc)
+    go (Some s) so (Some q) qu ea eb =
+        let sa : a ≡ numbers first s = numbers_same ea in
+        let sb : b ≡ numbers first q = numbers_same eb in
+        let row : slice_get (rows_of c) (first + s.before) ≡ Some s.row = row_there c rs more first from s there so in
+        let other : slice_get (rows_of c) (first + q.before) ≡ Some q.row = row_there c rs more first to q there qu in
+        let pieces : slice_get x.rows a.0 ≡ Some (slices s.row) = (λ j. slice_get (is j).rows (sa j).0) ∙ (slice_get-map slices (rows_of c) (first + s.before) ∙ ap (option_map slices) row) in
+        let begin : start ≡ length (before_line (first + s.before) s.line s.row c) =
+        told_start (slices s.row) pieces ∙ ((λ j. line_begin (row_start (sa j).0 (is j)) (slices s.row) (sa j).1) ∙ line_begins c (first + s.before) s.line s.row row (seat_is from rs s so).1) in
+        let finish : end ≡ length (through_row (first + q.before) q.row c) =
+        told_end q.row (ap (λ (y : Numbers). slice_get (rows_of c) y.0) sb ∙ other) ∙ ap (λ (y : Numbers). length (through_row y.0 q.row c)) sb in
+        λ j. Some (begin j, finish j)
+
+pub no_first : (c : Cut) (rs : List Row) (first from to : ℕ) → None ≡ option_map (numbers first) (seat from rs) → None ≡ lines_place first c rs from to
+no_first c rs first from to e = go (seat from rs) e
+  where
+    go : (o : Option Seat) → None ≡ option_map (numbers first) o →
+        None ≡ (o >>= λ s. seat to rs >>= λ q. between first c s q)
+    go None e = refl
+    go (Some s) e = absurd (cc)
+
+pub no_last : (c : Cut) (rs : List Row) (first from to : ℕ) → None ≡ option_map (numbers first) (seat to rs) → None ≡ lines_place first c rs from to
+no_last c rs first from to e = go (seat from rs) (seat to rs) e
+  where
+    go : (o u : Option Seat) → None ≡ option_map (numbers first) u →
+        None ≡ (o >>= λ s. u >>= λ q. between first c s q)
+    go None u e = refl
+    go (Some s) None e = refl
+    go (Some s) (Some q) e = absurd (cc)
+
+-- the head of a line
+pub head_told : (c : Cut) (rs more : List Row) (first n : ℕ) (a : Numbers) (place : ℕ × ℕ) → drop first (rows_of c) ≡ rs ++ more → Some a ≡ option_map (numbers first) (seat n rs) →
+    ((r : Row) → slice_get (rows_of c) a.0 ≡ Some r → place ≡ head_extent a.0 r c) → Some place ≡ line_head first c rs n
+head_told c rs more first n a place there e told = go (seat n rs) refl e
+  where
+    go : (o : Option Seat) → seat n rs ≡ o → Some a ≡ option_map (numbers first) o → Some place ≡ (o >>= λ s. Some (head_extent (first + s.before) s.row c))
+    go None so e = absurd (cc)
+    go (Some s) so e =
+        let sa : a ≡ numbers first s = numbers_same e in
+        ap Some (told s.row (ap (λ (y : Numbers). slice_get (rows_of c) y.0) sa ∙ row_there c rs more first n s there so) ∙ ap (λ (y : Numbers). head_extent y.0 s.row c) sa)
+
+pub no_head : (c : Cut) (rs : List Row) (first n : ℕ) → None ≡ option_map (numbers first) (seat n rs) → None ≡ line_head first c rs n
+no_head c rs first n e = go (seat n rs) e
+  where
+    go : (o : Option Seat) → None ≡ option_map (numbers first) o → None ≡ (o >>= λ s. Some (head_extent (first + s.before) s.row c))
+    go None e = refl
+    go (Some s) e = absurd (cc)
+
+-- what documents hold
+abbrev Held : Type 0
+Held = List ℕ × List declared.Line
+
+-- the first row of a document that is held
+pub first_told : (t : List ℕ) (s : Shown) (ds : List Held) (i : ℕ) → Holds t s ds → i < length ds → begin_row (first_rows s.bounds || not (some_begin s.bounds)) i 0 s.bounds ≡ first_row i (cut_of t)
+first_told t s ds i h within =
+    let there = got ds i within in
+    let part = part_at ds (document_parts (cut_of t)) h.lined i there.0 there.1 in
+    (held_begin t s ds i part.0 h part.1).0 ∙ ap (λ (o : Option Part). option_map (λ p. document_row i (cut_of t)) o) (sym part.1)
+  where
+    got : (ds : List Held) (i : ℕ) → i < length ds → (d : Held) × (slice_get ds i ≡ Some d)
+    got [] i h = absurd (omega (arith, h))
+    got (d ∷ ds) zero h = (d, refl)
+    got (d ∷ ds) (suc i) h = got ds i (omega (arith, h))
+
+pub first_past : (t : List ℕ) (s : Shown) (ds : List Held) (i : ℕ) → Holds t s ds → length ds ≤ i → None ≡ first_row i (cut_of t)
+first_past t s ds i h past = ap (λ (o : Option Part). option_map (λ p. document_row i (cut_of t)) o) (sym (none_past ds (document_parts (cut_of t)) h.lined i past))
+
+pub first_within : (t : List ℕ) (s : Shown) (ds : List Held) (i k : ℕ) → Holds t s ds → Some k ≡ first_row i (cut_of t) → i < length ds
+first_within t s ds i k h e = go (slice_get (document_parts (cut_of t)) i) refl e
+  where
+    same : length ds ≡ length (document_parts (cut_of t))
+    same = sym (length-map ds document_view) ∙ (ap length h.lined ∙ length-map (document_parts (cut_of t)) lined)
+
+    go : (o : Option Part) → slice_get (document_parts (cut_of t)) i ≡ o → Some k ≡ option_map (λ p. document_row i (cut_of t)) o → i < length ds
+    go None is e = absurd (cc)
+    go (Some p) is e = omega (arith, same, slice_get_within (document_parts (cut_of t)) i p is)
+
+-- a place in a document that is held
+abbrev Place : Type 0
+Place = Option (ℕ × ℕ)
+
+some_same : {x y : ℕ} → Some x ≡ Some y → x ≡ y
+some_same e = cc
+
+pub held_in : (t : List ℕ) (s : Shown) (ds : List Held) (i first : ℕ) (d : Held) (found : Place) (place : ℕ → Cut → List Row → Place) → Holds t s ds → slice_get ds i ≡ Some d → Some first ≡ first_row i (cut_of t) →
+    ((u : List ℕ) (c : Cut) (p : Part) (more : List Row) → IsCut u c → s ≡ shown c → lines_in d ≡ lines_of p.rows → drop first (rows_of c) ≡ p.rows ++ more → found ≡ place first c p.rows) →
+    found ≡ (slice_get (document_parts (cut_of t)) i >>= λ p. place (document_row i (cut_of t)) (cut_of t) p.rows)
+held_in t s ds i first d found place h there e told =
+    let part = part_at ds (document_parts (cut_of t)) h.lined i d there in
+    let b = part_begins (cut_of t) i part.0 part.1 in
+    let same : first ≡ document_row i (cut_of t) = some_same (e ∙ ap (λ (o : Option Part). option_map (λ p. document_row i (cut_of t)) o) part.1) in
+    told t (cut_of t) part.0 b.0 h.cut h.rows (ap (λ (x : Lined). x.1) part.2) (ap (λ (k : ℕ). drop k (rows_of (cut_of t))) same ∙ b.1)
+    ∙ (ap (λ (k : ℕ). place k (cut_of t) part.0.rows) same
+    ∙ sym (ap (λ (o : Option Part). o >>= λ p. place (document_row i (cut_of t)) (cut_of t) p.rows) part.1))
+
+pub held_none : (c : Cut) (i : ℕ) (place : ℕ → Cut → List Row → Place) → None ≡ first_row i c → None ≡ (slice_get (document_parts c) i >>= λ p. place (document_row i c) c p.rows)
+held_none c i place e = go (slice_get (document_parts c) i) e
+  where
+    go : (o : Option Part) → None ≡ option_map (λ p. document_row i c) o → None ≡ (o >>= λ p. place (document_row i c) c p.rows)
+    go None e = refl
+    go (Some p) e = absurd (cc)
+
+-- the node for which lines stand
+pub lines_none : (k : ℕ) (c : Cut) (rs : List Row) (from to : ℕ) → from ≡ to → None ≡ lines_content k c rs from to
+lines_none k c rs from to e = sym (cond-true _ None (slice_get (lines_of rs) from >>= λ l. cond (is_bare l.mark) (line_head k c rs from) (lines_place k c rs from (to - 1))) (eq-eqb from to e))
+
+pub lines_some : (k : ℕ) (c : Cut) (rs : List Row) (from to : ℕ) (bare : Bool) (found : Place) → from < to → from < length (lines_of rs) → ((l : Line) → slice_get (lines_of rs) from ≡ Some l → bare ≡ is_bare l.mark) →
+    found ≡ cond bare (line_head k c rs from) (lines_place k c rs from (to - 1)) → found ≡ lines_content k c rs from to
+lines_some k c rs from to bare found less within is e =
+    let there = has_line (lines_of rs) from within in
+    e
+    ∙ (ap (λ (b : Bool). cond b (line_head k c rs from) (lines_place k c rs from (to - 1))) (is there.0 there.1)
+    ∙ (ap (λ (o : Option Line). o >>= λ l. cond (is_bare l.mark) (line_head k c rs from) (lines_place k c rs from (to - 1))) (sym there.1)
+    ∙ sym (cond-false _ None (slice_get (lines_of rs) from >>= λ l. cond (is_bare l.mark) (line_head k c rs from) (lines_place k c rs from (to - 1))) (ne_eqb from to (λ same. absurd (omega (arith, same, less)))))))
+
+-- the node of a line
+pub line_some : (k : ℕ) (c : Cut) (rs : List Row) (n : ℕ) (some : Bool) (found : Place) → n < length (lines_of rs) → ((l : Line) → slice_get (lines_of rs) n ≡ Some l → some ≡ is_some l.head) →
+    found ≡ cond some (line_head k c rs n) (lines_content k c rs (suc n) (lines_end n (lines_of rs))) → found ≡ line_content k c rs n
+line_some k c rs n some found within is e =
+    let there = has_line (lines_of rs) n within in
+    e
+    ∙ (ap (λ (b : Bool). cond b (line_head k c rs n) (lines_content k c rs (suc n) (lines_end n (lines_of rs)))) (is there.0 there.1)
+    ∙ ap (λ (o : Option Line). o >>= λ l. cond (is_some l.head) (line_head k c rs n) (lines_content k c rs (suc n) (lines_end n (lines_of rs)))) (sym there.1))
+
+-- where steps lead on into a head, they lead to no line
+pub line_or_flow : (steps : List Step) (ls : List Line) (place : ℕ → Place) → (line_of steps ls >>= place) ≡ cond (leads_on steps ls) untold (line_of steps ls >>= place)
+line_or_flow [] ls place = refl
+line_or_flow (s ∷ ss) ls place = go (find s ss (group ls))
+  where
+    last : (f : Found) (ts : List Step) → (found_line f ts >>= place) ≡ cond (are_left ts) untold (found_line f ts >>= place)
+    last f [] = refl
+    last f (t ∷ ts) = refl
+
+    go : (o : Option (Found × List Step)) → (option_and_then (λ x. found_line x.0 x.1) o >>= place) ≡ cond (goes_on o) untold (option_and_then (λ x. found_line x.0 x.1) o >>= place)
+    go None = refl
+    go (Some x) = last x.0 x.1

@@ -1,0 +1,123 @@
+-- Where entries, items and their contents stand in a text (YAML 1.2.2, 8; own).
+use Rattle.std.specs.Prelude.{ℕ, zero, suc, ◌+◌, ◌-◌, nat_lt, ◌==◌, Bool, true, false, ◌&&◌, List, [], ◌∷◌, ◌++◌, length, replicate, slice_get, take, Option, Some, None, is_some, if◌then◌else◌}
+use Rattle.yq_scalar.specs.Answers.{◌>>=◌}
+use Rattle.yq_scalar.specs.Paths.{Step}
+use Rattle.yq_scalar.specs.Text.{is_empty, is_feed, is_return, joined}
+use Rattle.yq_rows.specs.Rows.{Content, Nothing, Inline, Block, Row, dashes_text, Cut}
+use Rattle.yq_rows.specs.View.{Slices, slices}
+use Rattle.yq_tree.specs.declared.path.Path.{Path}
+use Rattle.yq_tree.specs.CommentPlaces.{before_tail}
+use Rattle.yq_tree.specs.Documents.{document_parts}
+use Rattle.yq_tree.specs.Extents.{head_place}
+use Rattle.yq_tree.specs.Group.{group}
+use Rattle.yq_tree.specs.Lines.{lines_of}
+use Rattle.yq_tree.specs.Located.{steps_of}
+use Rattle.yq_tree.specs.Outline.{Line, level}
+use Rattle.yq_tree.specs.Passages.{before_row}
+use Rattle.yq_tree.specs.Places.{Found, find}
+use Rattle.yq_tree.specs.RowPaths.{line_of}
+use Rattle.yq_tree.specs.Seats.{seat, document_row}
+use Rattle.yq_tree.specs.Spots.{is_bare}
+
+-- the text of a cut before line k of row i: before its dash, its key or the node itself (8.2.1, 8.2.2)
+abbrev pub before_line : ℕ → ℕ → Row → Cut → List ℕ
+before_line i k r c = before_row i c ++ (r.gap ++ (replicate r.column 32 ++ dashes_text (take k r.dashes) []))
+
+-- a break, and nothing behind it (5.4)
+abbrev pub is_last_break : List ℕ → Bool
+is_last_break [] = false
+is_last_break (b ∷ []) = is_feed b
+is_last_break (b ∷ (d ∷ [])) = is_return b && is_feed d
+is_last_break (b ∷ (d ∷ (e ∷ t))) = false
+
+-- a text less the break that ends it (5.4)
+unfoldable pub less_break : List ℕ → List ℕ
+less_break [] = []
+less_break (b ∷ bs) = if is_last_break (b ∷ bs) then [] else b ∷ less_break bs
+
+-- the tail of a row and its raw lines, less the break of the last of these lines (own)
+abbrev pub ending : Slices → List ℕ
+ending s = if is_empty s.raw then less_break s.tail else s.tail ++ less_break s.raw
+
+-- the text of a cut up to the end of the last line of row i, before its break (own)
+abbrev pub through_row : ℕ → Row → Cut → List ℕ
+through_row i r c = before_tail i r c ++ ending (slices r)
+
+-- how many lines in front are deeper than a level (8.2)
+abbrev pub deeper_count : ℕ → List Line → ℕ
+deeper_count n [] = 0
+deeper_count n (l ∷ ls) = if nat_lt n (level l) then suc (deeper_count n ls) else 0
+
+-- the line behind line n and those under it, which are those that follow it and are deeper (8.2)
+abbrev pub lines_end : ℕ → List Line → ℕ
+lines_end n [] = 0
+lines_end zero (l ∷ ls) = suc (deeper_count (level l) ls)
+lines_end (suc n) (l ∷ ls) = suc (lines_end n ls)
+
+-- the place of lines of rows, before which k rows of a cut stand: from the beginning of one line to the end of another one's row, before its break (own)
+abbrev pub lines_place : ℕ → Cut → List Row → ℕ → ℕ → Option (ℕ × ℕ)
+lines_place k c rs from to = seat from rs >>= λ a. seat to rs >>= λ b. Some (length (before_line (k + a.before) a.line a.row c), length (through_row (k + b.before) b.row c))
+
+-- the place of the entry or item of line n: from its key or dash to the end of its last line, before its break (own)
+abbrev pub line_entry : ℕ → Cut → List Row → ℕ → Option (ℕ × ℕ)
+line_entry k c rs n = lines_place k c rs n (lines_end n (lines_of rs) - 1)
+
+-- where a head ends, by where it ends on its first line: the lines of a block scalar and the tail before them belong to it (8.1)
+abbrev pub head_end : ℕ → Content → ℕ
+head_end e (Nothing tail) = e
+head_end e (Inline space node tail) = e
+head_end e (Block space anchor block) = e + length block.tail + length (joined block.raw)
+
+-- the place of the head of row i, without its anchor (own)
+abbrev pub head_extent : ℕ → Row → Cut → ℕ × ℕ
+head_extent i r c = ((head_place i c r).0, head_end (head_place i c r).1 r.content)
+
+-- the same of the head of line n of rows, before which k rows of a cut stand (own)
+abbrev pub line_head : ℕ → Cut → List Row → ℕ → Option (ℕ × ℕ)
+line_head k c rs n = seat n rs >>= λ s. Some (head_extent (k + s.before) s.row c)
+
+-- the place of the node for which the lines from one up to another one stand: a node on a line of its own, or a block collection; without lines there is none (8.2)
+abbrev pub lines_content : ℕ → Cut → List Row → ℕ → ℕ → Option (ℕ × ℕ)
+lines_content k c rs from to =
+    if from == to then None
+    else (slice_get (lines_of rs) from >>= λ l. if is_bare l.mark then line_head k c rs from else lines_place k c rs from (to - 1))
+
+-- the place of the node of line n: its head, or what the lines under it stand for (8.2)
+abbrev pub line_content : ℕ → Cut → List Row → ℕ → Option (ℕ × ℕ)
+line_content k c rs n = slice_get (lines_of rs) n >>= λ l. if is_some l.head then line_head k c rs n else lines_content k c rs (suc n) (lines_end n (lines_of rs))
+
+-- whether any steps are left (own)
+abbrev pub are_left : List Step → Bool
+are_left [] = false
+are_left (s ∷ ss) = true
+
+-- whether steps go on behind a line that was found, in its head (own)
+abbrev pub goes_on : Option (Found × List Step) → Bool
+goes_on None = false
+goes_on (Some x) = are_left x.1
+
+-- whether steps lead on into a head: an item or entry in flow, or nothing (own)
+abbrev pub leads_on : List Step → List Line → Bool
+leads_on [] ls = false
+leads_on (s ∷ ss) ls = goes_on (find s ss (group ls))
+
+-- no place: those of entries, items and contents in flow aren't told yet (own)
+abbrev pub untold : Option (ℕ × ℕ)
+untold = None
+
+-- the place of the entry or item to which steps lead among rows; the root is none (own)
+abbrev pub entry_of : ℕ → Cut → List Row → List Step → Option (ℕ × ℕ)
+entry_of k c rs steps = if leads_on steps (lines_of rs) then untold else (line_of steps (lines_of rs) >>= line_entry k c rs)
+
+-- the place of the node to which steps lead among rows (own)
+abbrev pub content_of : ℕ → Cut → List Row → List Step → Option (ℕ × ℕ)
+content_of k c rs [] = lines_content k c rs 0 (length (lines_of rs))
+content_of k c rs (s ∷ ss) = if leads_on (s ∷ ss) (lines_of rs) then untold else (line_of (s ∷ ss) (lines_of rs) >>= line_content k c rs)
+
+-- the place of the entry or item at a path (own)
+abbrev pub entry_at : Path → Cut → Option (ℕ × ℕ)
+entry_at p c = slice_get (document_parts c) p.doc >>= λ d. entry_of (document_row p.doc c) c d.rows (steps_of p)
+
+-- the place of the content of the node at a path (own)
+abbrev pub content_at : Path → Cut → Option (ℕ × ℕ)
+content_at p c = slice_get (document_parts c) p.doc >>= λ d. content_of (document_row p.doc c) c d.rows (steps_of p)
