@@ -1,28 +1,28 @@
 -- The comments that are told of entries and items are those at their places.
-use Rattle.std.proofs.Common.{◌≡◌, ◌⊎◌, inl, inr, ℕ, zero, suc, ◌+◌, ◌<◌, ◌≤◌, eqb, List, [], ◌∷◌, ◌++◌, length, map, drop, Option, Some, None, option_map, option_and_then, Bool, true, false, cond, refl, sym, ap, ◌∙◌, subst, arith}
-use Rattle.std.proofs.lemmas.Bool.{eqb-true, eqb-false, and_parts, cond-true, cond-false, false≢true}
+use Rattle.std.proofs.Common.{◌≡◌, ℕ, zero, suc, ◌+◌, ◌≤◌, eqb, List, [], ◌∷◌, ◌++◌, length, map, Option, Some, None, option_map, option_and_then, Bool, true, false, cond, refl, sym, ap, ◌∙◌, subst, arith}
+use Rattle.std.proofs.lemmas.Bool.{eqb-true, eqb-false, and_parts}
 use Rattle.std.proofs.lemmas.Option.{slice_get-map}
 use Rattle.std.specs.List.{slice_get, list_all}
 use Rattle.std.specs.Str.{is_utf8}
 use Rattle.yq_scalar.specs.Answers.{◌>>=◌}
 use Rattle.yq_scalar.specs.Paths.{Step}
-use Rattle.yq_scalar.specs.Tree.{Label, Node}
+use Rattle.yq_scalar.specs.Tree.{Node}
 use Rattle.yq_scalar.proofs.Bools.{guard_then}
 use Rattle.yq_rows.specs.Rows.{Content, Nothing, Inline, Block, Row, Part, Cut}
 use Rattle.yq_rows.specs.View.{slices, content_cut}
 use Rattle.yq_tree.specs.declared.path.Path.{Path}
-use Rattle.yq_tree.specs.CommentPlaces.{tail_comment, before_tail, line_comment_in, gap_comment, head_comment_in, line_passage, head_passage, remark, remarks, told_above, CommentsStand}
+use Rattle.yq_tree.specs.CommentPlaces.{tail_comment, before_tail, line_comment_in, gap_comment, head_comment_in, remark, remarks, told_above, CommentsStand}
 use Rattle.yq_tree.specs.Documents.{document_parts}
 use Rattle.yq_tree.specs.Group.{group, is_fine}
 use Rattle.yq_tree.specs.Labelled.{Labelled, labelled_from}
 use Rattle.yq_tree.specs.Lines.{tail_of, lines_of}
 use Rattle.yq_tree.specs.Located.{steps_of, labelled_located}
 use Rattle.yq_tree.specs.Nodes.{unlabelled}
-use Rattle.yq_tree.specs.Outline.{Mark, Bare, Key, Dash, Line, Outline, flatten, IsWhole, anchored, head_or, label, value}
+use Rattle.yq_tree.specs.Outline.{Mark, Bare, Key, Dash, Line, Outline, IsWhole, anchored, head_or, label, value}
 use Rattle.yq_tree.specs.Passages.{before_row}
-use Rattle.yq_tree.specs.Places.{lines_before, lines_after, Found, find, content}
-use Rattle.yq_tree.specs.Reading.{document_of, is_document, read_at, cut_of}
-use Rattle.yq_tree.specs.RowPaths.{found_line, line_of}
+use Rattle.yq_tree.specs.Places.{lines_before, Found, find, content}
+use Rattle.yq_tree.specs.Reading.{document_of, is_document, read_at}
+use Rattle.yq_tree.specs.RowPaths.{found_line}
 use Rattle.yq_tree.specs.Seats.{Seat, seat, seat_of, seat_at, document_row}
 use Rattle.yq_tree.proofs.Finding.{entry_of}
 use Rattle.yq_tree.proofs.LabelPaths.{reach, FoundEntry, path_entry, HasHead, rest_head}
@@ -31,7 +31,7 @@ use Rattle.yq_tree.proofs.QuietLaws.{HasNone, Quiet, quiet_reach}
 use Rattle.yq_tree.proofs.ReadLaws.{cut_is, text_takes}
 use Rattle.yq_tree.proofs.RowPathLaws.{found_lines, found_place, document_fine}
 use Rattle.yq_tree.proofs.RemarkLaws.{tail_told, gap_told}
-use Rattle.yq_tree.proofs.SeatLineLaws.{IsTold, Tells, seat_line}
+use Rattle.yq_tree.proofs.SeatLineLaws.{Tells, seat_line}
 use Rattle.yq_tree.proofs.Values.{If}
 
 tail_is : (c : Content) → (content_cut c).4 ≡ tail_of c

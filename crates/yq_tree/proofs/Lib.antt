@@ -45,6 +45,8 @@ pub mod NameLaws
 pub mod NestedLaws
 pub mod NodeLaws
 pub mod Parts
+pub mod PassageLaws
+pub mod PassageStandLaws
 pub mod PathLines
 pub mod Plug
 pub mod SeatLaws

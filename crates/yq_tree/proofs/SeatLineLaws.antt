@@ -1,11 +1,11 @@
 -- What is told of the line that is in a seat.
-use Rattle.std.proofs.Common.{◌≡◌, ◌⊎◌, inl, inr, ℕ, zero, suc, ◌+◌, ◌-◌, ◌<◌, ◌≤◌, List, [], ◌∷◌, ◌++◌, length, Option, Some, None, option_map, refl, sym, ap, ◌∙◌, subst, arith}
+use Rattle.std.proofs.Common.{◌≡◌, ◌⊎◌, inl, inr, ℕ, zero, suc, ◌+◌, ◌-◌, ◌<◌, ◌≤◌, List, [], ◌∷◌, ◌++◌, length, Some, None, option_map, refl, sym, ap, ◌∙◌, subst, arith}
 use Rattle.std.proofs.lemmas.Bool.{cases_lt, lt-ltb, le-ltb, cond-true, cond-false}
 use Rattle.std.specs.List.{slice_get}
 use Rattle.yq_rows.specs.Comments as comments
 use Rattle.yq_rows.specs.Rows as rows
 use Rattle.yq_rows.specs.Rows.{Content, Row}
-use Rattle.yq_tree.specs.Lines.{tail_of, mark_line, dash_line, lines_from, row_lines, lines_of}
+use Rattle.yq_tree.specs.Lines.{tail_of, lines_from, row_lines, lines_of}
 use Rattle.yq_tree.specs.Outline.{Line}
 use Rattle.yq_tree.specs.Seats.{Seat, behind_one, seat}
 use Rattle.yq_tree.proofs.QuietLaws.{Quiet, quiet_content}

@@ -59,7 +59,7 @@ document_seat path c (Some p) s is e =
     ∙ (ap (λ (rs : List Row). slice_get rs s.before) b.1
     ∙ get_front p.rows b.0 s.before s.row (steps_row (line_of (steps_of path) (lines_of p.rows)) p.rows s e))
 
-path_row : (path : Path) (c : Cut) (s : Seat) → seat_at path c ≡ Some s → slice_get (rows_of c) (document_row path.doc c + s.before) ≡ Some s.row
+pub path_row : (path : Path) (c : Cut) (s : Seat) → seat_at path c ≡ Some s → slice_get (rows_of c) (document_row path.doc c + s.before) ≡ Some s.row
 path_row path c s e = document_seat path c (slice_get (document_parts c) path.doc) s refl e
 
 numbers_same : {x y : Numbers} → Some x ≡ Some y → x ≡ y

@@ -1,5 +1,5 @@
 -- Where the comments of entries and items stand in a text (YAML 1.2.2, 6.6; own).
-use Rattle.std.specs.Prelude.{◌≡◌, ℕ, ◌+◌, ◌==◌, List, [], ◌∷◌, ◌++◌, drop, length, Option, Some, None, option_map, if◌then◌else◌}
+use Rattle.std.specs.Prelude.{◌≡◌, ◌⊎◌, ℕ, ◌+◌, ◌==◌, List, [], ◌∷◌, ◌++◌, drop, length, Option, Some, None, option_map, if◌then◌else◌}
 use Rattle.yq_scalar.specs.Answers.{◌>>=◌}
 use Rattle.yq_scalar.specs.Text.{cut, front, ends_line, is_empty, joined, lines_of, no_white, past_white}
 use Rattle.yq_rows.specs.Comments.{are_comments, less_space}
@@ -9,7 +9,7 @@ use Rattle.yq_rows.specs.View.{slices}
 use Rattle.yq_tree.specs.declared.path.Path.{Path}
 use Rattle.yq_tree.specs.Labelled.{Labelled}
 use Rattle.yq_tree.specs.Located.{labelled_located}
-use Rattle.yq_tree.specs.Passages.{Passage, passage_span, before_row}
+use Rattle.yq_tree.specs.Passages.{Passage, passage_span, IsPassage, before_row}
 use Rattle.yq_tree.specs.Reading.{read_at}
 use Rattle.yq_tree.specs.Seats.{Seat, seat_at, document_row}
 use Rattle.yq_tree.specs.Texts.{texts}
@@ -81,3 +81,7 @@ abbrev pub CommentsStand : Type 0
 CommentsStand =
     (t : List ℕ) (c : Cut) (p : Path) → read_at t ≡ Some c →
     ((labelled_located p t >>= λ x. x.0.line_comment) ≡ option_map remark (line_passage p c)) × (told_above (labelled_located p t) ≡ remarks (head_passage p c))
+
+-- The comments at a path stand in the text, between whole characters.
+abbrev pub CommentsPlaced : Type 0
+CommentsPlaced = (t : List ℕ) (c : Cut) (p : Path) (q : Passage) → read_at t ≡ Some c → (line_passage p c ≡ Some q) ⊎ (head_passage p c ≡ Some q) → IsPassage t q

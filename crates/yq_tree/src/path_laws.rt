@@ -1,5 +1,5 @@
 //! Laws on paths and rows, for the crates above.
-ghost use Rattle.yq_tree.specs.CommentPlaces.{CommentsStand};
+ghost use Rattle.yq_tree.specs.CommentPlaces.{CommentsPlaced, CommentsStand};
 ghost use Rattle.yq_tree.specs.RowPaths.{HeadIsLeaf, LeadsToRow, ScalarFits, ScalarPut, ScalarSpelled};
 
 /// A path that leads to a row without lines under it leads to what the row spells behind its mark.
@@ -19,7 +19,9 @@ pub fn scalar_fits()
     ensures { ScalarFits }
 {}
 
-/// The comments of the tree at a path stand at their places, each exactly where there is one.
+/// The comments of the tree at a path stand at their places, each exactly where there is one, and
+/// these places are in the text.
 pub fn comments_stand()
-    ensures { CommentsStand }
+    ensures told { CommentsStand }
+    ensures placed { CommentsPlaced }
 {}
