@@ -4,6 +4,7 @@ use crate::block::read_block;
 use crate::block_laws::{literal_spells, one_block, repaired};
 use crate::block_repair::repair;
 use crate::block_written::{Break, write_block};
+use crate::comparing::is_text;
 use crate::piece_content::content;
 use std::alloc::Global;
 use std::process::Abort;
@@ -21,7 +22,7 @@ fn content_of(alloc: Global, text: &str, parent: i64) -> Result<String, Fail> {
 fn stand_for(rt: &impl Abort, alloc: Global, rows: &[(&str, i64, &str)]) -> Result<(), Fail> {
     for (text, parent, content) in rows {
         let got = content_of(alloc, text, *parent)?;
-        assert_eq!(rt; got.as_str(), *content, "at {text:?}");
+        is_text(rt, got.as_str(), content, text);
     }
     Ok(())
 }
@@ -76,6 +77,20 @@ fn written_text(alloc: Global, content: &str, indent: usize, br: Break) -> Resul
     Ok(text)
 }
 
+/// A content is written as this text, which stands for it.
+fn is_written(
+    rt: &impl Abort,
+    alloc: Global,
+    content: &str,
+    indent: usize,
+    br: Break,
+    text: &str,
+) -> Result<(), Fail> {
+    let got = written_text(alloc, content, indent, br)?;
+    is_text(rt, got.as_str(), text, content);
+    stand_for(rt, alloc, &[(text, 0, content)])
+}
+
 #[test]
 fn written(rt: HostRuntime) -> Result<(), Fail> {
     let alloc = rt.alloc();
@@ -86,13 +101,7 @@ fn written(rt: HostRuntime) -> Result<(), Fail> {
         ("\u{e9}: \t# |\n- y", 3, "|-\n   \u{e9}: \t# |\n   - y\n"),
     ];
     for (content, indent, text) in rows {
-        let got = written_text(alloc, content, indent, Break::Lf)?;
-        assert_eq!(rt; got.as_str(), text, "what is written");
-        assert_eq!(rt;
-            content_of(alloc, text, 0)?.as_str(),
-            content,
-            "of {text:?}"
-        );
+        is_written(&rt, alloc, content, indent, Break::Lf, text)?;
     }
     Ok(())
 }
@@ -106,10 +115,28 @@ fn written_with_cr_lf(rt: HostRuntime) -> Result<(), Fail> {
         ("a\n\n b\n", 2, "|\n  a\r\n\r\n   b\r\n"),
     ];
     for (content, indent, text) in rows {
-        let got = written_text(alloc, content, indent, Break::CrLf)?;
-        assert_eq!(rt; got.as_str(), text, "what is written");
-        stand_for(&rt, alloc, &[(text, 0, content)])?;
+        is_written(&rt, alloc, content, indent, Break::CrLf, text)?;
     }
+    Ok(())
+}
+
+/// What a gap before a row in this column is repaired to, behind the block scalar in front.
+fn repaired_gap(alloc: Global, text: &str, column: usize, gap: &str) -> Result<String, Fail> {
+    let piece = read_block(text, 0, 0)?;
+    Ok(repair(alloc, &piece, column, gap)?)
+}
+
+/// Behind the block scalar in front, a gap before a row in this column is repaired to another one.
+fn is_repaired(
+    rt: &impl Abort,
+    alloc: Global,
+    text: &str,
+    column: usize,
+    gap: &str,
+    want: &str,
+) -> Result<(), Fail> {
+    let got = repaired_gap(alloc, text, column, gap)?;
+    is_text(rt, got.as_str(), want, gap);
     Ok(())
 }
 
@@ -129,10 +156,8 @@ fn repaired_gaps(rt: HostRuntime) -> Result<(), Fail> {
         ("|\n  x\n", 1, " \t# c", " # c"),
         ("|\n  x\n", 1, "   ", ""),
     ];
-    for (text, column, gap, repaired) in rows {
-        let piece = read_block(text, 0, 0)?;
-        let got = repair(alloc, &piece, column, gap)?;
-        assert_eq!(rt; got.as_str(), repaired, "of {gap:?} behind {text:?}");
+    for (text, column, gap, want) in rows {
+        is_repaired(&rt, alloc, text, column, gap, want)?;
     }
     Ok(())
 }

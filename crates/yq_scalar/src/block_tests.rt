@@ -1,10 +1,10 @@
 //! Block scalars at offsets of texts.
 
 use crate::block::read_block;
+use crate::comparing::is_piece;
 use crate::fault::FaultKind;
 use crate::piece::Piece;
 use crate::style::Style;
-use std::test::Fail;
 
 /// A block scalar's piece, by its offsets in order.
 fn piece(style: Style, offsets: [usize; 4], indent: usize, keep: bool) -> Piece {
@@ -21,7 +21,7 @@ fn piece(style: Style, offsets: [usize; 4], indent: usize, keep: bool) -> Piece 
 }
 
 #[test]
-fn block_scalars(rt: HostRuntime) -> Result<(), Fail> {
+fn block_scalars(rt: HostRuntime) {
     let (literal, folded) = (Style::Literal, Style::Folded);
     let pieces = [
         (
@@ -92,13 +92,12 @@ fn block_scalars(rt: HostRuntime) -> Result<(), Fail> {
         ),
     ];
     for (text, at, parent, expected) in pieces {
-        assert_eq!(rt; read_block(text, at, parent), Ok(expected), "at {text:?}");
+        is_piece(&rt, read_block(text, at, parent), Ok(expected), text);
     }
-    Ok(())
 }
 
 #[test]
-fn no_block_scalars(rt: HostRuntime) -> Result<(), Fail> {
+fn no_block_scalars(rt: HostRuntime) {
     let refused = [
         ("", FaultKind::BadBlockHeader),
         ("x\n", FaultKind::BadBlockHeader),
@@ -120,7 +119,6 @@ fn no_block_scalars(rt: HostRuntime) -> Result<(), Fail> {
         ("|+\n  x\n ", FaultKind::NoFinalBreak),
     ];
     for (text, kind) in refused {
-        assert_eq!(rt; read_block(text, 0, 0), Err(kind), "at {text:?}");
+        is_piece(&rt, read_block(text, 0, 0), Err(kind), text);
     }
-    Ok(())
 }

@@ -5,10 +5,20 @@ use crate::example_tests::{
     ALIAS_NODES, BLOCK_MAPPINGS, BLOCK_SCALAR_INDICATORS, BLOCK_SEQUENCE,
     BLOCK_SEQUENCE_ENTRY_TYPES, CHOMPING_FINAL_LINE_BREAK, CHOMPING_TRAILING_LINES, EMPTY_LINES,
     EMPTY_SCALAR_CHOMPING, FLOW_COLLECTION_INDICATORS, INDENTATION_SPACES, LINE_PREFIXES,
-    MULTI_LINE_COMMENTS, NODE_ANCHORS, QUOTED_SCALAR_INDICATORS, SEPARATED_COMMENT, content_at,
+    MULTI_LINE_COMMENTS, NODE_ANCHORS, QUOTED_SCALAR_INDICATORS, SEPARATED_COMMENT, stand_for,
 };
 use crate::style::Place;
+use std::alloc::Global;
+use std::process::Abort;
 use std::test::Fail;
+
+/// The key at each place of a text has a content.
+fn are_keys(rt: &impl Abort, alloc: Global, rows: &[(&str, usize, &str)]) -> Result<(), Fail> {
+    for (text, at, content) in rows {
+        stand_for(rt, alloc, Place::BlockKey, &[(*text, *at, 0, *content)])?;
+    }
+    Ok(())
+}
 
 #[test]
 fn keys_of_chapters_5_to_7(rt: HostRuntime) -> Result<(), Fail> {
@@ -37,11 +47,7 @@ fn keys_of_chapters_5_to_7(rt: HostRuntime) -> Result<(), Fail> {
         (ALIAS_NODES, 57, "Override anchor"),
         (ALIAS_NODES, 86, "Reuse anchor"),
     ];
-    for (text, at, expected) in rows {
-        let got = content_at(rt.alloc(), text, at, Place::BlockKey, 0)?;
-        assert_eq!(rt; got.as_str(), expected, "at {at} of {text:?}");
-    }
-    Ok(())
+    are_keys(&rt, rt.alloc(), &rows)
 }
 
 #[test]
@@ -63,9 +69,5 @@ fn keys_of_chapter_8(rt: HostRuntime) -> Result<(), Fail> {
         (BLOCK_MAPPINGS, 0, "block mapping"),
         (BLOCK_MAPPINGS, 16, "key"),
     ];
-    for (text, at, expected) in rows {
-        let got = content_at(rt.alloc(), text, at, Place::BlockKey, 0)?;
-        assert_eq!(rt; got.as_str(), expected, "at {at} of {text:?}");
-    }
-    Ok(())
+    are_keys(&rt, rt.alloc(), &rows)
 }

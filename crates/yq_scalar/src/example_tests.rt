@@ -2,6 +2,7 @@
 //! they stand in their texts.
 
 use crate::block::read_block;
+use crate::comparing::is_text;
 use crate::fault::FaultKind;
 use crate::piece_content::content;
 use crate::plain_piece::read_plain;
@@ -107,7 +108,7 @@ pub fn content_at(
 
 /// Each scalar stands for the content in its row: the text, where the scalar begins, its parent's
 /// indentation, and its content.
-fn stand_for(
+pub fn stand_for(
     rt: &impl Abort,
     alloc: Global,
     place: Place,
@@ -115,7 +116,7 @@ fn stand_for(
 ) -> Result<(), Fail> {
     for (text, at, parent, expected) in rows {
         let got = content_at(alloc, text, *at, place, *parent)?;
-        assert_eq!(rt; got.as_str(), *expected, "at {at} of {text:?}");
+        is_text(rt, got.as_str(), expected, text);
     }
     Ok(())
 }

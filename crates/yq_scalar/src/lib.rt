@@ -14,6 +14,8 @@ mod block_tests;
 pub mod block_written;
 pub mod characters;
 #[cfg(test)]
+mod comparing;
+#[cfg(test)]
 mod example_key_tests;
 #[cfg(test)]
 mod example_tests;

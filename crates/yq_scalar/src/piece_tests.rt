@@ -1,6 +1,7 @@
 //! Pieces of scalars in texts of several lines: what they stand for, and where there are none.
 
 use crate::block::read_block;
+use crate::comparing::is_text;
 use crate::fault::FaultKind;
 use crate::piece_content::content;
 use crate::plain_piece::read_plain;
@@ -13,6 +14,7 @@ use crate::written_laws::{
     double_is_read_back, literal_is_read_back, plain_is_read_back, single_is_read_back,
 };
 use std::alloc::Global;
+use std::process::Abort;
 use std::string::String;
 use std::test::Fail;
 
@@ -53,7 +55,7 @@ fn contents(rt: HostRuntime) -> Result<(), Fail> {
     ];
     for (text, expected) in rows {
         let got = value_of(alloc, text)?;
-        assert_eq!(rt; got.as_str(), expected, "of {text:?}");
+        is_text(&rt, got.as_str(), expected, text);
     }
     Ok(())
 }
@@ -69,6 +71,15 @@ fn refusal(text: &str, first: u8) -> Option<FaultKind> {
         _ => read_plain(text, 8, Place::Block, 0),
     };
     piece.err()
+}
+
+/// What begins behind `k: ` on the second line is refused so.
+fn is_refused(rt: &impl Abort, text: &str, fault: FaultKind) {
+    let first = match text.as_bytes().get(8) {
+        Some(first) => *first,
+        None => 0,
+    };
+    assert_eq!(rt; refusal(text, first), Some(fault), "of {text:?}");
 }
 
 #[test]
@@ -91,16 +102,12 @@ fn refusals(rt: HostRuntime) {
         ("j: 1\nk: |", FaultKind::NoFinalBreak),
     ];
     for (text, fault) in rows {
-        let first = match text.as_bytes().get(8) {
-            Some(first) => *first,
-            None => 0,
-        };
-        assert_eq!(rt; refusal(text, first), Some(fault), "of {text:?}");
+        is_refused(&rt, text, fault);
     }
 }
 
 /// A scalar in a style, if it can be written so.
-fn written(
+pub fn written(
     alloc: Global,
     scalar: &Scalar,
     style: Style,
@@ -120,7 +127,7 @@ fn the_string_true(rt: HostRuntime) -> Result<(), Fail> {
     let Some(double) = written(alloc, &string, Style::Double, Place::Block)? else {
         panic!(rt; "not written");
     };
-    assert_eq!(rt; double.as_str(), "\"true\"");
+    is_text(&rt, double.as_str(), "\"true\"", "true");
     Ok(())
 }
 

@@ -1,5 +1,6 @@
 //! Plain scalars, cut off a text and found at offsets.
 
+use crate::comparing::{is_len, is_piece, is_so, is_text};
 use crate::fault::FaultKind;
 use crate::piece::Piece;
 use crate::plain::{begins_plain, holds_break, split_plain};
@@ -52,10 +53,26 @@ fn pieces(rt: HostRuntime) {
         ("é ü\u{2028}x", false, Some(1), "é ü\u{2028}x"),
     ];
     for (text, flow, spaces, piece) in rows {
-        assert_eq!(rt; split_plain(flow, spaces, text).0, piece, "{text:?}");
+        is_text(&rt, split_plain(flow, spaces, text).0, piece, text);
     }
     one_plain();
     plain_spells();
+}
+
+/// The plain scalar between two offsets, or that there is none.
+fn piece(start: usize, end: Option<usize>) -> Result<Piece, FaultKind> {
+    let Some(end) = end else {
+        return Err(FaultKind::BadScalar);
+    };
+    Ok(Piece {
+        style: Style::Plain,
+        start,
+        head_end: end,
+        raw_start: end,
+        end,
+        indent: 0,
+        keep: false,
+    })
 }
 
 #[test]
@@ -82,25 +99,12 @@ fn plain_scalars_at_offsets(rt: HostRuntime) {
         ("a", 1, Place::Block, -1, None),
     ];
     for (text, at, place, indent, end) in rows {
-        let piece = read_plain(text, at, place, indent);
-        match end {
-            Some(end) => {
-                let want = Piece {
-                    style: Style::Plain,
-                    start: at,
-                    head_end: end,
-                    raw_start: end,
-                    end,
-                    indent: 0,
-                    keep: false,
-                };
-                assert!(rt; matches!(&piece, Ok(p) if *p == want), "{text:?} at {at}");
-            }
-            None => assert!(rt;
-                matches!(&piece, Err(FaultKind::BadScalar)),
-                "{text:?} at {at}"
-            ),
-        }
+        is_piece(
+            &rt,
+            read_plain(text, at, place, indent),
+            piece(at, end),
+            text,
+        );
     }
 }
 
@@ -112,8 +116,8 @@ fn a_long_gap(rt: HostRuntime) -> Result<(), Fail> {
     }
     text.push_str(" b: c")?;
     let (piece, rest) = split_plain(false, Some(1), text.as_str());
-    assert_eq!(rt; piece.len(), 2_000_003);
-    assert_eq!(rt; rest, ": c");
+    is_len(&rt, piece.len(), 2_000_003, "a long gap");
+    is_text(&rt, rest, ": c", "a long gap");
     Ok(())
 }
 
@@ -126,7 +130,7 @@ fn breaks(rt: HostRuntime) {
         ("a\r\n", true),
         ("a\rb", false),
     ] {
-        assert_eq!(rt; holds_break(text), held, "a break in {text:?}");
+        is_so(&rt, holds_break(text), held, text);
     }
 }
 
@@ -153,21 +157,13 @@ fn beginnings(rt: HostRuntime) {
         ("é", true, true),
     ];
     for (text, block, flow) in rows {
-        assert_eq!(rt;
-            begins_plain(false, text.as_bytes()),
-            block,
-            "{text:?} in block"
-        );
-        assert_eq!(rt;
-            begins_plain(true, text.as_bytes()),
-            flow,
-            "{text:?} in flow"
-        );
+        is_so(&rt, begins_plain(false, text.as_bytes()), block, text);
+        is_so(&rt, begins_plain(true, text.as_bytes()), flow, text);
     }
     for text in [
         ",a", "[a", "]a", "{a", "}a", "#a", "&a", "*a", "!a", "|a", ">a", "'a", "\"a", "%a", "@a",
         "`a",
     ] {
-        assert!(rt; !begins_plain(false, text.as_bytes()), "{text:?}");
+        is_so(&rt, begins_plain(false, text.as_bytes()), false, text);
     }
 }

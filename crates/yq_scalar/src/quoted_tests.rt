@@ -1,17 +1,30 @@
 //! Quoted scalars, cut off a text, and what they and plain ones stand for.
 
+use crate::comparing::{is_piece, is_so, is_text};
 use crate::fault::FaultKind;
 use crate::folding::{plain_content, quoted_content};
+use crate::piece::Piece;
 use crate::piece_content::content;
+use crate::piece_tests::written;
 use crate::quoted::split_quoted;
 use crate::quoted_piece::read_quoted;
 use crate::scalar::Scalar;
 use crate::style::{Place, Style};
-use crate::writable::can_write;
-use crate::write::write_scalar;
 use std::alloc::Global;
 use std::process::Abort;
 use std::test::Fail;
+
+/// A quoted scalar and the rest are cut off a text.
+fn is_cut(rt: &impl Abort, text: &str, piece: &str, rest: &str) {
+    let is_so_cut = matches!(split_quoted(text), Ok((p, r)) if p == piece && r == rest);
+    is_so(rt, is_so_cut, true, text);
+}
+
+/// No quoted scalar is in front of a text.
+fn is_refused(rt: &impl Abort, text: &str) {
+    let is_none = matches!(split_quoted(text), Err(FaultKind::BadScalar));
+    is_so(rt, is_none, true, text);
+}
 
 #[test]
 fn cuts(rt: HostRuntime) {
@@ -25,10 +38,7 @@ fn cuts(rt: HostRuntime) {
         ("'a\n---b'", "'a\n---b'", ""),
     ];
     for (text, piece, rest) in cuts {
-        assert!(rt;
-            matches!(split_quoted(text), Ok((p, r)) if p == piece && r == rest),
-            "at {text:?}"
-        );
+        is_cut(&rt, text, piece, rest);
     }
     let refused = [
         "",
@@ -49,10 +59,7 @@ fn cuts(rt: HostRuntime) {
         "\"a\\\n--- b\"",
     ];
     for text in refused {
-        assert!(rt;
-            matches!(split_quoted(text), Err(FaultKind::BadScalar)),
-            "at {text:?}"
-        );
+        is_refused(&rt, text);
     }
 }
 
@@ -60,7 +67,7 @@ fn cuts(rt: HostRuntime) {
 fn stands_for(rt: &impl Abort, alloc: Global, text: &str, content: &str) -> Result<(), Fail> {
     let (piece, _) = split_quoted(text)?;
     let got = quoted_content(alloc, piece)?;
-    assert_eq!(rt; got.as_str(), content, "at {text:?}");
+    is_text(rt, got.as_str(), content, text);
     Ok(())
 }
 
@@ -119,8 +126,24 @@ fn plain_contents(rt: HostRuntime) -> Result<(), Fail> {
     ];
     for (text, content) in contents {
         let got = plain_content(alloc, text)?;
-        assert_eq!(rt; got.as_str(), content, "at {text:?}");
+        is_text(&rt, got.as_str(), content, text);
     }
+    Ok(())
+}
+
+/// A scalar is written as this piece.
+fn is_written(
+    rt: &impl Abort,
+    alloc: Global,
+    scalar: &Scalar,
+    style: Style,
+    place: Place,
+    piece: &str,
+) -> Result<(), Fail> {
+    let Some(got) = written(alloc, scalar, style, place)? else {
+        panic!(rt; "not written");
+    };
+    is_text(rt, got.as_str(), piece, piece);
     Ok(())
 }
 
@@ -136,11 +159,7 @@ fn written_single(rt: HostRuntime) -> Result<(), Fail> {
     ];
     for (text, piece) in strings {
         let scalar = Scalar::string(String::from_str(alloc, text)?);
-        if !can_write(&scalar, Style::Single, Place::Flow) {
-            panic!(rt; "at {text:?}");
-        }
-        let written = write_scalar(alloc, &scalar, Style::Single, Place::Flow)?;
-        assert_eq!(rt; written.as_str(), piece, "at {text:?}");
+        is_written(&rt, alloc, &scalar, Style::Single, Place::Flow, piece)?;
     }
     Ok(())
 }
@@ -165,11 +184,7 @@ fn written_double(rt: HostRuntime) -> Result<(), Fail> {
     ];
     for (text, piece) in strings {
         let scalar = Scalar::string(String::from_str(alloc, text)?);
-        if !can_write(&scalar, Style::Double, Place::BlockKey) {
-            panic!(rt; "at {text:?}");
-        }
-        let written = write_scalar(alloc, &scalar, Style::Double, Place::BlockKey)?;
-        assert_eq!(rt; written.as_str(), piece, "at {text:?}");
+        is_written(&rt, alloc, &scalar, Style::Double, Place::BlockKey, piece)?;
         stands_for(&rt, alloc, piece, text)?;
     }
     Ok(())
@@ -179,13 +194,12 @@ fn written_double(rt: HostRuntime) -> Result<(), Fail> {
 fn null_is_written(rt: HostRuntime) -> Result<(), Fail> {
     let alloc = rt.alloc();
     let null = Scalar::null(alloc)?;
-    if can_write(&null, Style::Plain, Place::Block) {
-        let written = write_scalar(alloc, &null, Style::Plain, Place::Block)?;
-        assert_eq!(rt; written.as_str(), "null");
-    } else {
-        panic!(rt; "null is not written");
-    }
-    Ok(())
+    is_written(&rt, alloc, &null, Style::Plain, Place::Block, "null")
+}
+
+/// A piece has this style, and is its head, between two offsets.
+fn is_between(piece: &Piece, style: Style, start: usize, end: usize) -> bool {
+    piece.style == style && piece.start == start && piece.head_end == end && piece.end == end
 }
 
 #[test]
@@ -195,19 +209,22 @@ fn pieces(rt: HostRuntime) -> Result<(), Fail> {
     let Ok(key) = read_quoted(text, 0) else {
         panic!(rt; "no key");
     };
-    assert!(rt; matches!(key.style, Style::Single) && key.start == 0 && key.end == 7);
+    is_so(&rt, is_between(&key, Style::Single, 0, 7), true, "the key");
     let got = content(alloc, text, &key)?;
-    assert_eq!(rt; got.as_str(), "it's");
+    is_text(&rt, got.as_str(), "it's", "the key");
     if text.is_char_boundary(9) {
         let Ok(value) = read_quoted(text, 9) else {
             panic!(rt; "no value");
         };
-        assert!(rt;
-            matches!(value.style, Style::Double) && value.end == 17 && value.head_end == 17
+        is_so(
+            &rt,
+            is_between(&value, Style::Double, 9, 17),
+            true,
+            "the value",
         );
         let got = content(alloc, text, &value)?;
-        assert_eq!(rt; got.as_str(), "ab");
+        is_text(&rt, got.as_str(), "ab", "the value");
     }
-    assert!(rt; matches!(read_quoted("x", 0), Err(FaultKind::BadScalar)));
+    is_piece(&rt, read_quoted("x", 0), Err(FaultKind::BadScalar), "x");
     Ok(())
 }

@@ -1,16 +1,18 @@
 //! The core schema's table with near misses, the values of ints, and scalars.
 
+use crate::comparing::{is_kind, is_text};
 use crate::integer::int_value;
 use crate::kind::Kind;
 use crate::scalar::Scalar;
 use crate::schema::resolve;
+use std::alloc::Global;
 use std::process::Abort;
 use std::test::Fail;
 
 /// Each text resolves to a scalar of this kind.
 fn resolve_to(rt: &impl Abort, texts: &[&str], kind: Kind) {
     for text in texts {
-        assert_eq!(rt; resolve(text), kind, "at {text:?}");
+        is_kind(rt, resolve(text), kind, text);
     }
 }
 
@@ -70,6 +72,11 @@ fn rows_of_floats(rt: HostRuntime) {
     resolve_to(&rt, &misses, Kind::Text);
 }
 
+/// A text is this int, or none.
+fn is_int(rt: &impl Abort, text: &str, wanted: Option<i64>) {
+    assert_eq!(rt; int_value(text), wanted, "of {text:?}");
+}
+
 #[test]
 fn numbers_of_ints(rt: HostRuntime) {
     let numbers = [
@@ -88,7 +95,7 @@ fn numbers_of_ints(rt: HostRuntime) {
         ("0x7fffffffffffffff", i64::MAX),
     ];
     for (text, number) in numbers {
-        assert_eq!(rt; int_value(text), Some(number), "at {text:?}");
+        is_int(&rt, text, Some(number));
     }
     let none = [
         "",
@@ -107,8 +114,16 @@ fn numbers_of_ints(rt: HostRuntime) {
         "0o1000000000000000000000",
     ];
     for text in none {
-        assert_eq!(rt; int_value(text), None, "at {text:?}");
+        is_int(&rt, text, None);
     }
+}
+
+/// A plain scalar of this text has a kind, and keeps a text.
+fn is_kept(rt: &impl Abort, alloc: Global, text: &str, kind: Kind, kept: &str) -> Result<(), Fail> {
+    let scalar = Scalar::plain(alloc, text)?;
+    is_kind(rt, scalar.kind(), kind, text);
+    is_text(rt, scalar.text(), kept, text);
+    Ok(())
 }
 
 #[test]
@@ -123,9 +138,7 @@ fn scalars(rt: HostRuntime) -> Result<(), Fail> {
         ("a b", Kind::Text, "a b"),
     ];
     for (text, kind, kept) in plain {
-        let scalar = Scalar::plain(alloc, text)?;
-        assert_eq!(rt; scalar.kind(), kind, "at {text:?}");
-        assert_eq!(rt; scalar.text(), kept, "at {text:?}");
+        is_kept(&rt, alloc, text, kind, kept)?;
     }
     Ok(())
 }

@@ -1,4 +1,5 @@
-use crate::characters::{self, has_text_chars, is_text};
+use crate::characters::{self, has_text_chars};
+use crate::comparing::{is_len, is_so, is_text};
 use crate::lines::{line_len, split_at_break, split_line, text_len};
 use crate::text::{
     ends_line, is_break, is_marker, is_space, past_white, separates, split_spaces, split_white,
@@ -19,18 +20,10 @@ fn lines(rt: HostRuntime) {
         ("é\u{2028}\u{85}\nb", "é\u{2028}\u{85}\n", "é\u{2028}\u{85}"),
     ];
     for (text, line, content) in rows {
-        assert_eq!(rt; split_line(text).0, line, "the line of {text:?}");
-        assert_eq!(rt; split_at_break(text).0, content, "the content of {text:?}");
-        assert_eq!(rt;
-            line_len(text.as_bytes()),
-            line.len(),
-            "the length of {text:?}"
-        );
-        assert_eq!(rt;
-            text_len(text.as_bytes()),
-            content.len(),
-            "the content's length of {text:?}"
-        );
+        is_text(&rt, split_line(text).0, line, text);
+        is_text(&rt, split_at_break(text).0, content, text);
+        is_len(&rt, line_len(text.as_bytes()), line.len(), text);
+        is_len(&rt, text_len(text.as_bytes()), content.len(), text);
     }
 }
 
@@ -55,43 +48,34 @@ fn in_front(rt: HostRuntime) {
     ];
     for (text, line_break, space, marker) in rows {
         let bytes = text.as_bytes();
-        assert_eq!(rt; is_break(bytes), line_break, "a break in {text:?}");
-        assert_eq!(rt;
-            ends_line(bytes),
-            line_break || text.is_empty(),
-            "a line's end in {text:?}"
-        );
-        assert_eq!(rt;
-            is_space(bytes),
-            space,
-            "white space or a break in {text:?}"
-        );
-        assert_eq!(rt;
-            separates(bytes),
-            space || text.is_empty(),
-            "a separation in {text:?}"
-        );
-        assert_eq!(rt; is_marker(bytes), marker, "a marker in {text:?}");
+        let is_end = text.is_empty();
+        is_so(&rt, is_break(bytes), line_break, text);
+        is_so(&rt, ends_line(bytes), line_break || is_end, text);
+        is_so(&rt, is_space(bytes), space, text);
+        is_so(&rt, separates(bytes), space || is_end, text);
+        is_so(&rt, is_marker(bytes), marker, text);
     }
 }
 
 #[test]
 fn white_space(rt: HostRuntime) {
-    // the text, its spaces, and its white space
+    // the text, its spaces, its white space, and what follows that
     let rows = [
-        ("", "", ""),
-        ("a ", "", ""),
-        ("  \ta", "  ", "  \t"),
-        ("\t a", "", "\t "),
-        (" \n", " ", " "),
+        ("", "", "", ""),
+        ("a ", "", "", "a "),
+        ("  \ta", "  ", "  \t", "a"),
+        ("\t a", "", "\t ", "a"),
+        (" \n", " ", " ", "\n"),
     ];
-    for (text, spaces, white) in rows {
-        assert_eq!(rt; split_spaces(text).0, spaces, "the spaces of {text:?}");
-        assert_eq!(rt; split_white(text).0, white, "the white space of {text:?}");
-        assert_eq!(rt;
-            past_white(text.as_bytes()),
-            split_white(text).1.as_bytes(),
-            "what follows in {text:?}"
+    for (text, spaces, white, rest) in rows {
+        is_text(&rt, split_spaces(text).0, spaces, text);
+        is_text(&rt, split_white(text).0, white, text);
+        is_text(&rt, split_white(text).1, rest, text);
+        is_so(
+            &rt,
+            past_white(text.as_bytes()) == rest.as_bytes(),
+            true,
+            text,
         );
     }
 }
@@ -120,9 +104,9 @@ fn characters(rt: HostRuntime) {
         ("\u{ffff}", false, false),
     ];
     for (text, chars, whole) in rows {
-        assert_eq!(rt; has_text_chars(text), chars, "the characters of {text:?}");
-        assert_eq!(rt; is_text(text), whole, "{text:?}");
+        is_so(&rt, has_text_chars(text), chars, text);
+        is_so(&rt, characters::is_text(text), whole, text);
     }
-    assert_eq!(rt; characters::char_count("é\u{10000}a"), 3);
-    assert_eq!(rt; characters::TEXT_LIMIT, 16_777_216);
+    is_len(&rt, characters::char_count("é\u{10000}a"), 3, "characters");
+    is_len(&rt, characters::TEXT_LIMIT, 16_777_216, "bytes");
 }

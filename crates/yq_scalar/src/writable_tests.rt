@@ -1,11 +1,26 @@
 //! Which styles can write a scalar, and where.
 
+use crate::comparing::{is_kind, is_so};
 use crate::kind::Kind;
 use crate::scalar::Scalar;
 use crate::style::{Place, Style};
 use crate::writable::can_write;
+use std::alloc::Global;
+use std::process::Abort;
 use std::string::String;
 use std::test::Fail;
+
+/// In a place a string can be written plain, in single quotes and literal, or
+/// can't; it can in double quotes, and can't folded.
+fn can_be_written(rt: &impl Abort, scalar: &Scalar, place: Place, styles: [bool; 3]) {
+    let [plain, single, literal] = styles;
+    let of = scalar.text();
+    is_so(rt, can_write(scalar, Style::Plain, place), plain, of);
+    is_so(rt, can_write(scalar, Style::Single, place), single, of);
+    is_so(rt, can_write(scalar, Style::Double, place), true, of);
+    is_so(rt, can_write(scalar, Style::Literal, place), literal, of);
+    is_so(rt, can_write(scalar, Style::Folded, place), false, of);
+}
 
 #[test]
 fn strings_in_styles(rt: HostRuntime) -> Result<(), Fail> {
@@ -49,32 +64,22 @@ fn strings_in_styles(rt: HostRuntime) -> Result<(), Fail> {
     ];
     for (text, block, flow, single, literal) in rows {
         let scalar = Scalar::string(String::from_str(rt.alloc(), text)?);
-        for (place, plain) in [
-            (Place::Block, block),
-            (Place::BlockKey, block),
-            (Place::Flow, flow),
-            (Place::FlowKey, flow),
-        ] {
-            assert_eq!(rt;
-                can_write(&scalar, Style::Plain, place),
-                plain,
-                "plain {text:?}"
-            );
-            assert_eq!(rt;
-                can_write(&scalar, Style::Single, place),
-                single,
-                "single {text:?}"
-            );
-            assert!(rt; can_write(&scalar, Style::Double, place), "double {text:?}");
-            assert_eq!(rt;
-                can_write(&scalar, Style::Literal, place),
-                literal && place == Place::Block,
-                "literal {text:?}"
-            );
-            assert!(rt;
-                !can_write(&scalar, Style::Folded, place),
-                "folded {text:?}"
-            );
+        can_be_written(&rt, &scalar, Place::Block, [block, single, literal]);
+        can_be_written(&rt, &scalar, Place::BlockKey, [block, single, false]);
+        can_be_written(&rt, &scalar, Place::Flow, [flow, single, false]);
+        can_be_written(&rt, &scalar, Place::FlowKey, [flow, single, false]);
+    }
+    Ok(())
+}
+
+/// A text resolves to this kind, and can be written plain alone.
+fn is_plain(rt: &impl Abort, alloc: Global, text: &str, kind: Kind) -> Result<(), Fail> {
+    let scalar = Scalar::plain(alloc, text)?;
+    is_kind(rt, scalar.kind(), kind, text);
+    for place in [Place::Block, Place::Flow, Place::BlockKey, Place::FlowKey] {
+        is_so(rt, can_write(&scalar, Style::Plain, place), true, text);
+        for style in [Style::Single, Style::Double, Style::Literal, Style::Folded] {
+            is_so(rt, can_write(&scalar, style, place), false, text);
         }
     }
     Ok(())
@@ -94,14 +99,7 @@ fn other_kinds_are_plain(rt: HostRuntime) -> Result<(), Fail> {
         (".NaN", Kind::Float),
     ];
     for (text, kind) in rows {
-        let scalar = Scalar::plain(rt.alloc(), text)?;
-        assert_eq!(rt; scalar.kind(), kind, "{text:?}");
-        for place in [Place::Block, Place::Flow, Place::BlockKey, Place::FlowKey] {
-            assert!(rt; can_write(&scalar, Style::Plain, place), "{text:?}");
-            for style in [Style::Single, Style::Double, Style::Literal, Style::Folded] {
-                assert!(rt; !can_write(&scalar, style, place), "{text:?}");
-            }
-        }
+        is_plain(&rt, rt.alloc(), text, kind)?;
     }
     Ok(())
 }
