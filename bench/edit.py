@@ -10,11 +10,12 @@ All numbers of a table are of one run; the ratios are what to look at.
 
 import os
 import random
-import resource
 import subprocess
 import sys
 import tempfile
 import time
+
+from measured import used_by
 
 SEED = 20261122
 
@@ -72,20 +73,6 @@ def timed(folder, *words):
     return time.perf_counter() - begun
 
 
-def peak(yq, folder, *words):
-    """Peak resident memory of one command, in bytes."""
-    child = os.fork()
-    if child == 0:
-        subprocess.run([yq, *words], cwd=folder, check=True)
-        used = resource.getrusage(resource.RUSAGE_CHILDREN).ru_maxrss
-        with open(os.path.join(folder, "peak"), "w") as out:
-            out.write(str(used))
-        os._exit(0)
-    os.waitpid(child, 0)
-    with open(os.path.join(folder, "peak")) as file:
-        return int(file.read()) * 1024
-
-
 def main():
     yq = os.path.realpath(sys.argv[1])
     turns = int(sys.argv[2]) if len(sys.argv) > 2 else 5
@@ -96,7 +83,7 @@ def main():
             text, path = mappings(size, SEED)
             with open(os.path.join(folder, "f"), "wb") as out:
                 out.write(text)
-            used = peak(yq, folder, "-i", f"{path} = 1", "f")
+            used = used_by([yq, "-i", f"{path} = 1", "f"], folder)[1]
             timed(folder, yq, "undo", "f")
             floors, edits, undos = [], [], []
             for _ in range(turns):

@@ -11,12 +11,12 @@ the ratios are what to look at.
 
 import os
 import random
-import subprocess
 import sys
 import tempfile
 import time
 
 from edit import SEED, mappings
+from measured import used_by
 
 # Entries of a mapping; in each, K is the key and N a number.
 ENTRIES = (
@@ -45,15 +45,6 @@ def mixed(size, seed):
         items.append(item)
         length += len(item)
     return "".join(items).encode()
-
-
-def used_by(command, folder):
-    """The processor's time and the peak of the resident memory, in bytes, of a command."""
-    child = subprocess.Popen(command, cwd=folder, stdout=subprocess.DEVNULL, stderr=subprocess.PIPE)
-    said = child.stderr.read()
-    _, status, used = os.wait4(child.pid, 0)
-    child.returncode = os.waitstatus_to_exitcode(status)
-    return used.ru_utime + used.ru_stime, used.ru_maxrss * 1024, said
 
 
 def floor(folder):

@@ -193,6 +193,7 @@ fn read_items<'t>(
     let mut rest = text;
     'each: loop {
         if let Some(behind) = strip(b']', rest) {
+            items.shrink_to_fit();
             return Ok((items, behind));
         }
         let (item, after) = read_node(alloc, true, Some(0), whole, depth, rest)?;
@@ -223,6 +224,7 @@ fn read_entries<'t>(
     let mut rest = text;
     'each: loop {
         if let Some(behind) = strip(b'}', rest) {
+            entries.shrink_to_fit();
             return Ok((entries, behind));
         }
         let (key, piece, after) = read_entry_key(alloc, whole, rest)?;
