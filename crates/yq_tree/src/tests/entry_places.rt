@@ -21,7 +21,7 @@ fn place(
 
 /// The place of a piece that begins somewhere.
 fn of(piece: Option<(usize, &str)>) -> Option<(usize, usize)> {
-    piece.map(|(start, text)| (start, start + text.len()))
+    piece.map(|(start, text)| (start, start.saturating_add(text.len())))
 }
 
 const BLOCK: &str = "a: 1\nb:\n  - x # c\n  - y\nc: |\n  t\n";
