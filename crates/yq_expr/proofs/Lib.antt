@@ -13,6 +13,7 @@ pub mod PathAgain
 pub mod PathTakes
 pub mod PipeAgain
 pub mod PipeTakes
+pub mod PlacedLaws
 pub mod PlanLaws
 pub mod ProgramAgain
 pub mod Readers
