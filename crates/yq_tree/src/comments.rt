@@ -27,10 +27,8 @@ fn less_space(text: &str) -> &str
 pub(crate) fn comment_text(text: &str) -> Option<&str>
     ensures { option_map (λ t. t.now) result ≡ spec.comment_text text.now }
 {
-    match strip(b'#', split_white(text).1) {
-        Some(rest) => Some(less_space(split_at_break(rest).0)),
-        None => None,
-    }
+    let rest = strip(b'#', split_white(text).1)?;
+    Some(less_space(split_at_break(rest).0))
 }
 
 /// Whether this is a comment line.

@@ -7,7 +7,6 @@ ghost use Rattle.yq_rows.specs.View.{rows_of, shown};
 ghost use Rattle.yq_tree.specs.EntryReading as reading;
 ghost use Rattle.yq_tree.specs.Lines.{lines_of};
 ghost use Rattle.yq_tree.specs.Nodes.{lines_in};
-ghost use Rattle.yq_tree.specs.PartReading.{first_rows, some_begin};
 ghost use Rattle.yq_tree.specs.Reading.{cut_of};
 ghost use Rattle.yq_tree.specs.SeatReading as spec;
 ghost use Rattle.yq_tree.specs.Seats.{document_row, seat_at, seat_of};
