@@ -4,7 +4,8 @@ use Rattle.yq_scalar.specs.declared.kind.Kind.{Kind}
 use Rattle.yq_scalar.specs.declared.kind.Kind.TheVariants as kinds
 use Rattle.yq_scalar.specs.Paths as paths
 use Rattle.yq_scalar.specs.Paths.{To, Nth, child_at}
-use Rattle.yq_scalar.specs.Tree.{Node, alias, scalar, list, map, Children, none, child}
+use Rattle.yq_scalar.specs.Tree.{Node, alias, scalar, list, map, Children}
+use Rattle.yq_tree.specs.Counts.{count}
 use Rattle.yq_expr.specs.declared.refusal.Refusal.{Refusal}
 use Rattle.yq_expr.specs.declared.refusal.Refusal.TheVariants.{NotAMap, NotASequence, IndexOutOfRange, ThroughAlias}
 use Rattle.yq_expr.specs.Judgement.{Judgement, gives, refuses, unbuilt, and_then}
@@ -37,11 +38,6 @@ key_step k (alias name) = refuses ThroughAlias
 key_step k (scalar anchor kind text) = in_scalar NotAMap kind
 key_step k (list anchor cs) = refuses NotAMap
 key_step k (map anchor cs) = gives (find (To k) cs)
-
--- how many items there are (own)
-abbrev pub count : Children → ℕ
-count none = 0
-count (child label n cs) = suc (count cs)
 
 -- the number from 0 of the item that is so many before the last one, of so many items; before the first one there is none (own)
 abbrev pub before_last : ℕ → ℕ → Judgement ℕ

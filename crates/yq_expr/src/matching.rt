@@ -1,5 +1,5 @@
 //! Matching: where the steps of a path lead in a document.
-ghost use Rattle.std.specs.Prelude.{◌≡◌, map, IfSome, IfOk};
+ghost use Rattle.std.specs.Prelude.{◌≡◌, map, IfOk};
 ghost use Rattle.yq_scalar.specs.Paths.{To};
 ghost use Rattle.yq_scalar.specs.Tree.{children_of};
 ghost use Rattle.yq_tree.specs.Nodes.{node_of};
@@ -56,18 +56,6 @@ fn key_step<'d, 't>(
     }
 }
 
-/// How many items a node has, if a number holds that.
-fn count(node: Node<'_, '_>) -> Option<usize>
-    ensures { IfSome result (λ n. n ≡ spec.count (children_of (node_of node.entry))) }
-{
-    let mut items = node.children();
-    let mut count = 0usize;
-    'items: while let Some(_) = items.next() {
-        count = count.checked_add(1)?;
-    }
-    Some(count)
-}
-
 /// The number from 0 of the item of an index.
 fn item_number(node: Node<'_, '_>, index: i64) -> Result<usize, PlanError>
     ensures { Plans (λ n. n) result (spec.item_number index (children_of (node_of node.entry))) }
@@ -75,7 +63,7 @@ fn item_number(node: Node<'_, '_>, index: i64) -> Result<usize, PlanError>
     if index >= 0 {
         return Ok(index as usize);
     }
-    let all = count(node).ok_or(PlanError::Memory)?;
+    let all = node.count();
     let back = index.unsigned_abs() as usize;
     if all < back {
         return Err(PlanError::Refused(Refusal::IndexOutOfRange));

@@ -9,6 +9,7 @@ pub mod CommentPlaceLaws
 pub mod CommentStandLaws
 pub mod Conditions
 pub mod CountLaws
+pub mod CountedLaws
 pub mod Decides
 pub mod DocumentLaws
 pub mod EndsLaws

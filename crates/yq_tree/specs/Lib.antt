@@ -14,6 +14,7 @@ pub mod Lines
 pub mod Anchors
 pub mod Answers
 pub mod Children
+pub mod Counts
 pub mod CommentPlaces
 pub mod CommentReading
 pub mod Labelled

@@ -83,7 +83,10 @@ impl<'d, 't> Node<'d, 't> {
 }
 
 /// The first of the items or entries that lines begin, and the lines behind it.
-fn next_line<'d, 't>(document: &'d Lined<'t>, under: Under) -> Option<(Node<'d, 't>, Under)>
+pub(crate) fn next_line<'d, 't>(
+    document: &'d Lined<'t>,
+    under: Under,
+) -> Option<(Node<'d, 't>, Under)>
     ensures gives { spec.Gives (spec.rest_of (lines_in document.now) (spec.lines_rest under)) (λ u. spec.rest_of (lines_in document.now) (spec.lines_rest u)) result }
     ensures behind { IfSome result (λ x. (under.first < x.1.first) × (under.first < length (lines_in document.now))) }
 {

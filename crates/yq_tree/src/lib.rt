@@ -11,6 +11,7 @@ mod comment_place;
 mod comments;
 mod content;
 mod content_place;
+mod count;
 mod document;
 mod documents;
 mod empty_place;

@@ -116,3 +116,38 @@ fn nodes_of_texts(rt: HostRuntime) -> Result<(), Fail> {
     }
     Ok(())
 }
+
+/// How many items or entries the node at a path has in the first document of a text, if there is one.
+fn count_at(alloc: Global, text: &str, path: &str) -> Result<Option<usize>, ReadError> {
+    let rows = scan(alloc, text)?;
+    'documents: for document in document_lines(alloc, text, &rows)? {
+        let document = Lined::new(alloc, document)?;
+        return Ok(node_at(Node::root(&document), path).map(|node| node.count()));
+    }
+    Ok(None)
+}
+
+#[test]
+fn counts_of_nodes(rt: HostRuntime) -> Result<(), Fail> {
+    for (text, path, expected) in [
+        ("a: 1\nb: x\n", "", Some(2)),
+        ("a: 1\nb: x\n", "/b", Some(0)),
+        ("a: 1\nb: x\n", "/c", None),
+        (DEEP, "/b", Some(2)),
+        (DEEP, "/b/1", Some(1)),
+        (DEEP, "/b/1/0", Some(2)),
+        (FLOW, "/b", Some(2)),
+        (FLOW, "/b/c", Some(0)),
+        ("- - a # i\n  - b\n  -\n-\n", "", Some(2)),
+        ("- - a # i\n  - b\n  -\n-\n", "/0", Some(3)),
+        ("&x []\n", "", Some(0)),
+        ("", "", Some(0)),
+    ] {
+        assert_eq!(rt;
+            count_at(rt.alloc(), text, path)?,
+            expected,
+            "at {text:?} {path:?}"
+        );
+    }
+    Ok(())
+}

@@ -1,0 +1,8 @@
+-- How many items or entries there are (own).
+use Rattle.std.specs.Prelude.{ℕ, suc}
+use Rattle.yq_scalar.specs.Tree.{Children, none, child}
+
+-- how many items or entries a node has (own)
+abbrev pub count : Children → ℕ
+count none = 0
+count (child label n cs) = suc (count cs)
