@@ -36,5 +36,6 @@ pub mod RestLending
 pub mod Failing
 pub mod PlainEnds
 pub mod NothingLaws
+pub mod OffsetLaws
 pub mod AloneLaws
 pub mod AlonePieces

@@ -11,8 +11,7 @@ use Rattle.yq_rows.specs.Grammar.{begins_document}
 use Rattle.yq_rows.specs.Lending.{PartLent, behind_rows, rows_lent, shown_read, behind_parts, parts_lent}
 use Rattle.yq_rows.specs.Reading.{tail_at, marker_at, part_at, all_parts}
 use Rattle.yq_rows.specs.Rows.{Part, Cut, last, marked}
-use Rattle.yq_rows.specs.View.{Slices, slices, Bound, Shown, rows_of, bounds_from, view, views, bound_view, bound_views}
-use Rattle.yq_rows.specs.declared.row.Row as declared
+use Rattle.yq_rows.specs.View.{Slices, slices, Bound, Shown, rows_of, bounds_from, bound_view, bound_views}
 use Rattle.yq_rows.specs.declared.scanning.Bound as ends
 use Rattle.yq_rows.proofs.PartsLaws.{parts_refused, parts_last, parts_no_marker, parts_marked, part_marker, part_le, parts_smaller}
 use Rattle.yq_rows.proofs.PieceLaws.{tail_takes}
@@ -128,9 +127,6 @@ parts_end rows found bounds items started t after b all h none count unmarked pu
     sym so_far
     ∙ (parts_done rows (bound_views bounds) started t found b.end.now after b.rows h none count
     ∙ ap (λ (l : List Bound). Some (record { rows = found; bounds = l })) bounds_here)
-
-pub views_length : (rows : List declared.Row) → length rows ≡ length (views rows)
-views_length rows = sym (length-map rows view)
 
 pub empty_by : (t : List ℕ) (b c : Bool) → b ≡ eqb (length t) 0 → b ≡ c → is_empty t ≡ c
 empty_by [] b c e f = sym e ∙ f

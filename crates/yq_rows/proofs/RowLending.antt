@@ -1,6 +1,7 @@
 -- Rows, as the code lends them.
 use Rattle.std.proofs.Common.{if◌then◌else◌, ◌≡◌, ℕ, ◌+◌, ◌<◌, ◌≤◌, Bool, true, false, cond, not, ◌&&◌, ◌||◌, eqb, List, [], ◌∷◌, ◌++◌, length, map, Option, Some, None, refl, sym, ap, ◌∙◌, subst, arith, append_assoc, append-nil, ℤ}
 use Rattle.std.proofs.lemmas.Bool.{false≢true}
+use Rattle.std.proofs.lemmas.List.{take-append-drop}
 use Rattle.yq_scalar.specs.Answers.{◌>>=◌}
 use Rattle.yq_scalar.specs.Text.{cut, no_space, no_white, is_marker}
 use Rattle.yq_scalar.proofs.Bools.{bind_some}
@@ -8,13 +9,13 @@ use Rattle.yq_inline.specs.Nodes.{begins_node}
 use Rattle.yq_inline.proofs.Binds.{some_same}
 use Rattle.yq_rows.specs.Grammar.{Limit, unlimited, allows, limit_after, limit_behind, is_entry, no_rows}
 use Rattle.yq_rows.specs.Lending.{begun, filled, filled_at, holds_plain, limit_by, Lent, lent, row_of, marked_lent, row_lent, rows_lent, inline_lent, block_lent}
-use Rattle.yq_rows.specs.Reading.{Marks, marks_at, content_at, begins_block, tail_at, fits, marked_row_at, row_at, cut_gap, ends_rows, all_rows, part_at}
+use Rattle.yq_rows.specs.Reading.{Marks, marks_at, content_at, begins_block, tail_at, fits, marked_row_at, row_at, gap_len, cut_gap, ends_rows, all_rows, part_at}
 use Rattle.yq_rows.specs.Rows.{Content, Nothing, Inline, Block, Row, behind_columns, parent_of, dashes_text, Part}
-use Rattle.yq_rows.specs.View.{Slices, slices, last_dash, key_of, colon_of, view, views}
-use Rattle.yq_rows.specs.declared.row.Row as declared
+use Rattle.yq_rows.specs.View.{Slices, slices, slices_text, last_dash, key_of, colon_of}
 use Rattle.yq_rows.proofs.BeginSteps.{columns_from}
-use Rattle.yq_rows.proofs.RowLaws.{row_shorter}
+use Rattle.yq_rows.proofs.RowLaws.{row_takes, row_shorter}
 use Rattle.yq_rows.proofs.RowsLaws.{behind_le, with_front, no_more, rows_from, rows_cut, rows_step, rows_refused, rows_done}
+use Rattle.yq_rows.proofs.SliceLaws.{slices_are}
 
 -- what stands behind a mark
 pub content_block : (n : ℤ) (t s u : List ℕ) → (s, u) ≡ cut no_white t → begins_block u ≡ true → filled_at n t ≡ block_lent n s u
@@ -124,29 +125,41 @@ no_row front limit gap t more h = ap (rows_lent front) (rows_refused limit gap t
 pub rows_end : (front : List Slices) (limit : Limit) (gap t : List ℕ) → ends_rows t ≡ true → rows_lent front (rows_from limit gap t) ≡ Some (front, gap, t)
 rows_end front limit gap t none = ap (rows_lent front) (rows_done limit gap t none) ∙ ap (λ (l : List Slices). Some (l, gap, t)) (append-nil front)
 
-pub views_push : (rows : List declared.Row) (row : declared.Row) → views (rows ++ row ∷ []) ≡ views rows ++ view row ∷ []
-views_push [] row = refl
-views_push (r ∷ rows) row = ap (λ l. view r ∷ l) (views_push rows row)
+-- a row that was read, with the gap before it, stands in front of what follows
+row_spelled : (limit : Limit) (gap t : List ℕ) (s : Slices) (l : Limit) (after : List ℕ) → row_lent limit gap t ≡ Some (s, l, after) → gap ++ t ≡ slices_text s after
+row_spelled limit gap t s l after h =
+    let x = bind_some (row_at limit gap t) h in
+    let is : lent x.0 ≡ (s, l, after) = some_same x.2 in
+    let cut = row_takes limit gap t x.0 x.1 in
+    subst (λ (y : Lent). gap ++ t ≡ slices_text y.0 y.2) is
+    (ap (λ (g : List ℕ). g ++ t) (sym cut.gap_is) ∙ (ap (λ (l : List ℕ). x.0.0.gap ++ l) cut.text ∙ sym (slices_are x.0.0 x.0.1)))
 
 -- the loop over the rows of a part
-pub loop_init : (front : List Slices) (limit : Limit) (t g r : List ℕ) → limit ≡ unlimited → (g, r) ≡ cut_gap t → rows_lent front (rows_from limit g r) ≡ rows_lent front (all_rows unlimited t)
-loop_init front limit t g r free e = rw free (ap (λ (y : List ℕ × List ℕ). rows_lent front (rows_from unlimited y.0 y.1)) e ∙ ap (rows_lent front) (sym (rows_cut unlimited t)))
+pub at_gap : (front : List Slices) (limit : Limit) (t g r : List ℕ) → (g, r) ≡ cut_gap t → rows_lent front (all_rows limit t) ≡ rows_lent front (rows_from limit g r)
+at_gap front limit t g r e = ap (rows_lent front) (rows_cut limit t) ∙ ap (λ (y : List ℕ × List ℕ). rows_lent front (rows_from limit y.0 y.1)) (sym e)
 
-pub cut_within : (t g r : List ℕ) → (g, r) ≡ cut_gap t → length r ≤ length t
+gap_joined : (t g r : List ℕ) → (g, r) ≡ cut_gap t → t ≡ g ++ r
+gap_joined t g r e = subst (λ (y : List ℕ × List ℕ). t ≡ y.0 ++ y.1) (sym e) (sym (take-append-drop (gap_len t) t))
+
+cut_within : (t g r : List ℕ) → (g, r) ≡ cut_gap t → length r ≤ length t
 cut_within t g r e = subst (λ (y : List ℕ × List ℕ). length y.1 ≤ length t) (sym e) (behind_le t)
 
-pub loop_smaller : (row : declared.Row) (limit next : Limit) (gap t after g r : List ℕ) → (g, r) ≡ cut_gap after → ends_rows t ≡ false → row_lent limit gap t ≡ Some (view row, next, after) → length r < length t
-loop_smaller row limit next gap t after g r e more h =
-    let less = cut_within after g r e in
-    let short = (one_row [] limit gap t (view row) next after more h).shorter in
+pub row_joined : (limit next : Limit) (t g r : List ℕ) (s : Slices) (after : List ℕ) → (g, r) ≡ cut_gap t → row_lent limit g r ≡ Some (s, next, after) → t ≡ slices_text s after
+row_joined limit next t g r s after e h = gap_joined t g r e ∙ row_spelled limit g r s next after h
+
+pub loop_smaller : (limit next : Limit) (t g r : List ℕ) (s : Slices) (after : List ℕ) → (g, r) ≡ cut_gap t → ends_rows r ≡ false → row_lent limit g r ≡ Some (s, next, after) → length after < length t
+loop_smaller limit next t g r s after e more h =
+    let less = cut_within t g r e in
+    let short = (one_row [] limit g r s next after more h).shorter in
     omega arith
 
-pub loop_step : (rows items : List declared.Row) (row : declared.Row) (limit next : Limit) (gap t after g r : List ℕ) (all : Option (List Slices × List ℕ × List ℕ)) →
-    (g, r) ≡ cut_gap after → ends_rows t ≡ false → row_lent limit gap t ≡ Some (view row, next, after) → items ≡ rows ++ row ∷ [] →
-    rows_lent (views rows) (rows_from limit gap t) ≡ all → rows_lent (views items) (rows_from next g r) ≡ all
-loop_step rows items row limit next gap t after g r all e more h is so_far =
-    let step = (one_row (views rows) limit gap t (view row) next after more h).step in
-    rw (is, views_push rows row) (ap (λ (y : List ℕ × List ℕ). rows_lent (views rows ++ view row ∷ []) (rows_from next y.0 y.1)) e ∙ (sym step ∙ so_far))
+pub loop_step : (front items : List Slices) (limit next : Limit) (t g r : List ℕ) (s : Slices) (after : List ℕ) (all : Option (List Slices × List ℕ × List ℕ)) →
+    (g, r) ≡ cut_gap t → ends_rows r ≡ false → row_lent limit g r ≡ Some (s, next, after) → items ≡ front ++ s ∷ [] →
+    rows_lent front (all_rows limit t) ≡ all → rows_lent items (all_rows next after) ≡ all
+loop_step front items limit next t g r s after all e more h is so_far =
+    let step = (one_row front limit g r s next after more h).step in
+    ap (λ (l : List Slices). rows_lent l (all_rows next after)) is
+    ∙ (ap (rows_lent (front ++ s ∷ [])) (rows_cut next after) ∙ (sym step ∙ (sym (at_gap front limit t g r e) ∙ so_far)))
 
 -- a part where a document is open, or without rows
 guard_true : (o : Option (Part × List ℕ)) → (o >>= λ part. if true || no_rows part.0.rows then Some part else None) ≡ o

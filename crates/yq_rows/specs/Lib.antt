@@ -12,3 +12,4 @@ pub mod Reading
 pub mod Rows
 pub mod View
 pub mod Lending
+pub mod Offsets

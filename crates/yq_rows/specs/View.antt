@@ -129,10 +129,6 @@ rest_of c i = rest_from i (bounds_of c)
 abbrev pub view : declared.Row → Slices
 view r = record { gap = r.gap.now; column = r.column; dashes = r.dashes.now; key = r.key.now; colon = r.colon.now; space = r.space.now; anchor = r.anchor.now; apart = r.apart.now; head = r.head.now; tail = r.tail.now; raw = r.raw.now; parent = r.parent }
 
--- the pieces that rows of the code lend (own)
-abbrev pub views : List declared.Row → List Slices
-views rows = map view rows
-
 -- what the code's limit asks of the next row (own)
 abbrev pub limit_view : asked.Limit → Limit
 limit_view limit = record { column = limit.column }

@@ -7,6 +7,7 @@ mod gap;
 pub mod laws;
 mod marks;
 mod naming;
+mod offsets;
 mod reading;
 mod row;
 mod scanning;

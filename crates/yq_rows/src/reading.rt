@@ -1,18 +1,20 @@
 //! Rows, read one behind the other.
-ghost use Rattle.std.specs.Prelude.{◌≡◌, ◌<◌, ◌≤◌, ◌+◌, ◌^◌, ◌==◌, ◌&&◌, ◌||◌, not, length, true};
+ghost use Rattle.std.specs.Prelude.{◌≡◌, ◌<◌, ◌≤◌, ◌+◌, ◌^◌, ◌==◌, ◌&&◌, ◌||◌, not, length, true, IfOk};
 ghost use Rattle.yq_scalar.specs.Answers.{Gives, Reads};
 ghost use Rattle.yq_scalar.specs.Text;
 ghost use Rattle.yq_rows.specs.Grammar as grammar;
 ghost use Rattle.yq_rows.specs.Grammar.{unlimited};
 ghost use Rattle.yq_rows.specs.Lending.{begin_view, marked_lent, row_lent, rows_lent};
+ghost use Rattle.yq_rows.specs.Offsets.{Ends, Stand, rows_in};
 ghost use Rattle.yq_rows.specs.Reading as spec;
-ghost use Rattle.yq_rows.specs.View.{limit_view, view, views};
+ghost use Rattle.yq_rows.specs.View.{limit_view, view};
 
 use crate::content::{find_tail, read_content};
 use crate::fault::fault;
 use crate::gap::split_gap;
 use crate::marks::{Begin, Mark, is_entry, parent_of, read_begin};
 use crate::naming::not_alone;
+use crate::offsets::{Offsets, offsets_of};
 use crate::row::{Limit, Row};
 use std::alloc::Global;
 use yq_scalar::text::{is_marker, split_spaces};
@@ -93,30 +95,37 @@ fn ends_rows(text: &[u8]) -> bool
     text.is_empty() || is_marker(text)
 }
 
-/// Adds the rows in front up to a marker or the end; gives the gap behind them, and what follows.
+/// Adds where the rows in front stand, up to a marker or the end; gives the gap behind them, and what
+/// follows.
 fn read_rows<'t>(
     alloc: Global,
-    rows: Vec<Row<'t>>,
+    rows: Vec<Offsets>,
     whole: &'t str,
     text: &'t str,
-) -> Result<(Vec<Row<'t>>, &'t str, &'t str), ReadError>
-    requires short { length text.now ≤ length whole.now }
+) -> Result<(Vec<Offsets>, &'t str, &'t str), ReadError>
+    requires ends { Ends text.now whole.now }
+    requires stand { Stand whole.now rows.items }
     requires small { length whole.now < 2 ^ 32 }
-    ensures { Gives (λ x. (views x.0.items, x.1.now, x.2.now)) result (rows_lent (views rows.entry.items) (spec.all_rows unlimited text.now)) }
+    ensures found { Gives (λ x. (rows_in whole.now x.0.items, x.1.now, x.2.now)) result (rows_lent (rows_in whole.now rows.items) (spec.all_rows unlimited text.now)) }
+    ensures kept { IfOk result (λ x. Stand whole.now x.0.items) }
+    ensures behind { IfOk result (λ x. Ends x.2.now whole.now) }
 {
     let mut rows = rows;
     let mut limit = Limit::none();
-    let (mut gap, mut rest) = split_gap(text);
-    'rows: while !ends_rows(rest.as_bytes()) {
+    let mut at = text;
+    'rows: loop {
+        let (gap, rest) = split_gap(at);
+        if ends_rows(rest.as_bytes()) {
+            return Ok((rows, gap, rest));
+        }
         let (row, next, after) = match read_row(alloc, whole, limit, gap, rest) {
             Ok(found) => found,
             Err(e) => return Err(e),
         };
-        rows.push(row)?;
+        rows.push(offsets_of(whole, at, &row))?;
         limit = next;
-        (gap, rest) = split_gap(after);
+        at = after;
     }
-    Ok((rows, gap, rest))
 }
 
 /// Why no row may stand here, where no document is open.
@@ -134,19 +143,22 @@ fn may_begin(is_open: bool, text: &[u8]) -> bool
     is_open || ends_rows(text)
 }
 
-/// Adds the rows of a part; gives the gap behind them, and what follows. Where no document is open
-/// there may be no rows.
+/// Adds where the rows of a part stand; gives the gap behind them, and what follows. Where no document
+/// is open there may be no rows.
 #[tactic(auto, unfolding(crate::specs::Reading::part_at))]
 pub(crate) fn read_part<'t>(
     alloc: Global,
-    rows: Vec<Row<'t>>,
+    rows: Vec<Offsets>,
     is_open: bool,
     whole: &'t str,
     text: &'t str,
-) -> Result<(Vec<Row<'t>>, &'t str, &'t str), ReadError>
-    requires short { length text.now ≤ length whole.now }
+) -> Result<(Vec<Offsets>, &'t str, &'t str), ReadError>
+    requires ends { Ends text.now whole.now }
+    requires stand { Stand whole.now rows.items }
     requires small { length whole.now < 2 ^ 32 }
-    ensures { Gives (λ x. (views x.0.items, x.1.now, x.2.now)) result (rows_lent (views rows.entry.items) (spec.part_at is_open text.now)) }
+    ensures found { Gives (λ x. (rows_in whole.now x.0.items, x.1.now, x.2.now)) result (rows_lent (rows_in whole.now rows.items) (spec.part_at is_open text.now)) }
+    ensures kept { IfOk result (λ x. Stand whole.now x.0.items) }
+    ensures behind { IfOk result (λ x. Ends x.2.now whole.now) }
 {
     let first = split_gap(text).1;
     if !may_begin(is_open, first.as_bytes()) {

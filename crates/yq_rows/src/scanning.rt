@@ -5,11 +5,13 @@ ghost use Rattle.yq_scalar.specs.Answers.{Gives};
 ghost use Rattle.yq_rows.specs.Grammar.{IsCut};
 ghost use Rattle.yq_rows.specs.Grammar as grammar;
 ghost use Rattle.yq_rows.specs.Lending.{shown_read};
+ghost use Rattle.yq_rows.specs.Offsets.{Stand, rows_in};
 ghost use Rattle.yq_rows.specs.Reading as spec;
 ghost use Rattle.yq_rows.specs.Rows.{Cut};
-ghost use Rattle.yq_rows.specs.View.{bound_view, bound_views, bounds_at, bounds_text, rest_from, shown, view, views, Shown};
+ghost use Rattle.yq_rows.specs.View.{bound_view, bound_views, bounds_at, bounds_text, rest_from, shown, view, Shown};
 
 use crate::fault::text_fault;
+use crate::offsets::Offsets;
 use crate::reading::{read_marker, read_part};
 use crate::row::Row;
 use std::alloc::Global;
@@ -28,19 +30,21 @@ pub struct Bound<'t> {
     pub marker: &'t str,
 }
 
-/// The rows of a text, and the gaps and markers that belong to no row.
+/// The rows of a text, and the gaps and markers that belong to no row. A row is kept by where it stands
+/// in the text, and made anew each time.
 #[derive(Debug, Drop)]
 pub struct Rows<'t> {
-    rows: Vec<Row<'t>>,
+    text: &'t str,
+    rows: Vec<Offsets>,
     bounds: Vec<Bound<'t>>,
 }
 
 impl<'t> Model for Rows<'t> {
     ghost Value = { Shown };
 
-    ghost view = { λ r. record { rows = views r.rows.items; bounds = bound_views r.bounds.items } };
+    ghost view = { λ r. record { rows = rows_in r.text.now r.rows.items; bounds = bound_views r.bounds.items } };
 
-    ghost invariant = { λ r. IsNonDecreasingBy (λ b. b.rows) r.bounds.items };
+    ghost invariant = { λ r. IsNonDecreasingBy (λ b. b.rows) r.bounds.items × Stand r.text.now r.rows.items };
 }
 
 impl<'t> Rows<'t> {
@@ -56,7 +60,7 @@ impl<'t> Rows<'t> {
         requires { i < length self.now.rows }
         ensures { slice_get self.now.rows i ≡ Some (view result) }
     {
-        self.rows[i]
+        self.rows[i].row(self.text)
     }
 
     /// How many parts there are: one more than markers.
@@ -117,7 +121,7 @@ fn cut<'t>(alloc: Global, text: &'t str) -> Result<Rows<'t>, ReadError>
                 end,
                 marker: "",
             })?;
-            return Ok(Rows { rows, bounds });
+            return Ok(Rows { text, rows, bounds });
         }
         let (marker, next) = match read_marker(text, after) {
             Ok(line) => line,

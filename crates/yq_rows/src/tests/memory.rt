@@ -26,12 +26,12 @@ fn all_memory(alloc: Global) -> Result<Vec<Vec<u8>>, AllocError> {
 #[test]
 fn memory_is_refused_in_turn(rt: HostRuntime) -> Result<(), Fail> {
     let alloc = rt.alloc();
-    let text = "a: [b, {c: \"d\"}]\n---\n- e\n- f\n";
+    let text = "a: [b, {c: \"d\"}]\n---\n- e\n- f\n- g\n- h\n- i\n- j\n- k\n- l\n- m\n- n\n- o\n";
     let mut held = all_memory(alloc)?;
     for turn in 0..4096u32 {
         match scan(alloc, text) {
             Ok(rows) => {
-                assert_eq!(rt; rows.len(), 3);
+                assert_eq!(rt; rows.len(), 12);
                 assert!(rt; turn > 3);
                 return Ok(());
             }

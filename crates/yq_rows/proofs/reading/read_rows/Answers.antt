@@ -1,39 +1,50 @@
-use Rattle.std.proofs.Common.{◌≡◌, true, false, rules, arith, sym, ap, ◌∙◌}
+use Rattle.std.proofs.Common.{◌≡◌, true, false, rules, sym, subst, ap, ◌∙◌}
+use Rattle.std.proofs.lemmas.List.Elements.{All-push}
+use Rattle.yq_rows.specs.Offsets.{Stand, Stands, rows_in}
 use Rattle.yq_rows.specs.Reading.{ends_rows}
-use Rattle.yq_rows.specs.View.{views, limit_view}
+use Rattle.yq_rows.specs.View.{limit_view, view}
 use Rattle.yq_rows.proofs.Failing.{fails_by}
-use Rattle.yq_rows.proofs.RowLending.{cut_within, loop_init, loop_smaller, loop_step, no_row, rows_end}
+use Rattle.yq_rows.proofs.OffsetLaws.{ends_next, row_then, rows_push}
+use Rattle.yq_rows.proofs.RowLending.{at_gap, loop_smaller, loop_step, no_row, row_joined, rows_end}
 use Rattle.yq_rows.proofs.reading.read_rows.Goals as goal
 
-pub rows-init : goal.rows-init
-rows-init c = record {
-  gap_text = search rules;
-  text = search rules;
-  short = omega (arith, cut_within c.args.text.now _ _ c.split_gap.ensures, c.requires.short);
-  so_far = loop_init (views c.args.rows.items) _ c.args.text.now _ _ c.none-limit.ensures c.split_gap.ensures;
-}
+pub returns-then-ends_rows-clause-found : goal.returns-then-ends_rows-clause-found
+returns-then-ends_rows-clause-found c =
+    let front = rows_in c.args.whole.now c.rows.rows.items in
+    let done : ends_rows c.split_gap.result.1.now ≡ true = ap ends_rows (sym c.as_bytes.ensures.value) ∙ (sym c.ends_rows.ensures ∙ c.if-ends_rows.true) in
+    sym c.rows.invariant.so_far
+    ∙ (at_gap front (limit_view c.rows.limit) c.rows.at.now _ _ c.split_gap.ensures
+    ∙ rows_end front (limit_view c.rows.limit) c.split_gap.result.0.now c.split_gap.result.1.now done)
 
-pub returns-in-Err : goal.returns-in-Err
-returns-in-Err c =
-    let more : ends_rows c.rows.rest.now ≡ false = ap ends_rows (sym c.as_bytes.ensures.value) ∙ (sym c.ends_rows.ensures ∙ c.rows-test.true) in
-    fails_by c.in-Err.e _ _ c.in-Err.ensures (λ none. sym c.rows.invariant.so_far ∙ no_row (views c.rows.rows.items) (limit_view c.rows.limit) c.rows.gap.now c.rows.rest.now more none)
+pub returns-in-Err-clause-found : goal.returns-in-Err-clause-found
+returns-in-Err-clause-found c =
+    let front = rows_in c.args.whole.now c.rows.rows.items in
+    let more : ends_rows c.split_gap.result.1.now ≡ false = ap ends_rows (sym c.as_bytes.ensures.value) ∙ (sym c.ends_rows.ensures ∙ c.if-ends_rows.false) in
+    fails_by c.in-Err.e _ _ c.in-Err.ensures (λ none.
+    sym c.rows.invariant.so_far
+    ∙ (at_gap front (limit_view c.rows.limit) c.rows.at.now _ _ c.split_gap.ensures
+    ∙ no_row front (limit_view c.rows.limit) c.split_gap.result.0.now c.split_gap.result.1.now more none))
+
+pub offsets_of-requires-clause-read : goal.offsets_of-requires-clause-read
+offsets_of-requires-clause-read c =
+    (c.in-Ok.found.2.now, row_joined (limit_view c.rows.limit) (limit_view c.in-Ok.found.1) c.rows.at.now _ _ (view c.in-Ok.found.0) c.in-Ok.found.2.now c.split_gap.ensures c.in-Ok.ensures)
 
 pub rows-smaller : goal.rows-smaller
 rows-smaller c =
-    let more : ends_rows c.rows.rest.now ≡ false = ap ends_rows (sym c.as_bytes.ensures.value) ∙ (sym c.ends_rows.ensures ∙ c.rows-test.true) in
-    loop_smaller c.in-Ok.found.0 (limit_view c.rows.limit) (limit_view c.in-Ok.found.1) c.rows.gap.now c.rows.rest.now c.in-Ok.found.2.now _ _ c.split_gap-in-rows.ensures more c.in-Ok.ensures
+    let more : ends_rows c.split_gap.result.1.now ≡ false = ap ends_rows (sym c.as_bytes.ensures.value) ∙ (sym c.ends_rows.ensures ∙ c.if-ends_rows.false) in
+    loop_smaller (limit_view c.rows.limit) (limit_view c.in-Ok.found.1) c.rows.at.now _ _ (view c.in-Ok.found.0) c.in-Ok.found.2.now c.split_gap.ensures more c.in-Ok.ensures
 
 pub rows-preserved : goal.rows-preserved
 rows-preserved c =
-    let more : ends_rows c.rows.rest.now ≡ false = ap ends_rows (sym c.as_bytes.ensures.value) ∙ (sym c.ends_rows.ensures ∙ c.rows-test.true) in
+    let whole = c.args.whole.now in
+    let row = view c.in-Ok.found.0 in
+    let after = c.in-Ok.found.2.now in
+    let more : ends_rows c.split_gap.result.1.now ≡ false = ap ends_rows (sym c.as_bytes.ensures.value) ∙ (sym c.ends_rows.ensures ∙ c.if-ends_rows.false) in
+    let joined = row_joined (limit_view c.rows.limit) (limit_view c.in-Ok.found.1) c.rows.at.now _ _ row after c.split_gap.ensures c.in-Ok.ensures in
+    let pushed = rows_push whole c.rows.rows.items _ c.offsets_of.result row c.in_ok-push.ensures.items c.offsets_of.ensures.same in
     record {
-      gap_text = search rules;
       text = search rules;
-      short = omega (arith, loop_smaller c.in-Ok.found.0 (limit_view c.rows.limit) (limit_view c.in-Ok.found.1) c.rows.gap.now c.rows.rest.now c.in-Ok.found.2.now c.split_gap-in-rows.result.0.now c.split_gap-in-rows.result.1.now c.split_gap-in-rows.ensures more c.in-Ok.ensures, c.rows.invariant.short);
-      so_far = loop_step c.rows.rows.items _ c.in-Ok.found.0 (limit_view c.rows.limit) (limit_view c.in-Ok.found.1) c.rows.gap.now c.rows.rest.now c.in-Ok.found.2.now _ _ _ c.split_gap-in-rows.ensures more c.in-Ok.ensures c.in_ok-push.ensures.items c.rows.invariant.so_far;
+      ends = ends_next whole c.rows.at.now _ after c.rows.invariant.ends (joined ∙ row_then row after);
+      stand = subst (Stand whole) (sym c.in_ok-push.ensures.items) (All-push (Stands whole) c.rows.rows.items c.offsets_of.result c.rows.invariant.stand c.offsets_of.ensures.stands);
+      so_far = loop_step (rows_in whole c.rows.rows.items) _ (limit_view c.rows.limit) (limit_view c.in-Ok.found.1) c.rows.at.now _ _ row after _ c.split_gap.ensures more c.in-Ok.ensures pushed c.rows.invariant.so_far;
     }
-
-pub returns : goal.returns
-returns c =
-    let done : ends_rows c.rows.rest.now ≡ true = ap ends_rows (sym c.as_bytes.ensures.value) ∙ (sym c.ends_rows.ensures ∙ c.rows-test.false) in
-    sym c.rows.invariant.so_far ∙ rows_end (views c.rows.rows.items) (limit_view c.rows.limit) c.rows.gap.now c.rows.rest.now done

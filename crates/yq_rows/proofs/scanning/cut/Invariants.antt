@@ -1,8 +1,9 @@
-use Rattle.std.proofs.Common.{◌≡◌, ◌≤◌, length, true}
+use Rattle.std.proofs.Common.{◌≡◌, length, true}
 use Rattle.std.specs.Str.{IsUtf8}
 use Rattle.yq_rows.specs.Lending.{shown_read, parts_lent}
+use Rattle.yq_rows.specs.Offsets.{Ends, Stand, rows_in}
 use Rattle.yq_rows.specs.Reading.{all_parts}
-use Rattle.yq_rows.specs.View.{views, bound_views}
+use Rattle.yq_rows.specs.View.{bound_views}
 use Rattle.yq_rows.proofs.scanning.cut.Given as goal
 
 abbrev pub decreases-parts : goal.decreases-parts
@@ -11,6 +12,7 @@ decreases-parts l = length l.rest
 abbrev pub invariant-parts : goal.invariant-parts
 invariant-parts l = record {
   text : IsUtf8 l.rest;
-  short : length l.rest ≤ length l.text;
-  so_far : parts_lent (views l.rows.items) (bound_views l.bounds.items) (all_parts l.is_open l.rest) ≡ shown_read (all_parts true l.text);
+  ends : Ends l.rest l.text;
+  stand : Stand l.text l.rows.items;
+  so_far : parts_lent (rows_in l.text l.rows.items) (bound_views l.bounds.items) (all_parts l.is_open l.rest) ≡ shown_read (all_parts true l.text);
 }

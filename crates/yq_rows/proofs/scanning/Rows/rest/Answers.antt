@@ -8,7 +8,7 @@ use Rattle.yq_rows.proofs.scanning.Rows.rest.Goals as goal
 
 pub returns-clause-bounds : goal.returns-clause-bounds
 returns-clause-bounds c =
-    let rise : IsNonDecreasingBy (λ b. b.rows) c.as_slice-bounds.result.now = subst (IsNonDecreasingBy (λ b. b.rows)) (sym c.as_slice-bounds.ensures.value) c.self.invariant in
+    let rise : IsNonDecreasingBy (λ b. b.rows) c.as_slice-bounds.result.now = subst (IsNonDecreasingBy (λ b. b.rows)) (sym c.as_slice-bounds.ensures.value) c.self.invariant.0 in
     let all = take_rest c.as_slice-bounds.result.now c.partition_point-from.result in
     let later = subst (IsNonDecreasingBy (λ b. b.rows)) (sym all) (IsNonDecreasingBy-drop (λ b. b.rows) c.partition_point-from.result _ rise) in
     let first = IsPartitionPoint-from_clause (λ b. ltb b.rows c.args.i) _ _ c.partition_point-from.ensures.partitioned (IsPartitionedBy-ltb (λ b. b.rows) _ c.args.i rise) (λ a r q k. search rules) in

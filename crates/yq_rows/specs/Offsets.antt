@@ -1,0 +1,92 @@
+-- Reading (a reader may skip this): the rows of a text, as the code keeps them: where they begin in it, and how long their pieces are.
+use Rattle.std.specs.Prelude.{◌≡◌, ℕ, ◌+◌, ◌-◌, List, [], ◌∷◌, length, map, take, drop}
+use Rattle.std.specs.List.{All}
+use Rattle.std.specs.Str.{IsUtf8, IsCharBoundary}
+use Rattle.yq_rows.specs.View.{Slices}
+use Rattle.yq_rows.specs.declared.offsets.Offsets as declared
+
+-- a text is the end of the whole one (own)
+abbrev pub Ends : List ℕ → List ℕ → Type 0
+Ends text whole = drop (length whole - length text) whole ≡ text
+
+-- the pieces of a row, cut out of the text in which it stands (own)
+unfoldable pub slices_in : List ℕ → declared.Offsets → Slices
+slices_in whole o =
+    let gap = drop o.start whole in
+    let indent = drop o.gap gap in
+    let dashes = drop o.column indent in
+    let key = drop o.dashes dashes in
+    let colon = drop o.key key in
+    let space = drop o.colon colon in
+    let anchor = drop o.space space in
+    let apart = drop o.anchor anchor in
+    let head = drop o.apart apart in
+    let tail = drop o.head head in
+    let raw = drop o.tail tail in
+    record {
+      gap = take o.gap gap;
+      column = o.column;
+      dashes = take o.dashes dashes;
+      key = take o.key key;
+      colon = take o.colon colon;
+      space = take o.space space;
+      anchor = take o.anchor anchor;
+      apart = take o.apart apart;
+      head = take o.head head;
+      tail = take o.tail tail;
+      raw = take o.raw raw;
+      parent = o.parent;
+    }
+
+-- the same of several rows (own)
+abbrev pub rows_in : List ℕ → List declared.Offsets → List Slices
+rows_in whole offsets = map (slices_in whole) offsets
+
+-- pieces of these lengths, one behind the other, are in front of a text, each cut between characters (own)
+abbrev pub AreCuts : List ℕ → List ℕ → Type 0
+AreCuts t [] = Unit {0}
+AreCuts t (n ∷ ns) = IsCharBoundary t n × AreCuts (drop n t) ns
+
+-- what stands before a row, and its pieces, are in a text, each cut between characters (own)
+unfoldable pub Stands : List ℕ → declared.Offsets → Type 0
+Stands whole o = AreCuts whole (o.start ∷ o.gap ∷ o.column ∷ o.dashes ∷ o.key ∷ o.colon ∷ o.space ∷ o.anchor ∷ o.apart ∷ o.head ∷ o.tail ∷ o.raw ∷ [])
+
+-- the same of several rows (own)
+abbrev pub Stand : List ℕ → List declared.Offsets → Type 0
+Stand whole offsets = All (Stands whole) offsets
+
+-- The pieces of a row are characters (own).
+pub record AreTexts (s : Slices) : Type 0 where
+  pub gap : IsUtf8 s.gap
+  pub dashes : IsUtf8 s.dashes
+  pub key : IsUtf8 s.key
+  pub colon : IsUtf8 s.colon
+  pub space : IsUtf8 s.space
+  pub anchor : IsUtf8 s.anchor
+  pub apart : IsUtf8 s.apart
+  pub head : IsUtf8 s.head
+  pub tail : IsUtf8 s.tail
+  pub raw : IsUtf8 s.raw
+
+-- how long a row is (own)
+abbrev pub row_length : Slices → ℕ
+row_length s =
+    length s.gap + (s.column + (length s.dashes + (length s.key + (length s.colon + (length s.space + (length s.anchor + (length s.apart + (length s.head + (length s.tail + length s.raw)))))))))
+
+-- a row that begins behind so many bytes, by its lengths (own)
+abbrev pub offsets_of : ℕ → Slices → declared.Offsets
+offsets_of start s = record {
+  start = start;
+  gap = length s.gap;
+  column = s.column;
+  dashes = length s.dashes;
+  key = length s.key;
+  colon = length s.colon;
+  space = length s.space;
+  anchor = length s.anchor;
+  apart = length s.apart;
+  head = length s.head;
+  tail = length s.tail;
+  raw = length s.raw;
+  parent = s.parent;
+}
