@@ -1,23 +1,23 @@
 -- All documents of a text, checked.
-use Rattle.std.proofs.Common.{◌≡◌, ℕ, zero, suc, Bool, true, false, cond, ◌||◌, ◌&&◌, not, List, [], ◌∷◌, map, length, Option, Some, None, refl, sym, ap, ◌∙◌, subst}
-use Rattle.std.proofs.lemmas.Bool.{and_from, cond-true, cond-false}
+use Rattle.std.proofs.Common.{◌≡◌, ℕ, zero, suc, Bool, true, false, ◌||◌, ◌&&◌, not, List, [], ◌∷◌, map, length, Option, Some, None, refl, sym, ap, ◌∙◌, subst}
+use Rattle.std.proofs.lemmas.Bool.{and_from, cond-false}
 use Rattle.std.proofs.lemmas.List.{length-map}
 use Rattle.std.specs.List.{list_all, slice_get}
 use Rattle.yq_scalar.specs.declared.fault.ReadError.{ReadError}
 use Rattle.yq_scalar.specs.declared.fault.ReadError.TheVariants as errors
 use Rattle.yq_scalar.specs.Answers.{◌>>=◌, Fails}
-use Rattle.yq_scalar.proofs.Bools.{bind_some, guard_some}
+use Rattle.yq_scalar.proofs.Bools.{guard_some}
 use Rattle.yq_inline.proofs.Binds.{some_same}
 use Rattle.yq_rows.specs.Comments.{head_comment}
-use Rattle.yq_rows.specs.Grammar.{unlimited, begins_document, AreRows, AreParts, IsCut}
+use Rattle.yq_rows.specs.Grammar.{unlimited, begins_document, AreParts, IsCut}
 use Rattle.yq_rows.specs.Lending.{shown_read}
 use Rattle.yq_rows.specs.Reading.{scan_at}
 use Rattle.yq_rows.specs.Rows.{Part, Cut, last, marked}
 use Rattle.yq_rows.specs.View.{Shown, shown}
-use Rattle.yq_rows.proofs.ScanLaws.{scan_takes, scan_again}
+use Rattle.yq_rows.proofs.ScanLaws.{scan_again}
 use Rattle.yq_tree.specs.declared.line.Line as declared
-use Rattle.yq_tree.specs.Anchors.{names_of}
-use Rattle.yq_tree.specs.Documents.{Document, with_part, parts_from, document_parts, begins_bare, has_begin, depth_limit}
+use Rattle.yq_tree.specs.Documents.{Document, with_part, parts_from, document_parts, begins_bare, has_begin}
+use Rattle.yq_tree.specs.FlowReading.{document_flows, lines_flows}
 use Rattle.yq_tree.specs.Group.{group}
 use Rattle.yq_tree.specs.Lines.{lines_of}
 use Rattle.yq_tree.specs.LinesReading.{lines_are_sound}
@@ -101,8 +101,10 @@ lines_fail t c xs (errors.Fault k) h made f =
 abbrev Document_ : Type 0
 Document_ = List ℕ × List declared.Line
 
-held_by : (t : List ℕ) (c : Cut) (s : Shown) (ds : List Document_) → IsCut t c → s ≡ shown c → document_views ds ≡ all_lined (document_parts c) → all_documents c ≡ true → (d : Cut) → d ≡ c → IsCut t d × (s ≡ shown d) × (document_views ds ≡ all_lined (document_parts d)) × (all_documents d ≡ true)
-held_by t c s ds h rows views sound d e = subst (λ (x : Cut). IsCut t x × (s ≡ shown x) × (document_views ds ≡ all_lined (document_parts x)) × (all_documents x ≡ true)) (sym e) (h, rows, views, sound)
+held_by : (t : List ℕ) (c : Cut) (s : Shown) (ds : List Document_) → IsCut t c → s ≡ shown c → document_views ds ≡ all_lined (document_parts c) → lines_flows ds ≡ document_flows (length t) c → all_documents c ≡ true → (d : Cut) → d ≡ c →
+    IsCut t d × (s ≡ shown d) × (document_views ds ≡ all_lined (document_parts d)) × (lines_flows ds ≡ document_flows (length t) d) × (all_documents d ≡ true)
+held_by t c s ds h rows views flows sound d e =
+    subst (λ (x : Cut). IsCut t x × (s ≡ shown x) × (document_views ds ≡ all_lined (document_parts x)) × (lines_flows ds ≡ document_flows (length t) x) × (all_documents x ≡ true)) (sym e) (h, rows, views, flows, sound)
 
 both_sound : (t : List ℕ) (c : Cut) (xs zs : List Lined) → lined_parts (document_parts c) ≡ Some xs → if_all_sound xs ≡ Some zs → (all_documents c ≡ true) × (zs ≡ all_lined (document_parts c))
 both_sound t c xs zs made sound =
@@ -110,11 +112,11 @@ both_sound t c xs zs made sound =
     let k = guard_some (all_sound xs) sound in
     (all_split (document_parts c) ∙ and_from (all_fit (document_parts c)) (all_sound (all_lined (document_parts c))) g.0 (ap all_sound g.1 ∙ k.0), sym (g.1 ∙ k.1))
 
-pub holds : (t : List ℕ) (c : Cut) (s : Shown) (xs : List Lined) (ds : List Document_) → IsCut t c → s ≡ shown c → lined_parts (document_parts c) ≡ Some xs → if_all_sound xs ≡ Some (document_views ds) → Holds t s ds
-holds t c s xs ds h rows made sound =
+pub holds : (t : List ℕ) (c : Cut) (s : Shown) (xs : List Lined) (ds : List Document_) → IsCut t c → s ≡ shown c → lined_parts (document_parts c) ≡ Some xs → if_all_sound xs ≡ Some (document_views ds) → lines_flows ds ≡ document_flows (length t) c → Holds t s ds
+holds t c s xs ds h rows made sound flows =
     let b = both_sound t c xs (document_views ds) made sound in
-    let x = held_by t c s ds h rows b.1 b.0 (cut_of t) (cut_is t c h) in
-    record { cut = x.0; rows = x.1; lined = x.2; sound = x.3 }
+    let x = held_by t c s ds h rows b.1 flows b.0 (cut_of t) (cut_is t c h) in
+    record { cut = x.0; rows = x.1; lined = x.2; flows = x.3; sound = x.4 }
 
 pub text_held : (t : List ℕ) (s : Shown) (ds : List Document_) → Holds t s ds → text_at t ≡ Some (cut_of t)
 text_held t s ds h = text_again t (cut_of t) h.cut h.sound

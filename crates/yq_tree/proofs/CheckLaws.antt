@@ -1,5 +1,5 @@
 -- Documents, checked one behind the other.
-use Rattle.std.proofs.Common.{◌≡◌, ℕ, Bool, true, false, cond, ◌&&◌, List, [], ◌∷◌, ◌++◌, length, map, Some, None, refl, sym, ap, ◌∙◌, subst, arith, append_assoc, append-nil}
+use Rattle.std.proofs.Common.{◌≡◌, ℕ, cond, ◌&&◌, List, [], ◌∷◌, ◌++◌, length, Some, None, refl, sym, ap, ◌∙◌, subst, arith, append_assoc, append-nil}
 use Rattle.std.proofs.lemmas.Bool.{cond-false}
 use Rattle.std.proofs.lemmas.List.{map-append}
 use Rattle.yq_scalar.specs.declared.fault.ReadError.{ReadError}
@@ -8,6 +8,7 @@ use Rattle.yq_scalar.specs.Answers.{Fails}
 use Rattle.yq_scalar.proofs.Bools.{guard_some}
 use Rattle.yq_tree.specs.declared.line.Line as declared
 use Rattle.yq_tree.specs.declared.part_lines.PartLines.{PartLines}
+use Rattle.yq_tree.specs.FlowReading.{flows, lines_flows, parts_lines_flows}
 use Rattle.yq_tree.specs.LinesReading.{lines_are_sound}
 use Rattle.yq_tree.specs.Names.{HaveHeadsApart}
 use Rattle.yq_tree.specs.PartReading.{Lined, document_view, lined_view, lined_views}
@@ -64,3 +65,16 @@ nothing_left (x ∷ xs) h = absurd (omega (arith, h))
 
 pub checks_done : (all : List Lined) (ps : List PartLines) (docs : List Lined) → length ps ≡ 0 → LeftChecks all (lined_views ps) docs → if_all_sound all ≡ Some docs
 checks_done all ps docs none l = done_here all docs (subst (λ (x : List PartLines). LeftChecks all (lined_views x) docs) (nothing_left ps none) l)
+
+-- the aliases and flow collections in the heads of the documents so far and of the parts that are left
+pub flows_init : (all ps : List PartLines) (docs : List (List ℕ × List declared.Line)) → ps ≡ all → docs ≡ [] → lines_flows docs ++ parts_lines_flows ps ≡ parts_lines_flows all
+flows_init all ps docs same none = λ i. lines_flows (none i) ++ parts_lines_flows (same i)
+
+pub flows_step : (all ps : List PartLines) (p : PartLines) (more : List PartLines) (docs new : List (List ℕ × List declared.Line)) (d : List ℕ × List declared.Line) → ps ≡ p ∷ more → new ≡ docs ++ d ∷ [] → flows d.1 ≡ flows p.lines.items →
+    lines_flows docs ++ parts_lines_flows ps ≡ parts_lines_flows all → lines_flows new ++ parts_lines_flows more ≡ parts_lines_flows all
+flows_step all ps p more docs new d e pushed same so_far =
+    (λ i. (ap lines_flows pushed ∙ map-append (λ x. flows x.1) docs (d ∷ [])) i ++ parts_lines_flows more)
+    ∙ (append_assoc (lines_flows docs) (flows d.1 ∷ []) (parts_lines_flows more) ∙ ((λ i. lines_flows docs ++ same i ∷ parts_lines_flows more) ∙ (ap (λ x. lines_flows docs ++ parts_lines_flows x) (sym e) ∙ so_far)))
+
+pub flows_done : (all ps : List PartLines) (docs : List (List ℕ × List declared.Line)) → length ps ≡ 0 → lines_flows docs ++ parts_lines_flows ps ≡ parts_lines_flows all → lines_flows docs ≡ parts_lines_flows all
+flows_done all ps docs none so_far = sym (ap (λ x. lines_flows docs ++ parts_lines_flows x) (nothing_left ps none) ∙ append-nil (lines_flows docs)) ∙ so_far

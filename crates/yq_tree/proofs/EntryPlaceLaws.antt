@@ -1,21 +1,23 @@
 -- The places of entries and of their contents, line by line.
-use Rattle.std.proofs.Common.{◌≡◌, ℕ, zero, suc, ◌+◌, ◌-◌, ◌<◌, ◌≤◌, ltb, List, [], ◌∷◌, ◌++◌, length, drop, Option, Some, None, option_map, option_and_then, Bool, true, false, cond, not, ◌||◌, refl, sym, ap, ◌∙◌, subst, arith}
-use Rattle.std.proofs.lemmas.Bool.{ltb-false, eq-eqb, ne_eqb, cond-true, cond-false}
+use Rattle.std.proofs.Common.{◌≡◌, ℕ, zero, suc, ◌+◌, ◌-◌, ◌<◌, ◌≤◌, eqb, ltb, List, [], ◌∷◌, ◌++◌, length, drop, Option, Some, None, option_map, option_and_then, Bool, true, false, cond, not, ◌||◌, refl, sym, ap, ◌∙◌, subst, arith}
+use Rattle.std.proofs.lemmas.Bool.{ltb-false, eq-eqb, ne_eqb, cond-true, cond-false, false≢true}
 use Rattle.std.proofs.lemmas.List.{length-map}
 use Rattle.std.proofs.lemmas.Option.{slice_get_within, slice_get-map}
 use Rattle.std.specs.List.{slice_get}
 use Rattle.std.specs.Prelude.{is_some}
 use Rattle.yq_scalar.specs.Answers.{◌>>=◌}
 use Rattle.yq_scalar.specs.Paths.{Step}
+use Rattle.yq_inline.specs.Entries.{PlacedEntry, entry_place, content_place}
+use Rattle.yq_inline.specs.Places.{Placed}
 use Rattle.yq_rows.specs.Grammar.{IsCut}
 use Rattle.yq_rows.specs.Rows.{Row, Part, Cut}
 use Rattle.yq_rows.specs.View.{Slices, slices, rows_of, Shown, shown}
 use Rattle.yq_tree.specs.declared.line.Line as declared
 use Rattle.yq_tree.specs.Documents.{document_parts}
-use Rattle.yq_tree.specs.EntryPlaces.{before_line, through_row, lines_end, lines_place, head_extent, line_head, lines_content, line_content, are_left, goes_on, leads_on, untold}
-use Rattle.yq_tree.specs.EntryReading.{line_begin, first_row}
+use Rattle.yq_tree.specs.EntryPlaces.{before_line, through_row, lines_end, lines_place, head_extent, line_head, lines_content, line_content, entry_from, content_from, entry_of, content_of}
+use Rattle.yq_tree.specs.EntryReading.{line_begin, first_row, entry_within, HasFlows}
 use Rattle.yq_tree.specs.Extents.{row_start}
-use Rattle.yq_tree.specs.Group.{group}
+use Rattle.yq_tree.specs.FlowReading.{flows}
 use Rattle.yq_tree.specs.Lines.{lines_of}
 use Rattle.yq_tree.specs.Nodes.{lines_in}
 use Rattle.yq_tree.specs.Outline.{Line}
@@ -23,11 +25,12 @@ use Rattle.yq_tree.specs.PartReading.{Lined, lined, document_view, first_rows, s
 use Rattle.yq_tree.specs.Reading.{cut_of}
 use Rattle.yq_tree.specs.SeatReading.{begin_row, Numbers, numbers}
 use Rattle.yq_tree.specs.Seats.{Seat, behind_one, seat, document_row}
-use Rattle.yq_tree.specs.Places.{Found, find}
-use Rattle.yq_tree.specs.RowPaths.{found_line, line_of}
+use Rattle.yq_tree.specs.RowPaths.{reached}
 use Rattle.yq_tree.specs.SoundReading.{Holds}
 use Rattle.yq_tree.specs.Spots.{is_bare}
 use Rattle.yq_tree.proofs.EndsLaws.{has_line}
+use Rattle.yq_tree.proofs.FlowPlaceLaws.{flow_told}
+use Rattle.yq_tree.proofs.HeldFlows.{held_flows}
 use Rattle.yq_tree.proofs.RowStarts.{line_begins}
 use Rattle.yq_tree.proofs.SeatLaws.{part_begins, part_at, none_past, held_begin}
 use Rattle.yq_tree.proofs.Values.{If}
@@ -171,13 +174,14 @@ some_same : {x y : ℕ} → Some x ≡ Some y → x ≡ y
 some_same e = cc
 
 pub held_in : (t : List ℕ) (s : Shown) (ds : List Held) (i first : ℕ) (d : Held) (found : Place) (place : ℕ → Cut → List Row → Place) → Holds t s ds → slice_get ds i ≡ Some d → Some first ≡ first_row i (cut_of t) →
-    ((u : List ℕ) (c : Cut) (p : Part) (more : List Row) → IsCut u c → s ≡ shown c → lines_in d ≡ lines_of p.rows → drop first (rows_of c) ≡ p.rows ++ more → found ≡ place first c p.rows) →
+    ((u : List ℕ) (c : Cut) (p : Part) (more : List Row) → IsCut u c → s ≡ shown c → lines_in d ≡ lines_of p.rows → HasFlows first c p.rows (flows d.1) → drop first (rows_of c) ≡ p.rows ++ more → found ≡ place first c p.rows) →
     found ≡ (slice_get (document_parts (cut_of t)) i >>= λ p. place (document_row i (cut_of t)) (cut_of t) p.rows)
 held_in t s ds i first d found place h there e told =
     let part = part_at ds (document_parts (cut_of t)) h.lined i d there in
     let b = part_begins (cut_of t) i part.0 part.1 in
     let same : first ≡ document_row i (cut_of t) = some_same (e ∙ ap (λ (o : Option Part). option_map (λ p. document_row i (cut_of t)) o) part.1) in
-    told t (cut_of t) part.0 b.0 h.cut h.rows (ap (λ (x : Lined). x.1) part.2) (ap (λ (k : ℕ). drop k (rows_of (cut_of t))) same ∙ b.1)
+    let held : HasFlows first (cut_of t) part.0.rows (flows d.1) = subst (λ (k : ℕ). HasFlows k (cut_of t) part.0.rows (flows d.1)) (sym same) (held_flows t s ds i d part.0 h there part.1) in
+    told t (cut_of t) part.0 b.0 h.cut h.rows (ap (λ (x : Lined). x.1) part.2) held (ap (λ (k : ℕ). drop k (rows_of (cut_of t))) same ∙ b.1)
     ∙ (ap (λ (k : ℕ). place k (cut_of t) part.0.rows) same
     ∙ sym (ap (λ (o : Option Part). o >>= λ p. place (document_row i (cut_of t)) (cut_of t) p.rows) part.1))
 
@@ -210,15 +214,21 @@ line_some k c rs n some found within is e =
     ∙ (ap (λ (b : Bool). cond b (line_head k c rs n) (lines_content k c rs (suc n) (lines_end n (lines_of rs)))) (is there.0 there.1)
     ∙ ap (λ (o : Option Line). o >>= λ l. cond (is_some l.head) (line_head k c rs n) (lines_content k c rs (suc n) (lines_end n (lines_of rs)))) (sym there.1))
 
--- where steps lead on into a head, they lead to no line
-pub line_or_flow : (steps : List Step) (ls : List Line) (place : ℕ → Place) → (line_of steps ls >>= place) ≡ cond (leads_on steps ls) untold (line_of steps ls >>= place)
-line_or_flow [] ls place = refl
-line_or_flow (s ∷ ss) ls place = go (find s ss (group ls))
-  where
-    last : (f : Found) (ts : List Step) → (found_line f ts >>= place) ≡ cond (are_left ts) untold (found_line f ts >>= place)
-    last f [] = refl
-    last f (t ∷ ts) = refl
+-- where steps go on in the head of a line
+pub entry_left : (k : ℕ) (c : Cut) (rs : List Row) (fs : List (Option Placed)) (steps left : List Step) (n : ℕ) (found : Place) → HasFlows k c rs fs → Some (n, left) ≡ reached steps (lines_of rs) → false ≡ eqb (length left) 0 →
+    ((f : Option Placed) → slice_get fs n ≡ Some f → found ≡ option_map entry_place (entry_within left f)) → found ≡ entry_of k c rs steps
+entry_left k c rs fs steps [] n found holds e some told = absurd (false≢true (some ∙ eq-eqb 0 0 refl))
+entry_left k c rs fs steps (t ∷ ts) n found holds e some told =
+    let f = flow_told k c rs fs steps n t ts holds (sym e) in
+    told f.0 f.1 ∙ (ap (option_map entry_place) f.2 ∙ ap (λ (o : Option (ℕ × List Step)). o >>= λ x. entry_from k c rs x.0 x.1) e)
 
-    go : (o : Option (Found × List Step)) → (option_and_then (λ x. found_line x.0 x.1) o >>= place) ≡ cond (goes_on o) untold (option_and_then (λ x. found_line x.0 x.1) o >>= place)
-    go None = refl
-    go (Some x) = last x.0 x.1
+content_is : (k : ℕ) (c : Cut) (rs : List Row) (steps left : List Step) (n : ℕ) → Some (n, left) ≡ reached steps (lines_of rs) → content_from k c rs n left ≡ content_of k c rs steps
+content_is k c rs [] left n e = absurd (cc)
+content_is k c rs (s ∷ ss) left n e = ap (λ (o : Option (ℕ × List Step)). o >>= λ x. content_from k c rs x.0 x.1) e
+
+pub content_left : (k : ℕ) (c : Cut) (rs : List Row) (fs : List (Option Placed)) (steps left : List Step) (n : ℕ) (found : Place) → HasFlows k c rs fs → Some (n, left) ≡ reached steps (lines_of rs) → false ≡ eqb (length left) 0 →
+    ((f : Option Placed) → slice_get fs n ≡ Some f → found ≡ option_and_then (λ (e : PlacedEntry). content_place e.1) (entry_within left f)) → found ≡ content_of k c rs steps
+content_left k c rs fs steps [] n found holds e some told = absurd (false≢true (some ∙ eq-eqb 0 0 refl))
+content_left k c rs fs steps (t ∷ ts) n found holds e some told =
+    let f = flow_told k c rs fs steps n t ts holds (sym e) in
+    told f.0 f.1 ∙ (ap (option_and_then (λ (e : PlacedEntry). content_place e.1)) f.2 ∙ content_is k c rs steps (t ∷ ts) n e)

@@ -98,7 +98,7 @@ short_is p h =
     let broken : holds_break p ≡ false = ⊎_elim {0, 0, 0} (λ e. absurd (false≢true (sym (ap not e) ∙ (and_true _ (not (holds_break p)) h).1))) (λ e. e) (is_true (holds_break p)) in
     rw quoted (ap plain_of (one_line p broken))
 
-scalar_some_is : (n : ℤ) (p rest : List ℕ) → IsScalar false (Some (deeper n)) p rest → (is_empty p ≡ false) × (begins_block p ≡ false)
+pub scalar_some_is : (n : ℤ) (p rest : List ℕ) → IsScalar false (Some (deeper n)) p rest → (is_empty p ≡ false) × (begins_block p ≡ false)
 scalar_some_is n [] rest h = absurd (omega (arith, scalar_some false (Some (deeper n)) [] rest h))
 scalar_some_is n (b ∷ bs) rest h =
     let begins = scalar_begins false (Some (deeper n)) (b ∷ bs) rest h in
@@ -116,10 +116,10 @@ scalar_is whole n p rest ends h =
     (is_true (is_short_plain p))
 
 -- the head of a node without an anchor
-abbrev Opens : ℕ → Type 0
+abbrev pub Opens : ℕ → Type 0
 Opens b = (t : List ℕ) → (begins_block (b ∷ t) ≡ false) × (is_short_plain (b ∷ t) ≡ false)
 
-opens : (k : ℕ) → Opens (cond (eqb k 125) 123 91)
+pub opens : (k : ℕ) → Opens (cond (eqb k 125) 123 91)
 opens k = cond_both (eqb k 125) 123 91 Opens (λ _ t. (refl, refl)) (λ _ t. (refl, refl))
 
 unnamed_is : (whole : List ℕ) (n : ℤ) (node : Node) (rest : List ℕ) → is_anchored node ≡ false → EndsIn whole (node_text node rest) → IsNode false (Some (deeper n)) depth_limit node rest →
@@ -155,7 +155,7 @@ node_is whole n (coll k g is) rest ends h = written_is whole n (coll k g is) res
 node_is whole n (anchored name g node) rest ends h = written_is whole n node rest (no_anchor node h.3) ends h.4
 
 -- a block scalar's
-block_marks : (style : BlockStyle) (t : List ℕ) → begins_block (mark_of style ∷ t) ≡ true
+pub block_marks : (style : BlockStyle) (t : List ℕ) → begins_block (mark_of style ∷ t) ≡ true
 block_marks styles.Literal t = refl
 block_marks styles.Folded t = refl
 

@@ -15,7 +15,10 @@ pub mod DocumentLaws
 pub mod EndsLaws
 pub mod LineEnds
 pub mod RowStarts
+pub mod RowFlowLaws
 pub mod EntryPlaceLaws
+pub mod FlowPlaceLaws
+pub mod HeldFlows
 pub mod HeadEnds
 pub mod StartLaws
 pub mod EntryLaws
@@ -34,6 +37,7 @@ pub mod HeadsApart
 pub mod TextLaws
 pub mod ReadLaws
 pub mod RowLineLaws
+pub mod PartFlowLaws
 pub mod PartLineLaws
 pub mod LengthLaws
 pub mod LinedLaws

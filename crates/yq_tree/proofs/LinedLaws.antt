@@ -1,15 +1,17 @@
 -- The lead and the lines of a part.
-use Rattle.std.proofs.Common.{◌≡◌, ℕ, ◌+◌, ◌-◌, ◌<◌, ◌≤◌, Bool, true, false, ◌&&◌, List, [], ◌∷◌, ◌++◌, length, map, Some, None, refl, sym, ap, ◌∙◌, subst, arith}
+use Rattle.std.proofs.Common.{◌≡◌, ℕ, ◌+◌, ◌-◌, ◌<◌, ◌≤◌, Bool, true, false, ◌&&◌, List, [], ◌∷◌, ◌++◌, length, map, Option, Some, None, refl, sym, ap, ◌∙◌, subst, arith}
 use Rattle.std.proofs.lemmas.Bool.{and_from, cond-true, cond-false}
 use Rattle.yq_scalar.specs.declared.fault.ReadError.{ReadError}
 use Rattle.yq_scalar.specs.declared.fault.ReadError.TheVariants as errors
 use Rattle.yq_scalar.specs.Answers.{Fails}
 use Rattle.yq_scalar.proofs.Bools.{guard_some}
+use Rattle.yq_inline.specs.Places.{Placed}
 use Rattle.yq_rows.specs.Comments.{head_comment}
 use Rattle.yq_rows.specs.Grammar.{unlimited}
 use Rattle.yq_rows.specs.Rows.{Row, Part}
 use Rattle.yq_rows.specs.View.{Slices, slices, Bound}
 use Rattle.yq_tree.specs.Documents.{first_gap, lead_of}
+use Rattle.yq_tree.specs.FlowReading.{rows_flows, part_flows}
 use Rattle.yq_tree.specs.KeyReading.{EndsIn}
 use Rattle.yq_tree.specs.Lines.{lines_of}
 use Rattle.yq_tree.specs.Outline.{Line}
@@ -90,6 +92,11 @@ unfolding has_rows
 lined_made_by n ss b t h lead lines rest behind short lead_is told is by behind_is =
     let fits : part_fits h.part ≡ true = and_from (have_fit_keys h.part.rows) (has_short_root h.part.rows) by.0 (sym (told (has_rows n ss b t h)) ∙ is) in
     cond-true _ _ _ fits ∙ (λ i. Some ((sym lead_is i, by.1 i), sym behind_is i))
+
+-- the aliases and flow collections in the heads of its lines
+pub flows_by : (total n : ℕ) (ss : List Slices) (b : Bound) (t : List ℕ) (h : HasPart n ss b t) (fs : List (Option Placed)) → ((g : HasRows (b.rows - n) ss t) → fs ≡ rows_flows total g.rows (g.end ++ g.rest)) → fs ≡ part_flows total h.part (b.marker ++ h.behind)
+unfolding has_rows
+flows_by total n ss b t h fs made = made (has_rows n ss b t h)
 
 -- what stands behind the part ends its text
 pub behind_ends : (whole t e m r : List ℕ) → EndsIn whole t → t ≡ e ++ (m ++ r) → EndsIn whole r

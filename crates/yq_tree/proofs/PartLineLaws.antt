@@ -11,6 +11,7 @@ use Rattle.yq_scalar.proofs.Bools.{guard_some}
 use Rattle.yq_rows.specs.Grammar.{Limit, limit_after, AreRows}
 use Rattle.yq_rows.specs.Rows.{Row, rows_text}
 use Rattle.yq_rows.specs.View.{Slices, slices}
+use Rattle.yq_tree.specs.FlowReading.{row_flows, rows_flows}
 use Rattle.yq_tree.specs.KeyReading.{EndsIn}
 use Rattle.yq_tree.specs.Lines.{row_lines, lines_of}
 use Rattle.yq_tree.specs.Outline.{Line}
@@ -29,6 +30,7 @@ pub record First (n : ℕ) (ss : List Slices) (t : List ℕ) (s : Slices) (other
   pub lines : lines_of g.rows ≡ row_lines row.row ++ lines_of more.rows
   pub behind : more.end ++ more.rest ≡ g.end ++ g.rest
   pub fit : have_fit_keys g.rows ≡ (row_fits row.row && have_fit_keys more.rows)
+  pub flows : (total : ℕ) → rows_flows total g.rows (g.end ++ g.rest) ≡ row_flows total row.row row.rest ++ rows_flows total more.rows (more.end ++ more.rest)
 
 and_assoc : (a b c : Bool) → (a && (b && c)) ≡ ((a && b) && c)
 and_assoc true b c = refl
@@ -49,6 +51,7 @@ first_of n s others t (r ∷ rs) behind limit end rest count pieces text valid s
   lines = refl;
   behind = refl;
   fit = and_assoc (mark_is_fit r.mark) (content_is_fit r.content) (have_fit_keys rs);
+  flows = λ total. refl;
 }
 
 pub first : (n : ℕ) (s : Slices) (others : List Slices) (t : List ℕ) (g : HasRows n (s ∷ others) t) → 0 < n → First n (s ∷ others) t s others g

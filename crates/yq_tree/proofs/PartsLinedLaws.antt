@@ -11,6 +11,7 @@ use Rattle.yq_rows.specs.Grammar.{unlimited, AreRows, AreParts, IsCut, begins_do
 use Rattle.yq_rows.specs.Rows.{Row, Part, part_text, Cut, last, marked, cut_text}
 use Rattle.yq_rows.specs.View.{Slices, slices, Bound, rows_of, bounds_from, bounds_of, Shown, shown}
 use Rattle.yq_tree.specs.Documents.{with_part, parts_from, document_parts, has_begin, begins_bare}
+use Rattle.yq_tree.specs.FlowReading.{with_flows, part_flows, parts_flows}
 use Rattle.yq_tree.proofs.PartLineLaws.{drop_step}
 use Rattle.yq_tree.specs.PartReading.{HasPart, Lined, lined, lined_made, Marked, parts_text, parts_rows, parts_bounds, AllParts, chosen_parts, HasParts, some_begin, first_rows, if_document, all_lined, part_fits, all_fit, marked_fit, chosen_made, lined_parts}
 use Rattle.yq_tree.specs.Reading.{have_fit_keys, has_short_root}
@@ -22,6 +23,7 @@ pub record FirstPart (n : ℕ) (ss : List Slices) (b : Bound) (bs : List Bound) 
   pub more : HasParts b.rows (drop (b.rows - n) ss) bs part.behind
   pub chosen : (is : Bool) → chosen_parts is parts ≡ with_part is part.part (chosen_parts (begins_document b.marker) more.parts)
   pub fit : marked_fit parts ≡ (part_fits part.part && marked_fit more.parts)
+  pub flows : (total : ℕ) (is : Bool) → parts_flows total is parts ≡ with_flows is (part_flows total part.part (b.marker ++ part.behind)) (parts_flows total (begins_document b.marker) more.parts)
 
 bound_same : {x y : Bound} {xs ys : List Bound} → x ∷ xs ≡ y ∷ ys → x ≡ y
 bound_same h = cc
@@ -44,6 +46,7 @@ first_here n ss t p marker ps pieces text valid rest = record {
   more = record { parts = ps; pieces = rows_behind n ss p.rows (parts_rows ps) pieces; bounds = refl; text = refl; valid = rest };
   chosen = λ is. refl;
   fit = refl;
+  flows = λ total is. refl;
 }
 
 first_of : (n : ℕ) (ss : List Slices) (b : Bound) (bs : List Bound) (t : List ℕ) (parts : List Marked) → ss ≡ map slices (parts_rows parts) → b ∷ bs ≡ parts_bounds n parts → t ≡ parts_text parts → AllParts parts → FirstPart n ss b bs t parts
@@ -151,7 +154,7 @@ bounds_are : (n : ℕ) (c : Cut) → bounds_from n c ≡ parts_bounds n (parts_i
 bounds_are n (last p) = refl
 bounds_are n (marked p marker c) = ap (λ bs. record { rows = n + length p.rows; end = p.end; marker = marker } ∷ bs) (bounds_are (n + length p.rows) c)
 
-text_is : (c : Cut) → cut_text c ≡ parts_text (parts_in c)
+pub text_is : (c : Cut) → cut_text c ≡ parts_text (parts_in c)
 text_is (last p) = refl
 text_is (marked p marker c) = ap (λ t. part_text p (marker ++ t)) (text_is c)
 
@@ -171,6 +174,10 @@ cut_parts t c s h e = record {
   text = h.text ∙ text_is c;
   valid = are_all true c h.parts;
 }
+
+pub cut_parts_are : (t : List ℕ) (c : Cut) (s : Shown) (h : IsCut t c) (e : s ≡ shown c) → (cut_parts t c s h e).parts ≡ parts_in c
+unfolding cut_parts
+cut_parts_are t c s h e = refl
 
 -- whether the first part is a document
 begin_is : (n : ℕ) (c : Cut) → some_begin (bounds_from n c) ≡ has_begin c

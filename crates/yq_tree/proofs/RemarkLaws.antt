@@ -1,5 +1,5 @@
 -- The texts of comments, by where they stand.
-use Rattle.std.proofs.Common.{◌≡◌, ℕ, ◌+◌, ◌<◌, eqb, List, [], ◌∷◌, ◌++◌, length, drop, Some, None, option_map, Bool, true, false, cond, refl, sym, ap, ◌∙◌, arith}
+use Rattle.std.proofs.Common.{◌≡◌, ℕ, ◌<◌, eqb, List, [], ◌∷◌, ◌++◌, length, drop, Some, None, option_map, Bool, true, false, cond, refl, sym, ap, ◌∙◌, arith}
 use Rattle.std.proofs.lemmas.Bool.{eqb-true, cond-true, cond-false}
 use Rattle.yq_scalar.specs.Text.{cut, front, ends_line, no_white, past_white, upto, is_empty, joined, lines_of, line_len}
 use Rattle.yq_scalar.proofs.LineLaws.{joined_lines, line_step}

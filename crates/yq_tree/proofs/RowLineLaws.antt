@@ -93,10 +93,10 @@ no_comments : comments.head_comment [] ≡ []
 unfolding lines_of
 no_comments = refl
 
-abbrev finish : rows.Mark → Content → Begun → List Line × List ℕ
+abbrev pub finish : rows.Mark → Content → Begun → List Line × List ℕ
 finish m c b = (b.lines ++ mark_line (comments.head_comment b.gap) b.column m c ∷ [], b.last)
 
-dashes_are : (ns : List ℕ) (m : rows.Mark) (c : Content) (lines : List Line) (gap : List ℕ) (column : ℕ) → AreDashes ns m →
+pub dashes_are : (ns : List ℕ) (m : rows.Mark) (c : Content) (lines : List Line) (gap : List ℕ) (column : ℕ) → AreDashes ns m →
     finish m c (dashes_at lines gap column (dashes_text ns (last_dash m))) ≡ (lines ++ lines_from (comments.head_comment gap) column ns m c, last_dash m)
 unfolding dashes_at
 dashes_are [] rows.Bare c lines gap column h = refl

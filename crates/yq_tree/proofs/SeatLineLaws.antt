@@ -6,18 +6,19 @@ use Rattle.yq_rows.specs.Comments as comments
 use Rattle.yq_rows.specs.Rows as rows
 use Rattle.yq_rows.specs.Rows.{Content, Row}
 use Rattle.yq_tree.specs.Lines.{tail_of, lines_from, row_lines, lines_of}
-use Rattle.yq_tree.specs.Outline.{Line}
+use Rattle.yq_tree.specs.Outline.{Dash, Line}
 use Rattle.yq_tree.specs.Seats.{Seat, behind_one, seat}
 use Rattle.yq_tree.proofs.QuietLaws.{Quiet, quiet_content}
 use Rattle.yq_tree.proofs.Values.{If}
 
--- What is told of line n of a row: the comments above at the first, the comment in the tail at the last.
+-- What is told of line n of a row: the comments above at the first, the comment in the tail at the last; before that, lines of dashes.
 pub record IsTold (above : List (List ℕ)) (dashes : ℕ) (c : Content) (n : ℕ) (l : Line) : Type 0 where
   pub within : n ≤ dashes
   pub first : n ≡ 0 → l.head_comment ≡ above
   pub later : 0 < n → l.head_comment ≡ []
   pub last : n ≡ dashes → l.line_comment ≡ comments.line_comment (tail_of c)
   pub before : n < dashes → l.line_comment ≡ None
+  pub dash : n < dashes → (l.mark ≡ Dash) × (l.head ≡ None)
   pub head : If l.head Quiet
 
 none_above : (dashes : ℕ) (c : Content) (n : ℕ) (l : Line) → IsTold [] dashes c n l → l.head_comment ≡ []
@@ -32,10 +33,10 @@ some_same e = cc
 
 line_from : (above : List (List ℕ)) (column : ℕ) (ns : List ℕ) (m : rows.Mark) (c : Content) (n : ℕ) (l : Line) → slice_get (lines_from above column ns m c) n ≡ Some l → IsTold above (length ns) c n l
 line_from above column [] m c zero l e =
-    subst (IsTold above 0 c 0) (some_same e) (record { within = omega arith; first = λ z. refl; later = λ p. absurd (omega (arith, p)); last = λ z. refl; before = λ p. absurd (omega (arith, p)); head = quiet_content c })
+    subst (IsTold above 0 c 0) (some_same e) (record { within = omega arith; first = λ z. refl; later = λ p. absurd (omega (arith, p)); last = λ z. refl; before = λ p. absurd (omega (arith, p)); dash = λ p. absurd (omega (arith, p)); head = quiet_content c })
 line_from above column [] m c (suc n) l e = absurd (cc)
 line_from above column (k ∷ ns) m c zero l e =
-    subst (IsTold above (suc (length ns)) c 0) (some_same e) (record { within = omega arith; first = λ z. refl; later = λ p. absurd (omega (arith, p)); last = λ z. absurd (omega (arith, z)); before = λ p. refl; head = tt })
+    subst (IsTold above (suc (length ns)) c 0) (some_same e) (record { within = omega arith; first = λ z. refl; later = λ p. absurd (omega (arith, p)); last = λ z. absurd (omega (arith, z)); before = λ p. refl; dash = λ p. (refl, refl); head = tt })
 line_from above column (k ∷ ns) m c (suc n) l e =
     let h : IsTold [] (length ns) c n l = line_from [] (suc (column + k)) ns m c n l e in
     record {
@@ -44,6 +45,7 @@ line_from above column (k ∷ ns) m c (suc n) l e =
       later = λ p. none_above (length ns) c n l h;
       last = λ z. h.last (omega (arith, z));
       before = λ p. h.before (omega (arith, p));
+      dash = λ p. h.dash (omega (arith, p));
       head = h.head;
     }
 

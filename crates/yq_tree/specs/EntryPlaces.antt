@@ -1,21 +1,23 @@
--- Where entries, items and their contents stand in a text (YAML 1.2.2, 8; own).
-use Rattle.std.specs.Prelude.{ℕ, zero, suc, ◌+◌, ◌-◌, nat_lt, ◌==◌, Bool, true, false, ◌&&◌, List, [], ◌∷◌, ◌++◌, length, replicate, slice_get, take, Option, Some, None, is_some, if◌then◌else◌}
+-- Where entries, items and their contents stand in a text (YAML 1.2.2, 7.4 and 8; own).
+use Rattle.std.specs.Prelude.{ℕ, zero, suc, ◌+◌, ◌-◌, nat_lt, ◌==◌, Bool, false, ◌&&◌, List, [], ◌∷◌, ◌++◌, length, replicate, slice_get, take, Option, Some, None, is_some, option_map, option_and_then, if◌then◌else◌}
 use Rattle.yq_scalar.specs.Answers.{◌>>=◌}
 use Rattle.yq_scalar.specs.Paths.{Step}
 use Rattle.yq_scalar.specs.Text.{is_empty, is_feed, is_return, joined}
-use Rattle.yq_rows.specs.Rows.{Content, Nothing, Inline, Block, Row, dashes_text, Cut}
+use Rattle.yq_inline.specs.Entries.{PlacedEntry, placed_entry_at, entry_place, content_place}
+use Rattle.yq_inline.specs.Nodes.{Node, empty}
+use Rattle.yq_inline.specs.Places.{Placed, locate}
+use Rattle.yq_rows.specs.Exchange.{behind_row}
+use Rattle.yq_rows.specs.Rows.{Content, Nothing, Inline, Block, Row, dashes_text, Cut, cut_text}
 use Rattle.yq_rows.specs.View.{Slices, slices}
 use Rattle.yq_tree.specs.declared.path.Path.{Path}
 use Rattle.yq_tree.specs.CommentPlaces.{before_tail}
 use Rattle.yq_tree.specs.Documents.{document_parts}
 use Rattle.yq_tree.specs.Extents.{head_place}
-use Rattle.yq_tree.specs.Group.{group}
-use Rattle.yq_tree.specs.Lines.{lines_of}
+use Rattle.yq_tree.specs.Lines.{tail_of, lines_of}
 use Rattle.yq_tree.specs.Located.{steps_of}
 use Rattle.yq_tree.specs.Outline.{Line, level}
 use Rattle.yq_tree.specs.Passages.{before_row}
-use Rattle.yq_tree.specs.Places.{Found, find}
-use Rattle.yq_tree.specs.RowPaths.{line_of}
+use Rattle.yq_tree.specs.RowPaths.{reached}
 use Rattle.yq_tree.specs.Seats.{seat, document_row}
 use Rattle.yq_tree.specs.Spots.{is_bare}
 
@@ -86,33 +88,38 @@ lines_content k c rs from to =
 abbrev pub line_content : ℕ → Cut → List Row → ℕ → Option (ℕ × ℕ)
 line_content k c rs n = slice_get (lines_of rs) n >>= λ l. if is_some l.head then line_head k c rs n else lines_content k c rs (suc n) (lines_end n (lines_of rs))
 
--- whether any steps are left (own)
-abbrev pub are_left : List Step → Bool
-are_left [] = false
-are_left (s ∷ ss) = true
+-- the inline node behind a row's mark, or nothing where there is none (7, 8.2)
+abbrev pub inline_node : Content → Node
+inline_node (Nothing tail) = empty
+inline_node (Inline space node tail) = node
+inline_node (Block space anchor block) = empty
 
--- whether steps go on behind a line that was found, in its head (own)
-abbrev pub goes_on : Option (Found × List Step) → Bool
-goes_on None = false
-goes_on (Some x) = are_left x.1
+-- the same of row i of a cut, with the places of its parts in the cut's text (own)
+abbrev pub placed_inline : ℕ → Row → Cut → Placed
+placed_inline i r c = locate (length (cut_text c)) (inline_node r.content) (tail_of r.content ++ behind_row i c)
 
--- whether steps lead on into a head: an item or entry in flow, or nothing (own)
-abbrev pub leads_on : List Step → List Line → Bool
-leads_on [] ls = false
-leads_on (s ∷ ss) ls = goes_on (find s ss (group ls))
+-- the item or entry to which steps lead in the head of line n of rows, before which k rows of a cut stand (7.4)
+abbrev pub flow_entry : ℕ → Cut → List Row → ℕ → List Step → Option PlacedEntry
+flow_entry k c rs n steps = seat n rs >>= λ s. placed_entry_at steps (None, placed_inline (k + s.before) s.row c)
 
--- no place: those of entries, items and contents in flow aren't told yet (own)
-abbrev pub untold : Option (ℕ × ℕ)
-untold = None
+-- the place of the entry or item of line n, or where steps are left, of the one to which they lead in the line's head (own)
+abbrev pub entry_from : ℕ → Cut → List Row → ℕ → List Step → Option (ℕ × ℕ)
+entry_from k c rs n [] = line_entry k c rs n
+entry_from k c rs n (s ∷ ss) = option_map entry_place (flow_entry k c rs n (s ∷ ss))
+
+-- the place of the node of line n, or where steps are left, of the one to which they lead in the line's head (own)
+abbrev pub content_from : ℕ → Cut → List Row → ℕ → List Step → Option (ℕ × ℕ)
+content_from k c rs n [] = line_content k c rs n
+content_from k c rs n (s ∷ ss) = option_and_then (λ e. content_place e.1) (flow_entry k c rs n (s ∷ ss))
 
 -- the place of the entry or item to which steps lead among rows; the root is none (own)
 abbrev pub entry_of : ℕ → Cut → List Row → List Step → Option (ℕ × ℕ)
-entry_of k c rs steps = if leads_on steps (lines_of rs) then untold else (line_of steps (lines_of rs) >>= line_entry k c rs)
+entry_of k c rs steps = reached steps (lines_of rs) >>= λ x. entry_from k c rs x.0 x.1
 
 -- the place of the node to which steps lead among rows (own)
 abbrev pub content_of : ℕ → Cut → List Row → List Step → Option (ℕ × ℕ)
 content_of k c rs [] = lines_content k c rs 0 (length (lines_of rs))
-content_of k c rs (s ∷ ss) = if leads_on (s ∷ ss) (lines_of rs) then untold else (line_of (s ∷ ss) (lines_of rs) >>= line_content k c rs)
+content_of k c rs (s ∷ ss) = reached (s ∷ ss) (lines_of rs) >>= λ x. content_from k c rs x.0 x.1
 
 -- the place of the entry or item at a path (own)
 abbrev pub entry_at : Path → Cut → Option (ℕ × ℕ)

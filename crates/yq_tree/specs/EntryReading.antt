@@ -1,12 +1,18 @@
 -- Reading (a reader may skip this): where the lines of rows begin and end, by the pieces of rows.
-use Rattle.std.specs.Prelude.{ℕ, suc, ◌+◌, ◌-◌, ◌==◌, List, [], ◌∷◌, length, Option, option_map, slice_get, if◌then◌else◌}
-use Rattle.yq_rows.specs.Rows.{Cut}
+use Rattle.std.specs.Prelude.{◌≡◌, ℕ, suc, ◌+◌, ◌-◌, ◌==◌, List, [], ◌∷◌, length, Option, Some, None, option_map, slice_get, if◌then◌else◌}
+use Rattle.yq_scalar.specs.Answers.{◌>>=◌}
+use Rattle.yq_scalar.specs.Paths.{Step}
+use Rattle.yq_inline.specs.Entries.{PlacedEntry, placed_entry_at}
+use Rattle.yq_inline.specs.Places.{Placed}
+use Rattle.yq_rows.specs.Exchange.{behind_row}
+use Rattle.yq_rows.specs.Rows.{Row, Cut, cut_text}
 use Rattle.yq_rows.specs.View.{Slices}
 use Rattle.yq_tree.specs.Documents.{document_parts}
 use Rattle.yq_tree.specs.EntryPlaces.{ending}
 use Rattle.yq_tree.specs.Extents.{front_length}
+use Rattle.yq_tree.specs.FlowReading.{row_flow}
 use Rattle.yq_tree.specs.RowReading.{begins_block}
-use Rattle.yq_tree.specs.Seats.{document_row}
+use Rattle.yq_tree.specs.Seats.{Seat, seat, document_row}
 
 -- how far it is to the dash before which k others stand, or to the end (own)
 unfoldable pub dash_at : ℕ → List ℕ → ℕ
@@ -32,3 +38,11 @@ head_finish end s = if begins_block s.head then end + length s.tail + length s.r
 -- how many rows stand before document n, if there is one (own)
 abbrev pub first_row : ℕ → Cut → Option ℕ
 first_row n c = option_map (λ p. document_row n c) (slice_get (document_parts c) n)
+
+-- the item or entry to which steps lead in an alias or flow collection, if there is one (own)
+abbrev pub entry_within : List Step → Option Placed → Option PlacedEntry
+entry_within steps flow = flow >>= λ p. placed_entry_at steps (None, p)
+
+-- line by line, these are the aliases and flow collections in the heads of rows, before which k rows of a cut stand (own)
+abbrev pub HasFlows : ℕ → Cut → List Row → List (Option Placed) → Type 0
+HasFlows k c rs fs = (n : ℕ) (s : Seat) → seat n rs ≡ Some s → s.line ≡ length s.row.dashes → slice_get fs n ≡ Some (row_flow (length (cut_text c)) s.row (behind_row (k + s.before) c))

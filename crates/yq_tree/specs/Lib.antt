@@ -31,6 +31,7 @@ pub mod Ends
 pub mod Extents
 pub mod EntryPlaces
 pub mod EntryReading
+pub mod FlowReading
 pub mod Names
 pub mod LinesReading
 pub mod Nodes

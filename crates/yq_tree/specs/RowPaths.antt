@@ -39,6 +39,11 @@ abbrev pub line_of : List Step → List Line → Option ℕ
 line_of [] ls = None
 line_of (s ∷ ss) ls = option_and_then (λ x. found_line x.0 x.1) (find s ss (group ls))
 
+-- the line to which steps lead, by its index, and the steps that go on in its head; the root has none
+abbrev pub reached : List Step → List Line → Option (ℕ × List Step)
+reached [] ls = None
+reached (s ∷ ss) ls = option_map (λ x. (length (lines_before x.0.place), x.1)) (find s ss (group ls))
+
 -- whether no lines are under a line that was found
 abbrev pub has_none_under : Option (Found × List Step) → Bool
 has_none_under None = false

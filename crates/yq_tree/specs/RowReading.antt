@@ -1,5 +1,5 @@
 -- Reading (a reader may skip this: the grammar is what is believed, and found and only tie the two): the lines of a row by its pieces.
-use Rattle.std.specs.Prelude.{◌≡◌, ℕ, suc, ◌-◌, ◌==◌, Bool, false, ◌||◌, ◌&&◌, not, List, [], ◌∷◌, ◌++◌, length, drop, Option, Some, None, if◌then◌else◌, ℤ}
+use Rattle.std.specs.Prelude.{◌≡◌, ℕ, suc, ◌-◌, ◌==◌, Bool, ◌||◌, ◌&&◌, not, List, [], ◌∷◌, ◌++◌, length, drop, Option, Some, None, if◌then◌else◌, ℤ}
 use Rattle.yq_scalar.specs.declared.kind.Kind.TheVariants.{Text}
 use Rattle.yq_scalar.specs.declared.style.Place.TheVariants as places
 use Rattle.yq_scalar.specs.Answers.{◌>>=◌}

@@ -1,9 +1,10 @@
 -- Reading (a reader may skip this: the grammar is what is believed, and found and only tie the two): what is asked of the lines of all documents.
-use Rattle.std.specs.Prelude.{◌≡◌, List, [], ◌∷◌, map, Bool, true, ◌&&◌, Option, Some, None, if◌then◌else◌, ℕ, ⊤}
+use Rattle.std.specs.Prelude.{◌≡◌, List, [], ◌∷◌, map, Bool, true, ◌&&◌, Option, Some, None, if◌then◌else◌, ℕ, length, ⊤}
 use Rattle.yq_rows.specs.Grammar.{IsCut}
 use Rattle.yq_rows.specs.View.{Shown, shown}
 use Rattle.yq_tree.specs.declared.line.Line as declared
 use Rattle.yq_tree.specs.Documents.{document_parts}
+use Rattle.yq_tree.specs.FlowReading.{document_flows, lines_flows}
 use Rattle.yq_tree.specs.LinesReading.{lines_are_sound}
 use Rattle.yq_tree.specs.Names.{HaveHeadsApart}
 use Rattle.yq_tree.specs.PartReading.{Lined, document_view, all_lined}
@@ -31,9 +32,10 @@ AllApart (x ∷ xs) = HaveHeadsApart x.1 × AllApart xs
 abbrev pub document_views : List (List ℕ × List declared.Line) → List Lined
 document_views ds = map document_view ds
 
--- What the documents of the code hold: the pieces of a text's cut, and the leads and lines of its documents, each of which is one (own).
+-- What the documents of the code hold: the pieces of a text's cut, and the leads and lines of its documents, each of which is one, with the aliases and flow collections in their heads (own).
 pub record Holds (t : List ℕ) (s : Shown) (ds : List (List ℕ × List declared.Line)) : Type 0 where
   pub cut : IsCut t (cut_of t)
   pub rows : s ≡ shown (cut_of t)
   pub lined : document_views ds ≡ all_lined (document_parts (cut_of t))
+  pub flows : lines_flows ds ≡ document_flows (length t) (cut_of t)
   pub sound : all_documents (cut_of t) ≡ true

@@ -1,11 +1,15 @@
 -- Reading (a reader may skip this: the grammar is what is believed, and found and only tie the two): where a step leads among lines, by their indexes.
-use Rattle.std.specs.Prelude.{ℕ, ◌+◌, List, [], ◌∷◌, length, slice_get, Option, Some, None, option_map, option_and_then, Bool, true, false}
+use Rattle.std.specs.Prelude.{ℕ, ◌+◌, List, [], ◌∷◌, length, map, slice_get, Option, Some, None, option_map, option_and_then, Bool, true, false}
+use denote.Bor.{Bor}
+use Rattle.yq_inline.specs.declared.path.Step as declared
+use Rattle.yq_inline.specs.Entries.{step_of}
 use Rattle.yq_scalar.specs.Paths.{Step}
 use Rattle.yq_scalar.specs.Tree.{Node}
+use Rattle.yq_tree.specs.declared.line_at.Next.{Next}
+use Rattle.yq_tree.specs.declared.line_at.Next.TheVariants as next
 use Rattle.yq_tree.specs.Ends.{part}
 use Rattle.yq_tree.specs.Outline.{Mark, Bare, Key, Dash, Line, level, Outline, end, row}
 use Rattle.yq_tree.specs.Places.{lines_before, Found, find}
-use Rattle.yq_tree.specs.RowPaths.{found_line}
 
 -- where a line stands that was found among those from a place on, with those under it (own)
 abbrev pub spot : ℕ → Option Found → Option (ℕ × Line × Outline)
@@ -27,21 +31,36 @@ abbrev pub begins_bare : Outline → Bool
 begins_bare end = false
 begins_bare (row l u a) = is_bare l.mark
 
--- the line to which steps lead among those from one on that are deeper than a level, where none go on in a head (own)
-abbrev pub line_from : List Line → ℕ → ℕ → Step → List Step → Option ℕ
-line_from ls first floor s ss = option_map (λ i. first + i) (option_and_then (λ x. found_line x.0 x.1) (find s ss (part ls first floor)))
+-- where steps lead among the lines from one on that are deeper than a level: to a line, by its index, and on in its head (own)
+abbrev pub reach_in : List Line → ℕ → ℕ → Step → List Step → Option (ℕ × List Step)
+reach_in ls first floor s ss = option_map (λ x. (first + length (lines_before x.0.place), x.1)) (find s ss (part ls first floor))
 
--- a line, if there is no head (own)
-abbrev pub unless_head : Option Node → Option ℕ → Option ℕ
-unless_head None i = i
-unless_head (Some n) i = None
+-- the first where there is a head, else the second (own)
+abbrev pub if_head : Option Node → Option (ℕ × List Step) → Option (ℕ × List Step) → Option (ℕ × List Step)
+if_head None x y = y
+if_head (Some n) x y = x
 
--- the line to which steps lead under a line (own)
-abbrev pub line_under : List Line → ℕ → Step → List Step → Line → Option ℕ
-line_under ls i s ss l = unless_head l.head (line_from ls (i + 1) (level l) s ss)
+-- where steps lead from a line: on in its head, or under it (own)
+abbrev pub reach_under : List Line → ℕ → Step → List Step → Line → Option (ℕ × List Step)
+reach_under ls i s ss l = if_head l.head (Some (i, s ∷ ss)) (reach_in ls (i + 1) (level l) s ss)
 
--- the line to which steps lead from a line, by its index, or from the root (own)
-abbrev pub from_line : List Line → Option ℕ → List Step → Option ℕ
-from_line ls found [] = found
-from_line ls None (s ∷ ss) = line_from ls 0 0 s ss
-from_line ls (Some i) (s ∷ ss) = option_and_then (line_under ls i s ss) (slice_get ls i)
+-- where steps lead from a line, by its index, or from the root (own)
+abbrev pub reach_from : List Line → Option ℕ → List Step → Option (ℕ × List Step)
+reach_from ls None [] = None
+reach_from ls None (s ∷ ss) = reach_in ls 0 0 s ss
+reach_from ls (Some i) [] = Some (i, [])
+reach_from ls (Some i) (s ∷ ss) = option_and_then (reach_under ls i s ss) (slice_get ls i)
+
+-- where steps lead whose first one leads there (own)
+abbrev pub reach_next : List Line → Step → List Step → Next → Option (ℕ × List Step)
+reach_next ls s ss (next.Line i) = reach_from ls (Some i) ss
+reach_next ls s ss (next.Head i) = Some (i, s ∷ ss)
+
+-- the number of the line where a step leads (own)
+abbrev pub next_line : Next → ℕ
+next_line (next.Line i) = i
+next_line (next.Head i) = i
+
+-- where the code's steps lead, and on (own)
+abbrev pub reached_view : ℕ × Bor (List declared.Step) → ℕ × List Step
+reached_view x = (x.0, map step_of x.1.now)

@@ -53,15 +53,11 @@ fn alone_in(rows: &Rows<'_>, lines: &Lined<'_>, steps: &[Step]) -> Option<Span>
     requires { IsShown rows.now }
     ensures { (t : List ℕ) (c : Cut) → IsCut t c → rows.now ≡ shown c → lines_in lines.now ≡ lines_of (rows_of c) → is_fine (group (lines_of (rows_of c))) ≡ true → option_map span result ≡ option_map scalar_span (spec.alone_in (map step_of steps.now) c) }
 {
-    let Some(line) = lines.line_at(steps) else {
-        return None;
-    };
+    let line = lines.line_at(steps)?;
     if !lines.has_under(line) {
         return None;
     }
-    let Some(row) = line_row(rows, line) else {
-        return None;
-    };
+    let row = line_row(rows, line)?;
     bare_place(rows, row)
 }
 
@@ -84,9 +80,7 @@ impl<'t> Documents<'t> {
         ensures { option_map told result ≡ option_map telling (spec.alone_at (map step_of steps.now) (cut_of self.now)) }
     {
         let whole = self.whole();
-        let Some(span) = self.alone_at(steps) else {
-            return None;
-        };
+        let span = self.alone_at(steps)?;
         self.scalar_from(whole, steps, span)
     }
 }

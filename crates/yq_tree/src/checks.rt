@@ -1,6 +1,7 @@
 //! Documents, each checked by its lines.
-ghost use Rattle.std.specs.Prelude.{Some};
+ghost use Rattle.std.specs.Prelude.{◌≡◌, IfOk, Some};
 ghost use Rattle.yq_scalar.specs.Answers.{Gives};
+ghost use Rattle.yq_tree.specs.FlowReading as flow;
 ghost use Rattle.yq_tree.specs.Names.{HaveHeadsApart};
 ghost use Rattle.yq_tree.specs.PartReading.{document_view, lined_view, lined_views};
 ghost use Rattle.yq_tree.specs.SoundReading as spec;
@@ -22,7 +23,8 @@ fn check_part<'t>(
     part: PartLines<'t>,
 ) -> Result<Lined<'t>, ReadError>
     requires { HaveHeadsApart (views part.lines.items) }
-    ensures { Gives document_view result (spec.if_sound (lined_view part.entry)) }
+    ensures lines { Gives document_view result (spec.if_sound (lined_view part.entry)) }
+    ensures flows { IfOk result (λ d. flow.flows d.1 ≡ flow.flows part.entry.lines.items) }
 {
     let document = Lined::new(alloc, part)?;
     match lines_fault(alloc, &document)? {
@@ -38,7 +40,8 @@ pub(crate) fn check_parts<'t>(
     parts: Vec<PartLines<'t>>,
 ) -> Result<Vec<Lined<'t>>, ReadError>
     requires { spec.AllApart (lined_views parts.items) }
-    ensures { Gives (λ d. spec.document_views d.items) result (spec.if_all_sound (lined_views parts.entry.items)) }
+    ensures lines { Gives (λ d. spec.document_views d.items) result (spec.if_all_sound (lined_views parts.entry.items)) }
+    ensures flows { IfOk result (λ d. flow.lines_flows d.items ≡ flow.parts_lines_flows parts.entry.items) }
 {
     let mut documents = Vec::with_capacity(alloc, parts.len())?;
     'parts: for part in parts {

@@ -77,9 +77,7 @@ impl Documents<'_> {
     pub(crate) fn line_comment_place(&self, path: &Path) -> Option<Span>
         ensures { option_map span result ≡ places.line_comment_at path.now (cut_of self.now) }
     {
-        let Some(seat) = self.seat(path) else {
-            return None;
-        };
+        let seat = self.seat(path)?;
         line_comment_in(&self.rows, seat)
     }
 
@@ -87,9 +85,7 @@ impl Documents<'_> {
     pub(crate) fn head_comment_place(&self, path: &Path) -> Option<Span>
         ensures { option_map span result ≡ places.head_comment_at path.now (cut_of self.now) }
     {
-        let Some(seat) = self.seat(path) else {
-            return None;
-        };
+        let seat = self.seat(path)?;
         head_comment_in(&self.rows, seat)
     }
 }

@@ -1,9 +1,10 @@
 //! The texts that keys and scalars stand for.
-ghost use Rattle.std.specs.Prelude.{◌≡◌, IfOk, Some, true};
+ghost use Rattle.std.specs.Prelude.{◌≡◌, IfOk, None, Some, true};
 ghost use Rattle.yq_scalar.specs.Quoted.{IsQuotedText};
 ghost use Rattle.yq_scalar.specs.Scalar.{plain_of};
 ghost use Rattle.yq_inline.specs.Scalars as scalars;
 ghost use Rattle.yq_inline.specs.Trees.{scalar_node};
+ghost use Rattle.yq_tree.specs.FlowReading.{head_flow};
 ghost use Rattle.yq_tree.specs.View.{content_view, head_view};
 
 use crate::line::{Content, Head};
@@ -32,7 +33,8 @@ pub(crate) fn content_of<'t>(alloc: Global, piece: &'t str) -> Result<Content<'t
 
 /// The head that a plain scalar on one line is.
 pub(crate) fn plain_head(text: &str) -> Head<'_>
-    ensures { head_view result ≡ Some (scalar_node (plain_of text.now)) }
+    ensures view { head_view result ≡ Some (scalar_node (plain_of text.now)) }
+    ensures flow { head_flow result ≡ None }
 {
     match resolve(text) {
         Kind::Null => Head::Scalar(Kind::Null, Content::Slice("null")),

@@ -5,7 +5,9 @@ ghost use Rattle.yq_rows.specs.Grammar.{IsCut};
 ghost use Rattle.yq_rows.specs.Rows.{Cut, Part, Row as RowOf};
 ghost use Rattle.yq_rows.specs.View.{rows_of, shown};
 ghost use Rattle.yq_tree.specs.EntryPlaces as spec;
+ghost use Rattle.yq_tree.specs.EntryReading.{HasFlows};
 ghost use Rattle.yq_tree.specs.Extents.{IsShown, span};
+ghost use Rattle.yq_tree.specs.FlowReading.{flows};
 ghost use Rattle.yq_tree.specs.Lines.{lines_of};
 ghost use Rattle.yq_tree.specs.Nodes.{lines_in};
 ghost use Rattle.yq_tree.specs.Reading.{cut_of};
@@ -23,9 +25,7 @@ fn line_head(rows: &Rows<'_>, first: usize, line: usize) -> Option<Span>
     requires { IsShown rows.now }
     ensures { (t : List ℕ) (c : Cut) (p : Part) (more : List RowOf) → IsCut t c → rows.now ≡ shown c → drop first (rows_of c) ≡ p.rows ++ more → line < length (lines_of p.rows) → option_map span result ≡ spec.line_head first c p.rows line }
 {
-    let Some(seat) = line_seat(rows, first, line) else {
-        return None;
-    };
+    let seat = line_seat(rows, first, line)?;
     Some(head_extent(rows, seat.row))
 }
 
@@ -69,15 +69,17 @@ fn line_content(rows: &Rows<'_>, first: usize, lines: &Lined<'_>, line: usize) -
 /// The place of the node to which steps lead.
 fn content_of(rows: &Rows<'_>, first: usize, lines: &Lined<'_>, steps: &[Step]) -> Option<Span>
     requires { IsShown rows.now }
-    ensures { (t : List ℕ) (c : Cut) (p : Part) (more : List RowOf) → IsCut t c → rows.now ≡ shown c → lines_in lines.now ≡ lines_of p.rows → drop first (rows_of c) ≡ p.rows ++ more → option_map span result ≡ spec.content_of first c p.rows (map step_of steps.now) }
+    ensures { (t : List ℕ) (c : Cut) (p : Part) (more : List RowOf) → IsCut t c → rows.now ≡ shown c → lines_in lines.now ≡ lines_of p.rows → HasFlows first c p.rows (flows lines.now.1) → drop first (rows_of c) ≡ p.rows ++ more → option_map span result ≡ spec.content_of first c p.rows (map step_of steps.now) }
 {
     if steps.is_empty() {
         return lines_content(rows, first, lines, 0, lines.count());
     }
-    let Some(line) = lines.line_at(steps) else {
-        return None;
-    };
-    line_content(rows, first, lines, line)
+    let (line, left) = lines.reach(steps)?;
+    if left.is_empty() {
+        line_content(rows, first, lines, line)
+    } else {
+        lines.flow_content(line, left)
+    }
 }
 
 impl Documents<'_> {
@@ -85,9 +87,7 @@ impl Documents<'_> {
     pub(crate) fn content_place(&self, path: &Path) -> Option<Span>
         ensures { option_map span result ≡ spec.content_at path.now (cut_of self.now) }
     {
-        let Some(first) = self.first_row(path.doc) else {
-            return None;
-        };
+        let first = self.first_row(path.doc)?;
         content_of(&self.rows, first, &self.documents[path.doc], &path.steps)
     }
 }

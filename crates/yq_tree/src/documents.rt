@@ -1,11 +1,12 @@
 //! The documents of a text, as lines.
-ghost use Rattle.std.specs.Prelude.{◌≡◌, ◌<◌, ◌^◌, ◌++◌, ◌||◌, not, length, IfOk, Some};
+ghost use Rattle.std.specs.Prelude.{◌≡◌, ◌<◌, ◌^◌, ◌++◌, ◌||◌, not, length, [], IfOk, Some};
 ghost use Rattle.yq_scalar.specs.Answers.{Gives};
 ghost use Rattle.yq_rows.specs.Grammar as grammar;
 ghost use Rattle.yq_rows.specs.Grammar.{IsCut};
 ghost use Rattle.yq_rows.specs.Rows.{Cut};
 ghost use Rattle.yq_rows.specs.View.{shown};
 ghost use Rattle.yq_tree.specs.Documents.{document_parts};
+ghost use Rattle.yq_tree.specs.FlowReading as flow;
 ghost use Rattle.yq_tree.specs.PartReading as spec;
 
 use crate::part_lines::{PartLines, lined_part};
@@ -57,7 +58,8 @@ fn push_document<'t>(
     is_document: bool,
     part: PartLines<'t>,
 ) -> Result<Vec<PartLines<'t>>, AllocError>
-    ensures { IfOk result (λ d. spec.lined_views d.items ≡ spec.lined_views documents.entry.items ++ spec.if_document is_document (spec.lined_view part.entry)) }
+    ensures lines { IfOk result (λ d. spec.lined_views d.items ≡ spec.lined_views documents.entry.items ++ spec.if_document is_document (spec.lined_view part.entry)) }
+    ensures flows { IfOk result (λ d. flow.parts_lines_flows d.items ≡ flow.parts_lines_flows documents.entry.items ++ flow.with_flows is_document (flow.flows part.entry.lines.items) []) }
 {
     let mut documents = documents;
     if is_document {
@@ -75,7 +77,8 @@ fn chosen_lines<'t>(
 ) -> Result<Vec<PartLines<'t>>, ReadError>
     requires small { length text.now < 2 ^ 32 }
     requires parts { spec.HasParts 0 rows.now.rows rows.now.bounds text.now }
-    ensures { (h : spec.HasParts 0 rows.now.rows rows.now.bounds text.now) → Gives (λ d. spec.lined_views d.items) result (spec.chosen_made first h.parts) }
+    ensures lines { (h : spec.HasParts 0 rows.now.rows rows.now.bounds text.now) → Gives (λ d. spec.lined_views d.items) result (spec.chosen_made first h.parts) }
+    ensures flows { (h : spec.HasParts 0 rows.now.rows rows.now.bounds text.now) → IfOk result (λ d. flow.parts_lines_flows d.items ≡ flow.parts_flows (length text.now) first h.parts) }
 {
     let mut documents = Vec::new(alloc);
     let mut is_document = first;
@@ -106,7 +109,8 @@ pub(crate) fn document_lines<'t>(
     requires { (c : Cut) × IsCut text.now c × (rows.now ≡ shown c) }
     // The documents are those of the text, with their leads and lines, and a fault comes exactly where
     // their rows aren't fit.
-    ensures { (c : Cut) → IsCut text.now c → rows.now ≡ shown c → Gives (λ d. spec.lined_views d.items) result (spec.lined_parts (document_parts c)) }
+    ensures lines { (c : Cut) → IsCut text.now c → rows.now ≡ shown c → Gives (λ d. spec.lined_views d.items) result (spec.lined_parts (document_parts c)) }
+    ensures flows { (c : Cut) → IsCut text.now c → rows.now ≡ shown c → IfOk result (λ d. flow.parts_lines_flows d.items ≡ flow.document_flows (length text.now) c) }
 {
     chosen_lines(alloc, text, rows, first_is_document(rows))
 }

@@ -46,15 +46,11 @@ fn empty_in(rows: &Rows<'_>, lines: &Lined<'_>, steps: &[Step]) -> Option<usize>
     requires { IsShown rows.now }
     ensures { (t : List ℕ) (c : Cut) → IsCut t c → rows.now ≡ shown c → lines_in lines.now ≡ lines_of (rows_of c) → is_fine (group (lines_of (rows_of c))) ≡ true → result ≡ option_map place_start (spec.empty_in (map step_of steps.now) c) }
 {
-    let Some(line) = lines.line_at(steps) else {
-        return None;
-    };
+    let line = lines.line_at(steps)?;
     if lines.has_under(line) {
         return None;
     }
-    let Some(row) = line_row(rows, line) else {
-        return None;
-    };
+    let row = line_row(rows, line)?;
     row_place(rows, row)
 }
 

@@ -1,11 +1,13 @@
 //! Where entries, items and their contents stand.
-ghost use Rattle.std.specs.Prelude.{◌≡◌, ◌<◌, ◌≤◌, ◌++◌, ℕ, List, drop, length, map, option_map, IfSome};
+ghost use Rattle.std.specs.Prelude.{◌≡◌, ◌<◌, ◌++◌, ℕ, List, drop, length, map, option_map, IfSome};
 ghost use Rattle.yq_inline.specs.Entries.{step_of};
 ghost use Rattle.yq_rows.specs.Grammar.{IsCut};
 ghost use Rattle.yq_rows.specs.Rows.{Cut, Part, Row as RowOf};
 ghost use Rattle.yq_rows.specs.View.{rows_of, shown};
 ghost use Rattle.yq_tree.specs.EntryPlaces as spec;
+ghost use Rattle.yq_tree.specs.EntryReading.{HasFlows};
 ghost use Rattle.yq_tree.specs.Extents.{IsShown, span};
+ghost use Rattle.yq_tree.specs.FlowReading.{flows};
 ghost use Rattle.yq_tree.specs.Lines.{lines_of};
 ghost use Rattle.yq_tree.specs.Nodes.{lines_in};
 ghost use Rattle.yq_tree.specs.Reading.{cut_of};
@@ -33,12 +35,8 @@ pub(crate) fn lines_place(rows: &Rows<'_>, first: usize, from: usize, to: usize)
     requires { IsShown rows.now }
     ensures { (t : List ℕ) (c : Cut) (p : Part) (more : List RowOf) → IsCut t c → rows.now ≡ shown c → drop first (rows_of c) ≡ p.rows ++ more → from < length (lines_of p.rows) → to < length (lines_of p.rows) → option_map span result ≡ spec.lines_place first c p.rows from to }
 {
-    let Some(begin) = line_seat(rows, first, from) else {
-        return None;
-    };
-    let Some(last) = line_seat(rows, first, to) else {
-        return None;
-    };
+    let begin = line_seat(rows, first, from)?;
+    let last = line_seat(rows, first, to)?;
     Some(Span {
         start: line_start(rows, begin),
         end: row_end(rows, last.row),
@@ -57,12 +55,14 @@ fn line_entry(rows: &Rows<'_>, first: usize, lines: &Lined<'_>, line: usize) -> 
 /// The place of the entry or item to which steps lead.
 fn entry_of(rows: &Rows<'_>, first: usize, lines: &Lined<'_>, steps: &[Step]) -> Option<Span>
     requires { IsShown rows.now }
-    ensures { (t : List ℕ) (c : Cut) (p : Part) (more : List RowOf) → IsCut t c → rows.now ≡ shown c → lines_in lines.now ≡ lines_of p.rows → drop first (rows_of c) ≡ p.rows ++ more → option_map span result ≡ spec.entry_of first c p.rows (map step_of steps.now) }
+    ensures { (t : List ℕ) (c : Cut) (p : Part) (more : List RowOf) → IsCut t c → rows.now ≡ shown c → lines_in lines.now ≡ lines_of p.rows → HasFlows first c p.rows (flows lines.now.1) → drop first (rows_of c) ≡ p.rows ++ more → option_map span result ≡ spec.entry_of first c p.rows (map step_of steps.now) }
 {
-    let Some(line) = lines.line_at(steps) else {
-        return None;
-    };
-    line_entry(rows, first, lines, line)
+    let (line, left) = lines.reach(steps)?;
+    if left.is_empty() {
+        line_entry(rows, first, lines, line)
+    } else {
+        lines.flow_entry(line, left)
+    }
 }
 
 impl Documents<'_> {
@@ -70,9 +70,7 @@ impl Documents<'_> {
     pub(crate) fn entry_place(&self, path: &Path) -> Option<Span>
         ensures { option_map span result ≡ spec.entry_at path.now (cut_of self.now) }
     {
-        let Some(first) = self.first_row(path.doc) else {
-            return None;
-        };
+        let first = self.first_row(path.doc)?;
         entry_of(&self.rows, first, &self.documents[path.doc], &path.steps)
     }
 }

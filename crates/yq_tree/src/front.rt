@@ -1,10 +1,11 @@
 //! What stands before the head of a row.
-ghost use Rattle.std.specs.Prelude.{◌≡◌, ◌<◌, ◌≤◌, ◌+◌, ◌^◌, ◌++◌, length, replicate, true, IfOk, ℕ, List, option_map};
+ghost use Rattle.std.specs.Prelude.{◌≡◌, ◌<◌, ◌≤◌, ◌+◌, ◌^◌, ◌++◌, length, replicate, true, IfOk, ℕ, List, None, option_map};
 ghost use Rattle.yq_scalar.specs.Quoted.{IsQuotedText};
 ghost use Rattle.yq_inline.specs.Scalars as scalars;
 ghost use Rattle.yq_rows.specs.View.{slices_text, view as row_view};
 ghost use Rattle.yq_tree.specs.RowReading as spec;
 ghost use Rattle.yq_rows.specs.Comments as comments;
+ghost use Rattle.yq_tree.specs.FlowReading.{flows, head_flow};
 ghost use Rattle.yq_tree.specs.Lines as lines_spec;
 ghost use Rattle.yq_tree.specs.View.{mark_view, view, views};
 
@@ -28,7 +29,8 @@ pub struct Front<'t> {
 /// The line of a dash before which a gap stands, where another dash or a key follows.
 fn dash_line<'t>(gap: &'t str, column: usize) -> Line<'t>
     requires { column < 2 ^ 32 }
-    ensures { view result ≡ lines_spec.dash_line (comments.head_comment gap.now) column }
+    ensures view { view result ≡ lines_spec.dash_line (comments.head_comment gap.now) column }
+    ensures flow { head_flow result.head ≡ None }
 {
     Line {
         column: column as u32,
@@ -51,6 +53,7 @@ pub(crate) fn push_dashes<'t>(
     requires { column + length dashes.now < 2 ^ 32 }
     ensures lines { IfOk result (λ x. spec.begun (views x.0.items) x.1 ≡ spec.dashes_at (views lines.entry.items) gap.now column dashes.now) }
     ensures column { IfOk result (λ x. x.1.column < 2 ^ 32) }
+    ensures flows { IfOk result (λ x. (n : ℕ) × (flows x.0.items ≡ flows lines.entry.items ++ replicate n None)) }
 {
     let mut lines = lines;
     let mut gap = gap;

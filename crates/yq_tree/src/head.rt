@@ -1,7 +1,8 @@
 //! The heads of rows.
-ghost use Rattle.std.specs.Prelude.{◌≡◌, IfOk};
+ghost use Rattle.std.specs.Prelude.{◌≡◌, IfOk, None};
 ghost use Rattle.yq_scalar.specs.Answers.{Gives};
 ghost use Rattle.yq_inline.specs.View.{view as node_view};
+ghost use Rattle.yq_tree.specs.FlowReading as flow;
 ghost use Rattle.yq_tree.specs.KeyReading.{EndsIn};
 ghost use Rattle.yq_tree.specs.RowReading as spec;
 ghost use Rattle.yq_tree.specs.View.{head_view};
@@ -34,7 +35,8 @@ pub(crate) fn begins_block(head: &[u8]) -> bool
 
 /// The head that a node without an anchor is.
 fn node_head<'t>(alloc: Global, node: Inline<'t>) -> Result<Head<'t>, AllocError>
-    ensures { IfOk result (λ h. head_view h ≡ spec.placed_head (node_view node.entry)) }
+    ensures view { IfOk result (λ h. head_view h ≡ spec.placed_head (node_view node.entry)) }
+    ensures flow { IfOk result (λ h. flow.head_flow h ≡ flow.kept (node_view node.entry)) }
 {
     match node.form {
         Form::Empty => Ok(Head::Nothing),
@@ -54,7 +56,8 @@ fn read_node_head<'t>(
     text: &str,
 ) -> Result<Head<'t>, ReadError>
     requires { EndsIn whole.now text.now }
-    ensures { Gives head_view result (spec.node_head_at whole.now parent text.now) }
+    ensures view { Gives head_view result (spec.node_head_at whole.now parent text.now) }
+    ensures flow { IfOk result (λ h. flow.head_flow h ≡ flow.node_flow_at whole.now parent text.now) }
 {
     let at = whole.len() - text.len();
     let node = match read_inline(alloc, whole, at, Place::Block, parent, 0) {
@@ -69,7 +72,8 @@ fn read_node_head<'t>(
 
 /// The block scalar in front, as a head.
 fn read_block_head<'t>(alloc: Global, parent: i64, text: &str) -> Result<Head<'t>, ReadError>
-    ensures { Gives head_view result (spec.block_head_at parent text.now) }
+    ensures view { Gives head_view result (spec.block_head_at parent text.now) }
+    ensures flow { IfOk result (λ h. flow.head_flow h ≡ None) }
 {
     let piece = match read_block(text, 0, parent) {
         Ok(piece) => piece,
@@ -82,7 +86,7 @@ fn read_block_head<'t>(alloc: Global, parent: i64, text: &str) -> Result<Head<'t
 /// The head of a row below a parent of this indentation, that is written so and with which the text
 /// begins, where its keys are fit. A plain scalar on one line is lent. The text ends where the whole one
 /// does.
-#[tactic(auto, unfolding(crate::specs::RowReading::head_at))]
+#[tactic(auto, unfolding(crate::specs::RowReading::head_at, crate::specs::FlowReading::head_flow_at))]
 pub(crate) fn read_head<'t>(
     alloc: Global,
     whole: &'t str,
@@ -91,7 +95,8 @@ pub(crate) fn read_head<'t>(
     text: &'t str,
 ) -> Result<Head<'t>, ReadError>
     requires { EndsIn whole.now text.now }
-    ensures { Gives head_view result (spec.head_at whole.now parent head.now text.now) }
+    ensures view { Gives head_view result (spec.head_at whole.now parent head.now text.now) }
+    ensures flow { IfOk result (λ h. flow.head_flow h ≡ flow.head_flow_at whole.now parent head.now text.now) }
 {
     if head.is_empty() {
         return Ok(Head::Nothing);

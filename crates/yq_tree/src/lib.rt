@@ -23,6 +23,7 @@ mod find;
 mod fit;
 mod flow;
 mod flow_keys;
+mod flow_place;
 mod front;
 mod head;
 mod laws;

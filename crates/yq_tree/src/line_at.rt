@@ -1,20 +1,30 @@
-//! The line to which a path leads.
-ghost use Rattle.std.specs.Prelude.{◌≡◌, ◌<◌, List, ◌∷◌, length, map, not, option_and_then, slice_get, IfSome, Some};
+//! The line to which a path leads, and the steps that go on in its head.
+ghost use Rattle.std.specs.Prelude.{◌≡◌, ◌<◌, List, ◌∷◌, length, map, not, option_and_then, option_map, slice_get, IfSome, IsTrue, Some};
 ghost use Rattle.yq_inline.specs.Entries.{step_of};
 ghost use Rattle.yq_scalar.specs.Paths as steps;
 ghost use Rattle.yq_tree.specs.Ends.{AreEndsFrom, is_end};
 ghost use Rattle.yq_tree.specs.Nodes.{lines_in, lines_under, under_of};
 ghost use Rattle.yq_tree.specs.Outline as outline;
-ghost use Rattle.yq_tree.specs.RowPaths.{line_of};
+ghost use Rattle.yq_tree.specs.RowPaths.{line_of, reached};
 ghost use Rattle.yq_tree.specs.Spots as spec;
 ghost use Rattle.yq_tree.specs.View.{mark_view, views};
 
 use crate::body::Under;
 use crate::ends::{is_deeper, level};
 use crate::find::find_step;
-use crate::line::{Head, Line, Mark};
+use crate::line::{Line, Mark};
+use crate::line_in::is_head;
 use crate::lined::Lined;
 use yq_inline::Step;
+
+/// Where a step leads.
+#[derive(Clone, Copy, Debug)]
+pub(crate) enum Next {
+    /// To a line, by its number.
+    Line(usize),
+    /// On in the head of a line.
+    Head(usize),
+}
 
 /// Whether a line is a node itself.
 pub(crate) fn is_bare(mark: &Mark<'_>) -> bool
@@ -29,7 +39,8 @@ pub(crate) fn is_bare(mark: &Mark<'_>) -> bool
 
 /// Whether the first of some lines is a node itself.
 fn begins_bare(lines: &[Line<'_>], under: Under) -> bool
-    ensures { result ≡ spec.begins_bare (under_of (views lines.now) under) }
+    ensures some { IsTrue result → under.first < length lines.now }
+    ensures test { result ≡ spec.begins_bare (under_of (views lines.now) under) }
 {
     if !is_deeper(lines, under.first, under.floor) {
         return false;
@@ -38,52 +49,71 @@ fn begins_bare(lines: &[Line<'_>], under: Under) -> bool
     is_bare(&line.mark)
 }
 
-/// The lines under a line without a head, or all lines where there is no line.
-fn open_under(lines: &[Line<'_>], from: Option<usize>) -> Option<Under>
-    requires { IfSome from (λ i. i < length lines.now) }
-    ensures { (s : steps.Step) (ss : List steps.Step) → spec.from_line (views lines.now) from (s ∷ ss) ≡ option_and_then (λ u. spec.line_from (views lines.now) u.first u.floor s ss) result }
+/// Where a step leads among some lines.
+fn next_in(lines: &[Line<'_>], ends: &[usize], under: Under, step: &Step) -> Option<Next>
+    requires each { length ends.now ≡ length lines.now }
+    requires ends { AreEndsFrom 0 (views lines.now) ends.now }
+    ensures within { IfSome result (λ x. spec.next_line x < length lines.now) }
+    ensures found { (ss : List steps.Step) → spec.reach_in (views lines.now) under.first under.floor (step_of step.now) ss ≡ option_and_then (spec.reach_next (views lines.now) (step_of step.now) ss) result }
 {
-    let Some(at) = from else {
-        return Some(Under { first: 0, floor: 0 });
-    };
-    let line = &lines[at];
-    match line.head {
-        Head::Nothing => Some(Under {
-            first: at + 1,
-            floor: level(line),
-        }),
-        Head::Scalar(..) => None,
-        Head::Inline(_) => None,
+    if begins_bare(lines, under) {
+        return Some(Next::Head(under.first));
     }
+    let at = find_step(lines, ends, under, step)?;
+    Some(Next::Line(at))
 }
 
-/// The line to which a step leads from a line, or from the root.
-fn next_at(lines: &[Line<'_>], ends: &[usize], from: Option<usize>, step: &Step) -> Option<usize>
+/// Where a step leads from a line.
+fn next_from(lines: &[Line<'_>], ends: &[usize], at: usize, step: &Step) -> Option<Next>
+    requires each { length ends.now ≡ length lines.now }
+    requires ends { AreEndsFrom 0 (views lines.now) ends.now }
+    requires within { at < length lines.now }
+    ensures within { IfSome result (λ x. spec.next_line x < length lines.now) }
+    ensures found { (ss : List steps.Step) → spec.reach_from (views lines.now) (Some at) (step_of step.now ∷ ss) ≡ option_and_then (spec.reach_next (views lines.now) (step_of step.now) ss) result }
+{
+    let line = &lines[at];
+    if is_head(&line.head) {
+        return Some(Next::Head(at));
+    }
+    let under = Under {
+        first: at + 1,
+        floor: level(line),
+    };
+    next_in(lines, ends, under, step)
+}
+
+/// Where a step leads from a line, or from the root.
+fn next_at(lines: &[Line<'_>], ends: &[usize], from: Option<usize>, step: &Step) -> Option<Next>
     requires each { length ends.now ≡ length lines.now }
     requires ends { AreEndsFrom 0 (views lines.now) ends.now }
     requires within { IfSome from (λ i. i < length lines.now) }
-    ensures within { IfSome result (λ i. i < length lines.now) }
-    ensures found { (ss : List steps.Step) → spec.from_line (views lines.now) from (step_of step.now ∷ ss) ≡ option_and_then (λ i. spec.from_line (views lines.now) (Some i) ss) result }
+    ensures within { IfSome result (λ x. spec.next_line x < length lines.now) }
+    ensures found { (ss : List steps.Step) → spec.reach_from (views lines.now) from (step_of step.now ∷ ss) ≡ option_and_then (spec.reach_next (views lines.now) (step_of step.now) ss) result }
 {
-    let under = open_under(lines, from)?;
-    if begins_bare(lines, under) {
-        return None;
+    match from {
+        Some(at) => next_from(lines, ends, at, step),
+        None => next_in(lines, ends, Under { first: 0, floor: 0 }, step),
     }
-    find_step(lines, ends, under, step)
 }
 
-/// The line of the entry or item to which steps lead, where none go on in a head.
-fn line_at(lines: &[Line<'_>], ends: &[usize], steps: &[Step]) -> Option<usize>
+/// The line to which steps lead, and the steps that go on in its head.
+fn reach<'s>(lines: &[Line<'_>], ends: &[usize], steps: &'s [Step]) -> Option<(usize, &'s [Step])>
     requires each { length ends.now ≡ length lines.now }
     requires ends { AreEndsFrom 0 (views lines.now) ends.now }
-    ensures within { IfSome result (λ i. i < length lines.now) }
-    ensures found { result ≡ line_of (map step_of steps.now) (views lines.now) }
+    ensures within { IfSome result (λ x. x.0 < length lines.now) }
+    ensures found { option_map spec.reached_view result ≡ reached (map step_of steps.now) (views lines.now) }
 {
     let mut found = None;
-    'steps: for step in steps {
-        found = Some(next_at(lines, ends, found, step)?);
+    let mut left = steps;
+    'steps: while let [step, others @ ..] = left {
+        match next_at(lines, ends, found, step)? {
+            Next::Line(at) => found = Some(at),
+            Next::Head(at) => return Some((at, left)),
+        }
+        left = others;
     }
-    found
+    let at = found?;
+    Some((at, left))
 }
 
 /// Whether lines are under line `at`.
@@ -95,12 +125,21 @@ fn has_under(lines: &[Line<'_>], at: usize) -> bool
 }
 
 impl<'t> Lined<'t> {
+    /// The line to which steps lead, and the steps that go on in its head.
+    pub(crate) fn reach<'s>(&self, steps: &'s [Step]) -> Option<(usize, &'s [Step])>
+        ensures within { IfSome result (λ x. x.0 < length (lines_in self.now)) }
+        ensures found { option_map spec.reached_view result ≡ reached (map step_of steps.now) (lines_in self.now) }
+    {
+        reach(&self.lines, &self.ends, steps)
+    }
+
     /// The line of the entry or item to which steps lead, where none go on in a head.
     pub(crate) fn line_at(&self, steps: &[Step]) -> Option<usize>
         ensures within { IfSome result (λ i. i < length (lines_in self.now)) }
         ensures found { result ≡ line_of (map step_of steps.now) (lines_in self.now) }
     {
-        line_at(&self.lines, &self.ends, steps)
+        let (line, left) = self.reach(steps)?;
+        if left.is_empty() { Some(line) } else { None }
     }
 
     /// Whether lines are under line `at`.

@@ -33,7 +33,7 @@ fn is_bare_at(lines: &[Line<'_>], at: usize) -> bool
 }
 
 /// Whether anything stands in a head.
-fn is_head(head: &Head<'_>) -> bool
+pub(crate) fn is_head(head: &Head<'_>) -> bool
     ensures { result ≡ is_some (head_view head.now) }
 {
     match head {

@@ -13,9 +13,10 @@ impl Documents<'_> {
     /// anchor: a block scalar with its lines and their breaks; or a block collection, from its first key
     /// or dash to the end of its last line, before its break; a null of which nothing but perhaps an
     /// anchor is written has none. `Entry` goes from the key or dash to the end of the entry's or item's
-    /// last line, before its break; a root has none. `HeadComment` is the lines of the run of comments
-    /// above the row that the key or dash begins, with their breaks; `LineComment` goes from `#` to the
-    /// line's end, before its break. Entries, items and contents in flow have no place that is told yet.
+    /// last line, before its break; a root has none. Inside a flow collection it goes from the key, or
+    /// from the item with its anchor, to the end of the node. `HeadComment` is the lines of the run of
+    /// comments above the row that the key or dash begins, with their breaks; `LineComment` goes from `#`
+    /// to the line's end, before its break.
     pub fn extent(&self, path: &Path, part: Part) -> Option<Span>
         ensures { option_map span result ≡ spec.extent_at path.now part (cut_of self.now) }
     {

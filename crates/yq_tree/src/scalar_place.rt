@@ -1,6 +1,5 @@
 //! Places where a scalar can be set.
-ghost use Rattle.std.specs.Prelude.{◌≡◌, drop, map, option_map, take};
-ghost use Rattle.std.specs.Str.{IsCharBoundary};
+ghost use Rattle.std.specs.Prelude.{◌≡◌, map, option_map};
 ghost use Rattle.yq_inline.specs.Entries.{step_of};
 ghost use Rattle.yq_tree.specs.Reading.{cut_of};
 ghost use Rattle.yq_tree.specs.ScalarPlaces.{empty_at, place_at};
@@ -39,15 +38,6 @@ fn place_of(written: Written<'_>) -> ScalarPlace<'_>
     }
 }
 
-/// A text in two pieces, of which the second one begins at this place.
-fn halves(text: &str, at: usize) -> (&str, &str)
-    requires { IsCharBoundary text.now at }
-    ensures before { result.0.now ≡ take at text.now }
-    ensures behind { result.1.now ≡ drop at text.now }
-{
-    text.split_at(at)
-}
-
 impl<'t> Documents<'t> {
     /// The place at a path in a text with one document where nothing is written behind a key or dash
     /// but perhaps an anchor, and no lines are under it.
@@ -55,10 +45,8 @@ impl<'t> Documents<'t> {
         ensures { option_map spec.place_told result ≡ option_map spec.place_telling (empty_at (map step_of steps.now) (cut_of self.now)) }
     {
         let whole = self.whole();
-        let Some(at) = self.empty_at(steps) else {
-            return None;
-        };
-        let (before, behind) = halves(whole, at);
+        let at = self.empty_at(steps)?;
+        let (before, behind) = whole.split_at(at);
         Some(ScalarPlace {
             kind: Kind::Null,
             text: "null",
@@ -80,9 +68,7 @@ impl<'t> Documents<'t> {
         if let Some(place) = self.empty_place(steps) {
             return Some(place);
         }
-        match self.alone(steps) {
-            Some(written) => Some(place_of(written)),
-            None => None,
-        }
+        let written = self.alone(steps)?;
+        Some(place_of(written))
     }
 }

@@ -93,9 +93,7 @@ fn seat_in(rows: &Rows<'_>, first: usize, lines: &Lined<'_>, steps: &[Step]) -> 
     ensures within { IfSome result (λ s. s.row < length rows.now.rows) }
     ensures found { (t : List ℕ) (c : Cut) (p : Part) (more : List RowOf) → IsCut t c → rows.now ≡ shown c → lines_in lines.now ≡ lines_of p.rows → drop first (rows_of c) ≡ p.rows ++ more → option_map spec.told result ≡ option_map (spec.numbers first) (seat_of (map step_of steps.now) p.rows) }
 {
-    let Some(line) = lines.line_at(steps) else {
-        return None;
-    };
+    let line = lines.line_at(steps)?;
     find_seat(rows, first, line)
 }
 
@@ -120,9 +118,7 @@ impl<'t> Documents<'t> {
         if doc >= count {
             return None;
         }
-        let Some(first) = begin_row(&self.rows, first_is_document(&self.rows), doc) else {
-            return None;
-        };
+        let first = begin_row(&self.rows, first_is_document(&self.rows), doc)?;
         seat_in(&self.rows, first, &self.documents[doc], &path.steps)
     }
 }

@@ -11,6 +11,7 @@ use yq_scalar::{FaultKind, ReadError, ReadFault};
 mod comment_places;
 mod entry_places;
 mod examples;
+mod flow_places;
 mod memory;
 mod places;
 mod refusals;

@@ -63,9 +63,7 @@ impl<'t> Documents<'t> {
         ensures { (w : WrittenIn) → spec.IsScalarAt self.now (map step_of steps.now) w span.start span.end → option_map spec.told result ≡ Some (spec.telling w) }
     {
         let root = self.root(0);
-        let Some(node) = root.walk(steps) else {
-            return None;
-        };
+        let node = root.walk(steps)?;
         let NodeKind::Scalar(kind) = node.kind() else {
             return None;
         };
@@ -85,9 +83,7 @@ impl<'t> Documents<'t> {
         ensures { option_map spec.told result ≡ option_map spec.telling (written_at (map step_of steps.now) (cut_of self.now)) }
     {
         let whole = self.whole();
-        let Some(span) = self.scalar_at(steps) else {
-            return None;
-        };
+        let span = self.scalar_at(steps)?;
         self.scalar_from(whole, steps, span)
     }
 }

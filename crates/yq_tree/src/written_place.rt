@@ -23,12 +23,8 @@ fn place_in(rows: &Rows<'_>, lines: &Lined<'_>, steps: &[Step]) -> Option<Span>
     requires { IsShown rows.now }
     ensures { (t : List ℕ) (c : Cut) → IsCut t c → rows.now ≡ shown c → lines_in lines.now ≡ lines_of (rows_of c) → option_map span result ≡ option_map scalar_span (written_in (map step_of steps.now) c) }
 {
-    let Some(line) = lines.line_at(steps) else {
-        return None;
-    };
-    let Some(row) = line_row(rows, line) else {
-        return None;
-    };
+    let line = lines.line_at(steps)?;
+    let row = line_row(rows, line)?;
     scalar_place(rows, row)
 }
 

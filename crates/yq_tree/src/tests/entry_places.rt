@@ -7,7 +7,7 @@ use std::test::Fail;
 use yq_scalar::ReadError;
 
 /// Where a part stands at a path in a text.
-fn place(
+pub(crate) fn place(
     alloc: Global,
     text: &str,
     doc: usize,
@@ -20,7 +20,7 @@ fn place(
 }
 
 /// The place of a piece that begins somewhere.
-fn of(piece: Option<(usize, &str)>) -> Option<(usize, usize)> {
+pub(crate) fn of(piece: Option<(usize, &str)>) -> Option<(usize, usize)> {
     piece.map(|(start, text)| (start, start.saturating_add(text.len())))
 }
 

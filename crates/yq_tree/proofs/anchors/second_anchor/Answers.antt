@@ -1,4 +1,4 @@
-use Rattle.std.proofs.Common.{◌≡◌, ◌+◌, ◌-◌, length, refl, arith, length-drop}
+use Rattle.std.proofs.Common.{◌-◌, length, refl, arith, length-drop}
 use Rattle.std.proofs.lemmas.Option.{slice_get_read}
 use Rattle.yq_tree.specs.View.{view, views}
 use Rattle.yq_tree.proofs.AnchorLaws.{goes_on, stops, none_left}

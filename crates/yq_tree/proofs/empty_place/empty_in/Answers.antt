@@ -1,4 +1,4 @@
-use Rattle.std.proofs.Common.{map, not, sym, ap, ◌∙◌}
+use Rattle.std.proofs.Common.{map, not, ap, ◌∙◌}
 use Rattle.yq_inline.specs.Entries.{step_of}
 use Rattle.yq_rows.specs.View.{rows_of}
 use Rattle.yq_tree.specs.Lines.{lines_of}
@@ -10,13 +10,13 @@ use Rattle.yq_tree.proofs.empty_place.empty_in.Goals as goal
 pub returns-then-has_under : goal.returns-then-has_under
 returns-then-has_under c = λ t k cut is lines fine.
     let steps = map step_of c.args.steps.now in
-    let within = rw c.in-Some.is at c.line_at.ensures.within in
-    no_leaf steps k (leaf_told steps (lines_of (rows_of k)) (lines_in c.args.lines.now) c.in-Some.line _ lines fine within (sym c.in-Some.is ∙ c.line_at.ensures.found) c.has_under.ensures ∙ ap not c.if-has_under.true)
+    let within = c.in_ok-line.ensures.within in
+    no_leaf steps k (leaf_told steps (lines_of (rows_of k)) (lines_in c.args.lines.now) c.in_ok-line.line _ lines fine within c.in_ok-line.ensures.found c.has_under.ensures ∙ ap not c.if-has_under.true)
 
 pub returns : goal.returns
 returns c = λ t k cut is lines fine.
     let steps = map step_of c.args.steps.now in
-    let within = rw c.in-Some.is at c.line_at.ensures.within in
-    let line = sym c.in-Some.is ∙ c.line_at.ensures.found in
-    let leaf = leaf_told steps (lines_of (rows_of k)) (lines_in c.args.lines.now) c.in-Some.line _ lines fine within line c.has_under.ensures ∙ ap not c.if-has_under.false in
-    at_row steps k (lines_in c.args.lines.now) c.in-Some.line _ _ lines line (sym c.in-Some-line_row.is ∙ c.line_row.ensures.found t k cut is) leaf (c.row_place.ensures t k cut is)
+    let within = c.in_ok-line.ensures.within in
+    let line = c.in_ok-line.ensures.found in
+    let leaf = leaf_told steps (lines_of (rows_of k)) (lines_in c.args.lines.now) c.in_ok-line.line _ lines fine within line c.has_under.ensures ∙ ap not c.if-has_under.false in
+    at_row steps k (lines_in c.args.lines.now) c.in_ok-line.line _ _ lines line (c.in_ok-row.ensures.found t k cut is) leaf (c.row_place.ensures t k cut is)

@@ -8,8 +8,8 @@ use Rattle.yq_tree.proofs.head.read_block_head.Goals as goal
 pub read_block-requires : goal.read_block-requires
 read_block-requires c = IsCharBoundary-start c.args.text.now (search rules)
 
-pub returns-in-Err : goal.returns-in-Err
-returns-in-Err c = block_refused c.args.parent c.args.text.now (rw (to_z-of_z w64 c.args.parent c.ranges.parent) at c.in-Err.ensures.exact)
+pub returns-in-Err-clause-view : goal.returns-in-Err-clause-view
+returns-in-Err-clause-view c = block_refused c.args.parent c.args.text.now (rw (to_z-of_z w64 c.args.parent c.ranges.parent) at c.in-Err.ensures.exact)
 
-pub returns : goal.returns
-returns c = block_read c.args.parent c.args.text.now c.in-Ok.piece (string_bytes c.in_ok-text.text) (rw (to_z-of_z w64 c.args.parent c.ranges.parent) at c.in-Ok.ensures.found) c.in_ok-text.ensures.block
+pub returns-clause-view : goal.returns-clause-view
+returns-clause-view c = block_read c.args.parent c.args.text.now c.in-Ok.piece (string_bytes c.in_ok-text.text) (rw (to_z-of_z w64 c.args.parent c.ranges.parent) at c.in-Ok.ensures.found) c.in_ok-text.ensures.block

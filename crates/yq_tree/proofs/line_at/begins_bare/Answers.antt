@@ -6,8 +6,8 @@ use Rattle.yq_tree.proofs.EndsLaws.{deeper_line, line_at, not_end}
 use Rattle.yq_tree.proofs.Parts.{part_row}
 use Rattle.yq_tree.proofs.line_at.begins_bare.Goals as goal
 
-pub returns : goal.returns
-returns c =
+pub returns-clause-test : goal.returns-clause-test
+returns-clause-test c =
     let ls = c.args.lines.now in
     let u = c.args.under in
     let l = view c.index-lines-under.result in

@@ -1,8 +1,7 @@
-use Rattle.std.proofs.Common.{◌-◌, [], drop, refl, sym, ◌∙◌, subst}
+use Rattle.std.proofs.Common.{drop, length, sym, subst}
 use Rattle.yq_rows.specs.View.{bound_view}
 use Rattle.yq_tree.specs.KeyReading.{EndsIn}
-use Rattle.yq_tree.proofs.LinedLaws.{has_rows, in_order, rows_fail, long_root, lined_by, lined_made_by, behind_ends}
-use Rattle.yq_tree.proofs.PartLineLaws.{ends_on}
+use Rattle.yq_tree.proofs.LinedLaws.{has_rows, in_order, rows_fail, long_root, lined_by, lined_made_by, flows_by, behind_ends}
 use Rattle.yq_tree.proofs.part_lines.lined_part.Goals as goal
 
 pub has_short_root-requires-clause-order : goal.has_short_root-requires-clause-order
@@ -35,6 +34,9 @@ returns-clause-lines c = λ h.
     let by = lined_by c.args.from (drop c.args.from c.args.rows.now.rows) (bound_view c.args.bound) c.args.text.now h _ _ c.in-Ok.ensures.lines in
     lined_made_by c.args.from (drop c.args.from c.args.rows.now.rows) (bound_view c.args.bound) c.args.text.now h _ _ _ _ c.has_short_root.result (c.first_gap-lead.ensures h) c.has_short_root.ensures c.if-not-has_short_root.false by
     (c.behind.ensures h.behind (c.behind-rest.ensures _ by.2))
+
+pub returns-clause-flows : goal.returns-clause-flows
+returns-clause-flows c = λ h. flows_by (length c.args.whole.now) c.args.from (drop c.args.from c.args.rows.now.rows) (bound_view c.args.bound) c.args.text.now h _ c.in-Ok.ensures.flows
 
 pub returns-clause-ends : goal.returns-clause-ends
 returns-clause-ends c =

@@ -1,6 +1,8 @@
-use Rattle.std.proofs.Common.{◌+◌, ◌-◌, [], drop, rules, arith, refl, ap}
+use Rattle.std.proofs.Common.{◌+◌, ◌-◌, [], drop, length, rules, arith, refl, ap}
 use Rattle.yq_rows.specs.View.{view as row_view}
+use Rattle.yq_tree.specs.FlowReading.{flows}
 use Rattle.yq_tree.specs.View.{views}
+use Rattle.yq_tree.proofs.PartFlowLaws.{flows_init, flows_step, flows_done}
 use Rattle.yq_tree.proofs.PartLineLaws.{drop_step, row_within, left_row, left_step, goes_init, goes_fail, goes_done, ends_on}
 use Rattle.yq_tree.proofs.part_lines.part_lines.Goals as goal
 
@@ -26,6 +28,7 @@ rows-init c = record {
   ends = ([], refl);
   rest_text = c.utf8.text;
   so_far = goes_init (c.args.to - c.args.from) (drop c.args.from c.args.rows.now.rows) c.args.text.now _ (ap views c.in_ok-lines.ensures.items);
+  flows_so_far = flows_init (length c.args.whole.now) (c.args.to - c.args.from) (drop c.args.from c.args.rows.now.rows) c.args.text.now _ (ap flows c.in_ok-lines.ensures.items);
 }
 
 pub rows-preserved : goal.rows-preserved
@@ -35,8 +38,14 @@ rows-preserved c = record {
   rest_text = search rules;
   so_far = λ h. left_step _ _ _ (c.args.to - c.rows.at) (c.args.to - (c.rows.at + 1)) (drop c.rows.at c.args.rows.now.rows) c.rows.rest.now c.in-Ok.made.1.now (views c.rows.lines.items) (views c.in-Ok.made.0.items) (row_view c.row-row.result) (drop (c.rows.at + 1) c.args.rows.now.rows)
       (drop_step c.args.rows.now.rows c.rows.at (row_view c.row-row.result) c.row-row.ensures) (omega (arith, c.rows-test.true)) (omega arith) c.in-Ok.ensures.lines (c.rows.invariant.so_far h);
+  flows_so_far = λ h. flows_step _ _ (c.args.to - c.rows.at) (c.args.to - (c.rows.at + 1)) (drop c.rows.at c.args.rows.now.rows) c.rows.rest.now c.in-Ok.made.1.now (views c.rows.lines.items) (views c.in-Ok.made.0.items) (flows c.rows.lines.items) (flows c.in-Ok.made.0.items) (row_view c.row-row.result) (drop (c.rows.at + 1) c.args.rows.now.rows)
+      (drop_step c.args.rows.now.rows c.rows.at (row_view c.row-row.result) c.row-row.ensures) (omega (arith, c.rows-test.true)) (omega arith) c.in-Ok.ensures.lines c.in-Ok.ensures.flows (c.rows.invariant.flows_so_far h);
 }
 
 pub returns-clause-lines : goal.returns-clause-lines
 returns-clause-lines c =
     goes_done _ _ c.args.text.now (c.args.to - c.rows.at) (drop c.rows.at c.args.rows.now.rows) c.rows.rest.now (views c.rows.lines.items) (omega (arith, c.rows-test.false)) c.rows.invariant.so_far
+
+pub returns-clause-flows : goal.returns-clause-flows
+returns-clause-flows c =
+    flows_done _ _ _ c.args.text.now (c.args.to - c.rows.at) (drop c.rows.at c.args.rows.now.rows) c.rows.rest.now (flows c.rows.lines.items) (omega (arith, c.rows-test.false)) c.rows.invariant.flows_so_far

@@ -1,7 +1,9 @@
-use Rattle.std.proofs.Common.{◌≤◌, ◌-◌, drop}
+use Rattle.std.proofs.Common.{◌≤◌, ◌-◌, drop, length}
 use Rattle.std.specs.Str.{IsUtf8}
+use Rattle.yq_tree.specs.FlowReading.{flows}
 use Rattle.yq_tree.specs.KeyReading.{EndsIn}
 use Rattle.yq_tree.specs.View.{views}
+use Rattle.yq_tree.proofs.PartFlowLaws.{GoesFlows}
 use Rattle.yq_tree.proofs.PartLineLaws.{Goes}
 use Rattle.yq_tree.proofs.part_lines.part_lines.Given as goal
 
@@ -14,4 +16,5 @@ invariant-rows l = record {
   ends : EndsIn l.text l.rest;
   rest_text : IsUtf8 l.rest;
   so_far : Goes (l.to - l.from) (drop l.from l.rows.rows) l.text (l.to - l.at) (drop l.at l.rows.rows) l.rest (views l.lines.items);
+  flows_so_far : GoesFlows (length l.whole) (l.to - l.from) (drop l.from l.rows.rows) l.text (l.to - l.at) (drop l.at l.rows.rows) l.rest (flows l.lines.items);
 }

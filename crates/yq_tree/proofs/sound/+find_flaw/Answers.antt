@@ -1,8 +1,7 @@
-use Rattle.std.proofs.Common.{◌≡◌, ◌+◌, ◌-◌, length, refl, sym, ap, ◌∙◌, subst, arith, map, is_none}
+use Rattle.std.proofs.Common.{◌+◌, ◌-◌, length, refl, sym, ap, ◌∙◌, subst, arith, map, is_none}
 use Rattle.std.proofs.lemmas.Option.{slice_get_read}
 use Rattle.std.proofs.lemmas.Result.{IfOk-weaker}
 use Rattle.yq_tree.specs.Ends.{part}
-use Rattle.yq_tree.specs.Outline.{level}
 use Rattle.yq_tree.specs.Sound.{is_sound}
 use Rattle.yq_tree.specs.View.{view, views}
 use Rattle.yq_tree.proofs.EndsLaws.{has_line, line_at, views-length}

@@ -1,4 +1,4 @@
-use Rattle.std.proofs.Common.{◌≡◌, ◌+◌, ◌-◌, ◌<◌, ◌≤◌, length, map}
+use Rattle.std.proofs.Common.{◌≡◌, ◌-◌, ◌<◌, ◌≤◌, length, map}
 use Rattle.yq_tree.specs.Ends.{part}
 use Rattle.yq_tree.specs.Sound.{is_sound}
 use Rattle.yq_tree.specs.View.{views}

@@ -1,4 +1,4 @@
-use Rattle.std.proofs.Common.{◌≡◌, ◌∙◌, Some, None, length, sym, ap, subst, arith}
+use Rattle.std.proofs.Common.{◌≡◌, Some, None, length, sym, ap, subst, arith}
 use Rattle.yq_scalar.specs.Paths.{To}
 use Rattle.yq_tree.specs.Ends.{part}
 use Rattle.yq_tree.specs.Nodes.{label_of, lines_in, node_of}

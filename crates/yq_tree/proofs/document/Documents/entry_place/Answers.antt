@@ -7,15 +7,15 @@ use Rattle.yq_tree.specs.Reading.{cut_of}
 use Rattle.yq_tree.proofs.EntryPlaceLaws.{first_within, held_in, held_none}
 use Rattle.yq_tree.proofs.document.Documents.entry_place.Goals as goal
 
-pub returns-in_default : goal.returns-in_default
-returns-in_default c = held_none (cut_of c.args.self.now) c.args.path.now.doc (λ k cut rows. entry_of k cut rows (map step_of c.args.path.now.steps.items)) c.in_default.ensures
+pub returns-in_err-first : goal.returns-in_err-first
+returns-in_err-first c = rw c.from_residual.ensures (held_none (cut_of c.args.self.now) c.args.path.now.doc (λ k cut rows. entry_of k cut rows (map step_of c.args.path.now.steps.items)) c.in_err-first.ensures)
 
 pub returns : goal.returns
 returns c =
-    let first = sym c.in-Some.is ∙ (c.first_row.ensures ∙ sym (ap (λ t. first_row c.args.path.now.doc (cut_of t)) c.self.view_is)) in
-    let within = first_within c.self.inside.text.now c.self.inside.rows c.self.inside.documents.items c.args.path.now.doc c.in-Some.first c.self.invariant first in
-    held_in c.self.inside.text.now c.self.inside.rows c.self.inside.documents.items c.args.path.now.doc c.in-Some.first c.index.result.now _ (λ k cut rows. entry_of k cut rows (map step_of c.args.path.now.steps.items)) c.self.invariant
+    let first = c.in_ok-first.ensures ∙ sym (ap (λ t. first_row c.args.path.now.doc (cut_of t)) c.self.view_is) in
+    let within = first_within c.self.inside.text.now c.self.inside.rows c.self.inside.documents.items c.args.path.now.doc c.in_ok-first.first c.self.invariant first in
+    held_in c.self.inside.text.now c.self.inside.rows c.self.inside.documents.items c.args.path.now.doc c.in_ok-first.first c.index.result.now _ (λ k cut rows. entry_of k cut rows (map step_of c.args.path.now.steps.items)) c.self.invariant
     (slice_get_read c.self.inside.documents.items _ c.args.path.now.doc c.index.result.now refl within c.index.ensures)
     first
-    (λ u k p more cut is lines there. c.entry_of.ensures u k p more cut is lines there ∙ ap (λ xs. entry_of c.in-Some.first k p.rows (map step_of xs)) c.deref.ensures.value)
+    (λ u k p more cut is lines held there. c.entry_of.ensures u k p more cut is lines held there ∙ ap (λ xs. entry_of c.in_ok-first.first k p.rows (map step_of xs)) c.deref.ensures.value)
     ∙ ap (λ t. entry_at c.args.path.now (cut_of t)) c.self.view_is

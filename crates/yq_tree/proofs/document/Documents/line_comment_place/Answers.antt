@@ -9,20 +9,20 @@ use Rattle.yq_tree.proofs.HeldLaws.{held_shown}
 use Rattle.yq_tree.proofs.SeatedLaws.{part_told, no_part, row_within}
 use Rattle.yq_tree.proofs.document.Documents.line_comment_place.Goals as goal
 
-pub returns-in_default : goal.returns-in_default
-returns-in_default c = no_part line_comment_in c.args.self.now c.args.path.now c.in_default.ensures
+pub returns-in_err-seat : goal.returns-in_err-seat
+returns-in_err-seat c = rw c.from_residual.ensures (no_part line_comment_in c.args.self.now c.args.path.now c.in_err-seat.ensures)
 
 pub line_comment_in-requires-clause-within : goal.line_comment_in-requires-clause-within
 line_comment_in-requires-clause-within c =
-    row_within c.self.inside.text.now c.self.inside.rows c.self.inside.documents.items c.args.path.now (told c.in-Some.seat) c.self.invariant
-    (c.in-Some.ensures ∙ ap (λ t. option_map (numbers (document_row c.args.path.now.doc (cut_of t))) (seat_at c.args.path.now (cut_of t))) (sym c.self.view_is))
+    row_within c.self.inside.text.now c.self.inside.rows c.self.inside.documents.items c.args.path.now (told c.in_ok-seat.seat) c.self.invariant
+    (c.in_ok-seat.ensures ∙ ap (λ t. option_map (numbers (document_row c.args.path.now.doc (cut_of t))) (seat_at c.args.path.now (cut_of t))) (sym c.self.view_is))
 
 pub line_comment_in-requires-clause-shown : goal.line_comment_in-requires-clause-shown
 line_comment_in-requires-clause-shown c = held_shown c.self.inside.text.now c.self.inside.rows c.self.inside.documents.items c.self.invariant
 
 pub returns : goal.returns
 returns c =
-    part_told line_comment_span line_comment_in line_told c.self.inside.text.now c.self.inside.rows c.self.inside.documents.items c.args.path.now (told c.in-Some.seat) _ c.self.invariant
-    (c.in-Some.ensures ∙ ap (λ t. option_map (numbers (document_row c.args.path.now.doc (cut_of t))) (seat_at c.args.path.now (cut_of t))) (sym c.self.view_is))
+    part_told line_comment_span line_comment_in line_told c.self.inside.text.now c.self.inside.rows c.self.inside.documents.items c.args.path.now (told c.in_ok-seat.seat) _ c.self.invariant
+    (c.in_ok-seat.ensures ∙ ap (λ t. option_map (numbers (document_row c.args.path.now.doc (cut_of t))) (seat_at c.args.path.now (cut_of t))) (sym c.self.view_is))
     c.line_comment_in.ensures
     ∙ ap (line_comment_at c.args.path.now) (ap cut_of c.self.view_is)

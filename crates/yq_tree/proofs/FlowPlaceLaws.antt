@@ -1,0 +1,144 @@
+-- The items and entries to which steps lead in a head are those of its row.
+use Rattle.std.proofs.Common.{◌≡◌, ◌⊎◌, inl, inr, ℕ, ◌+◌, ◌<◌, ◌≤◌, List, [], ◌∷◌, ◌++◌, length, Option, Some, None, option_map, option_and_then, true, refl, sym, ap, ◌∙◌, subst, arith}
+use Rattle.std.proofs.lemmas.Bool.{cases_lt, false≢true}
+use Rattle.std.specs.List.{slice_get}
+use Rattle.std.specs.Prelude.{is_some}
+use Rattle.yq_scalar.specs.Answers.{◌>>=◌}
+use Rattle.yq_scalar.specs.Paths.{Step}
+use Rattle.yq_scalar.specs.Tree as tree
+use Rattle.yq_inline.specs.Entries.{parts_of, part_at, placed_entry_at}
+use Rattle.yq_inline.specs.Nodes.{Node, empty, alias, scalar, coll, anchored}
+use Rattle.yq_inline.specs.Places.{Placed, placed, nothing, name, text, sequence, mapping, Parts, with_anchor, locate}
+use Rattle.yq_rows.specs.Exchange.{behind_row}
+use Rattle.yq_rows.specs.Rows.{Content, Nothing, Inline, Block, Row, Cut, cut_text}
+use Rattle.yq_tree.specs.EntryPlaces.{inline_node, placed_inline, flow_entry}
+use Rattle.yq_tree.specs.EntryReading.{entry_within, HasFlows}
+use Rattle.yq_tree.specs.FlowReading.{kept, core, content_core, row_flow}
+use Rattle.yq_tree.specs.Group.{group}
+use Rattle.yq_tree.specs.Lines.{tail_of, lines_of}
+use Rattle.yq_tree.specs.Outline.{Mark, Bare, Key, Dash, Line, Outline, end, row}
+use Rattle.yq_tree.specs.Places.{here, lines_before, Found, find_row, inside, bare_or, in_head, find}
+use Rattle.yq_tree.specs.RowPaths.{reached}
+use Rattle.yq_tree.specs.Seats.{Seat, seat}
+use Rattle.yq_tree.specs.Spots.{is_bare}
+use Rattle.yq_tree.proofs.RowPathLaws.{found_lines}
+use Rattle.yq_tree.proofs.SeatLineLaws.{Tells, seat_line}
+use Rattle.yq_tree.proofs.Values.{If}
+
+-- a line in whose head steps may go on: a node itself, or a line that has a head
+abbrev TakesSteps : Line → Type 0
+TakesSteps l = (is_bare l.mark ≡ true) ⊎ (is_some l.head ≡ true)
+
+-- the same where steps are left
+abbrev TakesLeft : Line → List Step → Type 0
+TakesLeft l [] = Unit {0}
+TakesLeft l (s ∷ ss) = TakesSteps l
+
+abbrev Takes : Found × List Step → Type 0
+Takes x = TakesLeft x.0.line x.1
+
+-- where a path leads, the steps that are left go on in the line's head
+takes_left : (s : Step) (ss : List Step) (o : Outline) → If (find s ss o) Takes
+takes_left s ss end = tt
+takes_left s [] (row k v a) = go k.mark refl (find_row s (row k v a))
+  where
+    go : (m : Mark) → k.mark ≡ m → (r : Option Found) → If (bare_or m (Some (record { place = here; line = k; under = v; after = a }, s ∷ [])) (option_map (λ f. (f, [])) r)) Takes
+    go Bare e r = inl (ap is_bare e)
+    go (Key j) e None = tt
+    go (Key j) e (Some f) = tt
+    go Dash e None = tt
+    go Dash e (Some f) = tt
+takes_left s (t ∷ ts) (row k v a) = go (λ u. takes_left t ts u) k.mark refl (find_row s (row k v a))
+  where
+    deep : (f : Found) (h : Option tree.Node) → f.line.head ≡ h → (q : Option (Found × List Step)) → If q Takes → If (in_head h (Some (f, t ∷ ts)) (option_map (λ x. (inside f x.0, x.1)) q)) Takes
+    deep f (Some n) e q h = inr (ap is_some e)
+    deep f None e None h = tt
+    deep f None e (Some x) h = h
+
+    found : ((u : Outline) → If (find t ts u) Takes) → (r : Option Found) → If (option_and_then (λ f. in_head f.line.head (Some (f, t ∷ ts)) (option_map (λ x. (inside f x.0, x.1)) (find t ts f.under))) r) Takes
+    found ih None = tt
+    found ih (Some f) = deep f f.line.head refl (find t ts f.under) (ih f.under)
+
+    go : ((u : Outline) → If (find t ts u) Takes) → (m : Mark) → k.mark ≡ m → (r : Option Found) →
+        If (bare_or m (Some (record { place = here; line = k; under = v; after = a }, s ∷ (t ∷ ts)))
+        (option_and_then (λ f. in_head f.line.head (Some (f, t ∷ ts)) (option_map (λ x. (inside f x.0, x.1)) (find t ts f.under))) r)) Takes
+    go ih Bare e r = inl (ap is_bare e)
+    go ih (Key j) e r = found ih r
+    go ih Dash e r = found ih r
+
+-- line n of rows is that of the mark of its row
+abbrev MarkSeat : List Row → ℕ → Type 0
+MarkSeat rs n = (q : Seat) × (seat n rs ≡ Some q) × (q.line ≡ length q.row.dashes)
+
+dash_takes_none : (l : Line) → (l.mark ≡ Dash) × (l.head ≡ None) → TakesSteps l → ⊥
+dash_takes_none l e (inl bare) = false≢true (sym (ap is_bare e.0) ∙ bare)
+dash_takes_none l e (inr head) = false≢true (sym (ap is_some e.1) ∙ head)
+
+mark_seat : (rs : List Row) (n : ℕ) (l : Line) → slice_get (lines_of rs) n ≡ Some l → TakesSteps l → MarkSeat rs n
+mark_seat rs n l e takes = let q = seat_line rs n l e in (q.0, q.1, go q.0 q.2 (cases_lt q.0.line (length q.0.row.dashes)))
+  where
+    go : (s : Seat) → Tells s l → (s.line < length s.row.dashes) ⊎ (length s.row.dashes ≤ s.line) → s.line ≡ length s.row.dashes
+    go s told (inl less) = absurd (dash_takes_none l (told.dash less) takes)
+    go s told (inr more) = omega (arith, more, told.within)
+
+middle : (xs ys : List Line) (l : Line) → slice_get (xs ++ (l ∷ ys)) (length xs) ≡ Some l
+middle [] ys l = refl
+middle (x ∷ xs) ys l = middle xs ys l
+
+-- where steps are left, the line is that of its row's mark
+reached_seat : (rs : List Row) (steps : List Step) (n : ℕ) (t : Step) (ts : List Step) → reached steps (lines_of rs) ≡ Some (n, t ∷ ts) → MarkSeat rs n
+reached_seat rs [] n t ts e = absurd (cc)
+reached_seat rs (s ∷ ss) n t ts e = go (find s ss (group (lines_of rs))) refl (takes_left s ss (group (lines_of rs))) e
+  where
+    same : {x y : ℕ × List Step} → Some x ≡ Some y → x ≡ y
+    same e = cc
+
+    go : (r : Option (Found × List Step)) → find s ss (group (lines_of rs)) ≡ r → If r Takes → option_map {U = ℕ × List Step} (λ (x : Found × List Step). (length (lines_before x.0.place), x.1)) r ≡ Some (n, t ∷ ts) → MarkSeat rs n
+    go None is h e = absurd (cc)
+    go (Some x) is h e =
+        let index : length (lines_before x.0.place) ≡ n = ap (λ y. y.0) (same e) in
+        let left : x.1 ≡ t ∷ ts = ap (λ y. y.1) (same e) in
+        let there : slice_get (lines_of rs) (length (lines_before x.0.place)) ≡ Some x.0.line = ap (λ (k : List Line). slice_get k (length (lines_before x.0.place))) (found_lines (lines_of rs) s ss x.1 x.0 is) ∙ middle (lines_before x.0.place) _ x.0.line in
+        mark_seat rs n x.0.line (ap (slice_get (lines_of rs)) (sym index) ∙ there) (subst (TakesLeft x.0.line) left h)
+
+-- the items and entries of a node are those behind its anchor
+core_parts : (total : ℕ) (node : Node) (rest : List ℕ) → parts_of (locate total (core node) rest) ≡ parts_of (locate total node rest)
+unfolding locate
+core_parts total empty rest = refl
+core_parts total (alias n) rest = refl
+core_parts total (scalar p) rest = refl
+core_parts total (coll k g is) rest = refl
+core_parts total (anchored n g node) rest = go _ (locate total node rest)
+  where
+    go : (start : ℕ) (p : Placed) → parts_of p ≡ parts_of (with_anchor n start p)
+    go start (placed a s c e f) = refl
+
+core_is : (x : Content) → content_core x ≡ core (inline_node x)
+core_is (Nothing tail) = refl
+core_is (Inline space node tail) = refl
+core_is (Block space anchor block) = refl
+
+-- only aliases and flow collections have items or entries
+kept_entry : (t : Step) (ts : List Step) (p : Placed) → entry_within (t ∷ ts) (kept p) ≡ placed_entry_at (t ∷ ts) (None, p)
+kept_entry t ts (placed a s c e nothing) = refl
+kept_entry t ts (placed a s c e (name n)) = refl
+kept_entry t ts (placed a s c e (text x piece)) = refl
+kept_entry t ts (placed a s c e (sequence parts)) = refl
+kept_entry t ts (placed a s c e (mapping parts)) = refl
+
+row_entry : (total : ℕ) (r : Row) (rest : List ℕ) (t : Step) (ts : List Step) → entry_within (t ∷ ts) (row_flow total r rest) ≡ placed_entry_at (t ∷ ts) (None, locate total (inline_node r.content) (tail_of r.content ++ rest))
+row_entry total r rest t ts =
+    ap (λ (n : Node). entry_within (t ∷ ts) (kept (locate total n (tail_of r.content ++ rest)))) (core_is r.content)
+    ∙ (kept_entry t ts (locate total (core (inline_node r.content)) (tail_of r.content ++ rest))
+    ∙ ap (λ (ps : Parts). option_and_then (placed_entry_at ts) (part_at t ps)) (core_parts total (inline_node r.content) (tail_of r.content ++ rest)))
+
+-- what the code holds of the line to which steps lead is what its row says
+pub flow_told : (k : ℕ) (c : Cut) (rs : List Row) (fs : List (Option Placed)) (steps : List Step) (n : ℕ) (t : Step) (ts : List Step) → HasFlows k c rs fs → reached steps (lines_of rs) ≡ Some (n, t ∷ ts) →
+    (f : Option Placed) × (slice_get fs n ≡ Some f) × (entry_within (t ∷ ts) f ≡ flow_entry k c rs n (t ∷ ts))
+flow_told k c rs fs steps n t ts holds e =
+    let q = reached_seat rs steps n t ts e in (
+      row_flow (length (cut_text c)) q.0.row (behind_row (k + q.0.before) c),
+      holds n q.0 q.1 q.2,
+      row_entry (length (cut_text c)) q.0.row (behind_row (k + q.0.before) c) t ts
+          ∙ sym (ap (λ (o : Option Seat). o >>= λ s. placed_entry_at (t ∷ ts) (None, placed_inline (k + s.before) s.row c)) q.1),
+    )
