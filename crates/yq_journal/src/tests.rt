@@ -4,14 +4,18 @@ mod journal_texts;
 mod memory;
 mod memory_of_records;
 mod moves;
+mod open_moves;
 mod records;
 
 use crate::read::edits::leads;
-use crate::{Journal, JournalError, JournalFault, Record};
+use crate::{Journal, JournalError, JournalFault, Move, Record};
 use std::alloc::Global;
 use std::process::Abort;
 use std::test::Fail;
 use yq_splice::Splice;
+
+/// That a move is open.
+const UNSETTLED: Option<JournalError> = Some(JournalError::Fault(JournalFault::Unsettled));
 
 /// The record of splices, each at an offset with its old and new bytes,
 /// between two lengths.
@@ -46,6 +50,43 @@ fn add(journal: &mut Journal, record: Record) -> Result<(), Fail> {
     match journal.push(record) {
         Ok(()) => Ok(()),
         Err((_, error)) => Err(Fail::from(error)),
+    }
+}
+
+/// A call on a journal.
+#[derive(Clone, Copy)]
+enum Call {
+    Undo(&'static str),
+    Redo(&'static str),
+    Squash(u64),
+    Settle(&'static str),
+    Target(&'static str),
+    Write,
+    Read(&'static str),
+}
+
+/// The text of the journal that a text is.
+fn rewritten(alloc: Global, text: &[u8]) -> Result<Vec<u8>, JournalError> {
+    let journal = Journal::from_json(alloc, text)?;
+    Ok(journal.to_json(alloc)?)
+}
+
+/// What a call gives: a text, or an empty one where it gives none.
+fn made(alloc: Global, journal: &mut Journal, call: Call) -> Result<Vec<u8>, JournalError> {
+    match call {
+        Call::Undo(text) => journal.undo(text.as_bytes()),
+        Call::Redo(text) => journal.redo(text.as_bytes()),
+        Call::Squash(count) => {
+            journal.squash(count)?;
+            Ok(Vec::new(alloc))
+        }
+        Call::Settle(text) => {
+            journal.settle(text.as_bytes())?;
+            Ok(Vec::new(alloc))
+        }
+        Call::Target(text) => journal.target(alloc, &Move::Undo, text.as_bytes()),
+        Call::Write => Ok(journal.to_json(alloc)?),
+        Call::Read(text) => rewritten(alloc, text.as_bytes()),
     }
 }
 

@@ -1,6 +1,6 @@
 //! The text of a journal, in both versions, and texts that are none.
 
-use super::{add, digit, edited, is_refused, is_text, refused, stands_at};
+use super::{add, digit, edited, is_refused, is_text, refused, rewritten};
 use crate::{Journal, JournalError, JournalFault};
 use std::alloc::Global;
 use std::process::Abort;
@@ -17,7 +17,7 @@ pub(super) const PORT_COUNTED: &str =
 "#;
 
 /// An open edit of `n: 1` and a line feed.
-const OPEN: &str =
+pub(super) const OPEN: &str =
     r#"{"at":0,"pending":{"from":"bjogMQo=","kind":"edit","record":{"after_len":5,"before_len":5,"expr":".n = 2","splices":[{"at":3,"new":"Mg==","old":"MQ=="}]}},"records":[],"version":1}
 "#;
 
@@ -27,7 +27,7 @@ pub(super) const OPEN_COUNTED: &str =
 "#;
 
 /// An open undo of the edit from `n: 1` to `n: 2`.
-const OPEN_UNDO: &str =
+pub(super) const OPEN_UNDO: &str =
     r#"{"at":1,"pending":{"from":"bjogMgo=","kind":"undo","record":null},"records":[{"after_len":5,"before_len":5,"count":1,"expr":".n = 2","splices":[{"at":3,"new":"Mg==","old":"MQ=="}]}],"version":2}
 "#;
 
@@ -40,6 +40,9 @@ const JOINED: &str =
 const TWO: &str =
     r#"{"at":1,"pending":null,"records":[{"after_len":11,"before_len":10,"count":1,"expr":".a = 10 | .b = 3","splices":[{"at":3,"new":"MTA=","old":"MQ=="},{"at":9,"new":"Mw==","old":"Mg=="}]}],"version":2}
 "#;
+
+/// That bytes are no journal.
+const BAD: Option<JournalError> = Some(JournalError::Fault(JournalFault::BadJournal));
 
 /// The text with the first standing of a part replaced.
 fn changed(alloc: Global, text: &str, from: &str, to: &str) -> Result<String, Fail> {
@@ -82,10 +85,18 @@ fn writes_counts(rt: HostRuntime) -> Result<(), Fail> {
     Ok(())
 }
 
+/// Each text is read as a journal whose text is the other one.
+fn are_rewritten(rt: &impl Abort, alloc: Global, rows: &[(&str, &str)]) -> Result<(), Fail> {
+    for (text, written) in rows {
+        let given = rewritten(alloc, text.as_bytes())?;
+        is_text(rt, &given, written);
+    }
+    Ok(())
+}
+
 #[test]
 fn reads_both_versions(rt: HostRuntime) -> Result<(), Fail> {
-    let alloc = rt.alloc();
-    for (text, written) in [
+    let rows = [
         (PORT, PORT_COUNTED),
         (PORT_COUNTED, PORT_COUNTED),
         (OPEN, OPEN_COUNTED),
@@ -93,12 +104,8 @@ fn reads_both_versions(rt: HostRuntime) -> Result<(), Fail> {
         (OPEN_UNDO, OPEN_UNDO),
         (JOINED, JOINED),
         (TWO, TWO),
-    ] {
-        let journal = Journal::from_json(alloc, text.as_bytes())?;
-        let again = journal.to_json(alloc)?;
-        is_text(&rt, &again, written);
-    }
-    Ok(())
+    ];
+    are_rewritten(&rt, rt.alloc(), &rows)
 }
 
 #[test]
@@ -110,66 +117,24 @@ fn undoes_what_was_read(rt: HostRuntime) -> Result<(), Fail> {
     Ok(())
 }
 
-/// With an open move, a journal takes no other text and no other command.
-fn takes_nothing(
+/// Each text, with the first standing of a part replaced, is refused so, or
+/// is read.
+fn are_told(
     rt: &impl Abort,
     alloc: Global,
-    journal: &mut Journal,
-    beside: &str,
+    rows: &[(&str, &str, &str)],
+    wanted: Option<JournalError>,
 ) -> Result<(), Fail> {
-    let unsettled = Some(JournalError::Fault(JournalFault::Unsettled));
-    for other in ["n: 7\n", ""] {
-        is_refused(
-            rt,
-            refused(journal.settle(other.as_bytes())),
-            unsettled,
-            other,
-        );
-    }
-    is_refused(
-        rt,
-        refused(journal.undo(beside.as_bytes())),
-        unsettled,
-        "undo",
-    );
-    is_refused(
-        rt,
-        refused(journal.redo(beside.as_bytes())),
-        unsettled,
-        "redo",
-    );
-    is_refused(rt, refused(journal.squash(1)), unsettled, "squash");
-    let Err((back, error)) = journal.push(digit(alloc, "back", "1", "2")?) else {
-        return Err(Fail::from(JournalFault::Unsettled));
-    };
-    is_text(rt, back.expr.as_bytes(), "back");
-    is_refused(rt, Some(error), unsettled, "push");
-    Ok(())
-}
-
-#[test]
-fn settles_open_moves(rt: HostRuntime) -> Result<(), Fail> {
-    let alloc = rt.alloc();
-    for (open, beside, at, len) in [
-        (OPEN, "n: 1\n", 0, 0),
-        (OPEN, "n: 2\n", 1, 1),
-        (OPEN_UNDO, "n: 2\n", 1, 1),
-        (OPEN_UNDO, "n: 1\n", 0, 1),
-    ] {
-        let mut journal = Journal::from_json(alloc, open.as_bytes())?;
-        takes_nothing(&rt, alloc, &mut journal, beside)?;
-        journal.settle(beside.as_bytes())?;
-        stands_at(&rt, &journal, at, len);
-        journal.settle(b"any")?;
+    for (text, from, to) in rows {
+        let other = changed(alloc, text, from, to)?;
+        is_refused(rt, fault(alloc, other.as_bytes()), wanted, to);
     }
     Ok(())
 }
 
 #[test]
 fn texts_that_are_none(rt: HostRuntime) -> Result<(), Fail> {
-    let alloc = rt.alloc();
-    let bad = Some(JournalError::Fault(JournalFault::BadJournal));
-    for (text, from, to) in [
+    let rows = [
         (PORT, r#""at":1"#, r#""at":2"#),
         (PORT, r#""at":1"#, r#""at":1.5"#),
         (PORT, r#""at":1"#, r#""at":1e0"#),
@@ -203,37 +168,29 @@ fn texts_that_are_none(rt: HostRuntime) -> Result<(), Fail> {
         (OPEN_UNDO, r#""at":1"#, r#""at":0"#),
         (OPEN_UNDO, r#""record":null"#, r#""record":0"#),
         (OPEN_UNDO, "bjogMgo=", "bjogMwo="),
-    ] {
-        let changed = changed(alloc, text, from, to)?;
-        is_refused(&rt, fault(alloc, changed.as_bytes()), bad, to);
-    }
-    Ok(())
+    ];
+    are_told(&rt, rt.alloc(), &rows, BAD)
 }
 
 #[test]
 fn short_texts_that_are_none(rt: HostRuntime) {
     let alloc = rt.alloc();
-    let bad = Some(JournalError::Fault(JournalFault::BadJournal));
     for text in ["", "{}", "null", "[]", "{\"at\":0}"] {
-        is_refused(&rt, fault(alloc, text.as_bytes()), bad, text);
+        is_refused(&rt, fault(alloc, text.as_bytes()), BAD, text);
     }
-    is_refused(&rt, fault(alloc, &[b'"', 0xff, b'"']), bad, "no text");
+    is_refused(&rt, fault(alloc, &[b'"', 0xff, b'"']), BAD, "no text");
 }
 
 #[test]
 fn texts_that_are_read(rt: HostRuntime) -> Result<(), Fail> {
-    let alloc = rt.alloc();
-    for (text, from, to) in [
+    let rows = [
         (PORT, "{", " \r\n\t{ "),
         (PORT, r#","version":1}"#, r#" , "version" : 1 } "#),
         (PORT, r#""at":1"#, r#""at":7,"at":1"#),
         (PORT, "OTA5MA==", "OTA5MQ=="),
         (PORT, r#""expr":".port = 9090""#, r#""expr":"""#),
-    ] {
-        let changed = changed(alloc, text, from, to)?;
-        is_refused(&rt, fault(alloc, changed.as_bytes()), None, to);
-    }
-    Ok(())
+    ];
+    are_told(&rt, rt.alloc(), &rows, None)
 }
 
 #[test]
@@ -247,10 +204,18 @@ fn other_bytes_do_not_stand(rt: HostRuntime) -> Result<(), Fail> {
     Ok(())
 }
 
+/// Each fault has a line.
+fn have_lines(rt: &impl Abort, alloc: Global, rows: &[(JournalFault, &str)]) -> Result<(), Fail> {
+    for (fault, line) in rows {
+        let told = format!(in alloc; "{fault}")?;
+        is_text(rt, told.as_bytes(), line);
+    }
+    Ok(())
+}
+
 #[test]
 fn faults_have_lines(rt: HostRuntime) -> Result<(), Fail> {
-    let alloc = rt.alloc();
-    for (fault, line) in [
+    let rows = [
         (JournalFault::NothingToUndo, "J1 nothing to undo"),
         (JournalFault::NothingToRedo, "J2 nothing to redo"),
         (JournalFault::DoesNotStand, "J3 does not stand"),
@@ -258,8 +223,6 @@ fn faults_have_lines(rt: HostRuntime) -> Result<(), Fail> {
         (JournalFault::Unsettled, "J5 unsettled"),
         (JournalFault::JournalFull, "J6 journal full"),
         (JournalFault::BadCount, "J7 bad count"),
-    ] {
-        is_text(&rt, format!(in alloc; "{fault}")?.as_bytes(), line);
-    }
-    Ok(())
+    ];
+    have_lines(&rt, rt.alloc(), &rows)
 }

@@ -5,9 +5,10 @@ ghost use Rattle.std.specs.Prelude.{◌≢◌, Some};
 ghost use Rattle.yq_journal.specs.State.{moved_text};
 
 use super::journal_texts::{PORT, PORT_COUNTED};
-use super::{digit, edited, is_refused, is_text, stands_at};
+use super::{Call, add, digit, edited, is_refused, is_text, made, stands_at};
 use crate::{Journal, JournalError, JournalFault, Move, redo_record};
 use std::alloc::{AllocError, Global};
+use std::process::Abort;
 use std::test::Fail;
 
 pub(super) const FIRST: &str = "name: web # main\nport: 8080\n";
@@ -34,28 +35,39 @@ pub(super) fn all_memory(alloc: Global) -> Result<Vec<Vec<u8>>, AllocError> {
     Ok(held)
 }
 
-#[test]
-fn undo(rt: HostRuntime) -> Result<(), Fail> {
-    let alloc = rt.alloc();
-    let mut journal = Journal::from_json(alloc, PORT.as_bytes())?;
+/// Refuses each growth of a call in turn, and compares what it then gives.
+fn in_turn(
+    rt: &impl Abort,
+    alloc: Global,
+    journal: &mut Journal,
+    call: Call,
+    text: &str,
+) -> Result<(), Fail> {
+    let (at, len) = (journal.at(), journal.len());
     let mut held = all_memory(alloc)?;
-    let mut refused = 0u32;
-    'undo: for _ in 0..4096u32 {
-        match journal.undo(EDITED.as_bytes()) {
-            Ok(text) => {
-                is_text(&rt, &text, FIRST);
-                break 'undo;
+    for refused in 0..4096u32 {
+        match made(alloc, journal, call) {
+            Ok(given) => {
+                is_text(rt, &given, text);
+                assert!(rt; refused > 0);
+                return Ok(());
             }
             Err(error) => {
-                is_refused(&rt, Some(error), MEMORY, "undo");
-                stands_at(&rt, &journal, 1, 1);
-                refused = refused.saturating_add(1);
+                is_refused(rt, Some(error), MEMORY, text);
+                stands_at(rt, journal, at, len);
                 let _ = held.pop();
             }
         }
     }
+    Err(Fail::from(JournalError::Memory))
+}
+
+#[test]
+fn undo(rt: HostRuntime) -> Result<(), Fail> {
+    let alloc = rt.alloc();
+    let mut journal = Journal::from_json(alloc, PORT.as_bytes())?;
+    in_turn(&rt, alloc, &mut journal, Call::Undo(EDITED), FIRST)?;
     stands_at(&rt, &journal, 0, 1);
-    assert!(rt; refused > 0);
     Ok(())
 }
 
@@ -64,24 +76,8 @@ fn redo(rt: HostRuntime) -> Result<(), Fail> {
     let alloc = rt.alloc();
     let mut journal = Journal::from_json(alloc, PORT.as_bytes())?;
     let _ = journal.undo(EDITED.as_bytes())?;
-    let mut held = all_memory(alloc)?;
-    let mut refused = 0u32;
-    'redo: for _ in 0..4096u32 {
-        match journal.redo(FIRST.as_bytes()) {
-            Ok(text) => {
-                is_text(&rt, &text, EDITED);
-                break 'redo;
-            }
-            Err(error) => {
-                is_refused(&rt, Some(error), MEMORY, "redo");
-                stands_at(&rt, &journal, 0, 1);
-                refused = refused.saturating_add(1);
-                let _ = held.pop();
-            }
-        }
-    }
+    in_turn(&rt, alloc, &mut journal, Call::Redo(FIRST), EDITED)?;
     stands_at(&rt, &journal, 1, 1);
-    assert!(rt; refused > 0);
     Ok(())
 }
 
@@ -91,67 +87,44 @@ fn push(rt: HostRuntime) -> Result<(), Fail> {
     let mut journal = Journal::new(alloc);
     let mut added = digit(alloc, ".n = 2", "1", "2")?;
     let mut held = all_memory(alloc)?;
-    let mut refused = 0u32;
-    'push: for _ in 0..4096u32 {
+    for refused in 0..4096u32 {
         match journal.push(added) {
-            Ok(()) => break 'push,
+            Ok(()) => {
+                stands_at(&rt, &journal, 1, 1);
+                assert!(rt; refused > 0);
+                return Ok(());
+            }
             Err((back, error)) => {
                 is_refused(&rt, Some(error), MEMORY, "push");
                 is_text(&rt, back.expr.as_bytes(), ".n = 2");
                 stands_at(&rt, &journal, 0, 0);
                 added = back;
-                refused = refused.saturating_add(1);
                 let _ = held.pop();
             }
         }
     }
-    stands_at(&rt, &journal, 1, 1);
-    assert!(rt; refused > 0);
-    Ok(())
+    Err(Fail::from(JournalError::Memory))
 }
 
 #[test]
 fn to_json(rt: HostRuntime) -> Result<(), Fail> {
     let alloc = rt.alloc();
-    let journal = Journal::from_json(alloc, PORT.as_bytes())?;
-    let mut held = all_memory(alloc)?;
-    let mut refused = 0u32;
-    for _ in 0..4096u32 {
-        match journal.to_json(alloc) {
-            Ok(text) => {
-                is_text(&rt, &text, PORT_COUNTED);
-                assert!(rt; refused > 0);
-                return Ok(());
-            }
-            Err(AllocError) => {
-                refused = refused.saturating_add(1);
-                let _ = held.pop();
-            }
-        }
-    }
-    Err(Fail::from(JournalError::Memory))
+    let mut journal = Journal::from_json(alloc, PORT.as_bytes())?;
+    in_turn(&rt, alloc, &mut journal, Call::Write, PORT_COUNTED)
 }
 
 #[test]
 fn from_json(rt: HostRuntime) -> Result<(), Fail> {
     let alloc = rt.alloc();
-    let mut held = all_memory(alloc)?;
-    let mut refused = 0u32;
-    for _ in 0..4096u32 {
-        match Journal::from_json(alloc, PORT.as_bytes()) {
-            Ok(journal) => {
-                stands_at(&rt, &journal, 1, 1);
-                assert!(rt; refused > 0);
-                return Ok(());
-            }
-            Err(error) => {
-                is_refused(&rt, Some(error), MEMORY, "a text");
-                refused = refused.saturating_add(1);
-                let _ = held.pop();
-            }
-        }
-    }
-    Err(Fail::from(JournalError::Memory))
+    let mut journal = Journal::new(alloc);
+    in_turn(&rt, alloc, &mut journal, Call::Read(PORT), PORT_COUNTED)
+}
+
+#[test]
+fn target(rt: HostRuntime) -> Result<(), Fail> {
+    let alloc = rt.alloc();
+    let mut journal = Journal::from_json(alloc, PORT.as_bytes())?;
+    in_turn(&rt, alloc, &mut journal, Call::Target(EDITED), FIRST)
 }
 
 /// Opens a move with each growth refused in turn, and says how many were.
@@ -165,13 +138,11 @@ fn start_in_turn(
 {
     let mut step = first;
     let mut held = all_memory(alloc)?;
-    let mut refused = 0u32;
-    'tries: for _ in 0..4096u32 {
+    'tries: for refused in 0..4096u32 {
         match journal.start(step, text) {
             Ok(()) => return Ok(refused),
             Err((back, JournalError::Memory)) => {
                 step = back;
-                refused = refused.saturating_add(1);
                 let _ = held.pop();
             }
             Err((_, error)) => return Err(Fail::from(error)),
@@ -185,25 +156,13 @@ fn start_and_settle(rt: HostRuntime) -> Result<(), Fail> {
     let alloc = rt.alloc();
     let mut journal = Journal::new(alloc);
     let record = digit(alloc, ".n = 2", "1", "2")?;
-    let made = redo_record(alloc, &record, b"n: 1\n")?;
-    if made.as_slice() == b"n: 1\n".as_slice() {
+    let text = redo_record(alloc, &record, b"n: 1\n")?;
+    if text.as_slice() == b"n: 1\n".as_slice() {
         return Err(Fail::from(JournalFault::DoesNotStand));
     }
     let refused = start_in_turn(alloc, &mut journal, Move::Edit(record), b"n: 1\n")?;
     assert!(rt; refused > 0);
-    let mut held = all_memory(alloc)?;
-    let mut refused = 0u32;
-    'settle: for _ in 0..4096u32 {
-        match journal.settle(&made) {
-            Ok(()) => break 'settle,
-            Err(error) => {
-                is_refused(&rt, Some(error), MEMORY, "settle");
-                refused = refused.saturating_add(1);
-                let _ = held.pop();
-            }
-        }
-    }
-    assert!(rt; refused > 0);
+    in_turn(&rt, alloc, &mut journal, Call::Settle("n: 2\n"), "")?;
     journal.settle(b"any")?;
     stands_at(&rt, &journal, 1, 1);
     Ok(())
@@ -214,23 +173,8 @@ fn squash(rt: HostRuntime) -> Result<(), Fail> {
     let alloc = rt.alloc();
     let mut journal = Journal::from_json(alloc, PORT.as_bytes())?;
     let added = edited(alloc, ".port = 1", &[(23, "9090", "1")], 28, 25)?;
-    if let Err((_, error)) = journal.push(added) {
-        return Err(Fail::from(error));
-    }
-    let mut held = all_memory(alloc)?;
-    let mut refused = 0u32;
-    'squash: for _ in 0..4096u32 {
-        match journal.squash(2) {
-            Ok(()) => break 'squash,
-            Err(error) => {
-                is_refused(&rt, Some(error), MEMORY, "squash");
-                stands_at(&rt, &journal, 2, 2);
-                refused = refused.saturating_add(1);
-                let _ = held.pop();
-            }
-        }
-    }
-    assert!(rt; refused > 0);
+    add(&mut journal, added)?;
+    in_turn(&rt, alloc, &mut journal, Call::Squash(2), "")?;
     stands_at(&rt, &journal, 1, 1);
     Ok(())
 }

@@ -1,8 +1,8 @@
 //! Lists of moves.
 
 use super::journal_texts::OPEN_COUNTED;
-use super::{add, digit, edited, is_refused, is_text, refused, stands_at};
-use crate::{Journal, JournalError, JournalFault, Move, Record, redo_record};
+use super::{Call, UNSETTLED, add, digit, edited, is_refused, is_text, made, refused, stands_at};
+use crate::{Journal, JournalError, JournalFault, Move, redo_record};
 use std::alloc::Global;
 use std::process::Abort;
 use std::test::Fail;
@@ -36,56 +36,73 @@ fn run(
     }
 }
 
-#[test]
-fn list_of_commands(rt: HostRuntime) -> Result<(), Fail> {
-    let alloc = rt.alloc();
+/// A command, the text after it, what is refused, the cursor, and how many
+/// records there are.
+type Row = (Command, &'static str, Option<JournalFault>, usize, usize);
+
+/// The text after a command, which is refused so or not at all.
+fn carried(
+    rt: &impl Abort,
+    alloc: Global,
+    journal: &mut Journal,
+    text: Vec<u8>,
+    row: &Row,
+) -> Result<Vec<u8>, Fail> {
+    let fault = row.2.map(JournalError::Fault);
+    match run(alloc, journal, &text, &row.0)? {
+        Ok(made) => {
+            is_refused(rt, None, fault, row.1);
+            Ok(made)
+        }
+        Err(error) => {
+            is_refused(rt, Some(error), fault, row.1);
+            Ok(text)
+        }
+    }
+}
+
+/// Commands on a journal and its text, one after the other.
+fn goes_along(rt: &impl Abort, alloc: Global, rows: &[Row]) -> Result<(), Fail> {
     let mut journal = Journal::new(alloc);
     let mut text = Vec::from_slice(alloc, b"n: 1\n")?;
-    for (command, want, fault, at, len) in [
-        (Command::Edit(".n = 2", "1", "2"), "n: 2\n", None, 1, 1),
-        (Command::Edit(".n = 3", "2", "3"), "n: 3\n", None, 2, 2),
-        (Command::Undo, "n: 2\n", None, 1, 2),
-        (Command::Undo, "n: 1\n", None, 0, 2),
-        (Command::Redo, "n: 2\n", None, 1, 2),
-        (Command::Edit(".n = 5", "2", "5"), "n: 5\n", None, 2, 2),
-        (
-            Command::Redo,
-            "n: 5\n",
-            Some(JournalFault::NothingToRedo),
-            2,
-            2,
-        ),
-        (Command::Undo, "n: 2\n", None, 1, 2),
-        (Command::Undo, "n: 1\n", None, 0, 2),
-        (
-            Command::Undo,
-            "n: 1\n",
-            Some(JournalFault::NothingToUndo),
-            0,
-            2,
-        ),
-    ] {
-        let fault = fault.map(JournalError::Fault);
-        match run(alloc, &mut journal, &text, &command)? {
-            Ok(made) => {
-                is_refused(&rt, None, fault, want);
-                text = made;
-            }
-            Err(error) => is_refused(&rt, Some(error), fault, want),
-        }
-        is_text(&rt, &text, want);
-        stands_at(&rt, &journal, at, len);
+    for row in rows {
+        text = carried(rt, alloc, &mut journal, text, row)?;
+        is_text(rt, &text, row.1);
+        stands_at(rt, &journal, row.3, row.4);
     }
     Ok(())
 }
 
-/// Opens an edit that leads to another text, and says what was refused.
+#[test]
+fn list_of_commands(rt: HostRuntime) -> Result<(), Fail> {
+    let (undo, redo) = (Command::Undo, Command::Redo);
+    let no_redo = Some(JournalFault::NothingToRedo);
+    let no_undo = Some(JournalFault::NothingToUndo);
+    let rows = [
+        (Command::Edit(".n = 2", "1", "2"), "n: 2\n", None, 1, 1),
+        (Command::Edit(".n = 3", "2", "3"), "n: 3\n", None, 2, 2),
+        (undo, "n: 2\n", None, 1, 2),
+        (undo, "n: 1\n", None, 0, 2),
+        (redo, "n: 2\n", None, 1, 2),
+        (Command::Edit(".n = 5", "2", "5"), "n: 5\n", None, 2, 2),
+        (redo, "n: 5\n", no_redo, 2, 2),
+        (undo, "n: 2\n", None, 1, 2),
+        (undo, "n: 1\n", None, 0, 2),
+        (undo, "n: 1\n", no_undo, 0, 2),
+    ];
+    goes_along(&rt, rt.alloc(), &rows)
+}
+
+/// Opens an edit of the digit 1 that leads to another text, and says what
+/// was refused.
 fn open_edit(
     alloc: Global,
     journal: &mut Journal,
-    record: Record,
-    text: &[u8],
+    expr: &str,
+    new: &str,
 ) -> Result<Option<JournalError>, Fail> {
+    let record = digit(alloc, expr, "1", new)?;
+    let text = b"n: 1\n".as_slice();
     let made = redo_record(alloc, &record, text)?;
     if made.as_slice() == text {
         return Err(Fail::from(JournalFault::DoesNotStand));
@@ -100,37 +117,26 @@ fn open_edit(
 fn opens_an_edit(rt: HostRuntime) -> Result<(), Fail> {
     let alloc = rt.alloc();
     let mut journal = Journal::new(alloc);
-    let refused = open_edit(
-        alloc,
-        &mut journal,
-        digit(alloc, ".n = 2", "1", "2")?,
-        b"n: 1\n",
-    )?;
+    let refused = open_edit(alloc, &mut journal, ".n = 2", "2")?;
     is_refused(&rt, refused, None, "the first");
     let text = journal.to_json(alloc)?;
     is_text(&rt, &text, OPEN_COUNTED);
-    let refused = open_edit(
-        alloc,
-        &mut journal,
-        digit(alloc, ".n = 3", "1", "3")?,
-        b"n: 1\n",
-    )?;
-    let unsettled = Some(JournalError::Fault(JournalFault::Unsettled));
-    is_refused(&rt, refused, unsettled, "the second");
+    let refused = open_edit(alloc, &mut journal, ".n = 3", "3")?;
+    is_refused(&rt, refused, UNSETTLED, "the second");
     Ok(())
 }
 
-/// One record is taken back.
-fn undone(rt: &impl Abort, journal: &mut Journal, from: &str, to: &str) -> Result<(), Fail> {
-    let text = journal.undo(from.as_bytes())?;
-    is_text(rt, &text, to);
-    Ok(())
-}
-
-/// One record is done again.
-fn redone(rt: &impl Abort, journal: &mut Journal, from: &str, to: &str) -> Result<(), Fail> {
-    let text = journal.redo(from.as_bytes())?;
-    is_text(rt, &text, to);
+/// Calls on a journal give texts, one after the other.
+fn give(
+    rt: &impl Abort,
+    alloc: Global,
+    journal: &mut Journal,
+    rows: &[(Call, &str)],
+) -> Result<(), Fail> {
+    for (call, text) in rows {
+        let given = made(alloc, journal, *call)?;
+        is_text(rt, &given, text);
+    }
     Ok(())
 }
 
@@ -155,13 +161,16 @@ fn squashes(rt: HostRuntime) -> Result<(), Fail> {
     add(&mut journal, digit(alloc, ".n = 2", "1", "2")?)?;
     add(&mut journal, digit(alloc, ".n = 3", "2", "3")?)?;
     add(&mut journal, digit(alloc, ".n = 4", "3", "4")?)?;
-    undone(&rt, &mut journal, "n: 4\n", "n: 3\n")?;
-    journal.squash(2)?;
+    let before = [(Call::Undo("n: 4\n"), "n: 3\n"), (Call::Squash(2), "")];
+    give(&rt, alloc, &mut journal, &before)?;
     stands_at(&rt, &journal, 1, 2);
-    redone(&rt, &mut journal, "n: 3\n", "n: 4\n")?;
-    undone(&rt, &mut journal, "n: 4\n", "n: 3\n")?;
-    undone(&rt, &mut journal, "n: 3\n", "n: 1\n")?;
-    redone(&rt, &mut journal, "n: 1\n", "n: 3\n")
+    let behind = [
+        (Call::Redo("n: 3\n"), "n: 4\n"),
+        (Call::Undo("n: 4\n"), "n: 3\n"),
+        (Call::Undo("n: 3\n"), "n: 1\n"),
+        (Call::Redo("n: 1\n"), "n: 3\n"),
+    ];
+    give(&rt, alloc, &mut journal, &behind)
 }
 
 #[test]
