@@ -8,5 +8,6 @@ mod outputs;
 mod printing;
 mod refused;
 mod squash;
+mod steps;
 mod stores;
 mod words;

@@ -1,12 +1,8 @@
 //! Commands over a store in memory, one after the other.
 
-use crate::answer::Answer;
 use crate::fault::Fault;
-use crate::output::memory::MemoryOut;
-use crate::run::run_list;
-use crate::store::Store;
-use crate::store::memory::{Left, MemoryStore};
-use crate::words::command_of;
+use crate::store::memory::Left;
+use crate::tests::steps::{Step, take_all};
 use std::alloc::Global;
 use std::process::Abort;
 use std::test::Fail;
@@ -21,216 +17,203 @@ pub const WEB_9090: &str = "name: web # main\nport: 9090\n";
 pub const OPEN_EDIT: &str =
     "{\"at\":0,\"pending\":{\"from\":\"bjogMQo=\",\"kind\":\"edit\",\"record\":{\"after_len\":5,\"before_len\":5,\"count\":1,\"expr\":\".n = 2\",\"splices\":[{\"at\":3,\"new\":\"Mg==\",\"old\":\"MQ==\"}]}},\"records\":[],\"version\":2}\n";
 
-/// A store that holds one file.
-pub fn store_of(alloc: Global, name: &str, text: &str) -> Result<MemoryStore, Fail> {
-    let mut store = MemoryStore::new(alloc);
-    store.replace(name, text.as_bytes())?;
-    Ok(store)
-}
+/// The journal of an edit from `n: 1` to `n: 2`.
+const DIGIT: &str =
+    "{\"at\":1,\"pending\":null,\"records\":[{\"after_len\":5,\"before_len\":5,\"count\":1,\"expr\":\".n = 2\",\"splices\":[{\"at\":3,\"new\":\"Mg==\",\"old\":\"MQ==\"}]}],\"version\":2}\n";
 
-/// The answer to the words of one command.
-pub fn answer(alloc: Global, store: &mut MemoryStore, words: &[&str]) -> Result<Answer, Fail> {
-    let command = command_of(alloc, words)?;
-    let mut out = MemoryOut::new(alloc);
-    let answers = run_list(alloc, store, &mut out, &[command])?;
-    match answers.first() {
-        Some(answer) => Ok(*answer),
-        None => Ok(Answer::NoMatch),
-    }
-}
+/// The journal of an edit of the port.
+const PORT: &str =
+    "{\"at\":1,\"pending\":null,\"records\":[{\"after_len\":28,\"before_len\":28,\"count\":1,\"expr\":\".port = 9090\",\"splices\":[{\"at\":23,\"new\":\"OTA5MA==\",\"old\":\"ODA4MA==\"}]}],\"version\":2}\n";
 
-/// Asserts what a file holds.
-pub fn assert_file(rt: &impl Abort, store: &MemoryStore, name: &str, text: &str) {
-    match store.bytes(name) {
-        Some(bytes) => assert_eq!(rt; bytes.as_slice(), text.as_bytes(), "{name}"),
-        None => assert!(rt; false, "{name} isn't there"),
-    }
+/// The same, undone.
+const PORT_UNDONE: &str =
+    "{\"at\":0,\"pending\":null,\"records\":[{\"after_len\":28,\"before_len\":28,\"count\":1,\"expr\":\".port = 9090\",\"splices\":[{\"at\":23,\"new\":\"OTA5MA==\",\"old\":\"ODA4MA==\"}]}],\"version\":2}\n";
+
+/// An edit of a text to another one is undone, once, and done again.
+fn is_undone<'a>(
+    rt: &impl Abort,
+    alloc: Global,
+    old: &'a str,
+    edit: &'a [&'a str],
+    new: &'a str,
+) -> Result<(), Fail> {
+    let steps = [
+        Step::Put("f.yaml", old),
+        Step::Done(edit),
+        Step::Holds("f.yaml", new),
+        Step::Done(&["undo", "f.yaml"]),
+        Step::Holds("f.yaml", old),
+        Step::Refused(&["undo", "f.yaml"], Fault::NothingToUndo),
+        Step::Done(&["redo", "f.yaml"]),
+        Step::Holds("f.yaml", new),
+    ];
+    take_all(rt, alloc, &steps)
 }
 
 #[test]
 fn an_edit_is_undone(rt: HostRuntime) -> Result<(), Fail> {
     let alloc = rt.alloc();
-    let rows = [
-        (WEB, ".port = 9090", WEB_9090),
-        (
-            "server:\n  # public\n  port: 8080 # http\n  host: web\n",
-            ".server.port = 9090",
-            "server:\n  # public\n  port: 9090 # http\n  host: web\n",
-        ),
-        ("n: 1\r\nm: 2\r\n", ".n = 2", "n: 2\r\nm: 2\r\n"),
+    let server = "server:\n  # public\n  port: 8080 # http\n  host: web\n";
+    let edited = "server:\n  # public\n  port: 9090 # http\n  host: web\n";
+    is_undone(&rt, alloc, WEB, &["-i", ".port = 9090", "f.yaml"], WEB_9090)?;
+    is_undone(
+        &rt,
+        alloc,
+        server,
+        &["-i", ".server.port = 9090", "f.yaml"],
+        edited,
+    )?;
+    is_undone(
+        &rt,
+        alloc,
+        "n: 1\r\nm: 2\r\n",
+        &["-i", ".n = 2", "f.yaml"],
+        "n: 2\r\nm: 2\r\n",
+    )
+}
+
+/// An edit of a text leaves this journal.
+fn is_recorded<'a>(
+    rt: &impl Abort,
+    alloc: Global,
+    text: &'a str,
+    expr: &'a str,
+    journal: &'a str,
+) -> Result<(), Fail> {
+    let steps = [
+        Step::Put("f", text),
+        Step::Done(&["-i", expr, "f"]),
+        Step::Holds("f.undo.json", journal),
     ];
-    for (old, expr, new) in rows {
-        let mut store = store_of(alloc, "f.yaml", old)?;
-        assert_eq!(rt;
-            answer(alloc, &mut store, &["-i", expr, "f.yaml"])?,
-            Answer::Done
-        );
-        assert_file(&rt, &store, "f.yaml", new);
-        assert_eq!(rt;
-            answer(alloc, &mut store, &["undo", "f.yaml"])?,
-            Answer::Done
-        );
-        assert_file(&rt, &store, "f.yaml", old);
-        let again = answer(alloc, &mut store, &["undo", "f.yaml"])?;
-        assert_eq!(rt; again, Answer::Refused(Fault::NothingToUndo));
-        assert_eq!(rt;
-            answer(alloc, &mut store, &["redo", "f.yaml"])?,
-            Answer::Done
-        );
-        assert_file(&rt, &store, "f.yaml", new);
-    }
-    Ok(())
+    take_all(rt, alloc, &steps)
 }
 
 #[test]
 fn an_edit_is_recorded(rt: HostRuntime) -> Result<(), Fail> {
     let alloc = rt.alloc();
-    let rows = [
-        (
-            "n: 1\n",
-            ".n = 2",
-            "{\"at\":1,\"pending\":null,\"records\":[{\"after_len\":5,\"before_len\":5,\"count\":1,\"expr\":\".n = 2\",\"splices\":[{\"at\":3,\"new\":\"Mg==\",\"old\":\"MQ==\"}]}],\"version\":2}\n",
-        ),
-        (
-            WEB,
-            ".port = 9090",
-            "{\"at\":1,\"pending\":null,\"records\":[{\"after_len\":28,\"before_len\":28,\"count\":1,\"expr\":\".port = 9090\",\"splices\":[{\"at\":23,\"new\":\"OTA5MA==\",\"old\":\"ODA4MA==\"}]}],\"version\":2}\n",
-        ),
-    ];
-    for (text, expr, journal) in rows {
-        let mut store = store_of(alloc, "f", text)?;
-        assert_eq!(rt;
-            answer(alloc, &mut store, &["-i", expr, "f"])?,
-            Answer::Done
-        );
-        assert_file(&rt, &store, "f.undo.json", journal);
-    }
-    Ok(())
+    is_recorded(&rt, alloc, "n: 1\n", ".n = 2", DIGIT)?;
+    is_recorded(&rt, alloc, WEB, ".port = 9090", PORT)
 }
 
 #[test]
 fn the_journal_has_the_name_that_is_given(rt: HostRuntime) -> Result<(), Fail> {
-    let alloc = rt.alloc();
-    let mut store = store_of(alloc, "f.yaml", "n: 1\n")?;
-    let words = ["-i", "--journal", "j.json", ".n = 2", "f.yaml"];
-    assert_eq!(rt; answer(alloc, &mut store, &words)?, Answer::Done);
-    assert_file(&rt, &store, "f.yaml", "n: 2\n");
-    assert!(rt; store.bytes("j.json").is_some());
-    assert!(rt; store.bytes("f.yaml.undo.json").is_none());
-    assert_eq!(rt;
-        answer(
-            alloc,
-            &mut store,
-            &["undo", "--journal", "j.json", "f.yaml"]
-        )?,
-        Answer::Done
-    );
-    assert_file(&rt, &store, "f.yaml", "n: 1\n");
-    Ok(())
+    let steps = [
+        Step::Put("f.yaml", "n: 1\n"),
+        Step::Done(&["-i", "--journal", "j.json", ".n = 2", "f.yaml"]),
+        Step::Holds("f.yaml", "n: 2\n"),
+        Step::Holds("j.json", DIGIT),
+        Step::Lacks("f.yaml.undo.json"),
+        Step::Done(&["undo", "--journal", "j.json", "f.yaml"]),
+        Step::Holds("f.yaml", "n: 1\n"),
+    ];
+    take_all(&rt, rt.alloc(), &steps)
 }
 
 #[test]
-fn an_undo_stands_on_a_changed_file_or_not(rt: HostRuntime) -> Result<(), Fail> {
-    let alloc = rt.alloc();
-    let rows = [
-        (
-            WEB,
-            ".port = 9090",
-            "name: api # main\nport: 9090\n",
-            Answer::Done,
-            "name: api # main\nport: 8080\n",
-        ),
-        (
-            WEB,
-            ".port = 9090",
-            "name: web # main\nport: 9091\n",
-            Answer::Refused(Fault::DoesNotStand),
-            "name: web # main\nport: 9091\n",
-        ),
-        (
-            "n: 1\n",
-            ".n = 2",
-            "n: 3\n",
-            Answer::Refused(Fault::DoesNotStand),
-            "n: 3\n",
-        ),
+fn an_undo_stands_on_a_changed_file(rt: HostRuntime) -> Result<(), Fail> {
+    let steps = [
+        Step::Put("f", WEB),
+        Step::Done(&["-i", ".port = 9090", "f"]),
+        Step::Put("f", "name: api # main\nport: 9090\n"),
+        Step::Holds("f.undo.json", PORT),
+        Step::Done(&["undo", "f"]),
+        Step::Holds("f", "name: api # main\nport: 8080\n"),
+        Step::Holds("f.undo.json", PORT_UNDONE),
     ];
-    for (text, expr, changed, want, left) in rows {
-        let mut store = store_of(alloc, "f", text)?;
-        assert_eq!(rt;
-            answer(alloc, &mut store, &["-i", expr, "f"])?,
-            Answer::Done
-        );
-        store.replace("f", changed.as_bytes())?;
-        let journal = store.read(alloc, "f.undo.json")?;
-        assert_eq!(rt; answer(alloc, &mut store, &["undo", "f"])?, want);
-        assert_file(&rt, &store, "f", left);
-        let stays = store.read(alloc, "f.undo.json")? == journal;
-        assert_eq!(rt; stays, want != Answer::Done);
-    }
-    Ok(())
+    take_all(&rt, rt.alloc(), &steps)
+}
+
+/// After an edit the file is changed by another hand; then the undo is
+/// refused, and leaves the file and the journal.
+fn does_not_stand<'a>(
+    rt: &impl Abort,
+    alloc: Global,
+    text: &'a str,
+    edit: &'a [&'a str],
+    journal: &'a str,
+    changed: &'a str,
+) -> Result<(), Fail> {
+    let steps = [
+        Step::Put("f", text),
+        Step::Done(edit),
+        Step::Put("f", changed),
+        Step::Refused(&["undo", "f"], Fault::DoesNotStand),
+        Step::Holds("f", changed),
+        Step::Holds("f.undo.json", journal),
+    ];
+    take_all(rt, alloc, &steps)
+}
+
+#[test]
+fn an_undo_does_not_stand_on_other_bytes(rt: HostRuntime) -> Result<(), Fail> {
+    let alloc = rt.alloc();
+    let other = "name: web # main\nport: 9091\n";
+    does_not_stand(&rt, alloc, WEB, &["-i", ".port = 9090", "f"], PORT, other)?;
+    does_not_stand(
+        &rt,
+        alloc,
+        "n: 1\n",
+        &["-i", ".n = 2", "f"],
+        DIGIT,
+        "n: 3\n",
+    )
 }
 
 #[test]
 fn edits_undos_and_redos_move_along_a_history(rt: HostRuntime) -> Result<(), Fail> {
-    let alloc = rt.alloc();
-    let mut store = store_of(alloc, "f", "n: 1\n")?;
-    let rows: [(&[&str], Answer, &str); 10] = [
-        (&["-i", ".n = 2", "f"], Answer::Done, "n: 2\n"),
-        (&["-i", ".n = 3", "f"], Answer::Done, "n: 3\n"),
-        (&["undo", "f"], Answer::Done, "n: 2\n"),
-        (&["undo", "f"], Answer::Done, "n: 1\n"),
-        (&["redo", "f"], Answer::Done, "n: 2\n"),
-        (&["-i", ".n = 5", "f"], Answer::Done, "n: 5\n"),
-        (
-            &["redo", "f"],
-            Answer::Refused(Fault::NothingToRedo),
-            "n: 5\n",
-        ),
-        (&["undo", "f"], Answer::Done, "n: 2\n"),
-        (&["undo", "f"], Answer::Done, "n: 1\n"),
-        (
-            &["undo", "f"],
-            Answer::Refused(Fault::NothingToUndo),
-            "n: 1\n",
-        ),
+    let steps = [
+        Step::Put("f", "n: 1\n"),
+        Step::Done(&["-i", ".n = 2", "f"]),
+        Step::Holds("f", "n: 2\n"),
+        Step::Done(&["-i", ".n = 3", "f"]),
+        Step::Holds("f", "n: 3\n"),
+        Step::Done(&["undo", "f"]),
+        Step::Holds("f", "n: 2\n"),
+        Step::Done(&["undo", "f"]),
+        Step::Holds("f", "n: 1\n"),
+        Step::Done(&["redo", "f"]),
+        Step::Holds("f", "n: 2\n"),
+        Step::Done(&["-i", ".n = 5", "f"]),
+        Step::Holds("f", "n: 5\n"),
+        Step::Refused(&["redo", "f"], Fault::NothingToRedo),
+        Step::Holds("f", "n: 5\n"),
+        Step::Done(&["undo", "f"]),
+        Step::Holds("f", "n: 2\n"),
+        Step::Done(&["undo", "f"]),
+        Step::Holds("f", "n: 1\n"),
+        Step::Refused(&["undo", "f"], Fault::NothingToUndo),
+        Step::Holds("f", "n: 1\n"),
     ];
-    for (words, want, text) in rows {
-        assert_eq!(rt; answer(alloc, &mut store, words)?, want);
-        assert_file(&rt, &store, "f", text);
-    }
-    Ok(())
+    take_all(&rt, rt.alloc(), &steps)
 }
 
 #[test]
 fn an_edit_to_an_equal_text_writes_nothing(rt: HostRuntime) -> Result<(), Fail> {
-    let alloc = rt.alloc();
-    let mut store = store_of(alloc, "f", "n: 1\n")?;
-    store.fail_at(3, Left::OldBytes);
-    assert_eq!(rt;
-        answer(alloc, &mut store, &["-i", ".n = 1", "f"])?,
-        Answer::Done
-    );
-    assert_eq!(rt; store.calls(), 2);
-    assert!(rt; store.bytes("f.undo.json").is_none());
-    Ok(())
+    let steps = [
+        Step::Put("f", "n: 1\n"),
+        Step::Fail(3, Left::OldBytes),
+        Step::Done(&["-i", ".n = 1", "f"]),
+        Step::Calls(2),
+        Step::Lacks("f.undo.json"),
+    ];
+    take_all(&rt, rt.alloc(), &steps)
 }
 
 #[test]
 fn an_undo_to_an_equal_text_writes_the_journal_alone(rt: HostRuntime) -> Result<(), Fail> {
-    let alloc = rt.alloc();
     let there_and_back =
         "{\"at\":1,\"pending\":null,\"records\":[{\"after_len\":5,\"before_len\":5,\"count\":2,\"expr\":\".n = 2 | .n = 1\",\"splices\":[{\"at\":3,\"new\":\"Mg==\",\"old\":\"MQ==\"},{\"at\":3,\"new\":\"MQ==\",\"old\":\"Mg==\"}]}],\"version\":2}\n";
     let undone =
         "{\"at\":0,\"pending\":null,\"records\":[{\"after_len\":5,\"before_len\":5,\"count\":2,\"expr\":\".n = 2 | .n = 1\",\"splices\":[{\"at\":3,\"new\":\"Mg==\",\"old\":\"MQ==\"},{\"at\":3,\"new\":\"MQ==\",\"old\":\"Mg==\"}]}],\"version\":2}\n";
-    let mut store = store_of(alloc, "f", "n: 1\n")?;
-    store.replace("f.undo.json", there_and_back.as_bytes())?;
-    store.fail_at(9, Left::OldBytes);
-    assert_eq!(rt; answer(alloc, &mut store, &["undo", "f"])?, Answer::Done);
-    assert_eq!(rt; store.calls(), 3);
-    assert_file(&rt, &store, "f", "n: 1\n");
-    assert_file(&rt, &store, "f.undo.json", undone);
-    let again = answer(alloc, &mut store, &["undo", "f"])?;
-    assert_eq!(rt; again, Answer::Refused(Fault::NothingToUndo));
-    Ok(())
+    let steps = [
+        Step::Put("f", "n: 1\n"),
+        Step::Put("f.undo.json", there_and_back),
+        Step::Fail(9, Left::OldBytes),
+        Step::Done(&["undo", "f"]),
+        Step::Calls(3),
+        Step::Holds("f", "n: 1\n"),
+        Step::Holds("f.undo.json", undone),
+        Step::Refused(&["undo", "f"], Fault::NothingToUndo),
+    ];
+    take_all(&rt, rt.alloc(), &steps)
 }

@@ -1,8 +1,19 @@
 //! The line of each fault.
 
 use crate::fault::Fault;
+use std::alloc::Global;
+use std::process::Abort;
 use std::test::Fail;
 use yq_scalar::{FaultKind, ReadFault};
+
+/// Each fault has its line.
+fn have_lines(rt: &impl Abort, alloc: Global, rows: &[(Fault, &str)]) -> Result<(), Fail> {
+    for (fault, line) in rows {
+        let told = fault.to_string(alloc)?;
+        assert_eq!(rt; told.as_str(), *line);
+    }
+    Ok(())
+}
 
 #[test]
 fn each_fault_has_its_line(rt: HostRuntime) -> Result<(), Fail> {
@@ -40,8 +51,21 @@ fn each_fault_has_its_line(rt: HostRuntime) -> Result<(), Fail> {
         (Fault::KeyTooLong, "X16 key too long"),
         (Fault::OutOfMemory, "M1 out of memory"),
     ];
-    for (fault, line) in rows {
-        assert_eq!(rt; fault.to_string(rt.alloc())?.as_str(), line);
+    have_lines(&rt, rt.alloc(), &rows)
+}
+
+/// Each fault of reading, at a line, has its line.
+fn have_lines_of_reading(
+    rt: &impl Abort,
+    alloc: Global,
+    rows: &[(FaultKind, u64, &str)],
+) -> Result<(), Fail> {
+    for (kind, line, text) in rows {
+        let fault = Fault::Unreadable(ReadFault {
+            kind: *kind,
+            line: *line,
+        });
+        have_lines(rt, alloc, &[(fault, *text)])?;
     }
     Ok(())
 }
@@ -86,9 +110,5 @@ fn each_fault_of_reading_has_its_line(rt: HostRuntime) -> Result<(), Fail> {
             "Y20 line 134: carriage return",
         ),
     ];
-    for (kind, line, text) in rows {
-        let fault = Fault::Unreadable(ReadFault { kind, line });
-        assert_eq!(rt; fault.to_string(rt.alloc())?.as_str(), text);
-    }
-    Ok(())
+    have_lines_of_reading(&rt, rt.alloc(), &rows)
 }

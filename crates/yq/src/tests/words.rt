@@ -4,6 +4,7 @@ use crate::command::Command;
 use crate::fault::Fault;
 use crate::words::command_of;
 use std::alloc::{AllocError, Global};
+use std::process::Abort;
 use std::test::Fail;
 
 /// What `eval` is expected to hold.
@@ -32,9 +33,34 @@ fn text(alloc: Global, text: &str) -> Result<String, AllocError> {
     String::from_str(alloc, text)
 }
 
+/// The words of a row are understood as its command.
+fn is_understood(rt: &impl Abort, alloc: Global, row: &Row) -> Result<(), Fail> {
+    let want = Command::Eval {
+        expr: text(alloc, row.expr)?,
+        file: text(alloc, row.file)?,
+        journal: text(alloc, row.journal)?,
+        in_place: row.in_place,
+        exit_status: row.exit_status,
+        no_doc: row.no_doc,
+    };
+    is_command(rt, alloc, row.words, Ok(want));
+    Ok(())
+}
+
+/// Words are this command, or are refused.
+fn is_command(rt: &impl Abort, alloc: Global, words: &[&str], want: Result<Command, Fault>) {
+    assert_eq!(rt; command_of(alloc, words), want, "{words:?}");
+}
+
+/// Words that fit nothing are refused.
+fn are_refused(rt: &impl Abort, alloc: Global, rows: &[&[&str]]) {
+    for words in rows {
+        is_command(rt, alloc, words, Err(Fault::Usage));
+    }
+}
+
 #[test]
 fn eval_is_understood(rt: HostRuntime) -> Result<(), Fail> {
-    let alloc = rt.alloc();
     let rows = [
         Row {
             words: &["eval", ".a", "f.yaml"],
@@ -109,77 +135,78 @@ fn eval_is_understood(rt: HostRuntime) -> Result<(), Fail> {
         },
     ];
     for row in rows {
-        let want = Command::Eval {
-            expr: text(alloc, row.expr)?,
-            file: text(alloc, row.file)?,
-            journal: text(alloc, row.journal)?,
-            in_place: row.in_place,
-            exit_status: row.exit_status,
-            no_doc: row.no_doc,
-        };
-        assert_eq!(rt; command_of(alloc, row.words), Ok(want));
+        is_understood(&rt, rt.alloc(), &row)?;
     }
     Ok(())
 }
 
+/// An undo of `f` has this journal.
+fn is_undo(rt: &impl Abort, alloc: Global, words: &[&str], journal: &str) -> Result<(), Fail> {
+    let (file, journal) = (text(alloc, "f")?, text(alloc, journal)?);
+    is_command(rt, alloc, words, Ok(Command::Undo { file, journal }));
+    Ok(())
+}
+
 #[test]
-fn other_commands_have_their_words(rt: HostRuntime) -> Result<(), Fail> {
+fn undo_has_its_words(rt: HostRuntime) -> Result<(), Fail> {
     let alloc = rt.alloc();
-    let rows: [(&[&str], &str); 3] = [
-        (&["undo", "f"], "f.undo.json"),
-        (&["undo", "--journal", "j", "f"], "j"),
-        (&["undo", "f", "--journal", "j"], "j"),
-    ];
-    for (words, journal) in rows {
-        let want = Command::Undo {
-            file: text(alloc, "f")?,
-            journal: text(alloc, journal)?,
-        };
-        assert_eq!(rt; command_of(alloc, words), Ok(want));
-    }
-    let want = Command::Redo {
-        file: text(alloc, "d/f")?,
-        journal: text(alloc, "d/f.undo.json")?,
-    };
-    assert_eq!(rt; command_of(alloc, &["redo", "d/f"]), Ok(want));
-    let want = Command::History {
-        file: text(alloc, "f")?,
-        journal: text(alloc, "f.undo.json")?,
-    };
-    assert_eq!(rt; command_of(alloc, &["history", "f"]), Ok(want));
+    is_undo(&rt, alloc, &["undo", "f"], "f.undo.json")?;
+    is_undo(&rt, alloc, &["undo", "--journal", "j", "f"], "j")?;
+    is_undo(&rt, alloc, &["undo", "f", "--journal", "j"], "j")
+}
+
+#[test]
+fn redo_has_its_words(rt: HostRuntime) -> Result<(), Fail> {
+    let alloc = rt.alloc();
+    let (file, journal) = (text(alloc, "d/f")?, text(alloc, "d/f.undo.json")?);
+    is_command(
+        &rt,
+        alloc,
+        &["redo", "d/f"],
+        Ok(Command::Redo { file, journal }),
+    );
+    Ok(())
+}
+
+#[test]
+fn history_has_its_words(rt: HostRuntime) -> Result<(), Fail> {
+    let alloc = rt.alloc();
+    let (file, journal) = (text(alloc, "f")?, text(alloc, "f.undo.json")?);
+    is_command(
+        &rt,
+        alloc,
+        &["history", "f"],
+        Ok(Command::History { file, journal }),
+    );
+    Ok(())
+}
+
+/// A word is the number of a squash of `f`.
+fn is_squash(rt: &impl Abort, alloc: Global, word: &str, n: u64) -> Result<(), Fail> {
+    let (file, journal) = (text(alloc, "f")?, text(alloc, "f.undo.json")?);
+    let want = Command::Squash { n, file, journal };
+    is_command(rt, alloc, &["squash", word, "f"], Ok(want));
     Ok(())
 }
 
 #[test]
 fn squash_takes_decimal_digits(rt: HostRuntime) -> Result<(), Fail> {
     let alloc = rt.alloc();
-    let rows = [
-        ("0", 0),
-        ("2", 2),
-        ("007", 7),
-        ("18446744073709551615", u64::MAX),
-    ];
-    for (word, n) in rows {
-        let want = Command::Squash {
-            n,
-            file: text(alloc, "f")?,
-            journal: text(alloc, "f.undo.json")?,
-        };
-        assert_eq!(rt; command_of(alloc, &["squash", word, "f"]), Ok(want));
-    }
-    for word in ["x", "", "+5", "-1", "1.0", "18446744073709551616"] {
-        assert_eq!(rt;
-            command_of(alloc, &["squash", word, "f"]),
-            Err(Fault::Usage),
-            "{word}"
-        );
-    }
-    Ok(())
+    is_squash(&rt, alloc, "0", 0)?;
+    is_squash(&rt, alloc, "2", 2)?;
+    is_squash(&rt, alloc, "007", 7)?;
+    is_squash(&rt, alloc, "18446744073709551615", u64::MAX)
 }
 
 #[test]
-fn words_that_fit_nothing_are_refused(rt: HostRuntime) -> Result<(), Fail> {
-    let alloc = rt.alloc();
+fn squash_takes_nothing_else(rt: HostRuntime) {
+    for word in ["x", "", "+5", "-1", "1.0", "18446744073709551616"] {
+        is_command(&rt, rt.alloc(), &["squash", word, "f"], Err(Fault::Usage));
+    }
+}
+
+#[test]
+fn words_that_fit_nothing_are_refused(rt: HostRuntime) {
     let rows: [&[&str]; 14] = [
         &[],
         &[".a"],
@@ -196,15 +223,11 @@ fn words_that_fit_nothing_are_refused(rt: HostRuntime) -> Result<(), Fail> {
         &["squash", "f"],
         &["--journal"],
     ];
-    for words in rows {
-        assert_eq!(rt; command_of(alloc, words), Err(Fault::Usage), "{words:?}");
-    }
-    Ok(())
+    are_refused(&rt, rt.alloc(), &rows);
 }
 
 #[test]
-fn help_is_asked_for(rt: HostRuntime) -> Result<(), Fail> {
-    let alloc = rt.alloc();
+fn help_is_asked_for(rt: HostRuntime) {
     let rows: [&[&str]; 5] = [
         &["-h"],
         &["--help"],
@@ -213,7 +236,6 @@ fn help_is_asked_for(rt: HostRuntime) -> Result<(), Fail> {
         &["-i", "--help"],
     ];
     for words in rows {
-        assert_eq!(rt; command_of(alloc, words), Ok(Command::Help), "{words:?}");
+        is_command(&rt, rt.alloc(), words, Ok(Command::Help));
     }
-    Ok(())
 }
