@@ -2,6 +2,7 @@
 #![tactic(auto)]
 
 mod answer;
+mod causes;
 mod command;
 mod edit;
 mod editing;

@@ -7,6 +7,7 @@ mod plans;
 mod productions;
 mod programs;
 mod refusals;
+mod refused_plans;
 mod shown;
 mod syntax;
 mod white_space;

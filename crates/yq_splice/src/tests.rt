@@ -1,6 +1,7 @@
 //! Texts, programs, and what the programs make of the texts.
 
 mod edits;
+mod lines_under;
 mod memory;
 mod refusals;
 
