@@ -16,20 +16,21 @@ use Rattle.yq_inline.specs.declared.value.Value.{Value, Map as MapValue, the_lem
 use Rattle.yq_expr.specs.Lexing.{after}
 use Rattle.yq_expr.specs.Tokens.{Token}
 use Rattle.yq_inline.specs.Values.{node_of, field_of, entries}
-use Rattle.yq_expr.specs.Parse.{distinct, listed_at, field_at, literal_at}
+use Rattle.yq_tree.specs.Sound.{are_distinct}
+use Rattle.yq_expr.specs.Parse.{listed_at, field_at, literal_at}
 
 others : (k : List ℕ) (ks : List (List ℕ)) → list_any (bytes_eq k) ks ≡ false → All (λ x. k ≢ x) ks
 others k ks none i d lt same =
     let here : bytes_eq k (get_or ks i d) ≡ true = (bytes_eq-Decides k (get_or ks i d)).1 same in
     false≢true (sym none ∙ list_any_at (bytes_eq k) ks i d lt here)
 
-pub distinct_keys : (ks : List (List ℕ)) → distinct ks ≡ true → AreDistinct ks
+pub distinct_keys : (ks : List (List ℕ)) → are_distinct ks ≡ true → AreDistinct ks
 distinct_keys [] h = λ i j d lt last. absurd (omega arith)
 distinct_keys (k ∷ ks) h =
-    let parts = and_true _ (distinct ks) h in
+    let parts = and_true _ (are_distinct ks) h in
     AllPairs-cons (λ a b. a ≢ b) k ks (others k ks (not-true _ parts.0)) (distinct_keys ks parts.1)
 
-pub distinct_again : (ks : List (List ℕ)) → AreDistinct ks → distinct ks ≡ true
+pub distinct_again : (ks : List (List ℕ)) → AreDistinct ks → are_distinct ks ≡ true
 distinct_again [] h = refl
 distinct_again (k ∷ ks) h =
     let tail : AreDistinct ks = λ i j d lt last. h (suc i) (suc j) d (omega arith) (omega arith) in
@@ -43,9 +44,9 @@ distinct_again (k ∷ ks) h =
     ]
 
 -- a test that tells whether they differ is that test
-pub tested : (b : Bool) (ks : List (List ℕ)) → IsTrue b ↔ AreDistinct ks → b ≡ distinct ks
+pub tested : (b : Bool) (ks : List (List ℕ)) → IsTrue b ↔ AreDistinct ks → b ≡ are_distinct ks
 tested true ks h = sym (distinct_again ks (h.0 refl))
-tested false ks h = sym (false_from_ne_true (distinct ks) (λ passes. false≢true (h.1 (distinct_keys ks passes))))
+tested false ks h = sym (false_from_ne_true (are_distinct ks) (λ passes. false≢true (h.1 (distinct_keys ks passes))))
 
 -- the keys of entries
 pub keys_of_fields : (es : List (String Global × Value)) → map (λ e. string_bytes e.0) es ≡ map (λ e. e.0) (map field_of es)
@@ -71,7 +72,7 @@ pub node_of-map : (v : Vec (String Global × Value) Global) → node_of (MapValu
 node_of-map v = opened v ∙ ap (λ (es : List (List ℕ × Node)). tree.map None (entries es)) (fields_are v.items)
 
 pub map_is : (depth : ℕ) (ts r : List Token) (x : List (List ℕ × Node) × List Token) → 0 < depth → after (codes "[") ts ≡ None → after (codes "{") ts ≡ Some r
-    → listed_at (codes "}") (field_at (literal_at (depth - 1))) r ≡ Some x → distinct (map (λ e. e.0) x.0) ≡ true → literal_at depth ts ≡ Some (tree.map None (entries x.0), x.1)
+    → listed_at (codes "}") (field_at (literal_at (depth - 1))) r ≡ Some x → are_distinct (map (λ e. e.0) x.0) ≡ true → literal_at depth ts ≡ Some (tree.map None (entries x.0), x.1)
 unfolding literal_at
 map_is zero ts r x some a b c d = absurd (omega arith)
 map_is (suc depth) ts r x some a b c d =

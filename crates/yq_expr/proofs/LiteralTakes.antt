@@ -3,10 +3,11 @@ use Rattle.std.proofs.Common.{◌≡◌, ℕ, zero, suc, true, List, [], ◌∷�
 use Rattle.std.specs.Prelude.{codes}
 use Rattle.yq_scalar.specs.Tree.{Node}
 use Rattle.yq_scalar.proofs.Bools.{bind_some, guard_some}
+use Rattle.yq_tree.specs.Sound.{are_distinct}
 use Rattle.yq_expr.specs.Tokens.{Token, string, symbol, is_one_of, scalar_words}
 use Rattle.yq_expr.specs.Lexing.{after, taken, as_number, as_string}
 use Rattle.yq_expr.specs.Grammar.{Form, Mark, AreParted, IsScalar, AreListed, IsField, IsScalarNode, IsLiteral}
-use Rattle.yq_expr.specs.Parse.{Parse, parted_at, word_at, scalar_at, listed_at, field_at, distinct, mapping_of, scalar_node_at, literal_at}
+use Rattle.yq_expr.specs.Parse.{Parse, parted_at, word_at, scalar_at, listed_at, field_at, mapping_of, scalar_node_at, literal_at}
 use Rattle.yq_expr.proofs.Keys.{distinct_keys}
 use Rattle.yq_expr.proofs.Readers.{either_cases, after_takes, string_takes, number_takes, Takes, Shortens, same_form, parted_takes, closed_takes, parted_shortens, between_shortens}
 
@@ -71,7 +72,7 @@ mapping_takes : (depth : ℕ) (all : List Token) (y : List (List ℕ × Node) ×
     → AreListed (codes "{") (codes "}") (IsField (IsLiteral depth)) y.0 all y.1 → mapping_of y ≡ Some x → IsLiteral (suc depth) x.0 all x.1
 unfolding IsLiteral
 mapping_takes depth all y x are h =
-    let g = guard_some (distinct (map (λ e. e.0) y.0)) h in
+    let g = guard_some (are_distinct (map (λ e. e.0) y.0)) h in
     subst (λ (p : Node × List Token). IsLiteral (suc depth) p.0 all p.1) g.1 (inr (inr (y.0, refl, distinct_keys _ g.0, are)))
 
 scalar_node_takes : Takes scalar_node_at IsScalarNode

@@ -4,7 +4,7 @@ use Rattle.std.specs.List.{list_any}
 use Rattle.std.proofs.lemmas.List.{length-map}
 use Rattle.yq_inline.specs.Entries.{step_of as tree_step}
 use Rattle.yq_inline.specs.declared.path.Step as tree
-use Rattle.yq_tree.specs.Documents.{depth_limit}
+use Rattle.yq_inline.specs.Inline.{depth_limit}
 use Rattle.yq_expr.specs.Judgement.{Judgement, refuses, unbuilt}
 use Rattle.yq_expr.specs.Making.{is_index, is_too_long, make}
 use Rattle.yq_expr.specs.View.{step_of}

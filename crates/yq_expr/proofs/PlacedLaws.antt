@@ -1,5 +1,5 @@
 -- Where a scalar can be set, one operation puts it there.
-use Rattle.std.proofs.Common.{rules, ◌≡◌, Bool, true, false, not, List, [], ◌∷◌, Option, Some, None, is_some, option_map, refl, sym, ap, ◌∙◌}
+use Rattle.std.proofs.Common.{rules, ◌≡◌, true, List, [], ◌∷◌, Option, Some, None, is_some, option_map, refl, sym, ap, ◌∙◌}
 use Rattle.std.proofs.lemmas.Bool.{cond-true}
 use Rattle.yq_scalar.specs.Paths as paths
 use Rattle.yq_scalar.specs.Scalar.{ScalarText}

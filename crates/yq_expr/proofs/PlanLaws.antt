@@ -4,8 +4,9 @@ use Rattle.std.specs.List.{slice_get, list_any}
 use Rattle.yq_scalar.specs.declared.kind.Kind.{Kind}
 use Rattle.yq_scalar.specs.Paths as paths
 use Rattle.yq_scalar.specs.Tree.{Node, scalar}
+use Rattle.yq_inline.specs.Inline.{depth_limit}
 use Rattle.yq_rows.specs.Rows.{Cut}
-use Rattle.yq_tree.specs.Documents.{Document, depth_limit}
+use Rattle.yq_tree.specs.Documents.{Document}
 use Rattle.yq_tree.specs.Reading.{documents}
 use Rattle.yq_expr.specs.Judgement.{Judgement, gives, refuses, unbuilt, and_then, Plans}
 use Rattle.yq_expr.specs.Making.{is_index, is_too_long, make}

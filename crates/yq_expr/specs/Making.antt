@@ -6,8 +6,8 @@ use Rattle.yq_scalar.specs.declared.style.Place.TheVariants.{FlowKey}
 use Rattle.yq_scalar.specs.Paths as paths
 use Rattle.yq_scalar.specs.Scalar.{string_of}
 use Rattle.yq_inline.specs.Written.{scalar_text}
+use Rattle.yq_inline.specs.Inline.{depth_limit}
 use Rattle.yq_rows.specs.Grammar.{key_limit}
-use Rattle.yq_tree.specs.Documents.{depth_limit}
 use Rattle.yq_expr.specs.declared.refusal.Refusal.TheVariants.{IndexOutOfRange, TooDeep, KeyTooLong}
 use Rattle.yq_expr.specs.Judgement.{Judgement, refuses, unbuilt}
 use Rattle.yq_expr.specs.Program.{Step, key, index, each}

@@ -1,7 +1,5 @@
 -- Reading (a reader may skip this: the grammar is what is believed, and found and only tie the two).
-use Rattle.std.specs.Prelude.{ℕ, zero, suc, ◌+◌, nat_lt, if◌then◌else◌, Bool, true, false, ◌||◌, ◌&&◌, not, List, [], ◌∷◌, length, map, Option, Some, None, is_some, codes}
-use Rattle.std.specs.List.{list_any}
-use Rattle.std.specs.Str.{bytes_eq}
+use Rattle.std.specs.Prelude.{ℕ, zero, suc, ◌+◌, nat_lt, if◌then◌else◌, Bool, true, false, ◌||◌, List, [], ◌∷◌, length, map, Option, Some, None, is_some, codes}
 use Rattle.yq_scalar.specs.Answers.{◌>>=◌}
 use Rattle.yq_scalar.specs.Scalar.{ScalarText, string_of, plain_of}
 use Rattle.yq_scalar.specs.SchemaReading.{int_value}
@@ -18,6 +16,7 @@ use Rattle.yq_expr.specs.Grammar.{literal_depth}
 use Rattle.yq_expr.specs.declared.error.ParseError.TheVariants as error
 use Rattle.yq_expr.specs.Lexing.{tokens, after, taken, as_number, as_string, as_step, is_end}
 use Rattle.yq_inline.specs.Values.{items, entries}
+use Rattle.yq_tree.specs.Sound.{are_distinct}
 
 -- a reading function: the form in front and the tokens that follow, or nothing (own)
 abbrev pub Parse : Type 0 → Type 0
@@ -114,14 +113,9 @@ listed_at closing form ts = either (after closing ts) (λ r. Some ([], r)) (clos
 abbrev pub field_at : {A : Type 0} → Parse A → Parse (List ℕ × A)
 field_at form ts = taken as_string ts >>= λ k. after (codes ":") k.1 >>= λ r. form r >>= λ x. Some ((k.0, x.0), x.1)
 
--- whether no two keys are equal (own)
-abbrev pub distinct : List (List ℕ) → Bool
-distinct [] = true
-distinct (k ∷ ks) = not (list_any (bytes_eq k) ks) && distinct ks
-
 -- entries as a mapping, if their keys differ (own)
 abbrev pub mapping_of : List (List ℕ × Node) × List Token → Option (Node × List Token)
-mapping_of x = if distinct (map (λ e. e.0) x.0) then Some (tree.map None (entries x.0), x.1) else None
+mapping_of x = if are_distinct (map (λ e. e.0) x.0) then Some (tree.map None (entries x.0), x.1) else None
 
 -- a scalar as a node (own)
 abbrev pub scalar_node_at : Parse Node

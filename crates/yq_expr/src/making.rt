@@ -2,7 +2,7 @@
 ghost use Rattle.std.specs.List.{list_any};
 ghost use Rattle.std.specs.Prelude.{◌≡◌, ◌+◌, map, nat_lt, IfOk};
 ghost use Rattle.yq_inline.specs.Entries as tree;
-ghost use Rattle.yq_tree.specs.Documents.{depth_limit};
+ghost use Rattle.yq_inline.specs.Inline.{depth_limit};
 ghost use Rattle.yq_expr.specs.Judgement.{Plans};
 ghost use Rattle.yq_expr.specs.Making as spec;
 ghost use Rattle.yq_expr.specs.Operations.{operations_of};
@@ -15,10 +15,7 @@ use crate::refusal::Refusal;
 use std::alloc::{AllocError, Global};
 use yq_scalar::characters::char_count;
 use yq_scalar::{Place, Scalar, Style, can_write, write_scalar};
-use yq_tree::DEPTH_LIMIT;
-
-/// How many characters a key may have, as it is written.
-const KEY_LIMIT: usize = 1024;
+use yq_tree::{DEPTH_LIMIT, KEY_LIMIT};
 
 fn is_index(step: &Step) -> bool
     ensures { result ≡ spec.is_index (step_of step.now) }

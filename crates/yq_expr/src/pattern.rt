@@ -22,8 +22,8 @@ fn step_matches(step: &Step) -> bool
     }
 }
 
-fn path_matches(steps: &Vec<Step>) -> bool
-    ensures { result ≡ list_any (λ s. spec.step_matches (step_of s)) steps.now.items }
+fn path_matches(steps: &[Step]) -> bool
+    ensures { result ≡ list_any (λ s. spec.step_matches (step_of s)) steps.now }
 {
     steps.iter().any(|step| step_matches(step))
 }
@@ -59,8 +59,8 @@ fn stage_matches(stage: &Stage) -> bool
     }
 }
 
-fn pipe_matches(stages: &Vec<Stage>) -> bool
-    ensures { result ≡ list_any (λ s. spec.stage_matches (stage_of s)) stages.now.items }
+fn pipe_matches(stages: &[Stage]) -> bool
+    ensures { result ≡ list_any (λ s. spec.stage_matches (stage_of s)) stages.now }
 {
     stages.iter().any(|stage| stage_matches(stage))
 }
@@ -75,8 +75,8 @@ fn term_matches(term: &Term) -> bool
     }
 }
 
-fn sum_matches(terms: &Vec<Term>) -> bool
-    ensures { result ≡ list_any (λ t. spec.term_matches (term_of t)) terms.now.items }
+fn sum_matches(terms: &[Term]) -> bool
+    ensures { result ≡ list_any (λ t. spec.term_matches (term_of t)) terms.now }
 {
     terms.iter().any(|term| term_matches(term))
 }
@@ -94,8 +94,8 @@ fn update_matches(update: &Update) -> bool
     }
 }
 
-fn any_matches(updates: &Vec<Update>) -> bool
-    ensures { result ≡ list_any (λ u. spec.update_matches (update_of u)) updates.now.items }
+fn any_matches(updates: &[Update]) -> bool
+    ensures { result ≡ list_any (λ u. spec.update_matches (update_of u)) updates.now }
 {
     updates.iter().any(|update| update_matches(update))
 }

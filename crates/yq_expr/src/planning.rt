@@ -34,13 +34,13 @@ fn scalar_of(terms: &[Term]) -> Option<&Scalar>
 
 /// The steps of a path, if it has one or more and each is to a key or an item.
 #[tactic(auto, using(crate::proofs::Steps::no_steps, crate::proofs::Steps::some_steps))]
-fn simple_steps(steps: &Vec<Step>) -> Option<&[Step]>
-    ensures { option_map (λ s. map step_of s.now) result ≡ spec.simple_steps (map step_of steps.now.items) }
+fn simple_steps(steps: &[Step]) -> Option<&[Step]>
+    ensures { option_map (λ s. map step_of s.now) result ≡ spec.simple_steps (map step_of steps.now) }
 {
-    if steps.len() == 0 || !is_simple(steps) {
+    if steps.is_empty() || !is_simple(steps) {
         return None;
     }
-    Some(steps.as_slice())
+    Some(steps)
 }
 
 /// The steps of a pipe that is one such path.

@@ -123,8 +123,8 @@ fn is_single(step: &Step) -> bool
 }
 
 /// Whether each step leads to one item or value at most.
-pub(crate) fn is_simple(steps: &Vec<Step>) -> bool
-    ensures { result ≡ list_all (λ s. spec.is_single (step_of s)) steps.now.items }
+pub(crate) fn is_simple(steps: &[Step]) -> bool
+    ensures { result ≡ list_all (λ s. spec.is_single (step_of s)) steps.now }
 {
     steps.iter().all(|step| is_single(step))
 }

@@ -16,7 +16,7 @@ use std::alloc::Global;
 use yq_scalar::{FaultKind, Place, ReadError, further_spaces, in_flow};
 
 /// How many collections may be nested.
-const DEPTH_LIMIT: usize = 64;
+pub const DEPTH_LIMIT: usize = 64;
 
 /// Whether the node may stand there: outside flow collections it is something.
 fn may_stand(place: Place, node: &Inline<'_>) -> bool

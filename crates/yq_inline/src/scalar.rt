@@ -2,6 +2,7 @@
 ghost use Rattle.std.specs.Prelude.{◌≡◌, ◌<◌, ◌≤◌, IfOk, length, string_bytes, true};
 ghost use Rattle.yq_scalar.specs.Answers.{Gives};
 ghost use Rattle.yq_scalar.specs.Quoted.{IsQuotedText};
+ghost use Rattle.yq_scalar.specs.Written.{IsInline};
 ghost use Rattle.yq_inline.specs.Places as spec;
 ghost use Rattle.yq_inline.specs.Scalars as scalars;
 ghost use Rattle.yq_inline.specs.View.{form_view};
@@ -13,9 +14,10 @@ use yq_scalar::folding::{plain_content, quoted_content};
 use yq_scalar::piece::inline_piece;
 use yq_scalar::{Piece, ReadError, Scalar, Style};
 
-/// How a scalar is written.
-fn style_of(piece: &[u8]) -> Style
-    ensures { result ≡ scalars.style_of piece.now }
+/// The style of a plain or quoted scalar, as it is written (YAML 1.2.2, 7.3).
+pub fn style_of(piece: &[u8]) -> Style
+    ensures value { result ≡ scalars.style_of piece.now }
+    ensures inline { IsInline result }
 {
     match piece {
         [b'\'', ..] => Style::Single,

@@ -3,12 +3,13 @@ use Rattle.std.proofs.Common.{◌≡◌, ℕ, true, false, ◌&&◌, ◌||◌, e
 use Rattle.std.proofs.lemmas.Bool.{false≢true, or_cases, false_from_ne_true}
 use Rattle.yq_scalar.specs.Text.{cut, is_feed, is_return, front, is_break, ends_line, no_white, no_space, separates, is_empty}
 use Rattle.yq_scalar.proofs.Bools.{is_true, and_true}
+use Rattle.yq_scalar.specs.Lines.{is_hash}
 use Rattle.yq_inline.specs.Nodes.{first_is, begins_node}
 use Rattle.yq_inline.specs.Scalars.{begins_scalar}
 use Rattle.yq_inline.proofs.PieceLaws.{front_not}
 use Rattle.yq_rows.specs.Gap.{IsWhite}
 use Rattle.yq_rows.specs.Grammar.{IsTail}
-use Rattle.yq_rows.specs.Reading.{is_hash, is_colon, is_dash}
+use Rattle.yq_rows.specs.Reading.{is_colon, is_dash}
 use Rattle.yq_rows.proofs.LineEnds.{line_end_behind, white_again}
 
 -- A text that begins with none of white space, a break, the end and `#`.

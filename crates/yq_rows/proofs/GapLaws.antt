@@ -9,8 +9,9 @@ use Rattle.std.proofs.lemmas.Str.{IsCharBoundary-start, IsCharBoundary-from_rest
 use Rattle.std.specs.Str.{IsUtf8, IsCharBoundary}
 use Rattle.yq_scalar.proofs.Boundaries.{boundary_line}
 use Rattle.yq_scalar.proofs.LineLaws.{line_len_some, line_len_within}
+use Rattle.yq_scalar.specs.Lines.{is_hash}
 use Rattle.yq_rows.specs.Gap.{IsGapLine, AreGapLines, IsGap}
-use Rattle.yq_rows.specs.Reading.{is_hash, is_gap_line, gap_lines, gap_len, cut_gap}
+use Rattle.yq_rows.specs.Reading.{is_gap_line, gap_lines, gap_len, cut_gap}
 use Rattle.yq_rows.proofs.LineEnds.{white_cut, white_again, line_end_takes, line_end_behind, line_end_line, line_again}
 
 some_line : (t : List ℕ) → is_empty t ≡ false → is_empty (cut_line t).0 ≡ false

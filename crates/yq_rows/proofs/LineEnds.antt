@@ -7,8 +7,8 @@ use Rattle.yq_scalar.specs.Text.{upto, cut, NoneIn, no_white, is_white, is_feed,
 use Rattle.yq_scalar.proofs.Bools.{is_true, and_true, or_false, at_byte}
 use Rattle.yq_scalar.proofs.LineLaws.{line_cut}
 use Rattle.yq_scalar.proofs.Upto.{cut-append}
+use Rattle.yq_scalar.specs.Lines.{is_hash}
 use Rattle.yq_rows.specs.Gap.{IsWhite, IsBreak, IsComment, IsLineEnd}
-use Rattle.yq_rows.specs.Reading.{is_hash}
 
 -- white space
 pub none_in_white : (w rest : List ℕ) → IsWhite w → NoneIn no_white w rest

@@ -8,11 +8,11 @@ use Rattle.std.specs.Str.{IsUtf8, IsCharBoundary}
 use Rattle.yq_scalar.specs.Text.{front, is_feed, is_return, ends_line, separates}
 use Rattle.yq_scalar.proofs.Boundaries.{white_ascii}
 use Rattle.yq_scalar.proofs.Bools.{and_true}
+use Rattle.yq_scalar.specs.Lines.{is_hash}
 use Rattle.yq_inline.specs.Nodes.{Node, node_text}
 use Rattle.yq_rows.specs.Exchange.{before_content, behind_row, rows_behind, HasPieces}
 use Rattle.yq_rows.specs.Gap.{IsWhite}
 use Rattle.yq_rows.specs.Grammar.{IsTail, is_entry, IsCut}
-use Rattle.yq_rows.specs.Reading.{is_hash}
 use Rattle.yq_rows.specs.Rows.{Inline, Row, parent_indent, Cut}
 use Rattle.yq_rows.specs.View.{rows_of}
 use Rattle.yq_rows.proofs.LineEnds.{line_end_behind}

@@ -7,12 +7,13 @@ use Rattle.std.specs.Str.{chars}
 use Rattle.yq_scalar.specs.Text.{upto, cut, no_white, ends_line, separates, is_empty, cut_line, line_len}
 use Rattle.yq_scalar.proofs.Bools.{and_true, guard_some, bind_some}
 use Rattle.yq_scalar.proofs.Upto.{upto-append}
+use Rattle.yq_scalar.specs.Lines.{is_hash}
 use Rattle.yq_inline.specs.Reading.{scalar_at}
 use Rattle.yq_inline.specs.Scalars.{IsScalar}
 use Rattle.yq_inline.proofs.PieceLaws.{scalar_takes, scalar_again}
 use Rattle.yq_rows.specs.Gap.{IsWhite}
 use Rattle.yq_rows.specs.Grammar.{IsColon, IsKey, IsTail, key_limit}
-use Rattle.yq_rows.specs.Reading.{is_hash, is_colon, colon_at, key_at, tail_at}
+use Rattle.yq_rows.specs.Reading.{is_colon, colon_at, key_at, tail_at}
 use Rattle.yq_rows.proofs.LineEnds.{none_in_white, white_cut, white_again, line_end_takes, line_end_behind, line_end_line, line_again}
 
 -- the `:` of a key

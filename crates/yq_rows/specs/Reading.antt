@@ -6,15 +6,12 @@ use Rattle.yq_scalar.specs.BlockReading.{block_at}
 use Rattle.yq_scalar.specs.Characters.{is_text, text_limit}
 use Rattle.yq_scalar.specs.Piece.{deeper}
 use Rattle.yq_scalar.specs.Text.{cut, upto, front, is_empty, unless, no_space, no_white, past_white, ends_line, separates, is_marker, line_len, cut_line}
+use Rattle.yq_scalar.specs.Lines.{is_hash}
 use Rattle.yq_inline.specs.Inline.{depth_limit}
 use Rattle.yq_inline.specs.Nodes.{first_is, in_name, begins_node}
 use Rattle.yq_inline.specs.Reading.{scalar_at, name_at, all_node}
 use Rattle.yq_rows.specs.Grammar.{is_entry, may_be_alone, Limit, unlimited, allows, limit_after, key_limit, no_rows, begins_document}
 use Rattle.yq_rows.specs.Rows.{Mark, Bare, Dash, Key, Anchor, Content, Nothing, Inline, Block, Row, behind_columns, parent_of, Part, Cut, last, marked}
-
--- a `#` in front (own)
-abbrev pub is_hash : List ℕ → Bool
-is_hash t = front (λ b. b == 35) t
 
 -- a blank line or a comment line in front (own)
 abbrev pub is_gap_line : List ℕ → Bool

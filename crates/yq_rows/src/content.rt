@@ -16,13 +16,10 @@ use crate::naming::{no_content, no_tail};
 use std::alloc::Global;
 use yq_inline::pieces::{begins_content, first_is, name_len, strip};
 use yq_inline::reading::read_node;
-use yq_inline::{Form, Inline};
+use yq_inline::{DEPTH_LIMIT, Form, Inline};
 use yq_scalar::lines::split_line;
 use yq_scalar::text::{ends_line, split_white};
 use yq_scalar::{FaultKind, Place, ReadError, Style, further_spaces, read_block};
-
-/// How many collections may be nested.
-const DEPTH_LIMIT: usize = 64;
 
 /// What stands behind a mark, by its pieces.
 #[derive(Clone, Copy, Debug)]

@@ -1,5 +1,6 @@
 //! Blank lines and comment lines.
 ghost use Rattle.std.specs.Prelude.{◌≡◌};
+ghost use Rattle.yq_scalar.specs.Lines as lines;
 ghost use Rattle.yq_rows.specs.Reading as spec;
 
 use yq_scalar::lines::line_len;
@@ -7,7 +8,7 @@ use yq_scalar::text::{ends_line, past_white};
 
 /// Whether a `#` is in front.
 pub(crate) fn is_hash(text: &[u8]) -> bool
-    ensures { result ≡ spec.is_hash text.now }
+    ensures { result ≡ lines.is_hash text.now }
 {
     matches!(text, [b'#', ..])
 }

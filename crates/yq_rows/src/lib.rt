@@ -14,5 +14,6 @@ mod scanning;
 #[cfg(test)]
 mod tests;
 
+pub use marks::KEY_LIMIT;
 pub use row::Row;
 pub use scanning::{Bound, Rows, scan};

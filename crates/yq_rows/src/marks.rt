@@ -11,8 +11,8 @@ use yq_inline::pieces::read_scalar;
 use yq_scalar::characters::char_count;
 use yq_scalar::text::{separates, split_spaces, split_white};
 
-/// How many characters a key's `:` may stand behind the key's first one.
-const KEY_LIMIT: usize = 1024;
+/// How many characters a key may have, and how many its `:` may stand behind its first one.
+pub const KEY_LIMIT: usize = 1024;
 
 /// What a row begins with behind the dashes before it.
 #[derive(Clone, Copy, Debug)]

@@ -4,7 +4,8 @@ use Rattle.std.proofs.lemmas.Bool.{false≢true, not-false}
 use Rattle.std.proofs.lemmas.List.{take-append-drop}
 use Rattle.yq_scalar.specs.Text.{is_white, is_break, is_feed, is_return, is_space, front, upto, NoneIn}
 use Rattle.yq_scalar.specs.Quoted.{folded, joined, gap_text}
-use Rattle.yq_scalar.specs.ContentReading.{Before, within, after, filled, broken, content_on, no_gap, breaks, spaced, space_text, before_of}
+use Rattle.yq_scalar.specs.ContentReading.{Before, within, after, filled, broken, content_on, breaks, spaced, space_text, before_of}
+use Rattle.yq_scalar.specs.Plain.{no_gap}
 use Rattle.yq_scalar.proofs.Bools.{is_true, and_true, or_false, at_byte}
 use Rattle.yq_scalar.proofs.Upto.{none_in_cut}
 

@@ -8,7 +8,8 @@ use Rattle.std.specs.Str.{IsUtf8, IsCharBoundary}
 use Rattle.yq_scalar.specs.Text.{is_white, is_break, is_feed, is_return, is_space, front, upto, NoneIn}
 use Rattle.yq_scalar.specs.Quoted.{joined}
 use Rattle.yq_scalar.specs.QuotedReading.{escape}
-use Rattle.yq_scalar.specs.ContentReading.{Before, within, after, filled, content_on, break_len, no_gap, before_of, is_pair, is_slash, ends_run}
+use Rattle.yq_scalar.specs.ContentReading.{Before, within, after, filled, content_on, break_len, before_of, is_pair, is_slash, ends_run}
+use Rattle.yq_scalar.specs.Plain.{no_gap}
 use Rattle.yq_scalar.proofs.Bools.{is_true, and_true, or_false}
 use Rattle.yq_scalar.proofs.Upto.{upto_le_length, none_in_cut}
 use Rattle.yq_scalar.proofs.Boundaries.{boundary_ends, space_ascii, break_ascii}

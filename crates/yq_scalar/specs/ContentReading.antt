@@ -75,10 +75,6 @@ plain_content t = content_of 0 t
 abbrev pub quoted_content : List ℕ → List ℕ
 quoted_content t = content_of (slice_index t 0) (take (length t - 2) (drop 1 t))
 
--- no white space and no break is in front (own)
-abbrev pub no_gap : List ℕ → Bool
-no_gap t = not (is_space t)
-
 -- how many breaks there are among these bytes (own)
 unfoldable pub breaks : List ℕ → ℕ
 breaks [] = 0

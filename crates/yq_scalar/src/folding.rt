@@ -1,6 +1,7 @@
 //! What plain and quoted scalars stand for (YAML 1.2.2, sections 5.7, 6.5 and 7.3).
 ghost use Rattle.std.specs.Prelude.{◌≡◌, ◌++◌, ◌+◌, ◌<◌, ◌≤◌, ℕ, List, length, true, false, [], OnOk, IfOk, string_bytes};
 ghost use Rattle.yq_scalar.specs.ContentReading as spec;
+ghost use Rattle.yq_scalar.specs.Plain.{no_gap};
 ghost use Rattle.yq_scalar.specs.PlainContent.{IsPlainLines};
 ghost use Rattle.yq_scalar.specs.Quoted.{Lines, IsQuoted, IsQuotedText, content};
 ghost use Rattle.yq_scalar.specs.Text.{upto, cut, is_space};
@@ -13,7 +14,7 @@ use std::alloc::{AllocError, Global};
 /// How many bytes of white space and breaks are in front.
 #[tactic(auto, unfolding(crate::specs::Text::upto))]
 fn space_len(text: &[u8]) -> usize
-    ensures { result ≡ upto spec.no_gap text.now }
+    ensures { result ≡ upto no_gap text.now }
 {
     let mut n = 0;
     let mut rest = text;
@@ -61,7 +62,7 @@ fn push_gap(out: &mut String, joined: bool, space: &str) -> Result<(), AllocErro
 }
 
 fn split_space(text: &str) -> (&str, &str)
-    ensures { (result.0.now, result.1.now) ≡ cut spec.no_gap text.now }
+    ensures { (result.0.now, result.1.now) ≡ cut no_gap text.now }
 {
     text.split_at(space_len(text.as_bytes()))
 }

@@ -5,8 +5,9 @@ use Rattle.yq_scalar.specs.declared.kind.Kind.{Kind}
 use Rattle.yq_scalar.specs.Paths as paths
 use Rattle.yq_scalar.specs.Scalar.{ScalarText}
 use Rattle.yq_scalar.specs.Tree.{Node, scalar}
+use Rattle.yq_inline.specs.Inline.{depth_limit}
 use Rattle.yq_rows.specs.Rows.{Cut}
-use Rattle.yq_tree.specs.Documents.{Document, depth_limit}
+use Rattle.yq_tree.specs.Documents.{Document}
 use Rattle.yq_tree.specs.Reading.{read_at, documents}
 use Rattle.yq_tree.specs.ScalarPlaces.{ScalarPlace, place_at}
 use Rattle.yq_expr.specs.Judgement.{Judgement}

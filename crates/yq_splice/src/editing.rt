@@ -5,7 +5,6 @@ ghost use Rattle.yq_scalar.specs.Writable as writable;
 ghost use Rattle.yq_scalar.specs.Written.{IsInline};
 ghost use Rattle.yq_scalar.specs.declared.style.Place.TheVariants as places;
 ghost use Rattle.yq_inline.specs.Entries.{step_of};
-ghost use Rattle.yq_inline.specs.Scalars as scalars;
 ghost use Rattle.yq_inline.specs.Valued.{IsValid};
 ghost use Rattle.yq_rows.specs.Grammar.{IsCut};
 ghost use Rattle.yq_rows.specs.Rows.{Cut};
@@ -25,6 +24,7 @@ use crate::edited::{EditError, Edited};
 use crate::splice::Splice;
 use std::alloc::{AllocError, Global};
 use yq_expr::{Op, Program, Refusal, Value, plan};
+use yq_inline::style_of;
 use yq_scalar::characters::TEXT_LIMIT;
 use yq_scalar::{Kind, Place, Scalar, Style, can_write, write_scalar};
 use yq_tree::{Documents, Step, read};
@@ -82,18 +82,6 @@ fn is_same(kind: Kind, text: &str, scalar: &Scalar) -> bool
 {
     let other = scalar.text();
     kind == scalar.kind() && text == other
-}
-
-/// The style of a scalar as it is written.
-fn style_of(scalar: &[u8]) -> Style
-    ensures value { result ≡ scalars.style_of scalar.now }
-    ensures inline { IsInline result }
-{
-    match scalar {
-        [b'\'', ..] => Style::Single,
-        [b'"', ..] => Style::Double,
-        _ => Style::Plain,
-    }
 }
 
 /// The style in which a scalar is written in the place of one of a style.

@@ -22,6 +22,7 @@ use Rattle.yq_inline.specs.Scalars.{scalar_of}
 use Rattle.yq_inline.specs.Trees.{tree_of}
 use Rattle.yq_inline.specs.Valued.{IsValid, SpellsScalar}
 use Rattle.yq_inline.proofs.StyledScalars.{styled_spells}
+use Rattle.yq_inline.specs.Inline.{depth_limit}
 use Rattle.yq_rows.specs.Alone.{holds_nothing, FitsAlone}
 use Rattle.yq_rows.specs.Exchange.{with_content_in, exchange, before_content, behind_row, rows_behind, allows_first, HasPieces}
 use Rattle.yq_rows.specs.Grammar.{IsMark, IsContent, is_entry, is_more, may_be_alone}
@@ -261,7 +262,7 @@ module _ (t : List ℕ) (c : Cut) (d : Document) (steps : List Step) (w : Writte
       let node_alike : AreAlike (g old) old = subst (λ (n : tree.Node). AreAlike n old) (sym (same ∙ ap behind_anchor (scalar_spelled b.content p takes))) scalars_alike in
       let alike = change_alike steps g (root_of h.part) old root_node node_alike in
       let tests = root_tests h.part h.document in
-      let changed = under_changed h.part steps a.index new g f b there a.bare under h.document (keeps p) same (ap (λ n. leb n documented.depth_limit) alike.0 ∙ tests.1) (alike.1 ∙ tests.2) (ap (are_bound []) alike.2 ∙ tests.0) in
+      let changed = under_changed h.part steps a.index new g f b there a.bare under h.document (keeps p) same (ap (λ n. leb n depth_limit) alike.0 ∙ tests.1) (alike.1 ∙ tests.2) (ap (are_bound []) alike.2 ∙ tests.0) in
       let fit : FitsAlone new above b rest others = subst (λ (y : Content). FitsAlone y above b rest others) (sym (put_is t c w utf8 h.cut holds p)) (fits p s spells) in
       let cut = alone_exchanged t c a.index above b others new h.cut above_there behind_above fit readable.characters readable.size in
       let document : document_of (with_content_in (suc a.index) new h.part) ≡ record { lead = d.lead; root = change steps g d.root } =

@@ -9,7 +9,8 @@ use Rattle.yq_rows.specs.View.{Slices, slices, rows_of, shown}
 use Rattle.yq_scalar.proofs.LineLaws.{joined_lines}
 use Rattle.yq_tree.specs.CommentPlaces.{tail_comment, before_tail, line_comment_in, before_run, last_run, gap_comment, head_comment_in}
 use Rattle.yq_tree.specs.CommentReading.{tail_span, line_comment_span, gap_span, head_comment_span}
-use Rattle.yq_tree.specs.Extents.{row_length, passed_length, row_start, front_length, head_place}
+use Rattle.yq_rows.specs.Offsets.{row_length}
+use Rattle.yq_tree.specs.Extents.{passed_length, row_start, front_length, head_place}
 use Rattle.yq_tree.specs.Passages.{passage_span, before_row}
 use Rattle.yq_tree.specs.SeatReading.{numbers}
 use Rattle.yq_tree.specs.Seats.{Seat}

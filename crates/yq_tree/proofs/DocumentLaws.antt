@@ -4,9 +4,10 @@ use Rattle.std.proofs.lemmas.Bool.{and_parts, and_from, leb-true, le-leb, cond-t
 use Rattle.std.specs.List.{list_all}
 use Rattle.yq_scalar.specs.Tree.{Node}
 use Rattle.yq_scalar.specs.Keys.{depth}
+use Rattle.yq_inline.specs.Inline.{depth_limit}
 use Rattle.yq_rows.specs.Rows.{Part}
 use Rattle.yq_tree.specs.Anchors.{names_of}
-use Rattle.yq_tree.specs.Documents.{Document, IsRoot, IsDocument, AreDocuments, depth_limit}
+use Rattle.yq_tree.specs.Documents.{Document, IsRoot, IsDocument, AreDocuments}
 use Rattle.yq_tree.specs.Group.{group, is_fine}
 use Rattle.yq_tree.specs.Lines.{lines_of}
 use Rattle.yq_tree.specs.Outline.{Line, value}

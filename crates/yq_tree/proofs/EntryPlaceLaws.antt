@@ -24,7 +24,7 @@ use Rattle.yq_tree.specs.Outline.{Line}
 use Rattle.yq_tree.specs.PartReading.{Lined, lined, document_view, first_rows, some_begin}
 use Rattle.yq_tree.specs.Reading.{cut_of}
 use Rattle.yq_tree.specs.SeatReading.{begin_row, Numbers, numbers}
-use Rattle.yq_tree.specs.Seats.{Seat, behind_one, seat, document_row}
+use Rattle.yq_tree.specs.Seats.{Seat, behind_one, seat, seat_of, document_row}
 use Rattle.yq_tree.specs.RowPaths.{reached}
 use Rattle.yq_tree.specs.SoundReading.{Holds}
 use Rattle.yq_tree.specs.Spots.{is_bare}
@@ -173,7 +173,7 @@ Place = Option (ℕ × ℕ)
 some_same : {x y : ℕ} → Some x ≡ Some y → x ≡ y
 some_same e = cc
 
-pub held_in : (t : List ℕ) (s : Shown) (ds : List Held) (i first : ℕ) (d : Held) (found : Place) (place : ℕ → Cut → List Row → Place) → Holds t s ds → slice_get ds i ≡ Some d → Some first ≡ first_row i (cut_of t) →
+pub held_in : {A : Type 0} (t : List ℕ) (s : Shown) (ds : List Held) (i first : ℕ) (d : Held) (found : Option A) (place : ℕ → Cut → List Row → Option A) → Holds t s ds → slice_get ds i ≡ Some d → Some first ≡ first_row i (cut_of t) →
     ((u : List ℕ) (c : Cut) (p : Part) (more : List Row) → IsCut u c → s ≡ shown c → lines_in d ≡ lines_of p.rows → HasFlows first c p.rows (flows d.1) → drop first (rows_of c) ≡ p.rows ++ more → found ≡ place first c p.rows) →
     found ≡ (slice_get (document_parts (cut_of t)) i >>= λ p. place (document_row i (cut_of t)) (cut_of t) p.rows)
 held_in t s ds i first d found place h there e told =
@@ -185,12 +185,20 @@ held_in t s ds i first d found place h there e told =
     ∙ (ap (λ (k : ℕ). place k (cut_of t) part.0.rows) same
     ∙ sym (ap (λ (o : Option Part). o >>= λ p. place (document_row i (cut_of t)) (cut_of t) p.rows) part.1))
 
-pub held_none : (c : Cut) (i : ℕ) (place : ℕ → Cut → List Row → Place) → None ≡ first_row i c → None ≡ (slice_get (document_parts c) i >>= λ p. place (document_row i c) c p.rows)
+pub held_none : {A : Type 0} (c : Cut) (i : ℕ) (place : ℕ → Cut → List Row → Option A) → None ≡ first_row i c → None ≡ (slice_get (document_parts c) i >>= λ p. place (document_row i c) c p.rows)
 held_none c i place e = go (slice_get (document_parts c) i) e
   where
     go : (o : Option Part) → None ≡ option_map (λ p. document_row i c) o → None ≡ (o >>= λ p. place (document_row i c) c p.rows)
     go None e = refl
     go (Some p) e = absurd (cc)
+
+-- the seat at a path, by that among the rows of its document
+pub seat_numbered : (k i : ℕ) (c : Cut) (steps : List Step) → (slice_get (document_parts c) i >>= λ p. option_map (numbers k) (seat_of steps p.rows)) ≡ option_map (numbers k) (slice_get (document_parts c) i >>= λ p. seat_of steps p.rows)
+seat_numbered k i c steps = go (slice_get (document_parts c) i)
+  where
+    go : (o : Option Part) → (o >>= λ p. option_map (numbers k) (seat_of steps p.rows)) ≡ option_map (numbers k) (o >>= λ p. seat_of steps p.rows)
+    go None = refl
+    go (Some p) = refl
 
 -- the node for which lines stand
 pub lines_none : (k : ℕ) (c : Cut) (rs : List Row) (from to : ℕ) → from ≡ to → None ≡ lines_content k c rs from to

@@ -11,7 +11,8 @@ use Rattle.yq_rows.specs.Rows.{Mark, Bare, Dash, Key, Row, dashes_text, mark_tex
 use Rattle.yq_rows.specs.View.{Slices, slices, slices_text, last_dash, key_of, colon_of, rows_of, Bound, bounds_from, Shown, shown}
 use Rattle.yq_rows.proofs.ExchangeLaws.{slice_front, slice_back}
 use Rattle.yq_rows.proofs.SliceLaws.{slices_are}
-use Rattle.yq_tree.specs.Extents.{row_length, bound_length, passed_length, row_start, front_length, shown_length, head_place, IsShown}
+use Rattle.yq_rows.specs.Offsets.{row_length}
+use Rattle.yq_tree.specs.Extents.{bound_length, passed_length, row_start, front_length, shown_length, head_place, IsShown}
 
 slices-length : (s : Slices) (rest : List ℕ) → length (slices_text s rest) ≡ row_length s + length rest
 slices-length s rest =

@@ -3,8 +3,8 @@ use Rattle.std.proofs.Common.{◌≡◌, ◌<◌, leb, List, [], Bool, true, fal
 use Rattle.std.proofs.lemmas.Bool.{lt-ltb, cond-true, and_parts}
 use Rattle.std.proofs.Math.Bool.{and-false}
 use Rattle.yq_scalar.specs.Keys.{depth}
+use Rattle.yq_inline.specs.Inline.{depth_limit}
 use Rattle.yq_tree.specs.Anchors.{names_of}
-use Rattle.yq_tree.specs.Documents.{depth_limit}
 use Rattle.yq_tree.specs.Ends.{part}
 use Rattle.yq_tree.specs.Group.{deeper, group, is_fine}
 use Rattle.yq_tree.specs.LinesReading.{names_are_sound, lines_are_sound}

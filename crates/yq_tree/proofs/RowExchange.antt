@@ -5,13 +5,14 @@ use Rattle.std.specs.List.{slice_get}
 use Rattle.yq_scalar.specs.Keys.{depth}
 use Rattle.yq_scalar.specs.Paths.{Step, change}
 use Rattle.yq_scalar.specs.Tree.{Label, Node}
+use Rattle.yq_inline.specs.Inline.{depth_limit}
 use Rattle.yq_rows.specs.Comments.{head_comment, line_comment}
 use Rattle.yq_rows.specs.Exchange.{with_content_at, with_content_in}
 use Rattle.yq_rows.specs.Grammar.{is_entry}
 use Rattle.yq_rows.specs.Rows as rows
 use Rattle.yq_rows.specs.Rows.{Content, Row, Part}
 use Rattle.yq_tree.specs.Anchors.{names_of}
-use Rattle.yq_tree.specs.Documents.{first_gap, is_long_plain, depth_limit}
+use Rattle.yq_tree.specs.Documents.{first_gap, is_long_plain}
 use Rattle.yq_tree.specs.Group.{level_or, is_fine}
 use Rattle.yq_tree.specs.Laws.{with_lines}
 use Rattle.yq_tree.specs.Lines.{anchor_of, tail_of, mark_of, lines_of}

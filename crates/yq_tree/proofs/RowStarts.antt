@@ -10,7 +10,8 @@ use Rattle.yq_rows.specs.View.{Slices, slices, last_dash, rows_of, shown}
 use Rattle.yq_tree.specs.CommentPlaces.{before_tail}
 use Rattle.yq_tree.specs.EntryPlaces.{before_line, ending, through_row}
 use Rattle.yq_tree.specs.EntryReading.{dash_at, line_begin}
-use Rattle.yq_tree.specs.Extents.{row_length, passed_length, row_start, front_length, head_place}
+use Rattle.yq_rows.specs.Offsets.{row_length}
+use Rattle.yq_tree.specs.Extents.{passed_length, row_start, front_length, head_place}
 use Rattle.yq_tree.specs.Passages.{before_row}
 use Rattle.yq_tree.proofs.LengthLaws.{head_told}
 use Rattle.yq_tree.proofs.StartLaws.{start_told}

@@ -9,6 +9,7 @@ use Rattle.yq_scalar.specs.Tree.{Node, scalar}
 use Rattle.yq_inline.specs.Nodes as inline
 use Rattle.yq_inline.specs.Scalars.{scalar_of}
 use Rattle.yq_inline.specs.Trees.{tree_of}
+use Rattle.yq_inline.specs.Inline.{depth_limit}
 use Rattle.yq_rows.specs.Exchange.{with_content_in, exchange}
 use Rattle.yq_rows.specs.Grammar.{is_entry}
 use Rattle.yq_rows.specs.Rows as rows
@@ -16,7 +17,7 @@ use Rattle.yq_rows.specs.Rows.{Content, Nothing, Inline, Block, Row, Part, Cut, 
 use Rattle.yq_rows.specs.View.{rows_of}
 use Rattle.yq_rows.proofs.ExchangeLaws.{content_exchanged}
 use Rattle.yq_tree.specs.Anchors.{names_of}
-use Rattle.yq_tree.specs.Documents.{Document, document_parts, depth_limit}
+use Rattle.yq_tree.specs.Documents.{Document, document_parts}
 use Rattle.yq_tree.specs.Lines.{node_anchor, node_head, block_anchor, anchor_of, head_of, lines_of}
 use Rattle.yq_tree.specs.Outline.{anchored, head_or, null}
 use Rattle.yq_tree.specs.Reading.{outline_of, root_of, document_of, has_fit_keys, have_fit_keys, has_short_root, have_one_anchor_each, are_bound, is_document, all_documents, read_at}

@@ -191,9 +191,6 @@ none_past (x ∷ ds) (p ∷ ps) e (suc i) h = none_past ds ps (others e) i (omeg
     others : {y z : Lined} {ys zs : List Lined} → y ∷ ys ≡ z ∷ zs → ys ≡ zs
     others e = cc
 
-pub held_outside : (t : List ℕ) (s : Shown) (ds : List Held) (path : Path) (k : ℕ) → Holds t s ds → length ds ≤ path.doc → None ≡ option_map (numbers k) (seat_at path (cut_of t))
-held_outside t s ds path k h past = sym (ap (λ (o : Option Part). option_map (numbers k) (o >>= λ d. seat_of (steps_of path) d.rows)) (none_past ds (document_parts (cut_of t)) h.lined path.doc past))
-
 -- the first row of a document that is held
 pub held_begin : (t : List ℕ) (s : Shown) (ds : List Held) (i : ℕ) (p : Part) → Holds t s ds → slice_get (document_parts (cut_of t)) i ≡ Some p →
     (begin_row (first_rows s.bounds || not (some_begin s.bounds)) i 0 s.bounds ≡ Some (document_row i (cut_of t))) × ((more : List Row) × (drop (document_row i (cut_of t)) (rows_of (cut_of t)) ≡ p.rows ++ more))
@@ -201,31 +198,3 @@ held_begin t s ds i p h at =
     let c : Cut = cut_of t in
     let b = begins (begins_bare c || not (has_begin c)) i 0 c p at in
     (ap (λ (is : Bool). begin_row is i 0 s.bounds) (document_is c s h.rows) ∙ (ap (λ (x : Shown). begin_row (begins_bare c || not (has_begin c)) i 0 x.bounds) h.rows ∙ (b.told ∙ ap Some (omega arith))), (b.more, b.there))
-
-some_same : {x y : ℕ} → Some x ≡ Some y → x ≡ y
-some_same e = cc
-
-got : (ds : List Held) (i : ℕ) → i < length ds → (d : Held) × (slice_get ds i ≡ Some d)
-got [] i h = absurd (omega (arith, h))
-got (d ∷ ds) zero h = (d, refl)
-got (d ∷ ds) (suc i) h = got ds i (omega (arith, h))
-
-none_some : {x : ℕ} → None ≡ Some x → ⊥
-none_some e = cc
-
-pub held_some : (t : List ℕ) (s : Shown) (ds : List Held) (i : ℕ) → Holds t s ds → i < length ds → None ≡ begin_row (first_rows s.bounds || not (some_begin s.bounds)) i 0 s.bounds → ⊥
-held_some t s ds i h within e =
-    let there = got ds i within in
-    let part = part_at ds (document_parts (cut_of t)) h.lined i there.0 there.1 in
-    none_some (e ∙ (held_begin t s ds i part.0 h part.1).0)
-
-pub held_seat : (t : List ℕ) (s : Shown) (ds : List Held) (path : Path) (first : ℕ) (d : Held) (found : Option Numbers) → Holds t s ds → slice_get ds path.doc ≡ Some d → Some first ≡ begin_row (first_rows s.bounds || not (some_begin s.bounds)) path.doc 0 s.bounds →
-    ((u : List ℕ) (c : Cut) (p : Part) (more : List Row) → IsCut u c → s ≡ shown c → lines_in d ≡ lines_of p.rows → drop first (rows_of c) ≡ p.rows ++ more → found ≡ option_map (numbers first) (seat_of (steps_of path) p.rows)) →
-    found ≡ option_map (numbers (document_row path.doc (cut_of t))) (seat_at path (cut_of t))
-held_seat t s ds path first d found h there begin told =
-    let part = part_at ds (document_parts (cut_of t)) h.lined path.doc d there in
-    let b = held_begin t s ds path.doc part.0 h part.1 in
-    let same : first ≡ document_row path.doc (cut_of t) = some_same (begin ∙ b.0) in
-    told t (cut_of t) part.0 b.1.0 h.cut h.rows (ap (λ (x : Lined). x.1) part.2) (ap (λ (k : ℕ). drop k (rows_of (cut_of t))) same ∙ b.1.1)
-    ∙ ((λ i. option_map (numbers (same i)) (seat_of (steps_of path) part.0.rows))
-    ∙ sym (ap (λ (o : Option Part). option_map (numbers (document_row path.doc (cut_of t))) (o >>= λ d. seat_of (steps_of path) d.rows)) part.1))

@@ -7,7 +7,8 @@ use Rattle.yq_rows.specs.Exchange.{row_front, before_at, before_content}
 use Rattle.yq_rows.specs.Rows.{Row, rows_text, part_text, Cut, last, marked}
 use Rattle.yq_rows.specs.View.{Slices, slices, rows_of, Shown, shown}
 use Rattle.yq_rows.proofs.ExchangeLaws.{slice_front, slice_back}
-use Rattle.yq_tree.specs.Extents.{row_length, passed_length, row_start, shown_length, front_length, head_place}
+use Rattle.yq_rows.specs.Offsets.{row_length}
+use Rattle.yq_tree.specs.Extents.{passed_length, row_start, shown_length, front_length, head_place}
 use Rattle.yq_tree.specs.Passages.{before_row}
 use Rattle.yq_tree.proofs.LengthLaws.{row_fits, print-length, part-length, front-length, head_told}
 

@@ -6,6 +6,7 @@ use Rattle.yq_scalar.specs.Tree.{Node}
 use Rattle.yq_scalar.specs.Keys.{HasUniqueKeys, depth}
 use Rattle.yq_inline.specs.Nodes as inline
 use Rattle.yq_inline.specs.Nodes.{Items, none, item}
+use Rattle.yq_inline.specs.Inline.{depth_limit}
 use Rattle.yq_rows.specs.Comments.{head_comment}
 use Rattle.yq_rows.specs.Grammar.{IsCut, is_plain, no_rows, begins_document, key_limit}
 use Rattle.yq_rows.specs.Rows as rows
@@ -114,10 +115,6 @@ is_long_plain (rows.Key key colon) c = false
 abbrev pub HasShortRoot : List Row → Type 0
 HasShortRoot [] = ⊤
 HasShortRoot (r ∷ rs) = is_long_plain r.mark r.content ≡ false
-
--- how many collections may be nested (own)
-abbrev pub depth_limit : ℕ
-depth_limit = 64
 
 -- The rows of a part and the gap behind them are those of a document (8.2, 3.2.1.3, 3.2.2.2; own).
 pub record IsDocument (p : Part) (d : Document) : Type 0 where

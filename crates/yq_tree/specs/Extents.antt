@@ -7,6 +7,7 @@ use Rattle.yq_scalar.specs.Paths.{Step}
 use Rattle.yq_scalar.specs.Text.{is_empty}
 use Rattle.yq_inline.specs.Nodes.{first_is}
 use Rattle.yq_rows.specs.Exchange.{before_content}
+use Rattle.yq_rows.specs.Offsets.{row_length}
 use Rattle.yq_rows.specs.Rows.{Row, Cut, cut_text}
 use Rattle.yq_rows.specs.View.{Slices, slices, Bound, Shown, shown, rows_of}
 use Rattle.yq_tree.specs.declared.path.Span.{Span}
@@ -19,10 +20,6 @@ abbrev pub head_place : ℕ → Cut → Row → ℕ × ℕ
 head_place i c r =
     let s = slices r in
     let start = length (before_content i c ++ (s.space ++ (s.anchor ++ s.apart))) in (start, start + length s.head)
-
--- how long a row is, by its pieces
-abbrev pub row_length : Slices → ℕ
-row_length s = length s.gap + s.column + length s.dashes + length s.key + length s.colon + length s.space + length s.anchor + length s.apart + length s.head + length s.tail + length s.raw
 
 -- how long the end of a part is, with the marker behind it
 abbrev pub bound_length : Bound → ℕ

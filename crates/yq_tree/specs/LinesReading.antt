@@ -1,7 +1,7 @@
 -- Reading (a reader may skip this: the grammar is what is believed, and found and only tie the two): what is asked of all lines of a document.
 use Rattle.std.specs.Prelude.{List, [], Bool, ◌&&◌}
+use Rattle.yq_inline.specs.Inline.{depth_limit}
 use Rattle.yq_tree.specs.Anchors.{names_of}
-use Rattle.yq_tree.specs.Documents.{depth_limit}
 use Rattle.yq_tree.specs.Group.{group}
 use Rattle.yq_tree.specs.Names.{line_names}
 use Rattle.yq_tree.specs.Outline.{Line, value}

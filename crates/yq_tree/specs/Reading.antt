@@ -7,12 +7,13 @@ use Rattle.yq_scalar.specs.Tree.{Node, alias, scalar, list}
 use Rattle.yq_scalar.specs.Tree as tree
 use Rattle.yq_inline.specs.Nodes as inline
 use Rattle.yq_inline.specs.Nodes.{Items, none, item}
+use Rattle.yq_inline.specs.Inline.{depth_limit}
 use Rattle.yq_rows.specs.Grammar.{key_limit}
 use Rattle.yq_rows.specs.Reading.{scan_at}
 use Rattle.yq_rows.specs.Rows as rows
 use Rattle.yq_rows.specs.Rows.{Content, Nothing, Inline, Block, Row, Part, Cut, last}
 use Rattle.yq_tree.specs.Anchors.{Name, Anchors, Refers, names_of}
-use Rattle.yq_tree.specs.Documents.{Document, document_parts, lead_of, is_long_plain, depth_limit}
+use Rattle.yq_tree.specs.Documents.{Document, document_parts, lead_of, is_long_plain}
 use Rattle.yq_tree.specs.Group.{group}
 use Rattle.yq_tree.specs.Lines.{lines_of}
 use Rattle.yq_tree.specs.Outline.{Mark, Bare, Key, Dash, Line, Outline, value}

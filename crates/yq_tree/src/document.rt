@@ -14,9 +14,6 @@ use crate::path::Path;
 use std::marker::Model;
 use yq_rows::Rows;
 
-/// How many collections may be nested.
-pub const DEPTH_LIMIT: usize = 64;
-
 /// The documents of a text, which lend what they say of it. They are known by their text.
 #[derive(Debug, Drop)]
 pub struct Documents<'t> {

@@ -3,6 +3,7 @@ ghost use Rattle.std.specs.Prelude.{◌≡◌, ◌<◌, ◌≤◌, ◌&&◌, ℕ
 ghost use Rattle.std.specs.List.{sum_by};
 ghost use Rattle.yq_scalar.specs.Characters.{text_limit};
 ghost use Rattle.yq_rows.specs.Grammar.{IsCut};
+ghost use Rattle.yq_rows.specs.Offsets.{row_length};
 ghost use Rattle.yq_rows.specs.Rows.{Cut, Row as RowOf};
 ghost use Rattle.yq_rows.specs.View.{bound_view, rows_of, shown, view};
 ghost use Rattle.yq_tree.specs.Extents as spec;
@@ -16,8 +17,8 @@ use yq_rows::{Bound, Row, Rows};
 
 /// How long a row is, with its gap.
 fn row_len(row: &Row<'_>) -> usize
-    requires { spec.row_length (view row.now) ≤ text_limit }
-    ensures { result ≡ spec.row_length (view row.now) }
+    requires { row_length (view row.now) ≤ text_limit }
+    ensures { result ≡ row_length (view row.now) }
 {
     row.gap().len()
         + row.column()
@@ -34,7 +35,7 @@ fn row_len(row: &Row<'_>) -> usize
 
 /// How long the pieces of a row before its head are.
 pub(crate) fn front_len(row: &Row<'_>) -> usize
-    requires { spec.row_length (view row.now) ≤ text_limit }
+    requires { row_length (view row.now) ≤ text_limit }
     ensures { result ≡ spec.front_length (view row.now) }
 {
     row.gap().len()
@@ -51,7 +52,7 @@ pub(crate) fn front_len(row: &Row<'_>) -> usize
 fn rows_len(rows: &Rows<'_>, count: usize) -> usize
     requires within { count ≤ length rows.now.rows }
     requires short { spec.shown_length rows.now ≤ text_limit }
-    ensures { result ≡ sum_by spec.row_length (take count rows.now.rows) }
+    ensures { result ≡ sum_by row_length (take count rows.now.rows) }
 {
     let mut len = 0;
     'rows: for at in 0..count {

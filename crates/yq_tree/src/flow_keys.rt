@@ -6,11 +6,9 @@ ghost use Rattle.yq_tree.specs.KeyReading as spec;
 
 use crate::fault::fault_at;
 use yq_inline::{Form, Inline};
+use yq_rows::KEY_LIMIT;
 use yq_scalar::characters::char_count;
 use yq_scalar::{FaultKind, Piece, ReadFault};
-
-/// How many characters a key may have.
-const KEY_LIMIT: usize = 1024;
 
 /// What is at fault in the key at a place of a text: it is to be no plain `<<`, and not too long.
 fn key_fault(whole: &str, piece: &Piece) -> Option<ReadFault>

@@ -59,7 +59,7 @@ mod written_place;
 
 pub use children::Children;
 pub use comments::Comments;
-pub use document::{DEPTH_LIMIT, Documents};
+pub use document::Documents;
 pub use laws::{exchanged, one_node, rules};
 pub use line::Line;
 pub use node::{Node, NodeKind};
@@ -69,4 +69,5 @@ pub use reading::{cut_read, one_reading, read, text_of};
 pub use scalar_place::ScalarPlace;
 pub use written::Written;
 pub use written_laws::{scalar_placed, scalar_written};
-pub use yq_inline::Step;
+pub use yq_inline::{DEPTH_LIMIT, Step};
+pub use yq_rows::KEY_LIMIT;

@@ -13,10 +13,8 @@ use crate::lined::Lined;
 use crate::names::names_of;
 use crate::sound::{Flaw, find_flaw};
 use std::alloc::{AllocError, Global};
+use yq_inline::DEPTH_LIMIT;
 use yq_scalar::FaultKind;
-
-/// How many collections may be nested.
-const DEPTH_LIMIT: usize = 64;
 
 /// What is at fault in the anchors and aliases of lines: a second anchor of a node, an anchor of an
 /// alias, or an alias without an earlier anchor of its name.

@@ -113,12 +113,7 @@ impl<'t> Documents<'t> {
     pub(crate) fn seat(&self, path: &Path) -> Option<Seat>
         ensures { option_map spec.told result ≡ option_map (spec.numbers (document_row path.now.doc (cut_of self.now))) (seat_at path.now (cut_of self.now)) }
     {
-        let doc = path.doc;
-        let count = self.documents.len();
-        if doc >= count {
-            return None;
-        }
-        let first = begin_row(&self.rows, first_is_document(&self.rows), doc)?;
-        seat_in(&self.rows, first, &self.documents[doc], &path.steps)
+        let first = self.first_row(path.doc)?;
+        seat_in(&self.rows, first, &self.documents[path.doc], &path.steps)
     }
 }

@@ -6,7 +6,7 @@ mod flow_styles;
 mod preview;
 mod structures;
 
-use crate::document::DEPTH_LIMIT;
+use crate::DEPTH_LIMIT;
 use crate::node::{Node, NodeKind};
 use crate::node_tests::letter;
 use crate::read;

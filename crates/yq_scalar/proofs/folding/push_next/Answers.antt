@@ -3,7 +3,8 @@ use Rattle.std.proofs.lemmas.Result.{IfOk-weaker}
 use Rattle.std.specs.String.{string_bytes}
 use Rattle.yq_scalar.specs.Text.{upto}
 use Rattle.yq_scalar.specs.ContentReading.{content_on, within}
-use Rattle.yq_scalar.specs.ContentReading.{no_gap, space_text}
+use Rattle.yq_scalar.specs.ContentReading.{space_text}
+use Rattle.yq_scalar.specs.Plain.{no_gap}
 use Rattle.yq_scalar.proofs.FoldLaws.{content_gap, space_ends}
 use Rattle.yq_scalar.proofs.ItemLaws.{cut_within, both_if_ok, shorter_still}
 use Rattle.yq_scalar.specs.Text.{is_space}

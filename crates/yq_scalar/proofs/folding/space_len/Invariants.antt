@@ -1,7 +1,7 @@
 use Rattle.std.proofs.Common.{◌≡◌, ◌+◌, length}
 use Rattle.yq_scalar.specs.Text.{upto}
-use Rattle.yq_scalar.specs.ContentReading.{no_gap}
 use Rattle.yq_scalar.proofs.folding.space_len.Given as goal
+use Rattle.yq_scalar.specs.Plain.{no_gap}
 
 abbrev pub decreases-each : goal.decreases-each
 decreases-each l = length l.rest

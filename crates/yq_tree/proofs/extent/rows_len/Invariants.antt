@@ -1,6 +1,6 @@
 use Rattle.std.proofs.Common.{◌≡◌, take}
 use Rattle.std.specs.List.{sum_by}
-use Rattle.yq_tree.specs.Extents.{row_length}
+use Rattle.yq_rows.specs.Offsets.{row_length}
 use Rattle.yq_tree.proofs.extent.rows_len.Given as goal
 
 abbrev pub invariant-rows : goal.invariant-rows

@@ -3,10 +3,11 @@ use Rattle.std.specs.Prelude.{codes}
 use Rattle.std.proofs.lemmas.Grind.{common_steps}
 use Rattle.std.proofs.lemmas.Result.{err_from_is_err_and}
 use Rattle.yq_expr.proofs.Turns.{turn_more, turn_end, loop_fails, failed, before_some, item_lessens, field_lessens}
-use Rattle.yq_expr.specs.Parse.{behind_at, literal_at, field_at, distinct}
+use Rattle.yq_expr.specs.Parse.{behind_at, literal_at, field_at}
 use Rattle.yq_expr.specs.Lexing.{tokens, after}
 use Rattle.yq_expr.proofs.Keys.{map_is, node_of-map}
 use Rattle.yq_inline.specs.Values.{node_of, field_of}
+use Rattle.yq_tree.specs.Sound.{are_distinct}
 use Rattle.yq_expr.proofs.parse.literal.+literal.Goals as goal
 
 pub items-returns-in_err-item-clause-value : goal.items-returns-in_err-item-clause-value
@@ -50,6 +51,6 @@ literal-returns-then-branch-clause-value t c =
     let ts = tokens c.args.text.now in
     let no_list : after (codes "[") ts ≡ None = grind (arith, common_steps) in
     let opened : after (codes "{") ts ≡ Some (tokens c.in-Some-after.rest.now) = sym c.in-Some-after.ensures.value in
-    let differ : distinct (map (λ e. e.0) (map field_of c.in_ok-fields.fields.items)) ≡ true = sym c.in_ok-keys_differ.ensures ∙ c.if-branch.true in
+    let differ : are_distinct (map (λ e. e.0) (map field_of c.in_ok-fields.fields.items)) ≡ true = sym c.in_ok-keys_differ.ensures ∙ c.if-branch.true in
     let read = map_is c.args.depth ts _ (map field_of c.in_ok-fields.fields.items, tokens c.in_ok-fields.rest.now) (omega arith) no_list opened c.in_ok-fields.ensures.value differ in
     read ∙ rw node_of-map refl
