@@ -37,7 +37,7 @@ space_ends : (space t : List ℕ) → IsWhite space → separates (space ++ t) �
 space_ends [] t blank h none = absurd (false≢true (sym none ∙ h))
 space_ends (b ∷ space) t blank h none = white_ends b space blank
 
-behind_ascii : (p rest : List ℕ) → IsUtf8 (p ++ rest) → EndsAscii p → IsCharBoundary (p ++ rest) (length p)
+pub behind_ascii : (p rest : List ℕ) → IsUtf8 (p ++ rest) → EndsAscii p → IsCharBoundary (p ++ rest) (length p)
 behind_ascii p rest u e =
     let whole : p ++ rest ≡ e.front ++ (e.last ∷ rest) = ap (λ (q : List ℕ). q ++ rest) e.is ∙ append_assoc e.front (e.last ∷ []) rest in
     let size : length p ≡ length e.front + 1 = ap length e.is ∙ length-append e.front (e.last ∷ []) in

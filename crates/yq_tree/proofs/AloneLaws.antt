@@ -33,8 +33,7 @@ use Rattle.yq_rows.proofs.AloneLaws.{alone_exchanged}
 use Rattle.yq_rows.proofs.AlonePieces.{alone_pieces}
 use Rattle.yq_rows.proofs.PlaceLaws.{RowIn, row_in}
 use Rattle.yq_rows.proofs.PlainEnds.{plain_ends}
-use Rattle.yq_tree.specs.Documents.{Document, document_parts}
-use Rattle.yq_tree.specs.Documents as documented
+use Rattle.yq_tree.specs.Documents.{Document}
 use Rattle.yq_tree.specs.Lines.{anchor_of, head_of, mark_of, lines_of}
 use Rattle.yq_tree.specs.Outline as outline
 use Rattle.yq_tree.specs.Outline.{Line, first_anchor}

@@ -71,11 +71,11 @@ in_seat : (l : Line) (n : Node) (s : Seat) → s.line ≤ length s.row.dashes �
 in_seat l n s within h = record { line = λ k c. line_agrees (k + s.before) c s l within h; above = λ k c. above_agrees (k + s.before) c s l h }
 
 -- the same where a path leads
-middle : (xs ys : List Line) (l : Line) → slice_get (xs ++ (l ∷ ys)) (length xs) ≡ Some l
+pub middle : (xs ys : List Line) (l : Line) → slice_get (xs ++ (l ∷ ys)) (length xs) ≡ Some l
 middle [] ys l = refl
 middle (x ∷ xs) ys l = middle xs ys l
 
-some_head : (t : Step) (ts : List Step) (m : Mark) (h : Option Node) (after : Outline) → HasHead (t ∷ ts) m h → IsWhole m h after → (n : Node) × (h ≡ Some n)
+pub some_head : (t : Step) (ts : List Step) (m : Mark) (h : Option Node) (after : Outline) → HasHead (t ∷ ts) m h → IsWhole m h after → (n : Node) × (h ≡ Some n)
 some_head t ts Bare None after k w = absurd w
 some_head t ts Bare (Some n) after k w = (n, refl)
 some_head t ts (Key j) None after k w = absurd k
@@ -110,7 +110,7 @@ path_agrees rows (s ∷ ss) fine = subst (λ o. Agree o (seat_of (s ∷ ss) rows
     go (Some x) is = found x.0 x.1 is
 
 -- the same of documents
-each : (ps : List Part) → list_all is_document ps ≡ true → (i : ℕ) (p : Part) → slice_get ps i ≡ Some p → is_document p ≡ true
+pub each : (ps : List Part) → list_all is_document ps ≡ true → (i : ℕ) (p : Part) → slice_get ps i ≡ Some p → is_document p ≡ true
 each [] all i p e = absurd (cc)
 each (q ∷ ps) all zero p e = let same : q ≡ p = cc in ap is_document (sym same) ∙ (and_parts (is_document q) (list_all is_document ps) all).0
 each (q ∷ ps) all (suc i) p e = each ps (and_parts (is_document q) (list_all is_document ps) all).1 i p e

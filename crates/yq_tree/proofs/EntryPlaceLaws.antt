@@ -69,7 +69,7 @@ get_drop (suc k) [] i = refl
 get_drop (suc k) (x ∷ xs) i = let same : suc (k + i) ≡ suc k + i = omega arith in get_drop k xs i ∙ ap (slice_get (x ∷ xs)) same
 
 -- the row of a line of rows that stand among those of a cut
-row_there : (c : Cut) (rs more : List Row) (first n : ℕ) (s : Seat) → drop first (rows_of c) ≡ rs ++ more → seat n rs ≡ Some s → slice_get (rows_of c) (first + s.before) ≡ Some s.row
+pub row_there : (c : Cut) (rs more : List Row) (first n : ℕ) (s : Seat) → drop first (rows_of c) ≡ rs ++ more → seat n rs ≡ Some s → slice_get (rows_of c) (first + s.before) ≡ Some s.row
 row_there c rs more first n s there e =
     sym (get_drop first (rows_of c) s.before) ∙ (ap (λ (xs : List Row). slice_get xs s.before) there ∙ get_front rs more s.before s.row (seat_is n rs s e).0)
 
@@ -77,7 +77,7 @@ numbers_same : {x y : Numbers} → Some x ≡ Some y → x ≡ y
 numbers_same e = cc
 
 -- the place from one line to the end of another one's row
-abbrev between : ℕ → Cut → Seat → Seat → Option (ℕ × ℕ)
+abbrev pub between : ℕ → Cut → Seat → Seat → Option (ℕ × ℕ)
 between first c s q = Some (length (before_line (first + s.before) s.line s.row c), length (through_row (first + q.before) q.row c))
 
 pub lines_told : (c : Cut) (x : Shown) (rs more : List Row) (first from to start end : ℕ) (a b : Numbers) → x ≡ shown c → drop first (rows_of c) ≡ rs ++ more →

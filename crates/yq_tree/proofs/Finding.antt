@@ -43,7 +43,7 @@ row_child s o = sym (labelled_child s (children o)) ∙ (ap (option_map (λ x. x
     same None = refl
     same (Some f) = refl
 
-node-anchored : (a : Option (List ℕ)) (s : Step) (ss : List Step) (n : Node) → node_at (s ∷ ss) (anchored a n) ≡ node_at (s ∷ ss) n
+pub node-anchored : (a : Option (List ℕ)) (s : Step) (ss : List Step) (n : Node) → node_at (s ∷ ss) (anchored a n) ≡ node_at (s ∷ ss) n
 node-anchored a s ss (alias n) = refl
 node-anchored a s ss (scalar b k t) = refl
 node-anchored a s ss (list b cs) = refl

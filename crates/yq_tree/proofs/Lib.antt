@@ -14,6 +14,7 @@ pub mod Decides
 pub mod DocumentLaws
 pub mod EndsLaws
 pub mod LineEnds
+pub mod LinePlaceLaws
 pub mod RowStarts
 pub mod RowFlowLaws
 pub mod EntryPlaceLaws
@@ -22,6 +23,8 @@ pub mod HeldFlows
 pub mod HeadEnds
 pub mod StartLaws
 pub mod EntryLaws
+pub mod EntryStandLaws
+pub mod EntryPlacedLaws
 pub mod HeldLaws
 pub mod LabelledLaws
 pub mod LabelPaths
@@ -54,6 +57,10 @@ pub mod PassageLaws
 pub mod PassageStandLaws
 pub mod PathLines
 pub mod Plug
+pub mod SeamLaws
+pub mod FinishLaws
+pub mod HeadSpanLaws
+pub mod FlowSpanLaws
 pub mod SeatLaws
 pub mod SeatLineLaws
 pub mod SoundLaws

@@ -1,5 +1,5 @@
 -- Where the lines under a line end, by how many of those behind it are deeper.
-use Rattle.std.proofs.Common.{◌≡◌, ℕ, zero, suc, ◌+◌, ◌<◌, ◌≤◌, ltb, List, [], ◌∷◌, length, drop, Some, Bool, true, false, cond, refl, sym, ap, ◌∙◌, arith, length-drop}
+use Rattle.std.proofs.Common.{◌≡◌, ℕ, zero, suc, ◌+◌, ◌<◌, ◌≤◌, ltb, List, [], ◌∷◌, ◌++◌, length, drop, Some, Bool, true, false, cond, refl, sym, ap, ◌∙◌, arith, length-drop}
 use Rattle.std.proofs.lemmas.Bool.{lt-ltb, ltb-true, cond-true}
 use Rattle.std.specs.List.{slice_get}
 use Rattle.yq_tree.specs.Ends.{IsEndOf}
@@ -35,6 +35,17 @@ count_within k (l ∷ ls) = go (ltb k (level l)) (count_within k ls)
     go : (b : Bool) → deeper_count k ls ≤ length ls → cond b (suc (deeper_count k ls)) 0 ≤ suc (length ls)
     go true h = omega (arith, h)
     go false h = omega arith
+
+-- the end of a line that is there
+pub end_within : (ls : List Line) (n : ℕ) → n < length ls → (n < lines_end n ls) × (lines_end n ls ≤ length ls)
+end_within [] n h = absurd (omega (arith, h))
+end_within (l ∷ ls) zero h = (omega arith, omega (arith, count_within (level l) ls))
+end_within (l ∷ ls) (suc n) h = let again = end_within ls n (omega (arith, h)) in (omega (arith, again.0), omega (arith, again.1))
+
+-- the end of a line behind others
+pub end_behind : (xs ys : List Line) (l : Line) → lines_end (length xs) (xs ++ (l ∷ ys)) ≡ suc (length xs) + deeper_count (level l) ys
+end_behind [] ys l = omega arith
+end_behind (x ∷ xs) ys l = omega (arith, end_behind xs ys l)
 
 line_same : {x y : Line} → Some x ≡ Some y → x ≡ y
 line_same e = cc

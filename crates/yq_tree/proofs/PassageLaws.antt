@@ -45,7 +45,7 @@ pieces_at before old behind u start end =
     }
 
 -- the end of a piece: an LF is its last byte, or nothing is behind it
-abbrev Ended : List ℕ → List ℕ → Type 0
+abbrev pub Ended : List ℕ → List ℕ → Type 0
 Ended p rest = IsLf p ⊎ (rest ≡ [])
 
 begins_at : (before old behind : List ℕ) → BeginsAscii (old ++ behind) → IsCharBoundary (before ++ (old ++ behind)) (length before)
@@ -77,7 +77,7 @@ line_end white comment p rest h = go h.ends
     go (inr none) = inr none.1
 
 -- the end of a tail
-tail_end : (p rest : List ℕ) → IsTail p rest → Ended p rest
+pub tail_end : (p rest : List ℕ) → IsTail p rest → Ended p rest
 tail_end p rest h = line_end h.white h.comment p rest h.line
 
 -- the comment in a tail

@@ -6,7 +6,7 @@ use Rattle.std.specs.Str.{is_utf8, IsUtf8}
 use Rattle.yq_scalar.proofs.Bools.{bind_some, guard_then}
 use Rattle.yq_rows.specs.Exchange.{before_content, behind_row}
 use Rattle.yq_rows.specs.Grammar.{IsCut}
-use Rattle.yq_rows.specs.Rows.{parent_indent, behind_gap, Cut}
+use Rattle.yq_rows.specs.Rows.{Row, parent_indent, behind_gap, Cut, cut_text}
 use Rattle.yq_rows.specs.View.{content_cut, slices, rows_of}
 use Rattle.yq_rows.proofs.PlaceLaws.{place, row_in}
 use Rattle.yq_rows.proofs.SliceLaws.{content_slices}
@@ -21,6 +21,12 @@ use Rattle.yq_tree.proofs.SeatedLaws.{path_row}
 apart : (a b c d e x : List ℕ) → a ++ (b ++ (c ++ (d ++ (e ++ x)))) ≡ (a ++ (b ++ (c ++ (d ++ e)))) ++ x
 apart a b c d e x = simp append_assoc refl
 
+-- the place of a row's tail
+pub tail_place : (c : Cut) (i : ℕ) (r : Row) → slice_get (rows_of c) i ≡ Some r → cut_text c ≡ before_tail i r c ++ ((slices r).tail ++ ((slices r).raw ++ behind_row i c))
+tail_place c i r is =
+    place c i r is ∙ (ap (λ x. before_content i c ++ x) (sym (content_slices r.content (behind_row i c)))
+    ∙ apart (before_content i c) (slices r).space (slices r).anchor (slices r).apart (slices r).head ((slices r).tail ++ ((slices r).raw ++ behind_row i c)))
+
 in_row : (t : List ℕ) (c : Cut) (i : ℕ) (s : Seat) (q : Passage) → IsCut t c → IsUtf8 t → slice_get (rows_of c) i ≡ Some s.row → line_comment_in i s c ≡ Some q → IsPassage t q
 in_row t c i s q cut u is = go (eqb s.line (length s.row.dashes))
   where
@@ -28,9 +34,7 @@ in_row t c i s q cut u is = go (eqb s.line (length s.row.dashes))
     rest = (content_cut s.row.content).5 ++ behind_row i c
 
     text : t ≡ before_tail i s.row c ++ ((slices s.row).tail ++ ((content_cut s.row.content).5 ++ behind_row i c))
-    text =
-        cut.text ∙ (place c i s.row is ∙ (ap (λ x. before_content i c ++ x) (sym (content_slices s.row.content (behind_row i c)))
-        ∙ apart (before_content i c) (slices s.row).space (slices s.row).anchor (slices s.row).apart (slices s.row).head ((slices s.row).tail ++ ((content_cut s.row.content).5 ++ behind_row i c))))
+    text = cut.text ∙ tail_place c i s.row is
 
     go : (b : Bool) → cond b (tail_comment (before_tail i s.row c) (slices s.row).tail) None ≡ Some q → IsPassage t q
     go true found =

@@ -12,18 +12,15 @@ use Rattle.yq_rows.specs.Rows.{Content, Row, Part, Cut, last, marked}
 use Rattle.yq_rows.specs.View.{Slices, slices, Bound, bounds_from, rows_of, Shown, shown}
 use Rattle.yq_tree.specs.declared.line.Line as declared
 use Rattle.yq_tree.specs.declared.path.Part.{Part as Place}
-use Rattle.yq_tree.specs.declared.path.Path.{Path}
 use Rattle.yq_tree.specs.Documents.{parts_from, document_parts, begins_bare, has_begin}
 use Rattle.yq_tree.specs.Extents.{lines_before_mark}
 use Rattle.yq_tree.specs.Lines.{lines_from, row_lines, lines_of}
-use Rattle.yq_tree.specs.Located.{steps_of}
-use Rattle.yq_tree.specs.Nodes.{lines_in}
 use Rattle.yq_tree.specs.Outline.{Line}
 use Rattle.yq_tree.specs.PartReading.{Lined, lined, document_view, some_begin, first_rows}
 use Rattle.yq_tree.specs.Reading.{cut_of}
 use Rattle.yq_tree.specs.RowPaths.{line_of}
 use Rattle.yq_tree.specs.SeatReading.{begin_row, Numbers, behind, slices_seat, numbers}
-use Rattle.yq_tree.specs.Seats.{Seat, behind_one, seat, seat_of, seat_at, rows_before, document_row, line_has_room, seat_has_room}
+use Rattle.yq_tree.specs.Seats.{Seat, behind_one, seat, seat_of, rows_before, document_row, line_has_room, seat_has_room}
 use Rattle.yq_tree.specs.SoundReading.{Holds}
 use Rattle.yq_tree.proofs.CountLaws.{AreCounted, cut_counted}
 use Rattle.yq_tree.proofs.Parts.{drop_at}

@@ -5,7 +5,7 @@ use Rattle.std.specs.List.{slice_get}
 use Rattle.yq_rows.specs.Comments as comments
 use Rattle.yq_rows.specs.Rows as rows
 use Rattle.yq_rows.specs.Rows.{Content, Row}
-use Rattle.yq_tree.specs.Lines.{tail_of, lines_from, row_lines, lines_of}
+use Rattle.yq_tree.specs.Lines.{head_of, tail_of, lines_from, row_lines, lines_of}
 use Rattle.yq_tree.specs.Outline.{Dash, Line}
 use Rattle.yq_tree.specs.Seats.{Seat, behind_one, seat}
 use Rattle.yq_tree.proofs.QuietLaws.{Quiet, quiet_content}
@@ -19,6 +19,7 @@ pub record IsTold (above : List (List ℕ)) (dashes : ℕ) (c : Content) (n : �
   pub last : n ≡ dashes → l.line_comment ≡ comments.line_comment (tail_of c)
   pub before : n < dashes → l.line_comment ≡ None
   pub dash : n < dashes → (l.mark ≡ Dash) × (l.head ≡ None)
+  pub spelled : n ≡ dashes → l.head ≡ head_of c
   pub head : If l.head Quiet
 
 none_above : (dashes : ℕ) (c : Content) (n : ℕ) (l : Line) → IsTold [] dashes c n l → l.head_comment ≡ []
@@ -33,10 +34,10 @@ some_same e = cc
 
 line_from : (above : List (List ℕ)) (column : ℕ) (ns : List ℕ) (m : rows.Mark) (c : Content) (n : ℕ) (l : Line) → slice_get (lines_from above column ns m c) n ≡ Some l → IsTold above (length ns) c n l
 line_from above column [] m c zero l e =
-    subst (IsTold above 0 c 0) (some_same e) (record { within = omega arith; first = λ z. refl; later = λ p. absurd (omega (arith, p)); last = λ z. refl; before = λ p. absurd (omega (arith, p)); dash = λ p. absurd (omega (arith, p)); head = quiet_content c })
+    subst (IsTold above 0 c 0) (some_same e) (record { within = omega arith; first = λ z. refl; later = λ p. absurd (omega (arith, p)); last = λ z. refl; before = λ p. absurd (omega (arith, p)); dash = λ p. absurd (omega (arith, p)); spelled = λ z. refl; head = quiet_content c })
 line_from above column [] m c (suc n) l e = absurd (cc)
 line_from above column (k ∷ ns) m c zero l e =
-    subst (IsTold above (suc (length ns)) c 0) (some_same e) (record { within = omega arith; first = λ z. refl; later = λ p. absurd (omega (arith, p)); last = λ z. absurd (omega (arith, z)); before = λ p. refl; dash = λ p. (refl, refl); head = tt })
+    subst (IsTold above (suc (length ns)) c 0) (some_same e) (record { within = omega arith; first = λ z. refl; later = λ p. absurd (omega (arith, p)); last = λ z. absurd (omega (arith, z)); before = λ p. refl; dash = λ p. (refl, refl); spelled = λ z. absurd (omega (arith, z)); head = tt })
 line_from above column (k ∷ ns) m c (suc n) l e =
     let h : IsTold [] (length ns) c n l = line_from [] (suc (column + k)) ns m c n l e in
     record {
@@ -46,10 +47,11 @@ line_from above column (k ∷ ns) m c (suc n) l e =
       last = λ z. h.last (omega (arith, z));
       before = λ p. h.before (omega (arith, p));
       dash = λ p. h.dash (omega (arith, p));
+      spelled = λ z. h.spelled (omega (arith, z));
       head = h.head;
     }
 
-lines_count : (above : List (List ℕ)) (column : ℕ) (ns : List ℕ) (m : rows.Mark) (x : Content) → length (lines_from above column ns m x) ≡ suc (length ns)
+pub lines_count : (above : List (List ℕ)) (column : ℕ) (ns : List ℕ) (m : rows.Mark) (x : Content) → length (lines_from above column ns m x) ≡ suc (length ns)
 lines_count above column [] m x = refl
 lines_count above column (n ∷ ns) m x = ap suc (lines_count [] (suc (column + n)) ns m x)
 

@@ -26,7 +26,7 @@ front_at [] i r is = absurd (cc)
 front_at (x ∷ rows) zero r is = let same : x ≡ r = cc in omega (arith, ap (λ (y : Row). length (row_front y)) same)
 front_at (x ∷ rows) (suc i) r is = omega (arith, print-length x (before_at i rows), print-length x (rows_text (take i rows) []), front_at rows i r is)
 
-front_in : (i : ℕ) (c : Cut) (r : Row) → slice_get (rows_of c) i ≡ Some r → length (before_content i c) ≡ length (before_row i c) + length (row_front r)
+pub front_in : (i : ℕ) (c : Cut) (r : Row) → slice_get (rows_of c) i ≡ Some r → length (before_content i c) ≡ length (before_row i c) + length (row_front r)
 front_in i (last p) r is = front_at p.rows i r is
 front_in i (marked p marker c) r is = go (cases_lt i (length p.rows)) (λ there. front_in (i - length p.rows) c r there)
   where

@@ -29,6 +29,7 @@ pub mod KeyReading
 pub mod View
 pub mod Ends
 pub mod Extents
+pub mod EntryLaws
 pub mod EntryPlaces
 pub mod EntryReading
 pub mod FlowReading

@@ -64,7 +64,7 @@ pub use laws::{exchanged, one_node, rules};
 pub use line::Line;
 pub use node::{Node, NodeKind};
 pub use path::{Part, Path, Span};
-pub use path_laws::{comments_stand, path_rows, scalar_fits, scalar_put};
+pub use path_laws::{comments_stand, entries_stand, path_rows, scalar_fits, scalar_put};
 pub use reading::{cut_read, one_reading, read, text_of};
 pub use scalar_place::ScalarPlace;
 pub use written::Written;

@@ -1,5 +1,6 @@
 //! Laws on paths and rows, for the crates above.
 ghost use Rattle.yq_tree.specs.CommentPlaces.{CommentsPlaced, CommentsStand};
+ghost use Rattle.yq_tree.specs.EntryLaws.{ContentsStand, EntriesPlaced, EntriesStand};
 ghost use Rattle.yq_tree.specs.RowPaths.{HeadIsLeaf, LeadsToRow, ScalarFits, ScalarPut, ScalarSpelled};
 
 /// A path that leads to a row without lines under it leads to what the row spells behind its mark.
@@ -24,4 +25,12 @@ pub fn scalar_fits()
 pub fn comments_stand()
     ensures told { CommentsStand }
     ensures placed { CommentsPlaced }
+{}
+
+/// An entry or item has a place exactly where the tree has it; a content has one only where the tree
+/// has the node, and a node whose content has none is a null; and these places are in the text.
+pub fn entries_stand()
+    ensures told { EntriesStand }
+    ensures nodes { ContentsStand }
+    ensures placed { EntriesPlaced }
 {}

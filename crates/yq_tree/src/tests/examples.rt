@@ -6,10 +6,9 @@ mod flow_styles;
 mod preview;
 mod structures;
 
-use crate::DEPTH_LIMIT;
 use crate::node::{Node, NodeKind};
 use crate::node_tests::letter;
-use crate::read;
+use crate::{DEPTH_LIMIT, read};
 use std::alloc::{AllocError, Global};
 use std::process::Abort;
 use std::test::Fail;
