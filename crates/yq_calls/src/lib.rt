@@ -1,0 +1,5 @@
+//! Tests of the libraries' public calls: what their contracts leave open.
+#![tactic(auto)]
+
+#[cfg(test)]
+mod memory;
