@@ -87,27 +87,52 @@ def shown(value):
     return text if len(text) < 400 else text[:400] + ".."
 
 
-def run_all(modules, argv):
+class Tally:
+    """How many checks passed, failed and were skipped."""
+
+    def __init__(self):
+        self.passed = self.failed = self.skipped = 0
+
+    def line(self):
+        return f"{self.passed} passed, {self.failed} failed" + (f", {self.skipped} skipped" if self.skipped else "")
+
+    def fails(self, name, why):
+        self.failed += 1
+        print(f"failed {name}\n{why}")
+
+    def tries(self, name, check, folder):
+        try:
+            check(folder)
+            self.passed += 1
+        except Skip as why:
+            self.skipped += 1
+            print(f"skipped {name}: {why}")
+        except Exception:
+            self.fails(name, traceback.format_exc())
+
+
+def memory_folder():
+    """Where files cost no disk, if there is such a place."""
+    return "/dev/shm" if os.access("/dev/shm", os.W_OK) else None
+
+
+def run_all(modules, run_tables, argv):
+    """Runs the modules' checks, each in a folder of its own, and the tables."""
     if len(argv) < 2 or not os.access(argv[1], os.X_OK):
         print("no program to run", file=sys.stderr)
         return 1
-    yq = os.path.realpath(argv[1])
     wanted = argv[2] if len(argv) > 2 else ""
-    passed = failed = skipped = 0
+    tally = Tally()
     with tempfile.TemporaryDirectory(prefix="yq-cli-") as top:
         os.chmod(top, 0o755)
-        program = shutil.copy(yq, os.path.join(top, "yq"))
+        program = shutil.copy(os.path.realpath(argv[1]), os.path.join(top, "yq"))
+        with tempfile.TemporaryDirectory(prefix="yq-cli-", dir=memory_folder()) as room:
+            passed, failed = run_tables(program, room, wanted)
+        tally.passed += passed
+        for name, why in failed:
+            tally.fails(name, why)
         for module in modules:
             for name in [n for n in vars(module) if n.startswith("check_") and wanted in n]:
-                folder = Folder(program, tempfile.mkdtemp(dir=top))
-                try:
-                    getattr(module, name)(folder)
-                    passed += 1
-                except Skip as why:
-                    skipped += 1
-                    print(f"skipped {name}: {why}")
-                except Exception:
-                    failed += 1
-                    print(f"failed {name}\n{traceback.format_exc()}")
-    print(f"{passed} passed, {failed} failed" + (f", {skipped} skipped" if skipped else ""))
-    return 0 if passed and not failed else 1
+                tally.tries(name, getattr(module, name), Folder(program, tempfile.mkdtemp(dir=top)))
+    print(tally.line())
+    return 0 if tally.passed and not tally.failed else 1

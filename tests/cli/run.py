@@ -1,6 +1,6 @@
-"""What only real files show: runs the program on files in temporary folders.
+"""What only real files show, and tables of worked rows: runs the program on files in temporary folders.
 
-usage: run.py PATH_OF_YQ [WORD]      with WORD, only the checks whose names hold it
+usage: run.py PATH_OF_YQ [WORD]      with WORD, only the checks and rows whose names hold it
 Its last line is `N passed, N failed` (and `, N skipped` where the machine lacks what a check needs).
 """
 
@@ -19,5 +19,6 @@ import owners
 import together
 import words
 from harness import run_all
+from tables import run_tables
 
-sys.exit(run_all([edits, words, failures, links, owners, leftovers, disks, together, cuts], sys.argv))
+sys.exit(run_all([edits, words, failures, links, owners, leftovers, disks, together, cuts], run_tables, sys.argv))
