@@ -7,9 +7,10 @@ A table is `{"about": .., "source": .., "rows": [..]}`, and a row one of
 - `{"text": T, "edit": EXPR, "refused": LINE}`: the edit is refused with the line `Error: LINE`.
 - `{"text": T, "words": [WORD, ..], "prints": OUT}`, or with `refused`.
 - `{"files": {NAME: T, ..}, "steps": [STEP, ..]}`, where a step is `{"set": {NAME: T}}` or `{"words": [..],
-  "refused"?: LINE, "prints"?: OUT, "files"?: {NAME: T}, "same"?: true}`. A T that is null stands for no file.
+  "refused"?: LINE, "prints"?: OUT, "files"?: {NAME: T}, "same"?: true | [NAME, ..]}`. A T that is null stands for no file.
 
-What is refused prints nothing and writes nothing; `same` says that a step writes nothing, too. A row may have a `name`.
+What is refused prints nothing and writes nothing; `same` says that a step writes nothing, or none of these files. A row
+may have a `name`.
 A text is a string, `{"base64": ..}`, `{"repeat": T, "times": N, "then"?: T}`, `{"json": ..}` (as journals are written:
 keys sorted, no spaces, a line feed at the end), or a list of such, one behind the other.
 """
@@ -62,27 +63,32 @@ def stands(folder):
 
 
 def is_told(folder, step):
-    """The answer to the words, and what they print. Gives whether nothing may be written."""
+    """The answer to the words, and what they print."""
     status, out, err = folder.run(*step["words"])
-    line = step.get("refused")
-    if line is None:
+    if "refused" not in step:
         equal((status, err), (0, b""), step["words"])
         equal(out, text_of(step.get("prints", "")), step["words"])
-        return "same" in step
-    err, usage = err.split(b"\n", 1) if b"\n" in err else (err, b"")
-    equal((status, out, err), (1, b"", b"Error: " + line.encode()), step["words"])
-    equal(usage != b"", line == "U1 usage", usage)
-    return True
+        return
+    line, usage = err.split(b"\n", 1)
+    equal((status, out, line), (1, b"", b"Error: " + step["refused"].encode()), step["words"])
+    equal(usage != b"", step["refused"] == "U1 usage", usage)
+
+
+def stays(before, after, same):
+    """No file was written or made, or none of these."""
+    names = sorted({*before, *after}) if same is True else same
+    equal({name: after.get(name) for name in names}, {name: before.get(name) for name in names})
 
 
 def take(folder, step):
     if "set" in step:
         known(step, ["set"])
-        return put(folder, step["set"])
+        put(folder, step["set"])
+        return
     known(step, ["words", "refused", "prints", "files", "same"])
     before = stands(folder)
-    if is_told(folder, step):
-        equal(stands(folder), before, step["words"])
+    is_told(folder, step)
+    stays(before, stands(folder), True if "refused" in step else step.get("same", []))
     holds(folder, step.get("files", {}))
 
 
