@@ -15,10 +15,11 @@ import edits
 import failures
 import leftovers
 import links
+import memory
 import owners
 import together
 import words
 from harness import run_all
 from tables import run_tables
 
-sys.exit(run_all([edits, words, failures, links, owners, leftovers, disks, together, cuts], run_tables, sys.argv))
+sys.exit(run_all([edits, words, failures, links, owners, leftovers, disks, together, cuts, memory], run_tables, sys.argv))

@@ -33,14 +33,16 @@ def strace():
     return path
 
 
-def traced(folder, words, *injections):
+def traced(folder, words, *injections, env=None):
     """Runs the program under strace. Gives status, standard error and the lines of the trace."""
     log = folder.path + ".trace"
     line = [strace(), "-o", log, "-s", "64"]
     for injection in injections:
         line += ["-e", "inject=" + injection]
     line += [folder.yq, *words]
-    done = subprocess.run(line, cwd=folder.path, stdin=subprocess.DEVNULL, capture_output=True, timeout=SECONDS)
+    done = subprocess.run(
+        line, cwd=folder.path, stdin=subprocess.DEVNULL, capture_output=True, timeout=SECONDS, env=env
+    )
     with open(log, encoding="utf-8", errors="replace") as trace:
         return done.returncode, done.stderr, trace.read().split("\n")
 

@@ -16,8 +16,6 @@ mod program;
 mod run;
 mod squash;
 mod store;
-#[cfg(test)]
-mod tests;
 mod walk;
 mod words;
 

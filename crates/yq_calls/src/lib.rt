@@ -2,4 +2,8 @@
 #![tactic(auto)]
 
 #[cfg(test)]
+mod journal;
+#[cfg(test)]
 mod memory;
+#[cfg(test)]
+mod splice;

@@ -20,6 +20,3 @@ pub use laws::{
 pub use moves::Move;
 pub use record::{Record, record_inverts, redo_record, undo_record};
 pub use stands::{stands_after, stands_before};
-
-#[cfg(test)]
-mod tests;

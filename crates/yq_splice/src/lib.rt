@@ -4,8 +4,6 @@
 mod edited;
 mod editing;
 mod splice;
-#[cfg(test)]
-mod tests;
 
 pub use edited::{EditError, Edited};
 pub use editing::edit;
