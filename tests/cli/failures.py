@@ -3,6 +3,7 @@
 import os
 
 from harness import as_nobody, equal
+from tracing import traced
 
 WEB = b"name: web # main\nport: 8080\n"
 EDITED = b"name: web # main\nport: 9090\n"
@@ -49,22 +50,11 @@ def check_nobody_in_a_folder_of_its_own(folder):
     equal(folder.read("f"), WEB)
 
 
-def check_an_open_move_is_settled(folder):
-    folder.write("f.undo.json", OPEN)
-    folder.write("f", b"n: 2\n")
-    folder.accepts("undo", "f")
-    equal(folder.read("f"), b"n: 1\n")
-    folder.write("f.undo.json", OPEN)
-    folder.refuses("J1 nothing to undo", "undo", "f")
-    equal((folder.read("f"), folder.read("f.undo.json")), (b"n: 1\n", OPEN))
-
-
-def check_an_open_move_of_another_text(folder):
-    folder.write("f.undo.json", OPEN)
-    folder.write("f", b"n: 7\n")
-    for words in (["undo", "f"], ["redo", "f"], ["-i", ".n = 2", "f"]):
-        folder.refuses("J5 unsettled", *words)
-    equal((folder.read("f"), folder.read("f.undo.json")), (b"n: 7\n", OPEN))
+def check_an_edit_that_is_cut_leaves_its_open_move(folder):
+    folder.write("f", b"n: 1\n")
+    status, err, _trace = traced(folder, ["-i", ".n = 2", "f"], "rename:error=EIO:when=2")
+    equal((status, err), (1, b"Error: S3 write failed\n"))
+    equal((folder.read("f"), folder.read("f.undo.json"), folder.names()), (b"n: 1\n", OPEN, ["f", "f.undo.json"]))
 
 
 def check_nothing_is_left_beside_the_files(folder):

@@ -1,69 +1,73 @@
-"""The command line: words, help, and the lines of refusals."""
+"""The command line: help, an output that takes nothing, texts that are cut, and the lines of refusals."""
+
+import subprocess
 
 from harness import equal
 
-
-def check_help_as_first_word(folder):
-    for word in ("-h", "--help"):
-        status, out, err = folder.run(word)
-        equal((status, err), (0, b""))
-        for command in (b"eval", b"undo", b"redo", b"history", b"squash"):
-            equal(command in out, True, command)
-
-
-def check_words_that_make_no_command(folder):
-    folder.write("f", b"n: 1\n")
-    for words in (
-        [".a"],
-        ["undo"],
-        ["undo", "-"],
-        ["-i", ".n = 2", "-"],
-        ["-i", "--journal", "f", ".n = 2", "f"],
-        ["squash", "x", "f"],
-        ["squash", "+5", "f"],
-        ["undo", "f", "g"],
-        ["--unknown", ".n", "f"],
-    ):
-        folder.refuses("U1 usage", *words)
-    equal((folder.read("f"), folder.names()), (b"n: 1\n", ["f"]))
+WEB = b"name: web # main\nport: 8080\n"
+LINES_TO_COME = (
+    "X5 anchor in use",
+    "X6 not one value",
+    "X7 kind mismatch",
+    "X8 integer range",
+    "X9 float arithmetic",
+    "X10 no place for comment",
+    "X11 bad comment text",
+    "X12 root delete",
+)
 
 
-def check_refusals_name_their_cause(folder):
-    folder.write("f", b"a: 1\n\"b\": 2\n")
-    folder.write("twice", b"a: 1\na: 2\n")
-    folder.write("control", b"a: \x01\n")
-    folder.write("bytes", b"a: 1\n\xff")
-    folder.write("n", b"n: 1\n")
-    for line, expr, file in (
-        ("S1 not there", ".n = 2", "none.yaml"),
-        ("E1 syntax", ".a ==", "n"),
-        ("E2 not in profile", ".a * 2", "n"),
-        ("E3 pattern", ".[\"x*\"] = 1", "n"),
-        ("Y13 line 2: duplicate key", ".a = 3", "twice"),
-        ("Y1 line 2: not utf8", ".a = 3", "bytes"),
-        ("Y2 line 1: control character", ".a = 3", "control"),
-        ("X1 not a map", ".n.m = 1", "n"),
-    ):
-        before = folder.read(file) if file in folder.names() else None
-        folder.refuses(line, "-i", expr, file)
-        equal(folder.read(file) if file in folder.names() else None, before)
-    equal([name for name in folder.names() if name.endswith(".json")], [])
+def check_help(folder):
+    first = folder.run("-h")
+    equal((first[0], first[2]), (0, b""))
+    equal(first[1].startswith(b"Usage: yq [eval|e]"), True)
+    for command in (b"eval", b"undo", b"redo", b"history", b"squash", b"--inplace", b"--journal"):
+        equal(command in first[1], True, command)
+    for words in (["--help"], ["eval", "-h"], ["undo", "--help"], ["-i", "--help"]):
+        equal(folder.run(*words), first, words)
 
 
-def check_undo_of_no_file(folder):
-    folder.refuses("S1 not there", "undo", "none.yaml")
-    equal(folder.names(), [])
+def with_full_output(folder, *words):
+    """Runs the program with a standard output that takes nothing."""
+    with open("/dev/full", "wb") as full:
+        done = subprocess.run(
+            [folder.yq, *words], cwd=folder.path, stdin=subprocess.DEVNULL, stdout=full, stderr=subprocess.PIPE
+        )
+    return done.returncode, done.stderr
 
 
-def check_an_empty_file(folder):
-    folder.write("f", b"")
-    folder.refuses("J1 nothing to undo", "undo", "f")
-    equal((folder.read("f"), folder.names()), (b"", ["f"]))
+def check_an_output_that_takes_nothing(folder):
+    folder.write("f", WEB)
+    folder.accepts("-i", ".port = 9090", "f")
+    before = {name: folder.read(name) for name in folder.names()}
+    for words in ([".port = 1", "f"], ["history", "f"], ["--help"]):
+        equal(with_full_output(folder, *words), (1, b"Error: S4 out failed\n"), words)
+        equal({name: folder.read(name) for name in folder.names()}, before, words)
+    equal(with_full_output(folder, "undo", "f"), (0, b""))
+    equal(folder.read("f"), WEB)
 
 
-def check_a_bad_journal(folder):
-    folder.write("f", b"n: 1\n")
+def is_whole(text):
+    try:
+        text.decode()
+    except UnicodeDecodeError:
+        return False
+    return True
+
+
+def check_texts_that_are_cut(folder):
+    """Each prefix is read or refused, and as not being UTF-8 where it ends inside a character."""
     folder.write("f.undo.json", b"{}")
-    for words in (["undo", "f"], ["redo", "f"], ["-i", ".n = 2", "f"]):
-        folder.refuses("J4 bad journal", *words)
-    equal((folder.read("f"), folder.read("f.undo.json")), (b"n: 1\n", b"{}"))
+    for text in (WEB, "k: \u00e9\n".encode(), "k: \"\u00e9\n  x\"\n".encode(), b"- |\n  a\n- &x [1, {b: *x}]\n"):
+        for end in range(len(text) + 1):
+            folder.write("f", text[:end])
+            status, _out, err = folder.run(".name = 1", "f")
+            equal(status == 0 or err.startswith((b"Error: Y", b"Error: X", b"Error: E2 ")), True, (text[:end], err))
+            equal(err == b"Error: Y1 line 1: not utf8\n", not is_whole(text[:end]), (text[:end], err))
+
+
+def check_lines_that_no_command_is_answered_yet(folder):
+    with open(folder.yq, "rb") as program:
+        texts = program.read()
+    for line in LINES_TO_COME:
+        equal(line.encode() in texts, True, line)
