@@ -7,9 +7,9 @@ is then refused as out of memory. The file holds the text before it or the one a
 import os
 from concurrent.futures import ThreadPoolExecutor
 
-from cuts import EDIT, FIRST_EDIT, REDO_OF_TWO, SQUASH, UNDO_OF_TWO, WORKERS, goes_on, leftovers, outcome, prepared
-from cuts import Scenario, walk_through
-from harness import equal
+from cuts import EDIT, FIRST_EDIT, REDO_OF_TWO, SQUASH, UNDO_OF_TWO, WORKERS, Scenario
+from cuts import goes_on, leftovers, outcome, prepared, walk_through
+from harness import Skip, equal
 from tracing import calls_in, traced
 
 EACH_GROWTH = {**os.environ, "MALLOC_MMAP_THRESHOLD_": "0"}
@@ -25,19 +25,23 @@ def growths(folder, words):
     """The numbers of the calls by which a command grows, behind those that load it and the C library's own first one."""
     status, err, trace = grown(folder, words)
     calls = calls_in(trace)
-    loaded = next(i for i, call in enumerate(calls) if call.name == "munmap")
     equal((status, err), (0, b""))
-    return [call.number for call in calls[loaded:] if call.name == "mmap"][1:]
+    loaded = next(i for i, call in enumerate(calls) if call.name == "munmap")
+    numbers = [call.number for call in calls[loaded:] if call.name == "mmap"][1:]
+    if not numbers:
+        raise Skip("the C library asks for memory in another way")
+    return numbers
 
 
 def lacks_memory(first, path, scenario, refused, answers):
     """The command with growths refused."""
     folder = first.copy(path)
     try:
-        status, err, _trace = grown(folder, scenario.words, f"mmap:error=ENOMEM:when={refused}")
+        status, err, trace = grown(folder, scenario.words, f"mmap:error=ENOMEM:when={refused}")
         equal((status, err) in answers, True, (status, err))
+        equal(status != 0 and any(line.startswith("write(1,") for line in trace), False, "prints")
         history = outcome(first, folder, scenario)
-        equal(status != 0 or history is scenario.after or scenario.before.now() == scenario.after.now(), True)
+        equal(status != 0 or history is scenario.after, True)
         equal(leftovers(folder), [])
         goes_on(folder, history, walk_through)
     except Exception as why:
@@ -48,7 +52,6 @@ def each_growth(folder, name, scenario):
     """A growth that is refused alone may be asked for again, by less. The C library asks in two ways for each."""
     first = prepared(folder, scenario)
     numbers = growths(first.copy(folder.name("whole")), scenario.words)
-    equal(numbers != [], True)
     with ThreadPoolExecutor(WORKERS) as pool:
         jobs = []
         for number in numbers:
