@@ -2,8 +2,14 @@
 #![tactic(auto)]
 
 #[cfg(test)]
+mod inline;
+#[cfg(test)]
 mod journal;
 #[cfg(test)]
 mod memory;
+#[cfg(test)]
+mod rows;
+#[cfg(test)]
+mod scalar;
 #[cfg(test)]
 mod splice;

@@ -10,8 +10,6 @@ pub mod pieces;
 mod read;
 pub mod reading;
 mod scalar;
-#[cfg(test)]
-mod tests;
 mod value;
 mod write;
 

@@ -11,8 +11,6 @@ mod offsets;
 mod reading;
 mod row;
 mod scanning;
-#[cfg(test)]
-mod tests;
 
 pub use marks::KEY_LIMIT;
 pub use row::Row;

@@ -3,57 +3,33 @@
 
 pub mod block;
 pub mod block_content;
-#[cfg(test)]
-mod block_content_tests;
 pub mod block_header;
 pub mod block_laws;
 pub mod block_lines;
 pub mod block_repair;
-#[cfg(test)]
-mod block_tests;
 pub mod block_written;
 pub mod characters;
-#[cfg(test)]
-mod comparing;
-#[cfg(test)]
-mod example_key_tests;
-#[cfg(test)]
-mod example_tests;
 mod fault;
 pub mod folding;
 mod integer;
 mod keys;
 mod kind;
 pub mod lines;
-#[cfg(test)]
-mod memory_tests;
 pub mod piece;
 mod piece_content;
-#[cfg(test)]
-mod piece_tests;
 pub mod plain;
 pub mod plain_laws;
 mod plain_piece;
-#[cfg(test)]
-mod plain_tests;
 pub mod plain_text;
 mod pushing;
 pub mod quoted;
 pub mod quoted_laws;
 mod quoted_piece;
-#[cfg(test)]
-mod quoted_tests;
 mod scalar;
 mod schema;
-#[cfg(test)]
-mod schema_tests;
 mod style;
 pub mod text;
-#[cfg(test)]
-mod text_tests;
 mod writable;
-#[cfg(test)]
-mod writable_tests;
 mod write;
 pub mod written_laws;
 

@@ -1,0 +1,7 @@
+//! Calls of yq_rows.
+
+mod ends;
+mod memory;
+mod neighbours;
+mod pieces;
+mod texts;

@@ -1,5 +1,0 @@
-use Rattle.std.proofs.lemmas.Str.{IsCharBoundary-start}
-use Rattle.yq_scalar.proofs.block_content_tests.content_of.Goals as goal
-
-pub read_block-requires : goal.read_block-requires
-read_block-requires c = IsCharBoundary-start c.args.text.now c.utf8.text
