@@ -2,6 +2,8 @@
 #![tactic(auto)]
 
 #[cfg(test)]
+mod expr;
+#[cfg(test)]
 mod inline;
 #[cfg(test)]
 mod journal;
@@ -13,3 +15,5 @@ mod rows;
 mod scalar;
 #[cfg(test)]
 mod splice;
+#[cfg(test)]
+mod tree;

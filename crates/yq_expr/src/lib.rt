@@ -14,8 +14,6 @@ mod planning;
 mod program;
 mod refusal;
 mod survey;
-#[cfg(test)]
-mod tests;
 mod token;
 
 pub use error::ParseError;

@@ -1,0 +1,6 @@
+//! The calls of yq_expr.
+
+mod long;
+mod programs;
+mod refused_memory;
+mod shown;

@@ -1,0 +1,28 @@
+//! Each growth of memory is refused in turn.
+
+use crate::memory::all_memory;
+use std::test::Fail;
+use yq_scalar::ReadError;
+use yq_tree::read;
+
+#[test]
+fn memory_is_refused_in_turn(rt: HostRuntime) -> Result<(), Fail> {
+    let alloc = rt.alloc();
+    let text = b"a: [b, {c: \"d\"}]\n---\n- &x e\n- *x\n";
+    let mut held = all_memory(alloc)?;
+    'turns: for turn in 0..4096u32 {
+        match read(alloc, text) {
+            Ok(documents) => {
+                assert_eq!(rt; documents.count(), 2);
+                assert!(rt; turn > 3);
+                return Ok(());
+            }
+            Err(e) => {
+                assert_eq!(rt; e, ReadError::Memory);
+                let _ = held.pop();
+            }
+        }
+    }
+    assert!(rt; false, "never read");
+    Ok(())
+}
