@@ -1,18 +1,21 @@
 # make test: the whole gate. make demo: one edit and its undo. make install: the program into PREFIX/bin.
+# make wrong-bodies CRATES="yq_rows yq_tree": the wrong bodies that the gate doesn't try; all crates where none is named.
 # make corpus DIR=FOLDER: one edit and its undo in a copy of each YAML file of a folder.
 PREFIX ?= $(HOME)/.local
 YQ := crates/yq/out/yq
 SOURCES := $(shell find crates -path '*/out' -prune -o -type f \( -name '*.rt' -o -name '*.antt' \) -print) crates.txt
 
-.PHONY: test demo install bench corpus clean
+.PHONY: test wrong-bodies demo install bench corpus clean
 
 $(YQ): $(SOURCES)
-	cd crates/yq && rt run -- --help > /dev/null
+	python3 tools/build.py yq
 	@touch $(YQ)
 
 test:
-	rt ci
-	python3 tests/cli/run.py $(YQ)
+	python3 tools/gate.py $(YQ)
+
+wrong-bodies:
+	python3 tools/wrong_bodies.py $(CRATES)
 
 demo: $(YQ)
 	@sh examples/demo.sh $(YQ) examples/server.yaml

@@ -1,0 +1,37 @@
+"""Proves and builds a program and the libraries below it, lowest first, with a line as each begins and ends.
+
+usage: build.py [CRATE]      yq, if no crate is named
+
+What is proved is kept in crates/NAME/out, so that only what has changed is proved again.
+"""
+
+import sys
+import time
+
+from crates import build, libraries
+
+
+def build_all(crates, began):
+    """Builds each of these libraries in turn, and tells whether all were proved."""
+    return all(told(crate, began, "lib") for crate in crates)
+
+
+def told(crate, began, *words):
+    """Builds one crate by these words, with a line at its begin and one at its end."""
+    start = time.monotonic()
+    print(f"{start - began:5.0f} s  {crate}: begins", flush=True)
+    well = build(crate, *words)
+    end = time.monotonic()
+    print(f"{end - began:5.0f} s  {crate}: {'proved and built' if well else 'NOT BUILT'}, {end - start:.0f} s", flush=True)
+    return well
+
+
+def main(words):
+    program = words[0] if words else "yq"
+    began = time.monotonic()
+    well = build_all(libraries()[program], began) and told(program, began, "run", "--", "--help")
+    return 0 if well else 1
+
+
+if __name__ == "__main__":
+    sys.exit(main(sys.argv[1:]))

@@ -1,0 +1,35 @@
+"""The crates of the repository, as crates.txt lists them, and the command that proves them."""
+
+import os
+import subprocess
+
+ROOT = os.path.dirname(os.path.dirname(os.path.abspath(__file__)))
+# The toolchain's command; another one may stand in the environment, as RT="nice rt".
+RT = os.environ.get("RT", "rt").split()
+
+
+def libraries():
+    """For each crate, lowest first, the crates of the repository below it, lowest first."""
+    named = {}
+    with open(os.path.join(ROOT, "crates.txt"), encoding="utf-8") as lines:
+        for line in lines:
+            name, colon, rest = line.partition("#")[0].partition(":")
+            if colon:
+                named[name.split()[0]] = rest.split()
+    below = {}
+    for name, direct in named.items():
+        known = {it for library in direct for it in [library, *below.get(library, ())] if it in named}
+        below[name] = [it for it in below if it in known]
+    return below
+
+
+def folder(crate):
+    return os.path.join(ROOT, "crates", crate)
+
+
+def build(crate, *words, to=subprocess.DEVNULL):
+    """Runs the toolchain in a crate's folder and tells whether it ended well; if it did not, prints what it said."""
+    done = subprocess.run([*RT, *words], cwd=folder(crate), stdout=subprocess.PIPE, stderr=subprocess.STDOUT, text=True, errors="replace")
+    if done.returncode:
+        print(done.stdout, end="", flush=True)
+    return done.returncode == 0

@@ -1,0 +1,144 @@
+"""The whole gate: `rt ci`, with a line as each crate's proof, tests and wrong bodies begin and end, and then the program on real files.
+
+usage: gate.py PATH_OF_YQ
+
+Its last two lines are the processor seconds (user and system) that all of it took, and what tests/cli says last.
+The status is that of `rt ci`, or of tests/cli where `rt ci` passed.
+"""
+
+import os
+import queue
+import re
+import resource
+import signal
+import subprocess
+import sys
+import threading
+import time
+
+from crates import ROOT, RT, libraries
+from watch import EDITS, PROOF, TESTS, Watch
+
+KINDS = PROOF, TESTS, EDITS
+VERDICT = re.compile(r"rt: (\w+)(: its tests are)? (NOT PROVED|proved)")
+BEGAN = time.monotonic()
+
+
+def say(text):
+    print(text, flush=True)
+
+
+def tell(text):
+    say(f"{time.monotonic() - BEGAN:5.0f} s  {text}")
+
+
+def begins(crate, kind, task):
+    tell(f"{crate}: {kind} begin{'s' if kind == PROOF else ''}")
+
+
+def ends(crate, kind, task):
+    tell(f"{crate}: {kind} ended, {task.seen - task.began:.0f} s by the clock, {task.seconds():.0f} of processors")
+
+
+def each_line(stream):
+    """The lines of a stream as they come, and None where a second passed without one."""
+    lines = queue.Queue()
+
+    def read():
+        for line in stream:
+            lines.put(line.rstrip("\n"))
+        lines.put(stream)
+
+    threading.Thread(target=read, daemon=True).start()
+    while True:
+        try:
+            line = lines.get(timeout=1)
+        except queue.Empty:
+            yield None
+            continue
+        if line is stream:
+            return
+        yield line
+
+
+def table(tasks):
+    """The processor seconds of each crate, as they were seen each second."""
+    rows = []
+    for crate in libraries():
+        seconds = [tasks[crate, kind].seconds() if (crate, kind) in tasks else 0 for kind in KINDS]
+        rows.append((crate, *seconds, sum(seconds)))
+    rows.append(("all", *(sum(row[at] for row in rows) for at in range(1, 5))))
+    lines = [f"{'processor seconds':20}" + "".join(f"{it:>14}" for it in (*KINDS, "all"))]
+    return lines + [f"{row[0]:20}" + "".join(f"{it:14.0f}" for it in row[1:]) for row in rows]
+
+
+def prove():
+    """Runs `rt ci`, passes its lines on, and gives its status and what was seen of its checks."""
+    rt = subprocess.Popen([*RT, "ci"], cwd=ROOT, stdout=subprocess.PIPE, text=True, errors="replace")
+    watch = Watch(rt.pid, begins, ends)
+    try:
+        for line in each_line(rt.stdout):
+            watch.look()
+            if line is None:
+                continue
+            told = VERDICT.match(line)
+            if told:
+                watch.end(told[1], TESTS if told[2] else PROOF)
+            say(line)
+        rt.wait()
+    except KeyboardInterrupt:
+        # The terminal has interrupted it too: it puts back what it set aside.
+        rt.wait()
+        raise
+    finally:
+        if rt.poll() is None:
+            rt.terminate()
+            rt.wait()
+    watch.close()
+    return rt.returncode, watch.tasks
+
+
+def run_program(yq):
+    """Runs tests/cli, passes its lines on but the last, and gives its status and that line."""
+    line = [sys.executable, os.path.join(ROOT, "tests", "cli", "run.py"), yq]
+    tests = subprocess.Popen(line, cwd=ROOT, stdout=subprocess.PIPE, text=True, errors="replace")
+    last = None
+    try:
+        for line in tests.stdout:
+            if last is not None:
+                say(last)
+            last = line.rstrip("\n")
+    finally:
+        if tests.poll() is None:
+            tests.terminate()
+        tests.wait()
+    return tests.returncode, last
+
+
+def processor_seconds():
+    used = [resource.getrusage(it) for it in (resource.RUSAGE_SELF, resource.RUSAGE_CHILDREN)]
+    return sum(it.ru_utime + it.ru_stime for it in used)
+
+
+def main(words):
+    if len(words) != 1:
+        print(__doc__.strip(), file=sys.stderr)
+        return 2
+    signal.signal(signal.SIGTERM, lambda *_: sys.exit(143))
+    status, tasks = prove()
+    last = None
+    if status == 0:
+        for line in table(tasks):
+            say(line)
+        status, last = run_program(words[0])
+    say(f"took {processor_seconds():.0f} processor seconds (user and system), {time.monotonic() - BEGAN:.0f} s by the clock")
+    if last is not None:
+        say(last)
+    return status if status >= 0 else 128 - status
+
+
+if __name__ == "__main__":
+    try:
+        sys.exit(main(sys.argv[1:]))
+    except KeyboardInterrupt:
+        sys.exit(130)
