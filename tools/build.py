@@ -8,7 +8,10 @@ What is proved is kept in crates/NAME/out, so that only what has changed is prov
 import sys
 import time
 
-from crates import build, libraries
+from crates import build, libraries, that_fit
+
+# A check takes about so much memory for each of its jobs, of which it gains from four at most.
+MEMORY, JOBS = 2_500_000_000, 4
 
 
 def build_all(crates, began):
@@ -16,11 +19,11 @@ def build_all(crates, began):
     return all(told(crate, began, "lib") for crate in crates)
 
 
-def told(crate, began, *words):
-    """Builds one crate by these words, with a line at its begin and one at its end."""
+def told(crate, began, verb, *words):
+    """Builds one crate by a verb of the toolchain, with a line at its begin and one at its end."""
     start = time.monotonic()
     print(f"{start - began:5.0f} s  {crate}: begins", flush=True)
-    well = build(crate, *words)
+    well = build(crate, verb, "--jobs", str(min(JOBS, that_fit(MEMORY))), *words)
     end = time.monotonic()
     print(f"{end - began:5.0f} s  {crate}: {'proved and built' if well else 'NOT BUILT'}, {end - start:.0f} s", flush=True)
     return well
@@ -34,4 +37,7 @@ def main(words):
 
 
 if __name__ == "__main__":
-    sys.exit(main(sys.argv[1:]))
+    try:
+        sys.exit(main(sys.argv[1:]))
+    except KeyboardInterrupt:
+        sys.exit(130)

@@ -23,11 +23,18 @@ def libraries():
     return below
 
 
+def that_fit(memory):
+    """How many checks of so much memory fit side by side, one a processor at most."""
+    with open("/proc/meminfo", encoding="utf-8") as lines:
+        free = next(int(it.split()[1]) * 1024 for it in lines if it.startswith("MemAvailable:"))
+    return max(1, min(len(os.sched_getaffinity(0)), free // memory))
+
+
 def folder(crate):
     return os.path.join(ROOT, "crates", crate)
 
 
-def build(crate, *words, to=subprocess.DEVNULL):
+def build(crate, *words):
     """Runs the toolchain in a crate's folder and tells whether it ended well; if it did not, prints what it said."""
     done = subprocess.run([*RT, *words], cwd=folder(crate), stdout=subprocess.PIPE, stderr=subprocess.STDOUT, text=True, errors="replace")
     if done.returncode:

@@ -1,6 +1,7 @@
 """Tries the wrong bodies of crates/NAME/wrong-bodies/*.edit: the prover must refuse each.
 
-usage: wrong_bodies.py [--at-once N] [CRATE ..]      all crates that have some, if none is named
+usage: wrong_bodies.py [--at-once N] [CRATE ..]
+N crates are tried side by side, without it as many as processors and memory allow; all crates that have some, if none is named.
 
 They are tried by `rt must-fail` in a temporary copy of the repository, in which they stand in the place of must-fail/.
 The toolchain tells a crate's answers once all of its wrong bodies were tried; until then a line tells which one is.
@@ -17,7 +18,7 @@ import threading
 import time
 
 from build import build_all
-from crates import ROOT, RT, folder, libraries
+from crates import ROOT, RT, folder, libraries, that_fit
 from watch import EDITS, Watch
 
 # A check of a crate takes about so much memory.
@@ -36,13 +37,6 @@ def names_in(crate):
     place = os.path.join(folder(crate), "wrong-bodies")
     found = os.listdir(place) if os.path.isdir(place) else ()
     return sorted(it for it in found if it.endswith(".edit"))
-
-
-def at_once_by_default():
-    """How many crates are tried side by side: as many as there are processors, and as memory holds."""
-    with open("/proc/meminfo", encoding="utf-8") as lines:
-        free = next(int(it.split()[1]) * 1024 for it in lines if it.startswith("MemAvailable:"))
-    return max(1, min(len(os.sched_getaffinity(0)), free // MEMORY))
 
 
 def link_or_copy(source, to):
@@ -140,7 +134,7 @@ def try_all(crates, at_once, room):
 
 def parsed(words):
     """The number of crates side by side and the crates, or None where the words are wrong."""
-    at_once = at_once_by_default()
+    at_once = that_fit(MEMORY)
     if words[:1] == ["--at-once"]:
         if not (words[1:2] and words[1].isdigit() and int(words[1])):
             return None
