@@ -1,7 +1,8 @@
 """Tries the wrong bodies of crates/NAME/wrong-bodies/*.edit: the prover must refuse each.
 
-usage: wrong_bodies.py [--at-once N] [CRATE ..]
-N crates are tried side by side, without it as many as processors and memory allow; all crates that have some, if none is named.
+usage: wrong_bodies.py [--look | --at-once N] [CRATE ..]      all crates that have some, if none is named
+With --look it only tells which of them can't be applied to the code as it stands. N crates are tried side by side, without
+it as many as processors and memory allow.
 
 They are tried by `rt must-fail` in a temporary copy of the repository, in which they stand in the place of must-fail/.
 The toolchain tells a crate's answers once all of its wrong bodies were tried; until then a line tells which one is.
@@ -19,6 +20,7 @@ import time
 
 from build import build_all
 from crates import ROOT, RT, folder, libraries, that_fit
+from edits import hindrance, names_in
 from watch import EDITS, Watch
 
 # A check of a crate takes about so much memory.
@@ -32,11 +34,13 @@ def say(text):
         print(f"{time.monotonic() - BEGAN:5.0f} s  {text}", flush=True)
 
 
-def names_in(crate):
-    """The names of a crate's wrong bodies, in the order in which they are tried."""
-    place = os.path.join(folder(crate), "wrong-bodies")
-    found = os.listdir(place) if os.path.isdir(place) else ()
-    return sorted(it for it in found if it.endswith(".edit"))
+def look(crates):
+    """Tells which wrong bodies can't be applied, and whether all can."""
+    found = [(crate, name, hindrance(crate, name)) for crate in crates for name in names_in(crate)]
+    for crate, name, why in found:
+        if why:
+            print(f"{crate}/wrong-bodies/{name} can't be applied: {why}")
+    return not any(why for _, _, why in found)
 
 
 def link_or_copy(source, to):
@@ -133,9 +137,11 @@ def try_all(crates, at_once, room):
 
 
 def parsed(words):
-    """The number of crates side by side and the crates, or None where the words are wrong."""
+    """How many crates are tried side by side (none where they are only looked at), and the crates; None where the words are wrong."""
     at_once = that_fit(MEMORY)
-    if words[:1] == ["--at-once"]:
+    if words[:1] == ["--look"]:
+        at_once, words = 0, words[1:]
+    elif words[:1] == ["--at-once"]:
         if not (words[1:2] and words[1].isdigit() and int(words[1])):
             return None
         at_once, words = int(words[1]), words[2:]
@@ -151,6 +157,9 @@ def main(words):
         print(__doc__.strip(), file=sys.stderr)
         return 2
     at_once, crates = asked
+    can_be_applied = look(crates)
+    if not at_once:
+        return 0 if can_be_applied else 1
     signal.signal(signal.SIGTERM, lambda *_: sys.exit(143))
     below = {it for crate in crates for it in libraries()[crate]}
     if not build_all([it for it in libraries() if it in below], BEGAN):
@@ -161,9 +170,9 @@ def main(words):
         ended = try_all(crates, at_once, room)
     finally:
         shutil.rmtree(room, ignore_errors=True)
-    refused, all_of_them = sum(it.refused for it in ended), sum(len(it.names) for it in ended)
-    print(f"{refused} refused, {all_of_them - refused} not", flush=True)
-    return 0 if refused == all_of_them else 1
+    refused, tried = sum(it.refused for it in ended), sum(len(it.names) for it in ended)
+    print(f"{refused} refused, {tried - refused} not", flush=True)
+    return 0 if refused == tried else 1
 
 
 if __name__ == "__main__":

@@ -1,0 +1,35 @@
+"""The wrong bodies of a crate: files crates/NAME/wrong-bodies/*.edit in the form of `rt must-fail`."""
+
+import os
+
+from crates import folder
+
+
+def names_in(crate):
+    """The names of a crate's wrong bodies, in the order in which they are tried."""
+    place = os.path.join(folder(crate), "wrong-bodies")
+    found = os.listdir(place) if os.path.isdir(place) else ()
+    return sorted(it for it in found if it.endswith(".edit"))
+
+
+def hindrance(crate, name):
+    """Why an edit can't be applied to its crate as it stands, or None: each old text stands once in its file."""
+    texts, path, old = {}, None, None
+    with open(os.path.join(folder(crate), "wrong-bodies", name), encoding="utf-8") as lines:
+        for line in lines.read().split("\n"):
+            word, _, text = line.partition(": ")
+            if word == "file":
+                path = text.strip()
+            elif word == "old":
+                old = text
+            elif line.startswith("new:"):
+                if path not in texts and not os.path.isfile(os.path.join(folder(crate), path)):
+                    return f"there is no {path}"
+                if path not in texts:
+                    with open(os.path.join(folder(crate), path), encoding="utf-8") as it:
+                        texts[path] = it.read()
+                found = texts[path].count(old)
+                if found != 1:
+                    return f"an old text stands in {path} {found} times, and not once"
+                texts[path] = texts[path].replace(old, text)
+    return None if texts else "it changes nothing"
