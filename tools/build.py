@@ -30,6 +30,7 @@ def told(crate, began, verb, *words):
 
 
 def main(words):
+    sys.stdout.reconfigure(errors="replace")
     program = words[0] if words else "yq"
     began = time.monotonic()
     well = build_all(libraries()[program], began) and told(program, began, "run", "--", "--help")

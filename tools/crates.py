@@ -36,7 +36,7 @@ def folder(crate):
 
 def build(crate, *words):
     """Runs the toolchain in a crate's folder and tells whether it ended well; if it did not, prints what it said."""
-    done = subprocess.run([*RT, *words], cwd=folder(crate), stdout=subprocess.PIPE, stderr=subprocess.STDOUT, text=True, errors="replace")
+    done = subprocess.run([*RT, *words], cwd=folder(crate), stdout=subprocess.PIPE, stderr=subprocess.STDOUT, encoding="utf-8", errors="replace")
     if done.returncode:
         print(done.stdout, end="", flush=True)
     return done.returncode == 0

@@ -74,7 +74,7 @@ def table(tasks):
 
 def prove():
     """Runs `rt ci`, passes its lines on, and gives its status and what was seen of its checks."""
-    rt = subprocess.Popen([*RT, "ci"], cwd=ROOT, stdout=subprocess.PIPE, text=True, errors="replace")
+    rt = subprocess.Popen([*RT, "ci"], cwd=ROOT, stdout=subprocess.PIPE, encoding="utf-8", errors="replace")
     watch = Watch(rt.pid, begins, ends)
     try:
         for line in each_line(rt.stdout):
@@ -101,7 +101,7 @@ def prove():
 def run_program(yq):
     """Runs tests/cli, passes its lines on but the last, and gives its status and that line."""
     line = [sys.executable, os.path.join(ROOT, "tests", "cli", "run.py"), yq]
-    tests = subprocess.Popen(line, cwd=ROOT, stdout=subprocess.PIPE, text=True, errors="replace")
+    tests = subprocess.Popen(line, cwd=ROOT, stdout=subprocess.PIPE, encoding="utf-8", errors="replace")
     last = None
     try:
         for line in tests.stdout:
@@ -124,6 +124,7 @@ def main(words):
     if len(words) != 1:
         print(__doc__.strip(), file=sys.stderr)
         return 2
+    sys.stdout.reconfigure(errors="replace")
     signal.signal(signal.SIGTERM, lambda *_: sys.exit(143))
     status, tasks = prove()
     last = None

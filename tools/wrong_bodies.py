@@ -74,7 +74,7 @@ class Trial:
         aside = os.path.join(room, "aside", crate)
         os.makedirs(aside)
         how = {"cwd": os.path.join(room, "copy"), "env": {**os.environ, "TMPDIR": aside}}
-        how.update(stdout=subprocess.PIPE, stderr=subprocess.STDOUT, text=True, errors="replace")
+        how.update(stdout=subprocess.PIPE, stderr=subprocess.STDOUT, encoding="utf-8", errors="replace")
         self.rt = subprocess.Popen([*RT, "must-fail", crate], start_new_session=True, **how)
         self.reader = threading.Thread(target=self.read, daemon=True)
         self.reader.start()
@@ -152,6 +152,7 @@ def parsed(words):
 
 
 def main(words):
+    sys.stdout.reconfigure(errors="replace")
     asked = parsed(words)
     if not asked:
         print(__doc__.strip(), file=sys.stderr)
