@@ -34,8 +34,16 @@ fn derive(rt: &impl Abort, alloc: Global, rows: &[Row], word: &str) -> Result<()
         let program = parse_expr(alloc, &text)?;
         let got = shown(alloc, &program)?;
         assert_eq!(rt; got.as_str(), wanted.as_str(), "at {text:?}");
-        assert_eq!(rt; program.updates(), *updates, "at {text:?}");
-        assert_eq!(rt; program.is_read(), *updates == 0, "at {text:?}");
+        let form = (program.is_read(), program.updates());
+        assert_eq!(rt; form, (*updates == 0, *updates), "at {text:?}");
+    }
+    Ok(())
+}
+
+/// They are, with each of these words.
+fn derive_all(rt: &impl Abort, alloc: Global, rows: &[Row], words: &[&str]) -> Result<(), Fail> {
+    'words: for word in words {
+        derive(rt, alloc, rows, word)?;
     }
     Ok(())
 }
@@ -47,11 +55,6 @@ fn programs_of_texts(rt: HostRuntime) -> Result<(), Fail> {
     derive(&rt, alloc, &reads::READS, "")?;
     derive(&rt, alloc, &updates::UPDATES, "")?;
     derive(&rt, alloc, &updates::LITERALS, "")?;
-    'white: for white in white_space::WHITE {
-        derive(&rt, alloc, &white_space::PARTED, white)?;
-    }
-    'words: for word in names::WORDS {
-        derive(&rt, alloc, &names::NAMED, word)?;
-    }
-    Ok(())
+    derive_all(&rt, alloc, &white_space::PARTED, &white_space::WHITE)?;
+    derive_all(&rt, alloc, &names::NAMED, &names::WORDS)
 }
