@@ -32,13 +32,9 @@ mod line_at;
 mod line_in;
 mod lined;
 mod lines_fault;
-#[cfg(test)]
-mod lines_tests;
 mod names;
 mod nested;
 mod node;
-#[cfg(test)]
-mod node_tests;
 mod part_lines;
 mod part_place;
 mod path;
@@ -51,8 +47,6 @@ mod scalar_place;
 mod seat;
 mod sound;
 mod steps;
-#[cfg(test)]
-mod tests;
 mod written;
 mod written_laws;
 mod written_place;
