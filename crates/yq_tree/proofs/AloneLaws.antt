@@ -38,8 +38,10 @@ use Rattle.yq_tree.specs.Lines.{anchor_of, head_of, mark_of, lines_of}
 use Rattle.yq_tree.specs.Outline as outline
 use Rattle.yq_tree.specs.Outline.{Line, first_anchor}
 use Rattle.yq_tree.specs.Places.{content}
-use Rattle.yq_tree.specs.Reading.{root_of, document_of, is_no_alias, are_bound, documents, read_at}
-use Rattle.yq_tree.specs.RowPaths.{row_at, is_leaf, spelled, is_core, with_core, takes_scalar, put_scalar, IsReadable, ReadsChanged}
+use Rattle.yq_tree.specs.Reading.{root_of, document_of, documents, read_at}
+use Rattle.yq_tree.specs.LinesReading.{is_no_alias, are_bound}
+use Rattle.yq_tree.specs.RowPaths.{row_at, spelled, is_core, with_core, takes_scalar, put_scalar, IsReadable, ReadsChanged}
+use Rattle.yq_tree.specs.Ends.{is_leaf}
 use Rattle.yq_tree.specs.ScalarPlaces.{bare_scalar, alone_in}
 use Rattle.yq_tree.specs.Written.{Written, node_scalar, content_scalar, IsSet}
 use Rattle.yq_tree.proofs.Allowing.{IsEntry}

@@ -5,7 +5,7 @@ use Rattle.std.specs.List.{slice_get}
 use Rattle.yq_scalar.specs.Tree.{Node, alias, scalar, list, map}
 use Rattle.yq_inline.specs.Trees.{named}
 use Rattle.yq_tree.specs.Outline.{Line}
-use Rattle.yq_tree.specs.Reading.{is_no_alias, may_take, is_free, have_one_anchor_each}
+use Rattle.yq_tree.specs.LinesReading.{is_no_alias, may_take, is_free, have_one_anchor_each}
 use Rattle.yq_tree.proofs.Parts.{drop_at}
 
 pub named_alias : (a : Option (List ℕ)) (n : Node) → is_no_alias (Some (named a n)) ≡ is_no_alias (Some n)

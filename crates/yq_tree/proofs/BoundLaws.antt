@@ -12,7 +12,7 @@ use Rattle.std.specs.Ordering.{nat_cmp}
 use denote.Bor.{Bor}
 use Rattle.yq_tree.specs.Anchors.{Name, Anchors, Refers}
 use Rattle.yq_tree.specs.Names.{name_view, all_named}
-use Rattle.yq_tree.specs.Reading.{are_bound}
+use Rattle.yq_tree.specs.LinesReading.{are_bound}
 use Rattle.yq_tree.specs.declared.names.Named.{Named}
 
 -- a name is among the keys

@@ -1,14 +1,12 @@
 -- The items or entries of nodes.
-use Rattle.std.proofs.Common.{◌≡◌, ℕ, ◌<◌, List, Option, Some, None, option_map, true, not, length, get_or, drop, refl, sym, ap, ◌∙◌, arith}
-use Rattle.std.proofs.lemmas.List.{get_or_default}
+use Rattle.std.proofs.Common.{◌≡◌, ℕ, List, Option, Some, None, option_map, true, not, length, refl, sym, ap, ◌∙◌, arith}
 use Rattle.std.specs.List.{slice_get}
 use Rattle.yq_scalar.specs.Tree.{Label, Node, alias, scalar, list, map, none, child, children_of}
 use Rattle.yq_inline.specs.Trees.{named}
-use Rattle.yq_tree.specs.Ends.{part, is_end, IsEndOf, AreEndsFrom}
+use Rattle.yq_tree.specs.Ends.{part, is_end, IsEndOf}
 use Rattle.yq_scalar.specs.Paths.{Step}
-use Rattle.yq_tree.specs.Group.{group}
 use Rattle.yq_tree.specs.Labelled.{labelled_at}
-use Rattle.yq_tree.specs.Nodes.{lines_under}
+use Rattle.yq_tree.specs.Bodies.{lines_under}
 use Rattle.yq_tree.specs.Outline.{Line, Outline, anchored, label, children}
 use Rattle.yq_tree.specs.Places.{Found, find_row, content}
 use Rattle.yq_tree.specs.Spots.{spot, seen}
@@ -35,13 +33,6 @@ past_children ls floor = ap children (part_past ls (length ls) floor (omega arit
 pub first_child : (ls : List Line) (at floor next : ℕ) (l : Line) → slice_get ls at ≡ Some l → true ≡ not (is_end (part ls at floor)) → IsEndOf ls at next →
     children (part ls at floor) ≡ child (label l) (content l (lines_under ls at l)) (children (part ls next floor))
 first_child ls at floor next l is deep ends = ap children (row_parts ls at floor next l is (deeper_line ls at floor l is (not_end _ deep)) (ends.2 l is))
-
--- the end of the lines under a line, read from a list
-pub end_read : (ls : List Line) (ends : List ℕ) (at next : ℕ) → length ends ≡ length ls → AreEndsFrom 0 ls ends → at < length ls → next ≡ get_or ends at next → IsEndOf ls at next
-end_read ls ends at next each all within is =
-    let e = all at (omega arith) within in
-    let same : next ≡ get_or ends at 0 = is ∙ get_or_default ends at next 0 (omega (arith, each, within)) in
-    (omega (arith, e.0, same), omega (arith, e.1, same), λ l h. e.2 l h ∙ ap (λ k. group (drop k ls)) (sym same))
 
 -- where a step leads among lines, by the line that was found
 pub child_spot : (s : Step) (u : Outline) (start : ℕ) (x : Option (ℕ × Line × Outline)) → spot start (find_row s u) ≡ x → labelled_at s (children u) ≡ option_map (λ y. entry_of y.1 y.2) x

@@ -22,7 +22,7 @@ use Rattle.yq_tree.specs.Outline.{Mark, Bare, Key, Dash, Line, Outline, IsWhole,
 use Rattle.yq_tree.specs.Passages.{before_row}
 use Rattle.yq_tree.specs.Places.{lines_before, Found, find, content}
 use Rattle.yq_tree.specs.Reading.{document_of, is_document, read_at}
-use Rattle.yq_tree.specs.RowPaths.{found_line}
+use Rattle.yq_tree.specs.Ends.{found_line}
 use Rattle.yq_tree.specs.Seats.{Seat, seat, seat_of, seat_at, document_row}
 use Rattle.yq_tree.proofs.Finding.{entry_of}
 use Rattle.yq_tree.proofs.LabelPaths.{reach, FoundEntry, path_entry, HasHead, rest_head}

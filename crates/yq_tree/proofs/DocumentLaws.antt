@@ -11,10 +11,12 @@ use Rattle.yq_tree.specs.Documents.{Document, IsRoot, IsDocument, AreDocuments}
 use Rattle.yq_tree.specs.Group.{group, is_fine}
 use Rattle.yq_tree.specs.Lines.{lines_of}
 use Rattle.yq_tree.specs.Outline.{Line, value}
-use Rattle.yq_tree.specs.Reading.{outline_of, root_of, document_of, have_fit_keys, has_short_root, have_one_anchor_each, are_bound, is_document}
+use Rattle.yq_tree.specs.Reading.{outline_of, root_of, document_of, have_fit_keys, has_short_root, is_document}
+use Rattle.yq_tree.specs.LinesReading.{have_one_anchor_each, are_bound}
 use Rattle.yq_tree.specs.Sound.{has_unique_keys, is_sound}
 use Rattle.yq_tree.proofs.ByRules.{rules_from, rules_give}
-use Rattle.yq_tree.proofs.Conditions.{keys_are, are_keys, short_is, is_short, anchors_are, are_anchors, bound_are, are_bound_of}
+use Rattle.yq_tree.proofs.Conditions.{keys_are, are_keys, short_is, is_short}
+use Rattle.yq_tree.proofs.NameConditions.{anchors_are, are_anchors, bound_are, are_bound_of}
 use Rattle.yq_tree.proofs.Decides.{stand-sound, stand-complete}
 use Rattle.yq_tree.proofs.KeyLaws.{unique_is, is_unique}
 

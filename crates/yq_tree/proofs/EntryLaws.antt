@@ -5,7 +5,8 @@ use Rattle.std.specs.List.{slice_get}
 use Rattle.yq_tree.specs.Outline.{Mark, Bare, Key, Dash, Line, level, Outline, end, row}
 use Rattle.yq_tree.specs.Group.{deeper, group, is_open, level_or}
 use Rattle.yq_tree.specs.Ends.{part, is_end, IsEndOf}
-use Rattle.yq_tree.specs.Sound.{are_distinct, is_sound, head_is_sound, line_is_sound, is_entry}
+use Rattle.yq_tree.specs.Sound.{is_sound, head_is_sound, line_is_sound, is_entry}
+use Rattle.yq_scalar.specs.Keys.{are_distinct}
 use Rattle.yq_tree.proofs.Parts.{part_row, row_parts}
 use Rattle.yq_tree.proofs.EndsLaws.{deeper_line, not_end}
 use Rattle.yq_tree.proofs.SoundLaws.{asked, keys_with, IsEntryLevel, asked_line, sound_entries, too_deep, sound_bare, lone}

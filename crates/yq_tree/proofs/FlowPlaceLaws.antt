@@ -18,7 +18,7 @@ use Rattle.yq_tree.specs.Group.{group}
 use Rattle.yq_tree.specs.Lines.{tail_of, lines_of}
 use Rattle.yq_tree.specs.Outline.{Mark, Bare, Key, Dash, Line, Outline, end, row}
 use Rattle.yq_tree.specs.Places.{here, lines_before, Found, find_row, inside, bare_or, in_head, find}
-use Rattle.yq_tree.specs.RowPaths.{reached}
+use Rattle.yq_tree.specs.Ends.{reached}
 use Rattle.yq_tree.specs.Seats.{Seat, seat}
 use Rattle.yq_tree.specs.Spots.{is_bare}
 use Rattle.yq_tree.proofs.RowPathLaws.{found_lines}

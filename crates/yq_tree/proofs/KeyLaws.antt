@@ -7,8 +7,8 @@ use Rattle.std.proofs.lemmas.List.Kept.{AllPairs-cons}
 use Rattle.std.proofs.lemmas.Slice.Eq.{bytes_eq-Decides}
 use Rattle.std.specs.List.{list_any, All}
 use Rattle.yq_scalar.specs.Tree.{Node, alias, scalar, list, map, Children, none, child}
-use Rattle.yq_scalar.specs.Keys.{AreDistinct, keys_of, HasUniqueKeys, EachHasUniqueKeys}
-use Rattle.yq_tree.specs.Sound.{are_distinct, has_unique_keys, each_has_unique_keys}
+use Rattle.yq_scalar.specs.Keys.{AreDistinct, keys_of, HasUniqueKeys, EachHasUniqueKeys, are_distinct}
+use Rattle.yq_tree.specs.Sound.{has_unique_keys, each_has_unique_keys}
 
 pub differ : (a b : List ℕ) → bytes_eq a b ≡ false → a ≢ b
 differ a b e is = false≢true (sym e ∙ (bytes_eq-Decides a b).1 is)

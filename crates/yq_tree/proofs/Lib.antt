@@ -8,6 +8,7 @@ pub mod CommentLaws
 pub mod CommentPlaceLaws
 pub mod CommentStandLaws
 pub mod Conditions
+pub mod NameConditions
 pub mod CountLaws
 pub mod CountedLaws
 pub mod Decides
@@ -31,7 +32,6 @@ pub mod LabelPaths
 pub mod QuietLaws
 pub mod RemarkLaws
 pub mod KeyLaws
-pub mod LaidLaws
 pub mod OneLine
 pub mod BlockHead
 pub mod BoundLaws

@@ -2,8 +2,7 @@
 use Rattle.std.proofs.Common.{◌≡◌, ℕ, zero, suc, ◌+◌, ◌<◌, ◌≤◌, ltb, List, [], ◌∷◌, ◌++◌, length, drop, Some, Bool, true, false, cond, refl, sym, ap, ◌∙◌, arith, length-drop}
 use Rattle.std.proofs.lemmas.Bool.{lt-ltb, ltb-true, cond-true}
 use Rattle.std.specs.List.{slice_get}
-use Rattle.yq_tree.specs.Ends.{IsEndOf}
-use Rattle.yq_tree.specs.EntryPlaces.{deeper_count, lines_end}
+use Rattle.yq_tree.specs.Ends.{IsEndOf, deeper_count, lines_end}
 use Rattle.yq_tree.specs.Group.{deeper, shallow, group}
 use Rattle.yq_tree.specs.Outline.{Line, level, Outline, end, row, flatten}
 use Rattle.yq_tree.proofs.Decides.{flatten-group}

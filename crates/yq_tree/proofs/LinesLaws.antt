@@ -7,12 +7,11 @@ use Rattle.yq_inline.specs.Inline.{depth_limit}
 use Rattle.yq_tree.specs.Anchors.{names_of}
 use Rattle.yq_tree.specs.Ends.{part}
 use Rattle.yq_tree.specs.Group.{deeper, group, is_fine}
-use Rattle.yq_tree.specs.LinesReading.{names_are_sound, lines_are_sound}
+use Rattle.yq_tree.specs.LinesReading.{names_are_sound, lines_are_sound, have_one_anchor_each, are_bound}
 use Rattle.yq_tree.specs.Names.{line_names, HaveHeadsApart}
 use Rattle.yq_tree.specs.Outline.{Line, level, Outline, end, row, value}
-use Rattle.yq_tree.specs.Reading.{have_one_anchor_each, are_bound}
 use Rattle.yq_tree.specs.Sound.{has_unique_keys, is_sound}
-use Rattle.yq_tree.proofs.Conditions.{anchors_are}
+use Rattle.yq_tree.proofs.NameConditions.{anchors_are}
 use Rattle.yq_tree.proofs.NameLaws.{names_lines}
 use Rattle.yq_tree.proofs.Values.{rank_small}
 

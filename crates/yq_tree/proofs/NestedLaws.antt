@@ -6,11 +6,11 @@ use Rattle.std.proofs.lemmas.List.{drop_all}
 use Rattle.std.specs.Prelude.{String}
 use Rattle.std.specs.declared.alloc.Global.{Global}
 use Rattle.yq_scalar.specs.declared.piece.Piece.{Piece}
-use Rattle.yq_scalar.specs.Keys.{AreDistinct, keys_of}
+use Rattle.yq_scalar.specs.Keys.{AreDistinct, keys_of, are_distinct}
 use Rattle.yq_inline.specs.declared.inline.Inline.{Inline}
 use Rattle.yq_inline.specs.Trees.{parts_tree}
 use Rattle.yq_inline.specs.View.{entries_end}
-use Rattle.yq_tree.specs.Sound.{are_distinct, are_sound}
+use Rattle.yq_tree.specs.Sound.{are_sound}
 use Rattle.yq_tree.proofs.KeyLaws.{distinct_told}
 
 abbrev pub Field : Type 0

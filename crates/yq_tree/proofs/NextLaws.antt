@@ -14,7 +14,8 @@ use Rattle.yq_tree.specs.Lines.{mark_line, dash_line, lines_from, lines_of}
 use Rattle.yq_tree.specs.Outline as outline
 use Rattle.yq_tree.specs.Outline.{Line, rank, level, Outline, end, row, flatten, IsEven}
 use Rattle.yq_tree.specs.Places.{Place, here, below, beside, lines_after, Found, find}
-use Rattle.yq_tree.specs.RowPaths.{Leads, is_leaf}
+use Rattle.yq_tree.specs.RowPaths.{Leads}
+use Rattle.yq_tree.specs.Ends.{is_leaf}
 use Rattle.yq_tree.proofs.Allowing.{Allows}
 use Rattle.yq_tree.proofs.RowLines.{last_line}
 use Rattle.yq_tree.proofs.RowPathLaws.{is_one, rows_are, path_reached, same_row, under_end, reached_lines, found_place, document_fine}

@@ -5,13 +5,12 @@ use Rattle.std.specs.List.{slice_get}
 use Rattle.std.specs.Prelude.{IfSome}
 use Rattle.yq_scalar.specs.Paths.{Step}
 use Rattle.yq_scalar.specs.Tree.{Node}
-use Rattle.yq_tree.specs.Ends.{part}
+use Rattle.yq_tree.specs.Ends.{part, found_line, line_of, reached}
 use Rattle.yq_tree.specs.Group.{group}
 use Rattle.yq_tree.specs.Outline.{Mark, Bare, Key, Dash, Line, level, Outline, end, row, flatten}
 use Rattle.yq_tree.specs.declared.line.Line as declared
 use Rattle.yq_tree.specs.View.{views}
 use Rattle.yq_tree.specs.Places.{Place, here, below, beside, compose, lines_before, Found, find_row, inside, in_head, bare_or, find}
-use Rattle.yq_tree.specs.RowPaths.{found_line, line_of, reached}
 use Rattle.yq_tree.specs.Spots.{spot, seen, is_bare, begins_bare, reach_in, if_head, reach_under, reach_from}
 use Rattle.yq_tree.proofs.EndsLaws.{has_line, views-length}
 use Rattle.yq_tree.proofs.LinesLaws.{part-all}

@@ -18,7 +18,8 @@ use Rattle.yq_tree.specs.Laws.{with_lines}
 use Rattle.yq_tree.specs.Lines.{anchor_of, tail_of, mark_of, lines_of}
 use Rattle.yq_tree.specs.Outline.{Mark, Bare, Key, Dash, Line, level, Outline, end, flatten, IsOpen, IsEven, label, key_of, Stands}
 use Rattle.yq_tree.specs.Places.{lines_after, content}
-use Rattle.yq_tree.specs.Reading.{outline_of, root_of, document_of, content_is_fit, mark_is_fit, have_fit_keys, has_short_root, may_take, is_free, have_one_anchor_each, are_bound, is_document}
+use Rattle.yq_tree.specs.Reading.{outline_of, root_of, document_of, content_is_fit, mark_is_fit, have_fit_keys, has_short_root, is_document}
+use Rattle.yq_tree.specs.LinesReading.{may_take, is_free, have_one_anchor_each, are_bound}
 use Rattle.yq_tree.specs.RowPaths.{spelled}
 use Rattle.yq_tree.specs.Sound.{has_unique_keys, is_sound}
 use Rattle.yq_tree.proofs.Allowing.{IsEntry}

@@ -1,10 +1,10 @@
 -- What a change of one node keeps: depth, that keys differ, and the anchors and aliases.
 use Rattle.std.proofs.Common.{◌≡◌, suc, max, List, [], ◌∷◌, ◌++◌, Option, Some, None, option_and_then, Bool, true, false, ◌&&◌, cond, refl, sym, ap, ◌∙◌}
-use Rattle.yq_scalar.specs.Keys.{with_key, keys_of, depth, deepest}
+use Rattle.yq_scalar.specs.Keys.{with_key, keys_of, depth, deepest, are_distinct}
 use Rattle.yq_scalar.specs.Paths.{Step, is_here, further, child_at, node_at, change_child, within, change}
 use Rattle.yq_scalar.specs.Tree.{Node, alias, scalar, list, map, Children, none, child, children_of}
 use Rattle.yq_tree.specs.Anchors.{with_anchor, names_of, names_in}
-use Rattle.yq_tree.specs.Sound.{are_distinct, has_unique_keys, each_has_unique_keys}
+use Rattle.yq_tree.specs.Sound.{has_unique_keys, each_has_unique_keys}
 
 -- as deep, with unique keys or not, and with the same anchors and aliases
 abbrev pub AreAlike : Node → Node → Type 0

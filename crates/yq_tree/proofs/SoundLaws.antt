@@ -3,11 +3,11 @@ use Rattle.std.proofs.Common.{◌≡◌, ℕ, suc, ◌+◌, ◌*◌, ◌<◌, �
 use Rattle.std.proofs.lemmas.Bool.{lt-ltb, eq-eqb, ne_eqb, leb-true, le-leb, ltb-true, cases_eq, and_parts, false_from_ne_true, false≢true}
 use Rattle.std.proofs.Math.Bool.{and-false}
 use Rattle.yq_scalar.specs.Tree.{Node, alias, scalar, list, map}
-use Rattle.yq_scalar.specs.Keys.{with_key, keys_of, depth, deepest}
+use Rattle.yq_scalar.specs.Keys.{with_key, keys_of, depth, deepest, are_distinct}
 use Rattle.yq_tree.specs.Outline.{Mark, Bare, Key, Dash, rank, Line, level, Outline, end, row, anchored, head_or, key_of, collection, children, value}
 use Rattle.yq_tree.specs.Group.{deeper, shallow, is_open, is_whole, level_or, is_even, is_fine}
 use Rattle.yq_tree.specs.Ends.{is_end}
-use Rattle.yq_tree.specs.Sound.{are_distinct, has_unique_keys, each_has_unique_keys, is_sound, head_is_sound, line_is_sound, is_entry}
+use Rattle.yq_tree.specs.Sound.{has_unique_keys, each_has_unique_keys, is_sound, head_is_sound, line_is_sound, is_entry}
 
 -- what is asked of the items or entries from one on, where these keys stand before it
 abbrev pub asked : ℕ → ℕ → List (List ℕ) → Outline → Bool

@@ -18,7 +18,8 @@ use Rattle.yq_tree.specs.Laws.{with_lines}
 use Rattle.yq_tree.specs.Lines.{head_of, row_lines, lines_of}
 use Rattle.yq_tree.specs.Outline.{Mark, Bare, Key, Dash, Line, level, end, row, IsWhole, IsEven, anchored, Stands}
 use Rattle.yq_tree.specs.Places.{lines_before, content}
-use Rattle.yq_tree.specs.Reading.{outline_of, root_of, document_of, have_fit_keys, has_short_root, is_no_alias, may_take, have_one_anchor_each, are_bound, is_document}
+use Rattle.yq_tree.specs.Reading.{outline_of, root_of, document_of, have_fit_keys, has_short_root, is_document}
+use Rattle.yq_tree.specs.LinesReading.{is_no_alias, may_take, have_one_anchor_each, are_bound}
 use Rattle.yq_tree.specs.RowPaths.{spelled}
 use Rattle.yq_tree.specs.Sound.{has_unique_keys, is_sound}
 use Rattle.yq_tree.proofs.Decides.{even_from, stand-complete}

@@ -7,7 +7,9 @@ use Rattle.yq_tree.specs.declared.body.Under.{Under}
 use Rattle.yq_tree.specs.declared.children.Children as declared
 use Rattle.yq_tree.specs.declared.children.Rest as rests
 use Rattle.yq_tree.specs.declared.node.Node.{Node}
-use Rattle.yq_tree.specs.Nodes.{lines_in, under_of, node_of, label_of}
+use Rattle.yq_tree.specs.Nodes.{node_of, label_of}
+use Rattle.yq_tree.specs.View.{views}
+use Rattle.yq_tree.specs.Bodies.{under_of}
 use Rattle.yq_tree.specs.Outline as outline
 use Rattle.yq_tree.specs.Outline.{Line}
 
@@ -29,7 +31,7 @@ rest_length ls (rests.TheVariants.Entries entries) = length entries.now
 
 -- the items or entries that an iterator of the code has not yielded yet (own)
 abbrev pub left_of : declared.Children → Children
-left_of c = rest_of (lines_in c.document.now) c.rest
+left_of c = rest_of (views c.document.now) c.rest
 
 -- the first of these items or entries is given, and what is left behind it; or nothing where there is none (own)
 abbrev pub Gives : {A : Type 0} → Children → (A → Children) → Option (Node × A) → Type 0

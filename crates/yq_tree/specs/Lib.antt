@@ -9,7 +9,6 @@ pub mod SeatReading
 pub mod Seats
 pub mod Sound
 pub mod SoundReading
-pub mod Laid
 pub mod Lines
 pub mod Anchors
 pub mod Answers
@@ -18,6 +17,7 @@ pub mod Counts
 pub mod CommentPlaces
 pub mod CommentReading
 pub mod Labelled
+pub mod Bodies
 pub mod Documents
 pub mod Reading
 pub mod Located

@@ -1,18 +1,11 @@
 -- Reading (a reader may skip this: the grammar is what is believed, and found and only tie the two): what is asked of a document's lines.
-use Rattle.std.specs.Prelude.{◌≡◌, ℕ, nat_le, nat_eq, List, [], ◌∷◌, Option, Some, None, Bool, true, false, not, ◌&&◌, Result, Ok, Err}
-use Rattle.std.specs.List.{list_any}
-use Rattle.std.specs.Str.{bytes_eq}
+use Rattle.std.specs.Prelude.{◌≡◌, ℕ, nat_le, nat_eq, Option, Some, None, Bool, true, false, ◌&&◌, Result, Ok, Err}
 use Rattle.yq_scalar.specs.declared.fault.ReadError.{ReadError}
 use Rattle.yq_scalar.specs.declared.fault.ReadError.TheVariants as error
 use Rattle.yq_scalar.specs.Tree.{Node, alias, scalar, list, map, Children, none, child}
-use Rattle.yq_scalar.specs.Keys.{keys_of, depth, deepest}
+use Rattle.yq_scalar.specs.Keys.{are_distinct, keys_of, depth, deepest}
 use Rattle.yq_tree.specs.Outline.{Mark, Bare, Key, Dash, Line, level, Outline, value}
 use Rattle.yq_tree.specs.Group.{is_fine, is_open}
-
--- whether no two keys are equal
-abbrev pub are_distinct : List (List ℕ) → Bool
-are_distinct [] = true
-are_distinct (k ∷ ks) = not (list_any (bytes_eq k) ks) && are_distinct ks
 
 abbrev mutual
   -- whether no mapping has a key twice

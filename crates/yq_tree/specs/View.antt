@@ -1,6 +1,7 @@
 -- The lines of the code, as lines.
 use Rattle.std.specs.Prelude.{ℕ, List, map, Option, Some, None, option_map, string_bytes}
 use Rattle.yq_scalar.specs.Tree.{Node, scalar}
+use Rattle.yq_inline.specs.Places.{Placed}
 use Rattle.yq_inline.specs.Trees.{placed_tree}
 use Rattle.yq_inline.specs.View as inline
 use Rattle.yq_rows.specs.Comments as comments
@@ -34,3 +35,13 @@ view l = record { column = l.column; mark = mark_view l.mark; anchor = option_ma
 -- the lines that those of the code show (own)
 abbrev pub views : List declared.Line → List Line
 views ls = map view ls
+
+-- the alias or flow collection that a head of the code keeps apart, with its places (own)
+abbrev pub head_flow : heads.Head → Option Placed
+head_flow heads.TheVariants.Nothing = None
+head_flow (heads.TheVariants.Scalar kind t) = None
+head_flow (heads.TheVariants.Inline node) = Some (inline.view node.value)
+
+-- those of lines of the code (own)
+abbrev pub flows : List declared.Line → List (Option Placed)
+flows ls = map (λ l. head_flow l.head) ls

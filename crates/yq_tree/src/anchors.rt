@@ -2,7 +2,7 @@
 ghost use Rattle.std.specs.Prelude.{◌≡◌, ◌&&◌, Some, is_none, is_some, not};
 ghost use Rattle.yq_inline.specs.Trees.{placed_tree};
 ghost use Rattle.yq_inline.specs.View as inline;
-ghost use Rattle.yq_tree.specs.Reading as spec;
+ghost use Rattle.yq_tree.specs.LinesReading as spec;
 ghost use Rattle.yq_tree.specs.View.{head_view, view, views};
 
 use crate::line::{Head, Line, Mark};

@@ -1,6 +1,6 @@
 //! What nodes are, where they stand in lines or in heads.
 ghost use Rattle.std.specs.Prelude.{◌≡◌, ◌+◌, ◌<◌, List, length, slice_get, Some, option_map};
-ghost use Rattle.yq_tree.specs.Nodes as spec;
+ghost use Rattle.yq_tree.specs.Bodies as spec;
 ghost use Rattle.yq_tree.specs.Outline as outline;
 ghost use Rattle.yq_tree.specs.Outline.{level, anchored, value};
 ghost use Rattle.yq_tree.specs.Places.{content};

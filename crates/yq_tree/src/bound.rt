@@ -1,7 +1,7 @@
 //! Aliases and the anchors before them.
 ghost use Rattle.std.specs.Prelude.{◌≡◌, [], is_none, IfOk};
 ghost use Rattle.yq_tree.specs.Names.{all_named};
-ghost use Rattle.yq_tree.specs.Reading.{are_bound};
+ghost use Rattle.yq_tree.specs.LinesReading.{are_bound};
 
 use crate::names::{Name, Named};
 use std::alloc::{AllocError, Global};

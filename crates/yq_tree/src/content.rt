@@ -4,8 +4,7 @@ ghost use Rattle.yq_scalar.specs.Quoted.{IsQuotedText};
 ghost use Rattle.yq_scalar.specs.Scalar.{plain_of};
 ghost use Rattle.yq_inline.specs.Scalars as scalars;
 ghost use Rattle.yq_inline.specs.Trees.{scalar_node};
-ghost use Rattle.yq_tree.specs.FlowReading.{head_flow};
-ghost use Rattle.yq_tree.specs.View.{content_view, head_view};
+ghost use Rattle.yq_tree.specs.View.{content_view, head_view, head_flow};
 
 use crate::line::{Content, Head};
 use std::alloc::{AllocError, Global};

@@ -3,7 +3,7 @@ ghost use Rattle.std.specs.Prelude.{◌≡◌, ◌<◌, ◌&&◌, length, nat_eq
 ghost use Rattle.yq_inline.specs.Entries.{step_of};
 ghost use Rattle.yq_scalar.specs.Paths as steps;
 ghost use Rattle.yq_tree.specs.Ends.{part, AreEndsFrom};
-ghost use Rattle.yq_tree.specs.Nodes.{under_of};
+ghost use Rattle.yq_tree.specs.Bodies.{under_of};
 ghost use Rattle.yq_tree.specs.Outline.{key_of};
 ghost use Rattle.yq_tree.specs.Places.{find_row};
 ghost use Rattle.yq_tree.specs.Spots.{spot, seen};

@@ -6,6 +6,7 @@ ghost use Rattle.yq_scalar.specs.Paths.{To, Nth};
 ghost use Rattle.yq_tree.specs.Labelled.{labelled_at};
 ghost use Rattle.yq_tree.specs.Nodes as spec;
 ghost use Rattle.yq_tree.specs.Outline.{anchored};
+ghost use Rattle.yq_tree.specs.Bodies.{lent};
 
 use crate::body::first_anchor;
 use crate::node::NodeKind;
@@ -43,7 +44,7 @@ pub(crate) fn inline_text<'d>(node: &'d Inline<'_>) -> &'d str
 /// The anchor of a node behind another anchor; an alias has none.
 #[tactic(auto, using(crate::proofs::NodeLaws::anchor_scalar, crate::proofs::NodeLaws::anchor_list, crate::proofs::NodeLaws::anchor_map, crate::proofs::NodeLaws::anchor_alias))]
 pub(crate) fn inline_anchor<'t>(before: Option<&'t str>, node: &Inline<'t>) -> Option<&'t str>
-    ensures { spec.lent result ≡ spec.anchor_of (anchored (spec.lent before.entry) (placed_tree (view node.now))) }
+    ensures { lent result ≡ spec.anchor_of (anchored (lent before.entry) (placed_tree (view node.now))) }
 {
     match node.form {
         Form::Alias(_) => None,

@@ -5,9 +5,8 @@ ghost use Rattle.yq_inline.specs.Scalars as scalars;
 ghost use Rattle.yq_rows.specs.View.{slices_text, view as row_view};
 ghost use Rattle.yq_tree.specs.RowReading as spec;
 ghost use Rattle.yq_rows.specs.Comments as comments;
-ghost use Rattle.yq_tree.specs.FlowReading.{flows, head_flow};
 ghost use Rattle.yq_tree.specs.Lines as lines_spec;
-ghost use Rattle.yq_tree.specs.View.{mark_view, view, views};
+ghost use Rattle.yq_tree.specs.View.{mark_view, view, views, flows, head_flow};
 
 use crate::content::content_of;
 use crate::line::{Head, Line, Mark};

@@ -2,10 +2,9 @@
 ghost use Rattle.std.specs.Prelude.{◌≡◌, ◌<◌, List, ◌∷◌, length, map, not, option_and_then, option_map, slice_get, IfSome, IsTrue, Some};
 ghost use Rattle.yq_inline.specs.Entries.{step_of};
 ghost use Rattle.yq_scalar.specs.Paths as steps;
-ghost use Rattle.yq_tree.specs.Ends.{AreEndsFrom, is_end};
-ghost use Rattle.yq_tree.specs.Nodes.{lines_in, lines_under, under_of};
+ghost use Rattle.yq_tree.specs.Ends.{AreEndsFrom, is_end, line_of, reached};
+ghost use Rattle.yq_tree.specs.Bodies.{lines_under, under_of};
 ghost use Rattle.yq_tree.specs.Outline as outline;
-ghost use Rattle.yq_tree.specs.RowPaths.{line_of, reached};
 ghost use Rattle.yq_tree.specs.Spots as spec;
 ghost use Rattle.yq_tree.specs.View.{mark_view, views};
 
@@ -127,16 +126,16 @@ fn has_under(lines: &[Line<'_>], at: usize) -> bool
 impl<'t> Lined<'t> {
     /// The line to which steps lead, and the steps that go on in its head.
     pub(crate) fn reach<'s>(&self, steps: &'s [Step]) -> Option<(usize, &'s [Step])>
-        ensures within { IfSome result (λ x. x.0 < length (lines_in self.now)) }
-        ensures found { option_map spec.reached_view result ≡ reached (map step_of steps.now) (lines_in self.now) }
+        ensures within { IfSome result (λ x. x.0 < length (views self.now)) }
+        ensures found { option_map spec.reached_view result ≡ reached (map step_of steps.now) (views self.now) }
     {
         reach(&self.lines, &self.ends, steps)
     }
 
     /// The line of the entry or item to which steps lead, where none go on in a head.
     pub(crate) fn line_at(&self, steps: &[Step]) -> Option<usize>
-        ensures within { IfSome result (λ i. i < length (lines_in self.now)) }
-        ensures found { result ≡ line_of (map step_of steps.now) (lines_in self.now) }
+        ensures within { IfSome result (λ i. i < length (views self.now)) }
+        ensures found { result ≡ line_of (map step_of steps.now) (views self.now) }
     {
         let (line, left) = self.reach(steps)?;
         if left.is_empty() { Some(line) } else { None }
@@ -144,8 +143,8 @@ impl<'t> Lined<'t> {
 
     /// Whether lines are under line `at`.
     pub(crate) fn has_under(&self, at: usize) -> bool
-        requires { at < length (lines_in self.now) }
-        ensures { (l : outline.Line) → slice_get (lines_in self.now) at ≡ Some l → result ≡ not (is_end (lines_under (lines_in self.now) at l)) }
+        requires { at < length (views self.now) }
+        ensures { (l : outline.Line) → slice_get (views self.now) at ≡ Some l → result ≡ not (is_end (lines_under (views self.now) at l)) }
     {
         has_under(&self.lines, at)
     }

@@ -1,8 +1,6 @@
 //! What is known of a line of a document, by its number.
 ghost use Rattle.std.specs.Prelude.{◌≡◌, ◌<◌, ◌≤◌, is_some, length, slice_get, Some};
-ghost use Rattle.yq_tree.specs.Ends.{AreEndsFrom};
-ghost use Rattle.yq_tree.specs.EntryPlaces.{lines_end};
-ghost use Rattle.yq_tree.specs.Nodes.{lines_in};
+ghost use Rattle.yq_tree.specs.Ends.{AreEndsFrom, lines_end};
 ghost use Rattle.yq_tree.specs.Outline as outline;
 ghost use Rattle.yq_tree.specs.Spots as spec;
 ghost use Rattle.yq_tree.specs.View.{head_view, views};
@@ -55,33 +53,33 @@ fn has_head_at(lines: &[Line<'_>], at: usize) -> bool
 impl<'t> Lined<'t> {
     /// How many lines there are.
     pub(crate) fn count(&self) -> usize
-        ensures { result ≡ length (lines_in self.now) }
+        ensures { result ≡ length (views self.now) }
     {
         self.lines.len()
     }
 
     /// The number of the line behind line `at` and those under it.
     pub(crate) fn end_of(&self, at: usize) -> usize
-        requires { at < length (lines_in self.now) }
-        ensures value { result ≡ lines_end at (lines_in self.now) }
+        requires { at < length (views self.now) }
+        ensures value { result ≡ lines_end at (views self.now) }
         ensures some { at < result }
-        ensures within { result ≤ length (lines_in self.now) }
+        ensures within { result ≤ length (views self.now) }
     {
         end_of(&self.lines, &self.ends, at)
     }
 
     /// Whether line `at` is a node itself.
     pub(crate) fn is_bare(&self, at: usize) -> bool
-        requires { at < length (lines_in self.now) }
-        ensures { (l : outline.Line) → slice_get (lines_in self.now) at ≡ Some l → result ≡ spec.is_bare l.mark }
+        requires { at < length (views self.now) }
+        ensures { (l : outline.Line) → slice_get (views self.now) at ≡ Some l → result ≡ spec.is_bare l.mark }
     {
         is_bare_at(&self.lines, at)
     }
 
     /// Whether line `at` has a head.
     pub(crate) fn has_head(&self, at: usize) -> bool
-        requires { at < length (lines_in self.now) }
-        ensures { (l : outline.Line) → slice_get (lines_in self.now) at ≡ Some l → result ≡ is_some l.head }
+        requires { at < length (views self.now) }
+        ensures { (l : outline.Line) → slice_get (views self.now) at ≡ Some l → result ≡ is_some l.head }
     {
         has_head_at(&self.lines, at)
     }

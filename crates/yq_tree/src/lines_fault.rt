@@ -3,7 +3,6 @@ ghost use Rattle.std.specs.Prelude.{◌≡◌, length, is_none, IfOk};
 ghost use Rattle.yq_tree.specs.Ends.{AreEndsFrom};
 ghost use Rattle.yq_tree.specs.LinesReading as spec;
 ghost use Rattle.yq_tree.specs.Names.{HaveHeadsApart};
-ghost use Rattle.yq_tree.specs.Nodes.{lines_in};
 ghost use Rattle.yq_tree.specs.View.{views};
 
 use crate::anchors::second_anchor;
@@ -53,8 +52,8 @@ fn flaw_of(alloc: Global, lines: &[Line<'_>], ends: &[usize]) -> Result<Option<F
 /// What is at fault in the lines of a document: their columns, how deep collections are nested, keys
 /// that a mapping has already, anchors and aliases.
 pub(crate) fn lines_fault(alloc: Global, document: &Lined<'_>) -> Result<Option<Flaw>, AllocError>
-    requires { HaveHeadsApart (lines_in document.now) }
-    ensures { IfOk result (λ f. is_none f ≡ spec.lines_are_sound (lines_in document.now)) }
+    requires { HaveHeadsApart (views document.now) }
+    ensures { IfOk result (λ f. is_none f ≡ spec.lines_are_sound (views document.now)) }
 {
     flaw_of(alloc, &document.lines, &document.ends)
 }

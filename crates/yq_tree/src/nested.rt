@@ -1,6 +1,6 @@
 //! What is asked of a head: how deep collections are nested in it, and the keys of each.
 ghost use Rattle.std.specs.Prelude.{◌≡◌, ◌&&◌, Some, is_none, IfOk};
-ghost use Rattle.yq_scalar.specs.Keys.{keys_of};
+ghost use Rattle.yq_scalar.specs.Keys.{are_distinct, keys_of};
 ghost use Rattle.yq_inline.specs.Trees.{parts_tree, placed_tree};
 ghost use Rattle.yq_inline.specs.View.{entries_end, items_end, view};
 ghost use Rattle.yq_tree.specs.Sound as spec;
@@ -78,7 +78,7 @@ fn entries_fault(
     entries: &Vec<(String, Piece, Inline<'_>)>,
     depth: usize,
 ) -> Result<Option<FaultKind>, AllocError>
-    ensures { let cs = parts_tree (entries_end entries.now.items) in IfOk result (λ f. is_none f ≡ (spec.are_sound depth cs && spec.are_distinct (keys_of cs))) }
+    ensures { let cs = parts_tree (entries_end entries.now.items) in IfOk result (λ f. is_none f ≡ (spec.are_sound depth cs && are_distinct (keys_of cs))) }
 {
     let mut keys = Vec::new(alloc);
     'each: for entry in entries {

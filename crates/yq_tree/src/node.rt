@@ -7,7 +7,8 @@ ghost use Rattle.yq_tree.specs.Nodes as spec;
 ghost use Rattle.yq_tree.specs.Outline as outline;
 ghost use Rattle.yq_tree.specs.Outline.{anchored, label, value};
 ghost use Rattle.yq_tree.specs.Places.{content};
-ghost use Rattle.yq_tree.specs.View.{mark_view};
+ghost use Rattle.yq_tree.specs.View.{mark_view, views};
+ghost use Rattle.yq_tree.specs.Bodies.{lent, lines_under};
 
 use crate::body::{Body, Named, Under, line_node, lines_node};
 use crate::flow::{inline_anchor, inline_kind, inline_text};
@@ -50,7 +51,7 @@ pub struct Node<'d, 't> {
 
 /// The key of a line's entry; an item has none.
 fn line_key<'d>(line: &'d Line<'_>) -> Option<&'d str>
-    ensures { spec.lent result ≡ outline.key_of (mark_view line.now.mark) }
+    ensures { lent result ≡ outline.key_of (mark_view line.now.mark) }
 {
     match &line.mark {
         Mark::Bare => None,
@@ -63,27 +64,27 @@ impl<'d, 't> Node<'d, 't> {
     /// The root of a document.
     #[tactic(auto, using(crate::proofs::NodeLaws::all_value))]
     pub(crate) fn root(document: &'d Lined<'t>) -> Node<'d, 't>
-        ensures node { spec.node_of result ≡ value (group (spec.lines_in document.now)) }
+        ensures node { spec.node_of result ≡ value (group (views document.now)) }
         ensures label { spec.label_of result ≡ spec.unlabelled }
     {
         let all = Under { first: 0, floor: 0 };
         Node {
             document,
             slot: Slot::Root,
-            named: lines_node(&document.lines, None, all),
+            named: lines_node(document.lines(), None, all),
         }
     }
 
     /// The node of a line's entry or item.
     pub(crate) fn of_line(document: &'d Lined<'t>, at: usize) -> Node<'d, 't>
-        requires { at < length (spec.lines_in document.now) }
-        ensures node { (l : outline.Line) → slice_get (spec.lines_in document.now) at ≡ Some l → spec.node_of result ≡ content l (spec.lines_under (spec.lines_in document.now) at l) }
-        ensures label { (l : outline.Line) → slice_get (spec.lines_in document.now) at ≡ Some l → spec.label_of result ≡ label l }
+        requires { at < length (views document.now) }
+        ensures node { (l : outline.Line) → slice_get (views document.now) at ≡ Some l → spec.node_of result ≡ content l (lines_under (views document.now) at l) }
+        ensures label { (l : outline.Line) → slice_get (views document.now) at ≡ Some l → spec.label_of result ≡ label l }
     {
         Node {
             document,
-            slot: Slot::Line(&document.lines[at]),
-            named: line_node(&document.lines, at),
+            slot: Slot::Line(&document.lines()[at]),
+            named: line_node(document.lines(), at),
         }
     }
 
@@ -95,7 +96,7 @@ impl<'d, 't> Node<'d, 't> {
         node: &'d Inline<'t>,
     ) -> Node<'d, 't>
         ensures node { spec.node_of result ≡ placed_tree (inline.view node.now) }
-        ensures label { spec.label_of result ≡ inner (spec.lent key.entry) }
+        ensures label { spec.label_of result ≡ inner (lent key.entry) }
     {
         let named = Named {
             anchor: None,
@@ -139,7 +140,7 @@ impl<'d, 't> Node<'d, 't> {
     /// The name of the anchor before it.
     #[tactic(auto, using(crate::proofs::NodeLaws::first_none))]
     pub fn anchor(&self) -> Option<&'t str>
-        ensures { spec.lent result ≡ spec.anchor_of (spec.node_of self.now) }
+        ensures { lent result ≡ spec.anchor_of (spec.node_of self.now) }
     {
         let before = self.named.anchor;
         match self.named.body {
@@ -153,7 +154,7 @@ impl<'d, 't> Node<'d, 't> {
 
     /// The key of its entry; an item and the root have none.
     pub fn key(&self) -> Option<&'d str>
-        ensures { spec.lent result ≡ (spec.label_of self.now).key }
+        ensures { lent result ≡ (spec.label_of self.now).key }
     {
         match self.slot {
             Slot::Root => None,

@@ -1,5 +1,5 @@
 use Rattle.std.proofs.Common.{◌≡◌, ◌-◌, ◌≤◌, drop, length}
-use Rattle.yq_tree.specs.Reading.{have_one_anchor_each}
+use Rattle.yq_tree.specs.LinesReading.{have_one_anchor_each}
 use Rattle.yq_tree.specs.View.{views}
 use Rattle.yq_tree.proofs.anchors.second_anchor.Given as goal
 

@@ -1,7 +1,7 @@
 use Rattle.std.proofs.Common.{◌+◌, length, refl, ap, ◌∙◌}
 use Rattle.std.proofs.lemmas.Option.{slice_get_read}
 use Rattle.yq_tree.specs.Ends.{part}
-use Rattle.yq_tree.specs.Nodes.{lines_under}
+use Rattle.yq_tree.specs.Bodies.{lines_under}
 use Rattle.yq_tree.specs.Outline.{level, anchored, head_or, value}
 use Rattle.yq_tree.specs.Places.{content}
 use Rattle.yq_tree.specs.View.{view, views}

@@ -1,7 +1,7 @@
 use Rattle.std.proofs.Common.{◌+◌, length, refl, sym, ap, ◌∙◌}
 use Rattle.std.proofs.lemmas.Option.{slice_get_read}
 use Rattle.yq_tree.specs.Ends.{part}
-use Rattle.yq_tree.specs.Nodes.{lent, body_node}
+use Rattle.yq_tree.specs.Bodies.{lent, body_node}
 use Rattle.yq_tree.specs.Outline.{level, first_anchor, anchored, head_or, value}
 use Rattle.yq_tree.specs.View.{mark_view, content_view, view, views}
 use Rattle.yq_tree.proofs.EndsLaws.{deeper_line, line_at, not_end}

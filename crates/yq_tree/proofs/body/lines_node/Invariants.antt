@@ -1,6 +1,6 @@
 use Rattle.std.proofs.Common.{◌≡◌, ◌-◌, length}
 use Rattle.yq_tree.specs.Ends.{part}
-use Rattle.yq_tree.specs.Nodes.{lent, under_of}
+use Rattle.yq_tree.specs.Bodies.{lent, under_of}
 use Rattle.yq_tree.specs.Outline.{anchored, value}
 use Rattle.yq_tree.specs.View.{views}
 use Rattle.yq_tree.proofs.body.lines_node.Given as goal

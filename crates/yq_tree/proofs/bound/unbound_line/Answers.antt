@@ -1,7 +1,7 @@
 use Rattle.std.proofs.Common.{◌+◌, [], drop, ap, sym, subst}
 use Rattle.yq_tree.specs.Anchors.{Anchors, Refers}
 use Rattle.yq_tree.specs.Names.{name_view, all_named}
-use Rattle.yq_tree.specs.Reading.{are_bound}
+use Rattle.yq_tree.specs.LinesReading.{are_bound}
 use Rattle.yq_tree.proofs.BoundLaws.{Known, anchor_known, alias_known, named_at}
 use Rattle.yq_tree.proofs.bound.unbound_line.Goals as goal
 use Rattle.yq_tree.proofs.bound.unbound_line.Goals.{in-Anchors+in_ok-insert-in-Anchors, in-Refers+else-not-contains_key}

@@ -1,6 +1,6 @@
 use Rattle.std.proofs.Common.{◌-◌, [], drop, length}
 use Rattle.yq_tree.specs.Names.{all_named}
-use Rattle.yq_tree.specs.Reading.{are_bound}
+use Rattle.yq_tree.specs.LinesReading.{are_bound}
 use Rattle.yq_tree.proofs.BoundLaws.{Known}
 use Rattle.yq_tree.proofs.bound.unbound_line.Given as goal
 

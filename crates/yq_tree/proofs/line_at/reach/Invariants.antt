@@ -1,7 +1,7 @@
 use Rattle.std.proofs.Common.{◌≡◌, ◌<◌, length, map}
 use Rattle.std.specs.Prelude.{IfSome}
 use Rattle.yq_inline.specs.Entries.{step_of}
-use Rattle.yq_tree.specs.RowPaths.{reached}
+use Rattle.yq_tree.specs.Ends.{reached}
 use Rattle.yq_tree.specs.Spots.{reach_from}
 use Rattle.yq_tree.specs.View.{views}
 use Rattle.yq_tree.proofs.line_at.reach.Given as goal

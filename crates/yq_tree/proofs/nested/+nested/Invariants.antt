@@ -1,8 +1,8 @@
 use Rattle.std.proofs.Common.{◌≡◌, ◌+◌, ◌*◌, ◌++◌, ◌&&◌, drop, map}
-use Rattle.yq_scalar.specs.Keys.{keys_of}
+use Rattle.yq_scalar.specs.Keys.{keys_of, are_distinct}
 use Rattle.yq_inline.specs.Trees.{parts_tree}
 use Rattle.yq_inline.specs.View.{entries_end, items_end}
-use Rattle.yq_tree.specs.Sound.{are_distinct, are_sound}
+use Rattle.yq_tree.specs.Sound.{are_sound}
 use Rattle.yq_tree.proofs.nested.+nested.Given as goal
 
 abbrev pub decreases-node_fault : goal.decreases-node_fault
