@@ -8,7 +8,7 @@ use Rattle.yq_scalar.specs.declared.fault.ReadError.TheVariants as errors
 use Rattle.yq_scalar.specs.Answers.{◌>>=◌, Fails}
 use Rattle.yq_scalar.proofs.Bools.{guard_some}
 use Rattle.yq_inline.proofs.Binds.{some_same}
-use Rattle.yq_rows.specs.Comments.{head_comment}
+use Rattle.yq_lines.specs.Comments.{head_comment}
 use Rattle.yq_rows.specs.Grammar.{unlimited, begins_document, AreParts, IsCut}
 use Rattle.yq_rows.specs.Lending.{shown_read}
 use Rattle.yq_rows.specs.Reading.{scan_at}
@@ -17,15 +17,15 @@ use Rattle.yq_rows.specs.View.{Shown, shown}
 use Rattle.yq_rows.proofs.ScanLaws.{scan_again}
 use Rattle.yq_tree.specs.Documents.{Document, with_part, parts_from, document_parts, begins_bare, has_begin}
 use Rattle.yq_tree.specs.FlowReading.{document_flows, lines_flows}
-use Rattle.yq_tree.specs.Group.{group}
+use Rattle.yq_lines.specs.Group.{group}
 use Rattle.yq_tree.specs.Lines.{lines_of}
-use Rattle.yq_tree.specs.LinesReading.{lines_are_sound}
-use Rattle.yq_tree.specs.Names.{HaveHeadsApart}
-use Rattle.yq_tree.specs.Outline.{value}
+use Rattle.yq_lines.specs.LinesReading.{lines_are_sound}
+use Rattle.yq_lines.specs.Names.{HaveHeadsApart}
+use Rattle.yq_lines.specs.Outline.{value}
 use Rattle.yq_tree.specs.PartReading.{Lined, lined, document_view, part_fits, all_fit, all_lined, lined_parts}
 use Rattle.yq_tree.specs.Reading.{have_fit_keys, has_short_root, is_document, document_of, documents_of, all_documents, checked, text_at, cut_of}
 use Rattle.yq_tree.specs.SoundReading.{all_sound, if_all_sound, AllApart, document_views, Holds}
-use Rattle.yq_tree.specs.View.{views}
+use Rattle.yq_lines.specs.View.{views}
 use Rattle.yq_tree.proofs.HeadsApart.{heads_apart}
 use Rattle.yq_tree.proofs.ReadLaws.{cut_is, text_again}
 use Rattle.yq_tree.proofs.RowLineLaws.{not_fit}

@@ -8,11 +8,11 @@ use Rattle.yq_scalar.specs.Answers.{Fails}
 use Rattle.yq_scalar.proofs.Bools.{guard_some}
 use Rattle.yq_tree.specs.declared.part_lines.PartLines.{PartLines}
 use Rattle.yq_tree.specs.FlowReading.{lines_flows, parts_lines_flows}
-use Rattle.yq_tree.specs.LinesReading.{lines_are_sound}
-use Rattle.yq_tree.specs.Names.{HaveHeadsApart}
+use Rattle.yq_lines.specs.LinesReading.{lines_are_sound}
+use Rattle.yq_lines.specs.Names.{HaveHeadsApart}
 use Rattle.yq_tree.specs.PartReading.{Lined, document_view, lined_view, lined_views}
 use Rattle.yq_tree.specs.SoundReading.{if_sound, all_sound, if_all_sound, AllApart, document_views}
-use Rattle.yq_tree.specs.View.{views, flows}
+use Rattle.yq_lines.specs.View.{views, flows}
 use Rattle.yq_tree.proofs.RowLineLaws.{not_fit}
 use Rattle.yq_tree.specs.declared.checks.DocumentLines.{DocumentLines}
 

@@ -9,7 +9,7 @@ use Rattle.yq_rows.specs.Rows as rows
 use Rattle.yq_rows.specs.Rows.{Content, Nothing, Inline, Block, Row}
 use Rattle.yq_tree.specs.Documents.{IsFit, HasFitKey, HasFitKeys, EachHasFitKeys, ContentHasFitKeys, MarkIsFit, HaveFitKeys, HasShortRoot}
 use Rattle.yq_tree.specs.Reading.{is_fit, has_fit_key, has_fit_keys, each_has_fit_keys, content_is_fit, mark_is_fit, have_fit_keys, has_short_root}
-use Rattle.yq_tree.proofs.KeyLaws.{differ, differs}
+use Rattle.yq_lines.proofs.KeyLaws.{differ, differs}
 
 not_is : (b : Bool) → not b ≡ true → b ≡ false
 not_is false e = refl

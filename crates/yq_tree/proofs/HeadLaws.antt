@@ -34,7 +34,7 @@ use Rattle.yq_tree.specs.Lines.{head_of}
 use Rattle.yq_tree.specs.Reading.{has_fit_keys, content_is_fit}
 use Rattle.yq_tree.specs.RowReading.{placed_head, is_short_plain, begins_block, block_head_at, fit_head, node_head_at, head_at}
 use Rattle.yq_tree.proofs.FlowKeyLaws.{keys_there}
-use Rattle.yq_tree.proofs.OneLine.{one_line}
+use Rattle.yq_lines.proofs.OneLine.{one_line}
 
 -- an inline node that is read is its head
 holder_head : (s c e k : ℕ) (parts : Parts) → placed_head (placed None s c e (holder k parts)) ≡ Some (placed_tree (placed None s c e (holder k parts)))

@@ -11,7 +11,7 @@ use Rattle.yq_rows.specs.View.{Shown}
 use Rattle.yq_tree.specs.Documents.{parts_from, document_parts, begins_bare, has_begin}
 use Rattle.yq_tree.specs.EntryReading.{HasFlows}
 use Rattle.yq_tree.specs.FlowReading.{row_flow, rows_flows, cut_flows, lines_flows}
-use Rattle.yq_tree.specs.View.{flows}
+use Rattle.yq_lines.specs.View.{flows}
 use Rattle.yq_tree.specs.Reading.{cut_of}
 use Rattle.yq_tree.specs.Seats.{Seat, behind_one, seat, rows_before, document_row}
 use Rattle.yq_tree.specs.SoundReading.{Holds}

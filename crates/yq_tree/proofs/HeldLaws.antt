@@ -8,9 +8,9 @@ use Rattle.yq_rows.specs.Rows.{Part}
 use Rattle.yq_rows.specs.View.{Shown, rows_of}
 use Rattle.yq_tree.specs.Documents.{document_parts}
 use Rattle.yq_tree.specs.Extents.{IsShown, scalar_span, written_in}
-use Rattle.yq_tree.specs.Group.{group, is_fine}
+use Rattle.yq_lines.specs.Group.{group, is_fine}
 use Rattle.yq_tree.specs.Lines.{lines_of}
-use Rattle.yq_tree.specs.View.{views}
+use Rattle.yq_lines.specs.View.{views}
 use Rattle.yq_tree.specs.PartReading.{Lined, lined, document_view}
 use Rattle.yq_tree.specs.Reading.{document_of, is_document, documents, cut_of}
 use Rattle.yq_tree.specs.ScalarPlaces.{empty_in, empty_at, alone_in, alone_at}

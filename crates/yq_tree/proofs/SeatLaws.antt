@@ -5,7 +5,7 @@ use Rattle.std.proofs.lemmas.List.{drop-map}
 use Rattle.std.specs.List.{slice_get}
 use Rattle.yq_scalar.specs.Answers.{◌>>=◌}
 use Rattle.yq_scalar.specs.Paths.{Step}
-use Rattle.yq_rows.specs.Comments as comments
+use Rattle.yq_lines.specs.Comments as comments
 use Rattle.yq_rows.specs.Grammar.{begins_document, IsCut}
 use Rattle.yq_rows.specs.Rows as rows
 use Rattle.yq_rows.specs.Rows.{Content, Row, Part, Cut, last, marked}
@@ -14,15 +14,15 @@ use Rattle.yq_tree.specs.declared.path.Part.{Part as Place}
 use Rattle.yq_tree.specs.Documents.{parts_from, document_parts, begins_bare, has_begin}
 use Rattle.yq_tree.specs.Extents.{lines_before_mark}
 use Rattle.yq_tree.specs.Lines.{lines_from, row_lines, lines_of}
-use Rattle.yq_tree.specs.Outline.{Line}
+use Rattle.yq_lines.specs.Outline.{Line}
 use Rattle.yq_tree.specs.PartReading.{Lined, lined, document_view, some_begin, first_rows}
 use Rattle.yq_tree.specs.Reading.{cut_of}
-use Rattle.yq_tree.specs.Ends.{line_of}
+use Rattle.yq_lines.specs.Ends.{line_of}
 use Rattle.yq_tree.specs.SeatReading.{begin_row, Numbers, behind, slices_seat, numbers}
 use Rattle.yq_tree.specs.Seats.{Seat, behind_one, seat, seat_of, rows_before, document_row, line_has_room, seat_has_room}
 use Rattle.yq_tree.specs.SoundReading.{Holds}
 use Rattle.yq_tree.proofs.CountLaws.{AreCounted, cut_counted}
-use Rattle.yq_tree.proofs.Parts.{drop_at}
+use Rattle.yq_lines.proofs.Parts.{drop_at}
 use Rattle.yq_tree.proofs.PartsLinedLaws.{document_is}
 use Rattle.yq_tree.specs.declared.checks.DocumentLines.{DocumentLines}
 

@@ -12,12 +12,12 @@ use Rattle.yq_tree.specs.Lines.{lines_of}
 use Rattle.yq_tree.specs.Located.{steps_of}
 use Rattle.yq_tree.specs.Passages.{Passage, passage_span}
 use Rattle.yq_tree.specs.Reading.{cut_of}
-use Rattle.yq_tree.specs.Ends.{line_of}
+use Rattle.yq_lines.specs.Ends.{line_of}
 use Rattle.yq_tree.specs.SeatReading.{Numbers, numbers}
 use Rattle.yq_tree.specs.Seats.{Seat, behind_one, seat, seat_of, seat_at, document_row}
 use Rattle.yq_tree.specs.SoundReading.{Holds}
 use Rattle.yq_tree.proofs.SeatLaws.{part_begins}
-use Rattle.yq_tree.proofs.Values.{If}
+use Rattle.yq_lines.proofs.Values.{If}
 use Rattle.yq_tree.specs.declared.checks.DocumentLines.{DocumentLines}
 
 -- the row of a line

@@ -3,15 +3,15 @@ use Rattle.std.specs.Prelude.{◌≡◌, ℕ, ◌-◌, List, length, Option, Som
 use Rattle.yq_scalar.specs.Tree.{Children, none, child}
 use Rattle.yq_inline.specs.Trees.{parts_tree}
 use Rattle.yq_inline.specs.View.{entries_end, items_end}
-use Rattle.yq_tree.specs.declared.body.Under.{Under}
+use Rattle.yq_lines.specs.declared.body.Under.{Under}
 use Rattle.yq_tree.specs.declared.children.Children as declared
 use Rattle.yq_tree.specs.declared.children.Rest as rests
 use Rattle.yq_tree.specs.declared.node.Node.{Node}
 use Rattle.yq_tree.specs.Nodes.{node_of, label_of}
-use Rattle.yq_tree.specs.View.{views}
-use Rattle.yq_tree.specs.Bodies.{under_of}
-use Rattle.yq_tree.specs.Outline as outline
-use Rattle.yq_tree.specs.Outline.{Line}
+use Rattle.yq_lines.specs.View.{views}
+use Rattle.yq_lines.specs.Bodies.{under_of}
+use Rattle.yq_lines.specs.Outline as outline
+use Rattle.yq_lines.specs.Outline.{Line}
 
 -- those of lines (own)
 abbrev pub lines_rest : Under → rests.Rest

@@ -16,9 +16,9 @@ use Rattle.yq_tree.specs.Extents.{head_place}
 use Rattle.yq_tree.specs.Lines.{tail_of, lines_of}
 use Rattle.yq_tree.specs.Located.{steps_of}
 use Rattle.yq_tree.specs.Passages.{before_row}
-use Rattle.yq_tree.specs.Ends.{reached, lines_end}
+use Rattle.yq_lines.specs.Ends.{reached, lines_end}
 use Rattle.yq_tree.specs.Seats.{seat, document_row}
-use Rattle.yq_tree.specs.Spots.{is_bare}
+use Rattle.yq_lines.specs.Spots.{is_bare}
 
 -- the text of a cut before line k of row i: before its dash, its key or the node itself (8.2.1, 8.2.2)
 abbrev pub before_line : ℕ → ℕ → Row → Cut → List ℕ

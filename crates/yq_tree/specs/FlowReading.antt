@@ -14,7 +14,7 @@ use Rattle.yq_tree.specs.Documents.{begins_bare, has_begin}
 use Rattle.yq_tree.specs.Lines.{tail_of}
 use Rattle.yq_tree.specs.PartReading.{Marked, parts_text}
 use Rattle.yq_tree.specs.RowReading.{begins_block, is_short_plain}
-use Rattle.yq_tree.specs.View.{flows}
+use Rattle.yq_lines.specs.View.{flows}
 use Rattle.yq_tree.specs.declared.checks.DocumentLines.{DocumentLines}
 
 -- a node by its content, if it is an alias or a flow collection (own)

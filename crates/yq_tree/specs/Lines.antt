@@ -5,10 +5,10 @@ use Rattle.yq_scalar.specs.BlockContent.{block_content}
 use Rattle.yq_scalar.specs.Tree as tree
 use Rattle.yq_inline.specs.Scalars.{content_of}
 use Rattle.yq_inline.specs.Trees.{node_anchor, node_head}
-use Rattle.yq_rows.specs.Comments as comments
+use Rattle.yq_lines.specs.Comments as comments
 use Rattle.yq_rows.specs.Rows as rows
 use Rattle.yq_rows.specs.Rows.{Content, Nothing, Inline, Block, Row}
-use Rattle.yq_tree.specs.Outline.{Mark, Bare, Key, Dash, Line}
+use Rattle.yq_lines.specs.Outline.{Mark, Bare, Key, Dash, Line}
 
 -- the name of the anchor before a block scalar, if there is one (YAML 1.2.2, section 6.9.2)
 abbrev pub block_anchor : Option rows.Anchor → Option (List ℕ)

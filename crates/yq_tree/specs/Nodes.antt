@@ -6,10 +6,10 @@ use Rattle.yq_tree.specs.declared.node.Node as declared
 use Rattle.yq_tree.specs.declared.node.NodeKind.{NodeKind}
 use Rattle.yq_tree.specs.declared.node.NodeKind.TheVariants as kinds
 use Rattle.yq_tree.specs.declared.node.Slot as slots
-use Rattle.yq_tree.specs.Bodies.{lent, named_node}
-use Rattle.yq_tree.specs.Labelled.{Labelled}
-use Rattle.yq_tree.specs.Outline as outline
-use Rattle.yq_tree.specs.View.{view, views}
+use Rattle.yq_lines.specs.Bodies.{lent, named_node}
+use Rattle.yq_lines.specs.Labelled.{Labelled}
+use Rattle.yq_lines.specs.Outline as outline
+use Rattle.yq_lines.specs.View.{view, views}
 
 -- the node that one of the code stands for (own)
 abbrev pub node_of : declared.Node → Node

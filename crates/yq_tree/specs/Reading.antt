@@ -11,13 +11,13 @@ use Rattle.yq_rows.specs.Grammar.{key_limit}
 use Rattle.yq_rows.specs.Reading.{scan_at}
 use Rattle.yq_rows.specs.Rows as rows
 use Rattle.yq_rows.specs.Rows.{Content, Nothing, Inline, Block, Row, Part, Cut, last}
-use Rattle.yq_tree.specs.Anchors.{names_of}
+use Rattle.yq_lines.specs.Anchors.{names_of}
 use Rattle.yq_tree.specs.Documents.{Document, document_parts, lead_of, is_long_plain}
-use Rattle.yq_tree.specs.Group.{group}
+use Rattle.yq_lines.specs.Group.{group}
 use Rattle.yq_tree.specs.Lines.{lines_of}
-use Rattle.yq_tree.specs.LinesReading.{have_one_anchor_each, are_bound}
-use Rattle.yq_tree.specs.Outline.{Outline, value}
-use Rattle.yq_tree.specs.Sound.{is_sound}
+use Rattle.yq_lines.specs.LinesReading.{have_one_anchor_each, are_bound}
+use Rattle.yq_lines.specs.Outline.{Outline, value}
+use Rattle.yq_lines.specs.Sound.{is_sound}
 
 -- the outline of a part
 abbrev pub outline_of : Part → Outline

@@ -15,9 +15,9 @@ use Rattle.yq_rows.specs.Rows as rows
 use Rattle.yq_rows.specs.Rows.{Content, Nothing, Inline, Block, Row, parent_indent, Cut, cut_text}
 use Rattle.yq_rows.specs.View.{rows_of}
 use Rattle.yq_tree.specs.Documents.{Document}
-use Rattle.yq_tree.specs.Ends.{line_of, is_leaf}
+use Rattle.yq_lines.specs.Ends.{line_of, is_leaf}
 use Rattle.yq_tree.specs.Lines.{anchor_of, head_of, tail_of, lines_of}
-use Rattle.yq_tree.specs.Outline.{anchored, head_or, null}
+use Rattle.yq_lines.specs.Outline.{anchored, head_or, null}
 use Rattle.yq_tree.specs.Reading.{documents, read_at}
 
 -- the row whose last line is this one, by their indexes; a row has a line for each dash before its mark, and one for the mark

@@ -4,8 +4,8 @@ use Rattle.yq_rows.specs.Grammar.{IsCut}
 use Rattle.yq_rows.specs.View.{Shown, shown}
 use Rattle.yq_tree.specs.Documents.{document_parts}
 use Rattle.yq_tree.specs.FlowReading.{document_flows, lines_flows}
-use Rattle.yq_tree.specs.LinesReading.{lines_are_sound}
-use Rattle.yq_tree.specs.Names.{HaveHeadsApart}
+use Rattle.yq_lines.specs.LinesReading.{lines_are_sound}
+use Rattle.yq_lines.specs.Names.{HaveHeadsApart}
 use Rattle.yq_tree.specs.PartReading.{Lined, document_view, all_lined}
 use Rattle.yq_tree.specs.Reading.{all_documents, cut_of}
 use Rattle.yq_tree.specs.declared.checks.DocumentLines.{DocumentLines}

@@ -5,19 +5,19 @@ ghost use Rattle.yq_rows.specs.Grammar.{IsCut};
 ghost use Rattle.yq_rows.specs.Rows.{Cut};
 ghost use Rattle.yq_rows.specs.View.{rows_of, shown, view};
 ghost use Rattle.yq_tree.specs.Extents.{IsShown, begins_entry, is_scalar_head, scalar_span, span};
-ghost use Rattle.yq_tree.specs.Group.{group, is_fine};
+ghost use Rattle.yq_lines.specs.Group.{group, is_fine};
 ghost use Rattle.yq_tree.specs.Lines.{lines_of};
-ghost use Rattle.yq_tree.specs.View.{views};
+ghost use Rattle.yq_lines.specs.View.{views};
 ghost use Rattle.yq_tree.specs.Reading.{cut_of};
 ghost use Rattle.yq_tree.specs.ScalarPlaces as spec;
 ghost use Rattle.yq_tree.specs.Told.{told, telling};
 
 use crate::document::Documents;
 use crate::extent::{head_place, is_entry, is_scalar, line_row};
-use crate::lined::Lined;
 use crate::path::Span;
 use crate::written::Written;
 use yq_inline::Step;
+use yq_lines::Lined;
 use yq_rows::{Row, Rows};
 
 /// Whether a row is a scalar with neither key nor dash.

@@ -2,16 +2,15 @@
 ghost use Rattle.std.specs.Prelude.{◌≡◌, IfOk, Some};
 ghost use Rattle.yq_scalar.specs.Answers.{Gives};
 ghost use Rattle.yq_tree.specs.FlowReading as flow;
-ghost use Rattle.yq_tree.specs.Names.{HaveHeadsApart};
+ghost use Rattle.yq_lines.specs.Names.{HaveHeadsApart};
 ghost use Rattle.yq_tree.specs.PartReading.{document_view, lined_view, lined_views};
 ghost use Rattle.yq_tree.specs.SoundReading as spec;
-ghost use Rattle.yq_tree.specs.View.{views, flows};
+ghost use Rattle.yq_lines.specs.View.{views, flows};
 
 use crate::fault::line_fault;
-use crate::lined::Lined;
-use crate::lines_fault::lines_fault;
 use crate::part_lines::PartLines;
 use std::alloc::Global;
+use yq_lines::{Lined, lines_fault};
 use yq_rows::Rows;
 use yq_scalar::ReadError;
 

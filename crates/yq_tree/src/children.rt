@@ -6,13 +6,11 @@ ghost use Rattle.yq_inline.specs.View as inline;
 ghost use Rattle.yq_scalar.specs.Tree.{none, children_of};
 ghost use Rattle.yq_tree.specs.Children as spec;
 ghost use Rattle.yq_tree.specs.Nodes.{node_of};
-ghost use Rattle.yq_tree.specs.View.{views};
+ghost use Rattle.yq_lines.specs.View.{views};
 
-use crate::body::{Body, Under};
-use crate::ends::is_deeper;
-use crate::lined::Lined;
 use crate::node::Node;
 use yq_inline::{Form, Inline};
+use yq_lines::{Body, Lined, Under, is_deeper};
 use yq_scalar::Piece;
 
 /// What is left of the items or entries of a node.
@@ -44,7 +42,7 @@ fn no_rest<'d, 't>(document: &'d Lined<'t>) -> Rest<'d, 't>
 }
 
 /// The items or entries of a node in a line's head or in a flow collection.
-#[tactic(auto, using(crate::proofs::ChildLaws::inline_children))]
+#[tactic(auto, using(yq_lines::proofs::ChildLaws::inline_children))]
 fn inline_rest<'d, 't>(document: &'d Lined<'t>, node: &'d Inline<'t>) -> Rest<'d, 't>
     ensures { spec.rest_of (views document.now) result ≡ children_of (placed_tree (inline.view node.now)) }
 {
@@ -59,7 +57,7 @@ fn inline_rest<'d, 't>(document: &'d Lined<'t>, node: &'d Inline<'t>) -> Rest<'d
 
 impl<'d, 't> Node<'d, 't> {
     /// Its items or entries.
-    #[tactic(auto, using(crate::proofs::ChildLaws::anchored_children))]
+    #[tactic(auto, using(yq_lines::proofs::ChildLaws::anchored_children))]
     pub(crate) fn rest(&self) -> Rest<'d, 't>
         ensures { spec.rest_of (views self.now.document.now) result ≡ children_of (node_of self.now) }
     {

@@ -7,16 +7,17 @@ ghost use Rattle.yq_rows.specs.View.{rows_of, shown};
 ghost use Rattle.yq_tree.specs.EntryPlaces as spec;
 ghost use Rattle.yq_tree.specs.EntryReading.{HasFlows};
 ghost use Rattle.yq_tree.specs.Extents.{IsShown, span};
-ghost use Rattle.yq_tree.specs.View.{flows, views};
+ghost use Rattle.yq_lines.specs.View.{flows, views};
 ghost use Rattle.yq_tree.specs.Lines.{lines_of};
 ghost use Rattle.yq_tree.specs.Reading.{cut_of};
 
 use crate::document::Documents;
 use crate::entry_place::{line_seat, lines_place};
-use crate::lined::Lined;
+use crate::flow_place::flow_content;
 use crate::path::{Path, Span};
 use crate::row_place::head_extent;
 use yq_inline::Step;
+use yq_lines::Lined;
 use yq_rows::Rows;
 
 /// The place of the head of a line of a document.
@@ -77,7 +78,7 @@ fn content_of(rows: &Rows<'_>, first: usize, lines: &Lined<'_>, steps: &[Step]) 
     if left.is_empty() {
         line_content(rows, first, lines, line)
     } else {
-        lines.flow_content(line, left)
+        flow_content(lines, line, left)
     }
 }
 

@@ -2,14 +2,13 @@
 ghost use Rattle.std.specs.Prelude.{◌≡◌};
 ghost use Rattle.yq_scalar.specs.Tree.{children_of};
 ghost use Rattle.yq_tree.specs.Children.{lines_rest, rest_of};
-ghost use Rattle.yq_tree.specs.Counts as spec;
+ghost use Rattle.yq_lines.specs.Counts as spec;
 ghost use Rattle.yq_tree.specs.Nodes.{node_of};
-ghost use Rattle.yq_tree.specs.View.{views};
+ghost use Rattle.yq_lines.specs.View.{views};
 
-use crate::body::Under;
 use crate::children::{Rest, next_line};
-use crate::lined::Lined;
 use crate::node::Node;
+use yq_lines::{Lined, Under};
 
 /// How many items or entries these lines begin.
 fn count_lines(document: &Lined<'_>, under: Under) -> usize

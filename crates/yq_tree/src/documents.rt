@@ -8,7 +8,7 @@ ghost use Rattle.yq_rows.specs.View.{shown};
 ghost use Rattle.yq_tree.specs.Documents.{document_parts};
 ghost use Rattle.yq_tree.specs.FlowReading as flow;
 ghost use Rattle.yq_tree.specs.PartReading as spec;
-ghost use Rattle.yq_tree.specs.View.{flows};
+ghost use Rattle.yq_lines.specs.View.{flows};
 
 use crate::part_lines::{PartLines, lined_part};
 use std::alloc::{AllocError, Global};

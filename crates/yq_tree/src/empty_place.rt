@@ -6,17 +6,17 @@ ghost use Rattle.yq_rows.specs.Grammar.{IsCut};
 ghost use Rattle.yq_rows.specs.Rows.{Cut};
 ghost use Rattle.yq_rows.specs.View.{rows_of, shown, view};
 ghost use Rattle.yq_tree.specs.Extents.{IsShown, begins_entry};
-ghost use Rattle.yq_tree.specs.Group.{group, is_fine};
+ghost use Rattle.yq_lines.specs.Group.{group, is_fine};
 ghost use Rattle.yq_tree.specs.Lines.{lines_of};
-ghost use Rattle.yq_tree.specs.View.{views};
+ghost use Rattle.yq_lines.specs.View.{views};
 ghost use Rattle.yq_tree.specs.Reading.{cut_of};
 ghost use Rattle.yq_tree.specs.ScalarPlaces as spec;
 ghost use Rattle.yq_tree.specs.Told.{place_start};
 
 use crate::document::Documents;
 use crate::extent::{head_place, is_entry, line_row};
-use crate::lined::Lined;
 use yq_inline::Step;
+use yq_lines::Lined;
 use yq_rows::{Row, Rows};
 
 /// Whether a row is that of a key or dash, and has no head.

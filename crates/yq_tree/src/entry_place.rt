@@ -7,18 +7,19 @@ ghost use Rattle.yq_rows.specs.View.{rows_of, shown};
 ghost use Rattle.yq_tree.specs.EntryPlaces as spec;
 ghost use Rattle.yq_tree.specs.EntryReading.{HasFlows};
 ghost use Rattle.yq_tree.specs.Extents.{IsShown, span};
-ghost use Rattle.yq_tree.specs.View.{flows, views};
+ghost use Rattle.yq_lines.specs.View.{flows, views};
 ghost use Rattle.yq_tree.specs.Lines.{lines_of};
 ghost use Rattle.yq_tree.specs.Reading.{cut_of};
 ghost use Rattle.yq_tree.specs.SeatReading as reading;
 ghost use Rattle.yq_tree.specs.Seats as seats;
 
 use crate::document::Documents;
-use crate::lined::Lined;
+use crate::flow_place::flow_entry;
 use crate::path::{Path, Span};
 use crate::row_place::{line_start, row_end};
 use crate::seat::{Seat, find_seat};
 use yq_inline::Step;
+use yq_lines::Lined;
 use yq_rows::Rows;
 
 /// A line of a document, by its number and by how many rows stand before the document.
@@ -60,7 +61,7 @@ fn entry_of(rows: &Rows<'_>, first: usize, lines: &Lined<'_>, steps: &[Step]) ->
     if left.is_empty() {
         line_entry(rows, first, lines, line)
     } else {
-        lines.flow_entry(line, left)
+        flow_entry(lines, line, left)
     }
 }
 

@@ -5,14 +5,13 @@ ghost use Rattle.yq_inline.specs.View.{view as node_view};
 ghost use Rattle.yq_tree.specs.FlowReading as flow;
 ghost use Rattle.yq_tree.specs.KeyReading.{EndsIn};
 ghost use Rattle.yq_tree.specs.RowReading as spec;
-ghost use Rattle.yq_tree.specs.View.{head_view, head_flow};
+ghost use Rattle.yq_lines.specs.View.{head_view, head_flow};
 
-use crate::content::plain_head;
 use crate::flow_keys::keys_fault;
-use crate::line::{Content, Head};
 use std::alloc::{AllocError, Global};
 use yq_inline::pieces::{first_is, is_quoted};
 use yq_inline::{Form, Inline, read_inline};
+use yq_lines::{Content, Head, plain_head};
 use yq_scalar::plain::holds_break;
 use yq_scalar::{Kind, Place, ReadError, ReadFault, content, read_block};
 

@@ -2,19 +2,17 @@
 ghost use Rattle.std.specs.Prelude.{◌≡◌, ◌<◌, length, slice_get, Some};
 ghost use Rattle.yq_inline.specs.Trees.{inner, placed_tree};
 ghost use Rattle.yq_inline.specs.View as inline;
-ghost use Rattle.yq_tree.specs.Group.{group};
+ghost use Rattle.yq_lines.specs.Group.{group};
 ghost use Rattle.yq_tree.specs.Nodes as spec;
-ghost use Rattle.yq_tree.specs.Outline as outline;
-ghost use Rattle.yq_tree.specs.Outline.{anchored, label, value};
-ghost use Rattle.yq_tree.specs.Places.{content};
-ghost use Rattle.yq_tree.specs.View.{mark_view, views};
-ghost use Rattle.yq_tree.specs.Bodies.{lent, lines_under};
+ghost use Rattle.yq_lines.specs.Outline as outline;
+ghost use Rattle.yq_lines.specs.Outline.{anchored, label, value};
+ghost use Rattle.yq_lines.specs.Places.{content};
+ghost use Rattle.yq_lines.specs.View.{mark_view, views};
+ghost use Rattle.yq_lines.specs.Bodies.{lent, lines_under};
 
-use crate::body::{Body, Named, Under, line_node, lines_node};
 use crate::flow::{inline_anchor, inline_kind, inline_text};
-use crate::line::{Line, Mark};
-use crate::lined::Lined;
 use yq_inline::Inline;
+use yq_lines::{Body, Line, Lined, Mark, Named, Under, line_node, lines_node};
 use yq_scalar::Kind;
 
 /// What a node is.
@@ -62,7 +60,7 @@ fn line_key<'d>(line: &'d Line<'_>) -> Option<&'d str>
 
 impl<'d, 't> Node<'d, 't> {
     /// The root of a document.
-    #[tactic(auto, using(crate::proofs::NodeLaws::all_value))]
+    #[tactic(auto, using(yq_lines::proofs::NodeLaws::all_value))]
     pub(crate) fn root(document: &'d Lined<'t>) -> Node<'d, 't>
         ensures node { spec.node_of result ≡ value (group (views document.now)) }
         ensures label { spec.label_of result ≡ spec.unlabelled }
@@ -89,7 +87,7 @@ impl<'d, 't> Node<'d, 't> {
     }
 
     /// A node of a flow collection, behind its key, if it has one.
-    #[tactic(auto, using(crate::proofs::NodeLaws::anchored_none))]
+    #[tactic(auto, using(yq_lines::proofs::NodeLaws::anchored_none))]
     pub(crate) fn of_inline(
         document: &'d Lined<'t>,
         key: Option<&'d str>,
@@ -110,7 +108,7 @@ impl<'d, 't> Node<'d, 't> {
     }
 
     /// What the node is.
-    #[tactic(auto, using(crate::proofs::NodeLaws::kind_anchored))]
+    #[tactic(auto, using(crate::proofs::KindLaws::kind_anchored))]
     pub fn kind(&self) -> NodeKind
         ensures { result ≡ spec.kind_of (spec.node_of self.now) }
     {
@@ -124,7 +122,7 @@ impl<'d, 't> Node<'d, 't> {
     }
 
     /// The text of a scalar, or the name of an alias; that of a sequence or mapping is empty.
-    #[tactic(auto, using(crate::proofs::NodeLaws::text_anchored))]
+    #[tactic(auto, using(crate::proofs::KindLaws::text_anchored))]
     pub fn text(&self) -> &'d str
         ensures { result.now ≡ spec.text_of (spec.node_of self.now) }
     {
@@ -138,7 +136,7 @@ impl<'d, 't> Node<'d, 't> {
     }
 
     /// The name of the anchor before it.
-    #[tactic(auto, using(crate::proofs::NodeLaws::first_none))]
+    #[tactic(auto, using(yq_lines::proofs::NodeLaws::first_none))]
     pub fn anchor(&self) -> Option<&'t str>
         ensures { lent result ≡ spec.anchor_of (spec.node_of self.now) }
     {

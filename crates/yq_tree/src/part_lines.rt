@@ -1,20 +1,20 @@
 //! The lines of the rows of a part.
 ghost use Rattle.std.specs.Prelude.{◌<◌, ◌≤◌, ◌-◌, ◌^◌, ◌++◌, length, drop, IfOk, ◌≡◌};
-ghost use Rattle.yq_rows.specs.Comments.{head_comment};
+ghost use Rattle.yq_lines.specs.Comments.{head_comment};
 ghost use Rattle.yq_rows.specs.View.{bound_view};
 ghost use Rattle.yq_tree.specs.Documents.{lead_of};
 ghost use Rattle.yq_tree.specs.FlowReading as flow;
 ghost use Rattle.yq_scalar.specs.Answers.{Gives};
 ghost use Rattle.yq_tree.specs.KeyReading.{EndsIn};
 ghost use Rattle.yq_tree.specs.PartReading as spec;
-ghost use Rattle.yq_tree.specs.View.{views, flows};
+ghost use Rattle.yq_lines.specs.View.{views, flows};
 
 use crate::fault::fault_behind;
 use crate::fit::has_short_root;
 use crate::front::behind;
-use crate::line::Line;
 use crate::row_lines::row_lines;
 use std::alloc::Global;
+use yq_lines::Line;
 use yq_rows::{Bound, Rows};
 use yq_scalar::{FaultKind, ReadError};
 

@@ -7,14 +7,14 @@ ghost use Rattle.yq_rows.specs.View.{view as row_view};
 ghost use Rattle.yq_tree.specs.FlowReading as flow;
 ghost use Rattle.yq_tree.specs.KeyReading.{EndsIn};
 ghost use Rattle.yq_tree.specs.RowReading as spec;
-ghost use Rattle.yq_tree.specs.View.{view, views, flows, head_flow};
+ghost use Rattle.yq_lines.specs.View.{view, views, flows, head_flow};
 
 use crate::fault::fault_behind;
 use crate::fit::key_fits;
 use crate::front::{Front, anchor_name, at_head, behind_row, push_dashes, read_mark};
 use crate::head::read_head;
-use crate::line::Line;
 use std::alloc::Global;
+use yq_lines::Line;
 use yq_rows::Row;
 use yq_scalar::{FaultKind, ReadError};
 

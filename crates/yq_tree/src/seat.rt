@@ -6,7 +6,7 @@ ghost use Rattle.yq_rows.specs.Rows.{Cut, Part, Row as RowOf};
 ghost use Rattle.yq_rows.specs.View.{rows_of, shown};
 ghost use Rattle.yq_tree.specs.EntryReading as reading;
 ghost use Rattle.yq_tree.specs.Lines.{lines_of};
-ghost use Rattle.yq_tree.specs.View.{views};
+ghost use Rattle.yq_lines.specs.View.{views};
 ghost use Rattle.yq_tree.specs.Reading.{cut_of};
 ghost use Rattle.yq_tree.specs.SeatReading as spec;
 ghost use Rattle.yq_tree.specs.Seats.{document_row, seat_at, seat_of};
@@ -14,9 +14,9 @@ ghost use Rattle.yq_tree.specs.Seats.{document_row, seat_at, seat_of};
 use crate::document::Documents;
 use crate::documents::{begins_document, first_is_document};
 use crate::extent::lines_before_mark;
-use crate::lined::Lined;
 use crate::path::Path;
 use yq_inline::Step;
+use yq_lines::Lined;
 use yq_rows::Rows;
 
 /// A line of a row.

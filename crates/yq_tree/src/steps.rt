@@ -4,19 +4,17 @@ ghost use Rattle.yq_inline.specs.Entries.{step_of};
 ghost use Rattle.yq_scalar.specs.Paths.{To, Nth, child_at, node_at};
 ghost use Rattle.yq_scalar.specs.Tree.{children_of};
 ghost use Rattle.yq_tree.specs.Children.{rest_of};
-ghost use Rattle.yq_tree.specs.Labelled.{labelled_at, labelled_from};
+ghost use Rattle.yq_lines.specs.Labelled.{labelled_at, labelled_from};
 ghost use Rattle.yq_tree.specs.Nodes.{labelled_of, node_of};
-ghost use Rattle.yq_tree.specs.View.{views};
-ghost use Rattle.yq_tree.specs.Bodies.{under_of};
-ghost use Rattle.yq_tree.specs.Outline.{children};
+ghost use Rattle.yq_lines.specs.View.{views};
+ghost use Rattle.yq_lines.specs.Bodies.{under_of};
+ghost use Rattle.yq_lines.specs.Outline.{children};
 
-use crate::body::Under;
 use crate::children::Rest;
-use crate::find::{find_item, find_key};
 use crate::flow::{entry_at, item_at};
-use crate::lined::Lined;
 use crate::node::Node;
 use yq_inline::Step;
+use yq_lines::{Lined, Under, find_item, find_key};
 
 /// The entry of a key among those of lines.
 fn line_entry<'d, 't>(document: &'d Lined<'t>, under: Under, key: &str) -> Option<Node<'d, 't>>

@@ -6,15 +6,15 @@ ghost use Rattle.yq_rows.specs.Rows.{Cut};
 ghost use Rattle.yq_rows.specs.View.{rows_of, shown};
 ghost use Rattle.yq_tree.specs.Extents.{IsShown, scalar_span, span, written_in};
 ghost use Rattle.yq_tree.specs.Lines.{lines_of};
-ghost use Rattle.yq_tree.specs.View.{views};
+ghost use Rattle.yq_lines.specs.View.{views};
 ghost use Rattle.yq_tree.specs.Reading.{cut_of};
 ghost use Rattle.yq_tree.specs.Written.{written_at};
 
 use crate::document::Documents;
 use crate::extent::{line_row, scalar_place};
-use crate::lined::Lined;
 use crate::path::Span;
 use yq_inline::Step;
+use yq_lines::Lined;
 use yq_rows::Rows;
 
 /// The place of the scalar that is written behind the key or dash to which steps lead, among the

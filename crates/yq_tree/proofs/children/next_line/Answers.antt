@@ -1,11 +1,11 @@
 use Rattle.std.proofs.Common.{◌∙◌, refl, sym, arith}
 use Rattle.std.specs.List.{slice_index}
 use Rattle.yq_scalar.specs.Tree.{child}
-use Rattle.yq_tree.specs.Ends.{part}
-use Rattle.yq_tree.specs.Outline.{children}
-use Rattle.yq_tree.specs.View.{views}
-use Rattle.yq_tree.proofs.ChildLaws.{first_child}
-use Rattle.yq_tree.proofs.EndsLaws.{has_line, views-length}
+use Rattle.yq_lines.specs.Ends.{part}
+use Rattle.yq_lines.specs.Outline.{children}
+use Rattle.yq_lines.specs.View.{views}
+use Rattle.yq_lines.proofs.ChildLaws.{first_child}
+use Rattle.yq_lines.proofs.EndsLaws.{has_line, views-length}
 use Rattle.yq_tree.proofs.children.next_line.Goals as goal
 
 pub returns-clause-gives : goal.returns-clause-gives

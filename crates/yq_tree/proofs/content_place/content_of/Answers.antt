@@ -1,8 +1,8 @@
 use Rattle.std.proofs.Common.{eqb, map, sym, ap, ◌∙◌}
 use Rattle.std.proofs.lemmas.List.{length-map}
 use Rattle.yq_inline.specs.Entries.{step_of}
-use Rattle.yq_tree.specs.View.{flows}
-use Rattle.yq_tree.specs.Ends.{reached}
+use Rattle.yq_lines.specs.View.{flows}
+use Rattle.yq_lines.specs.Ends.{reached}
 use Rattle.yq_tree.proofs.EntryPlaceLaws.{content_left}
 use Rattle.yq_tree.proofs.content_place.content_of.Goals as goal
 

@@ -1,7 +1,7 @@
 use Rattle.std.proofs.Common.{◌≡◌, ◌+◌, ◌-◌, ◌≤◌, length}
 use Rattle.yq_tree.specs.Children.{lines_rest, rest_of}
-use Rattle.yq_tree.specs.Counts as spec
-use Rattle.yq_tree.specs.View.{views}
+use Rattle.yq_lines.specs.Counts as spec
+use Rattle.yq_lines.specs.View.{views}
 use Rattle.yq_tree.proofs.count.count_lines.Given as goal
 
 -- what is counted, and what is left, are all; each that is counted has a line of its own

@@ -2,7 +2,7 @@ use Rattle.std.proofs.Common.{map, not, ap, ◌∙◌}
 use Rattle.yq_inline.specs.Entries.{step_of}
 use Rattle.yq_rows.specs.View.{rows_of}
 use Rattle.yq_tree.specs.Lines.{lines_of}
-use Rattle.yq_tree.specs.View.{views}
+use Rattle.yq_lines.specs.View.{views}
 use Rattle.yq_tree.proofs.EmptySpans.{no_leaf, at_row}
 use Rattle.yq_tree.proofs.LeafLaws.{leaf_told}
 use Rattle.yq_tree.proofs.empty_place.empty_in.Goals as goal

@@ -1,6 +1,6 @@
 use Rattle.std.proofs.Common.{◌<◌, map, length, ap, arith}
 use Rattle.yq_inline.specs.Entries.{step_of}
-use Rattle.yq_tree.specs.View.{views}
+use Rattle.yq_lines.specs.View.{views}
 use Rattle.yq_tree.proofs.SeatLaws.{seat_told, line_told, no_line_told}
 use Rattle.yq_tree.proofs.seat.seat_in.Goals as goal
 

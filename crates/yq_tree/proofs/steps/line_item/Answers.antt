@@ -1,10 +1,10 @@
 use Rattle.std.proofs.Common.{None, sym, arith}
 use Rattle.yq_scalar.specs.Paths.{Nth}
-use Rattle.yq_tree.specs.Ends.{part}
+use Rattle.yq_lines.specs.Ends.{part}
 use Rattle.yq_tree.specs.Nodes.{label_of, node_of}
-use Rattle.yq_tree.specs.View.{views}
-use Rattle.yq_tree.proofs.ChildLaws.{child_spot, child_found}
-use Rattle.yq_tree.proofs.EndsLaws.{has_line, views-length}
+use Rattle.yq_lines.specs.View.{views}
+use Rattle.yq_lines.proofs.ChildLaws.{child_spot, child_found}
+use Rattle.yq_lines.proofs.EndsLaws.{has_line, views-length}
 use Rattle.yq_tree.proofs.steps.line_item.Goals as goal
 
 pub returns-in_err-at : goal.returns-in_err-at

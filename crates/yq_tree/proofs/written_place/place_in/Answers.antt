@@ -1,6 +1,6 @@
 use Rattle.std.proofs.Common.{map}
 use Rattle.yq_inline.specs.Entries.{step_of}
-use Rattle.yq_tree.specs.View.{views}
+use Rattle.yq_lines.specs.View.{views}
 use Rattle.yq_tree.proofs.SpanLaws.{at_row}
 use Rattle.yq_tree.proofs.written_place.place_in.Goals as goal
 
