@@ -6,7 +6,7 @@ use Rattle.std.proofs.lemmas.Bool.{not-true, false≢true, false_from_ne_true}
 use Rattle.std.proofs.lemmas.List.Folds.{list_any_at, Any-from_list_any}
 use Rattle.std.proofs.lemmas.List.Kept.{AllPairs-cons}
 use Rattle.std.proofs.lemmas.Slice.Eq.{bytes_eq-Decides}
-use Rattle.yq_scalar.specs.Keys.{AreDistinct}
+use Rattle.yq_scalar.specs.Keys.{AreDistinct, are_distinct}
 use Rattle.yq_scalar.proofs.Bools.{is_true, and_true}
 use Rattle.std.specs.Prelude.{codes, string_bytes, String, Vec}
 use Rattle.std.specs.declared.alloc.Global.{Global}
@@ -16,7 +16,6 @@ use Rattle.yq_inline.specs.declared.value.Value.{Value, Map as MapValue, the_lem
 use Rattle.yq_expr.specs.Lexing.{after}
 use Rattle.yq_expr.specs.Tokens.{Token}
 use Rattle.yq_inline.specs.Values.{node_of, field_of, entries}
-use Rattle.yq_tree.specs.Sound.{are_distinct}
 use Rattle.yq_expr.specs.Parse.{listed_at, field_at, literal_at}
 
 others : (k : List ℕ) (ks : List (List ℕ)) → list_any (bytes_eq k) ks ≡ false → All (λ x. k ≢ x) ks

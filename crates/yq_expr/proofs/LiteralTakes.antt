@@ -3,7 +3,7 @@ use Rattle.std.proofs.Common.{◌≡◌, ℕ, zero, suc, true, List, [], ◌∷�
 use Rattle.std.specs.Prelude.{codes}
 use Rattle.yq_scalar.specs.Tree.{Node}
 use Rattle.yq_scalar.proofs.Bools.{bind_some, guard_some}
-use Rattle.yq_tree.specs.Sound.{are_distinct}
+use Rattle.yq_scalar.specs.Keys.{are_distinct}
 use Rattle.yq_expr.specs.Tokens.{Token, string, symbol, is_one_of, scalar_words}
 use Rattle.yq_expr.specs.Lexing.{after, taken, as_number, as_string}
 use Rattle.yq_expr.specs.Grammar.{Form, Mark, AreParted, IsScalar, AreListed, IsField, IsScalarNode, IsLiteral}

@@ -16,7 +16,7 @@ use Rattle.yq_expr.specs.Grammar.{literal_depth}
 use Rattle.yq_expr.specs.declared.error.ParseError.TheVariants as error
 use Rattle.yq_expr.specs.Lexing.{tokens, after, taken, as_number, as_string, as_step, is_end}
 use Rattle.yq_inline.specs.Values.{items, entries}
-use Rattle.yq_tree.specs.Sound.{are_distinct}
+use Rattle.yq_scalar.specs.Keys.{are_distinct}
 
 -- a reading function: the form in front and the tokens that follow, or nothing (own)
 abbrev pub Parse : Type 0 → Type 0

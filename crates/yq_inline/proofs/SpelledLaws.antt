@@ -110,9 +110,9 @@ entries_fit = record {
 no_bare : (v : tree.Node) → IsValueTree v → is_bare (flow_of v) ≡ false
 unfolding flow_of
 no_bare (tree.alias n) h = absurd h
-no_bare (tree.scalar a kind t) h = rw h.0 refl
-no_bare (tree.list a cs) h = rw h.0 refl
-no_bare (tree.map a cs) h = rw h.0 refl
+no_bare (tree.scalar a kind t) h = refl
+no_bare (tree.list a cs) h = refl
+no_bare (tree.map a cs) h = refl
 
 node_begins : (v : tree.Node) (rest : List ℕ) → IsValueTree v → ends_plain true (Some 0) rest ≡ true → begins_content true (node_text (flow_of v) rest) ≡ true
 unfolding flow_of node_text
@@ -120,9 +120,9 @@ node_begins (tree.alias n) rest h ends = absurd h
 node_begins (tree.scalar a kind t) rest h ends =
     let s : ScalarText = record { kind = kind; text = t } in
     let p : List ℕ = scalar_text s places.Flow in
-    rw h.0 (scalar_content (p ++ rest) (scalar_begins true (Some 0) p rest ((flow_scalar s h.1).piece true (Some 0) rest ends)))
-node_begins (tree.list a cs) rest h ends = rw h.0 refl
-node_begins (tree.map a cs) rest h ends = rw h.0 refl
+    scalar_content (p ++ rest) (scalar_begins true (Some 0) p rest ((flow_scalar s h.1).piece true (Some 0) rest ends))
+node_begins (tree.list a cs) rest h ends = refl
+node_begins (tree.map a cs) rest h ends = refl
 
 sep_ends : (k : ℕ) (keyed : Bool) → Fits k keyed → (cs : tree.Children) (rest : List ℕ) → ends_plain true (Some 0) (sep_text (flow_sep cs) (items_text k (flow_items cs) rest)) ≡ true
 unfolding items_text flow_items
@@ -149,13 +149,13 @@ mutual
 
   pub written_node : (v : tree.Node) (flow : Bool) (spaces : Option ℕ) (d : ℕ) (rest : List ℕ) → IsValueTree v → depth v ≤ d → ends_plain flow spaces rest ≡ true → IsNode flow spaces d (flow_of v) rest
   written_node (tree.alias n) flow spaces d rest h deep ends = absurd h
-  written_node (tree.scalar a kind t) flow spaces d rest h deep ends = rw h.0 ((flow_scalar (record { kind = kind; text = t }) h.1).piece flow spaces rest ends)
+  written_node (tree.scalar a kind t) flow spaces d rest h deep ends = (flow_scalar (record { kind = kind; text = t }) h.1).piece flow spaces rest ends
   written_node (tree.list a cs) flow spaces zero rest h deep ends = absurd (omega (arith, deep))
   written_node (tree.list a cs) flow spaces (suc d) rest h deep ends =
-      rw h.0 (refl, items_gap 93 false items_fit cs rest h.1, written_items 93 false items_fit cs d rest h.1 (omega (arith, deep)))
+      (refl, items_gap 93 false items_fit cs rest h.1, written_items 93 false items_fit cs d rest h.1 (omega (arith, deep)))
   written_node (tree.map a cs) flow spaces zero rest h deep ends = absurd (omega (arith, deep))
   written_node (tree.map a cs) flow spaces (suc d) rest h deep ends =
-      rw h.0 (refl, items_gap 125 true entries_fit cs rest h.1, written_items 125 true entries_fit cs d rest h.1 (omega (arith, deep)))
+      (refl, items_gap 125 true entries_fit cs rest h.1, written_items 125 true entries_fit cs d rest h.1 (omega (arith, deep)))
 
   written_items : (k : ℕ) (keyed : Bool) → Fits k keyed → (cs : tree.Children) (d : ℕ) (rest : List ℕ) → AreValueTrees keyed cs → deepest cs ≤ d → AreItems d k (flow_items cs) rest
   written_items k keyed fits tree.none d rest h deep = tt

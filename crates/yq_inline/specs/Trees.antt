@@ -73,3 +73,19 @@ abbrev mutual
   pub parts_tree : Parts → Children
   parts_tree end = tree.none
   parts_tree (part key n parts) = tree.child (inner (key_here key)) (placed_tree n) (parts_tree parts)
+
+-- the name of the anchor before an inline node, if there is one (YAML 1.2.2, section 6.9.2)
+abbrev pub node_anchor : Node → Option (List ℕ)
+node_anchor empty = None
+node_anchor (alias n) = None
+node_anchor (scalar p) = None
+node_anchor (coll close gap items) = None
+node_anchor (anchored n gap node) = Some n
+
+-- what an inline node spells behind its anchor, if anything stands there (YAML 1.2.2, sections 3.2.1 and 7.2)
+abbrev pub node_head : Node → Option tree.Node
+node_head empty = None
+node_head (alias n) = Some (tree_of (alias n))
+node_head (scalar p) = Some (tree_of (scalar p))
+node_head (coll close gap items) = Some (tree_of (coll close gap items))
+node_head (anchored n gap node) = node_head node

@@ -18,11 +18,6 @@ style_at s place = if can_write s styles.Plain place then styles.Plain else styl
 unfoldable pub scalar_text : ScalarText → Place → List ℕ
 scalar_text s place = written (style_at s place) s.text
 
--- behind an anchor, if there is one, and a space (YAML 1.2.2, section 6.9.2; own)
-abbrev pub behind_anchor : Option (List ℕ) → Node → Node
-behind_anchor None n = n
-behind_anchor (Some a) n = anchored a (32 ∷ []) n
-
 -- the key of an entry, written as a string, with `:` and a space; an item has none (own)
 abbrev pub flow_key : Option (List ℕ) → Key
 flow_key None = bare
@@ -34,12 +29,12 @@ flow_sep tree.none = last []
 flow_sep (tree.child label n cs) = comma [] (32 ∷ [])
 
 unfoldable mutual
-  -- a node in flow style: `[a, b]`, `{k: v}` (YAML 1.2.2, section 7.4; own)
+  -- a node in flow style, without its anchor: `[a, b]`, `{k: v}` (YAML 1.2.2, section 7.4; own)
   pub flow_of : tree.Node → Node
   flow_of (tree.alias n) = alias n
-  flow_of (tree.scalar a kind text) = behind_anchor a (scalar (scalar_text (record { kind = kind; text = text }) places.Flow))
-  flow_of (tree.list a cs) = behind_anchor a (coll 93 [] (flow_items cs))
-  flow_of (tree.map a cs) = behind_anchor a (coll 125 [] (flow_items cs))
+  flow_of (tree.scalar a kind text) = scalar (scalar_text (record { kind = kind; text = text }) places.Flow)
+  flow_of (tree.list a cs) = coll 93 [] (flow_items cs)
+  flow_of (tree.map a cs) = coll 125 [] (flow_items cs)
 
   -- its items or entries (YAML 1.2.2, section 7.4; own)
   pub flow_items : tree.Children → Items

@@ -4,7 +4,6 @@ pub use Rattle.yq_scalar.specs.Plain
 pub use Rattle.yq_scalar.specs.Text
 pub mod Alike
 pub mod Alone
-pub mod Comments
 pub mod Exchange
 pub mod Gap
 pub mod Grammar

@@ -121,10 +121,6 @@ abbrev pub rest_from : ℕ → List Bound → List ℕ
 rest_from i [] = []
 rest_from i (b ∷ bs) = if i == b.rows then (b.end ++ b.marker) ++ rest_from i bs else rest_from i bs
 
--- the markers and gaps of no row that stand directly before row i; behind the last row, those at the end (own)
-abbrev pub rest_of : Cut → ℕ → List ℕ
-rest_of c i = rest_from i (bounds_of c)
-
 -- the pieces that a row of the code lends (own)
 abbrev pub view : declared.Row → Slices
 view r = record { gap = r.gap.now; column = r.column; dashes = r.dashes.now; key = r.key.now; colon = r.colon.now; space = r.space.now; anchor = r.anchor.now; apart = r.apart.now; head = r.head.now; tail = r.tail.now; raw = r.raw.now; parent = r.parent }

@@ -1,10 +1,17 @@
 -- The keys of a mapping (YAML 1.2.2, section 3.2.1.3), and how deep collections are nested.
-use Rattle.std.specs.Prelude.{◌≢◌, ℕ, suc, max, List, [], ◌∷◌, Option, Some, None, AllPairs, ⊤}
+use Rattle.std.specs.Prelude.{◌≢◌, ℕ, suc, max, List, [], ◌∷◌, Option, Some, None, Bool, true, not, ◌&&◌, AllPairs, ⊤}
+use Rattle.std.specs.List.{list_any}
+use Rattle.std.specs.Str.{bytes_eq}
 use Rattle.yq_scalar.specs.Tree.{Node, alias, scalar, list, map, Children, none, child}
 
 -- no two keys have the same content (YAML 1.2.2, section 3.2.1.3)
 abbrev pub AreDistinct : List (List ℕ) → Type 0
 AreDistinct keys = AllPairs (λ a b. a ≢ b) keys
+
+-- whether no two keys are equal (own)
+abbrev pub are_distinct : List (List ℕ) → Bool
+are_distinct [] = true
+are_distinct (k ∷ ks) = not (list_any (bytes_eq k) ks) && are_distinct ks
 
 -- a key, if there is one, before others (own)
 abbrev pub with_key : Option (List ℕ) → List (List ℕ) → List (List ℕ)

@@ -9,7 +9,7 @@ ghost use Rattle.yq_inline.specs.Valued.{IsValid};
 ghost use Rattle.yq_rows.specs.Grammar.{IsCut};
 ghost use Rattle.yq_rows.specs.Rows.{Cut};
 ghost use Rattle.yq_tree.specs.Documents.{Document, Reads};
-ghost use Rattle.yq_tree.specs.Nodes.{lent};
+ghost use Rattle.yq_tree.specs.Bodies.{lent};
 ghost use Rattle.yq_tree.specs.Reading.{cut_of, read_at};
 ghost use Rattle.yq_tree.specs.ScalarPlaces as placed;
 ghost use Rattle.yq_expr.specs.View.{program_of};

@@ -8,28 +8,28 @@ use Rattle.yq_scalar.specs.declared.fault.ReadError.TheVariants as errors
 use Rattle.yq_scalar.specs.Answers.{◌>>=◌, Fails}
 use Rattle.yq_scalar.proofs.Bools.{guard_some}
 use Rattle.yq_inline.proofs.Binds.{some_same}
-use Rattle.yq_rows.specs.Comments.{head_comment}
+use Rattle.yq_lines.specs.Comments.{head_comment}
 use Rattle.yq_rows.specs.Grammar.{unlimited, begins_document, AreParts, IsCut}
 use Rattle.yq_rows.specs.Lending.{shown_read}
 use Rattle.yq_rows.specs.Reading.{scan_at}
 use Rattle.yq_rows.specs.Rows.{Part, Cut, last, marked}
 use Rattle.yq_rows.specs.View.{Shown, shown}
 use Rattle.yq_rows.proofs.ScanLaws.{scan_again}
-use Rattle.yq_tree.specs.declared.line.Line as declared
 use Rattle.yq_tree.specs.Documents.{Document, with_part, parts_from, document_parts, begins_bare, has_begin}
 use Rattle.yq_tree.specs.FlowReading.{document_flows, lines_flows}
-use Rattle.yq_tree.specs.Group.{group}
+use Rattle.yq_lines.specs.Group.{group}
 use Rattle.yq_tree.specs.Lines.{lines_of}
-use Rattle.yq_tree.specs.LinesReading.{lines_are_sound}
-use Rattle.yq_tree.specs.Names.{HaveHeadsApart}
-use Rattle.yq_tree.specs.Outline.{value}
+use Rattle.yq_lines.specs.LinesReading.{lines_are_sound}
+use Rattle.yq_lines.specs.Names.{HaveHeadsApart}
+use Rattle.yq_lines.specs.Outline.{value}
 use Rattle.yq_tree.specs.PartReading.{Lined, lined, document_view, part_fits, all_fit, all_lined, lined_parts}
 use Rattle.yq_tree.specs.Reading.{have_fit_keys, has_short_root, is_document, document_of, documents_of, all_documents, checked, text_at, cut_of}
 use Rattle.yq_tree.specs.SoundReading.{all_sound, if_all_sound, AllApart, document_views, Holds}
-use Rattle.yq_tree.specs.View.{views}
+use Rattle.yq_lines.specs.View.{views}
 use Rattle.yq_tree.proofs.HeadsApart.{heads_apart}
 use Rattle.yq_tree.proofs.ReadLaws.{cut_is, text_again}
 use Rattle.yq_tree.proofs.RowLineLaws.{not_fit}
+use Rattle.yq_tree.specs.declared.checks.DocumentLines.{DocumentLines}
 
 -- the anchors of rows are apart from their heads
 with_apart : (is : Bool) (p : Part) (ps : List Part) → HaveHeadsApart (lines_of p.rows) → AllApart (all_lined ps) → AllApart (all_lined (with_part is p ps))
@@ -98,10 +98,7 @@ lines_fail t c xs (errors.Fault k) h made f =
     refused t c h (all_split (document_parts c) ∙ (ap (λ b. all_fit (document_parts c) && b) unsound ∙ and_false (all_fit (document_parts c))))
 
 -- what is held of a text that is read
-abbrev Document_ : Type 0
-Document_ = List ℕ × List declared.Line
-
-held_by : (t : List ℕ) (c : Cut) (s : Shown) (ds : List Document_) → IsCut t c → s ≡ shown c → document_views ds ≡ all_lined (document_parts c) → lines_flows ds ≡ document_flows (length t) c → all_documents c ≡ true → (d : Cut) → d ≡ c →
+held_by : (t : List ℕ) (c : Cut) (s : Shown) (ds : List DocumentLines) → IsCut t c → s ≡ shown c → document_views ds ≡ all_lined (document_parts c) → lines_flows ds ≡ document_flows (length t) c → all_documents c ≡ true → (d : Cut) → d ≡ c →
     IsCut t d × (s ≡ shown d) × (document_views ds ≡ all_lined (document_parts d)) × (lines_flows ds ≡ document_flows (length t) d) × (all_documents d ≡ true)
 held_by t c s ds h rows views flows sound d e =
     subst (λ (x : Cut). IsCut t x × (s ≡ shown x) × (document_views ds ≡ all_lined (document_parts x)) × (lines_flows ds ≡ document_flows (length t) x) × (all_documents x ≡ true)) (sym e) (h, rows, views, flows, sound)
@@ -112,31 +109,31 @@ both_sound t c xs zs made sound =
     let k = guard_some (all_sound xs) sound in
     (all_split (document_parts c) ∙ and_from (all_fit (document_parts c)) (all_sound (all_lined (document_parts c))) g.0 (ap all_sound g.1 ∙ k.0), sym (g.1 ∙ k.1))
 
-pub holds : (t : List ℕ) (c : Cut) (s : Shown) (xs : List Lined) (ds : List Document_) → IsCut t c → s ≡ shown c → lined_parts (document_parts c) ≡ Some xs → if_all_sound xs ≡ Some (document_views ds) → lines_flows ds ≡ document_flows (length t) c → Holds t s ds
+pub holds : (t : List ℕ) (c : Cut) (s : Shown) (xs : List Lined) (ds : List DocumentLines) → IsCut t c → s ≡ shown c → lined_parts (document_parts c) ≡ Some xs → if_all_sound xs ≡ Some (document_views ds) → lines_flows ds ≡ document_flows (length t) c → Holds t s ds
 holds t c s xs ds h rows made sound flows =
     let b = both_sound t c xs (document_views ds) made sound in
     let x = held_by t c s ds h rows b.1 flows b.0 (cut_of t) (cut_is t c h) in
     record { cut = x.0; rows = x.1; lined = x.2; flows = x.3; sound = x.4 }
 
-pub text_held : (t : List ℕ) (s : Shown) (ds : List Document_) → Holds t s ds → text_at t ≡ Some (cut_of t)
+pub text_held : (t : List ℕ) (s : Shown) (ds : List DocumentLines) → Holds t s ds → text_at t ≡ Some (cut_of t)
 text_held t s ds h = text_again t (cut_of t) h.cut h.sound
 
 -- how many documents are held
 lengths : (ps : List Part) → length (map document_of ps) ≡ length (all_lined ps)
 lengths ps = length-map ps document_of ∙ sym (length-map ps lined)
 
-pub count_held : (t : List ℕ) (s : Shown) (ds : List Document_) → Holds t s ds → length ds ≡ length (documents_of t)
+pub count_held : (t : List ℕ) (s : Shown) (ds : List DocumentLines) → Holds t s ds → length ds ≡ length (documents_of t)
 count_held t s ds h = sym (length-map ds _) ∙ (ap length h.lined ∙ sym (lengths (document_parts (cut_of t))))
 
 -- a document that is held
-abbrev Told : Document_ → Document → Type 0
-Told x d = (head_comment x.0 ≡ d.lead) × (value (group (views x.1)) ≡ d.root)
+abbrev Told : DocumentLines → Document → Type 0
+Told x d = (head_comment x.lead.now ≡ d.lead) × (value (group (views x.lines)) ≡ d.root)
 
-told_first : (p : Part) (x : Document_) (d : Document) → document_view x ≡ lined p → document_of p ≡ d → Told x d
+told_first : (p : Part) (x : DocumentLines) (d : Document) → document_view x ≡ lined p → document_of p ≡ d → Told x d
 told_first p x d e f =
     ((ap (λ (y : Lined). y.0) e) ∙ ap (λ (y : Document). y.lead) f, ap (λ (y : Lined). value (group y.1)) e ∙ ap (λ (y : Document). y.root) f)
 
-told_at : (ps : List Part) (xs : List Document_) → document_views xs ≡ all_lined ps → (i : ℕ) (x : Document_) (d : Document) → slice_get xs i ≡ Some x → slice_get (map document_of ps) i ≡ Some d → Told x d
+told_at : (ps : List Part) (xs : List DocumentLines) → document_views xs ≡ all_lined ps → (i : ℕ) (x : DocumentLines) (d : Document) → slice_get xs i ≡ Some x → slice_get (map document_of ps) i ≡ Some d → Told x d
 told_at ps [] e i x d h k = cc
 told_at [] (y ∷ ys) e i x d h k = cc
 told_at (p ∷ ps) (y ∷ ys) e zero x d h k = told_first p x d (ap document_view (sym (some_same h)) ∙ head_same e) (some_same k)
@@ -148,5 +145,5 @@ told_at (p ∷ ps) (y ∷ ys) e (suc i) x d h k = told_at ps ys (tail_same e) i 
     tail_same : {A : Type 0} {a b : A} {xs ys : List A} → a ∷ xs ≡ b ∷ ys → xs ≡ ys
     tail_same e = cc
 
-pub told_held : (t : List ℕ) (s : Shown) (xs : List Document_) → Holds t s xs → (i : ℕ) (x : Document_) (d : Document) → slice_get xs i ≡ Some x → slice_get (documents_of t) i ≡ Some d → Told x d
+pub told_held : (t : List ℕ) (s : Shown) (xs : List DocumentLines) → Holds t s xs → (i : ℕ) (x : DocumentLines) (d : Document) → slice_get xs i ≡ Some x → slice_get (documents_of t) i ≡ Some d → Told x d
 told_held t s xs h i x d is at = told_at (document_parts (cut_of t)) xs h.lined i x d is at

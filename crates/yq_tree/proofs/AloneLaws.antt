@@ -35,14 +35,16 @@ use Rattle.yq_rows.proofs.PlaceLaws.{RowIn, row_in}
 use Rattle.yq_rows.proofs.PlainEnds.{plain_ends}
 use Rattle.yq_tree.specs.Documents.{Document}
 use Rattle.yq_tree.specs.Lines.{anchor_of, head_of, mark_of, lines_of}
-use Rattle.yq_tree.specs.Outline as outline
-use Rattle.yq_tree.specs.Outline.{Line, first_anchor}
-use Rattle.yq_tree.specs.Places.{content}
-use Rattle.yq_tree.specs.Reading.{root_of, document_of, is_no_alias, are_bound, documents, read_at}
-use Rattle.yq_tree.specs.RowPaths.{row_at, is_leaf, spelled, is_core, with_core, takes_scalar, put_scalar, IsReadable, ReadsChanged}
+use Rattle.yq_lines.specs.Outline as outline
+use Rattle.yq_lines.specs.Outline.{Line, first_anchor}
+use Rattle.yq_lines.specs.Places.{content}
+use Rattle.yq_tree.specs.Reading.{root_of, document_of, documents, read_at}
+use Rattle.yq_lines.specs.LinesReading.{is_no_alias, are_bound}
+use Rattle.yq_tree.specs.RowPaths.{row_at, spelled, is_core, with_core, takes_scalar, put_scalar, IsReadable, ReadsChanged}
+use Rattle.yq_lines.specs.Ends.{is_leaf}
 use Rattle.yq_tree.specs.ScalarPlaces.{bare_scalar, alone_in}
 use Rattle.yq_tree.specs.Written.{Written, node_scalar, content_scalar, IsSet}
-use Rattle.yq_tree.proofs.Allowing.{IsEntry}
+use Rattle.yq_lines.proofs.Allowing.{IsEntry}
 use Rattle.yq_tree.proofs.CoreLaws.{IsCore, core_of}
 use Rattle.yq_tree.proofs.HeldScalars.{Holds, scalar_tree, spelled_is, held_head, held_takes, held_pieces, put_is, put_stands, put_text, put_readable}
 use Rattle.yq_tree.proofs.NextLaws.{part_allowed}
@@ -50,7 +52,7 @@ use Rattle.yq_tree.proofs.OneDocument.{one_behind, one_exchanged}
 use Rattle.yq_tree.proofs.ReadLaws.{text_again}
 use Rattle.yq_tree.proofs.RowLines.{last_line}
 use Rattle.yq_tree.proofs.RowPathLaws.{Reached, reached_lines, row_node, IsOne, is_one, rows_are, path_reached, document_fine}
-use Rattle.yq_tree.proofs.SameLaws.{AreAlike, change_alike}
+use Rattle.yq_lines.proofs.SameLaws.{AreAlike, change_alike}
 use Rattle.yq_tree.proofs.ScalarFitLaws.{some_core}
 use Rattle.yq_tree.proofs.ScalarLaws.{scalar_kept, root_tests, reads_changed, scalar_spelled, alike_anchored, scalar_tree as a_scalar}
 use Rattle.yq_tree.proofs.UnderExchange.{KeepsAlone, under_changed}

@@ -12,8 +12,9 @@ use Rattle.yq_rows.specs.View.{Slices, slices, rows_of, Shown, shown}
 use Rattle.yq_rows.proofs.PlaceLaws.{row_in}
 use Rattle.yq_tree.specs.Extents.{head_place, is_scalar_head, begins_entry, scalar_span}
 use Rattle.yq_tree.specs.Lines.{lines_of}
-use Rattle.yq_tree.specs.Outline.{Line}
-use Rattle.yq_tree.specs.RowPaths.{line_row, line_of, is_leaf}
+use Rattle.yq_lines.specs.Outline.{Line}
+use Rattle.yq_tree.specs.RowPaths.{line_row}
+use Rattle.yq_lines.specs.Ends.{line_of, is_leaf}
 use Rattle.yq_tree.specs.ScalarPlaces.{bare_scalar, alone_in}
 use Rattle.yq_tree.specs.Written.{Written, content_scalar}
 use Rattle.yq_tree.proofs.SpanLaws.{if_so, content_told, entry_told, get_row}

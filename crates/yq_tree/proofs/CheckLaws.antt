@@ -1,20 +1,20 @@
 -- Documents, checked one behind the other.
-use Rattle.std.proofs.Common.{◌≡◌, ℕ, cond, ◌&&◌, List, [], ◌∷◌, ◌++◌, length, Some, None, refl, sym, ap, ◌∙◌, subst, arith, append_assoc, append-nil}
+use Rattle.std.proofs.Common.{◌≡◌, cond, ◌&&◌, List, [], ◌∷◌, ◌++◌, length, Some, None, refl, sym, ap, ◌∙◌, subst, arith, append_assoc, append-nil}
 use Rattle.std.proofs.lemmas.Bool.{cond-false}
 use Rattle.std.proofs.lemmas.List.{map-append}
 use Rattle.yq_scalar.specs.declared.fault.ReadError.{ReadError}
 use Rattle.yq_scalar.specs.declared.fault.ReadError.TheVariants as errors
 use Rattle.yq_scalar.specs.Answers.{Fails}
 use Rattle.yq_scalar.proofs.Bools.{guard_some}
-use Rattle.yq_tree.specs.declared.line.Line as declared
 use Rattle.yq_tree.specs.declared.part_lines.PartLines.{PartLines}
-use Rattle.yq_tree.specs.FlowReading.{flows, lines_flows, parts_lines_flows}
-use Rattle.yq_tree.specs.LinesReading.{lines_are_sound}
-use Rattle.yq_tree.specs.Names.{HaveHeadsApart}
+use Rattle.yq_tree.specs.FlowReading.{lines_flows, parts_lines_flows}
+use Rattle.yq_lines.specs.LinesReading.{lines_are_sound}
+use Rattle.yq_lines.specs.Names.{HaveHeadsApart}
 use Rattle.yq_tree.specs.PartReading.{Lined, document_view, lined_view, lined_views}
 use Rattle.yq_tree.specs.SoundReading.{if_sound, all_sound, if_all_sound, AllApart, document_views}
-use Rattle.yq_tree.specs.View.{views}
+use Rattle.yq_lines.specs.View.{views, flows}
 use Rattle.yq_tree.proofs.RowLineLaws.{not_fit}
+use Rattle.yq_tree.specs.declared.checks.DocumentLines.{DocumentLines}
 
 -- The documents so far and the parts that are left are those parts, whose lines are sound where those left are.
 pub record LeftChecks (all left : List Lined) (docs : List Lined) : Type 0 where
@@ -38,7 +38,7 @@ next_here all x xs docs d made l =
       sound_is = sym (ap (λ b. b && all_sound xs) g.0) ∙ l.sound_is;
     }
 
-pub checks_step : (all : List Lined) (ps : List PartLines) (p : PartLines) (more : List PartLines) (docs new : List (List ℕ × List declared.Line)) (d : List ℕ × List declared.Line) → ps ≡ p ∷ more → new ≡ docs ++ d ∷ [] → if_sound (lined_view p) ≡ Some (document_view d) →
+pub checks_step : (all : List Lined) (ps : List PartLines) (p : PartLines) (more : List PartLines) (docs new : List DocumentLines) (d : DocumentLines) → ps ≡ p ∷ more → new ≡ docs ++ d ∷ [] → if_sound (lined_view p) ≡ Some (document_view d) →
     LeftChecks all (lined_views ps) (document_views docs) → LeftChecks all (lined_views more) (document_views new)
 checks_step all ps p more docs new d e pushed made l =
     let here : LeftChecks all (lined_view p ∷ lined_views more) (document_views docs) = subst (λ (x : List PartLines). LeftChecks all (lined_views x) (document_views docs)) e l in
@@ -67,14 +67,14 @@ pub checks_done : (all : List Lined) (ps : List PartLines) (docs : List Lined) �
 checks_done all ps docs none l = done_here all docs (subst (λ (x : List PartLines). LeftChecks all (lined_views x) docs) (nothing_left ps none) l)
 
 -- the aliases and flow collections in the heads of the documents so far and of the parts that are left
-pub flows_init : (all ps : List PartLines) (docs : List (List ℕ × List declared.Line)) → ps ≡ all → docs ≡ [] → lines_flows docs ++ parts_lines_flows ps ≡ parts_lines_flows all
+pub flows_init : (all ps : List PartLines) (docs : List DocumentLines) → ps ≡ all → docs ≡ [] → lines_flows docs ++ parts_lines_flows ps ≡ parts_lines_flows all
 flows_init all ps docs same none = λ i. lines_flows (none i) ++ parts_lines_flows (same i)
 
-pub flows_step : (all ps : List PartLines) (p : PartLines) (more : List PartLines) (docs new : List (List ℕ × List declared.Line)) (d : List ℕ × List declared.Line) → ps ≡ p ∷ more → new ≡ docs ++ d ∷ [] → flows d.1 ≡ flows p.lines.items →
+pub flows_step : (all ps : List PartLines) (p : PartLines) (more : List PartLines) (docs new : List DocumentLines) (d : DocumentLines) → ps ≡ p ∷ more → new ≡ docs ++ d ∷ [] → flows d.lines ≡ flows p.lines.items →
     lines_flows docs ++ parts_lines_flows ps ≡ parts_lines_flows all → lines_flows new ++ parts_lines_flows more ≡ parts_lines_flows all
 flows_step all ps p more docs new d e pushed same so_far =
-    (λ i. (ap lines_flows pushed ∙ map-append (λ x. flows x.1) docs (d ∷ [])) i ++ parts_lines_flows more)
-    ∙ (append_assoc (lines_flows docs) (flows d.1 ∷ []) (parts_lines_flows more) ∙ ((λ i. lines_flows docs ++ same i ∷ parts_lines_flows more) ∙ (ap (λ x. lines_flows docs ++ parts_lines_flows x) (sym e) ∙ so_far)))
+    (λ i. (ap lines_flows pushed ∙ map-append (λ x. flows x.lines) docs (d ∷ [])) i ++ parts_lines_flows more)
+    ∙ (append_assoc (lines_flows docs) (flows d.lines ∷ []) (parts_lines_flows more) ∙ ((λ i. lines_flows docs ++ same i ∷ parts_lines_flows more) ∙ (ap (λ x. lines_flows docs ++ parts_lines_flows x) (sym e) ∙ so_far)))
 
-pub flows_done : (all ps : List PartLines) (docs : List (List ℕ × List declared.Line)) → length ps ≡ 0 → lines_flows docs ++ parts_lines_flows ps ≡ parts_lines_flows all → lines_flows docs ≡ parts_lines_flows all
+pub flows_done : (all ps : List PartLines) (docs : List DocumentLines) → length ps ≡ 0 → lines_flows docs ++ parts_lines_flows ps ≡ parts_lines_flows all → lines_flows docs ≡ parts_lines_flows all
 flows_done all ps docs none so_far = sym (ap (λ x. lines_flows docs ++ parts_lines_flows x) (nothing_left ps none) ∙ append-nil (lines_flows docs)) ∙ so_far

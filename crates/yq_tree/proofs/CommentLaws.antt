@@ -3,7 +3,7 @@ use Rattle.std.proofs.Common.{◌≡◌, ℕ, Bool, true, false, eqb, ◌&&◌, 
 use Rattle.std.proofs.lemmas.Bool.{false≢true, cond-true, cond-false}
 use Rattle.yq_scalar.specs.Text.{cut, front, ends_line, lines_of, past_white}
 use Rattle.yq_inline.specs.Nodes.{first_is}
-use Rattle.yq_rows.specs.Comments.{less_space, comment_text, are_comments, with_text, last_comments}
+use Rattle.yq_lines.specs.Comments.{less_space, comment_text, are_comments, with_text, last_comments}
 use Rattle.yq_tree.specs.Texts.{text_then, texts}
 
 pub space_there : (t r : List ℕ) → first_is 32 t ≡ true → r ≡ drop 1 t → r ≡ less_space t

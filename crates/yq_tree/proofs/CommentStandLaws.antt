@@ -13,26 +13,26 @@ use Rattle.yq_rows.specs.View.{slices, content_cut}
 use Rattle.yq_tree.specs.declared.path.Path.{Path}
 use Rattle.yq_tree.specs.CommentPlaces.{tail_comment, before_tail, line_comment_in, gap_comment, head_comment_in, remark, remarks, told_above, CommentsStand}
 use Rattle.yq_tree.specs.Documents.{document_parts}
-use Rattle.yq_tree.specs.Group.{group, is_fine}
-use Rattle.yq_tree.specs.Labelled.{Labelled, labelled_from}
+use Rattle.yq_lines.specs.Group.{group, is_fine}
+use Rattle.yq_lines.specs.Labelled.{Labelled, labelled_from}
 use Rattle.yq_tree.specs.Lines.{tail_of, lines_of}
 use Rattle.yq_tree.specs.Located.{steps_of, labelled_located}
 use Rattle.yq_tree.specs.Nodes.{unlabelled}
-use Rattle.yq_tree.specs.Outline.{Mark, Bare, Key, Dash, Line, Outline, IsWhole, anchored, head_or, label, value}
+use Rattle.yq_lines.specs.Outline.{Mark, Bare, Key, Dash, Line, Outline, IsWhole, anchored, head_or, label, value}
 use Rattle.yq_tree.specs.Passages.{before_row}
-use Rattle.yq_tree.specs.Places.{lines_before, Found, find, content}
+use Rattle.yq_lines.specs.Places.{lines_before, Found, find, content}
 use Rattle.yq_tree.specs.Reading.{document_of, is_document, read_at}
-use Rattle.yq_tree.specs.RowPaths.{found_line}
+use Rattle.yq_lines.specs.Ends.{found_line}
 use Rattle.yq_tree.specs.Seats.{Seat, seat, seat_of, seat_at, document_row}
-use Rattle.yq_tree.proofs.Finding.{entry_of}
-use Rattle.yq_tree.proofs.LabelPaths.{reach, FoundEntry, path_entry, HasHead, rest_head}
-use Rattle.yq_tree.proofs.PlaceLaws.{at}
+use Rattle.yq_lines.proofs.Finding.{entry_of}
+use Rattle.yq_lines.proofs.LabelPaths.{reach, FoundEntry, path_entry, HasHead, rest_head}
+use Rattle.yq_lines.proofs.PlaceLaws.{at}
 use Rattle.yq_tree.proofs.QuietLaws.{HasNone, Quiet, quiet_reach}
 use Rattle.yq_tree.proofs.ReadLaws.{cut_is, text_takes}
 use Rattle.yq_tree.proofs.RowPathLaws.{found_lines, found_place, document_fine}
 use Rattle.yq_tree.proofs.RemarkLaws.{tail_told, gap_told}
 use Rattle.yq_tree.proofs.SeatLineLaws.{Tells, seat_line}
-use Rattle.yq_tree.proofs.Values.{If}
+use Rattle.yq_lines.proofs.Values.{If}
 
 tail_is : (c : Content) → (content_cut c).4 ≡ tail_of c
 tail_is (Nothing tail) = refl

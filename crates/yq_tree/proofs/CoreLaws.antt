@@ -9,11 +9,10 @@ use Rattle.yq_scalar.specs.Text.{is_empty, is_white, is_feed, is_break, front, u
 use Rattle.yq_scalar.proofs.Bools.{or_false}
 use Rattle.yq_inline.specs.Nodes.{Node, empty, alias, scalar, coll, anchored, node_text, first_is, in_name, IsName, begins_content, IsLead, is_bare, IsNode}
 use Rattle.yq_inline.specs.Scalars.{IsScalar, is_quoted, begins_scalar}
-use Rattle.yq_inline.specs.Trees.{tree_of}
+use Rattle.yq_inline.specs.Trees.{tree_of, node_head}
 use Rattle.yq_inline.specs.Valued.{SpellsScalar}
 use Rattle.yq_inline.proofs.PastLaws.{byte_past, name_past, lead_past}
 use Rattle.yq_inline.proofs.PieceLaws.{no_space, scalar_begins}
-use Rattle.yq_tree.specs.Lines.{node_head}
 use Rattle.yq_tree.specs.RowPaths.{is_core, apart, with_core}
 use Rattle.yq_tree.specs.Written.{Written, node_scalar}
 

@@ -11,7 +11,7 @@ use Rattle.yq_rows.specs.Rows.{Mark, Bare, Dash, Key, Content, Row, dashes_text,
 use Rattle.yq_rows.specs.View.{Slices, slices, last_dash, colon_of, rows_of, Shown, shown}
 use Rattle.yq_tree.specs.Extents.{dash_count, lines_before_mark, slices_row}
 use Rattle.yq_tree.specs.RowPaths.{line_row}
-use Rattle.yq_tree.proofs.Parts.{drop_at}
+use Rattle.yq_lines.proofs.Parts.{drop_at}
 
 -- dashes counted
 counted : (b : ℕ) → ℕ

@@ -3,7 +3,7 @@ use Rattle.std.proofs.Common.{◌≡◌, List, [], ◌∷◌, length, refl, ap, 
 use Rattle.yq_inline.specs.declared.inline.Inline.{Inline}
 use Rattle.yq_inline.specs.Trees.{parts_tree}
 use Rattle.yq_inline.specs.View.{items_end, entries_end}
-use Rattle.yq_tree.specs.Counts.{count}
+use Rattle.yq_lines.specs.Counts.{count}
 use Rattle.yq_tree.proofs.FlowLaws.{Field}
 
 pub items_count : (is : List Inline) → count (parts_tree (items_end is)) ≡ length is

@@ -6,17 +6,19 @@ use Rattle.yq_scalar.specs.Tree.{Node}
 use Rattle.yq_scalar.specs.Keys.{depth}
 use Rattle.yq_inline.specs.Inline.{depth_limit}
 use Rattle.yq_rows.specs.Rows.{Part}
-use Rattle.yq_tree.specs.Anchors.{names_of}
+use Rattle.yq_lines.specs.Anchors.{names_of}
 use Rattle.yq_tree.specs.Documents.{Document, IsRoot, IsDocument, AreDocuments}
-use Rattle.yq_tree.specs.Group.{group, is_fine}
+use Rattle.yq_lines.specs.Group.{group, is_fine}
 use Rattle.yq_tree.specs.Lines.{lines_of}
-use Rattle.yq_tree.specs.Outline.{Line, value}
-use Rattle.yq_tree.specs.Reading.{outline_of, root_of, document_of, have_fit_keys, has_short_root, have_one_anchor_each, are_bound, is_document}
-use Rattle.yq_tree.specs.Sound.{has_unique_keys, is_sound}
-use Rattle.yq_tree.proofs.ByRules.{rules_from, rules_give}
-use Rattle.yq_tree.proofs.Conditions.{keys_are, are_keys, short_is, is_short, anchors_are, are_anchors, bound_are, are_bound_of}
-use Rattle.yq_tree.proofs.Decides.{stand-sound, stand-complete}
-use Rattle.yq_tree.proofs.KeyLaws.{unique_is, is_unique}
+use Rattle.yq_lines.specs.Outline.{Line, value}
+use Rattle.yq_tree.specs.Reading.{outline_of, root_of, document_of, have_fit_keys, has_short_root, is_document}
+use Rattle.yq_lines.specs.LinesReading.{have_one_anchor_each, are_bound}
+use Rattle.yq_lines.specs.Sound.{has_unique_keys, is_sound}
+use Rattle.yq_lines.proofs.ByRules.{rules_from, rules_give}
+use Rattle.yq_tree.proofs.Conditions.{keys_are, are_keys, short_is, is_short}
+use Rattle.yq_lines.proofs.NameConditions.{anchors_are, are_anchors, bound_are, are_bound_of}
+use Rattle.yq_lines.proofs.Decides.{stand-sound, stand-complete}
+use Rattle.yq_lines.proofs.KeyLaws.{unique_is, is_unique}
 
 -- the root of lines, as a test and as a fact
 root_is : (ls : List Line) → is_fine (group ls) ≡ true → IsRoot ls (value (group ls))

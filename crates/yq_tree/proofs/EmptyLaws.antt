@@ -20,7 +20,8 @@ use Rattle.yq_rows.proofs.MarkEnds.{before_ends}
 use Rattle.yq_rows.proofs.NodePieces.{tail_ascii, before_ascii}
 use Rattle.yq_rows.proofs.PlaceLaws.{place, row_in}
 use Rattle.yq_tree.specs.Lines.{head_of, tail_of, lines_of}
-use Rattle.yq_tree.specs.RowPaths.{row_at, is_leaf, takes_scalar, takes_inline, put_scalar}
+use Rattle.yq_tree.specs.RowPaths.{row_at, takes_scalar, takes_inline, put_scalar}
+use Rattle.yq_lines.specs.Ends.{is_leaf}
 use Rattle.yq_tree.specs.ScalarPlaces.{ScalarPlace, content_empty, row_empty, empty_in}
 
 none_some : {A : Type 0} {x : A} → None ≡ Some x → ⊥

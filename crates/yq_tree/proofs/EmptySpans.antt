@@ -18,8 +18,9 @@ use Rattle.yq_rows.specs.View.{Slices, slices, anchor_cut, content_cut, rows_of,
 use Rattle.yq_rows.proofs.PlaceLaws.{row_in}
 use Rattle.yq_tree.specs.Extents.{head_place, begins_entry}
 use Rattle.yq_tree.specs.Lines.{lines_of}
-use Rattle.yq_tree.specs.Outline.{Line}
-use Rattle.yq_tree.specs.RowPaths.{line_row, line_of, is_leaf, row_at}
+use Rattle.yq_lines.specs.Outline.{Line}
+use Rattle.yq_tree.specs.RowPaths.{line_row, row_at}
+use Rattle.yq_lines.specs.Ends.{line_of, is_leaf}
 use Rattle.yq_tree.specs.ScalarPlaces.{ScalarPlace, node_empty, content_empty, row_empty, empty_in}
 use Rattle.yq_tree.specs.Told.{place_start}
 use Rattle.yq_tree.proofs.SpanLaws.{entry_told, get_row}

@@ -12,28 +12,27 @@ use Rattle.yq_inline.specs.Places.{Placed}
 use Rattle.yq_rows.specs.Grammar.{IsCut}
 use Rattle.yq_rows.specs.Rows.{Row, Part, Cut}
 use Rattle.yq_rows.specs.View.{Slices, slices, rows_of, Shown, shown}
-use Rattle.yq_tree.specs.declared.line.Line as declared
 use Rattle.yq_tree.specs.Documents.{document_parts}
-use Rattle.yq_tree.specs.EntryPlaces.{before_line, through_row, lines_end, lines_place, head_extent, line_head, lines_content, line_content, entry_from, content_from, entry_of, content_of}
+use Rattle.yq_tree.specs.EntryPlaces.{before_line, through_row, lines_place, head_extent, line_head, lines_content, line_content, entry_from, content_from, entry_of, content_of}
 use Rattle.yq_tree.specs.EntryReading.{line_begin, first_row, entry_within, HasFlows}
 use Rattle.yq_tree.specs.Extents.{row_start}
-use Rattle.yq_tree.specs.FlowReading.{flows}
+use Rattle.yq_lines.specs.View.{flows, views}
 use Rattle.yq_tree.specs.Lines.{lines_of}
-use Rattle.yq_tree.specs.Nodes.{lines_in}
-use Rattle.yq_tree.specs.Outline.{Line}
+use Rattle.yq_lines.specs.Outline.{Line}
 use Rattle.yq_tree.specs.PartReading.{Lined, lined, document_view, first_rows, some_begin}
 use Rattle.yq_tree.specs.Reading.{cut_of}
 use Rattle.yq_tree.specs.SeatReading.{begin_row, Numbers, numbers}
 use Rattle.yq_tree.specs.Seats.{Seat, behind_one, seat, seat_of, document_row}
-use Rattle.yq_tree.specs.RowPaths.{reached}
+use Rattle.yq_lines.specs.Ends.{reached, lines_end}
 use Rattle.yq_tree.specs.SoundReading.{Holds}
-use Rattle.yq_tree.specs.Spots.{is_bare}
-use Rattle.yq_tree.proofs.EndsLaws.{has_line}
+use Rattle.yq_lines.specs.Spots.{is_bare}
+use Rattle.yq_lines.proofs.EndsLaws.{has_line}
 use Rattle.yq_tree.proofs.FlowPlaceLaws.{flow_told}
 use Rattle.yq_tree.proofs.HeldFlows.{held_flows}
 use Rattle.yq_tree.proofs.RowStarts.{line_begins}
 use Rattle.yq_tree.proofs.SeatLaws.{part_begins, part_at, none_past, held_begin}
-use Rattle.yq_tree.proofs.Values.{If}
+use Rattle.yq_lines.proofs.Values.{If}
+use Rattle.yq_tree.specs.declared.checks.DocumentLines.{DocumentLines}
 
 -- a line is one of its row, and that is one of the rows
 abbrev IsSeated : List Row → Seat → Type 0
@@ -137,26 +136,22 @@ no_head c rs first n e = go (seat n rs) e
     go None e = refl
     go (Some s) e = absurd (cc)
 
--- what documents hold
-abbrev Held : Type 0
-Held = List ℕ × List declared.Line
-
 -- the first row of a document that is held
-pub first_told : (t : List ℕ) (s : Shown) (ds : List Held) (i : ℕ) → Holds t s ds → i < length ds → begin_row (first_rows s.bounds || not (some_begin s.bounds)) i 0 s.bounds ≡ first_row i (cut_of t)
+pub first_told : (t : List ℕ) (s : Shown) (ds : List DocumentLines) (i : ℕ) → Holds t s ds → i < length ds → begin_row (first_rows s.bounds || not (some_begin s.bounds)) i 0 s.bounds ≡ first_row i (cut_of t)
 first_told t s ds i h within =
     let there = got ds i within in
     let part = part_at ds (document_parts (cut_of t)) h.lined i there.0 there.1 in
     (held_begin t s ds i part.0 h part.1).0 ∙ ap (λ (o : Option Part). option_map (λ p. document_row i (cut_of t)) o) (sym part.1)
   where
-    got : (ds : List Held) (i : ℕ) → i < length ds → (d : Held) × (slice_get ds i ≡ Some d)
+    got : (ds : List DocumentLines) (i : ℕ) → i < length ds → (d : DocumentLines) × (slice_get ds i ≡ Some d)
     got [] i h = absurd (omega (arith, h))
     got (d ∷ ds) zero h = (d, refl)
     got (d ∷ ds) (suc i) h = got ds i (omega (arith, h))
 
-pub first_past : (t : List ℕ) (s : Shown) (ds : List Held) (i : ℕ) → Holds t s ds → length ds ≤ i → None ≡ first_row i (cut_of t)
+pub first_past : (t : List ℕ) (s : Shown) (ds : List DocumentLines) (i : ℕ) → Holds t s ds → length ds ≤ i → None ≡ first_row i (cut_of t)
 first_past t s ds i h past = ap (λ (o : Option Part). option_map (λ p. document_row i (cut_of t)) o) (sym (none_past ds (document_parts (cut_of t)) h.lined i past))
 
-pub first_within : (t : List ℕ) (s : Shown) (ds : List Held) (i k : ℕ) → Holds t s ds → Some k ≡ first_row i (cut_of t) → i < length ds
+pub first_within : (t : List ℕ) (s : Shown) (ds : List DocumentLines) (i k : ℕ) → Holds t s ds → Some k ≡ first_row i (cut_of t) → i < length ds
 first_within t s ds i k h e = go (slice_get (document_parts (cut_of t)) i) refl e
   where
     same : length ds ≡ length (document_parts (cut_of t))
@@ -173,14 +168,14 @@ Place = Option (ℕ × ℕ)
 some_same : {x y : ℕ} → Some x ≡ Some y → x ≡ y
 some_same e = cc
 
-pub held_in : {A : Type 0} (t : List ℕ) (s : Shown) (ds : List Held) (i first : ℕ) (d : Held) (found : Option A) (place : ℕ → Cut → List Row → Option A) → Holds t s ds → slice_get ds i ≡ Some d → Some first ≡ first_row i (cut_of t) →
-    ((u : List ℕ) (c : Cut) (p : Part) (more : List Row) → IsCut u c → s ≡ shown c → lines_in d ≡ lines_of p.rows → HasFlows first c p.rows (flows d.1) → drop first (rows_of c) ≡ p.rows ++ more → found ≡ place first c p.rows) →
+pub held_in : {A : Type 0} (t : List ℕ) (s : Shown) (ds : List DocumentLines) (i first : ℕ) (d : DocumentLines) (found : Option A) (place : ℕ → Cut → List Row → Option A) → Holds t s ds → slice_get ds i ≡ Some d → Some first ≡ first_row i (cut_of t) →
+    ((u : List ℕ) (c : Cut) (p : Part) (more : List Row) → IsCut u c → s ≡ shown c → views d.lines ≡ lines_of p.rows → HasFlows first c p.rows (flows d.lines) → drop first (rows_of c) ≡ p.rows ++ more → found ≡ place first c p.rows) →
     found ≡ (slice_get (document_parts (cut_of t)) i >>= λ p. place (document_row i (cut_of t)) (cut_of t) p.rows)
 held_in t s ds i first d found place h there e told =
     let part = part_at ds (document_parts (cut_of t)) h.lined i d there in
     let b = part_begins (cut_of t) i part.0 part.1 in
     let same : first ≡ document_row i (cut_of t) = some_same (e ∙ ap (λ (o : Option Part). option_map (λ p. document_row i (cut_of t)) o) part.1) in
-    let held : HasFlows first (cut_of t) part.0.rows (flows d.1) = subst (λ (k : ℕ). HasFlows k (cut_of t) part.0.rows (flows d.1)) (sym same) (held_flows t s ds i d part.0 h there part.1) in
+    let held : HasFlows first (cut_of t) part.0.rows (flows d.lines) = subst (λ (k : ℕ). HasFlows k (cut_of t) part.0.rows (flows d.lines)) (sym same) (held_flows t s ds i d part.0 h there part.1) in
     told t (cut_of t) part.0 b.0 h.cut h.rows (ap (λ (x : Lined). x.1) part.2) held (ap (λ (k : ℕ). drop k (rows_of (cut_of t))) same ∙ b.1)
     ∙ (ap (λ (k : ℕ). place k (cut_of t) part.0.rows) same
     ∙ sym (ap (λ (o : Option Part). o >>= λ p. place (document_row i (cut_of t)) (cut_of t) p.rows) part.1))

@@ -10,24 +10,24 @@ use Rattle.yq_scalar.specs.Paths.{Step}
 use Rattle.yq_scalar.proofs.Bools.{bind_some, guard_then}
 use Rattle.yq_inline.specs.Entries.{PlacedEntry, entry_place, content_place}
 use Rattle.yq_inline.specs.Spans.{IsSpan}
-use Rattle.yq_rows.specs.Comments as comments
+use Rattle.yq_lines.specs.Comments as comments
 use Rattle.yq_rows.specs.Grammar.{IsCut}
 use Rattle.yq_rows.specs.Rows.{Row, Cut, cut_text}
 use Rattle.yq_rows.specs.View.{rows_of}
 use Rattle.yq_tree.specs.Documents.{document_parts}
 use Rattle.yq_tree.specs.EntryLaws.{EntriesPlaced}
-use Rattle.yq_tree.specs.EntryPlaces.{lines_end, lines_place, line_entry, line_head, lines_content, line_content, flow_entry, entry_from, content_from, entry_of, content_of, entry_at, content_at}
+use Rattle.yq_tree.specs.EntryPlaces.{lines_place, line_entry, line_head, lines_content, line_content, flow_entry, entry_from, content_from, entry_of, content_of, entry_at, content_at}
 use Rattle.yq_tree.specs.Lines.{row_lines, lines_of}
 use Rattle.yq_tree.specs.Located.{steps_of}
 use Rattle.yq_tree.specs.Reading.{read_at}
-use Rattle.yq_tree.specs.RowPaths.{reached}
+use Rattle.yq_lines.specs.Ends.{reached, lines_end}
 use Rattle.yq_tree.specs.Seats.{Seat, behind_one, seat, document_row}
-use Rattle.yq_tree.specs.Spots.{is_bare}
+use Rattle.yq_lines.specs.Spots.{is_bare}
 use Rattle.yq_tree.proofs.EntryPlaceLaws.{row_there}
 use Rattle.yq_tree.proofs.FinishLaws.{row_boundary, lines_order}
 use Rattle.yq_tree.proofs.FlowSpanLaws.{AreSpans, flow_spans}
 use Rattle.yq_tree.proofs.HeadSpanLaws.{head_span}
-use Rattle.yq_tree.proofs.LineEnds.{end_within}
+use Rattle.yq_lines.proofs.LineEnds.{end_within}
 use Rattle.yq_tree.proofs.ReadLaws.{text_takes}
 use Rattle.yq_tree.proofs.SeamLaws.{line_boundary}
 use Rattle.yq_tree.proofs.SeatLaws.{part_begins}

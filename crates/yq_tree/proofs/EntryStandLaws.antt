@@ -12,7 +12,7 @@ use Rattle.yq_scalar.proofs.Bools.{guard_then}
 use Rattle.yq_inline.specs.Entries.{PlacedEntry, placed_entry_at, entry_place, content_place}
 use Rattle.yq_inline.specs.Nodes as inline
 use Rattle.yq_inline.specs.Places.{Placed, placed, nothing, name, text, sequence, mapping}
-use Rattle.yq_inline.specs.Trees.{tree_of, with_name, placed_tree}
+use Rattle.yq_inline.specs.Trees.{tree_of, with_name, placed_tree, node_head}
 use Rattle.yq_inline.proofs.PathLaws.{entry_tree, path_tree}
 use Rattle.yq_inline.proofs.TreeLaws.{node_tree}
 use Rattle.yq_rows.specs.Exchange.{behind_row}
@@ -20,21 +20,22 @@ use Rattle.yq_rows.specs.Rows.{Content, Nothing, Inline, Block, Row, Part, Cut, 
 use Rattle.yq_tree.specs.declared.path.Path.{Path}
 use Rattle.yq_tree.specs.Documents.{document_parts}
 use Rattle.yq_tree.specs.EntryLaws.{are_none, IsNull, EntriesStand, ContentsStand}
-use Rattle.yq_tree.specs.EntryPlaces.{deeper_count, lines_end, line_head, lines_content, line_content, inline_node, placed_inline, flow_entry, entry_from, content_from, entry_of, content_of, entry_at, content_at}
-use Rattle.yq_tree.specs.Group.{group, is_fine}
-use Rattle.yq_tree.specs.Lines.{node_head, head_of, tail_of, lines_of}
+use Rattle.yq_tree.specs.EntryPlaces.{line_head, lines_content, line_content, inline_node, placed_inline, flow_entry, entry_from, content_from, entry_of, content_of, entry_at, content_at}
+use Rattle.yq_lines.specs.Ends.{deeper_count, lines_end}
+use Rattle.yq_lines.specs.Group.{group, is_fine}
+use Rattle.yq_tree.specs.Lines.{head_of, tail_of, lines_of}
 use Rattle.yq_tree.specs.Located.{steps_of, located}
-use Rattle.yq_tree.specs.Outline.{Line, level, Outline, end, row, flatten, IsEven, anchored, head_or, value}
-use Rattle.yq_tree.specs.Places.{lines_before, lines_after, Found, find, content}
+use Rattle.yq_lines.specs.Outline.{Line, level, Outline, end, row, flatten, IsEven, anchored, head_or, value}
+use Rattle.yq_lines.specs.Places.{lines_before, lines_after, Found, find, content}
 use Rattle.yq_tree.specs.Reading.{document_of, is_document, read_at}
 use Rattle.yq_tree.specs.Seats.{Seat, seat, document_row}
 use Rattle.yq_tree.proofs.CommentStandLaws.{middle, some_head, each}
 use Rattle.yq_tree.proofs.EntryPlaceLaws.{lines_none}
-use Rattle.yq_tree.proofs.Finding.{node-anchored, FoundNode, path_node}
-use Rattle.yq_tree.proofs.LabelPaths.{HasHead, rest_head}
-use Rattle.yq_tree.proofs.LineEnds.{end_within, end_behind}
+use Rattle.yq_lines.proofs.Finding.{node-anchored, FoundNode, path_node}
+use Rattle.yq_lines.proofs.LabelPaths.{HasHead, rest_head}
+use Rattle.yq_lines.proofs.LineEnds.{end_within, end_behind}
 use Rattle.yq_tree.proofs.LinePlaceLaws.{head_stands, line_stands, lines_hold}
-use Rattle.yq_tree.proofs.PlaceLaws.{at}
+use Rattle.yq_lines.proofs.PlaceLaws.{at}
 use Rattle.yq_tree.proofs.ReadLaws.{cut_is, text_takes}
 use Rattle.yq_tree.proofs.RowPathLaws.{found_lines, found_place, document_fine}
 use Rattle.yq_tree.proofs.SeatLineLaws.{Tells, seat_line}

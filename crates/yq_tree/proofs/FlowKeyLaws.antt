@@ -1,5 +1,5 @@
 -- The keys of a node by their places are its keys.
-use Rattle.std.proofs.Common.{◌≡◌, ℕ, zero, suc, ◌≤◌, ◌+◌, ◌-◌, true, false, cond, ◌&&◌, eqb, List, [], ◌∷◌, ◌++◌, length, take, drop, refl, sym, ap, ◌∙◌, arith, append_assoc, length-append, get_or, subst, ◌<◌}
+use Rattle.std.proofs.Common.{◌≡◌, ℕ, ◌+◌, ◌-◌, true, false, cond, ◌&&◌, eqb, List, [], ◌∷◌, ◌++◌, length, take, drop, refl, sym, ap, ◌∙◌, arith, append_assoc, length-append, get_or, subst, ◌<◌}
 use Rattle.std.specs.Prelude.{String}
 use Rattle.std.specs.declared.alloc.Global.{Global}
 use Rattle.yq_scalar.specs.declared.piece.Piece.{Piece}
@@ -7,7 +7,7 @@ use Rattle.yq_inline.specs.declared.inline.Inline.{Inline}
 use Rattle.yq_inline.specs.View.{view, items_end, entries_end}
 use Rattle.std.proofs.lemmas.List.{take_at, drop_at, drop_more}
 use Rattle.yq_inline.specs.Nodes.{Key, bare, keyed, Sep, last, comma, Node, empty, alias, scalar, coll, anchored, Items, none, item, key_text, sep_text, node_text, items_text, open_of}
-use Rattle.yq_inline.specs.Places.{Placed, placed, Content, nothing, name, text, sequence, mapping, Parts, end, part, holder, key_placed, with_anchor, locate, locate_items}
+use Rattle.yq_inline.specs.Places.{Placed, placed, sequence, mapping, Parts, holder, key_placed, with_anchor, locate, locate_items}
 use Rattle.yq_inline.proofs.WrittenLaws.{node_then}
 use Rattle.yq_tree.specs.Reading.{is_fit, has_fit_key, has_fit_keys, each_has_fit_keys}
 use Rattle.yq_inline.specs.Spans.{HasSpans, PartsHaveSpans}
@@ -82,41 +82,3 @@ item_stands t xs i x within is h =
     let e : drop i xs ≡ x ∷ drop (i + 1) xs = drop_more xs i x within ∙ ap (λ y. y ∷ drop (i + 1) xs) (sym is) in
     let here : PartsHaveSpans t (items_end (x ∷ drop (i + 1) xs)) = subst (λ l. PartsHaveSpans t (items_end l)) e h in
     here.1
-
--- how many nodes there are
-abbrev mutual
-  pub node_size : Placed → ℕ
-  node_size (placed a s c e f) = suc (form_size f)
-
-  pub form_size : Content → ℕ
-  form_size nothing = 0
-  form_size (name n) = 0
-  form_size (text s p) = 0
-  form_size (sequence parts) = parts_size parts
-  form_size (mapping parts) = parts_size parts
-
-  pub parts_size : Parts → ℕ
-  parts_size end = 0
-  parts_size (part key n parts) = node_size n + parts_size parts
-
-drop_items : (xs : List Inline) (i : ℕ) → parts_size (items_end (drop i xs)) ≤ parts_size (items_end xs)
-drop_items xs zero = omega arith
-drop_items [] (suc i) = omega arith
-drop_items (x ∷ xs) (suc i) = omega (arith, drop_items xs i)
-
-drop_entries : (xs : List (String Global × Piece × Inline)) (i : ℕ) → parts_size (entries_end (drop i xs)) ≤ parts_size (entries_end xs)
-drop_entries xs zero = omega arith
-drop_entries [] (suc i) = omega arith
-drop_entries (x ∷ xs) (suc i) = omega (arith, drop_entries xs i)
-
-pub item_size : (xs : List Inline) (i : ℕ) (x : Inline) → i < length xs → x ≡ get_or xs i x → node_size (view x) ≤ parts_size (items_end xs)
-item_size xs i x within is =
-    let e : drop i xs ≡ x ∷ drop (i + 1) xs = drop_more xs i x within ∙ ap (λ y. y ∷ drop (i + 1) xs) (sym is) in
-    let whole : parts_size (items_end (drop i xs)) ≡ node_size (view x) + parts_size (items_end (drop (i + 1) xs)) = ap (λ l. parts_size (items_end l)) e in
-    omega (arith, drop_items xs i, whole)
-
-pub entry_size : (xs : List (String Global × Piece × Inline)) (i : ℕ) (x : String Global × Piece × Inline) → i < length xs → x ≡ get_or xs i x → node_size (view x.2) ≤ parts_size (entries_end xs)
-entry_size xs i x within is =
-    let e : drop i xs ≡ x ∷ drop (i + 1) xs = drop_more xs i x within ∙ ap (λ y. y ∷ drop (i + 1) xs) (sym is) in
-    let whole : parts_size (entries_end (drop i xs)) ≡ node_size (view x.2) + parts_size (entries_end (drop (i + 1) xs)) = ap (λ l. parts_size (entries_end l)) e in
-    omega (arith, drop_entries xs i, whole)

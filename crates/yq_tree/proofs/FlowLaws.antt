@@ -10,7 +10,7 @@ use Rattle.yq_scalar.specs.Tree.{Children}
 use Rattle.yq_inline.specs.declared.inline.Inline.{Inline}
 use Rattle.yq_inline.specs.Trees.{inner, placed_tree, parts_tree}
 use Rattle.yq_inline.specs.View.{view, items_end, entries_end}
-use Rattle.yq_tree.specs.Labelled.{Labelled, labelled_at}
+use Rattle.yq_lines.specs.Labelled.{Labelled, labelled_at}
 
 abbrev pub items_tree : List Inline → Children
 items_tree is = parts_tree (items_end is)

@@ -20,7 +20,7 @@ use Rattle.yq_inline.specs.Inline.{depth_limit, IsInlineAt}
 use Rattle.yq_inline.specs.Nodes.{Node, empty, alias, scalar, coll, anchored, node_text, items_text, is_bare, takes_anchor, IsNode}
 use Rattle.yq_inline.specs.Places.{placed, mapping, sequence, Parts, holder, locate, locate_items}
 use Rattle.yq_inline.specs.Scalars.{IsScalar, is_quoted, begins_scalar, scalar_of}
-use Rattle.yq_inline.specs.Trees.{scalar_node, placed_tree, tree_of}
+use Rattle.yq_inline.specs.Trees.{scalar_node, placed_tree, tree_of, node_head}
 use Rattle.yq_inline.proofs.NodeAgain.{is_anchored}
 use Rattle.yq_inline.proofs.InlineLaws.{inline_again}
 use Rattle.yq_inline.proofs.PieceLaws.{front_not, scalar_begins, scalar_some}
@@ -30,11 +30,11 @@ use Rattle.yq_rows.specs.Grammar.{IsContent}
 use Rattle.yq_rows.specs.Rows.{Content, Nothing, Inline, Block}
 use Rattle.yq_rows.specs.View.{anchor_cut, content_cut}
 use Rattle.yq_tree.specs.KeyReading.{EndsIn}
-use Rattle.yq_tree.specs.Lines.{node_head, head_of}
+use Rattle.yq_tree.specs.Lines.{head_of}
 use Rattle.yq_tree.specs.Reading.{has_fit_keys, content_is_fit}
 use Rattle.yq_tree.specs.RowReading.{placed_head, is_short_plain, begins_block, block_head_at, fit_head, node_head_at, head_at}
 use Rattle.yq_tree.proofs.FlowKeyLaws.{keys_there}
-use Rattle.yq_tree.proofs.OneLine.{one_line}
+use Rattle.yq_lines.proofs.OneLine.{one_line}
 
 -- an inline node that is read is its head
 holder_head : (s c e k : ℕ) (parts : Parts) → placed_head (placed None s c e (holder k parts)) ≡ Some (placed_tree (placed None s c e (holder k parts)))

@@ -4,15 +4,15 @@ use Rattle.std.proofs.lemmas.Bool.{false≢true}
 use Rattle.yq_scalar.specs.declared.kind.Kind.TheVariants.{Text}
 use Rattle.yq_scalar.specs.Tree as tree
 use Rattle.yq_inline.specs.Nodes.{Node, empty, alias, scalar, coll, anchored, takes_anchor, IsNode}
-use Rattle.yq_inline.specs.Trees.{tree_of, items_tree}
-use Rattle.yq_rows.specs.Comments.{head_comment}
+use Rattle.yq_inline.specs.Trees.{tree_of, items_tree, node_anchor, node_head}
+use Rattle.yq_lines.specs.Comments.{head_comment}
 use Rattle.yq_rows.specs.Grammar.{Limit, limit_after, IsContent, AreRows}
 use Rattle.yq_rows.specs.Rows as rows
 use Rattle.yq_rows.specs.Rows.{Anchor, Content, Nothing, Inline, Row, parent_indent}
-use Rattle.yq_tree.specs.Anchors.{IsNoAlias}
-use Rattle.yq_tree.specs.Lines.{node_anchor, node_head, block_anchor, anchor_of, head_of, lines_from, row_lines, lines_of}
-use Rattle.yq_tree.specs.Names.{IsUnnamed, MayBeNamed, HaveHeadsApart}
-use Rattle.yq_tree.specs.Outline.{Line}
+use Rattle.yq_lines.specs.Anchors.{IsNoAlias}
+use Rattle.yq_tree.specs.Lines.{block_anchor, anchor_of, head_of, lines_from, row_lines, lines_of}
+use Rattle.yq_lines.specs.Names.{IsUnnamed, MayBeNamed, HaveHeadsApart}
+use Rattle.yq_lines.specs.Outline.{Line}
 
 -- a head and the anchor before it
 abbrev IsApart : Option (List ℕ) → Option tree.Node → Type 0

@@ -8,13 +8,14 @@ use Rattle.yq_rows.specs.Exchange.{behind_at, behind_row}
 use Rattle.yq_rows.specs.Grammar.{begins_document}
 use Rattle.yq_rows.specs.Rows.{Row, rows_text, Part, Cut, last, marked, cut_text}
 use Rattle.yq_rows.specs.View.{Shown}
-use Rattle.yq_tree.specs.declared.line.Line as declared
 use Rattle.yq_tree.specs.Documents.{parts_from, document_parts, begins_bare, has_begin}
 use Rattle.yq_tree.specs.EntryReading.{HasFlows}
-use Rattle.yq_tree.specs.FlowReading.{flows, row_flow, rows_flows, cut_flows, lines_flows}
+use Rattle.yq_tree.specs.FlowReading.{row_flow, rows_flows, cut_flows, lines_flows}
+use Rattle.yq_lines.specs.View.{flows}
 use Rattle.yq_tree.specs.Reading.{cut_of}
 use Rattle.yq_tree.specs.Seats.{Seat, behind_one, seat, rows_before, document_row}
 use Rattle.yq_tree.specs.SoundReading.{Holds}
+use Rattle.yq_tree.specs.declared.checks.DocumentLines.{DocumentLines}
 
 -- lists, one behind another
 get_back : {A : Type 0} (xs ys : List A) (n : ℕ) → length xs ≤ n → slice_get (xs ++ ys) n ≡ slice_get ys (n - length xs)
@@ -97,21 +98,17 @@ has_part total false i (marked q marker c) p e =
     let again = has_part total (begins_document marker) i c p e in
     record { rest = again.rest; lines = again.lines; behind = λ j h. in_later q marker c (rows_before (begins_document marker) i c) j ∙ again.behind j h }
 
--- what documents hold
-abbrev Held : Type 0
-Held = List ℕ × List declared.Line
-
 lists_same : {x y : List (Option Placed)} → Some x ≡ Some y → x ≡ y
 lists_same e = cc
 
 -- the lines of a document that is held
-pub held_flows : (t : List ℕ) (s : Shown) (ds : List Held) (i : ℕ) (d : Held) (p : Part) → Holds t s ds → slice_get ds i ≡ Some d → slice_get (document_parts (cut_of t)) i ≡ Some p → HasFlows (document_row i (cut_of t)) (cut_of t) p.rows (flows d.1)
+pub held_flows : (t : List ℕ) (s : Shown) (ds : List DocumentLines) (i : ℕ) (d : DocumentLines) (p : Part) → Holds t s ds → slice_get ds i ≡ Some d → slice_get (document_parts (cut_of t)) i ≡ Some p → HasFlows (document_row i (cut_of t)) (cut_of t) p.rows (flows d.lines)
 held_flows t s ds i d p h there at n q is mark =
     let c : Cut = cut_of t in
     let o = has_part (length t) (begins_bare c || not (has_begin c)) i c p at in
     let told = rows_tell (length t) p.rows o.rest n q is mark in
-    let held : slice_get (lines_flows ds) i ≡ Some (flows d.1) = slice_get-map (λ (x : Held). flows x.1) ds i ∙ ap (option_map (λ (x : Held). flows x.1)) there in
-    let same : flows d.1 ≡ rows_flows (length t) p.rows o.rest = lists_same (sym held ∙ (ap (λ (fs : List (List (Option Placed))). slice_get fs i) h.flows ∙ o.lines)) in
+    let held : slice_get (lines_flows ds) i ≡ Some (flows d.lines) = slice_get-map (λ (x : DocumentLines). flows x.lines) ds i ∙ ap (option_map (λ (x : DocumentLines). flows x.lines)) there in
+    let same : flows d.lines ≡ rows_flows (length t) p.rows o.rest = lists_same (sym held ∙ (ap (λ (fs : List (List (Option Placed))). slice_get fs i) h.flows ∙ o.lines)) in
     ap (λ (fs : List (Option Placed)). slice_get fs n) same
     ∙ (told.1
     ∙ λ j. Some (row_flow (length (h.cut.text j)) q.row (sym (o.behind q.before told.0) j)))

@@ -23,7 +23,7 @@ use Rattle.yq_rows.specs.View.{rows_of}
 use Rattle.yq_rows.proofs.CharacterLaws.{text_exchanged}
 use Rattle.yq_rows.proofs.PlaceLaws.{place, new_place}
 use Rattle.yq_tree.specs.Lines.{anchor_of, head_of}
-use Rattle.yq_tree.specs.Outline.{first_anchor, anchored, head_or, null}
+use Rattle.yq_lines.specs.Outline.{first_anchor, anchored, head_or, null}
 use Rattle.yq_tree.specs.RowPaths.{spelled, with_core, takes_scalar, put_scalar, IsReadable}
 use Rattle.yq_tree.specs.Written.{Written, node_scalar}
 use Rattle.yq_tree.proofs.CoreLaws.{IsCore, core_of, core_stands, core_past, begins_line}

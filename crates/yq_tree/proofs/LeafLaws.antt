@@ -3,13 +3,12 @@ use Rattle.std.proofs.Common.{◌≡◌, ℕ, suc, ◌+◌, ◌<◌, ◌≤◌, 
 use Rattle.std.proofs.lemmas.Bool.{lt-ltb, le-ltb}
 use Rattle.std.specs.List.{slice_get}
 use Rattle.yq_scalar.specs.Paths.{Step}
-use Rattle.yq_tree.specs.Ends.{part, is_end}
-use Rattle.yq_tree.specs.Group.{deeper, shallow, group, is_fine}
-use Rattle.yq_tree.specs.Nodes.{lines_under}
-use Rattle.yq_tree.specs.Outline.{Line, level, Outline, end, row, flatten, IsEven}
-use Rattle.yq_tree.specs.Places.{lines_before, lines_after, Found, find}
-use Rattle.yq_tree.specs.RowPaths.{found_line, line_of, has_none_under, is_leaf}
-use Rattle.yq_tree.proofs.EndsLaws.{has_line}
+use Rattle.yq_lines.specs.Ends.{part, is_end, found_line, line_of, has_none_under, is_leaf}
+use Rattle.yq_lines.specs.Group.{deeper, shallow, group, is_fine}
+use Rattle.yq_lines.specs.Bodies.{lines_under}
+use Rattle.yq_lines.specs.Outline.{Line, level, Outline, end, row, flatten, IsEven}
+use Rattle.yq_lines.specs.Places.{lines_before, lines_after, Found, find}
+use Rattle.yq_lines.proofs.EndsLaws.{has_line}
 use Rattle.yq_tree.proofs.NextLaws.{StartsAt, found_starts}
 use Rattle.yq_tree.proofs.RowPathLaws.{found_lines, found_place}
 

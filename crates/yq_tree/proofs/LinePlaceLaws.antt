@@ -4,14 +4,15 @@ use Rattle.std.proofs.lemmas.Bool.{eqb-true}
 use Rattle.std.specs.List.{slice_get}
 use Rattle.yq_scalar.specs.Answers.{◌>>=◌}
 use Rattle.yq_rows.specs.Rows.{Row, Cut}
-use Rattle.yq_tree.specs.EntryPlaces.{lines_end, lines_place, line_entry, head_extent, line_head, lines_content}
+use Rattle.yq_tree.specs.EntryPlaces.{lines_place, line_entry, head_extent, line_head, lines_content}
+use Rattle.yq_lines.specs.Ends.{lines_end}
 use Rattle.yq_tree.specs.Lines.{lines_of}
-use Rattle.yq_tree.specs.Outline.{Line}
+use Rattle.yq_lines.specs.Outline.{Line}
 use Rattle.yq_tree.specs.Seats.{Seat, seat}
-use Rattle.yq_tree.specs.Spots.{is_bare}
-use Rattle.yq_tree.proofs.EndsLaws.{has_line}
+use Rattle.yq_lines.specs.Spots.{is_bare}
+use Rattle.yq_lines.proofs.EndsLaws.{has_line}
 use Rattle.yq_tree.proofs.EntryPlaceLaws.{between}
-use Rattle.yq_tree.proofs.LineEnds.{end_within}
+use Rattle.yq_lines.proofs.LineEnds.{end_within}
 use Rattle.yq_tree.proofs.SeatLineLaws.{seat_line}
 
 -- lines that are there have a place

@@ -6,7 +6,7 @@ use Rattle.yq_scalar.specs.declared.fault.ReadError.TheVariants as errors
 use Rattle.yq_scalar.specs.Answers.{Fails}
 use Rattle.yq_scalar.proofs.Bools.{guard_some}
 use Rattle.yq_inline.specs.Places.{Placed}
-use Rattle.yq_rows.specs.Comments.{head_comment}
+use Rattle.yq_lines.specs.Comments.{head_comment}
 use Rattle.yq_rows.specs.Grammar.{unlimited}
 use Rattle.yq_rows.specs.Rows.{Row, Part}
 use Rattle.yq_rows.specs.View.{Slices, slices, Bound}
@@ -14,7 +14,7 @@ use Rattle.yq_tree.specs.Documents.{first_gap, lead_of}
 use Rattle.yq_tree.specs.FlowReading.{rows_flows, part_flows}
 use Rattle.yq_tree.specs.KeyReading.{EndsIn}
 use Rattle.yq_tree.specs.Lines.{lines_of}
-use Rattle.yq_tree.specs.Outline.{Line}
+use Rattle.yq_lines.specs.Outline.{Line}
 use Rattle.yq_tree.specs.PartReading.{HasRows, HasPart, part_made, part_fits, lined_made}
 use Rattle.yq_tree.specs.Reading.{have_fit_keys, has_short_root}
 use Rattle.yq_tree.proofs.FlowKeyLaws.{past}

@@ -3,19 +3,20 @@ use Rattle.std.proofs.Common.{◌≡◌, ℕ, zero, suc, ◌-◌, ◌<◌, ◌�
 use Rattle.std.proofs.lemmas.Bool.{lt-ltb, ltb-true, ltb-false}
 use Rattle.std.proofs.lemmas.List.{drop-append-le}
 use Rattle.yq_scalar.specs.Paths.{Step}
-use Rattle.yq_rows.specs.Comments.{head_comment}
+use Rattle.yq_lines.specs.Comments.{head_comment}
 use Rattle.yq_rows.specs.Exchange.{rows_behind, allows_first}
 use Rattle.yq_rows.specs.Grammar.{Limit}
 use Rattle.yq_rows.specs.Rows.{Row, mark_column, Cut, last, marked}
 use Rattle.yq_rows.specs.View.{rows_of}
 use Rattle.yq_tree.specs.Documents.{Document}
-use Rattle.yq_tree.specs.Group.{group, level_or, is_fine}
+use Rattle.yq_lines.specs.Group.{group, level_or, is_fine}
 use Rattle.yq_tree.specs.Lines.{mark_line, dash_line, lines_from, lines_of}
-use Rattle.yq_tree.specs.Outline as outline
-use Rattle.yq_tree.specs.Outline.{Line, rank, level, Outline, end, row, flatten, IsEven}
-use Rattle.yq_tree.specs.Places.{Place, here, below, beside, lines_after, Found, find}
-use Rattle.yq_tree.specs.RowPaths.{Leads, is_leaf}
-use Rattle.yq_tree.proofs.Allowing.{Allows}
+use Rattle.yq_lines.specs.Outline as outline
+use Rattle.yq_lines.specs.Outline.{Line, rank, level, Outline, end, row, flatten, IsEven}
+use Rattle.yq_lines.specs.Places.{Place, here, below, beside, lines_after, Found, find}
+use Rattle.yq_tree.specs.RowPaths.{Leads}
+use Rattle.yq_lines.specs.Ends.{is_leaf}
+use Rattle.yq_lines.proofs.Allowing.{Allows}
 use Rattle.yq_tree.proofs.RowLines.{last_line}
 use Rattle.yq_tree.proofs.RowPathLaws.{is_one, rows_are, path_reached, same_row, under_end, reached_lines, found_place, document_fine}
 

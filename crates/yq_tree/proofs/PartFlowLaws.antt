@@ -6,7 +6,7 @@ use Rattle.yq_rows.specs.Grammar.{begins_document, IsCut}
 use Rattle.yq_rows.specs.Rows.{Row, Cut, last, marked}
 use Rattle.yq_rows.specs.View.{Slices, Bound, Shown, shown}
 use Rattle.yq_tree.specs.FlowReading.{row_flows, rows_flows, part_flows, parts_flows, with_flows, cut_flows, document_flows}
-use Rattle.yq_tree.specs.Outline.{Line}
+use Rattle.yq_lines.specs.Outline.{Line}
 use Rattle.yq_tree.specs.PartReading.{HasRows, HasPart, Lined, lined_made, part_fits, Marked, parts_bounds, HasParts, some_begin, first_rows}
 use Rattle.yq_tree.specs.RowReading.{HasRow, row_fits, row_made}
 use Rattle.yq_tree.proofs.PartLineLaws.{first}

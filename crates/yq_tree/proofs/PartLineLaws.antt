@@ -14,7 +14,7 @@ use Rattle.yq_rows.specs.View.{Slices, slices}
 use Rattle.yq_tree.specs.FlowReading.{row_flows, rows_flows}
 use Rattle.yq_tree.specs.KeyReading.{EndsIn}
 use Rattle.yq_tree.specs.Lines.{row_lines, lines_of}
-use Rattle.yq_tree.specs.Outline.{Line}
+use Rattle.yq_lines.specs.Outline.{Line}
 use Rattle.yq_tree.specs.PartReading.{HasRows, part_made}
 use Rattle.yq_tree.specs.Reading.{mark_is_fit, content_is_fit, have_fit_keys}
 use Rattle.yq_tree.specs.RowReading.{HasRow, row_fits, row_made}

@@ -12,7 +12,7 @@ use Rattle.yq_scalar.proofs.Bools.{and_true}
 use Rattle.yq_scalar.proofs.Boundaries.{white_ascii, break_ascii}
 use Rattle.yq_scalar.proofs.LineLaws.{joined_lines}
 use Rattle.yq_scalar.proofs.Upto.{upto_ends}
-use Rattle.yq_rows.specs.Comments.{are_comments}
+use Rattle.yq_lines.specs.Comments.{are_comments}
 use Rattle.yq_rows.specs.Exchange.{behind_at, behind_row, HasPieces}
 use Rattle.yq_rows.specs.Gap.{IsLineEnd, IsGap, AreGapLines}
 use Rattle.yq_rows.specs.Grammar.{IsTail, IsContent}

@@ -4,13 +4,13 @@ use Rattle.yq_scalar.specs.Tree.{Label, Node, alias, scalar, list, map, Children
 use Rattle.yq_scalar.specs.Paths.{Step, is_here, further}
 use Rattle.yq_inline.specs.Nodes as inline
 use Rattle.yq_inline.specs.Nodes.{Items, item}
-use Rattle.yq_inline.specs.Trees.{tree_of, items_tree, collection, with_name}
+use Rattle.yq_inline.specs.Trees.{tree_of, items_tree, collection, with_name, node_head}
 use Rattle.yq_rows.specs.Rows.{Content, Nothing, Inline, Block}
-use Rattle.yq_tree.specs.Labelled.{Labelled, labelled_at, labelled_from}
-use Rattle.yq_tree.specs.Lines.{node_head, head_of}
-use Rattle.yq_tree.specs.Outline.{anchored}
-use Rattle.yq_tree.proofs.LabelPaths.{reach}
-use Rattle.yq_tree.proofs.Values.{If}
+use Rattle.yq_lines.specs.Labelled.{Labelled, labelled_at, labelled_from}
+use Rattle.yq_tree.specs.Lines.{head_of}
+use Rattle.yq_lines.specs.Outline.{anchored}
+use Rattle.yq_lines.proofs.LabelPaths.{reach}
+use Rattle.yq_lines.proofs.Values.{If}
 
 -- a label without comments
 abbrev pub HasNone : Label → Type 0

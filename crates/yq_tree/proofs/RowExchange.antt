@@ -6,26 +6,27 @@ use Rattle.yq_scalar.specs.Keys.{depth}
 use Rattle.yq_scalar.specs.Paths.{Step, change}
 use Rattle.yq_scalar.specs.Tree.{Label, Node}
 use Rattle.yq_inline.specs.Inline.{depth_limit}
-use Rattle.yq_rows.specs.Comments.{head_comment, line_comment}
+use Rattle.yq_lines.specs.Comments.{head_comment, line_comment}
 use Rattle.yq_rows.specs.Exchange.{with_content_at, with_content_in}
 use Rattle.yq_rows.specs.Grammar.{is_entry}
 use Rattle.yq_rows.specs.Rows as rows
 use Rattle.yq_rows.specs.Rows.{Content, Row, Part}
-use Rattle.yq_tree.specs.Anchors.{names_of}
+use Rattle.yq_lines.specs.Anchors.{names_of}
 use Rattle.yq_tree.specs.Documents.{first_gap, is_long_plain}
-use Rattle.yq_tree.specs.Group.{level_or, is_fine}
-use Rattle.yq_tree.specs.Laws.{with_lines}
+use Rattle.yq_lines.specs.Group.{level_or, is_fine}
+use Rattle.yq_lines.specs.Laws.{with_lines}
 use Rattle.yq_tree.specs.Lines.{anchor_of, tail_of, mark_of, lines_of}
-use Rattle.yq_tree.specs.Outline.{Mark, Bare, Key, Dash, Line, level, Outline, end, flatten, IsOpen, IsEven, label, key_of, Stands}
-use Rattle.yq_tree.specs.Places.{lines_after, content}
-use Rattle.yq_tree.specs.Reading.{outline_of, root_of, document_of, content_is_fit, mark_is_fit, have_fit_keys, has_short_root, may_take, is_free, have_one_anchor_each, are_bound, is_document}
+use Rattle.yq_lines.specs.Outline.{Mark, Bare, Key, Dash, Line, level, Outline, end, flatten, IsOpen, IsEven, label, key_of, Stands}
+use Rattle.yq_lines.specs.Places.{lines_after, content}
+use Rattle.yq_tree.specs.Reading.{outline_of, root_of, document_of, content_is_fit, mark_is_fit, have_fit_keys, has_short_root, is_document}
+use Rattle.yq_lines.specs.LinesReading.{may_take, is_free, have_one_anchor_each, are_bound}
 use Rattle.yq_tree.specs.RowPaths.{spelled}
-use Rattle.yq_tree.specs.Sound.{has_unique_keys, is_sound}
-use Rattle.yq_tree.proofs.Allowing.{IsEntry}
-use Rattle.yq_tree.proofs.Decides.{even_from, stand-complete}
+use Rattle.yq_lines.specs.Sound.{has_unique_keys, is_sound}
+use Rattle.yq_lines.proofs.Allowing.{IsEntry}
+use Rattle.yq_lines.proofs.Decides.{even_from, stand-complete}
 use Rattle.yq_tree.proofs.DocumentLaws.{fine_value}
-use Rattle.yq_tree.proofs.PlaceLaws.{exchanged}
-use Rattle.yq_tree.proofs.Plug.{entry_whole}
+use Rattle.yq_lines.proofs.PlaceLaws.{exchanged}
+use Rattle.yq_lines.proofs.Plug.{entry_whole}
 use Rattle.yq_tree.proofs.RowLines.{last_line, same_rows}
 use Rattle.yq_tree.proofs.RowPathLaws.{Reached, reached_lines, leaf_node, document_fine}
 

@@ -14,18 +14,18 @@ use Rattle.yq_inline.specs.Places.{Placed, locate}
 use Rattle.yq_inline.proofs.InlineLaws.{inline_again}
 use Rattle.yq_inline.proofs.NodeAgain.{is_anchored}
 use Rattle.yq_inline.proofs.WrittenLaws.{node_then}
-use Rattle.yq_rows.specs.Comments as comments
+use Rattle.yq_lines.specs.Comments as comments
 use Rattle.yq_rows.specs.Grammar.{IsContent, Limit, IsRow}
 use Rattle.yq_rows.specs.Rows as rows
 use Rattle.yq_rows.specs.Rows.{Content, Nothing, Inline, Block, Row, dashes_text, parent_indent}
 use Rattle.yq_rows.specs.View.{Slices, last_dash, anchor_cut, content_cut, slices}
-use Rattle.yq_tree.specs.declared.line.Line as declared
-use Rattle.yq_tree.specs.FlowReading.{head_flow, flows, kept, node_flow_at, head_flow_at, core, content_core, row_flow, row_flows}
+use Rattle.yq_lines.specs.declared.line.Line as declared
+use Rattle.yq_tree.specs.FlowReading.{kept, node_flow_at, head_flow_at, core, content_core, row_flow, row_flows}
 use Rattle.yq_tree.specs.KeyReading.{EndsIn}
 use Rattle.yq_tree.specs.Lines.{tail_of, mark_line, lines_from}
-use Rattle.yq_tree.specs.Outline.{Line}
+use Rattle.yq_lines.specs.Outline.{Line}
 use Rattle.yq_tree.specs.RowReading.{is_short_plain, begins_block, Begun, dashes_at, from_head, HasRow}
-use Rattle.yq_tree.specs.View.{views}
+use Rattle.yq_lines.specs.View.{views, head_flow, flows}
 use Rattle.yq_tree.proofs.HeadLaws.{ends_drop, head_text, no_anchor, opens, block_marks, scalar_some_is}
 use Rattle.yq_tree.proofs.RowLineLaws.{finish, dashes_are}
 

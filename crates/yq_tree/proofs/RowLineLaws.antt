@@ -14,14 +14,14 @@ use Rattle.yq_inline.specs.Nodes.{empty, alias, scalar, coll, anchored}
 use Rattle.yq_inline.specs.Scalars.{IsScalar, is_quoted, content_of}
 use Rattle.yq_scalar.proofs.Bools.{guard_some}
 use Rattle.yq_inline.proofs.PieceLaws.{front_not}
-use Rattle.yq_rows.specs.Comments as comments
+use Rattle.yq_lines.specs.Comments as comments
 use Rattle.yq_rows.specs.Grammar.{IsMark, AreDashes, Limit, IsRow}
 use Rattle.yq_rows.specs.Rows as rows
 use Rattle.yq_rows.specs.Rows.{Content, Nothing, Inline, Block, Row, dashes_text, parent_indent, print_row}
 use Rattle.yq_rows.specs.View.{Slices, last_dash, key_of, colon_of, content_cut, slices, slices_text}
 use Rattle.yq_rows.proofs.SliceLaws.{slices_are}
 use Rattle.yq_tree.specs.Lines.{anchor_of, head_of, tail_of, mark_of, mark_line, dash_line, lines_from, row_lines}
-use Rattle.yq_tree.specs.Outline.{Mark, Bare, Key, Dash, Line}
+use Rattle.yq_lines.specs.Outline.{Mark, Bare, Key, Dash, Line}
 use Rattle.yq_tree.specs.FitReading.{key_fits}
 use Rattle.yq_tree.specs.KeyReading.{EndsIn}
 use Rattle.yq_tree.specs.Reading.{mark_is_fit, content_is_fit}

@@ -2,11 +2,11 @@
 use Rattle.std.proofs.Common.{◌≡◌, ◌⊎◌, inl, inr, ℕ, zero, suc, ◌+◌, ◌-◌, ◌<◌, ◌≤◌, ltb, eqb, List, [], ◌∷◌, ◌++◌, length, drop, Option, Some, None, option_map, Bool, true, false, cond, refl, sym, ap, ◌∙◌, subst, arith, append_assoc, length-append}
 use Rattle.std.proofs.lemmas.Bool.{ltb-false, eqb-true, eqb-false, cases_lt}
 use Rattle.std.specs.List.{slice_get}
-use Rattle.yq_rows.specs.Comments.{head_comment}
+use Rattle.yq_lines.specs.Comments.{head_comment}
 use Rattle.yq_rows.specs.Exchange.{with_content, with_content_at}
 use Rattle.yq_rows.specs.Rows.{Mark, Content, Row, behind_columns, mark_column}
 use Rattle.yq_tree.specs.Lines.{mark_line, dash_line, lines_from, row_lines, lines_of}
-use Rattle.yq_tree.specs.Outline.{Line}
+use Rattle.yq_lines.specs.Outline.{Line}
 use Rattle.yq_tree.specs.RowPaths.{line_row}
 
 -- the lines of dashes before a mark

@@ -10,22 +10,23 @@ use Rattle.yq_scalar.proofs.Bools.{guard_then}
 use Rattle.yq_rows.specs.Grammar.{IsCut}
 use Rattle.yq_rows.specs.Rows.{Row, Part, Cut}
 use Rattle.yq_rows.specs.View.{rows_of}
-use Rattle.yq_tree.specs.Anchors.{names_of}
+use Rattle.yq_lines.specs.Anchors.{names_of}
 use Rattle.yq_tree.specs.Documents.{Document, document_parts}
-use Rattle.yq_tree.specs.Ends.{is_end}
-use Rattle.yq_tree.specs.Group.{group, level_or, is_fine}
-use Rattle.yq_tree.specs.Laws.{with_lines}
+use Rattle.yq_lines.specs.Ends.{is_end, found_line, line_of, has_none_under, is_leaf}
+use Rattle.yq_lines.specs.Group.{group, level_or, is_fine}
+use Rattle.yq_lines.specs.Laws.{with_lines}
 use Rattle.yq_tree.specs.Lines.{head_of, lines_of}
-use Rattle.yq_tree.specs.Outline.{Line, level, Outline, end, row, flatten, IsOpen, IsEven, value}
-use Rattle.yq_tree.specs.Places.{plug, lines_before, lines_after, Found, find, content}
-use Rattle.yq_tree.specs.Reading.{outline_of, root_of, document_of, have_fit_keys, has_short_root, have_one_anchor_each, are_bound, is_document, documents, read_at}
-use Rattle.yq_tree.specs.RowPaths.{line_row, found_line, line_of, has_none_under, is_leaf, row_at, spelled, HeadIsLeaf, LeadsToRow}
-use Rattle.yq_tree.proofs.Allowing.{Allows}
-use Rattle.yq_tree.proofs.Decides.{flatten-group, even_from}
-use Rattle.yq_tree.proofs.Finding.{FoundNode, path_node, IsFoundIn, path_whole}
+use Rattle.yq_lines.specs.Outline.{Line, level, Outline, end, row, flatten, IsOpen, IsEven, value}
+use Rattle.yq_lines.specs.Places.{plug, lines_before, lines_after, Found, find, content}
+use Rattle.yq_tree.specs.Reading.{outline_of, root_of, document_of, have_fit_keys, has_short_root, is_document, documents, read_at}
+use Rattle.yq_lines.specs.LinesReading.{have_one_anchor_each, are_bound}
+use Rattle.yq_tree.specs.RowPaths.{line_row, row_at, spelled, HeadIsLeaf, LeadsToRow}
+use Rattle.yq_lines.proofs.Allowing.{Allows}
+use Rattle.yq_lines.proofs.Decides.{flatten-group, even_from}
+use Rattle.yq_lines.proofs.Finding.{FoundNode, path_node, IsFoundIn, path_whole}
 use Rattle.yq_tree.proofs.OneDocument.{rows_of_one}
-use Rattle.yq_tree.proofs.PlaceLaws.{at, placed}
-use Rattle.yq_tree.proofs.Plug.{allows_from}
+use Rattle.yq_lines.proofs.PlaceLaws.{at, placed}
+use Rattle.yq_lines.proofs.Plug.{allows_from}
 use Rattle.yq_tree.proofs.ReadLaws.{text_takes}
 use Rattle.yq_tree.proofs.RowLines.{IsLast, last_line, last_row, same_rows}
 

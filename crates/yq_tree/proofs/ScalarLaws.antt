@@ -8,7 +8,7 @@ use Rattle.yq_scalar.specs.Paths.{Step, node_at, change}
 use Rattle.yq_scalar.specs.Tree.{Node, scalar}
 use Rattle.yq_inline.specs.Nodes as inline
 use Rattle.yq_inline.specs.Scalars.{scalar_of}
-use Rattle.yq_inline.specs.Trees.{tree_of}
+use Rattle.yq_inline.specs.Trees.{tree_of, node_anchor, node_head}
 use Rattle.yq_inline.specs.Inline.{depth_limit}
 use Rattle.yq_rows.specs.Exchange.{with_content_in, exchange}
 use Rattle.yq_rows.specs.Grammar.{is_entry}
@@ -16,19 +16,21 @@ use Rattle.yq_rows.specs.Rows as rows
 use Rattle.yq_rows.specs.Rows.{Content, Nothing, Inline, Block, Row, Part, Cut, cut_text}
 use Rattle.yq_rows.specs.View.{rows_of}
 use Rattle.yq_rows.proofs.ExchangeLaws.{content_exchanged}
-use Rattle.yq_tree.specs.Anchors.{names_of}
+use Rattle.yq_lines.specs.Anchors.{names_of}
 use Rattle.yq_tree.specs.Documents.{Document, document_parts}
-use Rattle.yq_tree.specs.Lines.{node_anchor, node_head, block_anchor, anchor_of, head_of, lines_of}
-use Rattle.yq_tree.specs.Outline.{anchored, head_or, null}
-use Rattle.yq_tree.specs.Reading.{outline_of, root_of, document_of, has_fit_keys, have_fit_keys, has_short_root, have_one_anchor_each, are_bound, is_document, all_documents, read_at}
-use Rattle.yq_tree.specs.RowPaths.{is_leaf, spelled, is_core, with_core, behind_anchor, takes_scalar, put_scalar, ScalarSpelled, ReadsChanged, ScalarPut}
-use Rattle.yq_tree.specs.Group.{is_fine}
-use Rattle.yq_tree.specs.Sound.{has_unique_keys}
+use Rattle.yq_tree.specs.Lines.{block_anchor, anchor_of, head_of, lines_of}
+use Rattle.yq_lines.specs.Outline.{anchored, head_or, null}
+use Rattle.yq_tree.specs.Reading.{outline_of, root_of, document_of, has_fit_keys, have_fit_keys, has_short_root, is_document, all_documents, read_at}
+use Rattle.yq_lines.specs.LinesReading.{have_one_anchor_each, are_bound}
+use Rattle.yq_tree.specs.RowPaths.{spelled, is_core, with_core, behind_anchor, takes_scalar, put_scalar, ScalarSpelled, ReadsChanged, ScalarPut}
+use Rattle.yq_lines.specs.Ends.{is_leaf}
+use Rattle.yq_lines.specs.Group.{is_fine}
+use Rattle.yq_lines.specs.Sound.{has_unique_keys}
 use Rattle.yq_tree.proofs.OneDocument.{one_exchanged}
 use Rattle.yq_tree.proofs.ReadLaws.{text_again}
 use Rattle.yq_tree.proofs.RowExchange.{Keeps, content_changed}
 use Rattle.yq_tree.proofs.RowPathLaws.{is_one, rows_are, path_reached, same_row, under_end, row_node, leaf_node}
-use Rattle.yq_tree.proofs.SameLaws.{AreAlike, change_alike}
+use Rattle.yq_lines.proofs.SameLaws.{AreAlike, change_alike}
 
 -- a scalar without an anchor
 abbrev pub IsScalar : Node → Type 0

@@ -23,8 +23,8 @@ use Rattle.yq_rows.proofs.PlaceLaws.{new_place}
 use Rattle.yq_rows.proofs.PlainEnds.{plain_ends}
 use Rattle.yq_tree.specs.Documents.{Document}
 use Rattle.yq_tree.specs.Lines.{anchor_of, head_of, tail_of}
-use Rattle.yq_tree.specs.Outline.{first_anchor, anchored, head_or}
-use Rattle.yq_tree.specs.Outline as outline
+use Rattle.yq_lines.specs.Outline.{first_anchor, anchored, head_or}
+use Rattle.yq_lines.specs.Outline as outline
 use Rattle.yq_tree.specs.Reading.{documents, read_at}
 use Rattle.yq_tree.specs.RowPaths.{Leads, spelled, put_scalar, IsReadable}
 use Rattle.yq_tree.specs.ScalarPlaces.{ScalarPlace, place_of, empty_in, empty_at, alone_at, first_place, place_at, null, held, replaced, spaced, text_with, PlaceStands, PlaceSet}

@@ -5,26 +5,26 @@ use Rattle.std.proofs.lemmas.List.{drop-map}
 use Rattle.std.specs.List.{slice_get}
 use Rattle.yq_scalar.specs.Answers.{◌>>=◌}
 use Rattle.yq_scalar.specs.Paths.{Step}
-use Rattle.yq_rows.specs.Comments as comments
+use Rattle.yq_lines.specs.Comments as comments
 use Rattle.yq_rows.specs.Grammar.{begins_document, IsCut}
 use Rattle.yq_rows.specs.Rows as rows
 use Rattle.yq_rows.specs.Rows.{Content, Row, Part, Cut, last, marked}
 use Rattle.yq_rows.specs.View.{Slices, slices, Bound, bounds_from, rows_of, Shown, shown}
-use Rattle.yq_tree.specs.declared.line.Line as declared
 use Rattle.yq_tree.specs.declared.path.Part.{Part as Place}
 use Rattle.yq_tree.specs.Documents.{parts_from, document_parts, begins_bare, has_begin}
 use Rattle.yq_tree.specs.Extents.{lines_before_mark}
 use Rattle.yq_tree.specs.Lines.{lines_from, row_lines, lines_of}
-use Rattle.yq_tree.specs.Outline.{Line}
+use Rattle.yq_lines.specs.Outline.{Line}
 use Rattle.yq_tree.specs.PartReading.{Lined, lined, document_view, some_begin, first_rows}
 use Rattle.yq_tree.specs.Reading.{cut_of}
-use Rattle.yq_tree.specs.RowPaths.{line_of}
+use Rattle.yq_lines.specs.Ends.{line_of}
 use Rattle.yq_tree.specs.SeatReading.{begin_row, Numbers, behind, slices_seat, numbers}
 use Rattle.yq_tree.specs.Seats.{Seat, behind_one, seat, seat_of, rows_before, document_row, line_has_room, seat_has_room}
 use Rattle.yq_tree.specs.SoundReading.{Holds}
 use Rattle.yq_tree.proofs.CountLaws.{AreCounted, cut_counted}
-use Rattle.yq_tree.proofs.Parts.{drop_at}
+use Rattle.yq_lines.proofs.Parts.{drop_at}
 use Rattle.yq_tree.proofs.PartsLinedLaws.{document_is}
+use Rattle.yq_tree.specs.declared.checks.DocumentLines.{DocumentLines}
 
 -- a line of rows, in front of other rows
 lines_count : (above : List (List ℕ)) (column : ℕ) (ns : List ℕ) (m : rows.Mark) (x : Content) → length (lines_from above column ns m x) ≡ suc (length ns)
@@ -162,11 +162,7 @@ begins false n k (marked q marker c) p e =
 pub part_begins : (c : Cut) (n : ℕ) (p : Part) → slice_get (document_parts c) n ≡ Some p → (more : List Row) × (drop (document_row n c) (rows_of c) ≡ p.rows ++ more)
 part_begins c n p at = let b = begins (begins_bare c || not (has_begin c)) n 0 c p at in (b.more, b.there)
 
--- what documents hold
-abbrev Held : Type 0
-Held = List ℕ × List declared.Line
-
-pub part_at : (ds : List Held) (ps : List Part) → map document_view ds ≡ map lined ps → (i : ℕ) (d : Held) → slice_get ds i ≡ Some d → (p : Part) × (slice_get ps i ≡ Some p) × (document_view d ≡ lined p)
+pub part_at : (ds : List DocumentLines) (ps : List Part) → map document_view ds ≡ map lined ps → (i : ℕ) (d : DocumentLines) → slice_get ds i ≡ Some d → (p : Part) × (slice_get ps i ≡ Some p) × (document_view d ≡ lined p)
 part_at [] ps e i d is = absurd (cc)
 part_at (x ∷ ds) [] e i d is = absurd (cc)
 part_at (x ∷ ds) (p ∷ ps) e zero d is =
@@ -178,7 +174,7 @@ part_at (x ∷ ds) (p ∷ ps) e (suc i) d is = part_at ds ps (others e) i d is
     others : {y z : Lined} {ys zs : List Lined} → y ∷ ys ≡ z ∷ zs → ys ≡ zs
     others e = cc
 
-pub none_past : (ds : List Held) (ps : List Part) → map document_view ds ≡ map lined ps → (i : ℕ) → length ds ≤ i → slice_get ps i ≡ None
+pub none_past : (ds : List DocumentLines) (ps : List Part) → map document_view ds ≡ map lined ps → (i : ℕ) → length ds ≤ i → slice_get ps i ≡ None
 none_past [] [] e i h = refl
 none_past [] (p ∷ ps) e i h = absurd (cc)
 none_past (x ∷ ds) [] e i h = refl
@@ -189,7 +185,7 @@ none_past (x ∷ ds) (p ∷ ps) e (suc i) h = none_past ds ps (others e) i (omeg
     others e = cc
 
 -- the first row of a document that is held
-pub held_begin : (t : List ℕ) (s : Shown) (ds : List Held) (i : ℕ) (p : Part) → Holds t s ds → slice_get (document_parts (cut_of t)) i ≡ Some p →
+pub held_begin : (t : List ℕ) (s : Shown) (ds : List DocumentLines) (i : ℕ) (p : Part) → Holds t s ds → slice_get (document_parts (cut_of t)) i ≡ Some p →
     (begin_row (first_rows s.bounds || not (some_begin s.bounds)) i 0 s.bounds ≡ Some (document_row i (cut_of t))) × ((more : List Row) × (drop (document_row i (cut_of t)) (rows_of (cut_of t)) ≡ p.rows ++ more))
 held_begin t s ds i p h at =
     let c : Cut = cut_of t in

@@ -2,14 +2,14 @@
 use Rattle.std.proofs.Common.{◌≡◌, ◌⊎◌, inl, inr, ℕ, zero, suc, ◌+◌, ◌-◌, ◌<◌, ◌≤◌, List, [], ◌∷◌, ◌++◌, length, Some, None, option_map, refl, sym, ap, ◌∙◌, subst, arith}
 use Rattle.std.proofs.lemmas.Bool.{cases_lt, lt-ltb, le-ltb, cond-true, cond-false}
 use Rattle.std.specs.List.{slice_get}
-use Rattle.yq_rows.specs.Comments as comments
+use Rattle.yq_lines.specs.Comments as comments
 use Rattle.yq_rows.specs.Rows as rows
 use Rattle.yq_rows.specs.Rows.{Content, Row}
 use Rattle.yq_tree.specs.Lines.{head_of, tail_of, lines_from, row_lines, lines_of}
-use Rattle.yq_tree.specs.Outline.{Dash, Line}
+use Rattle.yq_lines.specs.Outline.{Dash, Line}
 use Rattle.yq_tree.specs.Seats.{Seat, behind_one, seat}
 use Rattle.yq_tree.proofs.QuietLaws.{Quiet, quiet_content}
-use Rattle.yq_tree.proofs.Values.{If}
+use Rattle.yq_lines.proofs.Values.{If}
 
 -- What is told of line n of a row: the comments above at the first, the comment in the tail at the last; before that, lines of dashes.
 pub record IsTold (above : List (List ℕ)) (dashes : ℕ) (c : Content) (n : ℕ) (l : Line) : Type 0 where

@@ -22,8 +22,9 @@ use Rattle.yq_rows.specs.View.{Slices, slices, last_dash, colon_of, anchor_cut, 
 use Rattle.yq_rows.proofs.PlaceLaws.{row_in}
 use Rattle.yq_tree.specs.Extents.{head_place, is_scalar_head, begins_entry, scalar_span, written_in}
 use Rattle.yq_tree.specs.Lines.{lines_of}
-use Rattle.yq_tree.specs.Outline.{Line}
-use Rattle.yq_tree.specs.RowPaths.{line_row, line_of}
+use Rattle.yq_lines.specs.Outline.{Line}
+use Rattle.yq_tree.specs.RowPaths.{line_row}
+use Rattle.yq_lines.specs.Ends.{line_of}
 use Rattle.yq_tree.specs.Written.{node_scalar, content_scalar, row_scalar}
 use Rattle.yq_tree.proofs.RowLineLaws.{colon_some}
 

@@ -8,23 +8,24 @@ use Rattle.yq_scalar.specs.Keys.{depth}
 use Rattle.yq_scalar.specs.Paths.{Step, change}
 use Rattle.yq_scalar.specs.Tree.{Node}
 use Rattle.yq_inline.specs.Inline.{depth_limit}
-use Rattle.yq_rows.specs.Comments.{head_comment}
+use Rattle.yq_lines.specs.Comments.{head_comment}
 use Rattle.yq_rows.specs.Exchange.{with_content, with_content_at, with_content_in}
 use Rattle.yq_rows.specs.Grammar.{is_entry}
 use Rattle.yq_rows.specs.Rows.{Content, Row, Part}
-use Rattle.yq_tree.specs.Anchors.{names_of}
-use Rattle.yq_tree.specs.Group.{level_or, is_fine}
-use Rattle.yq_tree.specs.Laws.{with_lines}
+use Rattle.yq_lines.specs.Anchors.{names_of}
+use Rattle.yq_lines.specs.Group.{level_or, is_fine}
+use Rattle.yq_lines.specs.Laws.{with_lines}
 use Rattle.yq_tree.specs.Lines.{head_of, row_lines, lines_of}
-use Rattle.yq_tree.specs.Outline.{Mark, Bare, Key, Dash, Line, level, end, row, IsWhole, IsEven, anchored, Stands}
-use Rattle.yq_tree.specs.Places.{lines_before, content}
-use Rattle.yq_tree.specs.Reading.{outline_of, root_of, document_of, have_fit_keys, has_short_root, is_no_alias, may_take, have_one_anchor_each, are_bound, is_document}
+use Rattle.yq_lines.specs.Outline.{Mark, Bare, Key, Dash, Line, level, end, row, IsWhole, IsEven, anchored, Stands}
+use Rattle.yq_lines.specs.Places.{lines_before, content}
+use Rattle.yq_tree.specs.Reading.{outline_of, root_of, document_of, have_fit_keys, has_short_root, is_document}
+use Rattle.yq_lines.specs.LinesReading.{is_no_alias, may_take, have_one_anchor_each, are_bound}
 use Rattle.yq_tree.specs.RowPaths.{spelled}
-use Rattle.yq_tree.specs.Sound.{has_unique_keys, is_sound}
-use Rattle.yq_tree.proofs.Decides.{even_from, stand-complete}
+use Rattle.yq_lines.specs.Sound.{has_unique_keys, is_sound}
+use Rattle.yq_lines.proofs.Decides.{even_from, stand-complete}
 use Rattle.yq_tree.proofs.DocumentLaws.{fine_value}
-use Rattle.yq_tree.proofs.PlaceLaws.{exchanged}
-use Rattle.yq_tree.proofs.Plug.{closed, entry_whole}
+use Rattle.yq_lines.proofs.PlaceLaws.{exchanged}
+use Rattle.yq_lines.proofs.Plug.{closed, entry_whole}
 use Rattle.yq_tree.proofs.RowExchange.{Keeps, fit_stays, gap_stays, each_stays, open_end}
 use Rattle.yq_tree.proofs.RowLines.{last_line, bare_lines, same_rows}
 use Rattle.yq_tree.proofs.RowPathLaws.{Reached, reached_lines, document_fine}

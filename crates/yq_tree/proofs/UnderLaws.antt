@@ -9,16 +9,16 @@ use Rattle.yq_rows.specs.Exchange.{allows_first}
 use Rattle.yq_rows.specs.Grammar.{AreDashes, is_entry}
 use Rattle.yq_rows.specs.Rows as rows
 use Rattle.yq_rows.specs.Rows.{Content, Row, behind_columns, mark_column, parent_of, parent_indent}
-use Rattle.yq_tree.specs.Ends.{is_end}
-use Rattle.yq_tree.specs.Group.{group, is_fine}
+use Rattle.yq_lines.specs.Ends.{is_end, is_leaf}
+use Rattle.yq_lines.specs.Group.{group, is_fine}
 use Rattle.yq_tree.specs.Lines.{head_of, mark_of, lines_of}
-use Rattle.yq_tree.specs.Outline.{Mark, Bare, Key, Dash, Line, rank, level, Outline, end, row, flatten, IsWhole, IsEven, anchored, head_or, label, collection, value}
-use Rattle.yq_tree.specs.Outline as outline
-use Rattle.yq_tree.specs.Places.{lines_after, content}
-use Rattle.yq_tree.specs.RowPaths.{is_leaf, spelled}
-use Rattle.yq_tree.proofs.Allowing.{IsEntry}
+use Rattle.yq_lines.specs.Outline.{Mark, Bare, Key, Dash, Line, rank, level, Outline, end, row, flatten, IsWhole, IsEven, anchored, head_or, label, collection, value}
+use Rattle.yq_lines.specs.Outline as outline
+use Rattle.yq_lines.specs.Places.{lines_after, content}
+use Rattle.yq_tree.specs.RowPaths.{spelled}
+use Rattle.yq_lines.proofs.Allowing.{IsEntry}
 use Rattle.yq_tree.proofs.NextLaws.{StartsAt, found_starts, first_allowed}
-use Rattle.yq_tree.proofs.Plug.{headless, headless_entry}
+use Rattle.yq_lines.proofs.Plug.{headless, headless_entry}
 use Rattle.yq_tree.proofs.RowLines.{last_line, bare_lines}
 use Rattle.yq_tree.proofs.RowPathLaws.{Reached, reached_lines, reached_even, reached_leaf, end_is, open_end}
 

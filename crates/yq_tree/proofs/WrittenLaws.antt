@@ -24,7 +24,7 @@ use Rattle.yq_rows.proofs.PlaceLaws.{row_in}
 use Rattle.yq_rows.proofs.PlainEnds.{plain_ends}
 use Rattle.yq_tree.specs.Documents.{Document}
 use Rattle.yq_tree.specs.Lines.{anchor_of}
-use Rattle.yq_tree.specs.Outline.{first_anchor}
+use Rattle.yq_lines.specs.Outline.{first_anchor}
 use Rattle.yq_tree.specs.Reading.{read_at}
 use Rattle.yq_tree.specs.RowPaths.{row_at, Leads, spelled, with_core, put_scalar}
 use Rattle.yq_tree.specs.Written.{Written, node_scalar, content_scalar, row_scalar, written_at, IsWritten, ScalarStands, ScalarSet}

@@ -3,13 +3,15 @@ use Rattle.std.specs.Prelude.{◌≡◌, ℕ, ◌-◌, List, length, Option, Som
 use Rattle.yq_scalar.specs.Tree.{Children, none, child}
 use Rattle.yq_inline.specs.Trees.{parts_tree}
 use Rattle.yq_inline.specs.View.{entries_end, items_end}
-use Rattle.yq_tree.specs.declared.body.Under.{Under}
+use Rattle.yq_lines.specs.declared.body.Under.{Under}
 use Rattle.yq_tree.specs.declared.children.Children as declared
 use Rattle.yq_tree.specs.declared.children.Rest as rests
 use Rattle.yq_tree.specs.declared.node.Node.{Node}
-use Rattle.yq_tree.specs.Nodes.{lines_in, under_of, node_of, label_of}
-use Rattle.yq_tree.specs.Outline as outline
-use Rattle.yq_tree.specs.Outline.{Line}
+use Rattle.yq_tree.specs.Nodes.{node_of, label_of}
+use Rattle.yq_lines.specs.View.{views}
+use Rattle.yq_lines.specs.Bodies.{under_of}
+use Rattle.yq_lines.specs.Outline as outline
+use Rattle.yq_lines.specs.Outline.{Line}
 
 -- those of lines (own)
 abbrev pub lines_rest : Under → rests.Rest
@@ -29,7 +31,7 @@ rest_length ls (rests.TheVariants.Entries entries) = length entries.now
 
 -- the items or entries that an iterator of the code has not yielded yet (own)
 abbrev pub left_of : declared.Children → Children
-left_of c = rest_of (lines_in c.document.now) c.rest
+left_of c = rest_of (views c.document.now) c.rest
 
 -- the first of these items or entries is given, and what is left behind it; or nothing where there is none (own)
 abbrev pub Gives : {A : Type 0} → Children → (A → Children) → Option (Node × A) → Type 0

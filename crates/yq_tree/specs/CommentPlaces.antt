@@ -2,12 +2,12 @@
 use Rattle.std.specs.Prelude.{◌≡◌, ◌⊎◌, ℕ, ◌+◌, ◌==◌, List, [], ◌∷◌, ◌++◌, drop, length, Option, Some, None, option_map, if◌then◌else◌}
 use Rattle.yq_scalar.specs.Answers.{◌>>=◌}
 use Rattle.yq_scalar.specs.Text.{cut, front, ends_line, is_empty, joined, lines_of, no_white, past_white}
-use Rattle.yq_rows.specs.Comments.{are_comments, less_space}
+use Rattle.yq_lines.specs.Comments.{are_comments, less_space}
 use Rattle.yq_rows.specs.Exchange.{before_content}
 use Rattle.yq_rows.specs.Rows.{Row, Cut}
 use Rattle.yq_rows.specs.View.{slices}
 use Rattle.yq_tree.specs.declared.path.Path.{Path}
-use Rattle.yq_tree.specs.Labelled.{Labelled}
+use Rattle.yq_lines.specs.Labelled.{Labelled}
 use Rattle.yq_tree.specs.Located.{labelled_located}
 use Rattle.yq_tree.specs.Passages.{Passage, passage_span, IsPassage, before_row}
 use Rattle.yq_tree.specs.Reading.{read_at}

@@ -7,14 +7,14 @@ use Rattle.yq_scalar.specs.Keys.{HasUniqueKeys, depth}
 use Rattle.yq_inline.specs.Nodes as inline
 use Rattle.yq_inline.specs.Nodes.{Items, none, item}
 use Rattle.yq_inline.specs.Inline.{depth_limit}
-use Rattle.yq_rows.specs.Comments.{head_comment}
+use Rattle.yq_lines.specs.Comments.{head_comment}
 use Rattle.yq_rows.specs.Grammar.{IsCut, is_plain, no_rows, begins_document, key_limit}
 use Rattle.yq_rows.specs.Rows as rows
 use Rattle.yq_rows.specs.Rows.{Content, Nothing, Inline, Block, Row, Part, Cut, last, marked}
-use Rattle.yq_tree.specs.Anchors.{names_of, AreBound, HaveOneAnchorEach}
-use Rattle.yq_tree.specs.Grammar.{IsNode}
+use Rattle.yq_lines.specs.Anchors.{names_of, AreBound, HaveOneAnchorEach}
+use Rattle.yq_lines.specs.Grammar.{IsNode}
 use Rattle.yq_tree.specs.Lines.{lines_of}
-use Rattle.yq_tree.specs.Outline.{Line, null}
+use Rattle.yq_lines.specs.Outline.{Line, null}
 
 -- A document: the comment before it and its root node (9.1, own).
 pub record Document : Type 0 where

@@ -7,7 +7,7 @@ use Rattle.yq_rows.specs.Rows.{Cut}
 use Rattle.yq_tree.specs.declared.path.Path.{Path}
 use Rattle.yq_tree.specs.EntryPlaces.{entry_at, content_at}
 use Rattle.yq_tree.specs.Located.{steps_of, located}
-use Rattle.yq_tree.specs.Outline.{anchored, null}
+use Rattle.yq_lines.specs.Outline.{anchored, null}
 use Rattle.yq_tree.specs.Reading.{read_at}
 
 -- whether there are no steps, so that they stay at the root (own)

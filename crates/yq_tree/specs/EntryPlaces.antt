@@ -1,5 +1,5 @@
 -- Where entries, items and their contents stand in a text (YAML 1.2.2, 7.4 and 8; own).
-use Rattle.std.specs.Prelude.{ℕ, zero, suc, ◌+◌, ◌-◌, nat_lt, ◌==◌, Bool, false, ◌&&◌, List, [], ◌∷◌, ◌++◌, length, replicate, slice_get, take, Option, Some, None, is_some, option_map, option_and_then, if◌then◌else◌}
+use Rattle.std.specs.Prelude.{ℕ, suc, ◌+◌, ◌-◌, ◌==◌, Bool, false, ◌&&◌, List, [], ◌∷◌, ◌++◌, length, replicate, slice_get, take, Option, Some, None, is_some, option_map, option_and_then, if◌then◌else◌}
 use Rattle.yq_scalar.specs.Answers.{◌>>=◌}
 use Rattle.yq_scalar.specs.Paths.{Step}
 use Rattle.yq_scalar.specs.Text.{is_empty, is_feed, is_return, joined}
@@ -15,11 +15,10 @@ use Rattle.yq_tree.specs.Documents.{document_parts}
 use Rattle.yq_tree.specs.Extents.{head_place}
 use Rattle.yq_tree.specs.Lines.{tail_of, lines_of}
 use Rattle.yq_tree.specs.Located.{steps_of}
-use Rattle.yq_tree.specs.Outline.{Line, level}
 use Rattle.yq_tree.specs.Passages.{before_row}
-use Rattle.yq_tree.specs.RowPaths.{reached}
+use Rattle.yq_lines.specs.Ends.{reached, lines_end}
 use Rattle.yq_tree.specs.Seats.{seat, document_row}
-use Rattle.yq_tree.specs.Spots.{is_bare}
+use Rattle.yq_lines.specs.Spots.{is_bare}
 
 -- the text of a cut before line k of row i: before its dash, its key or the node itself (8.2.1, 8.2.2)
 abbrev pub before_line : ℕ → ℕ → Row → Cut → List ℕ
@@ -44,17 +43,6 @@ ending s = if is_empty s.raw then less_break s.tail else s.tail ++ less_break s.
 -- the text of a cut up to the end of the last line of row i, before its break (own)
 abbrev pub through_row : ℕ → Row → Cut → List ℕ
 through_row i r c = before_tail i r c ++ ending (slices r)
-
--- how many lines in front are deeper than a level (8.2)
-abbrev pub deeper_count : ℕ → List Line → ℕ
-deeper_count n [] = 0
-deeper_count n (l ∷ ls) = if nat_lt n (level l) then suc (deeper_count n ls) else 0
-
--- the line behind line n and those under it, which are those that follow it and are deeper (8.2)
-abbrev pub lines_end : ℕ → List Line → ℕ
-lines_end n [] = 0
-lines_end zero (l ∷ ls) = suc (deeper_count (level l) ls)
-lines_end (suc n) (l ∷ ls) = suc (lines_end n ls)
 
 -- the place of lines of rows, before which k rows of a cut stand: from the beginning of one line to the end of another one's row, before its break (own)
 abbrev pub lines_place : ℕ → Cut → List Row → ℕ → ℕ → Option (ℕ × ℕ)

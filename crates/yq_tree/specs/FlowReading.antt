@@ -6,27 +6,16 @@ use Rattle.yq_scalar.specs.Text.{is_empty}
 use Rattle.yq_inline.specs.Inline.{inline_at}
 use Rattle.yq_inline.specs.Nodes.{Node, empty, alias, scalar, coll, anchored}
 use Rattle.yq_inline.specs.Places.{Placed, placed, Content, nothing, name, text, sequence, mapping, locate}
-use Rattle.yq_inline.specs.View as inline
 use Rattle.yq_rows.specs.Grammar.{begins_document}
 use Rattle.yq_rows.specs.Rows as rows
 use Rattle.yq_rows.specs.Rows.{Row, rows_text, Part, Cut, last, marked, cut_text}
-use Rattle.yq_tree.specs.declared.line.Head as heads
-use Rattle.yq_tree.specs.declared.line.Line as declared
 use Rattle.yq_tree.specs.declared.part_lines.PartLines.{PartLines}
 use Rattle.yq_tree.specs.Documents.{begins_bare, has_begin}
 use Rattle.yq_tree.specs.Lines.{tail_of}
 use Rattle.yq_tree.specs.PartReading.{Marked, parts_text}
 use Rattle.yq_tree.specs.RowReading.{begins_block, is_short_plain}
-
--- the alias or flow collection that a head of the code keeps apart, with its places (own)
-abbrev pub head_flow : heads.Head → Option Placed
-head_flow heads.TheVariants.Nothing = None
-head_flow (heads.TheVariants.Scalar kind t) = None
-head_flow (heads.TheVariants.Inline node) = Some (inline.view node.value)
-
--- those of lines of the code (own)
-abbrev pub flows : List declared.Line → List (Option Placed)
-flows ls = map (λ l. head_flow l.head) ls
+use Rattle.yq_lines.specs.View.{flows}
+use Rattle.yq_tree.specs.declared.checks.DocumentLines.{DocumentLines}
 
 -- a node by its content, if it is an alias or a flow collection (own)
 abbrev pub kept_by : Placed → Content → Option Placed
@@ -103,8 +92,8 @@ abbrev pub document_flows : ℕ → Cut → List (List (Option Placed))
 document_flows total c = cut_flows total (begins_bare c || not (has_begin c)) c
 
 -- those of the lines of documents of the code (own)
-abbrev pub lines_flows : List (List ℕ × List declared.Line) → List (List (Option Placed))
-lines_flows ds = map (λ d. flows d.1) ds
+abbrev pub lines_flows : List DocumentLines → List (List (Option Placed))
+lines_flows ds = map (λ d. flows d.lines) ds
 
 -- those of the lines of parts of the code (own)
 abbrev pub parts_lines_flows : List PartLines → List (List (Option Placed))

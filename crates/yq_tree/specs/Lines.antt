@@ -3,29 +3,12 @@ use Rattle.std.specs.Prelude.{ℕ, suc, ◌+◌, List, [], ◌∷◌, ◌++◌, 
 use Rattle.yq_scalar.specs.declared.kind.Kind.TheVariants.{Text}
 use Rattle.yq_scalar.specs.BlockContent.{block_content}
 use Rattle.yq_scalar.specs.Tree as tree
-use Rattle.yq_inline.specs.Nodes.{Node, empty, alias, scalar, coll, anchored}
 use Rattle.yq_inline.specs.Scalars.{content_of}
-use Rattle.yq_inline.specs.Trees.{tree_of}
-use Rattle.yq_rows.specs.Comments as comments
+use Rattle.yq_inline.specs.Trees.{node_anchor, node_head}
+use Rattle.yq_lines.specs.Comments as comments
 use Rattle.yq_rows.specs.Rows as rows
 use Rattle.yq_rows.specs.Rows.{Content, Nothing, Inline, Block, Row}
-use Rattle.yq_tree.specs.Outline.{Mark, Bare, Key, Dash, Line}
-
--- the name of the anchor before an inline node, if there is one (YAML 1.2.2, section 6.9.2)
-abbrev pub node_anchor : Node → Option (List ℕ)
-node_anchor empty = None
-node_anchor (alias name) = None
-node_anchor (scalar p) = None
-node_anchor (coll close gap items) = None
-node_anchor (anchored name gap node) = Some name
-
--- what an inline node spells behind its anchor, if anything stands there (YAML 1.2.2, sections 3.2.1 and 7.2)
-abbrev pub node_head : Node → Option tree.Node
-node_head empty = None
-node_head (alias name) = Some (tree_of (alias name))
-node_head (scalar p) = Some (tree_of (scalar p))
-node_head (coll close gap items) = Some (tree_of (coll close gap items))
-node_head (anchored name gap node) = node_head node
+use Rattle.yq_lines.specs.Outline.{Mark, Bare, Key, Dash, Line}
 
 -- the name of the anchor before a block scalar, if there is one (YAML 1.2.2, section 6.9.2)
 abbrev pub block_anchor : Option rows.Anchor → Option (List ℕ)

@@ -5,7 +5,7 @@ use Rattle.yq_scalar.specs.Paths.{Step, node_at}
 use Rattle.yq_scalar.specs.Tree.{Node}
 use Rattle.yq_tree.specs.declared.path.Path.{Path}
 use Rattle.yq_tree.specs.Documents.{Document}
-use Rattle.yq_tree.specs.Labelled.{Labelled, labelled_from}
+use Rattle.yq_lines.specs.Labelled.{Labelled, labelled_from}
 use Rattle.yq_tree.specs.Nodes.{unlabelled}
 use Rattle.yq_tree.specs.Reading.{documents_of}
 

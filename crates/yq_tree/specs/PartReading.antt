@@ -1,17 +1,17 @@
 -- Reading (a reader may skip this: the grammar is what is believed, and found and only tie the two): the lines of the rows of a part.
 use Rattle.std.specs.Prelude.{◌≡◌, ℕ, ◌+◌, ◌==◌, Bool, true, false, ◌||◌, not, List, [], ◌∷◌, ◌++◌, length, map, Option, Some, None, ◌&&◌, if◌then◌else◌, ⊤}
 use Rattle.std.specs.List.{list_all}
-use Rattle.yq_rows.specs.Comments.{head_comment}
+use Rattle.yq_lines.specs.Comments.{head_comment}
 use Rattle.yq_rows.specs.Grammar.{Limit, unlimited, AreRows, begins_document}
 use Rattle.yq_rows.specs.Rows.{Row, rows_text, Part, part_text}
 use Rattle.yq_rows.specs.View.{Slices, slices, Bound}
-use Rattle.yq_tree.specs.declared.line.Line as declared
 use Rattle.yq_tree.specs.declared.part_lines.PartLines.{PartLines}
 use Rattle.yq_tree.specs.Documents.{lead_of, with_part}
 use Rattle.yq_tree.specs.Lines.{lines_of}
-use Rattle.yq_tree.specs.Outline.{Line}
+use Rattle.yq_lines.specs.Outline.{Line}
 use Rattle.yq_tree.specs.Reading.{have_fit_keys, has_short_root}
-use Rattle.yq_tree.specs.View.{views}
+use Rattle.yq_lines.specs.View.{views}
+use Rattle.yq_tree.specs.declared.checks.DocumentLines.{DocumentLines}
 
 -- The first n of these pieces are those of rows in front of a text, behind which the gap behind the last one and a rest stand.
 pub record HasRows (n : ℕ) (ss : List Slices) (t : List ℕ) : Type 0 where
@@ -53,8 +53,8 @@ abbrev pub lined_view : PartLines → Lined
 lined_view p = (head_comment p.lead.now, views p.lines.items)
 
 -- those that a document of the code shows, by the gap that its lead ends and by its lines (own)
-abbrev pub document_view : List ℕ × List declared.Line → Lined
-document_view d = (head_comment d.0, views d.1)
+abbrev pub document_view : DocumentLines → Lined
+document_view d = (head_comment d.lead.now, views d.lines)
 
 -- the same of several parts (own)
 abbrev pub lined_views : List PartLines → List Lined

@@ -1,10 +1,9 @@
 -- Reading (a reader may skip this: the grammar is what is believed, and found and only tie the two): bytes read as documents.
-use Rattle.std.specs.Prelude.{ℕ, nat_le, List, [], ◌∷◌, length, map, Bool, true, false, not, ◌&&◌, codes, Option, Some, None, if◌then◌else◌}
-use Rattle.std.specs.List.{list_all, list_any}
+use Rattle.std.specs.Prelude.{ℕ, nat_le, List, [], ◌∷◌, length, map, Bool, true, not, ◌&&◌, codes, Option, Some, None, if◌then◌else◌}
+use Rattle.std.specs.List.{list_all}
 use Rattle.std.specs.Str.{bytes_eq, chars, is_utf8}
 use Rattle.yq_scalar.specs.Answers.{◌>>=◌}
-use Rattle.yq_scalar.specs.Tree.{Node, alias, scalar, list}
-use Rattle.yq_scalar.specs.Tree as tree
+use Rattle.yq_scalar.specs.Tree.{Node}
 use Rattle.yq_inline.specs.Nodes as inline
 use Rattle.yq_inline.specs.Nodes.{Items, none, item}
 use Rattle.yq_inline.specs.Inline.{depth_limit}
@@ -12,12 +11,13 @@ use Rattle.yq_rows.specs.Grammar.{key_limit}
 use Rattle.yq_rows.specs.Reading.{scan_at}
 use Rattle.yq_rows.specs.Rows as rows
 use Rattle.yq_rows.specs.Rows.{Content, Nothing, Inline, Block, Row, Part, Cut, last}
-use Rattle.yq_tree.specs.Anchors.{Name, Anchors, Refers, names_of}
+use Rattle.yq_lines.specs.Anchors.{names_of}
 use Rattle.yq_tree.specs.Documents.{Document, document_parts, lead_of, is_long_plain}
-use Rattle.yq_tree.specs.Group.{group}
+use Rattle.yq_lines.specs.Group.{group}
 use Rattle.yq_tree.specs.Lines.{lines_of}
-use Rattle.yq_tree.specs.Outline.{Mark, Bare, Key, Dash, Line, Outline, value}
-use Rattle.yq_tree.specs.Sound.{is_sound}
+use Rattle.yq_lines.specs.LinesReading.{have_one_anchor_each, are_bound}
+use Rattle.yq_lines.specs.Outline.{Outline, value}
+use Rattle.yq_lines.specs.Sound.{is_sound}
 
 -- the outline of a part
 abbrev pub outline_of : Part → Outline
@@ -75,38 +75,6 @@ have_fit_keys (r ∷ rs) = mark_is_fit r.mark && (content_is_fit r.content && ha
 abbrev pub has_short_root : List Row → Bool
 has_short_root [] = true
 has_short_root (r ∷ rs) = not (is_long_plain r.mark r.content)
-
--- whether there is no alias
-abbrev pub is_no_alias : Option Node → Bool
-is_no_alias None = true
-is_no_alias (Some (alias name)) = false
-is_no_alias (Some (scalar a kind text)) = true
-is_no_alias (Some (list a cs)) = true
-is_no_alias (Some (tree.map a cs)) = true
-
--- whether a node on a line of its own may take an anchor
-abbrev pub may_take : Mark → Option (List ℕ) → Option Node → Bool
-may_take Bare None head = is_no_alias head
-may_take Bare (Some a) head = false
-may_take (Key k) a head = true
-may_take Dash a head = true
-
--- whether an anchor before lines is the only one of their node
-abbrev pub is_free : Option (List ℕ) → List Line → Bool
-is_free None ls = true
-is_free (Some a) [] = true
-is_free (Some a) (l ∷ ls) = may_take l.mark l.anchor l.head
-
--- whether no node has two anchors, and no alias has one
-abbrev pub have_one_anchor_each : List Line → Bool
-have_one_anchor_each [] = true
-have_one_anchor_each (l ∷ ls) = is_free l.anchor ls && have_one_anchor_each ls
-
--- whether each alias has an earlier anchor, where these are known already
-abbrev pub are_bound : List (List ℕ) → List Name → Bool
-are_bound known [] = true
-are_bound known (Anchors a ∷ names) = are_bound (a ∷ known) names
-are_bound known (Refers a ∷ names) = list_any (bytes_eq a) known && are_bound known names
 
 -- whether a part stands for a document
 abbrev pub is_document : Part → Bool

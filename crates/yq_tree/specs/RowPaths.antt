@@ -1,5 +1,5 @@
 -- Where a path leads among the rows of a text with one document, and what a scalar that is put into such a row changes (own).
-use Rattle.std.specs.Prelude.{◌≡◌, ℕ, suc, ◌-◌, ◌≤◌, nat_lt, ◌==◌, Bool, true, false, List, [], ◌∷◌, ◌++◌, length, slice_get, Option, Some, None, is_some, option_map, option_and_then, if◌then◌else◌}
+use Rattle.std.specs.Prelude.{◌≡◌, ℕ, suc, ◌-◌, ◌≤◌, nat_lt, ◌==◌, Bool, true, false, List, [], ◌∷◌, ◌++◌, length, slice_get, Option, Some, None, is_some, option_map, if◌then◌else◌}
 use Rattle.std.specs.Str.{is_utf8}
 use Rattle.yq_scalar.specs.Answers.{◌>>=◌}
 use Rattle.yq_scalar.specs.Characters.{is_text, text_limit}
@@ -15,11 +15,9 @@ use Rattle.yq_rows.specs.Rows as rows
 use Rattle.yq_rows.specs.Rows.{Content, Nothing, Inline, Block, Row, parent_indent, Cut, cut_text}
 use Rattle.yq_rows.specs.View.{rows_of}
 use Rattle.yq_tree.specs.Documents.{Document}
-use Rattle.yq_tree.specs.Ends.{is_end}
-use Rattle.yq_tree.specs.Group.{group}
+use Rattle.yq_lines.specs.Ends.{line_of, is_leaf}
 use Rattle.yq_tree.specs.Lines.{anchor_of, head_of, tail_of, lines_of}
-use Rattle.yq_tree.specs.Outline.{Line, anchored, head_or, null}
-use Rattle.yq_tree.specs.Places.{lines_before, Found, find}
+use Rattle.yq_lines.specs.Outline.{anchored, head_or, null}
 use Rattle.yq_tree.specs.Reading.{documents, read_at}
 
 -- the row whose last line is this one, by their indexes; a row has a line for each dash before its mark, and one for the mark
@@ -28,31 +26,6 @@ line_row n [] = None
 line_row n (r ∷ rs) =
     if nat_lt n (length r.dashes) then None
     else (if n == length r.dashes then Some 0 else option_map suc (line_row (n - suc (length r.dashes)) rs))
-
--- the index of a line that was found, where no steps go on in its head
-abbrev pub found_line : Found → List Step → Option ℕ
-found_line f [] = Some (length (lines_before f.place))
-found_line f (s ∷ ss) = None
-
--- the line of the entry or item to which steps lead, by its index; the root has none
-abbrev pub line_of : List Step → List Line → Option ℕ
-line_of [] ls = None
-line_of (s ∷ ss) ls = option_and_then (λ x. found_line x.0 x.1) (find s ss (group ls))
-
--- the line to which steps lead, by its index, and the steps that go on in its head; the root has none
-abbrev pub reached : List Step → List Line → Option (ℕ × List Step)
-reached [] ls = None
-reached (s ∷ ss) ls = option_map (λ x. (length (lines_before x.0.place), x.1)) (find s ss (group ls))
-
--- whether no lines are under a line that was found
-abbrev pub has_none_under : Option (Found × List Step) → Bool
-has_none_under None = false
-has_none_under (Some x) = is_end x.0.under
-
--- whether no lines are under the line of the entry or item to which steps lead
-abbrev pub is_leaf : List Step → List Line → Bool
-is_leaf [] ls = false
-is_leaf (s ∷ ss) ls = has_none_under (find s ss (group ls))
 
 -- the row of which that line is the last, by its index through all rows
 abbrev pub row_at : List Step → Cut → Option ℕ

@@ -15,13 +15,13 @@ use Rattle.yq_inline.specs.Nodes.{first_is}
 use Rattle.yq_inline.specs.Places.{Placed, placed, Content, nothing, name, text, sequence, mapping}
 use Rattle.yq_inline.specs.Scalars.{is_quoted, content_of}
 use Rattle.yq_inline.specs.Trees.{scalar_node, placed_tree}
-use Rattle.yq_rows.specs.Comments as comments
+use Rattle.yq_lines.specs.Comments as comments
 use Rattle.yq_rows.specs.Grammar.{Limit, IsRow}
 use Rattle.yq_rows.specs.Rows.{Row, print_row}
 use Rattle.yq_rows.specs.View.{Slices, slices}
 use Rattle.yq_tree.specs.KeyReading.{node_fits}
 use Rattle.yq_tree.specs.Lines.{dash_line, row_lines}
-use Rattle.yq_tree.specs.Outline.{Mark, Bare, Key, Dash, Line}
+use Rattle.yq_lines.specs.Outline.{Mark, Bare, Key, Dash, Line}
 use Rattle.yq_tree.specs.Reading.{mark_is_fit, content_is_fit}
 use Rattle.yq_tree.specs.declared.front.Front.{Front}
 

@@ -21,7 +21,8 @@ use Rattle.yq_rows.specs.View.{rows_of}
 use Rattle.yq_tree.specs.Documents.{Document}
 use Rattle.yq_tree.specs.Lines.{lines_of}
 use Rattle.yq_tree.specs.Reading.{documents, read_at}
-use Rattle.yq_tree.specs.RowPaths.{row_at, is_leaf}
+use Rattle.yq_tree.specs.RowPaths.{row_at}
+use Rattle.yq_lines.specs.Ends.{is_leaf}
 use Rattle.yq_tree.specs.Written.{Written, content_scalar, written_at, IsSet}
 
 -- A place for a scalar in a text: the text before it, the scalar that is written there, if one is, and the text behind it.

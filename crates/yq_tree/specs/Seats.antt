@@ -11,7 +11,7 @@ use Rattle.yq_tree.specs.Documents.{document_parts, begins_bare, has_begin}
 use Rattle.yq_tree.specs.Lines.{lines_of}
 use Rattle.yq_tree.specs.Located.{steps_of}
 use Rattle.yq_tree.specs.Reading.{cut_of}
-use Rattle.yq_tree.specs.RowPaths.{line_of}
+use Rattle.yq_lines.specs.Ends.{line_of}
 
 -- A line of a row: how many rows stand before that row, the row, and how many of its lines stand before this one (own).
 pub record Seat : Type 0 where

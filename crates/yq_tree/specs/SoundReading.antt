@@ -2,13 +2,13 @@
 use Rattle.std.specs.Prelude.{◌≡◌, List, [], ◌∷◌, map, Bool, true, ◌&&◌, Option, Some, None, if◌then◌else◌, ℕ, length, ⊤}
 use Rattle.yq_rows.specs.Grammar.{IsCut}
 use Rattle.yq_rows.specs.View.{Shown, shown}
-use Rattle.yq_tree.specs.declared.line.Line as declared
 use Rattle.yq_tree.specs.Documents.{document_parts}
 use Rattle.yq_tree.specs.FlowReading.{document_flows, lines_flows}
-use Rattle.yq_tree.specs.LinesReading.{lines_are_sound}
-use Rattle.yq_tree.specs.Names.{HaveHeadsApart}
+use Rattle.yq_lines.specs.LinesReading.{lines_are_sound}
+use Rattle.yq_lines.specs.Names.{HaveHeadsApart}
 use Rattle.yq_tree.specs.PartReading.{Lined, document_view, all_lined}
 use Rattle.yq_tree.specs.Reading.{all_documents, cut_of}
+use Rattle.yq_tree.specs.declared.checks.DocumentLines.{DocumentLines}
 
 -- the lead and lines of a part, where the lines are sound (own)
 abbrev pub if_sound : Lined → Option Lined
@@ -29,11 +29,11 @@ AllApart [] = ⊤
 AllApart (x ∷ xs) = HaveHeadsApart x.1 × AllApart xs
 
 -- the leads and lines that documents of the code show (own)
-abbrev pub document_views : List (List ℕ × List declared.Line) → List Lined
+abbrev pub document_views : List DocumentLines → List Lined
 document_views ds = map document_view ds
 
 -- What the documents of the code hold: the pieces of a text's cut, and the leads and lines of its documents, each of which is one, with the aliases and flow collections in their heads (own).
-pub record Holds (t : List ℕ) (s : Shown) (ds : List (List ℕ × List declared.Line)) : Type 0 where
+pub record Holds (t : List ℕ) (s : Shown) (ds : List DocumentLines) : Type 0 where
   pub cut : IsCut t (cut_of t)
   pub rows : s ≡ shown (cut_of t)
   pub lined : document_views ds ≡ all_lined (document_parts (cut_of t))

@@ -6,7 +6,7 @@ use Rattle.yq_scalar.specs.declared.kind.Kind.{Kind}
 use Rattle.yq_inline.specs.Scalars.{scalar_of}
 use Rattle.yq_rows.specs.Exchange.{HasPieces}
 use Rattle.yq_tree.specs.Documents.{Document}
-use Rattle.yq_tree.specs.Nodes.{lent}
+use Rattle.yq_lines.specs.Bodies.{lent}
 use Rattle.yq_tree.specs.Reading.{documents, cut_of}
 use Rattle.yq_tree.specs.ScalarPlaces.{ScalarPlace, held}
 use Rattle.yq_tree.specs.Written.{Written}

@@ -5,19 +5,19 @@ ghost use Rattle.yq_rows.specs.Grammar.{IsCut};
 ghost use Rattle.yq_rows.specs.Rows.{Cut};
 ghost use Rattle.yq_rows.specs.View.{rows_of, shown, view};
 ghost use Rattle.yq_tree.specs.Extents.{IsShown, begins_entry, is_scalar_head, scalar_span, span};
-ghost use Rattle.yq_tree.specs.Group.{group, is_fine};
+ghost use Rattle.yq_lines.specs.Group.{group, is_fine};
 ghost use Rattle.yq_tree.specs.Lines.{lines_of};
-ghost use Rattle.yq_tree.specs.Nodes.{lines_in};
+ghost use Rattle.yq_lines.specs.View.{views};
 ghost use Rattle.yq_tree.specs.Reading.{cut_of};
 ghost use Rattle.yq_tree.specs.ScalarPlaces as spec;
 ghost use Rattle.yq_tree.specs.Told.{told, telling};
 
 use crate::document::Documents;
 use crate::extent::{head_place, is_entry, is_scalar, line_row};
-use crate::lined::Lined;
 use crate::path::Span;
 use crate::written::Written;
 use yq_inline::Step;
+use yq_lines::Lined;
 use yq_rows::{Row, Rows};
 
 /// Whether a row is a scalar with neither key nor dash.
@@ -51,7 +51,7 @@ fn bare_place(rows: &Rows<'_>, above: usize) -> Option<Span>
 /// among the rows of the one document that has these lines.
 fn alone_in(rows: &Rows<'_>, lines: &Lined<'_>, steps: &[Step]) -> Option<Span>
     requires { IsShown rows.now }
-    ensures { (t : List ℕ) (c : Cut) → IsCut t c → rows.now ≡ shown c → lines_in lines.now ≡ lines_of (rows_of c) → is_fine (group (lines_of (rows_of c))) ≡ true → option_map span result ≡ option_map scalar_span (spec.alone_in (map step_of steps.now) c) }
+    ensures { (t : List ℕ) (c : Cut) → IsCut t c → rows.now ≡ shown c → views lines.now ≡ lines_of (rows_of c) → is_fine (group (lines_of (rows_of c))) ≡ true → option_map span result ≡ option_map scalar_span (spec.alone_in (map step_of steps.now) c) }
 {
     let line = lines.line_at(steps)?;
     if !lines.has_under(line) {
@@ -68,7 +68,7 @@ impl<'t> Documents<'t> {
         ensures { option_map span result ≡ option_map scalar_span (spec.alone_at (map step_of steps.now) (cut_of self.now)) }
     {
         if self.documents.len() == 1 {
-            alone_in(&self.rows, &self.documents[0], steps)
+            alone_in(&self.rows, &self.documents[0].lines, steps)
         } else {
             None
         }

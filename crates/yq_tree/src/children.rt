@@ -5,13 +5,12 @@ ghost use Rattle.yq_inline.specs.Trees.{placed_tree};
 ghost use Rattle.yq_inline.specs.View as inline;
 ghost use Rattle.yq_scalar.specs.Tree.{none, children_of};
 ghost use Rattle.yq_tree.specs.Children as spec;
-ghost use Rattle.yq_tree.specs.Nodes.{lines_in, node_of};
+ghost use Rattle.yq_tree.specs.Nodes.{node_of};
+ghost use Rattle.yq_lines.specs.View.{views};
 
-use crate::body::{Body, Under};
-use crate::ends::is_deeper;
-use crate::lined::Lined;
 use crate::node::Node;
 use yq_inline::{Form, Inline};
+use yq_lines::{Body, Lined, Under, is_deeper};
 use yq_scalar::Piece;
 
 /// What is left of the items or entries of a node.
@@ -34,18 +33,18 @@ pub struct Children<'d, 't> {
 
 /// No items and no entries.
 fn no_rest<'d, 't>(document: &'d Lined<'t>) -> Rest<'d, 't>
-    ensures { spec.rest_of (lines_in document.now) result ≡ none }
+    ensures { spec.rest_of (views document.now) result ≡ none }
 {
     Rest::Lines(Under {
-        first: document.lines.len(),
+        first: document.lines().len(),
         floor: 0,
     })
 }
 
 /// The items or entries of a node in a line's head or in a flow collection.
-#[tactic(auto, using(crate::proofs::ChildLaws::inline_children))]
+#[tactic(auto, using(yq_lines::proofs::ChildLaws::inline_children))]
 fn inline_rest<'d, 't>(document: &'d Lined<'t>, node: &'d Inline<'t>) -> Rest<'d, 't>
-    ensures { spec.rest_of (lines_in document.now) result ≡ children_of (placed_tree (inline.view node.now)) }
+    ensures { spec.rest_of (views document.now) result ≡ children_of (placed_tree (inline.view node.now)) }
 {
     match &node.form {
         Form::Empty => no_rest(document),
@@ -58,9 +57,9 @@ fn inline_rest<'d, 't>(document: &'d Lined<'t>, node: &'d Inline<'t>) -> Rest<'d
 
 impl<'d, 't> Node<'d, 't> {
     /// Its items or entries.
-    #[tactic(auto, using(crate::proofs::ChildLaws::anchored_children))]
+    #[tactic(auto, using(yq_lines::proofs::ChildLaws::anchored_children))]
     pub(crate) fn rest(&self) -> Rest<'d, 't>
-        ensures { spec.rest_of (lines_in self.now.document.now) result ≡ children_of (node_of self.now) }
+        ensures { spec.rest_of (views self.now.document.now) result ≡ children_of (node_of self.now) }
     {
         match self.named.body {
             Body::Null => no_rest(self.document),
@@ -87,15 +86,15 @@ pub(crate) fn next_line<'d, 't>(
     document: &'d Lined<'t>,
     under: Under,
 ) -> Option<(Node<'d, 't>, Under)>
-    ensures gives { spec.Gives (spec.rest_of (lines_in document.now) (spec.lines_rest under)) (λ u. spec.rest_of (lines_in document.now) (spec.lines_rest u)) result }
-    ensures behind { IfSome result (λ x. (under.first < x.1.first) × (under.first < length (lines_in document.now))) }
+    ensures gives { spec.Gives (spec.rest_of (views document.now) (spec.lines_rest under)) (λ u. spec.rest_of (views document.now) (spec.lines_rest u)) result }
+    ensures behind { IfSome result (λ x. (under.first < x.1.first) × (under.first < length (views document.now))) }
 {
     let at = under.first;
-    if !is_deeper(&document.lines, at, under.floor) {
+    if !is_deeper(document.lines(), at, under.floor) {
         return None;
     }
     let next = Under {
-        first: document.ends[at],
+        first: document.ends()[at],
         floor: under.floor,
     };
     Some((Node::of_line(document, at), next))
@@ -106,7 +105,7 @@ impl<'d, 't> Iterator for Children<'d, 't> {
 
     ghost next_gives = { spec.YieldsChild };
 
-    ghost remaining = { λ c. at_most (spec.rest_length (lines_in c.document.now) c.rest) };
+    ghost remaining = { λ c. at_most (spec.rest_length (views c.document.now) c.rest) };
 
     fn next(&mut self) -> Option<Node<'d, 't>> {
         let document = self.document;

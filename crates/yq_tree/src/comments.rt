@@ -1,10 +1,11 @@
 //! Comments, each by its text.
 ghost use Rattle.std.specs.Iterator.{at_most};
 ghost use Rattle.std.specs.Prelude.{◌≡◌, ◌==◌, [], length, option_map};
-ghost use Rattle.yq_rows.specs.Comments as spec;
+ghost use Rattle.yq_lines.specs.Comments as spec;
 ghost use Rattle.yq_scalar.specs.Text.{front, lines_of, past_white};
 ghost use Rattle.yq_tree.specs.CommentPlaces as places;
-ghost use Rattle.yq_tree.specs.Nodes.{label_of, lent};
+ghost use Rattle.yq_tree.specs.Nodes.{label_of};
+ghost use Rattle.yq_lines.specs.Bodies.{lent};
 ghost use Rattle.yq_tree.specs.Texts.{texts_left, YieldsText};
 
 use crate::node::{Node, Slot};

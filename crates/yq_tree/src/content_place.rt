@@ -7,17 +7,17 @@ ghost use Rattle.yq_rows.specs.View.{rows_of, shown};
 ghost use Rattle.yq_tree.specs.EntryPlaces as spec;
 ghost use Rattle.yq_tree.specs.EntryReading.{HasFlows};
 ghost use Rattle.yq_tree.specs.Extents.{IsShown, span};
-ghost use Rattle.yq_tree.specs.FlowReading.{flows};
+ghost use Rattle.yq_lines.specs.View.{flows, views};
 ghost use Rattle.yq_tree.specs.Lines.{lines_of};
-ghost use Rattle.yq_tree.specs.Nodes.{lines_in};
 ghost use Rattle.yq_tree.specs.Reading.{cut_of};
 
 use crate::document::Documents;
 use crate::entry_place::{line_seat, lines_place};
-use crate::lined::Lined;
+use crate::flow_place::flow_content;
 use crate::path::{Path, Span};
 use crate::row_place::head_extent;
 use yq_inline::Step;
+use yq_lines::Lined;
 use yq_rows::Rows;
 
 /// The place of the head of a line of a document.
@@ -38,9 +38,9 @@ fn lines_content(
     to: usize,
 ) -> Option<Span>
     requires order { from ≤ to }
-    requires within { to ≤ length (lines_in lines.now) }
+    requires within { to ≤ length (views lines.now) }
     requires shown { IsShown rows.now }
-    ensures { (t : List ℕ) (c : Cut) (p : Part) (more : List RowOf) → IsCut t c → rows.now ≡ shown c → lines_in lines.now ≡ lines_of p.rows → drop first (rows_of c) ≡ p.rows ++ more → option_map span result ≡ spec.lines_content first c p.rows from to }
+    ensures { (t : List ℕ) (c : Cut) (p : Part) (more : List RowOf) → IsCut t c → rows.now ≡ shown c → views lines.now ≡ lines_of p.rows → drop first (rows_of c) ≡ p.rows ++ more → option_map span result ≡ spec.lines_content first c p.rows from to }
 {
     if from == to {
         return None;
@@ -54,9 +54,9 @@ fn lines_content(
 
 /// The place of the node of a line.
 fn line_content(rows: &Rows<'_>, first: usize, lines: &Lined<'_>, line: usize) -> Option<Span>
-    requires within { line < length (lines_in lines.now) }
+    requires within { line < length (views lines.now) }
     requires shown { IsShown rows.now }
-    ensures { (t : List ℕ) (c : Cut) (p : Part) (more : List RowOf) → IsCut t c → rows.now ≡ shown c → lines_in lines.now ≡ lines_of p.rows → drop first (rows_of c) ≡ p.rows ++ more → option_map span result ≡ spec.line_content first c p.rows line }
+    ensures { (t : List ℕ) (c : Cut) (p : Part) (more : List RowOf) → IsCut t c → rows.now ≡ shown c → views lines.now ≡ lines_of p.rows → drop first (rows_of c) ≡ p.rows ++ more → option_map span result ≡ spec.line_content first c p.rows line }
 {
     let end = lines.end_of(line);
     if lines.has_head(line) {
@@ -69,7 +69,7 @@ fn line_content(rows: &Rows<'_>, first: usize, lines: &Lined<'_>, line: usize) -
 /// The place of the node to which steps lead.
 fn content_of(rows: &Rows<'_>, first: usize, lines: &Lined<'_>, steps: &[Step]) -> Option<Span>
     requires { IsShown rows.now }
-    ensures { (t : List ℕ) (c : Cut) (p : Part) (more : List RowOf) → IsCut t c → rows.now ≡ shown c → lines_in lines.now ≡ lines_of p.rows → HasFlows first c p.rows (flows lines.now.1) → drop first (rows_of c) ≡ p.rows ++ more → option_map span result ≡ spec.content_of first c p.rows (map step_of steps.now) }
+    ensures { (t : List ℕ) (c : Cut) (p : Part) (more : List RowOf) → IsCut t c → rows.now ≡ shown c → views lines.now ≡ lines_of p.rows → HasFlows first c p.rows (flows lines.now) → drop first (rows_of c) ≡ p.rows ++ more → option_map span result ≡ spec.content_of first c p.rows (map step_of steps.now) }
 {
     if steps.is_empty() {
         return lines_content(rows, first, lines, 0, lines.count());
@@ -78,7 +78,7 @@ fn content_of(rows: &Rows<'_>, first: usize, lines: &Lined<'_>, steps: &[Step]) 
     if left.is_empty() {
         line_content(rows, first, lines, line)
     } else {
-        lines.flow_content(line, left)
+        flow_content(lines, line, left)
     }
 }
 
@@ -88,6 +88,11 @@ impl Documents<'_> {
         ensures { option_map span result ≡ spec.content_at path.now (cut_of self.now) }
     {
         let first = self.first_row(path.doc)?;
-        content_of(&self.rows, first, &self.documents[path.doc], &path.steps)
+        content_of(
+            &self.rows,
+            first,
+            &self.documents[path.doc].lines,
+            &path.steps,
+        )
     }
 }

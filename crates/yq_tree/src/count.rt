@@ -2,17 +2,17 @@
 ghost use Rattle.std.specs.Prelude.{◌≡◌};
 ghost use Rattle.yq_scalar.specs.Tree.{children_of};
 ghost use Rattle.yq_tree.specs.Children.{lines_rest, rest_of};
-ghost use Rattle.yq_tree.specs.Counts as spec;
-ghost use Rattle.yq_tree.specs.Nodes.{lines_in, node_of};
+ghost use Rattle.yq_lines.specs.Counts as spec;
+ghost use Rattle.yq_tree.specs.Nodes.{node_of};
+ghost use Rattle.yq_lines.specs.View.{views};
 
-use crate::body::Under;
 use crate::children::{Rest, next_line};
-use crate::lined::Lined;
 use crate::node::Node;
+use yq_lines::{Lined, Under};
 
 /// How many items or entries these lines begin.
 fn count_lines(document: &Lined<'_>, under: Under) -> usize
-    ensures { result ≡ spec.count (rest_of (lines_in document.now) (lines_rest under)) }
+    ensures { result ≡ spec.count (rest_of (views document.now) (lines_rest under)) }
 {
     let mut rest = under;
     let mut count = 0;

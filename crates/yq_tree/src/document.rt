@@ -1,4 +1,4 @@
-//! Documents, as their lines.
+//! The documents of a text.
 ghost use Rattle.std.specs.Prelude.{◌≡◌, ◌<◌, ℕ, List, length, option_map, Some};
 ghost use Rattle.yq_tree.specs.Documents.{Document};
 ghost use Rattle.yq_tree.specs.Located.{document_at, labelled_located, located};
@@ -7,8 +7,8 @@ ghost use Rattle.yq_tree.specs.Reading as spec;
 ghost use Rattle.yq_tree.specs.SoundReading.{Holds};
 ghost use Rattle.yq_tree.specs.Texts.{texts_left};
 
+use crate::checks::DocumentLines;
 use crate::comments::Comments;
-use crate::lined::Lined;
 use crate::node::Node;
 use crate::path::Path;
 use std::marker::Model;
@@ -19,7 +19,7 @@ use yq_rows::Rows;
 pub struct Documents<'t> {
     pub(crate) text: &'t str,
     pub(crate) rows: Rows<'t>,
-    pub(crate) documents: Vec<Lined<'t>>,
+    pub(crate) documents: Vec<DocumentLines<'t>>,
 }
 
 impl<'t> Model for Documents<'t> {
@@ -44,7 +44,7 @@ impl<'t> Documents<'t> {
         ensures node { (d : Document) → document_at self.now i ≡ Some d → node_of result ≡ d.root }
         ensures label { label_of result ≡ unlabelled }
     {
-        Node::root(&self.documents[i])
+        Node::root(&self.documents[i].lines)
     }
 
     /// The comment before document `i`, counted from 0, line by line.

@@ -8,6 +8,7 @@ ghost use Rattle.yq_rows.specs.View.{shown};
 ghost use Rattle.yq_tree.specs.Documents.{document_parts};
 ghost use Rattle.yq_tree.specs.FlowReading as flow;
 ghost use Rattle.yq_tree.specs.PartReading as spec;
+ghost use Rattle.yq_lines.specs.View.{flows};
 
 use crate::part_lines::{PartLines, lined_part};
 use std::alloc::{AllocError, Global};
@@ -59,7 +60,7 @@ fn push_document<'t>(
     part: PartLines<'t>,
 ) -> Result<Vec<PartLines<'t>>, AllocError>
     ensures lines { IfOk result (λ d. spec.lined_views d.items ≡ spec.lined_views documents.entry.items ++ spec.if_document is_document (spec.lined_view part.entry)) }
-    ensures flows { IfOk result (λ d. flow.parts_lines_flows d.items ≡ flow.parts_lines_flows documents.entry.items ++ flow.with_flows is_document (flow.flows part.entry.lines.items) []) }
+    ensures flows { IfOk result (λ d. flow.parts_lines_flows d.items ≡ flow.parts_lines_flows documents.entry.items ++ flow.with_flows is_document (flows part.entry.lines.items) []) }
 {
     let mut documents = documents;
     if is_document {

@@ -6,17 +6,17 @@ ghost use Rattle.yq_rows.specs.Grammar.{IsCut};
 ghost use Rattle.yq_rows.specs.Rows.{Cut};
 ghost use Rattle.yq_rows.specs.View.{rows_of, shown, view};
 ghost use Rattle.yq_tree.specs.Extents.{IsShown, begins_entry};
-ghost use Rattle.yq_tree.specs.Group.{group, is_fine};
+ghost use Rattle.yq_lines.specs.Group.{group, is_fine};
 ghost use Rattle.yq_tree.specs.Lines.{lines_of};
-ghost use Rattle.yq_tree.specs.Nodes.{lines_in};
+ghost use Rattle.yq_lines.specs.View.{views};
 ghost use Rattle.yq_tree.specs.Reading.{cut_of};
 ghost use Rattle.yq_tree.specs.ScalarPlaces as spec;
 ghost use Rattle.yq_tree.specs.Told.{place_start};
 
 use crate::document::Documents;
 use crate::extent::{head_place, is_entry, line_row};
-use crate::lined::Lined;
 use yq_inline::Step;
+use yq_lines::Lined;
 use yq_rows::{Row, Rows};
 
 /// Whether a row is that of a key or dash, and has no head.
@@ -44,7 +44,7 @@ fn row_place(rows: &Rows<'_>, i: usize) -> Option<usize>
 /// lines are under it, among the rows of the one document that has these lines.
 fn empty_in(rows: &Rows<'_>, lines: &Lined<'_>, steps: &[Step]) -> Option<usize>
     requires { IsShown rows.now }
-    ensures { (t : List ℕ) (c : Cut) → IsCut t c → rows.now ≡ shown c → lines_in lines.now ≡ lines_of (rows_of c) → is_fine (group (lines_of (rows_of c))) ≡ true → result ≡ option_map place_start (spec.empty_in (map step_of steps.now) c) }
+    ensures { (t : List ℕ) (c : Cut) → IsCut t c → rows.now ≡ shown c → views lines.now ≡ lines_of (rows_of c) → is_fine (group (lines_of (rows_of c))) ≡ true → result ≡ option_map place_start (spec.empty_in (map step_of steps.now) c) }
 {
     let line = lines.line_at(steps)?;
     if lines.has_under(line) {
@@ -61,7 +61,7 @@ impl<'t> Documents<'t> {
         ensures { result ≡ option_map place_start (spec.empty_at (map step_of steps.now) (cut_of self.now)) }
     {
         if self.documents.len() == 1 {
-            empty_in(&self.rows, &self.documents[0], steps)
+            empty_in(&self.rows, &self.documents[0].lines, steps)
         } else {
             None
         }

@@ -7,19 +7,19 @@ ghost use Rattle.yq_rows.specs.View.{rows_of, shown};
 ghost use Rattle.yq_tree.specs.EntryPlaces as spec;
 ghost use Rattle.yq_tree.specs.EntryReading.{HasFlows};
 ghost use Rattle.yq_tree.specs.Extents.{IsShown, span};
-ghost use Rattle.yq_tree.specs.FlowReading.{flows};
+ghost use Rattle.yq_lines.specs.View.{flows, views};
 ghost use Rattle.yq_tree.specs.Lines.{lines_of};
-ghost use Rattle.yq_tree.specs.Nodes.{lines_in};
 ghost use Rattle.yq_tree.specs.Reading.{cut_of};
 ghost use Rattle.yq_tree.specs.SeatReading as reading;
 ghost use Rattle.yq_tree.specs.Seats as seats;
 
 use crate::document::Documents;
-use crate::lined::Lined;
+use crate::flow_place::flow_entry;
 use crate::path::{Path, Span};
 use crate::row_place::{line_start, row_end};
 use crate::seat::{Seat, find_seat};
 use yq_inline::Step;
+use yq_lines::Lined;
 use yq_rows::Rows;
 
 /// A line of a document, by its number and by how many rows stand before the document.
@@ -45,9 +45,9 @@ pub(crate) fn lines_place(rows: &Rows<'_>, first: usize, from: usize, to: usize)
 
 /// The place of the entry or item of a line.
 fn line_entry(rows: &Rows<'_>, first: usize, lines: &Lined<'_>, line: usize) -> Option<Span>
-    requires within { line < length (lines_in lines.now) }
+    requires within { line < length (views lines.now) }
     requires shown { IsShown rows.now }
-    ensures { (t : List ℕ) (c : Cut) (p : Part) (more : List RowOf) → IsCut t c → rows.now ≡ shown c → lines_in lines.now ≡ lines_of p.rows → drop first (rows_of c) ≡ p.rows ++ more → option_map span result ≡ spec.line_entry first c p.rows line }
+    ensures { (t : List ℕ) (c : Cut) (p : Part) (more : List RowOf) → IsCut t c → rows.now ≡ shown c → views lines.now ≡ lines_of p.rows → drop first (rows_of c) ≡ p.rows ++ more → option_map span result ≡ spec.line_entry first c p.rows line }
 {
     lines_place(rows, first, line, lines.end_of(line) - 1)
 }
@@ -55,13 +55,13 @@ fn line_entry(rows: &Rows<'_>, first: usize, lines: &Lined<'_>, line: usize) -> 
 /// The place of the entry or item to which steps lead.
 fn entry_of(rows: &Rows<'_>, first: usize, lines: &Lined<'_>, steps: &[Step]) -> Option<Span>
     requires { IsShown rows.now }
-    ensures { (t : List ℕ) (c : Cut) (p : Part) (more : List RowOf) → IsCut t c → rows.now ≡ shown c → lines_in lines.now ≡ lines_of p.rows → HasFlows first c p.rows (flows lines.now.1) → drop first (rows_of c) ≡ p.rows ++ more → option_map span result ≡ spec.entry_of first c p.rows (map step_of steps.now) }
+    ensures { (t : List ℕ) (c : Cut) (p : Part) (more : List RowOf) → IsCut t c → rows.now ≡ shown c → views lines.now ≡ lines_of p.rows → HasFlows first c p.rows (flows lines.now) → drop first (rows_of c) ≡ p.rows ++ more → option_map span result ≡ spec.entry_of first c p.rows (map step_of steps.now) }
 {
     let (line, left) = lines.reach(steps)?;
     if left.is_empty() {
         line_entry(rows, first, lines, line)
     } else {
-        lines.flow_entry(line, left)
+        flow_entry(lines, line, left)
     }
 }
 
@@ -71,6 +71,11 @@ impl Documents<'_> {
         ensures { option_map span result ≡ spec.entry_at path.now (cut_of self.now) }
     {
         let first = self.first_row(path.doc)?;
-        entry_of(&self.rows, first, &self.documents[path.doc], &path.steps)
+        entry_of(
+            &self.rows,
+            first,
+            &self.documents[path.doc].lines,
+            &path.steps,
+        )
     }
 }

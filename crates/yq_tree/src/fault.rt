@@ -1,7 +1,7 @@
 //! Where a text is at fault.
 
 use crate::documents::{begins_document, first_is_document};
-use crate::sound::Flaw;
+use yq_lines::Flaw;
 use yq_rows::{Row, Rows};
 use yq_scalar::{FaultKind, ReadFault};
 

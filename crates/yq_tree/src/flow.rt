@@ -3,17 +3,18 @@ ghost use Rattle.std.specs.Prelude.{◌≡◌, Some, None, option_map};
 ghost use Rattle.yq_inline.specs.Trees.{inner, parts_tree, placed_tree};
 ghost use Rattle.yq_inline.specs.View.{entries_end, items_end, view};
 ghost use Rattle.yq_scalar.specs.Paths.{To, Nth};
-ghost use Rattle.yq_tree.specs.Labelled.{labelled_at};
+ghost use Rattle.yq_lines.specs.Labelled.{labelled_at};
 ghost use Rattle.yq_tree.specs.Nodes as spec;
-ghost use Rattle.yq_tree.specs.Outline.{anchored};
+ghost use Rattle.yq_lines.specs.Outline.{anchored};
+ghost use Rattle.yq_lines.specs.Bodies.{lent};
 
-use crate::body::first_anchor;
 use crate::node::NodeKind;
 use yq_inline::{Form, Inline};
+use yq_lines::first_anchor;
 use yq_scalar::{Kind, Piece};
 
 /// What a node of a flow collection is.
-#[tactic(auto, using(crate::proofs::NodeLaws::kind_named))]
+#[tactic(auto, using(crate::proofs::KindLaws::kind_named))]
 pub(crate) fn inline_kind(node: &Inline<'_>) -> NodeKind
     ensures { result ≡ spec.kind_of (placed_tree (view node.now)) }
 {
@@ -27,7 +28,7 @@ pub(crate) fn inline_kind(node: &Inline<'_>) -> NodeKind
 }
 
 /// The text of a scalar in a flow collection, or the name of an alias.
-#[tactic(auto, using(crate::proofs::NodeLaws::text_named))]
+#[tactic(auto, using(crate::proofs::KindLaws::text_named))]
 pub(crate) fn inline_text<'d>(node: &'d Inline<'_>) -> &'d str
     ensures { result.now ≡ spec.text_of (placed_tree (view node.now)) }
 {
@@ -41,9 +42,9 @@ pub(crate) fn inline_text<'d>(node: &'d Inline<'_>) -> &'d str
 }
 
 /// The anchor of a node behind another anchor; an alias has none.
-#[tactic(auto, using(crate::proofs::NodeLaws::anchor_scalar, crate::proofs::NodeLaws::anchor_list, crate::proofs::NodeLaws::anchor_map, crate::proofs::NodeLaws::anchor_alias))]
+#[tactic(auto, using(crate::proofs::KindLaws::anchor_scalar, crate::proofs::KindLaws::anchor_list, crate::proofs::KindLaws::anchor_map, crate::proofs::KindLaws::anchor_alias))]
 pub(crate) fn inline_anchor<'t>(before: Option<&'t str>, node: &Inline<'t>) -> Option<&'t str>
-    ensures { spec.lent result ≡ spec.anchor_of (anchored (spec.lent before.entry) (placed_tree (view node.now))) }
+    ensures { lent result ≡ spec.anchor_of (anchored (lent before.entry) (placed_tree (view node.now))) }
 {
     match node.form {
         Form::Alias(_) => None,

@@ -4,13 +4,11 @@ ghost use Rattle.yq_inline.specs.Entries.{content_place, entry_place, entry_view
 ghost use Rattle.yq_inline.specs.Places.{Placed};
 ghost use Rattle.yq_tree.specs.EntryReading as spec;
 ghost use Rattle.yq_tree.specs.Extents.{span};
-ghost use Rattle.yq_tree.specs.FlowReading.{flows, head_flow};
-ghost use Rattle.yq_tree.specs.Nodes.{lines_in};
+ghost use Rattle.yq_lines.specs.View.{flows, head_flow, views};
 
-use crate::line::{Head, Line};
-use crate::lined::Lined;
 use crate::path::Span;
 use yq_inline::{Entry, Step};
+use yq_lines::{Head, Line, Lined};
 
 /// The item or entry to which steps lead in a head.
 fn head_entry<'d, 't>(head: &'d Head<'t>, steps: &[Step]) -> Option<Entry<'d, 't>>
@@ -48,22 +46,20 @@ fn content_span(entry: &Entry<'_, '_>) -> Option<Span>
     Some(Span { start, end })
 }
 
-impl<'t> Lined<'t> {
-    /// The place of the item or entry to which steps lead in the head of line `at`.
-    pub(crate) fn flow_entry(&self, at: usize, steps: &[Step]) -> Option<Span>
-        requires { at < length (lines_in self.now) }
-        ensures { (f : Option Placed) → slice_get (flows self.now.1) at ≡ Some f → option_map span result ≡ option_map entry_place (spec.entry_within (map step_of steps.now) f) }
-    {
-        let entry = line_entry(&self.lines, at, steps)?;
-        Some(entry_span(&entry))
-    }
+/// The place of the item or entry to which steps lead in the head of line `at`.
+pub(crate) fn flow_entry(lines: &Lined<'_>, at: usize, steps: &[Step]) -> Option<Span>
+    requires { at < length (views lines.now) }
+    ensures { (f : Option Placed) → slice_get (flows lines.now) at ≡ Some f → option_map span result ≡ option_map entry_place (spec.entry_within (map step_of steps.now) f) }
+{
+    let entry = line_entry(lines.lines(), at, steps)?;
+    Some(entry_span(&entry))
+}
 
-    /// The place of the content of the item or entry to which steps lead in the head of line `at`.
-    pub(crate) fn flow_content(&self, at: usize, steps: &[Step]) -> Option<Span>
-        requires { at < length (lines_in self.now) }
-        ensures { (f : Option Placed) → slice_get (flows self.now.1) at ≡ Some f → option_map span result ≡ option_and_then (λ e. content_place e.1) (spec.entry_within (map step_of steps.now) f) }
-    {
-        let entry = line_entry(&self.lines, at, steps)?;
-        content_span(&entry)
-    }
+/// The place of the content of the item or entry to which steps lead in the head of line `at`.
+pub(crate) fn flow_content(lines: &Lined<'_>, at: usize, steps: &[Step]) -> Option<Span>
+    requires { at < length (views lines.now) }
+    ensures { (f : Option Placed) → slice_get (flows lines.now) at ≡ Some f → option_map span result ≡ option_and_then (λ e. content_place e.1) (spec.entry_within (map step_of steps.now) f) }
+{
+    let entry = line_entry(lines.lines(), at, steps)?;
+    content_span(&entry)
 }

@@ -4,15 +4,13 @@ ghost use Rattle.yq_scalar.specs.Quoted.{IsQuotedText};
 ghost use Rattle.yq_inline.specs.Scalars as scalars;
 ghost use Rattle.yq_rows.specs.View.{slices_text, view as row_view};
 ghost use Rattle.yq_tree.specs.RowReading as spec;
-ghost use Rattle.yq_rows.specs.Comments as comments;
-ghost use Rattle.yq_tree.specs.FlowReading.{flows, head_flow};
+ghost use Rattle.yq_lines.specs.Comments as comments;
 ghost use Rattle.yq_tree.specs.Lines as lines_spec;
-ghost use Rattle.yq_tree.specs.View.{mark_view, view, views};
+ghost use Rattle.yq_lines.specs.View.{mark_view, view, views, flows, head_flow};
 
-use crate::content::content_of;
-use crate::line::{Head, Line, Mark};
 use std::alloc::{AllocError, Global};
 use yq_inline::pieces::strip;
+use yq_lines::{Head, Line, Mark, content_of};
 use yq_rows::Row;
 
 /// What is known of a row's mark, once the lines of the dashes before it are made.

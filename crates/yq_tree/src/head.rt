@@ -5,14 +5,13 @@ ghost use Rattle.yq_inline.specs.View.{view as node_view};
 ghost use Rattle.yq_tree.specs.FlowReading as flow;
 ghost use Rattle.yq_tree.specs.KeyReading.{EndsIn};
 ghost use Rattle.yq_tree.specs.RowReading as spec;
-ghost use Rattle.yq_tree.specs.View.{head_view};
+ghost use Rattle.yq_lines.specs.View.{head_view, head_flow};
 
-use crate::content::plain_head;
 use crate::flow_keys::keys_fault;
-use crate::line::{Content, Head};
 use std::alloc::{AllocError, Global};
 use yq_inline::pieces::{first_is, is_quoted};
 use yq_inline::{Form, Inline, read_inline};
+use yq_lines::{Content, Head, plain_head};
 use yq_scalar::plain::holds_break;
 use yq_scalar::{Kind, Place, ReadError, ReadFault, content, read_block};
 
@@ -36,7 +35,7 @@ pub(crate) fn begins_block(head: &[u8]) -> bool
 /// The head that a node without an anchor is.
 fn node_head<'t>(alloc: Global, node: Inline<'t>) -> Result<Head<'t>, AllocError>
     ensures view { IfOk result (λ h. head_view h ≡ spec.placed_head (node_view node.entry)) }
-    ensures flow { IfOk result (λ h. flow.head_flow h ≡ flow.kept (node_view node.entry)) }
+    ensures flow { IfOk result (λ h. head_flow h ≡ flow.kept (node_view node.entry)) }
 {
     match node.form {
         Form::Empty => Ok(Head::Nothing),
@@ -57,7 +56,7 @@ fn read_node_head<'t>(
 ) -> Result<Head<'t>, ReadError>
     requires { EndsIn whole.now text.now }
     ensures view { Gives head_view result (spec.node_head_at whole.now parent text.now) }
-    ensures flow { IfOk result (λ h. flow.head_flow h ≡ flow.node_flow_at whole.now parent text.now) }
+    ensures flow { IfOk result (λ h. head_flow h ≡ flow.node_flow_at whole.now parent text.now) }
 {
     let at = whole.len() - text.len();
     let node = match read_inline(alloc, whole, at, Place::Block, parent, 0) {
@@ -73,7 +72,7 @@ fn read_node_head<'t>(
 /// The block scalar in front, as a head.
 fn read_block_head<'t>(alloc: Global, parent: i64, text: &str) -> Result<Head<'t>, ReadError>
     ensures view { Gives head_view result (spec.block_head_at parent text.now) }
-    ensures flow { IfOk result (λ h. flow.head_flow h ≡ None) }
+    ensures flow { IfOk result (λ h. head_flow h ≡ None) }
 {
     let piece = match read_block(text, 0, parent) {
         Ok(piece) => piece,
@@ -96,7 +95,7 @@ pub(crate) fn read_head<'t>(
 ) -> Result<Head<'t>, ReadError>
     requires { EndsIn whole.now text.now }
     ensures view { Gives head_view result (spec.head_at whole.now parent head.now text.now) }
-    ensures flow { IfOk result (λ h. flow.head_flow h ≡ flow.head_flow_at whole.now parent head.now text.now) }
+    ensures flow { IfOk result (λ h. head_flow h ≡ flow.head_flow_at whole.now parent head.now text.now) }
 {
     if head.is_empty() {
         return Ok(Head::Nothing);

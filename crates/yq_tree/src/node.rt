@@ -2,18 +2,17 @@
 ghost use Rattle.std.specs.Prelude.{◌≡◌, ◌<◌, length, slice_get, Some};
 ghost use Rattle.yq_inline.specs.Trees.{inner, placed_tree};
 ghost use Rattle.yq_inline.specs.View as inline;
-ghost use Rattle.yq_tree.specs.Group.{group};
+ghost use Rattle.yq_lines.specs.Group.{group};
 ghost use Rattle.yq_tree.specs.Nodes as spec;
-ghost use Rattle.yq_tree.specs.Outline as outline;
-ghost use Rattle.yq_tree.specs.Outline.{anchored, label, value};
-ghost use Rattle.yq_tree.specs.Places.{content};
-ghost use Rattle.yq_tree.specs.View.{mark_view};
+ghost use Rattle.yq_lines.specs.Outline as outline;
+ghost use Rattle.yq_lines.specs.Outline.{anchored, label, value};
+ghost use Rattle.yq_lines.specs.Places.{content};
+ghost use Rattle.yq_lines.specs.View.{mark_view, views};
+ghost use Rattle.yq_lines.specs.Bodies.{lent, lines_under};
 
-use crate::body::{Body, Named, Under, line_node, lines_node};
 use crate::flow::{inline_anchor, inline_kind, inline_text};
-use crate::line::{Line, Mark};
-use crate::lined::Lined;
 use yq_inline::Inline;
+use yq_lines::{Body, Line, Lined, Mark, Named, Under, line_node, lines_node};
 use yq_scalar::Kind;
 
 /// What a node is.
@@ -50,7 +49,7 @@ pub struct Node<'d, 't> {
 
 /// The key of a line's entry; an item has none.
 fn line_key<'d>(line: &'d Line<'_>) -> Option<&'d str>
-    ensures { spec.lent result ≡ outline.key_of (mark_view line.now.mark) }
+    ensures { lent result ≡ outline.key_of (mark_view line.now.mark) }
 {
     match &line.mark {
         Mark::Bare => None,
@@ -61,41 +60,41 @@ fn line_key<'d>(line: &'d Line<'_>) -> Option<&'d str>
 
 impl<'d, 't> Node<'d, 't> {
     /// The root of a document.
-    #[tactic(auto, using(crate::proofs::NodeLaws::all_value))]
+    #[tactic(auto, using(yq_lines::proofs::NodeLaws::all_value))]
     pub(crate) fn root(document: &'d Lined<'t>) -> Node<'d, 't>
-        ensures node { spec.node_of result ≡ value (group (spec.lines_in document.now)) }
+        ensures node { spec.node_of result ≡ value (group (views document.now)) }
         ensures label { spec.label_of result ≡ spec.unlabelled }
     {
         let all = Under { first: 0, floor: 0 };
         Node {
             document,
             slot: Slot::Root,
-            named: lines_node(&document.lines, None, all),
+            named: lines_node(document.lines(), None, all),
         }
     }
 
     /// The node of a line's entry or item.
     pub(crate) fn of_line(document: &'d Lined<'t>, at: usize) -> Node<'d, 't>
-        requires { at < length (spec.lines_in document.now) }
-        ensures node { (l : outline.Line) → slice_get (spec.lines_in document.now) at ≡ Some l → spec.node_of result ≡ content l (spec.lines_under (spec.lines_in document.now) at l) }
-        ensures label { (l : outline.Line) → slice_get (spec.lines_in document.now) at ≡ Some l → spec.label_of result ≡ label l }
+        requires { at < length (views document.now) }
+        ensures node { (l : outline.Line) → slice_get (views document.now) at ≡ Some l → spec.node_of result ≡ content l (lines_under (views document.now) at l) }
+        ensures label { (l : outline.Line) → slice_get (views document.now) at ≡ Some l → spec.label_of result ≡ label l }
     {
         Node {
             document,
-            slot: Slot::Line(&document.lines[at]),
-            named: line_node(&document.lines, at),
+            slot: Slot::Line(&document.lines()[at]),
+            named: line_node(document.lines(), at),
         }
     }
 
     /// A node of a flow collection, behind its key, if it has one.
-    #[tactic(auto, using(crate::proofs::NodeLaws::anchored_none))]
+    #[tactic(auto, using(yq_lines::proofs::NodeLaws::anchored_none))]
     pub(crate) fn of_inline(
         document: &'d Lined<'t>,
         key: Option<&'d str>,
         node: &'d Inline<'t>,
     ) -> Node<'d, 't>
         ensures node { spec.node_of result ≡ placed_tree (inline.view node.now) }
-        ensures label { spec.label_of result ≡ inner (spec.lent key.entry) }
+        ensures label { spec.label_of result ≡ inner (lent key.entry) }
     {
         let named = Named {
             anchor: None,
@@ -109,7 +108,7 @@ impl<'d, 't> Node<'d, 't> {
     }
 
     /// What the node is.
-    #[tactic(auto, using(crate::proofs::NodeLaws::kind_anchored))]
+    #[tactic(auto, using(crate::proofs::KindLaws::kind_anchored))]
     pub fn kind(&self) -> NodeKind
         ensures { result ≡ spec.kind_of (spec.node_of self.now) }
     {
@@ -123,7 +122,7 @@ impl<'d, 't> Node<'d, 't> {
     }
 
     /// The text of a scalar, or the name of an alias; that of a sequence or mapping is empty.
-    #[tactic(auto, using(crate::proofs::NodeLaws::text_anchored))]
+    #[tactic(auto, using(crate::proofs::KindLaws::text_anchored))]
     pub fn text(&self) -> &'d str
         ensures { result.now ≡ spec.text_of (spec.node_of self.now) }
     {
@@ -137,9 +136,9 @@ impl<'d, 't> Node<'d, 't> {
     }
 
     /// The name of the anchor before it.
-    #[tactic(auto, using(crate::proofs::NodeLaws::first_none))]
+    #[tactic(auto, using(yq_lines::proofs::NodeLaws::first_none))]
     pub fn anchor(&self) -> Option<&'t str>
-        ensures { spec.lent result ≡ spec.anchor_of (spec.node_of self.now) }
+        ensures { lent result ≡ spec.anchor_of (spec.node_of self.now) }
     {
         let before = self.named.anchor;
         match self.named.body {
@@ -153,7 +152,7 @@ impl<'d, 't> Node<'d, 't> {
 
     /// The key of its entry; an item and the root have none.
     pub fn key(&self) -> Option<&'d str>
-        ensures { spec.lent result ≡ (spec.label_of self.now).key }
+        ensures { lent result ≡ (spec.label_of self.now).key }
     {
         match self.slot {
             Slot::Root => None,

@@ -1,20 +1,20 @@
 //! The lines of the rows of a part.
 ghost use Rattle.std.specs.Prelude.{◌<◌, ◌≤◌, ◌-◌, ◌^◌, ◌++◌, length, drop, IfOk, ◌≡◌};
-ghost use Rattle.yq_rows.specs.Comments.{head_comment};
+ghost use Rattle.yq_lines.specs.Comments.{head_comment};
 ghost use Rattle.yq_rows.specs.View.{bound_view};
 ghost use Rattle.yq_tree.specs.Documents.{lead_of};
 ghost use Rattle.yq_tree.specs.FlowReading as flow;
 ghost use Rattle.yq_scalar.specs.Answers.{Gives};
 ghost use Rattle.yq_tree.specs.KeyReading.{EndsIn};
 ghost use Rattle.yq_tree.specs.PartReading as spec;
-ghost use Rattle.yq_tree.specs.View.{views};
+ghost use Rattle.yq_lines.specs.View.{views, flows};
 
 use crate::fault::fault_behind;
 use crate::fit::has_short_root;
 use crate::front::behind;
-use crate::line::Line;
 use crate::row_lines::row_lines;
 use std::alloc::Global;
+use yq_lines::Line;
 use yq_rows::{Bound, Rows};
 use yq_scalar::{FaultKind, ReadError};
 
@@ -41,7 +41,7 @@ pub(crate) fn part_lines<'t>(
     requires rows { spec.HasRows (to - from) (drop from rows.now.rows) text.now }
     // The lines are those of the rows, and a fault comes exactly where a key isn't fit.
     ensures lines { (h : spec.HasRows (to - from) (drop from rows.now.rows) text.now) → Gives (λ x. (views x.0.items, x.1.now)) result (spec.part_made h.rows (h.end ++ h.rest)) }
-    ensures flows { (h : spec.HasRows (to - from) (drop from rows.now.rows) text.now) → IfOk result (λ x. flow.flows x.0.items ≡ flow.rows_flows (length whole.now) h.rows (h.end ++ h.rest)) }
+    ensures flows { (h : spec.HasRows (to - from) (drop from rows.now.rows) text.now) → IfOk result (λ x. flows x.0.items ≡ flow.rows_flows (length whole.now) h.rows (h.end ++ h.rest)) }
     ensures ends { IfOk result (λ x. EndsIn text.now x.1.now) }
 {
     let mut lines = Vec::with_capacity(alloc, to - from)?;
@@ -86,7 +86,7 @@ pub(crate) fn lined_part<'t>(
     requires part { spec.HasPart from (drop from rows.now.rows) (bound_view bound) text.now }
     // The lead and the lines are those of the part, and a fault comes exactly where its rows aren't fit.
     ensures lines { (h : spec.HasPart from (drop from rows.now.rows) (bound_view bound.entry) text.now) → Gives (λ x. (spec.lined_view x.0, x.1.now)) result (spec.lined_made h.part h.behind) }
-    ensures flows { (h : spec.HasPart from (drop from rows.now.rows) (bound_view bound.entry) text.now) → IfOk result (λ x. flow.flows x.0.lines.items ≡ flow.part_flows (length whole.now) h.part ((bound_view bound.entry).marker ++ h.behind)) }
+    ensures flows { (h : spec.HasPart from (drop from rows.now.rows) (bound_view bound.entry) text.now) → IfOk result (λ x. flows x.0.lines.items ≡ flow.part_flows (length whole.now) h.part ((bound_view bound.entry).marker ++ h.behind)) }
     ensures ends { IfOk result (λ x. EndsIn text.now x.1.now) }
 {
     let lead = first_gap(rows, from, bound, text);

@@ -7,14 +7,14 @@ ghost use Rattle.yq_rows.specs.View.{view as row_view};
 ghost use Rattle.yq_tree.specs.FlowReading as flow;
 ghost use Rattle.yq_tree.specs.KeyReading.{EndsIn};
 ghost use Rattle.yq_tree.specs.RowReading as spec;
-ghost use Rattle.yq_tree.specs.View.{view, views};
+ghost use Rattle.yq_lines.specs.View.{view, views, flows, head_flow};
 
 use crate::fault::fault_behind;
 use crate::fit::key_fits;
 use crate::front::{Front, anchor_name, at_head, behind_row, push_dashes, read_mark};
 use crate::head::read_head;
-use crate::line::Line;
 use std::alloc::Global;
+use yq_lines::Line;
 use yq_rows::Row;
 use yq_scalar::{FaultKind, ReadError};
 
@@ -30,7 +30,7 @@ fn read_line<'t>(
     requires column { front.column < 2 ^ 32 }
     requires ends { EndsIn whole.now text.now }
     ensures line { Gives view result (spec.line_at whole.now (row_view row.now) (spec.begun [] front.entry) text.now) }
-    ensures flow { IfOk result (λ l. flow.head_flow l.head ≡ flow.head_flow_at whole.now (row_view row.now).parent (row_view row.now).head text.now) }
+    ensures flow { IfOk result (λ l. head_flow l.head ≡ flow.head_flow_at whole.now (row_view row.now).parent (row_view row.now).head text.now) }
 {
     let mark = read_mark(alloc, row, front.last)?;
     let head = read_head(alloc, whole, row.parent_indent(), row.head(), text)?;
@@ -58,7 +58,7 @@ pub(crate) fn row_lines<'t>(
     requires row { spec.HasRow (row_view row.now) text.now }
     // The lines are those of the row, and a fault comes exactly where a key isn't fit.
     ensures lines { (h : spec.HasRow (row_view row.now) text.now) → Gives (λ x. (views x.0.items, x.1.now)) result (spec.row_made (views lines.entry.items) h.row h.rest) }
-    ensures flows { (h : spec.HasRow (row_view row.now) text.now) → IfOk result (λ x. flow.flows x.0.items ≡ flow.flows lines.entry.items ++ flow.row_flows (length whole.now) h.row h.rest) }
+    ensures flows { (h : spec.HasRow (row_view row.now) text.now) → IfOk result (λ x. flows x.0.items ≡ flows lines.entry.items ++ flow.row_flows (length whole.now) h.row h.rest) }
     ensures ends { IfOk result (λ x. EndsIn text.now x.1.now) }
 {
     if !key_fits(row) {

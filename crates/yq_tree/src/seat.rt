@@ -6,7 +6,7 @@ ghost use Rattle.yq_rows.specs.Rows.{Cut, Part, Row as RowOf};
 ghost use Rattle.yq_rows.specs.View.{rows_of, shown};
 ghost use Rattle.yq_tree.specs.EntryReading as reading;
 ghost use Rattle.yq_tree.specs.Lines.{lines_of};
-ghost use Rattle.yq_tree.specs.Nodes.{lines_in};
+ghost use Rattle.yq_lines.specs.View.{views};
 ghost use Rattle.yq_tree.specs.Reading.{cut_of};
 ghost use Rattle.yq_tree.specs.SeatReading as spec;
 ghost use Rattle.yq_tree.specs.Seats.{document_row, seat_at, seat_of};
@@ -14,9 +14,9 @@ ghost use Rattle.yq_tree.specs.Seats.{document_row, seat_at, seat_of};
 use crate::document::Documents;
 use crate::documents::{begins_document, first_is_document};
 use crate::extent::lines_before_mark;
-use crate::lined::Lined;
 use crate::path::Path;
 use yq_inline::Step;
+use yq_lines::Lined;
 use yq_rows::Rows;
 
 /// A line of a row.
@@ -91,7 +91,7 @@ fn begin_row(rows: &Rows<'_>, first: bool, i: usize) -> Option<usize>
 /// how many rows stand before it.
 fn seat_in(rows: &Rows<'_>, first: usize, lines: &Lined<'_>, steps: &[Step]) -> Option<Seat>
     ensures within { IfSome result (λ s. s.row < length rows.now.rows) }
-    ensures found { (t : List ℕ) (c : Cut) (p : Part) (more : List RowOf) → IsCut t c → rows.now ≡ shown c → lines_in lines.now ≡ lines_of p.rows → drop first (rows_of c) ≡ p.rows ++ more → option_map spec.told result ≡ option_map (spec.numbers first) (seat_of (map step_of steps.now) p.rows) }
+    ensures found { (t : List ℕ) (c : Cut) (p : Part) (more : List RowOf) → IsCut t c → rows.now ≡ shown c → views lines.now ≡ lines_of p.rows → drop first (rows_of c) ≡ p.rows ++ more → option_map spec.told result ≡ option_map (spec.numbers first) (seat_of (map step_of steps.now) p.rows) }
 {
     let line = lines.line_at(steps)?;
     find_seat(rows, first, line)
@@ -114,6 +114,11 @@ impl<'t> Documents<'t> {
         ensures { option_map spec.told result ≡ option_map (spec.numbers (document_row path.now.doc (cut_of self.now))) (seat_at path.now (cut_of self.now)) }
     {
         let first = self.first_row(path.doc)?;
-        seat_in(&self.rows, first, &self.documents[path.doc], &path.steps)
+        seat_in(
+            &self.rows,
+            first,
+            &self.documents[path.doc].lines,
+            &path.steps,
+        )
     }
 }

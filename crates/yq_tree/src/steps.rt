@@ -4,25 +4,25 @@ ghost use Rattle.yq_inline.specs.Entries.{step_of};
 ghost use Rattle.yq_scalar.specs.Paths.{To, Nth, child_at, node_at};
 ghost use Rattle.yq_scalar.specs.Tree.{children_of};
 ghost use Rattle.yq_tree.specs.Children.{rest_of};
-ghost use Rattle.yq_tree.specs.Labelled.{labelled_at, labelled_from};
-ghost use Rattle.yq_tree.specs.Nodes.{labelled_of, lines_in, node_of, under_of};
-ghost use Rattle.yq_tree.specs.Outline.{children};
+ghost use Rattle.yq_lines.specs.Labelled.{labelled_at, labelled_from};
+ghost use Rattle.yq_tree.specs.Nodes.{labelled_of, node_of};
+ghost use Rattle.yq_lines.specs.View.{views};
+ghost use Rattle.yq_lines.specs.Bodies.{under_of};
+ghost use Rattle.yq_lines.specs.Outline.{children};
 
-use crate::body::Under;
 use crate::children::Rest;
-use crate::find::{find_item, find_key};
 use crate::flow::{entry_at, item_at};
-use crate::lined::Lined;
 use crate::node::Node;
 use yq_inline::Step;
+use yq_lines::{Lined, Under, find_item, find_key};
 
 /// The entry of a key among those of lines.
 fn line_entry<'d, 't>(document: &'d Lined<'t>, under: Under, key: &str) -> Option<Node<'d, 't>>
-    ensures { option_map labelled_of result ≡ labelled_at (To key.now) (children (under_of (lines_in document.now) under)) }
+    ensures { option_map labelled_of result ≡ labelled_at (To key.now) (children (under_of (views document.now) under)) }
 {
     let at = find_key(
-        &document.lines,
-        &document.ends,
+        document.lines(),
+        document.ends(),
         under.first,
         under.floor,
         key,
@@ -32,11 +32,11 @@ fn line_entry<'d, 't>(document: &'d Lined<'t>, under: Under, key: &str) -> Optio
 
 /// The item of an index among those of lines.
 fn line_item<'d, 't>(document: &'d Lined<'t>, under: Under, index: usize) -> Option<Node<'d, 't>>
-    ensures { option_map labelled_of result ≡ labelled_at (Nth index) (children (under_of (lines_in document.now) under)) }
+    ensures { option_map labelled_of result ≡ labelled_at (Nth index) (children (under_of (views document.now) under)) }
 {
     let at = find_item(
-        &document.lines,
-        &document.ends,
+        document.lines(),
+        document.ends(),
         under.first,
         under.floor,
         index,
@@ -51,7 +51,7 @@ fn rest_entry<'d, 't>(
     rest: Rest<'d, 't>,
     key: &str,
 ) -> Option<Node<'d, 't>>
-    ensures { option_map labelled_of result ≡ labelled_at (To key.now) (rest_of (lines_in document.now) rest.entry) }
+    ensures { option_map labelled_of result ≡ labelled_at (To key.now) (rest_of (views document.now) rest.entry) }
 {
     match rest {
         Rest::Lines(under) => line_entry(document, under, key),
@@ -70,7 +70,7 @@ fn rest_item<'d, 't>(
     rest: Rest<'d, 't>,
     index: usize,
 ) -> Option<Node<'d, 't>>
-    ensures { option_map labelled_of result ≡ labelled_at (Nth index) (rest_of (lines_in document.now) rest.entry) }
+    ensures { option_map labelled_of result ≡ labelled_at (Nth index) (rest_of (views document.now) rest.entry) }
 {
     match rest {
         Rest::Lines(under) => line_item(document, under, index),

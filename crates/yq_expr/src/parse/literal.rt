@@ -4,7 +4,7 @@ ghost use Rattle.yq_expr.specs.Given.{Reads, ReadsMaybe, Shortens, IsBefore, wit
 ghost use Rattle.yq_expr.specs.Lexing.{tokens};
 ghost use Rattle.yq_expr.specs.Parse as spec;
 ghost use Rattle.yq_inline.specs.Values.{node_of, field_of};
-ghost use Rattle.yq_tree.specs.Sound as sound;
+ghost use Rattle.yq_scalar.specs.Keys.{are_distinct};
 
 use crate::error::ParseError;
 use crate::front::{after, expect, number, string};
@@ -59,7 +59,7 @@ fn keys<'v>(alloc: Global, fields: &'v Vec<(String, Value)>) -> Result<Vec<&'v s
 
 /// Whether no two fields have the same key.
 fn keys_differ(alloc: Global, fields: &Vec<(String, Value)>) -> Result<bool, AllocError>
-    ensures { IfOk result (λ b. b ≡ sound.are_distinct (map (λ e. e.0) (map field_of fields.now.items))) }
+    ensures { IfOk result (λ b. b ≡ are_distinct (map (λ e. e.0) (map field_of fields.now.items))) }
 {
     let mut keys = keys(alloc, fields)?;
     Ok(are_distinct(&mut keys))

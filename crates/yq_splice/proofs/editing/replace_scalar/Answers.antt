@@ -5,7 +5,7 @@ use Rattle.yq_scalar.specs.declared.style.Style.{Style}
 use Rattle.yq_inline.specs.Entries.{step_of}
 use Rattle.yq_inline.specs.Scalars.{style_of}
 use Rattle.yq_rows.specs.Rows.{Cut}
-use Rattle.yq_tree.specs.Nodes.{lent}
+use Rattle.yq_tree.specs.Bodies.{lent}
 use Rattle.yq_tree.specs.Reading.{cut_of}
 use Rattle.yq_tree.specs.ScalarPlaces.{place_at, replaced, spaced}
 use Rattle.yq_splice.specs.Answers.{Edits}

@@ -3,7 +3,8 @@ use Rattle.std.proofs.Math.ListN.{drop_of_length-le}
 use Rattle.std.proofs.lemmas.List.{drop-drop}
 use Rattle.yq_rows.specs.Grammar.{begins_document}
 use Rattle.yq_rows.specs.View.{bound_view}
-use Rattle.yq_tree.specs.FlowReading.{flows, parts_lines_flows}
+use Rattle.yq_tree.specs.FlowReading.{parts_lines_flows}
+use Rattle.yq_lines.specs.View.{flows}
 use Rattle.yq_tree.specs.PartReading.{lined_view, lined_views}
 use Rattle.yq_tree.proofs.PartFlowLaws.{part_flows_init, part_flows_step, part_flows_done}
 use Rattle.yq_tree.proofs.PartLineLaws.{drop_step, ends_on}

@@ -2,7 +2,7 @@ use Rattle.std.proofs.Common.{◌≡◌, drop}
 use Rattle.yq_inline.specs.Trees.{parts_tree}
 use Rattle.yq_inline.specs.View.{entries_end}
 use Rattle.yq_scalar.specs.Paths.{To}
-use Rattle.yq_tree.specs.Labelled.{labelled_at}
+use Rattle.yq_lines.specs.Labelled.{labelled_at}
 use Rattle.yq_tree.proofs.flow.entry_at.Given as goal
 
 -- what is looked for is what is looked for from here on

@@ -1,6 +1,7 @@
 use Rattle.std.proofs.Common.{arith, ap}
 use Rattle.yq_inline.specs.View.{entries_end, items_end}
-use Rattle.yq_tree.proofs.FlowKeyLaws.{entry_stands, item_stands, entry_size, item_size, parts_size}
+use Rattle.yq_tree.proofs.FlowKeyLaws.{entry_stands, item_stands}
+use Rattle.yq_lines.proofs.SizeLaws.{entry_size, item_size, parts_size}
 use Rattle.yq_tree.proofs.flow_keys.+fits.Goals as goal
 
 pub entries_fault-keys_fault-requires : goal.entries_fault-keys_fault-requires

@@ -2,7 +2,7 @@ use Rattle.std.proofs.Common.{◌≡◌, drop, ◌+◌, ◌*◌}
 use Rattle.yq_inline.specs.View.{view, items_end, entries_end}
 use Rattle.yq_tree.specs.KeyReading.{parts_fit}
 use Rattle.yq_inline.specs.Spans.{PartsHaveSpans}
-use Rattle.yq_tree.proofs.FlowKeyLaws.{node_size, parts_size}
+use Rattle.yq_lines.proofs.SizeLaws.{node_size, parts_size}
 use Rattle.yq_tree.proofs.flow_keys.+fits.Given as goal
 
 abbrev pub decreases-keys_fault : goal.decreases-keys_fault

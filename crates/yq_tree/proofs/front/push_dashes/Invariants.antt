@@ -1,8 +1,7 @@
 use Rattle.std.proofs.Common.{◌≡◌, ◌<◌, ◌+◌, ◌^◌, ◌++◌, ℕ, None, length, replicate}
 use Rattle.std.specs.Str.{IsUtf8}
-use Rattle.yq_tree.specs.FlowReading.{flows}
 use Rattle.yq_tree.specs.RowReading.{dashes_at}
-use Rattle.yq_tree.specs.View.{views}
+use Rattle.yq_lines.specs.View.{views, flows}
 use Rattle.yq_tree.proofs.front.push_dashes.Given as goal
 
 abbrev pub decreases-each : goal.decreases-each

@@ -1,5 +1,5 @@
 use Rattle.std.proofs.Common.{◌+◌, ◌-◌, drop, arith, ap, ◌∙◌}
-use Rattle.yq_rows.specs.Comments.{head_comment}
+use Rattle.yq_lines.specs.Comments.{head_comment}
 use Rattle.yq_rows.specs.View.{bound_view, view as row_view}
 use Rattle.yq_tree.proofs.LinedLaws.{has_rows, lead_some, lead_none}
 use Rattle.yq_tree.proofs.PartLineLaws.{drop_step, row_within}

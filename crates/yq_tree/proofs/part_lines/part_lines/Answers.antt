@@ -1,7 +1,6 @@
 use Rattle.std.proofs.Common.{◌+◌, ◌-◌, [], drop, length, rules, arith, refl, ap}
 use Rattle.yq_rows.specs.View.{view as row_view}
-use Rattle.yq_tree.specs.FlowReading.{flows}
-use Rattle.yq_tree.specs.View.{views}
+use Rattle.yq_lines.specs.View.{views, flows}
 use Rattle.yq_tree.proofs.PartFlowLaws.{flows_init, flows_step, flows_done}
 use Rattle.yq_tree.proofs.PartLineLaws.{drop_step, row_within, left_row, left_step, goes_init, goes_fail, goes_done, ends_on}
 use Rattle.yq_tree.proofs.part_lines.part_lines.Goals as goal

@@ -1,8 +1,7 @@
 use Rattle.std.proofs.Common.{◌≤◌, ◌-◌, drop, length}
 use Rattle.std.specs.Str.{IsUtf8}
-use Rattle.yq_tree.specs.FlowReading.{flows}
 use Rattle.yq_tree.specs.KeyReading.{EndsIn}
-use Rattle.yq_tree.specs.View.{views}
+use Rattle.yq_lines.specs.View.{views, flows}
 use Rattle.yq_tree.proofs.PartFlowLaws.{GoesFlows}
 use Rattle.yq_tree.proofs.PartLineLaws.{Goes}
 use Rattle.yq_tree.proofs.part_lines.part_lines.Given as goal

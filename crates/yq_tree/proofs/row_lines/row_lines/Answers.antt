@@ -1,10 +1,9 @@
 use Rattle.std.proofs.Common.{◌≡◌, Some, [], ◌∷◌, ◌++◌, length, refl, arith, sym, ap, ◌∙◌, subst}
 use Rattle.std.proofs.lemmas.List.{map-append}
 use Rattle.yq_rows.specs.View.{view as row_view}
-use Rattle.yq_tree.specs.FlowReading.{flows}
 use Rattle.yq_tree.specs.KeyReading.{EndsIn}
 use Rattle.yq_tree.specs.RowReading.{begun, dashes_at}
-use Rattle.yq_tree.specs.View.{view, views}
+use Rattle.yq_lines.specs.View.{view, views, flows}
 use Rattle.yq_tree.proofs.HeadLaws.{ends_within}
 use Rattle.yq_tree.proofs.RowLineLaws.{quoted_key, pieces_text, column_within, key_stops, line_fails, made, head_ends, rest_ends}
 use Rattle.yq_tree.proofs.RowFlowLaws.{row_flows_are}

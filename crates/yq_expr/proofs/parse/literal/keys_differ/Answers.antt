@@ -1,6 +1,6 @@
 use Rattle.std.proofs.Common.{◌∙◌, ap, map, List, ℕ}
 use Rattle.std.specs.Borrow.{Bor}
-use Rattle.yq_tree.specs.Sound.{are_distinct}
+use Rattle.yq_scalar.specs.Keys.{are_distinct}
 use Rattle.yq_expr.proofs.Keys.{tested, keys_of_fields}
 use Rattle.yq_expr.proofs.parse.literal.keys_differ.Goals as goal
 

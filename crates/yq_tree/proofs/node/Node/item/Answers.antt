@@ -1,8 +1,8 @@
 use Rattle.std.proofs.Common.{ap, ◌∙◌}
 use Rattle.yq_scalar.specs.Paths.{Nth}
-use Rattle.yq_tree.specs.Labelled.{labelled_at}
+use Rattle.yq_lines.specs.Labelled.{labelled_at}
 use Rattle.yq_tree.specs.Nodes.{node_of}
-use Rattle.yq_tree.proofs.LabelledLaws.{child_node}
+use Rattle.yq_tree.proofs.WalkLaws.{child_node}
 use Rattle.yq_tree.proofs.node.Node.item.Goals as goal
 
 pub returns-clause-node : goal.returns-clause-node

@@ -1,9 +1,9 @@
 use Rattle.std.proofs.Common.{◌+◌, ◌∙◌, Some, option_and_then, drop, map, sym, ap, arith}
 use Rattle.std.proofs.lemmas.List.{drop_all}
 use Rattle.yq_inline.specs.Entries.{step_of}
-use Rattle.yq_tree.specs.Labelled.{labelled_from}
+use Rattle.yq_lines.specs.Labelled.{labelled_from}
 use Rattle.yq_tree.specs.Nodes.{labelled_of}
-use Rattle.yq_tree.proofs.LabelledLaws.{path_next, path_node}
+use Rattle.yq_tree.proofs.WalkLaws.{path_next, path_node}
 use Rattle.yq_tree.proofs.node.Node.walk.Goals as goal
 
 pub returns-in_err-node-clause-labelled : goal.returns-in_err-node-clause-labelled

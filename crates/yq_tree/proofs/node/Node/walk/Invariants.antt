@@ -1,6 +1,6 @@
 use Rattle.std.proofs.Common.{◌≡◌, drop, map}
 use Rattle.yq_inline.specs.Entries.{step_of}
-use Rattle.yq_tree.specs.Labelled.{labelled_from}
+use Rattle.yq_lines.specs.Labelled.{labelled_from}
 use Rattle.yq_tree.specs.Nodes.{labelled_of}
 use Rattle.yq_tree.proofs.node.Node.walk.Given as goal
 

@@ -1,0 +1,56 @@
+-- Aliases and the anchors before them.
+use Rattle.std.proofs.Common.{◌≡◌, ℕ, ◌+◌, ◌<◌, List, ◌∷◌, length, drop, get_or, Option, Some, is_some, Bool, true, false, ◌||◌, ◌&&◌, cond, refl, sym, ap, ◌∙◌, bytes_eq}
+use Rattle.std.proofs.lemmas.Bool.{false≢true}
+use Rattle.std.proofs.lemmas.List.{drop_more}
+use Rattle.std.proofs.lemmas.Map.Text.{btree_map_updates_str}
+use Rattle.std.proofs.lemmas.Slice.Eq.{bytes_eq-Decides}
+use Rattle.std.specs.BTreeMap as tree
+use Rattle.std.specs.BTreeMap.{BTreeMap}
+use Rattle.std.specs.Cmp.Lexicographic.{slice_cmp}
+use Rattle.std.specs.List.{list_any}
+use Rattle.std.specs.Ordering.{nat_cmp}
+use denote.Bor.{Bor}
+use Rattle.yq_lines.specs.Anchors.{Name, Anchors, Refers}
+use Rattle.yq_lines.specs.Names.{name_view, all_named}
+use Rattle.yq_lines.specs.LinesReading.{are_bound}
+use Rattle.yq_lines.specs.declared.names.Named.{Named}
+
+-- a name is among the keys
+abbrev pub has : {X : Type 0} → BTreeMap (Bor (List ℕ)) X → List ℕ → Bool
+has m q = is_some (tree.get_by (λ k. slice_cmp nat_cmp q k.now) m)
+
+-- the names that are left are asked of where those are known that are keys
+pub record Known {X : Type 0} (m : BTreeMap (Bor (List ℕ)) X) (names : List Name) (all : Bool) : Type 0 where
+  pub known : List (List ℕ)
+  pub same : (q : List ℕ) → has m q ≡ list_any (bytes_eq q) known
+  pub so_far : all ≡ are_bound known names
+
+equal_back : (a b : List ℕ) → bytes_eq a b ≡ bytes_eq b a
+equal_back a b = go (bytes_eq a b) (bytes_eq b a) refl refl
+  where
+    go : (x y : Bool) → bytes_eq a b ≡ x → bytes_eq b a ≡ y → x ≡ y
+    go true true e f = refl
+    go true false e f = sym ((bytes_eq-Decides b a).1 (sym ((bytes_eq-Decides a b).0 e))) ∙ f
+    go false true e f = absurd (false≢true (sym e ∙ (bytes_eq-Decides a b).1 (sym ((bytes_eq-Decides b a).0 f))))
+    go false false e f = refl
+
+some_or : {X : Type 0} (b : Bool) (v : X) (o : Option X) → is_some (cond b (Some v) o) ≡ (b || is_some o)
+some_or true v o = refl
+some_or false v o = refl
+
+-- an anchor is known from there on
+pub anchor_known : {X : Type 0} (m n : BTreeMap (Bor (List ℕ)) X) (a : List ℕ) (v : X) (names : List Name) (all : Bool) →
+    tree.UpdatesBy (λ x y. slice_cmp nat_cmp x.now y.now) (λ k. slice_cmp nat_cmp a k.now) m n (Some v) → Known m (Anchors a ∷ names) all → Known n names all
+anchor_known m n a v names all h k = record {
+  known = a ∷ k.known;
+  same = λ q. ap is_some (btree_map_updates_str a m n (Some v) h q) ∙ (some_or (bytes_eq a q) v _ ∙ (λ i. equal_back a q i || k.same q i));
+  so_far = k.so_far;
+}
+
+-- an alias of a known anchor
+pub alias_known : {X : Type 0} (m : BTreeMap (Bor (List ℕ)) X) (a : List ℕ) (names : List Name) (all : Bool) → true ≡ has m a → Known m (Refers a ∷ names) all → Known m names all
+alias_known m a names all h k = record { known = k.known; same = k.same; so_far = k.so_far ∙ ap (λ b. b && are_bound k.known names) (sym (k.same a) ∙ sym h) }
+
+-- the name at a place, before those behind it
+pub named_at : (ns : List Named) (i : ℕ) (d : Named) (n : Name) → i < length ns → name_view (get_or ns i d).name ≡ n → all_named (drop i ns) ≡ n ∷ all_named (drop (i + 1) ns)
+named_at ns i d n within is = ap all_named (drop_more ns i d within) ∙ ap (λ x. x ∷ all_named (drop (i + 1) ns)) is

@@ -1,0 +1,48 @@
+-- The items or entries of nodes.
+use Rattle.std.proofs.Common.{◌≡◌, ℕ, List, Option, Some, None, option_map, true, not, length, refl, sym, ap, ◌∙◌, arith}
+use Rattle.std.specs.List.{slice_get}
+use Rattle.yq_scalar.specs.Tree.{Label, Node, alias, scalar, list, map, none, child, children_of}
+use Rattle.yq_inline.specs.Trees.{named}
+use Rattle.yq_lines.specs.Ends.{part, is_end, IsEndOf}
+use Rattle.yq_scalar.specs.Paths.{Step}
+use Rattle.yq_lines.specs.Labelled.{labelled_at}
+use Rattle.yq_lines.specs.Bodies.{lines_under}
+use Rattle.yq_lines.specs.Outline.{Line, Outline, anchored, label, children}
+use Rattle.yq_lines.specs.Places.{Found, find_row, content}
+use Rattle.yq_lines.specs.Spots.{spot, seen}
+use Rattle.yq_lines.proofs.EndsLaws.{deeper_line, not_end}
+use Rattle.yq_lines.proofs.Finding.{entry_of, row_labelled}
+use Rattle.yq_lines.proofs.Parts.{part_past, row_parts}
+
+pub anchored_children : (a : Option (List ℕ)) (n : Node) → children_of (anchored a n) ≡ children_of n
+anchored_children a (alias n) = refl
+anchored_children a (scalar b k t) = refl
+anchored_children a (list b cs) = refl
+anchored_children a (map b cs) = refl
+
+pub inline_children : (a : Option (List ℕ)) (n : Node) → children_of (named a n) ≡ children_of n
+inline_children None n = refl
+inline_children (Some a) (alias n) = refl
+inline_children (Some a) (scalar b k t) = refl
+inline_children (Some a) (list b cs) = refl
+inline_children (Some a) (map b cs) = refl
+
+pub past_children : (ls : List Line) (floor : ℕ) → children (part ls (length ls) floor) ≡ none
+past_children ls floor = ap children (part_past ls (length ls) floor (omega arith))
+
+pub first_child : (ls : List Line) (at floor next : ℕ) (l : Line) → slice_get ls at ≡ Some l → true ≡ not (is_end (part ls at floor)) → IsEndOf ls at next →
+    children (part ls at floor) ≡ child (label l) (content l (lines_under ls at l)) (children (part ls next floor))
+first_child ls at floor next l is deep ends = ap children (row_parts ls at floor next l is (deeper_line ls at floor l is (not_end _ deep)) (ends.2 l is))
+
+-- where a step leads among lines, by the line that was found
+pub child_spot : (s : Step) (u : Outline) (start : ℕ) (x : Option (ℕ × Line × Outline)) → spot start (find_row s u) ≡ x → labelled_at s (children u) ≡ option_map (λ y. entry_of y.1 y.2) x
+child_spot s u start x e = row_labelled s u ∙ (same (find_row s u) ∙ ap (option_map (λ y. entry_of y.1 y.2)) e)
+  where
+    same : (r : Option Found) → option_map (λ f. entry_of f.line f.under) r ≡ option_map (λ y. entry_of y.1 y.2) (spot start r)
+    same None = refl
+    same (Some f) = refl
+
+pub child_found : (s : Step) (ls : List Line) (first floor at : ℕ) (l : Line) (x : Label) (n : Node) → slice_get ls at ≡ Some l → spot first (find_row s (part ls first floor)) ≡ seen ls (Some at) →
+    x ≡ label l → n ≡ content l (lines_under ls at l) → Some (x, n) ≡ labelled_at s (children (part ls first floor))
+child_found s ls first floor at l x n is e told same =
+    rw (told, same) (sym (child_spot s (part ls first floor) first (Some (at, l, lines_under ls at l)) (e ∙ ap (option_map (λ m. (at, m, lines_under ls at m))) is)))

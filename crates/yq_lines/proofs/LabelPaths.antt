@@ -1,0 +1,130 @@
+-- Where steps lead in what lines stand for, with the label there.
+use Rattle.std.proofs.Common.{◌≡◌, ℕ, List, [], ◌∷◌, Option, Some, None, option_map, option_and_then, refl, sym, ap, ◌∙◌, subst}
+use Rattle.yq_scalar.specs.Tree.{Node, alias, scalar, list, map, Children, children_of}
+use Rattle.yq_scalar.specs.Paths.{Step}
+use Rattle.yq_lines.specs.Labelled.{Labelled, labelled_at, labelled_from}
+use Rattle.yq_lines.specs.Outline.{Mark, Bare, Key, Dash, Outline, end, row, anchored, head_or, collection, children, value}
+use Rattle.yq_lines.specs.Places.{here, Found, find_row, inside, bare_or, in_head, find}
+use Rattle.yq_lines.proofs.Allowing.{IsEntry}
+use Rattle.yq_lines.proofs.Finding.{entry_of, row_labelled}
+use Rattle.yq_lines.proofs.Values.{If}
+
+-- where steps lead from a node
+abbrev pub reach : Step → List Step → Node → Option Labelled
+reach s ss n = option_and_then (labelled_from ss) (labelled_at s (children_of n))
+
+reach-anchored : (a : Option (List ℕ)) (s : Step) (ss : List Step) (n : Node) → reach s ss (anchored a n) ≡ reach s ss n
+reach-anchored a s ss (alias n) = refl
+reach-anchored a s ss (scalar b k t) = refl
+reach-anchored a s ss (list b cs) = refl
+reach-anchored a s ss (map b cs) = refl
+
+children-collection : (m : Mark) (cs : Children) → IsEntry m → children_of (collection m cs) ≡ cs
+children-collection Bare cs e = absurd e
+children-collection (Key k) cs e = refl
+children-collection Dash cs e = refl
+
+abbrev pub FoundEntry : Option (Found × List Step) → Option Labelled
+FoundEntry r = option_and_then (λ x. labelled_from x.1 (entry_of x.0.line x.0.under)) r
+
+-- the entry or item at a path is that of its line
+pub path_entry : (s : Step) (ss : List Step) (o : Outline) → reach s ss (value o) ≡ FoundEntry (find s ss o)
+path_entry s ss end = refl
+path_entry s [] (row k v a) = go k.mark
+  where
+    found : (r : Option Found) → option_and_then (labelled_from []) (option_map (λ f. entry_of f.line f.under) r) ≡ FoundEntry (option_map (λ f. (f, [])) r)
+    found None = refl
+    found (Some f) = refl
+
+    entry : (m : Mark) → IsEntry m → reach s [] (collection m (children (row k v a))) ≡ FoundEntry (option_map (λ f. (f, [])) (find_row s (row k v a)))
+    entry m c =
+        ap (λ cs. option_and_then (labelled_from []) (labelled_at s cs)) (children-collection m (children (row k v a)) c)
+        ∙ (ap (option_and_then (labelled_from [])) (row_labelled s (row k v a)) ∙ found (find_row s (row k v a)))
+
+    go : (m : Mark) → reach s [] (collection m (children (row k v a))) ≡ FoundEntry (bare_or m (Some (record { place = here; line = k; under = v; after = a }, s ∷ [])) (option_map (λ f. (f, [])) (find_row s (row k v a))))
+    go Bare = refl
+    go (Key j) = entry (Key j) tt
+    go Dash = entry Dash tt
+path_entry s (t ∷ ts) (row k v a) = go (λ u. path_entry t ts u) k.mark
+  where
+    deep : (f : Found) (q : Option (Found × List Step)) → FoundEntry (option_map (λ x. (inside f x.0, x.1)) q) ≡ FoundEntry q
+    deep f None = refl
+    deep f (Some x) = refl
+
+    head : ((u : Outline) → reach t ts (value u) ≡ FoundEntry (find t ts u)) → (f : Found) (h : Option Node) →
+        reach t ts (anchored f.line.anchor (head_or h (value f.under))) ≡ FoundEntry (in_head h (Some (record { place = f.place; line = record f.line { head = h }; under = f.under; after = f.after }, t ∷ ts)) (option_map (λ x. (inside f x.0, x.1)) (find t ts f.under)))
+    head ih f None = reach-anchored f.line.anchor t ts (value f.under) ∙ (ih f.under ∙ sym (deep f (find t ts f.under)))
+    head ih f (Some n) = refl
+
+    found : ((u : Outline) → reach t ts (value u) ≡ FoundEntry (find t ts u)) → (r : Option Found) →
+        option_and_then (labelled_from (t ∷ ts)) (option_map (λ f. entry_of f.line f.under) r) ≡
+        FoundEntry (option_and_then (λ f. in_head f.line.head (Some (f, t ∷ ts)) (option_map (λ x. (inside f x.0, x.1)) (find t ts f.under))) r)
+    found ih None = refl
+    found ih (Some f) = head ih f f.line.head
+
+    entry : ((u : Outline) → reach t ts (value u) ≡ FoundEntry (find t ts u)) → (m : Mark) → IsEntry m →
+        reach s (t ∷ ts) (collection m (children (row k v a))) ≡ FoundEntry (option_and_then (λ f. in_head f.line.head (Some (f, t ∷ ts)) (option_map (λ x. (inside f x.0, x.1)) (find t ts f.under))) (find_row s (row k v a)))
+    entry ih m c =
+        ap (λ cs. option_and_then (labelled_from (t ∷ ts)) (labelled_at s cs)) (children-collection m (children (row k v a)) c)
+        ∙ (ap (option_and_then (labelled_from (t ∷ ts))) (row_labelled s (row k v a)) ∙ found ih (find_row s (row k v a)))
+
+    go : ((u : Outline) → reach t ts (value u) ≡ FoundEntry (find t ts u)) → (m : Mark) →
+        reach s (t ∷ ts) (collection m (children (row k v a))) ≡ FoundEntry (bare_or m (Some (record { place = here; line = k; under = v; after = a }, s ∷ (t ∷ ts)))
+        (option_and_then (λ f. in_head f.line.head (Some (f, t ∷ ts)) (option_map (λ x. (inside f x.0, x.1)) (find t ts f.under))) (find_row s (row k v a))))
+    go ih Bare = refl
+    go ih (Key j) = entry ih (Key j) tt
+    go ih Dash = entry ih Dash tt
+
+-- where steps are left, the line is a node itself, or has a head
+abbrev pub HasHead : List Step → Mark → Option Node → Type 0
+HasHead [] m h = Unit {0}
+HasHead (t ∷ ts) Bare h = Unit {0}
+HasHead (t ∷ ts) (Key k) None = ⊥
+HasHead (t ∷ ts) (Key k) (Some n) = Unit {0}
+HasHead (t ∷ ts) Dash None = ⊥
+HasHead (t ∷ ts) Dash (Some n) = Unit {0}
+
+with_head : (t : Step) (ts : List Step) (m : Mark) (n : Node) → HasHead (t ∷ ts) m (Some n)
+with_head t ts Bare n = tt
+with_head t ts (Key k) n = tt
+with_head t ts Dash n = tt
+
+pub rest_head : (s : Step) (ss : List Step) (o : Outline) → If (find s ss o) (λ x. HasHead x.1 x.0.line.mark x.0.line.head)
+rest_head s ss end = tt
+rest_head s [] (row k v a) = go k.mark refl (find_row s (row k v a))
+  where
+    bare : (m : Mark) → m ≡ Bare → HasHead (s ∷ []) m k.head
+    bare Bare e = tt
+    bare (Key j) e = absurd (cc)
+    bare Dash e = absurd (cc)
+
+    go : (m : Mark) → k.mark ≡ m → (r : Option Found) → If (bare_or m (Some (record { place = here; line = k; under = v; after = a }, s ∷ [])) (option_map (λ f. (f, [])) r)) (λ x. HasHead x.1 x.0.line.mark x.0.line.head)
+    go Bare e r = bare k.mark e
+    go (Key j) e None = tt
+    go (Key j) e (Some f) = tt
+    go Dash e None = tt
+    go Dash e (Some f) = tt
+rest_head s (t ∷ ts) (row k v a) = go (λ u. rest_head t ts u) k.mark refl (find_row s (row k v a))
+  where
+    bare : (m : Mark) → m ≡ Bare → HasHead (s ∷ (t ∷ ts)) m k.head
+    bare Bare e = tt
+    bare (Key j) e = absurd (cc)
+    bare Dash e = absurd (cc)
+
+    deep : (f : Found) (h : Option Node) → f.line.head ≡ h → (q : Option (Found × List Step)) → If q (λ x. HasHead x.1 x.0.line.mark x.0.line.head) →
+        If (in_head h (Some (f, t ∷ ts)) (option_map (λ x. (inside f x.0, x.1)) q)) (λ x. HasHead x.1 x.0.line.mark x.0.line.head)
+    deep f (Some n) e q h = subst (HasHead (t ∷ ts) f.line.mark) (sym e) (with_head t ts f.line.mark n)
+    deep f None e None h = tt
+    deep f None e (Some x) h = h
+
+    found : ((u : Outline) → If (find t ts u) (λ x. HasHead x.1 x.0.line.mark x.0.line.head)) → (r : Option Found) →
+        If (option_and_then (λ f. in_head f.line.head (Some (f, t ∷ ts)) (option_map (λ x. (inside f x.0, x.1)) (find t ts f.under))) r) (λ x. HasHead x.1 x.0.line.mark x.0.line.head)
+    found ih None = tt
+    found ih (Some f) = deep f f.line.head refl (find t ts f.under) (ih f.under)
+
+    go : ((u : Outline) → If (find t ts u) (λ x. HasHead x.1 x.0.line.mark x.0.line.head)) → (m : Mark) → k.mark ≡ m → (r : Option Found) →
+        If (bare_or m (Some (record { place = here; line = k; under = v; after = a }, s ∷ (t ∷ ts)))
+        (option_and_then (λ f. in_head f.line.head (Some (f, t ∷ ts)) (option_map (λ x. (inside f x.0, x.1)) (find t ts f.under))) r)) (λ x. HasHead x.1 x.0.line.mark x.0.line.head)
+    go ih Bare e r = bare k.mark e
+    go ih (Key j) e r = found ih r
+    go ih Dash e r = found ih r

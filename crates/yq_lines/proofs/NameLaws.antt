@@ -1,0 +1,138 @@
+-- The anchors and aliases of a node, as those of its lines.
+use Rattle.std.proofs.Common.{◌≡◌, ℕ, ◌+◌, List, [], ◌∷◌, ◌++◌, drop, Option, Some, None, true, refl, sym, ap, ◌∙◌, subst, append_assoc, append-nil}
+use Rattle.std.specs.List.{slice_get}
+use Rattle.yq_scalar.specs.Tree.{Label, Node, alias, scalar, list, map, Children, child}
+use Rattle.yq_lines.specs.Anchors.{Name, with_anchor, names_of, names_in, IsNoAlias, MayTake, IsFree, HaveOneAnchorEach}
+use Rattle.yq_lines.specs.Group.{group, level_or, is_fine}
+use Rattle.yq_lines.specs.Names.{head_names, line_names, IsUnnamed, MayBeNamed, HaveHeadsApart}
+use Rattle.yq_lines.specs.Outline.{Mark, Bare, Key, Dash, Line, Outline, end, row, flatten, IsOpen, IsWhole, IsEven, anchored, head_or, label, collection, children, value}
+use Rattle.yq_lines.proofs.Decides.{flatten-group, even_from}
+use Rattle.yq_lines.proofs.Parts.{drop_at}
+
+with-append : (a : Option (List ℕ)) (xs ys : List Name) → with_anchor a (xs ++ ys) ≡ with_anchor a xs ++ ys
+with-append None xs ys = refl
+with-append (Some a) xs ys = refl
+
+line_names-append : (xs ys : List Line) → line_names (xs ++ ys) ≡ line_names xs ++ line_names ys
+line_names-append [] ys = refl
+line_names-append (l ∷ xs) ys =
+    ap (with_anchor l.anchor) (ap (λ t. head_names l.head ++ t) (line_names-append xs ys) ∙ sym (append_assoc (head_names l.head) (line_names xs) (line_names ys)))
+    ∙ with-append l.anchor (head_names l.head ++ line_names xs) (line_names ys)
+
+-- a node that may take an anchor
+abbrev NodeTakes : Option (List ℕ) → Node → Type 0
+NodeTakes None n = Unit {0}
+NodeTakes (Some a) n = IsNoAlias (Some n) × IsUnnamed (Some n)
+
+named_node : (a : Option (List ℕ)) (n : Node) → NodeTakes a n → names_of (anchored a n) ≡ with_anchor a (names_of n)
+named_node None (alias n) h = refl
+named_node None (scalar b k t) h = refl
+named_node None (list b cs) h = refl
+named_node None (map b cs) h = refl
+named_node (Some a) (alias n) h = absurd h.0
+named_node (Some a) (scalar None k t) h = refl
+named_node (Some a) (scalar (Some b) k t) h = absurd h.1
+named_node (Some a) (list None cs) h = refl
+named_node (Some a) (list (Some b) cs) h = absurd h.1
+named_node (Some a) (map None cs) h = refl
+named_node (Some a) (map (Some b) cs) h = absurd h.1
+
+head_takes : (a : Option (List ℕ)) (h : Node) → IsUnnamed (Some h) → MayBeNamed a (Some h) → NodeTakes a h
+head_takes None h u m = tt
+head_takes (Some a) h u m = (m, u)
+
+unanchored : (n : Node) → anchored None n ≡ n
+unanchored (alias n) = refl
+unanchored (scalar b k t) = refl
+unanchored (list b cs) = refl
+unanchored (map b cs) = refl
+
+bare_takes : (x : List ℕ) (k : Option (List ℕ)) (h : Option Node) (v w : Outline) → MayTake Bare k h → IsUnnamed h → IsWhole Bare h w → NodeTakes (Some x) (anchored k (head_or h (value v)))
+bare_takes x None None v w take unnamed whole = absurd whole
+bare_takes x None (Some h) v w take unnamed whole = subst (NodeTakes (Some x)) (sym (unanchored h)) (take, unnamed)
+bare_takes x (Some a) h v w take unnamed whole = absurd take
+
+collection_takes : (x : List ℕ) (m : Mark) (k : Option (List ℕ)) (h : Option Node) (v w : Outline) (lbl : Label) (cs : Children) → MayTake m k h → IsUnnamed h → IsWhole m h w →
+    NodeTakes (Some x) (collection m (child lbl (anchored k (head_or h (value v))) cs))
+collection_takes x Bare k h v w lbl cs take unnamed whole = bare_takes x k h v w take unnamed whole
+collection_takes x (Key i) k h v w lbl cs take unnamed whole = (tt, tt)
+collection_takes x Dash k h v w lbl cs take unnamed whole = (tt, tt)
+
+-- an anchor before lines can be that of their node
+value_takes : (a : Option (List ℕ)) (n : ℕ) (o : Outline) → IsEven n o → IsFree a (flatten o) → HaveHeadsApart (flatten o) → NodeTakes a (value o)
+value_takes None n o even free apart = tt
+value_takes (Some x) n end even free apart = (tt, tt)
+value_takes (Some x) n (row m v w) even free apart = collection_takes x m.mark m.anchor m.head v w (label m) (children w) free apart.0.0 even.2
+
+collection_names : (m : Mark) (h : Option Node) (w : Outline) (lbl : Label) (n : Node) → IsWhole m h w → names_of (collection m (child lbl n (children w))) ≡ names_of n ++ names_in (children w)
+collection_names Bare None w lbl n whole = absurd whole
+collection_names Bare (Some h) end lbl n whole = sym (append-nil (names_of n))
+collection_names Bare (Some h) (row l u a) lbl n whole = absurd whole
+collection_names (Key k) h w lbl n whole = refl
+collection_names Dash h w lbl n whole = refl
+
+names_value : (n : ℕ) (o : Outline) → IsEven n o → names_of (value o) ≡ names_in (children o)
+names_value n end even = refl
+names_value n (row m v w) even = collection_names m.mark m.head w (label m) _ even.2
+
+free_front : (a : Option (List ℕ)) (xs ys : List Line) → IsFree a (xs ++ ys) → IsFree a xs
+free_front None xs ys h = tt
+free_front (Some a) [] ys h = tt
+free_front (Some a) (l ∷ xs) ys h = h
+
+each_front : (xs ys : List Line) → HaveOneAnchorEach (xs ++ ys) → HaveOneAnchorEach xs
+each_front [] ys h = tt
+each_front (l ∷ xs) ys h = (free_front l.anchor xs ys h.0, each_front xs ys h.1)
+
+each_back : (xs ys : List Line) → HaveOneAnchorEach (xs ++ ys) → HaveOneAnchorEach ys
+each_back [] ys h = h
+each_back (l ∷ xs) ys h = each_back xs ys h.1
+
+apart_front : (xs ys : List Line) → HaveHeadsApart (xs ++ ys) → HaveHeadsApart xs
+apart_front [] ys h = tt
+apart_front (l ∷ xs) ys h = (h.0, apart_front xs ys h.1)
+
+apart_back : (xs ys : List Line) → HaveHeadsApart (xs ++ ys) → HaveHeadsApart ys
+apart_back [] ys h = h
+apart_back (l ∷ xs) ys h = apart_back xs ys h.1
+
+-- the names of one item or entry
+entry_names : (a : Option (List ℕ)) (h : Option Node) (n : ℕ) (u : Outline) → IsOpen h u → IsUnnamed h → MayBeNamed a h → IsEven n u → IsFree a (flatten u) → HaveHeadsApart (flatten u) →
+    names_in (children u) ≡ line_names (flatten u) → names_of (anchored a (head_or h (value u))) ≡ with_anchor a (head_names h ++ line_names (flatten u))
+entry_names a None n u open' unnamed may even free apart under = named_node a (value u) (value_takes a n u even free apart) ∙ ap (with_anchor a) (names_value n u even ∙ under)
+entry_names a (Some h) n end open' unnamed may even free apart under = named_node a h (head_takes a h unnamed may) ∙ ap (with_anchor a) (sym (append-nil (names_of h)))
+entry_names a (Some h) n (row l v w) open' unnamed may even free apart under = absurd open'
+
+names_children : (n : ℕ) (o : Outline) → IsEven n o → HaveOneAnchorEach (flatten o) → HaveHeadsApart (flatten o) → names_in (children o) ≡ line_names (flatten o)
+names_children n end even each apart = refl
+names_children n (row l u a) even each apart =
+    let fu = flatten u in
+    let fa = flatten a in
+    let hn = head_names l.head in
+    let below = names_children even.3.0 u even.3.2 (each_front fu fa each.1) (apart_front fu fa apart.1) in
+    let here = entry_names l.anchor l.head even.3.0 u even.1 apart.0.0 apart.0.1 even.3.2 (free_front l.anchor fu fa each.0) (apart_front fu fa apart.1) below in
+    let behind = names_children n a even.4 (each_back fu fa each.1) (apart_back fu fa apart.1) in
+    (λ i. here i ++ behind i)
+    ∙ (sym (with-append l.anchor (hn ++ line_names fu) (line_names fa))
+    ∙ ap (with_anchor l.anchor) (append_assoc hn (line_names fu) (line_names fa) ∙ ap (λ t. hn ++ t) (sym (line_names-append fu fa))))
+
+-- The names of the node that lines stand for are those of the lines, in order.
+pub names_lines : (ls : List Line) → is_fine (group ls) ≡ true → HaveOneAnchorEach ls → HaveHeadsApart ls → names_of (value (group ls)) ≡ line_names ls
+names_lines ls fine each apart =
+    let o = group ls in
+    let n = level_or 0 o in
+    let even = even_from n o fine in
+    let same = flatten-group ls in
+    names_value n o even ∙ (names_children n o even (subst HaveOneAnchorEach (sym same) each) (subst HaveHeadsApart (sym same) apart) ∙ ap line_names same)
+
+-- the names of one more line
+pub names_more : (all before middle after : List Name) (ls : List Line) (i : ℕ) (l : Line) → slice_get ls i ≡ Some l → before ++ line_names (drop i ls) ≡ all →
+    middle ≡ before ++ with_anchor l.anchor [] → after ≡ middle ++ head_names l.head → after ++ line_names (drop (i + 1) ls) ≡ all
+names_more all before middle after ls i l is so_far anchor head =
+    let behind = line_names (drop (i + 1) ls) in
+    let hn = head_names l.head in
+    ap (λ x. x ++ behind) (head ∙ ap (λ x. x ++ hn) anchor)
+    ∙ (append_assoc (before ++ with_anchor l.anchor []) hn behind
+    ∙ (append_assoc before (with_anchor l.anchor []) (hn ++ behind)
+    ∙ (ap (λ x. before ++ x) (sym (with-append l.anchor [] (hn ++ behind)))
+    ∙ (ap (λ x. before ++ line_names x) (sym (drop_at ls i l is)) ∙ so_far))))

@@ -1,0 +1,57 @@
+-- The nodes that lines stand for.
+use Rattle.std.proofs.Common.{◌≡◌, ℕ, ◌+◌, ◌<◌, List, Option, Some, None, refl, sym, ap, ◌∙◌}
+use Rattle.std.specs.List.{slice_get}
+use Rattle.yq_scalar.specs.Tree.{Node, alias, scalar, list, map}
+use Rattle.yq_lines.specs.Ends.{part, rest}
+use Rattle.yq_lines.specs.Group.{deeper, group}
+use Rattle.yq_lines.specs.Outline.{Bare, Key, Dash, Line, level, Outline, row, first_anchor, anchored, head_or, collection, children, value}
+use Rattle.yq_lines.proofs.LinesLaws.{part-all}
+use Rattle.yq_lines.proofs.Parts.{part_row}
+
+pub anchored_twice : (a b : Option (List ℕ)) (n : Node) → anchored a (anchored b n) ≡ anchored (first_anchor a b) n
+anchored_twice None b (alias n) = refl
+anchored_twice (Some a) b (alias n) = refl
+anchored_twice None b (scalar c k t) = ap (λ x. scalar x k t) refl
+anchored_twice (Some a) b (scalar c k t) = refl
+anchored_twice None b (list c cs) = refl
+anchored_twice (Some a) b (list c cs) = refl
+anchored_twice None b (map c cs) = refl
+anchored_twice (Some a) b (map c cs) = refl
+
+pub one_line : (ls : List Line) (at : ℕ) (l m : Line) → slice_get ls at ≡ Some l → slice_get ls at ≡ Some m → l ≡ m
+one_line ls at l m a b = same (sym a ∙ b)
+  where
+    same : {x y : Line} → Some x ≡ Some y → x ≡ y
+    same e = cc
+
+module _ (ls : List Line) (at floor : ℕ) (l : Line) (is : slice_get ls at ≡ Some l) (deep : floor < level l) where
+  value_row : value (part ls at floor) ≡ collection l.mark (children (part ls at floor))
+  value_row =
+      let o : Outline = row l (part ls (at + 1) (level l)) (deeper floor (rest ls (at + 1) (level l))) in
+      ap value (part_row ls at floor l is deep) ∙ ap (λ x. collection l.mark (children x)) (sym (part_row ls at floor l is deep))
+
+  pub map_value : (k : List ℕ) → l.mark ≡ Key k → value (part ls at floor) ≡ map None (children (part ls at floor))
+  map_value k e = value_row ∙ ap (λ m. collection m (children (part ls at floor))) e
+
+  pub list_value : l.mark ≡ Dash → value (part ls at floor) ≡ list None (children (part ls at floor))
+  list_value e = value_row ∙ ap (λ m. collection m (children (part ls at floor))) e
+
+  pub bare_value : (a : Option (List ℕ)) → l.mark ≡ Bare → anchored a (value (part ls at floor)) ≡ anchored (first_anchor a l.anchor) (head_or l.head (value (part ls (at + 1) (level l))))
+  bare_value a e =
+      let o : Outline = row l (part ls (at + 1) (level l)) (deeper floor (rest ls (at + 1) (level l))) in
+      ap (anchored a) (ap value (part_row ls at floor l is deep) ∙ ap (λ m. collection m (children o)) e)
+      ∙ anchored_twice a l.anchor (head_or l.head (value (part ls (at + 1) (level l))))
+
+pub anchored_none : (n : Node) → anchored None n ≡ n
+anchored_none (alias n) = refl
+anchored_none (scalar c k t) = refl
+anchored_none (list c cs) = refl
+anchored_none (map c cs) = refl
+
+pub first_none : (a : Option (List ℕ)) → first_anchor a None ≡ a
+first_none None = refl
+first_none (Some a) = refl
+
+-- the node of all lines
+pub all_value : (ls : List Line) → anchored None (value (part ls 0 0)) ≡ value (group ls)
+all_value ls = anchored_none (value (part ls 0 0)) ∙ ap value (part-all ls)

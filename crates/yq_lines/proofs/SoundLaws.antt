@@ -1,0 +1,262 @@
+-- What is asked of the items or entries of a collection, line by line.
+use Rattle.std.proofs.Common.{◌≡◌, ℕ, suc, ◌+◌, ◌*◌, ◌<◌, ◌≤◌, max, leb, ltb, eqb, List, [], ◌∷◌, ◌++◌, Option, Some, None, is_some, Bool, true, false, ◌&&◌, cond, ◌⊎◌, inl, inr, refl, sym, ap, ◌∙◌, subst, arith, append_assoc}
+use Rattle.std.proofs.lemmas.Bool.{lt-ltb, eq-eqb, ne_eqb, leb-true, le-leb, ltb-true, cases_eq, and_parts, false_from_ne_true, false≢true}
+use Rattle.std.proofs.Math.Bool.{and-false}
+use Rattle.yq_scalar.specs.Tree.{Node, alias, scalar, list, map}
+use Rattle.yq_scalar.specs.Keys.{with_key, keys_of, depth, deepest, are_distinct}
+use Rattle.yq_lines.specs.Outline.{Mark, Bare, Key, Dash, rank, Line, level, Outline, end, row, anchored, head_or, key_of, collection, children, value}
+use Rattle.yq_lines.specs.Group.{deeper, shallow, is_open, is_whole, level_or, is_even, is_fine}
+use Rattle.yq_lines.specs.Ends.{is_end}
+use Rattle.yq_lines.specs.Sound.{has_unique_keys, each_has_unique_keys, is_sound, head_is_sound, line_is_sound, is_entry}
+
+-- what is asked of the items or entries from one on, where these keys stand before it
+abbrev pub asked : ℕ → ℕ → List (List ℕ) → Outline → Bool
+asked d n keys o = is_even n o && (leb (deepest (children o)) d && (each_has_unique_keys (children o) && are_distinct (keys ++ keys_of (children o))))
+
+-- keys with that of one more line, if it has one
+abbrev pub keys_with : List (List ℕ) → Mark → List (List ℕ)
+keys_with keys m = keys ++ with_key (key_of m) []
+
+-- a level at which lines are items or entries
+abbrev pub IsEntryLevel : ℕ → Type 0
+IsEntryLevel n = (l : Line) → level l ≡ n → is_entry l.mark ≡ true
+
+-- the two parts of what is asked of a head
+abbrev head_depth : ℕ → Option Node → Bool
+head_depth d None = true
+head_depth d (Some h) = leb (depth h) d
+
+abbrev head_unique : Option Node → Bool
+head_unique None = true
+head_unique (Some h) = has_unique_keys h
+
+head_parts : (d : ℕ) (h : Option Node) → head_is_sound d h ≡ (head_depth d h && head_unique h)
+head_parts d None = refl
+head_parts d (Some h) = refl
+
+depth-anchored : (a : Option (List ℕ)) (n : Node) → depth (anchored a n) ≡ depth n
+depth-anchored a (alias n) = refl
+depth-anchored a (scalar b k t) = refl
+depth-anchored a (list b cs) = refl
+depth-anchored a (map b cs) = refl
+
+unique-anchored : (a : Option (List ℕ)) (n : Node) → has_unique_keys (anchored a n) ≡ has_unique_keys n
+unique-anchored a (alias n) = refl
+unique-anchored a (scalar b k t) = refl
+unique-anchored a (list b cs) = refl
+unique-anchored a (map b cs) = refl
+
+with_true : (b : Bool) → (b && true) ≡ b
+with_true true = refl
+with_true false = refl
+
+depth-head : (d : ℕ) (h : Option Node) (o : Outline) → is_open h o ≡ true → leb (depth (head_or h (value o))) d ≡ (leb (depth (value o)) d && head_depth d h)
+depth-head d None o e = sym (with_true (leb (depth (value o)) d))
+depth-head d (Some h) end e = sym (ap (λ b. b && leb (depth h) d) (le-leb 0 d (omega arith)))
+depth-head d (Some h) (row l u a) e = absurd (false≢true e)
+
+unique-head : (h : Option Node) (o : Outline) → is_open h o ≡ true → has_unique_keys (head_or h (value o)) ≡ (has_unique_keys (value o) && head_unique h)
+unique-head None o e = sym (with_true (has_unique_keys (value o)))
+unique-head (Some h) end e = refl
+unique-head (Some h) (row l u a) e = absurd (false≢true e)
+
+no_leb : (a b : ℕ) → (a ≤ b → ⊥) → leb a b ≡ false
+no_leb a b h = false_from_ne_true (leb a b) (λ e. h (leb-true a b e))
+
+and_other : (a b : Bool) → (a && b) ≡ (b && a)
+and_other true true = refl
+and_other true false = refl
+and_other false true = refl
+and_other false false = refl
+
+leb-max : (a b d : ℕ) → leb (max a b) d ≡ (leb a d && leb b d)
+leb-max a b d = go (leb a d) (leb b d) refl refl
+  where
+    go : (x y : Bool) → leb a d ≡ x → leb b d ≡ y → leb (max a b) d ≡ (x && y)
+    go true true e f = le-leb (max a b) d (omega (arith, leb-true a d e, leb-true b d f))
+    go true false e f = no_leb (max a b) d (λ h. false≢true (sym f ∙ le-leb b d (omega arith)))
+    go false y e f = no_leb (max a b) d (λ h. false≢true (sym e ∙ le-leb a d (omega arith)))
+
+leb-suc : (a d : ℕ) → leb (suc a) (suc d) ≡ leb a d
+leb-suc a d = go (leb a d) refl
+  where
+    go : (x : Bool) → leb a d ≡ x → leb (suc a) (suc d) ≡ x
+    go true e = le-leb (suc a) (suc d) (omega (arith, leb-true a d e))
+    go false e = no_leb (suc a) (suc d) (λ h. false≢true (sym e ∙ le-leb a d (omega arith)))
+
+leb-zero : (a : ℕ) → leb (suc a) 0 ≡ false
+leb-zero a = no_leb (suc a) 0 (λ h. omega arith)
+
+-- nine facts in two orders
+sorted : (f e l h x u g y z : Bool) → (f && e) && (((l && h) && x) && (((u && g) && y) && z)) ≡ (h && g) && ((f && (l && u)) && (e && (x && (y && z))))
+sorted f e l false x u g y z = (ap (λ b. (f && e) && ((b && x) && (((u && g) && y) && z))) (and-false l)) ∙ and-false (f && e)
+sorted f e l true x u false y z = ap (λ b. (f && e) && (((l && true) && x) && ((b && y) && z))) (and-false u) ∙ (ap (λ b. (f && e) && b) (and-false ((l && true) && x)) ∙ and-false (f && e))
+sorted false e l true x u true y z = refl
+sorted true e false true x u true y z = and-false e
+sorted true e true true x false true y z = ap (λ b. e && b) (and-false x) ∙ and-false e
+sorted true e true true x true true y z = refl
+
+even_any : (d : ℕ) (o : Outline) → is_even (level_or d o) o ≡ is_fine o
+even_any d end = refl
+even_any d (row l u a) = refl
+
+whole_entry : (m : Mark) (h : Option Node) (o : Outline) → is_entry m ≡ true → is_whole m h o ≡ true
+whole_entry Bare h o e = absurd (false≢true e)
+whole_entry (Key k) h o e = refl
+whole_entry Dash h o e = refl
+
+-- a line at the level of its collection, with what is under it
+even_row : (n : ℕ) (l : Line) (u a : Outline) → is_entry l.mark ≡ true → level l ≡ n → is_open l.head u ≡ true → level l < level_or (level l + 1) u →
+    is_even n (row l u a) ≡ (is_fine u && is_even n a)
+even_row n l u a entry lev open' deep =
+    rw (eq-eqb (level l) n lev, open', whole_entry l.mark l.head a entry, lt-ltb n (level_or (level l + 1) u) (subst (λ m. m < level_or (level l + 1) u) lev deep), even_any (level l + 1) u) refl
+
+keys_again : (keys : List (List ℕ)) (k : Option (List ℕ)) (more : List (List ℕ)) → keys ++ with_key k more ≡ (keys ++ with_key k []) ++ more
+keys_again keys None more = sym (append_assoc keys [] more)
+keys_again keys (Some k) more = sym (append_assoc keys (k ∷ []) more)
+
+-- what is asked of a line and of those behind it
+asked_row : (d n : ℕ) (keys : List (List ℕ)) (l : Line) (u a : Outline) → is_entry l.mark ≡ true → level l ≡ n → is_open l.head u ≡ true → level l < level_or (level l + 1) u →
+    asked d n keys (row l u a) ≡ (head_is_sound d l.head && (is_sound d u && asked d n (keys_with keys l.mark) a))
+asked_row d n keys l u a entry lev open' deep =
+    let c : Node = anchored l.anchor (head_or l.head (value u)) in
+    let deep_is : leb (depth c) d ≡ (leb (depth (value u)) d && head_depth d l.head) = ap (λ m. leb m d) (depth-anchored l.anchor (head_or l.head (value u))) ∙ depth-head d l.head u open' in
+    let unique_is : has_unique_keys c ≡ (has_unique_keys (value u) && head_unique l.head) = unique-anchored l.anchor (head_or l.head (value u)) ∙ unique-head l.head u open' in
+    let key_is : keys ++ with_key (key_of l.mark) (keys_of (children a)) ≡ keys_with keys l.mark ++ keys_of (children a) = keys_again keys (key_of l.mark) (keys_of (children a)) in
+    (λ i. even_row n l u a entry lev open' deep i && ((leb-max (depth c) (deepest (children a)) d ∙ ap (λ m. m && leb (deepest (children a)) d) deep_is) i && ((unique_is i && each_has_unique_keys (children a)) && are_distinct (key_is i))))
+    ∙ (sorted (is_fine u) (is_even n a) (leb (depth (value u)) d) (head_depth d l.head) (leb (deepest (children a)) d) (has_unique_keys (value u)) (head_unique l.head) (each_has_unique_keys (children a)) (are_distinct (keys_with keys l.mark ++ keys_of (children a)))
+    ∙ ap (λ b. b && (is_sound d u && asked d n (keys_with keys l.mark) a)) (sym (head_parts d l.head)))
+
+-- a line at another level, or with a head and lines under it
+not_level : (d n : ℕ) (keys : List (List ℕ)) (l : Line) (u a : Outline) → (level l ≡ n → ⊥) → asked d n keys (row l u a) ≡ false
+not_level d n keys l u a e = rw (ne_eqb (level l) n e) refl
+
+not_open : (d n : ℕ) (keys : List (List ℕ)) (l : Line) (u a : Outline) → level l ≡ n → is_open l.head u ≡ false → asked d n keys (row l u a) ≡ false
+not_open d n keys l u a lev e = rw (eq-eqb (level l) n lev, e) refl
+
+-- what is asked of a line in a collection, of those under it and of those behind it
+pub asked_line : (d n : ℕ) (keys : List (List ℕ)) (l : Line) (u a : Outline) → IsEntryLevel n → level l < level_or (level l + 1) u →
+    asked d n keys (row l u a) ≡ (line_is_sound d n l u && (is_sound d u && asked d n (keys_with keys l.mark) a))
+asked_line d n keys l u a entries deep = go (cases_eq (level l) n)
+  where
+    next : Bool
+    next = is_sound d u && asked d n (keys_with keys l.mark) a
+
+    opened : (b : Bool) → level l ≡ n → is_open l.head u ≡ b → asked d n keys (row l u a) ≡ (b && head_is_sound d l.head) && next
+    opened true lev e = asked_row d n keys l u a (entries l lev) lev e deep
+    opened false lev e = not_open d n keys l u a lev e
+
+    go : (level l ≡ n) ⊎ (level l ≡ n → ⊥) → asked d n keys (row l u a) ≡ (line_is_sound d n l u && next)
+    go (inl lev) = opened (is_open l.head u) lev refl ∙ sym (ap (λ b. (b && (is_open l.head u && head_is_sound d l.head)) && next) (eq-eqb (level l) n lev))
+    go (inr other) = not_level d n keys l u a other ∙ sym (ap (λ b. (b && (is_open l.head u && head_is_sound d l.head)) && next) (ne_eqb (level l) n other))
+
+-- lines at one level begin in one way
+same_rank : (l m : Line) → level l ≡ level m → rank l.mark ≡ rank m.mark
+unfolding level
+same_rank l m e = go l.mark m.mark e
+  where
+    go : (a b : Mark) → 3 * l.column + rank a ≡ 3 * m.column + rank b → rank a ≡ rank b
+    go Bare Bare e = refl
+    go Bare (Key k) e = absurd (omega (arith, e))
+    go Bare Dash e = absurd (omega (arith, e))
+    go (Key k) Bare e = absurd (omega (arith, e))
+    go (Key k) (Key j) e = refl
+    go (Key k) Dash e = absurd (omega (arith, e))
+    go Dash Bare e = absurd (omega (arith, e))
+    go Dash (Key k) e = absurd (omega (arith, e))
+    go Dash Dash e = refl
+
+entry_by_rank : (a b : Mark) → rank a ≡ rank b → is_entry b ≡ true → is_entry a ≡ true
+entry_by_rank a Bare e h = absurd (false≢true h)
+entry_by_rank Bare (Key k) e h = absurd (omega (arith, e))
+entry_by_rank (Key j) (Key k) e h = refl
+entry_by_rank Dash (Key k) e h = refl
+entry_by_rank Bare Dash e h = absurd (omega (arith, e))
+entry_by_rank (Key j) Dash e h = refl
+entry_by_rank Dash Dash e h = refl
+
+pub entry_level : (l : Line) → is_entry l.mark ≡ true → IsEntryLevel (level l)
+entry_level l h m e = entry_by_rank m.mark l.mark (same_rank m l e) h
+
+no_key : (a : Mark) → rank a ≡ 3 → key_of a ≡ None
+no_key Bare e = refl
+no_key (Key k) e = absurd (omega (arith, e))
+no_key Dash e = refl
+
+-- items have no keys
+no_keys : (l : Line) (o : Outline) → l.mark ≡ Dash → is_even (level l) o ≡ true → keys_of (children o) ≡ []
+no_keys l end mark e = refl
+no_keys l (row m u a) mark e =
+    let p = and_parts (eqb (level m) (level l)) _ e in
+    let q = and_parts (is_open m.head u) _ p.1 in
+    let r = and_parts (is_whole m.mark m.head a) _ q.1 in
+    let s = and_parts (ltb (level l) (level_or (level m + 1) u)) _ r.1 in
+    let t = and_parts (is_even (level_or (level m + 1) u) u) (is_even (level l) a) s.1 in
+    ap (λ k. with_key k (keys_of (children a))) (no_key m.mark (same_rank m l (same (cases_eq (level m) (level l)) p.0) ∙ ap rank mark)) ∙ no_keys l a mark t.1
+  where
+    same : (level m ≡ level l) ⊎ (level m ≡ level l → ⊥) → eqb (level m) (level l) ≡ true → level m ≡ level l
+    same (inl is) h = is
+    same (inr other) h = absurd (false≢true (sym (ne_eqb (level m) (level l) other) ∙ h))
+
+-- a fact that follows from the first
+guarded : (b x y z : Bool) → (b ≡ true → z ≡ true) → (b && (x && y)) ≡ (b && (x && (y && z)))
+guarded false x y z h = refl
+guarded true x y z h = ap (λ w. x && w) (sym (ap (λ w. y && w) (h refl) ∙ with_true y))
+
+-- what is asked of a collection, of its items or entries
+pub sound_entries : (d : ℕ) (l : Line) (u a : Outline) → is_entry l.mark ≡ true → is_sound (suc d) (row l u a) ≡ asked d (level l) [] (row l u a)
+sound_entries d l u a entry = go l.mark refl entry
+  where
+    go : (m : Mark) → l.mark ≡ m → is_entry m ≡ true → is_sound (suc d) (row l u a) ≡ asked d (level l) [] (row l u a)
+    go Bare mark h = absurd (false≢true h)
+    go (Key k) mark h =
+        ap (λ m. is_even (level l) (row l u a) && (leb (depth (collection m (children (row l u a)))) (suc d) && has_unique_keys (collection m (children (row l u a))))) mark
+        ∙ (λ i. is_even (level l) (row l u a) && (leb-suc (deepest (children (row l u a))) d i && and_other (are_distinct (keys_of (children (row l u a)))) (each_has_unique_keys (children (row l u a))) i))
+    go Dash mark h =
+        ap (λ m. is_even (level l) (row l u a) && (leb (depth (collection m (children (row l u a)))) (suc d) && has_unique_keys (collection m (children (row l u a))))) mark
+        ∙ (λ i. is_even (level l) (row l u a) && (leb-suc (deepest (children (row l u a))) d i && each_has_unique_keys (children (row l u a))))
+        ∙ guarded (is_even (level l) (row l u a)) (leb (deepest (children (row l u a))) d) (each_has_unique_keys (children (row l u a))) (are_distinct (keys_of (children (row l u a))))
+        (λ e. ap are_distinct (no_keys l (row l u a) mark e))
+
+pub too_deep : (l : Line) (u a : Outline) → is_entry l.mark ≡ true → is_sound 0 (row l u a) ≡ false
+too_deep l u a entry = go l.mark refl entry
+  where
+    deep : (m : Mark) → is_entry m ≡ true → leb (depth (collection m (children (row l u a)))) 0 ≡ false
+    deep Bare h = absurd (false≢true h)
+    deep (Key k) h = leb-zero (deepest (children (row l u a)))
+    deep Dash h = leb-zero (deepest (children (row l u a)))
+
+    go : (m : Mark) → l.mark ≡ m → is_entry m ≡ true → is_sound 0 (row l u a) ≡ false
+    go m mark h =
+        ap (λ b. is_even (level l) (row l u a) && (b && has_unique_keys (value (row l u a)))) (ap (λ x. leb (depth (collection x (children (row l u a)))) 0) mark ∙ deep m h)
+        ∙ and-false (is_even (level l) (row l u a))
+
+-- a node on a line of its own, with what is under it and behind it
+alone : (d n : ℕ) (h : Option Node) (u a : Outline) → n < n + 1 →
+    ((is_open h u && (is_whole Bare h a && (ltb n (level_or (n + 1) u) && (is_even (level_or (n + 1) u) u && is_even n a)))) && (leb (depth (head_or h (value u))) d && has_unique_keys (head_or h (value u))))
+    ≡ ((is_some h && (is_end u && is_end a)) && head_is_sound d h)
+alone d n None u a lt = refl
+alone d n (Some h) end end lt = ap (λ b. (b && true) && (leb (depth h) d && has_unique_keys h)) (lt-ltb n (n + 1) lt)
+alone d n (Some h) end (row l u a) lt = refl
+alone d n (Some h) (row l u b) a lt = refl
+
+-- what is asked of a node on a line of its own
+pub sound_bare : (d : ℕ) (l : Line) (u a : Outline) → l.mark ≡ Bare → is_sound d (row l u a) ≡ ((is_some l.head && (is_end u && is_end a)) && head_is_sound d l.head)
+sound_bare d l u a mark =
+    let n = level l in
+    let c = head_or l.head (value u) in
+    (λ i. (eq-eqb n n refl i && (is_open l.head u && (is_whole (mark i) l.head a && (ltb n (level_or (n + 1) u) && (is_even (level_or (n + 1) u) u && is_even n a)))))
+    && (leb (depth (collection (mark i) (children (row l u a)))) d && has_unique_keys (collection (mark i) (children (row l u a)))))
+    ∙ (ap (λ m. (is_open l.head u && (is_whole Bare l.head a && (ltb n (level_or (n + 1) u) && (is_even (level_or (n + 1) u) u && is_even n a)))) && (leb m d && has_unique_keys (anchored l.anchor c))) (depth-anchored l.anchor c)
+    ∙ (ap (λ b. (is_open l.head u && (is_whole Bare l.head a && (ltb n (level_or (n + 1) u) && (is_even (level_or (n + 1) u) u && is_even n a)))) && (leb (depth c) d && b)) (unique-anchored l.anchor c)
+    ∙ alone d n l.head u a (omega arith)))
+
+-- nothing is under a line and nothing behind it, where the next one is not deeper than a lower level
+pub lone : (n floor : ℕ) (o : Outline) → floor < n → (is_end (deeper n o) && is_end (deeper floor (shallow n o))) ≡ is_end (deeper floor o)
+lone n floor end h = refl
+lone n floor (row l u a) h = go (ltb n (level l)) refl
+  where
+    go : (b : Bool) → ltb n (level l) ≡ b →
+        (is_end (cond b (row l u (deeper n a)) end) && is_end (deeper floor (cond b (shallow n a) (row l u a)))) ≡ is_end (deeper floor (row l u a))
+    go true e = sym (ap (λ b. is_end (cond b (row l u (deeper floor a)) end)) (lt-ltb floor (level l) (omega (arith, h, ltb-true n (level l) e))))
+    go false e = refl

@@ -1,0 +1,153 @@
+-- What exchanging the lines in a place does to the tree.
+use Rattle.std.proofs.Common.{◌≡◌, ℕ, ◌≤◌, List, [], ◌∷◌, Option, Some, None, option_map, option_and_then, Bool, true, false, cond, refl, sym, ap, ◌∙◌, subst, arith}
+use Rattle.yq_scalar.specs.Tree.{Node, alias, scalar, list, map, Children, child}
+use Rattle.yq_lines.specs.Outline.{Mark, Bare, Key, Dash, rank, Line, level, Outline, end, row, anchored, label, collection, shaped, children, value}
+use Rattle.yq_scalar.specs.Paths.{Step, is_here, further, change_child, within, change}
+use Rattle.yq_lines.specs.Places.{here, below, plug, Found, next_to, find_row, inside, bare_or, in_head, find, content}
+use Rattle.yq_lines.proofs.Allowing.{IsEntry, IsCollection}
+use Rattle.yq_lines.proofs.Plug.{plug-compose}
+
+abbrev pub If : {A : Type 0} → Option A → (A → Type 0) → Type 0
+If None P = Unit {0}
+If (Some x) P = P x
+
+pub rank_small : (m : Mark) → (1 ≤ rank m) × (rank m ≤ 3)
+rank_small Bare = omega arith
+rank_small (Key k) = omega arith
+rank_small Dash = omega arith
+
+pub same_rank : (l k : Line) → level l ≡ level k → rank l.mark ≡ rank k.mark
+unfolding level
+same_rank l k e = omega (arith, rank_small l.mark, rank_small k.mark)
+
+pub same_collection : (m k : Mark) (cs : Children) → rank m ≡ rank k → collection m cs ≡ collection k cs
+same_collection Bare Bare cs e = refl
+same_collection Bare (Key k) cs e = absurd (omega arith)
+same_collection Bare Dash cs e = absurd (omega arith)
+same_collection (Key j) Bare cs e = absurd (omega arith)
+same_collection (Key j) (Key k) cs e = refl
+same_collection (Key j) Dash cs e = absurd (omega arith)
+same_collection Dash Bare cs e = absurd (omega arith)
+same_collection Dash (Key k) cs e = absurd (omega arith)
+same_collection Dash Dash cs e = refl
+
+pub same_entry : (i j : Mark) → IsEntry i → rank i ≡ rank j → IsEntry j
+same_entry Bare j c e = absurd c
+same_entry (Key x) Bare c e = absurd (omega arith)
+same_entry Dash Bare c e = absurd (omega arith)
+same_entry (Key x) (Key y) c e = tt
+same_entry (Key x) Dash c e = tt
+same_entry Dash (Key y) c e = tt
+same_entry Dash Dash c e = tt
+
+-- the node with its line and what is under it exchanged
+row_change : (s : Step) (h : Node → Node) (o : Outline) →
+    If (find_row s o) (λ f. (l : Line) (u : Outline) → label l ≡ label f.line → content l u ≡ h (content f.line f.under) →
+    children (plug f.place (row l u f.after)) ≡ change_child s h (children o))
+row_change s h end = tt
+row_change s h (row k v a) = go (is_here s (label k)) (find_row (further s) a) (row_change (further s) h a)
+  where
+    go : (b : Bool) (r : Option Found) →
+        If r (λ f. (l : Line) (u : Outline) → label l ≡ label f.line → content l u ≡ h (content f.line f.under) →
+        children (plug f.place (row l u f.after)) ≡ change_child (further s) h (children a)) →
+        If (cond b (Some (record { place = here; line = k; under = v; after = a })) (option_map (next_to k v) r)) (λ f. (l : Line) (u : Outline) → label l ≡ label f.line → content l u ≡ h (content f.line f.under) →
+        children (plug f.place (row l u f.after)) ≡ cond b (child (label k) (h (content k v)) (children a)) (child (label k) (content k v) (change_child (further s) h (children a))))
+    go true r ih = λ l u p q. λ i. child (p i) (q i) (children a)
+    go false None ih = tt
+    go false (Some f) ih = λ l u p q. ap (child (label k) (content k v)) (ih l u p q)
+
+pub row_shape : (s : Step) (o : Outline) →
+    If (find_row s o) (λ f. (l : Line) (u : Outline) (cs : Children) → level l ≡ level f.line → shaped (plug f.place (row l u f.after)) cs ≡ shaped o cs)
+row_shape s end = tt
+row_shape s (row k v a) = go (is_here s (label k)) (find_row (further s) a)
+  where
+    go : (b : Bool) (r : Option Found) →
+        If (cond b (Some (record { place = here; line = k; under = v; after = a })) (option_map (next_to k v) r))
+        (λ f. (l : Line) (u : Outline) (cs : Children) → level l ≡ level f.line → shaped (plug f.place (row l u f.after)) cs ≡ shaped (row k v a) cs)
+    go true r = λ l u cs e. same_collection l.mark k.mark cs (same_rank l k e)
+    go false None = tt
+    go false (Some f) = λ l u cs e. refl
+
+within-collection : (m : Mark) (g : Children → Children) (cs : Children) → IsEntry m → collection m (g cs) ≡ within g (collection m cs)
+within-collection Bare g cs e = absurd e
+within-collection (Key k) g cs e = refl
+within-collection Dash g cs e = refl
+
+pub within-shaped : (o : Outline) (g : Children → Children) (cs : Children) → IsCollection o → shaped o (g cs) ≡ within g (shaped o cs)
+within-shaped end g cs e = refl
+within-shaped (row l u a) g cs e = within-collection l.mark g cs e
+
+abbrev pub RowChanges : Step → Outline → Found → Type 0
+RowChanges s o f =
+    (h : Node → Node) (l : Line) (u : Outline) → label l ≡ label f.line → level l ≡ level f.line → content l u ≡ h (content f.line f.under) →
+    value (plug f.place (row l u f.after)) ≡ within (change_child s h) (value o)
+
+-- one step
+pub row_value : (s : Step) (o : Outline) → IsCollection o → If (find_row s o) (RowChanges s o)
+row_value s o c = go (find_row s o) (λ h. row_change s h o) (row_shape s o)
+  where
+    go : (r : Option Found) →
+        ((h : Node → Node) → If r (λ f. (l : Line) (u : Outline) → label l ≡ label f.line → content l u ≡ h (content f.line f.under) →
+        children (plug f.place (row l u f.after)) ≡ change_child s h (children o))) →
+        If r (λ f. (l : Line) (u : Outline) (cs : Children) → level l ≡ level f.line → shaped (plug f.place (row l u f.after)) cs ≡ shaped o cs) →
+        If r (RowChanges s o)
+    go None p q = tt
+    go (Some f) p q = λ h l u same lev new. ap (shaped (plug f.place (row l u f.after))) (p h l u same new) ∙ (q l u (change_child s h (children o)) lev ∙ within-shaped o (change_child s h) (children o) c)
+
+pub anchored-within : (a : Option (List ℕ)) (g : Children → Children) (n : Node) → anchored a (within g n) ≡ within g (anchored a n)
+anchored-within a g (alias n) = refl
+anchored-within a g (scalar b k t) = refl
+anchored-within a g (list b cs) = refl
+anchored-within a g (map b cs) = refl
+
+abbrev pub PathChanges : Step → List Step → Outline → (Found × List Step) → Type 0
+PathChanges s ss o x =
+    (g : Node → Node) (l : Line) (u : Outline) → label l ≡ label x.0.line → level l ≡ level x.0.line → content l u ≡ change x.1 g (content x.0.line x.0.under) →
+    value (plug x.0.place (row l u x.0.after)) ≡ change (s ∷ ss) g (value o)
+
+bare_value : (s : Step) (ss : List Step) (k : Line) (v a : Outline) → k.mark ≡ Bare → PathChanges s ss (row k v a) (record { place = here; line = k; under = v; after = a }, s ∷ ss)
+bare_value s ss k v a e g l u same lev new =
+    let m : rank l.mark ≡ 1 = same_rank l k lev ∙ ap rank e in
+    same_collection l.mark Bare (child (label l) (content l u) (children a)) m ∙ (new ∙ sym (ap (λ m. change (s ∷ ss) g (collection m (children (row k v a)))) e))
+
+-- the step into what is under a line
+deep_value : (s t : Step) (ts : List Step) (o : Outline) (f : Found) (h : Option Node) → f.line.head ≡ h → RowChanges s o f →
+    If (find t ts f.under) (PathChanges t ts f.under) →
+    If (in_head h (Some (f, t ∷ ts)) (option_map (λ x. (inside f x.0, x.1)) (find t ts f.under))) (PathChanges s (t ∷ ts) o)
+deep_value s t ts o f (Some n) e r ih = λ g l u same lev new. r (change (t ∷ ts) g) l u same lev new
+deep_value s t ts o f None e r ih = go (find t ts f.under) ih
+  where
+    go : (q : Option (Found × List Step)) → If q (PathChanges t ts f.under) → If (option_map (λ x. (inside f x.0, x.1)) q) (PathChanges s (t ∷ ts) o)
+    go None h = tt
+    go (Some x) h = λ g l u same lev new.
+        let below_value : value (plug x.0.place (row l u x.0.after)) ≡ change (t ∷ ts) g (value f.under) = h g l u same lev new in
+        let here_value : content f.line (plug x.0.place (row l u x.0.after)) ≡ change (t ∷ ts) g (content f.line f.under) =
+        rw e (ap (anchored f.line.anchor) below_value ∙ anchored-within f.line.anchor (change_child t (change ts g)) (value f.under)) in
+        ap value (plug-compose f.place (below f.line x.0.place f.after) (row l u x.0.after)) ∙ r (change (t ∷ ts) g) f.line (plug x.0.place (row l u x.0.after)) refl refl here_value
+
+pub path_value : (s : Step) (ss : List Step) (o : Outline) → If (find s ss o) (PathChanges s ss o)
+path_value s ss end = tt
+path_value s [] (row k v a) = go k.mark refl (find_row s (row k v a)) (row_value s (row k v a))
+  where
+    found : (r : Option Found) → If r (RowChanges s (row k v a)) → If (option_map (λ f. (f, [])) r) (PathChanges s [] (row k v a))
+    found None h = tt
+    found (Some f) h = λ g l u same lev new. h g l u same lev new
+
+    go : (m : Mark) → k.mark ≡ m → (r : Option Found) → (IsCollection (row k v a) → If r (RowChanges s (row k v a))) →
+        If (bare_or m (Some (record { place = here; line = k; under = v; after = a }, s ∷ [])) (option_map (λ f. (f, [])) r)) (PathChanges s [] (row k v a))
+    go Bare e r h = bare_value s [] k v a e
+    go (Key j) e r h = found r (h (subst IsEntry (sym e) tt))
+    go Dash e r h = found r (h (subst IsEntry (sym e) tt))
+path_value s (t ∷ ts) (row k v a) = go (λ u. path_value t ts u) k.mark refl (find_row s (row k v a)) (row_value s (row k v a))
+  where
+    found : ((u : Outline) → If (find t ts u) (PathChanges t ts u)) → (r : Option Found) → If r (RowChanges s (row k v a)) →
+        If (option_and_then (λ f. in_head f.line.head (Some (f, t ∷ ts)) (option_map (λ x. (inside f x.0, x.1)) (find t ts f.under))) r) (PathChanges s (t ∷ ts) (row k v a))
+    found ih None h = tt
+    found ih (Some f) h = deep_value s t ts (row k v a) f f.line.head refl h (ih f.under)
+
+    go : ((u : Outline) → If (find t ts u) (PathChanges t ts u)) → (m : Mark) → k.mark ≡ m → (r : Option Found) → (IsCollection (row k v a) → If r (RowChanges s (row k v a))) →
+        If (bare_or m (Some (record { place = here; line = k; under = v; after = a }, s ∷ (t ∷ ts)))
+        (option_and_then (λ f. in_head f.line.head (Some (f, t ∷ ts)) (option_map (λ x. (inside f x.0, x.1)) (find t ts f.under))) r)) (PathChanges s (t ∷ ts) (row k v a))
+    go ih Bare e r h = bare_value s (t ∷ ts) k v a e
+    go ih (Key j) e r h = found ih r (h (subst IsEntry (sym e) tt))
+    go ih Dash e r h = found ih r (h (subst IsEntry (sym e) tt))

@@ -1,0 +1,64 @@
+-- Reading (a reader may skip this: the grammar is what is believed, and found and only tie the two): lines by their indexes, where those under each end, and where steps lead.
+use Rattle.std.specs.Prelude.{◌≡◌, ℕ, zero, suc, ◌+◌, ◌<◌, ◌≤◌, nat_lt, List, [], ◌∷◌, drop, length, slice_get, slice_index, Option, Some, None, option_map, option_and_then, Bool, true, false, if◌then◌else◌}
+use Rattle.yq_scalar.specs.Paths.{Step}
+use Rattle.yq_lines.specs.Outline.{Line, level, Outline, end, row}
+use Rattle.yq_lines.specs.Group.{deeper, shallow, group}
+use Rattle.yq_lines.specs.Places.{lines_before, Found, find}
+
+-- the lines from a place on that are deeper than a floor (own)
+abbrev pub part : List Line → ℕ → ℕ → Outline
+part ls start floor = deeper floor (group (drop start ls))
+
+-- the lines behind those (own)
+abbrev pub rest : List Line → ℕ → ℕ → Outline
+rest ls start floor = shallow floor (group (drop start ls))
+
+-- whether an outline has no lines (own)
+abbrev pub is_end : Outline → Bool
+is_end end = true
+is_end (row l u a) = false
+
+-- the lines under line i end there (own)
+abbrev pub IsEndOf : List Line → ℕ → ℕ → Type 0
+IsEndOf ls i next =
+    (i < next) × (next ≤ length ls) × ((l : Line) → slice_get ls i ≡ Some l → rest ls (i + 1) (level l) ≡ group (drop next ls))
+
+-- for each line from line k on, where those under it end (own)
+abbrev pub AreEndsFrom : ℕ → List Line → List ℕ → Type 0
+AreEndsFrom k ls ends = (i : ℕ) → k ≤ i → i < length ls → IsEndOf ls i (slice_index ends i)
+
+-- how many lines in front are deeper than a level (8.2)
+abbrev pub deeper_count : ℕ → List Line → ℕ
+deeper_count n [] = 0
+deeper_count n (l ∷ ls) = if nat_lt n (level l) then suc (deeper_count n ls) else 0
+
+-- the line behind line n and those under it, which are those that follow it and are deeper (8.2)
+abbrev pub lines_end : ℕ → List Line → ℕ
+lines_end n [] = 0
+lines_end zero (l ∷ ls) = suc (deeper_count (level l) ls)
+lines_end (suc n) (l ∷ ls) = suc (lines_end n ls)
+
+-- the index of a line that was found, where no steps go on in its head
+abbrev pub found_line : Found → List Step → Option ℕ
+found_line f [] = Some (length (lines_before f.place))
+found_line f (s ∷ ss) = None
+
+-- the line of the entry or item to which steps lead, by its index; the root has none
+abbrev pub line_of : List Step → List Line → Option ℕ
+line_of [] ls = None
+line_of (s ∷ ss) ls = option_and_then (λ x. found_line x.0 x.1) (find s ss (group ls))
+
+-- the line to which steps lead, by its index, and the steps that go on in its head; the root has none
+abbrev pub reached : List Step → List Line → Option (ℕ × List Step)
+reached [] ls = None
+reached (s ∷ ss) ls = option_map (λ x. (length (lines_before x.0.place), x.1)) (find s ss (group ls))
+
+-- whether no lines are under a line that was found
+abbrev pub has_none_under : Option (Found × List Step) → Bool
+has_none_under None = false
+has_none_under (Some x) = is_end x.0.under
+
+-- whether no lines are under the line of the entry or item to which steps lead
+abbrev pub is_leaf : List Step → List Line → Bool
+is_leaf [] ls = false
+is_leaf (s ∷ ss) ls = has_none_under (find s ss (group ls))

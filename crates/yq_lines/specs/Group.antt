@@ -1,0 +1,56 @@
+-- Reading (a reader may skip this: the grammar is what is believed, and found and only tie the two): lines grouped from the last to the first.
+use Rattle.std.specs.Prelude.{ℕ, nat_lt, nat_eq, ◌+◌, List, [], ◌∷◌, Option, Some, None, Bool, true, false, ◌&&◌, if◌then◌else◌}
+use Rattle.yq_scalar.specs.Tree.{Node}
+use Rattle.yq_lines.specs.Outline.{Mark, Bare, Key, Dash, Line, level, Outline, end, row, value}
+
+-- the first lines of an outline that are deeper than n, with what is under them
+abbrev pub deeper : ℕ → Outline → Outline
+deeper n end = end
+deeper n (row l under after) = if nat_lt n (level l) then row l under (deeper n after) else end
+
+-- and those behind them
+abbrev pub shallow : ℕ → Outline → Outline
+shallow n end = end
+shallow n (row l under after) = if nat_lt n (level l) then shallow n after else row l under after
+
+-- a line takes the deeper ones behind it
+abbrev pub lead : Line → Outline → Outline
+lead l o = row l (deeper (level l) o) (shallow (level l) o)
+
+-- the outline of any lines
+abbrev pub group : List Line → Outline
+group [] = end
+group (l ∷ ls) = lead l (group ls)
+
+-- whether an entry with a head has nothing under it
+abbrev pub is_open : Option Node → Outline → Bool
+is_open None under = true
+is_open (Some n) end = true
+is_open (Some n) (row l u a) = false
+
+-- whether a node on a line of its own is there, and is alone
+abbrev pub is_whole : Mark → Option Node → Outline → Bool
+is_whole Bare (Some n) end = true
+is_whole Bare (Some n) (row l u a) = false
+is_whole Bare None after = false
+is_whole (Key k) head after = true
+is_whole Dash head after = true
+
+-- the level of the first line, or n
+abbrev pub level_or : ℕ → Outline → ℕ
+level_or n end = n
+level_or n (row l u a) = level l
+
+-- whether an outline is even at a level
+abbrev pub is_even : ℕ → Outline → Bool
+is_even n end = true
+is_even n (row l under after) =
+    nat_eq (level l) n && (is_open l.head under && (is_whole l.mark l.head after && (nat_lt n (level_or (level l + 1) under) && (is_even (level_or (level l + 1) under) under && is_even n after))))
+
+-- whether an outline is even at the level of its first line
+abbrev pub is_fine : Outline → Bool
+is_fine o = is_even (level_or 0 o) o
+
+-- the node that lines stand for
+abbrev pub stand : List Line → Option Node
+stand ls = let o = group ls in if is_fine o then Some (value o) else None

@@ -1,0 +1,48 @@
+-- Reading (a reader may skip this: the grammar is what is believed, and found and only tie the two): the anchors and aliases of lines.
+use Rattle.std.specs.Prelude.{ℕ, List, [], ◌∷◌, ◌++◌, map, Option, Some, None, ⊤}
+use Rattle.yq_scalar.specs.Tree as tree
+use Rattle.yq_scalar.specs.Tree.{Node, alias, scalar, list}
+use Rattle.yq_lines.specs.Anchors.{Name, Anchors, Refers, with_anchor, names_of, IsNoAlias}
+use Rattle.yq_lines.specs.declared.names.Name as declared
+use Rattle.yq_lines.specs.declared.names.Named.{Named}
+use Rattle.yq_lines.specs.Outline.{Line}
+
+-- the anchors and aliases in a head, in the order of the text (own)
+abbrev pub head_names : Option Node → List Name
+head_names None = []
+head_names (Some h) = names_of h
+
+-- those of lines (own)
+abbrev pub line_names : List Line → List Name
+line_names [] = []
+line_names (l ∷ ls) = with_anchor l.anchor (head_names l.head ++ line_names ls)
+
+-- the anchor before a head is none of the head (6.9.2)
+abbrev pub IsUnnamed : Option Node → Type 0
+IsUnnamed None = ⊤
+IsUnnamed (Some (alias name)) = ⊤
+IsUnnamed (Some (scalar None kind text)) = ⊤
+IsUnnamed (Some (scalar (Some a) kind text)) = ⊥
+IsUnnamed (Some (list None cs)) = ⊤
+IsUnnamed (Some (list (Some a) cs)) = ⊥
+IsUnnamed (Some (tree.map None cs)) = ⊤
+IsUnnamed (Some (tree.map (Some a) cs)) = ⊥
+
+-- an alias has no anchor before it (7.1)
+abbrev pub MayBeNamed : Option (List ℕ) → Option Node → Type 0
+MayBeNamed None head = ⊤
+MayBeNamed (Some a) head = IsNoAlias head
+
+-- the anchors before heads are those of the lines, and no alias has one (6.9.2, 7.1)
+abbrev pub HaveHeadsApart : List Line → Type 0
+HaveHeadsApart [] = ⊤
+HaveHeadsApart (l ∷ ls) = (IsUnnamed l.head × MayBeNamed l.anchor l.head) × HaveHeadsApart ls
+
+-- the name that one of the code shows (own)
+abbrev pub name_view : declared.Name → Name
+name_view (declared.TheVariants.Anchors a) = Anchors a.now
+name_view (declared.TheVariants.Refers a) = Refers a.now
+
+-- the names that those of the code show, in order (own)
+abbrev pub all_named : List Named → List Name
+all_named ns = map (λ n. name_view n.name) ns

@@ -1,0 +1,59 @@
+//! What is asked of a document's lines.
+ghost use Rattle.std.specs.Prelude.{◌≡◌, length, is_none, IfOk};
+ghost use Rattle.yq_lines.specs.Ends.{AreEndsFrom};
+ghost use Rattle.yq_lines.specs.LinesReading as spec;
+ghost use Rattle.yq_lines.specs.Names.{HaveHeadsApart};
+ghost use Rattle.yq_lines.specs.View.{views};
+
+use crate::anchors::second_anchor;
+use crate::bound::unbound_line;
+use crate::line::Line;
+use crate::lined::Lined;
+use crate::names::names_of;
+use crate::sound::{Flaw, find_flaw};
+use std::alloc::{AllocError, Global};
+use yq_inline::DEPTH_LIMIT;
+use yq_scalar::FaultKind;
+
+/// What is at fault in the anchors and aliases of lines: a second anchor of a node, an anchor of an
+/// alias, or an alias without an earlier anchor of its name.
+fn name_fault(alloc: Global, lines: &[Line<'_>]) -> Result<Option<Flaw>, AllocError>
+    ensures { IfOk result (λ f. is_none f ≡ spec.names_are_sound (views lines.now)) }
+{
+    if let Some(line) = second_anchor(lines) {
+        return Ok(Some(Flaw {
+            line,
+            kind: FaultKind::BadScalar,
+        }));
+    }
+    let names = names_of(alloc, lines)?;
+    match unbound_line(alloc, &names)? {
+        Some(line) => Ok(Some(Flaw {
+            line,
+            kind: FaultKind::UnknownAlias,
+        })),
+        None => Ok(None),
+    }
+}
+
+/// What is at fault in lines, by where those under each of them end.
+fn flaw_of(alloc: Global, lines: &[Line<'_>], ends: &[usize]) -> Result<Option<Flaw>, AllocError>
+    requires apart { HaveHeadsApart (views lines.now) }
+    requires each { length ends.now ≡ length lines.now }
+    requires ends { AreEndsFrom 0 (views lines.now) ends.now }
+    ensures { IfOk result (λ f. is_none f ≡ spec.lines_are_sound (views lines.now)) }
+{
+    match find_flaw(alloc, lines, ends, 0, 0, DEPTH_LIMIT)? {
+        Some(flaw) => Ok(Some(flaw)),
+        None => name_fault(alloc, lines),
+    }
+}
+
+/// What is at fault in the lines of a document: their columns, how deep collections are nested, keys
+/// that a mapping has already, anchors and aliases.
+pub fn lines_fault(alloc: Global, document: &Lined<'_>) -> Result<Option<Flaw>, AllocError>
+    requires { HaveHeadsApart (views document.now) }
+    ensures { IfOk result (λ f. is_none f ≡ spec.lines_are_sound (views document.now)) }
+{
+    flaw_of(alloc, &document.lines, &document.ends)
+}

@@ -1,0 +1,22 @@
+//! Laws on the lines of block nodes, for the crates above.
+ghost use Rattle.std.specs.Prelude.{◌≡◌, ℕ, List, ◌∷◌};
+ghost use Rattle.yq_scalar.specs.Tree.{Node};
+ghost use Rattle.yq_lines.specs.Outline.{Line, Stands};
+ghost use Rattle.yq_lines.specs.Grammar.{IsNode};
+ghost use Rattle.yq_lines.specs.Laws.{Exchanged};
+
+/// Lines stand for one node at most.
+pub fn one_node()
+    ensures { (lines : List Line) (a b : Node) (m n : ℕ) → Stands lines a m → Stands lines b n → a ≡ b }
+{}
+
+/// What lines stand for is what the rules of block nodes give them (YAML 1.2.2, 8.2).
+pub fn rules()
+    ensures sound { (n : ℕ) (lines : List Line) (node : Node) → Stands lines node n → (l : Line) (ls : List Line) → lines ≡ l ∷ ls → IsNode n lines node }
+    ensures complete { (n : ℕ) (lines : List Line) (node : Node) → IsNode n lines node → Stands lines node n }
+{}
+
+/// Lines exchanged at a path change the node at that path alone.
+pub fn exchanged()
+    ensures { Exchanged }
+{}

@@ -1,0 +1,28 @@
+//! Block nodes of YAML by the indentation of their lines: what lines stand for, and what is asked of them.
+#![tactic(auto)]
+
+mod anchors;
+mod body;
+mod bound;
+mod content;
+mod ends;
+mod fault;
+mod find;
+mod laws;
+mod line;
+mod line_at;
+mod line_in;
+mod lined;
+mod names;
+mod nested;
+mod sound;
+
+pub use body::{Body, Named, Under, first_anchor, line_node, lines_node};
+pub use content::{content_of, plain_head};
+pub use ends::{is_deeper, level};
+pub use fault::lines_fault;
+pub use find::{find_item, find_key};
+pub use laws::{exchanged, one_node, rules};
+pub use line::{Content, Head, Line, Mark};
+pub use lined::Lined;
+pub use sound::Flaw;

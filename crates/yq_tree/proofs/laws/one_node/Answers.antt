@@ -1,5 +1,0 @@
-use Rattle.yq_tree.proofs.Unique.{one_node}
-use Rattle.yq_tree.proofs.laws.one_node.Goals as goal
-
-pub returns : goal.returns
-returns c = one_node
