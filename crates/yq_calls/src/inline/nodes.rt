@@ -1,5 +1,5 @@
-//! Inline nodes at paths, by the events of the standard's test suite, and where they stand. The examples are those
-//! of YAML 1.2.2, chapter 7.4.
+//! Inline nodes at paths, by the events of the standard's test suite, and where they stand. The
+//! examples are those of YAML 1.2.2, chapter 7.4.
 
 use super::reading::in_block;
 use super::shown::{places, shown};
@@ -20,8 +20,8 @@ const ITEMS: &str = "k: [a, {\"b\":1, c: }, *x,]";
 
 const ANCHORS: &str = "[&x , b, &y \n 'c']";
 
-/// The text, where the node begins, a path in it (a name is a key, and `#` with a digit an index), the events of the
-/// node there, and its places.
+/// The text, where the node begins, a path in it (a name is a key, and `#` with a digit an index),
+/// the events of the node there, and its places.
 static NODES: [(&str, usize, &[&str], &str, &str); 30] = [
     (
         SEQUENCES,

@@ -4,8 +4,8 @@ use std::alloc::Global;
 use yq_inline::{Inline, read_inline};
 use yq_scalar::{Place, ReadError};
 
-/// The node of a flow collection that begins at an offset, with so many collections round it. Nothing where no
-/// character begins there.
+/// The node of a flow collection that begins at an offset, with so many collections round it. Nothing
+/// where no character begins there.
 pub(crate) fn in_flow(
     alloc: Global,
     text: &str,

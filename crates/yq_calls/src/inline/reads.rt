@@ -71,7 +71,8 @@ fn end_of(node: Option<Inline<'_>>) -> Option<usize> {
     }
 }
 
-/// Where the node in front of a text ends, in a flow collection or not, with so many collections round it.
+/// Where the node in front of a text ends, in a flow collection or not, with so many collections
+/// round it.
 fn ends(alloc: Global, text: &str, flow: bool, depth: usize) -> Result<Option<usize>, ReadError> {
     if flow {
         Ok(end_of(in_flow(alloc, text, 0, depth)?))
@@ -99,7 +100,8 @@ const TOO_DEEP: Result<Option<usize>, ReadError> = Err(ReadError::Fault(ReadFaul
     line: 1,
 }));
 
-/// What is repeated, how often, what closes each, how many collections stand round the node, and where it ends.
+/// What is repeated, how often, what closes each, how many collections stand round the node, and
+/// where it ends.
 static DEEP: [(&str, usize, &str, usize, Result<Option<usize>, ReadError>); 7] = [
     ("[", 1, "]", DEPTH_LIMIT - 1, Ok(Some(2))),
     ("[", 1, "]", DEPTH_LIMIT, TOO_DEEP),

@@ -4,8 +4,8 @@ use std::alloc::{AllocError, Global};
 use yq_inline::{Entry, Form, Inline};
 use yq_scalar::{Piece, Scalar, Style};
 
-/// The events of the node: `+SEQ []`, `-SEQ`, `+MAP {}`, `-MAP`, `=ALI *x`, and `=VAL` with the anchor,
-/// if there is one, a sign of the style and the text.
+/// The events of the node: `+SEQ []`, `-SEQ`, `+MAP {}`, `-MAP`, `=ALI *x`, and `=VAL` with the
+/// anchor, if there is one, a sign of the style and the text.
 pub(crate) fn shown(alloc: Global, node: &Inline<'_>) -> Result<String, AllocError> {
     let mut out = String::new(alloc);
     push_node(&mut out, node)?;
@@ -92,8 +92,8 @@ fn push_span(alloc: Global, out: &mut String, span: (usize, usize)) -> Result<()
     out.push_str(text.as_str())
 }
 
-/// Where an item or entry stands: its key with a sign of the style and the key's place, or `-`; its place, and
-/// that of its content, if it has one.
+/// Where an item or entry stands: its key with a sign of the style and the key's place, or `-`; its
+/// place, and that of its content, if it has one.
 pub(crate) fn places(alloc: Global, entry: &Entry<'_, '_>) -> Result<String, AllocError> {
     let mut out = String::new(alloc);
     match entry.key {

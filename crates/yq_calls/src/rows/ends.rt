@@ -4,8 +4,8 @@ use std::alloc::{AllocError, Global};
 use std::test::Fail;
 use yq_rows::{Rows, scan};
 
-/// The text; of each part how many rows stand before its end, the gap there, and the marker's line; and what stands
-/// before the gap of each row, and at the end.
+/// The text; of each part how many rows stand before its end, the gap there, and the marker's line;
+/// and what stands before the gap of each row, and at the end.
 static ENDS: [(&str, &[(usize, &str, &str)], &[&str]); 12] = [
     ("", &[(0, "", "")], &[""]),
     ("# hi", &[(0, "# hi", "")], &["# hi"]),

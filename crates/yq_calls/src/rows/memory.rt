@@ -9,8 +9,8 @@ use yq_scalar::ReadError;
 const TEXT: &str =
     "a: [b, {c: \"d\"}]\n---\n- e\n- f\n- g\n- h\n- i\n- j\n- k\n- l\n- m\n- n\n- o\n";
 
-/// How often memory is refused until the text is read, with all memory held at first and a block given back each
-/// time. Nothing where it isn't read, or not whole.
+/// How often memory is refused until the text is read, with all memory held at first and a block
+/// given back each time. Nothing where it isn't read, or not whole.
 fn times_refused(alloc: Global) -> Result<Option<u32>, AllocError> {
     let mut held = all_memory(alloc)?;
     'turns: for turn in 0..4096u32 {

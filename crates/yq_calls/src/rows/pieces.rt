@@ -6,8 +6,8 @@ use std::process::Abort;
 use std::test::Fail;
 use yq_rows::{Row, scan};
 
-/// What is asked of a row: gap, column, dashes, key, colon, space, anchor, apart, head, tail and raw lines, or one
-/// piece alone.
+/// What is asked of a row: gap, column, dashes, key, colon, space, anchor, apart, head, tail and raw
+/// lines, or one piece alone.
 #[derive(Clone, Copy, Debug)]
 pub(crate) enum Asked {
     Pieces,

@@ -6,8 +6,8 @@ use yq_rows::{KEY_LIMIT, scan};
 use yq_scalar::characters::TEXT_LIMIT;
 use yq_scalar::{FaultKind, ReadError, ReadFault};
 
-/// The text, and from which length on which of its prefixes are refused. Where that is the whole text alone, rows
-/// are read of which no tree is made.
+/// The text, and from which length on which of its prefixes are refused. Where that is the whole text
+/// alone, rows are read of which no tree is made.
 static PREFIXES: [(&str, usize, &[usize]); 16] = [
     ("name: web # main\nport: 8080\n", 0, &[]),
     ("- a: 1\n  # about b\n  b: 2\n", 0, &[]),
@@ -63,8 +63,8 @@ fn prefixes_of_texts(rt: HostRuntime) -> Result<(), Fail> {
     Ok(())
 }
 
-/// What is in front, what is repeated, how often, what stands behind that, what closes each, and why the text is
-/// refused, if it is.
+/// What is in front, what is repeated, how often, what stands behind that, what closes each, and why
+/// the text is refused, if it is.
 static LONG: [(&str, &str, usize, &str, &str, Option<(FaultKind, u64)>); 20] = [
     ("", "k", KEY_LIMIT, ": 1\n", "", None),
     ("", "é", KEY_LIMIT, ": 1\n", "", None),

@@ -1,12 +1,13 @@
-//! Block scalars that are written, and gaps made fit to stand behind one. Memory is taken once, for as many
-//! bytes as are known to be enough.
+//! Block scalars that are written, and gaps made fit to stand behind one. Memory is taken once, for
+//! as many bytes as are known to be enough.
 
 use super::reading::{Reader, content_at, read};
 use std::alloc::{AllocError, Global};
 use std::test::Fail;
 use yq_scalar::{Break, Place, repair, write_block};
 
-/// The content, its indentation, the break, and the header on a line of its own with the raw lines behind it.
+/// The content, its indentation, the break, and the header on a line of its own with the raw lines
+/// behind it.
 static WRITTEN: [(&str, usize, Break, &str); 9] = [
     ("echo b\n", 4, Break::Lf, "|\n    echo b\n"),
     ("x", 1, Break::Lf, "|-\n x\n"),
@@ -53,7 +54,8 @@ fn written_blocks(rt: HostRuntime) -> Result<(), Fail> {
     Ok(())
 }
 
-/// The text whose block scalar is in front, the column of the row behind the gap, the gap, and the repaired one.
+/// The text whose block scalar is in front, the column of the row behind the gap, the gap, and the
+/// repaired one.
 static REPAIRED: [(&str, usize, &str, &str); 11] = [
     ("|\n  x\n", 0, "", ""),
     ("|\n  x\n", 0, "\n  \n   \n \t\n", "\n  \n\n\n"),
@@ -68,7 +70,8 @@ static REPAIRED: [(&str, usize, &str, &str); 11] = [
     ("|\n  x\n", 1, "\n   # c\n", "\n # c\n"),
 ];
 
-/// The repaired gap, behind the block scalar in front of a text, and for how many bytes memory was taken.
+/// The repaired gap, behind the block scalar in front of a text, and for how many bytes memory was
+/// taken.
 fn repaired(
     alloc: Global,
     text: &str,

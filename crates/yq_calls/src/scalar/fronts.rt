@@ -1,4 +1,5 @@
-//! Characters, breaks, white space and plain scalars in front of texts (YAML 1.2.2, chapters 5, 6 and 7.3.3).
+//! Characters, breaks, white space and plain scalars in front of texts (YAML 1.2.2, chapters 5, 6 and
+//! 7.3.3).
 
 use yq_scalar::characters::{char_count, has_text_chars, is_text};
 use yq_scalar::lines::{line_len, split_at_break, split_line, text_len};

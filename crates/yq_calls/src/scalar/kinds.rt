@@ -105,8 +105,8 @@ pub(crate) fn scalar_of(alloc: Global, made: Made, text: &str) -> Result<Scalar,
     }
 }
 
-/// How a scalar is made, of which text, its kind, its text, and another plain text whose scalar is the same,
-/// or isn't.
+/// How a scalar is made, of which text, its kind, its text, and another plain text whose scalar is
+/// the same, or isn't.
 static SCALARS: [(Made, &str, Kind, &str, &str, bool); 11] = [
     (Made::Plain, "~", Kind::Null, "null", "NULL", true),
     (Made::Plain, "", Kind::Null, "null", "~", true),

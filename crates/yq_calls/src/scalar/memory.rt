@@ -8,8 +8,9 @@ use std::alloc::{AllocError, Global};
 use std::test::Fail;
 use yq_scalar::{Break, Place, Style, repair, write_block};
 
-/// A call that takes memory: the content of the scalar in front of a text, the raw lines of a text, the text as a
-/// repaired gap behind a block scalar, the text in a style, and the scalar that is made of it.
+/// A call that takes memory: the content of the scalar in front of a text, the raw lines of a text,
+/// the text as a repaired gap behind a block scalar, the text in a style, and the scalar that is made
+/// of it.
 #[derive(Clone, Copy, Debug)]
 enum Call {
     Content,
@@ -36,7 +37,8 @@ fn called(alloc: Global, call: Call, text: &str) -> Result<Option<String>, Alloc
     }
 }
 
-/// The text, its content, and for how many bytes memory is taken: for more only if it was taken twice.
+/// The text, its content, and for how many bytes memory is taken: for more only if it was taken
+/// twice.
 static CONTENTS: [(&str, &str, usize); 6] = [
     ("a\n b\n\n c", "a b\nc", 8),
     ("'it''s'", "it's", 5),

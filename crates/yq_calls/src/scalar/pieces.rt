@@ -4,8 +4,8 @@ use super::reading::{Reader, read};
 use yq_scalar::piece::inline_piece;
 use yq_scalar::{Piece, Place, Style};
 
-/// The text, where a plain scalar begins, its place, its parent's indentation, and the scalar as it is
-/// written (YAML 1.2.2, section 7.3.3).
+/// The text, where a plain scalar begins, its place, its parent's indentation, and the scalar as it
+/// is written (YAML 1.2.2, section 7.3.3).
 static PLAIN: [(&str, usize, Place, i64, &str); 36] = [
     ("::vector\n- x", 0, Place::Block, 0, "::vector"),
     (
@@ -77,9 +77,9 @@ static QUOTED: [(&str, usize, Style, &str); 9] = [
     ("'it''s': \"a\\\n  b\"", 9, Style::Double, "\"a\\\n  b\""),
 ];
 
-/// The text, where a block scalar begins, its parent's indentation, its style, where its header and its raw
-/// lines begin and end, its text's indentation, and whether it keeps trailing empty lines (YAML 1.2.2,
-/// section 8.1).
+/// The text, where a block scalar begins, its parent's indentation, its style, where its header and
+/// its raw lines begin and end, its text's indentation, and whether it keeps trailing empty lines
+/// (YAML 1.2.2, section 8.1).
 static BLOCK: [(&str, usize, i64, Style, [usize; 4], usize, bool); 16] = [
     (
         ">\n  a\n  b\n\n  c\n   d\n  e\n",

@@ -3,8 +3,8 @@
 use std::alloc::{AllocError, Global};
 use yq_scalar::{FaultKind, Piece, Place, content, read_block, read_plain, read_quoted};
 
-/// How a scalar is read: the plain one of a place, below a parent of this indentation, the quoted one,
-/// or the block scalar below a parent of this indentation.
+/// How a scalar is read: the plain one of a place, below a parent of this indentation, the quoted
+/// one, or the block scalar below a parent of this indentation.
 #[derive(Clone, Copy, Debug)]
 pub(crate) enum Reader {
     Plain(Place, i64),

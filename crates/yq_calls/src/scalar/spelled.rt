@@ -1,6 +1,6 @@
-//! What the scalars of the examples of YAML 1.2.2, chapters 5 to 8, stand for, where they stand in their
-//! texts, as far as they are of the profile. Each row is a text, where a scalar begins, its parent's
-//! indentation, and its content.
+//! What the scalars of the examples of YAML 1.2.2, chapters 5 to 8, stand for, where they stand in
+//! their texts, as far as they are of the profile. Each row is a text, where a scalar begins, its
+//! parent's indentation, and its content.
 
 use super::examples::{
     ALIAS_NODES, BLOCK_MAPPINGS, BLOCK_SCALAR_HEADER, BLOCK_SCALAR_INDICATORS, BLOCK_SEQUENCE,

@@ -6,8 +6,8 @@ use std::alloc::{AllocError, Global};
 use std::test::Fail;
 use yq_scalar::{Place, Scalar, Style, can_write, write_scalar};
 
-/// The string, and whether it can be written plain outside flow collections, plain in them, in single quotes,
-/// and literal. In double quotes each string can.
+/// The string, and whether it can be written plain outside flow collections, plain in them, in single
+/// quotes, and literal. In double quotes each string can.
 static STRINGS: [(&str, bool, bool, bool, bool); 35] = [
     ("a, b", true, false, true, true),
     ("a", true, true, true, true),
@@ -62,7 +62,8 @@ fn styles(scalar: &Scalar, place: Place) -> [bool; 5] {
     ]
 }
 
-/// The same as a node outside flow collections, as a key there, in a flow collection, and as a key there.
+/// The same as a node outside flow collections, as a key there, in a flow collection, and as a key
+/// there.
 fn places(scalar: &Scalar) -> [[bool; 5]; 4] {
     [
         styles(scalar, Place::Block),
