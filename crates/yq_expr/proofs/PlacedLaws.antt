@@ -10,7 +10,7 @@ use Rattle.yq_inline.specs.declared.value.Value.TheVariants as values
 use Rattle.yq_rows.specs.Rows.{Cut}
 use Rattle.yq_tree.specs.ScalarPlaces.{ScalarPlace, place_at}
 use Rattle.yq_tree.specs.Told.{place_telling, place_told}
-use Rattle.yq_tree.specs.declared.scalar_place.ScalarPlace as declared
+use Rattle.yq_tree.specs.declared.places.scalar_place.ScalarPlace as declared
 use Rattle.yq_expr.specs.Judgement.{gives}
 use Rattle.yq_expr.specs.Operations.{Operation, replace}
 use Rattle.yq_expr.specs.Plan.{replace_placed}

@@ -6,7 +6,7 @@ use Rattle.yq_scalar.specs.Paths as paths
 use Rattle.yq_inline.specs.declared.path.Step as tree_steps
 use Rattle.yq_inline.specs.Entries.{step_of as tree_step}
 use Rattle.yq_rows.specs.Rows.{Cut}
-use Rattle.yq_tree.specs.declared.node.Node as nodes
+use Rattle.yq_tree.specs.declared.nodes.node.Node as nodes
 use Rattle.yq_tree.specs.Documents.{Document}
 use Rattle.yq_tree.specs.Nodes.{node_of}
 use Rattle.yq_tree.specs.Reading.{documents}

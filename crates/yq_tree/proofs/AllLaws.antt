@@ -29,7 +29,7 @@ use Rattle.yq_lines.specs.View.{views}
 use Rattle.yq_tree.proofs.HeadsApart.{heads_apart}
 use Rattle.yq_tree.proofs.ReadLaws.{cut_is, text_again}
 use Rattle.yq_tree.proofs.RowLineLaws.{not_fit}
-use Rattle.yq_tree.specs.declared.checks.DocumentLines.{DocumentLines}
+use Rattle.yq_tree.specs.declared.reading.checks.DocumentLines.{DocumentLines}
 
 -- the anchors of rows are apart from their heads
 with_apart : (is : Bool) (p : Part) (ps : List Part) → HaveHeadsApart (lines_of p.rows) → AllApart (all_lined ps) → AllApart (all_lined (with_part is p ps))

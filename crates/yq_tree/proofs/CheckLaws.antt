@@ -6,7 +6,7 @@ use Rattle.yq_scalar.specs.declared.fault.ReadError.{ReadError}
 use Rattle.yq_scalar.specs.declared.fault.ReadError.TheVariants as errors
 use Rattle.yq_scalar.specs.Answers.{Fails}
 use Rattle.yq_scalar.proofs.Bools.{guard_some}
-use Rattle.yq_tree.specs.declared.part_lines.PartLines.{PartLines}
+use Rattle.yq_tree.specs.declared.reading.part_lines.PartLines.{PartLines}
 use Rattle.yq_tree.specs.FlowReading.{lines_flows, parts_lines_flows}
 use Rattle.yq_lines.specs.LinesReading.{lines_are_sound}
 use Rattle.yq_lines.specs.Names.{HaveHeadsApart}
@@ -14,7 +14,7 @@ use Rattle.yq_tree.specs.PartReading.{Lined, document_view, lined_view, lined_vi
 use Rattle.yq_tree.specs.SoundReading.{if_sound, all_sound, if_all_sound, AllApart, document_views}
 use Rattle.yq_lines.specs.View.{views, flows}
 use Rattle.yq_tree.proofs.RowLineLaws.{not_fit}
-use Rattle.yq_tree.specs.declared.checks.DocumentLines.{DocumentLines}
+use Rattle.yq_tree.specs.declared.reading.checks.DocumentLines.{DocumentLines}
 
 -- The documents so far and the parts that are left are those parts, whose lines are sound where those left are.
 pub record LeftChecks (all left : List Lined) (docs : List Lined) : Type 0 where

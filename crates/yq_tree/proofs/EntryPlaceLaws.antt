@@ -32,7 +32,7 @@ use Rattle.yq_tree.proofs.HeldFlows.{held_flows}
 use Rattle.yq_tree.proofs.RowStarts.{line_begins}
 use Rattle.yq_tree.proofs.SeatLaws.{part_begins, part_at, none_past, held_begin}
 use Rattle.yq_lines.proofs.Values.{If}
-use Rattle.yq_tree.specs.declared.checks.DocumentLines.{DocumentLines}
+use Rattle.yq_tree.specs.declared.reading.checks.DocumentLines.{DocumentLines}
 
 -- a line is one of its row, and that is one of the rows
 abbrev IsSeated : List Row → Seat → Type 0

@@ -15,7 +15,7 @@ use Rattle.yq_lines.specs.View.{flows}
 use Rattle.yq_tree.specs.Reading.{cut_of}
 use Rattle.yq_tree.specs.Seats.{Seat, behind_one, seat, rows_before, document_row}
 use Rattle.yq_tree.specs.SoundReading.{Holds}
-use Rattle.yq_tree.specs.declared.checks.DocumentLines.{DocumentLines}
+use Rattle.yq_tree.specs.declared.reading.checks.DocumentLines.{DocumentLines}
 
 -- lists, one behind another
 get_back : {A : Type 0} (xs ys : List A) (n : ℕ) → length xs ≤ n → slice_get (xs ++ ys) n ≡ slice_get ys (n - length xs)

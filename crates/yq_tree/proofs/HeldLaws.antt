@@ -20,7 +20,7 @@ use Rattle.yq_tree.specs.Written.{written_at}
 use Rattle.yq_tree.proofs.AllLaws.{count_held}
 use Rattle.yq_tree.proofs.OneDocument.{rows_of_one}
 use Rattle.yq_tree.proofs.RowPathLaws.{document_fine}
-use Rattle.yq_tree.specs.declared.checks.DocumentLines.{DocumentLines}
+use Rattle.yq_tree.specs.declared.reading.checks.DocumentLines.{DocumentLines}
 
 one_part : (ds : List DocumentLines) (ps : List Part) (d : DocumentLines) → d ≡ get_or ds 0 d → length ds ≡ 1 → map document_view ds ≡ map lined ps → (p : Part) × (ps ≡ p ∷ []) × (document_view d ≡ lined p)
 one_part [] ps d is one e = absurd (cc)

@@ -24,7 +24,7 @@ use Rattle.yq_tree.specs.SoundReading.{Holds}
 use Rattle.yq_tree.proofs.CountLaws.{AreCounted, cut_counted}
 use Rattle.yq_lines.proofs.Parts.{drop_at}
 use Rattle.yq_tree.proofs.PartsLinedLaws.{document_is}
-use Rattle.yq_tree.specs.declared.checks.DocumentLines.{DocumentLines}
+use Rattle.yq_tree.specs.declared.reading.checks.DocumentLines.{DocumentLines}
 
 -- a line of rows, in front of other rows
 lines_count : (above : List (List ℕ)) (column : ℕ) (ns : List ℕ) (m : rows.Mark) (x : Content) → length (lines_from above column ns m x) ≡ suc (length ns)

@@ -18,7 +18,7 @@ use Rattle.yq_tree.specs.Seats.{Seat, behind_one, seat, seat_of, seat_at, docume
 use Rattle.yq_tree.specs.SoundReading.{Holds}
 use Rattle.yq_tree.proofs.SeatLaws.{part_begins}
 use Rattle.yq_lines.proofs.Values.{If}
-use Rattle.yq_tree.specs.declared.checks.DocumentLines.{DocumentLines}
+use Rattle.yq_tree.specs.declared.reading.checks.DocumentLines.{DocumentLines}
 
 -- the row of a line
 seat_row : (n : ℕ) (rs : List Row) → If (seat n rs) (λ s. slice_get rs s.before ≡ Some s.row)

@@ -11,7 +11,7 @@ use Rattle.yq_scalar.specs.Tree as tree
 use Rattle.yq_scalar.proofs.Bools.{guard_then}
 use Rattle.yq_inline.specs.Scalars.{scalar_of}
 use Rattle.yq_rows.specs.Grammar.{IsCut}
-use Rattle.yq_tree.specs.declared.node.NodeKind.TheVariants as kinds
+use Rattle.yq_tree.specs.declared.nodes.node.NodeKind.TheVariants as kinds
 use Rattle.yq_tree.specs.Documents.{Document}
 use Rattle.yq_tree.specs.Extents.{scalar_span}
 use Rattle.yq_tree.specs.Nodes.{kind_of, text_of}

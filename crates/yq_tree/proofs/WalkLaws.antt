@@ -5,7 +5,7 @@ use Rattle.yq_inline.specs.declared.path.Step as step
 use Rattle.yq_inline.specs.Entries.{step_of}
 use Rattle.yq_scalar.specs.Paths.{Step, child_at, node_at}
 use Rattle.yq_scalar.specs.Tree.{Node, children_of}
-use Rattle.yq_tree.specs.declared.node.Node as declared
+use Rattle.yq_tree.specs.declared.nodes.node.Node as declared
 use Rattle.yq_lines.specs.Labelled.{Labelled, labelled_at, labelled_from}
 use Rattle.yq_tree.specs.Nodes.{node_of, labelled_of}
 use Rattle.yq_lines.proofs.LabelledLaws.{labelled_child, labelled_path}

@@ -4,9 +4,9 @@ use Rattle.yq_scalar.specs.Tree.{Children, none, child}
 use Rattle.yq_inline.specs.Trees.{parts_tree}
 use Rattle.yq_inline.specs.View.{entries_end, items_end}
 use Rattle.yq_lines.specs.declared.body.Under.{Under}
-use Rattle.yq_tree.specs.declared.children.Children as declared
-use Rattle.yq_tree.specs.declared.children.Rest as rests
-use Rattle.yq_tree.specs.declared.node.Node.{Node}
+use Rattle.yq_tree.specs.declared.nodes.children.Children as declared
+use Rattle.yq_tree.specs.declared.nodes.children.Rest as rests
+use Rattle.yq_tree.specs.declared.nodes.node.Node.{Node}
 use Rattle.yq_tree.specs.Nodes.{node_of, label_of}
 use Rattle.yq_lines.specs.View.{views}
 use Rattle.yq_lines.specs.Bodies.{under_of}

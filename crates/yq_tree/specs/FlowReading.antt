@@ -9,13 +9,13 @@ use Rattle.yq_inline.specs.Places.{Placed, placed, Content, nothing, name, text,
 use Rattle.yq_rows.specs.Grammar.{begins_document}
 use Rattle.yq_rows.specs.Rows as rows
 use Rattle.yq_rows.specs.Rows.{Row, rows_text, Part, Cut, last, marked, cut_text}
-use Rattle.yq_tree.specs.declared.part_lines.PartLines.{PartLines}
+use Rattle.yq_tree.specs.declared.reading.part_lines.PartLines.{PartLines}
 use Rattle.yq_tree.specs.Documents.{begins_bare, has_begin}
 use Rattle.yq_tree.specs.Lines.{tail_of}
 use Rattle.yq_tree.specs.PartReading.{Marked, parts_text}
 use Rattle.yq_tree.specs.RowReading.{begins_block, is_short_plain}
 use Rattle.yq_lines.specs.View.{flows}
-use Rattle.yq_tree.specs.declared.checks.DocumentLines.{DocumentLines}
+use Rattle.yq_tree.specs.declared.reading.checks.DocumentLines.{DocumentLines}
 
 -- a node by its content, if it is an alias or a flow collection (own)
 abbrev pub kept_by : Placed → Content → Option Placed

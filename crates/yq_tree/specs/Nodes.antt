@@ -2,10 +2,10 @@
 use Rattle.std.specs.Prelude.{List, [], ℕ, Option, None}
 use Rattle.yq_scalar.specs.Tree.{Label, Node, alias, scalar, list, map}
 use Rattle.yq_inline.specs.Trees.{inner}
-use Rattle.yq_tree.specs.declared.node.Node as declared
-use Rattle.yq_tree.specs.declared.node.NodeKind.{NodeKind}
-use Rattle.yq_tree.specs.declared.node.NodeKind.TheVariants as kinds
-use Rattle.yq_tree.specs.declared.node.Slot as slots
+use Rattle.yq_tree.specs.declared.nodes.node.Node as declared
+use Rattle.yq_tree.specs.declared.nodes.node.NodeKind.{NodeKind}
+use Rattle.yq_tree.specs.declared.nodes.node.NodeKind.TheVariants as kinds
+use Rattle.yq_tree.specs.declared.nodes.node.Slot as slots
 use Rattle.yq_lines.specs.Bodies.{lent, named_node}
 use Rattle.yq_lines.specs.Labelled.{Labelled}
 use Rattle.yq_lines.specs.Outline as outline

@@ -5,13 +5,13 @@ use Rattle.yq_lines.specs.Comments.{head_comment}
 use Rattle.yq_rows.specs.Grammar.{Limit, unlimited, AreRows, begins_document}
 use Rattle.yq_rows.specs.Rows.{Row, rows_text, Part, part_text}
 use Rattle.yq_rows.specs.View.{Slices, slices, Bound}
-use Rattle.yq_tree.specs.declared.part_lines.PartLines.{PartLines}
+use Rattle.yq_tree.specs.declared.reading.part_lines.PartLines.{PartLines}
 use Rattle.yq_tree.specs.Documents.{lead_of, with_part}
 use Rattle.yq_tree.specs.Lines.{lines_of}
 use Rattle.yq_lines.specs.Outline.{Line}
 use Rattle.yq_tree.specs.Reading.{have_fit_keys, has_short_root}
 use Rattle.yq_lines.specs.View.{views}
-use Rattle.yq_tree.specs.declared.checks.DocumentLines.{DocumentLines}
+use Rattle.yq_tree.specs.declared.reading.checks.DocumentLines.{DocumentLines}
 
 -- The first n of these pieces are those of rows in front of a text, behind which the gap behind the last one and a rest stand.
 pub record HasRows (n : ℕ) (ss : List Slices) (t : List ℕ) : Type 0 where

@@ -23,7 +23,7 @@ use Rattle.yq_tree.specs.KeyReading.{node_fits}
 use Rattle.yq_tree.specs.Lines.{dash_line, row_lines}
 use Rattle.yq_lines.specs.Outline.{Mark, Bare, Key, Dash, Line}
 use Rattle.yq_tree.specs.Reading.{mark_is_fit, content_is_fit}
-use Rattle.yq_tree.specs.declared.front.Front.{Front}
+use Rattle.yq_tree.specs.declared.reading.front.Front.{Front}
 
 -- what a placed node is as a head, by its content (own)
 abbrev pub form_head : Placed → Content → Option tree.Node

@@ -2,7 +2,7 @@
 use Rattle.std.specs.Prelude.{ℕ, zero, suc, ◌+◌, ◌-◌, nat_lt, Bool, true, false, List, [], ◌∷◌, length, Option, Some, None, option_map, if◌then◌else◌}
 use Rattle.yq_rows.specs.Grammar.{begins_document}
 use Rattle.yq_rows.specs.View.{Slices, Bound}
-use Rattle.yq_tree.specs.declared.seat.Seat as declared
+use Rattle.yq_tree.specs.declared.places.seat.Seat as declared
 use Rattle.yq_tree.specs.Extents.{lines_before_mark}
 use Rattle.yq_tree.specs.Seats.{Seat}
 

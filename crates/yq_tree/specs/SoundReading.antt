@@ -8,7 +8,7 @@ use Rattle.yq_lines.specs.LinesReading.{lines_are_sound}
 use Rattle.yq_lines.specs.Names.{HaveHeadsApart}
 use Rattle.yq_tree.specs.PartReading.{Lined, document_view, all_lined}
 use Rattle.yq_tree.specs.Reading.{all_documents, cut_of}
-use Rattle.yq_tree.specs.declared.checks.DocumentLines.{DocumentLines}
+use Rattle.yq_tree.specs.declared.reading.checks.DocumentLines.{DocumentLines}
 
 -- the lead and lines of a part, where the lines are sound (own)
 abbrev pub if_sound : Lined → Option Lined

@@ -10,8 +10,8 @@ use Rattle.yq_lines.specs.Bodies.{lent}
 use Rattle.yq_tree.specs.Reading.{documents, cut_of}
 use Rattle.yq_tree.specs.ScalarPlaces.{ScalarPlace, held}
 use Rattle.yq_tree.specs.Written.{Written}
-use Rattle.yq_tree.specs.declared.scalar_place.ScalarPlace as declared_place
-use Rattle.yq_tree.specs.declared.written.Written as declared
+use Rattle.yq_tree.specs.declared.places.scalar_place.ScalarPlace as declared_place
+use Rattle.yq_tree.specs.declared.places.written.Written as declared
 
 -- the kind and the text that a scalar stands for, the text before it, the scalar as it is written, and the text behind it (own)
 abbrev pub Telling : Type 0

@@ -7,10 +7,10 @@ ghost use Rattle.yq_tree.specs.Reading as spec;
 ghost use Rattle.yq_tree.specs.SoundReading.{Holds};
 ghost use Rattle.yq_tree.specs.Texts.{texts_left};
 
-use crate::checks::DocumentLines;
-use crate::comments::Comments;
-use crate::node::Node;
+use crate::nodes::comments::Comments;
+use crate::nodes::node::Node;
 use crate::path::Path;
+use crate::reading::checks::DocumentLines;
 use std::marker::Model;
 use yq_rows::Rows;
 

@@ -9,9 +9,19 @@ ghost use Rattle.yq_tree.specs.Answers.{IsNotUtf8};
 ghost use Rattle.yq_tree.specs.Documents.{Document, Reads};
 ghost use Rattle.yq_tree.specs.Reading as spec;
 
-use crate::checks::check_parts;
+pub mod checks;
+pub mod documents;
+pub mod fault;
+pub mod fit;
+pub mod flow_keys;
+pub mod front;
+pub mod head;
+pub mod part_lines;
+pub mod row_lines;
+
 use crate::document::Documents;
-use crate::documents::document_lines;
+use crate::reading::checks::check_parts;
+use crate::reading::documents::document_lines;
 use std::alloc::Global;
 use yq_rows::scan;
 use yq_scalar::{FaultKind, ReadError, ReadFault};

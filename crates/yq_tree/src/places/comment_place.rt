@@ -1,0 +1,91 @@
+//! Where the comments of entries and items stand.
+ghost use Rattle.std.specs.Prelude.{◌≡◌, ◌<◌, ◌≤◌, ◌+◌, length, option_map, slice_get, Some};
+ghost use Rattle.yq_scalar.specs.Characters.{text_limit};
+ghost use Rattle.yq_rows.specs.View.{Slices};
+ghost use Rattle.yq_tree.specs.CommentPlaces as places;
+ghost use Rattle.yq_tree.specs.CommentReading as spec;
+ghost use Rattle.yq_tree.specs.Extents as extents;
+ghost use Rattle.yq_tree.specs.Extents.{span, IsShown};
+ghost use Rattle.yq_tree.specs.Reading.{cut_of};
+ghost use Rattle.yq_tree.specs.SeatReading.{told};
+
+use crate::document::Documents;
+use crate::nodes::comments::{is_comment, last_run};
+use crate::path::{Path, Span};
+use crate::places::extent::{front_len, row_start};
+use crate::places::seat::Seat;
+use yq_rows::Rows;
+use yq_scalar::lines::split_at_break;
+use yq_scalar::text::split_white;
+
+/// The place of the comment in a tail that begins at a place.
+fn tail_comment(start: usize, tail: &str) -> Option<Span>
+    requires { start + length tail.now ≤ text_limit }
+    ensures { option_map span result ≡ spec.tail_span start tail.now }
+{
+    if !is_comment(tail) {
+        return None;
+    }
+    let (white, comment) = split_white(tail);
+    let start = start + white.len();
+    let end = start + split_at_break(comment).0.len();
+    Some(Span { start, end })
+}
+
+/// The place of the line comment of a line.
+fn line_comment_in(rows: &Rows<'_>, seat: Seat) -> Option<Span>
+    requires within { seat.row < length rows.now.rows }
+    requires shown { IsShown rows.now }
+    ensures { (x : Slices) → slice_get rows.now.rows seat.row ≡ Some x → option_map span result ≡ spec.line_comment_span (extents.row_start seat.row rows.now) x (told seat) }
+{
+    if seat.line != seat.dashes {
+        return None;
+    }
+    let row = rows.row(seat.row);
+    let start = row_start(rows, seat.row) + front_len(&row) + row.head().len();
+    tail_comment(start, row.tail())
+}
+
+/// The place of the run of comments that ends a gap, where the gap begins at a place.
+fn gap_comment(start: usize, gap: &str) -> Option<Span>
+    requires { start + length gap.now ≤ text_limit }
+    ensures { option_map span result ≡ spec.gap_span start gap.now }
+{
+    let run = last_run(gap);
+    if run.is_empty() {
+        return None;
+    }
+    let end = start + gap.len();
+    let start = end - run.len();
+    Some(Span { start, end })
+}
+
+/// The place of the head comment of a line.
+fn head_comment_in(rows: &Rows<'_>, seat: Seat) -> Option<Span>
+    requires within { seat.row < length rows.now.rows }
+    requires shown { IsShown rows.now }
+    ensures { (x : Slices) → slice_get rows.now.rows seat.row ≡ Some x → option_map span result ≡ spec.head_comment_span (extents.row_start seat.row rows.now) x (told seat) }
+{
+    if seat.line != 0 {
+        return None;
+    }
+    gap_comment(row_start(rows, seat.row), rows.row(seat.row).gap())
+}
+
+impl Documents<'_> {
+    /// The place of the comment behind the entry or item at a path, on the line of its key or dash.
+    pub(crate) fn line_comment_place(&self, path: &Path) -> Option<Span>
+        ensures { option_map span result ≡ places.line_comment_at path.now (cut_of self.now) }
+    {
+        let seat = self.seat(path)?;
+        line_comment_in(&self.rows, seat)
+    }
+
+    /// The place of the run of comments above the entry or item at a path, with the breaks.
+    pub(crate) fn head_comment_place(&self, path: &Path) -> Option<Span>
+        ensures { option_map span result ≡ places.head_comment_at path.now (cut_of self.now) }
+    {
+        let seat = self.seat(path)?;
+        head_comment_in(&self.rows, seat)
+    }
+}

@@ -1,0 +1,124 @@
+//! Where rows and their lines begin and end.
+ghost use Rattle.std.specs.Prelude.{◌≡◌, ◌<◌, ◌≤◌, ◌+◌, ℕ, List, length, slice_get, Some};
+ghost use Rattle.yq_scalar.specs.Characters.{text_limit};
+ghost use Rattle.yq_rows.specs.Grammar.{IsCut};
+ghost use Rattle.yq_rows.specs.Rows.{Cut, Row as RowOf};
+ghost use Rattle.yq_rows.specs.View.{rows_of, shown, Slices, view};
+ghost use Rattle.yq_tree.specs.EntryPlaces as places;
+ghost use Rattle.yq_tree.specs.EntryReading as spec;
+ghost use Rattle.yq_tree.specs.Extents as extents;
+ghost use Rattle.yq_tree.specs.Extents.{IsShown, span};
+
+use crate::path::Span;
+use crate::places::extent::{head_place, row_start};
+use crate::places::seat::Seat;
+use crate::reading::head::begins_block;
+use yq_rows::{Row, Rows};
+
+/// How far it is to the dash before which so many others stand, or to the end, in bytes.
+#[tactic(auto, unfolding(crate::specs::EntryReading::dash_at))]
+fn dash_at(dashes: &[u8], count: usize) -> usize
+    ensures value { result ≡ spec.dash_at count dashes.now }
+    ensures within { result ≤ length dashes.now }
+{
+    let mut at = 0;
+    let mut left = count;
+    let mut rest = dashes;
+    'each: while let [first, after @ ..] = rest {
+        if *first == b'-' {
+            if left == 0 {
+                return at;
+            }
+            left -= 1;
+        }
+        at += 1;
+        rest = after;
+    }
+    at
+}
+
+/// Where a line begins, in bytes: at its dash, its key or its head.
+pub(crate) fn line_start(rows: &Rows<'_>, seat: Seat) -> usize
+    requires within { seat.row < length rows.now.rows }
+    requires shown { IsShown rows.now }
+    ensures { (x : Slices) → slice_get rows.now.rows seat.row ≡ Some x → result ≡ spec.line_begin (extents.row_start seat.row rows.now) x seat.line }
+{
+    let row = rows.row(seat.row);
+    let dash = dash_at(row.dashes().as_bytes(), seat.line);
+    row_start(rows, seat.row) + row.gap().len() + row.column() + dash
+}
+
+/// Whether this is a break, and nothing is behind it.
+fn is_last_break(text: &[u8]) -> bool
+    ensures { result ≡ places.is_last_break text.now }
+{
+    matches!(text, [b'\n'] | [b'\r', b'\n'])
+}
+
+/// How long a text is less the break that ends it, in bytes.
+#[tactic(auto, unfolding(crate::specs::EntryPlaces::less_break))]
+fn less_break_len(text: &[u8]) -> usize
+    ensures value { result ≡ length (places.less_break text.now) }
+    ensures within { result ≤ length text.now }
+{
+    let mut n = 0;
+    let mut rest = text;
+    'each: while let [_, after @ ..] = rest {
+        if is_last_break(rest) {
+            return n;
+        }
+        n += 1;
+        rest = after;
+    }
+    n
+}
+
+/// How long the tail and the raw lines of a row are less their last break, in bytes.
+fn ending_len(row: &Row<'_>) -> usize
+    requires { length (view row.now).tail + length (view row.now).raw ≤ text_limit }
+    ensures value { result ≡ length (places.ending (view row.now)) }
+    ensures within { result ≤ length (view row.now).tail + length (view row.now).raw }
+{
+    if row.raw().is_empty() {
+        less_break_len(row.tail().as_bytes())
+    } else {
+        row.tail().len() + less_break_len(row.raw().as_bytes())
+    }
+}
+
+/// Where the last line of row `i` ends, in bytes, before its break.
+pub(crate) fn row_end(rows: &Rows<'_>, i: usize) -> usize
+    requires within { i < length rows.now.rows }
+    requires shown { IsShown rows.now }
+    ensures { (c : Cut) → rows.now ≡ shown c → (r : RowOf) → slice_get (rows_of c) i ≡ Some r → result ≡ length (places.through_row i r c) }
+{
+    let (_, end) = head_place(rows, i);
+    end + ending_len(&rows.row(i))
+}
+
+/// Where what a head spells ends, in bytes, by where it ends on its first line: a block scalar ends
+/// behind its last line.
+fn head_end(row: &Row<'_>, end: usize) -> usize
+    requires { end + (length (view row.now).tail + length (view row.now).raw) ≤ text_limit }
+    ensures { result ≡ spec.head_finish end (view row.now) }
+{
+    if begins_block(row.head().as_bytes()) {
+        end + row.tail().len() + row.raw().len()
+    } else {
+        end
+    }
+}
+
+/// The place of the head of row `i`, without its anchor.
+pub(crate) fn head_extent(rows: &Rows<'_>, i: usize) -> Span
+    requires within { i < length rows.now.rows }
+    requires shown { IsShown rows.now }
+    ensures { (t : List ℕ) (c : Cut) → IsCut t c → rows.now ≡ shown c → (r : RowOf) → slice_get (rows_of c) i ≡ Some r → span result ≡ places.head_extent i r c }
+{
+    let (start, end) = head_place(rows, i);
+    let row = rows.row(i);
+    Span {
+        start,
+        end: head_end(&row, end),
+    }
+}
