@@ -7,6 +7,7 @@ pub mod Decides
 pub mod EndsLaws
 pub mod EntryLaws
 pub mod Finding
+pub mod HeadLaws
 pub mod KeyLaws
 pub mod LabelPaths
 pub mod LabelledLaws

@@ -1,6 +1,8 @@
 //! Laws on the lines of block nodes, for the crates above.
-ghost use Rattle.std.specs.Prelude.{◌≡◌, ℕ, List, ◌∷◌};
+ghost use Rattle.std.specs.Prelude.{◌≡◌, ℕ, Bool, List, [], ◌∷◌, ◌++◌};
+ghost use Rattle.yq_scalar.specs.BlockRepair.{AreGap, repair};
 ghost use Rattle.yq_scalar.specs.Tree.{Node};
+ghost use Rattle.yq_lines.specs.Comments.{last_comments};
 ghost use Rattle.yq_lines.specs.Outline.{Line, Stands};
 ghost use Rattle.yq_lines.specs.Grammar.{IsNode};
 ghost use Rattle.yq_lines.specs.Laws.{Exchanged};
@@ -19,4 +21,11 @@ pub fn rules()
 /// Lines exchanged at a path change the node at that path alone.
 pub fn exchanged()
     ensures { Exchanged }
+{}
+
+/// The comment lines that end lines, in front of which others stand that end in none, are those of
+/// the lines alone; repair leaves them.
+pub fn heads_joined()
+    ensures behind { (ls ms : List (List ℕ)) → last_comments ls ≡ [] → last_comments (ls ++ ms) ≡ last_comments ms }
+    ensures repaired { (keep : Bool) (m column : ℕ) (ls : List (List ℕ)) → AreGap ls → last_comments (repair keep m column ls) ≡ last_comments ls }
 {}

@@ -22,7 +22,7 @@ pub use content::{content_of, plain_head};
 pub use ends::{is_deeper, level};
 pub use fault::lines_fault;
 pub use find::{find_item, find_key};
-pub use laws::{exchanged, one_node, rules};
+pub use laws::{exchanged, heads_joined, one_node, rules};
 pub use line::{Content, Head, Line, Mark};
 pub use lined::Lined;
 pub use sound::Flaw;

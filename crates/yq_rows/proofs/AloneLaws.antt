@@ -11,6 +11,7 @@ use Rattle.yq_rows.specs.Alone.{holds_nothing, FitsAlone}
 use Rattle.yq_rows.specs.Exchange.{with_content, with_content_at, with_content_in, exchange, behind_at, behind_row, rows_behind}
 use Rattle.yq_rows.specs.Grammar.{IsMark, may_be_alone, is_entry, IsRow, Limit, unlimited, limit_after, AreRows, IsPart, begins_document, AreParts, IsCut}
 use Rattle.yq_rows.specs.Rows.{Mark, Bare, Dash, Key, Content, Row, behind_indent, behind_gap, parent_indent, print_row, rows_text, Part, part_text, Cut, last, marked, cut_text}
+use Rattle.yq_rows.specs.Seams.{TakesPlace}
 use Rattle.yq_rows.specs.View.{rows_of}
 use Rattle.yq_rows.proofs.AlikeRows.{row_alike, row_text_alike}
 use Rattle.yq_rows.proofs.ExchangeLaws.{one_row, relimit, slice_front, slice_back, rows_left, CutExchanged, marked_behind}
@@ -47,7 +48,7 @@ bare_row limit above r new rest behind h f = record {
 }
 
 -- the row above it, before both texts
-above_row : (limit : Limit) (above : Row) (t u : List ℕ) → IsRow limit above t → is_entry above.mark ≡ true → is_empty t ≡ false → holds_nothing above.content ≡ true → IsRow limit above u × Alike false (print_row above t) (print_row above u)
+above_row : (limit : Limit) (above : Row) (t u : List ℕ) → IsRow limit above t → is_entry above.mark ≡ true → is_empty t ≡ false → holds_nothing above.content ≡ true → TakesPlace limit above t above u
 above_row limit above t u h entry some nothing =
     let new = content_other (parent_indent above) above.content t u nothing some h.content in
     one_row limit above above.content t u h entry new (content_apart (parent_indent above) above.content t u nothing h.content new (mark_apart above.mark above.content t entry h.mark))
@@ -60,7 +61,7 @@ both_exchanged : (limit : Limit) (above r : Row) (rows : List Row) (end rest : L
 both_exchanged limit above r rows end rest new h f =
     let t : List ℕ = rows_text rows (end ++ rest) in
     let first = above_row limit above (print_row r t) (print_row (with_content new r) t) h.0 f.entry (some_row r t f.indented) f.nothing in
-    ((first.0, (bare_row (limit_after above) above r new t rows h.1.0 f, relimit (limit_after r) (limit_after (with_content new r)) rows end rest f.next h.1.1)), first.1)
+    ((first.row, (bare_row (limit_after above) above r new t rows h.1.0 f, relimit (limit_after r) (limit_after (with_content new r)) rows end rest f.next h.1.1)), first.alike)
 
 under_exchanged : (i : ℕ) (rows : List Row) (limit : Limit) (end rest : List ℕ) (new : Content) (above r : Row) (rs : List Row) → AreRows limit rows end rest → slice_get rows i ≡ Some above → drop (suc i) rows ≡ r ∷ rs →
     FitsAlone new above r (behind_at (suc i) rows (end ++ rest)) rs → RowsExchanged limit (suc i) new rows end rest

@@ -11,7 +11,7 @@ use Rattle.yq_rows.specs.Rows.{Mark, Dash, behind_columns, before_column}
 use Rattle.yq_rows.specs.View.{last_dash}
 use Rattle.yq_rows.proofs.MarkLaws.{dash_is, marks_more, marks_dash, marks_none, spaces_are}
 use Rattle.yq_rows.proofs.PieceLaws.{key_takes}
-use Rattle.yq_rows.proofs.Seams.{seam_take, seam_drop, seam_boundary, seam_join, seam_next}
+use Rattle.yq_rows.proofs.FrontLaws.{front_take, front_drop, front_boundary, front_join, front_next}
 
 pub before_some : (c : ℕ) → eqb c 0 ≡ false → before_column c ≡ pos (c - 1)
 before_some zero h = absurd (false≢true (sym h))
@@ -50,22 +50,22 @@ dash_further text rest behind s next stands so_far dash one e goes =
     let cut_is : (s, next) ≡ cut no_space (drop 1 rest) = e ∙ ap (cut no_space) one in
     let is : rest ≡ (45 ∷ s) ++ next = dash_text rest s next dash cut_is in
     let front : List ℕ = take (length text - length rest) text in
-    let whole : text ≡ (front ++ (45 ∷ s)) ++ next = seam_next text rest (45 ∷ s) next stands is in
+    let whole : text ≡ (front ++ (45 ∷ s)) ++ next = front_next text rest (45 ∷ s) next stands is in
     let both : (not (is_empty (cut no_space (drop 1 rest)).0) && begins_entry (cut no_space (drop 1 rest)).1) ≡ true = subst (λ (y : List ℕ × List ℕ). (not (is_empty y.0) && begins_entry y.1) ≡ true) cut_is goes in
     let spaces : s ≡ replicate (length s) 32 = subst (λ (y : List ℕ × List ℕ). y.0 ≡ replicate (length y.0) 32) (sym cut_is) (spaces_are (drop 1 rest)) in
     let step : marks_at rest ≡ with_dash (length s) (marks_at next) = subst (λ (y : List ℕ × List ℕ). marks_at rest ≡ with_dash (length y.0) (marks_at y.1)) (sym cut_is) (marks_more rest dash both) in
     let here : begun (marks_at rest) ≡ behind_front (45 ∷ s) (begun (marks_at next)) = ap begun step ∙ (begun_more (length s) (marks_at next) ∙ ap (λ (l : List ℕ). behind_front (45 ∷ l) (begun (marks_at next))) (sym spaces)) in
     record {
       shorter = rw is (omega (arith, length-append (45 ∷ s) next));
-      stands = seam_drop text (front ++ (45 ∷ s)) next whole;
-      so_far = rw (seam_take text (front ++ (45 ∷ s)) next whole) (sym (front_twice front (45 ∷ s) (begun (marks_at next))) ∙ (ap (behind_front front) (sym here) ∙ so_far));
+      stands = front_drop text (front ++ (45 ∷ s)) next whole;
+      so_far = rw (front_take text (front ++ (45 ∷ s)) next whole) (sym (front_twice front (45 ∷ s) (begun (marks_at next))) ∙ (ap (behind_front front) (sym here) ∙ so_far));
     }
 
 dash_seam : (text rest behind : List ℕ) → drop (length text - length rest) text ≡ rest → is_dash rest ≡ true → behind ≡ drop 1 rest → text ≡ (take (length text - length rest) text ++ (45 ∷ [])) ++ behind
-dash_seam text rest behind stands dash one = seam_next text rest (45 ∷ []) behind stands ((dash_is rest dash).0 ∙ ap (λ l. 45 ∷ l) (sym one))
+dash_seam text rest behind stands dash one = front_next text rest (45 ∷ []) behind stands ((dash_is rest dash).0 ∙ ap (λ l. 45 ∷ l) (sym one))
 
 pub dash_boundary : (text rest behind : List ℕ) → drop (length text - length rest) text ≡ rest → is_dash rest ≡ true → behind ≡ drop 1 rest → IsUtf8 behind → IsCharBoundary text (length text - length behind)
-dash_boundary text rest behind stands dash one u = seam_boundary text (take (length text - length rest) text ++ (45 ∷ [])) behind (dash_seam text rest behind stands dash one) u
+dash_boundary text rest behind stands dash one u = front_boundary text (take (length text - length rest) text ++ (45 ∷ [])) behind (dash_seam text rest behind stands dash one) u
 
 -- what follows a mark
 key_within : (t : List ℕ) (o : Option (List ℕ × List ℕ × List ℕ)) → key_at t ≡ o → length (key_mark t o).1 ≤ length t
@@ -84,13 +84,13 @@ dash_last text rest behind s next stands short so_far dash one e ends =
     let cut_is : (s, next) ≡ cut no_space (drop 1 rest) = e ∙ ap (cut no_space) one in
     let is : rest ≡ (45 ∷ []) ++ behind = (dash_is rest dash).0 ∙ ap (λ l. 45 ∷ l) (sym one) in
     let front : List ℕ = take (length text - length rest) text in
-    let join : text ≡ front ++ rest = seam_join text rest stands in
-    let whole : text ≡ (front ++ (45 ∷ [])) ++ behind = seam_next text rest (45 ∷ []) behind stands is in
+    let join : text ≡ front ++ rest = front_join text rest stands in
+    let whole : text ≡ (front ++ (45 ∷ [])) ++ behind = front_next text rest (45 ∷ []) behind stands is in
     let neither : (not (is_empty (cut no_space (drop 1 rest)).0) && begins_entry (cut no_space (drop 1 rest)).1) ≡ false = subst (λ (y : List ℕ × List ℕ). (not (is_empty y.0) && begins_entry y.1) ≡ false) cut_is ends in
     let step : marks_at rest ≡ ([], Dash, behind) = marks_dash rest dash neither ∙ ap (λ (l : List ℕ). ([], Dash, l)) (sym one) in
     let all : length text ≡ length front + length rest = ap length join ∙ length-append front rest in
     let long : length text - length rest ≡ length front + 0 = omega (arith, all) in
-    ap (λ (l : List ℕ). record { dashes = l; columns = length text - length rest; mark = Dash; rest = behind }) (seam_take text (front ++ (45 ∷ [])) behind whole)
+    ap (λ (l : List ℕ). record { dashes = l; columns = length text - length rest; mark = Dash; rest = behind }) (front_take text (front ++ (45 ∷ [])) behind whole)
     ∙ (ap (λ (k : ℕ). record { dashes = front ++ (45 ∷ []); columns = k; mark = Dash; rest = behind }) long
     ∙ (ap (λ (m : Marks). behind_front front (begun m)) (sym step) ∙ so_far))
 
@@ -105,7 +105,7 @@ pub no_dash : (text rest behind : List ℕ) (mark : Mark) → drop (length text 
     record { dashes = take (length text - length rest) text; columns = length text - length rest; mark = mark; rest = behind } ≡ begun (marks_at text)
 no_dash text rest behind mark stands short so_far none e =
     let front : List ℕ = take (length text - length rest) text in
-    let join : text ≡ front ++ rest = seam_join text rest stands in
+    let join : text ≡ front ++ rest = front_join text rest stands in
     let all : length text ≡ length front + length rest = ap length join ∙ length-append front rest in
     let long : length text - length rest ≡ length front + 0 = omega (arith, all) in
     let step : marks_at rest ≡ ([], mark, behind) = marks_none rest none ∙ ap undashed (sym e) in

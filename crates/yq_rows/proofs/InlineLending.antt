@@ -27,7 +27,7 @@ use Rattle.yq_rows.specs.Reading.{tail_at, inline_content_at}
 use Rattle.yq_rows.specs.View.{anchor_cut}
 use Rattle.yq_rows.proofs.Fronts.{node_starts}
 use Rattle.yq_rows.proofs.MarkAgain.{scalar_node}
-use Rattle.yq_rows.proofs.Seams.{seam_take, seam_boundary, seam_le}
+use Rattle.yq_rows.proofs.FrontLaws.{front_take, front_boundary, front_le}
 
 -- the anchor in front
 pub anchor_some : (t : List ℕ) (n : ℕ) → first_is 38 t ≡ true → n ≡ prefix_len in_name (drop 1 t) → (take (n + 1) t, drop (n + 1) t) ≡ cut_anchor t
@@ -206,10 +206,10 @@ lead_here t a r g u b s anchor same lead = lead ∙ (ap (λ c. cut_lead c r) sam
 
 -- the head is what stands before what follows the node
 pub head_within : (spaces : Option ℕ) (t rest u : List ℕ) (s : Placed) → Read spaces t rest s → u ≡ (cut_lead (nothing_placed s) (cut_anchor t).1).1 → length rest ≤ length u
-head_within spaces t rest u s r e = seam_le u (anchor_cut r.node).2 rest (e ∙ r.head)
+head_within spaces t rest u s r e = front_le u (anchor_cut r.node).2 rest (e ∙ r.head)
 
 pub head_boundary : (spaces : Option ℕ) (t rest u : List ℕ) (s : Placed) → Read spaces t rest s → u ≡ (cut_lead (nothing_placed s) (cut_anchor t).1).1 → IsUtf8 rest → IsCharBoundary u (length u - length rest)
-head_boundary spaces t rest u s r e utf8 = seam_boundary u (anchor_cut r.node).2 rest (e ∙ r.head) utf8
+head_boundary spaces t rest u s r e utf8 = front_boundary u (anchor_cut r.node).2 rest (e ∙ r.head) utf8
 
 -- a node behind white space, and its tail
 pub inline_some : (n : ℤ) (space t a r g u behind tail rest : List ℕ) (s : Placed) (some plain : Bool) → Read (Some (deeper n)) t behind s → (a, r) ≡ cut_anchor t → (g, u) ≡ cut_lead (nothing_placed s) (cut_anchor t).1 → tail_at behind ≡ Some (tail, rest) →
@@ -220,7 +220,7 @@ inline_some n space t a r g u behind tail rest s some plain h anchor lead_is end
     let a_is : a ≡ (anchor_cut h.node).0 = ap (λ (y : List ℕ × List ℕ). y.0) anchor ∙ h.anchor in
     let g_is : g ≡ (anchor_cut h.node).1 = ap (λ (y : List ℕ × List ℕ). y.0) lead_is ∙ h.apart in
     let u_is : u ≡ (anchor_cut h.node).2 ++ behind = ap (λ (y : List ℕ × List ℕ). y.1) lead_is ∙ h.head in
-    let head : take (length u - length behind) u ≡ (anchor_cut h.node).2 = seam_take u (anchor_cut h.node).2 behind u_is in
+    let head : take (length u - length behind) u ≡ (anchor_cut h.node).2 = front_take u (anchor_cut h.node).2 behind u_is in
     let p_is : plain ≡ is_plain h.node = plain_is ∙ sym h.plain in
     let alone : some ≡ (is_empty space && is_more h.node) = some_is ∙ ap (λ (b : Bool). is_empty space && b) (sym h.more) in
     rw (h.read, ends) (rw (a_is, g_is, head, p_is, alone) refl)

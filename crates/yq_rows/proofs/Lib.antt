@@ -26,7 +26,7 @@ pub mod RowsLaws
 pub mod RowsRead
 pub mod ScanLaws
 pub mod SliceLaws
-pub mod Seams
+pub mod FrontLaws
 pub mod BeginSteps
 pub mod InlineLending
 pub mod BlockLending
@@ -39,3 +39,7 @@ pub mod NothingLaws
 pub mod OffsetLaws
 pub mod AloneLaws
 pub mod AlonePieces
+pub mod EmptyTexts
+pub mod RowPlaces
+pub mod seams
+pub mod splices

@@ -8,11 +8,11 @@ use Rattle.std.specs.Str.{IsAscii, IsUtf8, IsCharBoundary}
 use Rattle.yq_rows.specs.Offsets.{Ends, slices_in, rows_in, AreCuts, Stands, AreTexts, offsets_of}
 use Rattle.yq_rows.specs.View.{Slices, slices_text}
 use Rattle.yq_rows.specs.declared.offsets.Offsets as declared
-use Rattle.yq_rows.proofs.Seams.{seam_drop, seam_next, seam_boundary}
+use Rattle.yq_rows.proofs.FrontLaws.{front_drop, front_next, front_boundary}
 
 -- what stands behind a piece of the end of a text is one
 pub ends_next : (whole t p rest : List ℕ) → Ends t whole → t ≡ p ++ rest → Ends rest whole
-ends_next whole t p rest h e = seam_drop whole _ rest (seam_next whole t p rest h e)
+ends_next whole t p rest h e = front_drop whole _ rest (front_next whole t p rest h e)
 
 -- pieces in front of a text
 abbrev pieces_text : List (List ℕ) → List ℕ → List ℕ
@@ -59,7 +59,7 @@ unfolding Stands
 row_stands whole t rest s h text e each =
     let start = length whole - length t in
     let split : whole ≡ take start whole ++ t = sym (take-append-drop start whole) ∙ ap (λ l. take start whole ++ l) h in (
-      seam_boundary whole (take start whole) t split text,
+      front_boundary whole (take start whole) t split text,
       subst (λ (u : List ℕ). AreCuts u (length s.gap ∷ s.column ∷ length s.dashes ∷ length s.key ∷ length s.colon ∷ length s.space ∷ length s.anchor ∷ length s.apart ∷ length s.head ∷ length s.tail ∷ length s.raw ∷ [])) (sym h)
           (subst (λ (n : ℕ). AreCuts t (length s.gap ∷ n ∷ length s.dashes ∷ length s.key ∷ length s.colon ∷ length s.space ∷ length s.anchor ∷ length s.apart ∷ length s.head ∷ length s.tail ∷ length s.raw ∷ [])) (length-replicate {A = ℕ} s.column 32)
           (cuts (pieces s) t rest e text (texts s each))),

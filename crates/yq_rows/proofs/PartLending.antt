@@ -8,14 +8,14 @@ use Rattle.yq_scalar.specs.Text.{is_empty, is_marker}
 use Rattle.yq_scalar.proofs.Bools.{bind_some}
 use Rattle.yq_inline.proofs.Binds.{some_same}
 use Rattle.yq_rows.specs.Grammar.{begins_document}
-use Rattle.yq_rows.specs.Lending.{PartLent, behind_rows, rows_lent, shown_read, behind_parts, parts_lent}
+use Rattle.yq_rows.specs.Lending.{PartLent, part_behind, rows_lent, shown_read, behind_parts, parts_lent}
 use Rattle.yq_rows.specs.Reading.{tail_at, marker_at, part_at, all_parts}
 use Rattle.yq_rows.specs.Rows.{Part, Cut, last, marked}
 use Rattle.yq_rows.specs.View.{Slices, slices, Bound, Shown, rows_of, bounds_from, bound_view, bound_views}
 use Rattle.yq_rows.specs.declared.scanning.Bound as ends
 use Rattle.yq_rows.proofs.PartsLaws.{parts_refused, parts_last, parts_no_marker, parts_marked, part_marker, part_le, parts_smaller}
 use Rattle.yq_rows.proofs.PieceLaws.{tail_takes}
-use Rattle.yq_rows.proofs.Seams.{seam_take, seam_boundary, seam_le}
+use Rattle.yq_rows.proofs.FrontLaws.{front_take, front_boundary, front_le}
 
 -- the line of a marker
 marker_is : (t behind tail rest : List ℕ) → behind ≡ drop 3 t → tail_at behind ≡ Some (tail, rest) → t ≡ (take 3 t ++ tail) ++ rest
@@ -24,15 +24,15 @@ marker_is t behind tail rest three h =
     sym (take-append-drop 3 t) ∙ (ap (λ r. take 3 t ++ r) is ∙ sym (append_assoc (take 3 t) tail rest))
 
 pub marker_within : (t behind tail rest : List ℕ) → behind ≡ drop 3 t → tail_at behind ≡ Some (tail, rest) → length rest ≤ length t
-marker_within t behind tail rest three h = seam_le t (take 3 t ++ tail) rest (marker_is t behind tail rest three h)
+marker_within t behind tail rest three h = front_le t (take 3 t ++ tail) rest (marker_is t behind tail rest three h)
 
 pub marker_boundary : (t behind tail rest : List ℕ) → behind ≡ drop 3 t → tail_at behind ≡ Some (tail, rest) → IsUtf8 rest → IsCharBoundary t (length t - length rest)
-marker_boundary t behind tail rest three h u = seam_boundary t (take 3 t ++ tail) rest (marker_is t behind tail rest three h) u
+marker_boundary t behind tail rest three h u = front_boundary t (take 3 t ++ tail) rest (marker_is t behind tail rest three h) u
 
 pub marker_some : (t behind tail rest line : List ℕ) → behind ≡ drop 3 t → tail_at behind ≡ Some (tail, rest) → line ≡ take (length t - length rest) t → marker_at t ≡ Some (line, rest)
 unfolding marker_at
 marker_some t behind tail rest line three h e =
-    let whole = e ∙ seam_take t (take 3 t ++ tail) rest (marker_is t behind tail rest three h) in
+    let whole = e ∙ front_take t (take 3 t ++ tail) rest (marker_is t behind tail rest three h) in
     ap (λ o. o >>= λ x. Some (take 3 t ++ x.0, x.1)) (ap tail_at (sym three) ∙ h) ∙ ap (λ (l : List ℕ). Some (l, rest)) (sym whole)
 
 pub marker_none : (t behind : List ℕ) → behind ≡ drop 3 t → tail_at behind ≡ None → marker_at t ≡ None
@@ -50,7 +50,7 @@ pub record OnePart (rows : List Slices) (started : Bool) (t : List ℕ) (found :
 pub one_part : (rows : List Slices) (started : Bool) (t : List ℕ) (found : List Slices) (end after : List ℕ) → rows_lent rows (part_at started t) ≡ Some (found, end, after) → OnePart rows started t found end after
 one_part rows started t found end after h =
     let x = bind_some (part_at started t) h in
-    let is : behind_rows rows x.0 ≡ (found, end, after) = some_same x.2 in
+    let is : part_behind rows x.0 ≡ (found, end, after) = some_same x.2 in
     let behind : x.0.1 ≡ after = ap (λ (y : PartLent). y.2) is in
     let rows_here : found ≡ rows ++ map slices x.0.0.rows = ap (λ (y : PartLent). y.0) (sym is) in
     record {

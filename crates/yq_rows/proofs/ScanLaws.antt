@@ -1,6 +1,6 @@
 -- A whole text, cut into its rows and markers and read again.
-use Rattle.std.proofs.Common.{◌≡◌, ℕ, zero, suc, ◌<◌, Bool, true, false, ◌&&◌, leb, List, [], ◌∷◌, ◌++◌, length, Option, Some, Result, Ok, Err, IfOk, refl, sym, ⊎_elim, ap, ◌∙◌, subst, arith}
-use Rattle.std.proofs.lemmas.Bool.{leb-true, le-leb, false≢true}
+use Rattle.std.proofs.Common.{◌≡◌, ℕ, zero, suc, ◌<◌, Bool, true, false, ◌&&◌, leb, List, [], ◌++◌, length, Option, Some, Result, Ok, Err, IfOk, refl, sym, ⊎_elim, ap, ◌∙◌, subst, arith}
+use Rattle.std.proofs.lemmas.Bool.{leb-true, le-leb}
 use Rattle.yq_scalar.specs.Answers.{◌>>=◌, Gives}
 use Rattle.yq_scalar.specs.Characters.{is_text, text_limit}
 use Rattle.yq_scalar.specs.Text.{is_empty}
@@ -11,15 +11,12 @@ use Rattle.yq_rows.specs.Grammar.{begins_document, IsPart, IsMarkerLine, ArePart
 use Rattle.yq_rows.specs.Reading.{part_at, marker_at, parts_at, scan_at}
 use Rattle.yq_rows.specs.Rows.{Part, part_text, Cut, last, marked, cut_text}
 use Rattle.yq_rows.specs.View.{Shown, shown}
+use Rattle.yq_rows.proofs.EmptyTexts.{empty_is}
 use Rattle.yq_rows.proofs.PartsLaws.{PartCut, part_takes, part_again, part_longer, marker_takes, marker_again, marker_ends, ends_marker}
 
 -- parts
 abbrev PartsCut : Bool → List ℕ → Cut → Type 0
 PartsCut started t c = (t ≡ cut_text c) × AreParts started c
-
-empty_is : (t : List ℕ) → is_empty t ≡ true → t ≡ []
-empty_is [] h = refl
-empty_is (b ∷ t) h = absurd (false≢true h)
 
 parts_last_cut : (started : Bool) (t : List ℕ) (part : Part × List ℕ) → PartCut started t part → is_empty part.1 ≡ true → PartsCut started t (last part.0)
 parts_last_cut started t part p none =

@@ -139,12 +139,12 @@ abbrev pub PartLent : Type 0
 PartLent = List Slices × List ℕ × List ℕ
 
 -- the rows of a part behind others, its gap, and what follows (own)
-abbrev pub behind_rows : List Slices → Part × List ℕ → PartLent
-behind_rows rows x = (rows ++ map slices x.0.rows, x.0.end, x.1)
+abbrev pub part_behind : List Slices → Part × List ℕ → PartLent
+part_behind rows x = (rows ++ map slices x.0.rows, x.0.end, x.1)
 
 -- the same, if there is one (own)
 abbrev pub rows_lent : List Slices → Option (Part × List ℕ) → Option PartLent
-rows_lent rows read = read >>= λ x. Some (behind_rows rows x)
+rows_lent rows read = read >>= λ x. Some (part_behind rows x)
 
 -- how long an anchor in front is with its `&` (own)
 abbrev pub anchor_len : List ℕ → ℕ

@@ -4,11 +4,17 @@ pub use Rattle.yq_scalar.specs.Plain
 pub use Rattle.yq_scalar.specs.Text
 pub mod Alike
 pub mod Alone
+pub mod Appending
 pub mod Exchange
 pub mod Gap
 pub mod Grammar
+pub mod Joined
 pub mod Reading
+pub mod Removal
 pub mod Rows
+pub mod Seams
+pub mod SpliceFits
+pub mod Splices
 pub mod View
 pub mod Lending
 pub mod Offsets

@@ -14,6 +14,10 @@ ghost use Rattle.yq_rows.specs.Reading.{scan_at};
 ghost use Rattle.yq_rows.specs.Rows.{Content, Inline, content_text, Row, parent_indent, print_row, rows_text, Cut, cut_text};
 ghost use Rattle.yq_rows.specs.View.{slices, rows_of, slices_text};
 
+pub mod appending;
+pub mod seams;
+pub mod splices;
+
 /// A text has one cut, and it is what reading from left to right gives.
 pub fn one_cut()
     ensures one { (t : List ℕ) (c other : Cut) → IsCut t c → IsCut t other → c ≡ other }

@@ -1,7 +1,7 @@
 use Rattle.std.proofs.Common.{◌≡◌, ◌-◌, length, take, rules, sym, ap, ◌∙◌, true, false, arith}
 use Rattle.yq_rows.specs.Reading.{is_dash}
 use Rattle.yq_rows.proofs.BeginSteps.{dash_further, dash_boundary, dash_last, no_dash, mark_within}
-use Rattle.yq_rows.proofs.Seams.{seam_join, seam_boundary}
+use Rattle.yq_rows.proofs.FrontLaws.{front_join, front_boundary}
 use Rattle.yq_rows.proofs.marks.read_begin.Goals as goal
 
 pub split_at-requires-then-not-goes_on : goal.split_at-requires-then-not-goes_on
@@ -27,7 +27,7 @@ dashes-preserved c =
     }
 
 pub split_at-requires-2 : goal.split_at-requires-2
-split_at-requires-2 c = seam_boundary c.args.text.now (take (length c.args.text.now - length c.dashes.rest.now) c.args.text.now) c.dashes.rest.now (seam_join c.args.text.now c.dashes.rest.now c.dashes.invariant.stands) c.dashes.invariant.text
+split_at-requires-2 c = front_boundary c.args.text.now (take (length c.args.text.now - length c.dashes.rest.now) c.args.text.now) c.dashes.rest.now (front_join c.args.text.now c.dashes.rest.now c.dashes.invariant.stands) c.dashes.invariant.text
 
 pub returns-clause-read : goal.returns-clause-read
 returns-clause-read c =

@@ -1,0 +1,12 @@
+pub mod BlockFronts
+pub mod FrontSeams
+pub mod GapFronts
+pub mod GapSeams
+pub mod JoinLaws
+pub mod LessLaws
+pub mod MarkerSeams
+pub mod NodeSeams
+pub mod RowSeams
+pub mod ScalarSeams
+pub mod SeamLaws
+pub mod TailLaws

@@ -1,0 +1,84 @@
+-- What rows in front ask of a text that stands behind them in the place of another one.
+use Rattle.std.proofs.Common.{◌≡◌, ℕ, ℤ, true, false, ◌||◌, List, [], ◌∷◌, ◌++◌, refl, sym, ap, ◌∙◌, ⊎_elim, replicate}
+use Rattle.std.proofs.lemmas.Bool.{false≢true, or_right}
+use Rattle.yq_scalar.specs.Block.{keeps}
+use Rattle.yq_scalar.specs.Text.{is_empty, is_line, lines_of}
+use Rattle.yq_rows.specs.Alike.{Alike}
+use Rattle.yq_rows.specs.Grammar.{IsTail, IsContent, IsRow, Limit, limit_after, AreRows, no_rows}
+use Rattle.yq_rows.specs.Rows.{Content, Nothing, Inline, Block, Row, behind_indent, behind_gap, parent_indent, print_row, rows_text}
+use Rattle.yq_rows.specs.Seams.{is_closed, is_seam, are_seamed, is_block, ends_in_block, ends_in_line, tail_behind}
+use Rattle.yq_rows.proofs.Alikes.{alike_empty}
+use Rattle.yq_rows.proofs.AlikeBlocks.{lines_alike, ends_alike}
+use Rattle.yq_rows.proofs.NothingLaws.{some_behind}
+use Rattle.yq_rows.proofs.RowAgain.{row_starts}
+use Rattle.yq_rows.proofs.seams.SeamLaws.{tail_line}
+use Rattle.yq_rows.proofs.EmptyTexts.{none_is}
+
+-- the text of a row isn't empty
+pub behind_row_some : (limit : Limit) (r : Row) (rest : List ℕ) → IsRow limit r rest → is_empty (behind_gap r rest) ≡ false
+behind_row_some limit r rest h = some_behind (replicate r.column 32) (behind_indent r rest) (row_starts limit r rest h).some
+
+pub row_some : (limit : Limit) (r : Row) (rest : List ℕ) → IsRow limit r rest → is_empty (print_row r rest) ≡ false
+row_some limit r rest h = some_behind r.gap (behind_gap r rest) (behind_row_some limit r rest h)
+
+pub rows_some : (limit : Limit) (rs : List Row) (end rest : List ℕ) → no_rows rs ≡ false → AreRows limit rs end rest → is_empty (rows_text rs (end ++ rest)) ≡ false
+rows_some limit [] end rest n h = absurd (false≢true (sym n))
+rows_some limit (r ∷ rs) end rest n h = row_some limit r (rows_text rs (end ++ rest)) h.0
+
+-- what stands behind a content
+closed_line : (tail u : List ℕ) → is_line tail ≡ true → is_closed tail u ≡ true
+closed_line tail u h = rw h refl
+
+tail_was : (tail t : List ℕ) → IsTail tail t → is_closed tail t ≡ true
+tail_was tail t h = ⊎_elim {0, 0, 0} (λ e. closed_line tail t e) (λ e. rw e (or_right (is_line tail) true refl)) (tail_line tail t h)
+
+tail_any : (tail t u : List ℕ) → is_empty t ≡ false → IsTail tail t → is_closed tail u ≡ true
+tail_any tail t u some h = ⊎_elim {0, 0, 0} (λ e. closed_line tail u e) (λ e. absurd (none_is t some e)) (tail_line tail t h)
+
+-- the seam that a content has
+content_was : (n : ℤ) (c : Content) (t : List ℕ) → IsContent n c t → is_seam c t ≡ true
+content_was n (Nothing tail) t h = tail_was tail t h
+content_was n (Inline space node tail) t h = tail_was tail t h.2
+content_was n (Block space anchor block) t h = h.2.behind
+
+-- where text is behind it, and it is no block scalar, any other text may be
+content_any : (n : ℤ) (c : Content) (t u : List ℕ) → is_block c ≡ false → is_empty t ≡ false → IsContent n c t → is_seam c u ≡ true
+content_any n (Nothing tail) t u b some h = tail_any tail t u some h
+content_any n (Inline space node tail) t u b some h = tail_any tail t u some h.2
+content_any n (Block space anchor block) t u b some h = absurd (false≢true (sym b))
+
+closed_alike : (tail t u : List ℕ) → Alike false t u → is_closed tail t ≡ true → is_closed tail u ≡ true
+closed_alike tail t u a h = ap (λ x. is_line tail || x) (sym (alike_empty false t u a)) ∙ h
+
+seam_alike : (c : Content) (t u : List ℕ) → Alike false t u → is_seam c t ≡ true → is_seam c u ≡ true
+seam_alike (Nothing tail) t u a h = closed_alike tail t u a h
+seam_alike (Inline space node tail) t u a h = closed_alike tail t u a h
+seam_alike (Block space anchor block) t u a h = sym (ends_alike (keeps block.chomping) block.indent (lines_of t) (lines_of u) (lines_alike t u a)) ∙ h
+
+-- the same of rows
+pub seams_were : (front rows : List Row) (limit : Limit) (end rest : List ℕ) → AreRows limit (front ++ rows) end rest → are_seamed front (rows_text rows (end ++ rest)) ≡ true
+seams_were [] rows limit end rest h = refl
+seams_were (r ∷ []) rows limit end rest h = content_was (parent_indent r) r.content (rows_text rows (end ++ rest)) h.0.content
+seams_were (r ∷ (q ∷ front)) rows limit end rest h = seams_were (q ∷ front) rows (limit_after r) end rest h.1
+
+pub seams_any : (front rows : List Row) (limit : Limit) (end rest u : List ℕ) → AreRows limit (front ++ rows) end rest → no_rows rows ≡ false → ends_in_block front ≡ false → are_seamed front u ≡ true
+seams_any [] rows limit end rest u h some b = refl
+seams_any (r ∷ []) rows limit end rest u h some b = content_any (parent_indent r) r.content (rows_text rows (end ++ rest)) u b (rows_some (limit_after r) rows end rest some h.1) h.0.content
+seams_any (r ∷ (q ∷ front)) rows limit end rest u h some b = seams_any (q ∷ front) rows (limit_after r) end rest u h.1 some b
+
+pub seams_alike : (front : List Row) (t u : List ℕ) → Alike false t u → are_seamed front t ≡ true → are_seamed front u ≡ true
+seams_alike [] t u a h = refl
+seams_alike (r ∷ []) t u a h = seam_alike r.content t u a h
+seams_alike (r ∷ (q ∷ front)) t u a h = seams_alike (q ∷ front) t u a h
+
+-- where a break is behind the tail
+content_line : (c : Content) (u : List ℕ) → is_block c ≡ false → is_line (tail_behind c) ≡ true → is_seam c u ≡ true
+content_line (Nothing tail) u b e = closed_line tail u e
+content_line (Inline space node tail) u b e = closed_line tail u e
+content_line (Block space anchor block) u b e = absurd (false≢true (sym b))
+
+-- Behind rows of which the last one ends in a break and holds no block scalar, any text may stand.
+pub seams_line : (front : List Row) (u : List ℕ) → ends_in_line front ≡ true → ends_in_block front ≡ false → are_seamed front u ≡ true
+seams_line [] u e b = refl
+seams_line (r ∷ []) u e b = content_line r.content u b e
+seams_line (r ∷ (q ∷ front)) u e b = seams_line (q ∷ front) u e b

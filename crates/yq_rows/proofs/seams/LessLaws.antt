@@ -1,0 +1,73 @@
+-- What stands behind a gap is less indented than a block scalar's text.
+use Rattle.std.proofs.Common.{◌≡◌, ℕ, zero, suc, ◌+◌, ◌<◌, true, false, not, ◌&&◌, eqb, List, [], ◌∷◌, ◌++◌, drop, refl, sym, ap, ◌∙◌, ⊎_elim, arith, replicate}
+use Rattle.std.proofs.Math.Dec.{ltb}
+use Rattle.std.proofs.lemmas.Bool.{false≢true, lt-ltb, not-true, or_cases}
+use Rattle.yq_scalar.specs.Block.{is_less_indented}
+use Rattle.yq_scalar.specs.BlockRepair.{is_behind}
+use Rattle.yq_scalar.specs.declared.block_lines.TextIndent.{TextIndent}
+use Rattle.yq_scalar.specs.Lines.{spaces, behind_spaces, is_tab}
+use Rattle.yq_scalar.specs.Text.{front, is_white, is_feed, is_return, is_empty, is_marker, ends_line, put_byte, lines_of}
+use Rattle.yq_scalar.proofs.Bools.{or_false}
+use Rattle.yq_scalar.proofs.RawLaws.{both}
+use Rattle.yq_scalar.proofs.SpaceLaws.{prefix_none, spaces_front, drop_front}
+use Rattle.yq_rows.specs.Grammar.{Limit, AreRows}
+use Rattle.yq_rows.specs.Rows.{Row, behind_indent, rows_text}
+use Rattle.yq_rows.specs.Removal.{next_column}
+use Rattle.yq_rows.specs.Seams.{ends_part}
+use Rattle.yq_rows.specs.Splices.{behind_first}
+use Rattle.yq_rows.proofs.AlikeBlocks.{put_first}
+use Rattle.yq_rows.proofs.EmptyTexts.{empty_is}
+use Rattle.yq_rows.proofs.Fronts.{Starts, starts_by}
+use Rattle.yq_rows.proofs.RowAgain.{row_starts}
+use Rattle.yq_rows.proofs.seams.MarkerSeams.{marker_byte}
+
+-- The first line of a text that begins with spaces and a byte.
+record First (n b : ℕ) (t : List ℕ) : Type 0 where
+  line : List ℕ
+  lines : List (List ℕ)
+  is : lines_of (replicate n 32 ++ (b ∷ t)) ≡ (replicate n 32 ++ (b ∷ line)) ∷ lines
+  front_is : front is_feed line ≡ front is_feed t
+
+first : (n b : ℕ) (t : List ℕ) → is_feed b ≡ false → First n b t
+unfolding lines_of
+first zero b t e = let p = put_first b t in record { line = p.line; lines = p.lines; is = rw e p.is; front_is = p.front_is }
+first (suc n) b t e = let p = first n b t e in record { line = p.line; lines = p.lines; is = ap (put_byte 32) p.is; front_is = p.front_is }
+
+less_line : (f : TextIndent) (n b : ℕ) (l : List ℕ) → eqb b 32 ≡ false → eqb b 9 ≡ false → ends_line (b ∷ l) ≡ false → n < f.columns → is_less_indented f (replicate n 32 ++ (b ∷ l)) ≡ true
+less_line f n b l space tab end less =
+    let none : spaces (b ∷ l) ≡ 0 = prefix_none (λ x. eqb x 32) b l space in
+    let deep : spaces (replicate n 32 ++ (b ∷ l)) ≡ n + 0 = spaces_front n (b ∷ l) ∙ ap (λ k. n + k) none in
+    let behind : behind_spaces (replicate n 32 ++ (b ∷ l)) ≡ b ∷ l = ap (λ k. drop k (replicate n 32 ++ (b ∷ l))) deep ∙ drop_front n 0 (b ∷ l) in
+    let low : ltb (spaces (replicate n 32 ++ (b ∷ l))) f.columns ≡ true = lt-ltb (spaces (replicate n 32 ++ (b ∷ l))) f.columns (omega (arith, deep, less)) in
+    let ends : not (ends_line (behind_spaces (replicate n 32 ++ (b ∷ l)))) ≡ true = ap (λ x. not (ends_line x)) behind ∙ ap not end in
+    let tabs : not (is_tab (behind_spaces (replicate n 32 ++ (b ∷ l)))) ≡ true = ap (λ x. not (is_tab x)) behind ∙ ap not tab in
+    both _ _ (both _ _ ends low) tabs
+
+pub starts_less : (f : TextIndent) (n : ℕ) (t : List ℕ) → Starts t → n < f.columns → is_behind f (lines_of (replicate n 32 ++ t)) ≡ true
+starts_less f n [] h less = absurd (false≢true (sym h.some))
+starts_less f n (b ∷ t) h less =
+    let white = or_false (eqb b 32) (eqb b 9) (not-true (is_white b) h.no_white) in
+    let feed : is_feed b ≡ false = (or_false (is_feed b) (is_return b && front is_feed t) h.no_end).0 in
+    let p = first n b t feed in
+    let end : ends_line (b ∷ p.line) ≡ false = rw p.front_is h.no_end in
+    ap (is_behind f) p.is ∙ less_line f n b p.line white.0 white.1 end less
+
+marker_starts : (t : List ℕ) → is_marker t ≡ true → Starts t
+marker_starts [] h = absurd (false≢true h)
+marker_starts (a ∷ []) h = absurd (false≢true h)
+marker_starts (a ∷ (b ∷ [])) h = absurd (false≢true h)
+marker_starts (a ∷ (b ∷ (c ∷ t))) h = ⊎_elim {0, 0, 0}
+    (λ e. starts_by a (b ∷ (c ∷ t)) (rw e.0 refl) (rw e.0 refl) (rw e.0 refl) (rw e.0 refl))
+    (λ e. starts_by a (b ∷ (c ∷ t)) (rw e.0 refl) (rw e.0 refl) (rw e.0 refl) (rw e.0 refl))
+    (marker_byte a b c t h)
+
+no_lines_behind : (f : TextIndent) → is_behind f (lines_of []) ≡ true
+unfolding lines_of
+no_lines_behind f = refl
+
+pub behind_less : (f : TextIndent) (limit : Limit) (rs : List Row) (end rest : List ℕ) → AreRows limit rs end rest → ends_part rest ≡ true → next_column rs < f.columns → is_behind f (lines_of (behind_first rs end rest)) ≡ true
+behind_less f limit [] end rest h e less = ⊎_elim {0, 0, 0}
+    (λ none. ap (λ t. is_behind f (lines_of t)) (empty_is rest none) ∙ no_lines_behind f)
+    (λ marker. starts_less f 0 rest (marker_starts rest marker) less)
+    (or_cases (is_empty rest) (is_marker rest) e)
+behind_less f limit (r ∷ rs) end rest h e less = starts_less f r.column (behind_indent r (rows_text rs (end ++ rest))) (row_starts limit r (rows_text rs (end ++ rest)) h.0) less
