@@ -19,5 +19,5 @@ pub use path::{Entry, Step};
 pub use read::{DEPTH_LIMIT, read_inline};
 pub use scalar::style_of;
 pub use value::Value;
-pub use write::write_inline;
+pub use write::{push_scalar, write_inline};
 pub use yq_scalar::ReadFault;

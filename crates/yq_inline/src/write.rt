@@ -23,7 +23,7 @@ fn is_plain(scalar: &Scalar, place: Place) -> bool
 
 /// Adds a scalar, without quotes if it can be.
 #[tactic(auto, unfolding(crate::specs::Written::scalar_text, yq_scalar::specs::Writable::can_write_plain))]
-fn push_scalar(
+pub fn push_scalar(
     alloc: Global,
     out: &mut String,
     scalar: &Scalar,

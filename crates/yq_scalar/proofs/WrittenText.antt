@@ -33,7 +33,7 @@ all_append : (test : ℕ → Bool) (a b : List ℕ) → list_all test a ≡ true
 all_append test [] b h k = k
 all_append test (c ∷ a) b h k = let p = and_true (test c) (list_all test a) h in rw (p.0, all_append test a b p.1 k) refl
 
-scalars_append : (a b : List ℕ) → scalars a ≡ true → scalars b ≡ true → scalars (a ++ b) ≡ true
+pub scalars_append : (a b : List ℕ) → scalars a ≡ true → scalars b ≡ true → scalars (a ++ b) ≡ true
 scalars_append [] b h k = k
 scalars_append (c ∷ a) b h k = let p = and_true (scalar c) (scalars a) h in rw (p.0, scalars_append a b p.1 k) refl
 

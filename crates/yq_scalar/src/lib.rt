@@ -43,6 +43,7 @@ pub use kind::Kind;
 pub use piece::Piece;
 pub use piece_content::content;
 pub use plain_piece::{further_spaces, read_plain};
+pub use pushing::push_spaces;
 pub use quoted_piece::read_quoted;
 pub use scalar::Scalar;
 pub use schema::resolve;

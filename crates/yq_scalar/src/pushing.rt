@@ -16,7 +16,7 @@ pub(crate) fn push_breaks(out: &mut String, count: usize) -> Result<(), AllocErr
 }
 
 /// Adds so many spaces.
-pub(crate) fn push_spaces(out: &mut String, count: usize) -> Result<(), AllocError>
+pub fn push_spaces(out: &mut String, count: usize) -> Result<(), AllocError>
     ensures { OnOk result (string_bytes out.new ≡ string_bytes out.old ++ replicate count 32) }
 {
     for _ in 0..count {

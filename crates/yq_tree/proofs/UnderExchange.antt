@@ -37,7 +37,7 @@ with_split zero new rs = refl
 with_split (suc n) new [] = refl
 with_split (suc n) new (r ∷ rs) = ap (λ (x : List Row). r ∷ x) (with_split n new rs)
 
-lines_append : (a b : List Row) → lines_of (a ++ b) ≡ lines_of a ++ lines_of b
+pub lines_append : (a b : List Row) → lines_of (a ++ b) ≡ lines_of a ++ lines_of b
 lines_append [] b = refl
 lines_append (r ∷ a) b = ap (λ (ls : List Line). row_lines r ++ ls) (lines_append a b) ∙ sym (append_assoc (row_lines r) (lines_of a) (lines_of b))
 
