@@ -1,0 +1,90 @@
+-- Rows that are written one behind the other.
+use Rattle.std.proofs.Common.{◌≡◌, ℕ, suc, ◌≤◌, true, eqb, List, [], ◌∷◌, ◌++◌, refl, sym, ap, subst, arith}
+use Rattle.std.proofs.Math.Bool.{and-false}
+use Rattle.yq_rows.specs.Exchange.{asked_behind}
+use Rattle.yq_rows.specs.Gap.{IsGap}
+use Rattle.yq_rows.specs.Grammar.{IsContent, is_entry, IsRow, Limit, unlimited, allows, limit_after, limit_behind, AreRows}
+use Rattle.yq_rows.specs.Rows.{dashes_text, behind_dashes, behind_gap, Row, behind_columns, parent_of, parent_indent, print_row, rows_text}
+use Rattle.yq_rows.proofs.Alikes.{dash_first}
+use Rattle.yq_rows.proofs.PlainEnds.{AtLine, row_line}
+use Rattle.yq_block.specs.BlockRows.{item_column, behind_dash}
+
+-- Rows begin at a column, before a rest, behind any row that allows it; what stands behind them may begin at any column up to that.
+pub record IsLaid (column : ℕ) (r : Row) (rs : List Row) (rest : List ℕ) : Type 0 where
+  pub gap : r.gap ≡ []
+  pub at : r.column ≡ column
+  pub entry : is_entry r.mark ≡ true
+  pub laid : (limit : Limit) → allows limit column ≡ true → AreRows limit (r ∷ rs) [] rest
+  pub follows : (c : ℕ) → c ≤ column → allows (asked_behind (limit_after r) rs) c ≡ true
+
+abbrev pub AreLaid : ℕ → List Row → List ℕ → Type 0
+AreLaid column [] rest = ⊥
+AreLaid column (r ∷ rs) rest = IsLaid column r rs rest
+
+pub no_gap_here : (rest : List ℕ) → IsGap [] rest
+no_gap_here rest = record { lines = []; spelled = refl; each = tt }
+
+-- rows behind rows
+pub text_append : (xs ys : List Row) (rest : List ℕ) → rows_text (xs ++ ys) rest ≡ rows_text xs (rows_text ys rest)
+text_append [] ys rest = refl
+text_append (x ∷ xs) ys rest = ap (print_row x) (text_append xs ys rest)
+
+pub rows_append : (limit : Limit) (xs ys : List Row) (end rest : List ℕ) → AreRows limit xs [] (rows_text ys (end ++ rest)) → AreRows (asked_behind limit xs) ys end rest → AreRows limit (xs ++ ys) end rest
+rows_append limit [] ys end rest h k = k
+rows_append limit (x ∷ xs) ys end rest h k = (subst (IsRow limit x) (sym (text_append xs ys (end ++ rest))) h.0, rows_append (limit_after x) xs ys end rest h.1 k)
+
+asked_append : (limit : Limit) (xs ys : List Row) → asked_behind limit (xs ++ ys) ≡ asked_behind (asked_behind limit xs) ys
+asked_append limit [] ys = refl
+asked_append limit (x ∷ xs) ys = asked_append (limit_after x) xs ys
+
+pub laid_append : (column : ℕ) (xs ys : List Row) (rest : List ℕ) → AreLaid column xs (rows_text ys rest) → AreLaid column ys rest → AreLaid column (xs ++ ys) rest
+laid_append column [] ys rest h k = absurd h
+laid_append column (x ∷ xs) [] rest h k = absurd k
+laid_append column (x ∷ xs) (y ∷ ys) rest h k = record {
+  gap = h.gap;
+  at = h.at;
+  entry = h.entry;
+  laid = λ limit allowed. rows_append limit (x ∷ xs) (y ∷ ys) [] rest (h.laid limit allowed) (k.laid (asked_behind (limit_after x) xs) (h.follows column (omega arith)));
+  follows = λ c within. subst (λ (limit : Limit). allows limit c ≡ true) (sym (asked_append (limit_after x) xs (y ∷ ys))) (k.follows c within);
+}
+
+pub laid_rows : (column : ℕ) (rs : List Row) (rest : List ℕ) (limit : Limit) → AreLaid column rs rest → allows limit column ≡ true → AreRows limit rs [] rest
+laid_rows column [] rest limit h allowed = absurd h
+laid_rows column (r ∷ rs) rest limit h allowed = h.laid limit allowed
+
+pub laid_follow : (column : ℕ) (rs : List Row) (rest : List ℕ) (limit : Limit) (c : ℕ) → AreLaid column rs rest → c ≤ column → allows (asked_behind limit rs) c ≡ true
+laid_follow column [] rest limit c h within = absurd h
+laid_follow column (r ∷ rs) rest limit c h within = h.follows c within
+
+-- no plain scalar deeper than their column goes on with them
+pub laid_line : (column : ℕ) (rs : List Row) (rest : List ℕ) → AreLaid column rs rest → AtLine (suc column) (rows_text rs rest)
+laid_line column [] rest h = absurd h
+laid_line column (r ∷ rs) rest h =
+    let behind : List ℕ = rows_text rs rest in
+    subst (λ (gap : List ℕ). AtLine (suc column) (gap ++ behind_gap r behind)) (sym h.gap) (row_line (suc column) unlimited r behind (h.laid unlimited refl).0 (omega (arith, h.at)))
+
+-- rows of which the first one stands behind a dash
+pub laid_behind : (column : ℕ) (rs : List Row) (rest : List ℕ) → AreLaid (item_column column) rs rest → AreLaid column (behind_dash column rs) rest
+laid_behind column [] rest h = absurd h
+laid_behind column (r ∷ rs) rest h =
+    let new : Row = record r { column = column; dashes = 1 ∷ r.dashes } in
+    let same : parent_indent r ≡ parent_indent new = ap (λ (k : ℕ). parent_of r.mark (behind_columns k r.dashes)) h.at in
+    let limits : limit_after r ≡ limit_after new = ap (λ n. limit_behind n r.content) same in
+    let t : List ℕ = rows_text rs rest in
+    record {
+      gap = h.gap;
+      at = refl;
+      entry = h.entry;
+      laid = λ limit allowed. let old = h.laid unlimited refl in (
+        record {
+          gap = subst (λ (g : List ℕ). IsGap g (behind_gap new t)) (sym h.gap) (no_gap_here (behind_gap new t));
+          allowed = allowed;
+          unmarked = rw (dash_first (32 ∷ dashes_text r.dashes (behind_dashes r t)) refl) (and-false (eqb column 0));
+          dashes = (omega arith, h.entry, old.0.dashes);
+          mark = old.0.mark;
+          content = subst (λ n. IsContent n r.content t) same old.0.content;
+        },
+        subst (λ (l : Limit). AreRows l rs [] rest) limits old.1,
+      );
+      follows = λ c within. subst (λ (l : Limit). allows (asked_behind l rs) c ≡ true) limits (h.follows c (omega (arith, within)));
+    }

@@ -1,0 +1,188 @@
+-- The lines of what is written in block style are those of its value.
+use Rattle.std.proofs.Common.{◌≡◌, ℕ, ◌+◌, ◌*◌, ◌<◌, ◌≤◌, Bool, true, false, List, [], ◌∷◌, ◌++◌, Option, Some, None, refl, sym, ap, ◌∙◌, subst, arith}
+use Rattle.std.specs.Str.{IsUtf8}
+use Rattle.yq_scalar.specs.declared.block_written.Break.{Break}
+use Rattle.yq_scalar.specs.declared.block_written.Break.TheVariants as breaks
+use Rattle.yq_scalar.specs.BlockWritten.{break_text}
+use Rattle.yq_scalar.specs.Text.{lines_of as text_lines, upto}
+use Rattle.yq_scalar.specs.Tree as tree
+use Rattle.yq_scalar.specs.Tree.{Children}
+use Rattle.yq_inline.specs.Nodes as inline
+use Rattle.yq_inline.specs.Trees.{inner}
+use Rattle.yq_inline.specs.Valued.{IsLabel, IsValueTree, AreValueTrees}
+use Rattle.yq_rows.specs.Comments.{head_comment, line_comment}
+use Rattle.yq_rows.specs.Rows as rows
+use Rattle.yq_rows.specs.Rows.{Nothing, Inline, Row, behind_columns}
+use Rattle.yq_tree.specs.Grammar.{IsNode, mapping, sequence, AreEntries, no_more, entry, IsUnder, headed, deeper_lines}
+use Rattle.yq_tree.specs.Lines.{mark_line, dash_line, lines_from, row_lines, lines_of}
+use Rattle.yq_tree.specs.Outline.{Mark, Bare, Key, Dash, Line, rank, level, anchored, label}
+use Rattle.yq_tree.proofs.NodeLaws.{anchored_none}
+use Rattle.yq_tree.proofs.UnderExchange.{lines_append}
+use Rattle.yq_block.specs.BlockRows.{behind_dash, block_key, children_rows, column_below, end_before, entry_rows, indent_step, inline_of, item_column, node_rows}
+use Rattle.yq_block.specs.BlockValues.{IsFilled, entry_level, level_at}
+use Rattle.yq_block.specs.declared.layout.Layout.{Layout}
+use Rattle.yq_block.proofs.ScalarLaws.{Heads, heads, key_content_is}
+
+-- no comments
+pub no_head : head_comment [] ≡ []
+unfolding text_lines
+no_head = refl
+
+pub break_quiet : (br : Break) → line_comment (break_text br) ≡ None
+unfolding upto
+break_quiet breaks.Lf = refl
+break_quiet breaks.CrLf = refl
+
+-- rows that begin at a column
+abbrev pub BeginAt : ℕ → List Row → Type 0
+BeginAt column [] = ⊥
+BeginAt column (r ∷ rs) = (r.gap ≡ []) × (r.column ≡ column)
+
+begun_append : (column : ℕ) (xs ys : List Row) → BeginAt column xs → BeginAt column (xs ++ ys)
+begun_append column [] ys h = absurd h
+begun_append column (x ∷ xs) ys h = h
+
+behind_begun : (column below : ℕ) (rs : List Row) → BeginAt below rs → BeginAt column (behind_dash column rs)
+behind_begun column below [] h = absurd h
+behind_begun column below (r ∷ rs) h = (h.0, refl)
+
+entry_begun : (l : Layout) (column : ℕ) (end : List ℕ) (key : Option (List ℕ)) (n : tree.Node) (node : Option inline.Node) (below : List Row) → Heads n node → (IsFilled n → BeginAt (column_below l column key n) below) → BeginAt column (entry_rows l column end key node below)
+entry_begun l column end (Some k) n (Some node) below h b = (refl, refl)
+entry_begun l column end (Some k) n None below h b = (refl, refl)
+entry_begun l column end None n (Some node) below h b = (refl, refl)
+entry_begun l column end None n None below h b = behind_begun column (item_column column) below (b h)
+
+abbrev ChildrenBegun : ℕ → Children → List Row → Type 0
+ChildrenBegun column tree.none rs = Unit {0}
+ChildrenBegun column (tree.child label n cs) rs = BeginAt column rs
+
+mutual
+  unfolding node_rows children_rows
+
+  pub node_begun : (n : tree.Node) (l : Layout) (column : ℕ) (end : List ℕ) → IsFilled n → IsValueTree n → BeginAt column (node_rows l column end n)
+  node_begun (tree.alias name) l column end b h = absurd b
+  node_begun (tree.scalar a kind t) l column end b h = absurd b
+  node_begun (tree.list a tree.none) l column end b h = absurd b
+  node_begun (tree.list a (tree.child label n cs)) l column end b h = children_begun (tree.child label n cs) l column end false h.1
+  node_begun (tree.map a tree.none) l column end b h = absurd b
+  node_begun (tree.map a (tree.child label n cs)) l column end b h = children_begun (tree.child label n cs) l column end true h.1
+
+  pub children_begun : (cs : Children) (l : Layout) (column : ℕ) (end : List ℕ) (keyed : Bool) → AreValueTrees keyed cs → ChildrenBegun column cs (children_rows l column end cs)
+  children_begun tree.none l column end keyed h = tt
+  children_begun (tree.child label n cs) l column end keyed h =
+      begun_append column _ (children_rows l column end cs)
+      (entry_begun l column (end_before l end cs) label.key n (inline_of n) _ (heads n h.1) (λ b. node_begun n l (column_below l column label.key n) (end_before l end cs) b h.1))
+
+-- a dash before rows is a line more
+behind_lines : (column : ℕ) (rs : List Row) → BeginAt (item_column column) rs → lines_of (behind_dash column rs) ≡ dash_line [] column ∷ lines_of rs
+behind_lines column [] h = absurd h
+behind_lines column (r ∷ rs) h =
+    λ i. dash_line ((ap head_comment h.0 ∙ no_head) i) column ∷ (lines_from ((sym no_head ∙ ap head_comment (sym h.0)) i) (sym h.1 i) r.dashes r.mark r.content ++ lines_of rs)
+
+-- an entry or item
+pub unanchored : (a : Option (List ℕ)) (n : tree.Node) → a ≡ None → anchored a n ≡ n
+unanchored a n h = ap (λ (b : Option (List ℕ)). anchored b n) h ∙ anchored_none n
+
+one_more : (m : ℕ) (line : Line) (under after : List Line) (v : tree.Node) (l : tree.Label) (cs : Children) → level line ≡ m → (line.mark ≡ Bare → ⊥) → IsUnder line under v → AreEntries m after cs →
+    label line ≡ l → line.anchor ≡ None → AreEntries m (line ∷ (under ++ after)) (tree.child l v cs)
+one_more m line under after v l cs lev mark is rest same none =
+    subst (λ (c : Children). AreEntries m (line ∷ (under ++ after)) c) (λ i. tree.child (same i) (unanchored line.anchor v none i) cs) (entry lev mark is rest refl)
+
+abbrev pub keyed_level : Bool → ℕ → ℕ
+keyed_level true column = 3 * column + 2
+keyed_level false column = 3 * column + 3
+
+under_key : (l : Layout) (column : ℕ) (n : tree.Node) → 1 ≤ l.mapping → IsFilled n → keyed_level true column < level_at (column + indent_step l n) n
+under_key l column (tree.alias name) h b = absurd b
+under_key l column (tree.scalar a kind t) h b = absurd b
+under_key l column (tree.list a cs) h b = omega arith
+under_key l column (tree.map a cs) h b = omega (arith, h)
+
+under_dash : (column : ℕ) (n : tree.Node) → IsFilled n → keyed_level false column < level_at (item_column column) n
+under_dash column (tree.alias name) b = absurd b
+under_dash column (tree.scalar a kind t) b = absurd b
+under_dash column (tree.list a cs) b = omega arith
+under_dash column (tree.map a cs) b = omega arith
+
+key_label : (k : List ℕ) (column : ℕ) (c : rows.Content) → IsUtf8 k → line_comment (Rattle.yq_tree.specs.Lines.tail_of c) ≡ None → label (mark_line (head_comment []) column (rows.Key (block_key k) (58 ∷ [])) c) ≡ inner (Some k)
+key_label k column c u quiet = λ i. record { key = Some (key_content_is k u i); head_comment = no_head i; line_comment = quiet i }
+
+dash_label : (column : ℕ) (c : rows.Content) → line_comment (Rattle.yq_tree.specs.Lines.tail_of c) ≡ None → label (mark_line (head_comment []) column rows.Dash c) ≡ inner None
+dash_label column c quiet = λ i. record { key = None; head_comment = no_head i; line_comment = quiet i }
+
+entry_lines : (l : Layout) (column : ℕ) (end : List ℕ) (keyed : Bool) (told : tree.Label) (n : tree.Node) (node : Option inline.Node) (below : List Row) (after : List Line) (cs : Children) → 1 ≤ l.mapping →
+    IsLabel keyed told → Heads n node → line_comment end ≡ None →
+    (IsFilled n → BeginAt (column_below l column told.key n) below × IsNode (level_at (column_below l column told.key n) n) (lines_of below) n) →
+    AreEntries (keyed_level keyed column) after cs → AreEntries (keyed_level keyed column) (lines_of (entry_rows l column end told.key node below) ++ after) (tree.child told n cs)
+unfolding level
+entry_lines l column end true told n (Some node) below after cs step is h quiet held rest =
+    subst (λ (x : tree.Label). AreEntries (keyed_level true column) (lines_of (entry_rows l column end x.key (Some node) below) ++ after) (tree.child x n cs)) (sym is.1)
+    (one_more _ _ [] after n _ cs (omega arith) (λ e. cc) (headed h.same) rest (key_label is.0 column (Inline (32 ∷ []) node end) is.2 quiet) h.unnamed)
+entry_lines l column end true told n None below after cs step is h quiet held rest =
+    let under : IsNode (level_at (column + indent_step l n) n) (lines_of below) n = subst (λ (x : tree.Label). IsNode (level_at (column_below l column x.key n) n) (lines_of below) n) is.1 (held h).1 in
+    subst (λ (x : tree.Label). AreEntries (keyed_level true column) (lines_of (entry_rows l column end x.key None below) ++ after) (tree.child x n cs)) (sym is.1)
+    (one_more _ _ (lines_of below) after n _ cs (omega arith) (λ e. cc) (deeper_lines refl (under_key l column n step h) under) rest (key_label is.0 column (Nothing (break_text l.br)) is.2 (break_quiet l.br)) refl)
+entry_lines l column end false told n (Some node) below after cs step is h quiet held rest =
+    subst (λ (x : tree.Label). AreEntries (keyed_level false column) (lines_of (entry_rows l column end x.key (Some node) below) ++ after) (tree.child x n cs)) (sym is)
+    (one_more _ _ [] after n _ cs (omega arith) (λ e. cc) (headed h.same) rest (dash_label column (Inline (32 ∷ []) node end) quiet) h.unnamed)
+entry_lines l column end false told n None below after cs step is h quiet held rest =
+    let at : ℕ = item_column column in
+    let begun : BeginAt at below = subst (λ (x : tree.Label). BeginAt (column_below l column x.key n) below) is (held h).0 in
+    let under : IsNode (level_at at n) (lines_of below) n = subst (λ (x : tree.Label). IsNode (level_at (column_below l column x.key n) n) (lines_of below) n) is (held h).1 in
+    subst (λ (x : tree.Label). AreEntries (keyed_level false column) (lines_of (entry_rows l column end x.key None below) ++ after) (tree.child x n cs)) (sym is)
+    (subst (λ (ls : List Line). AreEntries (keyed_level false column) (ls ++ after) (tree.child (inner None) n cs)) (sym (behind_lines column below begun))
+    (one_more _ (dash_line [] column) (lines_of below) after n _ cs (omega arith) (λ e. cc) (deeper_lines refl (under_dash column n h) under) rest refl refl))
+
+-- all of them
+end_quiet : (l : Layout) (end : List ℕ) (cs : Children) → line_comment end ≡ None → line_comment (end_before l end cs) ≡ None
+end_quiet l end tree.none h = h
+end_quiet l end (tree.child label n cs) h = break_quiet l.br
+
+is_key : (m : Mark) (c column : ℕ) → 3 * c + rank m ≡ 3 * column + 2 → (k : List ℕ) × (m ≡ Key k)
+is_key Bare c column h = absurd (omega (arith, h))
+is_key (Key k) c column h = (k, refl)
+is_key Dash c column h = absurd (omega (arith, h))
+
+is_dash : (m : Mark) (c column : ℕ) → 3 * c + rank m ≡ 3 * column + 3 → m ≡ Dash
+is_dash Bare c column h = absurd (omega (arith, h))
+is_dash (Key k) c column h = absurd (omega (arith, h))
+is_dash Dash c column h = refl
+
+as_map : {n : ℕ} {ls : List Line} {cs : Children} (column : ℕ) → n ≡ 3 * column + 2 → IsFilled (tree.map None cs) → AreEntries n ls cs → IsNode n ls (tree.map None cs)
+unfolding level
+as_map column e b no_more = absurd b
+as_map column e b (entry {l} lev mark under more all) = let k = is_key l.mark l.column column (lev ∙ e) in mapping k.1 (entry lev mark under more all)
+
+as_list : {n : ℕ} {ls : List Line} {cs : Children} (column : ℕ) → n ≡ 3 * column + 3 → IsFilled (tree.list None cs) → AreEntries n ls cs → IsNode n ls (tree.list None cs)
+unfolding level
+as_list column e b no_more = absurd b
+as_list column e b (entry {l} lev mark under more all) = sequence (is_dash l.mark l.column column (lev ∙ e)) (entry lev mark under more all)
+
+mutual
+  unfolding node_rows children_rows
+
+  pub node_stands : (n : tree.Node) (l : Layout) (column : ℕ) (end : List ℕ) → 1 ≤ l.mapping → IsFilled n → IsValueTree n → line_comment end ≡ None → IsNode (level_at column n) (lines_of (node_rows l column end n)) n
+  node_stands (tree.alias name) l column end step b h quiet = absurd b
+  node_stands (tree.scalar a kind t) l column end step b h quiet = absurd b
+  node_stands (tree.list a tree.none) l column end step b h quiet = absurd b
+  node_stands (tree.list a (tree.child label n cs)) l column end step b h quiet =
+      rw h.0 (as_list column refl tt (children_stand (tree.child label n cs) l column end false step h.1 quiet))
+  node_stands (tree.map a tree.none) l column end step b h quiet = absurd b
+  node_stands (tree.map a (tree.child label n cs)) l column end step b h quiet =
+      rw h.0 (as_map column refl tt (children_stand (tree.child label n cs) l column end true step h.1 quiet))
+
+  pub children_stand : (cs : Children) (l : Layout) (column : ℕ) (end : List ℕ) (keyed : Bool) → 1 ≤ l.mapping → AreValueTrees keyed cs → line_comment end ≡ None → AreEntries (keyed_level keyed column) (lines_of (children_rows l column end cs)) cs
+  children_stand tree.none l column end keyed step h quiet = no_more
+  children_stand (tree.child label n cs) l column end keyed step h quiet =
+      let below : ℕ = column_below l column label.key n in
+      let last : List ℕ = end_before l end cs in
+      let still = end_quiet l end cs quiet in
+      let here : List Row = entry_rows l column last label.key (inline_of n) (node_rows l below last n) in
+      subst (λ (ls : List Line). AreEntries (keyed_level keyed column) ls (tree.child label n cs)) (sym (lines_append here (children_rows l column end cs)))
+      (entry_lines l column last keyed label n (inline_of n) (node_rows l below last n) (lines_of (children_rows l column end cs)) cs step h.0 (heads n h.1) still
+      (λ b. (node_begun n l below last b h.1, node_stands n l below last step b h.1 still))
+      (children_stand cs l column end keyed step h.2 quiet))
+
+pub lines_deeper : (v : tree.Node) (l : Layout) (column : ℕ) (key : Option (List ℕ)) → 1 ≤ l.mapping → IsFilled v → entry_level key column < level_at (column_below l column key v) v
+lines_deeper v l column (Some k) step b = under_key l column v step b
+lines_deeper v l column None step b = under_dash column v b

@@ -1,0 +1,181 @@
+-- Rows that are written behind a key or dash of a text.
+use Rattle.std.proofs.Common.{◌≡◌, ℤ, ℕ, zero, suc, ◌+◌, ◌≤◌, true, false, not, ◌&&◌, eqb, List, [], ◌∷◌, ◌++◌, None, refl, sym, ap, ◌∙◌, subst, arith, append_assoc, replicate}
+use Rattle.std.proofs.lemmas.Bool.{false≢true}
+use Rattle.yq_scalar.specs.Text.{separates, upto}
+use Rattle.yq_rows.specs.Alike.{Alike, dash}
+use Rattle.yq_rows.specs.Comments.{head_comment, line_comment}
+use Rattle.yq_rows.specs.Exchange.{asked_behind, with_content, allows_first}
+use Rattle.yq_inline.specs.Nodes as inline
+use Rattle.yq_rows.specs.Alone.{holds_nothing}
+use Rattle.yq_rows.specs.Grammar.{IsContent, IsMark, is_entry, is_more, is_plain, AreDashes, Limit, unlimited, allows, limit_after, limit_behind, IsRow, AreRows}
+use Rattle.yq_rows.specs.Rows.{Mark, Dash, Content, Nothing, Inline, Block, dashes_text, mark_text, content_text, behind_dashes, behind_indent, behind_gap, Row, behind_columns, mark_column, parent_of, parent_indent, print_row, rows_text}
+use Rattle.yq_rows.proofs.AlikeRows.{row_gap_alike, dashes_text_alike}
+use Rattle.yq_rows.proofs.Alikes.{alike_append, alike_marker}
+use Rattle.yq_rows.proofs.ExchangeLaws.{one_row, relimit, chain}
+use Rattle.yq_rows.proofs.NodeExchange.{mark_apart}
+use Rattle.yq_tree.specs.Lines.{dash_line, lines_from, row_lines, lines_of}
+use Rattle.yq_tree.specs.Outline as outline
+use Rattle.yq_tree.specs.Outline.{Line}
+use Rattle.yq_block.specs.BlockPlaces.{dashed_row, compact_row, compact_rows, IsUpto, at_mark, at_dash, IsAbove, Replaces, BeginsUpto}
+use Rattle.yq_block.specs.BlockRows.{item_column}
+use Rattle.yq_block.proofs.LaidRows.{AreLaid, IsLaid, rows_append, text_append}
+use Rattle.yq_block.proofs.LineLaws.{BeginAt, no_head}
+
+-- dashes in front of dashes
+dashes_append : (ns ms t : List ℕ) → dashes_text (ns ++ ms) t ≡ dashes_text ns (dashes_text ms t)
+dashes_append [] ms t = refl
+dashes_append (n ∷ ns) ms t = ap (λ l. 45 ∷ (replicate n 32 ++ l)) (dashes_append ns ms t)
+
+columns_append : (column : ℕ) (ns ms : List ℕ) → behind_columns column (ns ++ ms) ≡ behind_columns (behind_columns column ns) ms
+columns_append column [] ms = refl
+columns_append column (n ∷ ns) ms = columns_append (suc (column + n)) ns ms
+
+are_dashes : (ns ms : List ℕ) (old new : Mark) → is_entry new ≡ true → AreDashes ns old → AreDashes (1 ∷ ms) new → AreDashes (ns ++ 1 ∷ ms) new
+are_dashes [] ms old new entry h k = k
+are_dashes (n ∷ ns) ms old new entry h k = (h.0, entry, are_dashes ns ms old new entry h.2 k)
+
+first_dashes : (ns ms : List ℕ) (mark : Mark) → AreDashes (ns ++ ms) mark → AreDashes ns Dash × AreDashes ms mark
+first_dashes [] ms mark h = (tt, h)
+first_dashes (n ∷ ns) ms mark h = let more = first_dashes ns ms mark h.2 in ((h.0, refl, more.0), more.1)
+
+-- behind a dash of a row something else may stand
+spaces_apart : (n : ℕ) (t : List ℕ) → 1 ≤ n → separates (replicate n 32 ++ t) ≡ true
+spaces_apart zero t h = absurd (omega (arith, h))
+spaces_apart (suc n) t h = refl
+
+dash_seam : {limit : Limit} {r s : Row} {old : List ℕ} (u : List ℕ) → IsRow limit r old → IsUpto s r → s.mark ≡ Dash → separates u ≡ true → Alike false (behind_indent r old) (dashes_text s.dashes (45 ∷ u)) × AreDashes s.dashes Dash
+dash_seam {limit} {old} u h (at_mark {r} entry) last apart =
+    let here : separates (content_text r.content old) ≡ true = mark_apart r.mark r.content old entry h.mark in
+    let seam : Alike false (mark_text r.mark (content_text r.content old)) (45 ∷ u) = subst (λ (m : Mark). Alike false (mark_text m (content_text r.content old)) (45 ∷ u)) (sym last) (dash here apart) in
+    (dashes_text_alike r.dashes _ _ seam, subst (AreDashes r.dashes) last h.dashes)
+dash_seam {limit} {old} u h (at_dash {r} {ns} n ms is) last apart =
+    let t : List ℕ = dashes_text ms (behind_dashes r old) in
+    let split = first_dashes ns (n ∷ ms) r.mark (subst (λ (ks : List ℕ). AreDashes ks r.mark) is h.dashes) in
+    let seam : Alike false (45 ∷ (replicate n 32 ++ t)) (45 ∷ u) = dash (spaces_apart n t split.1.0) apart in
+    let joined : behind_indent r old ≡ dashes_text ns (45 ∷ (replicate n 32 ++ t)) = ap (λ (ks : List ℕ). dashes_text ks (behind_dashes r old)) is ∙ dashes_append ns (n ∷ ms) (behind_dashes r old) in
+    (subst (λ (l : List ℕ). Alike false l (dashes_text ns (45 ∷ u))) (sym joined) (dashes_text_alike ns _ _ seam), split.0)
+
+-- a row that begins where another one does
+abbrev lined : Row → List ℕ → Mark → Content → Row
+lined r ns m x = record { gap = r.gap; column = r.column; dashes = ns; mark = m; content = x }
+
+like_row : (limit : Limit) (r : Row) (old ns : List ℕ) (m : Mark) (x : Content) (t : List ℕ) → IsRow limit r old → Alike false (behind_indent r old) (behind_indent (lined r ns m x) t) →
+    AreDashes ns m → IsMark m x t → IsContent (parent_indent (lined r ns m x)) x t → IsRow limit (lined r ns m x) t × Alike false (print_row r old) (print_row (lined r ns m x) t)
+like_row limit r old ns m x t h a dashes mark content =
+    let u : List ℕ = behind_indent (lined r ns m x) t in
+    let indent = alike_append false (replicate r.column 32) _ _ a in (
+      record {
+        gap = row_gap_alike r.gap (behind_gap r old) (replicate r.column 32 ++ u) indent h.gap;
+        allowed = h.allowed;
+        unmarked = ap (λ b. eqb r.column 0 && b) (sym (alike_marker false (behind_indent r old) u a)) ∙ h.unmarked;
+        dashes = dashes;
+        mark = mark;
+        content = content;
+      },
+      alike_append false r.gap _ _ indent,
+    )
+
+-- nothing, or an anchor, asks nothing of the next row
+nothing_plain : (node : inline.Node) → not (is_more node) ≡ true → is_plain node ≡ false
+nothing_plain inline.empty h = refl
+nothing_plain (inline.alias name) h = absurd (false≢true h)
+nothing_plain (inline.scalar p) h = absurd (false≢true h)
+nothing_plain (inline.coll close gap is) h = refl
+nothing_plain (inline.anchored name gap inline.empty) h = refl
+nothing_plain (inline.anchored name gap (inline.alias m)) h = refl
+nothing_plain (inline.anchored name gap (inline.scalar p)) h = absurd (false≢true h)
+nothing_plain (inline.anchored name gap (inline.coll close g is)) h = refl
+nothing_plain (inline.anchored name gap (inline.anchored m g node)) h = absurd (false≢true h)
+
+nothing_limit : (n : ℤ) (x : Content) → holds_nothing x ≡ true → limit_behind n x ≡ unlimited
+nothing_limit n (Nothing tail) h = refl
+nothing_limit n (Inline space node tail) h = rw (nothing_plain node h) refl
+nothing_limit n (Block space anchor block) h = absurd (false≢true h)
+
+-- rows on the lines behind a key or dash
+under_any : (limit : Limit) (row : Row) (below column : ℕ) (x : Content) (rs : List Row) (rest : List ℕ) → holds_nothing x ≡ true → AreLaid below rs rest → column ≤ below →
+    AreRows (limit_after (with_content x row)) rs [] rest × ((c : ℕ) → c ≤ column → allows (asked_behind limit (with_content x row ∷ rs)) c ≡ true)
+under_any limit row below column x [] rest none laid deep = absurd laid
+under_any limit row below column x (y ∷ rs) rest none laid deep =
+    (subst (λ (l : Limit). AreRows l (y ∷ rs) [] rest) (sym (nothing_limit (parent_indent row) x none)) (laid.laid unlimited refl), λ c within. laid.follows c (omega (arith, within, deep)))
+
+upto_row : {limit : Limit} {r s : Row} {old : List ℕ} (x : Content) (t : List ℕ) → IsRow limit r old → IsUpto s r → IsContent (parent_indent s) x t → separates (content_text x t) ≡ true →
+    IsRow limit (with_content x s) t × Alike false (print_row r old) (print_row (with_content x s) t)
+upto_row {limit} {old} x t h (at_mark {r} entry) content apart = one_row limit r x old t h entry content apart
+upto_row {limit} {old} x t h (at_dash {r} {ns} n ms is) content apart =
+    let seam = dash_seam (content_text x t) h (at_dash n ms is) refl apart in like_row limit r old ns Dash x t h seam.0 seam.1 apart content
+
+pub under_laid : (limit : Limit) (r s : Row) (old : List ℕ) (x : Content) (below : ℕ) (rs : List Row) (rest : List ℕ) → IsAbove limit r old s x below (rows_text rs rest) →
+    AreLaid below rs rest → Replaces limit (mark_column s) r old (with_content x s ∷ rs) rest
+under_laid limit r s old x below rs rest h laid =
+    let first = upto_row x (rows_text rs rest) h.row h.upto h.content h.apart in
+    let behind = under_any limit s below (mark_column s) x rs rest h.nothing laid h.deep in
+    record { rows = (first.0, behind.0); alike = first.1; follow = behind.1 }
+
+-- rows on the line of a dash
+on_line : (limit : Limit) (r : Row) (old ds : List ℕ) (q : Row) (rs : List Row) (rest : List ℕ) → IsRow limit r old →
+    ((u : List ℕ) → separates u ≡ true → Alike false (behind_indent r old) (dashes_text ds (45 ∷ u)) × AreDashes ds Dash) →
+    IsLaid (item_column (behind_columns r.column ds)) q rs rest → Replaces limit (behind_columns r.column ds) r old (lined r (ds ++ 1 ∷ q.dashes) q.mark q.content ∷ rs) rest
+on_line limit r old ds q rs rest h seams laid =
+    let new : Row = lined r (ds ++ 1 ∷ q.dashes) q.mark q.content in
+    let t : List ℕ = rows_text rs rest in
+    let inner : List ℕ = dashes_text q.dashes (behind_dashes q t) in
+    let seam = seams (32 ∷ inner) refl in
+    let joined : dashes_text ds (45 ∷ 32 ∷ inner) ≡ behind_indent new t = sym (dashes_append ds (1 ∷ q.dashes) (behind_dashes q t)) in
+    let columns : mark_column q ≡ mark_column new = ap (λ (k : ℕ). behind_columns k q.dashes) laid.at ∙ sym (columns_append r.column ds (1 ∷ q.dashes)) in
+    let same : parent_indent q ≡ parent_indent new = ap (λ (k : ℕ). parent_of q.mark k) columns in
+    let limits : limit_after q ≡ limit_after new = ap (λ n. limit_behind n q.content) same in
+    let alone = laid.laid unlimited refl in
+    let dashes = are_dashes ds q.dashes Dash q.mark laid.entry seam.1 (omega arith, laid.entry, alone.0.dashes) in
+    let first = like_row limit r old (ds ++ 1 ∷ q.dashes) q.mark q.content t h (subst (λ (l : List ℕ). Alike false (behind_indent r old) l) joined seam.0) dashes alone.0.mark (subst (λ n. IsContent n q.content t) same alone.0.content) in
+    record {
+      rows = (first.0, subst (λ (l : Limit). AreRows l rs [] rest) limits alone.1);
+      alike = first.1;
+      follow = λ c within. subst (λ (l : Limit). allows (asked_behind l rs) c ≡ true) limits (laid.follows c (omega (arith, within)));
+    }
+
+upto_line : {limit : Limit} {r s : Row} {old : List ℕ} (q : Row) (rs : List Row) (rest : List ℕ) → IsRow limit r old → IsUpto s r → s.mark ≡ Dash → IsLaid (item_column (mark_column s)) q rs rest → Replaces limit (mark_column s) r old (compact_row 1 s q ∷ rs) rest
+upto_line {limit} {old} q rs rest h (at_mark {r} entry) last laid = on_line limit r old r.dashes q rs rest h (λ u apart. dash_seam u h (at_mark entry) last apart) laid
+upto_line {limit} {old} q rs rest h (at_dash {r} {ns} n ms is) last laid = on_line limit r old ns q rs rest h (λ u apart. dash_seam u h (at_dash n ms is) last apart) laid
+
+pub behind_laid : (limit : Limit) (r s : Row) (old : List ℕ) (rs : List Row) (rest : List ℕ) → IsRow limit r old → IsUpto s r → s.mark ≡ Dash → AreLaid (item_column (mark_column s)) rs rest → Replaces limit (mark_column s) r old (compact_rows s rs) rest
+behind_laid limit r s old [] rest h upto last laid = absurd laid
+behind_laid limit r s old (q ∷ rs) rest h upto last laid = upto_line q rs rest h upto last laid
+
+-- their lines
+no_comment : line_comment [] ≡ None
+unfolding upto
+no_comment = refl
+
+lines_behind : (above : List (List ℕ)) (column : ℕ) (ns ms : List ℕ) (m : Mark) (c : Content) →
+    lines_from above column (ns ++ 1 ∷ ms) m c ≡ lines_from above column ns Dash (Nothing []) ++ lines_from [] (item_column (behind_columns column ns)) ms m c
+lines_behind above column [] ms m c = λ i. record { column = column; mark = outline.Dash; anchor = None; head = None; head_comment = above; line_comment = sym no_comment i } ∷ lines_from [] (suc (column + 1)) ms m c
+lines_behind above column (n ∷ ns) ms m c = ap (λ ls. dash_line above column ∷ ls) (lines_behind [] (suc (column + n)) ns ms m c)
+
+pub compact_lines : (s : Row) (rs : List Row) → BeginAt (item_column (mark_column s)) rs → lines_of (compact_rows s rs) ≡ row_lines (dashed_row s.dashes (Nothing []) s) ++ lines_of rs
+compact_lines s [] h = absurd h
+compact_lines s (q ∷ rs) h =
+    let front : List Line = lines_from (head_comment s.gap) s.column s.dashes Dash (Nothing []) in
+    let at : ℕ = item_column (mark_column s) in
+    ap (λ ls. ls ++ lines_of rs) (lines_behind (head_comment s.gap) s.column s.dashes q.dashes q.mark q.content)
+    ∙ (append_assoc front (lines_from [] at q.dashes q.mark q.content) (lines_of rs)
+    ∙ (λ i. front ++ (lines_from ((sym no_head ∙ ap head_comment (sym h.0)) i) (sym h.1 i) q.dashes q.mark q.content ++ lines_of rs)))
+
+-- rows in the place of a row and those under it
+rows_split : (limit : Limit) (xs ys : List Row) (end rest : List ℕ) → AreRows limit (xs ++ ys) end rest → AreRows (asked_behind limit xs) ys end rest
+rows_split limit [] ys end rest h = h
+rows_split limit (x ∷ xs) ys end rest h = rows_split (limit_after x) xs ys end rest h.1
+
+allowed_upto : (limit : Limit) (column : ℕ) (rs : List Row) → ((c : ℕ) → c ≤ column → allows limit c ≡ true) → BeginsUpto column rs → allows_first limit rs ≡ true
+allowed_upto limit column [] h b = refl
+allowed_upto limit column (r ∷ rs) h b = h r.column b
+
+pub rows_replaced : (limit : Limit) (column : ℕ) (before under after new : List Row) (r : Row) (end rest : List ℕ) → AreRows limit (before ++ (r ∷ (under ++ after))) end rest → BeginsUpto column after →
+    Replaces (asked_behind limit before) column r (rows_text (under ++ after) (end ++ rest)) new (rows_text after (end ++ rest)) → AreRows limit (before ++ (new ++ after)) end rest
+rows_replaced limit column before under after new r end rest h upto by =
+    let asked : Limit = asked_behind limit before in
+    let tail : AreRows (limit_after r) (under ++ after) end rest = (rows_split limit before (r ∷ (under ++ after)) end rest h).1 in
+    let left : AreRows (asked_behind (limit_after r) under) after end rest = rows_split (limit_after r) under after end rest tail in
+    let again : AreRows (asked_behind asked new) after end rest = relimit _ (asked_behind asked new) after end rest (allowed_upto (asked_behind asked new) column after by.follow upto) left in
+    let alike = subst (λ (t : List ℕ). Alike false (print_row r (rows_text (under ++ after) (end ++ rest))) t) (sym (text_append new after (end ++ rest))) by.alike in
+    (chain before (r ∷ (under ++ after)) (new ++ after) limit end rest end rest h (rows_append asked new after end rest by.rows again) alike).0

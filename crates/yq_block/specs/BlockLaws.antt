@@ -1,0 +1,68 @@
+-- What is promised of the rows in which values are written in block style (own).
+use Rattle.std.specs.Prelude.{◌≡◌, ℕ, ◌<◌, ◌≤◌, Option, Some, List, [], ◌∷◌, ◌++◌, replicate, None, true, length}
+use Rattle.std.specs.Str.{IsUtf8, chars}
+use Rattle.yq_scalar.specs.declared.style.Place.TheVariants.{FlowKey}
+use Rattle.yq_scalar.specs.BlockWritten.{break_text}
+use Rattle.yq_scalar.specs.Characters.{is_text, text_limit}
+use Rattle.yq_scalar.specs.Scalar.{string_of}
+use Rattle.yq_scalar.specs.Tree as tree
+use Rattle.yq_inline.specs.Valued.{IsValueTree}
+use Rattle.yq_inline.specs.Written.{scalar_text}
+use Rattle.yq_rows.specs.Comments.{line_comment}
+use Rattle.yq_rows.specs.Exchange.{asked_behind}
+use Rattle.yq_rows.specs.Grammar.{Limit, allows, AreRows, key_limit}
+use Rattle.yq_rows.specs.Rows.{rows_text}
+use Rattle.yq_tree.specs.Anchors.{HaveOneAnchorEach}
+use Rattle.yq_tree.specs.Documents.{HaveFitKeys, Reads}
+use Rattle.yq_tree.specs.Lines.{lines_of}
+use Rattle.yq_tree.specs.Outline.{Stands}
+use Rattle.yq_block.specs.declared.layout.Layout.{Layout}
+use Rattle.yq_block.specs.BlockRows.{column_below, node_rows}
+use Rattle.yq_block.specs.BlockText.{block_node, block_value}
+use Rattle.yq_block.specs.BlockValues.{IsFilled, InRows, IsNear, IsWritable, MayBeRoot, entry_level, level_at}
+
+-- The rows in which a value is written have its text, behind the spaces before the first of them (own).
+abbrev pub TextWritten : Type 0
+TextWritten = (v : tree.Node) (l : Layout) (column : ℕ) (end rest : List ℕ) → InRows v →
+    rows_text (node_rows l column end v) rest ≡ replicate column 32 ++ (block_node l column v ++ (end ++ rest))
+
+-- They are rows, behind any row that allows their column, where no plain scalar goes on behind them (own).
+abbrev pub RowsWritten : Type 0
+RowsWritten = (v : tree.Node) (l : Layout) (column : ℕ) (end rest : List ℕ) (limit : Limit) → IsWritable v column end rest →
+    allows limit column ≡ true → AreRows limit (node_rows l column end v) [] rest
+
+-- Behind them a row may begin at any column up to theirs (own).
+abbrev pub RowsFollow : Type 0
+RowsFollow = (v : tree.Node) (l : Layout) (column c : ℕ) (end rest : List ℕ) (limit : Limit) → IsWritable v column end rest →
+    c ≤ column → allows (asked_behind limit (node_rows l column end v)) c ≡ true
+
+-- Their lines stand for the value, at the level of their column, where a mapping stands deeper than its key and no comment is in the last line (own).
+abbrev pub LinesWritten : Type 0
+LinesWritten = (v : tree.Node) (l : Layout) (column : ℕ) (end : List ℕ) → 1 ≤ l.mapping → InRows v → line_comment end ≡ None →
+    Stands (lines_of (node_rows l column end v)) v (level_at column v)
+
+-- They are deeper than the line of the key or dash under which they stand (own).
+abbrev pub LinesDeeper : Type 0
+LinesDeeper = (v : tree.Node) (l : Layout) (column : ℕ) (key : Option (List ℕ)) → 1 ≤ l.mapping → IsFilled v →
+    entry_level key column < level_at (column_below l column key v) v
+
+-- They hold no anchors, and no keys that would merge mappings or are too long (own).
+abbrev pub RowsFit : Type 0
+RowsFit = (v : tree.Node) (l : Layout) (column : ℕ) (end : List ℕ) → IsValueTree v →
+    HaveFitKeys (node_rows l column end v) × HaveOneAnchorEach (lines_of (node_rows l column end v))
+
+-- A key that isn't too long as it is written in a flow collection isn't too long in block style (own).
+abbrev pub KeysNear : Type 0
+KeysNear = (k : List ℕ) → IsUtf8 k → length (chars (scalar_text (string_of k) FlowKey)) ≤ key_limit → IsNear (Some k)
+
+-- What is written is made of the characters of a text (own).
+abbrev pub CharactersWritten : Type 0
+CharactersWritten = (v : tree.Node) (l : Layout) (column : ℕ) → IsValueTree v → IsUtf8 (block_node l column v) × (is_text (block_node l column v) ≡ true)
+
+-- A text reads as one document of a collection, where this can be a root and the text isn't too long (own).
+abbrev pub ReadsAlone : tree.Node → List ℕ → Type 0
+ReadsAlone v text = MayBeRoot v → length text ≤ text_limit → Reads text (record { lead = []; root = v } ∷ [])
+
+-- A value that is written in column 0, with a break behind it, where a mapping stands deeper than its key, reads alone (own).
+abbrev pub ValueRead : Type 0
+ValueRead = (v : tree.Node) (l : Layout) → 1 ≤ l.mapping → IsValueTree v → ReadsAlone v (block_value l 0 v ++ break_text l.br)

@@ -1,0 +1,16 @@
+pub use Rattle.yq_scalar.specs.Keys
+pub use Rattle.yq_scalar.specs.Tree
+pub use Rattle.yq_inline.specs.Valued
+pub use Rattle.yq_inline.specs.Values
+pub use Rattle.yq_inline.specs.Written
+pub use Rattle.yq_rows.specs.Exchange
+pub use Rattle.yq_rows.specs.Grammar
+pub use Rattle.yq_rows.specs.Rows
+pub use Rattle.yq_tree.specs.Documents
+pub use Rattle.yq_tree.specs.Outline
+pub mod BlockRows
+pub mod BlockText
+pub mod BlockReading
+pub mod BlockValues
+pub mod BlockLaws
+pub mod BlockPlaces

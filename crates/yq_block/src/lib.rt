@@ -1,0 +1,11 @@
+//! Values in block style: the rows in which they are written, and their text.
+#![tactic(auto)]
+
+mod laws;
+mod layout;
+mod pieces;
+mod write;
+
+pub use laws::{block_placed, block_read, block_written};
+pub use layout::Layout;
+pub use write::push_block;
