@@ -4,3 +4,4 @@ pub mod FoundLaws
 pub mod EditLaws
 pub mod PromiseLaws
 pub mod AnswerLaws
+pub mod PrintLaws

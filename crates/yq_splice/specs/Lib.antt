@@ -4,3 +4,4 @@ pub mod Edit
 pub mod Answers
 pub mod Valid
 pub mod Theorems
+pub mod Print
