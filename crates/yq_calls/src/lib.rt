@@ -2,6 +2,8 @@
 #![tactic(auto)]
 
 #[cfg(test)]
+mod block;
+#[cfg(test)]
 mod expr;
 #[cfg(test)]
 mod inline;

@@ -1,0 +1,38 @@
+//! Each growth of memory is refused in turn.
+
+use super::literal;
+use crate::memory::all_memory;
+use std::alloc::{AllocError, Global};
+use std::test::Fail;
+use yq_expr::{Value, parse_expr};
+use yq_splice::print;
+
+const PRINTED: &str = "a:\n  - b\n  - c: \"true\"\n    \"null\": {}\n";
+
+/// With all memory held the value isn't printed; once enough is given back it is, whole.
+fn is_printed_later(alloc: Global, value: &Value) -> Result<bool, AllocError> {
+    let mut held = all_memory(alloc)?;
+    'turns: for turn in 0..4096u32 {
+        match print(alloc, value) {
+            Ok(text) => return Ok(turn > 3 && text.as_str() == PRINTED),
+            Err(_) => {
+                let _ = held.pop();
+            }
+        }
+    }
+    Ok(false)
+}
+
+#[test]
+fn memory_is_refused_in_turn(rt: HostRuntime) -> Result<(), Fail> {
+    let alloc = rt.alloc();
+    let program = parse_expr(
+        alloc,
+        ". = {\"a\": [\"b\", {\"c\": \"true\", \"null\": {}}]}",
+    )?;
+    let Some(value) = literal(&program) else {
+        panic!(rt; "no literal");
+    };
+    assert!(rt; is_printed_later(alloc, value)?);
+    Ok(())
+}
