@@ -21,6 +21,7 @@ use Rattle.yq_block.specs.BlockRows.{block_key, column_below, inline_of}
 use Rattle.yq_block.specs.BlockText.{block_children, block_entry, block_node, then_lines}
 use Rattle.yq_block.specs.declared.layout.Layout.{Layout}
 use Rattle.yq_block.proofs.ScalarLaws.{key_spelled, scalar_spelled}
+use Rattle.yq_block.specs.BlockText.{block_value, inline_or}
 
 -- whole characters of a text
 abbrev pub IsUtf8Text : List ℕ → Type 0
@@ -34,7 +35,7 @@ sound_join a b h k =
     ap (list_all is_text_char) (chars-append a b h.0) ∙ (list_all-append is_text_char (chars a) (chars b) ∙ both_true _ _ p.0 q.0) in
     (IsUtf8-append a b h.0 k.0, both_true _ _ all (pairs_join a b p.1 q.1))
 
-pub sound_none : IsUtf8Text []
+sound_none : IsUtf8Text []
 unfolding chars pairs_returns encode
 sound_none = (IsUtf8-nil, refl)
 
@@ -43,7 +44,7 @@ byte_sound : (b : ℕ) → b ≡ 32 → IsUtf8Text (b ∷ [])
 unfolding chars pairs_returns encode
 byte_sound b e = rw e ((32 ∷ [], (refl, refl)), refl)
 
-pub spaces_sound : (n : ℕ) → IsUtf8Text (replicate n 32)
+spaces_sound : (n : ℕ) → IsUtf8Text (replicate n 32)
 spaces_sound zero = sound_none
 spaces_sound (suc n) = sound_join (32 ∷ []) (replicate n 32) (byte_sound 32 refl) (spaces_sound n)
 
@@ -73,11 +74,11 @@ unfolding chars pairs_returns encode
 map_sound = ((123 ∷ 125 ∷ [], (refl, refl)), refl)
 
 -- scalars and empty collections
-abbrev pub Sounds : Option inline.Node → Type 0
+abbrev Sounds : Option inline.Node → Type 0
 Sounds None = Unit {0}
 Sounds (Some node) = IsUtf8Text (node_text node [])
 
-pub head_sound : (v : tree.Node) → IsValueTree v → Sounds (inline_of v)
+head_sound : (v : tree.Node) → IsValueTree v → Sounds (inline_of v)
 unfolding inline.node_text inline.items_text
 head_sound (tree.alias name) h = absurd h
 head_sound (tree.scalar a kind t) h = let w = scalar_spelled (record { kind = kind; text = t }) h.1 in subst IsUtf8Text (sym (append-nil _)) (w.utf8, w.text)
@@ -109,16 +110,23 @@ then_sound l column (tree.child label n cs) t h = sound_join (break_text l.br) (
 mutual
   unfolding block_node block_children
 
-  pub node_sound : (n : tree.Node) (l : Layout) (column : ℕ) → IsValueTree n → IsUtf8Text (block_node l column n)
+  node_sound : (n : tree.Node) (l : Layout) (column : ℕ) → IsValueTree n → IsUtf8Text (block_node l column n)
   node_sound (tree.alias name) l column h = sound_none
   node_sound (tree.scalar a kind t) l column h = sound_none
   node_sound (tree.list a cs) l column h = children_sound cs l column false h.1
   node_sound (tree.map a cs) l column h = children_sound cs l column true h.1
 
-  pub children_sound : (cs : Children) (l : Layout) (column : ℕ) (keyed : Bool) → AreValueTrees keyed cs → IsUtf8Text (block_children l column cs)
+  children_sound : (cs : Children) (l : Layout) (column : ℕ) (keyed : Bool) → AreValueTrees keyed cs → IsUtf8Text (block_children l column cs)
   children_sound tree.none l column keyed h = sound_none
   children_sound (tree.child label n cs) l column keyed h =
       let below : ℕ = column_below l column label.key n in
       sound_join _ (then_lines l column cs (block_children l column cs))
       (entry_sound l below keyed label (inline_of n) (block_node l below n) h.0 (head_sound n h.1) (node_sound n l below h.1))
       (then_sound l column cs (block_children l column cs) (children_sound cs l column keyed h.2))
+
+inline_sound : (v : tree.Node) (l : Layout) (column : ℕ) → IsValueTree v → (node : Option inline.Node) → Sounds node → IsUtf8Text (inline_or node (block_node l column v))
+inline_sound v l column h None s = node_sound v l column h
+inline_sound v l column h (Some node) s = s
+
+pub value_sound : (v : tree.Node) (l : Layout) (column : ℕ) → IsValueTree v → IsUtf8Text (block_value l column v)
+value_sound v l column h = inline_sound v l column h (inline_of v) (head_sound v h)

@@ -16,7 +16,7 @@ use Rattle.yq_block.proofs.KeyLaws.{key_apart}
 use Rattle.yq_block.proofs.ScalarLaws.{Heads, heads}
 
 -- rows without anchors, whose keys are fit
-abbrev pub RowIsFit : Row → Type 0
+abbrev RowIsFit : Row → Type 0
 RowIsFit r = MarkIsFit r.mark × ContentHasFitKeys r.content × (anchor_of r.content ≡ None)
 
 abbrev pub RowsAreFit : List Row → Type 0
@@ -46,7 +46,7 @@ mutual
   node_fit (tree.list a cs) l column end h = children_fit cs l column end false h.1
   node_fit (tree.map a cs) l column end h = children_fit cs l column end true h.1
 
-  pub children_fit : (cs : Children) (l : Layout) (column : ℕ) (end : List ℕ) (keyed : Bool) → AreValueTrees keyed cs → RowsAreFit (children_rows l column end cs)
+  children_fit : (cs : Children) (l : Layout) (column : ℕ) (end : List ℕ) (keyed : Bool) → AreValueTrees keyed cs → RowsAreFit (children_rows l column end cs)
   children_fit tree.none l column end keyed h = tt
   children_fit (tree.child label n cs) l column end keyed h =
       let below : ℕ = column_below l column label.key n in
@@ -85,7 +85,7 @@ anchors_fit rs h = one_each (lines_of rs) (rows_unnamed rs h)
 
 -- a value names nothing
 mutual
-  pub no_names : (n : tree.Node) → IsValueTree n → names_of n ≡ []
+  no_names : (n : tree.Node) → IsValueTree n → names_of n ≡ []
   no_names (tree.alias name) h = absurd h
   no_names (tree.scalar a kind t) h = rw h.0 refl
   no_names (tree.list a cs) h = rw h.0 (none_named cs false h.1)

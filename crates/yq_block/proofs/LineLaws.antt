@@ -67,7 +67,7 @@ mutual
   node_begun (tree.map a tree.none) l column end b h = absurd b
   node_begun (tree.map a (tree.child label n cs)) l column end b h = children_begun (tree.child label n cs) l column end true h.1
 
-  pub children_begun : (cs : Children) (l : Layout) (column : ℕ) (end : List ℕ) (keyed : Bool) → AreValueTrees keyed cs → ChildrenBegun column cs (children_rows l column end cs)
+  children_begun : (cs : Children) (l : Layout) (column : ℕ) (end : List ℕ) (keyed : Bool) → AreValueTrees keyed cs → ChildrenBegun column cs (children_rows l column end cs)
   children_begun tree.none l column end keyed h = tt
   children_begun (tree.child label n cs) l column end keyed h =
       begun_append column _ (children_rows l column end cs)
@@ -88,7 +88,7 @@ one_more : (m : ℕ) (line : Line) (under after : List Line) (v : tree.Node) (l 
 one_more m line under after v l cs lev mark is rest same none =
     subst (λ (c : Children). AreEntries m (line ∷ (under ++ after)) c) (λ i. tree.child (same i) (unanchored line.anchor v none i) cs) (entry lev mark is rest refl)
 
-abbrev pub keyed_level : Bool → ℕ → ℕ
+abbrev keyed_level : Bool → ℕ → ℕ
 keyed_level true column = 3 * column + 2
 keyed_level false column = 3 * column + 3
 
@@ -171,7 +171,7 @@ mutual
   node_stands (tree.map a (tree.child label n cs)) l column end step b h quiet =
       rw h.0 (as_map column refl tt (children_stand (tree.child label n cs) l column end true step h.1 quiet))
 
-  pub children_stand : (cs : Children) (l : Layout) (column : ℕ) (end : List ℕ) (keyed : Bool) → 1 ≤ l.mapping → AreValueTrees keyed cs → line_comment end ≡ None → AreEntries (keyed_level keyed column) (lines_of (children_rows l column end cs)) cs
+  children_stand : (cs : Children) (l : Layout) (column : ℕ) (end : List ℕ) (keyed : Bool) → 1 ≤ l.mapping → AreValueTrees keyed cs → line_comment end ≡ None → AreEntries (keyed_level keyed column) (lines_of (children_rows l column end cs)) cs
   children_stand tree.none l column end keyed step h quiet = no_more
   children_stand (tree.child label n cs) l column end keyed step h quiet =
       let below : ℕ = column_below l column label.key n in

@@ -1,5 +1,5 @@
 -- A collection that is written alone is read as one document.
-use Rattle.std.proofs.Common.{◌≡◌, ℕ, ◌≤◌, true, false, List, [], ◌∷◌, ◌++◌, length, Option, Some, None, refl, sym, ap, ◌∙◌, subst, append-nil}
+use Rattle.std.proofs.Common.{◌≡◌, ℕ, ◌≤◌, true, false, List, [], ◌∷◌, ◌++◌, length, refl, sym, ap, ◌∙◌, subst, append-nil}
 use Rattle.std.proofs.lemmas.Bool.{or_right}
 use Rattle.std.proofs.lemmas.Str.{is_utf8-from_IsUtf8}
 use Rattle.yq_scalar.specs.Characters.{text_limit}
@@ -22,18 +22,19 @@ use Rattle.yq_scalar.specs.BlockWritten.{break_text}
 use Rattle.yq_rows.proofs.PlainEnds.{end_line}
 use Rattle.yq_rows.proofs.Alikes.{no_first}
 use Rattle.yq_block.specs.BlockLaws.{ReadsAlone}
-use Rattle.yq_block.specs.BlockRows.{inline_of, node_rows}
-use Rattle.yq_block.specs.BlockText.{block_node, block_value, inline_or}
+use Rattle.yq_block.specs.BlockRows.{node_rows}
+use Rattle.yq_block.specs.BlockText.{block_node, block_value}
 use Rattle.yq_block.specs.BlockValues.{HasNearKeys, IsCollection, IsFilled, MayBeRoot}
 use Rattle.yq_block.specs.declared.layout.Layout.{Layout}
-use Rattle.yq_block.proofs.CharacterLaws.{IsUtf8Text, Sounds, break_sound, head_sound, node_sound, sound_join}
+use Rattle.yq_block.proofs.CharacterLaws.{IsUtf8Text, break_sound, value_sound, sound_join}
 use Rattle.yq_block.proofs.EndLaws.{break_ends, break_tail, line_ends}
 use Rattle.yq_block.proofs.FitLaws.{RowsAreFit, all_bound, anchors_fit, keys_fit, node_fit}
 use Rattle.yq_block.proofs.LaidRows.{AreLaid, laid_rows, no_gap_here}
 use Rattle.yq_block.proofs.LineLaws.{break_quiet, unanchored, no_head, node_stands}
 use Rattle.yq_block.proofs.RowLaws.{node_laid}
-use Rattle.yq_block.proofs.ScalarLaws.{IsHead, heads}
+use Rattle.yq_block.proofs.ScalarLaws.{heads}
 use Rattle.yq_block.proofs.TextLaws.{node_spelled}
+use Rattle.yq_block.specs.BlockLaws.{IsHead}
 
 -- What is asked of rows that are all of a text, and stand for a node.
 record IsAllOf (v : tree.Node) (text : List ℕ) (rs : List Row) : Type 0 where
@@ -138,12 +139,5 @@ collection_all (tree.list a (tree.child label n cs)) l step c h near = (_, block
 collection_all (tree.map a tree.none) l step c h near = (_, empty_all (tree.map a tree.none) l (inline.coll 125 [] inline.none) (heads (tree.map a tree.none) h) (λ t. no_first 123 (125 ∷ t) refl refl) refl)
 collection_all (tree.map a (tree.child label n cs)) l step c h near = (_, block_all (tree.map a (tree.child label n cs)) l step tt h near)
 
-inline_sound : (v : tree.Node) (l : Layout) → IsValueTree v → (node : Option inline.Node) → Sounds node → IsUtf8Text (inline_or node (block_node l 0 v))
-inline_sound v l h None s = node_sound v l 0 h
-inline_sound v l h (Some node) s = s
-
-value_sound : (v : tree.Node) (l : Layout) → IsValueTree v → IsUtf8Text (block_value l 0 v ++ break_text l.br)
-value_sound v l h = sound_join _ (break_text l.br) (inline_sound v l h (inline_of v) (head_sound v h)) (break_sound l.br)
-
 pub value_read : (v : tree.Node) (l : Layout) → 1 ≤ l.mapping → IsValueTree v → ReadsAlone v (block_value l 0 v ++ break_text l.br)
-value_read v l step h root size = let all = collection_all v l step root.collection h root.near in all_read v (block_value l 0 v ++ break_text l.br) all.0 all.1 (value_sound v l h) size h root
+value_read v l step h root size = let all = collection_all v l step root.collection h root.near in all_read v (block_value l 0 v ++ break_text l.br) all.0 all.1 (sound_join _ (break_text l.br) (value_sound v l 0 h) (break_sound l.br)) size h root

@@ -21,7 +21,8 @@ use Rattle.yq_block.specs.declared.layout.Layout.{Layout}
 use Rattle.yq_block.proofs.EndLaws.{break_tail, deeper_end, line_ends}
 use Rattle.yq_block.proofs.KeyLaws.{key_unmarked}
 use Rattle.yq_block.proofs.LaidRows.{AreLaid, laid_append, laid_behind, laid_line, no_gap_here}
-use Rattle.yq_block.proofs.ScalarLaws.{Heads, IsHead, heads, key_is}
+use Rattle.yq_block.proofs.ScalarLaws.{Heads, heads, key_is}
+use Rattle.yq_block.specs.BlockLaws.{IsHead}
 
 -- a row that begins at a column with a mark
 abbrev front_row : ℕ → Mark → Content → Row
@@ -128,7 +129,7 @@ mutual
   node_laid (tree.map a tree.none) l column end rest b h k e = absurd b
   node_laid (tree.map a (tree.child label n cs)) l column end rest b h k e = children_laid (tree.child label n cs) l column end rest true h.1 k e
 
-  pub children_laid : (cs : Children) (l : Layout) (column : ℕ) (end rest : List ℕ) (keyed : Bool) → AreValueTrees keyed cs → EachHasNearKeys cs → IsEnd column end rest → ChildrenLaid column cs (children_rows l column end cs) rest
+  children_laid : (cs : Children) (l : Layout) (column : ℕ) (end rest : List ℕ) (keyed : Bool) → AreValueTrees keyed cs → EachHasNearKeys cs → IsEnd column end rest → ChildrenLaid column cs (children_rows l column end cs) rest
   children_laid tree.none l column end rest keyed h k e = tt
   children_laid (tree.child label n cs) l column end rest keyed h k e =
       let later = children_laid cs l column end rest keyed h.2 k.2 e in

@@ -1,5 +1,5 @@
 -- Scalars, keys and empty collections as they are written in block style.
-use Rattle.std.proofs.Common.{◌≡◌, ℕ, ℤ, Bool, true, false, cond, List, [], ◌∷◌, length, Option, Some, None, refl, sym, ap, subst, arith}
+use Rattle.std.proofs.Common.{◌≡◌, ℕ, Bool, true, false, cond, List, [], ◌∷◌, length, Option, Some, None, refl, sym, ap, subst, arith}
 use Rattle.std.proofs.lemmas.Bool.{false≢true}
 use Rattle.std.specs.Str.{chars, IsUtf8}
 use Rattle.yq_scalar.specs.declared.kind.Kind.{Kind}
@@ -15,7 +15,6 @@ use Rattle.yq_scalar.specs.Text.{separates}
 use Rattle.yq_scalar.specs.Tree as tree
 use Rattle.yq_scalar.specs.Writable.{can_write, is_string}
 use Rattle.yq_scalar.specs.Written.{written}
-use Rattle.yq_inline.specs.Inline.{IsInline}
 use Rattle.yq_inline.specs.Nodes as inline
 use Rattle.yq_inline.specs.Nodes.{IsNode}
 use Rattle.yq_inline.specs.Scalars.{is_quoted, content_of, scalar_of}
@@ -25,11 +24,10 @@ use Rattle.yq_inline.specs.Written.{scalar_text}
 use Rattle.yq_inline.proofs.GapLaws.{none_gap}
 use Rattle.yq_inline.proofs.StyledScalars.{styled_spells}
 use Rattle.yq_inline.proofs.WrittenLaws.{double_when}
-use Rattle.yq_rows.specs.Grammar.{IsKey, is_more}
-use Rattle.yq_tree.specs.Lines.{node_anchor, node_head}
-use Rattle.yq_tree.specs.Documents.{HasFitKeys}
+use Rattle.yq_rows.specs.Grammar.{IsKey}
 use Rattle.yq_block.specs.BlockRows.{block_key, inline_of}
 use Rattle.yq_block.specs.BlockValues.{IsFilled, IsNear}
+use Rattle.yq_block.specs.BlockLaws.{IsHead}
 
 -- a scalar
 styled : (s : ScalarText) → IsValid s → (plain : Bool) → can_write s styles.Plain places.Block ≡ plain → SpellsScalar s (written (cond plain styles.Plain styles.Double) s.text)
@@ -75,14 +73,7 @@ key_is k rest u near h =
       near = omega (arith, near, one);
     }
 
--- A value is written as this inline node, or as none where it is a collection that isn't empty.
-pub record IsHead (v : tree.Node) (node : inline.Node) : Type 0 where
-  pub stands : (n : ℤ) (rest : List ℕ) → ends_plain false (Some (deeper n)) rest ≡ true → IsInline places.Block n 0 node rest
-  pub same : node_head node ≡ Some v
-  pub unnamed : node_anchor node ≡ None
-  pub more : is_more node ≡ true
-  pub keys : HasFitKeys node
-
+-- the inline node as which a value is written, or none where it is written in rows
 abbrev pub Heads : tree.Node → Option inline.Node → Type 0
 Heads v None = IsFilled v
 Heads v (Some node) = IsHead v node

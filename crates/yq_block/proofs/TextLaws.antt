@@ -16,9 +16,10 @@ use Rattle.yq_block.specs.declared.layout.Layout.{Layout}
 use Rattle.yq_block.proofs.LaidRows.{text_append}
 use Rattle.yq_block.proofs.LineLaws.{BeginAt, node_begun}
 use Rattle.yq_block.proofs.ScalarLaws.{Heads, heads}
+use Rattle.yq_block.specs.BlockText.{block_value}
 
 -- spaces and a text, before an end
-abbrev pub indented : ℕ → List ℕ → List ℕ → List ℕ
+abbrev indented : ℕ → List ℕ → List ℕ → List ℕ
 indented column t rest = replicate column 32 ++ (t ++ rest)
 
 -- rows behind a dash
@@ -72,7 +73,7 @@ mutual
   node_spelled (tree.map a tree.none) l column end rest b h = absurd b
   node_spelled (tree.map a (tree.child label n cs)) l column end rest b h = children_spelled (tree.child label n cs) l column end rest true h.1
 
-  pub children_spelled : (cs : Children) (l : Layout) (column : ℕ) (end rest : List ℕ) (keyed : Bool) → AreValueTrees keyed cs → rows_text (children_rows l column end cs) rest ≡ behind_text l column cs end rest
+  children_spelled : (cs : Children) (l : Layout) (column : ℕ) (end rest : List ℕ) (keyed : Bool) → AreValueTrees keyed cs → rows_text (children_rows l column end cs) rest ≡ behind_text l column cs end rest
   children_spelled tree.none l column end rest keyed h = refl
   children_spelled (tree.child label n cs) l column end rest keyed h =
       let below : ℕ = column_below l column label.key n in
@@ -83,3 +84,11 @@ mutual
       ∙ (ap (rows_text here) (children_spelled cs l column end rest keyed h.2)
       ∙ (entry_spelled l column below last label.key n (inline_of n) (node_rows l below last n) (block_node l below n) behind (heads n h.1) (λ b. (node_begun n l below last b h.1, node_spelled n l below last behind b h.1))
       ∙ then_spelled l column end cs (block_entry l below label.key (inline_of n) (block_node l below n)) rest))
+
+pub value_spelled : (v : tree.Node) (l : Layout) (column : ℕ) (end rest : List ℕ) → IsFilled v → IsValueTree v → rows_text (node_rows l column end v) rest ≡ indented column (block_value l column v) (end ++ rest)
+value_spelled (tree.alias name) l column end rest b h = absurd b
+value_spelled (tree.scalar a kind t) l column end rest b h = absurd b
+value_spelled (tree.list a tree.none) l column end rest b h = absurd b
+value_spelled (tree.list a (tree.child label n cs)) l column end rest b h = node_spelled (tree.list a (tree.child label n cs)) l column end rest b h
+value_spelled (tree.map a tree.none) l column end rest b h = absurd b
+value_spelled (tree.map a (tree.child label n cs)) l column end rest b h = node_spelled (tree.map a (tree.child label n cs)) l column end rest b h

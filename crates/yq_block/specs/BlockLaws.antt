@@ -1,30 +1,47 @@
--- What is promised of the rows in which values are written in block style (own).
-use Rattle.std.specs.Prelude.{◌≡◌, ℕ, ◌<◌, ◌≤◌, Option, Some, List, [], ◌∷◌, ◌++◌, replicate, None, true, length}
+-- What is promised of the nodes and rows in which values are written in block style (own).
+use Rattle.std.specs.Prelude.{◌≡◌, ℕ, ◌<◌, ◌≤◌, ℤ, Option, Some, List, [], ◌∷◌, ◌++◌, replicate, None, true, false, length}
 use Rattle.std.specs.Str.{IsUtf8, chars}
-use Rattle.yq_scalar.specs.declared.style.Place.TheVariants.{FlowKey}
+use Rattle.yq_scalar.specs.declared.style.Place.TheVariants.{Block, FlowKey}
 use Rattle.yq_scalar.specs.BlockWritten.{break_text}
 use Rattle.yq_scalar.specs.Characters.{is_text, text_limit}
+use Rattle.yq_scalar.specs.Piece.{deeper}
+use Rattle.yq_scalar.specs.Plain.{ends_plain}
 use Rattle.yq_scalar.specs.Scalar.{string_of}
 use Rattle.yq_scalar.specs.Tree as tree
+use Rattle.yq_inline.specs.Inline.{IsInline}
+use Rattle.yq_inline.specs.Nodes as inline
 use Rattle.yq_inline.specs.Valued.{IsValueTree}
 use Rattle.yq_inline.specs.Written.{scalar_text}
 use Rattle.yq_rows.specs.Comments.{line_comment}
 use Rattle.yq_rows.specs.Exchange.{asked_behind}
-use Rattle.yq_rows.specs.Grammar.{Limit, allows, AreRows, key_limit}
+use Rattle.yq_rows.specs.Grammar.{is_more, Limit, allows, AreRows, key_limit}
 use Rattle.yq_rows.specs.Rows.{rows_text}
 use Rattle.yq_tree.specs.Anchors.{HaveOneAnchorEach}
-use Rattle.yq_tree.specs.Documents.{HaveFitKeys, Reads}
-use Rattle.yq_tree.specs.Lines.{lines_of}
+use Rattle.yq_tree.specs.Documents.{HasFitKeys, HaveFitKeys, Reads}
+use Rattle.yq_tree.specs.Lines.{node_anchor, node_head, lines_of}
 use Rattle.yq_tree.specs.Outline.{Stands}
 use Rattle.yq_block.specs.declared.layout.Layout.{Layout}
-use Rattle.yq_block.specs.BlockRows.{column_below, node_rows}
-use Rattle.yq_block.specs.BlockText.{block_node, block_value}
+use Rattle.yq_block.specs.BlockRows.{inline_of, column_below, node_rows}
+use Rattle.yq_block.specs.BlockText.{block_value}
 use Rattle.yq_block.specs.BlockValues.{IsFilled, InRows, IsNear, IsWritable, MayBeRoot, entry_level, level_at}
+
+-- An inline node is a value's: it is one below any parent, before any rest at which a plain scalar ends; it stands for the value and has no anchor; it may
+-- stand alone on its line; and its keys are fit (own).
+pub record IsHead (v : tree.Node) (node : inline.Node) : Type 0 where
+  pub stands : (n : ℤ) (rest : List ℕ) → ends_plain false (Some (deeper n)) rest ≡ true → IsInline Block n 0 node rest
+  pub same : node_head node ≡ Some v
+  pub unnamed : node_anchor node ≡ None
+  pub more : is_more node ≡ true
+  pub keys : HasFitKeys node
+
+-- The inline node as which a value is written is the value's (own).
+abbrev pub InlineWritten : Type 0
+InlineWritten = (v : tree.Node) (node : inline.Node) → IsValueTree v → inline_of v ≡ Some node → IsHead v node
 
 -- The rows in which a value is written have its text, behind the spaces before the first of them (own).
 abbrev pub TextWritten : Type 0
 TextWritten = (v : tree.Node) (l : Layout) (column : ℕ) (end rest : List ℕ) → InRows v →
-    rows_text (node_rows l column end v) rest ≡ replicate column 32 ++ (block_node l column v ++ (end ++ rest))
+    rows_text (node_rows l column end v) rest ≡ replicate column 32 ++ (block_value l column v ++ (end ++ rest))
 
 -- They are rows, behind any row that allows their column, where no plain scalar goes on behind them (own).
 abbrev pub RowsWritten : Type 0
@@ -57,7 +74,7 @@ KeysNear = (k : List ℕ) → IsUtf8 k → length (chars (scalar_text (string_of
 
 -- What is written is made of the characters of a text (own).
 abbrev pub CharactersWritten : Type 0
-CharactersWritten = (v : tree.Node) (l : Layout) (column : ℕ) → IsValueTree v → IsUtf8 (block_node l column v) × (is_text (block_node l column v) ≡ true)
+CharactersWritten = (v : tree.Node) (l : Layout) (column : ℕ) → IsValueTree v → IsUtf8 (block_value l column v) × (is_text (block_value l column v) ≡ true)
 
 -- A text reads as one document of a collection, where this can be a root and the text isn't too long (own).
 abbrev pub ReadsAlone : tree.Node → List ℕ → Type 0

@@ -2,9 +2,10 @@
 ghost use Rattle.yq_block.specs.BlockLaws as laws;
 ghost use Rattle.yq_block.specs.BlockPlaces as places;
 
-/// The rows in which a collection is written have its text, are rows, and have lines that stand for
-/// it.
+/// The inline node as which a value is written stands for it; the rows in which a collection is
+/// written have its text, are rows, and have lines that stand for it.
 pub fn block_written()
+    ensures inline { laws.InlineWritten }
     ensures text { laws.TextWritten }
     ensures rows { laws.RowsWritten }
     ensures follow { laws.RowsFollow }

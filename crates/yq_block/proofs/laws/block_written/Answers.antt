@@ -1,19 +1,24 @@
+use Rattle.std.proofs.Common.{subst}
 use Rattle.yq_tree.proofs.ByRules.{rules_give}
 use Rattle.yq_tree.specs.Lines.{lines_of}
 use Rattle.yq_rows.specs.Grammar.{key_limit}
 use Rattle.yq_block.specs.BlockRows.{node_rows}
 use Rattle.yq_block.specs.BlockValues.{level_at}
-use Rattle.yq_block.proofs.CharacterLaws.{node_sound}
+use Rattle.yq_block.proofs.CharacterLaws.{value_sound}
 use Rattle.yq_block.proofs.FitLaws.{node_fit, keys_fit, anchors_fit}
 use Rattle.yq_block.proofs.KeyLaws.{near_key}
 use Rattle.yq_block.proofs.LaidRows.{laid_rows, laid_follow}
 use Rattle.yq_block.proofs.LineLaws.{node_stands, lines_deeper}
 use Rattle.yq_block.proofs.RowLaws.{value_laid}
-use Rattle.yq_block.proofs.TextLaws.{node_spelled}
+use Rattle.yq_block.proofs.ScalarLaws.{Heads, heads}
+use Rattle.yq_block.proofs.TextLaws.{value_spelled}
 use Rattle.yq_block.proofs.laws.block_written.Goals as goal
 
+pub returns-clause-inline : goal.returns-clause-inline
+returns-clause-inline c = λ v node h is. subst (Heads v) is (heads v h)
+
 pub returns-clause-text : goal.returns-clause-text
-returns-clause-text c = λ v l column end rest h. node_spelled v l column end rest h.filled h.value
+returns-clause-text c = λ v l column end rest h. value_spelled v l column end rest h.filled h.value
 
 pub returns-clause-rows : goal.returns-clause-rows
 returns-clause-rows c = λ v l column end rest limit h allowed. laid_rows column (node_rows l column end v) rest limit (value_laid v l column end rest h) allowed
@@ -28,7 +33,7 @@ pub returns-clause-fit : goal.returns-clause-fit
 returns-clause-fit c = λ v l column end h. let fit = node_fit v l column end h in (keys_fit (node_rows l column end v) fit, anchors_fit (node_rows l column end v) fit)
 
 pub returns-clause-characters : goal.returns-clause-characters
-returns-clause-characters c = λ v l column h. node_sound v l column h
+returns-clause-characters c = λ v l column h. value_sound v l column h
 
 pub returns-clause-deeper : goal.returns-clause-deeper
 returns-clause-deeper c = λ v l column key step b. lines_deeper v l column key step b
