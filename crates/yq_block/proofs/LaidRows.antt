@@ -5,7 +5,7 @@ use Rattle.yq_rows.specs.Exchange.{asked_behind}
 use Rattle.yq_rows.specs.Gap.{IsGap}
 use Rattle.yq_rows.specs.Grammar.{IsContent, is_entry, IsRow, Limit, unlimited, allows, limit_after, limit_behind, AreRows}
 use Rattle.yq_rows.specs.Rows.{dashes_text, behind_dashes, behind_gap, Row, behind_columns, parent_of, parent_indent, print_row, rows_text}
-use Rattle.yq_rows.proofs.Alikes.{dash_first}
+use Rattle.yq_rows.proofs.Alikes.{sep_first}
 use Rattle.yq_rows.proofs.PlainEnds.{AtLine, row_line}
 use Rattle.yq_block.specs.BlockRows.{item_column, behind_dash}
 
@@ -79,7 +79,7 @@ laid_behind column (r ∷ rs) rest h =
         record {
           gap = subst (λ (g : List ℕ). IsGap g (behind_gap new t)) (sym h.gap) (no_gap_here (behind_gap new t));
           allowed = allowed;
-          unmarked = rw (dash_first (32 ∷ dashes_text r.dashes (behind_dashes r t)) refl) (and-false (eqb column 0));
+          unmarked = rw (sep_first 45 (32 ∷ dashes_text r.dashes (behind_dashes r t)) refl) (and-false (eqb column 0));
           dashes = (omega arith, h.entry, old.0.dashes);
           mark = old.0.mark;
           content = subst (λ n. IsContent n r.content t) same old.0.content;

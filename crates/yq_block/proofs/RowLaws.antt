@@ -14,7 +14,7 @@ use Rattle.yq_inline.specs.Nodes.{node_text}
 use Rattle.yq_inline.specs.Valued.{IsLabel, IsValueTree, AreValueTrees}
 use Rattle.yq_rows.specs.Grammar.{is_plain, unlimited, allows, limit_behind, Limit, is_entry, IsMark, IsContent, IsRow}
 use Rattle.yq_rows.specs.Rows.{Nothing, Inline, Row, rows_text, Mark, Dash, Key, Content, content_text, mark_text, parent_of}
-use Rattle.yq_rows.proofs.Alikes.{dash_first}
+use Rattle.yq_rows.proofs.Alikes.{sep_first}
 use Rattle.yq_block.specs.BlockRows.{block_key, children_rows, column_below, end_before, entry_rows, indent_step, inline_of, key_row, node_rows}
 use Rattle.yq_block.specs.BlockValues.{EachHasNearKeys, HasNearKeys, IsEnd, IsFilled, IsNear, IsWritable}
 use Rattle.yq_block.specs.declared.layout.Layout.{Layout}
@@ -40,7 +40,7 @@ key_front column k content rest u near apart =
     let t : List ℕ = content_text content rest in record { entry = refl; unmarked = key_unmarked k t; mark = key_is k t u near apart; indent = refl }
 
 dash_front : (column : ℕ) (node : inline.Node) (end rest : List ℕ) → IsFront column Dash (Inline (32 ∷ []) node end) rest
-dash_front column node end rest = record { entry = refl; unmarked = dash_first (32 ∷ node_text node (end ++ rest)) refl; mark = refl; indent = refl }
+dash_front column node end rest = record { entry = refl; unmarked = sep_first 45 (32 ∷ node_text node (end ++ rest)) refl; mark = refl; indent = refl }
 
 front_is : (limit : Limit) (column : ℕ) (m : Mark) (content : Content) (rest : List ℕ) → allows limit column ≡ true → IsFront column m content rest → IsContent (pos column) content rest → IsRow limit (front_row column m content) rest
 front_is limit column m content rest allowed f c = record {
