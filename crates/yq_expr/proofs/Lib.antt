@@ -25,3 +25,8 @@ pub mod TokenTakes
 pub mod Turns
 pub mod UpdateAgain
 pub mod UpdateTakes
+pub mod PlaceLaws
+pub mod EachLaws
+pub mod CopyLaws
+pub mod TreeScalarLaws
+pub mod MatchLaws

@@ -1,5 +1,7 @@
 -- What comes of a program.
 use Rattle.std.specs.Prelude.{◌≡◌, Result, Ok, Err}
+use Rattle.yq_expr.specs.declared.match_error.MatchError.{MatchError}
+use Rattle.yq_expr.specs.declared.match_error.MatchError.TheVariants as match_error
 use Rattle.yq_expr.specs.declared.plan_error.PlanError.{PlanError}
 use Rattle.yq_expr.specs.declared.plan_error.PlanError.TheVariants as error
 use Rattle.yq_expr.specs.declared.refusal.Refusal.{Refusal}
@@ -22,3 +24,13 @@ Plans view (Ok x) outcome = outcome ≡ gives (view x)
 Plans view (Err (error.Refused why)) outcome = outcome ≡ refuses why
 Plans view (Err error.NotInProfile) outcome = outcome ≡ unbuilt
 Plans view (Err error.Memory) outcome = Unit {0}
+
+-- what an error of matching says of what comes of something: the refusal; want of memory says nothing (own)
+abbrev pub Fails : {Y : Type 0} → MatchError → Judgement Y → Type 0
+Fails (match_error.Refused why) outcome = outcome ≡ refuses why
+Fails match_error.Memory outcome = Unit {0}
+
+-- what matching answers, as it is seen: what comes of something, or why nothing does (own)
+abbrev pub Matches : {X Y : Type 0} → (X → Y) → Result X MatchError → Judgement Y → Type 0
+Matches view (Ok x) outcome = outcome ≡ gives (view x)
+Matches view (Err e) outcome = Fails e outcome

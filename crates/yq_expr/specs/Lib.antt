@@ -15,3 +15,10 @@ pub mod Operations
 pub mod Judgement
 pub mod Meaning
 pub mod Plan
+pub mod Places
+pub mod Conditions
+pub mod Pipes
+pub mod Copies
+pub mod TreeScalars
+pub mod PlaceView
+pub mod MatchView

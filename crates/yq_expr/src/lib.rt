@@ -1,10 +1,11 @@
-//! Expressions: parsed into programs, and planned on documents.
+//! Expressions: parsed into programs, matched in documents, and planned on them.
 #![tactic(auto)]
 
 mod error;
 mod front;
 mod laws;
 mod making;
+mod match_error;
 mod matching;
 mod op;
 mod parse;
@@ -18,6 +19,8 @@ mod token;
 
 pub use error::ParseError;
 pub use laws::one_program;
+pub use match_error::MatchError;
+pub use matching::{Match, matches};
 pub use op::Op;
 pub use parse::parse_expr;
 pub use plan_error::PlanError;

@@ -8,9 +8,18 @@ ghost use Rattle.yq_expr.specs.Matching as spec;
 ghost use Rattle.yq_expr.specs.Plan.{found_of, location_of};
 ghost use Rattle.yq_expr.specs.View.{step_of};
 
+mod condition;
+mod copy;
+mod matched;
+mod pipe;
+mod place;
+mod step;
+mod walk;
+
 use crate::plan_error::PlanError;
 use crate::program::Step;
 use crate::refusal::Refusal;
+pub use matched::{Match, matches};
 use std::alloc::{AllocError, Global};
 use yq_scalar::Kind;
 use yq_tree::{Node, NodeKind};

@@ -1,0 +1,29 @@
+-- Where a pipe leads in a document (yq manual; own).
+use Rattle.std.specs.Prelude.{ℕ, Bool, true, false, List, [], ◌∷◌}
+use Rattle.yq_scalar.specs.Tree.{Node}
+use Rattle.yq_expr.specs.Conditions.{holds}
+use Rattle.yq_expr.specs.Judgement.{Judgement, gives, and_then}
+use Rattle.yq_expr.specs.Places.{Place, root_place, for_each, in_turn, walk}
+use Rattle.yq_expr.specs.Program.{Condition, Stage, path, select}
+
+-- a place, if it is kept (own)
+abbrev pub kept : Place → Bool → List Place
+kept p true = p ∷ []
+kept p false = []
+
+-- a place in the document of that number, if the condition holds there (own)
+abbrev pub select_on : ℕ → Condition → Place → Judgement (List Place)
+select_on doc c p = and_then (λ b. gives (kept p b)) (holds doc c p)
+
+-- where a stage leads from places (own)
+abbrev pub stage_on : ℕ → Stage → List Place → Judgement (List Place)
+stage_on doc (path steps) ps = walk steps ps
+stage_on doc (select c) ps = for_each (select_on doc c) ps
+
+-- where a pipe leads from places: each stage acts on all of them before the next one does (own)
+abbrev pub pipe_on : ℕ → List Stage → List Place → Judgement (List Place)
+pipe_on doc pipe ps = in_turn (stage_on doc) pipe ps
+
+-- where a pipe leads in the document of that number, with that root (own)
+abbrev pub places : ℕ → List Stage → Node → Judgement (List Place)
+places doc pipe root = pipe_on doc pipe (root_place root ∷ [])
