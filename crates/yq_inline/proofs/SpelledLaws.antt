@@ -74,13 +74,13 @@ string_valid : (k : List ℕ) → IsUtf8 k → IsValid (string_of k)
 string_valid k u = record { kind = tt; utf8 = u }
 
 -- what the labels of items or entries with this closing bracket give
-record Fits (k : ℕ) (keyed : Bool) : Type 0 where
-  key : (label : tree.Label) → IsLabel keyed label → (t : List ℕ) → begins_content true t ≡ true → IsKey k (flow_key label.key) t × (begins_content true (key_text (flow_key label.key) t) ≡ true)
-  same : (label : tree.Label) → IsLabel keyed label → inner (key_content (flow_key label.key)) ≡ label
-  ends : (l : List ℕ) → ends_plain true (Some 0) (k ∷ l) ≡ true
-  apart : (l : List ℕ) → is_space (k ∷ l) ≡ false
+pub record Fits (k : ℕ) (keyed : Bool) : Type 0 where
+  pub key : (label : tree.Label) → IsLabel keyed label → (t : List ℕ) → begins_content true t ≡ true → IsKey k (flow_key label.key) t × (begins_content true (key_text (flow_key label.key) t) ≡ true)
+  pub same : (label : tree.Label) → IsLabel keyed label → inner (key_content (flow_key label.key)) ≡ label
+  pub ends : (l : List ℕ) → ends_plain true (Some 0) (k ∷ l) ≡ true
+  pub apart : (l : List ℕ) → is_space (k ∷ l) ≡ false
 
-items_fit : Fits 93 false
+pub items_fit : Fits 93 false
 items_fit = record {
   key = λ label is t h. rw is (refl, h);
   same = λ label is. rw is refl;
@@ -98,7 +98,7 @@ entry_key k u t h =
 entry_same : (k : List ℕ) → IsUtf8 k → inner (key_content (flow_key (Some k))) ≡ inner (Some k)
 entry_same k u = ap (λ (c : List ℕ). inner (Some c)) (flow_key_text (string_of k) (string_valid k u)).content
 
-entries_fit : Fits 125 true
+pub entries_fit : Fits 125 true
 entries_fit = record {
   key = λ label is t h. rw is.1 (entry_key is.0 is.2 t h);
   same = λ label is. rw is.1 (entry_same is.0 is.2);
@@ -107,14 +107,14 @@ entries_fit = record {
 }
 
 -- nodes as they are written
-no_bare : (v : tree.Node) → IsValueTree v → is_bare (flow_of v) ≡ false
+pub no_bare : (v : tree.Node) → IsValueTree v → is_bare (flow_of v) ≡ false
 unfolding flow_of
 no_bare (tree.alias n) h = absurd h
 no_bare (tree.scalar a kind t) h = refl
 no_bare (tree.list a cs) h = refl
 no_bare (tree.map a cs) h = refl
 
-node_begins : (v : tree.Node) (rest : List ℕ) → IsValueTree v → ends_plain true (Some 0) rest ≡ true → begins_content true (node_text (flow_of v) rest) ≡ true
+pub node_begins : (v : tree.Node) (rest : List ℕ) → IsValueTree v → ends_plain true (Some 0) rest ≡ true → begins_content true (node_text (flow_of v) rest) ≡ true
 unfolding flow_of node_text
 node_begins (tree.alias n) rest h ends = absurd h
 node_begins (tree.scalar a kind t) rest h ends =

@@ -7,6 +7,7 @@ pub use Rattle.yq_scalar.specs.Text
 pub mod Gaps
 pub mod Scalars
 pub mod Nodes
+pub mod Alike
 pub mod Reading
 pub mod Places
 pub mod Inline
@@ -16,6 +17,9 @@ pub mod Written
 pub mod Trees
 pub mod Valued
 pub mod Entries
+pub mod Collections
+pub mod FlowEdits
+pub mod Removals
 pub use Rattle.yq_scalar.specs.Keys
 pub use Rattle.yq_scalar.specs.Paths
 pub use Rattle.yq_scalar.specs.Tree

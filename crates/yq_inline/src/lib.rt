@@ -2,6 +2,7 @@
 #![tactic(auto)]
 
 mod fault;
+mod flow_laws;
 mod gap;
 mod inline;
 mod laws;
@@ -13,6 +14,7 @@ mod scalar;
 mod value;
 mod write;
 
+pub use flow_laws::{added_in_flow, flow_places, removed_in_flow, replaced_in_flow};
 pub use inline::{Form, Inline};
 pub use laws::{entry_places, flow_spells, one_inline, one_tree, scalar_spells};
 pub use path::{Entry, Step};

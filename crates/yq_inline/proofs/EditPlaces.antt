@@ -1,0 +1,47 @@
+-- The bytes of an edit, by the places of the parts.
+use Rattle.std.proofs.Common.{◌≡◌, ℕ, ◌-◌, List, ◌++◌, length, take, drop, refl, sym, ap, ◌∙◌, arith, append_assoc, length-append}
+use Rattle.std.proofs.Math.Seq.{take-append_seam, drop-append_seam}
+use Rattle.yq_inline.specs.FlowEdits.{Becomes}
+use Rattle.yq_inline.specs.Entries.{EntryPieces, start_of, end_of, entry_start, locate_entry, pieces_text}
+use Rattle.yq_inline.specs.Nodes.{Key, bare, keyed, Node, empty, alias, scalar, coll, anchored, key_text, node_text}
+use Rattle.yq_inline.specs.Places.{Placed, placed, with_anchor, locate}
+
+-- where a node begins and ends
+start_anchor : (n : List ℕ) (start : ℕ) (p : Placed) → start_of (with_anchor n start p) ≡ start
+start_anchor n start (placed a s c e f) = refl
+
+end_anchor : (n : List ℕ) (start : ℕ) (p : Placed) → end_of (with_anchor n start p) ≡ end_of p
+end_anchor n start (placed a s c e f) = refl
+
+pub start_placed : (total : ℕ) (n : Node) (rest : List ℕ) → start_of (locate total n rest) ≡ total - length (node_text n rest)
+unfolding locate
+start_placed total empty rest = refl
+start_placed total (alias n) rest = refl
+start_placed total (scalar p) rest = refl
+start_placed total (coll k g is) rest = refl
+start_placed total (anchored n g node) rest = start_anchor n _ (locate total node rest)
+
+pub end_placed : (total : ℕ) (n : Node) (rest : List ℕ) → end_of (locate total n rest) ≡ total - length rest
+unfolding locate
+end_placed total empty rest = refl
+end_placed total (alias n) rest = refl
+end_placed total (scalar p) rest = refl
+end_placed total (coll k g is) rest = refl
+end_placed total (anchored n g node) rest = end_anchor n _ (locate total node rest) ∙ end_placed total node rest
+
+-- where an item or entry begins
+pub entry_placed : (total : ℕ) (x : EntryPieces) → entry_start (locate_entry total x) ≡ total - length (pieces_text x)
+entry_placed total x = go x.key where
+  go : (key : Key) → entry_start (locate_entry total (record { key = key; node = x.node; rest = x.rest })) ≡ total - length (key_text key (node_text x.node x.rest))
+  go bare = start_placed total x.node x.rest
+  go (keyed p b g) = refl
+
+-- the new text: what stands before the bytes, the new ones, and what stands behind
+pub becomes_bytes : (t u old new behind : List ℕ) → Becomes t u old new behind → u ≡ take (length t - length (old ++ behind)) t ++ (new ++ drop (length t - length behind) t)
+becomes_bytes t u old new behind h =
+    let first : length t - length (old ++ behind) ≡ length h.before = omega (arith, ap length h.was, length-append h.before (old ++ behind)) in
+    let whole : t ≡ (h.before ++ old) ++ behind = h.was ∙ sym (append_assoc h.before old behind) in
+    let second : length t - length behind ≡ length (h.before ++ old) = omega (arith, ap length whole, length-append (h.before ++ old) behind) in
+    let front : take (length t - length (old ++ behind)) t ≡ h.before = ap (λ n. take n t) first ∙ (ap (take (length h.before)) h.was ∙ take-append_seam h.before (old ++ behind)) in
+    let back : drop (length t - length behind) t ≡ behind = ap (λ n. drop n t) second ∙ (ap (drop (length (h.before ++ old))) whole ∙ drop-append_seam (h.before ++ old) behind) in
+    h.is ∙ sym (λ i. front i ++ (new ++ back i))

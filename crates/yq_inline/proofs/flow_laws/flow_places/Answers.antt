@@ -1,0 +1,6 @@
+use Rattle.yq_inline.proofs.EditPaths.{path_item, path_coll}
+use Rattle.yq_inline.proofs.EditPlaces.{entry_placed, end_placed, becomes_bytes}
+use Rattle.yq_inline.proofs.flow_laws.flow_places.Goals as goal
+
+pub returns : goal.returns
+returns c = record { item = path_item; coll = path_coll; start = entry_placed; end = end_placed; bytes = becomes_bytes }
