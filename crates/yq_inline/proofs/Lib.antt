@@ -38,3 +38,4 @@ pub mod ReturnLaws
 pub mod RemoveLaws
 pub mod EditPaths
 pub mod EditPlaces
+pub mod FlowLoops

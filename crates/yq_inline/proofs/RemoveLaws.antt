@@ -1,5 +1,5 @@
 -- Edits of a collection inside an inline node: an item or entry taken out.
-use Rattle.std.proofs.Common.{◌≡◌, ℕ, Bool, true, false, cond, List, [], ◌∷◌, ◌++◌, Some, refl, sym, ap, ◌∙◌, subst, append_assoc, None}
+use Rattle.std.proofs.Common.{append-nil, ◌≡◌, ℕ, Bool, true, false, cond, List, [], ◌∷◌, ◌++◌, Some, refl, sym, ap, ◌∙◌, subst, append_assoc, None}
 use Rattle.std.proofs.lemmas.Bool.{false≢true}
 use Rattle.yq_scalar.specs.Characters.{pairs_returns}
 use Rattle.yq_scalar.specs.Paths.{Step, remove_child, within, change, is_here}
@@ -8,7 +8,7 @@ use Rattle.yq_inline.specs.Nodes.{Items, none, item, sep_text, node_text, items_
 use Rattle.yq_inline.specs.Removals.{has_next, is_several, ends_marked, last_sep, drop_last, last_text, until_last, IsApartFrom, with_comma, comma_old, comma_new, comma_on, removing, removing_to_comma, removing_sole, removing_before, removing_end, removing_last}
 use Rattle.yq_inline.specs.Entries.{EntryPieces, item_at}
 use Rattle.yq_inline.proofs.NodeKeeps.{sep_ends}
-use Rattle.yq_inline.specs.FlowEdits.{is_none, IsEdited}
+use Rattle.yq_inline.specs.FlowEdits.{Becomes, is_none, IsEdited}
 use Rattle.yq_inline.specs.Trees.{inner, key_content, tree_of, items_tree}
 use Rattle.yq_inline.proofs.DropLaws.{drop_left, drop_tree}
 use Rattle.yq_inline.proofs.ItemLaws.{keeps_from, comma_apart, close_gap}
@@ -40,13 +40,17 @@ removed_sole x s y h found sole =
       is = refl;
     })
 
+-- nothing is written behind what takes its place
+nothing_more : (t u old new behind : List ℕ) → Becomes t u old new behind → Becomes t u old (new ++ []) behind
+nothing_more t u old new behind h = subst (λ (l : List ℕ). Becomes t u old l behind) (sym (append-nil new)) h
+
 -- one that others follow
 removed_before : (x : CollAt) (s : Step) → IsCollAt x → has_next s x.coll.items ≡ true → IsEdited x (removing_before s x.coll) (change x.steps (within (remove_child s)))
 removed_before x s h more =
     let c = x.coll in
     let i = around_is x h in
     let l = drop_left i.inner_depth c.close s c.gap c.items c.rest i.closes more i.gap i.items in
-    edited x (removing_before s c) (remove_child s) i l.gap l.are (drop_tree c.close c.rest s c.gap c.items) (opened c.close c.gap _ c.items _ c.rest _ _ _ l.text)
+    edited x (removing_before s c) (remove_child s) i l.gap l.are (drop_tree c.close c.rest s c.gap c.items) (nothing_more _ _ _ _ _ (opened c.close c.gap _ c.items _ c.rest _ _ _ l.text))
 
 several_some : (is : Items) → is_several is ≡ true → is_none is ≡ false
 several_some none h = absurd (false≢true h)
@@ -58,7 +62,8 @@ record IsLast (s : Step) (y : EntryPieces) (x : CollAt) : Type 0 where
   several : is_several x.coll.items ≡ true
   last : has_next s x.coll.items ≡ false
 
-removed_last : (x : CollAt) (s : Step) (y : EntryPieces) → IsCollAt x → IsLast s y x → IsApartFrom (fresh false x.coll.gap) (until_last x.coll.items) (sep_text (last_sep x.coll.items) (x.coll.close ∷ x.coll.rest)) → IsEdited x (removing_last x.coll) (change x.steps (within (remove_child s)))
+removed_last : (x : CollAt) (s : Step) (y : EntryPieces) → IsCollAt x → IsLast s y x →
+    IsApartFrom (fresh false x.coll.gap) (until_last x.coll.items) (sep_text (last_sep x.coll.items) (x.coll.close ∷ x.coll.rest)) → IsEdited x (removing_last x.coll) (change x.steps (within (remove_child s)))
 removed_last x s y h is apart =
     let c = x.coll in
     let i = around_is x h in
@@ -84,11 +89,11 @@ removed_to_comma x s y h is =
     let apart : IsApartFrom line (until_last c.items) u = subst (λ (l : List ℕ). IsApartFrom line (until_last c.items) l) (sym front_.1) (comma_apart line (until_last c.items) front_.0) in
     let l = last_shorter i.inner_depth c.close line true c.items c.rest i.closes is.several i.items (λ t. keeps_from line (until_last c.items) t u mark apart) in
     edited x (removing_to_comma c) (remove_child s) i (l.front c.gap refl i.gap) l.are (last_tree c.close true s c.items c.rest y is.found is.several is.last)
-    (behind_gap c.close c.gap c.items (drop_last true c.items) c.rest _ (comma_new sep) (comma_on sep t) (record {
+    (nothing_more _ _ _ _ _ (behind_gap c.close c.gap c.items (drop_last true c.items) c.rest _ (comma_new sep) (comma_on sep t) (record {
       before = l.before;
       was = l.was ∙ ap (λ v. l.before ++ v) (ap (λ v. last_text c.items ++ v) (comma_was sep t) ∙ sym (append_assoc (last_text c.items) (comma_old sep) (comma_on sep t)));
       is = l.is_now ∙ ap (λ v. l.before ++ v) (comma_is sep t);
-    }))
+    })))
 
 -- the last one, in a text with whole breaks, where no marker ends the one before
 removed_plain : (x : CollAt) (s : Step) (y : EntryPieces) → IsCollAt x → IsLast s y x → pairs_returns (node_text x.node x.rest) ≡ true → ends_marked (fresh false x.coll.gap) (until_last x.coll.items) ≡ false → IsEdited x (removing_last x.coll) (change x.steps (within (remove_child s)))
@@ -101,7 +106,7 @@ removed_plain x s y h is pairs unmarked =
     removed_last x s y h is (record { unmarked = rw unmarked refl; unbroken = rw whole refl })
 
 -- an item or entry taken out
-pub removed : (x : CollAt) (s : Step) (y : EntryPieces) → IsCollAt x → item_in s x ≡ Some y → pairs_returns (node_text x.node x.rest) ≡ true → IsEdited x (removing s x) (change x.steps (within (remove_child s)))
+pub removed : (x : CollAt) (s : Step) (y : EntryPieces) → IsCollAt x → item_in s x ≡ Some y → pairs_returns (node_text x.node x.rest) ≡ true → IsEdited x (removing s x.coll) (change x.steps (within (remove_child s)))
 removed x s y h found pairs = several (is_several x.coll.items) refl where
   changed : tree.Node → tree.Node
   changed = change x.steps (within (remove_child s))

@@ -9,14 +9,14 @@ use Rattle.yq_scalar.specs.Writable.{can_write}
 use Rattle.yq_scalar.specs.Written.{written}
 use Rattle.yq_inline.specs.Alike.{EndsItem}
 use Rattle.yq_inline.specs.Gaps.{IsGap}
-use Rattle.yq_inline.specs.FlowEdits.{put_value, is_none, behind_last, replacing, adding, IsEdited, FlowEdit, behind_added}
+use Rattle.yq_inline.specs.FlowEdits.{put_value, is_none, behind_last, replacing, appending, IsEdited, FlowEdit, behind_appended}
 use Rattle.yq_inline.specs.Entries.{EntryPieces, item_at}
 use Rattle.yq_inline.specs.Nodes.{Node, scalar, Items, none, item, sep_text, items_text, AreItems}
 use Rattle.yq_inline.specs.Trees.{inner, scalar_node, key_content, tree_of}
 use Rattle.yq_inline.specs.Valued.{IsValid, IsLabel, IsValueTree}
 use Rattle.yq_inline.specs.Written.{flow_key, flow_of}
 use Rattle.yq_inline.proofs.Binds.{some_same}
-use Rattle.yq_inline.proofs.EditLaws.{added, replaced, Around, around_is}
+use Rattle.yq_inline.proofs.EditLaws.{appended, replaced, Around, around_is}
 use Rattle.yq_inline.proofs.NodeKeeps.{sep_ends}
 use Rattle.yq_inline.proofs.SpelledLaws.{written_tree}
 use Rattle.yq_inline.proofs.ValueFits.{value_fits, item_fits, fit_of, scalar_fits, scalar_same}
@@ -54,21 +54,22 @@ put_same : (x : CollAt) (s : Step) (m : Node) (v : tree.Node) → tree_of m ≡ 
 put_same x s m v e = ap (λ (w : tree.Node). change x.steps (within (change_child s (put_value w)))) e ∙ change_last x.steps s (put_value v)
 
 -- a value in the place of a node
-pub value_replaced : (x : CollAt) (s : Step) (y : EntryPieces) (v : tree.Node) → IsCollAt x → item_in s x ≡ Some y → IsValueTree v → depth v ≤ room_in x → IsEdited x (replacing s y (flow_of v) x) (change (x.steps ++ (s ∷ [])) (put_value v))
+pub value_replaced : (x : CollAt) (s : Step) (y : EntryPieces) (v : tree.Node) → IsCollAt x → item_in s x ≡ Some y → IsValueTree v → depth v ≤ room_in x → IsEdited x (replacing s y (flow_of v) x.coll) (change (x.steps ++ (s ∷ [])) (put_value v))
 value_replaced x s y v h found is deep =
     let c = x.coll in
     let i = around_is x h in
     let fits = value_fits c.close (room_in x) v y.rest i.closes (item_ends i.inner_depth c.close s c.items c.rest y i.items found) is deep in
-    edited_same x (replacing s y (flow_of v) x) _ _ (put_same x s (flow_of v) v (written_tree v is)) (replaced x s y (flow_of v) h found fits)
+    edited_same x (replacing s y (flow_of v) x.coll) _ _ (put_same x s (flow_of v) v (written_tree v is)) (replaced x s y (flow_of v) h found fits)
 
 -- a scalar in the place of a node, in a style that can write it
-pub scalar_replaced : (x : CollAt) (s : Step) (y : EntryPieces) (v : ScalarText) (style : Style) → IsCollAt x → item_in s x ≡ Some y → IsValid v → scalars.IsInline style → can_write v style places.Flow ≡ true → IsEdited x (replacing s y (scalar (written style v.text)) x) (change (x.steps ++ (s ∷ [])) (put_value (scalar_node v)))
+pub scalar_replaced : (x : CollAt) (s : Step) (y : EntryPieces) (v : ScalarText) (style : Style) → IsCollAt x → item_in s x ≡ Some y → IsValid v → scalars.IsInline style → can_write v style places.Flow ≡ true →
+    IsEdited x (replacing s y (scalar (written style v.text)) x.coll) (change (x.steps ++ (s ∷ [])) (put_value (scalar_node v)))
 scalar_replaced x s y v style h found is i can =
     let c = x.coll in
     let j = around_is x h in
     let m : Node = scalar (written style v.text) in
     let fits = scalar_fits c.close (room_in x) v style y.rest j.closes (item_ends j.inner_depth c.close s c.items c.rest y j.items found) is i can in
-    edited_same x (replacing s y m x) _ _ (put_same x s m (scalar_node v) (scalar_same v style is i can)) (replaced x s y m h found fits)
+    edited_same x (replacing s y m x.coll) _ _ (put_same x s m (scalar_node v) (scalar_same v style is i can)) (replaced x s y m h found fits)
 
 -- the gap in an empty collection
 empty_ends : (k : ℕ) (g : List ℕ) (is : Items) (rest : List ℕ) → is_none is ≡ true → IsGap g (items_text k is rest) → EndsItem k (g ++ (k ∷ rest))
@@ -76,17 +77,17 @@ unfolding items_text
 empty_ends k g none rest e h = record { gap = g; close = k; rest = rest; spelled = refl; is_gap = h; ends = or_right (eqb k 44) (eqb k k) (eq-eqb k k refl) }
 empty_ends k g (item key n sep is) rest e h = absurd (false≢true e)
 
--- what stands behind an added item ends one
-added_ends : (x : CollAt) → (i : Around x) → EndsItem x.coll.close (behind_added x)
-added_ends x i = go (is_none x.coll.items) refl where
+-- what stands behind an appended item ends one
+appended_ends : (x : CollAt) → (i : Around x) → EndsItem x.coll.close (behind_appended x.coll)
+appended_ends x i = go (is_none x.coll.items) refl where
   go : (b : Bool) → is_none x.coll.items ≡ b → EndsItem x.coll.close (cond b (x.coll.gap ++ (x.coll.close ∷ x.coll.rest)) (behind_last x.coll.close x.coll.items x.coll.rest))
   go true e = empty_ends x.coll.close x.coll.gap x.coll.items x.coll.rest e i.gap
   go false e = behind_ends i.inner_depth x.coll.close x.coll.items x.coll.rest e i.items
 
 -- a value as one more item or entry
-pub value_added : (x : CollAt) (label : tree.Label) (v : tree.Node) → IsCollAt x → IsLabel (eqb x.coll.close 125) label → IsValueTree v → depth v ≤ room_in x → IsEdited x (adding (flow_key label.key) (flow_of v) x) (change x.steps (within (append_child label v)))
-value_added x label v h is value deep =
+pub value_appended : (x : CollAt) (label : tree.Label) (v : tree.Node) → IsCollAt x → IsLabel (eqb x.coll.close 125) label → IsValueTree v → depth v ≤ room_in x → IsEdited x (appending (flow_key label.key) (flow_of v) x.coll) (change x.steps (within (append_child label v)))
+value_appended x label v h is value deep =
     let i = around_is x h in
-    let fits = item_fits x.coll.close (room_in x) label v (behind_added x) i.closes (added_ends x i) is value deep in
+    let fits = item_fits x.coll.close (room_in x) label v (behind_appended x.coll) i.closes (appended_ends x i) is value deep in
     let same : change x.steps (within (append_child (inner (key_content (flow_key label.key))) (tree_of (flow_of v)))) ≡ change x.steps (within (append_child label v)) = λ j. change x.steps (within (append_child ((fit_of x.coll.close i.closes).same label is j) (written_tree v value j))) in
-    edited_same x (adding (flow_key label.key) (flow_of v) x) _ _ same (added x (flow_key label.key) (flow_of v) h fits)
+    edited_same x (appending (flow_key label.key) (flow_of v) x.coll) _ _ same (appended x (flow_key label.key) (flow_of v) h fits)

@@ -1,5 +1,5 @@
 -- Edits of a flow collection: a node in the place of another one, and one more item or entry.
-use Rattle.std.specs.Prelude.{◌≡◌, ℕ, ◌-◌, Bool, true, false, not, ◌||◌, List, [], ◌∷◌, ◌++◌, Option, Some, None, length, if◌then◌else◌}
+use Rattle.std.specs.Prelude.{◌≡◌, ℕ, Bool, true, false, not, ◌||◌, List, [], ◌∷◌, ◌++◌, Option, Some, None, if◌then◌else◌}
 use Rattle.yq_scalar.specs.Paths.{Step, is_here, further}
 use Rattle.yq_scalar.specs.Text.{is_marker}
 use Rattle.yq_scalar.specs.Tree as tree
@@ -15,21 +15,15 @@ pub record Becomes (t u old new behind : List ℕ) : Type 0 where
   pub was : t ≡ before ++ (old ++ behind)
   pub is : u ≡ before ++ (new ++ behind)
 
--- An edit of a collection: the gap and the items that then stand behind its bracket, and the bytes `old` before `behind`, which give way to `new` (own).
+-- An edit of a collection: the gap and the items that then stand behind its bracket, and the bytes `old` before `behind`, which give way to `lead`
+-- and `written` (own).
 pub record FlowEdit : Type 0 where
   pub gap : List ℕ
   pub items : Items
   pub old : List ℕ
-  pub new : List ℕ
+  pub lead : List ℕ
+  pub written : List ℕ
   pub behind : List ℕ
-
--- where the bytes that give way begin in a text so long (own)
-abbrev pub edit_start : ℕ → FlowEdit → ℕ
-edit_start total e = total - length (e.old ++ e.behind)
-
--- where they end (own)
-abbrev pub edit_end : ℕ → FlowEdit → ℕ
-edit_end total e = total - length e.behind
 
 -- the node with the edited collection in it (own)
 abbrev pub edited_node : CollAt → FlowEdit → Node
@@ -39,7 +33,7 @@ edited_node x e = put_at x.steps e.gap e.items x.node
 -- edit alone, and its tree is the changed one (own).
 pub record IsEdited (x : CollAt) (e : FlowEdit) (changed : tree.Node → tree.Node) : Type 0 where
   pub inline : IsInline x.place x.indent x.around (edited_node x e) x.rest
-  pub text : Becomes (node_text x.node x.rest) (node_text (edited_node x e) x.rest) e.old e.new e.behind
+  pub text : Becomes (node_text x.node x.rest) (node_text (edited_node x e) x.rest) e.old (e.lead ++ e.written) e.behind
   pub tree : tree_of (edited_node x e) ≡ changed (tree_of x.node)
 
 -- the node without its anchor (own)
@@ -78,12 +72,13 @@ put_item s m (item key n sep is) =
     if is_here s (inner (key_content key)) then item (put_content m key n).0 (put_content m key n).1 sep is else item key n sep (put_item (further s) m is)
 
 -- the content of the item or entry at a step gives way to a node (own)
-abbrev pub replacing : Step → EntryPieces → Node → CollAt → FlowEdit
-replacing s y m x = record {
-  gap = x.coll.gap;
-  items = put_item s m x.coll.items;
+abbrev pub replacing : Step → EntryPieces → Node → CollPieces → FlowEdit
+replacing s y m c = record {
+  gap = c.gap;
+  items = put_item s m c.items;
   old = node_text (content_node y.node) [];
-  new = space_for (content_node y.node) ++ node_text m [];
+  lead = space_for (content_node y.node);
+  written = node_text m [];
   behind = y.rest;
 }
 
@@ -128,34 +123,32 @@ pub record FitsItem (d k : ℕ) (key : Key) (m : Node) (rest : List ℕ) : Type 
   pub some : (is_keyed key || not (is_bare m)) ≡ true
   pub is : IsNode true (Some 0) d m rest
 
--- a comma and a space, if items stand before what is added (own)
-abbrev pub lead_for : Items → List ℕ
-lead_for is = if is_none is then [] else 44 ∷ 32 ∷ []
-
 -- one more item or entry behind the last one (own)
-abbrev pub adding_last : Key → Node → CollPieces → FlowEdit
-adding_last key m c = record {
+abbrev pub appending_last : Key → Node → CollPieces → FlowEdit
+appending_last key m c = record {
   gap = c.gap;
   items = add_last key m c.items;
   old = [];
-  new = 44 ∷ (32 ∷ key_text key (node_text m []));
+  lead = 44 ∷ (32 ∷ []);
+  written = key_text key (node_text m []);
   behind = behind_last c.close c.items c.rest;
 }
 
 -- the first item or entry, right behind the opening bracket (own)
-abbrev pub adding_first : Key → Node → CollPieces → FlowEdit
-adding_first key m c = record {
+abbrev pub appending_first : Key → Node → CollPieces → FlowEdit
+appending_first key m c = record {
   gap = [];
   items = item key m (last c.gap) none;
   old = [];
-  new = key_text key (node_text m []);
+  lead = [];
+  written = key_text key (node_text m []);
   behind = c.gap ++ (c.close ∷ c.rest);
 }
 
 -- one more item or entry (own)
-abbrev pub adding : Key → Node → CollAt → FlowEdit
-adding key m x = if is_none x.coll.items then adding_first key m x.coll else adding_last key m x.coll
+abbrev pub appending : Key → Node → CollPieces → FlowEdit
+appending key m c = if is_none c.items then appending_first key m c else appending_last key m c
 
 -- what stands behind it (own)
-abbrev pub behind_added : CollAt → List ℕ
-behind_added x = if is_none x.coll.items then x.coll.gap ++ (x.coll.close ∷ x.coll.rest) else behind_last x.coll.close x.coll.items x.coll.rest
+abbrev pub behind_appended : CollPieces → List ℕ
+behind_appended c = if is_none c.items then c.gap ++ (c.close ∷ c.rest) else behind_last c.close c.items c.rest

@@ -20,6 +20,7 @@ pub mod Entries
 pub mod Collections
 pub mod FlowEdits
 pub mod Removals
+pub mod FlowPlaces
 pub use Rattle.yq_scalar.specs.Keys
 pub use Rattle.yq_scalar.specs.Paths
 pub use Rattle.yq_scalar.specs.Tree

@@ -4,7 +4,7 @@ use Rattle.yq_scalar.specs.Paths.{Step, is_here, further}
 use Rattle.yq_scalar.specs.PlainText.{begins_marker}
 use Rattle.yq_scalar.specs.Text.{is_feed, is_return, front, separates}
 use Rattle.yq_inline.specs.Alike.{fresh}
-use Rattle.yq_inline.specs.Collections.{CollPieces, CollAt, coll_text}
+use Rattle.yq_inline.specs.Collections.{CollPieces, coll_text}
 use Rattle.yq_inline.specs.FlowEdits.{FlowEdit, is_none}
 use Rattle.yq_inline.specs.Nodes.{Sep, last, comma, Items, none, item, key_text, sep_text, node_text, items_text}
 use Rattle.yq_inline.specs.Trees.{inner, key_content}
@@ -134,7 +134,7 @@ until_last (item key n sep (item key2 n2 sep2 (item key3 n3 sep3 is))) = key_tex
 
 -- the sole item or entry is taken out: the collection becomes `[]` or `{}` (own)
 abbrev pub removing_sole : CollPieces → FlowEdit
-removing_sole c = record { gap = []; items = none; old = coll_text c.close c.gap c.items []; new = coll_text c.close [] none []; behind = c.rest }
+removing_sole c = record { gap = []; items = none; old = coll_text c.close c.gap c.items []; lead = coll_text c.close [] none []; written = []; behind = c.rest }
 
 -- one that others follow, up to the next one (own)
 abbrev pub removing_before : Step → CollPieces → FlowEdit
@@ -142,7 +142,8 @@ removing_before s c = record {
   gap = (drop_item c.close c.rest s c.gap c.items).0;
   items = (drop_item c.close c.rest s c.gap c.items).1;
   old = removed_text s c.items;
-  new = removed_for c.close c.rest s c.gap c.items;
+  lead = removed_for c.close c.rest s c.gap c.items;
+  written = [];
   behind = items_text c.close (items_behind s c.items) c.rest;
 }
 
@@ -152,7 +153,8 @@ removing_last c = record {
   gap = c.gap;
   items = drop_last false c.items;
   old = last_text c.items;
-  new = [];
+  lead = [];
+  written = [];
   behind = sep_text (last_sep c.items) (c.close ∷ c.rest);
 }
 
@@ -162,7 +164,8 @@ removing_to_comma c = record {
   gap = c.gap;
   items = drop_last true c.items;
   old = last_text c.items ++ comma_old (last_sep c.items);
-  new = comma_new (last_sep c.items);
+  lead = comma_new (last_sep c.items);
+  written = [];
   behind = comma_on (last_sep c.items) (c.close ∷ c.rest);
 }
 
@@ -171,7 +174,5 @@ abbrev pub removing_end : CollPieces → FlowEdit
 removing_end c = if ends_marked (fresh false c.gap) (until_last c.items) then removing_to_comma c else removing_last c
 
 -- the item or entry at a step is taken out (own)
-abbrev pub removing : Step → CollAt → FlowEdit
-removing s x =
-    if is_several x.coll.items then (if has_next s x.coll.items then removing_before s x.coll else removing_end x.coll)
-    else removing_sole x.coll
+abbrev pub removing : Step → CollPieces → FlowEdit
+removing s c = if is_several c.items then (if has_next s c.items then removing_before s c else removing_end c) else removing_sole c

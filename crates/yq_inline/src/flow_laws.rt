@@ -11,7 +11,7 @@ ghost use Rattle.yq_scalar.specs.declared.style.Place.TheVariants.{Flow};
 ghost use Rattle.yq_scalar.specs.declared.style.Style.{Style};
 ghost use Rattle.yq_inline.specs.Collections.{CollAt, CollPieces, IsCollAt, coll_along, coll_in, item_in, room_in};
 ghost use Rattle.yq_inline.specs.Entries.{EntryPieces, end_of, entry_pieces_at, entry_start, item_at, locate_entry, pieces_text};
-ghost use Rattle.yq_inline.specs.FlowEdits.{Becomes, FitsItem, FitsNode, IsEdited, adding, behind_added, put_value, replacing};
+ghost use Rattle.yq_inline.specs.FlowEdits.{Becomes, FitsItem, FitsNode, IsEdited, appending, behind_appended, put_value, replacing};
 ghost use Rattle.yq_inline.specs.Nodes.{Key, Node, node_text, scalar};
 ghost use Rattle.yq_inline.specs.Places.{locate};
 ghost use Rattle.yq_inline.specs.Removals.{removing};
@@ -23,26 +23,26 @@ ghost use Rattle.yq_inline.specs.Written.{flow_key, flow_of};
 /// anchor.
 pub fn replaced_in_flow()
     // To any node that may be put there.
-    ensures node { (x : CollAt) (s : Step) (y : EntryPieces) (m : Node) → IsCollAt x → item_in s x ≡ Some y → FitsNode (room_in x) m y.rest → IsEdited x (replacing s y m x) (change x.steps (within (change_child s (put_value (tree_of m))))) }
+    ensures node { (x : CollAt) (s : Step) (y : EntryPieces) (m : Node) → IsCollAt x → item_in s x ≡ Some y → FitsNode (room_in x) m y.rest → IsEdited x (replacing s y m x.coll) (change x.steps (within (change_child s (put_value (tree_of m))))) }
     // To a value, as it is written in flow style.
-    ensures value { (x : CollAt) (s : Step) (y : EntryPieces) (v : tree.Node) → IsCollAt x → item_in s x ≡ Some y → IsValueTree v → depth v ≤ room_in x → IsEdited x (replacing s y (flow_of v) x) (change (x.steps ++ (s ∷ [])) (put_value v)) }
+    ensures value { (x : CollAt) (s : Step) (y : EntryPieces) (v : tree.Node) → IsCollAt x → item_in s x ≡ Some y → IsValueTree v → depth v ≤ room_in x → IsEdited x (replacing s y (flow_of v) x.coll) (change (x.steps ++ (s ∷ [])) (put_value v)) }
     // To a scalar, in a style that can write it there.
     ensures scalar { (x : CollAt) (s : Step) (y : EntryPieces) (v : ScalarText) (style : Style) → IsCollAt x → item_in s x ≡ Some y → IsValid v → scalars.IsInline style → can_write v style Flow ≡ true →
-        IsEdited x (replacing s y (scalar (scalars.written style v.text)) x) (change (x.steps ++ (s ∷ [])) (put_value (scalar_node v))) }
+        IsEdited x (replacing s y (scalar (scalars.written style v.text)) x.coll) (change (x.steps ++ (s ∷ [])) (put_value (scalar_node v))) }
 {}
 
 /// A flow collection gets one more item or entry: behind the last one, or right behind the opening
 /// bracket.
-pub fn added_in_flow()
+pub fn appended_in_flow()
     // Any item or entry that may stand there.
-    ensures item { (x : CollAt) (key : Key) (m : Node) → IsCollAt x → FitsItem (room_in x) x.coll.close key m (behind_added x) → IsEdited x (adding key m x) (change x.steps (within (append_child (inner (key_content key)) (tree_of m)))) }
+    ensures item { (x : CollAt) (key : Key) (m : Node) → IsCollAt x → FitsItem (room_in x) x.coll.close key m (behind_appended x.coll) → IsEdited x (appending key m x.coll) (change x.steps (within (append_child (inner (key_content key)) (tree_of m)))) }
     // A value, as it is written in flow style.
-    ensures value { (x : CollAt) (label : tree.Label) (v : tree.Node) → IsCollAt x → IsLabel (x.coll.close == 125) label → IsValueTree v → depth v ≤ room_in x → IsEdited x (adding (flow_key label.key) (flow_of v) x) (change x.steps (within (append_child label v))) }
+    ensures value { (x : CollAt) (label : tree.Label) (v : tree.Node) → IsCollAt x → IsLabel (x.coll.close == 125) label → IsValueTree v → depth v ≤ room_in x → IsEdited x (appending (flow_key label.key) (flow_of v) x.coll) (change x.steps (within (append_child label v))) }
 {}
 
 /// An item or entry is taken out of a flow collection, in a text in which an LF stands behind each CR.
 pub fn removed_in_flow()
-    ensures { (x : CollAt) (s : Step) (y : EntryPieces) → IsCollAt x → item_in s x ≡ Some y → pairs_returns (node_text x.node x.rest) ≡ true → IsEdited x (removing s x) (change x.steps (within (remove_child s))) }
+    ensures { (x : CollAt) (s : Step) (y : EntryPieces) → IsCollAt x → item_in s x ≡ Some y → pairs_returns (node_text x.node x.rest) ≡ true → IsEdited x (removing s x.coll) (change x.steps (within (remove_child s))) }
 {}
 
 /// From paths to the collections and items that are edited, and from these to the bytes.

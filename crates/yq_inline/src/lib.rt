@@ -1,8 +1,10 @@
 //! Inline nodes of YAML: aliases, plain and quoted scalars and flow collections, with their anchors.
 #![tactic(auto)]
 
+mod among;
 mod fault;
 mod flow_laws;
+mod flow_place;
 mod gap;
 mod inline;
 mod laws;
@@ -14,7 +16,8 @@ mod scalar;
 mod value;
 mod write;
 
-pub use flow_laws::{added_in_flow, flow_places, removed_in_flow, replaced_in_flow};
+pub use flow_laws::{appended_in_flow, flow_places, removed_in_flow, replaced_in_flow};
+pub use flow_place::EditPlace;
 pub use inline::{Form, Inline};
 pub use laws::{entry_places, flow_spells, one_inline, one_tree, scalar_spells};
 pub use path::{Entry, Step};

@@ -65,7 +65,7 @@ fn is_merge(text: &[u8]) -> bool
 }
 
 /// Whether the text begins as a marker does.
-fn begins_marker(text: &[u8]) -> bool
+pub fn begins_marker(text: &[u8]) -> bool
     ensures { result ≡ spec.begins_marker text.now }
 {
     matches!(text, [b'-', b'-', b'-', ..] | [b'.', b'.', b'.', ..])
