@@ -39,7 +39,7 @@ pub record Shorter (d k : ℕ) (line stays : Bool) (is : Items) (rest : List ℕ
   pub was : items_text k is rest ≡ before ++ (last_text is ++ sep_text (last_sep is) (k ∷ rest))
   pub is_now : items_text k (drop_last stays is) rest ≡ before ++ sep_text (left_sep stays (last_sep is)) (k ∷ rest)
 
-text_cut : (key : Key) (n : Node) (t : List ℕ) → key_text key (node_text n t) ≡ key_text key (node_text n []) ++ t
+pub text_cut : (key : Key) (n : Node) (t : List ℕ) → key_text key (node_text n t) ≡ key_text key (node_text n []) ++ t
 text_cut key n t = ap (key_text key) (node_then n t) ∙ key_append key (node_text n []) t
 
 pub last_shorter : (d k : ℕ) (line stays : Bool) (is : Items) (rest : List ℕ) → is_close k ≡ true → is_several is ≡ true → AreItems d k is rest →

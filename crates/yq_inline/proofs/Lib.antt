@@ -39,3 +39,9 @@ pub mod RemoveLaws
 pub mod EditPaths
 pub mod EditPlaces
 pub mod FlowLoops
+pub mod PlacedEdits
+pub mod Marks
+pub mod PlacedAmong
+pub mod PlacedRemovals
+pub mod RemovePlaces
+pub mod FlowSpelled

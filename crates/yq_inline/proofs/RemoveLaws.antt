@@ -52,7 +52,7 @@ removed_before x s h more =
     let l = drop_left i.inner_depth c.close s c.gap c.items c.rest i.closes more i.gap i.items in
     edited x (removing_before s c) (remove_child s) i l.gap l.are (drop_tree c.close c.rest s c.gap c.items) (nothing_more _ _ _ _ _ (opened c.close c.gap _ c.items _ c.rest _ _ _ l.text))
 
-several_some : (is : Items) → is_several is ≡ true → is_none is ≡ false
+pub several_some : (is : Items) → is_several is ≡ true → is_none is ≡ false
 several_some none h = absurd (false≢true h)
 several_some (item key n sep is) h = refl
 

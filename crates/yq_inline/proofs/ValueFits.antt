@@ -96,7 +96,7 @@ scalar_fits k e s styles.Double rest c ends v i h =
 scalar_fits k e s styles.Literal rest c ends v i h = absurd i
 scalar_fits k e s styles.Folded rest c ends v i h = absurd i
 
-scalar_block : (s : ScalarText) (style : Style) → scalars.IsInline style → can_write s style places.Flow ≡ true → can_write s style places.Block ≡ true
+pub scalar_block : (s : ScalarText) (style : Style) → scalars.IsInline style → can_write s style places.Flow ≡ true → can_write s style places.Block ≡ true
 scalar_block s styles.Plain i h = plain_anywhere s false h
 scalar_block s styles.Single i h = h
 scalar_block s styles.Double i h = h

@@ -21,6 +21,7 @@ pub mod Collections
 pub mod FlowEdits
 pub mod Removals
 pub mod FlowPlaces
+pub mod FlowValues
 pub use Rattle.yq_scalar.specs.Keys
 pub use Rattle.yq_scalar.specs.Paths
 pub use Rattle.yq_scalar.specs.Tree

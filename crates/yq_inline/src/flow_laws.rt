@@ -1,5 +1,5 @@
 //! Laws of edits in flow collections, each the contract of a function that does nothing.
-ghost use Rattle.std.specs.Prelude.{◌≡◌, ◌∷◌, ◌++◌, ◌==◌, ◌≤◌, ◌-◌, List, [], Some, drop, length, take, true, ℕ};
+ghost use Rattle.std.specs.Prelude.{◌≡◌, ◌∷◌, ◌++◌, ◌==◌, ◌≤◌, ◌-◌, Bool, List, [], Option, Some, drop, length, take, true, ℕ};
 ghost use Rattle.yq_scalar.specs.Characters.{pairs_returns};
 ghost use Rattle.yq_scalar.specs.Keys.{depth};
 ghost use Rattle.yq_scalar.specs.Paths.{Step, append_child, change, change_child, remove_child, within};
@@ -12,7 +12,8 @@ ghost use Rattle.yq_scalar.specs.declared.style.Style.{Style};
 ghost use Rattle.yq_inline.specs.Collections.{CollAt, CollPieces, IsCollAt, coll_along, coll_in, item_in, room_in};
 ghost use Rattle.yq_inline.specs.Entries.{EntryPieces, end_of, entry_pieces_at, entry_start, item_at, locate_entry, pieces_text};
 ghost use Rattle.yq_inline.specs.FlowEdits.{Becomes, FitsItem, FitsNode, IsEdited, appending, behind_appended, put_value, replacing};
-ghost use Rattle.yq_inline.specs.Nodes.{Key, Node, node_text, scalar};
+ghost use Rattle.yq_inline.specs.FlowPlaces.{append_place, place_edit, remove_place, replace_place};
+ghost use Rattle.yq_inline.specs.Nodes.{IsNode, Key, Node, node_text, scalar};
 ghost use Rattle.yq_inline.specs.Places.{locate};
 ghost use Rattle.yq_inline.specs.Removals.{removing};
 ghost use Rattle.yq_inline.specs.Trees.{inner, key_content, scalar_node, tree_of};
@@ -56,4 +57,10 @@ pub fn flow_places()
     ensures end { (total : ℕ) (n : Node) (rest : List ℕ) → end_of (locate total n rest) ≡ total - length rest }
     // The new text is the bytes before, the new ones, and those behind.
     ensures bytes { (t u old new behind : List ℕ) → Becomes t u old new behind → u ≡ take (length t - length (old ++ behind)) t ++ (new ++ drop (length t - length behind) t) }
+    // The places that the code tells are those of the edits: of another content, of one more item or entry,
+    // and of one that is taken out.
+    ensures replace { (flow : Bool) (spaces : Option ℕ) (d total : ℕ) (s : Step) (y : EntryPieces) (m : Node) (c : CollPieces) → IsNode flow spaces d y.node y.rest → replace_place (locate total y.node y.rest) ≡ place_edit total (replacing s y m c) }
+    ensures append { (total : ℕ) (node : Node) (rest : List ℕ) (c : CollPieces) (key : Key) (m : Node) → length (node_text node rest) ≤ total → coll_in node rest ≡ Some c → append_place (locate total node rest) ≡ Some (place_edit total (appending key m c)) }
+    ensures remove { (flow : Bool) (spaces : Option ℕ) (d : ℕ) (t before : List ℕ) (node : Node) (rest : List ℕ) (c : CollPieces) (s : Step) (y : EntryPieces) → IsNode flow spaces d node rest → coll_in node rest ≡ Some c → item_at c.close s c.items c.rest ≡ Some y → t ≡ before ++ node_text node rest →
+        remove_place t s (locate (length t) node rest) ≡ Some (place_edit (length t) (removing s c)) }
 {}

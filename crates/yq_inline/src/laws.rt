@@ -11,9 +11,10 @@ ghost use Rattle.yq_inline.specs.Trees.{placed_tree, tree_of};
 ghost use Rattle.yq_scalar.specs.Scalar.{ScalarText};
 ghost use Rattle.yq_scalar.specs.Writable.{can_write};
 ghost use Rattle.yq_scalar.specs.Written as scalars;
-ghost use Rattle.yq_scalar.specs.declared.style.Place.TheVariants.{Block};
+ghost use Rattle.yq_scalar.specs.declared.style.Place.TheVariants.{Block, Flow};
 ghost use Rattle.yq_scalar.specs.declared.style.Style.{Style};
 ghost use Rattle.yq_inline.specs.Valued.{IsValid, IsValueTree, Spells, SpellsScalar};
+ghost use Rattle.yq_inline.specs.FlowValues.{SpellsInFlow};
 ghost use Rattle.yq_inline.specs.Written.{flow_text};
 
 /// What is read as an inline node is one, what is one is read, and a text begins with one at most.
@@ -37,6 +38,12 @@ pub fn flow_spells()
 /// spells it.
 pub fn scalar_spells()
     ensures { (s : ScalarText) (style : Style) → IsValid s → scalars.IsInline style → can_write s style Block ≡ true → SpellsScalar s (scalars.written style s.text) }
+{}
+
+/// What is written for a scalar in a flow collection, in a style that can write it there, spells it
+/// there.
+pub fn scalar_spells_in_flow()
+    ensures { (s : ScalarText) (style : Style) → IsValid s → scalars.IsInline style → can_write s style Flow ≡ true → SpellsInFlow s (scalars.written style s.text) }
 {}
 
 /// Each item and entry to which a path leads stands in the text of the node where its places say, and

@@ -19,10 +19,12 @@ mod write;
 pub use flow_laws::{appended_in_flow, flow_places, removed_in_flow, replaced_in_flow};
 pub use flow_place::EditPlace;
 pub use inline::{Form, Inline};
-pub use laws::{entry_places, flow_spells, one_inline, one_tree, scalar_spells};
+pub use laws::{
+    entry_places, flow_spells, one_inline, one_tree, scalar_spells, scalar_spells_in_flow,
+};
 pub use path::{Entry, Step};
 pub use read::{DEPTH_LIMIT, read_inline};
 pub use scalar::style_of;
 pub use value::Value;
-pub use write::{push_scalar, write_inline};
+pub use write::{push_scalar, write_entry, write_inline};
 pub use yq_scalar::ReadFault;

@@ -4,6 +4,7 @@ ghost use Rattle.std.specs.Str.{IsUtf8};
 ghost use Rattle.yq_scalar.specs.Scalar.{IsScalar};
 ghost use Rattle.yq_scalar.specs.Writable as writable;
 ghost use Rattle.yq_scalar.specs.declared.style.Style.TheVariants.{Plain};
+ghost use Rattle.yq_inline.specs.FlowValues.{SpellsEntry};
 ghost use Rattle.yq_inline.specs.Valued.{AreValueTrees, IsValid, IsValueTree, Spells};
 ghost use Rattle.yq_inline.specs.Values.{entries_of, items_of, node_of};
 ghost use Rattle.yq_inline.specs.Written as spec;
@@ -123,6 +124,20 @@ pub fn write_inline(alloc: Global, value: &Value) -> Result<String, AllocError>
     ensures spells { IfOk result (λ s. Spells (node_of value.now) (string_bytes s)) }
 {
     let mut out = String::new(alloc);
+    push_value(alloc, &mut out, value)?;
+    Ok(out)
+}
+
+/// An entry in flow style: `k: v`, the key plain if it can be, else double-quoted.
+#[tactic(auto, using(crate::proofs::FlowSpelled::entry_spells))]
+pub fn write_entry(alloc: Global, key: &str, value: &Value) -> Result<String, AllocError>
+    // It is the text that the style defines.
+    ensures text { IfOk result (λ s. string_bytes s ≡ spec.entry_text (key.now, node_of value.now)) }
+    // It spells the entry.
+    ensures spells { IfOk result (λ s. SpellsEntry key.now (node_of value.now) (string_bytes s)) }
+{
+    let mut out = String::new(alloc);
+    push_key(alloc, &mut out, key)?;
     push_value(alloc, &mut out, value)?;
     Ok(out)
 }
