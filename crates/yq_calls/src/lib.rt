@@ -8,6 +8,8 @@ mod expr;
 #[cfg(test)]
 mod inline;
 #[cfg(test)]
+mod inline_edits;
+#[cfg(test)]
 mod journal;
 #[cfg(test)]
 mod memory;
