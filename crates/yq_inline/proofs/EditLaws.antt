@@ -1,12 +1,12 @@
 -- Edits of a collection inside an inline node: a node replaced, an item or entry appended.
 use Rattle.std.proofs.Common.{◌≡◌, ℕ, ◌-◌, Bool, true, false, not, List, [], ◌∷◌, ◌++◌, length, Some, refl, sym, ap, ◌∙◌, subst, arith, eq-eqb, cond}
-use Rattle.std.proofs.lemmas.Bool.{false≢true, or_right}
+use Rattle.std.proofs.lemmas.Bool.{false≢true}
 use Rattle.yq_scalar.specs.Paths.{Step, change_child, append_child, within, change}
 use Rattle.yq_scalar.specs.Piece.{further_spaces}
 use Rattle.yq_scalar.specs.Writable.{in_flow}
 use Rattle.yq_inline.specs.Gaps.{IsGap}
 use Rattle.yq_inline.specs.Inline.{depth_limit}
-use Rattle.yq_inline.specs.Nodes.{Key, last, Node, Items, none, item, key_text, node_text, items_text, open_of, is_bare, AreItems}
+use Rattle.yq_inline.specs.Nodes.{Key, last, Node, Items, none, item, key_text, node_text, items_text, open_of, AreItems}
 use Rattle.yq_inline.specs.Collections.{coll_text, put_at, room_in, CollAt, item_in, IsCollAt}
 use Rattle.yq_inline.specs.FlowEdits.{Becomes, put_item, put_value, FitsNode, is_none, add_last, behind_last, FitsItem, replacing, appending, appending_first, appending_last, IsEdited, FlowEdit, behind_appended}
 use Rattle.yq_inline.specs.Entries.{EntryPieces}
@@ -34,7 +34,7 @@ pub edited : (x : CollAt) (e : FlowEdit) (h : tree.Children → tree.Children) �
 edited x e h s gap are same text = record {
   inline = record {
     valid = s.new e.gap e.items gap are;
-    something = or_right (in_flow x.place) (not (is_bare (put_at x.steps e.gap e.items x.node))) (subst (λ (b : Bool). not b ≡ true) (sym (s.new_some e.gap e.items)) refl);
+    something = subst (λ (b : Bool). not b ≡ true) (sym (s.new_some e.gap e.items)) refl;
   };
   text = becomes_same _ _ _ _ e.old (e.lead ++ e.written) e.behind s.text (s.new_text e.gap e.items) (put_before s.before _ _ e.old (e.lead ++ e.written) e.behind text);
   tree = s.new_tree e.gap e.items h same;

@@ -1,12 +1,12 @@
 -- The inline node at an offset, read and spelled.
-use Rattle.std.proofs.Common.{◌≡◌, ℕ, ◌-◌, true, not, ◌||◌, List, length, drop, Some, sym, ap, ◌∙◌, subst, ℤ, Result, Ok, Err, IfOk}
+use Rattle.std.proofs.Common.{◌≡◌, ℕ, ◌-◌, true, not, List, length, drop, Some, sym, ap, ◌∙◌, subst, ℤ, Result, Ok, Err, IfOk}
 use Rattle.yq_scalar.specs.declared.fault.ReadError.{ReadError}
 use Rattle.yq_scalar.specs.declared.style.Place.{Place}
 use Rattle.yq_scalar.specs.Answers.{◌>>=◌, Gives}
 use Rattle.yq_scalar.specs.Piece.{further_spaces}
 use Rattle.yq_scalar.specs.Writable.{in_flow}
 use Rattle.yq_scalar.proofs.Bools.{bind_some, guard_some}
-use Rattle.yq_inline.specs.Inline.{depth_limit, IsInlineAt, inline_at, if_standing}
+use Rattle.yq_inline.specs.Inline.{depth_limit, IsInlineAt, inline_at, if_something}
 use Rattle.yq_inline.specs.Nodes.{Node, is_bare}
 use Rattle.yq_inline.specs.Places.{Placed, locate, placed_node, bare_placed}
 use Rattle.yq_inline.specs.Reading.{all_node}
@@ -21,7 +21,7 @@ inline_takes place n depth at text p h =
     let d = depth_limit - depth in
     let x = bind_some (placed_node flow spaces (length text) d (drop at text)) h in
     let y = bind_some (all_node flow spaces d (drop at text)) x.1 in
-    let g = guard_some (flow || not (bare_placed x.0.0)) x.2 in
+    let g = guard_some (not (bare_placed x.0.0)) x.2 in
     let a = all_takes flow spaces d (drop at text) y.0 y.1 in
     let here : locate (length text) y.0.0 y.0.1 ≡ x.0.0 = ap (λ (z : Placed × List ℕ). z.0) (some_same y.2) in
     let bare : bare_placed x.0.0 ≡ is_bare y.0.0 = ap bare_placed (sym here) ∙ bare_locate (length text) y.0.0 y.0.1 in
@@ -29,7 +29,7 @@ inline_takes place n depth at text p h =
       node = y.0.0;
       rest = y.0.1;
       stands = a.0;
-      inline = record { valid = a.1; something = ap (λ b. flow || not b) (sym bare) ∙ g.0 };
+      inline = record { valid = a.1; something = ap not (sym bare) ∙ g.0 };
       places = sym g.1 ∙ sym here;
     }
 
@@ -40,8 +40,8 @@ inline_again place n depth at text p h =
     let d = depth_limit - depth in
     let read : all_node flow spaces d (drop at text) ≡ Some (h.node, h.rest) = ap (all_node flow spaces d) h.stands ∙ all_again flow spaces d h.node h.rest h.inline.valid in
     let here : placed_node flow spaces (length text) d (drop at text) ≡ Some (locate (length text) h.node h.rest, h.rest) = ap (λ o. o >>= λ (x : Node × List ℕ). Some (locate (length text) x.0 x.1, x.1)) read in
-    let some : (flow || not (bare_placed (locate (length text) h.node h.rest))) ≡ true = ap (λ b. flow || not b) (bare_locate (length text) h.node h.rest) ∙ h.inline.something in
-    ap (λ o. o >>= if_standing place) here ∙ (rw some (ap Some (sym h.places)))
+    let some : not (bare_placed (locate (length text) h.node h.rest)) ≡ true = ap not (bare_locate (length text) h.node h.rest) ∙ h.inline.something in
+    ap (λ o. o >>= if_something) here ∙ (rw some (ap Some (sym h.places)))
 
 pub found_by : {X : Type 0} (v : X → Placed) (place : Place) (n : ℤ) (depth at : ℕ) (text : List ℕ) (r : Result X ReadError) → Gives v r (inline_at place n depth at text) → IfOk r (λ x. IsInlineAt place n depth at text (v x))
 found_by v place n depth at text (Ok x) h = inline_takes place n depth at text (v x) h

@@ -45,3 +45,4 @@ pub mod PlacedAmong
 pub mod PlacedRemovals
 pub mod RemovePlaces
 pub mod FlowSpelled
+pub mod NestedLaws

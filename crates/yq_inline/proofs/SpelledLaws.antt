@@ -189,7 +189,7 @@ flow_spells v h = record {
   written = λ rest. node_then (flow_of v) rest;
   stands = λ place n around rest deep ends. record {
     valid = written_node v (in_flow place) (further_spaces place n) (depth_limit - around) rest h (omega (arith, deep)) ends;
-    something = or_right (in_flow place) (not (is_bare (flow_of v))) (rw (no_bare v h) refl);
+    something = rw (no_bare v h) refl;
   };
   same = written_tree v h;
 }

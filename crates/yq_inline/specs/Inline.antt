@@ -1,5 +1,5 @@
 -- The inline node at an offset of a text.
-use Rattle.std.specs.Prelude.{◌≡◌, ℕ, ◌-◌, Bool, true, ◌||◌, not, List, Option, Some, None, length, drop, ℤ, if◌then◌else◌}
+use Rattle.std.specs.Prelude.{◌≡◌, ℕ, ◌-◌, true, not, List, Option, Some, None, length, drop, ℤ, if◌then◌else◌}
 use Rattle.yq_scalar.specs.declared.style.Place.{Place}
 use Rattle.yq_scalar.specs.Answers.{◌>>=◌}
 use Rattle.yq_scalar.specs.Piece.{further_spaces}
@@ -11,11 +11,11 @@ use Rattle.yq_inline.specs.Places.{Placed, locate, placed_node, bare_placed}
 abbrev pub depth_limit : ℕ
 depth_limit = 64
 
--- An inline node before a rest, below a parent of that indentation, with so many collections round it; outside flow collections it is
--- something (YAML 1.2.2, sections 6.9.2, 7.1 and 7.4; own).
+-- An inline node before a rest, below a parent of that indentation, with so many collections round it; it is something, if only an anchor
+-- (YAML 1.2.2, sections 6.9.2, 7.1 and 7.4; own).
 pub record IsInline (place : Place) (n : ℤ) (depth : ℕ) (node : Node) (rest : List ℕ) : Type 0 where
   pub valid : IsNode (in_flow place) (further_spaces place n) (depth_limit - depth) node rest
-  pub something : (in_flow place || not (is_bare node)) ≡ true
+  pub something : not (is_bare node) ≡ true
 
 -- the inline node, with its places, that begins at this offset of the text (own)
 pub record IsInlineAt (place : Place) (n : ℤ) (depth at : ℕ) (text : List ℕ) (p : Placed) : Type 0 where
@@ -25,15 +25,11 @@ pub record IsInlineAt (place : Place) (n : ℤ) (depth at : ℕ) (text : List �
   pub inline : IsInline place n depth node rest
   pub places : p ≡ locate (length text) node rest
 
--- the node may stand there: outside flow collections it is something (own)
-abbrev pub may_stand : Place → Placed → Bool
-may_stand place p = in_flow place || not (bare_placed p)
-
--- the node, if it may stand there (own)
-abbrev pub if_standing : Place → Placed × List ℕ → Option Placed
-if_standing place x = if may_stand place x.0 then Some x.0 else None
+-- the node, if it is something (own)
+abbrev pub if_something : Placed × List ℕ → Option Placed
+if_something x = if not (bare_placed x.0) then Some x.0 else None
 
 -- the inline node that begins at this offset, if one does (own)
 abbrev pub inline_at : Place → ℤ → ℕ → ℕ → List ℕ → Option Placed
 inline_at place n depth at text =
-    placed_node (in_flow place) (further_spaces place n) (length text) (depth_limit - depth) (drop at text) >>= if_standing place
+    placed_node (in_flow place) (further_spaces place n) (length text) (depth_limit - depth) (drop at text) >>= if_something

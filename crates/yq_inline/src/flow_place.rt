@@ -86,10 +86,10 @@ fn remove_from(text: &[u8], sole: EditPlace, from: usize, among: Among) -> EditP
 {
     let start = among.start;
     match (among.before, among.next) {
-        (_, Some(next)) if behind_feed(text, start) && begins_marker(behind(text, next)) => {
+        (_, Some(mark)) if behind_feed(text, start) && begins_marker(behind(text, mark)) => {
             EditPlace {
                 start,
-                end: next,
+                end: mark,
                 lead: " ",
             }
         }

@@ -1,5 +1,5 @@
 //! Laws of inline nodes, each the contract of a function that does nothing.
-ghost use Rattle.std.specs.Prelude.{◌≡◌, ◌∷◌, Bool, List, Option, Some, option_map, true, ℕ, ℤ};
+ghost use Rattle.std.specs.Prelude.{◌≡◌, ◌+◌, ◌∷◌, length, Bool, List, Option, Some, option_map, true, ℕ, ℤ};
 ghost use Rattle.yq_scalar.specs.Paths.{Step};
 ghost use Rattle.yq_scalar.specs.Tree as tree;
 ghost use Rattle.yq_scalar.specs.declared.style.Place.{Place};
@@ -47,9 +47,9 @@ pub fn scalar_spells_in_flow()
 {}
 
 /// Each item and entry to which a path leads stands in the text of the node where its places say, and
-/// its node is an inline node there.
+/// its node is an inline node there, in which one collection less may be nested for each step.
 pub fn entry_places()
     ensures places { (total : ℕ) (steps : List Step) (x : EntryPieces) → placed_entry_at steps (locate_entry total x) ≡ option_map (locate_entry total) (entry_pieces_at steps x) }
     ensures text { (steps : List Step) (x y : EntryPieces) → entry_pieces_at steps x ≡ Some y → StandsIn (pieces_text x) y }
-    ensures node { (flow : Bool) (spaces : Option ℕ) (d : ℕ) (s : Step) (ss : List Step) (x y : EntryPieces) → IsNode flow spaces d x.node x.rest → entry_pieces_at (s ∷ ss) x ≡ Some y → (e : ℕ) × IsNode true (Some 0) e y.node y.rest }
+    ensures node { (flow : Bool) (spaces : Option ℕ) (d : ℕ) (s : Step) (ss : List Step) (x y : EntryPieces) → IsNode flow spaces d x.node x.rest → entry_pieces_at (s ∷ ss) x ≡ Some y → (e : ℕ) × (d ≡ length (s ∷ ss) + e) × IsNode true (Some 0) e y.node y.rest }
 {}

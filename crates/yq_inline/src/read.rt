@@ -5,25 +5,18 @@ ghost use Rattle.yq_scalar.specs.Answers.{Gives};
 ghost use Rattle.yq_scalar.specs.declared.style.Place.TheVariants.{Block, Flow};
 ghost use Rattle.yq_inline.specs.Inline as spec;
 ghost use Rattle.yq_inline.specs.Places.{Placed};
-ghost use Rattle.yq_inline.specs.Spans.{HasSpans};
+ghost use Rattle.yq_inline.specs.Spans.{HasSpans, IsNested};
 ghost use Rattle.yq_inline.specs.View.{view};
 
 use crate::fault::fault;
-use crate::inline::{Form, Inline};
+use crate::inline::Inline;
 use crate::pieces::no_node;
-use crate::reading::read_node;
+use crate::reading::{is_bare, read_node};
 use std::alloc::Global;
 use yq_scalar::{FaultKind, Place, ReadError, further_spaces, in_flow};
 
 /// How many collections may be nested.
 pub const DEPTH_LIMIT: usize = 64;
-
-/// Whether the node may stand there: outside flow collections it is something.
-fn may_stand(place: Place, node: &Inline<'_>) -> bool
-    ensures { result ≡ spec.may_stand place (view node.now) }
-{
-    in_flow(place) || !(node.anchor.is_none() && matches!(node.form, Form::Empty))
-}
 
 fn inline_at<'t>(
     alloc: Global,
@@ -46,21 +39,20 @@ fn inline_at<'t>(
         room,
         rest,
     )?;
-    if may_stand(place, &node) {
-        Ok(node)
-    } else {
+    if is_bare(&node) {
         let kind = no_node(rest.as_bytes(), FaultKind::BadScalar);
-        Err(ReadError::from(fault(kind, text, rest)))
+        return Err(ReadError::from(fault(kind, text, rest)));
     }
+    Ok(node)
 }
 
 /// The inline node that begins at an offset, in bytes, of a text. `indent` is the indentation of its
 /// parent, in columns, and -1 below no parent; `depth` is how many collections stand round the node.
 ///
-/// In a flow collection the node may be nothing; elsewhere it is something, if only an anchor, and what
-/// an anchor stands before is on the anchor's line. A node with which more than 64 collections would be
+/// The node is something, if only an anchor. Outside flow collections what an anchor stands before is on
+/// the anchor's line. A node with which more than 64 collections would be
 /// nested is refused, before it is read.
-#[tactic(auto, using(crate::proofs::InlineLaws::found_by, crate::proofs::InlineLaws::only_by, crate::proofs::SpanLaws::spans_by))]
+#[tactic(auto, using(crate::proofs::InlineLaws::found_by, crate::proofs::InlineLaws::only_by, crate::proofs::SpanLaws::spans_by, crate::proofs::NestedLaws::nested_by))]
 pub fn read_inline<'t>(
     alloc: Global,
     text: &'t str,
@@ -78,6 +70,8 @@ pub fn read_inline<'t>(
     ensures only { (p : Placed) → spec.IsInlineAt place indent depth at text.now p → Gives view result (Some p) }
     // Its places lie in order, each at a character of the text or at its end.
     ensures spans { IfOk result (λ node. HasSpans text.now (view node)) }
+    // Its parts lie inside it, one behind the other, each key before its value.
+    ensures nested { IfOk result (λ node. IsNested (view node)) }
 {
     inline_at(alloc, text, at, place, indent, depth)
 }

@@ -28,7 +28,7 @@ fn placed_between<'t>(whole: &str, text: &str, rest: &str, form: Form<'t>) -> In
 }
 
 /// Whether the node is nothing, not even an anchor.
-fn is_bare(node: &Inline<'_>) -> bool
+pub(crate) fn is_bare(node: &Inline<'_>) -> bool
     ensures { result ≡ spec.bare_placed (view node.now) }
 {
     node.anchor.is_none() && matches!(node.form, Form::Empty)
