@@ -1,7 +1,9 @@
 """The crates of the repository, as crates.txt lists them, and the command that proves them."""
 
 import os
+import resource
 import subprocess
+import time
 
 ROOT = os.path.dirname(os.path.dirname(os.path.abspath(__file__)))
 # The toolchain's command; another one may stand in the environment, as RT="nice rt".
@@ -40,3 +42,10 @@ def build(crate, *words):
     if done.returncode:
         print(done.stdout, end="", flush=True)
     return done.returncode == 0
+
+
+def took(began):
+    """What this process and those that it started took, since a time by the clock."""
+    used = [resource.getrusage(it) for it in (resource.RUSAGE_SELF, resource.RUSAGE_CHILDREN)]
+    seconds = sum(it.ru_utime + it.ru_stime for it in used)
+    return f"took {seconds:.0f} processor seconds (user and system), {time.monotonic() - began:.0f} s by the clock"

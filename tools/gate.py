@@ -9,14 +9,13 @@ The status is that of `rt ci`, or of tests/cli where `rt ci` passed.
 import os
 import queue
 import re
-import resource
 import signal
 import subprocess
 import sys
 import threading
 import time
 
-from crates import ROOT, RT, libraries
+from crates import ROOT, RT, libraries, took
 from watch import EDITS, PROOF, TESTS, Watch
 
 KINDS = PROOF, TESTS, EDITS
@@ -115,11 +114,6 @@ def run_program(yq):
     return tests.returncode, last
 
 
-def processor_seconds():
-    used = [resource.getrusage(it) for it in (resource.RUSAGE_SELF, resource.RUSAGE_CHILDREN)]
-    return sum(it.ru_utime + it.ru_stime for it in used)
-
-
 def main(words):
     if len(words) != 1:
         print(__doc__.strip(), file=sys.stderr)
@@ -132,7 +126,7 @@ def main(words):
         for line in table(tasks):
             say(line)
         status, last = run_program(words[0])
-    say(f"took {processor_seconds():.0f} processor seconds (user and system), {time.monotonic() - BEGAN:.0f} s by the clock")
+    say(took(BEGAN))
     if last is not None:
         say(last)
     return status if status >= 0 else 128 - status

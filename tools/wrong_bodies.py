@@ -19,7 +19,7 @@ import threading
 import time
 
 from build import build_all
-from crates import ROOT, RT, folder, libraries, that_fit
+from crates import ROOT, RT, folder, libraries, that_fit, took
 from edits import hindrance, names_in
 from watch import EDITS, Watch
 
@@ -172,6 +172,7 @@ def main(words):
     finally:
         shutil.rmtree(room, ignore_errors=True)
     refused, tried = sum(it.refused for it in ended), sum(len(it.names) for it in ended)
+    print(took(BEGAN))
     print(f"{refused} refused, {tried - refused} not", flush=True)
     return 0 if refused == tried else 1
 
