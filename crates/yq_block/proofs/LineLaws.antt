@@ -10,13 +10,13 @@ use Rattle.yq_scalar.specs.Tree.{Children}
 use Rattle.yq_inline.specs.Nodes as inline
 use Rattle.yq_inline.specs.Trees.{inner}
 use Rattle.yq_inline.specs.Valued.{IsLabel, IsValueTree, AreValueTrees}
-use Rattle.yq_rows.specs.Comments.{head_comment, line_comment}
+use Rattle.yq_lines.specs.Comments.{head_comment, line_comment}
 use Rattle.yq_rows.specs.Rows as rows
 use Rattle.yq_rows.specs.Rows.{Nothing, Inline, Row, behind_columns}
-use Rattle.yq_tree.specs.Grammar.{IsNode, mapping, sequence, AreEntries, no_more, entry, IsUnder, headed, deeper_lines}
+use Rattle.yq_lines.specs.Grammar.{IsNode, mapping, sequence, AreEntries, no_more, entry, IsUnder, headed, deeper_lines}
 use Rattle.yq_tree.specs.Lines.{mark_line, dash_line, lines_from, row_lines, lines_of}
-use Rattle.yq_tree.specs.Outline.{Mark, Bare, Key, Dash, Line, rank, level, anchored, label}
-use Rattle.yq_tree.proofs.NodeLaws.{anchored_none}
+use Rattle.yq_lines.specs.Outline.{Mark, Bare, Key, Dash, Line, rank, level, anchored, label}
+use Rattle.yq_lines.proofs.NodeLaws.{anchored_none}
 use Rattle.yq_tree.proofs.UnderExchange.{lines_append}
 use Rattle.yq_block.specs.BlockRows.{behind_dash, block_key, children_rows, column_below, end_before, entry_rows, indent_step, inline_of, item_column, node_rows}
 use Rattle.yq_block.specs.BlockValues.{IsFilled, entry_level, level_at}

@@ -3,7 +3,7 @@ use Rattle.std.proofs.Common.{◌≡◌, ℤ, ℕ, zero, suc, ◌+◌, ◌≤◌
 use Rattle.std.proofs.lemmas.Bool.{false≢true}
 use Rattle.yq_scalar.specs.Text.{separates, upto}
 use Rattle.yq_rows.specs.Alike.{Alike, dash}
-use Rattle.yq_rows.specs.Comments.{head_comment, line_comment}
+use Rattle.yq_lines.specs.Comments.{head_comment, line_comment}
 use Rattle.yq_rows.specs.Exchange.{asked_behind, with_content, allows_first}
 use Rattle.yq_inline.specs.Nodes as inline
 use Rattle.yq_rows.specs.Alone.{holds_nothing}
@@ -14,8 +14,8 @@ use Rattle.yq_rows.proofs.Alikes.{alike_append, alike_marker}
 use Rattle.yq_rows.proofs.ExchangeLaws.{one_row, relimit, chain}
 use Rattle.yq_rows.proofs.NodeExchange.{mark_apart}
 use Rattle.yq_tree.specs.Lines.{dash_line, lines_from, row_lines, lines_of}
-use Rattle.yq_tree.specs.Outline as outline
-use Rattle.yq_tree.specs.Outline.{Line}
+use Rattle.yq_lines.specs.Outline as outline
+use Rattle.yq_lines.specs.Outline.{Line}
 use Rattle.yq_block.specs.BlockPlaces.{dashed_row, compact_row, compact_rows, IsUpto, at_mark, at_dash, IsAbove, Replaces, BeginsUpto}
 use Rattle.yq_block.specs.BlockRows.{item_column}
 use Rattle.yq_block.proofs.LaidRows.{AreLaid, IsLaid, rows_append, text_append}

@@ -9,14 +9,14 @@ use Rattle.yq_inline.specs.Nodes as inline
 use Rattle.yq_inline.specs.Nodes.{node_text}
 use Rattle.yq_inline.specs.Valued.{IsValueTree}
 use Rattle.yq_inline.proofs.WrittenLaws.{node_then}
-use Rattle.yq_rows.specs.Comments.{head_comment}
+use Rattle.yq_lines.specs.Comments.{head_comment}
 use Rattle.yq_rows.specs.Grammar.{is_entry, is_plain, unlimited, AreRows, no_rows}
 use Rattle.yq_rows.specs.Rows as rows
 use Rattle.yq_rows.specs.Rows.{Bare, Inline, Row, rows_text, last, cut_text}
 use Rattle.yq_tree.specs.Documents.{IsRoot, HasShortRoot, is_long_plain, first_gap, Reads, document_parts, AreDocuments}
-use Rattle.yq_tree.specs.Grammar.{IsNode, alone, mapping, sequence}
+use Rattle.yq_lines.specs.Grammar.{IsNode, alone, mapping, sequence}
 use Rattle.yq_tree.specs.Lines.{lines_of}
-use Rattle.yq_tree.specs.Outline.{Line}
+use Rattle.yq_lines.specs.Outline.{Line}
 use Rattle.std.proofs.Common.{not}
 use Rattle.yq_scalar.specs.BlockWritten.{break_text}
 use Rattle.yq_rows.proofs.PlainEnds.{end_line}

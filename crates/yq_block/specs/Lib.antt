@@ -7,7 +7,7 @@ pub use Rattle.yq_rows.specs.Exchange
 pub use Rattle.yq_rows.specs.Grammar
 pub use Rattle.yq_rows.specs.Rows
 pub use Rattle.yq_tree.specs.Documents
-pub use Rattle.yq_tree.specs.Outline
+pub use Rattle.yq_lines.specs.Outline
 pub mod BlockRows
 pub mod BlockText
 pub mod BlockReading
