@@ -2,7 +2,7 @@
 
 use crate::memory::all_memory;
 use std::test::Fail;
-use yq_expr::{ParseError, PlanError, parse_expr, plan};
+use yq_expr::{MatchError, ParseError, PlanError, matches, parse_expr, plan};
 use yq_tree::read;
 
 /// With memory for so many more steps, the answer is Memory, and then the program.
@@ -51,5 +51,30 @@ fn of_plans(rt: HostRuntime) -> Result<(), Fail> {
         }
     }
     assert!(rt; false, "never planned");
+    Ok(())
+}
+
+/// The same of the matches of a read, one of which is a collection.
+#[test]
+fn of_matches(rt: HostRuntime) -> Result<(), Fail> {
+    let alloc = rt.alloc();
+    let program = parse_expr(alloc, ".l[] | select(.n == \"x\") | .v")?;
+    let documents = read(alloc, b"l:\n- {n: y}\n- {n: x, v: [1, {k: \"q\\t\"}]}\n")?;
+    let mut held = all_memory(alloc)?;
+    'turns: for turn in 0..4096u32 {
+        assert!(rt; program.is_read());
+        match matches(alloc, &program, &documents) {
+            Ok(found) => {
+                assert_eq!(rt; found.len(), 1);
+                assert!(rt; turn > 3);
+                return Ok(());
+            }
+            Err(e) => {
+                assert_eq!(rt; e, MatchError::Memory);
+                let _ = held.pop();
+            }
+        }
+    }
+    assert!(rt; false, "never matched");
     Ok(())
 }

@@ -135,7 +135,8 @@ fn scalar(out: &mut String, scalar: &Scalar) -> Result<(), AllocError> {
     out.push_str(scalar.text())
 }
 
-fn value(out: &mut String, shown: &Value) -> Result<(), AllocError> {
+/// The value's form, with kinds before scalars.
+pub(super) fn value(out: &mut String, shown: &Value) -> Result<(), AllocError> {
     match shown {
         Value::Scalar(one) => scalar(out, one),
         Value::List(items) => {
