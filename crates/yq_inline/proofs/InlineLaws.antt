@@ -8,7 +8,8 @@ use Rattle.yq_scalar.specs.Writable.{in_flow}
 use Rattle.yq_scalar.proofs.Bools.{bind_some, guard_some}
 use Rattle.yq_inline.specs.Inline.{depth_limit, IsInlineAt, inline_at, if_something}
 use Rattle.yq_inline.specs.Nodes.{Node, is_bare}
-use Rattle.yq_inline.specs.Places.{Placed, locate, placed_node, bare_placed}
+use Rattle.yq_inline.specs.Places.{Placed, locate, bare_placed}
+use Rattle.yq_inline.specs.PlacedReading.{placed_node}
 use Rattle.yq_inline.specs.Reading.{all_node}
 use Rattle.yq_inline.proofs.Binds.{some_same}
 use Rattle.yq_inline.proofs.NodeLaws.{all_takes, all_again}

@@ -6,7 +6,8 @@ use Rattle.yq_scalar.specs.Answers.{◌>>=◌}
 use Rattle.yq_scalar.proofs.Bools.{bind_some}
 use Rattle.yq_inline.specs.declared.inline.Inline.{Inline}
 use Rattle.yq_inline.specs.Nodes.{first_is, bare, is_bare, node_text}
-use Rattle.yq_inline.specs.Places.{Placed, Parts, part, locate, bare_placed, placed_node, placed_items, placed_key, past_sep}
+use Rattle.yq_inline.specs.Places.{Placed, Parts, part, locate, bare_placed}
+use Rattle.yq_inline.specs.PlacedReading.{placed_node, placed_items, placed_key, past_sep}
 use Rattle.yq_inline.specs.Reading.{all_node}
 use Rattle.yq_inline.specs.View.{view, items_view, entries_view, behind_items, behind_entries}
 use Rattle.yq_inline.proofs.Binds.{some_same}

@@ -7,7 +7,8 @@ use Rattle.yq_scalar.specs.declared.piece.Piece.{Piece}
 use Rattle.yq_scalar.specs.Answers.{◌>>=◌, Fails, Gives}
 use Rattle.yq_scalar.specs.Text.{is_empty}
 use Rattle.yq_inline.specs.Nodes.{first_is, Key, bare, keyed, Node, empty, alias, scalar, coll, anchored, Items, item, key_text, sep_text, node_text, items_text, begins_content, is_keyed, is_bare, takes_anchor, IsKey}
-use Rattle.yq_inline.specs.Places.{Placed, placed, mapping, sequence, Parts, end, part, key_placed, key_here, piece_of, locate, content_in, locate_items, placed_between, with_anchor, placed_node, placed_items, placed_content, placed_key, past_sep, bare_in, takes_in, bare_placed, takes_placed, holder, then_anchored}
+use Rattle.yq_inline.specs.Places.{Placed, placed, mapping, sequence, Parts, end, part, key_placed, key_here, locate, locate_items, placed_between, with_anchor, bare_in, bare_placed, holder}
+use Rattle.yq_inline.specs.PlacedReading.{piece_of, content_in, placed_node, placed_items, placed_content, placed_key, past_sep, takes_in, takes_placed, then_anchored}
 use Rattle.yq_inline.specs.Reading.{gap_at, scalar_at, name_at, lead_at, key_at, sep_at, Kids, coll_at, content_at, node_at, all_items, kids_of, all_node}
 use Rattle.yq_inline.proofs.Binds.{some_same, bind_same, bind_bind}
 use Rattle.yq_inline.proofs.PieceLaws.{name_takes, lead_takes, key_takes, sep_takes, front_is}

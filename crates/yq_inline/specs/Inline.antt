@@ -5,7 +5,8 @@ use Rattle.yq_scalar.specs.Answers.{◌>>=◌}
 use Rattle.yq_scalar.specs.Piece.{further_spaces}
 use Rattle.yq_scalar.specs.Writable.{in_flow}
 use Rattle.yq_inline.specs.Nodes.{Node, node_text, IsNode, is_bare}
-use Rattle.yq_inline.specs.Places.{Placed, locate, placed_node, bare_placed}
+use Rattle.yq_inline.specs.Places.{Placed, locate, bare_placed}
+use Rattle.yq_inline.specs.PlacedReading.{placed_node}
 
 -- how many collections may be nested (own)
 abbrev pub depth_limit : ℕ

@@ -10,6 +10,7 @@ pub mod Nodes
 pub mod Alike
 pub mod Reading
 pub mod Places
+pub mod PlacedReading
 pub mod Inline
 pub mod View
 pub mod Values

@@ -3,7 +3,7 @@ ghost use Rattle.std.specs.Prelude.{◌≡◌, ◌<◌, ◌≤◌, IfOk, MatchOp
 ghost use Rattle.yq_scalar.specs.Answers.{Reads};
 ghost use Rattle.yq_scalar.specs.Quoted.{IsQuotedText};
 ghost use Rattle.yq_inline.specs.Nodes as nodes;
-ghost use Rattle.yq_inline.specs.Places as places;
+ghost use Rattle.yq_inline.specs.PlacedReading as seen;
 ghost use Rattle.yq_inline.specs.Reading as spec;
 ghost use Rattle.yq_inline.specs.Scalars as scalars;
 ghost use Rattle.std.specs.List.{prefix_len};
@@ -211,7 +211,7 @@ fn read_colon<'t>(piece: &str, whole: &str, text: &'t str) -> Result<&'t str, Re
 /// What follows an item and the comma behind it, if there is one.
 #[tactic(auto, unfolding(crate::specs::Reading::sep_at, crate::specs::Reading::sep_behind))]
 pub(crate) fn read_sep<'t>(close: u8, whole: &str, text: &'t str) -> Result<&'t str, ReadFault>
-    ensures read { Reads (λ x. x.now) result (places.past_sep close text.now) }
+    ensures read { Reads (λ x. x.now) result (seen.past_sep close text.now) }
     ensures shorter { IfOk result (λ x. length x.now ≤ length text.now) }
 {
     let (_, rest) = read_gap(whole, text)?;
@@ -229,7 +229,7 @@ pub(crate) fn read_sep<'t>(close: u8, whole: &str, text: &'t str) -> Result<&'t 
 /// A key with what quotes it, and what follows its `:` and the gap behind it.
 #[tactic(auto, unfolding(crate::specs::Reading::key_at))]
 pub(crate) fn read_key<'t>(whole: &str, text: &'t str) -> Result<(&'t str, &'t str), ReadFault>
-    ensures read { Reads (λ x. (x.0.now, x.1.now)) result (places.seen_key text.now) }
+    ensures read { Reads (λ x. (x.0.now, x.1.now)) result (seen.seen_key text.now) }
     ensures quoted { IfOk result (λ x. scalars.is_quoted x.0.now ≡ true → IsQuotedText x.0.now) }
     ensures shorter { IfOk result (λ x. length x.1.now < length text.now) }
 {

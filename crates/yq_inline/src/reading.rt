@@ -2,6 +2,7 @@
 ghost use Rattle.std.specs.Prelude.{◌≡◌, ◌≤◌, IfOk, Some, length, true};
 ghost use Rattle.yq_scalar.specs.Answers.{Gives};
 ghost use Rattle.yq_inline.specs.Places as spec;
+ghost use Rattle.yq_inline.specs.PlacedReading as seen;
 ghost use Rattle.yq_inline.specs.View.{entries_end, form_view, items_end, view};
 
 use crate::fault::fault;
@@ -36,14 +37,14 @@ pub(crate) fn is_bare(node: &Inline<'_>) -> bool
 
 /// Whether an anchor may stand before the node.
 fn takes_anchor(node: &Inline<'_>) -> bool
-    ensures { result ≡ spec.takes_placed (view node.now) }
+    ensures { result ≡ seen.takes_placed (view node.now) }
 {
     node.anchor.is_none() && !matches!(node.form, Form::Alias(_))
 }
 
 /// Whether the node may stand behind an anchor and this gap.
 fn stands_behind(gap: &str, node: &Inline<'_>) -> bool
-    ensures { result ≡ spec.stands_behind gap.now (view node.now) }
+    ensures { result ≡ seen.stands_behind gap.now (view node.now) }
 {
     (is_bare(node) || !gap.is_empty()) && takes_anchor(node)
 }
@@ -59,7 +60,7 @@ fn put_anchor<'t>(
 ) -> Result<(Inline<'t>, &'t str), ReadError>
     requires { length text.now ≤ length whole.now }
     ensures shorter { IfOk result (λ x. x.1.now ≡ rest.now) }
-    ensures read { Gives (λ x. (view x.0, x.1.now)) result (spec.then_anchored (length whole.now) text.now name.now gap.now (view node.entry, rest.now)) }
+    ensures read { Gives (λ x. (view x.0, x.1.now)) result (seen.then_anchored (length whole.now) text.now name.now gap.now (view node.entry, rest.now)) }
 {
     if !stands_behind(gap, &node) {
         return Err(ReadError::from(fault(FaultKind::BadScalar, whole, text)));
@@ -89,7 +90,7 @@ pub fn read_node<'t>(
 ) -> Result<(Inline<'t>, &'t str), ReadError>
     requires { length text.now ≤ length whole.now }
     ensures shorter { IfOk result (λ x. length x.1.now ≤ length text.now) }
-    ensures read { Gives (λ x. (view x.0, x.1.now)) result (spec.placed_node flow spaces (length whole.now) depth text.now) }
+    ensures read { Gives (λ x. (view x.0, x.1.now)) result (seen.placed_node flow spaces (length whole.now) depth text.now) }
 {
     let Some(behind) = strip(b'&', text) else {
         return read_content(alloc, flow, spaces, whole, depth, text);
@@ -115,7 +116,7 @@ fn read_content<'t>(
 ) -> Result<(Inline<'t>, &'t str), ReadError>
     requires { length text.now ≤ length whole.now }
     ensures shorter { IfOk result (λ x. length x.1.now ≤ length text.now) }
-    ensures read { Gives (λ x. (view x.0, x.1.now)) result (spec.placed_content flow spaces (length whole.now) depth text.now) }
+    ensures read { Gives (λ x. (view x.0, x.1.now)) result (seen.placed_content flow spaces (length whole.now) depth text.now) }
 {
     if let Some(behind) = strip(b'*', text) {
         let (name, rest) = read_name(whole, behind)?;
@@ -146,7 +147,7 @@ fn read_sequence<'t>(
 ) -> Result<(Form<'t>, &'t str), ReadError>
     requires { length text.now ≤ length whole.now }
     ensures shorter { IfOk result (λ x. length x.1.now ≤ length text.now) }
-    ensures read { Gives (λ x. (form_view x.0, x.1.now)) result (spec.placed_coll (length whole.now) depth 93 text.now) }
+    ensures read { Gives (λ x. (form_view x.0, x.1.now)) result (seen.placed_coll (length whole.now) depth 93 text.now) }
 {
     let (_, rest) = read_gap(whole, text)?;
     if depth == 0 {
@@ -166,7 +167,7 @@ fn read_mapping<'t>(
 ) -> Result<(Form<'t>, &'t str), ReadError>
     requires { length text.now ≤ length whole.now }
     ensures shorter { IfOk result (λ x. length x.1.now ≤ length text.now) }
-    ensures read { Gives (λ x. (form_view x.0, x.1.now)) result (spec.placed_coll (length whole.now) depth 125 text.now) }
+    ensures read { Gives (λ x. (form_view x.0, x.1.now)) result (seen.placed_coll (length whole.now) depth 125 text.now) }
 {
     let (_, rest) = read_gap(whole, text)?;
     if depth == 0 {
@@ -187,7 +188,7 @@ fn read_items<'t>(
 ) -> Result<(Vec<Inline<'t>>, &'t str), ReadError>
     requires { length text.now ≤ length whole.now }
     ensures shorter { IfOk result (λ x. length x.1.now ≤ length text.now) }
-    ensures read { Gives (λ x. (items_end x.0.items, x.1.now)) result (spec.placed_items (length whole.now) depth 93 text.now) }
+    ensures read { Gives (λ x. (items_end x.0.items, x.1.now)) result (seen.placed_items (length whole.now) depth 93 text.now) }
 {
     let mut items = Vec::new(alloc);
     let mut rest = text;
@@ -218,7 +219,7 @@ fn read_entries<'t>(
 ) -> Result<(Vec<(String, Piece, Inline<'t>)>, &'t str), ReadError>
     requires { length text.now ≤ length whole.now }
     ensures shorter { IfOk result (λ x. length x.1.now ≤ length text.now) }
-    ensures read { Gives (λ x. (entries_end x.0.items, x.1.now)) result (spec.placed_items (length whole.now) depth 125 text.now) }
+    ensures read { Gives (λ x. (entries_end x.0.items, x.1.now)) result (seen.placed_items (length whole.now) depth 125 text.now) }
 {
     let mut entries = Vec::new(alloc);
     let mut rest = text;

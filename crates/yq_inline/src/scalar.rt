@@ -3,7 +3,7 @@ ghost use Rattle.std.specs.Prelude.{◌≡◌, ◌<◌, ◌≤◌, IfOk, length,
 ghost use Rattle.yq_scalar.specs.Answers.{Gives};
 ghost use Rattle.yq_scalar.specs.Quoted.{IsQuotedText};
 ghost use Rattle.yq_scalar.specs.Written.{IsInline};
-ghost use Rattle.yq_inline.specs.Places as spec;
+ghost use Rattle.yq_inline.specs.PlacedReading as seen;
 ghost use Rattle.yq_inline.specs.Scalars as scalars;
 ghost use Rattle.yq_inline.specs.View.{form_view};
 
@@ -63,7 +63,7 @@ pub(crate) fn read_text<'t>(
 ) -> Result<(Form<'t>, &'t str), ReadError>
     requires { length text.now ≤ length whole.now }
     ensures shorter { IfOk result (λ x. length x.1.now ≤ length text.now) }
-    ensures read { Gives (λ x. (form_view x.0, x.1.now)) result (spec.placed_text flow spaces (length whole.now) text.now) }
+    ensures read { Gives (λ x. (form_view x.0, x.1.now)) result (seen.placed_text flow spaces (length whole.now) text.now) }
 {
     let (piece, rest) = read_scalar(flow, spaces, whole, text)?;
     let scalar = scalar_of(alloc, piece)?;
@@ -83,7 +83,7 @@ pub(crate) fn read_entry_key<'t>(
 ) -> Result<(String, Piece, &'t str), ReadError>
     requires { length text.now ≤ length whole.now }
     ensures shorter { IfOk result (λ x. length x.2.now < length text.now) }
-    ensures read { Gives (λ x. ((string_bytes x.0, x.1), x.2.now)) result (spec.placed_key (length whole.now) text.now) }
+    ensures read { Gives (λ x. ((string_bytes x.0, x.1), x.2.now)) result (seen.placed_key (length whole.now) text.now) }
 {
     let (piece, rest) = read_key(whole, text)?;
     let key = content_of(alloc, piece)?;

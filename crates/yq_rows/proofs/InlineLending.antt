@@ -12,7 +12,8 @@ use Rattle.yq_scalar.proofs.Bools.{bind_some}
 use Rattle.yq_scalar.proofs.Upto.{cut-append, upto-append, upto_here, upto_unless, upto_le_length}
 use Rattle.yq_inline.specs.Inline.{depth_limit}
 use Rattle.yq_inline.specs.Nodes.{Node, empty, alias, scalar, coll, anchored, node_text, items_text, first_is, in_name, begins_content, is_bare, takes_anchor, IsNode, IsLead}
-use Rattle.yq_inline.specs.Places.{Placed, placed, Parts, mapping, sequence, placed_node, placed_between, locate, locate_items, with_anchor, holder}
+use Rattle.yq_inline.specs.Places.{Placed, placed, Parts, mapping, sequence, placed_between, locate, locate_items, with_anchor, holder}
+use Rattle.yq_inline.specs.PlacedReading.{placed_node}
 use Rattle.yq_inline.specs.Reading.{all_node}
 use Rattle.yq_inline.specs.Scalars.{is_quoted, begins_scalar, style_of}
 use Rattle.yq_scalar.specs.declared.style.Style.TheVariants as styles

@@ -1,6 +1,6 @@
 use Rattle.std.proofs.Common.{◌≡◌, ◌+◌, ◌*◌, ◌≤◌, length}
 use Rattle.std.specs.Str.{IsUtf8}
-use Rattle.yq_inline.specs.Places.{placed_items}
+use Rattle.yq_inline.specs.PlacedReading.{placed_items}
 use Rattle.yq_inline.specs.View.{behind_items, behind_entries}
 use Rattle.yq_inline.proofs.reading.+nodes.Given as goal
 

@@ -3,7 +3,7 @@ use Rattle.std.proofs.lemmas.Int.{to_z-of_z}
 use Rattle.yq_scalar.specs.Piece.{deeper}
 use Rattle.yq_scalar.specs.Text.{is_empty}
 use Rattle.yq_inline.specs.Inline.{depth_limit}
-use Rattle.yq_inline.specs.Places.{placed_node}
+use Rattle.yq_inline.specs.PlacedReading.{placed_node}
 use Rattle.yq_inline.specs.View.{view}
 use Rattle.yq_rows.proofs.Failing.{fails_by}
 use Rattle.yq_rows.proofs.InlineLending.{node_read, lead_here, head_within, head_boundary, inline_some, inline_no_node, inline_no_tail}
