@@ -10,11 +10,11 @@ use Rattle.yq_scalar.specs.Tree as tree
 use Rattle.yq_scalar.specs.Tree.{Node, Children}
 use Rattle.yq_inline.specs.Nodes as inline
 use Rattle.yq_inline.specs.Scalars.{is_quoted, scalar_of}
-use Rattle.yq_inline.specs.Trees.{tree_of, items_tree, with_name}
+use Rattle.yq_inline.specs.Trees.{tree_of, items_tree, with_name, node_head}
 use Rattle.yq_rows.specs.Rows as rows
 use Rattle.yq_tree.specs.Documents.{Document}
 use Rattle.yq_tree.specs.Group.{deeper, shallow, group}
-use Rattle.yq_tree.specs.Lines.{node_head, head_of, lines_from, row_lines, lines_of}
+use Rattle.yq_tree.specs.Lines.{head_of, lines_from, row_lines, lines_of}
 use Rattle.yq_tree.specs.Outline as outline
 use Rattle.yq_tree.specs.Outline.{Mark, Bare, Key, Dash, Line, level, Outline, end, row, anchored, head_or, shaped, children}
 use Rattle.yq_tree.specs.Reading.{document_of}
