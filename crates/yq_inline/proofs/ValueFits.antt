@@ -57,16 +57,16 @@ scalar_unmarked s rest v m = written_unmarked s (can_write_plain s true) rest re
 value_unmarked : (v : tree.Node) (rest : List ℕ) → IsValueTree v → Unmarked rest → is_marker (node_text (flow_of v) rest) ≡ false
 unfolding flow_of node_text
 value_unmarked (tree.alias n) rest h m = absurd h
-value_unmarked (tree.scalar a kind t) rest h m = rw h.0 (scalar_unmarked (record { kind = kind; text = t }) rest h.1 m)
-value_unmarked (tree.list a cs) rest h m = rw h.0 (no_first 91 _ refl refl)
-value_unmarked (tree.map a cs) rest h m = rw h.0 (no_first 123 _ refl refl)
+value_unmarked (tree.scalar a kind t) rest h m = scalar_unmarked (record { kind = kind; text = t }) rest h.1 m
+value_unmarked (tree.list a cs) rest h m = no_first 91 _ refl refl
+value_unmarked (tree.map a cs) rest h m = no_first 123 _ refl refl
 
 value_takes : (v : tree.Node) → IsValueTree v → takes_anchor (flow_of v) ≡ true
 unfolding flow_of
 value_takes (tree.alias n) h = absurd h
-value_takes (tree.scalar a kind t) h = rw h.0 refl
-value_takes (tree.list a cs) h = rw h.0 refl
-value_takes (tree.map a cs) h = rw h.0 refl
+value_takes (tree.scalar a kind t) h = refl
+value_takes (tree.list a cs) h = refl
+value_takes (tree.map a cs) h = refl
 
 -- a value
 pub value_fits : (k e : ℕ) (v : tree.Node) (rest : List ℕ) → is_close k ≡ true → EndsItem k rest → IsValueTree v → depth v ≤ e → FitsNode e (flow_of v) rest
