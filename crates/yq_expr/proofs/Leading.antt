@@ -7,7 +7,8 @@ use Rattle.yq_inline.specs.Entries.{step_of as tree_step}
 use Rattle.yq_inline.specs.declared.path.Step as tree
 use Rattle.yq_expr.specs.Judgement.{Judgement, gives, refuses, unbuilt, and_then, Plans}
 use Rattle.yq_expr.specs.Matching.{Location, there, missing, behind, lead_on, step_leads, steps_lead}
-use Rattle.yq_expr.specs.Plan.{found_of, location_of}
+use Rattle.yq_expr.specs.PlaceView.{found_of}
+use Rattle.yq_expr.specs.Plan.{location_of}
 use Rattle.yq_expr.specs.Program.{Step}
 use Rattle.yq_expr.specs.View.{step_of}
 use Rattle.yq_expr.specs.declared.program.Step as declared

@@ -1,20 +1,17 @@
 -- Planning: the operations that carry out an update.
-use Rattle.std.specs.Prelude.{ℕ, Bool, List, [], ◌∷◌, map, Option, Some, None, is_some, option_map, if◌then◌else◌, slice_get}
+use Rattle.std.specs.Prelude.{ℕ, Bool, List, [], ◌∷◌, map, Option, Some, None, is_some, if◌then◌else◌, slice_get}
 use Rattle.yq_scalar.specs.declared.kind.Kind.{Kind}
 use Rattle.yq_scalar.specs.Tree.{Node, scalar}
 use Rattle.yq_scalar.specs.Paths as paths
-use Rattle.yq_inline.specs.declared.path.Step as tree_steps
 use Rattle.yq_inline.specs.Entries.{step_of as tree_step}
 use Rattle.yq_rows.specs.Rows.{Cut}
-use Rattle.yq_tree.specs.declared.nodes.node.Node as nodes
 use Rattle.yq_tree.specs.Documents.{Document}
-use Rattle.yq_tree.specs.Nodes.{node_of}
 use Rattle.yq_tree.specs.Reading.{documents}
 use Rattle.yq_tree.specs.ScalarPlaces.{place_at}
 use Rattle.yq_expr.specs.declared.matching.Location as declared
 use Rattle.yq_expr.specs.Program.{Step, Update, Program, read, updates, assigned}
 use Rattle.yq_expr.specs.View.{step_of}
-use Rattle.yq_expr.specs.Matching.{Location, there, missing, Found, steps_lead}
+use Rattle.yq_expr.specs.Matching.{Location, there, missing, steps_lead}
 use Rattle.yq_expr.specs.Making.{make}
 use Rattle.yq_expr.specs.Operations.{Operation, replace}
 use Rattle.yq_expr.specs.Judgement.{Judgement, gives, unbuilt, and_then}
@@ -23,10 +20,6 @@ use Rattle.yq_expr.specs.Judgement.{Judgement, gives, unbuilt, and_then}
 abbrev pub location_of : declared.Location → Location
 location_of (declared.TheVariants.There path) = there (map tree_step path.items)
 location_of (declared.TheVariants.Missing path steps) = missing (map tree_step path.items) (map step_of steps.now)
-
--- the item or entry that one of the code stands for, with the step that leads to it (own)
-abbrev pub found_of : Option (tree_steps.Step × nodes.Node) → Found
-found_of x = option_map (λ c. (tree_step c.0, node_of c.1)) x
 
 -- update n of a program, counted from 0 (own)
 abbrev pub update_at : ℕ → Program → Option Update

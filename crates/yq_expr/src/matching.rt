@@ -1,11 +1,11 @@
 //! Matching: where the steps of a path lead in a document.
 ghost use Rattle.std.specs.Prelude.{◌≡◌, map, IfOk};
-ghost use Rattle.yq_scalar.specs.Paths.{To};
-ghost use Rattle.yq_scalar.specs.Tree.{children_of};
+ghost use Rattle.yq_inline.specs.Entries.{step_of as tree_step};
 ghost use Rattle.yq_tree.specs.Nodes.{node_of};
-ghost use Rattle.yq_expr.specs.Judgement.{Plans};
+ghost use Rattle.yq_expr.specs.Judgement.{Judgement, Matches, Plans};
 ghost use Rattle.yq_expr.specs.Matching as spec;
-ghost use Rattle.yq_expr.specs.Plan.{found_of, location_of};
+ghost use Rattle.yq_expr.specs.Plan.{location_of};
+ghost use Rattle.yq_expr.specs.PlaceView.{found_of, node_step_of};
 ghost use Rattle.yq_expr.specs.View.{step_of};
 
 mod condition;
@@ -16,13 +16,14 @@ mod place;
 mod step;
 mod walk;
 
+use self::place::NodeStep;
+use self::step::{index_step, key_step};
+use crate::match_error::MatchError;
 use crate::plan_error::PlanError;
 use crate::program::Step;
-use crate::refusal::Refusal;
 pub use matched::{Match, matches};
 use std::alloc::{AllocError, Global};
-use yq_scalar::Kind;
-use yq_tree::{Node, NodeKind};
+use yq_tree::Node;
 
 /// Where steps lead. The steps of the document count items from 0.
 #[derive(Debug, Drop)]
@@ -34,92 +35,39 @@ pub enum Location<'p> {
     Missing(Vec<yq_tree::Step>, &'p [Step]),
 }
 
-/// The entry of a key, with the step that leads to it.
-fn entry<'d, 't>(
-    alloc: Global,
-    node: Node<'d, 't>,
-    key: &str,
-) -> Result<Option<(yq_tree::Step, Node<'d, 't>)>, AllocError>
-    ensures { IfOk result (λ x. found_of x ≡ spec.find (To key.now) (children_of (node_of node.entry))) }
+/// The same step, which owns its key.
+fn owned(alloc: Global, step: NodeStep<'_>) -> Result<yq_tree::Step, AllocError>
+    ensures { IfOk result (λ s. tree_step s ≡ node_step_of step.entry) }
 {
-    let Some(value) = node.entry(key) else {
-        return Ok(None);
-    };
-    let step = yq_tree::Step::Key(String::from_str(alloc, key)?);
-    Ok(Some((step, value)))
-}
-
-/// Where a key leads from a node.
-fn key_step<'d, 't>(
-    alloc: Global,
-    node: Node<'d, 't>,
-    key: &str,
-) -> Result<Option<(yq_tree::Step, Node<'d, 't>)>, PlanError>
-    ensures { Plans found_of result (spec.key_step key.now (node_of node.entry)) }
-{
-    match node.kind() {
-        NodeKind::Alias => Err(PlanError::Refused(Refusal::ThroughAlias)),
-        NodeKind::Scalar(Kind::Null) => Ok(None),
-        NodeKind::Scalar(_) | NodeKind::List => Err(PlanError::Refused(Refusal::NotAMap)),
-        NodeKind::Map => Ok(entry(alloc, node, key)?),
+    match step {
+        NodeStep::Key(key) => Ok(yq_tree::Step::Key(String::from_str(alloc, key)?)),
+        NodeStep::Index(index) => Ok(yq_tree::Step::Index(index)),
     }
 }
 
-/// The number from 0 of the item of an index.
-fn item_number(node: Node<'_, '_>, index: i64) -> Result<usize, PlanError>
-    ensures { Plans (λ n. n) result (spec.item_number index (children_of (node_of node.entry))) }
+/// What a step found, as a plan answers it.
+fn planned<'d, 't>(
+    found: Result<Option<(NodeStep<'d>, Node<'d, 't>)>, MatchError>,
+) -> Result<Option<(NodeStep<'d>, Node<'d, 't>)>, PlanError>
+    ensures { (outcome : Judgement spec.Found) → Matches found_of found.entry outcome → Plans found_of result outcome }
 {
-    if index >= 0 {
-        return Ok(index as usize);
-    }
-    let all = node.count();
-    let back = index.unsigned_abs() as usize;
-    if all < back {
-        return Err(PlanError::Refused(Refusal::IndexOutOfRange));
-    }
-    Ok(all - back)
-}
-
-/// The item of an index, if there is one, with the step that leads to it.
-fn item<'d, 't>(
-    node: Node<'d, 't>,
-    index: i64,
-) -> Result<Option<(yq_tree::Step, Node<'d, 't>)>, PlanError>
-    ensures { Plans found_of result (spec.item index (children_of (node_of node.entry))) }
-{
-    let number = item_number(node, index)?;
-    let Some(item) = node.item(number) else {
-        return Ok(None);
-    };
-    Ok(Some((yq_tree::Step::Index(number), item)))
-}
-
-/// Where an index leads from a node.
-fn index_step<'d, 't>(
-    node: Node<'d, 't>,
-    index: i64,
-) -> Result<Option<(yq_tree::Step, Node<'d, 't>)>, PlanError>
-    ensures { Plans found_of result (spec.index_step index (node_of node.entry)) }
-{
-    match node.kind() {
-        NodeKind::Alias => Err(PlanError::Refused(Refusal::ThroughAlias)),
-        NodeKind::Scalar(Kind::Null) => Ok(None),
-        NodeKind::Scalar(_) | NodeKind::Map => Err(PlanError::Refused(Refusal::NotASequence)),
-        NodeKind::List => item(node, index),
+    match found {
+        Ok(found) => Ok(found),
+        Err(MatchError::Refused(why)) => Err(PlanError::Refused(why)),
+        Err(MatchError::Memory) => Err(PlanError::Memory),
     }
 }
 
 /// Where a step leads from a node.
 fn step_leads<'d, 't>(
-    alloc: Global,
     node: Node<'d, 't>,
-    step: &Step,
-) -> Result<Option<(yq_tree::Step, Node<'d, 't>)>, PlanError>
+    step: &'d Step,
+) -> Result<Option<(NodeStep<'d>, Node<'d, 't>)>, PlanError>
     ensures { Plans found_of result (spec.step_leads (step_of step.now) (node_of node.entry)) }
 {
     match step {
-        Step::Key(key) => key_step(alloc, node, key.as_str()),
-        Step::Index(index) => index_step(node, *index),
+        Step::Key(key) => planned(key_step(node, key.as_str())),
+        Step::Index(index) => planned(index_step(node, *index)),
         Step::Each => Err(PlanError::NotInProfile),
     }
 }
@@ -136,9 +84,10 @@ pub fn steps_lead<'p>(
     let mut node = root;
     let mut rest = steps;
     'steps: while let [step, others @ ..] = rest {
-        let Some((to, child)) = step_leads(alloc, node, step)? else {
+        let Some((found, child)) = step_leads(node, step)? else {
             return Ok(Location::Missing(path, rest));
         };
+        let to = owned(alloc, found)?;
         path.push(to)?;
         node = child;
         rest = others;
