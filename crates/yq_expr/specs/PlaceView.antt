@@ -3,7 +3,7 @@ use Rattle.std.specs.Prelude.{List, [], ◌∷◌, ◌++◌, map, Option, Some, 
 use Rattle.yq_scalar.specs.Paths as paths
 use Rattle.yq_scalar.specs.Paths.{To, Nth}
 use Rattle.yq_scalar.specs.Tree as tree
-use Rattle.yq_tree.specs.declared.node.Node as nodes
+use Rattle.yq_tree.specs.declared.nodes.node.Node as nodes
 use Rattle.yq_tree.specs.Nodes.{node_of}
 use Rattle.yq_tree.specs.Outline.{null}
 use Rattle.yq_expr.specs.declared.matching.place.NodeStep as steps
