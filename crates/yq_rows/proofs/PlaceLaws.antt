@@ -86,7 +86,7 @@ pub record RowIn (r : Row) (rest : List ℕ) (behind : List Row) : Type 0 where
   pub row : IsRow limit r rest
   pub next : allows_first (limit_after r) behind ≡ true
 
-first_allowed : (limit : Limit) (rs : List Row) (end rest : List ℕ) → AreRows limit rs end rest → allows_first limit rs ≡ true
+pub first_allowed : (limit : Limit) (rs : List Row) (end rest : List ℕ) → AreRows limit rs end rest → allows_first limit rs ≡ true
 first_allowed limit [] end rest h = refl
 first_allowed limit (r ∷ rs) end rest h = h.0.allowed
 

@@ -1,8 +1,9 @@
 pub mod AppendLaws
+pub mod ContentPlaces
 pub mod MarkerLaws
 pub mod PartPlaces
 pub mod RemoveLaws
+pub mod RowReplaced
 pub mod SpliceCases
 pub mod SpliceLaws
 pub mod SpliceTexts
-pub mod TailPlaces

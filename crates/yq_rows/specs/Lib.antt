@@ -5,6 +5,7 @@ pub use Rattle.yq_scalar.specs.Text
 pub mod Alike
 pub mod Alone
 pub mod Appending
+pub mod Counted
 pub mod Exchange
 pub mod Gap
 pub mod Grammar

@@ -97,6 +97,10 @@ behind_rows k j c = behind_first (back_rows k j c) (nth_part k c).end (behind_pa
 abbrev pub StandsBetween : (k : ℕ) → List Row → Row → List Row → Cut → Type 0
 StandsBetween k front r back c = (nth_part k c).rows ≡ front ++ (r ∷ back)
 
+-- the text of a cut behind a row of part k, where these rows of the part are behind it (own)
+abbrev pub text_behind : (k : ℕ) → List Row → Cut → List ℕ
+text_behind k back c = rows_text back ((nth_part k c).end ++ behind_part k c)
+
 -- a cut, in which rows, with a gap behind them, stand in the place of the row behind these in part k (own)
 abbrev pub in_place : (k : ℕ) → List Row → List Row → List ℕ → Cut → Cut
 in_place k front new gap c = splice k (length front) (suc (length front)) new gap c

@@ -15,7 +15,7 @@ use Rattle.yq_rows.specs.Grammar.{is_entry}
 use Rattle.yq_rows.specs.Rows as rows
 use Rattle.yq_rows.specs.Rows.{Content, Nothing, Inline, Block, Row, Part, Cut, cut_text}
 use Rattle.yq_rows.specs.View.{rows_of}
-use Rattle.yq_rows.proofs.ExchangeLaws.{content_exchanged}
+use Rattle.yq_rows.proofs.splices.ContentPlaces.{content_exchanged}
 use Rattle.yq_lines.specs.Anchors.{names_of}
 use Rattle.yq_tree.specs.Documents.{Document, document_parts}
 use Rattle.yq_tree.specs.Lines.{block_anchor, anchor_of, head_of, lines_of}

@@ -17,6 +17,7 @@ use Rattle.yq_rows.proofs.AlikeRows.{row_alike, row_text_alike}
 use Rattle.yq_rows.proofs.EmptyTexts.{empty_is, empty_or}
 use Rattle.yq_rows.proofs.LineEnds.{text_line, white_none, comment_none}
 use Rattle.yq_rows.proofs.NothingLaws.{no_tail}
+use Rattle.yq_rows.proofs.PlaceLaws.{first_allowed}
 use Rattle.yq_rows.proofs.PlainEnds.{AtLine, tail_ends, rows_line, marker_line, end_line}
 use Rattle.yq_rows.proofs.seams.NodeSeams.{plain_text}
 use Rattle.yq_rows.proofs.seams.ScalarSeams.{Joint}
@@ -87,10 +88,6 @@ row_seam limit r t u h s e =
     subst (λ (c : Content). TakesPlace limit r t (with_content c r) u) (own_tail r.content) kept
 
 -- where the next row stands
-pub first_allowed : (limit : Limit) (rs : List Row) (end rest : List ℕ) → AreRows limit rs end rest → allows_first limit rs ≡ true
-first_allowed limit [] end rest h = refl
-first_allowed limit (r ∷ rs) end rest h = h.0.allowed
-
 pub part_line : (d : ℕ) (t : List ℕ) → ends_part t ≡ true → AtLine d t
 part_line d t h = ⊎_elim {0, 0, 0} (λ e. subst (AtLine d) (sym (empty_is t e)) (end_line d)) (λ e. marker_line d t e) (or_cases (is_empty t) (is_marker t) h)
 

@@ -1,23 +1,16 @@
 -- Rows behind the last one of a text without a final break, in a cut.
-use Rattle.std.proofs.Common.{◌≡◌, ℕ, suc, true, false, List, [], ◌∷◌, ◌++◌, length, drop, refl, sym, ap, ◌∙◌, subst}
-use Rattle.std.proofs.Math.Seq.{drop-append_seam}
+use Rattle.std.proofs.Common.{◌≡◌, ℕ, suc, true, false, List, [], ◌∷◌, ◌++◌, length, refl, sym, ap, ◌∙◌, subst}
 use Rattle.yq_scalar.specs.Characters.{pairs_returns}
 use Rattle.yq_rows.specs.Alike.{Alike}
 use Rattle.yq_rows.specs.Exchange.{allows_first, asked_behind}
-use Rattle.yq_rows.specs.Grammar.{Limit, unlimited, limit_after, AreRows, no_rows, IsCut}
+use Rattle.yq_rows.specs.Grammar.{Limit, limit_after, AreRows, no_rows, IsCut}
 use Rattle.yq_rows.specs.Rows.{Row, print_row, rows_text, Cut}
 use Rattle.yq_rows.specs.Appending.{closed_by, TakesBreak, IsLastRow}
 use Rattle.yq_rows.specs.Splices.{behind_first, nth_part, behind_part, back_rows, asked_at, behind_rows, in_place, CutsItsText}
-use Rattle.yq_rows.proofs.seams.SeamLaws.{rows_drop}
-use Rattle.yq_rows.proofs.splices.PartPlaces.{part_in}
+use Rattle.yq_rows.proofs.splices.PartPlaces.{row_stands, rows_after, rows_from}
 use Rattle.yq_rows.proofs.splices.SpliceCases.{replaced}
 use Rattle.yq_rows.proofs.splices.SpliceTexts.{row_pairs}
 use Rattle.yq_rows.proofs.seams.TailLaws.{row_closed, limit_closed}
-
--- the end of a list
-pub drop_next : (front : List Row) (r : Row) (rs : List Row) → drop (suc (length front)) (front ++ (r ∷ rs)) ≡ rs
-drop_next [] r rs = refl
-drop_next (q ∷ front) r rs = drop_next front r rs
 
 -- nothing is behind the last row
 nothing_behind : (rs : List Row) (end rest : List ℕ) → rs ≡ [] → rest ≡ [] → behind_first rs end rest ≡ []
@@ -37,12 +30,12 @@ end_appended t c k front r break new gap h f takes n =
     let i = length front in
     let asked = asked_at k i c in
     let all : List Row = closed_by break r ∷ new in
-    let last : back_rows k i c ≡ r ∷ [] = ap (drop i) f.row ∙ drop-append_seam front (r ∷ []) in
-    let none : back_rows k (suc i) c ≡ [] = ap (drop (suc i)) f.row ∙ drop_next front r [] in
+    let last : back_rows k i c ≡ r ∷ [] = rows_from k front r [] c f.row in
+    let none : back_rows k (suc i) c ≡ [] = rows_after k front r [] c f.row in
     let nothing : behind_rows k (suc i) c ≡ [] = nothing_behind (back_rows k (suc i) c) p.end rest none f.nothing in
     let text : rows_text (back_rows k i c) (p.end ++ rest) ≡ print_row r [] = last_text (back_rows k i c) r p.end rest last f.end f.nothing in
-    let own : AreRows asked (back_rows k i c) p.end rest = rows_drop i p.rows unlimited p.end rest (part_in c k true h.parts).rows in
-    let row : AreRows asked (r ∷ []) [] [] = subst (AreRows asked (r ∷ []) []) f.nothing (subst (λ (x : List ℕ). AreRows asked (r ∷ []) x rest) f.end (subst (λ (x : List Row). AreRows asked x p.end rest) last own)) in
+    let own : AreRows asked (r ∷ []) p.end rest = row_stands t c k front r [] h f.row in
+    let row : AreRows asked (r ∷ []) [] [] = subst (AreRows asked (r ∷ []) []) f.nothing (subst (λ (x : List ℕ). AreRows asked (r ∷ []) x rest) f.end own) in
     let pairs : pairs_returns (print_row r []) ≡ true = ap pairs_returns (sym text) ∙ row_pairs t c k i h in
     let kept = row_closed asked r break new gap [] row.0 takes pairs n refl in
     let follows : AreRows (limit_after (closed_by break r)) new gap [] = subst (λ (l : Limit). AreRows l new gap []) (sym (limit_closed break r)) n in

@@ -42,11 +42,11 @@ take_take (suc i) zero rs h = absurd (omega (arith, h))
 take_take (suc i) (suc j) [] h = refl
 take_take (suc i) (suc j) (r ∷ rs) h = ap (λ l. r ∷ l) (take_take i j rs (omega (arith, h)))
 
-own_gap : (rs : List Row) (end : List ℕ) → with_first_gap (first_gap rs end) rs ≡ rs
+pub own_gap : (rs : List Row) (end : List ℕ) → with_first_gap (first_gap rs end) rs ≡ rs
 own_gap [] end = refl
 own_gap (r ∷ rs) end = refl
 
-own_end : (rs : List Row) (end : List ℕ) → end_gap (first_gap rs end) rs end ≡ end
+pub own_end : (rs : List Row) (end : List ℕ) → end_gap (first_gap rs end) rs end ≡ end
 own_end [] end = refl
 own_end (r ∷ rs) end = refl
 

@@ -1,11 +1,14 @@
 //! Laws of splices: a cut, of which other rows stand in the place of some.
-ghost use Rattle.std.specs.Prelude.{◌≡◌, ◌≤◌, ℕ, List, [], ◌∷◌, ◌++◌, false, true};
-ghost use Rattle.yq_rows.specs.Grammar.{IsCut};
+ghost use Rattle.std.specs.Prelude.{◌≡◌, ◌≤◌, ℕ, List, [], ◌∷◌, ◌++◌, Some, false, length, slice_get, true};
+ghost use Rattle.yq_rows.specs.Counted.{RowPlace};
+ghost use Rattle.yq_rows.specs.Exchange.{allows_first};
+ghost use Rattle.yq_rows.specs.Grammar.{IsCut, limit_after};
 ghost use Rattle.yq_rows.specs.Removal.{RepairFits, without_rows};
 ghost use Rattle.yq_rows.specs.Rows.{Cut, Row, cut_text, parent_indent, rows_text};
-ghost use Rattle.yq_rows.specs.Seams.{TailFits, are_seamed, ends_in_block, ends_in_line, retail};
+ghost use Rattle.yq_rows.specs.Seams.{TailFits, TakesPlace, are_seamed, ends_in_block, ends_in_line, retail};
 ghost use Rattle.yq_rows.specs.SpliceFits.{FitsIn, InsertFits, RemoveFits, ReplaceFits};
-ghost use Rattle.yq_rows.specs.Splices.{CutsItsText, StandsBetween, before_rows, behind_part, behind_rows, first_gap, gap_before, in_place, nth_part, rows_between, splice};
+ghost use Rattle.yq_rows.specs.Splices.{CutsItsText, StandsBetween, asked_at, before_rows, behind_rows, first_gap, gap_before, in_place, nth_part, rows_between, splice, text_behind};
+ghost use Rattle.yq_rows.specs.View.{rows_of};
 
 /// A cut, of which other rows stand in the place of some, is a cut where they fit and the new text
 /// may stand. Its text is that before those rows, the new rows with the gap behind them, and the
@@ -21,9 +24,15 @@ pub fn rows_replaced()
     ensures { (t : List ℕ) (c : Cut) (k i j : ℕ) (new : List Row) (gap : List ℕ) → IsCut t c → ReplaceFits k i j new gap c → CutsItsText (splice k i j new gap c) }
 {}
 
+/// One row exchanged for another one that takes its place, behind which the next row may stand.
+pub fn row_replaced()
+    ensures { (t : List ℕ) (c : Cut) (k : ℕ) (front : List Row) (r : Row) (back : List Row) (new : Row) → IsCut t c → StandsBetween k front r back c → TakesPlace (asked_at k (length front) c) r (text_behind k back c) new (text_behind k back c) →
+        allows_first (limit_after new) back ≡ true → CutsItsText (in_place k front (new ∷ []) (first_gap back (nth_part k c).end) c) }
+{}
+
 /// A cut, of which a row has another tail that fits, is a cut where the new text may stand.
 pub fn tail_replaced()
-    ensures { (t : List ℕ) (c : Cut) (k : ℕ) (front : List Row) (r : Row) (back : List Row) (new : List ℕ) → IsCut t c → StandsBetween k front r back c → TailFits (parent_indent r) new r.content (rows_text back ((nth_part k c).end ++ behind_part k c)) →
+    ensures { (t : List ℕ) (c : Cut) (k : ℕ) (front : List Row) (r : Row) (back : List Row) (new : List ℕ) → IsCut t c → StandsBetween k front r back c → TailFits (parent_indent r) new r.content (text_behind k back c) →
         CutsItsText (in_place k front (retail new r ∷ []) (first_gap back (nth_part k c).end) c) }
 {}
 
@@ -40,4 +49,9 @@ pub fn rows_inserted()
 pub fn rows_removed()
     ensures any { (t : List ℕ) (c : Cut) (k i j : ℕ) (gap : List ℕ) → IsCut t c → RemoveFits k i j gap c → CutsItsText (splice k i j [] gap c) }
     ensures repaired { (t : List ℕ) (c : Cut) (k i j : ℕ) (kept run : List (List ℕ)) → IsCut t c → RepairFits k i j kept run c → CutsItsText (without_rows k i j kept c) }
+{}
+
+/// A row counted through all parts stands in one of them between other rows.
+pub fn row_placed()
+    ensures { (c : Cut) (i : ℕ) (r : Row) → slice_get (rows_of c) i ≡ Some r → RowPlace i r c }
 {}

@@ -1,0 +1,94 @@
+-- A row counted through all parts stands in one of them, and there its content is exchanged.
+use Rattle.std.proofs.Common.{◌≡◌, inl, inr, ℕ, zero, suc, ◌-◌, ◌≤◌, true, List, [], ◌∷◌, ◌++◌, length, take, drop, Some, refl, sym, ap, ◌∙◌, subst}
+use Rattle.std.proofs.Math.Dec.{ltb}
+use Rattle.std.proofs.lemmas.Bool.{ltb-true, ltb-false}
+use Rattle.std.specs.List.{slice_get}
+use Rattle.yq_scalar.specs.Characters.{is_text, text_limit}
+use Rattle.yq_scalar.proofs.Bools.{is_true}
+use Rattle.yq_rows.specs.Counted.{RowPlace}
+use Rattle.yq_rows.specs.Exchange.{with_content, with_content_at, with_content_in, exchange, behind_at, behind_row, rows_behind, Fits}
+use Rattle.yq_rows.specs.Grammar.{IsCut}
+use Rattle.yq_rows.specs.Rows.{Content, Row, rows_text, Part, Cut, last, marked, cut_text}
+use Rattle.yq_rows.specs.Splices.{with_first_gap, first_gap, splice_part, asked_at, text_behind, CutsItsText}
+use Rattle.yq_rows.specs.View.{rows_of}
+use Rattle.yq_rows.proofs.ExchangeLaws.{one_row, slice_front, slice_back}
+use Rattle.yq_rows.proofs.splices.PartPlaces.{row_stands}
+use Rattle.yq_rows.proofs.splices.RowReplaced.{row_replaced}
+use Rattle.yq_rows.proofs.splices.SpliceTexts.{own_gap, own_end}
+
+-- row i among rows
+rows_around : (rows : List Row) (i : ℕ) (r : Row) → slice_get rows i ≡ Some r → rows ≡ take i rows ++ (r ∷ drop (suc i) rows)
+rows_around [] i r h = cc
+rows_around (x ∷ rows) zero r h = let is : x ≡ r = cc in ap (λ (y : Row). y ∷ rows) is
+rows_around (x ∷ rows) (suc i) r h = ap (λ l. x ∷ l) (rows_around rows i r h)
+
+count_front : (rows : List Row) (i : ℕ) (r : Row) → slice_get rows i ≡ Some r → length (take i rows) ≡ i
+count_front [] i r h = cc
+count_front (x ∷ rows) zero r h = refl
+count_front (x ∷ rows) (suc i) r h = ap suc (count_front rows i r h)
+
+content_around : (rows : List Row) (i : ℕ) (r : Row) (new : Content) → slice_get rows i ≡ Some r → with_content_at i new rows ≡ take i rows ++ (with_content new r ∷ drop (suc i) rows)
+content_around [] i r new h = cc
+content_around (x ∷ rows) zero r new h = let is : x ≡ r = cc in ap (λ (y : Row). with_content new y ∷ rows) is
+content_around (x ∷ rows) (suc i) r new h = ap (λ l. x ∷ l) (content_around rows i r new h)
+
+behind_is : (rows : List Row) (i : ℕ) (rest : List ℕ) → behind_at i rows rest ≡ rows_text (drop (suc i) rows) rest
+behind_is [] i rest = refl
+behind_is (x ∷ rows) zero rest = refl
+behind_is (x ∷ rows) (suc i) rest = behind_is rows i rest
+
+part_content : (p : Part) (i : ℕ) (r : Row) (new : Content) → slice_get p.rows i ≡ Some r →
+    with_content_in i new p ≡ splice_part (length (take i p.rows)) (suc (length (take i p.rows))) (with_content new r ∷ []) (first_gap (drop (suc i) p.rows) p.end) p
+part_content p i r new h =
+    let s : Row = with_content new r in
+    let back = drop (suc i) p.rows in
+    let gap = first_gap back p.end in
+    let rows : with_content_at i new p.rows ≡ take i p.rows ++ (s ∷ with_first_gap gap back) = content_around p.rows i r new h ∙ ap (λ (b : List Row). take i p.rows ++ (s ∷ b)) (sym (own_gap back p.end)) in
+    let own : with_content_in i new p ≡ splice_part i (suc i) (s ∷ []) gap p =
+    ap (λ (rs : List Row). record { rows = rs; end = p.end }) rows ∙ ap (λ (e : List ℕ). record { rows = take i p.rows ++ (s ∷ with_first_gap gap back); end = e }) (sym (own_end back p.end)) in
+    subst (λ (n : ℕ). with_content_in i new p ≡ splice_part n (suc n) (s ∷ []) gap p) (sym (count_front p.rows i r h)) own
+
+pub row_placed : (c : Cut) (i : ℕ) (r : Row) → slice_get (rows_of c) i ≡ Some r → RowPlace i r c
+row_placed (last p) i r h = record {
+  part = 0;
+  front = take i p.rows;
+  back = drop (suc i) p.rows;
+  stands = rows_around p.rows i r h;
+  rows = refl;
+  behind = behind_is p.rows i (p.end ++ []);
+  exchanged = λ new. ap last (part_content p i r new h);
+}
+row_placed (marked p marker c) i r h = elim (is_true (ltb i (length p.rows))) [
+  | inl e ↦ (
+      let is = slice_front p.rows (rows_of c) i r (ltb-true i (length p.rows) e) h in
+      record {
+        part = 0;
+        front = take i p.rows;
+        back = drop (suc i) p.rows;
+        stands = rows_around p.rows i r is;
+        rows = rw e refl;
+        behind = rw e (behind_is p.rows i (p.end ++ (marker ++ cut_text c)));
+        exchanged = λ new. rw e (ap (λ (q : Part). marked q marker c) (part_content p i r new is));
+      })
+  | inr e ↦ (
+      let more = row_placed c (i - length p.rows) r (slice_back p.rows (rows_of c) i r (ltb-false i (length p.rows) e) h) in
+      record {
+        part = suc more.part;
+        front = more.front;
+        back = more.back;
+        stands = more.stands;
+        rows = rw e more.rows;
+        behind = rw e more.behind;
+        exchanged = λ new. rw e (ap (marked p marker) (more.exchanged new));
+      })
+]
+
+pub content_exchanged : (t : List ℕ) (c : Cut) (i : ℕ) (r : Row) (new : Content) → IsCut t c → slice_get (rows_of c) i ≡ Some r → Fits new r (behind_row i c) (rows_behind i c) →
+    is_text (cut_text (exchange i new c)) ≡ true → length (cut_text (exchange i new c)) ≤ text_limit → IsCut (cut_text (exchange i new c)) (exchange i new c)
+content_exchanged t c i r new h is f =
+    let p = row_placed c i r is in
+    let u : List ℕ = text_behind p.part p.back c in
+    let own = row_stands t c p.part p.front r p.back h p.stands in
+    let g : Fits new r u p.back = subst (λ (x : List ℕ). Fits new r x p.back) p.behind (subst (Fits new r (behind_row i c)) p.rows f) in
+    let one = one_row (asked_at p.part (length p.front) c) r new u u own.0 g.entry g.content g.apart in
+    subst CutsItsText (sym (p.exchanged new)) (row_replaced t c p.part p.front r p.back (with_content new r) h p.stands one g.next)

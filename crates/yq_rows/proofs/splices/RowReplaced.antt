@@ -1,0 +1,50 @@
+-- One row of a cut, exchanged for another one that takes its place.
+use Rattle.std.proofs.Common.{◌≡◌, ℕ, suc, true, false, List, [], ◌∷◌, ◌++◌, length, sym, ap, ◌∙◌, subst}
+use Rattle.yq_scalar.specs.Characters.{pairs_returns}
+use Rattle.yq_rows.specs.Alike.{Alike}
+use Rattle.yq_rows.specs.Exchange.{allows_first}
+use Rattle.yq_rows.specs.Grammar.{Limit, limit_after, IsRow, AreRows, no_rows, IsCut}
+use Rattle.yq_rows.specs.Rows.{Row, parent_indent, print_row, rows_text, Cut}
+use Rattle.yq_rows.specs.Seams.{TailFits, TakesPlace, retail}
+use Rattle.yq_rows.specs.Splices.{first_gap, behind_first, nth_part, behind_part, asked_at, behind_rows, StandsBetween, text_behind, in_place, CutsItsText}
+use Rattle.yq_rows.proofs.PlaceLaws.{first_allowed}
+use Rattle.yq_rows.proofs.seams.TailLaws.{row_retailed, limit_tail}
+use Rattle.yq_rows.proofs.splices.PartPlaces.{row_stands, rows_after, rows_from}
+use Rattle.yq_rows.proofs.splices.SpliceCases.{replaced}
+use Rattle.yq_rows.proofs.splices.SpliceTexts.{first_text, first_is, row_pairs}
+
+pub row_replaced : (t : List ℕ) (c : Cut) (k : ℕ) (front : List Row) (r : Row) (back : List Row) (s : Row) → IsCut t c → StandsBetween k front r back c → TakesPlace (asked_at k (length front) c) r (text_behind k back c) s (text_behind k back c) →
+    allows_first (limit_after s) back ≡ true → CutsItsText (in_place k front (s ∷ []) (first_gap back (nth_part k c).end) c)
+row_replaced t c k front r back s h stands takes allowed =
+    let p = nth_part k c in
+    let rest = behind_part k c in
+    let i = length front in
+    let gap = first_gap back p.end in
+    let behind = behind_first back p.end rest in
+    let asked = asked_at k i c in
+    let u : List ℕ = text_behind k back c in
+    let here = rows_from k front r back c stands in
+    let next = rows_after k front r back c stands in
+    let own = row_stands t c k front r back h stands in
+    let text : u ≡ gap ++ behind = first_text back p.end rest in
+    let all : AreRows asked (s ∷ []) gap behind = (subst (IsRow asked s) text takes.row, first_is (limit_after r) back p.end rest own.1) in
+    let alike : Alike false (print_row r u) (print_row s (gap ++ behind)) = subst (λ (x : List ℕ). Alike false (print_row r u) (print_row s x)) text takes.alike in
+    let after : Alike false (print_row r u) (print_row s (gap ++ behind_rows k (suc i) c)) = subst (λ (rs : List Row). Alike false (print_row r u) (print_row s (gap ++ behind_first rs p.end rest))) (sym next) alike in
+    replaced t c k i (suc i) (s ∷ []) gap h (record {
+      some = ap no_rows here;
+      rows = subst (λ (rs : List Row). AreRows asked (s ∷ []) gap (behind_first rs p.end rest)) (sym next) all;
+      next = subst (λ (rs : List Row). allows_first (limit_after s) rs ≡ true) (sym next) allowed;
+      alike = subst (λ (rs : List Row). Alike false (rows_text rs (p.end ++ rest)) (print_row s (gap ++ behind_rows k (suc i) c))) (sym here) after;
+    })
+
+-- a row with another tail
+pub tail_replaced : (t : List ℕ) (c : Cut) (k : ℕ) (front : List Row) (r : Row) (back : List Row) (new : List ℕ) → IsCut t c → StandsBetween k front r back c → TailFits (parent_indent r) new r.content (text_behind k back c) →
+    CutsItsText (in_place k front (retail new r ∷ []) (first_gap back (nth_part k c).end) c)
+tail_replaced t c k front r back new h stands fits =
+    let p = nth_part k c in
+    let u : List ℕ = text_behind k back c in
+    let own = row_stands t c k front r back h stands in
+    let pairs : pairs_returns (print_row r u) ≡ true = subst (λ (rs : List Row). pairs_returns (rows_text rs (p.end ++ behind_part k c)) ≡ true) (rows_from k front r back c stands) (row_pairs t c k (length front) h) in
+    let kept = row_retailed (asked_at k (length front) c) r u new u own.0 pairs fits in
+    let allowed : allows_first (limit_after (retail new r)) back ≡ true = ap (λ (l : Limit). allows_first l back) (limit_tail (parent_indent r) r.content new) ∙ first_allowed (limit_after r) back p.end (behind_part k c) own.1 in
+    row_replaced t c k front r back (retail new r) h stands kept allowed
