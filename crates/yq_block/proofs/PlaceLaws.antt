@@ -2,7 +2,7 @@
 use Rattle.std.proofs.Common.{◌≡◌, ℤ, ℕ, zero, suc, ◌+◌, ◌≤◌, true, false, not, ◌&&◌, eqb, List, [], ◌∷◌, ◌++◌, None, refl, sym, ap, ◌∙◌, subst, arith, append_assoc, replicate}
 use Rattle.std.proofs.lemmas.Bool.{false≢true}
 use Rattle.yq_scalar.specs.Text.{separates, upto}
-use Rattle.yq_rows.specs.Alike.{Alike, dash}
+use Rattle.yq_rows.specs.Alike.{Alike, byte}
 use Rattle.yq_lines.specs.Comments.{head_comment, line_comment}
 use Rattle.yq_rows.specs.Exchange.{asked_behind, with_content, allows_first}
 use Rattle.yq_inline.specs.Nodes as inline
@@ -46,12 +46,12 @@ spaces_apart (suc n) t h = refl
 dash_seam : {limit : Limit} {r s : Row} {old : List ℕ} (u : List ℕ) → IsRow limit r old → IsUpto s r → s.mark ≡ Dash → separates u ≡ true → Alike false (behind_indent r old) (dashes_text s.dashes (45 ∷ u)) × AreDashes s.dashes Dash
 dash_seam {limit} {old} u h (at_mark {r} entry) last apart =
     let here : separates (content_text r.content old) ≡ true = mark_apart r.mark r.content old entry h.mark in
-    let seam : Alike false (mark_text r.mark (content_text r.content old)) (45 ∷ u) = subst (λ (m : Mark). Alike false (mark_text m (content_text r.content old)) (45 ∷ u)) (sym last) (dash here apart) in
+    let seam : Alike false (mark_text r.mark (content_text r.content old)) (45 ∷ u) = subst (λ (m : Mark). Alike false (mark_text m (content_text r.content old)) (45 ∷ u)) (sym last) (byte refl refl here apart) in
     (dashes_text_alike r.dashes _ _ seam, subst (AreDashes r.dashes) last h.dashes)
 dash_seam {limit} {old} u h (at_dash {r} {ns} n ms is) last apart =
     let t : List ℕ = dashes_text ms (behind_dashes r old) in
     let split = first_dashes ns (n ∷ ms) r.mark (subst (λ (ks : List ℕ). AreDashes ks r.mark) is h.dashes) in
-    let seam : Alike false (45 ∷ (replicate n 32 ++ t)) (45 ∷ u) = dash (spaces_apart n t split.1.0) apart in
+    let seam : Alike false (45 ∷ (replicate n 32 ++ t)) (45 ∷ u) = byte refl refl (spaces_apart n t split.1.0) apart in
     let joined : behind_indent r old ≡ dashes_text ns (45 ∷ (replicate n 32 ++ t)) = ap (λ (ks : List ℕ). dashes_text ks (behind_dashes r old)) is ∙ dashes_append ns (n ∷ ms) (behind_dashes r old) in
     (subst (λ (l : List ℕ). Alike false l (dashes_text ns (45 ∷ u))) (sym joined) (dashes_text_alike ns _ _ seam), split.0)
 
@@ -101,7 +101,8 @@ under_any limit row below column x (y ∷ rs) rest none laid deep =
 
 upto_row : {limit : Limit} {r s : Row} {old : List ℕ} (x : Content) (t : List ℕ) → IsRow limit r old → IsUpto s r → IsContent (parent_indent s) x t → separates (content_text x t) ≡ true →
     IsRow limit (with_content x s) t × Alike false (print_row r old) (print_row (with_content x s) t)
-upto_row {limit} {old} x t h (at_mark {r} entry) content apart = one_row limit r x old t h entry content apart
+upto_row {limit} {old} x t h (at_mark {r} entry) content apart =
+    let placed = one_row limit r x old t h entry content apart in (placed.row, placed.alike)
 upto_row {limit} {old} x t h (at_dash {r} {ns} n ms is) content apart =
     let seam = dash_seam (content_text x t) h (at_dash n ms is) refl apart in like_row limit r old ns Dash x t h seam.0 seam.1 apart content
 
