@@ -10,6 +10,7 @@ pub mod Scalar
 pub mod Schema
 pub mod SchemaReading
 pub mod Text
+pub mod Shapes
 pub mod Tree
 pub mod Writable
 pub mod Quoted
