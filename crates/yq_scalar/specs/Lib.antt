@@ -11,6 +11,7 @@ pub mod Schema
 pub mod SchemaReading
 pub mod Text
 pub mod Shapes
+pub mod PathOrder
 pub mod Tree
 pub mod Writable
 pub mod Quoted

@@ -41,3 +41,4 @@ pub mod ScalarPlaces
 pub mod Written
 pub mod Texts
 pub mod Told
+pub mod TreeEdits
