@@ -11,8 +11,8 @@ use Rattle.yq_tree.specs.Reading.{documents}
 use Rattle.yq_expr.specs.Judgement.{Judgement, gives, refuses, unbuilt, and_then, Plans}
 use Rattle.yq_expr.specs.Making.{is_index, is_too_long, make}
 use Rattle.yq_expr.specs.Matching.{Location, there, missing, steps_lead}
-use Rattle.yq_expr.specs.Meaning.{set_at, set_in_each, set_scalar, meaning}
-use Rattle.yq_expr.specs.Operations.{Operation, replace, all_after}
+use Rattle.yq_expr.specs.OnePathMeaning.{set_at, set_in_each, set_scalar, one_path_meaning}
+use Rattle.yq_expr.specs.Operations.{Operation, replace, all_after_replace}
 use Rattle.yq_expr.specs.Plan.{has_place, plan_at, plan_in, plan_scalar, plan_of}
 use Rattle.yq_expr.specs.Program.{Step, Update, assigned}
 use Rattle.yq_expr.specs.declared.plan_error.PlanError.{PlanError}
@@ -47,14 +47,14 @@ made_nothing A path steps x h = go (list_any is_index steps) (list_any is_too_lo
     go false false false e = cc
 
 placed_means : (path : List paths.Step) (v : Node) (d : Document) (b : Bool) (ops : List Operation) → cond b (gives (replace 0 path v ∷ [])) unbuilt ≡ gives ops →
-    and_then (λ first. gives (first ∷ [])) (set_at v d (there path)) ≡ all_after ops (d ∷ [])
+    and_then (λ first. gives (first ∷ [])) (set_at v d (there path)) ≡ all_after_replace ops (d ∷ [])
 placed_means path v d true ops h =
     let same : (replace 0 path v ∷ []) ≡ ops = cc in
-    subst (λ (xs : List Operation). and_then (λ first. gives (first ∷ [])) (set_at v d (there path)) ≡ all_after xs (d ∷ [])) same refl
+    subst (λ (xs : List Operation). and_then (λ first. gives (first ∷ [])) (set_at v d (there path)) ≡ all_after_replace xs (d ∷ [])) same refl
 placed_means path v d false ops h = absurd (cc)
 
 location_means : (v : Node) (c : Cut) (d : Document) (j : Judgement Location) (ops : List Operation) → and_then (plan_at v c) j ≡ gives ops →
-    and_then (λ first. gives (first ∷ [])) (and_then (set_at v d) j) ≡ all_after ops (d ∷ [])
+    and_then (λ first. gives (first ∷ [])) (and_then (set_at v d) j) ≡ all_after_replace ops (d ∷ [])
 location_means v c d (gives (there path)) ops h = placed_means path v d (has_place path c) ops h
 location_means v c d (gives (missing path steps)) ops h = absurd (made_nothing (List Operation) path steps ops h)
 location_means v c d (refuses why) ops h = absurd (cc)
@@ -71,7 +71,7 @@ refused_means v c d (gives (missing path steps)) why h = ap (and_then (λ first.
 refused_means v c d (refuses other) why h = cc
 refused_means v c d unbuilt why h = absurd (cc)
 
-documents_mean : (steps : List Step) (v : Node) (c : Cut) (ds : List Document) (ops : List Operation) → plan_in steps v c ds ≡ gives ops → set_in_each steps v ds ≡ all_after ops ds
+documents_mean : (steps : List Step) (v : Node) (c : Cut) (ds : List Document) (ops : List Operation) → plan_in steps v c ds ≡ gives ops → set_in_each steps v ds ≡ all_after_replace ops ds
 documents_mean steps v c [] ops h = absurd (cc)
 documents_mean steps v c (d ∷ []) ops h = location_means v c d (steps_lead steps d.root) ops h
 documents_mean steps v c (d ∷ (e ∷ ds)) ops h = absurd (cc)
@@ -82,16 +82,16 @@ documents_refuse steps v c (d ∷ []) why h = refused_means v c d (steps_lead st
 documents_refuse steps v c (d ∷ (e ∷ ds)) why h = absurd (cc)
 
 -- the operations make what is meant
-pub plan_means : (u : Update) (c : Cut) (ops : List Operation) → plan_of u c ≡ gives ops → meaning u (documents c) ≡ all_after ops (documents c)
+pub plan_means : (u : Update) (c : Cut) (ops : List Operation) → plan_of u c ≡ gives ops → one_path_meaning u (documents c) ≡ all_after_replace ops (documents c)
 unfolding plan_of
 plan_means u c ops h = go (assigned u) h
   where
-    go : (x : Option (List Step × (Kind × List ℕ))) → plan_scalar x c ≡ gives ops → set_scalar x (documents c) ≡ all_after ops (documents c)
+    go : (x : Option (List Step × (Kind × List ℕ))) → plan_scalar x c ≡ gives ops → set_scalar x (documents c) ≡ all_after_replace ops (documents c)
     go None e = absurd (cc)
     go (Some x) e = documents_mean x.0 (scalar None x.1.0 x.1.1) c (documents c) ops e
 
 -- a refusal of the plan is that of the meaning
-pub refusal_means : (u : Update) (c : Cut) (why : Refusal) → plan_of u c ≡ refuses why → meaning u (documents c) ≡ refuses why
+pub refusal_means : (u : Update) (c : Cut) (why : Refusal) → plan_of u c ≡ refuses why → one_path_meaning u (documents c) ≡ refuses why
 unfolding plan_of
 refusal_means u c why h = go (assigned u) h
   where
@@ -113,12 +113,12 @@ fails_by r view seen e is steps v c ds root one at h =
     subst (λ q. Plans view q (plan_in steps v c ds)) (sym is) failed
 
 -- what is planned is what is meant
-pub means_by : {X : Type 0} (view : X → List Operation) (r : Result X PlanError) (u : Update) (c : Cut) → Plans view r (plan_of u c) → IfOk r (λ ops. meaning u (documents c) ≡ all_after (view ops) (documents c))
+pub means_by : {X : Type 0} (view : X → List Operation) (r : Result X PlanError) (u : Update) (c : Cut) → Plans view r (plan_of u c) → IfOk r (λ ops. one_path_meaning u (documents c) ≡ all_after_replace (view ops) (documents c))
 means_by view (Ok x) u c h = plan_means u c (view x) h
 means_by view (Err e) u c h = tt
 
 -- a refusal is what is meant
-pub refused_by : {X : Type 0} (view : X → List Operation) (r : Result X PlanError) (u : Update) (c : Cut) (why : Refusal) → Plans view r (plan_of u c) → r ≡ Err (error.Refused why) → meaning u (documents c) ≡ refuses why
+pub refused_by : {X : Type 0} (view : X → List Operation) (r : Result X PlanError) (u : Update) (c : Cut) (why : Refusal) → Plans view r (plan_of u c) → r ≡ Err (error.Refused why) → one_path_meaning u (documents c) ≡ refuses why
 refused_by view (Ok x) u c why h e = absurd (cc)
 refused_by view (Err (error.Refused other)) u c why h e =
     let same : other ≡ why = cc in refusal_means u c why (h ∙ ap refuses same)

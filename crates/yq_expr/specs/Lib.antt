@@ -13,7 +13,7 @@ pub mod Matching
 pub mod Making
 pub mod Operations
 pub mod Judgement
-pub mod Meaning
+pub mod OnePathMeaning
 pub mod Plan
 pub mod Places
 pub mod Conditions
@@ -22,3 +22,11 @@ pub mod Copies
 pub mod TreeScalars
 pub mod PlaceView
 pub mod MatchView
+pub mod RightValues
+pub mod Changes
+pub mod Deeds
+pub mod Meaning
+pub mod After
+pub mod Plans
+pub mod Fits
+pub mod PlacesApart

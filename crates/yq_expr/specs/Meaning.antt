@@ -1,45 +1,89 @@
--- What an update means: the documents that it makes of documents.
-use Rattle.std.specs.Prelude.{ℕ, List, [], ◌∷◌, Option, Some, None}
-use Rattle.yq_scalar.specs.declared.kind.Kind.{Kind}
-use Rattle.yq_scalar.specs.Tree.{Node, scalar}
-use Rattle.yq_scalar.specs.Paths.{change}
+-- What an update means: all its changes are made at once (yq manual; own).
+use Rattle.std.specs.Prelude.{◌≡◌, ⊤, ℕ, suc, ◌==◌, Bool, List, [], ◌∷◌, map, Option, Some, None, if◌then◌else◌}
+use Rattle.yq_scalar.specs.Paths as paths
+use Rattle.yq_scalar.specs.Paths.{To, change_child, append_child, within}
+use Rattle.yq_scalar.specs.Shapes.{IsTree}
+use Rattle.yq_scalar.specs.Tree.{Node, Children, children_of}
 use Rattle.yq_tree.specs.Documents.{Document}
-use Rattle.yq_expr.specs.Program.{Step, Program, read, updates, Update, assigned}
-use Rattle.yq_expr.specs.declared.refusal.Refusal.TheVariants.{NotAnUpdate}
-use Rattle.yq_expr.specs.Matching.{Location, there, missing, steps_lead}
-use Rattle.yq_expr.specs.Making.{make}
-use Rattle.yq_expr.specs.Operations.{replaced, with_root}
-use Rattle.yq_expr.specs.Judgement.{Judgement, gives, refuses, unbuilt, and_then}
+use Rattle.yq_tree.specs.TreeEdits.{replaced, new_label, led, lead_by, with_tree}
+use Rattle.yq_expr.specs.declared.program.CommentPlace.{CommentPlace}
+use Rattle.yq_expr.specs.declared.program.CommentPlace.TheVariants as comments
+use Rattle.yq_expr.specs.Changes as changes
+use Rattle.yq_expr.specs.Changes.{Addition, appends, overwrites, replaces, adds, sets_comment, Changed, Room, changes_of}
+use Rattle.yq_expr.specs.Deeds as deeds
+use Rattle.yq_expr.specs.Deeds.{Deed, becomes, done_by, at_once}
+use Rattle.yq_expr.specs.Judgement.{Judgement, gives, and_then}
+use Rattle.yq_expr.specs.Program.{Update}
 
--- a value set at a location of a document: what is there gives way to it, and its anchor, all comments and the lead stay (own)
-abbrev pub set_at : Node → Document → Location → Judgement Document
-set_at v d (there path) = gives (with_root (change path (replaced v)) d)
-set_at v d (missing path steps) = make path steps
+-- items or entries with an addition (own)
+abbrev pub add_to : Addition → Children → Children
+add_to (appends k v) cs = append_child (new_label k) v cs
+add_to (overwrites k v) cs = change_child (To k) (replaced v) cs
 
--- a value set where steps lead in a document (own)
-abbrev pub set_in : List Step → Node → Document → Judgement Document
-set_in steps v d = and_then (set_at v d) (steps_lead steps d.root)
+-- a collection with additions, one after the other (own)
+abbrev pub add_all : List Addition → Node → Node
+add_all [] n = n
+add_all (x ∷ xs) n = add_all xs (within (add_to x) n)
 
--- a value set where steps lead in each document, or the first refusal (own)
-abbrev pub set_in_each : List Step → Node → List Document → Judgement (List Document)
-set_in_each steps v [] = gives []
-set_in_each steps v (d ∷ ds) = and_then (λ first. and_then (λ others. gives (first ∷ others)) (set_in_each steps v ds)) (set_in steps v d)
+-- a text, before the first of others (own)
+abbrev pub onto_first : ℕ → List (List ℕ) → List (List ℕ)
+onto_first c [] = (c ∷ []) ∷ []
+onto_first c (t ∷ ts) = (c ∷ t) ∷ ts
 
--- what one scalar set where steps lead makes of documents (own)
-abbrev pub set_scalar : Option (List Step × (Kind × List ℕ)) → List Document → Judgement (List Document)
-set_scalar None docs = unbuilt
-set_scalar (Some x) docs = set_in_each x.0 (scalar None x.1.0 x.1.1) docs
+-- the lines of a text that isn't empty, parted by LF (own)
+abbrev pub parted : List ℕ → List (List ℕ)
+parted [] = [] ∷ []
+parted (c ∷ cs) = if c == 10 then [] ∷ parted cs else onto_first c (parted cs)
 
--- what an update makes of documents (own)
-abbrev pub meaning : Update → List Document → Judgement (List Document)
-meaning u docs = set_scalar (assigned u) docs
+-- the lines of a head comment with that text: none of the empty one (own)
+abbrev pub head_of : List ℕ → List (List ℕ)
+head_of [] = []
+head_of (c ∷ cs) = parted (c ∷ cs)
 
--- what updates make of documents, one after the other (own)
-abbrev pub all_meant : List Update → List Document → Judgement (List Document)
-all_meant [] docs = gives docs
-all_meant (u ∷ us) docs = and_then (all_meant us) (meaning u docs)
+-- the line comment with that text: none of the empty one (own)
+abbrev pub line_of : List ℕ → Option (List ℕ)
+line_of [] = None
+line_of (c ∷ cs) = Some (c ∷ cs)
 
--- what a program makes of documents; a read makes none (own)
-abbrev pub program_meaning : Program → List Document → Judgement (List Document)
-program_meaning (read stages) docs = refuses NotAnUpdate
-program_meaning (updates us) docs = all_meant us docs
+-- a comment that is set (own)
+abbrev pub comment_deed : CommentPlace → List ℕ → Deed
+comment_deed comments.Line text = deeds.line (line_of text)
+comment_deed comments.Head text = deeds.head (head_of text)
+
+-- what a change does at its place, where a document has such a lead (own)
+abbrev pub deed_of : Bool → List (List ℕ) → Changed → Deed
+deed_of block lead (path, replaces v) = becomes (replaced (led block lead path v))
+deed_of block lead (path, adds xs) = becomes (add_all xs)
+deed_of block lead (path, changes.removes) = deeds.goes
+deed_of block lead (path, sets_comment place text) = comment_deed place text
+
+-- the same with its path (own)
+abbrev pub placed_deed : Bool → List (List ℕ) → Changed → List paths.Step × Deed
+placed_deed block lead c = (c.0, deed_of block lead c)
+
+-- a document with all changes made at once (own)
+abbrev pub changed_at_once : Bool → List Changed → Document → Document
+changed_at_once block cs d = with_tree block (at_once (done_by (map (placed_deed block d.lead) cs)) d.root) d
+
+-- the same of each of documents, from the one of that number on (own)
+abbrev pub all_changed : (ℕ → Room) → ℕ → List (List Changed) → List Document → List Document
+all_changed rooms n [] docs = docs
+all_changed rooms n (cs ∷ css) [] = []
+all_changed rooms n (cs ∷ css) (d ∷ ds) = changed_at_once (rooms n).block cs d ∷ all_changed rooms (suc n) css ds
+
+-- the roots of documents (own)
+abbrev pub roots_of : List Document → List Node
+roots_of docs = map (λ (d : Document). d.root) docs
+
+-- what an update makes of documents, whose texts have such room; or the first refusal (own)
+abbrev pub meaning : Update → (ℕ → Room) → List Document → Judgement (List Document)
+meaning u rooms docs = and_then (λ css. gives (all_changed rooms 0 css docs)) (changes_of u rooms (roots_of docs))
+
+-- a document's lead is the head comment of its first item or entry, where the root is block and has one (own)
+abbrev pub IsLed : Bool → Document → Type 0
+IsLed block d = lead_by block (children_of d.root) d.lead ≡ d.lead
+
+-- documents, from the one of that number on, are trees with such leads (own)
+abbrev pub AreReady : (ℕ → Room) → ℕ → List Document → Type 0
+AreReady rooms n [] = ⊤
+AreReady rooms n (d ∷ ds) = (IsTree d.root × IsLed (rooms n).block d) × AreReady rooms (suc n) ds

@@ -4,8 +4,8 @@ ghost use Rattle.yq_inline.specs.Entries.{step_of as tree_step};
 ghost use Rattle.yq_scalar.specs.Tree as tree;
 ghost use Rattle.yq_tree.specs.Reading.{cut_of, documents_of};
 ghost use Rattle.yq_expr.specs.Judgement.{Plans, refuses};
-ghost use Rattle.yq_expr.specs.Meaning.{meaning};
-ghost use Rattle.yq_expr.specs.Operations.{operations_of, all_after};
+ghost use Rattle.yq_expr.specs.OnePathMeaning.{one_path_meaning};
+ghost use Rattle.yq_expr.specs.Operations.{operations_of, all_after_replace};
 ghost use Rattle.yq_expr.specs.Plan as plan;
 ghost use Rattle.yq_expr.specs.Plan.{location_of};
 ghost use Rattle.yq_expr.specs.Program as spec;
@@ -167,9 +167,9 @@ pub fn plan(
     // The operations, or why there are none.
     ensures exact { (u : spec.Update) → plan.update_at nth (program_of program.now) ≡ Some u → Plans (λ v. operations_of v.items) result (plan.plan_of u (cut_of documents.now)) }
     // The operations, one after the other, make what the update means.
-    ensures meaning { (u : spec.Update) → plan.update_at nth (program_of program.now) ≡ Some u → IfOk result (λ ops. meaning u (documents_of documents.now) ≡ all_after (operations_of ops.items) (documents_of documents.now)) }
+    ensures meaning { (u : spec.Update) → plan.update_at nth (program_of program.now) ≡ Some u → IfOk result (λ ops. one_path_meaning u (documents_of documents.now) ≡ all_after_replace (operations_of ops.items) (documents_of documents.now)) }
     // A refusal is that of what the update means.
-    ensures refused { (u : spec.Update) (why : Refusal) → plan.update_at nth (program_of program.now) ≡ Some u → result ≡ Err (PlanError.Refused why) → meaning u (documents_of documents.now) ≡ refuses why }
+    ensures refused { (u : spec.Update) (why : Refusal) → plan.update_at nth (program_of program.now) ≡ Some u → result ≡ Err (PlanError.Refused why) → one_path_meaning u (documents_of documents.now) ≡ refuses why }
 {
     planned(alloc, program, nth, documents)
 }

@@ -21,8 +21,9 @@ use Rattle.yq_tree.proofs.ReadLaws.{read_takes, one_reading}
 use Rattle.yq_tree.proofs.RowPathLaws.{is_one}
 use Rattle.yq_tree.proofs.ScalarPlaceLaws.{place_stands, place_set}
 use Rattle.yq_expr.specs.Judgement as judgement
-use Rattle.yq_expr.specs.Meaning.{program_meaning, meaning}
-use Rattle.yq_expr.specs.Operations.{replace, replaced, all_after}
+use Rattle.yq_expr.specs.OnePathMeaning.{program_meaning, one_path_meaning}
+use Rattle.yq_expr.specs.Operations.{replace, all_after_replace}
+use Rattle.yq_tree.specs.TreeEdits.{replaced}
 use Rattle.yq_expr.specs.Program.{Program, updates, assignment_of}
 use Rattle.yq_expr.proofs.PlanLaws.{plan_means}
 use Rattle.yq_splice.specs.Edit.{gives, put_scalar, edit_of}
@@ -94,9 +95,9 @@ meant_by : (p : Program) (t new : List ℕ) (changes : List Change) (f : IsFound
     IsSet new f.carried.document f.carried.path (replaced (scalar None f.carried.value.0 f.carried.value.1)) → IsMeant p docs new
 meant_by p t new changes f docs reads x =
     let old : docs ≡ documents f.rows = one_reading t docs (documents f.rows) reads (read_takes t f.rows f.read) in
-    let planned : meaning f.update (documents f.rows) ≡ all_after (replace 0 f.carried.path (scalar None f.carried.value.0 f.carried.value.1) ∷ []) (documents f.rows) = plan_means f.update f.rows _ f.carried.planned in
-    let done : all_after (replace 0 f.carried.path (scalar None f.carried.value.0 f.carried.value.1) ∷ []) (documents f.rows) ≡ judgement.gives (documents x.cut) =
-    ap (all_after (replace 0 f.carried.path (scalar None f.carried.value.0 f.carried.value.1) ∷ [])) f.carried.one ∙ ap judgement.gives (sym x.documents_are) in
+    let planned : one_path_meaning f.update (documents f.rows) ≡ all_after_replace (replace 0 f.carried.path (scalar None f.carried.value.0 f.carried.value.1) ∷ []) (documents f.rows) = plan_means f.update f.rows _ f.carried.planned in
+    let done : all_after_replace (replace 0 f.carried.path (scalar None f.carried.value.0 f.carried.value.1) ∷ []) (documents f.rows) ≡ judgement.gives (documents x.cut) =
+    ap (all_after_replace (replace 0 f.carried.path (scalar None f.carried.value.0 f.carried.value.1) ∷ [])) f.carried.one ∙ ap judgement.gives (sym x.documents_are) in
     record {
       documents = documents x.cut;
       meant =

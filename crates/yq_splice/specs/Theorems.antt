@@ -8,7 +8,7 @@ use Rattle.yq_tree.specs.Reading.{read_at, documents}
 use Rattle.yq_tree.specs.ScalarPlaces.{ScalarPlace, place_at, replaced}
 use Rattle.yq_expr.specs.Judgement.{gives}
 use Rattle.yq_expr.specs.Matching.{there, steps_lead}
-use Rattle.yq_expr.specs.Meaning.{program_meaning}
+use Rattle.yq_expr.specs.OnePathMeaning.{program_meaning}
 use Rattle.yq_expr.specs.Program.{Step, Program, assignment_of}
 use Rattle.yq_splice.specs.Patch.{Change, all_done, lengths_done}
 

@@ -1,0 +1,86 @@
+-- Whether operations fit documents: nothing refuses them (own).
+use Rattle.std.specs.Prelude.{◌≡◌, ⊤, ◌⊎◌, ℕ, suc, true, false, List, [], ◌∷◌, length, slice_get, Option, Some, None}
+use Rattle.std.specs.Str.{bytes_eq}
+use Rattle.yq_scalar.specs.Paths as paths
+use Rattle.yq_scalar.specs.Paths.{To, child_at, node_at}
+use Rattle.yq_scalar.specs.Shapes.{IsTree}
+use Rattle.yq_scalar.specs.Tree as tree
+use Rattle.yq_scalar.specs.Tree.{Node, alias, scalar, list, Children, none, child}
+use Rattle.yq_tree.specs.Anchors.{names_of}
+use Rattle.yq_tree.specs.Documents.{Document}
+use Rattle.yq_expr.specs.declared.program.CommentPlace.{CommentPlace}
+use Rattle.yq_expr.specs.declared.program.CommentPlace.TheVariants as comments
+use Rattle.yq_expr.specs.After.{document_of, after_op}
+use Rattle.yq_expr.specs.Changes.{Room, is_long, has_long_key, is_deep, is_used_inside, is_used_in, is_comment}
+use Rattle.yq_expr.specs.Operations.{Operation, replace, append, remove, line_comment, head_comment}
+use Rattle.yq_expr.specs.Program.{Term, literal, found, Update, assign, delete, comment}
+
+-- a value may be written below so many collections: its keys are short enough, and it isn't too deep (own)
+abbrev pub IsWritable : ℕ → Node → Type 0
+IsWritable n v = (has_long_key v ≡ false) × (is_deep n v ≡ false)
+
+-- a collection may get an item, or an entry of a key that it hasn't (own)
+abbrev pub Takes : Option (List ℕ) → Node → Type 0
+Takes None n = (anchor : Option (List ℕ)) × (cs : Children) × (n ≡ list anchor cs)
+Takes (Some k) n = (anchor : Option (List ℕ)) × (cs : Children) × (n ≡ tree.map anchor cs) × (child_at (To k) cs ≡ None)
+
+-- a path leads to an item or entry, and no root (own)
+abbrev pub IsBelow : List paths.Step → Type 0
+IsBelow [] = ⊥
+IsBelow (s ∷ path) = ⊤
+
+-- a comment may be set at a path (own)
+abbrev pub MayComment : Room → CommentPlace → List paths.Step → List ℕ → Node → Type 0
+MayComment room place path text root = (room.has place path ≡ true) × (is_comment place text ≡ true) × ((n : Node) × (node_at path root ≡ Some n))
+
+-- an operation fits a root, in a document whose text has such room (own)
+abbrev pub FitsRoot : Room → Operation → Node → Type 0
+FitsRoot room (replace doc path v) root = IsWritable (length path) v × ((n : Node) × (node_at path root ≡ Some n) × (is_used_inside (names_of root) (Some n) ≡ false))
+FitsRoot room (append doc path k v) root = (is_long k ≡ false) × IsWritable (suc (length path)) v × ((n : Node) × (node_at path root ≡ Some n) × Takes k n)
+FitsRoot room (remove doc path) root = IsBelow path × ((n : Node) × (node_at path root ≡ Some n) × (is_used_in (names_of root) (Some n) ≡ false))
+FitsRoot room (line_comment doc path text) root = MayComment room comments.Line path text root
+FitsRoot room (head_comment doc path text) root = MayComment room comments.Head path text root
+
+-- an operation fits documents, whose texts have such room (own)
+abbrev pub Fits : (ℕ → Room) → Operation → List Document → Type 0
+Fits rooms op docs = (d : Document) × (slice_get docs (document_of op) ≡ Some d) × FitsRoot (rooms (document_of op)) op d.root
+
+-- each operation fits at its turn (own)
+abbrev pub AllFit : (ℕ → Room) → List Operation → List Document → Type 0
+AllFit rooms [] docs = ⊤
+AllFit rooms (op ∷ ops) docs = Fits rooms op docs × AllFit rooms ops (after_op rooms op docs)
+
+-- ---- values
+
+abbrev mutual
+  -- some alias of that name is in a node (own)
+  pub Mentions : List ℕ → Node → Type 0
+  Mentions a (alias name) = bytes_eq a name ≡ true
+  Mentions a (scalar anchor kind text) = ⊥
+  Mentions a (list anchor cs) = AnyMentions a cs
+  Mentions a (tree.map anchor cs) = AnyMentions a cs
+
+  -- the same of items or entries (own)
+  pub AnyMentions : List ℕ → Children → Type 0
+  AnyMentions a none = ⊥
+  AnyMentions a (child label n cs) = Mentions a n ⊎ AnyMentions a cs
+
+-- a node without aliases (own)
+abbrev pub HasNoAlias : Node → Type 0
+HasNoAlias n = (a : List ℕ) → Mentions a n → ⊥
+
+-- a tree without aliases (own)
+abbrev pub IsPure : Node → Type 0
+IsPure v = IsTree v × HasNoAlias v
+
+-- each literal of a sum is such (own)
+abbrev pub TermsArePure : List Term → Type 0
+TermsArePure [] = ⊤
+TermsArePure (literal v ∷ ts) = IsPure v × TermsArePure ts
+TermsArePure (found pipe ∷ ts) = TermsArePure ts
+
+-- each literal of an update is such (own)
+abbrev pub UpdateIsPure : Update → Type 0
+UpdateIsPure (assign left op right) = TermsArePure right
+UpdateIsPure (delete left) = ⊤
+UpdateIsPure (comment left place text) = ⊤
