@@ -30,3 +30,5 @@ pub mod EachLaws
 pub mod CopyLaws
 pub mod TreeScalarLaws
 pub mod MatchLaws
+pub mod JudgementLaws
+pub mod updates

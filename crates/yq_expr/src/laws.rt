@@ -1,9 +1,56 @@
 //! Laws of expressions.
 ghost use Rattle.std.specs.Prelude.{◌≡◌, ℕ, List};
+ghost use Rattle.yq_scalar.specs.PathOrder.{Apart};
+ghost use Rattle.yq_scalar.specs.Paths.{Step as TreeStep, change, node_at};
+ghost use Rattle.yq_scalar.specs.Shapes.{IsTree};
+ghost use Rattle.yq_scalar.specs.Tree.{Node};
+ghost use Rattle.yq_tree.specs.Documents.{Document};
+ghost use Rattle.yq_expr.specs.After.{all_after};
+ghost use Rattle.yq_expr.specs.Changes.{Room};
+ghost use Rattle.yq_expr.specs.Fits.{AllFit, UpdateIsPure};
+ghost use Rattle.yq_expr.specs.Judgement.{gives, refuses};
+ghost use Rattle.yq_expr.specs.Meaning.{AreReady, meaning};
+ghost use Rattle.yq_expr.specs.Operations.{Operation};
 ghost use Rattle.yq_expr.specs.Outcome.{Derives};
-ghost use Rattle.yq_expr.specs.Program.{Program as Outline};
+ghost use Rattle.yq_expr.specs.Pipes.{places};
+ghost use Rattle.yq_expr.specs.Places.{Place};
+ghost use Rattle.yq_expr.specs.PlacesApart.{AreApart, AreIn};
+ghost use Rattle.yq_expr.specs.Plans as plans;
+ghost use Rattle.yq_expr.specs.Program.{Program as Outline, Stage as PipeStage, Update as Change};
+ghost use Rattle.yq_expr.specs.declared.refusal.Refusal.{Refusal as Why};
 
 /// No text derives two programs.
 pub fn one_program()
     ensures { (text : List ℕ) (p q : Outline) → Derives text p → Derives text q → p ≡ q }
+{}
+
+/// No two of the places to which a pipe leads in a tree are the same, and none
+/// lies in another; the node of each is the one at its path.
+pub fn places_apart()
+    ensures { (doc : ℕ) (pipe : List PipeStage) (root : Node) (ps : List Place) → IsTree root → places doc pipe root ≡ gives ps → AreApart ps × AreIn root ps }
+{}
+
+/// A change of one node leaves the node at a path that is apart as it is, and
+/// two such changes may be made in either order.
+pub fn changes_apart()
+    ensures kept { (p q : List TreeStep) (g : Node → Node) (n : Node) → IsTree n → Apart p q → node_at p (change q g n) ≡ node_at p n }
+    ensures commute { (p q : List TreeStep) (f g : Node → Node) (n : Node) → IsTree n → Apart p q → change p f (change q g n) ≡ change q g (change p f n) }
+{}
+
+/// The operations of a plan, one after the other, make of documents what the
+/// update means.
+pub fn plan_means()
+    ensures { (u : Change) (rooms : ℕ → Room) (docs : List Document) (ops : List Operation) → AreReady rooms 0 docs → plans.plan u rooms docs ≡ gives ops → meaning u rooms docs ≡ gives (all_after rooms ops docs) }
+{}
+
+/// A plan is refused as the update is, and only then.
+pub fn plan_refused()
+    ensures refused { (u : Change) (rooms : ℕ → Room) (docs : List Document) (why : Why) → plans.plan u rooms docs ≡ refuses why → meaning u rooms docs ≡ refuses why }
+    ensures only { (u : Change) (rooms : ℕ → Room) (docs : List Document) (why : Why) → meaning u rooms docs ≡ refuses why → plans.plan u rooms docs ≡ refuses why }
+{}
+
+/// Each operation of a plan fits at its turn, where each literal is a tree
+/// without aliases.
+pub fn plan_fits()
+    ensures { (u : Change) (rooms : ℕ → Room) (docs : List Document) (ops : List Operation) → AreReady rooms 0 docs → UpdateIsPure u → plans.plan u rooms docs ≡ gives ops → AllFit rooms ops docs }
 {}

@@ -18,7 +18,7 @@ mod survey;
 mod token;
 
 pub use error::ParseError;
-pub use laws::one_program;
+pub use laws::{changes_apart, one_program, places_apart, plan_fits, plan_means, plan_refused};
 pub use match_error::MatchError;
 pub use matching::{Match, matches};
 pub use op::Op;

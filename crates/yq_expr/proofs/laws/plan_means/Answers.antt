@@ -1,0 +1,5 @@
+use Rattle.yq_expr.proofs.updates.Theorem.{plan_means}
+use Rattle.yq_expr.proofs.laws.plan_means.Goals as goal
+
+pub returns : goal.returns
+returns c = plan_means

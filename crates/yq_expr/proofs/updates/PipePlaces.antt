@@ -1,0 +1,63 @@
+-- The places to which a pipe leads are apart.
+use Rattle.std.proofs.Common.{◌≡◌, ◌≢◌, ℕ, suc, ◌+◌, ◌<◌, ◌⊎◌, Bool, true, false, cond, List, [], ◌∷◌, ◌++◌, map, Option, Some, None, option_and_then, option_map, refl, sym, ap, subst, ◌∙◌, inl, inr, arith, append-nil}
+use Rattle.std.specs.Prelude.{ℤ}
+use Rattle.yq_scalar.specs.declared.kind.Kind.{Kind}
+use Rattle.yq_scalar.specs.declared.kind.Kind.TheVariants as kinds
+use Rattle.yq_scalar.specs.Tree as tree
+use Rattle.yq_scalar.specs.Tree.{Label, Node, alias, scalar, list, Children, none, child, children_of}
+use Rattle.yq_scalar.specs.Paths as paths
+use Rattle.yq_scalar.specs.Paths.{To, Nth, key_is, is_item, is_here, further, child_at, node_at}
+use Rattle.yq_expr.specs.declared.refusal.Refusal.{Refusal}
+use Rattle.yq_expr.specs.declared.refusal.Refusal.TheVariants.{NotAMap, NotASequence}
+use Rattle.yq_expr.specs.Judgement.{Judgement, gives, refuses, unbuilt, and_then}
+use Rattle.yq_expr.specs.Matching.{Found, find, in_scalar, key_step, item_number, index_step}
+use Rattle.yq_expr.specs.Program.{Step, key, index, each, Condition, Stage, path, select}
+use Rattle.yq_expr.specs.Conditions.{holds}
+use Rattle.yq_expr.specs.Deeds.{step_to}
+use Rattle.yq_expr.specs.Pipes.{kept, select_on, stage_on, pipe_on, places}
+use Rattle.yq_expr.specs.Places.{step_by, Place, root_place, child_place, for_each, miss, found_place, stepped, all_steps, step_there, step_from, step_on, in_turn, walk}
+use Rattle.yq_expr.specs.PlacesApart.{IsBeforeAll, AreApart, IsIn, AreIn}
+use Rattle.yq_scalar.specs.PathOrder.{Parts, Before}
+use Rattle.yq_scalar.specs.Shapes.{IsNew, AreItems, AreEntries, IsTree, AreTrees}
+use Rattle.yq_expr.proofs.JudgementLaws.{then_gives, gives_same}
+use Rattle.yq_expr.proofs.updates.PathLaws.{none_some, some_same, cond_true, cond_false, bytes_refl, bytes_same, bytes_differ, to_nth, step_refl, step_other, parts_not, before_not_in, before_under, apart_under, apart_root, apart_not_in, before_more, before_right, before_left, before_in, parts_differ}
+use Rattle.yq_expr.proofs.updates.GoodPlaces.{LiesIn, LieIn, AreSound, Leads, LeadsSo, AreGood, before_lying, before_join, each_good}
+use Rattle.yq_expr.proofs.updates.ChildPlaces.{leads_none, leads_self, leads_missing, node_further, child_tree, children_tree, leads_child, leads_children, absent, StepsBefore, StepsApart, items_apart, entries_apart}
+use Rattle.yq_expr.proofs.updates.StepPlaces.{leads_step}
+
+pub leads_select : (root : Node) (doc : ℕ) (c : Condition) → LeadsSo root (select_on doc c)
+leads_select root doc c p qs tree at h =
+    let x = then_gives (λ (b : Bool). gives (kept p b)) (holds doc c p) qs h in
+    subst (Leads root p) (gives_same x.2) (go x.0)
+  where
+    go : (b : Bool) → Leads root p (kept p b)
+    go true = leads_self root p p refl refl tree at
+    go false = leads_none root p
+
+pub walk_good : (root : Node) (ss : List Step) (ps qs : List Place) → AreGood root ps → walk ss ps ≡ gives qs → AreGood root qs
+walk_good root [] ps qs good h = subst (AreGood root) (gives_same h) good
+walk_good root (s ∷ ss) ps qs good h =
+    let x = then_gives (in_turn (λ u. for_each (step_on u)) ss) (for_each (step_on s) ps) qs h in
+    walk_good root ss x.0 qs (each_good root (step_on s) (leads_step root s) ps x.0 good x.1) x.2
+
+pub stage_good : (root : Node) (doc : ℕ) (stage : Stage) (ps qs : List Place) → AreGood root ps → stage_on doc stage ps ≡ gives qs → AreGood root qs
+stage_good root doc (path steps) ps qs good h = walk_good root steps ps qs good h
+stage_good root doc (select c) ps qs good h = each_good root (select_on doc c) (leads_select root doc c) ps qs good h
+
+pub pipe_good : (root : Node) (doc : ℕ) (stages : List Stage) (ps qs : List Place) → AreGood root ps → pipe_on doc stages ps ≡ gives qs → AreGood root qs
+pipe_good root doc [] ps qs good h = subst (AreGood root) (gives_same h) good
+pipe_good root doc (stage ∷ stages) ps qs good h =
+    let x = then_gives (in_turn (stage_on doc) stages) (stage_on doc stage ps) qs h in
+    pipe_good root doc stages x.0 qs (stage_good root doc stage ps x.0 good x.1) x.2
+
+-- the places to which a pipe leads in a tree: no two are the same, and none lies in another
+pub places_apart : (doc : ℕ) (pipe : List Stage) (root : Node) (ps : List Place) → IsTree root → places doc pipe root ≡ gives ps → AreGood root ps
+places_apart doc pipe root ps tree h = pipe_good root doc pipe (root_place root ∷ []) ps (record { apart = (tt, tt); sound = ((tree, refl), tt) }) h
+
+are_in : (root : Node) (ps : List Place) → AreSound root ps → AreIn root ps
+are_in root [] h = tt
+are_in root (p ∷ ps) h = (h.0.1, are_in root ps h.1)
+
+-- the same, as it is told
+pub places_stand : (doc : ℕ) (pipe : List Stage) (root : Node) (ps : List Place) → IsTree root → places doc pipe root ≡ gives ps → AreApart ps × AreIn root ps
+places_stand doc pipe root ps tree h = let good = places_apart doc pipe root ps tree h in (good.apart, are_in root ps good.sound)

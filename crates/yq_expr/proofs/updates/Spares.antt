@@ -1,0 +1,84 @@
+-- What is done spares a path: it is apart from it, and what goes stands behind.
+use Rattle.std.proofs.Common.{◌≡◌, ◌≢◌, ℕ, suc, ◌+◌, ◌<◌, ◌⊎◌, Bool, true, false, cond, List, [], ◌∷◌, ◌++◌, Option, Some, None, option_and_then, option_map, refl, sym, ap, subst, ◌∙◌, inl, inr, arith, append-nil, zero, ◌&&◌}
+use Rattle.std.specs.Prelude.{ℤ}
+use Rattle.yq_scalar.specs.Tree as tree
+use Rattle.yq_scalar.specs.Tree.{Label, Node, alias, scalar, list, Children, none, child, children_of, map}
+use Rattle.yq_scalar.specs.Paths as paths
+use Rattle.yq_scalar.specs.Paths.{To, Nth, key_is, is_item, is_here, further, child_at, node_at, Step, within}
+use Rattle.yq_expr.specs.Deeds.{step_to, Deed, becomes, line, head, goes, Deeds, under, done_at, child_by, inside, each_at_once, at_once, same_step, same_path, and_at, at_child, here, one_at}
+use Rattle.yq_expr.specs.Places.{step_by}
+use Rattle.yq_scalar.specs.PathOrder.{Parts, Before, Apart}
+use Rattle.yq_scalar.specs.Shapes.{IsNew, AreItems, AreEntries, IsTree, AreTrees}
+use Rattle.std.proofs.lemmas.Bool.{ne_eqb, eq-eqb}
+use Rattle.std.specs.Cmp.Lexicographic.{same_text}
+use Rattle.std.specs.Str.{bytes_eq}
+use Rattle.yq_scalar.proofs.Bools.{is_true}
+use Rattle.yq_expr.proofs.updates.PathLaws.{none_some, some_same, cond_true, cond_false, bytes_refl, bytes_same, bytes_differ, to_nth, step_refl, step_other, parts_not, before_not_in, before_under, apart_under, apart_root, apart_not_in, before_more, before_right, before_left, before_in, parts_differ}
+
+-- two functions that agree at each path
+pub deeds_same : (f g : Deeds) → ((q : List Step) → f q ≡ g q) → f ≡ g
+deeds_same f g h = λ i q. h q i
+
+-- what is done at a path leaves another one's place where it is
+abbrev pub IsSpared : Option Deed → List Step → List Step → Type 0
+IsSpared None p q = Unit {0}
+IsSpared (Some (becomes g)) p q = Apart p q
+IsSpared (Some (line text)) p q = Apart p q
+IsSpared (Some (head texts)) p q = Apart p q
+IsSpared (Some goes) p q = Before p q
+
+-- the same of all that is done
+abbrev pub Spares : Deeds → List Step → Type 0
+Spares f p = (q : List Step) → IsSpared (f q) p q
+
+spared_apart : (x : Deed) (p q : List Step) → IsSpared (Some x) p q → Apart p q
+spared_apart (becomes g) p q h = h
+spared_apart (line text) p q h = h
+spared_apart (head texts) p q h = h
+spared_apart goes p q h = inl h
+
+spared_under : (s : Step) (p q : List Step) (d : Option Deed) → IsSpared d (s ∷ p) (s ∷ q) → IsSpared d p q
+spared_under s p q None h = tt
+spared_under s p q (Some (becomes g)) h = apart_under s p q h
+spared_under s p q (Some (line text)) h = apart_under s p q h
+spared_under s p q (Some (head texts)) h = apart_under s p q h
+spared_under s p q (Some goes) h = before_under s p q h
+
+pub spares_under : (f : Deeds) (s : Step) (p : List Step) → Spares f (s ∷ p) → Spares (under s f) p
+spares_under f s p h q = spared_under s p q (f (s ∷ q)) (h (s ∷ q))
+
+-- nothing is done at a place that is apart from none
+pub nothing : (d : Option Deed) (p q : List Step) → (Apart p q → ⊥) → IsSpared d p q → d ≡ None
+nothing None p q never h = refl
+nothing (Some x) p q never h = absurd (never (spared_apart x p q h))
+
+pub spares_root : (f : Deeds) (p : List Step) → Spares f p → f [] ≡ None
+spares_root f [] h = nothing (f []) [] [] (apart_root []) (h [])
+spares_root f (s ∷ p) h = nothing (f []) (s ∷ p) [] (apart_not_in s p) (h [])
+
+-- an item that goes stands behind
+pub spares_behind : (m i : ℕ) (p : List Step) → Before (Nth m ∷ p) (Nth i ∷ []) → m < i
+spares_behind m i p (inl h) = h
+spares_behind m i p (inr h) = absurd (before_not_in p h.1)
+
+-- ---- where nothing is done
+
+-- what is done at a child and under it
+abbrev pub child_done : Deeds → Label → Node → Children → Children
+child_done f label n rest = child_by (f []) label (at_once f n) rest
+
+mutual
+  idle_inside : (f : Deeds) (n : Node) → ((q : List Step) → f q ≡ None) → inside f n ≡ n
+  idle_inside f (alias name) h = refl
+  idle_inside f (scalar anchor kind text) h = refl
+  idle_inside f (list anchor cs) h = ap (list anchor) (idle_each f 0 cs h)
+  idle_inside f (map anchor cs) h = ap (map anchor) (idle_each f 0 cs h)
+
+  idle_each : (f : Deeds) (i : ℕ) (cs : Children) → ((q : List Step) → f q ≡ None) → each_at_once f i cs ≡ cs
+  idle_each f i none h = refl
+  idle_each f i (child label n cs) h =
+      ap (λ (d : Option Deed). child_by d label (done_at d n (inside (under (step_to i label) f) n)) (each_at_once f (suc i) cs)) (h (step_to i label ∷ []))
+      ∙ (ap (λ m. child label m (each_at_once f (suc i) cs)) (idle_inside (under (step_to i label) f) n (λ q. h (step_to i label ∷ q))) ∙ ap (child label n) (idle_each f (suc i) cs h))
+
+pub idle : (f : Deeds) (n : Node) → ((q : List Step) → f q ≡ None) → at_once f n ≡ n
+idle f n h = ap (λ (d : Option Deed). done_at d n (inside f n)) (h []) ∙ idle_inside f n h
