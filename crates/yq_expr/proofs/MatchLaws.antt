@@ -11,7 +11,7 @@ use Rattle.yq_scalar.specs.Tree.{Node, alias, scalar, list, Children, none, chil
 use Rattle.yq_tree.specs.Documents.{Document}
 use Rattle.yq_expr.specs.Conditions.{node_there, value_of, holds}
 use Rattle.yq_expr.specs.Copies.{matches_in, matches_from}
-use Rattle.yq_expr.specs.Judgement.{Judgement, gives, refuses, unbuilt, and_then, Fails}
+use Rattle.yq_expr.specs.Judgement.{Judgement, gives, and_then, Fails}
 use Rattle.yq_expr.specs.Matching.{Found, find, in_scalar, key_step, item_number, index_step}
 use Rattle.yq_expr.specs.Pipes.{kept, select_on, stage_on, places}
 use Rattle.yq_expr.specs.PlaceView.{put_behind}
@@ -22,15 +22,7 @@ use Rattle.yq_expr.specs.declared.match_error.MatchError.{MatchError}
 use Rattle.yq_expr.specs.declared.refusal.Refusal.{Refusal}
 use Rattle.yq_expr.specs.declared.refusal.Refusal.TheVariants.{NotAMap, NotASequence}
 use Rattle.yq_expr.proofs.EachLaws.{fails_then, put_both}
-
--- what came of both steps came of the first one
-then_gives : {A B : Type 0} (f : A → Judgement B) (j : Judgement A) (y : B) → and_then f j ≡ gives y → (x : A) × (j ≡ gives x) × (f x ≡ gives y)
-then_gives f (gives x) y h = (x, refl, h)
-then_gives f (refuses why) y h = absurd (cc)
-then_gives f unbuilt y h = absurd (cc)
-
-gives_same : {A : Type 0} {x y : A} → gives x ≡ gives y → x ≡ y
-gives_same e = cc
+use Rattle.yq_expr.proofs.JudgementLaws.{then_gives, gives_same}
 
 some_same : {A : Type 0} {x y : A} → Some x ≡ Some y → x ≡ y
 some_same e = cc

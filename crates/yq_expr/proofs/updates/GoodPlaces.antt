@@ -1,26 +1,15 @@
 -- Places that are apart, and what leads from each of them.
-use Rattle.std.proofs.Common.{◌≡◌, ◌≢◌, ℕ, suc, ◌+◌, ◌<◌, ◌⊎◌, Bool, true, false, cond, List, [], ◌∷◌, ◌++◌, map, Option, Some, None, option_and_then, option_map, refl, sym, ap, subst, ◌∙◌, inl, inr, arith, append-nil}
-use Rattle.std.specs.Prelude.{ℤ}
-use Rattle.yq_scalar.specs.declared.kind.Kind.{Kind}
-use Rattle.yq_scalar.specs.declared.kind.Kind.TheVariants as kinds
-use Rattle.yq_scalar.specs.Tree as tree
-use Rattle.yq_scalar.specs.Tree.{Label, Node, alias, scalar, list, Children, none, child, children_of}
+use Rattle.std.proofs.Common.{◌≡◌, List, [], ◌∷◌, ◌++◌, sym, subst}
+use Rattle.yq_scalar.specs.Tree.{Node}
 use Rattle.yq_scalar.specs.Paths as paths
 use Rattle.yq_scalar.specs.Paths.{To, Nth, key_is, is_item, is_here, further, child_at, node_at}
-use Rattle.yq_expr.specs.declared.refusal.Refusal.{Refusal}
-use Rattle.yq_expr.specs.declared.refusal.Refusal.TheVariants.{NotAMap, NotASequence}
-use Rattle.yq_expr.specs.Judgement.{Judgement, gives, refuses, unbuilt, and_then}
-use Rattle.yq_expr.specs.Matching.{Found, find, in_scalar, key_step, item_number, index_step}
-use Rattle.yq_expr.specs.Program.{Step, key, index, each, Condition, Stage, path, select}
-use Rattle.yq_expr.specs.Conditions.{holds}
-use Rattle.yq_expr.specs.Deeds.{step_to}
-use Rattle.yq_expr.specs.Pipes.{kept, stage_on, pipe_on, places}
-use Rattle.yq_expr.specs.Places.{step_by, Place, root_place, child_place, for_each, miss, found_place, stepped, all_steps, step_there, step_from, step_on, walk}
-use Rattle.yq_expr.specs.PlacesApart.{IsBeforeAll, AreApart, IsIn, AreIn}
-use Rattle.yq_scalar.specs.PathOrder.{Parts, Before}
-use Rattle.yq_scalar.specs.Shapes.{IsNew, AreItems, AreEntries, IsTree, AreTrees}
+use Rattle.yq_expr.specs.Judgement.{Judgement, gives, and_then}
+use Rattle.yq_expr.specs.Places.{Place, for_each}
+use Rattle.yq_expr.specs.PlacesApart.{IsBeforeAll, AreApart, IsIn}
+use Rattle.yq_scalar.specs.PathOrder.{Before}
+use Rattle.yq_scalar.specs.Shapes.{IsTree}
 use Rattle.yq_expr.proofs.JudgementLaws.{then_gives, gives_same}
-use Rattle.yq_expr.proofs.updates.PathLaws.{none_some, some_same, cond_true, cond_false, bytes_refl, bytes_same, bytes_differ, to_nth, step_refl, step_other, parts_not, before_not_in, before_under, apart_under, apart_root, apart_not_in, before_more, before_right, before_left, before_in, parts_differ}
+use Rattle.yq_expr.proofs.updates.PathLaws.{before_right, before_left}
 
 -- a place is at another one, or lies in it
 abbrev pub LiesIn : List paths.Step → Place → Type 0

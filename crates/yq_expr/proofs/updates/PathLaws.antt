@@ -1,16 +1,10 @@
 -- Steps and paths that are the same, and those that part.
-use Rattle.std.proofs.Common.{◌≡◌, ◌≢◌, ℕ, suc, ◌+◌, ◌<◌, ◌⊎◌, Bool, true, false, cond, List, [], ◌∷◌, ◌++◌, Option, Some, None, option_and_then, option_map, refl, sym, ap, subst, ◌∙◌, inl, inr, arith, append-nil, zero, ◌&&◌}
-use Rattle.std.specs.Prelude.{ℤ}
-use Rattle.yq_scalar.specs.Paths as paths
-use Rattle.yq_scalar.specs.Paths.{To, Nth, key_is, is_item, is_here, further, child_at, node_at, Step, within}
-use Rattle.yq_expr.specs.Deeds.{step_to, Deed, becomes, line, head, goes, Deeds, under, done_at, child_by, inside, each_at_once, at_once, same_step, same_path, and_at, at_child, here, one_at}
-use Rattle.yq_expr.specs.Places.{step_by}
+use Rattle.std.proofs.Common.{◌≡◌, ◌≢◌, ℕ, Bool, true, false, cond, List, [], ◌∷◌, ◌++◌, Some, None, refl, sym, ap, subst, ◌∙◌, inl, inr, arith, append-nil}
+use Rattle.yq_scalar.specs.Paths.{To, Nth, Step}
+use Rattle.yq_expr.specs.Deeds.{same_step}
 use Rattle.yq_scalar.specs.PathOrder.{Parts, Before, Apart}
-use Rattle.yq_scalar.specs.Shapes.{IsNew, AreItems, AreEntries, IsTree, AreTrees}
 use Rattle.std.proofs.lemmas.Bool.{ne_eqb, eq-eqb, false_from_ne_true, false≢true}
-use Rattle.std.specs.Cmp.Lexicographic.{same_text}
 use Rattle.std.specs.Str.{bytes_eq}
-use Rattle.yq_scalar.proofs.Bools.{is_true}
 use Rattle.std.proofs.lemmas.Slice.Eq.{bytes_eq-Decides}
 
 pub none_some : {A : Type 0} {x : A} → None ≡ Some x → ⊥

@@ -1,19 +1,10 @@
 -- What is done spares a path: it is apart from it, and what goes stands behind.
-use Rattle.std.proofs.Common.{◌≡◌, ◌≢◌, ℕ, suc, ◌+◌, ◌<◌, ◌⊎◌, Bool, true, false, cond, List, [], ◌∷◌, ◌++◌, Option, Some, None, option_and_then, option_map, refl, sym, ap, subst, ◌∙◌, inl, inr, arith, append-nil, zero, ◌&&◌}
-use Rattle.std.specs.Prelude.{ℤ}
-use Rattle.yq_scalar.specs.Tree as tree
-use Rattle.yq_scalar.specs.Tree.{Label, Node, alias, scalar, list, Children, none, child, children_of, map}
-use Rattle.yq_scalar.specs.Paths as paths
-use Rattle.yq_scalar.specs.Paths.{To, Nth, key_is, is_item, is_here, further, child_at, node_at, Step, within}
-use Rattle.yq_expr.specs.Deeds.{step_to, Deed, becomes, line, head, goes, Deeds, under, done_at, child_by, inside, each_at_once, at_once, same_step, same_path, and_at, at_child, here, one_at}
-use Rattle.yq_expr.specs.Places.{step_by}
-use Rattle.yq_scalar.specs.PathOrder.{Parts, Before, Apart}
-use Rattle.yq_scalar.specs.Shapes.{IsNew, AreItems, AreEntries, IsTree, AreTrees}
-use Rattle.std.proofs.lemmas.Bool.{ne_eqb, eq-eqb}
-use Rattle.std.specs.Cmp.Lexicographic.{same_text}
-use Rattle.std.specs.Str.{bytes_eq}
-use Rattle.yq_scalar.proofs.Bools.{is_true}
-use Rattle.yq_expr.proofs.updates.PathLaws.{none_some, some_same, cond_true, cond_false, bytes_refl, bytes_same, bytes_differ, to_nth, step_refl, step_other, parts_not, before_not_in, before_under, apart_under, apart_root, apart_not_in, before_more, before_right, before_left, before_in, parts_differ}
+use Rattle.std.proofs.Common.{◌≡◌, ℕ, suc, ◌<◌, List, [], ◌∷◌, Option, Some, None, refl, ap, ◌∙◌, inl, inr}
+use Rattle.yq_scalar.specs.Tree.{Label, Node, alias, scalar, list, Children, none, child, map}
+use Rattle.yq_scalar.specs.Paths.{Nth, Step}
+use Rattle.yq_expr.specs.Deeds.{step_to, Deed, becomes, line, head, goes, Deeds, under, done_at, child_by, inside, each_at_once, at_once}
+use Rattle.yq_scalar.specs.PathOrder.{Before, Apart}
+use Rattle.yq_expr.proofs.updates.PathLaws.{before_not_in, before_under, apart_under, apart_root, apart_not_in}
 
 -- two functions that agree at each path
 pub deeds_same : (f g : Deeds) → ((q : List Step) → f q ≡ g q) → f ≡ g

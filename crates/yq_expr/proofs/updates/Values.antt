@@ -1,5 +1,5 @@
 -- Sums are trees without aliases.
-use Rattle.std.proofs.Common.{◌≡◌, ◌≢◌, ℕ, ◌⊎◌, Bool, true, false, cond, List, [], ◌∷◌, Option, Some, None, is_some, refl, sym, ap, subst, ◌∙◌, inl, inr}
+use Rattle.std.proofs.Common.{◌≡◌, ◌≢◌, ℕ, Bool, true, false, cond, List, [], ◌∷◌, Option, Some, None, is_some, refl, sym, ap, subst, ◌∙◌, inl, inr}
 use Rattle.std.specs.Prelude.{ℤ, ◌+ℤ◌}
 use Rattle.std.specs.Fmt.{signed_decimal}
 use Rattle.std.proofs.lemmas.Bool.{false≢true}
@@ -15,18 +15,18 @@ use Rattle.yq_expr.specs.Judgement.{gives, refuses, and_then}
 use Rattle.yq_expr.specs.Program.{Step, Term, literal, found}
 use Rattle.yq_expr.specs.Conditions.{node_there, value_of}
 use Rattle.yq_expr.specs.Copies.{copy_at}
-use Rattle.yq_expr.specs.Fits.{Mentions, AnyMentions, HasNoAlias, IsPure, TermsArePure}
+use Rattle.yq_expr.specs.Fits.{IsPure, TermsArePure}
 use Rattle.yq_expr.specs.Pipes.{pipe_on}
 use Rattle.yq_expr.specs.Places.{Place}
 use Rattle.yq_expr.specs.PlacesApart.{IsIn}
 use Rattle.yq_expr.specs.RightValues.{is_null, int_sum, scalar_sum, followed, as_items, with_entry, with_entries, value_sum, sum, only_copy, term_value, sum_from, right_value}
-use Rattle.yq_scalar.specs.Shapes.{IsNew, AreItems, AreEntries, IsTree, AreTrees}
+use Rattle.yq_scalar.specs.Shapes.{IsNew, AreItems, AreEntries, IsTree}
 use Rattle.yq_tree.specs.TreeEdits.{new_label}
 use Rattle.yq_expr.proofs.JudgementLaws.{then_gives, gives_same}
 use Rattle.yq_expr.proofs.updates.GoodPlaces.{AreSound}
 use Rattle.yq_expr.proofs.updates.PathLaws.{bytes_refl}
 use Rattle.yq_expr.proofs.updates.PipePlaces.{pipe_good}
-use Rattle.yq_expr.proofs.updates.Pure.{HaveNoAlias, AreFree, either_of, free_child, copy_pure}
+use Rattle.yq_expr.proofs.updates.Pure.{AreFree, free_child, copy_pure}
 
 free_none : AreFree none
 free_none = (tt, λ a m. m)
