@@ -1,9 +1,11 @@
 -- Programs: what an expression says, apart from how it is written.
-use Rattle.std.specs.Prelude.{ℕ, ℤ, ◌≤◌, if◌then◌else◌, Bool, true, false, List, [], ◌∷◌, length, Option, Some, None, ⊤}
+use Rattle.std.specs.Prelude.{◌≡◌, ℕ, ℤ, ◌≤◌, if◌then◌else◌, Bool, true, false, List, [], ◌∷◌, length, Option, Some, None, ⊤}
 use Rattle.std.specs.List.{list_all}
 use Rattle.yq_scalar.specs.declared.kind.Kind.{Kind}
-use Rattle.yq_scalar.specs.Keys.{HasUniqueKeys, depth}
+use Rattle.yq_scalar.specs.Keys.{depth}
+use Rattle.yq_scalar.specs.Shapes.{IsTree}
 use Rattle.yq_scalar.specs.Tree.{Node, alias, scalar, list, map}
+use Rattle.yq_tree.specs.Anchors.{names_of}
 use Rattle.yq_expr.specs.declared.program.Operator.{Operator}
 use Rattle.yq_expr.specs.declared.program.Operator.TheVariants as operator
 use Rattle.yq_expr.specs.declared.program.CommentPlace.{CommentPlace}
@@ -113,9 +115,11 @@ assignment_of (updates []) = None
 assignment_of (updates (u ∷ [])) = assigned u
 assignment_of (updates (u ∷ (v ∷ us))) = None
 
--- a literal may be written: the keys of each mapping differ, and 64 collections at most are nested (own)
-abbrev pub IsValue : Node → Type 0
-IsValue n = HasUniqueKeys n × (depth n ≤ 64)
+-- a value as it may be written: a tree, whose keys differ in each mapping, without anchors and aliases, in which 64 collections at most are nested (own)
+pub record IsValue (n : Node) : Type 0 where
+  pub tree : IsTree n
+  pub unnamed : names_of n ≡ []
+  pub nested : depth n ≤ 64
 
 -- each literal of a sum is such (own)
 abbrev pub SumHolds : List Term → Type 0
