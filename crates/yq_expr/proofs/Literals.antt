@@ -1,5 +1,5 @@
 -- Literals are trees without anchors and aliases, which nest so far and no further.
-use Rattle.std.proofs.Common.{◌≡◌, ◌≢◌, ℕ, zero, suc, ◌≤◌, List, [], ◌∷◌, ◌++◌, map, Option, Some, None, refl, subst, sym, inl, inr, arith}
+use Rattle.std.proofs.Common.{◌≡◌, ◌≢◌, ℕ, zero, suc, ◌≤◌, List, [], ◌∷◌, ◌++◌, map, Some, None, refl, subst, sym, inl, inr, arith}
 use Rattle.std.specs.List.{All}
 use Rattle.std.specs.Prelude.{⊤, codes}
 use Rattle.yq_scalar.specs.Keys.{AreDistinct, depth, deepest}

@@ -77,7 +77,7 @@ same_path (s ∷ p) (t ∷ q) = same_step s t && same_path p q
 abbrev pub and_at : List Step → Deed → Deeds → Deeds
 and_at p x f q = if same_path p q then Some x else f q
 
--- what a list sets_comment is done (own)
+-- what is done, by a list (own)
 abbrev pub done_by : List (List Step × Deed) → Deeds
 done_by [] q = None
 done_by (x ∷ xs) q = and_at x.0 x.1 (done_by xs) q

@@ -1,9 +1,7 @@
 -- Whether operations fit documents: nothing refuses them (own).
-use Rattle.std.specs.Prelude.{◌≡◌, ⊤, ◌⊎◌, ℕ, suc, true, false, List, [], ◌∷◌, length, slice_get, Option, Some, None}
-use Rattle.std.specs.Str.{bytes_eq}
+use Rattle.std.specs.Prelude.{◌≡◌, ⊤, ℕ, suc, true, false, List, [], ◌∷◌, length, slice_get, Option, Some, None}
 use Rattle.yq_scalar.specs.Paths as paths
 use Rattle.yq_scalar.specs.Paths.{To, child_at, node_at}
-use Rattle.yq_scalar.specs.Shapes.{IsTree}
 use Rattle.yq_scalar.specs.Tree as tree
 use Rattle.yq_scalar.specs.Tree.{Node, alias, scalar, list, Children, none, child}
 use Rattle.yq_tree.specs.Anchors.{names_of}
@@ -13,7 +11,6 @@ use Rattle.yq_expr.specs.declared.program.CommentPlace.TheVariants as comments
 use Rattle.yq_expr.specs.After.{document_of, after_op}
 use Rattle.yq_expr.specs.Changes.{Room, is_long, has_long_key, is_deep, is_used_inside, is_used_in, is_comment}
 use Rattle.yq_expr.specs.Operations.{Operation, replace, append, remove, line_comment, head_comment}
-use Rattle.yq_expr.specs.Program.{Term, literal, found, Update, assign, delete, comment}
 
 -- a value may be written below so many collections: its keys are short enough, and it isn't too deep (own)
 abbrev pub IsWritable : ℕ → Node → Type 0
@@ -49,38 +46,3 @@ Fits rooms op docs = (d : Document) × (slice_get docs (document_of op) ≡ Some
 abbrev pub AllFit : (ℕ → Room) → List Operation → List Document → Type 0
 AllFit rooms [] docs = ⊤
 AllFit rooms (op ∷ ops) docs = Fits rooms op docs × AllFit rooms ops (after_op rooms op docs)
-
--- ---- values
-
-abbrev mutual
-  -- some alias of that name is in a node (own)
-  pub Mentions : List ℕ → Node → Type 0
-  Mentions a (alias name) = bytes_eq a name ≡ true
-  Mentions a (scalar anchor kind text) = ⊥
-  Mentions a (list anchor cs) = AnyMentions a cs
-  Mentions a (tree.map anchor cs) = AnyMentions a cs
-
-  -- the same of items or entries (own)
-  pub AnyMentions : List ℕ → Children → Type 0
-  AnyMentions a none = ⊥
-  AnyMentions a (child label n cs) = Mentions a n ⊎ AnyMentions a cs
-
--- a node without aliases (own)
-abbrev pub HasNoAlias : Node → Type 0
-HasNoAlias n = (a : List ℕ) → Mentions a n → ⊥
-
--- a tree without aliases (own)
-abbrev pub IsPure : Node → Type 0
-IsPure v = IsTree v × HasNoAlias v
-
--- each literal of a sum is such (own)
-abbrev pub TermsArePure : List Term → Type 0
-TermsArePure [] = ⊤
-TermsArePure (literal v ∷ ts) = IsPure v × TermsArePure ts
-TermsArePure (found pipe ∷ ts) = TermsArePure ts
-
--- each literal of an update is such (own)
-abbrev pub UpdateIsPure : Update → Type 0
-UpdateIsPure (assign left op right) = TermsArePure right
-UpdateIsPure (delete left) = ⊤
-UpdateIsPure (comment left place text) = ⊤

@@ -40,7 +40,7 @@ is_removal (assign left operator right) = false
 is_removal (delete left) = true
 is_removal (comment left place text) = false
 
--- changes in the order in which they are made: removals are made appends to first (own)
+-- changes in the order in which they are made: removals are made last to first (own)
 abbrev pub ordered : Bool → List Changed → List Changed
 ordered true cs = reverse cs
 ordered false cs = cs

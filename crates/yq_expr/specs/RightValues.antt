@@ -51,7 +51,7 @@ as_items (scalar anchor kind text) = child (new_label None) (scalar anchor kind 
 as_items (list anchor cs) = cs
 as_items (map anchor cs) = child (new_label None) (map anchor cs) none
 
--- entries with a value for a key: a present key's value is replaced, a new key goes appends (own)
+-- entries with a value for a key: a present key's value is replaced, a new key goes last (own)
 abbrev pub with_entry : Option (List ℕ) → Node → Children → Children
 with_entry None v cs = append_child (new_label None) v cs
 with_entry (Some k) v cs = if is_some (child_at (To k) cs) then change_child (To k) (λ old. v) cs else append_child (new_label (Some k)) v cs

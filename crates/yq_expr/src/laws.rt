@@ -1,5 +1,5 @@
 //! Laws of expressions.
-ghost use Rattle.std.specs.Prelude.{◌≡◌, ℕ, List};
+ghost use Rattle.std.specs.Prelude.{◌≡◌, ℕ, List, [], ◌∷◌};
 ghost use Rattle.yq_scalar.specs.PathOrder.{Apart};
 ghost use Rattle.yq_scalar.specs.Paths.{Step as TreeStep, change, node_at};
 ghost use Rattle.yq_scalar.specs.Shapes.{IsTree};
@@ -7,7 +7,7 @@ ghost use Rattle.yq_scalar.specs.Tree.{Node};
 ghost use Rattle.yq_tree.specs.Documents.{Document};
 ghost use Rattle.yq_expr.specs.After.{all_after};
 ghost use Rattle.yq_expr.specs.Changes.{Room};
-ghost use Rattle.yq_expr.specs.Fits.{AllFit, UpdateIsPure};
+ghost use Rattle.yq_expr.specs.Fits.{AllFit};
 ghost use Rattle.yq_expr.specs.Judgement.{gives, refuses};
 ghost use Rattle.yq_expr.specs.Meaning.{AreReady, meaning};
 ghost use Rattle.yq_expr.specs.Operations.{Operation};
@@ -16,7 +16,7 @@ ghost use Rattle.yq_expr.specs.Pipes.{places};
 ghost use Rattle.yq_expr.specs.Places.{Place};
 ghost use Rattle.yq_expr.specs.PlacesApart.{AreApart, AreIn};
 ghost use Rattle.yq_expr.specs.Plans as plans;
-ghost use Rattle.yq_expr.specs.Program.{Program as Outline, Stage as PipeStage, Update as Change};
+ghost use Rattle.yq_expr.specs.Program.{Program as Outline, Stage as PipeStage, Update as Change, UpdatesHold};
 ghost use Rattle.yq_expr.specs.declared.refusal.Refusal.{Refusal as Why};
 
 /// No text derives two programs.
@@ -49,8 +49,8 @@ pub fn plan_refused()
     ensures only { (u : Change) (rooms : ℕ → Room) (docs : List Document) (why : Why) → meaning u rooms docs ≡ refuses why → plans.plan u rooms docs ≡ refuses why }
 {}
 
-/// Each operation of a plan fits at its turn, where each literal is a tree
-/// without aliases.
+/// Each operation of a plan fits at its turn, where each literal is a value, as
+/// those of a parsed expression are.
 pub fn plan_fits()
-    ensures { (u : Change) (rooms : ℕ → Room) (docs : List Document) (ops : List Operation) → AreReady rooms 0 docs → UpdateIsPure u → plans.plan u rooms docs ≡ gives ops → AllFit rooms ops docs }
+    ensures { (u : Change) (rooms : ℕ → Room) (docs : List Document) (ops : List Operation) → AreReady rooms 0 docs → UpdatesHold (u ∷ []) → plans.plan u rooms docs ≡ gives ops → AllFit rooms ops docs }
 {}

@@ -14,7 +14,7 @@ use Rattle.yq_expr.proofs.updates.ChildPlaces.{child_tree, children_tree}
 use Rattle.yq_expr.proofs.updates.PathLaws.{apart_root, cond_true, cond_false, bytes_refl, bytes_same}
 use Rattle.yq_expr.proofs.updates.Spares.{IsSpared, Spares, spares_root, spares_under, spares_behind, nothing, idle, child_done, deeds_same}
 use Rattle.yq_expr.proofs.updates.Folds.{path_same, apart_irrefl, apart_sym}
-use Rattle.yq_expr.proofs.updates.Single.{one_becomes}
+use Rattle.yq_expr.proofs.updates.OneAt.{one_becomes}
 
 -- ---- the child to which a step leads
 
@@ -68,7 +68,8 @@ find_key : (k : List ℕ) (f : Deeds) → f (To k ∷ []) ≡ None → (i : ℕ)
 find_key k f free i none = refl
 find_key k f free i (child label n cs) = go label.key label.head_comment label.line_comment (find_key k f free (suc i) cs)
   where
-    there : (hc : List (List ℕ)) (lc : Option (List ℕ)) → child_at (To k) (child_done (under (To k) f) (record { key = Some k; head_comment = hc; line_comment = lc }) n (each_at_once f (suc i) cs)) ≡ done_child (To k) f (cond (key_is k (Some k)) (Some n) (child_at (To k) cs))
+    there : (hc : List (List ℕ)) (lc : Option (List ℕ)) → child_at (To k) (child_done (under (To k) f)
+        (record { key = Some k; head_comment = hc; line_comment = lc }) n (each_at_once f (suc i) cs)) ≡ done_child (To k) f (cond (key_is k (Some k)) (Some n) (child_at (To k) cs))
     there hc lc =
         ap (λ (d : Option Deed). child_at (To k) (first_by d (Some k) hc lc (at_once (under (To k) f) n) (each_at_once f (suc i) cs))) free
         ∙ (cond_true (key_is k (Some k)) (Some (at_once (under (To k) f) n)) (child_at (To k) (each_at_once f (suc i) cs)) (bytes_refl k)
@@ -84,21 +85,26 @@ find_key k f free i (child label n cs) = go label.key label.head_comment label.l
         child_at (To k) (child_done (under (step_by i o) f) (record { key = o; head_comment = hc; line_comment = lc }) n (each_at_once f (suc i) cs)) ≡ done_child (To k) f (cond (key_is k o) (Some n) (child_at (To k) cs))
     go None hc lc ih = other None hc lc refl ih
     go (Some j) hc lc ih = elim (is_true (bytes_eq j k)) [
-      | inl same ↦ subst (λ (c : List ℕ). child_at (To k) (child_done (under (To c) f) (record { key = Some c; head_comment = hc; line_comment = lc }) n (each_at_once f (suc i) cs)) ≡ done_child (To k) f (cond (key_is k (Some c)) (Some n) (child_at (To k) cs))) (sym (bytes_same j k same)) (there hc lc)
+      | inl same ↦ subst (λ (c : List ℕ). child_at (To k) (child_done (under (To c) f) (record { key = Some c; head_comment = hc; line_comment = lc }) n (each_at_once f (suc i) cs)) ≡
+          done_child (To k) f (cond (key_is k (Some c)) (Some n) (child_at (To k) cs))) (sym (bytes_same j k same)) (there hc lc)
       | inr differs ↦ other (Some j) hc lc differs ih
     ]
 
-find_item : (r m : ℕ) (f : Deeds) → f (Nth m ∷ []) ≡ None → ((i : ℕ) → f (Nth i ∷ []) ≡ Some goes → m < i) → (i : ℕ) → i + r ≡ m → (cs : Children) → AreItems cs → child_at (Nth r) (each_at_once f i cs) ≡ done_child (Nth m) f (child_at (Nth r) cs)
+find_item : (r m : ℕ) (f : Deeds) → f (Nth m ∷ []) ≡ None → ((i : ℕ) → f (Nth i ∷ []) ≡ Some goes → m < i) → (i : ℕ) → i + r ≡ m → (cs : Children) → AreItems cs → child_at (Nth r)
+    (each_at_once f i cs) ≡ done_child (Nth m) f (child_at (Nth r) cs)
 find_item r m f free behind i is none items = refl
 find_item zero m f free behind i is (child label n cs) items =
     let same : m ≡ i = omega (arith, is) in
     subst (λ (j : ℕ). child_at (Nth 0) (each_at_once f i (child label n cs)) ≡ done_child (Nth j) f (child_at (Nth 0) (child label n cs))) (sym same)
-    (subst (λ (o : Option (List ℕ)). child_at (Nth 0) (child_done (under (step_by i o) f) (record { key = o; head_comment = label.head_comment; line_comment = label.line_comment }) n (each_at_once f (suc i) cs)) ≡ done_child (Nth i) f (cond (is_item o) (Some n) (child_at (Nth 0) cs))) (sym items.0)
+    (subst (λ (o : Option (List ℕ)). child_at (Nth 0) (child_done (under (step_by i o) f) (record { key = o; head_comment = label.head_comment; line_comment = label.line_comment }) n (each_at_once f (suc i) cs)) ≡
+    done_child (Nth i) f (cond (is_item o) (Some n) (child_at (Nth 0) cs))) (sym items.0)
     (ap (λ (d : Option Deed). child_at (Nth 0) (first_by d None label.head_comment label.line_comment (at_once (under (Nth i) f) n) (each_at_once f (suc i) cs))) (subst (λ (j : ℕ). f (Nth j ∷ []) ≡ None) same free)))
 find_item (suc r) m f free behind i is (child label n cs) items =
     let next : suc i + r ≡ m = omega (arith, is) in
-    subst (λ (o : Option (List ℕ)). child_at (Nth (suc r)) (child_done (under (step_by i o) f) (record { key = o; head_comment = label.head_comment; line_comment = label.line_comment }) n (each_at_once f (suc i) cs)) ≡ done_child (Nth m) f (child_at (Nth r) cs)) (sym items.0)
-    (find_past_item r (f (Nth i ∷ [])) (λ e. let later : m < i = behind i e in absurd (omega (arith, is, later))) (record { key = None; head_comment = label.head_comment; line_comment = label.line_comment }) (at_once (under (Nth i) f) n) (each_at_once f (suc i) cs)
+    subst (λ (o : Option (List ℕ)). child_at (Nth (suc r)) (child_done (under (step_by i o) f)
+    (record { key = o; head_comment = label.head_comment; line_comment = label.line_comment }) n (each_at_once f (suc i) cs)) ≡ done_child (Nth m) f (child_at (Nth r) cs)) (sym items.0)
+    (find_past_item r (f (Nth i ∷ [])) (λ e. let later : m < i = behind i e in absurd (omega (arith, is, later))) (record { key = None; head_comment = label.head_comment; line_comment = label.line_comment })
+    (at_once (under (Nth i) f) n) (each_at_once f (suc i) cs)
     ∙ find_item r m f free behind (suc i) next cs items.1)
 
 find_each : (s : Step) (f : Deeds) → f (s ∷ []) ≡ None → ((m i : ℕ) → s ≡ Nth m → f (Nth i ∷ []) ≡ Some goes → m < i) → (cs : Children) → AreItems cs ⊎ AreEntries cs → child_at s (each_at_once f 0 cs) ≡ done_child s f (child_at s cs)

@@ -189,7 +189,8 @@ no_item : (h : Label → Node → Children → Children) (g : Deeds) (i r : ℕ)
 no_item h g i r none entries = refl
 no_item h g i r (child label n cs) entries =
     let k : List ℕ = entries.0.0 in
-    subst (λ (o : Option (List ℕ)). at_child (Nth r) h (first_done g i o label.head_comment label.line_comment n (each_at_once g (suc i) cs)) ≡ first_done g i o label.head_comment label.line_comment n (each_at_once g (suc i) cs)) (sym entries.0.1)
+    subst (λ (o : Option (List ℕ)). at_child (Nth r) h (first_done g i o label.head_comment label.line_comment n (each_at_once g (suc i) cs)) ≡
+    first_done g i o label.head_comment label.line_comment n (each_at_once g (suc i) cs)) (sym entries.0.1)
     (past_entry r h k label.head_comment label.line_comment (g (To k ∷ [])) (at_once (under (To k) g) n) (each_at_once g (suc i) cs) (λ j. no_item h g (suc i) j cs entries.1))
 
 no_nth : (m i : ℕ) (cs : Children) → AreEntries cs → HasNone (Nth m) i cs

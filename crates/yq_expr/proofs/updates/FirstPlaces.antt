@@ -76,7 +76,8 @@ lying_none s x p (q ∷ qs) b d l = ((λ e. lying_other s x p l.0.0 b d (sym l.0
 abbrev LeadsFirst : Node → paths.Step → (Place → Judgement (List Place)) → Type 0
 LeadsFirst root s f = (p : Place) (qs : List Place) → IsTree p.node → IsIn root p → f p ≡ gives qs → NoPlaceLater s qs
 
-each_at_none : (root : Node) (f : Place → Judgement (List Place)) → LeadsSo root f → (s : paths.Step) (x : List paths.Step) (ps qs : List Place) → IsBeforeAll x ps → AreSound root ps → NoPlaceAt s ps → for_each f ps ≡ gives qs → NoPlaceAt s qs
+each_at_none : (root : Node) (f : Place → Judgement (List Place)) → LeadsSo root f → (s : paths.Step) (x : List paths.Step) (ps qs : List Place) → IsBeforeAll x ps → AreSound root ps → NoPlaceAt s ps →
+    for_each f ps ≡ gives qs → NoPlaceAt s qs
 each_at_none root f so s x [] qs b t n h = subst (NoPlaceAt s) (gives_same h) tt
 each_at_none root f so s x (p ∷ ps) qs b t n h =
     let one = then_gives (λ first. and_then (λ others. gives (first ++ others)) (for_each f ps)) (f p) qs h in
@@ -136,7 +137,8 @@ found_later s step p j qs h =
     go None = miss_later s step p
     go (Some y) = tt
 
-all_later : (root : Node) (s : paths.Step) → IsFirstStep root s → (p : Place) (n : Node) → p.node ≡ n → IsTree p.node → IsIn root p → (qs : List Place) → and_then (λ xs. gives (map (child_place p) xs)) (all_steps n) ≡ gives qs → NoPlaceLater s qs
+all_later : (root : Node) (s : paths.Step) → IsFirstStep root s → (p : Place) (n : Node) → p.node ≡ n → IsTree p.node → IsIn root p → (qs : List Place) → and_then (λ xs. gives (map (child_place p) xs))
+    (all_steps n) ≡ gives qs → NoPlaceLater s qs
 all_later root s first p (alias name) is tree at qs h = absurd (cc)
 all_later root s first p (scalar anchor kind text) is tree at qs h =
     let x = then_gives (λ (xs : List (paths.Step × Node)). gives (map (child_place p) xs)) (all_steps (scalar anchor kind text)) qs h in

@@ -16,7 +16,7 @@ use Rattle.yq_expr.specs.declared.program.CommentPlace.TheVariants as comments
 use Rattle.yq_expr.proofs.updates.AtOnce.{one_more}
 use Rattle.yq_expr.proofs.updates.PathLaws.{bytes_same, parts_not}
 use Rattle.yq_expr.proofs.updates.Spares.{idle, IsSpared, Spares, deeds_same}
-use Rattle.yq_expr.proofs.updates.Single.{roots_after, roots_join, change_after}
+use Rattle.yq_expr.proofs.updates.OneAt.{roots_after, roots_join, change_after}
 use Rattle.std.proofs.lemmas.Bool.{false≢true, eqb-true}
 use Rattle.yq_scalar.specs.Paths.{To, Nth}
 
@@ -123,7 +123,7 @@ module _ (block : Bool) (lead : List (List ℕ)) where
   abbrev pub deeds_of : List Changed → Deeds
   deeds_of cs = done_by (map (placed_deed block lead) cs)
 
-  -- one done appends is done as if it were the first, where it is apart from the others
+  -- one done last is done as if it were the first, where it is apart from the others
   done_last : (cs : List Changed) (c : Changed) → ToEach Apart c.0 cs → deeds_of (cs ++ c ∷ []) ≡ and_at c.0 (deed_of block lead c) (deeds_of cs)
   done_last [] c h = refl
   done_last (d ∷ ds) c h =
@@ -133,7 +133,8 @@ module _ (block : Bool) (lead : List (List ℕ)) where
       exchanged : (q : List Step) → and_at d.0 (deed_of block lead d) (and_at c.0 (deed_of block lead c) (deeds_of ds)) q ≡ and_at c.0 (deed_of block lead c) (and_at d.0 (deed_of block lead d) (deeds_of ds)) q
       exchanged q = go (same_path d.0 q) (same_path c.0 q) refl refl
         where
-          go : (a b : Bool) → same_path d.0 q ≡ a → same_path c.0 q ≡ b → cond a (Some (deed_of block lead d)) (cond b (Some (deed_of block lead c)) (deeds_of ds q)) ≡ cond b (Some (deed_of block lead c)) (cond a (Some (deed_of block lead d)) (deeds_of ds q))
+          go : (a b : Bool) → same_path d.0 q ≡ a → same_path c.0 q ≡ b → cond a (Some (deed_of block lead d)) (cond b (Some (deed_of block lead c)) (deeds_of ds q)) ≡ cond b (Some (deed_of block lead c))
+              (cond a (Some (deed_of block lead d)) (deeds_of ds q))
           go true true x y = absurd (apart_irrefl c.0 (subst (Apart c.0) (path_same d.0 q x ∙ sym (path_same c.0 q y)) h.0))
           go true false x y = refl
           go false true x y = refl
@@ -176,7 +177,7 @@ module _ (block : Bool) (lead : List (List ℕ)) where
   ops_join doc [] ds = refl
   ops_join doc (c ∷ cs) ds = ap (λ ops. change_ops doc c ++ ops) (ops_join doc cs ds) ∙ sym (append_assoc (change_ops doc c) (ops_of doc cs) (ops_of doc ds))
 
-  -- those of changes from the appends one to the first make all of them at once, where each is spared by what is done later
+  -- those of changes from the last one to the first make all of them at once, where each is spared by what is done later
   pub fold_back : (doc : ℕ) (n : Node) → IsTree n → (cs : List Changed) → AreSpared cs → roots_after block lead (ops_of doc (reverse cs)) n ≡ at_once (deeds_of cs) n
   fold_back doc n tree [] h = sym (idle (deeds_of []) n (λ q. refl))
   fold_back doc n tree (c ∷ cs) h =

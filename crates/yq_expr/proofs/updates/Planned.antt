@@ -20,7 +20,7 @@ use Rattle.yq_expr.specs.RightValues.{is_null, sum, right_value}
 use Rattle.yq_scalar.specs.PathOrder.{Before}
 use Rattle.yq_scalar.specs.Shapes.{IsTree}
 use Rattle.yq_expr.proofs.updates.Folds.{ToEach, InPairs, IsKept, MayFold}
-use Rattle.yq_expr.proofs.updates.Leads.{NoneAt, NoneLater, FirstIn, IsFirst}
+use Rattle.yq_expr.proofs.updates.RootLeads.{NoneAt, NoneLater, FirstIn, IsFirst}
 use Rattle.yq_expr.proofs.JudgementLaws.{then_gives, gives_same}
 use Rattle.yq_expr.proofs.updates.FirstPlaces.{NoPlaceAt, NoPlaceLater, IsFirstStep, places_first}
 use Rattle.yq_expr.proofs.updates.PipePlaces.{places_apart}

@@ -1,4 +1,4 @@
-use Rattle.yq_expr.proofs.updates.FitPlan.{plan_fits}
+use Rattle.yq_expr.proofs.updates.PlanFits.{plan_fits}
 use Rattle.yq_expr.proofs.laws.plan_fits.Goals as goal
 
 pub returns : goal.returns

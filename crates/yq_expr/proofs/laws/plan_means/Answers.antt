@@ -1,4 +1,4 @@
-use Rattle.yq_expr.proofs.updates.Theorem.{plan_means}
+use Rattle.yq_expr.proofs.updates.PlanMeans.{plan_means}
 use Rattle.yq_expr.proofs.laws.plan_means.Goals as goal
 
 pub returns : goal.returns

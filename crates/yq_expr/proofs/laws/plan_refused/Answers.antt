@@ -1,4 +1,4 @@
-use Rattle.yq_expr.proofs.updates.Theorem.{plan_refused, meaning_refused}
+use Rattle.yq_expr.proofs.updates.PlanMeans.{plan_refused, meaning_refused}
 use Rattle.yq_expr.proofs.laws.plan_refused.Goals as goal
 
 pub returns-clause-refused : goal.returns-clause-refused

@@ -14,7 +14,7 @@ use Rattle.yq_expr.specs.Plans.{add_op, change_ops, ops_of, is_removal, ordered,
 use Rattle.yq_tree.specs.TreeEdits.{change_nth}
 use Rattle.yq_expr.specs.Program.{Update}
 use Rattle.yq_expr.specs.Changes as changes
-use Rattle.yq_expr.proofs.updates.Leads.{document_after, document_folds}
+use Rattle.yq_expr.proofs.updates.RootLeads.{document_after, document_folds}
 use Rattle.yq_expr.proofs.JudgementLaws.{then_gives, gives_same}
 use Rattle.yq_expr.proofs.updates.Planned.{AreOrdered, update_ordered, removal_first}
 

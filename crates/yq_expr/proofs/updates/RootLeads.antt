@@ -18,7 +18,7 @@ use Rattle.yq_expr.specs.Changes as changes
 use Rattle.yq_expr.proofs.updates.AtOnce.{one_more}
 use Rattle.yq_expr.proofs.updates.Spares.{idle, spares_root}
 use Rattle.yq_expr.proofs.updates.Folds.{ToEach, InPairs, IsKept, AreKept, IsGone, MayFold, AreSpared, deeds_of, reverse-cons, path_same, AreGone, ops_join, folds, spared_in_order}
-use Rattle.yq_expr.proofs.updates.Single.{roots_after, change_after}
+use Rattle.yq_expr.proofs.updates.OneAt.{roots_after, change_after}
 
 -- what operations make of a document, one after the other
 abbrev pub document_after : Bool → List Operation → Document → Document
@@ -131,7 +131,7 @@ leaving block (op ∷ ops) l d is =
     ∙ (ap (λ (t : List (List ℕ)). record d { lead = t; root = all }) (lead_twice block (children_of root) (children_of all) d.lead (λ h. ops_leave block lead ops l.1 root h))
     ∙ ap (λ (n : Node). with_tree block n d) same)
 
--- a change at the root is the only_copy one, or each operation leaves items and entries
+-- a change at the root is the only one, or each operation leaves items and entries
 abbrev pub PutsOrLeaves : ℕ → List Changed → Type 0
 PutsOrLeaves doc cs = ((v : Node) × (cs ≡ ([], replaces v) ∷ [])) ⊎ AllLeave (ops_of doc cs)
 
@@ -254,7 +254,8 @@ module _ (block : Bool) (doc : ℕ) (d : Document) (is : IsLed block d) (tree : 
   first_rest (child label n ds) c [] h = tt
   first_rest (child label n ds) c (e ∷ es) h = h.1
 
-  gone_ops : (c : Changed) (lead : List (List ℕ)) → IsGone c.1 → (n : Node) → document_after block (change_ops doc c) (record { lead = lead; root = n }) ≡ record { lead = lead_by block (children_of (roots_after block lead (change_ops doc c) n)) lead; root = roots_after block lead (change_ops doc c) n }
+  gone_ops : (c : Changed) (lead : List (List ℕ)) → IsGone c.1 → (n : Node) → document_after block (change_ops doc c)
+      (record { lead = lead; root = n }) ≡ record { lead = lead_by block (children_of (roots_after block lead (change_ops doc c) n)) lead; root = roots_after block lead (change_ops doc c) n }
   gone_ops (p, replaces v) lead g n = absurd g
   gone_ops (p, adds xs) lead g n = absurd g
   gone_ops (p, changes.removes) lead g n = refl

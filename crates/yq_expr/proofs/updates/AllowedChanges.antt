@@ -21,7 +21,7 @@ use Rattle.yq_expr.specs.Program.{Step, key, index, each, Condition, Stage, path
 use Rattle.yq_expr.proofs.JudgementLaws.{then_gives, gives_same}
 use Rattle.yq_expr.proofs.updates.ChildPlaces.{node_further}
 use Rattle.yq_expr.proofs.updates.PathLaws.{bytes_differ, bytes_same, cond_false, none_some}
-use Rattle.yq_expr.proofs.updates.Fitting.{FitAdds}
+use Rattle.yq_expr.proofs.updates.FitsAtTurn.{FitAdds}
 use Rattle.std.proofs.lemmas.Bool.{false≢true}
 
 -- ---- what is missing
@@ -147,8 +147,11 @@ abbrev pub Unrefused : Node → List paths.Step → List Addition → Type 0
 Unrefused root p xs = (list_any writes_long_key xs ≡ false) × (list_any (λ x. is_deep (suc (length p)) (value_in x)) xs ≡ false) × (list_any (overwrites_used root p) xs ≡ false)
 
 unrefused_rest : (root : Node) (p : List paths.Step) (x : Addition) (xs : List Addition) → Unrefused root p (x ∷ xs) → Unrefused root p xs
-unrefused_rest root p x xs h =
-    ((or_false (writes_long_key x) (list_any writes_long_key xs) h.0).1, (or_false (is_deep (suc (length p)) (value_in x)) (list_any (λ y. is_deep (suc (length p)) (value_in y)) xs) h.1).1, (or_false (overwrites_used root p x) (list_any (overwrites_used root p) xs) h.2).1)
+unrefused_rest root p x xs h = (
+  (or_false (writes_long_key x) (list_any writes_long_key xs) h.0).1,
+  (or_false (is_deep (suc (length p)) (value_in x)) (list_any (λ y. is_deep (suc (length p)) (value_in y)) xs) h.1).1,
+  (or_false (overwrites_used root p x) (list_any (overwrites_used root p) xs) h.2).1,
+)
 
 -- items for a sequence
 items_fit : (root : Node) (p : List paths.Step) (a : Option (List ℕ)) (cs ds : Children) → AreItems ds → Unrefused root p (additions none ds) → FitAdds root p (list a cs) (additions none ds)

@@ -94,7 +94,8 @@ one_becomes [] g n = refl
 one_becomes (s ∷ []) g n = within_same (at_child s (λ label m cs. child label (g m) cs)) (change_child s g) (at_child_change s g) n
 one_becomes (s ∷ (t ∷ p)) g n =
     within_same (at_child s (λ label m cs. child label (one_at (t ∷ p) (becomes g) m) cs)) (change_child s (change (t ∷ p) g))
-    (λ cs. at_child_same s (λ label m ds. child label (one_at (t ∷ p) (becomes g) m) ds) (λ label m ds. child label (change (t ∷ p) g m) ds) (λ label m ds. ap (λ k. child label k ds) (one_becomes (t ∷ p) g m)) cs ∙ at_child_change s (change (t ∷ p) g) cs) n
+    (λ cs. at_child_same s (λ label m ds. child label (one_at (t ∷ p) (becomes g) m) ds) (λ label m ds. child label (change (t ∷ p) g m) ds) (λ label m ds. ap (λ k. child label k ds) (one_becomes (t ∷ p) g m)) cs
+    ∙ at_child_change s (change (t ∷ p) g) cs) n
 
 -- what is done among the items or entries where a path ends
 module _ (x : Deed) (e : Step → Children → Children) (root : (n : Node) → done_at (Some x) n n ≡ n)
@@ -104,7 +105,8 @@ module _ (x : Deed) (e : Step → Children → Children) (root : (n : Node) → 
   one_end (s ∷ []) n = within_same (at_child s (λ label m cs. child_by (Some x) label (done_at (Some x) m m) cs)) (e s) (at s) n
   one_end (s ∷ (t ∷ p)) n =
       within_same (at_child s (λ label m cs. child label (one_at (t ∷ p) x m) cs)) (change_child s (at_end e (t ∷ p)))
-      (λ cs. at_child_same s (λ label m ds. child label (one_at (t ∷ p) x m) ds) (λ label m ds. child label (at_end e (t ∷ p) m) ds) (λ label m ds. ap (λ k. child label k ds) (one_end (t ∷ p) m)) cs ∙ at_child_change s (at_end e (t ∷ p)) cs) n
+      (λ cs. at_child_same s (λ label m ds. child label (one_at (t ∷ p) x m) ds) (λ label m ds. child label (at_end e (t ∷ p) m) ds) (λ label m ds. ap (λ k. child label k ds) (one_end (t ∷ p) m)) cs
+      ∙ at_child_change s (at_end e (t ∷ p)) cs) n
 
 pub one_goes : (p : List Step) (n : Node) → one_at p goes n ≡ at_end remove_child p n
 one_goes p n = one_end goes remove_child (λ m. refl) (λ s cs. at_child_remove s cs) p n

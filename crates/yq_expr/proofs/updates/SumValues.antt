@@ -12,10 +12,10 @@ use Rattle.yq_scalar.specs.Tree.{Label, Node, alias, scalar, list, Children, non
 use Rattle.yq_scalar.specs.Paths.{To, key_is, child_at, change_child, append_child}
 use Rattle.yq_expr.specs.declared.refusal.Refusal.TheVariants.{IntegerRange}
 use Rattle.yq_expr.specs.Judgement.{gives, refuses, and_then}
-use Rattle.yq_expr.specs.Program.{Step, Term, literal, found}
+use Rattle.yq_expr.specs.Program.{SumHolds, Step, Term, literal, found}
 use Rattle.yq_expr.specs.Conditions.{node_there, value_of}
 use Rattle.yq_expr.specs.Copies.{copy_at}
-use Rattle.yq_expr.specs.Fits.{IsPure, TermsArePure}
+use Rattle.yq_expr.proofs.updates.Mentions.{literal_pure, IsPure}
 use Rattle.yq_expr.specs.Pipes.{pipe_on}
 use Rattle.yq_expr.specs.Places.{Place}
 use Rattle.yq_expr.specs.PlacesApart.{IsIn}
@@ -191,17 +191,17 @@ only_pure root (p ∷ []) v s h = at_pure p v s.0.0 h
 only_pure root (p ∷ (q ∷ qs)) v s h = absurd (cc)
 
 module _ (root : Node) (doc : ℕ) (p : Place) (tree : IsTree p.node) (at : IsIn root p) where
-  term_pure : (t : Term) (ts : List Term) (v : Node) → TermsArePure (t ∷ ts) → term_value doc p t ≡ gives v → IsPure v
-  term_pure (literal w) ts v free h = subst IsPure (gives_same h) free.0
+  term_pure : (t : Term) (ts : List Term) (v : Node) → SumHolds (t ∷ ts) → term_value doc p t ≡ gives v → IsPure v
+  term_pure (literal w) ts v free h = subst IsPure (gives_same h) (literal_pure w free.0)
   term_pure (found pipe) ts v free h =
       let x = then_gives only_copy (pipe_on doc pipe (p ∷ [])) v h in
       only_pure root x.0 v (pipe_good root doc pipe (p ∷ []) x.0 (record { apart = (tt, tt); sound = ((tree, at), tt) }) x.1).sound x.2
 
-  terms_rest : (t : Term) (ts : List Term) → TermsArePure (t ∷ ts) → TermsArePure ts
+  terms_rest : (t : Term) (ts : List Term) → SumHolds (t ∷ ts) → SumHolds ts
   terms_rest (literal w) ts free = free.1
   terms_rest (found pipe) ts free = free
 
-  from_pure : (v : Node) (ts : List Term) (w : Node) → IsPure v → TermsArePure ts → sum_from doc p v ts ≡ gives w → IsPure w
+  from_pure : (v : Node) (ts : List Term) (w : Node) → IsPure v → SumHolds ts → sum_from doc p v ts ≡ gives w → IsPure w
   from_pure v [] w q free h = subst IsPure (gives_same h) q
   from_pure v (t ∷ ts) w q free h =
       let x = then_gives (λ u. and_then (λ s. sum_from doc p s ts) (sum v u)) (term_value doc p t) w h in
@@ -209,7 +209,7 @@ module _ (root : Node) (doc : ℕ) (p : Place) (tree : IsTree p.node) (at : IsIn
       from_pure y.0 ts w (sum_pure v x.0 y.0 q (term_pure t ts x.0 free x.1) y.1) (terms_rest t ts free) y.2
 
   -- what a sum of terms gives is a tree without aliases
-  pub right_pure : (ts : List Term) (v : Node) → TermsArePure ts → right_value doc ts p ≡ gives v → IsPure v
+  pub right_pure : (ts : List Term) (v : Node) → SumHolds ts → right_value doc ts p ≡ gives v → IsPure v
   right_pure [] v free h = subst IsPure (gives_same h) (tt, λ a x. x)
   right_pure (t ∷ ts) v free h =
       let x = then_gives (λ u. sum_from doc p u ts) (term_value doc p t) v h in

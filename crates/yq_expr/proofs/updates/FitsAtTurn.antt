@@ -9,25 +9,28 @@ use Rattle.yq_expr.specs.declared.program.CommentPlace.TheVariants as comments
 use Rattle.yq_expr.specs.After.{root_after}
 use Rattle.yq_expr.specs.Changes.{Addition, appends, overwrites, Change, replaces, adds, sets_comment, Changed, Room, is_long, is_used_inside, is_used_in}
 use Rattle.yq_expr.specs.Deeds.{at_once}
-use Rattle.yq_expr.specs.Fits.{AnyMentions, IsWritable, Takes, IsBelow, MayComment, FitsRoot}
+use Rattle.yq_expr.specs.Fits.{IsWritable, Takes, IsBelow, MayComment, FitsRoot}
+use Rattle.yq_expr.proofs.updates.Mentions.{AnyMentions}
 use Rattle.yq_expr.specs.Meaning.{add_to}
 use Rattle.yq_expr.specs.Operations.{Operation}
 use Rattle.yq_expr.specs.Plans.{add_op, change_ops, ops_of, ordered}
 use Rattle.yq_scalar.specs.PathOrder.{Before, Apart}
 use Rattle.yq_scalar.specs.Shapes.{IsTree}
 use Rattle.yq_expr.specs.Changes as changes
-use Rattle.yq_expr.proofs.updates.Aliases.{MentionsNoMore, inside_less, in_less, AddNone, one_no_more, WritesNone, AllWriteNone, all_bring, at_once_no_more}
+use Rattle.yq_expr.proofs.updates.Aliases.{AddNone, one_no_more, WritesNone, AllWriteNone, all_bring, at_once_no_more}
+use Rattle.yq_expr.proofs.updates.Mentions.{MentionsNoMore, inside_less, in_less}
 use Rattle.yq_expr.proofs.updates.Apart.{node_spared}
 use Rattle.yq_expr.proofs.updates.Folds.{InPairs, MayFold, AreSpared, deeds_of, reverse-cons, ops_join, fold_back, spared_in_order, spared_apart, pairs_apart, pairs_reverse, apart_sym, kept_reverse}
 use Rattle.yq_expr.proofs.updates.ChildPlaces.{node_further}
-use Rattle.yq_expr.proofs.updates.Single.{roots_after, add_after}
+use Rattle.yq_expr.proofs.updates.OneAt.{roots_after, add_after}
 
 -- each operation fits a root at its turn
 abbrev pub AllFitRoot : Bool → List (List ℕ) → Room → List Operation → Node → Type 0
 AllFitRoot block lead room [] n = Unit {0}
 AllFitRoot block lead room (op ∷ ops) n = FitsRoot room op n × AllFitRoot block lead room ops (root_after block lead op n)
 
-fit_join : (block : Bool) (lead : List (List ℕ)) (room : Room) (ops others : List Operation) (n : Node) → AllFitRoot block lead room ops n → AllFitRoot block lead room others (roots_after block lead ops n) → AllFitRoot block lead room (ops ++ others) n
+fit_join : (block : Bool) (lead : List (List ℕ)) (room : Room) (ops others : List Operation) (n : Node) → AllFitRoot block lead room ops n → AllFitRoot block lead room others (roots_after block lead ops n) →
+    AllFitRoot block lead room (ops ++ others) n
 fit_join block lead room [] others n h k = k
 fit_join block lead room (op ∷ ops) others n h k = (h.0, fit_join block lead room ops others (root_after block lead op n) h.1 k)
 
@@ -127,7 +130,7 @@ module _ (block : Bool) (lead : List (List ℕ)) (room : Room) (doc : ℕ) (root
   change_fits (p, sets_comment comments.Line text) r same less w h = ((h.0, h.1, (h.2.0, same ∙ h.2.1)), tt)
   change_fits (p, sets_comment comments.Head text) r same less w h = ((h.0, h.1, (h.2.0, same ∙ h.2.1)), tt)
 
-  -- those of changes from the appends one to the first
+  -- those of changes from the last one to the first
   fits_back : IsTree root → (cs : List Changed) → AreSpared block lead cs → AllWriteNone cs → MayChangeAll room root cs → AllFitRoot block lead room (ops_of doc (reverse cs)) root
   fits_back tree [] s w h = tt
   fits_back tree (c ∷ cs) s w h =
