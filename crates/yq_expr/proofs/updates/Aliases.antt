@@ -1,9 +1,9 @@
 -- No change brings an alias that was not there.
 use Rattle.std.proofs.Common.{◌≡◌, ℕ, suc, ◌⊎◌, Bool, true, false, cond, List, [], ◌∷◌, map, Option, Some, None, refl, subst, inl, inr}
 use Rattle.yq_scalar.specs.Tree as tree
-use Rattle.yq_scalar.specs.Tree.{Label, Node, alias, scalar, list, Children, none, child, children_of}
+use Rattle.yq_scalar.specs.Tree.{Label, Node, alias, scalar, list, Children, none, child}
 use Rattle.yq_scalar.specs.Paths.{Step, To, is_here, further, change_child, append_child, within}
-use Rattle.yq_expr.specs.Changes.{Addition, appends, overwrites, Change, replaces, adds, sets_comment, Changed, refers_to, is_used, is_used_inside, is_used_in, value_in}
+use Rattle.yq_expr.specs.Changes.{Addition, appends, overwrites, Change, replaces, adds, sets_comment, Changed, value_in}
 use Rattle.yq_expr.specs.Deeds.{Deed, becomes, line, head, goes, Deeds, step_to, under, done_at, child_by, inside, each_at_once, at_once, same_path, done_by}
 use Rattle.yq_expr.specs.Meaning.{add_to, add_all, placed_deed, deed_of}
 use Rattle.yq_tree.specs.TreeEdits.{replaced, headed, led, new_label}

@@ -3,9 +3,9 @@ use Rattle.std.proofs.Common.{◌≡◌, ◌≢◌, ℕ, suc, Bool, true, false,
 use Rattle.std.specs.Prelude.{ℤ}
 use Rattle.std.specs.List.{list_any}
 use Rattle.yq_scalar.specs.Tree as tree
-use Rattle.yq_scalar.specs.Tree.{Label, Node, alias, scalar, list, Children, none, child, children_of}
+use Rattle.yq_scalar.specs.Tree.{Node, alias, scalar, list, Children, none, child}
 use Rattle.yq_scalar.specs.Paths as paths
-use Rattle.yq_scalar.specs.Paths.{To, key_is, is_here, further, child_at, node_at, change_child, append_child, within}
+use Rattle.yq_scalar.specs.Paths.{To, key_is, child_at, node_at, change_child, append_child}
 use Rattle.yq_scalar.proofs.Bools.{or_false}
 use Rattle.yq_tree.specs.Anchors.{names_of}
 use Rattle.yq_expr.specs.Judgement.{Judgement, gives, and_then}

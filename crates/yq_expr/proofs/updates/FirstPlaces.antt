@@ -3,7 +3,7 @@ use Rattle.std.proofs.Common.{◌≡◌, ◌≢◌, ℕ, ◌⊎◌, Bool, true, 
 use Rattle.yq_scalar.specs.Tree as tree
 use Rattle.yq_scalar.specs.Tree.{Label, Node, alias, scalar, list, Children, none, child, children_of}
 use Rattle.yq_scalar.specs.Paths as paths
-use Rattle.yq_scalar.specs.Paths.{To, Nth, key_is, is_item, is_here, further, child_at, node_at}
+use Rattle.yq_scalar.specs.Paths.{node_at}
 use Rattle.yq_expr.specs.declared.refusal.Refusal.TheVariants.{NotASequence}
 use Rattle.yq_expr.specs.Judgement.{Judgement, gives, and_then}
 use Rattle.yq_expr.specs.Matching.{Found, in_scalar, key_step, index_step}

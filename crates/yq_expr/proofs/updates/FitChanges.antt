@@ -2,7 +2,7 @@
 use Rattle.std.proofs.Common.{◌≡◌, ℕ, suc, Bool, true, false, cond, ◌&&◌, ◌||◌, List, [], ◌∷◌, ◌++◌, length, Option, Some, None, is_some, refl, sym, ap, subst, ◌∙◌, inl, inr}
 use Rattle.std.specs.List.{list_any}
 use Rattle.yq_scalar.specs.Tree as tree
-use Rattle.yq_scalar.specs.Tree.{Label, Node, alias, scalar, list, Children, none, child, children_of}
+use Rattle.yq_scalar.specs.Tree.{Node, alias, scalar, list, Children, none, child}
 use Rattle.yq_scalar.specs.Paths as paths
 use Rattle.yq_scalar.specs.Paths.{To, child_at, node_at}
 use Rattle.yq_scalar.proofs.Bools.{and_true, or_false}
@@ -12,7 +12,9 @@ use Rattle.yq_expr.specs.declared.program.Operator.TheVariants as operator
 use Rattle.yq_expr.specs.declared.refusal.Refusal.TheVariants.{IndexOutOfRange, NoPlaceForComment, AnchorInUse, TooDeep, KeyTooLong}
 use Rattle.yq_expr.specs.Judgement.{Judgement, gives, refuses, and_then}
 use Rattle.yq_expr.specs.Making.{is_index}
-use Rattle.yq_expr.specs.Changes.{appends, overwrites, Change, replaces, adds, sets_comment, Changed, Room, is_long, has_long_key, is_deep, nested, made, put_below, put_at, addition, additions, added, add_below, add_at, remove_below, remove_at, is_there, comment_at, is_too_long, is_too_deep, is_used_inside, is_used_in, takes_used, allowed, all_allowed, at_each, with_value, changes_at, left_of, changes_in, is_comment, has_comment, value_in}
+use Rattle.yq_expr.specs.Changes.{appends, overwrites, Change, replaces, adds, sets_comment, Changed, Room, is_long, has_long_key, is_deep, nested, made, put_below, put_at, addition, additions, added, add_below, add_at}
+use Rattle.yq_expr.specs.Changes.{remove_below, remove_at, is_there, comment_at, is_too_long, is_too_deep, is_used_inside, is_used_in, takes_used, allowed, all_allowed, at_each, with_value, changes_at, left_of, changes_in}
+use Rattle.yq_expr.specs.Changes.{is_comment, has_comment, value_in}
 use Rattle.yq_expr.proofs.updates.Mentions.{HasNoAlias, IsPure}
 use Rattle.yq_expr.specs.Pipes.{places}
 use Rattle.yq_expr.specs.Places.{Place, root_place}

@@ -2,12 +2,12 @@
 use Rattle.std.proofs.Common.{◌≡◌, ℕ, suc, Bool, true, false, cond, List, [], ◌∷◌, ◌++◌, length, map, reverse, Option, Some, None, option_and_then, refl, sym, ap, subst, ◌∙◌, inl, inr, append-nil, arith, length-append}
 use Rattle.std.proofs.lemmas.List.{reverse-reverse}
 use Rattle.yq_scalar.specs.Tree as tree
-use Rattle.yq_scalar.specs.Tree.{Label, Node, alias, scalar, list, Children, none, child, children_of}
+use Rattle.yq_scalar.specs.Tree.{Node, alias, scalar, list, Children, none, child, children_of}
 use Rattle.yq_scalar.specs.Paths.{Step, To, is_here, further, child_at, node_at, change_child, within, change}
 use Rattle.yq_tree.specs.Anchors.{names_of}
 use Rattle.yq_expr.specs.declared.program.CommentPlace.TheVariants as comments
 use Rattle.yq_expr.specs.After.{root_after}
-use Rattle.yq_expr.specs.Changes.{Addition, appends, overwrites, Change, replaces, adds, sets_comment, Changed, Room, is_long, is_used_inside, is_used_in}
+use Rattle.yq_expr.specs.Changes.{Addition, appends, overwrites, replaces, adds, sets_comment, Changed, Room, is_long, is_used_inside, is_used_in}
 use Rattle.yq_expr.specs.Deeds.{at_once}
 use Rattle.yq_expr.specs.Fits.{IsWritable, Takes, IsBelow, MayComment, FitsRoot}
 use Rattle.yq_expr.proofs.updates.Mentions.{AnyMentions}

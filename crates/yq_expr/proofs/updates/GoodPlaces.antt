@@ -2,7 +2,6 @@
 use Rattle.std.proofs.Common.{◌≡◌, List, [], ◌∷◌, ◌++◌, sym, subst}
 use Rattle.yq_scalar.specs.Tree.{Node}
 use Rattle.yq_scalar.specs.Paths as paths
-use Rattle.yq_scalar.specs.Paths.{To, Nth, key_is, is_item, is_here, further, child_at, node_at}
 use Rattle.yq_expr.specs.Judgement.{Judgement, gives, and_then}
 use Rattle.yq_expr.specs.Places.{Place, for_each}
 use Rattle.yq_expr.specs.PlacesApart.{IsBeforeAll, AreApart, IsIn}

@@ -6,7 +6,7 @@ use Rattle.yq_tree.specs.Documents.{Document}
 use Rattle.yq_expr.specs.declared.refusal.Refusal.TheVariants.{BadCommentText}
 use Rattle.yq_expr.specs.Judgement.{gives, refuses, and_then}
 use Rattle.yq_expr.specs.After.{root_after, done_to, after_op, all_after}
-use Rattle.yq_expr.specs.Changes.{Addition, appends, overwrites, Change, replaces, adds, sets_comment, Changed, Room, is_long, has_long_key, is_deep, nested, made, put_below, put_at, addition, additions, added_entries, added, add_below, add_at, remove_below, remove_at, is_there, comment_at, is_too_long, is_too_deep, is_used_inside, is_used_in, takes_used, allowed, all_allowed, at_each, with_value, changes_at, left_of, changes_in, is_comment, has_comment, changes_from, changes_of, value_in}
+use Rattle.yq_expr.specs.Changes.{replaces, adds, sets_comment, Changed, Room, made, changes_in, has_comment, changes_from, changes_of}
 use Rattle.yq_expr.specs.Fits.{FitsRoot, AllFit}
 use Rattle.yq_expr.specs.Meaning.{changed_at_once, roots_of, AreReady}
 use Rattle.yq_expr.specs.Operations.{Operation}

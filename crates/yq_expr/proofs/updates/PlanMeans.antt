@@ -7,7 +7,7 @@ use Rattle.yq_expr.specs.declared.refusal.Refusal.{Refusal}
 use Rattle.yq_expr.specs.declared.refusal.Refusal.TheVariants.{BadCommentText}
 use Rattle.yq_expr.specs.Judgement.{Judgement, gives, refuses, unbuilt, and_then}
 use Rattle.yq_expr.specs.After.{document_of, done_to, after_op, all_after}
-use Rattle.yq_expr.specs.Changes.{Addition, appends, overwrites, Change, replaces, adds, sets_comment, Changed, Room, has_comment, changes_in, changes_from, changes_of}
+use Rattle.yq_expr.specs.Changes.{Addition, appends, overwrites, replaces, adds, sets_comment, Changed, Room, has_comment, changes_in, changes_from, changes_of}
 use Rattle.yq_expr.specs.Meaning.{changed_at_once, all_changed, roots_of, meaning, AreReady}
 use Rattle.yq_expr.specs.Operations.{Operation}
 use Rattle.yq_expr.specs.Plans.{add_op, change_ops, ops_of, is_removal, ordered, all_ops, plan}

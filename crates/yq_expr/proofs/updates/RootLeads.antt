@@ -6,7 +6,7 @@ use Rattle.yq_scalar.specs.Paths.{Step, To, is_here, further, change_child, rela
 use Rattle.yq_tree.specs.Documents.{Document}
 use Rattle.yq_expr.specs.declared.program.CommentPlace.TheVariants as comments
 use Rattle.yq_expr.specs.After.{root_after, done_to}
-use Rattle.yq_expr.specs.Changes.{Addition, appends, overwrites, Change, replaces, adds, sets_comment, Changed}
+use Rattle.yq_expr.specs.Changes.{Addition, appends, overwrites, replaces, adds, sets_comment, Changed}
 use Rattle.yq_expr.specs.Deeds.{Deed, Deeds, same_path, step_to, done_at, child_by, under, inside, each_at_once, at_once}
 use Rattle.yq_expr.specs.Meaning.{head_of, line_of, deed_of, changed_at_once, IsLed}
 use Rattle.yq_expr.specs.Operations.{Operation, replace, append, remove, line_comment, head_comment}

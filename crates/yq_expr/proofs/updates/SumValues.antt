@@ -8,7 +8,7 @@ use Rattle.yq_scalar.specs.declared.kind.Kind.TheVariants as kinds
 use Rattle.yq_scalar.specs.Numbers.{is_i64}
 use Rattle.yq_scalar.specs.SchemaReading.{int_value}
 use Rattle.yq_scalar.specs.Tree as tree
-use Rattle.yq_scalar.specs.Tree.{Label, Node, alias, scalar, list, Children, none, child, children_of}
+use Rattle.yq_scalar.specs.Tree.{Label, Node, alias, scalar, list, Children, none, child}
 use Rattle.yq_scalar.specs.Paths.{To, key_is, child_at, change_child, append_child}
 use Rattle.yq_expr.specs.declared.refusal.Refusal.TheVariants.{IntegerRange}
 use Rattle.yq_expr.specs.Judgement.{gives, refuses, and_then}
