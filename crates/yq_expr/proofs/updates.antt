@@ -13,6 +13,7 @@ pub mod Mentions
 pub mod OneAt
 pub mod PathLaws
 pub mod PipePlaces
+pub mod PlanAnswers
 pub mod PlanFits
 pub mod PlanMeans
 pub mod Planned
