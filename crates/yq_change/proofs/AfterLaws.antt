@@ -1,0 +1,70 @@
+-- A changed text, told as a tree with the lead that goes with it.
+use Rattle.std.proofs.Common.{◌≡◌, ℕ, zero, suc, List, [], ◌∷◌, map, Bool, true, false, Some, refl, sym, ap, ◌∙◌}
+use Rattle.std.specs.List.{slice_get}
+use Rattle.yq_scalar.specs.Paths.{change_child, within}
+use Rattle.yq_scalar.specs.Tree.{Node, Children, none, child, children_of}
+use Rattle.yq_rows.specs.Rows.{Part}
+use Rattle.yq_tree.specs.Documents.{Document, document_parts, lead_of}
+use Rattle.yq_tree.specs.Reading.{document_of, root_of}
+use Rattle.yq_change.specs.After.{EndIsChange, with_root_after, AfterBlock, AfterKept, ChangedAlike}
+use Rattle.yq_change.specs.Changed.{changed}
+use Rattle.yq_change.specs.Edited.{first_above}
+use Rattle.yq_change.proofs.ChangedLaws.{document_put}
+use Rattle.yq_change.proofs.EditedLaws.{root_has_lead}
+use Rattle.yq_tree.specs.TreeEdits.{change_nth, lead_by}
+
+pub end_is_change : EndIsChange
+end_is_change g [] s n = refl
+end_is_change g (t ∷ []) s n = refl
+end_is_change g (t ∷ (u ∷ path)) s n = ap (λ (h : Node → Node). within (change_child t h) n) (λ i m. end_is_change g (u ∷ path) s m i)
+
+part_same : {x y : Part} → Some x ≡ Some y → x ≡ y
+part_same e = cc
+
+head_same : {x y : Document} {xs ys : List Document} → x ∷ xs ≡ y ∷ ys → x ≡ y
+head_same e = cc
+
+tail_same : {x y : Document} {xs ys : List Document} → x ∷ xs ≡ y ∷ ys → xs ≡ ys
+tail_same e = cc
+
+-- document k of a changed list
+nth_is : (k : ℕ) (p q : Part) (f : Document → Document) (ps : List Part) → slice_get ps k ≡ Some p → map document_of (change_nth k (λ x. q) ps) ≡ change_nth k f (map document_of ps) →
+    document_of q ≡ f (document_of p)
+nth_is k p q f [] e same = absurd (cc)
+nth_is zero p q f (x ∷ ps) e same = head_same same ∙ ap (λ y. f (document_of y)) (part_same e)
+nth_is (suc k) p q f (x ∷ ps) e same = nth_is k p q f ps e (tail_same same)
+
+-- two changes that do the same to document k
+nth_same : (k : ℕ) (p : Part) (f g : Document → Document) (ps : List Part) → slice_get ps k ≡ Some p → f (document_of p) ≡ g (document_of p) →
+    change_nth k f (map document_of ps) ≡ change_nth k g (map document_of ps)
+nth_same k p f g [] e same = refl
+nth_same zero p f g (x ∷ ps) e same = ap (λ d. d ∷ map document_of ps) (ap (λ y. f (document_of y)) (part_same e) ∙ (same ∙ ap (λ y. g (document_of y)) (sym (part_same e))))
+nth_same (suc k) p f g (x ∷ ps) e same = ap (λ ds. document_of x ∷ ds) (nth_same k p f g ps e same)
+
+-- the lead of a block root goes with it
+by_first : (cs : Children) (lead other : List (List ℕ)) → first_above cs ≡ Some lead → lead_by true cs other ≡ lead
+by_first none lead other e = cc
+by_first (child l n cs) lead other e = cc
+
+pub after_block : AfterBlock
+after_block c k p q lead f there keeps h block =
+    let parts = document_put c k p q there keeps in
+    let is : document_of q ≡ changed lead f (document_of p) = nth_is k p q (changed lead f) (document_parts c) there (sym (ap (map document_of) parts) ∙ h.documents_are) in
+    let root : root_of q ≡ f (root_of p) = ap (λ (d : Document). d.root) is in
+    let first : first_above (children_of (f (root_of p))) ≡ Some lead = ap (λ n. first_above (children_of n)) (sym root) ∙ (root_has_lead q block ∙ ap (λ (d : Document). Some d.lead) is) in
+    let same : lead_by true (children_of (f (root_of p))) (lead_of p) ≡ lead = by_first (children_of (f (root_of p))) lead (lead_of p) first in
+    h.documents_are ∙ nth_same k p (changed lead f) (with_root_after true f) (document_parts c) there (λ i. record { lead = sym same i; root = f (root_of p) })
+
+none_kept : (block : Bool) (cs : Children) (lead : List (List ℕ)) → (block ≡ true → cs ≡ none) → lead_by block cs lead ≡ lead
+none_kept false cs lead h = refl
+none_kept true cs lead h = ap (λ ds. lead_by true ds lead) (h refl)
+
+pub after_kept : AfterKept
+after_kept c new k p f block there h none_left =
+    h.documents_are ∙ nth_same k p (changed (lead_of p) f) (with_root_after block f) (document_parts c) there (λ i. record { lead = sym (none_kept block (children_of (f (root_of p))) (lead_of p) none_left) i; root = f (root_of p) })
+
+pub changed_alike : ChangedAlike
+changed_alike c new k p lead f g there h same = record {
+  read = h.read;
+  documents_are = h.documents_are ∙ nth_same k p (changed lead f) (changed lead g) (document_parts c) there (λ i. record { lead = lead; root = same i });
+}

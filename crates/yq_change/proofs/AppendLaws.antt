@@ -1,0 +1,158 @@
+-- One item or entry more in a block collection that has some.
+use Rattle.std.proofs.Common.{◌≡◌, ℕ, ◌<◌, List, [], ◌∷◌, ◌++◌, Option, Some, None, true, false, refl, sym, ap, ◌∙◌, subst, arith, append_assoc, length-append}
+use Rattle.std.proofs.lemmas.Bool.{false≢true}
+use Rattle.yq_scalar.specs.Block.{BlockText, ends_block, keeps}
+use Rattle.yq_scalar.specs.Text.{lines_of as text_lines}
+use Rattle.yq_scalar.proofs.BlockRepairLaws.{ends_behind}
+use Rattle.yq_lines.specs.Comments.{head_comment}
+use Rattle.yq_rows.specs.Exchange.{asked_behind}
+use Rattle.yq_rows.specs.Grammar.{Limit, unlimited, AreRows, no_rows}
+use Rattle.yq_rows.specs.Rows as rows
+use Rattle.yq_rows.specs.Rows.{Content, Nothing, Inline, Block, Row, behind_gap, behind_indent, rows_text, Part, Cut}
+use Rattle.yq_rows.specs.Seams.{are_seamed, ends_in_block, ends_in_line, is_block, is_seam}
+use Rattle.yq_rows.specs.Splices.{behind_first, first_gap}
+use Rattle.yq_rows.specs.Removal.{block_of, last_block}
+use Rattle.yq_rows.proofs.seams.LessLaws.{starts_less}
+use Rattle.yq_rows.proofs.RowAgain.{row_starts}
+use Rattle.yq_rows.proofs.splices.PartPlaces.{part_in}
+use Rattle.yq_rows.proofs.seams.FrontSeams.{seams_any, seams_line}
+use Rattle.yq_tree.specs.Documents.{HaveFitKeys, HasShortRoot}
+use Rattle.yq_lines.specs.Group.{level_or}
+use Rattle.yq_tree.specs.Lines.{lines_from, lines_of}
+use Rattle.yq_lines.specs.Outline.{Line, Outline, flatten}
+use Rattle.yq_lines.specs.Outline.{end}
+use Rattle.yq_lines.specs.Outline.{row}
+use Rattle.yq_lines.specs.Places.{lines_before, lines_after}
+use Rattle.yq_tree.specs.Reading.{outline_of}
+use Rattle.yq_lines.proofs.Decides.{flatten-group}
+use Rattle.yq_change.specs.Siblings.{HasEntries, put_lines}
+use Rattle.yq_change.proofs.AnchorLaws.{fit_parts, fit_from}
+use Rattle.yq_change.proofs.CollectionLaws.{appended}
+use Rattle.yq_change.proofs.NodeLineLaws.{lines_even}
+use Rattle.yq_change.proofs.BlockChangeLaws.{entry_appended}
+use Rattle.yq_change.proofs.MovedLaws.{lines_append}
+use Rattle.yq_change.proofs.PlacedLaws.{same_parts}
+use Rattle.yq_change.specs.Appends.{inserted, BlockAppended}
+use Rattle.yq_change.specs.LineRows.{Begins, StandApart, AreDeep}
+use Rattle.yq_change.specs.DocumentRows.{behind_document, part_number, RowsFit}
+use Rattle.yq_change.proofs.ApartLaws.{apart_skip, apart_deep, deep_less, even_deep, lines_apart, list_head}
+use Rattle.yq_change.proofs.ColumnLaws.{block_is_deeper, next_allowed}
+use Rattle.yq_change.proofs.PartLaws.{part_numbered, gap_stays, document_known, document_spliced, is_put, short_stays}
+
+-- seams
+seam_of : (c : Content) (b : BlockText) (u : List ℕ) → block_of c ≡ Some b → ends_block (keeps b.chomping) b.indent (text_lines u) ≡ true → is_seam c u ≡ true
+seam_of (Nothing tail) b u e h = absurd (cc)
+seam_of (Inline space node tail) b u e h = absurd (cc)
+seam_of (Block space anchor block) b u e h = let same : block ≡ b = cc in subst (λ (x : BlockText). ends_block (keeps x.chomping) x.indent (text_lines u) ≡ true) (sym same) h
+
+pub block_seam : (front : List Row) (b : BlockText) (u : List ℕ) → last_block front ≡ Some b → ends_block (keeps b.chomping) b.indent (text_lines u) ≡ true → are_seamed front u ≡ true
+block_seam [] b u e h = refl
+block_seam (r ∷ []) b u e h = seam_of r.content b u e h
+block_seam (r ∷ (q ∷ front)) b u e h = block_seam (q ∷ front) b u e h
+
+content_none : (c : Content) → block_of c ≡ None → is_block c ≡ false
+content_none (Nothing tail) e = refl
+content_none (Inline space node tail) e = refl
+content_none (Block space anchor block) e = absurd (cc)
+
+pub no_block : (front : List Row) → last_block front ≡ None → ends_in_block front ≡ false
+no_block [] e = refl
+no_block (r ∷ []) e = content_none r.content e
+no_block (r ∷ (q ∷ front)) e = no_block (q ∷ front) e
+
+-- rows begin in the column of their first line
+first_column : (above : List (List ℕ)) (column : ℕ) (ns : List ℕ) (m : rows.Mark) (c : Content) (rest : List Line) (l : Line) (ls : List Line) → lines_from above column ns m c ++ rest ≡ l ∷ ls →
+    l.column ≡ column
+first_column above column [] m c rest l ls e = ap (λ (x : Line). x.column) (sym (list_head e))
+first_column above column (n ∷ ns) m c rest l ls e = ap (λ (x : Line). x.column) (sym (list_head e))
+
+-- the text of rows without a gap before them, behind a block scalar
+less_rows : (new : List Row) (limit : Limit) (gap rest : List ℕ) (b : BlockText) (l : Line) (ls : List Line) → AreRows limit new gap rest → first_gap new [] ≡ [] → lines_of new ≡ l ∷ ls →
+    l.column < b.indent.columns → ends_block (keeps b.chomping) b.indent (text_lines (rows_text new (gap ++ rest))) ≡ true
+less_rows [] limit gap rest b l ls h bare e less = absurd (cc)
+less_rows (r ∷ more) limit gap rest b l ls h bare e less =
+    let x : List ℕ = rows_text more (gap ++ rest) in
+    let same = first_column (head_comment r.gap) r.column r.dashes r.mark r.content (lines_of more) l ls e in
+    let here = starts_less b.indent r.column (behind_indent r x) (row_starts limit r x h.0) (omega (arith, same, less)) in
+    let text : rows_text (r ∷ more) (gap ++ rest) ≡ behind_gap r x = ap (λ (g : List ℕ). g ++ behind_gap r x) bare in
+    ap (λ (y : List ℕ). ends_block (keeps b.chomping) b.indent (text_lines y)) text ∙ ends_behind (keeps b.chomping) b.indent (text_lines (behind_gap r x)) here
+
+none_or : (rs : List Row) → (no_rows rs ≡ true → ⊥) → no_rows rs ≡ false
+none_or [] h = absurd (h refl)
+none_or (r ∷ rs) h = refl
+
+pub append_seam : (front back new : List Row) (end rest gap behind : List ℕ) (l : Line) (ls : List Line) → AreRows unlimited (front ++ back) end rest →
+    AreRows (asked_behind unlimited front) new gap behind → first_gap new [] ≡ [] → lines_of new ≡ l ∷ ls →
+    StandApart (lines_of front) (l ∷ []) → (no_rows back ≡ true → ends_in_block front ≡ false → ends_in_line front ≡ true) → are_seamed front (rows_text new (gap ++ behind)) ≡ true
+append_seam front back new tail rest gap behind l ls old is bare lines apart ends = go (last_block front) refl
+  where
+    u : List ℕ
+    u = rows_text new (gap ++ behind)
+
+    plain : (bs : List Row) → back ≡ bs → ends_in_block front ≡ false → are_seamed front u ≡ true
+    plain [] e n = seams_line front u (ends (ap no_rows e) n) n
+    plain (b ∷ bs) e n = seams_any front back unlimited tail rest u old (ap no_rows e) n
+
+    go : (o : Option BlockText) → last_block front ≡ o → are_seamed front u ≡ true
+    go None e = plain back refl (no_block front e)
+    go (Some b) e = block_seam front b u e (less_rows new (asked_behind unlimited front) gap behind b l ls is bare lines (block_is_deeper unlimited front back tail rest b l old e apart))
+
+-- rows with lines
+pub block_lines : (o : Outline) → HasEntries o → flatten o ≡ [] → ⊥
+block_lines end b e = absurd b
+block_lines (row l u a) b e = cc
+
+pub rows_with : (front : List Row) (a b : List Line) → lines_of front ≡ a ++ b → (b ≡ [] → ⊥) → no_rows front ≡ false
+rows_with [] a b e some = absurd (some (none a b e))
+  where
+    none : (a b : List Line) → [] ≡ a ++ b → b ≡ []
+    none [] b e = sym e
+    none (x ∷ a) b e = absurd (cc)
+rows_with (r ∷ front) a b e some = refl
+
+pub around : (a x y z : List Line) → (a ++ x) ++ (y ++ z) ≡ a ++ ((x ++ y) ++ z)
+around a x y z = append_assoc a x (y ++ z) ∙ ap (λ (v : List Line). a ++ v) (sym (append_assoc x y z))
+
+pub block_appended : BlockAppended
+block_appended t c k p steps h front back new m l u old there_is size w takes text =
+    let known = document_known t c k p old in
+    let o : Outline = outline_of p in
+    let n : ℕ = level_or 0 h.lines in
+    let q : Part = inserted front new back p in
+    let rest : List ℕ = behind_document k c in
+    let deep = lines_even (level_or 0 o) o steps h known.even there_is.place_is there_is.block in
+    let apart = lines_apart (level_or 0 o) o steps h known.even there_is.place_is there_is.block in
+    let olds : flatten o ≡ put_lines h (flatten h.lines) = (appended (level_or 0 o) m o u l steps h known.even there_is w.fits).0 in
+    let whole : lines_of front ++ ([] ++ lines_of back) ≡ (lines_before h.place ++ flatten h.lines) ++ ([] ++ lines_after h.place) =
+    sym (lines_append front back) ∙ (ap lines_of (sym takes.rows_are) ∙ (sym (flatten-group (lines_of p.rows)) ∙ (olds ∙ sym (append_assoc (lines_before h.place) (flatten h.lines) (lines_after h.place))))) in
+    let parts =
+    same_parts (lines_of front) [] (lines_of back) (lines_before h.place ++ flatten h.lines) [] (lines_after h.place) whole (size ∙ sym (length-append (lines_before h.place) (flatten h.lines))) refl in
+    let some : no_rows front ≡ false = rows_with front (lines_before h.place) (flatten h.lines) parts.0 (block_lines h.lines there_is.block) in
+    let there : q.rows ≡ front ++ (new ++ back) = ap (λ (rs : List Row). front ++ (new ++ rs)) (gap_stays back p.end) in
+    let level_is = w.fits.level_is in
+    let less = w.fits.deep in
+    let above : h.above < n = deep.0 in
+    let new_deep : AreDeep n (lines_of new) = subst (AreDeep n) (sym w.lines) (omega (arith, level_is), deep_less n m (flatten u) (omega (arith, level_is, less)) (even_deep m u w.fits.even)) in
+    let first : StandApart (lines_of front) (l ∷ []) =
+    subst (λ (ls : List Line). StandApart ls (l ∷ [])) (sym parts.0) (apart_skip (lines_before h.place) (flatten h.lines) (l ∷ []) (block_lines h.lines there_is.block) (apart_deep n (flatten h.lines) (l ∷ []) (even_deep n h.lines deep.1) (omega (arith, level_is)))) in
+    let part : AreRows unlimited (front ++ back) p.end rest =
+    subst (λ (rs : List Row). AreRows unlimited rs p.end rest) takes.rows_are (subst (λ (x : Part). AreRows unlimited x.rows x.end rest) (part_numbered c k p old.there).0 (part_in c (part_number k c) true known.cut.parts).rows) in
+    let gap : List ℕ = first_gap back p.end in
+    let behind : List ℕ = behind_first back p.end rest in
+    let fits : RowsFit front new back gap p rest = record {
+      rows = takes.new_are;
+      next = next_allowed n (asked_behind unlimited front) new back gap behind takes.new_are (rows_with new [] (l ∷ flatten u) w.lines (λ none. cc)) new_deep h.above above (subst (Begins h.above) (sym parts.2) apart.1);
+      seam = append_seam front back new p.end rest gap behind l (flatten u) part takes.new_are w.bare w.lines first takes.closed;
+    } in
+    let has : no_rows p.rows ≡ false = ap no_rows takes.rows_are ∙ more front back some in
+    let cut = document_spliced t c k p front [] back new gap old known.cut takes.rows_are has fits text in
+    let keys = fit_parts front back (subst HaveFitKeys takes.rows_are known.document.keys) in
+    let put =
+    is_put t c k p q old (ap no_rows there ∙ more front (new ++ back) some) text cut (subst HaveFitKeys (sym there) (fit_from front (new ++ back) keys.0 (fit_from new back w.keys keys.1))) (subst HasShortRoot (sym there) (short_stays front back (new ++ back) some (subst HasShortRoot takes.rows_are known.document.short))) in
+    let lines : lines_of q.rows ≡ put_lines h (flatten h.lines ++ (l ∷ flatten u)) =
+    ap lines_of there ∙ (lines_append front (new ++ back) ∙ ((λ i. parts.0 i ++ lines_append new back i) ∙ ((λ i. (lines_before h.place ++ flatten h.lines) ++ (w.lines i ++ parts.2 i)) ∙ around (lines_before h.place) (flatten h.lines) (l ∷ flatten u) (lines_after h.place)))) in
+    entry_appended t c k p q steps h m l u put there_is w.fits w.anchors lines w.value_is w.key
+  where
+    more : (a b : List Row) → no_rows a ≡ false → no_rows (a ++ b) ≡ false
+    more [] b n = absurd (false≢true (sym n))
+    more (x ∷ a) b n = refl

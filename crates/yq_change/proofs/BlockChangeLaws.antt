@@ -1,0 +1,131 @@
+-- The operations on block nodes, by the lines that they exchange, add or drop.
+use Rattle.std.proofs.Common.{◌≡◌, ℕ, suc, ◌+◌, List, [], ◌∷◌, ◌++◌, length, Option, Some, option_map, refl, sym, ap, ◌∙◌, subst, arith, append-nil, length-append}
+use Rattle.yq_scalar.specs.Keys.{keys_of}
+use Rattle.yq_scalar.specs.Paths.{child_at, node_at, within}
+use Rattle.yq_scalar.specs.Tree.{Node, Children, children_of}
+use Rattle.yq_tree.specs.Documents.{lead_of}
+use Rattle.yq_lines.specs.Group.{level_or}
+use Rattle.yq_tree.specs.Lines.{lines_from, lines_of}
+use Rattle.yq_lines.specs.Outline.{Mark, Bare, Key, Dash, Line, Outline, end, row, flatten, anchored, label, collection, children, value}
+use Rattle.yq_lines.specs.Places.{lines_before, content}
+use Rattle.yq_tree.specs.Reading.{outline_of, root_of}
+use Rattle.yq_lines.specs.Comments.{head_comment}
+use Rattle.yq_rows.specs.Rows.{Row, behind_columns}
+use Rattle.yq_lines.proofs.Finding.{FoundNode, path_node, row_child}
+use Rattle.yq_lines.proofs.Plug.{entry_whole}
+use Rattle.yq_lines.proofs.Values.{same_rank, same_entry}
+use Rattle.yq_change.specs.Changed.{put_document, first_comment}
+use Rattle.yq_change.specs.Conditions.{last_anchor}
+use Rattle.yq_change.specs.Edited.{with_lead}
+use Rattle.yq_change.specs.BlockChanges.{NodeReplaced, RootReplaced, RootRewritten, EntryAppended, EntryRemoved, EntryRelabelled, FirstRemoved, FirstDropped}
+use Rattle.yq_change.specs.Moved.{dash_lines}
+use Rattle.yq_change.specs.SoundRoots.{IsNewKey}
+use Rattle.yq_change.specs.Siblings.{IsEntry, HasEntries}
+use Rattle.yq_change.proofs.ChangedLaws.{lead_is_first}
+use Rattle.yq_change.proofs.EditedLaws.{old_is_sound, old_is_even, lines_are_there, line_exchanged, lines_exchanged, lines_appended, lines_removed, line_relabelled, lead_is_above, led_as, root_keeps}
+use Rattle.yq_change.proofs.AnchorLaws.{any_free}
+use Rattle.yq_change.proofs.MovedLaws.{first_moved, first_emptied}
+use Rattle.yq_change.proofs.PlacedLaws.{entry_placed, found_is_entry}
+use Rattle.yq_change.proofs.SiblingLaws.{entry_in, entry_out}
+use Rattle.yq_change.proofs.NodeLineLaws.{unanchored}
+use Rattle.yq_change.proofs.SoundRootLaws.{replace_keeps, append_keeps}
+use Rattle.yq_change.proofs.SoundRootLess.{remove_keeps, relabel_keeps}
+use Rattle.yq_tree.specs.TreeEdits.{headed, replaced}
+use Rattle.yq_lines.specs.Anchors.{HaveOneAnchorEach}
+
+pub node_replaced : NodeReplaced
+node_replaced t c k p q s ss f v m l u put found fits each lines may =
+    let there : node_at (s ∷ ss) (root_of p) ≡ Some (content f.line f.under) = path_node s ss (outline_of p) ∙ ap FoundNode found in
+    let sound = replace_keeps (s ∷ ss) (root_of p) (content f.line f.under) v (old_is_sound t c k p q put) there may in
+    let old = found_is_entry (level_or 0 (outline_of p)) p s ss f (old_is_even t c k p q put) found in
+    let entry = same_entry f.line.mark l.mark (entry_in f.line.mark old) (same_rank f.line l (sym fits.level_is)) in
+    line_exchanged t c k p q s ss [] f (replaced v) m l u put found fits (entry_whole l.mark l.head f.after entry)
+    (record { each = each; free = any_free (last_anchor (lines_before f.place)) (l ∷ flatten u) (entry_out l.mark entry) }) lines sound
+
+pub root_replaced : RootReplaced
+root_replaced t c k p q v m u put fits lines may =
+    let sound = replace_keeps [] (root_of p) (root_of p) v (old_is_sound t c k p q put) refl may in
+    lines_exchanged t c k p q [] _ (replaced v) m u put refl
+    (record { deep = fits.deep; even = fits.even; node_is = unanchored (value u) ∙ (fits.value_is ∙ ap (replaced v) (sym (unanchored (root_of p)))) })
+    (record { each = fits.anchors; free = tt }) (lines ∙ sym (append-nil (flatten u))) sound
+
+-- anchors under another lead
+led_anchors : (above : List (List ℕ)) (o : Outline) → HaveOneAnchorEach (flatten o) → HaveOneAnchorEach (flatten (with_lead above o))
+led_anchors above end h = h
+led_anchors above (row l u a) h = h
+
+pub root_rewritten : RootRewritten
+root_rewritten t c k p q v m u put fits block lines is =
+    let above : List (List ℕ) = lead_of p in
+    let w = lead_is_above above m u block fits.even in
+    let value_is : value (with_lead above u) ≡ within (headed above) v = w.1 ∙ ap (within (headed above)) fits.value_is in
+    let sound = (root_keeps above v is).1 in
+    led_as c (put_document k q c) k (lead_of q) above (λ old. within (headed above) v) (lead_is_first q ∙ (ap (first_comment (head_comment q.end)) lines ∙ first u block))
+    (lines_exchanged t c k p q [] _ (λ old. within (headed above) v) m (with_lead above u) put refl
+    (record { deep = fits.deep; even = w.0; node_is = unanchored (value (with_lead above u)) ∙ value_is })
+    (record { each = led_anchors above u fits.anchors; free = tt }) (lines ∙ sym (append-nil (flatten (with_lead above u)))) sound)
+  where
+    first : (o : Outline) → HasEntries o → first_comment (head_comment q.end) (flatten (with_lead (lead_of p) o)) ≡ lead_of p
+    first end b = absurd b
+    first (row k x a) b = refl
+
+-- the items or entries of a block collection behind an anchor
+block_children : (a : Option (List ℕ)) (o : Outline) → HasEntries o → children_of (anchored a (value o)) ≡ children o
+block_children a end b = absurd b
+block_children a (row l u c) b = kind l.mark b (children (row l u c))
+  where
+    kind : (m : Mark) → IsEntry m → (cs : Children) → children_of (anchored a (collection m cs)) ≡ cs
+    kind Bare e cs = absurd e
+    kind (Key j) e cs = refl
+    kind Dash e cs = refl
+
+pub entry_appended : EntryAppended
+entry_appended t c k p q steps h m l u put in_it fits each lines value_is new =
+    let old : Node = anchored h.anchor (value h.lines) in
+    let there = lines_are_there steps (outline_of p) h in_it.place_is in
+    let key : IsNewKey (label l).key (keys_of (children_of old)) = subst (λ cs. IsNewKey (label l).key (keys_of cs)) (sym (block_children h.anchor h.lines in_it.block)) new in
+    let sound = append_keeps steps (root_of p) old (content l u) (label l) (old_is_sound t c k p q put) there value_is key in
+    lines_appended t c k p q steps h m l u put in_it fits each lines sound
+
+pub entry_removed : EntryRemoved
+entry_removed t c k p q steps h s f put entry left lines spared =
+    let old : Node = anchored h.anchor (value h.lines) in
+    let there = lines_are_there steps (outline_of p) h entry.place_is in
+    let at : child_at s (children_of old) ≡ Some (content f.line f.under) =
+    ap (child_at s) (block_children h.anchor h.lines entry.block) ∙ (row_child s h.lines ∙ ap (option_map (λ x. content x.line x.under)) entry.found) in
+    let sound = remove_keeps steps (root_of p) old (content f.line f.under) s (old_is_sound t c k p q put) there at spared in
+    lines_removed t c k p q steps h s f put entry left lines sound
+
+pub entry_relabelled : EntryRelabelled
+entry_relabelled t c k p q steps h s f g l put entry new_line key lines =
+    let there = lines_are_there steps (outline_of p) h entry.place_is in
+    let sound = relabel_keeps steps (root_of p) (anchored h.anchor (value h.lines)) s g (old_is_sound t c k p q put) there key in
+    line_relabelled t c k p q steps h s f g l put entry new_line lines sound
+
+-- as many lines as dashes
+dash_length : (above : List (List ℕ)) (column : ℕ) (ds : List ℕ) → length (dash_lines above column ds) ≡ length ds
+dash_length above column [] = refl
+dash_length above column (n ∷ ns) = let same = dash_length [] (suc (column + n)) ns in omega (arith, same)
+
+front_length : (before : List Row) (above : List (List ℕ)) (column : ℕ) (ds : List ℕ) (size : ℕ) → length (lines_of before) + length ds ≡ size →
+    length (lines_of before ++ dash_lines above column ds) ≡ size
+front_length before above column ds size e = let same = dash_length above column ds in omega (arith, same, e, length-append (lines_of before) (dash_lines above column ds))
+
+pub first_removed : FirstRemoved
+first_removed t c k p q steps h s f before gone behind r b n ns es put entry left old new moves counts spared =
+    let law = first_moved before gone behind r b n ns es moves.dashes moves.column moves.bare in
+    let a : List Line = lines_of before ++ dash_lines (head_comment r.gap) r.column (n ∷ ns) in
+    let x : List Line = lines_from [] b.column es r.mark r.content ++ lines_of gone in
+    let parts = entry_placed (level_or 0 (outline_of p)) p steps h s f a x (lines_of (b ∷ behind)) (old_is_even t c k p q put) entry
+    (record { parts_are = ap lines_of old ∙ law.0; before_are = front_length before (head_comment r.gap) r.column (n ∷ ns) _ counts.before_are; size_is = counts.size_is }) in
+    entry_removed t c k p q steps h s f put entry left (ap lines_of new ∙ (law.1 ∙ sym (parts.1 []))) spared
+
+pub first_dropped : FirstDropped
+first_dropped t c k p q steps h s f before gone behind r n ns es tail put entry left old new stays counts spared =
+    let law = first_emptied before gone behind r n ns es tail stays.dashes stays.bare in
+    let ds : List ℕ = ns ++ (n ∷ []) in
+    let a : List Line = lines_of before ++ dash_lines (head_comment r.gap) r.column ds in
+    let x : List Line = lines_from [] (behind_columns r.column ds) es r.mark r.content ++ lines_of gone in
+    let parts = entry_placed (level_or 0 (outline_of p)) p steps h s f a x (lines_of behind) (old_is_even t c k p q put) entry
+    (record { parts_are = ap lines_of old ∙ law.0; before_are = front_length before (head_comment r.gap) r.column ds _ counts.before_are; size_is = counts.size_is }) in
+    entry_removed t c k p q steps h s f put entry left (ap lines_of new ∙ (law.1 ∙ sym (parts.1 []))) spared

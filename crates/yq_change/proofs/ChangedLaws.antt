@@ -1,0 +1,188 @@
+-- Texts in which one document has another part.
+use Rattle.std.proofs.Common.{◌≡◌, ℕ, zero, suc, List, [], ◌∷◌, ◌++◌, map, Bool, true, false, not, ◌||◌, Some, refl, sym, ap, ◌∙◌, append_assoc}
+use Rattle.std.proofs.lemmas.Bool.{and_parts, and_from, cond-true}
+use Rattle.std.specs.List.{slice_get, list_all}
+use Rattle.yq_scalar.specs.Tree.{Node}
+use Rattle.yq_lines.specs.Comments.{head_comment}
+use Rattle.yq_rows.specs.Grammar.{no_rows, begins_document}
+use Rattle.yq_rows.specs.Rows.{Row, Part, Cut, last, marked, part_text, cut_text}
+use Rattle.yq_rows.proofs.PlaceLaws.{part_then}
+use Rattle.yq_tree.specs.Documents.{Document, IsRoot, parts_from, has_begin, begins_bare, document_parts, first_gap, lead_of}
+use Rattle.yq_tree.specs.Lines.{lines_from, lines_of}
+use Rattle.yq_lines.specs.Outline.{Line, Outline, end, row, flatten, value, null}
+use Rattle.yq_tree.specs.Reading.{root_of, document_of, is_document, all_documents, read_at}
+use Rattle.yq_lines.proofs.ByRules.{rules_from}
+use Rattle.yq_tree.proofs.DocumentLaws.{is_document_of}
+use Rattle.yq_tree.proofs.ReadLaws.{text_takes, text_again}
+use Rattle.yq_scalar.proofs.Bools.{guard_then}
+use Rattle.yq_change.specs.Siblings.{StandsSomewhere}
+use Rattle.yq_change.specs.Changed.{put_from, put_document, KeepsRows, DocumentPut, DifferIn, TextPut, changed, PartStands, DocumentChanged, first_comment, LeadIsFirst}
+use Rattle.yq_tree.specs.TreeEdits.{change_nth}
+
+-- parts
+from_put : (is : Bool) (k : ℕ) (q : Part) (c : Cut) → parts_from is (put_from is k q c) ≡ change_nth k (λ x. q) (parts_from is c)
+from_put true zero q (last p) = refl
+from_put true (suc k) q (last p) = refl
+from_put false zero q (last p) = refl
+from_put false (suc k) q (last p) = refl
+from_put true zero q (marked p marker c) = refl
+from_put true (suc k) q (marked p marker c) = ap (λ x. p ∷ x) (from_put (begins_document marker) k q c)
+from_put false zero q (marked p marker c) = from_put (begins_document marker) zero q c
+from_put false (suc k) q (marked p marker c) = from_put (begins_document marker) (suc k) q c
+
+begin_stays : (is : Bool) (k : ℕ) (q : Part) (c : Cut) → has_begin (put_from is k q c) ≡ has_begin c
+begin_stays true zero q (last p) = refl
+begin_stays true (suc k) q (last p) = refl
+begin_stays false k q (last p) = refl
+begin_stays true zero q (marked p marker c) = refl
+begin_stays true (suc k) q (marked p marker c) = ap (λ x. begins_document marker || x) (begin_stays (begins_document marker) k q c)
+begin_stays false k q (marked p marker c) = ap (λ x. begins_document marker || x) (begin_stays (begins_document marker) k q c)
+
+-- the part before the first marker
+abbrev first_part : Cut → Part
+first_part (last p) = p
+first_part (marked p marker c) = p
+
+bare_is : (c : Cut) → begins_bare c ≡ not (no_rows (first_part c).rows)
+bare_is (last p) = refl
+bare_is (marked p marker c) = refl
+
+-- the first part stays, or is document 0
+first_other : (k : ℕ) (q : Part) (c : Cut) → first_part (put_from false k q c) ≡ first_part c
+first_other k q (last p) = refl
+first_other k q (marked p marker c) = refl
+
+first_later : (k : ℕ) (q : Part) (c : Cut) → first_part (put_from true (suc k) q c) ≡ first_part c
+first_later k q (last p) = refl
+first_later k q (marked p marker c) = refl
+
+first_put : (q : Part) (c : Cut) → first_part (put_from true zero q c) ≡ q
+first_put q (last p) = refl
+first_put q (marked p marker c) = refl
+
+zero_part : (c : Cut) (p : Part) → slice_get (parts_from true c) 0 ≡ Some p → first_part c ≡ p
+zero_part (last x) p e = cc
+zero_part (marked x marker c) p e = cc
+
+-- whether the first part is a document stays
+kept : (b r s : Bool) → (not r || b) ≡ true → (s ≡ true → r ≡ true) → (not s || b) ≡ true
+kept b r false e h = refl
+kept true r true e h = refl
+kept false r true e h = absurd (wrong r e (h refl))
+  where
+    wrong : (r : Bool) → (not r || false) ≡ true → r ≡ true → ⊥
+    wrong true e f = cc
+    wrong false e f = cc
+
+first_is : (is : Bool) (k : ℕ) (p q : Part) (c : Cut) → (not (no_rows (first_part c).rows) || not (has_begin c)) ≡ is → slice_get (parts_from is c) k ≡ Some p → KeepsRows p q →
+    (not (no_rows (first_part (put_from is k q c)).rows) || not (has_begin (put_from is k q c))) ≡ is
+first_is false k p q c e there keeps = (λ i. not (no_rows (first_other k q c i).rows) || not (begin_stays false k q c i)) ∙ e
+first_is true (suc k) p q c e there keeps = (λ i. not (no_rows (first_later k q c i).rows) || not (begin_stays true (suc k) q c i)) ∙ e
+first_is true zero p q c e there keeps =
+    (λ i. not (no_rows (first_put q c i).rows) || not (begin_stays true zero q c i))
+    ∙ kept (not (has_begin c)) (no_rows (first_part c).rows) (no_rows q.rows) e (λ h. ap (λ (x : Part). no_rows x.rows) (zero_part c p there) ∙ keeps h)
+
+pub document_put : DocumentPut
+document_put c k p q there keeps =
+    let is : Bool = begins_bare c || not (has_begin c) in
+    let new : Cut = put_from is k q c in
+    let before : (not (no_rows (first_part c).rows) || not (has_begin c)) ≡ is = ap (λ b. b || not (has_begin c)) (sym (bare_is c)) in
+    let stays : (begins_bare new || not (has_begin new)) ≡ is = ap (λ b. b || not (has_begin new)) (bare_is new) ∙ first_is is k p q c before there keeps in
+    ap (λ b. parts_from b new) stays ∙ from_put is k q c
+
+-- the texts before and behind a part
+some_same : {x y : Part} → Some x ≡ Some y → x ≡ y
+some_same e = cc
+
+part_place : (p : Part) (marker before text rest : List ℕ) → rest ≡ before ++ text → part_text p (marker ++ rest) ≡ part_text p (marker ++ before) ++ text
+part_place p marker before text rest h = ap (λ l. part_text p (marker ++ l)) h ∙ (ap (part_text p) (sym (append_assoc marker before text)) ∙ part_then p (marker ++ before) text)
+
+further : (x : Part) (marker : List ℕ) (c new : Cut) (p q : Part) → DifferIn c new p q → DifferIn (marked x marker c) (marked x marker new) p q
+further x marker c new p q h = record {
+  before = part_text x (marker ++ h.before);
+  behind = h.behind;
+  old_text = part_place x marker h.before (part_text p h.behind) (cut_text c) h.old_text;
+  new_text = part_place x marker h.before (part_text q h.behind) (cut_text new) h.new_text;
+}
+
+texts_put : (is : Bool) (k : ℕ) (p q : Part) (c : Cut) → slice_get (parts_from is c) k ≡ Some p → DifferIn c (put_from is k q c) p q
+texts_put true zero p q (last x) e = record { before = []; behind = []; old_text = ap (λ y. part_text y []) (some_same e); new_text = refl }
+texts_put true (suc k) p q (last x) e = absurd (cc)
+texts_put false k p q (last x) e = absurd (cc)
+texts_put true zero p q (marked x marker c) e = record { before = []; behind = marker ++ cut_text c; old_text = ap (λ y. part_text y (marker ++ cut_text c)) (some_same e); new_text = refl }
+texts_put true (suc k) p q (marked x marker c) e = further x marker c (put_from (begins_document marker) k q c) p q (texts_put (begins_document marker) k p q c e)
+texts_put false k p q (marked x marker c) e = further x marker c (put_from (begins_document marker) k q c) p q (texts_put (begins_document marker) k p q c e)
+
+pub text_put : TextPut
+text_put c k p q there = texts_put (begins_bare c || not (has_begin c)) k p q c there
+
+-- the root of lines
+root_of_lines : (ls : List Line) (root : Node) → StandsSomewhere ls root → IsRoot ls root
+root_of_lines [] root h = go h.1.outline h.1.lines_are h.1.node_is
+  where
+    go : (o : Outline) → flatten o ≡ [] → value o ≡ root → root ≡ null
+    go end e is = sym is
+    go (row l u a) e is = absurd (cons_nil e)
+      where
+        cons_nil : {A : Type 0} {x : A} {xs : List A} → x ∷ xs ≡ [] → ⊥
+        cons_nil e = cc
+root_of_lines (l ∷ ls) root h = (h.0, rules_from h.0 (l ∷ ls) root h.1 l ls refl)
+
+pub part_stands : PartStands
+part_stands q root h = record {
+  lead = refl;
+  root = root_of_lines (lines_of q.rows) root h.stands;
+  keys = h.keys;
+  unique = h.unique;
+  nested = h.nested;
+  anchors = h.anchors;
+  bound = h.bound;
+  short = h.short;
+}
+
+-- members of lists
+all_with : (test : Part → Bool) (k : ℕ) (q : Part) (ps : List Part) → test q ≡ true → list_all test ps ≡ true → list_all test (change_nth k (λ x. q) ps) ≡ true
+all_with test k q [] e h = h
+all_with test zero q (p ∷ ps) e h = and_from (test q) (list_all test ps) e (and_parts (test p) (list_all test ps) h).1
+all_with test (suc k) q (p ∷ ps) e h = let r = and_parts (test p) (list_all test ps) h in and_from (test p) _ r.0 (all_with test k q ps e r.1)
+
+map_with : (k : ℕ) (p q : Part) (f : Document → Document) (ps : List Part) → slice_get ps k ≡ Some p → document_of q ≡ f (document_of p) →
+    map document_of (change_nth k (λ x. q) ps) ≡ change_nth k f (map document_of ps)
+map_with k p q f [] e is = refl
+map_with zero p q f (x ∷ ps) e is = ap (λ d. d ∷ map document_of ps) (is ∙ ap (λ y. f (document_of y)) (sym (same e)))
+  where
+    same : {x y : Part} → Some x ≡ Some y → x ≡ y
+    same e = cc
+map_with (suc k) p q f (x ∷ ps) e is = ap (λ ds. document_of x ∷ ds) (map_with k p q f ps e is)
+
+pub document_changed : DocumentChanged
+unfolding read_at
+document_changed t c k p q f read there keeps utf8 cut root =
+    let new : Cut = put_document k q c in
+    let old = text_takes t c (guard_then _ read).1 in
+    let doc = is_document_of q (record { lead = lead_of q; root = f (root_of p) }) (part_stands q (f (root_of p)) root) in
+    let parts = document_put c k p q there keeps in
+    let all : all_documents new ≡ true = ap (list_all is_document) parts ∙ all_with is_document k q (document_parts c) doc.0 old.1 in
+    record {
+      read = cond-true _ _ _ utf8 ∙ text_again (cut_text new) new cut all;
+      documents_are = ap (map document_of) parts ∙ map_with k p q (changed (lead_of q) f) (document_parts c) there doc.1;
+    }
+
+pub lead_is_first : LeadIsFirst
+lead_is_first p = go p.rows
+  where
+    first : (r : Row) (dashes : List ℕ) → head_comment r.gap ≡ first_comment (head_comment p.end) (lines_from (head_comment r.gap) r.column dashes r.mark r.content)
+    first r [] = refl
+    first r (n ∷ ns) = refl
+
+    front : (ls ks : List Line) (above none : List (List ℕ)) → above ≡ first_comment none ls → (ls ≡ [] → ⊥) → above ≡ first_comment none (ls ++ ks)
+    front [] ks above none e h = absurd (h refl)
+    front (l ∷ ls) ks above none e h = e
+
+    some : (r : Row) (dashes : List ℕ) → lines_from (head_comment r.gap) r.column dashes r.mark r.content ≡ [] → ⊥
+    some r [] e = cc
+    some r (n ∷ ns) e = cc
+
+    go : (rows : List Row) → head_comment (first_gap rows p.end) ≡ first_comment (head_comment p.end) (lines_of rows)
+    go [] = refl
+    go (r ∷ rs) = front _ (lines_of rs) (head_comment r.gap) (head_comment p.end) (first r r.dashes) (some r r.dashes)

@@ -1,0 +1,235 @@
+-- Where rows may stand, by the levels of lines.
+use Rattle.std.proofs.Common.{◌≡◌, ℕ, zero, suc, ◌+◌, ◌*◌, ◌-◌, ◌<◌, ◌≤◌, ltb, ℤ, pos, List, [], ◌∷◌, ◌++◌, Option, Some, None, is_some, Bool, true, false, cond, refl, sym, ap}
+use Rattle.std.proofs.Common.{◌∙◌, subst, arith, ⊎_elim, append_assoc}
+use Rattle.std.proofs.lemmas.Bool.{false≢true, lt-ltb, ltb-true}
+use Rattle.yq_scalar.specs.Block.{BlockText, Lines, IsBlock, IsDigit, IsTextIndent}
+use Rattle.yq_scalar.specs.declared.block_lines.TextIndent.{TextIndent}
+use Rattle.yq_scalar.specs.Piece.{deeper}
+use Rattle.yq_lines.specs.Comments.{head_comment}
+use Rattle.yq_rows.specs.Grammar.{Limit, allows, is_within, unlimited, limit_after, limit_behind, is_plain, is_entry, AreDashes, IsMark, IsRow, AreRows, no_rows}
+use Rattle.yq_rows.specs.Rows as rows
+use Rattle.yq_rows.specs.Rows.{Content, Nothing, Inline, Block, Row, behind_columns, before_column, mark_column, parent_of, parent_indent, rows_text}
+use Rattle.yq_rows.specs.Removal.{block_of, last_block, next_column, StandsLess}
+use Rattle.yq_tree.specs.Lines.{mark_line, lines_from, row_lines, lines_of, head_of}
+use Rattle.yq_lines.specs.Outline.{Line, level, rank}
+use Rattle.yq_lines.proofs.Values.{rank_small}
+use Rattle.yq_change.specs.Moved.{dash_lines}
+use Rattle.yq_change.specs.Columns.{NextAllowed, NextStays, BlockIsDeeper, ClosedStandsLess}
+use Rattle.yq_change.specs.LineRows.{Begins, StandApart, AreDeep, AreClosed}
+use Rattle.yq_change.proofs.ApartLaws.{apart_skip, begins_less, closed_back, first_level, list_head}
+use Rattle.yq_change.proofs.LineLaws.{above_mark, mark_behind}
+
+-- columns and levels
+pub behind_more : (column : ℕ) (ns : List ℕ) → column ≤ behind_columns column ns
+behind_more column [] = omega arith
+behind_more column (n ∷ ns) = let more = behind_more (suc (column + n)) ns in omega (arith, more)
+
+pub next_low : (n : ℕ) (back : List Row) (b : Row) (bs : List Row) → back ≡ b ∷ bs → Begins n (lines_of back) → 3 * b.column + 1 ≤ n
+next_low n back b bs e h = first_level (head_comment b.gap) b.column b.dashes b.mark b.content (lines_of bs) n (subst (λ (x : List Row). Begins n (lines_of x)) e h)
+
+low_level : (l : Line) → 3 * l.column + 1 ≤ level l
+unfolding level
+low_level l = omega (arith, rank_small l.mark)
+
+high_level : (l : Line) → level l ≤ 3 * l.column + 3
+unfolding level
+high_level l = omega (arith, rank_small l.mark)
+
+first_high : (above : List (List ℕ)) (column : ℕ) (ns : List ℕ) (m : rows.Mark) (c : Content) (rest : List Line) (l : Line) (ls : List Line) → lines_from above column ns m c ++ rest ≡ l ∷ ls →
+    level l ≤ 3 * column + 3
+first_high above column [] m c rest l ls e = let high = high_level (mark_line above column m c) in let same = ap level (list_head e) in omega (arith, high, same)
+first_high above column (n ∷ ns) m c rest l ls e = let x = Rattle.yq_tree.specs.Lines.dash_line above column in let high = high_level x in let same = ap level (list_head e) in omega (arith, high, same)
+
+bare_high : (n : ℕ) (above : List (List ℕ)) (column : ℕ) (c : Content) (rest : List Line) → AreDeep n (lines_from above column [] rows.Bare c ++ rest) → n ≤ 3 * column + 1
+unfolding level
+bare_high n above column c rest h = h.0
+
+-- limits
+allowed_content : (n : ℤ) (c : Content) (column : ℕ) → column < deeper n → allows (limit_behind n c) column ≡ true
+allowed_content n (Nothing tail) column h = refl
+allowed_content n (Inline space node tail) column h = go (is_plain node)
+  where
+    go : (b : Bool) → allows (cond b (record { column = Some (deeper n) }) unlimited) column ≡ true
+    go true = lt-ltb column (deeper n) h
+    go false = refl
+allowed_content n (Block space anchor block) column h = refl
+
+below_entry : (column n : ℕ) → column ≤ n → column < deeper (pos n)
+below_entry column n h = omega (arith, h)
+
+below_node : (column n : ℕ) → column < n → column < deeper (before_column n)
+below_node column zero h = omega (arith, h)
+below_node column (suc n) h = omega (arith, h)
+
+-- a column less deep than a row's first line is less deep than what stands behind its mark
+row_limit : (n m column : ℕ) (r : Row) (rest : List Line) → AreDashes r.dashes r.mark → AreDeep n (row_lines r ++ rest) → m < n → 3 * column + 1 ≤ m → allows (limit_after r) column ≡ true
+row_limit n m column r rest d deep less low = allowed_content (parent_indent r) r.content column (go r.mark refl r.dashes refl)
+  where
+    high : (ls : List Line) → AreDeep n ls → (ls ≡ row_lines r ++ rest) → n ≤ 3 * r.column + 3
+    high [] h e = absurd (none r.dashes e)
+      where
+        none : (ns : List ℕ) → [] ≡ lines_from (head_comment r.gap) r.column ns r.mark r.content ++ rest → ⊥
+        none [] e = cc
+        none (k ∷ ns) e = cc
+    high (l ∷ ls) h e = let own = first_high (head_comment r.gap) r.column r.dashes r.mark r.content rest l ls (sym e) in let least = h.0 in omega (arith, own, least)
+
+    entry : column ≤ mark_column r
+    entry = let up = high (row_lines r ++ rest) deep refl in let more = behind_more r.column r.dashes in omega (arith, up, less, low, more)
+
+    node : (ns : List ℕ) → r.dashes ≡ ns → r.mark ≡ rows.Bare → column < mark_column r
+    node [] e b = subst (λ (ns : List ℕ). column < behind_columns r.column ns) (sym e) (let one = alone in omega (arith, one, less, low))
+      where
+        alone : n ≤ 3 * r.column + 1
+        alone = bare_high n (head_comment r.gap) r.column r.content rest (subst (λ (x : rows.Mark). AreDeep n (lines_from (head_comment r.gap) r.column [] x r.content ++ rest)) b (subst (λ (ns : List ℕ). AreDeep n (lines_from (head_comment r.gap) r.column ns r.mark r.content ++ rest)) e deep))
+    node (k ∷ ns) e b = absurd (false≢true ((subst (λ (x : rows.Mark). AreDashes (k ∷ ns) x) b (subst (λ (x : List ℕ). AreDashes x r.mark) e d)).1))
+
+    go : (mark : rows.Mark) → r.mark ≡ mark → (ns : List ℕ) → r.dashes ≡ ns → column < deeper (parent_of r.mark (mark_column r))
+    go rows.Bare e ns f = subst (λ (x : rows.Mark). column < deeper (parent_of x (mark_column r))) (sym e) (below_node column (mark_column r) (node ns f e))
+    go rows.Dash e ns f = subst (λ (x : rows.Mark). column < deeper (parent_of x (mark_column r))) (sym e) (below_entry column (mark_column r) entry)
+    go (rows.Key key colon) e ns f = subst (λ (x : rows.Mark). column < deeper (parent_of x (mark_column r))) (sym e) (below_entry column (mark_column r) entry)
+
+deep_back : (n : ℕ) (xs ys : List Line) → AreDeep n (xs ++ ys) → AreDeep n ys
+deep_back n [] ys h = h
+deep_back n (x ∷ xs) ys h = deep_back n xs ys h.1
+
+pub next_allowed : NextAllowed
+next_allowed n limit [] back end rest h some deep m less next = absurd (false≢true (sym some))
+next_allowed n limit (r ∷ []) [] end rest h some deep m less next = refl
+next_allowed n limit (r ∷ []) (b ∷ bs) end rest h some deep m less next = row_limit n m b.column r [] h.0.dashes deep less (next_low m (b ∷ bs) b bs refl next)
+next_allowed n limit (r ∷ (q ∷ new)) back end rest h some deep m less next = next_allowed n (limit_after r) (q ∷ new) back end rest h.1 refl (deep_back n (row_lines r) (lines_of (q ∷ new)) deep) m less next
+
+-- a column less than one that is allowed
+allowed_less : (limit : Limit) (a b : ℕ) → a ≤ b → allows limit b ≡ true → allows limit a ≡ true
+allowed_less limit a b e h = go limit.column h
+  where
+    go : (o : Option ℕ) → is_within o b ≡ true → is_within o a ≡ true
+    go None h = refl
+    go (Some bound) h = lt-ltb a bound (omega (arith, e, ltb-true b bound h))
+
+pub next_stays : NextStays
+next_stays limit [] back end rest l ls h e next = absurd (cc)
+next_stays limit (r ∷ rs) [] end rest l ls h e next = refl
+next_stays limit (r ∷ rs) (b ∷ bs) end rest l ls h e next =
+    let high = first_high (head_comment r.gap) r.column r.dashes r.mark r.content (lines_of rs) l ls e in
+    let low = next_low (level l) (b ∷ bs) b bs refl next in
+    allowed_less limit b.column r.column (omega (arith, high, low)) h.0.allowed
+
+-- the indentation of a block scalar
+indent_least : (least : ℕ) (digit : Option ℕ) (f : TextIndent) (raw : Lines) → IsDigit digit → IsTextIndent least digit f raw → least ≤ f.columns
+indent_least least (Some d) f raw small h = let same = ap (λ (x : TextIndent). x.columns) h in let one = small.0 in omega (arith, same, one)
+indent_least least None f [] small h = let same = ap (λ (x : TextIndent). x.columns) h in omega (arith, same)
+indent_least least None f (l ∷ raw) small h =
+    ⊎_elim {0, 0, 0} (λ e. indent_least least None f raw tt e.2) (λ e. let same = ap (λ (x : TextIndent). x.columns) e.1 in let own = e.2 in omega (arith, same, own)) h
+
+-- the last row, where it holds a block scalar
+row_block : (limit : Limit) (r : Row) (t : List ℕ) (b : BlockText) → IsRow limit r t → block_of r.content ≡ Some b → mark_column r < b.indent.columns
+row_block limit r t b h e = go r.content refl r.mark refl
+  where
+    entry : (space : List ℕ) (anchor : Option rows.Anchor) (block : BlockText) → r.content ≡ Block space anchor block → deeper (parent_indent r) ≤ b.indent.columns
+    entry space anchor block is =
+        let own : IsBlock (deeper (parent_indent r)) block t = (subst (λ (x : Content). Rattle.yq_rows.specs.Grammar.IsContent (parent_indent r) x t) is h.content).2 in
+        let same : block ≡ b = some_same (sym (ap block_of is) ∙ e) in
+        subst (λ (x : BlockText). deeper (parent_indent r) ≤ x.indent.columns) same (indent_least (deeper (parent_indent r)) block.digit block.indent block.raw own.indicators.small own.indent)
+      where
+        some_same : {x y : BlockText} → Some x ≡ Some y → x ≡ y
+        some_same e = cc
+
+    by : (c : Content) (m : rows.Mark) → r.content ≡ c → r.mark ≡ m → is_entry m ≡ true → deeper (parent_indent r) ≤ b.indent.columns → mark_column r < b.indent.columns
+    by c rows.Bare is mark k d = absurd (false≢true k)
+    by c rows.Dash is mark k d = let same : deeper (parent_indent r) ≡ suc (mark_column r) = ap (λ (x : rows.Mark). deeper (parent_of x (mark_column r))) mark in omega (arith, d, same)
+    by c (rows.Key key colon) is mark k d = let same : deeper (parent_indent r) ≡ suc (mark_column r) = ap (λ (x : rows.Mark). deeper (parent_of x (mark_column r))) mark in omega (arith, d, same)
+
+    go : (c : Content) → r.content ≡ c → (m : rows.Mark) → r.mark ≡ m → mark_column r < b.indent.columns
+    go (Nothing tail) is m mark = absurd (no_block (sym (ap block_of is) ∙ e))
+      where
+        no_block : None ≡ Some b → ⊥
+        no_block e = cc
+    go (Inline space node tail) is m mark = absurd (no_block (sym (ap block_of is) ∙ e))
+      where
+        no_block : None ≡ Some b → ⊥
+        no_block e = cc
+    go (Block space anchor block) is rows.Bare mark = absurd (false≢true (subst (λ (x : Content). IsMark rows.Bare x t) is (subst (λ (x : rows.Mark). IsMark x r.content t) mark h.mark)))
+    go (Block space anchor block) is rows.Dash mark = by (Block space anchor block) rows.Dash is mark refl (entry space anchor block is)
+    go (Block space anchor block) is (rows.Key key colon) mark = by (Block space anchor block) (rows.Key key colon) is mark refl (entry space anchor block is)
+
+-- the last line of rows
+abbrev last_line : Row → Line
+last_line r = mark_line (above_mark (head_comment r.gap) r.dashes) (mark_column r) r.mark r.content
+
+last_apart : (r : Row) (zs : List Line) → StandApart (row_lines r) zs → Begins (level (last_line r)) zs
+last_apart r zs h = skip (dash_lines (head_comment r.gap) r.column r.dashes) (subst (λ (ls : List Line). StandApart ls zs) (mark_behind (head_comment r.gap) r.column r.dashes r.mark r.content) h)
+  where
+    skip : (a : List Line) → StandApart (a ++ (last_line r ∷ [])) zs → Begins (level (last_line r)) zs
+    skip [] h = h
+    skip (x ∷ []) h = h
+    skip (x ∷ (y ∷ a)) h = skip (y ∷ a) h
+
+pub apart_later : (a b z : List Line) → (b ≡ [] → ⊥) → StandApart (a ++ b) z → StandApart b z
+apart_later [] b z some h = h
+apart_later (x ∷ []) [] z some h = absurd (some refl)
+apart_later (x ∷ []) (k ∷ b) z some h = h
+apart_later (x ∷ (y ∷ a)) b z some h = apart_later (y ∷ a) b z some h
+
+rows_lines : (q : Row) (rs : List Row) → lines_of (q ∷ rs) ≡ [] → ⊥
+rows_lines q rs e = go q.dashes e
+  where
+    go : (ns : List ℕ) → lines_from (head_comment q.gap) q.column ns q.mark q.content ++ lines_of rs ≡ [] → ⊥
+    go [] e = cc
+    go (n ∷ ns) e = cc
+
+one_row : (r : Row) (zs : List Line) → StandApart (row_lines r ++ []) zs → StandApart (row_lines r) zs
+one_row r zs h = subst (λ (ls : List Line). StandApart ls zs) (Rattle.std.proofs.Common.append-nil (row_lines r)) h
+
+pub block_is_deeper : BlockIsDeeper
+block_is_deeper limit [] rows end rest b l h e apart = absurd (cc)
+block_is_deeper limit (r ∷ []) rows end rest b l h e apart =
+    let own : level l ≤ level (last_line r) = last_apart r (l ∷ []) (one_row r (l ∷ []) apart) in
+    let low = low_level l in
+    let high = high_level (last_line r) in
+    let deep = row_block limit r (rows_text rows (end ++ rest)) b h.0 e in
+    omega (arith, own, low, high, deep)
+block_is_deeper limit (r ∷ (q ∷ front)) rows end rest b l h e apart = block_is_deeper (limit_after r) (q ∷ front) rows end rest b l h.1 e (apart_later (row_lines r) (lines_of (q ∷ front)) (l ∷ []) (rows_lines q front) apart)
+
+-- behind a block scalar closed lines stand apart
+block_head : (c : Content) (b : BlockText) → block_of c ≡ Some b → is_some (head_of c) ≡ true
+block_head (Nothing tail) b e = absurd (cc)
+block_head (Inline space node tail) b e = absurd (cc)
+block_head (Block space anchor block) b e = refl
+
+pub last_closed : (front : List Row) (b : BlockText) (zs : List Line) → last_block front ≡ Some b → AreClosed (lines_of front ++ zs) → StandApart (lines_of front) zs
+last_closed [] b zs e h = absurd (cc)
+last_closed (r ∷ []) b zs e h =
+    let d : List Line = dash_lines (head_comment r.gap) r.column r.dashes in
+    let split : row_lines r ++ [] ≡ d ++ (last_line r ∷ []) = Rattle.std.proofs.Common.append-nil (row_lines r) ∙ mark_behind (head_comment r.gap) r.column r.dashes r.mark r.content in
+    let more : AreClosed (d ++ (last_line r ∷ zs)) = subst AreClosed (ap (λ (x : List Line). x ++ zs) split ∙ append_assoc d (last_line r ∷ []) zs) h in
+    subst (λ (x : List Line). StandApart x zs) (sym split) (apart_skip d (last_line r ∷ []) zs (λ none. cc) ((closed_back d (last_line r ∷ zs) more).0 (block_head r.content b e)))
+last_closed (r ∷ (q ∷ front)) b zs e h =
+    apart_skip (row_lines r) (lines_of (q ∷ front)) zs (rows_lines q front) (last_closed (q ∷ front) b zs e (closed_back (row_lines r) (lines_of (q ∷ front) ++ zs) (subst AreClosed (append_assoc (row_lines r) (lines_of (q ∷ front)) zs) h)))
+
+pub apart_first : (a : List Line) (l : Line) (ls : List Line) → StandApart a (l ∷ ls) → StandApart a (l ∷ [])
+apart_first [] l ls h = tt
+apart_first (x ∷ []) l ls h = h
+apart_first (x ∷ (y ∷ a)) l ls h = apart_first (y ∷ a) l ls h
+
+apart_lower : (a zs : List Line) (n : ℕ) (l : Line) → level l ≡ n → StandApart a (l ∷ []) → Begins n zs → StandApart a zs
+apart_lower [] zs n l e h b = tt
+apart_lower (x ∷ []) zs n l e h b = begins_less n (level x) zs (omega (arith, e, h)) b
+apart_lower (x ∷ (y ∷ a)) zs n l e h b = apart_lower (y ∷ a) zs n l e h b
+
+bare : (l : Line) (column : ℕ) (a : List Line) → StandApart a (l ∷ []) → 3 * column + 1 ≤ level l → StandApart a (record l { column = column; mark = Rattle.yq_lines.specs.Outline.Bare } ∷ [])
+unfolding level
+bare l column [] h low = tt
+bare l column (x ∷ []) h low = omega (arith, h, low)
+bare l column (x ∷ (y ∷ a)) h low = bare l column (y ∷ a) h low
+
+pub closed_stands_less : ClosedStandsLess
+closed_stands_less limit front gone back end rest l ls h closed next = go (last_block front) refl back next
+  where
+    go : (o : Option BlockText) → last_block front ≡ o → (back : List Row) → Begins (level l) (lines_of back) → StandsLess o (next_column back)
+    go None e back n = tt
+    go (Some b) e [] n = let deep = block_is_deeper limit front gone end rest b l h e (apart_first (lines_of front) l ls (last_closed front b (l ∷ ls) e closed)) in omega (arith, deep)
+    go (Some b) e (r ∷ rs) n =
+        let apart = apart_first (lines_of front) l ls (last_closed front b (l ∷ ls) e closed) in
+        let deep =
+        block_is_deeper limit front gone end rest b (record l { column = r.column; mark = Rattle.yq_lines.specs.Outline.Bare }) h e (bare l r.column (lines_of front) apart (next_low (level l) (r ∷ rs) r rs refl n)) in
+        deep

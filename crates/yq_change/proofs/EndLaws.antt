@@ -1,0 +1,196 @@
+-- One item or entry more at the end of a text without a final break.
+use Rattle.std.proofs.Common.{◌≡◌, inl, inr, ℕ, suc, ◌+◌, ◌≤◌, ℤ, List, [], ◌∷◌, ◌++◌, length, drop, eqb, ◌&&◌, Option, Some, None, true, false, cond, refl, sym, ap, ◌∙◌, subst}
+use Rattle.std.proofs.Common.{arith, ⊎_elim, append_assoc, append-nil, length-append, eqb-true}
+use Rattle.std.proofs.lemmas.Bool.{false≢true, false_from_ne_true, cond-true, cond-false}
+use Rattle.std.specs.List.{list_all}
+use Rattle.std.specs.Str.{chars}
+use Rattle.yq_scalar.specs.Characters.{is_text, is_text_char, pairs_returns, text_limit}
+use Rattle.yq_scalar.specs.Lines.{is_hash}
+use Rattle.yq_scalar.specs.Text.{NoneIn, cut, ends_line, is_break, is_feed, is_line, is_return, no_white, past_white}
+use Rattle.yq_scalar.proofs.Bools.{and_true, or_false}
+use Rattle.yq_scalar.proofs.Upto.{cut-append}
+use Rattle.yq_inline.specs.Nodes.{node_text}
+use Rattle.yq_inline.proofs.WrittenLaws.{node_then}
+use Rattle.yq_lines.specs.Comments.{comment_text, head_comment, less_space, line_comment}
+use Rattle.yq_rows.specs.Exchange.{row_front}
+use Rattle.yq_rows.specs.Gap.{IsBreak, IsComment, IsWhite}
+use Rattle.yq_rows.specs.Grammar.{Limit, IsContent, IsTail, unlimited, AreRows, IsCut, no_rows}
+use Rattle.yq_rows.specs.Rows.{Content, Nothing, Inline, Block, Row, content_text, mark_column, parent_indent, print_row, rows_text, Part, Cut, cut_text}
+use Rattle.yq_rows.specs.Splices.{before_rows, behind_part, nth_part, splice}
+use Rattle.yq_rows.specs.Appending.{closed_by}
+use Rattle.yq_rows.specs.Seams.{is_block, tail_behind, with_tail}
+use Rattle.yq_rows.proofs.splices.AppendLaws.{end_appended}
+use Rattle.yq_rows.proofs.splices.SpliceTexts.{front_text}
+use Rattle.yq_rows.proofs.CharacterLaws.{pairs_back}
+use Rattle.yq_rows.proofs.LineEnds.{behind_comment, white_again}
+use Rattle.yq_rows.proofs.PlaceLaws.{row_front-append}
+use Rattle.yq_rows.proofs.seams.ScalarSeams.{ends_return}
+use Rattle.yq_rows.proofs.seams.SeamLaws.{line_by_break, rows_drop}
+use Rattle.yq_rows.proofs.splices.PartPlaces.{part_in}
+use Rattle.yq_rows.proofs.seams.TailLaws.{return_then}
+use Rattle.yq_tree.specs.Documents.{HaveFitKeys, HasShortRoot}
+use Rattle.yq_lines.specs.Group.{level_or}
+use Rattle.yq_tree.specs.Lines.{mark_line, lines_of}
+use Rattle.yq_inline.specs.Trees as trees
+use Rattle.yq_tree.specs.Lines as lines
+use Rattle.yq_lines.specs.Outline.{Line, flatten}
+use Rattle.yq_lines.specs.Places.{lines_before, lines_after}
+use Rattle.yq_tree.specs.Reading.{outline_of}
+use Rattle.yq_tree.specs.RowPaths.{IsReadable}
+use Rattle.yq_lines.proofs.Decides.{flatten-group}
+use Rattle.yq_change.specs.Changed.{put_document}
+use Rattle.yq_change.specs.Moved.{dash_lines}
+use Rattle.yq_change.specs.Siblings.{put_lines}
+use Rattle.yq_change.proofs.AnchorLaws.{fit_parts, fit_from}
+use Rattle.yq_change.proofs.CollectionLaws.{appended}
+use Rattle.yq_change.proofs.BlockChangeLaws.{entry_appended}
+use Rattle.yq_change.proofs.MovedLaws.{lines_append}
+use Rattle.yq_change.proofs.PlacedLaws.{same_parts}
+use Rattle.yq_change.specs.Ends.{TakesRowsLast, closed_with, EndAppended}
+use Rattle.yq_change.specs.DocumentRows.{IsDocumentPart, behind_document, part_number}
+use Rattle.yq_change.proofs.AppendLaws.{around}
+use Rattle.yq_change.proofs.LineLaws.{above_mark}
+use Rattle.yq_change.proofs.PartLaws.{part_numbered, rows_put, document_known, is_put, some_behind, drop_front}
+use Rattle.yq_change.proofs.RemarkLaws.{fit_retail, short_retail, last_lines}
+
+-- the comment of a line's end
+abbrev told : List ℕ → Option (List ℕ)
+told [] = None
+told (b ∷ cs) = Some (less_space cs)
+
+end_no_hash : (t : List ℕ) → ends_line t ≡ true → is_hash t ≡ false
+end_no_hash [] h = refl
+end_no_hash (b ∷ t) h = false_from_ne_true (eqb b 35) (λ e. let is : b ≡ 35 = eqb-true b 35 e in false≢true (subst (λ (x : ℕ). ends_line (x ∷ t) ≡ true) is h))
+
+break_ends : (break : List ℕ) → IsBreak break [] → ends_line break ≡ true
+break_ends break e = ap ends_line (sym (append-nil break)) ∙ (behind_comment [] break [] tt e).2
+
+comment_is : (white comment break : List ℕ) → IsWhite white → IsComment comment break → IsBreak break [] → comment_text (white ++ (comment ++ break)) ≡ told comment
+comment_is white comment break w c e =
+    let parts = behind_comment comment break [] c e in
+    let first : no_white (comment ++ break) ≡ true = ap (λ (x : List ℕ). no_white (comment ++ x)) (sym (append-nil break)) ∙ parts.0 in
+    let past : past_white (white ++ (comment ++ break)) ≡ comment ++ break = ap (λ (y : List ℕ × List ℕ). y.1) (white_again white (comment ++ break) w first) in
+    ap (λ (x : List ℕ). cond (is_hash x) (Some (less_space (cut ends_line (drop 1 x)).0)) None) past ∙ go comment c
+  where
+    go : (comment : List ℕ) → IsComment comment break → cond (is_hash (comment ++ break)) (Some (less_space (cut ends_line (drop 1 (comment ++ break))).0)) None ≡ told comment
+    go [] c = cond-false _ _ _ (end_no_hash break (break_ends break e))
+    go (b ∷ cs) c =
+        let whole = cut-append ends_line cs break c.1 (break_ends break e) in
+        cond-true _ _ _ (ap (λ (x : ℕ). eqb x 35) c.0) ∙ ap (λ (y : List ℕ × List ℕ). Some (less_space y.0)) whole
+
+none_closed : (b : ℕ) (p break : List ℕ) → NoneIn ends_line (b ∷ p) [] → ends_return (b ∷ p) ≡ false → NoneIn ends_line (b ∷ p) break
+none_closed b [] break h e =
+    let f = or_false (is_feed b) (is_return b && false) h.0 in
+    (rw (f.0, e) refl, tt)
+none_closed b (c ∷ p) break h e = (h.0, none_closed c p break h.1 e)
+
+comment_closed : (c break : List ℕ) → IsComment c [] → ends_return c ≡ false → IsComment c break
+comment_closed [] break h e = tt
+comment_closed (b ∷ []) break h e = (h.0, tt)
+comment_closed (b ∷ (c ∷ bs)) break h e = (h.0, none_closed c bs break h.1 e)
+
+no_end_return : (p : List ℕ) → pairs_returns p ≡ true → ends_return p ≡ false
+no_end_return p h = false_from_ne_true (ends_return p) (λ e.
+    let whole : pairs_returns (p ++ []) ≡ true = ap pairs_returns (append-nil p) ∙ h in
+    let feed = return_then p [] whole e in false≢true feed)
+
+-- A tail that gets a break has the same comment.
+pub comment_stays : (tail break : List ℕ) → (is_break break && is_line break) ≡ true → is_line tail ≡ false → pairs_returns tail ≡ true → IsTail tail [] →
+    line_comment (tail ++ break) ≡ line_comment tail
+comment_stays tail break b bare pairs h = ⊎_elim {0, 0, 0}
+    (λ e. absurd (false≢true (sym bare ∙ (line_by_break h.white h.comment tail [] h.line ∙ (and_true (is_break h.line.break) (is_line h.line.break) e).1))))
+    (λ e.
+    let is : tail ≡ h.white ++ h.comment = h.line.spelled ∙ (ap (λ l. h.white ++ (h.comment ++ l)) e.0 ∙ ap (λ l. h.white ++ l) (append-nil h.comment)) in
+    let none : ends_return h.comment ≡ false = no_end_return h.comment (pairs_back h.white h.comment (ap pairs_returns (sym is) ∙ pairs)) in
+    let remark : IsComment h.comment [] = subst (IsComment h.comment) e.0 h.line.remark in
+    ap comment_text (ap (λ l. l ++ break) is ∙ append_assoc h.white h.comment break)
+    ∙ (comment_is h.white h.comment break h.line.blank (comment_closed h.comment break remark none) (inl b)
+    ∙ sym (ap comment_text (is ∙ ap (λ l. h.white ++ l) (sym (append-nil h.comment))) ∙ comment_is h.white h.comment [] h.line.blank remark (inr (refl, refl)))))
+    h.line.ends
+
+content_tail : (n : ℤ) (c : Content) (t : List ℕ) → is_block c ≡ false → IsContent n c t → IsTail (tail_behind c) t
+content_tail n (Nothing tail) t b h = h
+content_tail n (Inline space node tail) t b h = h.2
+content_tail n (Block space anchor block) t b h = absurd (false≢true (sym b))
+
+tail_pairs : (c : Content) (t : List ℕ) → is_block c ≡ false → pairs_returns (content_text c t) ≡ true → pairs_returns (tail_behind c ++ t) ≡ true
+tail_pairs (Nothing tail) t b h = h
+tail_pairs (Inline space node tail) t b h = pairs_back (node_text node []) (tail ++ t) (ap pairs_returns (sym (node_then node (tail ++ t))) ∙ pairs_back space (node_text node (tail ++ t)) h)
+tail_pairs (Block space anchor block) t b h = absurd (false≢true (sym b))
+
+-- the line of a row that gets a break
+line_stays : (above : List (List ℕ)) (column : ℕ) (mark : Rattle.yq_rows.specs.Rows.Mark) (c : Content) (tail : List ℕ) → is_block c ≡ false → line_comment tail ≡ line_comment (tail_behind c) →
+    mark_line above column mark (with_tail tail c) ≡ mark_line above column mark c
+line_stays above column mark (Nothing x) tail b e = λ i. record { column = column; mark = lines.mark_of mark; anchor = None; head = None; head_comment = above; line_comment = e i }
+line_stays above column mark (Inline space node x) tail b e = λ i. record { column = column; mark = lines.mark_of mark; anchor = trees.node_anchor node; head = trees.node_head node; head_comment = above; line_comment = e i }
+line_stays above column mark (Block space anchor block) tail b e = absurd (false≢true (sym b))
+
+-- the cut
+end_cut : (t : List ℕ) (c : Cut) (k : ℕ) (p : Part) (front new : List Row) (r : Row) (break : List ℕ) → IsDocumentPart t c k p → IsCut t c → TakesRowsLast p front r break new (behind_document k c) →
+    IsReadable (cut_text (put_document k (closed_with front r break new p) c)) →
+    IsCut (cut_text (put_document k (closed_with front r break new p) c)) (put_document k (closed_with front r break new p) c)
+end_cut t c k p front new r break old cut takes text =
+    let j = part_number k c in
+    let here : nth_part j c ≡ p = (part_numbered c k p old.there).0 in
+    let one : suc (length front) ≡ length front + 1 = omega arith in
+    let same : splice j (length front) (suc (length front)) (closed_by break r ∷ new) [] c ≡ put_document k (closed_with front r break new p) c =
+    ap (λ (i : ℕ). splice j (length front) i (closed_by break r ∷ new) [] c) one ∙ rows_put c k p front (r ∷ []) [] (closed_by break r ∷ new) [] old.there takes.rows_are in
+    subst (λ (x : Cut). IsCut (cut_text x) x) same
+    (end_appended t c j front r break new [] cut (record { row = ap (λ (x : Part). x.rows) here ∙ takes.rows_are; end = ap (λ (x : Part). x.end) here ∙ takes.end_is; nothing = takes.rest_is }) takes.takes takes.new_are
+    (ap (λ (x : Cut). is_text (cut_text x)) same ∙ text.characters) (subst (λ (x : Cut). length (cut_text x) ≤ text_limit) (sym same) text.size))
+
+-- the comment of the last row
+last_comment : (t : List ℕ) (c : Cut) (k : ℕ) (p : Part) (front new : List Row) (r : Row) (break : List ℕ) → IsDocumentPart t c k p → IsCut t c →
+    TakesRowsLast p front r break new (behind_document k c) →
+    line_comment (tail_behind r.content ++ break) ≡ line_comment (tail_behind r.content)
+last_comment t c k p front new r break old cut takes =
+    let j = part_number k c in
+    let i : ℕ = length front in
+    let here : nth_part j c ≡ p = (part_numbered c k p old.there).0 in
+    let end_is : drop i p.rows ≡ r ∷ [] = drop_front p front (r ∷ []) takes.rows_are in
+    let place : rows_text (drop i (nth_part j c).rows) ((nth_part j c).end ++ behind_part j c) ≡ print_row r [] =
+    ap (λ (x : Part). rows_text (drop i x.rows) (x.end ++ behind_part j c)) here ∙ (λ v. rows_text (end_is v) (takes.end_is v ++ takes.rest_is v)) in
+    let whole : cut_text c ≡ before_rows j i c ++ print_row r [] = front_text c j i ∙ ap (λ (x : List ℕ). before_rows j i c ++ x) place in
+    let pairs : pairs_returns (print_row r []) ≡ true =
+    pairs_back (before_rows j i c) (print_row r []) (ap pairs_returns (sym whole) ∙ (ap pairs_returns (sym cut.text) ∙ (and_true (list_all is_text_char (chars t)) (pairs_returns t) cut.characters).1)) in
+    let content : pairs_returns (content_text r.content []) ≡ true = pairs_back (row_front r) (content_text r.content []) (ap pairs_returns (sym (row_front-append r [])) ∙ pairs) in
+    let tail : pairs_returns (tail_behind r.content) ≡ true = ap pairs_returns (sym (append-nil (tail_behind r.content))) ∙ tail_pairs r.content [] takes.takes.inline content in
+    let own = rows_drop i p.rows unlimited p.end (behind_part j c) (subst (λ (x : Part). AreRows unlimited x.rows x.end (behind_part j c)) here (part_in c j true cut.parts).rows) in
+    let asked : Limit = Rattle.yq_rows.specs.Exchange.asked_behind unlimited (Rattle.std.specs.Prelude.take i p.rows) in
+    let row : AreRows asked (r ∷ []) [] [] =
+    subst (λ (x : List ℕ). AreRows asked (r ∷ []) [] x) takes.rest_is (subst (λ (x : List ℕ). AreRows asked (r ∷ []) x (behind_part j c)) takes.end_is (subst (λ (x : List Row). AreRows asked x p.end (behind_part j c)) end_is own)) in
+    comment_stays (tail_behind r.content) break takes.takes.break_is takes.takes.bare tail (content_tail (parent_indent r) r.content [] takes.takes.inline row.0.content)
+
+pub end_of_text_appended : EndAppended
+end_of_text_appended t c k p steps h front new r break m l u old there_is size w takes text =
+    let known = document_known t c k p old in
+    let o = outline_of p in
+    let q : Part = closed_with front r break new p in
+    let cut = end_cut t c k p front new r break old known.cut takes text in
+    let comment = last_comment t c k p front new r break old known.cut takes in
+    let tail : List ℕ = tail_behind r.content ++ break in
+    let there : q.rows ≡ front ++ (closed_by break r ∷ new) = ap (λ (rs : List Row). front ++ (closed_by break r ∷ rs)) (append-nil new) in
+    let stays : (back : List Row) → lines_of (front ++ (closed_by break r ∷ back)) ≡ lines_of (front ++ (r ∷ back)) =
+    λ back. last_lines front r back (with_tail tail r.content)
+        ∙ (ap (λ (x : Line). (lines_of front ++ dash_lines (head_comment r.gap) r.column r.dashes) ++ (x ∷ lines_of back)) (line_stays (above_mark (head_comment r.gap) r.dashes) (mark_column r) r.mark r.content tail takes.takes.inline comment)
+        ∙ sym (last_lines front r back r.content)) in
+    let olds : flatten o ≡ put_lines h (flatten h.lines) = (appended (level_or 0 o) m o u l steps h known.even there_is w.fits).0 in
+    let whole : lines_of p.rows ++ ([] ++ []) ≡ (lines_before h.place ++ flatten h.lines) ++ ([] ++ lines_after h.place) =
+    append-nil (lines_of p.rows) ∙ (sym (flatten-group (lines_of p.rows)) ∙ (olds ∙ sym (append_assoc (lines_before h.place) (flatten h.lines) (lines_after h.place)))) in
+    let parts =
+    same_parts (lines_of p.rows) [] [] (lines_before h.place ++ flatten h.lines) [] (lines_after h.place) whole (size ∙ sym (length-append (lines_before h.place) (flatten h.lines))) refl in
+    let split : lines_of (front ++ (r ∷ new)) ≡ lines_of p.rows ++ lines_of new =
+    ap lines_of (sym (append_assoc front (r ∷ []) new)) ∙ (lines_append (front ++ (r ∷ [])) new ∙ ap (λ (rs : List Row). lines_of rs ++ lines_of new) (sym takes.rows_are)) in
+    let lines : lines_of q.rows ≡ put_lines h (flatten h.lines ++ (l ∷ flatten u)) =
+    ap lines_of there ∙ (stays new ∙ (split ∙ ((λ i. parts.0 i ++ w.lines i)
+    ∙ (ap (λ (x : List Line). (lines_before h.place ++ flatten h.lines) ++ x) (sym (append-nil (l ∷ flatten u)) ∙ ap (λ (x : List Line). (l ∷ flatten u) ++ x) parts.2) ∙ around (lines_before h.place) (flatten h.lines) (l ∷ flatten u) (lines_after h.place))))) in
+    let keys =
+    fit_parts (front ++ (closed_by break r ∷ [])) [] (subst HaveFitKeys (sym (append-nil (front ++ (closed_by break r ∷ [])))) (fit_retail front r [] tail (subst HaveFitKeys takes.rows_are known.document.keys))) in
+    let fit : HaveFitKeys q.rows = subst HaveFitKeys (append_assoc front (closed_by break r ∷ []) new ∙ sym there) (fit_from (front ++ (closed_by break r ∷ [])) new keys.0 w.keys) in
+    let short : HasShortRoot q.rows = subst HasShortRoot (sym there) (first front (short_retail front r [] tail (subst HasShortRoot takes.rows_are known.document.short))) in
+    let put = is_put t c k p q old (ap no_rows there ∙ some_behind front (closed_by break r) new) text cut fit short in
+    entry_appended t c k p q steps h m l u put there_is w.fits w.anchors lines w.value_is w.key
+  where
+    first : (front : List Row) → HasShortRoot (front ++ (closed_by break r ∷ [])) → HasShortRoot (front ++ (closed_by break r ∷ new))
+    first [] h = h
+    first (q ∷ front) h = h

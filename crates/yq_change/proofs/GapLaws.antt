@@ -1,0 +1,130 @@
+-- The head comment of the gap that stays where rows are taken out.
+use Rattle.std.proofs.Common.{◌≡◌, ℕ, zero, suc, Bool, true, false, cond, eqb, ◌&&◌, List, [], ◌∷◌, ◌++◌, Option, Some, None, refl, sym, ap, ◌∙◌, subst, ⊎_elim, replicate}
+use Rattle.std.proofs.lemmas.Bool.{false≢true, cond_both, cond-true, cond-false}
+use Rattle.yq_scalar.specs.Block.{BlockText, Lines, keeps}
+use Rattle.yq_scalar.specs.BlockRepair.{AreGap, is_short, is_outside, repair}
+use Rattle.yq_scalar.specs.Lines.{is_hash, is_blank}
+use Rattle.yq_scalar.specs.Text.{is_break, is_empty, is_line, is_white, joined, lines_of, past_white}
+use Rattle.yq_scalar.proofs.Bools.{is_true, and_true, at_byte}
+use Rattle.yq_scalar.proofs.LineLaws.{lines_again}
+use Rattle.yq_scalar.proofs.SpaceLaws.{white_drop}
+use Rattle.yq_lines.specs.Comments.{are_comments, head_comment, last_comments}
+use Rattle.yq_rows.specs.Gap.{IsGapLine, AreGapLines, IsGap}
+use Rattle.yq_rows.specs.Removal.{hold_comment, seam_gap}
+use Rattle.yq_rows.proofs.seams.GapSeams.{gap_kinds, gap_lines_of}
+use Rattle.yq_lines.proofs.HeadLaws.{comments_behind, head_repaired}
+use Rattle.yq_rows.proofs.seams.GapFronts.{lines_joined_of}
+use Rattle.yq_rows.proofs.NothingLaws.{some_behind}
+use Rattle.yq_rows.proofs.seams.SeamLaws.{line_by_break}
+use Rattle.yq_tree.specs.CommentPlaces.{before_run, last_run}
+
+-- the head comment of a gap, in front of which lines stand that end in no comment
+pub head_joined : (kept next x : List ℕ) → IsGap kept x → is_empty x ≡ false → head_comment kept ≡ [] → head_comment (kept ++ next) ≡ head_comment next
+head_joined kept next x k some none = ap last_comments (lines_joined_of kept next x some k) ∙ comments_behind (lines_of kept) (lines_of next) none
+
+-- the lines before the run that ends a gap
+all_before : (ls : Lines) → are_comments (before_run ls) ≡ true → are_comments ls ≡ true
+all_before [] h = refl
+all_before (l ∷ ls) h = ⊎_elim {0, 0, 0}
+    (λ e. e)
+    (λ e.
+    let more : are_comments (l ∷ before_run ls) ≡ true = ap are_comments (sym (cond-false _ _ _ e)) ∙ h in
+    let parts = and_true (is_hash (past_white l)) (are_comments (before_run ls)) more in
+    absurd (false≢true (sym e ∙ (λ i. parts.0 i && all_before ls parts.1 i))))
+    (is_true (are_comments (l ∷ ls)))
+
+pub none_before : (ls : Lines) → last_comments (before_run ls) ≡ []
+none_before [] = refl
+none_before (l ∷ ls) = ⊎_elim {0, 0, 0}
+    (λ e. ap last_comments (cond-true (are_comments (l ∷ ls)) [] (l ∷ before_run ls) e))
+    (λ e.
+    let open' : are_comments (l ∷ before_run ls) ≡ false = ⊎_elim {0, 0, 0}
+        (λ k. let parts = and_true (is_hash (past_white l)) (are_comments (before_run ls)) k in absurd (false≢true (sym e ∙ (λ i. parts.0 i && all_before ls parts.1 i))))
+        (λ k. k)
+        (is_true (are_comments (l ∷ before_run ls))) in
+    ap last_comments (cond-false (are_comments (l ∷ ls)) [] (l ∷ before_run ls) e) ∙ (cond-false _ _ _ open' ∙ none_before ls))
+    (is_true (are_comments (l ∷ ls)))
+
+pub run_parts : (ls : Lines) → ls ≡ before_run ls ++ last_run ls
+run_parts [] = refl
+run_parts (l ∷ ls) = go (are_comments (l ∷ ls)) (run_parts ls)
+  where
+    go : (b : Bool) → ls ≡ before_run ls ++ last_run ls → l ∷ ls ≡ cond b [] (l ∷ before_run ls) ++ cond b (l ∷ ls) (last_run ls)
+    go true h = refl
+    go false h = ap (λ (x : Lines). l ∷ x) h
+
+-- each line has its break
+abbrev AreLines : Lines → Type 0
+AreLines [] = Unit {0}
+AreLines (l ∷ ls) = (is_line l ≡ true) × AreLines ls
+
+joined_lines : (ls : Lines) → AreLines ls → lines_of (joined ls) ≡ ls
+unfolding lines_of
+joined_lines [] h = refl
+joined_lines (l ∷ ls) h = lines_again l (joined ls) h.0 ∙ ap (λ (x : Lines). l ∷ x) (joined_lines ls h.1)
+
+none_is : (t : List ℕ) → is_empty t ≡ false → t ≡ [] → ⊥
+none_is t some e = absurd (false≢true (sym some ∙ ap is_empty e))
+
+gap_line : (l rest : List ℕ) → is_empty rest ≡ false → IsGapLine l rest → is_line l ≡ true
+gap_line l rest some h = ⊎_elim {0, 0, 0}
+    (λ e. line_by_break h.white h.comment l rest h.line ∙ (and_true (is_break h.line.break) (is_line h.line.break) e).1)
+    (λ e. absurd (none_is rest some e.1))
+    h.line.ends
+
+gap_lines : (ls : Lines) (rest : List ℕ) → is_empty rest ≡ false → AreGapLines ls rest → AreLines ls
+gap_lines [] rest some h = tt
+gap_lines (l ∷ ls) rest some h = (gap_line l (joined ls ++ rest) (some_behind (joined ls) rest some) h.0, gap_lines ls rest some h.1)
+
+line_next : (b : ℕ) (l : List ℕ) → eqb b 10 ≡ false → is_line (b ∷ l) ≡ is_line l
+unfolding is_line
+line_next b l e = rw e refl
+
+line_past : (l : List ℕ) → is_line l ≡ true → is_line (past_white l) ≡ true
+unfolding Rattle.yq_scalar.specs.Text.upto
+line_past [] h = h
+line_past (b ∷ l) h = ⊎_elim {0, 0, 0}
+    (λ e. rw (white_drop b l) (rw e (line_past l (sym (line_next b l (at_byte is_white b 10 e refl)) ∙ h))))
+    (λ e. rw (white_drop b l) (rw e h))
+    (is_true (is_white b))
+
+line_spaces : (n : ℕ) (t : List ℕ) → is_line t ≡ true → is_line (replicate n 32 ++ t) ≡ true
+line_spaces zero t h = h
+line_spaces (suc n) t h = line_next 32 (replicate n 32 ++ t) refl ∙ line_spaces n t h
+
+repaired_lines : (keep : Bool) (m column : ℕ) (ls : Lines) → AreLines ls → AreLines (repair keep m column ls)
+unfolding repair
+repaired_lines keep m column [] h = tt
+repaired_lines true m column (l ∷ ls) h = ⊎_elim {0, 0, 0}
+    (λ b. rw b (repaired_lines true m column ls h.1))
+    (λ b. rw b (cond_both (is_outside m l) l (replicate column 32 ++ past_white l) (λ x. is_line x ≡ true) (λ _. h.0) (λ _. line_spaces column (past_white l) (line_past l h.0)), h.1))
+    (is_true (is_blank l))
+repaired_lines false m column (l ∷ ls) h = ⊎_elim {0, 0, 0}
+    (λ b. rw b (cond_both (is_short m l) l (past_white l) (λ x. is_line x ≡ true) (λ _. h.0) (λ _. line_past l h.0), repaired_lines false m column ls h.1))
+    (λ b. rw b (cond_both (is_outside m l) l (replicate column 32 ++ past_white l) (λ x. is_line x ≡ true) (λ _. h.0) (λ _. line_spaces column (past_white l) (line_past l h.0)), h.1))
+    (is_true (is_blank l))
+
+-- The gap that stays has the head comment of the next one, where something stands behind that.
+pub head_left : (o : Option BlockText) (column : ℕ) (ks : Lines) (x next rest : List ℕ) → AreGapLines ks x → is_empty x ≡ false → last_comments ks ≡ [] → IsGap next rest → is_empty rest ≡ false →
+    head_comment (seam_gap o column (joined ks) next) ≡ head_comment next
+head_left o column ks x next rest k some none n behind = go o
+  where
+    kept : IsGap (joined ks) x
+    kept = record { lines = ks; spelled = refl; each = k }
+
+    bare : head_comment (joined ks) ≡ []
+    bare = ap last_comments (gap_lines_of ks x k) ∙ none
+
+    own : lines_of next ≡ n.lines
+    own = ap lines_of n.spelled ∙ gap_lines_of n.lines rest n.each
+
+    go : (o : Option BlockText) → head_comment (seam_gap o column (joined ks) next) ≡ head_comment next
+    go None = head_joined (joined ks) next x kept some bare
+    go (Some b) =
+        let mended : Lines = repair (keeps b.chomping) b.indent.columns column (lines_of next) in
+        let lines : AreLines (lines_of next) = subst AreLines (sym own) (gap_lines n.lines rest behind n.each) in
+        cond_both (hold_comment (lines_of (joined ks))) (joined ks ++ next) (joined ks ++ joined mended) (λ g. head_comment g ≡ head_comment next)
+        (λ _. head_joined (joined ks) next x kept some bare)
+        (λ _. head_joined (joined ks) (joined mended) x kept some bare
+        ∙ (ap last_comments (joined_lines mended (repaired_lines (keeps b.chomping) b.indent.columns column (lines_of next) lines))
+        ∙ head_repaired (keeps b.chomping) b.indent.columns column (lines_of next) (subst AreGap (sym own) (gap_kinds n.lines rest n.each))))

@@ -1,0 +1,46 @@
+-- The rows of a collection's items or entries, and of one of them.
+use Rattle.std.proofs.Common.{◌≡◌, List, [], ◌∷◌, ◌++◌, length, refl, sym, ap, ◌∙◌, arith, append_assoc, length-append}
+use Rattle.yq_tree.specs.Lines.{lines_of}
+use Rattle.yq_lines.specs.Outline.{Line, flatten}
+use Rattle.yq_lines.specs.Places.{lines_before, lines_after}
+use Rattle.yq_tree.specs.Reading.{outline_of}
+use Rattle.yq_lines.proofs.Decides.{flatten-group}
+use Rattle.yq_change.proofs.CollectionLaws.{collection_replaced, relabelled}
+use Rattle.yq_change.proofs.NodeLineLaws.{lines_even}
+use Rattle.yq_change.proofs.MovedLaws.{lines_append}
+use Rattle.yq_change.proofs.PlacedLaws.{same_parts}
+use Rattle.yq_change.specs.LineRows.{lines_behind}
+use Rattle.yq_change.specs.EntryRows.{CollectionRows, EntryRows}
+use Rattle.yq_change.proofs.ApartLaws.{entries_apart, lines_apart, row_begins}
+use Rattle.yq_change.proofs.ColumnLaws.{apart_later}
+use Rattle.yq_change.proofs.LineLaws.{seat_splits}
+use Rattle.yq_change.proofs.RemarkLaws.{around}
+
+pub collection_rows : CollectionRows
+collection_rows p n steps h even is block =
+    let olds = (collection_replaced n (outline_of p) h.lines steps h (λ cs. cs) even (record { place_is = is; block = block }) block (lines_even n (outline_of p) steps h even is block).1 refl).0 in
+    row_begins p.rows (lines_before h.place ++ flatten h.lines) (lines_after h.place)
+    (sym (flatten-group (lines_of p.rows)) ∙ (olds ∙ sym (append_assoc (lines_before h.place) (flatten h.lines) (lines_after h.place)))) (lines_apart n (outline_of p) steps h even is block).0
+
+pub entry_rows : EntryRows
+entry_rows p n steps s h f x even at is first =
+    let w = seat_splits _ p.rows x is in
+    let e : List Line = f.line ∷ flatten f.under in
+    let b : List Line = lines_before h.place ++ lines_before f.place in
+    let olds = (relabelled n (outline_of p) steps h s f (λ y. y) f.line even at (record { level_is = refl; head_is = refl; anchor_is = refl; label_is = refl })).0 in
+    let lines = w.lines in
+    let size : length (lines_of w.front) ≡ length b = omega (arith, lines, first, length-append (lines_before h.place) (lines_before f.place)) in
+    let whole : lines_of w.front ++ ([] ++ lines_of (x.row ∷ w.back)) ≡ b ++ ([] ++ (e ++ lines_behind h f)) =
+    sym (lines_append w.front (x.row ∷ w.back)) ∙ (ap lines_of (sym w.rows_are) ∙ (sym (flatten-group (lines_of p.rows)) ∙ (olds ∙ around (lines_before h.place) (lines_before f.place) e (flatten f.after ++ Rattle.yq_lines.specs.Places.lines_after f.place) (lines_after h.place)))) in
+    let parts = same_parts (lines_of w.front) [] (lines_of (x.row ∷ w.back)) b [] (e ++ lines_behind h f) whole size refl in
+    let apart = apart_later b e (lines_behind h f) (λ none. cc) (entries_apart n (outline_of p) steps s h f even at).end in
+    let cut = row_begins (x.row ∷ w.back) e (lines_behind h f) parts.2 apart in
+    record {
+      front = w.front;
+      gone = cut.front;
+      back = cut.back;
+      rows_are = w.rows_are ∙ ap (λ rs. w.front ++ rs) cut.rows_are;
+      number = w.before;
+      size = size ∙ length-append (lines_before h.place) (lines_before f.place);
+      count = ap length cut.front_lines;
+    }

@@ -1,0 +1,72 @@
+-- Rows of one document exchanged in a cut (own).
+use Rattle.std.specs.Prelude.{◌≡◌, ℕ, zero, suc, ◌+◌, Bool, true, false, ◌||◌, not, List, ◌++◌, length, slice_get, Some}
+use Rattle.yq_rows.specs.Exchange.{allows_first, asked_behind}
+use Rattle.yq_rows.specs.Grammar.{unlimited, AreRows, IsCut, no_rows, begins_document}
+use Rattle.yq_rows.specs.Rows.{Row, rows_text, Part, Cut, last, marked, cut_text}
+use Rattle.yq_rows.specs.Splices.{with_first_gap, end_gap, behind_first, splice_part, splice, nth_part, behind_part}
+use Rattle.yq_rows.specs.Seams.{are_seamed}
+use Rattle.yq_tree.specs.Documents.{IsDocument, begins_bare, document_parts, has_begin}
+use Rattle.yq_lines.specs.Group.{level_or}
+use Rattle.yq_lines.specs.Outline.{IsEven}
+use Rattle.yq_tree.specs.Reading.{document_of, outline_of, read_at}
+use Rattle.yq_tree.specs.RowPaths.{IsReadable}
+use Rattle.yq_change.specs.Changed.{put_document}
+
+-- Document k of a text that reads as a cut.
+pub record IsDocumentPart (t : List ℕ) (c : Cut) (k : ℕ) (p : Part) : Type 0 where
+  pub read : read_at t ≡ Some c
+  pub there : slice_get (document_parts c) k ≡ Some p
+
+-- the number among the parts of document k, where the first part is a document or not
+abbrev pub number_from : Bool → ℕ → Cut → ℕ
+number_from is k (last p) = zero
+number_from true zero (marked p marker c) = zero
+number_from true (suc k) (marked p marker c) = suc (number_from (begins_document marker) k c)
+number_from false k (marked p marker c) = suc (number_from (begins_document marker) k c)
+
+-- the number among the parts of document k
+abbrev pub part_number : ℕ → Cut → ℕ
+part_number k c = number_from (begins_bare c || not (has_begin c)) k c
+
+-- the text behind document k
+abbrev pub behind_document : ℕ → Cut → List ℕ
+behind_document k c = behind_part (part_number k c) c
+
+-- a part with other rows between those in front and those behind, and this gap behind them
+abbrev pub put_rows : (front new back : List Row) → List ℕ → Part → Part
+put_rows front new back gap p = record { rows = front ++ (new ++ with_first_gap gap back); end = end_gap gap back p.end }
+
+-- Document k has that number, and rows exchanged in that part are the document exchanged.
+abbrev pub PartNumbered : Type 0
+PartNumbered =
+    (c : Cut) (k : ℕ) (p : Part) → slice_get (document_parts c) k ≡ Some p →
+    (nth_part (part_number k c) c ≡ p) × ((i j : ℕ) (new : List Row) (gap : List ℕ) → splice (part_number k c) i j new gap c ≡ put_document k (splice_part i j new gap p) c)
+
+-- The same of rows in three parts.
+abbrev pub RowsPut : Type 0
+RowsPut =
+    (c : Cut) (k : ℕ) (p : Part) (front gone back new : List Row) (gap : List ℕ) → slice_get (document_parts c) k ≡ Some p → p.rows ≡ front ++ (gone ++ back) →
+    splice (part_number k c) (length front) (length front + length gone) new gap c ≡ put_document k (put_rows front new back gap p) c
+
+-- What is known of such a document.
+pub record Known (t : List ℕ) (c : Cut) (p : Part) : Type 0 where
+  pub cut : IsCut t c
+  pub document : IsDocument p (document_of p)
+  pub even : IsEven (level_or 0 (outline_of p)) (outline_of p)
+
+-- Each document of a text that reads as a cut is one, and its lines are even.
+abbrev pub DocumentKnown : Type 0
+DocumentKnown = (t : List ℕ) (c : Cut) (k : ℕ) (p : Part) → IsDocumentPart t c k p → Known t c p
+
+-- Rows may stand between those in front and those behind, with this gap behind them: they are rows there, the next row may follow, and what then stands behind the rows in front may stand there.
+pub record RowsFit (front new back : List Row) (gap : List ℕ) (p : Part) (rest : List ℕ) : Type 0 where
+  pub rows : AreRows (asked_behind unlimited front) new gap (behind_first back p.end rest)
+  pub next : allows_first (asked_behind (asked_behind unlimited front) new) back ≡ true
+  pub seam : are_seamed front (rows_text new (gap ++ behind_first back p.end rest)) ≡ true
+
+-- A cut in which rows of a document that has some give way to others that fit is a cut, where the new text may stand.
+abbrev pub DocumentSpliced : Type 0
+DocumentSpliced =
+    (t : List ℕ) (c : Cut) (k : ℕ) (p : Part) (front gone back new : List Row) (gap : List ℕ) → IsDocumentPart t c k p → IsCut t c → p.rows ≡ front ++ (gone ++ back) → no_rows p.rows ≡ false →
+    RowsFit front new back gap p (behind_document k c) →
+    IsReadable (cut_text (put_document k (put_rows front new back gap p) c)) → IsCut (cut_text (put_document k (put_rows front new back gap p) c)) (put_document k (put_rows front new back gap p) c)

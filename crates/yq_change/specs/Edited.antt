@@ -1,0 +1,127 @@
+-- What texts with other lines in one document read as (own).
+use Rattle.std.specs.Prelude.{◌≡◌, ℕ, ◌<◌, List, [], ◌∷◌, ◌++◌, slice_get, Option, Some, None, true}
+use Rattle.std.specs.Str.{is_utf8}
+use Rattle.yq_scalar.specs.Paths.{Step, append_child, change, node_at, relabel_child, remove_child, within}
+use Rattle.yq_scalar.specs.Tree.{Label, Node, Children, none, child, children_of}
+use Rattle.yq_rows.specs.Grammar.{IsCut}
+use Rattle.yq_rows.specs.Rows.{Part, Cut, cut_text}
+use Rattle.yq_lines.specs.Anchors.{IsFree, HaveOneAnchorEach}
+use Rattle.yq_tree.specs.Documents.{Document, HaveFitKeys, HasShortRoot, document_parts, lead_of}
+use Rattle.yq_lines.specs.Group.{level_or}
+use Rattle.yq_lines.specs.Laws.{with_lines}
+use Rattle.yq_tree.specs.Lines.{lines_of}
+use Rattle.yq_lines.specs.Outline.{Line, level, Outline, end, row, flatten, IsOpen, IsWhole, IsEven, anchored, label, value}
+use Rattle.yq_lines.specs.Places.{lines_before, plug, Found, find, content}
+use Rattle.yq_tree.specs.Reading.{documents, outline_of, read_at, root_of}
+use Rattle.yq_change.specs.Changed.{changed, IsChanged, KeepsRows, put_document}
+use Rattle.yq_change.specs.Conditions.{last_anchor}
+use Rattle.yq_change.specs.SoundRoots.{IsSoundRoot, IsNewValue}
+use Rattle.yq_change.specs.Siblings.{HasEntries, NodeLines, lines_at, put_lines, IsCollectionAt, IsEntryAt, LinesFit, EntryFits, IsRelabelled}
+use Rattle.yq_tree.specs.TreeEdits.{change_nth, headed}
+
+-- A text reads as a cut, and another one has that cut with part q for part p of document k; its rows have fit keys and a short root.
+pub record IsPut (t : List ℕ) (c : Cut) (k : ℕ) (p q : Part) : Type 0 where
+  pub read : read_at t ≡ Some c
+  pub there : slice_get (document_parts c) k ≡ Some p
+  pub rows : KeepsRows p q
+  pub utf8 : is_utf8 (cut_text (put_document k q c)) ≡ true
+  pub cut : IsCut (cut_text (put_document k q c)) (put_document k q c)
+  pub keys : HaveFitKeys q.rows
+  pub short : HasShortRoot q.rows
+
+-- The old root is as is asked.
+abbrev pub OldIsSound : Type 0
+OldIsSound = (t : List ℕ) (c : Cut) (k : ℕ) (p q : Part) → IsPut t c k p q → IsSoundRoot (root_of p)
+
+-- The old lines are even.
+abbrev pub OldIsEven : Type 0
+OldIsEven = (t : List ℕ) (c : Cut) (k : ℕ) (p q : Part) → IsPut t c k p q → IsEven (level_or 0 (outline_of p)) (outline_of p)
+
+-- The lines of a node at a path stand for that node.
+abbrev pub LinesAreThere : Type 0
+LinesAreThere = (steps : List Step) (o : Outline) (h : NodeLines) → lines_at steps o ≡ Some h → node_at steps (value o) ≡ Some (anchored h.anchor (value h.lines))
+
+-- A line, with an outline under it, may stand in the place of one that was found, where the node to which steps lead in its head is changed so.
+pub record LineFits (rest : List Step) (f : Found) (g : Node → Node) (m : ℕ) (l : Line) (u : Outline) : Type 0 where
+  pub label_is : label l ≡ label f.line
+  pub level_is : level l ≡ level f.line
+  pub headless : IsOpen l.head u
+  pub deep : level l < m
+  pub even : IsEven m u
+  pub node_is : content l u ≡ change rest g (content f.line f.under)
+
+-- Behind an anchor, if there is one, lines have one anchor for a node (6.9.2).
+pub record AnchorsFit (a : Option (List ℕ)) (ls : List Line) : Type 0 where
+  pub each : HaveOneAnchorEach ls
+  pub free : IsFree a ls
+
+-- A line at a path and the lines under it exchanged: a node is replaced, or something in the flow collection that its head is.
+abbrev pub LineExchanged : Type 0
+LineExchanged =
+    (t : List ℕ) (c : Cut) (k : ℕ) (p q : Part) (s : Step) (ss rest : List Step) (f : Found) (g : Node → Node) (m : ℕ) (l : Line) (u : Outline) → IsPut t c k p q →
+    find s ss (outline_of p) ≡ Some (f, rest) → LineFits rest f g m l u → IsWhole l.mark l.head f.after → AnchorsFit (last_anchor (lines_before f.place)) (l ∷ flatten u) →
+    lines_of q.rows ≡ with_lines f (l ∷ flatten u) → IsSoundRoot (change (s ∷ ss) g (root_of p)) → IsChanged c (put_document k q c) k (lead_of p) (change (s ∷ ss) g)
+
+-- All lines of the node at a path exchanged: at the root, or under a line that stays.
+abbrev pub LinesExchanged : Type 0
+LinesExchanged =
+    (t : List ℕ) (c : Cut) (k : ℕ) (p q : Part) (steps : List Step) (h : NodeLines) (g : Node → Node) (m : ℕ) (u : Outline) → IsPut t c k p q →
+    lines_at steps (outline_of p) ≡ Some h → LinesFit h g m u → AnchorsFit h.anchor (flatten u) →
+    lines_of q.rows ≡ put_lines h (flatten u) → IsSoundRoot (change steps g (root_of p)) → IsChanged c (put_document k q c) k (lead_of q) (change steps g)
+
+-- Lines of one item or entry more behind those of the collection at a path.
+abbrev pub LinesAppended : Type 0
+LinesAppended =
+    (t : List ℕ) (c : Cut) (k : ℕ) (p q : Part) (steps : List Step) (h : NodeLines) (m : ℕ) (l : Line) (v : Outline) → IsPut t c k p q →
+    IsCollectionAt steps (outline_of p) h → EntryFits h m l v → HaveOneAnchorEach (l ∷ flatten v) →
+    lines_of q.rows ≡ put_lines h (flatten h.lines ++ (l ∷ flatten v)) → IsSoundRoot (change steps (within (append_child (label l) (content l v))) (root_of p)) →
+    IsChanged c (put_document k q c) k (lead_of p) (change steps (within (append_child (label l) (content l v))))
+
+-- The lines of one of several items or entries of the collection at a path taken out.
+abbrev pub LinesRemoved : Type 0
+LinesRemoved =
+    (t : List ℕ) (c : Cut) (k : ℕ) (p q : Part) (steps : List Step) (h : NodeLines) (s : Step) (f : Found) → IsPut t c k p q →
+    IsEntryAt steps s (outline_of p) h f → HasEntries (plug f.place f.after) → lines_of q.rows ≡ put_lines h (with_lines f []) →
+    IsSoundRoot (change steps (within (remove_child s)) (root_of p)) → IsChanged c (put_document k q c) k (lead_of q) (change steps (within (remove_child s)))
+
+-- The line of an item or entry of the collection at a path with other comments.
+abbrev pub LineRelabelled : Type 0
+LineRelabelled =
+    (t : List ℕ) (c : Cut) (k : ℕ) (p q : Part) (steps : List Step) (h : NodeLines) (s : Step) (f : Found) (g : Label → Label) (l : Line) → IsPut t c k p q →
+    IsEntryAt steps s (outline_of p) h f → IsRelabelled g f.line l → lines_of q.rows ≡ put_lines h (with_lines f (l ∷ flatten f.under)) →
+    IsSoundRoot (change steps (within (relabel_child s g)) (root_of p)) → IsChanged c (put_document k q c) k (lead_of q) (change steps (within (relabel_child s g)))
+
+-- Documents whose first lines have the same head comment have the same lead.
+abbrev pub LeadStays : Type 0
+LeadStays = (p q : Part) (l m : Line) (ls ms : List Line) → lines_of p.rows ≡ l ∷ ls → lines_of q.rows ≡ m ∷ ms → m.head_comment ≡ l.head_comment → lead_of q ≡ lead_of p
+
+-- an outline whose first line has this head comment
+abbrev pub with_lead : List (List ℕ) → Outline → Outline
+with_lead above end = end
+with_lead above (row l u a) = row (record l { head_comment = above }) u a
+
+-- A block collection under a lead has it as the head comment of its first item or entry.
+abbrev pub LeadIsAbove : Type 0
+LeadIsAbove = (above : List (List ℕ)) (n : ℕ) (o : Outline) → HasEntries o → IsEven n o → IsEven n (with_lead above o) × (value (with_lead above o) ≡ within (headed above) (value o))
+
+-- the head comment of the first of items or entries, if there are any
+abbrev pub first_above : Children → Option (List (List ℕ))
+first_above none = None
+first_above (child l n cs) = Some l.head_comment
+
+-- The first item or entry of a block root has the document's lead as its head comment.
+abbrev pub RootHasLead : Type 0
+RootHasLead = (p : Part) → HasEntries (outline_of p) → first_above (children_of (root_of p)) ≡ Some (lead_of p)
+
+-- A value without anchors and aliases is sound as a root, also under a lead.
+abbrev pub RootKeeps : Type 0
+RootKeeps = (above : List (List ℕ)) (v : Node) → IsNewValue v 0 → IsSoundRoot v × IsSoundRoot (within (headed above) v)
+
+-- a document with its root changed
+abbrev pub with_root : (Node → Node) → Document → Document
+with_root f d = record d { root = f d.root }
+
+-- A changed document with its old lead has its root changed alone.
+abbrev pub LeadKept : Type 0
+LeadKept =
+    (c : Cut) (k : ℕ) (p : Part) (f : Node → Node) → slice_get (document_parts c) k ≡ Some p → change_nth k (changed (lead_of p) f) (documents c) ≡ change_nth k (with_root f) (documents c)

@@ -1,0 +1,36 @@
+-- One item or entry more at the end of a text without a final break (own).
+use Rattle.std.specs.Prelude.{◌≡◌, ℕ, ◌+◌, List, [], ◌∷◌, ◌++◌, length}
+use Rattle.yq_scalar.specs.Paths.{Step, append_child, change, within}
+use Rattle.yq_rows.specs.Grammar.{AreRows, limit_after}
+use Rattle.yq_rows.specs.Rows.{Row, Part, Cut, cut_text}
+use Rattle.yq_rows.specs.Appending.{closed_by, TakesBreak}
+use Rattle.yq_tree.specs.Documents.{lead_of}
+use Rattle.yq_tree.specs.Lines.{lines_of}
+use Rattle.yq_lines.specs.Outline.{Line, Outline, flatten, label}
+use Rattle.yq_lines.specs.Places.{lines_before, content}
+use Rattle.yq_tree.specs.Reading.{outline_of}
+use Rattle.yq_tree.specs.RowPaths.{IsReadable}
+use Rattle.yq_change.specs.Changed.{IsChanged, put_document}
+use Rattle.yq_change.specs.Siblings.{NodeLines, IsCollectionAt}
+use Rattle.yq_change.specs.Appends.{IsWritten}
+use Rattle.yq_change.specs.DocumentRows.{IsDocumentPart, behind_document, put_rows}
+
+-- a part whose last row gets a break, and rows behind it
+abbrev pub closed_with : (front : List Row) → Row → (break : List ℕ) → (new : List Row) → Part → Part
+closed_with front r break new p = put_rows front (closed_by break r ∷ new) [] [] p
+
+-- The last row of a part may get a break and new rows behind it: the text ends there without one.
+pub record TakesRowsLast (p : Part) (front : List Row) (r : Row) (break : List ℕ) (new : List Row) (rest : List ℕ) : Type 0 where
+  pub rows_are : p.rows ≡ front ++ (r ∷ [])
+  pub end_is : p.end ≡ []
+  pub rest_is : rest ≡ []
+  pub takes : TakesBreak r break
+  pub new_are : AreRows (limit_after r) new [] []
+
+-- Append at the end of a text without a final break: the last row gets one.
+abbrev pub EndAppended : Type 0
+EndAppended =
+    (t : List ℕ) (c : Cut) (k : ℕ) (p : Part) (steps : List Step) (h : NodeLines) (front new : List Row) (r : Row) (break : List ℕ) (m : ℕ) (l : Line) (u : Outline) → IsDocumentPart t c k p →
+    IsCollectionAt steps (outline_of p) h → length (lines_of p.rows) ≡ length (lines_before h.place) + length (flatten h.lines) → IsWritten h new m l u (length steps) →
+    TakesRowsLast p front r break new (behind_document k c) → IsReadable (cut_text (put_document k (closed_with front r break new p) c)) →
+    IsChanged c (put_document k (closed_with front r break new p) c) k (lead_of p) (change steps (within (append_child (label l) (content l u))))

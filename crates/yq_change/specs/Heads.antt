@@ -1,0 +1,44 @@
+-- Head comments of items and entries, put and taken away (own).
+use Rattle.std.specs.Prelude.{◌≡◌, ◌⊎◌, ℕ, List, [], ◌∷◌, ◌++◌, length, replicate}
+use Rattle.yq_scalar.specs.Paths.{Step, change, relabel_child, within}
+use Rattle.yq_scalar.specs.Text.{joined, lines_of as text_lines}
+use Rattle.yq_lines.specs.Comments.{head_comment}
+use Rattle.yq_rows.specs.Gap.{IsGap}
+use Rattle.yq_rows.specs.Rows.{Row, behind_gap, rows_text, Part, Cut, cut_text}
+use Rattle.yq_tree.specs.CommentPlaces.{before_run}
+use Rattle.yq_tree.specs.Documents.{lead_of}
+use Rattle.yq_tree.specs.Lines.{lines_of}
+use Rattle.yq_lines.specs.Places.{Found}
+use Rattle.yq_tree.specs.Reading.{outline_of}
+use Rattle.yq_tree.specs.RowPaths.{IsReadable}
+use Rattle.yq_change.specs.Changed.{IsChanged, put_document}
+use Rattle.yq_change.specs.Siblings.{IsEntryAt, NodeLines}
+use Rattle.yq_change.specs.LineRows.{line_number}
+use Rattle.yq_change.specs.DocumentRows.{IsDocumentPart, behind_document, put_rows}
+use Rattle.yq_tree.specs.TreeEdits.{with_head_comment}
+
+-- What is written for a head comment before a rest: comment lines of which the first begins in a column, or nothing.
+pub record IsRun (column : ℕ) (run rest : List ℕ) : Type 0 where
+  pub gap : IsGap run rest
+  pub stands : (run ≡ []) ⊎ ((v : List ℕ) × (run ≡ replicate column 32 ++ (35 ∷ v)))
+
+-- the gap of a row with other lines in the place of its head comment's
+abbrev pub with_run : Row → List ℕ → List ℕ
+with_run r run = joined (before_run (text_lines r.gap)) ++ run
+
+-- a part in which a row has another head comment
+abbrev pub rerun : (front : List Row) → Row → (back : List Row) → List ℕ → Part → Part
+rerun front r back run p = put_rows front [] (r ∷ back) (with_run r run) p
+
+-- A row of a part may have this for its head comment before a rest.
+pub record TakesRun (p : Part) (front : List Row) (r : Row) (back : List Row) (run rest : List ℕ) : Type 0 where
+  pub rows_are : p.rows ≡ front ++ (r ∷ back)
+  pub run_is : IsRun r.column run (behind_gap r (rows_text back (p.end ++ rest)))
+
+-- HeadComment of an item or entry whose line is the first of its row.
+abbrev pub HeadCommented : Type 0
+HeadCommented =
+    (t : List ℕ) (c : Cut) (k : ℕ) (p : Part) (steps : List Step) (s : Step) (h : NodeLines) (f : Found) (front back : List Row) (r : Row) (run : List ℕ) → IsDocumentPart t c k p →
+    IsEntryAt steps s (outline_of p) h f → TakesRun p front r back run (behind_document k c) → length (lines_of front) ≡ line_number h f →
+    IsReadable (cut_text (put_document k (rerun front r back run p) c)) →
+    IsChanged c (put_document k (rerun front r back run p) c) k (lead_of (rerun front r back run p)) (change steps (within (relabel_child s (with_head_comment (head_comment run)))))

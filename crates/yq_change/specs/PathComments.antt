@@ -1,0 +1,47 @@
+-- The row to which a path leads (own).
+use Rattle.std.specs.Prelude.{◌≡◌, ℕ, List, [], ◌∷◌, ◌++◌, length, Some}
+use Rattle.yq_scalar.specs.Paths.{Step, change, relabel_child, within}
+use Rattle.yq_lines.specs.Comments.{line_comment, head_comment}
+use Rattle.yq_rows.specs.Rows.{Row, Part, Cut, cut_text}
+use Rattle.yq_tree.specs.Documents.{lead_of}
+use Rattle.yq_tree.specs.Lines.{lines_of}
+use Rattle.yq_lines.specs.Outline.{Outline, IsEven}
+use Rattle.yq_lines.specs.Places.{Found}
+use Rattle.yq_tree.specs.Reading.{outline_of}
+use Rattle.yq_tree.specs.RowPaths.{IsReadable}
+use Rattle.yq_lines.specs.Ends.{line_of}
+use Rattle.yq_tree.specs.Seats.{Seat, seat_of}
+use Rattle.yq_change.specs.Changed.{IsChanged, put_document}
+use Rattle.yq_change.specs.Siblings.{IsEntryAt, NodeLines}
+use Rattle.yq_change.specs.Heads.{rerun, TakesRun}
+use Rattle.yq_change.specs.LineRows.{line_number}
+use Rattle.yq_change.specs.DocumentRows.{IsDocumentPart, behind_document}
+use Rattle.yq_change.specs.Remarks.{retailed, TakesTail}
+use Rattle.yq_tree.specs.TreeEdits.{with_head_comment, with_line_comment}
+
+-- A line is that of an item or entry of the block collection at a path.
+pub record IsEntryLine (steps : List Step) (s : Step) (o : Outline) (n : ℕ) : Type 0 where
+  pub h : NodeLines
+  pub f : Found
+  pub entry : IsEntryAt steps s o h f
+  pub number : n ≡ line_number h f
+
+-- The line to which a path leads is such a one.
+abbrev pub PathIsEntry : Type 0
+PathIsEntry = (p : Part) (m : ℕ) (steps : List Step) (s : Step) (n : ℕ) → IsEven m (outline_of p) → line_of (steps ++ (s ∷ [])) (lines_of p.rows) ≡ Some n → IsEntryLine steps s (outline_of p) n
+
+-- LineComment at a path: its line is the last of its row.
+abbrev pub PathLineCommented : Type 0
+PathLineCommented =
+    (t : List ℕ) (c : Cut) (k : ℕ) (p : Part) (steps : List Step) (s : Step) (x : Seat) (front back : List Row) (tail : List ℕ) → IsDocumentPart t c k p →
+    seat_of (steps ++ (s ∷ [])) p.rows ≡ Some x → x.line ≡ length x.row.dashes → TakesTail p front x.row back tail (behind_document k c) → length front ≡ x.before →
+    IsReadable (cut_text (put_document k (retailed front x.row back tail p) c)) →
+    IsChanged c (put_document k (retailed front x.row back tail p) c) k (lead_of p) (change steps (within (relabel_child s (with_line_comment (line_comment tail)))))
+
+-- HeadComment at a path: its line is the first of its row.
+abbrev pub PathHeadCommented : Type 0
+PathHeadCommented =
+    (t : List ℕ) (c : Cut) (k : ℕ) (p : Part) (steps : List Step) (s : Step) (x : Seat) (front back : List Row) (run : List ℕ) → IsDocumentPart t c k p →
+    seat_of (steps ++ (s ∷ [])) p.rows ≡ Some x → x.line ≡ 0 → TakesRun p front x.row back run (behind_document k c) → length front ≡ x.before →
+    IsReadable (cut_text (put_document k (rerun front x.row back run p) c)) →
+    IsChanged c (put_document k (rerun front x.row back run p) c) k (lead_of (rerun front x.row back run p)) (change steps (within (relabel_child s (with_head_comment (head_comment run)))))

@@ -1,0 +1,47 @@
+-- Where the lines of a node, an entry or an item stand among the lines of rows, by their numbers (own).
+use Rattle.std.specs.Prelude.{◌≡◌, ℕ, ◌+◌, List, [], ◌∷◌, ◌++◌, length, Some}
+use Rattle.yq_scalar.specs.Paths.{Step}
+use Rattle.yq_rows.specs.Rows.{Row, Part}
+use Rattle.yq_lines.specs.Laws.{with_lines}
+use Rattle.yq_tree.specs.Lines.{lines_of}
+use Rattle.yq_lines.specs.Outline.{Line, flatten, IsEven}
+use Rattle.yq_lines.specs.Places.{lines_before, Found, find}
+use Rattle.yq_tree.specs.Reading.{outline_of}
+use Rattle.yq_change.specs.Siblings.{IsEntry, NodeLines, lines_at, put_lines, IsEntryAt}
+
+-- Lines in three parts are in the same three parts wherever these have the same lengths.
+abbrev pub SameParts : Type 0
+SameParts = (a x z b y w : List Line) → a ++ (x ++ z) ≡ b ++ (y ++ w) → length a ≡ length b → length x ≡ length y → (a ≡ b) × (x ≡ y) × (z ≡ w)
+
+-- The lines of rows in three parts are those of each part.
+abbrev pub RowsInParts : Type 0
+RowsInParts = (before come after : List Row) → lines_of (before ++ (come ++ after)) ≡ lines_of before ++ (lines_of come ++ lines_of after)
+
+-- Lines are in three parts, with as many in the first two.
+pub record ArePartedAt (ls a x z : List Line) (before size : ℕ) : Type 0 where
+  pub parts_are : ls ≡ a ++ (x ++ z)
+  pub before_are : length a ≡ before
+  pub size_is : length x ≡ size
+
+-- Lines that are as many as those under a line that was found, with it, and stand behind as many, are these.
+abbrev pub LinePlaced : Type 0
+LinePlaced =
+    (n : ℕ) (p : Part) (s : Step) (ss rest : List Step) (f : Found) (a x z : List Line) → IsEven n (outline_of p) → find s ss (outline_of p) ≡ Some (f, rest) →
+    ArePartedAt (lines_of p.rows) a x z (length (lines_before f.place)) (length (f.line ∷ flatten f.under)) → (x ≡ f.line ∷ flatten f.under) × ((ls : List Line) → with_lines f ls ≡ a ++ (ls ++ z))
+
+-- The same of the lines of the node at a path.
+abbrev pub LinesPlaced : Type 0
+LinesPlaced =
+    (n : ℕ) (p : Part) (steps : List Step) (h : NodeLines) (a x z : List Line) → IsEven n (outline_of p) → lines_at steps (outline_of p) ≡ Some h →
+    ArePartedAt (lines_of p.rows) a x z (length (lines_before h.place)) (length (flatten h.lines)) → (x ≡ flatten h.lines) × ((ls : List Line) → put_lines h ls ≡ a ++ (ls ++ z))
+
+-- The same of an item or entry in it.
+abbrev pub EntryPlaced : Type 0
+EntryPlaced =
+    (n : ℕ) (p : Part) (steps : List Step) (h : NodeLines) (s : Step) (f : Found) (a x z : List Line) → IsEven n (outline_of p) → IsEntryAt steps s (outline_of p) h f →
+    ArePartedAt (lines_of p.rows) a x z (length (lines_before h.place) + length (lines_before f.place)) (length (f.line ∷ flatten f.under)) →
+    (x ≡ f.line ∷ flatten f.under) × ((ls : List Line) → put_lines h (with_lines f ls) ≡ a ++ (ls ++ z))
+
+-- Where no steps are left, the line that was found is an entry's or item's.
+abbrev pub FoundIsEntry : Type 0
+FoundIsEntry = (n : ℕ) (p : Part) (s : Step) (ss : List Step) (f : Found) → IsEven n (outline_of p) → find s ss (outline_of p) ≡ Some (f, []) → IsEntry f.line.mark

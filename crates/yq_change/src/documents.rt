@@ -1,0 +1,134 @@
+//! Laws on lines exchanged, for the crates above.
+ghost use Rattle.yq_change.specs.After.{AfterBlock, AfterKept, ChangedAlike, EndIsChange};
+ghost use Rattle.yq_change.specs.Changed.{DocumentChanged, DocumentPut, LeadIsFirst, PartStands, TextPut};
+ghost use Rattle.yq_change.specs.Conditions.{AnchorsStay, BoundChanged, BoundStays, DepthChanged, FitStays, LinesAmong, NamesAround, UniqueChanged};
+ghost use Rattle.yq_change.specs.Edited.{LinesAreThere, LeadIsAbove, LeadKept, LeadStays, LineExchanged, LineRelabelled, LinesAppended, LinesExchanged, LinesRemoved, OldIsEven, OldIsSound, RootHasLead, RootKeeps};
+ghost use Rattle.yq_change.specs.FlowChanges.{FlowAppended, FlowRemoved, FlowReplaced, HeadChanged, ItemsChanged, RootItemsChanged};
+ghost use Rattle.yq_change.specs.BlockChanges.{EntryAppended, EntryRelabelled, EntryRemoved, FirstDropped, FirstRemoved, NodeReplaced, RootReplaced, RootRewritten};
+ghost use Rattle.yq_change.specs.Moved.{DashesFirst, FirstEmptied, FirstMoved};
+ghost use Rattle.yq_change.specs.SoundRoots.{AppendKeeps, RelabelKeeps, RemoveKeeps, ReplaceKeeps};
+ghost use Rattle.yq_change.specs.Placed.{EntryPlaced, FoundIsEntry, LinesPlaced, LinePlaced, RowsInParts, SameParts};
+ghost use Rattle.yq_change.specs.Siblings.{Appended, CollectionReplaced, LinesReplaced, Relabelled, Removed, SiblingsReplaced};
+
+/// Items or entries of a collection give way to others.
+pub fn siblings_replaced()
+    ensures { SiblingsReplaced }
+{}
+
+/// The lines of the node at a path exchanged.
+pub fn lines_replaced()
+    ensures { LinesReplaced }
+{}
+
+/// Items or entries exchanged, added, taken out and relabelled, at any path.
+pub fn collection_changed()
+    ensures replaced { CollectionReplaced }
+    ensures appended { Appended }
+    ensures removed { Removed }
+    ensures relabelled { Relabelled }
+{}
+
+/// What is asked of a whole document holds where it holds of the changed part.
+pub fn conditions_changed()
+    ensures stays { BoundStays }
+    ensures around { NamesAround }
+    ensures bound { BoundChanged }
+    ensures unique { UniqueChanged }
+    ensures nested { DepthChanged }
+{}
+
+/// A text with another part for one document reads as the same documents but for that one.
+pub fn document_changed()
+    ensures put { DocumentPut }
+    ensures text { TextPut }
+    ensures part { PartStands }
+    ensures read { DocumentChanged }
+    ensures lead { LeadIsFirst }
+{}
+
+/// Lines and rows that give way to others leave anchors alone and keys fit.
+pub fn rows_stay()
+    ensures anchors { AnchorsStay }
+    ensures among { LinesAmong }
+    ensures keys { FitStays }
+{}
+
+/// The lines without the first entry of a compact collection.
+pub fn rows_moved()
+    ensures dashes { DashesFirst }
+    ensures moved { FirstMoved }
+    ensures emptied { FirstEmptied }
+{}
+
+/// The operations leave a document's root as is asked.
+pub fn operations_keep()
+    ensures replaced { ReplaceKeeps }
+    ensures appended { AppendKeeps }
+    ensures removed { RemoveKeeps }
+    ensures relabelled { RelabelKeeps }
+    ensures root { RootKeeps }
+{}
+
+/// A text whose lines were exchanged reads as the same documents but for the node at a path.
+pub fn text_changed()
+    ensures line { LineExchanged }
+    ensures lines { LinesExchanged }
+    ensures appended { LinesAppended }
+    ensures removed { LinesRemoved }
+    ensures relabelled { LineRelabelled }
+{}
+
+/// What is known of a document before the change.
+pub fn document_known()
+    ensures sound { OldIsSound }
+    ensures even { OldIsEven }
+    ensures there { LinesAreThere }
+{}
+
+/// Leads and first lines.
+pub fn leads()
+    ensures stays { LeadStays }
+    ensures above { LeadIsAbove }
+    ensures root { RootHasLead }
+    ensures kept { LeadKept }
+{}
+
+/// The operations on block nodes, each read as the documents that it makes.
+pub fn operations_read()
+    ensures replaced { NodeReplaced }
+    ensures root { RootReplaced }
+    ensures rewritten { RootRewritten }
+    ensures appended { EntryAppended }
+    ensures removed { EntryRemoved }
+    ensures first { FirstRemoved }
+    ensures dropped { FirstDropped }
+    ensures relabelled { EntryRelabelled }
+{}
+
+/// Where lines at a path stand among the lines of rows.
+pub fn lines_placed()
+    ensures parts { SameParts }
+    ensures rows { RowsInParts }
+    ensures line { LinePlaced }
+    ensures lines { LinesPlaced }
+    ensures entry { EntryPlaced }
+    ensures found { FoundIsEntry }
+{}
+
+/// A changed text, told as a tree with the lead that goes with it.
+pub fn tree_after()
+    ensures end { EndIsChange }
+    ensures block { AfterBlock }
+    ensures kept { AfterKept }
+    ensures alike { ChangedAlike }
+{}
+
+/// The operations inside flow collections, each read as the documents that it makes.
+pub fn flow_read()
+    ensures head { HeadChanged }
+    ensures items { ItemsChanged }
+    ensures root { RootItemsChanged }
+    ensures replaced { FlowReplaced }
+    ensures appended { FlowAppended }
+    ensures removed { FlowRemoved }
+{}
