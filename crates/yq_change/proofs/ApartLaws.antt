@@ -93,9 +93,11 @@ pub lines_apart : LinesApart
 lines_apart n o steps h even e block =
     let deep = lines_even n o steps h even e block in
     let lt = deep.0 in
-    let next = lines_begin n o steps h even e in
-    (apart_skip (lines_before h.place) (flatten h.lines) (lines_after h.place) (block_some h.lines block)
-    (apart_deep (level_or 0 h.lines) (flatten h.lines) (lines_after h.place) (even_deep (level_or 0 h.lines) h.lines deep.1) (begins_less h.above (level_or 0 h.lines) (lines_after h.place) (omega (arith, lt)) next)), next)
+    let next = lines_begin n o steps h even e in (
+      apart_skip (lines_before h.place) (flatten h.lines) (lines_after h.place) (block_some h.lines block)
+          (apart_deep (level_or 0 h.lines) (flatten h.lines) (lines_after h.place) (even_deep (level_or 0 h.lines) h.lines deep.1) (begins_less h.above (level_or 0 h.lines) (lines_after h.place) (omega (arith, lt)) next)),
+      next,
+    )
 
 -- An item or entry among its siblings.
 pub record Stood (n : ℕ) (f : Found) : Type 0 where
@@ -130,7 +132,8 @@ entries_apart n o steps s h f even e =
     (begins_less h.above m (lines_after h.place) (omega (arith, lt)) (lines_begin n o steps h even e.place_is)) in
     let lines : AreDeep m (f.line ∷ flatten f.under) = (omega (arith, same), deep_less m own.3.0 (flatten f.under) (let less = own.3.1 in omega (arith, less)) (even_deep own.3.0 f.under own.3.2)) in
     record {
-      begin = λ some. apart_skip (lines_before h.place) (lines_before f.place) ((f.line ∷ flatten f.under) ++ lines_behind h f) some (apart_deep m (lines_before f.place) ((f.line ∷ flatten f.under) ++ lines_behind h f) w.before (omega (arith, same)));
+      begin = λ some. apart_skip (lines_before h.place) (lines_before f.place) ((f.line ∷ flatten f.under) ++ lines_behind h f) some
+          (apart_deep m (lines_before f.place) ((f.line ∷ flatten f.under) ++ lines_behind h f) w.before (omega (arith, same)));
       end = apart_skip (lines_before h.place ++ lines_before f.place) (f.line ∷ flatten f.under) (lines_behind h f) (λ none. cc) (apart_deep m (f.line ∷ flatten f.under) (lines_behind h f) lines behind);
       next = begins_less m (level f.line) (lines_behind h f) (omega (arith, same)) behind;
     }

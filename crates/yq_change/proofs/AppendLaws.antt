@@ -134,7 +134,8 @@ block_appended t c k p steps h front back new m l u old there_is size w takes te
     let above : h.above < n = deep.0 in
     let new_deep : AreDeep n (lines_of new) = subst (AreDeep n) (sym w.lines) (omega (arith, level_is), deep_less n m (flatten u) (omega (arith, level_is, less)) (even_deep m u w.fits.even)) in
     let first : StandApart (lines_of front) (l ∷ []) =
-    subst (λ (ls : List Line). StandApart ls (l ∷ [])) (sym parts.0) (apart_skip (lines_before h.place) (flatten h.lines) (l ∷ []) (block_lines h.lines there_is.block) (apart_deep n (flatten h.lines) (l ∷ []) (even_deep n h.lines deep.1) (omega (arith, level_is)))) in
+    subst (λ (ls : List Line). StandApart ls (l ∷ [])) (sym parts.0) (apart_skip (lines_before h.place) (flatten h.lines) (l ∷ []) (block_lines h.lines there_is.block)
+    (apart_deep n (flatten h.lines) (l ∷ []) (even_deep n h.lines deep.1) (omega (arith, level_is)))) in
     let part : AreRows unlimited (front ++ back) p.end rest =
     subst (λ (rs : List Row). AreRows unlimited rs p.end rest) takes.rows_are (subst (λ (x : Part). AreRows unlimited x.rows x.end rest) (part_numbered c k p old.there).0 (part_in c (part_number k c) true known.cut.parts).rows) in
     let gap : List ℕ = first_gap back p.end in
@@ -148,9 +149,11 @@ block_appended t c k p steps h front back new m l u old there_is size w takes te
     let cut = document_spliced t c k p front [] back new gap old known.cut takes.rows_are has fits text in
     let keys = fit_parts front back (subst HaveFitKeys takes.rows_are known.document.keys) in
     let put =
-    is_put t c k p q old (ap no_rows there ∙ more front (new ++ back) some) text cut (subst HaveFitKeys (sym there) (fit_from front (new ++ back) keys.0 (fit_from new back w.keys keys.1))) (subst HasShortRoot (sym there) (short_stays front back (new ++ back) some (subst HasShortRoot takes.rows_are known.document.short))) in
+    is_put t c k p q old (ap no_rows there ∙ more front (new ++ back) some) text cut (subst HaveFitKeys (sym there) (fit_from front (new ++ back) keys.0 (fit_from new back w.keys keys.1)))
+    (subst HasShortRoot (sym there) (short_stays front back (new ++ back) some (subst HasShortRoot takes.rows_are known.document.short))) in
     let lines : lines_of q.rows ≡ put_lines h (flatten h.lines ++ (l ∷ flatten u)) =
-    ap lines_of there ∙ (lines_append front (new ++ back) ∙ ((λ i. parts.0 i ++ lines_append new back i) ∙ ((λ i. (lines_before h.place ++ flatten h.lines) ++ (w.lines i ++ parts.2 i)) ∙ around (lines_before h.place) (flatten h.lines) (l ∷ flatten u) (lines_after h.place)))) in
+    ap lines_of there ∙ (lines_append front (new ++ back) ∙ ((λ i. parts.0 i ++ lines_append new back i)
+    ∙ ((λ i. (lines_before h.place ++ flatten h.lines) ++ (w.lines i ++ parts.2 i)) ∙ around (lines_before h.place) (flatten h.lines) (l ∷ flatten u) (lines_after h.place)))) in
     entry_appended t c k p q steps h m l u put there_is w.fits w.anchors lines w.value_is w.key
   where
     more : (a b : List Row) → no_rows a ≡ false → no_rows (a ++ b) ≡ false

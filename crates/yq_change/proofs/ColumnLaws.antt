@@ -80,7 +80,8 @@ row_limit n m column r rest d deep less low = allowed_content (parent_indent r) 
     node [] e b = subst (λ (ns : List ℕ). column < behind_columns r.column ns) (sym e) (let one = alone in omega (arith, one, less, low))
       where
         alone : n ≤ 3 * r.column + 1
-        alone = bare_high n (head_comment r.gap) r.column r.content rest (subst (λ (x : rows.Mark). AreDeep n (lines_from (head_comment r.gap) r.column [] x r.content ++ rest)) b (subst (λ (ns : List ℕ). AreDeep n (lines_from (head_comment r.gap) r.column ns r.mark r.content ++ rest)) e deep))
+        alone = bare_high n (head_comment r.gap) r.column r.content rest (subst (λ (x : rows.Mark). AreDeep n (lines_from (head_comment r.gap) r.column [] x r.content ++ rest)) b
+            (subst (λ (ns : List ℕ). AreDeep n (lines_from (head_comment r.gap) r.column ns r.mark r.content ++ rest)) e deep))
     node (k ∷ ns) e b = absurd (false≢true ((subst (λ (x : rows.Mark). AreDashes (k ∷ ns) x) b (subst (λ (x : List ℕ). AreDashes x r.mark) e d)).1))
 
     go : (mark : rows.Mark) → r.mark ≡ mark → (ns : List ℕ) → r.dashes ≡ ns → column < deeper (parent_of r.mark (mark_column r))
@@ -204,7 +205,8 @@ last_closed (r ∷ []) b zs e h =
     let more : AreClosed (d ++ (last_line r ∷ zs)) = subst AreClosed (ap (λ (x : List Line). x ++ zs) split ∙ append_assoc d (last_line r ∷ []) zs) h in
     subst (λ (x : List Line). StandApart x zs) (sym split) (apart_skip d (last_line r ∷ []) zs (λ none. cc) ((closed_back d (last_line r ∷ zs) more).0 (block_head r.content b e)))
 last_closed (r ∷ (q ∷ front)) b zs e h =
-    apart_skip (row_lines r) (lines_of (q ∷ front)) zs (rows_lines q front) (last_closed (q ∷ front) b zs e (closed_back (row_lines r) (lines_of (q ∷ front) ++ zs) (subst AreClosed (append_assoc (row_lines r) (lines_of (q ∷ front)) zs) h)))
+    apart_skip (row_lines r) (lines_of (q ∷ front)) zs (rows_lines q front) (last_closed (q ∷ front) b zs e
+    (closed_back (row_lines r) (lines_of (q ∷ front) ++ zs) (subst AreClosed (append_assoc (row_lines r) (lines_of (q ∷ front)) zs) h)))
 
 pub apart_first : (a : List Line) (l : Line) (ls : List Line) → StandApart a (l ∷ ls) → StandApart a (l ∷ [])
 apart_first [] l ls h = tt

@@ -212,7 +212,8 @@ lines_removed t c k p q steps h s f put entry left lines sound =
     let place : (ls : List Line) → put_lines h (with_lines f ls) ≡ (a ++ x) ++ (ls ++ (y ++ z)) = λ ls. ap (put_lines h) (r.lines ls) ∙ around a x ls y z in
     let was : lines_of p.rows ≡ (a ++ x) ++ (e ++ (y ++ z)) = sym w.lines ∙ (law.0 ∙ place e) in
     let one : HaveOneAnchorEach (put_lines h (with_lines f [])) =
-    subst HaveOneAnchorEach (sym (place [])) (anchors_stay (a ++ x) e [] (y ++ z) (subst HaveOneAnchorEach was w.each) tt (any_free (last_anchor (a ++ x)) [] tt) (both_anew y z (behind_split s h.lines f r entry.block deep.1).0 among.0)) in
+    subst HaveOneAnchorEach (sym (place [])) (anchors_stay (a ++ x) e [] (y ++ z) (subst HaveOneAnchorEach was w.each) tt (any_free (last_anchor (a ++ x)) [] tt)
+    (both_anew y z (behind_split s h.lines f r entry.block deep.1).0 among.0)) in
     finish t c k p q g put (subst (λ ls. StandsSomewhere ls (g (root_of p))) (sym lines) law.1) (subst HaveOneAnchorEach (sym lines) one) sound
 
 pub line_relabelled : LineRelabelled

@@ -172,8 +172,9 @@ end_of_text_appended t c k p steps h front new r break m l u old there_is size w
     let there : q.rows ≡ front ++ (closed_by break r ∷ new) = ap (λ (rs : List Row). front ++ (closed_by break r ∷ rs)) (append-nil new) in
     let stays : (back : List Row) → lines_of (front ++ (closed_by break r ∷ back)) ≡ lines_of (front ++ (r ∷ back)) =
     λ back. last_lines front r back (with_tail tail r.content)
-        ∙ (ap (λ (x : Line). (lines_of front ++ dash_lines (head_comment r.gap) r.column r.dashes) ++ (x ∷ lines_of back)) (line_stays (above_mark (head_comment r.gap) r.dashes) (mark_column r) r.mark r.content tail takes.takes.inline comment)
-        ∙ sym (last_lines front r back r.content)) in
+    ∙ (ap (λ (x : Line). (lines_of front ++ dash_lines (head_comment r.gap) r.column r.dashes) ++ (x ∷ lines_of back))
+    (line_stays (above_mark (head_comment r.gap) r.dashes) (mark_column r) r.mark r.content tail takes.takes.inline comment)
+    ∙ sym (last_lines front r back r.content)) in
     let olds : flatten o ≡ put_lines h (flatten h.lines) = (appended (level_or 0 o) m o u l steps h known.even there_is w.fits).0 in
     let whole : lines_of p.rows ++ ([] ++ []) ≡ (lines_before h.place ++ flatten h.lines) ++ ([] ++ lines_after h.place) =
     append-nil (lines_of p.rows) ∙ (sym (flatten-group (lines_of p.rows)) ∙ (olds ∙ sym (append_assoc (lines_before h.place) (flatten h.lines) (lines_after h.place)))) in
@@ -183,7 +184,8 @@ end_of_text_appended t c k p steps h front new r break m l u old there_is size w
     ap lines_of (sym (append_assoc front (r ∷ []) new)) ∙ (lines_append (front ++ (r ∷ [])) new ∙ ap (λ (rs : List Row). lines_of rs ++ lines_of new) (sym takes.rows_are)) in
     let lines : lines_of q.rows ≡ put_lines h (flatten h.lines ++ (l ∷ flatten u)) =
     ap lines_of there ∙ (stays new ∙ (split ∙ ((λ i. parts.0 i ++ w.lines i)
-    ∙ (ap (λ (x : List Line). (lines_before h.place ++ flatten h.lines) ++ x) (sym (append-nil (l ∷ flatten u)) ∙ ap (λ (x : List Line). (l ∷ flatten u) ++ x) parts.2) ∙ around (lines_before h.place) (flatten h.lines) (l ∷ flatten u) (lines_after h.place))))) in
+    ∙ (ap (λ (x : List Line). (lines_before h.place ++ flatten h.lines) ++ x) (sym (append-nil (l ∷ flatten u)) ∙ ap (λ (x : List Line). (l ∷ flatten u) ++ x) parts.2)
+    ∙ around (lines_before h.place) (flatten h.lines) (l ∷ flatten u) (lines_after h.place))))) in
     let keys =
     fit_parts (front ++ (closed_by break r ∷ [])) [] (subst HaveFitKeys (sym (append-nil (front ++ (closed_by break r ∷ [])))) (fit_retail front r [] tail (subst HaveFitKeys takes.rows_are known.document.keys))) in
     let fit : HaveFitKeys q.rows = subst HaveFitKeys (append_assoc front (closed_by break r ∷ []) new ∙ sym there) (fit_from (front ++ (closed_by break r ∷ [])) new keys.0 w.keys) in

@@ -20,11 +20,13 @@ use Rattle.yq_scalar.specs.Tree.{scalar, list, map, none, child}
 use Rattle.yq_inline.specs.Nodes as inline
 use Rattle.yq_lines.specs.Comments.{head_comment}
 use Rattle.yq_rows.specs.Reading.{scan_at}
-use Rattle.yq_rows.specs.Reading as scanning
-use Rattle.yq_inline.specs.Reading as flow
+use Rattle.yq_rows.specs.Reading.{parts_at, part_at, rows_at, gap_lines, row_at, marked_row_at, content_at, dashes_at, key_at, colon_at, inline_content_at, tail_at, marker_at, anchor_at}
+use Rattle.yq_inline.specs.Reading.{scalar_at, node_at, content_at as flow_at}
 use Rattle.yq_scalar.specs.ContentReading as contents
-use Rattle.yq_scalar.specs.Characters as characters
-use Rattle.yq_scalar.specs.Plain as plain
+use Rattle.yq_scalar.specs.Characters.{pairs_returns as pairs}
+use Rattle.yq_scalar.specs.Plain.{plain_at}
+use Rattle.yq_scalar.specs.Text.{is_line, line_len, lines_of, upto}
+use Rattle.std.specs.Str.{chars}
 use Rattle.std.specs.Str as strings
 use Rattle.yq_rows.specs.Rows as rows
 use Rattle.yq_rows.specs.Rows.{Inline, Row, Part, Cut, last, marked, print_row, cut_text, rows_text}
@@ -79,7 +81,7 @@ without_a =
     (record { place = here; line = a_line; under = end; after = row b_line end end }) even (record { place_is = there; block = tt; found = found }) tt).1
 
 -- the rows: b stands behind the dash, or, where a comment is above it, below an empty dash
-abbrev plain_row : List ℕ → ℕ → List ℕ → List ℕ → List ℕ → Row
+abbrev pub plain_row : List ℕ → ℕ → List ℕ → List ℕ → List ℕ → Row
 plain_row gap column dashes key text = record { gap = gap; column = column; dashes = dashes; mark = rows.Key key (codes ":"); content = Inline (32 ∷ []) (inline.scalar text) (10 ∷ []) }
 
 abbrev a_row : Row
@@ -148,48 +150,56 @@ unfolding text.lines_of text.upto
 none_above = refl
 
 -- texts of one entry and of two
-abbrev a_entry : Row
+abbrev pub a_entry : Row
 a_entry = plain_row [] 0 [] (codes "a") (codes "x")
 
-abbrev b_entry : Row
+abbrev pub b_entry : Row
 b_entry = plain_row [] 0 [] (codes "b") (codes "y")
 
-abbrev old_part : Part
+abbrev pub old_part : Part
 old_part = record { rows = a_entry ∷ []; end = [] }
 
-abbrev new_part : Part
+abbrev pub new_part : Part
 new_part = record { rows = a_entry ∷ (b_entry ∷ []); end = [] }
 
-scanned_old : scan_at (codes "a: x\n") ≡ Some (last old_part)
-unfolding scanning.scan_at strings.chars characters.pairs_returns scanning.parts_at scanning.part_at scanning.rows_at scanning.gap_lines text.upto scanning.row_at scanning.marked_row_at scanning.content_at scanning.dashes_at scanning.key_at flow.scalar_at plain.plain_at scanning.colon_at scanning.inline_content_at scanning.tail_at scanning.marker_at scanning.anchor_at text.is_line text.line_len text.lines_of flow.node_at flow.content_at
+pub scanned_old : scan_at (codes "a: x\n") ≡ Some (last old_part)
+unfolding scan_at chars pairs parts_at part_at rows_at gap_lines upto row_at marked_row_at content_at dashes_at key_at scalar_at plain_at colon_at inline_content_at tail_at marker_at anchor_at is_line line_len lines_of node_at flow_at
 scanned_old = refl
 
-scanned_new : scan_at (codes "a: x\nb: y\n") ≡ Some (last new_part)
-unfolding scanning.scan_at strings.chars characters.pairs_returns scanning.parts_at scanning.part_at scanning.rows_at scanning.gap_lines text.upto scanning.row_at scanning.marked_row_at scanning.content_at scanning.dashes_at scanning.key_at flow.scalar_at plain.plain_at scanning.colon_at scanning.inline_content_at scanning.tail_at scanning.marker_at scanning.anchor_at text.is_line text.line_len text.lines_of flow.node_at flow.content_at
+pub scanned_new : scan_at (codes "a: x\nb: y\n") ≡ Some (last new_part)
+unfolding scan_at chars pairs parts_at part_at rows_at gap_lines upto row_at marked_row_at content_at dashes_at key_at scalar_at plain_at colon_at inline_content_at tail_at marker_at anchor_at is_line line_len lines_of node_at flow_at
 scanned_new = refl
 
+pub scanned_y : scan_at (codes "a: y\n") ≡ Some (last (record { rows = plain_row [] 0 [] (codes "a") (codes "y") ∷ []; end = [] }))
+unfolding scan_at chars pairs parts_at part_at rows_at gap_lines upto row_at marked_row_at content_at dashes_at key_at scalar_at plain_at colon_at inline_content_at tail_at marker_at anchor_at is_line line_len lines_of node_at flow_at
+scanned_y = refl
+
 -- the line of b at the end
-abbrev b_end : List (List ℕ) → Line
+abbrev pub b_end : List (List ℕ) → Line
 b_end above = mark_line above 0 b_entry.mark b_entry.content
 
 -- they read as documents, and the second is the first with the entry of b
-is_old : all_documents (last old_part) ≡ true
+pub is_old : all_documents (last old_part) ≡ true
 unfolding level tree_of
 is_old = refl
 
-old_bytes : strings.is_utf8 (codes "a: x\n") ≡ true
+pub old_bytes : strings.is_utf8 (codes "a: x\n") ≡ true
 unfolding strings.is_utf8 strings.chars lib.Utf8.encode
 old_bytes = refl
 
-new_bytes : strings.is_utf8 (codes "a: x\nb: y\n") ≡ true
+pub new_bytes : strings.is_utf8 (codes "a: x\nb: y\n") ≡ true
 unfolding strings.is_utf8 strings.chars lib.Utf8.encode
 new_bytes = refl
 
-read_old : read_at (codes "a: x\n") ≡ Some (last old_part)
+pub y_bytes : strings.is_utf8 (codes "a: y\n") ≡ true
+unfolding strings.is_utf8 strings.chars lib.Utf8.encode
+y_bytes = refl
+
+pub read_old : read_at (codes "a: x\n") ≡ Some (last old_part)
 unfolding read_at
 read_old = cond-true (strings.is_utf8 (codes "a: x\n")) (text_at (codes "a: x\n")) None old_bytes ∙ text_again (codes "a: x\n") (last old_part) (scan_takes (codes "a: x\n") (last old_part) scanned_old) is_old
 
-new_cut : IsCut (cut_text (last new_part)) (last new_part)
+pub new_cut : IsCut (cut_text (last new_part)) (last new_part)
 unfolding inline.node_text
 new_cut = scan_takes (codes "a: x\nb: y\n") (last new_part) scanned_new
 
@@ -205,18 +215,18 @@ is_put = record {
   short = refl;
 }
 
-b_key : content_of (codes "b") ≡ codes "b"
+pub b_key : content_of (codes "b") ≡ codes "b"
 unfolding content_of contents.content_on
 b_key = refl
 
-a_key : content_of (codes "a") ≡ codes "a"
+pub a_key : content_of (codes "a") ≡ codes "a"
 unfolding content_of contents.content_on
 a_key = refl
 
 letters : codes "b" ≡ codes "a" → ⊥
 letters = differ (codes "b") (codes "a") refl
 
-keys_apart : content_of (codes "b") ≡ content_of (codes "a") → ⊥
+pub keys_apart : content_of (codes "b") ≡ content_of (codes "a") → ⊥
 keys_apart e = letters (sym b_key ∙ (e ∙ a_key))
 
 appended_b : IsChanged (last old_part) (last new_part) 0 [] (change [] (within (append_child (label (b_end [])) (content (b_end []) end))))

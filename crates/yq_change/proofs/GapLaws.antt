@@ -39,9 +39,9 @@ none_before (l ∷ ls) = ⊎_elim {0, 0, 0}
     (λ e. ap last_comments (cond-true (are_comments (l ∷ ls)) [] (l ∷ before_run ls) e))
     (λ e.
     let open' : are_comments (l ∷ before_run ls) ≡ false = ⊎_elim {0, 0, 0}
-        (λ k. let parts = and_true (is_hash (past_white l)) (are_comments (before_run ls)) k in absurd (false≢true (sym e ∙ (λ i. parts.0 i && all_before ls parts.1 i))))
-        (λ k. k)
-        (is_true (are_comments (l ∷ before_run ls))) in
+    (λ k. let parts = and_true (is_hash (past_white l)) (are_comments (before_run ls)) k in absurd (false≢true (sym e ∙ (λ i. parts.0 i && all_before ls parts.1 i))))
+    (λ k. k)
+    (is_true (are_comments (l ∷ before_run ls))) in
     ap last_comments (cond-false (are_comments (l ∷ ls)) [] (l ∷ before_run ls) e) ∙ (cond-false _ _ _ open' ∙ none_before ls))
     (is_true (are_comments (l ∷ ls)))
 

@@ -110,12 +110,14 @@ run_seam front back r run last rest l old limit own is column apart = go (last_b
     gap_is : r.gap ++ x ≡ joined ks ++ y
     gap_is =
         let lines : joined (text_lines r.gap) ≡ r.gap = Rattle.yq_scalar.proofs.LineLaws.joined_lines r.gap in
-        ap (λ (g : List ℕ). g ++ x) (sym lines ∙ (ap joined (run_parts (text_lines r.gap)) ∙ Rattle.yq_scalar.proofs.LineLaws.joined-append ks (last_run (text_lines r.gap)))) ∙ append_assoc (joined ks) (joined (last_run (text_lines r.gap))) x
+        ap (λ (g : List ℕ). g ++ x) (sym lines ∙ (ap joined (run_parts (text_lines r.gap)) ∙ Rattle.yq_scalar.proofs.LineLaws.joined-append ks (last_run (text_lines r.gap))))
+        ∙ append_assoc (joined ks) (joined (last_run (text_lines r.gap))) x
 
     new : (b : BlockText) → r.column < b.indent.columns → is_behind b.indent (text_lines (run ++ x)) ≡ true
     new b less = ⊎_elim {0, 0, 0}
         (λ none. ap (λ (g : List ℕ). is_behind b.indent (text_lines (g ++ x))) none ∙ starts_less b.indent r.column (behind_indent r (rows_text back (last ++ rest))) (row_starts limit r (rows_text back (last ++ rest)) own.0) less)
-        (λ w. ap (λ (g : List ℕ). is_behind b.indent (text_lines (g ++ x))) w.1 ∙ (ap (λ (g : List ℕ). is_behind b.indent (text_lines g)) (append_assoc (replicate r.column 32) (35 ∷ w.0) x) ∙ hash_less b.indent r.column (w.0 ++ x) less))
+        (λ w. ap (λ (g : List ℕ). is_behind b.indent (text_lines (g ++ x))) w.1 ∙
+        (ap (λ (g : List ℕ). is_behind b.indent (text_lines g)) (append_assoc (replicate r.column 32) (35 ∷ w.0) x) ∙ hash_less b.indent r.column (w.0 ++ x) less))
         is.stands
 
     go : (o : Option BlockText) → last_block front ≡ o → are_seamed front (with_run r run ++ x) ≡ true
@@ -128,9 +130,9 @@ run_seam front back r run last rest l old limit own is column apart = go (last_b
         let ended : ends_block (keeps b.chomping) b.indent (ks ++ text_lines y) ≡ true = ap (ends_block (keeps b.chomping) b.indent) (sym split) ∙ was in
         let text : text_lines (with_run r run ++ x) ≡ ks ++ text_lines (run ++ x) = ap text_lines (append_assoc (joined ks) run x) ∙ lines_before ks y (run ++ x) y_some kept in
         let made : ends_block (keeps b.chomping) b.indent (ks ++ text_lines (run ++ x)) ≡ true = ⊎_elim {0, 0, 0}
-            (λ h. ends_comment (keeps b.chomping) b.indent ks (text_lines y) (text_lines (run ++ x)) h ended)
-            (λ h. ends_blank (keeps b.chomping) b.indent ks (text_lines y) (text_lines (run ++ x)) h ended (ends_behind (keeps b.chomping) b.indent (text_lines (run ++ x)) (new b less)))
-            (is_true (hold_comment ks)) in
+        (λ h. ends_comment (keeps b.chomping) b.indent ks (text_lines y) (text_lines (run ++ x)) h ended)
+        (λ h. ends_blank (keeps b.chomping) b.indent ks (text_lines y) (text_lines (run ++ x)) h ended (ends_behind (keeps b.chomping) b.indent (text_lines (run ++ x)) (new b less)))
+        (is_true (hold_comment ks)) in
         block_seam front b (with_run r run ++ x) e (ap (ends_block (keeps b.chomping) b.indent) text ∙ made)
 
 -- the first line of a row, and those behind it
@@ -191,7 +193,9 @@ head_commented t c k p steps s h f front back r run old at takes size text =
     subst (λ (rs : List Row). AreRows unlimited rs p.end rest) takes.rows_are (subst (λ (y : Part). AreRows unlimited y.rows y.end rest) (part_numbered c k p old.there).0 (part_in c (part_number k c) true known.cut.parts).rows) in
     let asked : Limit = asked_behind unlimited front in
     let own : AreRows asked (r ∷ back) p.end rest =
-    subst (λ (a : List Row). AreRows (asked_behind unlimited a) (r ∷ back) p.end rest) (take_front p front (r ∷ back) takes.rows_are) (subst (λ (rs : List Row). AreRows (asked_behind unlimited (take (length front) p.rows)) rs p.end rest) (drop_front p front (r ∷ back) takes.rows_are) (rows_drop (length front) p.rows unlimited p.end rest (subst (λ (rs : List Row). AreRows unlimited rs p.end rest) (sym takes.rows_are) part))) in
+    subst (λ (a : List Row). AreRows (asked_behind unlimited a) (r ∷ back) p.end rest) (take_front p front (r ∷ back) takes.rows_are)
+    (subst (λ (rs : List Row). AreRows (asked_behind unlimited (take (length front) p.rows)) rs p.end rest) (drop_front p front (r ∷ back) takes.rows_are)
+    (rows_drop (length front) p.rows unlimited p.end rest (subst (λ (rs : List Row). AreRows unlimited rs p.end rest) (sym takes.rows_are) part))) in
     let ks = before_run (text_lines r.gap) in
     let y : List ℕ = joined (last_run (text_lines r.gap)) ++ x in
     let y_some : is_empty y ≡ false = some_behind (joined (last_run (text_lines r.gap))) x (behind_row_some asked r (rows_text back (p.end ++ rest)) own.0) in
@@ -209,7 +213,8 @@ head_commented t c k p steps s h f front back r run old at takes size text =
     } in
     let cut = document_spliced t c k p front [] (r ∷ back) [] gap old known.cut takes.rows_are (ap no_rows takes.rows_are ∙ some_rows front r back) fits text in
     let put =
-    is_put t c k p q old (some_rows front (record r { gap = gap }) back) text cut (fit_same front r back gap (subst HaveFitKeys takes.rows_are known.document.keys)) (short_same front r back gap (subst HasShortRoot takes.rows_are known.document.short)) in
+    is_put t c k p q old (some_rows front (record r { gap = gap }) back) text cut (fit_same front r back gap (subst HaveFitKeys takes.rows_are known.document.keys))
+    (short_same front r back gap (subst HasShortRoot takes.rows_are known.document.short)) in
     let l = first_line (head_comment gap) r r.dashes in
     let one = one_line t c p steps s h f (lines_of front) a z known at olds size in
     let lines : lines_of q.rows ≡ put_lines h (with_lines f (l ∷ flatten f.under)) = row_after front r back gap ∙ sym (one.put l) in

@@ -26,3 +26,8 @@ pub mod HeadLaws
 pub mod PathLaws
 pub mod EndLaws
 pub mod RowsLaws
+pub mod ReplaceLaws
+pub mod RootLaws
+pub mod FirstRowLaws
+pub mod RowCommentLaws
+pub mod RowExamples

@@ -22,7 +22,7 @@ use Rattle.yq_tree.proofs.ReadLaws.{text_takes}
 use Rattle.yq_tree.proofs.RowPathLaws.{document_fine}
 use Rattle.yq_change.specs.Changed.{put_from, put_document}
 use Rattle.yq_change.specs.Edited.{IsPut}
-use Rattle.yq_change.specs.DocumentRows.{IsDocumentPart, number_from, part_number, PartNumbered, RowsPut, DocumentKnown, RowsFit, DocumentSpliced}
+use Rattle.yq_change.specs.DocumentRows.{IsDocumentPart, behind_document, number_from, part_number, PartNumbered, RowsPut, DocumentKnown, RowsFit, DocumentSpliced}
 
 some_same : {A : Type 0} {x y : A} → Some x ≡ Some y → x ≡ y
 some_same e = cc
@@ -107,7 +107,7 @@ short_stays [] a b n h = absurd (false≢true (sym n))
 short_stays (r ∷ front) a b n h = h
 
 -- rows that fit, in a document
-fits : (marker : List ℕ) (started : Bool) (front gone back new : List Row) (gap : List ℕ) (p : Part) (rest : List ℕ) → p.rows ≡ front ++ (gone ++ back) → RowsFit front new back gap p rest →
+pub fits : (marker : List ℕ) (started : Bool) (front gone back new : List Row) (gap : List ℕ) (p : Part) (rest : List ℕ) → p.rows ≡ front ++ (gone ++ back) → RowsFit front new back gap p rest →
     is_after marker (rows_text new (gap ++ behind_first back p.end rest)) ≡ true → started ≡ true →
     SpliceFits marker started (length front) (length front + length gone) new gap p rest
 fits marker started front gone back new gap p rest rows h after begun =
@@ -128,6 +128,22 @@ open_part : (started b : Bool) → (started || b) ≡ true → b ≡ false → s
 open_part true b h n = refl
 open_part false b h n = absurd (false≢true (sym n ∙ h))
 
+-- a document is open in its part
+started_is : (is started : Bool) (k : ℕ) (c : Cut) (p : Part) → slice_get (parts_from is c) k ≡ Some p → (is ≡ true → started ≡ true) → is_started started (number_from is k c) c ≡ true
+started_is true started zero (last x) p e h = h refl
+started_is true started (suc k) (last x) p e h = absurd (cc)
+started_is false started k (last x) p e h = absurd (cc)
+started_is true started zero (marked x marker c) p e h = h refl
+started_is true started (suc k) (marked x marker c) p e h = started_is (begins_document marker) (begins_document marker) k c p e (λ i. i)
+started_is false started k (marked x marker c) p e h = started_is (begins_document marker) (begins_document marker) k c p e (λ i. i)
+
+pub document_started : (c : Cut) (k : ℕ) (p : Part) → slice_get (document_parts c) k ≡ Some p → is_started true (part_number k c) c ≡ true
+document_started c k p e = started_is (begins_bare c || not (has_begin c)) true k c p e (λ i. refl)
+
+-- the rows of a document
+pub part_rows : (t : List ℕ) (c : Cut) (k : ℕ) (p : Part) → IsDocumentPart t c k p → IsCut t c → AreRows unlimited p.rows p.end (behind_document k c)
+part_rows t c k p old cut = subst (λ (x : Part). AreRows unlimited x.rows x.end (behind_document k c)) (part_numbered c k p old.there).0 (part_in c (part_number k c) true cut.parts).rows
+
 pub document_spliced : DocumentSpliced
 document_spliced t c k p front gone back new gap old cut rows some h text =
     let j = part_number k c in
@@ -139,5 +155,6 @@ document_spliced t c k p front gone back new gap old cut rows some h text =
     let begun : is_started true j c ≡ true = open_part (is_started true j c) (no_rows (nth_part j c).rows) part.inside here in
     let all = fits (marker_before [] j c) (is_started true j c) front gone back new gap p (behind_part j c) rows h (part_after c j true u cut.parts here) begun in
     subst (λ (x : Cut). IsCut (cut_text x) x) same
-    (spliced t c j (length front) (length front + length gone) new gap cut (subst (λ (x : Part). SpliceFits (marker_before [] j c) (is_started true j c) (length front) (length front + length gone) new gap x (behind_part j c)) (sym is) all)
+    (spliced t c j (length front) (length front + length gone) new gap cut (subst
+    (λ (x : Part). SpliceFits (marker_before [] j c) (is_started true j c) (length front) (length front + length gone) new gap x (behind_part j c)) (sym is) all)
     (ap (λ (x : Cut). is_text (cut_text x)) same ∙ text.characters) (subst (λ (x : Cut). length (cut_text x) ≤ text_limit) (sym same) text.size))

@@ -50,7 +50,8 @@ step_found t v vs (row l u a) f g rest b e n h = go l.mark b
         ∙ (λ i. in_head (n i) (Some (f, v ∷ vs)) (option_map (λ x. (inside f x.0, x.1)) (h i)))
 
     go : (m : Mark) → IsEntry m →
-        bare_or m (Some (record { place = here; line = l; under = u; after = a }, t ∷ (v ∷ vs))) (option_and_then (λ f. in_head f.line.head (Some (f, v ∷ vs)) (option_map (λ x. (inside f x.0, x.1)) (find v vs f.under))) (find_row t (row l u a))) ≡ Some (inside f g, rest)
+        bare_or m (Some (record { place = here; line = l; under = u; after = a }, t ∷ (v ∷ vs)))
+        (option_and_then (λ f. in_head f.line.head (Some (f, v ∷ vs)) (option_map (λ x. (inside f x.0, x.1)) (find v vs f.under))) (find_row t (row l u a))) ≡ Some (inside f g, rest)
     go Bare b = absurd b
     go (Key k) b = deep
     go Dash b = deep
@@ -58,9 +59,12 @@ step_found t v vs (row l u a) f g rest b e n h = go l.mark b
 step_lines : (t : Step) (ts : List Step) (o : Outline) (f : Found) (h : NodeLines) → HasEntries o → find_row t o ≡ Some f → f.line.head ≡ None → lines_at ts f.under ≡ Some h →
     (g : NodeLines) × (lines_at (t ∷ ts) o ≡ Some g) × (g.lines ≡ h.lines) × (length (lines_before g.place) ≡ suc (length (lines_before f.place) + length (lines_before h.place)))
 step_lines t [] end f h b e n is = absurd b
-step_lines t [] (row l u a) f h b e n is =
-    (under_line f, ap (option_and_then (λ x. lines_below x.0.line.head x.1 x.0)) (go l.mark b) ∙ ap (λ x. lines_below x [] f) n, ap (λ (x : NodeLines). x.lines) same,
-    (let more = length-append (lines_before f.place) (f.line ∷ []) in let own = ap length (before_under f.place f.line f.after) in let none = ap (λ (x : NodeLines). length (lines_before x.place)) same in omega (arith, more, own, none)))
+step_lines t [] (row l u a) f h b e n is = (
+  under_line f,
+  ap (option_and_then (λ x. lines_below x.0.line.head x.1 x.0)) (go l.mark b) ∙ ap (λ x. lines_below x [] f) n,
+  ap (λ (x : NodeLines). x.lines) same,
+  (let more = length-append (lines_before f.place) (f.line ∷ []) in let own = ap length (before_under f.place f.line f.after) in let none = ap (λ (x : NodeLines). length (lines_before x.place)) same in omega (arith, more, own, none)),
+)
   where
     same : record { place = here; above = 0; anchor = None; lines = f.under } ≡ h
     same = some_same is
@@ -75,16 +79,19 @@ step_lines t (v ∷ vs) o f h b e n is = found (lines_found v vs f.under h is)
         (g : NodeLines) × (lines_at (t ∷ (v ∷ vs)) o ≡ Some g) × (g.lines ≡ h.lines) × (length (lines_before g.place) ≡ suc (length (lines_before f.place) + length (lines_before h.place)))
     found w =
         let x = inside f w.found in
-        let there = step_found t v vs o f w.found [] b e n w.is in
-        (under_line x, ap (option_and_then (λ x. lines_below x.0.line.head x.1 x.0)) there ∙ ap (λ y. lines_below y [] x) w.open', ap (λ (y : NodeLines). y.lines) w.place_is,
-        (let a = ap length (before_under x.place x.line x.after) in
-        let b = length-append (lines_before x.place) (x.line ∷ []) in
-        let c = ap length (before_inside f.place w.found.place f.line f.after) in
-        let d = length-append (lines_before f.place) (f.line ∷ lines_before w.found.place) in
-        let e = ap (λ (y : NodeLines). length (lines_before y.place)) (sym w.place_is) in
-        let g = ap length (before_under w.found.place w.found.line w.found.after) in
-        let k = length-append (lines_before w.found.place) (w.found.line ∷ []) in
-        omega (arith, a, b, c, d, e, g, k)))
+        let there = step_found t v vs o f w.found [] b e n w.is in (
+          under_line x,
+          ap (option_and_then (λ x. lines_below x.0.line.head x.1 x.0)) there ∙ ap (λ y. lines_below y [] x) w.open',
+          ap (λ (y : NodeLines). y.lines) w.place_is,
+          (let a = ap length (before_under x.place x.line x.after) in
+              let b = length-append (lines_before x.place) (x.line ∷ []) in
+              let c = ap length (before_inside f.place w.found.place f.line f.after) in
+              let d = length-append (lines_before f.place) (f.line ∷ lines_before w.found.place) in
+              let e = ap (λ (y : NodeLines). length (lines_before y.place)) (sym w.place_is) in
+              let g = ap length (before_under w.found.place w.found.line w.found.after) in
+              let k = length-append (lines_before w.found.place) (w.found.line ∷ []) in
+              omega (arith, a, b, c, d, e, g, k)),
+        )
 
 abbrev Sits : List Step → Step → Outline → (Found × List Step) → Type 0
 Sits steps s o x = x.1 ≡ [] → IsEntryLine steps s o (length (lines_before x.0.place))
@@ -119,7 +126,8 @@ path_sits (t ∷ ts) s n o even = split (ts ++ (s ∷ [])) refl o even (λ m u e
     split (v ∷ vs) e end even ih = tt
     split (v ∷ vs) e (row l u a) even ih = go l.mark refl (find_row t (row l u a)) refl
       where
-        here_is : HasEntries (row l u a) → (f : Found) → find_row t (row l u a) ≡ Some f → f.line.head ≡ None → (r : Option (Found × List Step)) → If r (Sits ts s f.under) → If (option_map (λ x. (inside f x.0, x.1)) r) (Sits (t ∷ ts) s (row l u a))
+        here_is : HasEntries (row l u a) → (f : Found) → find_row t (row l u a) ≡ Some f → f.line.head ≡ None → (r : Option (Found × List Step)) → If r (Sits ts s f.under) →
+            If (option_map (λ x. (inside f x.0, x.1)) r) (Sits (t ∷ ts) s (row l u a))
         here_is b f is head None h = tt
         here_is b f is head (Some x) h = λ end.
             let w = h end in
@@ -128,19 +136,23 @@ path_sits (t ∷ ts) s n o even = split (ts ++ (s ∷ [])) refl o even (λ m u e
               h = g.0;
               f = w.f;
               entry = record { place_is = g.1; block = subst HasEntries (sym g.2) w.entry.block; found = ap (find_row s) g.2 ∙ w.entry.found };
-              number = (let count = w.number in let place = g.3 in let c = ap length (before_inside f.place x.0.place f.line f.after) in let d = length-append (lines_before f.place) (f.line ∷ lines_before x.0.place) in omega (arith, count, place, c, d));
+              number = (let count = w.number in let place = g.3 in let c = ap length (before_inside f.place x.0.place f.line f.after) in let d = length-append (lines_before f.place)
+                  (f.line ∷ lines_before x.0.place) in omega (arith, count, place, c, d));
             }
 
-        head_is : HasEntries (row l u a) → (f : Found) → find_row t (row l u a) ≡ Some f → (h : Option Node) → f.line.head ≡ h → If (find v vs f.under) (Sits ts s f.under) → If (in_head h (Some (f, v ∷ vs)) (option_map (λ x. (inside f x.0, x.1)) (find v vs f.under))) (Sits (t ∷ ts) s (row l u a))
+        head_is : HasEntries (row l u a) → (f : Found) → find_row t (row l u a) ≡ Some f → (h : Option Node) → f.line.head ≡ h → If (find v vs f.under) (Sits ts s f.under) →
+            If (in_head h (Some (f, v ∷ vs)) (option_map (λ x. (inside f x.0, x.1)) (find v vs f.under))) (Sits (t ∷ ts) s (row l u a))
         head_is b f is None head h = here_is b f is head (find v vs f.under) h
         head_is b f is (Some x) head h = λ end. absurd (no_more v vs end)
 
-        row_is : HasEntries (row l u a) → (r : Option Found) → find_row t (row l u a) ≡ r → If r (Stood n) → If (option_and_then (λ f. in_head f.line.head (Some (f, v ∷ vs)) (option_map (λ x. (inside f x.0, x.1)) (find v vs f.under))) r) (Sits (t ∷ ts) s (row l u a))
+        row_is : HasEntries (row l u a) → (r : Option Found) → find_row t (row l u a) ≡ r → If r (Stood n) →
+            If (option_and_then (λ f. in_head f.line.head (Some (f, v ∷ vs)) (option_map (λ x. (inside f x.0, x.1)) (find v vs f.under))) r) (Sits (t ∷ ts) s (row l u a))
         row_is b None is h = tt
         row_is b (Some f) is h = head_is b f is f.line.head refl (subst (λ (xs : List Step). If (found_at xs f.under) (Sits ts s f.under)) e (ih h.even.3.0 f.under h.even.3.2))
 
         go : (m : Mark) → l.mark ≡ m → (r : Option Found) → find_row t (row l u a) ≡ r →
-            If (bare_or m (Some (record { place = here; line = l; under = u; after = a }, t ∷ (v ∷ vs))) (option_and_then (λ f. in_head f.line.head (Some (f, v ∷ vs)) (option_map (λ x. (inside f x.0, x.1)) (find v vs f.under))) r)) (Sits (t ∷ ts) s (row l u a))
+            If (bare_or m (Some (record { place = here; line = l; under = u; after = a }, t ∷ (v ∷ vs)))
+            (option_and_then (λ f. in_head f.line.head (Some (f, v ∷ vs)) (option_map (λ x. (inside f x.0, x.1)) (find v vs f.under))) r)) (Sits (t ∷ ts) s (row l u a))
         go Bare m r is = λ end. absurd (no_more t (v ∷ vs) end)
         go (Key k) m r is = row_is (subst IsEntry (sym m) tt) r is (subst (λ (x : Option Found). If x (Stood n)) is (row_stood t n (row l u a) even))
         go Dash m r is = row_is (subst IsEntry (sym m) tt) r is (subst (λ (x : Option Found). If x (Stood n)) is (row_stood t n (row l u a) even))

@@ -47,7 +47,8 @@ whole_line o s ss rest f e = ap flatten (sym (at (IsFoundIn o) (find s ss o) (f,
 pub line_placed : LinePlaced
 line_placed n p s ss rest f a x z even found parted =
     let parts =
-    same_parts a x z (lines_before f.place) (f.line ∷ flatten f.under) (flatten f.after ++ lines_after f.place) (sym parted.parts_are ∙ (sym (flatten-group (lines_of p.rows)) ∙ whole_line (outline_of p) s ss rest f found)) parted.before_are parted.size_is in
+    same_parts a x z (lines_before f.place) (f.line ∷ flatten f.under) (flatten f.after ++ lines_after f.place)
+    (sym parted.parts_are ∙ (sym (flatten-group (lines_of p.rows)) ∙ whole_line (outline_of p) s ss rest f found)) parted.before_are parted.size_is in
     (parts.1, λ ls. λ i. sym parts.0 i ++ (ls ++ sym parts.2 i))
 
 some_same : {A : Type 0} {x y : A} → Some x ≡ Some y → x ≡ y

@@ -44,7 +44,8 @@ around a x e y z = ap (λ v. a ++ v) (append_assoc x (e ++ y) z ∙ ap (λ v. x 
 one_same : {x y : Line} → x ∷ [] ≡ y ∷ [] → x ≡ y
 one_same e = cc
 
-pub one_line : (t : List ℕ) (c : Cut) (p : Part) (steps : List Rattle.yq_scalar.specs.Paths.Step) (s : Rattle.yq_scalar.specs.Paths.Step) (h : NodeLines) (f : Found) (a : List Line) (x : Line) (z : List Line) → Known t c p → IsEntryAt steps s (outline_of p) h f →
+pub one_line : (t : List ℕ) (c : Cut) (p : Part) (steps : List Rattle.yq_scalar.specs.Paths.Step) (s : Rattle.yq_scalar.specs.Paths.Step) (h : NodeLines) (f : Found) (a : List Line) (x : Line) (z : List Line) →
+    Known t c p → IsEntryAt steps s (outline_of p) h f →
     lines_of p.rows ≡ a ++ (x ∷ z) → length a ≡ line_number h f → OneLine p h f a x z
 one_line t c p steps s h f a x z old e lines size =
     let b : List Line = lines_before h.place ++ lines_before f.place in
@@ -135,7 +136,8 @@ line_commented t c k p steps s h f front back r tail old at takes number new =
     let there : q.rows ≡ front ++ (retail tail r ∷ back) = ap (λ (rs : List Row). front ++ (retail tail r ∷ rs)) (gap_stays back p.end) in
     let put =
     is_put t c k p q old (ap Rattle.yq_rows.specs.Grammar.no_rows there ∙ some_behind front (retail tail r) back) new (tail_cut t c k p front back r tail old is.cut takes.rows_are takes.fits new)
-    (subst HaveFitKeys (sym there) (fit_retail front r back tail (subst HaveFitKeys takes.rows_are is.document.keys))) (subst HasShortRoot (sym there) (short_retail front r back tail (subst HasShortRoot takes.rows_are is.document.short))) in
+    (subst HaveFitKeys (sym there) (fit_retail front r back tail (subst HaveFitKeys takes.rows_are is.document.keys)))
+    (subst HasShortRoot (sym there) (short_retail front r back tail (subst HasShortRoot takes.rows_are is.document.short))) in
     let a : List Line = lines_of front ++ dash_lines (head_comment r.gap) r.column r.dashes in
     let x : Line = mark_line (above_mark (head_comment r.gap) r.dashes) (mark_column r) r.mark r.content in
     let l : Line = mark_line (above_mark (head_comment r.gap) r.dashes) (mark_column r) r.mark (with_tail tail r.content) in

@@ -59,13 +59,14 @@ gap_fit gap [] h = h
 gap_fit gap (r ∷ back) h = h
 
 -- a first row that begins with an entry is no plain scalar alone
-entry_short : (r : Row) (rest : List Line) → AreDashes r.dashes r.mark → BeginsEntry (row_lines r ++ rest) → is_long_plain r.mark r.content ≡ false
+pub entry_short : (r : Row) (rest : List Line) → AreDashes r.dashes r.mark → BeginsEntry (row_lines r ++ rest) → is_long_plain r.mark r.content ≡ false
 entry_short r rest d h = go r.mark refl r.dashes refl
   where
     go : (m : rows.Mark) → r.mark ≡ m → (ns : List ℕ) → r.dashes ≡ ns → is_long_plain r.mark r.content ≡ false
     go rows.Dash e ns f = ap (λ (m : rows.Mark). is_long_plain m r.content) e
     go (rows.Key key colon) e ns f = ap (λ (m : rows.Mark). is_long_plain m r.content) e
-    go rows.Bare e [] f = absurd (subst (λ (m : rows.Mark). BeginsEntry (Rattle.yq_tree.specs.Lines.lines_from (head_comment r.gap) r.column [] m r.content ++ rest)) e (subst (λ (ns : List ℕ). BeginsEntry (Rattle.yq_tree.specs.Lines.lines_from (head_comment r.gap) r.column ns r.mark r.content ++ rest)) f h))
+    go rows.Bare e [] f = absurd (subst (λ (m : rows.Mark). BeginsEntry (Rattle.yq_tree.specs.Lines.lines_from (head_comment r.gap) r.column [] m r.content ++ rest)) e
+        (subst (λ (ns : List ℕ). BeginsEntry (Rattle.yq_tree.specs.Lines.lines_from (head_comment r.gap) r.column ns r.mark r.content ++ rest)) f h))
     go rows.Bare e (n ∷ ns) f = absurd (false≢true ((subst (λ (m : rows.Mark). AreDashes (n ∷ ns) m) e (subst (λ (x : List ℕ). AreDashes x r.mark) f d)).1))
 
 short_left : (front gone back : List Row) (gap : List ℕ) (limit : Limit) (last rest : List ℕ) → HasShortRoot (front ++ (gone ++ back)) → AreRows limit back last rest → BeginsEntry (lines_of back) →
@@ -164,17 +165,20 @@ block_removed t c k p steps s h f front gone back old at left has spared text =
     let place =
     entry_placed (level_or 0 o) p steps h s f (lines_of front) (lines_of gone) (lines_of back) known.even at (record { parts_are = old_lines; before_are = has.number; size_is = has.count }) in
     let whole : lines_of front ++ (lines_of gone ++ lines_of back) ≡ b ++ (e ++ lines_behind h f) =
-    sym (place.1 (lines_of gone)) ∙ (ap (λ (x : List Line). put_lines h (with_lines f x)) place.0 ∙ Rattle.yq_change.proofs.RemarkLaws.around (lines_before h.place) (lines_before f.place) e (flatten f.after ++ lines_after f.place) (lines_after h.place)) in
+    sym (place.1 (lines_of gone)) ∙ (ap (λ (x : List Line). put_lines h (with_lines f x)) place.0
+    ∙ Rattle.yq_change.proofs.RemarkLaws.around (lines_before h.place) (lines_before f.place) e (flatten f.after ++ lines_after f.place) (lines_after h.place)) in
     let parts = same_parts (lines_of front) (lines_of gone) (lines_of back) b e (lines_behind h f) whole (has.number ∙ sym (length-append (lines_before h.place) (lines_before f.place))) has.count in
     let some : no_rows gone ≡ false = rows_with gone [] e place.0 (λ none. cc) in
     let part : AreRows unlimited (front ++ (gone ++ back)) p.end rest =
     subst (λ (rs : List Row). AreRows unlimited rs p.end rest) has.rows_are (subst (λ (x : Part). AreRows unlimited x.rows x.end rest) (part_numbered c k p old.there).0 (part_in c (part_number k c) true known.cut.parts).rows) in
     let asked : Limit = asked_behind unlimited (take (length front) p.rows) in
     let own : AreRows asked (gone ++ back) p.end rest =
-    subst (λ (rs : List Row). AreRows asked rs p.end rest) (drop_front p front (gone ++ back) has.rows_are) (rows_drop (length front) p.rows unlimited p.end rest (subst (λ (rs : List Row). AreRows unlimited rs p.end rest) (sym has.rows_are) part)) in
+    subst (λ (rs : List Row). AreRows asked rs p.end rest) (drop_front p front (gone ++ back) has.rows_are)
+    (rows_drop (length front) p.rows unlimited p.end rest (subst (λ (rs : List Row). AreRows unlimited rs p.end rest) (sym has.rows_are) part)) in
     let limit : Limit = asked_behind unlimited (take (length front + length gone) p.rows) in
     let further : AreRows limit back p.end rest =
-    subst (λ (rs : List Row). AreRows limit rs p.end rest) (drop_gone p front gone back has.rows_are) (rows_drop (length front + length gone) p.rows unlimited p.end rest (subst (λ (rs : List Row). AreRows unlimited rs p.end rest) (sym has.rows_are) part)) in
+    subst (λ (rs : List Row). AreRows limit rs p.end rest) (drop_gone p front gone back has.rows_are)
+    (rows_drop (length front + length gone) p.rows unlimited p.end rest (subst (λ (rs : List Row). AreRows unlimited rs p.end rest) (sym has.rows_are) part)) in
     let begins : Begins (level f.line) (lines_of back) = subst (Begins (level f.line)) (sym parts.2) apart.next in
     let allowed : allows_first (asked_behind unlimited front) back ≡ true =
     subst (λ (a : List Row). allows_first (asked_behind unlimited a) back ≡ true) (take_front p front (gone ++ back) has.rows_are) (next_more asked gone back back p.end rest f.line (flatten f.under) own place.0 begins) in
@@ -188,7 +192,8 @@ block_removed t c k p steps s h f front gone back old at left has spared text =
     gap_front (first_gap (gone ++ back) p.end) (behind_first (gone ++ back) p.end rest) (before_run ls) (last_run ls) (first_is asked (gone ++ back) p.end rest own) (ap text_lines (first_same gone back p.end some) ∙ run_parts ls) in
     let x_some : is_empty x ≡ false = some_behind (joined (last_run ls)) (behind_first (gone ++ back) p.end rest) (behind_some asked (gone ++ back) p.end rest (some_rows gone back some) own) in
     let head : no_rows back ≡ false → head_comment gap ≡ head_comment (first_gap back p.end) =
-    λ n. head_left (last_block front) (next_column back) (before_run ls) x (first_gap back p.end) (behind_first back p.end rest) kept x_some (none_before ls) (first_is limit back p.end rest further) (behind_some limit back p.end rest n further) in
+    λ n. head_left (last_block front) (next_column back) (before_run ls) x (first_gap back p.end) (behind_first back p.end rest) kept x_some (none_before ls)
+    (first_is limit back p.end rest further) (behind_some limit back p.end rest n further) in
     let lines : lines_of q.rows ≡ put_lines h (with_lines f []) =
     lines_append front (with_first_gap gap back) ∙ (ap (λ (y : List Line). lines_of front ++ y) (gap_lines gap back p.end head) ∙ sym (place.1 [])) in
     let keys = fit_parts front (gone ++ back) (subst HaveFitKeys has.rows_are known.document.keys) in

@@ -31,7 +31,8 @@ entry_rows p n steps s h f x even at is first =
     let lines = w.lines in
     let size : length (lines_of w.front) ≡ length b = omega (arith, lines, first, length-append (lines_before h.place) (lines_before f.place)) in
     let whole : lines_of w.front ++ ([] ++ lines_of (x.row ∷ w.back)) ≡ b ++ ([] ++ (e ++ lines_behind h f)) =
-    sym (lines_append w.front (x.row ∷ w.back)) ∙ (ap lines_of (sym w.rows_are) ∙ (sym (flatten-group (lines_of p.rows)) ∙ (olds ∙ around (lines_before h.place) (lines_before f.place) e (flatten f.after ++ Rattle.yq_lines.specs.Places.lines_after f.place) (lines_after h.place)))) in
+    sym (lines_append w.front (x.row ∷ w.back)) ∙ (ap lines_of (sym w.rows_are) ∙
+    (sym (flatten-group (lines_of p.rows)) ∙ (olds ∙ around (lines_before h.place) (lines_before f.place) e (flatten f.after ++ Rattle.yq_lines.specs.Places.lines_after f.place) (lines_after h.place)))) in
     let parts = same_parts (lines_of w.front) [] (lines_of (x.row ∷ w.back)) b [] (e ++ lines_behind h f) whole size refl in
     let apart = apart_later b e (lines_behind h f) (λ none. cc) (entries_apart n (outline_of p) steps s h f even at).end in
     let cut = row_begins (x.row ∷ w.back) e (lines_behind h f) parts.2 apart in

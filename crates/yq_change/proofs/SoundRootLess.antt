@@ -38,7 +38,8 @@ distinct_less s (child l n cs) e = go (is_here s l) l.key e (distinct_less (furt
     go false None e ih = ih e
     go false (Some j) e ih =
         let p = and_parts (not (list_any (bytes_eq j) (keys_of cs))) (are_distinct (keys_of cs)) e in
-        and_from (not (list_any (bytes_eq j) (keys_of (remove_child (further s) cs)))) (are_distinct (keys_of (remove_child (further s) cs))) (ap not (unlike_less j (further s) cs (not_true (list_any (bytes_eq j) (keys_of cs)) p.0))) (ih p.1)
+        and_from (not (list_any (bytes_eq j) (keys_of (remove_child (further s) cs)))) (are_distinct (keys_of (remove_child (further s) cs)))
+        (ap not (unlike_less j (further s) cs (not_true (list_any (bytes_eq j) (keys_of cs)) p.0))) (ih p.1)
 
 each_less : (s : Step) (cs : Children) → EachHasUniqueKeys cs → EachHasUniqueKeys (remove_child s cs)
 each_less s none h = h
@@ -130,7 +131,8 @@ labels_stay s g none key = (refl, refl, refl, λ h. h)
 labels_stay s g (child l n cs) key = go (is_here s l) (labels_stay (further s) g cs key)
   where
     go : (b : Bool) →
-        (keys_of (relabel_child (further s) g cs) ≡ keys_of cs) × (names_in (relabel_child (further s) g cs) ≡ names_in cs) × (deepest (relabel_child (further s) g cs) ≡ deepest cs) × (EachHasUniqueKeys cs → EachHasUniqueKeys (relabel_child (further s) g cs)) →
+        (keys_of (relabel_child (further s) g cs) ≡ keys_of cs) × (names_in (relabel_child (further s) g cs) ≡ names_in cs) × (deepest (relabel_child (further s) g cs) ≡ deepest cs) ×
+        (EachHasUniqueKeys cs → EachHasUniqueKeys (relabel_child (further s) g cs)) →
         (keys_of (cond b (child (g l) n cs) (child l n (relabel_child (further s) g cs))) ≡ with_key l.key (keys_of cs)) ×
         (names_in (cond b (child (g l) n cs) (child l n (relabel_child (further s) g cs))) ≡ names_of n ++ names_in cs) ×
         (deepest (cond b (child (g l) n cs) (child l n (relabel_child (further s) g cs))) ≡ max (depth n) (deepest cs)) ×

@@ -12,7 +12,8 @@ use Rattle.yq_change.specs.LineRows.{InRows, line_number}
 
 -- Behind the last row of the block collection at a path stand the other rows.
 abbrev pub CollectionRows : Type 0
-CollectionRows = (p : Part) (n : ℕ) (steps : List Step) (h : NodeLines) → IsEven n (outline_of p) → lines_at steps (outline_of p) ≡ Some h → HasEntries h.lines → InRows p.rows (lines_before h.place ++ flatten h.lines) (lines_after h.place)
+CollectionRows = (p : Part) (n : ℕ) (steps : List Step) (h : NodeLines) → IsEven n (outline_of p) → lines_at steps (outline_of p) ≡ Some h → HasEntries h.lines →
+    InRows p.rows (lines_before h.place ++ flatten h.lines) (lines_after h.place)
 
 -- The rows of an item or entry, by how many stand before them.
 pub record IsRows (p : Part) (h : NodeLines) (f : Found) (before : ℕ) : Type 0 where
@@ -26,4 +27,5 @@ pub record IsRows (p : Part) (h : NodeLines) (f : Found) (before : ℕ) : Type 0
 
 -- An item or entry whose line is the first of its row has rows of its own.
 abbrev pub EntryRows : Type 0
-EntryRows = (p : Part) (n : ℕ) (steps : List Step) (s : Step) (h : NodeLines) (f : Found) (x : Seat) → IsEven n (outline_of p) → IsEntryAt steps s (outline_of p) h f → seat (line_number h f) p.rows ≡ Some x → x.line ≡ 0 → IsRows p h f x.before
+EntryRows = (p : Part) (n : ℕ) (steps : List Step) (s : Step) (h : NodeLines) (f : Found) (x : Seat) → IsEven n (outline_of p) → IsEntryAt steps s (outline_of p) h f →
+    seat (line_number h f) p.rows ≡ Some x → x.line ≡ 0 → IsRows p h f x.before

@@ -18,3 +18,5 @@ pub mod Heads
 pub mod PathComments
 pub mod Ends
 pub mod EntryRows
+pub mod Replaces
+pub mod RowComments

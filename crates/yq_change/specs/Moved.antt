@@ -19,7 +19,8 @@ moved_up r dashes b = record b { gap = r.gap; column = r.column; dashes = dashes
 abbrev pub emptied : Row → List ℕ → List ℕ → Row
 emptied r dashes tail = record r { dashes = dashes; mark = rows.Dash; content = Nothing tail }
 
--- Where the first entry behind the dashes of row r is that row's rest and further rows, and the next one's row b, in the same column, has no comment above it, the lines with b moved_up behind these dashes are the old ones without that entry's.
+-- Where the first entry behind the dashes of row r is that row's rest and further rows, and the next one's row b, in the same column, has no comment
+-- above it, the lines with b moved_up behind these dashes are the old ones without that entry's.
 abbrev pub FirstMoved : Type 0
 FirstMoved =
     (before gone behind : List Row) (r b : Row) (n : ℕ) (ns es : List ℕ) → r.dashes ≡ n ∷ (ns ++ es) → b.column ≡ behind_columns r.column (n ∷ ns) → head_comment b.gap ≡ [] →

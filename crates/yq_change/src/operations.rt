@@ -6,8 +6,10 @@ ghost use Rattle.yq_change.specs.Heads.{HeadCommented};
 ghost use Rattle.yq_change.specs.DocumentRows.{DocumentKnown, DocumentSpliced, PartNumbered, RowsPut};
 ghost use Rattle.yq_change.specs.Remarks.{LineCommented};
 ghost use Rattle.yq_change.specs.PathComments.{PathHeadCommented, PathIsEntry, PathLineCommented};
+ghost use Rattle.yq_change.specs.RowComments.{BlockCommented, ContentCommented, RowReplaces};
 ghost use Rattle.yq_change.specs.EntryRows.{CollectionRows, EntryRows};
 ghost use Rattle.yq_change.specs.Removes.{BlockRemoved};
+ghost use Rattle.yq_change.specs.Replaces.{DocumentReplaced, DocumentRooted, FirstRowDropped, FirstRowMoved, NodeRowsReplaced, RootRowsReplaced, RootRowsRewritten};
 ghost use Rattle.yq_change.specs.LineRows.{EntriesApart, EvenClosed, LinesApart, RowBegins, SeatSplits};
 
 /// Rows of a document exchanged, by the document's number among the parts.
@@ -63,4 +65,32 @@ pub fn at_paths()
 pub fn rows_of_entries()
     ensures collection { CollectionRows }
     ensures entry { EntryRows }
+{}
+
+/// Rows that give way to others whose text begins like theirs, and a node at a path that does.
+pub fn replaced()
+    ensures cut { DocumentReplaced }
+    ensures node { NodeRowsReplaced }
+{}
+
+/// Another root for a document, also where it had none written.
+pub fn root_replaced()
+    ensures cut { DocumentRooted }
+    ensures replaced { RootRowsReplaced }
+    ensures rewritten { RootRowsRewritten }
+{}
+
+/// The first item or entry of a compact collection less: the next one's row stands behind the dash,
+/// or below it.
+pub fn first_removed()
+    ensures moved { FirstRowMoved }
+    ensures dropped { FirstRowDropped }
+{}
+
+/// One row in the place of another one; a line comment that stands in a row's content, as that of a
+/// block scalar, which has it in its header.
+pub fn row_commented()
+    ensures row { RowReplaces }
+    ensures content { ContentCommented }
+    ensures block { BlockCommented }
 {}
