@@ -17,10 +17,10 @@ use Rattle.yq_change.proofs.LineLaws.{seat_splits}
 use Rattle.yq_change.proofs.RemarkLaws.{around}
 
 pub collection_rows : CollectionRows
-collection_rows p n steps h even is block =
-    let olds = (collection_replaced n (outline_of p) h.lines steps h (λ cs. cs) even (record { place_is = is; block = block }) block (lines_even n (outline_of p) steps h even is block).1 refl).0 in
+collection_rows p n steps h even there =
+    let olds = (collection_replaced n (outline_of p) h.lines steps h (λ cs. cs) even there there.block (lines_even n (outline_of p) steps h even there.place_is there.block).1 refl).0 in
     row_begins p.rows (lines_before h.place ++ flatten h.lines) (lines_after h.place)
-    (sym (flatten-group (lines_of p.rows)) ∙ (olds ∙ sym (append_assoc (lines_before h.place) (flatten h.lines) (lines_after h.place)))) (lines_apart n (outline_of p) steps h even is block).0
+    (sym (flatten-group (lines_of p.rows)) ∙ (olds ∙ sym (append_assoc (lines_before h.place) (flatten h.lines) (lines_after h.place)))) (lines_apart n (outline_of p) steps h even there.place_is there.block).0
 
 pub entry_rows : EntryRows
 entry_rows p n steps s h f x even at is first =
@@ -40,8 +40,10 @@ entry_rows p n steps s h f x even at is first =
       front = w.front;
       gone = cut.front;
       back = cut.back;
-      rows_are = w.rows_are ∙ ap (λ rs. w.front ++ rs) cut.rows_are;
       number = w.before;
-      size = size ∙ length-append (lines_before h.place) (lines_before f.place);
-      count = ap length cut.front_lines;
+      has = record {
+        rows_are = w.rows_are ∙ ap (λ rs. w.front ++ rs) cut.rows_are;
+        number = size ∙ length-append (lines_before h.place) (lines_before f.place);
+        count = ap length cut.front_lines;
+      };
     }

@@ -7,25 +7,30 @@ use Rattle.yq_lines.specs.Outline.{flatten, IsEven}
 use Rattle.yq_lines.specs.Places.{lines_before, lines_after, Found}
 use Rattle.yq_tree.specs.Reading.{outline_of}
 use Rattle.yq_tree.specs.Seats.{Seat, seat}
-use Rattle.yq_change.specs.Siblings.{IsEntryAt, HasEntries, NodeLines, lines_at}
+use Rattle.yq_change.specs.Siblings.{IsEntryAt, NodeLines, IsCollectionAt}
 use Rattle.yq_change.specs.LineRows.{InRows, line_number}
 
 -- Behind the last row of the block collection at a path stand the other rows.
 abbrev pub CollectionRows : Type 0
-CollectionRows = (p : Part) (n : ℕ) (steps : List Step) (h : NodeLines) → IsEven n (outline_of p) → lines_at steps (outline_of p) ≡ Some h → HasEntries h.lines →
+CollectionRows =
+    (p : Part) (n : ℕ) (steps : List Step) (h : NodeLines) → IsEven n (outline_of p) → IsCollectionAt steps (outline_of p) h →
     InRows p.rows (lines_before h.place ++ flatten h.lines) (lines_after h.place)
 
--- The rows of an item or entry, by how many stand before them.
-pub record IsRows (p : Part) (h : NodeLines) (f : Found) (before : ℕ) : Type 0 where
+-- The rows of an item or entry, which has whole rows, between those in front and those behind.
+pub record HasRows (p : Part) (h : NodeLines) (f : Found) (front gone back : List Row) : Type 0 where
+  pub rows_are : p.rows ≡ front ++ (gone ++ back)
+  pub number : length (lines_of front) ≡ line_number h f
+  pub count : length (lines_of gone) ≡ length (f.line ∷ flatten f.under)
+
+-- The same, by how many rows stand before them.
+pub record RowsFrom (p : Part) (h : NodeLines) (f : Found) (before : ℕ) : Type 0 where
   pub front : List Row
   pub gone : List Row
   pub back : List Row
-  pub rows_are : p.rows ≡ front ++ (gone ++ back)
   pub number : length front ≡ before
-  pub size : length (lines_of front) ≡ line_number h f
-  pub count : length (lines_of gone) ≡ length (f.line ∷ flatten f.under)
+  pub has : HasRows p h f front gone back
 
 -- An item or entry whose line is the first of its row has rows of its own.
 abbrev pub EntryRows : Type 0
 EntryRows = (p : Part) (n : ℕ) (steps : List Step) (s : Step) (h : NodeLines) (f : Found) (x : Seat) → IsEven n (outline_of p) → IsEntryAt steps s (outline_of p) h f →
-    seat (line_number h f) p.rows ≡ Some x → x.line ≡ 0 → IsRows p h f x.before
+    seat (line_number h f) p.rows ≡ Some x → x.line ≡ 0 → RowsFrom p h f x.before

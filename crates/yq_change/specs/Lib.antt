@@ -15,7 +15,7 @@ pub mod Columns
 pub mod Appends
 pub mod Removes
 pub mod Heads
-pub mod PathComments
+pub mod PathRows
 pub mod Ends
 pub mod EntryRows
 pub mod Replaces

@@ -1,5 +1,5 @@
 -- One of several items or entries of a block collection taken out (own).
-use Rattle.std.specs.Prelude.{◌≡◌, ℕ, List, [], ◌∷◌, ◌++◌, length}
+use Rattle.std.specs.Prelude.{ℕ, List, []}
 use Rattle.yq_scalar.specs.Paths.{Step, change, remove_child, within}
 use Rattle.yq_scalar.specs.Text.{joined, lines_of as text_lines}
 use Rattle.yq_rows.specs.Rows.{Row, Part, Cut, cut_text}
@@ -8,16 +8,14 @@ use Rattle.yq_rows.specs.Removal.{last_block, next_column, seam_gap}
 use Rattle.yq_lines.specs.Anchors.{names_of}
 use Rattle.yq_tree.specs.CommentPlaces.{before_run}
 use Rattle.yq_tree.specs.Documents.{lead_of}
-use Rattle.yq_tree.specs.Lines.{lines_of}
-use Rattle.yq_lines.specs.Outline.{flatten}
 use Rattle.yq_lines.specs.Places.{plug, Found, content}
 use Rattle.yq_tree.specs.Reading.{outline_of, root_of}
 use Rattle.yq_tree.specs.RowPaths.{IsReadable}
 use Rattle.yq_change.specs.Changed.{IsChanged, put_document}
 use Rattle.yq_change.specs.Conditions.{AreSpared}
 use Rattle.yq_change.specs.Siblings.{IsEntryAt, HasEntries, NodeLines}
-use Rattle.yq_change.specs.LineRows.{line_number}
 use Rattle.yq_change.specs.DocumentRows.{IsDocumentPart, put_rows}
+use Rattle.yq_change.specs.EntryRows.{HasRows}
 
 -- the gap where rows are taken out: what stays of the gap before them without its head comment, and the next one, repaired behind a block scalar
 abbrev pub left_gap : (front gone back : List Row) → Part → List ℕ
@@ -26,12 +24,6 @@ left_gap front gone back p = seam_gap (last_block front) (next_column back) (joi
 -- a part without the rows between those in front and those behind
 abbrev pub without : (front gone back : List Row) → Part → Part
 without front gone back p = put_rows front [] back (left_gap front gone back p) p
-
--- The rows of an item or entry, which has whole rows, between those in front and those behind.
-pub record HasRows (p : Part) (h : NodeLines) (f : Found) (front gone back : List Row) : Type 0 where
-  pub rows_are : p.rows ≡ front ++ (gone ++ back)
-  pub number : length (lines_of front) ≡ line_number h f
-  pub count : length (lines_of gone) ≡ length (f.line ∷ flatten f.under)
 
 -- Remove of one of several items or entries of a block collection, whose lines are those of whole rows.
 abbrev pub BlockRemoved : Type 0

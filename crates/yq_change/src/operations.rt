@@ -5,7 +5,7 @@ ghost use Rattle.yq_change.specs.Ends.{EndAppended};
 ghost use Rattle.yq_change.specs.Heads.{HeadCommented};
 ghost use Rattle.yq_change.specs.DocumentRows.{DocumentKnown, DocumentSpliced, PartNumbered, RowsPut};
 ghost use Rattle.yq_change.specs.Remarks.{LineCommented};
-ghost use Rattle.yq_change.specs.PathComments.{PathHeadCommented, PathIsEntry, PathLineCommented};
+ghost use Rattle.yq_change.specs.PathRows.{PathHasRows, PathHeadCommented, PathIsEntry, PathLineCommented};
 ghost use Rattle.yq_change.specs.RowComments.{BlockCommented, ContentCommented, RowReplaces};
 ghost use Rattle.yq_change.specs.EntryRows.{CollectionRows, EntryRows};
 ghost use Rattle.yq_change.specs.Removes.{BlockRemoved};
@@ -57,6 +57,7 @@ pub fn removed()
 /// The row of a path, and comments there.
 pub fn at_paths()
     ensures entry { PathIsEntry }
+    ensures rows { PathHasRows }
     ensures line { PathLineCommented }
     ensures head { PathHeadCommented }
 {}

@@ -18,6 +18,7 @@ use Rattle.yq_change.specs.LineRows.{line_number}
 use Rattle.yq_change.specs.DocumentRows.{IsDocumentPart, behind_document}
 use Rattle.yq_change.specs.Remarks.{retailed, TakesTail}
 use Rattle.yq_tree.specs.TreeEdits.{with_head_comment, with_line_comment}
+use Rattle.yq_change.specs.EntryRows.{RowsFrom}
 
 -- A line is that of an item or entry of the block collection at a path.
 pub record IsEntryLine (steps : List Step) (s : Step) (o : Outline) (n : ℕ) : Type 0 where
@@ -29,6 +30,18 @@ pub record IsEntryLine (steps : List Step) (s : Step) (o : Outline) (n : ℕ) : 
 -- The line to which a path leads is such a one.
 abbrev pub PathIsEntry : Type 0
 PathIsEntry = (p : Part) (m : ℕ) (steps : List Step) (s : Step) (n : ℕ) → IsEven m (outline_of p) → line_of (steps ++ (s ∷ [])) (lines_of p.rows) ≡ Some n → IsEntryLine steps s (outline_of p) n
+
+-- An item or entry to which a path leads, and its rows.
+pub record PathEntry (p : Part) (steps : List Step) (s : Step) (before : ℕ) : Type 0 where
+  pub h : NodeLines
+  pub f : Found
+  pub entry : IsEntryAt steps s (outline_of p) h f
+  pub rows : RowsFrom p h f before
+
+-- A path whose line is the first of its row leads to an item or entry that has rows of its own.
+abbrev pub PathHasRows : Type 0
+PathHasRows =
+    (t : List ℕ) (c : Cut) (k : ℕ) (p : Part) (steps : List Step) (s : Step) (x : Seat) → IsDocumentPart t c k p → seat_of (steps ++ (s ∷ [])) p.rows ≡ Some x → x.line ≡ 0 → PathEntry p steps s x.before
 
 -- LineComment at a path: its line is the last of its row.
 abbrev pub PathLineCommented : Type 0
