@@ -1,5 +1,5 @@
 -- What an accepted edit promises.
-use Rattle.std.proofs.Common.{rules, ◌≡◌, ℕ, ◌≤◌, Bool, true, false, cond, eqb, leb, ◌⊎◌, inl, inr, List, [], ◌∷◌, ◌++◌, length, map, Option, Some, None, option_map, refl, sym, ap, ◌∙◌, eqb-true, arith}
+use Rattle.std.proofs.Common.{rules, ◌≡◌, ℕ, ◌≤◌, Bool, true, false, cond, eqb, leb, ◌⊎◌, inl, inr, List, [], ◌∷◌, ◌++◌, length, map, Option, Some, None, option_map, refl, sym, ap, ◌∙◌, eqb-true, arith, append-nil}
 use Rattle.std.proofs.lemmas.Bool.{leb-true, cond-true, cond-false}
 use Rattle.std.proofs.lemmas.Slice.Eq.{bytes_eq-Decides}
 use Rattle.std.specs.Str.{bytes_eq}
@@ -21,8 +21,9 @@ use Rattle.yq_expr.specs.Operations.{operation_of, operations_of}
 use Rattle.yq_expr.specs.declared.op.Op.{Op}
 use Rattle.yq_expr.specs.declared.op.Op.TheVariants as ops
 use Rattle.yq_expr.specs.declared.refusal.Refusal.TheVariants.{TooLarge}
-use Rattle.yq_splice.specs.Edit.{gives, unbuilt, refuses, put_between, put_scalar, replace_scalar, replace_at, replace_by, carry_one, carry_all}
+use Rattle.yq_splice.specs.Edit.{gives, unbuilt, refuses, edit_of_segments, put_segments, put_scalar, replace_scalar, replace_at, replace_by, carry_one, carry_all}
 use Rattle.yq_splice.specs.Patch.{Change}
+use Rattle.yq_splice.specs.Script.{keep, put, new_text, changes}
 use Rattle.yq_splice.specs.Style.{table_row, is_same}
 
 same_kind : (a b : Kind) → table_row a ≡ table_row b → a ≡ b
@@ -61,31 +62,37 @@ same_is a b h =
     λ i. record { kind = kind i; text = text i }
 
 -- what a scalar gives way to: nothing, or another one
-pub record IsKept (s : ScalarText) (w : ScalarPlace) (c : Cut) (new : List ℕ) (changes : List Change) : Type 0 where
+pub record IsKept (s : ScalarText) (w : ScalarPlace) (c : Cut) (new : List ℕ) (cs : List Change) : Type 0 where
   pub same : held w.old ≡ s
   pub text : cut_text c ≡ new
-  pub none : changes ≡ []
+  pub none : cs ≡ []
 
 -- the text with another scalar
-abbrev pub new_text : ScalarText → ScalarPlace → List ℕ
-new_text s w = w.before ++ (put_scalar s w.old ++ w.behind)
+abbrev pub put_text : ScalarText → ScalarPlace → List ℕ
+put_text s w = w.before ++ (put_scalar s w.old ++ w.behind)
 
-pub record IsPut (s : ScalarText) (w : ScalarPlace) (new : List ℕ) (changes : List Change) : Type 0 where
-  pub size : length (new_text s w) ≤ text_limit
-  pub text : new_text s w ≡ new
-  pub one : changes ≡ record { at = length w.before; old = replaced w.old; new = put_scalar s w.old } ∷ []
+pub new-put : (s : ScalarText) (w : ScalarPlace) → new_text (put_segments s w) ≡ put_text s w
+new-put s w = ap (λ x. w.before ++ (put_scalar s w.old ++ x)) (append-nil w.behind)
 
-put_size : (s : ScalarText) (w : ScalarPlace) (new : List ℕ) (changes : List Change) (b : Bool) → leb (length (new_text s w)) text_limit ≡ b →
-    cond b (gives (new_text s w) (record { at = length w.before; old = replaced w.old; new = put_scalar s w.old } ∷ [])) (refuses TooLarge) ≡ gives new changes → IsPut s w new changes
-put_size s w new changes true e h = record { size = leb-true (length (new_text s w)) text_limit e; text = cc; one = cc }
-put_size s w new changes false e h = absurd (cc)
+pub record IsPut (s : ScalarText) (w : ScalarPlace) (new : List ℕ) (cs : List Change) : Type 0 where
+  pub size : length (put_text s w) ≤ text_limit
+  pub text : put_text s w ≡ new
+  pub splices : changes (put_segments s w) ≡ cs
 
-pub scalar_put : (s : ScalarText) (w : ScalarPlace) (c : Cut) (new : List ℕ) (changes : List Change) → replace_scalar s w c ≡ gives new changes → IsKept s w c new changes ⊎ IsPut s w new changes
-scalar_put s w c new changes h = go (is_same (held w.old) s) refl h
+put_size : (s : ScalarText) (w : ScalarPlace) (new : List ℕ) (cs : List Change) (b : Bool) → leb (length (new_text (put_segments s w))) text_limit ≡ b →
+    cond b (gives (new_text (put_segments s w)) (changes (put_segments s w))) (refuses TooLarge) ≡ gives new cs → IsPut s w new cs
+put_size s w new cs true e h =
+    let long : length (new_text (put_segments s w)) ≤ text_limit = leb-true (length (new_text (put_segments s w))) text_limit e in
+    let text : new_text (put_segments s w) ≡ new = cc in
+    record { size = omega (arith, long, ap length (new-put s w)); text = sym (new-put s w) ∙ text; splices = cc }
+put_size s w new cs false e h = absurd (cc)
+
+pub scalar_put : (s : ScalarText) (w : ScalarPlace) (c : Cut) (new : List ℕ) (cs : List Change) → replace_scalar s w c ≡ gives new cs → IsKept s w c new cs ⊎ IsPut s w new cs
+scalar_put s w c new cs h = go (is_same (held w.old) s) refl h
   where
-    go : (b : Bool) → is_same (held w.old) s ≡ b → cond b (gives (cut_text c) []) (put_between w.before (replaced w.old) (put_scalar s w.old) w.behind) ≡ gives new changes → IsKept s w c new changes ⊎ IsPut s w new changes
+    go : (b : Bool) → is_same (held w.old) s ≡ b → cond b (gives (cut_text c) []) (edit_of_segments (put_segments s w)) ≡ gives new cs → IsKept s w c new cs ⊎ IsPut s w new cs
     go true e f = inl (record { same = same_is (held w.old) s e; text = cc; none = cc })
-    go false e f = inr (put_size s w new changes (leb (length (new_text s w)) text_limit) refl f)
+    go false e f = inr (put_size s w new cs (leb (length (new_text (put_segments s w))) text_limit) refl f)
 
 -- what the code is told of a place
 pub record IsTold (o : Option ScalarPlace) (x : PlaceTelling) : Type 0 where
@@ -114,12 +121,12 @@ same_told s o c x h e =
 
 -- another scalar
 pub other_told : (s : ScalarText) (o : Option ScalarPlace) (c : Cut) (x : PlaceTelling) → Some x ≡ option_map place_telling o → is_same (told_scalar x) s ≡ false →
-    replace_at s o c ≡ put_between x.2 (replaced x.3) (put_scalar s x.3) x.4
+    replace_at s o c ≡ edit_of_segments (keep x.2 ∷ (put (replaced x.3) (put_scalar s x.3) ∷ (keep x.4 ∷ [])))
 other_told s o c x h e =
     let t = told_is o x h in
     let other : is_same (held t.place.old) s ≡ false = ap (λ (y : PlaceTelling). is_same (told_scalar y) s) (sym t.same) ∙ e in
     ap (λ (y : Option ScalarPlace). replace_at s y c) t.is
-    ∙ (cond-false _ _ _ other ∙ ap (λ (y : PlaceTelling). put_between y.2 (replaced y.3) (put_scalar s y.3) y.4) (sym t.same))
+    ∙ (cond-false _ _ _ other ∙ ap (λ (y : PlaceTelling). edit_of_segments (keep y.2 ∷ (put (replaced y.3) (put_scalar s y.3) ∷ (keep y.4 ∷ [])))) (sym t.same))
 
 -- operations of the code
 scalar_value : (s : ScalarText) → node_of (values.Scalar s) ≡ scalar None s.kind s.text

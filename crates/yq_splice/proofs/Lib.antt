@@ -1,4 +1,8 @@
 pub mod PatchLaws
+pub mod ScriptLaws
+pub mod ExtentLaws
+pub mod TouchLaws
+pub mod TurnLaws
 pub mod StyleLaws
 pub mod FoundLaws
 pub mod EditLaws

@@ -1,6 +1,6 @@
 -- The promises of an accepted edit.
-use Rattle.std.proofs.Common.{◌≡◌, ℕ, ◌+◌, ◌-◌, ◌^◌, ◌<◌, Bool, true, false, leb, ltb, cond, ◌⊎◌, inl, inr, List, [], ◌∷◌, ◌++◌, length, Option, Some, None, option_and_then, refl, sym, ap, ◌∙◌, subst, length-append, arith}
-use Rattle.std.proofs.lemmas.Bool.{le-leb, lt-ltb}
+use Rattle.std.proofs.Common.{◌≡◌, ℕ, ◌+◌, ◌^◌, ◌<◌, ◌≤◌, Bool, true, false, cond, ◌⊎◌, inl, inr, List, [], ◌∷◌, ◌++◌, length, Option, Some, None, option_and_then, refl, sym, ap, ◌∙◌, subst, append-nil, arith}
+use Rattle.yq_scalar.specs.Characters.{text_limit}
 use Rattle.yq_scalar.specs.Paths.{Step, is_here, further, child_at, node_at, change_child, within, change}
 use Rattle.yq_scalar.specs.Scalar.{ScalarText}
 use Rattle.yq_scalar.specs.Tree.{Node, alias, scalar, list, map, Children, none, child, children_of}
@@ -26,14 +26,15 @@ use Rattle.yq_expr.specs.Operations.{replace, all_after_replace}
 use Rattle.yq_tree.specs.TreeEdits.{replaced}
 use Rattle.yq_expr.specs.Program.{Program, updates, assignment_of}
 use Rattle.yq_expr.proofs.PlanLaws.{plan_means}
-use Rattle.yq_splice.specs.Edit.{gives, put_scalar, edit_of}
-use Rattle.yq_splice.specs.Patch.{Change, change_done, all_done, length_done, lengths_done}
+use Rattle.yq_splice.specs.Edit.{gives, put_scalar, put_segments, edit_of}
+use Rattle.yq_splice.specs.Patch.{Change, all_done, lengths_done}
+use Rattle.yq_splice.specs.Script.{old_text, new_text}
 use Rattle.yq_splice.specs.Style.{new_style}
 use Rattle.yq_splice.specs.Theorems.{IsInside, IsMeant, AreSplices}
 use Rattle.yq_splice.specs.Valid.{HasOperands}
-use Rattle.yq_splice.proofs.EditLaws.{IsKept, IsPut, scalar_put}
+use Rattle.yq_splice.proofs.EditLaws.{IsKept, IsPut, new-put, scalar_put}
 use Rattle.yq_splice.proofs.FoundLaws.{IsFound, scalar_of, edit_found}
-use Rattle.yq_splice.proofs.PatchLaws.{done-from_exchanges}
+use Rattle.yq_splice.proofs.ScriptLaws.{changes_lead, changes_lengths}
 use Rattle.yq_splice.proofs.StyleLaws.{style_writes, style_inline}
 
 -- the place where the program's steps lead
@@ -46,6 +47,10 @@ pieces_of p t new changes f = (place_stands t f.rows f.carried.document f.carrie
 -- the text of the rows
 text_of : (p : Program) (t new : List ℕ) (changes : List Change) (f : IsFound p t new changes) → t ≡ cut_text f.rows
 text_of p t new changes f = (is_one t f.rows f.carried.document f.read f.carried.one).cut.text
+
+-- and its length
+size_of : (p : Program) (t new : List ℕ) (changes : List Change) (f : IsFound p t new changes) → length t ≤ text_limit
+size_of p t new changes f = (is_one t f.rows f.carried.document f.read f.carried.one).cut.size
 
 -- a scalar is written in a style for one line
 old_inline : (q : List ℕ) → IsInline (inline.style_of q)
@@ -170,27 +175,15 @@ edit_inside p t new changes h =
     go f (inl k) = inside_by p t new changes f (places.replaced f.carried.old.old) (sym k.text ∙ (sym (text_of p t new changes f) ∙ (pieces_of p t new changes f).text))
     go f (inr k) = inside_by p t new changes f (put_scalar (scalar_of f.carried.value) f.carried.old.old) (sym k.text)
 
--- the splices of a text whose middle piece is exchanged
-one_length : (before old new behind : List ℕ) → length (before ++ (new ++ behind)) < 2 ^ 64 →
-    length_done (record { at = length before; old = old; new = new }) (length (before ++ (old ++ behind))) ≡ Some (length (before ++ (new ++ behind)))
-unfolding length_done
-one_length before old new behind small =
-    let all : length (before ++ (old ++ behind)) ≡ length before + (length old + length behind) = length-append before (old ++ behind) ∙ ap (λ (n : ℕ). length before + n) (length-append old behind) in
-    let other : length (before ++ (new ++ behind)) ≡ length before + (length new + length behind) = length-append before (new ++ behind) ∙ ap (λ (n : ℕ). length before + n) (length-append new behind) in
-    let reached : length (before ++ (old ++ behind)) - length old + length new ≡ length (before ++ (new ++ behind)) = omega (arith, all, other) in
-    let within : leb (length before + length old) (length (before ++ (old ++ behind))) ≡ true = le-leb _ _ (omega (arith, all)) in
-    let fits : ltb (length (before ++ (old ++ behind)) - length old + length new) (2 ^ 64) ≡ true = lt-ltb _ _ (omega (arith, reached, small)) in
-    rw (within, fits) (ap Some reached)
-
-one_splice : (t before old new behind : List ℕ) → t ≡ before ++ (old ++ behind) → length (before ++ (new ++ behind)) < 2 ^ 64 →
-    AreSplices (record { at = length before; old = old; new = new } ∷ []) t (before ++ (new ++ behind))
-one_splice t before old new behind text small =
-    let s : Change = record { at = length before; old = old; new = new } in
-    let done : change_done s t ≡ Some (before ++ (new ++ behind)) = done-from_exchanges s t (before ++ (new ++ behind)) (record { front = before; rest = behind; offset = refl; before = text; after = refl }) in
-    let lengths : length_done s (length t) ≡ Some (length (before ++ (new ++ behind))) = ap (λ (u : List ℕ). length_done s (length u)) text ∙ one_length before old new behind small in
+-- the splices of a text with another scalar
+put_splices : (t : List ℕ) (s : ScalarText) (w : ScalarPlace) (new : List ℕ) (cs : List Change) → HasPieces t w.before (places.replaced w.old) w.behind → length t ≤ text_limit → IsPut s w new cs → AreSplices cs t new
+put_splices t s w new cs at small k =
+    let old : old_text (put_segments s w) ≡ t = ap (λ x. w.before ++ (places.replaced w.old ++ x)) (append-nil w.behind) ∙ sym at.text in
+    let made : new_text (put_segments s w) ≡ new = new-put s w ∙ k.text in
+    let fits : length (old_text (put_segments s w)) + length (new_text (put_segments s w)) < 2 ^ 64 = omega (arith, small, k.size, ap length old, ap length (new-put s w)) in
     record {
-      texts = ap (option_and_then (all_done [])) done;
-      lengths = ap (option_and_then (lengths_done [])) lengths;
+      texts = sym (λ i. all_done (k.splices i) (old i)) ∙ (changes_lead (put_segments s w) ∙ ap Some made);
+      lengths = sym (λ i. lengths_done (k.splices i) (length (old i))) ∙ (changes_lengths (put_segments s w) fits ∙ ap (λ (u : List ℕ). Some (length u)) made);
     }
 
 pub edit_splices : (p : Program) (t new : List ℕ) (changes : List Change) → edit_of p t ≡ gives new changes → AreSplices changes t new
@@ -202,9 +195,4 @@ edit_splices p t new changes h =
     go f (inl k) =
         let same : t ≡ new = text_of p t new changes f ∙ k.text in
         subst (λ (cs : List Change). AreSplices cs t new) (sym k.none) (record { texts = ap Some same; lengths = ap (λ (u : List ℕ). Some (length u)) same })
-    go f (inr k) =
-        let w : ScalarPlace = f.carried.old in
-        let q : List ℕ = put_scalar (scalar_of f.carried.value) w.old in
-        let small : length (w.before ++ (q ++ w.behind)) < 2 ^ 64 = omega (arith, k.size) in
-        let all : AreSplices (record { at = length w.before; old = places.replaced w.old; new = q } ∷ []) t (w.before ++ (q ++ w.behind)) = one_splice t w.before (places.replaced w.old) q w.behind (pieces_of p t new changes f).text small in
-        subst (λ (u : List ℕ). AreSplices changes t u) k.text (subst (λ (cs : List Change). AreSplices cs t (w.before ++ (q ++ w.behind))) (sym k.one) all)
+    go f (inr k) = put_splices t (scalar_of f.carried.value) f.carried.old new changes (pieces_of p t new changes f) (size_of p t new changes f) k

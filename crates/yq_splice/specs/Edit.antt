@@ -16,6 +16,7 @@ use Rattle.yq_expr.specs.Program.{Program, read, updates}
 use Rattle.yq_expr.specs.declared.refusal.Refusal.{Refusal}
 use Rattle.yq_expr.specs.declared.refusal.Refusal.TheVariants.{NotAnUpdate, TooLarge}
 use Rattle.yq_splice.specs.Patch.{Change}
+use Rattle.yq_splice.specs.Script.{Segment, keep, put, new_text, changes}
 use Rattle.yq_splice.specs.Style.{is_same, new_style}
 
 -- What an edit comes to: the text has no reading, it is refused, or it gives a new text by these changes; or it isn't carried out yet, a case that goes when all are (own).
@@ -25,22 +26,25 @@ pub data Edit : Type 0 where
   unbuilt : Edit
   gives : List ℕ → List Change → Edit
 
--- a text whose middle piece is exchanged, unless it is too large (own)
-abbrev pub put_between : List ℕ → List ℕ → List ℕ → List ℕ → Edit
-put_between before old new behind =
-    if nat_le (length (before ++ (new ++ behind))) text_limit
-    then gives (before ++ (new ++ behind)) (record { at = length before; old = old; new = new } ∷ [])
-    else refuses TooLarge
+-- a length, where a text may have it (own)
+abbrev pub within_limit : ℕ → Option ℕ
+within_limit n = if nat_le n text_limit then Some n else None
+
+-- what segments of a text come to, unless the new text is too large (own)
+abbrev pub edit_of_segments : List Segment → Edit
+edit_of_segments ss = if nat_le (length (new_text ss)) text_limit then gives (new_text ss) (changes ss) else refuses TooLarge
 
 -- a scalar as it is put in the place of another or of nothing: in the old one's style, if that can write it, and behind a space where nothing is written (own)
 abbrev pub put_scalar : ScalarText → Option (List ℕ) → List ℕ
 put_scalar s old = spaced old (written (new_style s (style_of (replaced old))) s.text)
 
+-- the segments of a text in which a scalar is put in a place (own)
+abbrev pub put_segments : ScalarText → ScalarPlace → List Segment
+put_segments s w = keep w.before ∷ (put (replaced w.old) (put_scalar s w.old) ∷ (keep w.behind ∷ []))
+
 -- a scalar in a place: one that is equal to what that holds leaves the text as it is, another is put there (own)
 abbrev pub replace_scalar : ScalarText → ScalarPlace → Cut → Edit
-replace_scalar s w c =
-    if is_same (held w.old) s then gives (cut_text c) []
-    else put_between w.before (replaced w.old) (put_scalar s w.old) w.behind
+replace_scalar s w c = if is_same (held w.old) s then gives (cut_text c) [] else edit_of_segments (put_segments s w)
 
 -- a scalar in a place, if there is one (own)
 abbrev pub replace_at : ScalarText → Option ScalarPlace → Cut → Edit

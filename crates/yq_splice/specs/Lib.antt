@@ -1,4 +1,6 @@
 pub mod Patch
+pub mod Script
+pub mod Segments
 pub mod Style
 pub mod Edit
 pub mod Answers

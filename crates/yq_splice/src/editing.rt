@@ -1,6 +1,5 @@
 //! Editing: a program carried out on a text.
-ghost use Rattle.std.specs.Prelude.{◌≡◌, ◌++◌, [], List, ℕ, Some, IfOk, length, map, nat_le, string_bytes, true};
-ghost use Rattle.yq_scalar.specs.Characters.{text_limit};
+ghost use Rattle.std.specs.Prelude.{◌≡◌, [], List, ℕ, Some, IfOk, map, string_bytes, true};
 ghost use Rattle.yq_scalar.specs.Writable as writable;
 ghost use Rattle.yq_scalar.specs.Written.{IsInline};
 ghost use Rattle.yq_scalar.specs.declared.style.Place.TheVariants as places;
@@ -21,11 +20,10 @@ ghost use Rattle.yq_splice.specs.Theorems.{IsInside, IsMeant, AreSplices};
 ghost use Rattle.yq_splice.specs.Valid.{HasOperand, HaveOperands, HasOperands};
 
 use crate::edited::{EditError, Edited};
-use crate::splice::Splice;
+use crate::script::{Segment, exchange};
 use std::alloc::{AllocError, Global};
 use yq_expr::{Op, Program, Refusal, Value, plan};
 use yq_inline::style_of;
-use yq_scalar::characters::TEXT_LIMIT;
 use yq_scalar::{Kind, Place, Scalar, Style, can_write, write_scalar};
 use yq_tree::{Documents, Step, read};
 
@@ -37,42 +35,6 @@ fn unchanged(alloc: Global, text: &str) -> Result<Edited, AllocError>
         text: String::from_str(alloc, text)?,
         splices: Vec::new(alloc),
     })
-}
-
-/// Whether the text of three pieces may stand.
-fn may_stand(before: &str, new: &str, behind: &str) -> bool
-    ensures { result ≡ nat_le (length (before.now ++ (new.now ++ behind.now))) text_limit }
-{
-    before.len() <= TEXT_LIMIT
-        && new.len() <= TEXT_LIMIT - before.len()
-        && behind.len() <= TEXT_LIMIT - before.len() - new.len()
-}
-
-/// The text whose middle piece is exchanged.
-fn put_between(
-    alloc: Global,
-    before: &str,
-    old: &str,
-    new: &str,
-    behind: &str,
-) -> Result<Edited, EditError>
-    ensures { Edits result (spec.put_between before.now old.now new.now behind.now) }
-{
-    if !may_stand(before, new, behind) {
-        return Err(EditError::Refused(Refusal::TooLarge));
-    }
-    let mut text = String::with_capacity(alloc, before.len() + new.len() + behind.len())?;
-    text.push_str(before)?;
-    text.push_str(new)?;
-    text.push_str(behind)?;
-    let splice = Splice {
-        at: before.len() as u64,
-        old: Vec::from_slice(alloc, old.as_bytes())?,
-        new: Vec::from_slice(alloc, new.as_bytes())?,
-    };
-    let mut splices = Vec::with_capacity(alloc, 1)?;
-    splices.push(splice)?;
-    Ok(Edited { text, splices })
 }
 
 /// Whether a scalar has that kind and that text.
@@ -146,7 +108,12 @@ fn replace_scalar(
     let style = new_style(scalar, style_of(old.as_bytes()));
     let written = write_scalar(alloc, scalar, style, Place::Block)?;
     let new = spaced(alloc, place.old, &written)?;
-    put_between(alloc, place.before, old, &new, place.behind)
+    let segments = [
+        Segment::Keep(place.before),
+        Segment::Put(old, &new),
+        Segment::Keep(place.behind),
+    ];
+    exchange(alloc, &segments)
 }
 
 /// An operation carried out on a text.

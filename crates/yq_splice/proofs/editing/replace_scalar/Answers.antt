@@ -1,4 +1,4 @@
-use Rattle.std.proofs.Common.{◌≡◌, List, ℕ, Option, map, sym, ap, ◌∙◌, subst}
+use Rattle.std.proofs.Common.{◌≡◌, [], ◌∷◌, List, ℕ, Option, map, sym, ap, ◌∙◌, subst}
 use Rattle.yq_scalar.specs.Scalar.{ScalarText}
 use Rattle.yq_scalar.specs.Written.{written}
 use Rattle.yq_scalar.specs.declared.style.Style.{Style}
@@ -9,7 +9,8 @@ use Rattle.yq_tree.specs.Bodies.{lent}
 use Rattle.yq_tree.specs.Reading.{cut_of}
 use Rattle.yq_tree.specs.ScalarPlaces.{place_at, replaced, spaced}
 use Rattle.yq_splice.specs.Answers.{Edits}
-use Rattle.yq_splice.specs.Edit.{gives, put_between}
+use Rattle.yq_splice.specs.Edit.{Edit, gives, edit_of_segments}
+use Rattle.yq_splice.specs.Script.{keep, put}
 use Rattle.yq_splice.specs.Style.{new_style}
 use Rattle.yq_splice.proofs.EditLaws.{same_told, other_told}
 use Rattle.yq_splice.proofs.editing.replace_scalar.Goals as goal
@@ -28,9 +29,10 @@ returns-clause-exact c =
     let o : Option (List ℕ) = lent c.in-Some.place.old in
     let old : c.replaced-old.result.now ≡ replaced o = c.replaced-old.ensures in
     let style : c.new_style-style.result ≡ new_style s (style_of (replaced o)) = c.new_style-style.ensures.value ∙ ap (new_style s) (c.style_of.ensures.value ∙ ap style_of (c.as_bytes.ensures.value ∙ old)) in
-    let put : c.deref.result.now ≡ written (new_style s (style_of (replaced o))) s.text = c.deref.ensures ∙ (c.in_ok-written.ensures ∙ ap (λ (y : Style). written y s.text) style) in
-    let new : c.deref-2.result.now ≡ spaced o (written (new_style s (style_of (replaced o))) s.text) = c.deref-2.ensures ∙ (c.in_ok-new.ensures ∙ ap (spaced o) put) in
-    subst (Edits c.put_between.result)
-    ((λ j. put_between c.in-Some.place.before.now (old j) (new j) c.in-Some.place.behind.now)
-    ∙ sym (other_told s (place_at (map step_of c.args.steps.now) cut) cut _ c.in-Some.ensures (sym c.is_same.ensures.value ∙ c.if-is_same.false)))
-    c.put_between.ensures
+    let text : c.deref.result.now ≡ written (new_style s (style_of (replaced o))) s.text = c.deref.ensures ∙ (c.in_ok-written.ensures ∙ ap (λ (y : Style). written y s.text) style) in
+    let new : c.deref-2.result.now ≡ spaced o (written (new_style s (style_of (replaced o))) s.text) = c.deref-2.ensures ∙ (c.in_ok-new.ensures ∙ ap (spaced o) text) in
+    let made : List ℕ → List ℕ → Edit = λ q p. edit_of_segments (keep c.in-Some.place.before.now ∷ (put q p ∷ (keep c.in-Some.place.behind.now ∷ []))) in
+    subst (Edits c.exchange.result)
+    (ap (λ (q : List ℕ). made q c.deref-2.result.now) old
+    ∙ (ap (made (replaced o)) new ∙ sym (other_told s (place_at (map step_of c.args.steps.now) cut) cut _ c.in-Some.ensures (sym c.is_same.ensures.value ∙ c.if-is_same.false))))
+    c.exchange.ensures
