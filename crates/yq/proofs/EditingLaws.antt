@@ -3,7 +3,7 @@ use Rattle.std.proofs.Common.{◌≡◌, ℕ, List, false, if◌then◌else◌, 
 use Rattle.std.specs.Str.{is_utf8}
 use Rattle.yq_tree.specs.Reading.{read_at, text_at}
 use Rattle.yq_expr.specs.Program.{Program}
-use Rattle.yq_splice.specs.Edit.{edit_of, edit_read}
+use Rattle.yq_splice.specs.Edit.{edit_of, by_reading, program_done}
 use Rattle.yq.specs.Editing.{edits, unreadable, outcome_of}
 
 not_read : (t : List ℕ) → is_utf8 t ≡ false → read_at t ≡ None
@@ -12,4 +12,4 @@ not_read t is = ap (λ b. if b then text_at t else None) is
 
 pub not_utf8 : (p : Program) (t : List ℕ) → is_utf8 t ≡ false → edits p t ≡ unreadable
 unfolding edits edit_of
-not_utf8 p t is = ap (λ o. outcome_of (edit_read p o)) (not_read t is)
+not_utf8 p t is = ap (λ o. outcome_of (by_reading (λ c. program_done p t) o)) (not_read t is)

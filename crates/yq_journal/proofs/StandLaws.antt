@@ -9,6 +9,7 @@ use Rattle.std.proofs.lemmas.Bool.Decides.{nat_tests}
 use Rattle.std.proofs.lemmas.List.{take-append-drop, take_more, length-take-le}
 use Rattle.std.proofs.lemmas.Option.{slice_get_within, get_or_from_slice_get}
 use Rattle.yq_splice.specs.Patch.{Change, swapped, change_done, all_done, flipped, length_done, lengths_done}
+use Rattle.yq_splice.proofs.PlaceInList.{get_some, split_at, take_next}
 use Rattle.yq_splice.proofs.PatchLaws.{done-from_exchanges, exchanges-from_done, all_done-append, lengths_done-append}
 use Rattle.yq_journal.specs.Turned.{turned}
 use Rattle.yq_journal.proofs.GapLaws.{none_done}
@@ -35,20 +36,6 @@ get_behind : {A : Type 0} (xs ys : List A) (i j : ℕ) → i ≡ length xs + j �
 get_behind [] ys i j is = let e : i ≡ j = omega (arith, is) in ap (slice_get ys) e
 get_behind (x ∷ xs) ys zero j is = absurd (omega (arith, is))
 get_behind (x ∷ xs) ys (suc i) j is = get_behind xs ys i j (omega (arith, is))
-
-get_some : {A : Type 0} (xs : List A) (i : ℕ) → i < length xs → (x : A) × (slice_get xs i ≡ Some x)
-get_some [] i h = absurd (omega arith)
-get_some (x ∷ xs) zero h = (x, refl)
-get_some (x ∷ xs) (suc i) h = get_some xs i (omega arith)
-
--- a list is its front, an element and the rest
-pub split_at : {A : Type 0} (xs : List A) (k : ℕ) (x : A) → slice_get xs k ≡ Some x → xs ≡ take k xs ++ x ∷ drop (suc k) xs
-split_at [] k x is = cc
-split_at (y ∷ xs) zero x is = let same : y ≡ x = cc in ap (λ z. z ∷ xs) same
-split_at (y ∷ xs) (suc k) x is = ap (λ l. y ∷ l) (split_at xs k x is)
-
-pub take_next : {A : Type 0} (xs : List A) (k : ℕ) (x : A) → slice_get xs k ≡ Some x → take (k + 1) xs ≡ take k xs ++ x ∷ []
-take_next xs k x is = take_more xs k x (slice_get_within xs k x is) ∙ ap (λ y. take k xs ++ y ∷ []) (get_or_from_slice_get xs k x x is)
 
 pub length-flipped : (ss : List Change) → length (flipped ss) ≡ length ss
 length-flipped [] = refl

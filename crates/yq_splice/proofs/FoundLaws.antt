@@ -16,9 +16,9 @@ use Rattle.yq_expr.specs.Making.{is_index, is_too_long, make}
 use Rattle.yq_expr.specs.Matching.{Location, there, missing, steps_lead}
 use Rattle.yq_expr.specs.Operations.{Operation, replace}
 use Rattle.yq_expr.specs.Plan.{plan_at, plan_in, plan_scalar, plan_of}
-use Rattle.yq_expr.specs.Program.{Step, Program, read, updates, Update, assigned}
+use Rattle.yq_expr.specs.Program.{Step, Update, assigned}
 use Rattle.yq_expr.specs.declared.refusal.Refusal.TheVariants.{IndexOutOfRange, TooDeep, KeyTooLong}
-use Rattle.yq_splice.specs.Edit.{gives, replace_scalar, replace_at, carry_out, edit_rows, edit_read, edit_of}
+use Rattle.yq_splice.specs.Edit.{gives, replace_scalar, replace_at, carry_out, by_reading, updated}
 use Rattle.yq_splice.specs.Patch.{Change}
 
 -- a scalar by its kind and its text
@@ -39,13 +39,11 @@ pub record IsCarried (u : Update) (c : Cut) (new : List ℕ) (changes : List Cha
   pub put : replace_scalar (scalar_of value) old c ≡ gives new changes
   pub planned : plan_of u c ≡ judgement.gives (replace 0 path (scalar None value.0 value.1) ∷ [])
 
--- what is known of an edit that is accepted
-pub record IsFound (p : Program) (t new : List ℕ) (changes : List Change) : Type 0 where
+-- what is known of an update that is carried out on a text
+pub record IsFound (u : Update) (t new : List ℕ) (changes : List Change) : Type 0 where
   pub rows : Cut
   pub read : read_at t ≡ Some rows
-  pub update : Update
-  pub program : p ≡ updates (update ∷ [])
-  pub carried : IsCarried update rows new changes
+  pub carried : IsCarried u rows new changes
 
 not_built : (u : Update) (c : Cut) (new : List ℕ) (changes : List Change) (j : Judgement (List Operation)) → plan_of u c ≡ j → carry_out (plan_of u c) c ≡ gives new changes → carry_out j c ≡ gives new changes
 not_built u c new changes j is h = ap (λ (o : Judgement (List Operation)). carry_out o c) (sym is) ∙ h
@@ -117,16 +115,10 @@ carried u c new changes h = go (assigned u) refl (planned u c)
     go None is e = absurd (let none = not_built u c new changes judgement.unbuilt e h in cc)
     go (Some x) is e = in_documents u c new changes x is (documents c) refl e h
 
-program_carried : (p : Program) (c : Cut) (new : List ℕ) (changes : List Change) → edit_rows p c ≡ gives new changes → (u : Update) × (p ≡ updates (u ∷ [])) × IsCarried u c new changes
-program_carried (read stages) c new changes h = absurd (cc)
-program_carried (updates []) c new changes h = absurd (cc)
-program_carried (updates (u ∷ [])) c new changes h = (u, refl, carried u c new changes h)
-program_carried (updates (u ∷ (v ∷ us))) c new changes h = absurd (cc)
-
-pub edit_found : (p : Program) (t new : List ℕ) (changes : List Change) → edit_of p t ≡ gives new changes → IsFound p t new changes
-unfolding edit_of
-edit_found p t new changes h = go (read_at t) refl h
+-- an update that is carried out on a text
+pub updated_found : (u : Update) (t new : List ℕ) (changes : List Change) → updated u t ≡ gives new changes → IsFound u t new changes
+updated_found u t new changes h = go (read_at t) refl h
   where
-    go : (o : Option Cut) → read_at t ≡ o → edit_read p o ≡ gives new changes → IsFound p t new changes
+    go : (o : Option Cut) → read_at t ≡ o → by_reading (λ c. carry_out (plan_of u c) c) o ≡ gives new changes → IsFound u t new changes
     go None e f = absurd (cc)
-    go (Some c) e f = let x = program_carried p c new changes f in record { rows = c; read = e; update = x.0; program = x.1; carried = x.2 }
+    go (Some c) e f = record { rows = c; read = e; carried = carried u c new changes f }

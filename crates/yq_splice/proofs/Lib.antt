@@ -3,6 +3,8 @@ pub mod ScriptLaws
 pub mod ExtentLaws
 pub mod TouchLaws
 pub mod TurnLaws
+pub mod PlaceInList
+pub mod OrderLaws
 pub mod StyleLaws
 pub mod FoundLaws
 pub mod EditLaws

@@ -12,7 +12,7 @@ use Rattle.yq_expr.specs.Operations.{Operation, replace, append, remove, line_co
 use Rattle.yq_expr.specs.Judgement.{Judgement}
 use Rattle.yq_expr.specs.Judgement as judgement
 use Rattle.yq_expr.specs.Plan.{plan_of}
-use Rattle.yq_expr.specs.Program.{Program, read, updates}
+use Rattle.yq_expr.specs.Program.{Program, Update, read, updates}
 use Rattle.yq_expr.specs.declared.refusal.Refusal.{Refusal}
 use Rattle.yq_expr.specs.declared.refusal.Refusal.TheVariants.{NotAnUpdate, TooLarge}
 use Rattle.yq_splice.specs.Patch.{Change}
@@ -25,6 +25,30 @@ pub data Edit : Type 0 where
   refuses : Refusal → Edit
   unbuilt : Edit
   gives : List ℕ → List Change → Edit
+
+-- an edit with splices before its own (own)
+abbrev pub behind : List Change → Edit → Edit
+behind cs unreadable = unreadable
+behind cs (refuses why) = refuses why
+behind cs unbuilt = unbuilt
+behind cs (gives t ds) = gives t (cs ++ ds)
+
+-- an edit, and then one of the text that it gives (own)
+abbrev pub and_then : (List ℕ → Edit) → Edit → Edit
+and_then f unreadable = unreadable
+and_then f (refuses why) = refuses why
+and_then f unbuilt = unbuilt
+and_then f (gives t cs) = behind cs (f t)
+
+-- an edit for each thing in order, each of the text that the one before gives (own)
+abbrev pub in_order : {A : Type 0} → (A → List ℕ → Edit) → List A → List ℕ → Edit
+in_order f [] t = gives t []
+in_order f (x ∷ xs) t = and_then (in_order f xs) (f x t)
+
+-- an edit by the reading of a text, if it has one (own)
+abbrev pub by_reading : (Cut → Edit) → Option Cut → Edit
+by_reading f None = unreadable
+by_reading f (Some c) = f c
 
 -- a length, where a text may have it (own)
 abbrev pub within_limit : ℕ → Option ℕ
@@ -78,18 +102,15 @@ carry_out (judgement.gives ops) c = carry_all ops c
 carry_out (judgement.refuses why) c = refuses why
 carry_out judgement.unbuilt c = unbuilt
 
--- a program carried out on a text that is cut so; so far of one update (own)
-abbrev pub edit_rows : Program → Cut → Edit
-edit_rows (read stages) c = refuses NotAnUpdate
-edit_rows (updates []) c = unbuilt
-edit_rows (updates (u ∷ [])) c = carry_out (plan_of u c) c
-edit_rows (updates (u ∷ (v ∷ us))) c = unbuilt
+-- an update carried out on a text (own)
+abbrev pub updated : Update → List ℕ → Edit
+updated u t = by_reading (λ c. carry_out (plan_of u c) c) (read_at t)
 
--- a program carried out on a text, if that has a reading (own)
-abbrev pub edit_read : Program → Option Cut → Edit
-edit_read p None = unreadable
-edit_read p (Some c) = edit_rows p c
+-- a program carried out on a text that has a reading, update after update (own)
+abbrev pub program_done : Program → List ℕ → Edit
+program_done (read stages) t = refuses NotAnUpdate
+program_done (updates us) t = in_order updated us t
 
 -- what a program makes of a text (own)
 unfoldable pub edit_of : Program → List ℕ → Edit
-edit_of p t = edit_read p (read_at t)
+edit_of p t = by_reading (λ c. program_done p t) (read_at t)

@@ -9,18 +9,23 @@ use Rattle.yq_tree.specs.ScalarPlaces.{ScalarPlace, place_at, replaced}
 use Rattle.yq_expr.specs.Judgement.{gives}
 use Rattle.yq_expr.specs.Matching.{there, steps_lead}
 use Rattle.yq_expr.specs.OnePathMeaning.{program_meaning}
-use Rattle.yq_expr.specs.Program.{Step, Program, assignment_of}
+use Rattle.yq_expr.specs.Program.{Step, Program, Update, updates, assigned}
 use Rattle.yq_splice.specs.Patch.{Change, all_done, lengths_done}
 
--- One scalar is set: in the place where the program's steps lead in the one document, what is put there replaces the scalar that is written, or nothing. The text before it and the text behind it stay (own).
-pub record IsInside (p : Program) (t new : List ℕ) : Type 0 where
+-- a text leads to another one by splices, in a step for each thing in order (own)
+abbrev pub Leads : {A : Type 0} → (A → List ℕ → List ℕ → List Change → Type 0) → List A → List ℕ → List ℕ → List Change → Type 0
+Leads R [] t new cs = (t ≡ new) × (cs ≡ [])
+Leads R (x ∷ xs) t new cs = (m : List ℕ) × (ds es : List Change) × R x t m ds × Leads R xs m new es × (cs ≡ ds ++ es)
+
+-- An update sets one scalar: in the place where its steps lead in the one document, what is put there replaces the scalar that is written, or nothing. The text before it and the text behind it stay (own).
+pub record IsInside (u : Update) (t new : List ℕ) (cs : List Change) : Type 0 where
   pub rows : Cut
   pub read : read_at t ≡ Some rows
   pub document : Document
   pub one : documents rows ≡ document ∷ []
   pub steps : List Step
   pub value : Kind × List ℕ
-  pub program : assignment_of p ≡ Some (steps, value)
+  pub update : assigned u ≡ Some (steps, value)
   pub path : List paths.Step
   pub leads : steps_lead steps document.root ≡ gives (there path)
   pub old : ScalarPlace
@@ -28,6 +33,12 @@ pub record IsInside (p : Program) (t new : List ℕ) : Type 0 where
   pub put : List ℕ
   pub before : t ≡ old.before ++ (replaced old.old ++ old.behind)
   pub after : new ≡ old.before ++ (put ++ old.behind)
+
+-- Each update of a program in order sets one scalar of the text that the one before gives (own).
+pub record AreInside (p : Program) (t new : List ℕ) (cs : List Change) : Type 0 where
+  pub all : List Update
+  pub program : p ≡ updates all
+  pub leads : Leads IsInside all t new cs
 
 -- The new text reads as what the program makes of the documents of the old one (own).
 pub record IsMeant (p : Program) (docs : List Document) (new : List ℕ) : Type 0 where

@@ -1,0 +1,68 @@
+-- Edits one after the other lead from text to text.
+use Rattle.std.proofs.Common.{◌≡◌, ℕ, List, [], ◌∷◌, ◌++◌, length, Some, refl, sym, ap, ◌∙◌, subst, append_assoc, append-nil}
+use Rattle.std.specs.Prelude.{option_and_then}
+use Rattle.yq_splice.specs.Answers.{Fails}
+use Rattle.yq_splice.specs.Edit.{Edit, unreadable, refuses, unbuilt, gives, behind, and_then, in_order}
+use Rattle.yq_splice.specs.Patch.{Change, all_done, lengths_done}
+use Rattle.yq_splice.specs.Theorems.{AreSplices, Leads}
+use Rattle.yq_splice.specs.declared.edited.EditError.{EditError}
+use Rattle.yq_splice.specs.declared.edited.EditError.TheVariants as error
+use Rattle.yq_splice.proofs.PatchLaws.{all_done-append, lengths_done-append}
+
+-- what is known of each step, said otherwise
+pub leads_so : {A : Type 0} (R S : A → List ℕ → List ℕ → List Change → Type 0) → ((x : A) (t new : List ℕ) (cs : List Change) → R x t new cs → S x t new cs) →
+    (xs : List A) (t new : List ℕ) (cs : List Change) → Leads R xs t new cs → Leads S xs t new cs
+leads_so R S each [] t new cs h = h
+leads_so R S each (x ∷ xs) t new cs h = (h.0, h.1, h.2, each x t h.0 h.1 h.3, leads_so R S each xs h.0 new h.2 h.4, h.5)
+
+-- one step more
+pub leads_on : {A : Type 0} (R : A → List ℕ → List ℕ → List Change → Type 0) (xs : List A) (x : A) (t m new : List ℕ) (cs ds : List Change) → Leads R xs t m cs → R x m new ds → Leads R (xs ++ x ∷ []) t new (cs ++ ds)
+leads_on R [] x t m new cs ds h step =
+    let all : cs ++ ds ≡ ds ++ [] = ap (λ l. l ++ ds) h.1 ∙ sym (append-nil ds) in
+    (new, ds, [], subst (λ s. R x s new ds) (sym h.0) step, (refl, refl), all)
+leads_on R (y ∷ xs) x t m new cs ds h step =
+    (h.0, h.1, h.2 ++ ds, h.3, leads_on R xs x h.0 m new h.2 ds h.4 step, ap (λ l. l ++ ds) h.5 ∙ append_assoc h.1 h.2 ds)
+
+-- steps that give texts give the last one
+pub leads_give : {A : Type 0} (f : A → List ℕ → Edit) (R : A → List ℕ → List ℕ → List Change → Type 0) → ((x : A) (t new : List ℕ) (cs : List Change) → R x t new cs → f x t ≡ gives new cs) →
+    (xs : List A) (t new : List ℕ) (cs : List Change) → Leads R xs t new cs → in_order f xs t ≡ gives new cs
+leads_give f R each [] t new cs h = λ i. gives (h.0 i) (sym h.1 i)
+leads_give f R each (x ∷ xs) t new cs h =
+    ap (and_then (in_order f xs)) (each x t h.0 h.1 h.3)
+    ∙ (ap (behind h.1) (leads_give f R each xs h.0 new h.2 h.4) ∙ ap (gives new) (sym h.5))
+
+-- an edit that fails, also behind splices
+fails_behind : (e : EditError) (cs : List Change) (r : Edit) → Fails e r → Fails e (behind cs r)
+fails_behind (error.Read fault) cs r h = ap (behind cs) h
+fails_behind (error.Refused why) cs r h = ap (behind cs) h
+fails_behind error.NotInProfile cs r h = ap (behind cs) h
+fails_behind error.Memory cs r h = tt
+
+-- a step that fails fails all that come after it
+fails_on : (e : EditError) (g : List ℕ → Edit) (r : Edit) → Fails e r → Fails e (and_then g r)
+fails_on (error.Read fault) g r h = ap (and_then g) h
+fails_on (error.Refused why) g r h = ap (and_then g) h
+fails_on error.NotInProfile g r h = ap (and_then g) h
+fails_on error.Memory g r h = tt
+
+-- and those that came before it
+pub leads_fail : {A : Type 0} (f : A → List ℕ → Edit) (R : A → List ℕ → List ℕ → List Change → Type 0) → ((x : A) (t new : List ℕ) (cs : List Change) → R x t new cs → f x t ≡ gives new cs) →
+    (xs : List A) (y : A) (ys : List A) (t m : List ℕ) (cs : List Change) (e : EditError) → Leads R xs t m cs → Fails e (f y m) → Fails e (in_order f (xs ++ y ∷ ys) t)
+leads_fail f R each [] y ys t m cs e h fails = fails_on e (in_order f ys) (f y t) (subst (λ s. Fails e (f y s)) (sym h.0) fails)
+leads_fail f R each (x ∷ xs) y ys t m cs e h fails =
+    subst (Fails e) (ap (and_then (in_order f (xs ++ y ∷ ys))) (sym (each x t h.0 h.1 h.3)))
+    (fails_behind e h.1 (in_order f (xs ++ y ∷ ys) h.0) (leads_fail f R each xs y ys h.0 m h.2 e h.4 fails))
+
+-- splices one list after the other
+splices_join : (t m new : List ℕ) (ds es : List Change) → AreSplices ds t m → AreSplices es m new → AreSplices (ds ++ es) t new
+splices_join t m new ds es p q = record {
+  texts = all_done-append ds es t ∙ ap (option_and_then (all_done es)) p.texts ∙ q.texts;
+  lengths = lengths_done-append ds es (length t) ∙ ap (option_and_then (lengths_done es)) p.lengths ∙ q.lengths;
+}
+
+pub leads_splices : {A : Type 0} (R : A → List ℕ → List ℕ → List Change → Type 0) → ((x : A) (t new : List ℕ) (cs : List Change) → R x t new cs → AreSplices cs t new) →
+    (xs : List A) (t new : List ℕ) (cs : List Change) → Leads R xs t new cs → AreSplices cs t new
+leads_splices R each [] t new cs h =
+    subst (λ x. AreSplices x t new) (sym h.1) (record { texts = ap Some h.0; lengths = ap (λ x. Some (length x)) h.0 })
+leads_splices R each (x ∷ xs) t new cs h =
+    subst (λ y. AreSplices y t new) (sym h.5) (splices_join t h.0 new h.1 h.2 (each x t h.0 h.1 h.3) (leads_splices R each xs h.0 new h.2 h.4))
