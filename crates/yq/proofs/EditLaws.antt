@@ -14,13 +14,14 @@ use Rattle.yq_journal.specs.Refusals.{no_way, most_records}
 use Rattle.yq_journal.specs.State.{State}
 use Rattle.yq.specs.declared.fault.Fault.{Fault}
 use Rattle.yq.specs.declared.fault.Fault.TheVariants.{OutOfMemory, JournalFull}
+use Rattle.yq.specs.Causes.{IsFor, named}
 use Rattle.yq.specs.Content.{Content}
 use Rattle.yq.specs.Editing.{Outcome, unreadable, refused, edited, Refuses, edits, program_in}
 use Rattle.yq.specs.Edits.{edit_record}
 use Rattle.yq.specs.Faults.{is_failure, is_outside, of_fault}
 use Rattle.yq.specs.Lists.{Recorded}
 use Rattle.yq.specs.Pair.{Arrives, HasLast, Rest, Stands}
-use Rattle.yq.specs.Steps.{IsFor, named, edit_cause, edit_next, update_cause, update_next}
+use Rattle.yq.specs.Steps.{edit_cause, edit_next, update_cause, update_next}
 use Rattle.yq.proofs.MoveLaws.{cut, told, ends, same_content, fault_outside}
 use Rattle.yq.proofs.PairLaws.{some_same, some_none}
 

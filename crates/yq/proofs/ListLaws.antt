@@ -17,26 +17,24 @@ use Rattle.yq.specs.declared.command.Command.{Command}
 use Rattle.yq.specs.declared.command.Command.TheVariants.{Eval, Undo, Redo, History as Lists, Squash, Help}
 use Rattle.yq.specs.declared.fault.Fault.{Fault}
 use Rattle.yq.specs.declared.fault.Fault.TheVariants as fault
+use Rattle.yq.specs.Causes.{Cause, IsFor, named}
 use Rattle.yq.specs.Content.{Content}
 use Rattle.yq.specs.Count.{one_more}
 use Rattle.yq.specs.Editing.{Outcome, unreadable, refused, edited, edits, program_in}
 use Rattle.yq.specs.Faults.{is_failure, is_outside, is_output, of_fault, counted}
-use Rattle.yq.specs.Lists.{IsOn, IsApart, IsStranger, Reply, answers_in, printed_in, IsRefused, Steps, Goes, Run, IsRecorded, Records, IsReply, GoesExactly, RunExactly, Leaves, Keeps, tells_failure, tells_output, count_told, failures_in, output_failures_in, is_kept, is_memory, has_memory}
+use Rattle.yq.specs.Lists.{IsOn, IsApart, IsStranger, Reply, answers_in, printed_in, Told, IsRefused, IsCarriedOut, Steps, Goes, Run, IsRecorded, Records, IsReply, GoesExactly, RunExactly, Leaves, Keeps, tells_failure, tells_output, count_told, failures_in, output_failures_in, is_kept, is_memory, has_memory}
 use Rattle.yq.specs.Pair.{GoodIn, Arrives}
-use Rattle.yq.specs.Prints.{output_of, prints}
-use Rattle.yq.specs.Steps.{Cause, IsFor, named, cause_of, next_of, unless_fault, walk_cause, walk_next, edit_cause, edit_next, update_cause, update_next, squash_cause, squash_next}
+use Rattle.yq.specs.Prints.{shown_of, prints}
+use Rattle.yq.specs.Shown.{Shown, answer_by, nothing}
+use Rattle.yq.specs.Steps.{cause_of, next_of, unless_fault, walk_cause, walk_next, edit_cause, edit_next, update_cause, update_next, squash_cause, squash_next}
 use Rattle.yq.proofs.PairLaws.{good_text}
 
--- ---- what a command that was carried out, or refused, is told as
+-- ---- replies
 
--- the answer to what a command came to, with what it prints
-abbrev pub Told : {T : Type 0} → Result T Fault → Answer → List ℕ → Type 0
-Told r a o = MatchResult r (λ _. (a ≡ Done) ⊎ ((a ≡ Refused fault.OutFailed) × (o ≢ []))) (λ x. a ≡ Refused x)
-
--- the reply of an answer: only what is done prints
+-- the reply of an answer: only what is carried out prints
 abbrev pub reply : Answer → List ℕ → Reply
 reply Done o = record { answer = Done; printed = o }
-reply NoMatch o = record { answer = NoMatch; printed = [] }
+reply NoMatch o = record { answer = NoMatch; printed = o }
 reply (Refused e) o = record { answer = Refused e; printed = [] }
 
 reply-answer : (a : Answer) (o : List ℕ) → (reply a o).answer ≡ a
@@ -52,6 +50,19 @@ answers_push (x ∷ rs) r = ap (λ as'. x.answer ∷ as') (answers_push rs r)
 pub answers_more : (rs : List Reply) (as' : List Answer) (a : Answer) (o : List ℕ) → answers_in rs ≡ as' → answers_in (rs ++ reply a o ∷ []) ≡ as' ++ a ∷ []
 answers_more rs as' a o is = answers_push rs (reply a o) ∙ ap₂ (λ xs x. xs ++ x ∷ []) is (reply-answer a o)
 
+-- a command that was carried out prints, and its answer tells of no failure
+reply-printed : (m : Bool) (o : List ℕ) → (reply (answer_by m) o).printed ≡ o
+reply-printed true o = refl
+reply-printed false o = refl
+
+no_failure : (m : Bool) → tells_failure (answer_by m) ≡ false
+no_failure true = refl
+no_failure false = refl
+
+no_refusal : (m : Bool) → is_kept (answer_by m) ≡ false
+no_refusal true = refl
+no_refusal false = refl
+
 -- ---- a run goes on
 
 -- a run goes on by one command
@@ -62,7 +73,7 @@ run_more f j h m k [] (b ∷ rs) c a r s = absurd r
 run_more f j h m k (d ∷ cs) [] c a r s = absurd r
 
 -- a command that prints leaves its history
-printing_stays : (c : Command) (h : Option History) → output_of c h ≢ [] → next_of c h ≡ h
+printing_stays : (c : Command) (h : Option History) → (shown_of c h).printed ≢ [] → next_of c h ≡ h
 printing_stays (Eval expr file journal true s d) h some = absurd (some refl)
 printing_stays (Eval expr file journal false s d) h some = refl
 printing_stays (Undo file journal) h some = absurd (some refl)
@@ -87,27 +98,31 @@ module _ (e : Content) (f j : List ℕ) (c : Command) (h : Option History) where
   refused_step x true quiet out (inr g) = (next_of c h, outside_refused c h (next_of c h) x quiet out (inr refl), g)
   refused_step x false quiet out p = (h, inside_refused c h h x quiet out (p.0, refl), p.1)
 
-  -- a command that arrives is a step
-  arrived : {T : Type 0} (r : Result T Fault) (a : Answer) (o : List ℕ) → Told r a o → OnOk r (o ≡ output_of c h) → IfErr r (λ x. is_output x ≡ false) → Arrives e f j (cause_of c h) h (next_of c h) r → (k : Option History) × Steps c h (reply a o).answer (reply a o).printed k × GoodIn e f j k
-  arrived (Ok v) a o (inl is) shows quiet p = (next_of c h, subst (λ y. Steps c h (reply y o).answer (reply y o).printed (next_of c h)) (sym is) (p.0, shows, refl), p.1)
-  arrived (Ok v) a o (inr is) shows quiet p =
-      let stays : next_of c h ≡ h = printing_stays c h (λ none. is.1 (shows ∙ none)) in
-      (h, subst (λ y. Steps c h (reply y o).answer (reply y o).printed h) (sym is.0) (refl, (p.0, refl)), subst (GoodIn e f j) stays p.1)
-  arrived (Err x) a o is shows quiet p =
-      let s = refused_step x (is_outside x) quiet refl p in
-      (s.0, subst (λ y. Steps c h (reply y o).answer (reply y o).printed s.0) (sym is) (refl, s.1), s.2)
+  carried_out : (m : Bool) (o : List ℕ) (k : Option History) → IsCarriedOut c h m o k → Steps c h (reply (answer_by m) o).answer (reply (answer_by m) o).printed k
+  carried_out true o k is = is
+  carried_out false o k is = is
 
--- what is printed, by another name of its bytes
-pub shows : {T : Type 0} (r : Result T Fault) (text o wanted : List ℕ) → text ≡ o → OnOk r (text ≡ wanted) → OnOk r (o ≡ wanted)
-shows (Ok v) text o wanted is p = sym is ∙ p
-shows (Err x) text o wanted is p = tt
+  -- a command that arrives is a step
+  arrived : {T : Type 0} (r : Result T Fault) (a : Answer) (s : Shown) → Told r a s → OnOk r (s ≡ shown_of c h) → IfErr r (λ x. is_output x ≡ false) → Arrives e f j (cause_of c h) h (next_of c h) r → (k : Option History) × Steps c h (reply a s.printed).answer (reply a s.printed).printed k × GoodIn e f j k
+  arrived (Ok v) a s (inl is) shows quiet p = (
+    next_of c h,
+    subst (λ y. Steps c h (reply y s.printed).answer (reply y s.printed).printed (next_of c h)) (sym is)
+        (carried_out s.is_match s.printed (next_of c h) (p.0, ap (λ (x : Shown). x.is_match) shows, ap (λ (x : Shown). x.printed) shows, refl)),
+    p.1,
+  )
+  arrived (Ok v) a s (inr is) shows quiet p =
+      let stays : next_of c h ≡ h = printing_stays c h (λ none. is.1 (ap (λ (x : Shown). x.printed) shows ∙ none)) in
+      (h, subst (λ y. Steps c h (reply y s.printed).answer (reply y s.printed).printed h) (sym is.0) (refl, (p.0, refl)), subst (GoodIn e f j) stays p.1)
+  arrived (Err x) a s is shows quiet p =
+      let k = refused_step x (is_outside x) quiet refl p in
+      (k.0, subst (λ y. Steps c h (reply y s.printed).answer (reply y s.printed).printed k.0) (sym is) (refl, k.1), k.2)
 
 -- a command goes on, on the pair or apart from it
-pub goes_on : (c e : Content) (f j : List ℕ) (cmd : Command) (h : Option History) {T : Type 0} (r : Result T Fault) (a : Answer) (o : List ℕ) → IsOn f j cmd ⊎ IsApart f j cmd → GoodIn c f j h → (IsOn f j cmd → Arrives e f j (cause_of cmd h) h (next_of cmd h) r) → (IsOn f j cmd → OnOk r (o ≡ output_of cmd h)) → IfErr r (λ x. is_output x ≡ false) → ((q : List ℕ) → IsStranger q cmd → get e q ≡ get c q) → Told r a o → (k : Option History) × Goes f j cmd h (reply a o) k × GoodIn e f j k
-goes_on c e f j cmd h r a o (inl on) good arrives shows quiet others is =
-    let p = arrived e f j cmd h r a o is (shows on) quiet (arrives on) in
+pub goes_on : (c e : Content) (f j : List ℕ) (cmd : Command) (h : Option History) {T : Type 0} (r : Result T Fault) (a : Answer) (s : Shown) → IsOn f j cmd ⊎ IsApart f j cmd → GoodIn c f j h → (IsOn f j cmd → Arrives e f j (cause_of cmd h) h (next_of cmd h) r) → (IsOn f j cmd → OnOk r (s ≡ shown_of cmd h)) → IfErr r (λ x. is_output x ≡ false) → ((q : List ℕ) → IsStranger q cmd → get e q ≡ get c q) → Told r a s → (k : Option History) × Goes f j cmd h (reply a s.printed) k × GoodIn e f j k
+goes_on c e f j cmd h r a s (inl on) good arrives shows quiet others is =
+    let p = arrived e f j cmd h r a s is (shows on) quiet (arrives on) in
     (p.0, inl (on, p.1), p.2)
-goes_on c e f j cmd h r a o (inr apart) good arrives shows quiet others is =
+goes_on c e f j cmd h r a s (inr apart) good arrives shows quiet others is =
     (h, inr (apart, refl), subst (λ x. Good x (get e j) h) (sym (others f apart.0)) (subst (λ y. Good (get c f) y h) (sym (others j apart.1)) good))
 
 -- ---- what a refused command leaves
@@ -177,23 +192,23 @@ not_true : (b : Bool) → not b ≡ true → b ≡ false
 not_true true e = cc
 not_true false e = refl
 
-for_some : (o : Option Cause) (e : Fault) (output : List ℕ) (r : Reply) → r.answer ≡ Refused e → r.printed ≡ [] → IsFor o e → IsReply o output r × ((x : Cause) × (o ≡ Some x))
-for_some None e output r is none f = absurd f
-for_some (Some x) e output r is none f = (((e, is, f), none), (x, refl))
+for_some : (o : Option Cause) (e : Fault) (s : Shown) (r : Reply) → r.answer ≡ Refused e → r.printed ≡ [] → IsFor o e → IsReply o s r × ((x : Cause) × (o ≡ Some x))
+for_some None e s r is none f = absurd f
+for_some (Some x) e s r is none f = (((e, is, f), none), (x, refl))
 
 inside_step : (c : Command) (h k : Option History) (e : Fault) → is_outside e ≡ false → is_output e ≡ false → IsRefused c h e k → IsFor (cause_of c h) e × (k ≡ h)
 inside_step c h k e out quiet s =
     subst (λ b. MatchBool b ((k ≡ h) ⊎ (k ≡ next_of c h)) (IsFor (cause_of c h) e × (k ≡ h))) out
     (subst (λ b. MatchBool b ((cause_of c h ≡ None) × (k ≡ h)) (MatchBool (is_outside e) ((k ≡ h) ⊎ (k ≡ next_of c h)) (IsFor (cause_of c h) e × (k ≡ h)))) quiet s)
 
-exact_step : (c : Command) (h k : Option History) (r : Reply) (a : Answer) → r.answer ≡ a → Steps c h a r.printed k → is_inside a ≡ true → IsReply (cause_of c h) (output_of c h) r × (k ≡ next_of c h)
-exact_step c h k r Done is s i = (subst (λ o. IsReply o (output_of c h) r) (sym s.0) (is, s.1), s.2)
-exact_step c h k r NoMatch is s i = absurd s
+exact_step : (c : Command) (h k : Option History) (r : Reply) (a : Answer) → r.answer ≡ a → Steps c h a r.printed k → is_inside a ≡ true → IsReply (cause_of c h) (shown_of c h) r × (k ≡ next_of c h)
+exact_step c h k r Done is s i = (subst (λ o. IsReply o (shown_of c h) r) (sym s.0) (is ∙ ap answer_by s.1, s.2), s.3)
+exact_step c h k r NoMatch is s i = (subst (λ o. IsReply o (shown_of c h) r) (sym s.0) (is ∙ ap answer_by s.1, s.2), s.3)
 exact_step c h k r (Refused e) is s i =
     let out = not_true (is_outside e) (and_first (not (is_outside e)) (not (is_output e)) i) in
     let quiet = not_true (is_output e) (and_rest (not (is_outside e)) (not (is_output e)) i) in
     let p = inside_step c h k e out quiet s.1 in
-    let q = for_some (cause_of c h) e (output_of c h) r is s.0 p.0 in
+    let q = for_some (cause_of c h) e (shown_of c h) r is s.0 p.0 in
     (q.0, p.1 ∙ sym (stays c h q.1.0 q.1.1))
 
 exact_goes : (f j : List ℕ) (c : Command) (h k : Option History) (r : Reply) → Goes f j c h r k → is_inside r.answer ≡ true → GoesExactly f j c h r k
@@ -251,19 +266,19 @@ sum_more told rs a old n m before after =
       | false ↦ λ e g. omega (arith, e, g, before)
     ] (told_more told rs a) after
 
-counted_told : {T : Type 0} (r : Result T Fault) (a : Answer) (o : List ℕ) (n : ℕ) → Told r a o → counted r n ≡ (if tells_failure a then one_more n else n)
-counted_told (Ok v) a o n (inl is) = ap (λ y. if tells_failure y then one_more n else n) (sym is)
-counted_told (Ok v) a o n (inr is) = ap (λ y. if tells_failure y then one_more n else n) (sym is.0)
-counted_told (Err x) a o n is = ap (λ y. if tells_failure y then one_more n else n) (sym is)
+counted_told : {T : Type 0} (r : Result T Fault) (a : Answer) (s : Shown) (n : ℕ) → Told r a s → counted r n ≡ (if tells_failure a then one_more n else n)
+counted_told (Ok v) a s n (inl is) = ap (λ b. if b then one_more n else n) (sym (ap tells_failure is ∙ no_failure s.is_match))
+counted_told (Ok v) a s n (inr is) = ap (λ y. if tells_failure y then one_more n else n) (sym is.0)
+counted_told (Err x) a s n is = ap (λ y. if tells_failure y then one_more n else n) (sym is)
 
 -- the store's count keeps up with the answers
-pub count_more : {T : Type 0} (r : Result T Fault) (rs : List Answer) (a : Answer) (o : List ℕ) (old n m : ℕ) → Told r a o → min (old + failures_in rs) (2 ^ 64 - 1) ≤ n → m ≡ counted r n → min (old + failures_in (rs ++ a ∷ [])) (2 ^ 64 - 1) ≤ m
-count_more r rs a o old n m is before after = sum_more tells_failure rs a old n m before (after ∙ counted_told r a o n is)
+pub count_more : {T : Type 0} (r : Result T Fault) (rs : List Answer) (a : Answer) (s : Shown) (old n m : ℕ) → Told r a s → min (old + failures_in rs) (2 ^ 64 - 1) ≤ n → m ≡ counted r n → min (old + failures_in (rs ++ a ∷ [])) (2 ^ 64 - 1) ≤ m
+count_more r rs a s old n m is before after = sum_more tells_failure rs a old n m before (after ∙ counted_told r a s n is)
 
 -- the output's count after an answer
-pub put_told : {T : Type 0} (r : Result T Fault) (a : Answer) (o : List ℕ) (n m : ℕ) → Told r a o → IfErr r (λ x. is_output x ≡ false) → MatchResult r (λ _. m ≡ (if tells_output a then one_more n else n)) (λ _. m ≡ n) → m ≡ (if tells_output a then one_more n else n)
-put_told (Ok v) a o n m is quiet after = after
-put_told (Err x) a o n m is quiet after = after ∙ ap (λ b. if b then one_more n else n) (sym (ap tells_output is ∙ quiet))
+pub put_told : {T : Type 0} (r : Result T Fault) (a : Answer) (s : Shown) (n m : ℕ) → Told r a s → IfErr r (λ x. is_output x ≡ false) → MatchResult r (λ _. m ≡ (if tells_output a then one_more n else n)) (λ _. m ≡ n) → m ≡ (if tells_output a then one_more n else n)
+put_told (Ok v) a s n m is quiet after = after
+put_told (Err x) a s n m is quiet after = after ∙ ap (λ b. if b then one_more n else n) (sym (ap tells_output is ∙ quiet))
 
 -- the output's count keeps up with them
 pub put_more : (rs : List Answer) (a : Answer) (old n m : ℕ) → min (old + output_failures_in rs) (2 ^ 64 - 1) ≤ n → m ≡ (if tells_output a then one_more n else n) → min (old + output_failures_in (rs ++ a ∷ [])) (2 ^ 64 - 1) ≤ m
@@ -282,19 +297,19 @@ not_output a c start n m before after same below = elim (tells_output a) as (λ 
   | false ↦ λ is e. (is, sym e ∙ same)
 ] refl after
 
-took : {T : Type 0} (r : Result T Fault) (a : Answer) (o now after : List ℕ) → Told r a o → tells_output a ≡ false → MatchResult r (λ _. a ≡ Done → after ≡ now ++ o) (λ _. after ≡ now) → after ≡ now ++ (reply a o).printed
-took (Ok v) a o now after (inl is) quiet puts = puts is ∙ ap (λ y. now ++ (reply y o).printed) (sym is)
-took (Ok v) a o now after (inr is) quiet puts = let no : true ≡ false = sym (ap tells_output is.0) ∙ quiet in cc
-took (Err x) a o now after is quiet puts = puts ∙ sym (append-nil now) ∙ ap (λ y. now ++ (reply y o).printed) (sym is)
+took : {T : Type 0} (r : Result T Fault) (a : Answer) (s : Shown) (now after : List ℕ) → Told r a s → tells_output a ≡ false → MatchResult r (λ _. tells_output a ≡ false → after ≡ now ++ s.printed) (λ _. after ≡ now) → after ≡ now ++ (reply a s.printed).printed
+took (Ok v) a s now after (inl is) quiet puts = puts quiet ∙ ap (λ xs. now ++ xs) (sym (ap (λ y. (reply y s.printed).printed) is ∙ reply-printed s.is_match s.printed))
+took (Ok v) a s now after (inr is) quiet puts = let no : true ≡ false = sym (ap tells_output is.0) ∙ quiet in cc
+took (Err x) a s now after is quiet puts = puts ∙ sym (append-nil now) ∙ ap (λ y. now ++ (reply y s.printed).printed) (sym is)
 
 -- the bytes that were put, one command more
-pub taken_more : {T : Type 0} (r : Result T Fault) (a : Answer) (o : List ℕ) (rs : List Reply) (start now after : List ℕ) (c first n m : ℕ) → Told r a o → min (first + c) (2 ^ 64 - 1) ≤ n → m ≡ (if tells_output a then one_more n else n) → m ≡ first → m < 2 ^ 64 - 1 → (n ≡ first → n < 2 ^ 64 - 1 → now ≡ start ++ printed_in rs) → MatchResult r (λ _. a ≡ Done → after ≡ now ++ o) (λ _. after ≡ now) → after ≡ start ++ printed_in (rs ++ reply a o ∷ [])
-taken_more r a o rs start now after c first n m is sum count same below before puts =
+pub taken_more : {T : Type 0} (r : Result T Fault) (a : Answer) (s : Shown) (rs : List Reply) (start now after : List ℕ) (c first n m : ℕ) → Told r a s → min (first + c) (2 ^ 64 - 1) ≤ n → m ≡ (if tells_output a then one_more n else n) → m ≡ first → m < 2 ^ 64 - 1 → (n ≡ first → n < 2 ^ 64 - 1 → now ≡ start ++ printed_in rs) → MatchResult r (λ _. tells_output a ≡ false → after ≡ now ++ s.printed) (λ _. after ≡ now) → after ≡ start ++ printed_in (rs ++ reply a s.printed ∷ [])
+taken_more r a s rs start now after c first n m is sum count same below before puts =
     let quiet = not_output a c first n m sum count same below in
-    took r a o now after is quiet.0 puts
-    ∙ ap (λ x. x ++ (reply a o).printed) (before quiet.1 (omega (arith, quiet.1, same, below)))
-    ∙ append_assoc start (printed_in rs) (reply a o).printed
-    ∙ ap (λ os. start ++ os) (sym (printed_push rs (reply a o)))
+    took r a s now after is quiet.0 puts
+    ∙ ap (λ x. x ++ (reply a s.printed).printed) (before quiet.1 (omega (arith, quiet.1, same, below)))
+    ∙ append_assoc start (printed_in rs) (reply a s.printed).printed
+    ∙ ap (λ os. start ++ os) (sym (printed_push rs (reply a s.printed)))
 
 -- ---- what the store's names hold
 
@@ -306,17 +321,17 @@ keeps_more old m new [] (b ∷ rs) c a r s = absurd r
 keeps_more old m new (d ∷ cs) [] c a r s = absurd r
 
 -- a refusal from inside left the content
-kept_by : {T : Type 0} (c e : Content) (r : Result T Fault) (a : Answer) (o : List ℕ) → Told r a o → o ≡ [] → is_kept a ≡ true → IfErr r (λ x. is_outside x ≡ false → e ≡ c) → e ≡ c
-kept_by c e (Ok v) a o (inl is) silent k same = let no : false ≡ true = sym (ap is_kept is) ∙ k in cc
-kept_by c e (Ok v) a o (inr is) silent k same = absurd (is.1 silent)
-kept_by c e (Err x) a o is silent k same = same (not_true (is_outside x) (sym (ap is_kept is) ∙ k))
+kept_by : {T : Type 0} (c e : Content) (r : Result T Fault) (a : Answer) (s : Shown) → Told r a s → s ≡ nothing → is_kept a ≡ true → IfErr r (λ x. is_outside x ≡ false → e ≡ c) → e ≡ c
+kept_by c e (Ok v) a s (inl is) silent k same = let no : false ≡ true = sym (ap is_kept is ∙ no_refusal s.is_match) ∙ k in cc
+kept_by c e (Ok v) a s (inr is) silent k same = absurd (is.1 (ap (λ (x : Shown). x.printed) silent))
+kept_by c e (Err x) a s is silent k same = same (not_true (is_outside x) (sym (ap is_kept is) ∙ k))
 
 -- what a command leaves
-pub leaves : {T : Type 0} (c e : Content) (cmd : Command) (r : Result T Fault) (a : Answer) (o : List ℕ) → Told r a o → (prints cmd ≡ true → e ≡ c) → (prints cmd ≡ false → o ≡ []) → IfErr r (λ x. is_outside x ≡ false → e ≡ c) → ((q : List ℕ) → IsStranger q cmd → get e q ≡ get c q) → Leaves cmd a c e
-leaves c e cmd r a o is still silent kept others = record {
+pub leaves : {T : Type 0} (c e : Content) (cmd : Command) (r : Result T Fault) (a : Answer) (s : Shown) → Told r a s → (prints cmd ≡ true → e ≡ c) → (prints cmd ≡ false → s ≡ nothing) → IfErr r (λ x. is_outside x ≡ false → e ≡ c) → ((q : List ℕ) → IsStranger q cmd → get e q ≡ get c q) → Leaves cmd a c e
+leaves c e cmd r a s is still silent kept others = record {
   all = λ holds. elim (prints cmd) as (λ b. prints cmd ≡ b → (b || is_kept a) ≡ true → e ≡ c) [
     | true ↦ λ p k. still p
-    | false ↦ λ p k. kept_by c e r a o is (silent p) k kept
+    | false ↦ λ p k. kept_by c e r a s is (silent p) k kept
   ] refl holds;
   others = others;
 }
@@ -340,13 +355,13 @@ no_last : {A B : Type 0} (xs : List A) (x : A) → [] ≡ xs ++ x ∷ [] → B
 no_last [] x e = cc
 no_last (y ∷ xs) x e = cc
 
-on_ok : {T : Type 0} {P : Type 0} (r : Result T Fault) (a : Answer) (o : List ℕ) → Told r a o → a ≡ Done → OnOk r P → P
-on_ok (Ok v) a o is done p = p
-on_ok (Err e) a o is done p = let no : Refused e ≡ Done = sym is ∙ done in cc
+on_ok : {T : Type 0} {P : Type 0} (r : Result T Fault) (a : Answer) (s : Shown) → Told r a s → a ≡ Done → OnOk r P → P
+on_ok (Ok v) a s is done p = p
+on_ok (Err e) a s is done p = let no : Refused e ≡ Done = sym is ∙ done in cc
 
 -- the last command of a run, where it was carried out
-pub last_more : (c e : Content) (f j : List ℕ) (h m : Option History) (cs : List Command) (rps : List Reply) (rs : List Answer) (cmd : Command) (a : Answer) (o : List ℕ) {T : Type 0} (r : Result T Fault) → answers_in rps ≡ rs → Run f j h cs rps m → GoodIn c f j m → Told r a o → OnOk r ((x y : List ℕ) → IsOn x y cmd → IsRecorded cmd (get c x) (get e y)) → (ds : List Command) (d : Command) (before : List Answer) → cs ++ cmd ∷ [] ≡ ds ++ d ∷ [] → rs ++ a ∷ [] ≡ before ++ Done ∷ [] → IsOn f j d → (k : Option History) × (replies : List Reply) × (answers_in replies ≡ before) × Run f j h ds replies k × Records d k (get e j)
-last_more c e f j h m cs rps rs cmd a o r answered run good is recorded ds d before commands answers on =
+pub last_more : (c e : Content) (f j : List ℕ) (h m : Option History) (cs : List Command) (rps : List Reply) (rs : List Answer) (cmd : Command) (a : Answer) (s : Shown) {T : Type 0} (r : Result T Fault) → answers_in rps ≡ rs → Run f j h cs rps m → GoodIn c f j m → Told r a s → OnOk r ((x y : List ℕ) → IsOn x y cmd → IsRecorded cmd (get c x) (get e y)) → (ds : List Command) (d : Command) (before : List Answer) → cs ++ cmd ∷ [] ≡ ds ++ d ∷ [] → rs ++ a ∷ [] ≡ before ++ Done ∷ [] → IsOn f j d → (k : Option History) × (replies : List Reply) × (answers_in replies ≡ before) × Run f j h ds replies k × Records d k (get e j)
+last_more c e f j h m cs rps rs cmd a s r answered run good is recorded ds d before commands answers on =
     let p = last_same cs ds cmd d commands in
     let q = last_same rs before a Done answers in (
       m,
@@ -355,7 +370,7 @@ last_more c e f j h m cs rps rs cmd a o r answered run good is recorded ds d bef
       subst (λ x. Run f j h x rps m) p.0 run,
       subst (λ x. IsRecorded x (option_map text_at m) (get e j)) p.1
           (subst (λ x. IsRecorded cmd x (get e j)) (good_text c f j m good)
-          (on_ok r a o is q.1 recorded f j (subst (IsOn f j) (sym p.1) on))),
+          (on_ok r a s is q.1 recorded f j (subst (IsOn f j) (sym p.1) on))),
     )
 
 pub no_command : {A : Type 0} (h : Option History) (cs : List Command) (c : Command) → [] ≡ cs ++ c ∷ [] → A

@@ -1,16 +1,21 @@
 -- Faults of the layers below as faults of a command, and those that come from outside (own).
 use Rattle.std.specs.Prelude.{ℕ, Bool, true, false, if◌then◌else◌, Result, Ok, Err}
+use Rattle.yq_scalar.specs.declared.fault.ReadError.{ReadError}
+use Rattle.yq_scalar.specs.declared.fault.ReadError.TheVariants as reading
+use Rattle.yq_expr.specs.declared.match_error.MatchError.{MatchError}
+use Rattle.yq_expr.specs.declared.match_error.MatchError.TheVariants as matching
 use Rattle.yq_journal.specs.declared.fault.JournalError.{JournalError}
 use Rattle.yq_journal.specs.declared.fault.JournalError.TheVariants as error
 use Rattle.yq_journal.specs.declared.fault.JournalFault.{JournalFault}
 use Rattle.yq_journal.specs.declared.fault.JournalFault.TheVariants as journal
 use Rattle.yq.specs.declared.fault.Fault.{Fault}
-use Rattle.yq.specs.declared.fault.Fault.TheVariants.{NotThere, ReadFailed, WriteFailed, OutFailed, NothingToUndo, NothingToRedo, DoesNotStand, BadJournal, Unsettled, JournalFull, BadCount, OutOfMemory}
+use Rattle.yq.specs.declared.fault.Fault.TheVariants.{NotThere, ReadFailed, WriteFailed, OutFailed, NothingToUndo, NothingToRedo, DoesNotStand, BadJournal, Unsettled, JournalFull, BadCount, Unreadable, OutOfMemory}
 use Rattle.yq.specs.declared.store.FileReadError.{FileReadError}
 use Rattle.yq.specs.declared.store.FileReadError.TheVariants as read
 use Rattle.yq.specs.declared.store.FileWriteError.{FileWriteError}
 use Rattle.yq.specs.declared.store.FileWriteError.TheVariants as write
 use Rattle.yq.specs.Count.{one_more}
+use Rattle.yq.specs.Editing.{of_refusal}
 
 -- why a file was not read
 abbrev pub of_read : FileReadError → Fault
@@ -37,6 +42,16 @@ of_fault journal.BadCount = BadCount
 abbrev pub of_journal : JournalError → Fault
 of_journal error.Memory = OutOfMemory
 of_journal (error.Fault f) = of_fault f
+
+-- why a text was not read as documents
+abbrev pub of_reading : ReadError → Fault
+of_reading reading.Memory = OutOfMemory
+of_reading (reading.Fault f) = Unreadable f
+
+-- why nothing was matched
+abbrev pub of_matching : MatchError → Fault
+of_matching (matching.Refused why) = of_refusal why
+of_matching matching.Memory = OutOfMemory
 
 -- a call of the store failed
 abbrev pub is_failure : Fault → Bool

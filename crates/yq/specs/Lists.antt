@@ -1,5 +1,5 @@
 -- Lists of commands as runs of a history (own).
-use Rattle.std.specs.Prelude.{◌≡◌, ◌≢◌, ◌⊎◌, ◌||◌, ◌+◌, ℕ, Bool, true, false, not, List, [], ◌∷◌, map, flat_map, All, if◌then◌else◌, MatchBool, Option, Some, None, option_map, Ok}
+use Rattle.std.specs.Prelude.{◌≡◌, ◌≢◌, ◌⊎◌, ◌||◌, ◌+◌, ℕ, Bool, true, false, not, List, [], ◌∷◌, map, flat_map, All, if◌then◌else◌, MatchBool, MatchResult, Option, Some, None, option_map, Result, Ok}
 use Rattle.std.specs.FinMap.{get}
 use Rattle.std.specs.String.{string_bytes}
 use Rattle.yq_journal.specs.History.{History, text_at}
@@ -8,15 +8,17 @@ use Rattle.yq.specs.declared.answer.Answer.TheVariants.{Done, NoMatch, Refused}
 use Rattle.yq.specs.declared.command.Command.{Command}
 use Rattle.yq.specs.declared.command.Command.TheVariants.{Eval, Undo, Redo, History as Lists, Squash, Help}
 use Rattle.yq.specs.declared.fault.Fault.{Fault}
-use Rattle.yq.specs.declared.fault.Fault.TheVariants.{OutOfMemory}
+use Rattle.yq.specs.declared.fault.Fault.TheVariants.{OutFailed, OutOfMemory}
+use Rattle.yq.specs.Causes.{Cause, IsFor}
 use Rattle.yq.specs.Content.{Content}
 use Rattle.yq.specs.Faults.{is_failure, is_outside, is_output}
 use Rattle.yq_expr.specs.Program.{Program}
 use Rattle.yq_splice.specs.Patch.{Change}
 use Rattle.yq.specs.Editing.{program_in, edits, edited}
 use Rattle.yq.specs.Pair.{HasLast}
-use Rattle.yq.specs.Prints.{output_of, prints}
-use Rattle.yq.specs.Steps.{Cause, IsFor, cause_of, next_of}
+use Rattle.yq.specs.Prints.{shown_of, prints}
+use Rattle.yq.specs.Shown.{Shown, answer_by}
+use Rattle.yq.specs.Steps.{cause_of, next_of}
 
 -- the command works on this file with this journal; an expression that isn't carried out in place, with any
 abbrev pub IsOn : List ℕ → List ℕ → Command → Type 0
@@ -63,6 +65,10 @@ answers_in rs = map (λ (r : Reply). r.answer) rs
 abbrev pub printed_in : List Reply → List ℕ
 printed_in rs = flat_map (λ (r : Reply). r.printed) rs
 
+-- the answer to what a command came to that shows this: it was carried out, or its output failed, or it was refused
+abbrev pub Told : {T : Type 0} → Result T Fault → Answer → Shown → Type 0
+Told r a s = MatchResult r (λ _. (a ≡ answer_by s.is_match) ⊎ ((a ≡ Refused OutFailed) × (s.printed ≢ []))) (λ x. a ≡ Refused x)
+
 -- a command was refused: its output failed, and the history stays; or, where a call of the store failed or memory was refused, it was carried out or not;
 -- or it was refused for its cause, and the history stays
 abbrev pub IsRefused : Command → Option History → Fault → Option History → Type 0
@@ -70,10 +76,14 @@ IsRefused c h e k =
     MatchBool (is_output e) ((cause_of c h ≡ None) × (k ≡ h))
     (MatchBool (is_outside e) ((k ≡ h) ⊎ (k ≡ next_of c h)) (IsFor (cause_of c h) e × (k ≡ h)))
 
+-- a command was carried out: what it was asked for is there or not, and it printed these bytes
+abbrev pub IsCarriedOut : Command → Option History → Bool → List ℕ → Option History → Type 0
+IsCarriedOut c h is_match o k = (cause_of c h ≡ None) × (is_match ≡ (shown_of c h).is_match) × (o ≡ (shown_of c h).printed) × (k ≡ next_of c h)
+
 -- from a history, a command gives this answer, prints these bytes, and goes on to another history: it is carried out, or it is refused and prints nothing
 abbrev pub Steps : Command → Option History → Answer → List ℕ → Option History → Type 0
-Steps c h Done o k = (cause_of c h ≡ None) × (o ≡ output_of c h) × (k ≡ next_of c h)
-Steps c h NoMatch o k = ⊥
+Steps c h Done o k = IsCarriedOut c h true o k
+Steps c h NoMatch o k = IsCarriedOut c h false o k
 Steps c h (Refused e) o k = (o ≡ []) × IsRefused c h e k
 
 -- a command on the pair steps its history, and one apart from it leaves it
@@ -89,14 +99,14 @@ Run file name h (c ∷ cs) [] k = ⊥
 
 -- ---- where nothing failed from outside
 
--- the reply that a cause calls for: the output where there is none, and else a refusal that prints nothing
-abbrev pub IsReply : Option Cause → List ℕ → Reply → Type 0
-IsReply None output r = (r.answer ≡ Done) × (r.printed ≡ output)
-IsReply (Some x) output r = ((e : Fault) × (r.answer ≡ Refused e) × IsFor (Some x) e) × (r.printed ≡ [])
+-- the reply that a cause calls for: what is shown where there is none, and else a refusal that prints nothing
+abbrev pub IsReply : Option Cause → Shown → Reply → Type 0
+IsReply None shown r = (r.answer ≡ answer_by shown.is_match) × (r.printed ≡ shown.printed)
+IsReply (Some x) shown r = ((e : Fault) × (r.answer ≡ Refused e) × IsFor (Some x) e) × (r.printed ≡ [])
 
 -- a command on the pair has the reply that its cause calls for, and steps its history; one apart leaves it
 abbrev pub GoesExactly : List ℕ → List ℕ → Command → Option History → Reply → Option History → Type 0
-GoesExactly file name c h r k = (IsOn file name c × IsReply (cause_of c h) (output_of c h) r × (k ≡ next_of c h)) ⊎ (IsApart file name c × (k ≡ h))
+GoesExactly file name c h r k = (IsOn file name c × IsReply (cause_of c h) (shown_of c h) r × (k ≡ next_of c h)) ⊎ (IsApart file name c × (k ≡ h))
 
 -- one command after another
 abbrev pub RunExactly : List ℕ → List ℕ → Option History → List Command → List Reply → Option History → Type 0

@@ -11,8 +11,8 @@ use Rattle.yq_journal.specs.State.{State}
 use Rattle.yq.specs.declared.fault.Fault.{Fault}
 use Rattle.yq.specs.declared.fault.Fault.TheVariants.{NotThere}
 use Rattle.yq.specs.Content.{Content}
+use Rattle.yq.specs.Causes.{Cause, IsFor}
 use Rattle.yq.specs.Faults.{is_outside}
-use Rattle.yq.specs.Steps.{Cause, IsFor}
 
 -- a file and its journal are good for a history
 abbrev pub GoodIn : Content → List ℕ → List ℕ → Option History → Type 0

@@ -1,13 +1,13 @@
 -- What a command prints (own).
-use Rattle.std.specs.Prelude.{ℕ, ◌+◌, Bool, true, false, List, [], ◌∷◌, ◌++◌, map, nat_lt, codes, decimal, Option, Some, None, Result, Ok, Err}
+use Rattle.std.specs.Prelude.{ℕ, ◌+◌, Bool, true, false, List, [], ◌∷◌, ◌++◌, map, nat_lt, codes, decimal, Option, Some, None}
 use Rattle.std.specs.String.{string_bytes}
 use Rattle.json.specs.Print.{quoted}
-use Rattle.yq_expr.specs.Program.{Program}
-use Rattle.yq_journal.specs.History.{History, Revision, text_at}
+use Rattle.yq_journal.specs.History.{History, Revision}
 use Rattle.yq.specs.declared.command.Command.{Command}
 use Rattle.yq.specs.declared.command.Command.TheVariants.{Eval, Undo, Redo, History as Lists, Squash, Help}
-use Rattle.yq.specs.declared.fault.Fault.{Fault}
-use Rattle.yq.specs.Editing.{Outcome, unreadable, refused, edited, program_in, edits}
+use Rattle.yq.specs.Editing.{program_in}
+use Rattle.yq.specs.Evaluation.{evaluated}
+use Rattle.yq.specs.Shown.{Shown, text, nothing, shown_in}
 
 -- the word for an edit that is done, or undone
 abbrev pub state_word : Bool → List ℕ
@@ -32,31 +32,15 @@ abbrev pub listing_output : Option History → List ℕ
 listing_output None = []
 listing_output (Some h) = history_lines h
 
--- the text that an edit comes to
-abbrev pub made_text : Outcome → List ℕ
-made_text unreadable = []
-made_text (refused f) = []
-made_text (edited text changes) = text
-
--- a file's text as a program updates it
-abbrev pub preview_text : Program → Option History → List ℕ
-preview_text p None = []
-preview_text p (Some h) = made_text (edits p (text_at h))
-
--- the same, by what its expression is
-abbrev pub preview_output : Result Program Fault → Option History → List ℕ
-preview_output (Err f) h = []
-preview_output (Ok p) h = preview_text p h
-
--- what a command prints where it is carried out; of help nothing is said
-abbrev pub output_of : Command → Option History → List ℕ
-output_of (Eval expr file journal true exit_status no_doc) h = []
-output_of (Eval expr file journal false exit_status no_doc) h = preview_output (program_in (string_bytes expr)) h
-output_of (Undo file journal) h = []
-output_of (Redo file journal) h = []
-output_of (Lists file journal) h = listing_output h
-output_of (Squash n file journal) h = []
-output_of Help h = []
+-- what a command shows where it is carried out; of help nothing is said
+abbrev pub shown_of : Command → Option History → Shown
+shown_of (Eval expr file journal true exit_status no_doc) h = nothing
+shown_of (Eval expr file journal false exit_status no_doc) h = shown_in (evaluated exit_status no_doc (program_in (string_bytes expr)) h)
+shown_of (Undo file journal) h = nothing
+shown_of (Redo file journal) h = nothing
+shown_of (Lists file journal) h = text (listing_output h)
+shown_of (Squash n file journal) h = nothing
+shown_of Help h = nothing
 
 -- the command prints and writes no name
 abbrev pub prints : Command → Bool

@@ -1,8 +1,8 @@
 -- What a command does to a history, and why it is refused (own).
-use Rattle.std.specs.Prelude.{◌≡◌, ℕ, true, false, if◌then◌else◌, List, [], nat_le, Option, Some, None, option_map, Result, Ok, Err, IsTrue}
+use Rattle.std.specs.Prelude.{ℕ, true, false, if◌then◌else◌, List, [], nat_le, Option, Some, None, option_map, Result, Ok, Err}
 use Rattle.std.specs.Str.{bytes_eq}
 use Rattle.std.specs.String.{string_bytes}
-use Rattle.yq_expr.specs.Program.{Program, is_read}
+use Rattle.yq_expr.specs.Program.{Program}
 use Rattle.yq_journal.specs.declared.fault.JournalFault.{JournalFault}
 use Rattle.yq_journal.specs.declared.moves.Move.{Move}
 use Rattle.yq_journal.specs.declared.moves.Move.TheVariants as move
@@ -12,20 +12,12 @@ use Rattle.yq_journal.specs.Refusals.{most_records}
 use Rattle.yq.specs.declared.command.Command.{Command}
 use Rattle.yq.specs.declared.command.Command.TheVariants.{Eval, Undo, Redo, History as Lists, Squash, Help}
 use Rattle.yq.specs.declared.fault.Fault.{Fault}
-use Rattle.yq.specs.declared.fault.Fault.TheVariants.{NotInProfile, NotThere, JournalFull}
-use Rattle.yq.specs.Editing.{Outcome, unreadable, refused, edited, is_unreadable, program_in, edits}
+use Rattle.yq.specs.declared.fault.Fault.TheVariants.{NotThere, JournalFull}
+use Rattle.yq.specs.Causes.{Cause, named, no_reading}
+use Rattle.yq.specs.Editing.{Outcome, unreadable, refused, edited, program_in, edits}
+use Rattle.yq.specs.Evaluation.{evaluated}
 use Rattle.yq.specs.Faults.{of_fault}
-
--- why a command is refused: a named fault, or that the text has no reading
-pub data Cause : Type 0 where
-  named : Fault → Cause
-  no_reading : Cause
-
--- the fault tells the cause; which fault of reading it is, is left open
-abbrev pub IsFor : Option Cause → Fault → Type 0
-IsFor None e = ⊥
-IsFor (Some (named f)) e = e ≡ f
-IsFor (Some no_reading) e = IsTrue (is_unreadable e)
+use Rattle.yq.specs.Shown.{cause_in}
 
 -- a history that stays where there is a fault, and else goes on
 abbrev pub unless_fault : Option JournalFault → History → History → History
@@ -89,26 +81,10 @@ abbrev pub listing_cause : Option History → Option Cause
 listing_cause None = Some (named NotThere)
 listing_cause (Some h) = None
 
--- why an edited text isn't printed, by what the edit comes to
-abbrev pub print_cause : Outcome → Option Cause
-print_cause unreadable = Some no_reading
-print_cause (refused f) = Some (named f)
-print_cause (edited text changes) = None
-
--- the same, by the file
-abbrev pub preview_of : Program → Option History → Option Cause
-preview_of p None = Some (named NotThere)
-preview_of p (Some h) = print_cause (edits p (text_at h))
-
--- the same, by what its expression is; what reads isn't carried out yet, and is refused as not in the profile
-abbrev pub preview_cause : Result Program Fault → Option History → Option Cause
-preview_cause (Err f) h = Some (named f)
-preview_cause (Ok p) h = if is_read p then Some (named NotInProfile) else preview_of p h
-
 -- why a command is refused
 abbrev pub cause_of : Command → Option History → Option Cause
 cause_of (Eval expr file journal true exit_status no_doc) h = update_cause (program_in (string_bytes expr)) h
-cause_of (Eval expr file journal false exit_status no_doc) h = preview_cause (program_in (string_bytes expr)) h
+cause_of (Eval expr file journal false exit_status no_doc) h = cause_in (evaluated exit_status no_doc (program_in (string_bytes expr)) h)
 cause_of (Undo file journal) h = walk_cause move.Undo h
 cause_of (Redo file journal) h = walk_cause move.Redo h
 cause_of (Lists file journal) h = listing_cause h

@@ -4,9 +4,9 @@ use crate::fault::Fault;
 use crate::output::PutError;
 use crate::store::{FileReadError, FileWriteError};
 use std::alloc::{AllocError, AllocFailed};
-use yq_expr::{ParseError, Refusal};
+use yq_expr::{MatchError, ParseError, Refusal};
 use yq_journal::{JournalError, JournalFault};
-use yq_scalar::ReadFault;
+use yq_scalar::{ReadError, ReadFault};
 use yq_splice::EditError;
 
 impl From<AllocError> for Fault {
@@ -172,5 +172,33 @@ impl From<ReadFault> for Fault {
 
     fn from(fault: ReadFault) -> Fault {
         Fault::Unreadable(fault)
+    }
+}
+
+impl From<ReadError> for Fault {
+    ghost use Rattle.std.specs.Prelude.{◌≡◌};
+    ghost use Rattle.yq.specs.Faults.{of_reading};
+
+    ghost from_gives = { λ x e. e ≡ of_reading x };
+
+    fn from(error: ReadError) -> Fault {
+        match error {
+            ReadError::Memory => Fault::OutOfMemory,
+            ReadError::Fault(fault) => Fault::Unreadable(fault),
+        }
+    }
+}
+
+impl From<MatchError> for Fault {
+    ghost use Rattle.std.specs.Prelude.{◌≡◌};
+    ghost use Rattle.yq.specs.Faults.{of_matching};
+
+    ghost from_gives = { λ x e. e ≡ of_matching x };
+
+    fn from(error: MatchError) -> Fault {
+        match error {
+            MatchError::Refused(why) => Fault::from(why),
+            MatchError::Memory => Fault::OutOfMemory,
+        }
     }
 }

@@ -1,14 +1,17 @@
 //! What an expression makes of a text.
-ghost use Rattle.std.specs.Prelude.{◌≡◌, ◌≢◌, ◌⊎◌, Some, Ok, Err, IfOk, IfErr, false, length};
+ghost use Rattle.std.specs.Prelude.{◌≡◌, ◌≢◌, ◌⊎◌, Some, None, Ok, Err, IfOk, IfErr, OnErr, IsTrue, false, length};
 ghost use Rattle.std.specs.String.{string_bytes};
 ghost use Rattle.yq_expr.specs.View.{program_of};
 ghost use Rattle.yq_splice.specs.Patch.{all_done, lengths_done};
-ghost use Rattle.yq.specs.Editing.{Refuses, edited, edits, program_in};
+ghost use Rattle.yq_tree.specs.Reading.{read_at};
+ghost use Rattle.yq.specs.Editing.{Refuses, edited, edits, is_unreadable, program_in};
 ghost use Rattle.yq.specs.Faults.{is_failure, is_output};
 
 use crate::fault::Fault;
 use std::alloc::Global;
 use yq_expr::{Program, parse_expr};
+use yq_scalar::characters::TEXT_LIMIT;
+use yq_scalar::{FaultKind, ReadFault};
 use yq_splice::{Edited, edit};
 use yq_tree::text_of;
 
@@ -23,8 +26,26 @@ pub fn parse(alloc: Global, expr: &str) -> Result<Program, Fault>
     Ok(parse_expr(alloc, expr)?)
 }
 
+/// The text of a file's bytes. More bytes than a text may have are refused first, whatever they are,
+/// since of a longer file not all need be known.
+pub fn given_text(bytes: &[u8]) -> Result<&str, Fault>
+    ensures ok { IfOk result (λ s. s.now ≡ bytes.now) }
+    ensures err { IfErr result (λ e. IsTrue (is_unreadable e)) }
+    ensures none { OnErr result (read_at bytes.now ≡ None) }
+    ensures inside { IfErr result (λ e. is_failure e ≡ false) }
+    ensures quiet { IfErr result (λ e. is_output e ≡ false) }
+{
+    if bytes.len() > TEXT_LIMIT {
+        return Err(Fault::Unreadable(ReadFault {
+            kind: FaultKind::TooLarge,
+            line: 1,
+        }));
+    }
+    Ok(text_of(bytes)?)
+}
+
 /// Edits a text, which need be no UTF-8, by a program.
-#[tactic(auto, unfolding(crate::specs::Editing::edits), using(crate::proofs::EditingLaws::not_utf8))]
+#[tactic(auto, unfolding(crate::specs::Editing::edits), using(crate::proofs::EditingLaws::unread))]
 pub fn edit_text(alloc: Global, program: &Program, text: &[u8]) -> Result<Edited, Fault>
     ensures ok { IfOk result (λ e. edits (program_of program.now) text.now ≡ edited (string_bytes e.text) e.splices.items) }
     ensures splices { IfOk result (λ e. all_done e.splices.items text.now ≡ Some (string_bytes e.text)) }
@@ -33,6 +54,6 @@ pub fn edit_text(alloc: Global, program: &Program, text: &[u8]) -> Result<Edited
     ensures inside { IfErr result (λ e. is_failure e ≡ false) }
     ensures quiet { IfErr result (λ e. is_output e ≡ false) }
 {
-    let text = text_of(text)?;
+    let text = given_text(text)?;
     Ok(edit(alloc, text, program)?)
 }

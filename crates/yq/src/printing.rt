@@ -2,25 +2,22 @@
 ghost use Rattle.std.specs.Prelude.{◌≡◌, ◌∷◌, ◌++◌, [], ℕ, List, Option, IfErr, OnOk, IfOk, IsTrue, false, decimal, map};
 ghost use Rattle.std.specs.String.{string_bytes};
 ghost use Rattle.json.specs.Print as json;
-ghost use Rattle.yq_expr.specs.View.{program_of};
 ghost use Rattle.yq_journal.specs.History.{History};
 ghost use Rattle.yq_journal.specs.Record.{Patch};
-ghost use Rattle.yq.specs.Editing.{program_in};
 ghost use Rattle.yq.specs.Faults.{is_output, counted};
 ghost use Rattle.yq.specs.Pair.{Arrives, GoodIn};
 ghost use Rattle.yq.specs.Prints as spec;
-ghost use Rattle.yq.specs.Steps.{listing_cause, preview_cause, preview_of};
+ghost use Rattle.yq.specs.Shown.{nothing, shown_by, text as shown_text};
+ghost use Rattle.yq.specs.Steps.{listing_cause};
 
-use crate::editing::{edit_text, parse};
 use crate::fault::Fault;
 use crate::help::{HELP, USAGE};
 use crate::pair::open_pair;
+use crate::shown::Shown;
 use crate::store::Store;
 use serde_json::Value;
 use std::alloc::{AllocError, Global};
-use yq_expr::Program;
 use yq_journal::Journal;
-use yq_splice::Edited;
 
 /// A text as a JSON string.
 fn quoted(alloc: Global, text: &str) -> Result<String, AllocError>
@@ -75,72 +72,29 @@ pub fn listing<D: Store>(
     store: &mut D,
     file: &str,
     name: &str,
-    printed: &mut String,
+    shown: &mut Shown,
 ) -> Result<(), Fault>
+    requires empty { shown_by shown.old ≡ nothing }
     ensures arrives { IsTrue D.keeps → (h : Option History) → GoodIn (D.content store.old) file.now name.now h →
         Arrives (D.content store.new) file.now name.now (listing_cause h) h h result }
     ensures output { IsTrue D.keeps → (h : Option History) → GoodIn (D.content store.old) file.now name.now h →
-        OnOk result (string_bytes printed.new ≡ spec.listing_output h) }
+        OnOk result (shown_by shown.new ≡ shown_text (spec.listing_output h)) }
     ensures same { IsTrue D.keeps → D.content store.new ≡ D.content store.old }
     ensures quiet { IfErr result (λ e. is_output e ≡ false) }
     ensures count { D.failures store.new ≡ counted result (D.failures store.old) }
 {
     let (_text, journal) = open_pair(alloc, store, file, name)?;
-    *printed = lines_of(alloc, &journal)?;
+    shown.text = lines_of(alloc, &journal)?;
     Ok(())
 }
 
-/// Prints a file's text as a program that isn't a read would update it.
-fn preview_of_program<D: Store>(
-    alloc: Global,
-    store: &mut D,
-    file: &str,
-    program: &Program,
-    printed: &mut String,
-) -> Result<(), Fault>
-    ensures arrives { IsTrue D.keeps → (name : List ℕ) → (h : Option History) → GoodIn (D.content store.old) file.now name h →
-        Arrives (D.content store.new) file.now name (preview_of (program_of program.now) h) h h result }
-    ensures output { IsTrue D.keeps → (name : List ℕ) → (h : Option History) → GoodIn (D.content store.old) file.now name h →
-        OnOk result (string_bytes printed.new ≡ spec.preview_text (program_of program.now) h) }
-    ensures same { IsTrue D.keeps → D.content store.new ≡ D.content store.old }
-    ensures quiet { IfErr result (λ e. is_output e ≡ false) }
-    ensures count { D.failures store.new ≡ counted result (D.failures store.old) }
-{
-    let text = store.read(alloc, file)?;
-    let Edited { text: made, .. } = edit_text(alloc, program, &text)?;
-    *printed = made;
-    Ok(())
-}
-
-/// Prints a file's text as an expression would update it. What reads isn't carried out yet.
-pub fn preview<D: Store>(
-    alloc: Global,
-    store: &mut D,
-    file: &str,
-    expr: &str,
-    printed: &mut String,
-) -> Result<(), Fault>
-    ensures arrives { IsTrue D.keeps → (name : List ℕ) → (h : Option History) → GoodIn (D.content store.old) file.now name h →
-        Arrives (D.content store.new) file.now name (preview_cause (program_in expr.now) h) h h result }
-    ensures output { IsTrue D.keeps → (name : List ℕ) → (h : Option History) → GoodIn (D.content store.old) file.now name h →
-        OnOk result (string_bytes printed.new ≡ spec.preview_output (program_in expr.now) h) }
-    ensures same { IsTrue D.keeps → D.content store.new ≡ D.content store.old }
-    ensures quiet { IfErr result (λ e. is_output e ≡ false) }
-    ensures count { D.failures store.new ≡ counted result (D.failures store.old) }
-{
-    let program = parse(alloc, expr)?;
-    if program.is_read() {
-        return Err(Fault::NotInProfile);
-    }
-    preview_of_program(alloc, store, file, &program, printed)
-}
-
-/// Prints the help.
-pub fn help(alloc: Global, printed: &mut String) -> Result<(), Fault>
+/// Shows the help.
+pub fn help(alloc: Global, shown: &mut Shown) -> Result<(), Fault>
+    requires empty { shown_by shown.old ≡ nothing }
     ensures memory { IfErr result (λ e. e ≡ Fault.OutOfMemory) }
 {
     let mut text = String::from_str(alloc, USAGE)?;
     text.push_str(HELP)?;
-    *printed = text;
+    shown.text = text;
     Ok(())
 }

@@ -7,9 +7,11 @@ ghost use Rattle.yq_journal.specs.History.{History};
 ghost use Rattle.yq.specs.Count.{one_more};
 ghost use Rattle.yq.specs.Editing.{program_in};
 ghost use Rattle.yq.specs.Faults.{is_outside, is_output, counted};
-ghost use Rattle.yq.specs.Lists.{AllFit, IsOn, IsStranger, Keeps, Run, RunExactly, Recorded, IsRecorded, Records, Reply, answers_in, printed_in, has_memory, failures_in, output_failures_in, tells_output};
+ghost use Rattle.yq.specs.Lists.{AllFit, IsOn, IsStranger, Keeps, Run, RunExactly, Told, Recorded, IsRecorded, Records, Reply, answers_in, printed_in, has_memory, failures_in, output_failures_in, tells_output};
 ghost use Rattle.yq.specs.Pair.{Arrives, GoodIn, OthersStay};
-ghost use Rattle.yq.specs.Prints.{output_of, prints};
+ghost use Rattle.yq.specs.Prints.{prints, shown_of};
+ghost use Rattle.yq.specs.Shown as spec;
+ghost use Rattle.yq.specs.Shown.{nothing, shown_by};
 ghost use Rattle.yq.specs.Steps.{cause_of, next_of, update_cause, update_next, walk_cause, walk_next};
 ghost use Rattle.yq.specs.Walks.{step_of};
 
@@ -17,11 +19,13 @@ use crate::answer::Answer;
 use crate::command::Command;
 use crate::edit::edit_from;
 use crate::editing::parse;
+use crate::evaluating::evaluate;
 use crate::fault::Fault;
 use crate::moves::walk_from;
 use crate::output::Out;
 use crate::pair::open_pair;
-use crate::printing::{help, listing, preview};
+use crate::printing::{help, listing};
+use crate::shown::Shown;
 use crate::squash::squash;
 use crate::store::Store;
 use crate::walk::Walk;
@@ -84,21 +88,21 @@ fn update<D: Store>(
     )
 }
 
-/// Carries out a command but for its output, and tells what it prints.
+/// Carries out a command but for its output, and tells what it shows.
 fn execute<D: Store>(
     alloc: Global,
     store: &mut D,
     command: &Command,
-    printed: &mut String,
+    shown: &mut Shown,
 ) -> Result<(), Fault>
-    requires empty { string_bytes printed.old ≡ [] }
+    requires empty { shown_by shown.old ≡ nothing }
     ensures arrives { IsTrue D.keeps → (file name : List ℕ) → file ≢ name → IsOn file name command.now →
         (h : Option History) → GoodIn (D.content store.old) file name h →
         Arrives (D.content store.new) file name (cause_of command.now h) h (next_of command.now h) result }
     ensures output { IsTrue D.keeps → (file name : List ℕ) → IsOn file name command.now →
         (h : Option History) → GoodIn (D.content store.old) file name h →
-        OnOk result (string_bytes printed.new ≡ output_of command.now h) }
-    ensures silent { prints command.now ≡ false → string_bytes printed.new ≡ [] }
+        OnOk result (shown_by shown.new ≡ shown_of command.now h) }
+    ensures silent { prints command.now ≡ false → shown_by shown.new ≡ nothing }
     ensures still { IsTrue D.keeps → prints command.now ≡ true → D.content store.new ≡ D.content store.old }
     ensures recorded { IsTrue D.keeps → OnOk result ((file name : List ℕ) → IsOn file name command.now →
         IsRecorded command.now (map.get (D.content store.old) file) (map.get (D.content store.new) name)) }
@@ -115,9 +119,21 @@ fn execute<D: Store>(
             in_place: true,
             ..
         } => update(alloc, store, file.as_str(), journal.as_str(), expr.as_str()),
-        Command::Eval { expr, file, .. } => {
-            preview(alloc, store, file.as_str(), expr.as_str(), printed)
-        }
+        Command::Eval {
+            expr,
+            file,
+            exit_status,
+            no_doc,
+            ..
+        } => evaluate(
+            alloc,
+            store,
+            file.as_str(),
+            expr.as_str(),
+            *exit_status,
+            *no_doc,
+            shown,
+        ),
         Command::Undo { file, journal } => {
             walk(alloc, store, file.as_str(), journal.as_str(), Walk::Undo)
         }
@@ -125,29 +141,41 @@ fn execute<D: Store>(
             walk(alloc, store, file.as_str(), journal.as_str(), Walk::Redo)
         }
         Command::History { file, journal } => {
-            listing(alloc, store, file.as_str(), journal.as_str(), printed)
+            listing(alloc, store, file.as_str(), journal.as_str(), shown)
         }
         Command::Squash { n, file, journal } => {
             squash(alloc, store, file.as_str(), journal.as_str(), *n)
         }
-        Command::Help => help(alloc, printed),
+        Command::Help => help(alloc, shown),
+    }
+}
+
+/// The answer to a command that was carried out.
+fn answer_by(is_match: bool) -> Answer
+    ensures { result ≡ spec.answer_by is_match }
+{
+    if is_match {
+        Answer::Done
+    } else {
+        Answer::NoMatch
     }
 }
 
 /// The answer to a command that came to this: where it was carried out, what it prints is put.
-fn answer_of<W: Out>(out: &mut W, done: Result<(), Fault>, printed: &[u8]) -> Answer
-    ensures told { MatchResult done (λ _. (result ≡ Answer.Done) ⊎ ((result ≡ Answer.Refused Fault.OutFailed) × (printed.now ≢ []))) (λ e. result ≡ Answer.Refused e) }
-    ensures taken { IsTrue W.tells → MatchResult done (λ _. result ≡ Answer.Done → W.taken out.new ≡ W.taken out.old ++ printed.now) (λ _. W.taken out.new ≡ W.taken out.old) }
+fn answer_of<W: Out>(out: &mut W, done: Result<(), Fault>, shown: &Shown) -> Answer
+    ensures told { Told done result (shown_by shown.now) }
+    ensures taken { IsTrue W.tells → MatchResult done (λ _. tells_output result ≡ false → W.taken out.new ≡ W.taken out.old ++ string_bytes shown.now.text) (λ _. W.taken out.new ≡ W.taken out.old) }
     ensures count { MatchResult done (λ _. W.failures out.new ≡ (if tells_output result then one_more (W.failures out.old) else W.failures out.old)) (λ _. W.failures out.new ≡ W.failures out.old) }
 {
     if let Err(fault) = done {
         return Answer::Refused(fault);
     }
+    let printed = shown.text.as_bytes();
     if printed.is_empty() {
-        return Answer::Done;
+        return answer_by(shown.is_match);
     }
     match out.put(printed) {
-        Ok(()) => Answer::Done,
+        Ok(()) => answer_by(shown.is_match),
         Err(_) => Answer::Refused(Fault::OutFailed),
     }
 }
@@ -183,9 +211,9 @@ pub fn run_list<D: Store, W: Out>(
 {
     let mut answers = Vec::with_capacity(alloc, commands.len())?;
     'commands: for command in commands {
-        let mut printed = String::new(alloc);
-        let done = execute(alloc, store, command, &mut printed);
-        let answer = answer_of(out, done, printed.as_bytes());
+        let mut shown = Shown::nothing(alloc);
+        let done = execute(alloc, store, command, &mut shown);
+        let answer = answer_of(out, done, &shown);
         answers.push(answer).unwrap();
     }
     Ok(answers)

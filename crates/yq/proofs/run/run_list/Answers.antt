@@ -1,11 +1,11 @@
 use Rattle.std.proofs.Common.{rules, ◌≡◌, ◌⊎◌, ◌∷◌, ◌++◌, [], ◌+◌, ◌-◌, ◌^◌, ◌<◌, ◌≤◌, min, take, length, sym, ap, ◌∙◌, subst, arith, is_ok, true, vec_len, if◌then◌else◌}
 use Rattle.std.specs.List.{list_all}
-use Rattle.std.specs.String.{string_bytes}
 use Rattle.std.proofs.lemmas.Grind.{common_steps}
 use Rattle.std.proofs.lemmas.List.{append-nil, take_more}
 use Rattle.yq.specs.Count.{one_more}
 use Rattle.yq.specs.Lists.{IsOn, IsApart, IsStranger, Run, RunExactly, Keeps, failures_in, output_failures_in, tells_output}
-use Rattle.yq.proofs.ListLaws.{reply, is_inside, shows, answers_more, run_more, goes_on, exact_run, all_inside, count_more, put_told, put_more, taken_more, keeps_more, leaves, last_more, no_command}
+use Rattle.yq.specs.Shown.{shown_by}
+use Rattle.yq.proofs.ListLaws.{reply, is_inside, answers_more, run_more, goes_on, exact_run, all_inside, count_more, put_told, put_more, taken_more, keeps_more, leaves, last_more, no_command}
 use Rattle.yq.proofs.run.run_list.Goals as goal
 
 pub commands-init : goal.commands-init
@@ -28,10 +28,9 @@ commands-preserved g c =
     let cmd = c.command-item.result in
     let done = c.execute-done.result in
     let answer = c.answer_of-answer.result in
-    let printed = c.as_bytes.result.now in
+    let shown = shown_by c.execute-done.new.shown in
     let told = c.answer_of-answer.ensures.told in
     let quiet = c.execute-done.ensures.quiet in
-    let text : string_bytes c.execute-done.new.printed ≡ printed = sym c.as_bytes.ensures.value in
     let within : c.commands.command-index < length c.args.commands.now = omega arith in
     let more : take (c.commands.command-index + 1) c.args.commands.now ≡ take c.commands.command-index c.args.commands.now ++ cmd ∷ [] =
     take_more c.args.commands.now c.commands.command-index cmd within ∙ ap (λ x. take c.commands.command-index c.args.commands.now ++ x ∷ []) (sym c.command-item.is) in
@@ -39,45 +38,45 @@ commands-preserved g c =
     let pushed : c.push.new.self.items ≡ c.commands.answers.items ++ answer ∷ [] =
     c.push.ensures.items ∙ ap (λ b. if b then c.commands.answers.items ++ answer ∷ [] else c.commands.answers.items) ok in
     let put : failures c.answer_of-answer.new.out ≡ (if tells_output answer then one_more (failures c.commands.out) else failures c.commands.out) =
-    put_told done answer printed (failures c.commands.out) _ told quiet c.answer_of-answer.ensures.count in
+    put_told done answer shown (failures c.commands.out) _ told quiet c.answer_of-answer.ensures.count in
     record {
       count = c.push.ensures.len ∙ ap (λ b. if b then vec_len c.commands.answers + 1 else vec_len c.commands.answers) ok ∙ ap (λ n. n + 1) before.count;
       room = omega (arith, c.push.ensures.capacity);
       run = λ keeps.
           let now = before.run keeps in (
-            now.0 ++ reply answer printed ∷ [],
-            answers_more now.0 c.commands.answers.items answer printed now.1 ∙ sym pushed,
-            (λ tells same below. taken_more done answer printed now.0 (g.W.Out.taken c.args.out.now) (g.W.Out.taken c.commands.out) _ (output_failures_in c.commands.answers.items) (failures c.args.out.now) (failures c.commands.out) _ told
+            now.0 ++ reply answer shown.printed ∷ [],
+            answers_more now.0 c.commands.answers.items answer shown.printed now.1 ∙ sym pushed,
+            (λ tells same below. taken_more done answer shown now.0 (g.W.Out.taken c.args.out.now) (g.W.Out.taken c.commands.out) _ (output_failures_in c.commands.answers.items) (failures c.args.out.now) (failures c.commands.out) _ told
                 before.out_sum put same below (now.2 tells) (c.answer_of-answer.ensures.taken tells)),
             (λ file name apart fit h good.
                 let one = now.3 file name apart fit h good in
                 let here : IsOn file name cmd ⊎ IsApart file name cmd =
                 subst (λ x. IsOn file name x ⊎ IsApart file name x) (sym c.command-item.is) (fit c.commands.command-index cmd within) in
-                let next = goes_on (content c.commands.store) (content c.execute-done.new.store) file name cmd one.0 done answer printed here one.2
+                let next = goes_on (content c.commands.store) (content c.execute-done.new.store) file name cmd one.0 done answer shown here one.2
                 (λ on. c.execute-done.ensures.arrives keeps file name apart on one.0 one.2)
-                (λ on. shows done _ _ _ text (c.execute-done.ensures.output keeps file name on one.0 one.2))
+                (λ on. c.execute-done.ensures.output keeps file name on one.0 one.2)
                 quiet (c.execute-done.ensures.others keeps) told in (
                   next.0,
-                  subst (λ cs. Run file name h cs (now.0 ++ reply answer printed ∷ []) next.0) (sym more)
-                      (run_more file name h one.0 next.0 _ now.0 cmd (reply answer printed) one.1 next.1),
+                  subst (λ cs. Run file name h cs (now.0 ++ reply answer shown.printed ∷ []) next.0) (sym more)
+                      (run_more file name h one.0 next.0 _ now.0 cmd (reply answer shown.printed) one.1 next.1),
                   next.2,
                 )),
           );
       recorded = λ keeps file name apart fit h good cs d rs commands answers on.
           let now = before.run keeps in
           let one = now.3 file name apart fit h good in
-          last_more (content c.commands.store) (content c.execute-done.new.store) file name h one.0 _ now.0 c.commands.answers.items cmd answer printed done now.1 one.1 one.2 told
+          last_more (content c.commands.store) (content c.execute-done.new.store) file name h one.0 _ now.0 c.commands.answers.items cmd answer shown done now.1 one.1 one.2 told
           (c.execute-done.ensures.recorded keeps) cs d rs (sym more ∙ commands) (sym pushed ∙ answers) on;
       kept = λ keeps.
           subst (λ cs. Keeps (content c.args.store.now) cs c.push.new.self.items (content c.execute-done.new.store)) (sym more)
           (subst (λ rs. Keeps (content c.args.store.now) (take c.commands.command-index c.args.commands.now ++ cmd ∷ []) rs (content c.execute-done.new.store)) (sym pushed)
           (keeps_more (content c.args.store.now) (content c.commands.store) (content c.execute-done.new.store) _ _ cmd answer (before.kept keeps)
-          (leaves (content c.commands.store) (content c.execute-done.new.store) cmd done answer printed told (c.execute-done.ensures.still keeps)
-          (λ silent. sym text ∙ c.execute-done.ensures.silent silent) (c.execute-done.ensures.kept keeps) (c.execute-done.ensures.others keeps))));
+          (leaves (content c.commands.store) (content c.execute-done.new.store) cmd done answer shown told (c.execute-done.ensures.still keeps)
+          c.execute-done.ensures.silent (c.execute-done.ensures.kept keeps) (c.execute-done.ensures.others keeps))));
       others = λ keeps q strangers.
           c.execute-done.ensures.others keeps q (subst (IsStranger q) (sym c.command-item.is) (strangers c.commands.command-index cmd within)) ∙ before.others keeps q strangers;
       sum = subst (λ rs. min (g.D.Store.failures c.args.store.now + failures_in rs) (2 ^ 64 - 1) ≤ g.D.Store.failures c.execute-done.new.store) (sym pushed)
-          (count_more done c.commands.answers.items answer printed (g.D.Store.failures c.args.store.now) _ _ told before.sum c.execute-done.ensures.count);
+          (count_more done c.commands.answers.items answer shown (g.D.Store.failures c.args.store.now) _ _ told before.sum c.execute-done.ensures.count);
       out_sum = subst (λ rs. min (failures c.args.out.now + output_failures_in rs) (2 ^ 64 - 1) ≤ failures c.answer_of-answer.new.out) (sym pushed)
           (put_more c.commands.answers.items answer (failures c.args.out.now) (failures c.commands.out) _ before.out_sum put);
     }
