@@ -84,7 +84,7 @@ def check_each_growth_of_a_squash(folder):
 
 
 def check_each_growth_of_what_prints(folder):
-    for words in (["history", "f"], [".n = 7", "f"], ["--help"]):
+    for words in (["history", "f"], [".n = 7", "f"], [".n", "f"], ["--help"]):
         later = type(folder)(folder.yq, folder.name(words[0]))
         os.mkdir(later.path)
         each_growth(later, " ".join(words), Scenario(words, EDIT.prepare, EDIT.before, EDIT.before))

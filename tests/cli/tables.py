@@ -5,12 +5,13 @@ A table is `{"about": .., "source": .., "rows": [..]}`, and a row one of
 - `{"text": T, "edit": EXPR, "gives": T2, "splices"?: [[AT, OLD, NEW], ..]}`: `yq -i EXPR f` makes T2 of the file `f`
   and prints nothing, and `yq undo f` gives T back. An edit to T itself writes nothing.
 - `{"text": T, "edit": EXPR, "refused": LINE}`: the edit is refused with the line `Error: LINE`.
-- `{"text": T, "words": [WORD, ..], "prints": OUT}`, or with `refused`.
+- `{"text": T, "words": [WORD, ..], "prints": OUT, "no_match"?: true}`, or with `refused`.
 - `{"files": {NAME: T, ..}, "steps": [STEP, ..]}`, where a step is `{"set": {NAME: T}}` or `{"words": [..],
-  "refused"?: LINE, "prints"?: OUT, "files"?: {NAME: T}, "same"?: true | [NAME, ..]}`. A T that is null stands for no file.
+  "refused"?: LINE, "prints"?: OUT, "no_match"?: true, "files"?: {NAME: T}, "same"?: true | [NAME, ..]}`. A T that is null
+  stands for no file.
 
-What is refused prints nothing and writes nothing; `same` says that a step writes nothing, or none of these files. A row
-may have a `name`.
+What is refused prints nothing and writes nothing; `same` says that a step writes nothing, or none of these files;
+`no_match` says that what it was asked for isn't there. A row may have a `name`.
 A text is a string, `{"base64": ..}`, `{"repeat": T, "times": N, "then"?: T}`, `{"json": ..}` (as journals are written:
 keys sorted, no spaces, a line feed at the end), or a list of such, one behind the other.
 """
@@ -24,6 +25,7 @@ from harness import Folder, equal
 
 TABLES = os.path.join(os.path.dirname(os.path.abspath(__file__)), "tables")
 FILE, JOURNAL = "f", "f.undo.json"
+NO_MATCH = b"Error: N1 no matches found\n"
 
 
 def text_of(value):
@@ -66,7 +68,7 @@ def is_told(folder, step):
     """The answer to the words, and what they print."""
     status, out, err = folder.run(*step["words"])
     if "refused" not in step:
-        equal((status, err), (0, b""), step["words"])
+        equal((status, err), (1, NO_MATCH) if step.get("no_match", False) else (0, b""), step["words"])
         equal(out, text_of(step.get("prints", "")), step["words"])
         return
     line, usage = err.split(b"\n", 1)
@@ -85,7 +87,7 @@ def take(folder, step):
         known(step, ["set"])
         put(folder, step["set"])
         return
-    known(step, ["words", "refused", "prints", "files", "same"])
+    known(step, ["words", "refused", "prints", "no_match", "files", "same"])
     before = stands(folder)
     is_told(folder, step)
     stays(before, stands(folder), True if "refused" in step else step.get("same", []))
@@ -126,8 +128,8 @@ def is_so(folder, row):
         known(row, ["name", "text", "edit", "refused"])
         take(folder, {"words": ["-i", row["edit"], FILE], "refused": row["refused"]})
     else:
-        known(row, ["name", "text", "files", "words", "prints", "refused"])
-        take(folder, {key: row[key] for key in ("words", "prints", "refused") if key in row})
+        known(row, ["name", "text", "files", "words", "prints", "no_match", "refused"])
+        take(folder, {key: row[key] for key in ("words", "prints", "no_match", "refused") if key in row})
 
 
 def known(row, keys):
