@@ -25,6 +25,7 @@ install: $(YQ)
 
 bench: $(YQ)
 	python3 bench/read.py $(YQ)
+	python3 bench/reads.py $(YQ)
 	python3 bench/edit.py $(YQ)
 	python3 bench/expressions.py $(YQ)
 
