@@ -14,7 +14,7 @@ from tracing import calls_in, own_calls, traced
 ERRORS = ("ENOSPC", "EIO", "EACCES")
 FAULTS = (b"Error: S2 read failed\n", b"Error: S3 write failed\n", b"Error: M1 out of memory\n")
 FILE, JOURNAL = "f", "f.undo.json"
-FILE_MODE, JOURNAL_MODE = 0o640, 0o600
+MODE, PRIVATE = 0o640, 0o600
 WORKERS = 2 * (os.cpu_count() or 1)
 
 
@@ -56,7 +56,7 @@ def prepared(folder, scenario):
     first = type(folder)(folder.yq, folder.name("first"))
     os.mkdir(first.path)
     first.write(FILE, text(1))
-    os.chmod(first.name(FILE), FILE_MODE)
+    os.chmod(first.name(FILE), MODE)
     for words in scenario.prepare:
         first.accepts(*words)
     equal(first.read(FILE), scenario.before.now())
@@ -76,9 +76,9 @@ def outcome(first, folder, scenario):
 
 
 def modes_stay(folder):
-    equal(folder.mode(FILE), FILE_MODE)
+    equal(folder.mode(FILE), MODE)
     if JOURNAL in folder.names():
-        equal(folder.mode(JOURNAL), JOURNAL_MODE)
+        equal(folder.mode(JOURNAL), MODE)
         json.loads(folder.read(JOURNAL))
 
 
@@ -157,7 +157,7 @@ def is_killed(first, path, scenario, call):
     left = leftovers(folder)
     equal(len(left) <= 1, True, left)
     for name, mode, _bytes in left:
-        equal((name.startswith(".yq-"), mode in (FILE_MODE, JOURNAL_MODE)), (True, True), (name, mode))
+        equal((name.startswith(".yq-"), mode in (MODE, PRIVATE)), (True, True), (name, mode))
     goes_on(folder, history, walk_through, edit_on)
 
 

@@ -2,6 +2,7 @@
 
 import json
 import os
+import shutil
 import subprocess
 
 from harness import Skip, equal
@@ -80,3 +81,34 @@ def check_a_link_to_another_disk(folder):
         equal(disk.folder.read("f"), b"name: web # main\nport: 9090\n")
         folder.accepts("undo", "l")
         equal((disk.folder.read("f"), disk.folder.names(), folder.names()), (WEB, ["f"], ["disk", "l", "l.undo.json"]))
+
+
+def mounted(folder, own, file):
+    """What runs a command where a file is mounted over another one: in a space of mounts of its own."""
+    line = ["unshare", "--mount", "sh", "-c", f'mount --bind {own} {file} && exec "$0" "$@"']
+    if shutil.which("unshare") is None or subprocess.run([*line, "true"], cwd=folder.path, capture_output=True).returncode != 0:
+        raise Skip("may not mount a file")
+    return line
+
+
+def check_a_file_that_is_mounted_on_its_own(folder):
+    """No file can be renamed over it: nothing is written."""
+    folder.write("own", WEB)
+    folder.write("f", b"")
+    line = mounted(folder, "own", "f")
+    for edit in (["-i", ".port = 9090", "f"], ["-i", ".port = 9090", "--journal", "j", "f"]):
+        equal(folder.run(*edit, before=line), (1, b"", b"Error: S3 write failed\n"))
+        equal((folder.read("own"), folder.read("f"), folder.names()), (WEB, b"", ["f", "own"]))
+    equal(folder.run(".port = 9090", "f", before=line), (0, b"name: web # main\nport: 9090\n", b""))
+
+
+def check_a_journal_that_is_mounted_on_its_own(folder):
+    folder.write("f", WEB)
+    folder.accepts("-i", ".port = 9090", "f")
+    for name in ("own", "j"):
+        folder.write(name, folder.read("f.undo.json"))
+    before = {name: folder.read(name) for name in folder.names()}
+    line = mounted(folder, "own", "j")
+    for words in (["undo", "--journal", "j", "f"], ["-i", ".port = 1", "--journal", "j", "f"]):
+        equal(folder.run(*words, before=line), (1, b"", b"Error: S3 write failed\n"))
+        equal({name: folder.read(name) for name in folder.names()}, before)

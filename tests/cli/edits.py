@@ -7,11 +7,11 @@ from harness import equal
 WEB = b"name: web # main\nport: 8080\n"
 
 
-def check_the_mode_stays_and_new_names_are_private(folder):
+def check_the_mode_stays_and_a_new_journal_has_it(folder):
     folder.write("f", WEB)
     os.chmod(folder.name("f"), 0o640)
     folder.accepts("-i", ".port = 9090", "f")
-    equal((folder.mode("f"), folder.mode("f.undo.json")), (0o640, 0o600))
+    equal((folder.mode("f"), folder.mode("f.undo.json")), (0o640, 0o640))
     folder.accepts("undo", "f")
     equal(folder.mode("f"), 0o640)
     os.chmod(folder.name("f.undo.json"), 0o644)

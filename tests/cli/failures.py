@@ -1,12 +1,14 @@
 """Files that can't be read or written, leftovers, and moves that were cut."""
 
 import os
+import subprocess
 
 from harness import as_nobody, equal
 from tracing import traced
 
 WEB = b"name: web # main\nport: 8080\n"
 EDITED = b"name: web # main\nport: 9090\n"
+LIMIT = 16_777_216
 OPEN = (
     b'{"at":0,"pending":{"from":"bjogMQo=","kind":"edit","record":{"after_len":5,"before_len":5,"count":1,'
     b'"expr":".n = 2","splices":[{"at":3,"new":"Mg==","old":"MQ=="}]}},"records":[],"version":2}\n'
@@ -18,6 +20,32 @@ def check_a_folder_as_file(folder):
     folder.refuses("S2 read failed", "undo", "d")
     folder.refuses("S2 read failed", "-i", ".n = 2", "d")
     equal(folder.names(), ["d"])
+
+
+def check_a_pipe_as_file(folder):
+    """Nobody writes to its other end, and no command waits for that."""
+    os.mkfifo(folder.name("p"))
+    folder.write("f", WEB)
+    pairs = (["p"], ["--journal", "p", "f"])
+    for pair in pairs:
+        for words in (["undo", *pair], ["history", *pair], ["-i", ".port = 2", *pair]):
+            folder.refuses("S2 read failed", *words)
+            equal((folder.read("f"), folder.names()), (WEB, ["f", "p"]))
+
+
+def check_a_text_without_an_end(folder):
+    """Of a file that is too large no more is read than shows this, and a character that is cut there is no fault."""
+    character = "\u00e9".encode()
+    for front in (b"", b"k"):
+        folder.write("f", front + character * (LIMIT // 2 + 8))
+        folder.refuses("Y18 line 1: too large", "-i", ".a = 1", "f")
+    os.truncate(folder.name("f"), 1 << 40)
+    status, err, trace = traced(folder, ["-i", ".a = 1", "f"])
+    equal((status, err), (1, b"Error: Y18 line 1: too large\n"))
+    equal(sum(int(line.rsplit("= ", 1)[1]) for line in trace if line.startswith("read(") and '"k' in line) > 0, True)
+    reads = [line for line in trace if line.startswith("read(")]
+    equal(sum(int(line.rsplit("= ", 1)[1]) for line in reads) < 2 * LIMIT, True, "bytes read")
+    equal(folder.names(), ["f"])
 
 
 def check_a_file_that_nobody_may_read(folder):
@@ -43,11 +71,41 @@ def check_nobody_in_a_folder_of_its_own(folder):
     as_nobody()
     folder.give_away()
     folder.write("f", WEB)
-    os.chmod(folder.name("f"), 0o644)
+    os.chmod(folder.name("f"), 0o646)
     folder.accepts("-i", ".port = 9090", "f", nobody=True)
-    equal((folder.read("f"), folder.mode("f"), folder.mode("f.undo.json")), (EDITED, 0o644, 0o600))
+    equal((folder.read("f"), folder.mode("f"), folder.mode("f.undo.json")), (EDITED, 0o646, 0o646))
     folder.accepts("undo", "f", nobody=True)
     equal(folder.read("f"), WEB)
+
+
+REPAIR = r"""
+cp -p f.undo.json f.undo.json.kept
+sed -n 's/.*"pending":{"from":"\([^"]*\)".*/\1/p' f.undo.json.kept | base64 -d > f.before
+sed 's/"pending":{.*},"records":\[/"pending":null,"records":[/' f.undo.json.kept > f.undo.json
+"""
+
+
+def check_a_cut_and_then_another_hand(folder):
+    """The commands of the page on the journal keep both texts, and what was done before the cut can be undone."""
+    folder.write("f", b"m: 1\nn: 1\n")
+    folder.accepts("-i", '.m = "},\\"records\\":["', "f")
+    folder.accepts("-i", ".m = 3", "f")
+    cut = folder.read("f")
+    _status, err, _trace = traced(folder, ["-i", ".n = 2", "f"], "rename:error=EIO:when=2")
+    equal(err, b"Error: S3 write failed\n")
+    theirs = cut.replace(b"n: 1", b"n: 7")
+    folder.write("f", theirs)
+    for words in (["-i", ".n = 3", "f"], ["undo", "f"], ["redo", "f"], ["history", "f"], ["squash", "2", "f"]):
+        folder.refuses("J5 unsettled", *words)
+        equal(folder.read("f"), theirs)
+    done = subprocess.run(["sh", "-ec", REPAIR], cwd=folder.path, capture_output=True)
+    equal((done.returncode, done.stderr), (0, b""))
+    equal((folder.read("f"), folder.read("f.before")), (theirs, cut))
+    equal(folder.accepts("history", "f").count(b" done "), 2)
+    for wanted in (theirs.replace(b"m: 3", b'm: "},\\"records\\":["'), theirs.replace(b"m: 3", b"m: 1")):
+        folder.accepts("undo", "f")
+        equal(folder.read("f"), wanted)
+    folder.refuses("J1 nothing to undo", "undo", "f")
 
 
 def check_an_edit_that_is_cut_leaves_its_open_move(folder):

@@ -26,7 +26,7 @@ def check_a_link_to_a_file(folder):
     os.chmod(folder.name("f"), 0o640)
     os.symlink("f", folder.name("l"))
     is_edited_and_undone(folder, "l", "f")
-    equal((folder.mode("f"), folder.mode("l.undo.json")), (0o640, 0o600))
+    equal((folder.mode("f"), folder.mode("l.undo.json")), (0o640, 0o640))
 
 
 def check_an_absolute_link(folder):
@@ -90,7 +90,7 @@ def check_a_journal_behind_a_link(folder):
     folder.write("f", WEB)
     os.symlink("d/j", folder.name("f.undo.json"))
     folder.accepts(*EDIT, "f")
-    equal((folder.read("f"), folder.mode("d/j")), (EDITED, 0o600))
+    equal((folder.read("f"), folder.mode("d/j")), (EDITED, folder.mode("f")))
     folder.accepts("undo", "f")
     equal((folder.read("f"), os.readlink(folder.name("f.undo.json"))), (WEB, "d/j"))
     equal((folder.names(), os.listdir(folder.name("d"))), (["d", "f", "f.undo.json"], ["j"]))
@@ -100,7 +100,7 @@ def check_a_link_in_a_folder_that_nobody_may_write(folder):
     as_nobody()
     os.mkdir(folder.name("d"))
     folder.write("d/f", WEB)
-    os.chmod(folder.name("d/f"), 0o644)
+    os.chmod(folder.name("d/f"), 0o666)
     os.chmod(folder.name("d"), 0o777)
     os.symlink("d/f", folder.name("l"))
     os.chmod(folder.path, 0o755)

@@ -42,13 +42,100 @@ def check_who_may_not_give_files_away(folder):
     """The new file is its maker's. Its group gains nothing, and no bit changes the user of a run."""
     as_nobody()
     folder.give_away()
-    for mode, left in ((0o644, 0o644), (0o664, 0o644), (0o666, 0o666), (0o604, 0o604), (0o6775, 0o755), (0o4757, 0o757)):
+    for mode, left in ((0o646, 0o646), (0o602, 0o602), (0o666, 0o666), (0o662, 0o622), (0o6777, 0o777), (0o4757, 0o757)):
         folder.write("f", WEB)
         os.chown(folder.name("f"), SOMEBODY, SOME_GROUP)
         os.chmod(folder.name("f"), mode)
         folder.accepts(*EDIT, "f", nobody=True)
         equal((folder.read("f"), rights(folder, "f")), (EDITED, (NOBODY, NOBODY, left)), oct(mode))
         folder.accepts("undo", "f", nobody=True)
+
+
+def check_a_new_journal_has_the_rights_of_its_file(folder):
+    as_nobody()
+    for mode, left in ((0o600, 0o600), (0o664, 0o664), (0o640, 0o640), (0o2775, 0o775)):
+        folder.write("f", WEB)
+        os.chown(folder.name("f"), SOMEBODY, SOME_GROUP)
+        os.chmod(folder.name("f"), mode)
+        old = os.umask(0o077)
+        try:
+            folder.accepts(*EDIT, "f")
+        finally:
+            os.umask(old)
+        equal(rights(folder, "f.undo.json"), (SOMEBODY, SOME_GROUP, left), oct(mode))
+        os.remove(folder.name("f.undo.json"))
+
+
+def check_a_member_of_the_group_may_go_on(folder):
+    """Who may write the file by its group may write the journal that another member made."""
+    as_nobody()
+    folder.give_away()
+    folder.write("f", WEB)
+    os.chown(folder.name("f"), SOMEBODY, SOME_GROUP)
+    os.chmod(folder.name("f"), 0o660)
+    members = [["setpriv", f"--reuid={user}", f"--regid={user}", f"--groups={SOME_GROUP}"] for user in (SOMEBODY, NOBODY)]
+    folder.accepts(*EDIT, "f", before=members[0])
+    equal(rights(folder, "f.undo.json"), (SOMEBODY, SOME_GROUP, 0o660))
+    folder.accepts("undo", "f", before=members[1])
+    equal(folder.read("f"), WEB)
+    folder.accepts("redo", "f", before=members[0])
+    equal((folder.read("f"), rights(folder, "f.undo.json")[1:]), (EDITED, (SOME_GROUP, 0o660)))
+
+
+def stays_protected(folder, *commands):
+    """Each command is refused, and each file stays as it is."""
+    before = {name: (folder.read(name), rights(folder, name)) for name in folder.names()}
+    for words in commands:
+        folder.refuses("S3 write failed", *words, nobody=True)
+        equal({name: (folder.read(name), rights(folder, name)) for name in folder.names()}, before, words)
+
+
+def check_a_file_that_its_user_may_not_write(folder):
+    as_nobody()
+    folder.give_away()
+    for owner, mode in ((SOMEBODY, 0o644), (NOBODY, 0o444), (NOBODY, 0o400)):
+        folder.write("f", WEB)
+        os.chown(folder.name("f"), owner, owner)
+        os.chmod(folder.name("f"), mode | 0o044 if owner == SOMEBODY else mode)
+        stays_protected(folder, [*EDIT, "f"])
+        equal(folder.names(), ["f"])
+        os.remove(folder.name("f"))
+
+
+def check_a_file_that_is_protected_between_two_edits(folder):
+    as_nobody()
+    folder.give_away()
+    folder.write("f", WEB)
+    os.chown(folder.name("f"), NOBODY, NOBODY)
+    for words in ([*EDIT, "f"], ["-i", ".port = 1", "f"], ["undo", "f"]):
+        folder.accepts(*words, nobody=True)
+    os.chmod(folder.name("f"), 0o444)
+    stays_protected(folder, ["-i", ".port = 2", "f"], ["undo", "f"], ["redo", "f"])
+    os.chmod(folder.name("f"), 0o644)
+    folder.accepts("undo", "f", nobody=True)
+    equal(folder.read("f"), WEB)
+
+
+def check_a_journal_that_its_user_may_not_write(folder):
+    as_nobody()
+    folder.give_away()
+    folder.write("f", WEB)
+    os.chmod(folder.name("f"), 0o666)
+    folder.accepts(*EDIT, "f", nobody=True)
+    for owner, mode in ((SOMEBODY, 0o644), (NOBODY, 0o444)):
+        os.chown(folder.name("f.undo.json"), owner, owner)
+        os.chmod(folder.name("f.undo.json"), mode)
+        stays_protected(folder, ["-i", ".port = 2", "f"], ["undo", "f"])
+
+
+def check_protection_does_not_hold_root_back(folder):
+    as_nobody()
+    folder.write("f", WEB)
+    os.chmod(folder.name("f"), 0o444)
+    folder.accepts(*EDIT, "f")
+    equal((folder.read("f"), folder.mode("f"), folder.mode("f.undo.json")), (EDITED, 0o444, 0o444))
+    folder.accepts("undo", "f")
+    equal(folder.read("f"), WEB)
 
 
 def check_a_group_of_ones_own_stays(folder):
@@ -76,15 +163,14 @@ def check_a_mask_takes_nothing_from_the_mode(folder):
 def check_a_device_is_not_replaced(folder):
     as_nobody()
     try:
-        os.mknod(folder.name("null"), 0o666 | stat.S_IFCHR, os.makedev(1, 3))
+        os.mknod(folder.name("zero"), 0o666 | stat.S_IFCHR, os.makedev(1, 5))
     except OSError as why:
         raise Skip("may not make a device") from why
-    status, _out, err = folder.run("-i", ".a = 1", "null")
-    equal((status, err.startswith(b"Error: ")), (1, True), err)
     folder.write("f", WEB)
-    status, _out, err = folder.run(*EDIT, "--journal", "null", "f")
-    equal((status, err.startswith(b"Error: "), folder.read("f")), (1, True, WEB), err)
-    equal(stat.S_ISCHR(os.stat(folder.name("null")).st_mode), True)
+    for words in (["-i", ".a = 1", "zero"], ["undo", "zero"], ["history", "zero"], [*EDIT, "--journal", "zero", "f"]):
+        folder.refuses("S2 read failed", *words)
+        equal((folder.read("f"), folder.names()), (WEB, ["f", "zero"]))
+    equal(stat.S_ISCHR(os.stat(folder.name("zero")).st_mode), True)
 
 
 def check_another_hard_link_keeps_the_old_bytes(folder):

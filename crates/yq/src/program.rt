@@ -6,6 +6,7 @@ use crate::fault::Fault;
 use crate::output::standard::StandardOut;
 use crate::run::run_list;
 use crate::store::disk::DiskStore;
+use crate::store::disk::purpose::purpose_of;
 use crate::words::command_of;
 use std::io::ErrorKind;
 
@@ -30,10 +31,11 @@ fn asked_command(rt: &HostRuntime) -> Result<Command, Fault> {
 
 /// The answer to the command.
 fn answer_to(rt: &HostRuntime) -> Result<Answer, Fault> {
-    let command = asked_command(rt)?;
-    let mut store = DiskStore::new(rt);
+    let commands = [asked_command(rt)?];
+    let (file, purpose) = purpose_of(&commands[0]);
+    let mut store = DiskStore::new(rt, file, purpose);
     let mut out = StandardOut::new(rt);
-    let answers = run_list(rt.alloc(), &mut store, &mut out, &[command])?;
+    let answers = run_list(rt.alloc(), &mut store, &mut out, &commands)?;
     match answers.first() {
         Some(answer) => Ok(*answer),
         None => Ok(Answer::Done),

@@ -1,60 +1,89 @@
 //! A store of real files.
-ghost use Rattle.std.specs.Prelude.{false};
+ghost use Rattle.std.specs.Prelude.{◌≡◌, false};
 ghost use Rattle.std.specs.FinMap as map;
 
 mod links;
+mod locking;
 mod ownership;
+mod protection;
+pub mod purpose;
+mod reading;
 mod replacing;
 
-use crate::store::disk::replacing::replace_file;
+use crate::store::disk::locking::locked_folder;
+use crate::store::disk::protection::check_replaceable;
+use crate::store::disk::purpose::Purpose;
+use crate::store::disk::reading::{check_regular, read_text, read_whole};
+use crate::store::disk::replacing::{before_change, replace_file};
 use crate::store::{FileReadError, FileWriteError, Store};
 use std::alloc::Global;
-use std::io::{ErrorKind, Read};
-use std::os::fd::AsFd;
+use std::fs::File;
+use std::io::ErrorKind;
 use std::random::RandomSource;
 use std::rt::Files;
+use std::time::Clock;
 use std::{fs, io};
 
-/// How many calls may read one file.
-const MOST_READS: u64 = 1 << 32;
-
-/// How many bytes one call reads at most.
-const CHUNK: usize = 65_536;
-
-/// Real files. A temporary file with the new bytes is written beside the old file, and renamed over
-/// it. What is said of a store's content holds for none of this.
+/// Real files, for one command. A temporary file with the new bytes is written beside the old file,
+/// and renamed over it. What is said of a store's content holds for none of this.
 #[derive(Drop)]
-pub struct DiskStore<R: Drop> {
+pub struct DiskStore<'a, R: Drop> {
     rt: R,
+    file: &'a str,
+    purpose: Purpose,
+    lock: Option<File>,
+    is_checked: bool,
     failures: u64,
 }
 
-impl<R: Drop> DiskStore<R> {
-    /// A store over the files that `rt` opens.
-    pub fn new(rt: R) -> Self {
-        DiskStore { rt, failures: 0 }
-    }
-}
-
-/// Reads an open file to its end, in at most `MOST_READS` calls.
-fn read_whole<F: Read>(alloc: Global, file: &mut F) -> io::Result<Vec<u8>> {
-    let mut chunk = vec![in alloc; 0u8; CHUNK]?;
-    let mut bytes = Vec::new(alloc);
-    for _ in 0..MOST_READS {
-        match file.read(&mut chunk) {
-            Ok(0) => return Ok(bytes),
-            Ok(count) => bytes.extend_from_slice(&chunk[..count])?,
-            Err(e) if e.kind() == ErrorKind::Interrupted => (),
-            Err(e) => return Err(e),
+impl<'a, R: Drop> DiskStore<'a, R> {
+    /// A store over the files that `rt` opens, for a command with this purpose on this file.
+    pub fn new(rt: R, file: &'a str, purpose: Purpose) -> Self {
+        DiskStore {
+            rt,
+            file,
+            purpose,
+            lock: None,
+            is_checked: false,
+            failures: 0,
         }
     }
-    Err(io::Error::from(ErrorKind::FileTooLarge))
 }
 
-impl<R: Files + RandomSource + Alloc<A = Global> + Drop> Store for DiskStore<R>
-where
-    R::File: AsFd,
-{
+impl<'a, R: Files<File = File> + RandomSource + Clock + Alloc<A = Global> + Drop> DiskStore<'a, R> {
+    /// The bytes of a file. A command that is to edit locks the folder of its file first.
+    fn bytes_of(&mut self, alloc: Global, name: &str) -> io::Result<Vec<u8>>
+        ensures { self.new.failures ≡ self.old.failures }
+    {
+        if self.purpose == Purpose::Edit && self.lock.is_none() {
+            self.lock = Some(locked_folder(&self.rt, self.file)?);
+        }
+        if self.purpose != Purpose::Print {
+            check_regular(&self.rt, name)?;
+        }
+        let mut file = fs::open(&self.rt, name)?;
+        if name == self.file {
+            read_text(alloc, file)
+        } else {
+            read_whole(alloc, &mut file)
+        }
+    }
+
+    /// Before the first write, that the command's file and the written one may both be replaced.
+    fn check(&mut self, name: &str) -> io::Result<()>
+        ensures { self.new.failures ≡ self.old.failures }
+    {
+        if !self.is_checked {
+            check_replaceable(&self.rt, self.file)?;
+            check_replaceable(&self.rt, name)?;
+            self.is_checked = true;
+        }
+        Ok(())
+    }
+}
+
+impl<'a, R: Files<File = File> + RandomSource + Clock + Alloc<A = Global> + Drop> Store
+    for DiskStore<'a, R> {
     ghost keeps = { false };
 
     ghost content = { λ _. map.empty };
@@ -62,13 +91,9 @@ where
     ghost failures = { λ s. s.failures };
 
     fn read(&mut self, alloc: Global, name: &str) -> Result<Vec<u8>, FileReadError> {
-        let whole = match fs::open(&self.rt, name) {
-            Ok(mut file) => read_whole(alloc, &mut file),
-            Err(e) if e.kind() == ErrorKind::NotFound => return Err(FileReadError::NotThere),
-            Err(e) => Err(e),
-        };
-        match whole {
+        match self.bytes_of(alloc, name) {
             Ok(bytes) => Ok(bytes),
+            Err(e) if e.kind() == ErrorKind::NotFound => Err(FileReadError::NotThere),
             Err(e) if e.kind() == ErrorKind::OutOfMemory => Err(FileReadError::OutOfMemory),
             Err(_) => {
                 self.failures = self.failures.saturating_add(1);
@@ -78,7 +103,10 @@ where
     }
 
     fn replace(&mut self, name: &str, bytes: &[u8]) -> Result<(), FileWriteError> {
-        let replaced = replace_file(&self.rt, name, bytes);
+        let replaced = match self.check(name) {
+            Ok(()) => replace_file(&self.rt, name, self.file, bytes),
+            Err(e) => Err(before_change(e)),
+        };
         if let Err(FileWriteError::WriteFailed) = replaced {
             self.failures = self.failures.saturating_add(1);
         }

@@ -1,4 +1,4 @@
-//! The owner, the group and the mode, which a new file takes over from the old one.
+//! The owner, the group and the mode, which a new file takes over from another one.
 ghost use Rattle.std.specs.Prelude.{◌≡◌, bit_and};
 
 use std::fs::{Metadata, OpenFile, Permissions};
@@ -38,16 +38,44 @@ fn is_allowed(changed: io::Result<()>) -> io::Result<bool> {
     }
 }
 
-/// Gives a new file the owner, the group and the mode of the old one, in this order, since a change
-/// of owner takes bits from the mode. Where the system doesn't allow the owner or the group, the new
-/// file keeps its maker's, and loses the bits that would then say too much.
-pub fn take_over<F: OpenFile + AsFd>(new: &F, old: &Metadata) -> io::Result<()> {
-    let mode = if is_allowed(fchown(new, Some(old.uid()), Some(old.gid())))? {
-        old.mode() & ALL_BITS
-    } else if is_allowed(fchown(new, None, Some(old.gid())))? {
-        old.mode() & READ_WRITE_RUN
+/// Who a file belongs to, and who may do what with it.
+#[derive(Clone, Copy, Debug, PartialEq, Eq)]
+pub struct Rights {
+    owner: u32,
+    group: u32,
+    mode: u32,
+}
+
+impl Rights {
+    /// Those of a file, for the one that replaces it.
+    pub fn of(file: &Metadata) -> Rights {
+        Rights {
+            owner: file.uid(),
+            group: file.gid(),
+            mode: file.mode() & ALL_BITS,
+        }
+    }
+
+    /// Those of a new journal of a file: who may do what with the one may do so with the other.
+    pub fn of_journal(file: &Metadata) -> Rights {
+        Rights {
+            mode: file.mode() & READ_WRITE_RUN,
+            ..Rights::of(file)
+        }
+    }
+}
+
+/// Gives a new file an owner, a group and a mode, in this order, since a change of owner takes bits
+/// from the mode. Where the system doesn't allow the owner or the group, the new file keeps its
+/// maker's, and loses the bits that would then say too much.
+pub fn take_over<F: OpenFile + AsFd>(new: &F, rights: Rights) -> io::Result<()> {
+    let Rights { owner, group, mode } = rights;
+    let mode = if is_allowed(fchown(new, Some(owner), Some(group)))? {
+        mode
+    } else if is_allowed(fchown(new, None, Some(group)))? {
+        mode & READ_WRITE_RUN
     } else {
-        mode_in_another_group(old.mode())
+        mode_in_another_group(mode)
     };
     new.set_permissions(Permissions::from_mode(mode))
 }

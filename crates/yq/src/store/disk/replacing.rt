@@ -2,7 +2,7 @@
 
 use crate::store::FileWriteError;
 use crate::store::disk::links::{folder_of, target_of};
-use crate::store::disk::ownership::take_over;
+use crate::store::disk::ownership::{Rights, take_over};
 use std::alloc::Global;
 use std::fs::{Metadata, OpenFile, OpenOptions};
 use std::io::{ErrorKind, Write};
@@ -20,7 +20,7 @@ const MOST_NAMES: u32 = 64;
 const PRIVATE: u32 = 0o600;
 
 /// The file that a path holds, if any. What is no regular file (a folder, a device) isn't replaced.
-fn old_file<R: Files>(rt: &R, path: &PathBuf) -> io::Result<Option<Metadata>> {
+pub fn old_file<R: Files>(rt: &R, path: &PathBuf) -> io::Result<Option<Metadata>> {
     match fs::metadata(rt, path.as_path()) {
         Ok(old) if old.is_file() => Ok(Some(old)),
         Ok(_) => Err(io::Error::from(ErrorKind::InvalidInput)),
@@ -60,15 +60,29 @@ fn make_temporary<R: Files + RandomSource + Alloc<A = Global>>(
     Err(io::Error::from(ErrorKind::AlreadyExists))
 }
 
-/// Writes the bytes of a temporary file, and what it takes over from the old one, out to the disk.
+/// What the file that is to be at a path takes over: the rights of the one that is there; else, as a
+/// journal, those of the file to which it belongs.
+fn rights_at<R: Files + Alloc<A = Global>>(
+    rt: &R,
+    path: &PathBuf,
+    file: &str,
+) -> io::Result<Option<Rights>> {
+    if let Some(old) = old_file(rt, path)? {
+        return Ok(Some(Rights::of(&old)));
+    }
+    let beside = old_file(rt, &target_of(rt, file)?)?;
+    Ok(beside.map(|beside| Rights::of_journal(&beside)))
+}
+
+/// Writes the bytes of a temporary file, and what it takes over, out to the disk.
 fn fill<F: Write + OpenFile + AsFd>(
     file: &mut F,
     bytes: &[u8],
-    old: Option<Metadata>,
+    rights: Option<Rights>,
 ) -> io::Result<()> {
     file.write_all(bytes)?;
-    if let Some(old) = old {
-        take_over(file, &old)?;
+    if let Some(rights) = rights {
+        take_over(file, rights)?;
     }
     file.sync_all()
 }
@@ -82,28 +96,30 @@ fn sync_folder<F: OpenFile>(folder: &F) -> io::Result<()> {
 }
 
 /// The answer to a call that failed while every file was as before.
-fn before_change(error: io::Error) -> FileWriteError {
+pub fn before_change(error: io::Error) -> FileWriteError {
     match error.kind() {
         ErrorKind::OutOfMemory => FileWriteError::OutOfMemory,
         _ => FileWriteError::WriteFailed,
     }
 }
 
-/// Replaces the file to which a name leads, or makes it. After a failure it has its old bytes, but
-/// for a failure to write the folder out to the disk, which comes last: then it has the new ones.
+/// Replaces the file to which a name leads, or makes it, as the journal of `file`. After a failure it
+/// has its old bytes, but for a failure to write the folder out to the disk, which comes last: then
+/// it has the new ones.
 pub fn replace_file<R: Files + RandomSource + Alloc<A = Global>>(
     rt: &R,
     name: &str,
+    file: &str,
     bytes: &[u8],
 ) -> Result<(), FileWriteError>
 where
     R::File: AsFd,
 {
     let target = target_of(rt, name).map_err(before_change)?;
-    let old = old_file(rt, &target).map_err(before_change)?;
+    let rights = rights_at(rt, &target, file).map_err(before_change)?;
     let folder = fs::open(rt, folder_of(&target)).map_err(before_change)?;
-    let (temporary, mut file) = make_temporary(rt, &target).map_err(before_change)?;
-    let renamed = fill(&mut file, bytes, old).and_then(|()| fs::rename(
+    let (temporary, mut new) = make_temporary(rt, &target).map_err(before_change)?;
+    let renamed = fill(&mut new, bytes, rights).and_then(|()| fs::rename(
         rt,
         temporary.as_path(),
         target.as_path(),

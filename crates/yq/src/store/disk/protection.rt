@@ -1,0 +1,57 @@
+//! What may not be replaced, told before anything is written.
+
+use crate::store::disk::links::{folder_of, target_of};
+use crate::store::disk::reading::read_whole;
+use crate::store::disk::replacing::old_file;
+use std::alloc::Global;
+use std::fs::{File, OpenOptions};
+use std::io::ErrorKind;
+use std::os::fd::AsRawFd;
+use std::rt::Files;
+use std::{fs, io};
+
+/// What is written before the number of a mount in what the system tells of an open file.
+const MOUNT: &str = "mnt_id:";
+
+/// The number of a mount in what the system tells of an open file, or nothing where it isn't told.
+fn mount_in(told: &str) -> &str {
+    for line in told.lines() {
+        if let Some(number) = line.strip_prefix(MOUNT) {
+            return number.trim();
+        }
+    }
+    ""
+}
+
+/// The number of the mount through which a file was opened, or nothing where the system doesn't tell.
+fn mount_of<R: Files + Alloc<A = Global>>(rt: &R, file: &File) -> io::Result<String> {
+    let number = file.as_raw_fd();
+    let path = format!(in rt.alloc(); "/proc/self/fdinfo/{number}")?;
+    let Ok(mut told) = fs::open(rt, path.as_str()) else {
+        return Ok(String::new(rt.alloc()));
+    };
+    let bytes = read_whole(rt.alloc(), &mut told)?;
+    let text = std::str::from_utf8(bytes.as_slice()).unwrap_or("");
+    Ok(String::from_str(rt.alloc(), mount_in(text))?)
+}
+
+/// Fails where the file to which a name leads may not be replaced: it is no regular file, the user
+/// may not write it, or it is mounted on its own, so that no file can be renamed over it. Nothing is
+/// changed. Where no file is there, nothing is asked.
+pub fn check_replaceable<R: Files<File = File> + Alloc<A = Global>>(
+    rt: &R,
+    name: &str,
+) -> io::Result<()> {
+    let target = target_of(rt, name)?;
+    if old_file(rt, &target)?.is_none() {
+        return Ok(());
+    }
+    let file = OpenOptions::new().write(true).open(rt, target.as_path())?;
+    let folder = fs::open(rt, folder_of(&target))?;
+    let own = mount_of(rt, &file)?;
+    let around = mount_of(rt, &folder)?;
+    if !own.is_empty() && !around.is_empty() && own.as_str() != around.as_str() {
+        return Err(io::Error::from(ErrorKind::ResourceBusy));
+    }
+    Ok(())
+}
