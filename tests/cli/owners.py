@@ -42,7 +42,7 @@ def check_who_may_not_give_files_away(folder):
     """The new file is its maker's. Its group gains nothing, and no bit changes the user of a run."""
     as_nobody()
     folder.give_away()
-    for mode, left in ((0o646, 0o646), (0o602, 0o602), (0o666, 0o666), (0o662, 0o622), (0o6777, 0o777), (0o4757, 0o757)):
+    for mode, left in ((0o646, 0o646), (0o606, 0o606), (0o676, 0o666), (0o2626, 0o626), (0o6777, 0o777), (0o4757, 0o757)):
         folder.write("f", WEB)
         os.chown(folder.name("f"), SOMEBODY, SOME_GROUP)
         os.chmod(folder.name("f"), mode)

@@ -2,6 +2,7 @@
 
 import json
 import os
+import signal
 import subprocess
 import time
 from concurrent.futures import ThreadPoolExecutor
@@ -106,7 +107,7 @@ def run_between(first, path, call, has_lock):
     equal(answer, NO_LOCK if has_lock else DONE, call)
     if has_lock:
         equal({name: both.read(name) for name in both.names()}, before)
-    os.kill(pid, 18)
+    os.kill(pid, signal.SIGCONT)
     out, err = run.communicate(timeout=SECONDS)
     equal((run.returncode, out, err), DONE, call)
     holds_all(both, [1] if has_lock else [1, 2])
@@ -117,32 +118,36 @@ def check_a_run_between_any_two_calls_of_another(folder):
     first.write("f", text(value(0)))
     _status, _err, trace = traced(first.copy(folder.name("whole")), words(1))
     own = own_calls([call for call in calls_in(trace) if call.name != "exit_group"], "f")
-    locked = next(i for i, call in enumerate(own) if call.name == "flock")
+    taken = next(i for i, call in enumerate(own) if call.name == "flock")
+    file = own[taken].text.split(",")[0]
+    closed = (i for i, call in enumerate(own) if call.name == "close" and call.text.startswith(f"{file})"))
+    given = next(i for i in closed if i > taken)
     with ThreadPoolExecutor(len(own)) as pool:
         jobs = []
         for i, call in enumerate(own):
             path = folder.name(f"{call.name}-{call.number}")
-            jobs.append(pool.submit(run_between, first, path, call, i >= locked))
+            jobs.append(pool.submit(run_between, first, path, call, taken <= i < given))
         for job in jobs:
             job.result()
 
 
 def check_a_run_waits_for_another(folder):
     """The lock is had by whoever waits for it, also where the run that holds it is killed."""
-    for signal in (18, 9):
-        both = folder.copy(folder.name(str(signal)))
-        both.write("f", text(value(0)))
-        _status, _err, trace = traced(both.copy(folder.name(f"{signal}-whole")), words(1))
-        call = next(call for call in calls_in(trace) if call.name == "flock")
-        run, pid = holding(both, call, words(1))
+    first = folder.copy(folder.name("first"))
+    first.write("f", text(value(0)))
+    _status, _err, trace = traced(first.copy(folder.name("whole")), words(1))
+    lock = next(call for call in calls_in(trace) if call.name == "flock")
+    for sent, accepted in ((signal.SIGCONT, [1, 2]), (signal.SIGKILL, [2])):
+        both = first.copy(folder.name(sent.name))
+        run, pid = holding(both, lock, words(1))
         with ThreadPoolExecutor(1) as pool:
             later = pool.submit(both.run, *words(2))
             time.sleep(0.3)
             equal(later.done(), False, "it waits")
-            os.kill(pid, 18 if signal == 18 else 9)
+            os.kill(pid, sent)
             equal(later.result(), DONE)
         run.communicate(timeout=SECONDS)
-        holds_all(both, [1, 2] if signal == 18 else [2])
+        holds_all(both, accepted)
 
 
 def check_what_writes_nothing_asks_for_no_lock(folder):
