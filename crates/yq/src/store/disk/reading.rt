@@ -12,8 +12,8 @@ const MOST_READS: u64 = 1 << 32;
 /// How many bytes one call reads at most.
 const CHUNK: usize = 65_536;
 
-/// How many bytes are read of a text: up to the end of the first character past the limit.
-const MOST_OF_TEXT: usize = TEXT_LIMIT + 4;
+/// How many bytes are read of a text: one more than it may have.
+const MOST_OF_TEXT: u64 = TEXT_LIMIT as u64 + 1;
 
 /// Fails where a name leads to what is no regular file, such as a folder, a device or a pipe. These
 /// are not opened: that would wait for another run at a pipe's other end.
@@ -40,18 +40,7 @@ pub fn read_whole<F: Read>(alloc: Global, file: &mut F) -> io::Result<Vec<u8>> {
     Err(io::Error::from(ErrorKind::FileTooLarge))
 }
 
-/// Reads an open file to its end or, of one that is too long for a text, as much as shows this. The
-/// character that is cut there is left out, so that no byte of it is taken for a fault.
+/// Reads an open file to its end or, of one that is too long for a text, as much as shows this.
 pub fn read_text<F: Read + Drop>(alloc: Global, file: F) -> io::Result<Vec<u8>> {
-    let mut front = file.take(MOST_OF_TEXT as u64);
-    let mut bytes = read_whole(alloc, &mut front)?;
-    if bytes.len() < MOST_OF_TEXT {
-        return Ok(bytes);
-    }
-    if let Err(cut) = std::str::from_utf8(bytes.as_slice()) {
-        if cut.error_len().is_none() {
-            bytes.truncate(cut.valid_up_to());
-        }
-    }
-    Ok(bytes)
+    read_whole(alloc, &mut file.take(MOST_OF_TEXT))
 }
