@@ -1,5 +1,5 @@
 -- Runs of commands.
-use Rattle.std.proofs.Common.{◌≡◌, ◌≢◌, ◌⊎◌, inl, inr, ℕ, ◌+◌, ◌-◌, ◌^◌, ◌<◌, ◌≤◌, min, Bool, true, false, ◌&&◌, ◌||◌, not, nat_le, if◌then◌else◌, List, [], ◌∷◌, ◌++◌, append_assoc, Option, Some, None, Result, Ok, Err, OnOk, MatchResult, MatchBool, IfErr, option_map, sym, ap, ap₂, ◌∙◌, subst, refl, arith}
+use Rattle.std.proofs.Common.{◌≡◌, ◌≢◌, ◌⊎◌, inl, inr, ℕ, ◌+◌, ◌-◌, ◌^◌, ◌<◌, min, Bool, true, false, ◌&&◌, ◌||◌, not, nat_le, if◌then◌else◌, List, [], ◌∷◌, ◌++◌, append_assoc, Option, Some, None, Result, Ok, Err, OnOk, MatchResult, MatchBool, IfErr, option_map, sym, ap, ap₂, ◌∙◌, subst, refl, arith}
 use Rattle.std.proofs.lemmas.List.{append-nil}
 use Rattle.std.specs.List.{list_all}
 use Rattle.std.specs.Str.{bytes_eq}
@@ -21,8 +21,9 @@ use Rattle.yq.specs.Causes.{Cause, IsFor, named}
 use Rattle.yq.specs.Content.{Content}
 use Rattle.yq.specs.Count.{one_more}
 use Rattle.yq.specs.Editing.{Outcome, unreadable, refused, edited, edits, program_in}
+use Rattle.yq.specs.Effects.{Effect, refuses, writes_nothing, leaves, from_pair, walk_effect, update_effect, squash_effect, OfEffect, Works, Tells}
 use Rattle.yq.specs.Faults.{is_failure, is_outside, is_output, of_fault, counted}
-use Rattle.yq.specs.Lists.{IsOn, IsApart, IsStranger, Reply, answers_in, printed_in, Told, IsRefused, IsCarriedOut, Steps, Goes, Run, IsRecorded, Records, IsReply, GoesExactly, RunExactly, Leaves, Keeps, tells_failure, tells_output, count_told, failures_in, output_failures_in, is_kept, is_memory, has_memory}
+use Rattle.yq.specs.Lists.{IsOn, IsApart, IsStranger, Reply, answers_in, printed_in, Told, IsRefused, IsCarriedOut, Steps, Goes, Run, IsRecorded, Records, IsReply, GoesExactly, RunExactly, HasEffect, Leaves, Keeps, tells_failure, tells_output, count_told, failures_in, output_failures_in, is_kept, is_memory, has_memory}
 use Rattle.yq.specs.Pair.{GoodIn, Arrives}
 use Rattle.yq.specs.Prints.{shown_of, prints}
 use Rattle.yq.specs.Shown.{Shown, answer_by, nothing}
@@ -258,10 +259,14 @@ told_more told (b ∷ rs) a = elim (told b) as (λ x. (if x then count_told told
   | false ↦ told_more told rs a
 ]
 
--- a count of failures keeps up with the answers
-sum_more : (told : Answer → Bool) (rs : List Answer) (a : Answer) (old n m : ℕ) → min (old + count_told told rs) (2 ^ 64 - 1) ≤ n → m ≡ (if told a then one_more n else n) → min (old + count_told told (rs ++ a ∷ [])) (2 ^ 64 - 1) ≤ m
+-- no answer tells anything
+pub no_answers : (told : Answer → Bool) (rs : List Answer) (old : ℕ) → [] ≡ rs → old < 2 ^ 64 → old ≡ min (old + count_told told rs) (2 ^ 64 - 1)
+no_answers told rs old none small = subst (λ xs. old ≡ min (old + count_told told xs) (2 ^ 64 - 1)) none (omega (arith, small))
+
+-- a count of failures is that of the answers that tell them
+sum_more : (told : Answer → Bool) (rs : List Answer) (a : Answer) (old n m : ℕ) → n ≡ min (old + count_told told rs) (2 ^ 64 - 1) → m ≡ (if told a then one_more n else n) → m ≡ min (old + count_told told (rs ++ a ∷ [])) (2 ^ 64 - 1)
 sum_more told rs a old n m before after =
-    elim (told a) as (λ b. count_told told (rs ++ a ∷ []) ≡ count_told told rs + (if b then 1 else 0) → m ≡ (if b then one_more n else n) → min (old + count_told told (rs ++ a ∷ [])) (2 ^ 64 - 1) ≤ m) [
+    elim (told a) as (λ b. count_told told (rs ++ a ∷ []) ≡ count_told told rs + (if b then 1 else 0) → m ≡ (if b then one_more n else n) → m ≡ min (old + count_told told (rs ++ a ∷ [])) (2 ^ 64 - 1)) [
       | true ↦ λ e g. omega (arith, e, g, before)
       | false ↦ λ e g. omega (arith, e, g, before)
     ] (told_more told rs a) after
@@ -271,8 +276,8 @@ counted_told (Ok v) a s n (inl is) = ap (λ b. if b then one_more n else n) (sym
 counted_told (Ok v) a s n (inr is) = ap (λ y. if tells_failure y then one_more n else n) (sym is.0)
 counted_told (Err x) a s n is = ap (λ y. if tells_failure y then one_more n else n) (sym is)
 
--- the store's count keeps up with the answers
-pub count_more : {T : Type 0} (r : Result T Fault) (rs : List Answer) (a : Answer) (s : Shown) (old n m : ℕ) → Told r a s → min (old + failures_in rs) (2 ^ 64 - 1) ≤ n → m ≡ counted r n → min (old + failures_in (rs ++ a ∷ [])) (2 ^ 64 - 1) ≤ m
+-- the store's count, one answer more
+pub count_more : {T : Type 0} (r : Result T Fault) (rs : List Answer) (a : Answer) (s : Shown) (old n m : ℕ) → Told r a s → n ≡ min (old + failures_in rs) (2 ^ 64 - 1) → m ≡ counted r n → m ≡ min (old + failures_in (rs ++ a ∷ [])) (2 ^ 64 - 1)
 count_more r rs a s old n m is before after = sum_more tells_failure rs a old n m before (after ∙ counted_told r a s n is)
 
 -- the output's count after an answer
@@ -280,8 +285,8 @@ pub put_told : {T : Type 0} (r : Result T Fault) (a : Answer) (s : Shown) (n m :
 put_told (Ok v) a s n m is quiet after = after
 put_told (Err x) a s n m is quiet after = after ∙ ap (λ b. if b then one_more n else n) (sym (ap tells_output is ∙ quiet))
 
--- the output's count keeps up with them
-pub put_more : (rs : List Answer) (a : Answer) (old n m : ℕ) → min (old + output_failures_in rs) (2 ^ 64 - 1) ≤ n → m ≡ (if tells_output a then one_more n else n) → min (old + output_failures_in (rs ++ a ∷ [])) (2 ^ 64 - 1) ≤ m
+-- the output's
+pub put_more : (rs : List Answer) (a : Answer) (old n m : ℕ) → n ≡ min (old + output_failures_in rs) (2 ^ 64 - 1) → m ≡ (if tells_output a then one_more n else n) → m ≡ min (old + output_failures_in (rs ++ a ∷ [])) (2 ^ 64 - 1)
 put_more rs a old n m before after = sum_more tells_output rs a old n m before after
 
 -- ---- what was printed
@@ -291,7 +296,7 @@ printed_push [] r = append-nil r.printed
 printed_push (x ∷ rs) r = ap (λ os. x.printed ++ os) (printed_push rs r) ∙ sym (append_assoc x.printed (printed_in rs) r.printed)
 
 -- the output failed at no answer, if its count stands where it stood
-not_output : (a : Answer) (c start n m : ℕ) → min (start + c) (2 ^ 64 - 1) ≤ n → m ≡ (if tells_output a then one_more n else n) → m ≡ start → m < 2 ^ 64 - 1 → (tells_output a ≡ false) × (n ≡ start)
+not_output : (a : Answer) (c start n m : ℕ) → n ≡ min (start + c) (2 ^ 64 - 1) → m ≡ (if tells_output a then one_more n else n) → m ≡ start → m < 2 ^ 64 - 1 → (tells_output a ≡ false) × (n ≡ start)
 not_output a c start n m before after same below = elim (tells_output a) as (λ b. tells_output a ≡ b → m ≡ (if b then one_more n else n) → (tells_output a ≡ false) × (n ≡ start)) [
   | true ↦ λ is e. absurd (omega (arith, before, e, same, below))
   | false ↦ λ is e. (is, sym e ∙ same)
@@ -303,9 +308,9 @@ took (Ok v) a s now after (inr is) quiet puts = let no : true ≡ false = sym (a
 took (Err x) a s now after is quiet puts = puts ∙ sym (append-nil now) ∙ ap (λ y. now ++ (reply y s.printed).printed) (sym is)
 
 -- the bytes that were put, one command more
-pub taken_more : {T : Type 0} (r : Result T Fault) (a : Answer) (s : Shown) (rs : List Reply) (start now after : List ℕ) (c first n m : ℕ) → Told r a s → min (first + c) (2 ^ 64 - 1) ≤ n → m ≡ (if tells_output a then one_more n else n) → m ≡ first → m < 2 ^ 64 - 1 → (n ≡ first → n < 2 ^ 64 - 1 → now ≡ start ++ printed_in rs) → MatchResult r (λ _. tells_output a ≡ false → after ≡ now ++ s.printed) (λ _. after ≡ now) → after ≡ start ++ printed_in (rs ++ reply a s.printed ∷ [])
+pub taken_more : {T : Type 0} (r : Result T Fault) (a : Answer) (s : Shown) (rs : List Reply) (start now after : List ℕ) (c first n m : ℕ) → Told r a s → (first < 2 ^ 64 → n ≡ min (first + c) (2 ^ 64 - 1)) → m ≡ (if tells_output a then one_more n else n) → m ≡ first → m < 2 ^ 64 - 1 → (n ≡ first → n < 2 ^ 64 - 1 → now ≡ start ++ printed_in rs) → MatchResult r (λ _. tells_output a ≡ false → after ≡ now ++ s.printed) (λ _. after ≡ now) → after ≡ start ++ printed_in (rs ++ reply a s.printed ∷ [])
 taken_more r a s rs start now after c first n m is sum count same below before puts =
-    let quiet = not_output a c first n m sum count same below in
+    let quiet = not_output a c first n m (sum (omega (arith, same, below))) count same below in
     took r a s now after is quiet.0 puts
     ∙ ap (λ x. x ++ (reply a s.printed).printed) (before quiet.1 (omega (arith, quiet.1, same, below)))
     ∙ append_assoc start (printed_in rs) (reply a s.printed).printed
@@ -326,14 +331,48 @@ kept_by c e (Ok v) a s (inl is) silent k same = let no : false ≡ true = sym (a
 kept_by c e (Ok v) a s (inr is) silent k same = absurd (is.1 (ap (λ (x : Shown). x.printed) silent))
 kept_by c e (Err x) a s is silent k same = same (not_true (is_outside x) (sym (ap is_kept is) ∙ k))
 
+tells_done : {T : Type 0} (x : Effect) (f j : List ℕ) (c e : Content) (v : T) → Works x f j c e {T = T} (Ok v) → Works x f j c e {T = Unit {0}} (Ok tt)
+tells_done (refuses y) f j c e v p = absurd p
+tells_done writes_nothing f j c e v p = p
+tells_done (leaves u s) f j c e v p = p
+
+tells_refused : (T : Type 0) (x : Effect) (f j : List ℕ) (c e : Content) (y : Fault) → Works x f j c e {T = T} (Err y) → Works x f j c e {T = Unit {0}} (Err y)
+tells_refused T (refuses z) f j c e y p = p
+tells_refused T writes_nothing f j c e y p = p
+tells_refused T (leaves u s) f j c e y p = p
+
+tells_by : (x : Effect) (f j : List ℕ) (c e : Content) (m : Bool) → Works x f j c e {T = Unit {0}} (Ok tt) → Tells x f j c e (answer_by m)
+tells_by x f j c e true p = p
+tells_by x f j c e false p = p
+
+tells_effect : {T : Type 0} (x : Effect) (f j : List ℕ) (c e : Content) (r : Result T Fault) (a : Answer) (s : Shown) → Told r a s → IfErr r (λ y. is_output y ≡ false) → Works x f j c e r → Tells x f j c e a
+tells_effect x f j c e (Ok v) a s (inl is) quiet p = subst (Tells x f j c e) (sym is) (tells_by x f j c e s.is_match (tells_done x f j c e v p))
+tells_effect x f j c e (Ok v) a s (inr is) quiet p = subst (Tells x f j c e) (sym is.0) tt
+tells_effect {T = T} x f j c e (Err y) a s is quiet p =
+    subst (Tells x f j c e) (sym is) (subst (λ b. MatchBool b (Unit {0}) (Works x f j c e {T = Unit {0}} (Err y))) (sym quiet) (tells_refused T x f j c e y p))
+
+of_effect : (cmd : Command) (file journal : Option (List ℕ)) (P Q : Effect → Type 0) → ((x : Effect) → P x → Q x) → OfEffect cmd file journal P → OfEffect cmd file journal Q
+of_effect (Eval expr f j true s d) file journal P Q more p = more (update_effect (string_bytes expr) (program_in (string_bytes expr)) file journal) p
+of_effect (Eval expr f j false s d) file journal P Q more p = tt
+of_effect (Undo f j) file journal P Q more p = more (from_pair file journal (walk_effect move.Undo)) p
+of_effect (Redo f j) file journal P Q more p = more (from_pair file journal (walk_effect move.Redo)) p
+of_effect (Lists f j) file journal P Q more p = more (from_pair file journal (λ t s. writes_nothing)) p
+of_effect (Squash n f j) file journal P Q more p = more (from_pair file journal (squash_effect n)) p
+of_effect Help file journal P Q more p = tt
+
+-- the effect of a command by its answer
+pub has_effect : {T : Type 0} (cmd : Command) (f j : List ℕ) (c e : Content) (r : Result T Fault) (a : Answer) (s : Shown) → Told r a s → IfErr r (λ y. is_output y ≡ false) → OfEffect cmd (get c f) (get c j) (λ x. Works x f j c e r) → OfEffect cmd (get c f) (get c j) (λ x. Tells x f j c e a)
+has_effect cmd f j c e r a s is quiet p = of_effect cmd (get c f) (get c j) (λ x. Works x f j c e r) (λ x. Tells x f j c e a) (λ x. tells_effect x f j c e r a s is quiet) p
+
 -- what a command leaves
-pub leaves : {T : Type 0} (c e : Content) (cmd : Command) (r : Result T Fault) (a : Answer) (s : Shown) → Told r a s → (prints cmd ≡ true → e ≡ c) → (prints cmd ≡ false → s ≡ nothing) → IfErr r (λ x. is_outside x ≡ false → e ≡ c) → ((q : List ℕ) → IsStranger q cmd → get e q ≡ get c q) → Leaves cmd a c e
-leaves c e cmd r a s is still silent kept others = record {
+pub left_by : {T : Type 0} (c e : Content) (cmd : Command) (r : Result T Fault) (a : Answer) (s : Shown) → Told r a s → (prints cmd ≡ true → e ≡ c) → (prints cmd ≡ false → s ≡ nothing) → IfErr r (λ x. is_outside x ≡ false → e ≡ c) → ((q : List ℕ) → IsStranger q cmd → get e q ≡ get c q) → HasEffect cmd a c e → Leaves cmd a c e
+left_by c e cmd r a s is still silent kept others effect = record {
   all = λ holds. elim (prints cmd) as (λ b. prints cmd ≡ b → (b || is_kept a) ≡ true → e ≡ c) [
     | true ↦ λ p k. still p
     | false ↦ λ p k. kept_by c e r a s is (silent p) k kept
   ] refl holds;
   others = others;
+  effect = effect;
 }
 
 -- ---- records

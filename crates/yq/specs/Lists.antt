@@ -11,6 +11,7 @@ use Rattle.yq.specs.declared.fault.Fault.{Fault}
 use Rattle.yq.specs.declared.fault.Fault.TheVariants.{OutFailed, OutOfMemory}
 use Rattle.yq.specs.Causes.{Cause, IsFor}
 use Rattle.yq.specs.Content.{Content}
+use Rattle.yq.specs.Effects.{OfEffect, Tells}
 use Rattle.yq.specs.Faults.{is_failure, is_outside, is_output}
 use Rattle.yq_expr.specs.Program.{Program}
 use Rattle.yq_splice.specs.Patch.{Change}
@@ -122,10 +123,15 @@ abbrev pub is_kept : Answer → Bool
 is_kept (Refused e) = not (is_outside e)
 is_kept _ = false
 
--- a command that prints, or is refused so, leaves every name; any other leaves the names that it doesn't name
+-- the answer, and what the file and the journal then hold, are those of the command's effect on what they held, be they good for a history or not
+abbrev pub HasEffect : Command → Answer → Content → Content → Type 0
+HasEffect c a old new = (file name : List ℕ) → file ≢ name → IsOn file name c → OfEffect c (get old file) (get old name) (λ x. Tells x file name old new a)
+
+-- a command that prints, or is refused so, leaves every name; any other leaves the names that it doesn't name, and has its effect
 pub record Leaves (c : Command) (a : Answer) (old new : Content) : Type 0 where
   pub all : (prints c || is_kept a) ≡ true → new ≡ old
   pub others : (q : List ℕ) → IsStranger q c → get new q ≡ get old q
+  pub effect : HasEffect c a old new
 
 -- one command after another
 abbrev pub Keeps : Content → List Command → List Answer → Content → Type 0

@@ -7,6 +7,7 @@ ghost use Rattle.std.specs.FinMap as map;
 ghost use Rattle.yq_expr.specs.Program as spec;
 ghost use Rattle.yq.specs.Editing.{edited, edits};
 ghost use Rattle.yq.specs.Edits.{edit_record};
+ghost use Rattle.yq.specs.Effects.{Works, edit_effect};
 ghost use Rattle.yq.specs.Faults.{is_outside, is_output, counted};
 ghost use Rattle.yq.specs.Pair.{Arrives, HasLast, OthersStay, Rest};
 ghost use Rattle.yq.specs.Steps.{update_cause, update_next};
@@ -54,6 +55,8 @@ fn commit<D: Store>(
     ensures arrives { IsTrue D.keeps → file.now ≢ name.now → (h : History) → (p : spec.Program) → Rest (D.content store.old) file.now name.now journal.old old.now h →
         edits p old.now ≡ edited new.now splices.items →
         Arrives (D.content store.new) file.now name.now (update_cause (Ok p) (Some h)) (Some h) (update_next expr.now (Ok p) (Some h)) result }
+    ensures effect { IsTrue D.keeps → file.now ≢ name.now → (p : spec.Program) → edits p old.now ≡ edited new.now splices.items →
+        Works (edit_effect expr.now (edits p old.now) old.now journal.old) file.now name.now (D.content store.old) (D.content store.new) result }
     ensures recorded { IsTrue D.keeps → OnOk result (HasLast (map.get (D.content store.new) name.now) splices.items) }
     ensures kept { IsTrue D.keeps → IfErr result (λ e. is_outside e ≡ false → D.content store.new ≡ D.content store.old) }
     ensures others { IsTrue D.keeps → OthersStay (D.content store.old) (D.content store.new) file.now name.now }
@@ -88,6 +91,8 @@ pub fn edit_from<D: Store>(
     ensures arrives { IsTrue D.keeps → file.now ≢ name.now → (h : History) → Rest (D.content store.old) file.now name.now journal.old text.now h →
         Arrives (D.content store.new) file.now name.now (update_cause (Ok (program_of program.now)) (Some h)) (Some h)
         (update_next expr.now (Ok (program_of program.now)) (Some h)) result }
+    ensures effect { IsTrue D.keeps → file.now ≢ name.now →
+        Works (edit_effect expr.now (edits (program_of program.now) text.now) text.now journal.old) file.now name.now (D.content store.old) (D.content store.new) result }
     ensures recorded { IsTrue D.keeps → OnOk result ((u : List ℕ) → (changes : List Change) → edits (program_of program.now) text.now ≡ edited u changes →
         u ≢ text.now → HasLast (map.get (D.content store.new) name.now) changes) }
     ensures kept { IsTrue D.keeps → IfErr result (λ e. is_outside e ≡ false → D.content store.new ≡ D.content store.old) }

@@ -6,6 +6,7 @@ ghost use Rattle.yq_journal.specs.History.{History};
 ghost use Rattle.yq_journal.specs.Refusals.{no_way, way_fault};
 ghost use Rattle.yq_journal.specs.State.{State, moved, moved_text};
 ghost use Rattle.yq_journal.specs.declared.fault.JournalFault.{JournalFault};
+ghost use Rattle.yq.specs.Effects.{Works, leaves, walk_effect};
 ghost use Rattle.yq.specs.Faults.{is_outside, is_output, counted, of_fault};
 ghost use Rattle.yq.specs.Pair.{Arrives, OthersStay, Rest, Stands};
 ghost use Rattle.yq.specs.Steps.{walk_cause, walk_next};
@@ -37,7 +38,9 @@ pub fn carry_out<D: Store>(
         OnOk result (Stands (D.content store.new) file.now name.now (after_move h step new.now)) }
     ensures err { IsTrue D.keeps → file.now ≢ name.now → (h : History) → Rest (D.content store.old) file.now name.now journal.old old.now h →
         OnErr result (Stands (D.content store.new) file.now name.now h ⊎ Stands (D.content store.new) file.now name.now (after_move h step new.now)) }
+    ensures text { IsTrue D.keeps → file.now ≢ name.now → OnOk result (map.get (D.content store.new) file.now ≡ Some new.now) }
     ensures moved { IsTrue D.keeps → OnOk result (journal_beside (map.get (D.content store.new) name.now) ≡ Some (moved journal.old step)) }
+    ensures leads { moved_text journal.old.records journal.old.at step old.now ≡ Some new.now }
     ensures free { OnOk result (no_way journal.old.records journal.old.at step ≡ None) }
     ensures fault { IfErr result (λ e. is_outside e ≡ false → option_map of_fault (no_way journal.old.records journal.old.at step) ≡ Some e) }
     ensures refused { (f : JournalFault) → no_way journal.old.records journal.old.at step ≡ Some f → result ≡ Err (of_fault f) }
@@ -73,6 +76,8 @@ fn turn<D: Store>(
         OnOk result (Stands (D.content store.new) file name.now (after_move h (step_of walk) text.now)) }
     ensures err { IsTrue D.keeps → (file : List ℕ) → file ≢ name.now → (h : History) → Rest (D.content store.old) file name.now journal.old text.now h →
         OnErr result (Stands (D.content store.new) file name.now h ⊎ Stands (D.content store.new) file name.now (after_move h (step_of walk) text.now)) }
+    ensures moved { IsTrue D.keeps → OnOk result (journal_beside (map.get (D.content store.new) name.now) ≡ Some (moved journal.old (step_of walk))) }
+    ensures leads { walk_effect (step_of walk) text.now journal.old ≡ leaves text.now (moved journal.old (step_of walk)) }
     ensures outside { IfErr result (λ e. IsTrue (is_outside e)) }
     ensures others { IsTrue D.keeps → (q : List ℕ) → q ≢ name.now → map.get (D.content store.new) q ≡ map.get (D.content store.old) q }
     ensures quiet { IfErr result (λ e. is_output e ≡ false) }
@@ -95,6 +100,8 @@ pub fn walk_from<D: Store>(
     requires at_rest { IsNone journal.old.pending }
     ensures arrives { IsTrue D.keeps → file.now ≢ name.now → (h : History) → Rest (D.content store.old) file.now name.now journal.old text.now h →
         Arrives (D.content store.new) file.now name.now (walk_cause (step_of walk) (Some h)) (Some h) (walk_next (step_of walk) (Some h)) result }
+    ensures effect { IsTrue D.keeps → file.now ≢ name.now → map.get (D.content store.old) file.now ≡ Some text.now →
+        Works (walk_effect (step_of walk) text.now journal.old) file.now name.now (D.content store.old) (D.content store.new) result }
     ensures kept { IsTrue D.keeps → IfErr result (λ e. is_outside e ≡ false → D.content store.new ≡ D.content store.old) }
     ensures others { IsTrue D.keeps → OthersStay (D.content store.old) (D.content store.new) file.now name.now }
     ensures quiet { IfErr result (λ e. is_output e ≡ false) }

@@ -1,9 +1,11 @@
 //! Commands that print and write no file.
 ghost use Rattle.std.specs.Prelude.{◌≡◌, ◌∷◌, ◌++◌, [], ℕ, List, Option, IfErr, OnOk, IfOk, IsTrue, false, decimal, map};
+ghost use Rattle.std.specs.FinMap as map;
 ghost use Rattle.std.specs.String.{string_bytes};
 ghost use Rattle.json.specs.Print as json;
 ghost use Rattle.yq_journal.specs.History.{History};
 ghost use Rattle.yq_journal.specs.Record.{Patch};
+ghost use Rattle.yq.specs.Effects.{Works, from_pair, writes_nothing};
 ghost use Rattle.yq.specs.Faults.{is_output, counted};
 ghost use Rattle.yq.specs.Pair.{Arrives, GoodIn};
 ghost use Rattle.yq.specs.Prints as spec;
@@ -77,6 +79,8 @@ pub fn listing<D: Store>(
     requires empty { shown_by shown.old ≡ nothing }
     ensures arrives { IsTrue D.keeps → (h : Option History) → GoodIn (D.content store.old) file.now name.now h →
         Arrives (D.content store.new) file.now name.now (listing_cause h) h h result }
+    ensures effect { IsTrue D.keeps → Works (from_pair (map.get (D.content store.old) file.now) (map.get (D.content store.old) name.now) (λ _ _. writes_nothing))
+        file.now name.now (D.content store.old) (D.content store.new) result }
     ensures output { IsTrue D.keeps → (h : Option History) → GoodIn (D.content store.old) file.now name.now h →
         OnOk result (shown_by shown.new ≡ shown_text (spec.listing_output h)) }
     ensures same { IsTrue D.keeps → D.content store.new ≡ D.content store.old }

@@ -6,6 +6,7 @@ ghost use Rattle.std.specs.String.{string_bytes};
 ghost use Rattle.yq_journal.specs.History.{History};
 ghost use Rattle.yq.specs.Count.{one_more};
 ghost use Rattle.yq.specs.Editing.{program_in};
+ghost use Rattle.yq.specs.Effects.{OfEffect, Works, from_pair, update_effect, walk_effect};
 ghost use Rattle.yq.specs.Faults.{is_outside, is_output, counted};
 ghost use Rattle.yq.specs.Lists.{AllFit, IsOn, IsStranger, Keeps, Run, RunExactly, Told, Recorded, IsRecorded, Records, Reply, answers_in, printed_in, has_memory, failures_in, output_failures_in, tells_output};
 ghost use Rattle.yq.specs.Pair.{Arrives, GoodIn, OthersStay};
@@ -41,6 +42,8 @@ fn walk<D: Store>(
 ) -> Result<(), Fault>
     ensures arrives { IsTrue D.keeps → file.now ≢ name.now → (h : Option History) → GoodIn (D.content store.old) file.now name.now h →
         Arrives (D.content store.new) file.now name.now (walk_cause (step_of walk) h) h (walk_next (step_of walk) h) result }
+    ensures effect { IsTrue D.keeps → file.now ≢ name.now →
+        Works (from_pair (map.get (D.content store.old) file.now) (map.get (D.content store.old) name.now) (walk_effect (step_of walk))) file.now name.now (D.content store.old) (D.content store.new) result }
     ensures kept { IsTrue D.keeps → IfErr result (λ e. is_outside e ≡ false → D.content store.new ≡ D.content store.old) }
     ensures others { IsTrue D.keeps → OthersStay (D.content store.old) (D.content store.new) file.now name.now }
     ensures quiet { IfErr result (λ e. is_output e ≡ false) }
@@ -68,6 +71,8 @@ fn update<D: Store>(
 ) -> Result<(), Fault>
     ensures arrives { IsTrue D.keeps → file.now ≢ name.now → (h : Option History) → GoodIn (D.content store.old) file.now name.now h →
         Arrives (D.content store.new) file.now name.now (update_cause (program_in expr.now) h) h (update_next expr.now (program_in expr.now) h) result }
+    ensures effect { IsTrue D.keeps → file.now ≢ name.now →
+        Works (update_effect expr.now (program_in expr.now) (map.get (D.content store.old) file.now) (map.get (D.content store.old) name.now)) file.now name.now (D.content store.old) (D.content store.new) result }
     ensures recorded { IsTrue D.keeps → OnOk result (Recorded expr.now (map.get (D.content store.old) file.now) (map.get (D.content store.new) name.now)) }
     ensures kept { IsTrue D.keeps → IfErr result (λ e. is_outside e ≡ false → D.content store.new ≡ D.content store.old) }
     ensures others { IsTrue D.keeps → OthersStay (D.content store.old) (D.content store.new) file.now name.now }
@@ -99,6 +104,8 @@ fn execute<D: Store>(
     ensures arrives { IsTrue D.keeps → (file name : List ℕ) → file ≢ name → IsOn file name command.now →
         (h : Option History) → GoodIn (D.content store.old) file name h →
         Arrives (D.content store.new) file name (cause_of command.now h) h (next_of command.now h) result }
+    ensures effect { IsTrue D.keeps → (file name : List ℕ) → file ≢ name → IsOn file name command.now →
+        OfEffect command.now (map.get (D.content store.old) file) (map.get (D.content store.old) name) (λ x. Works x file name (D.content store.old) (D.content store.new) result) }
     ensures output { IsTrue D.keeps → (file name : List ℕ) → IsOn file name command.now →
         (h : Option History) → GoodIn (D.content store.old) file name h →
         OnOk result (shown_by shown.new ≡ shown_of command.now h) }
@@ -204,8 +211,8 @@ pub fn run_list<D: Store, W: Out>(
         (m : Option History) × (replies : List Reply) × (answers_in replies ≡ before) × Run file name h cs replies m × Records c m (map.get (D.content store.new) name)) }
     ensures kept { IsTrue D.keeps → IfOk result (λ answers. Keeps (D.content store.old) commands.now answers.items (D.content store.new)) }
     ensures others { IsTrue D.keeps → (q : List ℕ) → All (IsStranger q) commands.now → map.get (D.content store.new) q ≡ map.get (D.content store.old) q }
-    ensures count { IfOk result (λ answers. min (D.failures store.old + failures_in answers.items) (2 ^ 64 - 1) ≤ D.failures store.new) }
-    ensures out_count { IfOk result (λ answers. min (W.failures out.old + output_failures_in answers.items) (2 ^ 64 - 1) ≤ W.failures out.new) }
+    ensures count { D.failures store.old < 2 ^ 64 → IfOk result (λ answers. D.failures store.new ≡ min (D.failures store.old + failures_in answers.items) (2 ^ 64 - 1)) }
+    ensures out_count { W.failures out.old < 2 ^ 64 → IfOk result (λ answers. W.failures out.new ≡ min (W.failures out.old + output_failures_in answers.items) (2 ^ 64 - 1)) }
     ensures one_each { IfOk result (λ answers. length answers.items ≡ length commands.now) }
     ensures err { OnErr result ((store.new ≡ store.old) × (out.new ≡ out.old)) }
 {

@@ -4,6 +4,7 @@ ghost use Rattle.std.specs.FinMap as map;
 ghost use Rattle.yq_journal.specs.History.{History};
 ghost use Rattle.yq_journal.specs.Refusals.{squash_fault};
 ghost use Rattle.yq_journal.specs.declared.fault.JournalFault.{JournalFault};
+ghost use Rattle.yq.specs.Effects.{Works, from_pair, squash_effect};
 ghost use Rattle.yq.specs.Faults.{is_outside, is_output, counted, of_fault};
 ghost use Rattle.yq.specs.Pair.{Arrives, GoodIn, Rest};
 ghost use Rattle.yq.specs.Steps.{squash_cause, squash_next};
@@ -25,6 +26,8 @@ fn squash_from<D: Store>(
     requires at_rest { IsNone journal.old.pending }
     ensures arrives { IsTrue D.keeps → (file t : List ℕ) → file ≢ name.now → (h : History) → Rest (D.content store.old) file name.now journal.old t h →
         Arrives (D.content store.new) file name.now (squash_cause n (Some h)) (Some h) (squash_next n (Some h)) result }
+    ensures effect { IsTrue D.keeps → (file t : List ℕ) → file ≢ name.now → map.get (D.content store.old) file ≡ Some t →
+        Works (squash_effect n t journal.old) file name.now (D.content store.old) (D.content store.new) result }
     ensures refused { (f : JournalFault) → squash_fault journal.old n ≡ Some f → result ≡ Err (of_fault f) }
     ensures kept { IsTrue D.keeps → IfErr result (λ e. is_outside e ≡ false → D.content store.new ≡ D.content store.old) }
     ensures one { IsTrue D.keeps → n ≡ 1 → D.content store.new ≡ D.content store.old }
@@ -49,6 +52,8 @@ pub fn squash<D: Store>(
 ) -> Result<(), Fault>
     ensures arrives { IsTrue D.keeps → file.now ≢ name.now → (h : Option History) → GoodIn (D.content store.old) file.now name.now h →
         Arrives (D.content store.new) file.now name.now (squash_cause n h) h (squash_next n h) result }
+    ensures effect { IsTrue D.keeps → file.now ≢ name.now →
+        Works (from_pair (map.get (D.content store.old) file.now) (map.get (D.content store.old) name.now) (squash_effect n)) file.now name.now (D.content store.old) (D.content store.new) result }
     ensures kept { IsTrue D.keeps → IfErr result (λ e. is_outside e ≡ false → D.content store.new ≡ D.content store.old) }
     ensures one { IsTrue D.keeps → n ≡ 1 → D.content store.new ≡ D.content store.old }
     ensures others { IsTrue D.keeps → (q : List ℕ) → q ≢ name.now → map.get (D.content store.new) q ≡ map.get (D.content store.old) q }

@@ -1,3 +1,7 @@
+use Rattle.std.proofs.Common.{Err, ap, ◌∙◌}
+use Rattle.std.proofs.lemmas.Result.{err_from_is_err_and}
+use Rattle.yq.specs.Editing.{edits}
+use Rattle.yq.proofs.EffectLaws.{edit_not_made}
 use Rattle.yq_expr.specs.View.{program_of}
 use Rattle.yq.proofs.edit.edit_from.Goals as goal
 
@@ -8,3 +12,16 @@ returns-clause-arrives g c = λ keeps apart h k.
     let splices = c.in_ok-made.splices-is in
     let slice = c.as_bytes-new.ensures.value in
     c.commit.ensures.arrives keeps apart h (program_of c.args.program.now) k cc
+
+pub returns-in_err-made-clause-effect : goal.returns-in_err-made-clause-effect
+returns-in_err-made-clause-effect g c = λ keeps apart.
+    let p = err_from_is_err_and c.from_residual.result c.from_residual.ensures.1 in
+    edit_not_made c.args.file.now c.args.name.now (g.D.Store.content c.args.store.now) c.args.expr.now c.args.journal.now c.args.text.now (edits (program_of c.args.program.now) c.args.text.now) c.from_residual.result _ (p.1 ∙ ap Err p.2) c.in_err-made.ensures.err
+
+pub returns-clause-effect : goal.returns-clause-effect
+returns-clause-effect g c = λ keeps apart.
+    let ok = c.in_ok-made.ensures.ok in
+    let made = c.in_ok-made.made-is in
+    let splices = c.in_ok-made.splices-is in
+    let slice = c.as_bytes-new.ensures.value in
+    c.commit.ensures.effect keeps apart (program_of c.args.program.now) cc

@@ -1,5 +1,9 @@
 use Rattle.std.proofs.Common.{inl, inr}
 use Rattle.yq.proofs.MoveLaws.{first_write, second_write, third_write, same_content, moved_journal, on_err, on_ok_map, on_err_map, either}
+use Rattle.std.proofs.Common.{ap, ◌∙◌}
+use Rattle.std.specs.FinMap.{get}
+use Rattle.yq.specs.Content.{get_written}
+use Rattle.yq.proofs.EffectLaws.{on_ok}
 use Rattle.yq.proofs.moves.carry_out.Goals as goal
 
 pub returns-in_err-write_journal-clause-err : goal.returns-in_err-write_journal-clause-err
@@ -37,3 +41,8 @@ returns-clause-err g c = λ keeps apart h k.
 pub returns-clause-moved : goal.returns-clause-moved
 returns-clause-moved g c = λ keeps. on_ok_map _ (c.write_journal-2.ensures.ok keeps)
     (moved_journal _ c.args.journal.now _ _ c.args.step _ _ _ _ c.requires.moves c.requires.changes c.in-Ok.ensures.ok c.in_ok-settle.ensures.ok)
+
+pub returns-clause-text : goal.returns-clause-text
+returns-clause-text g c = λ keeps apart.
+    on_ok c.write_journal-2.result
+    (c.write_journal-2.ensures.others keeps c.args.file.now apart ∙ ap (λ m. get m c.args.file.now) (c.in_ok-replace.ensures.written keeps) ∙ get_written _ c.args.file.now _)

@@ -3,6 +3,7 @@ use Rattle.std.specs.FinMap.{get}
 use Rattle.yq_journal.specs.Good.{journal_beside}
 use Rattle.yq_journal.specs.State.{settled}
 use Rattle.yq.proofs.PairLaws.{opens}
+use Rattle.yq.proofs.EffectLaws.{opened}
 use Rattle.yq.proofs.pair.open_pair.Goals as goal
 
 pub returns-clause-opens : goal.returns-clause-opens
@@ -15,3 +16,11 @@ returns-clause-opens g c = λ keeps h good.
     (sym (ap (λ m. journal_beside (get m c.args.name.now)) first) ∙ c.in_ok-journal.ensures.ok keeps)
     (sym (ap (settled c.in_ok-journal.journal) c.deref.ensures.value) ∙ c.in_ok-settle.ensures.ok)
     good
+
+pub returns-clause-found : goal.returns-clause-found
+returns-clause-found g c = λ keeps go.
+    let content = g.D.Store.content in
+    let first : content c.read.new.self ≡ content c.args.store.now = c.in_ok-text.ensures.same keeps in
+    opened (get (content c.args.store.now) c.args.file.now) (get (content c.args.store.now) c.args.name.now) _ (c.in_ok-text.ensures.found keeps)
+    _ (sym (ap (λ m. journal_beside (get m c.args.name.now)) first) ∙ c.in_ok-journal.ensures.ok keeps)
+    _ (sym (ap (settled c.in_ok-journal.journal) c.deref.ensures.value) ∙ c.in_ok-settle.ensures.ok) go

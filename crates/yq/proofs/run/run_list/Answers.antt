@@ -1,11 +1,11 @@
-use Rattle.std.proofs.Common.{rules, ◌≡◌, ◌⊎◌, ◌∷◌, ◌++◌, [], ◌+◌, ◌-◌, ◌^◌, ◌<◌, ◌≤◌, min, take, length, sym, ap, ◌∙◌, subst, arith, is_ok, true, vec_len, if◌then◌else◌}
+use Rattle.std.proofs.Common.{rules, ◌≡◌, ◌⊎◌, ◌∷◌, ◌++◌, [], ◌+◌, ◌-◌, ◌^◌, ◌<◌, min, take, length, sym, ap, ◌∙◌, subst, arith, is_ok, true, vec_len, if◌then◌else◌}
 use Rattle.std.specs.List.{list_all}
 use Rattle.std.proofs.lemmas.Grind.{common_steps}
 use Rattle.std.proofs.lemmas.List.{append-nil, take_more}
 use Rattle.yq.specs.Count.{one_more}
-use Rattle.yq.specs.Lists.{IsOn, IsApart, IsStranger, Run, RunExactly, Keeps, failures_in, output_failures_in, tells_output}
+use Rattle.yq.specs.Lists.{IsOn, IsApart, IsStranger, Run, RunExactly, Keeps, failures_in, output_failures_in, tells_failure, tells_output}
 use Rattle.yq.specs.Shown.{shown_by}
-use Rattle.yq.proofs.ListLaws.{reply, is_inside, answers_more, run_more, goes_on, exact_run, all_inside, count_more, put_told, put_more, taken_more, keeps_more, leaves, last_more, no_command}
+use Rattle.yq.proofs.ListLaws.{reply, is_inside, answers_more, run_more, goes_on, exact_run, all_inside, count_more, put_told, put_more, taken_more, keeps_more, left_by, has_effect, last_more, no_command, no_answers}
 use Rattle.yq.proofs.run.run_list.Goals as goal
 
 pub commands-init : goal.commands-init
@@ -16,8 +16,8 @@ commands-init g c = record {
   recorded = λ keeps file name apart fit h good cs d before commands answers on. no_command h cs d commands;
   kept = search rules;
   others = search rules;
-  sum = search rules;
-  out_sum = search rules;
+  sum = λ small. no_answers tells_failure c.in_ok-answers.answers.items (g.D.Store.failures c.args.store.now) (search rules) small;
+  out_sum = λ small. no_answers tells_output c.in_ok-answers.answers.items (g.W.Out.failures c.args.out.now) (search rules) small;
 }
 
 pub commands-preserved : goal.commands-preserved
@@ -71,14 +71,15 @@ commands-preserved g c =
           subst (λ cs. Keeps (content c.args.store.now) cs c.push.new.self.items (content c.execute-done.new.store)) (sym more)
           (subst (λ rs. Keeps (content c.args.store.now) (take c.commands.command-index c.args.commands.now ++ cmd ∷ []) rs (content c.execute-done.new.store)) (sym pushed)
           (keeps_more (content c.args.store.now) (content c.commands.store) (content c.execute-done.new.store) _ _ cmd answer (before.kept keeps)
-          (leaves (content c.commands.store) (content c.execute-done.new.store) cmd done answer shown told (c.execute-done.ensures.still keeps)
-          c.execute-done.ensures.silent (c.execute-done.ensures.kept keeps) (c.execute-done.ensures.others keeps))));
+          (left_by (content c.commands.store) (content c.execute-done.new.store) cmd done answer shown told (c.execute-done.ensures.still keeps)
+          c.execute-done.ensures.silent (c.execute-done.ensures.kept keeps) (c.execute-done.ensures.others keeps)
+          (λ file name apart on. has_effect cmd file name (content c.commands.store) (content c.execute-done.new.store) done answer shown told quiet (c.execute-done.ensures.effect keeps file name apart on)))));
       others = λ keeps q strangers.
           c.execute-done.ensures.others keeps q (subst (IsStranger q) (sym c.command-item.is) (strangers c.commands.command-index cmd within)) ∙ before.others keeps q strangers;
-      sum = subst (λ rs. min (g.D.Store.failures c.args.store.now + failures_in rs) (2 ^ 64 - 1) ≤ g.D.Store.failures c.execute-done.new.store) (sym pushed)
-          (count_more done c.commands.answers.items answer shown (g.D.Store.failures c.args.store.now) _ _ told before.sum c.execute-done.ensures.count);
-      out_sum = subst (λ rs. min (failures c.args.out.now + output_failures_in rs) (2 ^ 64 - 1) ≤ failures c.answer_of-answer.new.out) (sym pushed)
-          (put_more c.commands.answers.items answer (failures c.args.out.now) (failures c.commands.out) _ before.out_sum put);
+      sum = λ small. subst (λ rs. g.D.Store.failures c.execute-done.new.store ≡ min (g.D.Store.failures c.args.store.now + failures_in rs) (2 ^ 64 - 1)) (sym pushed)
+          (count_more done c.commands.answers.items answer shown (g.D.Store.failures c.args.store.now) _ _ told (before.sum small) c.execute-done.ensures.count);
+      out_sum = λ small. subst (λ rs. failures c.answer_of-answer.new.out ≡ min (failures c.args.out.now + output_failures_in rs) (2 ^ 64 - 1)) (sym pushed)
+          (put_more c.commands.answers.items answer (failures c.args.out.now) (failures c.commands.out) _ (before.out_sum small) put);
     }
 
 pub returns-clause-run : goal.returns-clause-run
@@ -95,8 +96,8 @@ returns-clause-run g c = λ keeps.
 
 pub returns-clause-exact : goal.returns-clause-exact
 returns-clause-exact g c = λ keeps same below quiet under memory.
-    let sum = c.commands.invariant.sum in
-    let out_sum = c.commands.invariant.out_sum in
+    let sum = c.commands.invariant.sum (omega (arith, same, below)) in
+    let out_sum = c.commands.invariant.out_sum (omega (arith, quiet, under)) in
     let none : failures_in c.commands.answers.items ≡ 0 = omega (arith, sum, same, below) in
     let none_out : output_failures_in c.commands.answers.items ≡ 0 = omega (arith, out_sum, quiet, under) in
     let now = c.commands.invariant.run keeps in

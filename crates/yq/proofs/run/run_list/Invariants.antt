@@ -24,6 +24,6 @@ invariant-commands g l =
           (m : Option History) × (replies : List Reply) × (answers_in replies ≡ before) × Run file name h cs replies m × Records c m (get (content l.store) name);
       kept : IsTrue g.D.Store.keeps → Keeps (content l.fn.store) (take l.command-index l.commands) l.answers.items (content l.store);
       others : IsTrue g.D.Store.keeps → (q : List ℕ) → All (IsStranger q) l.commands → get (content l.store) q ≡ get (content l.fn.store) q;
-      sum : min (g.D.Store.failures l.fn.store + failures_in l.answers.items) (2 ^ 64 - 1) ≤ g.D.Store.failures l.store;
-      out_sum : min (g.W.Out.failures l.fn.out + output_failures_in l.answers.items) (2 ^ 64 - 1) ≤ g.W.Out.failures l.out;
+      sum : g.D.Store.failures l.fn.store < 2 ^ 64 → g.D.Store.failures l.store ≡ min (g.D.Store.failures l.fn.store + failures_in l.answers.items) (2 ^ 64 - 1);
+      out_sum : g.W.Out.failures l.fn.out < 2 ^ 64 → g.W.Out.failures l.out ≡ min (g.W.Out.failures l.fn.out + output_failures_in l.answers.items) (2 ^ 64 - 1);
     }
