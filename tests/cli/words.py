@@ -40,7 +40,7 @@ def check_an_output_that_takes_nothing(folder):
     folder.write("f", WEB)
     folder.accepts("-i", ".port = 9090", "f")
     before = {name: folder.read(name) for name in folder.names()}
-    for words in ([".port = 1", "f"], ["history", "f"], ["--help"]):
+    for words in ([".port = 1", "f"], [".port", "f"], ["-e", ".zzz", "f"], ["history", "f"], ["--help"]):
         equal(with_full_output(folder, *words), (1, b"Error: S4 out failed\n"), words)
         equal({name: folder.read(name) for name in folder.names()}, before, words)
     equal(with_full_output(folder, "undo", "f"), (0, b""))
