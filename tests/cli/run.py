@@ -17,10 +17,11 @@ import leftovers
 import links
 import memory
 import owners
+import random_edits
 import reads
 import together
 import words
 from harness import run_all
 from tables import run_tables
 
-sys.exit(run_all([edits, words, failures, links, owners, leftovers, disks, reads, together, cuts, memory], run_tables, sys.argv))
+sys.exit(run_all([edits, words, failures, links, owners, leftovers, disks, reads, random_edits, together, cuts, memory], run_tables, sys.argv))

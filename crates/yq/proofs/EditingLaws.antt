@@ -7,7 +7,8 @@ use Rattle.yq_scalar.specs.Characters.{is_text, text_limit}
 use Rattle.yq_rows.specs.Reading.{scan_at, all_parts}
 use Rattle.yq_tree.specs.Reading.{checked, read_at, text_at}
 use Rattle.yq_expr.specs.Program.{Program}
-use Rattle.yq_splice.specs.Edit.{edit_of, by_reading, program_done}
+use Rattle.yq_splice.specs.Carried.{edit_of, program_done}
+use Rattle.yq_splice.specs.Edit.{by_reading}
 use Rattle.yq.specs.Editing.{edits, unreadable, outcome_of}
 
 -- bytes that are no UTF-8

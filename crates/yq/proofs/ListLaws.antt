@@ -28,7 +28,7 @@ use Rattle.yq.specs.Pair.{GoodIn, Arrives}
 use Rattle.yq.specs.Prints.{shown_of, prints}
 use Rattle.yq.specs.Shown.{Shown, answer_by, nothing}
 use Rattle.yq.specs.Steps.{cause_of, next_of, unless_fault, walk_cause, walk_next, edit_cause, edit_next, update_cause, update_next, squash_cause, squash_next}
-use Rattle.yq.proofs.PairLaws.{good_text}
+use Rattle.yq.proofs.PairLaws.{good_text, same_pair}
 
 -- ---- replies
 
@@ -119,12 +119,14 @@ module _ (e : Content) (f j : List ℕ) (c : Command) (h : Option History) where
       (k.0, subst (λ y. Steps c h (reply y s.printed).answer (reply y s.printed).printed k.0) (sym is) (refl, k.1), k.2)
 
 -- a command goes on, on the pair or apart from it
-pub goes_on : (c e : Content) (f j : List ℕ) (cmd : Command) (h : Option History) {T : Type 0} (r : Result T Fault) (a : Answer) (s : Shown) → IsOn f j cmd ⊎ IsApart f j cmd → GoodIn c f j h → (IsOn f j cmd → Arrives e f j (cause_of cmd h) h (next_of cmd h) r) → (IsOn f j cmd → OnOk r (s ≡ shown_of cmd h)) → IfErr r (λ x. is_output x ≡ false) → ((q : List ℕ) → IsStranger q cmd → get e q ≡ get c q) → Told r a s → (k : Option History) × Goes f j cmd h (reply a s.printed) k × GoodIn e f j k
-goes_on c e f j cmd h r a s (inl on) good arrives shows quiet others is =
+pub goes_on : (c e : Content) (f j : List ℕ) (cmd : Command) (h : Option History) {T : Type 0} (r : Result T Fault) (a : Answer) (s : Shown) → IsOn f j cmd ⊎ IsApart f j cmd → GoodIn c f j h → (IsOn f j cmd → Arrives e f j (cause_of cmd h) h (next_of cmd h) r) → (IsOn f j cmd → OnOk r (s ≡ shown_of cmd h)) → IfErr r (λ x. is_output x ≡ false) → ((q : List ℕ) → IsStranger q cmd → get e q ≡ get c q) → (prints cmd ≡ true → e ≡ c) → Told r a s → (k : Option History) × Goes f j cmd h (reply a s.printed) k × GoodIn e f j k
+goes_on c e f j cmd h r a s (inl on) good arrives shows quiet others still is =
     let p = arrived e f j cmd h r a s is (shows on) quiet (arrives on) in
     (p.0, inl (on, p.1), p.2)
-goes_on c e f j cmd h r a s (inr apart) good arrives shows quiet others is =
-    (h, inr (apart, refl), subst (λ x. Good x (get e j) h) (sym (others f apart.0)) (subst (λ y. Good (get c f) y h) (sym (others j apart.1)) good))
+goes_on c e f j cmd h r a s (inr (inl apart)) good arrives shows quiet others still is =
+    (h, inr (inl apart, refl), subst (λ x. Good x (get e j) h) (sym (others f apart.0)) (subst (λ y. Good (get c f) y h) (sym (others j apart.1)) good))
+goes_on c e f j cmd h r a s (inr (inr apart)) good arrives shows quiet others still is =
+    (h, inr (inr apart, refl), same_pair c e f j h (still apart.1) good)
 
 -- ---- what a refused command leaves
 

@@ -1,5 +1,5 @@
 -- What the words of a command line ask for, by what clap finds in them (own).
-use Rattle.std.specs.Prelude.{◌≡◌, ◌≢◌, ◌⊎◌, ◌&&◌, ◌^◌, ℕ, Bool, true, false, not, List, [], ◌∷◌, ◌++◌, length, codes, nat_lt, if◌then◌else◌, Option, Some, None, is_some, option_and_then}
+use Rattle.std.specs.Prelude.{◌≡◌, ◌≢◌, ◌⊎◌, ◌&&◌, ◌||◌, ◌^◌, ℕ, Bool, true, false, not, List, [], ◌∷◌, ◌++◌, length, codes, nat_lt, if◌then◌else◌, Option, Some, None, is_some, option_and_then}
 use Rattle.std.specs.List.{list_any}
 use Rattle.std.specs.Option.{option_map_or}
 use Rattle.std.specs.Str.{bytes_eq, all_ascii_digits}
@@ -31,6 +31,14 @@ with_command (word ∷ words) =
 -- the words as clap reads them, behind the program's name
 abbrev pub full_words : List Text → List Text
 full_words words = codes "yq" ∷ with_command words
+
+-- a word that asks for help
+abbrev pub is_help_word : Text → Bool
+is_help_word word = bytes_eq word (codes "-h") || bytes_eq word (codes "--help")
+
+-- some word does
+abbrev pub asks_help : List Text → Bool
+asks_help words = list_any is_help_word words
 
 -- the journal's name: the one that is given, else the file's followed by `.undo.json`
 abbrev pub journal_name : Option Text → Text → Text

@@ -8,7 +8,8 @@ use Rattle.yq_expr.specs.declared.error.ParseError.TheVariants as parse
 use Rattle.yq_expr.specs.declared.refusal.Refusal.{Refusal}
 use Rattle.yq_expr.specs.declared.refusal.Refusal.TheVariants as refusal
 use Rattle.yq_splice.specs.Patch.{Change}
-use Rattle.yq_splice.specs.Edit.{Edit, edit_of}
+use Rattle.yq_splice.specs.Carried.{edit_of}
+use Rattle.yq_splice.specs.Edit.{Edit}
 use Rattle.yq_splice.specs.Edit as edit
 use Rattle.yq_splice.specs.declared.edited.EditError.{EditError}
 use Rattle.yq_splice.specs.declared.edited.EditError.TheVariants as error

@@ -4,11 +4,11 @@ use Rattle.yq_scalar.specs.Tree.{Node}
 use Rattle.yq_tree.specs.Documents.{Document}
 use Rattle.yq_tree.specs.Reading.{documents, read_at}
 use Rattle.yq_expr.specs.Copies.{matches}
-use Rattle.yq_expr.specs.Judgement.{Judgement, gives, refuses, unbuilt}
+use Rattle.yq_expr.specs.Judgement.{Judgement, gives, refuses}
 use Rattle.yq_expr.specs.Program.{Program, Stage, read, updates}
 use Rattle.yq_journal.specs.History.{History, text_at}
 use Rattle.yq.specs.declared.fault.Fault.{Fault}
-use Rattle.yq.specs.declared.fault.Fault.TheVariants.{NotInProfile, NotThere}
+use Rattle.yq.specs.declared.fault.Fault.TheVariants.{NotThere}
 use Rattle.yq.specs.Causes.{Cause, named, no_reading}
 use Rattle.yq.specs.Editing.{Outcome, unreadable, refused, edited, edits, of_refusal}
 use Rattle.yq.specs.Reads.{shown_matches}
@@ -24,7 +24,6 @@ show_edit (edited t changes) = Ok (text t)
 abbrev pub show_found : Bool → Bool → Judgement (List (ℕ × Node)) → Result Shown Cause
 show_found exit_status no_doc (gives ms) = Ok (shown_matches exit_status no_doc ms)
 show_found exit_status no_doc (refuses why) = Err (named (of_refusal why))
-show_found exit_status no_doc unbuilt = Err (named NotInProfile)
 
 -- the same, by the documents, if the text reads as documents
 abbrev pub show_read : Bool → Bool → List Stage → Option (List Document) → Result Shown Cause

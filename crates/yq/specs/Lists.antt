@@ -45,11 +45,11 @@ IsStranger q (Lists f j) = Differs q (string_bytes f) (string_bytes j)
 IsStranger q (Squash n f j) = Differs q (string_bytes f) (string_bytes j)
 IsStranger q Help = Unit {0}
 
--- the command shares no name with the file and the journal
+-- the command shares no name with the file and the journal; or it isn't on them, and prints and writes no name
 abbrev pub IsApart : List ℕ → List ℕ → Command → Type 0
-IsApart file name c = IsStranger file c × IsStranger name c
+IsApart file name c = (IsStranger file c × IsStranger name c) ⊎ ((IsOn file name c → ⊥) × (prints c ≡ true))
 
--- each command is on the pair, or shares no name with it
+-- each command is on the pair, or apart from it
 abbrev pub AllFit : List ℕ → List ℕ → List Command → Type 0
 AllFit file name cs = All (λ c. IsOn file name c ⊎ IsApart file name c) cs
 

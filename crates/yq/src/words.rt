@@ -45,27 +45,49 @@ fn full_words<'a>(alloc: Global, words: &[&'a str]) -> Result<Vec<&'a str>, Allo
     Ok(full)
 }
 
-/// What is answered where `clap` finds nothing.
-fn without_matches(kind: ErrorKind) -> Result<Command, Fault>
-    ensures ok { IfOk result (λ c. (c ≡ Help) × (kind ≡ ErrorKind.DisplayHelp)) }
+/// Whether a word asks for help.
+fn is_help_word(word: &str) -> bool
+    ensures { result ≡ spec.is_help_word word.now }
+{
+    word == "-h" || word == "--help"
+}
+
+/// Whether some word asks for help.
+fn asks_help(words: &[&str]) -> bool
+    ensures { result ≡ spec.asks_help (map (λ w. w.now) words.now) }
+{
+    let mut rest = words;
+    'words: while let [word, behind @ ..] = rest {
+        if is_help_word(word) {
+            return true;
+        }
+        rest = behind;
+    }
+    false
+}
+
+/// What is answered where `clap` finds nothing: help, if a word asks for it.
+fn without_matches(kind: ErrorKind, asked: bool) -> Result<Command, Fault>
+    ensures ok { IfOk result (λ c. (c ≡ Help) × (kind ≡ ErrorKind.DisplayHelp) × (asked ≡ true)) }
     ensures err { IfErr result (λ e. ((e ≡ Fault.OutOfMemory) × (kind ≡ ErrorKind.OutOfMemory))
         ⊎ ((e ≡ Fault.Usage) × (kind ≢ ErrorKind.OutOfMemory))) }
 {
     match kind {
-        ErrorKind::DisplayHelp => Ok(Command::Help),
+        ErrorKind::DisplayHelp if asked => Ok(Command::Help),
         ErrorKind::OutOfMemory => Err(Fault::OutOfMemory),
         _ => Err(Fault::Usage),
     }
 }
 
 /// The command of the words as `clap` reads them.
-fn command_by(alloc: Global, full: &[&str]) -> Result<Command, Fault>
+fn command_by(alloc: Global, full: &[&str], asked: bool) -> Result<Command, Fault>
     ensures asked { IfOk result (spec.IsAsked (subcommand_of yq (map (λ w. w.now) full.now))) }
     ensures help { takes yq (map (λ w. w.now) full.now) ≡ true → result ≢ Ok Help }
+    ensures only { result ≡ Ok Help → asked ≡ true }
     ensures err { IfErr result (spec.IsUnread (map (λ w. w.now) full.now)) }
 {
     match matched(alloc, full) {
-        Err(e) => without_matches(e.kind()),
+        Err(e) => without_matches(e.kind(), asked),
         Ok(matches) => match matches.subcommand() {
             Some((name, found)) => command_in(alloc, name, found),
             None => Err(Fault::Usage),
@@ -75,15 +97,17 @@ fn command_by(alloc: Global, full: &[&str]) -> Result<Command, Fault>
 
 /// The command of the words, which don't include the program's name.
 ///
-/// A first word that names no command is read as if `eval` stood before it. A call for help is
-/// `Help`. The words are refused with `Usage` where `clap` refuses them, where FILE is `-`, where
+/// A first word that names no command is read as if `eval` stood before it. A call for help
+/// (`-h`, `--help`) is `Help`. The words are refused with `Usage` where `clap` refuses them, where FILE is `-`, where
 /// the journal has FILE's name, and where N isn't a number of 64 bits.
 #[tactic(auto, using(crate::proofs::WordsFound::refused_by_checks))]
 pub fn command_of(alloc: Global, words: &[&str]) -> Result<Command, Fault>
     ensures asked { IfOk result (spec.IsAsked (subcommand_of yq (spec.full_words (map (λ w. w.now) words.now)))) }
     ensures help { takes yq (spec.full_words (map (λ w. w.now) words.now)) ≡ true → result ≢ Ok Help }
+    // Help is answered where `-h` or `--help` is a word, and not else.
+    ensures only { result ≡ Ok Help → spec.asks_help (map (λ w. w.now) words.now) ≡ true }
     ensures err { IfErr result (spec.IsRefused (spec.full_words (map (λ w. w.now) words.now))) }
 {
     let full = full_words(alloc, words)?;
-    command_by(alloc, &full)
+    command_by(alloc, &full, asks_help(words))
 }

@@ -8,7 +8,7 @@ use Rattle.yq_rows.specs.Rows as rows
 use Rattle.yq_rows.specs.Rows.{Row}
 use Rattle.yq_lines.specs.Anchors.{names_of, names_in, AreBound, HaveOneAnchorEach}
 use Rattle.yq_tree.specs.Documents.{MarkIsFit, ContentHasFitKeys, HaveFitKeys}
-use Rattle.yq_tree.specs.Lines.{anchor_of, lines_from, lines_of}
+use Rattle.yq_tree.specs.Lines.{content_anchor, lines_from, lines_of}
 use Rattle.yq_lines.specs.Outline.{Line}
 use Rattle.yq_block.specs.BlockRows.{behind_dash, children_rows, column_below, end_before, entry_rows, inline_of, node_rows}
 use Rattle.yq_block.specs.declared.layout.Layout.{Layout}
@@ -17,7 +17,7 @@ use Rattle.yq_block.proofs.ScalarLaws.{Heads, heads}
 
 -- rows without anchors, whose keys are fit
 abbrev RowIsFit : Row → Type 0
-RowIsFit r = MarkIsFit r.mark × ContentHasFitKeys r.content × (anchor_of r.content ≡ None)
+RowIsFit r = MarkIsFit r.mark × ContentHasFitKeys r.content × (content_anchor r.content ≡ None)
 
 abbrev pub RowsAreFit : List Row → Type 0
 RowsAreFit [] = Unit {0}
@@ -68,7 +68,7 @@ unnamed_append : (xs ys : List Line) → Unnamed xs → Unnamed ys → Unnamed (
 unnamed_append [] ys h k = k
 unnamed_append (x ∷ xs) ys h k = (h.0, unnamed_append xs ys h.1 k)
 
-row_unnamed : (above : List (List ℕ)) (column : ℕ) (ns : List ℕ) (mark : rows.Mark) (c : rows.Content) → anchor_of c ≡ None → Unnamed (lines_from above column ns mark c)
+row_unnamed : (above : List (List ℕ)) (column : ℕ) (ns : List ℕ) (mark : rows.Mark) (c : rows.Content) → content_anchor c ≡ None → Unnamed (lines_from above column ns mark c)
 row_unnamed above column [] mark c h = (h, tt)
 row_unnamed above column (n ∷ ns) mark c h = (refl, row_unnamed [] _ ns mark c h)
 

@@ -5,7 +5,7 @@ use Rattle.yq_rows.specs.Exchange.{asked_behind}
 use Rattle.yq_rows.specs.Gap.{IsGap}
 use Rattle.yq_rows.specs.Grammar.{IsContent, is_entry, IsRow, Limit, unlimited, allows, limit_after, limit_behind, AreRows}
 use Rattle.yq_rows.specs.Rows.{dashes_text, behind_dashes, behind_gap, Row, behind_columns, parent_of, parent_indent, print_row, rows_text}
-use Rattle.yq_rows.proofs.Alikes.{sep_first}
+use Rattle.yq_inline.proofs.Alikes.{sep_first}
 use Rattle.yq_rows.proofs.PlainEnds.{AtLine, row_line}
 use Rattle.yq_block.specs.BlockRows.{item_column, behind_dash}
 

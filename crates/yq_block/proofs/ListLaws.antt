@@ -1,5 +1,5 @@
 -- Items and entries that are written one behind the other.
-use Rattle.std.proofs.Common.{◌≡◌, ℕ, ◌+◌, Bool, true, false, not, eqb, List, [], ◌∷◌, ◌++◌, length, map, Option, Some, None, refl, sym, ap, ◌∙◌, append_assoc, replicate, String, string_bytes, arith}
+use Rattle.std.proofs.Common.{◌≡◌, ℕ, ◌+◌, Bool, true, false, not, eqb, List, [], ◌∷◌, ◌++◌, length, map, Option, Some, None, refl, sym, ap, ◌∙◌, append_assoc, append-nil, replicate, String, string_bytes, arith}
 use Rattle.std.proofs.lemmas.Bool.{ne_eqb}
 use Rattle.std.proofs.lemmas.List.{length-map}
 use Rattle.std.specs.declared.alloc.Global.{Global}
@@ -14,6 +14,7 @@ use Rattle.yq_inline.specs.Nodes as inline
 use Rattle.yq_inline.specs.Nodes.{node_text}
 use Rattle.yq_inline.specs.Values.{node_of, field_of, items, entries}
 use Rattle.yq_inline.proofs.WrittenLaws.{node_list, node_map, map_twice}
+use Rattle.yq_block.specs.Alone.{alone}
 use Rattle.yq_block.specs.BlockReading.{block_front, block_item, block_list, block_map, block_pair, is_filled, line_front, parted}
 use Rattle.yq_block.specs.BlockRows.{block_key, indent_step, inline_of, item_column}
 use Rattle.yq_block.specs.BlockText.{block_children, block_entry, block_node, block_value, inline_or, then_lines}
@@ -96,3 +97,10 @@ map_told v empty h =
     ap not h
     ∙ (ap (λ (n : ℕ). not (eqb n 0)) (v.ok.0 ∙ sym (length-map v.items field_of))
     ∙ (sym (map_block (map field_of v.items)) ∙ ap is_filled (sym (map_node v))))
+
+-- a collection of one item, or of one entry
+pub item_alone : (l : Layout) (column : ℕ) (v : tree.Node) → block_value l column (alone None v) ≡ block_item l column v
+item_alone l column v = list_is l column (v ∷ []) ∙ append-nil (block_item l column v)
+
+pub pair_alone : (l : Layout) (column : ℕ) (k : List ℕ) (v : tree.Node) → block_value l column (alone (Some k) v) ≡ block_pair l column (k, v)
+pair_alone l column k v = map_is l column ((k, v) ∷ []) ∙ append-nil (block_pair l column (k, v))

@@ -1,8 +1,8 @@
 -- Rows that are written behind a key or dash of a text.
-use Rattle.std.proofs.Common.{◌≡◌, ℤ, ℕ, zero, suc, ◌+◌, ◌≤◌, true, false, not, ◌&&◌, eqb, List, [], ◌∷◌, ◌++◌, None, refl, sym, ap, ◌∙◌, subst, arith, append_assoc, replicate}
+use Rattle.std.proofs.Common.{◌≡◌, ℤ, ℕ, zero, suc, ◌+◌, ◌≤◌, true, false, not, ◌&&◌, eqb, List, [], ◌∷◌, ◌++◌, None, refl, sym, ap, ◌∙◌, subst, arith, append_assoc, replicate, Some}
 use Rattle.std.proofs.lemmas.Bool.{false≢true}
 use Rattle.yq_scalar.specs.Text.{separates, upto}
-use Rattle.yq_rows.specs.Alike.{Alike, byte}
+use Rattle.yq_inline.specs.Alike.{Alike, byte}
 use Rattle.yq_lines.specs.Comments.{head_comment, line_comment}
 use Rattle.yq_rows.specs.Exchange.{asked_behind, with_content, allows_first}
 use Rattle.yq_inline.specs.Nodes as inline
@@ -10,13 +10,14 @@ use Rattle.yq_rows.specs.Alone.{holds_nothing}
 use Rattle.yq_rows.specs.Grammar.{IsContent, IsMark, is_entry, is_more, is_plain, AreDashes, Limit, unlimited, allows, limit_after, limit_behind, IsRow, AreRows}
 use Rattle.yq_rows.specs.Rows.{Mark, Dash, Content, Nothing, Inline, Block, dashes_text, mark_text, content_text, behind_dashes, behind_indent, behind_gap, Row, behind_columns, mark_column, parent_of, parent_indent, print_row, rows_text}
 use Rattle.yq_rows.proofs.AlikeRows.{row_gap_alike, dashes_text_alike}
-use Rattle.yq_rows.proofs.Alikes.{alike_append, alike_marker}
+use Rattle.yq_inline.proofs.Alikes.{alike_append, alike_marker}
 use Rattle.yq_rows.proofs.ExchangeLaws.{one_row, relimit, chain}
 use Rattle.yq_rows.proofs.NodeExchange.{mark_apart}
 use Rattle.yq_tree.specs.Lines.{dash_line, lines_from, row_lines, lines_of}
 use Rattle.yq_lines.specs.Outline as outline
 use Rattle.yq_lines.specs.Outline.{Line}
-use Rattle.yq_block.specs.BlockPlaces.{dashed_row, compact_row, compact_rows, IsUpto, at_mark, at_dash, IsAbove, Replaces, BeginsUpto}
+use Rattle.yq_rows.specs.Joined.{dashed_row, compact_row}
+use Rattle.yq_block.specs.BlockPlaces.{compact_rows, IsUpto, at_mark, at_dash, IsAbove, Replaces, BeginsUpto}
 use Rattle.yq_block.specs.BlockRows.{item_column}
 use Rattle.yq_block.proofs.LaidRows.{AreLaid, IsLaid, rows_append, text_append}
 use Rattle.yq_block.proofs.LineLaws.{BeginAt, no_head}
@@ -43,36 +44,36 @@ spaces_apart : (n : ℕ) (t : List ℕ) → 1 ≤ n → separates (replicate n 3
 spaces_apart zero t h = absurd (omega (arith, h))
 spaces_apart (suc n) t h = refl
 
-dash_seam : {limit : Limit} {r s : Row} {old : List ℕ} (u : List ℕ) → IsRow limit r old → IsUpto s r → s.mark ≡ Dash → separates u ≡ true → Alike false (behind_indent r old) (dashes_text s.dashes (45 ∷ u)) × AreDashes s.dashes Dash
+dash_seam : {limit : Limit} {r s : Row} {old : List ℕ} (u : List ℕ) → IsRow limit r old → IsUpto s r → s.mark ≡ Dash → separates u ≡ true → Alike (Some false) (behind_indent r old) (dashes_text s.dashes (45 ∷ u)) × AreDashes s.dashes Dash
 dash_seam {limit} {old} u h (at_mark {r} entry) last apart =
     let here : separates (content_text r.content old) ≡ true = mark_apart r.mark r.content old entry h.mark in
-    let seam : Alike false (mark_text r.mark (content_text r.content old)) (45 ∷ u) = subst (λ (m : Mark). Alike false (mark_text m (content_text r.content old)) (45 ∷ u)) (sym last) (byte refl refl here apart) in
+    let seam : Alike (Some false) (mark_text r.mark (content_text r.content old)) (45 ∷ u) = subst (λ (m : Mark). Alike (Some false) (mark_text m (content_text r.content old)) (45 ∷ u)) (sym last) (byte refl refl here apart) in
     (dashes_text_alike r.dashes _ _ seam, subst (AreDashes r.dashes) last h.dashes)
 dash_seam {limit} {old} u h (at_dash {r} {ns} n ms is) last apart =
     let t : List ℕ = dashes_text ms (behind_dashes r old) in
     let split = first_dashes ns (n ∷ ms) r.mark (subst (λ (ks : List ℕ). AreDashes ks r.mark) is h.dashes) in
-    let seam : Alike false (45 ∷ (replicate n 32 ++ t)) (45 ∷ u) = byte refl refl (spaces_apart n t split.1.0) apart in
+    let seam : Alike (Some false) (45 ∷ (replicate n 32 ++ t)) (45 ∷ u) = byte refl refl (spaces_apart n t split.1.0) apart in
     let joined : behind_indent r old ≡ dashes_text ns (45 ∷ (replicate n 32 ++ t)) = ap (λ (ks : List ℕ). dashes_text ks (behind_dashes r old)) is ∙ dashes_append ns (n ∷ ms) (behind_dashes r old) in
-    (subst (λ (l : List ℕ). Alike false l (dashes_text ns (45 ∷ u))) (sym joined) (dashes_text_alike ns _ _ seam), split.0)
+    (subst (λ (l : List ℕ). Alike (Some false) l (dashes_text ns (45 ∷ u))) (sym joined) (dashes_text_alike ns _ _ seam), split.0)
 
 -- a row that begins where another one does
 abbrev lined : Row → List ℕ → Mark → Content → Row
 lined r ns m x = record { gap = r.gap; column = r.column; dashes = ns; mark = m; content = x }
 
-like_row : (limit : Limit) (r : Row) (old ns : List ℕ) (m : Mark) (x : Content) (t : List ℕ) → IsRow limit r old → Alike false (behind_indent r old) (behind_indent (lined r ns m x) t) →
-    AreDashes ns m → IsMark m x t → IsContent (parent_indent (lined r ns m x)) x t → IsRow limit (lined r ns m x) t × Alike false (print_row r old) (print_row (lined r ns m x) t)
+like_row : (limit : Limit) (r : Row) (old ns : List ℕ) (m : Mark) (x : Content) (t : List ℕ) → IsRow limit r old → Alike (Some false) (behind_indent r old) (behind_indent (lined r ns m x) t) →
+    AreDashes ns m → IsMark m x t → IsContent (parent_indent (lined r ns m x)) x t → IsRow limit (lined r ns m x) t × Alike (Some false) (print_row r old) (print_row (lined r ns m x) t)
 like_row limit r old ns m x t h a dashes mark content =
     let u : List ℕ = behind_indent (lined r ns m x) t in
-    let indent = alike_append false (replicate r.column 32) _ _ a in (
+    let indent = alike_append (Some false) (replicate r.column 32) _ _ a in (
       record {
         gap = row_gap_alike r.gap (behind_gap r old) (replicate r.column 32 ++ u) indent h.gap;
         allowed = h.allowed;
-        unmarked = ap (λ b. eqb r.column 0 && b) (sym (alike_marker false (behind_indent r old) u a)) ∙ h.unmarked;
+        unmarked = ap (λ b. eqb r.column 0 && b) (sym (alike_marker (Some false) (behind_indent r old) u a)) ∙ h.unmarked;
         dashes = dashes;
         mark = mark;
         content = content;
       },
-      alike_append false r.gap _ _ indent,
+      alike_append (Some false) r.gap _ _ indent,
     )
 
 -- nothing, or an anchor, asks nothing of the next row
@@ -100,7 +101,7 @@ under_any limit row below column x (y ∷ rs) rest none laid deep =
     (subst (λ (l : Limit). AreRows l (y ∷ rs) [] rest) (sym (nothing_limit (parent_indent row) x none)) (laid.laid unlimited refl), λ c within. laid.follows c (omega (arith, within, deep)))
 
 upto_row : {limit : Limit} {r s : Row} {old : List ℕ} (x : Content) (t : List ℕ) → IsRow limit r old → IsUpto s r → IsContent (parent_indent s) x t → separates (content_text x t) ≡ true →
-    IsRow limit (with_content x s) t × Alike false (print_row r old) (print_row (with_content x s) t)
+    IsRow limit (with_content x s) t × Alike (Some false) (print_row r old) (print_row (with_content x s) t)
 upto_row {limit} {old} x t h (at_mark {r} entry) content apart =
     let placed = one_row limit r x old t h entry content apart in (placed.row, placed.alike)
 upto_row {limit} {old} x t h (at_dash {r} {ns} n ms is) content apart =
@@ -115,7 +116,7 @@ under_laid limit r s old x below rs rest h laid =
 
 -- rows on the line of a dash
 on_line : (limit : Limit) (r : Row) (old ds : List ℕ) (q : Row) (rs : List Row) (rest : List ℕ) → IsRow limit r old →
-    ((u : List ℕ) → separates u ≡ true → Alike false (behind_indent r old) (dashes_text ds (45 ∷ u)) × AreDashes ds Dash) →
+    ((u : List ℕ) → separates u ≡ true → Alike (Some false) (behind_indent r old) (dashes_text ds (45 ∷ u)) × AreDashes ds Dash) →
     IsLaid (item_column (behind_columns r.column ds)) q rs rest → Replaces limit (behind_columns r.column ds) r old (lined r (ds ++ 1 ∷ q.dashes) q.mark q.content ∷ rs) rest
 on_line limit r old ds q rs rest h seams laid =
     let new : Row = lined r (ds ++ 1 ∷ q.dashes) q.mark q.content in
@@ -128,7 +129,7 @@ on_line limit r old ds q rs rest h seams laid =
     let limits : limit_after q ≡ limit_after new = ap (λ n. limit_behind n q.content) same in
     let alone = laid.laid unlimited refl in
     let dashes = are_dashes ds q.dashes Dash q.mark laid.entry seam.1 (omega arith, laid.entry, alone.0.dashes) in
-    let first = like_row limit r old (ds ++ 1 ∷ q.dashes) q.mark q.content t h (subst (λ (l : List ℕ). Alike false (behind_indent r old) l) joined seam.0) dashes alone.0.mark (subst (λ n. IsContent n q.content t) same alone.0.content) in
+    let first = like_row limit r old (ds ++ 1 ∷ q.dashes) q.mark q.content t h (subst (λ (l : List ℕ). Alike (Some false) (behind_indent r old) l) joined seam.0) dashes alone.0.mark (subst (λ n. IsContent n q.content t) same alone.0.content) in
     record {
       rows = (first.0, subst (λ (l : Limit). AreRows l rs [] rest) limits alone.1);
       alike = first.1;
@@ -178,5 +179,5 @@ rows_replaced limit column before under after new r end rest h upto by =
     let tail : AreRows (limit_after r) (under ++ after) end rest = (rows_split limit before (r ∷ (under ++ after)) end rest h).1 in
     let left : AreRows (asked_behind (limit_after r) under) after end rest = rows_split (limit_after r) under after end rest tail in
     let again : AreRows (asked_behind asked new) after end rest = relimit _ (asked_behind asked new) after end rest (allowed_upto (asked_behind asked new) column after by.follow upto) left in
-    let alike = subst (λ (t : List ℕ). Alike false (print_row r (rows_text (under ++ after) (end ++ rest))) t) (sym (text_append new after (end ++ rest))) by.alike in
+    let alike = subst (λ (t : List ℕ). Alike (Some false) (print_row r (rows_text (under ++ after) (end ++ rest))) t) (sym (text_append new after (end ++ rest))) by.alike in
     (chain before (r ∷ (under ++ after)) (new ++ after) limit end rest end rest h (rows_append asked new after end rest by.rows again) alike).0

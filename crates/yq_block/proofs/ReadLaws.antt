@@ -13,14 +13,15 @@ use Rattle.yq_lines.specs.Comments.{head_comment}
 use Rattle.yq_rows.specs.Grammar.{is_entry, is_plain, unlimited, AreRows, no_rows}
 use Rattle.yq_rows.specs.Rows as rows
 use Rattle.yq_rows.specs.Rows.{Bare, Inline, Row, rows_text, last, cut_text}
-use Rattle.yq_tree.specs.Documents.{IsRoot, HasShortRoot, is_long_plain, first_gap, Reads, document_parts, AreDocuments}
+use Rattle.yq_rows.specs.Splices.{first_gap}
+use Rattle.yq_tree.specs.Documents.{IsRoot, HasShortRoot, is_long_plain, Reads, document_parts, AreDocuments}
 use Rattle.yq_lines.specs.Grammar.{IsNode, alone, mapping, sequence}
 use Rattle.yq_tree.specs.Lines.{lines_of}
 use Rattle.yq_lines.specs.Outline.{Line}
 use Rattle.std.proofs.Common.{not}
 use Rattle.yq_scalar.specs.BlockWritten.{break_text}
 use Rattle.yq_rows.proofs.PlainEnds.{end_line}
-use Rattle.yq_rows.proofs.Alikes.{no_first}
+use Rattle.yq_inline.proofs.Alikes.{no_first}
 use Rattle.yq_block.specs.BlockLaws.{ReadsAlone}
 use Rattle.yq_block.specs.BlockRows.{node_rows}
 use Rattle.yq_block.specs.BlockText.{block_node, block_value}

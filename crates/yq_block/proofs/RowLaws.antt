@@ -14,7 +14,7 @@ use Rattle.yq_inline.specs.Nodes.{node_text}
 use Rattle.yq_inline.specs.Valued.{IsLabel, IsValueTree, AreValueTrees}
 use Rattle.yq_rows.specs.Grammar.{is_plain, unlimited, allows, limit_behind, Limit, is_entry, IsMark, IsContent, IsRow}
 use Rattle.yq_rows.specs.Rows.{Nothing, Inline, Row, rows_text, Mark, Dash, Key, Content, content_text, mark_text, parent_of}
-use Rattle.yq_rows.proofs.Alikes.{sep_first}
+use Rattle.yq_inline.proofs.Alikes.{sep_first}
 use Rattle.yq_block.specs.BlockRows.{block_key, children_rows, column_below, end_before, entry_rows, indent_step, inline_of, key_row, node_rows}
 use Rattle.yq_block.specs.BlockValues.{EachHasNearKeys, HasNearKeys, IsEnd, IsFilled, IsNear, IsWritable}
 use Rattle.yq_block.specs.declared.layout.Layout.{Layout}

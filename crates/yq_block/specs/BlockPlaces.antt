@@ -1,24 +1,17 @@
 -- Rows that are put in the place of others, and values that are written there (own).
-use Rattle.std.specs.Prelude.{◌≡◌, ℕ, ◌≤◌, List, [], ◌∷◌, ◌++◌, true, false}
+use Rattle.std.specs.Prelude.{◌≡◌, ℕ, ◌≤◌, List, [], ◌∷◌, ◌++◌, true, false, Some}
 use Rattle.yq_scalar.specs.Text.{separates}
 use Rattle.yq_scalar.specs.Tree as tree
-use Rattle.yq_rows.specs.Alike.{Alike}
+use Rattle.yq_inline.specs.Alike.{Alike}
 use Rattle.yq_rows.specs.Alone.{holds_nothing}
 use Rattle.yq_rows.specs.Exchange.{asked_behind, with_content}
 use Rattle.yq_rows.specs.Grammar.{IsContent, is_entry, Limit, allows, IsRow, AreRows}
+use Rattle.yq_rows.specs.Joined.{dashed_row, compact_row}
 use Rattle.yq_rows.specs.Rows.{Dash, Content, Nothing, content_text, Row, parent_indent, mark_column, print_row, rows_text}
 use Rattle.yq_tree.specs.Lines.{row_lines, lines_of}
 use Rattle.yq_block.specs.declared.layout.Layout.{Layout}
 use Rattle.yq_block.specs.BlockRows.{item_column, node_rows}
 use Rattle.yq_block.specs.BlockValues.{InRows, IsWritable}
-
--- a row up to the dash behind these of its dashes, with another content (YAML 1.2.2, section 8.2.1; own)
-abbrev pub dashed_row : (dashes : List ℕ) → Content → Row → Row
-dashed_row dashes new r = record { gap = r.gap; column = r.column; dashes = dashes; mark = Dash; content = new }
-
--- a row on the line of another one's dash, behind so many spaces (YAML 1.2.2, section 8.2.1)
-abbrev pub compact_row : ℕ → Row → Row → Row
-compact_row n r q = record { gap = r.gap; column = r.column; dashes = r.dashes ++ (n ∷ q.dashes); mark = q.mark; content = q.content }
 
 -- rows of which the first one stands on the line of a row's dash, behind a space (YAML 1.2.2, section 8.2.1)
 abbrev pub compact_rows : Row → List Row → List Row
@@ -34,7 +27,7 @@ pub data IsUpto : Row → Row → Type 0 where
 -- any column up to this one (own).
 pub record Replaces (limit : Limit) (column : ℕ) (r : Row) (old : List ℕ) (new : List Row) (rest : List ℕ) : Type 0 where
   pub rows : AreRows limit new [] rest
-  pub alike : Alike false (print_row r old) (rows_text new rest)
+  pub alike : Alike (Some false) (print_row r old) (rows_text new rest)
   pub follow : (c : ℕ) → c ≤ column → allows (asked_behind limit new) c ≡ true
 
 -- A row, cut behind a key or dash where nothing but an anchor and the end of the line stands, is above rows at a column: it is no deeper (own).

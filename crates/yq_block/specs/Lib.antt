@@ -7,6 +7,7 @@ pub use Rattle.yq_rows.specs.Exchange
 pub use Rattle.yq_rows.specs.Grammar
 pub use Rattle.yq_rows.specs.Rows
 pub use Rattle.yq_tree.specs.Documents
+pub use Rattle.yq_tree.specs.TreeEdits
 pub use Rattle.yq_lines.specs.Outline
 pub mod BlockRows
 pub mod BlockText
@@ -14,3 +15,4 @@ pub mod BlockReading
 pub mod BlockValues
 pub mod BlockLaws
 pub mod BlockPlaces
+pub mod Alone

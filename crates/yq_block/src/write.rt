@@ -14,7 +14,7 @@ use yq_scalar::Place;
 
 /// Whether a value is a collection with an item or entry, which is written in rows.
 #[tactic(auto, using(crate::proofs::ListLaws::list_told, crate::proofs::ListLaws::map_told))]
-fn is_filled(value: &Value) -> bool
+pub fn is_filled(value: &Value) -> bool
     ensures { result ≡ spec.is_filled (node_of value.now) }
 {
     match value {
@@ -25,7 +25,7 @@ fn is_filled(value: &Value) -> bool
 }
 
 /// By how many columns a value stands deeper than its key.
-fn indent_step(layout: &Layout, value: &Value) -> usize
+pub fn indent_step(layout: &Layout, value: &Value) -> usize
     ensures { result ≡ rows.indent_step layout.now (node_of value.now) }
 {
     match value {

@@ -2,10 +2,10 @@
 
 mod documents;
 mod examples;
+mod inline_places;
 mod nodes;
 mod refused_memory;
 mod room;
-mod scalar_places;
 mod shown;
 mod spans;
 

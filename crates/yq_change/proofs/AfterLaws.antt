@@ -28,21 +28,21 @@ tail_same : {x y : Document} {xs ys : List Document} → x ∷ xs ≡ y ∷ ys �
 tail_same e = cc
 
 -- document k of a changed list
-nth_is : (k : ℕ) (p q : Part) (f : Document → Document) (ps : List Part) → slice_get ps k ≡ Some p → map document_of (change_nth k (λ x. q) ps) ≡ change_nth k f (map document_of ps) →
+pub nth_is : (k : ℕ) (p q : Part) (f : Document → Document) (ps : List Part) → slice_get ps k ≡ Some p → map document_of (change_nth k (λ x. q) ps) ≡ change_nth k f (map document_of ps) →
     document_of q ≡ f (document_of p)
 nth_is k p q f [] e same = absurd (cc)
 nth_is zero p q f (x ∷ ps) e same = head_same same ∙ ap (λ y. f (document_of y)) (part_same e)
 nth_is (suc k) p q f (x ∷ ps) e same = nth_is k p q f ps e (tail_same same)
 
 -- two changes that do the same to document k
-nth_same : (k : ℕ) (p : Part) (f g : Document → Document) (ps : List Part) → slice_get ps k ≡ Some p → f (document_of p) ≡ g (document_of p) →
+pub nth_same : (k : ℕ) (p : Part) (f g : Document → Document) (ps : List Part) → slice_get ps k ≡ Some p → f (document_of p) ≡ g (document_of p) →
     change_nth k f (map document_of ps) ≡ change_nth k g (map document_of ps)
 nth_same k p f g [] e same = refl
 nth_same zero p f g (x ∷ ps) e same = ap (λ d. d ∷ map document_of ps) (ap (λ y. f (document_of y)) (part_same e) ∙ (same ∙ ap (λ y. g (document_of y)) (sym (part_same e))))
 nth_same (suc k) p f g (x ∷ ps) e same = ap (λ ds. document_of x ∷ ds) (nth_same k p f g ps e same)
 
 -- the lead of a block root goes with it
-by_first : (cs : Children) (lead other : List (List ℕ)) → first_above cs ≡ Some lead → lead_by true cs other ≡ lead
+pub by_first : (cs : Children) (lead other : List (List ℕ)) → first_above cs ≡ Some lead → lead_by true cs other ≡ lead
 by_first none lead other e = cc
 by_first (child l n cs) lead other e = cc
 
@@ -55,7 +55,7 @@ after_block c k p q lead f there keeps h block =
     let same : lead_by true (children_of (f (root_of p))) (lead_of p) ≡ lead = by_first (children_of (f (root_of p))) lead (lead_of p) first in
     h.documents_are ∙ nth_same k p (changed lead f) (with_root_after true f) (document_parts c) there (λ i. record { lead = sym same i; root = f (root_of p) })
 
-none_kept : (block : Bool) (cs : Children) (lead : List (List ℕ)) → (block ≡ true → cs ≡ none) → lead_by block cs lead ≡ lead
+pub none_kept : (block : Bool) (cs : Children) (lead : List (List ℕ)) → (block ≡ true → cs ≡ none) → lead_by block cs lead ≡ lead
 none_kept false cs lead h = refl
 none_kept true cs lead h = ap (λ ds. lead_by true ds lead) (h refl)
 

@@ -7,9 +7,10 @@ use Rattle.yq_lines.specs.Comments.{head_comment}
 use Rattle.yq_rows.specs.Grammar.{no_rows, begins_document}
 use Rattle.yq_rows.specs.Rows.{Row, Part, Cut, last, marked, part_text, cut_text}
 use Rattle.yq_rows.proofs.PlaceLaws.{part_then}
-use Rattle.yq_tree.specs.Documents.{Document, IsRoot, parts_from, has_begin, begins_bare, document_parts, first_gap, lead_of}
+use Rattle.yq_tree.specs.Documents.{Document, IsRoot, parts_from, has_begin, begins_bare, document_parts, lead_of}
+use Rattle.yq_rows.specs.Splices.{first_gap}
 use Rattle.yq_tree.specs.Lines.{lines_from, lines_of}
-use Rattle.yq_lines.specs.Outline.{Line, Outline, end, row, flatten, value, null}
+use Rattle.yq_lines.specs.Outline.{Line, Outline, end, row, flatten, value, null_node}
 use Rattle.yq_tree.specs.Reading.{root_of, document_of, is_document, all_documents, read_at}
 use Rattle.yq_lines.proofs.ByRules.{rules_from}
 use Rattle.yq_tree.proofs.DocumentLaws.{is_document_of}
@@ -120,7 +121,7 @@ text_put c k p q there = texts_put (begins_bare c || not (has_begin c)) k p q c 
 root_of_lines : (ls : List Line) (root : Node) → StandsSomewhere ls root → IsRoot ls root
 root_of_lines [] root h = go h.1.outline h.1.lines_are h.1.node_is
   where
-    go : (o : Outline) → flatten o ≡ [] → value o ≡ root → root ≡ null
+    go : (o : Outline) → flatten o ≡ [] → value o ≡ root → root ≡ null_node
     go end e is = sym is
     go (row l u a) e is = absurd (cons_nil e)
       where

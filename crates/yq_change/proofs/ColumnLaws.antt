@@ -31,7 +31,7 @@ low_level : (l : Line) → 3 * l.column + 1 ≤ level l
 unfolding level
 low_level l = omega (arith, rank_small l.mark)
 
-high_level : (l : Line) → level l ≤ 3 * l.column + 3
+pub high_level : (l : Line) → level l ≤ 3 * l.column + 3
 unfolding level
 high_level l = omega (arith, rank_small l.mark)
 
@@ -45,7 +45,7 @@ unfolding level
 bare_high n above column c rest h = h.0
 
 -- limits
-allowed_content : (n : ℤ) (c : Content) (column : ℕ) → column < deeper n → allows (limit_behind n c) column ≡ true
+pub allowed_content : (n : ℤ) (c : Content) (column : ℕ) → column < deeper n → allows (limit_behind n c) column ≡ true
 allowed_content n (Nothing tail) column h = refl
 allowed_content n (Inline space node tail) column h = go (is_plain node)
   where
@@ -54,10 +54,10 @@ allowed_content n (Inline space node tail) column h = go (is_plain node)
     go false = refl
 allowed_content n (Block space anchor block) column h = refl
 
-below_entry : (column n : ℕ) → column ≤ n → column < deeper (pos n)
+pub below_entry : (column n : ℕ) → column ≤ n → column < deeper (pos n)
 below_entry column n h = omega (arith, h)
 
-below_node : (column n : ℕ) → column < n → column < deeper (before_column n)
+pub below_node : (column n : ℕ) → column < n → column < deeper (before_column n)
 below_node column zero h = omega (arith, h)
 below_node column (suc n) h = omega (arith, h)
 

@@ -54,7 +54,7 @@ use Rattle.yq_change.proofs.PartLaws.{part_numbered, rows_put, document_known, i
 use Rattle.yq_change.proofs.RemarkLaws.{fit_retail, short_retail, last_lines}
 
 -- the comment of a line's end
-abbrev told : List ℕ → Option (List ℕ)
+abbrev pub told : List ℕ → Option (List ℕ)
 told [] = None
 told (b ∷ cs) = Some (less_space cs)
 
@@ -65,7 +65,7 @@ end_no_hash (b ∷ t) h = false_from_ne_true (eqb b 35) (λ e. let is : b ≡ 35
 break_ends : (break : List ℕ) → IsBreak break [] → ends_line break ≡ true
 break_ends break e = ap ends_line (sym (append-nil break)) ∙ (behind_comment [] break [] tt e).2
 
-comment_is : (white comment break : List ℕ) → IsWhite white → IsComment comment break → IsBreak break [] → comment_text (white ++ (comment ++ break)) ≡ told comment
+pub comment_is : (white comment break : List ℕ) → IsWhite white → IsComment comment break → IsBreak break [] → comment_text (white ++ (comment ++ break)) ≡ told comment
 comment_is white comment break w c e =
     let parts = behind_comment comment break [] c e in
     let first : no_white (comment ++ break) ≡ true = ap (λ (x : List ℕ). no_white (comment ++ x)) (sym (append-nil break)) ∙ parts.0 in

@@ -28,7 +28,7 @@ use Rattle.yq_change.proofs.PlacedLaws.{whole_line}
 use Rattle.yq_tree.specs.TreeEdits.{replaced}
 
 -- a head that is an alias only where the old one is
-abbrev NoNewAlias : Node → Node → Type 0
+abbrev pub NoNewAlias : Node → Node → Type 0
 NoNewAlias n m = IsNoAlias (Some n) → IsNoAlias (Some m)
 
 within_alias : (h : Children → Children) (n : Node) → NoNewAlias n (within h n)
@@ -38,13 +38,13 @@ within_alias h (list a cs) e = tt
 within_alias h (map a cs) e = tt
 
 -- the anchor before a line that was found is no second one
-free_before : (before : List Line) (l : Line) (ls : List Line) → HaveOneAnchorEach (before ++ (l ∷ ls)) → IsFree (last_anchor before) (l ∷ ls)
+pub free_before : (before : List Line) (l : Line) (ls : List Line) → HaveOneAnchorEach (before ++ (l ∷ ls)) → IsFree (last_anchor before) (l ∷ ls)
 free_before [] l ls h = tt
 free_before (k ∷ []) l ls h = h.0
 free_before (k ∷ (m ∷ before)) l ls h = free_before (m ∷ before) l ls h.1
 
 -- a line with another head takes the anchor that the old one takes
-other_head : (a : Option (List ℕ)) (l : Line) (n m : Node) (ls ms : List Line) → l.head ≡ Some n → NoNewAlias n m → IsFree a (l ∷ ls) → IsFree a (with_head m l ∷ ms)
+pub other_head : (a : Option (List ℕ)) (l : Line) (n m : Node) (ls ms : List Line) → l.head ≡ Some n → NoNewAlias n m → IsFree a (l ∷ ls) → IsFree a (with_head m l ∷ ms)
 other_head None l n m ls ms e new h = tt
 other_head (Some a) l n m ls ms e new h = go l.mark l.anchor (subst (MayTake l.mark l.anchor) e h)
   where
@@ -54,7 +54,7 @@ other_head (Some a) l n m ls ms e new h = go l.mark l.anchor (subst (MayTake l.m
     go (Key j) b h = tt
     go Dash b h = tt
 
-none_under : (h : Option Node) (n : Node) (u : Outline) → h ≡ Some n → IsOpen h u → u ≡ end
+pub none_under : (h : Option Node) (n : Node) (u : Outline) → h ≡ Some n → IsOpen h u → u ≡ end
 none_under None n u e o = absurd (none_some e)
   where
     none_some : {x : Node} → None ≡ Some x → ⊥
@@ -70,7 +70,7 @@ still_whole (Key k) h n v o e w = tt
 still_whole Dash h n v o e w = tt
 
 -- a line with another head
-changed_head : (t : List ℕ) (c : Cut) (k : ℕ) (p q : Part) (s : Step) (ss rest : List Step) (f : Found) (n m : Node) (g : Node → Node) → IsPut t c k p q →
+pub changed_head : (t : List ℕ) (c : Cut) (k : ℕ) (p q : Part) (s : Step) (ss rest : List Step) (f : Found) (n m : Node) (g : Node → Node) → IsPut t c k p q →
     find s ss (outline_of p) ≡ Some (f, rest) → f.line.head ≡ Some n → NoNewAlias n m → anchored f.line.anchor m ≡ change rest g (anchored f.line.anchor n) →
     lines_of q.rows ≡ with_lines f (with_head m f.line ∷ []) →
     IsSoundRoot (change (s ∷ ss) g (root_of p)) → IsChanged c (put_document k q c) k (lead_of p) (change (s ∷ ss) g)

@@ -16,7 +16,7 @@ use Rattle.yq_lines.proofs.HeadLaws.{comments_behind, head_repaired}
 use Rattle.yq_rows.proofs.seams.GapFronts.{lines_joined_of}
 use Rattle.yq_rows.proofs.NothingLaws.{some_behind}
 use Rattle.yq_rows.proofs.seams.SeamLaws.{line_by_break}
-use Rattle.yq_tree.specs.CommentPlaces.{before_run, last_run}
+use Rattle.yq_tree.specs.Pieces.{before_run, last_run}
 
 -- the head comment of a gap, in front of which lines stand that end in no comment
 pub head_joined : (kept next x : List ℕ) → IsGap kept x → is_empty x ≡ false → head_comment kept ≡ [] → head_comment (kept ++ next) ≡ head_comment next
@@ -44,14 +44,6 @@ none_before (l ∷ ls) = ⊎_elim {0, 0, 0}
     (is_true (are_comments (l ∷ before_run ls))) in
     ap last_comments (cond-false (are_comments (l ∷ ls)) [] (l ∷ before_run ls) e) ∙ (cond-false _ _ _ open' ∙ none_before ls))
     (is_true (are_comments (l ∷ ls)))
-
-pub run_parts : (ls : Lines) → ls ≡ before_run ls ++ last_run ls
-run_parts [] = refl
-run_parts (l ∷ ls) = go (are_comments (l ∷ ls)) (run_parts ls)
-  where
-    go : (b : Bool) → ls ≡ before_run ls ++ last_run ls → l ∷ ls ≡ cond b [] (l ∷ before_run ls) ++ cond b (l ∷ ls) (last_run ls)
-    go true h = refl
-    go false h = ap (λ (x : Lines). l ∷ x) h
 
 -- each line has its break
 abbrev AreLines : Lines → Type 0

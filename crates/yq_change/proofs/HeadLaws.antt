@@ -31,7 +31,7 @@ use Rattle.yq_rows.proofs.seams.SeamLaws.{rows_drop}
 use Rattle.yq_rows.proofs.seams.FrontSeams.{behind_row_some, seams_any, seams_were}
 use Rattle.yq_rows.proofs.seams.GapFronts.{gap_joined}
 use Rattle.yq_rows.proofs.splices.PartPlaces.{part_in}
-use Rattle.yq_tree.specs.CommentPlaces.{before_run, last_run}
+use Rattle.yq_tree.specs.Pieces.{before_run, last_run}
 use Rattle.yq_tree.specs.Documents.{HaveFitKeys, HasShortRoot}
 use Rattle.yq_lines.specs.Group.{level_or}
 use Rattle.yq_lines.specs.Laws.{with_lines}
@@ -48,7 +48,8 @@ use Rattle.yq_change.specs.DocumentRows.{behind_document, part_number, RowsFit}
 use Rattle.yq_change.proofs.ApartLaws.{even_closed}
 use Rattle.yq_change.proofs.AppendLaws.{block_seam, no_block}
 use Rattle.yq_change.proofs.ColumnLaws.{apart_first, block_is_deeper, last_closed}
-use Rattle.yq_change.proofs.GapLaws.{none_before, run_parts}
+use Rattle.yq_tree.proofs.RemovalTexts.{run_parts}
+use Rattle.yq_change.proofs.GapLaws.{none_before}
 use Rattle.yq_change.proofs.PartLaws.{part_numbered, document_known, document_spliced, is_put, some_behind as some_rows, take_front, drop_front}
 use Rattle.yq_change.proofs.RemarkLaws.{one_line}
 use Rattle.yq_tree.specs.TreeEdits.{with_head_comment}

@@ -175,7 +175,7 @@ pub path_is_entry : PathIsEntry
 path_is_entry p m steps s n even e = line_at steps s (outline_of p) (found_at (steps ++ (s ∷ [])) (outline_of p)) n (path_sits steps s m (outline_of p) even) (sym (line_found (steps ++ (s ∷ [])) p.rows) ∙ e)
 
 -- the seat of a path
-seat_line : (rows : List Row) (o : Option ℕ) (x : Seat) → (o >>= λ n. seat n rows) ≡ Some x → (n : ℕ) × (o ≡ Some n) × (seat n rows ≡ Some x)
+pub seat_line : (rows : List Row) (o : Option ℕ) (x : Seat) → (o >>= λ n. seat n rows) ≡ Some x → (n : ℕ) × (o ≡ Some n) × (seat n rows ≡ Some x)
 seat_line rows None x e = absurd (none_some e)
 seat_line rows (Some n) x e = (n, refl, e)
 
@@ -191,7 +191,7 @@ same_rows (x ∷ front) (y ∷ other) a b e n = let r = same_rows front other a 
     tail_same : {x y : Row} {xs ys : List Row} → x ∷ xs ≡ y ∷ ys → xs ≡ ys
     tail_same e = cc
 
-seat_number : (rows front back : List Row) (n : ℕ) (x : Seat) → seat n rows ≡ Some x → rows ≡ front ++ (x.row ∷ back) → length front ≡ x.before → n ≡ length (lines_of front) + x.line
+pub seat_number : (rows front back : List Row) (n : ℕ) (x : Seat) → seat n rows ≡ Some x → rows ≡ front ++ (x.row ∷ back) → length front ≡ x.before → n ≡ length (lines_of front) + x.line
 seat_number rows front back n x e is before =
     let w = seat_splits n rows x e in
     let same : w.front ≡ front = same_rows w.front front (x.row ∷ w.back) (x.row ∷ back) (sym w.rows_are ∙ is) (w.before ∙ sym before) in

@@ -55,7 +55,7 @@ some_same : {A : Type 0} {x y : A} → Some x ≡ Some y → x ≡ y
 some_same e = cc
 
 -- the same around the lines of a node
-whole_lines : (o : Outline) (steps : List Step) (h : NodeLines) → lines_at steps o ≡ Some h → flatten o ≡ put_lines h (flatten h.lines)
+pub whole_lines : (o : Outline) (steps : List Step) (h : NodeLines) → lines_at steps o ≡ Some h → flatten o ≡ put_lines h (flatten h.lines)
 whole_lines o [] h e = subst (λ (x : NodeLines). flatten o ≡ put_lines x (flatten x.lines)) (some_same e) (sym (append-nil (flatten o)))
 whole_lines o (s ∷ ss) h e = found (lines_found s ss o h e)
   where

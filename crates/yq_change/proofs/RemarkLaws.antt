@@ -11,7 +11,7 @@ use Rattle.yq_rows.proofs.splices.RowReplaced.{tail_replaced}
 use Rattle.yq_tree.specs.Documents.{HaveFitKeys, HasShortRoot, MarkIsFit, ContentHasFitKeys, has_lines, is_long_plain, lead_of}
 use Rattle.yq_lines.specs.Group.{level_or}
 use Rattle.yq_lines.specs.Laws.{with_lines}
-use Rattle.yq_tree.specs.Lines.{anchor_of, head_of, tail_of, mark_line, lines_of}
+use Rattle.yq_tree.specs.Lines.{content_anchor, head_of, tail_of, mark_line, lines_of}
 use Rattle.yq_lines.specs.Outline.{Line, level, flatten, label}
 use Rattle.yq_lines.specs.Places.{lines_before, lines_after, Found}
 use Rattle.yq_tree.specs.Reading.{outline_of}
@@ -63,7 +63,7 @@ head_stays (Nothing x) tail = refl
 head_stays (Inline space node x) tail = refl
 head_stays (Block space anchor block) tail = refl
 
-anchor_stays : (c : Content) (tail : List ℕ) → anchor_of (with_tail tail c) ≡ anchor_of c
+anchor_stays : (c : Content) (tail : List ℕ) → content_anchor (with_tail tail c) ≡ content_anchor c
 anchor_stays (Nothing x) tail = refl
 anchor_stays (Inline space node x) tail = refl
 anchor_stays (Block space anchor block) tail = refl
@@ -99,8 +99,8 @@ short_retail [] r back tail h = long_tail r.mark r.content tail ∙ h
 short_retail (q ∷ front) r back tail h = h
 
 pub lead_retail : (front : List Row) (r : Row) (back : List Row) (tail : List ℕ) (p q : Part) → p.rows ≡ front ++ (r ∷ back) → q.rows ≡ front ++ (retail tail r ∷ back) → lead_of q ≡ lead_of p
-lead_retail [] r back tail p q e n = ap (λ (rs : List Row). head_comment (Rattle.yq_tree.specs.Documents.first_gap rs q.end)) n ∙ ap (λ (rs : List Row). head_comment (Rattle.yq_tree.specs.Documents.first_gap rs p.end)) (sym e)
-lead_retail (x ∷ front) r back tail p q e n = ap (λ (rs : List Row). head_comment (Rattle.yq_tree.specs.Documents.first_gap rs q.end)) n ∙ ap (λ (rs : List Row). head_comment (Rattle.yq_tree.specs.Documents.first_gap rs p.end)) (sym e)
+lead_retail [] r back tail p q e n = ap (λ (rs : List Row). head_comment (Rattle.yq_rows.specs.Splices.first_gap rs q.end)) n ∙ ap (λ (rs : List Row). head_comment (Rattle.yq_rows.specs.Splices.first_gap rs p.end)) (sym e)
+lead_retail (x ∷ front) r back tail p q e n = ap (λ (rs : List Row). head_comment (Rattle.yq_rows.specs.Splices.first_gap rs q.end)) n ∙ ap (λ (rs : List Row). head_comment (Rattle.yq_rows.specs.Splices.first_gap rs p.end)) (sym e)
 
 -- the lines of rows, of which one has another tail
 pub last_lines : (front : List Row) (r : Row) (back : List Row) (c : Content) →

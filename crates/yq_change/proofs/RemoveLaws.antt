@@ -2,7 +2,7 @@
 use Rattle.std.proofs.Common.{◌≡◌, ℕ, ◌+◌, ◌≤◌, List, [], ◌∷◌, ◌++◌, length, take, drop, true, false, refl, sym, ap, ◌∙◌, subst, length-append}
 use Rattle.std.proofs.lemmas.Bool.{false≢true}
 use Rattle.yq_scalar.specs.Characters.{is_text, text_limit}
-use Rattle.yq_scalar.specs.Paths.{Step}
+use Rattle.yq_scalar.specs.Paths.{Step, change, remove_child, within}
 use Rattle.yq_scalar.specs.Text.{is_empty, joined, lines_of as text_lines}
 use Rattle.yq_lines.specs.Comments.{head_comment}
 use Rattle.yq_rows.specs.Exchange.{allows_first, asked_behind}
@@ -19,19 +19,22 @@ use Rattle.yq_rows.proofs.NothingLaws.{some_behind}
 use Rattle.yq_rows.proofs.seams.SeamLaws.{rows_drop}
 use Rattle.yq_rows.proofs.seams.FrontSeams.{behind_row_some}
 use Rattle.yq_rows.proofs.splices.PartPlaces.{part_in}
-use Rattle.yq_tree.specs.CommentPlaces.{before_run, last_run}
-use Rattle.yq_tree.specs.Documents.{HaveFitKeys, HasShortRoot, is_long_plain}
+use Rattle.yq_tree.specs.Pieces.{before_run, last_run}
+use Rattle.yq_tree.specs.Documents.{HaveFitKeys, HasShortRoot, is_long_plain, lead_of}
+use Rattle.yq_lines.specs.Anchors.{names_of}
+use Rattle.yq_tree.proofs.RemovalTexts.{run_parts}
 use Rattle.yq_lines.specs.Group.{level_or}
 use Rattle.yq_lines.specs.Laws.{with_lines}
 use Rattle.yq_tree.specs.Lines.{row_lines, lines_of}
 use Rattle.yq_lines.specs.Outline.{Line, level, Outline, flatten}
 use Rattle.yq_lines.specs.Outline.{end}
 use Rattle.yq_lines.specs.Outline.{row}
-use Rattle.yq_lines.specs.Places.{lines_before, lines_after, plug, Found}
-use Rattle.yq_tree.specs.Reading.{outline_of}
+use Rattle.yq_lines.specs.Places.{lines_before, lines_after, plug, Found, content}
+use Rattle.yq_tree.specs.Reading.{outline_of, root_of}
 use Rattle.yq_tree.specs.RowPaths.{IsReadable}
-use Rattle.yq_change.specs.Changed.{put_document}
-use Rattle.yq_change.specs.Conditions.{BeginsEntry}
+use Rattle.yq_change.specs.Changed.{IsChanged, put_document}
+use Rattle.yq_change.specs.Conditions.{AreSpared, BeginsEntry}
+use Rattle.yq_change.specs.EntryRows.{HasRows}
 use Rattle.yq_change.specs.Siblings.{IsEntryAt, IsEntry, HasEntries, NodeLines, put_lines}
 use Rattle.yq_change.proofs.AnchorLaws.{both_anew, collection_anew, fit_parts, fit_from, lines_among}
 use Rattle.yq_change.proofs.CollectionLaws.{Splits, some_at}
@@ -46,7 +49,7 @@ use Rattle.yq_change.specs.Removes.{left_gap, without, BlockRemoved}
 use Rattle.yq_change.proofs.ApartLaws.{entries_apart, even_closed}
 use Rattle.yq_change.proofs.AppendLaws.{block_lines, rows_with}
 use Rattle.yq_change.proofs.ColumnLaws.{closed_stands_less, next_stays}
-use Rattle.yq_change.proofs.GapLaws.{head_left, none_before, run_parts}
+use Rattle.yq_change.proofs.GapLaws.{head_left, none_before}
 use Rattle.yq_change.proofs.PartLaws.{part_numbered, rows_put, document_known, is_put, take_front, drop_front, drop_gone}
 
 -- rows with another gap before them
@@ -150,8 +153,13 @@ removed_cut t c k p front gone back old cut rows some next less text =
     (removed_repaired t c n i j ks (last_run ls) cut fits
     (ap (λ (x : Cut). is_text (cut_text x)) same ∙ text.characters) (subst (λ (x : Cut). length (cut_text x) ≤ text_limit) (sym same) text.size))
 
-pub block_removed : BlockRemoved
-block_removed t c k p steps s h f front gone back old at left has spared text =
+-- One of several items or entries taken out, and the lines that are left.
+pub block_gone : (t : List ℕ) (c : Cut) (k : ℕ) (p : Part) (steps : List Step) (s : Step) (h : NodeLines) (f : Found) (front gone back : List Row) → IsDocumentPart t c k p →
+    IsEntryAt steps s (outline_of p) h f → HasEntries (plug f.place f.after) → HasRows p h f front gone back →
+    AreSpared (names_of (content f.line f.under)) [] (names_of (root_of p)) → IsReadable (cut_text (put_document k (without front gone back p) c)) →
+    IsChanged c (put_document k (without front gone back p) c) k (lead_of (without front gone back p)) (change steps (within (remove_child s))) ×
+    (lines_of (without front gone back p).rows ≡ put_lines h (with_lines f []))
+block_gone t c k p steps s h f front gone back old at left has spared text =
     let known = document_known t c k p old in
     let o : Outline = outline_of p in
     let q : Part = without front gone back p in
@@ -200,4 +208,7 @@ block_removed t c k p steps s h f front gone back old at left has spared text =
     let put = is_put t c k p q old (rows_inside q.rows (lines_before h.place) (with_lines f []) (lines_after h.place) lines (left_lines s h f (some_at s h.lines f at.found) left)) text cut
     (fit_from front (with_first_gap gap back) keys.0 (gap_fit gap back (fit_parts gone back keys.1).1))
     (short_left front gone back gap limit p.end rest (subst HasShortRoot has.rows_are known.document.short) further (subst BeginsEntry (sym parts.2) (behind_entry (level_or 0 o) o steps s h f known.even at))) in
-    entry_removed t c k p q steps h s f put at left lines spared
+    (entry_removed t c k p q steps h s f put at left lines spared, lines)
+
+pub block_removed : BlockRemoved
+block_removed t c k p steps s h f front gone back old at left has spared text = (block_gone t c k p steps s h f front gone back old at left has spared text).0

@@ -1,10 +1,10 @@
 -- One row in the place of another one, and line comments that stand in a row's content.
-use Rattle.std.proofs.Common.{◌≡◌, ℕ, ◌+◌, List, [], ◌∷◌, ◌++◌, length, Option, false, refl, sym, ap, ◌∙◌, subst, length-append}
+use Rattle.std.proofs.Common.{◌≡◌, ℕ, ◌+◌, List, [], ◌∷◌, ◌++◌, length, Option, Some, false, refl, sym, ap, ◌∙◌, subst, length-append}
 use Rattle.yq_scalar.specs.Block.{BlockText}
 use Rattle.yq_lines.specs.Comments.{head_comment, line_comment}
 use Rattle.yq_lines.specs.Laws.{with_lines}
 use Rattle.yq_lines.specs.Outline.{Line, level, flatten, label}
-use Rattle.yq_rows.specs.Alike.{Alike}
+use Rattle.yq_inline.specs.Alike.{Alike}
 use Rattle.yq_rows.specs.Exchange.{asked_behind, with_content}
 use Rattle.yq_rows.specs.Gap.{IsGap}
 use Rattle.yq_rows.specs.Grammar.{unlimited, AreRows, IsRow, no_rows}
@@ -13,7 +13,6 @@ use Rattle.yq_rows.specs.Rows.{Content, Block, Row, mark_column, print_row, rows
 use Rattle.yq_rows.specs.Splices.{behind_first, first_gap}
 use Rattle.yq_rows.proofs.seams.SeamLaws.{rows_drop}
 use Rattle.yq_rows.proofs.splices.SpliceTexts.{first_is, first_text}
-use Rattle.yq_tree.specs.Documents as documents
 use Rattle.yq_tree.specs.Documents.{HaveFitKeys, HasShortRoot, is_long_plain, lead_of}
 use Rattle.yq_tree.specs.Lines.{mark_line, tail_of, lines_of}
 use Rattle.yq_tree.specs.TreeEdits.{with_line_comment}
@@ -34,7 +33,7 @@ use Rattle.yq_change.proofs.RemarkLaws.{last_lines, one_line}
 use Rattle.yq_change.proofs.ReplaceLaws.{document_replaced, rows_before_some}
 
 -- rows behind rows
-rows_behind : (front back : List Row) (end rest : List ℕ) (p : Part) → p.rows ≡ front ++ back → AreRows unlimited p.rows end rest → (P : List Row → Type 0) →
+pub rows_behind : (front back : List Row) (end rest : List ℕ) (p : Part) → p.rows ≡ front ++ back → AreRows unlimited p.rows end rest → (P : List Row → Type 0) →
     ((a : List Row) → AreRows (asked_behind unlimited a) back end rest → P back) → P back
 rows_behind front back end rest p e h P f =
     f (Rattle.std.specs.Prelude.take (length front) p.rows) (subst (λ (rs : List Row). AreRows (asked_behind unlimited (Rattle.std.specs.Prelude.take (length front) p.rows)) rs end rest) (drop_front p front back e)
@@ -54,15 +53,15 @@ row_replaces t c k p front back r new old takes =
       some = refl;
       new_are = (subst (λ (u : List ℕ). IsRow (asked_behind unlimited front) new u) text takes.takes.row, is_gap);
       next = takes.next;
-      alike = subst (λ (u : List ℕ). Alike false (print_row r (rows_text back (p.end ++ rest))) (print_row new u)) text takes.takes.alike;
+      alike = subst (λ (u : List ℕ). Alike (Some false) (print_row r (rows_text back (p.end ++ rest))) (print_row new u)) text takes.takes.alike;
     }
 
 -- the lead stays with the gap of the first row
-lead_content : (front : List Row) (r : Row) (new : Content) (back : List Row) (p q : Part) → p.rows ≡ front ++ (r ∷ back) → q.rows ≡ front ++ (with_content new r ∷ back) → lead_of q ≡ lead_of p
+pub lead_content : (front : List Row) (r : Row) (new : Content) (back : List Row) (p q : Part) → p.rows ≡ front ++ (r ∷ back) → q.rows ≡ front ++ (with_content new r ∷ back) → lead_of q ≡ lead_of p
 lead_content [] r new back p q e n =
-    ap (λ (rs : List Row). head_comment (documents.first_gap rs q.end)) n ∙ ap (λ (rs : List Row). head_comment (documents.first_gap rs p.end)) (sym e)
+    ap (λ (rs : List Row). head_comment (Rattle.yq_rows.specs.Splices.first_gap rs q.end)) n ∙ ap (λ (rs : List Row). head_comment (Rattle.yq_rows.specs.Splices.first_gap rs p.end)) (sym e)
 lead_content (x ∷ front) r new back p q e n =
-    ap (λ (rs : List Row). head_comment (documents.first_gap rs q.end)) n ∙ ap (λ (rs : List Row). head_comment (documents.first_gap rs p.end)) (sym e)
+    ap (λ (rs : List Row). head_comment (Rattle.yq_rows.specs.Splices.first_gap rs q.end)) n ∙ ap (λ (rs : List Row). head_comment (Rattle.yq_rows.specs.Splices.first_gap rs p.end)) (sym e)
 
 pub content_commented : ContentCommented
 unfolding level
@@ -103,7 +102,7 @@ block_commented t c k p steps s h f front back r space anchor block tail old at 
     let new : Content = with_header_tail tail space anchor block in
     content_commented t c k p steps s h f front back r new old at takes (record {
       head_is = ap Rattle.yq_tree.specs.Lines.head_of (sym is);
-      anchor_is = ap Rattle.yq_tree.specs.Lines.anchor_of (sym is);
+      anchor_is = ap Rattle.yq_tree.specs.Lines.content_anchor (sym is);
       keys = tt;
       short = block_short r.mark space anchor (record block { tail = tail });
     }) number text

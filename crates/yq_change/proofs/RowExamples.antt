@@ -28,7 +28,7 @@ use Rattle.yq_change.proofs.AppendLaws.{block_appended}
 use Rattle.yq_lines.specs.Places.{Found, find}
 use Rattle.yq_lines.specs.Outline.{Line}
 use Rattle.yq_scalar.specs.Paths.{To}
-use Rattle.yq_rows.specs.Alike.{Alike, after, byte}
+use Rattle.yq_inline.specs.Alike.{Alike, after, byte}
 use Rattle.yq_rows.specs.Rows.{rows_text}
 use Rattle.yq_tree.specs.Lines.{mark_line}
 use Rattle.yq_tree.specs.TreeEdits.{replaced}
@@ -120,7 +120,7 @@ x_there : find (To (codes "a")) [] (outline_of old_part) ≡ Some (x_found, [])
 unfolding level text.lines_of content_of contents.content_on
 x_there = refl
 
-alike : Alike false (rows_text ((a_entry ∷ []) ++ []) []) (rows_text (y_entry ∷ []) [])
+alike : Alike (Some false) (rows_text ((a_entry ∷ []) ++ []) []) (rows_text (y_entry ∷ []) [])
 unfolding inline.node_text
 alike = after (byte refl refl refl refl)
 

@@ -5,7 +5,7 @@ use Rattle.yq_scalar.specs.Text.{joined, lines_of as text_lines}
 use Rattle.yq_lines.specs.Comments.{head_comment}
 use Rattle.yq_rows.specs.Gap.{IsGap}
 use Rattle.yq_rows.specs.Rows.{Row, behind_gap, rows_text, Part, Cut, cut_text}
-use Rattle.yq_tree.specs.CommentPlaces.{before_run}
+use Rattle.yq_tree.specs.Pieces.{before_run}
 use Rattle.yq_tree.specs.Documents.{lead_of}
 use Rattle.yq_tree.specs.Lines.{lines_of}
 use Rattle.yq_lines.specs.Places.{Found}

@@ -5,7 +5,7 @@ use Rattle.yq_scalar.specs.Tree.{Node}
 use Rattle.yq_lines.specs.Anchors.{names_of, HaveOneAnchorEach}
 use Rattle.yq_lines.specs.Outline.{Line, Outline, flatten}
 use Rattle.yq_lines.specs.Places.{lines_before, plug, Found, find, content}
-use Rattle.yq_rows.specs.Alike.{Alike}
+use Rattle.yq_inline.specs.Alike.{Alike}
 use Rattle.yq_rows.specs.Exchange.{allows_first, asked_behind}
 use Rattle.yq_rows.specs.Grammar.{unlimited, AreRows, IsCut, no_rows}
 use Rattle.yq_rows.specs.Rows.{Row, behind_columns, rows_text, Part, Cut, cut_text}
@@ -32,7 +32,7 @@ pub record RowsReplace (front gone new back : List Row) (gap : List ℕ) (p : Pa
   pub some : no_rows gone ≡ false
   pub new_are : AreRows (asked_behind unlimited front) new gap (behind_first back p.end rest)
   pub next : allows_first (asked_behind (asked_behind unlimited front) new) back ≡ true
-  pub alike : Alike false (rows_text (gone ++ back) (p.end ++ rest)) (rows_text new (gap ++ behind_first back p.end rest))
+  pub alike : Alike (Some false) (rows_text (gone ++ back) (p.end ++ rest)) (rows_text new (gap ++ behind_first back p.end rest))
 
 -- A cut in which rows of a document give way to others whose text begins like theirs is a cut, where the new text may stand.
 abbrev pub DocumentReplaced : Type 0

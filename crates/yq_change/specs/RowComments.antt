@@ -11,7 +11,7 @@ use Rattle.yq_rows.specs.Rows.{Content, Block, Row, rows_text, Part, Cut, cut_te
 use Rattle.yq_rows.specs.Seams.{TakesPlace}
 use Rattle.yq_rows.specs.Splices.{first_gap}
 use Rattle.yq_tree.specs.Documents.{ContentHasFitKeys, is_long_plain, lead_of}
-use Rattle.yq_tree.specs.Lines.{anchor_of, head_of, tail_of, lines_of}
+use Rattle.yq_tree.specs.Lines.{content_anchor, head_of, tail_of, lines_of}
 use Rattle.yq_tree.specs.Reading.{outline_of}
 use Rattle.yq_tree.specs.RowPaths.{IsReadable}
 use Rattle.yq_tree.specs.TreeEdits.{with_line_comment}
@@ -37,7 +37,7 @@ RowReplaces =
 -- A content spells what another one does, and may have another tail.
 pub record SpellsAlike (mark : rows.Mark) (old new : Content) : Type 0 where
   pub head_is : head_of new ≡ head_of old
-  pub anchor_is : anchor_of new ≡ anchor_of old
+  pub anchor_is : content_anchor new ≡ content_anchor old
   pub keys : ContentHasFitKeys new
   pub short : is_long_plain mark new ≡ false
 

@@ -3,13 +3,20 @@ ghost use Rattle.yq_change.specs.Appends.{BlockAppended};
 ghost use Rattle.yq_change.specs.Columns.{BlockIsDeeper, ClosedStandsLess, NextAllowed, NextStays};
 ghost use Rattle.yq_change.specs.Ends.{EndAppended};
 ghost use Rattle.yq_change.specs.Heads.{HeadCommented};
+ghost use Rattle.yq_change.specs.Contents.{EntryContentReplaced, LowerContentReplaced, RootContentReplaced};
+ghost use Rattle.yq_change.specs.InlineRows.{InlinePlaced, InlineReplaced};
 ghost use Rattle.yq_change.specs.DocumentRows.{DocumentKnown, DocumentSpliced, PartNumbered, RowsPut};
 ghost use Rattle.yq_change.specs.Remarks.{LineCommented};
 ghost use Rattle.yq_change.specs.PathRows.{PathHasRows, PathHeadCommented, PathIsEntry, PathLineCommented};
+ghost use Rattle.yq_change.specs.PathTails.{PathTailPut};
+ghost use Rattle.yq_change.specs.PlacedParts.{DocumentStandsAt};
 ghost use Rattle.yq_change.specs.RowComments.{BlockCommented, ContentCommented, RowReplaces};
 ghost use Rattle.yq_change.specs.EntryRows.{CollectionRows, EntryRows};
+ghost use Rattle.yq_change.specs.FlowKept.{FlowKeys, FlowRooms, LeftKeys};
+ghost use Rattle.yq_change.specs.FlowRows.{FlowEdited, FlowFound, FlowStands, RowTexts};
 ghost use Rattle.yq_change.specs.Removes.{BlockRemoved};
 ghost use Rattle.yq_change.specs.Replaces.{DocumentReplaced, DocumentRooted, FirstRowDropped, FirstRowMoved, NodeRowsReplaced, RootRowsReplaced, RootRowsRewritten};
+ghost use Rattle.yq_change.specs.LineFronts.{CleanCut, LineEndsClean};
 ghost use Rattle.yq_change.specs.LineRows.{EntriesApart, EvenClosed, LinesApart, RowBegins, SeatSplits};
 
 /// Rows of a document exchanged, by the document's number among the parts.
@@ -94,4 +101,42 @@ pub fn row_commented()
     ensures row { RowReplaces }
     ensures content { ContentCommented }
     ensures block { BlockCommented }
+{}
+
+/// The end of the line of an item or entry exchanged, also in the header of a block scalar; and where
+/// a document stands in its text.
+pub fn line_commented()
+    ensures tail { PathTailPut }
+    ensures stands { DocumentStandsAt }
+{}
+
+/// A text cut before the end of a line.
+pub fn line_fronts()
+    ensures cut { CleanCut }
+    ensures clean { LineEndsClean }
+{}
+
+/// What is written behind the mark of one row gives way to a value: behind a key or dash, alone on
+/// the line under it, or as a root.
+pub fn content_replaced()
+    ensures placed { InlinePlaced }
+    ensures inline { InlineReplaced }
+    ensures entry { EntryContentReplaced }
+    ensures lower { LowerContentReplaced }
+    ensures root { RootContentReplaced }
+{}
+
+/// A flow collection at a path, and its items or entries changed.
+pub fn flow_changed()
+    ensures found { FlowFound }
+    ensures texts { RowTexts }
+    ensures stands { FlowStands }
+    ensures edited { FlowEdited }
+{}
+
+/// What stays of the document.
+pub fn flow_kept()
+    ensures rooms { FlowRooms }
+    ensures keys { FlowKeys }
+    ensures left { LeftKeys }
 {}

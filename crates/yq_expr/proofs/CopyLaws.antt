@@ -8,7 +8,7 @@ use Rattle.yq_tree.specs.Counts.{count}
 use Rattle.yq_tree.specs.Nodes.{kind_of}
 use Rattle.yq_tree.specs.declared.nodes.node.NodeKind.TheVariants as kinds
 use Rattle.yq_expr.specs.Copies.{and_others, keyed, copy, item_copies, entry_copies}
-use Rattle.yq_expr.specs.Judgement.{Judgement, gives, refuses, unbuilt, and_then}
+use Rattle.yq_expr.specs.Judgement.{Judgement, gives, refuses, and_then}
 use Rattle.yq_expr.specs.PlaceView.{put_behind}
 
 -- one more behind what is there
@@ -19,7 +19,6 @@ put_one {V} {A} g before v j others h = ap (λ k. put_behind before (and_then (�
     go : (k : Judgement (List A)) → put_behind before (and_others k (g v)) ≡ put_behind (before ++ g v ∷ []) k
     go (gives xs) = ap gives (sym (append_assoc before (g v ∷ []) xs))
     go (refuses why) = refl
-    go unbuilt = refl
 
 -- one more item's copy
 pub items_more : (before : List Node) (cs rest : Children) (label : Label) (n v : Node) (all : Judgement (List Node)) → cs ≡ child label n rest → copy n ≡ gives v → put_behind before (item_copies cs) ≡ all →

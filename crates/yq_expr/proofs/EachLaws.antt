@@ -1,6 +1,6 @@
 -- What comes of each of several, one behind the other, and of several that act in turn.
 use Rattle.std.proofs.Common.{◌≡◌, ℕ, suc, ◌+◌, ◌<◌, List, [], ◌∷◌, ◌++◌, length, map, drop, get_or, Result, Err, refl, sym, ap, ◌∙◌, subst, append_assoc, add-one, drop-cons}
-use Rattle.yq_expr.specs.Judgement.{Judgement, gives, refuses, unbuilt, and_then, Fails, Matches}
+use Rattle.yq_expr.specs.Judgement.{Judgement, gives, refuses, and_then, Fails, Matches}
 use Rattle.yq_expr.specs.PlaceView.{put_behind}
 use Rattle.yq_expr.specs.Places.{for_each, in_turn}
 use Rattle.yq_expr.specs.declared.match_error.MatchError.{MatchError}
@@ -23,9 +23,7 @@ reached v xs i x within is = ap (map v) (drop-cons xs i x within) ∙ (ap (λ y.
 pub put_both : {B : Type 0} (before : List B) (j k : Judgement (List B)) → put_behind before (and_then (λ first. and_then (λ others. gives (first ++ others)) k) j) ≡ and_then (λ ys. put_behind ys k) (put_behind before j)
 put_both before (gives q) (gives o) = ap gives (sym (append_assoc before q o))
 put_both before (gives q) (refuses why) = refl
-put_both before (gives q) unbuilt = refl
 put_both before (refuses why) k = refl
-put_both before unbuilt k = refl
 
 -- what comes of one and of the others, behind what is there
 put_each : {A B : Type 0} (f : A → Judgement (List B)) (before : List B) (x : A) (xs : List A) → put_behind before (for_each f (x ∷ xs)) ≡ and_then (λ ys. put_behind ys (for_each f xs)) (put_behind before (f x))
@@ -35,7 +33,6 @@ put_each f before x xs = put_both before (f x) (for_each f xs)
 pub put_first : {B : Type 0} (j : Judgement (List B)) → put_behind [] j ≡ j
 put_first (gives q) = refl
 put_first (refuses why) = refl
-put_first unbuilt = refl
 
 -- one more of several
 pub each_more : {X A B : Type 0} (v : X → A) (f : A → Judgement (List B)) (before after : List B) (xs : List X) (i : ℕ) (x : X) (all : Judgement (List B)) →

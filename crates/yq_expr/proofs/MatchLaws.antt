@@ -13,7 +13,7 @@ use Rattle.yq_expr.specs.Conditions.{node_there, value_of, holds}
 use Rattle.yq_expr.specs.Copies.{matches_in, matches_from}
 use Rattle.yq_expr.specs.Judgement.{Judgement, gives, and_then, Fails}
 use Rattle.yq_expr.specs.Matching.{Found, find, in_scalar, key_step, item_number, index_step}
-use Rattle.yq_expr.specs.Pipes.{kept, select_on, stage_on, places}
+use Rattle.yq_expr.specs.Pipes.{kept, select_on, stage_on, pipe_on, places}
 use Rattle.yq_expr.specs.PlaceView.{put_behind}
 use Rattle.yq_expr.specs.Places.{Place, root_place, child_place, for_each, miss, found_place, stepped, all_steps, step_there, step_from, step_on, in_turn}
 use Rattle.yq_expr.specs.Program.{Step, key, index, each, Stage, path, select}
@@ -139,9 +139,13 @@ kept_has doc (select c) ps qs h e = each_have (select_on doc c) leads ps qs h e
         go true = (h, tt)
         go false = tt
 
--- the nodes to which a pipe leads have such scalars
+-- the nodes to which a pipe leads from such places have such scalars
+pub pipe_have : (doc : ℕ) (pipe : List Stage) (ps qs : List Place) → HaveScalars ps → pipe_on doc pipe ps ≡ gives qs → HaveScalars qs
+pipe_have doc pipe ps qs h e = turn_has (stage_on doc) (kept_has doc) pipe ps qs h e
+
+-- so have those to which it leads from a root
 pub places_have : (doc : ℕ) (pipe : List Stage) (root : Node) (qs : List Place) → HasScalars root → places doc pipe root ≡ gives qs → HaveScalars qs
-places_have doc pipe root qs h e = turn_has (stage_on doc) (kept_has doc) pipe (root_place root ∷ []) qs (h, tt) e
+places_have doc pipe root qs h e = pipe_have doc pipe (root_place root ∷ []) qs (h, tt) e
 
 -- so has what is copied
 pub value_has : (p : Place) → HasScalars p.node → HasScalars (value_of p)

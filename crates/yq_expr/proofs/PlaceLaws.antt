@@ -3,7 +3,7 @@ use Rattle.std.proofs.Common.{◌≡◌, ℕ, suc, ◌+◌, List, [], ◌∷◌,
 use Rattle.std.proofs.lemmas.List.{map_push}
 use Rattle.yq_scalar.specs.Tree.{Label, Node, Children, none, child}
 use Rattle.yq_tree.specs.Counts.{count}
-use Rattle.yq_tree.specs.Outline.{null}
+use Rattle.yq_tree.specs.Outline.{null_node}
 use Rattle.yq_expr.specs.Conditions.{node_there}
 use Rattle.yq_expr.specs.Judgement.{gives}
 use Rattle.yq_expr.specs.PlaceView.{place_of, places_of}
@@ -12,7 +12,7 @@ use Rattle.yq_expr.specs.Program.{Step}
 use Rattle.yq_expr.specs.declared.matching.place.Place as declared
 
 -- where a step is missing there is null
-pub null_there : (front : List Step) (s : Step) (n : Node) → node_there (front ++ s ∷ []) n ≡ null
+pub null_there : (front : List Step) (s : Step) (n : Node) → node_there (front ++ s ∷ []) n ≡ null_node
 null_there [] s n = refl
 null_there (t ∷ ts) s n = refl
 

@@ -1,4 +1,5 @@
 pub mod Aliases
+pub mod AlikeRooms
 pub mod AllowedChanges
 pub mod Apart
 pub mod AtOnce
@@ -19,6 +20,7 @@ pub mod PlanMeans
 pub mod Planned
 pub mod Pure
 pub mod RootLeads
+pub mod RoomsLast
 pub mod Spares
 pub mod StepPlaces
 pub mod SumValues

@@ -4,19 +4,22 @@ use Rattle.std.specs.List.{list_any, list_all}
 use Rattle.std.specs.Str.{bytes_eq, chars}
 use Rattle.yq_scalar.specs.Characters.{is_text_char}
 use Rattle.yq_scalar.specs.Keys.{depth}
+use Rattle.yq_scalar.specs.declared.style.Place.TheVariants.{FlowKey}
 use Rattle.yq_scalar.specs.Paths as paths
 use Rattle.yq_scalar.specs.Paths.{To, child_at, node_at}
+use Rattle.yq_scalar.specs.Scalar.{string_of}
 use Rattle.yq_scalar.specs.Tree as tree
 use Rattle.yq_scalar.specs.Tree.{Node, alias, scalar, list, Children, none, child, children_of}
 use Rattle.yq_inline.specs.Inline.{depth_limit}
+use Rattle.yq_inline.specs.Written.{scalar_text}
+use Rattle.yq_rows.specs.Grammar.{key_limit}
 use Rattle.yq_tree.specs.Anchors.{Name, Anchors, Refers, names_of, names_in}
 use Rattle.yq_expr.specs.declared.program.CommentPlace.{CommentPlace}
 use Rattle.yq_expr.specs.declared.program.CommentPlace.TheVariants as comments
 use Rattle.yq_expr.specs.declared.program.Operator.TheVariants as operator
 use Rattle.yq_expr.specs.declared.refusal.Refusal.TheVariants.{IndexOutOfRange, ThroughAlias, AnchorInUse, KindMismatch, NoPlaceForComment, BadCommentText, RootDelete, TooDeep, KeyTooLong}
 use Rattle.yq_expr.specs.Judgement.{Judgement, gives, refuses, and_then}
-use Rattle.yq_expr.specs.Making.{is_index, is_long_key}
-use Rattle.yq_expr.specs.Program.{Step, key, index, each, Stage, Update, assign, delete, comment}
+use Rattle.yq_expr.specs.Program.{is_index, Step, key, index, each, Stage, Update, assign, delete, comment}
 use Rattle.yq_expr.specs.Pipes.{places}
 use Rattle.yq_expr.specs.Places.{Place, root_place, for_each}
 use Rattle.yq_expr.specs.RightValues.{is_null, as_items, sum, right_value}
@@ -124,6 +127,10 @@ comment_at room place text p =
     if is_there p.missing && room.has place p.path then gives ((p.path, sets_comment place text) ∷ []) else refuses NoPlaceForComment
 
 -- ---- what refuses a change
+
+-- whether a key has too many characters as it is written in flow mappings, without quotes if it can be (YAML 1.2.2, section 7.4.2)
+abbrev pub is_long_key : List ℕ → Bool
+is_long_key k = nat_lt key_limit (length (chars (scalar_text (string_of k) FlowKey)))
 
 -- a key is there, and too long (own)
 abbrev pub is_long : Option (List ℕ) → Bool

@@ -8,7 +8,7 @@ use Rattle.yq_scalar.specs.declared.kind.Kind.TheVariants as kinds
 use Rattle.yq_scalar.specs.Paths.{To, child_at}
 use Rattle.yq_scalar.specs.SchemaReading.{int_value}
 use Rattle.yq_scalar.specs.Tree.{Node, alias, scalar, list, map}
-use Rattle.yq_tree.specs.Outline.{null}
+use Rattle.yq_tree.specs.Outline.{null_node}
 use Rattle.yq_expr.specs.declared.refusal.Refusal.TheVariants.{ThroughAlias}
 use Rattle.yq_expr.specs.Judgement.{Judgement, gives, refuses, and_then}
 use Rattle.yq_expr.specs.Places.{Place, walk}
@@ -48,7 +48,7 @@ is_scalar kind text (map anchor cs) = gives false
 -- the node at a place; at one that is missing it is null (own)
 abbrev pub node_there : List Step → Node → Node
 node_there [] n = n
-node_there (s ∷ ss) n = null
+node_there (s ∷ ss) n = null_node
 
 -- the same of a place (own)
 abbrev pub value_of : Place → Node

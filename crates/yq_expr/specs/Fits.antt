@@ -2,6 +2,7 @@
 use Rattle.std.specs.Prelude.{◌≡◌, ⊤, ℕ, suc, true, false, List, [], ◌∷◌, length, slice_get, Option, Some, None}
 use Rattle.yq_scalar.specs.Paths as paths
 use Rattle.yq_scalar.specs.Paths.{To, child_at, node_at}
+use Rattle.yq_scalar.specs.Shapes.{IsTree}
 use Rattle.yq_scalar.specs.Tree as tree
 use Rattle.yq_scalar.specs.Tree.{Node, alias, scalar, list, Children, none, child}
 use Rattle.yq_tree.specs.Anchors.{names_of}
@@ -12,9 +13,9 @@ use Rattle.yq_expr.specs.After.{document_of, after_op}
 use Rattle.yq_expr.specs.Changes.{Room, is_long, has_long_key, is_deep, is_used_inside, is_used_in, is_comment}
 use Rattle.yq_expr.specs.Operations.{Operation, replace, append, remove, line_comment, head_comment}
 
--- a value may be written below so many collections: its keys are short enough, and it isn't too deep (own)
+-- a value may be written below so many collections: it is a tree, whose keys differ in each mapping, its keys are short enough, and it isn't too deep (own)
 abbrev pub IsWritable : ℕ → Node → Type 0
-IsWritable n v = (has_long_key v ≡ false) × (is_deep n v ≡ false)
+IsWritable n v = IsTree v × (has_long_key v ≡ false) × (is_deep n v ≡ false)
 
 -- a collection may get an item, or an entry of a key that it hasn't (own)
 abbrev pub Takes : Option (List ℕ) → Node → Type 0

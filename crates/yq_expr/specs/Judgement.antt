@@ -6,23 +6,20 @@ use Rattle.yq_expr.specs.declared.plan_error.PlanError.{PlanError}
 use Rattle.yq_expr.specs.declared.plan_error.PlanError.TheVariants as error
 use Rattle.yq_expr.specs.declared.refusal.Refusal.{Refusal}
 
--- something, a refusal, or neither, where that is not carried out yet: this third case goes when all is (own)
+-- something, or a refusal (own)
 pub data Judgement (A : Type 0) : Type 0 where
   gives : A → Judgement A
   refuses : Refusal → Judgement A
-  unbuilt : Judgement A
 
 -- what comes of the second step, on what the first one gave (own)
 abbrev pub and_then : {A B : Type 0} → (A → Judgement B) → Judgement A → Judgement B
 and_then f (gives x) = f x
 and_then f (refuses why) = refuses why
-and_then f unbuilt = unbuilt
 
 -- what planning answers, as it is seen: what comes of a program, or why nothing does; want of memory says nothing (own)
 abbrev pub Plans : {X Y : Type 0} → (X → Y) → Result X PlanError → Judgement Y → Type 0
 Plans view (Ok x) outcome = outcome ≡ gives (view x)
 Plans view (Err (error.Refused why)) outcome = outcome ≡ refuses why
-Plans view (Err error.NotInProfile) outcome = outcome ≡ unbuilt
 Plans view (Err error.Memory) outcome = Unit {0}
 
 -- what an error of matching says of what comes of something: the refusal; want of memory says nothing (own)

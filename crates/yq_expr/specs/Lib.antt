@@ -10,11 +10,8 @@ pub use Rattle.yq_inline.specs.Values
 pub mod View
 pub use Rattle.yq_scalar.specs.Tree
 pub mod Matching
-pub mod Making
 pub mod Operations
 pub mod Judgement
-pub mod OnePathMeaning
-pub mod Plan
 pub mod Places
 pub mod Conditions
 pub mod Pipes
@@ -30,3 +27,10 @@ pub mod After
 pub mod Plans
 pub mod Fits
 pub mod PlacesApart
+pub mod Rooms
+pub mod EntryNumbers
+pub mod ChangeView
+pub mod EffectView
+pub mod Indexes
+pub mod TakenNames
+pub mod RoomsKept

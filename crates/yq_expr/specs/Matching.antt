@@ -1,5 +1,5 @@
--- Where steps to keys and items lead in a document.
-use Rattle.std.specs.Prelude.{ℕ, suc, ◌-◌, nat_lt, ℤ, pos, negsuc, List, [], ◌∷◌, Option, Some, None, option_map, if◌then◌else◌}
+-- Where a step to a key or an item leads from a node.
+use Rattle.std.specs.Prelude.{ℕ, suc, ◌-◌, nat_lt, ℤ, pos, negsuc, List, Option, None, option_map, if◌then◌else◌}
 use Rattle.yq_scalar.specs.declared.kind.Kind.{Kind}
 use Rattle.yq_scalar.specs.declared.kind.Kind.TheVariants as kinds
 use Rattle.yq_scalar.specs.Paths as paths
@@ -8,13 +8,7 @@ use Rattle.yq_scalar.specs.Tree.{Node, alias, scalar, list, map, Children}
 use Rattle.yq_tree.specs.Counts.{count}
 use Rattle.yq_expr.specs.declared.refusal.Refusal.{Refusal}
 use Rattle.yq_expr.specs.declared.refusal.Refusal.TheVariants.{NotAMap, NotASequence, IndexOutOfRange, ThroughAlias}
-use Rattle.yq_expr.specs.Judgement.{Judgement, gives, refuses, unbuilt, and_then}
-use Rattle.yq_expr.specs.Program.{Step, key, index, each}
-
--- where steps lead: along steps of the tree to a node; or along such steps to a node from which the other steps are missing (own)
-pub data Location : Type 0 where
-  there : List paths.Step → Location
-  missing : List paths.Step → List Step → Location
+use Rattle.yq_expr.specs.Judgement.{Judgement, gives, refuses, and_then}
 
 -- the item or entry to which a step of the tree leads, with that step, or none (own)
 abbrev pub Found : Type 0
@@ -58,24 +52,3 @@ index_step i (alias name) = refuses ThroughAlias
 index_step i (scalar anchor kind text) = in_scalar NotASequence kind
 index_step i (list anchor cs) = item i cs
 index_step i (map anchor cs) = refuses NotASequence
-
--- where a step leads from a node; `[]` isn't carried out yet (own)
-abbrev pub step_leads : Step → Node → Judgement Found
-step_leads (key k) n = key_step k n
-step_leads (index i) n = index_step i n
-step_leads each n = unbuilt
-
--- a location behind a step of the tree (own)
-abbrev pub behind : paths.Step → Location → Location
-behind s (there path) = there (s ∷ path)
-behind s (missing path steps) = missing (s ∷ path) steps
-
--- where steps lead, the first of which leads to what was found: the others lead on from there, or all of them are missing (own)
-abbrev pub lead_on : (Node → Judgement Location) → List Step → Found → Judgement Location
-lead_on others steps None = gives (missing [] steps)
-lead_on others steps (Some x) = and_then (λ l. gives (behind x.0 l)) (others x.1)
-
--- where steps lead from a node, one after the other (own)
-abbrev pub steps_lead : List Step → Node → Judgement Location
-steps_lead [] n = gives (there [])
-steps_lead (s ∷ ss) n = and_then (lead_on (steps_lead ss) (s ∷ ss)) (step_leads s n)

@@ -5,7 +5,7 @@ use Rattle.yq_scalar.specs.Paths.{To, Nth}
 use Rattle.yq_scalar.specs.Tree as tree
 use Rattle.yq_tree.specs.declared.nodes.node.Node as nodes
 use Rattle.yq_tree.specs.Nodes.{node_of}
-use Rattle.yq_tree.specs.Outline.{null}
+use Rattle.yq_tree.specs.Outline.{null_node}
 use Rattle.yq_expr.specs.declared.matching.place.NodeStep as steps
 use Rattle.yq_expr.specs.declared.matching.place.NodePath.{NodePath, fold-NodePath}
 use Rattle.yq_expr.specs.declared.matching.place.NodePath.TheOpen.{NodePath-F}
@@ -51,7 +51,7 @@ places_of ps = map place_of ps
 
 -- the node that one of the code stands for, or null where there is none (own)
 abbrev pub node_or_null : Option nodes.Node → tree.Node
-node_or_null None = null
+node_or_null None = null_node
 node_or_null (Some n) = node_of n
 
 -- the item or entry that one of the code stands for, with the step that leads to it (own)

@@ -1,13 +1,12 @@
 -- Programs: what an expression says, apart from how it is written.
-use Rattle.std.specs.Prelude.{◌≡◌, ℕ, ℤ, ◌≤◌, if◌then◌else◌, Bool, true, false, List, [], ◌∷◌, length, Option, Some, None, ⊤}
+use Rattle.std.specs.Prelude.{◌≡◌, ℕ, ℤ, ◌≤◌, Bool, true, false, List, [], ◌∷◌, length, slice_get, Option, None, ⊤}
 use Rattle.std.specs.List.{list_all}
 use Rattle.yq_scalar.specs.declared.kind.Kind.{Kind}
 use Rattle.yq_scalar.specs.Keys.{depth}
 use Rattle.yq_scalar.specs.Shapes.{IsTree}
-use Rattle.yq_scalar.specs.Tree.{Node, alias, scalar, list, map}
+use Rattle.yq_scalar.specs.Tree.{Node}
 use Rattle.yq_tree.specs.Anchors.{names_of}
 use Rattle.yq_expr.specs.declared.program.Operator.{Operator}
-use Rattle.yq_expr.specs.declared.program.Operator.TheVariants as operator
 use Rattle.yq_expr.specs.declared.program.CommentPlace.{CommentPlace}
 
 -- a step of a path: to the value of a key, to an item by its index, or to each item or value (own)
@@ -57,63 +56,26 @@ abbrev pub update_count : Program → ℕ
 update_count (read stages) = 0
 update_count (updates us) = length us
 
+-- update n of a program, counted from 0 (own)
+abbrev pub update_at : ℕ → Program → Option Update
+update_at n (read stages) = None
+update_at n (updates us) = slice_get us n
+
 -- whether a step leads to one item or value at most (own)
 abbrev pub is_single : Step → Bool
 is_single (key k) = true
 is_single (index n) = true
 is_single each = false
 
+-- whether a step is an index (own)
+abbrev pub is_index : Step → Bool
+is_index (key k) = false
+is_index (index n) = true
+is_index each = false
+
 -- whether a path has no `[]` (own)
 abbrev pub is_simple : List Step → Bool
 is_simple steps = list_all is_single steps
-
--- the kind and text of a scalar without an anchor (own)
-abbrev pub plain_scalar : Node → Option (Kind × List ℕ)
-plain_scalar (alias name) = None
-plain_scalar (scalar None kind text) = Some (kind, text)
-plain_scalar (scalar (Some name) kind text) = None
-plain_scalar (list name cs) = None
-plain_scalar (map name cs) = None
-
--- the one literal of a sum that is a scalar (own)
-abbrev pub scalar_of : List Term → Option (Kind × List ℕ)
-scalar_of [] = None
-scalar_of (literal n ∷ []) = plain_scalar n
-scalar_of (literal n ∷ (t ∷ ts)) = None
-scalar_of (found stages ∷ ts) = None
-
--- the steps of a path, if it has one or more and each is to a key or an item (own)
-abbrev pub simple_steps : List Step → Option (List Step)
-simple_steps [] = None
-simple_steps (s ∷ steps) = if is_simple (s ∷ steps) then Some (s ∷ steps) else None
-
--- the steps of a pipe that is one such path (own)
-abbrev pub simple_path : List Stage → Option (List Step)
-simple_path [] = None
-simple_path (select c ∷ stages) = None
-simple_path (path steps ∷ []) = simple_steps steps
-simple_path (path steps ∷ (stage ∷ stages)) = None
-
--- both, if both are there (own)
-abbrev pub both : {A B : Type 0} → Option A → Option B → Option (A × B)
-both (Some a) (Some b) = Some (a, b)
-both (Some a) None = None
-both None b = None
-
--- the steps and the scalar of an update that sets what one such path leads to to one scalar (own)
-abbrev pub assigned : Update → Option (List Step × (Kind × List ℕ))
-assigned (assign left operator.Set right) = both (simple_path left) (scalar_of right)
-assigned (assign left operator.Modify right) = None
-assigned (assign left operator.Add right) = None
-assigned (delete stages) = None
-assigned (comment left place text) = None
-
--- the steps and the scalar of a program that is one such update (own)
-abbrev pub assignment_of : Program → Option (List Step × (Kind × List ℕ))
-assignment_of (read stages) = None
-assignment_of (updates []) = None
-assignment_of (updates (u ∷ [])) = assigned u
-assignment_of (updates (u ∷ (v ∷ us))) = None
 
 -- a value as it may be written: a tree, whose keys differ in each mapping, without anchors and aliases, in which 64 collections at most are nested (own)
 pub record IsValue (n : Node) : Type 0 where

@@ -7,7 +7,7 @@ use Rattle.yq_scalar.specs.Numbers.{is_i64}
 use Rattle.yq_scalar.specs.Paths.{To, child_at, change_child, append_child}
 use Rattle.yq_scalar.specs.SchemaReading.{int_value}
 use Rattle.yq_scalar.specs.Tree.{Node, alias, scalar, list, map, Children, none, child}
-use Rattle.yq_tree.specs.Outline.{null}
+use Rattle.yq_tree.specs.Outline.{null_node}
 use Rattle.yq_expr.specs.declared.refusal.Refusal.TheVariants.{NotOneValue, KindMismatch, IntegerRange, FloatArithmetic}
 use Rattle.yq_expr.specs.Judgement.{Judgement, gives, refuses, and_then}
 use Rattle.yq_expr.specs.Program.{Term, literal, found}
@@ -90,5 +90,5 @@ sum_from doc p v (t ∷ ts) = and_then (λ u. and_then (λ w. sum_from doc p w t
 
 -- the value of a sum of terms (own)
 abbrev pub right_value : ℕ → List Term → Place → Judgement Node
-right_value doc [] p = gives null
+right_value doc [] p = gives null_node
 right_value doc (t ∷ ts) p = and_then (λ v. sum_from doc p v ts) (term_value doc p t)

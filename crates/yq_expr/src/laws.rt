@@ -5,9 +5,9 @@ ghost use Rattle.yq_scalar.specs.Paths.{Step as TreeStep, change, node_at};
 ghost use Rattle.yq_scalar.specs.Shapes.{IsTree};
 ghost use Rattle.yq_scalar.specs.Tree.{Node};
 ghost use Rattle.yq_tree.specs.Documents.{Document};
-ghost use Rattle.yq_expr.specs.After.{all_after};
+ghost use Rattle.yq_expr.specs.After.{document_of, after_op, all_after};
 ghost use Rattle.yq_expr.specs.Changes.{Room};
-ghost use Rattle.yq_expr.specs.Fits.{AllFit};
+ghost use Rattle.yq_expr.specs.Fits.{Fits, AllFit};
 ghost use Rattle.yq_expr.specs.Judgement.{gives, refuses};
 ghost use Rattle.yq_expr.specs.Meaning.{AreReady, meaning};
 ghost use Rattle.yq_expr.specs.Operations.{Operation};
@@ -17,11 +17,18 @@ ghost use Rattle.yq_expr.specs.Places.{Place};
 ghost use Rattle.yq_expr.specs.PlacesApart.{AreApart, AreIn};
 ghost use Rattle.yq_expr.specs.Plans as plans;
 ghost use Rattle.yq_expr.specs.Program.{Program as Outline, Stage as PipeStage, Update as Change, UpdatesHold};
+ghost use Rattle.yq_expr.specs.Rooms.{RoomsAreReady};
+ghost use Rattle.yq_expr.specs.RoomsKept.{AlikeFor, LeavesRooms, MayFollow};
 ghost use Rattle.yq_expr.specs.declared.refusal.Refusal.{Refusal as Why};
 
 /// No text derives two programs.
 pub fn one_program()
     ensures { (text : List ℕ) (p q : Outline) → Derives text p → Derives text q → p ≡ q }
+{}
+
+/// The documents of a text that reads are ready for updates, with the room that the text has.
+pub fn rooms_ready()
+    ensures { RoomsAreReady }
 {}
 
 /// No two of the places to which a pipe leads in a tree are the same, and none
@@ -53,4 +60,24 @@ pub fn plan_refused()
 /// those of a parsed expression are.
 pub fn plan_fits()
     ensures { (u : Change) (rooms : ℕ → Room) (docs : List Document) (ops : List Operation) → AreReady rooms 0 docs → UpdatesHold (u ∷ []) → plans.plan u rooms docs ≡ gives ops → AllFit rooms ops docs }
+{}
+
+/// The operations of a plan may be carried out one after the other: each fits at
+/// its turn, and the room that they ask for lasts.
+pub fn plan_rooms()
+    ensures { (u : Change) (rooms : ℕ → Room) (docs : List Document) (ops : List Operation) → AreReady rooms 0 docs → UpdatesHold (u ∷ []) → plans.plan u rooms docs ≡ gives ops → MayFollow rooms ops docs }
+{}
+
+/// By rooms that are alike for an operation it fits the same documents, and
+/// makes the same of them.
+pub fn rooms_alike()
+    ensures fits { (old new : ℕ → Room) (op : Operation) (docs : List Document) → AlikeFor op (old (document_of op)) (new (document_of op)) → Fits old op docs → Fits new op docs }
+    ensures after { (old new : ℕ → Room) (op : Operation) (docs : List Document) → AlikeFor op (old (document_of op)) (new (document_of op)) → after_op new op docs ≡ after_op old op docs }
+{}
+
+/// Once the first of operations is carried out, the others may follow by the
+/// room that it leaves, and make the same of documents.
+pub fn rest_follows()
+    ensures follow { (op : Operation) (ops : List Operation) (old new : ℕ → Room) (docs : List Document) → LeavesRooms op old new (after_op old op docs) → MayFollow old (op ∷ ops) docs → MayFollow new ops (after_op old op docs) }
+    ensures after { (op : Operation) (ops : List Operation) (old new : ℕ → Room) (docs : List Document) → LeavesRooms op old new (after_op old op docs) → MayFollow old (op ∷ ops) docs → all_after new ops (after_op old op docs) ≡ all_after old (op ∷ ops) docs }
 {}

@@ -4,7 +4,6 @@
 mod error;
 mod front;
 mod laws;
-mod making;
 mod match_error;
 mod matching;
 mod op;
@@ -18,7 +17,10 @@ mod survey;
 mod token;
 
 pub use error::ParseError;
-pub use laws::{changes_apart, one_program, places_apart, plan_fits, plan_means, plan_refused};
+pub use laws::{
+    changes_apart, one_program, places_apart, plan_fits, plan_means, plan_refused, plan_rooms,
+    rest_follows, rooms_alike, rooms_ready,
+};
 pub use match_error::MatchError;
 pub use matching::{Match, matches};
 pub use op::Op;

@@ -8,8 +8,6 @@ use std::alloc::{AllocError, AllocFailed};
 pub enum PlanError {
     /// The documents refuse the update.
     Refused(Refusal),
-    /// The update is not carried out yet, or not at such a location.
-    NotInProfile,
     /// Memory ran out.
     Memory,
 }

@@ -122,6 +122,12 @@ fn is_single(step: &Step) -> bool
     !matches!(step, Step::Each)
 }
 
+pub(crate) fn is_index(step: &Step) -> bool
+    ensures { result ≡ spec.is_index (step_of step.now) }
+{
+    matches!(step, Step::Index(_))
+}
+
 /// Whether each step leads to one item or value at most.
 pub(crate) fn is_simple(steps: &[Step]) -> bool
     ensures { result ≡ list_all (λ s. spec.is_single (step_of s)) steps.now }

@@ -7,9 +7,9 @@ use Rattle.yq_inline.specs.declared.gap.Before.{Before}
 use Rattle.yq_inline.specs.declared.gap.Before.TheVariants.{Token, White, Break, Comment}
 use Rattle.yq_inline.specs.Gaps.{goes, next, behind, is_break as at_break, AllGo, stops, IsGap}
 use Rattle.yq_inline.specs.Nodes.{in_name, IsName}
-use Rattle.yq_inline.specs.Alike.{is_stop, Alike, stop, colon, any_colon, dash, after}
+use Rattle.yq_inline.specs.Alike.{is_stop, Alike, stop, colon, any_colon, byte, after}
 use Rattle.yq_inline.specs.Scalars.{IsScalar}
-use Rattle.yq_inline.proofs.Alikes.{alike_append, alike_front, stop_break, alike_break, alike_space, alike_marker, plain_alike}
+use Rattle.yq_inline.proofs.Alikes.{alike_append, alike_front, alike_unless, stop_break, alike_break, alike_space, alike_marker, plain_alike}
 
 -- quoted scalars
 char_alike : (f : Option Bool) (q : ℕ) (c : Char) (t u : List ℕ) → Alike f t u → IsChar q c t → IsChar q c u
@@ -22,7 +22,7 @@ chars_alike : (f : Option Bool) (q : ℕ) (cs : List Char) (t u : List ℕ) → 
 chars_alike f q [] t u h g = tt
 chars_alike f q (c ∷ cs) t u h g = (char_alike f q c (spell_chars cs ++ t) (spell_chars cs ++ u) (alike_append f (spell_chars cs) t u h) g.0, chars_alike f q cs t u h g.1)
 
-lines_alike : (f : Option Bool) (q : ℕ) (ls : Lines) (t u : List ℕ) → Alike f t u → AreLines q ls t → AreLines q ls u
+pub lines_alike : (f : Option Bool) (q : ℕ) (ls : Lines) (t u : List ℕ) → Alike f t u → AreLines q ls t → AreLines q ls u
 lines_alike f q (last cs) t u h g = chars_alike f q cs t u h g
 lines_alike f q (line cs escaped b ls) t u h g =
     let more = alike_append f (spell_lines ls) t u h in
@@ -66,6 +66,9 @@ none_unless q (b ∷ p) t u h = (h.0, none_unless q p t u h.1)
 pub name_by : (p t u : List ℕ) → unless in_name u ≡ true → IsName p t → IsName p u
 name_by p t u h g = record { some = g.some; inside = none_unless in_name p t u g.inside; ends = h }
 
+pub name_alike : (f : Option Bool) (p t u : List ℕ) → Alike f t u → IsName p t → IsName p u
+name_alike f p t u h g = name_by p t u (sym (alike_unless in_name f t u h) ∙ g.ends) g
+
 goes_alike : (f : Option Bool) (before : Before) (b : ℕ) (t u : List ℕ) → Alike f t u → goes before b t ≡ goes before b u
 goes_alike f Token b t u h = alike_space f (b ∷ t) (b ∷ u) (after h)
 goes_alike f White b t u h = ap (λ x. x || eqb b 35) (alike_space f (b ∷ t) (b ∷ u) (after h))
@@ -86,7 +89,7 @@ stops_alike : (f : Option Bool) (before : Before) (t u : List ℕ) → Alike f t
 stops_alike _ before _ _ (stop {f} {b} {t} {u} x) = byte_stops before b t u (stop_break b t x ∙ sym (stop_break b u x))
 stops_alike _ before _ _ (colon {flow} {t} {u} x y) = byte_stops before 58 t u refl
 stops_alike _ before _ _ (any_colon {t} {u}) = byte_stops before 58 t u refl
-stops_alike _ before _ _ (dash {f} {t} {u} x y) = byte_stops before 45 t u refl
+stops_alike _ before _ _ (byte {f} {b} {t} {u} v w x y) = byte_stops before b t u (alike_break f (b ∷ t) (b ∷ u) (byte {f = f} v w x y))
 stops_alike _ before _ _ (after {f} {b} {t} {u} h) = ap not (goes_alike f before b t u h)
 
 pub gap_alike : (f : Option Bool) (p t u : List ℕ) → Alike f t u → IsGap p t → IsGap p u

@@ -5,8 +5,8 @@ use Rattle.std.specs.List.{prefix_len}
 use Rattle.yq_scalar.specs.Plain.{begins_plain, ends_plain, ends_text, is_flow_indicator, is_safe, no_gap, last_line, begins_deep, may_follow, follows, IsPlain}
 use Rattle.yq_scalar.specs.QuotedReading.{is_quote}
 use Rattle.yq_scalar.specs.Text.{upto, cut, NoneIn, front, unless, is_empty, is_white, is_feed, is_break, is_space, separates, is_marker}
-use Rattle.yq_scalar.proofs.Bools.{is_true, at_byte}
-use Rattle.yq_inline.specs.Alike.{is_stop, Alike, stop, colon, any_colon, dash, after}
+use Rattle.yq_scalar.proofs.Bools.{is_true, or_false, at_byte}
+use Rattle.yq_inline.specs.Alike.{is_stop, Alike, stop, colon, any_colon, byte, after}
 use Rattle.yq_inline.specs.Nodes.{first_is, begins_content, begins_node}
 
 pub alike_append : (f : Option Bool) (p t u : List ℕ) → Alike f t u → Alike f (p ++ t) (p ++ u)
@@ -18,28 +18,28 @@ pub alike_front : (p : ℕ → Bool) (f : Option Bool) (t u : List ℕ) → Alik
 alike_front p _ _ _ (stop {f} {b} {t} {u} x) = refl
 alike_front p _ _ _ (colon {flow} {t} {u} x y) = refl
 alike_front p _ _ _ (any_colon {t} {u}) = refl
-alike_front p _ _ _ (dash {f} {t} {u} x y) = refl
+alike_front p _ _ _ (byte {f} {b} {t} {u} v w x y) = refl
 alike_front p _ _ _ (after {f} {b} {t} {u} h) = refl
 
 pub alike_unless : (p : ℕ → Bool) (f : Option Bool) (t u : List ℕ) → Alike f t u → unless p t ≡ unless p u
 alike_unless p _ _ _ (stop {f} {b} {t} {u} x) = refl
 alike_unless p _ _ _ (colon {flow} {t} {u} x y) = refl
 alike_unless p _ _ _ (any_colon {t} {u}) = refl
-alike_unless p _ _ _ (dash {f} {t} {u} x y) = refl
+alike_unless p _ _ _ (byte {f} {b} {t} {u} v w x y) = refl
 alike_unless p _ _ _ (after {f} {b} {t} {u} h) = refl
 
 pub alike_first : (k : ℕ) (f : Option Bool) (t u : List ℕ) → Alike f t u → first_is k t ≡ first_is k u
 alike_first k _ _ _ (stop {f} {b} {t} {u} x) = refl
 alike_first k _ _ _ (colon {flow} {t} {u} x y) = refl
 alike_first k _ _ _ (any_colon {t} {u}) = refl
-alike_first k _ _ _ (dash {f} {t} {u} x y) = refl
+alike_first k _ _ _ (byte {f} {b} {t} {u} v w x y) = refl
 alike_first k _ _ _ (after {f} {b} {t} {u} h) = refl
 
 pub alike_empty : (f : Option Bool) (t u : List ℕ) → Alike f t u → is_empty t ≡ is_empty u
 alike_empty _ _ _ (stop {f} {b} {t} {u} x) = refl
 alike_empty _ _ _ (colon {flow} {t} {u} x y) = refl
 alike_empty _ _ _ (any_colon {t} {u}) = refl
-alike_empty _ _ _ (dash {f} {t} {u} x y) = refl
+alike_empty _ _ _ (byte {f} {b} {t} {u} v w x y) = refl
 alike_empty _ _ _ (after {f} {b} {t} {u} h) = refl
 
 pub stop_break : (b : ℕ) (t : List ℕ) → is_stop b ≡ true → is_break (b ∷ t) ≡ false
@@ -49,7 +49,7 @@ pub alike_break : (f : Option Bool) (t u : List ℕ) → Alike f t u → is_brea
 alike_break _ _ _ (stop {f} {b} {t} {u} x) = stop_break b t x ∙ sym (stop_break b u x)
 alike_break _ _ _ (colon {flow} {t} {u} x y) = refl
 alike_break _ _ _ (any_colon {t} {u}) = refl
-alike_break _ _ _ (dash {f} {t} {u} x y) = refl
+alike_break _ _ _ (byte {f} {b} {t} {u} v w x y) = (or_false (is_white b) (is_break (b ∷ t)) v).1 ∙ sym (or_false (is_white b) (is_break (b ∷ u)) w).1
 alike_break _ _ _ (after {f} {b} {t} {u} h) = rw (alike_front is_feed f t u h) refl
 
 pub alike_space : (f : Option Bool) (t u : List ℕ) → Alike f t u → is_space t ≡ is_space u
@@ -59,7 +59,7 @@ pub alike_separates : (f : Option Bool) (t u : List ℕ) → Alike f t u → sep
 alike_separates _ _ _ (stop {f} {b} {t} {u} x) = alike_space f (b ∷ t) (b ∷ u) (stop {f = f} x)
 alike_separates _ _ _ (colon {flow} {t} {u} x y) = refl
 alike_separates _ _ _ (any_colon {t} {u}) = refl
-alike_separates _ _ _ (dash {f} {t} {u} x y) = refl
+alike_separates _ _ _ (byte {f} {b} {t} {u} v w x y) = v ∙ sym w
 alike_separates _ _ _ (after {f} {b} {t} {u} h) = alike_space f (b ∷ t) (b ∷ u) (after h)
 
 alike_safe : (flow : Bool) (f : Option Bool) (t u : List ℕ) → Alike f t u → is_safe flow t ≡ is_safe flow u
@@ -78,54 +78,55 @@ no_second a b (d ∷ t) x y = rw (x, y) (simp and-false refl)
 pub no_third : (a b c : ℕ) (t : List ℕ) → eqb c 45 ≡ false → eqb c 46 ≡ false → is_marker (a ∷ (b ∷ (c ∷ t))) ≡ false
 no_third a b c t x y = rw (x, y) (simp and-false refl)
 
-dash_first : (t : List ℕ) → separates t ≡ true → is_marker (45 ∷ t) ≡ false
-dash_first [] h = refl
-dash_first (b ∷ []) h = refl
-dash_first (b ∷ (c ∷ t)) h = rw (at_byte (λ x. separates (x ∷ (c ∷ t))) b 45 h refl) refl
+pub sep_first : (a : ℕ) (t : List ℕ) → separates t ≡ true → is_marker (a ∷ t) ≡ false
+sep_first a [] h = refl
+sep_first a (b ∷ t) h = no_second a b t (at_byte (λ x. separates (x ∷ t)) b 45 h refl) (at_byte (λ x. separates (x ∷ t)) b 46 h refl)
 
-dash_second : (a : ℕ) (t : List ℕ) → separates t ≡ true → is_marker (a ∷ (45 ∷ t)) ≡ false
-dash_second a [] h = refl
-dash_second a (c ∷ t) h = rw (at_byte (λ x. separates (x ∷ t)) c 45 h refl) (simp and-false refl)
+sep_second : (a b : ℕ) (t : List ℕ) → separates t ≡ true → is_marker (a ∷ (b ∷ t)) ≡ false
+sep_second a b [] h = refl
+sep_second a b (c ∷ t) h = no_third a b c t (at_byte (λ x. separates (x ∷ t)) c 45 h refl) (at_byte (λ x. separates (x ∷ t)) c 46 h refl)
 
 pub alike_marker : (f : Option Bool) (t u : List ℕ) → Alike f t u → is_marker t ≡ is_marker u
 alike_marker _ _ _ (stop {f} {b} {t} {u} x) =
     let p = at_byte is_stop b 45 x refl in let q = at_byte is_stop b 46 x refl in no_first b t p q ∙ sym (no_first b u p q)
 alike_marker _ _ _ (colon {flow} {t} {u} x y) = no_first 58 t refl refl ∙ sym (no_first 58 u refl refl)
 alike_marker _ _ _ (any_colon {t} {u}) = no_first 58 t refl refl ∙ sym (no_first 58 u refl refl)
-alike_marker _ _ _ (dash {f} {t} {u} x y) = dash_first t x ∙ sym (dash_first u y)
+alike_marker _ _ _ (byte {f} {b} {t} {u} v w x y) = sep_first b t x ∙ sym (sep_first b u y)
 alike_marker _ _ _ (after {b = a} (stop {f} {b} {t} {u} x)) =
     let p = at_byte is_stop b 45 x refl in let q = at_byte is_stop b 46 x refl in no_second a b t p q ∙ sym (no_second a b u p q)
 alike_marker _ _ _ (after {b = a} (colon {flow} {t} {u} x y)) = no_second a 58 t refl refl ∙ sym (no_second a 58 u refl refl)
 alike_marker _ _ _ (after {b = a} (any_colon {t} {u})) = no_second a 58 t refl refl ∙ sym (no_second a 58 u refl refl)
-alike_marker _ _ _ (after {b = a} (dash {f} {t} {u} x y)) = dash_second a t x ∙ sym (dash_second a u y)
+alike_marker _ _ _ (after {b = a} (byte {f} {b} {t} {u} v w x y)) = sep_second a b t x ∙ sym (sep_second a b u y)
 alike_marker _ _ _ (after {b = a} (after {b = b} (stop {f} {b = c} {t} {u} x))) =
     let p = at_byte is_stop c 45 x refl in let q = at_byte is_stop c 46 x refl in no_third a b c t p q ∙ sym (no_third a b c u p q)
 alike_marker _ _ _ (after {b = a} (after {b = b} (colon {flow} {t} {u} x y))) = no_third a b 58 t refl refl ∙ sym (no_third a b 58 u refl refl)
 alike_marker _ _ _ (after {b = a} (after {b = b} (any_colon {t} {u}))) = no_third a b 58 t refl refl ∙ sym (no_third a b 58 u refl refl)
-alike_marker _ _ _ (after {b = a} (after {b = b} (dash {f} {t} {u} x y))) = rw (x, y) refl
+alike_marker _ _ _ (after {b = a} (after {b = b} (byte {f} {b = c} {t} {u} v w x y))) = rw (x, y) refl
 alike_marker _ _ _ (after {b = a} (after {b = b} (after {f = f} {b = c} {t = t} {u = u} h))) = rw (alike_separates f t u h) refl
 
 pub alike_spaces : (f : Option Bool) (t u : List ℕ) → Alike f t u → prefix_len (λ b. eqb b 32) t ≡ prefix_len (λ b. eqb b 32) u
 alike_spaces _ _ _ (stop {f} {b} {t} {u} x) = rw (at_byte is_stop b 32 x refl) refl
 alike_spaces _ _ _ (colon {flow} {t} {u} x y) = refl
 alike_spaces _ _ _ (any_colon {t} {u}) = refl
-alike_spaces _ _ _ (dash {f} {t} {u} x y) = refl
+alike_spaces _ _ _ (byte {f} {b} {t} {u} v w x y) =
+    let none : eqb b 32 ≡ false = (or_false (eqb b 32) (eqb b 9) (or_false (is_white b) (is_break (b ∷ t)) v).0).0 in
+    rw none refl
 alike_spaces _ _ _ (after {f} {b} {t} {u} h) = rw (alike_spaces f t u h) refl
 
 -- where plain scalars begin and end
-alike_text : (flow : Bool) (t u : List ℕ) → Alike (Some flow) t u → ends_text flow t ≡ ends_text flow u
-alike_text flow _ _ (stop {b = b} x) = rw (at_byte is_stop b 58 x refl) refl
-alike_text flow _ _ (colon {t = t} {u = u} x y) = rw (x, y) refl
-alike_text flow _ _ (dash {t = t} {u = u} x y) = refl
-alike_text flow _ _ (after {b = b} {t = t} {u = u} h) = rw (alike_safe flow (Some flow) t u h) refl
-
 unsafe : (flow : Bool) (t : List ℕ) → separates t ≡ true → is_safe flow t ≡ false
 unsafe flow t h = rw h refl
 
-alike_begins : (flow : Bool) (t u : List ℕ) → Alike (Some flow) t u → begins_plain flow t ≡ begins_plain flow u
+alike_text : (flow : Bool) (t u : List ℕ) → Alike (Some flow) t u → ends_text flow t ≡ ends_text flow u
+alike_text flow _ _ (stop {b = b} x) = rw (at_byte is_stop b 58 x refl) refl
+alike_text flow _ _ (colon {t = t} {u = u} x y) = rw (x, y) refl
+alike_text flow _ _ (byte {b = b} {t = t} {u = u} v w x y) = rw (unsafe flow t x, unsafe flow u y) refl
+alike_text flow _ _ (after {b = b} {t = t} {u = u} h) = rw (alike_safe flow (Some flow) t u h) refl
+
+pub alike_begins : (flow : Bool) (t u : List ℕ) → Alike (Some flow) t u → begins_plain flow t ≡ begins_plain flow u
 alike_begins flow _ _ (stop {b = b} {t = t} {u = u} x) = rw (stop_break b t x, stop_break b u x, at_byte is_stop b 45 x refl, at_byte is_stop b 63 x refl, at_byte is_stop b 58 x refl) refl
 alike_begins flow _ _ (colon {t = t} {u = u} x y) = rw (x, y) refl
-alike_begins flow _ _ (dash {t = t} {u = u} x y) = rw (unsafe flow t x, unsafe flow u y) refl
+alike_begins flow _ _ (byte {b = b} {t = t} {u = u} v w x y) = rw (v, w, unsafe flow t x, unsafe flow u y) refl
 alike_begins flow _ _ (after {b = b} {t = t} {u = u} h) = rw (alike_space (Some flow) (b ∷ t) (b ∷ u) (after h), alike_safe flow (Some flow) t u h) refl
 
 alike_deep : (spaces : Option ℕ) (f : Option Bool) (t u : List ℕ) → Alike f t u → begins_deep spaces t ≡ begins_deep spaces u
@@ -147,7 +148,7 @@ alike_cut : (flow : Bool) (t u : List ℕ) → Alike (Some flow) t u → SameGap
 unfolding upto
 alike_cut flow _ _ (stop {b = b} {t = t} {u = u} x) = rw (at_byte is_stop b 32 x refl, at_byte is_stop b 9 x refl, stop_break b t x, stop_break b u x) (refl, stop x)
 alike_cut flow _ _ (colon {t = t} {u = u} x y) = (refl, colon x y)
-alike_cut flow _ _ (dash {t = t} {u = u} x y) = (refl, dash x y)
+alike_cut flow _ _ (byte {b = b} {t = t} {u = u} v w x y) = rw (v, w) (refl, byte v w x y)
 alike_cut flow _ _ (after {b = b} {t = t} {u = u} h) =
     let again = alike_cut flow t u h in
     let same = alike_space (Some flow) (b ∷ t) (b ∷ u) (after h) in
@@ -156,7 +157,7 @@ alike_cut flow _ _ (after {b = b} {t = t} {u = u} h) =
       | inr e ↦ (let g : is_space (b ∷ u) ≡ false = sym same ∙ e in rw (e, g) (refl, after h))
     ]
 
-alike_ends : (spaces : Option ℕ) (flow : Bool) (t u : List ℕ) → Alike (Some flow) t u → ends_plain flow spaces t ≡ ends_plain flow spaces u
+pub alike_ends : (spaces : Option ℕ) (flow : Bool) (t u : List ℕ) → Alike (Some flow) t u → ends_plain flow spaces t ≡ ends_plain flow spaces u
 alike_ends spaces flow t u h =
     let c = alike_cut flow t u h in
     let on : follows flow spaces (cut no_gap t).0 (cut no_gap t).1 ≡ follows flow spaces (cut no_gap u).0 (cut no_gap u).1 =

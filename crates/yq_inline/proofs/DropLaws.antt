@@ -107,7 +107,7 @@ cons_left d k g key n (comma b q) (item key2 n2 sep2 is) h new rest old fresh_ b
     ∙ sym (append_assoc g (key_text key (node_text n []) ++ (b ++ (44 ∷ []))) z) in
     record {
       are = (stands.key_is, a.1, stands.node_is, sep_is, x.are);
-      gap = gap_alike (Some true) g _ _ (key_text_alike key _ _ (node_text_alike n (b ++ (44 ∷ (q ++ t))) (b ++ (44 ∷ (h ++ u))) like)) gap;
+      gap = gap_alike (Some true) g _ _ (key_text_alike key _ _ (node_text_alike (Some true) n (b ++ (44 ∷ (q ++ t))) (b ++ (44 ∷ (h ++ u))) like)) gap;
       text = becomes_same _ _ _ _ old fresh_ behind_ (cut (q ++ t)) (cut (h ++ u)) (put_before (g ++ (key_text key (node_text n []) ++ (b ++ (44 ∷ [])))) (q ++ t) (h ++ u) old fresh_ behind_ x.text);
     }
 

@@ -54,7 +54,7 @@ item_keeps d k f key n t u c e h keeps x y =
 
 -- an item's text begins as a node
 pub item_begins : (d k : ℕ) (key : Key) (n : Node) (r : List ℕ) → IsKey k key (node_text n r) → (is_keyed key || not (is_bare n)) ≡ true → IsNode true (Some 0) d n r → begins_node true (key_text key (node_text n r)) ≡ true
-item_begins d k bare n r h s x = some_begins d n r (not-true (is_bare n) s) x
+item_begins d k bare n r h s x = some_begins true (Some 0) d n r (not-true (is_bare n) s) x
 item_begins d k (keyed p b g) n r h s x =
     let t : List ℕ = p ++ (b ++ (58 ∷ (g ++ node_text n r))) in
     or_right (first_is 38 t) (begins_content true t) (or_right (first_is 42 t) _ (or_right (first_is 91 t) _ (or_right (first_is 123 t) (begins_scalar true t) (scalar_begins true None p (b ++ (58 ∷ (g ++ node_text n r))) h.1))))
@@ -90,7 +90,7 @@ cons_local d k key n (comma b g) (item key2 n2 sep2 is) new rest old fresh_ behi
     let stands = item_keeps d k false key n (b ++ (44 ∷ (g ++ t))) (b ++ (44 ∷ (g ++ u))) c e h (keeps_alike (Some true) false (key_text key (node_text n [])) _ _ like) a.0 a.2 in
     record {
       are = (stands.key_is, a.1, stands.node_is, sep_is, l.are);
-      front = λ q x. gap_alike (Some true) q _ _ (key_text_alike key _ _ (node_text_alike n (b ++ (44 ∷ (g ++ t))) (b ++ (44 ∷ (g ++ u))) like)) x;
+      front = λ q x. gap_alike (Some true) q _ _ (key_text_alike key _ _ (node_text_alike (Some true) n (b ++ (44 ∷ (g ++ t))) (b ++ (44 ∷ (g ++ u))) like)) x;
       text = becomes_same _ _ _ _ old fresh_ behind (item_cut key n (comma b g) t) (item_cut key n (comma b g) u) (put_before (key_text key (node_text n (sep_text (comma b g) []))) t u old fresh_ behind l.text);
     }
 

@@ -43,8 +43,8 @@ pub record Swapped (d k : ℕ) (is new : Items) (rest : List ℕ) (y : EntryPiec
 key_like : (k d : ℕ) (key : Key) (n m : Node) (r : List ℕ) → IsNode true (Some 0) d n r → Swaps d n m r → IsKey k key (node_text n r) → IsKey k key (node_text m r)
 key_like k d bare n m r x s h = h
 key_like k d (keyed p b g) n m r x s h =
-    let bx = some_begins d n r s.old_some x in
-    key_front k p b g (node_text n r) (node_text m r) bx (some_begins d m r s.new_some s.is) (gap_alike (Some true) g (node_text n r) (node_text m r) s.like (lead_gap (begins_node true) g (node_text n r) bx bx h.4)) h
+    let bx = some_begins true (Some 0) d n r s.old_some x in
+    key_front k p b g (node_text n r) (node_text m r) bx (some_begins true (Some 0) d m r s.new_some s.is) (gap_alike (Some true) g (node_text n r) (node_text m r) s.like (lead_gap (begins_node true) g (node_text n r) bx bx h.4)) h
 
 some_or : (a b : Bool) → b ≡ false → (a || not b) ≡ true
 some_or true b h = refl
@@ -70,7 +70,7 @@ items_swap d k s f (item key n sep is) rest y c a h w = go (is_here s (inner (ke
       let new : List ℕ = items_text k (change_item (further s) f is) rest in
       let like = sep_text_alike sep tail new more.like in
       let kept = item_kept d k key n sep tail new c like (sep_alike k sep tail new more.like a.3) a.0 a.2 a.3 in
-      record { are = (kept.key_is, a.1, kept.node_is, kept.sep_is, more.are); like = key_text_alike key (node_text n (sep_text sep tail)) (node_text n (sep_text sep new)) (node_text_alike n (sep_text sep tail) (sep_text sep new) like) }
+      record { are = (kept.key_is, a.1, kept.node_is, kept.sep_is, more.are); like = key_text_alike key (node_text n (sep_text sep tail)) (node_text n (sep_text sep new)) (node_text_alike (Some true) n (sep_text sep tail) (sep_text sep new) like) }
 
 pub item_cut : (key : Key) (n : Node) (sep : Sep) (t : List ℕ) → key_text key (node_text n (sep_text sep t)) ≡ key_text key (node_text n (sep_text sep [])) ++ t
 item_cut key n sep t = ap (λ l. key_text key (node_text n l)) (sep_append sep [] t) ∙ (ap (key_text key) (node_append n (sep_text sep []) t) ∙ key_append key (node_text n (sep_text sep [])) t)

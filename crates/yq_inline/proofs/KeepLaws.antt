@@ -9,7 +9,7 @@ use Rattle.yq_inline.specs.declared.gap.Before.TheVariants.{Token, White, Break,
 use Rattle.yq_inline.specs.Alike.{Alike, after, fresh, KeepsApart}
 use Rattle.yq_inline.specs.Gaps.{goes, next, behind, is_comment, is_break as at_break, AllGo, stops, IsGap}
 use Rattle.yq_inline.specs.Nodes.{Node, empty, alias, scalar, coll, anchored, node_text, items_text, open_of, first_is, begins_content, begins_node, is_bare, takes_anchor, IsNode}
-use Rattle.yq_inline.specs.Scalars.{begins_scalar}
+use Rattle.yq_inline.specs.Scalars.{begins_scalar, IsScalar}
 use Rattle.yq_inline.proofs.Alikes.{alike_append, alike_space, alike_marker}
 use Rattle.yq_inline.proofs.PieceLaws.{scalar_begins, scalar_some}
 use Rattle.yq_inline.proofs.WrittenLaws.{node_then}
@@ -66,15 +66,18 @@ gap_keeps g b p t u keeps h = record {
 }
 
 -- a node that is something
-pub some_begins : (d : ℕ) (node : Node) (rest : List ℕ) → is_bare node ≡ false → IsNode true (Some 0) d node rest → begins_node true (node_text node rest) ≡ true
-unfolding node_text IsNode
-some_begins d empty rest e h = absurd (false≢true (sym e))
-some_begins d (alias n) rest e h = refl
-some_begins d (scalar p) rest e h =
+content_begins : (flow : Bool) (spaces : Option ℕ) (p rest : List ℕ) → IsScalar flow spaces p rest → begins_content flow (p ++ rest) ≡ true
+content_begins flow spaces p rest h =
     let t : List ℕ = p ++ rest in
-    or_right (first_is 38 t) (begins_content true t) (or_right (first_is 42 t) _ (or_right (first_is 91 t) _ (or_right (first_is 123 t) (begins_scalar true t) (scalar_begins true (Some 0) p rest h))))
-some_begins d (coll k g is) rest e h = cond_both (eqb k 125) 123 91 (λ (b : ℕ). (t : List ℕ) → begins_node true (b ∷ t) ≡ true) (λ _ t. refl) (λ _ t. refl) (g ++ items_text k is rest)
-some_begins d (anchored n g node) rest e h = refl
+    or_right (first_is 42 t) _ (or_right (first_is 91 t) _ (or_right (first_is 123 t) (begins_scalar flow t) (scalar_begins flow spaces p rest h)))
+
+pub some_begins : (flow : Bool) (spaces : Option ℕ) (d : ℕ) (node : Node) (rest : List ℕ) → is_bare node ≡ false → IsNode flow spaces d node rest → begins_node flow (node_text node rest) ≡ true
+unfolding node_text IsNode
+some_begins flow spaces d empty rest e h = absurd (false≢true (sym e))
+some_begins flow spaces d (alias n) rest e h = refl
+some_begins flow spaces d (scalar p) rest e h = or_right (first_is 38 (p ++ rest)) (begins_content flow (p ++ rest)) (content_begins flow spaces p rest h)
+some_begins flow spaces d (coll k g is) rest e h = cond_both (eqb k 125) 123 91 (λ (b : ℕ). (t : List ℕ) → begins_node flow (b ∷ t) ≡ true) (λ _ t. refl) (λ _ t. refl) (g ++ items_text k is rest)
+some_begins flow spaces d (anchored n g node) rest e h = refl
 
 pub bare_text : (node : Node) (rest : List ℕ) → is_bare node ≡ true → node_text node rest ≡ rest
 unfolding node_text
@@ -84,15 +87,13 @@ bare_text (scalar p) rest h = absurd (false≢true h)
 bare_text (coll close gap items) rest h = absurd (false≢true h)
 bare_text (anchored n g node) rest h = absurd (false≢true h)
 
-pub taken_begins : (d : ℕ) (node : Node) (rest : List ℕ) → is_bare node ≡ false → takes_anchor node ≡ true → IsNode true (Some 0) d node rest → begins_content true (node_text node rest) ≡ true
+pub taken_begins : (flow : Bool) (spaces : Option ℕ) (d : ℕ) (node : Node) (rest : List ℕ) → is_bare node ≡ false → takes_anchor node ≡ true → IsNode flow spaces d node rest → begins_content flow (node_text node rest) ≡ true
 unfolding node_text IsNode
-taken_begins d empty rest e a h = absurd (false≢true (sym e))
-taken_begins d (alias n) rest e a h = absurd (false≢true a)
-taken_begins d (scalar p) rest e a h =
-    let t : List ℕ = p ++ rest in
-    or_right (first_is 42 t) _ (or_right (first_is 91 t) _ (or_right (first_is 123 t) (begins_scalar true t) (scalar_begins true (Some 0) p rest h)))
-taken_begins d (coll k g is) rest e a h = cond_both (eqb k 125) 123 91 (λ (b : ℕ). (t : List ℕ) → begins_content true (b ∷ t) ≡ true) (λ _ t. refl) (λ _ t. refl) (g ++ items_text k is rest)
-taken_begins d (anchored n g node) rest e a h = absurd (false≢true a)
+taken_begins flow spaces d empty rest e a h = absurd (false≢true (sym e))
+taken_begins flow spaces d (alias n) rest e a h = absurd (false≢true a)
+taken_begins flow spaces d (scalar p) rest e a h = content_begins flow spaces p rest h
+taken_begins flow spaces d (coll k g is) rest e a h = cond_both (eqb k 125) 123 91 (λ (b : ℕ). (t : List ℕ) → begins_content flow (b ∷ t) ≡ true) (λ _ t. refl) (λ _ t. refl) (g ++ items_text k is rest)
+taken_begins flow spaces d (anchored n g node) rest e a h = absurd (false≢true a)
 
 -- a text that isn't empty
 abbrev pub NotEmpty : List ℕ → Type 0

@@ -102,8 +102,8 @@ key_keeps k d f bare n t u c e h keeps x y is = is
 key_keeps k d f (keyed p b g) n t u c e h keeps x y is = elim (is_true (is_bare n)) [
   | inl z ↦ (let old : IsKey k (keyed p b g) t = subst (λ (l : List ℕ). IsKey k (keyed p b g) l) (bare_text n t z) is in
       subst (λ (l : List ℕ). IsKey k (keyed p b g) l) (sym (bare_text n u z)) (key_bare k p b g t u c e h old))
-  | inr z ↦ (let bx = some_begins d n t z x in
-      let by = some_begins d n u z y in
+  | inr z ↦ (let bx = some_begins true (Some 0) d n t z x in
+      let by = some_begins true (Some 0) d n u z y in
       let a = keeps_append p f (b ++ (58 ∷ (g ++ node_text n []))) t u keeps in
       let q = keeps_append b (fresh f p) (58 ∷ (g ++ node_text n [])) t u a in
       let r : KeepsApart (fresh false g) (node_text n []) t u = keeps_append g false (node_text n []) t u q.2 in

@@ -80,7 +80,7 @@ last_shorter d k line stays (item key n (comma b g) (item key2 n2 sep2 (item key
     let front_ : List ℕ = key_text key (node_text n (sep_text (comma b g) [])) in
     record {
       are = (stands.key_is, a.1, stands.node_is, sep_is, more.are);
-      front = λ q e x. gap_alike (Some true) q _ _ (key_text_alike key _ _ (node_text_alike n (b ++ (44 ∷ (g ++ old))) (b ++ (44 ∷ (g ++ new))) like)) x;
+      front = λ q e x. gap_alike (Some true) q _ _ (key_text_alike key _ _ (node_text_alike (Some true) n (b ++ (44 ∷ (g ++ old))) (b ++ (44 ∷ (g ++ new))) like)) x;
       before = front_ ++ more.before;
       was = item_cut key n (comma b g) old ∙ (ap (λ l. front_ ++ l) more.was ∙ sym (append_assoc front_ more.before (last_text tail ++ sep_text (last_sep tail) (k ∷ rest))));
       is_now = item_cut key n (comma b g) new ∙ (ap (λ l. front_ ++ l) more.is_now ∙ sym (append_assoc front_ more.before u));

@@ -24,6 +24,7 @@ pub mod EndLaws
 pub mod KeepLaws
 pub mod KeyKeeps
 pub mod NodeKeeps
+pub mod LineNodes
 pub mod CollLaws
 pub mod ItemSwaps
 pub mod ContextLaws
@@ -46,3 +47,5 @@ pub mod PlacedRemovals
 pub mod RemovePlaces
 pub mod FlowSpelled
 pub mod NestedLaws
+pub mod EditSpans
+pub mod EditWholes

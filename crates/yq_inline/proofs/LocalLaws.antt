@@ -107,7 +107,7 @@ coll_no_anchor k cs = elim (eqb k 125) as (λ c. anchor_in (cond c (tree.map Non
 
 -- in the place of a node that is something, without an anchor
 filled_by : (d k : ℕ) (m : Node) (key : Key) (n : Node) (rest : List ℕ) → is_bare n ≡ false → FitsNode d m rest → IsKey k key (node_text n rest) → IsNode true (Some 0) d n rest → IsKey k key (node_text m rest) × Front (key_text key (node_text n rest)) (key_text key (node_text m rest))
-filled_by d k m key n rest some f h x = refit k key (node_text n rest) (node_text m rest) (some_begins d n rest some x) (some_begins d m rest f.some f.is) f.unmarked h
+filled_by d k m key n rest some f h x = refit k key (node_text n rest) (node_text m rest) (some_begins true (Some 0) d n rest some x) (some_begins true (Some 0) d m rest f.some f.is) f.unmarked h
 
 -- in the place of nothing behind a `:`
 spaced : (k : ℕ) (p b x y : List ℕ) → is_close k ≡ true → begins_node true x ≡ false → begins_node true y ≡ true → is_safe true x ≡ false → IsKey k (keyed p b []) x → IsKey k (keyed p b (32 ∷ [])) y
@@ -124,7 +124,7 @@ filled d k m (keyed p b g) empty rest c e f h s x =
     let old : IsKey k (keyed p b []) rest = subst (λ (l : List ℕ). IsKey k (keyed p b l) rest) nothing h in
     let was : p ++ (b ++ (58 ∷ (g ++ rest))) ≡ (p ++ (b ++ (58 ∷ []))) ++ rest = rw nothing (ap (λ l. p ++ l) (sym (append_assoc b (58 ∷ []) rest)) ∙ sym (append_assoc p (b ++ (58 ∷ [])) rest)) in
     record {
-      key_is = spaced k p b rest (node_text m rest) c bx (some_begins d m rest f.some f.is) (ends_safe k rest c e) old;
+      key_is = spaced k p b rest (node_text m rest) c bx (some_begins true (Some 0) d m rest f.some f.is) (ends_safe k rest c e) old;
       some = refl;
       node_is = f.is;
       front = λ q a. gap_alike None q _ _ (alike_append None p _ _ (alike_append None b (58 ∷ (g ++ rest)) (58 ∷ (32 ∷ node_text m rest)) any_colon)) a;
@@ -145,12 +145,12 @@ filled d k m key (coll j g is) rest c e f h s x = let y = filled_by d k m key (c
 filled d k m key (anchored n g empty) rest c e f h s x =
     let nothing : g ≡ [] = lead_none (begins_content true) g rest x.4.0 x.1 in
     let new : List ℕ = node_text m rest in
-    let by = some_begins d m rest f.some f.is in
+    let by = some_begins true (Some 0) d m rest f.some f.is in
     let y = refit k key (38 ∷ (n ++ (g ++ rest))) (38 ∷ (n ++ (32 ∷ new))) refl refl (no_first 38 (n ++ (32 ∷ new)) refl refl) h in
     record {
       key_is = y.0;
       some = or_true (is_keyed key);
-      node_is = (name_space n (g ++ rest) new x.0, inl (space_before new by, taken_begins d m rest f.some f.takes f.is), or_true (is_bare m), f.takes, f.is);
+      node_is = (name_space n (g ++ rest) new x.0, inl (space_before new by, taken_begins true (Some 0) d m rest f.some f.takes f.is), or_true (is_bare m), f.takes, f.is);
       front = y.1;
       text = record {
         before = key_text key [] ++ (38 ∷ n);
@@ -164,13 +164,13 @@ filled d k m key (anchored n g (alias a)) rest c e f h s x = absurd (false≢tru
 filled d k m key (anchored n g (anchored a q node)) rest c e f h s x = absurd (false≢true x.3)
 filled d k m key (anchored n g (scalar p)) rest c e f h s x =
     let new : List ℕ = node_text m rest in
-    let bx : begins_content true (p ++ rest) ≡ true = taken_begins d (scalar p) rest refl refl x.4 in
+    let bx : begins_content true (p ++ rest) ≡ true = taken_begins true (Some 0) d (scalar p) rest refl refl x.4 in
     let y = refit k key (38 ∷ (n ++ (g ++ (p ++ rest)))) (38 ∷ (n ++ (g ++ new))) refl refl (no_first 38 (n ++ (g ++ new)) refl refl) h in
-    let gap = gap_new g (p ++ rest) new (some_begins d (scalar p) rest refl x.4) (some_begins d m rest f.some f.is) (unmarked_gap g new f.unmarked) (lead_gap (begins_content true) g (p ++ rest) bx (some_begins d (scalar p) rest refl x.4) x.1) in
+    let gap = gap_new g (p ++ rest) new (some_begins true (Some 0) d (scalar p) rest refl x.4) (some_begins true (Some 0) d m rest f.some f.is) (unmarked_gap g new f.unmarked) (lead_gap (begins_content true) g (p ++ rest) bx (some_begins true (Some 0) d (scalar p) rest refl x.4) x.1) in
     record {
       key_is = y.0;
       some = or_true (is_keyed key);
-      node_is = (name_again n g (p ++ rest) new x.2 x.0, inl (gap, taken_begins d m rest f.some f.takes f.is), rw f.some x.2, f.takes, f.is);
+      node_is = (name_again n g (p ++ rest) new x.2 x.0, inl (gap, taken_begins true (Some 0) d m rest f.some f.takes f.is), rw f.some x.2, f.takes, f.is);
       front = y.1;
       text = record {
         before = key_text key [] ++ (38 ∷ (n ++ g));
@@ -183,13 +183,13 @@ filled d k m key (anchored n g (scalar p)) rest c e f h s x =
 filled d k m key (anchored n g (coll j q is)) rest c e f h s x =
     let new : List ℕ = node_text m rest in
     let old : List ℕ = node_text (coll j q is) rest in
-    let bx : begins_content true old ≡ true = taken_begins d (coll j q is) rest refl refl x.4 in
+    let bx : begins_content true old ≡ true = taken_begins true (Some 0) d (coll j q is) rest refl refl x.4 in
     let y = refit k key (38 ∷ (n ++ (g ++ old))) (38 ∷ (n ++ (g ++ new))) refl refl (no_first 38 (n ++ (g ++ new)) refl refl) h in
-    let gap = gap_new g old new (some_begins d (coll j q is) rest refl x.4) (some_begins d m rest f.some f.is) (unmarked_gap g new f.unmarked) (lead_gap (begins_content true) g old bx (some_begins d (coll j q is) rest refl x.4) x.1) in
+    let gap = gap_new g old new (some_begins true (Some 0) d (coll j q is) rest refl x.4) (some_begins true (Some 0) d m rest f.some f.is) (unmarked_gap g new f.unmarked) (lead_gap (begins_content true) g old bx (some_begins true (Some 0) d (coll j q is) rest refl x.4) x.1) in
     record {
       key_is = y.0;
       some = or_true (is_keyed key);
-      node_is = (name_again n g old new x.2 x.0, inl (gap, taken_begins d m rest f.some f.takes f.is), rw f.some x.2, f.takes, f.is);
+      node_is = (name_again n g old new x.2 x.0, inl (gap, taken_begins true (Some 0) d m rest f.some f.takes f.is), rw f.some x.2, f.takes, f.is);
       front = y.1;
       text = record {
         before = key_text key [] ++ (38 ∷ (n ++ g));

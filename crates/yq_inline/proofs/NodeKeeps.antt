@@ -1,5 +1,5 @@
 -- A node of a flow collection before what stands behind an item is one before another such text, if its bytes keep apart from that.
-use Rattle.std.proofs.Common.{◌≡◌, inl, inr, ⊎_elim, ℕ, zero, suc, drop, eq-eqb, Bool, true, false, not, ◌||◌, eqb, List, [], ◌∷◌, ◌++◌, Some, refl, sym, ap, ◌∙◌, subst, eqb-true, append-nil}
+use Rattle.std.proofs.Common.{◌≡◌, inl, inr, ⊎_elim, ℕ, zero, suc, drop, eq-eqb, Bool, true, false, not, ◌||◌, eqb, List, [], ◌∷◌, ◌++◌, Option, Some, refl, sym, ap, ◌∙◌, subst, eqb-true, append-nil}
 use Rattle.std.proofs.lemmas.Bool.{or_cases, or_right, not-false}
 use Rattle.yq_scalar.specs.Text.{NoneIn, unless, is_empty, is_feed}
 use Rattle.yq_scalar.proofs.Bools.{is_true, or_false, at_byte}
@@ -33,8 +33,8 @@ pub key_text_alike : (key : Key) (t u : List ℕ) → Alike (Some true) t u → 
 key_text_alike bare t u h = h
 key_text_alike (keyed p b s) t u h = alike_append (Some true) p (b ++ (58 ∷ (s ++ t))) (b ++ (58 ∷ (s ++ u))) (alike_append (Some true) b (58 ∷ (s ++ t)) (58 ∷ (s ++ u)) (after (alike_append (Some true) s t u h)))
 
-pub node_text_alike : (node : Node) (t u : List ℕ) → Alike (Some true) t u → Alike (Some true) (node_text node t) (node_text node u)
-node_text_alike node t u h = rw (node_then node t, node_then node u) (alike_append (Some true) (node_text node []) t u h)
+pub node_text_alike : (f : Option Bool) (node : Node) (t u : List ℕ) → Alike f t u → Alike f (node_text node t) (node_text node u)
+node_text_alike f node t u h = rw (node_then node t, node_then node u) (alike_append f (node_text node []) t u h)
 
 -- items up to their closing bracket are alike
 pub items_text_alike : (k : ℕ) (is : Items) (t u : List ℕ) → is_close k ≡ true → Alike (Some true) (items_text k is t) (items_text k is u)
@@ -45,7 +45,7 @@ items_text_alike k none t u c = ⊎_elim {0, 0, 0}
     (or_cases (eqb k 93) (eqb k 125) c)
 items_text_alike k (item key n s is) t u c =
     let sep = sep_text_alike s (items_text k is t) (items_text k is u) (items_text_alike k is t u c) in
-    key_text_alike key (node_text n (sep_text s (items_text k is t))) (node_text n (sep_text s (items_text k is u))) (node_text_alike n (sep_text s (items_text k is t)) (sep_text s (items_text k is u)) sep)
+    key_text_alike key (node_text n (sep_text s (items_text k is t))) (node_text n (sep_text s (items_text k is u))) (node_text_alike (Some true) n (sep_text s (items_text k is t)) (sep_text s (items_text k is u)) sep)
 
 name_fresh : (f : Bool) (n r : List ℕ) → NoneIn (unless in_name) n r → f ≡ false → fresh f n ≡ false
 name_fresh f [] r h e = e
@@ -61,7 +61,7 @@ lead_behind k d g node t u c e h keeps a x y lead = elim (is_true (is_bare node)
   | inl z ↦ (let no : begins_content true t ≡ false = (or_false (first_is 38 t) (begins_content true t) (ends_node k t c e)).1 in
       let none_ : g ≡ [] = lead_none (begins_content true) g t no (subst (λ (l : List ℕ). IsLead true (begins_content true) g l) (bare_text node t z) lead) in
       subst (λ (l : List ℕ). IsLead true (begins_content true) l (node_text node u)) (sym none_) (subst (λ (l : List ℕ). IsLead true (begins_content true) [] l) (sym (bare_text node u z)) (ends_lead (begins_content true) k u c h (λ r. refl) (λ r. refl) (λ r. refl))))
-  | inr z ↦ inl (gap_node g d node t u z x keeps (lead_gap (begins_content true) g (node_text node t) (taken_begins d node t z a x) (some_begins d node t z x) lead), taken_begins d node u z a y)
+  | inr z ↦ inl (gap_node g d node t u z x keeps (lead_gap (begins_content true) g (node_text node t) (taken_begins true (Some 0) d node t z a x) (some_begins true (Some 0) d node t z x) lead), taken_begins true (Some 0) d node u z a y)
 ]
 
 mutual

@@ -27,14 +27,14 @@ append_some [] b y = (b, (y, refl))
 append_some (a ∷ x) b y = (a, (x ++ (b ∷ y), refl))
 
 -- behind a text that isn't empty
-return_some : (x y : List ℕ) → NotEmpty y → ends_return (x ++ y) ≡ ends_return y
+pub return_some : (x y : List ℕ) → NotEmpty y → ends_return (x ++ y) ≡ ends_return y
 return_some x y s = subst (λ (l : List ℕ). ends_return (x ++ l) ≡ ends_return l) (sym s.1.1) (return_append x s.0 s.1.0)
 
 -- no CR ends this text before an LF of that one
 abbrev pub Whole : List ℕ → List ℕ → Type 0
 Whole p t = (ends_return p && front is_feed t) ≡ false
 
-whole_by : (p t : List ℕ) → ends_return p ≡ false → Whole p t
+pub whole_by : (p t : List ℕ) → ends_return p ≡ false → Whole p t
 whole_by p t h = rw h refl
 
 name_return : (n r : List ℕ) → NoneIn (unless in_name) n r → ends_return n ≡ false
@@ -91,7 +91,7 @@ node_return k (anchored n g node) d t c e h = elim (is_true (is_bare node)) [
       subst (λ (b : Bool). (b && front is_feed t) ≡ false) (sym same) (node_return k node d t c e h.4))
 ]
 
-item_return : (k d : ℕ) (key : Key) (n : Node) (t : List ℕ) → is_close k ≡ true → EndsItem k t → IsKey k key (node_text n t) → IsNode true (Some 0) d n t → Whole (key_text key (node_text n [])) t
+pub item_return : (k d : ℕ) (key : Key) (n : Node) (t : List ℕ) → is_close k ≡ true → EndsItem k t → IsKey k key (node_text n t) → IsNode true (Some 0) d n t → Whole (key_text key (node_text n [])) t
 item_return k d bare n t c e x h = node_return k n d t c e h
 item_return k d (keyed p b g) n t c e x h = elim (is_true (is_bare n)) [
   | inl z ↦ (let nothing : g ≡ [] = lead_none (begins_node true) g t (ends_node k t c e) (subst (λ (l : List ℕ). IsLead true (begins_node true) g l) (bare_text n t z) x.4) in
@@ -111,7 +111,7 @@ pairs_behind (b ∷ x) t h = pairs_behind x t (go (is_return b) h) where
   go true e = (and_true (front is_feed (x ++ t)) (pairs_returns (x ++ t)) e).1
   go false e = e
 
-pairs_end : (x t : List ℕ) → pairs_returns (x ++ t) ≡ true → Whole x t → ends_return x ≡ false
+pub pairs_end : (x t : List ℕ) → pairs_returns (x ++ t) ≡ true → Whole x t → ends_return x ≡ false
 unfolding pairs_returns
 pairs_end [] t h w = refl
 pairs_end (b ∷ []) t h w = go (is_return b) h w where
@@ -121,7 +121,7 @@ pairs_end (b ∷ []) t h w = go (is_return b) h w where
 pairs_end (b ∷ c ∷ x) t h w = pairs_end (c ∷ x) t (pairs_behind (b ∷ []) (c ∷ (x ++ t)) h) w
 
 -- the last item but one
-until_some : (d k : ℕ) (is : Items) (rest : List ℕ) → is_several is ≡ true → AreItems d k is rest → NotEmpty (until_last is)
+pub until_some : (d k : ℕ) (is : Items) (rest : List ℕ) → is_several is ≡ true → AreItems d k is rest → NotEmpty (until_last is)
 unfolding items_text AreItems
 until_some d k none rest some a = absurd (false≢true some)
 until_some d k (item key n sep none) rest some a = absurd (false≢true some)

@@ -6,7 +6,7 @@ use Rattle.yq_inline.specs.declared.path.Step as declared
 use Rattle.yq_inline.specs.declared.path.Entry.{Entry}
 use Rattle.yq_inline.specs.Nodes.{Key, Node, empty, alias, scalar, coll, anchored, Items, none, item, key_text, sep_text, node_text, items_text}
 use Rattle.yq_inline.specs.Places.{Placed, placed, Content, nothing, name, text, sequence, mapping, Parts, end, part, key_placed, locate}
-use Rattle.yq_inline.specs.Trees.{inner, key_content, key_here}
+use Rattle.yq_inline.specs.Trees.{inner, key_content, unplaced_key}
 use Rattle.yq_inline.specs.View.{view}
 
 -- the step that one of the code stands for (own)
@@ -37,7 +37,7 @@ parts_of (placed a s c e f) = parts_in f
 -- the item or entry to which a step leads (own)
 abbrev pub part_at : Step → Parts → Option PlacedEntry
 part_at s end = None
-part_at s (part key n parts) = if is_here s (inner (key_here key)) then Some (key, n) else part_at (further s) parts
+part_at s (part key n parts) = if is_here s (inner (unplaced_key key)) then Some (key, n) else part_at (further s) parts
 
 -- the item or entry to which steps lead from one (own)
 abbrev pub placed_entry_at : List Step → PlacedEntry → Option PlacedEntry

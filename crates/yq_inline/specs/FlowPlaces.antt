@@ -11,7 +11,7 @@ use Rattle.yq_inline.specs.FlowEdits.{FlowEdit}
 use Rattle.yq_inline.specs.Nodes.{first_is}
 use Rattle.yq_inline.specs.Places.{Placed, placed, Content, nothing, name, text, sequence, mapping, Parts, end, part}
 use Rattle.yq_inline.specs.Reading.{gap_len}
-use Rattle.yq_inline.specs.Trees.{inner, key_here}
+use Rattle.yq_inline.specs.Trees.{inner, unplaced_key}
 
 -- where bytes that give way begin and end, and what takes their place before that which is written (own)
 pub record PlacedEdit : Type 0 where
@@ -68,7 +68,7 @@ first_start (part key n parts) = Some (entry_start (key, n))
 abbrev pub among : Option ℕ → Step → Parts → Option Among
 among before s end = None
 among before s (part key n parts) =
-    if is_here s (inner (key_here key)) then Some (record { before = before; start = entry_start (key, n); end = end_of n; next = first_start parts })
+    if is_here s (inner (unplaced_key key)) then Some (record { before = before; start = entry_start (key, n); end = end_of n; next = first_start parts })
     else among (Some (end_of n)) (further s) parts
 
 -- an LF stands before this place (own)

@@ -52,9 +52,9 @@ unfoldable mutual
   items_tree (item key n sep is) = tree.child (inner (key_content key)) (tree_of n) (items_tree is)
 
 -- the content of a key that stands with its piece, if there is one (own)
-abbrev pub key_here : Option (List ℕ × Piece) → Option (List ℕ)
-key_here None = None
-key_here (Some k) = Some k.0
+abbrev pub unplaced_key : Option (List ℕ × Piece) → Option (List ℕ)
+unplaced_key None = None
+unplaced_key (Some k) = Some k.0
 
 abbrev mutual
   -- the tree of a node with places, without these (own)
@@ -72,7 +72,7 @@ abbrev mutual
   -- the same of items or entries (own)
   pub parts_tree : Parts → Children
   parts_tree end = tree.none
-  parts_tree (part key n parts) = tree.child (inner (key_here key)) (placed_tree n) (parts_tree parts)
+  parts_tree (part key n parts) = tree.child (inner (unplaced_key key)) (placed_tree n) (parts_tree parts)
 
 -- the name of the anchor before an inline node, if there is one (YAML 1.2.2, section 6.9.2)
 abbrev pub node_anchor : Node → Option (List ℕ)

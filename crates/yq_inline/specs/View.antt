@@ -50,12 +50,12 @@ abbrev pub items_view : List Inline → Parts → Parts
 items_view is = put_items (map view is)
 
 -- an entry with the node that it shows (own)
-abbrev pub entry_view : String Global × Piece × Inline → String Global × Piece × Placed
-entry_view e = (e.0, e.1, view e.2)
+abbrev pub pair_view : String Global × Piece × Inline → String Global × Piece × Placed
+pair_view e = (e.0, e.1, view e.2)
 
 -- the entries that these show, before others (own)
 abbrev pub entries_view : List (String Global × Piece × Inline) → Parts → Parts
-entries_view es = put_entries (map entry_view es)
+entries_view es = put_entries (map pair_view es)
 
 -- the items that these show (own)
 abbrev pub items_end : List Inline → Parts

@@ -8,7 +8,7 @@ use Rattle.yq_scalar.specs.Scalar.{ScalarText, string_of}
 use Rattle.yq_scalar.specs.Tree as tree
 use Rattle.yq_scalar.specs.Writable.{can_write}
 use Rattle.yq_scalar.specs.Written.{written}
-use Rattle.yq_inline.specs.Nodes.{Key, bare, keyed, Sep, last, comma, Node, alias, scalar, coll, anchored, Items, none, item, node_text}
+use Rattle.yq_inline.specs.Nodes.{Key, bare, keyed, Sep, last, comma, Node, alias, scalar, coll, Items, none, item, node_text}
 
 -- the style in which a scalar is written there: plain if this can write it, else double-quoted (own)
 abbrev pub style_at : ScalarText → Place → Style

@@ -14,3 +14,9 @@ pub(crate) fn fault(kind: FaultKind, whole: &str, rest: &str) -> ReadFault {
         line: breaks.saturating_add(1),
     }
 }
+
+/// A fault in a flow collection behind whose bracket stood `open`: where this rest of the whole text
+/// begins, or, at the text's end, where the collection does, which is not closed.
+pub(crate) fn flow_fault(kind: FaultKind, whole: &str, open: &str, rest: &str) -> ReadFault {
+    fault(kind, whole, if rest.is_empty() { open } else { rest })
+}

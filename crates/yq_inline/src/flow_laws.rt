@@ -1,5 +1,6 @@
 //! Laws of edits in flow collections, each the contract of a function that does nothing.
 ghost use Rattle.std.specs.Prelude.{◌≡◌, ◌∷◌, ◌++◌, ◌==◌, ◌≤◌, ◌-◌, Bool, List, [], Option, Some, drop, length, take, true, ℕ};
+ghost use Rattle.std.specs.Str.{IsCharBoundary};
 ghost use Rattle.yq_scalar.specs.Characters.{pairs_returns};
 ghost use Rattle.yq_scalar.specs.Keys.{depth};
 ghost use Rattle.yq_scalar.specs.Paths.{Step, append_child, change, change_child, remove_child, within};
@@ -12,10 +13,11 @@ ghost use Rattle.yq_scalar.specs.declared.style.Style.{Style};
 ghost use Rattle.yq_inline.specs.Collections.{CollAt, CollPieces, IsCollAt, coll_along, coll_in, item_in, room_in};
 ghost use Rattle.yq_inline.specs.Entries.{EntryPieces, end_of, entry_pieces_at, entry_start, item_at, locate_entry, pieces_text};
 ghost use Rattle.yq_inline.specs.FlowEdits.{Becomes, FitsItem, FitsNode, IsEdited, appending, behind_appended, put_value, replacing};
-ghost use Rattle.yq_inline.specs.FlowPlaces.{append_place, place_edit, remove_place, replace_place};
+ghost use Rattle.yq_inline.specs.FlowPlaces.{PlacedEdit, append_place, place_edit, remove_place, replace_place};
 ghost use Rattle.yq_inline.specs.Nodes.{IsNode, Key, Node, node_text, scalar};
-ghost use Rattle.yq_inline.specs.Places.{locate};
+ghost use Rattle.yq_inline.specs.Places.{Placed, locate};
 ghost use Rattle.yq_inline.specs.Removals.{removing};
+ghost use Rattle.yq_inline.specs.Spans.{HasSpans};
 ghost use Rattle.yq_inline.specs.Trees.{inner, key_content, scalar_node, tree_of};
 ghost use Rattle.yq_inline.specs.Valued.{IsLabel, IsValid, IsValueTree};
 ghost use Rattle.yq_inline.specs.Written.{flow_key, flow_of};
@@ -63,4 +65,10 @@ pub fn flow_places()
     ensures append { (total : ℕ) (node : Node) (rest : List ℕ) (c : CollPieces) (key : Key) (m : Node) → length (node_text node rest) ≤ total → coll_in node rest ≡ Some c → append_place (locate total node rest) ≡ Some (place_edit total (appending key m c)) }
     ensures remove { (flow : Bool) (spaces : Option ℕ) (d : ℕ) (t before : List ℕ) (node : Node) (rest : List ℕ) (c : CollPieces) (s : Step) (y : EntryPieces) → IsNode flow spaces d node rest → coll_in node rest ≡ Some c → item_at c.close s c.items c.rest ≡ Some y → t ≡ before ++ node_text node rest →
         remove_place t s (locate (length t) node rest) ≡ Some (place_edit (length t) (removing s c)) }
+{}
+
+/// The bytes of an edit go from one character of the text to another or to its end.
+pub fn edit_spans()
+    ensures replace { (t : List ℕ) (p : Placed) → HasSpans t p → IsCharBoundary t (replace_place p).start × IsCharBoundary t (replace_place p).end }
+    ensures remove { (t : List ℕ) (s : Step) (p : Placed) (e : PlacedEdit) → HasSpans t p → remove_place t s p ≡ Some e → IsCharBoundary t e.start × IsCharBoundary t e.end }
 {}

@@ -16,7 +16,7 @@ mod scalar;
 mod value;
 mod write;
 
-pub use flow_laws::{appended_in_flow, flow_places, removed_in_flow, replaced_in_flow};
+pub use flow_laws::{appended_in_flow, edit_spans, flow_places, removed_in_flow, replaced_in_flow};
 pub use flow_place::EditPlace;
 pub use inline::{Form, Inline};
 pub use laws::{

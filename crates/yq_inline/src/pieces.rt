@@ -8,7 +8,7 @@ ghost use Rattle.yq_inline.specs.Reading as spec;
 ghost use Rattle.yq_inline.specs.Scalars as scalars;
 ghost use Rattle.std.specs.List.{prefix_len};
 
-use crate::fault::fault;
+use crate::fault::{fault, flow_fault};
 use crate::gap::read_gap;
 use yq_scalar::plain::{begins_plain, holds_break, is_flow_indicator, split_plain};
 use yq_scalar::quoted::split_quoted;
@@ -196,21 +196,27 @@ fn ends_key(piece: &str, text: &[u8]) -> bool
     is_quoted(piece.as_bytes()) || separates(text) || first_is(b',', text) || first_is(b'}', text)
 }
 
-/// What follows the `:` of a key.
+/// What follows the `:` of a key; behind the mapping's `{` stood `open`.
 #[tactic(auto, unfolding(crate::specs::Reading::colon_at))]
-fn read_colon<'t>(piece: &str, whole: &str, text: &'t str) -> Result<&'t str, ReadFault>
+fn read_colon<'t>(piece: &str, whole: &str, open: &str, text: &'t str) -> Result<&'t str, ReadFault>
     ensures read { Reads (λ x. x.now) result (spec.colon_at piece.now text.now) }
     ensures shorter { IfOk result (λ x. length x.now < length text.now) }
 {
     match strip(b':', text) {
         Some(rest) if ends_key(piece, rest.as_bytes()) => Ok(rest),
-        _ => Err(fault(FaultKind::BadFlow, whole, text)),
+        _ => Err(flow_fault(FaultKind::BadFlow, whole, open, text)),
     }
 }
 
-/// What follows an item and the comma behind it, if there is one.
+/// What follows an item and the comma behind it, if there is one; behind the collection's bracket stood
+/// `open`.
 #[tactic(auto, unfolding(crate::specs::Reading::sep_at, crate::specs::Reading::sep_behind))]
-pub(crate) fn read_sep<'t>(close: u8, whole: &str, text: &'t str) -> Result<&'t str, ReadFault>
+pub(crate) fn read_sep<'t>(
+    close: u8,
+    whole: &str,
+    open: &str,
+    text: &'t str,
+) -> Result<&'t str, ReadFault>
     ensures read { Reads (λ x. x.now) result (seen.past_sep close text.now) }
     ensures shorter { IfOk result (λ x. length x.now ≤ length text.now) }
 {
@@ -222,20 +228,29 @@ pub(crate) fn read_sep<'t>(close: u8, whole: &str, text: &'t str) -> Result<&'t 
     if first_is(close, rest.as_bytes()) {
         Ok(rest)
     } else {
-        Err(fault(no_node(rest.as_bytes(), FaultKind::BadFlow), whole, rest))
+        let kind = no_node(rest.as_bytes(), FaultKind::BadFlow);
+        Err(flow_fault(kind, whole, open, rest))
     }
 }
 
-/// A key with what quotes it, and what follows its `:` and the gap behind it.
+/// A key with what quotes it, and what follows its `:` and the gap behind it; behind the mapping's `{`
+/// stood `open`.
 #[tactic(auto, unfolding(crate::specs::Reading::key_at))]
-pub(crate) fn read_key<'t>(whole: &str, text: &'t str) -> Result<(&'t str, &'t str), ReadFault>
+pub(crate) fn read_key<'t>(
+    whole: &str,
+    open: &str,
+    text: &'t str,
+) -> Result<(&'t str, &'t str), ReadFault>
     ensures read { Reads (λ x. (x.0.now, x.1.now)) result (seen.seen_key text.now) }
     ensures quoted { IfOk result (λ x. scalars.is_quoted x.0.now ≡ true → IsQuotedText x.0.now) }
     ensures shorter { IfOk result (λ x. length x.1.now < length text.now) }
 {
-    let (key, rest) = read_scalar(true, None, whole, text)?;
+    let (key, rest) = match read_scalar(true, None, whole, text) {
+        Ok(found) => found,
+        Err(found) => return Err(flow_fault(found.kind, whole, open, text)),
+    };
     let (_, rest) = read_gap(whole, rest)?;
-    let rest = read_colon(key, whole, rest)?;
+    let rest = read_colon(key, whole, open, rest)?;
     let (_, rest) = read_value_lead(whole, rest)?;
     Ok((key, rest))
 }

@@ -5,7 +5,7 @@ ghost use Rattle.yq_inline.specs.Places as spec;
 ghost use Rattle.yq_inline.specs.PlacedReading as seen;
 ghost use Rattle.yq_inline.specs.View.{entries_end, form_view, items_end, view};
 
-use crate::fault::fault;
+use crate::fault::{fault, flow_fault};
 use crate::gap::read_gap;
 use crate::inline::{Form, Inline};
 use crate::pieces::{begins_content, no_node, read_lead, read_name, read_sep, strip};
@@ -153,7 +153,7 @@ fn read_sequence<'t>(
     if depth == 0 {
         return Err(ReadError::from(fault(FaultKind::TooDeep, whole, text)));
     }
-    let (items, rest) = read_items(alloc, whole, depth - 1, rest)?;
+    let (items, rest) = read_items(alloc, whole, depth - 1, text, rest)?;
     Ok((Form::List(items), rest))
 }
 
@@ -173,17 +173,18 @@ fn read_mapping<'t>(
     if depth == 0 {
         return Err(ReadError::from(fault(FaultKind::TooDeep, whole, text)));
     }
-    let (entries, rest) = read_entries(alloc, whole, depth - 1, rest)?;
+    let (entries, rest) = read_entries(alloc, whole, depth - 1, text, rest)?;
     Ok((Form::Map(entries), rest))
 }
 
-/// The items in front, and what follows their `]`.
+/// The items in front, and what follows their `]`; behind their `[` stood `open`.
 #[cycle(nodes)]
 #[tactic(auto, using(crate::proofs::Steps::items_more, crate::proofs::Steps::items_end))]
 fn read_items<'t>(
     alloc: Global,
     whole: &'t str,
     depth: usize,
+    open: &str,
     text: &'t str,
 ) -> Result<(Vec<Inline<'t>>, &'t str), ReadError>
     requires { length text.now ≤ length whole.now }
@@ -200,21 +201,22 @@ fn read_items<'t>(
         let (item, after) = read_node(alloc, true, Some(0), whole, depth, rest)?;
         if is_bare(&item) {
             let kind = no_node(rest.as_bytes(), FaultKind::BadFlow);
-            return Err(ReadError::from(fault(kind, whole, rest)));
+            return Err(ReadError::from(flow_fault(kind, whole, open, rest)));
         }
-        let after = read_sep(b']', whole, after)?;
+        let after = read_sep(b']', whole, open, after)?;
         items.push(item)?;
         rest = after;
     }
 }
 
-/// The entries in front, and what follows their `}`.
+/// The entries in front, and what follows their `}`; behind their `{` stood `open`.
 #[cycle(nodes)]
 #[tactic(auto, using(crate::proofs::Steps::entries_more, crate::proofs::Steps::items_end))]
 fn read_entries<'t>(
     alloc: Global,
     whole: &'t str,
     depth: usize,
+    open: &str,
     text: &'t str,
 ) -> Result<(Vec<(String, Piece, Inline<'t>)>, &'t str), ReadError>
     requires { length text.now ≤ length whole.now }
@@ -228,9 +230,9 @@ fn read_entries<'t>(
             entries.shrink_to_fit();
             return Ok((entries, behind));
         }
-        let (key, piece, after) = read_entry_key(alloc, whole, rest)?;
+        let (key, piece, after) = read_entry_key(alloc, whole, open, rest)?;
         let (value, after) = read_node(alloc, true, Some(0), whole, depth, after)?;
-        let after = read_sep(b'}', whole, after)?;
+        let after = read_sep(b'}', whole, open, after)?;
         entries.push((key, piece, value))?;
         rest = after;
     }

@@ -75,17 +75,19 @@ pub(crate) fn read_text<'t>(
     Ok((Form::Scalar(scalar, place), rest))
 }
 
-/// The key in front with its content and piece, and what follows its `:`.
+/// The key in front with its content and piece, and what follows its `:`; behind the mapping's `{` stood
+/// `open`.
 pub(crate) fn read_entry_key<'t>(
     alloc: Global,
     whole: &str,
+    open: &str,
     text: &'t str,
 ) -> Result<(String, Piece, &'t str), ReadError>
     requires { length text.now ≤ length whole.now }
     ensures shorter { IfOk result (λ x. length x.2.now < length text.now) }
     ensures read { Gives (λ x. ((string_bytes x.0, x.1), x.2.now)) result (seen.placed_key (length whole.now) text.now) }
 {
-    let (piece, rest) = read_key(whole, text)?;
+    let (piece, rest) = read_key(whole, open, text)?;
     let key = content_of(alloc, piece)?;
     let start = whole.len() - text.len();
     let place = inline_piece(style_of(piece.as_bytes()), start, start + piece.len());

@@ -13,7 +13,7 @@ use denote.Bor.{Bor}
 use Rattle.yq_lines.specs.Anchors.{Name, Anchors, Refers}
 use Rattle.yq_lines.specs.Names.{name_view, all_named}
 use Rattle.yq_lines.specs.LinesReading.{are_bound}
-use Rattle.yq_lines.specs.declared.names.Named.{Named}
+use Rattle.yq_lines.specs.declared.names.Name as declared
 
 -- a name is among the keys
 abbrev pub has : {X : Type 0} → BTreeMap (Bor (List ℕ)) X → List ℕ → Bool
@@ -52,5 +52,5 @@ pub alias_known : {X : Type 0} (m : BTreeMap (Bor (List ℕ)) X) (a : List ℕ) 
 alias_known m a names all h k = record { known = k.known; same = k.same; so_far = k.so_far ∙ ap (λ b. b && are_bound k.known names) (sym (k.same a) ∙ sym h) }
 
 -- the name at a place, before those behind it
-pub named_at : (ns : List Named) (i : ℕ) (d : Named) (n : Name) → i < length ns → name_view (get_or ns i d).name ≡ n → all_named (drop i ns) ≡ n ∷ all_named (drop (i + 1) ns)
+pub named_at : (ns : List declared.Name) (i : ℕ) (d : declared.Name) (n : Name) → i < length ns → name_view (get_or ns i d) ≡ n → all_named (drop i ns) ≡ n ∷ all_named (drop (i + 1) ns)
 named_at ns i d n within is = ap all_named (drop_more ns i d within) ∙ ap (λ x. x ∷ all_named (drop (i + 1) ns)) is

@@ -1,7 +1,7 @@
 -- The rules of the grammar and outlines say the same.
 use Rattle.std.proofs.Common.{◌≡◌, ℕ, ◌+◌, ◌<◌, List, [], ◌∷◌, ◌++◌, Option, Some, None, refl, sym, ap, ◌∙◌, subst, arith}
 use Rattle.yq_scalar.specs.Tree.{Node, Children, none, child}
-use Rattle.yq_lines.specs.Outline.{Mark, Bare, Key, Dash, Line, level, Outline, end, row, flatten, IsOpen, IsWhole, IsEven, anchored, head_or, null, label, collection, shaped, children, value, Stands}
+use Rattle.yq_lines.specs.Outline.{Mark, Bare, Key, Dash, Line, level, Outline, end, row, flatten, IsOpen, IsWhole, IsEven, anchored, head_or, null_node, label, collection, shaped, children, value, Stands}
 use Rattle.yq_lines.specs.Grammar.{IsNode, alone, mapping, sequence, AreEntries, no_more, entry, IsUnder, headed, missing, deeper_lines}
 use Rattle.yq_lines.proofs.Allowing.{IsEntry, IsCollection}
 use Rattle.yq_lines.proofs.Values.{same_entry, same_rank}
@@ -99,8 +99,8 @@ node_of n k u a Bare None e f lev op w ih = absurd w
 node_of n k u (row l v b) Bare (Some x) e f lev op w ih = absurd w
 node_of n k (row l v b) end Bare (Some x) e f lev op w ih = absurd op
 node_of n k end end Bare (Some x) e f lev op w ih =
-    let P : Mark → Type 0 = λ m. IsNode n (k ∷ []) (collection m (child (label k) (anchored k.anchor (head_or k.head null)) none)) in
-    let Q : Option Node → Type 0 = λ h. IsNode n (k ∷ []) (anchored k.anchor (head_or h null)) in
+    let P : Mark → Type 0 = λ m. IsNode n (k ∷ []) (collection m (child (label k) (anchored k.anchor (head_or k.head null_node)) none)) in
+    let Q : Option Node → Type 0 = λ h. IsNode n (k ∷ []) (anchored k.anchor (head_or h null_node)) in
     subst P (sym e) (subst Q (sym f) (alone lev e f))
 
 -- a line's head, or the lines under it

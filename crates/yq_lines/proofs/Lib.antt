@@ -23,6 +23,7 @@ pub mod PathLines
 pub mod PlaceLaws
 pub mod Plug
 pub mod SameLaws
+pub mod ShapeLaws
 pub mod SizeLaws
 pub mod SoundLaws
 pub mod SpotLaws

@@ -11,7 +11,7 @@ use Rattle.yq_lines.specs.Outline.{Mark, Bare, Key, Dash, Line, level, Outline, 
 use Rattle.yq_lines.specs.declared.line.Line as declared
 use Rattle.yq_lines.specs.View.{views}
 use Rattle.yq_lines.specs.Places.{Place, here, below, beside, compose, lines_before, Found, find_row, inside, in_head, bare_or, find}
-use Rattle.yq_lines.specs.Spots.{spot, seen, is_bare, begins_bare, reach_in, if_head, reach_under, reach_from}
+use Rattle.yq_lines.specs.Spots.{spot, seen, is_bare, begins_with_node, reach_in, if_head, reach_under, reach_from}
 use Rattle.yq_lines.proofs.EndsLaws.{has_line, views-length}
 use Rattle.yq_lines.proofs.LinesLaws.{part-all}
 
@@ -61,7 +61,7 @@ no_last_line steps [] ls n e some = absurd (false≢true (some ∙ eq-eqb 0 0 re
 no_last_line steps (s ∷ ss) ls n e some = ap (option_and_then (λ (x : ℕ × List Step). line_if_last x.0 x.1)) e ∙ last_reached steps ls
 
 -- steps go on in the head of a first line that is a node itself
-bare_found : (first : ℕ) (s : Step) (ss : List Step) (o : Outline) → begins_bare o ≡ true → behind first (find s ss o) ≡ Some (first, s ∷ ss)
+bare_found : (first : ℕ) (s : Step) (ss : List Step) (o : Outline) → begins_with_node o ≡ true → behind first (find s ss o) ≡ Some (first, s ∷ ss)
 bare_found first s ss end e = cc
 bare_found first s [] (row l u a) e = go l.mark e
   where
@@ -77,7 +77,7 @@ bare_found first s (t ∷ ts) (row l u a) e = go l.mark e
     go (Key k) h = cc
     go Dash h = cc
 
-pub bare_line : (ls : List Line) (first floor : ℕ) (s : Step) (ss : List Step) → begins_bare (part ls first floor) ≡ true → reach_in ls first floor s ss ≡ Some (first, s ∷ ss)
+pub bare_line : (ls : List Line) (first floor : ℕ) (s : Step) (ss : List Step) → begins_with_node (part ls first floor) ≡ true → reach_in ls first floor s ss ≡ Some (first, s ∷ ss)
 bare_line ls first floor s ss e = bare_found first s ss (part ls first floor) e
 
 -- where steps lead on from a line that was found
@@ -93,7 +93,7 @@ alone : (r : Option Found) → option_map (λ f. (f, [])) r ≡ option_and_then 
 alone None = refl
 alone (Some f) = refl
 
-other_find : (s : Step) (ss : List Step) (o : Outline) → begins_bare o ≡ false → find s ss o ≡ searched s ss o
+other_find : (s : Step) (ss : List Step) (o : Outline) → begins_with_node o ≡ false → find s ss o ≡ searched s ss o
 other_find s [] end e = refl
 other_find s (t ∷ ts) end e = refl
 other_find s [] (row l u a) e = go l.mark e
@@ -140,7 +140,7 @@ some_same : {A : Type 0} {x y : A} → Some x ≡ Some y → x ≡ y
 some_same e = cc
 
 -- one step
-pub step_line : (ds : List declared.Line) (first floor : ℕ) (s : Step) (ss : List Step) (r : Option ℕ) → begins_bare (part (views ds) first floor) ≡ false →
+pub step_line : (ds : List declared.Line) (first floor : ℕ) (s : Step) (ss : List Step) (r : Option ℕ) → begins_with_node (part (views ds) first floor) ≡ false →
     spot first (find_row s (part (views ds) first floor)) ≡ seen (views ds) r → IfSome r (λ i. i < length ds) →
     reach_in (views ds) first floor s ss ≡ option_and_then (λ i. reach_from (views ds) (Some i) ss) r
 step_line ds first floor s ss r other found within =

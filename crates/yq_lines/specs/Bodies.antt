@@ -8,7 +8,7 @@ use Rattle.yq_lines.specs.declared.body.Body as bodies
 use Rattle.yq_lines.specs.declared.body.Named.{Named}
 use Rattle.yq_lines.specs.declared.body.Under.{Under}
 use Rattle.yq_lines.specs.Ends.{part}
-use Rattle.yq_lines.specs.Outline.{Line, level, Outline, anchored, null, children}
+use Rattle.yq_lines.specs.Outline.{Line, level, Outline, anchored, null_node, children}
 
 -- a text that the code lends, if there is one (own)
 abbrev pub lent : Option (Bor (List ℕ)) → Option (List ℕ)
@@ -24,7 +24,7 @@ lines_under ls i l = part ls (i + 1) (level l)
 
 -- what a node of the code stands for, but for the anchor before it (own)
 abbrev pub body_node : List Line → bodies.Body → Node
-body_node ls bodies.TheVariants.Null = null
+body_node ls bodies.TheVariants.Null = null_node
 body_node ls (bodies.TheVariants.Scalar kind text) = scalar None kind text.now
 body_node ls (bodies.TheVariants.Map under) = map None (children (under_of ls under))
 body_node ls (bodies.TheVariants.List under) = list None (children (under_of ls under))

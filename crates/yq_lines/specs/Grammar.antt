@@ -1,7 +1,7 @@
 -- The rules of block nodes (YAML 1.2.2, 8.2).
 use Rattle.std.specs.Prelude.{◌≡◌, ℕ, ◌<◌, List, [], ◌∷◌, ◌++◌, Some, None}
 use Rattle.yq_scalar.specs.Tree.{Node, list, map, Children, none, child}
-use Rattle.yq_lines.specs.Outline.{Bare, Key, Dash, Line, level, anchored, null, label}
+use Rattle.yq_lines.specs.Outline.{Bare, Key, Dash, Line, level, anchored, null_node, label}
 
 mutual
   -- lines are a node's, the first one at this level (8.2.3)
@@ -20,5 +20,5 @@ mutual
   -- an entry's head, the deeper lines behind it, or a null where there is neither (7.2)
   pub data IsUnder : Line → List Line → Node → Type 0 where
     headed : {l : Line} {v : Node} → l.head ≡ Some v → IsUnder l [] v
-    missing : {l : Line} → l.head ≡ None → IsUnder l [] null
+    missing : {l : Line} → l.head ≡ None → IsUnder l [] null_node
     deeper_lines : {l : Line} {n : ℕ} {ls : List Line} {v : Node} → l.head ≡ None → level l < n → IsNode n ls v → IsUnder l ls v

@@ -1,6 +1,7 @@
 pub use Rattle.yq_scalar.specs.Tree
 pub use Rattle.yq_scalar.specs.Paths
 pub use Rattle.yq_scalar.specs.Keys
+pub use Rattle.yq_scalar.specs.Shapes
 pub use Rattle.yq_inline.specs.Inline
 pub use Rattle.yq_inline.specs.Trees
 pub mod Outline
@@ -13,6 +14,7 @@ pub mod LinesReading
 pub mod Ends
 pub mod Places
 pub mod Laws
+pub mod ShapedLines
 pub mod Labelled
 pub mod Spots
 pub mod Comments

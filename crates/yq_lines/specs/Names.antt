@@ -4,7 +4,6 @@ use Rattle.yq_scalar.specs.Tree as tree
 use Rattle.yq_scalar.specs.Tree.{Node, alias, scalar, list}
 use Rattle.yq_lines.specs.Anchors.{Name, Anchors, Refers, with_anchor, names_of, IsNoAlias}
 use Rattle.yq_lines.specs.declared.names.Name as declared
-use Rattle.yq_lines.specs.declared.names.Named.{Named}
 use Rattle.yq_lines.specs.Outline.{Line}
 
 -- the anchors and aliases in a head, in the order of the text (own)
@@ -41,8 +40,8 @@ HaveHeadsApart (l ∷ ls) = (IsUnnamed l.head × MayBeNamed l.anchor l.head) × 
 -- the name that one of the code shows (own)
 abbrev pub name_view : declared.Name → Name
 name_view (declared.TheVariants.Anchors a) = Anchors a.now
-name_view (declared.TheVariants.Refers a) = Refers a.now
+name_view (declared.TheVariants.Refers a byte) = Refers a.now
 
 -- the names that those of the code show, in order (own)
-abbrev pub all_named : List Named → List Name
-all_named ns = map (λ n. name_view n.name) ns
+abbrev pub all_named : List declared.Name → List Name
+all_named ns = map name_view ns

@@ -86,19 +86,19 @@ abbrev pub label : Line → Label
 label l = record { key = key_of l.mark; head_comment = l.head_comment; line_comment = l.line_comment }
 
 -- the node of which nothing is written (7.2)
-abbrev pub null : Node
-null = scalar None Null (codes "null")
+abbrev pub null_node : Node
+null_node = scalar None Null (codes "null")
 
 -- the node that these items or entries make, by what their lines begin with: the one itself, a mapping, or a sequence
 abbrev pub collection : Mark → Children → Node
-collection Bare none = null
+collection Bare none = null_node
 collection Bare (child l n cs) = n
 collection (Key k) cs = map None cs
 collection Dash cs = list None cs
 
 -- the node that these items or entries make, by the outline's first line
 abbrev pub shaped : Outline → Children → Node
-shaped end cs = null
+shaped end cs = null_node
 shaped (row l under after) cs = collection l.mark cs
 
 -- the items or entries of an outline's lines

@@ -27,9 +27,9 @@ is_bare (Key k) = false
 is_bare Dash = false
 
 -- the first of lines is a node itself (own)
-abbrev pub begins_bare : Outline → Bool
-begins_bare end = false
-begins_bare (row l u a) = is_bare l.mark
+abbrev pub begins_with_node : Outline → Bool
+begins_with_node end = false
+begins_with_node (row l u a) = is_bare l.mark
 
 -- where steps lead among the lines from one on that are deeper than a level: to a line, by its index, and on in its head (own)
 abbrev pub reach_in : List Line → ℕ → ℕ → Step → List Step → Option (ℕ × List Step)

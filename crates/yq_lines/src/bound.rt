@@ -3,25 +3,25 @@ ghost use Rattle.std.specs.Prelude.{◌≡◌, [], is_none, IfOk};
 ghost use Rattle.yq_lines.specs.Names.{all_named};
 ghost use Rattle.yq_lines.specs.LinesReading.{are_bound};
 
-use crate::names::{Name, Named};
+use crate::names::Name;
 use std::alloc::{AllocError, Global};
 use std::collections::BTreeMap;
 
-/// The line, counted from 0, of the first alias before which no anchor of its name stands.
-pub(crate) fn unbound_line(alloc: Global, names: &[Named<'_>]) -> Result<Option<usize>, AllocError>
+/// The byte of the text at which the first alias stands before which no anchor of its name stands.
+pub(crate) fn unbound_alias(alloc: Global, names: &[Name<'_>]) -> Result<Option<usize>, AllocError>
     ensures { IfOk result (λ l. is_none l ≡ are_bound [] (all_named names.now)) }
 {
     let mut known = BTreeMap::new(alloc);
     let mut at = 0;
     'names: while at < names.len() {
         let named = names[at];
-        match named.name {
+        match named {
             Name::Anchors(name) => {
                 known.insert(name, ())?;
             }
-            Name::Refers(name) => {
+            Name::Refers(name, byte) => {
                 if !known.contains_key(name) {
-                    return Ok(Some(named.line));
+                    return Ok(Some(byte));
                 }
             }
         }

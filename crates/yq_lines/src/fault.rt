@@ -6,11 +6,12 @@ ghost use Rattle.yq_lines.specs.Names.{HaveHeadsApart};
 ghost use Rattle.yq_lines.specs.View.{views};
 
 use crate::anchors::second_anchor;
-use crate::bound::unbound_line;
+use crate::bound::unbound_alias;
+use crate::flaw::Flaw;
 use crate::line::Line;
 use crate::lined::Lined;
 use crate::names::names_of;
-use crate::sound::{Flaw, find_flaw};
+use crate::sound::find_flaw;
 use std::alloc::{AllocError, Global};
 use yq_inline::DEPTH_LIMIT;
 use yq_scalar::FaultKind;
@@ -21,17 +22,11 @@ fn name_fault(alloc: Global, lines: &[Line<'_>]) -> Result<Option<Flaw>, AllocEr
     ensures { IfOk result (λ f. is_none f ≡ spec.names_are_sound (views lines.now)) }
 {
     if let Some(line) = second_anchor(lines) {
-        return Ok(Some(Flaw {
-            line,
-            kind: FaultKind::BadScalar,
-        }));
+        return Ok(Some(Flaw::of_line(line, FaultKind::BadScalar)));
     }
     let names = names_of(alloc, lines)?;
-    match unbound_line(alloc, &names)? {
-        Some(line) => Ok(Some(Flaw {
-            line,
-            kind: FaultKind::UnknownAlias,
-        })),
+    match unbound_alias(alloc, &names)? {
+        Some(byte) => Ok(Some(Flaw::of_byte(byte, FaultKind::UnknownAlias))),
         None => Ok(None),
     }
 }

@@ -6,6 +6,7 @@ ghost use Rattle.yq_lines.specs.Comments.{last_comments};
 ghost use Rattle.yq_lines.specs.Outline.{Line, Stands};
 ghost use Rattle.yq_lines.specs.Grammar.{IsNode};
 ghost use Rattle.yq_lines.specs.Laws.{Exchanged};
+ghost use Rattle.yq_lines.specs.ShapedLines.{ShapedByLines, ShapedIsTree};
 
 /// Lines stand for one node at most.
 pub fn one_node()
@@ -16,6 +17,13 @@ pub fn one_node()
 pub fn rules()
     ensures sound { (n : ℕ) (lines : List Line) (node : Node) → Stands lines node n → (l : Line) (ls : List Line) → lines ≡ l ∷ ls → IsNode n lines node }
     ensures complete { (n : ℕ) (lines : List Line) (node : Node) → IsNode n lines node → Stands lines node n }
+{}
+
+/// Lines stand for a node with items and keys where they belong, if what is written on them is such a
+/// node; and such a node, in which no mapping has a key twice, is a tree.
+pub fn lines_shaped()
+    ensures shaped { ShapedByLines }
+    ensures tree { ShapedIsTree }
 {}
 
 /// Lines exchanged at a path change the node at that path alone.

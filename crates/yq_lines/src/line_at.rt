@@ -37,9 +37,9 @@ pub(crate) fn is_bare(mark: &Mark<'_>) -> bool
 }
 
 /// Whether the first of some lines is a node itself.
-fn begins_bare(lines: &[Line<'_>], under: Under) -> bool
+fn begins_with_node(lines: &[Line<'_>], under: Under) -> bool
     ensures some { IsTrue result → under.first < length lines.now }
-    ensures test { result ≡ spec.begins_bare (under_of (views lines.now) under) }
+    ensures test { result ≡ spec.begins_with_node (under_of (views lines.now) under) }
 {
     if !is_deeper(lines, under.first, under.floor) {
         return false;
@@ -55,7 +55,7 @@ fn next_in(lines: &[Line<'_>], ends: &[usize], under: Under, step: &Step) -> Opt
     ensures within { IfSome result (λ x. spec.next_line x < length lines.now) }
     ensures found { (ss : List steps.Step) → spec.reach_in (views lines.now) under.first under.floor (step_of step.now) ss ≡ option_and_then (spec.reach_next (views lines.now) (step_of step.now) ss) result }
 {
-    if begins_bare(lines, under) {
+    if begins_with_node(lines, under) {
         return Some(Next::Head(under.first));
     }
     let at = find_step(lines, ends, under, step)?;

@@ -11,35 +11,21 @@ use std::alloc::{AllocError, Global};
 use yq_inline::{Form, Inline};
 use yq_scalar::Piece;
 
-/// An anchor, or an alias, by its name.
+/// An anchor, or an alias, by its name; of an alias, the byte of the text where it begins.
 #[derive(Clone, Copy, Debug, PartialEq, Eq)]
 pub(crate) enum Name<'t> {
     Anchors(&'t str),
-    Refers(&'t str),
-}
-
-/// An anchor or an alias, and the line, counted from 0, on which it stands.
-#[derive(Clone, Copy, Debug, PartialEq, Eq)]
-pub(crate) struct Named<'t> {
-    pub(crate) line: usize,
-    pub(crate) name: Name<'t>,
+    Refers(&'t str, usize),
 }
 
 /// Adds the anchor of a node, if it has one.
-fn push_anchor<'t>(
-    names: &mut Vec<Named<'t>>,
-    line: usize,
-    anchor: Option<&'t str>,
-) -> Result<(), AllocError>
+fn push_anchor<'t>(names: &mut Vec<Name<'t>>, anchor: Option<&'t str>) -> Result<(), AllocError>
     ensures { OnOk result (all_named names.new.items ≡ all_named names.old.items ++ spec.with_anchor (option_map (λ a. a.now) anchor.entry) []) }
 {
     match anchor {
         None => Ok(()),
         Some(anchor) => {
-            names.push(Named {
-                line,
-                name: Name::Anchors(anchor),
-            })?;
+            names.push(Name::Anchors(anchor))?;
             Ok(())
         }
     }
@@ -47,44 +33,33 @@ fn push_anchor<'t>(
 
 /// Adds the names in an inline node. An alias has no anchor.
 #[cycle(names)]
-fn push_node<'t>(
-    names: &mut Vec<Named<'t>>,
-    line: usize,
-    node: &Inline<'t>,
-) -> Result<(), AllocError>
+fn push_node<'t>(names: &mut Vec<Name<'t>>, node: &Inline<'t>) -> Result<(), AllocError>
     ensures { OnOk result (all_named names.new.items ≡ all_named names.old.items ++ spec.names_of (placed_tree (inline.view node.now))) }
 {
     match &node.form {
-        Form::Empty | Form::Scalar(..) => push_anchor(names, line, node.anchor),
+        Form::Empty | Form::Scalar(..) => push_anchor(names, node.anchor),
         Form::Alias(name) => {
-            names.push(Named {
-                line,
-                name: Name::Refers(name),
-            })?;
+            names.push(Name::Refers(name, node.start))?;
             Ok(())
         }
         Form::List(items) => {
-            push_anchor(names, line, node.anchor)?;
-            push_items(names, line, items)
+            push_anchor(names, node.anchor)?;
+            push_items(names, items)
         }
         Form::Map(entries) => {
-            push_anchor(names, line, node.anchor)?;
-            push_entries(names, line, entries)
+            push_anchor(names, node.anchor)?;
+            push_entries(names, entries)
         }
     }
 }
 
 /// The same of items.
 #[cycle(names)]
-fn push_items<'t>(
-    names: &mut Vec<Named<'t>>,
-    line: usize,
-    items: &Vec<Inline<'t>>,
-) -> Result<(), AllocError>
+fn push_items<'t>(names: &mut Vec<Name<'t>>, items: &Vec<Inline<'t>>) -> Result<(), AllocError>
     ensures { OnOk result (all_named names.new.items ≡ all_named names.old.items ++ spec.names_in (parts_tree (inline.items_end items.now.items))) }
 {
     'each: for item in items {
-        push_node(names, line, item)?;
+        push_node(names, item)?;
     }
     Ok(())
 }
@@ -92,38 +67,37 @@ fn push_items<'t>(
 /// The same of entries.
 #[cycle(names)]
 fn push_entries<'t>(
-    names: &mut Vec<Named<'t>>,
-    line: usize,
+    names: &mut Vec<Name<'t>>,
     entries: &Vec<(String, Piece, Inline<'t>)>,
 ) -> Result<(), AllocError>
     ensures { OnOk result (all_named names.new.items ≡ all_named names.old.items ++ spec.names_in (parts_tree (inline.entries_end entries.now.items))) }
 {
     'each: for entry in entries {
-        push_node(names, line, &entry.2)?;
+        push_node(names, &entry.2)?;
     }
     Ok(())
 }
 
 /// The same of a head.
-fn push_head<'t>(names: &mut Vec<Named<'t>>, line: usize, head: &Head<'t>) -> Result<(), AllocError>
+fn push_head<'t>(names: &mut Vec<Name<'t>>, head: &Head<'t>) -> Result<(), AllocError>
     ensures { OnOk result (all_named names.new.items ≡ all_named names.old.items ++ head_names (head_view head.now)) }
 {
     match head {
         Head::Nothing | Head::Scalar(..) => Ok(()),
-        Head::Inline(node) => push_node(names, line, node),
+        Head::Inline(node) => push_node(names, node),
     }
 }
 
 /// The anchors and aliases of lines, in the order of the text.
-pub(crate) fn names_of<'t>(alloc: Global, lines: &[Line<'t>]) -> Result<Vec<Named<'t>>, AllocError>
+pub(crate) fn names_of<'t>(alloc: Global, lines: &[Line<'t>]) -> Result<Vec<Name<'t>>, AllocError>
     ensures { IfOk result (λ n. all_named n.items ≡ line_names (views lines.now)) }
 {
     let mut names = Vec::new(alloc);
     let mut at = 0;
     'lines: while at < lines.len() {
         let line = &lines[at];
-        push_anchor(&mut names, at, line.anchor)?;
-        push_head(&mut names, at, &line.head)?;
+        push_anchor(&mut names, line.anchor)?;
+        push_head(&mut names, &line.head)?;
         at += 1;
     }
     Ok(names)

@@ -6,8 +6,10 @@ ghost use Rattle.yq_inline.specs.View.{entries_end, items_end, view};
 ghost use Rattle.yq_lines.specs.Sound as spec;
 ghost use Rattle.yq_lines.specs.View.{head_view};
 
+use crate::flaw::Flaw;
 use crate::line::Head;
 use std::alloc::{AllocError, Global};
+use std::collections::BTreeMap;
 use yq_inline::{Form, Inline};
 use yq_scalar::{FaultKind, Piece, are_distinct};
 
@@ -16,7 +18,7 @@ pub(crate) fn head_fault(
     alloc: Global,
     head: &Head<'_>,
     depth: usize,
-) -> Result<Option<FaultKind>, AllocError>
+) -> Result<Option<Flaw>, AllocError>
     ensures { IfOk result (λ f. is_none f ≡ spec.head_is_sound depth (head_view head.now)) }
 {
     match head {
@@ -28,23 +30,19 @@ pub(crate) fn head_fault(
 
 /// The same of an inline node.
 #[cycle(nested)]
-fn node_fault(
-    alloc: Global,
-    node: &Inline<'_>,
-    depth: usize,
-) -> Result<Option<FaultKind>, AllocError>
+fn node_fault(alloc: Global, node: &Inline<'_>, depth: usize) -> Result<Option<Flaw>, AllocError>
     ensures { IfOk result (λ f. is_none f ≡ spec.head_is_sound depth (Some (placed_tree (view node.now)))) }
 {
     match &node.form {
         Form::List(items) => {
             if depth == 0 {
-                return Ok(Some(FaultKind::TooDeep));
+                return Ok(Some(Flaw::of_byte(node.start, FaultKind::TooDeep)));
             }
             items_fault(alloc, items, depth - 1)
         }
         Form::Map(entries) => {
             if depth == 0 {
-                return Ok(Some(FaultKind::TooDeep));
+                return Ok(Some(Flaw::of_byte(node.start, FaultKind::TooDeep)));
             }
             entries_fault(alloc, entries, depth - 1)
         }
@@ -60,15 +58,29 @@ fn items_fault(
     alloc: Global,
     items: &Vec<Inline<'_>>,
     depth: usize,
-) -> Result<Option<FaultKind>, AllocError>
+) -> Result<Option<Flaw>, AllocError>
     ensures { IfOk result (λ f. is_none f ≡ spec.are_sound depth (parts_tree (items_end items.now.items))) }
 {
     'each: for item in items {
-        if let Some(kind) = node_fault(alloc, item, depth)? {
-            return Ok(Some(kind));
+        if let Some(flaw) = node_fault(alloc, item, depth)? {
+            return Ok(Some(flaw));
         }
     }
     Ok(None)
+}
+
+/// The byte of the text at which the first key stands that an earlier entry has; 0 where there is none.
+fn repeated_key(
+    alloc: Global,
+    entries: &Vec<(String, Piece, Inline<'_>)>,
+) -> Result<usize, AllocError> {
+    let mut known = BTreeMap::new(alloc);
+    'each: for entry in entries {
+        if known.insert(entry.0.as_str(), ())?.is_some() {
+            return Ok(entry.1.start);
+        }
+    }
+    Ok(0)
 }
 
 /// The same of the entries of a mapping, and of their keys.
@@ -77,18 +89,19 @@ fn entries_fault(
     alloc: Global,
     entries: &Vec<(String, Piece, Inline<'_>)>,
     depth: usize,
-) -> Result<Option<FaultKind>, AllocError>
+) -> Result<Option<Flaw>, AllocError>
     ensures { let cs = parts_tree (entries_end entries.now.items) in IfOk result (λ f. is_none f ≡ (spec.are_sound depth cs && are_distinct (keys_of cs))) }
 {
     let mut keys = Vec::new(alloc);
     'each: for entry in entries {
-        if let Some(kind) = node_fault(alloc, &entry.2, depth)? {
-            return Ok(Some(kind));
+        if let Some(flaw) = node_fault(alloc, &entry.2, depth)? {
+            return Ok(Some(flaw));
         }
         keys.push(entry.0.as_str())?;
     }
     if !are_distinct(&mut keys) {
-        return Ok(Some(FaultKind::DuplicateKey));
+        let byte = repeated_key(alloc, entries)?;
+        return Ok(Some(Flaw::of_byte(byte, FaultKind::DuplicateKey)));
     }
     Ok(None)
 }

@@ -7,18 +7,12 @@ ghost use Rattle.yq_lines.specs.Sound as spec;
 ghost use Rattle.yq_lines.specs.View.{head_view, mark_view, views};
 
 use crate::ends::{is_deeper, level};
+use crate::flaw::Flaw;
 use crate::line::{Head, Line, Mark};
 use crate::nested::head_fault;
 use std::alloc::{AllocError, Global};
 use std::collections::BTreeMap;
 use yq_scalar::{FaultKind, are_distinct};
-
-/// What is at fault in a document, and the line, counted from 0, where it is.
-#[derive(Clone, Copy, Debug, PartialEq, Eq)]
-pub struct Flaw {
-    pub line: usize,
-    pub kind: FaultKind,
-}
 
 /// Whether a line begins an item or an entry.
 fn is_entry(mark: &Mark<'_>) -> bool
@@ -55,21 +49,12 @@ fn bare_fault(
 {
     let line = &lines[at];
     if !has_head(&line.head) {
-        return Ok(Some(Flaw {
-            line: at,
-            kind: FaultKind::BadIndent,
-        }));
+        return Ok(Some(Flaw::of_line(at, FaultKind::BadIndent)));
     }
     if is_deeper(lines, at + 1, floor) {
-        return Ok(Some(Flaw {
-            line: at + 1,
-            kind: FaultKind::BadIndent,
-        }));
+        return Ok(Some(Flaw::of_line(at + 1, FaultKind::BadIndent)));
     }
-    match head_fault(alloc, &line.head, depth)? {
-        Some(kind) => Ok(Some(Flaw { line: at, kind })),
-        None => Ok(None),
-    }
+    head_fault(alloc, &line.head, depth)
 }
 
 /// What is at fault in a line of a collection: it is to stand at the collection's level, to have no head
@@ -86,21 +71,12 @@ fn line_fault(
 {
     let line = &lines[at];
     if level(line) != n {
-        return Ok(Some(Flaw {
-            line: at,
-            kind: FaultKind::BadIndent,
-        }));
+        return Ok(Some(Flaw::of_line(at, FaultKind::BadIndent)));
     }
     if has_head(&line.head) && is_deeper(lines, at + 1, n) {
-        return Ok(Some(Flaw {
-            line: at + 1,
-            kind: FaultKind::BadIndent,
-        }));
+        return Ok(Some(Flaw::of_line(at + 1, FaultKind::BadIndent)));
     }
-    match head_fault(alloc, &line.head, depth)? {
-        Some(kind) => Ok(Some(Flaw { line: at, kind })),
-        None => Ok(None),
-    }
+    head_fault(alloc, &line.head, depth)
 }
 
 /// Adds the key of a line, if it has one.
@@ -165,10 +141,7 @@ pub(crate) fn find_flaw(
         return bare_fault(alloc, lines, start, floor, depth);
     }
     if depth == 0 {
-        return Ok(Some(Flaw {
-            line: start,
-            kind: FaultKind::TooDeep,
-        }));
+        return Ok(Some(Flaw::of_line(start, FaultKind::TooDeep)));
     }
     let n = level(first);
     let mut keys = Vec::new(alloc);
@@ -186,10 +159,7 @@ pub(crate) fn find_flaw(
     }
     if !are_distinct(&mut keys) {
         let line = repeated_line(alloc, lines, ends, start, floor)?;
-        return Ok(Some(Flaw {
-            line,
-            kind: FaultKind::DuplicateKey,
-        }));
+        return Ok(Some(Flaw::of_line(line, FaultKind::DuplicateKey)));
     }
     Ok(None)
 }

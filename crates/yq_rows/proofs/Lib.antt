@@ -1,8 +1,5 @@
 pub mod AlikeBlocks
-pub mod AlikeNodes
-pub mod AlikePieces
 pub mod AlikeRows
-pub mod Alikes
 pub mod CharacterLaws
 pub mod ContentEnds
 pub mod ContentLaws
@@ -37,8 +34,6 @@ pub mod Failing
 pub mod PlainEnds
 pub mod NothingLaws
 pub mod OffsetLaws
-pub mod AloneLaws
-pub mod AlonePieces
 pub mod EmptyTexts
 pub mod RowPlaces
 pub mod seams

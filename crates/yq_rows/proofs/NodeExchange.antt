@@ -1,5 +1,5 @@
 -- An inline node behind a dash or a key, exchanged for another one.
-use Rattle.std.proofs.Common.{◌≡◌, inl, inr, ℕ, ℤ, true, false, List, [], ◌∷◌, ◌++◌, Some, refl, sym, ap, ◌∙◌, subst, append_assoc}
+use Rattle.std.proofs.Common.{◌≡◌, ℕ, ℤ, true, false, List, [], ◌∷◌, ◌++◌, Some, refl, sym, ap, ◌∙◌, subst, append_assoc}
 use Rattle.std.proofs.lemmas.Bool.{false≢true}
 use Rattle.std.specs.List.{slice_get}
 use Rattle.std.specs.Str.{IsUtf8}
@@ -7,13 +7,13 @@ use Rattle.yq_scalar.specs.declared.style.Place.TheVariants as places
 use Rattle.yq_scalar.specs.Characters.{is_text}
 use Rattle.yq_scalar.specs.Piece.{deeper}
 use Rattle.yq_scalar.specs.Text.{front, is_feed, separates}
-use Rattle.yq_scalar.proofs.Bools.{is_true, or_false}
+use Rattle.yq_scalar.proofs.Bools.{or_false}
 use Rattle.yq_inline.specs.Inline.{depth_limit, IsInline}
 use Rattle.yq_inline.specs.Nodes.{Node, node_text}
 use Rattle.yq_inline.proofs.WrittenLaws.{node_then}
-use Rattle.yq_rows.specs.Exchange.{with_content, exchange, before_content, behind_row, rows_behind, allows_first, Fits, MayFollow}
+use Rattle.yq_rows.specs.Exchange.{with_content, exchange, before_content, behind_row, rows_behind, allows_first, Fits}
 use Rattle.yq_rows.specs.Gap.{IsWhite}
-use Rattle.yq_rows.specs.Grammar.{IsTail, IsContent, IsMark, is_entry, is_plain, unlimited, limit_after, limit_behind, IsCut}
+use Rattle.yq_rows.specs.Grammar.{IsTail, IsContent, IsMark, is_entry, limit_after, IsCut}
 use Rattle.yq_rows.specs.Rows.{Mark, Bare, Dash, Key, Content, Inline, content_text, Row, parent_indent, Cut, cut_text}
 use Rattle.yq_rows.specs.View.{rows_of}
 use Rattle.yq_rows.proofs.CharacterLaws.{text_exchanged}
@@ -34,23 +34,6 @@ pub space_apart : (space old new : List ℕ) → IsWhite space → separates (sp
 space_apart [] old new blank h none = absurd (false≢true (sym none ∙ h))
 space_apart (b ∷ space) old new blank h none = rw blank.0 refl
 
--- what is asked of the next row
-free_first : (rs : List Row) → allows_first unlimited rs ≡ true
-free_first [] = refl
-free_first (r ∷ rs) = refl
-
-next_allowed : (r : Row) (space : List ℕ) (node new : Node) (tail : List ℕ) (behind : List Row) → r.content ≡ Inline space node tail → allows_first (limit_after r) behind ≡ true → MayFollow r space node new tail behind → allows_first (limit_after (with_content (Inline space new tail) r)) behind ≡ true
-next_allowed r space node new tail behind is next (inr a) = a
-next_allowed r space node new tail behind is next (inl (inl e)) = rw e (free_first behind)
-next_allowed r space node new tail behind is next (inl (inr e)) =
-    let n = parent_indent r in
-    let old : allows_first (limit_behind n (Inline space node tail)) behind ≡ true = subst (λ (c : Content). allows_first (limit_behind n c) behind ≡ true) is next in
-    let plain : allows_first (record { column = Some (deeper n) }) behind ≡ true = rw e at old in
-    elim (is_true (is_plain new)) [
-      | inl f ↦ rw f plain
-      | inr f ↦ rw f (free_first behind)
-    ]
-
 -- What stands in a row: white space, a node and a tail, behind a dash or a key.
 pub record HoldsNode (r : Row) (space : List ℕ) (node : Node) (end rest : List ℕ) : Type 0 where
   pub blank : IsWhite space
@@ -65,8 +48,8 @@ holds_node r space node end rest behind h is entry =
     record { blank = c.0; inline = c.1; tail = c.2; apart = a }
 
 pub node_fits : (t : List ℕ) (c : Cut) (i : ℕ) (r : Row) (space : List ℕ) (node new : Node) (tail : List ℕ) → IsCut t c → slice_get (rows_of c) i ≡ Some r → r.content ≡ Inline space node tail → is_entry r.mark ≡ true →
-    IsInline places.Block (parent_indent r) 0 new (tail ++ behind_row i c) → MayFollow r space node new tail (rows_behind i c) → Fits (Inline space new tail) r (behind_row i c) (rows_behind i c)
-node_fits t c i r space node new tail h is content entry inline may =
+    IsInline places.Block (parent_indent r) 0 new (tail ++ behind_row i c) → allows_first (limit_after (with_content (Inline space new tail) r)) (rows_behind i c) ≡ true → Fits (Inline space new tail) r (behind_row i c) (rows_behind i c)
+node_fits t c i r space node new tail h is content entry inline next =
     let rest = behind_row i c in
     let row = row_in c i true r h.parts is in
     let old = holds_node r space node tail rest (rows_behind i c) row content entry in
@@ -74,7 +57,7 @@ node_fits t c i r space node new tail h is content entry inline may =
       entry = entry;
       content = (old.blank, inline, old.tail);
       apart = space_apart space (node_text node (tail ++ rest)) (node_text new (tail ++ rest)) old.blank old.apart (inline_starts (parent_indent r) node (tail ++ rest) old.inline).joined;
-      next = next_allowed r space node new tail (rows_behind i c) content row.next may;
+      next = next;
     }
 
 -- where the node stands

@@ -1,5 +1,5 @@
 -- Whole characters stand before, in and behind a node.
-use Rattle.std.proofs.Common.{◌≡◌, ℕ, ◌+◌, ◌-◌, ◌<◌, true, false, ◌&&◌, ◌||◌, List, [], ◌∷◌, ◌++◌, length, take, drop, get_or, Some, refl, sym, ap, ◌∙◌, subst, arith, ⊎_elim, eqb-true, append_assoc, append-nil, length-append}
+use Rattle.std.proofs.Common.{◌≡◌, ◌⊎◌, inl, inr, ℕ, zero, suc, ◌+◌, ◌-◌, ◌<◌, ◌≤◌, replicate, true, false, ◌&&◌, ◌||◌, List, [], ◌∷◌, ◌++◌, length, take, drop, get_or, Some, refl, sym, ap, ◌∙◌, subst, arith, ⊎_elim, eqb-true, append_assoc, append-nil, length-append}
 use Rattle.std.proofs.Math.Seq.{take-append_seam, drop-append_seam, get_or-append_seam}
 use Rattle.std.proofs.lemmas.Bool.{false≢true, or_cases}
 use Rattle.std.proofs.lemmas.Str.{IsCharBoundary-after_ascii, IsCharBoundary-before_ascii, IsCharBoundary-end, IsUtf8-take, IsUtf8-between}
@@ -7,15 +7,16 @@ use Rattle.std.specs.List.{slice_get}
 use Rattle.std.specs.Str.{IsUtf8, IsCharBoundary}
 use Rattle.yq_scalar.specs.Text.{front, is_feed, is_return, ends_line, separates}
 use Rattle.yq_scalar.proofs.Boundaries.{white_ascii}
-use Rattle.yq_scalar.proofs.Bools.{and_true}
+use Rattle.yq_scalar.proofs.Bools.{is_true, and_true}
 use Rattle.yq_scalar.specs.Lines.{is_hash}
 use Rattle.yq_inline.specs.Nodes.{Node, node_text}
 use Rattle.yq_rows.specs.Exchange.{before_content, behind_row, rows_behind, HasPieces}
 use Rattle.yq_rows.specs.Gap.{IsWhite}
-use Rattle.yq_rows.specs.Grammar.{IsTail, is_entry, IsCut}
-use Rattle.yq_rows.specs.Rows.{Inline, Row, parent_indent, Cut}
+use Rattle.yq_rows.specs.Grammar.{IsTail, IsContent, AreDashes, is_entry, IsCut}
+use Rattle.yq_rows.specs.Rows.{Mark, Bare, Dash, Key, Content, Inline, mark_text, dashes_text, Row, parent_indent, Cut}
 use Rattle.yq_rows.specs.View.{rows_of}
 use Rattle.yq_rows.proofs.LineEnds.{line_end_behind}
+use Rattle.yq_rows.proofs.MarkEnds.{content_ends}
 use Rattle.yq_rows.proofs.NodeExchange.{inline_starts, holds_node, node_place}
 use Rattle.yq_rows.proofs.PlaceLaws.{row_in}
 
@@ -97,13 +98,43 @@ pieces_of before old behind u e h =
       old_utf8 = subst IsUtf8 middle within;
     }
 
-pub node_pieces : (t : List ℕ) (c : Cut) (i : ℕ) (r : Row) (space : List ℕ) (node : Node) (tail : List ℕ) → IsCut t c → IsUtf8 t → slice_get (rows_of c) i ≡ Some r → r.content ≡ Inline space node tail → is_entry r.mark ≡ true →
+-- a row without dash or key, which is indented
+spaces_end : (n : ℕ) → 1 ≤ n → EndsAscii (replicate n 32 ++ [])
+spaces_end zero h = absurd (omega (arith, h))
+spaces_end (suc zero) h = record { front = []; last = 32; is = refl; ascii = omega arith }
+spaces_end (suc (suc n)) h = ends_behind (32 ∷ []) (replicate (suc n) 32 ++ []) (spaces_end (suc n) (omega arith))
+
+bare_ends : (gap : List ℕ) (column : ℕ) (ns : List ℕ) (m : Mark) → is_entry m ≡ false → AreDashes ns m → 1 ≤ column → EndsAscii (gap ++ (replicate column 32 ++ dashes_text ns (mark_text m [])))
+bare_ends gap column (n ∷ ns) m e h some = absurd (false≢true (sym e ∙ h.1))
+bare_ends gap column [] Dash e h some = absurd (false≢true (sym e))
+bare_ends gap column [] (Key key colon) e h some = absurd (false≢true (sym e))
+bare_ends gap column [] Bare e h some = ends_behind gap (replicate column 32 ++ []) (spaces_end column some)
+
+space_behind : (before space : List ℕ) → IsWhite space → EndsAscii before → EndsAscii (before ++ space)
+space_behind before [] blank e = subst EndsAscii (sym (append-nil before)) e
+space_behind before (b ∷ space) blank e = ends_behind before (b ∷ space) (white_ends b space blank)
+
+-- In front of a node is white space, behind a dash, a key or an indentation.
+node_ends : (t : List ℕ) (c : Cut) (i : ℕ) (r : Row) (space : List ℕ) (node : Node) (tail : List ℕ) → IsCut t c → slice_get (rows_of c) i ≡ Some r → r.content ≡ Inline space node tail → (is_entry r.mark ≡ true) ⊎ (1 ≤ r.column) → EndsAscii (before_content i c ++ space)
+node_ends t c i r space node tail h is content place =
+    let row = row_in c i true r h.parts is in
+    elim (is_true (is_entry r.mark)) [
+      | inl entry ↦ (
+          let old = holds_node r space node tail (behind_row i c) (rows_behind i c) row content entry in
+          let starts = inline_starts (parent_indent r) node (tail ++ behind_row i c) old.inline in
+          ends_behind (before_content i c) space (space_ends space (node_text node (tail ++ behind_row i c)) old.blank old.apart starts.joined))
+      | inr bare ↦ (
+          let column : 1 ≤ r.column = ⊎_elim {0, 0, 0} (λ e. absurd (false≢true (sym bare ∙ e))) (λ e. e) place in
+          let old : IsContent (parent_indent r) (Inline space node tail) (behind_row i c) = subst (λ (x : Content). IsContent (parent_indent r) x (behind_row i c)) content row.row.content in
+          space_behind (before_content i c) space old.0 (content_ends EndsAscii ends_behind c i r is (bare_ends r.gap r.column r.dashes r.mark bare row.row.dashes column)))
+    ]
+
+pub node_pieces : (t : List ℕ) (c : Cut) (i : ℕ) (r : Row) (space : List ℕ) (node : Node) (tail : List ℕ) → IsCut t c → IsUtf8 t → slice_get (rows_of c) i ≡ Some r → r.content ≡ Inline space node tail → (is_entry r.mark ≡ true) ⊎ (1 ≤ r.column) →
     HasPieces t (before_content i c ++ space) (node_text node []) (tail ++ behind_row i c)
-node_pieces t c i r space node tail h u is content entry =
+node_pieces t c i r space node tail h u is content place =
     let rest = tail ++ behind_row i c in
     let before = before_content i c ++ space in
     let text : t ≡ before ++ (node_text node [] ++ rest) = h.text ∙ node_place c i r space node tail is content in
-    let old = holds_node r space node tail (behind_row i c) (rows_behind i c) (row_in c i true r h.parts is) content entry in
-    let ends : EndsAscii before = ends_behind (before_content i c) space (space_ends space (node_text node rest) old.blank old.apart (inline_starts (parent_indent r) node rest old.inline).joined) in
+    let old : IsContent (parent_indent r) (Inline space node tail) (behind_row i c) = subst (λ (x : Content). IsContent (parent_indent r) x (behind_row i c)) content (row_in c i true r h.parts is).row.content in
     subst (λ (q : List ℕ). HasPieces q before (node_text node []) rest) (sym text)
-    (pieces_of before (node_text node []) rest (subst IsUtf8 text u) ends (tail_ascii tail (behind_row i c) old.tail))
+    (pieces_of before (node_text node []) rest (subst IsUtf8 text u) (node_ends t c i r space node tail h is content place) (tail_ascii tail (behind_row i c) old.2))

@@ -2,7 +2,7 @@
 use Rattle.std.specs.Prelude.{◌≡◌, ℕ, List, [], ◌∷◌}
 use Rattle.yq_rows.specs.Exchange.{with_content, exchange, behind_row, rows_behind}
 use Rattle.yq_rows.specs.Rows.{Content, Row, Cut}
-use Rattle.yq_rows.specs.Splices.{StandsBetween, first_gap, in_place, nth_part, text_behind}
+use Rattle.yq_rows.specs.Splices.{StandsBetween, first_gap, replace_row, nth_part, rest_behind}
 
 -- Row i of a cut stands between other rows of a part; what stands behind it is what stands behind them, and with another content it stands in its own
 -- place (own).
@@ -12,5 +12,5 @@ pub record RowPlace (i : ℕ) (r : Row) (c : Cut) : Type 0 where
   pub back : List Row
   pub stands : StandsBetween part front r back c
   pub rows : rows_behind i c ≡ back
-  pub behind : behind_row i c ≡ text_behind part back c
-  pub exchanged : (new : Content) → exchange i new c ≡ in_place part front (with_content new r ∷ []) (first_gap back (nth_part part c).end) c
+  pub behind : behind_row i c ≡ rest_behind part back c
+  pub exchanged : (new : Content) → exchange i new c ≡ replace_row part front (with_content new r ∷ []) (first_gap back (nth_part part c).end) c

@@ -1,10 +1,9 @@
 -- What stands behind the mark of a row, exchanged for something else.
-use Rattle.std.specs.Prelude.{◌≡◌, ◌⊎◌, ℕ, zero, suc, ◌+◌, ◌-◌, Bool, true, false, nat_lt, List, [], ◌∷◌, ◌++◌, length, drop, replicate, if◌then◌else◌}
+use Rattle.std.specs.Prelude.{◌≡◌, ℕ, zero, suc, ◌+◌, ◌-◌, Bool, true, nat_lt, List, [], ◌∷◌, ◌++◌, length, drop, replicate, if◌then◌else◌}
 use Rattle.std.specs.Str.{IsUtf8, IsCharBoundary}
 use Rattle.yq_scalar.specs.Text.{separates}
-use Rattle.yq_inline.specs.Nodes.{Node}
-use Rattle.yq_rows.specs.Grammar.{IsContent, is_entry, is_plain, Limit, allows, limit_after}
-use Rattle.yq_rows.specs.Rows.{Content, Inline, content_text, dashes_text, mark_text, Row, parent_indent, print_row, rows_text, Part, part_text, Cut, last, marked, cut_text}
+use Rattle.yq_rows.specs.Grammar.{IsContent, is_entry, Limit, allows, limit_after}
+use Rattle.yq_rows.specs.Rows.{Content, content_text, dashes_text, mark_text, Row, parent_indent, print_row, rows_text, Part, part_text, Cut, last, marked, cut_text}
 
 -- a row with another content (own)
 abbrev pub with_content : Content → Row → Row
@@ -74,11 +73,6 @@ pub record Fits (new : Content) (r : Row) (rest : List ℕ) (behind : List Row) 
   pub content : IsContent (parent_indent r) new rest
   pub apart : separates (content_text new rest) ≡ true
   pub next : allows_first (limit_after (with_content new r)) behind ≡ true
-
--- Another node may stand in the place of a row's, as far as the next row of the part goes: it is no plain scalar, or the old one is, or that row stands
--- where the new one allows it (own).
-abbrev pub MayFollow : Row → (space : List ℕ) → (node new : Node) → (tail : List ℕ) → List Row → Type 0
-MayFollow r space node new tail behind = ((is_plain new ≡ false) ⊎ (is_plain node ≡ true)) ⊎ (allows_first (limit_after (with_content (Inline space new tail) r)) behind ≡ true)
 
 -- A text of three pieces, of which the first two are whole characters, and so is what stands behind them (own).
 pub record HasPieces (t before old behind : List ℕ) : Type 0 where

@@ -2,7 +2,6 @@ pub use Rattle.yq_scalar.specs.Answers
 pub use Rattle.yq_scalar.specs.Characters
 pub use Rattle.yq_scalar.specs.Plain
 pub use Rattle.yq_scalar.specs.Text
-pub mod Alike
 pub mod Alone
 pub mod Appending
 pub mod Counted

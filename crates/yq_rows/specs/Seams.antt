@@ -4,7 +4,7 @@ use Rattle.yq_scalar.specs.Block.{ends_block, keeps}
 use Rattle.yq_scalar.specs.Piece.{deeper}
 use Rattle.yq_scalar.specs.Plain.{ends_plain}
 use Rattle.yq_scalar.specs.Text.{is_empty, is_line, is_marker, lines_of}
-use Rattle.yq_rows.specs.Alike.{Alike}
+use Rattle.yq_inline.specs.Alike.{Alike}
 use Rattle.yq_rows.specs.Exchange.{asked_behind, with_content}
 use Rattle.yq_rows.specs.Grammar.{IsTail, is_plain, IsRow, Limit, AreRows, no_rows}
 use Rattle.yq_rows.specs.Rows.{Content, Nothing, Inline, Block, Row, print_row, rows_text}
@@ -39,7 +39,7 @@ pub record MayFollowRows (limit : Limit) (front new : List Row) (end rest : List
 -- A row before a text takes the place of another one before another text: it is a row there, and their texts begin alike (own).
 pub record TakesPlace (limit : Limit) (r : Row) (t : List ℕ) (s : Row) (u : List ℕ) : Type 0 where
   pub row : IsRow limit s u
-  pub alike : Alike false (print_row r t) (print_row s u)
+  pub alike : Alike (Some false) (print_row r t) (print_row s u)
 
 -- the tail behind a content; a block scalar has none (YAML 1.2.2, section 6.6)
 abbrev pub tail_behind : Content → List ℕ

@@ -1,10 +1,10 @@
 -- What is asked of rows that stand in the place of others.
-use Rattle.std.specs.Prelude.{◌≡◌, ℕ, Bool, true, false, ◌||◌, not, List, [], ◌++◌, take, drop}
+use Rattle.std.specs.Prelude.{◌≡◌, ℕ, Bool, true, false, ◌||◌, not, List, [], ◌++◌, take, drop, Some}
 use Rattle.yq_scalar.specs.Text.{is_empty}
-use Rattle.yq_rows.specs.Alike.{Alike}
+use Rattle.yq_inline.specs.Alike.{Alike}
 use Rattle.yq_rows.specs.Exchange.{allows_first, asked_behind}
 use Rattle.yq_rows.specs.Gap.{IsGap}
-use Rattle.yq_rows.specs.Grammar.{unlimited, AreRows, no_rows}
+use Rattle.yq_rows.specs.Grammar.{IsRow, Limit, unlimited, limit_after, AreRows, no_rows}
 use Rattle.yq_rows.specs.Rows.{Row, rows_text, Part, Cut}
 use Rattle.yq_rows.specs.Seams.{is_closed, are_seamed, ends_in_block}
 use Rattle.yq_rows.specs.Splices.{behind_first, nth_part, behind_part, marker_before, is_started, front_rows, back_rows, asked_at, behind_rows}
@@ -39,7 +39,7 @@ pub record ReplaceFits (k i j : ℕ) (new : List Row) (gap : List ℕ) (c : Cut)
   pub some : no_rows (back_rows k i c) ≡ false
   pub rows : AreRows (asked_at k i c) new gap (behind_rows k j c)
   pub next : allows_first (asked_behind (asked_at k i c) new) (back_rows k j c) ≡ true
-  pub alike : Alike false (rows_text (back_rows k i c) ((nth_part k c).end ++ behind_part k c)) (rows_text new (gap ++ behind_rows k j c))
+  pub alike : Alike (Some false) (rows_text (back_rows k i c) ((nth_part k c).end ++ behind_part k c)) (rows_text new (gap ++ behind_rows k j c))
 
 -- A gap may stand in the place of rows from i up to j of part k, of which there are some: it is a gap there, the next row may follow, and behind a block
 -- scalar stands what ends it (own).
@@ -48,3 +48,11 @@ pub record RemoveFits (k i j : ℕ) (gap : List ℕ) (c : Cut) : Type 0 where
   pub is_gap : IsGap gap (behind_rows k j c)
   pub next : allows_first (asked_at k i c) (back_rows k j c) ≡ true
   pub seam : ends_in_block (front_rows k i c) ≡ true → are_seamed (front_rows k i c) (gap ++ behind_rows k j c) ≡ true
+
+-- A row may stand in the place of another one, before these rows: it is one there, behind the same gap and at the same column, and the next row may
+-- follow (own).
+pub record StandsFor (limit : Limit) (r s : Row) (back : List Row) (rest : List ℕ) : Type 0 where
+  pub gap : s.gap ≡ r.gap
+  pub column : s.column ≡ r.column
+  pub row : IsRow limit s rest
+  pub next : allows_first (limit_after s) back ≡ true

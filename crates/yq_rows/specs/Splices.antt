@@ -98,12 +98,12 @@ abbrev pub StandsBetween : (k : ℕ) → List Row → Row → List Row → Cut �
 StandsBetween k front r back c = (nth_part k c).rows ≡ front ++ (r ∷ back)
 
 -- the text of a cut behind a row of part k, where these rows of the part are behind it (own)
-abbrev pub text_behind : (k : ℕ) → List Row → Cut → List ℕ
-text_behind k back c = rows_text back ((nth_part k c).end ++ behind_part k c)
+abbrev pub rest_behind : (k : ℕ) → List Row → Cut → List ℕ
+rest_behind k back c = rows_text back ((nth_part k c).end ++ behind_part k c)
 
 -- a cut, in which rows, with a gap behind them, stand in the place of the row behind these in part k (own)
-abbrev pub in_place : (k : ℕ) → List Row → List Row → List ℕ → Cut → Cut
-in_place k front new gap c = splice k (length front) (suc (length front)) new gap c
+abbrev pub replace_row : (k : ℕ) → List Row → List Row → List ℕ → Cut → Cut
+replace_row k front new gap c = splice k (length front) (suc (length front)) new gap c
 
 -- a text as its parts is a cut, where it holds the characters of a text and is no longer than one (YAML 1.2.2, section 5.1; own)
 abbrev pub CutsItsText : Cut → Type 0

@@ -1,17 +1,17 @@
 //! Laws of cuts, for the crates above.
-ghost use Rattle.std.specs.Prelude.{◌≡◌, ◌≤◌, ℕ, suc, List, [], ◌∷◌, ◌++◌, Some, length, slice_get, true, false};
+ghost use Rattle.std.specs.Prelude.{◌≡◌, ◌⊎◌, ◌≤◌, ℕ, List, [], ◌++◌, Some, slice_get, true, false};
 ghost use Rattle.std.specs.Str.{IsUtf8};
-ghost use Rattle.yq_scalar.specs.Characters.{is_text, text_limit};
+ghost use Rattle.yq_scalar.specs.Characters.{is_text};
 ghost use Rattle.yq_scalar.specs.Plain.{ends_plain};
 ghost use Rattle.yq_scalar.specs.declared.style.Place.TheVariants.{Block};
 ghost use Rattle.yq_inline.specs.Inline.{IsInline};
 ghost use Rattle.yq_inline.specs.Nodes.{Node, node_text};
-ghost use Rattle.yq_rows.specs.Alike.{Alike};
 ghost use Rattle.yq_rows.specs.Alone.{FitsAlone};
-ghost use Rattle.yq_rows.specs.Exchange.{exchange, before_content, behind_row, rows_behind, allows_first, asked_behind, Fits, MayFollow, HasPieces};
-ghost use Rattle.yq_rows.specs.Grammar.{is_entry, IsTail, Limit, AreRows, IsCut};
+ghost use Rattle.yq_rows.specs.Exchange.{exchange, before_content, behind_row, rows_behind, allows_first, with_content, Fits, HasPieces};
+ghost use Rattle.yq_rows.specs.Grammar.{is_entry, limit_after, IsTail, IsCut};
 ghost use Rattle.yq_rows.specs.Reading.{scan_at};
-ghost use Rattle.yq_rows.specs.Rows.{Content, Inline, content_text, Row, parent_indent, print_row, rows_text, Cut, cut_text};
+ghost use Rattle.yq_rows.specs.Rows.{Content, Inline, content_text, Row, parent_indent, print_row, Cut, cut_text};
+ghost use Rattle.yq_rows.specs.Splices.{CutsItsText};
 ghost use Rattle.yq_rows.specs.View.{slices, rows_of, slices_text};
 
 pub mod appending;
@@ -30,13 +30,6 @@ pub fn row_pieces()
     ensures { (r : Row) (rest : List ℕ) → slices_text (slices r) rest ≡ print_row r rest }
 {}
 
-/// Rows behind rows, exchanged for others: what neighbours ask of each other is the limit behind
-/// and how the text in front begins.
-pub fn rows_chained()
-    ensures { (before rows new : List Row) (limit : Limit) (end rest new_end new_rest : List ℕ) → AreRows limit (before ++ rows) end rest → AreRows (asked_behind limit before) new new_end new_rest →
-        Alike false (rows_text rows (end ++ rest)) (rows_text new (new_end ++ new_rest)) → AreRows limit (before ++ new) new_end new_rest }
-{}
-
 /// The text of a cut is that before a row's content, the content, and that behind it, also where
 /// the content is another one.
 pub fn content_place()
@@ -47,22 +40,19 @@ pub fn content_place()
 /// A cut whose row has another content, which fits, is a cut, where the new text may stand: the
 /// text is cut into the same rows but for that content.
 pub fn content_exchanged()
-    ensures { (t : List ℕ) (c : Cut) (i : ℕ) (r : Row) (new : Content) → IsCut t c → slice_get (rows_of c) i ≡ Some r → Fits new r (behind_row i c) (rows_behind i c) →
-        is_text (cut_text (exchange i new c)) ≡ true → length (cut_text (exchange i new c)) ≤ text_limit → IsCut (cut_text (exchange i new c)) (exchange i new c) }
+    ensures { (t : List ℕ) (c : Cut) (i : ℕ) (r : Row) (new : Content) → IsCut t c → slice_get (rows_of c) i ≡ Some r → Fits new r (behind_row i c) (rows_behind i c) → CutsItsText (exchange i new c) }
 {}
 
-/// A cut is one also where another content, which fits, stands in the place of what is alone on its
-/// line under a row behind whose dash or key is nothing, where the new text may stand.
+/// The same of a row with neither a dash nor a key, whose content is alone on its line.
 pub fn alone_exchanged()
-    ensures { (t : List ℕ) (c : Cut) (i : ℕ) (above r : Row) (behind : List Row) (new : Content) → IsCut t c → slice_get (rows_of c) i ≡ Some above → rows_behind i c ≡ r ∷ behind → FitsAlone new above r (behind_row (suc i) c) behind →
-        is_text (cut_text (exchange (suc i) new c)) ≡ true → length (cut_text (exchange (suc i) new c)) ≤ text_limit → IsCut (cut_text (exchange (suc i) new c)) (exchange (suc i) new c) }
+    ensures { (t : List ℕ) (c : Cut) (i : ℕ) (r : Row) (new : Content) → IsCut t c → slice_get (rows_of c) i ≡ Some r → FitsAlone new r (behind_row i c) (rows_behind i c) → CutsItsText (exchange i new c) }
 {}
 
 /// A node that stands in the place of a row's node behind a dash or a key fits, where the next row
 /// may follow it.
 pub fn node_fits()
     ensures { (t : List ℕ) (c : Cut) (i : ℕ) (r : Row) (space : List ℕ) (node new : Node) (tail : List ℕ) → IsCut t c → slice_get (rows_of c) i ≡ Some r → r.content ≡ Inline space node tail → is_entry r.mark ≡ true →
-        IsInline Block (parent_indent r) 0 new (tail ++ behind_row i c) → MayFollow r space node new tail (rows_behind i c) → Fits (Inline space new tail) r (behind_row i c) (rows_behind i c) }
+        IsInline Block (parent_indent r) 0 new (tail ++ behind_row i c) → allows_first (limit_after (with_content (Inline space new tail) r)) (rows_behind i c) ≡ true → Fits (Inline space new tail) r (behind_row i c) (rows_behind i c) }
 {}
 
 /// The text of a cut is that before a row's node, the node, and that behind it, also where the node
@@ -81,15 +71,10 @@ pub fn node_characters()
         IsUtf8 (before_content i c ++ space) → IsUtf8 (node_text node []) → IsUtf8 (node_text new []) → is_text (node_text new []) ≡ true → is_text (cut_text (exchange i (Inline space new tail) c)) ≡ true }
 {}
 
-/// A text that is a cut's is cut between characters at both ends of a row's node.
+/// A text that is a cut's is cut between characters at both ends of a node, which stands behind a
+/// dash or a key, or is indented.
 pub fn node_pieces()
-    ensures { (t : List ℕ) (c : Cut) (i : ℕ) (r : Row) (space : List ℕ) (node : Node) (tail : List ℕ) → IsCut t c → IsUtf8 t → slice_get (rows_of c) i ≡ Some r → r.content ≡ Inline space node tail → is_entry r.mark ≡ true →
-        HasPieces t (before_content i c ++ space) (node_text node []) (tail ++ behind_row i c) }
-{}
-
-/// The same where the node is alone on its line, which is indented.
-pub fn alone_pieces()
-    ensures { (t : List ℕ) (c : Cut) (i : ℕ) (r : Row) (space : List ℕ) (node : Node) (tail : List ℕ) → IsCut t c → IsUtf8 t → slice_get (rows_of c) i ≡ Some r → r.content ≡ Inline space node tail → is_entry r.mark ≡ false → 1 ≤ r.column →
+    ensures { (t : List ℕ) (c : Cut) (i : ℕ) (r : Row) (space : List ℕ) (node : Node) (tail : List ℕ) → IsCut t c → IsUtf8 t → slice_get (rows_of c) i ≡ Some r → r.content ≡ Inline space node tail → (is_entry r.mark ≡ true) ⊎ (1 ≤ r.column) →
         HasPieces t (before_content i c ++ space) (node_text node []) (tail ++ behind_row i c) }
 {}
 

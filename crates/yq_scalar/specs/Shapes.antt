@@ -12,6 +12,11 @@ abbrev pub AreItems : Children → Type 0
 AreItems none = ⊤
 AreItems (child label n cs) = (label.key ≡ None) × AreItems cs
 
+-- each has a key (own)
+abbrev pub AreKeyed : Children → Type 0
+AreKeyed none = ⊤
+AreKeyed (child label n cs) = ((k : List ℕ) × (label.key ≡ Some k)) × AreKeyed cs
+
 -- each is an entry: it has a key, and no later one has it too (YAML 1.2.2, section 3.2.1.3)
 abbrev pub AreEntries : Children → Type 0
 AreEntries none = ⊤
@@ -29,3 +34,16 @@ abbrev mutual
   pub AreTrees : Children → Type 0
   AreTrees none = ⊤
   AreTrees (child label n cs) = IsTree n × AreTrees cs
+
+abbrev mutual
+  -- at any depth a sequence has items, and a mapping has keys (YAML 1.2.2, section 3.2.1)
+  pub IsShaped : Node → Type 0
+  IsShaped (alias name) = ⊤
+  IsShaped (scalar anchor kind text) = ⊤
+  IsShaped (list anchor cs) = AreItems cs × AreShaped cs
+  IsShaped (map anchor cs) = AreKeyed cs × AreShaped cs
+
+  -- the same of the node of each item or entry (own)
+  pub AreShaped : Children → Type 0
+  AreShaped none = ⊤
+  AreShaped (child label n cs) = IsShaped n × AreShaped cs

@@ -12,14 +12,14 @@ use crate::text::{ends_line, spaces_len, split_white};
 use std::alloc::{AllocError, Global};
 
 /// A line of spaces alone, so many at most.
-fn is_short(indent: usize, line: &[u8]) -> bool
+pub fn is_short(indent: usize, line: &[u8]) -> bool
     ensures { result ≡ spec.is_short indent line.now }
 {
     ends_line(behind_spaces(line)) && spaces_len(line) <= indent
 }
 
 /// A line that begins with fewer spaces, and no tab behind them.
-fn is_outside(indent: usize, line: &[u8]) -> bool
+pub fn is_outside(indent: usize, line: &[u8]) -> bool
     ensures { result ≡ spec.is_outside indent line.now }
 {
     spaces_len(line) < indent && !matches!(behind_spaces(line), [b'\t', ..])

@@ -16,7 +16,8 @@ leads_so R S each [] t new cs h = h
 leads_so R S each (x ∷ xs) t new cs h = (h.0, h.1, h.2, each x t h.0 h.1 h.3, leads_so R S each xs h.0 new h.2 h.4, h.5)
 
 -- one step more
-pub leads_on : {A : Type 0} (R : A → List ℕ → List ℕ → List Change → Type 0) (xs : List A) (x : A) (t m new : List ℕ) (cs ds : List Change) → Leads R xs t m cs → R x m new ds → Leads R (xs ++ x ∷ []) t new (cs ++ ds)
+pub leads_on : {A : Type 0} (R : A → List ℕ → List ℕ → List Change → Type 0) (xs : List A) (x : A) (t m new : List ℕ) (cs ds : List Change) → Leads R xs t m cs →
+    R x m new ds → Leads R (xs ++ x ∷ []) t new (cs ++ ds)
 leads_on R [] x t m new cs ds h step =
     let all : cs ++ ds ≡ ds ++ [] = ap (λ l. l ++ ds) h.1 ∙ sym (append-nil ds) in
     (new, ds, [], subst (λ s. R x s new ds) (sym h.0) step, (refl, refl), all)
@@ -31,15 +32,38 @@ leads_give f R each (x ∷ xs) t new cs h =
     ap (and_then (in_order f xs)) (each x t h.0 h.1 h.3)
     ∙ (ap (behind h.1) (leads_give f R each xs h.0 new h.2 h.4) ∙ ap (gives new) (sym h.5))
 
+-- what is given behind splices
+behind_gives : (ds : List Change) (e : Edit) (new : List ℕ) (cs : List Change) → behind ds e ≡ gives new cs → (es : List Change) × (e ≡ gives new es) × (cs ≡ ds ++ es)
+behind_gives ds unreadable new cs h = absurd (cc)
+behind_gives ds (refuses why) new cs h = absurd (cc)
+behind_gives ds unbuilt new cs h = absurd (cc)
+behind_gives ds (gives t es) new cs h = let same : t ≡ new = cc in (es, ap (λ (x : List ℕ). gives x es) same, cc)
+
+-- a step that an edit makes
+abbrev pub Makes : {A : Type 0} → (A → List ℕ → Edit) → A → List ℕ → List ℕ → List Change → Type 0
+Makes f x t new cs = f x t ≡ gives new cs
+
+-- what is given in order is given step by step
+pub order_leads : {A : Type 0} (f : A → List ℕ → Edit) (xs : List A) (t new : List ℕ) (cs : List Change) → in_order f xs t ≡ gives new cs → Leads (Makes f) xs t new cs
+order_leads f [] t new cs h = (cc, cc)
+order_leads f (x ∷ xs) t new cs h = go (f x t) refl (λ m es e. order_leads f xs m new es e) h
+  where
+    go : (e : Edit) → f x t ≡ e → ((m : List ℕ) (es : List Change) → in_order f xs m ≡ gives new es → Leads (Makes f) xs m new es) →
+        and_then (in_order f xs) e ≡ gives new cs → Leads (Makes f) (x ∷ xs) t new cs
+    go unreadable is rest e = absurd (cc)
+    go (refuses why) is rest e = absurd (cc)
+    go unbuilt is rest e = absurd (cc)
+    go (gives m ds) is rest e = let k = behind_gives ds (in_order f xs m) new cs e in (m, ds, k.0, is, rest m k.0 k.1, k.2)
+
 -- an edit that fails, also behind splices
-fails_behind : (e : EditError) (cs : List Change) (r : Edit) → Fails e r → Fails e (behind cs r)
+pub fails_behind : (e : EditError) (cs : List Change) (r : Edit) → Fails e r → Fails e (behind cs r)
 fails_behind (error.Read fault) cs r h = ap (behind cs) h
 fails_behind (error.Refused why) cs r h = ap (behind cs) h
 fails_behind error.NotInProfile cs r h = ap (behind cs) h
 fails_behind error.Memory cs r h = tt
 
 -- a step that fails fails all that come after it
-fails_on : (e : EditError) (g : List ℕ → Edit) (r : Edit) → Fails e r → Fails e (and_then g r)
+pub fails_on : (e : EditError) (g : List ℕ → Edit) (r : Edit) → Fails e r → Fails e (and_then g r)
 fails_on (error.Read fault) g r h = ap (and_then g) h
 fails_on (error.Refused why) g r h = ap (and_then g) h
 fails_on error.NotInProfile g r h = ap (and_then g) h

@@ -17,7 +17,6 @@ of_reading (reading.Fault fault) = error.Read fault
 -- the error of an edit whose update is not planned (own)
 abbrev pub of_planning : PlanError → EditError
 of_planning (planning.Refused why) = error.Refused why
-of_planning planning.NotInProfile = error.NotInProfile
 of_planning planning.Memory = error.Memory
 
 -- what an error says of the edit; want of memory says nothing (own)

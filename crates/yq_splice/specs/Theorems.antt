@@ -1,50 +1,62 @@
 -- What an accepted edit promises.
-use Rattle.std.specs.Prelude.{◌≡◌, ℕ, List, [], ◌∷◌, ◌++◌, Some, length}
-use Rattle.yq_scalar.specs.declared.kind.Kind.{Kind}
-use Rattle.yq_scalar.specs.Paths as paths
+use Rattle.std.specs.Prelude.{◌≡◌, ℕ, ◌≤◌, List, [], ◌∷◌, ◌++◌, Some, length}
+use Rattle.yq_scalar.specs.Characters.{text_limit}
 use Rattle.yq_rows.specs.Rows.{Cut}
 use Rattle.yq_tree.specs.Documents.{Document, Reads}
-use Rattle.yq_tree.specs.Reading.{read_at, documents}
-use Rattle.yq_tree.specs.ScalarPlaces.{ScalarPlace, place_at, replaced}
+use Rattle.yq_tree.specs.Reading.{documents, read_at}
 use Rattle.yq_expr.specs.Judgement.{gives}
-use Rattle.yq_expr.specs.Matching.{there, steps_lead}
-use Rattle.yq_expr.specs.OnePathMeaning.{program_meaning}
-use Rattle.yq_expr.specs.Program.{Step, Program, Update, updates, assigned}
+use Rattle.yq_expr.specs.Meaning.{meaning}
+use Rattle.yq_expr.specs.Operations.{Operation}
+use Rattle.yq_expr.specs.Plans.{plan}
+use Rattle.yq_expr.specs.Program.{Program, Update, updates}
+use Rattle.yq_expr.specs.Rooms.{room_of}
+use Rattle.yq_splice.specs.Carried.{carrying}
 use Rattle.yq_splice.specs.Patch.{Change, all_done, lengths_done}
+use Rattle.yq_splice.specs.Script.{Segment, old_text, new_text, changes}
 
 -- a text leads to another one by splices, in a step for each thing in order (own)
 abbrev pub Leads : {A : Type 0} → (A → List ℕ → List ℕ → List Change → Type 0) → List A → List ℕ → List ℕ → List Change → Type 0
 Leads R [] t new cs = (t ≡ new) × (cs ≡ [])
 Leads R (x ∷ xs) t new cs = (m : List ℕ) × (ds es : List Change) × R x t m ds × Leads R xs m new es × (cs ≡ ds ++ es)
 
--- An update sets one scalar: in the place where its steps lead in the one document, what is put there replaces the scalar that is written, or nothing. The text before it and the text behind it stay (own).
-pub record IsInside (u : Update) (t new : List ℕ) (cs : List Change) : Type 0 where
-  pub rows : Cut
-  pub read : read_at t ≡ Some rows
-  pub document : Document
-  pub one : documents rows ≡ document ∷ []
-  pub steps : List Step
-  pub value : Kind × List ℕ
-  pub update : assigned u ≡ Some (steps, value)
-  pub path : List paths.Step
-  pub leads : steps_lead steps document.root ≡ gives (there path)
-  pub old : ScalarPlace
-  pub is : place_at path rows ≡ Some old
-  pub put : List ℕ
-  pub before : t ≡ old.before ++ (replaced old.old ++ old.behind)
-  pub after : new ≡ old.before ++ (put ++ old.behind)
+-- An operation is carried out on a text by segments of it, which make the new text; the splices are theirs (own).
+pub record IsCarried (op : Operation) (t new : List ℕ) (cs : List Change) : Type 0 where
+  pub cut : Cut
+  pub read : read_at t ≡ Some cut
+  pub segments : List Segment
+  pub way : carrying op cut ≡ Some segments
+  pub old_is : old_text segments ≡ t
+  pub new_is : new_text segments ≡ new
+  pub size : length new ≤ text_limit
+  pub splices : changes segments ≡ cs
 
--- Each update of a program in order sets one scalar of the text that the one before gives (own).
+-- An update is carried out on a text: each operation of its plan in order, on the text that the one before gives (own).
+pub record IsInside (u : Update) (t new : List ℕ) (cs : List Change) : Type 0 where
+  pub cut : Cut
+  pub read : read_at t ≡ Some cut
+  pub operations : List Operation
+  pub planned : plan u (room_of t) (documents cut) ≡ gives operations
+  pub leads : Leads IsCarried operations t new cs
+
+-- Each update of a program in order is carried out on the text that the one before gives (own).
 pub record AreInside (p : Program) (t new : List ℕ) (cs : List Change) : Type 0 where
   pub all : List Update
   pub program : p ≡ updates all
   pub leads : Leads IsInside all t new cs
 
--- The new text reads as what the program makes of the documents of the old one (own).
-pub record IsMeant (p : Program) (docs : List Document) (new : List ℕ) : Type 0 where
-  pub documents : List Document
-  pub meant : program_meaning p docs ≡ gives documents
-  pub reads : Reads new documents
+-- A text reads as documents, and the new one as what an update means of these, with the room that the text has (own).
+pub record IsMeant (u : Update) (t new : List ℕ) (cs : List Change) : Type 0 where
+  pub before : List Document
+  pub read : Reads t before
+  pub after : List Document
+  pub meant : meaning u (room_of t) before ≡ gives after
+  pub reads : Reads new after
+
+-- Each update of a program in order makes what it means of the text that the one before gives (own).
+pub record AreMeant (p : Program) (t new : List ℕ) (cs : List Change) : Type 0 where
+  pub all : List Update
+  pub program : p ≡ updates all
+  pub leads : Leads IsMeant all t new cs
 
 -- The splices, done in order, lead from the old text to the new one, and so do their lengths (own).
 pub record AreSplices (changes : List Change) (t new : List ℕ) : Type 0 where

@@ -72,7 +72,6 @@ impl From<PlanError> for EditError {
     fn from(error: PlanError) -> EditError {
         match error {
             PlanError::Refused(why) => EditError::Refused(why),
-            PlanError::NotInProfile => EditError::NotInProfile,
             PlanError::Memory => EditError::Memory,
         }
     }

@@ -3,15 +3,14 @@ use Rattle.std.proofs.Common.{◌≡◌, ℕ, ◌+◌, ◌-◌, ◌<◌, ◌≤�
 use Rattle.std.proofs.lemmas.Option.{slice_get-map}
 use Rattle.std.specs.List.{slice_get, sum_by}
 use Rattle.yq_scalar.specs.Text.{cut, front, ends_line, no_white, past_white, is_empty, joined, lines_of}
-use Rattle.yq_rows.specs.Exchange.{before_content}
-use Rattle.yq_rows.specs.Rows.{Row, Cut}
+use Rattle.yq_rows.specs.Exchange.{before_content, behind_row}
+use Rattle.yq_rows.specs.Rows.{Row, behind_gap, Cut}
 use Rattle.yq_rows.specs.View.{Slices, slices, rows_of, shown}
 use Rattle.yq_scalar.proofs.LineLaws.{joined_lines}
-use Rattle.yq_tree.specs.CommentPlaces.{tail_comment, before_tail, line_comment_in, before_run, last_run, gap_comment, head_comment_in}
-use Rattle.yq_tree.specs.CommentReading.{tail_span, line_comment_span, gap_span, head_comment_span}
+use Rattle.yq_tree.specs.Pieces.{tail_comment, before_run, last_run, gap_comment, piece_span}
+use Rattle.yq_tree.specs.CommentReading.{before_tail, line_comment_in, head_comment_in, tail_span, line_comment_span, gap_span, head_comment_span, before_row}
 use Rattle.yq_rows.specs.Offsets.{row_length}
 use Rattle.yq_tree.specs.Extents.{passed_length, row_start, front_length, head_place}
-use Rattle.yq_tree.specs.Passages.{passage_span, before_row}
 use Rattle.yq_tree.specs.SeatReading.{numbers}
 use Rattle.yq_tree.specs.Seats.{Seat}
 use Rattle.yq_tree.proofs.LengthLaws.{head_told}
@@ -22,8 +21,8 @@ use Rattle.yq_tree.proofs.StartLaws.{start_told}
 pair : (a b c d : ℕ) → a ≡ b → c ≡ d → ◌≡◌ {A = ℕ × ℕ} (a, c) (b, d)
 pair a b c d e f = λ i. (e i, f i)
 
-tail_told : (before tail : List ℕ) (start : ℕ) → start ≡ length before → tail_span start tail ≡ option_map passage_span (tail_comment before tail)
-tail_told before tail start e = go (front (λ b. eqb b 35) (past_white tail))
+pub tail_told : (before tail behind : List ℕ) (start : ℕ) → start ≡ length before → tail_span start tail ≡ option_map piece_span (tail_comment before tail behind)
+tail_told before tail behind start e = go (front (λ b. eqb b 35) (past_white tail))
   where
     white : List ℕ
     white = (cut no_white tail).0
@@ -31,7 +30,7 @@ tail_told before tail start e = go (front (λ b. eqb b 35) (past_white tail))
     long : ℕ
     long = length (cut ends_line (past_white tail)).0
 
-    go : (b : Bool) → cond b (Some (start + length white, start + length white + long)) None ≡ option_map passage_span (cond b (Some (record { before = before ++ white; text = (cut ends_line (past_white tail)).0 })) None)
+    go : (b : Bool) → cond b (Some (start + length white, start + length white + long)) None ≡ option_map piece_span (cond b (Some (record { before = before ++ white; text = (cut ends_line (past_white tail)).0; behind = (cut ends_line (past_white tail)).1 ++ behind })) None)
     go true = ap Some (pair _ _ _ _ (omega (arith, e, length-append before white)) (omega (arith, e, length-append before white)))
     go false = refl
 
@@ -54,14 +53,14 @@ before_length c i r is =
       length-append s.apart s.head,
     )
 
-pub line_told : (c : Cut) (i : ℕ) (s : Seat) (k : ℕ) → slice_get (rows_of c) i ≡ Some s.row → line_comment_span (row_start i (shown c)) (slices s.row) (numbers k s) ≡ option_map passage_span (line_comment_in i s c)
+pub line_told : (c : Cut) (i : ℕ) (s : Seat) (k : ℕ) → slice_get (rows_of c) i ≡ Some s.row → line_comment_span (row_start i (shown c)) (slices s.row) (numbers k s) ≡ option_map piece_span (line_comment_in i s c)
 line_told c i s k is = go (eqb s.line (length s.row.dashes))
   where
     x : Slices
     x = slices s.row
 
-    go : (b : Bool) → cond b (tail_span (row_start i (shown c) + front_length x + length x.head) x.tail) None ≡ option_map passage_span (cond b (tail_comment (before_tail i s.row c) x.tail) None)
-    go true = tail_told (before_tail i s.row c) x.tail (row_start i (shown c) + front_length x + length x.head) (before_length c i s.row is)
+    go : (b : Bool) → cond b (tail_span (row_start i (shown c) + front_length x + length x.head) x.tail) None ≡ option_map piece_span (cond b (tail_comment (before_tail i s.row c) x.tail (x.raw ++ behind_row i c)) None)
+    go true = tail_told (before_tail i s.row c) x.tail (x.raw ++ behind_row i c) (row_start i (shown c) + front_length x + length x.head) (before_length c i s.row is)
     go false = refl
 
 -- the run in a gap
@@ -90,8 +89,8 @@ some_span start gap (b ∷ run) some = refl
 pub some_run : (start : ℕ) (gap run : List ℕ) → lines_of run ≡ last_run (lines_of gap) → 0 < length run → Some (start + length gap - length run, start + length gap) ≡ gap_span start gap
 some_run start gap run e some = some_span start gap run some ∙ ap (span_of start gap) (sym (run_is gap run e))
 
-gap_told : (before gap : List ℕ) (start : ℕ) → start ≡ length before → gap_span start gap ≡ option_map passage_span (gap_comment before gap)
-gap_told before gap start e = go (is_empty (joined (last_run (lines_of gap))))
+pub gap_told : (before gap behind : List ℕ) (start : ℕ) → start ≡ length before → gap_span start gap ≡ option_map piece_span (gap_comment before gap behind)
+gap_told before gap behind start e = go (is_empty (joined (last_run (lines_of gap))))
   where
     run : List ℕ
     run = joined (last_run (lines_of gap))
@@ -99,13 +98,13 @@ gap_told before gap start e = go (is_empty (joined (last_run (lines_of gap))))
     other : List ℕ
     other = joined (before_run (lines_of gap))
 
-    go : (b : Bool) → cond b None (Some (start + length gap - length run, start + length gap)) ≡ option_map passage_span (cond b None (Some (record { before = before ++ other; text = run })))
+    go : (b : Bool) → cond b None (Some (start + length gap - length run, start + length gap)) ≡ option_map piece_span (cond b None (Some (record { before = before ++ other; text = run; behind = behind })))
     go true = refl
     go false = ap Some (pair _ _ _ _ (omega (arith, e, run_length gap, length-append before other)) (omega (arith, e, run_length gap, length-append before other)))
 
-pub above_told : (c : Cut) (i : ℕ) (s : Seat) (k : ℕ) → slice_get (rows_of c) i ≡ Some s.row → head_comment_span (row_start i (shown c)) (slices s.row) (numbers k s) ≡ option_map passage_span (head_comment_in i s c)
+pub above_told : (c : Cut) (i : ℕ) (s : Seat) (k : ℕ) → slice_get (rows_of c) i ≡ Some s.row → head_comment_span (row_start i (shown c)) (slices s.row) (numbers k s) ≡ option_map piece_span (head_comment_in i s c)
 above_told c i s k is = go (eqb s.line 0)
   where
-    go : (b : Bool) → cond b (gap_span (row_start i (shown c)) s.row.gap) None ≡ option_map passage_span (cond b (gap_comment (before_row i c) s.row.gap) None)
-    go true = gap_told (before_row i c) s.row.gap (row_start i (shown c)) (start_told c i s.row is)
+    go : (b : Bool) → cond b (gap_span (row_start i (shown c)) s.row.gap) None ≡ option_map piece_span (cond b (gap_comment (before_row i c) s.row.gap (behind_gap s.row (behind_row i c))) None)
+    go true = gap_told (before_row i c) s.row.gap (behind_gap s.row (behind_row i c)) (row_start i (shown c)) (start_told c i s.row is)
     go false = refl

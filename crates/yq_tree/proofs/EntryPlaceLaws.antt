@@ -13,7 +13,7 @@ use Rattle.yq_rows.specs.Grammar.{IsCut}
 use Rattle.yq_rows.specs.Rows.{Row, Part, Cut}
 use Rattle.yq_rows.specs.View.{Slices, slices, rows_of, Shown, shown}
 use Rattle.yq_tree.specs.Documents.{document_parts}
-use Rattle.yq_tree.specs.EntryPlaces.{before_line, through_row, lines_place, head_extent, line_head, lines_content, line_content, entry_from, content_from, entry_of, content_of}
+use Rattle.yq_tree.specs.EntryReading.{before_line, through_row, lines_place, head_extent, line_head, lines_content, line_content, entry_from, content_from, entry_of, content_of}
 use Rattle.yq_tree.specs.EntryReading.{line_begin, first_row, entry_within, HasFlows}
 use Rattle.yq_tree.specs.Extents.{row_start}
 use Rattle.yq_lines.specs.View.{flows, views}

@@ -2,24 +2,22 @@
 use Rattle.std.proofs.Common.{◌≡◌, ◌⊎◌, inl, inr, ℕ, suc, ◌+◌, ◌-◌, ◌<◌, ◌≤◌, eqb, ltb, List, [], ◌∷◌, ◌++◌, length, drop, Option, Some, None, is_some, option_map, option_and_then, Bool, true, false, cond, refl, sym, ap, subst, arith, length-append}
 use Rattle.std.proofs.lemmas.Bool.{ltb-true, ltb-false, eqb-false}
 use Rattle.std.proofs.lemmas.Option.{slice_get_within}
-use Rattle.std.proofs.lemmas.Str.{IsUtf8-from_is_utf8}
 use Rattle.std.specs.List.{slice_get}
-use Rattle.std.specs.Str.{is_utf8, IsUtf8}
+use Rattle.std.specs.Str.{IsUtf8}
 use Rattle.yq_scalar.specs.Answers.{◌>>=◌}
 use Rattle.yq_scalar.specs.Paths.{Step}
-use Rattle.yq_scalar.proofs.Bools.{bind_some, guard_then}
+use Rattle.yq_scalar.proofs.Bools.{bind_some}
 use Rattle.yq_inline.specs.Entries.{PlacedEntry, entry_place, content_place}
 use Rattle.yq_inline.specs.Spans.{IsSpan}
 use Rattle.yq_lines.specs.Comments as comments
 use Rattle.yq_rows.specs.Grammar.{IsCut}
 use Rattle.yq_rows.specs.Rows.{Row, Cut, cut_text}
 use Rattle.yq_rows.specs.View.{rows_of}
+use Rattle.yq_tree.specs.declared.path.Path.{Path}
 use Rattle.yq_tree.specs.Documents.{document_parts}
-use Rattle.yq_tree.specs.EntryLaws.{EntriesPlaced}
-use Rattle.yq_tree.specs.EntryPlaces.{lines_place, line_entry, line_head, lines_content, line_content, flow_entry, entry_from, content_from, entry_of, content_of, entry_at, content_at}
+use Rattle.yq_tree.specs.EntryReading.{lines_place, line_entry, line_head, lines_content, line_content, flow_entry, entry_from, content_from, entry_of, content_of, entry_at, content_at}
 use Rattle.yq_tree.specs.Lines.{row_lines, lines_of}
 use Rattle.yq_tree.specs.Located.{steps_of}
-use Rattle.yq_tree.specs.Reading.{read_at}
 use Rattle.yq_lines.specs.Ends.{reached, lines_end}
 use Rattle.yq_tree.specs.Seats.{Seat, behind_one, seat, document_row}
 use Rattle.yq_lines.specs.Spots.{is_bare}
@@ -28,7 +26,6 @@ use Rattle.yq_tree.proofs.FinishLaws.{row_boundary, lines_order}
 use Rattle.yq_tree.proofs.FlowSpanLaws.{AreSpans, flow_spans}
 use Rattle.yq_tree.proofs.HeadSpanLaws.{head_span}
 use Rattle.yq_lines.proofs.LineEnds.{end_within}
-use Rattle.yq_tree.proofs.ReadLaws.{text_takes}
 use Rattle.yq_tree.proofs.SeamLaws.{line_boundary}
 use Rattle.yq_tree.proofs.SeatLaws.{part_begins}
 use Rattle.yq_tree.proofs.SeatLineLaws.{lines_count}
@@ -140,12 +137,8 @@ module _ (c : Cut) (rs more : List Row) (k : ℕ) (u : IsUtf8 (cut_text c)) (cut
   contents_span [] x e = lines_spans 0 (length (lines_of rs)) x (omega arith) e
   contents_span (s ∷ ss) x e = let y = bind_some (reached (s ∷ ss) (lines_of rs)) e in content_span y.0.0 y.0.1 x y.2
 
-pub entries_placed : EntriesPlaced
-unfolding read_at
-entries_placed t c p x read found =
-    let utf8 = guard_then (is_utf8 t) read in
-    let cut = (text_takes t c utf8.1).0 in
-    let u : IsUtf8 t = IsUtf8-from_is_utf8 t utf8.0 in
+pub entries_placed : (t : List ℕ) (c : Cut) (p : Path) (x : ℕ × ℕ) → IsCut t c → IsUtf8 t → (entry_at p c ≡ Some x) ⊎ (content_at p c ≡ Some x) → IsSpan t x.0 x.1
+entries_placed t c p x cut u found =
     subst (λ (q : List ℕ). IsSpan q x.0 x.1) (sym cut.text) (go (subst IsUtf8 cut.text u) (subst (λ (q : List ℕ). IsCut q c) cut.text cut) found)
   where
     go : IsUtf8 (cut_text c) → IsCut (cut_text c) c → (entry_at p c ≡ Some x) ⊎ (content_at p c ≡ Some x) → IsSpan (cut_text c) x.0 x.1

@@ -13,12 +13,12 @@ use Rattle.yq_rows.specs.View.{Slices, slices, rows_of}
 use Rattle.yq_rows.proofs.ExchangeLaws.{slice_front, slice_back}
 use Rattle.yq_rows.proofs.NodePieces.{BeginsAscii, before_ascii}
 use Rattle.yq_rows.proofs.PlaceLaws.{row_front-append, row_in}
-use Rattle.yq_tree.specs.CommentPlaces.{before_tail}
-use Rattle.yq_tree.specs.EntryPlaces.{before_line, is_last_break, less_break, ending, through_row}
-use Rattle.yq_tree.specs.Passages.{before_row}
+use Rattle.yq_tree.specs.CommentReading.{before_tail, before_row}
+use Rattle.yq_tree.specs.EntryReading.{before_line, ending, through_row}
+use Rattle.yq_tree.specs.PrintedLines.{is_last_break, less_break}
 use Rattle.yq_tree.proofs.LengthLaws.{print-length, part-length}
-use Rattle.yq_tree.proofs.PassageLaws.{Ended, content_end}
-use Rattle.yq_tree.proofs.PassageStandLaws.{tail_place}
+use Rattle.yq_tree.proofs.CommentPieceLaws.{Ended, content_end}
+use Rattle.yq_tree.proofs.CommentPieceLaws.{tail_place}
 use Rattle.yq_tree.proofs.SeamLaws.{raw_end, dashes_split}
 use Rattle.yq_tree.proofs.StartLaws.{front_in}
 
@@ -34,7 +34,7 @@ break_ascii b [] e = omega (arith, eqb-true b 10 e)
 break_ascii b (d ∷ []) e = omega (arith, eqb-true b 13 (and_true (is_return b) (is_feed d) e).0)
 break_ascii b (d ∷ (f ∷ t)) e = absurd (false≢true e)
 
-lf_behind : (b : ℕ) (bs : List ℕ) → is_last_break (b ∷ bs) ≡ false → IsLf (b ∷ bs) → IsLf bs
+pub lf_behind : (b : ℕ) (bs : List ℕ) → is_last_break (b ∷ bs) ≡ false → IsLf (b ∷ bs) → IsLf bs
 lf_behind b bs e lf = go lf.0 lf.1
   where
     go : (f : List ℕ) → b ∷ bs ≡ f ++ 10 ∷ [] → IsLf bs
@@ -52,6 +52,10 @@ split (b ∷ bs) = go (is_last_break (b ∷ bs)) refl (split bs)
     go : (l : Bool) → is_last_break (b ∷ bs) ≡ l → IsSplit bs (less_break bs) → IsSplit (b ∷ bs) (cond l [] (b ∷ less_break bs))
     go true e again = record { break = b ∷ bs; is = refl; ascii = break_ascii b bs e; some = λ lf. omega arith }
     go false e again = record { break = again.break; is = ap (λ (l : List ℕ). b ∷ l) again.is; ascii = again.ascii; some = λ lf. again.some (lf_behind b bs e lf) }
+
+-- a text is cut there between characters
+pub break_boundary : (x : List ℕ) → IsCharBoundary x (length (less_break x))
+break_boundary x = let s = split x in subst (λ (q : List ℕ). IsCharBoundary q (length (less_break x))) (sym s.is) (before_ascii (less_break x) s.break s.ascii)
 
 break_behind : (break behind : List ℕ) → BeginsAscii break → (0 < length break) ⊎ (behind ≡ []) → BeginsAscii (break ++ behind)
 break_behind (b ∷ bs) behind h some = h

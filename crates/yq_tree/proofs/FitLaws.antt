@@ -95,9 +95,6 @@ long_is r limit rest h = long_by (rows.parent_indent r) r.dashes r.mark r.conten
 slices_same : {x y : Slices} {xs ys : List Slices} → x ∷ xs ≡ y ∷ ys → x ≡ y
 slices_same h = cc
 
-others_same : {x y : Slices} {xs ys : List Slices} → x ∷ xs ≡ y ∷ ys → xs ≡ ys
-others_same h = cc
-
 -- the root
 some_short : (n : ℕ) (s : Slices) (others behind : List Slices) (rs : List Row) (limit : Limit) (end rest : List ℕ) → 0 < n → n ≡ length rs → s ∷ others ≡ map slices rs ++ behind → AreRows limit rs end rest → not (is_long s) ≡ has_short_root rs
 some_short n s others behind [] limit end rest some count pieces valid = absurd (omega (arith, some, count))

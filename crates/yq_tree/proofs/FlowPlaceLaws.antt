@@ -11,7 +11,7 @@ use Rattle.yq_inline.specs.Nodes.{Node, empty, alias, scalar, coll, anchored}
 use Rattle.yq_inline.specs.Places.{Placed, placed, nothing, name, text, sequence, mapping, Parts, with_anchor, locate}
 use Rattle.yq_rows.specs.Exchange.{behind_row}
 use Rattle.yq_rows.specs.Rows.{Content, Nothing, Inline, Block, Row, Cut, cut_text}
-use Rattle.yq_tree.specs.EntryPlaces.{inline_node, placed_inline, flow_entry}
+use Rattle.yq_tree.specs.EntryReading.{inline_node, placed_inline, flow_entry}
 use Rattle.yq_tree.specs.EntryReading.{entry_within, HasFlows}
 use Rattle.yq_tree.specs.FlowReading.{kept, core, content_core, row_flow}
 use Rattle.yq_lines.specs.Group.{group}
@@ -26,19 +26,19 @@ use Rattle.yq_tree.proofs.SeatLineLaws.{Tells, seat_line}
 use Rattle.yq_lines.proofs.Values.{If}
 
 -- a line in whose head steps may go on: a node itself, or a line that has a head
-abbrev TakesSteps : Line → Type 0
+abbrev pub TakesSteps : Line → Type 0
 TakesSteps l = (is_bare l.mark ≡ true) ⊎ (is_some l.head ≡ true)
 
 -- the same where steps are left
-abbrev TakesLeft : Line → List Step → Type 0
+abbrev pub TakesLeft : Line → List Step → Type 0
 TakesLeft l [] = Unit {0}
 TakesLeft l (s ∷ ss) = TakesSteps l
 
-abbrev Takes : Found × List Step → Type 0
+abbrev pub Takes : Found × List Step → Type 0
 Takes x = TakesLeft x.0.line x.1
 
 -- where a path leads, the steps that are left go on in the line's head
-takes_left : (s : Step) (ss : List Step) (o : Outline) → If (find s ss o) Takes
+pub takes_left : (s : Step) (ss : List Step) (o : Outline) → If (find s ss o) Takes
 takes_left s ss end = tt
 takes_left s [] (row k v a) = go k.mark refl (find_row s (row k v a))
   where
@@ -67,26 +67,26 @@ takes_left s (t ∷ ts) (row k v a) = go (λ u. takes_left t ts u) k.mark refl (
     go ih Dash e r = found ih r
 
 -- line n of rows is that of the mark of its row
-abbrev MarkSeat : List Row → ℕ → Type 0
+abbrev pub MarkSeat : List Row → ℕ → Type 0
 MarkSeat rs n = (q : Seat) × (seat n rs ≡ Some q) × (q.line ≡ length q.row.dashes)
 
 dash_takes_none : (l : Line) → (l.mark ≡ Dash) × (l.head ≡ None) → TakesSteps l → ⊥
 dash_takes_none l e (inl bare) = false≢true (sym (ap is_bare e.0) ∙ bare)
 dash_takes_none l e (inr head) = false≢true (sym (ap is_some e.1) ∙ head)
 
-mark_seat : (rs : List Row) (n : ℕ) (l : Line) → slice_get (lines_of rs) n ≡ Some l → TakesSteps l → MarkSeat rs n
+pub mark_seat : (rs : List Row) (n : ℕ) (l : Line) → slice_get (lines_of rs) n ≡ Some l → TakesSteps l → MarkSeat rs n
 mark_seat rs n l e takes = let q = seat_line rs n l e in (q.0, q.1, go q.0 q.2 (cases_lt q.0.line (length q.0.row.dashes)))
   where
     go : (s : Seat) → Tells s l → (s.line < length s.row.dashes) ⊎ (length s.row.dashes ≤ s.line) → s.line ≡ length s.row.dashes
     go s told (inl less) = absurd (dash_takes_none l (told.dash less) takes)
     go s told (inr more) = omega (arith, more, told.within)
 
-middle : (xs ys : List Line) (l : Line) → slice_get (xs ++ (l ∷ ys)) (length xs) ≡ Some l
+pub middle : (xs ys : List Line) (l : Line) → slice_get (xs ++ (l ∷ ys)) (length xs) ≡ Some l
 middle [] ys l = refl
 middle (x ∷ xs) ys l = middle xs ys l
 
 -- where steps are left, the line is that of its row's mark
-reached_seat : (rs : List Row) (steps : List Step) (n : ℕ) (t : Step) (ts : List Step) → reached steps (lines_of rs) ≡ Some (n, t ∷ ts) → MarkSeat rs n
+pub reached_seat : (rs : List Row) (steps : List Step) (n : ℕ) (t : Step) (ts : List Step) → reached steps (lines_of rs) ≡ Some (n, t ∷ ts) → MarkSeat rs n
 reached_seat rs [] n t ts e = absurd (cc)
 reached_seat rs (s ∷ ss) n t ts e = go (find s ss (group (lines_of rs))) refl (takes_left s ss (group (lines_of rs))) e
   where

@@ -7,19 +7,19 @@ use Rattle.yq_inline.specs.Entries.{PlacedEntry, EntryPieces, parts_of, part_at,
 use Rattle.yq_inline.specs.Nodes.{Key, bare, keyed, empty, node_text, key_text}
 use Rattle.yq_inline.specs.Places.{Placed, placed, nothing, name, text, sequence, mapping, Parts, end, part, key_placed, locate}
 use Rattle.yq_inline.specs.Spans.{IsSpan, HasKeySpan, HasSpans, PartsHaveSpans}
-use Rattle.yq_inline.specs.Trees.{inner, key_here}
+use Rattle.yq_inline.specs.Trees.{inner, unplaced_key}
 use Rattle.yq_inline.proofs.NodeAgain.{node_longer}
 use Rattle.yq_inline.proofs.PathLaws.{path_places}
 use Rattle.yq_rows.specs.Exchange.{behind_row}
 use Rattle.yq_rows.specs.Grammar.{IsCut}
 use Rattle.yq_rows.specs.Rows.{Content, Nothing, Inline, Block, Row, Cut, cut_text}
 use Rattle.yq_rows.specs.View.{rows_of}
-use Rattle.yq_tree.specs.EntryPlaces.{inline_node, placed_inline}
+use Rattle.yq_tree.specs.EntryReading.{inline_node, placed_inline}
 use Rattle.yq_tree.specs.Lines.{tail_of}
 use Rattle.yq_tree.proofs.HeadSpanLaws.{node_start, node_end, node_spans}
 
 -- an item or entry with its key
-abbrev EntrySpans : List ℕ → PlacedEntry → Type 0
+abbrev pub EntrySpans : List ℕ → PlacedEntry → Type 0
 EntrySpans t e = HasKeySpan t e.0 × HasSpans t e.1
 
 same : {A : Type 0} {x y : A} → Some x ≡ Some y → x ≡ y
@@ -34,13 +34,13 @@ parts_spans t (placed a s c e (mapping parts)) h = h.2
 
 part_spans : (t : List ℕ) (s : Step) (ps : Parts) (e : PlacedEntry) → PartsHaveSpans t ps → part_at s ps ≡ Some e → EntrySpans t e
 part_spans t s end e h is = absurd (cc)
-part_spans t s (part key n ps) e h is = go (is_here s (inner (key_here key))) (λ again. part_spans t (further s) ps e h.2 again) is
+part_spans t s (part key n ps) e h is = go (is_here s (inner (unplaced_key key))) (λ again. part_spans t (further s) ps e h.2 again) is
   where
     go : (b : Bool) → (part_at (further s) ps ≡ Some e → EntrySpans t e) → cond b (Some (key, n)) (part_at (further s) ps) ≡ Some e → EntrySpans t e
     go true again is = subst (EntrySpans t) (same is) (h.0, h.1)
     go false again is = again is
 
-entry_spans : (t : List ℕ) (ss : List Step) (slot e : PlacedEntry) → EntrySpans t slot → placed_entry_at ss slot ≡ Some e → EntrySpans t e
+pub entry_spans : (t : List ℕ) (ss : List Step) (slot e : PlacedEntry) → EntrySpans t slot → placed_entry_at ss slot ≡ Some e → EntrySpans t e
 entry_spans t [] slot e h is = subst (EntrySpans t) (same is) h
 entry_spans t (s ∷ ss) slot e h is = go (part_at s (parts_of slot.1)) refl (λ x k again. entry_spans t ss x e k again) is
   where

@@ -1,5 +1,5 @@
 -- The heads of rows, and what stands in flow in them, go from one whole character to another.
-use Rattle.std.proofs.Common.{◌≡◌, ℕ, ◌+◌, ◌-◌, ◌<◌, List, [], ◌∷◌, ◌++◌, length, drop, replicate, Option, Some, Bool, true, false, refl, sym, ap, ◌∙◌, subst, arith, append_assoc, length-append}
+use Rattle.std.proofs.Common.{◌≡◌, ℕ, ◌+◌, ◌-◌, ◌<◌, List, [], ◌∷◌, ◌++◌, length, drop, replicate, Option, Some, Bool, true, false, refl, sym, ap, ◌∙◌, subst, arith, append_assoc, length-append, inl}
 use Rattle.std.proofs.Math.Seq.{drop-append_seam}
 use Rattle.std.proofs.lemmas.Bool.{false≢true}
 use Rattle.std.specs.List.{slice_get}
@@ -25,12 +25,11 @@ use Rattle.yq_rows.specs.Rows.{Mark, Content, Nothing, Inline, Block, content_te
 use Rattle.yq_rows.specs.View.{Slices, anchor_cut, content_cut, slices, rows_of}
 use Rattle.yq_rows.proofs.NodePieces.{BeginsAscii, tail_ascii, before_ascii, node_pieces}
 use Rattle.yq_rows.proofs.PlaceLaws.{place, row_in}
-use Rattle.yq_tree.specs.CommentPlaces.{before_tail}
-use Rattle.yq_tree.specs.EntryPlaces.{before_line, head_end, head_extent}
-use Rattle.yq_tree.specs.Passages.{before_row}
+use Rattle.yq_tree.specs.CommentReading.{before_tail, before_row}
+use Rattle.yq_tree.specs.EntryReading.{before_line, head_end, head_extent}
 use Rattle.yq_tree.proofs.HeadLaws.{no_anchor}
-use Rattle.yq_tree.proofs.PassageLaws.{Ended, content_end}
-use Rattle.yq_tree.proofs.PassageStandLaws.{tail_place}
+use Rattle.yq_tree.proofs.CommentPieceLaws.{Ended, content_end}
+use Rattle.yq_tree.proofs.CommentPieceLaws.{tail_place}
 use Rattle.yq_tree.proofs.SeamLaws.{seam_boundary, ended_seam, ended_after, raw_end, last_ended, line_boundary}
 use Rattle.yq_tree.proofs.StartLaws.{front_in}
 
@@ -115,7 +114,7 @@ module _ (c : Cut) (i : ℕ) (r : Row) (u : IsUtf8 (cut_text c)) (cut : IsCut (c
   holds = (row_in c i true r cut.parts is).row.content
 
   node_boundary : (space : List ℕ) (node : Node) (tail : List ℕ) → r.content ≡ Inline space node tail → (b : Bool) → is_entry r.mark ≡ b → IsCharBoundary (cut_text c) (length (before_content i c ++ space))
-  node_boundary space node tail content true entry = (node_pieces (cut_text c) c i r space node tail cut u is content entry).start
+  node_boundary space node tail content true entry = (node_pieces (cut_text c) c i r space node tail cut u is content (inl entry)).start
   node_boundary space node tail content false alone =
       let row = (row_in c i true r cut.parts is).row in
       let none : space ≡ [] = bare_space r.mark space node tail (behind_row i c) alone (subst (λ (x : Content). IsMark r.mark x (behind_row i c)) content row.mark) in

@@ -10,7 +10,7 @@ use Rattle.yq_rows.specs.Grammar.{Limit, limit_after, IsContent, AreRows}
 use Rattle.yq_rows.specs.Rows as rows
 use Rattle.yq_rows.specs.Rows.{Anchor, Content, Nothing, Inline, Row, parent_indent}
 use Rattle.yq_lines.specs.Anchors.{IsNoAlias}
-use Rattle.yq_tree.specs.Lines.{block_anchor, anchor_of, head_of, lines_from, row_lines, lines_of}
+use Rattle.yq_tree.specs.Lines.{block_anchor, content_anchor, head_of, lines_from, row_lines, lines_of}
 use Rattle.yq_lines.specs.Names.{IsUnnamed, MayBeNamed, HaveHeadsApart}
 use Rattle.yq_lines.specs.Outline.{Line}
 
@@ -50,12 +50,12 @@ block_apart : (a : Option Anchor) (t : List ℕ) → MayBeNamed (block_anchor a)
 block_apart None t = tt
 block_apart (Some a) t = tt
 
-content_apart : (n : ℤ) (c : Content) (rest : List ℕ) → IsContent n c rest → IsApart (anchor_of c) (head_of c)
+content_apart : (n : ℤ) (c : Content) (rest : List ℕ) → IsContent n c rest → IsApart (content_anchor c) (head_of c)
 content_apart n (Nothing tail) rest h = (tt, tt)
 content_apart n (Inline space node tail) rest h = node_apart _ _ _ node (tail ++ rest) h.1.valid
 content_apart n (rows.Block space anchor block) rest h = (tt, block_apart anchor _)
 
-from_apart : (above : List (List ℕ)) (column : ℕ) (dashes : List ℕ) (mark : rows.Mark) (c : Content) → IsApart (anchor_of c) (head_of c) → HaveHeadsApart (lines_from above column dashes mark c)
+from_apart : (above : List (List ℕ)) (column : ℕ) (dashes : List ℕ) (mark : rows.Mark) (c : Content) → IsApart (content_anchor c) (head_of c) → HaveHeadsApart (lines_from above column dashes mark c)
 from_apart above column [] mark c h = (h, tt)
 from_apart above column (n ∷ ns) mark c h = ((tt, tt), from_apart [] (suc (column + n)) ns mark c h)
 

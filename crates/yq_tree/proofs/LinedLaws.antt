@@ -10,7 +10,8 @@ use Rattle.yq_lines.specs.Comments.{head_comment}
 use Rattle.yq_rows.specs.Grammar.{unlimited}
 use Rattle.yq_rows.specs.Rows.{Row, Part}
 use Rattle.yq_rows.specs.View.{Slices, slices, Bound}
-use Rattle.yq_tree.specs.Documents.{first_gap, lead_of}
+use Rattle.yq_rows.specs.Splices.{first_gap}
+use Rattle.yq_tree.specs.Documents.{lead_of}
 use Rattle.yq_tree.specs.FlowReading.{rows_flows, part_flows}
 use Rattle.yq_tree.specs.KeyReading.{EndsIn}
 use Rattle.yq_tree.specs.Lines.{lines_of}

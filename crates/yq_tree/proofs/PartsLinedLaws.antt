@@ -207,10 +207,6 @@ with_fit : (is : Bool) (p : Part) (ps : List Part) → (is || no_rows p.rows) �
 with_fit true p ps e = refl
 with_fit false p ps e = ap (λ b. b && all_fit ps) (no_rows_fit p e)
 
-and_true : (b : Bool) → (b && true) ≡ b
-and_true true = refl
-and_true false = refl
-
 fit_are : (is : Bool) (c : Cut) → AreParts is c → marked_fit (parts_in c) ≡ all_fit (parts_from is c)
 fit_are is (last p) h = with_fit is p [] h.inside
 fit_are is (marked p marker c) h = ap (λ b. part_fits p && b) (fit_are (begins_document marker) c h.2) ∙ with_fit is p (parts_from (begins_document marker) c) h.0.inside

@@ -20,7 +20,7 @@ use Rattle.yq_rows.specs.Rows as rows
 use Rattle.yq_rows.specs.Rows.{Content, Nothing, Inline, Block, Row, dashes_text, parent_indent, print_row}
 use Rattle.yq_rows.specs.View.{Slices, last_dash, key_of, colon_of, content_cut, slices, slices_text}
 use Rattle.yq_rows.proofs.SliceLaws.{slices_are}
-use Rattle.yq_tree.specs.Lines.{anchor_of, head_of, tail_of, mark_of, mark_line, dash_line, lines_from, row_lines}
+use Rattle.yq_tree.specs.Lines.{content_anchor, head_of, tail_of, mark_of, mark_line, dash_line, lines_from, row_lines}
 use Rattle.yq_lines.specs.Outline.{Mark, Bare, Key, Dash, Line}
 use Rattle.yq_tree.specs.FitReading.{key_fits}
 use Rattle.yq_tree.specs.KeyReading.{EndsIn}
@@ -42,7 +42,7 @@ mark_is rows.Bare c rest h = refl
 mark_is rows.Dash c rest h = refl
 mark_is (rows.Key key colon) c rest h = rw (ap is_empty h.colon_is.spelled ∙ colon_some h.colon_is.white) refl
 
-anchor_is : (c : Content) → name_in (content_cut c).1 ≡ anchor_of c
+anchor_is : (c : Content) → name_in (content_cut c).1 ≡ content_anchor c
 anchor_is (Nothing tail) = refl
 anchor_is (Inline space empty tail) = refl
 anchor_is (Inline space (alias name) tail) = refl
@@ -115,7 +115,7 @@ dashes_are (suc n ∷ ns) m c lines gap column h =
 line_is : (r : Row) (b : Begun) (c : Content) (rest : List ℕ) → r.content ≡ c → IsMark r.mark c rest → b.last ≡ last_dash r.mark → line_with (slices r) b (head_of c) ≡ mark_line (comments.head_comment b.gap) b.column r.mark c
 line_is r b c rest same h last =
     let mark : mark_at (slices r) b.last ≡ mark_of r.mark = ap (λ l. cond (is_empty (colon_of r.mark)) (cond (is_empty l) Bare Dash) (Key (content_of (key_of r.mark)))) last ∙ mark_is r.mark c rest h in
-    let anchor : name_in (content_cut r.content).1 ≡ anchor_of c = ap (λ (x : Content). name_in (content_cut x).1) same ∙ anchor_is c in
+    let anchor : name_in (content_cut r.content).1 ≡ content_anchor c = ap (λ (x : Content). name_in (content_cut x).1) same ∙ anchor_is c in
     let tail : (content_cut r.content).4 ≡ tail_of c = ap (λ (x : Content). (content_cut x).4) same ∙ tail_is c in
     λ i. record { column = b.column; mark = mark i; anchor = anchor i; head = head_of c; head_comment = comments.head_comment b.gap; line_comment = comments.line_comment (tail i) }
 

@@ -1,5 +1,5 @@
 -- Where rows and their lines begin, by the pieces of rows.
-use Rattle.std.proofs.Common.{◌≡◌, ℕ, zero, suc, ◌+◌, ◌-◌, ◌≤◌, ◌⊎◌, inl, inr, eqb, List, [], ◌∷◌, ◌++◌, length, take, replicate, Some, option_map, Bool, true, false, cond, refl, sym, ap, ◌∙◌, arith, length-append}
+use Rattle.std.proofs.Common.{◌≡◌, ℕ, zero, suc, ◌+◌, ◌-◌, ◌≤◌, ◌⊎◌, inl, inr, List, [], ◌∷◌, ◌++◌, length, take, replicate, Some, option_map, refl, sym, ap, ◌∙◌, arith, length-append}
 use Rattle.std.proofs.lemmas.Bool.{ne_eqb, cond-false}
 use Rattle.std.proofs.lemmas.List.{length-replicate}
 use Rattle.std.proofs.lemmas.Option.{slice_get-map}
@@ -7,12 +7,10 @@ use Rattle.std.specs.List.{slice_get, sum_by}
 use Rattle.yq_rows.specs.Exchange.{before_content}
 use Rattle.yq_rows.specs.Rows.{Mark, Bare, Dash, Key, Row, dashes_text, Cut}
 use Rattle.yq_rows.specs.View.{Slices, slices, last_dash, rows_of, shown}
-use Rattle.yq_tree.specs.CommentPlaces.{before_tail}
-use Rattle.yq_tree.specs.EntryPlaces.{before_line, ending, through_row}
-use Rattle.yq_tree.specs.EntryReading.{dash_at, line_begin}
+use Rattle.yq_tree.specs.CommentReading.{before_tail, before_row}
+use Rattle.yq_tree.specs.EntryReading.{before_line, ending, through_row, dash_at, line_begin}
 use Rattle.yq_rows.specs.Offsets.{row_length}
 use Rattle.yq_tree.specs.Extents.{passed_length, row_start, front_length, head_place}
-use Rattle.yq_tree.specs.Passages.{before_row}
 use Rattle.yq_tree.proofs.LengthLaws.{head_told}
 use Rattle.yq_tree.proofs.StartLaws.{start_told}
 
@@ -42,16 +40,6 @@ to_dash (suc k) (n ∷ ns) t h e =
     let less : suc k - 1 ≡ k = omega arith in
     let step : dash_at (suc k) (45 ∷ rest) ≡ suc (dash_at k rest) = cond-false _ 0 (suc (dash_at (suc k - 1) rest)) (ne_eqb (suc k) 0 (λ e. omega (arith, e))) ∙ ap (λ (j : ℕ). suc (dash_at j rest)) less in
     omega (arith, step, again, past_spaces k n (dashes_text ns t), spaces, length-append (replicate n 32) (dashes_text (take k ns) []))
-
-pub dash_within : (k : ℕ) (t : List ℕ) → dash_at k t ≤ length t
-unfolding dash_at
-dash_within k [] = omega arith
-dash_within k (b ∷ t) = go (eqb b 45) (eqb k 0) (dash_within (k - 1) t) (dash_within k t)
-  where
-    go : (x y : Bool) → dash_at (k - 1) t ≤ length t → dash_at k t ≤ length t → cond x (cond y 0 (suc (dash_at (k - 1) t))) (suc (dash_at k t)) ≤ suc (length t)
-    go true true h g = omega arith
-    go true false h g = omega (arith, h)
-    go false y h g = omega (arith, g)
 
 last_is : (m : Mark) → last_dash m ≡ [] ⊎ ((u : List ℕ) × (last_dash m ≡ 45 ∷ u))
 last_is Bare = inl refl

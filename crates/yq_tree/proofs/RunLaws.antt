@@ -3,7 +3,7 @@ use Rattle.std.proofs.Common.{◌≡◌, ℕ, Bool, true, false, cond, eqb, ◌&
 use Rattle.std.proofs.lemmas.Bool.{cond-true, cond-false}
 use Rattle.yq_scalar.specs.Text.{front, joined, lines_of, past_white}
 use Rattle.yq_lines.specs.Comments.{are_comments, last_comments}
-use Rattle.yq_tree.specs.CommentPlaces.{before_run, last_run}
+use Rattle.yq_tree.specs.Pieces.{before_run, last_run}
 use Rattle.yq_tree.specs.Texts.{texts}
 use Rattle.yq_tree.proofs.CommentLaws.{all_texts}
 

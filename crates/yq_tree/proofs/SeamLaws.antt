@@ -15,9 +15,9 @@ use Rattle.yq_rows.proofs.ExchangeLaws.{slice_front, slice_back}
 use Rattle.yq_rows.proofs.NodePieces.{EndsAscii, ends_behind, BeginsAscii, before_ascii, behind_ascii}
 use Rattle.yq_rows.proofs.PlaceLaws.{row_then, part_then, row_in}
 use Rattle.yq_rows.proofs.SliceLaws.{slices_are}
-use Rattle.yq_tree.specs.EntryPlaces.{before_line}
-use Rattle.yq_tree.specs.Passages.{before_row}
-use Rattle.yq_tree.proofs.PassageLaws.{Ended, tail_end, content_end, gap_end, row_place}
+use Rattle.yq_tree.specs.EntryReading.{before_line}
+use Rattle.yq_tree.specs.CommentReading.{before_row}
+use Rattle.yq_tree.proofs.CommentPieceLaws.{Ended, tail_end, content_end, gap_end, row_place}
 
 -- a text ends between characters before a rest: it is empty, or its last byte is ASCII, or nothing is behind it
 abbrev pub IsSeam : List ℕ → List ℕ → Type 0
@@ -45,7 +45,7 @@ pub ended_seam : (p rest : List ℕ) → Ended p rest → IsSeam p rest
 ended_seam p rest (inl lf) = inr (inl (record { front = lf.0; last = 10; is = lf.1; ascii = omega arith }))
 ended_seam p rest (inr none) = inr (inr none)
 
-gap_seam : (gap rest : List ℕ) → IsGap gap rest → IsSeam gap rest
+pub gap_seam : (gap rest : List ℕ) → IsGap gap rest → IsSeam gap rest
 gap_seam gap rest h = go (gap_end gap rest h)
   where
     go : (gap ≡ []) ⊎ Ended gap rest → IsSeam gap rest
@@ -110,7 +110,7 @@ row_first [] i r rest h = absurd (cc)
 row_first (x ∷ rows) zero r rest h = let is : x ≡ r = cc in ap (λ (y : Row). print_row y (rows_text rows rest)) is
 row_first (x ∷ rows) (suc i) r rest h = row_first rows i r rest h
 
-row_seam : (c : Cut) (i : ℕ) (started : Bool) (r : Row) → AreParts started c → slice_get (rows_of c) i ≡ Some r → IsSeam (before_row i c) (print_row r (behind_row i c))
+pub row_seam : (c : Cut) (i : ℕ) (started : Bool) (r : Row) → AreParts started c → slice_get (rows_of c) i ≡ Some r → IsSeam (before_row i c) (print_row r (behind_row i c))
 row_seam (last p) i started r h is = subst (IsSeam (rows_text (take i p.rows) [])) (row_first p.rows i r (p.end ++ []) is) (rows_seam p.rows i unlimited p.end [] h.rows)
 row_seam (marked p marker c) i started r h is = go (cases_lt i (length p.rows)) (λ there. row_seam c (i - length p.rows) (begins_document marker) r h.2 there)
   where

@@ -110,10 +110,6 @@ pub room_told : (part : Place) (k : ℕ) (x : Numbers) (o : Option Seat) (room :
 room_told part k x None room e told = absurd (cc)
 room_told part k x (Some s) room e told = told k s (number_same e)
 
-pub no_room_told : (part : Place) (k : ℕ) (o : Option Seat) → None ≡ option_map (numbers k) o → false ≡ seat_has_room part o
-no_room_told part k None e = refl
-no_room_told part k (Some s) e = absurd (cc)
-
 -- part after part
 pub begin_here : (is : Bool) (n k : ℕ) (b : Bound) (bs rest : List Bound) → bs ≡ b ∷ rest → true ≡ (is && eqb n 0) → Some k ≡ begin_row is n k bs
 begin_here is n k b bs rest e found = go is n found ∙ sym (ap (begin_row is n k) e)

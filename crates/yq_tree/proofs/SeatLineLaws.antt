@@ -5,51 +5,25 @@ use Rattle.std.specs.List.{slice_get}
 use Rattle.yq_lines.specs.Comments as comments
 use Rattle.yq_rows.specs.Rows as rows
 use Rattle.yq_rows.specs.Rows.{Content, Row}
-use Rattle.yq_tree.specs.Lines.{head_of, tail_of, lines_from, row_lines, lines_of}
+use Rattle.yq_tree.specs.Lines.{lines_from, row_lines, lines_of}
 use Rattle.yq_lines.specs.Outline.{Dash, Line}
 use Rattle.yq_tree.specs.Seats.{Seat, behind_one, seat}
-use Rattle.yq_tree.proofs.QuietLaws.{Quiet, quiet_content}
-use Rattle.yq_lines.proofs.Values.{If}
 
--- What is told of line n of a row: the comments above at the first, the comment in the tail at the last; before that, lines of dashes.
-pub record IsTold (above : List (List ℕ)) (dashes : ℕ) (c : Content) (n : ℕ) (l : Line) : Type 0 where
+-- Line n of a row, before whose mark so many dashes stand: before the mark it is that of a dash.
+pub record IsTold (dashes n : ℕ) (l : Line) : Type 0 where
   pub within : n ≤ dashes
-  pub first : n ≡ 0 → l.head_comment ≡ above
-  pub later : 0 < n → l.head_comment ≡ []
-  pub last : n ≡ dashes → l.line_comment ≡ comments.line_comment (tail_of c)
-  pub before : n < dashes → l.line_comment ≡ None
   pub dash : n < dashes → (l.mark ≡ Dash) × (l.head ≡ None)
-  pub spelled : n ≡ dashes → l.head ≡ head_of c
-  pub head : If l.head Quiet
-
-none_above : (dashes : ℕ) (c : Content) (n : ℕ) (l : Line) → IsTold [] dashes c n l → l.head_comment ≡ []
-none_above dashes c n l h = go (cases_lt 0 n)
-  where
-    go : (0 < n) ⊎ (n ≤ 0) → l.head_comment ≡ []
-    go (inl more) = h.later more
-    go (inr zero_is) = h.first (omega (arith, zero_is))
 
 some_same : {x y : Line} → Some x ≡ Some y → x ≡ y
 some_same e = cc
 
-line_from : (above : List (List ℕ)) (column : ℕ) (ns : List ℕ) (m : rows.Mark) (c : Content) (n : ℕ) (l : Line) → slice_get (lines_from above column ns m c) n ≡ Some l → IsTold above (length ns) c n l
-line_from above column [] m c zero l e =
-    subst (IsTold above 0 c 0) (some_same e) (record { within = omega arith; first = λ z. refl; later = λ p. absurd (omega (arith, p)); last = λ z. refl; before = λ p. absurd (omega (arith, p)); dash = λ p. absurd (omega (arith, p)); spelled = λ z. refl; head = quiet_content c })
+line_from : (above : List (List ℕ)) (column : ℕ) (ns : List ℕ) (m : rows.Mark) (c : Content) (n : ℕ) (l : Line) → slice_get (lines_from above column ns m c) n ≡ Some l → IsTold (length ns) n l
+line_from above column [] m c zero l e = record { within = omega arith; dash = λ p. absurd (omega (arith, p)) }
 line_from above column [] m c (suc n) l e = absurd (cc)
-line_from above column (k ∷ ns) m c zero l e =
-    subst (IsTold above (suc (length ns)) c 0) (some_same e) (record { within = omega arith; first = λ z. refl; later = λ p. absurd (omega (arith, p)); last = λ z. absurd (omega (arith, z)); before = λ p. refl; dash = λ p. (refl, refl); spelled = λ z. absurd (omega (arith, z)); head = tt })
+line_from above column (k ∷ ns) m c zero l e = subst (IsTold (suc (length ns)) 0) (some_same e) (record { within = omega arith; dash = λ p. (refl, refl) })
 line_from above column (k ∷ ns) m c (suc n) l e =
-    let h : IsTold [] (length ns) c n l = line_from [] (suc (column + k)) ns m c n l e in
-    record {
-      within = omega (arith, h.within);
-      first = λ z. absurd (omega (arith, z));
-      later = λ p. none_above (length ns) c n l h;
-      last = λ z. h.last (omega (arith, z));
-      before = λ p. h.before (omega (arith, p));
-      dash = λ p. h.dash (omega (arith, p));
-      spelled = λ z. h.spelled (omega (arith, z));
-      head = h.head;
-    }
+    let h = line_from [] (suc (column + k)) ns m c n l e in
+    record { within = omega (arith, h.within); dash = λ p. h.dash (omega (arith, p)) }
 
 pub lines_count : (above : List (List ℕ)) (column : ℕ) (ns : List ℕ) (m : rows.Mark) (x : Content) → length (lines_from above column ns m x) ≡ suc (length ns)
 lines_count above column [] m x = refl
@@ -67,7 +41,7 @@ get_back (x ∷ xs) ys (suc n) l h e = let same : suc n - suc (length xs) ≡ n 
 
 -- the same of a seat
 abbrev pub Tells : Seat → Line → Type 0
-Tells s l = IsTold (comments.head_comment s.row.gap) (length s.row.dashes) s.row.content s.line l
+Tells s l = IsTold (length s.row.dashes) s.line l
 
 pub seat_line : (rs : List Row) (n : ℕ) (l : Line) → slice_get (lines_of rs) n ≡ Some l → (s : Seat) × (seat n rs ≡ Some s) × Tells s l
 seat_line [] n l e = absurd (cc)

@@ -10,7 +10,7 @@ use Rattle.yq_tree.specs.Documents.{document_parts}
 use Rattle.yq_tree.specs.Extents.{row_start}
 use Rattle.yq_tree.specs.Lines.{lines_of}
 use Rattle.yq_tree.specs.Located.{steps_of}
-use Rattle.yq_tree.specs.Passages.{Passage, passage_span}
+use Rattle.yq_tree.specs.Pieces.{Piece, piece_span}
 use Rattle.yq_tree.specs.Reading.{cut_of}
 use Rattle.yq_lines.specs.Ends.{line_of}
 use Rattle.yq_tree.specs.SeatReading.{Numbers, numbers}
@@ -37,16 +37,16 @@ of_some P (Some q) s h e = subst P (same e) h
     same : {x y : Seat} → Some x ≡ Some y → x ≡ y
     same e = cc
 
-steps_row : (steps : Option ℕ) (rs : List Row) (s : Seat) → (steps >>= λ n. seat n rs) ≡ Some s → slice_get rs s.before ≡ Some s.row
+pub steps_row : (steps : Option ℕ) (rs : List Row) (s : Seat) → (steps >>= λ n. seat n rs) ≡ Some s → slice_get rs s.before ≡ Some s.row
 steps_row None rs s e = absurd (cc)
 steps_row (Some n) rs s e = of_some (λ q. slice_get rs q.before ≡ Some q.row) (seat n rs) s (seat_row n rs) e
 
-get_front : (xs more : List Row) (i : ℕ) (r : Row) → slice_get xs i ≡ Some r → slice_get (xs ++ more) i ≡ Some r
+pub get_front : (xs more : List Row) (i : ℕ) (r : Row) → slice_get xs i ≡ Some r → slice_get (xs ++ more) i ≡ Some r
 get_front [] more i r e = absurd (cc)
 get_front (x ∷ xs) more zero r e = e
 get_front (x ∷ xs) more (suc i) r e = get_front xs more i r e
 
-get_drop : (k : ℕ) (xs : List Row) (i : ℕ) → slice_get (drop k xs) i ≡ slice_get xs (k + i)
+pub get_drop : (k : ℕ) (xs : List Row) (i : ℕ) → slice_get (drop k xs) i ≡ slice_get xs (k + i)
 get_drop zero xs i = let same : i ≡ 0 + i = omega arith in ap (slice_get xs) same
 get_drop (suc k) [] i = refl
 get_drop (suc k) (x ∷ xs) i = let same : suc (k + i) ≡ suc k + i = omega arith in get_drop k xs i ∙ ap (slice_get (x ∷ xs)) same
@@ -80,19 +80,19 @@ row_within t x ds path n h e = go (seat_at path (cut_of t)) refl e
 abbrev SpanIn : Type 0
 SpanIn = ℕ → Slices → Numbers → Option (ℕ × ℕ)
 
--- the same as a passage of the text, in row i
-abbrev PassageIn : Type 0
-PassageIn = ℕ → Seat → Cut → Option Passage
+-- the same as a piece of the text, in row i
+abbrev PieceIn : Type 0
+PieceIn = ℕ → Seat → Cut → Option Piece
 
-abbrev Tells : SpanIn → PassageIn → Type 0
-Tells of in_ = (c : Cut) (i : ℕ) (s : Seat) (k : ℕ) → slice_get (rows_of c) i ≡ Some s.row → of (row_start i (shown c)) (slices s.row) (numbers k s) ≡ option_map passage_span (in_ i s c)
+abbrev Tells : SpanIn → PieceIn → Type 0
+Tells of in_ = (c : Cut) (i : ℕ) (s : Seat) (k : ℕ) → slice_get (rows_of c) i ≡ Some s.row → of (row_start i (shown c)) (slices s.row) (numbers k s) ≡ option_map piece_span (in_ i s c)
 
-pub part_told : (of : SpanIn) (in_ : PassageIn) → Tells of in_ → (t : List ℕ) (x : Shown) (ds : List DocumentLines) (path : Path) (n : Numbers) (found : Option (ℕ × ℕ)) → Holds t x ds →
+pub part_told : (of : SpanIn) (in_ : PieceIn) → Tells of in_ → (t : List ℕ) (x : Shown) (ds : List DocumentLines) (path : Path) (n : Numbers) (found : Option (ℕ × ℕ)) → Holds t x ds →
     Some n ≡ option_map (numbers (document_row path.doc (cut_of t))) (seat_at path (cut_of t)) → ((y : Slices) → slice_get x.rows n.0 ≡ Some y → found ≡ of (row_start n.0 x) y n) →
-    found ≡ option_map passage_span (seat_at path (cut_of t) >>= λ s. in_ (document_row path.doc (cut_of t) + s.before) s (cut_of t))
+    found ≡ option_map piece_span (seat_at path (cut_of t) >>= λ s. in_ (document_row path.doc (cut_of t) + s.before) s (cut_of t))
 part_told of in_ tells t x ds path n found h e told = go (seat_at path (cut_of t)) refl e
   where
-    go : (o : Option Seat) → seat_at path (cut_of t) ≡ o → Some n ≡ option_map (numbers (document_row path.doc (cut_of t))) o → found ≡ option_map passage_span (o >>= λ s. in_ (document_row path.doc (cut_of t) + s.before) s (cut_of t))
+    go : (o : Option Seat) → seat_at path (cut_of t) ≡ o → Some n ≡ option_map (numbers (document_row path.doc (cut_of t))) o → found ≡ option_map piece_span (o >>= λ s. in_ (document_row path.doc (cut_of t) + s.before) s (cut_of t))
     go None is e = absurd (cc)
     go (Some s) is e =
         let k : ℕ = document_row path.doc (cut_of t) in
@@ -101,10 +101,10 @@ part_told of in_ tells t x ds path n found h e told = go (seat_at path (cut_of t
         ∙ ((λ j. of (row_start (same j).0 (h.rows j)) (slices s.row) (same j))
         ∙ tells (cut_of t) (k + s.before) s k (path_row path (cut_of t) s is))
 
-pub no_part : (in_ : PassageIn) (t : List ℕ) (path : Path) → None ≡ option_map (numbers (document_row path.doc (cut_of t))) (seat_at path (cut_of t)) →
-    None ≡ option_map passage_span (seat_at path (cut_of t) >>= λ s. in_ (document_row path.doc (cut_of t) + s.before) s (cut_of t))
+pub no_part : (in_ : PieceIn) (t : List ℕ) (path : Path) → None ≡ option_map (numbers (document_row path.doc (cut_of t))) (seat_at path (cut_of t)) →
+    None ≡ option_map piece_span (seat_at path (cut_of t) >>= λ s. in_ (document_row path.doc (cut_of t) + s.before) s (cut_of t))
 no_part in_ t path e = go (seat_at path (cut_of t)) e
   where
-    go : (o : Option Seat) → None ≡ option_map (numbers (document_row path.doc (cut_of t))) o → None ≡ option_map passage_span (o >>= λ s. in_ (document_row path.doc (cut_of t) + s.before) s (cut_of t))
+    go : (o : Option Seat) → None ≡ option_map (numbers (document_row path.doc (cut_of t))) o → None ≡ option_map piece_span (o >>= λ s. in_ (document_row path.doc (cut_of t) + s.before) s (cut_of t))
     go None e = refl
     go (Some s) e = absurd (cc)

@@ -9,7 +9,7 @@ use Rattle.yq_rows.specs.View.{Slices, slices, rows_of, Shown, shown}
 use Rattle.yq_rows.proofs.ExchangeLaws.{slice_front, slice_back}
 use Rattle.yq_rows.specs.Offsets.{row_length}
 use Rattle.yq_tree.specs.Extents.{passed_length, row_start, shown_length, front_length, head_place}
-use Rattle.yq_tree.specs.Passages.{before_row}
+use Rattle.yq_tree.specs.CommentReading.{before_row}
 use Rattle.yq_tree.proofs.LengthLaws.{row_fits, print-length, part-length, front-length, head_told}
 
 -- a row begins within the text

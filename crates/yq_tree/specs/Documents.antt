@@ -11,10 +11,11 @@ use Rattle.yq_lines.specs.Comments.{head_comment}
 use Rattle.yq_rows.specs.Grammar.{IsCut, is_plain, no_rows, begins_document, key_limit}
 use Rattle.yq_rows.specs.Rows as rows
 use Rattle.yq_rows.specs.Rows.{Content, Nothing, Inline, Block, Row, Part, Cut, last, marked}
+use Rattle.yq_rows.specs.Splices.{first_gap}
 use Rattle.yq_lines.specs.Anchors.{names_of, AreBound, HaveOneAnchorEach}
 use Rattle.yq_lines.specs.Grammar.{IsNode}
 use Rattle.yq_tree.specs.Lines.{lines_of}
-use Rattle.yq_lines.specs.Outline.{Line, null}
+use Rattle.yq_lines.specs.Outline.{Line, null_node}
 
 -- A document: the comment before it and its root node (9.1, own).
 pub record Document : Type 0 where
@@ -47,13 +48,8 @@ document_parts c = parts_from (begins_bare c || not (has_begin c)) c
 
 -- lines are those of a root node; a document without lines has a null as its root (9.1.2)
 abbrev pub IsRoot : List Line → Node → Type 0
-IsRoot [] node = node ≡ null
+IsRoot [] node = node ≡ null_node
 IsRoot (l ∷ ls) node = (n : ℕ) × IsNode n (l ∷ ls) node
-
--- the gap before the first row, or the gap at the end where there is no row (own)
-abbrev pub first_gap : List Row → List ℕ → List ℕ
-first_gap [] end = end
-first_gap (r ∷ rs) end = r.gap
 
 -- the comment before a document: the run of comment lines that ends its first gap (own)
 abbrev pub lead_of : Part → List (List ℕ)

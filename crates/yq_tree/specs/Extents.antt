@@ -1,19 +1,12 @@
--- Where what a row spells stands in its text (own).
-use Rattle.std.specs.Prelude.{Bool, not, ◌&&◌, ◌||◌, ℕ, suc, ◌+◌, ◌-◌, ◌≤◌, ◌≡◌, nat_le, nat_lt, ◌==◌, List, [], ◌∷◌, ◌++◌, length, slice_get, take, Option, Some, None, option_map, if◌then◌else◌}
+-- Reading (a reader may skip this): where what a row spells stands in its text, by the pieces of rows.
+use Rattle.std.specs.Prelude.{ℕ, ◌+◌, ◌-◌, ◌≤◌, ◌≡◌, nat_le, ◌==◌, List, ◌++◌, length, take, if◌then◌else◌}
 use Rattle.std.specs.List.{sum_by, count_by}
-use Rattle.yq_scalar.specs.Answers.{◌>>=◌}
 use Rattle.yq_scalar.specs.Characters.{text_limit}
-use Rattle.yq_scalar.specs.Paths.{Step}
 use Rattle.yq_scalar.specs.Text.{is_empty}
-use Rattle.yq_inline.specs.Nodes.{first_is}
 use Rattle.yq_rows.specs.Exchange.{before_content}
 use Rattle.yq_rows.specs.Offsets.{row_length}
 use Rattle.yq_rows.specs.Rows.{Row, Cut, cut_text}
-use Rattle.yq_rows.specs.View.{Slices, slices, Bound, Shown, shown, rows_of}
-use Rattle.yq_tree.specs.declared.path.Span.{Span}
-use Rattle.yq_tree.specs.RowReading.{begins_block}
-use Rattle.yq_tree.specs.RowPaths.{row_at}
-use Rattle.yq_tree.specs.Written.{Written, row_scalar}
+use Rattle.yq_rows.specs.View.{Slices, slices, Bound, Shown, shown}
 
 -- The place of a row's head: behind the text before the row's content, white space, an anchor and the white space behind that.
 abbrev pub head_place : ℕ → Cut → Row → ℕ × ℕ
@@ -49,35 +42,8 @@ dash_count t = count_by (λ b. b == 45) t
 abbrev pub lines_before_mark : Slices → ℕ
 lines_before_mark s = if is_empty s.colon then dash_count s.dashes - 1 else dash_count s.dashes
 
--- the row whose last line is this one, by the pieces of rows
-abbrev pub slices_row : ℕ → List Slices → Option ℕ
-slices_row n [] = None
-slices_row n (s ∷ ss) =
-    if nat_lt n (lines_before_mark s) then None
-    else (if n == lines_before_mark s then Some 0 else option_map suc (slices_row (n - suc (lines_before_mark s)) ss))
-
 -- A cut whose pieces these are, of a text that is not too long.
 pub record IsShown (s : Shown) : Type 0 where
   pub cut : Cut
   pub is : s ≡ shown cut
   pub size : length (cut_text cut) ≤ text_limit
-
--- whether a head is a plain or quoted scalar
-abbrev pub is_scalar_head : List ℕ → Bool
-is_scalar_head head = not (is_empty head) && not (begins_block head || (first_is 42 head || (first_is 91 head || first_is 123 head)))
-
--- whether a row is that of a key or dash, by its pieces
-abbrev pub begins_entry : Slices → Bool
-begins_entry s = not (is_empty s.dashes && is_empty s.colon)
-
--- the scalar that is written behind the key or dash to which steps lead among all rows of a cut
-abbrev pub written_in : List Step → Cut → Option Written
-written_in steps c = row_at steps c >>= λ i. row_scalar i (slice_get (rows_of c) i) c
-
--- where a scalar that is written begins and ends
-abbrev pub scalar_span : Written → ℕ × ℕ
-scalar_span w = (length w.before, length w.before + length w.scalar)
-
--- where a place of the code begins and ends
-abbrev pub span : Span → ℕ × ℕ
-span s = (s.start, s.end)

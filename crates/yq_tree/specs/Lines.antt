@@ -16,10 +16,10 @@ block_anchor None = None
 block_anchor (Some a) = Some a.name
 
 -- the anchor in a row, if there is one (YAML 1.2.2, section 6.9.2)
-abbrev pub anchor_of : Content → Option (List ℕ)
-anchor_of (Nothing tail) = None
-anchor_of (Inline space node tail) = node_anchor node
-anchor_of (Block space anchor block) = block_anchor anchor
+abbrev pub content_anchor : Content → Option (List ℕ)
+content_anchor (Nothing tail) = None
+content_anchor (Inline space node tail) = node_anchor node
+content_anchor (Block space anchor block) = block_anchor anchor
 
 -- what a row's head spells, if it has one; a block scalar is a string (YAML 1.2.2, sections 3.2.1 and 8.1)
 abbrev pub head_of : Content → Option tree.Node
@@ -41,7 +41,7 @@ mark_of (rows.Key key colon) = Key (content_of key)
 
 -- the line of a mark in a column: in it are the row's anchor, head and line comment (YAML 1.2.2, section 8.2; own)
 abbrev pub mark_line : List (List ℕ) → ℕ → rows.Mark → Content → Line
-mark_line above column mark c = record { column = column; mark = mark_of mark; anchor = anchor_of c; head = head_of c; head_comment = above; line_comment = comments.line_comment (tail_of c) }
+mark_line above column mark c = record { column = column; mark = mark_of mark; anchor = content_anchor c; head = head_of c; head_comment = above; line_comment = comments.line_comment (tail_of c) }
 
 -- the line of a dash before the mark: a collection begins behind it (YAML 1.2.2, section 8.2.1; own)
 abbrev pub dash_line : List (List ℕ) → ℕ → Line

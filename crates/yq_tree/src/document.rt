@@ -4,6 +4,7 @@ ghost use Rattle.yq_tree.specs.Documents.{Document};
 ghost use Rattle.yq_tree.specs.Located.{document_at, labelled_located, located};
 ghost use Rattle.yq_tree.specs.Nodes.{node_of, label_of, labelled_of, unlabelled};
 ghost use Rattle.yq_tree.specs.Reading as spec;
+ghost use Rattle.yq_tree.specs.Ready.{TextIsReady};
 ghost use Rattle.yq_tree.specs.SoundReading.{Holds};
 ghost use Rattle.yq_tree.specs.Texts.{texts_left};
 
@@ -12,6 +13,7 @@ use crate::nodes::node::Node;
 use crate::path::Path;
 use crate::reading::checks::DocumentLines;
 use std::marker::Model;
+use yq_lines::lines_shaped;
 use yq_rows::Rows;
 
 /// The documents of a text, which lend what they say of it. They are known by their text.
@@ -36,6 +38,16 @@ impl<'t> Documents<'t> {
         ensures { result ≡ length (spec.documents_of self.now) }
     {
         self.documents.len()
+    }
+
+    /// The documents are ready for the meaning of updates: each is a tree, with no more collections
+    /// nested than may be, and has the head comment of its first item or entry as its lead, where its
+    /// root is a block collection.
+    pub fn are_ready(&self)
+        ensures { TextIsReady self.now }
+    {
+        let _text = self.text;
+        lines_shaped();
     }
 
     /// The root of document `i`, counted from 0.

@@ -1,4 +1,4 @@
-//! Laws on paths, places and scalars that are written, for the crates above.
+//! Laws on paths and places, for the crates above.
 
 pub mod path_laws;
-pub mod written_laws;
+pub mod piece_laws;

@@ -8,6 +8,7 @@ ghost use Rattle.yq_rows.specs.Rows.{Cut};
 ghost use Rattle.yq_tree.specs.Answers.{IsNotUtf8};
 ghost use Rattle.yq_tree.specs.Documents.{Document, Reads};
 ghost use Rattle.yq_tree.specs.Reading as spec;
+ghost use Rattle.yq_tree.specs.Ready.{TextIsReady};
 
 pub mod checks;
 pub mod documents;
@@ -23,6 +24,7 @@ use crate::document::Documents;
 use crate::reading::checks::check_parts;
 use crate::reading::documents::document_lines;
 use std::alloc::Global;
+use yq_lines::lines_shaped;
 use yq_rows::scan;
 use yq_scalar::{FaultKind, ReadError, ReadFault};
 
@@ -70,7 +72,7 @@ fn read_text(alloc: Global, text: &str) -> Result<Documents<'_>, ReadError>
         Ok(parts) => parts,
         Err(e) => return Err(e),
     };
-    let documents = match check_parts(alloc, &rows, parts) {
+    let documents = match check_parts(alloc, text, &rows, parts) {
         Ok(documents) => documents,
         Err(e) => return Err(e),
     };
@@ -93,7 +95,10 @@ pub fn read(alloc: Global, bytes: &[u8]) -> Result<Documents<'_>, ReadError>
     // The documents are known by the bytes, and their cut is what reading from left to right gives.
     ensures text { IfOk result (λ d. d ≡ bytes.now) }
     ensures exact { Gives spec.cut_of result (spec.read_at bytes.now) }
+    // They are ready for the meaning of updates.
+    ensures ready { IfOk result (λ d. TextIsReady d) }
 {
+    documents_ready();
     let text = match text_of(bytes) {
         Ok(text) => text,
         Err(fault) => return Err(ReadError::Fault(fault)),
@@ -115,3 +120,11 @@ pub fn cut_read()
     ensures taken { (t : List ℕ) (c : Cut) → spec.text_at t ≡ Some c → IsCut t c × (spec.all_documents c ≡ true) }
     ensures given { (t : List ℕ) (c : Cut) → IsCut t c → spec.all_documents c ≡ true → spec.text_at t ≡ Some c }
 {}
+
+/// Each document of bytes that read is a tree, with no more collections nested than may be, and has the
+/// head comment of its first item or entry as its lead, where its root is a block collection.
+pub fn documents_ready()
+    ensures { (bytes : List ℕ) (docs : List Document) → Reads bytes docs → TextIsReady bytes }
+{
+    lines_shaped();
+}

@@ -15,7 +15,7 @@ use Rattle.yq_expr.specs.Conditions.{holds}
 use Rattle.yq_expr.specs.Meaning.{add_to}
 use Rattle.yq_expr.specs.Pipes.{kept, stage_on, pipe_on, places}
 use Rattle.yq_expr.specs.Places.{Place, root_place, child_place, for_each, miss, found_place, all_steps, step_there, step_from, step_on, walk}
-use Rattle.yq_scalar.specs.Shapes.{IsNew, AreItems, AreEntries}
+use Rattle.yq_scalar.specs.Shapes.{IsNew, AreItems, AreEntries, IsTree, AreTrees}
 use Rattle.yq_tree.specs.TreeEdits.{replaced, new_label}
 use Rattle.yq_expr.specs.Program.{Step, key, index, each, Condition, Stage, path, select}
 use Rattle.yq_expr.proofs.JudgementLaws.{then_gives, gives_same}
@@ -154,17 +154,17 @@ unrefused_rest root p x xs h = (
 )
 
 -- items for a sequence
-items_fit : (root : Node) (p : List paths.Step) (a : Option (List ℕ)) (cs ds : Children) → AreItems ds → Unrefused root p (additions none ds) → FitAdds root p (list a cs) (additions none ds)
-items_fit root p a cs none items h = tt
-items_fit root p a cs (child label v ds) items h =
+items_fit : (root : Node) (p : List paths.Step) (a : Option (List ℕ)) (cs ds : Children) → AreItems ds → AreTrees ds → Unrefused root p (additions none ds) → FitAdds root p (list a cs) (additions none ds)
+items_fit root p a cs none items trees h = tt
+items_fit root p a cs (child label v ds) items trees h =
     subst (λ (o : Option (List ℕ)). Unrefused root p (addition none o v ∷ additions none ds) → FitAdds root p (list a cs) (addition none o v ∷ additions none ds)) (sym items.0)
-    (λ k. ((refl, ((k0 k).0, (k0 k).1), (a, cs, refl)), items_fit root p a (append_child (new_label None) v cs) ds items.1 (unrefused_rest root p (appends None v) (additions none ds) k))) h
+    (λ k. ((refl, (trees.0, (k0 k).0, (k0 k).1), (a, cs, refl)), items_fit root p a (append_child (new_label None) v cs) ds items.1 trees.1 (unrefused_rest root p (appends None v) (additions none ds) k))) h
   where
     k0 : Unrefused root p (appends None v ∷ additions none ds) → (has_long_key v ≡ false) × (is_deep (suc (length p)) v ≡ false)
     k0 k = ((or_false (has_long_key v) (list_any writes_long_key (additions none ds)) k.0).0, (or_false (is_deep (suc (length p)) v) (list_any (λ y. is_deep (suc (length p)) (value_in y)) (additions none ds)) k.1).0)
 
-pub list_fits : (root : Node) (p : List paths.Step) (a : Option (List ℕ)) (cs ds : Children) → AreItems ds → Unrefused root p (additions none ds) → FitAdds root p (list a cs) (additions none ds)
-list_fits root p a cs ds items h = items_fit root p a cs ds items h
+pub list_fits : (root : Node) (p : List paths.Step) (a : Option (List ℕ)) (cs ds : Children) → AreItems ds → AreTrees ds → Unrefused root p (additions none ds) → FitAdds root p (list a cs) (additions none ds)
+list_fits root p a cs ds items trees h = items_fit root p a cs ds items trees h
 
 other_append : (j k : List ℕ) (v : Node) (es : Children) → j ≢ k → child_at (To k) (append_child (new_label (Some j)) v es) ≡ child_at (To k) es
 other_append j k v none d = cond_false (key_is k (Some j)) (Some v) None (bytes_differ j k d)
@@ -192,34 +192,34 @@ other_add cs j k v es d = go (is_some (child_at (To j) cs))
     go false = other_append j k v es d
 
 module _ (root : Node) (p : List paths.Step) (a first : Option (List ℕ)) (cs : Children) (at : node_at p root ≡ Some (tree.map first cs)) where
-  entry_fits : (k : List ℕ) (v : Node) (es : Children) (xs : List Addition) → child_at (To k) es ≡ child_at (To k) cs → Unrefused root p (addition cs (Some k) v ∷ xs) →
+  entry_fits : (k : List ℕ) (v : Node) (es : Children) (xs : List Addition) → IsTree v → child_at (To k) es ≡ child_at (To k) cs → Unrefused root p (addition cs (Some k) v ∷ xs) →
       FitAdds root p (tree.map a (add_to (addition cs (Some k) v) es)) xs → FitAdds root p (tree.map a es) (addition cs (Some k) v ∷ xs)
-  entry_fits k v es xs same free rest = go (child_at (To k) cs) refl free rest
+  entry_fits k v es xs tree_is same free rest = go (child_at (To k) cs) refl free rest
     where
       go : (o : Option Node) → child_at (To k) cs ≡ o → Unrefused root p (cond (is_some o) (overwrites k v) (appends (Some k) v) ∷ xs) →
           FitAdds root p (tree.map a (add_to (cond (is_some o) (overwrites k v) (appends (Some k) v)) es)) xs → FitAdds root p (tree.map a es) (cond (is_some o) (overwrites k v) (appends (Some k) v) ∷ xs)
       go None is h r =
           let long = or_false (is_long (Some k)) (has_long_key v) (or_false (is_long (Some k) || has_long_key v) (list_any writes_long_key xs) h.0).0 in
-          ((long.0, (long.1, (or_false (is_deep (suc (length p)) v) (list_any (λ y. is_deep (suc (length p)) (value_in y)) xs) h.1).0), (a, es, refl, same ∙ is)), r)
+          ((long.0, (tree_is, long.1, (or_false (is_deep (suc (length p)) v) (list_any (λ y. is_deep (suc (length p)) (value_in y)) xs) h.1).0), (a, es, refl, same ∙ is)), r)
       go (Some m) is h r =
           let used : is_used_inside (names_of root) (node_at (p ++ To k ∷ []) root) ≡ false = (or_false (overwrites_used root p (overwrites k v)) (list_any (overwrites_used root p) xs) h.2).0 in (
             (
-              ((or_false (has_long_key v) (list_any writes_long_key xs) h.0).0, (or_false (is_deep (suc (length p)) v) (list_any (λ y. is_deep (suc (length p)) (value_in y)) xs) h.1).0),
+              (tree_is, (or_false (has_long_key v) (list_any writes_long_key xs) h.0).0, (or_false (is_deep (suc (length p)) v) (list_any (λ y. is_deep (suc (length p)) (value_in y)) xs) h.1).0),
               (m, same ∙ is, ap (is_used_inside (names_of root)) (sym (node_further p (To k) root (tree.map first cs) at ∙ is)) ∙ used),
             ),
             r,
           )
 
   -- entries for a mapping
-  pub entries_fit : (ds es : Children) → AreEntries ds → ((k : List ℕ) → (IsNew k ds → ⊥) → child_at (To k) es ≡ child_at (To k) cs) → Unrefused root p (additions cs ds) → FitAdds root p (tree.map a es) (additions cs ds)
-  entries_fit none es h same free = tt
-  entries_fit (child label v ds) es h same free =
+  pub entries_fit : (ds es : Children) → AreEntries ds → AreTrees ds → ((k : List ℕ) → (IsNew k ds → ⊥) → child_at (To k) es ≡ child_at (To k) cs) → Unrefused root p (additions cs ds) → FitAdds root p (tree.map a es) (additions cs ds)
+  entries_fit none es h trees same free = tt
+  entries_fit (child label v ds) es h trees same free =
       let k : List ℕ = h.0.0 in
       let is : label.key ≡ Some k = h.0.1 in
       let here : child_at (To k) es ≡ child_at (To k) cs = same k (λ new. new.0 is) in
       let at_k : Unrefused root p (addition cs (Some k) v ∷ additions cs ds) = subst (λ (o : Option (List ℕ)). Unrefused root p (addition cs o v ∷ additions cs ds)) is free in
       subst (λ (o : Option (List ℕ)). FitAdds root p (tree.map a es) (addition cs o v ∷ additions cs ds)) (sym is)
-      (entry_fits k v es (additions cs ds) here at_k
-      (entries_fit ds (add_to (addition cs (Some k) v) es) h.1
+      (entry_fits k v es (additions cs ds) trees.0 here at_k
+      (entries_fit ds (add_to (addition cs (Some k) v) es) h.1 trees.1
       (λ j not_new. other_add cs k j v es (λ e. not_new (subst (λ (c : List ℕ). IsNew c ds) e h.0.2)) ∙ same j (λ new. not_new new.1))
       (unrefused_rest root p (addition cs (Some k) v) (additions cs ds) at_k)))

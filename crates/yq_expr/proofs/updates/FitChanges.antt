@@ -11,7 +11,6 @@ use Rattle.yq_expr.specs.declared.program.CommentPlace.{CommentPlace}
 use Rattle.yq_expr.specs.declared.program.Operator.TheVariants as operator
 use Rattle.yq_expr.specs.declared.refusal.Refusal.TheVariants.{IndexOutOfRange, NoPlaceForComment, AnchorInUse, TooDeep, KeyTooLong}
 use Rattle.yq_expr.specs.Judgement.{Judgement, gives, refuses, and_then}
-use Rattle.yq_expr.specs.Making.{is_index}
 use Rattle.yq_expr.specs.Changes.{appends, overwrites, Change, replaces, adds, sets_comment, Changed, Room, is_long, has_long_key, is_deep, nested, made, put_below, put_at, addition, additions, added, add_below, add_at}
 use Rattle.yq_expr.specs.Changes.{remove_below, remove_at, is_there, comment_at, is_too_long, is_too_deep, is_used_inside, is_used_in, takes_used, allowed, all_allowed, at_each, with_value, changes_at, left_of, changes_in}
 use Rattle.yq_expr.specs.Changes.{is_comment, has_comment, value_in}
@@ -21,7 +20,7 @@ use Rattle.yq_expr.specs.Places.{Place, root_place}
 use Rattle.yq_expr.specs.PlacesApart.{IsIn}
 use Rattle.yq_expr.specs.RightValues.{is_null, as_items, sum, right_value}
 use Rattle.yq_scalar.specs.Shapes.{IsTree}
-use Rattle.yq_expr.specs.Program.{SumHolds, UpdatesHold, Step, key, index, each, Term, Update, assign, delete, comment}
+use Rattle.yq_expr.specs.Program.{is_index, SumHolds, UpdatesHold, Step, key, index, each, Term, Update, assign, delete, comment}
 use Rattle.yq_expr.proofs.updates.Aliases.{AddNone, WritesNone, AllWriteNone}
 use Rattle.yq_expr.proofs.updates.AllowedChanges.{IsMissed, AreMissed, places_missed, list_fits, entries_fit}
 use Rattle.yq_expr.proofs.updates.FitsAtTurn.{FitAdds, MayChange, MayChangeAll}
@@ -89,8 +88,8 @@ each_fit room root f so (p ∷ ps) cs s m h =
 
 -- ---- at one place
 
-puts_fit : (room : Room) (root : Node) (p : Place) (v : Node) → IsIn root p → HasNoAlias v → IfFree room root (p.path, replaces v)
-puts_fit room root p v at free = (free, λ f. ((f.0, f.1), (p.node, at, ap (is_used_inside (names_of root)) (sym at) ∙ f.2)))
+puts_fit : (room : Room) (root : Node) (p : Place) (v : Node) → IsIn root p → IsPure v → IfFree room root (p.path, replaces v)
+puts_fit room root p v at pure = (pure.1, λ f. ((pure.0, f.0, f.1), (p.node, at, ap (is_used_inside (names_of root)) (sym at) ∙ f.2)))
 
 nested_free : (ms : List Step) (v : Node) → HasNoAlias v → HasNoAlias (nested ms v)
 nested_free [] v free = free
@@ -98,32 +97,41 @@ nested_free (key k ∷ ms) v free = λ a m. elim m [ inl e ↦ nested_free ms v 
 nested_free (index i ∷ ms) v free = nested_free ms v free
 nested_free (each ∷ ms) v free = nested_free ms v free
 
-made_fit : (room : Room) (root : Node) (p : Place) (v : Node) (m : Step) (ms : List Step) (n : Node) → p.node ≡ n → IsIn root p → IsMissed (m ∷ ms) n → HasNoAlias v → IfFree room root (p.path, made n m ms v)
-made_fit room root p v m ms (alias name) is at miss free = puts_fit room root p (nested (m ∷ ms) v) at (nested_free (m ∷ ms) v free)
-made_fit room root p v m ms (scalar anchor kind text) is at miss free = puts_fit room root p (nested (m ∷ ms) v) at (nested_free (m ∷ ms) v free)
-made_fit room root p v m ms (list anchor cs) is at miss free = puts_fit room root p (nested (m ∷ ms) v) at (nested_free (m ∷ ms) v free)
-made_fit room root p v (key k) ms (tree.map anchor cs) is at miss free =
-    ((nested_free ms v free, tt), λ f. (tree.map anchor cs, at ∙ ap Some is, (added_one f)))
+nested_tree : (ms : List Step) (v : Node) → IsTree v → IsTree (nested ms v)
+nested_tree [] v h = h
+nested_tree (key k ∷ ms) v h = (((k, refl, tt), tt), (nested_tree ms v h, tt))
+nested_tree (index i ∷ ms) v h = nested_tree ms v h
+nested_tree (each ∷ ms) v h = nested_tree ms v h
+
+nested_pure : (ms : List Step) (v : Node) → IsPure v → IsPure (nested ms v)
+nested_pure ms v h = (nested_tree ms v h.0, nested_free ms v h.1)
+
+made_fit : (room : Room) (root : Node) (p : Place) (v : Node) (m : Step) (ms : List Step) (n : Node) → p.node ≡ n → IsIn root p → IsMissed (m ∷ ms) n → IsPure v → IfFree room root (p.path, made n m ms v)
+made_fit room root p v m ms (alias name) is at miss pure = puts_fit room root p (nested (m ∷ ms) v) at (nested_pure (m ∷ ms) v pure)
+made_fit room root p v m ms (scalar anchor kind text) is at miss pure = puts_fit room root p (nested (m ∷ ms) v) at (nested_pure (m ∷ ms) v pure)
+made_fit room root p v m ms (list anchor cs) is at miss pure = puts_fit room root p (nested (m ∷ ms) v) at (nested_pure (m ∷ ms) v pure)
+made_fit room root p v (key k) ms (tree.map anchor cs) is at miss pure =
+    ((nested_free ms v pure.1, tt), λ f. (tree.map anchor cs, at ∙ ap Some is, (added_one f)))
   where
     added_one : IsFree root (p.path, adds (appends (Some k) (nested ms v) ∷ [])) → FitAdds root p.path (tree.map anchor cs) (appends (Some k) (nested ms v) ∷ [])
     added_one f =
         let long = or_false (is_long (Some k)) (has_long_key (nested ms v)) (or_false (is_long (Some k) || has_long_key (nested ms v)) false f.0).0 in
-        ((long.0, (long.1, (or_false (is_deep (suc (length p.path)) (nested ms v)) false f.1).0), (anchor, cs, refl, miss)), tt)
-made_fit room root p v (index i) ms (tree.map anchor cs) is at miss free = absurd miss
-made_fit room root p v each ms (tree.map anchor cs) is at miss free = absurd miss
+        ((long.0, (nested_tree ms v pure.0, long.1, (or_false (is_deep (suc (length p.path)) (nested ms v)) false f.1).0), (anchor, cs, refl, miss)), tt)
+made_fit room root p v (index i) ms (tree.map anchor cs) is at miss pure = absurd miss
+made_fit room root p v each ms (tree.map anchor cs) is at miss pure = absurd miss
 
-put_fits : (room : Room) (root : Node) (v : Node) → HasNoAlias v → SoFits room root (λ p. put_at p v)
-put_fits room root v free p cs tree at miss h =
+put_fits : (room : Room) (root : Node) (v : Node) → IsPure v → SoFits room root (λ p. put_at p v)
+put_fits room root v pure p cs tree at miss h =
     let x = then_gives (λ (c : Change). gives ((p.path, c) ∷ [])) (put_below p.node p.missing v) cs h in
     subst (EachIfFree room root) (gives_same x.2) (go p.missing miss x.0 x.1, tt)
   where
     go : (missing : List Step) → IsMissed missing p.node → (c : Change) → put_below p.node missing v ≡ gives c → IfFree room root (p.path, c)
-    go [] m c e = subst (λ (d : Change). IfFree room root (p.path, d)) (gives_same e) (puts_fit room root p v at free)
+    go [] m c e = subst (λ (d : Change). IfFree room root (p.path, d)) (gives_same e) (puts_fit room root p v at pure)
     go (y ∷ ys) m c e = by (list_any is_index (y ∷ ys)) e
       where
         by : (b : Bool) → cond b (refuses IndexOutOfRange) (gives (made p.node y ys v)) ≡ gives c → IfFree room root (p.path, c)
         by true k = absurd (cc)
-        by false k = subst (λ (d : Change). IfFree room root (p.path, d)) (gives_same k) (made_fit room root p v y ys p.node refl at m free)
+        by false k = subst (λ (d : Change). IfFree room root (p.path, d)) (gives_same k) (made_fit room root p v y ys p.node refl at m pure)
 
 addition_value : (cs : Children) (o : Option (List ℕ)) (v : Node) → value_in (addition cs o v) ≡ v
 addition_value cs None v = refl
@@ -141,16 +149,16 @@ added_fit : (room : Room) (root : Node) (p : Place) (v : Node) (n : Node) → p.
 added_fit room root p v (alias name) is at pure c h = absurd (cc)
 added_fit room root p v (scalar anchor kind text) is at pure c h =
     let x = then_gives (λ (w : Node). gives (replaces w)) (sum (scalar None kind text) v) c h in
-    subst (λ (d : Change). IfFree room root (p.path, d)) (gives_same x.2) (puts_fit room root p x.0 at (sum_pure (scalar None kind text) v x.0 (tt, λ a m. m) pure x.1).1)
+    subst (λ (d : Change). IfFree room root (p.path, d)) (gives_same x.2) (puts_fit room root p x.0 at (sum_pure (scalar None kind text) v x.0 (tt, λ a m. m) pure x.1))
 added_fit room root p v (list anchor cs) is at pure c h =
     subst (λ (d : Change). IfFree room root (p.path, d)) (gives_same h)
-    (adds_none none (as_items v) (items_free v pure).1, λ f. (list anchor cs, at ∙ ap Some is, list_fits root p.path anchor cs (as_items v) (items_items v pure) f))
+    (adds_none none (as_items v) (items_free v pure).1, λ f. (list anchor cs, at ∙ ap Some is, list_fits root p.path anchor cs (as_items v) (items_items v pure) (items_free v pure).0 f))
 added_fit room root p (alias name) (tree.map anchor cs) is at pure c h = absurd (cc)
 added_fit room root p (scalar a k t) (tree.map anchor cs) is at pure c h = absurd (cc)
 added_fit room root p (list a ds) (tree.map anchor cs) is at pure c h = absurd (cc)
 added_fit room root p (tree.map a ds) (tree.map anchor cs) is at pure c h =
     subst (λ (d : Change). IfFree room root (p.path, d)) (gives_same h)
-    (adds_none cs ds (λ b m. pure.1 b m), λ f. (tree.map anchor cs, at ∙ ap Some is, entries_fit root p.path anchor anchor cs (at ∙ ap Some is) ds cs pure.0.0 (λ k not_new. refl) f))
+    (adds_none cs ds (λ b m. pure.1 b m), λ f. (tree.map anchor cs, at ∙ ap Some is, entries_fit root p.path anchor anchor cs (at ∙ ap Some is) ds cs pure.0.0 pure.0.1 (λ k not_new. refl) f))
 
 add_fits : (room : Room) (root : Node) (v : Node) → IsPure v → SoFits room root (λ p. add_at p v)
 add_fits room root v pure p cs tree at miss h = go (is_null v) h
@@ -159,7 +167,7 @@ add_fits room root v pure p cs tree at miss h = go (is_null v) h
     below [] is e =
         let x = then_gives (λ (c : Change). gives ((p.path, c) ∷ [])) (added p.node v) cs e in
         subst (EachIfFree room root) (gives_same x.2) (added_fit room root p v p.node refl at pure x.0 x.1, tt)
-    below (m ∷ ms) is e = put_fits room root v pure.1 p cs tree at miss e
+    below (m ∷ ms) is e = put_fits room root v pure p cs tree at miss e
 
     go : (b : Bool) → cond b (gives []) (add_below p.missing p v) ≡ gives cs → EachIfFree room root cs
     go true e = subst (EachIfFree room root) (gives_same e) tt
@@ -186,7 +194,7 @@ say_fits room root place text good p cs tree at miss h = go (is_there p.missing 
 
 modify_fits : (room : Room) (root : Node) (doc : ℕ) (right : List Term) → SumHolds right → SoFits room root (λ p. and_then (put_at p) (right_value doc right p))
 modify_fits room root doc right free p cs tree at miss h =
-    let x = then_gives (put_at p) (right_value doc right p) cs h in put_fits room root x.0 (right_pure root doc p tree at right x.0 free x.1).1 p cs tree at miss x.2
+    let x = then_gives (put_at p) (right_value doc right p) cs h in put_fits room root x.0 (right_pure root doc p tree at right x.0 free x.1) p cs tree at miss x.2
 
 with_fit : (room : Room) (root : Node) (right : Judgement Node) (f : Place → Node → Judgement (List Changed)) → ((v : Node) → right ≡ gives v → SoFits room root (λ p. f p v)) →
     (ps : List Place) (cs : List Changed) → AreSound root ps → AreMissed ps → with_value root right f ps ≡ gives cs → AreFit room root cs
@@ -197,7 +205,7 @@ with_fit room root right f so (p ∷ ps) cs s m h =
 changes_fit : (doc : ℕ) (room : Room) (root : Node) (u : Update) → IsTree root → UpdatesHold (u ∷ []) → has_comment u ≡ true → (ps : List Place) (cs : List Changed) → AreSound root ps → AreMissed ps →
     changes_at doc room root u ps ≡ gives cs → AreFit room root cs
 changes_fit doc room root (assign left operator.Set right) tree pure good ps cs s m h =
-    with_fit room root (right_value doc right (root_place root)) put_at (λ v is. put_fits room root v (right_pure root doc (root_place root) tree refl right v pure.0 is).1) ps cs s m h
+    with_fit room root (right_value doc right (root_place root)) put_at (λ v is. put_fits room root v (right_pure root doc (root_place root) tree refl right v pure.0 is)) ps cs s m h
 changes_fit doc room root (assign left operator.Modify right) tree pure good ps cs s m h = each_fit room root (λ p. and_then (put_at p) (right_value doc right p)) (modify_fits room root doc right pure.0) ps cs s m h
 changes_fit doc room root (assign left operator.Add right) tree pure good ps cs s m h =
     with_fit room root (right_value doc right (root_place root)) add_at (λ v is. add_fits room root v (right_pure root doc (root_place root) tree refl right v pure.0 is)) ps cs s m h

@@ -8,7 +8,8 @@ use Rattle.yq_expr.specs.Changes.{Change, replaces, adds, sets_comment, Changed}
 use Rattle.yq_expr.specs.Deeds.{Deed, becomes, line, head, goes, Deeds, at_once, same_step, same_path, and_at, done_by}
 use Rattle.yq_expr.specs.Meaning.{placed_deed, deed_of}
 use Rattle.yq_expr.specs.Operations.{Operation}
-use Rattle.yq_expr.specs.Plans.{change_ops, ops_of, ordered}
+use Rattle.yq_expr.specs.Plans.{change_ops, ops_of, is_removal, ordered}
+use Rattle.yq_expr.specs.Program.{Update, assign, delete, comment}
 use Rattle.yq_scalar.specs.PathOrder.{Before, Apart}
 use Rattle.yq_scalar.specs.Shapes.{IsTree}
 use Rattle.yq_expr.specs.Changes as changes
@@ -90,6 +91,11 @@ pairs_apart (c ∷ cs) h = (to_apart c.0 cs h.0, pairs_apart cs h.1)
 
 -- ---- what is kept
 
+-- each change is so
+abbrev pub AllAre : (Change → Type 0) → List Changed → Type 0
+AllAre P [] = Unit {0}
+AllAre P (c ∷ cs) = P c.1 × AllAre P cs
+
 -- nothing is removed
 abbrev pub IsKept : Change → Type 0
 IsKept (replaces v) = Unit {0}
@@ -98,8 +104,7 @@ IsKept changes.removes = ⊥
 IsKept (sets_comment place text) = Unit {0}
 
 abbrev pub AreKept : List Changed → Type 0
-AreKept [] = Unit {0}
-AreKept (c ∷ cs) = IsKept c.1 × AreKept cs
+AreKept cs = AllAre IsKept cs
 
 -- something is removed
 abbrev pub IsGone : Change → Type 0
@@ -109,13 +114,53 @@ IsGone changes.removes = Unit {0}
 IsGone (sets_comment place text) = ⊥
 
 abbrev pub AreGone : List Changed → Type 0
-AreGone [] = Unit {0}
-AreGone (c ∷ cs) = IsGone c.1 × AreGone cs
+AreGone cs = AllAre IsGone cs
+
+-- nodes are exchanged, or get items or entries
+abbrev pub IsWritten : Change → Type 0
+IsWritten (replaces v) = Unit {0}
+IsWritten (adds xs) = Unit {0}
+IsWritten changes.removes = ⊥
+IsWritten (sets_comment place text) = ⊥
+
+-- a comment is set
+abbrev pub IsSaid : Change → Type 0
+IsSaid (replaces v) = ⊥
+IsSaid (adds xs) = ⊥
+IsSaid changes.removes = ⊥
+IsSaid (sets_comment place text) = Unit {0}
+
+written_kept : (c : Change) → IsWritten c → IsKept c
+written_kept (replaces v) h = tt
+written_kept (adds xs) h = tt
+written_kept changes.removes h = absurd h
+written_kept (sets_comment place text) h = tt
+
+said_kept : (c : Change) → IsSaid c → IsKept c
+said_kept (replaces v) h = tt
+said_kept (adds xs) h = tt
+said_kept changes.removes h = absurd h
+said_kept (sets_comment place text) h = tt
+
+all_weaker : (P Q : Change → Type 0) → ((c : Change) → P c → Q c) → (cs : List Changed) → AllAre P cs → AllAre Q cs
+all_weaker P Q so [] h = tt
+all_weaker P Q so (c ∷ cs) h = (so c.1 h.0, all_weaker P Q so cs h.1)
+
+-- each is of the kind of the update
+abbrev pub IsOf : Update → Change → Type 0
+IsOf (assign left operator right) = IsWritten
+IsOf (delete left) = IsGone
+IsOf (comment left place text) = IsSaid
 
 -- each is a removal, or none is
 abbrev pub MayFold : Bool → List Changed → Type 0
 MayFold true cs = AreGone cs
 MayFold false cs = AreKept cs
+
+pub of_may_fold : (u : Update) (cs : List Changed) → AllAre (IsOf u) cs → MayFold (is_removal u) cs
+of_may_fold (assign left operator right) cs h = all_weaker IsWritten IsKept written_kept cs h
+of_may_fold (delete left) cs h = h
+of_may_fold (comment left place text) cs h = all_weaker IsSaid IsKept said_kept cs h
 
 -- ---- what is done is the same in any order
 

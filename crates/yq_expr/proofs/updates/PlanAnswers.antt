@@ -11,9 +11,8 @@ use Rattle.yq_expr.specs.Fits.{AllFit}
 use Rattle.yq_expr.specs.Judgement.{gives, refuses, Plans}
 use Rattle.yq_expr.specs.Meaning.{AreReady, meaning}
 use Rattle.yq_expr.specs.Operations.{Operation}
-use Rattle.yq_expr.specs.Plan.{update_at}
 use Rattle.yq_expr.specs.Plans.{plan}
-use Rattle.yq_expr.specs.Program.{Update, assign, delete, comment, Program, read, updates, UpdatesHold, LiteralsHold}
+use Rattle.yq_expr.specs.Program.{update_at, Update, assign, delete, comment, Program, read, updates, UpdatesHold, LiteralsHold}
 use Rattle.yq_expr.proofs.updates.PlanFits.{plan_fits}
 use Rattle.yq_expr.proofs.updates.PlanMeans.{plan_means, plan_refused, meaning_refused}
 
@@ -54,5 +53,4 @@ module _ {X : Type 0} (view : X → List Operation) (u : Update) (rooms : ℕ �
       go : (r : Result X PlanError) → Plans view r (plan u rooms docs) → plan u rooms docs ≡ refuses why → (r ≡ Err (error.Refused why)) ⊎ (r ≡ Err error.Memory)
       go (Ok x) e is = absurd (cc)
       go (Err (error.Refused other)) e is = let same : other ≡ why = cc in inl (ap (λ (w : Refusal). Err (error.Refused w)) same)
-      go (Err error.NotInProfile) e is = absurd (cc)
       go (Err error.Memory) e is = inr refl

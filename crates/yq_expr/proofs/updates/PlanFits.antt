@@ -57,7 +57,7 @@ gone_more : (cs ds : List Changed) → AreGone cs → AreGone ds → AreGone (cs
 gone_more [] ds h k = k
 gone_more (c ∷ cs) ds h k = (h.0, gone_more cs ds h.1 k)
 
-gone_reverse : (cs : List Changed) → AreGone cs → AreGone (reverse cs)
+pub gone_reverse : (cs : List Changed) → AreGone cs → AreGone (reverse cs)
 gone_reverse [] g = tt
 gone_reverse (c ∷ cs) g = subst AreGone (sym (reverse-cons c cs)) (gone_more (reverse cs) (c ∷ []) (gone_reverse cs g.1) (g.0, tt))
 

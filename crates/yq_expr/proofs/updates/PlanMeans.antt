@@ -5,7 +5,7 @@ use Rattle.yq_tree.specs.Documents.{Document}
 use Rattle.yq_expr.specs.declared.program.CommentPlace.TheVariants as comments
 use Rattle.yq_expr.specs.declared.refusal.Refusal.{Refusal}
 use Rattle.yq_expr.specs.declared.refusal.Refusal.TheVariants.{BadCommentText}
-use Rattle.yq_expr.specs.Judgement.{Judgement, gives, refuses, unbuilt, and_then}
+use Rattle.yq_expr.specs.Judgement.{Judgement, gives, refuses, and_then}
 use Rattle.yq_expr.specs.After.{document_of, done_to, after_op, all_after}
 use Rattle.yq_expr.specs.Changes.{Addition, appends, overwrites, replaces, adds, sets_comment, Changed, Room, has_comment, changes_in, changes_from, changes_of}
 use Rattle.yq_expr.specs.Meaning.{changed_at_once, all_changed, roots_of, meaning, AreReady}
@@ -101,7 +101,6 @@ plan_means u rooms docs ops ready h =
 then_refuses : {A B C : Type 0} (f : A → B) (g : A → C) (j : Judgement A) (why : Refusal) → and_then (λ x. gives (f x)) j ≡ refuses why → and_then (λ x. gives (g x)) j ≡ refuses why
 then_refuses f g (gives x) why h = absurd (cc)
 then_refuses f g (refuses other) why h = let same : other ≡ why = cc in ap refuses same
-then_refuses f g unbuilt why h = absurd (cc)
 
 -- a plan is refused as the update is
 pub plan_refused : (u : Update) (rooms : ℕ → Room) (docs : List Document) (why : Refusal) → plan u rooms docs ≡ refuses why → meaning u rooms docs ≡ refuses why

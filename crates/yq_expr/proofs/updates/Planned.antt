@@ -8,8 +8,7 @@ use Rattle.yq_expr.specs.declared.program.CommentPlace.{CommentPlace}
 use Rattle.yq_expr.specs.declared.program.Operator.TheVariants as operator
 use Rattle.yq_expr.specs.declared.refusal.Refusal.TheVariants.{IndexOutOfRange, NoPlaceForComment, AnchorInUse, TooDeep, KeyTooLong}
 use Rattle.yq_expr.specs.Judgement.{Judgement, gives, refuses, and_then}
-use Rattle.yq_expr.specs.Making.{is_index}
-use Rattle.yq_expr.specs.Program.{Step, Term, Update, assign, delete, comment}
+use Rattle.yq_expr.specs.Program.{is_index, Step, Term, Update, assign, delete, comment}
 use Rattle.yq_expr.specs.Changes.{Change, replaces, sets_comment, Changed, Room, made, put_below, put_at, added_entries, added, add_below, add_at, remove_below, remove_at, is_there, comment_at, is_too_long, is_too_deep}
 use Rattle.yq_expr.specs.Changes.{takes_used, allowed, all_allowed, at_each, with_value, changes_at, left_of, changes_in}
 use Rattle.yq_expr.specs.Deeds.{step_to}
@@ -20,7 +19,7 @@ use Rattle.yq_expr.specs.Plans.{is_removal}
 use Rattle.yq_expr.specs.RightValues.{is_null, sum, right_value}
 use Rattle.yq_scalar.specs.PathOrder.{Before}
 use Rattle.yq_scalar.specs.Shapes.{IsTree}
-use Rattle.yq_expr.proofs.updates.Folds.{ToEach, InPairs, IsKept, MayFold}
+use Rattle.yq_expr.proofs.updates.Folds.{ToEach, InPairs, AllAre, IsGone, IsWritten, IsSaid, IsOf, MayFold, of_may_fold}
 use Rattle.yq_expr.proofs.updates.RootLeads.{NoneAt, NoneLater, FirstIn, IsFirst}
 use Rattle.yq_expr.proofs.JudgementLaws.{then_gives, gives_same}
 use Rattle.yq_expr.proofs.updates.FirstPlaces.{NoPlaceAt, NoPlaceLater, IsFirstStep, places_first}
@@ -32,9 +31,9 @@ AtOne p [] = Unit {0}
 AtOne p (c ∷ []) = c.0 ≡ p
 AtOne p (c ∷ (d ∷ ds)) = ⊥
 
--- which may be made in order
-abbrev FromPlace : Bool → Place → List Changed → Type 0
-FromPlace removal p cs = AtOne p.path cs × MayFold removal cs
+-- which is so
+abbrev FromPlace : (Change → Type 0) → Place → List Changed → Type 0
+FromPlace P p cs = AtOne p.path cs × AllAre P cs
 
 one_before : (x p : List paths.Step) (cs : List Changed) → Before x p → AtOne p cs → ToEach Before x cs
 one_before x p [] h k = tt
@@ -50,11 +49,9 @@ one_pairs p [] ds k h q = q
 one_pairs p (c ∷ []) ds k h q = (subst (λ (x : List paths.Step). ToEach Before x ds) (sym k) h, q)
 one_pairs p (c ∷ (d ∷ more)) ds k h q = absurd k
 
-may_join : (removal : Bool) (cs ds : List Changed) → MayFold removal cs → MayFold removal ds → MayFold removal (cs ++ ds)
-may_join true [] ds h k = k
-may_join true (c ∷ cs) ds h k = (h.0, may_join true cs ds h.1 k)
-may_join false [] ds h k = k
-may_join false (c ∷ cs) ds h k = (h.0, may_join false cs ds h.1 k)
+all_join : (P : Change → Type 0) (cs ds : List Changed) → AllAre P cs → AllAre P ds → AllAre P (cs ++ ds)
+all_join P [] ds h k = k
+all_join P (c ∷ cs) ds h k = (h.0, all_join P cs ds h.1 k)
 
 -- ---- at several places
 
@@ -79,126 +76,130 @@ all_same root (c ∷ cs) ds h =
     ∙ (ap (λ (xs : List Changed). xs ++ two.0) (gives_same first.2) ∙ gives_same two.2))
 
 -- what is changed at each place is there
-abbrev IsSo : Bool → (Place → Judgement (List Changed)) → Type 0
-IsSo removal f = (p : Place) (cs : List Changed) → f p ≡ gives cs → FromPlace removal p cs
+abbrev IsSo : (Change → Type 0) → (Place → Judgement (List Changed)) → Type 0
+IsSo P f = (p : Place) (cs : List Changed) → f p ≡ gives cs → FromPlace P p cs
 
-each_so : (root : Node) (removal : Bool) (f : Place → Judgement (List Changed)) → IsSo removal f → IsSo removal (λ p. and_then (all_allowed root) (f p))
-each_so root removal f so p cs h =
-    let x = then_gives (all_allowed root) (f p) cs h in subst (FromPlace removal p) (all_same root x.0 cs x.2) (so p x.0 x.1)
+each_so : (root : Node) (P : Change → Type 0) (f : Place → Judgement (List Changed)) → IsSo P f → IsSo P (λ p. and_then (all_allowed root) (f p))
+each_so root P f so p cs h =
+    let x = then_gives (all_allowed root) (f p) cs h in subst (FromPlace P p) (all_same root x.0 cs x.2) (so p x.0 x.1)
 
-each_before : (removal : Bool) (f : Place → Judgement (List Changed)) → IsSo removal f → (x : List paths.Step) (ps : List Place) (cs : List Changed) → IsBeforeAll x ps → for_each f ps ≡ gives cs → ToEach Before x cs
-each_before removal f so x [] cs b h = subst (ToEach Before x) (gives_same h) tt
-each_before removal f so x (p ∷ ps) cs b h =
+each_before : (P : Change → Type 0) (f : Place → Judgement (List Changed)) → IsSo P f → (x : List paths.Step) (ps : List Place) (cs : List Changed) → IsBeforeAll x ps → for_each f ps ≡ gives cs → ToEach Before x cs
+each_before P f so x [] cs b h = subst (ToEach Before x) (gives_same h) tt
+each_before P f so x (p ∷ ps) cs b h =
     let one = then_gives (λ first. and_then (λ others. gives (first ++ others)) (for_each f ps)) (f p) cs h in
     let two = then_gives (λ (others : List Changed). gives (one.0 ++ others)) (for_each f ps) cs one.2 in
-    subst (ToEach Before x) (gives_same two.2) (to_join x one.0 two.0 (one_before x p.path one.0 b.0 (so p one.0 one.1).0) (each_before removal f so x ps two.0 b.1 two.1))
+    subst (ToEach Before x) (gives_same two.2) (to_join x one.0 two.0 (one_before x p.path one.0 b.0 (so p one.0 one.1).0) (each_before P f so x ps two.0 b.1 two.1))
+
+-- changes in order, each of which is so
+abbrev InOrder : (Change → Type 0) → List Changed → Type 0
+InOrder P cs = InPairs Before cs × AllAre P cs
+
+each_ordered : (P : Change → Type 0) (f : Place → Judgement (List Changed)) → IsSo P f → (ps : List Place) (cs : List Changed) → AreApart ps → for_each f ps ≡ gives cs → InOrder P cs
+each_ordered P f so [] cs a h = subst (InOrder P) (gives_same h) (tt, tt)
+each_ordered P f so (p ∷ ps) cs a h =
+    let one = then_gives (λ first. and_then (λ others. gives (first ++ others)) (for_each f ps)) (f p) cs h in
+    let two = then_gives (λ (others : List Changed). gives (one.0 ++ others)) (for_each f ps) cs one.2 in
+    let here = so p one.0 one.1 in
+    let rest = each_ordered P f so ps two.0 a.1 two.1 in
+    subst (InOrder P) (gives_same two.2) (one_pairs p.path one.0 two.0 here.0 (each_before P f so p.path ps two.0 a.0 two.1) rest.0, all_join P one.0 two.0 here.1 rest.1)
+
+at_ordered : (root : Node) (P : Change → Type 0) (f : Place → Judgement (List Changed)) → IsSo P f → (ps : List Place) (cs : List Changed) → AreApart ps → at_each root f ps ≡ gives cs → InOrder P cs
+at_ordered root P f so ps cs a h = each_ordered P (λ p. and_then (all_allowed root) (f p)) (each_so root P f so) ps cs a h
+
+-- ---- at one place
+
+single : (P : Change → Type 0) (p : Place) (c : Change) (cs : List Changed) → P c → gives ((p.path, c) ∷ []) ≡ gives cs → FromPlace P p cs
+single P p c cs k h = subst (FromPlace P p) (gives_same h) (refl, (k, tt))
+
+made_written : (n : Node) (m : Step) (ms : List Step) (v : Node) → IsWritten (made n m ms v)
+made_written (alias name) m ms v = tt
+made_written (scalar anchor kind text) m ms v = tt
+made_written (list anchor cs) m ms v = tt
+made_written (tree.map anchor cs) m ms v = tt
+
+put_written : (n : Node) (missing : List Step) (v : Node) (c : Change) → put_below n missing v ≡ gives c → IsWritten c
+put_written n [] v c h = subst IsWritten (gives_same h) tt
+put_written n (m ∷ ms) v c h = go (list_any is_index (m ∷ ms)) h
+  where
+    go : (b : Bool) → cond b (refuses IndexOutOfRange) (gives (made n m ms v)) ≡ gives c → IsWritten c
+    go true e = absurd (cc)
+    go false e = subst IsWritten (gives_same e) (made_written n m ms v)
+
+put_so : (v : Node) → IsSo IsWritten (λ p. put_at p v)
+put_so v p cs h =
+    let x = then_gives (λ (c : Change). gives ((p.path, c) ∷ [])) (put_below p.node p.missing v) cs h in
+    single IsWritten p x.0 cs (put_written p.node p.missing v x.0 x.1) x.2
+
+modify_so : (doc : ℕ) (right : List Term) → IsSo IsWritten (λ p. and_then (put_at p) (right_value doc right p))
+modify_so doc right p cs h = let x = then_gives (put_at p) (right_value doc right p) cs h in put_so x.0 p cs x.2
+
+entries_written : (cs : Children) (v : Node) (c : Change) → added_entries cs v ≡ gives c → IsWritten c
+entries_written cs (alias name) c h = absurd (cc)
+entries_written cs (scalar anchor kind text) c h = absurd (cc)
+entries_written cs (list anchor ds) c h = absurd (cc)
+entries_written cs (tree.map anchor ds) c h = subst IsWritten (gives_same h) tt
+
+added_written : (n v : Node) (c : Change) → added n v ≡ gives c → IsWritten c
+added_written (alias name) v c h = absurd (cc)
+added_written (scalar anchor kind text) v c h =
+    let x = then_gives (λ (w : Node). gives (replaces w)) (sum (scalar None kind text) v) c h in subst IsWritten (gives_same x.2) tt
+added_written (list anchor cs) v c h = subst IsWritten (gives_same h) tt
+added_written (tree.map anchor cs) v c h = entries_written cs v c h
+
+add_so : (v : Node) → IsSo IsWritten (λ p. add_at p v)
+add_so v p cs h = go (is_null v) h
+  where
+    below : (missing : List Step) → add_below missing p v ≡ gives cs → FromPlace IsWritten p cs
+    below [] e = let x = then_gives (λ (c : Change). gives ((p.path, c) ∷ [])) (added p.node v) cs e in single IsWritten p x.0 cs (added_written p.node v x.0 x.1) x.2
+    below (m ∷ ms) e = put_so v p cs e
+
+    go : (b : Bool) → cond b (gives []) (add_below p.missing p v) ≡ gives cs → FromPlace IsWritten p cs
+    go true e = subst (FromPlace IsWritten p) (gives_same e) (tt, tt)
+    go false e = below p.missing e
+
+remove_so : IsSo IsGone remove_at
+remove_so p cs h = go p.missing p.path refl h
+  where
+    go : (missing : List Step) (x : List paths.Step) → x ≡ p.path → remove_below missing x ≡ gives cs → FromPlace IsGone p cs
+    go (m ∷ ms) x is e = subst (FromPlace IsGone p) (gives_same e) (tt, tt)
+    go [] [] is e = absurd (cc)
+    go [] (s ∷ x) is e = subst (FromPlace IsGone p) (gives_same e) (is, (tt, tt))
+
+say_so : (room : Room) (place : CommentPlace) (text : List ℕ) → IsSo IsSaid (comment_at room place text)
+say_so room place text p cs h = go (is_there p.missing && room.has place p.path) h
+  where
+    go : (b : Bool) → cond b (gives ((p.path, sets_comment place text) ∷ [])) (refuses NoPlaceForComment) ≡ gives cs → FromPlace IsSaid p cs
+    go true e = single IsSaid p (sets_comment place text) cs tt e
+    go false e = absurd (cc)
+
+-- ---- of an update
+
+with_ordered : (root : Node) (right : Judgement Node) (f : Place → Node → Judgement (List Changed)) → ((v : Node) → IsSo IsWritten (λ p. f p v)) → (ps : List Place) (cs : List Changed) → AreApart ps →
+    with_value root right f ps ≡ gives cs → InOrder IsWritten cs
+with_ordered root right f so [] cs a h = subst (InOrder IsWritten) (gives_same h) (tt, tt)
+with_ordered root right f so (p ∷ ps) cs a h =
+    let x = then_gives (λ (v : Node). at_each root (λ q. f q v) (p ∷ ps)) right cs h in at_ordered root IsWritten (λ q. f q x.0) (so x.0) (p ∷ ps) cs a x.2
+
+changes_ordered : (doc : ℕ) (room : Room) (root : Node) (u : Update) (ps : List Place) (cs : List Changed) → AreApart ps → changes_at doc room root u ps ≡ gives cs → InOrder (IsOf u) cs
+changes_ordered doc room root (assign left operator.Set right) ps cs a h = with_ordered root (right_value doc right (root_place root)) put_at put_so ps cs a h
+changes_ordered doc room root (assign left operator.Modify right) ps cs a h = at_ordered root IsWritten (λ p. and_then (put_at p) (right_value doc right p)) (modify_so doc right) ps cs a h
+changes_ordered doc room root (assign left operator.Add right) ps cs a h = with_ordered root (right_value doc right (root_place root)) add_at add_so ps cs a h
+changes_ordered doc room root (delete left) ps cs a h = at_ordered root IsGone remove_at remove_so ps cs a h
+changes_ordered doc room root (comment left place text) ps cs a h = at_ordered root IsSaid (comment_at room place text) (say_so room place text) ps cs a h
+
+-- what an update changes in a tree stands in order, and is of its kind
+pub update_kind : (u : Update) (doc : ℕ) (room : Room) (root : Node) (cs : List Changed) → IsTree root → changes_in u doc room root ≡ gives cs → InOrder (IsOf u) cs
+update_kind u doc room root cs tree h =
+    let x = then_gives (changes_at doc room root u) (places doc (left_of u) root) cs h in
+    changes_ordered doc room root u x.0 cs (places_apart doc (left_of u) root x.0 tree x.1).apart x.2
 
 -- changes in order, which may be made
 abbrev pub AreOrdered : Bool → List Changed → Type 0
 AreOrdered removal cs = InPairs Before cs × MayFold removal cs
 
-may_none : (removal : Bool) → MayFold removal []
-may_none true = tt
-may_none false = tt
-
-each_ordered : (removal : Bool) (f : Place → Judgement (List Changed)) → IsSo removal f → (ps : List Place) (cs : List Changed) → AreApart ps → for_each f ps ≡ gives cs → AreOrdered removal cs
-each_ordered removal f so [] cs a h = subst (AreOrdered removal) (gives_same h) (tt, may_none removal)
-each_ordered removal f so (p ∷ ps) cs a h =
-    let one = then_gives (λ first. and_then (λ others. gives (first ++ others)) (for_each f ps)) (f p) cs h in
-    let two = then_gives (λ (others : List Changed). gives (one.0 ++ others)) (for_each f ps) cs one.2 in
-    let here = so p one.0 one.1 in
-    let rest = each_ordered removal f so ps two.0 a.1 two.1 in
-    subst (AreOrdered removal) (gives_same two.2) (one_pairs p.path one.0 two.0 here.0 (each_before removal f so p.path ps two.0 a.0 two.1) rest.0, may_join removal one.0 two.0 here.1 rest.1)
-
-at_ordered : (root : Node) (removal : Bool) (f : Place → Judgement (List Changed)) → IsSo removal f → (ps : List Place) (cs : List Changed) → AreApart ps → at_each root f ps ≡ gives cs → AreOrdered removal cs
-at_ordered root removal f so ps cs a h = each_ordered removal (λ p. and_then (all_allowed root) (f p)) (each_so root removal f so) ps cs a h
-
--- ---- at one place
-
-single : (p : Place) (c : Change) (cs : List Changed) → IsKept c → gives ((p.path, c) ∷ []) ≡ gives cs → FromPlace false p cs
-single p c cs k h = subst (FromPlace false p) (gives_same h) (refl, (k, tt))
-
-made_kept : (n : Node) (m : Step) (ms : List Step) (v : Node) → IsKept (made n m ms v)
-made_kept (alias name) m ms v = tt
-made_kept (scalar anchor kind text) m ms v = tt
-made_kept (list anchor cs) m ms v = tt
-made_kept (tree.map anchor cs) m ms v = tt
-
-put_kept : (n : Node) (missing : List Step) (v : Node) (c : Change) → put_below n missing v ≡ gives c → IsKept c
-put_kept n [] v c h = subst IsKept (gives_same h) tt
-put_kept n (m ∷ ms) v c h = go (list_any is_index (m ∷ ms)) h
-  where
-    go : (b : Bool) → cond b (refuses IndexOutOfRange) (gives (made n m ms v)) ≡ gives c → IsKept c
-    go true e = absurd (cc)
-    go false e = subst IsKept (gives_same e) (made_kept n m ms v)
-
-put_so : (v : Node) → IsSo false (λ p. put_at p v)
-put_so v p cs h =
-    let x = then_gives (λ (c : Change). gives ((p.path, c) ∷ [])) (put_below p.node p.missing v) cs h in
-    single p x.0 cs (put_kept p.node p.missing v x.0 x.1) x.2
-
-modify_so : (doc : ℕ) (right : List Term) → IsSo false (λ p. and_then (put_at p) (right_value doc right p))
-modify_so doc right p cs h = let x = then_gives (put_at p) (right_value doc right p) cs h in put_so x.0 p cs x.2
-
-entries_kept : (cs : Children) (v : Node) (c : Change) → added_entries cs v ≡ gives c → IsKept c
-entries_kept cs (alias name) c h = absurd (cc)
-entries_kept cs (scalar anchor kind text) c h = absurd (cc)
-entries_kept cs (list anchor ds) c h = absurd (cc)
-entries_kept cs (tree.map anchor ds) c h = subst IsKept (gives_same h) tt
-
-added_kept : (n v : Node) (c : Change) → added n v ≡ gives c → IsKept c
-added_kept (alias name) v c h = absurd (cc)
-added_kept (scalar anchor kind text) v c h =
-    let x = then_gives (λ (w : Node). gives (replaces w)) (sum (scalar None kind text) v) c h in subst IsKept (gives_same x.2) tt
-added_kept (list anchor cs) v c h = subst IsKept (gives_same h) tt
-added_kept (tree.map anchor cs) v c h = entries_kept cs v c h
-
-add_so : (v : Node) → IsSo false (λ p. add_at p v)
-add_so v p cs h = go (is_null v) h
-  where
-    below : (missing : List Step) → add_below missing p v ≡ gives cs → FromPlace false p cs
-    below [] e = let x = then_gives (λ (c : Change). gives ((p.path, c) ∷ [])) (added p.node v) cs e in single p x.0 cs (added_kept p.node v x.0 x.1) x.2
-    below (m ∷ ms) e = put_so v p cs e
-
-    go : (b : Bool) → cond b (gives []) (add_below p.missing p v) ≡ gives cs → FromPlace false p cs
-    go true e = subst (FromPlace false p) (gives_same e) (tt, tt)
-    go false e = below p.missing e
-
-remove_so : IsSo true remove_at
-remove_so p cs h = go p.missing p.path refl h
-  where
-    go : (missing : List Step) (x : List paths.Step) → x ≡ p.path → remove_below missing x ≡ gives cs → FromPlace true p cs
-    go (m ∷ ms) x is e = subst (FromPlace true p) (gives_same e) (tt, tt)
-    go [] [] is e = absurd (cc)
-    go [] (s ∷ x) is e = subst (FromPlace true p) (gives_same e) (is, (tt, tt))
-
-say_so : (room : Room) (place : CommentPlace) (text : List ℕ) → IsSo false (comment_at room place text)
-say_so room place text p cs h = go (is_there p.missing && room.has place p.path) h
-  where
-    go : (b : Bool) → cond b (gives ((p.path, sets_comment place text) ∷ [])) (refuses NoPlaceForComment) ≡ gives cs → FromPlace false p cs
-    go true e = single p (sets_comment place text) cs tt e
-    go false e = absurd (cc)
-
--- ---- of an update
-
-with_ordered : (root : Node) (right : Judgement Node) (f : Place → Node → Judgement (List Changed)) → ((v : Node) → IsSo false (λ p. f p v)) → (ps : List Place) (cs : List Changed) → AreApart ps →
-    with_value root right f ps ≡ gives cs → AreOrdered false cs
-with_ordered root right f so [] cs a h = subst (AreOrdered false) (gives_same h) (tt, tt)
-with_ordered root right f so (p ∷ ps) cs a h =
-    let x = then_gives (λ (v : Node). at_each root (λ q. f q v) (p ∷ ps)) right cs h in at_ordered root false (λ q. f q x.0) (so x.0) (p ∷ ps) cs a x.2
-
-changes_ordered : (doc : ℕ) (room : Room) (root : Node) (u : Update) (ps : List Place) (cs : List Changed) → AreApart ps → changes_at doc room root u ps ≡ gives cs → AreOrdered (is_removal u) cs
-changes_ordered doc room root (assign left operator.Set right) ps cs a h = with_ordered root (right_value doc right (root_place root)) put_at put_so ps cs a h
-changes_ordered doc room root (assign left operator.Modify right) ps cs a h = at_ordered root false (λ p. and_then (put_at p) (right_value doc right p)) (modify_so doc right) ps cs a h
-changes_ordered doc room root (assign left operator.Add right) ps cs a h = with_ordered root (right_value doc right (root_place root)) add_at add_so ps cs a h
-changes_ordered doc room root (delete left) ps cs a h = at_ordered root true remove_at remove_so ps cs a h
-changes_ordered doc room root (comment left place text) ps cs a h = at_ordered root false (comment_at room place text) (say_so room place text) ps cs a h
-
 -- what an update changes in a tree stands in order
 pub update_ordered : (u : Update) (doc : ℕ) (room : Room) (root : Node) (cs : List Changed) → IsTree root → changes_in u doc room root ≡ gives cs → AreOrdered (is_removal u) cs
-update_ordered u doc room root cs tree h =
-    let x = then_gives (changes_at doc room root u) (places doc (left_of u) root) cs h in
-    changes_ordered doc room root u x.0 cs (places_apart doc (left_of u) root x.0 tree x.1).apart x.2
+update_ordered u doc room root cs tree h = let k = update_kind u doc room root cs tree h in (k.0, of_may_fold u cs k.1)
 
 -- ---- what is first
 
@@ -220,19 +221,19 @@ one_later s p [] ds h k = none_later s ds k
 one_later s p (c ∷ []) ds h k = k
 one_later s p (c ∷ (e ∷ es)) ds h k = absurd h
 
-each_none : (removal : Bool) (f : Place → Judgement (List Changed)) → IsSo removal f → (s : paths.Step) (ps : List Place) (cs : List Changed) → NoPlaceAt s ps → for_each f ps ≡ gives cs → NoneAt s cs
-each_none removal f so s [] cs n h = subst (NoneAt s) (gives_same h) tt
-each_none removal f so s (p ∷ ps) cs n h =
+each_none : (P : Change → Type 0) (f : Place → Judgement (List Changed)) → IsSo P f → (s : paths.Step) (ps : List Place) (cs : List Changed) → NoPlaceAt s ps → for_each f ps ≡ gives cs → NoneAt s cs
+each_none P f so s [] cs n h = subst (NoneAt s) (gives_same h) tt
+each_none P f so s (p ∷ ps) cs n h =
     let one = then_gives (λ first. and_then (λ others. gives (first ++ others)) (for_each f ps)) (f p) cs h in
     let two = then_gives (λ (others : List Changed). gives (one.0 ++ others)) (for_each f ps) cs one.2 in
-    subst (NoneAt s) (gives_same two.2) (none_join s one.0 two.0 (one_none s p.path one.0 n.0 (so p one.0 one.1).0) (each_none removal f so s ps two.0 n.1 two.1))
+    subst (NoneAt s) (gives_same two.2) (none_join s one.0 two.0 (one_none s p.path one.0 n.0 (so p one.0 one.1).0) (each_none P f so s ps two.0 n.1 two.1))
 
-each_later : (removal : Bool) (f : Place → Judgement (List Changed)) → IsSo removal f → (s : paths.Step) (ps : List Place) (cs : List Changed) → NoPlaceLater s ps → for_each f ps ≡ gives cs → NoneLater s cs
-each_later removal f so s [] cs n h = subst (NoneLater s) (gives_same h) tt
-each_later removal f so s (p ∷ ps) cs n h =
+each_later : (P : Change → Type 0) (f : Place → Judgement (List Changed)) → IsSo P f → (s : paths.Step) (ps : List Place) (cs : List Changed) → NoPlaceLater s ps → for_each f ps ≡ gives cs → NoneLater s cs
+each_later P f so s [] cs n h = subst (NoneLater s) (gives_same h) tt
+each_later P f so s (p ∷ ps) cs n h =
     let one = then_gives (λ first. and_then (λ others. gives (first ++ others)) (for_each f ps)) (f p) cs h in
     let two = then_gives (λ (others : List Changed). gives (one.0 ++ others)) (for_each f ps) cs one.2 in
-    subst (NoneLater s) (gives_same two.2) (one_later s p.path one.0 two.0 (so p one.0 one.1).0 (each_none removal f so s ps two.0 n two.1))
+    subst (NoneLater s) (gives_same two.2) (one_later s p.path one.0 two.0 (so p one.0 one.1).0 (each_none P f so s ps two.0 n two.1))
 
 -- of what is removed, the first item or entry of the root comes first
 pub removal_first : (u : Update) (doc : ℕ) (room : Room) (root : Node) (cs : List Changed) → is_removal u ≡ true → IsTree root → changes_in u doc room root ≡ gives cs → IsFirst root cs
@@ -240,7 +241,7 @@ removal_first (assign left op right) doc room root cs is tree h = absurd (cc)
 removal_first (comment left place text) doc room root cs is tree h = absurd (cc)
 removal_first (delete left) doc room root cs is tree h =
     let x = then_gives (λ ps. at_each root remove_at ps) (places doc left root) cs h in
-    go (children_of root) refl (λ s first. each_later true (λ p. and_then (all_allowed root) (remove_at p)) (each_so root true remove_at remove_so) s x.0 cs (places_first doc left root x.0 s tree first x.1) x.2)
+    go (children_of root) refl (λ s first. each_later IsGone (λ p. and_then (all_allowed root) (remove_at p)) (each_so root IsGone remove_at remove_so) s x.0 cs (places_first doc left root x.0 s tree first x.1) x.2)
   where
     go : (kids : Children) → children_of root ≡ kids → ((s : paths.Step) → IsFirstStep root s → NoneLater s cs) → IsFirst root cs
     go none is later = subst (λ (k : Children). FirstIn k cs) (sym is) tt

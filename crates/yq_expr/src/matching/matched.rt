@@ -33,7 +33,7 @@ pub struct Match {
 }
 
 /// A copy of the value at a place: null where a step is missing.
-fn copy_at(alloc: Global, place: Place<'_, '_>) -> Result<Value, MatchError>
+pub(crate) fn copy_at(alloc: Global, place: Place<'_, '_>) -> Result<Value, MatchError>
     requires { HasScalars (value_of (place_of place)) }
     ensures { Matches value_node result (spec.copy_at (place_of place.entry)) }
 {

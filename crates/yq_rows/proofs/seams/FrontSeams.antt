@@ -1,14 +1,14 @@
 -- What rows in front ask of a text that stands behind them in the place of another one.
-use Rattle.std.proofs.Common.{◌≡◌, ℕ, ℤ, true, false, ◌||◌, List, [], ◌∷◌, ◌++◌, refl, sym, ap, ◌∙◌, ⊎_elim, replicate}
+use Rattle.std.proofs.Common.{◌≡◌, ℕ, ℤ, true, false, ◌||◌, List, [], ◌∷◌, ◌++◌, refl, sym, ap, ◌∙◌, ⊎_elim, replicate, Some, subst}
 use Rattle.std.proofs.lemmas.Bool.{false≢true, or_right}
 use Rattle.yq_scalar.specs.Block.{keeps}
 use Rattle.yq_scalar.specs.Text.{is_empty, is_line, lines_of}
-use Rattle.yq_rows.specs.Alike.{Alike}
+use Rattle.yq_inline.specs.Alike.{Alike}
 use Rattle.yq_rows.specs.Grammar.{IsTail, IsContent, IsRow, Limit, limit_after, AreRows, no_rows}
 use Rattle.yq_rows.specs.Rows.{Content, Nothing, Inline, Block, Row, behind_indent, behind_gap, parent_indent, print_row, rows_text}
 use Rattle.yq_rows.specs.Seams.{is_closed, is_seam, are_seamed, is_block, ends_in_block, ends_in_line, tail_behind}
-use Rattle.yq_rows.proofs.Alikes.{alike_empty}
-use Rattle.yq_rows.proofs.AlikeBlocks.{lines_alike, ends_alike}
+use Rattle.yq_inline.proofs.Alikes.{alike_empty}
+use Rattle.yq_rows.proofs.AlikeBlocks.{LinesAlike, lines_after, lines_alike, starts_alike, ends_alike}
 use Rattle.yq_rows.proofs.NothingLaws.{some_behind}
 use Rattle.yq_rows.proofs.RowAgain.{row_starts}
 use Rattle.yq_rows.proofs.seams.SeamLaws.{tail_line}
@@ -47,13 +47,13 @@ content_any n (Nothing tail) t u b some h = tail_any tail t u some h
 content_any n (Inline space node tail) t u b some h = tail_any tail t u some h.2
 content_any n (Block space anchor block) t u b some h = absurd (false≢true (sym b))
 
-closed_alike : (tail t u : List ℕ) → Alike false t u → is_closed tail t ≡ true → is_closed tail u ≡ true
-closed_alike tail t u a h = ap (λ x. is_line tail || x) (sym (alike_empty false t u a)) ∙ h
+closed_same : (tail t u : List ℕ) → is_empty t ≡ is_empty u → is_closed tail t ≡ true → is_closed tail u ≡ true
+closed_same tail t u e h = ap (λ x. is_line tail || x) (sym e) ∙ h
 
-seam_alike : (c : Content) (t u : List ℕ) → Alike false t u → is_seam c t ≡ true → is_seam c u ≡ true
-seam_alike (Nothing tail) t u a h = closed_alike tail t u a h
-seam_alike (Inline space node tail) t u a h = closed_alike tail t u a h
-seam_alike (Block space anchor block) t u a h = sym (ends_alike (keeps block.chomping) block.indent (lines_of t) (lines_of u) (lines_alike t u a)) ∙ h
+seam_same : (c : Content) (t u : List ℕ) → is_empty t ≡ is_empty u → LinesAlike (lines_of t) (lines_of u) → is_seam c t ≡ true → is_seam c u ≡ true
+seam_same (Nothing tail) t u e a h = closed_same tail t u e h
+seam_same (Inline space node tail) t u e a h = closed_same tail t u e h
+seam_same (Block space anchor block) t u e a h = sym (ends_alike (keeps block.chomping) block.indent (lines_of t) (lines_of u) a) ∙ h
 
 -- the same of rows
 pub seams_were : (front rows : List Row) (limit : Limit) (end rest : List ℕ) → AreRows limit (front ++ rows) end rest → are_seamed front (rows_text rows (end ++ rest)) ≡ true
@@ -66,10 +66,22 @@ seams_any [] rows limit end rest u h some b = refl
 seams_any (r ∷ []) rows limit end rest u h some b = content_any (parent_indent r) r.content (rows_text rows (end ++ rest)) u b (rows_some (limit_after r) rows end rest some h.1) h.0.content
 seams_any (r ∷ (q ∷ front)) rows limit end rest u h some b = seams_any (q ∷ front) rows (limit_after r) end rest u h.1 some b
 
-pub seams_alike : (front : List Row) (t u : List ℕ) → Alike false t u → are_seamed front t ≡ true → are_seamed front u ≡ true
-seams_alike [] t u a h = refl
-seams_alike (r ∷ []) t u a h = seam_alike r.content t u a h
-seams_alike (r ∷ (q ∷ front)) t u a h = seams_alike (q ∷ front) t u a h
+seams_same : (front : List Row) (t u : List ℕ) → is_empty t ≡ is_empty u → LinesAlike (lines_of t) (lines_of u) → are_seamed front t ≡ true → are_seamed front u ≡ true
+seams_same [] t u e a h = refl
+seams_same (r ∷ []) t u e a h = seam_same r.content t u e a h
+seams_same (r ∷ (q ∷ front)) t u e a h = seams_same (q ∷ front) t u e a h
+
+pub seams_alike : (front : List Row) (t u : List ℕ) → Alike (Some false) t u → are_seamed front t ≡ true → are_seamed front u ≡ true
+seams_alike front t u a h = seams_same front t u (alike_empty (Some false) t u a) (lines_alike t u a) h
+
+-- Of a row they ask for its gap and its column alone.
+pub seams_row : (front : List Row) (limit other : Limit) (r s : Row) (t u : List ℕ) → IsRow limit r t → IsRow other s u → s.gap ≡ r.gap → s.column ≡ r.column → are_seamed front (print_row r t) ≡ true → are_seamed front (print_row s u) ≡ true
+seams_row front limit other r s t u h k gap column was =
+    let starts = starts_alike (behind_indent r t) (behind_indent s u) (row_starts limit r t h) (row_starts other s u k) in
+    let lines = lines_after r.gap _ _ (lines_after (replicate r.column 32) _ _ starts) in
+    let text : print_row s u ≡ r.gap ++ (replicate r.column 32 ++ behind_indent s u) = rw (gap, column) refl in
+    let new : LinesAlike (lines_of (print_row r t)) (lines_of (print_row s u)) = subst (λ (x : List ℕ). LinesAlike (lines_of (print_row r t)) (lines_of x)) (sym text) lines in
+    seams_same front (print_row r t) (print_row s u) (row_some limit r t h ∙ sym (row_some other s u k)) new was
 
 -- where a break is behind the tail
 content_line : (c : Content) (u : List ℕ) → is_block c ≡ false → is_line (tail_behind c) ≡ true → is_seam c u ≡ true

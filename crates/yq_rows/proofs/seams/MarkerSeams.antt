@@ -1,13 +1,13 @@
 -- The line of a marker before another text.
-use Rattle.std.proofs.Common.{◌≡◌, ◌⊎◌, inl, inr, ℕ, Bool, true, false, ◌&&◌, ◌||◌, eqb, List, [], ◌∷◌, ◌++◌, refl, sym, ap, ◌∙◌, ⊎_elim, arith, eqb-true}
+use Rattle.std.proofs.Common.{◌≡◌, ◌⊎◌, inl, inr, ℕ, Bool, true, false, ◌&&◌, ◌||◌, eqb, List, [], ◌∷◌, ◌++◌, refl, sym, ap, ◌∙◌, ⊎_elim, arith, eqb-true, Some}
 use Rattle.std.proofs.lemmas.Bool.{or_cases, or_right}
 use Rattle.yq_scalar.specs.Text.{is_empty, is_feed, is_space, is_line, is_marker, separates}
 use Rattle.yq_scalar.proofs.Bools.{and_true}
-use Rattle.yq_rows.specs.Alike.{Alike, byte, after}
+use Rattle.yq_inline.specs.Alike.{Alike, byte, after}
 use Rattle.yq_rows.specs.Grammar.{IsMarkerLine}
 use Rattle.yq_rows.specs.Seams.{is_closed}
 use Rattle.yq_rows.specs.SpliceFits.{is_after}
-use Rattle.yq_rows.proofs.Alikes.{alike_marker}
+use Rattle.yq_inline.proofs.Alikes.{alike_marker}
 use Rattle.yq_rows.proofs.EmptyTexts.{none_is}
 use Rattle.yq_rows.proofs.NothingLaws.{tail_apart}
 use Rattle.yq_rows.proofs.seams.SeamLaws.{tail_kept, tail_line}
@@ -22,7 +22,7 @@ marker_byte a b c t h =
     (or_cases (eqb a 45 && eqb b 45 && eqb c 45) (eqb a 46 && eqb b 46 && eqb c 46) p)
 
 abbrev pub MarkerKept : List ℕ → List ℕ → List ℕ → Type 0
-MarkerKept p t u = IsMarkerLine p u × Alike false (p ++ t) (p ++ u)
+MarkerKept p t u = IsMarkerLine p u × Alike (Some false) (p ++ t) (p ++ u)
 
 pub three_lines : (a b c : ℕ) (p : List ℕ) → is_feed a ≡ false → is_feed b ≡ false → is_feed c ≡ false → is_line (a ∷ (b ∷ (c ∷ p))) ≡ is_line p
 unfolding is_line
@@ -32,8 +32,8 @@ three_seam : (a b c : ℕ) (p t u : List ℕ) → is_feed a ≡ false → is_fee
 three_seam a b c p t u x y z black h closed =
     let tail_closed : is_closed p u ≡ true = ap (λ (q : Bool). q || is_empty u) (sym (three_lines a b c p x y z)) ∙ closed in
     let tail = tail_kept p t u tail_closed h.tail in
-    let alike : Alike false (a ∷ (b ∷ (c ∷ (p ++ t)))) (a ∷ (b ∷ (c ∷ (p ++ u)))) = after (after (byte (black (p ++ t)) (black (p ++ u)) (tail_apart p t h.tail) (tail_apart p u tail))) in
-    (record { marker = sym (alike_marker false (a ∷ (b ∷ (c ∷ (p ++ t)))) (a ∷ (b ∷ (c ∷ (p ++ u)))) alike) ∙ h.marker; long = h.long; tail = tail }, alike)
+    let alike : Alike (Some false) (a ∷ (b ∷ (c ∷ (p ++ t)))) (a ∷ (b ∷ (c ∷ (p ++ u)))) = after (after (byte (black (p ++ t)) (black (p ++ u)) (tail_apart p t h.tail) (tail_apart p u tail))) in
+    (record { marker = sym (alike_marker (Some false) (a ∷ (b ∷ (c ∷ (p ++ t)))) (a ∷ (b ∷ (c ∷ (p ++ u)))) alike) ∙ h.marker; long = h.long; tail = tail }, alike)
 
 pub marker_seam : (p t u : List ℕ) → IsMarkerLine p t → is_closed p u ≡ true → MarkerKept p t u
 marker_seam [] t u h c = absurd (let l = h.long in omega (arith, l))

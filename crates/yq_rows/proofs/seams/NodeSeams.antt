@@ -1,16 +1,17 @@
 -- An inline node before a text is one before another text, where white space, a break or the end is in front of both.
-use Rattle.std.proofs.Common.{◌≡◌, inl, inr, ℕ, zero, suc, true, false, not, ◌||◌, eqb, List, [], ◌∷◌, ◌++◌, Option, refl, sym, ap, ◌∙◌, subst, ⊎_elim, eqb-true}
+use Rattle.std.proofs.Common.{◌≡◌, inl, inr, ℕ, zero, suc, true, false, not, ◌||◌, eqb, List, [], ◌∷◌, ◌++◌, Option, refl, sym, ap, ◌∙◌, subst, ⊎_elim, eqb-true, Some}
 use Rattle.std.proofs.lemmas.Bool.{false≢true, not-true, or_cases}
 use Rattle.yq_scalar.specs.Plain.{ends_plain}
 use Rattle.yq_scalar.specs.Text.{is_empty, is_white, is_space, separates, unless, NoneIn, no_white}
 use Rattle.yq_scalar.proofs.Bools.{is_true, or_false}
 use Rattle.yq_inline.specs.Nodes.{Key, bare, keyed, Sep, last, comma, Node, empty, alias, scalar, coll, anchored, Items, none, item, key_text, sep_text, node_text, items_text, first_is, is_close, in_name, begins_content, IsLead, IsName, is_bare, IsNode}
 use Rattle.yq_inline.specs.Scalars.{IsScalar}
-use Rattle.yq_rows.specs.Alike.{Alike, byte, after}
+use Rattle.yq_inline.specs.Alike.{Alike, byte, after}
 use Rattle.yq_rows.specs.Grammar.{is_plain}
-use Rattle.yq_rows.proofs.Alikes.{alike_append}
-use Rattle.yq_rows.proofs.AlikeNodes.{node_text_alike, items_text_alike, items_any, taken_begins}
-use Rattle.yq_rows.proofs.AlikePieces.{gap_alike}
+use Rattle.yq_inline.proofs.Alikes.{alike_append}
+use Rattle.yq_inline.proofs.KeepLaws.{taken_begins}
+use Rattle.yq_inline.proofs.NodeKeeps.{node_text_alike, items_text_alike, items_any}
+use Rattle.yq_inline.proofs.AlikePieces.{gap_alike}
 use Rattle.yq_rows.proofs.Fronts.{node_starts}
 use Rattle.yq_rows.proofs.NothingLaws.{name_again}
 use Rattle.yq_rows.proofs.seams.ScalarSeams.{apart_no_node, name_seam, name_alike, quoted_seam, Joint, plain_seam, plain_unquoted}
@@ -34,10 +35,10 @@ pub record Behind (spaces : Option ℕ) (node : Node) (t u : List ℕ) : Type 0 
 
 -- A node before the other text, and their texts.
 abbrev pub Kept : Option ℕ → ℕ → Node → List ℕ → List ℕ → Type 0
-Kept spaces d node t u = IsNode false spaces d node u × (is_bare node ≡ false → Alike false (node_text node t) (node_text node u))
+Kept spaces d node t u = IsNode false spaces d node u × (is_bare node ≡ false → Alike (Some false) (node_text node t) (node_text node u))
 
 -- scalars
-scalar_seam : (spaces : Option ℕ) (p t u : List ℕ) → Behind spaces (scalar p) t u → IsScalar false spaces p t → IsScalar false spaces p u × Alike false (p ++ t) (p ++ u)
+scalar_seam : (spaces : Option ℕ) (p t u : List ℕ) → Behind spaces (scalar p) t u → IsScalar false spaces p t → IsScalar false spaces p u × Alike (Some false) (p ++ t) (p ++ u)
 scalar_seam spaces p t u h (inl g) =
     let ends : ends_plain false spaces u ≡ true = h.ends (ap not (plain_unquoted spaces p t g)) in
     let kept = plain_seam spaces p t u h.was h.apart h.joint ends g in
@@ -50,20 +51,20 @@ scalar_seam spaces p t u h (inr g) =
 close_no_space : (k : ℕ) (t : List ℕ) → is_close k ≡ true → is_space (k ∷ t) ≡ false
 close_no_space k t c = ⊎_elim {0, 0, 0} (λ e. rw (eqb-true k 93 e) refl) (λ e. rw (eqb-true k 125 e) refl) (or_cases (eqb k 93) (eqb k 125) c)
 
-key_seam : (key : Key) (t u : List ℕ) → Alike false t u → Alike false (key_text key t) (key_text key u)
+key_seam : (key : Key) (t u : List ℕ) → Alike (Some false) t u → Alike (Some false) (key_text key t) (key_text key u)
 key_seam bare t u h = h
-key_seam (keyed p b s) t u h = alike_append false p _ _ (alike_append false b _ _ (after (alike_append false s t u h)))
+key_seam (keyed p b s) t u h = alike_append (Some false) p _ _ (alike_append (Some false) b _ _ (after (alike_append (Some false) s t u h)))
 
-sep_seam : (s : Sep) (t u : List ℕ) → Alike false t u → Alike false (sep_text s t) (sep_text s u)
-sep_seam (last b) t u h = alike_append false b t u h
-sep_seam (comma b s) t u h = alike_append false b _ _ (after (alike_append false s t u h))
+sep_seam : (s : Sep) (t u : List ℕ) → Alike (Some false) t u → Alike (Some false) (sep_text s t) (sep_text s u)
+sep_seam (last b) t u h = alike_append (Some false) b t u h
+sep_seam (comma b s) t u h = alike_append (Some false) b _ _ (after (alike_append (Some false) s t u h))
 
-items_seam : (k : ℕ) (is : Items) (t u : List ℕ) → is_close k ≡ true → separates t ≡ true → separates u ≡ true → Alike false (items_text k is t) (items_text k is u)
+items_seam : (k : ℕ) (is : Items) (t u : List ℕ) → is_close k ≡ true → separates t ≡ true → separates u ≡ true → Alike (Some false) (items_text k is t) (items_text k is u)
 unfolding items_text
 items_seam k none t u c x y = byte (close_no_space k t c) (close_no_space k u c) x y
 items_seam k (item key n s is) t u c x y =
     let more = items_seam k is t u c x y in
-    key_seam key _ _ (node_text_alike false n _ _ (sep_seam s (items_text k is t) (items_text k is u) more))
+    key_seam key _ _ (node_text_alike (Some false) n _ _ (sep_seam s (items_text k is t) (items_text k is u) more))
 
 -- anchors
 bare_is : (node : Node) → is_bare node ≡ true → node ≡ empty
@@ -104,7 +105,7 @@ bare_seam spaces d name gap t u h g =
     let nothing : gap ≡ [] = bare_gap gap t h.was g.1 in
     let was : IsName name t = subst (λ (s : List ℕ). IsName name (s ++ t)) nothing g.0 in
     let none = or_false (first_is 38 u) (begins_content false u) (apart_no_node u h.apart) in
-    let text : Alike false (name ++ t) (name ++ u) = name_alike name t u was.some h.was h.apart was.inside in
+    let text : Alike (Some false) (name ++ t) (name ++ u) = name_alike name t u was.some h.was h.apart was.inside in
     rw nothing ((name_seam name t u h.apart was, h.lead, g.2, g.3, (none.1, none.0)), λ e. after text)
 
 node_bare : (node : Node) (spaces : Option ℕ) (d : ℕ) (name gap t u : List ℕ) → is_bare node ≡ true → Behind spaces (anchored name gap node) t u → IsNode false spaces d (anchored name gap node) t → Kept spaces d (anchored name gap node) t u
@@ -120,8 +121,8 @@ node_seam spaces (alias n) d t u h g = (name_seam n t u h.apart g, λ e. after (
 node_seam spaces (scalar p) d t u h g = let kept = scalar_seam spaces p t u h g in (kept.0, λ e. kept.1)
 node_seam spaces (coll k s is) zero t u h g = absurd g.2
 node_seam spaces (coll k s is) (suc d) t u h g = (
-  (g.0, gap_alike true s (items_text k is t) (items_text k is u) (items_text_alike k is t u g.0) g.1, items_any is d k t u g.0 g.2),
-  λ e. after (alike_append false s _ _ (items_seam k is t u g.0 h.was h.apart)),
+  (g.0, gap_alike (Some true) s (items_text k is t) (items_text k is u) (items_text_alike k is t u g.0) g.1, items_any is d k t u g.0 g.2),
+  λ e. after (alike_append (Some false) s _ _ (items_seam k is t u g.0 h.was h.apart)),
 )
 node_seam spaces (anchored n s node) d t u h g = elim (is_true (is_bare node)) [
   | inl e ↦ node_bare node spaces d n s t u e h g
@@ -136,6 +137,6 @@ node_seam spaces (anchored n s node) d t u h g = elim (is_true (is_bare node)) [
           g.3,
           again.0,
         ),
-        λ e'. after (alike_append false n _ _ (alike_append false s _ _ (again.1 e))),
+        λ e'. after (alike_append (Some false) n _ _ (alike_append (Some false) s _ _ (again.1 e))),
       ))
 ]

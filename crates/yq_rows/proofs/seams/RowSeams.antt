@@ -9,11 +9,11 @@ use Rattle.yq_scalar.specs.Text.{is_empty, lines_of, joined, separates, unless}
 use Rattle.yq_scalar.proofs.Bools.{is_true}
 use Rattle.yq_inline.specs.Inline.{depth_limit}
 use Rattle.yq_inline.specs.Nodes.{Node, node_text, in_name, is_bare}
-use Rattle.yq_rows.specs.Alike.{Alike}
+use Rattle.yq_inline.specs.Alike.{Alike}
 use Rattle.yq_rows.specs.Grammar.{IsAnchor, IsContent, IsMark, may_be_alone, is_entry, IsRow, Limit}
 use Rattle.yq_rows.specs.Rows.{Mark, Bare, Dash, Key, Anchor, Content, Nothing, Inline, Block, anchor_text, mark_text, content_text, Row, parent_indent}
 use Rattle.yq_rows.specs.Seams.{TakesPlace, with_tail, retail, TailFits}
-use Rattle.yq_rows.proofs.Alikes.{alike_append}
+use Rattle.yq_inline.proofs.Alikes.{alike_append}
 use Rattle.yq_rows.proofs.AlikeRows.{dashes_text_alike}
 use Rattle.yq_rows.proofs.ExchangeLaws.{one_row}
 use Rattle.yq_rows.proofs.RowPlaces.{takes_place}
@@ -40,7 +40,7 @@ Joined c t new u = Joint (plain_of c) (behind_node c t) (behind_node (with_tail 
 
 -- inline nodes
 abbrev NodeKept : ℤ → List ℕ → Node → List ℕ → List ℕ → List ℕ → List ℕ → Type 0
-NodeKept n space node tail t new u = IsContent n (Inline space node new) u × Alike false (node_text node (tail ++ t)) (node_text node (new ++ u))
+NodeKept n space node tail t new u = IsContent n (Inline space node new) u × Alike (Some false) (node_text node (tail ++ t)) (node_text node (new ++ u))
 
 something : (b : Bool) → (false || not b) ≡ true → b ≡ false
 something false h = refl
@@ -103,15 +103,15 @@ bare_alone Bare c t e h = h
 bare_alone Dash c t e h = absurd (false≢true (sym e))
 bare_alone (Key key colon) c t e h = absurd (false≢true (sym e))
 
-bare_text : (m : Mark) (t u : List ℕ) → is_entry m ≡ false → Alike false t u → Alike false (mark_text m t) (mark_text m u)
+bare_text : (m : Mark) (t u : List ℕ) → is_entry m ≡ false → Alike (Some false) t u → Alike (Some false) (mark_text m t) (mark_text m u)
 bare_text Bare t u e h = h
 bare_text Dash t u e h = absurd (false≢true (sym e))
 bare_text (Key key colon) t u e h = absurd (false≢true (sym e))
 
 -- the texts of what is alone on its line
-alone_text : (n : ℤ) (c : Content) (t new u : List ℕ) → may_be_alone c ≡ true → IsContent n c t → TailFits n new c u → Joined c t new u → Alike false (content_text c t) (content_text (with_tail new c) u)
+alone_text : (n : ℤ) (c : Content) (t new u : List ℕ) → may_be_alone c ≡ true → IsContent n c t → TailFits n new c u → Joined c t new u → Alike (Some false) (content_text c t) (content_text (with_tail new c) u)
 alone_text n (Nothing tail) t new u a h f j = absurd (false≢true a)
-alone_text n (Inline space node tail) t new u a h f j = alike_append false space _ _ (inline_seam n space node tail t new u h f j).1
+alone_text n (Inline space node tail) t new u a h f j = alike_append (Some false) space _ _ (inline_seam n space node tail t new u h f j).1
 alone_text n (Block space anchor block) t new u a h f j = absurd (false≢true a)
 
 bare_row : (limit : Limit) (r : Row) (t new u : List ℕ) → is_entry r.mark ≡ false → IsRow limit r t → TailFits (parent_indent r) new r.content u → Joined r.content t new u → TakesPlace limit r t (retail new r) u

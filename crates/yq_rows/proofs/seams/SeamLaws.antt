@@ -6,7 +6,7 @@ use Rattle.yq_scalar.specs.Piece.{deeper}
 use Rattle.yq_scalar.specs.Plain.{ends_plain}
 use Rattle.yq_scalar.specs.Text.{is_empty, front, is_break, is_line, is_marker}
 use Rattle.yq_scalar.proofs.Bools.{and_true}
-use Rattle.yq_rows.specs.Alike.{Alike}
+use Rattle.yq_inline.specs.Alike.{Alike}
 use Rattle.yq_rows.specs.Exchange.{allows_first, asked_behind, with_content}
 use Rattle.yq_rows.specs.Gap.{IsBreak, IsLineEnd}
 use Rattle.yq_rows.specs.Grammar.{IsTail, IsContent, is_plain, IsRow, Limit, unlimited, limit_after, limit_behind, AreRows, no_rows}
@@ -105,7 +105,7 @@ plain_before n (Inline space node tail) rs end rest h e = λ plain last.
 abbrev pub RowsKept : Limit → List Row → List Row → List Row → List ℕ → List ℕ → List ℕ → List ℕ → Type 0
 RowsKept limit front rows new end rest other_end other =
     AreRows limit (front ++ new) other_end other
-    × ((no_rows front ≡ true) ⊎ Alike false (rows_text (front ++ rows) (end ++ rest)) (rows_text (front ++ new) (other_end ++ other)))
+    × ((no_rows front ≡ true) ⊎ Alike (Some false) (rows_text (front ++ rows) (end ++ rest)) (rows_text (front ++ new) (other_end ++ other)))
 
 pub rows_seam : (front rows new : List Row) (limit : Limit) (end rest other_end other : List ℕ) → AreRows limit (front ++ rows) end rest → MayFollowRows limit front new other_end other → RowsKept limit front rows new end rest other_end other
 rows_seam [] rows new limit end rest other_end other h f = (f.rows, inl refl)
@@ -116,7 +116,7 @@ rows_seam (r ∷ (q ∷ front)) rows new limit end rest other_end other h f =
     let again = rows_seam (q ∷ front) rows new (limit_after r) end rest other_end other h.1 (record { rows = f.rows; seam = f.seam; ends = f.ends }) in
     let t = rows_text ((q ∷ front) ++ rows) (end ++ rest) in
     let u = rows_text ((q ∷ front) ++ new) (other_end ++ other) in
-    let alike : Alike false t u = ⊎_elim {0, 0, 0} (λ x. absurd (false≢true x)) (λ x. x) again.1 in
+    let alike : Alike (Some false) t u = ⊎_elim {0, 0, 0} (λ x. absurd (false≢true x)) (λ x. x) again.1 in
     ((row_alike limit r t u alike h.0, again.0), inr (row_text_alike r t u alike))
 
 pub row_before : (limit : Limit) (r : Row) (t : List ℕ) (rs : List Row) (end rest : List ℕ) → IsRow limit r t → MayFollowRows limit (r ∷ []) rs end rest → IsRow limit r (rows_text rs (end ++ rest))

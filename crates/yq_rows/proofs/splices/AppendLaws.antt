@@ -1,12 +1,12 @@
 -- Rows behind the last one of a text without a final break, in a cut.
-use Rattle.std.proofs.Common.{◌≡◌, ℕ, suc, true, false, List, [], ◌∷◌, ◌++◌, length, refl, sym, ap, ◌∙◌, subst}
+use Rattle.std.proofs.Common.{◌≡◌, ℕ, suc, true, false, List, [], ◌∷◌, ◌++◌, length, refl, sym, ap, ◌∙◌, subst, Some}
 use Rattle.yq_scalar.specs.Characters.{pairs_returns}
-use Rattle.yq_rows.specs.Alike.{Alike}
+use Rattle.yq_inline.specs.Alike.{Alike}
 use Rattle.yq_rows.specs.Exchange.{allows_first, asked_behind}
 use Rattle.yq_rows.specs.Grammar.{Limit, limit_after, AreRows, no_rows, IsCut}
 use Rattle.yq_rows.specs.Rows.{Row, print_row, rows_text, Cut}
 use Rattle.yq_rows.specs.Appending.{closed_by, TakesBreak, IsLastRow}
-use Rattle.yq_rows.specs.Splices.{behind_first, nth_part, behind_part, back_rows, asked_at, behind_rows, in_place, CutsItsText}
+use Rattle.yq_rows.specs.Splices.{behind_first, nth_part, behind_part, back_rows, asked_at, behind_rows, replace_row, CutsItsText}
 use Rattle.yq_rows.proofs.splices.PartPlaces.{row_stands, rows_after, rows_from}
 use Rattle.yq_rows.proofs.splices.SpliceCases.{replaced}
 use Rattle.yq_rows.proofs.splices.SpliceTexts.{row_pairs}
@@ -23,7 +23,7 @@ no_bound : (limit : Limit) (rs : List Row) → rs ≡ [] → allows_first limit 
 no_bound limit rs e = ap (allows_first limit) e
 
 pub end_appended : (t : List ℕ) (c : Cut) (k : ℕ) (front : List Row) (r : Row) (break : List ℕ) (new : List Row) (gap : List ℕ) → IsCut t c → IsLastRow k front r c → TakesBreak r break → AreRows (limit_after r) new gap [] →
-    CutsItsText (in_place k front (closed_by break r ∷ new) gap c)
+    CutsItsText (replace_row k front (closed_by break r ∷ new) gap c)
 end_appended t c k front r break new gap h f takes n =
     let p = nth_part k c in
     let rest = behind_part k c in
@@ -39,10 +39,10 @@ end_appended t c k front r break new gap h f takes n =
     let pairs : pairs_returns (print_row r []) ≡ true = ap pairs_returns (sym text) ∙ row_pairs t c k i h in
     let kept = row_closed asked r break new gap [] row.0 takes pairs n refl in
     let follows : AreRows (limit_after (closed_by break r)) new gap [] = subst (λ (l : Limit). AreRows l new gap []) (sym (limit_closed break r)) n in
-    let alike : Alike false (print_row r []) (rows_text all (gap ++ behind_rows k (suc i) c)) = subst (λ (x : List ℕ). Alike false (print_row r []) (rows_text all (gap ++ x))) (sym nothing) kept.alike in
+    let alike : Alike (Some false) (print_row r []) (rows_text all (gap ++ behind_rows k (suc i) c)) = subst (λ (x : List ℕ). Alike (Some false) (print_row r []) (rows_text all (gap ++ x))) (sym nothing) kept.alike in
     replaced t c k i (suc i) all gap h (record {
       some = ap no_rows last;
       rows = subst (AreRows asked all gap) (sym nothing) (kept.row, follows);
       next = no_bound (asked_behind asked all) (back_rows k (suc i) c) none;
-      alike = subst (λ (x : List ℕ). Alike false x (rows_text all (gap ++ behind_rows k (suc i) c))) (sym text) alike;
+      alike = subst (λ (x : List ℕ). Alike (Some false) x (rows_text all (gap ++ behind_rows k (suc i) c))) (sym text) alike;
     })

@@ -1,19 +1,21 @@
 -- A row counted through all parts stands in one of them, and there its content is exchanged.
-use Rattle.std.proofs.Common.{◌≡◌, inl, inr, ℕ, zero, suc, ◌-◌, ◌≤◌, true, List, [], ◌∷◌, ◌++◌, length, take, drop, Some, refl, sym, ap, ◌∙◌, subst}
+use Rattle.std.proofs.Common.{◌≡◌, inl, inr, ℕ, zero, suc, ◌-◌, true, List, [], ◌∷◌, ◌++◌, length, take, drop, Some, refl, sym, ap, ◌∙◌, subst, false}
 use Rattle.std.proofs.Math.Dec.{ltb}
-use Rattle.std.proofs.lemmas.Bool.{ltb-true, ltb-false}
+use Rattle.std.proofs.lemmas.Bool.{false≢true, ltb-true, ltb-false}
 use Rattle.std.specs.List.{slice_get}
-use Rattle.yq_scalar.specs.Characters.{is_text, text_limit}
 use Rattle.yq_scalar.proofs.Bools.{is_true}
 use Rattle.yq_rows.specs.Counted.{RowPlace}
-use Rattle.yq_rows.specs.Exchange.{with_content, with_content_at, with_content_in, exchange, behind_at, behind_row, rows_behind, Fits}
-use Rattle.yq_rows.specs.Grammar.{IsCut}
-use Rattle.yq_rows.specs.Rows.{Content, Row, rows_text, Part, Cut, last, marked, cut_text}
-use Rattle.yq_rows.specs.Splices.{with_first_gap, first_gap, splice_part, asked_at, text_behind, CutsItsText}
+use Rattle.yq_rows.specs.Exchange.{with_content, with_content_at, with_content_in, exchange, behind_at, behind_row, rows_behind, allows_first, Fits}
+use Rattle.yq_rows.specs.Grammar.{IsMark, may_be_alone, is_entry, IsRow, Limit, limit_after, IsCut}
+use Rattle.yq_rows.specs.Rows.{Mark, Bare, Dash, Key, Content, Row, behind_gap, rows_text, Part, Cut, last, marked, cut_text}
+use Rattle.yq_rows.specs.Splices.{with_first_gap, first_gap, splice_part, asked_at, rest_behind, CutsItsText}
 use Rattle.yq_rows.specs.View.{rows_of}
 use Rattle.yq_rows.proofs.ExchangeLaws.{one_row, slice_front, slice_back}
 use Rattle.yq_rows.proofs.splices.PartPlaces.{row_stands}
-use Rattle.yq_rows.proofs.splices.RowReplaced.{row_replaced}
+use Rattle.yq_rows.proofs.splices.RowReplaced.{row_exchanged}
+use Rattle.yq_rows.proofs.NothingLaws.{gap_other}
+use Rattle.yq_rows.proofs.seams.FrontSeams.{behind_row_some}
+use Rattle.yq_rows.specs.Alone.{FitsAlone}
 use Rattle.yq_rows.proofs.splices.SpliceTexts.{own_gap, own_end}
 
 -- row i among rows
@@ -83,12 +85,36 @@ row_placed (marked p marker c) i r h = elim (is_true (ltb i (length p.rows))) [
       })
 ]
 
-pub content_exchanged : (t : List ℕ) (c : Cut) (i : ℕ) (r : Row) (new : Content) → IsCut t c → slice_get (rows_of c) i ≡ Some r → Fits new r (behind_row i c) (rows_behind i c) →
-    is_text (cut_text (exchange i new c)) ≡ true → length (cut_text (exchange i new c)) ≤ text_limit → IsCut (cut_text (exchange i new c)) (exchange i new c)
-content_exchanged t c i r new h is f =
+-- a row with another content, where it is a row
+exchanged_by : (t : List ℕ) (c : Cut) (i : ℕ) (r : Row) (new : Content) → IsCut t c → slice_get (rows_of c) i ≡ Some r → ((limit : Limit) → IsRow limit r (behind_row i c) → IsRow limit (with_content new r) (behind_row i c)) →
+    allows_first (limit_after (with_content new r)) (rows_behind i c) ≡ true → CutsItsText (exchange i new c)
+exchanged_by t c i r new h is row next =
     let p = row_placed c i r is in
-    let u : List ℕ = text_behind p.part p.back c in
+    let asked = asked_at p.part (length p.front) c in
     let own = row_stands t c p.part p.front r p.back h p.stands in
-    let g : Fits new r u p.back = subst (λ (x : List ℕ). Fits new r x p.back) p.behind (subst (Fits new r (behind_row i c)) p.rows f) in
-    let one = one_row (asked_at p.part (length p.front) c) r new u u own.0 g.entry g.content g.apart in
-    subst CutsItsText (sym (p.exchanged new)) (row_replaced t c p.part p.front r p.back (with_content new r) h p.stands one g.next)
+    let s : Row = with_content new r in
+    let there : IsRow asked s (rest_behind p.part p.back c) = subst (IsRow asked s) p.behind (row asked (subst (IsRow asked r) (sym p.behind) own.0)) in
+    let allowed : allows_first (limit_after s) p.back ≡ true = ap (allows_first (limit_after s)) (sym p.rows) ∙ next in
+    subst CutsItsText (sym (p.exchanged new)) (row_exchanged t c p.part p.front r p.back s h p.stands (record { gap = refl; column = refl; row = there; next = allowed }))
+
+pub content_exchanged : (t : List ℕ) (c : Cut) (i : ℕ) (r : Row) (new : Content) → IsCut t c → slice_get (rows_of c) i ≡ Some r → Fits new r (behind_row i c) (rows_behind i c) → CutsItsText (exchange i new c)
+content_exchanged t c i r new h is f = exchanged_by t c i r new h is (λ limit row. (one_row limit r new (behind_row i c) (behind_row i c) row f.entry f.content f.apart).row) f.next
+
+-- a row with neither a dash nor a key
+bare_mark : (m : Mark) (new : Content) (rest : List ℕ) → is_entry m ≡ false → may_be_alone new ≡ true → IsMark m new rest
+bare_mark Bare new rest e alone = alone
+bare_mark Dash new rest e alone = absurd (false≢true (sym e))
+bare_mark (Key key colon) new rest e alone = absurd (false≢true (sym e))
+
+bare_row : (limit : Limit) (r : Row) (new : Content) (rest : List ℕ) (behind : List Row) → IsRow limit r rest → FitsAlone new r rest behind → IsRow limit (with_content new r) rest
+bare_row limit r new rest behind h f = record {
+  gap = gap_other r.gap (behind_gap r rest) (behind_gap (with_content new r) rest) (behind_row_some limit r rest h) h.gap;
+  allowed = h.allowed;
+  unmarked = f.unmarked;
+  dashes = h.dashes;
+  mark = bare_mark r.mark new rest f.bare f.alone;
+  content = f.content;
+}
+
+pub alone_exchanged : (t : List ℕ) (c : Cut) (i : ℕ) (r : Row) (new : Content) → IsCut t c → slice_get (rows_of c) i ≡ Some r → FitsAlone new r (behind_row i c) (rows_behind i c) → CutsItsText (exchange i new c)
+alone_exchanged t c i r new h is f = exchanged_by t c i r new h is (λ limit row. bare_row limit r new (behind_row i c) (rows_behind i c) row f) f.next

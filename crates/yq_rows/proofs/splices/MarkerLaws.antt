@@ -1,17 +1,17 @@
 -- Rows behind the last marker of a text, which has no break.
-use Rattle.std.proofs.Common.{◌≡◌, ℕ, Bool, true, false, List, [], ◌∷◌, ◌++◌, refl, sym, ap, ◌∙◌, subst, ⊎_elim, arith, append-nil}
+use Rattle.std.proofs.Common.{◌≡◌, ℕ, Bool, true, false, List, [], ◌∷◌, ◌++◌, refl, sym, ap, ◌∙◌, subst, ⊎_elim, arith, append-nil, Some}
 use Rattle.std.proofs.lemmas.Bool.{false≢true}
 use Rattle.std.specs.List.{list_all}
 use Rattle.std.specs.Str.{chars}
 use Rattle.yq_scalar.specs.Characters.{is_text_char, pairs_returns}
 use Rattle.yq_scalar.specs.Text.{is_empty, is_feed, is_space, is_line}
 use Rattle.yq_scalar.proofs.Bools.{and_true}
-use Rattle.yq_rows.specs.Alike.{Alike, byte, after}
+use Rattle.yq_inline.specs.Alike.{Alike, byte, after}
 use Rattle.yq_rows.specs.Grammar.{IsPart, IsMarkerLine, begins_document, AreParts, IsCut}
 use Rattle.yq_rows.specs.Rows.{Part, part_text, Cut, last, marked, cut_text}
 use Rattle.yq_rows.specs.Appending.{is_one_break, last_marker, with_last_part, PartFits}
 use Rattle.yq_rows.specs.Splices.{CutsItsText}
-use Rattle.yq_rows.proofs.Alikes.{alike_marker}
+use Rattle.yq_inline.proofs.Alikes.{alike_marker}
 use Rattle.yq_rows.proofs.AlikeRows.{part_alike, part_text_alike}
 use Rattle.yq_rows.proofs.CharacterLaws.{pairs_back}
 use Rattle.yq_rows.proofs.ExchangeLaws.{CutExchanged, marked_behind}
@@ -22,15 +22,15 @@ use Rattle.yq_rows.proofs.seams.MarkerSeams.{three_lines, marker_byte}
 use Rattle.yq_rows.proofs.seams.TailLaws.{tail_closed}
 
 abbrev MarkerClosed : List ℕ → List ℕ → List ℕ → Type 0
-MarkerClosed p break u = IsMarkerLine (p ++ break) u × Alike false (p ++ []) ((p ++ break) ++ u)
+MarkerClosed p break u = IsMarkerLine (p ++ break) u × Alike (Some false) (p ++ []) ((p ++ break) ++ u)
 
 three_closed : (a b c : ℕ) (p break u : List ℕ) → is_feed a ≡ false → is_feed b ≡ false → is_feed c ≡ false → ((r : List ℕ) → is_space (c ∷ r) ≡ false) → IsMarkerLine (a ∷ (b ∷ (c ∷ p))) [] → is_line (a ∷ (b ∷ (c ∷ p))) ≡ false → is_one_break break ≡ true →
     pairs_returns (a ∷ (b ∷ (c ∷ p))) ≡ true → MarkerClosed (a ∷ (b ∷ (c ∷ p))) break u
 three_closed a b c p break u x y z black h bare is pairs =
     let none : is_line p ≡ false = sym (three_lines a b c p x y z) ∙ bare in
     let tail = tail_closed p break u is none (pairs_back (a ∷ (b ∷ (c ∷ []))) p pairs) h.tail in
-    let alike : Alike false (a ∷ (b ∷ (c ∷ (p ++ [])))) (a ∷ (b ∷ (c ∷ ((p ++ break) ++ u)))) = after (after (byte (black (p ++ [])) (black ((p ++ break) ++ u)) (tail_apart p [] h.tail) (tail_apart (p ++ break) u tail))) in
-    (record { marker = sym (alike_marker false (a ∷ (b ∷ (c ∷ (p ++ [])))) (a ∷ (b ∷ (c ∷ ((p ++ break) ++ u)))) alike) ∙ h.marker; long = omega arith; tail = tail }, alike)
+    let alike : Alike (Some false) (a ∷ (b ∷ (c ∷ (p ++ [])))) (a ∷ (b ∷ (c ∷ ((p ++ break) ++ u)))) = after (after (byte (black (p ++ [])) (black ((p ++ break) ++ u)) (tail_apart p [] h.tail) (tail_apart (p ++ break) u tail))) in
+    (record { marker = sym (alike_marker (Some false) (a ∷ (b ∷ (c ∷ (p ++ [])))) (a ∷ (b ∷ (c ∷ ((p ++ break) ++ u)))) alike) ∙ h.marker; long = omega arith; tail = tail }, alike)
 
 pub marker_closed : (p break u : List ℕ) → IsMarkerLine p [] → is_line p ≡ false → is_one_break break ≡ true → pairs_returns p ≡ true → MarkerClosed p break u
 marker_closed [] break u h bare is pairs = absurd (let l = h.long in omega (arith, l))
@@ -73,7 +73,7 @@ one_closed started p marker q new break h bare is pairs n =
     ap (λ (x : List ℕ). part_text p (marker ++ x)) none ∙ (ap (part_text p) (append-nil marker) ∙ part_then p [] marker) in
     let own : pairs_returns marker ≡ true = pairs_back (part_text p []) marker (ap pairs_returns (sym texts) ∙ pairs) in
     let closed = marker_closed marker break u line bare is own in
-    let alike : Alike false (marker ++ part_text q []) ((marker ++ break) ++ u) = subst (λ (x : List ℕ). Alike false (marker ++ x) ((marker ++ break) ++ u)) (sym none) closed.1 in
+    let alike : Alike (Some false) (marker ++ part_text q []) ((marker ++ break) ++ u) = subst (λ (x : List ℕ). Alike (Some false) (marker ++ x) ((marker ++ break) ++ u)) (sym none) closed.1 in
     let part : IsPart (begins_document (marker ++ break)) new [] = subst (λ (b : Bool). IsPart b new []) (sym (begins_same marker break (marker_some marker [] line))) n in
     ((part_alike started p (marker ++ part_text q []) ((marker ++ break) ++ u) alike h.0, closed.0, part), part_text_alike p (marker ++ part_text q []) ((marker ++ break) ++ u) alike)
 

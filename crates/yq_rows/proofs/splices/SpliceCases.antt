@@ -2,11 +2,12 @@
 use Rattle.std.proofs.Common.{◌≡◌, ℕ, zero, suc, Bool, true, false, not, ◌||◌, List, [], ◌∷◌, ◌++◌, take, drop, refl, sym, ap, ◌∙◌, ⊎_elim}
 use Rattle.std.proofs.lemmas.Bool.{false≢true, or_right}
 use Rattle.yq_scalar.proofs.Bools.{is_true}
-use Rattle.yq_rows.specs.Grammar.{unlimited, no_rows, IsPart, IsCut}
+use Rattle.yq_rows.specs.Exchange.{allows_first, asked_behind}
+use Rattle.yq_rows.specs.Grammar.{unlimited, no_rows, IsPart, IsCut, AreRows}
 use Rattle.yq_rows.specs.Rows.{Row, rows_text, Part, Cut}
 use Rattle.yq_rows.specs.Seams.{are_seamed, ends_in_block}
 use Rattle.yq_rows.specs.SpliceFits.{is_after, InsertFits, ReplaceFits, RemoveFits}
-use Rattle.yq_rows.specs.Splices.{splice, nth_part, behind_part, is_started, marker_before, front_rows, back_rows, behind_rows, CutsItsText}
+use Rattle.yq_rows.specs.Splices.{splice, nth_part, behind_part, is_started, marker_before, front_rows, back_rows, behind_rows, CutsItsText, asked_at}
 use Rattle.yq_rows.proofs.seams.FrontSeams.{seams_were, seams_any, seams_alike}
 use Rattle.yq_rows.proofs.seams.SeamLaws.{rows_parted}
 use Rattle.yq_rows.proofs.splices.PartPlaces.{part_after, part_in}
@@ -42,9 +43,10 @@ inserted t c k i new gap h f =
 starts : (t : List ℕ) (c : Cut) (k i : ℕ) (u : List ℕ) → IsCut t c → no_rows (back_rows k i c) ≡ false → (not (no_rows (front_rows k i c)) || is_after (marker_before [] k c) u) ≡ true
 starts t c k i u h some = or_right (not (no_rows (front_rows k i c))) (is_after (marker_before [] k c) u) (part_after c k true u h.parts (more_of i (nth_part k c).rows some))
 
--- rows that begin alike
-pub replaced : (t : List ℕ) (c : Cut) (k i j : ℕ) (new : List Row) (gap : List ℕ) → IsCut t c → ReplaceFits k i j new gap c → CutsItsText (splice k i j new gap c)
-replaced t c k i j new gap h f =
+-- rows in the place of others, where what the rows in front ask of the text behind them is kept
+pub placed : (t : List ℕ) (c : Cut) (k i j : ℕ) (new : List Row) (gap : List ℕ) → IsCut t c → no_rows (back_rows k i c) ≡ false → AreRows (asked_at k i c) new gap (behind_rows k j c) → allows_first (asked_behind (asked_at k i c) new) (back_rows k j c) ≡ true →
+    ((fs : List Row) → are_seamed fs (rows_text (back_rows k i c) ((nth_part k c).end ++ behind_part k c)) ≡ true → are_seamed fs (rows_text new (gap ++ behind_rows k j c)) ≡ true) → CutsItsText (splice k i j new gap c)
+placed t c k i j new gap h some rows next keeps =
     let p = nth_part k c in
     let rest = behind_part k c in
     let front = front_rows k i c in
@@ -52,8 +54,11 @@ replaced t c k i j new gap h f =
     let u = rows_text new (gap ++ behind_rows k j c) in
     let part = part_in c k true h.parts in
     let was = seams_were front back unlimited p.end rest (rows_parted i p.rows unlimited p.end rest part.rows) in
-    let begun : is_started true k c ≡ true = part_started (is_started true k c) p rest part (more_of i p.rows f.some) in
-    spliced t c k i j new gap h (record { rows = f.rows; next = f.next; seam = seams_alike front (rows_text back (p.end ++ rest)) u f.alike was; start = starts t c k i u h f.some; inside = rw begun refl })
+    let begun : is_started true k c ≡ true = part_started (is_started true k c) p rest part (more_of i p.rows some) in
+    spliced t c k i j new gap h (record { rows = rows; next = next; seam = keeps front was; start = starts t c k i u h some; inside = rw begun refl })
+
+pub replaced : (t : List ℕ) (c : Cut) (k i j : ℕ) (new : List Row) (gap : List ℕ) → IsCut t c → ReplaceFits k i j new gap c → CutsItsText (splice k i j new gap c)
+replaced t c k i j new gap h f = placed t c k i j new gap h f.some f.rows f.next (λ fs. seams_alike fs (rows_text (back_rows k i c) ((nth_part k c).end ++ behind_part k c)) (rows_text new (gap ++ behind_rows k j c)) f.alike)
 
 -- rows taken away
 block_or : (front : List Row) (u : List ℕ) → (ends_in_block front ≡ false → are_seamed front u ≡ true) → (ends_in_block front ≡ true → are_seamed front u ≡ true) → are_seamed front u ≡ true

@@ -1,9 +1,9 @@
 -- Rows in the place of others, in a part and in a cut.
-use Rattle.std.proofs.Common.{◌≡◌, ◌⊎◌, inl, inr, ℕ, zero, suc, Bool, true, false, not, ◌||◌, List, [], ◌∷◌, ◌++◌, take, drop, refl, ap, ◌∙◌, subst, ⊎_elim, arith}
+use Rattle.std.proofs.Common.{◌≡◌, ◌⊎◌, inl, inr, ℕ, zero, suc, Bool, true, false, not, ◌||◌, List, [], ◌∷◌, ◌++◌, take, drop, refl, ap, ◌∙◌, subst, ⊎_elim, arith, Some}
 use Rattle.std.proofs.lemmas.Bool.{false≢true, or_right}
 use Rattle.std.proofs.lemmas.List.{take-append-drop}
 use Rattle.yq_scalar.specs.Text.{is_empty, is_marker}
-use Rattle.yq_rows.specs.Alike.{Alike}
+use Rattle.yq_inline.specs.Alike.{Alike}
 use Rattle.yq_rows.specs.Exchange.{asked_behind}
 use Rattle.yq_rows.specs.Grammar.{unlimited, AreRows, no_rows, IsPart, IsMarkerLine, begins_document, AreParts, IsCut}
 use Rattle.yq_rows.specs.Rows.{Row, rows_text, Part, part_text, Cut, last, marked, cut_text}
@@ -17,7 +17,7 @@ use Rattle.yq_rows.proofs.seams.SeamLaws.{rows_seam, rows_join, rows_drop, rows_
 
 -- A text and another one behind what stands before them: they begin alike, or the other one may stand there.
 abbrev Fronts : List ℕ → List ℕ → List ℕ → Type 0
-Fronts marker t u = Alike false t u ⊎ (is_after marker u ≡ true)
+Fronts marker t u = Alike (Some false) t u ⊎ (is_after marker u ≡ true)
 
 -- parts
 no_more : (a b c : List Row) → no_rows a ≡ true → no_rows b ≡ true → no_rows c ≡ true → no_rows (a ++ (b ++ c)) ≡ true
@@ -66,7 +66,7 @@ part_spliced marker started i j new gap p rest e h f =
     let old : rows_text (front ++ drop i p.rows) (p.end ++ rest) ≡ part_text p rest = ap (λ (rs : List Row). rows_text rs (p.end ++ rest)) (take-append-drop i p.rows) in
     let fronts : Fronts marker (part_text p rest) (part_text q rest) = ⊎_elim {0, 0, 0}
     (λ none. inr (ap (is_after marker) (none_front front inner (end ++ rest) none ∙ text) ∙ or_not (no_rows front) _ f.start none))
-    (λ alike. inl (subst (λ (t : List ℕ). Alike false t (part_text q rest)) old alike))
+    (λ alike. inl (subst (λ (t : List ℕ). Alike (Some false) t (part_text q rest)) old alike))
     kept.1 in
     (record { rows = kept.0; inside = part_open started i j new gap p.rows h.inside f.inside }, fronts)
 

@@ -4,7 +4,7 @@ ghost use Rattle.yq_scalar.specs.Characters.{pairs_returns};
 ghost use Rattle.yq_rows.specs.Appending.{IsLastRow, PartFits, TakesBreak, closed_by, with_last_part};
 ghost use Rattle.yq_rows.specs.Grammar.{AreRows, IsCut, Limit, limit_after};
 ghost use Rattle.yq_rows.specs.Rows.{Cut, Part, Row, print_row};
-ghost use Rattle.yq_rows.specs.Splices.{CutsItsText, in_place};
+ghost use Rattle.yq_rows.specs.Splices.{CutsItsText, replace_row};
 
 /// Rows behind the last one of a text without a final break: that one gets a break, and the rows
 /// stand behind it.
@@ -16,7 +16,7 @@ pub fn rows_appended()
 /// The same in a cut.
 pub fn end_appended()
     ensures { (t : List ℕ) (c : Cut) (k : ℕ) (front : List Row) (r : Row) (break : List ℕ) (new : List Row) (gap : List ℕ) → IsCut t c → IsLastRow k front r c → TakesBreak r break → AreRows (limit_after r) new gap [] →
-        CutsItsText (in_place k front (closed_by break r ∷ new) gap c) }
+        CutsItsText (replace_row k front (closed_by break r ∷ new) gap c) }
 {}
 
 /// A part behind the last marker of a text, which has no break: the marker gets one.

@@ -6,8 +6,8 @@ ghost use Rattle.yq_rows.specs.Grammar.{IsCut, limit_after};
 ghost use Rattle.yq_rows.specs.Removal.{RepairFits, without_rows};
 ghost use Rattle.yq_rows.specs.Rows.{Cut, Row, cut_text, parent_indent, rows_text};
 ghost use Rattle.yq_rows.specs.Seams.{TailFits, TakesPlace, are_seamed, ends_in_block, ends_in_line, retail};
-ghost use Rattle.yq_rows.specs.SpliceFits.{FitsIn, InsertFits, RemoveFits, ReplaceFits};
-ghost use Rattle.yq_rows.specs.Splices.{CutsItsText, StandsBetween, asked_at, before_rows, behind_rows, first_gap, gap_before, in_place, nth_part, rows_between, splice, text_behind};
+ghost use Rattle.yq_rows.specs.SpliceFits.{FitsIn, InsertFits, RemoveFits, ReplaceFits, StandsFor};
+ghost use Rattle.yq_rows.specs.Splices.{CutsItsText, StandsBetween, asked_at, before_rows, behind_rows, first_gap, gap_before, replace_row, nth_part, rows_between, splice, rest_behind};
 ghost use Rattle.yq_rows.specs.View.{rows_of};
 
 /// A cut, of which other rows stand in the place of some, is a cut where they fit and the new text
@@ -26,14 +26,21 @@ pub fn rows_replaced()
 
 /// One row exchanged for another one that takes its place, behind which the next row may stand.
 pub fn row_replaced()
-    ensures { (t : List ℕ) (c : Cut) (k : ℕ) (front : List Row) (r : Row) (back : List Row) (new : Row) → IsCut t c → StandsBetween k front r back c → TakesPlace (asked_at k (length front) c) r (text_behind k back c) new (text_behind k back c) →
-        allows_first (limit_after new) back ≡ true → CutsItsText (in_place k front (new ∷ []) (first_gap back (nth_part k c).end) c) }
+    ensures { (t : List ℕ) (c : Cut) (k : ℕ) (front : List Row) (r : Row) (back : List Row) (new : Row) → IsCut t c → StandsBetween k front r back c → TakesPlace (asked_at k (length front) c) r (rest_behind k back c) new (rest_behind k back c) →
+        allows_first (limit_after new) back ≡ true → CutsItsText (replace_row k front (new ∷ []) (first_gap back (nth_part k c).end) c) }
+{}
+
+/// One row exchanged for another one behind the same gap and at the same column: the rows in front
+/// ask no more of it.
+pub fn row_exchanged()
+    ensures { (t : List ℕ) (c : Cut) (k : ℕ) (front : List Row) (r : Row) (back : List Row) (new : Row) → IsCut t c → StandsBetween k front r back c → StandsFor (asked_at k (length front) c) r new back (rest_behind k back c) →
+        CutsItsText (replace_row k front (new ∷ []) (first_gap back (nth_part k c).end) c) }
 {}
 
 /// A cut, of which a row has another tail that fits, is a cut where the new text may stand.
 pub fn tail_replaced()
-    ensures { (t : List ℕ) (c : Cut) (k : ℕ) (front : List Row) (r : Row) (back : List Row) (new : List ℕ) → IsCut t c → StandsBetween k front r back c → TailFits (parent_indent r) new r.content (text_behind k back c) →
-        CutsItsText (in_place k front (retail new r ∷ []) (first_gap back (nth_part k c).end) c) }
+    ensures { (t : List ℕ) (c : Cut) (k : ℕ) (front : List Row) (r : Row) (back : List Row) (new : List ℕ) → IsCut t c → StandsBetween k front r back c → TailFits (parent_indent r) new r.content (rest_behind k back c) →
+        CutsItsText (replace_row k front (retail new r ∷ []) (first_gap back (nth_part k c).end) c) }
 {}
 
 /// Rows put in behind a row: what that row asks of the text behind it, and where the next row

@@ -3,7 +3,7 @@ ghost use Rattle.std.specs.Iterator.{at_most};
 ghost use Rattle.std.specs.Prelude.{◌≡◌, ◌==◌, [], length, option_map};
 ghost use Rattle.yq_lines.specs.Comments as spec;
 ghost use Rattle.yq_scalar.specs.Text.{front, lines_of, past_white};
-ghost use Rattle.yq_tree.specs.CommentPlaces as places;
+ghost use Rattle.yq_tree.specs.Pieces as pieces;
 ghost use Rattle.yq_tree.specs.Nodes.{label_of};
 ghost use Rattle.yq_lines.specs.Bodies.{lent};
 ghost use Rattle.yq_tree.specs.Texts.{texts_left, YieldsText};
@@ -41,7 +41,7 @@ pub(crate) fn is_comment(line: &str) -> bool
 
 /// The run of comment lines that ends a gap.
 pub(crate) fn last_run(gap: &str) -> &str
-    ensures { lines_of result.now ≡ places.last_run (lines_of gap.now) }
+    ensures { lines_of result.now ≡ pieces.last_run (lines_of gap.now) }
 {
     let mut run = gap;
     let mut rest = gap;

@@ -2,12 +2,14 @@
 ghost use Rattle.std.specs.Prelude.{◌≡◌, ◌<◌, ◌≤◌, ◌+◌, length, option_map, slice_get, Some};
 ghost use Rattle.yq_scalar.specs.Characters.{text_limit};
 ghost use Rattle.yq_rows.specs.View.{Slices};
-ghost use Rattle.yq_tree.specs.CommentPlaces as places;
 ghost use Rattle.yq_tree.specs.CommentReading as spec;
 ghost use Rattle.yq_tree.specs.Extents as extents;
-ghost use Rattle.yq_tree.specs.Extents.{span, IsShown};
+ghost use Rattle.yq_tree.specs.Pieces.{piece_span, span};
+ghost use Rattle.yq_tree.specs.Extents.{IsShown};
+ghost use Rattle.yq_tree.specs.PathPieces.{piece_at};
 ghost use Rattle.yq_tree.specs.Reading.{cut_of};
 ghost use Rattle.yq_tree.specs.SeatReading.{told};
+ghost use Rattle.yq_tree.specs.declared.path.Part.TheVariants as parts;
 
 use crate::document::Documents;
 use crate::nodes::comments::{is_comment, last_run};
@@ -75,7 +77,7 @@ fn head_comment_in(rows: &Rows<'_>, seat: Seat) -> Option<Span>
 impl Documents<'_> {
     /// The place of the comment behind the entry or item at a path, on the line of its key or dash.
     pub(crate) fn line_comment_place(&self, path: &Path) -> Option<Span>
-        ensures { option_map span result ≡ places.line_comment_at path.now (cut_of self.now) }
+        ensures { option_map span result ≡ option_map piece_span (piece_at path.now parts.LineComment (cut_of self.now)) }
     {
         let seat = self.seat(path)?;
         line_comment_in(&self.rows, seat)
@@ -83,7 +85,7 @@ impl Documents<'_> {
 
     /// The place of the run of comments above the entry or item at a path, with the breaks.
     pub(crate) fn head_comment_place(&self, path: &Path) -> Option<Span>
-        ensures { option_map span result ≡ places.head_comment_at path.now (cut_of self.now) }
+        ensures { option_map span result ≡ option_map piece_span (piece_at path.now parts.HeadComment (cut_of self.now)) }
     {
         let seat = self.seat(path)?;
         head_comment_in(&self.rows, seat)

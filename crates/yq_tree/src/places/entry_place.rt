@@ -4,14 +4,17 @@ ghost use Rattle.yq_inline.specs.Entries.{step_of};
 ghost use Rattle.yq_rows.specs.Grammar.{IsCut};
 ghost use Rattle.yq_rows.specs.Rows.{Cut, Part, Row as RowOf};
 ghost use Rattle.yq_rows.specs.View.{rows_of, shown};
-ghost use Rattle.yq_tree.specs.EntryPlaces as spec;
+ghost use Rattle.yq_tree.specs.EntryReading as spec;
 ghost use Rattle.yq_tree.specs.EntryReading.{HasFlows};
-ghost use Rattle.yq_tree.specs.Extents.{IsShown, span};
+ghost use Rattle.yq_tree.specs.Extents.{IsShown};
+ghost use Rattle.yq_tree.specs.Pieces.{piece_span, span};
 ghost use Rattle.yq_lines.specs.View.{flows, views};
 ghost use Rattle.yq_tree.specs.Lines.{lines_of};
+ghost use Rattle.yq_tree.specs.PathPieces.{piece_at};
 ghost use Rattle.yq_tree.specs.Reading.{cut_of};
 ghost use Rattle.yq_tree.specs.SeatReading as reading;
 ghost use Rattle.yq_tree.specs.Seats as seats;
+ghost use Rattle.yq_tree.specs.declared.path.Part.TheVariants as parts;
 
 use crate::document::Documents;
 use crate::path::{Path, Span};
@@ -68,7 +71,7 @@ fn entry_of(rows: &Rows<'_>, first: usize, lines: &Lined<'_>, steps: &[Step]) ->
 impl Documents<'_> {
     /// The place of the entry or item at a path.
     pub(crate) fn entry_place(&self, path: &Path) -> Option<Span>
-        ensures { option_map span result ≡ spec.entry_at path.now (cut_of self.now) }
+        ensures { option_map span result ≡ option_map piece_span (piece_at path.now parts.Entry (cut_of self.now)) }
     {
         let first = self.first_row(path.doc)?;
         entry_of(

@@ -1,22 +1,16 @@
 //! Where what rows spell stands in their text.
-ghost use Rattle.std.specs.Prelude.{◌≡◌, ◌<◌, ◌≤◌, ◌&&◌, ℕ, List, length, take, slice_get, Some, IfSome, option_map};
+ghost use Rattle.std.specs.Prelude.{◌≡◌, ◌<◌, ◌≤◌, length, take, slice_get, Some};
 ghost use Rattle.std.specs.List.{sum_by};
 ghost use Rattle.yq_scalar.specs.Characters.{text_limit};
-ghost use Rattle.yq_rows.specs.Grammar.{IsCut};
 ghost use Rattle.yq_rows.specs.Offsets.{row_length};
 ghost use Rattle.yq_rows.specs.Rows.{Cut, Row as RowOf};
 ghost use Rattle.yq_rows.specs.View.{bound_view, rows_of, shown, view};
 ghost use Rattle.yq_tree.specs.Extents as spec;
-ghost use Rattle.yq_tree.specs.RowPaths as paths;
-ghost use Rattle.yq_tree.specs.Written.{row_scalar};
 
-use crate::path::Span;
-use crate::reading::head::begins_block;
-use yq_inline::pieces::first_is;
 use yq_rows::{Bound, Row, Rows};
 
 /// How long a row is, with its gap.
-fn row_len(row: &Row<'_>) -> usize
+pub(crate) fn row_len(row: &Row<'_>) -> usize
     requires { row_length (view row.now) ≤ text_limit }
     ensures { result ≡ row_length (view row.now) }
 {
@@ -121,71 +115,5 @@ pub(crate) fn lines_before_mark(row: &Row<'_>) -> usize
         count.saturating_sub(1)
     } else {
         count
-    }
-}
-
-/// The row whose last line is this one, by its pieces.
-fn find_row(rows: &Rows<'_>, line: usize) -> Option<usize>
-    ensures within { IfSome result (λ i. i < length rows.now.rows) }
-    ensures found { result ≡ spec.slices_row line rows.now.rows }
-{
-    let mut left = line;
-    'rows: for at in 0..rows.len() {
-        let before = lines_before_mark(&rows.row(at));
-        if left < before {
-            return None;
-        }
-        if left == before {
-            return Some(at);
-        }
-        left -= before + 1;
-    }
-    None
-}
-
-/// The row whose last line is this one, by their indexes from 0; none, where it is that of a dash
-/// before a mark, or behind all rows.
-pub(crate) fn line_row(rows: &Rows<'_>, line: usize) -> Option<usize>
-    ensures within { IfSome result (λ i. i < length rows.now.rows) }
-    ensures found { (t : List ℕ) (c : Cut) → IsCut t c → rows.now ≡ shown c → result ≡ paths.line_row line (rows_of c) }
-{
-    find_row(rows, line)
-}
-
-/// Whether a head is a plain or quoted scalar.
-pub(crate) fn is_scalar(head: &str) -> bool
-    ensures { result ≡ spec.is_scalar_head head.now }
-{
-    let bytes = head.as_bytes();
-    let other = begins_block(bytes)
-        || (first_is(b'*', bytes) || (first_is(b'[', bytes) || first_is(b'{', bytes)));
-    !head.is_empty() && !other
-}
-
-/// Whether a row is that of a key or dash.
-pub(crate) fn is_entry(row: &Row<'_>) -> bool
-    ensures { result ≡ spec.begins_entry (view row.now) }
-{
-    !(row.dashes().is_empty() && row.colon().is_empty())
-}
-
-/// Whether a scalar is written behind the key or dash of a row.
-fn has_scalar(row: &Row<'_>) -> bool
-    ensures { result ≡ (spec.begins_entry (view row.now) && spec.is_scalar_head (view row.now).head) }
-{
-    is_entry(row) && is_scalar(row.head())
-}
-
-/// The place of the scalar that is written behind the key or dash of row `i`, if one is.
-pub(crate) fn scalar_place(rows: &Rows<'_>, i: usize) -> Option<Span>
-    requires within { i < length rows.now.rows }
-    requires shown { spec.IsShown rows.now }
-    ensures { (t : List ℕ) (c : Cut) → IsCut t c → rows.now ≡ shown c → option_map spec.span result ≡ option_map spec.scalar_span (row_scalar i (slice_get (rows_of c) i) c) }
-{
-    if has_scalar(&rows.row(i)) {
-        let (start, end) = head_place(rows, i);
-        Some(Span { start, end })
-    } else {
-        None
     }
 }

@@ -1,7 +1,7 @@
 //! Where the parts of entries and items stand.
 ghost use Rattle.std.specs.Prelude.{◌≡◌, option_map};
-ghost use Rattle.yq_tree.specs.Extents.{span};
-ghost use Rattle.yq_tree.specs.PartPlaces as spec;
+ghost use Rattle.yq_tree.specs.Pieces.{piece_span, span};
+ghost use Rattle.yq_tree.specs.PathPieces.{piece_at};
 ghost use Rattle.yq_tree.specs.Reading.{cut_of};
 
 use crate::document::Documents;
@@ -18,7 +18,7 @@ impl Documents<'_> {
     /// comments above the row that the key or dash begins, with their breaks; `LineComment` goes from `#`
     /// to the line's end, before its break.
     pub fn extent(&self, path: &Path, part: Part) -> Option<Span>
-        ensures { option_map span result ≡ spec.extent_at path.now part (cut_of self.now) }
+        ensures { option_map span result ≡ option_map piece_span (piece_at path.now part (cut_of self.now)) }
     {
         match part {
             Part::Content => self.content_place(path),

@@ -4,10 +4,11 @@ ghost use Rattle.yq_scalar.specs.Characters.{text_limit};
 ghost use Rattle.yq_rows.specs.Grammar.{IsCut};
 ghost use Rattle.yq_rows.specs.Rows.{Cut, Row as RowOf};
 ghost use Rattle.yq_rows.specs.View.{rows_of, shown, Slices, view};
-ghost use Rattle.yq_tree.specs.EntryPlaces as places;
 ghost use Rattle.yq_tree.specs.EntryReading as spec;
 ghost use Rattle.yq_tree.specs.Extents as extents;
-ghost use Rattle.yq_tree.specs.Extents.{IsShown, span};
+ghost use Rattle.yq_tree.specs.Extents.{IsShown};
+ghost use Rattle.yq_tree.specs.Pieces.{span};
+ghost use Rattle.yq_tree.specs.PrintedLines as lines;
 
 use crate::path::Span;
 use crate::places::extent::{head_place, row_start};
@@ -50,15 +51,15 @@ pub(crate) fn line_start(rows: &Rows<'_>, seat: Seat) -> usize
 
 /// Whether this is a break, and nothing is behind it.
 fn is_last_break(text: &[u8]) -> bool
-    ensures { result ≡ places.is_last_break text.now }
+    ensures { result ≡ lines.is_last_break text.now }
 {
     matches!(text, [b'\n'] | [b'\r', b'\n'])
 }
 
 /// How long a text is less the break that ends it, in bytes.
-#[tactic(auto, unfolding(crate::specs::EntryPlaces::less_break))]
+#[tactic(auto, unfolding(crate::specs::PrintedLines::less_break))]
 fn less_break_len(text: &[u8]) -> usize
-    ensures value { result ≡ length (places.less_break text.now) }
+    ensures value { result ≡ length (lines.less_break text.now) }
     ensures within { result ≤ length text.now }
 {
     let mut n = 0;
@@ -73,10 +74,18 @@ fn less_break_len(text: &[u8]) -> usize
     n
 }
 
+/// A text cut before the break that ends it, if one does.
+pub fn split_break(text: &str) -> (&str, &str)
+    ensures line { result.0.now ≡ lines.less_break text.now }
+    ensures rest { result.1.now ≡ lines.last_break text.now }
+{
+    text.split_at(less_break_len(text.as_bytes()))
+}
+
 /// How long the tail and the raw lines of a row are less their last break, in bytes.
 fn ending_len(row: &Row<'_>) -> usize
     requires { length (view row.now).tail + length (view row.now).raw ≤ text_limit }
-    ensures value { result ≡ length (places.ending (view row.now)) }
+    ensures value { result ≡ length (spec.ending (view row.now)) }
     ensures within { result ≤ length (view row.now).tail + length (view row.now).raw }
 {
     if row.raw().is_empty() {
@@ -90,7 +99,7 @@ fn ending_len(row: &Row<'_>) -> usize
 pub(crate) fn row_end(rows: &Rows<'_>, i: usize) -> usize
     requires within { i < length rows.now.rows }
     requires shown { IsShown rows.now }
-    ensures { (c : Cut) → rows.now ≡ shown c → (r : RowOf) → slice_get (rows_of c) i ≡ Some r → result ≡ length (places.through_row i r c) }
+    ensures { (c : Cut) → rows.now ≡ shown c → (r : RowOf) → slice_get (rows_of c) i ≡ Some r → result ≡ length (spec.through_row i r c) }
 {
     let (_, end) = head_place(rows, i);
     end + ending_len(&rows.row(i))
@@ -113,7 +122,7 @@ fn head_end(row: &Row<'_>, end: usize) -> usize
 pub(crate) fn head_extent(rows: &Rows<'_>, i: usize) -> Span
     requires within { i < length rows.now.rows }
     requires shown { IsShown rows.now }
-    ensures { (t : List ℕ) (c : Cut) → IsCut t c → rows.now ≡ shown c → (r : RowOf) → slice_get (rows_of c) i ≡ Some r → span result ≡ places.head_extent i r c }
+    ensures { (t : List ℕ) (c : Cut) → IsCut t c → rows.now ≡ shown c → (r : RowOf) → slice_get (rows_of c) i ≡ Some r → span result ≡ spec.head_extent i r c }
 {
     let (start, end) = head_place(rows, i);
     let row = rows.row(i);

@@ -7,7 +7,7 @@ ghost use Rattle.yq_tree.specs.PartReading.{document_view, lined_view, lined_vie
 ghost use Rattle.yq_tree.specs.SoundReading as spec;
 ghost use Rattle.yq_lines.specs.View.{views, flows};
 
-use crate::reading::fault::line_fault;
+use crate::reading::fault::document_fault;
 use crate::reading::part_lines::PartLines;
 use std::alloc::Global;
 use yq_lines::{Lined, lines_fault};
@@ -24,6 +24,7 @@ pub struct DocumentLines<'t> {
 /// A document, by its index, where its lines are sound.
 fn check_part<'t>(
     alloc: Global,
+    text: &str,
     rows: &Rows<'t>,
     index: usize,
     part: PartLines<'t>,
@@ -34,7 +35,7 @@ fn check_part<'t>(
 {
     let lines = Lined::new(alloc, part.lines)?;
     match lines_fault(alloc, &lines)? {
-        Some(flaw) => Err(ReadError::Fault(line_fault(rows, index, flaw))),
+        Some(flaw) => Err(ReadError::Fault(document_fault(text, rows, index, flaw))),
         None => Ok(DocumentLines {
             lead: part.lead,
             lines,
@@ -45,6 +46,7 @@ fn check_part<'t>(
 /// The documents of a text that is cut into these rows, where the lines of each are sound.
 pub(crate) fn check_parts<'t>(
     alloc: Global,
+    text: &str,
     rows: &Rows<'t>,
     parts: Vec<PartLines<'t>>,
 ) -> Result<Vec<DocumentLines<'t>>, ReadError>
@@ -54,7 +56,7 @@ pub(crate) fn check_parts<'t>(
 {
     let mut documents = Vec::with_capacity(alloc, parts.len())?;
     'parts: for part in parts {
-        let document = match check_part(alloc, rows, documents.len(), part) {
+        let document = match check_part(alloc, text, rows, documents.len(), part) {
             Ok(document) => document,
             Err(e) => return Err(e),
         };

@@ -1,7 +1,7 @@
 //! Where a text is at fault.
 
 use crate::reading::documents::{begins_document, first_is_document};
-use yq_lines::Flaw;
+use yq_lines::{Flaw, Position};
 use yq_rows::{Row, Rows};
 use yq_scalar::{FaultKind, ReadFault};
 
@@ -73,8 +73,9 @@ fn breaks_before(rows: &Rows<'_>, from: usize, to: usize, line: usize) -> u64 {
     count
 }
 
-/// A fault at a line of a document, by their indexes, in a text that is cut into these rows.
-pub(crate) fn line_fault(rows: &Rows<'_>, document: usize, flaw: Flaw) -> ReadFault {
+/// The line of a text, counted from 1, on which a line of a document begins, by their indexes, where the
+/// text is cut into these rows.
+fn text_line(rows: &Rows<'_>, document: usize, index: usize) -> u64 {
     let mut line = 1u64;
     let mut from = 0;
     let mut left = document;
@@ -82,8 +83,7 @@ pub(crate) fn line_fault(rows: &Rows<'_>, document: usize, flaw: Flaw) -> ReadFa
     'parts: for i in 0..rows.parts() {
         let part = rows.part(i);
         if is_document && left == 0 {
-            line = line.saturating_add(breaks_before(rows, from, part.rows, flaw.line));
-            break 'parts;
+            return line.saturating_add(breaks_before(rows, from, part.rows, index));
         }
         if is_document {
             left = left.saturating_sub(1);
@@ -94,8 +94,21 @@ pub(crate) fn line_fault(rows: &Rows<'_>, document: usize, flaw: Flaw) -> ReadFa
         is_document = begins_document(part.marker.as_bytes());
         from = part.rows;
     }
-    ReadFault {
-        kind: flaw.kind,
-        line,
+    line
+}
+
+/// A fault of a document, by its index, of a text that is cut into these rows.
+pub(crate) fn document_fault(
+    text: &str,
+    rows: &Rows<'_>,
+    document: usize,
+    flaw: Flaw,
+) -> ReadFault {
+    match flaw.at {
+        Position::Byte(byte) => fault_at(flaw.kind, text, byte),
+        Position::Line(index) => ReadFault {
+            kind: flaw.kind,
+            line: text_line(rows, document, index),
+        },
     }
 }

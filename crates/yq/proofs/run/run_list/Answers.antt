@@ -55,7 +55,7 @@ commands-preserved g c =
                 let next = goes_on (content c.commands.store) (content c.execute-done.new.store) file name cmd one.0 done answer shown here one.2
                 (λ on. c.execute-done.ensures.arrives keeps file name apart on one.0 one.2)
                 (λ on. c.execute-done.ensures.output keeps file name on one.0 one.2)
-                quiet (c.execute-done.ensures.others keeps) told in (
+                quiet (c.execute-done.ensures.others keeps) (c.execute-done.ensures.still keeps) told in (
                   next.0,
                   subst (λ cs. Run file name h cs (now.0 ++ reply answer shown.printed ∷ []) next.0) (sym more)
                       (run_more file name h one.0 next.0 _ now.0 cmd (reply answer shown.printed) one.1 next.1),

@@ -1,10 +1,27 @@
-use Rattle.yq_tree.specs.Reading.{cut_of}
+use Rattle.std.proofs.Common.{ℕ, List}
+use Rattle.yq_tree.specs.Reading.{documents_of}
 use Rattle.yq_expr.specs.Operations.{operations_of}
-use Rattle.yq_expr.proofs.PlanLaws.{means_by, refused_by}
+use Rattle.yq_expr.specs.Rooms.{room_of}
+use Rattle.yq_expr.proofs.RoomLaws.{rooms_are_ready}
+use Rattle.yq_expr.proofs.updates.PlanAnswers.{answer_means, answer_fits, answer_refused, answer_refuses}
 use Rattle.yq_expr.proofs.planning.plan.Goals as goal
 
 pub returns-clause-meaning : goal.returns-clause-meaning
-returns-clause-meaning c = λ u e. means_by (λ v. operations_of v.items) c.planned.result u (cut_of c.args.documents.now) (c.planned.ensures u e)
+returns-clause-meaning c =
+    let t : List ℕ = c.args.documents.now in
+    λ u e. answer_means (λ v. operations_of v.items) u (room_of t) (documents_of t) c.planned.result (rooms_are_ready t c.are_ready.ensures) (c.planned.ensures u e)
+
+pub returns-clause-fits : goal.returns-clause-fits
+returns-clause-fits c =
+    let t : List ℕ = c.args.documents.now in
+    λ u e holds. answer_fits (λ v. operations_of v.items) u (room_of t) (documents_of t) c.planned.result (rooms_are_ready t c.are_ready.ensures) holds (c.planned.ensures u e)
 
 pub returns-clause-refused : goal.returns-clause-refused
-returns-clause-refused c = λ u why e r. refused_by (λ v. operations_of v.items) c.planned.result u (cut_of c.args.documents.now) why (c.planned.ensures u e) r
+returns-clause-refused c =
+    let t : List ℕ = c.args.documents.now in
+    λ u why e is. answer_refused (λ v. operations_of v.items) u (room_of t) (documents_of t) c.planned.result why (c.planned.ensures u e) is
+
+pub returns-clause-refuses : goal.returns-clause-refuses
+returns-clause-refuses c =
+    let t : List ℕ = c.args.documents.now in
+    λ u why e h. answer_refuses (λ v. operations_of v.items) u (room_of t) (documents_of t) c.planned.result why (c.planned.ensures u e) h

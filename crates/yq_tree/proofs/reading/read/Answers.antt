@@ -1,5 +1,6 @@
-use Rattle.std.proofs.Common.{◌∙◌}
+use Rattle.std.proofs.Common.{◌∙◌, sym, subst}
 use Rattle.yq_tree.specs.Reading.{cut_of}
+use Rattle.yq_tree.specs.Ready.{TextIsReady}
 use Rattle.yq_tree.proofs.ReadLaws.{read_as_text, read_takes, only_by, none_by}
 use Rattle.yq_tree.proofs.reading.read.Goals as goal
 
@@ -8,6 +9,12 @@ returns-in-Ok-read_text-clause-found c = read_takes c.args.bytes.now (cut_of c.i
 
 pub returns-in-Ok-read_text-clause-only : goal.returns-in-Ok-read_text-clause-only
 returns-in-Ok-read_text-clause-only c = only_by c.args.bytes.now (cut_of c.in-Ok-read_text.documents) (read_as_text c.args.bytes.now c.in-Ok.text.now _ c.in-Ok.ensures c.in-Ok-read_text.ensures.exact)
+
+pub returns-in-Ok-read_text-clause-ready : goal.returns-in-Ok-read_text-clause-ready
+returns-in-Ok-read_text-clause-ready c =
+    let read = read_as_text c.args.bytes.now c.in-Ok.text.now _ c.in-Ok.ensures c.in-Ok-read_text.ensures.exact in
+    let is = c.in-Ok-read_text.ensures.text ∙ c.in-Ok.ensures.1 in
+    subst TextIsReady (sym is) (c.documents_ready.ensures c.args.bytes.now _ (read_takes c.args.bytes.now (cut_of c.in-Ok-read_text.documents) read))
 
 pub returns-in-Ok-read_text-clause-text : goal.returns-in-Ok-read_text-clause-text
 returns-in-Ok-read_text-clause-text c = c.in-Ok-read_text.ensures.text ∙ c.in-Ok.ensures.1

@@ -1,14 +1,20 @@
-use Rattle.std.proofs.Common.{map, refl, sym, ap, ◌∙◌}
+use Rattle.std.proofs.Common.{map, option_map, refl, sym, ap, ◌∙◌}
 use Rattle.std.proofs.lemmas.Option.{slice_get_read}
 use Rattle.yq_inline.specs.Entries.{step_of}
-use Rattle.yq_tree.specs.EntryPlaces.{content_of, content_at}
-use Rattle.yq_tree.specs.EntryReading.{first_row}
+use Rattle.yq_tree.specs.declared.path.Part.TheVariants as parts
+use Rattle.yq_tree.specs.EntryReading.{content_of, first_row}
+use Rattle.yq_scalar.specs.Answers.{◌>>=◌}
+use Rattle.yq_tree.specs.Located.{steps_of}
+use Rattle.yq_tree.specs.Pieces.{piece_span}
+use Rattle.yq_tree.specs.PathPieces.{piece_in, piece_at}
 use Rattle.yq_tree.specs.Reading.{cut_of}
-use Rattle.yq_tree.proofs.EntryPlaceLaws.{first_within, held_in, held_none}
+use Rattle.yq_tree.proofs.EntryPlaceLaws.{first_within, held_in}
+use Rattle.yq_tree.proofs.PieceHolds.{no_document, spans_are}
 use Rattle.yq_tree.proofs.document.Documents.content_place.Goals as goal
 
 pub returns-in_err-first : goal.returns-in_err-first
-returns-in_err-first c = rw c.from_residual.ensures (held_none (cut_of c.args.self.now) c.args.path.now.doc (λ k cut rows. content_of k cut rows (map step_of c.args.path.now.steps.items)) c.in_err-first.ensures)
+returns-in_err-first c =
+    rw c.from_residual.ensures (sym (ap (λ o. option_map piece_span (o >>= piece_in parts.Content (steps_of c.args.path.now))) (no_document c.args.path.now.doc (cut_of c.args.self.now) c.in_err-first.ensures)))
 
 pub returns : goal.returns
 returns c =
@@ -18,4 +24,5 @@ returns c =
     (slice_get_read c.self.inside.documents.items _ c.args.path.now.doc c.index.result.now refl within c.index.ensures)
     first
     (λ u k p more cut is lines held there. c.content_of.ensures u k p more cut is lines held there ∙ ap (λ xs. content_of c.in_ok-first.first k p.rows (map step_of xs)) c.deref.ensures.value)
-    ∙ ap (λ t. content_at c.args.path.now (cut_of t)) c.self.view_is
+    ∙ (sym (spans_are c.self.inside.text.now (cut_of c.self.inside.text.now) c.args.path.now c.self.invariant.cut c.self.invariant.sound).0
+    ∙ ap (λ t. option_map piece_span (piece_at c.args.path.now parts.Content (cut_of t))) c.self.view_is)

@@ -1,6 +1,6 @@
 use Rattle.std.proofs.Common.{◌<◌, ◌+◌, suc, ◌≡◌, List, length, ap, ◌∙◌, arith}
 use Rattle.std.specs.List.{slice_get}
-use Rattle.yq_tree.specs.EntryPlaces.{lines_content}
+use Rattle.yq_tree.specs.EntryReading.{lines_content}
 use Rattle.yq_lines.specs.Ends.{lines_end}
 use Rattle.yq_tree.specs.Lines.{lines_of}
 use Rattle.yq_lines.specs.Outline.{Line}

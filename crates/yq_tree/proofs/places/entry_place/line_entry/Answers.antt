@@ -1,5 +1,5 @@
 use Rattle.std.proofs.Common.{◌-◌, ℕ, length, ap, ◌∙◌, arith}
-use Rattle.yq_tree.specs.EntryPlaces.{lines_place}
+use Rattle.yq_tree.specs.EntryReading.{lines_place}
 use Rattle.yq_lines.specs.Ends.{lines_end}
 use Rattle.yq_tree.proofs.places.entry_place.line_entry.Goals as goal
 

@@ -1,5 +1,5 @@
 use Rattle.std.proofs.Common.{◌≡◌, ◌+◌, length}
-use Rattle.yq_tree.specs.EntryPlaces.{less_break}
+use Rattle.yq_tree.specs.PrintedLines.{less_break}
 use Rattle.yq_tree.proofs.places.row_place.less_break_len.Given as goal
 
 abbrev pub decreases-each : goal.decreases-each

@@ -1,0 +1,177 @@
+-- Another inline node behind the anchor of what is written behind a mark.
+use Rattle.std.proofs.Common.{◌≡◌, inl, inr, ℕ, ℤ, ◌||◌, not, eqb, List, [], ◌∷◌, ◌++◌, Option, Some, None, Bool, true, false, refl, sym, ap, ◌∙◌, append_assoc}
+use Rattle.std.proofs.lemmas.Bool.{cond_both, false≢true, or_right}
+use Rattle.yq_scalar.specs.Text.{is_empty, no_white, unless, NoneIn}
+use Rattle.yq_inline.specs.Nodes.{Node, empty, alias, scalar, coll, anchored, node_text, items_text, open_of, first_is, in_name, begins_content, takes_anchor, is_bare, IsName, IsLead, IsNode}
+use Rattle.yq_inline.specs.Trees.{node_anchor, node_head}
+use Rattle.yq_inline.specs.Scalars.{IsScalar, begins_scalar}
+use Rattle.yq_inline.proofs.PieceLaws.{scalar_begins}
+use Rattle.yq_inline.proofs.WrittenLaws.{node_then}
+use Rattle.yq_rows.specs.Grammar.{IsContent, is_more}
+use Rattle.yq_rows.specs.Rows.{Content, Nothing, Inline, Block, content_text}
+use Rattle.yq_rows.proofs.Fronts.{node_starts}
+use Rattle.yq_tree.specs.Documents.{HasFitKeys}
+use Rattle.yq_tree.specs.InlinePlaces.{InlinePlace, node_inline, mark_inline}
+use Rattle.yq_tree.specs.RowPaths.{apart}
+use Rattle.yq_tree.proofs.PrintedTexts.{same, none_some}
+use Rattle.yq_change.specs.InlineRows.{place_text}
+
+-- a node in the place of another one, behind its anchor
+abbrev pub recore : Node → Node → Node
+recore core empty = core
+recore core (alias n) = core
+recore core (scalar p) = core
+recore core (coll k g is) = core
+recore core (anchored n g node) = anchored n (apart g node) (recore core node)
+
+-- a content with another node in the place of its own, behind its anchor, or behind a space where nothing is written
+abbrev pub put_core : Node → Content → Content
+put_core core (Nothing tail) = Inline (32 ∷ []) core tail
+put_core core (Inline space node tail) = Inline space (recore core node) tail
+put_core core (Block space anchor block) = Block space anchor block
+
+-- ---- what it spells
+
+pub core_head : (core node : Node) → node_head (recore core node) ≡ node_head core
+core_head core empty = refl
+core_head core (alias n) = refl
+core_head core (scalar p) = refl
+core_head core (coll k g is) = refl
+core_head core (anchored n g node) = core_head core node
+
+pub core_anchor : (core node : Node) → node_anchor core ≡ None → node_anchor (recore core node) ≡ node_anchor node
+core_anchor core empty h = h
+core_anchor core (alias n) h = h
+core_anchor core (scalar p) h = h
+core_anchor core (coll k g is) h = h
+core_anchor core (anchored n g node) h = refl
+
+pub core_keys : (core node : Node) → HasFitKeys core → HasFitKeys (recore core node)
+core_keys core empty h = h
+core_keys core (alias n) h = h
+core_keys core (scalar p) h = h
+core_keys core (coll k g is) h = h
+core_keys core (anchored n g node) h = core_keys core node h
+
+pub core_bare : (core node : Node) → is_bare core ≡ false → is_bare (recore core node) ≡ false
+core_bare core empty h = h
+core_bare core (alias n) h = h
+core_bare core (scalar p) h = h
+core_bare core (coll k g is) h = h
+core_bare core (anchored n g node) h = refl
+
+pub core_more : (core node : Node) → is_more core ≡ true → is_bare core ≡ false → is_more (recore core node) ≡ true
+core_more core empty h b = h
+core_more core (alias n) h b = h
+core_more core (scalar p) h b = h
+core_more core (coll k g is) h b = h
+core_more core (anchored n g node) h b = ap not (core_bare core node b)
+
+-- ---- it is a node
+
+-- a node that is no anchor begins as content, and may stand behind an anchor, if it is no alias
+scalar_content_begins : (spaces : Option ℕ) (p rest : List ℕ) → IsScalar false spaces p rest → begins_content false (p ++ rest) ≡ true
+scalar_content_begins spaces p rest h =
+    let t = p ++ rest in or_right (first_is 42 t) _ (or_right (first_is 91 t) _ (or_right (first_is 123 t) (begins_scalar false t) (scalar_begins false spaces p rest h)))
+
+begins : (spaces : Option ℕ) (d : ℕ) (core : Node) (rest : List ℕ) → node_anchor core ≡ None → is_bare core ≡ false → IsNode false spaces d core rest → begins_content false (node_text core rest) ≡ true
+unfolding IsNode node_text
+begins spaces d empty rest u b h = absurd (false≢true (sym b))
+begins spaces d (alias n) rest u b h = refl
+begins spaces d (scalar p) rest u b h = scalar_content_begins spaces p rest h
+begins spaces d (coll k g is) rest u b h =
+    cond_both (eqb k 125) 123 91 (λ o. begins_content false (o ∷ (g ++ items_text k is rest)) ≡ true) (λ _. refl) (λ _. refl)
+begins spaces d (anchored n g node) rest u b h = absurd (cc)
+
+no_empty_gap : (g : List ℕ) → (false || not (is_empty g)) ≡ true → is_empty g ≡ false
+no_empty_gap [] h = absurd (cc)
+no_empty_gap (b ∷ g) h = refl
+
+none_again : (q : ℕ → Bool) (p t u : List ℕ) → NoneIn (unless q) p t → NoneIn (unless q) p u
+none_again q [] t u h = tt
+none_again q (b ∷ p) t u h = (h.0, none_again q p t u h.1)
+
+name_space : (n t u : List ℕ) → IsName n t → IsName n (32 ∷ u)
+name_space n t u h = record { some = h.some; inside = none_again in_name n t (32 ∷ u) h.inside; ends = refl }
+
+front_again : (q : ℕ → Bool) (g t u : List ℕ) → is_empty g ≡ false → unless q (g ++ t) ≡ true → unless q (g ++ u) ≡ true
+front_again q [] t u some h = absurd (cc)
+front_again q (b ∷ g) t u some h = h
+
+name_again : (n g t u : List ℕ) → is_empty g ≡ false → IsName n (g ++ t) → IsName n (g ++ u)
+name_again n g t u some h = record { some = h.some; inside = none_again in_name n (g ++ t) (g ++ u) h.inside; ends = front_again in_name g t u some h.ends }
+
+gap_some : (g : List ℕ) → is_empty g ≡ false → g ≡ [] → ⊥
+gap_some [] some e = cc
+gap_some (b ∷ g) some e = cc
+
+module _ (spaces : Option ℕ) (d : ℕ) (core : Node) (rest : List ℕ) (unnamed : node_anchor core ≡ None) (some : is_bare core ≡ false) (takes : takes_anchor core ≡ true) (stands : IsNode false spaces d core rest) where
+  starts : no_white (node_text core rest) ≡ true
+  starts = (node_starts (node_text core rest) (or_right (first_is 38 (node_text core rest)) (begins_content false (node_text core rest)) (begins spaces d core rest unnamed some stands))).no_white
+
+  lead_again : (g t : List ℕ) → is_empty g ≡ false → IsLead false (begins_content false) g t → IsLead false (begins_content false) g (node_text core rest)
+  lead_again g t gap (inl h) = inl ((none_again _ g t (node_text core rest) h.0.0, starts), begins spaces d core rest unnamed some stands)
+  lead_again g t gap (inr h) = absurd (gap_some g gap h.0)
+
+  behind : (n g : List ℕ) (old : Node) (t : List ℕ) → is_bare old ≡ false → IsName n (g ++ t) → IsLead false (begins_content false) g t → (is_bare old || not (is_empty g)) ≡ true → IsNode false spaces d (anchored n g core) rest
+  unfolding IsNode node_text
+  behind n g old t full name lead apart_is =
+      let gap : is_empty g ≡ false = no_empty_gap g (ap (λ b. b || not (is_empty g)) (sym full) ∙ apart_is) in
+      (name_again n g t (node_text core rest) gap name, lead_again g t gap lead, or_right (is_bare core) (not (is_empty g)) (ap not gap), takes, stands)
+
+pub core_node : (spaces : Option ℕ) (d : ℕ) (core : Node) (rest : List ℕ) → node_anchor core ≡ None → is_bare core ≡ false → takes_anchor core ≡ true → IsNode false spaces d core rest →
+    (node : Node) → IsNode false spaces d node rest → IsNode false spaces d (recore core node) rest
+unfolding IsNode node_text
+core_node spaces d core rest u b a s empty h = s
+core_node spaces d core rest u b a s (alias n) h = s
+core_node spaces d core rest u b a s (scalar p) h = s
+core_node spaces d core rest u b a s (coll k g is) h = s
+core_node spaces d core rest u b a s (anchored n g empty) h =
+    (name_space n (g ++ rest) (node_text core rest) h.0, inl (((refl, tt), starts spaces d core rest u b a s), begins spaces d core rest u b s), or_right (is_bare core) true refl, a, s)
+core_node spaces d core rest u b a s (anchored n g (alias m)) h = absurd (false≢true h.3)
+core_node spaces d core rest u b a s (anchored n g (scalar p)) h = behind spaces d core rest u b a s n g (scalar p) (p ++ rest) refl h.0 h.1 h.2
+core_node spaces d core rest u b a s (anchored n g (coll k x is)) h = behind spaces d core rest u b a s n g (coll k x is) (open_of k ∷ (x ++ items_text k is rest)) refl h.0 h.1 h.2
+core_node spaces d core rest u b a s (anchored n g (anchored m x node)) h = absurd (false≢true h.3)
+
+-- ---- its text
+
+empty_gap : (g rest : List ℕ) → IsLead false (begins_content false) g rest → begins_content false rest ≡ false → g ≡ []
+empty_gap g rest (inl h) none = absurd (false≢true (sym none ∙ h.1))
+empty_gap g rest (inr h) none = h.0
+
+deep_text : (alone : Bool) (before : List ℕ) (core node : Node) (rest : List ℕ) → takes_anchor node ≡ true → is_bare node ≡ false → before ++ node_text core rest ≡ place_text (node_inline alone before node rest) (node_text core [])
+deep_text alone before core empty rest t b = absurd (false≢true (sym b))
+deep_text alone before core (alias n) rest t b = absurd (false≢true t)
+deep_text alone before core (scalar p) rest t b = ap (λ l. before ++ l) (node_then core rest)
+deep_text alone before core (coll k g is) rest t b = ap (λ l. before ++ l) (node_then core rest)
+deep_text alone before core (anchored n g node) rest t b = absurd (false≢true t)
+
+regroup : (before n g x : List ℕ) → before ++ (38 ∷ (n ++ (g ++ x))) ≡ (before ++ 38 ∷ (n ++ g)) ++ x
+regroup before n g x = simp append_assoc refl
+
+pub core_text : (alone : Bool) (before : List ℕ) (core node : Node) (spaces : Option ℕ) (d : ℕ) (rest : List ℕ) → is_bare node ≡ false → IsNode false spaces d node rest →
+    before ++ node_text (recore core node) rest ≡ place_text (node_inline alone before node rest) (node_text core [])
+unfolding IsNode node_text
+core_text alone before core empty spaces d rest b h = absurd (false≢true (sym b))
+core_text alone before core (alias n) spaces d rest b h = ap (λ l. before ++ l) (node_then core rest)
+core_text alone before core (scalar p) spaces d rest b h = ap (λ l. before ++ l) (node_then core rest)
+core_text alone before core (coll k g is) spaces d rest b h = ap (λ l. before ++ l) (node_then core rest)
+core_text alone before core (anchored n g empty) spaces d rest b h =
+    let none : g ≡ [] = empty_gap g rest h.1 h.4.0 in
+    regroup before n [] (32 ∷ node_text core rest) ∙ (λ i. (before ++ 38 ∷ (n ++ sym none i)) ++ (32 ∷ node_then core rest i))
+core_text alone before core (anchored n g (alias m)) spaces d rest b h = absurd (false≢true h.3)
+core_text alone before core (anchored n g (scalar p)) spaces d rest b h = regroup before n g (node_text core rest) ∙ deep_text alone (before ++ 38 ∷ (n ++ g)) core (scalar p) rest refl refl
+core_text alone before core (anchored n g (coll k x is)) spaces d rest b h = regroup before n g (node_text core rest) ∙ deep_text alone (before ++ 38 ∷ (n ++ g)) core (coll k x is) rest refl refl
+core_text alone before core (anchored n g (anchored m x node)) spaces d rest b h = absurd (false≢true h.3)
+
+pub content_text_is : (alone : Bool) (before : List ℕ) (core : Node) (n : ℤ) (x : Content) (rest : List ℕ) (w : InlinePlace) → IsContent n x rest → mark_inline alone before x rest ≡ Some w →
+    before ++ content_text (put_core core x) rest ≡ place_text w (node_text core [])
+content_text_is alone before core n (Nothing tail) rest w h e = ap (λ l. before ++ (32 ∷ l)) (node_then core (tail ++ rest)) ∙ ap (λ (y : InlinePlace). place_text y (node_text core [])) (same e)
+content_text_is alone before core n (Inline space node tail) rest w h e =
+    sym (append_assoc before space (node_text (recore core node) (tail ++ rest)))
+    ∙ (core_text alone (before ++ space) core node _ _ (tail ++ rest) (not_false (is_bare node) h.1.something) h.1.valid ∙ ap (λ (y : InlinePlace). place_text y (node_text core [])) (same e))
+  where
+    not_false : (b : Bool) → not b ≡ true → b ≡ false
+    not_false false h = refl
+    not_false true h = absurd (false≢true h)
+content_text_is alone before core n (Block space anchor block) rest w h e = absurd (none_some e)

@@ -1,0 +1,257 @@
+-- The first item or entry of a compact collection taken out of a text.
+use Rattle.std.proofs.Common.{◌≡◌, ℕ, ◌+◌, ◌<◌, ◌≤◌, Bool, true, false, cond, not, ◌||◌, List, [], ◌∷◌, ◌++◌, length, replicate, take, drop, Option, Some, None, refl, sym, ap, ◌∙◌, subst, arith, append_assoc}
+use Rattle.std.proofs.Math.Seq.{take-append_seam}
+use Rattle.std.proofs.lemmas.List.{take-append-drop, length-take-le}
+use Rattle.std.proofs.lemmas.Str.{IsUtf8-take, is_utf8-from_IsUtf8}
+use Rattle.std.specs.Str.{IsUtf8}
+use Rattle.yq_scalar.specs.Answers.{◌>>=◌}
+use Rattle.yq_scalar.specs.Characters.{text_limit}
+use Rattle.yq_scalar.specs.Paths.{Step, change, remove_child, within}
+use Rattle.yq_scalar.specs.Text.{cut, cut_line, no_space}
+use Rattle.yq_scalar.proofs.Bools.{guard_then}
+use Rattle.yq_lines.specs.Anchors.{names_of}
+use Rattle.yq_lines.specs.Ends.{line_of}
+use Rattle.yq_lines.specs.Group.{group, level_or, is_fine}
+use Rattle.yq_lines.specs.Places.{plug, content}
+use Rattle.yq_rows.specs.Exchange.{asked_behind}
+use Rattle.yq_rows.specs.Grammar.{unlimited, AreRows, limit_after}
+use Rattle.yq_rows.specs.Rows.{Row, behind_columns, behind_indent, rows_text, Part, Cut, cut_text}
+use Rattle.yq_rows.proofs.NodePieces.{BeginsAscii, before_ascii}
+use Rattle.yq_tree.specs.declared.path.Part.TheVariants.{Entry}
+use Rattle.yq_tree.specs.Documents.{begins_bare, has_begin, document_parts, lead_of}
+use Rattle.yq_tree.specs.FirstPlaces.{begins_gap, less_spaces, end_spaces, FirstOut, first_out}
+use Rattle.yq_tree.specs.Lines.{lines_from, lines_of}
+use Rattle.yq_tree.specs.PathPieces.{PrintedDocument, piece_in}
+use Rattle.yq_tree.specs.Reading.{outline_of, read_at, root_of}
+use Rattle.yq_tree.specs.RowPaths.{IsReadable}
+use Rattle.yq_tree.specs.Seats.{Seat, seat}
+use Rattle.yq_tree.proofs.FoundLines.{each}
+use Rattle.yq_tree.proofs.ReadLaws.{text_takes}
+use Rattle.yq_tree.proofs.RowPathLaws.{document_fine}
+use Rattle.yq_change.specs.Appends.{inserted}
+use Rattle.yq_change.specs.Changed.{IsChanged, put_document}
+use Rattle.yq_change.specs.Conditions.{AreSpared}
+use Rattle.yq_change.specs.DocumentRows.{IsDocumentPart, Known, behind_document}
+use Rattle.yq_change.specs.Moved.{emptied, moved_up}
+use Rattle.yq_change.specs.PathRows.{IsEntryLine}
+use Rattle.yq_change.specs.RemovalChanges.{IsTakenOut, MayTakeOut, FirstTakenOut}
+use Rattle.yq_change.specs.Siblings.{HasEntries}
+use Rattle.yq_change.specs.TextPieces.{IsPiece}
+use Rattle.yq_change.proofs.AfterLaws.{end_is_change}
+use Rattle.yq_change.proofs.FirstBreakLaws.{break_ascii, break_cut}
+use Rattle.yq_change.proofs.FirstChangeLaws.{dash_front, dash_less, dashes_front, dropped_changed, dropped_text, front_text, inserted_text, moved_changed, moved_text, NoGap, no_gap}
+use Rattle.yq_change.proofs.FirstEntryLaws.{FirstRows, first_rows}
+use Rattle.yq_change.proofs.FirstLineLaws.{ascii_break, dash_first, dashes_first, entries_first, first_stays, last_dash}
+use Rattle.yq_change.proofs.FirstOutLaws.{IsFirstOut, out_is, piece_stands}
+use Rattle.yq_change.proofs.FirstReplaceLaws.{rows_after}
+use Rattle.yq_change.proofs.FirstTextLaws.{FirstText, first_text}
+use Rattle.yq_change.proofs.OwnRowLaws.{lines_counted}
+use Rattle.yq_change.proofs.PartLaws.{document_known, gap_stays, part_rows}
+use Rattle.yq_change.proofs.PathLaws.{path_is_entry}
+use Rattle.yq_change.proofs.PlaceTextLaws.{IsAround, around}
+use Rattle.yq_change.proofs.RemovalChangeLaws.{snoc, may_go, FirstEntry, first_group, group_begins, keeps, root_entries}
+use Rattle.yq_change.proofs.RemovalPieceLaws.{piece_back, spaces_piece}
+use Rattle.yq_change.proofs.TextPieceLaws.{cut_behind, pieces_joined, text_is_piece}
+
+module _ (c : Cut) (k : ℕ) (y : Step) (ys ss : List Step) (s : Step) (x : FirstOut) (same : y ∷ ys ≡ ss ++ (s ∷ [])) (read : read_at (cut_text c) ≡ Some c) (e : IsFirstOut c k (y ∷ ys) x)
+    (may : MayTakeOut c k (ss ++ (s ∷ []))) (size : length (x.before ++ x.behind) ≤ text_limit) where
+  abbrev t : List ℕ
+  t = cut_text c
+
+  abbrev p : Part
+  p = e.part
+
+  abbrev q : Seat
+  q = e.seat
+
+  abbrev r : Row
+  r = q.row
+
+  abbrev m : ℕ
+  m = level_or 0 (outline_of p)
+
+  abbrev rest : List ℕ
+  rest = behind_document k c
+
+  abbrev ns : List ℕ
+  ns = take q.line r.dashes
+
+  abbrev es : List ℕ
+  es = drop q.line r.dashes
+
+  old : IsDocumentPart t c k p
+  old = record { read = read; there = e.there }
+
+  known : Known t c p
+  known = document_known t c k p old
+
+  w : IsEntryLine ss s (outline_of p) e.number
+  w = path_is_entry p m ss s e.number known.even (subst (λ (zs : List Step). line_of zs (lines_of p.rows) ≡ Some e.number) same e.line)
+
+  go : HasEntries (plug w.f.place w.f.after) × AreSpared (names_of (content w.f.line w.f.under)) [] (names_of (root_of p))
+  go = may_go t c k p ss s w.h w.f old w.entry may
+
+  fr : FirstRows p w.h w.f q
+  fr = first_rows p m ss s w.h w.f q known.even w.entry (subst (λ (j : ℕ). seat j p.rows ≡ Some q) w.number e.seat_is) e.later go.0
+
+  a : IsAround (begins_bare c || not (has_begin c)) k c p
+  a = around (begins_bare c || not (has_begin c)) k c p e.there
+
+  fine : is_fine (group (lines_of p.rows)) ≡ true
+  unfolding read_at
+  fine = document_fine p (each (document_parts c) (text_takes t c (guard_then _ read).1).1 k p e.there)
+
+  are : AreRows unlimited p.rows p.end rest
+  are = part_rows t c k p old known.cut
+
+  abbrev z : List ℕ
+  z = p.end ++ rest
+
+  abbrev next : List ℕ
+  next = rows_text (fr.next ∷ fr.back) z
+
+  ft : FirstText a.start z q fr.front (fr.next ∷ fr.back) e.piece
+  ft =
+      first_text p a.start rest w.h w.f q fr e.later e.number w.number e.seat_is (lines_counted p m ss s w.h w.f known.even w.entry e.number w.number) fine are y ys e.piece e.line
+      (ap (λ (o : Option PrintedDocument). o >>= piece_in Entry (y ∷ ys)) (sym a.printed) ∙ e.is)
+
+  ns_some : 0 < length ns
+  ns_some = omega (arith, length-take-le q.line r.dashes fr.within, e.later)
+
+  dash : (init : List ℕ) × (n : ℕ) × (ns ≡ init ++ (n ∷ []))
+  dash = last_dash ns ns_some
+
+  -- the text up to the dash
+  abbrev upto_dash : List ℕ
+  upto_dash = a.start ++ rows_text fr.front (dashes_front r dash.0)
+
+  before_is : e.piece.before ≡ upto_dash ++ (45 ∷ replicate dash.1 32)
+  before_is =
+      ft.before
+      ∙ (ap (λ ds. a.start ++ rows_text fr.front (dashes_front r ds)) dash.2
+      ∙ (ap (λ (u : List ℕ). a.start ++ rows_text fr.front u) (dash_front r dash.0 dash.1) ∙ front_text a.start fr.front (dashes_front r dash.0) (45 ∷ replicate dash.1 32)))
+
+  whole : t ≡ e.piece.before ++ (e.piece.text ++ e.piece.behind)
+  whole = piece_stands c k (y ∷ ys) x e
+
+  dash_piece : IsPiece (upto_dash ++ (45 ∷ []))
+  dash_piece =
+      let more : List ℕ = replicate dash.1 32 ++ (e.piece.text ++ e.piece.behind) in
+      let text : t ≡ (upto_dash ++ (45 ∷ [])) ++ more =
+      whole ∙ (ap (λ (u : List ℕ). u ++ (e.piece.text ++ e.piece.behind)) before_is
+      ∙ (append_assoc upto_dash (45 ∷ replicate dash.1 32) (e.piece.text ++ e.piece.behind) ∙ sym (append_assoc upto_dash (45 ∷ []) more))) in
+      (cut_behind (upto_dash ++ (45 ∷ [])) more (subst IsPiece text (text_is_piece c read)) (record { front = upto_dash; last = 45; is = refl; ascii = omega arith })
+      (record { front = upto_dash; last = 45; is = refl; no_return = refl })).0
+
+  before_piece : IsPiece e.piece.before
+  before_piece = subst IsPiece (append_assoc upto_dash (45 ∷ []) (replicate dash.1 32) ∙ sym before_is) (pieces_joined (upto_dash ++ (45 ∷ [])) (replicate dash.1 32) dash_piece (spaces_piece dash.1))
+
+  behind_piece : IsPiece e.piece.behind
+  behind_piece =
+      let above : List ℕ = e.piece.before ++ e.piece.text in
+      let all : IsPiece (above ++ e.piece.behind) = subst IsPiece (whole ∙ sym (append_assoc e.piece.before e.piece.text e.piece.behind)) (text_is_piece c read) in
+      let begins : BeginsAscii e.piece.behind = subst BeginsAscii (sym ft.behind) (break_ascii ft.break next ft.one) in
+      piece_back above e.piece.behind (subst IsUtf8 (take-append_seam above e.piece.behind)
+      (IsUtf8-take (above ++ e.piece.behind) (length above) all.utf8 (before_ascii above e.piece.behind begins))) all
+
+  readable : (new u : List ℕ) → new ≡ u → IsPiece u → length u ≤ text_limit → IsReadable new
+  readable new u is piece less = record {
+    utf8 = is_utf8-from_IsUtf8 new (subst IsUtf8 (sym is) piece.utf8);
+    characters = (subst IsPiece (sym is) piece).characters;
+    size = subst (λ (v : List ℕ). length v ≤ text_limit) (sym is) less;
+  }
+
+  -- a row in the place of others
+  taken : (new : Row) (back : List Row) (u : List ℕ) → cut_text (put_document k (inserted fr.front (new ∷ []) back p) c) ≡ u → FirstEntry (lines_of (new ∷ back)) →
+      IsChanged c (put_document k (inserted fr.front (new ∷ []) back p) c) k (lead_of (inserted fr.front (new ∷ []) back p)) (change ss (within (remove_child s))) → IsTakenOut c k (ss ++ (s ∷ [])) u
+  taken new back u text first changed =
+      let n : Part = inserted fr.front (new ∷ []) back p in
+      let block : HasEntries (outline_of p) = root_entries ss (outline_of p) w.h w.entry.place_is w.entry.block in
+      let old_first : FirstEntry (lines_of (fr.front ++ (r ∷ (fr.gone ++ (fr.next ∷ fr.back))))) =
+      subst (λ (rs : List Row). FirstEntry (lines_of rs)) fr.rows_are (entries_first (lines_of p.rows) block) in
+      let new_first : FirstEntry (lines_of n.rows) =
+      subst (λ (rs : List Row). FirstEntry (lines_of (fr.front ++ (new ∷ rs)))) (sym (gap_stays back p.end))
+      (first_stays fr.front (r ∷ (fr.gone ++ (fr.next ∷ fr.back))) (new ∷ back) old_first first) in
+      record {
+        old = p;
+        new = n;
+        there = e.there;
+        rows = keeps p n new_first;
+        text = text;
+        changed = subst (IsChanged c (put_document k n c) k (lead_of n)) (λ i v. sym (end_is_change remove_child ss s v) i) changed;
+        old_block = group_begins (lines_of p.rows) block;
+        new_block = group_begins (lines_of n.rows) (first_group (lines_of n.rows) new_first);
+        new_entries = first_group (lines_of n.rows) new_first;
+      }
+
+  dropped : length (less_spaces e.piece.before ++ e.piece.behind) ≤ text_limit → IsTakenOut c k (ss ++ (s ∷ [])) (less_spaces e.piece.before ++ e.piece.behind)
+  dropped less =
+      let new : Row = emptied r dash.0 ft.break in
+      let back : List Row = fr.next ∷ fr.back in
+      let front : less_spaces e.piece.before ≡ upto_dash ++ (45 ∷ []) = ap less_spaces before_is ∙ dash_less upto_dash dash.1 in
+      let text : cut_text (put_document k (inserted fr.front (new ∷ []) back p) c) ≡ less_spaces e.piece.before ++ e.piece.behind =
+      a.put (inserted fr.front (new ∷ []) back p)
+      ∙ (ap (λ (u : List ℕ). a.start ++ u) (inserted_text fr.front back new p rest ∙ ap (rows_text fr.front) (dropped_text r dash.0 ft.break next))
+      ∙ (front_text a.start fr.front (dashes_front r dash.0) (45 ∷ (ft.break ++ next)) ∙ (sym (append_assoc upto_dash (45 ∷ []) (ft.break ++ next)) ∙ (λ i. sym front i ++ sym ft.behind i)))) in
+      let piece : IsPiece (less_spaces e.piece.before ++ e.piece.behind) = pieces_joined (less_spaces e.piece.before) e.piece.behind (subst IsPiece (sym front) dash_piece) behind_piece in
+      taken new back _ text (dash_first _ r.column dash.0 new.content (lines_of back))
+      (dropped_changed t c k p ss s w.h w.f old w.entry go.0 go.1 fr.front fr.gone back r dash.0 es ft.break dash.1 fr.rows_are
+      (sym (take-append-drop q.line r.dashes) ∙ ap (λ ds. ds ++ es) dash.2) ft.one
+      (record {
+        before_are = ap (λ ds. length (lines_of fr.front) + length ds) (sym dash.2) ∙ fr.before;
+        size_is = ap (λ ds. length (lines_from [] (behind_columns r.column ds) es r.mark r.content ++ lines_of fr.gone)) (sym dash.2) ∙ fr.size;
+      })
+      (readable _ _ text piece less))
+
+  moved : begins_gap next ≡ false → length (e.piece.before ++ (cut no_space next).1) ≤ text_limit → IsTakenOut c k (ss ++ (s ∷ [])) (e.piece.before ++ (cut no_space next).1)
+  moved none less =
+      let b : Row = fr.next in
+      let new : Row = moved_up r ns b in
+      let u : List ℕ = rows_text fr.back z in
+      let behind = rows_after unlimited fr.front (r ∷ (fr.gone ++ (b ∷ fr.back))) p.end rest (subst (λ (rs : List Row). AreRows unlimited rs p.end rest) fr.rows_are are) in
+      let own = rows_after (limit_after r) fr.gone (b ∷ fr.back) p.end rest behind.1 in
+      let g : NoGap b u = no_gap (asked_behind (limit_after r) fr.gone) b u own.0 none in
+      let after : (cut no_space next).1 ≡ behind_indent b u = ap (λ (v : List ℕ × List ℕ). v.1) g.indent in
+      let text : cut_text (put_document k (inserted fr.front (new ∷ []) fr.back p) c) ≡ e.piece.before ++ (cut no_space next).1 =
+      a.put (inserted fr.front (new ∷ []) fr.back p)
+      ∙ (ap (λ (v : List ℕ). a.start ++ v) (inserted_text fr.front fr.back new p rest ∙ ap (rows_text fr.front) (moved_text r b ns u))
+      ∙ (front_text a.start fr.front (dashes_front r ns) (behind_indent b u) ∙ (λ i. sym ft.before i ++ sym after i))) in
+      let lines : IsPiece next = piece_back ft.break next (ascii_break ft.break ft.one) (subst IsPiece ft.behind behind_piece) in
+      let indented : IsPiece (replicate b.column 32 ++ behind_indent b u) = subst (λ (v : List ℕ). IsPiece (v ++ (replicate b.column 32 ++ behind_indent b u))) g.gap lines in
+      let piece : IsPiece (e.piece.before ++ (cut no_space next).1) =
+      pieces_joined e.piece.before (cut no_space next).1 before_piece (subst IsPiece (sym after) (piece_back (replicate b.column 32) (behind_indent b u) (spaces_piece b.column).utf8 indented)) in
+      taken new fr.back _ text (dashes_first _ r.column ns b.dashes b.mark b.content (lines_of fr.back) ns_some)
+      (moved_changed t c k p ss s w.h w.f old w.entry go.0 go.1 fr.front fr.gone fr.back r b ns es fr.rows_are
+      (record { dashes = sym (take-append-drop q.line r.dashes); some = ns_some; column = fr.column; entry = fr.entry }) g.gap (record { before_are = fr.before; size_is = fr.size })
+      (readable _ _ text piece less))
+
+  -- what is taken out, by whether a gap stands before the next row
+  abbrev either : Bool → FirstOut
+  either b = cond b (record { before = less_spaces e.piece.before; space = end_spaces e.piece.before; entry = e.piece.text; break = []; indent = []; behind = e.piece.behind })
+      (record { before = e.piece.before; space = []; entry = e.piece.text; break = ft.break; indent = (cut no_space next).0; behind = (cut no_space next).1 })
+
+  out_as : first_out e.piece ≡ either (begins_gap next)
+  out_as =
+      ap (λ (l : List ℕ × List ℕ). cond (begins_gap l.1) (record { before = less_spaces e.piece.before; space = end_spaces e.piece.before; entry = e.piece.text; break = []; indent = []; behind = e.piece.behind })
+      (record { before = e.piece.before; space = []; entry = e.piece.text; break = l.0; indent = (cut no_space l.1).0; behind = (cut no_space l.1).1 }))
+      (ap cut_line ft.behind ∙ break_cut ft.break next ft.one)
+
+  left_is : (b : Bool) → begins_gap next ≡ b → (either b).before ++ (either b).behind ≡ x.before ++ x.behind
+  left_is b is = sym (ap (λ (o : FirstOut). o.before ++ o.behind) (sym e.out ∙ (out_as ∙ ap either is)))
+
+  by_gap : (b : Bool) → begins_gap next ≡ b → IsTakenOut c k (ss ++ (s ∷ [])) (x.before ++ x.behind)
+  by_gap true is = subst (IsTakenOut c k (ss ++ (s ∷ []))) (left_is true is) (dropped (subst (λ (v : List ℕ). length v ≤ text_limit) (sym (left_is true is)) size))
+  by_gap false is = subst (IsTakenOut c k (ss ++ (s ∷ []))) (left_is false is) (moved is (subst (λ (v : List ℕ). length v ≤ text_limit) (sym (left_is false is)) size))
+
+  pub first_taken : IsTakenOut c k (ss ++ (s ∷ [])) (x.before ++ x.behind)
+  first_taken = by_gap (begins_gap next) refl
+
+pub first_taken_out : FirstTakenOut
+first_taken_out c k steps x read e may size = go steps refl (out_is c k steps x e)
+  where
+    go : (ts : List Step) → steps ≡ ts → IsFirstOut c k steps x → IsTakenOut c k steps (x.before ++ x.behind)
+    go [] is h = absurd (let none : None ≡ Some h.number = ap (λ (ts : List Step). line_of ts (lines_of h.part.rows)) (sym is) ∙ h.line in cc)
+    go (y ∷ ys) is h =
+        let v = snoc y ys in
+        subst (λ (zs : List Step). IsTakenOut c k zs (x.before ++ x.behind)) (sym (is ∙ v.2))
+        (first_taken c k y ys v.0 v.1 x v.2 read (subst (λ (zs : List Step). IsFirstOut c k zs x) is h) (subst (MayTakeOut c k) (is ∙ v.2) may) size)

@@ -1,0 +1,198 @@
+-- The line in whose head a node at a path stands, and a document in which that line has another head.
+use Rattle.std.proofs.Common.{◌≡◌, ◌⊎◌, inl, inr, ℕ, suc, ◌+◌, ◌<◌, List, [], ◌∷◌, ◌++◌, Option, Some, None, option_map, option_and_then, refl, sym, ap, ◌∙◌, subst, arith}
+use Rattle.std.specs.Prelude.{is_some}
+use Rattle.yq_scalar.specs.Answers.{◌>>=◌}
+use Rattle.yq_scalar.specs.Paths.{Step, change, within}
+use Rattle.yq_scalar.specs.Tree.{Node, Children, none, child}
+use Rattle.yq_lines.specs.Anchors.{IsFree, HaveOneAnchorEach}
+use Rattle.yq_lines.specs.Group.{level_or}
+use Rattle.yq_lines.specs.Laws.{with_lines}
+use Rattle.yq_lines.specs.Outline.{Mark, Bare, Key, Dash, Line, level, Outline, end, row, flatten, IsWhole, IsEven, anchored, head_or, label, collection, value}
+use Rattle.yq_lines.specs.Places.{here, below, compose, lines_before, lines_after, plug, Found, find, in_head, inside, content}
+use Rattle.yq_lines.specs.Spots.{is_bare}
+use Rattle.yq_lines.proofs.Finding.{IsFoundIn, path_whole}
+use Rattle.yq_lines.proofs.PlaceLaws.{at, placed}
+use Rattle.yq_lines.proofs.Plug.{plug-compose}
+use Rattle.yq_lines.proofs.Values.{anchored-within}
+use Rattle.yq_rows.specs.Rows.{Part, Cut}
+use Rattle.yq_tree.specs.Documents.{lead_of}
+use Rattle.yq_tree.specs.FlowNodes.{bare_line, head_line, find_head}
+use Rattle.yq_tree.specs.Lines.{lines_of}
+use Rattle.yq_tree.specs.Reading.{outline_of, root_of}
+use Rattle.yq_tree.proofs.FlowPlaceLaws.{TakesSteps, Takes, takes_left}
+use Rattle.yq_change.specs.Changed.{IsChanged, put_document}
+use Rattle.yq_change.specs.Conditions.{last_anchor}
+use Rattle.yq_change.specs.Edited.{IsPut}
+use Rattle.yq_change.specs.FlowChanges.{with_head}
+use Rattle.yq_change.specs.Siblings.{NodeLines, under_line, lines_below, lines_at, put_lines}
+use Rattle.yq_change.specs.SoundRoots.{IsSoundRoot}
+use Rattle.yq_change.proofs.AnchorLaws.{lines_among}
+use Rattle.yq_change.proofs.EditedLaws.{known, lines_exchanged, lead_from, led_as}
+use Rattle.yq_change.proofs.FlowChangeLaws.{NoNewAlias, changed_head, free_before, other_head, none_under}
+use Rattle.yq_change.proofs.NodeLineLaws.{low_level, under_even}
+
+-- The line is that of an item or entry, or steps go on in its head.
+record InEntry (steps : List Step) (o : Outline) (f : Found) (rest : List Step) : Type 0 where
+  first : Step
+  others : List Step
+  steps_are : steps ≡ first ∷ others
+  found : find first others o ≡ Some (f, rest)
+  takes : TakesSteps f.line
+
+-- The line is that of a node itself, to which the steps lead.
+record OnLine (steps : List Step) (o : Outline) (f : Found) (rest : List Step) : Type 0 where
+  lines : NodeLines
+  is : lines_at steps o ≡ Some lines
+  left : rest ≡ []
+  outline : lines.lines ≡ row f.line f.under f.after
+  even : (m : ℕ) × (lines.above < m) × IsEven m lines.lines
+  put : f.after ≡ end → (ls : List Line) → with_lines f ls ≡ put_lines lines ls
+  bare : f.line.mark ≡ Bare
+  whole : plug f.place (row f.line f.under f.after) ≡ o
+
+pair_same : {x y : Found × List Step} → Some x ≡ Some y → x ≡ y
+pair_same e = cc
+
+no_pair : {x : Found × List Step} → None ≡ Some x → ⊥
+no_pair e = cc
+
+abbrev Cases : List Step → Outline → Found → List Step → Type 0
+Cases steps o f rest = InEntry steps o f rest ⊎ OnLine steps o f rest
+
+root_line : (n : ℕ) (l : Line) (u a : Outline) (f : Found) (rest : List Step) → IsEven n (row l u a) → find_head [] (row l u a) ≡ Some (f, rest) → Cases [] (row l u a) f rest
+root_line n l u a f rest even e = go l.mark refl e
+  where
+    go : (m : Mark) → l.mark ≡ m → option_map {U = Found × List Step} (λ g. (g, [])) (Rattle.std.proofs.Common.cond (is_bare m) (Some (record { place = here; line = l; under = u; after = a })) None) ≡ Some (f, rest) → Cases [] (row l u a) f rest
+    go (Key k) is e = absurd (no_pair e)
+    go Dash is e = absurd (no_pair e)
+    go Bare is e = inr (subst (λ (x : Found × List Step). OnLine [] (row l u a) x.0 x.1) (pair_same e) (record {
+      lines = record { place = here; above = 0; anchor = None; lines = row l u a };
+      is = refl;
+      left = refl;
+      outline = refl;
+      even = (n, omega (arith, even.0, low_level l), even);
+      put = λ x ls. ap (λ (y : Outline). ls ++ (flatten y ++ [])) x;
+      bare = is;
+      whole = refl;
+    }))
+
+under_line_is : (n : ℕ) (o : Outline) (s : Step) (ss : List Step) (g : Found) (f : Found) (rest : List Step) → IsEven n o → find s ss o ≡ Some (g, []) → g.line.head ≡ None → (u : Outline) → g.under ≡ u →
+    option_map {U = Found × List Step} (λ y. (inside g y, [])) (bare_line u) ≡ Some (f, rest) → Cases (s ∷ ss) o f rest
+under_line_is n o s ss g f rest even is open' end under e = absurd (no_pair e)
+under_line_is n o s ss g f rest even is open' (row l v a) under e = go l.mark refl e
+  where
+    go : (m : Mark) → l.mark ≡ m → option_map {U = Found × List Step} (λ y. (inside g y, [])) (Rattle.std.proofs.Common.cond (is_bare m) (Some (record { place = here; line = l; under = v; after = a })) None) ≡ Some (f, rest) → Cases (s ∷ ss) o f rest
+    go (Key k) mark e = absurd (no_pair e)
+    go Dash mark e = absurd (no_pair e)
+    go Bare mark e = inr (subst (λ (x : Found × List Step). OnLine (s ∷ ss) o x.0 x.1) (pair_same e) (record {
+      lines = under_line g;
+      is = ap (option_and_then (λ x. lines_below x.0.line.head x.1 x.0)) is ∙ ap (λ h. lines_below h [] g) open';
+      left = refl;
+      outline = under;
+      even = (under_even n o s ss g even is).1.3;
+      put = λ x ls.
+      ap (λ (y : Outline). lines_before (compose g.place (below g.line here g.after)) ++ (ls ++ (flatten y ++ lines_after (compose g.place (below g.line here g.after))))) x;
+      bare = mark;
+      whole = plug-compose g.place (below g.line here g.after) (row l v a) ∙ (ap (λ (y : Outline). plug g.place (row g.line y g.after)) (sym under) ∙ at (IsFoundIn o) (find s ss o) (g, []) is (path_whole s ss o));
+    }))
+
+head_cases : (n : ℕ) (o : Outline) (steps : List Step) (f : Found) (rest : List Step) → IsEven n o → find_head steps o ≡ Some (f, rest) → Cases steps o f rest
+head_cases n end [] f rest even e = absurd (no_pair e)
+head_cases n (row l u a) [] f rest even e = root_line n l u a f rest even e
+head_cases n o (s ∷ ss) f rest even e = go (find s ss o) refl e
+  where
+    entry : (g : Found) (left : List Step) → find s ss o ≡ Some (g, left) → TakesSteps g.line → ◌≡◌ {A = Option (Found × List Step)} (Some (g, left)) (Some (f, rest)) → Cases (s ∷ ss) o f rest
+    entry g left is takes e = inl (subst (λ (x : Found × List Step). InEntry (s ∷ ss) o x.0 x.1) (pair_same e) (record { first = s; others = ss; steps_are = refl; found = is; takes = takes }))
+
+    own : (g : Found) → find s ss o ≡ Some (g, []) → (h : Option Node) → g.line.head ≡ h → in_head h (Some (g, [])) (option_map {U = Found × List Step} (λ y. (inside g y, [])) (bare_line g.under)) ≡ Some (f, rest) → Cases (s ∷ ss) o f rest
+    own g is (Some m) head e = entry g [] is (inr (ap is_some head)) e
+    own g is None head e = under_line_is n o s ss g f rest even is head g.under refl e
+
+    line : (g : Found) (left : List Step) → find s ss o ≡ Some (g, left) → head_line g left ≡ Some (f, rest) → Cases (s ∷ ss) o f rest
+    line g [] is e = own g is g.line.head refl e
+    line g (t ∷ ts) is e = entry g (t ∷ ts) is (at Takes (find s ss o) (g, t ∷ ts) is (takes_left s ss o)) e
+
+    go : (r : Option (Found × List Step)) → find s ss o ≡ r → (r >>= λ x. head_line x.0 x.1) ≡ Some (f, rest) → Cases (s ∷ ss) o f rest
+    go None is e = absurd (no_pair e)
+    go (Some x) is e = line x.0 x.1 is e
+
+-- the line stands in the outline
+pub head_whole : (n : ℕ) (o : Outline) (steps : List Step) (f : Found) (rest : List Step) → IsEven n o → find_head steps o ≡ Some (f, rest) → plug f.place (row f.line f.under f.after) ≡ o
+head_whole n o steps f rest even e = go (head_cases n o steps f rest even e)
+  where
+    go : Cases steps o f rest → plug f.place (row f.line f.under f.after) ≡ o
+    go (inl c) = at (IsFoundIn o) (find c.first c.others o) (f, rest) c.found (path_whole c.first c.others o)
+    go (inr c) = c.whole
+
+-- steps may go on in its head
+pub head_takes : (n : ℕ) (o : Outline) (steps : List Step) (f : Found) (rest : List Step) → IsEven n o → find_head steps o ≡ Some (f, rest) → TakesSteps f.line
+head_takes n o steps f rest even e = go (head_cases n o steps f rest even e)
+  where
+    go : Cases steps o f rest → TakesSteps f.line
+    go (inl c) = c.takes
+    go (inr c) = inl (ap is_bare c.bare)
+
+-- a node itself has nothing behind it
+bare_after : (k : Mark) (h : Option Node) (o : Outline) → k ≡ Bare → IsWhole k h o → o ≡ end
+bare_after Bare None o e w = absurd w
+bare_after Bare (Some x) end e w = refl
+bare_after Bare (Some x) (row l u a) e w = absurd w
+bare_after (Key j) h o e w = absurd (cc)
+bare_after Dash h o e w = absurd (cc)
+
+none_free : (a : Option (List ℕ)) → IsFree a []
+none_free None = tt
+none_free (Some a) = tt
+
+whole_end : (k : Mark) (m : Node) → IsWhole k (Some m) end
+whole_end Bare m = tt
+whole_end (Key j) m = tt
+whole_end Dash m = tt
+
+bare_value : (x : Line) → x.mark ≡ Bare → value (row x end end) ≡ content x end
+bare_value x e = ap (λ y. collection y (child (label x) (content x end) none)) e
+
+-- a node itself with another head
+line_changed : (t : List ℕ) (c : Cut) (k : ℕ) (p q : Part) (steps rest : List Step) (f : Found) (n m : Node) (h : Children → Children) → IsPut t c k p q → OnLine steps (outline_of p) f rest →
+    f.line.head ≡ Some n → NoNewAlias n m → anchored f.line.anchor m ≡ change rest (within h) (anchored f.line.anchor n) → lines_of q.rows ≡ with_lines f (with_head m f.line ∷ []) →
+    IsSoundRoot (change steps (within h) (root_of p)) → IsChanged c (put_document k q c) k (lead_of p) (change steps (within h))
+unfolding level
+line_changed t c k p q steps rest f n m h put on head new is lines sound =
+    let w = known t c k p q put in
+    let o : Outline = outline_of p in
+    let a : NodeLines = on.lines in
+    let l : Line = f.line in
+    let other : Line = with_head m l in
+    let old : IsEven on.even.0 (row l f.under f.after) = subst (IsEven on.even.0) on.outline on.even.2 in
+    let under : f.under ≡ end = none_under l.head n f.under head old.1 in
+    let after : f.after ≡ end = bare_after l.mark l.head f.after on.bare old.2 in
+    let node : value a.lines ≡ anchored l.anchor n =
+    ap value on.outline ∙ ((λ i. value (row l (under i) (after i))) ∙ (bare_value l on.bare ∙ ap (λ x. anchored l.anchor (head_or x (value end))) head)) in
+    let made : value (row other end end) ≡ within h (anchored l.anchor n) = bare_value other on.bare ∙ (is ∙ ap (λ x. change x (within h) (anchored l.anchor n)) on.left) in
+    let news : lines_of q.rows ≡ put_lines a (other ∷ []) = lines ∙ on.put after (other ∷ []) in
+    let olds : lines_of p.rows ≡ put_lines a (l ∷ []) =
+    sym w.lines ∙ (ap flatten (sym on.whole) ∙ (placed f l f.under ∙ (ap (λ (u : Outline). with_lines f (l ∷ flatten u)) under ∙ on.put after (l ∷ [])))) in
+    let among = lines_among (level_or 0 o) o steps a w.even on.is in
+    let free : IsFree (last_anchor (lines_before a.place)) (other ∷ []) =
+    other_head (last_anchor (lines_before a.place)) l n m (lines_after a.place) [] head new (free_before (lines_before a.place) l (lines_after a.place) (subst HaveOneAnchorEach olds w.each)) in
+    led_as c (put_document k q c) k (lead_of q) (lead_of p) (change steps (within h)) (lead_from p q (lines_before a.place) l other (lines_after a.place) (lines_after a.place) olds news refl)
+    (lines_exchanged t c k p q steps a (within h) on.even.0 (row other end end) put on.is
+    (record {
+      deep = on.even.1;
+      even = (old.0, tt, whole_end l.mark m, (suc on.even.0, omega arith, tt), tt);
+      node_is = ap (anchored a.anchor) made ∙ (anchored-within a.anchor h (anchored l.anchor n) ∙ ap (λ x. within h (anchored a.anchor x)) (sym node));
+    })
+    (record { each = (none_free l.anchor, tt); free = subst (λ b. IsFree b (other ∷ [])) among.1 free }) news sound)
+
+-- the line at a path with another head
+pub flow_line_changed : (t : List ℕ) (c : Cut) (k : ℕ) (p q : Part) (steps rest : List Step) (f : Found) (n m : Node) (h : Children → Children) → IsPut t c k p q →
+    find_head steps (outline_of p) ≡ Some (f, rest) → f.line.head ≡ Some n → NoNewAlias n m → anchored f.line.anchor m ≡ change rest (within h) (anchored f.line.anchor n) →
+    lines_of q.rows ≡ with_lines f (with_head m f.line ∷ []) → IsSoundRoot (change steps (within h) (root_of p)) → IsChanged c (put_document k q c) k (lead_of p) (change steps (within h))
+flow_line_changed t c k p q steps rest f n m h put found head new is lines sound =
+    go (head_cases (level_or 0 (outline_of p)) (outline_of p) steps f rest (known t c k p q put).even found)
+  where
+    go : InEntry steps (outline_of p) f rest ⊎ OnLine steps (outline_of p) f rest → IsChanged c (put_document k q c) k (lead_of p) (change steps (within h))
+    go (inr on) = line_changed t c k p q steps rest f n m h put on head new is lines sound
+    go (inl x) =
+        subst (λ (ss : List Step). IsChanged c (put_document k q c) k (lead_of p) (change ss (within h))) (sym x.steps_are)
+        (changed_head t c k p q x.first x.others rest f n m (within h) put x.found head new is lines (subst (λ (ss : List Step). IsSoundRoot (change ss (within h) (root_of p))) x.steps_are sound))

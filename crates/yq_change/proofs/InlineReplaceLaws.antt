@@ -1,0 +1,159 @@
+-- An inline node outside flow collections, or nothing, gives way to the inline node of a value.
+use Rattle.std.proofs.Common.{◌≡◌, ℕ, ℤ, zero, suc, ◌+◌, ◌*◌, ◌<◌, ◌≤◌, List, [], ◌∷◌, ◌++◌, length, take, Some, Bool, true, false, refl, sym, ap, ◌∙◌, subst, arith, append_assoc, length-append}
+use Rattle.std.proofs.lemmas.Bool.{false≢true, lt-ltb}
+use Rattle.yq_scalar.specs.Paths.{Step}
+use Rattle.yq_scalar.specs.Piece.{deeper}
+use Rattle.yq_scalar.specs.Plain.{ends_plain}
+use Rattle.yq_lines.specs.Group.{group, level_or, is_fine}
+use Rattle.yq_lines.specs.Outline as outline
+use Rattle.yq_lines.specs.Outline.{Line, level, rank, Outline, end, row, flatten, IsEven}
+use Rattle.yq_lines.specs.Places.{lines_before, lines_after, Found}
+use Rattle.yq_lines.specs.Comments.{head_comment}
+use Rattle.yq_lines.proofs.Decides.{flatten-group}
+use Rattle.yq_rows.specs.Exchange.{allows_first, asked_behind}
+use Rattle.yq_inline.specs.Nodes.{scalar}
+use Rattle.yq_rows.specs.Grammar.{Limit, unlimited, AreRows, IsTail, is_entry}
+use Rattle.yq_rows.specs.Rows as rows
+use Rattle.yq_rows.specs.Rows.{Content, Nothing, Inline, Block, Row, mark_column, parent_of, parent_indent, rows_text, Part, Cut, cut_text}
+use Rattle.yq_rows.specs.Seams.{ends_part}
+use Rattle.yq_rows.proofs.ExchangeLaws.{relimit}
+use Rattle.yq_rows.proofs.seams.SeamLaws.{rows_drop}
+use Rattle.yq_rows.proofs.seams.TailLaws.{fits_by}
+use Rattle.yq_tree.specs.Lines.{mark_of, mark_line, row_lines, lines_of}
+use Rattle.yq_tree.specs.Reading.{outline_of}
+use Rattle.yq_tree.proofs.NextLaws.{StartsAt, found_starts}
+use Rattle.yq_change.specs.DocumentRows.{IsDocumentPart, behind_document}
+use Rattle.yq_change.specs.InlineRows.{LeadsToEntry, LeadsBelow, IsRootRow, LeadsToContent}
+use Rattle.yq_change.specs.LineRows.{Begins}
+use Rattle.yq_change.specs.Moved.{dash_lines}
+use Rattle.yq_change.specs.Siblings.{IsEntry}
+use Rattle.yq_change.proofs.ColumnLaws.{next_low}
+use Rattle.yq_change.proofs.LineLaws.{above_mark, dashes_count, row_count}
+use Rattle.yq_change.proofs.NodeLineLaws.{under_even}
+use Rattle.yq_change.proofs.PartLaws.{document_known, part_rows, take_front, drop_front}
+use Rattle.yq_change.proofs.PlacedLaws.{found_is_entry, same_parts, whole_line}
+use Rattle.yq_change.proofs.RemarkLaws.{last_lines}
+
+-- the rows from one on
+pub own_rows : (t : List ℕ) (c : Cut) (k : ℕ) (p : Part) (front : List Row) (r : Row) (back : List Row) → IsDocumentPart t c k p → p.rows ≡ front ++ (r ∷ back) →
+    AreRows (asked_behind unlimited front) (r ∷ back) p.end (behind_document k c)
+own_rows t c k p front r back old e =
+    subst (λ x. AreRows (asked_behind unlimited x) (r ∷ back) p.end (behind_document k c)) (take_front p front (r ∷ back) e)
+    (subst (λ rs. AreRows (asked_behind unlimited (take (length front) p.rows)) rs p.end (behind_document k c)) (drop_front p front (r ∷ back) e)
+    (rows_drop (length front) p.rows unlimited p.end (behind_document k c) (part_rows t c k p old (document_known t c k p old).cut)))
+
+-- what is asked behind a mark
+pub deeper_entry : (m : rows.Mark) (column : ℕ) → is_entry m ≡ true → deeper (parent_of m column) ≡ suc column
+deeper_entry rows.Bare column e = absurd (false≢true e)
+deeper_entry rows.Dash column e = refl
+deeper_entry (rows.Key key colon) column e = refl
+
+deeper_bare : (column : ℕ) → deeper (parent_of rows.Bare column) ≡ column
+deeper_bare zero = refl
+deeper_bare (suc n) = refl
+
+-- the next row stands before what is asked
+pub next_by : (n d : ℕ) (back : List Row) → Begins n (lines_of back) → n < 3 * d + 1 → allows_first (record { column = Some d }) back ≡ true
+next_by n d [] h less = refl
+next_by n d (b ∷ bs) h less = let low = next_low n (b ∷ bs) b bs refl h in lt-ltb b.column d (omega (arith, low, less))
+
+-- the lines of the row and those behind it
+module _ (p : Part) (front : List Row) (r : Row) (back : List Row) (rows_are : p.rows ≡ front ++ (r ∷ back)) (even : IsEven (level_or 0 (outline_of p)) (outline_of p)) (fine : is_fine (group (lines_of p.rows)) ≡ true) where
+  abbrev x : Line
+  x = mark_line (above_mark (head_comment r.gap) r.dashes) (mark_column r) r.mark r.content
+
+  abbrev a : List Line
+  a = lines_of front ++ dash_lines (head_comment r.gap) r.column r.dashes
+
+  all : lines_of p.rows ≡ a ++ (x ∷ lines_of back)
+  all = ap lines_of rows_are ∙ last_lines front r back r.content
+
+  size : length a ≡ length (lines_of front) + length r.dashes
+  size = length-append (lines_of front) (dash_lines (head_comment r.gap) r.column r.dashes) ∙ ap (λ (n : ℕ). length (lines_of front) + n) (dashes_count (head_comment r.gap) r.column r.dashes)
+
+  level_is : level x ≡ 3 * mark_column r + rank (mark_of r.mark)
+  unfolding level
+  level_is = refl
+
+  -- behind a key or dash
+  pub entry_back : (s : Step) (ss : List Step) (h : LeadsToEntry p s ss front r) → (x ≡ h.found.line) × (lines_of back ≡ flatten h.found.after ++ lines_after h.found.place)
+  entry_back s ss h =
+      let f : Found = h.found in
+      let whole : lines_of p.rows ≡ lines_before f.place ++ ((f.line ∷ flatten f.under) ++ (flatten f.after ++ lines_after f.place)) = sym (flatten-group (lines_of p.rows)) ∙ whole_line (outline_of p) s ss [] f h.is in
+      let parts = same_parts a (x ∷ []) (lines_of back) (lines_before f.place) (f.line ∷ flatten f.under) (flatten f.after ++ lines_after f.place) (sym all ∙ whole) (size ∙ h.number) (ap (λ u. suc (length (flatten u))) (sym h.under)) in
+      (first parts.1, parts.2)
+    where
+      first : {y z : Line} {ys zs : List Line} → y ∷ ys ≡ z ∷ zs → y ≡ z
+      first e = cc
+
+  entry_next : (s : Step) (ss : List Step) (h : LeadsToEntry p s ss front r) → is_entry r.mark ≡ true → allows_first (record { column = Some (deeper (parent_indent r)) }) back ≡ true
+  entry_next s ss h e =
+      let b = entry_back s ss h in
+      let starts : Begins (level h.found.line) (lines_of back) = subst (Begins (level h.found.line)) (sym b.1) (begins _ (found_starts (lines_of p.rows) s ss [] h.found h.is fine)) in
+      subst (λ d. allows_first (record { column = Some d }) back ≡ true) (sym (deeper_entry r.mark (mark_column r) e))
+      (next_by (level h.found.line) (suc (mark_column r)) back starts (omega (arith, ap level b.0, level_is, rank_high (mark_of r.mark))))
+    where
+      rank_high : (m : outline.Mark) → rank m ≤ 3
+      rank_high outline.Bare = omega arith
+      rank_high (outline.Key j) = omega arith
+      rank_high outline.Dash = omega arith
+
+      begins : (ls : List Line) → StartsAt (level h.found.line) ls → Begins (level h.found.line) ls
+      begins [] s = tt
+      begins (l ∷ ls) s = s
+
+  -- alone on the line under it
+  lower_back : (s : Step) (ss : List Step) (h : LeadsBelow p s ss front r) → (lines_of back ≡ flatten h.found.after ++ lines_after h.found.place) × (level h.found.line < level x)
+  lower_back s ss h =
+      let f : Found = h.found in
+      let rest : List Line = flatten f.after ++ lines_after f.place in
+      let whole : lines_of p.rows ≡ (lines_before f.place ++ (f.line ∷ [])) ++ (flatten f.under ++ rest) =
+      sym (flatten-group (lines_of p.rows)) ∙ (whole_line (outline_of p) s ss [] f h.is ∙ sym (append_assoc (lines_before f.place) (f.line ∷ []) (flatten f.under ++ rest))) in
+      let before : length a ≡ length (lines_before f.place ++ (f.line ∷ [])) = omega (arith, size, h.number, length-append (lines_before f.place) (f.line ∷ [])) in
+      let parts = same_parts a (x ∷ []) (lines_of back) (lines_before f.place ++ (f.line ∷ [])) (flatten f.under) rest (sym all ∙ whole) before (sym h.count) in
+      let old = (under_even (level_or 0 (outline_of p)) (outline_of p) s ss f even h.is).1.3 in
+      (parts.2, deep f.under old.0 (sym parts.1) old.2 old.1)
+    where
+      deep : (u : Outline) (m : ℕ) → flatten u ≡ x ∷ [] → IsEven m u → level h.found.line < m → level h.found.line < level x
+      deep end m e v less = absurd (cc)
+      deep (row y u b) m e v less = let one : y ≡ x = cc in omega (arith, less, v.0, ap level one)
+
+  lower_next : (s : Step) (ss : List Step) (h : LeadsBelow p s ss front r) → allows_first (record { column = Some (deeper (parent_indent r)) }) back ≡ true
+  lower_next s ss h =
+      let b = lower_back s ss h in
+      let starts : Begins (level h.found.line) (lines_of back) = subst (Begins (level h.found.line)) (sym b.0) (begins _ (found_starts (lines_of p.rows) s ss [] h.found h.is fine)) in
+      let own : deeper (parent_indent r) ≡ mark_column r = ap (λ m. deeper (parent_of m (mark_column r))) h.mark ∙ deeper_bare (mark_column r) in
+      subst (λ d. allows_first (record { column = Some d }) back ≡ true) (sym own)
+      (next_by (level h.found.line) (mark_column r) back starts (omega (arith, b.1, level_is, ap (λ m. rank (mark_of m)) h.mark)))
+    where
+      begins : (ls : List Line) → StartsAt (level h.found.line) ls → Begins (level h.found.line) ls
+      begins [] s = tt
+      begins (l ∷ ls) s = s
+
+  -- the root
+  root_back : IsRootRow p r → back ≡ []
+  root_back h = none back (omega (arith, h.count, ap length all, length-append a (x ∷ lines_of back)))
+    where
+      none : (bs : List Row) → length (lines_of bs) ≡ 0 → bs ≡ []
+      none [] e = refl
+      none (b ∷ bs) e = absurd (omega (arith, e, row_count b, length-append (row_lines b) (lines_of bs)))
+
+  pub entry_mark : (s : Step) (ss : List Step) (h : LeadsToEntry p s ss front r) → is_entry r.mark ≡ true
+  entry_mark s ss h = is_it r.mark (subst (λ (l : Line). IsEntry l.mark) (sym (entry_back s ss h).0) (found_is_entry (level_or 0 (outline_of p)) p s ss h.found even h.is))
+    where
+      is_it : (m : rows.Mark) → IsEntry (mark_of m) → is_entry m ≡ true
+      is_it rows.Bare e = absurd e
+      is_it rows.Dash e = refl
+      is_it (rows.Key key colon) e = refl
+
+  -- the next row stands where no further line of what is behind the mark does
+  pub next_stands : (steps : List Step) (alone : Bool) → LeadsToContent p alone steps front r → allows_first (record { column = Some (deeper (parent_indent r)) }) back ≡ true
+  next_stands [] alone h = ap (allows_first (record { column = Some (deeper (parent_indent r)) })) (root_back h.0)
+  next_stands (s ∷ ss) false h = entry_next s ss h (entry_mark s ss h)
+  next_stands (s ∷ ss) true h = lower_next s ss h
+
+-- before what stands behind a row's content a plain scalar ends
+pub tail_ends_plain : (n : ℤ) (tail : List ℕ) (limit : Limit) (back : List Row) (gap rest : List ℕ) → IsTail tail (rows_text back (gap ++ rest)) → AreRows limit back gap rest → allows_first (record { column = Some (deeper n) }) back ≡ true → ends_part rest ≡ true →
+    ends_plain false (Some (deeper n)) (tail ++ rows_text back (gap ++ rest)) ≡ true
+tail_ends_plain n tail limit back gap rest t h next e =
+    (fits_by n (Inline [] (scalar []) []) tail back gap rest refl t (relimit limit (record { column = Some (deeper n) }) back gap rest next h) e).1 refl

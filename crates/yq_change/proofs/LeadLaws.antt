@@ -1,0 +1,47 @@
+-- The lead that goes with the root of a part in the place of another one.
+use Rattle.std.proofs.Common.{inl, inr, ◌⊎◌, ◌≡◌, List, [], ◌∷◌, Bool, true, false, Some, refl, sym, ap, ◌∙◌, subst}
+use Rattle.std.proofs.lemmas.Bool.{false≢true}
+use Rattle.yq_scalar.specs.Tree.{Node, Children, none, child, children_of}
+use Rattle.yq_rows.specs.Rows.{Part}
+use Rattle.yq_lines.specs.Group.{group}
+use Rattle.yq_lines.specs.Outline.{Mark, Bare, Key, Dash, Line, value}
+use Rattle.yq_lines.specs.Sound.{is_entry}
+use Rattle.yq_tree.specs.Documents.{lead_of}
+use Rattle.yq_tree.specs.Lines.{lines_of}
+use Rattle.yq_tree.specs.Reading.{outline_of, root_of}
+use Rattle.yq_tree.specs.Ready.{begins_no_node}
+use Rattle.yq_tree.specs.TreeEdits.{lead_by}
+use Rattle.yq_change.specs.Siblings.{IsEntry, HasEntries}
+use Rattle.yq_change.proofs.AfterLaws.{by_first, none_kept}
+use Rattle.yq_change.proofs.EditedLaws.{root_has_lead}
+use Rattle.yq_change.specs.Rooms.{is_block_root, LeadGoes, SameLeadGoes, BlockLeadGoes, KeptLeadGoes}
+
+pub block_lead_goes : BlockLeadGoes
+block_lead_goes p q block has =
+    sym (ap (λ b. lead_by b (children_of (root_of q)) (lead_of p)) block ∙ by_first (children_of (root_of q)) (lead_of q) (lead_of p) (root_has_lead q has))
+
+pub kept_lead_goes : KeptLeadGoes
+kept_lead_goes p q same empty = same ∙ sym (none_kept (is_block_root p) (children_of (root_of q)) (lead_of p) empty)
+
+entry_mark : (m : Mark) → is_entry m ≡ true → IsEntry m
+entry_mark Bare h = absurd (false≢true h)
+entry_mark (Key k) h = tt
+entry_mark Dash h = tt
+
+-- a root that is block has items or entries, or no lines
+pub block_entries : (ls : List Line) → begins_no_node ls ≡ true → (HasEntries (group ls)) ⊎ (ls ≡ [])
+block_entries [] h = inr refl
+block_entries (l ∷ ls) h = inl (entry_mark l.mark h)
+
+no_lines : (ls : List Line) → ls ≡ [] → children_of (value (group ls)) ≡ none
+no_lines ls h = ap (λ x. children_of (value (group x))) h
+
+pub same_lead_goes : SameLeadGoes
+same_lead_goes p q same block = go (is_block_root p) refl
+  where
+    go : (b : Bool) → is_block_root p ≡ b → LeadGoes p q
+    go false e = kept_lead_goes p q same (λ h. absurd (false≢true (sym e ∙ h)))
+    go true e = elim (block_entries (lines_of q.rows) (block ∙ e)) [
+      | inl has ↦ block_lead_goes p q e has
+      | inr none_left ↦ kept_lead_goes p q same (λ h. no_lines (lines_of q.rows) none_left)
+    ]

@@ -1,0 +1,228 @@
+-- A text cut before the end of a line: no CR stands before the break.
+use Rattle.std.proofs.Common.{inl, inr, ◌⊎◌, ◌≡◌, ℕ, zero, suc, ◌+◌, ℤ, Bool, true, false, ◌&&◌, ◌||◌, not, List, [], ◌∷◌, ◌++◌, length, replicate, refl, sym, ap, ◌∙◌, subst, append_assoc, append-nil, ⊎_elim, arith}
+use Rattle.std.proofs.Math.Seq.{drop-append_seam}
+use Rattle.std.proofs.lemmas.Bool.{false≢true, or_cases, or_right}
+use Rattle.std.proofs.lemmas.Str.{IsUtf8-drop}
+use Rattle.std.specs.Str.{chars, IsUtf8, IsCharBoundary}
+use Rattle.yq_scalar.specs.Block.{digit_text, sign_text, IsDigit, IsIndicators}
+use Rattle.yq_scalar.specs.Characters.{is_text, pairs_returns}
+use Rattle.yq_scalar.specs.Text.{front, is_white, is_feed, is_return, is_empty, no_white, unless, NoneIn}
+use Rattle.yq_scalar.specs.declared.block_header.BlockStyle.{BlockStyle}
+use Rattle.yq_scalar.specs.declared.block_header.BlockStyle.TheVariants as styles
+use Rattle.yq_scalar.specs.declared.block_header.Chomping.{Chomping}
+use Rattle.yq_scalar.specs.declared.block_header.Chomping.TheVariants as chompings
+use Rattle.yq_scalar.proofs.Bools.{is_true, and_true, at_byte, or_false}
+use Rattle.yq_inline.specs.Nodes as nodes
+use Rattle.yq_inline.specs.Nodes.{Node, empty, alias, scalar, coll, anchored, Items, none, item, Key, Sep, in_name, is_close, open_of, key_text, sep_text, node_text, items_text, IsNode}
+use Rattle.yq_inline.proofs.WrittenLaws.{key_append, sep_append, node_append}
+use Rattle.yq_rows.specs.Gap.{IsWhite, IsGap}
+use Rattle.yq_rows.specs.Grammar.{IsContent, IsMark, IsRow, Limit}
+use Rattle.yq_rows.specs.Exchange.{row_front}
+use Rattle.yq_rows.specs.Rows as rows
+use Rattle.yq_rows.specs.Rows.{Content, Nothing, Inline, Block, Row, behind_gap, behind_indent, content_text, dashes_text, mark_text, parent_indent, print_row}
+use Rattle.yq_rows.specs.View.{Slices, anchor_cut, anchor_of, apart_of, content_cut, slices}
+use Rattle.yq_rows.proofs.CharacterLaws.{all_text, all_join, pairs_back}
+use Rattle.yq_rows.proofs.NothingLaws.{some_behind}
+use Rattle.yq_rows.proofs.PieceLaws.{both_true}
+use Rattle.yq_rows.proofs.PlaceLaws.{row_front-append}
+use Rattle.yq_rows.proofs.RowAgain.{row_starts}
+use Rattle.yq_rows.proofs.seams.NodeSeams.{plain_text}
+use Rattle.yq_rows.proofs.seams.ScalarSeams.{ends_return}
+use Rattle.yq_rows.proofs.seams.TailLaws.{content_joined}
+use Rattle.yq_tree.specs.CommentPlaces.{line_text}
+use Rattle.yq_tree.proofs.CommentPieceLaws.{Ended, gap_end}
+use Rattle.yq_tree.proofs.TextLaws.{seam}
+use Rattle.yq_change.specs.LineFronts.{CleanCut, LineEndsClean}
+use Rattle.yq_change.specs.TextPieces.{IsPiece}
+
+-- ---- texts that end in no CR
+
+pub ends_more : (a b : List ℕ) → is_empty b ≡ false → ends_return (a ++ b) ≡ ends_return b
+ends_more [] b h = refl
+ends_more (x ∷ a) b h = rw (some_behind a b h) (ends_more a b h)
+
+pub clean_joined : (a b : List ℕ) → ends_return a ≡ false → ends_return b ≡ false → ends_return (a ++ b) ≡ false
+clean_joined a [] h k = ap ends_return (append-nil a) ∙ h
+clean_joined a (b ∷ bs) h k = ends_more a (b ∷ bs) refl ∙ k
+
+pub clean_byte : (b : ℕ) (t : List ℕ) → is_return b ≡ false → ends_return t ≡ false → ends_return (b ∷ t) ≡ false
+clean_byte b [] h k = h
+clean_byte b (c ∷ t) h k = k
+
+pub clean_white : (w : List ℕ) → IsWhite w → ends_return w ≡ false
+clean_white [] h = refl
+clean_white (b ∷ w) h = clean_byte b w (at_byte is_white b 13 h.0 refl) (clean_white w h.1)
+
+clean_spaces : (n : ℕ) → ends_return (replicate n 32) ≡ false
+clean_spaces zero = refl
+clean_spaces (suc n) = clean_byte 32 (replicate n 32) refl (clean_spaces n)
+
+last_byte : (p : List ℕ) (q : ℕ) → ends_return (p ++ q ∷ []) ≡ is_return q
+last_byte p q = ends_more p (q ∷ []) refl
+
+-- ---- a node
+
+name_byte : (b : ℕ) → unless in_name (b ∷ []) ≡ false → is_return b ≡ false
+name_byte b h = go (is_true (is_return b))
+  where
+    go : (is_return b ≡ true) ⊎ (is_return b ≡ false) → is_return b ≡ false
+    go (inr e) = e
+    go (inl e) =
+        let out : in_name b ≡ false = rw (e, or_right (is_feed b) true refl) (rw (or_right (is_white b) true refl) refl) in
+        absurd (false≢true (sym h ∙ ap not out))
+
+clean_name : (n rest : List ℕ) → NoneIn (unless in_name) n rest → ends_return n ≡ false
+clean_name [] rest h = refl
+clean_name (b ∷ n) rest h = clean_byte b n (name_byte b h.0) (clean_name n rest h.1)
+
+white_byte : (b : ℕ) → not (is_white b) ≡ false → is_return b ≡ false
+white_byte b h = go (is_true (is_white b))
+  where
+    go : (is_white b ≡ true) ⊎ (is_white b ≡ false) → is_return b ≡ false
+    go (inl e) = at_byte is_white b 13 e refl
+    go (inr e) = absurd (false≢true (sym h ∙ ap not e))
+
+clean_gap : (g rest : List ℕ) → NoneIn no_white g rest → ends_return g ≡ false
+clean_gap [] rest h = refl
+clean_gap (b ∷ g) rest h = clean_byte b g (white_byte b h.0) (clean_gap g rest h.1)
+
+-- items end in their closing bracket
+items_close : (k : ℕ) (is : Items) → (front : List ℕ) × (items_text k is [] ≡ front ++ k ∷ [])
+unfolding items_text
+items_close k none = ([], refl)
+items_close k (item key n s is) =
+    let x = items_close k is in (
+      key_text key (node_text n (sep_text s x.0)),
+      ap (λ t. key_text key (node_text n (sep_text s t))) x.1
+          ∙ (ap (λ t. key_text key (node_text n t)) (sep_append s x.0 (k ∷ []))
+          ∙ (ap (key_text key) (node_append n (sep_text s x.0) (k ∷ [])) ∙ key_append key (node_text n (sep_text s x.0)) (k ∷ []))),
+    )
+
+no_close : (k : ℕ) → is_close k ≡ true → is_return k ≡ false
+no_close k h = at_byte is_close k 13 h refl
+
+clean_node : (spaces : Rattle.std.proofs.Common.Option ℕ) (node : Node) (d : ℕ) (rest : List ℕ) → IsNode false spaces d node rest → ends_return (plain_text node) ≡ false → ends_return (node_text node []) ≡ false
+unfolding node_text IsNode
+clean_node spaces empty d rest h e = refl
+clean_node spaces (alias n) d rest h e = clean_byte 42 (n ++ []) refl (ap ends_return (append-nil n) ∙ clean_name n rest h.inside)
+clean_node spaces (scalar p) d rest h e = ap ends_return (append-nil p) ∙ e
+clean_node spaces (coll k g is) d rest h e =
+    let x = items_close k is in
+    let whole : open_of k ∷ (g ++ items_text k is []) ≡ (open_of k ∷ (g ++ x.0)) ++ k ∷ [] = ap (λ t. open_of k ∷ (g ++ t)) x.1 ∙ ap (λ t. open_of k ∷ t) (sym (append_assoc g x.0 (k ∷ []))) in
+    ap ends_return whole ∙ (last_byte (open_of k ∷ (g ++ x.0)) k ∙ no_close k h.0)
+clean_node spaces (anchored n g node) d rest h e =
+    clean_byte 38 (n ++ (g ++ node_text node [])) refl
+    (clean_joined n (g ++ node_text node []) (clean_name n (g ++ node_text node rest) h.0.inside) (clean_joined g (node_text node []) (gap h.1) (clean_node spaces node d rest h.4 e)))
+  where
+    gap : nodes.IsLead false (nodes.begins_content false) g (node_text node rest) → ends_return g ≡ false
+    gap (inl x) = clean_gap g (node_text node rest) x.0.0
+    gap (inr x) = ap ends_return x.0
+
+-- ---- a content, up to the end of its line
+
+-- what is written on the line of a content
+abbrev written : Content → List ℕ
+written c = (content_cut c).0 ++ ((content_cut c).1 ++ ((content_cut c).2 ++ (content_cut c).3))
+
+node_cut : (node : Node) → (anchor_cut node).0 ++ ((anchor_cut node).1 ++ (anchor_cut node).2) ≡ node_text node []
+unfolding node_text
+node_cut empty = refl
+node_cut (alias n) = refl
+node_cut (scalar p) = refl
+node_cut (coll k g is) = refl
+node_cut (anchored n g node) = refl
+
+-- no CR at the end of a plain scalar, before an LF
+plain_clean : (n : ℤ) (space : List ℕ) (node : Node) (tail rest : List ℕ) → IsContent n (Inline space node tail) rest → pairs_returns (content_text (Inline space node tail) rest) ≡ true → front is_feed (tail ++ rest) ≡ true → ends_return (plain_text node) ≡ false
+plain_clean n space node tail rest h pairs feed = go (content_joined n (Inline space node tail) rest [] [] h pairs)
+  where
+    go : (front is_feed (tail ++ rest) ≡ front is_feed []) ⊎ (ends_return (plain_text node) ≡ false) → ends_return (plain_text node) ≡ false
+    go (inl e) = absurd (false≢true (sym e ∙ feed))
+    go (inr e) = e
+
+digit_clean : (d : Rattle.std.proofs.Common.Option ℕ) → IsDigit d → ends_return (digit_text d) ≡ false
+digit_clean Rattle.std.proofs.Common.None h = refl
+digit_clean (Rattle.std.proofs.Common.Some d) h = go (is_true (is_return (48 + d)))
+  where
+    go : (is_return (48 + d) ≡ true) ⊎ (is_return (48 + d) ≡ false) → is_return (48 + d) ≡ false
+    go (inr e) = e
+    go (inl e) = absurd (let same = Rattle.std.proofs.Common.eqb-true (48 + d) 13 e in omega (arith, same))
+
+sign_clean : (c : Chomping) → ends_return (sign_text c) ≡ false
+sign_clean chompings.Strip = refl
+sign_clean chompings.Clip = refl
+sign_clean chompings.Keep = refl
+
+indicators_clean : (d : Rattle.std.proofs.Common.Option ℕ) (c : Chomping) (p : List ℕ) → IsIndicators d c p → ends_return p ≡ false
+indicators_clean d c p h = go h.spelled
+  where
+    go : (p ≡ digit_text d ++ sign_text c) ⊎ (p ≡ sign_text c ++ digit_text d) → ends_return p ≡ false
+    go (inl e) = ap ends_return e ∙ clean_joined (digit_text d) (sign_text c) (digit_clean d h.small) (sign_clean c)
+    go (inr e) = ap ends_return e ∙ clean_joined (sign_text c) (digit_text d) (sign_clean c) (digit_clean d h.small)
+
+style_clean : (style : BlockStyle) → is_return (Rattle.yq_scalar.specs.Block.mark_of style) ≡ false
+style_clean styles.Literal = refl
+style_clean styles.Folded = refl
+
+content_clean : (n : ℤ) (c : Content) (rest : List ℕ) → IsContent n c rest → pairs_returns (content_text c rest) ≡ true → front is_feed ((content_cut c).4 ++ ((content_cut c).5 ++ rest)) ≡ true → ends_return (written c) ≡ false
+content_clean n (Nothing tail) rest h pairs feed = refl
+content_clean n (Inline space node tail) rest h pairs feed =
+    clean_joined space _ (clean_white space h.0) (ap ends_return (node_cut node) ∙ clean_node _ node _ (tail ++ rest) h.1.valid (plain_clean n space node tail rest h pairs feed))
+content_clean n (Block space anchor block) rest h pairs feed =
+    let head : List ℕ = Rattle.yq_scalar.specs.Block.mark_of block.style ∷ block.indicators in
+    let clean : ends_return head ≡ false = clean_byte _ block.indicators (style_clean block.style) (indicators_clean block.digit block.chomping block.indicators h.2.indicators) in
+    ends_more space (anchor_of anchor ++ (apart_of anchor ++ head)) (some_behind (anchor_of anchor) _ (some_behind (apart_of anchor) head refl))
+    ∙ (ends_more (anchor_of anchor) (apart_of anchor ++ head) (some_behind (apart_of anchor) head refl) ∙ (ends_more (apart_of anchor) head refl ∙ clean))
+
+-- ---- a row, up to the end of its line
+
+dashes_clean : (ns t : List ℕ) → ends_return t ≡ false → ends_return (dashes_text ns t) ≡ false
+dashes_clean [] t h = h
+dashes_clean (n ∷ ns) t h = clean_byte 45 (replicate n 32 ++ dashes_text ns t) refl (clean_joined (replicate n 32) (dashes_text ns t) (clean_spaces n) (dashes_clean ns t h))
+
+colon_clean : (key white : List ℕ) → ends_return (key ++ ((white ++ 58 ∷ []) ++ [])) ≡ false
+colon_clean key white =
+    ends_more key ((white ++ 58 ∷ []) ++ []) (ap is_empty (append-nil (white ++ 58 ∷ [])) ∙ some_behind white (58 ∷ []) refl) ∙ (ap ends_return (append-nil (white ++ 58 ∷ [])) ∙ last_byte white 58)
+
+mark_clean : (m : rows.Mark) (c : Content) (rest : List ℕ) → IsMark m c rest → ends_return (mark_text m []) ≡ false
+mark_clean rows.Bare c rest h = refl
+mark_clean rows.Dash c rest h = refl
+mark_clean (rows.Key key colon) c rest h = ap (λ t. ends_return (key ++ (t ++ []))) h.colon_is.spelled ∙ colon_clean key h.colon_is.white
+
+gap_clean : (gap rest : List ℕ) → IsGap gap rest → is_empty rest ≡ false → ends_return gap ≡ false
+gap_clean gap rest h some = go (gap_end gap rest h)
+  where
+    go : (gap ≡ []) ⊎ Ended gap rest → ends_return gap ≡ false
+    go (inl e) = ap ends_return e
+    go (inr (inl lf)) = ap ends_return lf.1 ∙ last_byte lf.0 10
+    go (inr (inr e)) = absurd (false≢true (sym some ∙ ap is_empty e))
+
+pub line_ends_clean : LineEndsClean
+line_ends_clean limit r rest h pairs feed =
+    let text : pairs_returns (content_text r.content rest) ≡ true = pairs_back (row_front r) (content_text r.content rest) (ap pairs_returns (sym (row_front-append r rest)) ∙ pairs) in
+    let some : is_empty (behind_gap r rest) ≡ false = some_behind (replicate r.column 32) (behind_indent r rest) (row_starts limit r rest h).some in
+    clean_joined (row_front r) (written r.content)
+    (clean_joined r.gap (replicate r.column 32 ++ dashes_text r.dashes (mark_text r.mark [])) (gap_clean r.gap (behind_gap r rest) h.gap some)
+    (clean_joined (replicate r.column 32) (dashes_text r.dashes (mark_text r.mark [])) (clean_spaces r.column) (dashes_clean r.dashes (mark_text r.mark []) (mark_clean r.mark r.content rest h.mark))))
+    (content_clean (parent_indent r) r.content rest h.content text feed)
+
+-- ---- a text cut where no CR stands before an LF
+
+pairs_clean : (a b : List ℕ) → ends_return a ≡ false → pairs_returns (a ++ b) ≡ true → pairs_returns a ≡ true
+unfolding pairs_returns
+pairs_clean [] b e h = refl
+pairs_clean (x ∷ []) b e h = rw e refl
+pairs_clean (x ∷ (y ∷ a)) b e h = elim (is_true (is_return x)) [
+  | inl r ↦ (let parts = and_true (is_feed y) (pairs_returns (y ∷ (a ++ b))) (rw r at h) in rw r (both_true _ _ parts.0 (pairs_clean (y ∷ a) b e parts.1)))
+  | inr r ↦ rw r (pairs_clean (y ∷ a) b e (rw r at h))
+]
+
+pub clean_cut : CleanCut
+clean_cut a b h u clean =
+    let x = and_true (all_text (a ++ b)) (pairs_returns (a ++ b)) h.characters in
+    let y = and_true (all_text a) (all_text b) (sym (all_join a b u) ∙ x.0) in
+    let start : IsCharBoundary (a ++ b) (length a) = seam (a ++ b) a b refl h.utf8 u in
+    let pairs : pairs_returns a ≡ true = ⊎_elim {0, 0, 0} (λ (e : front is_feed b ≡ true). pairs_clean a b (clean e) x.1) (λ e. Rattle.yq_rows.proofs.CharacterLaws.pairs_front a b e x.1) (is_true (front is_feed b)) in (
+      record { utf8 = u; characters = both_true _ _ y.0 pairs },
+      record { utf8 = subst IsUtf8 (drop-append_seam a b) (IsUtf8-drop (a ++ b) (length a) h.utf8 start); characters = both_true _ _ y.1 (pairs_back a b x.1) },
+    )

@@ -1,0 +1,132 @@
+-- The line comment of an item or entry at a path.
+use Rattle.std.proofs.Common.{◌≡◌, ℕ, ◌+◌, ℤ, Bool, true, false, ◌&&◌, ◌||◌, not, List, [], ◌∷◌, ◌++◌, length, take, Option, Some, None, refl, sym, ap, ◌∙◌, subst}
+use Rattle.std.proofs.Math.Seq.{take-append_seam}
+use Rattle.std.proofs.lemmas.Bool.{false≢true}
+use Rattle.yq_scalar.specs.Block.{BlockText, block_text, mark_of}
+use Rattle.yq_scalar.specs.Text.{is_empty, separates, unless}
+use Rattle.yq_scalar.specs.Paths.{Step, change, relabel_child, within}
+use Rattle.yq_scalar.specs.declared.block_header.BlockStyle.{BlockStyle}
+use Rattle.yq_scalar.specs.declared.block_header.BlockStyle.TheVariants as styles
+use Rattle.yq_inline.specs.Nodes.{in_name}
+use Rattle.yq_inline.proofs.AlikePieces.{name_by}
+use Rattle.yq_lines.specs.Comments.{line_comment}
+use Rattle.yq_lines.specs.Ends.{line_of}
+use Rattle.yq_lines.specs.Group.{level_or}
+use Rattle.yq_rows.specs.Exchange.{allows_first, asked_behind, with_content}
+use Rattle.yq_rows.specs.Gap.{IsWhite}
+use Rattle.yq_rows.specs.Grammar.{unlimited, limit_after, AreRows, IsAnchor, IsMark, IsRow, is_entry}
+use Rattle.yq_rows.specs.Rows as rows
+use Rattle.yq_rows.specs.Rows.{Content, Nothing, Inline, Block, Row, anchor_text, content_text, parent_indent, rows_text, Part, Cut, cut_text}
+use Rattle.yq_rows.specs.Seams.{TailFits, ends_part, is_block, retail, with_tail}
+use Rattle.yq_rows.proofs.ExchangeLaws.{one_row}
+use Rattle.yq_rows.proofs.seams.SeamLaws.{rows_drop}
+use Rattle.yq_rows.proofs.seams.TailLaws.{fits_by}
+use Rattle.yq_rows.proofs.splices.PartPlaces.{part_ends}
+use Rattle.yq_tree.specs.Documents.{lead_of}
+use Rattle.yq_tree.specs.Lines.{lines_of}
+use Rattle.yq_tree.specs.Reading.{outline_of}
+use Rattle.yq_tree.specs.RowPaths.{IsReadable}
+use Rattle.yq_tree.specs.Seats.{Seat, seat_of}
+use Rattle.yq_tree.specs.TreeEdits.{with_line_comment}
+use Rattle.yq_change.specs.Appends.{inserted}
+use Rattle.yq_change.specs.Changed.{IsChanged, put_document}
+use Rattle.yq_change.specs.DocumentRows.{IsDocumentPart, behind_document, part_number}
+use Rattle.yq_change.specs.PathTails.{with_line_tail, IsLineTail, tailed, TakesLineTail, PathTailPut}
+use Rattle.yq_change.specs.RowComments.{TakesRow, with_header_tail}
+use Rattle.yq_change.proofs.PartLaws.{document_known, drop_front, part_rows}
+use Rattle.yq_change.proofs.PathLaws.{path_is_entry, path_line_commented, seat_line, seat_number}
+use Rattle.yq_change.proofs.RowCommentLaws.{block_commented}
+
+-- a row of a document
+row_stands : (t : List ℕ) (c : Cut) (k : ℕ) (p : Part) (front back : List Row) (r : Row) → IsDocumentPart t c k p → p.rows ≡ front ++ (r ∷ back) → AreRows (asked_behind unlimited front) (r ∷ back) p.end (behind_document k c)
+row_stands t c k p front back r old is =
+    let own = rows_drop (length front) p.rows unlimited p.end (behind_document k c) (part_rows t c k p old (document_known t c k p old).cut) in
+    let all = subst (λ (rs : List Row). AreRows (asked_behind unlimited (take (length front) p.rows)) rs p.end (behind_document k c)) (drop_front p front (r ∷ back) is) own in
+    subst (λ (rs : List Row). AreRows (asked_behind unlimited rs) (r ∷ back) p.end (behind_document k c)) (ap (take (length front)) is ∙ take-append_seam front (r ∷ back)) all
+
+-- a header with another tail
+anchor_other : (anchor : Option rows.Anchor) (t u : List ℕ) → IsAnchor anchor t → IsAnchor anchor u
+anchor_other None t u h = tt
+anchor_other (Some a) t u h = (name_by a.name (a.gap ++ t) (a.gap ++ u) (other a.gap h.2 h.0.ends) h.0, h.1, h.2)
+  where
+    other : (gap : List ℕ) → is_empty gap ≡ false → unless in_name (gap ++ t) ≡ true → unless in_name (gap ++ u) ≡ true
+    other [] some e = absurd (false≢true (sym some))
+    other (b ∷ gap) some e = e
+
+mark_apart : (style : BlockStyle) (t u : List ℕ) → separates (mark_of style ∷ t) ≡ separates (mark_of style ∷ u)
+mark_apart styles.Literal t u = refl
+mark_apart styles.Folded t u = refl
+
+anchor_apart : (anchor : Option rows.Anchor) (style : BlockStyle) (t u : List ℕ) → separates (anchor_text anchor (mark_of style ∷ t)) ≡ separates (anchor_text anchor (mark_of style ∷ u))
+anchor_apart None style t u = mark_apart style t u
+anchor_apart (Some a) style t u = refl
+
+header_apart : (space : List ℕ) (anchor : Option rows.Anchor) (style : BlockStyle) (t u : List ℕ) → IsWhite space → separates (space ++ anchor_text anchor (mark_of style ∷ t)) ≡ true → separates (space ++ anchor_text anchor (mark_of style ∷ u)) ≡ true
+header_apart [] anchor style t u h e = sym (anchor_apart anchor style t u) ∙ e
+header_apart (b ∷ space) anchor style t u h e = rw h.0 refl
+
+-- behind the mark of a row that holds a block scalar
+entry_apart : (mark : rows.Mark) (space : List ℕ) (anchor : Option rows.Anchor) (block : BlockText) (rest : List ℕ) → IsMark mark (Block space anchor block) rest →
+    (is_entry mark ≡ true) × (separates (content_text (Block space anchor block) rest) ≡ true)
+entry_apart rows.Bare space anchor block rest h = absurd (false≢true h)
+entry_apart rows.Dash space anchor block rest h = (refl, h)
+entry_apart (rows.Key key colon) space anchor block rest h = (refl, h.colon_is.separated)
+
+free_first : (rs : List Row) → allows_first unlimited rs ≡ true
+free_first [] = refl
+free_first (r ∷ rs) = refl
+
+header_takes : (p : Part) (front back : List Row) (r : Row) (space : List ℕ) (anchor : Option rows.Anchor) (block : BlockText) (tail rest : List ℕ) → r.content ≡ Block space anchor block → p.rows ≡ front ++ (r ∷ back) →
+    Rattle.yq_scalar.specs.Block.is_tail tail ≡ true → IsRow (asked_behind unlimited front) r (rows_text back (p.end ++ rest)) → TakesRow p front r (with_content (with_header_tail tail space anchor block) r) back rest
+header_takes p front back r space anchor block tail rest is there fits row =
+    let u : List ℕ = rows_text back (p.end ++ rest) in
+    let other : BlockText = record block { tail = tail } in
+    let mark = entry_apart r.mark space anchor block u (subst (λ (x : Content). IsMark r.mark x u) is row.mark) in
+    let content = subst (λ (x : Content). Rattle.yq_rows.specs.Grammar.IsContent (parent_indent r) x u) is row.content in
+    record {
+      rows_are = there;
+      takes = one_row (asked_behind unlimited front) r (with_header_tail tail space anchor block) u u row mark.0 (
+        content.0,
+        anchor_other anchor (block_text block u) (block_text other u) content.1,
+        record { indicators = content.2.indicators; tail = fits; indent = content.2.indent; lines = content.2.lines; ends = content.2.ends; behind = content.2.behind },
+      )
+          (header_apart space anchor block.style _ _ content.0 mark.1);
+      next = free_first back;
+    }
+
+-- another end of the line of a row
+abbrev Commented : (c : Cut) (k : ℕ) (p : Part) (steps : List Step) (s : Step) (front back : List Row) (tail : List ℕ) → Row → Type 0
+Commented c k p steps s front back tail new =
+    IsReadable (cut_text (put_document k (inserted front (new ∷ []) back p) c)) →
+    IsChanged c (put_document k (inserted front (new ∷ []) back p) c) k (lead_of p) (change steps (within (relabel_child s (with_line_comment (line_comment tail)))))
+
+module _ (t : List ℕ) (c : Cut) (k : ℕ) (p : Part) (steps : List Step) (s : Step) (x : Seat) (front back : List Row) (tail : List ℕ) (old : IsDocumentPart t c k p) (seat_is : seat_of (steps ++ (s ∷ [])) p.rows ≡ Some x)
+    (last : x.line ≡ length x.row.dashes) (there : p.rows ≡ front ++ (x.row ∷ back)) (before : length front ≡ x.before) where
+  rest : List ℕ
+  rest = rows_text back (p.end ++ behind_document k c)
+
+  behind_tail : is_block x.row.content ≡ false → Rattle.yq_rows.specs.Grammar.IsTail tail (rows_text back (p.end ++ behind_document k c)) → Commented c k p steps s front back tail (retail tail x.row)
+  behind_tail inline h =
+      let all = row_stands t c k p front back x.row old there in
+      let ends : ends_part (behind_document k c) ≡ true = part_ends c (part_number k c) true (document_known t c k p old).cut.parts in
+      path_line_commented t c k p steps s x front back tail old seat_is last (record { rows_are = there; inline = inline; fits = fits_by (parent_indent x.row) x.row.content tail back p.end (behind_document k c) inline h all.1 ends }) before
+
+  in_header : (space : List ℕ) (anchor : Option rows.Anchor) (block : BlockText) → x.row.content ≡ Block space anchor block → Rattle.yq_scalar.specs.Block.is_tail tail ≡ true → Commented c k p steps s front back tail (with_content (with_header_tail tail space anchor block) x.row)
+  in_header space anchor block is h text =
+      let l = seat_line p.rows (line_of (steps ++ (s ∷ [])) (lines_of p.rows)) x seat_is in
+      let w = path_is_entry p (level_or 0 (outline_of p)) steps s l.0 (document_known t c k p old).even l.1 in
+      let number = seat_number p.rows front back l.0 x l.2 there before in
+      let all = row_stands t c k p front back x.row old there in
+      block_commented t c k p steps s w.h w.f front back x.row space anchor block tail old w.entry is (header_takes p front back x.row space anchor block tail (behind_document k c) is there h all.0)
+      (ap (λ (n : ℕ). length (lines_of front) + n) (sym last) ∙ (sym number ∙ w.number)) text
+
+  by_content : (y : Content) → x.row.content ≡ y → IsLineTail tail y (rows_text back (p.end ++ behind_document k c)) → Commented c k p steps s front back tail (with_content (with_line_tail tail y) x.row)
+  by_content (Nothing e) is h = subst (λ (z : Content). Commented c k p steps s front back tail (with_content z x.row)) (ap (with_tail tail) is) (behind_tail (ap is_block is) h)
+  by_content (Inline space node e) is h = subst (λ (z : Content). Commented c k p steps s front back tail (with_content z x.row)) (ap (with_tail tail) is) (behind_tail (ap is_block is) h)
+  by_content (Block space anchor block) is h = in_header space anchor block is h
+
+  pub tail_put : IsLineTail tail x.row.content (rows_text back (p.end ++ behind_document k c)) → Commented c k p steps s front back tail (tailed tail x.row)
+  tail_put h = by_content x.row.content refl h
+
+pub path_tail_put : PathTailPut
+path_tail_put t c k p steps s x front back tail old seat_is last takes before text = tail_put t c k p steps s x front back tail old seat_is last takes.rows_are before takes.fits text

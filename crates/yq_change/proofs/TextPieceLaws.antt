@@ -1,0 +1,81 @@
+-- Pieces of a text, joined and cut.
+use Rattle.std.proofs.Common.{arith, Some, ◌≡◌, ℕ, ◌<◌, Bool, true, false, ◌&&◌, List, [], ◌∷◌, ◌++◌, length, refl, sym, ap, ◌∙◌, subst, append_assoc}
+use Rattle.std.proofs.Math.Seq.{drop-append_seam}
+use Rattle.std.proofs.lemmas.Str.{IsUtf8-append, IsUtf8-drop, IsUtf8-from_is_utf8}
+use Rattle.std.proofs.lemmas.Str.{IsUtf8-take, IsCharBoundary-from_take}
+use Rattle.std.proofs.Math.Seq.{take-append_seam}
+use Rattle.std.specs.Str.{chars, IsUtf8, IsCharBoundary}
+use Rattle.yq_scalar.specs.Characters.{is_text, pairs_returns}
+use Rattle.yq_scalar.specs.Text.{front, is_feed}
+use Rattle.yq_scalar.proofs.Bools.{and_true}
+use Rattle.yq_rows.specs.Rows.{Cut, cut_text}
+use Rattle.yq_rows.specs.Exchange.{HasPieces}
+use Rattle.yq_rows.proofs.PieceLaws.{both_true}
+use Rattle.yq_rows.proofs.CharacterLaws.{all_text, all_join, pairs_join, pairs_back, pairs_front, pairs_cut, EndsBlack}
+use Rattle.yq_rows.proofs.NodePieces.{EndsAscii, BeginsAscii, behind_ascii, before_ascii}
+use Rattle.yq_tree.specs.Reading.{read_at}
+use Rattle.yq_tree.proofs.TextLaws.{seam}
+use Rattle.yq_tree.proofs.ReadLaws.{text_takes}
+use Rattle.yq_tree.proofs.HeldScalars.{behind_utf8}
+use Rattle.yq_scalar.proofs.Bools.{guard_then}
+use Rattle.yq_change.specs.TextPieces.{IsPiece, TextIsPiece, PiecesJoined, LineCut, BeginsPiece, ByteCut, PiecesCut}
+
+pub pieces_joined : PiecesJoined
+pieces_joined a b h k =
+    let x = and_true (all_text a) (pairs_returns a) h.characters in
+    let y = and_true (all_text b) (pairs_returns b) k.characters in
+    record {
+      utf8 = IsUtf8-append a b h.utf8 k.utf8;
+      characters = both_true _ _ (all_join a b h.utf8 ∙ both_true _ _ x.0 y.0) (pairs_join a b x.1 y.1);
+    }
+
+-- the text of a cut that reads
+pub text_is_piece : TextIsPiece
+unfolding read_at
+text_is_piece c h =
+    let x = guard_then _ h in
+    record { utf8 = IsUtf8-from_is_utf8 (cut_text c) x.0; characters = (text_takes (cut_text c) c x.1).0.characters }
+
+-- ---- a text cut in two
+
+-- What stands on both sides of a place in a text: no LF stands behind it, or a byte other than CR before it.
+data MayCut : List ℕ → List ℕ → Type 0 where
+  before : {a b : List ℕ} → front is_feed b ≡ false → MayCut a b
+  behind : {a b : List ℕ} → EndsBlack a → MayCut a b
+
+pairs_cut_at : (a b : List ℕ) → MayCut a b → pairs_returns (a ++ b) ≡ true → pairs_returns a ≡ true
+pairs_cut_at a b (before n) h = pairs_front a b n h
+pairs_cut_at a b (behind e) h =
+    let split : a ++ b ≡ e.front ++ (e.last ∷ b) = ap (λ (q : List ℕ). q ++ b) e.is ∙ append_assoc e.front (e.last ∷ []) b in
+    ap pairs_returns e.is ∙ pairs_cut e.front b e.last e.no_return (ap pairs_returns (sym split) ∙ h)
+
+pieces_cut : (a b : List ℕ) → IsPiece (a ++ b) → IsUtf8 a → MayCut a b → IsPiece a × IsPiece b
+pieces_cut a b h u may =
+    let x = and_true (all_text (a ++ b)) (pairs_returns (a ++ b)) h.characters in
+    let y = and_true (all_text a) (all_text b) (sym (all_join a b u) ∙ x.0) in
+    let start : IsCharBoundary (a ++ b) (length a) = seam (a ++ b) a b refl h.utf8 u in
+    (record { utf8 = u; characters = both_true _ _ y.0 (pairs_cut_at a b may x.1) },
+    record { utf8 = subst IsUtf8 (drop-append_seam a b) (IsUtf8-drop (a ++ b) (length a) h.utf8 start); characters = both_true _ _ y.1 (pairs_back a b x.1) })
+
+-- behind an ASCII byte that is no CR
+pub cut_behind : (a b : List ℕ) → IsPiece (a ++ b) → EndsAscii a → EndsBlack a → IsPiece a × IsPiece b
+cut_behind a b h e k = pieces_cut a b h (subst IsUtf8 (take-append_seam a b) (IsUtf8-take (a ++ b) (length a) h.utf8 (behind_ascii a b h.utf8 e))) (behind k)
+
+pub line_cut : LineCut
+line_cut a b h = cut_behind (a ++ 10 ∷ []) b h (record { front = a; last = 10; is = refl; ascii = omega arith }) (record { front = a; last = 10; is = refl; no_return = refl })
+
+-- before an ASCII byte that is no LF, or at the end
+ascii_front : (b : List ℕ) → BeginsPiece b → BeginsAscii b × (front is_feed b ≡ false)
+ascii_front [] h = (tt, refl)
+ascii_front (x ∷ b) h = h
+
+pub byte_cut : ByteCut
+byte_cut a b h e =
+    let x = ascii_front b e in
+    pieces_cut a b h (subst IsUtf8 (take-append_seam a b) (IsUtf8-take (a ++ b) (length a) h.utf8 (before_ascii a b x.0))) (before x.1)
+
+pub pieces_in_three : PiecesCut
+pieces_in_three t a o b h p n m =
+    let x = pieces_cut a (o ++ b) (subst IsPiece p.text h) p.before_utf8 (before n) in
+    let y = pieces_cut o b x.1 p.old_utf8 (before m) in
+    (x.0, y.0, y.1)

@@ -1,0 +1,40 @@
+-- The rows at the end of a block collection, by its place in a text (own).
+use Rattle.std.specs.Prelude.{◌≡◌, ℕ, ◌+◌, List, ◌∷◌, ◌++◌, [], length, Some}
+use Rattle.yq_scalar.specs.Paths.{Step}
+use Rattle.yq_rows.specs.Rows.{Row, rows_text, Part, part_text, Cut, cut_text}
+use Rattle.yq_lines.specs.Outline.{Line, Outline, end, row, flatten}
+use Rattle.yq_lines.specs.Places.{lines_before}
+use Rattle.yq_tree.specs.CollectionEnds.{CollectionEnd, is_broken, collection_end}
+use Rattle.yq_tree.specs.Lines.{lines_of}
+use Rattle.yq_tree.specs.Reading.{outline_of}
+use Rattle.yq_change.specs.Changed.{put_document}
+use Rattle.yq_change.specs.DocumentRows.{IsDocumentPart, behind_document}
+use Rattle.yq_change.specs.Siblings.{NodeLines, IsCollectionAt}
+
+-- the first of lines begins at a column
+abbrev pub BeginsAt : ℕ → Outline → Type 0
+BeginsAt column end = ⊥
+BeginsAt column (row l under after) = l.column ≡ column
+
+-- A place is the end of the block collection at a path of document k, which has part p: rows up to the collection's last line stand in front of it, and others behind.
+pub record IsCollectionEnd (c : Cut) (k : ℕ) (p : Part) (steps : List Step) (x : CollectionEnd) : Type 0 where
+  pub h : NodeLines
+  pub collection : IsCollectionAt steps (outline_of p) h
+  pub first : BeginsAt x.column h.lines
+  pub front : List Row
+  pub back : List Row
+  pub rows_are : p.rows ≡ front ++ back
+  pub others : List Row
+  pub last : Row
+  pub front_is : front ≡ others ++ (last ∷ [])
+  pub broken : x.broken ≡ is_broken last.content
+  pub count : length (lines_of front) ≡ length (lines_before h.place) + length (flatten h.lines)
+  pub start : List ℕ
+  pub before_is : x.before ≡ start ++ rows_text front []
+  pub behind_is : x.behind ≡ rows_text back (p.end ++ behind_document k c)
+  pub old_text : cut_text c ≡ start ++ part_text p (behind_document k c)
+  pub new_text : (q : Part) → cut_text (put_document k q c) ≡ start ++ part_text q (behind_document k c)
+
+-- The end of the block collection at a path is such a place.
+abbrev pub CollectionPlaces : Type 0
+CollectionPlaces = (t : List ℕ) (c : Cut) (k : ℕ) (p : Part) (steps : List Step) (x : CollectionEnd) → IsDocumentPart t c k p → collection_end k steps c ≡ Some x → IsCollectionEnd c k p steps x

@@ -1,0 +1,56 @@
+-- What is written behind the mark of one row gives way to a value (own).
+use Rattle.std.specs.Prelude.{◌≡◌, ℕ, suc, ◌+◌, List, [], ◌∷◌, ◌++◌, length, Some, None, false}
+use Rattle.yq_scalar.specs.Paths.{Step, change}
+use Rattle.yq_scalar.specs.Tree.{Node}
+use Rattle.yq_lines.specs.Comments.{line_comment}
+use Rattle.yq_lines.specs.Outline.{end, flatten}
+use Rattle.yq_lines.specs.Places.{lines_before, Found, find, content}
+use Rattle.yq_rows.specs.Exchange.{asked_behind, with_content}
+use Rattle.yq_rows.specs.Grammar.{unlimited}
+use Rattle.yq_rows.specs.Rows.{Bare, Content, Row, rows_text, Part, Cut, cut_text}
+use Rattle.yq_rows.specs.SpliceFits.{StandsFor}
+use Rattle.yq_tree.specs.Documents.{ContentHasFitKeys, is_long_plain, lead_of}
+use Rattle.yq_tree.specs.Lines.{content_anchor, head_of, tail_of, lines_of}
+use Rattle.yq_tree.specs.Reading.{outline_of, root_of}
+use Rattle.yq_tree.specs.RowPaths.{IsReadable}
+use Rattle.yq_tree.specs.TreeEdits.{replaced}
+use Rattle.yq_change.specs.Appends.{inserted}
+use Rattle.yq_change.specs.Changed.{IsChanged, put_document}
+use Rattle.yq_change.specs.DocumentRows.{IsDocumentPart, behind_document}
+use Rattle.yq_change.specs.SoundRoots.{MayReplace}
+
+-- a part in which a row has another content
+abbrev pub recontent : (front : List Row) → Row → (back : List Row) → Content → Part → Part
+recontent front r back new p = inserted front (with_content new r ∷ []) back p
+
+-- A content takes the place of a row's in document k: the row with it stands for the row there, it stands for a value behind the old anchor, and has the old comment.
+pub record TakesContent (t : List ℕ) (c : Cut) (k : ℕ) (p : Part) (front : List Row) (r : Row) (back : List Row) (v : Node) (new : Content) : Type 0 where
+  pub old : IsDocumentPart t c k p
+  pub rows_are : p.rows ≡ front ++ (r ∷ back)
+  pub row : StandsFor (asked_behind unlimited front) r (with_content new r) back (rows_text back (p.end ++ behind_document k c))
+  pub head_is : head_of new ≡ Some v
+  pub anchor_is : content_anchor new ≡ content_anchor r.content
+  pub comment_is : line_comment (tail_of new) ≡ line_comment (tail_of r.content)
+  pub keys : ContentHasFitKeys new
+  pub short : is_long_plain r.mark new ≡ false
+  pub text : IsReadable (cut_text (put_document k (recontent front r back new p) c))
+
+-- Replace behind a key or dash, with no lines under it.
+abbrev pub EntryContentReplaced : Type 0
+EntryContentReplaced =
+    (t : List ℕ) (c : Cut) (k : ℕ) (p : Part) (front back : List Row) (r : Row) (v : Node) (new : Content) (s : Step) (ss : List Step) (f : Found) → TakesContent t c k p front r back v new →
+    find s ss (outline_of p) ≡ Some (f, []) → f.under ≡ end → length (lines_of front) + length r.dashes ≡ length (lines_before f.place) → MayReplace v (content f.line f.under) (root_of p) (length (s ∷ ss)) →
+    IsChanged c (put_document k (recontent front r back new p) c) k (lead_of p) (change (s ∷ ss) (replaced v))
+
+-- Replace of a node that is alone on the line under its key or dash.
+abbrev pub LowerContentReplaced : Type 0
+LowerContentReplaced =
+    (t : List ℕ) (c : Cut) (k : ℕ) (p : Part) (front back : List Row) (r : Row) (v : Node) (new : Content) (s : Step) (ss : List Step) (f : Found) → TakesContent t c k p front r back v new →
+    find s ss (outline_of p) ≡ Some (f, []) → f.line.head ≡ None → length (flatten f.under) ≡ 1 → r.mark ≡ Bare → length (lines_of front) + length r.dashes ≡ suc (length (lines_before f.place)) →
+    MayReplace v (content f.line f.under) (root_of p) (length (s ∷ ss)) → IsChanged c (put_document k (recontent front r back new p) c) k (lead_of p) (change (s ∷ ss) (replaced v))
+
+-- Replace of a root that is alone on its line.
+abbrev pub RootContentReplaced : Type 0
+RootContentReplaced =
+    (t : List ℕ) (c : Cut) (k : ℕ) (p : Part) (front back : List Row) (r : Row) (v : Node) (new : Content) → TakesContent t c k p front r back v new → length (lines_of p.rows) ≡ 1 → r.mark ≡ Bare →
+    MayReplace v (root_of p) (root_of p) 0 → IsChanged c (put_document k (recontent front r back new p) c) k (lead_of p) (change [] (replaced v))

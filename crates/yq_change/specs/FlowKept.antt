@@ -1,0 +1,32 @@
+-- What stays of a document in which a flow collection has other items or entries (7.4; own).
+use Rattle.std.specs.Prelude.{◌≡◌, ℕ, List}
+use Rattle.yq_scalar.specs.Paths.{Step}
+use Rattle.yq_inline.specs.Collections.{CollPieces, put_at}
+use Rattle.yq_inline.specs.Nodes.{Items}
+use Rattle.yq_inline.specs.Removals.{removing}
+use Rattle.yq_lines.specs.Places.{Found}
+use Rattle.yq_rows.specs.Rows.{Part, Cut}
+use Rattle.yq_tree.specs.Documents.{EachHasFitKeys, HasFitKeys, lead_of}
+use Rattle.yq_change.specs.DocumentRows.{IsDocumentPart}
+use Rattle.yq_change.specs.FlowRows.{InlineRow, IsFlowAt, with_node}
+use Rattle.yq_change.specs.Rooms.{is_block_root, SameSeats}
+
+-- the document with another gap and other items or entries in a collection in a row
+abbrev pub with_items : Part → InlineRow → List Step → List ℕ → Items → Part
+with_items p i rest gap is = with_node p i (put_at rest gap is i.node)
+
+-- It has room for the same comments, its root is block where it was, and it has the same lead.
+abbrev pub FlowRooms : Type 0
+FlowRooms =
+    (c : Cut) (k : ℕ) (p : Part) (steps : List Step) (f : Found) (rest : List Step) (i : InlineRow) (w : CollPieces) (gap : List ℕ) (is : Items) → IsFlowAt c k p steps f rest i w →
+    SameSeats p (with_items p i rest gap is) × (is_block_root (with_items p i rest gap is) ≡ is_block_root p) × (lead_of (with_items p i rest gap is) ≡ lead_of p)
+
+-- Its keys are fit, where those of the items or entries are.
+abbrev pub FlowKeys : Type 0
+FlowKeys =
+    (t : List ℕ) (c : Cut) (k : ℕ) (p : Part) (steps : List Step) (f : Found) (rest : List Step) (i : InlineRow) (w : CollPieces) (gap : List ℕ) (is : Items) → IsDocumentPart t c k p → IsFlowAt c k p steps f rest i w →
+    (EachHasFitKeys w.items → EachHasFitKeys is) → HasFitKeys (put_at rest gap is i.node)
+
+-- Those that are left are fit.
+abbrev pub LeftKeys : Type 0
+LeftKeys = (s : Step) (w : CollPieces) → EachHasFitKeys w.items → EachHasFitKeys (removing s w).items

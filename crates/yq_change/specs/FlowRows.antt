@@ -1,0 +1,86 @@
+-- The operations inside flow collections, by the row in whose content the collection stands (7.4; own).
+use Rattle.std.specs.Prelude.{◌≡◌, ℕ, ◌+◌, List, [], ◌∷◌, ◌++◌, length, slice_get, Some}
+use Rattle.yq_scalar.specs.Paths.{Step, change, within}
+use Rattle.yq_scalar.specs.Tree.{Children}
+use Rattle.yq_scalar.specs.declared.style.Place.TheVariants as places
+use Rattle.yq_inline.specs.Collections.{CollAt, CollPieces, IsCollAt, coll_along}
+use Rattle.yq_inline.specs.FlowEdits.{FlowEdit, IsEdited, edited_node}
+use Rattle.yq_inline.specs.Nodes.{Node, node_text}
+use Rattle.yq_lines.specs.Places.{lines_before, Found}
+use Rattle.yq_rows.specs.Exchange.{with_content}
+use Rattle.yq_rows.specs.Rows.{Inline, Row, parent_indent, rows_text, Part, Cut, cut_text}
+use Rattle.yq_tree.specs.Documents.{HasFitKeys, document_parts, lead_of}
+use Rattle.yq_tree.specs.FlowNodes.{find_head, flow_collection}
+use Rattle.yq_tree.specs.Lines.{lines_of}
+use Rattle.yq_tree.specs.Reading.{outline_of, read_at, root_of}
+use Rattle.yq_tree.specs.RowPaths.{IsReadable}
+use Rattle.yq_change.specs.Appends.{inserted}
+use Rattle.yq_change.specs.Changed.{IsChanged, put_document}
+use Rattle.yq_change.specs.DocumentRows.{IsDocumentPart, behind_document}
+use Rattle.yq_change.specs.SoundRoots.{IsSoundRoot}
+
+-- An inline node in a row of document k: the rows before and behind that, and its content's pieces.
+pub record InlineRow : Type 0 where
+  pub front : List Row
+  pub row : Row
+  pub back : List Row
+  pub space : List ℕ
+  pub node : Node
+  pub tail : List ℕ
+
+-- the text behind the node
+abbrev pub behind_node : Cut → ℕ → Part → InlineRow → List ℕ
+behind_node c k p i = i.tail ++ rows_text i.back (p.end ++ behind_document k c)
+
+-- a collection in the node
+abbrev pub coll_at : Cut → ℕ → Part → InlineRow → List Step → CollPieces → CollAt
+coll_at c k p i steps w = record { place = places.Block; indent = parent_indent i.row; around = 0; node = i.node; rest = behind_node c k p i; steps = steps; coll = w }
+
+-- the document with another node there
+abbrev pub with_node : Part → InlineRow → Node → Part
+with_node p i m = inserted i.front (with_content (Inline i.space m i.tail) i.row ∷ []) i.back p
+
+-- A path of a document leads to a collection in the inline node of a row, by these steps in the node.
+pub record IsFlowAt (c : Cut) (k : ℕ) (p : Part) (steps : List Step) (f : Found) (rest : List Step) (i : InlineRow) (w : CollPieces) : Type 0 where
+  pub found : find_head steps (outline_of p) ≡ Some (f, rest)
+  pub rows_are : p.rows ≡ i.front ++ (i.row ∷ i.back)
+  pub content_is : i.row.content ≡ Inline i.space i.node i.tail
+  pub number : length (lines_of i.front) + length i.row.dashes ≡ length (lines_before f.place)
+  pub along : coll_along rest i.node (behind_node c k p i) ≡ Some w
+
+-- The collection stands in the node.
+abbrev pub FlowStands : Type 0
+FlowStands =
+    (t : List ℕ) (c : Cut) (k : ℕ) (p : Part) (steps : List Step) (f : Found) (rest : List Step) (i : InlineRow) (w : CollPieces) → IsDocumentPart t c k p → IsFlowAt c k p steps f rest i w →
+    IsCollAt (coll_at c k p i rest w)
+
+-- Its items or entries are changed by an edit of the text.
+abbrev pub FlowEdited : Type 0
+FlowEdited =
+    (t : List ℕ) (c : Cut) (k : ℕ) (p : Part) (steps : List Step) (f : Found) (rest : List Step) (i : InlineRow) (w : CollPieces) (e : FlowEdit) (h : Children → Children) →
+    IsDocumentPart t c k p → IsFlowAt c k p steps f rest i w → IsEdited (coll_at c k p i rest w) e (change rest (within h)) → HasFitKeys (edited_node (coll_at c k p i rest w) e) →
+    IsSoundRoot (change steps (within h) (root_of p)) → IsReadable (cut_text (put_document k (with_node p i (edited_node (coll_at c k p i rest w) e)) c)) →
+    IsChanged c (put_document k (with_node p i (edited_node (coll_at c k p i rest w) e)) c) k (lead_of p) (change steps (within h))
+
+-- A path of document k leads to a flow collection: the part, and the row in which the collection stands.
+pub record FlowAt (c : Cut) (k : ℕ) (steps : List Step) (w : CollPieces) : Type 0 where
+  pub part : Part
+  pub there : slice_get (document_parts c) k ≡ Some part
+  pub line : Found
+  pub rest : List Step
+  pub row : InlineRow
+  pub at : IsFlowAt c k part steps line rest row w
+
+-- The flow collection at a path of a text is one in a row.
+abbrev pub FlowFound : Type 0
+FlowFound = (t : List ℕ) (c : Cut) (k : ℕ) (steps : List Step) (w : CollPieces) → read_at t ≡ Some c → flow_collection k steps c ≡ Some w → FlowAt c k steps w
+
+-- The text of a cut with an inline node, and with another one in its place.
+pub record NodeStands (c : Cut) (k : ℕ) (p : Part) (i : InlineRow) : Type 0 where
+  pub before : List ℕ
+  pub old : cut_text c ≡ before ++ node_text i.node (behind_node c k p i)
+  pub new : (m : Node) → cut_text (put_document k (with_node p i m) c) ≡ before ++ node_text m (behind_node c k p i)
+
+-- Outside the node it is the same text.
+abbrev pub RowTexts : Type 0
+RowTexts = (c : Cut) (k : ℕ) (p : Part) (i : InlineRow) → slice_get (document_parts c) k ≡ Some p → p.rows ≡ i.front ++ (i.row ∷ i.back) → i.row.content ≡ Inline i.space i.node i.tail → NodeStands c k p i

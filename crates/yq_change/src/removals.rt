@@ -1,0 +1,19 @@
+//! Items and entries taken out of a text.
+ghost use Rattle.yq_change.specs.RemovalChanges.{EntryTakenOut, FirstStands, FirstTakenOut, OwnRowsStand, RemovalStands};
+
+/// Which rows an item or entry has.
+pub fn rows_in_text()
+    ensures { OwnRowsStand }
+{}
+
+/// One of several items or entries, with whole rows, taken out of a text.
+pub fn taken_out()
+    ensures stands { RemovalStands }
+    ensures reads { EntryTakenOut }
+{}
+
+/// The first of several items or entries of a compact collection taken out of a text.
+pub fn first_taken_out()
+    ensures stands { FirstStands }
+    ensures reads { FirstTakenOut }
+{}

@@ -1,0 +1,30 @@
+//! Laws on leads, on the room for comments, and on pieces of texts.
+ghost use Rattle.yq_change.specs.CollectionPlaces.{CollectionPlaces};
+ghost use Rattle.yq_change.specs.Rooms.{BlockLeadGoes, KeptLeadGoes, SameLeadGoes, ShapeTells};
+ghost use Rattle.yq_change.specs.TextPieces.{ByteCut, LineCut, PiecesCut, PiecesJoined, TextIsPiece};
+
+/// The lead of a part goes with its root.
+pub fn lead_goes()
+    ensures same { SameLeadGoes }
+    ensures block { BlockLeadGoes }
+    ensures kept { KeptLeadGoes }
+{}
+
+/// Rows of the same shapes leave the room for comments as it was.
+pub fn shapes_tell()
+    ensures { ShapeTells }
+{}
+
+/// Pieces of a text can be joined, and a text cut into pieces.
+pub fn pieces_of_texts()
+    ensures text { TextIsPiece }
+    ensures joined { PiecesJoined }
+    ensures line { LineCut }
+    ensures byte { ByteCut }
+    ensures three { PiecesCut }
+{}
+
+/// Rows stand in front of the end of a block collection and behind it.
+pub fn collections_end()
+    ensures { CollectionPlaces }
+{}

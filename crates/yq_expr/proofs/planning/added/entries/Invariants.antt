@@ -1,0 +1,10 @@
+use Rattle.std.proofs.Common.{◌≡◌, drop, ◌++◌, map}
+use Rattle.yq_inline.specs.Values.{entries_of}
+use Rattle.yq_scalar.specs.Tree.{Children}
+use Rattle.yq_expr.specs.Changes.{additions}
+use Rattle.yq_expr.specs.ChangeView.{addition_of}
+use Rattle.yq_expr.specs.Indexes.{IsIndex}
+use Rattle.yq_expr.proofs.planning.added.entries.Given as goal
+
+abbrev pub invariant-each : goal.invariant-each
+invariant-each l = (cs : Children) → IsIndex cs l.index → map addition_of l.additions.items ++ additions cs (entries_of (drop l.other-index l.other-items)) ≡ additions cs (entries_of l.other-items)

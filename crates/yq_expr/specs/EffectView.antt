@@ -1,0 +1,28 @@
+-- What an update does at each place, as the code has it.
+use Rattle.std.specs.Prelude.{ℕ, List, [], ◌∷◌, map, Option, Some, None, string_bytes}
+use Rattle.yq_inline.specs.Values.{node_of}
+use Rattle.yq_expr.specs.declared.planning.change.Change as change
+use Rattle.yq_expr.specs.declared.planning.effect.Effect as effect
+use Rattle.yq_expr.specs.Changes.{Room, Changed, put_at, add_at, remove_at, comment_at}
+use Rattle.yq_expr.specs.ChangeView.{change_of}
+use Rattle.yq_expr.specs.Judgement.{Judgement, and_then}
+use Rattle.yq_expr.specs.Places.{Place}
+use Rattle.yq_expr.specs.RightValues.{right_value}
+use Rattle.yq_expr.specs.View.{term_of}
+
+-- a change at a place (own)
+abbrev pub placed_change : Place → change.Change → List Changed
+placed_change p c = (p.path, change_of c) ∷ []
+
+-- the same, if there is one (own)
+abbrev pub placed : Place → Option change.Change → List Changed
+placed p None = []
+placed p (Some c) = placed_change p c
+
+-- what is changed at a place of the document of that number, which has such room (own)
+abbrev pub effect_at : ℕ → Room → effect.Effect → Place → Judgement (List Changed)
+effect_at doc room (effect.TheVariants.Put v) p = put_at p (node_of v.now)
+effect_at doc room (effect.TheVariants.Modify terms) p = and_then (put_at p) (right_value doc (map term_of terms.now) p)
+effect_at doc room (effect.TheVariants.Add v) p = add_at p (node_of v.now)
+effect_at doc room effect.TheVariants.Remove p = remove_at p
+effect_at doc room (effect.TheVariants.SetComment place text) p = comment_at room place text.now p

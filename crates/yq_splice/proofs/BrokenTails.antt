@@ -1,0 +1,103 @@
+-- The end of a line with another break.
+use Rattle.std.proofs.Common.{◌≡◌, ◌⊎◌, inl, inr, ℕ, Bool, true, false, ◌&&◌, ◌||◌, not, List, [], ◌∷◌, ◌++◌, refl, sym, ap, ◌∙◌, subst, append_assoc}
+use Rattle.std.proofs.lemmas.Bool.{false≢true}
+use Rattle.yq_scalar.specs.BlockWritten.{break_text}
+use Rattle.yq_scalar.specs.Characters.{pairs_returns}
+use Rattle.yq_scalar.specs.Text.{front, is_feed, is_return, is_white, is_empty, is_break, is_line, ends_line, separates, NoneIn}
+use Rattle.yq_scalar.specs.declared.block_written.Break.{Break}
+use Rattle.yq_scalar.specs.declared.block_written.Break.TheVariants.{Lf, CrLf}
+use Rattle.yq_scalar.proofs.Bools.{is_true, and_true, or_false}
+use Rattle.yq_lines.specs.Comments.{line_comment}
+use Rattle.yq_rows.specs.Gap.{IsWhite, IsBreak, IsComment}
+use Rattle.yq_rows.specs.Grammar.{IsTail}
+use Rattle.yq_rows.proofs.CharacterLaws.{pairs_back}
+use Rattle.yq_rows.proofs.seams.ScalarSeams.{ends_return}
+use Rattle.yq_change.proofs.EndLaws.{told, comment_is}
+
+-- a break
+break_is : (br : Break) → (is_break (break_text br) && is_line (break_text br)) ≡ true
+unfolding is_line
+break_is Lf = refl
+break_is CrLf = refl
+
+-- what stands in front of a break ends in no CR
+pub front_clean : (c rest : List ℕ) → pairs_returns (c ++ rest) ≡ true → NoneIn ends_line c rest → ends_return c ≡ false
+unfolding pairs_returns
+front_clean [] rest h n = refl
+front_clean (b ∷ []) rest h n = go (is_true (is_return b))
+  where
+    go : (is_return b ≡ true) ⊎ (is_return b ≡ false) → is_return b ≡ false
+    go (inr e) = e
+    go (inl e) =
+        let pairs : (front is_feed rest && pairs_returns rest) ≡ true = rw e at h in
+        let none = (or_false (is_feed b) (is_return b && front is_feed rest) n.0).1 in
+        absurd (false≢true (sym none ∙ rw (e, (and_true (front is_feed rest) (pairs_returns rest) pairs).0) refl))
+front_clean (b ∷ (d ∷ c)) rest h n = front_clean (d ∷ c) rest (pairs_back (b ∷ []) (d ∷ (c ++ rest)) h) n.1
+
+none_other : (c old new : List ℕ) → NoneIn ends_line c old → ends_return c ≡ false → NoneIn ends_line c new
+none_other [] old new n e = tt
+none_other (b ∷ []) old new n e = let f = or_false (is_feed b) (is_return b && front is_feed old) n.0 in (rw (f.0, e) refl, tt)
+none_other (b ∷ (d ∷ c)) old new n e = (n.0, none_other (d ∷ c) old new n.1 e)
+
+-- so a comment there goes up to another break
+comment_other : (c old rest new : List ℕ) → pairs_returns (c ++ (old ++ rest)) ≡ true → IsComment c old → IsBreak old rest → IsComment c new
+comment_other [] old rest new p h e = tt
+comment_other (b ∷ c) old rest new p h e =
+    (h.0, none_other c (old ++ rest) new more (front_clean c (old ++ rest) (pairs_back (b ∷ []) (c ++ (old ++ rest)) p) more))
+  where
+    more : NoneIn ends_line c (old ++ rest)
+    more = (Rattle.yq_tree.proofs.LineEndLaws.comment_more (b ∷ c) old rest h e).1
+
+module _ (tail rest : List ℕ) (h : IsTail tail rest) (br : Break) where
+  -- the white space and the comment of a tail, and a break
+  abbrev pub broken : List ℕ
+  broken = h.white ++ (h.comment ++ break_text br)
+
+  split : tail ++ rest ≡ h.white ++ (h.comment ++ (h.line.break ++ rest))
+  split = ap (λ x. x ++ rest) h.line.spelled ∙ (append_assoc h.white (h.comment ++ h.line.break) rest ∙ ap (λ x. h.white ++ x) (append_assoc h.comment h.line.break rest))
+
+  module _ (pairs : pairs_returns (tail ++ rest) ≡ true) where
+    remark : IsComment h.comment (break_text br)
+    remark = comment_other h.comment h.line.break rest (break_text br) (pairs_back h.white (h.comment ++ (h.line.break ++ rest)) (ap pairs_returns (sym split) ∙ pairs)) h.line.remark h.line.ends
+
+    pub broken_tail : (more : List ℕ) → IsTail broken more
+    broken_tail more = record { white = h.white; comment = h.comment; line = record { break = break_text br; spelled = refl; blank = h.line.blank; remark = remark; ends = inl (break_is br) }; apart = h.apart }
+
+    -- it has the same comment
+    pub broken_comment : line_comment broken ≡ line_comment tail
+    broken_comment =
+        comment_is h.white h.comment (break_text br) h.line.blank remark (inl (break_is br))
+        ∙ (sym (comment_is h.white h.comment h.line.break h.line.blank h.line.remark (alone h.line.ends)) ∙ ap line_comment (sym h.line.spelled))
+      where
+        alone : IsBreak h.line.break rest → IsBreak h.line.break []
+        alone (inl e) = inl e
+        alone (inr e) = inr (e.0, refl)
+
+    -- it stands behind a key or dash
+    pub broken_apart : (more : List ℕ) → separates (broken ++ more) ≡ true
+    broken_apart more = go h.white h.comment h.line.blank h.apart
+      where
+        go : (w c : List ℕ) → IsWhite w → (is_empty c || not (is_empty w)) ≡ true → separates ((w ++ (c ++ break_text br)) ++ more) ≡ true
+        go (b ∷ w) c blank a = rw blank.0 refl
+        go [] [] blank a = first br
+          where
+            first : (br : Break) → separates (break_text br ++ more) ≡ true
+            first Lf = refl
+            first CrLf = refl
+        go [] (b ∷ c) blank a = absurd (false≢true a)
+
+-- a tail without a comment has none
+pub quiet_tail : (tail rest : List ℕ) (h : IsTail tail rest) → is_empty h.comment ≡ true → line_comment tail ≡ Rattle.std.proofs.Common.None
+quiet_tail tail rest h e = ap line_comment h.line.spelled ∙ (comment_is h.white h.comment h.line.break h.line.blank h.line.remark (alone h.line.ends) ∙ ap told (none h.comment e))
+  where
+    alone : IsBreak h.line.break rest → IsBreak h.line.break []
+    alone (inl e) = inl e
+    alone (inr e) = inr (e.0, refl)
+
+    none : (c : List ℕ) → is_empty c ≡ true → c ≡ []
+    none [] e = refl
+    none (b ∷ c) e = absurd (false≢true e)
+
+-- the end of a line, without the white space and the comment in front of it
+abbrev pub end_tail : (tail rest : List ℕ) (h : IsTail tail rest) → IsTail h.line.break rest
+end_tail tail rest h = record { white = []; comment = []; line = record { break = h.line.break; spelled = refl; blank = tt; remark = tt; ends = h.line.ends }; apart = refl }

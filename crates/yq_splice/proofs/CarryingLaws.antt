@@ -1,0 +1,67 @@
+-- The ways carry operations out.
+use Rattle.std.proofs.Common.{◌≡◌, List, Option, Some, None}
+use Rattle.yq_rows.specs.Rows.{cut_text}
+use Rattle.yq_splice.specs.AppendWay.{append_way}
+use Rattle.yq_splice.specs.BlockReplacing.{block_replace_way}
+use Rattle.yq_splice.specs.BlockWriting.{replace_block_way}
+use Rattle.yq_splice.specs.Carried.{comment_ways, remove_ways, entry_ways, replace_ways, exchange_ways, node_ways, tree_ways, carrying}
+use Rattle.yq_splice.specs.CommentWays.{line_comment_way, head_comment_way}
+use Rattle.yq_splice.specs.FlowWays.{flow_remove_way}
+use Rattle.yq_splice.specs.Removing.{remove_way}
+use Rattle.yq_splice.specs.RemovingFirst.{remove_first_way}
+use Rattle.yq_splice.specs.Replacing.{replace_way}
+use Rattle.yq_splice.specs.Script.{Segment, old_text, new_text}
+use Rattle.yq_splice.specs.Ways.{Way, ReadsAfter, IsWay, first_some, or_else}
+use Rattle.yq_splice.proofs.AppendWayLaws.{append_is}
+use Rattle.yq_splice.proofs.BlockWayLaws.{block_replace_is}
+use Rattle.yq_splice.proofs.BlockWritingLaws.{replace_block_is}
+use Rattle.yq_splice.proofs.FlowRemoveLaws.{flow_remove_is}
+use Rattle.yq_splice.proofs.HeadCommentLaws.{head_comment_is_way}
+use Rattle.yq_splice.proofs.LineCommentLaws.{line_comment_is_way}
+use Rattle.yq_splice.proofs.RemovingFirstLaws.{remove_first_is}
+use Rattle.yq_splice.proofs.RemovingLaws.{remove_is_way}
+use Rattle.yq_splice.proofs.ReplaceLaws.{replace_is}
+
+-- what follows from either of two follows from the first that there is
+by_either : (x y : Option (List Segment)) (ss : List Segment) (R : Type 0) → (x ≡ Some ss → R) → (y ≡ Some ss → R) → first_some x y ≡ Some ss → R
+by_either None y ss R f g is = g is
+by_either (Some x) y ss R f g is = f is
+
+either_is : (f g : Way) → IsWay f → IsWay g → IsWay (or_else f g)
+either_is f g h k = record {
+  old = λ op c ss read. by_either (f op c) (g op c) ss (old_text ss ≡ cut_text c) (h.old op c ss read) (k.old op c ss read);
+  reads = λ op c ss read is operand fits size.
+      by_either (f op c) (g op c) ss (ReadsAfter op c (new_text ss)) (λ e. h.reads op c ss read e operand fits size) (λ e. k.reads op c ss read e operand fits size) is;
+}
+
+comments_are : IsWay comment_ways
+unfolding comment_ways
+comments_are = either_is line_comment_way head_comment_way line_comment_is_way head_comment_is_way
+
+removals_are : IsWay remove_ways
+unfolding remove_ways
+removals_are = either_is remove_way remove_first_way remove_is_way remove_first_is
+
+entries_are : IsWay entry_ways
+unfolding entry_ways
+entries_are = either_is append_way remove_ways append_is removals_are
+
+replaced_are : IsWay replace_ways
+unfolding replace_ways
+replaced_are = either_is replace_way replace_block_way replace_is replace_block_is
+
+exchanged_are : IsWay exchange_ways
+unfolding exchange_ways
+exchanged_are = either_is replace_ways block_replace_way replaced_are block_replace_is
+
+nodes_are : IsWay node_ways
+unfolding node_ways
+nodes_are = either_is exchange_ways entry_ways exchanged_are entries_are
+
+trees_are : IsWay tree_ways
+unfolding tree_ways
+trees_are = either_is node_ways flow_remove_way nodes_are flow_remove_is
+
+pub carrying_is : IsWay carrying
+unfolding carrying
+carrying_is = either_is tree_ways comment_ways trees_are comments_are

@@ -1,0 +1,62 @@
+-- What is written of a value in flow style is the inline node of that value, and a piece of a text.
+use Rattle.std.proofs.Common.{◌≡◌, ◌≢◌, ℕ, ℤ, ◌+◌, ◌≤◌, ◌||◌, not, eqb, List, [], ◌∷◌, ◌++◌, length, Option, Some, None, Bool, true, false, cond, refl, sym, ap, ◌∙◌, subst, arith, append-nil}
+use Rattle.std.proofs.lemmas.Bool.{false≢true, cond_both, ltb-false}
+use Rattle.std.specs.Prelude.{codes}
+use Rattle.std.specs.Str.{chars, IsUtf8}
+use Rattle.yq_scalar.specs.Characters.{is_text, pairs_returns}
+use Rattle.yq_scalar.specs.Piece.{deeper}
+use Rattle.yq_scalar.specs.Plain.{ends_plain, holds_break}
+use Rattle.yq_scalar.specs.PlainText.{is_plain_text}
+use Rattle.yq_scalar.specs.Scalar.{ScalarText, string_of}
+use Rattle.yq_scalar.specs.Keys.{depth}
+use Rattle.yq_scalar.specs.Tree as tree
+use Rattle.yq_scalar.specs.Tree.{Children}
+use Rattle.yq_scalar.specs.Writable.{can_write, can_write_plain}
+use Rattle.yq_scalar.specs.Written.{written}
+use Rattle.yq_scalar.specs.declared.kind.Kind.TheVariants as kinds
+use Rattle.yq_scalar.specs.declared.style.Place.TheVariants as places
+use Rattle.yq_scalar.specs.declared.style.Style.TheVariants as styles
+use Rattle.yq_scalar.proofs.PlainSpells.{writable_text}
+use Rattle.yq_inline.specs.Inline.{depth_limit}
+use Rattle.yq_inline.specs.Nodes as inline
+use Rattle.yq_inline.specs.Nodes.{node_text, items_text}
+use Rattle.yq_inline.specs.Valued.{IsValueTree}
+use Rattle.yq_inline.specs.Written.{scalar_text, flow_key, flow_of, flow_items, flow_text}
+use Rattle.yq_tree.specs.Documents.{IsFit, HasFitKey, HasFitKeys, EachHasFitKeys}
+use Rattle.yq_expr.specs.Changes.{is_long, has_long_key, have_long_key}
+
+or_parts : (x y : Bool) → (x || y) ≡ false → (x ≡ false) × (y ≡ false)
+or_parts false y h = (refl, h)
+or_parts true y h = absurd (false≢true (sym h))
+
+-- a key doesn't merge
+plain_apart : (k : List ℕ) → is_plain_text true k ≡ true → k ≡ 60 ∷ 60 ∷ [] → ⊥
+unfolding chars
+plain_apart k h e = let text : is_plain_text true (60 ∷ 60 ∷ []) ≡ true = subst (λ (t : List ℕ). is_plain_text true t ≡ true) e h in false≢true text
+
+key_apart_by : (k : List ℕ) (plain : Bool) → can_write_plain (string_of k) true ≡ plain → written (cond plain styles.Plain styles.Double) k ≢ codes "<<"
+key_apart_by k true h e = let merge : codes "<<" ≡ 60 ∷ 60 ∷ [] = refl in plain_apart k (writable_text kinds.Text k true tt h) (e ∙ merge)
+key_apart_by k false h e =
+    let merge : codes "<<" ≡ 60 ∷ 60 ∷ [] = refl in
+    false≢true (sym (ap (Rattle.yq_scalar.specs.Text.front (λ b. eqb b 34)) (e ∙ merge)))
+
+key_fits : (k : Option (List ℕ)) → is_long k ≡ false → HasFitKey (flow_key k)
+unfolding scalar_text
+key_fits None h = tt
+key_fits (Some k) h = (key_apart_by k (can_write_plain (string_of k) true) refl, ltb-false _ _ h)
+
+mutual
+  unfolding flow_of flow_items
+
+  pub flow_fits : (v : tree.Node) → has_long_key v ≡ false → HasFitKeys (flow_of v)
+  flow_fits (tree.alias n) h = tt
+  flow_fits (tree.scalar a kind t) h = tt
+  flow_fits (tree.list a cs) h = items_fit cs h
+  flow_fits (tree.map a cs) h = items_fit cs h
+
+  items_fit : (cs : Children) → have_long_key cs ≡ false → EachHasFitKeys (flow_items cs)
+  items_fit tree.none h = tt
+  items_fit (tree.child label n cs) h =
+      let a = or_parts (is_long label.key) (has_long_key n || have_long_key cs) h in
+      let b = or_parts (has_long_key n) (have_long_key cs) a.1 in
+      (key_fits label.key a.0, flow_fits n b.0, items_fit cs b.1)

@@ -1,0 +1,42 @@
+use Rattle.std.proofs.Common.{◌≡◌, ℕ, List, Some, sym, ap, subst, ◌∙◌}
+use Rattle.std.proofs.lemmas.Result.{err_from_is_err_and}
+use Rattle.std.specs.Prelude.{Vec}
+use Rattle.std.specs.declared.alloc.Global.{Global}
+use Rattle.yq_tree.specs.Reading.{cut_of, read_at}
+use Rattle.yq_expr.specs.Operations.{Operation, operations_of}
+use Rattle.yq_expr.specs.declared.op.Op.{Op}
+use Rattle.yq_splice.specs.Answers.{Edits}
+use Rattle.yq_splice.specs.Carried.{carry_all}
+use Rattle.yq_splice.specs.Valid.{HaveOperands}
+use Rattle.yq_splice.proofs.UpdateLaws.{update_unplanned, update_planned, update_ok, update_err}
+use Rattle.yq_splice.proofs.editing.update_text.Goals as goal
+
+pub returns-in_err-ops-clause-err : goal.returns-in_err-ops-clause-err
+returns-in_err-ops-clause-err c =
+    let p = err_from_is_err_and c.from_residual-in_err-ops.result c.from_residual-in_err-ops.ensures.1 in
+    let text = c.in_ok-documents.ensures.text ∙ c.as_bytes.ensures.value in
+    let is : read_at c.args.text.now ≡ Some (cut_of c.in_ok-documents.documents) = ap read_at (sym c.as_bytes.ensures.value) ∙ c.in_ok-documents.ensures.exact in
+    rw (p.1, p.2)
+    (λ u at. update_unplanned (λ (v : Vec Op Global). operations_of v.items) u c.args.text.now c.in_ok-documents.documents _ is text (c.in_err-ops.ensures.exact u at))
+
+pub returns-clause-ok : goal.returns-clause-ok
+returns-clause-ok c =
+    let t : List ℕ = c.args.text.now in
+    let d : List ℕ = c.in_ok-documents.documents in
+    let ops : List Operation = operations_of c.in_ok-ops.ops.items in
+    let text : d ≡ t = c.in_ok-documents.ensures.text ∙ c.as_bytes.ensures.value in
+    let is : read_at t ≡ Some (cut_of d) = ap read_at (sym c.as_bytes.ensures.value) ∙ c.in_ok-documents.ensures.exact in
+    let valid : HaveOperands ops = subst (λ (x : List Op). HaveOperands (operations_of x)) c.deref.ensures.value c.operands_hold.ensures in
+    let made : Edits c.carry_all.result (carry_all ops t) = subst (λ (x : List Op). Edits c.carry_all.result (carry_all (operations_of x) t)) c.deref-2.ensures.value c.carry_all.ensures in
+    λ u at. update_ok u t (cut_of d) ops is (update_planned u t d ops text (c.in_ok-ops.ensures.exact u at)) valid c.carry_all.result made
+
+pub returns-clause-err : goal.returns-clause-err
+returns-clause-err c =
+    let t : List ℕ = c.args.text.now in
+    let d : List ℕ = c.in_ok-documents.documents in
+    let ops : List Operation = operations_of c.in_ok-ops.ops.items in
+    let text : d ≡ t = c.in_ok-documents.ensures.text ∙ c.as_bytes.ensures.value in
+    let is : read_at t ≡ Some (cut_of d) = ap read_at (sym c.as_bytes.ensures.value) ∙ c.in_ok-documents.ensures.exact in
+    let valid : HaveOperands ops = subst (λ (x : List Op). HaveOperands (operations_of x)) c.deref.ensures.value c.operands_hold.ensures in
+    let made : Edits c.carry_all.result (carry_all ops t) = subst (λ (x : List Op). Edits c.carry_all.result (carry_all (operations_of x) t)) c.deref-2.ensures.value c.carry_all.ensures in
+    λ u at. update_err u t (cut_of d) ops is (update_planned u t d ops text (c.in_ok-ops.ensures.exact u at)) valid c.carry_all.result made

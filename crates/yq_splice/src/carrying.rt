@@ -1,0 +1,84 @@
+//! Carrying out: operations done on a text, one after the other.
+ghost use Rattle.std.specs.Prelude.{◌≡◌, ◌++◌, [], IfOk, OnOk, Some, string_bytes};
+ghost use Rattle.yq_expr.specs.Operations.{operation_of, operations_of};
+ghost use Rattle.yq_tree.specs.Reading.{cut_of, read_at};
+ghost use Rattle.yq_splice.specs.Answers.{Edits};
+ghost use Rattle.yq_splice.specs.Carried as spec;
+ghost use Rattle.yq_splice.specs.Edit.{behind};
+
+use crate::edited::{EditError, Edited};
+use crate::ways::by_ways;
+use std::alloc::{AllocError, Global};
+use yq_expr::Op;
+use yq_tree::{Documents, read};
+
+/// The text as it is.
+pub(crate) fn unchanged(alloc: Global, text: &str) -> Result<Edited, AllocError>
+    ensures { IfOk result (λ e. (string_bytes e.text ≡ text.now) × (e.splices.items ≡ [])) }
+{
+    Ok(Edited {
+        text: String::from_str(alloc, text)?,
+        splices: Vec::new(alloc),
+    })
+}
+
+/// Puts an edit of the text that others gave behind those: its text, and the
+/// splices of all.
+pub(crate) fn follow(done: &mut Edited, next: Edited) -> Result<(), AllocError>
+    ensures text { OnOk result (string_bytes done.new.text ≡ string_bytes next.text) }
+    ensures splices { OnOk result (done.new.splices.items ≡ done.old.splices.items ++ next.splices.items) }
+{
+    let Edited { text, mut splices } = next;
+    done.splices.append(&mut splices)?;
+    done.text = text;
+    Ok(())
+}
+
+/// An operation carried out on documents.
+fn carry_one(alloc: Global, documents: &Documents<'_>, op: &Op) -> Result<Edited, EditError>
+    ensures { Edits result (spec.carry_one (operation_of op.now) (cut_of documents.now)) }
+{
+    match by_ways(alloc, documents, op)? {
+        Some(edited) => Ok(edited),
+        None => Err(EditError::NotInProfile),
+    }
+}
+
+/// An operation carried out on a text.
+fn carry(alloc: Global, text: &str, op: &Op) -> Result<Edited, EditError>
+    ensures { Edits result (spec.carried (operation_of op.now) text.now) }
+{
+    let documents = read(alloc, text.as_bytes())?;
+    carry_one(alloc, &documents, op)
+}
+
+/// Operations carried out on the text that others gave.
+fn carry_more(alloc: Global, done: Edited, ops: &[Op]) -> Result<Edited, EditError>
+    ensures { Edits result (behind done.splices.items (spec.carry_all (operations_of ops.now) (string_bytes done.text))) }
+{
+    let mut done = done;
+    let mut rest = ops;
+    'operations: while let [op, after @ ..] = rest {
+        let next = carry(alloc, &done.text, op)?;
+        follow(&mut done, next)?;
+        rest = after;
+    }
+    Ok(done)
+}
+
+/// Operations carried out on a text, whose documents are these.
+pub(crate) fn carry_all(
+    alloc: Global,
+    text: &str,
+    documents: &Documents<'_>,
+    ops: &[Op],
+) -> Result<Edited, EditError>
+    requires { read_at text.now ≡ Some (cut_of documents.now) }
+    ensures { Edits result (spec.carry_all (operations_of ops.now) text.now) }
+{
+    let [first, others @ ..] = ops else {
+        return Ok(unchanged(alloc, text)?);
+    };
+    let done = carry_one(alloc, documents, first)?;
+    carry_more(alloc, done, others)
+}

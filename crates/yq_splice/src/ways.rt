@@ -1,0 +1,156 @@
+//! Ways to carry out operations, each for some of them.
+ghost use Rattle.yq_expr.specs.Operations.{operation_of};
+ghost use Rattle.yq_tree.specs.Reading.{cut_of};
+ghost use Rattle.yq_splice.specs.Carried as spec;
+ghost use Rattle.yq_splice.specs.WayAnswers.{Carries};
+ghost use Rattle.yq_splice.specs.Ways.{IsWay};
+
+mod append;
+mod block_replacing;
+mod block_writing;
+mod flow_remove;
+mod head_comment;
+mod line_comment;
+mod removing;
+mod removing_first;
+mod replacing;
+
+use crate::edited::{EditError, Edited};
+use crate::ways::append::append_way;
+use crate::ways::block_replacing::block_replace_way;
+use crate::ways::block_writing::replace_block_way;
+use crate::ways::flow_remove::flow_remove_way;
+use crate::ways::head_comment::head_comment_way;
+use crate::ways::line_comment::line_comment_way;
+use crate::ways::removing::remove_way;
+use crate::ways::removing_first::remove_first_way;
+use crate::ways::replacing::replace_way;
+use std::alloc::Global;
+use yq_expr::Op;
+use yq_tree::Documents;
+
+/// A comment set by the way for it.
+#[tactic(auto, unfolding(crate::specs::Carried::comment_ways), using(crate::proofs::WayLaws::first_way_carries, crate::proofs::WayLaws::second_way_carries))]
+fn by_comment_ways(
+    alloc: Global,
+    documents: &Documents<'_>,
+    op: &Op,
+) -> Result<Option<Edited>, EditError>
+    ensures { Carries result (spec.comment_ways (operation_of op.now) (cut_of documents.now)) }
+{
+    if let Some(edited) = line_comment_way(alloc, documents, op)? {
+        return Ok(Some(edited));
+    }
+    head_comment_way(alloc, documents, op)
+}
+
+/// An item or entry taken out of a block collection by the way for it.
+#[tactic(auto, unfolding(crate::specs::Carried::remove_ways), using(crate::proofs::WayLaws::first_way_carries, crate::proofs::WayLaws::second_way_carries))]
+fn by_remove_ways(
+    alloc: Global,
+    documents: &Documents<'_>,
+    op: &Op,
+) -> Result<Option<Edited>, EditError>
+    ensures { Carries result (spec.remove_ways (operation_of op.now) (cut_of documents.now)) }
+{
+    if let Some(edited) = remove_way(alloc, documents, op)? {
+        return Ok(Some(edited));
+    }
+    remove_first_way(alloc, documents, op)
+}
+
+/// An item or entry put into a block collection or taken out of one by the way for it.
+#[tactic(auto, unfolding(crate::specs::Carried::entry_ways), using(crate::proofs::WayLaws::first_way_carries, crate::proofs::WayLaws::second_way_carries))]
+fn by_entry_ways(
+    alloc: Global,
+    documents: &Documents<'_>,
+    op: &Op,
+) -> Result<Option<Edited>, EditError>
+    ensures { Carries result (spec.entry_ways (operation_of op.now) (cut_of documents.now)) }
+{
+    if let Some(edited) = append_way(alloc, documents, op)? {
+        return Ok(Some(edited));
+    }
+    by_remove_ways(alloc, documents, op)
+}
+
+/// An inline node, or nothing, replaced by the way for it.
+#[tactic(auto, unfolding(crate::specs::Carried::replace_ways), using(crate::proofs::WayLaws::first_way_carries, crate::proofs::WayLaws::second_way_carries))]
+fn by_replace_ways(
+    alloc: Global,
+    documents: &Documents<'_>,
+    op: &Op,
+) -> Result<Option<Edited>, EditError>
+    ensures { Carries result (spec.replace_ways (operation_of op.now) (cut_of documents.now)) }
+{
+    if let Some(edited) = replace_way(alloc, documents, op)? {
+        return Ok(Some(edited));
+    }
+    replace_block_way(alloc, documents, op)
+}
+
+/// A node replaced by the way for it.
+#[tactic(auto, unfolding(crate::specs::Carried::exchange_ways), using(crate::proofs::WayLaws::first_way_carries, crate::proofs::WayLaws::second_way_carries))]
+fn by_exchange_ways(
+    alloc: Global,
+    documents: &Documents<'_>,
+    op: &Op,
+) -> Result<Option<Edited>, EditError>
+    ensures { Carries result (spec.exchange_ways (operation_of op.now) (cut_of documents.now)) }
+{
+    if let Some(edited) = by_replace_ways(alloc, documents, op)? {
+        return Ok(Some(edited));
+    }
+    block_replace_way(alloc, documents, op)
+}
+
+/// A node replaced, or a block collection changed, by the way for it.
+#[tactic(auto, unfolding(crate::specs::Carried::node_ways), using(crate::proofs::WayLaws::first_way_carries, crate::proofs::WayLaws::second_way_carries))]
+fn by_node_ways(
+    alloc: Global,
+    documents: &Documents<'_>,
+    op: &Op,
+) -> Result<Option<Edited>, EditError>
+    ensures { Carries result (spec.node_ways (operation_of op.now) (cut_of documents.now)) }
+{
+    if let Some(edited) = by_exchange_ways(alloc, documents, op)? {
+        return Ok(Some(edited));
+    }
+    by_entry_ways(alloc, documents, op)
+}
+
+/// The same, also in a flow collection.
+#[tactic(auto, unfolding(crate::specs::Carried::tree_ways), using(crate::proofs::WayLaws::first_way_carries, crate::proofs::WayLaws::second_way_carries))]
+fn by_tree_ways(
+    alloc: Global,
+    documents: &Documents<'_>,
+    op: &Op,
+) -> Result<Option<Edited>, EditError>
+    ensures { Carries result (spec.tree_ways (operation_of op.now) (cut_of documents.now)) }
+{
+    if let Some(edited) = by_node_ways(alloc, documents, op)? {
+        return Ok(Some(edited));
+    }
+    flow_remove_way(alloc, documents, op)
+}
+
+/// An operation carried out on documents by the first way that is one for it.
+#[tactic(auto, unfolding(crate::specs::Carried::carrying), using(crate::proofs::WayLaws::first_way_carries, crate::proofs::WayLaws::second_way_carries))]
+pub(crate) fn by_ways(
+    alloc: Global,
+    documents: &Documents<'_>,
+    op: &Op,
+) -> Result<Option<Edited>, EditError>
+    ensures { Carries result (spec.carrying (operation_of op.now) (cut_of documents.now)) }
+{
+    if let Some(edited) = by_tree_ways(alloc, documents, op)? {
+        return Ok(Some(edited));
+    }
+    by_comment_ways(alloc, documents, op)
+}
+
+/// The segments that carry out an operation are of the text, and what they
+/// make of it reads as the documents after it, where it fits.
+pub fn ways_carry_out()
+    ensures { IsWay spec.carrying }
+{}

@@ -1,0 +1,22 @@
+-- What the code tells of the places of comments (own).
+use Rattle.std.specs.Prelude.{◌≡◌, ℕ, ◌+◌, List, ◌++◌, length}
+use Rattle.std.specs.Str.{IsCharBoundary}
+use Rattle.yq_tree.specs.CommentPlaces.{LineEnd, LinesAbove}
+use Rattle.yq_tree.specs.declared.places.line_end.LineEnd as declared_end
+use Rattle.yq_tree.specs.declared.places.lines_above.LinesAbove as declared_above
+
+-- the end of a line that the code lends (own)
+abbrev pub end_told : declared_end.LineEnd → LineEnd
+end_told w = record { before = w.before.now; white = w.white.now; comment = w.comment.now; behind = w.behind.now }
+
+-- the lines above a row that the code lends (own)
+abbrev pub above_told : declared_above.LinesAbove → LinesAbove
+above_told w = record { before = w.before.now; run = w.run.now; column = w.column; behind = w.behind.now }
+
+-- A gap stands in a text from a place on, in bytes, up to a whole character (own).
+pub record GapStands (t : List ℕ) (start : ℕ) (gap : List ℕ) : Type 0 where
+  pub before : List ℕ
+  pub rest : List ℕ
+  pub text : t ≡ before ++ (gap ++ rest)
+  pub start_is : start ≡ length before
+  pub end : IsCharBoundary t (start + length gap)

@@ -1,0 +1,13 @@
+-- What the code tells of what is taken out with the first item or entry of a compact collection.
+use Rattle.std.specs.Prelude.{ℕ, List}
+use Rattle.yq_tree.specs.declared.places.first_removal.FirstRemoval as declared
+use Rattle.yq_tree.specs.FirstPlaces.{FirstOut}
+use Rattle.yq_tree.specs.Pieces.{Piece}
+
+-- a piece between two texts (own)
+abbrev pub piece_of : (before text behind : List ℕ) → Piece
+piece_of before text behind = record { before = before; text = text; behind = behind }
+
+-- what the code tells (own)
+abbrev pub first_told : declared.FirstRemoval → FirstOut
+first_told r = record { before = r.before.now; space = r.space.now; entry = r.entry.now; break = r.line.now; indent = r.indent.now; behind = r.behind.now }

@@ -1,0 +1,43 @@
+-- Where lines may come under a key or dash, or a text behind it, in the place of what is written on its line (YAML 1.2.2, 8.2; own).
+use Rattle.std.specs.Prelude.{ℕ, ℤ, pos, negsuc, not, List, ◌++◌, Option, Some, None, Bool, if◌then◌else◌}
+use Rattle.yq_scalar.specs.Answers.{◌>>=◌}
+use Rattle.yq_scalar.specs.Paths.{Step}
+use Rattle.yq_scalar.specs.Text.{is_empty}
+use Rattle.yq_rows.specs.Exchange.{row_front}
+use Rattle.yq_rows.specs.Rows.{Cut}
+use Rattle.yq_rows.specs.View.{Slices, slices}
+use Rattle.yq_tree.specs.CommentPlaces.{LineEnd, line_end}
+use Rattle.yq_tree.specs.PlacedRows.{PlacedRow, row_of_path}
+
+-- A key or dash in a text: the text up to it; the white space behind it and what is written there, which may be nothing; the white space and the comment that end its line; the text from the line's break on; its column; and whether it is a key.
+pub record MarkPlace : Type 0 where
+  pub before : List ℕ
+  pub gone : List ℕ
+  pub white : List ℕ
+  pub comment : List ℕ
+  pub behind : List ℕ
+  pub column : ℕ
+  pub keyed : Bool
+
+-- the column of a key or dash, which is the indentation of the parent of what stands behind it (6.1)
+abbrev pub column_of : ℤ → ℕ
+column_of (pos n) = n
+column_of (negsuc n) = 0
+
+-- what is written on a line behind its key or dash
+abbrev pub behind_mark : Slices → List ℕ
+behind_mark s = s.space ++ (s.anchor ++ (s.apart ++ s.head))
+
+-- the key or dash of a row behind a text, by the end of its line; none where an anchor stands behind it
+abbrev pub mark_at : List ℕ → Slices → LineEnd → Option MarkPlace
+mark_at before s e =
+    if is_empty s.anchor then Some (record { before = before; gone = behind_mark s; white = e.white; comment = e.comment; behind = e.behind; column = column_of s.parent; keyed = not (is_empty s.colon) })
+    else None
+
+-- that of the row
+abbrev pub mark_in : LineEnd → PlacedRow → Option MarkPlace
+mark_in e w = mark_at (w.before ++ row_front w.row) (slices w.row) e
+
+-- the key or dash of the entry or item to which steps lead in document n, if its line is the last one of its row and no anchor stands behind it
+abbrev pub mark_place : ℕ → List Step → Cut → Option MarkPlace
+mark_place n steps c = line_end n steps c >>= λ e. row_of_path n steps c >>= mark_in e

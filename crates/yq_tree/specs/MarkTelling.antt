@@ -1,0 +1,14 @@
+-- What the code tells of keys and dashes in a text (own).
+use Rattle.std.specs.Prelude.{◌≡◌, ℕ, List, ◌++◌}
+use Rattle.yq_rows.specs.View.{Slices}
+use Rattle.yq_tree.specs.MarkPlaces.{MarkPlace, behind_mark}
+use Rattle.yq_tree.specs.declared.places.mark_place.MarkPlace as declared
+
+-- a key or dash that the code lends (own)
+abbrev pub mark_told : declared.MarkPlace → MarkPlace
+mark_told w = record { before = w.before.now; gone = w.gone.now; white = w.white.now; comment = w.comment.now; behind = w.behind.now; column = w.column; keyed = w.keyed }
+
+-- A text ends in what is written behind a row's mark (own).
+pub record EndsBehindMark (t : List ℕ) (s : Slices) : Type 0 where
+  pub before : List ℕ
+  pub text : t ≡ before ++ behind_mark s

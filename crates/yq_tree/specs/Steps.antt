@@ -1,0 +1,46 @@
+-- By how many columns the collections of a document stand deeper than their keys (own).
+use Rattle.std.specs.Prelude.{ℕ, ◌-◌, ◌&&◌, nat_lt, List, [], ◌∷◌, Option, Some, None, slice_get, Bool, true, false, not, if◌then◌else◌}
+use Rattle.yq_rows.specs.Rows.{Cut, Part}
+use Rattle.yq_lines.specs.Outline.{Mark, Bare, Key, Dash, Line, level}
+use Rattle.yq_tree.specs.Documents.{document_parts}
+use Rattle.yq_tree.specs.Lines.{lines_of}
+
+-- a line begins with a key (8.2.2)
+abbrev pub is_key : Mark → Bool
+is_key Bare = false
+is_key (Key k) = true
+is_key Dash = false
+
+-- a line begins with a dash, or with a key
+abbrev pub is_kind : (dashes : Bool) → Mark → Bool
+is_kind dashes Bare = false
+is_kind dashes (Key k) = not dashes
+is_kind dashes Dash = dashes
+
+-- a line begins a collection of that kind that stands under the key of the line before it
+abbrev pub begins_under : (Mark → Bool) → Line → Line → Bool
+begins_under is l m = is_key l.mark && (is m.mark && nat_lt (level l) (level m))
+
+-- by how many columns the first collection of a kind that stands under a key is deeper than that key; 2, where none does
+abbrev pub first_step : (Mark → Bool) → List Line → ℕ
+first_step is [] = 2
+first_step is (l ∷ []) = 2
+first_step is (l ∷ (m ∷ ls)) = if begins_under is l m then m.column - l.column else first_step is (m ∷ ls)
+
+-- The steps of a document: how much deeper than its key a mapping, and a sequence, stands (own).
+pub record Steps : Type 0 where
+  pub mapping : ℕ
+  pub sequence : ℕ
+
+-- those of lines
+abbrev pub steps_in : List Line → Steps
+steps_in ls = record { mapping = first_step (is_kind false) ls; sequence = first_step (is_kind true) ls }
+
+-- those of a part, if there is one
+abbrev pub steps_of_part : Option Part → Steps
+steps_of_part None = record { mapping = 2; sequence = 2 }
+steps_of_part (Some p) = steps_in (lines_of p.rows)
+
+-- those of document n of a cut
+abbrev pub document_steps : ℕ → Cut → Steps
+document_steps n c = steps_of_part (slice_get (document_parts c) n)

@@ -1,0 +1,72 @@
+//! Keys and dashes in a text, with what is written on their lines.
+ghost use Rattle.std.specs.Prelude.{◌≡◌, option_map};
+ghost use Rattle.yq_rows.specs.View.{view};
+ghost use Rattle.yq_tree.specs.CommentTelling.{end_told};
+ghost use Rattle.yq_tree.specs.Located.{steps_of};
+ghost use Rattle.yq_tree.specs.MarkPlaces as spec;
+ghost use Rattle.yq_tree.specs.MarkTelling.{mark_told, EndsBehindMark};
+ghost use Rattle.yq_tree.specs.Reading.{cut_of};
+
+use crate::document::Documents;
+use crate::path::Path;
+use crate::places::line_end::LineEnd;
+use yq_rows::Row;
+
+/// A key or dash of a text.
+#[derive(Clone, Copy, Debug)]
+pub struct MarkPlace<'d> {
+    /// The text up to it.
+    pub before: &'d str,
+    /// The white space behind it and what is written there.
+    pub gone: &'d str,
+    /// The white space that ends its line, or stands before the line's comment.
+    pub white: &'d str,
+    /// The comment, if the line has one.
+    pub comment: &'d str,
+    /// The text from the line's break on.
+    pub behind: &'d str,
+    /// Its column, counted from 0.
+    pub column: usize,
+    /// Whether it is a key.
+    pub keyed: bool,
+}
+
+/// The column of a key or dash, by the indentation of the parent of what stands behind it.
+fn column_of(parent: i64) -> usize
+    ensures { result ≡ spec.column_of parent }
+{
+    if parent < 0 { 0 } else { parent as usize }
+}
+
+/// The key or dash of a row, by the end of its line, unless an anchor stands behind it.
+fn mark_at<'d>(end: LineEnd<'d>, row: &Row<'_>) -> Option<MarkPlace<'d>>
+    requires { EndsBehindMark end.before.now (view row.now) }
+    ensures { (h : EndsBehindMark end.entry.before.now (view row.now)) → option_map mark_told result ≡ spec.mark_at h.before (view row.now) (end_told end.entry) }
+{
+    if !row.anchor().is_empty() {
+        return None;
+    }
+    let written = row.space().len() + row.anchor().len() + row.apart().len() + row.head().len();
+    let (before, gone) = end.before.split_at(end.before.len() - written);
+    Some(MarkPlace {
+        before,
+        gone,
+        white: end.white,
+        comment: end.comment,
+        behind: end.behind,
+        column: column_of(row.parent_indent()),
+        keyed: !row.colon().is_empty(),
+    })
+}
+
+impl Documents<'_> {
+    /// The key or dash of the entry or item at a path, if its line is the last one of its row and no
+    /// anchor stands behind it. The root has none, nor has what stands in flow.
+    pub fn mark_place(&self, path: &Path) -> Option<MarkPlace<'_>>
+        ensures { option_map mark_told result ≡ spec.mark_place path.now.doc (steps_of path.now) (cut_of self.now) }
+    {
+        let end = self.line_end(path)?;
+        let seat = self.seat(path)?;
+        mark_at(end, &self.rows.row(seat.row))
+    }
+}

@@ -1,0 +1,251 @@
+//! What is taken out of a text with an item or entry of a block collection.
+ghost use Rattle.std.specs.Prelude.{◌≡◌, ◌<◌, ◌≤◌, ◌+◌, ◌-◌, ◌++◌, ℕ, List, Option, drop, take, length, map, option_map, slice_get, Some};
+ghost use Rattle.yq_inline.specs.Entries.{step_of};
+ghost use Rattle.yq_rows.specs.Grammar.{IsCut};
+ghost use Rattle.yq_rows.specs.Offsets.{row_length};
+ghost use Rattle.yq_rows.specs.Removal.{block_of, hold_comment, last_block};
+ghost use Rattle.yq_rows.specs.Rows.{Cut, Part, Row as RowOf};
+ghost use Rattle.yq_rows.specs.View.{rows_of, shown, Slices};
+ghost use Rattle.yq_scalar.specs.Block.{BlockText, IsBlockPiece, block_piece};
+ghost use Rattle.std.specs.Str.{IsCharBoundary};
+ghost use Rattle.yq_scalar.specs.Text.{joined, lines_of as text_lines};
+ghost use Rattle.yq_tree.specs.Extents as extents;
+ghost use Rattle.yq_tree.specs.Extents.{IsShown};
+ghost use Rattle.yq_tree.specs.Lines.{lines_of};
+ghost use Rattle.yq_tree.specs.Located.{steps_of};
+ghost use Rattle.yq_tree.specs.Pieces as pieces;
+ghost use Rattle.yq_tree.specs.Reading.{cut_of};
+ghost use Rattle.yq_tree.specs.PlacedRows.{PlacedPart};
+ghost use Rattle.yq_tree.specs.RemovalPlaces as spec;
+ghost use Rattle.yq_tree.specs.RemovalReading as reading;
+ghost use Rattle.yq_lines.specs.View.{views};
+
+use crate::document::Documents;
+use crate::nodes::comments::last_run;
+use crate::path::Path;
+use crate::places::extent::{head_place, lines_before_mark, row_len, row_start};
+use crate::places::seat::find_seat;
+use crate::reading::head::begins_block;
+use yq_inline::Step;
+use yq_lines::Lined;
+use yq_rows::Rows;
+use yq_scalar::block_lines::is_blank;
+use yq_scalar::lines::split_line;
+use yq_scalar::read_block;
+
+/// What a gap that comes to stand behind a block scalar asks.
+#[derive(Clone, Copy, Debug)]
+pub struct Seam {
+    /// Whether the scalar keeps the empty lines at its end.
+    pub keeps: bool,
+    /// How far its text is indented, in columns.
+    pub indent: usize,
+    /// In which column the next row begins; 0 at the document's end.
+    pub column: usize,
+}
+
+/// What is taken out of a text with an item or entry.
+#[derive(Clone, Copy, Debug)]
+pub struct Removal<'d> {
+    /// The text before the lines that go.
+    pub before: &'d str,
+    /// The lines that go: the comment above the item or entry, and its rows.
+    pub gone: &'d str,
+    /// The gap behind them.
+    pub gap: &'d str,
+    /// The text behind that gap.
+    pub behind: &'d str,
+    /// The seam of that gap, where it then stands behind a block scalar.
+    pub seam: Option<Seam>,
+}
+
+/// A gap cut before the comment that ends it.
+fn split_run(gap: &str) -> (&str, &str)
+    ensures kept { result.0.now ≡ joined (pieces.before_run (text_lines gap.now)) }
+    ensures run { result.1.now ≡ joined (pieces.last_run (text_lines gap.now)) }
+{
+    let run = last_run(gap);
+    gap.split_at(gap.len() - run.len())
+}
+
+/// Whether one of these lines isn't blank.
+fn holds_comment(gap: &str) -> bool
+    ensures { result ≡ hold_comment (text_lines gap.now) }
+{
+    let mut rest = gap;
+    'lines: while !rest.is_empty() {
+        let (line, after) = split_line(rest);
+        if !is_blank(line.as_bytes()) {
+            return true;
+        }
+        rest = after;
+    }
+    false
+}
+
+/// The row behind those, from one on, that have so many lines.
+fn rows_end(rows: &Rows<'_>, first: usize, lines: usize) -> usize
+    requires { first ≤ length rows.now.rows }
+    ensures value { result ≡ first + reading.slices_count lines (drop first rows.now.rows) }
+    ensures within { result ≤ length rows.now.rows }
+{
+    let mut left = lines;
+    'rows: for at in first..rows.len() {
+        if left == 0 {
+            return at;
+        }
+        let before = lines_before_mark(&rows.row(at));
+        left = left.saturating_sub(before).saturating_sub(1);
+    }
+    rows.len()
+}
+
+/// Where the rows of the item or entry begin and end to which steps lead, behind where those of its
+/// document begin, if its line is the first one of a row.
+fn own_rows(
+    rows: &Rows<'_>,
+    first: usize,
+    lines: &Lined<'_>,
+    steps: &[Step],
+) -> Option<(usize, usize, usize)>
+    ensures { (t : List ℕ) (c : Cut) (p : Part) (more : List RowOf) → IsCut t c → rows.now ≡ shown c → views lines.now ≡ lines_of p.rows → drop first (rows_of c) ≡ p.rows ++ more → option_map (λ m. (m.0, m.1, m.2)) result ≡ option_map (reading.marks first) (spec.own_rows (map step_of steps.now) p.rows) }
+{
+    let line = lines.line_at(steps)?;
+    let seat = find_seat(rows, first, line)?;
+    if seat.line != 0 {
+        return None;
+    }
+    let end = rows_end(rows, seat.row, lines.end_of(line) - line);
+    Some((first, seat.row, end))
+}
+
+/// The gap before row `i` and its column; where a part ends before it, the gap there and 0.
+fn gap_before<'t>(rows: &Rows<'t>, i: usize) -> (&'t str, usize)
+    ensures { (result.0.now, result.1) ≡ reading.gap_at i rows.now }
+{
+    if let [bound, ..] = rows.rest(i) {
+        return (bound.end, 0);
+    }
+    if i < rows.len() {
+        let row = rows.row(i);
+        (row.gap(), row.column())
+    } else {
+        ("", 0)
+    }
+}
+
+/// Where row `i` ends, with its break.
+fn row_stop(rows: &Rows<'_>, i: usize) -> usize
+    requires within { i < length rows.now.rows }
+    requires shown { IsShown rows.now }
+    ensures { (x : Slices) → slice_get rows.now.rows i ≡ Some x → result ≡ extents.row_start i rows.now + row_length x }
+{
+    row_start(rows, i) + row_len(&rows.row(i))
+}
+
+/// Whether the block scalar that begins at an offset keeps the empty lines at its end, and how far
+/// its text is indented.
+fn scalar_at(whole: &str, start: usize, parent: i64) -> Option<(bool, usize)>
+    requires { IsCharBoundary whole.now start }
+    ensures { (b : BlockText) → IsBlockPiece parent start whole.now (block_piece start b) → option_map (λ b. (b.0, b.1)) result ≡ Some (reading.block_numbers b) }
+{
+    match read_block(whole, start, parent) {
+        Ok(piece) => Some((piece.keep, piece.indent)),
+        Err(_) => None,
+    }
+}
+
+/// The same of the block scalar that row `i` holds; none, where the row holds no block scalar.
+fn block_in(rows: &Rows<'_>, whole: &str, i: usize) -> Option<(bool, usize)>
+    requires within { i < length rows.now.rows }
+    requires shown { rows.now ≡ shown (cut_of whole.now) }
+    requires cut { IsCut whole.now (cut_of whole.now) }
+    ensures { (r : RowOf) → slice_get (rows_of (cut_of whole.now)) i ≡ Some r → option_map (λ b. (b.0, b.1)) result ≡ option_map reading.block_numbers (block_of r.content) }
+{
+    let row = rows.row(i);
+    if !begins_block(row.head().as_bytes()) {
+        return None;
+    }
+    let (start, _) = head_place(rows, i);
+    scalar_at(whole, start, row.parent_indent())
+}
+
+/// The same of the row before row `at` of a document, the first row of which is this one.
+fn block_before(rows: &Rows<'_>, whole: &str, first: usize, at: usize) -> Option<(bool, usize)>
+    requires order { first ≤ at }
+    requires within { at < length rows.now.rows }
+    requires shown { rows.now ≡ shown (cut_of whole.now) }
+    requires cut { IsCut whole.now (cut_of whole.now) }
+    ensures { (p : Part) (more : List RowOf) → drop first (rows_of (cut_of whole.now)) ≡ p.rows ++ more → at - first ≤ length p.rows → option_map (λ b. (b.0, b.1)) result ≡ option_map reading.block_numbers (last_block (take (at - first) p.rows)) }
+{
+    if at == first {
+        None
+    } else {
+        block_in(rows, whole, at - 1)
+    }
+}
+
+/// The seam behind a block scalar, where no comment line stays behind it.
+fn seam_of(block: Option<(bool, usize)>, column: usize, kept: &str) -> Option<Seam>
+    ensures { (b : Option BlockText) → option_map (λ b. (b.0, b.1)) block ≡ option_map reading.block_numbers b → option_map reading.seam_told result ≡ spec.seam_behind b column kept.now }
+{
+    let (keeps, indent) = block?;
+    if holds_comment(kept) {
+        return None;
+    }
+    Some(Seam {
+        keeps,
+        indent,
+        column,
+    })
+}
+
+/// What is taken out of a text with these rows of a document.
+fn rows_out<'d>(rows: &Rows<'d>, whole: &'d str, marks: (usize, usize, usize)) -> Removal<'d>
+    requires { reading.HasOwn whole.now rows.now (marks.0, marks.1, marks.2) }
+    ensures { (d : PlacedPart) (x : spec.OwnRows) → reading.IsOwn whole.now rows.now d x (marks.0, marks.1, marks.2) → reading.removal_told result ≡ spec.rows_out d x }
+{
+    let (first, at, end) = marks;
+    let (kept, _) = split_run(rows.row(at).gap());
+    let start = row_start(rows, at) + kept.len();
+    let stop = row_stop(rows, end - 1);
+    let (gap, column) = gap_before(rows, end);
+    let block = block_before(rows, whole, first, at);
+    let (before, rest) = whole.split_at(start);
+    let (gone, rest) = rest.split_at(stop - start);
+    let (gap, behind) = rest.split_at(gap.len());
+    Removal {
+        before,
+        gone,
+        gap,
+        behind,
+        seam: seam_of(block, column, kept),
+    }
+}
+
+impl Documents<'_> {
+    /// Where the rows of the item or entry at a path begin and end, behind where those of its document
+    /// begin.
+    fn own(&self, path: &Path) -> Option<(usize, usize, usize)>
+        ensures { option_map (λ m. (m.0, m.1, m.2)) result ≡ reading.marks_at path.now.doc (steps_of path.now) (cut_of self.now) }
+    {
+        let first = self.first_row(path.doc)?;
+        own_rows(
+            &self.rows,
+            first,
+            &self.documents[path.doc].lines,
+            &path.steps,
+        )
+    }
+
+    /// What is taken out of the text with the item or entry at a path: the lines of the comment above
+    /// it, and its rows, less the gap before the first one. None, where its line is not the first one of
+    /// a row, as in flow, or behind another dash.
+    pub fn removal(&self, path: &Path) -> Option<Removal<'_>>
+        ensures { option_map reading.removal_told result ≡ spec.removal_place path.now.doc (steps_of path.now) (cut_of self.now) }
+    {
+        let whole = self.whole();
+        let marks = self.own(path)?;
+        Some(rows_out(&self.rows, whole, marks))
+    }
+}
