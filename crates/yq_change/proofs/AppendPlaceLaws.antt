@@ -162,8 +162,8 @@ end_allows t c k p steps x h e =
     record {
       rows = all;
       allowed = ap (λ (y : Limit). allows y x.column) (ap (asked_behind unlimited) e.front_is ∙ last_limit unlimited e.others e.last)
-      ∙ mark_limit n x.column e.last lev.0 (deep_last n (flatten e.h.lines) _ (even_deep n e.h.lines deep.1) last);
+          ∙ mark_limit n x.column e.last lev.0 (deep_last n (flatten e.h.lines) _ (even_deep n e.h.lines deep.1) last);
       line = subst (AtLine (suc x.column)) (sym e.behind_is)
-      (rows_line (suc x.column) e.back (asked_behind unlimited e.front) p.end rest behind next (part_line (suc x.column) rest (part_ends c (part_number k c) true known.cut.parts)));
+          (rows_line (suc x.column) e.back (asked_behind unlimited e.front) p.end rest behind next (part_line (suc x.column) rest (part_ends c (part_number k c) true known.cut.parts)));
       gap = first_is (asked_behind unlimited e.front) e.back p.end rest behind;
     }

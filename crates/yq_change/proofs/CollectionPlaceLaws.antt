@@ -71,10 +71,11 @@ front_is p front back above mid lower h =
 texts_are : (p : Part) (front back : List Row) (above mid lower : List PrintedLine) (start rest : List ℕ) → AreFront p front back above mid lower →
     ((start ++ print_lines above []) ++ print_lines mid [] ≡ start ++ rows_text front []) × (print_lines lower (p.end ++ rest) ≡ rows_text back (p.end ++ rest))
 texts_are p front back above mid lower start rest h =
-    let parts = front_is p front back above mid lower h in
-    (append_assoc start (print_lines above []) (print_lines mid [])
-    ∙ ap (λ t. start ++ t) (sym (lines_then above [] (print_lines mid [])) ∙ (sym (lines_append above mid []) ∙ (ap (λ ls. print_lines ls []) (sym parts.0) ∙ rows_are front []))),
-    ap (λ ls. print_lines ls (p.end ++ rest)) (sym parts.1) ∙ rows_are back (p.end ++ rest))
+    let parts = front_is p front back above mid lower h in (
+      append_assoc start (print_lines above []) (print_lines mid [])
+          ∙ ap (λ t. start ++ t) (sym (lines_then above [] (print_lines mid [])) ∙ (sym (lines_append above mid []) ∙ (ap (λ ls. print_lines ls []) (sym parts.0) ∙ rows_are front []))),
+      ap (λ ls. print_lines ls (p.end ++ rest)) (sym parts.1) ∙ rows_are back (p.end ++ rest),
+    )
 
 -- ---- the last line
 
@@ -311,8 +312,8 @@ module _ (t : List ℕ) (c : Cut) (k : ℕ) (p : Part) (h : IsDocumentPart t c k
             count = count;
             start = known_start;
             before_is = d.before_is
-            ∙ (append_assoc e.before (print_line e.line []) (print_lines e.under [])
-            ∙ (ap (λ z. e.before ++ z) (sym (line_then e.line [] (print_lines e.under []))) ∙ (ap (λ z. z ++ print_lines (e.line ∷ e.under) []) at_line.start ∙ texts.0)));
+                ∙ (append_assoc e.before (print_line e.line []) (print_lines e.under [])
+                ∙ (ap (λ z. e.before ++ z) (sym (line_then e.line [] (print_lines e.under []))) ∙ (ap (λ z. z ++ print_lines (e.line ∷ e.under) []) at_line.start ∙ texts.0)));
             behind_is = d.behind_is ∙ (at_line.stop ∙ texts.1);
             old_text = text_is;
             new_text = put_is;

@@ -224,7 +224,7 @@ module _ (p : Part) (m : ℕ) (ss : List Step) (s : Step) (h : NodeLines) (f : F
             before = before_is;
             size = ap length (ap (λ (x : List Line). x ++ lines_of gone) (sym rest_lines) ∙ own);
             column = sym (first_column (head_comment next.gap) next.column next.dashes next.mark next.content (lines_of back) next_is.line _ first)
-            ∙ (same_column next_is.line f.line next_is.level_is ∙ line_column);
+                ∙ (same_column next_is.line f.line next_is.level_is ∙ line_column);
             entry = λ d. first_entry (head_comment next.gap) next.column next.dashes next.mark next.content (lines_of back) next_is.line _ first d next_is.entry;
           }
 

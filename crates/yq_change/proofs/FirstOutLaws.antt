@@ -88,8 +88,14 @@ out_whole p = go (begins_gap (cut_line p.behind).1)
 
     go : (b : Bool) →
         out_text (cond b (record { before = less_spaces p.before; space = end_spaces p.before; entry = p.text; break = []; indent = []; behind = p.behind })
-        (record { before = p.before; space = []; entry = p.text; break = (cut_line p.behind).0;
-          indent = (cut no_space (cut_line p.behind).1).0; behind = (cut no_space (cut_line p.behind).1).1 })) ≡ piece_text p
+        (record {
+          before = p.before;
+          space = [];
+          entry = p.text;
+          break = (cut_line p.behind).0;
+          indent = (cut no_space (cut_line p.behind).1).0;
+          behind = (cut no_space (cut_line p.behind).1).1;
+        })) ≡ piece_text p
     go true = sym (append_assoc (less_spaces p.before) (end_spaces p.before) (p.text ++ p.behind)) ∙ ap (λ (t : List ℕ). t ++ (p.text ++ p.behind)) (sym (spaces_parts p.before))
     go false = ap (λ (t : List ℕ). p.before ++ (p.text ++ t)) (ap (λ (t : List ℕ). (cut_line p.behind).0 ++ t) next ∙ line)
 

@@ -91,7 +91,7 @@ under_line_is n o s ss g f rest even is open' (row l v a) under e = go l.mark re
       outline = under;
       even = (under_even n o s ss g even is).1.3;
       put = λ x ls.
-      ap (λ (y : Outline). lines_before (compose g.place (below g.line here g.after)) ++ (ls ++ (flatten y ++ lines_after (compose g.place (below g.line here g.after))))) x;
+          ap (λ (y : Outline). lines_before (compose g.place (below g.line here g.after)) ++ (ls ++ (flatten y ++ lines_after (compose g.place (below g.line here g.after))))) x;
       bare = mark;
       whole = plug-compose g.place (below g.line here g.after) (row l v a) ∙ (ap (λ (y : Outline). plug g.place (row g.line y g.after)) (sym under) ∙ at (IsFoundIn o) (find s ss o) (g, []) is (path_whole s ss o));
     }))

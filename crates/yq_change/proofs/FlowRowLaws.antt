@@ -198,9 +198,9 @@ line_is t c k p steps f rest i w n known at head =
     record {
       is = is;
       put = λ m.
-      ap (λ (rs : List Row). lines_of (i.front ++ (with_content (Inline i.space m i.tail) r ∷ rs))) (gap_stays i.back p.end)
-      ∙ (last_lines i.front r i.back (Inline i.space m i.tail)
-      ∙ ((λ j. parts.0 j ++ (line (Inline i.space m i.tail) ∷ parts.2 j)) ∙ ap (λ (u : Outline). lines_before f.place ++ (line (Inline i.space m i.tail) ∷ (flatten u ++ tail))) under));
+          ap (λ (rs : List Row). lines_of (i.front ++ (with_content (Inline i.space m i.tail) r ∷ rs))) (gap_stays i.back p.end)
+          ∙ (last_lines i.front r i.back (Inline i.space m i.tail)
+          ∙ ((λ j. parts.0 j ++ (line (Inline i.space m i.tail) ∷ parts.2 j)) ∙ ap (λ (u : Outline). lines_before f.place ++ (line (Inline i.space m i.tail) ∷ (flatten u ++ tail))) under));
     }
 
 pub flow_edited : FlowEdited

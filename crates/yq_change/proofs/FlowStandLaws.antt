@@ -82,9 +82,9 @@ coll_stands c k steps w read at =
       rest = y.0.rest;
       before = texts.before ++ (inside'.before ++ key_text y.0.key []);
       text =
-      texts.old
-      ∙ (ap (λ (l : List ℕ). texts.before ++ l) (inside'.text ∙ (ap (λ (l : List ℕ). inside'.before ++ l) (key_append y.0.key [] (node_text y.0.node y.0.rest)) ∙ sym (append_assoc inside'.before (key_text y.0.key []) (node_text y.0.node y.0.rest))))
-      ∙ sym (append_assoc texts.before (inside'.before ++ key_text y.0.key []) (node_text y.0.node y.0.rest)));
+          texts.old
+          ∙ (ap (λ (l : List ℕ). texts.before ++ l) (inside'.text ∙ (ap (λ (l : List ℕ). inside'.before ++ l) (key_append y.0.key [] (node_text y.0.node y.0.rest)) ∙ sym (append_assoc inside'.before (key_text y.0.key []) (node_text y.0.node y.0.rest))))
+          ∙ sym (append_assoc texts.before (inside'.before ++ key_text y.0.key []) (node_text y.0.node y.0.rest)));
       is = y.2;
       valid = entry_valid at.rest slot y.0 (record { flow = _; spaces = _; depth = _; is = stands.inline.valid }) y.1;
       spans = (entry_spans (cut_text c) at.rest (locate_entry total slot) (locate_entry total y.0) (tt, spans) placed).1;

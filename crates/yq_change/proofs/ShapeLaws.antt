@@ -20,7 +20,6 @@ use Rattle.yq_change.specs.Rooms.{RowShape, row_shape, SameSeats, is_block_root,
 
 -- ---- lines without what is told behind their marks but that there is a head
 
-
 abbrev stripped : Line → Line
 stripped l = record { column = l.column; mark = l.mark; anchor = None; head = option_map (λ n. null_node) l.head; head_comment = []; line_comment = None }
 
@@ -241,6 +240,7 @@ begins_strip [] = refl
 begins_strip (l ∷ ls) = refl
 
 pub shape_tells : ShapeTells
-shape_tells p q h =
-    (same_seats p q h,
-    sym (begins_strip (lines_of q.rows)) ∙ (ap begins_no_node (rows_strip q.rows ∙ (ap shapes_lines h ∙ sym (rows_strip p.rows))) ∙ begins_strip (lines_of p.rows)))
+shape_tells p q h = (
+  same_seats p q h,
+  sym (begins_strip (lines_of q.rows)) ∙ (ap begins_no_node (rows_strip q.rows ∙ (ap shapes_lines h ∙ sym (rows_strip p.rows))) ∙ begins_strip (lines_of p.rows)),
+)

@@ -53,9 +53,10 @@ pieces_cut : (a b : List ℕ) → IsPiece (a ++ b) → IsUtf8 a → MayCut a b �
 pieces_cut a b h u may =
     let x = and_true (all_text (a ++ b)) (pairs_returns (a ++ b)) h.characters in
     let y = and_true (all_text a) (all_text b) (sym (all_join a b u) ∙ x.0) in
-    let start : IsCharBoundary (a ++ b) (length a) = seam (a ++ b) a b refl h.utf8 u in
-    (record { utf8 = u; characters = both_true _ _ y.0 (pairs_cut_at a b may x.1) },
-    record { utf8 = subst IsUtf8 (drop-append_seam a b) (IsUtf8-drop (a ++ b) (length a) h.utf8 start); characters = both_true _ _ y.1 (pairs_back a b x.1) })
+    let start : IsCharBoundary (a ++ b) (length a) = seam (a ++ b) a b refl h.utf8 u in (
+      record { utf8 = u; characters = both_true _ _ y.0 (pairs_cut_at a b may x.1) },
+      record { utf8 = subst IsUtf8 (drop-append_seam a b) (IsUtf8-drop (a ++ b) (length a) h.utf8 start); characters = both_true _ _ y.1 (pairs_back a b x.1) },
+    )
 
 -- behind an ASCII byte that is no CR
 pub cut_behind : (a b : List ℕ) → IsPiece (a ++ b) → EndsAscii a → EndsBlack a → IsPiece a × IsPiece b

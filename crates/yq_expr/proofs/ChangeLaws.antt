@@ -96,7 +96,7 @@ pub put_no_item : {X : Type 0} (f : X → Step) (n : Node) (xs : List X) (x : X)
 put_no_item {X} f n xs x v some is indexed =
     ap (λ (ys : List X). put_below n (map f ys) v) (split_first xs x some is)
     ∙ ap (λ b. cond b (refuses IndexOutOfRange) (gives (made n (f x) (map f (take (length xs - 1) (drop 1 xs))) v)))
-        (list_any_map is_index f (x ∷ take (length xs - 1) (drop 1 xs)) ∙ (ap (list_any (λ s. is_index (f s))) (sym (split_first xs x some is)) ∙ indexed))
+    (list_any_map is_index f (x ∷ take (length xs - 1) (drop 1 xs)) ∙ (ap (list_any (λ s. is_index (f s))) (sym (split_first xs x some is)) ∙ indexed))
 
 -- entries are
 pub put_made : {X : Type 0} (f : X → Step) (n : Node) (xs : List X) (x : X) (v : Node) → 1 ≤ length xs → x ≡ get_or xs 0 x → list_any (λ s. is_index (f s)) xs ≡ false →
@@ -104,4 +104,4 @@ pub put_made : {X : Type 0} (f : X → Step) (n : Node) (xs : List X) (x : X) (v
 put_made {X} f n xs x v some is indexed =
     ap (λ (ys : List X). put_below n (map f ys) v) (split_first xs x some is)
     ∙ ap (λ b. cond b (refuses IndexOutOfRange) (gives (made n (f x) (map f (take (length xs - 1) (drop 1 xs))) v)))
-        (list_any_map is_index f (x ∷ take (length xs - 1) (drop 1 xs)) ∙ (ap (list_any (λ s. is_index (f s))) (sym (split_first xs x some is)) ∙ indexed))
+    (list_any_map is_index f (x ∷ take (length xs - 1) (drop 1 xs)) ∙ (ap (list_any (λ s. is_index (f s))) (sym (split_first xs x some is)) ∙ indexed))

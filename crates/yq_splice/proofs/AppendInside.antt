@@ -133,7 +133,7 @@ module _ (doc : ℕ) (steps : List Step) (key : Option (List ℕ)) (v : Node) (c
       record {
         rows_are = place.rows_are;
         new_are = new_rows_are doc steps key v c x read at g (break_text l.br) (first_gap place.back part.end) (behind_first place.back part.end rest) (asked_behind unlimited place.front)
-        (line_ends l.br x.column (first_gap place.back part.end ++ behind_first place.back part.end rest) (subst (AtLine (suc x.column)) (place.behind_is ∙ first_text place.back part.end rest) h.line)) h.allowed h.gap;
+            (line_ends l.br x.column (first_gap place.back part.end ++ behind_first place.back part.end rest) (subst (AtLine (suc x.column)) (place.behind_is ∙ first_text place.back part.end rest) h.line)) h.allowed h.gap;
         closed = λ none_back none_block. ap ends_in_line place.front_is ∙ last_closed place.others place.last (sym place.broken ∙ broken) (ap ends_in_block (sym place.front_is) ∙ none_block);
       }
 

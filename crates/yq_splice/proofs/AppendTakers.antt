@@ -54,6 +54,7 @@ key_step l m h = go l.mark m.mark refl refl
   where
     one : (is_key l.mark ≡ true) × ((is_kind false m.mark && nat_lt (level l) (level m)) ≡ true)
     one = and_true (is_key l.mark) (is_kind false m.mark && nat_lt (level l) (level m)) h
+
     two : (is_kind false m.mark ≡ true) × (nat_lt (level l) (level m) ≡ true)
     two = and_true (is_kind false m.mark) (nat_lt (level l) (level m)) one.1
 

@@ -133,12 +133,12 @@ module _ (op : Operation) (c : Cut) (p q : Part) (lead : List (List ℕ)) (f : N
     comments = λ sets. record {
       block = block_stays (keeps_block op (root_of q) sets);
       has = λ place steps.
-      ap (λ o. seat_has_room (comment_part place) (o >>= λ x. seat_of steps x.rows)) new_part
-      ∙ (h.seats sets (comment_part place) steps ∙ ap (λ o. seat_has_room (comment_part place) (o >>= λ x. seat_of steps x.rows)) (sym old_part));
+          ap (λ o. seat_has_room (comment_part place) (o >>= λ x. seat_of steps x.rows)) new_part
+          ∙ (h.seats sets (comment_part place) steps ∙ ap (λ o. seat_has_room (comment_part place) (o >>= λ x. seat_of steps x.rows)) (sym old_part));
     };
     block = λ d at keeps.
-    let is : reading.document_of q ≡ d = some_document (sym (nth_map k q reading.document_of (document_parts (cut_of u)) new_part) ∙ at) in
-    block_stays (subst (λ (e : Document). KeepsBlock op e.root) (sym is) keeps);
+        let is : reading.document_of q ≡ d = some_document (sym (nth_map k q reading.document_of (document_parts (cut_of u)) new_part) ∙ at) in
+        block_stays (subst (λ (e : Document). KeepsBlock op e.root) (sym is) keeps);
   }
 
 pub document_done : DocumentDone

@@ -98,10 +98,11 @@ mutual
   each_near : (keyed : Bool) (cs : Children) → AreValueTrees keyed cs → have_long_key cs ≡ false → EachHasNearKeys cs
   each_near keyed tree.none h long = tt
   each_near keyed (tree.child label n cs) h long =
-      let others = or_second (is_long label.key) (has_long_key n || have_long_key cs) long in
-      (label_near keyed label h.0 (or_first (is_long label.key) (has_long_key n || have_long_key cs) long),
-      near_keys n h.1 (or_first (has_long_key n) (have_long_key cs) others),
-      each_near keyed cs h.2 (or_second (has_long_key n) (have_long_key cs) others))
+      let others = or_second (is_long label.key) (has_long_key n || have_long_key cs) long in (
+        label_near keyed label h.0 (or_first (is_long label.key) (has_long_key n || have_long_key cs) long),
+        near_keys n h.1 (or_first (has_long_key n) (have_long_key cs) others),
+        each_near keyed cs h.2 (or_second (has_long_key n) (have_long_key cs) others),
+      )
 
 -- a key that a mapping hasn't
 some_none : {A : Type 0} {x : A} → Some x ≡ None → ⊥

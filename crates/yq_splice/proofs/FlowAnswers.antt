@@ -185,11 +185,11 @@ Placing t c doc path init s q place R = read_at t ≡ Some c → Some (init, s) 
 pub removal_found : (t : List ℕ) (c : Cut) (doc : ℕ) (path init : List Step) (s : Step) (q : Placed) (p : PlacedEdit) → cut_text c ≡ t → Placing t c doc path init s q (Some p) (RemovalFound t c doc path p)
 removal_found t c doc path init s q p whole =
     subst (λ (u : List ℕ). Placing u c doc path init s q (Some p) (RemovalFound u c doc path p)) whole (λ read last found is.
-      let w = coll_found (length (cut_text c)) (flow_collection doc init c) (behind_anchor q) found in
-      removal_at c doc path init s w.0 read (sym last) w.1 p (is ∙ (sym (core_place (cut_text c) s q) ∙ ap (remove_place (cut_text c) s) w.2)))
+    let w = coll_found (length (cut_text c)) (flow_collection doc init c) (behind_anchor q) found in
+    removal_at c doc path init s w.0 read (sym last) w.1 p (is ∙ (sym (core_place (cut_text c) s q) ∙ ap (remove_place (cut_text c) s) w.2)))
 
 pub removal_missing : (t : List ℕ) (c : Cut) (doc : ℕ) (path init : List Step) (s : Step) (q : Placed) → cut_text c ≡ t → Placing t c doc path init s q None (flow_remove_way (remove doc path) c ≡ None)
 removal_missing t c doc path init s q whole =
     subst (λ (u : List ℕ). Placing u c doc path init s q None (flow_remove_way (remove doc path) c ≡ None)) whole (λ read last found is.
-      let w = coll_found (length (cut_text c)) (flow_collection doc init c) (behind_anchor q) found in
-      missing_at c doc path init s w.0 read (sym last) w.1 (is ∙ (sym (core_place (cut_text c) s q) ∙ ap (remove_place (cut_text c) s) w.2)))
+    let w = coll_found (length (cut_text c)) (flow_collection doc init c) (behind_anchor q) found in
+    missing_at c doc path init s w.0 read (sym last) w.1 (is ∙ (sym (core_place (cut_text c) s q) ∙ ap (remove_place (cut_text c) s) w.2)))

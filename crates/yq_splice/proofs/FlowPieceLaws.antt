@@ -67,9 +67,10 @@ edit_pieces t before e piece is start ends whole =
     let u = front_utf8 t before (e.old ++ e.behind) (length t - length (e.old ++ e.behind)) is piece.utf8 start refl in
     let parts : t ≡ (before ++ e.old) ++ e.behind = is ∙ sym (append_assoc before e.old e.behind) in
     let v = front_utf8 t (before ++ e.old) e.behind (length t - length e.behind) parts piece.utf8 ends refl in
-    let size : length t - length e.behind ≡ length (before ++ e.old) = omega (arith, ap length parts, length-append (before ++ e.old) e.behind) in
-    (piece_front before (e.old ++ e.behind) (subst IsPiece is piece) u whole,
-    piece_behind (before ++ e.old) e.behind (subst IsPiece parts piece) v (subst (λ (n : ℕ). IsCharBoundary ((before ++ e.old) ++ e.behind) n) size (subst (λ (l : List ℕ). IsCharBoundary l (length t - length e.behind)) parts ends)))
+    let size : length t - length e.behind ≡ length (before ++ e.old) = omega (arith, ap length parts, length-append (before ++ e.old) e.behind) in (
+      piece_front before (e.old ++ e.behind) (subst IsPiece is piece) u whole,
+      piece_behind (before ++ e.old) e.behind (subst IsPiece parts piece) v (subst (λ (n : ℕ). IsCharBoundary ((before ++ e.old) ++ e.behind) n) size (subst (λ (l : List ℕ). IsCharBoundary l (length t - length e.behind)) parts ends)),
+    )
 
 -- ---- what takes the place of an item or entry
 

@@ -119,6 +119,7 @@ extents_span c doc steps x u cut e =
     let d = bind_some (slice_get (document_parts c) doc) e in
     let b = part_begins c doc d.0 d.1 in
     in_spans c d.0.rows b.0 (document_row doc c) u cut b.1 steps x d.2
+
 pub place_pieces : (c : Cut) (doc : ℕ) (steps : List Step) (w : InlinePlace) → read_at (cut_text c) ≡ Some c → inline_from doc steps c ≡ Some w → HasPieces (cut_text c) w.before (written_text w.old) w.behind
 unfolding read_at
 place_pieces c doc steps w read at =

@@ -65,17 +65,19 @@ pub scalar_is : (a : Option (List ℕ)) (kind : Kind) (t : List ℕ) (style : St
 unfolding IsNode node_text tree_of
 scalar_is a kind t style h i can =
     let s : ScalarText = record { kind = kind; text = t } in
-    let w : SpellsScalar s (written style t) = styled_spells s style h.1 i can in
-    (record {
-      stands = λ n rest ends. record { valid = w.stands (Some (deeper n)) rest ends; something = refl };
-      head = ap (λ (x : ScalarText). Some (scalar_node x)) w.same ∙ ap (λ (x : Option (List ℕ)). Some (tree.scalar x kind t)) (sym h.0);
-      unnamed = refl;
-      takes = refl;
-      more = refl;
-      keys = tt;
-      unmarked = λ rest sep. style_unmarked s style rest h.1 i can sep;
-      line = λ e. subst (λ (q : List ℕ). holds_break q ≡ false) (sym (append-nil (written style t))) w.line;
-    }, record { utf8 = w.utf8; characters = w.text })
+    let w : SpellsScalar s (written style t) = styled_spells s style h.1 i can in (
+      record {
+        stands = λ n rest ends. record { valid = w.stands (Some (deeper n)) rest ends; something = refl };
+        head = ap (λ (x : ScalarText). Some (scalar_node x)) w.same ∙ ap (λ (x : Option (List ℕ)). Some (tree.scalar x kind t)) (sym h.0);
+        unnamed = refl;
+        takes = refl;
+        more = refl;
+        keys = tt;
+        unmarked = λ rest sep. style_unmarked s style rest h.1 i can sep;
+        line = λ e. subst (λ (q : List ℕ). holds_break q ≡ false) (sym (append-nil (written style t))) w.line;
+      },
+      record { utf8 = w.utf8; characters = w.text },
+    )
 
 -- ---- collections in flow style
 

@@ -140,7 +140,6 @@ run_last (suc m) l z (k ∷ more) e = ap (print_line l) (run_last m k z more e)
 
 -- the lines of a document among those of a cut
 module _ (c : Cut) (p : Part) (more : List Row) (k : ℕ) (s : PrintedDocument) (there : drop k (rows_of c) ≡ p.rows ++ more) (placed : IsPlaced c k p s) (lines : s.lines ≡ printed_lines p.rows) where
-
   -- the text before a line
   pub begin_is : (n : ℕ) (q : Seat) (d : IsSeated p.rows n q) → before_line (k + q.before) q.line q.row c ≡ s.before ++ print_lines (take n (printed_lines p.rows)) (line_front d.line)
   begin_is n q d =

@@ -10,7 +10,11 @@ type Place = (&'static str, Option<&'static str>, &'static str, bool);
 
 /// Texts and paths in their first document, and the place there.
 static PLACES: [(&str, &str, Option<Place>); 26] = [
-    ("a: 1 # c\n", "/a", Some(("a: ", Some("1"), " # c\n", false))),
+    (
+        "a: 1 # c\n",
+        "/a",
+        Some(("a: ", Some("1"), " # c\n", false)),
+    ),
     (
         "a: &x 'y'\n",
         "/a",
@@ -51,12 +55,7 @@ static PLACES: [(&str, &str, Option<Place>); 26] = [
     (
         "---\na:\n b:\n   one\n   two\n...\n",
         "/a/b",
-        Some((
-            "---\na:\n b:\n   ",
-            Some("one\n   two"),
-            "\n...\n",
-            true,
-        )),
+        Some(("---\na:\n b:\n   ", Some("one\n   two"), "\n...\n", true)),
     ),
     (
         "- \n  \"x\"\n- 2\n",

@@ -21,12 +21,7 @@ use yq_scalar::Kind;
 use yq_tree::{Node, NodeKind};
 
 /// A value that is added to a scalar.
-fn to_scalar(
-    alloc: Global,
-    kind: Kind,
-    text: &str,
-    value: &Value,
-) -> Result<Change, MatchError>
+fn to_scalar(alloc: Global, kind: Kind, text: &str, value: &Value) -> Result<Change, MatchError>
     requires { values.is_null (value_node value.now) ≡ false }
     ensures { Matches change_of result (spec.added (scalar None kind text.now) (value_node value.now)) }
 {
@@ -111,11 +106,7 @@ fn to_map(alloc: Global, node: Node<'_, '_>, value: &Value) -> Result<Change, Ma
 }
 
 /// What a value changes that is added to a node.
-pub(crate) fn added(
-    alloc: Global,
-    node: Node<'_, '_>,
-    value: &Value,
-) -> Result<Change, MatchError>
+pub(crate) fn added(alloc: Global, node: Node<'_, '_>, value: &Value) -> Result<Change, MatchError>
     requires { values.is_null (value_node value.now) ≡ false }
     ensures { Matches change_of result (spec.added (node_of node.entry) (value_node value.now)) }
 {

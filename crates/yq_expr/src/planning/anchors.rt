@@ -43,10 +43,7 @@ fn put_aliases_below<'d>(node: Node<'d, '_>, aliases: &mut Aliases<'d>) -> Resul
 }
 
 /// The names of the aliases in a node.
-pub(crate) fn aliases_of<'d>(
-    alloc: Global,
-    node: Node<'d, '_>,
-) -> Result<Aliases<'d>, AllocError>
+pub(crate) fn aliases_of<'d>(alloc: Global, node: Node<'d, '_>) -> Result<Aliases<'d>, AllocError>
     ensures { IfOk result (λ m. HasAliases (names_of (node_of node.entry)) m) }
 {
     let mut aliases = BTreeMap::new(alloc);

@@ -109,7 +109,9 @@ fn changes_at<'a, 't>(
     }
     let aliases = aliases_of(alloc, root)?;
     match update {
-        Update::Assign(assignment) => assign(alloc, documents, doc, root, &aliases, assignment, places),
+        Update::Assign(assignment) => assign(
+            alloc, documents, doc, root, &aliases, assignment, places,
+        ),
         Update::Delete(_) => at_each(alloc, documents, doc, &aliases, Effect::Remove, places),
         Update::Comment(comment) => {
             let effect = Effect::SetComment(comment.place, comment.text.as_str());

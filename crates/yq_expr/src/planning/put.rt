@@ -114,11 +114,7 @@ fn put_below(
 }
 
 /// What a value changes that is put at a place.
-pub(crate) fn put(
-    alloc: Global,
-    place: Place<'_, '_>,
-    value: Value,
-) -> Result<Change, MatchError>
+pub(crate) fn put(alloc: Global, place: Place<'_, '_>, value: Value) -> Result<Change, MatchError>
     ensures { Matches (placed_change (place_of place.entry)) result (spec.put_at (place_of place.entry) (value_node value)) }
 {
     let missing = missing_steps(alloc, place.missing)?;

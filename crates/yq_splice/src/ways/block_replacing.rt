@@ -124,10 +124,7 @@ fn are_alike<'d>(end: LineEnd<'d>, removal: Removal<'d>) -> bool
 
 /// The end of the line of the item or entry at a path, and what would be taken out with it, if the
 /// lines under it can go.
-fn place_under<'d>(
-    documents: &'d Documents<'_>,
-    path: &Path,
-) -> Option<(LineEnd<'d>, Removal<'d>)>
+fn place_under<'d>(documents: &'d Documents<'_>, path: &Path) -> Option<(LineEnd<'d>, Removal<'d>)>
     ensures followed { (e : LineEndOf) (x : RemovalOf) → result ≡ Some (e, x) → spec.IsFollowed (end_told e) (removal_told x) }
     ensures place { option_map (λ p. (end_told p.0, removal_told p.1)) result ≡ spec.ends_at path.now.doc (steps_of path.now) (cut_of documents.now) }
 {

@@ -20,5 +20,5 @@ pub returns-in-Adds : goal.returns-in-Adds
 returns-in-Adds c = λ names h.
     let cs = children_of (node_of c.args.node) in
     let same = ap (list_any (λ a. overwrites_at names cs (addition_of a))) c.deref.ensures.value ∙ (sym (list_any_map (overwrites_at names cs) addition_of c.in-Adds.additions.items)
-        ∙ ap (λ (d : Change). takes_at names (node_of c.args.node) (change_of d)) (sym c.in-Adds.is)) in
+    ∙ ap (λ (d : Change). takes_at names (node_of c.args.node) (change_of d)) (sym c.in-Adds.is)) in
     subst (λ b. IfOk c.some_overwrites_used.result (λ a. a ≡ b)) same (c.some_overwrites_used.ensures names h)

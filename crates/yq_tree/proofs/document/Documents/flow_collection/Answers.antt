@@ -31,8 +31,8 @@ returns-in_err-node c =
     (held_collection c.self.inside.text.now c.self.inside.rows c.self.inside.documents.items c.args.doc c.index.result.now steps None c.self.invariant
     (slice_get_read c.self.inside.documents.items _ c.args.doc c.index.result.now refl within c.index.ensures)
     (λ k cut rs lines holds.
-      let f = collection_told k cut rs (flows c.index.result.now.lines) steps left c.in_ok-line.line holds (sym (c.in_ok-line.ensures.found ∙ ap (head_at steps) lines)) in
-      ap (λ (o : Option Placed). o >>= collection_along left) (c.in_err-node.ensures f.0 (ap (λ ls. slice_get (flows ls) c.in_ok-line.line) c.lines.ensures ∙ f.1)) ∙ f.2)
+    let f = collection_told k cut rs (flows c.index.result.now.lines) steps left c.in_ok-line.line holds (sym (c.in_ok-line.ensures.found ∙ ap (head_at steps) lines)) in
+    ap (λ (o : Option Placed). o >>= collection_along left) (c.in_err-node.ensures f.0 (ap (λ ls. slice_get (flows ls) c.in_ok-line.line) c.lines.ensures ∙ f.1)) ∙ f.2)
     ∙ ap (λ (t : List ℕ). option_map (placed_collection (length t)) (flow_collection c.args.doc steps (cut_of t))) c.self.view_is)
 
 pub returns : goal.returns
@@ -43,6 +43,6 @@ returns c =
     held_collection c.self.inside.text.now c.self.inside.rows c.self.inside.documents.items c.args.doc c.index.result.now steps _ c.self.invariant
     (slice_get_read c.self.inside.documents.items _ c.args.doc c.index.result.now refl within c.index.ensures)
     (λ k cut rs lines holds.
-      let f = collection_told k cut rs (flows c.index.result.now.lines) steps left c.in_ok-line.line holds (sym (c.in_ok-line.ensures.found ∙ ap (head_at steps) lines)) in
-      c.collection_along.ensures ∙ (ap (λ (o : Option Placed). o >>= collection_along left) (c.in_ok-node.ensures f.0 (ap (λ ls. slice_get (flows ls) c.in_ok-line.line) c.lines.ensures ∙ f.1)) ∙ f.2))
+    let f = collection_told k cut rs (flows c.index.result.now.lines) steps left c.in_ok-line.line holds (sym (c.in_ok-line.ensures.found ∙ ap (head_at steps) lines)) in
+    c.collection_along.ensures ∙ (ap (λ (o : Option Placed). o >>= collection_along left) (c.in_ok-node.ensures f.0 (ap (λ ls. slice_get (flows ls) c.in_ok-line.line) c.lines.ensures ∙ f.1)) ∙ f.2))
     ∙ ap (λ (t : List ℕ). option_map (placed_collection (length t)) (flow_collection c.args.doc steps (cut_of t))) c.self.view_is
