@@ -1,12 +1,12 @@
 -- The block scalar that a row holds, in its text.
-use Rattle.std.proofs.Common.{◌≡◌, ◌⊎◌, inl, inr, ℕ, ◌<◌, Bool, true, false, List, [], ◌∷◌, ◌++◌, length, drop, Option, Some, None, option_map, refl, sym, ap, ◌∙◌, subst, arith, append_assoc}
+use Rattle.std.proofs.Common.{◌≡◌, ℕ, ◌<◌, true, List, ◌++◌, length, drop, Option, Some, None, option_map, refl, sym, ap, ◌∙◌, subst, arith, append_assoc}
 use Rattle.std.proofs.Math.Seq.{drop-append_seam}
 use Rattle.std.proofs.lemmas.Bool.{false≢true}
 use Rattle.std.proofs.lemmas.Option.{slice_get-map}
 use Rattle.std.specs.List.{slice_get}
 use Rattle.std.specs.Prelude.{Result, Ok, Err}
 use Rattle.std.specs.Str.{IsCharBoundary}
-use Rattle.yq_scalar.specs.Block.{BlockText, block_text, block_piece, mark_of, IsBlock, IsBlockPiece, keeps}
+use Rattle.yq_scalar.specs.Block.{BlockText, block_text, block_piece, mark_of, IsBlock, IsBlockPiece}
 use Rattle.yq_scalar.specs.Piece.{deeper}
 use Rattle.yq_scalar.specs.declared.block_header.BlockStyle.{BlockStyle}
 use Rattle.yq_scalar.specs.declared.block_header.BlockStyle.TheVariants as styles
@@ -14,7 +14,7 @@ use Rattle.yq_scalar.specs.declared.piece.Piece.{Piece}
 use Rattle.yq_rows.specs.Exchange.{before_content, behind_row}
 use Rattle.yq_rows.specs.Grammar.{IsContent, IsCut}
 use Rattle.yq_rows.specs.Removal.{block_of}
-use Rattle.yq_rows.specs.Rows.{Content, Nothing, Inline, Block, Anchor, anchor_text, content_text, Row, parent_indent, Cut, cut_text}
+use Rattle.yq_rows.specs.Rows.{Content, Nothing, Inline, Block, Anchor, anchor_text, content_text, Row, parent_indent, Cut}
 use Rattle.yq_rows.specs.View.{Slices, slices, anchor_of, apart_of, content_cut, rows_of, Shown, shown}
 use Rattle.yq_rows.proofs.NodePieces.{BeginsAscii, before_ascii}
 use Rattle.yq_rows.proofs.PlaceLaws.{place, row_in}

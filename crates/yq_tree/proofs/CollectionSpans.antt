@@ -1,12 +1,11 @@
 -- The end of a block collection, by the piece of its content and the lines that the code holds.
-use Rattle.std.proofs.Common.{◌≡◌, ◌⊎◌, inl, inr, ℕ, zero, suc, ◌+◌, ◌<◌, ◌≤◌, eqb, List, [], ◌∷◌, ◌++◌, length, take, drop, map, Option, Some, None, is_some, option_map, option_and_then, Bool, true, false, cond, refl, sym, ap, ◌∙◌, subst, arith, append_assoc, append-nil}
+use Rattle.std.proofs.Common.{◌≡◌, ℕ, zero, suc, ◌+◌, ◌≤◌, eqb, List, [], ◌∷◌, ◌++◌, length, take, drop, map, Option, Some, None, is_some, option_map, option_and_then, Bool, true, false, cond, refl, sym, ap, ◌∙◌, subst, arith, append_assoc, append-nil}
 use Rattle.std.proofs.lemmas.Bool.{eqb-true, cond-true, cond-false, eq-eqb}
 use Rattle.std.proofs.lemmas.List.{drop-drop}
 use Rattle.std.proofs.lemmas.Option.{slice_get-map, slice_get_within}
 use Rattle.std.specs.List.{slice_get}
 use Rattle.yq_scalar.specs.Answers.{◌>>=◌}
 use Rattle.yq_scalar.specs.Paths.{Step}
-use Rattle.yq_scalar.specs.Tree as tree
 use Rattle.yq_rows.specs.Grammar.{unlimited}
 use Rattle.yq_rows.specs.Rows.{Row, Part, Cut, cut_text}
 use Rattle.yq_rows.specs.View.{rows_of}
@@ -22,15 +21,14 @@ use Rattle.yq_tree.specs.Lines.{lines_of}
 use Rattle.yq_tree.specs.PathPieces.{BlockEntry, content_piece, PrintedDocument, found_entry, piece_in_entry, piece_in}
 use Rattle.yq_tree.specs.Pieces.{Piece, head_piece}
 use Rattle.yq_tree.specs.PrintedLines.{PrintedLine, end_break, line_front, print_line, print_lines, printed_lines, line_in, run_text, run_break, run_piece, lines_piece}
-use Rattle.yq_tree.specs.Seats.{Seat}
 use Rattle.yq_tree.proofs.ContentEndLaws.{Ends}
 use Rattle.yq_tree.proofs.EndedLines.{seat_ends, run_ends, RowsBefore}
-use Rattle.yq_tree.proofs.FoundEntries.{lines_count, within_some, entry_on, entry_is}
+use Rattle.yq_tree.proofs.FoundEntries.{lines_count, within_some, entry_is}
 use Rattle.yq_tree.proofs.PieceSpans.{IsEntryAt, entry_at_line, last_line, last_under}
 use Rattle.yq_tree.proofs.PrintedLaws.{ArePrinted, lines_are}
 use Rattle.yq_tree.proofs.PrintedTexts.{same, none_some, run_is}
 use Rattle.yq_tree.proofs.RunSpans.{get_some, get_drop}
-use Rattle.yq_tree.proofs.SeatedLines.{IsPlaced, IsSeated, seated}
+use Rattle.yq_tree.proofs.SeatedLines.{IsPlaced, seated}
 
 -- An end of a collection stands behind the break that ends the piece of its content, where one does.
 pub record IsEndOf (o : Option Piece) (x : CollectionEnd) : Type 0 where

@@ -1,5 +1,5 @@
 -- What the code tells of the end of a block collection is what stands there.
-use Rattle.std.proofs.Common.{◌≡◌, ◌⊎◌, inl, inr, ℕ, ◌+◌, ◌<◌, ◌≤◌, List, [], ◌∷◌, ◌++◌, length, drop, map, not, Option, Some, None, option_map, Bool, true, false, refl, sym, ap, ◌∙◌, subst, arith, append_assoc, length-append}
+use Rattle.std.proofs.Common.{◌≡◌, inr, ℕ, ◌≤◌, List, ◌++◌, length, map, not, Option, Some, None, option_map, true, refl, sym, ap, ◌∙◌, subst, append_assoc, length-append}
 use Rattle.std.specs.List.{slice_get}
 use Rattle.std.specs.Str.{IsUtf8, IsCharBoundary}
 use Rattle.yq_scalar.specs.Answers.{◌>>=◌}

@@ -1,5 +1,5 @@
 -- What ends the last line of a row, and what stands behind it, among the lines of a document.
-use Rattle.std.proofs.Common.{◌≡◌, ◌⊎◌, inl, inr, ℕ, zero, suc, ◌+◌, ◌-◌, ◌<◌, ◌≤◌, List, [], ◌∷◌, ◌++◌, length, take, drop, Option, Some, None, option_map, Bool, true, false, refl, sym, ap, ◌∙◌, subst, arith, append_assoc, replicate}
+use Rattle.std.proofs.Common.{◌≡◌, ◌⊎◌, inl, inr, ℕ, zero, suc, ◌+◌, ◌-◌, ◌<◌, ◌≤◌, List, [], ◌∷◌, ◌++◌, length, take, drop, Some, Bool, true, false, refl, sym, ap, ◌∙◌, subst, arith, replicate}
 use Rattle.std.proofs.Math.Seq.{drop-append_seam, drop-append-add}
 use Rattle.std.proofs.lemmas.Bool.{cases_lt, lt-ltb, le-ltb, cond-true, cond-false}
 use Rattle.std.specs.List.{slice_get}
@@ -8,7 +8,7 @@ use Rattle.yq_rows.specs.Rows as rows
 use Rattle.yq_rows.specs.Rows.{Content, Row, rows_text, Part, Cut, last, marked, cut_text}
 use Rattle.yq_tree.specs.CollectionEnds.{is_broken, are_broken}
 use Rattle.yq_tree.specs.Documents.{parts_from}
-use Rattle.yq_tree.specs.PathPieces.{PrintedDocument, behind_text, printed_part}
+use Rattle.yq_tree.specs.PathPieces.{PrintedDocument, printed_part}
 use Rattle.yq_tree.specs.PrintedLines.{PrintedLine, end_break, print_lines, printed_from, printed_row, printed_lines, run_break}
 use Rattle.yq_tree.specs.Seats.{Seat, behind_one, seat}
 use Rattle.yq_tree.proofs.ContentEndLaws.{Ends, content_ends}

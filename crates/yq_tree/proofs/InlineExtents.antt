@@ -1,7 +1,7 @@
 -- What the code answers for the place of an inline node, or of nothing, is its extent.
 use Rattle.std.proofs.Common.{◌≡◌, ◌⊎◌, inl, inr, ℕ, zero, suc, ◌+◌, ◌<◌, ◌≤◌, ◌||◌, not, eqb, List, [], ◌∷◌, ◌++◌, length, take, drop, map, Option, Some, None, is_some, option_map, Bool, true, false, cond, refl, sym, ap, ◌∙◌, subst, arith, append_assoc, append-nil, length-append}
 use Rattle.std.proofs.lemmas.Bool.{cases_lt, eq-eqb, eqb-true, cond-true, cond-false}
-use Rattle.std.proofs.lemmas.Option.{slice_get-map, slice_get_within}
+use Rattle.std.proofs.lemmas.Option.{slice_get-map}
 use Rattle.std.specs.List.{slice_get}
 use Rattle.yq_scalar.specs.Answers.{◌>>=◌}
 use Rattle.yq_scalar.specs.Paths.{Step}
@@ -19,15 +19,15 @@ use Rattle.yq_lines.proofs.Decides.{flatten-group, even_from}
 use Rattle.yq_tree.specs.Existence.{some_lines}
 use Rattle.yq_tree.specs.Extents.{head_place}
 use Rattle.yq_tree.specs.InlinePlaces.{InlinePlace, node_inline, mark_inline, lines_inline, entry_inline, inline_in_entry, inline_in}
-use Rattle.yq_tree.specs.InlineReading.{InlineExtent, extent_of, content_extent, row_extent, line_extent, lines_extent, entry_extent, extent_from, extent_in}
+use Rattle.yq_tree.specs.InlineReading.{extent_of, content_extent, row_extent, line_extent, lines_extent, entry_extent, extent_from, extent_in}
 use Rattle.yq_tree.specs.Lines.{lines_of}
 use Rattle.yq_tree.specs.PathPieces.{BlockEntry, PrintedDocument, found_entry}
 use Rattle.yq_tree.specs.PrintedLines.{PrintedLine, line_front, print_line, print_lines, printed_lines, line_in}
-use Rattle.yq_tree.specs.Seats.{Seat, seat}
+use Rattle.yq_tree.specs.Seats.{Seat}
 use Rattle.yq_tree.proofs.FoundEntries.{lines_count, within_some}
 use Rattle.yq_tree.proofs.PieceSpans.{IsEntryAt, entry_at_line, bare_head, line_more, by_line}
 use Rattle.yq_tree.proofs.PrintedLaws.{IsValid, IsWritten, IsPrinted, ArePrinted, lines_are}
-use Rattle.yq_tree.proofs.PrintedTexts.{same, none_some, lines_then}
+use Rattle.yq_tree.proofs.PrintedTexts.{none_some, lines_then}
 use Rattle.yq_tree.proofs.RunSpans.{get_some, get_drop, head_front, content_size, seat_at}
 use Rattle.yq_tree.proofs.SeatedLines.{IsSeated, IsPlaced}
 use Rattle.yq_tree.proofs.UnderCounts.{count_stops}

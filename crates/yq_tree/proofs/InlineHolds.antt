@@ -3,37 +3,34 @@ use Rattle.std.proofs.Common.{◌≡◌, ℕ, ◌+◌, ◌-◌, ◌≤◌, eqb, 
 use Rattle.std.proofs.lemmas.Str.{IsUtf8-drop, IsCharBoundary-at_seam}
 use Rattle.std.proofs.Math.Seq.{take-append_seam, drop-append_seam}
 use Rattle.std.specs.List.{slice_get}
-use Rattle.std.specs.Str.{is_utf8, IsUtf8, IsCharBoundary}
+use Rattle.std.specs.Str.{IsUtf8, IsCharBoundary}
 use Rattle.yq_scalar.specs.Answers.{◌>>=◌}
 use Rattle.yq_scalar.specs.Paths.{Step}
-use Rattle.yq_scalar.specs.Text.{is_empty}
 use Rattle.yq_scalar.proofs.Bools.{bind_some}
 use Rattle.yq_inline.specs.Spans.{IsSpan}
-use Rattle.yq_rows.specs.Exchange.{HasPieces}
 use Rattle.yq_rows.specs.Grammar.{IsCut}
 use Rattle.yq_rows.specs.Rows.{Content, Nothing, Inline, Block, Row, Part, Cut, cut_text}
 use Rattle.yq_rows.specs.View.{rows_of}
 use Rattle.yq_lines.specs.Ends.{lines_end, reached}
 use Rattle.yq_lines.specs.Group.{group, is_fine}
-use Rattle.yq_lines.specs.Outline.{Line}
 use Rattle.yq_lines.specs.Spots.{is_bare}
 use Rattle.yq_tree.specs.declared.path.Path.{Path}
 use Rattle.yq_tree.specs.Documents.{document_parts}
-use Rattle.yq_tree.specs.EntryReading.{head_end, head_extent}
+use Rattle.yq_tree.specs.EntryReading.{head_end}
 use Rattle.yq_tree.specs.Extents.{head_place}
 use Rattle.yq_tree.specs.InlinePlaces.{InlinePlace, written_text, inline_in, inline_place}
-use Rattle.yq_tree.specs.InlineReading.{InlineExtent, InlineTelling, extent_of, content_extent, row_extent, line_extent, lines_extent, entry_extent, extent_from, extent_in, extent_at, inline_telling, if_written}
+use Rattle.yq_tree.specs.InlineReading.{InlineExtent, extent_of, content_extent, row_extent, line_extent, lines_extent, entry_extent, extent_from, extent_in, extent_at, inline_telling, if_written}
 use Rattle.yq_tree.specs.Lines.{lines_of}
 use Rattle.yq_tree.specs.Located.{steps_of}
 use Rattle.yq_tree.specs.Reading.{all_documents}
-use Rattle.yq_tree.specs.Seats.{Seat, seat, document_row}
+use Rattle.yq_tree.specs.Seats.{seat, document_row}
 use Rattle.yq_tree.specs.PathPieces.{PrintedDocument, printed_document}
 use Rattle.yq_tree.specs.PrintedLines.{printed_lines, line_in}
 use Rattle.yq_tree.proofs.EntryPlaceLaws.{row_there}
 use Rattle.yq_tree.proofs.FoundLines.{each}
 use Rattle.yq_tree.proofs.HeadSpanLaws.{head_span}
 use Rattle.yq_tree.proofs.InlineExtents.{inline_is_at}
-use Rattle.yq_tree.proofs.InlineTexts.{HasBytes, IsPlaceIn, inline_in_text}
+use Rattle.yq_tree.proofs.InlineTexts.{HasBytes, inline_in_text}
 use Rattle.yq_tree.proofs.PieceHolds.{no_part}
 use Rattle.yq_tree.proofs.PieceTexts.{document_text, document_whole}
 use Rattle.yq_tree.proofs.PrintedLaws.{ArePrinted, lines_are, document_is}

@@ -1,11 +1,10 @@
 -- The place of an inline node, or of nothing, with what stands before and behind it is the text.
 use Rattle.std.proofs.Common.{◌≡◌, ℕ, ◌||◌, not, eqb, List, [], ◌∷◌, ◌++◌, length, map, Option, Some, None, is_some, Bool, true, false, cond, refl, sym, ap, ◌∙◌, arith, append_assoc}
-use Rattle.std.proofs.lemmas.Bool.{false≢true}
 use Rattle.yq_scalar.specs.Answers.{◌>>=◌}
 use Rattle.yq_scalar.specs.Paths.{Step}
 use Rattle.yq_scalar.specs.Text.{is_empty}
 use Rattle.yq_scalar.proofs.Bools.{bind_some}
-use Rattle.yq_inline.specs.Nodes.{Node, empty, alias, scalar, coll, anchored, node_text, items_text, IsNode}
+use Rattle.yq_inline.specs.Nodes.{Node, empty, alias, scalar, coll, anchored, node_text, IsNode}
 use Rattle.yq_inline.proofs.PieceLaws.{scalar_some}
 use Rattle.yq_inline.proofs.WrittenLaws.{node_then}
 use Rattle.yq_rows.specs.Rows.{Content, Nothing, Inline, Block, content_text}
@@ -17,7 +16,7 @@ use Rattle.yq_tree.specs.Existence.{some_lines}
 use Rattle.yq_tree.specs.InlinePlaces.{InlinePlace, written_text, node_inline, mark_inline, lines_inline, entry_inline, inline_in_entry, inline_in}
 use Rattle.yq_tree.specs.PathPieces.{BlockEntry, PrintedDocument, found_entry}
 use Rattle.yq_tree.specs.PrintedLines.{PrintedLine, line_front, print_line, print_lines, line_in}
-use Rattle.yq_tree.proofs.FoundEntries.{IsFound, entry_found}
+use Rattle.yq_tree.proofs.FoundEntries.{entry_found}
 use Rattle.yq_tree.proofs.PieceTexts.{entry_text, entry_whole, document_text}
 use Rattle.yq_tree.proofs.PrintedLaws.{IsValid, IsWritten, IsPrinted, ArePrinted}
 use Rattle.yq_tree.proofs.PrintedTexts.{same, none_some, line_then}

@@ -1,11 +1,11 @@
 -- The break that ends a text, and what stands behind the last line of a content.
-use Rattle.std.proofs.Common.{◌≡◌, ◌⊎◌, inl, inr, ℕ, Bool, true, false, ◌&&◌, eqb, cond, List, [], ◌∷◌, ◌++◌, length, drop, refl, sym, ap, ◌∙◌, subst}
+use Rattle.std.proofs.Common.{◌≡◌, ◌⊎◌, inl, inr, ℕ, Bool, true, false, ◌&&◌, cond, List, [], ◌∷◌, ◌++◌, length, drop, refl, ap, ◌∙◌}
 use Rattle.std.proofs.lemmas.Bool.{eqb-true}
 use Rattle.yq_scalar.specs.Block.{AreRaw}
 use Rattle.yq_scalar.specs.Text.{is_empty, is_feed, is_return, is_line, joined}
 use Rattle.yq_scalar.specs.declared.block_lines.TextIndent.{TextIndent}
 use Rattle.yq_scalar.proofs.BlockPieceLaws.{IsLf, line_lf, raw_lf}
-use Rattle.yq_tree.specs.PrintedLines.{is_last_break, less_break, last_break}
+use Rattle.yq_tree.specs.PrintedLines.{less_break, last_break}
 
 -- no byte of a text is an LF
 abbrev pub HasNoFeed : List ℕ → Type 0

@@ -5,7 +5,7 @@ use Rattle.yq_scalar.specs.Block.{is_tail}
 use Rattle.yq_scalar.specs.Lines.{is_blank, is_hash}
 use Rattle.yq_scalar.specs.Text as text
 use Rattle.yq_scalar.specs.Text.{front, is_white, is_feed, is_return, is_break, is_line, is_empty, ends_line, no_white, past_white, NoneIn}
-use Rattle.yq_scalar.proofs.Bools.{and_true, is_true}
+use Rattle.yq_scalar.proofs.Bools.{and_true}
 use Rattle.yq_scalar.proofs.Upto.{upto_ends, none_in_cut, cut-append, cut_takes}
 use Rattle.yq_rows.specs.Gap.{IsWhite, IsBreak, IsComment}
 use Rattle.yq_rows.specs.Grammar.{IsTail, IsContent}

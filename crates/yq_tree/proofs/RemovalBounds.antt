@@ -1,5 +1,5 @@
 -- Rows of a document and the gaps behind them, among all rows of a text.
-use Rattle.std.proofs.Common.{◌≡◌, ℕ, zero, suc, ◌+◌, ◌-◌, ◌<◌, ◌≤◌, eqb, ltb, List, [], ◌∷◌, ◌++◌, length, length-append, take, drop, Option, Some, None, option_map, Bool, true, false, cond, not, ◌||◌, refl, sym, ap, ◌∙◌, subst, arith}
+use Rattle.std.proofs.Common.{◌≡◌, ℕ, zero, suc, ◌+◌, ◌-◌, ◌<◌, ◌≤◌, eqb, ltb, List, [], ◌∷◌, ◌++◌, length, length-append, take, Some, option_map, Bool, true, false, cond, not, ◌||◌, refl, sym, ap, ◌∙◌, subst, arith}
 use Rattle.std.proofs.lemmas.Bool.{cond-true, cond-false, eq-eqb, ne_eqb, le-ltb, lt-ltb}
 use Rattle.std.proofs.lemmas.Option.{slice_get-map}
 use Rattle.std.specs.List.{slice_get}
@@ -7,9 +7,9 @@ use Rattle.yq_rows.specs.Grammar.{begins_document}
 use Rattle.yq_rows.specs.Removal.{block_of, last_block, next_column}
 use Rattle.yq_rows.specs.Rows.{Row, rows_text, Part, part_text, Cut, last, marked, cut_text}
 use Rattle.yq_rows.specs.Splices.{first_gap}
-use Rattle.yq_rows.specs.View.{Slices, slices, rows_of, Bound, bounds_from, bounds_of, bounds_at, Shown, shown}
+use Rattle.yq_rows.specs.View.{slices, rows_of, Bound, bounds_from, bounds_of, bounds_at, shown}
 use Rattle.yq_tree.specs.CommentReading.{before_row}
-use Rattle.yq_tree.specs.Documents.{begins_bare, has_begin, parts_from, document_parts}
+use Rattle.yq_tree.specs.Documents.{begins_bare, has_begin}
 use Rattle.yq_tree.specs.PlacedRows.{PlacedPart, part_behind, placed_part, placed_document}
 use Rattle.yq_tree.specs.RemovalReading.{gap_at, gap_and_column}
 use Rattle.yq_tree.specs.Seats.{rows_before, document_row}

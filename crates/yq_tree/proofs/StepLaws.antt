@@ -9,7 +9,7 @@ use Rattle.yq_tree.specs.Documents.{document_parts}
 use Rattle.yq_tree.specs.PartReading.{Lined}
 use Rattle.yq_tree.specs.Reading.{cut_of}
 use Rattle.yq_tree.specs.SoundReading.{Holds}
-use Rattle.yq_tree.specs.Steps.{first_step, Steps, steps_in, steps_of_part, document_steps}
+use Rattle.yq_tree.specs.Steps.{first_step, steps_in, steps_of_part, document_steps}
 use Rattle.yq_tree.specs.declared.reading.checks.DocumentLines.{DocumentLines}
 use Rattle.yq_tree.proofs.SeatLaws.{part_at, none_past}
 

@@ -1,5 +1,5 @@
 -- Reading (a reader may skip this: the grammar is what is believed, and found and only tie the two): flow collections at paths, as the code finds them.
-use Rattle.std.specs.Prelude.{ℕ, suc, List, [], ◌∷◌, length, nat_lt, slice_get, Option, Some, None, is_some, if◌then◌else◌}
+use Rattle.std.specs.Prelude.{ℕ, suc, List, [], ◌∷◌, nat_lt, slice_get, Option, Some, None, is_some, if◌then◌else◌}
 use Rattle.yq_scalar.specs.Answers.{◌>>=◌}
 use Rattle.yq_scalar.specs.Paths.{Step}
 use Rattle.yq_inline.specs.Collections.{CollPieces}

@@ -1,5 +1,5 @@
 -- Reading (a reader may skip this): where inline nodes stand, by the rows of a text and their pieces, as the code counts.
-use Rattle.std.specs.Prelude.{◌||◌, not, ◌==◌, ℕ, suc, ◌+◌, List, [], ◌∷◌, length, Option, Some, None, is_some, option_map, Bool, true, false, if◌then◌else◌, slice_get}
+use Rattle.std.specs.Prelude.{◌||◌, ◌==◌, ℕ, suc, ◌+◌, List, [], ◌∷◌, length, Option, Some, None, is_some, Bool, true, false, if◌then◌else◌, slice_get}
 use Rattle.yq_scalar.specs.Answers.{◌>>=◌}
 use Rattle.yq_scalar.specs.Paths.{Step}
 use Rattle.yq_rows.specs.Rows.{Content, Nothing, Inline, Block, Row, Cut}

@@ -1,5 +1,5 @@
 -- A document's rows in the text of a cut, and the row of the line to which a path leads (YAML 1.2.2, 9.1; own).
-use Rattle.std.specs.Prelude.{ℕ, zero, suc, ◌||◌, not, List, [], ◌∷◌, ◌++◌, take, drop, Option, Some, None, option_map, Bool, true, false}
+use Rattle.std.specs.Prelude.{ℕ, zero, suc, ◌||◌, not, List, [], ◌++◌, take, drop, Option, Some, None, option_map, Bool, true, false}
 use Rattle.yq_scalar.specs.Answers.{◌>>=◌}
 use Rattle.yq_scalar.specs.Paths.{Step}
 use Rattle.yq_rows.specs.Grammar.{begins_document}

@@ -1,5 +1,5 @@
 -- Changes of a tree and of a document that operations and the meaning of updates share (own).
-use Rattle.std.specs.Prelude.{ℕ, zero, suc, Bool, true, false, List, [], ◌∷◌, Option, Some, None}
+use Rattle.std.specs.Prelude.{ℕ, zero, suc, Bool, true, false, List, [], ◌∷◌, Option, None}
 use Rattle.yq_scalar.specs.Paths.{Step, change_child, within}
 use Rattle.yq_scalar.specs.Tree.{Label, Node, Children, none, child, children_of}
 use Rattle.yq_lines.specs.Outline.{anchored}

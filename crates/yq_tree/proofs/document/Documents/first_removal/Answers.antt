@@ -1,11 +1,10 @@
-use Rattle.std.proofs.Common.{ℕ, List, ◌-◌, Some, take, drop, map, option_map, sym, ap, ◌∙◌, subst}
+use Rattle.std.proofs.Common.{ℕ, List, ◌-◌, Some, take, drop, sym, ap, ◌∙◌, subst}
 use Rattle.std.specs.Str.{IsUtf8, IsCharBoundary}
 use Rattle.yq_tree.specs.FirstPlaces.{first_out}
 use Rattle.yq_tree.specs.FirstTelling.{piece_of}
-use Rattle.yq_tree.specs.Pieces.{span}
 use Rattle.yq_tree.specs.Reading.{cut_of}
 use Rattle.yq_tree.specs.SeatReading.{told}
-use Rattle.yq_tree.proofs.FirstLaws.{EntryStands, entry_stands, first_is, no_first_entry, no_first_seat, other_first_line}
+use Rattle.yq_tree.proofs.FirstLaws.{entry_stands, first_is, no_first_entry, no_first_seat, other_first_line}
 use Rattle.yq_tree.proofs.document.Documents.first_removal.Goals as goal
 
 pub returns-in_err-seat : goal.returns-in_err-seat

@@ -1,4 +1,4 @@
-use Rattle.std.proofs.Common.{◌≡◌, ◌-◌, ◌<◌, ℕ, length, take, map, sym, ap, ◌∙◌, arith}
+use Rattle.std.proofs.Common.{◌≡◌, ◌-◌, ◌<◌, length, take, map, ◌∙◌, arith}
 use Rattle.yq_inline.specs.Entries.{step_of}
 use Rattle.yq_scalar.specs.Paths.{node_at}
 use Rattle.yq_tree.specs.Located.{steps_of}

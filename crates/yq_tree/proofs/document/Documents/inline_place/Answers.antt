@@ -2,7 +2,7 @@ use Rattle.std.proofs.Common.{ℕ, List, ◌-◌, take, drop, sym, ap, ◌∙◌
 use Rattle.std.specs.Str.{IsUtf8, IsCharBoundary}
 use Rattle.yq_tree.specs.InlineReading.{InlineExtent, extent_view}
 use Rattle.yq_tree.specs.Reading.{cut_of}
-use Rattle.yq_tree.proofs.InlineHolds.{is_inline_at, inline_ends, inline_telling_is, no_inline}
+use Rattle.yq_tree.proofs.InlineHolds.{is_inline_at, inline_ends, inline_telling_is}
 use Rattle.yq_tree.proofs.document.Documents.inline_place.Goals as goal
 
 pub cut_at-requires-clause-start : goal.cut_at-requires-clause-start

@@ -9,7 +9,6 @@ use Rattle.yq_tree.specs.Seats.{document_row, seat_at}
 use Rattle.yq_rows.specs.View.{Slices}
 use Rattle.yq_tree.proofs.CommentEndLaws.{row_same, no_lines_above, other_lines_above, gap_stands, lines_above_is}
 use Rattle.yq_tree.proofs.SeatedLaws.{row_within}
-use Rattle.yq_tree.proofs.HeldLaws.{held_shown}
 use Rattle.yq_tree.proofs.document.Documents.lines_above.Goals as goal
 
 pub returns-in_err-seat : goal.returns-in_err-seat

@@ -1,6 +1,4 @@
-use Rattle.std.proofs.Common.{rules, ◌≡◌, ◌+◌, ◌≤◌, ◌++◌, List, ℕ, length, take, drop, not, refl, sym, ap, ◌∙◌, subst, arith, length-append, append_assoc}
-use Rattle.yq_tree.specs.CollectionTelling.{collection_told}
-use Rattle.yq_tree.proofs.CollectionTold.{IsEndAt}
+use Rattle.std.proofs.Common.{not, ◌∙◌}
 use Rattle.yq_tree.proofs.EndCutLaws.{break_boundary, end_is_told}
 use Rattle.yq_tree.proofs.places.collection_end.end_at.Goals as goal
 

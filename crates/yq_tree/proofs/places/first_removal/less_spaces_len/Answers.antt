@@ -1,5 +1,4 @@
-use Rattle.std.proofs.Common.{length, take, sym, ap, ◌∙◌, arith}
-use Rattle.yq_tree.specs.FirstPlaces.{less_spaces}
+use Rattle.std.proofs.Common.{length, sym, ap, ◌∙◌, arith}
 use Rattle.yq_tree.proofs.FirstLaws.{none_less, some_less, step_less}
 use Rattle.yq_tree.proofs.places.first_removal.less_spaces_len.Goals as goal
 

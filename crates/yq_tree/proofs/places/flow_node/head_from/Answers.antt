@@ -1,5 +1,4 @@
-use Rattle.std.proofs.Common.{suc, ◌+◌, ◌<◌, ◌≡◌, length, ap, ◌∙◌, arith}
-use Rattle.yq_lines.specs.Ends.{lines_end}
+use Rattle.std.proofs.Common.{suc, ◌+◌, ◌≡◌, arith}
 use Rattle.yq_lines.specs.View.{views}
 use Rattle.yq_tree.proofs.FlowToldLaws.{head_under}
 use Rattle.yq_tree.proofs.places.flow_node.head_from.Goals as goal

@@ -1,4 +1,4 @@
-use Rattle.std.proofs.Common.{◌≡◌, Bool, List, ℕ, sym, ap, ◌∙◌}
+use Rattle.std.proofs.Common.{sym, ap, ◌∙◌}
 use Rattle.yq_rows.specs.View.{view}
 use Rattle.yq_tree.specs.RowReading.{begins_block}
 use Rattle.yq_tree.proofs.InlineTold.{row_block, row_inline}

@@ -1,4 +1,3 @@
-use Rattle.std.proofs.Common.{length, ap, arith}
 use Rattle.yq_tree.proofs.CommentEndLaws.{above_fits, above_boundary, above_is}
 use Rattle.yq_tree.proofs.places.lines_above.above.Goals as goal
 

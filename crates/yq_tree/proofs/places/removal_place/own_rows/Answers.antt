@@ -1,4 +1,4 @@
-use Rattle.std.proofs.Common.{◌≡◌, ◌+◌, ◌-◌, ◌<◌, ℕ, drop, length, map, ap, ◌∙◌, arith}
+use Rattle.std.proofs.Common.{◌+◌, ◌-◌, ◌<◌, ℕ, drop, length, map, ap, ◌∙◌, arith}
 use Rattle.yq_inline.specs.Entries.{step_of}
 use Rattle.yq_lines.specs.Ends.{line_of, lines_end}
 use Rattle.yq_lines.specs.View.{views}

@@ -1,4 +1,4 @@
-use Rattle.std.proofs.Common.{◌≡◌, ◌+◌, ◌-◌, ℕ, List, ◌++◌, length, length-append, take, drop, option_map, sym, ap, ◌∙◌, arith}
+use Rattle.std.proofs.Common.{◌+◌, ◌-◌, ℕ, ◌++◌, length, length-append, take, drop, option_map, ap, ◌∙◌, arith}
 use Rattle.yq_scalar.specs.Text.{joined, lines_of}
 use Rattle.yq_rows.specs.Removal.{last_block}
 use Rattle.yq_rows.specs.View.{view}

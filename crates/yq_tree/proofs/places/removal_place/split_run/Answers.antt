@@ -1,4 +1,4 @@
-use Rattle.std.proofs.Common.{◌∙◌, arith}
+use Rattle.std.proofs.Common.{◌∙◌}
 use Rattle.yq_tree.proofs.RemovalPlaceLaws.{kept_is, rest_is, run_boundary, run_less}
 use Rattle.yq_tree.proofs.places.removal_place.split_run.Goals as goal
 
