@@ -1,10 +1,7 @@
 -- What may stand at the end of a block collection.
-use Rattle.std.proofs.Common.{◌≡◌, ◌⊎◌, inl, inr, ℕ, zero, suc, ◌+◌, ◌*◌, ◌<◌, ◌≤◌, List, [], ◌∷◌, ◌++◌, Option, Some, None, Bool, true, false, cond, not, ◌||◌, refl, sym, ap, ◌∙◌, subst, arith, append_assoc, append-nil, length, length-append}
-use Rattle.std.proofs.lemmas.Bool.{false≢true, lt-ltb}
-use Rattle.std.specs.Prelude.{ℤ, pos}
+use Rattle.std.proofs.Common.{◌≡◌, ℕ, suc, ◌+◌, ◌*◌, ◌<◌, ◌≤◌, List, [], ◌∷◌, ◌++◌, Option, Some, None, true, refl, sym, ap, ◌∙◌, subst, arith, append_assoc, append-nil, length-append}
+use Rattle.std.proofs.lemmas.Bool.{lt-ltb}
 use Rattle.yq_scalar.specs.Piece.{deeper}
-use Rattle.yq_scalar.specs.Plain.{ends_plain}
-use Rattle.yq_scalar.specs.Text.{is_empty, is_line}
 use Rattle.yq_lines.specs.Comments.{head_comment}
 use Rattle.yq_lines.specs.Group.{level_or}
 use Rattle.yq_lines.specs.Outline.{Mark, Bare, Key, Dash, Line, level, rank, Outline, end, row, flatten}
@@ -13,11 +10,11 @@ use Rattle.yq_lines.specs.Places.{lines_before, lines_after}
 use Rattle.yq_lines.proofs.Decides.{flatten-group}
 use Rattle.yq_rows.specs.Exchange.{allows_first, asked_behind}
 use Rattle.yq_rows.specs.Gap.{IsGap}
-use Rattle.yq_rows.specs.Grammar.{Limit, unlimited, allows, limit_after, limit_behind, AreDashes, IsTail, IsRow, AreRows, no_rows}
+use Rattle.yq_rows.specs.Grammar.{Limit, unlimited, allows, limit_after, AreRows}
 use Rattle.yq_rows.specs.Rows as rows
 use Rattle.yq_rows.specs.Rows.{Content, Row, behind_columns, before_column, mark_column, parent_of, parent_indent, rows_text, Part, Cut}
 use Rattle.yq_rows.specs.Splices.{first_gap, behind_first}
-use Rattle.yq_rows.proofs.PlainEnds.{AtLine, rows_line, tail_ends}
+use Rattle.yq_rows.proofs.PlainEnds.{AtLine, rows_line}
 use Rattle.yq_rows.proofs.seams.SeamLaws.{part_line}
 use Rattle.yq_rows.proofs.splices.PartPlaces.{part_in, part_ends}
 use Rattle.yq_rows.proofs.splices.SpliceTexts.{first_is}
@@ -25,10 +22,10 @@ use Rattle.yq_tree.specs.CollectionEnds.{CollectionEnd}
 use Rattle.yq_tree.specs.Lines.{mark_line, lines_from, row_lines, lines_of}
 use Rattle.yq_tree.specs.Reading.{outline_of}
 use Rattle.yq_change.specs.CollectionPlaces.{BeginsAt, IsCollectionEnd}
-use Rattle.yq_change.specs.DocumentRows.{IsDocumentPart, Known, behind_document, part_number}
+use Rattle.yq_change.specs.DocumentRows.{IsDocumentPart, behind_document, part_number}
 use Rattle.yq_change.specs.LineRows.{Begins, AreDeep}
 use Rattle.yq_change.specs.Moved.{dash_lines}
-use Rattle.yq_change.specs.Siblings.{HasEntries, IsEntry, NodeLines}
+use Rattle.yq_change.specs.Siblings.{HasEntries, IsEntry}
 use Rattle.yq_change.proofs.ApartLaws.{even_deep, lines_apart}
 use Rattle.yq_change.proofs.ColumnLaws.{allowed_content, below_entry, below_node, high_level, next_low}
 use Rattle.yq_change.proofs.LineLaws.{above_mark, mark_behind}

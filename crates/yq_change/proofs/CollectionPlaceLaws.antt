@@ -1,5 +1,5 @@
 -- The rows at the end of a block collection, by its place in a text.
-use Rattle.std.proofs.Common.{◌≡◌, ℕ, zero, suc, ◌+◌, ◌<◌, List, [], ◌∷◌, ◌++◌, length, take, drop, map, Option, Some, None, option_and_then, Bool, true, false, cond, not, ◌||◌, replicate, refl, sym, ap, ◌∙◌, subst, arith, append_assoc, append-nil, length-append}
+use Rattle.std.proofs.Common.{◌≡◌, ℕ, suc, ◌+◌, ◌<◌, List, [], ◌∷◌, ◌++◌, length, take, drop, map, Option, Some, None, option_and_then, Bool, true, false, cond, not, ◌||◌, replicate, refl, sym, ap, ◌∙◌, subst, arith, append_assoc, append-nil, length-append}
 use Rattle.std.proofs.lemmas.Bool.{false≢true}
 use Rattle.std.proofs.lemmas.List.{take-append-drop, length-take-le}
 use Rattle.std.proofs.lemmas.Option.{slice_get_within}
@@ -15,10 +15,10 @@ use Rattle.yq_rows.specs.Rows.{Content, Row, rows_text, Part, part_text, Cut, cu
 use Rattle.yq_rows.proofs.splices.PartPlaces.{part_in}
 use Rattle.yq_lines.specs.Group.{group, level_or}
 use Rattle.yq_lines.specs.Outline.{Mark, Bare, Key, Dash, Line, Outline, end, row, flatten}
-use Rattle.yq_lines.specs.Places.{below, here, compose, lines_before, Found, find}
+use Rattle.yq_lines.specs.Places.{here, lines_before, Found, find}
 use Rattle.yq_lines.specs.Spots.{is_bare}
 use Rattle.yq_lines.proofs.Decides.{flatten-group}
-use Rattle.yq_tree.specs.CollectionEnds.{CollectionEnd, is_broken, are_broken, end_of_lines, end_of_entry, end_of_found, end_in, collection_end}
+use Rattle.yq_tree.specs.CollectionEnds.{CollectionEnd, is_broken, are_broken, end_of_lines, end_of_entry, end_of_found, end_in}
 use Rattle.yq_tree.specs.Documents.{begins_bare, has_begin}
 use Rattle.yq_tree.specs.Lines.{lines_of}
 use Rattle.yq_tree.specs.PathPieces.{BlockEntry, PrintedDocument, found_entry, printed_document}

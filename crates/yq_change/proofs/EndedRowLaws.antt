@@ -1,10 +1,9 @@
 -- Rows end in an LF, or nothing is behind them.
-use Rattle.std.proofs.Common.{inl, inr, ◌⊎◌, ◌≡◌, ℕ, ℤ, true, false, List, [], ◌∷◌, ◌++◌, refl, sym, ap, ◌∙◌, subst, append_assoc, append-nil, replicate}
-use Rattle.std.proofs.lemmas.Bool.{false≢true}
+use Rattle.std.proofs.Common.{inl, inr, ◌⊎◌, ◌≡◌, ℕ, ℤ, List, [], ◌∷◌, ◌++◌, refl, sym, ap, ◌∙◌, subst, append-nil}
 use Rattle.yq_scalar.proofs.BlockPieceLaws.{IsLf, append_lf, raw_lf}
 use Rattle.yq_rows.specs.Exchange.{row_front}
 use Rattle.yq_rows.specs.Grammar.{Limit, limit_after, IsContent, IsRow, AreRows}
-use Rattle.yq_rows.specs.Rows.{Content, Nothing, Inline, Block, content_text, anchor_text, dashes_text, mark_text, Row, print_row, rows_text}
+use Rattle.yq_rows.specs.Rows.{Content, Nothing, Inline, Block, content_text, Row, print_row, rows_text}
 use Rattle.yq_rows.specs.View.{content_cut}
 use Rattle.yq_rows.proofs.PlaceLaws.{part_then, row_front-append}
 use Rattle.yq_rows.proofs.seams.SeamLaws.{rows_text-append}

@@ -2,7 +2,6 @@
 use Rattle.std.proofs.Common.{◌≡◌, ℕ, zero, suc, ◌+◌, ◌-◌, ◌<◌, Bool, true, false, ◌||◌, List, [], ◌∷◌, ◌++◌, length, Option, Some, None, refl, sym, ap, ◌∙◌, subst, arith, append_assoc, length-append}
 use Rattle.std.proofs.lemmas.Bool.{lt-ltb, le-ltb, cond-true, cond-false}
 use Rattle.std.specs.List.{slice_get}
-use Rattle.yq_scalar.specs.Answers.{◌>>=◌}
 use Rattle.yq_scalar.specs.Paths.{Step}
 use Rattle.yq_scalar.proofs.Bools.{bind_some}
 use Rattle.yq_inline.specs.Collections.{CollPieces, coll_along}
@@ -19,15 +18,15 @@ use Rattle.yq_rows.specs.Splices.{behind_part}
 use Rattle.yq_rows.specs.View.{rows_of}
 use Rattle.yq_rows.proofs.PlaceLaws.{place, new_place}
 use Rattle.yq_tree.specs.Documents.{begins_bare, document_parts, has_begin, parts_from}
-use Rattle.yq_tree.specs.FlowNodes.{content_flow, find_head, flow_collection}
+use Rattle.yq_tree.specs.FlowNodes.{content_flow, find_head}
 use Rattle.yq_tree.specs.Lines.{lines_of}
-use Rattle.yq_tree.specs.Reading.{outline_of, read_at}
+use Rattle.yq_tree.specs.Reading.{outline_of}
 use Rattle.yq_tree.specs.Seats.{Seat, seat, rows_before, document_row}
 use Rattle.yq_tree.proofs.FlowPlaceLaws.{mark_seat, middle}
 use Rattle.yq_change.specs.Appends.{inserted}
-use Rattle.yq_change.specs.Changed.{put_from, put_document}
+use Rattle.yq_change.specs.Changed.{put_from}
 use Rattle.yq_change.specs.DocumentRows.{behind_document, number_from}
-use Rattle.yq_change.specs.FlowRows.{InlineRow, behind_node, with_node, FlowAt, FlowFound, NodeStands, RowTexts}
+use Rattle.yq_change.specs.FlowRows.{InlineRow, FlowFound, RowTexts}
 use Rattle.yq_change.proofs.FlowLineLaws.{head_takes, head_whole}
 use Rattle.yq_change.proofs.LineLaws.{seat_splits}
 use Rattle.yq_change.proofs.PartLaws.{document_known, end_stays, gap_stays}

@@ -1,6 +1,6 @@
 -- A flow collection whose items or entries are changed, by the row in which it stands.
-use Rattle.std.proofs.Common.{◌≡◌, ℕ, ◌+◌, Bool, true, false, ◌&&◌, cond, eqb, List, [], ◌∷◌, ◌++◌, length, take, Option, Some, None, refl, sym, ap, ◌∙◌, subst, length-append, append_assoc, replicate, ℤ}
-use Rattle.std.proofs.lemmas.Bool.{and_parts, cond_both, false≢true}
+use Rattle.std.proofs.Common.{◌≡◌, ℕ, ◌+◌, Bool, true, false, ◌&&◌, cond, eqb, List, [], ◌∷◌, ◌++◌, length, Option, Some, None, refl, sym, ap, ◌∙◌, subst, length-append, ℤ}
+use Rattle.std.proofs.lemmas.Bool.{and_parts, cond_both}
 use Rattle.yq_scalar.specs.Paths.{Step, change, within}
 use Rattle.yq_scalar.specs.Text.{is_empty, separates}
 use Rattle.yq_scalar.specs.Tree as tree
@@ -18,7 +18,7 @@ use Rattle.yq_lines.specs.Group.{level_or}
 use Rattle.yq_lines.specs.Laws.{with_lines}
 use Rattle.yq_lines.specs.Outline as outlines
 use Rattle.yq_lines.specs.Outline.{Line, Outline, end, flatten, first_anchor}
-use Rattle.yq_lines.specs.Places.{lines_before, lines_after, plug, Found}
+use Rattle.yq_lines.specs.Places.{lines_before, lines_after, Found}
 use Rattle.yq_lines.proofs.Decides.{flatten-group}
 use Rattle.yq_lines.proofs.PlaceLaws.{placed}
 use Rattle.yq_lines.proofs.Plug.{allows_from}
@@ -32,19 +32,18 @@ use Rattle.yq_rows.proofs.AlikeRows.{dashes_text_alike}
 use Rattle.yq_rows.proofs.ExchangeLaws.{mark_kept}
 use Rattle.yq_rows.proofs.RowPlaces.{takes_place}
 use Rattle.yq_rows.proofs.seams.SeamLaws.{rows_drop}
-use Rattle.yq_tree.specs.Documents.{HaveFitKeys, HasShortRoot, has_lines, is_long_plain}
-use Rattle.yq_tree.specs.FlowNodes.{find_head}
+use Rattle.yq_tree.specs.Documents.{HaveFitKeys, HasShortRoot, is_long_plain}
 use Rattle.yq_tree.specs.Lines.{mark_line, lines_of}
 use Rattle.yq_tree.specs.Reading.{outline_of}
 use Rattle.yq_tree.proofs.FlowPieces.{named_is, none_anchored, twice}
 use Rattle.yq_change.specs.DocumentRows.{Known, behind_document}
 use Rattle.yq_change.specs.FlowChanges.{with_head}
-use Rattle.yq_change.specs.FlowRows.{InlineRow, behind_node, coll_at, with_node, IsFlowAt, FlowStands, FlowEdited}
+use Rattle.yq_change.specs.FlowRows.{InlineRow, coll_at, with_node, IsFlowAt, FlowStands, FlowEdited}
 use Rattle.yq_change.specs.Moved.{dash_lines}
 use Rattle.yq_change.specs.RowComments.{TakesRow}
 use Rattle.yq_change.proofs.AnchorLaws.{fit_parts, fit_from}
 use Rattle.yq_change.proofs.FirstRowLaws.{short_first}
-use Rattle.yq_change.proofs.FlowChangeLaws.{NoNewAlias, none_under}
+use Rattle.yq_change.proofs.FlowChangeLaws.{none_under}
 use Rattle.yq_change.proofs.FlowLineLaws.{head_whole, flow_line_changed}
 use Rattle.yq_change.proofs.LineLaws.{above_mark, dashes_count}
 use Rattle.yq_change.proofs.PartLaws.{document_known, drop_front, take_front, gap_stays, is_put, part_rows, some_behind}

@@ -1,24 +1,21 @@
 -- The flow collection at a path as a node of the text, with its places.
-use Rattle.std.proofs.Common.{◌≡◌, ℕ, ◌+◌, Bool, true, List, [], ◌∷◌, ◌++◌, length, Option, Some, None, option_map, refl, sym, ap, ◌∙◌, subst, append_assoc}
+use Rattle.std.proofs.Common.{◌≡◌, ℕ, ◌+◌, Bool, true, List, [], ◌∷◌, ◌++◌, length, Option, Some, option_map, refl, sym, ap, ◌∙◌, subst, append_assoc}
 use Rattle.std.specs.Str.{IsUtf8}
-use Rattle.std.proofs.lemmas.Str.{IsUtf8-from_is_utf8}
 use Rattle.yq_scalar.specs.Paths.{Step}
 use Rattle.yq_inline.specs.Collections.{CollPieces, coll_along, coll_in}
-use Rattle.yq_inline.specs.Entries.{EntryPieces, entry_pieces_at, inside, locate_entry, pieces_text, placed_entry_at}
+use Rattle.yq_inline.specs.Entries.{EntryPieces, entry_pieces_at, inside, locate_entry, placed_entry_at}
 use Rattle.yq_inline.specs.Nodes.{bare, Node, key_text, node_text, IsNode}
-use Rattle.yq_inline.specs.Places.{Placed, locate}
+use Rattle.yq_inline.specs.Places.{locate}
 use Rattle.yq_inline.specs.Spans.{HasSpans}
 use Rattle.yq_inline.proofs.PathLaws.{path_holds, path_places, path_stands, then_some}
 use Rattle.yq_inline.proofs.WrittenLaws.{key_append}
 use Rattle.yq_rows.specs.Exchange.{behind_row}
-use Rattle.yq_rows.specs.Rows.{Cut, cut_text, rows_text}
+use Rattle.yq_rows.specs.Rows.{Cut, cut_text}
 use Rattle.yq_tree.specs.Reading.{read_at}
 use Rattle.yq_tree.specs.Seats.{document_row}
 use Rattle.yq_tree.proofs.FlowSpanLaws.{entry_spans}
 use Rattle.yq_tree.proofs.HeadSpanLaws.{node_spans}
-use Rattle.yq_change.specs.DocumentRows.{behind_document}
 use Rattle.yq_change.specs.FlowRows.{behind_node, FlowAt}
-use Rattle.yq_change.specs.TextPieces.{IsPiece}
 use Rattle.yq_change.proofs.FlowPathLaws.{row_in_cut, row_texts}
 use Rattle.yq_change.proofs.FlowRowLaws.{flow_stands}
 use Rattle.yq_change.proofs.PartLaws.{document_known}

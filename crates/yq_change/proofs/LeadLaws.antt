@@ -1,14 +1,13 @@
 -- The lead that goes with the root of a part in the place of another one.
-use Rattle.std.proofs.Common.{inl, inr, ◌⊎◌, ◌≡◌, List, [], ◌∷◌, Bool, true, false, Some, refl, sym, ap, ◌∙◌, subst}
+use Rattle.std.proofs.Common.{inl, inr, ◌⊎◌, ◌≡◌, List, [], ◌∷◌, Bool, true, false, refl, sym, ap, ◌∙◌}
 use Rattle.std.proofs.lemmas.Bool.{false≢true}
-use Rattle.yq_scalar.specs.Tree.{Node, Children, none, child, children_of}
-use Rattle.yq_rows.specs.Rows.{Part}
+use Rattle.yq_scalar.specs.Tree.{none, children_of}
 use Rattle.yq_lines.specs.Group.{group}
 use Rattle.yq_lines.specs.Outline.{Mark, Bare, Key, Dash, Line, value}
 use Rattle.yq_lines.specs.Sound.{is_entry}
 use Rattle.yq_tree.specs.Documents.{lead_of}
 use Rattle.yq_tree.specs.Lines.{lines_of}
-use Rattle.yq_tree.specs.Reading.{outline_of, root_of}
+use Rattle.yq_tree.specs.Reading.{root_of}
 use Rattle.yq_tree.specs.Ready.{begins_no_node}
 use Rattle.yq_tree.specs.TreeEdits.{lead_by}
 use Rattle.yq_change.specs.Siblings.{IsEntry, HasEntries}

@@ -1,26 +1,26 @@
 -- A text cut before the end of a line: no CR stands before the break.
 use Rattle.std.proofs.Common.{inl, inr, ◌⊎◌, ◌≡◌, ℕ, zero, suc, ◌+◌, ℤ, Bool, true, false, ◌&&◌, ◌||◌, not, List, [], ◌∷◌, ◌++◌, length, replicate, refl, sym, ap, ◌∙◌, subst, append_assoc, append-nil, ⊎_elim, arith}
 use Rattle.std.proofs.Math.Seq.{drop-append_seam}
-use Rattle.std.proofs.lemmas.Bool.{false≢true, or_cases, or_right}
+use Rattle.std.proofs.lemmas.Bool.{false≢true, or_right}
 use Rattle.std.proofs.lemmas.Str.{IsUtf8-drop}
-use Rattle.std.specs.Str.{chars, IsUtf8, IsCharBoundary}
+use Rattle.std.specs.Str.{IsUtf8, IsCharBoundary}
 use Rattle.yq_scalar.specs.Block.{digit_text, sign_text, IsDigit, IsIndicators}
-use Rattle.yq_scalar.specs.Characters.{is_text, pairs_returns}
+use Rattle.yq_scalar.specs.Characters.{pairs_returns}
 use Rattle.yq_scalar.specs.Text.{front, is_white, is_feed, is_return, is_empty, no_white, unless, NoneIn}
 use Rattle.yq_scalar.specs.declared.block_header.BlockStyle.{BlockStyle}
 use Rattle.yq_scalar.specs.declared.block_header.BlockStyle.TheVariants as styles
 use Rattle.yq_scalar.specs.declared.block_header.Chomping.{Chomping}
 use Rattle.yq_scalar.specs.declared.block_header.Chomping.TheVariants as chompings
-use Rattle.yq_scalar.proofs.Bools.{is_true, and_true, at_byte, or_false}
+use Rattle.yq_scalar.proofs.Bools.{is_true, and_true, at_byte}
 use Rattle.yq_inline.specs.Nodes as nodes
 use Rattle.yq_inline.specs.Nodes.{Node, empty, alias, scalar, coll, anchored, Items, none, item, Key, Sep, in_name, is_close, open_of, key_text, sep_text, node_text, items_text, IsNode}
 use Rattle.yq_inline.proofs.WrittenLaws.{key_append, sep_append, node_append}
 use Rattle.yq_rows.specs.Gap.{IsWhite, IsGap}
-use Rattle.yq_rows.specs.Grammar.{IsContent, IsMark, IsRow, Limit}
+use Rattle.yq_rows.specs.Grammar.{IsContent, IsMark}
 use Rattle.yq_rows.specs.Exchange.{row_front}
 use Rattle.yq_rows.specs.Rows as rows
 use Rattle.yq_rows.specs.Rows.{Content, Nothing, Inline, Block, Row, behind_gap, behind_indent, content_text, dashes_text, mark_text, parent_indent, print_row}
-use Rattle.yq_rows.specs.View.{Slices, anchor_cut, anchor_of, apart_of, content_cut, slices}
+use Rattle.yq_rows.specs.View.{anchor_cut, anchor_of, apart_of, content_cut}
 use Rattle.yq_rows.proofs.CharacterLaws.{all_text, all_join, pairs_back}
 use Rattle.yq_rows.proofs.NothingLaws.{some_behind}
 use Rattle.yq_rows.proofs.PieceLaws.{both_true}
@@ -29,11 +29,9 @@ use Rattle.yq_rows.proofs.RowAgain.{row_starts}
 use Rattle.yq_rows.proofs.seams.NodeSeams.{plain_text}
 use Rattle.yq_rows.proofs.seams.ScalarSeams.{ends_return}
 use Rattle.yq_rows.proofs.seams.TailLaws.{content_joined}
-use Rattle.yq_tree.specs.CommentPlaces.{line_text}
 use Rattle.yq_tree.proofs.CommentPieceLaws.{Ended, gap_end}
 use Rattle.yq_tree.proofs.TextLaws.{seam}
 use Rattle.yq_change.specs.LineFronts.{CleanCut, LineEndsClean}
-use Rattle.yq_change.specs.TextPieces.{IsPiece}
 
 -- ---- texts that end in no CR
 

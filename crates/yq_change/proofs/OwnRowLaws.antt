@@ -1,14 +1,13 @@
 -- The rows of an item or entry, by its lines.
-use Rattle.std.proofs.Common.{◌≡◌, ℕ, zero, suc, ◌+◌, ◌-◌, ◌≤◌, eqb, ltb, Bool, true, false, cond, List, [], ◌∷◌, ◌++◌, length, take, drop, Some, refl, sym, ap, ◌∙◌, subst, arith, length-append}
+use Rattle.std.proofs.Common.{◌≡◌, ℕ, suc, ◌+◌, ◌-◌, eqb, ltb, List, [], ◌∷◌, ◌++◌, length, take, drop, Some, refl, sym, ap, ◌∙◌, subst, arith, length-append}
 use Rattle.std.proofs.Math.Seq.{take-append_seam, drop-append_seam}
 use Rattle.std.proofs.lemmas.Bool.{eqb-true, le-ltb, cond-false}
-use Rattle.yq_scalar.specs.Answers.{◌>>=◌}
 use Rattle.yq_scalar.specs.Paths.{Step}
 use Rattle.yq_scalar.proofs.Bools.{bind_some, guard_some}
 use Rattle.yq_lines.specs.Comments as comments
 use Rattle.yq_lines.specs.Ends.{deeper_count, line_of, lines_end}
 use Rattle.yq_lines.specs.Group.{level_or}
-use Rattle.yq_lines.specs.Outline.{Line, level, Outline, flatten, IsEven}
+use Rattle.yq_lines.specs.Outline.{Line, level, flatten, IsEven}
 use Rattle.yq_lines.specs.Outline.{row}
 use Rattle.yq_lines.specs.Places.{lines_before, lines_after, Found}
 use Rattle.yq_lines.proofs.Decides.{flatten-group}
@@ -16,12 +15,12 @@ use Rattle.yq_rows.specs.Rows as rows
 use Rattle.yq_rows.specs.Rows.{Content, Row, Part}
 use Rattle.yq_tree.specs.Lines.{lines_from, row_lines, lines_of}
 use Rattle.yq_tree.specs.Reading.{outline_of}
-use Rattle.yq_tree.specs.RemovalPlaces.{OwnRows, row_count, in_three, own_rows}
+use Rattle.yq_tree.specs.RemovalPlaces.{OwnRows, row_count, in_three}
 use Rattle.yq_tree.specs.Seats.{Seat, seat}
 use Rattle.yq_tree.proofs.UnderCounts.{count_under}
 use Rattle.yq_change.specs.EntryRows.{HasRows}
 use Rattle.yq_change.specs.LineRows.{Begins, lines_behind}
-use Rattle.yq_change.specs.RemovalChanges.{HasOwnRows, OwnRowsStand}
+use Rattle.yq_change.specs.RemovalChanges.{OwnRowsStand}
 use Rattle.yq_change.specs.Siblings.{IsEntryAt, NodeLines, append_outline}
 use Rattle.yq_change.proofs.ApartLaws.{entries_apart}
 use Rattle.yq_change.proofs.CollectionLaws.{relabelled, some_at}

@@ -1,5 +1,5 @@
 -- The line comment of an item or entry at a path.
-use Rattle.std.proofs.Common.{◌≡◌, ℕ, ◌+◌, ℤ, Bool, true, false, ◌&&◌, ◌||◌, not, List, [], ◌∷◌, ◌++◌, length, take, Option, Some, None, refl, sym, ap, ◌∙◌, subst}
+use Rattle.std.proofs.Common.{◌≡◌, ℕ, ◌+◌, true, false, List, [], ◌∷◌, ◌++◌, length, take, Option, Some, None, refl, sym, ap, ◌∙◌, subst}
 use Rattle.std.proofs.Math.Seq.{take-append_seam}
 use Rattle.std.proofs.lemmas.Bool.{false≢true}
 use Rattle.yq_scalar.specs.Block.{BlockText, block_text, mark_of}
@@ -17,7 +17,7 @@ use Rattle.yq_rows.specs.Gap.{IsWhite}
 use Rattle.yq_rows.specs.Grammar.{unlimited, limit_after, AreRows, IsAnchor, IsMark, IsRow, is_entry}
 use Rattle.yq_rows.specs.Rows as rows
 use Rattle.yq_rows.specs.Rows.{Content, Nothing, Inline, Block, Row, anchor_text, content_text, parent_indent, rows_text, Part, Cut, cut_text}
-use Rattle.yq_rows.specs.Seams.{TailFits, ends_part, is_block, retail, with_tail}
+use Rattle.yq_rows.specs.Seams.{ends_part, is_block, retail, with_tail}
 use Rattle.yq_rows.proofs.ExchangeLaws.{one_row}
 use Rattle.yq_rows.proofs.seams.SeamLaws.{rows_drop}
 use Rattle.yq_rows.proofs.seams.TailLaws.{fits_by}
@@ -31,7 +31,7 @@ use Rattle.yq_tree.specs.TreeEdits.{with_line_comment}
 use Rattle.yq_change.specs.Appends.{inserted}
 use Rattle.yq_change.specs.Changed.{IsChanged, put_document}
 use Rattle.yq_change.specs.DocumentRows.{IsDocumentPart, behind_document, part_number}
-use Rattle.yq_change.specs.PathTails.{with_line_tail, IsLineTail, tailed, TakesLineTail, PathTailPut}
+use Rattle.yq_change.specs.PathTails.{with_line_tail, IsLineTail, tailed, PathTailPut}
 use Rattle.yq_change.specs.RowComments.{TakesRow, with_header_tail}
 use Rattle.yq_change.proofs.PartLaws.{document_known, drop_front, part_rows}
 use Rattle.yq_change.proofs.PathLaws.{path_is_entry, path_line_commented, seat_line, seat_number}

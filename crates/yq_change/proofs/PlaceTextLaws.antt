@@ -1,12 +1,12 @@
 -- The text around a document, and the lines that are printed there.
-use Rattle.std.proofs.Common.{◌≡◌, ℕ, zero, suc, List, [], ◌∷◌, ◌++◌, Bool, true, false, Option, Some, None, option_map, refl, sym, ap, ◌∙◌, append_assoc}
+use Rattle.std.proofs.Common.{◌≡◌, ℕ, zero, suc, List, [], ◌++◌, Bool, true, false, Some, option_map, refl, sym, ap, ◌∙◌, append_assoc}
 use Rattle.std.specs.List.{slice_get}
 use Rattle.yq_rows.specs.Grammar.{begins_document}
 use Rattle.yq_rows.specs.Rows.{Part, part_text, Cut, last, marked, cut_text}
 use Rattle.yq_rows.specs.Splices.{behind_part}
 use Rattle.yq_rows.proofs.PlaceLaws.{part_then}
 use Rattle.yq_tree.specs.Documents.{parts_from}
-use Rattle.yq_tree.specs.PathPieces.{behind_text, PrintedDocument, printed_part}
+use Rattle.yq_tree.specs.PathPieces.{behind_text, printed_part}
 use Rattle.yq_tree.specs.PrintedLines.{printed_lines}
 use Rattle.yq_change.specs.Changed.{put_from}
 use Rattle.yq_change.specs.DocumentRows.{number_from}

@@ -1,15 +1,15 @@
 -- Where a document that has other rows stands in its text.
-use Rattle.std.proofs.Common.{◌≡◌, ℕ, zero, suc, List, [], ◌∷◌, ◌++◌, Option, Some, None, option_map, Bool, true, false, refl, sym, ap, ◌∙◌, subst, append_assoc}
+use Rattle.std.proofs.Common.{◌≡◌, ℕ, zero, suc, List, ◌++◌, Option, Some, None, option_map, Bool, true, false, refl, sym, ap, ◌∙◌, subst, append_assoc}
 use Rattle.std.specs.List.{slice_get}
 use Rattle.yq_rows.specs.Grammar.{begins_document}
 use Rattle.yq_rows.specs.Rows.{Part, part_text, Cut, last, marked, cut_text}
 use Rattle.yq_rows.specs.Splices.{behind_part}
 use Rattle.yq_rows.proofs.PlaceLaws.{part_then}
 use Rattle.yq_tree.specs.Documents.{parts_from}
-use Rattle.yq_tree.specs.PlacedRows.{PlacedPart, part_behind, placed_part, placed_document}
-use Rattle.yq_change.specs.Changed.{put_from, put_document}
+use Rattle.yq_tree.specs.PlacedRows.{PlacedPart, part_behind, placed_part}
+use Rattle.yq_change.specs.Changed.{put_from}
 use Rattle.yq_change.specs.DocumentRows.{number_from}
-use Rattle.yq_change.specs.PlacedParts.{StandsAt, DocumentStandsAt}
+use Rattle.yq_change.specs.PlacedParts.{DocumentStandsAt}
 
 same : {x y : PlacedPart} → Some x ≡ Some y → x ≡ y
 same e = cc

@@ -8,7 +8,7 @@ use Rattle.yq_rows.specs.Rows.{Content, Nothing, Inline, Block, Row, mark_column
 use Rattle.yq_rows.specs.Seams.{TailFits, is_block, retail, with_tail}
 use Rattle.yq_rows.specs.Splices.{first_gap, nth_part, splice}
 use Rattle.yq_rows.proofs.splices.RowReplaced.{tail_replaced}
-use Rattle.yq_tree.specs.Documents.{HaveFitKeys, HasShortRoot, MarkIsFit, ContentHasFitKeys, has_lines, is_long_plain, lead_of}
+use Rattle.yq_tree.specs.Documents.{HaveFitKeys, HasShortRoot, ContentHasFitKeys, has_lines, is_long_plain, lead_of}
 use Rattle.yq_lines.specs.Group.{level_or}
 use Rattle.yq_lines.specs.Laws.{with_lines}
 use Rattle.yq_tree.specs.Lines.{content_anchor, head_of, tail_of, mark_line, lines_of}

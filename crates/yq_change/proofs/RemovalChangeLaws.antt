@@ -1,13 +1,11 @@
 -- An item or entry taken out of a text.
-use Rattle.std.proofs.Common.{◌≡◌, ◌⊎◌, inl, inr, ℕ, suc, ◌+◌, ◌-◌, ◌<◌, ◌≤◌, ltb, Bool, true, false, not, ◌||◌, cond, List, [], ◌∷◌, ◌++◌, length, take, Option, Some, None, option_map, option_and_then, refl, sym, ap, ◌∙◌, subst, arith, append_assoc, length-append}
+use Rattle.std.proofs.Common.{◌≡◌, ℕ, ◌-◌, ◌<◌, ◌≤◌, Bool, true, false, not, ◌||◌, cond, List, [], ◌∷◌, ◌++◌, length, take, Option, Some, None, option_map, option_and_then, refl, sym, ap, ◌∙◌, subst, arith, length-append}
 use Rattle.std.proofs.Math.Seq.{take-append_seam}
 use Rattle.std.proofs.lemmas.Bool.{false≢true, ltb-true}
 use Rattle.std.proofs.lemmas.Str.{is_utf8-from_IsUtf8}
-use Rattle.std.specs.List.{slice_get}
-use Rattle.yq_scalar.specs.Answers.{◌>>=◌}
 use Rattle.yq_scalar.specs.Characters.{text_limit}
-use Rattle.yq_scalar.specs.Paths.{Step, is_here, further, child_at, node_at, change, remove_child, within}
-use Rattle.yq_scalar.specs.Tree.{Node, alias, scalar, list, map, Children, none, child, children_of}
+use Rattle.yq_scalar.specs.Paths.{Step, is_here, further, child_at, node_at, remove_child}
+use Rattle.yq_scalar.specs.Tree.{Node, alias, scalar, list, map, Children, children_of}
 use Rattle.yq_scalar.proofs.Bools.{bind_some, guard_then}
 use Rattle.yq_lines.specs.Anchors.{names_of}
 use Rattle.yq_lines.specs.Counts.{count}
@@ -20,24 +18,22 @@ use Rattle.yq_lines.proofs.Finding.{IsFoundIn, path_node, path_whole, row_child}
 use Rattle.yq_lines.proofs.PlaceLaws.{at}
 use Rattle.yq_rows.specs.Grammar.{no_rows}
 use Rattle.yq_rows.specs.Rows.{Row, Part, Cut, cut_text}
-use Rattle.yq_tree.specs.Documents.{begins_bare, has_begin, document_parts, lead_of}
+use Rattle.yq_tree.specs.Documents.{begins_bare, has_begin, lead_of}
 use Rattle.yq_tree.specs.Lines.{lines_of}
 use Rattle.yq_tree.specs.Reading.{outline_of, read_at, root_of}
 use Rattle.yq_tree.specs.Ready.{begins_no_node}
 use Rattle.yq_tree.specs.PlacedRows.{PlacedPart, placed_document}
-use Rattle.yq_tree.specs.RemovalPlaces.{OwnRows, own_rows, Removal, rows_out, removal_place, has_several, has_others}
+use Rattle.yq_tree.specs.RemovalPlaces.{OwnRows, own_rows, Removal, rows_out, removal_place, has_several}
 use Rattle.yq_tree.specs.RowPaths.{IsReadable}
-use Rattle.yq_tree.specs.TreeEdits.{at_end}
 use Rattle.yq_tree.proofs.PlacedPartLaws.{map_some}
 use Rattle.yq_tree.proofs.ReadLaws.{text_takes}
 use Rattle.yq_tree.proofs.RemovalTexts.{old_text}
 use Rattle.yq_change.specs.Changed.{IsChanged, KeepsRows, put_document}
 use Rattle.yq_change.specs.Conditions.{AreSpared}
 use Rattle.yq_change.specs.DocumentRows.{IsDocumentPart}
-use Rattle.yq_change.specs.EntryRows.{HasRows}
 use Rattle.yq_change.specs.RemovalChanges.{mended, HasOwnRows, RemovalStands, IsTakenOut, MayTakeOut, EntryTakenOut}
 use Rattle.yq_change.specs.Removes.{without}
-use Rattle.yq_change.specs.Siblings.{IsEntry, HasEntries, IsEntryAt, NodeLines, under_line, lines_at, put_lines}
+use Rattle.yq_change.specs.Siblings.{IsEntry, HasEntries, IsEntryAt, NodeLines, lines_at, put_lines}
 use Rattle.yq_change.specs.TextPieces.{IsPiece}
 use Rattle.yq_change.proofs.AfterLaws.{end_is_change}
 use Rattle.yq_change.proofs.CollectionLaws.{some_at}
@@ -45,7 +41,7 @@ use Rattle.yq_change.proofs.NodeLineLaws.{Under, lines_found, lines_even, put_un
 use Rattle.yq_change.proofs.OwnRowLaws.{own_rows_stand}
 use Rattle.yq_change.proofs.PartLaws.{document_known}
 use Rattle.yq_change.proofs.PlacedPartLaws.{document_stands_at}
-use Rattle.yq_change.proofs.RemovalPieceLaws.{PiecesLeft, pieces_left, mended_piece}
+use Rattle.yq_change.proofs.RemovalPieceLaws.{pieces_left, mended_piece}
 use Rattle.yq_change.proofs.RemovalTextLaws.{new_text}
 use Rattle.yq_change.proofs.RemoveLaws.{block_gone}
 use Rattle.yq_change.proofs.SiblingLaws.{entry_in, entry_out, flatten-append, next}

@@ -15,8 +15,8 @@ use Rattle.yq_rows.specs.Rows.{Row, Content, Part}
 use Rattle.yq_tree.specs.declared.path.Part as places
 use Rattle.yq_tree.specs.Lines.{head_of, mark_of, lines_from, row_lines, lines_of}
 use Rattle.yq_tree.specs.Ready.{begins_no_node}
-use Rattle.yq_tree.specs.Seats.{Seat, behind_one, seat, seat_of, line_has_room, seat_has_room}
-use Rattle.yq_change.specs.Rooms.{RowShape, row_shape, SameSeats, is_block_root, ShapeTells}
+use Rattle.yq_tree.specs.Seats.{Seat, behind_one, seat, seat_has_room}
+use Rattle.yq_change.specs.Rooms.{RowShape, row_shape, SameSeats, ShapeTells}
 
 -- ---- lines without what is told behind their marks but that there is a head
 

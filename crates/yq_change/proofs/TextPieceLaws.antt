@@ -1,22 +1,20 @@
 -- Pieces of a text, joined and cut.
-use Rattle.std.proofs.Common.{arith, Some, ◌≡◌, ℕ, ◌<◌, Bool, true, false, ◌&&◌, List, [], ◌∷◌, ◌++◌, length, refl, sym, ap, ◌∙◌, subst, append_assoc}
+use Rattle.std.proofs.Common.{arith, ◌≡◌, ℕ, true, false, List, [], ◌∷◌, ◌++◌, length, refl, sym, ap, ◌∙◌, subst, append_assoc}
 use Rattle.std.proofs.Math.Seq.{drop-append_seam}
 use Rattle.std.proofs.lemmas.Str.{IsUtf8-append, IsUtf8-drop, IsUtf8-from_is_utf8}
-use Rattle.std.proofs.lemmas.Str.{IsUtf8-take, IsCharBoundary-from_take}
+use Rattle.std.proofs.lemmas.Str.{IsUtf8-take}
 use Rattle.std.proofs.Math.Seq.{take-append_seam}
-use Rattle.std.specs.Str.{chars, IsUtf8, IsCharBoundary}
-use Rattle.yq_scalar.specs.Characters.{is_text, pairs_returns}
+use Rattle.std.specs.Str.{IsUtf8, IsCharBoundary}
+use Rattle.yq_scalar.specs.Characters.{pairs_returns}
 use Rattle.yq_scalar.specs.Text.{front, is_feed}
 use Rattle.yq_scalar.proofs.Bools.{and_true}
-use Rattle.yq_rows.specs.Rows.{Cut, cut_text}
-use Rattle.yq_rows.specs.Exchange.{HasPieces}
+use Rattle.yq_rows.specs.Rows.{cut_text}
 use Rattle.yq_rows.proofs.PieceLaws.{both_true}
 use Rattle.yq_rows.proofs.CharacterLaws.{all_text, all_join, pairs_join, pairs_back, pairs_front, pairs_cut, EndsBlack}
 use Rattle.yq_rows.proofs.NodePieces.{EndsAscii, BeginsAscii, behind_ascii, before_ascii}
 use Rattle.yq_tree.specs.Reading.{read_at}
 use Rattle.yq_tree.proofs.TextLaws.{seam}
 use Rattle.yq_tree.proofs.ReadLaws.{text_takes}
-use Rattle.yq_tree.proofs.HeldScalars.{behind_utf8}
 use Rattle.yq_scalar.proofs.Bools.{guard_then}
 use Rattle.yq_change.specs.TextPieces.{IsPiece, TextIsPiece, PiecesJoined, LineCut, BeginsPiece, ByteCut, PiecesCut}
 

@@ -1,15 +1,12 @@
 -- A block collection whose last line has no break ends its text: the line gets a break, and rows come behind it.
-use Rattle.std.proofs.Common.{◌≡◌, ◌⊎◌, inl, inr, ℕ, ◌+◌, Bool, true, false, List, [], ◌∷◌, ◌++◌, length, refl, sym, ap, ◌∙◌, subst, append_assoc, append-nil}
+use Rattle.std.proofs.Common.{◌≡◌, inl, inr, ℕ, true, false, List, [], ◌∷◌, ◌++◌, refl, sym, ap, ◌∙◌, subst, append_assoc, append-nil}
 use Rattle.std.proofs.lemmas.Bool.{false≢true}
 use Rattle.yq_scalar.specs.Paths.{Step}
 use Rattle.yq_scalar.specs.Text.{is_empty, is_line}
 use Rattle.yq_lines.specs.Comments.{head_comment}
-use Rattle.yq_lines.specs.Outline.{flatten}
-use Rattle.yq_lines.specs.Places.{lines_before}
 use Rattle.yq_rows.specs.Appending.{closed_by}
 use Rattle.yq_rows.specs.Exchange.{asked_behind, row_front}
 use Rattle.yq_rows.specs.Grammar.{Limit, unlimited, limit_after, allows, AreRows, no_rows}
-use Rattle.yq_rows.specs.Rows as rows
 use Rattle.yq_rows.specs.Rows.{Content, Nothing, Inline, Block, content_text, Row, parent_indent, print_row, rows_text, Part, part_text, Cut}
 use Rattle.yq_rows.specs.Seams.{is_block, tail_behind, with_tail}
 use Rattle.yq_rows.specs.Splices.{first_gap}
@@ -24,7 +21,7 @@ use Rattle.yq_tree.specs.PrintedLines.{end_break}
 use Rattle.yq_tree.specs.Ready.{begins_no_node}
 use Rattle.yq_tree.proofs.ContentEndLaws.{Ends, content_ends}
 use Rattle.yq_change.specs.CollectionPlaces.{IsCollectionEnd}
-use Rattle.yq_change.specs.DocumentRows.{IsDocumentPart, behind_document}
+use Rattle.yq_change.specs.DocumentRows.{behind_document}
 use Rattle.yq_change.specs.Ends.{closed_with}
 use Rattle.yq_change.specs.Rooms.{is_block_root}
 use Rattle.yq_change.proofs.AppendPlaceLaws.{EndAllows, last_limit, rows_behind}

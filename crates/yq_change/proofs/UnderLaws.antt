@@ -1,5 +1,5 @@
 -- The rows under an item or entry go, and what is written behind its mark gives way to a value.
-use Rattle.std.proofs.Common.{◌≡◌, ℕ, suc, ◌+◌, ◌≤◌, List, [], ◌∷◌, ◌++◌, length, take, drop, Option, Some, None, Bool, true, false, refl, sym, ap, ◌∙◌, subst, arith, append_assoc, append-nil, length-append}
+use Rattle.std.proofs.Common.{◌≡◌, ℕ, suc, ◌+◌, ◌≤◌, List, [], ◌∷◌, ◌++◌, length, drop, Option, Some, None, true, false, refl, sym, ap, ◌∙◌, subst, arith, append_assoc, append-nil, length-append}
 use Rattle.std.proofs.Math.Seq.{take-append_seam, drop-append_seam}
 use Rattle.yq_scalar.specs.Paths.{Step}
 use Rattle.yq_scalar.specs.Piece.{deeper}
@@ -13,21 +13,20 @@ use Rattle.yq_lines.specs.Outline.{Line, level, end, flatten, IsEven, IsOpen, an
 use Rattle.yq_lines.specs.Places.{lines_before, lines_after, Found, content}
 use Rattle.yq_lines.proofs.Decides.{flatten-group}
 use Rattle.yq_rows.specs.Exchange.{allows_first, asked_behind, with_content}
-use Rattle.yq_rows.specs.Gap.{IsGap}
 use Rattle.yq_rows.specs.Grammar.{Limit, unlimited, limit_after, AreRows, IsRow, is_entry}
 use Rattle.yq_rows.specs.Rows as rows
 use Rattle.yq_rows.specs.Rows.{Content, Row, mark_column, parent_indent, print_row, rows_text, Part, Cut}
-use Rattle.yq_rows.specs.Splices.{behind_first, first_gap}
+use Rattle.yq_rows.specs.Splices.{first_gap}
 use Rattle.yq_rows.proofs.seams.SeamLaws.{rows_drop}
 use Rattle.yq_rows.proofs.splices.SpliceTexts.{first_is, first_text}
-use Rattle.yq_tree.specs.Documents.{HaveFitKeys, lead_of}
+use Rattle.yq_tree.specs.Documents.{HaveFitKeys}
 use Rattle.yq_tree.specs.Lines.{mark_of, mark_line, lines_of}
 use Rattle.yq_tree.specs.Reading.{outline_of}
 use Rattle.yq_tree.specs.Ready.{begins_no_node}
 use Rattle.yq_tree.specs.TreeEdits.{replaced}
 use Rattle.yq_tree.proofs.NextLaws.{StartsAt, found_starts}
 use Rattle.yq_change.specs.Contents.{recontent}
-use Rattle.yq_change.specs.DocumentRows.{IsDocumentPart, behind_document}
+use Rattle.yq_change.specs.DocumentRows.{behind_document}
 use Rattle.yq_change.specs.Edited.{LineFits}
 use Rattle.yq_change.specs.LineRows.{Begins}
 use Rattle.yq_change.specs.Moved.{dash_lines}

@@ -1,36 +1,28 @@
 -- A value behind a mark, where nothing is written but rows are under it.
-use Rattle.std.proofs.Common.{◌≡◌, ℕ, List, [], ◌∷◌, ◌++◌, Some, None, true, refl, sym, ap, ◌∙◌, append_assoc}
+use Rattle.std.proofs.Common.{◌≡◌, ℕ, List, [], ◌∷◌, ◌++◌, Some, true, refl, sym, ap, ◌∙◌, append_assoc}
 use Rattle.yq_scalar.specs.Paths.{Step}
-use Rattle.yq_scalar.specs.Tree.{Node}
 use Rattle.yq_scalar.proofs.Bools.{guard_then}
-use Rattle.yq_inline.specs.Nodes as inline
 use Rattle.yq_inline.specs.Nodes.{node_text}
 use Rattle.yq_inline.proofs.WrittenLaws.{node_then}
 use Rattle.yq_lines.specs.Comments.{line_comment}
-use Rattle.yq_lines.specs.Places.{content}
 use Rattle.yq_rows.specs.Exchange.{allows_first, asked_behind, row_front, with_content}
-use Rattle.yq_rows.specs.Grammar.{unlimited, limit_after, AreRows, IsContent, IsTail}
-use Rattle.yq_rows.specs.Rows.{Nothing, Row, parent_indent, print_row, rows_text, Part, Cut, cut_text, part_text}
+use Rattle.yq_rows.specs.Grammar.{unlimited, limit_after, AreRows, IsContent}
+use Rattle.yq_rows.specs.Rows.{Row, parent_indent, print_row, rows_text, Part, Cut}
 use Rattle.yq_rows.proofs.ExchangeLaws.{one_row}
 use Rattle.yq_rows.proofs.PlaceLaws.{row_front-append}
 use Rattle.yq_rows.proofs.seams.SeamLaws.{rows_text-append}
 use Rattle.yq_rows.proofs.splices.PartPlaces.{part_ends}
 use Rattle.yq_tree.specs.Documents.{document_parts}
 use Rattle.yq_tree.specs.Lines.{tail_of}
-use Rattle.yq_tree.specs.Nodes.{anchor_of}
-use Rattle.yq_tree.specs.PlacedRows.{PlacedPart, placed_document}
 use Rattle.yq_tree.specs.Reading.{read_at}
-use Rattle.yq_tree.specs.RowPaths.{IsReadable}
 use Rattle.yq_tree.proofs.FoundLines.{each}
 use Rattle.yq_tree.proofs.ReadLaws.{text_takes}
 use Rattle.yq_tree.proofs.RemovalTexts.{texts_then}
 use Rattle.yq_tree.proofs.RowPathLaws.{document_fine}
 use Rattle.yq_tree.proofs.WrittenLaws.{may_follow}
-use Rattle.yq_change.specs.Changed.{put_document}
 use Rattle.yq_change.specs.Contents.{recontent}
 use Rattle.yq_change.specs.DocumentRows.{IsDocumentPart, behind_document, part_number}
-use Rattle.yq_change.specs.InlineRows.{IsValueNode}
-use Rattle.yq_change.specs.Unders.{HasUnder, TakesUnder, spaced, NothingTakes, SpacedText}
+use Rattle.yq_change.specs.Unders.{HasUnder, spaced, NothingTakes, SpacedText}
 use Rattle.yq_change.proofs.InlineReplaceLaws.{own_rows, tail_ends_plain}
 use Rattle.yq_change.proofs.PartLaws.{document_known, end_stays, gap_stays}
 use Rattle.yq_change.proofs.PlacedPartLaws.{document_stands_at}

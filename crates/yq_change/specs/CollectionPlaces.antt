@@ -2,7 +2,7 @@
 use Rattle.std.specs.Prelude.{◌≡◌, ℕ, ◌+◌, List, ◌∷◌, ◌++◌, [], length, Some}
 use Rattle.yq_scalar.specs.Paths.{Step}
 use Rattle.yq_rows.specs.Rows.{Row, rows_text, Part, part_text, Cut, cut_text}
-use Rattle.yq_lines.specs.Outline.{Line, Outline, end, row, flatten}
+use Rattle.yq_lines.specs.Outline.{Outline, end, row, flatten}
 use Rattle.yq_lines.specs.Places.{lines_before}
 use Rattle.yq_tree.specs.CollectionEnds.{CollectionEnd, is_broken, collection_end}
 use Rattle.yq_tree.specs.Lines.{lines_of}

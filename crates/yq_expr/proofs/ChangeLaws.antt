@@ -1,14 +1,13 @@
 -- Changes at a place: steps that are missing, and what is added.
-use Rattle.std.proofs.Common.{◌≡◌, ℕ, zero, suc, ◌-◌, ◌≤◌, Bool, true, false, cond, List, [], ◌∷◌, ◌++◌, length, map, take, drop, get_or, reverse, Option, Some, None, refl, sym, ap, ◌∙◌, append_assoc, arith}
+use Rattle.std.proofs.Common.{◌≡◌, ℕ, zero, suc, ◌-◌, ◌≤◌, true, false, cond, List, [], ◌∷◌, ◌++◌, length, map, take, drop, get_or, reverse, Some, None, refl, sym, ap, ◌∙◌, append_assoc, arith}
 use Rattle.std.specs.List.{list_any}
 use Rattle.std.proofs.lemmas.List.{map_push, reverse-append, take_rest}
 use Rattle.yq_scalar.specs.Tree as tree
 use Rattle.yq_scalar.specs.Tree.{Node, Children, none, child}
 use Rattle.yq_tree.specs.Nodes.{kind_of}
 use Rattle.yq_tree.specs.TreeEdits.{new_label}
-use Rattle.yq_tree.specs.declared.nodes.node.NodeKind.{NodeKind}
 use Rattle.yq_tree.specs.declared.nodes.node.NodeKind.TheVariants as kinds
-use Rattle.yq_expr.specs.Changes.{Change, replaces, adds, appends, nested, step_key, made, put_below}
+use Rattle.yq_expr.specs.Changes.{replaces, adds, appends, nested, step_key, made, put_below}
 use Rattle.yq_expr.specs.Judgement.{gives, refuses}
 use Rattle.yq_expr.specs.declared.refusal.Refusal.TheVariants.{IndexOutOfRange}
 use Rattle.yq_expr.proofs.Lists.{list_any_map}

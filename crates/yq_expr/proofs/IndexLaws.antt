@@ -1,5 +1,5 @@
 -- Maps by texts: one entry or alias more.
-use Rattle.std.proofs.Common.{◌≡◌, ℕ, Bool, true, false, ◌||◌, cond, List, [], ◌∷◌, ◌++◌, Option, Some, None, is_some, option_map, refl, sym, ap, ◌∙◌, bytes_eq}
+use Rattle.std.proofs.Common.{◌≡◌, ℕ, Bool, true, false, ◌||◌, cond, List, Option, Some, None, is_some, option_map, refl, sym, ap, ◌∙◌, bytes_eq}
 use Rattle.std.proofs.lemmas.Bool.{false≢true}
 use Rattle.std.proofs.lemmas.Map.Text.{btree_map_updates_str}
 use Rattle.std.proofs.lemmas.Slice.Eq.{bytes_eq-Decides}
@@ -13,9 +13,8 @@ use Rattle.std.specs.Ordering.{nat_cmp}
 use Rattle.yq_scalar.specs.Paths.{To, child_at, key_is}
 use Rattle.yq_scalar.specs.Tree as tree
 use Rattle.yq_scalar.specs.Tree.{Label, Node, Children, none, child, children_of}
-use Rattle.yq_tree.specs.Anchors.{Name, Anchors, Refers, with_anchor, names_of, names_in}
-use Rattle.yq_tree.specs.Nodes.{anchor_of}
-use Rattle.yq_expr.specs.Changes.{refers_to, is_used}
+use Rattle.yq_tree.specs.Anchors.{Name, names_of}
+use Rattle.yq_expr.specs.Changes.{refers_to}
 use Rattle.yq_expr.specs.EntryNumbers.{number_kept}
 use Rattle.yq_expr.specs.Indexes.{text_at, HasAliases, kept_first, or_first}
 

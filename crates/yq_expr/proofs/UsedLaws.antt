@@ -1,7 +1,5 @@
 -- Anchors that aliases name, node by node.
-use Rattle.std.proofs.Common.{◌≡◌, ℕ, Bool, true, false, ◌||◌, cond, List, [], ◌∷◌, ◌++◌, length, Option, Some, None, is_some, refl, sym, ap, ◌∙◌}
-use Rattle.std.specs.BTreeMap.{BTreeMap}
-use Rattle.std.specs.Borrow.{Bor}
+use Rattle.std.proofs.Common.{◌≡◌, ℕ, Bool, true, false, ◌||◌, cond, List, [], ◌∷◌, ◌++◌, length, Option, Some, None, refl, sym, ap, ◌∙◌}
 use Rattle.std.specs.List.{list_any}
 use Rattle.yq_scalar.specs.Paths.{Step, To, child_at, node_at}
 use Rattle.yq_scalar.specs.Tree as tree
@@ -12,7 +10,6 @@ use Rattle.yq_tree.specs.declared.nodes.node.NodeKind.TheVariants as kinds
 use Rattle.yq_expr.specs.Changes.{Addition, appends, overwrites, Change, replaces, adds, removes, sets_comment, allowed, is_too_deep, is_too_long, refers_to, is_used, is_used_inside, is_used_in, overwrites_used, takes_used}
 use Rattle.yq_expr.specs.Judgement.{gives, refuses}
 use Rattle.yq_expr.specs.declared.refusal.Refusal.TheVariants.{AnchorInUse}
-use Rattle.yq_expr.specs.Indexes.{text_at, HasAliases}
 use Rattle.yq_expr.specs.TakenNames.{is_used_anchor, overwrites_at, takes_at}
 use Rattle.yq_expr.proofs.updates.ChildPlaces.{node_further}
 

@@ -1,5 +1,5 @@
 -- What an update does at each place, as the code has it.
-use Rattle.std.specs.Prelude.{ℕ, List, [], ◌∷◌, map, Option, Some, None, string_bytes}
+use Rattle.std.specs.Prelude.{ℕ, List, [], ◌∷◌, map, Option, Some, None}
 use Rattle.yq_inline.specs.Values.{node_of}
 use Rattle.yq_expr.specs.declared.planning.change.Change as change
 use Rattle.yq_expr.specs.declared.planning.effect.Effect as effect

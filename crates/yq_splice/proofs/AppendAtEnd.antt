@@ -1,5 +1,5 @@
 -- One item or entry more at the end of a text that has no final break: the break comes first.
-use Rattle.std.proofs.Common.{inr, ◌≡◌, ℕ, ◌+◌, ◌≤◌, ◌-◌, true, false, List, [], ◌∷◌, ◌++◌, length, Option, Some, refl, sym, ap, ◌∙◌, subst, append_assoc, append-nil, replicate}
+use Rattle.std.proofs.Common.{inr, ◌≡◌, ℕ, ◌+◌, ◌≤◌, true, false, List, [], ◌∷◌, ◌++◌, length, Option, Some, refl, sym, ap, ◌∙◌, subst, append_assoc, append-nil, replicate}
 use Rattle.yq_scalar.specs.declared.block_written.Break.{Break}
 use Rattle.yq_scalar.specs.declared.block_written.Break.TheVariants as breaks
 use Rattle.yq_scalar.specs.BlockWritten.{break_text}
@@ -27,7 +27,7 @@ use Rattle.yq_splice.specs.Layouts.{layout_of}
 use Rattle.yq_splice.specs.AppendWay.{entry_lines, put_segments}
 use Rattle.yq_splice.specs.Script.{new_text}
 use Rattle.yq_splice.specs.Ways.{ReadsAfter}
-use Rattle.yq_splice.proofs.CommentPieceLaws.{nothing, break_piece}
+use Rattle.yq_splice.proofs.CommentPieceLaws.{break_piece}
 use Rattle.yq_splice.proofs.SegmentLaws.{segments_readable}
 use Rattle.yq_rows.specs.Grammar.{IsTail, limit_after}
 use Rattle.yq_rows.specs.Appending.{is_one_break}

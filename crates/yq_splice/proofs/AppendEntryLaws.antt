@@ -1,5 +1,5 @@
 -- The rows of one item or entry that is written.
-use Rattle.std.proofs.Common.{◌≡◌, ℕ, suc, ◌+◌, ◌*◌, ◌<◌, ◌≤◌, true, List, [], ◌∷◌, ◌++◌, Option, Some, None, refl, sym, ap, ◌∙◌, subst, arith, append-nil}
+use Rattle.std.proofs.Common.{◌≡◌, ℕ, ◌+◌, ◌*◌, ◌<◌, ◌≤◌, true, List, [], ◌∷◌, ◌++◌, Option, Some, None, refl, sym, ap, ◌∙◌, subst, arith, append-nil}
 use Rattle.yq_scalar.specs.declared.block_written.Break.{Break}
 use Rattle.yq_scalar.specs.declared.block_written.Break.TheVariants as breaks
 use Rattle.yq_scalar.specs.BlockWritten.{break_text}
@@ -7,7 +7,7 @@ use Rattle.yq_scalar.specs.Text.{upto}
 use Rattle.yq_scalar.specs.Tree as tree
 use Rattle.yq_scalar.specs.Tree.{Node, Children, none, child}
 use Rattle.yq_inline.specs.Nodes as inline
-use Rattle.yq_inline.specs.Valued.{IsLabel, IsValueTree}
+use Rattle.yq_inline.specs.Valued.{IsValueTree}
 use Rattle.yq_lines.specs.Anchors.{HaveOneAnchorEach}
 use Rattle.yq_lines.specs.Comments.{line_comment}
 use Rattle.yq_lines.specs.Outline.{Mark, Bare, Key, Dash, Line, level, rank, Outline, end, row, flatten, IsOpen, IsEven, label, collection, children, value, Stands}
@@ -15,7 +15,7 @@ use Rattle.yq_lines.specs.Places.{content}
 use Rattle.yq_lines.proofs.ByRules.{rules_give}
 use Rattle.yq_rows.specs.Gap.{IsGap}
 use Rattle.yq_rows.specs.Grammar.{Limit, limit_after, allows, AreRows}
-use Rattle.yq_rows.specs.Rows.{Row, rows_text}
+use Rattle.yq_rows.specs.Rows.{Row}
 use Rattle.yq_rows.specs.Splices.{first_gap}
 use Rattle.yq_tree.specs.Documents.{HaveFitKeys}
 use Rattle.yq_tree.specs.Lines.{lines_of}
@@ -23,7 +23,7 @@ use Rattle.yq_tree.specs.TreeEdits.{new_label}
 use Rattle.yq_block.specs.declared.layout.Layout.{Layout}
 use Rattle.yq_block.specs.Alone.{alone}
 use Rattle.yq_block.specs.BlockRows.{inline_of, node_rows, children_rows, entry_rows, behind_dash, end_before, column_below}
-use Rattle.yq_block.specs.BlockValues.{IsEnd, IsFilled, InRows, IsNear, HasNearKeys, IsWritable, level_at}
+use Rattle.yq_block.specs.BlockValues.{IsEnd, InRows, IsNear, HasNearKeys, IsWritable, level_at}
 use Rattle.yq_block.proofs.FitLaws.{node_fit, keys_fit, anchors_fit}
 use Rattle.yq_block.proofs.LaidRows.{laid_rows}
 use Rattle.yq_block.proofs.LineLaws.{node_stands}

@@ -1,5 +1,5 @@
 -- The place of one more item or entry in a text, and its rows there.
-use Rattle.std.proofs.Common.{inl, inr, ◌≡◌, ℕ, suc, ◌+◌, ◌-◌, true, false, List, [], ◌∷◌, ◌++◌, length, Option, Some, None, sym, ap, ◌∙◌, subst, append_assoc, append-nil, replicate}
+use Rattle.std.proofs.Common.{inl, inr, ◌≡◌, ℕ, suc, true, false, List, [], ◌∷◌, ◌++◌, length, Option, Some, None, sym, ap, ◌∙◌, subst, append_assoc, append-nil, replicate}
 use Rattle.std.proofs.lemmas.Bool.{false≢true}
 use Rattle.std.specs.List.{slice_get}
 use Rattle.yq_scalar.specs.Keys.{HasUniqueKeys, keys_of}
@@ -9,7 +9,7 @@ use Rattle.yq_scalar.specs.Tree.{Node}
 use Rattle.yq_scalar.proofs.Bools.{bind_some}
 use Rattle.yq_inline.specs.Valued.{IsValueTree}
 use Rattle.yq_lines.specs.Anchors.{HaveOneAnchorEach}
-use Rattle.yq_lines.specs.Outline.{end, row, children, label}
+use Rattle.yq_lines.specs.Outline.{children, label}
 use Rattle.yq_lines.specs.Places.{content}
 use Rattle.yq_rows.specs.Grammar.{unlimited, AreRows, no_rows, Limit, allows}
 use Rattle.yq_rows.specs.Rows.{rows_text, Part, Cut, cut_text}

@@ -1,5 +1,5 @@
 -- A collection that begins on the line of a dash.
-use Rattle.std.proofs.Common.{◌≡◌, ℕ, suc, ◌+◌, ◌*◌, ◌<◌, ◌≤◌, Bool, true, false, not, List, [], ◌∷◌, ◌++◌, take, drop, replicate, Option, Some, None, refl, sym, ap, ◌∙◌, subst, arith, append_assoc, append-nil}
+use Rattle.std.proofs.Common.{◌≡◌, ℕ, ◌+◌, ◌*◌, ◌<◌, ◌≤◌, true, false, List, [], ◌∷◌, ◌++◌, replicate, None, refl, sym, ap, ◌∙◌, subst, arith, append_assoc, append-nil}
 use Rattle.std.proofs.lemmas.Bool.{false≢true}
 use Rattle.std.proofs.lemmas.List.{append_cancel_left}
 use Rattle.yq_scalar.specs.Paths.{Step}
@@ -11,7 +11,7 @@ use Rattle.yq_lines.specs.Outline.{Line, level, flatten, Stands}
 use Rattle.yq_lines.proofs.ByRules.{rules_give}
 use Rattle.yq_rows.specs.Exchange.{row_front}
 use Rattle.yq_rows.specs.Grammar.{IsTail, is_entry}
-use Rattle.yq_rows.specs.Joined.{dashed_row, compact_row}
+use Rattle.yq_rows.specs.Joined.{compact_row}
 use Rattle.yq_rows.specs.Rows as rows
 use Rattle.yq_rows.specs.Rows.{Content, Nothing, Row, behind_dashes, behind_indent, dashes_text, mark_column, mark_text, print_row, rows_text, Cut}
 use Rattle.yq_rows.specs.View.{slices}

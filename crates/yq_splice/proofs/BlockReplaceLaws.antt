@@ -1,7 +1,6 @@
 -- A block collection gives way to what is written inline behind its key or dash.
-use Rattle.std.proofs.Common.{◌≡◌, ◌⊎◌, inl, inr, ℕ, ℤ, ◌≤◌, not, List, [], ◌∷◌, ◌++◌, length, Option, Some, None, is_some, Bool, true, false, refl, sym, ap, ◌∙◌, subst, append_assoc, append-nil}
-use Rattle.std.proofs.lemmas.Bool.{false≢true, and_parts}
-use Rattle.std.proofs.lemmas.Str.{IsUtf8-drop}
+use Rattle.std.proofs.Common.{◌≡◌, inl, inr, ℕ, ℤ, ◌≤◌, List, [], ◌∷◌, ◌++◌, length, Option, Some, None, is_some, true, false, refl, sym, ap, ◌∙◌, subst, append_assoc, append-nil}
+use Rattle.std.proofs.lemmas.Bool.{false≢true}
 use Rattle.yq_scalar.specs.Characters.{text_limit}
 use Rattle.yq_scalar.specs.Paths.{Step, change, node_at}
 use Rattle.yq_scalar.specs.Tree as tree
@@ -14,37 +13,34 @@ use Rattle.yq_lines.specs.Places.{Found, content}
 use Rattle.yq_lines.proofs.Finding.{FoundNode, path_node}
 use Rattle.yq_rows.specs.Exchange.{row_front}
 use Rattle.yq_rows.specs.Gap.{IsBreak}
-use Rattle.yq_rows.specs.Grammar.{IsContent, IsCut, IsTail, no_rows}
+use Rattle.yq_rows.specs.Grammar.{IsContent, IsTail, no_rows}
 use Rattle.yq_rows.specs.Rows as rows
 use Rattle.yq_rows.specs.Rows.{Content, Nothing, Inline, Row, parent_indent, rows_text, Part, Cut, cut_text}
-use Rattle.yq_rows.specs.Splices.{behind_first, first_gap}
 use Rattle.yq_rows.specs.View.{content_cut, slices}
 use Rattle.yq_tree.specs.CommentPlaces.{LineEnd, line_text}
-use Rattle.yq_tree.specs.Documents.{document_parts, begins_bare, has_begin, lead_of}
+use Rattle.yq_tree.specs.Documents.{lead_of}
 use Rattle.yq_tree.specs.Lines.{content_anchor, head_of, lines_of}
 use Rattle.yq_tree.specs.Nodes.{anchor_of}
-use Rattle.yq_tree.specs.PlacedRows.{PlacedPart, placed_document}
-use Rattle.yq_tree.specs.PrintedLines.{less_break, last_break}
+use Rattle.yq_tree.specs.PrintedLines.{last_break}
 use Rattle.yq_tree.specs.Reading.{outline_of, read_at, root_of}
-use Rattle.yq_tree.specs.RemovalPlaces.{OwnRows, Removal, rows_out}
+use Rattle.yq_tree.specs.RemovalPlaces.{Removal}
 use Rattle.yq_tree.specs.TreeEdits.{replaced}
-use Rattle.yq_tree.proofs.LineEndLaws.{end_of_tail}
 use Rattle.yq_change.specs.Changed.{IsChanged, put_document}
 use Rattle.yq_change.specs.Contents.{recontent}
 use Rattle.yq_change.specs.InlineRows.{IsValueNode}
 use Rattle.yq_change.specs.Rooms.{is_block_root}
 use Rattle.yq_change.specs.SoundRoots.{MayReplace}
 use Rattle.yq_change.specs.TextPieces.{IsPiece}
-use Rattle.yq_change.specs.Unders.{HasUnder, spaced}
+use Rattle.yq_change.specs.Unders.{spaced}
 use Rattle.yq_change.proofs.PartLaws.{document_known, gap_stays, some_behind}
 use Rattle.yq_change.proofs.UnderLaws.{line_is, under_is, under_kept, under_replaced}
 use Rattle.yq_change.proofs.NodeLineLaws.{under_even}
 use Rattle.yq_change.proofs.UnderValueLaws.{nothing_takes, spaced_text}
 use Rattle.yq_splice.specs.BlockReplacing.{UnderPlace, under_place, begin_alike, is_unnamed_collection, lines_from_end, under_segments}
-use Rattle.yq_splice.specs.Script.{new_text, old_text}
+use Rattle.yq_splice.specs.Script.{new_text}
 use Rattle.yq_splice.proofs.BreakLaws.{IsLfOrCrLf, break_is, same_break, alike_some}
 use Rattle.yq_splice.proofs.UnderPieces.{under_readable}
-use Rattle.yq_splice.proofs.UnderTexts.{RowsUnder, behind_is, lines_are, more_is, tail, told}
+use Rattle.yq_splice.proofs.UnderTexts.{RowsUnder, lines_are, more_is, tail, told}
 
 -- ---- nothing is written behind the mark
 

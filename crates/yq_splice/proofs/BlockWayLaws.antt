@@ -1,7 +1,6 @@
 -- Replacing a block collection by what is written inline, and taking out its sole item or entry, are ways.
-use Rattle.std.proofs.Common.{◌≡◌, inl, inr, ◌⊎◌, ℕ, suc, ◌+◌, ◌-◌, ◌≤◌, eqb, cond, not, List, [], ◌∷◌, ◌++◌, length, map, take, drop, Option, Some, None, option_map, option_and_then, is_some, Bool, true, false, refl, sym, ap, ◌∙◌, subst, arith, append_assoc, append-nil}
+use Rattle.std.proofs.Common.{◌≡◌, ℕ, ◌≤◌, not, List, [], ◌∷◌, ◌++◌, length, Option, Some, None, is_some, Bool, true, false, refl, sym, ap, ◌∙◌, subst, arith, append_assoc, append-nil}
 use Rattle.std.proofs.lemmas.Bool.{false≢true, and_parts}
-use Rattle.std.proofs.lemmas.List.{take-append-drop}
 use Rattle.std.specs.List.{slice_get}
 use Rattle.yq_scalar.specs.Answers.{◌>>=◌}
 use Rattle.yq_scalar.specs.Characters.{text_limit}
@@ -9,7 +8,6 @@ use Rattle.yq_scalar.specs.Keys.{HasUniqueKeys}
 use Rattle.yq_scalar.specs.Paths.{Step, change, node_at}
 use Rattle.yq_scalar.specs.Tree.{Node}
 use Rattle.yq_scalar.proofs.Bools.{bind_some, guard_then, guard_some}
-use Rattle.yq_inline.specs.Inline.{depth_limit}
 use Rattle.yq_inline.specs.Nodes.{node_text}
 use Rattle.yq_inline.specs.Valued.{IsValueTree}
 use Rattle.yq_lines.specs.Anchors.{Name, names_of}
@@ -27,24 +25,24 @@ use Rattle.yq_tree.proofs.PrintedTexts.{less_is, map_some}
 use Rattle.yq_change.specs.Changed.{IsChanged, put_document}
 use Rattle.yq_change.specs.Conditions.{AreSpared}
 use Rattle.yq_change.specs.Rooms.{is_block_root}
-use Rattle.yq_change.specs.SoundRoots.{inner_names, IsNewValue, MayReplace}
+use Rattle.yq_change.specs.SoundRoots.{inner_names, IsNewValue}
 use Rattle.yq_change.specs.TextPieces.{IsPiece}
 use Rattle.yq_change.proofs.LeadLaws.{same_lead_goes}
 use Rattle.yq_expr.specs.Changes.{has_long_key, is_deep, is_used_inside}
 use Rattle.yq_expr.specs.Fits.{Fits}
 use Rattle.yq_expr.specs.Operations.{Operation, replace, append, remove, line_comment, head_comment}
 use Rattle.yq_expr.specs.Rooms.{room_of}
-use Rattle.yq_splice.specs.BlockReplacing.{UnderPlace, under_place, lines_from_end, begin_alike, ends_at, is_alike, is_unnamed, is_unnamed_collection, is_block_at, under_segments, written_under, block_replace_way}
+use Rattle.yq_splice.specs.BlockReplacing.{under_place, lines_from_end, begin_alike, ends_at, is_alike, is_unnamed, is_unnamed_collection, is_block_at, under_segments, written_under, block_replace_way}
 use Rattle.yq_splice.specs.Operands.{HasOperand}
 use Rattle.yq_splice.specs.Replacing.{node_in, value_written}
 use Rattle.yq_splice.specs.Script.{Segment, old_text, new_text}
 use Rattle.yq_splice.specs.Ways.{IsWay, ReadsAfter}
-use Rattle.yq_splice.proofs.BlockReplaceLaws.{BlockGone, block_gone}
+use Rattle.yq_splice.proofs.BlockReplaceLaws.{block_gone}
 use Rattle.yq_splice.proofs.DoneLaws.{nth_map, document_done}
 use Rattle.yq_splice.proofs.FitLaws.{new_value, inside_spared, tree_unique}
 use Rattle.yq_splice.proofs.LineCommentLaws.{place, place_text}
 use Rattle.yq_splice.proofs.ReplaceLaws.{IsWrittenFor, written_for}
-use Rattle.yq_splice.proofs.UnderTexts.{RowsUnder, behind_is, lines_are, rows_under}
+use Rattle.yq_splice.proofs.UnderTexts.{behind_is, lines_are, rows_under}
 
 some_same : {A : Type 0} {x y : A} → Some x ≡ Some y → x ≡ y
 some_same e = cc

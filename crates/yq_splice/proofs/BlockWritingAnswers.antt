@@ -1,17 +1,15 @@
 -- What replacing a node by a collection in block style comes to, by what the code finds.
-use Rattle.std.proofs.Common.{◌≡◌, ℕ, List, Bool, true, false, cond, Option, Some, None, option_map, refl, sym, ap, ◌∙◌}
+use Rattle.std.proofs.Common.{◌≡◌, ℕ, List, Bool, true, false, cond, Option, Some, None, option_map, sym, ap, ◌∙◌}
 use Rattle.yq_scalar.specs.Paths.{Step}
 use Rattle.yq_scalar.specs.Tree.{Node}
 use Rattle.yq_rows.specs.Rows.{Cut}
 use Rattle.yq_tree.specs.declared.places.mark_place.MarkPlace as declared
-use Rattle.yq_tree.specs.MarkPlaces.{MarkPlace}
 use Rattle.yq_tree.specs.MarkTelling.{mark_told}
 use Rattle.yq_block.specs.declared.layout.Layout.{Layout}
 use Rattle.yq_block.specs.BlockReading.{is_filled}
 use Rattle.yq_expr.specs.Operations.{replace}
 use Rattle.yq_splice.specs.BlockWriting.{under_segments, behind_segments, is_compact, block_segments, block_mark, replace_block_way}
 use Rattle.yq_splice.specs.Layouts.{layout_of}
-use Rattle.yq_splice.specs.Script.{Segment}
 
 module _ (doc : ℕ) (steps : List Step) (v : Node) (c : Cut) where
   -- a value without items or entries

@@ -1,10 +1,8 @@
 -- Replacing a node by a collection in block style is a way.
-use Rattle.std.proofs.Common.{◌≡◌, ℕ, ◌≤◌, ◌&&◌, not, Bool, true, false, cond, List, [], ◌∷◌, ◌++◌, length, replicate, Option, Some, None, refl, sym, ap, ◌∙◌, subst, append_assoc, append-nil}
+use Rattle.std.proofs.Common.{◌≡◌, ℕ, ◌≤◌, not, Bool, true, false, cond, List, [], ◌∷◌, ◌++◌, length, replicate, Some, None, refl, sym, ap, ◌∙◌, subst, append_assoc, append-nil}
 use Rattle.std.proofs.lemmas.Bool.{false≢true}
-use Rattle.std.specs.Option.{is_none}
 use Rattle.yq_scalar.specs.BlockWritten.{break_text}
 use Rattle.yq_scalar.specs.Characters.{text_limit}
-use Rattle.yq_scalar.specs.Keys.{HasUniqueKeys}
 use Rattle.yq_scalar.specs.Paths.{Step, node_at}
 use Rattle.yq_scalar.specs.Text.{is_empty}
 use Rattle.yq_scalar.specs.Tree as tree
@@ -29,11 +27,11 @@ use Rattle.yq_change.specs.TextPieces.{IsPiece}
 use Rattle.yq_change.proofs.TextPieceLaws.{pieces_joined}
 use Rattle.yq_block.specs.declared.layout.Layout.{Layout}
 use Rattle.yq_block.specs.BlockReading.{is_filled}
-use Rattle.yq_block.specs.BlockRows.{inline_of, item_column}
+use Rattle.yq_block.specs.BlockRows.{item_column}
 use Rattle.yq_block.specs.BlockText.{block_value}
 use Rattle.yq_block.specs.BlockValues.{HasNearKeys, InRows, IsFilled}
 use Rattle.yq_block.proofs.CharacterLaws.{value_sound}
-use Rattle.yq_expr.specs.Changes.{has_long_key, is_deep, is_used_inside}
+use Rattle.yq_expr.specs.Changes.{is_used_inside}
 use Rattle.yq_expr.specs.Fits.{Fits}
 use Rattle.yq_expr.specs.Operations.{Operation, replace, append, remove, line_comment, head_comment}
 use Rattle.yq_expr.specs.Rooms.{room_of}

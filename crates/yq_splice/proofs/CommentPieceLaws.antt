@@ -3,12 +3,12 @@ use Rattle.std.proofs.Common.{◌≡◌, ◌≢◌, get_or, ◌⊎◌, inl, inr,
 use Rattle.std.proofs.lemmas.Bool.{false≢true, ltb-true}
 use Rattle.std.proofs.lemmas.Str.{encode_ascii, IsUtf8-nil, IsUtf8-take}
 use Rattle.std.proofs.Math.Seq.{take-append_seam}
-use Rattle.std.proofs.Math.Utf8.{encodes, encode, scalar, scalars, low_scalar}
+use Rattle.std.proofs.Math.Utf8.{encodes, encode, scalars, low_scalar}
 use Rattle.std.specs.List.{list_all}
 use Rattle.std.specs.Str.{chars, IsUtf8}
 use Rattle.yq_scalar.specs.BlockWritten.{break_text}
 use Rattle.yq_scalar.specs.Characters.{is_text, is_text_char, pairs_returns}
-use Rattle.yq_scalar.specs.Text.{front, is_feed, is_return, is_empty, ends_line, NoneIn}
+use Rattle.yq_scalar.specs.Text.{front, is_feed, is_return, is_empty}
 use Rattle.yq_scalar.specs.declared.block_written.Break.{Break}
 use Rattle.yq_scalar.specs.declared.block_written.Break.TheVariants.{Lf, CrLf}
 use Rattle.yq_scalar.proofs.Bools.{is_true, and_true, not_byte}

@@ -1,20 +1,19 @@
 -- What is written for comments reads as their texts.
-use Rattle.std.proofs.Common.{◌≡◌, ◌⊎◌, inl, inr, ℕ, zero, suc, Bool, true, false, ◌&&◌, ◌||◌, not, cond, eqb, List, [], ◌∷◌, ◌++◌, length, replicate, drop, Option, Some, None, refl, sym, ap, ◌∙◌, subst, append-nil, append_assoc}
+use Rattle.std.proofs.Common.{◌≡◌, ◌⊎◌, inl, inr, ℕ, zero, suc, Bool, true, false, ◌&&◌, not, cond, eqb, List, [], ◌∷◌, ◌++◌, replicate, drop, Option, Some, None, refl, sym, ap, ◌∙◌, append-nil, append_assoc}
 use Rattle.std.proofs.lemmas.Bool.{false≢true}
 use Rattle.yq_scalar.specs.BlockWritten.{break_text}
 use Rattle.yq_scalar.specs.Text as text
 use Rattle.yq_scalar.specs.Text.{front, is_feed, is_return, is_white, is_empty, is_break, is_line, ends_line, no_white, past_white, joined, lines_of, NoneIn}
 use Rattle.yq_scalar.specs.declared.block_written.Break.{Break}
 use Rattle.yq_scalar.specs.declared.block_written.Break.TheVariants.{Lf, CrLf}
-use Rattle.yq_scalar.proofs.Bools.{is_true, and_true}
+use Rattle.yq_scalar.proofs.Bools.{and_true}
 use Rattle.yq_scalar.proofs.Bytes.{Each}
 use Rattle.yq_scalar.proofs.LineLaws.{lines_again}
 use Rattle.yq_scalar.proofs.Upto.{cut-append}
 use Rattle.yq_scalar.proofs.WrittenText.{no_break}
-use Rattle.yq_lines.specs.Comments.{less_space, comment_text, line_comment, are_comments, with_text, last_comments, head_comment as head_texts}
-use Rattle.yq_rows.specs.Gap.{IsWhite, IsBreak, IsGap, IsGapLine, AreGapLines}
+use Rattle.yq_lines.specs.Comments.{less_space, comment_text, are_comments, with_text, last_comments, head_comment as head_texts}
+use Rattle.yq_rows.specs.Gap.{IsWhite, IsGap, IsGapLine, AreGapLines}
 use Rattle.yq_rows.proofs.LineEnds.{text_line, white_again, white_none}
-use Rattle.yq_expr.specs.Meaning.{line_of}
 use Rattle.yq_splice.specs.CommentWays.{head_line, head_lines}
 use Rattle.yq_splice.proofs.CommentPieceLaws.{AreParts}
 

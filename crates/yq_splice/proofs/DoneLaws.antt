@@ -1,29 +1,27 @@
 -- One document of a text in the place of another, as an operation makes it: the text reads as the documents after that, and leaves the room that it has to.
-use Rattle.std.proofs.Common.{◌≡◌, ℕ, zero, suc, List, [], ◌∷◌, map, Bool, true, false, Option, Some, None, refl, sym, ap, ◌∙◌, subst}
+use Rattle.std.proofs.Common.{◌≡◌, ℕ, zero, suc, List, [], ◌∷◌, map, Option, Some, refl, sym, ap, ◌∙◌, subst}
 use Rattle.std.specs.List.{slice_get}
-use Rattle.yq_scalar.specs.Paths.{Step}
-use Rattle.yq_scalar.specs.Tree.{Node, Children, none, child, children_of}
+use Rattle.yq_scalar.specs.Tree.{Node, children_of}
 use Rattle.yq_scalar.specs.Answers.{◌>>=◌}
 use Rattle.yq_scalar.proofs.Bools.{guard_then}
 use Rattle.yq_rows.specs.Rows.{Part, Cut, cut_text}
 use Rattle.yq_tree.specs.Documents.{Document, document_parts, lead_of}
 use Rattle.yq_tree.specs.Reading as reading
 use Rattle.yq_tree.specs.Reading.{documents, documents_of, read_at, cut_of, root_of}
-use Rattle.yq_tree.specs.Ready.{part_is_block, root_is_block}
+use Rattle.yq_tree.specs.Ready.{part_is_block}
 use Rattle.yq_tree.specs.Seats.{seat_of, seat_has_room}
-use Rattle.yq_tree.specs.TreeEdits.{change_nth, lead_by, with_tree}
+use Rattle.yq_tree.specs.TreeEdits.{change_nth, lead_by}
 use Rattle.yq_tree.proofs.ReadLaws.{text_takes, cut_is}
-use Rattle.yq_change.specs.Changed.{changed, IsChanged, put_document}
+use Rattle.yq_change.specs.Changed.{changed, put_document}
 use Rattle.yq_change.proofs.AfterLaws.{nth_is, nth_same}
 use Rattle.yq_change.proofs.ChangedLaws.{document_put}
-use Rattle.yq_expr.specs.declared.program.CommentPlace.{CommentPlace}
 use Rattle.yq_expr.specs.After.{document_of, root_after, done_to, after_op}
 use Rattle.yq_expr.specs.Operations.{Operation, replace, append, remove, line_comment, head_comment}
 use Rattle.yq_expr.specs.Rooms.{comment_part, room_of}
 use Rattle.yq_expr.specs.RoomsKept.{SameRoom, KeepsBlock, SetsComment}
 use Rattle.yq_change.specs.Rooms.{is_block_root}
 use Rattle.yq_splice.specs.Done.{IsDone, DocumentDone}
-use Rattle.yq_splice.specs.Ways.{RoomStays, ReadsAfter}
+use Rattle.yq_splice.specs.Ways.{RoomStays}
 
 -- the cut of a text that reads
 pub read_cut : (t : List ℕ) (c : Cut) → read_at t ≡ Some c → cut_of t ≡ c

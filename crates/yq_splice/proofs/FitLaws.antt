@@ -1,16 +1,16 @@
 -- What an operation that fits says of its value, its key and the anchors that go.
-use Rattle.std.proofs.Common.{inl, inr, ◌⊎◌, ◌≡◌, ℕ, zero, suc, ◌+◌, ◌<◌, ◌≤◌, Bool, true, false, ◌||◌, cond, List, [], ◌∷◌, ◌++◌, length, Option, Some, None, refl, sym, ap, ◌∙◌, subst, arith}
+use Rattle.std.proofs.Common.{inl, inr, ◌≡◌, ℕ, ◌+◌, Bool, true, false, ◌||◌, cond, List, [], ◌∷◌, ◌++◌, length, Option, Some, None, refl, sym, ap, ◌∙◌, subst, arith}
 use Rattle.std.proofs.lemmas.Bool.{false≢true, ltb-false}
 use Rattle.std.proofs.lemmas.Slice.Eq.{bytes_eq-Decides}
 use Rattle.std.specs.List.{list_any}
 use Rattle.std.proofs.lemmas.List.Elements.{All-cons}
 use Rattle.std.proofs.lemmas.List.Kept.{AllPairs-cons}
-use Rattle.std.specs.Prelude.{nat_lt, ◌≢◌, All, AllPairs}
-use Rattle.std.specs.Str.{bytes_eq, chars, IsUtf8}
+use Rattle.std.specs.Prelude.{◌≢◌, All, AllPairs}
+use Rattle.std.specs.Str.{bytes_eq, chars}
 use Rattle.yq_scalar.specs.Keys.{HasUniqueKeys, EachHasUniqueKeys, AreDistinct, with_key, keys_of, depth}
 use Rattle.yq_scalar.specs.Paths.{To, key_is, child_at}
 use Rattle.yq_scalar.specs.Scalar.{string_of}
-use Rattle.yq_scalar.specs.Shapes.{IsTree, AreTrees, AreItems, AreEntries, IsNew}
+use Rattle.yq_scalar.specs.Shapes.{IsTree, AreTrees, AreEntries, IsNew}
 use Rattle.yq_scalar.specs.Tree as tree
 use Rattle.yq_scalar.specs.Tree.{Node, Children, none, child, children_of}
 use Rattle.yq_scalar.specs.declared.style.Place.TheVariants.{FlowKey}
@@ -21,7 +21,7 @@ use Rattle.yq_lines.specs.Anchors.{Name, Anchors, Refers, names_of, names_in, Is
 use Rattle.yq_rows.specs.Grammar.{key_limit}
 use Rattle.yq_block.specs.BlockValues.{IsNear, HasNearKeys, EachHasNearKeys}
 use Rattle.yq_block.proofs.KeyLaws.{near_key}
-use Rattle.yq_change.specs.Conditions.{anchors_in, aliases_in, AreSpared}
+use Rattle.yq_change.specs.Conditions.{aliases_in, AreSpared}
 use Rattle.yq_change.specs.SoundRoots.{inner_names, IsNewValue}
 use Rattle.yq_expr.specs.Changes.{is_long, has_long_key, have_long_key, is_deep, is_used, refers_to, is_used_inside, is_used_in}
 use Rattle.yq_splice.specs.Operands.{KeyIsUtf8}

@@ -4,13 +4,12 @@ use Rattle.std.proofs.Math.Seq.{take-append_seam, drop-append_seam}
 use Rattle.std.specs.Str.{IsCharBoundary}
 use Rattle.yq_scalar.specs.Answers.{◌>>=◌}
 use Rattle.yq_scalar.specs.Paths.{Step, is_here, further}
-use Rattle.yq_scalar.proofs.Bools.{bind_some}
 use Rattle.yq_inline.specs.Collections.{CollPieces}
 use Rattle.yq_inline.specs.declared.among.Among.{Among}
 use Rattle.yq_inline.specs.Entries.{EntryPieces, end_of, entry_start, item_at}
 use Rattle.yq_inline.specs.FlowEdits.{FlowEdit}
 use Rattle.yq_inline.specs.FlowPlaces.{PlacedEdit, among, first_start, place_edit, remove_among, remove_in, remove_part, remove_place}
-use Rattle.yq_inline.specs.Nodes.{coll, Items, none, item, items_text, key_text, node_text, sep_text}
+use Rattle.yq_inline.specs.Nodes.{Items, none, item, items_text, key_text, node_text, sep_text}
 use Rattle.yq_inline.specs.Places.{Placed, placed, Parts, nothing, name, text, sequence, mapping, holder, key_placed, locate, locate_items}
 use Rattle.yq_inline.specs.Removals.{removing}
 use Rattle.yq_inline.specs.Trees.{inner, key_content}
@@ -24,8 +23,8 @@ use Rattle.yq_tree.proofs.FlowToldLaws.{node_collection}
 use Rattle.yq_change.proofs.FlowPathLaws.{flow_found}
 use Rattle.yq_change.proofs.FlowStandLaws.{coll_stands}
 use Rattle.yq_expr.specs.Operations.{remove}
-use Rattle.yq_splice.specs.FlowWays.{edit_segments, flow_remove_way, flow_segments, in_flow_at, last_step, removed_at, text_before}
-use Rattle.yq_splice.specs.Script.{Segment, keep, put}
+use Rattle.yq_splice.specs.FlowWays.{edit_segments, flow_remove_way, flow_segments, in_flow_at, last_step, removed_at}
+use Rattle.yq_splice.specs.Script.{keep, put}
 use Rattle.yq_splice.proofs.FlowPieceLaws.{removed_empty}
 use Rattle.yq_splice.proofs.FlowRemoveLaws.{RemovedAt, bounds, texts}
 

@@ -1,11 +1,11 @@
 -- The pieces of a text from which an item or entry of a flow collection is taken out.
-use Rattle.std.proofs.Common.{◌≡◌, ◌⊎◌, inl, inr, ℕ, ◌-◌, Bool, true, false, ◌&&◌, cond, eqb, eqb-true, List, [], ◌∷◌, ◌++◌, length, take, drop, Option, Some, None, refl, sym, ap, ◌∙◌, subst, arith, append_assoc, length-append}
+use Rattle.std.proofs.Common.{◌≡◌, ◌⊎◌, inl, inr, ℕ, ◌-◌, Bool, true, false, ◌&&◌, cond, eqb, eqb-true, List, [], ◌∷◌, ◌++◌, length, take, refl, sym, ap, ◌∙◌, subst, arith, append_assoc, length-append}
 use Rattle.std.proofs.Math.Seq.{take-append_seam, drop-append_seam}
 use Rattle.std.proofs.lemmas.Bool.{cond_both, false≢true, or_cases}
 use Rattle.std.proofs.lemmas.Str.{IsUtf8-drop, IsUtf8-take, IsUtf8-nil, IsUtf8-from_ascii}
 use Rattle.std.proofs.lemmas.Str.Ascii.{IsAscii-cons, IsAscii-nil}
 use Rattle.std.specs.Str.{chars, IsUtf8, IsCharBoundary}
-use Rattle.yq_scalar.specs.Characters.{is_text, pairs_returns}
+use Rattle.yq_scalar.specs.Characters.{pairs_returns}
 use Rattle.yq_scalar.specs.Paths.{Step, is_here, further}
 use Rattle.yq_scalar.specs.PlainText.{begins_marker}
 use Rattle.yq_scalar.specs.Text.{front, is_feed, is_return}
@@ -17,7 +17,6 @@ use Rattle.yq_inline.specs.Nodes.{Sep, last, comma, Items, none, item, items_tex
 use Rattle.yq_inline.specs.Removals.{comma_new, ends_marked, gap_of, has_next, is_several, last_sep, removed_for, removing, removing_before, removing_end, removing_last, removing_sole, removing_to_comma, space_to, until_last}
 use Rattle.yq_inline.specs.Trees.{inner, key_content}
 use Rattle.yq_inline.proofs.ReturnLaws.{Whole}
-use Rattle.yq_rows.specs.Rows.{Cut, cut_text}
 use Rattle.yq_rows.proofs.CharacterLaws.{all_text, all_join, pairs_back}
 use Rattle.yq_rows.proofs.PieceLaws.{both_true}
 use Rattle.yq_change.specs.TextPieces.{IsPiece}

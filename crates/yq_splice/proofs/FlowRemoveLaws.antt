@@ -2,8 +2,7 @@
 use Rattle.std.proofs.Common.{◌≡◌, true, ℕ, ◌-◌, ◌≤◌, List, [], ◌∷◌, ◌++◌, length, map, Option, Some, None, option_map, refl, sym, ap, ◌∙◌, subst}
 use Rattle.std.specs.List.{slice_get}
 use Rattle.std.specs.Str.{IsCharBoundary}
-use Rattle.yq_scalar.specs.Answers.{◌>>=◌}
-use Rattle.yq_scalar.specs.Characters.{is_text, pairs_returns, text_limit}
+use Rattle.yq_scalar.specs.Characters.{pairs_returns, text_limit}
 use Rattle.yq_scalar.specs.Paths.{Step, change, remove_child, within}
 use Rattle.yq_scalar.proofs.Bools.{and_true, bind_some}
 use Rattle.yq_inline.specs.Collections.{CollAt, CollPieces, IsCollAt}

@@ -1,13 +1,12 @@
 -- The paths of operations in flow collections, and the roots that they leave.
-use Rattle.std.proofs.Common.{◌≡◌, ◌⊎◌, inl, inr, ℕ, zero, suc, Bool, true, false, ◌||◌, List, [], ◌∷◌, ◌++◌, map, Option, Some, None, option_map, option_and_then, refl, sym, ap, ◌∙◌, subst}
+use Rattle.std.proofs.Common.{◌≡◌, inl, inr, ℕ, Bool, true, false, ◌||◌, List, [], ◌∷◌, ◌++◌, Option, Some, None, option_map, option_and_then, refl, sym, ap, ◌∙◌, subst}
 use Rattle.std.proofs.lemmas.Bool.{false≢true}
 use Rattle.yq_expr.proofs.updates.PathLaws.{bytes_refl}
-use Rattle.std.specs.List.{list_any, slice_get}
+use Rattle.std.specs.List.{list_any}
 use Rattle.std.specs.Str.{bytes_eq}
 use Rattle.yq_scalar.specs.Paths.{Step, change, child_at, node_at, remove_child, within}
-use Rattle.yq_scalar.specs.Tree.{Node, Children, children_of}
+use Rattle.yq_scalar.specs.Tree.{Node, children_of}
 use Rattle.yq_lines.specs.Anchors.{Name, Anchors, Refers, IsAmong, names_of}
-use Rattle.yq_tree.specs.Documents.{Document}
 use Rattle.yq_tree.specs.TreeEdits.{at_end}
 use Rattle.yq_change.specs.Conditions.{AreSpared, anchors_in, aliases_in}
 use Rattle.yq_change.specs.SoundRoots.{IsSoundRoot}

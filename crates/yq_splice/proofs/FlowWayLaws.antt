@@ -1,30 +1,28 @@
 -- An edit of a flow collection carries out an operation, where it makes of the document what that does.
-use Rattle.std.proofs.Common.{◌≡◌, ℕ, ◌-◌, ◌≤◌, List, [], ◌∷◌, ◌++◌, length, take, Option, Some, None, refl, sym, ap, ◌∙◌, subst, arith, append_assoc, append-nil, length-append}
+use Rattle.std.proofs.Common.{◌≡◌, ℕ, ◌-◌, ◌≤◌, List, ◌++◌, length, take, Some, sym, ap, ◌∙◌, subst, arith, append_assoc, append-nil, length-append}
 use Rattle.std.proofs.Math.Seq.{take-append_seam}
-use Rattle.std.specs.List.{slice_get}
 use Rattle.yq_scalar.specs.Characters.{text_limit}
 use Rattle.yq_scalar.specs.Paths.{Step, change, within}
 use Rattle.yq_scalar.specs.Tree.{Children}
 use Rattle.yq_inline.specs.Collections.{CollPieces}
 use Rattle.yq_inline.specs.FlowEdits.{FlowEdit, IsEdited, edited_node}
-use Rattle.yq_inline.specs.Nodes.{Node, node_text}
-use Rattle.yq_rows.specs.Grammar.{no_rows}
+use Rattle.yq_inline.specs.Nodes.{Node}
 use Rattle.yq_rows.specs.Rows.{Part, Cut, cut_text}
-use Rattle.yq_tree.specs.Documents.{HasFitKeys, document_parts, lead_of}
+use Rattle.yq_tree.specs.Documents.{HasFitKeys, lead_of}
 use Rattle.yq_tree.specs.Reading.{read_at, root_of}
 use Rattle.yq_tree.specs.RowPaths.{IsReadable}
 use Rattle.yq_change.specs.Changed.{put_document}
-use Rattle.yq_change.specs.FlowRows.{InlineRow, behind_node, coll_at, with_node, FlowAt, NodeStands}
+use Rattle.yq_change.specs.FlowRows.{coll_at, with_node, FlowAt}
 use Rattle.yq_change.specs.Rooms.{is_block_root}
 use Rattle.yq_change.specs.SoundRoots.{IsSoundRoot}
 use Rattle.yq_change.proofs.FlowKeptLaws.{flow_rooms}
 use Rattle.yq_change.proofs.FlowPathLaws.{row_texts}
 use Rattle.yq_change.proofs.FlowRowLaws.{flow_edited}
 use Rattle.yq_change.proofs.LeadLaws.{same_lead_goes}
-use Rattle.yq_change.proofs.PartLaws.{gap_stays, some_behind}
+use Rattle.yq_change.proofs.PartLaws.{some_behind}
 use Rattle.yq_expr.specs.After.{document_of, root_after}
 use Rattle.yq_expr.specs.Operations.{Operation}
-use Rattle.yq_splice.specs.Done.{ArePieces, IsDone}
+use Rattle.yq_splice.specs.Done.{ArePieces}
 use Rattle.yq_splice.specs.FlowWays.{text_before, flow_segments}
 use Rattle.yq_splice.specs.Script.{old_text, new_text}
 use Rattle.yq_splice.specs.Ways.{ReadsAfter}

@@ -1,28 +1,19 @@
 -- What is written of a value in flow style is the inline node of that value, and a piece of a text.
-use Rattle.std.proofs.Common.{◌≡◌, ◌≢◌, ℕ, ℤ, ◌+◌, ◌≤◌, ◌||◌, not, eqb, List, [], ◌∷◌, ◌++◌, length, Option, Some, None, Bool, true, false, cond, refl, sym, ap, ◌∙◌, subst, arith, append-nil}
-use Rattle.std.proofs.lemmas.Bool.{false≢true, cond_both, ltb-false}
+use Rattle.std.proofs.Common.{◌≡◌, ◌≢◌, ℕ, ◌||◌, eqb, List, [], ◌∷◌, Option, Some, None, Bool, true, false, cond, refl, sym, ap, ◌∙◌, subst}
+use Rattle.std.proofs.lemmas.Bool.{false≢true, ltb-false}
 use Rattle.std.specs.Prelude.{codes}
-use Rattle.std.specs.Str.{chars, IsUtf8}
-use Rattle.yq_scalar.specs.Characters.{is_text, pairs_returns}
-use Rattle.yq_scalar.specs.Piece.{deeper}
-use Rattle.yq_scalar.specs.Plain.{ends_plain, holds_break}
+use Rattle.std.specs.Str.{chars}
 use Rattle.yq_scalar.specs.PlainText.{is_plain_text}
-use Rattle.yq_scalar.specs.Scalar.{ScalarText, string_of}
-use Rattle.yq_scalar.specs.Keys.{depth}
+use Rattle.yq_scalar.specs.Scalar.{string_of}
 use Rattle.yq_scalar.specs.Tree as tree
 use Rattle.yq_scalar.specs.Tree.{Children}
-use Rattle.yq_scalar.specs.Writable.{can_write, can_write_plain}
+use Rattle.yq_scalar.specs.Writable.{can_write_plain}
 use Rattle.yq_scalar.specs.Written.{written}
 use Rattle.yq_scalar.specs.declared.kind.Kind.TheVariants as kinds
-use Rattle.yq_scalar.specs.declared.style.Place.TheVariants as places
 use Rattle.yq_scalar.specs.declared.style.Style.TheVariants as styles
 use Rattle.yq_scalar.proofs.PlainSpells.{writable_text}
-use Rattle.yq_inline.specs.Inline.{depth_limit}
-use Rattle.yq_inline.specs.Nodes as inline
-use Rattle.yq_inline.specs.Nodes.{node_text, items_text}
-use Rattle.yq_inline.specs.Valued.{IsValueTree}
-use Rattle.yq_inline.specs.Written.{scalar_text, flow_key, flow_of, flow_items, flow_text}
-use Rattle.yq_tree.specs.Documents.{IsFit, HasFitKey, HasFitKeys, EachHasFitKeys}
+use Rattle.yq_inline.specs.Written.{scalar_text, flow_key, flow_of, flow_items}
+use Rattle.yq_tree.specs.Documents.{HasFitKey, HasFitKeys, EachHasFitKeys}
 use Rattle.yq_expr.specs.Changes.{is_long, has_long_key, have_long_key}
 
 or_parts : (x y : Bool) → (x || y) ≡ false → (x ≡ false) × (y ≡ false)

@@ -1,11 +1,10 @@
 -- A head comment set: the text reads as the documents after that.
-use Rattle.std.proofs.Common.{◌≡◌, ◌⊎◌, inl, inr, ℕ, zero, suc, ◌+◌, ◌<◌, ◌≤◌, Bool, true, false, ◌&&◌, ◌||◌, not, cond, eqb, List, [], ◌∷◌, ◌++◌, length, map, take, drop, replicate, Option, Some, None, option_map, refl, sym, ap, ◌∙◌, subst, arith, append_assoc, append-nil}
+use Rattle.std.proofs.Common.{◌≡◌, ◌⊎◌, inl, inr, ℕ, zero, suc, ◌≤◌, Bool, true, false, ◌&&◌, cond, eqb, List, [], ◌∷◌, ◌++◌, length, map, take, drop, replicate, Option, Some, option_map, refl, sym, ap, ◌∙◌, subst, append_assoc, append-nil}
 use Rattle.std.proofs.Math.Seq.{take-append_seam}
 use Rattle.std.proofs.lemmas.Bool.{false≢true, eqb-true}
 use Rattle.std.proofs.lemmas.List.{map-append}
 use Rattle.std.proofs.lemmas.Str.{IsUtf8-take}
-use Rattle.std.specs.Str.{IsUtf8, IsCharBoundary}
-use Rattle.yq_scalar.specs.Answers.{◌>>=◌}
+use Rattle.std.specs.Str.{IsUtf8}
 use Rattle.yq_scalar.specs.BlockWritten.{break_text}
 use Rattle.yq_scalar.specs.Characters.{text_limit}
 use Rattle.yq_scalar.specs.Paths.{Step, change, relabel_child, within}
@@ -13,26 +12,23 @@ use Rattle.yq_scalar.specs.Text.{front, is_white, is_feed, is_return, is_break, 
 use Rattle.yq_scalar.specs.Text as text
 use Rattle.yq_scalar.specs.declared.block_written.Break.{Break}
 use Rattle.yq_scalar.proofs.Bools.{bind_some, guard_then, is_true, and_true, or_false}
-use Rattle.yq_scalar.proofs.LineLaws.{joined_lines}
-use Rattle.yq_lines.specs.Comments.{are_comments, head_comment as head_in}
+use Rattle.yq_lines.specs.Comments.{are_comments}
 use Rattle.yq_lines.specs.Group.{group}
-use Rattle.yq_rows.specs.Grammar.{IsCut, IsRow, Limit, no_rows}
+use Rattle.yq_rows.specs.Grammar.{IsCut}
 use Rattle.yq_rows.specs.Rows.{Row, behind_gap, behind_indent, print_row, rows_text, Part, Cut, cut_text}
 use Rattle.yq_rows.specs.Splices.{with_row_gap}
-use Rattle.yq_rows.specs.View.{rows_of}
 use Rattle.yq_rows.proofs.Fronts.{Starts}
 use Rattle.yq_rows.proofs.NodePieces.{before_ascii}
 use Rattle.yq_rows.proofs.RowAgain.{row_starts}
-use Rattle.yq_rows.proofs.seams.ScalarSeams.{ends_return}
 use Rattle.yq_tree.specs.CommentPlaces.{LinesAbove, above_row, lines_above}
 use Rattle.yq_tree.specs.FirstBreak.{first_break}
 use Rattle.yq_tree.specs.Documents.{lead_of}
 use Rattle.yq_tree.specs.Lines as lines
 use Rattle.yq_tree.specs.Pieces.{before_run, last_run}
-use Rattle.yq_tree.specs.PlacedRows.{PlacedPart, PlacedRow, placed_row, row_of_path}
+use Rattle.yq_tree.specs.PlacedRows.{PlacedRow, placed_row, row_of_path}
 use Rattle.yq_tree.specs.Reading.{documents, read_at, root_of}
 use Rattle.yq_tree.specs.RowPaths.{IsReadable}
-use Rattle.yq_tree.specs.Seats.{document_row, seat_of}
+use Rattle.yq_tree.specs.Seats.{seat_of}
 use Rattle.yq_tree.specs.TreeEdits.{at_end, with_head_comment}
 use Rattle.yq_tree.proofs.CommentEndLaws.{gap_split, run_ascii}
 use Rattle.yq_tree.proofs.PlacedRowLaws.{IsAt}
@@ -40,7 +36,7 @@ use Rattle.yq_tree.proofs.PrintedTexts.{map_some, none_some}
 use Rattle.yq_tree.proofs.SeamLaws.{IsSeam, seam_boundary, seam_then, gap_seam, row_seam}
 use Rattle.yq_change.specs.Changed.{put_document}
 use Rattle.yq_change.specs.DocumentRows.{behind_document}
-use Rattle.yq_change.specs.Heads.{IsRun, rerun, with_run}
+use Rattle.yq_change.specs.Heads.{rerun, with_run}
 use Rattle.yq_change.specs.Rooms.{is_block_root, row_shape}
 use Rattle.yq_change.specs.Siblings.{HasEntries}
 use Rattle.yq_change.specs.TextPieces.{IsPiece}
@@ -58,13 +54,12 @@ use Rattle.yq_expr.specs.Operations.{Operation, replace, append, remove, line_co
 use Rattle.yq_expr.specs.Rooms.{room_of}
 use Rattle.yq_expr.specs.declared.program.CommentPlace.TheVariants as comments
 use Rattle.yq_splice.specs.CommentWays.{head_lines, head_comment_segments, head_comment_way}
-use Rattle.yq_splice.specs.Done.{IsDone, ArePieces}
 use Rattle.yq_splice.specs.Operands.{HasOperand}
-use Rattle.yq_splice.specs.Script.{Segment, keep, put, old_text, new_text}
+use Rattle.yq_splice.specs.Script.{Segment, old_text, new_text}
 use Rattle.yq_splice.specs.Ways.{IsWay, ReadsAfter}
 use Rattle.yq_splice.proofs.CommentPieceLaws.{AreParts, head_parts, lines_piece}
 use Rattle.yq_splice.proofs.CommentReadLaws.{lines_tell, lines_gap, lines_stand}
-use Rattle.yq_splice.proofs.CommentRowLaws.{count_front, rows_front, IsFound, row_found, found_text, found_row, cut_is, HasRow, some_steps, seat_is_block, lines_some}
+use Rattle.yq_splice.proofs.CommentRowLaws.{count_front, rows_front, IsFound, row_found, found_text, found_row, cut_is, some_steps, seat_is_block, lines_some}
 use Rattle.yq_splice.proofs.DoneLaws.{document_done}
 use Rattle.yq_splice.proofs.SegmentLaws.{segments_readable}
 

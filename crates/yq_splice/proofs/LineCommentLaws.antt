@@ -5,20 +5,18 @@ use Rattle.std.proofs.lemmas.Bool.{false≢true, or_cases, eqb-true}
 use Rattle.std.proofs.lemmas.List.{map-append}
 use Rattle.std.proofs.lemmas.Str.{IsUtf8-take}
 use Rattle.std.specs.Str.{IsUtf8}
-use Rattle.yq_scalar.specs.Answers.{◌>>=◌}
-use Rattle.yq_scalar.specs.Block.{BlockText, is_tail}
-use Rattle.yq_scalar.specs.Characters.{is_text, pairs_returns, text_limit}
+use Rattle.yq_scalar.specs.Block.{is_tail}
+use Rattle.yq_scalar.specs.Characters.{pairs_returns, text_limit}
 use Rattle.yq_scalar.specs.Lines.{is_blank, is_hash}
 use Rattle.yq_scalar.specs.Paths.{Step, change, relabel_child, within}
 use Rattle.yq_scalar.specs.Text.{front, is_white, is_feed, is_return, is_break, is_line, is_empty, ends_line, no_white, past_white, NoneIn}
-use Rattle.yq_scalar.specs.Tree.{Node}
 use Rattle.yq_scalar.proofs.Bools.{bind_some, guard_then, is_true, and_true}
 use Rattle.yq_scalar.proofs.WrittenText.{is_shown}
 use Rattle.yq_lines.specs.Comments.{line_comment as comment_in, head_comment as head_in}
 use Rattle.yq_rows.specs.Exchange.{with_content}
 use Rattle.yq_rows.specs.Gap.{IsWhite, IsBreak, IsComment}
 use Rattle.yq_rows.specs.Grammar.{IsTail, IsContent, IsRow, Limit, no_rows}
-use Rattle.yq_rows.specs.Rows.{Content, Nothing, Inline, Block, Row, content_text, parent_indent, print_row, rows_text, Part, part_text, Cut, cut_text}
+use Rattle.yq_rows.specs.Rows.{Content, Nothing, Inline, Block, Row, parent_indent, print_row, rows_text, Part, Cut, cut_text}
 use Rattle.yq_rows.specs.Splices.{first_gap}
 use Rattle.yq_rows.specs.View.{content_cut, slices}
 use Rattle.yq_rows.proofs.CharacterLaws.{pairs_back}
@@ -26,41 +24,40 @@ use Rattle.yq_rows.proofs.LineEnds.{white_none, text_line, white_again, behind_c
 use Rattle.yq_rows.proofs.NodePieces.{before_ascii, tail_ascii}
 use Rattle.yq_rows.proofs.seams.ScalarSeams.{ends_return}
 use Rattle.yq_rows.proofs.splices.SpliceTexts.{own_gap, own_end}
-use Rattle.yq_tree.specs.CommentPlaces.{LineEnd, end_before, line_text, end_of_line, line_end}
-use Rattle.yq_tree.specs.Documents as documents
+use Rattle.yq_tree.specs.CommentPlaces.{LineEnd, line_text, end_of_line, line_end}
 use Rattle.yq_tree.specs.Documents.{lead_of}
-use Rattle.yq_tree.specs.PlacedRows.{PlacedPart, PlacedRow, placed_row, row_of_path}
+use Rattle.yq_tree.specs.PlacedRows.{PlacedRow, placed_row, row_of_path}
 use Rattle.yq_tree.specs.Reading.{read_at, root_of}
 use Rattle.yq_tree.specs.RowPaths.{IsReadable}
 use Rattle.yq_tree.specs.TreeEdits.{at_end, with_line_comment}
 use Rattle.yq_tree.proofs.CommentEndLaws.{row_line}
 use Rattle.yq_tree.proofs.LineEndLaws.{line_tail, end_of_tail, tail_is_end}
-use Rattle.yq_tree.proofs.PrintedTexts.{map_some, same, none_some}
+use Rattle.yq_tree.proofs.PrintedTexts.{map_some, none_some}
 use Rattle.yq_change.specs.Appends.{inserted}
-use Rattle.yq_change.specs.Changed.{KeepsRows, put_document}
+use Rattle.yq_change.specs.Changed.{put_document}
 use Rattle.yq_change.specs.DocumentRows.{behind_document}
 use Rattle.yq_change.specs.PathTails.{with_line_tail, IsLineTail, tailed}
 use Rattle.yq_change.specs.Rooms.{row_shape}
 use Rattle.yq_change.specs.TextPieces.{IsPiece}
 use Rattle.yq_change.proofs.AfterLaws.{end_is_change}
 use Rattle.yq_change.proofs.LeadLaws.{same_lead_goes}
-use Rattle.yq_change.proofs.LineFrontLaws.{ends_more, clean_white, clean_cut, line_ends_clean}
+use Rattle.yq_change.proofs.LineFrontLaws.{ends_more, clean_cut, line_ends_clean}
 use Rattle.yq_change.proofs.PathTailLaws.{path_tail_put}
 use Rattle.yq_change.proofs.ReplaceLaws.{rows_before_some}
 use Rattle.yq_change.proofs.ShapeLaws.{shape_tells}
-use Rattle.yq_change.proofs.TextPieceLaws.{pieces_joined, text_is_piece}
+use Rattle.yq_change.proofs.TextPieceLaws.{text_is_piece}
 use Rattle.yq_expr.specs.Changes.{is_comment}
 use Rattle.yq_expr.specs.Fits.{Fits}
 use Rattle.yq_expr.specs.Meaning.{line_of}
 use Rattle.yq_expr.specs.Operations.{Operation, replace, append, remove, line_comment, head_comment}
 use Rattle.yq_expr.specs.Rooms.{room_of}
 use Rattle.yq_expr.specs.declared.program.CommentPlace.TheVariants as comments
-use Rattle.yq_splice.specs.CommentWays.{white_segment, line_comment_text, line_comment_segments, line_comment_way}
-use Rattle.yq_splice.specs.Done.{IsDone, ArePieces}
+use Rattle.yq_splice.specs.CommentWays.{white_segment, line_comment_segments, line_comment_way}
+use Rattle.yq_splice.specs.Done.{ArePieces}
 use Rattle.yq_splice.specs.Operands.{HasOperand}
 use Rattle.yq_splice.specs.Script.{Segment, keep, put, old_text, new_text}
 use Rattle.yq_splice.specs.Ways.{IsWay, ReadsAfter}
-use Rattle.yq_splice.proofs.CommentPieceLaws.{nothing, shown_piece, byte_then, line_text_is}
+use Rattle.yq_splice.proofs.CommentPieceLaws.{nothing, byte_then, line_text_is}
 use Rattle.yq_splice.proofs.CommentReadLaws.{quiet_none, comment_behind, comment_is}
 use Rattle.yq_splice.proofs.CommentRowLaws.{count_front, rows_front, IsFound, row_found, found_text, found_row, cut_is, HasRow, line_whole, end_parts, line_some, some_steps}
 use Rattle.yq_splice.proofs.DoneLaws.{document_done}

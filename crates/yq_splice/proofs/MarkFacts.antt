@@ -1,38 +1,36 @@
 -- What stands round a key or dash: its tail, the rows behind it, and what may be written under it.
-use Rattle.std.proofs.Common.{◌≡◌, ℕ, ℤ, pos, suc, ◌&&◌, not, Bool, true, false, List, [], ◌∷◌, ◌++◌, length, take, drop, Option, Some, None, refl, sym, ap, ◌∙◌, subst, append_assoc}
+use Rattle.std.proofs.Common.{◌≡◌, ℕ, pos, suc, not, true, false, List, [], ◌∷◌, ◌++◌, take, drop, Some, refl, sym, ap, ◌∙◌, subst, append_assoc}
 use Rattle.std.proofs.lemmas.Bool.{false≢true}
 use Rattle.std.specs.Str.{is_utf8}
-use Rattle.yq_scalar.specs.Characters.{is_text, pairs_returns}
+use Rattle.yq_scalar.specs.Characters.{pairs_returns}
 use Rattle.yq_scalar.specs.Paths.{Step}
 use Rattle.yq_scalar.specs.Piece.{deeper}
 use Rattle.yq_scalar.specs.Plain.{ends_plain}
 use Rattle.yq_scalar.specs.Text.{is_empty}
 use Rattle.yq_scalar.proofs.Bools.{and_true, guard_then}
-use Rattle.yq_lines.specs.Comments.{head_comment}
 use Rattle.yq_lines.specs.Group.{group, is_fine, level_or}
 use Rattle.yq_lines.specs.Outline.{IsEven}
 use Rattle.yq_rows.specs.Exchange.{allows_first, asked_behind, row_front}
-use Rattle.yq_rows.specs.Grammar.{Limit, unlimited, AreRows, IsContent, IsCut, IsTail, is_entry, limit_after}
+use Rattle.yq_rows.specs.Grammar.{Limit, unlimited, AreRows, IsTail, is_entry, limit_after}
 use Rattle.yq_rows.specs.Rows as rows
 use Rattle.yq_rows.specs.Rows.{Content, Row, mark_column, parent_indent, print_row, rows_text, Part, part_text, Cut, cut_text}
 use Rattle.yq_rows.specs.Seams.{ends_part}
-use Rattle.yq_rows.specs.View.{content_cut, slices}
+use Rattle.yq_rows.specs.View.{slices}
 use Rattle.yq_rows.proofs.CharacterLaws.{pairs_back}
 use Rattle.yq_rows.proofs.splices.PartPlaces.{part_ends}
 use Rattle.yq_tree.specs.CommentPlaces.{LineEnd, end_before, line_text, end_of_line}
 use Rattle.yq_tree.specs.Documents.{document_parts}
 use Rattle.yq_tree.specs.Lines.{lines_of}
-use Rattle.yq_tree.specs.MarkPlaces.{MarkPlace, column_of, behind_mark, mark_at}
+use Rattle.yq_tree.specs.MarkPlaces.{MarkPlace, column_of, behind_mark}
 use Rattle.yq_tree.specs.PlacedRows.{PlacedRow, placed_row}
 use Rattle.yq_tree.specs.Reading.{outline_of, read_at}
-use Rattle.yq_tree.proofs.CommentEndLaws.{row_line}
 use Rattle.yq_tree.proofs.FoundLines.{each}
 use Rattle.yq_tree.proofs.LineEndLaws.{line_tail, end_of_tail, tail_is_end}
 use Rattle.yq_tree.proofs.PrintedTexts.{same}
 use Rattle.yq_tree.proofs.ReadLaws.{text_takes}
 use Rattle.yq_tree.proofs.RowPathLaws.{document_fine}
 use Rattle.yq_change.specs.Changed.{put_document}
-use Rattle.yq_change.specs.DocumentRows.{behind_document, part_number}
+use Rattle.yq_change.specs.DocumentRows.{part_number}
 use Rattle.yq_change.specs.TextPieces.{IsPiece}
 use Rattle.yq_change.proofs.InlineReplaceLaws.{entry_mark, next_stands, own_rows, tail_ends_plain}
 use Rattle.yq_change.proofs.PartLaws.{document_known}

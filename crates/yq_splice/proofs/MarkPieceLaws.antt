@@ -1,12 +1,12 @@
 -- The text round a key or dash is in pieces.
-use Rattle.std.proofs.Common.{◌≡◌, ℕ, ◌<◌, Bool, true, false, List, [], ◌∷◌, ◌++◌, length, replicate, take, drop, refl, sym, ap, ◌∙◌, subst, arith, append_assoc, append-nil}
+use Rattle.std.proofs.Common.{◌≡◌, ℕ, ◌<◌, true, false, List, [], ◌∷◌, ◌++◌, length, replicate, refl, sym, ap, ◌∙◌, subst, arith, append_assoc, append-nil}
 use Rattle.std.proofs.Math.Seq.{take-append_seam}
 use Rattle.std.proofs.lemmas.Bool.{false≢true}
 use Rattle.std.proofs.lemmas.Str.{IsUtf8-take}
 use Rattle.std.specs.Str.{IsUtf8}
 use Rattle.yq_scalar.specs.Characters.{pairs_returns}
 use Rattle.yq_scalar.specs.Paths.{Step}
-use Rattle.yq_scalar.specs.Text.{front, is_empty, is_feed, is_return, ends_line, NoneIn}
+use Rattle.yq_scalar.specs.Text.{front, is_feed, is_return, ends_line, NoneIn}
 use Rattle.yq_scalar.proofs.Bools.{and_true}
 use Rattle.yq_rows.specs.Exchange.{row_front}
 use Rattle.yq_rows.specs.Gap.{IsComment}
@@ -18,7 +18,7 @@ use Rattle.yq_rows.proofs.CharacterLaws.{pairs_back}
 use Rattle.yq_rows.proofs.LineEnds.{white_none}
 use Rattle.yq_rows.proofs.NodePieces.{BeginsAscii, before_ascii, behind_ascii, tail_ascii}
 use Rattle.yq_rows.proofs.seams.ScalarSeams.{ends_return}
-use Rattle.yq_tree.specs.MarkPlaces.{MarkPlace, behind_mark}
+use Rattle.yq_tree.specs.MarkPlaces.{MarkPlace}
 use Rattle.yq_tree.proofs.LineEndLaws.{comment_more}
 use Rattle.yq_change.specs.TextPieces.{IsPiece, BeginsPiece}
 use Rattle.yq_change.proofs.LineFrontLaws.{clean_cut, ends_more, line_ends_clean}

@@ -1,21 +1,19 @@
 -- Rows in the place of that of a key or dash: the document with another value there.
-use Rattle.std.proofs.Common.{◌≡◌, ℕ, suc, ◌+◌, ◌<◌, ◌≤◌, Bool, true, false, List, [], ◌∷◌, ◌++◌, length, take, drop, Option, Some, None, refl, sym, ap, ◌∙◌, subst, arith, append_assoc, append-nil, length-append}
+use Rattle.std.proofs.Common.{◌≡◌, ℕ, suc, ◌+◌, ◌<◌, ◌≤◌, Bool, true, false, List, [], ◌∷◌, ◌++◌, length, Option, Some, None, refl, sym, ap, ◌∙◌, subst, arith, append_assoc, append-nil}
 use Rattle.std.proofs.lemmas.Bool.{false≢true, ltb-true}
-use Rattle.std.specs.List.{slice_get}
 use Rattle.yq_scalar.specs.Paths.{Step, change}
 use Rattle.yq_scalar.specs.Text.{is_empty}
-use Rattle.yq_scalar.specs.Tree.{Label, Node}
+use Rattle.yq_scalar.specs.Tree.{Node}
 use Rattle.yq_inline.specs.Alike.{Alike}
 use Rattle.yq_inline.specs.Nodes as inline
 use Rattle.yq_lines.specs.Anchors.{HaveOneAnchorEach}
 use Rattle.yq_lines.specs.Comments.{head_comment, line_comment}
-use Rattle.yq_lines.specs.Group.{group, is_fine}
 use Rattle.yq_lines.specs.Outline as outline
 use Rattle.yq_lines.specs.Outline.{Line, level, Outline, flatten, IsEven, anchored, head_or, label, null_node, value}
 use Rattle.yq_lines.specs.Places.{Found, content}
-use Rattle.yq_rows.specs.Exchange.{allows_first, asked_behind, row_front}
+use Rattle.yq_rows.specs.Exchange.{allows_first, asked_behind}
 use Rattle.yq_rows.specs.Gap.{IsGap}
-use Rattle.yq_rows.specs.Grammar.{Limit, unlimited, allows, AreRows, no_rows}
+use Rattle.yq_rows.specs.Grammar.{Limit, allows, AreRows, no_rows}
 use Rattle.yq_rows.specs.Rows as rows
 use Rattle.yq_rows.specs.Rows.{Content, Nothing, Inline, Block, Row, mark_column, parent_indent, rows_text, Part, part_text, Cut, cut_text}
 use Rattle.yq_rows.specs.Splices.{behind_first, first_gap}
@@ -27,13 +25,12 @@ use Rattle.yq_tree.specs.Lines.{content_anchor, mark_line, tail_of, lines_of}
 use Rattle.yq_tree.specs.MarkPlaces.{MarkPlace}
 use Rattle.yq_tree.specs.Nodes.{anchor_of}
 use Rattle.yq_tree.specs.Ready.{begins_no_node}
-use Rattle.yq_tree.specs.Reading.{outline_of, read_at, root_of}
-use Rattle.yq_tree.specs.RowPaths.{spelled, IsReadable}
+use Rattle.yq_tree.specs.Reading.{root_of}
+use Rattle.yq_tree.specs.RowPaths.{IsReadable}
 use Rattle.yq_tree.specs.TreeEdits.{led, replaced}
 use Rattle.yq_tree.proofs.RunSpans.{rows_then}
 use Rattle.yq_change.specs.Appends.{inserted}
 use Rattle.yq_change.specs.Changed.{IsChanged, put_document}
-use Rattle.yq_change.specs.DocumentRows.{behind_document}
 use Rattle.yq_change.specs.Edited.{LineFits}
 use Rattle.yq_change.specs.Moved.{dash_lines}
 use Rattle.yq_change.specs.Replaces.{RowsReplace, TakesLines}
@@ -50,7 +47,6 @@ use Rattle.yq_change.proofs.ReplaceLaws.{node_rows_replaced, rows_before_some}
 use Rattle.yq_block.specs.BlockPlaces.{Replaces}
 use Rattle.yq_block.proofs.LaidRows.{rows_append}
 use Rattle.yq_expr.specs.Operations.{replace}
-use Rattle.yq_splice.specs.Done.{IsDone}
 use Rattle.yq_splice.specs.Ways.{ReadsAfter}
 use Rattle.yq_splice.proofs.DoneLaws.{document_done}
 use Rattle.yq_splice.proofs.MarkFacts.{fine, even, p, front, r, back, end, rest, limit, rows_there, near, indent, put_text}

@@ -1,43 +1,31 @@
 -- The row of a key or dash behind which an inline node, or nothing, is written for a node.
 use Rattle.std.proofs.Common.{◌≡◌, ℕ, ℤ, suc, ◌+◌, ◌&&◌, not, Bool, true, false, cond, eqb, List, [], ◌∷◌, ◌++◌, length, take, drop, Option, Some, None, refl, sym, ap, ◌∙◌, subst, arith, length-append, append_assoc}
 use Rattle.std.proofs.lemmas.Bool.{false≢true, eqb-true}
-use Rattle.std.specs.List.{slice_get}
-use Rattle.std.specs.Str.{is_utf8}
 use Rattle.yq_scalar.specs.Answers.{◌>>=◌}
 use Rattle.yq_scalar.specs.Paths.{Step}
 use Rattle.yq_scalar.specs.Text.{is_empty}
 use Rattle.yq_scalar.proofs.Bools.{bind_some, guard_then}
-use Rattle.yq_lines.specs.Ends.{found_line, line_of}
-use Rattle.yq_lines.specs.Group.{group, is_fine}
-use Rattle.yq_lines.specs.Outline.{Line}
+use Rattle.yq_lines.specs.Ends.{found_line}
 use Rattle.yq_lines.specs.Places.{lines_before, Found, find}
-use Rattle.yq_rows.specs.Exchange.{asked_behind, row_front}
-use Rattle.yq_rows.specs.Grammar.{unlimited, AreRows, IsMark, IsTail, is_entry}
+use Rattle.yq_rows.specs.Exchange.{row_front}
+use Rattle.yq_rows.specs.Grammar.{IsMark, is_entry}
 use Rattle.yq_rows.specs.Rows as rows
 use Rattle.yq_rows.specs.Rows.{Content, Nothing, Inline, Block, Row, content_text, mark_column, parent_indent, rows_text, Part, part_text, Cut, cut_text}
 use Rattle.yq_rows.specs.Seams.{is_block}
-use Rattle.yq_rows.specs.View.{Slices, content_cut, slices, colon_of}
-use Rattle.yq_tree.specs.CommentPlaces.{LineEnd, line_text, end_of_line, line_end}
-use Rattle.yq_tree.specs.Documents.{document_parts}
+use Rattle.yq_rows.specs.View.{content_cut, slices, colon_of}
+use Rattle.yq_tree.specs.CommentPlaces.{LineEnd, end_of_line, line_end}
 use Rattle.yq_tree.specs.InlinePlaces.{InlinePlace, mark_inline, inline_from}
-use Rattle.yq_tree.specs.Lines.{lines_from, lines_of, row_lines}
-use Rattle.yq_tree.specs.MarkPlaces.{MarkPlace, column_of, behind_mark, mark_at, mark_in, mark_place}
+use Rattle.yq_tree.specs.Lines.{lines_of, row_lines}
+use Rattle.yq_tree.specs.MarkPlaces.{MarkPlace, column_of, mark_at, mark_in, mark_place}
 use Rattle.yq_tree.specs.PlacedRows.{PlacedRow, placed_row, row_of_path}
 use Rattle.yq_tree.specs.Reading.{outline_of, read_at}
 use Rattle.yq_tree.specs.Seats.{Seat, seat, seat_of}
-use Rattle.yq_tree.proofs.FoundLines.{each}
-use Rattle.yq_tree.proofs.LineEndLaws.{line_tail, end_of_tail, tail_is_end}
 use Rattle.yq_tree.proofs.PrintedTexts.{none_some, same}
-use Rattle.yq_tree.proofs.ReadLaws.{text_takes}
-use Rattle.yq_tree.proofs.RowPathLaws.{document_fine}
-use Rattle.yq_change.specs.Changed.{put_document}
-use Rattle.yq_change.specs.DocumentRows.{IsDocumentPart, behind_document}
+use Rattle.yq_change.specs.DocumentRows.{IsDocumentPart}
 use Rattle.yq_change.specs.InlineRows.{LeadsToEntry, LeadsToContent, IsRowPlace}
-use Rattle.yq_change.proofs.InlineReplaceLaws.{entry_mark, own_rows}
 use Rattle.yq_change.proofs.InlineRowLaws.{inline_placed}
 use Rattle.yq_change.proofs.LineLaws.{row_count}
-use Rattle.yq_change.proofs.PartLaws.{document_known}
-use Rattle.yq_change.proofs.PathLaws.{seat_line, seat_number}
+use Rattle.yq_change.proofs.PathLaws.{seat_number}
 use Rattle.yq_splice.specs.BlockWriting.{mark_of_node, block_mark}
 use Rattle.yq_splice.proofs.CommentRowLaws.{count_front, IsFound, row_found}
 

@@ -1,5 +1,5 @@
 -- The text round a place may be read with another text there, if it isn't too long.
-use Rattle.std.proofs.Common.{◌≡◌, inl, inr, ℕ, ℤ, ◌+◌, ◌≤◌, eqb, not, cond, replicate, List, [], ◌∷◌, ◌++◌, length, Option, Some, None, Bool, true, false, refl, sym, ap, ◌∙◌, subst, append-nil, eqb-true}
+use Rattle.std.proofs.Common.{◌≡◌, inl, inr, ℕ, ℤ, ◌≤◌, eqb, not, cond, replicate, List, [], ◌∷◌, ◌++◌, length, Option, Some, None, Bool, true, false, refl, sym, ap, ◌∙◌, subst, append-nil, eqb-true}
 use Rattle.std.proofs.lemmas.Bool.{false≢true, false_from_ne_true}
 use Rattle.std.proofs.lemmas.Str.{IsUtf8-append, is_utf8-from_IsUtf8}
 use Rattle.std.specs.Str.{chars, IsUtf8}
@@ -11,12 +11,11 @@ use Rattle.yq_scalar.proofs.Bools.{bind_some, guard_then}
 use Rattle.yq_inline.specs.Nodes.{Node, empty, alias, scalar, coll, anchored, node_text, in_name, is_bare, begins_content, IsName, IsLead, IsNode}
 use Rattle.yq_inline.specs.Scalars.{begins_scalar}
 use Rattle.yq_inline.proofs.PieceLaws.{front_not, scalar_begins}
-use Rattle.yq_rows.specs.Exchange.{asked_behind, row_front, HasPieces}
-use Rattle.yq_rows.specs.Grammar.{unlimited, AreRows, IsContent, IsMark, IsRow, is_entry, may_be_alone}
+use Rattle.yq_rows.specs.Exchange.{row_front, HasPieces}
+use Rattle.yq_rows.specs.Grammar.{IsContent, IsMark, may_be_alone}
 use Rattle.yq_rows.specs.Rows as rows
 use Rattle.yq_rows.specs.Rows.{Content, Nothing, Inline, Block, Row, mark_text, dashes_text, parent_indent, rows_text, Part, Cut, cut_text}
 use Rattle.yq_rows.proofs.CharacterLaws.{EndsBlack, ends_after, text_exchanged, text_inserted}
-use Rattle.yq_tree.specs.Documents.{document_parts}
 use Rattle.yq_tree.specs.InlinePlaces.{InlinePlace, written_text, apart_from, node_inline, mark_inline, inline_from}
 use Rattle.yq_tree.specs.PathPieces.{printed_document}
 use Rattle.yq_tree.specs.Reading.{read_at}
@@ -34,7 +33,6 @@ use Rattle.yq_change.proofs.InlineRowLaws.{inline_placed}
 use Rattle.yq_change.proofs.TextPieceLaws.{pieces_joined, text_is_piece}
 use Rattle.yq_splice.proofs.PlaceSpans.{place_pieces}
 use Rattle.std.specs.Str.{is_utf8}
-use Rattle.std.specs.List.{slice_get}
 
 -- a text may be put between two others: behind a byte that is no CR, or in the place of one that no LF begins
 abbrev FrontOf : Option (List ℕ) → List ℕ → List ℕ → Type 0

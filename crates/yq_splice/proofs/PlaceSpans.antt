@@ -1,9 +1,9 @@
 -- The place of an inline node, or of nothing, stands between whole characters of a text.
 use Rattle.std.proofs.Common.{◌≡◌, ℕ, ◌+◌, ◌-◌, ◌≤◌, eqb, List, [], ◌∷◌, ◌++◌, length, take, drop, map, Option, Some, None, is_some, option_map, ◌||◌, Bool, true, false, cond, refl, sym, ap, ◌∙◌, subst, arith, append_assoc, length-append}
 use Rattle.std.proofs.lemmas.Str.{IsUtf8-drop, IsUtf8-from_is_utf8}
-use Rattle.std.proofs.Math.Seq.{take-append_seam, drop-append_seam}
+use Rattle.std.proofs.Math.Seq.{drop-append_seam}
 use Rattle.std.specs.List.{slice_get}
-use Rattle.std.specs.Str.{is_utf8, IsUtf8, IsCharBoundary}
+use Rattle.std.specs.Str.{is_utf8, IsUtf8}
 use Rattle.yq_scalar.specs.Answers.{◌>>=◌}
 use Rattle.yq_scalar.specs.Paths.{Step}
 use Rattle.yq_scalar.proofs.Bools.{bind_some, guard_then}
@@ -14,16 +14,15 @@ use Rattle.yq_rows.specs.Rows.{Content, Nothing, Inline, Block, Row, Part, Cut, 
 use Rattle.yq_rows.specs.View.{rows_of}
 use Rattle.yq_lines.specs.Ends.{lines_end, reached}
 use Rattle.yq_lines.specs.Group.{group, is_fine}
-use Rattle.yq_lines.specs.Outline.{Line}
 use Rattle.yq_lines.specs.Spots.{is_bare}
 use Rattle.yq_tree.specs.Documents.{document_parts}
-use Rattle.yq_tree.specs.EntryReading.{head_end, head_extent}
+use Rattle.yq_tree.specs.EntryReading.{head_end}
 use Rattle.yq_tree.specs.Extents.{head_place}
 use Rattle.yq_tree.specs.InlinePlaces.{InlinePlace, written_text, inline_in, inline_from}
-use Rattle.yq_tree.specs.InlineReading.{InlineExtent, InlineTelling, extent_of, content_extent, row_extent, line_extent, lines_extent, entry_extent, extent_from, extent_in}
+use Rattle.yq_tree.specs.InlineReading.{InlineExtent, extent_of, content_extent, row_extent, line_extent, lines_extent, entry_extent, extent_from, extent_in}
 use Rattle.yq_tree.specs.Lines.{lines_of}
 use Rattle.yq_tree.specs.Reading.{all_documents, read_at}
-use Rattle.yq_tree.specs.Seats.{Seat, seat, document_row}
+use Rattle.yq_tree.specs.Seats.{seat, document_row}
 use Rattle.yq_tree.specs.PathPieces.{PrintedDocument, printed_document}
 use Rattle.yq_tree.specs.PrintedLines.{printed_lines, line_in}
 use Rattle.yq_tree.proofs.EntryPlaceLaws.{row_there}

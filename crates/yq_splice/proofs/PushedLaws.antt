@@ -1,5 +1,5 @@
 -- Segments added to others.
-use Rattle.std.proofs.Common.{◌≡◌, ℕ, Bool, true, false, cond, List, [], ◌∷◌, ◌++◌, map, refl, sym, ap, ◌∙◌, append_assoc, append-nil, replicate}
+use Rattle.std.proofs.Common.{◌≡◌, ℕ, true, false, List, [], ◌∷◌, ◌++◌, refl, sym, ap, ◌∙◌, append_assoc, append-nil}
 use Rattle.std.proofs.lemmas.List.{map-append}
 use Rattle.yq_scalar.specs.Block.{Lines}
 use Rattle.yq_scalar.specs.BlockRepair.{is_short, is_outside}
@@ -8,7 +8,7 @@ use Rattle.yq_scalar.specs.Text.{joined, lines_of}
 use Rattle.yq_scalar.proofs.LineLaws.{joined_lines}
 use Rattle.yq_tree.specs.RemovalPlaces.{Seam}
 use Rattle.yq_splice.specs.Removing.{indented, blank_mended, comment_mended, lines_mended}
-use Rattle.yq_splice.specs.Script.{Segment, keep, put}
+use Rattle.yq_splice.specs.Script.{Segment, keep}
 use Rattle.yq_splice.specs.Segments.{segment_of, segments_of}
 use Rattle.yq_splice.specs.declared.script.segment.Segment.{Segment as Held}
 

@@ -1,5 +1,5 @@
 -- One of several items or entries taken out of a text, by its segments.
-use Rattle.std.proofs.Common.{◌≡◌, ◌⊎◌, inl, inr, ℕ, zero, suc, ◌-◌, ◌≤◌, Bool, true, false, cond, ◌||◌, List, [], ◌∷◌, ◌++◌, length, take, map, replicate, Option, Some, None, refl, sym, ap, ◌∙◌, subst, append_assoc, append-nil}
+use Rattle.std.proofs.Common.{◌≡◌, inl, inr, ℕ, zero, suc, ◌-◌, ◌≤◌, Bool, true, false, cond, ◌||◌, List, [], ◌∷◌, ◌++◌, length, take, map, replicate, Option, Some, None, refl, sym, ap, ◌∙◌, subst, append_assoc, append-nil}
 use Rattle.std.proofs.lemmas.Bool.{false≢true}
 use Rattle.std.proofs.lemmas.List.{take-append-drop}
 use Rattle.std.proofs.lemmas.Slice.Eq.{bytes_eq-Decides}
@@ -22,18 +22,17 @@ use Rattle.yq_tree.specs.Reading as reading
 use Rattle.yq_tree.specs.Reading.{documents, read_at, root_of}
 use Rattle.yq_tree.specs.RemovalPlaces.{Seam, Removal, removal_place, has_several, has_others, has_others_at}
 use Rattle.yq_tree.specs.TreeEdits.{at_end}
-use Rattle.yq_change.specs.Changed.{put_document}
-use Rattle.yq_change.specs.Conditions.{anchors_in, aliases_in, AreSpared}
+use Rattle.yq_change.specs.Conditions.{aliases_in, AreSpared}
 use Rattle.yq_change.specs.RemovalChanges.{mended, MayTakeOut, IsTakenOut}
 use Rattle.yq_change.proofs.LeadLaws.{block_lead_goes}
 use Rattle.yq_change.proofs.RemovalChangeLaws.{removal_stands, entry_taken_out}
-use Rattle.yq_expr.specs.Changes.{refers_to, is_used, is_used_in}
+use Rattle.yq_expr.specs.Changes.{refers_to, is_used}
 use Rattle.yq_expr.specs.Fits.{Fits}
 use Rattle.yq_expr.specs.Operations.{Operation, replace, append, remove, line_comment, head_comment}
 use Rattle.yq_expr.specs.Rooms.{room_of}
 use Rattle.yq_splice.specs.Done.{IsDone}
 use Rattle.yq_splice.specs.Operands.{HasOperand}
-use Rattle.yq_splice.specs.Removing.{indented, blank_mended, comment_mended, lines_mended, gap_mended, removed, removed_at, remove_way}
+use Rattle.yq_splice.specs.Removing.{indented, lines_mended, gap_mended, removed, removed_at, remove_way}
 use Rattle.yq_splice.specs.Script.{Segment, keep, put, old_text, new_text}
 use Rattle.yq_splice.specs.Ways.{ReadsAfter, IsWay}
 use Rattle.yq_splice.proofs.DoneLaws.{document_done}

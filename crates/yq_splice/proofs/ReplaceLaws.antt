@@ -1,6 +1,6 @@
 -- Replacing inline nodes by inline nodes is a way.
-use Rattle.std.proofs.Common.{◌≡◌, ℕ, zero, ◌+◌, ◌≤◌, eqb, cond, List, [], ◌∷◌, ◌++◌, length, map, Option, Some, None, option_map, Bool, true, false, refl, sym, ap, ◌∙◌, subst, arith, append-nil}
-use Rattle.std.proofs.lemmas.Bool.{false≢true, ltb-false}
+use Rattle.std.proofs.Common.{◌≡◌, ℕ, ◌≤◌, eqb, cond, List, [], ◌∷◌, ◌++◌, length, Option, Some, None, Bool, true, false, refl, sym, ap, ◌∙◌, subst, arith, append-nil}
+use Rattle.std.proofs.lemmas.Bool.{false≢true}
 use Rattle.std.specs.List.{slice_get}
 use Rattle.std.specs.Str.{is_utf8}
 use Rattle.yq_scalar.specs.Answers.{◌>>=◌}
@@ -21,9 +21,8 @@ use Rattle.yq_inline.specs.Nodes.{node_text}
 use Rattle.yq_inline.specs.Scalars.{style_of}
 use Rattle.yq_inline.specs.Valued.{IsValueTree}
 use Rattle.yq_inline.specs.Written.{flow_of, flow_text}
-use Rattle.yq_rows.specs.Grammar.{no_rows}
 use Rattle.yq_rows.specs.Rows.{Part, Cut, cut_text}
-use Rattle.yq_tree.specs.Documents.{Document, document_parts, lead_of, begins_bare, has_begin}
+use Rattle.yq_tree.specs.Documents.{Document, document_parts, lead_of}
 use Rattle.yq_tree.specs.InlinePlaces.{InlinePlace, written_text, apart_from, inline_from}
 use Rattle.yq_tree.specs.PathPieces.{printed_document}
 use Rattle.yq_tree.specs.Reading as reading
@@ -36,7 +35,7 @@ use Rattle.yq_change.specs.Changed.{changed, IsChanged, put_document}
 use Rattle.yq_change.specs.DocumentRows.{IsDocumentPart}
 use Rattle.yq_change.specs.InlineRows.{IsValueNode, place_text, IsInlineReplaced}
 use Rattle.yq_change.specs.Rooms.{is_block_root}
-use Rattle.yq_change.specs.SoundRoots.{IsNewValue, MayReplace}
+use Rattle.yq_change.specs.SoundRoots.{IsNewValue}
 use Rattle.yq_change.specs.TextPieces.{IsPiece}
 use Rattle.yq_change.proofs.InlineDoneLaws.{inline_replaced}
 use Rattle.yq_change.proofs.LeadLaws.{same_lead_goes}
@@ -45,11 +44,11 @@ use Rattle.yq_expr.specs.Fits.{Fits}
 use Rattle.yq_expr.specs.Operations.{Operation, replace, append, remove, line_comment, head_comment}
 use Rattle.yq_expr.specs.Rooms.{room_of}
 use Rattle.yq_lines.specs.Anchors.{names_of}
-use Rattle.yq_lines.specs.Outline.{anchored, first_anchor}
+use Rattle.yq_lines.specs.Outline.{first_anchor}
 use Rattle.yq_splice.specs.Operands.{HasOperand}
-use Rattle.yq_splice.specs.Replacing.{node_in, scalar_in, are_same, is_kept, flow_written, value_written, place_segments, replace_at, replace_way}
+use Rattle.yq_splice.specs.Replacing.{node_in, scalar_in, are_same, is_kept, flow_written, value_written, replace_at, replace_way}
 use Rattle.yq_splice.specs.Script.{Segment, old_text, new_text}
-use Rattle.yq_splice.specs.Style.{is_same, new_style}
+use Rattle.yq_splice.specs.Style.{new_style}
 use Rattle.yq_splice.specs.Ways.{IsWay, ReadsAfter}
 use Rattle.yq_splice.proofs.DoneLaws.{nth_map, document_done}
 use Rattle.yq_splice.proofs.FitLaws.{new_value, inside_spared, tree_unique}

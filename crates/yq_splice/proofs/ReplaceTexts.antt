@@ -1,7 +1,6 @@
 -- The text round an inline place, with what is written there or another text.
-use Rattle.std.proofs.Common.{◌≡◌, ℕ, List, [], ◌∷◌, ◌++◌, Option, Some, Bool, true, false, refl, sym, ap, ◌∙◌, append-nil}
+use Rattle.std.proofs.Common.{◌≡◌, ℕ, List, ◌++◌, Some, true, ap, ◌∙◌, append-nil}
 use Rattle.std.specs.Str.{is_utf8}
-use Rattle.yq_scalar.specs.Answers.{◌>>=◌}
 use Rattle.yq_scalar.specs.Paths.{Step}
 use Rattle.yq_scalar.proofs.Bools.{bind_some, guard_then}
 use Rattle.yq_rows.specs.Rows.{Cut, cut_text}

@@ -1,5 +1,5 @@
 -- A document of which one node is exchanged for itself is the same.
-use Rattle.std.proofs.Common.{◌≡◌, ℕ, zero, suc, cond, List, [], ◌∷◌, Option, Some, None, Bool, true, false, refl, sym, ap, ◌∙◌, subst}
+use Rattle.std.proofs.Common.{◌≡◌, ℕ, zero, suc, cond, List, [], ◌∷◌, Option, Some, Bool, true, false, refl, sym, ap, subst}
 use Rattle.std.specs.List.{slice_get}
 use Rattle.std.specs.Prelude.{option_and_then}
 use Rattle.yq_scalar.specs.Paths.{Step, is_here, further, child_at, change_child, change, node_at}

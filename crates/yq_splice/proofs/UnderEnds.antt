@@ -1,9 +1,9 @@
 -- The end of the line of an item or entry is made of pieces of the text.
-use Rattle.std.proofs.Common.{◌≡◌, ℕ, suc, List, [], ◌∷◌, ◌++◌, Some, refl, sym, ap, ◌∙◌, subst, append_assoc}
+use Rattle.std.proofs.Common.{◌≡◌, ℕ, List, [], ◌∷◌, ◌++◌, Some, sym, ap, ◌∙◌, subst, append_assoc}
 use Rattle.yq_scalar.specs.Paths.{Step}
 use Rattle.yq_rows.specs.Exchange.{asked_behind}
-use Rattle.yq_rows.specs.Grammar.{IsRow, unlimited}
-use Rattle.yq_rows.specs.Rows.{Row, part_text, print_row, rows_text, Cut, cut_text}
+use Rattle.yq_rows.specs.Grammar.{unlimited}
+use Rattle.yq_rows.specs.Rows.{Row, print_row, rows_text, Cut, cut_text}
 use Rattle.yq_rows.specs.View.{slices}
 use Rattle.yq_tree.specs.CommentPlaces.{LineEnd}
 use Rattle.yq_tree.specs.PlacedRows.{PlacedRow}

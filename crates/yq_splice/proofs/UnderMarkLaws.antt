@@ -1,13 +1,12 @@
 -- A collection on the lines under a key or dash.
-use Rattle.std.proofs.Common.{◌≡◌, ℕ, suc, ◌+◌, ◌*◌, ◌<◌, ◌≤◌, Bool, true, false, cond, List, [], ◌∷◌, ◌++◌, take, drop, replicate, Option, Some, None, refl, sym, ap, ◌∙◌, subst, arith, append_assoc, append-nil}
+use Rattle.std.proofs.Common.{◌≡◌, ℕ, ◌+◌, ◌<◌, ◌≤◌, true, cond, List, [], ◌∷◌, ◌++◌, replicate, Option, Some, None, refl, sym, ap, ◌∙◌, subst, arith, append_assoc, append-nil}
 use Rattle.std.proofs.lemmas.Bool.{false≢true}
 use Rattle.yq_scalar.specs.BlockWritten.{break_text}
 use Rattle.yq_scalar.specs.Paths.{Step}
 use Rattle.yq_scalar.specs.Tree.{Node}
-use Rattle.yq_inline.specs.Valued.{IsValueTree}
 use Rattle.yq_lines.specs.Anchors.{HaveOneAnchorEach}
-use Rattle.yq_lines.specs.Comments.{head_comment, line_comment}
-use Rattle.yq_lines.specs.Outline.{Line, level, Outline, flatten, Stands}
+use Rattle.yq_lines.specs.Comments.{head_comment}
+use Rattle.yq_lines.specs.Outline.{Line, level, Stands}
 use Rattle.yq_lines.proofs.ByRules.{rules_give}
 use Rattle.yq_rows.specs.Exchange.{row_front, with_content}
 use Rattle.yq_rows.specs.Grammar.{IsTail, is_entry}
@@ -27,13 +26,13 @@ use Rattle.yq_block.specs.declared.layout.Layout.{Layout}
 use Rattle.yq_block.specs.BlockPlaces.{IsAbove, Replaces, at_mark}
 use Rattle.yq_block.specs.BlockRows.{column_below, node_rows}
 use Rattle.yq_block.specs.BlockText.{block_value}
-use Rattle.yq_block.specs.BlockValues.{HasNearKeys, InRows, IsEnd, IsWritable, entry_level, level_at}
+use Rattle.yq_block.specs.BlockValues.{HasNearKeys, InRows, IsWritable, entry_level, level_at}
 use Rattle.yq_block.proofs.FitLaws.{anchors_fit, keys_fit, node_fit}
 use Rattle.yq_block.proofs.LineLaws.{lines_deeper, node_stands}
 use Rattle.yq_block.proofs.PlaceLaws.{under_laid}
 use Rattle.yq_block.proofs.RowLaws.{deeper_laid}
 use Rattle.yq_block.proofs.TextLaws.{value_spelled}
-use Rattle.yq_splice.specs.BlockWriting.{below_mark, lines_below, under_segments}
+use Rattle.yq_splice.specs.BlockWriting.{below_mark, under_segments}
 use Rattle.yq_splice.specs.Script.{new_text}
 use Rattle.yq_splice.proofs.BrokenTails.{broken, broken_tail, broken_comment, broken_apart, end_tail, quiet_tail}
 use Rattle.yq_splice.proofs.MarkFacts.{p, front, r, rest, limit, rows_there, entry, tail, there, column_is, key_is, pairs, ends}

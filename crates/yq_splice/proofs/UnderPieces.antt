@@ -1,5 +1,5 @@
 -- The text with something written behind a key or dash, and without the lines under that, may be read.
-use Rattle.std.proofs.Common.{◌≡◌, ◌⊎◌, inl, inr, ℕ, ◌≤◌, List, [], ◌∷◌, ◌++◌, length, Some, true, refl, sym, ap, ◌∙◌, subst}
+use Rattle.std.proofs.Common.{◌≡◌, ◌⊎◌, inl, inr, ℕ, ◌≤◌, List, [], length, Some, true, refl, sym, subst}
 use Rattle.yq_scalar.specs.Characters.{text_limit}
 use Rattle.yq_scalar.specs.Paths.{Step}
 use Rattle.yq_scalar.specs.declared.block_written.Break.TheVariants.{Lf, CrLf}
@@ -7,10 +7,10 @@ use Rattle.yq_rows.specs.Rows.{Cut, cut_text}
 use Rattle.yq_tree.specs.CommentPlaces.{LineEnd}
 use Rattle.yq_tree.specs.PrintedLines.{last_break}
 use Rattle.yq_tree.specs.Reading.{read_at}
-use Rattle.yq_tree.specs.RemovalPlaces.{OwnRows, Removal, rows_out}
+use Rattle.yq_tree.specs.RemovalPlaces.{Removal}
 use Rattle.yq_tree.specs.RowPaths.{IsReadable}
 use Rattle.yq_change.specs.TextPieces.{IsPiece}
-use Rattle.yq_change.proofs.RemovalPieceLaws.{PiecesLeft, piece_back, pieces_left}
+use Rattle.yq_change.proofs.RemovalPieceLaws.{piece_back, pieces_left}
 use Rattle.yq_change.proofs.TextPieceLaws.{text_is_piece}
 use Rattle.yq_splice.specs.BlockReplacing.{lines_from_end, under_place, under_segments}
 use Rattle.yq_splice.specs.Script.{new_text}

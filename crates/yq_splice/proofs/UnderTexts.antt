@@ -1,22 +1,21 @@
 -- The line of an item or entry and the lines under it, by rows and in the text.
-use Rattle.std.proofs.Common.{◌≡◌, ℕ, suc, ◌+◌, ◌-◌, List, [], ◌∷◌, ◌++◌, length, take, drop, Option, Some, None, option_map, refl, sym, ap, ◌∙◌, subst, arith, append_assoc, append-nil, length-append}
+use Rattle.std.proofs.Common.{◌≡◌, ℕ, suc, ◌+◌, ◌-◌, List, [], ◌∷◌, ◌++◌, length, take, drop, Some, option_map, refl, sym, ap, ◌∙◌, subst, arith, append_assoc, length-append}
 use Rattle.std.proofs.Math.Seq.{take-append_seam}
 use Rattle.yq_scalar.specs.Answers.{◌>>=◌}
 use Rattle.yq_scalar.specs.Paths.{Step}
-use Rattle.yq_rows.specs.Grammar.{AreRows, IsContent, IsRow, IsTail, unlimited}
+use Rattle.yq_rows.specs.Grammar.{AreRows, IsTail, unlimited}
 use Rattle.yq_rows.specs.Exchange.{asked_behind}
 use Rattle.yq_rows.specs.Rows.{Row, parent_indent, rows_text, Cut, cut_text}
-use Rattle.yq_rows.specs.Splices.{behind_first, first_gap}
 use Rattle.yq_rows.specs.View.{slices}
 use Rattle.yq_rows.proofs.seams.SeamLaws.{rows_text-append}
 use Rattle.yq_rows.proofs.splices.SpliceTexts.{first_text}
 use Rattle.yq_tree.specs.CommentPlaces.{LineEnd, end_before, end_of_line, line_end, line_text}
-use Rattle.yq_tree.specs.PlacedRows.{PlacedPart, PlacedRow, placed_document, placed_row}
+use Rattle.yq_tree.specs.PlacedRows.{PlacedPart, PlacedRow, placed_document}
 use Rattle.yq_tree.specs.Reading.{read_at}
 use Rattle.yq_tree.specs.RemovalPlaces.{OwnRows, own_rows, Removal, rows_out, removal_place}
 use Rattle.yq_tree.specs.Seats.{Seat}
 use Rattle.yq_tree.proofs.LineEndLaws.{end_of_tail, line_tail, tail_is_end}
-use Rattle.yq_tree.proofs.PrintedTexts.{map_some, none_some}
+use Rattle.yq_tree.proofs.PrintedTexts.{map_some}
 use Rattle.yq_tree.proofs.RemovalTexts.{texts_then}
 use Rattle.yq_change.specs.DocumentRows.{IsDocumentPart, behind_document}
 use Rattle.yq_change.specs.Unders.{HasUnder}

@@ -1,13 +1,13 @@
 -- The inline nodes of values: scalars in a style of one line, and collections in flow style.
-use Rattle.std.proofs.Common.{◌≡◌, ◌≢◌, ℕ, ℤ, ◌≤◌, eqb, not, cond, List, [], ◌∷◌, ◌++◌, Option, Some, None, Bool, true, false, refl, sym, ap, ◌∙◌, subst, append-nil}
+use Rattle.std.proofs.Common.{◌≡◌, ℕ, ◌≤◌, eqb, not, cond, List, [], ◌∷◌, ◌++◌, Option, Some, Bool, true, false, refl, sym, ap, ◌∙◌, subst, append-nil}
 use Rattle.std.proofs.lemmas.Bool.{false≢true, not-true}
 use Rattle.std.proofs.lemmas.Str.{IsUtf8-nil}
 use Rattle.std.specs.Str.{chars, IsUtf8}
 use lib.Utf8.{encode}
-use Rattle.yq_scalar.specs.Characters.{is_text, pairs_returns}
+use Rattle.yq_scalar.specs.Characters.{pairs_returns}
 use Rattle.yq_scalar.specs.Keys.{depth}
 use Rattle.yq_scalar.specs.Piece.{deeper}
-use Rattle.yq_scalar.specs.PlainText.{is_plain_text, begins_marker}
+use Rattle.yq_scalar.specs.PlainText.{begins_marker}
 use Rattle.yq_scalar.specs.Plain.{holds_break}
 use Rattle.yq_scalar.specs.Scalar.{ScalarText, string_of}
 use Rattle.yq_scalar.specs.Text.{is_marker, separates}
@@ -25,7 +25,7 @@ use Rattle.yq_scalar.proofs.WrittenText.{double_is_line, line_is_text}
 use Rattle.yq_inline.specs.Inline.{depth_limit}
 use Rattle.yq_inline.specs.Nodes as inline
 use Rattle.yq_inline.specs.Nodes.{first_is, key_text, sep_text, node_text, items_text, IsNode}
-use Rattle.yq_inline.specs.Trees.{scalar_node, tree_of, inner}
+use Rattle.yq_inline.specs.Trees.{scalar_node, tree_of}
 use Rattle.yq_inline.specs.Valued.{IsValid, IsLabel, IsValueTree, AreValueTrees, SpellsScalar}
 use Rattle.yq_inline.specs.Written.{scalar_text, flow_key, flow_sep, flow_of, flow_items, flow_text}
 use Rattle.yq_inline.proofs.Alikes.{no_first, no_second, no_third}

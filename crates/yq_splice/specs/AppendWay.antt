@@ -1,13 +1,12 @@
 -- One item or entry more in a block collection that has some (own).
-use Rattle.std.specs.Prelude.{ℕ, List, [], ◌∷◌, ◌++◌, replicate, Option, Some, None, option_map, Bool, true, false}
+use Rattle.std.specs.Prelude.{ℕ, List, [], ◌∷◌, ◌++◌, replicate, Option, None, option_map, Bool, true, false}
 use Rattle.yq_scalar.specs.BlockWritten.{break_text}
 use Rattle.yq_scalar.specs.Tree.{Node}
-use Rattle.yq_rows.specs.Rows.{Cut}
 use Rattle.yq_tree.specs.CollectionEnds.{CollectionEnd, collection_end}
 use Rattle.yq_block.specs.declared.layout.Layout.{Layout}
 use Rattle.yq_block.specs.Alone.{alone}
 use Rattle.yq_block.specs.BlockText.{block_value}
-use Rattle.yq_expr.specs.Operations.{Operation, replace, append, remove, line_comment, head_comment}
+use Rattle.yq_expr.specs.Operations.{replace, append, remove, line_comment, head_comment}
 use Rattle.yq_splice.specs.Layouts.{layout_of}
 use Rattle.yq_splice.specs.Script.{Segment, keep, put}
 use Rattle.yq_splice.specs.Ways.{Way}

@@ -1,5 +1,5 @@
 -- The way to replace a block collection under a key or dash by a value that is written inline behind that (YAML 1.2.2, 8.2; own).
-use Rattle.std.specs.Prelude.{◌≡◌, ℕ, ◌+◌, ◌-◌, ◌==◌, ◌&&◌, not, List, [], ◌∷◌, ◌++◌, length, take, Option, Some, None, is_some, option_map, Bool, true, false, if◌then◌else◌}
+use Rattle.std.specs.Prelude.{◌≡◌, ℕ, ◌+◌, ◌-◌, ◌==◌, ◌&&◌, not, List, [], ◌∷◌, ◌++◌, length, take, Option, Some, None, is_some, option_map, Bool, false, if◌then◌else◌}
 use Rattle.yq_scalar.specs.Answers.{◌>>=◌}
 use Rattle.yq_scalar.specs.Paths.{Step}
 use Rattle.yq_scalar.specs.Tree.{Node, alias, scalar, list, map}
@@ -8,7 +8,7 @@ use Rattle.yq_tree.specs.CommentPlaces.{LineEnd, line_end}
 use Rattle.yq_tree.specs.InlinePlaces.{inline_from}
 use Rattle.yq_tree.specs.PrintedLines.{less_break, last_break}
 use Rattle.yq_tree.specs.RemovalPlaces.{Removal, removal_place}
-use Rattle.yq_expr.specs.Operations.{Operation, replace, append, remove, line_comment, head_comment}
+use Rattle.yq_expr.specs.Operations.{replace, append, remove, line_comment, head_comment}
 use Rattle.yq_splice.specs.Replacing.{node_in, value_written}
 use Rattle.yq_splice.specs.Script.{Segment, keep, put}
 use Rattle.yq_splice.specs.Ways.{Way}

@@ -1,5 +1,5 @@
 -- A way to replace nodes: an inline one takes the place of an inline one outside flow collections, or of nothing.
-use Rattle.std.specs.Prelude.{ℕ, List, [], ◌∷◌, Option, Some, None, option_map, option_and_then, slice_get, Bool, true, false, if◌then◌else◌}
+use Rattle.std.specs.Prelude.{ℕ, List, [], ◌∷◌, Option, Some, None, option_map, slice_get, Bool, true, false, if◌then◌else◌}
 use Rattle.yq_scalar.specs.Answers.{◌>>=◌}
 use Rattle.yq_scalar.specs.Paths.{Step, node_at}
 use Rattle.yq_scalar.specs.Scalar.{ScalarText}
@@ -10,7 +10,7 @@ use Rattle.yq_inline.specs.Written.{flow_text}
 use Rattle.yq_rows.specs.Rows.{Cut}
 use Rattle.yq_tree.specs.InlinePlaces.{InlinePlace, written_text, apart_from, inline_from}
 use Rattle.yq_tree.specs.Reading.{documents}
-use Rattle.yq_expr.specs.Operations.{Operation, replace, append, remove, line_comment, head_comment}
+use Rattle.yq_expr.specs.Operations.{replace, append, remove, line_comment, head_comment}
 use Rattle.yq_splice.specs.Script.{Segment, keep, put}
 use Rattle.yq_splice.specs.Style.{is_same, new_style}
 use Rattle.yq_splice.specs.Ways.{Way}

@@ -1,11 +1,10 @@
-use Rattle.std.proofs.Common.{sym, ap, ◌∙◌, subst, IfOk, ◌≡◌, Bool, List}
+use Rattle.std.proofs.Common.{sym, ap, ◌∙◌, subst, IfOk, ◌≡◌}
 use Rattle.std.specs.List.{list_any}
 use Rattle.yq_scalar.specs.Tree.{children_of}
 use Rattle.yq_tree.specs.Nodes.{node_of}
 use Rattle.yq_expr.specs.ChangeView.{addition_of, change_of}
 use Rattle.yq_expr.specs.TakenNames.{overwrites_at, takes_at}
 use Rattle.yq_expr.specs.declared.planning.change.Change.{Change}
-use Rattle.yq_expr.specs.declared.planning.change.Addition.{Addition}
 use Rattle.yq_expr.proofs.IndexLaws.{no_aliases}
 use Rattle.yq_expr.proofs.Lists.{list_any_map}
 use Rattle.yq_expr.proofs.SumLaws.{nothing_left}

@@ -1,4 +1,4 @@
-use Rattle.std.proofs.Common.{sym, ap, ◌∙◌}
+use Rattle.std.proofs.Common.{ap, ◌∙◌}
 use Rattle.yq_expr.specs.TakenNames.{is_used_anchor}
 use Rattle.yq_expr.proofs.planning.anchors.is_named.Goals as goal
 

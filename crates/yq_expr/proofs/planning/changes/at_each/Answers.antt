@@ -1,6 +1,5 @@
 use Rattle.std.proofs.Common.{Err, List, map, ap, ◌∙◌, subst, arith, ◌≤◌, length}
 use Rattle.std.proofs.lemmas.Result.{err_from_is_err_and}
-use Rattle.yq_scalar.specs.Tree.{Node}
 use Rattle.yq_expr.specs.Changes.{Changed, all_allowed}
 use Rattle.yq_expr.specs.ChangeView.{changed_of}
 use Rattle.yq_expr.specs.EffectView.{effect_at}

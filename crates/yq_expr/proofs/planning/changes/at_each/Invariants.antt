@@ -1,4 +1,4 @@
-use Rattle.std.proofs.Common.{◌≡◌, List, drop, map}
+use Rattle.std.proofs.Common.{◌≡◌, drop, map}
 use Rattle.yq_scalar.specs.Tree.{Node}
 use Rattle.yq_tree.specs.Anchors.{names_of}
 use Rattle.yq_expr.specs.Changes.{at_each}

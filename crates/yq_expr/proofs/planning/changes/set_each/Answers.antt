@@ -1,4 +1,4 @@
-use Rattle.std.proofs.Common.{◌<◌, Err, List, [], ◌∷◌, Vec, length, map, sym, ap, ◌∙◌, subst, arith}
+use Rattle.std.proofs.Common.{Err, Vec, map, sym, ap, ◌∙◌, subst}
 use Rattle.std.proofs.lemmas.Result.{err_from_is_err_and}
 use Rattle.std.specs.declared.alloc.Global.{Global}
 use Rattle.yq_inline.specs.Values.{node_of as value_node}

@@ -1,4 +1,4 @@
-use Rattle.std.proofs.Common.{option_map, false, sym, ap, ◌∙◌, bytes_eq, ◌≡◌, is_some}
+use Rattle.std.proofs.Common.{option_map, sym, ap, ◌∙◌, bytes_eq}
 use Rattle.yq_tree.specs.Nodes.{label_of, node_of}
 use Rattle.yq_expr.specs.Indexes.{text_at}
 use Rattle.yq_expr.proofs.IndexLaws.{put_text, seen_put, new_kept, seen_none}

@@ -1,4 +1,4 @@
-use Rattle.std.proofs.Common.{◌≡◌, Some, option_map, sym, ap, ◌∙◌, subst}
+use Rattle.std.proofs.Common.{◌≡◌, Some, subst}
 use Rattle.yq_tree.specs.CommentTelling.{end_told}
 use Rattle.yq_tree.specs.Located.{steps_of}
 use Rattle.yq_tree.specs.RemovalReading.{removal_told}

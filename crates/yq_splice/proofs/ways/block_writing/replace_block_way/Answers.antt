@@ -1,9 +1,8 @@
-use Rattle.std.proofs.Common.{rules, Some, true, false, cond, sym, ap, ◌∙◌, subst}
+use Rattle.std.proofs.Common.{rules, true, false, sym, ◌∙◌, subst}
 use Rattle.yq_inline.specs.Values.{node_of}
 use Rattle.yq_tree.specs.Located.{steps_of}
-use Rattle.yq_tree.specs.MarkTelling.{mark_told}
 use Rattle.yq_tree.specs.Reading.{cut_of}
-use Rattle.yq_splice.specs.BlockWriting.{under_segments, behind_segments, replace_block_way}
+use Rattle.yq_splice.specs.BlockWriting.{replace_block_way}
 use Rattle.yq_splice.specs.WayAnswers.{Carries}
 use Rattle.yq_splice.proofs.BlockWritingAnswers.{unfilled, unmarked, marked}
 use Rattle.yq_splice.proofs.ways.block_writing.replace_block_way.Goals as goal
