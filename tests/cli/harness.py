@@ -7,6 +7,7 @@ import sys
 import tempfile
 import traceback
 
+ROOT = os.path.dirname(os.path.dirname(os.path.dirname(os.path.abspath(__file__))))
 NOBODY = 65534
 SECONDS = 120
 NOT_BUILT = b"Error: E2 not in profile\n"
@@ -116,8 +117,8 @@ def memory_folder():
     return "/dev/shm" if os.access("/dev/shm", os.W_OK) else None
 
 
-def run_all(modules, run_tables, argv):
-    """Runs the modules' checks, each in a folder of its own, and the tables."""
+def run_all(modules, readers, argv):
+    """Runs the modules' checks, each in a folder of its own, and what is read of tables and pages."""
     if len(argv) < 2 or not os.access(argv[1], os.X_OK):
         print("no program to run", file=sys.stderr)
         return 1
@@ -127,10 +128,11 @@ def run_all(modules, run_tables, argv):
         os.chmod(top, 0o755)
         program = shutil.copy(os.path.realpath(argv[1]), os.path.join(top, "yq"))
         with tempfile.TemporaryDirectory(prefix="yq-cli-", dir=memory_folder()) as room:
-            passed, failed = run_tables(program, room, wanted)
-        tally.passed += passed
-        for name, why in failed:
-            tally.fails(name, why)
+            for read in readers:
+                passed, failed = read(program, room, wanted)
+                tally.passed += passed
+                for name, why in failed:
+                    tally.fails(name, why)
         for module in modules:
             for name in [n for n in vars(module) if n.startswith("check_") and wanted in n]:
                 tally.tries(name, getattr(module, name), Folder(program, tempfile.mkdtemp(dir=top)))

@@ -1,4 +1,5 @@
-"""What only real files show, and tables of worked rows: runs the program on files in temporary folders.
+"""What only real files show, tables of worked rows and the examples of the pages: runs the program on files in temporary
+folders.
 
 usage: run.py PATH_OF_YQ [WORD]      with WORD, only the checks and rows whose names hold it
 Its last line is `N passed, N failed` (and `, N skipped` where the machine lacks what a check needs).
@@ -12,9 +13,12 @@ sys.path.insert(0, os.path.dirname(os.path.abspath(__file__)))
 import cuts
 import disks
 import edits
+import completions
 import failures
+import guides
 import leftovers
 import links
+import installing
 import memory
 import owners
 import random_edits
@@ -22,6 +26,12 @@ import reads
 import together
 import words
 from harness import run_all
+from pages import run_pages
 from tables import run_tables
 
-sys.exit(run_all([edits, words, failures, links, owners, leftovers, disks, reads, random_edits, together, cuts, memory], run_tables, sys.argv))
+CHECKS = [
+    edits, words, completions, guides, installing, failures, links, owners, leftovers, disks, reads, random_edits,
+    together, cuts, memory,
+]
+
+sys.exit(run_all(CHECKS, [run_tables, run_pages], sys.argv))
