@@ -1,11 +1,21 @@
-# make test: the whole gate. make demo: one edit and its undo. make install: the program into PREFIX/bin.
+# make test: the whole gate. make demo: one edit and its undo.
+# make install, make uninstall: the program, its man page and completions below PREFIX, or not.
+# make dist: an archive of these for those who don't build.
 # make wrong-bodies CRATES="yq_rows yq_tree": the wrong bodies that the gate doesn't try; all crates where none is named.
 # make corpus DIR=FOLDER: one edit and its undo in a copy of each YAML file of a folder.
 PREFIX ?= $(HOME)/.local
 YQ := crates/yq/out/yq
 SOURCES := $(shell find crates -path '*/out' -prune -o -type f \( -name '*.rt' -o -name '*.antt' \) -print) crates.txt
 
-.PHONY: test wrong-bodies demo install bench corpus clean
+# Where what is installed stands below PREFIX.
+PLACE := $(DESTDIR)$(PREFIX)
+PROGRAM := $(PLACE)/bin/yq
+MAN := $(PLACE)/share/man/man1/yq.1
+BASH_WORDS := $(PLACE)/share/bash-completion/completions/yq
+FISH_WORDS := $(PLACE)/share/fish/vendor_completions.d/yq.fish
+ZSH_WORDS := $(PLACE)/share/zsh/site-functions/_yq
+
+.PHONY: test wrong-bodies demo install uninstall dist bench corpus clean
 
 $(YQ): $(SOURCES)
 	python3 tools/build.py yq
@@ -21,7 +31,17 @@ demo: $(YQ)
 	@sh examples/demo.sh $(YQ) examples/server.yaml
 
 install: $(YQ)
-	install -Dm755 $(YQ) $(DESTDIR)$(PREFIX)/bin/yq
+	install -Dm755 $(YQ) "$(PROGRAM)"
+	install -Dm644 man/yq.1 "$(MAN)"
+	install -Dm644 completions/yq.bash "$(BASH_WORDS)"
+	install -Dm644 completions/yq.fish "$(FISH_WORDS)"
+	install -Dm644 completions/_yq "$(ZSH_WORDS)"
+
+uninstall:
+	rm -f "$(PROGRAM)" "$(MAN)" "$(BASH_WORDS)" "$(FISH_WORDS)" "$(ZSH_WORDS)"
+
+dist: $(YQ)
+	python3 tools/dist.py $(YQ) dist
 
 bench: $(YQ)
 	python3 bench/read.py $(YQ)
@@ -33,4 +53,4 @@ corpus: $(YQ)
 	python3 tests/cli/corpus.py $(YQ) $(DIR)
 
 clean:
-	rm -rf crates/*/out
+	rm -rf crates/*/out dist

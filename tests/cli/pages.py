@@ -8,7 +8,7 @@ A fenced block that is marked `console` is one example, in an empty folder of it
 - `$ cat NAME`, where NAME isn't there yet, makes that file of the lines behind it.
 
 A table with the columns `f.yaml`, `Command` and `Result` has one example in each row that has a command: the text of the
-file, the command, and what it prints, or, of a `yq -i` that is accepted, the text of the file then. A refused command
+file, the command, and what it prints, or, behind a `-i` that is accepted, the text of the file then. A refused command
 leaves the file. In a text `⏎` is LF, `␍` CR and `⇥` a tab.
 """
 
@@ -70,7 +70,7 @@ def rows(page, lines):
         if not line.startswith("|"):
             columns = None
         elif columns is None:
-            columns = cells(line)
+            columns = [cell.strip("`") for cell in cells(line)]
         elif {FILE, "Command", "Result"} <= set(columns):
             row = dict(zip(columns, map(text_in, cells(line))))
             if row["Command"].startswith("yq"):
@@ -127,7 +127,7 @@ def take_session(folder, steps):
 
 def take_row(folder, words, before, result):
     folder.write(FILE, before.encode())
-    edits = words.startswith("yq -i ") and not is_refused(result)
+    edits = " -i " in words and not is_refused(result)
     runs(folder, words, "" if edits else result + "\n" * is_refused(result))
     equal(folder.read(FILE).decode(), result if edits else before, words)
 

@@ -1,0 +1,71 @@
+# Completion of yq in bash: commands, options and files.
+# Read it by `source`, or put it as `yq` into a folder from which bash-completion loads.
+
+# How many words stand before the cursor that are neither options nor the value of one, from the word of index $1 on.
+_yq_places() {
+    local at word names= places=0
+    for ((at = $1; at < COMP_CWORD; at++)); do
+        word=${COMP_WORDS[at]}
+        if [[ $names ]]; then
+            ((places++))
+        elif [[ $word == -- ]]; then
+            names=1
+        elif [[ $word == --journal ]]; then
+            [[ ${COMP_WORDS[at + 1]} == = ]] && ((at++))
+            ((at++))
+        elif [[ $word != -?* ]]; then
+            ((places++))
+        fi
+    done
+    echo "$places"
+}
+
+# The files that begin with the word, without journals; with $2, those that have a journal, if there are any.
+_yq_files() {
+    local file plain=() recorded=()
+    while IFS= read -r file; do
+        if [[ -d $file ]]; then
+            plain+=("$file") recorded+=("$file")
+        elif [[ $file != *.undo.json ]]; then
+            plain+=("$file")
+            [[ -e $file.undo.json ]] && recorded+=("$file")
+        fi
+    done < <(compgen -f -- "$1")
+    compopt -o filenames 2> /dev/null
+    COMPREPLY=("${plain[@]}")
+    [[ $2 && ${recorded[0]} ]] && COMPREPLY=("${recorded[@]}")
+}
+
+_yq() {
+    local word=${COMP_WORDS[COMP_CWORD]} before=${COMP_WORDS[COMP_CWORD - 1]} command=eval first=1
+    local options='-h --help --journal'
+    COMPREPLY=()
+    [[ $before == = ]] && before=${COMP_WORDS[COMP_CWORD - 2]}
+    [[ $word == = ]] && before=${COMP_WORDS[COMP_CWORD - 1]} word=
+    if [[ $before == --journal ]]; then
+        compopt -o filenames 2> /dev/null
+        mapfile -t COMPREPLY < <(compgen -f -- "$word")
+        return
+    fi
+    if ((COMP_CWORD > 1)); then
+        case ${COMP_WORDS[1]} in
+            e | eval | undo | redo | history | squash) command=${COMP_WORDS[1]} first=2 ;;
+        esac
+    fi
+    case $command in
+        e | eval) options+=' -i --inplace -e --exit-status -N --no-doc' ;;
+    esac
+    if [[ $word == -* ]]; then
+        mapfile -t COMPREPLY < <(compgen -W "$options" -- "$word")
+        return
+    fi
+    case $command:$(_yq_places "$first") in
+        eval:0)
+            ((COMP_CWORD == 1)) && mapfile -t COMPREPLY < <(compgen -W 'eval undo redo history squash' -- "$word")
+            ;;
+        e:1 | eval:1) _yq_files "$word" ;;
+        undo:0 | redo:0 | history:0 | squash:1) _yq_files "$word" recorded ;;
+    esac
+}
+
+complete -F _yq yq

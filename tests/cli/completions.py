@@ -1,0 +1,104 @@
+"""What shells complete behind `yq`: the bash one is driven in a bash, the fish one in a fish, that of zsh is parsed."""
+
+import os
+import shutil
+import subprocess
+
+from guides import helped
+from harness import ROOT, SECONDS, Skip, equal
+
+FILES = {"a.yaml": b"n: 2\n", "b c.yml": b"", "a.yaml.undo.json": b"{}"}
+DRIVE = 'source "$0"; COMP_WORDS=("$@"); COMP_CWORD=$(($# - 1)); _yq; printf "%s\\n" "${COMPREPLY[@]}"'
+
+
+def script(name):
+    return os.path.join(ROOT, "completions", name)
+
+
+def run(folder, *words):
+    """What a shell prints, if it is there."""
+    if shutil.which(words[0]) is None:
+        raise Skip(f"needs {words[0]}")
+    environment = {"PATH": os.environ.get("PATH", os.defpath), "HOME": folder.path, "LC_ALL": "C.UTF-8"}
+    done = subprocess.run(
+        words, cwd=folder.path, env=environment, stdin=subprocess.DEVNULL, capture_output=True, timeout=SECONDS
+    )
+    equal((done.returncode, done.stderr), (0, b""), words)
+    return done.stdout.decode().splitlines()
+
+
+def with_files(folder):
+    for name, data in FILES.items():
+        folder.write(name, data)
+    os.mkdir(folder.name("dir"))
+
+
+def in_bash(folder, *words):
+    """What bash offers for the last of the words."""
+    printed = run(folder, "bash", "--norc", "--noprofile", "-c", DRIVE, script("yq.bash"), "yq", *words)
+    return sorted(word for word in printed if word)
+
+
+def check_bash_completes(folder):
+    with_files(folder)
+    commands, flags = helped(folder)
+    registered = run(folder, "bash", "--norc", "--noprofile", "-c", 'source "$0"; complete -p yq', script("yq.bash"))
+    equal(registered, ["complete -F _yq yq"])
+    moving = sorted(flags - {"-i", "--inplace", "-e", "--exit-status", "-N", "--no-doc"})
+    edited, files = ["a.yaml", "dir"], ["a.yaml", "b c.yml", "dir"]
+    for words, offered in (
+        ([""], sorted(commands)),
+        (["h"], ["history"]),
+        (["-"], sorted(flags)),
+        (["--in"], ["--inplace"]),
+        (["eval", "-"], sorted(flags)),
+        (["undo", "-"], moving),
+        (["squash", "-"], moving),
+        ([".a", ""], files),
+        (["-i", ".a = 1", ""], files),
+        (["e", ".a", ""], files),
+        (["e", ""], []),
+        ([".a", "b"], ["b c.yml"]),
+        (["--journal", ""], ["a.yaml", "a.yaml.undo.json", "b c.yml", "dir"]),
+        (["-i", "--journal", "=", "b"], ["b c.yml"]),
+        (["-i", "--journal", "j", ".a", "a"], ["a.yaml"]),
+        (["undo", ""], edited),
+        (["history", "--journal", "=", "j", ""], edited),
+        (["undo", "b"], ["b c.yml"]),
+        (["undo", "a.yaml", ""], []),
+        (["squash", ""], []),
+        (["squash", "2", ""], edited),
+        (["--", ".a", ""], files),
+    ):
+        equal(in_bash(folder, *words), offered, words)
+
+
+def check_bash_keeps_to_its_own_names(folder):
+    """Reading the script sets functions whose names begin with _yq, and nothing else."""
+    listing = "declare -F; compgen -v"
+    both = f'before=$({listing}); source "$0"; diff <(echo "$before") <({listing}) | grep "^[<>]" | grep -v "_yq\\|before"; true'
+    equal(run(folder, "bash", "--norc", "--noprofile", "-c", both, script("yq.bash")), [])
+
+
+def in_fish(folder, line):
+    """What fish offers for a line, without what it tells of each."""
+    words = 'source $argv[1]; complete -C "$argv[2]"'
+    return sorted(offer.split("\t")[0] for offer in run(folder, "fish", "--no-config", "-c", words, script("yq.fish"), line))
+
+
+def check_fish_completes(folder):
+    with_files(folder)
+    commands, flags = helped(folder)
+    equal(in_fish(folder, "yq "), sorted(commands))
+    equal(in_fish(folder, "yq --"), sorted(flag for flag in flags if flag.startswith("--")))
+    equal(in_fish(folder, "yq undo --"), ["--help", "--journal"])
+    equal(in_fish(folder, "yq .a "), ["a.yaml", "b c.yml", "dir/"])
+
+
+def check_the_script_of_zsh_is_parsed(folder):
+    equal(run(folder, "zsh", "-f", "-n", script("_yq")), [])
+    with open(script("_yq"), encoding="utf-8") as text:
+        told = text.read()
+    commands, flags = helped(folder)
+    equal([word for word in sorted(commands) if f"'{word}:" not in told], [])
+    equal([flag for flag in sorted(flags) if flag not in told], [])

@@ -1,0 +1,80 @@
+"""The pages and the man page agree with help, with the answers that the program has, and with what stands in the repository."""
+
+import os
+import re
+import shutil
+import subprocess
+
+from harness import ROOT, SECONDS, Skip, equal
+from pages import PAGES, examples, lines_of
+
+MAN = os.path.join("man", "yq.1")
+LINK = re.compile(r"\]\(([^)\s]+)\)")
+CODE = re.compile(r'"([A-Z]\d+)\b')
+OLDER = ("docs/ARCHITECTURE.md", "docs/EVIDENCE.md", "docs/JOURNAL.md", "docs/PROMISES.md", "docs/STYLE-AND-EXTENTS.md")
+
+
+def section(lines, head):
+    """The lines of help below a head."""
+    start = lines.index(head) + 1
+    return lines[start : start + lines[start:].index("")]
+
+
+def helped(folder):
+    """The commands and options that help tells of."""
+    lines = folder.accepts("--help").decode().splitlines()
+    commands = {line.split()[0] for line in section(lines, "Commands:")}
+    options = {word for line in section(lines, "Options:") for word in re.findall(r"(?<!\S)--?[A-Za-z-]+", line[:24])}
+    return commands, options
+
+
+def man_page():
+    return "\n".join(lines_of(MAN))
+
+
+def check_the_man_page_tells_of_what_help_tells(folder):
+    commands, options = helped(folder)
+    items = re.findall(r"^\.It (Cm|Fl) (.*)$", man_page(), re.MULTILINE)
+    named = {word for kind, line in items if kind == "Cm" for word in re.findall(r"\w+", line.replace("Cm", ""))}
+    flags = {"-" + word.replace("\\", "") for kind, line in items if kind == "Fl" for word in re.findall(r"(?:^|Fl )(\S+)", line)}
+    equal((named, flags), (commands | {"e"}, options))
+
+
+def check_the_man_page_is_clean(folder):
+    page = os.path.join(ROOT, MAN)
+    for words in (["mandoc", "-T", "lint", "-W", "style", page], ["groff", "-ww", "-mdoc", "-Tutf8", "-z", page]):
+        if shutil.which(words[0]) is not None:
+            done = subprocess.run(words, capture_output=True, timeout=SECONDS)
+            equal((done.returncode, done.stdout, done.stderr), (0, b"", b""), words)
+            return
+    raise Skip("needs mandoc or groff")
+
+
+def check_the_manual_tells_of_each_answer(_folder):
+    with open(os.path.join(ROOT, "crates", "yq", "src", "fault.rt"), encoding="utf-8") as text:
+        codes = set(CODE.findall(text.read())) | {"N1"}
+    told = set(re.findall(r"Error: ([A-Z]\d+) ", "\n".join(lines_of("docs/MANUAL.md"))))
+    equal(told, codes)
+
+
+def check_the_pages_have_enough_examples(_folder):
+    of = [example.name.split(" ")[0] for example in examples()]
+    same = "\n".join(lines_of("docs/FROM-YQ-V4.md")).split("\n## ")[1]
+    equal(same.startswith("The same here"), True)
+    equal((of.count("docs/MANUAL.md") >= 40, same.count("| `yq ") >= 30), (True, True))
+
+
+def anchors(page):
+    """The names by which the sections of a page are linked."""
+    heads = [line.lstrip("#").strip().lower() for line in lines_of(page) if line.startswith("#")]
+    return {re.sub(r"[^\w -]", "", head).replace(" ", "-") for head in heads}
+
+
+def check_links_lead_somewhere(_folder):
+    for page in sorted({*PAGES, *OLDER, "CONTRIBUTING.md"}):
+        for link in LINK.findall("\n".join(lines_of(page))):
+            if "://" not in link:
+                path, _, anchor = link.partition("#")
+                target = os.path.normpath(os.path.join(os.path.dirname(page), path)) if path else page
+                equal(os.path.exists(os.path.join(ROOT, target)), True, (page, link))
+                equal(not anchor or anchor in anchors(target), True, (page, link))

@@ -1,0 +1,108 @@
+"""`make install`, `make uninstall`, and the archive for those who don't build."""
+
+import hashlib
+import os
+import shutil
+import subprocess
+import sys
+import tarfile
+
+from harness import ROOT, SECONDS, Skip, equal
+
+ARCHIVE = "yq-linux-x86_64"
+INSTALLED = {
+    "bin/yq": 0o755,
+    "share/man/man1/yq.1": 0o644,
+    "share/bash-completion/completions/yq": 0o644,
+    "share/fish/vendor_completions.d/yq.fish": 0o644,
+    "share/zsh/site-functions/_yq": 0o644,
+}
+ADDED = {"README.md", "SHA256SUMS", "examples/demo.sh", "examples/server.yaml"}
+
+
+def run(folder, *words, cwd=ROOT, **environment):
+    """Runs words with nothing in the environment but PATH and what is given."""
+    if shutil.which(words[0]) is None:
+        raise Skip(f"needs {words[0]}")
+    done = subprocess.run(
+        words,
+        cwd=cwd,
+        env={"PATH": os.environ.get("PATH", os.defpath), **environment},
+        stdin=subprocess.DEVNULL,
+        capture_output=True,
+        timeout=SECONDS,
+    )
+    equal((done.returncode, done.stderr), (0, b""), words)
+    return done.stdout
+
+
+def make(folder, *words):
+    """Runs make on the built program, without building it."""
+    return run(folder, "make", "--silent", "-o", folder.yq, f"YQ={folder.yq}", *words)
+
+
+def files_below(path):
+    """The files below a folder, by their paths in it."""
+    found = [os.path.join(top, name) for top, _, names in os.walk(path) for name in names]
+    return {os.path.relpath(file, path) for file in found}
+
+
+def check_install_and_uninstall(folder):
+    prefix = folder.name("a prefix")
+    make(folder, "install", f"PREFIX={prefix}")
+    equal(files_below(prefix), set(INSTALLED))
+    for name, mode in INSTALLED.items():
+        equal(os.stat(os.path.join(prefix, name)).st_mode & 0o777, mode, name)
+    with open(os.path.join(prefix, "share/mine"), "wb"):
+        pass
+    make(folder, "uninstall", f"PREFIX={prefix}")
+    equal(files_below(prefix), {"share/mine"})
+    make(folder, "uninstall", f"PREFIX={prefix}")
+
+
+def check_install_below_another_root(folder):
+    make(folder, "install", "PREFIX=/usr", f"DESTDIR={folder.name('root')}")
+    equal(files_below(folder.name("root")), {f"usr/{name}" for name in INSTALLED})
+
+
+def unpacked(folder):
+    """The archive, unpacked in an empty folder."""
+    run(folder, sys.executable, os.path.join("tools", "dist.py"), folder.yq, folder.path)
+    os.mkdir(folder.name("empty"))
+    run(folder, "tar", "-xzf", folder.name(f"{ARCHIVE}.tar.gz"), cwd=folder.name("empty"))
+    return folder.name(f"empty/{ARCHIVE}")
+
+
+def check_the_archive_is_whole(folder):
+    top = unpacked(folder)
+    equal(files_below(top), {*INSTALLED, *ADDED})
+    with open(os.path.join(top, "SHA256SUMS"), encoding="utf-8") as text:
+        sums = dict(reversed(line.rstrip("\n").split("  ")) for line in text)
+    for name in files_below(top) - {"SHA256SUMS"}:
+        with open(os.path.join(top, name), "rb") as file:
+            equal(sums.pop(name), hashlib.sha256(file.read()).hexdigest(), name)
+    equal(sums, {})
+    run(folder, "sha256sum", "--check", "--quiet", "SHA256SUMS", cwd=top)
+
+
+def check_the_archive_works_alone(folder):
+    top = unpacked(folder)
+    run(folder, "sh", "examples/demo.sh", "bin/yq", "examples/server.yaml", cwd=top)
+    folder.write("f.yaml", b"port:  80 # http\n")
+    yq = os.path.join(top, "bin", "yq")
+    run(folder, yq, "-i", ".port = 8080", "f.yaml", cwd=folder.path)
+    equal(run(folder, yq, ".port", "f.yaml", cwd=folder.path), b"8080\n")
+    run(folder, yq, "undo", "f.yaml", cwd=folder.path)
+    equal(folder.read("f.yaml"), b"port:  80 # http\n")
+
+
+def check_the_archive_is_the_same_each_time(folder):
+    archives = []
+    for name in ("one", "two"):
+        os.mkdir(folder.name(name))
+        run(folder, sys.executable, os.path.join("tools", "dist.py"), folder.yq, folder.name(name))
+        with open(folder.name(f"{name}/{ARCHIVE}.tar.gz"), "rb") as file:
+            archives.append(file.read())
+    equal(archives[0] == archives[1], True)
+    with tarfile.open(folder.name(f"one/{ARCHIVE}.tar.gz")) as archive:
+        equal({(member.uid, member.gid, member.mtime) for member in archive}, {(0, 0, 0)})

@@ -1,0 +1,77 @@
+"""Makes the archive for those who don't build: what `make install` puts below a prefix, README, the demo and checksums.
+
+usage: dist.py PATH_OF_YQ FOLDER      writes FOLDER/yq-linux-x86_64.tar.gz
+
+The same files give the same bytes.
+"""
+
+import gzip
+import hashlib
+import os
+import shutil
+import subprocess
+import sys
+import tarfile
+import tempfile
+
+ROOT = os.path.dirname(os.path.dirname(os.path.abspath(__file__)))
+NAME = "yq-linux-x86_64"
+ADDED = ("README.md", "examples/demo.sh", "examples/server.yaml")
+
+
+def install(yq, top):
+    """Puts below a folder what `make install` puts below PREFIX."""
+    words = ["make", "--silent", "--directory", ROOT, "-o", yq, f"YQ={yq}", f"PREFIX={top}", "DESTDIR=", "install"]
+    environment = {name: value for name, value in os.environ.items() if name not in ("MAKEFLAGS", "MFLAGS", "MAKELEVEL")}
+    subprocess.run(words, check=True, env=environment)
+
+
+def files_below(top):
+    """The files below a folder, by their paths in it, in order."""
+    found = [os.path.join(folder, name) for folder, _, names in os.walk(top) for name in names]
+    return sorted(os.path.relpath(file, top) for file in found)
+
+
+def add_sums(top):
+    """Adds the file of checksums, as sha256sum writes it."""
+    lines = []
+    for name in files_below(top):
+        with open(os.path.join(top, name), "rb") as file:
+            lines.append(f"{hashlib.sha256(file.read()).hexdigest()}  {name}\n")
+    with open(os.path.join(top, "SHA256SUMS"), "w", encoding="utf-8") as sums:
+        sums.writelines(lines)
+
+
+def bare(member):
+    """A member without owner and time."""
+    member.uid = member.gid = member.mtime = 0
+    member.uname = member.gname = ""
+    member.mode = 0o755 if member.mode & 0o100 else 0o644
+    return member
+
+
+def pack(top, path):
+    with open(path, "wb") as out, gzip.GzipFile("", "wb", 9, out, 0) as packed:
+        with tarfile.open(fileobj=packed, mode="w", format=tarfile.USTAR_FORMAT) as archive:
+            for name in files_below(top):
+                archive.add(os.path.join(top, name), f"{NAME}/{name}", filter=bare)
+
+
+def main(words):
+    if len(words) != 2:
+        print(__doc__.strip(), file=sys.stderr)
+        return 2
+    yq, folder = map(os.path.abspath, words)
+    with tempfile.TemporaryDirectory(prefix="yq-dist-") as top:
+        install(yq, top)
+        for name in ADDED:
+            os.makedirs(os.path.dirname(os.path.join(top, name)), exist_ok=True)
+            shutil.copy(os.path.join(ROOT, name), os.path.join(top, name))
+        add_sums(top)
+        os.makedirs(folder, exist_ok=True)
+        pack(top, os.path.join(folder, f"{NAME}.tar.gz"))
+    return 0
+
+
+if __name__ == "__main__":
+    sys.exit(main(sys.argv[1:]))
