@@ -41,7 +41,7 @@ def check_the_man_page_tells_of_what_help_tells(folder):
 
 def check_the_man_page_is_clean(folder):
     page = os.path.join(ROOT, MAN)
-    for words in (["mandoc", "-T", "lint", "-W", "style", page], ["groff", "-ww", "-mdoc", "-Tutf8", "-z", page]):
+    for words in (["mandoc", "-T", "lint", "-W", "warning", page], ["groff", "-ww", "-mdoc", "-Tutf8", "-z", page]):
         if shutil.which(words[0]) is not None:
             done = subprocess.run(words, capture_output=True, timeout=SECONDS)
             equal((done.returncode, done.stdout, done.stderr), (0, b"", b""), words)

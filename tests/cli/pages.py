@@ -40,14 +40,15 @@ def sessions(page, lines):
     for number, line in enumerate(lines, 1):
         if steps is None:
             if line == "```console":
-                steps, begun = [], number
+                steps, name = [], f"{page} line {number}"
         elif line == "```":
-            found.append(Example(f"{page} line {begun}", steps))
+            found.append(Example(name, steps))
             steps = None
         elif line.startswith("$ "):
             steps.append((line[2:], []))
         else:
             steps[-1][1].append(line + "\n")
+    equal(steps, None, "a block that isn't closed")
     return found
 
 
@@ -72,7 +73,9 @@ def rows(page, lines):
         elif columns is None:
             columns = [cell.strip("`") for cell in cells(line)]
         elif {FILE, "Command", "Result"} <= set(columns):
-            row = dict(zip(columns, map(text_in, cells(line))))
+            told = cells(line)
+            equal(len(told), len(columns), f"{page} line {number}")
+            row = dict(zip(columns, map(text_in, told)))
             if row["Command"].startswith("yq"):
                 found.append(Example(f"{page} line {number}", [(row["Command"], row[FILE], row["Result"])]))
     return found
