@@ -10,15 +10,15 @@ import sys
 
 sys.path.insert(0, os.path.dirname(os.path.abspath(__file__)))
 
+import completions
 import cuts
 import disks
 import edits
-import completions
 import failures
 import guides
+import installing
 import leftovers
 import links
-import installing
 import memory
 import owners
 import random_edits
