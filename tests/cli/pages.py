@@ -3,7 +3,7 @@
 A fenced block that is marked `console` is one example, in an empty folder of its own:
 
 - `$ WORDS` is run by sh, with the program as `yq`. The lines behind it, up to the next `$ `, are what it prints on
-  standard output and standard error. A command that begins with `yq` ends with status 1 where one of them begins with
+  standard output and standard error. A command that is a `yq` alone ends with status 1 where one of them begins with
   `Error: `, and else with 0.
 - `$ cat NAME`, where NAME isn't there yet, makes that file of the lines behind it.
 
@@ -14,6 +14,7 @@ leaves the file. In a text `⏎` is LF, `␍` CR and `⇥` a tab.
 
 import os
 import re
+import shlex
 import subprocess
 from concurrent.futures import ThreadPoolExecutor
 
@@ -109,11 +110,17 @@ def is_refused(printed):
     return any(line.startswith("Error: ") for line in printed.splitlines())
 
 
+def is_alone(words):
+    """Whether the words are a `yq` whose status is theirs."""
+    tokens = list(shlex.shlex(words, posix=True, punctuation_chars=True))
+    return tokens[0] == "yq" and not {"|", "||", "&&", ";"} & set(tokens)
+
+
 def runs(folder, words, wanted, status=0):
-    """The words print what is wanted; the status of a `yq` tells whether it was refused."""
+    """The words print what is wanted; the status of a `yq` alone tells whether it was refused."""
     printed, status = shell(folder, words, status)
     equal(printed, wanted, words)
-    if words.startswith("yq "):
+    if is_alone(words):
         equal(status, 1 if is_refused(printed) else 0, words)
     return status
 
