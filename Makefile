@@ -1,4 +1,5 @@
-# make test: the whole gate. make demo: one edit and its undo.
+# make test: the whole gate. make ready: what it would refuse before any proof, in some seconds.
+# make demo: one edit and its undo.
 # make install, make uninstall: the program, its man page and completions below PREFIX, or not.
 # make dist: an archive of these for those who don't build.
 # make wrong-bodies CRATES="yq_rows yq_tree": the wrong bodies that the gate doesn't try; all crates where none is named.
@@ -15,7 +16,7 @@ BASH_WORDS := $(PLACE)/share/bash-completion/completions/yq
 FISH_WORDS := $(PLACE)/share/fish/vendor_completions.d/yq.fish
 ZSH_WORDS := $(PLACE)/share/zsh/site-functions/_yq
 
-.PHONY: test wrong-bodies demo install uninstall dist bench corpus clean
+.PHONY: test ready wrong-bodies demo install uninstall dist bench corpus clean
 
 $(YQ): $(SOURCES)
 	python3 tools/build.py yq
@@ -23,6 +24,9 @@ $(YQ): $(SOURCES)
 
 test:
 	python3 tools/gate.py $(YQ)
+
+ready:
+	@python3 tools/ready.py
 
 wrong-bodies:
 	python3 tools/wrong_bodies.py $(CRATES)

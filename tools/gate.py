@@ -2,7 +2,9 @@
 
 usage: gate.py PATH_OF_YQ
 
-Its last two lines are the processor seconds (user and system) that all of it took, and what tests/cli says last.
+Where `rt ci` doesn't pass, the reasons are told once more at the end: what the prover says of each crate that is not proved, and
+each wrong body that is not refused. Else the last two lines are the processor seconds (user and system) that all of it took, and
+what tests/cli says last.
 The status is that of `rt ci`, or of tests/cli where `rt ci` passed.
 """
 
@@ -16,6 +18,7 @@ import threading
 import time
 
 from crates import ROOT, RT, libraries, took
+from reasons import Reasons
 from watch import EDITS, PROOF, TESTS, Watch
 
 KINDS = PROOF, TESTS, EDITS
@@ -72,9 +75,10 @@ def table(tasks):
 
 
 def prove():
-    """Runs `rt ci`, passes its lines on, and gives its status and what was seen of its checks."""
-    rt = subprocess.Popen([*RT, "ci"], cwd=ROOT, stdout=subprocess.PIPE, encoding="utf-8", errors="replace")
-    watch = Watch(rt.pid, begins, ends)
+    """Runs `rt ci`, passes its lines on, and gives its status, what was seen of its checks, and why it failed."""
+    how = {"cwd": ROOT, "stdout": subprocess.PIPE, "stderr": subprocess.STDOUT, "encoding": "utf-8", "errors": "replace"}
+    rt = subprocess.Popen([*RT, "ci"], **how)
+    watch, reasons = Watch(rt.pid, begins, ends), Reasons()
     try:
         for line in each_line(rt.stdout):
             watch.look()
@@ -83,6 +87,7 @@ def prove():
             told = VERDICT.match(line)
             if told:
                 watch.end(told[1], TESTS if told[2] else PROOF)
+            reasons.hear(line)
             say(line)
         rt.wait()
     except KeyboardInterrupt:
@@ -94,7 +99,7 @@ def prove():
             rt.terminate()
             rt.wait()
     watch.close()
-    return rt.returncode, watch.tasks
+    return rt.returncode, watch.tasks, reasons
 
 
 def run_program(yq):
@@ -120,14 +125,17 @@ def main(words):
         return 2
     sys.stdout.reconfigure(errors="replace")
     signal.signal(signal.SIGTERM, lambda *_: sys.exit(143))
-    status, tasks = prove()
+    status, tasks, reasons = prove()
     last = None
     if status == 0:
         for line in table(tasks):
             say(line)
         status, last = run_program(words[0])
     say(took(BEGAN))
-    if last is not None:
+    if last is None:
+        for line in reasons.told():
+            say(line)
+    else:
         say(last)
     return status if status >= 0 else 128 - status
 
