@@ -1,4 +1,5 @@
-"""Makes the archive for those who don't build: what `make install` puts below a prefix, README, the demo and checksums.
+"""Makes the archive for those who don't build: what `make install` puts below a prefix, the pages for users, the demo and
+checksums.
 
 usage: dist.py PATH_OF_YQ FOLDER      writes FOLDER/yq-linux-x86_64.tar.gz
 
@@ -16,7 +17,8 @@ import tempfile
 
 ROOT = os.path.dirname(os.path.dirname(os.path.abspath(__file__)))
 NAME = "yq-linux-x86_64"
-ADDED = ("README.md", "examples/demo.sh", "examples/server.yaml")
+PAGES = ("MANUAL", "FROM-YQ-V4", "EXPRESSIONS", "TEXT", "STYLE-AND-EXTENTS", "JOURNAL")
+ADDED = ("README.md", "examples/demo.sh", "examples/server.yaml", *(f"docs/{page}.md" for page in PAGES))
 
 
 def install(yq, top):

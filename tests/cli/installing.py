@@ -17,7 +17,8 @@ INSTALLED = {
     "share/fish/vendor_completions.d/yq.fish": 0o644,
     "share/zsh/site-functions/_yq": 0o644,
 }
-ADDED = {"README.md", "SHA256SUMS", "examples/demo.sh", "examples/server.yaml"}
+PAGES = ("MANUAL", "FROM-YQ-V4", "EXPRESSIONS", "TEXT", "STYLE-AND-EXTENTS", "JOURNAL")
+ADDED = {"README.md", "SHA256SUMS", "examples/demo.sh", "examples/server.yaml", *(f"docs/{page}.md" for page in PAGES)}
 
 
 def run(folder, *words, cwd=ROOT, **environment):
