@@ -29,6 +29,8 @@ mod right_value;
 mod steps;
 mod sum;
 
+pub use crate::planning::operations::copied_steps;
+
 use crate::op::Op;
 use crate::plan_error::PlanError;
 use crate::planning::changes::changes;
