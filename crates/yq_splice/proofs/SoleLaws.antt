@@ -221,8 +221,10 @@ module _ (doc : ℕ) (init : List Step) (s : Step) (v : Node) (c : Cut) (h : Sta
   fits = (
     h.d,
     h.document,
-    (h.empty.shape, h.empty.short, not_deep),
-    (h.old, at_init, inside_unused (names_of h.d.root) (children_of h.old) h.node is_sole.label is_sole.is h.unused),
+    (
+      (h.empty.shape, h.empty.short, not_deep),
+      (h.old, at_init, inside_unused (names_of h.d.root) (children_of h.old) h.node is_sole.label is_sole.is h.unused),
+    ),
   )
 
   same_root : (block : Bool) (lead : List (List ℕ)) → root_after block lead (replace doc init v) h.d.root ≡ root_after block lead (remove doc (init ++ (s ∷ []))) h.d.root
@@ -288,11 +290,19 @@ module _ (way : Way) (is_way : IsWay way) where
 
   reads_is : (op : Operation) (c : Cut) (ss : List Segment) → read_at (cut_text c) ≡ Some c → sole_by way op c ≡ Some ss → HasOperand op → Fits (room_of (cut_text c)) op (documents c) →
       length (new_text ss) ≤ text_limit → ReadsAfter op c (new_text ss)
-  reads_is (replace doc steps v) c ss read e operand fits size = absurd (none_some e)
-  reads_is (append doc steps key v) c ss read e operand fits size = absurd (none_some e)
-  reads_is (remove doc steps) c ss read e operand fits size = sole_reads doc steps c ss read e fits size
-  reads_is (line_comment doc steps text) c ss read e operand fits size = absurd (none_some e)
-  reads_is (head_comment doc steps text) c ss read e operand fits size = absurd (none_some e)
+  reads_is (replace doc steps v) c ss read e operand fits_it size = absurd (none_some e)
+  reads_is (append doc steps key v) c ss read e operand fits_it size = absurd (none_some e)
+  reads_is (remove doc steps) c ss read e operand fits_it size = sole_reads doc steps c ss read e fits_it size
+  reads_is (line_comment doc steps text) c ss read e operand fits_it size = absurd (none_some e)
+  reads_is (head_comment doc steps text) c ss read e operand fits_it size = absurd (none_some e)
 
   pub sole_is : IsWay (sole_by way)
   sole_is = record { old = old_is; reads = reads_is }
+
+-- ---- by what the code finds
+
+pub sole_none : (way : Way) (op : Operation) (c : Cut) → None ≡ emptying op c → sole_by way op c ≡ None
+sole_none way op c e = ap (λ (o : Option Operation). o >>= λ r. way r c) (sym e)
+
+pub sole_some : (way : Way) (op : Operation) (c : Cut) (r : Operation) → Some r ≡ emptying op c → way r c ≡ sole_by way op c
+sole_some way op c r e = ap (λ (o : Option Operation). o >>= λ r. way r c) e

@@ -14,7 +14,7 @@ use yq_tree::{Documents, Node, NodeKind, Path};
 
 /// The empty collection of the kind of this one.
 fn emptied(alloc: Global, node: Node<'_, '_>) -> Option<Value>
-    ensures { option_map values.node_of result ≡ spec.emptied (node_of node) }
+    ensures { option_map values.node_of result ≡ spec.emptied (node_of node.entry) }
 {
     match node.kind() {
         NodeKind::List => Some(Value::List(Vec::new(alloc))),
