@@ -15,9 +15,8 @@ use Rattle.yq_inline.specs.Inline.{depth_limit}
 use Rattle.yq_inline.specs.Valued.{IsValueTree}
 use Rattle.yq_lines.specs.Anchors.{Name, names_in, names_of}
 use Rattle.yq_lines.specs.Counts.{count}
-use Rattle.yq_rows.specs.Rows.{Part, Cut, cut_text}
+use Rattle.yq_rows.specs.Rows.{Cut, cut_text}
 use Rattle.yq_tree.specs.Documents.{Document, document_parts}
-use Rattle.yq_tree.specs.Reading as reading
 use Rattle.yq_tree.specs.Reading.{documents, documents_of, read_at, root_of}
 use Rattle.yq_tree.specs.RemovalPlaces.{has_others_at, has_several}
 use Rattle.yq_tree.specs.TreeEdits.{at_end, change_nth, led, replaced}
@@ -25,17 +24,17 @@ use Rattle.yq_change.proofs.AfterLaws.{end_is_change}
 use Rattle.yq_change.proofs.PartLaws.{document_known}
 use Rattle.yq_change.proofs.SoundRootLaws.{depth_at}
 use Rattle.yq_expr.specs.After.{done_to, root_after}
-use Rattle.yq_expr.specs.Changes.{has_long_key, is_deep, is_used, is_used_in, is_used_inside}
+use Rattle.yq_expr.specs.Changes.{has_long_key, is_deep, is_used, is_used_in}
 use Rattle.yq_expr.specs.Fits.{Fits, IsBelow}
 use Rattle.yq_expr.specs.Operations.{Operation, replace, append, remove, line_comment, head_comment}
 use Rattle.yq_expr.specs.Rooms.{room_of}
-use Rattle.yq_expr.specs.RoomsKept.{HasSome, KeepsBlock}
+use Rattle.yq_expr.specs.RoomsKept.{HasSome}
 use Rattle.yq_splice.specs.FlowWays.{last_step}
 use Rattle.yq_splice.specs.Operands.{HasOperand}
 use Rattle.yq_splice.specs.Replacing.{node_in}
 use Rattle.yq_splice.specs.Script.{Segment, old_text, new_text}
 use Rattle.yq_splice.specs.SoleRemoving.{emptied, emptying, emptying_at, sole_by}
-use Rattle.yq_splice.specs.Ways.{Way, IsWay, ReadsAfter, RoomStays}
+use Rattle.yq_splice.specs.Ways.{Way, IsWay, ReadsAfter}
 use Rattle.yq_splice.proofs.DoneLaws.{read_cut}
 use Rattle.yq_splice.proofs.FlowSoundLaws.{above_is, last_is}
 use Rattle.yq_splice.proofs.RemovingLaws.{part_of}
