@@ -26,7 +26,7 @@ pub use matching::{Match, matches};
 pub use op::Op;
 pub use parse::parse_expr;
 pub use plan_error::PlanError;
-pub use planning::plan;
+pub use planning::{copied_steps, plan};
 pub use program::{
     Assignment, Comment, CommentPlace, Comparison, Condition, Operand, Operator, Program, Stage,
     Step, Term, Update,

@@ -32,6 +32,7 @@ mod sum;
 use crate::op::Op;
 use crate::plan_error::PlanError;
 use crate::planning::changes::changes;
+pub use crate::planning::operations::copied_steps;
 use crate::planning::operations::operations;
 use crate::program::{Program, Update};
 use crate::refusal::Refusal;

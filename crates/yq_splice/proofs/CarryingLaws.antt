@@ -4,7 +4,7 @@ use Rattle.yq_rows.specs.Rows.{cut_text}
 use Rattle.yq_splice.specs.AppendWay.{append_way}
 use Rattle.yq_splice.specs.BlockReplacing.{block_replace_way}
 use Rattle.yq_splice.specs.BlockWriting.{replace_block_way}
-use Rattle.yq_splice.specs.Carried.{comment_ways, remove_ways, entry_ways, replace_ways, exchange_ways, node_ways, tree_ways, carrying}
+use Rattle.yq_splice.specs.Carried.{comment_ways, remove_ways, entry_ways, replace_ways, exchange_ways, node_ways, tree_ways, sole_ways, content_ways, carrying}
 use Rattle.yq_splice.specs.CommentWays.{line_comment_way, head_comment_way}
 use Rattle.yq_splice.specs.FlowWays.{flow_remove_way}
 use Rattle.yq_splice.specs.Removing.{remove_way}
@@ -21,6 +21,7 @@ use Rattle.yq_splice.proofs.LineCommentLaws.{line_comment_is_way}
 use Rattle.yq_splice.proofs.RemovingFirstLaws.{remove_first_is}
 use Rattle.yq_splice.proofs.RemovingLaws.{remove_is_way}
 use Rattle.yq_splice.proofs.ReplaceLaws.{replace_is}
+use Rattle.yq_splice.proofs.SoleLaws.{sole_is}
 
 -- what follows from either of two follows from the first that there is
 by_either : (x y : Option (List Segment)) (ss : List Segment) (R : Type 0) → (x ≡ Some ss → R) → (y ≡ Some ss → R) → first_some x y ≡ Some ss → R
@@ -62,6 +63,14 @@ trees_are : IsWay tree_ways
 unfolding tree_ways
 trees_are = either_is node_ways flow_remove_way nodes_are flow_remove_is
 
+sole_are : IsWay sole_ways
+unfolding sole_ways
+sole_are = sole_is exchange_ways exchanged_are
+
+contents_are : IsWay content_ways
+unfolding content_ways
+contents_are = either_is tree_ways sole_ways trees_are sole_are
+
 pub carrying_is : IsWay carrying
 unfolding carrying
-carrying_is = either_is tree_ways comment_ways trees_are comments_are
+carrying_is = either_is content_ways comment_ways contents_are comments_are

@@ -63,3 +63,4 @@ pub mod UnderPieces
 pub mod BlockReplaceLaws
 pub mod BlockWayLaws
 pub mod BlockAnswers
+pub mod SoleLaws

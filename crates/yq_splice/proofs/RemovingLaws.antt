@@ -150,7 +150,7 @@ spared names (Refers b ∷ gone) h a among aliased = spared names gone h a among
 -- ---- the documents after it
 
 -- The part of a document.
-part_of : (ps : List Part) (n : ℕ) (d : Document) → slice_get (map reading.document_of ps) n ≡ Some d → (p : Part) × (slice_get ps n ≡ Some p) × (reading.document_of p ≡ d)
+pub part_of : (ps : List Part) (n : ℕ) (d : Document) → slice_get (map reading.document_of ps) n ≡ Some d → (p : Part) × (slice_get ps n ≡ Some p) × (reading.document_of p ≡ d)
 part_of [] n d e = absurd (cc)
 part_of (p ∷ ps) zero d e = (p, refl, some_same e)
 part_of (p ∷ ps) (suc n) d e = part_of ps n d e

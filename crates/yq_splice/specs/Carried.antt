@@ -18,6 +18,7 @@ use Rattle.yq_splice.specs.FlowWays.{flow_remove_way}
 use Rattle.yq_splice.specs.Removing.{remove_way}
 use Rattle.yq_splice.specs.RemovingFirst.{remove_first_way}
 use Rattle.yq_splice.specs.Replacing.{replace_way}
+use Rattle.yq_splice.specs.SoleRemoving.{sole_by}
 use Rattle.yq_splice.specs.Ways.{Way, or_else}
 
 -- the ways to set comments (own)
@@ -48,9 +49,17 @@ node_ways = or_else exchange_ways entry_ways
 unfoldable pub tree_ways : Way
 tree_ways = or_else node_ways flow_remove_way
 
+-- the ways to take a sole item or entry out of a collection (own)
+unfoldable pub sole_ways : Way
+sole_ways = sole_by exchange_ways
+
+-- the ways to replace nodes, and to change collections (own)
+unfoldable pub content_ways : Way
+content_ways = or_else tree_ways sole_ways
+
 -- the ways to carry out operations, the first that is one for an operation being taken (own)
 unfoldable pub carrying : Way
-carrying = or_else tree_ways comment_ways
+carrying = or_else content_ways comment_ways
 
 -- an edit, if there is one; where no way is one for an operation, that isn't carried out yet (own)
 abbrev pub or_unbuilt : Option Edit → Edit

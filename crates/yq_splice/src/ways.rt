@@ -14,6 +14,7 @@ mod line_comment;
 mod removing;
 mod removing_first;
 mod replacing;
+mod sole_removing;
 
 use crate::edited::{EditError, Edited};
 use crate::ways::append::append_way;
@@ -25,6 +26,7 @@ use crate::ways::line_comment::line_comment_way;
 use crate::ways::removing::remove_way;
 use crate::ways::removing_first::remove_first_way;
 use crate::ways::replacing::replace_way;
+use crate::ways::sole_removing::emptying;
 use std::alloc::Global;
 use yq_expr::Op;
 use yq_tree::Documents;
@@ -134,6 +136,35 @@ fn by_tree_ways(
     flow_remove_way(alloc, documents, op)
 }
 
+/// A sole item or entry taken out by the way to put an empty collection in the place of its own.
+fn by_sole_ways(
+    alloc: Global,
+    documents: &Documents<'_>,
+    op: &Op,
+) -> Result<Option<Edited>, EditError>
+    ensures { Carries result (spec.sole_ways (operation_of op.now) (cut_of documents.now)) }
+{
+    let Some(replace) = emptying(alloc, documents, op)? else {
+        return Ok(None);
+    };
+    by_exchange_ways(alloc, documents, &replace)
+}
+
+/// A node replaced, or a collection changed, by the way for it.
+#[tactic(auto, unfolding(crate::specs::Carried::content_ways), using(crate::proofs::WayLaws::first_way_carries, crate::proofs::WayLaws::second_way_carries))]
+fn by_content_ways(
+    alloc: Global,
+    documents: &Documents<'_>,
+    op: &Op,
+) -> Result<Option<Edited>, EditError>
+    ensures { Carries result (spec.content_ways (operation_of op.now) (cut_of documents.now)) }
+{
+    if let Some(edited) = by_tree_ways(alloc, documents, op)? {
+        return Ok(Some(edited));
+    }
+    by_sole_ways(alloc, documents, op)
+}
+
 /// An operation carried out on documents by the first way that is one for it.
 #[tactic(auto, unfolding(crate::specs::Carried::carrying), using(crate::proofs::WayLaws::first_way_carries, crate::proofs::WayLaws::second_way_carries))]
 pub(crate) fn by_ways(
@@ -143,7 +174,7 @@ pub(crate) fn by_ways(
 ) -> Result<Option<Edited>, EditError>
     ensures { Carries result (spec.carrying (operation_of op.now) (cut_of documents.now)) }
 {
-    if let Some(edited) = by_tree_ways(alloc, documents, op)? {
+    if let Some(edited) = by_content_ways(alloc, documents, op)? {
         return Ok(Some(edited));
     }
     by_comment_ways(alloc, documents, op)

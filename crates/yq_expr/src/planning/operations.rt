@@ -23,7 +23,7 @@ fn copied_step(alloc: Global, step: &Step) -> Result<Step, AllocError>
 }
 
 /// The same steps again.
-fn copied_steps(alloc: Global, steps: &[Step]) -> Result<Vec<Step>, AllocError>
+pub fn copied_steps(alloc: Global, steps: &[Step]) -> Result<Vec<Step>, AllocError>
     ensures { IfOk result (λ v. map step_of v.items ≡ map step_of steps.now) }
 {
     let mut copies = Vec::with_capacity(alloc, steps.len())?;

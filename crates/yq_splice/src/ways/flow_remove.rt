@@ -16,7 +16,7 @@ use yq_inline::EditPlace;
 use yq_tree::{Documents, Step};
 
 /// The steps to a collection, and the last one.
-fn last_step(steps: &[Step]) -> Option<(&[Step], &Step)>
+pub(crate) fn last_step(steps: &[Step]) -> Option<(&[Step], &Step)>
     ensures { option_map (λ x. (map step_of x.0.now, step_of x.1.now)) result ≡ spec.last_step (map step_of steps.now) }
 {
     match steps {
