@@ -42,7 +42,7 @@ edit_done expr cs t u is =
     ∙ ap (λ b. if b then Some u else None) (eq-eqb (length u) (length u) refl)
 
 tells_cause : (h : History) (o : Outcome) (e : Fault) → Refuses o e → IsFor (edit_cause h o) e
-tells_cause h unreadable e is = is
+tells_cause h (unreadable old) e is = is
 tells_cause h (refused f) e is = is
 tells_cause h (edited text changes) e is = absurd is
 

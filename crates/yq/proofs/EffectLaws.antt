@@ -199,7 +199,7 @@ inside_memory e out why = why (λ memory. let bad : false ≡ true = sym out ∙
 
 module _ (f j : List ℕ) (c : Content) (expr : List ℕ) (s : State) (t : List ℕ) where
   tells_why : (T : Type 0) (o : Outcome) (e : Fault) → Refuses o e → Works (edit_effect expr o t s) f j c c {T = T} (Err e)
-  tells_why T unreadable e why = (elim (is_outside e) as (λ b. MatchBool b (Unit {0}) (Refuses unreadable e)) [ true ↦ tt | false ↦ why ], refl)
+  tells_why T (unreadable old) e why = (elim (is_outside e) as (λ b. MatchBool b (Unit {0}) (Refuses (unreadable old) e)) [ true ↦ tt | false ↦ why ], refl)
   tells_why T (refused x) e why = works_refused T (refuses (named x)) f j c e (ap (λ y. refuses (named y)) (sym why))
   tells_why T (edited u cs) e why = absurd why
 

@@ -153,7 +153,7 @@ room_stays h expr u x false true is = refl
 room_stays h expr u x false false is = none_is_some x is
 
 edit_stays : (h : History) (expr : List ℕ) (o : Outcome) (x : Cause) → edit_cause h o ≡ Some x → edit_next h expr o ≡ h
-edit_stays h expr unreadable x is = refl
+edit_stays h expr (unreadable old) x is = refl
 edit_stays h expr (refused f) x is = refl
 edit_stays h expr (edited u cs) x is = room_stays h expr u x (bytes_eq u (text_at h)) (nat_le most_records h.at) is
 

@@ -1,10 +1,12 @@
 -- What is shown of a file, by what is shown of its text.
-use Rattle.std.proofs.Common.{◌≡◌, ◌≢◌, inl, true, false, Bool, ℕ, List, Option, Some, None, option_map, Result, Ok, Err, IfErr, IsTrue, sym, ap, ◌∙◌, subst, refl}
+use Rattle.std.proofs.Common.{◌≡◌, ◌≢◌, inl, true, false, Bool, ℕ, List, Option, Some, None, option_map, Result, Ok, Err, IfErr, sym, ap, ◌∙◌, subst, refl}
 use Rattle.std.specs.FinMap.{get}
+use Rattle.std.specs.Str.{is_utf8}
 use Rattle.yq_scalar.specs.Answers.{Fails}
 use Rattle.yq_scalar.specs.Tree.{Node}
 use Rattle.yq_scalar.specs.declared.fault.ReadError.{ReadError}
 use Rattle.yq_scalar.specs.declared.fault.ReadError.TheVariants as reading
+use Rattle.yq_tree.specs.Answers.{IsNotUtf8}
 use Rattle.yq_tree.specs.Documents.{Document}
 use Rattle.yq_tree.specs.Reading.{documents, read_at}
 use Rattle.yq_expr.specs.Copies.{matches}
@@ -18,11 +20,12 @@ use Rattle.yq.specs.declared.fault.Fault.{Fault}
 use Rattle.yq.specs.declared.fault.Fault.TheVariants.{OutOfMemory, Unreadable}
 use Rattle.yq.specs.Causes.{Cause, IsFor, named, no_reading}
 use Rattle.yq.specs.Content.{Content}
-use Rattle.yq.specs.Editing.{Outcome, unreadable, refused, edited, Refuses, edits, is_unreadable, of_refusal}
+use Rattle.yq.specs.Editing.{Outcome, unreadable, refused, edited, IsUnread, Refuses, edits, of_refusal}
 use Rattle.yq.specs.Evaluation.{of_file, show_edit, show_found, show_read, shows}
 use Rattle.yq.specs.Faults.{is_outside, of_matching, of_reading}
 use Rattle.yq.specs.Pair.{Arrives, GoodIn}
 use Rattle.yq.specs.Shown.{Shown, cause_in, shown_in}
+use Rattle.yq.proofs.EditingLaws.{unread_text}
 use Rattle.yq.proofs.MoveLaws.{cut, told}
 use Rattle.yq.proofs.PairLaws.{good_text, same_pair, some_same}
 
@@ -32,7 +35,7 @@ not_both false p q = cc
 
 -- the fault of an edit tells why its text isn't shown
 pub tells_edit : (o : Outcome) (x : Fault) → Refuses o x → IsFor (cause_in (show_edit o)) x
-tells_edit unreadable x is = is
+tells_edit (unreadable old) x is = is
 tells_edit (refused f) x is = is
 tells_edit (edited u changes) x is = absurd is
 
@@ -40,13 +43,13 @@ tells_edit (edited u changes) x is = absurd is
 
 module _ (exit_status no_doc : Bool) (t : List ℕ) where
   -- a read, by the documents
-  by_documents : (p : Program) (docs : Option (List Document)) → is_read p ≡ true → option_map documents (read_at t) ≡ docs → (pipe : List Stage) × (p ≡ read pipe) × (shows exit_status no_doc p t ≡ show_read exit_status no_doc pipe docs)
+  by_documents : (p : Program) (docs : Option (List Document)) → is_read p ≡ true → option_map documents (read_at t) ≡ docs → (pipe : List Stage) × (p ≡ read pipe) × (shows exit_status no_doc p t ≡ show_read exit_status no_doc pipe t docs)
   unfolding shows
-  by_documents (read pipe) docs is reads = (pipe, refl, ap (show_read exit_status no_doc pipe) reads)
+  by_documents (read pipe) docs is reads = (pipe, refl, ap (show_read exit_status no_doc pipe t) reads)
   by_documents (updates us) docs is reads = cc
 
   -- a read of a text without a reading
-  pub unread_shows : (p : Program) → is_read p ≡ true → read_at t ≡ None → shows exit_status no_doc p t ≡ Err no_reading
+  pub unread_shows : (p : Program) → is_read p ≡ true → read_at t ≡ None → shows exit_status no_doc p t ≡ Err (no_reading t)
   unread_shows p is none = (by_documents p None is (ap (option_map documents) none)).2
 
   -- a read of a text, by its matches
@@ -64,17 +67,17 @@ module _ (exit_status no_doc : Bool) (t : List ℕ) where
   for_cause p why r x is tells = subst (Told p) (sym is) (λ memory. let k = tells memory in subst (λ o. IsFor (cause_in o) x) (sym k.0) k.1)
 
   -- a text without a reading
-  pub unread_fails : (p : Program) {T : Type 0} (r : Result T Fault) (x : Fault) → is_read p ≡ true → r ≡ Err x → IsTrue (is_unreadable x) → read_at t ≡ None → Told p r
-  unread_fails p r x is fails unread none = for_cause p no_reading r x fails (λ memory. (unread_shows p is none, unread))
+  pub unread_fails : (p : Program) {T : Type 0} (r : Result T Fault) (x : Fault) → is_read p ≡ true → r ≡ Err x → IsUnread t x → read_at t ≡ None → Told p r
+  unread_fails p r x is fails unread none = for_cause p (no_reading t) r x fails (λ memory. (unread_shows p is none, unread))
 
   -- a text that isn't read
-  pub reading_fails : (p : Program) {T : Type 0} (r : Result T Fault) (e : ReadError) → is_read p ≡ true → r ≡ Err (of_reading e) → Fails e (read_at t) → Told p r
-  reading_fails p r reading.Memory is fails none = for_cause p no_reading r OutOfMemory fails (λ memory. absurd (memory refl))
-  reading_fails p r (reading.Fault f) is fails none = unread_fails p r (Unreadable f) is fails refl none
+  pub reading_fails : (p : Program) {T : Type 0} (r : Result T Fault) (e : ReadError) → is_read p ≡ true → is_utf8 t ≡ true → r ≡ Err (of_reading e) → Fails e (read_at t) → (IsNotUtf8 {X = List ℕ} (Err e) → is_utf8 t ≡ false) → Told p r
+  reading_fails p r reading.Memory is utf8 fails none text = for_cause p (no_reading t) r OutOfMemory fails (λ memory. absurd (memory refl))
+  reading_fails p r (reading.Fault f) is utf8 fails none text = unread_fails p r (Unreadable f) is fails (unread_text t f utf8 (λ no. not_both (is_utf8 t) utf8 (text no))) none
 
   -- documents on which matching is refused
   pub matching_fails : (p : Program) (docs : List Document) {T : Type 0} (r : Result T Fault) (e : MatchError) → is_read p ≡ true → r ≡ Err (of_matching e) → option_map documents (read_at t) ≡ Some docs → ((pipe : List Stage) → p ≡ read pipe → judgement.Fails e (matches pipe docs)) → Told p r
-  matching_fails p docs r matching.Memory is fails reads why = for_cause p no_reading r OutOfMemory fails (λ memory. absurd (memory refl))
+  matching_fails p docs r matching.Memory is fails reads why = for_cause p (no_reading t) r OutOfMemory fails (λ memory. absurd (memory refl))
   matching_fails p docs r (matching.Refused x) is fails reads why =
       for_cause p (named (of_refusal x)) r (of_refusal x) fails (λ memory. (found_shows p docs (refuses x) is reads why, refl))
 

@@ -5,7 +5,8 @@ use Rattle.std.specs.Option.{option_map_or}
 use Rattle.std.specs.Str.{bytes_eq, all_ascii_digits}
 use Rattle.std.specs.Str.Parse.{digits_value}
 use Rattle.std.specs.String.{string_bytes}
-use Rattle.clap.specs.Words.{Row, Text, first_of, one_of, subcommand_of, takes}
+use Rattle.clap.specs.Words.{IsAmong, Row, Text, fault_of, first_of, one_of, subcommand_of, takes}
+use Rattle.clap.specs.declared.error.kind.ErrorKind.TheVariants.{DisplayHelp}
 use Rattle.yq.specs.declared.command.Command.{Command}
 use Rattle.yq.specs.declared.command.Command.TheVariants.{Eval, Undo, Redo, History, Squash, Help}
 use Rattle.yq.specs.declared.fault.Fault.{Fault}
@@ -39,6 +40,14 @@ is_help_word word = bytes_eq word (codes "-h") || bytes_eq word (codes "--help")
 -- some word does
 abbrev pub asks_help : List Text → Bool
 asks_help words = list_any is_help_word words
+
+-- a word asks for help, and clap's reading of the words may end at a call for help
+abbrev pub MayCallHelp : List Text → Type 0
+MayCallHelp words = (asks_help words ≡ true) × IsAmong DisplayHelp (fault_of yq (full_words words))
+
+-- the same, where it can't end otherwise
+abbrev pub CallsHelp : List Text → Type 0
+CallsHelp words = (asks_help words ≡ true) × (fault_of yq (full_words words) ≡ DisplayHelp ∷ [])
 
 -- the journal's name: the one that is given, else the file's followed by `.undo.json`
 abbrev pub journal_name : Option Text → Text → Text

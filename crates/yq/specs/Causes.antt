@@ -1,15 +1,15 @@
 -- Why a command is refused (own).
-use Rattle.std.specs.Prelude.{◌≡◌, Option, Some, None, IsTrue}
+use Rattle.std.specs.Prelude.{◌≡◌, ℕ, List, Option, Some, None}
 use Rattle.yq.specs.declared.fault.Fault.{Fault}
-use Rattle.yq.specs.Editing.{is_unreadable}
+use Rattle.yq.specs.Editing.{IsUnread}
 
--- a named fault, or that the text has no reading
+-- a named fault, or that this text has no reading
 pub data Cause : Type 0 where
   named : Fault → Cause
-  no_reading : Cause
+  no_reading : List ℕ → Cause
 
--- the fault tells the cause; which fault of reading it is, is left open
+-- the fault tells the cause; of a text without a reading, whether it is no UTF-8
 abbrev pub IsFor : Option Cause → Fault → Type 0
 IsFor None e = ⊥
 IsFor (Some (named f)) e = e ≡ f
-IsFor (Some no_reading) e = IsTrue (is_unreadable e)
+IsFor (Some (no_reading text)) e = IsUnread text e

@@ -1,5 +1,8 @@
 -- What an expression makes of a text.
-use Rattle.std.specs.Prelude.{◌≡◌, ℕ, Bool, true, false, List, Result, Ok, Err, IsTrue}
+use Rattle.std.specs.Prelude.{◌≡◌, ◌↔◌, ◌&&◌, ℕ, Bool, true, not, List, length, nat_le, Result, Ok, Err}
+use Rattle.std.specs.Str.{is_utf8}
+use Rattle.yq_scalar.specs.Characters.{text_limit}
+use Rattle.yq_scalar.specs.declared.fault.FaultKind.TheVariants.{NotUtf8}
 use Rattle.yq_expr.specs.Program.{Program}
 use Rattle.yq_expr.specs.Parse.{outcome}
 use Rattle.yq_expr.specs.Outcome as expr
@@ -17,20 +20,24 @@ use Rattle.yq.specs.declared.fault.Fault.{Fault}
 use Rattle.yq.specs.declared.fault.Fault.TheVariants as fault
 use Rattle.yq.specs.declared.fault.Fault.TheVariants.{Syntax, NotInProfile, Pattern, OutOfMemory, Unreadable}
 
--- what an edit comes to: the text has no reading, or the program is refused on it, or it gives a text by splices (own)
+-- what an edit comes to: this text has no reading, or the program is refused on it, or it gives a text by splices (own)
 pub data Outcome : Type 0 where
-  unreadable : Outcome
+  unreadable : List ℕ → Outcome
   refused : Fault → Outcome
   edited : List ℕ → List Change → Outcome
 
--- a fault that tells that the text has no reading (own)
-abbrev pub is_unreadable : Fault → Bool
-is_unreadable (Unreadable f) = true
-is_unreadable _ = false
+-- bytes that aren't too many for a text and are no UTF-8 (YAML 1.2.2, section 5.2)
+abbrev pub is_no_utf8 : List ℕ → Bool
+is_no_utf8 bytes = nat_le (length bytes) text_limit && not (is_utf8 bytes)
 
--- the fault tells why nothing is given; which fault of reading it is, is left open (own)
+-- the fault tells that bytes have no reading, and that they are no UTF-8 exactly where that is so; which other fault of reading it is, is left open (own)
+abbrev pub IsUnread : List ℕ → Fault → Type 0
+IsUnread bytes (Unreadable f) = (f.kind ≡ NotUtf8) ↔ (is_no_utf8 bytes ≡ true)
+IsUnread bytes _ = ⊥
+
+-- the fault tells why nothing is given (own)
 abbrev pub Refuses : Outcome → Fault → Type 0
-Refuses unreadable e = IsTrue (is_unreadable e)
+Refuses (unreadable text) e = IsUnread text e
 Refuses (refused f) e = e ≡ f
 Refuses (edited text changes) e = ⊥
 
@@ -77,12 +84,12 @@ of_edit error.NotInProfile = NotInProfile
 of_edit error.Memory = OutOfMemory
 
 -- what an edit of a text comes to; one that isn't carried out yet is refused as not in the profile (own)
-abbrev pub outcome_of : Edit → Outcome
-outcome_of edit.unreadable = unreadable
-outcome_of (edit.refuses why) = refused (of_refusal why)
-outcome_of edit.unbuilt = refused NotInProfile
-outcome_of (edit.gives text changes) = edited text changes
+abbrev pub outcome_of : List ℕ → Edit → Outcome
+outcome_of old edit.unreadable = unreadable old
+outcome_of old (edit.refuses why) = refused (of_refusal why)
+outcome_of old edit.unbuilt = refused NotInProfile
+outcome_of old (edit.gives text changes) = edited text changes
 
 -- what a program makes of a text (own)
 unfoldable pub edits : Program → List ℕ → Outcome
-edits program text = outcome_of (edit_of program text)
+edits program text = outcome_of text (edit_of program text)

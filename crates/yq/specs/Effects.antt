@@ -59,7 +59,7 @@ walk_effect step t s = goes_to (no_way s.records s.at step) (moved_text s.record
 
 -- what an edit does to them, by what it comes to: a record of one edit goes into the journal
 abbrev pub edit_effect : List ℕ → Outcome → List ℕ → State → Effect
-edit_effect expr unreadable t s = refuses no_reading
+edit_effect expr (unreadable old) t s = refuses (no_reading old)
 edit_effect expr (refused f) t s = refuses (named f)
 edit_effect expr (edited u changes) t s =
     if bytes_eq u t then writes_nothing

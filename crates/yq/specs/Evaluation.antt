@@ -16,7 +16,7 @@ use Rattle.yq.specs.Shown.{Shown, text}
 
 -- of an edit the new text is shown
 abbrev pub show_edit : Outcome → Result Shown Cause
-show_edit unreadable = Err no_reading
+show_edit (unreadable old) = Err (no_reading old)
 show_edit (refused f) = Err (named f)
 show_edit (edited t changes) = Ok (text t)
 
@@ -26,13 +26,13 @@ show_found exit_status no_doc (gives ms) = Ok (shown_matches exit_status no_doc 
 show_found exit_status no_doc (refuses why) = Err (named (of_refusal why))
 
 -- the same, by the documents, if the text reads as documents
-abbrev pub show_read : Bool → Bool → List Stage → Option (List Document) → Result Shown Cause
-show_read exit_status no_doc pipe None = Err no_reading
-show_read exit_status no_doc pipe (Some docs) = show_found exit_status no_doc (matches pipe docs)
+abbrev pub show_read : Bool → Bool → List Stage → List ℕ → Option (List Document) → Result Shown Cause
+show_read exit_status no_doc pipe t None = Err (no_reading t)
+show_read exit_status no_doc pipe t (Some docs) = show_found exit_status no_doc (matches pipe docs)
 
 -- what a program shows of a text, or why it shows nothing
 unfoldable pub shows : Bool → Bool → Program → List ℕ → Result Shown Cause
-shows exit_status no_doc (read pipe) t = show_read exit_status no_doc pipe (option_map documents (read_at t))
+shows exit_status no_doc (read pipe) t = show_read exit_status no_doc pipe t (option_map documents (read_at t))
 shows exit_status no_doc (updates us) t = show_edit (edits (updates us) t)
 
 -- what is shown of a file, by what is shown of its text

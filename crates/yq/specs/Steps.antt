@@ -42,13 +42,13 @@ room_cause h text =
 
 -- why an edit is refused, by what it comes to
 abbrev pub edit_cause : History → Outcome → Option Cause
-edit_cause h unreadable = Some no_reading
+edit_cause h (unreadable old) = Some (no_reading old)
 edit_cause h (refused f) = Some (named f)
 edit_cause h (edited text changes) = room_cause h text
 
 -- the history after it: one to an equal text leaves it
 abbrev pub edit_next : History → List ℕ → Outcome → History
-edit_next h expr unreadable = h
+edit_next h expr (unreadable old) = h
 edit_next h expr (refused f) = h
 edit_next h expr (edited text changes) =
     if bytes_eq text (text_at h) then h

@@ -1,10 +1,11 @@
 //! What an expression makes of a text.
-ghost use Rattle.std.specs.Prelude.{◌≡◌, ◌≢◌, ◌⊎◌, Some, None, Ok, Err, IfOk, IfErr, OnErr, IsTrue, false, length};
+ghost use Rattle.std.specs.Prelude.{◌≡◌, ◌≢◌, ◌⊎◌, Some, None, Ok, Err, IfOk, IfErr, OnErr, true, false, length};
+ghost use Rattle.std.specs.Str.{is_utf8};
 ghost use Rattle.std.specs.String.{string_bytes};
 ghost use Rattle.yq_expr.specs.View.{program_of};
 ghost use Rattle.yq_splice.specs.Patch.{all_done, lengths_done};
 ghost use Rattle.yq_tree.specs.Reading.{read_at};
-ghost use Rattle.yq.specs.Editing.{Refuses, edited, edits, is_unreadable, program_in};
+ghost use Rattle.yq.specs.Editing.{IsUnread, Refuses, edited, edits, program_in};
 ghost use Rattle.yq.specs.Faults.{is_failure, is_output};
 
 use crate::fault::Fault;
@@ -30,7 +31,8 @@ pub fn parse(alloc: Global, expr: &str) -> Result<Program, Fault>
 /// since of a longer file not all need be known.
 pub fn given_text(bytes: &[u8]) -> Result<&str, Fault>
     ensures ok { IfOk result (λ s. s.now ≡ bytes.now) }
-    ensures err { IfErr result (λ e. IsTrue (is_unreadable e)) }
+    ensures utf8 { IfOk result (λ s. is_utf8 bytes.now ≡ true) }
+    ensures err { IfErr result (IsUnread bytes.now) }
     ensures none { OnErr result (read_at bytes.now ≡ None) }
     ensures inside { IfErr result (λ e. is_failure e ≡ false) }
     ensures quiet { IfErr result (λ e. is_output e ≡ false) }
@@ -45,7 +47,7 @@ pub fn given_text(bytes: &[u8]) -> Result<&str, Fault>
 }
 
 /// Edits a text, which need be no UTF-8, by a program.
-#[tactic(auto, unfolding(crate::specs::Editing::edits), using(crate::proofs::EditingLaws::unread))]
+#[tactic(auto, unfolding(crate::specs::Editing::edits), using(crate::proofs::EditingLaws::unread_refuses, crate::proofs::EditingLaws::edit_refuses))]
 pub fn edit_text(alloc: Global, program: &Program, text: &[u8]) -> Result<Edited, Fault>
     ensures ok { IfOk result (λ e. edits (program_of program.now) text.now ≡ edited (string_bytes e.text) e.splices.items) }
     ensures splices { IfOk result (λ e. all_done e.splices.items text.now ≡ Some (string_bytes e.text)) }

@@ -1,6 +1,6 @@
 //! The words of the command line.
-ghost use Rattle.std.specs.Prelude.{◌≡◌, ◌≢◌, ◌⊎◌, ◌∷◌, IfOk, IfErr, map, true, Ok};
-ghost use Rattle.clap.specs.Words.{subcommand_of, takes};
+ghost use Rattle.std.specs.Prelude.{◌≡◌, ◌≢◌, ◌⊎◌, ◌∷◌, IfOk, IfErr, MatchResult, [], map, true, false, Ok};
+ghost use Rattle.clap.specs.Words.{IsAmong, fault_of, subcommand_of, takes};
 ghost use Rattle.yq.specs.declared.command.Command.TheVariants.{Help};
 ghost use Rattle.yq.specs.Asked as spec;
 ghost use Rattle.yq.specs.Line.{yq};
@@ -70,7 +70,7 @@ fn asks_help(words: &[&str]) -> bool
 fn without_matches(kind: ErrorKind, asked: bool) -> Result<Command, Fault>
     ensures ok { IfOk result (λ c. (c ≡ Help) × (kind ≡ ErrorKind.DisplayHelp) × (asked ≡ true)) }
     ensures err { IfErr result (λ e. ((e ≡ Fault.OutOfMemory) × (kind ≡ ErrorKind.OutOfMemory))
-        ⊎ ((e ≡ Fault.Usage) × (kind ≢ ErrorKind.OutOfMemory))) }
+        ⊎ ((e ≡ Fault.Usage) × (kind ≢ ErrorKind.OutOfMemory) × ((kind ≡ ErrorKind.DisplayHelp) → asked ≡ false))) }
 {
     match kind {
         ErrorKind::DisplayHelp if asked => Ok(Command::Help),
@@ -82,8 +82,10 @@ fn without_matches(kind: ErrorKind, asked: bool) -> Result<Command, Fault>
 /// The command of the words as `clap` reads them.
 fn command_by(alloc: Global, full: &[&str], asked: bool) -> Result<Command, Fault>
     ensures asked { IfOk result (spec.IsAsked (subcommand_of yq (map (λ w. w.now) full.now))) }
+    ensures taken { IfOk result (λ c. c ≢ Help → takes yq (map (λ w. w.now) full.now) ≡ true) }
     ensures help { takes yq (map (λ w. w.now) full.now) ≡ true → result ≢ Ok Help }
-    ensures only { result ≡ Ok Help → asked ≡ true }
+    ensures only { result ≡ Ok Help → (asked ≡ true) × IsAmong ErrorKind.DisplayHelp (fault_of yq (map (λ w. w.now) full.now)) }
+    ensures called { asked ≡ true → fault_of yq (map (λ w. w.now) full.now) ≡ ErrorKind.DisplayHelp ∷ [] → MatchResult result (λ c. c ≡ Help) (λ e. e ≡ Fault.OutOfMemory) }
     ensures err { IfErr result (spec.IsUnread (map (λ w. w.now) full.now)) }
 {
     match matched(alloc, full) {
@@ -103,9 +105,12 @@ fn command_by(alloc: Global, full: &[&str], asked: bool) -> Result<Command, Faul
 #[tactic(auto, using(crate::proofs::WordsFound::refused_by_checks))]
 pub fn command_of(alloc: Global, words: &[&str]) -> Result<Command, Fault>
     ensures asked { IfOk result (spec.IsAsked (subcommand_of yq (spec.full_words (map (λ w. w.now) words.now)))) }
+    // Words that clap doesn't take are no command, unless they ask for help.
+    ensures taken { IfOk result (λ c. c ≢ Help → takes yq (spec.full_words (map (λ w. w.now) words.now)) ≡ true) }
     ensures help { takes yq (spec.full_words (map (λ w. w.now) words.now)) ≡ true → result ≢ Ok Help }
-    // Help is answered where `-h` or `--help` is a word, and not else.
-    ensures only { result ≡ Ok Help → spec.asks_help (map (λ w. w.now) words.now) ≡ true }
+    // Help is answered where `-h` or `--help` is a word and clap reads a call for help, and not else.
+    ensures only { result ≡ Ok Help → spec.MayCallHelp (map (λ w. w.now) words.now) }
+    ensures called { spec.CallsHelp (map (λ w. w.now) words.now) → MatchResult result (λ c. c ≡ Help) (λ e. e ≡ Fault.OutOfMemory) }
     ensures err { IfErr result (spec.IsRefused (spec.full_words (map (λ w. w.now) words.now))) }
 {
     let full = full_words(alloc, words)?;

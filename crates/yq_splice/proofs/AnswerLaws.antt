@@ -88,7 +88,7 @@ step_fails p us n t m cs e is below h fails =
       fails = subst (λ l. Fails e (in_order updated l t)) (sym all) (leads_fail updated IsStep (λ v a b ds k. k.exact) (take n us) u (drop (suc n) us) t m cs e h here.fails);
       unread = λ fault same holds.
           let k = front_holds (take n us) (drop (suc n) us) u (subst UpdatesHold all holds) in
-          first_unread (take n us) t m cs k.0 h (no_reading u m k.1 (here.valid fault same) (subst (λ y. Fails y (updated u m)) same here.fails));
+          first_unread (take n us) t m cs k.0 h (no_reading u m k.1 (here.valid fault same) (subst (λ y. Fails y (updated u m)) same here.fails).0);
     }
 
 -- ---- the whole program
@@ -175,7 +175,7 @@ none_read (updates (u ∷ us)) t none h = absurd (omega (arith, none))
 pub none_unread : (r : Result Edited EditError) (p : Program) (t : List ℕ) → update_count p ≡ 0 → Edits r (edit_of p t) →
     IfErr r (λ e. (fault : ReadFault) → e ≡ error.Read fault → LiteralsHold p → read_at t ≡ None)
 none_unread (Ok e) p t none h = tt
-none_unread (Err e) p t none h = λ fault same holds. go (subst (λ x. Fails x (edit_of p t)) same h) (read_at t) refl
+none_unread (Err e) p t none h = λ fault same holds. go (subst (λ x. Fails x (edit_of p t)) same h).0 (read_at t) refl
   where
     go : edit_of p t ≡ unreadable → (o : Option Cut) → read_at t ≡ o → read_at t ≡ None
     go bad None is = is

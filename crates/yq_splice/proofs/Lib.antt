@@ -1,6 +1,7 @@
 pub mod PatchLaws
 pub mod ScriptLaws
 pub mod ExtentLaws
+pub mod TextFaults
 pub mod TouchLaws
 pub mod TurnLaws
 pub mod PlaceInList

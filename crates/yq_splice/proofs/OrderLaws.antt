@@ -57,14 +57,14 @@ order_leads f (x ∷ xs) t new cs h = go (f x t) refl (λ m es e. order_leads f 
 
 -- an edit that fails, also behind splices
 pub fails_behind : (e : EditError) (cs : List Change) (r : Edit) → Fails e r → Fails e (behind cs r)
-fails_behind (error.Read fault) cs r h = ap (behind cs) h
+fails_behind (error.Read fault) cs r h = (ap (behind cs) h.0, h.1)
 fails_behind (error.Refused why) cs r h = ap (behind cs) h
 fails_behind error.NotInProfile cs r h = ap (behind cs) h
 fails_behind error.Memory cs r h = tt
 
 -- a step that fails fails all that come after it
 pub fails_on : (e : EditError) (g : List ℕ → Edit) (r : Edit) → Fails e r → Fails e (and_then g r)
-fails_on (error.Read fault) g r h = ap (and_then g) h
+fails_on (error.Read fault) g r h = (ap (and_then g) h.0, h.1)
 fails_on (error.Refused why) g r h = ap (and_then g) h
 fails_on error.NotInProfile g r h = ap (and_then g) h
 fails_on error.Memory g r h = tt

@@ -1,6 +1,10 @@
 -- An update that is planned on the documents of a text and carried out.
-use Rattle.std.proofs.Common.{◌≡◌, ℕ, List, Some, None, Result, Ok, Err, IfOk, IfErr, string_bytes, sym, ap, ◌∙◌, subst}
+use Rattle.std.proofs.Common.{◌≡◌, ◌≢◌, ℕ, List, Some, None, Result, Ok, Err, IfOk, IfErr, string_bytes, sym, ap, ◌∙◌, subst}
+use Rattle.std.specs.Str.{IsUtf8}
 use Rattle.yq_scalar.specs.declared.ReadFault.{ReadFault}
+use Rattle.yq_scalar.specs.declared.fault.FaultKind.TheVariants.{NotUtf8}
+use Rattle.yq_scalar.specs.declared.fault.ReadError.{ReadError}
+use Rattle.yq_scalar.specs.declared.fault.ReadError.TheVariants as reading
 use Rattle.yq_rows.specs.Rows.{Cut}
 use Rattle.yq_tree.specs.Reading.{documents, documents_of, cut_of, read_at}
 use Rattle.yq_expr.specs.Judgement as judgement
@@ -12,7 +16,7 @@ use Rattle.yq_expr.specs.Rooms.{room_of}
 use Rattle.yq_expr.specs.declared.refusal.Refusal.{Refusal}
 use Rattle.yq_expr.specs.declared.plan_error.PlanError.{PlanError}
 use Rattle.yq_expr.specs.declared.plan_error.PlanError.TheVariants as planning
-use Rattle.yq_splice.specs.Answers.{Edits, Fails, of_planning}
+use Rattle.yq_splice.specs.Answers.{Edits, Fails, of_planning, of_reading}
 use Rattle.yq_splice.specs.Carried.{carry_all, carry_out, updated}
 use Rattle.yq_splice.specs.Edit.{unreadable, by_reading}
 use Rattle.yq_splice.specs.Patch.{Change}
@@ -20,6 +24,7 @@ use Rattle.yq_splice.specs.Valid.{HaveOperands, HasOperands, IsStep, FailsAt}
 use Rattle.yq_splice.specs.declared.edited.Edited.{Edited}
 use Rattle.yq_splice.specs.declared.edited.EditError.{EditError}
 use Rattle.yq_splice.specs.declared.edited.EditError.TheVariants as error
+use Rattle.yq_splice.proofs.TextFaults.{FailsToRead, text_unread}
 
 -- an update by the reading of the text
 read_updated : (u : Update) (t : List ℕ) (c : Cut) → read_at t ≡ Some c → updated u t ≡ carry_out t (plan u (room_of t) (documents c))
@@ -57,12 +62,17 @@ pub update_refused : (u : Update) (t : List ℕ) (c : Cut) (why : Refusal) → r
 update_refused u t c why is refused = record { fails = read_updated u t c is ∙ ap (carry_out t) refused; valid = λ fault same. absurd (cc) }
 
 -- a text that has no reading
-pub update_unread : (u : Update) (t : List ℕ) (fault : ReadFault) → read_at t ≡ None → FailsAt (error.Read fault) u t
-update_unread u t fault none = record { fails = unread_updated u t none; valid = λ f same d os again. absurd (let e = sym none ∙ again in cc) }
+update_unread : (u : Update) (t : List ℕ) (fault : ReadFault) → read_at t ≡ None → fault.kind ≢ NotUtf8 → FailsAt (error.Read fault) u t
+update_unread u t fault none text = record { fails = (unread_updated u t none, text); valid = λ f same d os again. absurd (let e = sym none ∙ again in cc) }
 
 -- memory that ran out
 pub update_refused_memory : (u : Update) (t : List ℕ) → FailsAt error.Memory u t
 update_refused_memory u t = record { fails = tt; valid = λ fault same. absurd (cc) }
+
+-- an update of a text that isn't read
+pub update_not_read : (u : Update) (bytes t : List ℕ) (e : ReadError) → bytes ≡ t → IsUtf8 t → FailsToRead e bytes → FailsAt (of_reading e) u t
+update_not_read u bytes t reading.Memory same utf8 h = update_refused_memory u t
+update_not_read u bytes t (reading.Fault fault) same utf8 h = let k = text_unread bytes t fault same utf8 h in update_unread u t fault k.0 k.1
 
 -- an update that is not planned, by the documents of a text
 pub update_unplanned : {X : Type 0} (view : X → List Operation) (u : Update) (t d : List ℕ) (p : PlanError) → read_at t ≡ Some (cut_of d) → d ≡ t →

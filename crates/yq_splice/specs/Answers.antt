@@ -1,5 +1,6 @@
 -- What an answer to an edit says.
-use Rattle.std.specs.Prelude.{◌≡◌, Result, Ok, Err, string_bytes}
+use Rattle.std.specs.Prelude.{◌≡◌, ◌≢◌, Result, Ok, Err, string_bytes}
+use Rattle.yq_scalar.specs.declared.fault.FaultKind.TheVariants.{NotUtf8}
 use Rattle.yq_scalar.specs.declared.fault.ReadError.{ReadError}
 use Rattle.yq_scalar.specs.declared.fault.ReadError.TheVariants as reading
 use Rattle.yq_expr.specs.declared.plan_error.PlanError.{PlanError}
@@ -19,9 +20,9 @@ abbrev pub of_planning : PlanError → EditError
 of_planning (planning.Refused why) = error.Refused why
 of_planning planning.Memory = error.Memory
 
--- what an error says of the edit; want of memory says nothing (own)
+-- what an error says of the edit, and that no text is told to be no UTF-8; want of memory says nothing (own)
 abbrev pub Fails : EditError → Edit → Type 0
-Fails (error.Read fault) edit = edit ≡ unreadable
+Fails (error.Read fault) edit = (edit ≡ unreadable) × (fault.kind ≢ NotUtf8)
 Fails (error.Refused why) edit = edit ≡ refuses why
 Fails error.NotInProfile edit = edit ≡ unbuilt
 Fails error.Memory edit = Unit {0}

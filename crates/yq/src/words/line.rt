@@ -1,6 +1,6 @@
 //! The command line as `clap` takes it.
 ghost use Rattle.std.specs.Prelude.{◌≡◌, IfOk, IfErr, codes, false, true, map};
-ghost use Rattle.clap.specs.Words.{app_of, rule_of, with_rule, with_subcommand, subcommand_rows_of, subcommand_of, takes, kind_of};
+ghost use Rattle.clap.specs.Words.{app_of, rule_of, with_rule, with_subcommand, subcommand_rows_of, subcommand_of, takes, fault_of, FailsBy, kind_of};
 ghost use Rattle.clap.specs.declared.builder.command.Command.TheViews.{out-Command as fields_of};
 ghost use Rattle.yq.specs.Line as spec;
 
@@ -123,7 +123,9 @@ fn line<'a>(alloc: Global) -> Result<Command<'a>, AllocError>
 /// What `clap` finds in the words, of which the first is the program's name.
 pub fn matched<'a>(alloc: Global, words: &'a [&'a str]) -> Result<ArgMatches<'a>, Error>
     ensures ok { IfOk result (λ m. subcommand_rows_of m ≡ subcommand_of spec.yq (map (λ w. w.now) words.entry.now)) }
+    ensures taken { IfOk result (λ m. takes spec.yq (map (λ w. w.now) words.entry.now) ≡ true) }
     ensures passes { IfErr result (λ e. takes spec.yq (map (λ w. w.now) words.entry.now) ≡ true → kind_of e ≡ ErrorKind.OutOfMemory) }
+    ensures kinds { FailsBy (fault_of spec.yq (map (λ w. w.now) words.entry.now)) result }
 {
     line(alloc)?.try_get_matches_from(words)
 }

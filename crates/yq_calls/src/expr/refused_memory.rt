@@ -1,6 +1,8 @@
 //! Each growth of memory is refused in turn.
 
 use crate::memory::all_memory;
+use std::alloc::Global;
+use std::process::Abort;
 use std::test::Fail;
 use yq_expr::{MatchError, ParseError, PlanError, matches, parse_expr, plan};
 use yq_tree::read;
@@ -29,20 +31,35 @@ fn of_programs(rt: HostRuntime) -> Result<(), Fail> {
     Ok(())
 }
 
-/// The same of the plan of the second update of two.
-#[test]
-fn of_plans(rt: HostRuntime) -> Result<(), Fail> {
-    let alloc = rt.alloc();
-    let program = parse_expr(alloc, ".c = 1 | .a.b = 2")?;
-    let documents = read(alloc, b"a:\n  b: 1\n")?;
+/// A program, one of its updates, a text, and how many operations that update has there.
+static PLANS: [(&str, usize, &str, usize); 7] = [
+    (".c = 1 | .a.b = 2", 1, "a:\n  b: 1\n", 1),
+    (".a = {\"k\": [\"v\\t\", null]}", 0, "a: 1\n", 1),
+    (".[] = .a + 1", 0, "a: 1\nb: 2\n", 2),
+    (".a += [3, {\"k\": 4}]", 0, "a: [1, 2]\n", 2),
+    (".a += {\"b\": 2, \"c\": 3}", 0, "a: {b: 1}\n", 2),
+    ("del(.[])", 0, "a: &x 1\nb: 2\n", 2),
+    (".a head_comment = \"x\"", 0, "a: 1\n", 1),
+];
+
+/// The same of the plan of an update: so many steps are refused before it has its operations.
+fn plan_in_turn(
+    rt: &impl Abort,
+    alloc: Global,
+    expr: &str,
+    nth: usize,
+    text: &str,
+    wanted: usize,
+) -> Result<u32, Fail> {
+    let program = parse_expr(alloc, expr)?;
+    let documents = read(alloc, text.as_bytes())?;
     let mut held = all_memory(alloc)?;
     'turns: for turn in 0..4096u32 {
-        assert!(rt; program.updates() > 1);
-        match plan(alloc, &program, 1, &documents) {
+        assert!(rt; program.updates() > nth);
+        match plan(alloc, &program, nth, &documents) {
             Ok(ops) => {
-                assert_eq!(rt; ops.len(), 1);
-                assert!(rt; turn > 3);
-                return Ok(());
+                assert_eq!(rt; ops.len(), wanted);
+                return Ok(turn);
             }
             Err(e) => {
                 assert_eq!(rt; e, PlanError::Memory);
@@ -50,7 +67,15 @@ fn of_plans(rt: HostRuntime) -> Result<(), Fail> {
             }
         }
     }
-    assert!(rt; false, "never planned");
+    Err(Fail::new("never planned"))
+}
+
+#[test]
+fn of_plans(rt: HostRuntime) -> Result<(), Fail> {
+    'plans: for (expr, nth, text, wanted) in &PLANS {
+        let turns = plan_in_turn(&rt, rt.alloc(), expr, *nth, text, *wanted)?;
+        assert!(rt; turns > 3, "{expr:?}");
+    }
     Ok(())
 }
 

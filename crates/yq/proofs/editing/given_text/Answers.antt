@@ -1,7 +1,9 @@
-use Rattle.std.proofs.Common.{OnErr, arith, sym, subst, ◌≡◌, None}
+use Rattle.std.proofs.Common.{IfErr, OnErr, arith, refl, sym, subst, ◌≡◌, None}
 use Rattle.std.proofs.lemmas.Result.{err_from_is_err_and}
+use Rattle.yq_scalar.specs.declared.fault.FaultKind.TheVariants.{TooLarge}
 use Rattle.yq_tree.specs.Reading.{read_at}
-use Rattle.yq.proofs.EditingLaws.{not_read, too_long}
+use Rattle.yq.proofs.EditingLaws.{long_told, no_utf8_told, not_read, too_long}
+use Rattle.yq.specs.Editing.{IsUnread}
 use Rattle.yq.proofs.editing.given_text.Goals as goal
 
 pub returns-then-bytes-gt-TEXT_LIMIT-clause-none : goal.returns-then-bytes-gt-TEXT_LIMIT-clause-none
@@ -11,3 +13,12 @@ pub returns-in_err-text_of-clause-none : goal.returns-in_err-text_of-clause-none
 returns-in_err-text_of-clause-none c =
     let p = err_from_is_err_and c.from_residual.result c.from_residual.ensures.1 in
     subst (λ r. OnErr r (read_at c.args.bytes.now ≡ None)) (sym p.1) (not_read c.args.bytes.now c.in_err-text_of.ensures.0)
+
+pub returns-then-bytes-gt-TEXT_LIMIT-clause-err : goal.returns-then-bytes-gt-TEXT_LIMIT-clause-err
+returns-then-bytes-gt-TEXT_LIMIT-clause-err c = long_told c.args.bytes.now (record { kind = TooLarge; line = 1 }) (omega (arith, c.if-bytes-gt-TEXT_LIMIT.true)) refl
+
+pub returns-in_err-text_of-clause-err : goal.returns-in_err-text_of-clause-err
+returns-in_err-text_of-clause-err c =
+    let p = err_from_is_err_and c.from_residual.result c.from_residual.ensures.1 in
+    subst (λ r. IfErr r (IsUnread c.args.bytes.now)) (sym p.1)
+    (subst (IsUnread c.args.bytes.now) (sym p.2) (no_utf8_told c.args.bytes.now c.in_err-text_of.field-0.0 (omega (arith, c.if-bytes-gt-TEXT_LIMIT.false)) c.in_err-text_of.ensures.0 c.in_err-text_of.ensures.1))

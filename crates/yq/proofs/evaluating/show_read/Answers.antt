@@ -1,5 +1,6 @@
 use Rattle.std.proofs.Common.{Ok, Err, option_map, ap, sym, ◌∙◌, subst}
 use Rattle.std.proofs.lemmas.Result.{err_from_is_err_and}
+use Rattle.std.specs.Str.{is_utf8}
 use Rattle.yq_scalar.specs.Answers.{Fails}
 use Rattle.yq_tree.specs.Reading.{documents, read_at}
 use Rattle.yq_expr.specs.Judgement.{gives}
@@ -19,7 +20,8 @@ pub returns-in_err-documents-clause-err : goal.returns-in_err-documents-clause-e
 returns-in_err-documents-clause-err c =
     let p = err_from_is_err_and c.from_residual-in_err-documents.result c.from_residual-in_err-documents.ensures.1 in
     reading_fails c.args.exit_status c.args.no_doc c.args.text.now (program_of c.args.program.now) c.from_residual-in_err-documents.result c.in_err-documents.field-0.0 c.requires
-    (p.1 ∙ ap Err p.2) (subst (λ t. Fails c.in_err-documents.field-0.0 (read_at t)) (c.as_bytes.ensures.value ∙ c.in_ok-text.ensures.ok) c.in_err-documents.ensures.exact)
+    c.in_ok-text.ensures.utf8 (p.1 ∙ ap Err p.2) (subst (λ t. Fails c.in_err-documents.field-0.0 (read_at t)) (c.as_bytes.ensures.value ∙ c.in_ok-text.ensures.ok) c.in_err-documents.ensures.exact)
+    (λ no. sym (ap is_utf8 (c.as_bytes.ensures.value ∙ c.in_ok-text.ensures.ok)) ∙ c.in_err-documents.ensures.not_utf8.0 no)
 
 pub returns-in_err-found-clause-err : goal.returns-in_err-found-clause-err
 returns-in_err-found-clause-err c =

@@ -8,8 +8,15 @@ use Rattle.yq_expr.specs.declared.op.Op.{Op}
 use Rattle.yq_splice.specs.Answers.{Edits}
 use Rattle.yq_splice.specs.Carried.{carry_all}
 use Rattle.yq_splice.specs.Valid.{HaveOperands}
-use Rattle.yq_splice.proofs.UpdateLaws.{update_unplanned, update_planned, update_ok, update_err}
+use Rattle.yq_splice.proofs.UpdateLaws.{update_not_read, update_unplanned, update_planned, update_ok, update_err}
 use Rattle.yq_splice.proofs.editing.update_text.Goals as goal
+
+pub returns-in_err-documents-clause-err : goal.returns-in_err-documents-clause-err
+returns-in_err-documents-clause-err c =
+    let p = err_from_is_err_and c.from_residual.result c.from_residual.ensures.1 in
+    rw (p.1, p.2)
+    (λ u at. update_not_read u c.as_bytes.result.now c.args.text.now c.in_err-documents.field-0.0 c.as_bytes.ensures.value c.utf8.text
+    (record { none = c.in_err-documents.ensures.exact; utf8 = c.in_err-documents.ensures.not_utf8 }))
 
 pub returns-in_err-ops-clause-err : goal.returns-in_err-ops-clause-err
 returns-in_err-ops-clause-err c =
