@@ -233,7 +233,7 @@ pub record IsCollectionWay (doc : ℕ) (steps : List Step) (v : Node) (c : Cut) 
   pub are : exchange_segments (lines_upto w x) y ≡ us
 
 -- a root has no key or dash
-no_mark : (doc : ℕ) (c : Cut) (w : MarkPlace) → mark_place doc [] c ≡ Some w → ⊥
+pub no_mark : (doc : ℕ) (c : Cut) (w : MarkPlace) → mark_place doc [] c ≡ Some w → ⊥
 no_mark doc c w e =
     let ends = bind_some (line_end doc [] c) e in
     let y = bind_some (row_of_path doc [] c) ends.1 in

@@ -1,5 +1,6 @@
 -- The way to replace a block collection under a key or dash: by what is written inline behind that, or by lines under it (YAML 1.2.2, 8.2; own).
-use Rattle.std.specs.Prelude.{◌≡◌, ℕ, ◌-◌, List, [], ◌∷◌, ◌++◌, length, take, Option, Some, None, option_map, if◌then◌else◌}
+use Rattle.std.specs.Prelude.{◌≡◌, ℕ, ◌-◌, List, [], ◌∷◌, ◌++◌, length, take, Option, Some, None, option_map, if◌then◌else◌, string_bytes}
+use Rattle.std.specs.String.{String}
 use Rattle.yq_scalar.specs.Answers.{◌>>=◌}
 use Rattle.yq_scalar.specs.Paths.{Step}
 use Rattle.yq_scalar.specs.Tree.{Node}
@@ -43,6 +44,10 @@ lines_under n steps c = mark_place n steps c >>= λ w. option_map (lines_upto w)
 pub record Written : Type 0 where
   pub beside : List ℕ
   pub below : List ℕ
+
+-- what the code holds of that (own)
+abbrev pub written_told : String × String → Written
+written_told w = record { beside = string_bytes w.0; below = string_bytes w.1 }
 
 -- a text behind a space, and no lines
 abbrev pub beside_mark : List ℕ → Written

@@ -21,4 +21,4 @@ pub mod Valid
 pub mod Theorems
 pub mod Print
 pub mod FlowWays
-pub mod BlockReplacing
+pub mod CollectionReplacing
