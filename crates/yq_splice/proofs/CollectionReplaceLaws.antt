@@ -1,5 +1,5 @@
 -- Replacing a block collection under a key or dash is a way.
-use Rattle.std.proofs.Common.{◌≡◌, inl, inr, ℕ, ◌+◌, ◌<◌, ◌≤◌, not, Bool, true, false, cond, List, [], ◌∷◌, ◌++◌, length, replicate, Option, Some, None, refl, sym, ap, ◌∙◌, subst, arith, append_assoc, append-nil}
+use Rattle.std.proofs.Common.{◌≡◌, ◌⊎◌, inl, inr, ℕ, ◌+◌, ◌<◌, ◌≤◌, not, Bool, true, false, cond, List, [], ◌∷◌, ◌++◌, length, replicate, Option, Some, None, refl, sym, ap, ◌∙◌, subst, arith, append_assoc, append-nil}
 use Rattle.std.proofs.lemmas.Bool.{false≢true}
 use Rattle.yq_scalar.specs.BlockWritten.{break_text}
 use Rattle.yq_scalar.specs.Characters.{text_limit}
@@ -49,7 +49,7 @@ use Rattle.yq_expr.specs.Fits.{Fits}
 use Rattle.yq_expr.specs.Operations.{Operation, replace, append, remove, line_comment, head_comment}
 use Rattle.yq_expr.specs.Rooms.{room_of}
 use Rattle.yq_splice.specs.BlockWriting.{below_mark, lines_below}
-use Rattle.yq_splice.specs.CollectionReplacing.{LinesUnder, Written, beside_mark, exchange_segments, lines_under, lines_upto, replace_collection_way, up_to, written_there}
+use Rattle.yq_splice.specs.CollectionReplacing.{LinesUnder, Written, beside_mark, exchange_segments, lines_under, lines_upto, replace_collection_way, up_to, written_of, written_there}
 use Rattle.yq_splice.specs.Done.{ArePieces}
 use Rattle.yq_splice.specs.Layouts.{layout_of}
 use Rattle.yq_splice.specs.Operands.{HasOperand}
@@ -145,7 +145,7 @@ module _ (doc : ℕ) (s : Step) (ss : List Step) (c : Cut) (w : MarkPlace) (x : 
     below = below_mark l (there doc s ss c w x read at ends) v
 
     abbrev y : Written
-    y = record { beside = []; below = lines_below l (below_mark l (there doc s ss c w x read at ends) v) v }
+    y = written_of [] (lines_below l (below_mark l (there doc s ss c w x read at ends) v) v)
 
     abbrev held : List ℕ
     held = t.white ++ (t.comment ++ break_text l.br)
@@ -293,10 +293,10 @@ reads_there doc s ss v c w x y read at ends written value_tree fits =
     may : MayReplace v (content h.found.line h.found.under) (root_of h.p) (length (s ∷ ss))
     may = subst (λ q. MayReplace v q (root_of h.p) (length (s ∷ ss))) node_is (record { value_is = new; spared = inside_spared (names_of (root_of h.p)) n used })
 
-    abbrev q : MarkPlace
+    q : MarkPlace
     q = there doc s ss c w x read at ends
 
-    by : (b : Bool) → is_filled v ≡ b → cond b (Some (record { beside = []; below = lines_below (layout_of doc c) (below_mark (layout_of doc c) q v) v })) (Rattle.std.proofs.Common.option_map beside_mark (value_written false [] v)) ≡ Some y →
+    by : (b : Bool) → is_filled v ≡ b → cond b (Some (written_of [] (lines_below (layout_of doc c) (below_mark (layout_of doc c) q v) v))) (Rattle.std.proofs.Common.option_map beside_mark (value_written false [] v)) ≡ Some y →
         length (new_text (exchange_segments (lines_upto q x) y)) ≤ text_limit → ReadsAfter (replace doc (s ∷ ss) v) c (new_text (exchange_segments (lines_upto q x) y))
     by true full e =
         subst (λ (z : Written). length (new_text (exchange_segments (lines_upto q x) z)) ≤ text_limit → ReadsAfter (replace doc (s ∷ ss) v) c (new_text (exchange_segments (lines_upto q x) z))) (some_same e)

@@ -11,7 +11,8 @@ use Rattle.yq_scalar.proofs.BlockPieceLaws.{IsLf}
 use Rattle.yq_inline.specs.Nodes as inline
 use Rattle.yq_lines.specs.Comments.{line_comment}
 use Rattle.yq_lines.specs.Outline as outline
-use Rattle.yq_lines.specs.Outline.{Line, Outline, flatten, anchored, value, head_or}
+use Rattle.yq_lines.specs.Group.{level_or}
+use Rattle.yq_lines.specs.Outline.{Line, Outline, flatten, IsEven, anchored, value, head_or}
 use Rattle.yq_lines.specs.Places.{lines_before, Found, content}
 use Rattle.yq_rows.specs.Exchange.{row_front}
 use Rattle.yq_rows.specs.Gap.{IsBreak, IsComment, IsWhite}
@@ -123,28 +124,28 @@ suffix_lf (x ∷ a) b h some = suffix_lf a b (go h.0 h.1) some
     go [] e = absurd (false≢true (sym some ∙ ap is_empty (left_none a b (let rest : a ++ b ≡ [] = cc in rest))))
     go (y ∷ f) e = (f, let rest : a ++ b ≡ f ++ 10 ∷ [] = cc in rest)
 
+lf_break : (is_break (10 ∷ []) && is_line (10 ∷ [])) ≡ true
+unfolding is_line
+lf_break = refl
+
+crlf_break : (is_break (13 ∷ (10 ∷ [])) && is_line (13 ∷ (10 ∷ []))) ≡ true
+unfolding is_line
+crlf_break = refl
+
+no_line : is_line [] ≡ false
+unfolding is_line
+no_line = refl
+
 some_break : (b : List ℕ) → IsLfOrCrLf b → (is_break b && is_line b) ≡ true
-some_break b (inl e) = ap (λ x. is_break x && is_line x) e ∙ lf
-  where
-    lf : (is_break (10 ∷ []) && is_line (10 ∷ [])) ≡ true
-    unfolding is_line
-    lf = refl
-some_break b (inr e) = ap (λ x. is_break x && is_line x) e ∙ lf
-  where
-    lf : (is_break (13 ∷ (10 ∷ [])) && is_line (13 ∷ (10 ∷ []))) ≡ true
-    unfolding is_line
-    lf = refl
+some_break b (inl e) = ap (λ x. is_break x && is_line x) e ∙ lf_break
+some_break b (inr e) = ap (λ x. is_break x && is_line x) e ∙ crlf_break
 
 -- what ends a text that itself ends so, is a break, or nothing at the end of all
 last_ends : (own rest : List ℕ) → Ended own rest → IsBreak (last_break own) rest
 last_ends own rest (inl lf) = go (last_is own)
   where
-    none : is_line [] ≡ false
-    unfolding is_line
-    none = refl
-
     go : (last_break own ≡ []) ⊎ IsLfOrCrLf (last_break own) → IsBreak (last_break own) rest
-    go (inl e) = absurd (false≢true (sym none ∙ (sym (ap is_line e) ∙ lf_last own lf)))
+    go (inl e) = absurd (false≢true (sym no_line ∙ (sym (ap is_line e) ∙ lf_last own lf)))
     go (inr b) = inl (some_break (last_break own) b)
 last_ends own rest (inr none) = go (last_is own)
   where
@@ -187,49 +188,49 @@ module _ (tail more : List ℕ) (h : IsTail tail more) (pairs : pairs_returns (t
 -- ---- the place
 
 module _ (doc : ℕ) (s : Step) (ss : List Step) (c : Cut) (w : MarkPlace) (x : CollectionEnd) (read : read_at (cut_text c) ≡ Some c) (at : mark_place doc (s ∷ ss) c ≡ Some w) (ends : collection_end doc (s ∷ ss) c ≡ Some x) where
-  abbrev z : List ℕ
+  abbrev pub z : List ℕ
   z = behind_document doc c
 
-  line_there : (e : LineEnd) × (line_end doc (s ∷ ss) c ≡ Some e) × ((row_of_path doc (s ∷ ss) c >>= mark_in e) ≡ Some w)
+  pub line_there : (e : LineEnd) × (line_end doc (s ∷ ss) c ≡ Some e) × ((row_of_path doc (s ∷ ss) c >>= mark_in e) ≡ Some w)
   line_there = bind_some (line_end doc (s ∷ ss) c) at
 
-  abbrev e : LineEnd
+  abbrev pub e : LineEnd
   e = line_there.0
 
-  row_there : (y : PlacedRow) × (row_of_path doc (s ∷ ss) c ≡ Some y) × (mark_in line_there.0 y ≡ Some w)
+  pub row_there : (y : PlacedRow) × (row_of_path doc (s ∷ ss) c ≡ Some y) × (mark_in line_there.0 y ≡ Some w)
   row_there = bind_some (row_of_path doc (s ∷ ss) c) line_there.2
 
-  abbrev y : PlacedRow
+  abbrev pub y : PlacedRow
   y = row_there.0
 
   ends_there : (row_there.0.line ≡ length row_there.0.row.dashes) × (end_of_line row_there.0 ≡ line_there.0)
   ends_there = end_there doc (s ∷ ss) c line_there.0 row_there.0 line_there.1 row_there.1
 
-  f : IsFound doc (s ∷ ss) c row_there.0
+  pub f : IsFound doc (s ∷ ss) c row_there.0
   f = row_found doc (s ∷ ss) c row_there.0 row_there.1
 
-  abbrev p : Part
+  abbrev pub p : Part
   p = f.s.part
 
-  abbrev row : Row
+  abbrev pub row : Row
   row = f.x.row
 
-  abbrev front : List Row
+  abbrev pub front : List Row
   front = take f.x.before f.s.part.rows
 
-  abbrev backs : List Row
+  abbrev pub backs : List Row
   backs = drop (suc f.x.before) f.s.part.rows
 
-  old : IsDocumentPart (cut_text c) c doc f.s.part
+  pub old : IsDocumentPart (cut_text c) c doc f.s.part
   old = record { read = read; there = f.stands.there }
 
-  col : IsCollectionEnd c doc f.s.part (s ∷ ss) x
+  pub col : IsCollectionEnd c doc f.s.part (s ∷ ss) x
   col = collection_places (cut_text c) c doc f.s.part (s ∷ ss) x old ends
 
-  un : Under s ss (outline_of f.s.part) col.h
+  pub un : Under s ss (outline_of f.s.part) col.h
   un = lines_found s ss (outline_of f.s.part) col.h col.collection.place_is
 
-  abbrev line : Found
+  abbrev pub line : Found
   line = un.found
 
   pub block : HasEntries un.found.under
@@ -238,7 +239,7 @@ module _ (doc : ℕ) (s : Step) (ss : List Step) (c : Cut) (w : MarkPlace) (x : 
   last_line : f.x.line ≡ length f.x.row.dashes
   last_line = ap (λ (q : PlacedRow). q.line) f.is ∙ (ends_there.0 ∙ sym (ap (λ (q : PlacedRow). length q.row.dashes) f.is))
 
-  number : length (lines_before un.found.place) ≡ length (lines_of front) + f.x.line
+  pub number : length (lines_before un.found.place) ≡ length (lines_of front) + f.x.line
   number =
       seat_number f.s.part.rows front backs (length (lines_before un.found.place)) f.x (line_found s ss f.s.part un.found f.x un.is f.seat_is) f.rows_are (count_front f.s.part.rows f.x.before f.x.row f.row)
 
@@ -248,27 +249,28 @@ module _ (doc : ℕ) (s : Step) (ss : List Step) (c : Cut) (w : MarkPlace) (x : 
       let above = ap length (before_under un.found.place un.found.line un.found.after) ∙ length-append (lines_before un.found.place) (un.found.line ∷ []) in
       omega (arith, col.count, own, above)
 
-  reach : (us : List Row) × (col.front ≡ front ++ (row ∷ us)) × (backs ≡ us ++ col.back)
+  pub reach : (us : List Row) × (col.front ≡ front ++ (row ∷ us)) × (backs ≡ us ++ col.back)
   reach = rows_reach front row backs col.front col.back (sym f.rows_are ∙ col.rows_are) (omega (arith, count_all, number))
 
-  abbrev us : List Row
+  abbrev pub us : List Row
   us = reach.0
 
-  rows_are : f.s.part.rows ≡ front ++ (row ∷ (reach.0 ++ col.back))
+  pub rows_are : f.s.part.rows ≡ front ++ (row ∷ (reach.0 ++ col.back))
   rows_are = f.rows_are ∙ ap (λ (rs : List Row). front ++ (row ∷ rs)) reach.2
 
-  under_count : length (lines_of reach.0) ≡ length (flatten un.found.under)
+  pub under_count : length (lines_of reach.0) ≡ length (flatten un.found.under)
   under_count =
       let all = ap (λ (rs : List Row). length (lines_of rs)) reach.1 ∙ (ap length (lines_append front (row ∷ reach.0)) ∙ length-append (lines_of front) (lines_of (row ∷ reach.0))) in
       omega (arith, count_all, all, length-append (row_lines row) (lines_of reach.0), row_count row, number, last_line)
 
-  has : HasUnder f.s.part s ss front row reach.0 col.back
+  abbrev pub has : HasUnder f.s.part s ss front row reach.0 col.back
   has = record { found = un.found; is = un.is; rows_are = rows_are; number = omega (arith, number, last_line); count = under_count }
 
+  pub even : IsEven (level_or 0 (outline_of f.s.part)) (outline_of f.s.part)
   even = (document_known (cut_text c) c doc f.s.part old).even
 
   -- the rows of the entry or item
-  pub node : NodeRows doc s ss c
+  abbrev pub node : NodeRows doc s ss c
   node = record {
     p = f.s.part;
     old = old;

@@ -100,10 +100,10 @@ lines_upto (at_dash {r} {ns} n ms is) under =
           ∙ (ap (λ ls. ls ++ lines_of under) (lines_behind (head_comment r.gap) r.column ns n ms r.mark r.content) ∙ append_assoc (dash_lines (head_comment r.gap) r.column ns) (line ∷ more) (lines_of under)),
     )
 
-list_head : {a b : Line} {as bs : List Line} → a ∷ as ≡ b ∷ bs → a ≡ b
+list_head : {a b : Line} {az bz : List Line} → a ∷ az ≡ b ∷ bz → a ≡ b
 list_head e = cc
 
-list_tail : {a b : Line} {as bs : List Line} → a ∷ as ≡ b ∷ bs → as ≡ bs
+list_tail : {a b : Line} {az bz : List Line} → a ∷ az ≡ b ∷ bz → az ≡ bz
 list_tail e = cc
 
 -- ---- the rows behind them

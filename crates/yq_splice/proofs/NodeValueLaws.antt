@@ -29,7 +29,7 @@ use Rattle.yq_change.specs.Unders.{spaced}
 use Rattle.yq_change.proofs.AnchorLaws.{fit_parts}
 use Rattle.yq_change.proofs.InlineReplaceLaws.{deeper_entry, tail_ends_plain}
 use Rattle.yq_change.proofs.PartLaws.{document_known}
-use Rattle.yq_change.proofs.UnderLaws.{line_with, come_lines, gone_lines}
+use Rattle.yq_change.proofs.UnderLaws.{line_with, gone_lines}
 use Rattle.yq_block.specs.declared.layout.Layout.{Layout}
 use Rattle.yq_block.specs.BlockPlaces.{IsUpto, at_mark, at_dash, IsAbove, Replaces}
 use Rattle.yq_block.specs.BlockRows.{column_below, node_rows}
@@ -246,7 +246,7 @@ module _ (doc : ℕ) (s : Step) (ss : List Step) (c : Cut) (h : NodeRows doc s s
       value_is = ap (λ o. head_or o (value end)) is.head;
       even = tt;
       deep = omega arith;
-      lines = come_lines h.mark (spaced node tail);
+      lines = gone_lines (with_content (spaced node tail) h.mark) [];
       keys = (mark_fit, is.keys, tt);
       anchors = (free_none (content_anchor (spaced node tail)), tt);
     }

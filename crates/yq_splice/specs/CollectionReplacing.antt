@@ -1,6 +1,5 @@
 -- The way to replace a block collection under a key or dash: by what is written inline behind that, or by lines under it (YAML 1.2.2, 8.2; own).
-use Rattle.std.specs.Prelude.{◌≡◌, ℕ, ◌-◌, List, [], ◌∷◌, ◌++◌, length, take, Option, Some, None, option_map, if◌then◌else◌, string_bytes}
-use Rattle.std.specs.String.{String}
+use Rattle.std.specs.Prelude.{◌≡◌, ℕ, ◌-◌, List, [], ◌∷◌, ◌++◌, length, take, Option, Some, None, option_map, Bool, false, if◌then◌else◌}
 use Rattle.yq_scalar.specs.Answers.{◌>>=◌}
 use Rattle.yq_scalar.specs.Paths.{Step}
 use Rattle.yq_scalar.specs.Tree.{Node}
@@ -45,17 +44,17 @@ pub record Written : Type 0 where
   pub beside : List ℕ
   pub below : List ℕ
 
--- what the code holds of that (own)
-abbrev pub written_told : String × String → Written
-written_told w = record { beside = string_bytes w.0; below = string_bytes w.1 }
+-- a text and lines (own)
+abbrev pub written_of : List ℕ → List ℕ → Written
+written_of beside below = record { beside = beside; below = below }
 
 -- a text behind a space, and no lines
 abbrev pub beside_mark : List ℕ → Written
-beside_mark t = record { beside = 32 ∷ t; below = [] }
+beside_mark t = written_of (32 ∷ t) []
 
 -- how a value is written there: a collection with items or entries on lines under the key or dash, other values behind it
 abbrev pub written_there : Layout → Node → MarkPlace → Option Written
-written_there l v w = if is_filled v then Some (record { beside = []; below = lines_below l (below_mark l w v) v }) else option_map beside_mark (value_written false [] v)
+written_there l v w = if is_filled v then Some (written_of [] (lines_below l (below_mark l w v) v)) else option_map beside_mark (value_written false [] v)
 
 -- the segments of a text in which this takes the place of the lines under a key or dash; the end of its line stays
 abbrev pub exchange_segments : LinesUnder → Written → List Segment

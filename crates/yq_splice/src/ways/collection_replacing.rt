@@ -1,5 +1,5 @@
 //! The way to replace a block collection under a key or dash.
-ghost use Rattle.std.specs.Prelude.{◌≡◌, IfOk, Some, option_map, string_bytes};
+ghost use Rattle.std.specs.Prelude.{◌≡◌, ◌∷◌, ℕ, List, IfOk, Some, option_map, string_bytes};
 ghost use Rattle.yq_inline.specs.Values as values;
 ghost use Rattle.yq_tree.specs.CollectionTelling.{collection_told};
 ghost use Rattle.yq_tree.specs.Located.{steps_of};
@@ -10,7 +10,6 @@ ghost use Rattle.yq_tree.specs.declared.places.collection_end.CollectionEnd.{Col
 ghost use Rattle.yq_tree.specs.declared.places.mark_place.MarkPlace.{MarkPlace as MarkPlaceOf};
 ghost use Rattle.yq_expr.specs.Operations.{operation_of};
 ghost use Rattle.yq_splice.specs.CollectionReplacing as spec;
-ghost use Rattle.yq_splice.specs.Layouts as layouts;
 ghost use Rattle.yq_splice.specs.WayAnswers.{Carries};
 
 use crate::edited::{EditError, Edited};
@@ -51,7 +50,7 @@ fn written_there(
     place: &MarkPlace<'_>,
     value: &Value,
 ) -> Result<Option<(String, String)>, AllocError>
-    ensures { IfOk result (λ w. option_map spec.written_told w ≡ spec.written_there layout.now (values.node_of value.now) (mark_told place.now)) }
+    ensures { IfOk result (λ w. option_map (λ p. spec.written_of (string_bytes p.0) (string_bytes p.1)) w ≡ spec.written_there layout.now (values.node_of value.now) (mark_told place.now)) }
 {
     if is_filled(value) {
         let column = below_mark(layout, place, value)?;
@@ -87,7 +86,7 @@ fn exchange_under(
     below: &str,
 ) -> Result<Option<Edited>, EditError>
     requires { spec.EndsIn mark.now.behind.now end.now.behind.now }
-    ensures { Carries result (Some (spec.exchange_segments (spec.lines_upto (mark_told mark.now) (collection_told end.now)) (record { beside = beside.now; below = below.now }))) }
+    ensures { Carries result (Some (spec.exchange_segments (spec.lines_upto (mark_told mark.now) (collection_told end.now)) (spec.written_of beside.now below.now))) }
 {
     let (gone, last) = lines_upto(mark.behind, end.behind);
     let segments = [
