@@ -125,7 +125,7 @@ module _ (doc : ℕ) (s : Step) (ss : List Step) (c : Cut) (w : MarkPlace) (x : 
       (k.before, (no_text, (beside, (k.white, (piece_back t.white t.comment k.white.utf8 k.line, (below, (break_is_piece last (last_is (up_to (there doc s ss c w x read at ends).behind x.behind)), ((kept_pieces doc (s ∷ ss) c x read ends).1, tt))))))))
 
   -- the end of the last line
-  last_tail : IsTail last z
+  abbrev last_tail : IsTail last z
   last_tail = record { white = []; comment = []; line = record { break = last; spelled = refl; blank = tt; remark = tt; ends = last_ends_line doc s ss c w x read at ends }; apart = refl }
 
   own_tail : tail_of h.mark.content ≡ (nothing doc s ss c w x read at ends).0

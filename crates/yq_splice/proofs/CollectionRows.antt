@@ -203,7 +203,7 @@ module _ (doc : ℕ) (s : Step) (ss : List Step) (c : Cut) (w : MarkPlace) (x : 
   abbrev pub y : PlacedRow
   y = row_there.0
 
-  ends_there : (row_there.0.line ≡ length row_there.0.row.dashes) × (end_of_line row_there.0 ≡ line_there.0)
+  pub ends_there : (row_there.0.line ≡ length row_there.0.row.dashes) × (end_of_line row_there.0 ≡ line_there.0)
   ends_there = end_there doc (s ∷ ss) c line_there.0 row_there.0 line_there.1 row_there.1
 
   pub f : IsFound doc (s ∷ ss) c row_there.0
@@ -236,7 +236,7 @@ module _ (doc : ℕ) (s : Step) (ss : List Step) (c : Cut) (w : MarkPlace) (x : 
   pub block : HasEntries un.found.under
   block = subst (λ (h : NodeLines). HasEntries h.lines) (sym un.place_is) col.collection.block
 
-  last_line : f.x.line ≡ length f.x.row.dashes
+  pub last_line : f.x.line ≡ length f.x.row.dashes
   last_line = ap (λ (q : PlacedRow). q.line) f.is ∙ (ends_there.0 ∙ sym (ap (λ (q : PlacedRow). length q.row.dashes) f.is))
 
   pub number : length (lines_before un.found.place) ≡ length (lines_of front) + f.x.line
