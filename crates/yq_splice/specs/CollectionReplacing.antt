@@ -61,9 +61,13 @@ abbrev pub exchange_segments : LinesUnder → Written → List Segment
 exchange_segments u x =
     keep u.mark.before ∷ (keep u.mark.gone ∷ (put [] x.beside ∷ (keep u.mark.white ∷ (keep u.mark.comment ∷ (put u.gone x.below ∷ (keep u.break ∷ (keep u.behind ∷ [])))))))
 
+-- the segments of a text in which a value takes the place of the block collection to which steps lead in document n
+abbrev pub collection_exchanged : ℕ → List Step → Node → Cut → Option (List Segment)
+collection_exchanged n steps v c = lines_under n steps c >>= λ u. option_map (exchange_segments u) (written_there (layout_of n c) v u.mark)
+
 -- a value takes the place of a block collection under a key or dash: the lines above, and the end of the line of the key or dash stay (8.2)
 unfoldable pub replace_collection_way : Way
-replace_collection_way (replace doc steps v) c = lines_under doc steps c >>= λ u. option_map (exchange_segments u) (written_there (layout_of doc c) v u.mark)
+replace_collection_way (replace doc steps v) c = collection_exchanged doc steps v c
 replace_collection_way (append doc steps key v) c = None
 replace_collection_way (remove doc steps) c = None
 replace_collection_way (line_comment doc steps text) c = None

@@ -102,6 +102,25 @@ fn exchange_under(
     Ok(Some(exchange(alloc, &segments)?))
 }
 
+/// A value put in the place of the block collection at a path.
+fn exchange_collection(
+    alloc: Global,
+    documents: &Documents<'_>,
+    path: &Path,
+    value: &Value,
+) -> Result<Option<Edited>, EditError>
+    ensures { Carries result (spec.collection_exchanged path.now.doc (steps_of path.now) (values.node_of value.now) (cut_of documents.now)) }
+{
+    let Some((mark, end)) = lines_under(documents, path) else {
+        return Ok(None);
+    };
+    let layout = layout_of(documents, path.doc);
+    let Some((beside, below)) = written_there(alloc, &layout, &mark, value)? else {
+        return Ok(None);
+    };
+    exchange_under(alloc, &mark, &end, &beside, &below)
+}
+
 /// An operation carried out by a value in the place of a block collection under a key or dash.
 pub(crate) fn replace_collection_way(
     alloc: Global,
@@ -113,12 +132,5 @@ pub(crate) fn replace_collection_way(
     let Op::Replace(path, value) = op else {
         return Ok(None);
     };
-    let Some((mark, end)) = lines_under(documents, path) else {
-        return Ok(None);
-    };
-    let layout = layout_of(documents, path.doc);
-    let Some((beside, below)) = written_there(alloc, &layout, &mark, value)? else {
-        return Ok(None);
-    };
-    exchange_under(alloc, &mark, &end, &beside, &below)
+    exchange_collection(alloc, documents, path, value)
 }
