@@ -216,6 +216,7 @@ module _ (t : List ℕ) (x : Shown) (ds : List DocumentLines) (held : Holds t x 
     stands_there y at = stands y (row_same (sym shown_row ∙ at))
 
     pub scalar_there : (y : Slices) → slice_get x.rows n.0 ≡ Some y → (r : ScalarPlace) → ((h : StandsAt text place.0 y) → r ≡ scalar_by h.before y h.behind indent) → Some r ≡ scalar_place path.doc (steps_of path) (cut_of t)
+    unfolding stands
     scalar_there y at r says =
         let own : s ≡ y = row_same (sym shown_row ∙ at) in
         ap Some (says (stands y own) ∙ (λ i. scalar_by before (sym own i) w.behind (found.1.1 i)))
