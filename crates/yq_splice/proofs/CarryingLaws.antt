@@ -4,12 +4,13 @@ use Rattle.yq_rows.specs.Rows.{cut_text}
 use Rattle.yq_splice.specs.AppendWay.{append_way}
 use Rattle.yq_splice.specs.BlockReplacing.{block_replace_way}
 use Rattle.yq_splice.specs.BlockWriting.{replace_block_way}
-use Rattle.yq_splice.specs.Carried.{comment_ways, remove_ways, entry_ways, replace_ways, exchange_ways, node_ways, tree_ways, carrying}
+use Rattle.yq_splice.specs.Carried.{comment_ways, remove_ways, entry_ways, replace_ways, exchange_ways, value_ways, node_ways, tree_ways, carrying}
 use Rattle.yq_splice.specs.CommentWays.{line_comment_way, head_comment_way}
 use Rattle.yq_splice.specs.FlowWays.{flow_remove_way}
 use Rattle.yq_splice.specs.Removing.{remove_way}
 use Rattle.yq_splice.specs.RemovingFirst.{remove_first_way}
 use Rattle.yq_splice.specs.Replacing.{replace_way}
+use Rattle.yq_splice.specs.ScalarReplacing.{scalar_line_way}
 use Rattle.yq_splice.specs.Script.{Segment, old_text, new_text}
 use Rattle.yq_splice.specs.Ways.{Way, ReadsAfter, IsWay, first_some, or_else}
 use Rattle.yq_splice.proofs.AppendWayLaws.{append_is}
@@ -21,6 +22,7 @@ use Rattle.yq_splice.proofs.LineCommentLaws.{line_comment_is_way}
 use Rattle.yq_splice.proofs.RemovingFirstLaws.{remove_first_is}
 use Rattle.yq_splice.proofs.RemovingLaws.{remove_is_way}
 use Rattle.yq_splice.proofs.ReplaceLaws.{replace_is}
+use Rattle.yq_splice.proofs.ScalarLineLaws.{scalar_line_is}
 
 -- what follows from either of two follows from the first that there is
 by_either : (x y : Option (List Segment)) (ss : List Segment) (R : Type 0) → (x ≡ Some ss → R) → (y ≡ Some ss → R) → first_some x y ≡ Some ss → R
@@ -54,9 +56,13 @@ exchanged_are : IsWay exchange_ways
 unfolding exchange_ways
 exchanged_are = either_is replace_ways block_replace_way replaced_are block_replace_is
 
+values_are : IsWay value_ways
+unfolding value_ways
+values_are = either_is exchange_ways scalar_line_way exchanged_are scalar_line_is
+
 nodes_are : IsWay node_ways
 unfolding node_ways
-nodes_are = either_is exchange_ways entry_ways exchanged_are entries_are
+nodes_are = either_is value_ways entry_ways values_are entries_are
 
 trees_are : IsWay tree_ways
 unfolding tree_ways

@@ -62,4 +62,7 @@ pub mod UnderEnds
 pub mod UnderPieces
 pub mod BlockReplaceLaws
 pub mod BlockWayLaws
+pub mod ScalarRowLaws
+pub mod ScalarTextLaws
+pub mod ScalarLineLaws
 pub mod BlockAnswers

@@ -174,7 +174,7 @@ module _ (doc : ℕ) (s : Step) (ss : List Step) (c : Cut) (w : ScalarPlace) (h 
   pub there_is : there ≡ w
   there_is = h.is
 
-  row_is : row ≡ with_content (Block h.space h.anchor h.block) row
+  pub row_is : row ≡ with_content (Block h.space h.anchor h.block) row
   row_is = ap (λ x. with_content x row) h.content_is
 
   -- the text up to the header

@@ -18,6 +18,7 @@ use Rattle.yq_splice.specs.FlowWays.{flow_remove_way}
 use Rattle.yq_splice.specs.Removing.{remove_way}
 use Rattle.yq_splice.specs.RemovingFirst.{remove_first_way}
 use Rattle.yq_splice.specs.Replacing.{replace_way}
+use Rattle.yq_splice.specs.ScalarReplacing.{scalar_line_way}
 use Rattle.yq_splice.specs.Ways.{Way, or_else}
 
 -- the ways to set comments (own)
@@ -36,13 +37,17 @@ entry_ways = or_else append_way remove_ways
 unfoldable pub replace_ways : Way
 replace_ways = or_else replace_way replace_block_way
 
--- the ways to replace nodes (own)
+-- the ways to replace nodes but block scalars (own)
 unfoldable pub exchange_ways : Way
 exchange_ways = or_else replace_ways block_replace_way
 
+-- the ways to replace nodes (own)
+unfoldable pub value_ways : Way
+value_ways = or_else exchange_ways scalar_line_way
+
 -- the ways to replace nodes, and those to put in and take out items and entries (own)
 unfoldable pub node_ways : Way
-node_ways = or_else exchange_ways entry_ways
+node_ways = or_else value_ways entry_ways
 
 -- the same, also in flow collections (own)
 unfoldable pub tree_ways : Way

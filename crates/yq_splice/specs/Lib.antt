@@ -22,3 +22,4 @@ pub mod Theorems
 pub mod Print
 pub mod FlowWays
 pub mod BlockReplacing
+pub mod ScalarReplacing

@@ -14,6 +14,7 @@ mod line_comment;
 mod removing;
 mod removing_first;
 mod replacing;
+mod scalar_line;
 
 use crate::edited::{EditError, Edited};
 use crate::ways::append::append_way;
@@ -25,6 +26,7 @@ use crate::ways::line_comment::line_comment_way;
 use crate::ways::removing::remove_way;
 use crate::ways::removing_first::remove_first_way;
 use crate::ways::replacing::replace_way;
+use crate::ways::scalar_line::scalar_line_way;
 use std::alloc::Global;
 use yq_expr::Op;
 use yq_tree::Documents;
@@ -89,7 +91,7 @@ fn by_replace_ways(
     replace_block_way(alloc, documents, op)
 }
 
-/// A node replaced by the way for it.
+/// A node that is no block scalar replaced by the way for it.
 #[tactic(auto, unfolding(crate::specs::Carried::exchange_ways), using(crate::proofs::WayLaws::first_way_carries, crate::proofs::WayLaws::second_way_carries))]
 fn by_exchange_ways(
     alloc: Global,
@@ -104,6 +106,21 @@ fn by_exchange_ways(
     block_replace_way(alloc, documents, op)
 }
 
+/// A node replaced by the way for it.
+#[tactic(auto, unfolding(crate::specs::Carried::value_ways), using(crate::proofs::WayLaws::first_way_carries, crate::proofs::WayLaws::second_way_carries))]
+fn by_value_ways(
+    alloc: Global,
+    documents: &Documents<'_>,
+    op: &Op,
+) -> Result<Option<Edited>, EditError>
+    ensures { Carries result (spec.value_ways (operation_of op.now) (cut_of documents.now)) }
+{
+    if let Some(edited) = by_exchange_ways(alloc, documents, op)? {
+        return Ok(Some(edited));
+    }
+    scalar_line_way(alloc, documents, op)
+}
+
 /// A node replaced, or a block collection changed, by the way for it.
 #[tactic(auto, unfolding(crate::specs::Carried::node_ways), using(crate::proofs::WayLaws::first_way_carries, crate::proofs::WayLaws::second_way_carries))]
 fn by_node_ways(
@@ -113,7 +130,7 @@ fn by_node_ways(
 ) -> Result<Option<Edited>, EditError>
     ensures { Carries result (spec.node_ways (operation_of op.now) (cut_of documents.now)) }
 {
-    if let Some(edited) = by_exchange_ways(alloc, documents, op)? {
+    if let Some(edited) = by_value_ways(alloc, documents, op)? {
         return Ok(Some(edited));
     }
     by_entry_ways(alloc, documents, op)
