@@ -4,12 +4,13 @@ use Rattle.yq_rows.specs.Rows.{cut_text}
 use Rattle.yq_splice.specs.AppendWay.{append_way}
 use Rattle.yq_splice.specs.BlockReplacing.{block_replace_way}
 use Rattle.yq_splice.specs.BlockWriting.{replace_block_way}
-use Rattle.yq_splice.specs.Carried.{comment_ways, remove_ways, entry_ways, replace_ways, exchange_ways, value_ways, node_ways, tree_ways, carrying}
+use Rattle.yq_splice.specs.Carried.{comment_ways, remove_ways, entry_ways, replace_ways, exchange_ways, scalar_ways, value_ways, node_ways, tree_ways, carrying}
 use Rattle.yq_splice.specs.CommentWays.{line_comment_way, head_comment_way}
 use Rattle.yq_splice.specs.FlowWays.{flow_remove_way}
 use Rattle.yq_splice.specs.Removing.{remove_way}
 use Rattle.yq_splice.specs.RemovingFirst.{remove_first_way}
 use Rattle.yq_splice.specs.Replacing.{replace_way}
+use Rattle.yq_splice.specs.ScalarLiteral.{scalar_literal_way}
 use Rattle.yq_splice.specs.ScalarReplacing.{scalar_line_way}
 use Rattle.yq_splice.specs.Script.{Segment, old_text, new_text}
 use Rattle.yq_splice.specs.Ways.{Way, ReadsAfter, IsWay, first_some, or_else}
@@ -23,6 +24,7 @@ use Rattle.yq_splice.proofs.RemovingFirstLaws.{remove_first_is}
 use Rattle.yq_splice.proofs.RemovingLaws.{remove_is_way}
 use Rattle.yq_splice.proofs.ReplaceLaws.{replace_is}
 use Rattle.yq_splice.proofs.ScalarLineLaws.{scalar_line_is}
+use Rattle.yq_splice.proofs.ScalarLiteralLaws.{scalar_literal_is}
 
 -- what follows from either of two follows from the first that there is
 by_either : (x y : Option (List Segment)) (ss : List Segment) (R : Type 0) → (x ≡ Some ss → R) → (y ≡ Some ss → R) → first_some x y ≡ Some ss → R
@@ -56,9 +58,13 @@ exchanged_are : IsWay exchange_ways
 unfolding exchange_ways
 exchanged_are = either_is replace_ways block_replace_way replaced_are block_replace_is
 
+scalars_are : IsWay scalar_ways
+unfolding scalar_ways
+scalars_are = either_is scalar_line_way scalar_literal_way scalar_line_is scalar_literal_is
+
 values_are : IsWay value_ways
 unfolding value_ways
-values_are = either_is exchange_ways scalar_line_way exchanged_are scalar_line_is
+values_are = either_is exchange_ways scalar_ways exchanged_are scalars_are
 
 nodes_are : IsWay node_ways
 unfolding node_ways

@@ -65,4 +65,6 @@ pub mod BlockWayLaws
 pub mod ScalarRowLaws
 pub mod ScalarTextLaws
 pub mod ScalarLineLaws
+pub mod ScalarLiteralLaws
+pub mod ScalarAnswers
 pub mod BlockAnswers

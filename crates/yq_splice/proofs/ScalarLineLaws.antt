@@ -75,7 +75,7 @@ use Rattle.yq_splice.proofs.FitLaws.{new_value, inside_spared, tree_unique}
 use Rattle.yq_splice.proofs.ReplaceLaws.{IsWrittenFor, scalar_for, written_for, same_node}
 use Rattle.yq_splice.proofs.SamePlaceLaws.{put_own, nth_own, change_own}
 use Rattle.yq_splice.proofs.ScalarRowLaws.{HasScalar, scalar_has, p, front, r, back, beyond, rest, rows_there, entry, near, valid, TakesScalar, part_with, text_with, scalar_reads}
-use Rattle.yq_splice.proofs.ScalarTextLaws.{base, there, there_is, row_is, front_text, old_is, tail, break_of, header_is, final_there, lines_are, front_piece, end_piece, rest_piece, final_piece, tail_pairs}
+use Rattle.yq_splice.proofs.ScalarTextLaws.{base, there, there_is, row_is, front_text, old_is, tail, break_of, header_is, final_there, lines_are, head_is_piece, end_piece, rest_piece, final_piece, tail_pairs}
 
 some_same : {A : Type 0} {x y : A} → Some x ≡ Some y → x ≡ y
 some_same e = cc
@@ -119,7 +119,7 @@ not_apart : (style : BlockStyle) (u : List ℕ) → separates (mark_of style ∷
 not_apart block_styles.Literal u = refl
 not_apart block_styles.Folded u = refl
 
-block_begins : (anchor : Option Anchor) (block : BlockText) (u : List ℕ) → separates (anchor_text anchor (block_text block u)) ≡ false
+pub block_begins : (anchor : Option Anchor) (block : BlockText) (u : List ℕ) → separates (anchor_text anchor (block_text block u)) ≡ false
 block_begins None block u = not_apart block.style _
 block_begins (Some a) block u = refl
 
@@ -165,7 +165,7 @@ module _ (doc : ℕ) (s : Step) (ss : List Step) (c : Cut) (w : ScalarPlace) (h 
   abbrev content_with : inline.Node → Content
   content_with node = Inline h.space (recore node (carrier h.anchor)) new_tail
 
-  mark_is : IsMark row.mark (Block h.space h.anchor h.block) z
+  pub mark_is : IsMark row.mark (Block h.space h.anchor h.block) z
   mark_is = subst (λ x. IsMark row.mark x z) h.content_is (rows_there doc s ss c w h).0.mark
 
   takes : (v : Node) (node : inline.Node) → IsValueNode v node → TakesScalar doc s ss c w h v (content_with node)
@@ -210,7 +210,7 @@ module _ (doc : ℕ) (s : Step) (ss : List Step) (c : Cut) (w : ScalarPlace) (h 
       let parts : (k.before ++ k.space) ++ (t ++ ((e ++ f) ++ (g ++ z))) ≡ k.before ++ (k.space ++ (t ++ (e ++ (f ++ (g ++ (z ++ [])))))) = simp (append_assoc, append-nil) refl in
       let whole : IsPiece (new_text (line_segments k t)) =
       subst IsPiece parts
-      (pieces_joined (k.before ++ k.space) (t ++ ((e ++ f) ++ (g ++ z))) (front_piece doc s ss c w h)
+      (pieces_joined (k.before ++ k.space) (t ++ ((e ++ f) ++ (g ++ z))) (head_is_piece doc s ss c w h)
       (pieces_joined t ((e ++ f) ++ (g ++ z)) piece (pieces_joined (e ++ f) (g ++ z) (end_piece doc s ss c w h) (pieces_joined g z (final_piece doc s ss c w h) (rest_piece doc s ss c w h))))) in
       record { utf8 = is_utf8-from_IsUtf8 _ whole.utf8; characters = whole.characters; size = size }
 

@@ -171,11 +171,11 @@ module _ (doc : ℕ) (s : Step) (ss : List Step) (c : Cut) (w : ScalarPlace) (h 
   abbrev pub limit : Limit
   limit = asked_behind unlimited front
 
-  fine : is_fine (group (lines_of p.rows)) ≡ true
+  pub fine : is_fine (group (lines_of p.rows)) ≡ true
   unfolding read_at
   fine = document_fine p (each (document_parts c) (text_takes (cut_text c) c (guard_then (is_utf8 (cut_text c)) h.old.read).1).1 doc p h.old.there)
 
-  even : IsEven (level_or 0 (outline_of p)) (outline_of p)
+  pub even : IsEven (level_or 0 (outline_of p)) (outline_of p)
   even = (document_known (cut_text c) c doc p h.old).even
 
   pub rows_there : AreRows limit (r ∷ back) p.end beyond

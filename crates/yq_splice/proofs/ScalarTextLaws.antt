@@ -235,8 +235,8 @@ module _ (doc : ℕ) (s : Step) (ss : List Step) (c : Cut) (w : ScalarPlace) (h 
   head_begins : Rattle.yq_change.specs.TextPieces.BeginsPiece (slices row).head
   head_begins = subst (λ (x : Row). Rattle.yq_change.specs.TextPieces.BeginsPiece (slices x).head) (sym row_is) (mark_begins h.block.style)
 
-  pub front_piece : IsPiece (there.before ++ there.space)
-  front_piece = (byte_cut (there.before ++ there.space) there.header (subst IsPiece line_is has.before) head_begins).0
+  pub head_is_piece : IsPiece (there.before ++ there.space)
+  head_is_piece = (byte_cut (there.before ++ there.space) there.header (subst IsPiece line_is has.before) head_begins).0
 
   pub end_piece : IsPiece ((header_end there).white ++ (header_end there).comment)
   end_piece = subst (λ (e : LineEnd). IsPiece (e.white ++ e.comment)) (sym header_is) has.line

@@ -18,6 +18,7 @@ use Rattle.yq_splice.specs.FlowWays.{flow_remove_way}
 use Rattle.yq_splice.specs.Removing.{remove_way}
 use Rattle.yq_splice.specs.RemovingFirst.{remove_first_way}
 use Rattle.yq_splice.specs.Replacing.{replace_way}
+use Rattle.yq_splice.specs.ScalarLiteral.{scalar_literal_way}
 use Rattle.yq_splice.specs.ScalarReplacing.{scalar_line_way}
 use Rattle.yq_splice.specs.Ways.{Way, or_else}
 
@@ -41,9 +42,13 @@ replace_ways = or_else replace_way replace_block_way
 unfoldable pub exchange_ways : Way
 exchange_ways = or_else replace_ways block_replace_way
 
+-- the ways to replace block scalars (own)
+unfoldable pub scalar_ways : Way
+scalar_ways = or_else scalar_line_way scalar_literal_way
+
 -- the ways to replace nodes (own)
 unfoldable pub value_ways : Way
-value_ways = or_else exchange_ways scalar_line_way
+value_ways = or_else exchange_ways scalar_ways
 
 -- the ways to replace nodes, and those to put in and take out items and entries (own)
 unfoldable pub node_ways : Way

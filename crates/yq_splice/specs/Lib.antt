@@ -23,3 +23,4 @@ pub mod Print
 pub mod FlowWays
 pub mod BlockReplacing
 pub mod ScalarReplacing
+pub mod ScalarLiteral

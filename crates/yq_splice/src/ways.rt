@@ -15,6 +15,7 @@ mod removing;
 mod removing_first;
 mod replacing;
 mod scalar_line;
+mod scalar_literal;
 
 use crate::edited::{EditError, Edited};
 use crate::ways::append::append_way;
@@ -27,6 +28,7 @@ use crate::ways::removing::remove_way;
 use crate::ways::removing_first::remove_first_way;
 use crate::ways::replacing::replace_way;
 use crate::ways::scalar_line::scalar_line_way;
+use crate::ways::scalar_literal::scalar_literal_way;
 use std::alloc::Global;
 use yq_expr::Op;
 use yq_tree::Documents;
@@ -106,6 +108,21 @@ fn by_exchange_ways(
     block_replace_way(alloc, documents, op)
 }
 
+/// A block scalar replaced by the way for it.
+#[tactic(auto, unfolding(crate::specs::Carried::scalar_ways), using(crate::proofs::WayLaws::first_way_carries, crate::proofs::WayLaws::second_way_carries))]
+fn by_scalar_ways(
+    alloc: Global,
+    documents: &Documents<'_>,
+    op: &Op,
+) -> Result<Option<Edited>, EditError>
+    ensures { Carries result (spec.scalar_ways (operation_of op.now) (cut_of documents.now)) }
+{
+    if let Some(edited) = scalar_line_way(alloc, documents, op)? {
+        return Ok(Some(edited));
+    }
+    scalar_literal_way(alloc, documents, op)
+}
+
 /// A node replaced by the way for it.
 #[tactic(auto, unfolding(crate::specs::Carried::value_ways), using(crate::proofs::WayLaws::first_way_carries, crate::proofs::WayLaws::second_way_carries))]
 fn by_value_ways(
@@ -118,7 +135,7 @@ fn by_value_ways(
     if let Some(edited) = by_exchange_ways(alloc, documents, op)? {
         return Ok(Some(edited));
     }
-    scalar_line_way(alloc, documents, op)
+    by_scalar_ways(alloc, documents, op)
 }
 
 /// A node replaced, or a block collection changed, by the way for it.

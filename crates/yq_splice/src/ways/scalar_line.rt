@@ -10,7 +10,6 @@ ghost use Rattle.yq_tree.specs.Reading.{cut_of};
 ghost use Rattle.yq_tree.specs.ScalarTelling.{scalar_told};
 ghost use Rattle.yq_splice.specs.ScalarReplacing as spec;
 ghost use Rattle.yq_splice.specs.WayAnswers.{Carries};
-ghost use Rattle.yq_splice.specs.Ways.{IsWay};
 
 use crate::edited::{EditError, Edited};
 use crate::script::{Segment, exchange};
@@ -21,12 +20,6 @@ use yq_scalar::lines::split_at_break;
 use yq_scalar::text::split_white;
 use yq_scalar::{Place, Style, can_write, write_scalar};
 use yq_tree::{Documents, Node, NodeKind, ScalarPlace, split_break};
-
-/// What the segments make of a text reads as its documents with the value in the place of the block
-/// scalar.
-pub fn scalar_lines_read()
-    ensures { IsWay spec.scalar_line_way }
-{}
 
 /// Whether a text holds more than line breaks.
 fn holds_text(text: &str) -> bool
