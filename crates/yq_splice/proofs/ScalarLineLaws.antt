@@ -257,9 +257,6 @@ line_for true (tree.list a cs) t h deep long e = written_for false [] (tree.list
 line_for true (tree.map a cs) t h deep long e = written_for false [] (tree.map a cs) t h deep long e
 line_for true (tree.scalar a kind u) t h deep long e = go (is_string kind) refl e
   where
-    abbrev x : ScalarText
-    x = record { kind = kind; text = u }
-
     quoted : (b : Bool) → is_string kind ≡ true → cond b None (Some (double u)) ≡ Some t → IsWrittenFor (tree.scalar a kind u) t
     quoted true string e = absurd (none_some e)
     quoted false string e = subst (IsWrittenFor (tree.scalar a kind u)) (some_same e) (scalar_for a (record { kind = kind; text = u }) styles.Double h tt string)
@@ -332,7 +329,7 @@ unfolding scalar_line_way
 way_old doc steps v c qs read is =
     let x = bind_some (scalar_place doc steps c) is in
     let k = scalar_has doc steps c x.0 read x.1 in
-    line_old doc k.0 k.1 c x.0 k.2.1 (is_kept (node_in doc steps c) v) (has_text (node_in doc steps c)) v qs (subst (λ y. line_at (is_kept (node_in doc steps c) v) (has_text (node_in doc steps c)) v y ≡ Some qs) (sym (there_is doc k.0 k.1 c x.0 k.2.1)) x.2)
+    line_old doc k.0 k.1 c x.0 k.3 (is_kept (node_in doc steps c) v) (has_text (node_in doc steps c)) v qs (subst (λ y. line_at (is_kept (node_in doc steps c) v) (has_text (node_in doc steps c)) v y ≡ Some qs) (sym (there_is doc k.0 k.1 c x.0 k.3)) x.2)
 
 way_reads : (doc : ℕ) (steps : List Step) (v : Node) (c : Cut) (qs : List Segment) → read_at (cut_text c) ≡ Some c → scalar_line_way (replace doc steps v) c ≡ Some qs → IsValueTree v → Fits (room_of (cut_text c)) (replace doc steps v) (documents c) →
     length (new_text qs) ≤ text_limit → ReadsAfter (replace doc steps v) c (new_text qs)
@@ -340,11 +337,11 @@ unfolding scalar_line_way
 way_reads doc steps v c qs read is tree fits size =
     let x = bind_some (scalar_place doc steps c) is in
     let k = scalar_has doc steps c x.0 read x.1 in
-    let y : HasScalar doc k.0 k.1 c x.0 = k.2.1 in
+    let y : HasScalar doc k.0 k.1 c x.0 = k.3 in
     let f = scalar_fits doc steps v c (p doc k.0 k.1 c x.0 y) y.old.there tree fits in
-    subst (λ q. ReadsAfter (replace doc q v) c (new_text qs)) (sym k.2.0)
-    (line_done doc k.0 k.1 c x.0 y (is_kept (node_in doc steps c) v) (has_text (node_in doc steps c)) v f.node qs tree f.deep f.long (ap (λ q. node_at q (root_of (p doc k.0 k.1 c x.0 y))) (sym k.2.0) ∙ f.there)
-    (subst (λ q. Rattle.yq_change.specs.SoundRoots.MayReplace v f.node (root_of (p doc k.0 k.1 c x.0 y)) (length q)) k.2.0 f.may) (sym (ap (λ o. is_kept o v) f.known))
+    subst (λ q. ReadsAfter (replace doc q v) c (new_text qs)) (sym k.2)
+    (line_done doc k.0 k.1 c x.0 y (is_kept (node_in doc steps c) v) (has_text (node_in doc steps c)) v f.node qs tree f.deep f.long (ap (λ q. node_at q (root_of (p doc k.0 k.1 c x.0 y))) (sym k.2) ∙ f.there)
+    (subst (λ q. Rattle.yq_change.specs.SoundRoots.MayReplace v f.node (root_of (p doc k.0 k.1 c x.0 y)) (length q)) k.2 f.may) (sym (ap (λ o. is_kept o v) f.known))
     (subst (λ g. line_at (is_kept (node_in doc steps c) v) (has_text (node_in doc steps c)) v g ≡ Some qs) (sym (there_is doc k.0 k.1 c x.0 y)) x.2) size)
 
 pub scalar_line_is : IsWay scalar_line_way

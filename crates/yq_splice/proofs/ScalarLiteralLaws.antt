@@ -3,7 +3,7 @@ use Rattle.std.proofs.Common.{◌≡◌, ◌⊎◌, inl, inr, ℕ, zero, suc, �
 use Rattle.std.proofs.lemmas.Bool.{false≢true, cond-true}
 use Rattle.std.proofs.lemmas.List.Folds.{list_all-append}
 use Rattle.std.proofs.lemmas.Str.{is_utf8-from_IsUtf8}
-use Rattle.std.specs.List.{list_all, slice_get}
+use Rattle.std.specs.List.{list_all, list_any, slice_get}
 use Rattle.std.specs.Str.{IsUtf8, chars}
 use Rattle.yq_scalar.specs.Block.{BlockText, Lines, AreRaw, IsBlock, IsDetected, IsDigit, IsRawLine, IsTextIndent, block_text, ends_block, is_empty_line, is_less_indented, keeps, sign_text}
 use Rattle.yq_scalar.specs.BlockContent.{block_content, broken, ending, folded, kind_of, joint, literal, line_text, part_of, strips, unindented}
@@ -129,19 +129,23 @@ content_feeds b known raw = go b.style
     go block_styles.Literal = literal_feeds (strips b.chomping) b.indent b.raw known raw
     go block_styles.Folded = folded_feeds b.chomping b.indent before.Nothing 0 b.raw known raw
 
-known_text : (b : BlockText) → AreRaw b.indent b.raw → not (list_all is_feed (block_content b)) ≡ true → b.indent.known ≡ true
+no_others : (t : List ℕ) → list_all is_feed t ≡ true → list_any (λ b. not (is_feed b)) t ≡ false
+no_others [] h = refl
+no_others (b ∷ t) h = let both = and_true (is_feed b) (list_all is_feed t) h in rw (both.0, no_others t both.1) refl
+
+known_text : (b : BlockText) → AreRaw b.indent b.raw → list_any (λ x. not (is_feed x)) (block_content b) ≡ true → b.indent.known ≡ true
 known_text b raw h = go (is_true b.indent.known)
   where
     go : (b.indent.known ≡ true) ⊎ (b.indent.known ≡ false) → b.indent.known ≡ true
     go (inl e) = e
-    go (inr e) = absurd (false≢true (sym (ap not (content_feeds b e raw)) ∙ h))
+    go (inr e) = absurd (false≢true (sym (no_others (block_content b) (content_feeds b e raw)) ∙ h))
 
 -- ---- its indentation, and what stands behind it
 
 detected_least : (least : ℕ) (f : TextIndent) (ls : Lines) → IsDetected least f ls → least ≤ f.columns
 detected_least least f [] h = subst (λ (x : TextIndent). least ≤ x.columns) (sym h) (omega arith)
-detected_least least f (l ∷ ls) (inl h) = detected_least least f ls h.1.1
-detected_least least f (l ∷ ls) (inr h) = subst (λ (x : TextIndent). least ≤ x.columns) (sym h.1.0) h.1.1
+detected_least least f (l ∷ ls) (inl h) = detected_least least f ls h.2
+detected_least least f (l ∷ ls) (inr h) = subst (λ (x : TextIndent). least ≤ x.columns) (sym h.1) h.2
 
 indent_least : (least : ℕ) (digit : Option ℕ) (f : TextIndent) (ls : Lines) → IsDigit digit → IsTextIndent least digit f ls → least ≤ f.columns
 indent_least least None f ls d h = detected_least least f ls h
@@ -161,7 +165,7 @@ loose true f (l ∷ ls) h = go (is_empty_line f l) h
 
 text_quiet : (t : List ℕ) → IsText t → Each no_return t
 text_quiet [] h = tt
-text_quiet (b ∷ t) h = (ap not h.1.0, text_quiet t h.1.1)
+text_quiet (b ∷ t) h = (ap not h.1, text_quiet t h.2)
 
 whole_quiet : (t : List ℕ) → NoCr t → Each no_return t
 whole_quiet [] h = tt
@@ -355,7 +359,7 @@ unfolding scalar_literal_way
 way_old doc steps v c qs read is =
     let x = bind_some (scalar_place doc steps c) is in
     let k = scalar_has doc steps c x.0 read x.1 in
-    literal_old doc k.0 k.1 c x.0 k.2.1 (has_text (node_in doc steps c)) (first_break (cut_text c)) v qs (subst (λ y. literal_at (has_text (node_in doc steps c)) (first_break (cut_text c)) v y ≡ Some qs) (sym (there_is doc k.0 k.1 c x.0 k.2.1)) x.2)
+    literal_old doc k.0 k.1 c x.0 k.3 (has_text (node_in doc steps c)) (first_break (cut_text c)) v qs (subst (λ y. literal_at (has_text (node_in doc steps c)) (first_break (cut_text c)) v y ≡ Some qs) (sym (there_is doc k.0 k.1 c x.0 k.3)) x.2)
 
 way_reads : (doc : ℕ) (steps : List Step) (v : Node) (c : Cut) (qs : List Segment) → read_at (cut_text c) ≡ Some c → scalar_literal_way (replace doc steps v) c ≡ Some qs → IsValueTree v → Fits (room_of (cut_text c)) (replace doc steps v) (documents c) →
     length (new_text qs) ≤ text_limit → ReadsAfter (replace doc steps v) c (new_text qs)
@@ -363,11 +367,11 @@ unfolding scalar_literal_way
 way_reads doc steps v c qs read is tree' fits size =
     let x = bind_some (scalar_place doc steps c) is in
     let k = scalar_has doc steps c x.0 read x.1 in
-    let y : HasScalar doc k.0 k.1 c x.0 = k.2.1 in
+    let y : HasScalar doc k.0 k.1 c x.0 = k.3 in
     let f = scalar_fits doc steps v c (p doc k.0 k.1 c x.0 y) y.old.there tree' fits in
-    subst (λ q. ReadsAfter (replace doc q v) c (new_text qs)) (sym k.2.0)
+    subst (λ q. ReadsAfter (replace doc q v) c (new_text qs)) (sym k.2)
     (literal_done doc k.0 k.1 c x.0 y (has_text (node_in doc steps c)) (first_break (cut_text c)) v f.node qs tree' (sym (ap has_text f.known))
-    (ap (λ q. node_at q (root_of (p doc k.0 k.1 c x.0 y))) (sym k.2.0) ∙ f.there) (subst (λ q. MayReplace v f.node (root_of (p doc k.0 k.1 c x.0 y)) (length q)) k.2.0 f.may)
+    (ap (λ q. node_at q (root_of (p doc k.0 k.1 c x.0 y))) (sym k.2) ∙ f.there) (subst (λ q. MayReplace v f.node (root_of (p doc k.0 k.1 c x.0 y)) (length q)) k.2 f.may)
     (subst (λ g. literal_at (has_text (node_in doc steps c)) (first_break (cut_text c)) v g ≡ Some qs) (sym (there_is doc k.0 k.1 c x.0 y)) x.2) size)
 
 pub scalar_literal_is : IsWay scalar_literal_way

@@ -115,27 +115,27 @@ scalar_in_part doc s ss c w read at =
     let n = bind_some (line_of (s ∷ ss) (lines_of p.rows)) f.seat_is in
     let e = found_of (find s ss (outline_of p)) n.0 n.1 in
     let number = seat_number p.rows front back n.0 f.x n.2 f.rows_are (count_front p.rows f.x.before r f.row) in
-    let count : length (lines_of front) + length r.dashes ≡ length (lines_before e.0.place) = ap (λ (k : ℕ). length (lines_of front) + k) (sym last) ∙ (sym number ∙ sym e.1.1) in
+    let count : length (lines_of front) + length r.dashes ≡ length (lines_before e.0.place) = ap (λ (k : ℕ). length (lines_of front) + k) (sym last) ∙ (sym number ∙ sym e.2) in
     let even = (document_known (cut_text c) c doc p old).even in
     let a : List Line = lines_of front ++ dash_lines (head_comment r.gap) r.column r.dashes in
     let here : Line = mark_line (above_mark (head_comment r.gap) r.dashes) (mark_column r) r.mark r.content in
     let all : lines_of p.rows ≡ a ++ (here ∷ lines_of back) = ap lines_of f.rows_are ∙ last_lines front r back r.content in
-    let whole : lines_of p.rows ≡ lines_before e.0.place ++ ((e.0.line ∷ flatten e.0.under) ++ (flatten e.0.after ++ lines_after e.0.place)) = sym (flatten-group (lines_of p.rows)) ∙ whole_line (outline_of p) s ss [] e.0 e.1.0 in
+    let whole : lines_of p.rows ≡ lines_before e.0.place ++ ((e.0.line ∷ flatten e.0.under) ++ (flatten e.0.after ++ lines_after e.0.place)) = sym (flatten-group (lines_of p.rows)) ∙ whole_line (outline_of p) s ss [] e.0 e.1 in
     let size : length a ≡ length (lines_before e.0.place) =
     length-append (lines_of front) (dash_lines (head_comment r.gap) r.column r.dashes) ∙ (ap (λ (k : ℕ). length (lines_of front) + k) (dashes_count (head_comment r.gap) r.column r.dashes) ∙ count) in
     let parts = same_parts a (here ∷ []) (lines_of back) (lines_before e.0.place) (e.0.line ∷ []) (flatten e.0.under ++ (flatten e.0.after ++ lines_after e.0.place)) (sym all ∙ whole) size refl in
-    let line : here ≡ e.0.line = line_first parts.1.0 in
-    let head : is_some e.0.line.head ≡ true = ap (λ (l : Line). is_some l.head) (sym line) ∙ ap (λ z. is_some (head_of z)) x.1.1 in
-    let open' = (under_even (level_or 0 (outline_of p)) (outline_of p) s ss e.0 even e.1.0).1.1 in
+    let line : here ≡ e.0.line = line_first parts.1 in
+    let head : is_some e.0.line.head ≡ true = ap (λ (l : Line). is_some l.head) (sym line) ∙ ap (λ z. is_some (head_of z)) x.2 in
+    let open' = (under_even (level_or 0 (outline_of p)) (outline_of p) s ss e.0 even e.1).1.1 in
     record {
       y = y.0;
       found = f;
       old = old;
-      leads = record { found = e.0; is = e.1.0; under = open_end e.0.line.head e.0.under open' head; number = count };
+      leads = record { found = e.0; is = e.1; under = open_end e.0.line.head e.0.under open' head; number = count };
       space = x.0;
-      anchor = x.1.0;
+      anchor = x.1;
       block = b.0;
-      content_is = x.1.1;
+      content_is = x.2;
       is = b.2;
     }
 

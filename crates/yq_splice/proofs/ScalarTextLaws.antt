@@ -75,11 +75,11 @@ cons_none e = cc
 pub has_last : (a : List ℕ) → last_break (a ++ 10 ∷ []) ≡ [] → ⊥
 unfolding less_break
 has_last [] e = cons_none e
-has_last (b ∷ a) e = go (is_last_break (b ∷ (a ++ 10 ∷ []))) e
+has_last (b ∷ a) e = go (is_last_break (b ∷ (a ++ 10 ∷ []))) (has_last a) e
   where
-    go : (x : Bool) → drop (length (cond x [] (b ∷ less_break (a ++ 10 ∷ [])))) (b ∷ (a ++ 10 ∷ [])) ≡ [] → ⊥
-    go true e = cons_none e
-    go false e = has_last a e
+    go : (x : Bool) → (last_break (a ++ 10 ∷ []) ≡ [] → ⊥) → drop (length (cond x [] (b ∷ less_break (a ++ 10 ∷ [])))) (b ∷ (a ++ 10 ∷ [])) ≡ [] → ⊥
+    go true more e = cons_none e
+    go false more e = more e
 
 last_ended : (t : List ℕ) → Ended t → IsLfOrCrLf (last_break t)
 last_ended t h = go (last_is t)
@@ -123,10 +123,10 @@ gone_of break raw = cond (is_empty raw) [] break
 abbrev final_of : List ℕ → List ℕ → List ℕ
 final_of break raw = cond (is_empty raw) break (last_break raw)
 
-lines_split : (break raw rest : List ℕ) → gone_of break raw ++ (less_break raw ++ (final_of break raw ++ rest)) ≡ break ++ (raw ++ rest)
+lines_split : (break raw u : List ℕ) → gone_of break raw ++ (less_break raw ++ (final_of break raw ++ u)) ≡ break ++ (raw ++ u)
 unfolding less_break
-lines_split break [] rest = refl
-lines_split break (b ∷ raw) rest = ap (λ t. break ++ t) (sym (append_assoc (less_break (b ∷ raw)) (last_break (b ∷ raw)) rest) ∙ ap (λ t. t ++ rest) (less_is (b ∷ raw)))
+lines_split break [] u = refl
+lines_split break (b ∷ raw) u = ap (λ t. break ++ t) (sym (append_assoc (less_break (b ∷ raw)) (last_break (b ∷ raw)) u) ∙ ap (λ t. t ++ u) (less_is (b ∷ raw)))
 
 final_is : (break raw : List ℕ) → IsLfOrCrLf break → (raw ≡ []) ⊎ Ended raw → IsLfOrCrLf (final_of break raw)
 final_is break [] b h = b

@@ -1,6 +1,6 @@
 -- The way to replace a block scalar by a value that is written inline on the line of its header (YAML 1.2.2, 8.1; own).
 use Rattle.std.specs.Prelude.{ℕ, ◌&&◌, not, List, [], ◌∷◌, Option, None, Some, option_map, Bool, true, false, if◌then◌else◌}
-use Rattle.std.specs.List.{list_all}
+use Rattle.std.specs.List.{list_any}
 use Rattle.yq_scalar.specs.Answers.{◌>>=◌}
 use Rattle.yq_scalar.specs.Scalar.{ScalarText}
 use Rattle.yq_scalar.specs.Text.{is_empty, is_feed}
@@ -21,7 +21,7 @@ use Rattle.yq_splice.specs.Ways.{Way}
 -- whether a scalar, if there is one, holds more than line breaks: a block scalar that does has a text line (8.1)
 abbrev pub holds_text : Option ScalarText → Bool
 holds_text None = false
-holds_text (Some s) = not (list_all is_feed s.text)
+holds_text (Some s) = list_any (λ b. not (is_feed b)) s.text
 
 -- whether a node, if there is one, is a scalar that does
 abbrev pub has_text : Option Node → Bool

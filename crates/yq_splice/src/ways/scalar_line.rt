@@ -1,5 +1,5 @@
 //! The way to replace a block scalar by a value that is written inline on the line of its header.
-ghost use Rattle.std.specs.List.{list_all};
+ghost use Rattle.std.specs.List.{list_any};
 ghost use Rattle.std.specs.Prelude.{◌≡◌, [], IfOk, Some, if◌then◌else◌, not, option_map, string_bytes};
 ghost use Rattle.yq_expr.specs.Operations.{operation_of};
 ghost use Rattle.yq_inline.specs.Values as values;
@@ -23,9 +23,9 @@ use yq_tree::{Documents, Node, NodeKind, ScalarPlace, split_break};
 
 /// Whether a text holds more than line breaks.
 fn holds_text(text: &str) -> bool
-    ensures { result ≡ not (list_all is_feed text.now) }
+    ensures { result ≡ list_any (λ b. not (is_feed b)) text.now }
 {
-    !text.as_bytes().iter().all(|b| *b == b'\n')
+    text.as_bytes().iter().any(|b| *b != b'\n')
 }
 
 /// Whether a node, if there is one, is a scalar that holds more than line breaks.
