@@ -29,7 +29,7 @@ use Rattle.yq_inline.specs.Trees.{node_anchor}
 use Rattle.yq_inline.specs.Valued.{IsValueTree}
 use Rattle.yq_inline.proofs.WrittenLaws.{node_then}
 use Rattle.yq_lines.specs.Anchors.{names_of}
-use Rattle.yq_lines.specs.Comments.{line_comment}
+use Rattle.yq_lines.specs.Comments.{line_comment as comment_in}
 use Rattle.yq_rows.specs.Exchange.{row_front}
 use Rattle.yq_rows.specs.Gap.{IsWhite}
 use Rattle.yq_rows.specs.Grammar.{IsAnchor, IsMark, IsTail, is_more, limit_after}
@@ -150,11 +150,11 @@ module _ (doc : ℕ) (s : Step) (ss : List Step) (c : Cut) (w : ScalarPlace) (h 
   tail_stands : (u : List ℕ) → IsTail new_tail u
   tail_stands u = subst (λ t. IsTail t u) tail_is (broken_tail (slices row).tail more (tail doc s ss c w h) (break_of (final_break k) (final_there doc s ss c w h)).0 (tail_pairs doc s ss c w h) u)
 
-  same_comment : line_comment new_tail ≡ line_comment h.block.tail
+  same_comment : comment_in new_tail ≡ comment_in h.block.tail
   same_comment =
-      sym (ap line_comment tail_is)
+      sym (ap comment_in tail_is)
       ∙ (broken_comment (slices row).tail more (tail doc s ss c w h) (break_of (final_break k) (final_there doc s ss c w h)).0 (tail_pairs doc s ss c w h)
-      ∙ ap (λ (x : Row). line_comment (slices x).tail) (row_is doc s ss c w h))
+      ∙ ap (λ (x : Row). comment_in (slices x).tail) (row_is doc s ss c w h))
 
   plain_ends : ends_plain false (Some (deeper (parent_indent row))) (new_tail ++ z) ≡ true
   plain_ends =
