@@ -12,7 +12,7 @@ use Rattle.yq_scalar.specs.Paths.{Step, change, node_at}
 use Rattle.yq_scalar.specs.Piece.{deeper}
 use Rattle.yq_scalar.specs.Plain.{ends_plain}
 use Rattle.yq_scalar.specs.Scalar.{ScalarText}
-use Rattle.yq_scalar.specs.Text.{is_empty, no_white, separates, NoneIn}
+use Rattle.yq_scalar.specs.Text.{is_empty, joined, no_white, separates, NoneIn}
 use Rattle.yq_scalar.specs.Tree as tree
 use Rattle.yq_scalar.specs.Tree.{Node}
 use Rattle.yq_scalar.specs.Writable.{can_write, is_string}
@@ -120,7 +120,7 @@ not_apart block_styles.Literal u = refl
 not_apart block_styles.Folded u = refl
 
 pub block_begins : (anchor : Option Anchor) (block : BlockText) (u : List ℕ) → separates (anchor_text anchor (block_text block u)) ≡ false
-block_begins None block u = not_apart block.style _
+block_begins None block u = not_apart block.style (block.indicators ++ (block.tail ++ (joined block.raw ++ u)))
 block_begins (Some a) block u = refl
 
 -- ---- the content of the row, and the text

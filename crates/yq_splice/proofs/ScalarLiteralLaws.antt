@@ -29,7 +29,7 @@ use Rattle.yq_scalar.specs.declared.block_written.Break.{Break}
 use Rattle.yq_scalar.specs.declared.kind.Kind.TheVariants as kinds
 use Rattle.yq_scalar.specs.declared.style.Place.TheVariants as places
 use Rattle.yq_scalar.specs.declared.style.Style.TheVariants as styles
-use Rattle.yq_scalar.proofs.BlockWrittenLines.{Good, IsText, NoCr, lines_good}
+use Rattle.yq_scalar.proofs.BlockWrittenLines.{Good, IsText, NoCr, indented_some, lines_good}
 use Rattle.yq_scalar.proofs.Bytes.{Each}
 use Rattle.yq_scalar.proofs.Bools.{bind_some, and_true, guard_then, is_true}
 use Rattle.yq_scalar.proofs.LineLaws.{AreLines, joined_lines, lines_are}
@@ -188,7 +188,7 @@ string_piece s u can =
 
 indented_piece : (m : ℕ) (t : List ℕ) → IsPiece t → IsPiece (indented m t)
 indented_piece m [] h = nothing
-indented_piece m (b ∷ t) h = pieces_joined (replicate m 32) (b ∷ t) (spaces_piece m) h
+indented_piece m (b ∷ t) h = subst IsPiece (sym (indented_some m b t)) (pieces_joined (replicate m 32) (b ∷ t) (spaces_piece m) h)
 
 line_piece : (m : ℕ) (br : Break) (l : List ℕ) → IsPiece (line_text l) → IsPiece (written_line m (break_text br) l)
 line_piece m br l h = pieces_joined (indented m (line_text l)) (break_text br) (indented_piece m (line_text l) h) (break_piece br)
@@ -196,18 +196,16 @@ line_piece m br l h = pieces_joined (indented m (line_text l)) (break_text br) (
 written_piece : (m : ℕ) (br : Break) (ls : Lines) → AreLines ls → Good ls → IsPiece (joined ls) → IsPiece (joined (written m (break_text br) ls))
 unfolding written
 written_piece m br [] are good h = nothing
-written_piece m br (l ∷ ls) are good h = go (is_line l) refl are.0
+written_piece m br (l ∷ ls) are good h =
+    go (λ a b. pieces_joined (written_line m (break_text br) l) (joined (written m (break_text br) ls)) (line_piece m br l a) (written_piece m br ls are.1 good.1 b)) (is_line l) refl are.0
   where
-    join : IsPiece (line_text l) → IsPiece (joined ls) → IsPiece (joined (written m (break_text br) (l ∷ ls)))
-    join a b = pieces_joined (written_line m (break_text br) l) (joined (written m (break_text br) ls)) (line_piece m br l a) (written_piece m br ls are.1 good.1 b)
-
-    go : (b : Bool) → is_line l ≡ b → (is_line l ≡ true) ⊎ (ls ≡ []) → IsPiece (joined (written m (break_text br) (l ∷ ls)))
-    go true e more =
+    go : (IsPiece (line_text l) → IsPiece (joined ls) → IsPiece (joined (written m (break_text br) (l ∷ ls)))) → (b : Bool) → is_line l ≡ b → (is_line l ≡ true) ⊎ (ls ≡ []) → IsPiece (joined (written m (break_text br) (l ∷ ls)))
+    go join true e more =
         let own : l ≡ line_text l ++ 10 ∷ [] = good.0.1 ∙ ap (λ b. line_text l ++ broken b) e in
         let cut = line_cut (line_text l) (joined ls) (subst IsPiece (ap (λ x. x ++ joined ls) own) h) in
         join (front_piece (line_text l) cut.0 (text_quiet (line_text l) good.0.0)) cut.1
-    go false e (inl more) = absurd (false≢true (sym e ∙ more))
-    go false e (inr none) =
+    go join false e (inl more) = absurd (false≢true (sym e ∙ more))
+    go join false e (inr none) =
         let own : l ≡ line_text l = good.0.1 ∙ (ap (λ b. line_text l ++ broken b) e ∙ append-nil (line_text l)) in
         let alone : l ++ joined ls ≡ line_text l = ap (λ x. l ++ joined x) none ∙ (append-nil l ∙ own) in
         join (subst IsPiece alone h) (subst (λ x. IsPiece (joined x)) (sym none) nothing)
