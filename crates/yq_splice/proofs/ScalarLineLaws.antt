@@ -1,5 +1,5 @@
 -- A block scalar gives way to a value that is written inline on the line of its header.
-use Rattle.std.proofs.Common.{◌≡◌, inl, ℕ, ℤ, ◌≤◌, cond, not, ◌&&◌, ◌||◌, List, [], ◌∷◌, ◌++◌, length, Option, Some, None, Bool, true, false, refl, sym, ap, ◌∙◌, subst, arith, append_assoc, append-nil}
+use Rattle.std.proofs.Common.{◌≡◌, inl, ℕ, ◌≤◌, cond, not, List, [], ◌∷◌, ◌++◌, length, Option, Some, None, Bool, true, false, refl, sym, ap, ◌∙◌, subst, arith, append_assoc, append-nil}
 use Rattle.std.proofs.lemmas.Bool.{false≢true}
 use Rattle.std.proofs.lemmas.Str.{is_utf8-from_IsUtf8}
 use Rattle.std.specs.List.{slice_get}
@@ -11,8 +11,7 @@ use Rattle.yq_scalar.specs.Keys.{depth}
 use Rattle.yq_scalar.specs.Paths.{Step, change, node_at}
 use Rattle.yq_scalar.specs.Piece.{deeper}
 use Rattle.yq_scalar.specs.Plain.{ends_plain}
-use Rattle.yq_scalar.specs.Scalar.{ScalarText}
-use Rattle.yq_scalar.specs.Text.{is_empty, joined, no_white, separates, NoneIn}
+use Rattle.yq_scalar.specs.Text.{joined, no_white, separates, NoneIn}
 use Rattle.yq_scalar.specs.Tree as tree
 use Rattle.yq_scalar.specs.Tree.{Node}
 use Rattle.yq_scalar.specs.Writable.{can_write, is_string}
@@ -60,7 +59,7 @@ use Rattle.yq_change.proofs.LeadLaws.{same_lead_goes}
 use Rattle.yq_change.proofs.PartLaws.{document_known}
 use Rattle.yq_change.proofs.PathTailLaws.{anchor_other}
 use Rattle.yq_change.proofs.TextPieceLaws.{pieces_joined}
-use Rattle.yq_expr.specs.Changes.{has_long_key, is_deep, is_used_inside}
+use Rattle.yq_expr.specs.Changes.{has_long_key, is_used_inside}
 use Rattle.yq_expr.specs.Fits.{Fits}
 use Rattle.yq_expr.specs.Operations.{Operation, replace, append, remove, line_comment, head_comment}
 use Rattle.yq_expr.specs.Rooms.{room_of}

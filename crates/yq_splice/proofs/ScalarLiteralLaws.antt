@@ -1,15 +1,15 @@
 -- A block scalar gives way to a string that is written as a literal block scalar.
-use Rattle.std.proofs.Common.{◌≡◌, ◌⊎◌, inl, inr, ℕ, zero, suc, ◌+◌, ◌-◌, ◌≤◌, cond, eqb, not, ◌&&◌, ◌||◌, List, [], ◌∷◌, ◌++◌, length, take, drop, replicate, Option, Some, None, Bool, true, false, refl, sym, ap, ◌∙◌, subst, arith, append_assoc, append-nil, eqb-true}
-use Rattle.std.proofs.lemmas.Bool.{false≢true, cond-true}
+use Rattle.std.proofs.Common.{◌≡◌, ◌⊎◌, inl, inr, ℕ, zero, suc, ◌+◌, ◌≤◌, cond, eqb, not, ◌&&◌, ◌||◌, List, [], ◌∷◌, ◌++◌, length, replicate, Option, Some, None, Bool, true, false, refl, sym, ap, ◌∙◌, subst, arith, append_assoc, append-nil, eqb-true}
+use Rattle.std.proofs.lemmas.Bool.{false≢true}
 use Rattle.std.proofs.lemmas.List.Folds.{list_all-append}
 use Rattle.std.proofs.lemmas.Str.{is_utf8-from_IsUtf8}
-use Rattle.std.specs.List.{list_all, list_any, slice_get}
+use Rattle.std.specs.List.{list_all, list_any}
 use Rattle.std.specs.Str.{IsUtf8, chars}
 use Rattle.yq_scalar.specs.Block.{BlockText, Lines, AreRaw, IsBlock, IsDetected, IsDigit, IsRawLine, IsTextIndent, block_text, ends_block, is_empty_line, is_less_indented, keeps, sign_text}
 use Rattle.yq_scalar.specs.BlockContent.{block_content, broken, ending, folded, kind_of, joint, literal, line_text, part_of, strips, unindented}
 use Rattle.yq_scalar.specs.BlockWritten.{break_text, chomping_of, header_text, indented, written, written_line, written_block}
 use Rattle.yq_scalar.specs.Characters.{is_text_char, text_limit}
-use Rattle.yq_scalar.specs.Lines.{spaces, behind_spaces}
+use Rattle.yq_scalar.specs.Lines.{behind_spaces}
 use Rattle.yq_scalar.specs.Paths.{Step, node_at}
 use Rattle.yq_scalar.specs.Piece.{deeper}
 use Rattle.yq_scalar.specs.PlainText.{is_plain_char}
@@ -64,9 +64,9 @@ use Rattle.yq_splice.specs.ScalarReplacing.{has_text, holds_text}
 use Rattle.yq_splice.specs.Script.{Segment, old_text, new_text}
 use Rattle.yq_splice.specs.Ways.{IsWay, ReadsAfter}
 use Rattle.yq_splice.proofs.CommentPieceLaws.{break_piece, byte_then, front_piece, no_return, nothing, spaces_piece, text_piece}
-use Rattle.yq_splice.proofs.ScalarLineLaws.{FitsScalar, block_begins, mark_is, same_old, scalar_fits}
+use Rattle.yq_splice.proofs.ScalarLineLaws.{block_begins, mark_is, same_old, scalar_fits}
 use Rattle.yq_splice.proofs.ScalarRowLaws.{HasScalar, scalar_has, p, front, r, back, rest, entry, node_there, valid, TakesScalar, part_with, text_with, scalar_reads}
-use Rattle.yq_splice.proofs.ScalarTextLaws.{base, there, there_is, row_is, front_text, head_is_piece, own_tail_piece, rest_piece}
+use Rattle.yq_splice.proofs.ScalarTextLaws.{there, there_is, row_is, front_text, head_is_piece, own_tail_piece, rest_piece}
 
 some_same : {A : Type 0} {x y : A} → Some x ≡ Some y → x ≡ y
 some_same e = cc

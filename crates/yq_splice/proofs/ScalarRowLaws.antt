@@ -1,8 +1,7 @@
 -- The row of a block scalar, and another content in its place.
-use Rattle.std.proofs.Common.{◌≡◌, ℕ, suc, ◌+◌, List, [], ◌∷◌, ◌++◌, length, take, drop, Option, Some, None, option_and_then, is_some, Bool, true, false, cond, eqb, refl, sym, ap, ◌∙◌, subst, append_assoc, length-append}
+use Rattle.std.proofs.Common.{◌≡◌, ℕ, suc, ◌+◌, List, [], ◌∷◌, ◌++◌, length, take, drop, Option, Some, None, option_and_then, is_some, Bool, true, false, eqb, refl, sym, ap, ◌∙◌, subst, length-append}
 use Rattle.std.proofs.lemmas.Bool.{false≢true, eqb-true}
 use Rattle.std.specs.Str.{is_utf8}
-use Rattle.yq_scalar.specs.Answers.{◌>>=◌}
 use Rattle.yq_scalar.specs.Block.{BlockText}
 use Rattle.yq_scalar.specs.Paths.{Step, change, node_at}
 use Rattle.yq_scalar.specs.Piece.{deeper}
@@ -31,7 +30,6 @@ use Rattle.yq_tree.specs.PlacedRows.{PlacedRow, placed_row, row_of_path}
 use Rattle.yq_tree.specs.Reading.{outline_of, read_at, root_of}
 use Rattle.yq_tree.specs.RowPaths.{IsReadable}
 use Rattle.yq_tree.specs.ScalarPlaces.{ScalarPlace, scalar_in, scalar_of, scalar_place}
-use Rattle.yq_tree.specs.Seats.{Seat, seat, seat_of}
 use Rattle.yq_tree.specs.TreeEdits.{led, replaced}
 use Rattle.yq_tree.proofs.FoundLines.{each}
 use Rattle.yq_tree.proofs.PrintedTexts.{map_some, none_some}

@@ -24,7 +24,7 @@ use Rattle.yq_tree.specs.CommentPlaces.{LineEnd, end_before, line_text}
 use Rattle.yq_tree.specs.PlacedRows.{PlacedRow, placed_row}
 use Rattle.yq_tree.specs.PrintedLines.{is_last_break, less_break, last_break}
 use Rattle.yq_tree.specs.ScalarPlaces.{ScalarPlace, anchor_before, space_before, scalar_in}
-use Rattle.yq_tree.proofs.LineEndLaws.{end_of_tail, line_tail, tail_is_end}
+use Rattle.yq_tree.proofs.LineEndLaws.{line_tail, tail_is_end}
 use Rattle.yq_tree.proofs.PrintedTexts.{less_is}
 use Rattle.yq_change.specs.TextPieces.{IsPiece}
 use Rattle.yq_change.proofs.TextPieceLaws.{byte_cut, line_cut, pieces_joined, text_is_piece}

@@ -9,7 +9,7 @@ use Rattle.yq_scalar.specs.Writable.{can_write}
 use Rattle.yq_scalar.specs.declared.block_written.Break.{Break}
 use Rattle.yq_scalar.specs.declared.style.Place.TheVariants.{Block}
 use Rattle.yq_scalar.specs.declared.style.Style.TheVariants.{Literal}
-use Rattle.yq_rows.specs.Rows.{Cut, cut_text}
+use Rattle.yq_rows.specs.Rows.{cut_text}
 use Rattle.yq_tree.specs.FirstBreak.{first_break}
 use Rattle.yq_tree.specs.ScalarPlaces.{ScalarPlace, scalar_place}
 use Rattle.yq_expr.specs.Operations.{replace, append, remove, line_comment, head_comment}

@@ -9,7 +9,6 @@ use Rattle.yq_scalar.specs.Writable.{can_write, is_string}
 use Rattle.yq_scalar.specs.Written.{double}
 use Rattle.yq_scalar.specs.declared.style.Place.TheVariants.{Block}
 use Rattle.yq_scalar.specs.declared.style.Style.TheVariants.{Literal}
-use Rattle.yq_rows.specs.Rows.{Cut}
 use Rattle.yq_tree.specs.CommentPlaces.{LineEnd, end_before}
 use Rattle.yq_tree.specs.PrintedLines.{less_break, last_break}
 use Rattle.yq_tree.specs.ScalarPlaces.{ScalarPlace, scalar_place}

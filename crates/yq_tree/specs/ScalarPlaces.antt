@@ -1,5 +1,5 @@
 -- Where a block scalar stands behind a key or dash in a text (YAML 1.2.2, 8.1; own).
-use Rattle.std.specs.Prelude.{ℕ, ◌==◌, not, List, [], ◌++◌, length, Option, Some, None, option_map, Bool, if◌then◌else◌}
+use Rattle.std.specs.Prelude.{ℕ, ◌==◌, not, List, [], ◌++◌, length, Option, None, option_map, Bool, if◌then◌else◌}
 use Rattle.yq_scalar.specs.Answers.{◌>>=◌}
 use Rattle.yq_scalar.specs.Block.{BlockText}
 use Rattle.yq_scalar.specs.Paths.{Step}

@@ -1,5 +1,5 @@
 -- What the code tells of block scalars in a text (own).
-use Rattle.std.specs.Prelude.{◌≡◌, ℕ, ◌+◌, List, ◌++◌, length}
+use Rattle.std.specs.Prelude.{◌≡◌, ℕ, List, ◌++◌, length}
 use Rattle.std.specs.Str.{IsCharBoundary}
 use Rattle.yq_rows.specs.View.{Slices}
 use Rattle.yq_tree.specs.ScalarPlaces.{ScalarPlace, space_before}

@@ -55,12 +55,7 @@ fn line_written(alloc: Global, text: bool, value: &Value) -> Result<Option<Strin
     if can_write(scalar, Style::Literal, Place::Block) {
         return Ok(None);
     }
-    Ok(Some(write_scalar(
-        alloc,
-        scalar,
-        Style::Double,
-        Place::Block,
-    )?))
+    Ok(Some(write_scalar(alloc, scalar, Style::Double, Place::Block)?))
 }
 
 /// The break of a header's line where lines are behind it, those lines less the last break, and that.
@@ -78,11 +73,7 @@ fn split_lines<'d>(header_break: &'d str, raw: &'d str) -> (&'d str, &'d str, &'
 }
 
 /// A text in the place of a block scalar, on the line of its header.
-fn put_line(
-    alloc: Global,
-    place: ScalarPlace<'_>,
-    text: &str,
-) -> Result<Option<Edited>, EditError>
+fn put_line(alloc: Global, place: ScalarPlace<'_>, text: &str) -> Result<Option<Edited>, EditError>
     ensures { Carries result (Some (spec.line_segments (scalar_told place.entry) text.now)) }
 {
     let (white, rest) = split_white(place.tail);
