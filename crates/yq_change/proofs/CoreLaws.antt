@@ -113,9 +113,10 @@ module _ (spaces : Option ℕ) (d : ℕ) (core : Node) (rest : List ℕ) (unname
   lead_again g t gap (inl h) = inl ((none_again _ g t (node_text core rest) h.0.0, starts), begins spaces d core rest unnamed some stands)
   lead_again g t gap (inr h) = absurd (gap_some g gap h.0)
 
-  behind : (n g : List ℕ) (old : Node) (t : List ℕ) → is_bare old ≡ false → IsName n (g ++ t) → IsLead false (begins_content false) g t → (is_bare old || not (is_empty g)) ≡ true → IsNode false spaces d (anchored n g core) rest
+  -- behind an anchor
+  pub anchored_node : (n g : List ℕ) (old : Node) (t : List ℕ) → is_bare old ≡ false → IsName n (g ++ t) → IsLead false (begins_content false) g t → (is_bare old || not (is_empty g)) ≡ true → IsNode false spaces d (anchored n g core) rest
   unfolding IsNode node_text
-  behind n g old t full name lead apart_is =
+  anchored_node n g old t full name lead apart_is =
       let gap : is_empty g ≡ false = no_empty_gap g (ap (λ b. b || not (is_empty g)) (sym full) ∙ apart_is) in
       (name_again n g t (node_text core rest) gap name, lead_again g t gap lead, or_right (is_bare core) (not (is_empty g)) (ap not gap), takes, stands)
 
@@ -129,8 +130,8 @@ core_node spaces d core rest u b a s (coll k g is) h = s
 core_node spaces d core rest u b a s (anchored n g empty) h =
     (name_space n (g ++ rest) (node_text core rest) h.0, inl (((refl, tt), starts spaces d core rest u b a s), begins spaces d core rest u b s), or_right (is_bare core) true refl, a, s)
 core_node spaces d core rest u b a s (anchored n g (alias m)) h = absurd (false≢true h.3)
-core_node spaces d core rest u b a s (anchored n g (scalar p)) h = behind spaces d core rest u b a s n g (scalar p) (p ++ rest) refl h.0 h.1 h.2
-core_node spaces d core rest u b a s (anchored n g (coll k x is)) h = behind spaces d core rest u b a s n g (coll k x is) (open_of k ∷ (x ++ items_text k is rest)) refl h.0 h.1 h.2
+core_node spaces d core rest u b a s (anchored n g (scalar p)) h = anchored_node spaces d core rest u b a s n g (scalar p) (p ++ rest) refl h.0 h.1 h.2
+core_node spaces d core rest u b a s (anchored n g (coll k x is)) h = anchored_node spaces d core rest u b a s n g (coll k x is) (open_of k ∷ (x ++ items_text k is rest)) refl h.0 h.1 h.2
 core_node spaces d core rest u b a s (anchored n g (anchored m x node)) h = absurd (false≢true h.3)
 
 -- ---- its text

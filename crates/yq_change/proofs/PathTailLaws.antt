@@ -44,8 +44,8 @@ row_stands t c k p front back r old is =
     let all = subst (λ (rs : List Row). AreRows (asked_behind unlimited (take (length front) p.rows)) rs p.end (behind_document k c)) (drop_front p front (r ∷ back) is) own in
     subst (λ (rs : List Row). AreRows (asked_behind unlimited rs) (r ∷ back) p.end (behind_document k c)) (ap (take (length front)) is ∙ take-append_seam front (r ∷ back)) all
 
--- a header with another tail
-anchor_other : (anchor : Option rows.Anchor) (t u : List ℕ) → IsAnchor anchor t → IsAnchor anchor u
+-- an anchor before another text
+pub anchor_other : (anchor : Option rows.Anchor) (t u : List ℕ) → IsAnchor anchor t → IsAnchor anchor u
 anchor_other None t u h = tt
 anchor_other (Some a) t u h = (name_by a.name (a.gap ++ t) (a.gap ++ u) (other a.gap h.2 h.0.ends) h.0, h.1, h.2)
   where

@@ -84,7 +84,7 @@ no_pairs (b ∷ t) h = go (is_true (is_return b)) (no_pairs t h.1)
     go (inl e) k = absurd (false≢true (ap not (sym e) ∙ h.0))
     go (inr e) k = rw e k
 
-text_piece : (p : ℕ → Bool) (t : List ℕ) → IsUtf8 t → ((c : ℕ) → p c ≡ true → is_text_char c ≡ true) → list_all p (chars t) ≡ true → Each no_return t → IsPiece t
+pub text_piece : (p : ℕ → Bool) (t : List ℕ) → IsUtf8 t → ((c : ℕ) → p c ≡ true → is_text_char c ≡ true) → list_all p (chars t) ≡ true → Each no_return t → IsPiece t
 text_piece p t u f h e = record { utf8 = u; characters = rw (all_weaker p is_text_char f (chars t) h) (no_pairs t e) }
 
 -- a text of a line comment
@@ -157,7 +157,7 @@ no_return_end (b ∷ t) h = clean_byte b t (go (is_true (is_return b))) (no_retu
     go (inl e) = absurd (false≢true (ap not (sym e) ∙ h.0))
     go (inr e) = e
 
-front_piece : (a : List ℕ) → IsPiece (a ++ 10 ∷ []) → Each no_return a → IsPiece a
+pub front_piece : (a : List ℕ) → IsPiece (a ++ 10 ∷ []) → Each no_return a → IsPiece a
 front_piece a h e =
     let u : IsUtf8 a = subst IsUtf8 (take-append_seam a (10 ∷ [])) (IsUtf8-take (a ++ 10 ∷ []) (length a) h.utf8 (before_ascii a (10 ∷ []) (let low : 10 < 128 = omega arith in low))) in
     (clean_cut a (10 ∷ []) h u (λ f. no_return_end a e)).0

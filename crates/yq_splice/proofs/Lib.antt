@@ -64,3 +64,14 @@ pub mod NodeValueLaws
 pub mod CollectionRows
 pub mod CollectionReplaceLaws
 pub mod CollectionAnswers
+pub mod UnderTexts
+pub mod UnderEnds
+pub mod UnderPieces
+pub mod BlockReplaceLaws
+pub mod BlockWayLaws
+pub mod ScalarRowLaws
+pub mod ScalarTextLaws
+pub mod ScalarLineLaws
+pub mod ScalarLiteralLaws
+pub mod ScalarAnswers
+pub mod BlockAnswers

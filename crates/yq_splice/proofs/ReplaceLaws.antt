@@ -82,7 +82,7 @@ style_line p = go (front (λ b. eqb b 39) p) (front (λ b. eqb b 34) p)
     go false true = tt
     go false false = tt
 
-scalar_for : (a : Option (List ℕ)) (s : ScalarText) (style : Style) → IsValueTree (tree.scalar a s.kind s.text) → IsInline style → Rattle.yq_scalar.specs.Writable.can_write s style Rattle.yq_scalar.specs.declared.style.Place.TheVariants.Block ≡ true →
+pub scalar_for : (a : Option (List ℕ)) (s : ScalarText) (style : Style) → IsValueTree (tree.scalar a s.kind s.text) → IsInline style → Rattle.yq_scalar.specs.Writable.can_write s style Rattle.yq_scalar.specs.declared.style.Place.TheVariants.Block ≡ true →
     IsWrittenFor (tree.scalar a s.kind s.text) (written style s.text)
 unfolding node_text
 scalar_for a s style h i can =
@@ -106,7 +106,7 @@ written_for alone old (tree.map a cs) t h deep long e =
 
 -- ---- the node that is there
 
-same_node : (n v : Node) → IsValueTree v → are_same (scalar_in n) (scalar_in v) ≡ true → replaced v n ≡ n
+pub same_node : (n v : Node) → IsValueTree v → are_same (scalar_in n) (scalar_in v) ≡ true → replaced v n ≡ n
 same_node (tree.alias name) v h e = absurd (false≢true e)
 same_node (tree.list a cs) v h e = absurd (false≢true e)
 same_node (tree.map a cs) v h e = absurd (false≢true e)

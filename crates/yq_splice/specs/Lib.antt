@@ -23,3 +23,6 @@ pub mod Print
 pub mod FlowWays
 pub mod SoleRemoving
 pub mod CollectionReplacing
+pub mod BlockReplacing
+pub mod ScalarReplacing
+pub mod ScalarLiteral

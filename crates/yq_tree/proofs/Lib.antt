@@ -95,3 +95,4 @@ pub mod CollectionTold
 pub mod FlowToldLaws
 pub mod FlowNodeLaws
 pub mod MarkLaws
+pub mod ScalarPlaceLaws

@@ -57,6 +57,8 @@ pub mod CommentPlaces
 pub mod CommentTelling
 pub mod MarkPlaces
 pub mod MarkTelling
+pub mod ScalarPlaces
+pub mod ScalarTelling
 pub mod FirstBreak
 pub mod CollectionTelling
 pub mod FlowNodes

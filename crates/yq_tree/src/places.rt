@@ -18,6 +18,7 @@ pub mod part_place;
 pub mod removal_place;
 pub mod room;
 pub mod row_place;
+pub mod scalar_place;
 pub mod seat;
 pub mod steps;
 pub mod written;

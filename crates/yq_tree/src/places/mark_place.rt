@@ -32,7 +32,7 @@ pub struct MarkPlace<'d> {
 }
 
 /// The column of a key or dash, by the indentation of the parent of what stands behind it.
-fn column_of(parent: i64) -> usize
+pub(crate) fn column_of(parent: i64) -> usize
     ensures { result ≡ spec.column_of parent }
 {
     if parent < 0 { 0 } else { parent as usize }

@@ -156,7 +156,7 @@ fn scalar_at(whole: &str, start: usize, parent: i64) -> Option<(bool, usize)>
 }
 
 /// The same of the block scalar that row `i` holds; none, where the row holds no block scalar.
-fn block_in(rows: &Rows<'_>, whole: &str, i: usize) -> Option<(bool, usize)>
+pub(crate) fn block_in(rows: &Rows<'_>, whole: &str, i: usize) -> Option<(bool, usize)>
     requires within { i < length rows.now.rows }
     requires shown { rows.now ≡ shown (cut_of whole.now) }
     requires cut { IsCut whole.now (cut_of whole.now) }
