@@ -4,12 +4,13 @@ use Rattle.yq_rows.specs.Rows.{cut_text}
 use Rattle.yq_splice.specs.AppendWay.{append_way}
 use Rattle.yq_splice.specs.BlockReplacing.{block_replace_way}
 use Rattle.yq_splice.specs.BlockWriting.{replace_block_way}
-use Rattle.yq_splice.specs.Carried.{comment_ways, remove_ways, entry_ways, replace_ways, exchange_ways, node_ways, tree_ways, carrying}
+use Rattle.yq_splice.specs.Carried.{comment_ways, remove_ways, entry_ways, replace_ways, exchange_ways, node_ways, tree_ways, root_ways, carrying}
 use Rattle.yq_splice.specs.CommentWays.{line_comment_way, head_comment_way}
 use Rattle.yq_splice.specs.FlowWays.{flow_remove_way}
 use Rattle.yq_splice.specs.Removing.{remove_way}
 use Rattle.yq_splice.specs.RemovingFirst.{remove_first_way}
 use Rattle.yq_splice.specs.Replacing.{replace_way}
+use Rattle.yq_splice.specs.RootWriting.{root_way}
 use Rattle.yq_splice.specs.Script.{Segment, old_text, new_text}
 use Rattle.yq_splice.specs.Ways.{Way, ReadsAfter, IsWay, first_some, or_else}
 use Rattle.yq_splice.proofs.AppendWayLaws.{append_is}
@@ -21,6 +22,7 @@ use Rattle.yq_splice.proofs.LineCommentLaws.{line_comment_is_way}
 use Rattle.yq_splice.proofs.RemovingFirstLaws.{remove_first_is}
 use Rattle.yq_splice.proofs.RemovingLaws.{remove_is_way}
 use Rattle.yq_splice.proofs.ReplaceLaws.{replace_is}
+use Rattle.yq_splice.proofs.RootWayLaws.{root_is_way}
 
 -- what follows from either of two follows from the first that there is
 by_either : (x y : Option (List Segment)) (ss : List Segment) (R : Type 0) → (x ≡ Some ss → R) → (y ≡ Some ss → R) → first_some x y ≡ Some ss → R
@@ -62,6 +64,10 @@ trees_are : IsWay tree_ways
 unfolding tree_ways
 trees_are = either_is node_ways flow_remove_way nodes_are flow_remove_is
 
+roots_are : IsWay root_ways
+unfolding root_ways
+roots_are = either_is tree_ways root_way trees_are root_is_way
+
 pub carrying_is : IsWay carrying
 unfolding carrying
-carrying_is = either_is tree_ways comment_ways trees_are comments_are
+carrying_is = either_is root_ways comment_ways roots_are comments_are

@@ -63,3 +63,9 @@ pub mod UnderPieces
 pub mod BlockReplaceLaws
 pub mod BlockWayLaws
 pub mod BlockAnswers
+pub mod RootRows
+pub mod RootValues
+pub mod RootReadLaws
+pub mod BlockRootLaws
+pub mod RootWayLaws
+pub mod RootAnswers

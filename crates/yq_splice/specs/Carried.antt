@@ -18,6 +18,7 @@ use Rattle.yq_splice.specs.FlowWays.{flow_remove_way}
 use Rattle.yq_splice.specs.Removing.{remove_way}
 use Rattle.yq_splice.specs.RemovingFirst.{remove_first_way}
 use Rattle.yq_splice.specs.Replacing.{replace_way}
+use Rattle.yq_splice.specs.RootWriting.{root_way}
 use Rattle.yq_splice.specs.Ways.{Way, or_else}
 
 -- the ways to set comments (own)
@@ -48,9 +49,13 @@ node_ways = or_else exchange_ways entry_ways
 unfoldable pub tree_ways : Way
 tree_ways = or_else node_ways flow_remove_way
 
+-- the same, also at the roots of documents (own)
+unfoldable pub root_ways : Way
+root_ways = or_else tree_ways root_way
+
 -- the ways to carry out operations, the first that is one for an operation being taken (own)
 unfoldable pub carrying : Way
-carrying = or_else tree_ways comment_ways
+carrying = or_else root_ways comment_ways
 
 -- an edit, if there is one; where no way is one for an operation, that isn't carried out yet (own)
 abbrev pub or_unbuilt : Option Edit → Edit

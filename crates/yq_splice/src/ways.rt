@@ -14,6 +14,7 @@ mod line_comment;
 mod removing;
 mod removing_first;
 mod replacing;
+mod root_writing;
 
 use crate::edited::{EditError, Edited};
 use crate::ways::append::append_way;
@@ -25,6 +26,7 @@ use crate::ways::line_comment::line_comment_way;
 use crate::ways::removing::remove_way;
 use crate::ways::removing_first::remove_first_way;
 use crate::ways::replacing::replace_way;
+use crate::ways::root_writing::root_way;
 use std::alloc::Global;
 use yq_expr::Op;
 use yq_tree::Documents;
@@ -134,6 +136,21 @@ fn by_tree_ways(
     flow_remove_way(alloc, documents, op)
 }
 
+/// The same, also at the root of a document.
+#[tactic(auto, unfolding(crate::specs::Carried::root_ways), using(crate::proofs::WayLaws::first_way_carries, crate::proofs::WayLaws::second_way_carries))]
+fn by_root_ways(
+    alloc: Global,
+    documents: &Documents<'_>,
+    op: &Op,
+) -> Result<Option<Edited>, EditError>
+    ensures { Carries result (spec.root_ways (operation_of op.now) (cut_of documents.now)) }
+{
+    if let Some(edited) = by_tree_ways(alloc, documents, op)? {
+        return Ok(Some(edited));
+    }
+    root_way(alloc, documents, op)
+}
+
 /// An operation carried out on documents by the first way that is one for it.
 #[tactic(auto, unfolding(crate::specs::Carried::carrying), using(crate::proofs::WayLaws::first_way_carries, crate::proofs::WayLaws::second_way_carries))]
 pub(crate) fn by_ways(
@@ -143,7 +160,7 @@ pub(crate) fn by_ways(
 ) -> Result<Option<Edited>, EditError>
     ensures { Carries result (spec.carrying (operation_of op.now) (cut_of documents.now)) }
 {
-    if let Some(edited) = by_tree_ways(alloc, documents, op)? {
+    if let Some(edited) = by_root_ways(alloc, documents, op)? {
         return Ok(Some(edited));
     }
     by_comment_ways(alloc, documents, op)
