@@ -125,7 +125,7 @@ free_from None l ls m h = tt
 free_from (Some x) l ls m (inl e) = absurd (cc)
 free_from (Some x) l ls m (inr h) = subst (λ k. MayTake k l.anchor l.head) (sym m) (takes_bare l.anchor l.head h.0 h.1)
 
-free_alone : (a : Option (List ℕ)) → IsFree a []
+pub free_alone : (a : Option (List ℕ)) → IsFree a []
 free_alone None = tt
 free_alone (Some x) = tt
 
@@ -144,10 +144,10 @@ single (row y end (row z u a)) x e = absurd (let no : z ∷ (flatten u ++ flatte
 single (row y (row z u b) a) x e = absurd (let no : z ∷ ((flatten u ++ flatten b) ++ flatten a) ≡ [] = tail_same e in cc)
 
 -- a line of its own is its node
-alone_value : (l : Line) → l.mark ≡ outline.Bare → value (row l end end) ≡ anchored l.anchor (head_or l.head null_node)
+pub alone_value : (l : Line) → l.mark ≡ outline.Bare → value (row l end end) ≡ anchored l.anchor (head_or l.head null_node)
 alone_value l m = ap (λ k. outline.collection k (outline.children (row l end end))) m
 
-alone_even : (l : Line) (m : ℕ) (v : Node) → level l ≡ m → l.mark ≡ outline.Bare → l.head ≡ Some v → IsEven m (row l end end)
+pub alone_even : (l : Line) (m : ℕ) (v : Node) → level l ≡ m → l.mark ≡ outline.Bare → l.head ≡ Some v → IsEven m (row l end end)
 alone_even l m v at mark head =
     (at, subst (λ h. IsOpen h end) (sym head) tt, subst (λ k. IsWhole k l.head end) (sym mark) (subst (λ h. IsWhole outline.Bare h end) (sym head) tt), (suc m, omega arith, tt), tt)
 

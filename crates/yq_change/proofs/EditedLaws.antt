@@ -266,7 +266,7 @@ root_has_lead p block = go (outline_of p) block refl ∙ ap Some (sym (lead_is_f
     go (row l u a) b e = ap first_above (kind l.mark b (children (row l u a)))
 
 -- a root under a lead is as deep, and has the same names and keys
-led_same : (above : List (List ℕ)) (n : Node) →
+pub led_same : (above : List (List ℕ)) (n : Node) →
     (names_of (within (headed above) n) ≡ names_of n) × (depth (within (headed above) n) ≡ depth n) × (HasUniqueKeys n → HasUniqueKeys (within (headed above) n))
 led_same above (alias name) = (refl, refl, λ h. h)
 led_same above (scalar a k t) = (refl, refl, λ h. h)

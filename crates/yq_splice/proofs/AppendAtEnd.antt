@@ -46,7 +46,7 @@ one_break breaks.Lf = refl
 one_break breaks.CrLf = refl
 
 -- nothing may stand behind rows
-nothing_tail : IsTail [] []
+pub nothing_tail : IsTail [] []
 nothing_tail = record { white = []; comment = []; line = record { break = []; spelled = refl; blank = tt; remark = tt; ends = inr (refl, refl) }; apart = refl }
 
 nothing_ends : (column : ℕ) → IsEnd column [] ([] ++ [])

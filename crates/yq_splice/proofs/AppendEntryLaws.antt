@@ -170,7 +170,7 @@ pub entry_bare : (key : Option (List ℕ)) (v : Node) (l : Layout) (column : ℕ
 entry_bare key v l column last = rows_bare l column last (alone key v)
 
 -- they are rows
-rows_gap : (limit : Limit) (rs : List Row) (gap rest : List ℕ) → AreRows limit rs [] (gap ++ rest) → IsGap gap rest → AreRows limit rs gap rest
+pub rows_gap : (limit : Limit) (rs : List Row) (gap rest : List ℕ) → AreRows limit rs [] (gap ++ rest) → IsGap gap rest → AreRows limit rs gap rest
 rows_gap limit [] gap rest h g = g
 rows_gap limit (r ∷ rs) gap rest h g = (h.0, rows_gap (limit_after r) rs gap rest h.1 g)
 

@@ -2,29 +2,32 @@
 use Rattle.std.proofs.Common.{◌≡◌, List, Option, Some, None}
 use Rattle.yq_rows.specs.Rows.{cut_text}
 use Rattle.yq_splice.specs.AppendWay.{append_way}
-use Rattle.yq_splice.specs.BlockReplacing.{block_replace_way}
 use Rattle.yq_splice.specs.BlockWriting.{replace_block_way}
-use Rattle.yq_splice.specs.Carried.{comment_ways, remove_ways, entry_ways, replace_ways, exchange_ways, scalar_ways, value_ways, node_ways, tree_ways, carrying}
+use Rattle.yq_splice.specs.Carried.{comment_ways, remove_ways, entry_ways, replace_ways, scalar_ways, leaf_ways, collection_ways, exchange_ways, node_ways, tree_ways, sole_ways, content_ways, carrying}
+use Rattle.yq_splice.specs.CollectionReplacing.{replace_collection_way}
 use Rattle.yq_splice.specs.CommentWays.{line_comment_way, head_comment_way}
 use Rattle.yq_splice.specs.FlowWays.{flow_remove_way}
 use Rattle.yq_splice.specs.Removing.{remove_way}
 use Rattle.yq_splice.specs.RemovingFirst.{remove_first_way}
 use Rattle.yq_splice.specs.Replacing.{replace_way}
+use Rattle.yq_splice.specs.RootWriting.{root_way}
 use Rattle.yq_splice.specs.ScalarLiteral.{scalar_literal_way}
 use Rattle.yq_splice.specs.ScalarReplacing.{scalar_line_way}
 use Rattle.yq_splice.specs.Script.{Segment, old_text, new_text}
 use Rattle.yq_splice.specs.Ways.{Way, ReadsAfter, IsWay, first_some, or_else}
 use Rattle.yq_splice.proofs.AppendWayLaws.{append_is}
-use Rattle.yq_splice.proofs.BlockWayLaws.{block_replace_is}
 use Rattle.yq_splice.proofs.BlockWritingLaws.{replace_block_is}
+use Rattle.yq_splice.proofs.CollectionReplaceLaws.{replace_collection_is}
 use Rattle.yq_splice.proofs.FlowRemoveLaws.{flow_remove_is}
 use Rattle.yq_splice.proofs.HeadCommentLaws.{head_comment_is_way}
 use Rattle.yq_splice.proofs.LineCommentLaws.{line_comment_is_way}
 use Rattle.yq_splice.proofs.RemovingFirstLaws.{remove_first_is}
 use Rattle.yq_splice.proofs.RemovingLaws.{remove_is_way}
 use Rattle.yq_splice.proofs.ReplaceLaws.{replace_is}
+use Rattle.yq_splice.proofs.RootWayLaws.{root_is_way}
 use Rattle.yq_splice.proofs.ScalarLineLaws.{scalar_line_is}
 use Rattle.yq_splice.proofs.ScalarLiteralLaws.{scalar_literal_is}
+use Rattle.yq_splice.proofs.SoleLaws.{sole_is}
 
 -- what follows from either of two follows from the first that there is
 by_either : (x y : Option (List Segment)) (ss : List Segment) (R : Type 0) → (x ≡ Some ss → R) → (y ≡ Some ss → R) → first_some x y ≡ Some ss → R
@@ -54,26 +57,38 @@ replaced_are : IsWay replace_ways
 unfolding replace_ways
 replaced_are = either_is replace_way replace_block_way replace_is replace_block_is
 
-exchanged_are : IsWay exchange_ways
-unfolding exchange_ways
-exchanged_are = either_is replace_ways block_replace_way replaced_are block_replace_is
-
 scalars_are : IsWay scalar_ways
 unfolding scalar_ways
 scalars_are = either_is scalar_line_way scalar_literal_way scalar_line_is scalar_literal_is
 
-values_are : IsWay value_ways
-unfolding value_ways
-values_are = either_is exchange_ways scalar_ways exchanged_are scalars_are
+leaves_are : IsWay leaf_ways
+unfolding leaf_ways
+leaves_are = either_is replace_ways scalar_ways replaced_are scalars_are
+
+collections_are : IsWay collection_ways
+unfolding collection_ways
+collections_are = either_is replace_collection_way root_way replace_collection_is root_is_way
+
+exchanged_are : IsWay exchange_ways
+unfolding exchange_ways
+exchanged_are = either_is leaf_ways collection_ways leaves_are collections_are
 
 nodes_are : IsWay node_ways
 unfolding node_ways
-nodes_are = either_is value_ways entry_ways values_are entries_are
+nodes_are = either_is exchange_ways entry_ways exchanged_are entries_are
 
 trees_are : IsWay tree_ways
 unfolding tree_ways
 trees_are = either_is node_ways flow_remove_way nodes_are flow_remove_is
 
+sole_are : IsWay sole_ways
+unfolding sole_ways
+sole_are = sole_is exchange_ways exchanged_are
+
+contents_are : IsWay content_ways
+unfolding content_ways
+contents_are = either_is tree_ways sole_ways trees_are sole_are
+
 pub carrying_is : IsWay carrying
 unfolding carrying
-carrying_is = either_is tree_ways comment_ways trees_are comments_are
+carrying_is = either_is content_ways comment_ways contents_are comments_are

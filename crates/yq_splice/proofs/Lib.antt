@@ -75,3 +75,9 @@ pub mod ScalarLineLaws
 pub mod ScalarLiteralLaws
 pub mod ScalarAnswers
 pub mod BlockAnswers
+pub mod RootRows
+pub mod RootValues
+pub mod RootReadLaws
+pub mod BlockRootLaws
+pub mod RootWayLaws
+pub mod RootAnswers

@@ -10,16 +10,18 @@ use Rattle.yq_expr.specs.Program.{Program, Update, read, updates}
 use Rattle.yq_expr.specs.Rooms.{room_of}
 use Rattle.yq_expr.specs.declared.refusal.Refusal.TheVariants.{NotAnUpdate}
 use Rattle.yq_splice.specs.AppendWay.{append_way}
-use Rattle.yq_splice.specs.BlockReplacing.{block_replace_way}
 use Rattle.yq_splice.specs.BlockWriting.{replace_block_way}
+use Rattle.yq_splice.specs.CollectionReplacing.{replace_collection_way}
 use Rattle.yq_splice.specs.CommentWays.{line_comment_way, head_comment_way}
 use Rattle.yq_splice.specs.Edit.{Edit, refuses, unbuilt, in_order, by_reading, edit_of_segments}
 use Rattle.yq_splice.specs.FlowWays.{flow_remove_way}
 use Rattle.yq_splice.specs.Removing.{remove_way}
 use Rattle.yq_splice.specs.RemovingFirst.{remove_first_way}
 use Rattle.yq_splice.specs.Replacing.{replace_way}
+use Rattle.yq_splice.specs.RootWriting.{root_way}
 use Rattle.yq_splice.specs.ScalarLiteral.{scalar_literal_way}
 use Rattle.yq_splice.specs.ScalarReplacing.{scalar_line_way}
+use Rattle.yq_splice.specs.SoleRemoving.{sole_by}
 use Rattle.yq_splice.specs.Ways.{Way, or_else}
 
 -- the ways to set comments (own)
@@ -38,29 +40,41 @@ entry_ways = or_else append_way remove_ways
 unfoldable pub replace_ways : Way
 replace_ways = or_else replace_way replace_block_way
 
--- the ways to replace nodes but block scalars (own)
-unfoldable pub exchange_ways : Way
-exchange_ways = or_else replace_ways block_replace_way
-
 -- the ways to replace block scalars (own)
 unfoldable pub scalar_ways : Way
 scalar_ways = or_else scalar_line_way scalar_literal_way
 
+-- the ways to replace nodes that are no block collections (own)
+unfoldable pub leaf_ways : Way
+leaf_ways = or_else replace_ways scalar_ways
+
+-- the ways to replace block collections (own)
+unfoldable pub collection_ways : Way
+collection_ways = or_else replace_collection_way root_way
+
 -- the ways to replace nodes (own)
-unfoldable pub value_ways : Way
-value_ways = or_else exchange_ways scalar_ways
+unfoldable pub exchange_ways : Way
+exchange_ways = or_else leaf_ways collection_ways
 
 -- the ways to replace nodes, and those to put in and take out items and entries (own)
 unfoldable pub node_ways : Way
-node_ways = or_else value_ways entry_ways
+node_ways = or_else exchange_ways entry_ways
 
 -- the same, also in flow collections (own)
 unfoldable pub tree_ways : Way
 tree_ways = or_else node_ways flow_remove_way
 
+-- the ways to take a sole item or entry out of a collection (own)
+unfoldable pub sole_ways : Way
+sole_ways = sole_by exchange_ways
+
+-- the ways to replace nodes, and to change collections (own)
+unfoldable pub content_ways : Way
+content_ways = or_else tree_ways sole_ways
+
 -- the ways to carry out operations, the first that is one for an operation being taken (own)
 unfoldable pub carrying : Way
-carrying = or_else tree_ways comment_ways
+carrying = or_else content_ways comment_ways
 
 -- an edit, if there is one; where no way is one for an operation, that isn't carried out yet (own)
 abbrev pub or_unbuilt : Option Edit → Edit

@@ -14,6 +14,7 @@ pub mod Replacing
 pub mod AppendWay
 pub mod Layouts
 pub mod BlockWriting
+pub mod RootWriting
 pub mod PlaceViews
 pub mod Carried
 pub mod Answers

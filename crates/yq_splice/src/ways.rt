@@ -6,29 +6,33 @@ ghost use Rattle.yq_splice.specs.WayAnswers.{Carries};
 ghost use Rattle.yq_splice.specs.Ways.{IsWay};
 
 mod append;
-mod block_replacing;
 mod block_writing;
+mod collection_replacing;
 mod flow_remove;
 mod head_comment;
 mod line_comment;
 mod removing;
 mod removing_first;
 mod replacing;
+mod root_writing;
 mod scalar_line;
 mod scalar_literal;
+mod sole_removing;
 
 use crate::edited::{EditError, Edited};
 use crate::ways::append::append_way;
-use crate::ways::block_replacing::block_replace_way;
 use crate::ways::block_writing::replace_block_way;
+use crate::ways::collection_replacing::replace_collection_way;
 use crate::ways::flow_remove::flow_remove_way;
 use crate::ways::head_comment::head_comment_way;
 use crate::ways::line_comment::line_comment_way;
-use crate::ways::removing::remove_way;
 use crate::ways::removing_first::remove_first_way;
+use crate::ways::removing::remove_way;
 use crate::ways::replacing::replace_way;
+use crate::ways::root_writing::root_way;
 use crate::ways::scalar_line::scalar_line_way;
 use crate::ways::scalar_literal::scalar_literal_way;
+use crate::ways::sole_removing::emptying;
 use std::alloc::Global;
 use yq_expr::Op;
 use yq_tree::Documents;
@@ -93,21 +97,6 @@ fn by_replace_ways(
     replace_block_way(alloc, documents, op)
 }
 
-/// A node that is no block scalar replaced by the way for it.
-#[tactic(auto, unfolding(crate::specs::Carried::exchange_ways), using(crate::proofs::WayLaws::first_way_carries, crate::proofs::WayLaws::second_way_carries))]
-fn by_exchange_ways(
-    alloc: Global,
-    documents: &Documents<'_>,
-    op: &Op,
-) -> Result<Option<Edited>, EditError>
-    ensures { Carries result (spec.exchange_ways (operation_of op.now) (cut_of documents.now)) }
-{
-    if let Some(edited) = by_replace_ways(alloc, documents, op)? {
-        return Ok(Some(edited));
-    }
-    block_replace_way(alloc, documents, op)
-}
-
 /// A block scalar replaced by the way for it.
 #[tactic(auto, unfolding(crate::specs::Carried::scalar_ways), using(crate::proofs::WayLaws::first_way_carries, crate::proofs::WayLaws::second_way_carries))]
 fn by_scalar_ways(
@@ -123,19 +112,49 @@ fn by_scalar_ways(
     scalar_literal_way(alloc, documents, op)
 }
 
-/// A node replaced by the way for it.
-#[tactic(auto, unfolding(crate::specs::Carried::value_ways), using(crate::proofs::WayLaws::first_way_carries, crate::proofs::WayLaws::second_way_carries))]
-fn by_value_ways(
+/// A node that is no block collection, or nothing, replaced by the way for it.
+#[tactic(auto, unfolding(crate::specs::Carried::leaf_ways), using(crate::proofs::WayLaws::first_way_carries, crate::proofs::WayLaws::second_way_carries))]
+fn by_leaf_ways(
     alloc: Global,
     documents: &Documents<'_>,
     op: &Op,
 ) -> Result<Option<Edited>, EditError>
-    ensures { Carries result (spec.value_ways (operation_of op.now) (cut_of documents.now)) }
+    ensures { Carries result (spec.leaf_ways (operation_of op.now) (cut_of documents.now)) }
 {
-    if let Some(edited) = by_exchange_ways(alloc, documents, op)? {
+    if let Some(edited) = by_replace_ways(alloc, documents, op)? {
         return Ok(Some(edited));
     }
     by_scalar_ways(alloc, documents, op)
+}
+
+/// A block collection replaced by the way for it.
+#[tactic(auto, unfolding(crate::specs::Carried::collection_ways), using(crate::proofs::WayLaws::first_way_carries, crate::proofs::WayLaws::second_way_carries))]
+fn by_collection_ways(
+    alloc: Global,
+    documents: &Documents<'_>,
+    op: &Op,
+) -> Result<Option<Edited>, EditError>
+    ensures { Carries result (spec.collection_ways (operation_of op.now) (cut_of documents.now)) }
+{
+    if let Some(edited) = replace_collection_way(alloc, documents, op)? {
+        return Ok(Some(edited));
+    }
+    root_way(alloc, documents, op)
+}
+
+/// A node replaced by the way for it.
+#[tactic(auto, unfolding(crate::specs::Carried::exchange_ways), using(crate::proofs::WayLaws::first_way_carries, crate::proofs::WayLaws::second_way_carries))]
+fn by_exchange_ways(
+    alloc: Global,
+    documents: &Documents<'_>,
+    op: &Op,
+) -> Result<Option<Edited>, EditError>
+    ensures { Carries result (spec.exchange_ways (operation_of op.now) (cut_of documents.now)) }
+{
+    if let Some(edited) = by_leaf_ways(alloc, documents, op)? {
+        return Ok(Some(edited));
+    }
+    by_collection_ways(alloc, documents, op)
 }
 
 /// A node replaced, or a block collection changed, by the way for it.
@@ -147,7 +166,7 @@ fn by_node_ways(
 ) -> Result<Option<Edited>, EditError>
     ensures { Carries result (spec.node_ways (operation_of op.now) (cut_of documents.now)) }
 {
-    if let Some(edited) = by_value_ways(alloc, documents, op)? {
+    if let Some(edited) = by_exchange_ways(alloc, documents, op)? {
         return Ok(Some(edited));
     }
     by_entry_ways(alloc, documents, op)
@@ -168,6 +187,35 @@ fn by_tree_ways(
     flow_remove_way(alloc, documents, op)
 }
 
+/// A sole item or entry taken out by the way to put an empty collection in the place of its own.
+fn by_sole_ways(
+    alloc: Global,
+    documents: &Documents<'_>,
+    op: &Op,
+) -> Result<Option<Edited>, EditError>
+    ensures { Carries result (spec.sole_ways (operation_of op.now) (cut_of documents.now)) }
+{
+    let Some(replace) = emptying(alloc, documents, op)? else {
+        return Ok(None);
+    };
+    by_exchange_ways(alloc, documents, &replace)
+}
+
+/// A node replaced, or a collection changed, by the way for it.
+#[tactic(auto, unfolding(crate::specs::Carried::content_ways), using(crate::proofs::WayLaws::first_way_carries, crate::proofs::WayLaws::second_way_carries))]
+fn by_content_ways(
+    alloc: Global,
+    documents: &Documents<'_>,
+    op: &Op,
+) -> Result<Option<Edited>, EditError>
+    ensures { Carries result (spec.content_ways (operation_of op.now) (cut_of documents.now)) }
+{
+    if let Some(edited) = by_tree_ways(alloc, documents, op)? {
+        return Ok(Some(edited));
+    }
+    by_sole_ways(alloc, documents, op)
+}
+
 /// An operation carried out on documents by the first way that is one for it.
 #[tactic(auto, unfolding(crate::specs::Carried::carrying), using(crate::proofs::WayLaws::first_way_carries, crate::proofs::WayLaws::second_way_carries))]
 pub(crate) fn by_ways(
@@ -177,7 +225,7 @@ pub(crate) fn by_ways(
 ) -> Result<Option<Edited>, EditError>
     ensures { Carries result (spec.carrying (operation_of op.now) (cut_of documents.now)) }
 {
-    if let Some(edited) = by_tree_ways(alloc, documents, op)? {
+    if let Some(edited) = by_content_ways(alloc, documents, op)? {
         return Ok(Some(edited));
     }
     by_comment_ways(alloc, documents, op)

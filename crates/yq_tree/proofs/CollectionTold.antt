@@ -111,7 +111,7 @@ content_is c path x cut sound e = go (printed_document path.doc c) refl e
     go None is e = absurd (none_some e)
     go (Some s) is e = (document_told c path.doc s (steps_of path) cut sound is).told.ends x e
 
-piece_is : (c : Cut) (path : Path) (y : Piece) → piece_at path parts.Content c ≡ Some y → piece_text y ≡ cut_text c
+pub piece_is : (c : Cut) (path : Path) (y : Piece) → piece_at path parts.Content c ≡ Some y → piece_text y ≡ cut_text c
 piece_is c path y e = go (printed_document path.doc c) refl e
   where
     go : (o : Option PrintedDocument) → printed_document path.doc c ≡ o → (o >>= piece_in parts.Content (steps_of path)) ≡ Some y → piece_text y ≡ cut_text c

@@ -1,4 +1,6 @@
 pub mod AllLaws
+pub mod RootPlaceLaws
+pub mod RootTold
 pub mod CheckLaws
 pub mod CommentLaws
 pub mod CommentPlaceLaws

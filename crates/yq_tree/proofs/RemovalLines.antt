@@ -31,7 +31,7 @@ use Rattle.yq_tree.proofs.RemovalTexts.{run_parts, texts_then}
 abbrev pub LineSeam : List ℕ → List ℕ → Type 0
 LineSeam a b = (a ≡ []) ⊎ Ended a b
 
-seam_join : (a b c : List ℕ) → LineSeam a (b ++ c) → LineSeam b c → LineSeam (a ++ b) c
+pub seam_join : (a b c : List ℕ) → LineSeam a (b ++ c) → LineSeam b c → LineSeam (a ++ b) c
 seam_join a b c h (inl e) = subst (λ (x : List ℕ). LineSeam x c) (sym (ap (λ (x : List ℕ). a ++ x) e ∙ append-nil a)) (subst (λ (x : List ℕ). LineSeam a (x ++ c)) e h)
 seam_join a b c h (inr (inl lf)) = inr (inl (append_lf a b lf))
 seam_join a b c h (inr (inr e)) = inr (inr e)

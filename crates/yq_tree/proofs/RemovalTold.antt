@@ -41,7 +41,7 @@ use Rattle.yq_tree.proofs.StartLaws.{start_told}
 
 -- ---- a text cut between lines
 
-line_boundary : (a b : List ℕ) → LineSeam a b → IsUtf8 (a ++ b) → IsCharBoundary (a ++ b) (length a)
+pub line_boundary : (a b : List ℕ) → LineSeam a b → IsUtf8 (a ++ b) → IsCharBoundary (a ++ b) (length a)
 line_boundary a b (inl e) u = subst (IsCharBoundary (a ++ b)) (sym (ap length e)) (IsCharBoundary-start (a ++ b) u)
 line_boundary a b (inr (inl lf)) u = cut_lf (a ++ b) a b (length a) refl lf refl u
 line_boundary a b (inr (inr e)) u = before_ascii a b (subst BeginsAscii (sym e) tt)

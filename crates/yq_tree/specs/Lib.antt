@@ -53,6 +53,8 @@ pub mod TreeEdits
 pub mod CollectionEnds
 pub mod Steps
 pub mod PlacedRows
+pub mod RootPlaces
+pub mod RootReading
 pub mod CommentPlaces
 pub mod CommentTelling
 pub mod MarkPlaces

@@ -22,6 +22,7 @@ pub use places::line_end::LineEnd;
 pub use places::lines_above::LinesAbove;
 pub use places::mark_place::MarkPlace;
 pub use places::removal_place::{Removal, Seam};
+pub use places::root_place::RootPlace;
 pub use places::row_place::split_break;
 pub use places::scalar_place::ScalarPlace;
 pub use places::steps::Steps;

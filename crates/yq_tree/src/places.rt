@@ -17,6 +17,7 @@ pub mod others;
 pub mod part_place;
 pub mod removal_place;
 pub mod room;
+pub mod root_place;
 pub mod row_place;
 pub mod scalar_place;
 pub mod seat;

@@ -43,7 +43,7 @@ pub(crate) fn front_len(row: &Row<'_>) -> usize
 }
 
 /// How long the first rows are.
-fn rows_len(rows: &Rows<'_>, count: usize) -> usize
+pub(crate) fn rows_len(rows: &Rows<'_>, count: usize) -> usize
     requires within { count ≤ length rows.now.rows }
     requires short { spec.shown_length rows.now ≤ text_limit }
     ensures { result ≡ sum_by row_length (take count rows.now.rows) }

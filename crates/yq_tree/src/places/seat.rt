@@ -51,14 +51,14 @@ pub(crate) fn find_seat(rows: &Rows<'_>, first: usize, line: usize) -> Option<Se
 }
 
 /// Whether a part is the document before which so many are left.
-fn is_sought(is_document: bool, left: usize) -> bool
+pub(crate) fn is_sought(is_document: bool, left: usize) -> bool
     ensures { result ≡ (is_document && (left == 0)) }
 {
     is_document && left == 0
 }
 
 /// How many documents are left before the sought one behind a part.
-fn left_behind(is_document: bool, left: usize) -> usize
+pub(crate) fn left_behind(is_document: bool, left: usize) -> usize
     ensures { result ≡ (if is_document then left - 1 else left) }
 {
     if is_document {

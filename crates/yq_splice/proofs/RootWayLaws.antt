@@ -1,0 +1,131 @@
+-- Writing a root in the place of a block collection is a way.
+use Rattle.std.proofs.Common.{◌≡◌, ℕ, ◌≤◌, false, List, [], ◌∷◌, ◌++◌, length, replicate, Option, Some, None, refl, sym, ap, ◌∙◌, subst, append_assoc, append-nil}
+use Rattle.yq_scalar.specs.Characters.{text_limit}
+use Rattle.yq_scalar.specs.Paths.{Step}
+use Rattle.yq_scalar.specs.Tree.{Node}
+use Rattle.yq_scalar.proofs.Bools.{bind_some}
+use Rattle.yq_inline.specs.Valued.{IsValueTree}
+use Rattle.yq_lines.specs.Anchors.{names_of}
+use Rattle.yq_rows.specs.Rows.{Cut, cut_text}
+use Rattle.yq_tree.specs.Documents.{Document, document_parts}
+use Rattle.yq_tree.specs.Reading as reading
+use Rattle.yq_tree.specs.Reading.{documents, read_at, root_of}
+use Rattle.yq_tree.specs.RootPlaces.{RootPlace, root_place}
+use Rattle.yq_tree.specs.RowPaths.{IsReadable}
+use Rattle.yq_change.specs.Changed.{put_document}
+use Rattle.yq_change.specs.TextPieces.{IsPiece}
+use Rattle.yq_block.specs.declared.layout.Layout.{Layout}
+use Rattle.yq_block.specs.BlockText.{block_value}
+use Rattle.yq_block.specs.BlockValues.{HasNearKeys}
+use Rattle.yq_block.proofs.CharacterLaws.{value_sound}
+use Rattle.yq_expr.specs.Changes.{is_used_inside}
+use Rattle.yq_expr.specs.Fits.{Fits}
+use Rattle.yq_expr.specs.Operations.{Operation, replace, append, remove, line_comment, head_comment}
+use Rattle.yq_expr.specs.Rooms.{room_of}
+use Rattle.yq_splice.specs.Layouts.{layout_of}
+use Rattle.yq_splice.specs.Operands.{HasOperand}
+use Rattle.yq_splice.specs.RootWriting.{root_segments, root_at, root_way}
+use Rattle.yq_splice.specs.Script.{Segment, old_text, new_text}
+use Rattle.yq_splice.specs.Ways.{IsWay, ReadsAfter}
+use Rattle.yq_splice.proofs.BlockRootLaws.{IsBlockRoot, block_root, takes_value, before_piece, behind_piece}
+use Rattle.yq_splice.proofs.DoneLaws.{nth_map}
+use Rattle.yq_splice.proofs.FitLaws.{new_value, inside_spared, near_keys, tree_unique}
+use Rattle.yq_splice.proofs.LayoutLaws.{mapping_least}
+use Rattle.yq_splice.proofs.RootReadLaws.{q, text_is, root_reads}
+use Rattle.yq_splice.proofs.SegmentLaws.{segments_readable}
+
+none_some : {A : Type 0} {x : A} → None ≡ Some x → ⊥
+none_some e = cc
+
+some_same : {A : Type 0} {x y : A} → Some x ≡ Some y → x ≡ y
+some_same e = cc
+
+-- ---- in the place of a block collection
+
+module _ (n : ℕ) (v : Node) (c : Cut) (w : RootPlace) (old : List ℕ) (read : read_at (cut_text c) ≡ Some c) (h : IsBlockRoot n c w old) where
+  abbrev l : Layout
+  l = layout_of n c
+
+  old_is : old_text (root_segments l v w old) ≡ cut_text c
+  old_is = ap (λ t. w.before ++ (old ++ t)) (append-nil w.behind) ∙ h.whole
+
+  module _ (value_tree : IsValueTree v) (fits : Fits (room_of (cut_text c)) (replace n [] v) (documents c)) where
+    near : HasNearKeys v
+    near = near_keys v value_tree fits.2.0.1
+
+    root_is : root_of h.d.part ≡ fits.0.root
+    root_is =
+        ap (λ (y : Document). y.root)
+        (some_same (sym (nth_map n h.d.part reading.document_of (document_parts c) (takes_value n c w old read h).old.there) ∙ fits.1))
+
+    same_node : fits.2.1.0 ≡ fits.0.root
+    same_node = some_same (sym fits.2.1.1)
+
+    used : is_used_inside (names_of (root_of h.d.part)) (Some (root_of h.d.part)) ≡ false
+    used = (λ i. is_used_inside (names_of (root_is i)) (Some ((root_is ∙ sym same_node) i))) ∙ fits.2.1.2
+
+    text_there : cut_text (put_document n (q n c h.d h.row.gap h.last h.d.part.end (takes_value n c w old read h) v l w.column (mapping_least n c) value_tree near) c) ≡ new_text (root_segments l v w old)
+    text_there =
+        text_is n c h.d h.row.gap h.last h.d.part.end (takes_value n c w old read h) v l w.column (mapping_least n c) value_tree near
+        ∙ (sym (append_assoc h.d.before h.row.gap (replicate w.column 32 ++ (block_value l w.column v ++ (h.last ++ (h.d.part.end ++ h.d.behind)))))
+        ∙ (sym (append_assoc (h.d.before ++ h.row.gap) (replicate w.column 32) (block_value l w.column v ++ (h.last ++ (h.d.part.end ++ h.d.behind))))
+        ∙ (λ i. front_is i ++ (block_value l w.column v ++ (sym h.behind_is ∙ sym (append-nil w.behind)) i))))
+      where
+        front_is : (h.d.before ++ h.row.gap) ++ replicate w.column 32 ≡ w.before
+        front_is = ap (λ k. (h.d.before ++ h.row.gap) ++ replicate k 32) h.column_is ∙ (append_assoc h.d.before h.row.gap (replicate h.row.column 32) ∙ sym h.before_is)
+
+    reads : length (new_text (root_segments l v w old)) ≤ text_limit → ReadsAfter (replace n [] v) c (new_text (root_segments l v w old))
+    reads size =
+        let x = value_sound v l w.column value_tree in
+        let value_piece : IsPiece (block_value l w.column v) = record { utf8 = x.0; characters = x.1 } in
+        let readable : IsReadable (new_text (root_segments l v w old)) =
+        segments_readable (root_segments l v w old) (before_piece n c w old read h, (value_piece, (behind_piece n c w old read h, tt))) size in
+        subst (ReadsAfter (replace n [] v) c) text_there
+        (root_reads n c h.d h.row.gap h.last h.d.part.end (takes_value n c w old read h) v l w.column (mapping_least n c) value_tree near
+        (new_value 0 v value_tree (tree_unique v fits.2.0.0) fits.2.0.2) (inside_spared (names_of (root_of h.d.part)) (root_of h.d.part) used)
+        (subst IsReadable (sym text_there) readable))
+
+-- ---- the way
+
+-- what it gives is at the place of a block collection
+root_there : (n : ℕ) (v : Node) (c : Cut) (us : List Segment) (w : RootPlace) (o : Option (List ℕ)) → w.old ≡ o → root_at (layout_of n c) v w o ≡ Some us →
+    (old : List ℕ) × (w.old ≡ Some old) × (root_segments (layout_of n c) v w old ≡ us)
+root_there n v c us w None is e = absurd (none_some e)
+root_there n v c us w (Some old) is e = (old, is, some_same e)
+
+root_old : (n : ℕ) (steps : List Step) (v : Node) (c : Cut) (us : List Segment) → read_at (cut_text c) ≡ Some c → root_way (replace n steps v) c ≡ Some us → old_text us ≡ cut_text c
+unfolding root_way
+root_old n (s ∷ ss) v c us read is = absurd (none_some is)
+root_old n [] v c us read is =
+    let w = bind_some (root_place n [] c) is in
+    let x = root_there n v c us w.0 w.0.old refl w.2 in
+    ap old_text (sym x.2) ∙ old_is n v c w.0 x.0 read (block_root n c w.0 x.0 read w.1 x.1)
+
+root_way_reads : (n : ℕ) (steps : List Step) (v : Node) (c : Cut) (us : List Segment) → read_at (cut_text c) ≡ Some c → root_way (replace n steps v) c ≡ Some us → IsValueTree v →
+    Fits (room_of (cut_text c)) (replace n steps v) (documents c) → length (new_text us) ≤ text_limit → ReadsAfter (replace n steps v) c (new_text us)
+unfolding root_way
+root_way_reads n (s ∷ ss) v c us read is value_tree fits size = absurd (none_some is)
+root_way_reads n [] v c us read is value_tree fits size =
+    let w = bind_some (root_place n [] c) is in
+    let x = root_there n v c us w.0 w.0.old refl w.2 in
+    subst (λ z. ReadsAfter (replace n [] v) c (new_text z)) x.2
+    (reads n v c w.0 x.0 read (block_root n c w.0 x.0 read w.1 x.1) value_tree fits (subst (λ z. length (new_text z) ≤ text_limit) (sym x.2) size))
+
+pub root_is_way : IsWay root_way
+unfolding root_way
+root_is_way = record { old = old; reads = reads }
+  where
+    old : (op : Operation) (c : Cut) (us : List Segment) → read_at (cut_text c) ≡ Some c → root_way op c ≡ Some us → old_text us ≡ cut_text c
+    old (replace doc steps v) c us read is = root_old doc steps v c us read is
+    old (append doc steps key v) c us read is = absurd (none_some is)
+    old (remove doc steps) c us read is = absurd (none_some is)
+    old (line_comment doc steps text) c us read is = absurd (none_some is)
+    old (head_comment doc steps text) c us read is = absurd (none_some is)
+
+    reads : (op : Operation) (c : Cut) (us : List Segment) → read_at (cut_text c) ≡ Some c → root_way op c ≡ Some us → HasOperand op → Fits (room_of (cut_text c)) op (documents c) →
+        length (new_text us) ≤ text_limit → ReadsAfter op c (new_text us)
+    reads (replace doc steps v) c us read is operand fits size = root_way_reads doc steps v c us read is operand fits size
+    reads (append doc steps key v) c us read is operand fits size = absurd (none_some is)
+    reads (remove doc steps) c us read is operand fits size = absurd (none_some is)
+    reads (line_comment doc steps text) c us read is operand fits size = absurd (none_some is)
+    reads (head_comment doc steps text) c us read is operand fits size = absurd (none_some is)

@@ -1,0 +1,133 @@
+//! Where the root of a document stands that is a block collection, or would stand where none is
+//! written.
+ghost use Rattle.std.specs.Prelude.{◌≡◌, ◌<◌, ◌≤◌, ℕ, IfSome, Some, length, option_map, slice_get, take};
+ghost use Rattle.std.specs.List.{sum_by};
+ghost use Rattle.yq_rows.specs.View.{Bound};
+ghost use Rattle.yq_scalar.specs.Characters.{text_limit};
+ghost use Rattle.yq_tree.specs.Extents as extents;
+ghost use Rattle.yq_tree.specs.Extents.{IsShown};
+ghost use Rattle.yq_tree.specs.Located.{steps_of};
+ghost use Rattle.yq_tree.specs.Reading.{cut_of};
+ghost use Rattle.yq_tree.specs.RootPlaces as spec;
+ghost use Rattle.yq_tree.specs.RootReading as reading;
+
+use crate::document::Documents;
+use crate::path::Path;
+use crate::places::extent::rows_len;
+use crate::places::seat::{is_sought, left_behind};
+use crate::places::written::cut_at;
+use crate::reading::documents::{begins_document, first_is_document};
+use yq_rows::Rows;
+
+/// The place of a root.
+#[derive(Clone, Copy, Debug)]
+pub struct RootPlace<'d> {
+    /// The text before it, with the document's first gap and the spaces behind that.
+    pub before: &'d str,
+    /// The block collection that is there, up to its last break; none, where the document has no rows.
+    pub old: Option<&'d str>,
+    /// The text behind it.
+    pub behind: &'d str,
+    /// Its column; 0 where it isn't written.
+    pub column: usize,
+}
+
+/// Which part document `i` is, where it is known of the first part whether it is one.
+fn part_number(rows: &Rows<'_>, first: bool, i: usize) -> Option<usize>
+    ensures value { result ≡ reading.part_number first i 0 rows.now.bounds }
+    ensures within { IfSome result (λ k. k < length rows.now.bounds) }
+{
+    let mut is_document = first;
+    let mut left = i;
+    'parts: for at in 0..rows.parts() {
+        let bound = rows.part(at);
+        if is_sought(is_document, left) {
+            return Some(at);
+        }
+        left = left_behind(is_document, left);
+        is_document = begins_document(bound.marker.as_bytes());
+    }
+    None
+}
+
+/// How long the ends of the first parts are, with the markers behind them.
+fn parts_len(rows: &Rows<'_>, count: usize) -> usize
+    requires within { count ≤ length rows.now.bounds }
+    requires short { extents.shown_length rows.now ≤ text_limit }
+    ensures { result ≡ sum_by extents.bound_length (take count rows.now.bounds) }
+{
+    let mut len = 0;
+    'parts: for at in 0..count {
+        let bound = rows.part(at);
+        len += bound.end.len() + bound.marker.len();
+    }
+    len
+}
+
+/// Where a part ends, in bytes, behind its last gap.
+fn end_len(rows: &Rows<'_>, part: usize) -> usize
+    requires within { part < length rows.now.bounds }
+    requires shown { IsShown rows.now }
+    ensures { (b : Bound) → slice_get rows.now.bounds part ≡ Some b → result ≡ reading.end_length part b rows.now }
+{
+    let bound = rows.part(part);
+    rows_len(rows, bound.rows) + parts_len(rows, part) + bound.end.len()
+}
+
+impl Documents<'_> {
+    /// Where document `doc` ends, in bytes, if it has no rows.
+    fn unwritten_end(&self, doc: usize) -> Option<usize>
+        ensures { result ≡ reading.unwritten_at doc (cut_of self.now) }
+    {
+        if doc >= self.documents.len() || self.documents[doc].lines.count() != 0 {
+            return None;
+        }
+        let part = part_number(&self.rows, first_is_document(&self.rows), doc)?;
+        Some(end_len(&self.rows, part))
+    }
+
+    /// The place of the root of document `doc`, if it has no rows.
+    fn unwritten_place(&self, doc: usize) -> Option<RootPlace<'_>>
+        ensures { option_map reading.root_told result ≡ reading.unwritten_place doc (cut_of self.now) }
+    {
+        let whole = self.whole();
+        let end = self.unwritten_end(doc)?;
+        let (before, behind) = whole.split_at(end);
+        Some(RootPlace {
+            before,
+            old: None,
+            behind,
+            column: 0,
+        })
+    }
+
+    /// The place of the block collection at a path.
+    fn collection_place(&self, path: &Path) -> Option<RootPlace<'_>>
+        ensures { option_map reading.root_told result ≡ reading.collection_place path.now (cut_of self.now) }
+    {
+        let whole = self.whole();
+        let end = self.collection_end(path)?;
+        let place = self.content_place(path)?;
+        let (before, old, behind) = cut_at(whole, place.start, place.end);
+        Some(RootPlace {
+            before,
+            old: Some(old),
+            behind,
+            column: end.column,
+        })
+    }
+
+    /// The place of the root at a path that leads to none of its nodes: a block collection, or where
+    /// the root of a document comes that has no rows, which is behind the document's gap.
+    pub fn root_place(&self, path: &Path) -> Option<RootPlace<'_>>
+        ensures { option_map reading.root_told result ≡ spec.root_place path.now.doc (steps_of path.now) (cut_of self.now) }
+    {
+        if !path.steps.is_empty() {
+            return None;
+        }
+        match self.unwritten_place(path.doc) {
+            Some(place) => Some(place),
+            None => self.collection_place(path),
+        }
+    }
+}
