@@ -27,6 +27,7 @@ pub mod EachLaws
 pub mod CopyLaws
 pub mod TreeScalarLaws
 pub mod MatchLaws
+pub mod MatchTrees
 pub mod JudgementLaws
 pub mod updates
 pub mod SumLaws

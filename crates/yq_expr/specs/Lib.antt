@@ -18,6 +18,7 @@ pub mod Pipes
 pub mod Copies
 pub mod TreeScalars
 pub mod PlaceView
+pub mod MatchTrees
 pub mod MatchView
 pub mod RightValues
 pub mod Changes

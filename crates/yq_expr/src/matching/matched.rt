@@ -1,11 +1,12 @@
 //! Matches: copies of what a pipe finds in documents.
-ghost use Rattle.std.specs.Prelude.{◌≡◌, List, map, true};
+ghost use Rattle.std.specs.Prelude.{◌≡◌, IfOk, List, map, true};
 ghost use Rattle.yq_inline.specs.Values.{node_of as value_node};
 ghost use Rattle.yq_tree.specs.Nodes.{node_of};
 ghost use Rattle.yq_tree.specs.Reading.{documents_of};
 ghost use Rattle.yq_expr.specs.Conditions.{value_of};
 ghost use Rattle.yq_expr.specs.Copies as spec;
 ghost use Rattle.yq_expr.specs.Judgement.{Matches};
+ghost use Rattle.yq_expr.specs.MatchTrees.{AreMatches};
 ghost use Rattle.yq_expr.specs.MatchView.{matches_of};
 ghost use Rattle.yq_expr.specs.PlaceView.{place_of, places_of, put_behind};
 ghost use Rattle.yq_expr.specs.Places.{for_each};
@@ -115,9 +116,12 @@ pub fn matches(
     requires { is_read (program_of program.now) ≡ true }
     // The copies of what the pipe finds, or the first refusal.
     ensures exact { (pipe : List PipeStage) → program_of program.now ≡ read pipe → Matches (λ v. matches_of v.items) result (spec.matches pipe (documents_of documents.now)) }
+    // Each copy is a tree, in which the keys of a mapping differ, with no more collections nested than may be.
+    ensures trees { IfOk result (λ v. AreMatches (matches_of v.items)) }
 {
     let Program::Read(pipe) = program else {
         return Ok(Vec::new(alloc));
     };
+    documents.are_ready();
     pipe_matches(alloc, pipe, documents)
 }
