@@ -2,14 +2,13 @@
 use Rattle.std.proofs.Common.{◌≡◌, ◌≢◌, ◌⊎◌, inl, ℕ, Bool, true, false, nat_le, List, length, Option, Some, None, Result, Ok, Err, OnOk, OnErr, IfErr, option_map, if◌then◌else◌, sym, ap, ap₂, ◌∙◌, subst, refl}
 use Rattle.std.specs.Str.{bytes_eq}
 use Rattle.std.proofs.lemmas.Slice.Eq.{bytes_eq-Decides}
-use Rattle.std.proofs.lemmas.Bool.{eq-eqb}
 use Rattle.yq_expr.specs.Program.{Program}
-use Rattle.yq_splice.specs.Patch.{Change, all_done}
+use Rattle.yq_splice.specs.Patch.{Change}
 use Rattle.yq_journal.specs.declared.fault.JournalFault.TheVariants as journal
 use Rattle.yq_journal.specs.declared.moves.Move.TheVariants.{Edit}
 use Rattle.yq_journal.specs.Good.{after_move}
 use Rattle.yq_journal.specs.History.{History, text_at, after_edit}
-use Rattle.yq_journal.specs.Record.{Patch, done, if_length}
+use Rattle.yq_journal.specs.Record.{Patch}
 use Rattle.yq_journal.specs.Refusals.{no_way, most_records}
 use Rattle.yq_journal.specs.State.{State}
 use Rattle.yq.specs.declared.fault.Fault.{Fault}
@@ -33,13 +32,6 @@ other_texts t u d = elim (bytes_eq u t) as (λ b. bytes_eq u t ≡ b → b ≡ f
   | true ↦ λ e. absurd (d ((bytes_eq-Decides u t).0 e))
   | false ↦ λ e. refl
 ] refl
-
--- a record of one edit stands before the text that was edited
-pub edit_done : (expr : List ℕ) (cs : List Change) (t u : List ℕ) → all_done cs t ≡ Some u → done (edit_record expr cs (length t) (length u)) t ≡ Some u
-edit_done expr cs t u is =
-    ap (λ b. if b then if_length (length u) (all_done cs t) else None) (eq-eqb (length t) (length t) refl)
-    ∙ ap (if_length (length u)) is
-    ∙ ap (λ b. if b then Some u else None) (eq-eqb (length u) (length u) refl)
 
 tells_cause : (h : History) (o : Outcome) (e : Fault) → Refuses o e → IsFor (edit_cause h o) e
 tells_cause h (unreadable old) e is = is

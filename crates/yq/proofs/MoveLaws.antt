@@ -1,5 +1,5 @@
 -- What each write of a move leaves, and how a move ends.
-use Rattle.std.proofs.Common.{◌≡◌, ◌≢◌, ◌⊎◌, inl, inr, ℕ, true, false, List, [], Option, Some, None, Result, Ok, Err, OnOk, OnErr, IfErr, IsTrue, IsNone, MatchBool, option_map, is_some, if◌then◌else◌, sym, ap, ◌∙◌, subst, refl}
+use Rattle.std.proofs.Common.{◌≡◌, ◌≢◌, ◌⊎◌, inl, inr, ℕ, true, false, List, [], Option, Some, None, Result, Ok, Err, OnOk, OnErr, IfErr, IsTrue, IsNone, MatchBool, option_map, if◌then◌else◌, sym, ap, ◌∙◌, subst, refl}
 use Rattle.std.specs.FinMap.{get, insert}
 use Rattle.std.specs.Str.{bytes_eq}
 use Rattle.std.proofs.lemmas.Slice.Eq.{bytes_eq-Decides}
@@ -12,7 +12,7 @@ use Rattle.yq_journal.specs.declared.moves.Move.TheVariants.{Edit, Undo, Redo}
 use Rattle.yq_journal.specs.Good.{AtRest, Describes, after_move, journal_beside, step_fault}
 use Rattle.yq_journal.specs.Record.{Patch}
 use Rattle.yq_journal.specs.History.{History}
-use Rattle.yq_journal.specs.Refusals.{Names, no_way, or_else, if_moves, way_fault, move_fault}
+use Rattle.yq_journal.specs.Refusals.{Names, no_way, or_else, if_moves, way_fault}
 use Rattle.yq_journal.specs.State.{State, closed, is_text, moved, moved_text, opened, settled}
 use Rattle.yq_journal.proofs.GoodLaws.{describes, open_before, open_after, settled_rests, undo_fault, redo_fault}
 use Rattle.yq_journal.proofs.HistoryLaws.{move_moves}
@@ -85,13 +85,6 @@ or_none : (o : Option JournalFault) → or_else o None ≡ o
 or_none None = refl
 or_none (Some f) = refl
 
--- where a move leads somewhere and none is open, only the want of a way refuses it
-pub start_fault : (s : State) (step : Move) (t u : List ℕ) → s.pending ≡ None → moved_text s.records s.at step t ≡ Some u → move_fault s step t ≡ no_way s.records s.at step
-start_fault s step t u rest m =
-    ap (λ o. if is_some o then Some journal.Unsettled else way_fault s.records s.at step t) rest
-    ∙ ap (λ o. or_else (no_way s.records s.at step) (if_moves o)) m
-    ∙ or_none (no_way s.records s.at step)
-
 pub on_err : {T E P : Type 0} (r : Result T E) → P → OnErr r P
 on_err (Ok v) p = tt
 on_err (Err e) p = p
@@ -143,11 +136,6 @@ some_fault x y e = cc
 
 not_both : {A : Type 0} (f : JournalFault) → None ≡ Some f → A
 not_both f e = cc
-
--- what the journal refuses has the name of its fault, where want of memory has none
-pub named_fault : (x : JournalError) (o p : Option JournalFault) (f : JournalFault) → o ≡ p → Names x o → (x ≡ error.Memory → p ≡ None) → p ≡ Some f → of_journal x ≡ of_fault f
-named_fault error.Memory o p f same names memory is = not_both f (sym (memory refl) ∙ is)
-named_fault (error.Fault y) o p f same names memory is = ap of_fault (some_fault y f (sym names ∙ same ∙ is))
 
 -- an undo or a redo goes on with the history, whatever its text
 pub same_walk : (h : History) (w : Walk) (u : List ℕ) → after_move h (step_of w) u ≡ after_move h (step_of w) []

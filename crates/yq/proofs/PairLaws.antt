@@ -1,16 +1,12 @@
 -- What reading a pair and writing to it leave.
-use Rattle.std.proofs.Common.{◌≡◌, ◌⊎◌, inl, inr, ℕ, List, Option, Some, None, Ok, Err, Vec, option_map, sym, ap, ◌∙◌, subst}
+use Rattle.std.proofs.Common.{◌≡◌, ℕ, List, Option, Some, None, Ok, Vec, option_map, sym, ap, ◌∙◌, subst}
 use Rattle.std.specs.FinMap.{get}
 use Rattle.std.specs.declared.alloc.Global.{Global}
-use Rattle.yq_journal.specs.declared.fault.JournalError.{JournalError}
-use Rattle.yq_journal.specs.declared.fault.JournalError.TheVariants as error
-use Rattle.yq_journal.specs.declared.fault.JournalFault.TheVariants as journal
 use Rattle.yq_journal.specs.Good.{Describes, journal_beside}
 use Rattle.yq_journal.specs.History.{History, text_at}
 use Rattle.yq_journal.specs.State.{State, settled}
 use Rattle.yq_journal.proofs.GoodLaws.{settles, settled_rests}
 use Rattle.yq.specs.Content.{Content}
-use Rattle.yq.specs.Faults.{is_outside, of_journal}
 use Rattle.yq.specs.Pair.{GoodIn, Opens, Rest}
 
 pub some_same : {A : Type 0} (x y : A) → Some x ≡ Some y → x ≡ y
@@ -50,9 +46,3 @@ pub opens : (c e : Content) (f j : List ℕ) (v : Vec ℕ Global) (s r : State) 
 opens c e f j v s r None is file journal rest good = some_none v.items (sym file ∙ good)
 opens c e f j v s r (Some h) is file journal rest good =
     subst (λ m. Rest m f j r v.items h) (sym is) (settled_pair c f j v.items s file journal r h rest good)
-
--- and one that was not
-pub opens_not : (c e : Content) (f j : List ℕ) (t : List ℕ) (s : State) (h : Option History) (x : JournalError) → get c f ≡ Some t → journal_beside (get c j) ≡ Some s → (x ≡ error.Memory) ⊎ ((x ≡ error.Fault journal.Unsettled) × (settled s t ≡ None)) → GoodIn c f j h → Opens e f j h (Err (of_journal x))
-opens_not c e f j t s None x file journal why good = absurd (some_none t (sym file ∙ good))
-opens_not c e f j t s (Some h) x file journal (inl memory) good = ap (λ y. is_outside (of_journal y)) memory
-opens_not c e f j t s (Some h) x file journal (inr fault) good = absurd (never_unsettled c f j t s file journal h good fault.1)

@@ -1,15 +1,10 @@
 -- Matches as they are printed, one after the other.
-use Rattle.std.proofs.Common.{◌≡◌, ◌<◌, ◌+◌, ℕ, ◌&&◌, List, [], ◌∷◌, drop, length, get_or, sym, ap, ◌∙◌, refl}
-use Rattle.std.proofs.lemmas.List.{drop_more}
+use Rattle.std.proofs.Common.{◌≡◌, ◌&&◌, List, [], ◌∷◌, ap, refl}
 use Rattle.std.specs.List.{list_all}
 use Rattle.yq_inline.specs.Values.{node_of}
 use Rattle.yq_expr.specs.declared.matching.matched.Match.{Match}
 use Rattle.yq_expr.specs.MatchView.{matches_of}
 use Rattle.yq.specs.Reads.{is_no_match, have_no_match}
-
--- the matches from one on are it and the others
-pub match_first : (ms : List Match) (i : ℕ) (m : Match) → i < length ms → m ≡ get_or ms i m → matches_of (drop i ms) ≡ matches_of (m ∷ drop (i + 1) ms)
-match_first ms i m within is = ap matches_of (drop_more ms i m within ∙ ap (λ x. x ∷ drop (i + 1) ms) (sym is))
 
 -- matches that are all none for `-e`, each by itself
 pub none_each : (ms : List Match) → list_all (λ m. is_no_match (node_of m.value)) ms ≡ have_no_match (matches_of ms)

@@ -1,13 +1,11 @@
 -- Changes at a place: steps that are missing, and what is added.
-use Rattle.std.proofs.Common.{◌≡◌, ℕ, zero, suc, ◌-◌, ◌≤◌, true, false, cond, List, [], ◌∷◌, ◌++◌, length, map, take, drop, get_or, reverse, Some, None, refl, sym, ap, ◌∙◌, append_assoc, arith}
+use Rattle.std.proofs.Common.{◌≡◌, ℕ, zero, suc, ◌-◌, ◌≤◌, true, false, cond, List, [], ◌∷◌, ◌++◌, length, map, take, drop, get_or, reverse, Some, None, refl, sym, ap, ◌∙◌, arith}
 use Rattle.std.specs.List.{list_any}
 use Rattle.std.proofs.lemmas.List.{map_push, reverse-append, take_rest}
 use Rattle.yq_scalar.specs.Tree as tree
-use Rattle.yq_scalar.specs.Tree.{Node, Children, none, child}
-use Rattle.yq_tree.specs.Nodes.{kind_of}
+use Rattle.yq_scalar.specs.Tree.{Node, none, child}
 use Rattle.yq_tree.specs.TreeEdits.{new_label}
-use Rattle.yq_tree.specs.declared.nodes.node.NodeKind.TheVariants as kinds
-use Rattle.yq_expr.specs.Changes.{replaces, adds, appends, nested, step_key, made, put_below}
+use Rattle.yq_expr.specs.Changes.{nested, made, put_below}
 use Rattle.yq_expr.specs.Judgement.{gives, refuses}
 use Rattle.yq_expr.specs.declared.refusal.Refusal.TheVariants.{IndexOutOfRange}
 use Rattle.yq_expr.proofs.Lists.{list_any_map}
@@ -45,14 +43,6 @@ split_first : {X : Type 0} (xs : List X) (x : X) → 1 ≤ length xs → x ≡ g
 split_first [] x some is = absurd (omega (arith, some))
 split_first (y ∷ ys) x some is = ap (λ z. z ∷ ys) (sym is) ∙ ap (λ zs. x ∷ zs) (sym (take_rest (y ∷ ys) 1))
 
--- one step more of those that are turned round
-pub turned_more : {X A : Type 0} (f : X → A) (front : List A) (a : A) (xs : List X) (x : X) (all : List A) → f x ≡ a → (front ++ a ∷ []) ++ reverse (map f xs) ≡ all → front ++ reverse (map f (xs ++ x ∷ [])) ≡ all
-turned_more {X} {A} f front a xs x all is so_far =
-    ap (λ (ys : List A). front ++ reverse ys) (map_push f xs x)
-    ∙ (ap (λ (ys : List A). front ++ ys) (reverse-append (map f xs) (f x ∷ []))
-    ∙ (ap (λ (b : A). front ++ (b ∷ reverse (map f xs))) is
-    ∙ (sym (append_assoc front (a ∷ []) (reverse (map f xs))) ∙ so_far)))
-
 -- a view of a list that is turned round
 pub turned_seen : {X A : Type 0} (f : X → A) (xs : List X) → map f (reverse xs) ≡ reverse (map f xs)
 turned_seen f [] = refl
@@ -61,34 +51,6 @@ turned_seen {X} {A} f (x ∷ xs) =
   where
     turned : {Y : Type 0} (y : Y) (ys : List Y) → reverse (y ∷ ys) ≡ reverse ys ++ y ∷ []
     turned y ys = reverse-append (y ∷ []) ys
-
--- a list with one more element, before others
-pub push_more : {X A : Type 0} (f : X → A) (xs : List X) (x : X) (a : A) (rest all : List A) → f x ≡ a → map f xs ++ (a ∷ rest) ≡ all → map f (xs ++ x ∷ []) ++ rest ≡ all
-push_more {X} {A} f xs x a rest all is so_far =
-    ap (λ (ys : List A). ys ++ rest) (map_push f xs x)
-    ∙ (append_assoc (map f xs) (f x ∷ []) rest ∙ (ap (λ (b : A). map f xs ++ (b ∷ rest)) is ∙ so_far))
-
--- a value under missing keys below a mapping
-pub made_entry : (n : Node) (m : Step) (ms : List Step) (v : Node) → kinds.Map ≡ kind_of n → made n m ms v ≡ adds (appends (step_key m) (nested ms v) ∷ [])
-made_entry (tree.alias name) m ms v is = absurd (cc)
-made_entry (tree.scalar a kind text) m ms v is = absurd (cc)
-made_entry (tree.list a cs) m ms v is = absurd (cc)
-made_entry (tree.map a cs) m ms v is = refl
-
-other_made : (n : Node) → (kinds.Map ≡ kind_of n → ⊥) → (m : Step) (ms : List Step) (v : Node) → made n m ms v ≡ replaces (nested (m ∷ ms) v)
-other_made (tree.alias name) differs m ms v = refl
-other_made (tree.scalar a kind text) differs m ms v = refl
-other_made (tree.list a cs) differs m ms v = refl
-other_made (tree.map a cs) differs m ms v = absurd (differs refl)
-
--- below any other node
-pub made_other : (n : Node) (m : Step) (ms : List Step) (v : Node) → (kinds.Map ≡ kind_of n → ⊥) → made n m ms v ≡ replaces (nested (m ∷ []) (nested ms v))
-made_other n m ms v differs = other_made n differs m ms v ∙ ap replaces (once m ms v)
-  where
-    once : (m : Step) (ms : List Step) (v : Node) → nested (m ∷ ms) v ≡ nested (m ∷ []) (nested ms v)
-    once (key k) ms v = refl
-    once (index i) ms v = refl
-    once each ms v = refl
 
 -- no item is made
 pub put_no_item : {X : Type 0} (f : X → Step) (n : Node) (xs : List X) (x : X) (v : Node) → 1 ≤ length xs → x ≡ get_or xs 0 x → list_any (λ s. is_index (f s)) xs ≡ true → put_below n (map f xs) v ≡ refuses IndexOutOfRange

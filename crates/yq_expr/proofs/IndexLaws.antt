@@ -12,7 +12,7 @@ use Rattle.std.specs.List.{list_any}
 use Rattle.std.specs.Ordering.{nat_cmp}
 use Rattle.yq_scalar.specs.Paths.{To, child_at, key_is}
 use Rattle.yq_scalar.specs.Tree as tree
-use Rattle.yq_scalar.specs.Tree.{Label, Node, Children, none, child, children_of}
+use Rattle.yq_scalar.specs.Tree.{Label, Node, Children, none}
 use Rattle.yq_tree.specs.Anchors.{Name, names_of}
 use Rattle.yq_expr.specs.Changes.{refers_to}
 use Rattle.yq_expr.specs.EntryNumbers.{number_kept}
@@ -42,18 +42,6 @@ pub item_kept : (k : List ℕ) (o : Option Node) (label : Label) (n : Node) → 
 item_kept k (Some old) label n h = refl
 item_kept k None label n h = ap (λ (key : Option (List ℕ)). cond (key_is k key) (Some n) None) (sym h)
 
--- nor is the entry of a key for which there is a value
-pub old_kept : (a k : List ℕ) (f : List ℕ → Option Node) (label : Label) (n : Node) → label.key ≡ Some a → is_some (f a) ≡ true → f k ≡ kept_first k (f k) label n
-old_kept a k f label n h some = go (f k) refl
-  where
-    there : (b : Bool) → bytes_eq a k ≡ b → f k ≡ None → None ≡ cond b (Some n) None
-    there true e is = absurd (false≢true (sym (ap is_some (ap f ((bytes_eq-Decides a k).0 e) ∙ is)) ∙ some))
-    there false e is = refl
-
-    go : (o : Option Node) → f k ≡ o → o ≡ kept_first k o label n
-    go (Some old) is = refl
-    go None is = there (bytes_eq a k) refl is ∙ ap (λ (key : Option (List ℕ)). cond (key_is k key) (Some n) None) (sym h)
-
 -- the entry of a key for which there is none is kept
 pub new_kept : (a k : List ℕ) (f : List ℕ → Option Node) (label : Label) (n : Node) → label.key ≡ Some a → is_some (f a) ≡ false → cond (bytes_eq a k) (Some n) (f k) ≡ kept_first k (f k) label n
 new_kept a k f label n h absent = go (bytes_eq a k) (f k) refl refl
@@ -66,16 +54,6 @@ new_kept a k f label n h absent = go (bytes_eq a k) (f k) refl refl
     go true None e is = here true e
     go false (Some old) e is = refl
     go false None e is = here false e
-
--- one more item or entry
-pub first_more : (k : List ℕ) (o : Option Node) (cs rest : Children) (label : Label) (n : Node) (all : Option Node) → cs ≡ child label n rest → or_first o (child_at (To k) cs) ≡ all →
-    or_first (kept_first k o label n) (child_at (To k) rest) ≡ all
-first_more k o cs rest label n all is so_far = go o (key_is k label.key) refl ∙ (ap (λ (ds : Children). or_first o (child_at (To k) ds)) (sym is) ∙ so_far)
-  where
-    go : (o : Option Node) (b : Bool) → key_is k label.key ≡ b → or_first (kept_first k o label n) (child_at (To k) rest) ≡ or_first o (child_at (To k) (child label n rest))
-    go (Some old) b e = refl
-    go None true e = rw e refl
-    go None false e = rw e refl
 
 -- behind the last one nothing comes
 pub first_done : (k : List ℕ) (o : Option Node) (cs : Children) (all : Option Node) → cs ≡ none → or_first o (child_at (To k) cs) ≡ all → o ≡ all

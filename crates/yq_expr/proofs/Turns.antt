@@ -26,10 +26,6 @@ onto_front : {A : Type 0} (xs : List A) (x : A) (o : Option (List A × List Toke
 onto_front xs x None = refl
 onto_front xs x (Some y) = ap (λ zs. Some (zs, y.1)) (sym (append_assoc xs (x ∷ []) y.0))
 
-pub onto_nil : {A : Type 0} (o : Option (List A × List Token)) → onto [] o ≡ o
-onto_nil None = refl
-onto_nil (Some y) = refl
-
 turned : {A : Type 0} (next : List Token → Option (Option (A × List Token))) → Lessens next → (xs : List A) (ts : List Token) (w : Option (List A × List Token))
     → onto xs (many next ts) ≡ w → (o : Option (Option (A × List Token))) → next ts ≡ o → onto xs (o >>= λ o. either o (λ x. with_front x.0 (many next x.1)) (Some ([], ts))) ≡ w
 turned next less xs ts w h o e = ap (λ o. onto xs (o >>= λ o. either o (λ x. with_front x.0 (many next x.1)) (Some ([], ts)))) (sym e) ∙ (sym (ap (onto xs) (many_turn next less ts)) ∙ h)

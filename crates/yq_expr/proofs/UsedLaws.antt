@@ -3,8 +3,8 @@ use Rattle.std.proofs.Common.{◌≡◌, ℕ, Bool, true, false, ◌||◌, cond,
 use Rattle.std.specs.List.{list_any}
 use Rattle.yq_scalar.specs.Paths.{Step, To, child_at, node_at}
 use Rattle.yq_scalar.specs.Tree as tree
-use Rattle.yq_scalar.specs.Tree.{Label, Node, alias, scalar, list, Children, none, child, children_of}
-use Rattle.yq_tree.specs.Anchors.{Name, Anchors, Refers, with_anchor, names_of, names_in}
+use Rattle.yq_scalar.specs.Tree.{Label, Node, alias, scalar, list, Children, child, children_of}
+use Rattle.yq_tree.specs.Anchors.{Name, Anchors, Refers, names_of, names_in}
 use Rattle.yq_tree.specs.Nodes.{anchor_of, kind_of, text_of}
 use Rattle.yq_tree.specs.declared.nodes.node.NodeKind.TheVariants as kinds
 use Rattle.yq_expr.specs.Changes.{Addition, appends, overwrites, Change, replaces, adds, removes, sets_comment, allowed, is_too_deep, is_too_long, refers_to, is_used, is_used_inside, is_used_in, overwrites_used, takes_used}
@@ -23,51 +23,9 @@ any_join p (x ∷ xs) ys = go (p x) (any_join p xs ys)
 
 -- ---- aliases of a node
 
--- an anchor is no alias
-anchor_no_alias : (k : List ℕ) (a : Option (List ℕ)) (ns : List Name) → list_any (refers_to k) (with_anchor a ns) ≡ list_any (refers_to k) ns
-anchor_no_alias k None ns = refl
-anchor_no_alias k (Some a) ns = refl
-
 or_false : (b : Bool) → b ≡ (b || false)
 or_false true = refl
 or_false false = refl
-
--- a scalar holds none
-pub scalar_aliases : (k : List ℕ) (b : Bool) (n : Node) (kind : _) → kinds.Scalar kind ≡ kind_of n → b ≡ (b || list_any (refers_to k) (names_of n))
-scalar_aliases k b (alias name) kind is = absurd (cc)
-scalar_aliases k b (scalar a kind text) other is = or_false b ∙ ap (λ c. b || c) (sym (anchor_no_alias k a []))
-scalar_aliases k b (list a cs) kind is = absurd (cc)
-scalar_aliases k b (tree.map a cs) kind is = absurd (cc)
-
--- a collection holds those of its items or entries
-pub list_aliases : (k : List ℕ) (n : Node) → kinds.List ≡ kind_of n → list_any (refers_to k) (names_in (children_of n)) ≡ list_any (refers_to k) (names_of n)
-list_aliases k (alias name) is = absurd (cc)
-list_aliases k (scalar a kind text) is = absurd (cc)
-list_aliases k (list a cs) is = sym (anchor_no_alias k a (names_in cs))
-list_aliases k (tree.map a cs) is = absurd (cc)
-
-pub map_aliases : (k : List ℕ) (n : Node) → kinds.Map ≡ kind_of n → list_any (refers_to k) (names_in (children_of n)) ≡ list_any (refers_to k) (names_of n)
-map_aliases k (alias name) is = absurd (cc)
-map_aliases k (scalar a kind text) is = absurd (cc)
-map_aliases k (list a cs) is = absurd (cc)
-map_aliases k (tree.map a cs) is = sym (anchor_no_alias k a (names_in cs))
-
-or_both : (a b c : Bool) → ((a || b) || c) ≡ (a || (b || c))
-or_both true b c = refl
-or_both false b c = refl
-
--- one item or entry more
-pub aliases_more : (k : List ℕ) (old new all : Bool) (cs rest : Children) (label : Label) (n : Node) → cs ≡ child label n rest → new ≡ (old || list_any (refers_to k) (names_of n)) →
-    (old || list_any (refers_to k) (names_in cs)) ≡ all → (new || list_any (refers_to k) (names_in rest)) ≡ all
-aliases_more k old new all cs rest label n is put so_far =
-    ap (λ b. b || list_any (refers_to k) (names_in rest)) put
-    ∙ (or_both old (list_any (refers_to k) (names_of n)) (list_any (refers_to k) (names_in rest))
-    ∙ (ap (λ b. old || b) (sym (any_join (refers_to k) (names_of n) (names_in rest)))
-    ∙ (ap (λ (ds : Children). old || list_any (refers_to k) (names_in ds)) (sym is) ∙ so_far)))
-
--- behind the last one there is none
-pub aliases_done : (k : List ℕ) (old all : Bool) (cs : Children) → cs ≡ none → (old || list_any (refers_to k) (names_in cs)) ≡ all → old ≡ all
-aliases_done k old all cs is so_far = or_false old ∙ (ap (λ (ds : Children). old || list_any (refers_to k) (names_in ds)) (sym is) ∙ so_far)
 
 -- ---- anchors of a node
 

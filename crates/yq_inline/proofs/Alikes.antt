@@ -7,7 +7,7 @@ use Rattle.yq_scalar.specs.QuotedReading.{is_quote}
 use Rattle.yq_scalar.specs.Text.{upto, cut, NoneIn, front, unless, is_empty, is_white, is_feed, is_break, is_space, separates, is_marker}
 use Rattle.yq_scalar.proofs.Bools.{is_true, or_false, at_byte}
 use Rattle.yq_inline.specs.Alike.{is_stop, Alike, stop, colon, any_colon, byte, after}
-use Rattle.yq_inline.specs.Nodes.{first_is, begins_content, begins_node}
+use Rattle.yq_inline.specs.Nodes.{first_is, begins_content}
 
 pub alike_append : (f : Option Bool) (p t u : List ℕ) → Alike f t u → Alike f (p ++ t) (p ++ u)
 alike_append f [] t u h = h
@@ -179,6 +179,3 @@ plain_alike flow spaces p t u h g = record {
 -- where nodes begin
 pub alike_content : (flow : Bool) (t u : List ℕ) → Alike (Some flow) t u → begins_content flow t ≡ begins_content flow u
 alike_content flow t u h = let f : Option Bool = Some flow in rw (alike_first 42 f t u h, alike_first 91 f t u h, alike_first 123 f t u h, alike_front is_quote f t u h, alike_begins flow t u h) refl
-
-pub alike_node : (flow : Bool) (t u : List ℕ) → Alike (Some flow) t u → begins_node flow t ≡ begins_node flow u
-alike_node flow t u h = rw (alike_first 38 (Some flow) t u h, alike_content flow t u h) refl

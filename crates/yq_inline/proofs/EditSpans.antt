@@ -1,5 +1,5 @@
 -- The bytes of an edit of a flow collection go from one whole character to another.
-use Rattle.std.proofs.Common.{◌≡◌, ℕ, zero, suc, ◌<◌, Bool, true, false, cond, eqb, eqb-true, List, [], ◌∷◌, length, drop, Option, Some, None, refl, sym, ap, ◌∙◌, subst, arith}
+use Rattle.std.proofs.Common.{◌≡◌, ℕ, zero, suc, ◌<◌, Bool, true, false, cond, eqb-true, List, [], ◌∷◌, length, drop, Option, Some, None, refl, subst, arith}
 use Rattle.std.proofs.lemmas.Bool.{false≢true}
 use Rattle.std.proofs.lemmas.Str.{IsCharBoundary-before_ascii}
 use Rattle.std.specs.Prelude.{get_or}
@@ -8,7 +8,7 @@ use Rattle.yq_scalar.specs.Paths.{Step, is_here, further}
 use Rattle.yq_scalar.specs.declared.piece.Piece.{Piece}
 use Rattle.yq_inline.specs.declared.among.Among.{Among}
 use Rattle.yq_inline.specs.Entries.{end_of, entry_start}
-use Rattle.yq_inline.specs.FlowPlaces.{PlacedEdit, replace_place, first_start, among, marks_before, past_gap, remove_end, remove_from, remove_among, remove_part, remove_place, space_at}
+use Rattle.yq_inline.specs.FlowPlaces.{PlacedEdit, replace_place, first_start, among, marks_before, past_gap, remove_end, remove_from, remove_among, remove_part, remove_place}
 use Rattle.yq_inline.specs.Nodes.{first_is}
 use Rattle.yq_inline.specs.Places.{Placed, placed, nothing, name, text, sequence, mapping, Parts, end, part}
 use Rattle.yq_inline.specs.Spans.{HasKeySpan, HasSpans, PartsHaveSpans}

@@ -1,17 +1,16 @@
 -- Where an item or entry is taken out of a text, no CR stands before an LF.
-use Rattle.std.proofs.Common.{◌≡◌, ℕ, ◌-◌, Bool, true, false, ◌&&◌, cond, eqb, List, [], ◌∷◌, ◌++◌, length, take, Option, Some, None, refl, sym, ap, ◌∙◌, subst, arith, append_assoc, length-append}
+use Rattle.std.proofs.Common.{◌≡◌, ℕ, Bool, true, false, ◌&&◌, cond, eqb, List, [], ◌∷◌, ◌++◌, length, take, Some, None, refl, sym, ap, ◌∙◌, subst, arith, append_assoc, length-append}
 use Rattle.std.proofs.Math.Seq.{take-append_seam}
-use Rattle.std.proofs.lemmas.Bool.{false≢true}
 use Rattle.std.proofs.Math.Bool.{and-false}
 use Rattle.yq_scalar.specs.Characters.{pairs_returns}
 use Rattle.yq_scalar.specs.Paths.{Step, is_here, further}
 use Rattle.yq_scalar.specs.Text.{front, is_feed}
 use Rattle.yq_inline.specs.Alike.{fresh}
-use Rattle.yq_inline.specs.Collections.{CollAt, coll_text, item_in, IsCollAt}
+use Rattle.yq_inline.specs.Collections.{CollAt, item_in, IsCollAt}
 use Rattle.yq_inline.specs.Entries.{EntryPieces, item_at, pieces_text}
 use Rattle.yq_inline.specs.FlowEdits.{FlowEdit}
-use Rattle.yq_inline.specs.Nodes.{Items, none, item, key_text, sep_text, node_text, items_text, open_of, begins_node, AreItems}
-use Rattle.yq_inline.specs.Removals.{comma_old, comma_on, ends_marked, has_next, is_several, items_behind, last_sep, last_text, removed_text, removing, removing_before, removing_end, removing_last, removing_sole, removing_to_comma, until_last, ends_return}
+use Rattle.yq_inline.specs.Nodes.{Items, none, item, sep_text, node_text, items_text, open_of, begins_node, AreItems}
+use Rattle.yq_inline.specs.Removals.{comma_old, comma_on, ends_marked, has_next, is_several, last_sep, last_text, removing, removing_before, removing_end, removing_last, removing_sole, removing_to_comma, until_last, ends_return}
 use Rattle.yq_inline.specs.Trees.{inner, key_content}
 use Rattle.yq_inline.proofs.EditLaws.{around_is}
 use Rattle.yq_inline.proofs.EditPaths.{dropped_text}
@@ -20,7 +19,6 @@ use Rattle.yq_inline.proofs.LastLaws.{comma_was}
 use Rattle.yq_inline.proofs.LocalLaws.{node_no_feed}
 use Rattle.yq_inline.proofs.PlacedAmong.{until_text}
 use Rattle.yq_inline.proofs.ReturnLaws.{Whole, pairs_behind, return_some, until_return, until_some, whole_by}
-use Rattle.yq_inline.proofs.WrittenLaws.{node_then}
 
 entry_same : {x y : EntryPieces} → Some x ≡ Some y → x ≡ y
 entry_same e = cc

@@ -138,10 +138,6 @@ put_tree d k s m (item key n sep is) rest y c a h f = go (is_here s (inner (key_
       λ i. tree.child (inner (x.label i)) (x.tree i) (items_tree is)
   go false again e = ap (tree.child (inner (key_content key)) (tree_of n)) (again e f)
 
--- before a text that begins no marker
-first_not : (b k : ℕ) (u : List ℕ) → first_is k (b ∷ u) ≡ false → eqb b k ≡ false
-first_not b k u h = h
-
 -- a text whose first byte is no `-` and no `.`
 pub record Unmarked (u : List ℕ) : Type 0 where
   pub dash : first_is 45 u ≡ false

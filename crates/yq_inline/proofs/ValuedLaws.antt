@@ -24,10 +24,6 @@ map_valid v h =
     let fields : map pair (map seen v.items) ≡ map field_of v.items = map_twice seen pair v.items in
     subst IsValueTree (sym (node_map v)) (refl, rw fields h)
 
--- one item or entry more
-pub item_on : {A : Type 0} (xs : List Value) (x : Value) (rest : List Value) → xs ≡ x ∷ rest → IsValueTree (node_of x) → (AreValueTrees false (items_of xs) → A) → AreValueTrees false (items_of rest) → A
-item_on xs x rest is valid all h = all (rw is (refl, valid, h))
-
 pub entry_on : {A : Type 0} (es : List Entry) (e : Entry) (rest : List Entry) → es ≡ e ∷ rest → IsUtf8 (string_bytes e.0) → IsValueTree (node_of e.1) → (AreValueTrees true (entries_of es) → A) → AreValueTrees true (entries_of rest) → A
 entry_on es e rest is utf8 valid all h = all (rw is ((string_bytes e.0, refl, utf8), valid, h))
 

@@ -1,20 +1,20 @@
 -- Members that are counted, lists that are read item by item, and tests that are facts.
-use Rattle.std.proofs.Common.{◌≡◌, ◌==◌, ℕ, suc, List, [], ◌∷◌, ◌++◌, length, String, Option, Some, None, Bool, true, false, refl, sym, ap, ◌∙◌, append_assoc, if◌then◌else◌, ◌+◌, ◌<◌, take, map, ap₂, get_or, eq-eqb}
+use Rattle.std.proofs.Common.{◌≡◌, ◌==◌, ℕ, suc, List, [], ◌∷◌, ◌++◌, length, String, Option, Some, None, Bool, true, false, refl, sym, ap, ◌∙◌, if◌then◌else◌, ◌+◌, ◌<◌, take, map, ap₂, get_or}
 use Rattle.std.specs.Cmp.Derive.{both_true}
 use Rattle.std.proofs.lemmas.List.{take_more, map-append}
-use Rattle.std.specs.Prelude.{◌≢◌, ◌&&◌, not, is_some, option_map, option_and_then, nat_le}
+use Rattle.std.specs.Prelude.{◌≢◌, ◌&&◌, not, is_some, nat_le}
 use Rattle.std.specs.Option.{ForSome}
 use Rattle.std.specs.declared.alloc.Global.{Global}
 use Rattle.std.specs.Str.{IsUtf8, bytes_eq, is_utf8}
 use Rattle.std.proofs.lemmas.Bool.{le-leb, leb-true}
 use Rattle.std.proofs.lemmas.Slice.Eq.{bytes_eq-Decides}
 use Rattle.std.proofs.lemmas.Str.{is_utf8-from_IsUtf8, IsUtf8-from_is_utf8}
-use Rattle.serde_json.specs.Data.{Data, Items, item, Members}
+use Rattle.serde_json.specs.Data.{Data, Items, Members}
 use Rattle.serde_json.specs.Read.{read}
 use Rattle.serde_json.specs.View.{items_of, members_view}
 use Rattle.serde_json.specs.declared.value.Value.{Value}
-use Rattle.yq_journal.specs.Json.{count_members, counts, and_more, all_of, is_length, is_record, can_move, is_sound, record_of, pending_of, state_from, state_of, journal_of, journal_object}
-use Rattle.yq_journal.specs.Record.{Patch, IsRecord}
+use Rattle.yq_journal.specs.Json.{count_members, counts, and_more, all_of, can_move, is_sound, record_of, pending_of, state_from, state_of, journal_of, journal_object}
+use Rattle.yq_journal.specs.Record.{Patch}
 use Rattle.yq_journal.specs.Refusals.{most_records, CanMove, IsSound, way_fault}
 use Rattle.yq_journal.specs.State.{Pending, State, moved_text, is_text}
 
@@ -25,17 +25,6 @@ count_members-members_view (e ∷ es) = ap suc (count_members-members_view es)
 -- an object's entries are its members
 pub counted : (n : ℕ) (es : List (String Global × Value)) (o : Option Members) → Some (members_view es) ≡ o → (length es == n) ≡ counts n o
 counted n es o e = ap (λ m. m == n) (sym (count_members-members_view es)) ∙ ap (counts n) e
-
--- the next of a list that is being read
-pub all_of_next : {A : Type 0} (f : Data → Option A) (d : Data) (ds : Items) (xs : List A) → option_map (λ ys. xs ++ ys) (all_of f (item d ds)) ≡ option_and_then (λ x. option_map (λ ys. (xs ++ x ∷ []) ++ ys) (all_of f ds)) (f d)
-all_of_next f d ds xs =
-    elim (f d) as (λ o. option_map (λ ys. xs ++ ys) (and_more o (all_of f ds)) ≡ option_and_then (λ x. option_map (λ ys. (xs ++ x ∷ []) ++ ys) (all_of f ds)) o) [
-      | None ↦ refl
-      | Some x ↦ elim (all_of f ds) as (λ o. option_map (λ ys. xs ++ ys) (and_more (Some x) o) ≡ option_map (λ ys. (xs ++ x ∷ []) ++ ys) o) [
-        | None ↦ refl
-        | Some ys ↦ ap Some (sym (append_assoc xs (x ∷ []) ys))
-      ]
-    ]
 
 -- bytes that are a text and what is read of them
 pub utf8_read : (bs : List ℕ) (d : Data) → IsUtf8 bs → read bs ≡ Some d → Some d ≡ (if is_utf8 bs then read bs else None)
@@ -116,10 +105,6 @@ pushed seen data_of f vs ws v xs i x within is more datum reads written reads_ba
       written = seen_more ∙ ap₂ (λ l y. l ++ y ∷ []) written datum ∙ sym (ap (map data_of) one ∙ map-append data_of (take i xs) (x ∷ []));
       reads_back = ap (λ l. all_of f (items_of l)) seen_more ∙ all_of_push f (map seen vs) (seen v) (take i xs) x reads_back reads ∙ ap Some (sym one);
     }
-
--- and what is sound passes the test
-pub is_record-from_IsRecord : (r : Patch) → IsRecord r → is_record r ≡ true
-is_record-from_IsRecord r h = both_true (le-leb 1 r.count h.counted) (ap (λ o. is_length o r.after_len) h.lengths ∙ eq-eqb r.after_len r.after_len refl)
 
 is_some-none : {A : Type 0} (o : Option A) → o ≡ None → not (is_some o) ≡ true
 is_some-none o e = ap (λ p. not (is_some p)) e

@@ -127,9 +127,6 @@ squash_fault_of s t h n none k =
     ap (λ o. if is_some o then Some Unsettled else if nat_le 1 n && nat_le n s.at && meet (last_done s.records s.at n) then None else Some BadCount) none
     ∙ ap (λ b. if b then None else Some BadCount) way
 
-length-take_at : (h : History) (n : ℕ) → h.at ≤ length h.later → length (take (h.at - n) (take h.at h.later)) ≡ h.at - n
-length-take_at h n within = length-take-le (h.at - n) (take h.at h.later) (omega (arith, length-take-le h.at h.later within))
-
 -- a history's texts up to the squashed one
 squashed_front : History → ℕ → List Revision
 squashed_front h n = take (h.at - n) h.later ++ latest_of (drop (h.at - n) (take h.at h.later))

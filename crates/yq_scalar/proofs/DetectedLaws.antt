@@ -150,9 +150,6 @@ detect_same least f [] h = let is : f.columns ≡ least = ap (λ (g : TextIndent
 detect_same least f (l ∷ raw) h = ⊎_elim {0, 0, 0} (λ w. inl (w.0, w.1, detect_same least f raw w.2))
     (λ w. let deep : f.columns ≡ spaces l = ap (λ (g : TextIndent). g.columns) w.1 in inr (w.0, w.1, (let le : f.columns ≤ spaces l = omega arith in le))) h
 
-pub indent_back : (least : ℕ) (digit : Option ℕ) (f : TextIndent) (raw : Lines) → IsTextIndent least digit f raw → AreRaw f raw → indent_at f.columns digit (lines_of (joined raw)) ≡ indent_at f.columns digit raw
-indent_back least digit f raw h a = ap (indent_at f.columns digit) (raw_lines f raw a)
-
 pub detect_back : (least : ℕ) (f : TextIndent) (raw : Lines) → IsDetected least f raw → AreRaw f raw → detected_at f.columns 0 (lines_of (joined raw)) ≡ Some f
 unfolding ends_block
 detect_back least f raw h a =

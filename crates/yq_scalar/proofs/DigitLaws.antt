@@ -40,14 +40,6 @@ digits_all base (b ∷ bs) = elim (cases_Bool (is_digit base b)) [
   | inr h ↦ rw (digits_none base b bs h) tt
 ]
 
--- no digit is in front of what is behind the digits
-pub past_front : (base : ℕ) (t : List ℕ) → front (is_digit base) (past_digits base t) ≡ false
-past_front base [] = refl
-past_front base (b ∷ bs) = elim (cases_Bool (is_digit base b)) [
-  | inl h ↦ rw (past_digit base b bs h) (past_front base bs)
-  | inr h ↦ rw (past_none base b bs h) h
-]
-
 -- digits are read up to the first byte that is none
 pub past_append : (base : ℕ) (digits rest : List ℕ) → AllDigits base digits → front (is_digit base) rest ≡ false → past_digits base (digits ++ rest) ≡ rest
 past_append base [] [] h e = refl

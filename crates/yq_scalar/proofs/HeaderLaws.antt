@@ -132,12 +132,6 @@ digit_again d t a b =
     let same : 48 + d - 48 ≡ d = omega arith in
     rw (low_, high) (ap (λ n. (Some n, t)) same)
 
-sign_other : (d : ℕ) (t : List ℕ) → 1 ≤ d → sign_at ((48 + d) ∷ t) ≡ (chompings.Clip, (48 + d) ∷ t)
-sign_other d t a =
-    let minus : eqb (48 + d) 45 ≡ false = false_from_ne_true _ (λ e. let k : 48 + d ≡ 45 = eqb-true (48 + d) 45 e in absurd (omega arith)) in
-    let plus : eqb (48 + d) 43 ≡ false = false_from_ne_true _ (λ e. let k : 48 + d ≡ 43 = eqb-true (48 + d) 43 e in absurd (omega arith)) in
-    rw (minus, plus) refl
-
 sign_again : (c : Chomping) (t : List ℕ) → sign_at t ≡ (chompings.Clip, t) → sign_at (sign_text c ++ t) ≡ (c, t)
 sign_again chompings.Strip t h = refl
 sign_again chompings.Clip t h = h

@@ -48,7 +48,3 @@ pub upto_here : (ends : List ℕ → Bool) (t : List ℕ) → ends t ≡ true �
 unfolding upto
 upto_here ends [] e = refl
 upto_here ends (b ∷ bs) e = rw e refl
-
-pub upto_next : (ends : List ℕ → Bool) (t r : List ℕ) (x : ℕ) → t ≡ x ∷ r → ends t ≡ false → upto ends t ≡ suc (upto ends r)
-unfolding upto
-upto_next ends t r x e f = let g : ends (x ∷ r) ≡ false = rw e at f in rw e (rw g refl)

@@ -1,5 +1,5 @@
 -- The shape of a tree: items have no keys, and entries have keys that differ (YAML 1.2.2, section 3.2.1).
-use Rattle.std.specs.Prelude.{◌≡◌, ◌≢◌, List, ℕ, Option, Some, None, ⊤}
+use Rattle.std.specs.Prelude.{◌≡◌, ◌≢◌, List, ℕ, Some, None, ⊤}
 use Rattle.yq_scalar.specs.Tree.{Node, alias, scalar, list, map, Children, none, child}
 
 -- no entry or item has this key (own)

@@ -1,14 +1,13 @@
 -- The promises of an accepted edit, and what a refused one tells.
-use Rattle.std.proofs.Common.{◌≡◌, ℕ, suc, true, false, ◌+◌, ◌<◌, ◌≤◌, List, [], ◌∷◌, ◌++◌, length, take, drop, Option, Some, None, Result, Ok, Err}
+use Rattle.std.proofs.Common.{◌≡◌, ℕ, suc, false, ◌+◌, ◌<◌, ◌≤◌, List, [], ◌∷◌, ◌++◌, length, take, drop, Option, Some, None, Result, Ok, Err}
 use Rattle.std.proofs.Common.{IfOk, IfErr, string_bytes, refl, sym, ap, ◌∙◌, subst, take_all, arith}
 use Rattle.yq_scalar.specs.declared.ReadFault.{ReadFault}
 use Rattle.yq_rows.specs.Rows.{Cut}
 use Rattle.yq_tree.specs.Reading.{read_at}
-use Rattle.yq_expr.specs.declared.refusal.Refusal.TheVariants.{NotAnUpdate}
 use Rattle.yq_expr.specs.Program.{Program, Update, assign, delete, comment, read, updates, update_at, update_count, is_read, UpdatesHold, LiteralsHold}
 use Rattle.yq_splice.specs.Answers.{Edits, Fails}
 use Rattle.yq_splice.specs.Carried.{updated, program_done, edit_of}
-use Rattle.yq_splice.specs.Edit.{unreadable, refuses, gives, and_then, by_reading, in_order}
+use Rattle.yq_splice.specs.Edit.{unreadable, gives, and_then, by_reading, in_order}
 use Rattle.yq_splice.specs.Patch.{Change}
 use Rattle.yq_splice.specs.Theorems.{AreInside, AreMeant, AreSplices, Leads}
 use Rattle.yq_splice.specs.Valid.{IsStep, FailsAt, HasSteps, FailsEach}
@@ -141,10 +140,6 @@ all_done_so p n t new cs h count us is =
 pub none_edit : (p : Program) (t : List ℕ) (r : Option Cut) → read_at t ≡ r → edit_of p t ≡ by_reading (λ c. program_done p t) r
 unfolding edit_of
 none_edit p t r is = ap (by_reading (λ c. program_done p t)) is
-
-pub read_refused : (p : Program) (t : List ℕ) → is_read p ≡ true → program_done p t ≡ refuses NotAnUpdate
-read_refused (read stages) t h = refl
-read_refused (updates us) t h = absurd (cc)
 
 pub none_done : (p : Program) (t : List ℕ) → is_read p ≡ false → update_count p ≡ 0 → program_done p t ≡ gives t []
 none_done (read stages) t h none = absurd (cc)

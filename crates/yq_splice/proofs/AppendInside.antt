@@ -1,5 +1,5 @@
 -- One item or entry more behind a line that has a break.
-use Rattle.std.proofs.Common.{◌≡◌, ℕ, suc, ◌≤◌, true, false, ◌||◌, List, [], ◌∷◌, ◌++◌, length, Option, Some, refl, sym, ap, ◌∙◌, subst, append_assoc, append-nil, replicate}
+use Rattle.std.proofs.Common.{◌≡◌, ℕ, suc, ◌≤◌, true, false, List, [], ◌∷◌, ◌++◌, length, Option, Some, refl, sym, ap, ◌∙◌, subst, append_assoc, append-nil, replicate}
 use Rattle.std.proofs.lemmas.Bool.{false≢true}
 use Rattle.yq_scalar.specs.BlockWritten.{break_text}
 use Rattle.yq_scalar.specs.Characters.{text_limit}
@@ -44,11 +44,6 @@ use Rattle.yq_splice.proofs.CommentPieceLaws.{break_piece}
 use Rattle.yq_splice.proofs.SegmentLaws.{segments_readable}
 use Rattle.yq_splice.proofs.AppendEntryLaws.{break_quiet}
 use Rattle.yq_splice.proofs.AppendPlaces.{p, there, e, allows_there, kept_pieces, IsAsked, entry, written, new_rows_are, entry_piece, filled, finished}
-
-broken_closed : (c : Content) → is_broken c ≡ true → (is_block c || is_line (tail_behind c)) ≡ true
-broken_closed (Nothing tail) e = e
-broken_closed (Inline space node tail) e = e
-broken_closed (Block space anchor block) e = refl
 
 last_closed : (others : List Row) (r : Row) → is_broken r.content ≡ true → ends_in_block (others ++ (r ∷ [])) ≡ false → ends_in_line (others ++ (r ∷ [])) ≡ true
 last_closed [] r e inside = last r.content e inside

@@ -12,7 +12,7 @@ use Rattle.yq_scalar.specs.Paths.{To, key_is, child_at}
 use Rattle.yq_scalar.specs.Scalar.{string_of}
 use Rattle.yq_scalar.specs.Shapes.{IsTree, AreTrees, AreEntries, IsNew}
 use Rattle.yq_scalar.specs.Tree as tree
-use Rattle.yq_scalar.specs.Tree.{Node, Children, none, child, children_of}
+use Rattle.yq_scalar.specs.Tree.{Node, Children, none, child}
 use Rattle.yq_scalar.specs.declared.style.Place.TheVariants.{FlowKey}
 use Rattle.yq_inline.specs.Inline.{depth_limit}
 use Rattle.yq_inline.specs.Valued.{IsLabel, IsValueTree, AreValueTrees}
@@ -23,7 +23,7 @@ use Rattle.yq_block.specs.BlockValues.{IsNear, HasNearKeys, EachHasNearKeys}
 use Rattle.yq_block.proofs.KeyLaws.{near_key}
 use Rattle.yq_change.specs.Conditions.{aliases_in, AreSpared}
 use Rattle.yq_change.specs.SoundRoots.{inner_names, IsNewValue}
-use Rattle.yq_expr.specs.Changes.{is_long, has_long_key, have_long_key, is_deep, is_used, refers_to, is_used_inside, is_used_in}
+use Rattle.yq_expr.specs.Changes.{is_long, has_long_key, have_long_key, is_deep, is_used, refers_to, is_used_inside}
 use Rattle.yq_splice.specs.Operands.{KeyIsUtf8}
 
 -- ---- values
@@ -145,6 +145,3 @@ inside_spared names (tree.alias name) h = λ a among others. among
 inside_spared names (tree.scalar b kind text) h = λ a among others. among
 inside_spared names (tree.list b cs) h = not_used names (names_in cs) h
 inside_spared names (tree.map b cs) h = not_used names (names_in cs) h
-
-pub in_spared : (names : List Name) (n : Node) → is_used_in names (Some n) ≡ false → AreSpared (names_of n) [] names
-in_spared names n h = not_used names (names_of n) h

@@ -8,7 +8,6 @@ pub mod PlaceInList
 pub mod OrderLaws
 pub mod StyleLaws
 pub mod SameLaws
-pub mod MoreLaws
 pub mod WayLaws
 pub mod DoneLaws
 pub mod SegmentLaws

@@ -2,7 +2,7 @@
 use Rattle.std.proofs.Common.{◌≡◌, ℕ, true, false, List, [], ◌∷◌, ◌++◌, refl, sym, ap, ◌∙◌, append_assoc, append-nil}
 use Rattle.std.proofs.lemmas.List.{map-append}
 use Rattle.yq_scalar.specs.Block.{Lines}
-use Rattle.yq_scalar.specs.BlockRepair.{is_short, is_outside}
+use Rattle.yq_scalar.specs.BlockRepair.{is_short}
 use Rattle.yq_scalar.specs.Lines.{is_blank}
 use Rattle.yq_scalar.specs.Text.{joined, lines_of}
 use Rattle.yq_scalar.proofs.LineLaws.{joined_lines}
@@ -15,9 +15,6 @@ use Rattle.yq_splice.specs.declared.script.segment.Segment.{Segment as Held}
 pub one_pushed : (a b : List Held) (x : Held) → b ≡ a ++ (x ∷ []) → segments_of b ≡ segments_of a ++ (segment_of x ∷ [])
 one_pushed a b x e = ap segments_of e ∙ map-append segment_of a (x ∷ [])
 
-pub two_pushed : (a b c : List Held) (x y : Held) → b ≡ a ++ (x ∷ []) → c ≡ b ++ (y ∷ []) → segments_of c ≡ segments_of a ++ (segment_of x ∷ (segment_of y ∷ []))
-two_pushed a b c x y e f = one_pushed b c y f ∙ (ap (λ (ss : List Segment). ss ++ (segment_of y ∷ [])) (one_pushed a b x e) ∙ append_assoc (segments_of a) (segment_of x ∷ []) (segment_of y ∷ []))
-
 -- a blank line, and then the others
 pub blank_on : (s : Seam) (l : List ℕ) (ls : Lines) → is_blank l ≡ true → lines_mended s (l ∷ ls) ≡ blank_mended s l ++ lines_mended s ls
 blank_on s l ls e = rw e refl
@@ -29,10 +26,6 @@ comment_last s l ls e = rw e refl
 -- a blank line that is emptied
 pub long_blank : (s : Seam) (l : List ℕ) → s.keeps ≡ false → is_short s.indent l ≡ false → blank_mended s l ≡ indented 0 l
 long_blank s l k e = rw (k, e) refl
-
--- a comment line that is moved
-pub inside_moved : (s : Seam) (l : List ℕ) → is_outside s.indent l ≡ false → comment_mended s l ≡ indented s.column l
-inside_moved s l e = rw e refl
 
 -- ---- the lines of a gap
 

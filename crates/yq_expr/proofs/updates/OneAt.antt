@@ -50,9 +50,6 @@ child_twice s f g (child label n cs) = go (is_here s label) refl (child_twice (f
     go true is ih = ap (λ (b : Bool). cond b (child label (f (g n)) cs) (child label (g n) (change_child (further s) f cs))) is
     go false is ih = ap (λ (b : Bool). cond b (child label (f n) (change_child (further s) g cs)) (child label n (change_child (further s) f (change_child (further s) g cs)))) is ∙ ap (child label n) ih
 
-change_same : (f g : Node → Node) → ((n : Node) → f n ≡ g n) → (p : List Step) (n : Node) → change p f n ≡ change p g n
-change_same f g same p n = ap (λ (h : Node → Node). change p h n) (λ i m. same m i)
-
 pub change_none : (p : List Step) (n : Node) → change p (λ m. m) n ≡ n
 change_none [] n = refl
 change_none (s ∷ p) n =
