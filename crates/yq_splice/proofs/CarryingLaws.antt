@@ -2,27 +2,29 @@
 use Rattle.std.proofs.Common.{◌≡◌, List, Option, Some, None}
 use Rattle.yq_rows.specs.Rows.{cut_text}
 use Rattle.yq_splice.specs.AppendWay.{append_way}
-use Rattle.yq_splice.specs.BlockReplacing.{block_replace_way}
 use Rattle.yq_splice.specs.BlockWriting.{replace_block_way}
-use Rattle.yq_splice.specs.Carried.{comment_ways, remove_ways, entry_ways, replace_ways, exchange_ways, scalar_ways, value_ways, node_ways, tree_ways, carrying}
+use Rattle.yq_splice.specs.CollectionReplacing.{replace_collection_way}
+use Rattle.yq_splice.specs.Carried.{comment_ways, remove_ways, entry_ways, replace_ways, exchange_ways, string_ways, scalar_ways, value_ways, node_ways, tree_ways, carrying}
 use Rattle.yq_splice.specs.CommentWays.{line_comment_way, head_comment_way}
 use Rattle.yq_splice.specs.FlowWays.{flow_remove_way}
 use Rattle.yq_splice.specs.Removing.{remove_way}
 use Rattle.yq_splice.specs.RemovingFirst.{remove_first_way}
 use Rattle.yq_splice.specs.Replacing.{replace_way}
+use Rattle.yq_splice.specs.ScalarCollection.{scalar_collection_way}
 use Rattle.yq_splice.specs.ScalarLiteral.{scalar_literal_way}
 use Rattle.yq_splice.specs.ScalarReplacing.{scalar_line_way}
 use Rattle.yq_splice.specs.Script.{Segment, old_text, new_text}
 use Rattle.yq_splice.specs.Ways.{Way, ReadsAfter, IsWay, first_some, or_else}
 use Rattle.yq_splice.proofs.AppendWayLaws.{append_is}
-use Rattle.yq_splice.proofs.BlockWayLaws.{block_replace_is}
 use Rattle.yq_splice.proofs.BlockWritingLaws.{replace_block_is}
+use Rattle.yq_splice.proofs.CollectionReplaceLaws.{replace_collection_is}
 use Rattle.yq_splice.proofs.FlowRemoveLaws.{flow_remove_is}
 use Rattle.yq_splice.proofs.HeadCommentLaws.{head_comment_is_way}
 use Rattle.yq_splice.proofs.LineCommentLaws.{line_comment_is_way}
 use Rattle.yq_splice.proofs.RemovingFirstLaws.{remove_first_is}
 use Rattle.yq_splice.proofs.RemovingLaws.{remove_is_way}
 use Rattle.yq_splice.proofs.ReplaceLaws.{replace_is}
+use Rattle.yq_splice.proofs.ScalarCollectionLaws.{scalar_collection_is}
 use Rattle.yq_splice.proofs.ScalarLineLaws.{scalar_line_is}
 use Rattle.yq_splice.proofs.ScalarLiteralLaws.{scalar_literal_is}
 
@@ -56,11 +58,15 @@ replaced_are = either_is replace_way replace_block_way replace_is replace_block_
 
 exchanged_are : IsWay exchange_ways
 unfolding exchange_ways
-exchanged_are = either_is replace_ways block_replace_way replaced_are block_replace_is
+exchanged_are = either_is replace_ways replace_collection_way replaced_are replace_collection_is
+
+strings_are : IsWay string_ways
+unfolding string_ways
+strings_are = either_is scalar_line_way scalar_literal_way scalar_line_is scalar_literal_is
 
 scalars_are : IsWay scalar_ways
 unfolding scalar_ways
-scalars_are = either_is scalar_line_way scalar_literal_way scalar_line_is scalar_literal_is
+scalars_are = either_is string_ways scalar_collection_way strings_are scalar_collection_is
 
 values_are : IsWay value_ways
 unfolding value_ways

@@ -10,14 +10,15 @@ use Rattle.yq_expr.specs.Program.{Program, Update, read, updates}
 use Rattle.yq_expr.specs.Rooms.{room_of}
 use Rattle.yq_expr.specs.declared.refusal.Refusal.TheVariants.{NotAnUpdate}
 use Rattle.yq_splice.specs.AppendWay.{append_way}
-use Rattle.yq_splice.specs.BlockReplacing.{block_replace_way}
 use Rattle.yq_splice.specs.BlockWriting.{replace_block_way}
+use Rattle.yq_splice.specs.CollectionReplacing.{replace_collection_way}
 use Rattle.yq_splice.specs.CommentWays.{line_comment_way, head_comment_way}
 use Rattle.yq_splice.specs.Edit.{Edit, refuses, unbuilt, in_order, by_reading, edit_of_segments}
 use Rattle.yq_splice.specs.FlowWays.{flow_remove_way}
 use Rattle.yq_splice.specs.Removing.{remove_way}
 use Rattle.yq_splice.specs.RemovingFirst.{remove_first_way}
 use Rattle.yq_splice.specs.Replacing.{replace_way}
+use Rattle.yq_splice.specs.ScalarCollection.{scalar_collection_way}
 use Rattle.yq_splice.specs.ScalarLiteral.{scalar_literal_way}
 use Rattle.yq_splice.specs.ScalarReplacing.{scalar_line_way}
 use Rattle.yq_splice.specs.Ways.{Way, or_else}
@@ -40,11 +41,15 @@ replace_ways = or_else replace_way replace_block_way
 
 -- the ways to replace nodes but block scalars (own)
 unfoldable pub exchange_ways : Way
-exchange_ways = or_else replace_ways block_replace_way
+exchange_ways = or_else replace_ways replace_collection_way
+
+-- the ways to replace block scalars by scalars (own)
+unfoldable pub string_ways : Way
+string_ways = or_else scalar_line_way scalar_literal_way
 
 -- the ways to replace block scalars (own)
 unfoldable pub scalar_ways : Way
-scalar_ways = or_else scalar_line_way scalar_literal_way
+scalar_ways = or_else string_ways scalar_collection_way
 
 -- the ways to replace nodes (own)
 unfoldable pub value_ways : Way

@@ -21,6 +21,7 @@ pub mod Valid
 pub mod Theorems
 pub mod Print
 pub mod FlowWays
-pub mod BlockReplacing
+pub mod CollectionReplacing
 pub mod ScalarReplacing
 pub mod ScalarLiteral
+pub mod ScalarCollection

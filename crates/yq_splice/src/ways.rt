@@ -6,27 +6,29 @@ ghost use Rattle.yq_splice.specs.WayAnswers.{Carries};
 ghost use Rattle.yq_splice.specs.Ways.{IsWay};
 
 mod append;
-mod block_replacing;
 mod block_writing;
+mod collection_replacing;
 mod flow_remove;
 mod head_comment;
 mod line_comment;
 mod removing;
 mod removing_first;
 mod replacing;
+mod scalar_collection;
 mod scalar_line;
 mod scalar_literal;
 
 use crate::edited::{EditError, Edited};
 use crate::ways::append::append_way;
-use crate::ways::block_replacing::block_replace_way;
 use crate::ways::block_writing::replace_block_way;
+use crate::ways::collection_replacing::replace_collection_way;
 use crate::ways::flow_remove::flow_remove_way;
 use crate::ways::head_comment::head_comment_way;
 use crate::ways::line_comment::line_comment_way;
 use crate::ways::removing::remove_way;
 use crate::ways::removing_first::remove_first_way;
 use crate::ways::replacing::replace_way;
+use crate::ways::scalar_collection::scalar_collection_way;
 use crate::ways::scalar_line::scalar_line_way;
 use crate::ways::scalar_literal::scalar_literal_way;
 use std::alloc::Global;
@@ -105,7 +107,22 @@ fn by_exchange_ways(
     if let Some(edited) = by_replace_ways(alloc, documents, op)? {
         return Ok(Some(edited));
     }
-    block_replace_way(alloc, documents, op)
+    replace_collection_way(alloc, documents, op)
+}
+
+/// A block scalar replaced by a scalar by the way for it.
+#[tactic(auto, unfolding(crate::specs::Carried::string_ways), using(crate::proofs::WayLaws::first_way_carries, crate::proofs::WayLaws::second_way_carries))]
+fn by_string_ways(
+    alloc: Global,
+    documents: &Documents<'_>,
+    op: &Op,
+) -> Result<Option<Edited>, EditError>
+    ensures { Carries result (spec.string_ways (operation_of op.now) (cut_of documents.now)) }
+{
+    if let Some(edited) = scalar_line_way(alloc, documents, op)? {
+        return Ok(Some(edited));
+    }
+    scalar_literal_way(alloc, documents, op)
 }
 
 /// A block scalar replaced by the way for it.
@@ -117,10 +134,10 @@ fn by_scalar_ways(
 ) -> Result<Option<Edited>, EditError>
     ensures { Carries result (spec.scalar_ways (operation_of op.now) (cut_of documents.now)) }
 {
-    if let Some(edited) = scalar_line_way(alloc, documents, op)? {
+    if let Some(edited) = by_string_ways(alloc, documents, op)? {
         return Ok(Some(edited));
     }
-    scalar_literal_way(alloc, documents, op)
+    scalar_collection_way(alloc, documents, op)
 }
 
 /// A node replaced by the way for it.

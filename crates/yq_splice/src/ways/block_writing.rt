@@ -21,7 +21,7 @@ use yq_scalar::push_spaces;
 use yq_tree::{Documents, MarkPlace, Path};
 
 /// The column behind a dash and a space, where there could be so many spaces.
-fn behind_dash(column: usize) -> Result<usize, AllocError>
+pub(crate) fn behind_dash(column: usize) -> Result<usize, AllocError>
     ensures { IfOk result (λ n. n ≡ item_column column) }
 {
     match column.checked_add(2) {
@@ -31,7 +31,7 @@ fn behind_dash(column: usize) -> Result<usize, AllocError>
 }
 
 /// The column of a collection below a key or dash, where there could be so many spaces.
-fn below_mark(layout: &Layout, place: &MarkPlace<'_>, value: &Value) -> Result<usize, AllocError>
+pub(crate) fn below_mark(layout: &Layout, place: &MarkPlace<'_>, value: &Value) -> Result<usize, AllocError>
     ensures { IfOk result (λ n. n ≡ spec.below_mark layout.now (mark_told place.now) (node_of value.now)) }
 {
     if !place.keyed {
@@ -44,7 +44,7 @@ fn below_mark(layout: &Layout, place: &MarkPlace<'_>, value: &Value) -> Result<u
 }
 
 /// A break, the spaces up to a column, and a value there.
-fn lines_below(
+pub(crate) fn lines_below(
     alloc: Global,
     layout: &Layout,
     column: usize,
@@ -60,7 +60,7 @@ fn lines_below(
 }
 
 /// A space, and a value behind a dash in a column.
-fn behind_space(
+pub(crate) fn behind_space(
     alloc: Global,
     layout: &Layout,
     column: usize,
