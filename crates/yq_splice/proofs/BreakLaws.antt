@@ -1,9 +1,8 @@
 -- The break that ends a text.
-use Rattle.std.proofs.Common.{◌≡◌, ◌⊎◌, inl, inr, ℕ, List, [], ◌∷◌, ◌++◌, length, drop, Bool, true, false, cond, ◌&&◌, ◌||◌, refl, sym, ap, ◌∙◌, eqb-true}
+use Rattle.std.proofs.Common.{◌≡◌, ◌⊎◌, inl, inr, ℕ, List, [], ◌∷◌, length, drop, Bool, true, false, cond, ◌&&◌, ◌||◌, refl, sym, ap, ◌∙◌, eqb-true}
 use Rattle.std.proofs.lemmas.Bool.{false≢true, and_parts}
 use Rattle.yq_scalar.specs.Text.{front, is_break, is_empty, is_feed, is_line, is_return}
 use Rattle.yq_tree.specs.PrintedLines.{is_last_break, less_break, last_break}
-use Rattle.yq_tree.proofs.PrintedTexts.{less_is}
 
 -- a break: LF or CR LF
 abbrev pub IsLfOrCrLf : List ℕ → Type 0

@@ -4,11 +4,8 @@ use Rattle.std.proofs.lemmas.Bool.{false≢true}
 use Rattle.yq_scalar.specs.BlockWritten.{break_text}
 use Rattle.yq_scalar.specs.Characters.{text_limit}
 use Rattle.yq_scalar.specs.Paths.{Step, node_at}
-use Rattle.yq_scalar.specs.Tree as tree
 use Rattle.yq_scalar.specs.Tree.{Node}
 use Rattle.yq_scalar.proofs.Bools.{bind_some}
-use Rattle.yq_inline.specs.Nodes as inline
-use Rattle.yq_inline.specs.Nodes.{node_text}
 use Rattle.yq_inline.specs.Valued.{IsValueTree}
 use Rattle.yq_inline.proofs.WrittenLaws.{node_then}
 use Rattle.yq_lines.specs.Anchors.{names_of}
@@ -24,7 +21,7 @@ use Rattle.yq_tree.specs.CommentPlaces.{line_end}
 use Rattle.yq_tree.specs.Documents.{Document, document_parts}
 use Rattle.yq_tree.specs.Lines.{tail_of}
 use Rattle.yq_tree.specs.MarkPlaces.{MarkPlace, mark_place}
-use Rattle.yq_tree.specs.PlacedRows.{PlacedRow, row_of_path}
+use Rattle.yq_tree.specs.PlacedRows.{row_of_path}
 use Rattle.yq_tree.specs.PrintedLines.{less_break, last_break}
 use Rattle.yq_tree.specs.Reading as reading
 use Rattle.yq_tree.specs.Reading.{documents, outline_of, read_at, root_of}
@@ -44,7 +41,7 @@ use Rattle.yq_block.specs.BlockText.{block_value}
 use Rattle.yq_block.specs.BlockValues.{HasNearKeys, InRows}
 use Rattle.yq_block.proofs.CharacterLaws.{value_sound}
 use Rattle.yq_block.proofs.TextLaws.{value_spelled}
-use Rattle.yq_expr.specs.Changes.{has_long_key, is_used_inside}
+use Rattle.yq_expr.specs.Changes.{is_used_inside}
 use Rattle.yq_expr.specs.Fits.{Fits}
 use Rattle.yq_expr.specs.Operations.{Operation, replace, append, remove, line_comment, head_comment}
 use Rattle.yq_expr.specs.Rooms.{room_of}
@@ -60,7 +57,7 @@ use Rattle.yq_splice.proofs.AppendPlaces.{kept_pieces}
 use Rattle.yq_splice.proofs.BlockWritingLaws.{filled_is}
 use Rattle.yq_splice.proofs.BreakLaws.{IsLfOrCrLf, last_is}
 use Rattle.yq_splice.proofs.BrokenTails.{broken_tail, broken_comment, broken_apart, quiet_tail}
-use Rattle.yq_splice.proofs.CollectionRows.{block, end_pieces, ended_comment, ended_tail, front_text, last_ends_line, node, nothing, pairs, parted, rest, tail, there, there_is, unnamed, behind_is}
+use Rattle.yq_splice.proofs.CollectionRows.{end_pieces, ended_comment, ended_tail, front_text, last_ends_line, node, nothing, pairs, parted, rest, tail, there, there_is, unnamed, behind_is}
 use Rattle.yq_splice.proofs.CommentPieceLaws.{nothing as no_text, byte_then, break_piece, spaces_piece}
 use Rattle.yq_splice.proofs.DoneLaws.{nth_map}
 use Rattle.yq_splice.proofs.FitLaws.{new_value, inside_spared, near_keys, tree_unique}

@@ -1,5 +1,5 @@
 -- The rows of a block collection under a key or dash, and the text round them.
-use Rattle.std.proofs.Common.{◌≡◌, ◌⊎◌, inl, inr, ℕ, ℤ, suc, ◌+◌, ◌-◌, ◌<◌, not, true, false, ◌&&◌, List, [], ◌∷◌, ◌++◌, length, take, drop, Option, Some, None, is_some, refl, sym, ap, ◌∙◌, subst, arith, append_assoc, append-nil, length-append}
+use Rattle.std.proofs.Common.{◌≡◌, ◌⊎◌, inl, inr, ℕ, ℤ, suc, ◌+◌, ◌-◌, ◌<◌, not, true, false, ◌&&◌, List, [], ◌∷◌, ◌++◌, length, take, drop, Option, Some, None, refl, sym, ap, ◌∙◌, subst, arith, append_assoc, append-nil, length-append}
 use Rattle.std.proofs.Math.Seq.{take-append_seam}
 use Rattle.std.proofs.lemmas.Bool.{false≢true}
 use Rattle.yq_scalar.specs.Characters.{pairs_returns}
@@ -15,9 +15,8 @@ use Rattle.yq_lines.specs.Group.{level_or}
 use Rattle.yq_lines.specs.Outline.{Line, Outline, flatten, IsEven, anchored, value, head_or}
 use Rattle.yq_lines.specs.Places.{lines_before, Found, content}
 use Rattle.yq_rows.specs.Exchange.{row_front}
-use Rattle.yq_rows.specs.Gap.{IsBreak, IsComment, IsWhite}
+use Rattle.yq_rows.specs.Gap.{IsBreak, IsComment}
 use Rattle.yq_rows.specs.Grammar.{unlimited, AreRows, IsContent, IsRow, IsTail, is_entry, no_rows, limit_after}
-use Rattle.yq_rows.specs.Rows as rows
 use Rattle.yq_rows.specs.Rows.{Content, Nothing, Inline, Block, content_text, Row, mark_column, parent_indent, print_row, rows_text, Part, part_text, Cut, cut_text}
 use Rattle.yq_rows.specs.View.{content_cut, slices}
 use Rattle.yq_rows.proofs.CharacterLaws.{pairs_back}
@@ -30,9 +29,8 @@ use Rattle.yq_tree.specs.Lines.{content_anchor, head_of, lines_of, row_lines}
 use Rattle.yq_tree.specs.MarkPlaces.{MarkPlace, behind_mark, column_of, mark_at, mark_in, mark_place}
 use Rattle.yq_tree.specs.Nodes.{anchor_of}
 use Rattle.yq_tree.specs.PlacedRows.{PlacedRow, placed_row, row_of_path}
-use Rattle.yq_tree.specs.PrintedLines.{less_break, last_break}
+use Rattle.yq_tree.specs.PrintedLines.{last_break}
 use Rattle.yq_tree.specs.Reading.{outline_of, read_at}
-use Rattle.yq_tree.specs.Seats.{seat}
 use Rattle.yq_tree.proofs.CommentPieceLaws.{Ended}
 use Rattle.yq_tree.proofs.LastBreakLaws.{lf_last}
 use Rattle.yq_tree.proofs.LineEndLaws.{end_of_tail, line_tail, tail_is_end}
@@ -44,7 +42,7 @@ use Rattle.yq_change.specs.TextPieces.{IsPiece}
 use Rattle.yq_change.specs.Unders.{HasUnder}
 use Rattle.yq_change.proofs.AppendPlaceLaws.{end_allows}
 use Rattle.yq_change.proofs.CollectionPlaceLaws.{collection_places}
-use Rattle.yq_change.proofs.EndLaws.{comment_is, told}
+use Rattle.yq_change.proofs.EndLaws.{comment_is}
 use Rattle.yq_change.proofs.EndedRowLaws.{rows_ended, rows_then}
 use Rattle.yq_change.proofs.LineLaws.{row_count}
 use Rattle.yq_change.proofs.MovedLaws.{lines_append}

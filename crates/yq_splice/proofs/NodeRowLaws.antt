@@ -1,5 +1,5 @@
 -- The rows of an item or entry give way to rows that are written for a value: the document with that value there.
-use Rattle.std.proofs.Common.{◌≡◌, ℕ, suc, ◌+◌, ◌*◌, ◌<◌, ◌≤◌, Bool, true, false, List, [], ◌∷◌, ◌++◌, length, Option, Some, None, refl, sym, ap, ◌∙◌, subst, arith, append_assoc, append-nil, length-append}
+use Rattle.std.proofs.Common.{◌≡◌, ℕ, suc, ◌+◌, ◌<◌, ◌≤◌, Bool, true, false, List, [], ◌∷◌, ◌++◌, length, Option, Some, None, refl, sym, ap, ◌∙◌, subst, arith, append_assoc, append-nil, length-append}
 use Rattle.std.proofs.lemmas.Bool.{false≢true, ltb-true}
 use Rattle.std.specs.Str.{is_utf8}
 use Rattle.yq_scalar.specs.Paths.{Step, change}
@@ -17,7 +17,6 @@ use Rattle.yq_lines.proofs.Decides.{flatten-group}
 use Rattle.yq_rows.specs.Exchange.{allows_first, asked_behind}
 use Rattle.yq_rows.specs.Gap.{IsGap}
 use Rattle.yq_rows.specs.Grammar.{Limit, unlimited, allows, limit_after, AreRows, is_entry, no_rows}
-use Rattle.yq_rows.specs.Joined.{dashed_row}
 use Rattle.yq_rows.specs.Rows as rows
 use Rattle.yq_rows.specs.Rows.{Content, Nothing, Row, behind_columns, mark_column, parent_indent, print_row, rows_text, Part, part_text, Cut, cut_text}
 use Rattle.yq_rows.specs.Splices.{behind_first, first_gap}
@@ -49,7 +48,6 @@ use Rattle.yq_change.proofs.AppendLaws.{around}
 use Rattle.yq_change.proofs.InlineReplaceLaws.{next_by, own_rows}
 use Rattle.yq_change.proofs.LeadLaws.{same_lead_goes}
 use Rattle.yq_change.proofs.LineLaws.{above_mark, dashes_count}
-use Rattle.yq_change.proofs.MovedLaws.{lines_append}
 use Rattle.yq_change.proofs.PartLaws.{document_known}
 use Rattle.yq_change.proofs.PlacedLaws.{found_is_entry, rows_in_parts, same_parts, whole_line}
 use Rattle.yq_change.proofs.ReplaceLaws.{node_rows_replaced, rows_before_some}

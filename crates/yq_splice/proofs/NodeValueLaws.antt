@@ -1,5 +1,5 @@
 -- The rows that are written for a value in the place of those of an item or entry: behind its key or dash, or under it.
-use Rattle.std.proofs.Common.{◌≡◌, inl, ℕ, suc, ◌+◌, ◌*◌, ◌<◌, ◌≤◌, Bool, true, false, not, cond, List, [], ◌∷◌, ◌++◌, Option, Some, None, is_some, refl, sym, ap, ◌∙◌, subst, arith, append-nil}
+use Rattle.std.proofs.Common.{◌≡◌, ℕ, suc, ◌+◌, ◌*◌, ◌<◌, ◌≤◌, Bool, true, false, cond, List, [], ◌∷◌, ◌++◌, Option, Some, None, refl, sym, ap, ◌∙◌, subst, arith}
 use Rattle.std.proofs.lemmas.Bool.{false≢true, lt-ltb}
 use Rattle.yq_scalar.specs.Paths.{Step}
 use Rattle.yq_scalar.specs.Piece.{deeper}
@@ -15,8 +15,7 @@ use Rattle.yq_lines.specs.Places.{content}
 use Rattle.yq_lines.proofs.ByRules.{rules_give}
 use Rattle.yq_rows.specs.Alone.{holds_nothing}
 use Rattle.yq_rows.specs.Exchange.{with_content}
-use Rattle.yq_rows.specs.Gap.{IsGap}
-use Rattle.yq_rows.specs.Grammar.{is_more, is_plain, Limit, unlimited, allows, limit_after, AreRows, IsContent, IsTail, is_entry}
+use Rattle.yq_rows.specs.Grammar.{is_plain, unlimited, allows, limit_after, IsContent, IsTail, is_entry}
 use Rattle.yq_rows.specs.Rows as rows
 use Rattle.yq_rows.specs.Rows.{Content, Nothing, Inline, Block, content_text, Row, mark_column, parent_indent, rows_text, Cut, cut_text}
 use Rattle.yq_rows.proofs.splices.PartPlaces.{part_ends}
@@ -33,13 +32,12 @@ use Rattle.yq_change.proofs.UnderLaws.{line_with, gone_lines}
 use Rattle.yq_block.specs.declared.layout.Layout.{Layout}
 use Rattle.yq_block.specs.BlockPlaces.{IsUpto, at_mark, at_dash, IsAbove, Replaces}
 use Rattle.yq_block.specs.BlockRows.{column_below, node_rows}
-use Rattle.yq_block.specs.BlockValues.{HasNearKeys, InRows, IsEnd, IsWritable, entry_level, level_at}
+use Rattle.yq_block.specs.BlockValues.{HasNearKeys, InRows, IsEnd, entry_level, level_at}
 use Rattle.yq_block.proofs.FitLaws.{anchors_fit, keys_fit, node_fit}
 use Rattle.yq_block.proofs.LaidRows.{AreLaid, no_gap_here}
 use Rattle.yq_block.proofs.LineLaws.{lines_deeper, node_stands}
 use Rattle.yq_block.proofs.PlaceLaws.{under_laid, upto_row}
 use Rattle.yq_block.proofs.RowLaws.{deeper_laid}
-use Rattle.yq_splice.proofs.BrokenTails.{quiet_tail}
 use Rattle.yq_splice.proofs.NodeRowLaws.{NodeRows, TakesNode, back_there, entry, limit, near, rest, rows_there}
 
 -- ---- marks

@@ -31,7 +31,11 @@ pub(crate) fn behind_dash(column: usize) -> Result<usize, AllocError>
 }
 
 /// The column of a collection below a key or dash, where there could be so many spaces.
-pub(crate) fn below_mark(layout: &Layout, place: &MarkPlace<'_>, value: &Value) -> Result<usize, AllocError>
+pub(crate) fn below_mark(
+    layout: &Layout,
+    place: &MarkPlace<'_>,
+    value: &Value,
+) -> Result<usize, AllocError>
     ensures { IfOk result (λ n. n ≡ spec.below_mark layout.now (mark_told place.now) (node_of value.now)) }
 {
     if !place.keyed {
