@@ -137,7 +137,7 @@ kept_stands n space None t old more white anchor h = h
 kept_stands n space (Some a) t old more white anchor h =
     let none = or_false (first_is 38 (t ++ more)) (begins_content false (t ++ more)) (tail_no_node t more h) in
     let name : IsName a.name (t ++ more) = record { some = anchor.0.some; inside = name_again in_name a.name (a.gap ++ old) (t ++ more) anchor.0.inside; ends = ends_name (t ++ more) (tail_apart t more h) } in
-    (white, record { valid = (name, (tail_lead t more h, (refl, (refl, (none.1, none.0))))); something = refl }, h)
+    (white, record { valid = (name, tail_lead t more h, refl, refl, (none.1, none.0)); something = refl }, h)
 
 kept_apart : (space : List ℕ) (a : Option Anchor) (block : BlockText) (t u more : List ℕ) → IsWhite space → IsTail t more → separates (space ++ anchor_text a (block_text block u)) ≡ true → separates (content_text (kept space a t) more) ≡ true
 unfolding kept
@@ -183,7 +183,7 @@ either_break : (br : Break) → IsLfOrCrLf (break_text br)
 either_break Lf = inl refl
 either_break CrLf = inr refl
 
-end_of_break : (br : Break) (u : List ℕ) → IsTail (break_text br) u
+abbrev end_of_break : (br : Break) (u : List ℕ) → IsTail (break_text br) u
 end_of_break br u = record { white = []; comment = []; line = record { break = break_text br; spelled = refl; blank = tt; remark = tt; ends = inl (is_break_line (break_text br) (either_break br)) }; apart = refl }
 
 -- ---- the rows of the entry or item

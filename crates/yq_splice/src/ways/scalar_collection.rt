@@ -22,11 +22,7 @@ use yq_scalar::text::split_white;
 use yq_tree::{Documents, ScalarPlace};
 
 /// The column of a collection below a key or dash, where there could be so many spaces.
-fn below_scalar(
-    layout: &Layout,
-    place: ScalarPlace<'_>,
-    value: &Value,
-) -> Result<usize, AllocError>
+fn below_scalar(layout: &Layout, place: ScalarPlace<'_>, value: &Value) -> Result<usize, AllocError>
     ensures { IfOk result (λ n. n ≡ spec.below_scalar layout.now (scalar_told place.entry) (node_of value.now)) }
 {
     if !place.keyed {
