@@ -1,18 +1,17 @@
 -- A block scalar gives way to a collection in block style.
-use Rattle.std.proofs.Common.{◌≡◌, ◌⊎◌, inl, inr, ℕ, ℤ, suc, ◌+◌, ◌*◌, ◌<◌, ◌≤◌, cond, eqb, not, ◌&&◌, ◌||◌, List, [], ◌∷◌, ◌++◌, length, replicate, Option, Some, None, Bool, true, false, refl, sym, ap, ◌∙◌, subst, arith, append_assoc, append-nil, length-append, eqb-true}
+use Rattle.std.proofs.Common.{◌≡◌, inl, inr, ℕ, ℤ, suc, ◌+◌, ◌*◌, ◌<◌, ◌≤◌, cond, eqb, not, ◌&&◌, ◌||◌, List, [], ◌∷◌, ◌++◌, length, replicate, Option, Some, None, Bool, true, false, refl, sym, ap, ◌∙◌, subst, arith, append_assoc, append-nil, eqb-true}
 use Rattle.std.proofs.lemmas.Bool.{false≢true}
 use Rattle.std.proofs.lemmas.Str.{is_utf8-from_IsUtf8}
 use Rattle.yq_scalar.specs.Block.{BlockText, block_text}
 use Rattle.yq_scalar.specs.BlockWritten.{break_text}
 use Rattle.yq_scalar.specs.Characters.{text_limit}
 use Rattle.yq_scalar.specs.Paths.{Step, node_at}
-use Rattle.yq_scalar.specs.Text.{is_break, is_empty, is_feed, is_return, is_white, no_white, separates, unless, upto}
-use Rattle.yq_scalar.specs.Tree as tree
+use Rattle.yq_scalar.specs.Text.{is_empty, is_feed, is_return, is_white, separates, unless, upto}
 use Rattle.yq_scalar.specs.Tree.{Node}
 use Rattle.yq_scalar.specs.declared.block_written.Break.{Break}
 use Rattle.yq_scalar.specs.declared.block_written.Break.TheVariants.{Lf, CrLf}
 use Rattle.yq_scalar.specs.Plain.{is_flow_indicator}
-use Rattle.yq_scalar.proofs.Bools.{and_true, bind_some, guard_then, or_false}
+use Rattle.yq_scalar.proofs.Bools.{and_true, guard_then, or_false}
 use Rattle.yq_inline.specs.Nodes as inline
 use Rattle.yq_inline.specs.Nodes.{node_text, in_name, first_is, begins_content, IsName, IsNode}
 use Rattle.yq_inline.specs.Valued.{IsValueTree}
@@ -32,7 +31,6 @@ use Rattle.yq_rows.proofs.NodeExchange.{mark_apart, space_apart}
 use Rattle.yq_rows.proofs.NothingLaws.{name_again, tail_apart, tail_lead, tail_no_node}
 use Rattle.yq_rows.proofs.PlaceLaws.{row_front-append}
 use Rattle.yq_tree.specs.Lines.{block_anchor, content_anchor, row_lines, tail_of, lines_of}
-use Rattle.yq_tree.specs.MarkPlaces.{column_of}
 use Rattle.yq_tree.specs.Nodes.{anchor_of}
 use Rattle.yq_tree.specs.Reading.{documents, read_at, root_of}
 use Rattle.yq_tree.specs.RowPaths.{IsReadable}
@@ -81,8 +79,8 @@ use Rattle.yq_splice.proofs.MarkRowLaws.{indent_column, is_key, keyed_is}
 use Rattle.yq_splice.proofs.NodeRowLaws.{NodeRows, TakesNode, node_reads, q_text}
 use Rattle.yq_splice.proofs.NodeRowLaws as rowed
 use Rattle.yq_splice.proofs.NodeValueLaws.{IsHolding, end_is, mark_key, rows_under, takes_under}
-use Rattle.yq_splice.proofs.ScalarLineLaws.{block_begins, mark_is, new_tail, same_comment, scalar_fits, tail_stands}
-use Rattle.yq_splice.proofs.ScalarRowLaws.{HasScalar, scalar_has, p, front, r, back, beyond, rest, rows_there, entry, even, fine, node_there, valid}
+use Rattle.yq_splice.proofs.ScalarLineLaws.{mark_is, new_tail, same_comment, scalar_fits, tail_stands}
+use Rattle.yq_splice.proofs.ScalarRowLaws.{HasScalar, scalar_has, p, front, r, back, rest, rows_there, entry, even, fine, node_there, valid}
 use Rattle.yq_splice.proofs.ScalarTextLaws.{base, there, there_is, row_is, old_is, tail, header_is, lines_are, is_break_line, head_is_piece, end_piece, final_piece, own_tail_piece, rest_piece}
 
 some_same : {A : Type 0} {x y : A} → Some x ≡ Some y → x ≡ y

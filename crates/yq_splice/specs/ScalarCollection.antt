@@ -1,9 +1,8 @@
 -- The way to replace a block scalar by a collection in block style (YAML 1.2.2, 8.1 and 8.2; own).
-use Rattle.std.specs.Prelude.{ℕ, ◌+◌, ◌&&◌, not, List, [], ◌∷◌, ◌++◌, replicate, Option, None, Bool, option_map, if◌then◌else◌}
+use Rattle.std.specs.Prelude.{ℕ, ◌+◌, ◌&&◌, not, List, [], ◌∷◌, ◌++◌, replicate, None, Bool, option_map, if◌then◌else◌}
 use Rattle.yq_scalar.specs.BlockWritten.{break_text}
 use Rattle.yq_scalar.specs.Text.{is_empty}
 use Rattle.yq_scalar.specs.Tree.{Node}
-use Rattle.yq_rows.specs.Rows.{Cut}
 use Rattle.yq_tree.specs.PrintedLines.{less_break}
 use Rattle.yq_tree.specs.ScalarPlaces.{ScalarPlace, scalar_place}
 use Rattle.yq_block.specs.declared.layout.Layout.{Layout}
