@@ -38,7 +38,7 @@ use Rattle.yq_splice.proofs.MarkReplaceLaws.{TakesMark}
 use Rattle.yq_splice.proofs.MarkRowLaws.{HasMark, is_key}
 
 -- a dash is an entry's mark that is no key
-is_dash : (m : rows.Mark) → is_entry m ≡ true → is_key m ≡ false → m ≡ rows.Dash
+pub is_dash : (m : rows.Mark) → is_entry m ≡ true → is_key m ≡ false → m ≡ rows.Dash
 is_dash rows.Bare e k = absurd (false≢true e)
 is_dash rows.Dash e k = refl
 is_dash (rows.Key key colon) e k = absurd (false≢true (sym k))
@@ -48,23 +48,23 @@ unfolding upto
 no_comment = refl
 
 -- the first of the rows behind a dash
-abbrev first_row : Row → List Row → Row
+abbrev pub first_row : Row → List Row → Row
 first_row row [] = row
 first_row row (q ∷ qs) = compact_row 1 row q
 
-abbrev more_rows : List Row → List Row
+abbrev pub more_rows : List Row → List Row
 more_rows [] = []
 more_rows (q ∷ qs) = qs
 
-rows_are : (column : ℕ) (row : Row) (rs : List Row) → BeginAt column rs → compact_rows row rs ≡ first_row row rs ∷ more_rows rs
+pub rows_are : (column : ℕ) (row : Row) (rs : List Row) → BeginAt column rs → compact_rows row rs ≡ first_row row rs ∷ more_rows rs
 rows_are column row [] b = absurd b
 rows_are column row (q ∷ qs) b = refl
 
-gap_same : (column : ℕ) (row : Row) (rs : List Row) → BeginAt column rs → (first_row row rs).gap ≡ row.gap
+pub gap_same : (column : ℕ) (row : Row) (rs : List Row) → BeginAt column rs → (first_row row rs).gap ≡ row.gap
 gap_same column row [] b = absurd b
 gap_same column row (q ∷ qs) b = refl
 
-keys_same : (row : Row) (rs : List Row) → HaveFitKeys rs → HaveFitKeys (compact_rows row rs)
+pub keys_same : (row : Row) (rs : List Row) → HaveFitKeys rs → HaveFitKeys (compact_rows row rs)
 keys_same row [] h = tt
 keys_same row (q ∷ qs) h = h
 
@@ -84,7 +84,7 @@ dash_front row u is =
     ap (λ l. row.gap ++ (replicate row.column 32 ++ l)) (dashes_split row.dashes (45 ∷ []) u)
     ∙ (ap (λ l. row.gap ++ l) (sym (append_assoc (replicate row.column 32) front u)) ∙ (sym (append_assoc row.gap (replicate row.column 32 ++ front) u) ∙ ap (λ l. l ++ u) (sym own)))
 
-behind_text : (column : ℕ) (row : Row) (rs : List Row) (u z : List ℕ) → BeginAt column rs → row.mark ≡ rows.Dash → rows_text rs z ≡ replicate column 32 ++ u → rows_text (compact_rows row rs) z ≡ row_front row ++ (32 ∷ u)
+pub behind_text : (column : ℕ) (row : Row) (rs : List Row) (u z : List ℕ) → BeginAt column rs → row.mark ≡ rows.Dash → rows_text rs z ≡ replicate column 32 ++ u → rows_text (compact_rows row rs) z ≡ row_front row ++ (32 ∷ u)
 behind_text column row [] u z b is e = absurd b
 behind_text column row (q ∷ qs) u z b is e =
     let inner : behind_indent q (rows_text qs z) ≡ u =

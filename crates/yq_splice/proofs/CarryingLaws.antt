@@ -3,7 +3,7 @@ use Rattle.std.proofs.Common.{◌≡◌, List, Option, Some, None}
 use Rattle.yq_rows.specs.Rows.{cut_text}
 use Rattle.yq_splice.specs.AppendWay.{append_way}
 use Rattle.yq_splice.specs.BlockWriting.{replace_block_way}
-use Rattle.yq_splice.specs.Carried.{comment_ways, remove_ways, entry_ways, replace_ways, scalar_ways, leaf_ways, collection_ways, exchange_ways, node_ways, tree_ways, sole_ways, content_ways, carrying}
+use Rattle.yq_splice.specs.Carried.{comment_ways, remove_ways, entry_ways, replace_ways, string_ways, scalar_ways, leaf_ways, collection_ways, exchange_ways, node_ways, tree_ways, sole_ways, content_ways, carrying}
 use Rattle.yq_splice.specs.CollectionReplacing.{replace_collection_way}
 use Rattle.yq_splice.specs.CommentWays.{line_comment_way, head_comment_way}
 use Rattle.yq_splice.specs.FlowWays.{flow_remove_way}
@@ -11,6 +11,7 @@ use Rattle.yq_splice.specs.Removing.{remove_way}
 use Rattle.yq_splice.specs.RemovingFirst.{remove_first_way}
 use Rattle.yq_splice.specs.Replacing.{replace_way}
 use Rattle.yq_splice.specs.RootWriting.{root_way}
+use Rattle.yq_splice.specs.ScalarCollection.{scalar_collection_way}
 use Rattle.yq_splice.specs.ScalarLiteral.{scalar_literal_way}
 use Rattle.yq_splice.specs.ScalarReplacing.{scalar_line_way}
 use Rattle.yq_splice.specs.Script.{Segment, old_text, new_text}
@@ -25,6 +26,7 @@ use Rattle.yq_splice.proofs.RemovingFirstLaws.{remove_first_is}
 use Rattle.yq_splice.proofs.RemovingLaws.{remove_is_way}
 use Rattle.yq_splice.proofs.ReplaceLaws.{replace_is}
 use Rattle.yq_splice.proofs.RootWayLaws.{root_is_way}
+use Rattle.yq_splice.proofs.ScalarCollectionLaws.{scalar_collection_is}
 use Rattle.yq_splice.proofs.ScalarLineLaws.{scalar_line_is}
 use Rattle.yq_splice.proofs.ScalarLiteralLaws.{scalar_literal_is}
 use Rattle.yq_splice.proofs.SoleLaws.{sole_is}
@@ -57,9 +59,13 @@ replaced_are : IsWay replace_ways
 unfolding replace_ways
 replaced_are = either_is replace_way replace_block_way replace_is replace_block_is
 
+strings_are : IsWay string_ways
+unfolding string_ways
+strings_are = either_is scalar_line_way scalar_literal_way scalar_line_is scalar_literal_is
+
 scalars_are : IsWay scalar_ways
 unfolding scalar_ways
-scalars_are = either_is scalar_line_way scalar_literal_way scalar_line_is scalar_literal_is
+scalars_are = either_is string_ways scalar_collection_way strings_are scalar_collection_is
 
 leaves_are : IsWay leaf_ways
 unfolding leaf_ways

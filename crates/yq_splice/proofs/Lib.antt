@@ -80,3 +80,6 @@ pub mod RootReadLaws
 pub mod BlockRootLaws
 pub mod RootWayLaws
 pub mod RootAnswers
+pub mod MoreLaws
+pub mod ScalarCollectionLaws
+pub mod ScalarCollectionAnswers

@@ -135,7 +135,7 @@ module _ (doc : ℕ) (s : Step) (ss : List Step) (c : Cut) (w : ScalarPlace) (h 
   z = rest doc s ss c w h
 
   -- the end of the line
-  abbrev new_tail : List ℕ
+  abbrev pub new_tail : List ℕ
   new_tail = (header_end k).white ++ ((header_end k).comment ++ final_break k)
 
   abbrev more : List ℕ
@@ -146,10 +146,10 @@ module _ (doc : ℕ) (s : Step) (ss : List Step) (c : Cut) (w : ScalarPlace) (h 
       let b = break_of (final_break k) (final_there doc s ss c w h) in
       ap (λ (e : LineEnd). e.white ++ (e.comment ++ break_text b.0)) (sym (header_is doc s ss c w h)) ∙ ap (λ t. (header_end k).white ++ ((header_end k).comment ++ t)) b.1
 
-  tail_stands : (u : List ℕ) → IsTail new_tail u
+  pub tail_stands : (u : List ℕ) → IsTail new_tail u
   tail_stands u = subst (λ t. IsTail t u) tail_is (broken_tail (slices row).tail more (tail doc s ss c w h) (break_of (final_break k) (final_there doc s ss c w h)).0 (tail_pairs doc s ss c w h) u)
 
-  same_comment : comment_in new_tail ≡ comment_in h.block.tail
+  pub same_comment : comment_in new_tail ≡ comment_in h.block.tail
   same_comment =
       sym (ap comment_in tail_is)
       ∙ (broken_comment (slices row).tail more (tail doc s ss c w h) (break_of (final_break k) (final_there doc s ss c w h)).0 (tail_pairs doc s ss c w h)

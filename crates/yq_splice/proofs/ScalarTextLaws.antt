@@ -92,7 +92,7 @@ pub break_of : (b : List ℕ) → IsLfOrCrLf b → (br : Break) × (break_text b
 break_of b (inl e) = (Lf, sym e)
 break_of b (inr e) = (CrLf, sym e)
 
-is_break_line : (b : List ℕ) → IsLfOrCrLf b → (is_break b && is_line b) ≡ true
+pub is_break_line : (b : List ℕ) → IsLfOrCrLf b → (is_break b && is_line b) ≡ true
 unfolding is_line
 is_break_line b (inl e) = ap (λ x. is_break x && is_line x) e
 is_break_line b (inr e) = ap (λ x. is_break x && is_line x) e

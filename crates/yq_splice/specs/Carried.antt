@@ -19,6 +19,7 @@ use Rattle.yq_splice.specs.Removing.{remove_way}
 use Rattle.yq_splice.specs.RemovingFirst.{remove_first_way}
 use Rattle.yq_splice.specs.Replacing.{replace_way}
 use Rattle.yq_splice.specs.RootWriting.{root_way}
+use Rattle.yq_splice.specs.ScalarCollection.{scalar_collection_way}
 use Rattle.yq_splice.specs.ScalarLiteral.{scalar_literal_way}
 use Rattle.yq_splice.specs.ScalarReplacing.{scalar_line_way}
 use Rattle.yq_splice.specs.SoleRemoving.{sole_by}
@@ -40,9 +41,13 @@ entry_ways = or_else append_way remove_ways
 unfoldable pub replace_ways : Way
 replace_ways = or_else replace_way replace_block_way
 
+-- the ways to replace block scalars by scalars (own)
+unfoldable pub string_ways : Way
+string_ways = or_else scalar_line_way scalar_literal_way
+
 -- the ways to replace block scalars (own)
 unfoldable pub scalar_ways : Way
-scalar_ways = or_else scalar_line_way scalar_literal_way
+scalar_ways = or_else string_ways scalar_collection_way
 
 -- the ways to replace nodes that are no block collections (own)
 unfoldable pub leaf_ways : Way

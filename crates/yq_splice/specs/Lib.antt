@@ -27,3 +27,4 @@ pub mod CollectionReplacing
 pub mod BlockReplacing
 pub mod ScalarReplacing
 pub mod ScalarLiteral
+pub mod ScalarCollection

@@ -15,6 +15,7 @@ mod removing;
 mod removing_first;
 mod replacing;
 mod root_writing;
+mod scalar_collection;
 mod scalar_line;
 mod scalar_literal;
 mod sole_removing;
@@ -30,6 +31,7 @@ use crate::ways::removing::remove_way;
 use crate::ways::removing_first::remove_first_way;
 use crate::ways::replacing::replace_way;
 use crate::ways::root_writing::root_way;
+use crate::ways::scalar_collection::scalar_collection_way;
 use crate::ways::scalar_line::scalar_line_way;
 use crate::ways::scalar_literal::scalar_literal_way;
 use crate::ways::sole_removing::emptying;
@@ -97,6 +99,21 @@ fn by_replace_ways(
     replace_block_way(alloc, documents, op)
 }
 
+/// A block scalar replaced by a scalar, by the way for it.
+#[tactic(auto, unfolding(crate::specs::Carried::string_ways), using(crate::proofs::WayLaws::first_way_carries, crate::proofs::WayLaws::second_way_carries))]
+fn by_string_ways(
+    alloc: Global,
+    documents: &Documents<'_>,
+    op: &Op,
+) -> Result<Option<Edited>, EditError>
+    ensures { Carries result (spec.string_ways (operation_of op.now) (cut_of documents.now)) }
+{
+    if let Some(edited) = scalar_line_way(alloc, documents, op)? {
+        return Ok(Some(edited));
+    }
+    scalar_literal_way(alloc, documents, op)
+}
+
 /// A block scalar replaced by the way for it.
 #[tactic(auto, unfolding(crate::specs::Carried::scalar_ways), using(crate::proofs::WayLaws::first_way_carries, crate::proofs::WayLaws::second_way_carries))]
 fn by_scalar_ways(
@@ -106,10 +123,10 @@ fn by_scalar_ways(
 ) -> Result<Option<Edited>, EditError>
     ensures { Carries result (spec.scalar_ways (operation_of op.now) (cut_of documents.now)) }
 {
-    if let Some(edited) = scalar_line_way(alloc, documents, op)? {
+    if let Some(edited) = by_string_ways(alloc, documents, op)? {
         return Ok(Some(edited));
     }
-    scalar_literal_way(alloc, documents, op)
+    scalar_collection_way(alloc, documents, op)
 }
 
 /// A node that is no block collection, or nothing, replaced by the way for it.

@@ -21,7 +21,7 @@ use yq_scalar::push_spaces;
 use yq_tree::{Documents, MarkPlace, Path};
 
 /// The column behind a dash and a space, where there could be so many spaces.
-fn behind_dash(column: usize) -> Result<usize, AllocError>
+pub(crate) fn behind_dash(column: usize) -> Result<usize, AllocError>
     ensures { IfOk result (λ n. n ≡ item_column column) }
 {
     match column.checked_add(2) {
@@ -64,7 +64,7 @@ pub(crate) fn lines_below(
 }
 
 /// A space, and a value behind a dash in a column.
-fn behind_space(
+pub(crate) fn behind_space(
     alloc: Global,
     layout: &Layout,
     column: usize,

@@ -59,7 +59,7 @@ fn line_written(alloc: Global, text: bool, value: &Value) -> Result<Option<Strin
 }
 
 /// The break of a header's line where lines are behind it, those lines less the last break, and that.
-fn split_lines<'d>(header_break: &'d str, raw: &'d str) -> (&'d str, &'d str, &'d str)
+pub(crate) fn split_lines<'d>(header_break: &'d str, raw: &'d str) -> (&'d str, &'d str, &'d str)
     ensures before { result.0.now ≡ (if is_empty raw.now then [] else header_break.now) }
     ensures lines { result.1.now ≡ lines.less_break raw.now }
     ensures last { result.2.now ≡ (if is_empty raw.now then header_break.now else lines.last_break raw.now) }

@@ -1,9 +1,8 @@
 use Rattle.std.proofs.lemmas.Result.{err_from_is_err_and}
 use Rattle.yq_tree.specs.Reading.{cut_of}
 use Rattle.yq_expr.specs.Operations.{operation_of}
-use Rattle.yq_splice.specs.Carried.{scalar_ways}
-use Rattle.yq_splice.specs.ScalarLiteral.{scalar_literal_way}
-use Rattle.yq_splice.specs.ScalarReplacing.{scalar_line_way}
+use Rattle.yq_splice.specs.Carried.{string_ways, scalar_ways}
+use Rattle.yq_splice.specs.ScalarCollection.{scalar_collection_way}
 use Rattle.yq_splice.proofs.WayLaws.{first_way_fails}
 use Rattle.yq_splice.proofs.ways.by_scalar_ways.Goals as goal
 
@@ -13,4 +12,4 @@ returns-in_err-edited c =
     let p = err_from_is_err_and c.from_residual.result c.from_residual.ensures.1 in
     let op = operation_of c.args.op.now in
     let cut = cut_of c.args.documents.now in
-    rw (p.1, p.2) (first_way_fails _ (scalar_line_way op cut) (scalar_literal_way op cut) c.in_err-edited.ensures)
+    rw (p.1, p.2) (first_way_fails _ (string_ways op cut) (scalar_collection_way op cut) c.in_err-edited.ensures)
