@@ -13,7 +13,7 @@ ghost use Rattle.yq_splice.specs.WayAnswers.{Carries};
 
 use crate::edited::{EditError, Edited};
 use crate::script::{Segment, exchange};
-use crate::style::{is_same, new_style};
+use crate::style::{is_same, style_in};
 use std::alloc::{AllocError, Global};
 use yq_expr::{Op, Value};
 use yq_inline::{style_of, write_inline};
@@ -69,7 +69,7 @@ pub(crate) fn inline_written(
 {
     let is_inline = match value {
         Value::Scalar(scalar) => {
-            let style = new_style(scalar, style_of(old.as_bytes()));
+            let style = style_in(Place::Block, scalar, style_of(old.as_bytes()));
             return Ok(Some(write_scalar(alloc, scalar, style, Place::Block)?));
         }
         Value::List(items) => alone || items.is_empty(),
