@@ -1,8 +1,8 @@
 -- One item or entry more in a flow collection.
 use Rattle.std.proofs.Common.{◌≡◌, ℕ, suc, ◌+◌, ◌-◌, ◌<◌, ◌≤◌, min, Bool, true, false, not, eqb, cond, List, [], ◌∷◌, ◌++◌, length, Option, Some, None, refl, sym, ap, ◌∙◌, subst, arith, append_assoc, length-append}
-use Rattle.std.proofs.lemmas.Bool.{cond_both, false≢true, not-true}
+use Rattle.std.proofs.lemmas.Bool.{cond_both, false≢true}
 use Rattle.std.proofs.lemmas.Str.{IsCharBoundary-after_ascii}
-use Rattle.std.specs.Prelude.{get_or}
+use Rattle.std.specs.Prelude.{get_or, is_some}
 use Rattle.std.specs.Str.{IsCharBoundary, IsUtf8}
 use Rattle.yq_scalar.specs.Answers.{◌>>=◌}
 use Rattle.yq_scalar.specs.Characters.{text_limit}
@@ -126,8 +126,13 @@ bracket_bound t a k rest u is =
 -- ---- the key
 
 label_is : (close : ℕ) (key : Option (List ℕ)) → KeyIsUtf8 key → takes_key close key ≡ true → IsLabel (eqb close 125) (new_label key)
-label_is close None u h = subst (λ (b : Bool). IsLabel b (new_label None)) (sym (not-true (eqb close 125) h)) refl
-label_is close (Some k) u h = subst (λ (b : Bool). IsLabel b (new_label (Some k))) (sym h) (k, refl, u)
+label_is close key u h = go (eqb close 125) key u h
+  where
+    go : (b : Bool) (key : Option (List ℕ)) → KeyIsUtf8 key → cond b (is_some key) (not (is_some key)) ≡ true → IsLabel b (new_label key)
+    go true None u h = absurd (false≢true h)
+    go true (Some k) u h = (k, refl, u)
+    go false None u h = refl
+    go false (Some k) u h = absurd (false≢true h)
 
 key_new : (key : Option (List ℕ)) (n : tree.Node) → Takes key n → IsNewKey key (keys_of (children_of n))
 key_new None n t = tt

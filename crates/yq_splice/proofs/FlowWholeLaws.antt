@@ -139,13 +139,13 @@ content_stands d k t y c h = go (is_bare (content_node y.node)) refl
         }
 
 module _ (x : CollAt) (text : List ℕ) (h : IsCollAt x) where
-  t : List ℕ
+  abbrev pub t : List ℕ
   t = text ++ node_text x.node x.rest
 
-  around : Around x
+  abbrev around : Around x
   around = around_is x h
 
-  opened : List ℕ
+  abbrev opened : List ℕ
   opened = text ++ (around.before ++ (open_of x.coll.close ∷ x.coll.gap))
 
   split : t ≡ opened ++ items_text x.coll.close x.coll.items x.coll.rest

@@ -1,5 +1,5 @@
 -- Ways to carry out operations inside flow collections (YAML 1.2.2, 7.4; own).
-use Rattle.std.specs.Prelude.{ℕ, ◌-◌, ◌==◌, List, [], ◌∷◌, ◌++◌, length, take, drop, Option, Some, None, option_map, Bool, true, false, not, if◌then◌else◌}
+use Rattle.std.specs.Prelude.{ℕ, ◌-◌, ◌==◌, List, [], ◌∷◌, ◌++◌, length, take, drop, Option, Some, None, is_some, option_map, Bool, true, false, not, if◌then◌else◌}
 use Rattle.yq_scalar.specs.Answers.{◌>>=◌}
 use Rattle.yq_scalar.specs.Paths.{Step}
 use Rattle.yq_scalar.specs.Tree as tree
@@ -10,6 +10,7 @@ use Rattle.yq_inline.specs.Entries.{EntryPieces, item_at}
 use Rattle.yq_inline.specs.FlowEdits.{FlowEdit, appending, content_node, replacing}
 use Rattle.yq_inline.specs.FlowPlaces.{PlacedEdit}
 use Rattle.yq_inline.specs.Nodes.{Node, alias, scalar, node_text}
+use Rattle.yq_inline.specs.Places.{Placed, placed, Content, nothing, name, text, sequence, mapping}
 use Rattle.yq_inline.specs.Removals.{removing}
 use Rattle.yq_inline.specs.Scalars.{style_of}
 use Rattle.yq_inline.specs.Written.{flow_key, flow_of}
@@ -88,8 +89,18 @@ flow_replace_way (head_comment doc steps text) c = None
 
 -- whether a collection with this closing bracket takes an entry of a key, or an item (YAML 1.2.2, sections 7.4.1 and 7.4.2)
 abbrev pub takes_key : ℕ → Option (List ℕ) → Bool
-takes_key close None = not (close == 125)
-takes_key close (Some key) = close == 125
+takes_key close key = if close == 125 then is_some key else not (is_some key)
+
+-- the same of a node with places: it is a mapping or a sequence (own)
+abbrev pub content_takes : Content → Option (List ℕ) → Bool
+content_takes nothing key = false
+content_takes (name n) key = false
+content_takes (text s piece) key = false
+content_takes (sequence parts) key = not (is_some key)
+content_takes (mapping parts) key = is_some key
+
+abbrev pub placed_takes : Placed → Option (List ℕ) → Bool
+placed_takes (placed anchor start at end form) key = content_takes form key
 
 -- the segments of a text in which a collection gets one more item or entry, if it takes that (own)
 abbrev pub appended_at : Option (List ℕ) → tree.Node → Cut → CollPieces → Option (List Segment)
