@@ -163,7 +163,7 @@ module _ (c : Cut) (doc : ℕ) (path : List Step) (v : tree.Node) (read : read_a
   abbrev pub e : FlowEdit
   e = replacing a.step a.item m a.coll
 
-  stands : IsCollAt x
+  pub stands : IsCollAt x
   stands = standing.stands c doc a.init a.coll read a.found
 
   pub there : StandsBefore (cut_text c) (e.old ++ e.behind)

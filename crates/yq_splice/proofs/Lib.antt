@@ -51,6 +51,7 @@ pub mod FlowWholeLaws
 pub mod FlowReplaceLaws
 pub mod FlowAppendLaws
 pub mod FlowAnswers
+pub mod FlowReplaceAnswers
 pub mod BrokenTails
 pub mod MarkRowLaws
 pub mod MarkFacts
