@@ -73,7 +73,7 @@ lead_piece key m w = cond_both (is_none w.items) (appending_first key m w) (appe
 
 last_fit : (key : Key) (m : Node) (is : Items) → HasFitKey key → HasFitKeys m → EachHasFitKeys is → EachHasFitKeys (add_last key m is)
 last_fit key m none h k f = tt
-last_fit key m (item j n sep none) h k f = (f.0, f.1, h, k, tt)
+last_fit key m (item j n sep none) h k f = (f.0, f.1, (h, k, tt))
 last_fit key m (item j n sep (item j2 n2 sep2 is)) h k f = (f.0, f.1, last_fit key m (item j2 n2 sep2 is) h k f.2)
 
 one_fits : (key : Key) (m : Node) (w : CollPieces) → HasFitKey key → HasFitKeys m → EachHasFitKeys w.items → EachHasFitKeys (appending key m w).items
@@ -99,7 +99,7 @@ comma_at t at ps p h is led = go (last_end ps) refl is
     go : (o : Option ℕ) → last_end ps ≡ o → append_at at o ≡ p → IsCharBoundary t p.start
     go None e is = absurd (no_lead (ap (λ (q : PlacedEdit). q.lead) is ∙ led))
       where
-        no_lead : [] ≡ 44 ∷ (32 ∷ []) → ⊥
+        no_lead : ◌≡◌ {A = List ℕ} [] (44 ∷ (32 ∷ [])) → ⊥
         no_lead e = cc
     go (Some e) there is = subst (λ (q : PlacedEdit). IsCharBoundary t q.start) is (last_bound t ps e h there)
 
@@ -136,7 +136,7 @@ label_is close key u h = go (eqb close 125) key u h
 
 key_new : (key : Option (List ℕ)) (n : tree.Node) → Takes key n → IsNewKey key (keys_of (children_of n))
 key_new None n t = tt
-key_new (Some k) n t = subst (λ (m : tree.Node). IsNewKey (Some k) (keys_of (children_of m))) (sym t.2.0) (new_key k t.1 t.2.1)
+key_new (Some k) n t = subst (λ (m : tree.Node). IsNewKey (Some k) (keys_of (children_of m))) (sym t.2) (new_key k t.1 t.3)
 
 -- ---- the way in a collection
 

@@ -94,9 +94,9 @@ module _ (c : Cut) (doc : ℕ) (path init : List Step) (s : Step) (q : Placed) (
     where
       go : (w : CollPieces) → flow_collection doc init c ≡ Some w → (y : Option EntryPieces) → item_at w.close s w.items w.rest ≡ y → Some p ≡ option_map (locate_entry (length (cut_text c))) y →
           (a : EntryAt c doc path) × (p ≡ locate_entry (length (cut_text c)) a.item) × (flow_replace_way (replace doc path v) c ≡ Some (replaced_by (is_kept (node_in doc path c) v) v c a.step a.coll a.item))
-      go w at None there e = absurd (no_some (sym e))
-      go w at (Some y) there e =
-          (record { init = init; step = s; last = sym f.last; coll = w; found = at; item = y; at = there }, some_same e, way_is w at ∙ ap (option_map (replaced_by (is_kept (node_in doc path c) v) v c s w)) there)
+      go w own None item e = absurd (no_some (sym e))
+      go w own (Some y) item e =
+          (record { init = init; step = s; last = sym f.last; coll = w; found = own; item = y; at = item }, some_same e, way_is w own ∙ ap (option_map (replaced_by (is_kept (node_in doc path c) v) v c s w)) item)
 
 -- ---- the answers
 

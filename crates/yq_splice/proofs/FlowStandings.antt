@@ -156,8 +156,8 @@ entry_made g c doc path ss e = go (last_step path) refl e
   where
     here' : (x : List Step × Step) → last_step path ≡ Some x → (w : CollPieces) → flow_collection doc x.0 c ≡ Some w → (o : Option EntryPieces) → item_at w.close x.1 w.items w.rest ≡ o →
         option_map (g x.1 w) o ≡ Some ss → (a : EntryAt c doc path) × (g a.step a.coll a.item ≡ ss)
-    here' x is w found None at e = absurd (no_segments e)
-    here' x is w found (Some y) at e = (record { init = x.0; step = x.1; last = is; coll = w; found = found; item = y; at = at }, segments_same e)
+    here' x is w found None own e = absurd (no_segments e)
+    here' x is w found (Some y) own e = (record { init = x.0; step = x.1; last = is; coll = w; found = found; item = y; at = own }, segments_same e)
 
     go : (o : Option (List Step × Step)) → last_step path ≡ o → in_flow_at (made_at g) doc c o ≡ Some ss → (a : EntryAt c doc path) × (g a.step a.coll a.item ≡ ss)
     go None is e = absurd (no_segments e)

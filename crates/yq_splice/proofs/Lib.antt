@@ -52,6 +52,7 @@ pub mod FlowReplaceLaws
 pub mod FlowAppendLaws
 pub mod FlowAnswers
 pub mod FlowReplaceAnswers
+pub mod FlowAppendAnswers
 pub mod BrokenTails
 pub mod MarkRowLaws
 pub mod MarkFacts

@@ -14,7 +14,7 @@ use Rattle.yq_splice.specs.BlockReplacing.{block_replace_way}
 use Rattle.yq_splice.specs.BlockWriting.{replace_block_way}
 use Rattle.yq_splice.specs.CommentWays.{line_comment_way, head_comment_way}
 use Rattle.yq_splice.specs.Edit.{Edit, refuses, unbuilt, in_order, by_reading, edit_of_segments}
-use Rattle.yq_splice.specs.FlowWays.{flow_remove_way}
+use Rattle.yq_splice.specs.FlowWays.{flow_append_way, flow_remove_way, flow_replace_way}
 use Rattle.yq_splice.specs.Removing.{remove_way}
 use Rattle.yq_splice.specs.RemovingFirst.{remove_first_way}
 use Rattle.yq_splice.specs.Replacing.{replace_way}
@@ -44,11 +44,19 @@ exchange_ways = or_else replace_ways block_replace_way
 unfoldable pub node_ways : Way
 node_ways = or_else exchange_ways entry_ways
 
--- the same, also in flow collections (own)
-unfoldable pub tree_ways : Way
-tree_ways = or_else node_ways flow_remove_way
+-- the ways to put items and entries into flow collections, and to take them out (own)
+unfoldable pub flow_entry_ways : Way
+flow_entry_ways = or_else flow_append_way flow_remove_way
 
--- the ways to carry out operations, the first that is one for an operation being taken (own)
+-- the ways to change flow collections (own)
+unfoldable pub flow_ways : Way
+flow_ways = or_else flow_replace_way flow_entry_ways
+
+-- the ways to change nodes, block collections and flow collections (own)
+unfoldable pub tree_ways : Way
+tree_ways = or_else node_ways flow_ways
+
+-- the ways to carry operations out, the first that is one for an operation being taken (own)
 unfoldable pub carrying : Way
 carrying = or_else tree_ways comment_ways
 

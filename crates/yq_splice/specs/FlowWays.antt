@@ -10,7 +10,7 @@ use Rattle.yq_inline.specs.Entries.{EntryPieces, item_at}
 use Rattle.yq_inline.specs.FlowEdits.{FlowEdit, appending, content_node, replacing}
 use Rattle.yq_inline.specs.FlowPlaces.{PlacedEdit}
 use Rattle.yq_inline.specs.Nodes.{Node, alias, scalar, node_text}
-use Rattle.yq_inline.specs.Places.{Placed, placed, Content, nothing, name, text, sequence, mapping}
+use Rattle.yq_inline.specs.Places as places
 use Rattle.yq_inline.specs.Removals.{removing}
 use Rattle.yq_inline.specs.Scalars.{style_of}
 use Rattle.yq_inline.specs.Written.{flow_key, flow_of}
@@ -91,16 +91,17 @@ flow_replace_way (head_comment doc steps text) c = None
 abbrev pub takes_key : ℕ → Option (List ℕ) → Bool
 takes_key close key = if close == 125 then is_some key else not (is_some key)
 
--- the same of a node with places: it is a mapping or a sequence (own)
-abbrev pub content_takes : Content → Option (List ℕ) → Bool
-content_takes nothing key = false
-content_takes (name n) key = false
-content_takes (text s piece) key = false
-content_takes (sequence parts) key = not (is_some key)
-content_takes (mapping parts) key = is_some key
+-- the same of a content with places: a mapping, or a sequence (own)
+abbrev pub content_takes : places.Content → Option (List ℕ) → Bool
+content_takes places.nothing key = false
+content_takes (places.name n) key = false
+content_takes (places.text s piece) key = false
+content_takes (places.sequence parts) key = not (is_some key)
+content_takes (places.mapping parts) key = is_some key
 
-abbrev pub placed_takes : Placed → Option (List ℕ) → Bool
-placed_takes (placed anchor start at end form) key = content_takes form key
+-- the same of a node with its anchor (own)
+abbrev pub placed_takes : places.Placed → Option (List ℕ) → Bool
+placed_takes (places.placed anchor start content end form) key = content_takes form key
 
 -- the segments of a text in which a collection gets one more item or entry, if it takes that (own)
 abbrev pub appended_at : Option (List ℕ) → tree.Node → Cut → CollPieces → Option (List Segment)

@@ -22,11 +22,13 @@ use crate::edited::{EditError, Edited};
 use crate::ways::append::append_way;
 use crate::ways::block_replacing::block_replace_way;
 use crate::ways::block_writing::replace_block_way;
+use crate::ways::flow_append::flow_append_way;
 use crate::ways::flow_remove::flow_remove_way;
+use crate::ways::flow_replace::flow_replace_way;
 use crate::ways::head_comment::head_comment_way;
 use crate::ways::line_comment::line_comment_way;
-use crate::ways::removing::remove_way;
 use crate::ways::removing_first::remove_first_way;
+use crate::ways::removing::remove_way;
 use crate::ways::replacing::replace_way;
 use std::alloc::Global;
 use yq_expr::Op;
@@ -122,7 +124,37 @@ fn by_node_ways(
     by_entry_ways(alloc, documents, op)
 }
 
-/// The same, also in a flow collection.
+/// An item or entry put into a flow collection or taken out of one by the way for it.
+#[tactic(auto, unfolding(crate::specs::Carried::flow_entry_ways), using(crate::proofs::WayLaws::first_way_carries, crate::proofs::WayLaws::second_way_carries))]
+fn by_flow_entry_ways(
+    alloc: Global,
+    documents: &Documents<'_>,
+    op: &Op,
+) -> Result<Option<Edited>, EditError>
+    ensures { Carries result (spec.flow_entry_ways (operation_of op.now) (cut_of documents.now)) }
+{
+    if let Some(edited) = flow_append_way(alloc, documents, op)? {
+        return Ok(Some(edited));
+    }
+    flow_remove_way(alloc, documents, op)
+}
+
+/// A flow collection changed by the way for it.
+#[tactic(auto, unfolding(crate::specs::Carried::flow_ways), using(crate::proofs::WayLaws::first_way_carries, crate::proofs::WayLaws::second_way_carries))]
+fn by_flow_ways(
+    alloc: Global,
+    documents: &Documents<'_>,
+    op: &Op,
+) -> Result<Option<Edited>, EditError>
+    ensures { Carries result (spec.flow_ways (operation_of op.now) (cut_of documents.now)) }
+{
+    if let Some(edited) = flow_replace_way(alloc, documents, op)? {
+        return Ok(Some(edited));
+    }
+    by_flow_entry_ways(alloc, documents, op)
+}
+
+/// A node replaced, or a collection changed, by the way for it.
 #[tactic(auto, unfolding(crate::specs::Carried::tree_ways), using(crate::proofs::WayLaws::first_way_carries, crate::proofs::WayLaws::second_way_carries))]
 fn by_tree_ways(
     alloc: Global,
@@ -134,7 +166,7 @@ fn by_tree_ways(
     if let Some(edited) = by_node_ways(alloc, documents, op)? {
         return Ok(Some(edited));
     }
-    flow_remove_way(alloc, documents, op)
+    by_flow_ways(alloc, documents, op)
 }
 
 /// An operation carried out on documents by the first way that is one for it.

@@ -1,8 +1,8 @@
 use Rattle.std.proofs.lemmas.Result.{err_from_is_err_and}
 use Rattle.yq_tree.specs.Reading.{cut_of}
 use Rattle.yq_expr.specs.Operations.{operation_of}
-use Rattle.yq_splice.specs.Carried.{replace_ways}
 use Rattle.yq_splice.specs.BlockWriting.{replace_block_way}
+use Rattle.yq_splice.specs.Carried.{replace_ways}
 use Rattle.yq_splice.specs.Replacing.{replace_way}
 use Rattle.yq_splice.proofs.WayLaws.{first_way_fails}
 use Rattle.yq_splice.proofs.ways.by_replace_ways.Goals as goal
