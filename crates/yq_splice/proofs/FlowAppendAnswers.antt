@@ -16,11 +16,12 @@ use Rattle.yq_inline.specs.Written.{entry_text, flow_key, flow_text, scalar_text
 use Rattle.yq_rows.specs.Rows.{Cut, cut_text}
 use Rattle.yq_tree.specs.FlowNodes.{flow_collection}
 use Rattle.yq_tree.specs.FlowTold.{placed_collection, behind_anchor, collection_of}
-use Rattle.yq_tree.specs.Reading.{read_at}
+use Rattle.yq_tree.specs.Reading.{cut_of, read_at}
 use Rattle.yq_tree.proofs.FlowToldLaws.{node_collection}
 use Rattle.yq_expr.specs.Operations.{append}
 use Rattle.yq_splice.specs.FlowWays.{appended_at, content_takes, edit_segments, flow_append_way, flow_segments, placed_takes, takes_key}
 use Rattle.yq_splice.specs.Script.{Segment}
+use Rattle.yq_splice.proofs.CarriedLaws.{text_read}
 use Rattle.yq_splice.proofs.FlowAnswers.{coll_found, edit_order, segments_at}
 use Rattle.yq_splice.proofs.FlowAppendLaws.{bounds, e, placed_there, there, written_is}
 use Rattle.yq_splice.proofs.FlowStandings as standing
@@ -107,15 +108,14 @@ module _ (c : Cut) (doc : ℕ) (steps : List Step) (key : Option (List ℕ)) (v 
         is = way_is true takes ∙ ap Some (sym (ap (edit_segments t (place_edit (length t) edit)) (sym written) ∙ segments_at t s.before edit s.text));
       })
 
-pub append_found : (t : List ℕ) (c : Cut) (doc : ℕ) (steps : List Step) (key : Option (List ℕ)) (v : tree.Node) (q : Placed) (p : PlacedEdit) → cut_text c ≡ t → FindsColl t c doc steps q → placed_takes q key ≡ true → Some p ≡ append_place q →
-    AppendFound t c doc steps key v p
-append_found t c doc steps key v q p whole =
-    subst (λ (u : List ℕ). FindsColl u c doc steps q → placed_takes q key ≡ true → Some p ≡ append_place q → AppendFound u c doc steps key v p) whole (λ f takes is. found_at c doc steps key v q f p takes is)
+-- the same of the cut that is read
+pub append_found : (t : List ℕ) (doc : ℕ) (steps : List Step) (key : Option (List ℕ)) (v : tree.Node) (q : Placed) (p : PlacedEdit) → FindsColl t (cut_of t) doc steps q → placed_takes q key ≡ true → Some p ≡ append_place q →
+    AppendFound t (cut_of t) doc steps key v p
+append_found t doc steps key v q p f =
+    let c : Cut = cut_of t in
+    subst (λ (u : List ℕ). FindsColl u c doc steps q → placed_takes q key ≡ true → Some p ≡ append_place q → AppendFound u c doc steps key v p) (text_read t c f.read) (λ f takes is. found_at c doc steps key v q f p takes is) f
 
-pub append_apart : (t : List ℕ) (c : Cut) (doc : ℕ) (steps : List Step) (key : Option (List ℕ)) (v : tree.Node) (q : Placed) → cut_text c ≡ t → FindsColl t c doc steps q → placed_takes q key ≡ false → flow_append_way (append doc steps key v) c ≡ None
-append_apart t c doc steps key v q whole =
-    subst (λ (u : List ℕ). FindsColl u c doc steps q → placed_takes q key ≡ false → flow_append_way (append doc steps key v) c ≡ None) whole (λ f takes. way_is c doc steps key v q f false takes)
-
-pub append_missing : (t : List ℕ) (c : Cut) (doc : ℕ) (steps : List Step) (key : Option (List ℕ)) (v : tree.Node) (q : Placed) → cut_text c ≡ t → FindsColl t c doc steps q → None ≡ append_place q → flow_append_way (append doc steps key v) c ≡ None
-append_missing t c doc steps key v q whole =
-    subst (λ (u : List ℕ). FindsColl u c doc steps q → None ≡ append_place q → flow_append_way (append doc steps key v) c ≡ None) whole (λ f is. absurd (no_some (is ∙ place_is c doc steps key v q f)))
+pub append_apart : (t : List ℕ) (doc : ℕ) (steps : List Step) (key : Option (List ℕ)) (v : tree.Node) (q : Placed) → FindsColl t (cut_of t) doc steps q → placed_takes q key ≡ false → flow_append_way (append doc steps key v) (cut_of t) ≡ None
+append_apart t doc steps key v q f =
+    let c : Cut = cut_of t in
+    subst (λ (u : List ℕ). FindsColl u c doc steps q → placed_takes q key ≡ false → flow_append_way (append doc steps key v) c ≡ None) (text_read t c f.read) (λ f takes. way_is c doc steps key v q f false takes) f

@@ -252,8 +252,8 @@ flow_append_is = record { old = old_is; reads = reads_is }
         let w = there c doc steps key v a.coll read a.found in
         ap old_text (sym a.is) ∙ segments_old (cut_text c) w.before (e c doc steps key v a.coll read a.found) w.text
     old_is (remove doc steps) c ss read way = absurd (no_segments way)
-    old_is (line_comment doc steps text) c ss read way = absurd (no_segments way)
-    old_is (head_comment doc steps text) c ss read way = absurd (no_segments way)
+    old_is (line_comment doc steps note) c ss read way = absurd (no_segments way)
+    old_is (head_comment doc steps note) c ss read way = absurd (no_segments way)
 
     reads_is : (op : Operation) (c : Cut) (ss : List Segment) → read_at (cut_text c) ≡ Some c → flow_append_way op c ≡ Some ss → HasOperand op → Fits (room_of (cut_text c)) op (documents c) →
         length (new_text ss) ≤ text_limit → ReadsAfter op c (new_text ss)
@@ -263,5 +263,5 @@ flow_append_is = record { old = old_is; reads = reads_is }
         subst (λ (s : List Segment). ReadsAfter (append doc steps key v) c (new_text s)) a.is
         (append_reads c doc steps key v a.coll read a.found operand.0 operand.1 a.takes fits (subst (λ (s : List Segment). length (new_text s) ≤ text_limit) (sym a.is) size))
     reads_is (remove doc steps) c ss read way operand fits size = absurd (no_segments way)
-    reads_is (line_comment doc steps text) c ss read way operand fits size = absurd (no_segments way)
-    reads_is (head_comment doc steps text) c ss read way operand fits size = absurd (no_segments way)
+    reads_is (line_comment doc steps note) c ss read way operand fits size = absurd (no_segments way)
+    reads_is (head_comment doc steps note) c ss read way operand fits size = absurd (no_segments way)

@@ -1,5 +1,5 @@
 -- What replacing in a flow collection comes to, by what the code finds.
-use Rattle.std.proofs.Common.{◌≡◌, ℕ, ◌-◌, ◌≤◌, Bool, true, false, List, [], ◌∷◌, ◌++◌, length, take, drop, Option, Some, None, option_map, refl, sym, ap, ◌∙◌, subst, arith, append_assoc, length-append}
+use Rattle.std.proofs.Common.{◌≡◌, ℕ, ◌-◌, ◌≤◌, Bool, true, false, List, [], ◌∷◌, ◌++◌, length, take, drop, Option, Some, None, option_map, refl, sym, ap, ◌∙◌, subst, arith, append_assoc, append-nil, length-append}
 use Rattle.std.proofs.Math.Seq.{take-append_seam, drop-append_seam}
 use Rattle.std.specs.Prelude.{option_and_then}
 use Rattle.std.specs.Str.{IsCharBoundary}
@@ -12,19 +12,21 @@ use Rattle.yq_inline.specs.FlowEdits.{FlowEdit}
 use Rattle.yq_inline.specs.FlowPlaces.{PlacedEdit, place_edit, replace_place}
 use Rattle.yq_inline.specs.Nodes.{bare, coll, node_text}
 use Rattle.yq_inline.specs.Places.{Placed, placed}
+use Rattle.yq_inline.specs.Written.{flow_of}
 use Rattle.yq_inline.proofs.EditLaws.{around_is}
 use Rattle.yq_inline.proofs.PathLaws.{items_hold, path_places}
 use Rattle.yq_inline.proofs.PlacedEdits.{replace_placed}
 use Rattle.yq_rows.specs.Rows.{Cut, cut_text}
 use Rattle.yq_tree.specs.FlowNodes.{flow_collection}
 use Rattle.yq_tree.specs.FlowTold.{placed_collection, behind_anchor}
-use Rattle.yq_tree.specs.Reading.{read_at}
+use Rattle.yq_tree.specs.Reading.{cut_of, read_at}
 use Rattle.yq_expr.specs.Operations.{replace}
-use Rattle.yq_splice.specs.FlowWays.{edit_segments, flow_replace_way, flow_value, in_flow_at, last_step, replaced_at, replaced_by}
+use Rattle.yq_splice.specs.FlowWays.{edit_segments, flow_replace_way, flow_value, in_flow_at, last_step, replaced_at, replaced_by, value_text}
 use Rattle.yq_splice.specs.Replacing.{is_kept, node_in}
 use Rattle.yq_splice.specs.Script.{Segment, keep}
+use Rattle.yq_splice.proofs.CarriedLaws.{text_read}
 use Rattle.yq_splice.proofs.FlowAnswers.{coll_found, edit_order, segments_at}
-use Rattle.yq_splice.proofs.FlowReplaceLaws.{bounds, e, stands, there, x}
+use Rattle.yq_splice.proofs.FlowReplaceLaws.{bounds, e, m, stands, there, x}
 use Rattle.yq_splice.proofs.FlowStandings.{EntryAt}
 
 some_same : {A : Type 0} {x y : A} → Some x ≡ Some y → x ≡ y
@@ -66,6 +68,14 @@ old_at t before e is =
     let front : take (length t - length e.behind) t ≡ before ++ e.old = (λ i. take (end_ i) (whole i)) ∙ take-append_seam (before ++ e.old) e.behind in
     (λ i. drop (start i) (front i)) ∙ drop-append_seam before e.old
 
+-- how a value is written is the text of its node
+value_is : (old : List ℕ) (v : tree.Node) → value_text old v ≡ node_text (flow_value old v) []
+unfolding node_text flow_of
+value_is old (tree.alias name) = refl
+value_is old (tree.scalar a kind t) = sym (append-nil _)
+value_is old (tree.list a cs) = refl
+value_is old (tree.map a cs) = refl
+
 -- ---- in the text of a cut
 
 module _ (c : Cut) (doc : ℕ) (path init : List Step) (s : Step) (q : Placed) (o : Option PlacedEntry) (v : tree.Node) (f : Finds (cut_text c) c doc path init s q o) where
@@ -105,7 +115,7 @@ pub record ContentFound (t : List ℕ) (c : Cut) (doc : ℕ) (path : List Step) 
   pub order : p.start ≤ p.end
   pub start : IsCharBoundary t p.start
   pub end : IsCharBoundary t p.end
-  pub is : is_kept (node_in doc path c) v ≡ false → flow_replace_way (replace doc path v) c ≡ Some (edit_segments t p (node_text (flow_value (drop p.start (take p.end t)) v) []))
+  pub is : is_kept (node_in doc path c) v ≡ false → flow_replace_way (replace doc path v) c ≡ Some (edit_segments t p (value_text (drop p.start (take p.end t)) v))
 
 content_at : (c : Cut) (doc : ℕ) (path init : List Step) (s : Step) (q : Placed) (p : PlacedEntry) (v : tree.Node) → Finds (cut_text c) c doc path init s q (Some p) → ContentFound (cut_text c) c doc path v (replace_place p.1)
 content_at c doc path init s q p v f =
@@ -118,7 +128,7 @@ content_at c doc path init s q p v f =
     let i = around_is (x c doc path v f.read a) (stands c doc path v f.read a) in
     let is = items_hold i.inner_depth a.coll.close a.step a.coll.items a.coll.rest a.item i.items a.at in
     let place : place_edit (length t) edit ≡ replace_place p.1 =
-    sym (ap (λ (y : PlacedEntry). replace_place y.1) h.1 ∙ replace_placed true (Some 0) i.inner_depth (length t) a.step a.item _ a.coll is) in
+    sym (ap (λ (y : PlacedEntry). replace_place y.1) h.1 ∙ replace_placed true (Some 0) i.inner_depth (length t) a.step a.item (m c doc path v f.read a) a.coll is) in
     let old = old_at t w.before edit w.text in
     subst (ContentFound t c doc path v) place (record {
       order = edit_order t edit;
@@ -127,17 +137,25 @@ content_at c doc path init s q p v f =
       is = λ kept.
           h.2
           ∙ (ap (λ (k : Bool). Some (replaced_by k v c a.step a.coll a.item)) kept
-          ∙ sym (ap Some (ap (λ (l : List ℕ). edit_segments t (place_edit (length t) edit) (node_text (flow_value l v) [])) old ∙ segments_at t w.before edit w.text)));
+          ∙ sym (ap Some (ap (λ (l : List ℕ). edit_segments t (place_edit (length t) edit) l) (ap (λ (l : List ℕ). value_text l v) old ∙ value_is edit.old v) ∙ segments_at t w.before edit w.text)));
     })
 
-pub content_found : (t : List ℕ) (c : Cut) (doc : ℕ) (path init : List Step) (s : Step) (q : Placed) (p : PlacedEntry) (v : tree.Node) → cut_text c ≡ t → Finds t c doc path init s q (Some p) → ContentFound t c doc path v (replace_place p.1)
-content_found t c doc path init s q p v whole = subst (λ (u : List ℕ). Finds u c doc path init s q (Some p) → ContentFound u c doc path v (replace_place p.1)) whole (content_at c doc path init s q p v)
+-- the same of the cut that is read, with a place that the code holds
+pub content_told : (t : List ℕ) (doc : ℕ) (path init : List Step) (s : Step) (q : Placed) (p : PlacedEntry) (v : tree.Node) (e : PlacedEdit) → Finds t (cut_of t) doc path init s q (Some p) → e ≡ replace_place p.1 → ContentFound t (cut_of t) doc path v e
+content_told t doc path init s q p v e f is =
+    let c : Cut = cut_of t in
+    let there' : ContentFound t c doc path v (replace_place p.1) =
+    subst (λ (u : List ℕ). Finds u c doc path init s q (Some p) → ContentFound u c doc path v (replace_place p.1)) (text_read t c f.read) (content_at c doc path init s q p v) f in
+    subst (ContentFound t c doc path v) (sym is) there'
 
-pub content_kept : (t : List ℕ) (c : Cut) (doc : ℕ) (path init : List Step) (s : Step) (q : Placed) (p : PlacedEntry) (v : tree.Node) → cut_text c ≡ t → Finds t c doc path init s q (Some p) → is_kept (node_in doc path c) v ≡ true →
-    flow_replace_way (replace doc path v) c ≡ Some (keep t ∷ [])
-content_kept t c doc path init s q p v whole =
-    subst (λ (u : List ℕ). Finds u c doc path init s q (Some p) → is_kept (node_in doc path c) v ≡ true → flow_replace_way (replace doc path v) c ≡ Some (keep u ∷ [])) whole (λ f kept.
-    let h = entry_there c doc path init s q (Some p) v f p refl in h.2 ∙ ap (λ (k : Bool). Some (replaced_by k v c h.0.step h.0.coll h.0.item)) kept)
+pub content_kept : (t : List ℕ) (doc : ℕ) (path init : List Step) (s : Step) (q : Placed) (p : PlacedEntry) (v : tree.Node) → Finds t (cut_of t) doc path init s q (Some p) → is_kept (node_in doc path (cut_of t)) v ≡ true →
+    flow_replace_way (replace doc path v) (cut_of t) ≡ Some (keep t ∷ [])
+content_kept t doc path init s q p v f =
+    let c : Cut = cut_of t in
+    subst (λ (u : List ℕ). Finds u c doc path init s q (Some p) → is_kept (node_in doc path c) v ≡ true → flow_replace_way (replace doc path v) c ≡ Some (keep u ∷ [])) (text_read t c f.read) (λ f kept.
+    let h = entry_there c doc path init s q (Some p) v f p refl in h.2 ∙ ap (λ (k : Bool). Some (replaced_by k v c h.0.step h.0.coll h.0.item)) kept) f
 
-pub content_missing : (t : List ℕ) (c : Cut) (doc : ℕ) (path init : List Step) (s : Step) (q : Placed) (v : tree.Node) → cut_text c ≡ t → Finds t c doc path init s q None → flow_replace_way (replace doc path v) c ≡ None
-content_missing t c doc path init s q v whole = subst (λ (u : List ℕ). Finds u c doc path init s q None → flow_replace_way (replace doc path v) c ≡ None) whole (λ f. way_missing c doc path init s q None v f refl)
+pub content_missing : (t : List ℕ) (doc : ℕ) (path init : List Step) (s : Step) (q : Placed) (v : tree.Node) → Finds t (cut_of t) doc path init s q None → flow_replace_way (replace doc path v) (cut_of t) ≡ None
+content_missing t doc path init s q v f =
+    let c : Cut = cut_of t in
+    subst (λ (u : List ℕ). Finds u c doc path init s q None → flow_replace_way (replace doc path v) c ≡ None) (text_read t c f.read) (λ f. way_missing c doc path init s q None v f refl) f

@@ -13,7 +13,7 @@ use Rattle.yq_inline.specs.Nodes.{Node, alias, scalar, node_text}
 use Rattle.yq_inline.specs.Places as places
 use Rattle.yq_inline.specs.Removals.{removing}
 use Rattle.yq_inline.specs.Scalars.{style_of}
-use Rattle.yq_inline.specs.Written.{flow_key, flow_of}
+use Rattle.yq_inline.specs.Written.{flow_key, flow_of, flow_text}
 use Rattle.yq_rows.specs.Rows.{Cut, cut_text}
 use Rattle.yq_tree.specs.FlowNodes.{flow_collection}
 use Rattle.yq_expr.specs.Operations.{replace, append, remove, line_comment, head_comment}
@@ -65,6 +65,13 @@ flow_value old (tree.alias name) = alias name
 flow_value old (tree.scalar anchor kind text) = scalar (written (style_in Flow (record { kind = kind; text = text }) (style_of old)) text)
 flow_value old (tree.list anchor cs) = flow_of (tree.list anchor cs)
 flow_value old (tree.map anchor cs) = flow_of (tree.map anchor cs)
+
+-- how it is written (own)
+abbrev pub value_text : List ℕ → tree.Node → List ℕ
+value_text old (tree.alias name) = flow_text (tree.alias name)
+value_text old (tree.scalar anchor kind text) = written (style_in Flow (record { kind = kind; text = text }) (style_of old)) text
+value_text old (tree.list anchor cs) = flow_text (tree.list anchor cs)
+value_text old (tree.map anchor cs) = flow_text (tree.map anchor cs)
 
 -- what is written of a node behind its anchor (own)
 abbrev pub content_written : Node → List ℕ

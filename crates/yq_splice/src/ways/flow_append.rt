@@ -52,6 +52,7 @@ pub(crate) fn flow_append_way(
     let Some(node) = documents.flow_collection(path.doc, &path.steps) else {
         return Ok(None);
     };
+    let text = documents.text();
     if !takes(node, key.as_deref()) {
         return Ok(None);
     }
@@ -59,5 +60,5 @@ pub(crate) fn flow_append_way(
         return Ok(None);
     };
     let new = entry_text(alloc, key.as_deref(), value)?;
-    edit_at(alloc, documents.text(), place, &new)
+    edit_at(alloc, text, place, &new)
 }

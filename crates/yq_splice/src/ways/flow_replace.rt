@@ -1,6 +1,5 @@
 //! Contents of items and entries of flow collections replaced.
 ghost use Rattle.std.specs.Prelude.{◌≡◌, [], IfOk, Some, ◌∷◌, string_bytes};
-ghost use Rattle.yq_inline.specs.Nodes.{node_text};
 ghost use Rattle.yq_inline.specs.Values.{node_of};
 ghost use Rattle.yq_expr.specs.Operations.{operation_of};
 ghost use Rattle.yq_tree.specs.Reading.{cut_of};
@@ -21,7 +20,7 @@ use yq_tree::Documents;
 
 /// A value as it is written in flow, in the place of what is written there.
 fn flow_written(alloc: Global, old: &str, value: &Value) -> Result<String, AllocError>
-    ensures { IfOk result (λ s. string_bytes s ≡ node_text (spec.flow_value old.now (node_of value.now)) []) }
+    ensures { IfOk result (λ s. string_bytes s ≡ spec.value_text old.now (node_of value.now)) }
 {
     match value {
         Value::Scalar(scalar) => {
@@ -58,10 +57,10 @@ pub(crate) fn flow_replace_way(
     let Some(node) = documents.flow_collection(path.doc, above) else {
         return Ok(None);
     };
+    let text = documents.text();
     let Some(entry) = node.part(last) else {
         return Ok(None);
     };
-    let text = documents.text();
     if is_kept(documents.locate(path), value) {
         return kept(alloc, text);
     }
