@@ -1,5 +1,5 @@
 -- What putting an item or entry into a flow collection comes to, by what the code finds.
-use Rattle.std.proofs.Common.{◌≡◌, ℕ, ◌≤◌, Bool, true, false, not, cond, eqb, List, [], ◌∷◌, ◌++◌, length, Option, Some, None, option_map, refl, sym, ap, ◌∙◌, subst, append_assoc}
+use Rattle.std.proofs.Common.{◌≡◌, ℕ, ◌≤◌, Bool, true, false, not, cond, eqb, List, [], ◌∷◌, length, Option, Some, None, option_map, refl, sym, ap, ◌∙◌, subst, append_assoc}
 use Rattle.std.specs.Prelude.{is_some}
 use Rattle.std.specs.Str.{IsCharBoundary}
 use Rattle.yq_scalar.specs.Answers.{◌>>=◌}
@@ -20,7 +20,6 @@ use Rattle.yq_tree.specs.Reading.{cut_of, read_at}
 use Rattle.yq_tree.proofs.FlowToldLaws.{node_collection}
 use Rattle.yq_expr.specs.Operations.{append}
 use Rattle.yq_splice.specs.FlowWays.{appended_at, content_takes, edit_segments, flow_append_way, flow_segments, placed_takes, takes_key}
-use Rattle.yq_splice.specs.Script.{Segment}
 use Rattle.yq_splice.proofs.CarriedLaws.{text_read}
 use Rattle.yq_splice.proofs.FlowAnswers.{coll_found, edit_order, segments_at}
 use Rattle.yq_splice.proofs.FlowAppendLaws.{bounds, e, placed_there, there, written_is}

@@ -1,18 +1,17 @@
 -- One item or entry more in a flow collection.
-use Rattle.std.proofs.Common.{◌≡◌, ℕ, suc, ◌+◌, ◌-◌, ◌<◌, ◌≤◌, min, Bool, true, false, not, eqb, cond, List, [], ◌∷◌, ◌++◌, length, Option, Some, None, refl, sym, ap, ◌∙◌, subst, arith, append_assoc, length-append}
+use Rattle.std.proofs.Common.{◌≡◌, ℕ, suc, ◌+◌, ◌-◌, ◌<◌, ◌≤◌, min, Bool, true, false, not, eqb, cond, List, [], ◌∷◌, ◌++◌, length, Option, Some, None, refl, sym, ap, ◌∙◌, subst, arith, length-append}
 use Rattle.std.proofs.lemmas.Bool.{cond_both, false≢true}
 use Rattle.std.proofs.lemmas.Str.{IsCharBoundary-after_ascii}
 use Rattle.std.specs.Prelude.{get_or, is_some}
 use Rattle.std.specs.Str.{IsCharBoundary, IsUtf8}
-use Rattle.yq_scalar.specs.Answers.{◌>>=◌}
 use Rattle.yq_scalar.specs.Characters.{text_limit}
 use Rattle.yq_scalar.specs.Keys.{depth, keys_of}
-use Rattle.yq_scalar.specs.Paths.{Step, append_child, change, node_at, within}
+use Rattle.yq_scalar.specs.Paths.{Step, append_child, node_at}
 use Rattle.yq_scalar.specs.Tree as tree
 use Rattle.yq_scalar.specs.Tree.{children_of}
 use Rattle.yq_scalar.proofs.Bools.{bind_some}
 use Rattle.yq_inline.specs.Collections.{CollAt, CollPieces, IsCollAt, room_in}
-use Rattle.yq_inline.specs.FlowEdits.{FlowEdit, IsEdited, add_last, appending, appending_first, appending_last, behind_appended, behind_last, is_none}
+use Rattle.yq_inline.specs.FlowEdits.{FlowEdit, add_last, appending, appending_first, appending_last, behind_appended, behind_last, is_none}
 use Rattle.yq_inline.specs.FlowPlaces.{PlacedEdit, append_at, append_place, last_end, place_edit}
 use Rattle.yq_inline.specs.Nodes.{Key, Node, Items, none, item, key_text, node_text, open_of}
 use Rattle.yq_inline.specs.Places.{Placed, placed, nothing, name, text, sequence, mapping, Parts, end, part, locate}
@@ -36,7 +35,7 @@ use Rattle.yq_change.proofs.SoundRootLaws.{append_keeps}
 use Rattle.yq_expr.specs.Fits.{Fits, Takes}
 use Rattle.yq_expr.specs.Operations.{Operation, replace, append, remove, line_comment, head_comment}
 use Rattle.yq_expr.specs.Rooms.{room_of}
-use Rattle.yq_splice.specs.FlowWays.{appended_at, flow_append_way, flow_segments, takes_key}
+use Rattle.yq_splice.specs.FlowWays.{flow_append_way, flow_segments, takes_key}
 use Rattle.yq_splice.specs.Operands.{HasOperand, KeyIsUtf8}
 use Rattle.yq_splice.specs.Script.{Segment, old_text, new_text}
 use Rattle.yq_splice.specs.Ways.{IsWay, ReadsAfter}

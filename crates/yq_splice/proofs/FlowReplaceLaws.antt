@@ -1,6 +1,6 @@
 -- The content of an item or entry of a flow collection gives way to a value.
 use Rattle.std.proofs.Common.{◌≡◌, ℕ, ◌-◌, ◌≤◌, Bool, true, false, List, [], ◌∷◌, ◌++◌, length, Option, Some, None, refl, sym, ap, ◌∙◌, subst, arith, ◌+◌, append-nil, length-append}
-use Rattle.std.proofs.lemmas.Bool.{cond_both, false≢true}
+use Rattle.std.proofs.lemmas.Bool.{cond_both}
 use Rattle.std.specs.Str.{IsCharBoundary}
 use Rattle.yq_scalar.specs.Answers.{◌>>=◌}
 use Rattle.yq_scalar.specs.Characters.{text_limit}

@@ -1,5 +1,5 @@
 -- Where something is written in a flow collection, no CR stands before an LF.
-use Rattle.std.proofs.Common.{◌≡◌, ℕ, Bool, true, false, not, ◌||◌, ◌&&◌, cond, eqb, List, [], ◌∷◌, ◌++◌, Some, refl, sym, ap, ◌∙◌, subst, append_assoc}
+use Rattle.std.proofs.Common.{◌≡◌, ℕ, Bool, true, false, not, ◌&&◌, cond, eqb, List, [], ◌∷◌, ◌++◌, Some, refl, sym, ap, ◌∙◌, subst, append_assoc}
 use Rattle.std.proofs.lemmas.Bool.{false≢true}
 use Rattle.yq_scalar.specs.Paths.{Step, is_here, further}
 use Rattle.yq_scalar.specs.Text.{front, is_feed}
@@ -7,7 +7,7 @@ use Rattle.yq_inline.specs.Alike.{EndsItem}
 use Rattle.yq_inline.specs.Collections.{CollAt, IsCollAt, item_in}
 use Rattle.yq_inline.specs.Entries.{EntryPieces, item_at, pieces_text}
 use Rattle.yq_inline.specs.FlowEdits.{FitsItem, behind_appended, behind_last, content_node, is_none}
-use Rattle.yq_inline.specs.Nodes.{Key, bare, Node, empty, alias, scalar, coll, anchored, Items, none, item, key_text, sep_text, node_text, items_text, is_close, is_bare, AreItems, IsNode, open_of}
+use Rattle.yq_inline.specs.Nodes.{bare, Node, empty, alias, scalar, coll, anchored, Items, none, item, key_text, sep_text, node_text, items_text, is_close, is_bare, AreItems, IsNode, open_of}
 use Rattle.yq_inline.specs.Removals.{ends_return}
 use Rattle.yq_inline.specs.Trees.{inner, key_content}
 use Rattle.yq_inline.proofs.Binds.{some_same}

@@ -70,5 +70,7 @@ returns c =
     let takes = ap (placed_takes q) (sym c.as_deref.ensures.value) ∙ (sym c.takes.ensures ∙ c.if-not-takes.false) in
     let h = append_found t c.in-Append.path.doc steps key (node_of c.in-Append.value) q (edit_view c.in-Some-append_place.place) finds takes c.in-Some-append_place.ensures in
     let written = c.deref-2.ensures ∙ (c.in_ok-new.ensures ∙ ap (λ (k : Option (List ℕ)). key_text (flow_key k) (flow_text (node_of c.in-Append.value))) c.as_deref-2.ensures.value) in
-    let segments = λ i. Some (edit_segments (sym c.text-text.ensures.text i) (edit_view c.in-Some-append_place.place) (sym written i)) in
+    let place = edit_view c.in-Some-append_place.place in
+    let there = ap (λ (x : List ℕ). Some (edit_segments x place (key_text (flow_key key) (flow_text (node_of c.in-Append.value))))) (sym c.text-text.ensures.text) in
+    let segments = there ∙ ap (λ (x : List ℕ). Some (edit_segments c.text-text.result.now place x)) (sym written) in
     rw c.in-Append.is (subst (Carries c.edit_at.result) (sym (h.is ∙ segments)) c.edit_at.ensures)

@@ -161,5 +161,7 @@ returns c =
     let kept = ap (λ (m : Option Node). is_kept m v) (sym (node_located c.in-Replace.path t) ∙ sym c.locate.ensures.node) ∙ (sym c.is_kept.ensures ∙ c.if-is_kept.false) in
     let old = c.text_at.ensures ∙ ap (λ (x : List ℕ). drop c.replace_place-place.result.start (take c.replace_place-place.result.end x)) c.text-text.ensures.text in
     let written = c.deref-2.ensures ∙ (c.in_ok-new.ensures ∙ ap (λ (x : List ℕ). value_text x v) old) in
-    let segments = λ i. Some (edit_segments (sym c.text-text.ensures.text i) (edit_view c.replace_place-place.result) (sym written i)) in
+    let place = edit_view c.replace_place-place.result in
+    let there = ap (λ (x : List ℕ). Some (edit_segments x place (value_text (drop c.replace_place-place.result.start (take c.replace_place-place.result.end t)) v))) (sym c.text-text.ensures.text) in
+    let segments = there ∙ ap (λ (x : List ℕ). Some (edit_segments c.text-text.result.now place x)) (sym written) in
     rw c.in-Replace.is (subst (Carries c.edit_at.result) (sym (h.is kept ∙ segments)) c.edit_at.ensures)
