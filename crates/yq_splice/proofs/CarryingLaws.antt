@@ -3,10 +3,10 @@ use Rattle.std.proofs.Common.{◌≡◌, List, Option, Some, None}
 use Rattle.yq_rows.specs.Rows.{cut_text}
 use Rattle.yq_splice.specs.AppendWay.{append_way}
 use Rattle.yq_splice.specs.BlockWriting.{replace_block_way}
-use Rattle.yq_splice.specs.Carried.{comment_ways, remove_ways, entry_ways, replace_ways, string_ways, scalar_ways, leaf_ways, collection_ways, exchange_ways, node_ways, tree_ways, sole_ways, content_ways, carrying}
+use Rattle.yq_splice.specs.Carried.{comment_ways, remove_ways, entry_ways, replace_ways, string_ways, scalar_ways, leaf_ways, collection_ways, exchange_ways, node_ways, flow_entry_ways, flow_ways, tree_ways, sole_ways, content_ways, carrying}
 use Rattle.yq_splice.specs.CollectionReplacing.{replace_collection_way}
 use Rattle.yq_splice.specs.CommentWays.{line_comment_way, head_comment_way}
-use Rattle.yq_splice.specs.FlowWays.{flow_remove_way}
+use Rattle.yq_splice.specs.FlowWays.{flow_append_way, flow_replace_way, flow_remove_way}
 use Rattle.yq_splice.specs.Removing.{remove_way}
 use Rattle.yq_splice.specs.RemovingFirst.{remove_first_way}
 use Rattle.yq_splice.specs.Replacing.{replace_way}
@@ -19,7 +19,9 @@ use Rattle.yq_splice.specs.Ways.{Way, ReadsAfter, IsWay, first_some, or_else}
 use Rattle.yq_splice.proofs.AppendWayLaws.{append_is}
 use Rattle.yq_splice.proofs.BlockWritingLaws.{replace_block_is}
 use Rattle.yq_splice.proofs.CollectionReplaceLaws.{replace_collection_is}
+use Rattle.yq_splice.proofs.FlowAppendLaws.{flow_append_is}
 use Rattle.yq_splice.proofs.FlowRemoveLaws.{flow_remove_is}
+use Rattle.yq_splice.proofs.FlowReplaceLaws.{flow_replace_is}
 use Rattle.yq_splice.proofs.HeadCommentLaws.{head_comment_is_way}
 use Rattle.yq_splice.proofs.LineCommentLaws.{line_comment_is_way}
 use Rattle.yq_splice.proofs.RemovingFirstLaws.{remove_first_is}
@@ -83,9 +85,17 @@ nodes_are : IsWay node_ways
 unfolding node_ways
 nodes_are = either_is exchange_ways entry_ways exchanged_are entries_are
 
+flow_entries_are : IsWay flow_entry_ways
+unfolding flow_entry_ways
+flow_entries_are = either_is flow_append_way flow_remove_way flow_append_is flow_remove_is
+
+flows_are : IsWay flow_ways
+unfolding flow_ways
+flows_are = either_is flow_replace_way flow_entry_ways flow_replace_is flow_entries_are
+
 trees_are : IsWay tree_ways
 unfolding tree_ways
-trees_are = either_is node_ways flow_remove_way nodes_are flow_remove_is
+trees_are = either_is node_ways flow_ways nodes_are flows_are
 
 sole_are : IsWay sole_ways
 unfolding sole_ways

@@ -60,7 +60,7 @@ segments_at t before e is =
     let behind : drop m t ≡ e.behind = (λ i. drop (end_ i) (whole i)) ∙ drop-append_seam (before ++ e.old) e.behind in
     λ i. keep (take n t) ∷ (put (old i) e.lead ∷ (put [] e.written ∷ (keep (behind i) ∷ [])))
 
-edit_order : (t : List ℕ) (e : FlowEdit) → (place_edit (length t) e).start ≤ (place_edit (length t) e).end
+pub edit_order : (t : List ℕ) (e : FlowEdit) → (place_edit (length t) e).start ≤ (place_edit (length t) e).end
 edit_order t e = omega (arith, length-append e.old e.behind)
 
 -- ---- the collection

@@ -78,6 +78,9 @@ unfolding chars pairs_returns
 ascii_piece b (inl e) = subst (λ (x : ℕ). IsPiece (x ∷ [])) (sym e) (record { utf8 = IsUtf8-from_ascii (32 ∷ []) (IsAscii-cons 32 [] (omega arith) IsAscii-nil); characters = refl })
 ascii_piece b (inr e) = subst (λ (x : ℕ). IsPiece (x ∷ [])) (sym e) (record { utf8 = IsUtf8-from_ascii (44 ∷ []) (IsAscii-cons 44 [] (omega arith) IsAscii-nil); characters = refl })
 
+pub one_space : IsPiece (32 ∷ [])
+one_space = ascii_piece 32 (inl refl)
+
 pub nothing_piece : IsPiece []
 unfolding chars pairs_returns
 nothing_piece = record { utf8 = IsUtf8-nil; characters = refl }
@@ -99,7 +102,7 @@ empty_piece k c = go (or_cases (eqb k 93) (eqb k 125) c)
     go (inr e) = subst (λ (x : ℕ). IsPiece (open_of x ∷ (x ∷ []))) (sym (eqb-true k 125 e)) map_piece
 
 space_piece : (g t : List ℕ) → IsPiece (space_to g t)
-space_piece g t = cond_both (fresh false g && begins_marker t) (32 ∷ []) [] IsPiece (λ _. ascii_piece 32 (inl refl)) (λ _. nothing_piece)
+space_piece g t = cond_both (fresh false g && begins_marker t) (32 ∷ []) [] IsPiece (λ _. one_space) (λ _. nothing_piece)
 
 before_piece : (k : ℕ) (rest : List ℕ) (s : Step) (g : List ℕ) (is : Items) → IsPiece (removed_for k rest s g is)
 before_piece k rest s g none = nothing_piece

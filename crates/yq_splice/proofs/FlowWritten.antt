@@ -31,7 +31,7 @@ key_apart_by k false h e =
     let merge : codes "<<" ≡ 60 ∷ 60 ∷ [] = refl in
     false≢true (sym (ap (Rattle.yq_scalar.specs.Text.front (λ b. eqb b 34)) (e ∙ merge)))
 
-key_fits : (k : Option (List ℕ)) → is_long k ≡ false → HasFitKey (flow_key k)
+pub key_fits : (k : Option (List ℕ)) → is_long k ≡ false → HasFitKey (flow_key k)
 unfolding scalar_text
 key_fits None h = tt
 key_fits (Some k) h = (key_apart_by k (can_write_plain (string_of k) true) refl, ltb-false _ _ h)

@@ -34,6 +34,7 @@ pub mod FitLaws
 pub mod PlaceReadable
 pub mod ValueNodes
 pub mod SamePlaceLaws
+pub mod KeptLaws
 pub mod ReplaceLaws
 pub mod AppendEntryLaws
 pub mod AppendTakers
@@ -45,7 +46,13 @@ pub mod FlowWayLaws
 pub mod FlowSoundLaws
 pub mod FlowPieceLaws
 pub mod FlowRemoveLaws
+pub mod FlowStandings
+pub mod FlowWholeLaws
+pub mod FlowReplaceLaws
+pub mod FlowAppendLaws
 pub mod FlowAnswers
+pub mod FlowReplaceAnswers
+pub mod FlowAppendAnswers
 pub mod BrokenTails
 pub mod MarkRowLaws
 pub mod MarkFacts

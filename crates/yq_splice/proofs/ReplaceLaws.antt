@@ -1,5 +1,5 @@
 -- Replacing inline nodes by inline nodes is a way.
-use Rattle.std.proofs.Common.{◌≡◌, ℕ, ◌≤◌, eqb, cond, List, [], ◌∷◌, ◌++◌, length, Option, Some, None, Bool, true, false, refl, sym, ap, ◌∙◌, subst, arith, append-nil}
+use Rattle.std.proofs.Common.{◌≡◌, ℕ, ◌≤◌, eqb, cond, List, [], ◌++◌, length, Option, Some, None, Bool, true, false, refl, sym, ap, ◌∙◌, subst, arith, append-nil}
 use Rattle.std.proofs.lemmas.Bool.{false≢true}
 use Rattle.std.specs.List.{slice_get}
 use Rattle.std.specs.Str.{is_utf8}
@@ -12,6 +12,7 @@ use Rattle.yq_scalar.specs.Text.{front}
 use Rattle.yq_scalar.specs.Tree as tree
 use Rattle.yq_scalar.specs.Tree.{Node, Children}
 use Rattle.yq_scalar.specs.Written.{written, IsInline}
+use Rattle.yq_scalar.specs.declared.style.Place.TheVariants.{Block}
 use Rattle.yq_scalar.specs.declared.style.Style.{Style}
 use Rattle.yq_scalar.specs.declared.style.Style.TheVariants as styles
 use Rattle.yq_scalar.proofs.Bools.{bind_some, guard_then}
@@ -27,11 +28,10 @@ use Rattle.yq_tree.specs.InlinePlaces.{InlinePlace, written_text, apart_from, in
 use Rattle.yq_tree.specs.PathPieces.{printed_document}
 use Rattle.yq_tree.specs.Reading as reading
 use Rattle.yq_tree.specs.Reading.{documents, read_at, root_of}
-use Rattle.yq_tree.specs.TreeEdits.{led, replaced}
+use Rattle.yq_tree.specs.TreeEdits.{replaced}
 use Rattle.yq_tree.proofs.PrintedLaws.{document_is}
 use Rattle.yq_tree.proofs.PrintedTexts.{map_some}
 use Rattle.yq_tree.proofs.ReadLaws.{text_takes}
-use Rattle.yq_change.specs.Changed.{changed, IsChanged, put_document}
 use Rattle.yq_change.specs.DocumentRows.{IsDocumentPart}
 use Rattle.yq_change.specs.InlineRows.{IsValueNode, place_text, IsInlineReplaced}
 use Rattle.yq_change.specs.Rooms.{is_block_root}
@@ -44,7 +44,6 @@ use Rattle.yq_expr.specs.Fits.{Fits}
 use Rattle.yq_expr.specs.Operations.{Operation, replace, append, remove, line_comment, head_comment}
 use Rattle.yq_expr.specs.Rooms.{room_of}
 use Rattle.yq_lines.specs.Anchors.{names_of}
-use Rattle.yq_lines.specs.Outline.{first_anchor}
 use Rattle.yq_splice.specs.Operands.{HasOperand}
 use Rattle.yq_splice.specs.Replacing.{node_in, scalar_in, are_same, is_kept, flow_written, value_written, replace_at, replace_way}
 use Rattle.yq_splice.specs.Script.{Segment, old_text, new_text}
@@ -52,10 +51,9 @@ use Rattle.yq_splice.specs.Style.{new_style}
 use Rattle.yq_splice.specs.Ways.{IsWay, ReadsAfter}
 use Rattle.yq_splice.proofs.DoneLaws.{nth_map, document_done}
 use Rattle.yq_splice.proofs.FitLaws.{new_value, inside_spared, tree_unique}
+use Rattle.yq_splice.proofs.KeptLaws.{led_same, kept_reads}
 use Rattle.yq_splice.proofs.PlaceReadable.{place_readable}
 use Rattle.yq_splice.proofs.ReplaceTexts.{place_whole, segments_old, segments_new}
-use Rattle.yq_splice.proofs.SameLaws.{same_is}
-use Rattle.yq_splice.proofs.SamePlaceLaws.{put_own, nth_own, change_own}
 use Rattle.yq_splice.proofs.StyleLaws.{style_writes, style_inline}
 use Rattle.yq_splice.proofs.ValueNodes.{scalar_is, list_is, map_is, flow_piece}
 
@@ -74,7 +72,7 @@ pub record IsWrittenFor (v : Node) (t : List ℕ) : Type 0 where
   pub text : node_text node [] ≡ t
   pub piece : IsPiece t
 
-style_line : (p : List ℕ) → IsInline (style_of p)
+pub style_line : (p : List ℕ) → IsInline (style_of p)
 style_line p = go (front (λ b. eqb b 39) p) (front (λ b. eqb b 34) p)
   where
     go : (a b : Bool) → IsInline (cond a styles.Single (cond b styles.Double styles.Plain))
@@ -82,7 +80,7 @@ style_line p = go (front (λ b. eqb b 39) p) (front (λ b. eqb b 34) p)
     go false true = tt
     go false false = tt
 
-pub scalar_for : (a : Option (List ℕ)) (s : ScalarText) (style : Style) → IsValueTree (tree.scalar a s.kind s.text) → IsInline style → Rattle.yq_scalar.specs.Writable.can_write s style Rattle.yq_scalar.specs.declared.style.Place.TheVariants.Block ≡ true →
+pub scalar_for : (a : Option (List ℕ)) (s : ScalarText) (style : Style) → IsValueTree (tree.scalar a s.kind s.text) → IsInline style → Rattle.yq_scalar.specs.Writable.can_write s style Block ≡ true →
     IsWrittenFor (tree.scalar a s.kind s.text) (written style s.text)
 unfolding node_text
 scalar_for a s style h i can =
@@ -98,45 +96,11 @@ pub written_for : (alone : Bool) (old : List ℕ) (v : Node) (t : List ℕ) → 
 written_for alone old (tree.alias name) t h deep long e = absurd h
 written_for alone old (tree.scalar a kind text) t h deep long e =
     let s : ScalarText = record { kind = kind; text = text } in
-    subst (IsWrittenFor (tree.scalar a kind text)) (some_same e) (scalar_for a s (new_style s (style_of old)) h (style_inline s (style_of old) (style_line old)) (style_writes s (style_of old)))
+    subst (IsWrittenFor (tree.scalar a kind text)) (some_same e) (scalar_for a s (new_style s (style_of old)) h (style_inline Block s (style_of old) (style_line old)) (style_writes Block s (style_of old)))
 written_for alone old (tree.list a cs) t h deep long e =
     flow_for alone cs (tree.list a cs) t (record { node = flow_of (tree.list a cs); is = list_is a cs h deep long; text = refl; piece = flow_piece (tree.list a cs) h }) e
 written_for alone old (tree.map a cs) t h deep long e =
     flow_for alone cs (tree.map a cs) t (record { node = flow_of (tree.map a cs); is = map_is a cs h deep long; text = refl; piece = flow_piece (tree.map a cs) h }) e
-
--- ---- the node that is there
-
-pub same_node : (n v : Node) → IsValueTree v → are_same (scalar_in n) (scalar_in v) ≡ true → replaced v n ≡ n
-same_node (tree.alias name) v h e = absurd (false≢true e)
-same_node (tree.list a cs) v h e = absurd (false≢true e)
-same_node (tree.map a cs) v h e = absurd (false≢true e)
-same_node (tree.scalar a kind t) (tree.alias name) h e = absurd (false≢true e)
-same_node (tree.scalar a kind t) (tree.list b cs) h e = absurd (false≢true e)
-same_node (tree.scalar a kind t) (tree.map b cs) h e = absurd (false≢true e)
-same_node (tree.scalar a kind t) (tree.scalar b other u) h e =
-    let same : record { kind = kind; text = t } ≡ record { kind = other; text = u } = same_is (record { kind = kind; text = t }) (record { kind = other; text = u }) e in
-    (λ i. tree.scalar (first_anchor a (h.0 i)) (sym same i).kind (sym same i).text) ∙ ap (λ x. tree.scalar x kind t) (first a)
-  where
-    first : (a : Option (List ℕ)) → first_anchor a None ≡ a
-    first None = refl
-    first (Some x) = refl
-
-led_same : (block : Bool) (lead : List (List ℕ)) (steps : List Step) (v : Node) → (steps ≡ [] → block ≡ false) → led block lead steps v ≡ v
-led_same true lead [] v h = absurd (false≢true (sym (h refl)))
-led_same false lead [] v h = refl
-led_same true lead (s ∷ path) v h = refl
-led_same false lead (s ∷ path) v h = refl
-
-led_scalar : (o : Option ScalarText) (block : Bool) (lead : List (List ℕ)) (steps : List Step) (v : Node) → are_same o (scalar_in v) ≡ true → led block lead steps v ≡ v
-led_scalar o true lead [] (tree.alias name) e = refl
-led_scalar o true lead [] (tree.scalar a kind t) e = refl
-led_scalar None true lead [] (tree.list a cs) e = absurd (false≢true e)
-led_scalar (Some s) true lead [] (tree.list a cs) e = absurd (false≢true e)
-led_scalar None true lead [] (tree.map a cs) e = absurd (false≢true e)
-led_scalar (Some s) true lead [] (tree.map a cs) e = absurd (false≢true e)
-led_scalar o false lead [] v e = refl
-led_scalar o true lead (s ∷ path) v e = refl
-led_scalar o false lead (s ∷ path) v e = refl
 
 -- ---- the way at a place
 
@@ -183,28 +147,6 @@ module _ (doc : ℕ) (steps : List Step) (v : Node) (c : Cut) (w : InlinePlace) 
           seats = λ sets. absurd sets;
         }))
 
-    -- the scalar that is there
-    kept_reads : are_same (scalar_in n) (scalar_in v) ≡ true → ReadsAfter op c (cut_text c)
-    kept_reads e =
-        let own : change steps (replaced v) (root_of p) ≡ root_of p = change_own steps (replaced v) (root_of p) n there (same_node n v h e) in
-        let same : put_document doc p c ≡ c = put_own _ doc c p document.1 in
-        let stays : changed (lead_of p) (change steps (replaced v)) (reading.document_of p) ≡ reading.document_of p = (λ i. record { lead = lead_of p; root = own i }) in
-        let kept : IsChanged c (put_document doc p c) doc (lead_of p) (change steps (replaced v)) = record {
-          read = subst (λ x. read_at (cut_text x) ≡ Some x) (sym same) read;
-          documents_are = ap documents same ∙ sym (nth_own doc (reading.document_of p) (changed (lead_of p) (change steps (replaced v))) (documents c) (nth_map doc p reading.document_of (document_parts c) document.1) stays);
-        } in
-        subst (ReadsAfter op c) (ap cut_text same)
-        (document_done op c p p (lead_of p) (change steps (replaced v)) (record {
-          read = read;
-          there = document.1;
-          rows = λ none. none;
-          changed = kept;
-          root = ap (λ m. change steps (replaced m) (root_of p)) (sym (led_scalar (scalar_in n) (is_block_root p) (lead_of p) steps v e));
-          lead_goes = same_lead_goes p p refl refl;
-          block = λ keeps. refl;
-          seats = λ sets. absurd sets;
-        }))
-
 -- ---- the way
 
 place_old : (kept : Bool) (v : Node) (w : InlinePlace) (ss : List Segment) → replace_at kept v w ≡ Some ss → old_text ss ≡ w.before ++ (written_text w.old ++ w.behind)
@@ -239,7 +181,8 @@ replace_reads doc steps v c ss read is h fits size =
         (b : Bool) → are_same (scalar_in n) (scalar_in v) ≡ b → replace_at b v w ≡ Some ss → HasUniqueKeys v → has_long_key v ≡ false → is_deep (length steps) v ≡ false → ReadsAfter (replace doc steps v) c (new_text ss)
     go w at n there used true kept e unique long deep =
         let text : cut_text c ≡ new_text ss = sym (ap new_text (sym (some_same e)) ∙ (segments_old w (written_text w.old) (written_text w.old) ∙ place_whole c doc steps w read at)) in
-        subst (ReadsAfter (replace doc steps v) c) text (kept_reads doc steps v c w read at h n there kept)
+        let part = document doc steps v c w read at in
+        subst (ReadsAfter (replace doc steps v) c) text (kept_reads doc steps v c part.0 read part.1 n h there kept)
     go w at n there used false kept e unique long deep =
         let m = map_some (value_written w.alone (written_text w.old) v) e in
         let text : place_text w m.0 ≡ new_text ss = sym (ap new_text (sym m.2) ∙ segments_new w m.0) in

@@ -71,7 +71,8 @@ use Rattle.yq_splice.specs.Ways.{IsWay, ReadsAfter}
 use Rattle.yq_splice.proofs.BrokenTails.{broken_tail, broken_comment}
 use Rattle.yq_splice.proofs.DoneLaws.{nth_map, document_done}
 use Rattle.yq_splice.proofs.FitLaws.{new_value, inside_spared, tree_unique}
-use Rattle.yq_splice.proofs.ReplaceLaws.{IsWrittenFor, scalar_for, written_for, same_node}
+use Rattle.yq_splice.proofs.KeptLaws.{same_node}
+use Rattle.yq_splice.proofs.ReplaceLaws.{IsWrittenFor, scalar_for, written_for}
 use Rattle.yq_splice.proofs.SamePlaceLaws.{put_own, nth_own, change_own}
 use Rattle.yq_splice.proofs.ScalarRowLaws.{HasScalar, scalar_has, p, front, r, back, beyond, rest, rows_there, entry, near, valid, TakesScalar, part_with, text_with, scalar_reads}
 use Rattle.yq_splice.proofs.ScalarTextLaws.{base, there, there_is, row_is, front_text, old_is, tail, break_of, header_is, final_there, lines_are, head_is_piece, end_piece, rest_piece, final_piece, tail_pairs}

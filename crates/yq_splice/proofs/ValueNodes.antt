@@ -89,7 +89,7 @@ colon_piece : IsPiece (58 ∷ 32 ∷ [])
 unfolding chars pairs_returns encode
 colon_piece = record { utf8 = (58 ∷ 32 ∷ [], (refl, refl)); characters = refl }
 
-comma_piece : IsPiece (44 ∷ 32 ∷ [])
+pub comma_piece : IsPiece (44 ∷ 32 ∷ [])
 unfolding chars pairs_returns encode
 comma_piece = record { utf8 = (44 ∷ 32 ∷ [], (refl, refl)); characters = refl }
 
@@ -121,7 +121,7 @@ key_scalar : (k : List ℕ) → IsUtf8 k → IsPiece (scalar_text (string_of k) 
 unfolding scalar_text
 key_scalar k u = written_piece (string_of k) (can_write_plain (string_of k) true) refl (record { kind = tt; utf8 = u })
 
-key_piece : (keyed : Bool) (label : tree.Label) (t : List ℕ) → IsLabel keyed label → IsPiece t → IsPiece (key_text (flow_key label.key) t)
+pub key_piece : (keyed : Bool) (label : tree.Label) (t : List ℕ) → IsLabel keyed label → IsPiece t → IsPiece (key_text (flow_key label.key) t)
 key_piece true label t h p =
     subst (λ (l : tree.Label). IsPiece (key_text (flow_key l.key) t)) (sym h.1)
     (pieces_joined (scalar_text (string_of h.0) places.FlowKey) (58 ∷ 32 ∷ t) (key_scalar h.0 h.2) (pieces_joined (58 ∷ 32 ∷ []) t colon_piece p))

@@ -14,7 +14,7 @@ use Rattle.yq_splice.specs.BlockWriting.{replace_block_way}
 use Rattle.yq_splice.specs.CollectionReplacing.{replace_collection_way}
 use Rattle.yq_splice.specs.CommentWays.{line_comment_way, head_comment_way}
 use Rattle.yq_splice.specs.Edit.{Edit, refuses, unbuilt, in_order, by_reading, edit_of_segments}
-use Rattle.yq_splice.specs.FlowWays.{flow_remove_way}
+use Rattle.yq_splice.specs.FlowWays.{flow_append_way, flow_replace_way, flow_remove_way}
 use Rattle.yq_splice.specs.Removing.{remove_way}
 use Rattle.yq_splice.specs.RemovingFirst.{remove_first_way}
 use Rattle.yq_splice.specs.Replacing.{replace_way}
@@ -65,15 +65,23 @@ exchange_ways = or_else leaf_ways collection_ways
 unfoldable pub node_ways : Way
 node_ways = or_else exchange_ways entry_ways
 
--- the same, also in flow collections (own)
+-- the ways to put items and entries into flow collections, and to take them out (own)
+unfoldable pub flow_entry_ways : Way
+flow_entry_ways = or_else flow_append_way flow_remove_way
+
+-- the ways to change flow collections (own)
+unfoldable pub flow_ways : Way
+flow_ways = or_else flow_replace_way flow_entry_ways
+
+-- the ways to change nodes, block collections and flow collections (own)
 unfoldable pub tree_ways : Way
-tree_ways = or_else node_ways flow_remove_way
+tree_ways = or_else node_ways flow_ways
 
 -- the ways to take a sole item or entry out of a collection (own)
 unfoldable pub sole_ways : Way
 sole_ways = sole_by exchange_ways
 
--- the ways to replace nodes, and to change collections (own)
+-- the same, also for what takes a sole item or entry out (own)
 unfoldable pub content_ways : Way
 content_ways = or_else tree_ways sole_ways
 

@@ -5,6 +5,7 @@ use Rattle.yq_scalar.specs.declared.kind.Kind.{Kind}
 use Rattle.yq_scalar.specs.declared.kind.Kind.TheVariants as kinds
 use Rattle.yq_scalar.specs.Scalar.{ScalarText}
 use Rattle.yq_scalar.specs.Writable.{can_write}
+use Rattle.yq_scalar.specs.declared.style.Place.{Place}
 use Rattle.yq_scalar.specs.declared.style.Place.TheVariants.{Block}
 use Rattle.yq_scalar.specs.declared.style.Style.{Style}
 use Rattle.yq_scalar.specs.declared.style.Style.TheVariants.{Plain, Double}
@@ -21,6 +22,10 @@ table_row kinds.Text = 4
 abbrev pub is_same : ScalarText → ScalarText → Bool
 is_same a b = table_row a.kind == table_row b.kind && bytes_eq a.text b.text
 
--- the style in which a scalar is written in the place of one of a style: in that style if it can be, else plain if it can be, else in double quotes (own)
+-- the style in which a scalar is written in a place that has one of a style: in that style if it can be, else plain if it can be, else in double quotes (own)
+abbrev pub style_in : Place → ScalarText → Style → Style
+style_in place s old = if can_write s old place then old else (if can_write s Plain place then Plain else Double)
+
+-- the same outside flow collections (own)
 abbrev pub new_style : ScalarText → Style → Style
-new_style s old = if can_write s old Block then old else (if can_write s Plain Block then Plain else Double)
+new_style s old = style_in Block s old

@@ -2,7 +2,6 @@
 ghost use Rattle.std.specs.Prelude.{◌≡◌, true};
 ghost use Rattle.yq_scalar.specs.Writable as writable;
 ghost use Rattle.yq_scalar.specs.Written.{IsInline};
-ghost use Rattle.yq_scalar.specs.declared.style.Place.TheVariants as places;
 ghost use Rattle.yq_inline.specs.Valued.{IsValid};
 ghost use Rattle.yq_splice.specs.Style as spec;
 
@@ -17,16 +16,16 @@ pub(crate) fn is_same(kind: Kind, text: &str, scalar: &Scalar) -> bool
     kind == scalar.kind() && text == other
 }
 
-/// The style in which a scalar is written in the place of one of a style.
-pub(crate) fn new_style(scalar: &Scalar, old: Style) -> Style
+/// The style in which a scalar is written in a place that has one of a style.
+pub(crate) fn style_in(place: Place, scalar: &Scalar, old: Style) -> Style
     requires { IsInline old }
-    ensures value { result ≡ spec.new_style scalar.now old }
-    ensures can { writable.can_write scalar.now result places.Block ≡ true }
+    ensures value { result ≡ spec.style_in place scalar.now old }
+    ensures can { writable.can_write scalar.now result place ≡ true }
     ensures inline { IsInline result }
 {
-    if can_write(scalar, old, Place::Block) {
+    if can_write(scalar, old, place) {
         old
-    } else if can_write(scalar, Style::Plain, Place::Block) {
+    } else if can_write(scalar, Style::Plain, place) {
         Style::Plain
     } else {
         Style::Double

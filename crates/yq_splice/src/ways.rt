@@ -8,7 +8,10 @@ ghost use Rattle.yq_splice.specs.Ways.{IsWay};
 mod append;
 mod block_writing;
 mod collection_replacing;
+mod flow_append;
+mod flow_edit;
 mod flow_remove;
+mod flow_replace;
 mod head_comment;
 mod line_comment;
 mod removing;
@@ -24,7 +27,9 @@ use crate::edited::{EditError, Edited};
 use crate::ways::append::append_way;
 use crate::ways::block_writing::replace_block_way;
 use crate::ways::collection_replacing::replace_collection_way;
+use crate::ways::flow_append::flow_append_way;
 use crate::ways::flow_remove::flow_remove_way;
+use crate::ways::flow_replace::flow_replace_way;
 use crate::ways::head_comment::head_comment_way;
 use crate::ways::line_comment::line_comment_way;
 use crate::ways::removing::remove_way;
@@ -189,7 +194,37 @@ fn by_node_ways(
     by_entry_ways(alloc, documents, op)
 }
 
-/// The same, also in a flow collection.
+/// An item or entry put into a flow collection or taken out of one by the way for it.
+#[tactic(auto, unfolding(crate::specs::Carried::flow_entry_ways), using(crate::proofs::WayLaws::first_way_carries, crate::proofs::WayLaws::second_way_carries))]
+fn by_flow_entry_ways(
+    alloc: Global,
+    documents: &Documents<'_>,
+    op: &Op,
+) -> Result<Option<Edited>, EditError>
+    ensures { Carries result (spec.flow_entry_ways (operation_of op.now) (cut_of documents.now)) }
+{
+    if let Some(edited) = flow_append_way(alloc, documents, op)? {
+        return Ok(Some(edited));
+    }
+    flow_remove_way(alloc, documents, op)
+}
+
+/// A flow collection changed by the way for it.
+#[tactic(auto, unfolding(crate::specs::Carried::flow_ways), using(crate::proofs::WayLaws::first_way_carries, crate::proofs::WayLaws::second_way_carries))]
+fn by_flow_ways(
+    alloc: Global,
+    documents: &Documents<'_>,
+    op: &Op,
+) -> Result<Option<Edited>, EditError>
+    ensures { Carries result (spec.flow_ways (operation_of op.now) (cut_of documents.now)) }
+{
+    if let Some(edited) = flow_replace_way(alloc, documents, op)? {
+        return Ok(Some(edited));
+    }
+    by_flow_entry_ways(alloc, documents, op)
+}
+
+/// A node replaced, or a collection changed, by the way for it.
 #[tactic(auto, unfolding(crate::specs::Carried::tree_ways), using(crate::proofs::WayLaws::first_way_carries, crate::proofs::WayLaws::second_way_carries))]
 fn by_tree_ways(
     alloc: Global,
@@ -201,7 +236,7 @@ fn by_tree_ways(
     if let Some(edited) = by_node_ways(alloc, documents, op)? {
         return Ok(Some(edited));
     }
-    flow_remove_way(alloc, documents, op)
+    by_flow_ways(alloc, documents, op)
 }
 
 /// A sole item or entry taken out by the way to put an empty collection in the place of its own.
@@ -218,7 +253,7 @@ fn by_sole_ways(
     by_exchange_ways(alloc, documents, &replace)
 }
 
-/// A node replaced, or a collection changed, by the way for it.
+/// The same, also for a sole item or entry taken out.
 #[tactic(auto, unfolding(crate::specs::Carried::content_ways), using(crate::proofs::WayLaws::first_way_carries, crate::proofs::WayLaws::second_way_carries))]
 fn by_content_ways(
     alloc: Global,

@@ -13,7 +13,7 @@ ghost use Rattle.yq_splice.specs.WayAnswers.{Carries};
 
 use crate::edited::{EditError, Edited};
 use crate::script::{Segment, exchange};
-use crate::style::{is_same, new_style};
+use crate::style::{is_same, style_in};
 use std::alloc::{AllocError, Global};
 use yq_expr::{Op, Value};
 use yq_inline::{style_of, write_inline};
@@ -21,7 +21,7 @@ use yq_scalar::{Place, write_scalar};
 use yq_tree::{Documents, InlinePlace, Node, NodeKind};
 
 /// Whether a value is a scalar equal to the node that is there, if one is.
-pub(crate) fn is_kept(node: Option<Node<'_, '_>>, value: &Value) -> bool
+pub(super) fn is_kept(node: Option<Node<'_, '_>>, value: &Value) -> bool
     ensures { result ≡ spec.is_kept (option_map node_of node.entry) (values.node_of value.now) }
 {
     let Some(node) = node else {
@@ -69,7 +69,7 @@ pub(crate) fn inline_written(
 {
     let is_inline = match value {
         Value::Scalar(scalar) => {
-            let style = new_style(scalar, style_of(old.as_bytes()));
+            let style = style_in(Place::Block, scalar, style_of(old.as_bytes()));
             return Ok(Some(write_scalar(alloc, scalar, style, Place::Block)?));
         }
         Value::List(items) => alone || items.is_empty(),

@@ -7,7 +7,7 @@ ghost use Rattle.yq_tree.specs.Nodes.{node_of};
 ghost use Rattle.yq_tree.specs.Reading.{cut_of};
 ghost use Rattle.yq_splice.specs.SoleRemoving as spec;
 
-use crate::ways::flow_remove::last_step;
+use crate::ways::flow_edit::last_step;
 use std::alloc::{AllocError, Global};
 use yq_expr::{Op, Value, copied_steps};
 use yq_tree::{Documents, Node, NodeKind, Path};

@@ -1,0 +1,194 @@
+-- Where something is written in a flow collection, no CR stands before an LF.
+use Rattle.std.proofs.Common.{◌≡◌, ℕ, Bool, true, false, not, ◌&&◌, cond, eqb, List, [], ◌∷◌, ◌++◌, Some, refl, sym, ap, ◌∙◌, subst, append_assoc}
+use Rattle.std.proofs.lemmas.Bool.{false≢true}
+use Rattle.yq_scalar.specs.Paths.{Step, is_here, further}
+use Rattle.yq_scalar.specs.Text.{front, is_feed}
+use Rattle.yq_inline.specs.Alike.{EndsItem}
+use Rattle.yq_inline.specs.Collections.{CollAt, IsCollAt, item_in}
+use Rattle.yq_inline.specs.Entries.{EntryPieces, item_at, pieces_text}
+use Rattle.yq_inline.specs.FlowEdits.{FitsItem, behind_appended, behind_last, content_node, is_none}
+use Rattle.yq_inline.specs.Nodes.{bare, Node, empty, alias, scalar, coll, anchored, Items, none, item, key_text, sep_text, node_text, items_text, is_close, is_bare, AreItems, IsNode, open_of}
+use Rattle.yq_inline.specs.Removals.{ends_return}
+use Rattle.yq_inline.specs.Trees.{inner, key_content}
+use Rattle.yq_inline.proofs.Binds.{some_same}
+use Rattle.yq_inline.proofs.EditLaws.{Around, around_is}
+use Rattle.yq_inline.proofs.EditWholes.{whole_front}
+use Rattle.yq_inline.proofs.ItemLaws.{item_begins, item_some}
+use Rattle.yq_inline.proofs.ItemSwaps.{item_cut}
+use Rattle.yq_inline.proofs.LocalLaws.{node_no_feed}
+use Rattle.yq_inline.proofs.NodeKeeps.{sep_ends}
+use Rattle.yq_inline.proofs.ReturnLaws.{Whole, item_return, return_some, whole_by}
+use Rattle.yq_inline.proofs.WrittenLaws.{key_append, node_then}
+
+-- An item or entry stands behind a text, and what ends it behind that.
+record Behind (d k : ℕ) (t : List ℕ) (y : EntryPieces) : Type 0 where
+  before : List ℕ
+  text : t ≡ before ++ pieces_text y
+  fits : FitsItem d k y.key y.node y.rest
+  ends : EndsItem k y.rest
+
+further_behind : (d k : ℕ) (t u front : List ℕ) (y : EntryPieces) → t ≡ front ++ u → Behind d k u y → Behind d k t y
+further_behind d k t u front y is h = record { before = front ++ h.before; text = is ∙ (ap (λ (l : List ℕ). front ++ l) h.text ∙ sym (append_assoc front h.before (pieces_text y))); fits = h.fits; ends = h.ends }
+
+item_behind : (d k : ℕ) (s : Step) (is : Items) (rest : List ℕ) (y : EntryPieces) → AreItems d k is rest → item_at k s is rest ≡ Some y → Behind d k (items_text k is rest) y
+unfolding items_text AreItems
+item_behind d k s none rest y a e = absurd (cc)
+item_behind d k s (item key n sep is) rest y a e = go (is_here s (inner (key_content key))) (λ again. item_behind d k (further s) is rest y a.4 again) e
+  where
+    tail : List ℕ
+    tail = items_text k is rest
+
+    own : EntryPieces
+    own = record { key = key; node = n; rest = sep_text sep tail }
+
+    first : Behind d k (key_text key (node_text n (sep_text sep tail))) own
+    first = record { before = []; text = refl; fits = record { key_is = a.0; some = a.1; is = a.2 }; ends = sep_ends k sep tail a.3 }
+
+    go : (b : Bool) → (item_at k (further s) is rest ≡ Some y → Behind d k tail y) → cond b (Some own) (item_at k (further s) is rest) ≡ Some y → Behind d k (key_text key (node_text n (sep_text sep tail))) y
+    go true again e = subst (Behind d k (key_text key (node_text n (sep_text sep tail)))) (some_same e) first
+    go false again e = further_behind d k (key_text key (node_text n (sep_text sep tail))) tail (key_text key (node_text n (sep_text sep []))) y (item_cut key n sep tail) (again e)
+
+-- the last one
+last_behind : (d k : ℕ) (is : Items) (rest : List ℕ) → is_none is ≡ false → AreItems d k is rest → (y : EntryPieces) × (y.rest ≡ behind_last k is rest) × Behind d k (items_text k is rest) y
+unfolding items_text AreItems
+last_behind d k none rest some a = absurd (false≢true (sym some))
+last_behind d k (item key n sep none) rest some a =
+    (record { key = key; node = n; rest = sep_text sep (k ∷ rest) }, refl, record { before = []; text = refl; fits = record { key_is = a.0; some = a.1; is = a.2 }; ends = sep_ends k sep (k ∷ rest) a.3 })
+last_behind d k (item key n sep (item key2 n2 sep2 is)) rest some a =
+    let more = last_behind d k (item key2 n2 sep2 is) rest refl a.4 in
+    let tail : List ℕ = items_text k (item key2 n2 sep2 is) rest in
+    (more.0, more.1, further_behind d k (key_text key (node_text n (sep_text sep tail))) tail (key_text key (node_text n (sep_text sep []))) more.0 (item_cut key n sep tail) more.2)
+
+-- Behind a text stands another one, and no CR before an LF.
+pub record StandsBefore (t behind : List ℕ) : Type 0 where
+  pub before : List ℕ
+  pub text : t ≡ before ++ behind
+  pub whole : Whole before behind
+
+-- what stands behind an item or entry
+rest_stands : (d k : ℕ) (t : List ℕ) (y : EntryPieces) → is_close k ≡ true → Behind d k t y → StandsBefore t y.rest
+rest_stands d k t y c h =
+    let own : List ℕ = key_text y.key (node_text y.node []) in
+    let cut : pieces_text y ≡ own ++ y.rest = ap (key_text y.key) (node_then y.node y.rest) ∙ key_append y.key (node_text y.node []) y.rest in
+    let ends : ends_return (h.before ++ own) ≡ ends_return own = return_some h.before own (item_some d k y.key y.node y.rest h.fits.key_is h.fits.some h.fits.is) in
+    record {
+      before = h.before ++ own;
+      text = h.text ∙ (ap (λ (l : List ℕ). h.before ++ l) cut ∙ sym (append_assoc h.before own y.rest));
+      whole = subst (λ (b : Bool). (b && front is_feed y.rest) ≡ false) (sym ends) (item_return k d y.key y.node y.rest c h.ends h.fits.key_is h.fits.is);
+    }
+
+-- its content, with what stands behind it
+content_split : (n : Node) (rest : List ℕ) → (p : List ℕ) × (node_text n rest ≡ p ++ node_text (content_node n) rest)
+unfolding node_text
+content_split empty rest = ([], refl)
+content_split (alias m) rest = ([], refl)
+content_split (scalar p) rest = ([], refl)
+content_split (coll k gap is) rest = ([], refl)
+content_split (anchored m gap node) rest = (38 ∷ (m ++ gap), ap (λ (l : List ℕ). 38 ∷ l) (sym (append_assoc m gap (node_text node rest))))
+
+-- before a content
+content_no_feed : (d : ℕ) (n : Node) (rest : List ℕ) → IsNode true (Some 0) d n rest → is_bare (content_node n) ≡ false → front is_feed (node_text (content_node n) [] ++ rest) ≡ false
+unfolding IsNode
+content_no_feed d n rest h some = ap (front is_feed) (sym (node_then (content_node n) rest)) ∙ go n h some
+  where
+    begins : (m : Node) → IsNode true (Some 0) d m rest → is_bare m ≡ false → front is_feed (node_text m rest) ≡ false
+    begins m h some = node_no_feed (node_text m rest) (item_begins d 93 bare m rest refl (ap not some) h)
+
+    go : (n : Node) → IsNode true (Some 0) d n rest → is_bare (content_node n) ≡ false → front is_feed (node_text (content_node n) rest) ≡ false
+    go empty h some = absurd (false≢true (sym some))
+    go (alias m) h some = begins (alias m) h some
+    go (scalar p) h some = begins (scalar p) h some
+    go (coll k gap is) h some = begins (coll k gap is) h some
+    go (anchored m gap node) h some = begins node h.4 some
+
+bare_written : (n : Node) → is_bare n ≡ true → node_text n [] ≡ []
+unfolding node_text
+bare_written empty e = refl
+bare_written (alias m) e = absurd (false≢true e)
+bare_written (scalar p) e = absurd (false≢true e)
+bare_written (coll k gap is) e = absurd (false≢true e)
+bare_written (anchored m gap node) e = absurd (false≢true e)
+
+none_there : (is : Items) → is_none is ≡ true → is ≡ none
+none_there none h = refl
+none_there (item key n sep is) h = absurd (false≢true h)
+
+none_text : (k : ℕ) (rest : List ℕ) → items_text k none rest ≡ k ∷ rest
+unfolding items_text
+none_text k rest = refl
+
+open_return : (k : ℕ) → ends_return (open_of k ∷ []) ≡ false
+open_return k = elim (eqb k 125) as (λ c. ends_return (cond c 123 91 ∷ []) ≡ false) [ true ↦ refl | false ↦ refl ]
+
+content_stands : (d k : ℕ) (t : List ℕ) (y : EntryPieces) → is_close k ≡ true → Behind d k t y → StandsBefore t (node_text (content_node y.node) [] ++ y.rest)
+content_stands d k t y c h = go (is_bare (content_node y.node)) refl
+  where
+    content : List ℕ
+    content = node_text (content_node y.node) [] ++ y.rest
+
+    go : (b : Bool) → is_bare (content_node y.node) ≡ b → StandsBefore t content
+    go true e = subst (StandsBefore t) (sym (ap (λ (l : List ℕ). l ++ y.rest) (bare_written (content_node y.node) e))) (rest_stands d k t y c h)
+    go false e =
+        let x = content_split y.node y.rest in
+        let pieces : pieces_text y ≡ key_text y.key x.0 ++ content =
+        ap (key_text y.key) (x.1 ∙ ap (λ (l : List ℕ). x.0 ++ l) (node_then (content_node y.node) y.rest)) ∙ key_append y.key x.0 content in
+        record {
+          before = h.before ++ key_text y.key x.0;
+          text = h.text ∙ (ap (λ (l : List ℕ). h.before ++ l) pieces ∙ sym (append_assoc h.before (key_text y.key x.0) content));
+          whole = whole_front (h.before ++ key_text y.key x.0) content (content_no_feed d y.node y.rest h.fits.is e);
+        }
+
+module _ (x : CollAt) (text : List ℕ) (h : IsCollAt x) where
+  abbrev pub t : List ℕ
+  t = text ++ node_text x.node x.rest
+
+  abbrev around : Around x
+  around = around_is x h
+
+  abbrev opened : List ℕ
+  opened = text ++ (around.before ++ (open_of x.coll.close ∷ x.coll.gap))
+
+  split : t ≡ opened ++ items_text x.coll.close x.coll.items x.coll.rest
+  split =
+      let items : List ℕ = items_text x.coll.close x.coll.items x.coll.rest in
+      ap (λ (l : List ℕ). text ++ l) (around.text ∙ sym (append_assoc around.before (open_of x.coll.close ∷ x.coll.gap) items)) ∙ sym (append_assoc text (around.before ++ (open_of x.coll.close ∷ x.coll.gap)) items)
+
+  in_text : (y : EntryPieces) → Behind around.inner_depth x.coll.close (items_text x.coll.close x.coll.items x.coll.rest) y → Behind around.inner_depth x.coll.close t y
+  in_text y b = further_behind around.inner_depth x.coll.close t (items_text x.coll.close x.coll.items x.coll.rest) opened y split b
+
+  -- the content of an item or entry
+  pub replaced_stands : (s : Step) (y : EntryPieces) → item_in s x ≡ Some y → StandsBefore t (node_text (content_node y.node) [] ++ y.rest)
+  replaced_stands s y found = content_stands around.inner_depth x.coll.close t y around.closes (in_text y (item_behind around.inner_depth x.coll.close s x.coll.items x.coll.rest y around.items found))
+
+  -- in an empty collection, the bracket and what stands behind it
+  pub bracket_stands : is_none x.coll.items ≡ true → (front' : List ℕ) × (t ≡ front' ++ (open_of x.coll.close ∷ (x.coll.gap ++ (x.coll.close ∷ x.coll.rest))))
+  bracket_stands e =
+      let k : ℕ = x.coll.close in
+      let inside : items_text k x.coll.items x.coll.rest ≡ k ∷ x.coll.rest = ap (λ (j : Items). items_text k j x.coll.rest) (none_there x.coll.items e) ∙ none_text k x.coll.rest in (
+        text ++ around.before,
+        ap (λ (l : List ℕ). text ++ l) (around.text ∙ ap (λ (l : List ℕ). around.before ++ (open_of k ∷ (x.coll.gap ++ l))) inside) ∙ sym (append_assoc text around.before (open_of k ∷ (x.coll.gap ++ (k ∷ x.coll.rest)))),
+      )
+
+  first_stands : is_none x.coll.items ≡ true → StandsBefore t (x.coll.gap ++ (x.coll.close ∷ x.coll.rest))
+  first_stands e =
+      let k : ℕ = x.coll.close in
+      let behind : List ℕ = x.coll.gap ++ (k ∷ x.coll.rest) in
+      let b = bracket_stands e in
+      record {
+        before = b.0 ++ (open_of k ∷ []);
+        text = b.1 ∙ sym (append_assoc b.0 (open_of k ∷ []) behind);
+        whole = whole_by (b.0 ++ (open_of k ∷ [])) behind (return_some b.0 (open_of k ∷ []) (open_of k, ([], refl)) ∙ open_return k);
+      }
+
+  last_stands : is_none x.coll.items ≡ false → StandsBefore t (behind_last x.coll.close x.coll.items x.coll.rest)
+  last_stands e =
+      let y = last_behind around.inner_depth x.coll.close x.coll.items x.coll.rest e around.items in
+      subst (StandsBefore t) y.1 (rest_stands around.inner_depth x.coll.close t y.0 around.closes (in_text y.0 y.2))
+
+  -- what stands behind one more item or entry
+  pub appended_stands : StandsBefore t (behind_appended x.coll)
+  appended_stands = go (is_none x.coll.items) refl
+    where
+      go : (b : Bool) → is_none x.coll.items ≡ b → StandsBefore t (cond b (x.coll.gap ++ (x.coll.close ∷ x.coll.rest)) (behind_last x.coll.close x.coll.items x.coll.rest))
+      go true e = first_stands e
+      go false e = last_stands e
