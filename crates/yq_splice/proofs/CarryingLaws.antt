@@ -4,7 +4,8 @@ use Rattle.yq_rows.specs.Rows.{cut_text}
 use Rattle.yq_splice.specs.AppendWay.{append_way}
 use Rattle.yq_splice.specs.BlockWriting.{replace_block_way}
 use Rattle.yq_splice.specs.CollectionReplacing.{replace_collection_way}
-use Rattle.yq_splice.specs.Carried.{comment_ways, remove_ways, entry_ways, replace_ways, exchange_ways, node_ways, tree_ways, carrying}
+use Rattle.yq_splice.specs.CompactReplacing.{replace_compact_way}
+use Rattle.yq_splice.specs.Carried.{comment_ways, remove_ways, entry_ways, replace_ways, collection_ways, exchange_ways, node_ways, tree_ways, carrying}
 use Rattle.yq_splice.specs.CommentWays.{line_comment_way, head_comment_way}
 use Rattle.yq_splice.specs.FlowWays.{flow_remove_way}
 use Rattle.yq_splice.specs.Removing.{remove_way}
@@ -15,6 +16,7 @@ use Rattle.yq_splice.specs.Ways.{Way, ReadsAfter, IsWay, first_some, or_else}
 use Rattle.yq_splice.proofs.AppendWayLaws.{append_is}
 use Rattle.yq_splice.proofs.BlockWritingLaws.{replace_block_is}
 use Rattle.yq_splice.proofs.CollectionReplaceLaws.{replace_collection_is}
+use Rattle.yq_splice.proofs.CompactReplaceLaws.{replace_compact_is}
 use Rattle.yq_splice.proofs.FlowRemoveLaws.{flow_remove_is}
 use Rattle.yq_splice.proofs.HeadCommentLaws.{head_comment_is_way}
 use Rattle.yq_splice.proofs.LineCommentLaws.{line_comment_is_way}
@@ -50,9 +52,13 @@ replaced_are : IsWay replace_ways
 unfolding replace_ways
 replaced_are = either_is replace_way replace_block_way replace_is replace_block_is
 
+collections_are : IsWay collection_ways
+unfolding collection_ways
+collections_are = either_is replace_collection_way replace_compact_way replace_collection_is replace_compact_is
+
 exchanged_are : IsWay exchange_ways
 unfolding exchange_ways
-exchanged_are = either_is replace_ways replace_collection_way replaced_are replace_collection_is
+exchanged_are = either_is replace_ways collection_ways replaced_are collections_are
 
 nodes_are : IsWay node_ways
 unfolding node_ways

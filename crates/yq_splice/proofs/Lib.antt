@@ -62,3 +62,6 @@ pub mod NodeValueLaws
 pub mod CollectionRows
 pub mod CollectionReplaceLaws
 pub mod CollectionAnswers
+pub mod CompactRows
+pub mod CompactReplaceLaws
+pub mod CompactAnswers

@@ -22,3 +22,5 @@ pub mod Theorems
 pub mod Print
 pub mod FlowWays
 pub mod CollectionReplacing
+pub mod CompactReplacing
+pub mod DashTelling

@@ -8,6 +8,7 @@ ghost use Rattle.yq_splice.specs.Ways.{IsWay};
 mod append;
 mod block_writing;
 mod collection_replacing;
+mod compact_replacing;
 mod flow_remove;
 mod head_comment;
 mod line_comment;
@@ -19,6 +20,7 @@ use crate::edited::{EditError, Edited};
 use crate::ways::append::append_way;
 use crate::ways::block_writing::replace_block_way;
 use crate::ways::collection_replacing::replace_collection_way;
+use crate::ways::compact_replacing::replace_compact_way;
 use crate::ways::flow_remove::flow_remove_way;
 use crate::ways::head_comment::head_comment_way;
 use crate::ways::line_comment::line_comment_way;
@@ -89,6 +91,21 @@ fn by_replace_ways(
     replace_block_way(alloc, documents, op)
 }
 
+/// A block collection replaced by the way for it.
+#[tactic(auto, unfolding(crate::specs::Carried::collection_ways), using(crate::proofs::WayLaws::first_way_carries, crate::proofs::WayLaws::second_way_carries))]
+fn by_collection_ways(
+    alloc: Global,
+    documents: &Documents<'_>,
+    op: &Op,
+) -> Result<Option<Edited>, EditError>
+    ensures { Carries result (spec.collection_ways (operation_of op.now) (cut_of documents.now)) }
+{
+    if let Some(edited) = replace_collection_way(alloc, documents, op)? {
+        return Ok(Some(edited));
+    }
+    replace_compact_way(alloc, documents, op)
+}
+
 /// A node replaced by the way for it.
 #[tactic(auto, unfolding(crate::specs::Carried::exchange_ways), using(crate::proofs::WayLaws::first_way_carries, crate::proofs::WayLaws::second_way_carries))]
 fn by_exchange_ways(
@@ -101,7 +118,7 @@ fn by_exchange_ways(
     if let Some(edited) = by_replace_ways(alloc, documents, op)? {
         return Ok(Some(edited));
     }
-    replace_collection_way(alloc, documents, op)
+    by_collection_ways(alloc, documents, op)
 }
 
 /// A node replaced, or a block collection changed, by the way for it.
