@@ -3,9 +3,10 @@ use Rattle.std.proofs.Common.{◌≡◌, List, Option, Some, None}
 use Rattle.yq_rows.specs.Rows.{cut_text}
 use Rattle.yq_splice.specs.AppendWay.{append_way}
 use Rattle.yq_splice.specs.BlockWriting.{replace_block_way}
-use Rattle.yq_splice.specs.Carried.{comment_ways, remove_ways, entry_ways, replace_ways, string_ways, scalar_ways, leaf_ways, collection_ways, exchange_ways, node_ways, flow_entry_ways, flow_ways, tree_ways, sole_ways, content_ways, carrying}
+use Rattle.yq_splice.specs.Carried.{comment_ways, remove_ways, entry_ways, replace_ways, string_ways, scalar_ways, leaf_ways, under_ways, collection_ways, exchange_ways, node_ways, flow_entry_ways, flow_ways, tree_ways, sole_ways, content_ways, carrying}
 use Rattle.yq_splice.specs.CollectionReplacing.{replace_collection_way}
 use Rattle.yq_splice.specs.CommentWays.{line_comment_way, head_comment_way}
+use Rattle.yq_splice.specs.CompactReplacing.{replace_compact_way}
 use Rattle.yq_splice.specs.FlowWays.{flow_append_way, flow_replace_way, flow_remove_way}
 use Rattle.yq_splice.specs.Removing.{remove_way}
 use Rattle.yq_splice.specs.RemovingFirst.{remove_first_way}
@@ -19,6 +20,7 @@ use Rattle.yq_splice.specs.Ways.{Way, ReadsAfter, IsWay, first_some, or_else}
 use Rattle.yq_splice.proofs.AppendWayLaws.{append_is}
 use Rattle.yq_splice.proofs.BlockWritingLaws.{replace_block_is}
 use Rattle.yq_splice.proofs.CollectionReplaceLaws.{replace_collection_is}
+use Rattle.yq_splice.proofs.CompactReplaceLaws.{replace_compact_is}
 use Rattle.yq_splice.proofs.FlowAppendLaws.{flow_append_is}
 use Rattle.yq_splice.proofs.FlowRemoveLaws.{flow_remove_is}
 use Rattle.yq_splice.proofs.FlowReplaceLaws.{flow_replace_is}
@@ -73,9 +75,13 @@ leaves_are : IsWay leaf_ways
 unfolding leaf_ways
 leaves_are = either_is replace_ways scalar_ways replaced_are scalars_are
 
+unders_are : IsWay under_ways
+unfolding under_ways
+unders_are = either_is replace_collection_way replace_compact_way replace_collection_is replace_compact_is
+
 collections_are : IsWay collection_ways
 unfolding collection_ways
-collections_are = either_is replace_collection_way root_way replace_collection_is root_is_way
+collections_are = either_is under_ways root_way unders_are root_is_way
 
 exchanged_are : IsWay exchange_ways
 unfolding exchange_ways

@@ -15,7 +15,7 @@ use Rattle.yq_splice.proofs.CollectionReplaceLaws.{no_mark}
 use Rattle.yq_splice.proofs.CollectionRows.{node, rest_is, tail, there_is}
 use Rattle.yq_splice.proofs.NodeRowLaws.{NodeRows}
 
-text_reads : (t : List ℕ) → IsUtf8 t → IsCut t (cut_of t) → all_documents (cut_of t) ≡ true → read_at (cut_text (cut_of t)) ≡ Some (cut_of t)
+pub text_reads : (t : List ℕ) → IsUtf8 t → IsCut t (cut_of t) → all_documents (cut_of t) ≡ true → read_at (cut_text (cut_of t)) ≡ Some (cut_of t)
 unfolding read_at
 text_reads t u cut docs = ap read_at (sym cut.text) ∙ (cond-true _ _ _ (is_utf8-from_IsUtf8 t u) ∙ text_again t (cut_of t) cut docs)
 

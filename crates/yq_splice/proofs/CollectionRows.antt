@@ -69,7 +69,7 @@ tail_same : {a b : Row} {az bz : List Row} → a ∷ az ≡ b ∷ bz → az ≡ 
 tail_same e = cc
 
 -- rows that reach behind others begin with them
-rows_reach : (xs : List Row) (a : Row) (az ys bz : List Row) → xs ++ (a ∷ az) ≡ ys ++ bz → length (lines_of xs) < length (lines_of ys) → (us : List Row) × (ys ≡ xs ++ (a ∷ us)) × (az ≡ us ++ bz)
+pub rows_reach : (xs : List Row) (a : Row) (az ys bz : List Row) → xs ++ (a ∷ az) ≡ ys ++ bz → length (lines_of xs) < length (lines_of ys) → (us : List Row) × (ys ≡ xs ++ (a ∷ us)) × (az ≡ us ++ bz)
 rows_reach [] a az [] bz e n = absurd (omega (arith, n))
 rows_reach [] a az (y ∷ ys) bz e n = (ys, ap (λ (r : Row). r ∷ ys) (sym (head_same e)), tail_same e)
 rows_reach (x ∷ xs) a az [] bz e n = absurd (omega (arith, n))
@@ -91,7 +91,7 @@ nothing_there n (Inline space (inline.anchored m g node) z) rest h e k = absurd 
 nothing_there n (Block space anchor block) rest h e k = absurd (none_some (sym e))
 
 -- a block collection has no anchor of its own
-value_unnamed : (o : Outline) → HasEntries o → (a : Option (List ℕ)) → anchor_of (anchored a (value o)) ≡ a
+pub value_unnamed : (o : Outline) → HasEntries o → (a : Option (List ℕ)) → anchor_of (anchored a (value o)) ≡ a
 value_unnamed outline.end h a = absurd h
 value_unnamed (outline.row l u after) h a = go l.mark h a
   where
@@ -110,7 +110,7 @@ some_lines (outline.row l u after) h (q ∷ qs) e = refl
 -- ---- ends of lines
 
 -- what is left of a text that ends in an LF ends in one
-suffix_lf : (a b : List ℕ) → IsLf (a ++ b) → is_empty b ≡ false → IsLf b
+pub suffix_lf : (a b : List ℕ) → IsLf (a ++ b) → is_empty b ≡ false → IsLf b
 suffix_lf [] b h some = h
 suffix_lf (x ∷ a) b h some = suffix_lf a b (go h.0 h.1) some
   where
@@ -139,7 +139,7 @@ some_break b (inl e) = ap (λ x. is_break x && is_line x) e ∙ lf_break
 some_break b (inr e) = ap (λ x. is_break x && is_line x) e ∙ crlf_break
 
 -- what ends a text that itself ends so, is a break, or nothing at the end of all
-last_ends : (own rest : List ℕ) → Ended own rest → IsBreak (last_break own) rest
+pub last_ends : (own rest : List ℕ) → Ended own rest → IsBreak (last_break own) rest
 last_ends own rest (inl lf) = go (last_is own)
   where
     go : (last_break own ≡ []) ⊎ IsLfOrCrLf (last_break own) → IsBreak (last_break own) rest
@@ -151,7 +151,7 @@ last_ends own rest (inr none) = go (last_is own)
     go (inl e) = inr (e, none)
     go (inr b) = inl (some_break (last_break own) b)
 
-front_of : (t a b : List ℕ) → t ≡ a ++ b → up_to t b ≡ a
+pub front_of : (t a b : List ℕ) → t ≡ a ++ b → up_to t b ≡ a
 front_of t a b e = let n : length t - length b ≡ length a = omega (arith, ap length e, length-append a b) in (λ i. take (n i) (e i)) ∙ take-append_seam a b
 
 -- The text before the end of a line, its white space, and that with its comment are pieces.

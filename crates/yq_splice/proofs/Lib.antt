@@ -83,3 +83,6 @@ pub mod RootWayLaws
 pub mod RootAnswers
 pub mod ScalarCollectionLaws
 pub mod ScalarCollectionAnswers
+pub mod CompactRows
+pub mod CompactReplaceLaws
+pub mod CompactAnswers

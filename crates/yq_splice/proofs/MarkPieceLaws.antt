@@ -55,7 +55,7 @@ low_last rows.Dash = (omega arith, refl)
 low_last (rows.Key key colon) = (omega arith, refl)
 
 -- a text cut behind such a byte, and before a tail
-last_cut : (b : ℕ) (x t : List ℕ) → b < 128 → is_return b ≡ false → IsPiece ((x ++ b ∷ []) ++ t) → IsPiece (x ++ b ∷ []) × IsPiece t
+pub last_cut : (b : ℕ) (x t : List ℕ) → b < 128 → is_return b ≡ false → IsPiece ((x ++ b ∷ []) ++ t) → IsPiece (x ++ b ∷ []) × IsPiece t
 last_cut b x t low quiet h =
     let front : IsUtf8 (x ++ b ∷ []) =
     subst IsUtf8 (take-append_seam (x ++ b ∷ []) t) (IsUtf8-take ((x ++ b ∷ []) ++ t) (length (x ++ b ∷ [])) h.utf8 (behind_ascii (x ++ b ∷ []) t h.utf8 (record { front = x; last = b; is = refl; ascii = low }))) in

@@ -13,6 +13,7 @@ use Rattle.yq_splice.specs.AppendWay.{append_way}
 use Rattle.yq_splice.specs.BlockWriting.{replace_block_way}
 use Rattle.yq_splice.specs.CollectionReplacing.{replace_collection_way}
 use Rattle.yq_splice.specs.CommentWays.{line_comment_way, head_comment_way}
+use Rattle.yq_splice.specs.CompactReplacing.{replace_compact_way}
 use Rattle.yq_splice.specs.Edit.{Edit, refuses, unbuilt, in_order, by_reading, edit_of_segments}
 use Rattle.yq_splice.specs.FlowWays.{flow_append_way, flow_replace_way, flow_remove_way}
 use Rattle.yq_splice.specs.Removing.{remove_way}
@@ -53,9 +54,13 @@ scalar_ways = or_else string_ways scalar_collection_way
 unfoldable pub leaf_ways : Way
 leaf_ways = or_else replace_ways scalar_ways
 
+-- the ways to replace block collections under a key or behind a dash (own)
+unfoldable pub under_ways : Way
+under_ways = or_else replace_collection_way replace_compact_way
+
 -- the ways to replace block collections (own)
 unfoldable pub collection_ways : Way
-collection_ways = or_else replace_collection_way root_way
+collection_ways = or_else under_ways root_way
 
 -- the ways to replace nodes (own)
 unfoldable pub exchange_ways : Way

@@ -27,3 +27,5 @@ pub mod CollectionReplacing
 pub mod ScalarReplacing
 pub mod ScalarLiteral
 pub mod ScalarCollection
+pub mod CompactReplacing
+pub mod DashTelling

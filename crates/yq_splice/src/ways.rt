@@ -8,6 +8,7 @@ ghost use Rattle.yq_splice.specs.Ways.{IsWay};
 mod append;
 mod block_writing;
 mod collection_replacing;
+mod compact_replacing;
 mod flow_append;
 mod flow_edit;
 mod flow_remove;
@@ -27,6 +28,7 @@ use crate::edited::{EditError, Edited};
 use crate::ways::append::append_way;
 use crate::ways::block_writing::replace_block_way;
 use crate::ways::collection_replacing::replace_collection_way;
+use crate::ways::compact_replacing::replace_compact_way;
 use crate::ways::flow_append::flow_append_way;
 use crate::ways::flow_remove::flow_remove_way;
 use crate::ways::flow_replace::flow_replace_way;
@@ -149,6 +151,21 @@ fn by_leaf_ways(
     by_scalar_ways(alloc, documents, op)
 }
 
+/// A block collection under a key or behind a dash replaced by the way for it.
+#[tactic(auto, unfolding(crate::specs::Carried::under_ways), using(crate::proofs::WayLaws::first_way_carries, crate::proofs::WayLaws::second_way_carries))]
+fn by_under_ways(
+    alloc: Global,
+    documents: &Documents<'_>,
+    op: &Op,
+) -> Result<Option<Edited>, EditError>
+    ensures { Carries result (spec.under_ways (operation_of op.now) (cut_of documents.now)) }
+{
+    if let Some(edited) = replace_collection_way(alloc, documents, op)? {
+        return Ok(Some(edited));
+    }
+    replace_compact_way(alloc, documents, op)
+}
+
 /// A block collection replaced by the way for it.
 #[tactic(auto, unfolding(crate::specs::Carried::collection_ways), using(crate::proofs::WayLaws::first_way_carries, crate::proofs::WayLaws::second_way_carries))]
 fn by_collection_ways(
@@ -158,7 +175,7 @@ fn by_collection_ways(
 ) -> Result<Option<Edited>, EditError>
     ensures { Carries result (spec.collection_ways (operation_of op.now) (cut_of documents.now)) }
 {
-    if let Some(edited) = replace_collection_way(alloc, documents, op)? {
+    if let Some(edited) = by_under_ways(alloc, documents, op)? {
         return Ok(Some(edited));
     }
     root_way(alloc, documents, op)

@@ -33,7 +33,7 @@ fn lines_upto<'d>(text: &'d str, rest: &str) -> (&'d str, &'d str)
 }
 
 /// A text behind a space.
-fn spaced(alloc: Global, text: &str) -> Result<String, AllocError>
+pub(crate) fn spaced(alloc: Global, text: &str) -> Result<String, AllocError>
     ensures { IfOk result (λ s. string_bytes s ≡ 32 ∷ text.now) }
 {
     let mut out = String::new(alloc);
