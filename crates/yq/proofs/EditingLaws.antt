@@ -16,7 +16,7 @@ use Rattle.yq_splice.specs.declared.edited.EditError.{EditError}
 use Rattle.yq_splice.specs.declared.edited.EditError.TheVariants as error
 use Rattle.yq.specs.declared.fault.Fault.{Fault}
 use Rattle.yq.specs.declared.fault.Fault.TheVariants.{NotInProfile, OutOfMemory, Unreadable}
-use Rattle.yq.specs.Editing.{IsUnread, Refuses, edits, of_edit, of_refusal, unreadable, outcome_of}
+use Rattle.yq.specs.Editing.{IsUnreadable, Refuses, edits, of_edit, of_refusal, unreadable, outcome_of}
 
 -- bytes that are no UTF-8
 pub not_read : (t : List ℕ) → is_utf8 t ≡ false → read_at t ≡ None
@@ -40,24 +40,24 @@ unread : (p : Program) (t : List ℕ) → read_at t ≡ None → edits p t ≡ u
 unfolding edits edit_of
 unread p t is = ap (λ o. outcome_of t (by_reading (λ c. program_done p t) o)) is
 
-pub unread_refuses : (p : Program) (t : List ℕ) (e : Fault) → read_at t ≡ None → IsUnread t e → Refuses (edits p t) e
+pub unread_refuses : (p : Program) (t : List ℕ) (e : Fault) → read_at t ≡ None → IsUnreadable t e → Refuses (edits p t) e
 unread_refuses p t e none tells = subst (λ o. Refuses o e) (sym (unread p t none)) tells
 
 -- ---- whether a fault tells that they are no UTF-8
 
 -- of more bytes than a text may have it tells another thing
-pub long_told : (t : List ℕ) (f : ReadFault) → text_limit < length t → f.kind ≡ TooLarge → IsUnread t (Unreadable f)
+pub long_told : (t : List ℕ) (f : ReadFault) → text_limit < length t → f.kind ≡ TooLarge → IsUnreadable t (Unreadable f)
 long_told t f long kind = (
   λ is. let bad : TooLarge ≡ NotUtf8 = sym kind ∙ is in cc,
   λ is. absurd (true≢false (sym is ∙ ap (λ b. b && not (is_utf8 t)) (lt-leb (length t) text_limit long))),
 )
 
 -- of others it tells just that
-pub no_utf8_told : (t : List ℕ) (f : ReadFault) → length t ≤ text_limit → is_utf8 t ≡ false → f.kind ≡ NotUtf8 → IsUnread t (Unreadable f)
+pub no_utf8_told : (t : List ℕ) (f : ReadFault) → length t ≤ text_limit → is_utf8 t ≡ false → f.kind ≡ NotUtf8 → IsUnreadable t (Unreadable f)
 no_utf8_told t f short other kind = (λ is. ap₂ (λ a b. a && not b) (le-leb (length t) text_limit short) other, λ is. kind)
 
 -- and of UTF-8 it doesn't
-pub unread_text : (t : List ℕ) (f : ReadFault) → is_utf8 t ≡ true → f.kind ≢ NotUtf8 → IsUnread t (Unreadable f)
+pub unread_text : (t : List ℕ) (f : ReadFault) → is_utf8 t ≡ true → f.kind ≢ NotUtf8 → IsUnreadable t (Unreadable f)
 unread_text t f utf8 other = (λ is. absurd (other is), λ is. absurd (some_no (nat_le (length t) text_limit) (is_utf8 t) utf8 is)) where
   some_no : (a b : Bool) → b ≡ true → (a && not b) ≡ true → ⊥
   some_no true true is h = cc

@@ -20,7 +20,7 @@ use Rattle.yq.specs.declared.fault.Fault.{Fault}
 use Rattle.yq.specs.declared.fault.Fault.TheVariants.{OutOfMemory, Unreadable}
 use Rattle.yq.specs.Causes.{Cause, IsFor, named, no_reading}
 use Rattle.yq.specs.Content.{Content}
-use Rattle.yq.specs.Editing.{Outcome, unreadable, refused, edited, IsUnread, Refuses, edits, of_refusal}
+use Rattle.yq.specs.Editing.{Outcome, unreadable, refused, edited, IsUnreadable, Refuses, edits, of_refusal}
 use Rattle.yq.specs.Evaluation.{of_file, show_edit, show_found, show_read, shows}
 use Rattle.yq.specs.Faults.{is_outside, of_matching, of_reading}
 use Rattle.yq.specs.Pair.{Arrives, GoodIn}
@@ -67,7 +67,7 @@ module _ (exit_status no_doc : Bool) (t : List ℕ) where
   for_cause p why r x is tells = subst (Told p) (sym is) (λ memory. let k = tells memory in subst (λ o. IsFor (cause_in o) x) (sym k.0) k.1)
 
   -- a text without a reading
-  pub unread_fails : (p : Program) {T : Type 0} (r : Result T Fault) (x : Fault) → is_read p ≡ true → r ≡ Err x → IsUnread t x → read_at t ≡ None → Told p r
+  pub unread_fails : (p : Program) {T : Type 0} (r : Result T Fault) (x : Fault) → is_read p ≡ true → r ≡ Err x → IsUnreadable t x → read_at t ≡ None → Told p r
   unread_fails p r x is fails unread none = for_cause p (no_reading t) r x fails (λ memory. (unread_shows p is none, unread))
 
   -- a text that isn't read

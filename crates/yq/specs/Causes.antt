@@ -1,7 +1,7 @@
 -- Why a command is refused (own).
 use Rattle.std.specs.Prelude.{◌≡◌, ℕ, List, Option, Some, None}
 use Rattle.yq.specs.declared.fault.Fault.{Fault}
-use Rattle.yq.specs.Editing.{IsUnread}
+use Rattle.yq.specs.Editing.{IsUnreadable}
 
 -- a named fault, or that this text has no reading
 pub data Cause : Type 0 where
@@ -12,4 +12,4 @@ pub data Cause : Type 0 where
 abbrev pub IsFor : Option Cause → Fault → Type 0
 IsFor None e = ⊥
 IsFor (Some (named f)) e = e ≡ f
-IsFor (Some (no_reading text)) e = IsUnread text e
+IsFor (Some (no_reading text)) e = IsUnreadable text e

@@ -31,13 +31,13 @@ abbrev pub is_no_utf8 : List ℕ → Bool
 is_no_utf8 bytes = nat_le (length bytes) text_limit && not (is_utf8 bytes)
 
 -- the fault tells that bytes have no reading, and that they are no UTF-8 exactly where that is so; which other fault of reading it is, is left open (own)
-abbrev pub IsUnread : List ℕ → Fault → Type 0
-IsUnread bytes (Unreadable f) = (f.kind ≡ NotUtf8) ↔ (is_no_utf8 bytes ≡ true)
-IsUnread bytes _ = ⊥
+abbrev pub IsUnreadable : List ℕ → Fault → Type 0
+IsUnreadable bytes (Unreadable f) = (f.kind ≡ NotUtf8) ↔ (is_no_utf8 bytes ≡ true)
+IsUnreadable bytes _ = ⊥
 
 -- the fault tells why nothing is given (own)
 abbrev pub Refuses : Outcome → Fault → Type 0
-Refuses (unreadable text) e = IsUnread text e
+Refuses (unreadable text) e = IsUnreadable text e
 Refuses (refused f) e = e ≡ f
 Refuses (edited text changes) e = ⊥
 

@@ -5,7 +5,7 @@ ghost use Rattle.std.specs.String.{string_bytes};
 ghost use Rattle.yq_expr.specs.View.{program_of};
 ghost use Rattle.yq_splice.specs.Patch.{all_done, lengths_done};
 ghost use Rattle.yq_tree.specs.Reading.{read_at};
-ghost use Rattle.yq.specs.Editing.{IsUnread, Refuses, edited, edits, program_in};
+ghost use Rattle.yq.specs.Editing.{IsUnreadable, Refuses, edited, edits, program_in};
 ghost use Rattle.yq.specs.Faults.{is_failure, is_output};
 
 use crate::fault::Fault;
@@ -32,7 +32,7 @@ pub fn parse(alloc: Global, expr: &str) -> Result<Program, Fault>
 pub fn given_text(bytes: &[u8]) -> Result<&str, Fault>
     ensures ok { IfOk result (λ s. s.now ≡ bytes.now) }
     ensures utf8 { IfOk result (λ s. is_utf8 bytes.now ≡ true) }
-    ensures err { IfErr result (IsUnread bytes.now) }
+    ensures err { IfErr result (IsUnreadable bytes.now) }
     ensures none { OnErr result (read_at bytes.now ≡ None) }
     ensures inside { IfErr result (λ e. is_failure e ≡ false) }
     ensures quiet { IfErr result (λ e. is_output e ≡ false) }

@@ -3,7 +3,7 @@ use Rattle.std.proofs.Common.{◌≡◌, ◌≢◌, ◌↔◌, List, ℕ, None, 
 use Rattle.std.specs.Str.{IsUtf8, is_utf8}
 use Rattle.std.proofs.lemmas.Bool.{false≢true}
 use Rattle.std.proofs.lemmas.Str.{is_utf8-from_IsUtf8}
-use Rattle.yq_scalar.specs.Answers.{Fails as IsReading}
+use Rattle.yq_scalar.specs.Answers.{Fails as FailsReading}
 use Rattle.yq_scalar.specs.declared.ReadFault.{ReadFault}
 use Rattle.yq_scalar.specs.declared.fault.FaultKind.TheVariants.{NotUtf8}
 use Rattle.yq_scalar.specs.declared.fault.ReadError.{ReadError}
@@ -15,7 +15,7 @@ use Rattle.yq_splice.specs.Edit.{Edit, unreadable}
 
 -- What is known where bytes aren't read.
 pub record FailsToRead (e : ReadError) (bytes : List ℕ) : Type 0 where
-  pub none : IsReading e (read_at bytes)
+  pub none : FailsReading e (read_at bytes)
   pub utf8 : IsNotUtf8 {X = List ℕ} (Err e) ↔ (is_utf8 bytes ≡ false)
 
 pub text_unread : (bytes t : List ℕ) (fault : ReadFault) → bytes ≡ t → IsUtf8 t → FailsToRead (reading.Fault fault) bytes → (read_at t ≡ None) × (fault.kind ≢ NotUtf8)

@@ -3,7 +3,7 @@ use Rattle.std.proofs.lemmas.Result.{err_from_is_err_and}
 use Rattle.yq_scalar.specs.declared.fault.FaultKind.TheVariants.{TooLarge}
 use Rattle.yq_tree.specs.Reading.{read_at}
 use Rattle.yq.proofs.EditingLaws.{long_told, no_utf8_told, not_read, too_long}
-use Rattle.yq.specs.Editing.{IsUnread}
+use Rattle.yq.specs.Editing.{IsUnreadable}
 use Rattle.yq.proofs.editing.given_text.Goals as goal
 
 pub returns-then-bytes-gt-TEXT_LIMIT-clause-none : goal.returns-then-bytes-gt-TEXT_LIMIT-clause-none
@@ -20,5 +20,5 @@ returns-then-bytes-gt-TEXT_LIMIT-clause-err c = long_told c.args.bytes.now (reco
 pub returns-in_err-text_of-clause-err : goal.returns-in_err-text_of-clause-err
 returns-in_err-text_of-clause-err c =
     let p = err_from_is_err_and c.from_residual.result c.from_residual.ensures.1 in
-    subst (λ r. IfErr r (IsUnread c.args.bytes.now)) (sym p.1)
-    (subst (IsUnread c.args.bytes.now) (sym p.2) (no_utf8_told c.args.bytes.now c.in_err-text_of.field-0.0 (omega (arith, c.if-bytes-gt-TEXT_LIMIT.false)) c.in_err-text_of.ensures.0 c.in_err-text_of.ensures.1))
+    subst (λ r. IfErr r (IsUnreadable c.args.bytes.now)) (sym p.1)
+    (subst (IsUnreadable c.args.bytes.now) (sym p.2) (no_utf8_told c.args.bytes.now c.in_err-text_of.field-0.0 (omega (arith, c.if-bytes-gt-TEXT_LIMIT.false)) c.in_err-text_of.ensures.0 c.in_err-text_of.ensures.1))
