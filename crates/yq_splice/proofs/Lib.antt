@@ -67,5 +67,7 @@ pub mod ScalarTextLaws
 pub mod ScalarLineLaws
 pub mod ScalarLiteralLaws
 pub mod ScalarAnswers
+pub mod KeptAnchors
+pub mod ScalarCollectionRows
 pub mod ScalarCollectionLaws
 pub mod ScalarCollectionAnswers
