@@ -86,3 +86,5 @@ pub mod ScalarCollectionAnswers
 pub mod CompactRows
 pub mod CompactReplaceLaws
 pub mod CompactAnswers
+pub mod KeptAnchors
+pub mod ScalarCollectionRows
