@@ -34,6 +34,7 @@ pub mod FitLaws
 pub mod PlaceReadable
 pub mod ValueNodes
 pub mod SamePlaceLaws
+pub mod KeptLaws
 pub mod ReplaceLaws
 pub mod AppendEntryLaws
 pub mod AppendTakers
@@ -67,5 +68,6 @@ pub mod RootRows
 pub mod RootValues
 pub mod RootReadLaws
 pub mod BlockRootLaws
+pub mod UnwrittenRootLaws
 pub mod RootWayLaws
 pub mod RootAnswers

@@ -34,7 +34,7 @@ view_is (Some p) None e = absurd (let x = e in cc)
 view_is (Some p) (Some w) e = sym (ap (option_map place_told) e)
 
 -- the node at a path is the one to which its steps lead
-node_located : (p : Path) (t : List ℕ) → located p t ≡ node_in p.doc (steps_of p) (cut_of t)
+pub node_located : (p : Path) (t : List ℕ) → located p t ≡ node_in p.doc (steps_of p) (cut_of t)
 node_located p t = go (document_at t p.doc)
   where
     go : (o : Option Document) → option_and_then (λ d. node_at (steps_of p) d.root) o ≡ (o >>= λ d. node_at (steps_of p) d.root)

@@ -31,7 +31,6 @@ use Rattle.yq_tree.specs.TreeEdits.{led, replaced}
 use Rattle.yq_tree.proofs.PrintedLaws.{document_is}
 use Rattle.yq_tree.proofs.PrintedTexts.{map_some}
 use Rattle.yq_tree.proofs.ReadLaws.{text_takes}
-use Rattle.yq_change.specs.Changed.{changed, IsChanged, put_document}
 use Rattle.yq_change.specs.DocumentRows.{IsDocumentPart}
 use Rattle.yq_change.specs.InlineRows.{IsValueNode, place_text, IsInlineReplaced}
 use Rattle.yq_change.specs.Rooms.{is_block_root}
@@ -44,7 +43,6 @@ use Rattle.yq_expr.specs.Fits.{Fits}
 use Rattle.yq_expr.specs.Operations.{Operation, replace, append, remove, line_comment, head_comment}
 use Rattle.yq_expr.specs.Rooms.{room_of}
 use Rattle.yq_lines.specs.Anchors.{names_of}
-use Rattle.yq_lines.specs.Outline.{first_anchor}
 use Rattle.yq_splice.specs.Operands.{HasOperand}
 use Rattle.yq_splice.specs.Replacing.{node_in, scalar_in, are_same, is_kept, flow_written, value_written, replace_at, replace_way}
 use Rattle.yq_splice.specs.Script.{Segment, old_text, new_text}
@@ -52,10 +50,9 @@ use Rattle.yq_splice.specs.Style.{new_style}
 use Rattle.yq_splice.specs.Ways.{IsWay, ReadsAfter}
 use Rattle.yq_splice.proofs.DoneLaws.{nth_map, document_done}
 use Rattle.yq_splice.proofs.FitLaws.{new_value, inside_spared, tree_unique}
+use Rattle.yq_splice.proofs.KeptLaws.{kept_reads}
 use Rattle.yq_splice.proofs.PlaceReadable.{place_readable}
 use Rattle.yq_splice.proofs.ReplaceTexts.{place_whole, segments_old, segments_new}
-use Rattle.yq_splice.proofs.SameLaws.{same_is}
-use Rattle.yq_splice.proofs.SamePlaceLaws.{put_own, nth_own, change_own}
 use Rattle.yq_splice.proofs.StyleLaws.{style_writes, style_inline}
 use Rattle.yq_splice.proofs.ValueNodes.{scalar_is, list_is, map_is, flow_piece}
 
@@ -106,37 +103,11 @@ written_for alone old (tree.map a cs) t h deep long e =
 
 -- ---- the node that is there
 
-same_node : (n v : Node) → IsValueTree v → are_same (scalar_in n) (scalar_in v) ≡ true → replaced v n ≡ n
-same_node (tree.alias name) v h e = absurd (false≢true e)
-same_node (tree.list a cs) v h e = absurd (false≢true e)
-same_node (tree.map a cs) v h e = absurd (false≢true e)
-same_node (tree.scalar a kind t) (tree.alias name) h e = absurd (false≢true e)
-same_node (tree.scalar a kind t) (tree.list b cs) h e = absurd (false≢true e)
-same_node (tree.scalar a kind t) (tree.map b cs) h e = absurd (false≢true e)
-same_node (tree.scalar a kind t) (tree.scalar b other u) h e =
-    let same : record { kind = kind; text = t } ≡ record { kind = other; text = u } = same_is (record { kind = kind; text = t }) (record { kind = other; text = u }) e in
-    (λ i. tree.scalar (first_anchor a (h.0 i)) (sym same i).kind (sym same i).text) ∙ ap (λ x. tree.scalar x kind t) (first a)
-  where
-    first : (a : Option (List ℕ)) → first_anchor a None ≡ a
-    first None = refl
-    first (Some x) = refl
-
 led_same : (block : Bool) (lead : List (List ℕ)) (steps : List Step) (v : Node) → (steps ≡ [] → block ≡ false) → led block lead steps v ≡ v
 led_same true lead [] v h = absurd (false≢true (sym (h refl)))
 led_same false lead [] v h = refl
 led_same true lead (s ∷ path) v h = refl
 led_same false lead (s ∷ path) v h = refl
-
-led_scalar : (o : Option ScalarText) (block : Bool) (lead : List (List ℕ)) (steps : List Step) (v : Node) → are_same o (scalar_in v) ≡ true → led block lead steps v ≡ v
-led_scalar o true lead [] (tree.alias name) e = refl
-led_scalar o true lead [] (tree.scalar a kind t) e = refl
-led_scalar None true lead [] (tree.list a cs) e = absurd (false≢true e)
-led_scalar (Some s) true lead [] (tree.list a cs) e = absurd (false≢true e)
-led_scalar None true lead [] (tree.map a cs) e = absurd (false≢true e)
-led_scalar (Some s) true lead [] (tree.map a cs) e = absurd (false≢true e)
-led_scalar o false lead [] v e = refl
-led_scalar o true lead (s ∷ path) v e = refl
-led_scalar o false lead (s ∷ path) v e = refl
 
 -- ---- the way at a place
 
@@ -183,28 +154,6 @@ module _ (doc : ℕ) (steps : List Step) (v : Node) (c : Cut) (w : InlinePlace) 
           seats = λ sets. absurd sets;
         }))
 
-    -- the scalar that is there
-    kept_reads : are_same (scalar_in n) (scalar_in v) ≡ true → ReadsAfter op c (cut_text c)
-    kept_reads e =
-        let own : change steps (replaced v) (root_of p) ≡ root_of p = change_own steps (replaced v) (root_of p) n there (same_node n v h e) in
-        let same : put_document doc p c ≡ c = put_own _ doc c p document.1 in
-        let stays : changed (lead_of p) (change steps (replaced v)) (reading.document_of p) ≡ reading.document_of p = (λ i. record { lead = lead_of p; root = own i }) in
-        let kept : IsChanged c (put_document doc p c) doc (lead_of p) (change steps (replaced v)) = record {
-          read = subst (λ x. read_at (cut_text x) ≡ Some x) (sym same) read;
-          documents_are = ap documents same ∙ sym (nth_own doc (reading.document_of p) (changed (lead_of p) (change steps (replaced v))) (documents c) (nth_map doc p reading.document_of (document_parts c) document.1) stays);
-        } in
-        subst (ReadsAfter op c) (ap cut_text same)
-        (document_done op c p p (lead_of p) (change steps (replaced v)) (record {
-          read = read;
-          there = document.1;
-          rows = λ none. none;
-          changed = kept;
-          root = ap (λ m. change steps (replaced m) (root_of p)) (sym (led_scalar (scalar_in n) (is_block_root p) (lead_of p) steps v e));
-          lead_goes = same_lead_goes p p refl refl;
-          block = λ keeps. refl;
-          seats = λ sets. absurd sets;
-        }))
-
 -- ---- the way
 
 place_old : (kept : Bool) (v : Node) (w : InlinePlace) (ss : List Segment) → replace_at kept v w ≡ Some ss → old_text ss ≡ w.before ++ (written_text w.old ++ w.behind)
@@ -239,7 +188,7 @@ replace_reads doc steps v c ss read is h fits size =
         (b : Bool) → are_same (scalar_in n) (scalar_in v) ≡ b → replace_at b v w ≡ Some ss → HasUniqueKeys v → has_long_key v ≡ false → is_deep (length steps) v ≡ false → ReadsAfter (replace doc steps v) c (new_text ss)
     go w at n there used true kept e unique long deep =
         let text : cut_text c ≡ new_text ss = sym (ap new_text (sym (some_same e)) ∙ (segments_old w (written_text w.old) (written_text w.old) ∙ place_whole c doc steps w read at)) in
-        subst (ReadsAfter (replace doc steps v) c) text (kept_reads doc steps v c w read at h n there kept)
+        subst (ReadsAfter (replace doc steps v) c) text (kept_reads doc steps v c (document doc steps v c w read at).0 (old_part doc steps v c w read at) h n there kept)
     go w at n there used false kept e unique long deep =
         let m = map_some (value_written w.alone (written_text w.old) v) e in
         let text : place_text w m.0 ≡ new_text ss = sym (ap new_text (sym m.2) ∙ segments_new w m.0) in

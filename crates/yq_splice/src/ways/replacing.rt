@@ -21,7 +21,7 @@ use yq_scalar::{Place, write_scalar};
 use yq_tree::{Documents, InlinePlace, Node, NodeKind};
 
 /// Whether a value is a scalar equal to the node that is there, if one is.
-fn is_kept(node: Option<Node<'_, '_>>, value: &Value) -> bool
+pub(crate) fn is_kept(node: Option<Node<'_, '_>>, value: &Value) -> bool
     ensures { result ≡ spec.is_kept (option_map node_of node.entry) (values.node_of value.now) }
 {
     let Some(node) = node else {
