@@ -54,15 +54,15 @@ none_some e = cc
 -- ---- the first line of rows
 
 -- The first line of rows, and those behind it.
-record HasFirstLine (r : Row) (rs : List Row) : Type 0 where
-  first : PrintedLine
-  others : List PrintedLine
-  lines_are : printed_lines (r ∷ rs) ≡ first ∷ others
-  front_is : line_front first ≡ r.gap ++ replicate r.column 32
-  column_is : first.line.column ≡ r.column
-  mark_is : begins_no_node (lines_of (r ∷ rs)) ≡ is_entry first.line.mark
+pub record HasFirstLine (r : Row) (rs : List Row) : Type 0 where
+  pub first : PrintedLine
+  pub others : List PrintedLine
+  pub lines_are : printed_lines (r ∷ rs) ≡ first ∷ others
+  pub front_is : line_front first ≡ r.gap ++ replicate r.column 32
+  pub column_is : first.line.column ≡ r.column
+  pub mark_is : begins_no_node (lines_of (r ∷ rs)) ≡ is_entry first.line.mark
 
-first_line : (r : Row) (rs : List Row) → HasFirstLine r rs
+pub first_line : (r : Row) (rs : List Row) → HasFirstLine r rs
 first_line r rs = go r.dashes refl
   where
     go : (ns : List ℕ) → r.dashes ≡ ns → HasFirstLine r rs
@@ -122,7 +122,7 @@ pub record IsBlockRoot (n : ℕ) (c : Cut) (w : RootPlace) (old : List ℕ) : Ty
   pub column_is : w.column ≡ row.column
   pub whole : w.before ++ (old ++ w.behind) ≡ cut_text c
 
-empty_cases : (t : List ℕ) → (t ≡ []) ⊎ (is_empty t ≡ false)
+pub empty_cases : (t : List ℕ) → (t ≡ []) ⊎ (is_empty t ≡ false)
 empty_cases [] = inl refl
 empty_cases (b ∷ t) = inr refl
 
@@ -185,7 +185,7 @@ block_root n c w old read at is = let d = bind_some (placed_document n c) at in 
 
 -- ---- a value may come there
 
-seam_pieces : (a b : List ℕ) → LineSeam a b → IsPiece (a ++ b) → IsPiece a × IsPiece b
+pub seam_pieces : (a b : List ℕ) → LineSeam a b → IsPiece (a ++ b) → IsPiece a × IsPiece b
 seam_pieces a b (inl e) h = (subst IsPiece (sym e) nothing, subst (λ x. IsPiece (x ++ b)) e h)
 seam_pieces a b (inr (inl lf)) h =
     subst (λ x. IsPiece x × IsPiece b) (sym lf.1) (line_cut lf.0 b (subst (λ x. IsPiece (x ++ b)) lf.1 h))

@@ -79,6 +79,7 @@ pub mod RootRows
 pub mod RootValues
 pub mod RootReadLaws
 pub mod BlockRootLaws
+pub mod UnwrittenRootLaws
 pub mod RootWayLaws
 pub mod RootAnswers
 pub mod ScalarCollectionLaws

@@ -1,6 +1,8 @@
-//! The way to write the root of a document in the place of a block collection.
-ghost use Rattle.std.specs.Prelude.{◌≡◌, IfOk, Some, string_bytes};
+//! The way to write the root of a document: in the place of a block collection, or where none is
+//! written.
+ghost use Rattle.std.specs.Prelude.{◌≡◌, ◌++◌, IfOk, Some, string_bytes};
 ghost use Rattle.yq_inline.specs.Values.{node_of};
+ghost use Rattle.yq_scalar.specs.BlockWritten.{break_text};
 ghost use Rattle.yq_block.specs.BlockText.{block_value};
 ghost use Rattle.yq_expr.specs.Operations.{operation_of};
 ghost use Rattle.yq_tree.specs.Reading.{cut_of};
@@ -12,15 +14,31 @@ ghost use Rattle.yq_splice.specs.Ways.{IsWay};
 use crate::edited::{EditError, Edited};
 use crate::layout::layout_of;
 use crate::script::{Segment, exchange};
+use crate::ways::replacing::is_kept;
 use std::alloc::{AllocError, Global};
 use yq_block::{Layout, push_block};
 use yq_expr::{Op, Value};
+use yq_scalar::block_written::break_text;
 use yq_tree::{Documents, RootPlace};
 
 /// What the segments make of a text reads as its documents with the value as the root of one.
 pub fn roots_read()
     ensures { IsWay spec.root_way }
 {}
+
+/// Whether a text is empty or ends in a break.
+#[tactic(auto, unfolding(crate::specs::RootWriting::is_closed_text))]
+fn is_closed_text(text: &[u8]) -> bool
+    ensures { result ≡ spec.is_closed_text text.now }
+{
+    let mut is_closed = true;
+    let mut rest = text;
+    'each: while let [first, after @ ..] = rest {
+        is_closed = *first == b'\n';
+        rest = after;
+    }
+    is_closed
+}
 
 /// A value in block style, behind the spaces before its first line.
 fn value_text(
@@ -33,6 +51,20 @@ fn value_text(
 {
     let mut text = String::new(alloc);
     push_block(alloc, &mut text, layout, column, value)?;
+    Ok(text)
+}
+
+/// The same with a break behind it.
+fn value_lines(
+    alloc: Global,
+    layout: &Layout,
+    column: usize,
+    value: &Value,
+) -> Result<String, AllocError>
+    ensures { IfOk result (λ s. string_bytes s ≡ block_value layout.now column (node_of value.now) ++ break_text layout.now.br) }
+{
+    let mut text = value_text(alloc, layout, column, value)?;
+    text.push_str(break_text(layout.br))?;
     Ok(text)
 }
 
@@ -55,7 +87,31 @@ fn put_root<'d>(
     Ok(Some(exchange(alloc, &segments)?))
 }
 
-/// An operation carried out by a value in the place of a block collection as a root.
+/// A value on lines of its own in a document that has no rows, or nothing, where it is kept.
+fn put_new(
+    alloc: Global,
+    kept: bool,
+    layout: &Layout,
+    place: &RootPlace<'_>,
+    value: &Value,
+) -> Result<Option<Edited>, EditError>
+    ensures { Carries result (Some (spec.new_segments kept layout.now (node_of value.now) (root_told place.now))) }
+{
+    if kept {
+        let segments = [Segment::Keep(place.before), Segment::Keep(place.behind)];
+        return Ok(Some(exchange(alloc, &segments)?));
+    }
+    let lines = value_lines(alloc, layout, place.column, value)?;
+    let segments = [
+        Segment::Keep(place.before),
+        Segment::Put("", &lines),
+        Segment::Keep(place.behind),
+    ];
+    Ok(Some(exchange(alloc, &segments)?))
+}
+
+/// An operation carried out by a value as a root: in the place of a block collection, or where none
+/// is written, behind a text that is empty or ends in a break.
 pub(crate) fn root_way(
     alloc: Global,
     documents: &Documents<'_>,
@@ -69,9 +125,13 @@ pub(crate) fn root_way(
     let Some(place) = documents.root_place(path) else {
         return Ok(None);
     };
-    let Some(old) = place.old else {
-        return Ok(None);
-    };
     let layout = layout_of(documents, path.doc);
-    put_root(alloc, &layout, place, old, value)
+    if let Some(old) = place.old {
+        return put_root(alloc, &layout, place, old, value);
+    }
+    if !is_closed_text(place.before.as_bytes()) {
+        return Ok(None);
+    }
+    let kept = is_kept(documents.locate(path), value);
+    put_new(alloc, kept, &layout, &place, value)
 }
