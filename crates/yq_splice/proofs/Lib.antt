@@ -47,6 +47,7 @@ pub mod FlowPieceLaws
 pub mod FlowRemoveLaws
 pub mod FlowAnswers
 pub mod BrokenTails
+pub mod MarkContentLaws
 pub mod MarkRowLaws
 pub mod MarkFacts
 pub mod MarkReplaceLaws
