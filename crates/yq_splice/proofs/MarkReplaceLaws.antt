@@ -1,11 +1,9 @@
 -- Rows in the place of that of a key or dash: the document with another value there.
-use Rattle.std.proofs.Common.{◌≡◌, ℕ, suc, ◌+◌, ◌<◌, ◌≤◌, Bool, true, false, List, [], ◌∷◌, ◌++◌, length, Option, Some, None, refl, sym, ap, ◌∙◌, subst, arith, append_assoc, append-nil}
+use Rattle.std.proofs.Common.{◌≡◌, ℕ, suc, ◌+◌, ◌<◌, ◌≤◌, Bool, true, false, List, [], ◌∷◌, ◌++◌, length, Option, Some, refl, sym, ap, ◌∙◌, subst, arith, append_assoc, append-nil}
 use Rattle.std.proofs.lemmas.Bool.{false≢true, ltb-true}
 use Rattle.yq_scalar.specs.Paths.{Step, change}
-use Rattle.yq_scalar.specs.Text.{is_empty}
 use Rattle.yq_scalar.specs.Tree.{Node}
 use Rattle.yq_inline.specs.Alike.{Alike}
-use Rattle.yq_inline.specs.Nodes as inline
 use Rattle.yq_lines.specs.Anchors.{HaveOneAnchorEach, IsFree}
 use Rattle.yq_lines.specs.Comments.{head_comment, line_comment}
 use Rattle.yq_lines.specs.Outline as outline
