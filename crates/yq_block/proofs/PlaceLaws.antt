@@ -100,7 +100,7 @@ under_any limit row below column x [] rest none laid deep = absurd laid
 under_any limit row below column x (y ∷ rs) rest none laid deep =
     (subst (λ (l : Limit). AreRows l (y ∷ rs) [] rest) (sym (nothing_limit (parent_indent row) x none)) (laid.laid unlimited refl), λ c within. laid.follows c (omega (arith, within, deep)))
 
-upto_row : {limit : Limit} {r s : Row} {old : List ℕ} (x : Content) (t : List ℕ) → IsRow limit r old → IsUpto s r → IsContent (parent_indent s) x t → separates (content_text x t) ≡ true →
+pub upto_row : {limit : Limit} {r s : Row} {old : List ℕ} (x : Content) (t : List ℕ) → IsRow limit r old → IsUpto s r → IsContent (parent_indent s) x t → separates (content_text x t) ≡ true →
     IsRow limit (with_content x s) t × Alike (Some false) (print_row r old) (print_row (with_content x s) t)
 upto_row {limit} {old} x t h (at_mark {r} entry) content apart =
     let placed = one_row limit r x old t h entry content apart in (placed.row, placed.alike)

@@ -60,7 +60,7 @@ some_same : {A : Type 0} {x y : A} → Some x ≡ Some y → x ≡ y
 some_same e = cc
 
 -- a collection with items or entries
-filled_is : (v : Node) → is_filled v ≡ true → IsFilled v
+pub filled_is : (v : Node) → is_filled v ≡ true → IsFilled v
 filled_is (tree.alias name) e = absurd (false≢true e)
 filled_is (tree.scalar a kind text) e = absurd (false≢true e)
 filled_is (tree.list a tree.none) e = absurd (false≢true e)

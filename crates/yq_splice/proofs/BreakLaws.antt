@@ -1,10 +1,8 @@
--- The break of a line that is also that of the last one.
-use Rattle.std.proofs.Common.{◌≡◌, ◌⊎◌, inl, inr, ℕ, List, [], ◌∷◌, ◌++◌, length, drop, Bool, true, false, cond, ◌&&◌, ◌||◌, refl, sym, ap, ◌∙◌, eqb-true}
+-- The break that ends a text.
+use Rattle.std.proofs.Common.{◌≡◌, ◌⊎◌, inl, inr, ℕ, List, [], ◌∷◌, length, drop, Bool, true, false, cond, ◌&&◌, ◌||◌, refl, sym, ap, ◌∙◌, eqb-true}
 use Rattle.std.proofs.lemmas.Bool.{false≢true, and_parts}
 use Rattle.yq_scalar.specs.Text.{front, is_break, is_empty, is_feed, is_line, is_return}
 use Rattle.yq_tree.specs.PrintedLines.{is_last_break, less_break, last_break}
-use Rattle.yq_tree.proofs.PrintedTexts.{less_is}
-use Rattle.yq_splice.specs.BlockReplacing.{begin_alike}
 
 -- a break: LF or CR LF
 abbrev pub IsLfOrCrLf : List ℕ → Type 0
@@ -45,39 +43,3 @@ last_is (b ∷ bs) = go (is_last_break (b ∷ bs)) refl (last_is bs)
         (drop (length (cond x [] (b ∷ less_break bs))) (b ∷ bs) ≡ []) ⊎ IsLfOrCrLf (drop (length (cond x [] (b ∷ less_break bs))) (b ∷ bs))
     go true e more = inr (last_cases (b ∷ bs) e)
     go false e more = more
-
--- nothing but a break ends in that
-pub less_none : (t : List ℕ) → (t ≡ []) ⊎ IsLfOrCrLf t → less_break t ≡ []
-unfolding less_break
-less_none t (inl e) = ap less_break e
-less_none t (inr (inl e)) = ap less_break e
-less_none t (inr (inr e)) = ap less_break e
-
--- two that begin alike are the same
-first_same : {a b : ℕ} {s t : List ℕ} → a ∷ s ≡ b ∷ t → a ≡ b
-first_same e = cc
-
-apart : ◌≡◌ {A = ℕ} 10 13 → ⊥
-apart e = cc
-
-pub same_break : (brk under own : List ℕ) → own ≡ brk ++ under → IsLfOrCrLf brk → begin_alike (less_break own) (last_break own) ≡ true → last_break own ≡ brk
-same_break brk under own is h alike = go (less_break own) (last_break own) (less_is own) (last_is own) alike
-  where
-    go : (less last : List ℕ) → less ++ last ≡ own → (last ≡ []) ⊎ IsLfOrCrLf last → begin_alike less last ≡ true → last ≡ brk
-    go [] last whole k a = absurd (false≢true a)
-    go (x ∷ less) [] whole k a = absurd (false≢true a)
-    go (x ∷ less) (y ∷ last) whole k a = by h k
-      where
-        same : x ≡ y
-        same = eqb-true x y a
-
-        by : IsLfOrCrLf brk → (y ∷ last ≡ []) ⊎ IsLfOrCrLf (y ∷ last) → y ∷ last ≡ brk
-        by b (inl e) = absurd (let no : y ∷ last ≡ [] = e in cc)
-        by (inl b) (inr (inl e)) = e ∙ sym b
-        by (inr b) (inr (inr e)) = e ∙ sym b
-        by (inl b) (inr (inr e)) = absurd (apart (sym (first_same (whole ∙ (is ∙ ap (λ z. z ++ under) b))) ∙ (same ∙ first_same e)))
-        by (inr b) (inr (inl e)) = absurd (apart (sym (first_same e) ∙ (sym same ∙ first_same (whole ∙ (is ∙ ap (λ z. z ++ under) b)))))
-
--- there is something in front of it
-pub alike_some : (own : List ℕ) → (own ≡ []) ⊎ IsLfOrCrLf own → begin_alike (less_break own) (last_break own) ≡ true → ⊥
-alike_some own h a = false≢true (sym (ap (λ x. begin_alike x (last_break own)) (less_none own h)) ∙ a)

@@ -40,7 +40,7 @@ none_other (b ∷ []) old new n e = let f = or_false (is_feed b) (is_return b &&
 none_other (b ∷ (d ∷ c)) old new n e = (n.0, none_other (d ∷ c) old new n.1 e)
 
 -- so a comment there goes up to another break
-comment_other : (c old rest new : List ℕ) → pairs_returns (c ++ (old ++ rest)) ≡ true → IsComment c old → IsBreak old rest → IsComment c new
+pub comment_other : (c old rest new : List ℕ) → pairs_returns (c ++ (old ++ rest)) ≡ true → IsComment c old → IsBreak old rest → IsComment c new
 comment_other [] old rest new p h e = tt
 comment_other (b ∷ c) old rest new p h e =
     (h.0, none_other c (old ++ rest) new more (front_clean c (old ++ rest) (pairs_back (b ∷ []) (c ++ (old ++ rest)) p) more))

@@ -2,8 +2,8 @@
 use Rattle.std.proofs.Common.{◌≡◌, List, Option, Some, None}
 use Rattle.yq_rows.specs.Rows.{cut_text}
 use Rattle.yq_splice.specs.AppendWay.{append_way}
-use Rattle.yq_splice.specs.BlockReplacing.{block_replace_way}
 use Rattle.yq_splice.specs.BlockWriting.{replace_block_way}
+use Rattle.yq_splice.specs.CollectionReplacing.{replace_collection_way}
 use Rattle.yq_splice.specs.Carried.{comment_ways, remove_ways, entry_ways, replace_ways, exchange_ways, node_ways, tree_ways, sole_ways, content_ways, carrying}
 use Rattle.yq_splice.specs.CommentWays.{line_comment_way, head_comment_way}
 use Rattle.yq_splice.specs.FlowWays.{flow_remove_way}
@@ -13,8 +13,8 @@ use Rattle.yq_splice.specs.Replacing.{replace_way}
 use Rattle.yq_splice.specs.Script.{Segment, old_text, new_text}
 use Rattle.yq_splice.specs.Ways.{Way, ReadsAfter, IsWay, first_some, or_else}
 use Rattle.yq_splice.proofs.AppendWayLaws.{append_is}
-use Rattle.yq_splice.proofs.BlockWayLaws.{block_replace_is}
 use Rattle.yq_splice.proofs.BlockWritingLaws.{replace_block_is}
+use Rattle.yq_splice.proofs.CollectionReplaceLaws.{replace_collection_is}
 use Rattle.yq_splice.proofs.FlowRemoveLaws.{flow_remove_is}
 use Rattle.yq_splice.proofs.HeadCommentLaws.{head_comment_is_way}
 use Rattle.yq_splice.proofs.LineCommentLaws.{line_comment_is_way}
@@ -53,7 +53,7 @@ replaced_are = either_is replace_way replace_block_way replace_is replace_block_
 
 exchanged_are : IsWay exchange_ways
 unfolding exchange_ways
-exchanged_are = either_is replace_ways block_replace_way replaced_are block_replace_is
+exchanged_are = either_is replace_ways replace_collection_way replaced_are replace_collection_is
 
 nodes_are : IsWay node_ways
 unfolding node_ways

@@ -58,10 +58,9 @@ pub mod BehindDashLaws
 pub mod BlockWritingLaws
 pub mod BlockWritingAnswers
 pub mod BreakLaws
-pub mod UnderTexts
-pub mod UnderEnds
-pub mod UnderPieces
-pub mod BlockReplaceLaws
-pub mod BlockWayLaws
-pub mod BlockAnswers
+pub mod NodeRowLaws
+pub mod NodeValueLaws
+pub mod CollectionRows
+pub mod CollectionReplaceLaws
+pub mod CollectionAnswers
 pub mod SoleLaws

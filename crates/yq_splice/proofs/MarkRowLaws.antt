@@ -89,14 +89,14 @@ pub record HasMark (doc : ℕ) (s : Step) (ss : List Step) (c : Cut) (w : MarkPl
   pub is : mark_at ((placed_row found.s found.x).before ++ row_front found.x.row) (slices found.x.row) (end_of_line (placed_row found.s found.x)) ≡ w
 
 -- the row of a line that has an end
-end_there : (n : ℕ) (steps : List Step) (c : Cut) (e : LineEnd) (y : PlacedRow) → line_end n steps c ≡ Some e → row_of_path n steps c ≡ Some y → (y.line ≡ length y.row.dashes) × (end_of_line y ≡ e)
+pub end_there : (n : ℕ) (steps : List Step) (c : Cut) (e : LineEnd) (y : PlacedRow) → line_end n steps c ≡ Some e → row_of_path n steps c ≡ Some y → (y.line ≡ length y.row.dashes) × (end_of_line y ≡ e)
 end_there n steps c e y h there =
     let known : cond (eqb y.line (length y.row.dashes)) (Some (end_of_line y)) None ≡ Some e = sym (ap (λ (o : Option PlacedRow). o >>= λ w. cond (eqb w.line (length w.row.dashes)) (Some (end_of_line w)) None) there) ∙ h in
     let g = guard_then (eqb y.line (length y.row.dashes)) known in
     (eqb-true y.line (length y.row.dashes) g.0, same g.1)
 
 -- the line of a path is that of what was found
-line_found : (s : Step) (ss : List Step) (p : Part) (f : Found) (x : Seat) → find s ss (outline_of p) ≡ Some (f, []) → seat_of (s ∷ ss) p.rows ≡ Some x → seat (length (lines_before f.place)) p.rows ≡ Some x
+pub line_found : (s : Step) (ss : List Step) (p : Part) (f : Found) (x : Seat) → find s ss (outline_of p) ≡ Some (f, []) → seat_of (s ∷ ss) p.rows ≡ Some x → seat (length (lines_before f.place)) p.rows ≡ Some x
 line_found s ss p f x is e = sym (ap (λ (o : Option (Found × List Step)). Rattle.std.proofs.Common.option_and_then (λ y. found_line y.0 y.1) o >>= λ n. seat n p.rows) is) ∙ e
 
 marked_in : (doc : ℕ) (s : Step) (ss : List Step) (c : Cut) (i : InlinePlace) (w : MarkPlace) → read_at (cut_text c) ≡ Some c → inline_from doc (s ∷ ss) c ≡ Some i → i.alone ≡ false → mark_place doc (s ∷ ss) c ≡ Some w → HasMark doc s ss c w

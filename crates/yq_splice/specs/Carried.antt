@@ -10,8 +10,8 @@ use Rattle.yq_expr.specs.Program.{Program, Update, read, updates}
 use Rattle.yq_expr.specs.Rooms.{room_of}
 use Rattle.yq_expr.specs.declared.refusal.Refusal.TheVariants.{NotAnUpdate}
 use Rattle.yq_splice.specs.AppendWay.{append_way}
-use Rattle.yq_splice.specs.BlockReplacing.{block_replace_way}
 use Rattle.yq_splice.specs.BlockWriting.{replace_block_way}
+use Rattle.yq_splice.specs.CollectionReplacing.{replace_collection_way}
 use Rattle.yq_splice.specs.CommentWays.{line_comment_way, head_comment_way}
 use Rattle.yq_splice.specs.Edit.{Edit, refuses, unbuilt, in_order, by_reading, edit_of_segments}
 use Rattle.yq_splice.specs.FlowWays.{flow_remove_way}
@@ -39,7 +39,7 @@ replace_ways = or_else replace_way replace_block_way
 
 -- the ways to replace nodes (own)
 unfoldable pub exchange_ways : Way
-exchange_ways = or_else replace_ways block_replace_way
+exchange_ways = or_else replace_ways replace_collection_way
 
 -- the ways to replace nodes, and those to put in and take out items and entries (own)
 unfoldable pub node_ways : Way

@@ -21,5 +21,5 @@ pub mod Valid
 pub mod Theorems
 pub mod Print
 pub mod FlowWays
-pub mod BlockReplacing
+pub mod CollectionReplacing
 pub mod SoleRemoving

@@ -6,8 +6,8 @@ ghost use Rattle.yq_splice.specs.WayAnswers.{Carries};
 ghost use Rattle.yq_splice.specs.Ways.{IsWay};
 
 mod append;
-mod block_replacing;
 mod block_writing;
+mod collection_replacing;
 mod flow_remove;
 mod head_comment;
 mod line_comment;
@@ -18,8 +18,8 @@ mod sole_removing;
 
 use crate::edited::{EditError, Edited};
 use crate::ways::append::append_way;
-use crate::ways::block_replacing::block_replace_way;
 use crate::ways::block_writing::replace_block_way;
+use crate::ways::collection_replacing::replace_collection_way;
 use crate::ways::flow_remove::flow_remove_way;
 use crate::ways::head_comment::head_comment_way;
 use crate::ways::line_comment::line_comment_way;
@@ -103,7 +103,7 @@ fn by_exchange_ways(
     if let Some(edited) = by_replace_ways(alloc, documents, op)? {
         return Ok(Some(edited));
     }
-    block_replace_way(alloc, documents, op)
+    replace_collection_way(alloc, documents, op)
 }
 
 /// A node replaced, or a block collection changed, by the way for it.

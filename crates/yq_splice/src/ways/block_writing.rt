@@ -31,7 +31,11 @@ fn behind_dash(column: usize) -> Result<usize, AllocError>
 }
 
 /// The column of a collection below a key or dash, where there could be so many spaces.
-fn below_mark(layout: &Layout, place: &MarkPlace<'_>, value: &Value) -> Result<usize, AllocError>
+pub(crate) fn below_mark(
+    layout: &Layout,
+    place: &MarkPlace<'_>,
+    value: &Value,
+) -> Result<usize, AllocError>
     ensures { IfOk result (λ n. n ≡ spec.below_mark layout.now (mark_told place.now) (node_of value.now)) }
 {
     if !place.keyed {
@@ -44,7 +48,7 @@ fn below_mark(layout: &Layout, place: &MarkPlace<'_>, value: &Value) -> Result<u
 }
 
 /// A break, the spaces up to a column, and a value there.
-fn lines_below(
+pub(crate) fn lines_below(
     alloc: Global,
     layout: &Layout,
     column: usize,

@@ -2,7 +2,7 @@ use Rattle.std.proofs.lemmas.Result.{err_from_is_err_and}
 use Rattle.yq_tree.specs.Reading.{cut_of}
 use Rattle.yq_expr.specs.Operations.{operation_of}
 use Rattle.yq_splice.specs.Carried.{replace_ways, exchange_ways}
-use Rattle.yq_splice.specs.BlockReplacing.{block_replace_way}
+use Rattle.yq_splice.specs.CollectionReplacing.{replace_collection_way}
 use Rattle.yq_splice.proofs.WayLaws.{first_way_fails}
 use Rattle.yq_splice.proofs.ways.by_exchange_ways.Goals as goal
 
@@ -12,4 +12,4 @@ returns-in_err-edited c =
     let p = err_from_is_err_and c.from_residual.result c.from_residual.ensures.1 in
     let op = operation_of c.args.op.now in
     let cut = cut_of c.args.documents.now in
-    rw (p.1, p.2) (first_way_fails _ (replace_ways op cut) (block_replace_way op cut) c.in_err-edited.ensures)
+    rw (p.1, p.2) (first_way_fails _ (replace_ways op cut) (replace_collection_way op cut) c.in_err-edited.ensures)
