@@ -6,7 +6,7 @@ use Rattle.yq_scalar.specs.Characters.{pairs_returns}
 use Rattle.yq_scalar.specs.Answers.{◌>>=◌}
 use Rattle.yq_scalar.specs.Paths.{Step}
 use Rattle.yq_scalar.specs.Text.{is_break, is_empty, is_line}
-use Rattle.yq_scalar.proofs.Bools.{and_true, bind_some, guard_then}
+use Rattle.yq_scalar.proofs.Bools.{and_true, bind_some}
 use Rattle.yq_scalar.proofs.BlockPieceLaws.{IsLf}
 use Rattle.yq_inline.specs.Nodes as inline
 use Rattle.yq_lines.specs.Comments.{line_comment}
