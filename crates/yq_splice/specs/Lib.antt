@@ -24,7 +24,6 @@ pub mod Print
 pub mod FlowWays
 pub mod SoleRemoving
 pub mod CollectionReplacing
-pub mod BlockReplacing
 pub mod ScalarReplacing
 pub mod ScalarLiteral
 pub mod ScalarCollection
