@@ -1,11 +1,11 @@
 -- A collection that begins on the line of a dash.
-use Rattle.std.proofs.Common.{◌≡◌, ℕ, ◌+◌, ◌*◌, ◌<◌, ◌≤◌, true, false, List, [], ◌∷◌, ◌++◌, replicate, None, refl, sym, ap, ◌∙◌, subst, arith, append_assoc, append-nil}
+use Rattle.std.proofs.Common.{◌≡◌, ℕ, ◌+◌, ◌*◌, ◌<◌, ◌≤◌, not, Bool, true, false, cond, List, [], ◌∷◌, ◌++◌, replicate, None, refl, sym, ap, ◌∙◌, subst, arith, append_assoc, append-nil}
 use Rattle.std.proofs.lemmas.Bool.{false≢true}
 use Rattle.std.proofs.lemmas.List.{append_cancel_left}
 use Rattle.yq_scalar.specs.Paths.{Step}
 use Rattle.yq_scalar.specs.Text.{is_empty, upto}
 use Rattle.yq_scalar.specs.Tree.{Node}
-use Rattle.yq_lines.specs.Anchors.{HaveOneAnchorEach}
+use Rattle.yq_lines.specs.Anchors.{HaveOneAnchorEach, IsFree}
 use Rattle.yq_lines.specs.Comments.{head_comment, line_comment}
 use Rattle.yq_lines.specs.Outline.{Line, level, flatten, Stands}
 use Rattle.yq_lines.proofs.ByRules.{rules_give}
@@ -16,7 +16,7 @@ use Rattle.yq_rows.specs.Rows as rows
 use Rattle.yq_rows.specs.Rows.{Content, Nothing, Row, behind_dashes, behind_indent, dashes_text, mark_column, mark_text, print_row, rows_text, Cut}
 use Rattle.yq_rows.specs.View.{slices}
 use Rattle.yq_tree.specs.Documents.{HaveFitKeys}
-use Rattle.yq_tree.specs.Lines.{mark_line, row_lines, lines_of}
+use Rattle.yq_tree.specs.Lines.{content_anchor, mark_line, row_lines, lines_of}
 use Rattle.yq_tree.specs.MarkPlaces.{MarkPlace}
 use Rattle.yq_change.specs.Moved.{dash_lines}
 use Rattle.yq_change.proofs.LineLaws.{above_mark, mark_behind}
@@ -33,8 +33,9 @@ use Rattle.yq_block.proofs.TextLaws.{value_spelled}
 use Rattle.yq_splice.specs.BlockWriting.{behind_segments}
 use Rattle.yq_splice.specs.Script.{new_text}
 use Rattle.yq_splice.proofs.BrokenTails.{quiet_tail}
-use Rattle.yq_splice.proofs.MarkFacts.{front, r, rest, limit, rows_there, entry, tail, there, column_is, key_is, tail_ends}
-use Rattle.yq_splice.proofs.MarkReplaceLaws.{TakesMark}
+use Rattle.yq_splice.proofs.MarkContentLaws.{left_line, unnamed}
+use Rattle.yq_splice.proofs.MarkFacts.{own, front, r, rest, limit, rows_there, entry, tail, there, column_is, key_is, tail_ends}
+use Rattle.yq_splice.proofs.MarkReplaceLaws.{TakesMark, line_left}
 use Rattle.yq_splice.proofs.MarkRowLaws.{HasMark, is_key}
 
 -- a dash is an entry's mark that is no key
@@ -93,7 +94,7 @@ behind_text column row (q ∷ qs) u z b is e =
     ∙ (ap (λ l. row.gap ++ (replicate row.column 32 ++ dashes_text row.dashes (45 ∷ (32 ∷ l)))) inner ∙ dash_front row (32 ∷ u) is)
 
 module _ (doc : ℕ) (s : Step) (ss : List Step) (c : Cut) (w : MarkPlace) (h : HasMark doc s ss c w) (l : Layout) (step : 1 ≤ l.mapping) (v : Node) (filled : InRows v) (near : HasNearKeys v)
-    (no_key : (there doc s ss c w h).keyed ≡ false) (quiet : is_empty (there doc s ss c w h).comment ≡ true) where
+    (no_key : (there doc s ss c w h).keyed ≡ false) (unnamed_row : (there doc s ss c w h).named ≡ false) (quiet : is_empty (there doc s ss c w h).comment ≡ true) where
   abbrev row : Row
   row = r doc s ss c w h
 
@@ -135,7 +136,17 @@ module _ (doc : ℕ) (s : Step) (ss : List Step) (c : Cut) (w : MarkPlace) (h : 
   stands = rules_give (level_at below v) (lines_of rs) v (node_stands v l below last step filled.filled filled.value none)
 
   abbrev line : Line
-  line = mark_line (above_mark (head_comment row.gap) row.dashes) (mark_column row) row.mark (Nothing [])
+  line = line_left doc s ss c w h []
+
+  bare : is_empty (slices row).anchor ≡ true
+  bare = not_false (is_empty (slices row).anchor) unnamed_row
+    where
+      not_false : (b : Bool) → not b ≡ false → b ≡ true
+      not_false true e = refl
+      not_false false e = absurd (false≢true (sym e))
+
+  no_name : content_anchor row.content ≡ None
+  no_name = unnamed row.content bare
 
   dash_level : level line ≡ entry_level None (mark_column row)
   unfolding level
@@ -147,7 +158,7 @@ module _ (doc : ℕ) (s : Step) (ss : List Step) (c : Cut) (w : MarkPlace) (h : 
       compact_lines row rs begun
       ∙ (ap (λ ls. ls ++ lines_of rs) (mark_behind (head_comment row.gap) row.column row.dashes rows.Dash (Nothing []))
       ∙ (append_assoc lines (mark_line (above_mark (head_comment row.gap) row.dashes) (mark_column row) rows.Dash (Nothing []) ∷ []) (lines_of rs)
-      ∙ (λ i. lines ++ (mark_line (above_mark (head_comment row.gap) row.dashes) (mark_column row) (sym dash i) (Nothing []) ∷ sym stands.lines_are i))))
+      ∙ (λ i. lines ++ (left_line (above_mark (head_comment row.gap) row.dashes) (mark_column row) (sym dash i) (sym no_name i) [] ∷ sym stands.lines_are i))))
 
   pub takes_behind : TakesMark doc s ss c w h v behind_rows
   takes_behind = record {
@@ -162,6 +173,7 @@ module _ (doc : ℕ) (s : Step) (ss : List Step) (c : Cut) (w : MarkPlace) (h : 
     under = stands.outline;
     even = stands.even;
     deep = subst (λ n. n < level_at below v) (sym dash_level) (lines_deeper v l (mark_column row) None step filled.filled);
+    free = subst (λ a. IsFree a (flatten stands.outline)) (sym no_name) tt;
     value_is = stands.node_is;
     lines = new_lines;
     keys = keys_same row rs (keys_fit rs (node_fit v l below last filled.value));
@@ -171,6 +183,8 @@ module _ (doc : ℕ) (s : Step) (ss : List Step) (c : Cut) (w : MarkPlace) (h : 
   -- the text
   pub dash_text : h.found.s.before ++ (rows_text (front doc s ss c w h) [] ++ rows_text behind_rows z) ≡ new_text (behind_segments l v (there doc s ss c w h))
   dash_text =
+      let before_is : (there doc s ss c w h).before ≡ (own doc s ss c w h).before ++ row_front row =
+      ap (λ e. cond e ((own doc s ss c w h).before ++ row_front row) (((own doc s ss c w h).before ++ row_front row) ++ ((slices row).space ++ (slices row).anchor))) bare in
       let a : List ℕ = h.found.s.before in
       let b : List ℕ = rows_text (front doc s ss c w h) [] in
       let d : List ℕ = row_front row in
@@ -178,4 +192,5 @@ module _ (doc : ℕ) (s : Step) (ss : List Step) (c : Cut) (w : MarkPlace) (h : 
       let parts : a ++ (b ++ (d ++ (32 ∷ (x ++ ((t.white ++ (t.comment ++ t.line.break)) ++ z))))) ≡ ((a ++ b) ++ d) ++ ((32 ∷ x) ++ (t.white ++ (t.comment ++ ((t.line.break ++ z) ++ [])))) = simp (append_assoc, append-nil) refl in
       ap (λ u. a ++ (b ++ u)) (behind_text below row rs (x ++ (last ++ z)) z begun dash (value_spelled v l below last z filled.filled filled.value))
       ∙ (ap (λ u. a ++ (b ++ (d ++ (32 ∷ (x ++ (u ++ z)))))) t.line.spelled
-      ∙ (parts ∙ ap (λ n. ((a ++ b) ++ d) ++ ((32 ∷ block_value l (item_column n) v) ++ (t.white ++ (t.comment ++ ((t.line.break ++ z) ++ []))))) (sym (column_is doc s ss c w h))))
+      ∙ (parts ∙ ap (λ n. ((a ++ b) ++ d) ++ ((32 ∷ block_value l (item_column n) v) ++ (t.white ++ (t.comment ++ ((t.line.break ++ z) ++ []))))) (sym (column_is doc s ss c w h))
+      ∙ ap (λ u. u ++ ((32 ∷ block_value l (item_column (there doc s ss c w h).column) v) ++ (t.white ++ (t.comment ++ ((t.line.break ++ z) ++ []))))) (sym before_is)))

@@ -1,5 +1,5 @@
 -- Replacing a node by a collection in block style is a way.
-use Rattle.std.proofs.Common.{◌≡◌, ℕ, ◌≤◌, not, Bool, true, false, cond, List, [], ◌∷◌, ◌++◌, length, replicate, Some, None, refl, sym, ap, ◌∙◌, subst, append_assoc, append-nil}
+use Rattle.std.proofs.Common.{◌≡◌, ℕ, ◌≤◌, not, ◌||◌, Bool, true, false, cond, List, [], ◌∷◌, ◌++◌, length, replicate, Some, None, refl, sym, ap, ◌∙◌, subst, append_assoc, append-nil}
 use Rattle.std.proofs.lemmas.Bool.{false≢true}
 use Rattle.yq_scalar.specs.BlockWritten.{break_text}
 use Rattle.yq_scalar.specs.Characters.{text_limit}
@@ -7,7 +7,7 @@ use Rattle.yq_scalar.specs.Paths.{Step, node_at}
 use Rattle.yq_scalar.specs.Text.{is_empty}
 use Rattle.yq_scalar.specs.Tree as tree
 use Rattle.yq_scalar.specs.Tree.{Node}
-use Rattle.yq_scalar.proofs.Bools.{and_true, guard_then}
+use Rattle.yq_scalar.proofs.Bools.{and_true, guard_then, or_false}
 use Rattle.yq_inline.specs.Valued.{IsValueTree}
 use Rattle.yq_lines.specs.Anchors.{names_of}
 use Rattle.yq_lines.specs.Places.{Found, content}
@@ -127,11 +127,11 @@ module _ (doc : ℕ) (s : Step) (ss : List Step) (c : Cut) (w : MarkPlace) (h : 
 
       behind_reads : is_compact place ≡ true → length (new_text (behind_segments l v place)) ≤ text_limit → ReadsAfter op c (new_text (behind_segments l v place))
       behind_reads is size =
-          let both = and_true (not place.keyed) (is_empty place.comment) is in
-          let no_key : place.keyed ≡ false = not_true place.keyed both.0 in
-          let new : List Row = behind_rows doc s ss c w h l (mapping_least doc c) v filled near no_key both.1 in
-          let t : TakesMark doc s ss c w h v new = takes_behind doc s ss c w h l (mapping_least doc c) v filled near no_key both.1 in
-          let text : cut_text (put_document doc (q doc s ss c w h v new t) c) ≡ new_text (behind_segments l v place) = q_text doc s ss c w h v new t ∙ dash_text doc s ss c w h l (mapping_least doc c) v filled near no_key both.1 in
+          let both = and_true (not (place.keyed || place.named)) (is_empty place.comment) is in
+          let none = or_false place.keyed place.named (not_true (place.keyed || place.named) both.0) in
+          let new : List Row = behind_rows doc s ss c w h l (mapping_least doc c) v filled near none.0 none.1 both.1 in
+          let t : TakesMark doc s ss c w h v new = takes_behind doc s ss c w h l (mapping_least doc c) v filled near none.0 none.1 both.1 in
+          let text : cut_text (put_document doc (q doc s ss c w h v new t) c) ≡ new_text (behind_segments l v place) = q_text doc s ss c w h v new t ∙ dash_text doc s ss c w h l (mapping_least doc c) v filled near none.0 none.1 both.1 in
           subst (ReadsAfter op c) text (mark_reads doc s ss c w h v new t may_there (subst IsReadable (sym text) (segments_readable (behind_segments l v place) behind_pieces size)))
 
       block_reads : length (new_text (block_segments l v place)) ≤ text_limit → ReadsAfter op c (new_text (block_segments l v place))

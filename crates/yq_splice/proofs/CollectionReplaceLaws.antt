@@ -46,7 +46,7 @@ use Rattle.yq_expr.specs.Fits.{Fits}
 use Rattle.yq_expr.specs.Operations.{Operation, replace, append, remove, line_comment, head_comment}
 use Rattle.yq_expr.specs.Rooms.{room_of}
 use Rattle.yq_splice.specs.BlockWriting.{below_mark, lines_below}
-use Rattle.yq_splice.specs.CollectionReplacing.{LinesUnder, Written, beside_mark, exchange_segments, lines_under, lines_upto, replace_collection_way, up_to, written_of, written_there}
+use Rattle.yq_splice.specs.CollectionReplacing.{bare_mark, LinesUnder, Written, beside_mark, exchange_segments, lines_under, lines_upto, replace_collection_way, up_to, written_of, written_there}
 use Rattle.yq_splice.specs.Done.{ArePieces}
 use Rattle.yq_splice.specs.Layouts.{layout_of}
 use Rattle.yq_splice.specs.Operands.{HasOperand}
@@ -78,7 +78,7 @@ same_below rows.Bare l v n e = absurd (false≢true e)
 same_below rows.Dash l v n e = refl
 same_below (rows.Key key colon) l v n e = refl
 
-module _ (doc : ℕ) (s : Step) (ss : List Step) (c : Cut) (w : MarkPlace) (x : CollectionEnd) (read : read_at (cut_text c) ≡ Some c) (at : mark_place doc (s ∷ ss) c ≡ Some w) (ends : collection_end doc (s ∷ ss) c ≡ Some x) (v : Node) where
+module _ (doc : ℕ) (s : Step) (ss : List Step) (c : Cut) (w : MarkPlace) (x : CollectionEnd) (read : read_at (cut_text c) ≡ Some c) (at : bare_mark doc (s ∷ ss) c ≡ Some w) (ends : collection_end doc (s ∷ ss) c ≡ Some x) (v : Node) where
   abbrev h : NodeRows doc s ss c
   h = node doc s ss c w x read at ends
 
@@ -222,7 +222,7 @@ pub record IsCollectionWay (doc : ℕ) (steps : List Step) (v : Node) (c : Cut) 
   pub ss : List Step
   pub steps_are : steps ≡ s ∷ ss
   pub w : MarkPlace
-  pub at : mark_place doc (s ∷ ss) c ≡ Some w
+  pub at : bare_mark doc (s ∷ ss) c ≡ Some w
   pub x : CollectionEnd
   pub ends : collection_end doc (s ∷ ss) c ≡ Some x
   pub y : Written
@@ -230,9 +230,10 @@ pub record IsCollectionWay (doc : ℕ) (steps : List Step) (v : Node) (c : Cut) 
   pub are : exchange_segments (lines_upto w x) y ≡ us
 
 -- a root has no key or dash
-pub no_mark : (doc : ℕ) (c : Cut) (w : MarkPlace) → mark_place doc [] c ≡ Some w → ⊥
+pub no_mark : (doc : ℕ) (c : Cut) (w : MarkPlace) → bare_mark doc [] c ≡ Some w → ⊥
 no_mark doc c w e =
-    let ends = bind_some (line_end doc [] c) e in
+    let m = bind_some (mark_place doc [] c) e in
+    let ends = bind_some (line_end doc [] c) m.1 in
     let y = bind_some (row_of_path doc [] c) ends.1 in
     none_some (Rattle.yq_splice.proofs.CommentRowLaws.row_found doc [] c y.0 y.1).seat_is
 
@@ -240,12 +241,12 @@ collection_way : (doc : ℕ) (steps : List Step) (v : Node) (c : Cut) (us : List
 unfolding replace_collection_way
 collection_way doc steps v c us e =
     let b = bind_some (lines_under doc steps c) e in
-    let m = bind_some (mark_place doc steps c) b.1 in
+    let m = bind_some (bare_mark doc steps c) b.1 in
     let x = map_some (collection_end doc steps c) m.2 in
     let y = map_some (written_there (layout_of doc c) v b.0.mark) b.2 in
     by steps m.0 m.1 x.0 x.1 y.0 (subst (λ (q : LinesUnder). written_there (layout_of doc c) v q.mark ≡ Some y.0) (sym x.2) y.1) (subst (λ (q : LinesUnder). exchange_segments q y.0 ≡ us) (sym x.2) y.2)
   where
-    by : (steps : List Step) (w : MarkPlace) → mark_place doc steps c ≡ Some w → (x : CollectionEnd) → collection_end doc steps c ≡ Some x → (y : Written) → written_there (layout_of doc c) v w ≡ Some y → exchange_segments (lines_upto w x) y ≡ us →
+    by : (steps : List Step) (w : MarkPlace) → bare_mark doc steps c ≡ Some w → (x : CollectionEnd) → collection_end doc steps c ≡ Some x → (y : Written) → written_there (layout_of doc c) v w ≡ Some y → exchange_segments (lines_upto w x) y ≡ us →
         IsCollectionWay doc steps v c us
     by [] w at x ends y written are = absurd (no_mark doc c w at)
     by (s ∷ ss) w at x ends y written are = record { s = s; ss = ss; steps_are = refl; w = w; at = at; x = x; ends = ends; y = y; written = written; are = are }
@@ -259,7 +260,7 @@ collection_old doc steps v c us read e =
 same_document : {d g : Document} → Some d ≡ Some g → d ≡ g
 same_document h = cc
 
-reads_there : (doc : ℕ) (s : Step) (ss : List Step) (v : Node) (c : Cut) (w : MarkPlace) (x : CollectionEnd) (y : Written) → read_at (cut_text c) ≡ Some c → mark_place doc (s ∷ ss) c ≡ Some w → collection_end doc (s ∷ ss) c ≡ Some x →
+reads_there : (doc : ℕ) (s : Step) (ss : List Step) (v : Node) (c : Cut) (w : MarkPlace) (x : CollectionEnd) (y : Written) → read_at (cut_text c) ≡ Some c → bare_mark doc (s ∷ ss) c ≡ Some w → collection_end doc (s ∷ ss) c ≡ Some x →
     written_there (layout_of doc c) v w ≡ Some y → IsValueTree v → Fits (room_of (cut_text c)) (replace doc (s ∷ ss) v) (documents c) → length (new_text (exchange_segments (lines_upto w x) y)) ≤ text_limit →
     ReadsAfter (replace doc (s ∷ ss) v) c (new_text (exchange_segments (lines_upto w x) y))
 reads_there doc s ss v c w x y read at ends written value_tree fits =

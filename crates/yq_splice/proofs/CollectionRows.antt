@@ -1,12 +1,12 @@
 -- The rows of a block collection under a key or dash, and the text round them.
-use Rattle.std.proofs.Common.{◌≡◌, ◌⊎◌, inl, inr, ℕ, ℤ, suc, ◌+◌, ◌-◌, ◌<◌, not, true, false, ◌&&◌, List, [], ◌∷◌, ◌++◌, length, take, drop, Option, Some, None, refl, sym, ap, ◌∙◌, subst, arith, append_assoc, append-nil, length-append}
+use Rattle.std.proofs.Common.{◌≡◌, ◌⊎◌, inl, inr, ℕ, ℤ, suc, ◌+◌, ◌-◌, ◌<◌, not, Bool, true, false, cond, ◌&&◌, List, [], ◌∷◌, ◌++◌, length, take, drop, Option, Some, None, option_map, refl, sym, ap, ◌∙◌, subst, arith, append_assoc, append-nil, length-append}
 use Rattle.std.proofs.Math.Seq.{take-append_seam}
 use Rattle.std.proofs.lemmas.Bool.{false≢true}
 use Rattle.yq_scalar.specs.Characters.{pairs_returns}
 use Rattle.yq_scalar.specs.Answers.{◌>>=◌}
 use Rattle.yq_scalar.specs.Paths.{Step}
 use Rattle.yq_scalar.specs.Text.{is_break, is_empty, is_line}
-use Rattle.yq_scalar.proofs.Bools.{and_true, bind_some, guard_then}
+use Rattle.yq_scalar.proofs.Bools.{and_true, bind_some}
 use Rattle.yq_scalar.proofs.BlockPieceLaws.{IsLf}
 use Rattle.yq_inline.specs.Nodes as inline
 use Rattle.yq_lines.specs.Comments.{line_comment}
@@ -26,7 +26,7 @@ use Rattle.yq_rows.proofs.seams.SeamLaws.{rows_text-append}
 use Rattle.yq_tree.specs.CollectionEnds.{CollectionEnd, collection_end}
 use Rattle.yq_tree.specs.CommentPlaces.{LineEnd, end_before, end_of_line, line_end, line_text}
 use Rattle.yq_tree.specs.Lines.{content_anchor, head_of, lines_of, row_lines}
-use Rattle.yq_tree.specs.MarkPlaces.{MarkPlace, behind_mark, column_of, mark_at, mark_in, mark_place}
+use Rattle.yq_tree.specs.MarkPlaces.{MarkPlace, behind_anchor, column_of, mark_at, mark_in, mark_place, upto_anchor}
 use Rattle.yq_tree.specs.Nodes.{anchor_of}
 use Rattle.yq_tree.specs.PlacedRows.{PlacedRow, placed_row, row_of_path}
 use Rattle.yq_tree.specs.PrintedLines.{last_break}
@@ -34,7 +34,7 @@ use Rattle.yq_tree.specs.Reading.{outline_of, read_at}
 use Rattle.yq_tree.proofs.CommentPieceLaws.{Ended}
 use Rattle.yq_tree.proofs.LastBreakLaws.{lf_last}
 use Rattle.yq_tree.proofs.LineEndLaws.{end_of_tail, line_tail, tail_is_end}
-use Rattle.yq_tree.proofs.PrintedTexts.{none_some, same}
+use Rattle.yq_tree.proofs.PrintedTexts.{map_some, none_some}
 use Rattle.yq_change.specs.CollectionPlaces.{IsCollectionEnd}
 use Rattle.yq_change.specs.DocumentRows.{IsDocumentPart, behind_document}
 use Rattle.yq_change.specs.Siblings.{HasEntries, NodeLines, under_line}
@@ -52,7 +52,7 @@ use Rattle.yq_change.proofs.TextPieceLaws.{text_is_piece}
 use Rattle.yq_change.proofs.UnderLaws.{is_mark, line_is}
 use Rattle.yq_change.proofs.PartLaws.{document_known}
 use Rattle.yq_block.specs.BlockPlaces.{at_mark}
-use Rattle.yq_splice.specs.CollectionReplacing.{up_to}
+use Rattle.yq_splice.specs.CollectionReplacing.{bare_mark, up_to}
 use Rattle.yq_splice.proofs.BreakLaws.{IsLfOrCrLf, break_is, last_is}
 use Rattle.yq_splice.proofs.BrokenTails.{comment_other}
 use Rattle.yq_splice.proofs.CommentRowLaws.{count_front, found_text, IsFound, line_whole, row_found}
@@ -185,18 +185,29 @@ module _ (tail more : List ℕ) (h : IsTail tail more) (pairs : pairs_returns (t
 
 -- ---- the place
 
-module _ (doc : ℕ) (s : Step) (ss : List Step) (c : Cut) (w : MarkPlace) (x : CollectionEnd) (read : read_at (cut_text c) ≡ Some c) (at : mark_place doc (s ∷ ss) c ≡ Some w) (ends : collection_end doc (s ∷ ss) c ≡ Some x) where
+module _ (doc : ℕ) (s : Step) (ss : List Step) (c : Cut) (w : MarkPlace) (x : CollectionEnd) (read : read_at (cut_text c) ≡ Some c) (at : bare_mark doc (s ∷ ss) c ≡ Some w) (ends : collection_end doc (s ∷ ss) c ≡ Some x) where
   abbrev pub z : List ℕ
   z = behind_document doc c
 
-  pub line_there : (e : LineEnd) × (line_end doc (s ∷ ss) c ≡ Some e) × ((row_of_path doc (s ∷ ss) c >>= mark_in e) ≡ Some w)
-  line_there = bind_some (line_end doc (s ∷ ss) c) at
+  mark_there : (mark_place doc (s ∷ ss) c ≡ Some w) × (w.named ≡ false)
+  mark_there = let m = bind_some (mark_place doc (s ∷ ss) c) at in let g = guard_not m.0.named m.2 in (m.1 ∙ g.1, ap (λ (o : Option MarkPlace). named_of o) (sym g.1) ∙ g.0)
+    where
+      named_of : Option MarkPlace → Bool
+      named_of None = false
+      named_of (Some q) = q.named
+
+      guard_not : {x y : MarkPlace} (b : Bool) → cond b None (Some x) ≡ Some y → (b ≡ false) × (Some x ≡ Some y)
+      guard_not true h = absurd (none_some h)
+      guard_not false h = (refl, h)
+
+  pub line_there : (e : LineEnd) × (line_end doc (s ∷ ss) c ≡ Some e) × (option_map (mark_in e) (row_of_path doc (s ∷ ss) c) ≡ Some w)
+  line_there = bind_some (line_end doc (s ∷ ss) c) mark_there.0
 
   abbrev pub e : LineEnd
   e = line_there.0
 
-  pub row_there : (y : PlacedRow) × (row_of_path doc (s ∷ ss) c ≡ Some y) × (mark_in line_there.0 y ≡ Some w)
-  row_there = bind_some (row_of_path doc (s ∷ ss) c) line_there.2
+  pub row_there : (y : PlacedRow) × (row_of_path doc (s ∷ ss) c ≡ Some y) × (mark_in line_there.0 y ≡ w)
+  row_there = map_some (row_of_path doc (s ∷ ss) c) line_there.2
 
   abbrev pub y : PlacedRow
   y = row_there.0
@@ -288,8 +299,15 @@ module _ (doc : ℕ) (s : Step) (ss : List Step) (c : Cut) (w : MarkPlace) (x : 
   }
 
   -- nothing is written behind the key or dash
-  told_mark : mark_at ((placed_row f.s f.x).before ++ row_front row) (slices row) line_there.0 ≡ Some w
+  told_mark : mark_at ((placed_row f.s f.x).before ++ row_front row) (slices row) line_there.0 ≡ w
   told_mark = ap (λ (q : PlacedRow). mark_in line_there.0 q) f.is ∙ row_there.2
+
+  bare : is_empty (slices row).anchor ≡ true
+  bare = not_false (is_empty (slices row).anchor) (ap (λ (q : MarkPlace). q.named) told_mark ∙ mark_there.1)
+    where
+      not_false : (b : Bool) → not b ≡ false → b ≡ true
+      not_false true e = refl
+      not_false false e = absurd (false≢true (sym e))
 
   head_none : head_of row.content ≡ None
   head_none = ap (λ (l : Line). l.head) (line_is f.s.part s ss front row reach.0 col.back has even) ∙ un.open'
@@ -297,7 +315,7 @@ module _ (doc : ℕ) (s : Step) (ss : List Step) (c : Cut) (w : MarkPlace) (x : 
   pub nothing : (t : List ℕ) × (f.x.row.content ≡ Nothing t)
   nothing =
       nothing_there (parent_indent row) row.content (rows_text (reach.0 ++ col.back) (f.s.part.end ++ behind_document doc c)) (rows_there doc s ss c node).0.content head_none
-      (guard_then (is_empty (slices row).anchor) told_mark).0
+      bare
 
   pub unnamed : anchor_of (content un.found.line un.found.under) ≡ None
   unnamed =
@@ -345,18 +363,20 @@ module _ (doc : ℕ) (s : Step) (ss : List Step) (c : Cut) (w : MarkPlace) (x : 
       ∙ (sym (ap end_of_line f.is) ∙ ((λ i. end_before (front_is i) (more_is i)) ∙ tail_is_end front_text nothing.0 rest tail))
 
   abbrev pub there : MarkPlace
-  there = record { before = front_text; gone = []; white = tail.white; comment = tail.comment; behind = tail.line.break ++ rest; column = mark_column row; keyed = is_key row.mark }
+  there = record { before = front_text; gone = []; white = tail.white; comment = tail.comment; behind = tail.line.break ++ rest; column = mark_column row; keyed = is_key row.mark; named = false }
 
   entry_is : is_entry row.mark ≡ true
   entry_is = is_mark f.s.part s ss front row reach.0 col.back has even
 
   pub there_is : there ≡ w
   there_is =
-      let gone : [] ≡ behind_mark (slices row) = ap (λ (q : Content). let a = content_cut q in a.0 ++ (a.1 ++ (a.2 ++ a.3))) (sym nothing.1) in
+      let before : front_text ≡ upto_anchor front_text (slices row) = ap (λ (q : Content). let a = content_cut q in cond (is_empty a.1) front_text (front_text ++ (a.0 ++ a.1))) (sym nothing.1) in
+      let gone : [] ≡ behind_anchor (slices row) = ap (λ (q : Content). let a = content_cut q in cond (is_empty a.1) (a.0 ++ (a.2 ++ a.3)) (a.2 ++ a.3)) (sym nothing.1) in
+      let named : false ≡ not (is_empty (slices row).anchor) = ap (λ (q : Content). not (is_empty (content_cut q).1)) (sym nothing.1) in
       let column : mark_column row ≡ column_of (slices row).parent = sym (indent_column row.mark (mark_column row) entry_is) in
       let keyed : is_key row.mark ≡ not (is_empty (slices row).colon) = sym (keyed_is row.mark row.content (rows_text (reach.0 ++ col.back) (f.s.part.end ++ behind_document doc c)) (rows_there doc s ss c node).0.mark) in
-      (λ i. record { before = front_text; gone = gone i; white = (sym end_is i).white; comment = (sym end_is i).comment; behind = (sym end_is i).behind; column = column i; keyed = keyed i })
-      ∙ same (guard_then (is_empty (slices row).anchor) told_mark).1
+      (λ i. record { before = before i; gone = gone i; white = (sym end_is i).white; comment = (sym end_is i).comment; behind = (sym end_is i).behind; column = column i; keyed = keyed i; named = named i })
+      ∙ told_mark
 
   -- ---- the lines that go
 

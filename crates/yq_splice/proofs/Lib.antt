@@ -54,6 +54,7 @@ pub mod FlowAnswers
 pub mod FlowReplaceAnswers
 pub mod FlowAppendAnswers
 pub mod BrokenTails
+pub mod MarkContentLaws
 pub mod MarkRowLaws
 pub mod MarkFacts
 pub mod MarkReplaceLaws

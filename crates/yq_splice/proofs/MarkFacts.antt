@@ -21,12 +21,12 @@ use Rattle.yq_rows.proofs.splices.PartPlaces.{part_ends}
 use Rattle.yq_tree.specs.CommentPlaces.{LineEnd, end_before, line_text, end_of_line}
 use Rattle.yq_tree.specs.Documents.{document_parts}
 use Rattle.yq_tree.specs.Lines.{lines_of}
-use Rattle.yq_tree.specs.MarkPlaces.{MarkPlace, column_of, behind_mark}
+use Rattle.yq_tree.specs.MarkPlaces.{MarkPlace, behind_anchor, behind_mark, column_of, mark_at, upto_anchor}
 use Rattle.yq_tree.specs.PlacedRows.{PlacedRow, placed_row}
 use Rattle.yq_tree.specs.Reading.{outline_of, read_at}
 use Rattle.yq_tree.proofs.FoundLines.{each}
 use Rattle.yq_tree.proofs.LineEndLaws.{line_tail, end_of_tail, tail_is_end}
-use Rattle.yq_tree.proofs.PrintedTexts.{same}
+use Rattle.yq_tree.proofs.MarkLaws.{mark_seam}
 use Rattle.yq_tree.proofs.ReadLaws.{text_takes}
 use Rattle.yq_tree.proofs.RowPathLaws.{document_fine}
 use Rattle.yq_change.specs.Changed.{put_document}
@@ -100,21 +100,21 @@ module _ (doc : ℕ) (s : Step) (ss : List Step) (c : Cut) (w : MarkPlace) (h : 
   -- the place, by the pieces of the row
   abbrev pub there : MarkPlace
   there = record {
-    before = own.before ++ row_front r;
-    gone = behind_mark (slices r);
+    before = upto_anchor (own.before ++ row_front r) (slices r);
+    gone = behind_anchor (slices r);
     white = tail.white;
     comment = tail.comment;
     behind = tail.line.break ++ rest;
     column = column_of (parent_indent r);
     keyed = not (is_empty (slices r).colon);
+    named = not (is_empty (slices r).anchor);
   }
 
   pub there_is : there ≡ w
   there_is =
       let ends : end_of_line own ≡ end_of_tail (own.before ++ line_text r) (slices r).tail rest tail =
       ap (λ q. end_before (own.before ++ line_text r) ((slices r).tail ++ (q ++ rest))) raw ∙ tail_is_end (own.before ++ line_text r) (slices r).tail rest tail in
-      ap (λ (e : LineEnd). record { before = own.before ++ row_front r; gone = behind_mark (slices r); white = e.white; comment = e.comment; behind = e.behind; column = column_of (parent_indent r); keyed = not (is_empty (slices r).colon) }) (sym ends)
-      ∙ same (guard_then (is_empty (slices r).anchor) h.is).1
+      ap (λ (e : LineEnd). mark_at (own.before ++ row_front r) (slices r) e) (sym ends) ∙ h.is
 
   pub column_is : there.column ≡ mark_column r
   column_is = indent_column r.mark (mark_column r) entry
@@ -130,7 +130,7 @@ module _ (doc : ℕ) (s : Step) (ss : List Step) (c : Cut) (w : MarkPlace) (h : 
   parted =
       whole
       ∙ (line_whole own ∙ (ap (λ q. (own.before ++ line_text r) ++ ((slices r).tail ++ (q ++ rest))) raw
-      ∙ (ap (λ l. l ++ ((slices r).tail ++ rest)) (sym (append_assoc own.before (row_front r) (behind_mark (slices r)))) ∙ append_assoc there.before there.gone ((slices r).tail ++ rest))))
+      ∙ (ap (λ l. l ++ ((slices r).tail ++ rest)) (sym (append_assoc own.before (row_front r) (behind_mark (slices r))) ∙ sym (mark_seam (own.before ++ row_front r) (slices r))) ∙ append_assoc there.before there.gone ((slices r).tail ++ rest))))
 
   pub piece : IsPiece (cut_text c)
   piece = text_is_piece c h.old.read

@@ -1,29 +1,31 @@
 -- The text round a key or dash is in pieces.
-use Rattle.std.proofs.Common.{◌≡◌, ℕ, ◌<◌, true, false, List, [], ◌∷◌, ◌++◌, length, replicate, refl, sym, ap, ◌∙◌, subst, arith, append_assoc, append-nil}
+use Rattle.std.proofs.Common.{◌≡◌, ℕ, ◌<◌, Bool, true, false, cond, List, [], ◌∷◌, ◌++◌, length, replicate, refl, sym, ap, ◌∙◌, subst, arith, append_assoc, append-nil}
 use Rattle.std.proofs.Math.Seq.{take-append_seam}
 use Rattle.std.proofs.lemmas.Bool.{false≢true}
 use Rattle.std.proofs.lemmas.Str.{IsUtf8-take}
 use Rattle.std.specs.Str.{IsUtf8}
 use Rattle.yq_scalar.specs.Characters.{pairs_returns}
 use Rattle.yq_scalar.specs.Paths.{Step}
-use Rattle.yq_scalar.specs.Text.{front, is_feed, is_return, ends_line, NoneIn}
+use Rattle.yq_scalar.specs.Text.{front, is_empty, is_feed, is_return, ends_line, NoneIn}
 use Rattle.yq_scalar.proofs.Bools.{and_true}
 use Rattle.yq_rows.specs.Exchange.{row_front}
 use Rattle.yq_rows.specs.Gap.{IsComment}
 use Rattle.yq_rows.specs.Grammar.{IsMark, IsTail, is_entry}
 use Rattle.yq_rows.specs.Rows as rows
-use Rattle.yq_rows.specs.Rows.{Content, Row, dashes_text, mark_text, print_row, Cut, cut_text}
-use Rattle.yq_rows.specs.View.{slices}
+use Rattle.yq_rows.specs.Rows.{Content, Row, parent_indent, dashes_text, mark_text, print_row, Cut, cut_text}
+use Rattle.yq_rows.specs.View.{Slices, slices}
 use Rattle.yq_rows.proofs.CharacterLaws.{pairs_back}
 use Rattle.yq_rows.proofs.LineEnds.{white_none}
 use Rattle.yq_rows.proofs.NodePieces.{BeginsAscii, before_ascii, behind_ascii, tail_ascii}
 use Rattle.yq_rows.proofs.seams.ScalarSeams.{ends_return}
-use Rattle.yq_tree.specs.MarkPlaces.{MarkPlace}
+use Rattle.yq_tree.specs.MarkPlaces.{MarkPlace, behind_anchor, upto_anchor}
 use Rattle.yq_tree.proofs.LineEndLaws.{comment_more}
+use Rattle.yq_tree.proofs.MarkLaws.{mark_seam}
 use Rattle.yq_change.specs.TextPieces.{IsPiece, BeginsPiece}
 use Rattle.yq_change.proofs.LineFrontLaws.{clean_cut, ends_more, line_ends_clean}
 use Rattle.yq_change.proofs.TextPieceLaws.{byte_cut}
 use Rattle.yq_splice.proofs.BrokenTails.{end_tail, front_clean}
+use Rattle.yq_splice.proofs.MarkContentLaws.{AnchorEnds, anchor_ends}
 use Rattle.yq_splice.proofs.MarkFacts.{r, rest, limit, rows_there, entry, tail, there, raw, own, whole, parted, piece, pairs}
 use Rattle.yq_splice.proofs.MarkRowLaws.{HasMark}
 
@@ -80,6 +82,26 @@ pub record MarkPieces (w : MarkPlace) : Type 0 where
   pub comment : IsPiece w.comment
   pub behind : IsPiece w.behind
 
+-- what is written behind an anchor
+behind_is : (s : Slices) → is_empty s.anchor ≡ false → s.apart ++ s.head ≡ behind_anchor s
+behind_is s e = ap (λ b. cond b (s.space ++ (s.apart ++ s.head)) (s.apart ++ s.head)) (sym e)
+
+-- a text cut behind a mark, and behind the anchor there, if there is one
+mark_cut : (last : ℕ) (front : List ℕ) (s : Slices) (t : List ℕ) → EndsIn last front → (last < 128) × (is_return last ≡ false) → (is_empty s.anchor ≡ false → AnchorEnds s.anchor (behind_anchor s ++ t)) →
+    IsPiece (upto_anchor front s ++ (behind_anchor s ++ t)) → IsPiece (upto_anchor front s) × IsPiece (behind_anchor s ++ t)
+mark_cut last front s t ends low named = go (is_empty s.anchor) refl named
+  where
+    go : (b : Bool) → is_empty s.anchor ≡ b → (b ≡ false → AnchorEnds s.anchor (behind_anchor s ++ t)) → IsPiece (cond b front (front ++ (s.space ++ s.anchor)) ++ (behind_anchor s ++ t)) →
+        IsPiece (cond b front (front ++ (s.space ++ s.anchor))) × IsPiece (behind_anchor s ++ t)
+    go true e named all =
+        let cut = last_cut last ends.0 (behind_anchor s ++ t) low.0 low.1 (subst (λ q. IsPiece (q ++ (behind_anchor s ++ t))) ends.1 all) in
+        (subst IsPiece (sym ends.1) cut.0, cut.1)
+    go false e named all =
+        let k = named refl in
+        let whole : List ℕ = front ++ (s.space ++ s.anchor) in
+        let clean : ends_return whole ≡ false = ap ends_return (sym (append_assoc front s.space s.anchor)) ∙ (ends_more (front ++ s.space) s.anchor e ∙ k.clean) in
+        clean_cut whole (behind_anchor s ++ t) all (front_utf8 whole (behind_anchor s ++ t) all k.ascii) (λ f. clean)
+
 pub mark_pieces : (doc : ℕ) (s : Step) (ss : List Step) (c : Cut) (w : MarkPlace) (h : HasMark doc s ss c w) → MarkPieces (there doc s ss c w h)
 mark_pieces doc s ss c w h =
     let row : Row = r doc s ss c w h in
@@ -89,15 +111,18 @@ mark_pieces doc s ss c w h =
     let is_row = (rows_there doc s ss c w h).0 in
     let last : ℕ = last_of row.mark in
     let low = low_last row.mark in
-    let ends : EndsIn last place.before =
+    let ends : EndsIn last ((own doc s ss c w h).before ++ row_front row) =
     ends_behind last (own doc s ss c w h).before (row_front row) (ends_behind last row.gap _ (ends_behind last (replicate row.column 32) _ (dashes_end last row.dashes (mark_text row.mark []) (mark_ends row.mark row.content z (entry doc s ss c w h) is_row.mark)))) in
     let all : IsPiece (place.before ++ (place.gone ++ ((slices row).tail ++ z))) = subst IsPiece (parted doc s ss c w h) (piece doc s ss c w h) in
-    let first = last_cut last ends.0 (place.gone ++ ((slices row).tail ++ z)) low.0 low.1 (subst (λ q. IsPiece (q ++ (place.gone ++ ((slices row).tail ++ z)))) ends.1 all) in
+    let sl : Slices = slices row in
+    let first = mark_cut last ((own doc s ss c w h).before ++ row_front row) sl (sl.tail ++ z) ends low
+    (λ some. subst (λ q. AnchorEnds sl.anchor (q ++ (sl.tail ++ z))) (behind_is sl some) (anchor_ends (parent_indent row) row.content z h.inline some is_row.content)) all in
     let row_pairs : pairs_returns (print_row row z) ≡ true =
     pairs_back (own doc s ss c w h).before (print_row row z) (ap pairs_returns (sym (whole doc s ss c w h)) ∙ (and_true _ (pairs_returns (cut_text c)) (piece doc s ss c w h).characters).1) in
     let second =
     clean_cut place.gone ((slices row).tail ++ z) first.1 (front_utf8 place.gone ((slices row).tail ++ z) first.1 (tail_ascii (slices row).tail z t))
-    (λ f. gone_clean (row_front row) place.gone (line_ends_clean (limit doc s ss c w h) row z is_row row_pairs (subst (λ q. front is_feed ((slices row).tail ++ (q ++ z)) ≡ true) (sym (raw doc s ss c w h)) f))) in
+    (λ f. gone_clean (upto_anchor (row_front row) sl) place.gone
+    (ap ends_return (mark_seam (row_front row) sl) ∙ line_ends_clean (limit doc s ss c w h) row z is_row row_pairs (subst (λ q. front is_feed ((slices row).tail ++ (q ++ z)) ≡ true) (sym (raw doc s ss c w h)) f))) in
     let line : List ℕ = t.white ++ t.comment in
     let behind : List ℕ = t.line.break ++ z in
     let split : (slices row).tail ++ z ≡ line ++ behind = ap (λ l. l ++ z) (t.line.spelled ∙ sym (append_assoc t.white t.comment t.line.break)) ∙ append_assoc line t.line.break z in
@@ -107,4 +132,4 @@ mark_pieces doc s ss c w h =
     clean_cut line behind rest_piece (front_utf8 line behind rest_piece (tail_ascii t.line.break z (end_tail (slices row).tail z t)))
     (λ f. front_clean line behind (ap pairs_returns (sym split) ∙ pairs doc s ss c w h) none) in
     let both = byte_cut t.white t.comment third.0 (comment_front t.comment t.line.break t.line.remark) in
-    record { before = subst IsPiece (sym ends.1) first.0; white = both.0; comment = both.1; behind = third.1 }
+    record { before = first.0; white = both.0; comment = both.1; behind = third.1 }

@@ -1,12 +1,10 @@
 -- Rows in the place of that of a key or dash: the document with another value there.
-use Rattle.std.proofs.Common.{◌≡◌, ℕ, suc, ◌+◌, ◌<◌, ◌≤◌, Bool, true, false, List, [], ◌∷◌, ◌++◌, length, Option, Some, None, refl, sym, ap, ◌∙◌, subst, arith, append_assoc, append-nil}
+use Rattle.std.proofs.Common.{◌≡◌, ℕ, suc, ◌+◌, ◌<◌, ◌≤◌, Bool, true, false, List, [], ◌∷◌, ◌++◌, length, Option, Some, refl, sym, ap, ◌∙◌, subst, arith, append_assoc, append-nil}
 use Rattle.std.proofs.lemmas.Bool.{false≢true, ltb-true}
 use Rattle.yq_scalar.specs.Paths.{Step, change}
-use Rattle.yq_scalar.specs.Text.{is_empty}
 use Rattle.yq_scalar.specs.Tree.{Node}
 use Rattle.yq_inline.specs.Alike.{Alike}
-use Rattle.yq_inline.specs.Nodes as inline
-use Rattle.yq_lines.specs.Anchors.{HaveOneAnchorEach}
+use Rattle.yq_lines.specs.Anchors.{HaveOneAnchorEach, IsFree}
 use Rattle.yq_lines.specs.Comments.{head_comment, line_comment}
 use Rattle.yq_lines.specs.Outline as outline
 use Rattle.yq_lines.specs.Outline.{Line, level, Outline, flatten, IsEven, anchored, head_or, label, null_node, value}
@@ -41,7 +39,6 @@ use Rattle.yq_change.proofs.InlineReplaceLaws.{entry_back}
 use Rattle.yq_change.proofs.LeadLaws.{same_lead_goes}
 use Rattle.yq_change.proofs.LineLaws.{above_mark, dashes_count}
 use Rattle.yq_change.proofs.MovedLaws.{lines_append}
-use Rattle.yq_change.proofs.NodeLineLaws.{unanchored}
 use Rattle.yq_change.proofs.RemarkLaws.{last_lines}
 use Rattle.yq_change.proofs.ReplaceLaws.{node_rows_replaced, rows_before_some}
 use Rattle.yq_block.specs.BlockPlaces.{Replaces}
@@ -49,6 +46,7 @@ use Rattle.yq_block.proofs.LaidRows.{rows_append}
 use Rattle.yq_expr.specs.Operations.{replace}
 use Rattle.yq_splice.specs.Ways.{ReadsAfter}
 use Rattle.yq_splice.proofs.DoneLaws.{document_done}
+use Rattle.yq_splice.proofs.MarkContentLaws.{left_line}
 use Rattle.yq_splice.proofs.MarkFacts.{fine, even, p, front, r, back, end, rest, limit, rows_there, near, indent, put_text}
 use Rattle.yq_splice.proofs.MarkRowLaws.{HasMark}
 
@@ -58,16 +56,6 @@ tail_is : (x : Content) → (content_cut x).4 ≡ tail_of x
 tail_is (Nothing tail) = refl
 tail_is (Inline space node tail) = refl
 tail_is (Block space anchor block) = refl
-
-unnamed : (x : Content) → is_empty (content_cut x).1 ≡ true → content_anchor x ≡ None
-unnamed (Nothing tail) e = refl
-unnamed (Inline space inline.empty tail) e = refl
-unnamed (Inline space (inline.alias n) tail) e = refl
-unnamed (Inline space (inline.scalar q) tail) e = refl
-unnamed (Inline space (inline.coll k g is) tail) e = refl
-unnamed (Inline space (inline.anchored n g node) tail) e = absurd (false≢true e)
-unnamed (Block space None block) e = refl
-unnamed (Block space (Some a) block) e = absurd (false≢true e)
 
 led_below : (block : Bool) (lead : List (List ℕ)) (s : Step) (ss : List Step) (v : Node) → led block lead (s ∷ ss) v ≡ v
 led_below true lead s ss v = refl
@@ -86,7 +74,13 @@ same_first : (xs : List Line) (l m : Line) (ls ms : List Line) → l.mark ≡ m.
 same_first [] l m ls ms e = ap (λ k. Rattle.yq_lines.specs.Sound.is_entry k) e
 same_first (x ∷ xs) l m ls ms e = refl
 
--- Rows that are written for a value in the place of that of a key or dash: they may stand there, the first begins as that one does, and their lines are those of its dashes, the line of its mark with nothing but a tail behind it, and lines that stand for the value.
+-- the line of a row's mark behind which nothing but its anchor and a tail stand
+abbrev pub line_left : (doc : ℕ) (s : Step) (ss : List Step) (c : Cut) (w : MarkPlace) → HasMark doc s ss c w → List ℕ → Line
+line_left doc s ss c w h tail =
+    let row : Row = r doc s ss c w h in left_line (above_mark (head_comment row.gap) row.dashes) (mark_column row) row.mark (content_anchor row.content) tail
+
+-- Rows that are written for a value in the place of that of a key or dash: they may stand there, the first begins as that one does, and their lines are those of its dashes, the line of its mark with nothing but its anchor and a tail behind it,
+-- and lines that stand for the value.
 pub record TakesMark (doc : ℕ) (s : Step) (ss : List Step) (c : Cut) (w : MarkPlace) (h : HasMark doc s ss c w) (v : Node) (new : List Row) : Type 0 where
   pub first : Row
   pub more : List Row
@@ -98,10 +92,11 @@ pub record TakesMark (doc : ℕ) (s : Step) (ss : List Step) (c : Cut) (w : Mark
   pub level : ℕ
   pub under : Outline
   pub even : IsEven level under
-  pub deep : outline.level (mark_line (above_mark (head_comment (r doc s ss c w h).gap) (r doc s ss c w h).dashes) (mark_column (r doc s ss c w h)) (r doc s ss c w h).mark (Nothing tail)) < level
+  pub deep : outline.level (line_left doc s ss c w h tail) < level
+  pub free : IsFree (content_anchor (r doc s ss c w h).content) (flatten under)
   pub value_is : value under ≡ v
   pub lines : lines_of new ≡ dash_lines (head_comment (r doc s ss c w h).gap) (r doc s ss c w h).column (r doc s ss c w h).dashes
-      ++ (mark_line (above_mark (head_comment (r doc s ss c w h).gap) (r doc s ss c w h).dashes) (mark_column (r doc s ss c w h)) (r doc s ss c w h).mark (Nothing tail) ∷ flatten under)
+      ++ (line_left doc s ss c w h tail ∷ flatten under)
   pub keys : HaveFitKeys new
   pub anchors : HaveOneAnchorEach (flatten under)
 
@@ -131,7 +126,7 @@ module _ (doc : ℕ) (s : Step) (ss : List Step) (c : Cut) (w : MarkPlace) (h : 
   was = mark_line above (mark_column row) row.mark row.content
 
   abbrev now : Line
-  now = mark_line above (mark_column row) row.mark (Nothing t.tail)
+  now = line_left doc s ss c w h t.tail
 
   abbrev f : Found
   f = h.leads.found
@@ -166,13 +161,13 @@ module _ (doc : ℕ) (s : Step) (ss : List Step) (c : Cut) (w : MarkPlace) (h : 
     size_is = ap (λ u. suc (length (flatten u))) (sym h.leads.under);
     new_lines = t.lines;
     keys = t.keys;
-    anchors = (tt, t.anchors);
+    anchors = (t.free, t.anchors);
   }
 
-  old_anchor : anchor_of (content f.line f.under) ≡ None
+  old_anchor : anchor_of (content f.line f.under) ≡ content_anchor row.content
   old_anchor =
       (λ i. anchor_of (content (sym line_is i) (h.leads.under i)))
-      ∙ (content_named (parent_indent row) row.content (rest doc s ss c w h) (rows_there doc s ss c w h).0.content ∙ unnamed row.content h.bare)
+      ∙ content_named (parent_indent row) row.content (rest doc s ss c w h) (rows_there doc s ss c w h).0.content
 
   fits : LineFits [] f (replaced v) t.level now t.under
   unfolding level
@@ -182,7 +177,7 @@ module _ (doc : ℕ) (s : Step) (ss : List Step) (c : Cut) (w : MarkPlace) (h : 
     headless = tt;
     deep = t.deep;
     even = t.even;
-    node_is = unanchored (value t.under) ∙ (t.value_is ∙ (sym (unanchored v) ∙ ap (λ a. anchored a v) (sym old_anchor)));
+    node_is = ap (anchored (content_anchor row.content)) t.value_is ∙ ap (λ a. anchored a v) (sym old_anchor);
   }
 
   q_rows : q.rows ≡ fs ++ (new ++ bs)

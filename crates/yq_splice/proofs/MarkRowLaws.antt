@@ -20,7 +20,7 @@ use Rattle.yq_tree.specs.MarkPlaces.{MarkPlace, column_of, mark_at, mark_in, mar
 use Rattle.yq_tree.specs.PlacedRows.{PlacedRow, placed_row, row_of_path}
 use Rattle.yq_tree.specs.Reading.{outline_of, read_at}
 use Rattle.yq_tree.specs.Seats.{Seat, seat, seat_of}
-use Rattle.yq_tree.proofs.PrintedTexts.{none_some, same}
+use Rattle.yq_tree.proofs.PrintedTexts.{map_some, none_some, same}
 use Rattle.yq_change.specs.DocumentRows.{IsDocumentPart}
 use Rattle.yq_change.specs.InlineRows.{LeadsToEntry, LeadsToContent, IsRowPlace}
 use Rattle.yq_change.proofs.InlineRowLaws.{inline_placed}
@@ -86,8 +86,7 @@ pub record HasMark (doc : ℕ) (s : Step) (ss : List Step) (c : Cut) (w : MarkPl
   pub old : IsDocumentPart (cut_text c) c doc found.s.part
   pub leads : LeadsToEntry found.s.part s ss (take found.x.before found.s.part.rows) found.x.row
   pub inline : is_block found.x.row.content ≡ false
-  pub bare : is_empty (slices found.x.row).anchor ≡ true
-  pub is : mark_at ((placed_row found.s found.x).before ++ row_front found.x.row) (slices found.x.row) (end_of_line (placed_row found.s found.x)) ≡ Some w
+  pub is : mark_at ((placed_row found.s found.x).before ++ row_front found.x.row) (slices found.x.row) (end_of_line (placed_row found.s found.x)) ≡ w
 
 -- the row of a line that has an end
 pub end_there : (n : ℕ) (steps : List Step) (c : Cut) (e : LineEnd) (y : PlacedRow) → line_end n steps c ≡ Some e → row_of_path n steps c ≡ Some y → (y.line ≡ length y.row.dashes) × (end_of_line y ≡ e)
@@ -103,7 +102,7 @@ line_found s ss p f x is e = sym (ap (λ (o : Option (Found × List Step)). Ratt
 marked_in : (doc : ℕ) (s : Step) (ss : List Step) (c : Cut) (i : InlinePlace) (w : MarkPlace) → read_at (cut_text c) ≡ Some c → inline_from doc (s ∷ ss) c ≡ Some i → i.alone ≡ false → mark_place doc (s ∷ ss) c ≡ Some w → HasMark doc s ss c w
 marked_in doc s ss c i w read at beside is =
     let e = bind_some (line_end doc (s ∷ ss) c) is in
-    let y = bind_some (row_of_path doc (s ∷ ss) c) e.2 in
+    let y = map_some (row_of_path doc (s ∷ ss) c) e.2 in
     let ends = end_there doc (s ∷ ss) c e.0 y.0 e.1 y.1 in
     let f : IsFound doc (s ∷ ss) c y.0 = row_found doc (s ∷ ss) c y.0 y.1 in
     let p : Part = f.s.part in
@@ -115,15 +114,14 @@ marked_in doc s ss c i w read at beside is =
     let last : f.x.line ≡ length f.x.row.dashes = ap (λ (z : PlacedRow). z.line) f.is ∙ (ends.0 ∙ sym (ap (λ (z : PlacedRow). length z.row.dashes) f.is)) in
     let one : h.row ≡ f.x.row =
     row_same h.front (take f.x.before p.rows) h.row f.x.row h.back (drop (suc f.x.before) p.rows) (sym h.rows_are ∙ f.rows_are) (omega (arith, leads.number, number, last)) in
-    let told : mark_in (end_of_line y.0) y.0 ≡ Some w = ap (λ z. mark_in z y.0) ends.1 ∙ y.2 in
-    let own : mark_in (end_of_line (placed_row f.s f.x)) (placed_row f.s f.x) ≡ Some w = ap (λ (z : PlacedRow). mark_in (end_of_line z) z) f.is ∙ told in
+    let told : mark_in (end_of_line y.0) y.0 ≡ w = ap (λ z. mark_in z y.0) ends.1 ∙ y.2 in
+    let own : mark_in (end_of_line (placed_row f.s f.x)) (placed_row f.s f.x) ≡ w = ap (λ (z : PlacedRow). mark_in (end_of_line z) z) f.is ∙ told in
     record {
       y = y.0;
       found = f;
       old = old;
       leads = record { found = leads.found; is = leads.is; under = leads.under; number = omega (arith, number, last) };
       inline = ap (λ (r : Row). is_block r.content) (sym one) ∙ no_block i.alone _ h.row.content _ i h.place_is;
-      bare = (guard_then (is_empty (slices f.x.row).anchor) own).0;
       is = own;
     }
 
@@ -135,7 +133,7 @@ mark_has doc [] c w read at = let i = bind_some (inline_from doc [] c) at in abs
     none i e = go i.alone e
       where
         empty : mark_place doc [] c ≡ Some w → ⊥
-        empty h = let e = bind_some (line_end doc [] c) h in let y = bind_some (row_of_path doc [] c) e.2 in root (row_found doc [] c y.0 y.1)
+        empty h = let e = bind_some (line_end doc [] c) h in let y = map_some (row_of_path doc [] c) e.2 in root (row_found doc [] c y.0 y.1)
           where
             root : {y : PlacedRow} → IsFound doc [] c y → ⊥
             root f = none_some f.seat_is

@@ -1,5 +1,5 @@
 -- A way to replace nodes by collections in block style: under a key or dash, or behind a dash, in the place of an inline node or of nothing (YAML 1.2.2, 8.2; own).
-use Rattle.std.specs.Prelude.{ℕ, ◌+◌, ◌&&◌, not, List, [], ◌∷◌, ◌++◌, replicate, Option, None, Bool, option_map, if◌then◌else◌}
+use Rattle.std.specs.Prelude.{ℕ, ◌+◌, ◌&&◌, ◌||◌, not, List, [], ◌∷◌, ◌++◌, replicate, Option, None, Bool, option_map, if◌then◌else◌}
 use Rattle.yq_scalar.specs.Answers.{◌>>=◌}
 use Rattle.yq_scalar.specs.BlockWritten.{break_text}
 use Rattle.yq_scalar.specs.Paths.{Step}
@@ -37,9 +37,9 @@ behind_space l column v = 32 ∷ block_value l (item_column column) v
 abbrev pub behind_segments : Layout → Node → MarkPlace → List Segment
 behind_segments l v w = keep w.before ∷ (put w.gone (behind_space l w.column v) ∷ (keep w.white ∷ (keep w.comment ∷ (keep w.behind ∷ []))))
 
--- whether a collection is compact: it begins on the line of a dash that has no comment (8.2.1; own)
+-- whether a collection is compact: it begins on the line of a dash that has neither an anchor nor a comment (8.2.1; own)
 abbrev pub is_compact : MarkPlace → Bool
-is_compact w = not w.keyed && is_empty w.comment
+is_compact w = not (w.keyed || w.named) && is_empty w.comment
 
 -- the one of these that a place asks for
 abbrev pub block_segments : Layout → Node → MarkPlace → List Segment
@@ -49,11 +49,11 @@ block_segments l v w = if is_compact w then behind_segments l v w else under_seg
 abbrev pub mark_of_node : ℕ → List Step → Cut → InlinePlace → Option MarkPlace
 mark_of_node doc steps c i = if i.alone then None else mark_place doc steps c
 
--- the key or dash behind which an inline node without an anchor, or nothing, is written for a node
+-- the key or dash behind which an inline node, or nothing, is written for a node
 abbrev pub block_mark : ℕ → List Step → Cut → Option MarkPlace
 block_mark doc steps c = inline_from doc steps c >>= mark_of_node doc steps c
 
--- a collection with items or entries in the place of an inline node without an anchor behind a key or dash, or of nothing; the end of the line stays (8.2)
+-- a collection with items or entries in the place of an inline node behind a key or dash, or of nothing; its anchor and the end of the line stay (8.2)
 unfoldable pub replace_block_way : Way
 replace_block_way (replace doc steps v) c = if is_filled v then option_map (block_segments (layout_of doc c) v) (block_mark doc steps c) else None
 replace_block_way (append doc steps key v) c = None

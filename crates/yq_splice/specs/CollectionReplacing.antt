@@ -35,9 +35,17 @@ EndsIn t rest = (own : List ℕ) × (t ≡ own ++ rest)
 abbrev pub lines_upto : MarkPlace → CollectionEnd → LinesUnder
 lines_upto w x = let t = up_to w.behind x.behind in record { mark = w; gone = less_break t; break = last_break t; behind = x.behind }
 
--- the key or dash of the entry or item to which steps lead in document n, with the lines of the block collection under it
+-- a key or dash, if no anchor stands behind it
+abbrev pub unnamed_mark : MarkPlace → Option MarkPlace
+unnamed_mark w = if w.named then None else Some w
+
+-- the key or dash of the entry or item to which steps lead in document n, if no anchor stands behind it
+abbrev pub bare_mark : ℕ → List Step → Cut → Option MarkPlace
+bare_mark n steps c = mark_place n steps c >>= unnamed_mark
+
+-- that key or dash, with the lines of the block collection under it
 abbrev pub lines_under : ℕ → List Step → Cut → Option LinesUnder
-lines_under n steps c = mark_place n steps c >>= λ w. option_map (lines_upto w) (collection_end n steps c)
+lines_under n steps c = bare_mark n steps c >>= λ w. option_map (lines_upto w) (collection_end n steps c)
 
 -- What is written in the place of such a collection: a text behind the key or dash, and lines under it, of which one is nothing (own).
 pub record Written : Type 0 where

@@ -1,5 +1,5 @@
 -- Where lines may come under a key or dash, or a text behind it, in the place of what is written on its line (YAML 1.2.2, 8.2; own).
-use Rattle.std.specs.Prelude.{ℕ, ℤ, pos, negsuc, not, List, ◌++◌, Option, Some, None, Bool, if◌then◌else◌}
+use Rattle.std.specs.Prelude.{ℕ, ℤ, pos, negsuc, not, List, ◌++◌, Option, option_map, Bool, if◌then◌else◌}
 use Rattle.yq_scalar.specs.Answers.{◌>>=◌}
 use Rattle.yq_scalar.specs.Paths.{Step}
 use Rattle.yq_scalar.specs.Text.{is_empty}
@@ -9,7 +9,8 @@ use Rattle.yq_rows.specs.View.{Slices, slices}
 use Rattle.yq_tree.specs.CommentPlaces.{LineEnd, line_end}
 use Rattle.yq_tree.specs.PlacedRows.{PlacedRow, row_of_path}
 
--- A key or dash in a text: the text up to it; the white space behind it and what is written there, which may be nothing; the white space and the comment that end its line; the text from the line's break on; its column; and whether it is a key.
+-- A key or dash in a text, with the anchor behind it, if one stands there: the text up to the end of these; the white space behind them and what is written there, which may be nothing; the white space and the comment that end the line;
+-- the text from the line's break on; its column; whether it is a key; and whether an anchor stands behind it.
 pub record MarkPlace : Type 0 where
   pub before : List ℕ
   pub gone : List ℕ
@@ -18,6 +19,7 @@ pub record MarkPlace : Type 0 where
   pub behind : List ℕ
   pub column : ℕ
   pub keyed : Bool
+  pub named : Bool
 
 -- the column of a key or dash, which is the indentation of the parent of what stands behind it (6.1)
 abbrev pub column_of : ℤ → ℕ
@@ -28,16 +30,31 @@ column_of (negsuc n) = 0
 abbrev pub behind_mark : Slices → List ℕ
 behind_mark s = s.space ++ (s.anchor ++ (s.apart ++ s.head))
 
--- the key or dash of a row behind a text, by the end of its line; none where an anchor stands behind it
-abbrev pub mark_at : List ℕ → Slices → LineEnd → Option MarkPlace
-mark_at before s e =
-    if is_empty s.anchor then Some (record { before = before; gone = behind_mark s; white = e.white; comment = e.comment; behind = e.behind; column = column_of s.parent; keyed = not (is_empty s.colon) })
-    else None
+-- a text up to a key or dash, and the anchor behind that, if one stands there
+abbrev pub upto_anchor : List ℕ → Slices → List ℕ
+upto_anchor before s = if is_empty s.anchor then before else before ++ (s.space ++ s.anchor)
+
+-- what is written behind these
+abbrev pub behind_anchor : Slices → List ℕ
+behind_anchor s = if is_empty s.anchor then s.space ++ (s.apart ++ s.head) else s.apart ++ s.head
+
+-- the key or dash of a row behind a text, by the end of its line
+abbrev pub mark_at : List ℕ → Slices → LineEnd → MarkPlace
+mark_at before s e = record {
+  before = upto_anchor before s;
+  gone = behind_anchor s;
+  white = e.white;
+  comment = e.comment;
+  behind = e.behind;
+  column = column_of s.parent;
+  keyed = not (is_empty s.colon);
+  named = not (is_empty s.anchor);
+}
 
 -- that of the row
-abbrev pub mark_in : LineEnd → PlacedRow → Option MarkPlace
+abbrev pub mark_in : LineEnd → PlacedRow → MarkPlace
 mark_in e w = mark_at (w.before ++ row_front w.row) (slices w.row) e
 
--- the key or dash of the entry or item to which steps lead in document n, if its line is the last one of its row and no anchor stands behind it
+-- the key or dash of the entry or item to which steps lead in document n, if its line is the last one of its row
 abbrev pub mark_place : ℕ → List Step → Cut → Option MarkPlace
-mark_place n steps c = line_end n steps c >>= λ e. row_of_path n steps c >>= mark_in e
+mark_place n steps c = line_end n steps c >>= λ e. option_map (mark_in e) (row_of_path n steps c)

@@ -121,8 +121,7 @@ fn put_behind(
     Ok(Some(exchange(alloc, &segments)?))
 }
 
-/// The key or dash behind which an inline node without an anchor, or nothing, is written for the node
-/// at a path.
+/// The key or dash behind which an inline node, or nothing, is written for the node at a path.
 fn block_mark<'d>(documents: &'d Documents<'_>, path: &Path) -> Option<MarkPlace<'d>>
     ensures { option_map mark_told result ≡ spec.block_mark path.now.doc (steps_of path.now) (cut_of documents.now) }
 {
@@ -137,7 +136,7 @@ fn block_mark<'d>(documents: &'d Documents<'_>, path: &Path) -> Option<MarkPlace
 fn is_compact(place: &MarkPlace<'_>) -> bool
     ensures { result ≡ spec.is_compact (mark_told place.now) }
 {
-    !place.keyed && place.comment.is_empty()
+    !(place.keyed || place.named) && place.comment.is_empty()
 }
 
 /// An operation carried out by a collection in block style in the place of an inline node, or of

@@ -12,12 +12,12 @@ use crate::path::Path;
 use crate::places::line_end::LineEnd;
 use yq_rows::Row;
 
-/// A key or dash of a text.
+/// A key or dash of a text, with the anchor behind it, if one stands there.
 #[derive(Clone, Copy, Debug)]
 pub struct MarkPlace<'d> {
-    /// The text up to it.
+    /// The text up to the end of these.
     pub before: &'d str,
-    /// The white space behind it and what is written there.
+    /// The white space behind them and what is written there.
     pub gone: &'d str,
     /// The white space that ends its line, or stands before the line's comment.
     pub white: &'d str,
@@ -29,6 +29,8 @@ pub struct MarkPlace<'d> {
     pub column: usize,
     /// Whether it is a key.
     pub keyed: bool,
+    /// Whether an anchor stands behind it.
+    pub named: bool,
 }
 
 /// The column of a key or dash, by the indentation of the parent of what stands behind it.
@@ -38,17 +40,28 @@ pub(crate) fn column_of(parent: i64) -> usize
     if parent < 0 { 0 } else { parent as usize }
 }
 
-/// The key or dash of a row, by the end of its line, unless an anchor stands behind it.
-fn mark_at<'d>(end: LineEnd<'d>, row: &Row<'_>) -> Option<MarkPlace<'d>>
-    requires { EndsBehindMark end.before.now (view row.now) }
-    ensures { (h : EndsBehindMark end.entry.before.now (view row.now)) → option_map mark_told result ≡ spec.mark_at h.before (view row.now) (end_told end.entry) }
+/// A text that ends in what is written behind a row's key or dash, cut behind that or, if an anchor
+/// stands there, behind the anchor.
+fn split_mark<'d>(text: &'d str, row: &Row<'_>) -> (&'d str, &'d str)
+    requires { EndsBehindMark text.now (view row.now) }
+    ensures before { (h : EndsBehindMark text.now (view row.now)) → result.0.now ≡ spec.upto_anchor h.before (view row.now) }
+    ensures behind { result.1.now ≡ spec.behind_anchor (view row.now) }
 {
-    if !row.anchor().is_empty() {
-        return None;
+    let behind = row.apart().len() + row.head().len();
+    if row.anchor().is_empty() {
+        text.split_at(text.len() - (row.space().len() + behind))
+    } else {
+        text.split_at(text.len() - behind)
     }
-    let written = row.space().len() + row.anchor().len() + row.apart().len() + row.head().len();
-    let (before, gone) = end.before.split_at(end.before.len() - written);
-    Some(MarkPlace {
+}
+
+/// The key or dash of a row, by the end of its line.
+fn mark_at<'d>(end: LineEnd<'d>, row: &Row<'_>) -> MarkPlace<'d>
+    requires { EndsBehindMark end.before.now (view row.now) }
+    ensures { (h : EndsBehindMark end.entry.before.now (view row.now)) → mark_told result ≡ spec.mark_at h.before (view row.now) (end_told end.entry) }
+{
+    let (before, gone) = split_mark(end.before, row);
+    MarkPlace {
         before,
         gone,
         white: end.white,
@@ -56,17 +69,18 @@ fn mark_at<'d>(end: LineEnd<'d>, row: &Row<'_>) -> Option<MarkPlace<'d>>
         behind: end.behind,
         column: column_of(row.parent_indent()),
         keyed: !row.colon().is_empty(),
-    })
+        named: !row.anchor().is_empty(),
+    }
 }
 
 impl Documents<'_> {
-    /// The key or dash of the entry or item at a path, if its line is the last one of its row and no
-    /// anchor stands behind it. The root has none, nor has what stands in flow.
+    /// The key or dash of the entry or item at a path, if its line is the last one of its row. The
+    /// root has none, nor has what stands in flow.
     pub fn mark_place(&self, path: &Path) -> Option<MarkPlace<'_>>
         ensures { option_map mark_told result ≡ spec.mark_place path.now.doc (steps_of path.now) (cut_of self.now) }
     {
         let end = self.line_end(path)?;
         let seat = self.seat(path)?;
-        mark_at(end, &self.rows.row(seat.row))
+        Some(mark_at(end, &self.rows.row(seat.row)))
     }
 }

@@ -35,5 +35,5 @@ returns c =
     mark_there c.self.inside.text.now c.self.inside.rows c.self.inside.documents.items c.self.invariant c.args.path.now (told c.in_ok-seat.seat)
     (c.in_ok-seat.ensures ∙ ap (λ t. option_map (numbers (document_row c.args.path.now.doc (cut_of t))) (seat_at c.args.path.now (cut_of t))) (sym c.self.view_is))
     (end_told c.in_ok-end.end) (c.in_ok-end.ensures ∙ ap (λ t. line_end c.args.path.now.doc (steps_of c.args.path.now) (cut_of t)) (sym c.self.view_is))
-    (view c.row.result) c.row.ensures (option_map mark_told c.mark_at.result) c.mark_at.ensures
+    (view c.row.result) c.row.ensures (mark_told c.mark_at.result) c.mark_at.ensures
     ∙ ap (λ t. spec.mark_place c.args.path.now.doc (steps_of c.args.path.now) (cut_of t)) c.self.view_is

@@ -1,0 +1,180 @@
+-- What is left behind a key or dash where nothing but the anchor stays.
+use Rattle.std.proofs.Common.{◌≡◌, ℕ, ℤ, ◌<◌, not, ⊎_elim, Bool, true, false, cond, eqb, List, [], ◌∷◌, ◌++◌, Option, Some, None, refl, sym, ap, ◌∙◌, subst, arith, append_assoc}
+use Rattle.std.proofs.lemmas.Bool.{cases_lt, eqb-true, false≢true, false_from_ne_true}
+use Rattle.yq_scalar.specs.Text.{is_empty, is_return, separates, unless, NoneIn}
+use Rattle.yq_scalar.proofs.Bools.{at_byte, or_false}
+use Rattle.yq_inline.specs.Nodes as inline
+use Rattle.yq_inline.specs.Nodes.{begins_content, first_is, in_name, node_text, IsName, IsNode}
+use Rattle.yq_inline.proofs.WrittenLaws.{node_then}
+use Rattle.yq_lines.specs.Anchors.{IsFree}
+use Rattle.yq_lines.specs.Comments.{line_comment}
+use Rattle.yq_lines.specs.Outline.{Line}
+use Rattle.yq_rows.specs.Alone.{holds_nothing}
+use Rattle.yq_rows.specs.Grammar.{IsContent, IsTail, is_entry}
+use Rattle.yq_rows.specs.Rows as rows
+use Rattle.yq_rows.specs.Rows.{Content, Nothing, Inline, Block, Row, content_text}
+use Rattle.yq_rows.specs.Seams.{is_block}
+use Rattle.yq_rows.specs.View.{content_cut}
+use Rattle.yq_rows.proofs.NodeExchange.{space_apart}
+use Rattle.yq_rows.proofs.NodePieces.{BeginsAscii}
+use Rattle.yq_rows.proofs.NothingLaws.{tail_apart, tail_lead, tail_no_node}
+use Rattle.yq_rows.proofs.seams.ScalarSeams.{ends_return, name_seam}
+use Rattle.yq_tree.specs.Documents.{ContentHasFitKeys}
+use Rattle.yq_tree.specs.Lines.{content_anchor, lines_from, lines_of, mark_line, mark_of}
+use Rattle.yq_block.proofs.LaidRows.{AreLaid}
+
+-- ---- the content
+
+-- a node of which nothing but the anchor is left, before a tail
+abbrev node_left : List ℕ → inline.Node → List ℕ → Content
+node_left space inline.empty tail = Nothing tail
+node_left space (inline.alias n) tail = Nothing tail
+node_left space (inline.scalar p) tail = Nothing tail
+node_left space (inline.coll k g is) tail = Nothing tail
+node_left space (inline.anchored n g node) tail = Inline space (inline.anchored n [] inline.empty) tail
+
+-- a content of which nothing but the anchor is left
+abbrev pub anchor_left : Content → List ℕ → Content
+anchor_left (Nothing old) tail = Nothing tail
+anchor_left (Inline space node old) tail = node_left space node tail
+anchor_left (Block space anchor block) tail = Nothing tail
+
+-- the line of a mark behind which nothing but an anchor stands, if that
+abbrev pub left_line : List (List ℕ) → ℕ → rows.Mark → Option (List ℕ) → List ℕ → Line
+left_line above column mark a tail = record { column = column; mark = mark_of mark; anchor = a; head = None; head_comment = above; line_comment = line_comment tail }
+
+pub left_is : (above : List (List ℕ)) (column : ℕ) (m : rows.Mark) (x : Content) (tail : List ℕ) → mark_line above column m (anchor_left x tail) ≡ left_line above column m (content_anchor (anchor_left x tail)) tail
+left_is above column m (Nothing old) tail = refl
+left_is above column m (Inline space inline.empty old) tail = refl
+left_is above column m (Inline space (inline.alias n) old) tail = refl
+left_is above column m (Inline space (inline.scalar p) old) tail = refl
+left_is above column m (Inline space (inline.coll k g is) old) tail = refl
+left_is above column m (Inline space (inline.anchored n g node) old) tail = refl
+left_is above column m (Block space anchor block) tail = refl
+
+pub left_anchor : (x : Content) (tail : List ℕ) → is_block x ≡ false → content_anchor (anchor_left x tail) ≡ content_anchor x
+left_anchor (Nothing old) tail e = refl
+left_anchor (Inline space inline.empty old) tail e = refl
+left_anchor (Inline space (inline.alias n) old) tail e = refl
+left_anchor (Inline space (inline.scalar p) old) tail e = refl
+left_anchor (Inline space (inline.coll k g is) old) tail e = refl
+left_anchor (Inline space (inline.anchored n g node) old) tail e = refl
+left_anchor (Block space anchor block) tail e = absurd (false≢true (sym e))
+
+pub left_nothing : (x : Content) (tail : List ℕ) → holds_nothing (anchor_left x tail) ≡ true
+left_nothing (Nothing old) tail = refl
+left_nothing (Inline space inline.empty old) tail = refl
+left_nothing (Inline space (inline.alias n) old) tail = refl
+left_nothing (Inline space (inline.scalar p) old) tail = refl
+left_nothing (Inline space (inline.coll k g is) old) tail = refl
+left_nothing (Inline space (inline.anchored n g node) old) tail = refl
+left_nothing (Block space anchor block) tail = refl
+
+pub left_keys : (x : Content) (tail : List ℕ) → ContentHasFitKeys (anchor_left x tail)
+left_keys (Nothing old) tail = tt
+left_keys (Inline space inline.empty old) tail = tt
+left_keys (Inline space (inline.alias n) old) tail = tt
+left_keys (Inline space (inline.scalar p) old) tail = tt
+left_keys (Inline space (inline.coll k g is) old) tail = tt
+left_keys (Inline space (inline.anchored n g node) old) tail = tt
+left_keys (Block space anchor block) tail = tt
+
+-- without an anchor there is no name
+pub unnamed : (x : Content) → is_empty (content_cut x).1 ≡ true → content_anchor x ≡ None
+unnamed (Nothing tail) e = refl
+unnamed (Inline space inline.empty tail) e = refl
+unnamed (Inline space (inline.alias n) tail) e = refl
+unnamed (Inline space (inline.scalar q) tail) e = refl
+unnamed (Inline space (inline.coll k g is) tail) e = refl
+unnamed (Inline space (inline.anchored n g node) tail) e = absurd (false≢true e)
+unnamed (Block space None block) e = refl
+unnamed (Block space (Some a) block) e = absurd (false≢true e)
+
+-- it stands before a tail
+pub left_content : (n : ℤ) (x : Content) (old tail rest : List ℕ) → is_block x ≡ false → IsContent n x old → IsTail tail rest → IsContent n (anchor_left x tail) rest
+unfolding IsNode node_text
+left_content n (Nothing z) old tail rest e h t = t
+left_content n (Inline space inline.empty z) old tail rest e h t = t
+left_content n (Inline space (inline.alias m) z) old tail rest e h t = t
+left_content n (Inline space (inline.scalar p) z) old tail rest e h t = t
+left_content n (Inline space (inline.coll k g is) z) old tail rest e h t = t
+left_content n (Inline space (inline.anchored m g node) z) old tail rest e h t =
+    let none = or_false (first_is 38 (tail ++ rest)) (begins_content false (tail ++ rest)) (tail_no_node tail rest t) in
+    (h.0, record { valid = (name_seam m (g ++ node_text node (z ++ old)) (tail ++ rest) (tail_apart tail rest t) h.1.valid.0, tail_lead tail rest t, refl, refl, (none.1, none.0)); something = refl }, t)
+left_content n (Block space anchor block) old tail rest e h t = absurd (false≢true (sym e))
+
+-- white space, a break or the end stands before it, where it does before the old one
+pub left_apart : (n : ℤ) (x : Content) (old tail rest : List ℕ) → is_block x ≡ false → IsContent n x old → separates (content_text x old) ≡ true → IsTail tail rest → separates (content_text (anchor_left x tail) rest) ≡ true
+unfolding node_text
+left_apart n (Nothing z) old tail rest e h a t = tail_apart tail rest t
+left_apart n (Inline space inline.empty z) old tail rest e h a t = tail_apart tail rest t
+left_apart n (Inline space (inline.alias m) z) old tail rest e h a t = tail_apart tail rest t
+left_apart n (Inline space (inline.scalar p) z) old tail rest e h a t = tail_apart tail rest t
+left_apart n (Inline space (inline.coll k g is) z) old tail rest e h a t = tail_apart tail rest t
+left_apart n (Inline space (inline.anchored m g node) z) old tail rest e h a t = space_apart space (38 ∷ (m ++ (g ++ node_text node (z ++ old)))) (38 ∷ (m ++ (tail ++ rest))) h.0 a refl
+left_apart n (Block space anchor block) old tail rest e h a t = absurd (false≢true (sym e))
+
+-- its text
+pub left_text : (before : List ℕ) (x : Content) (tail rest : List ℕ) → is_block x ≡ false →
+    before ++ content_text (anchor_left x tail) rest ≡ cond (is_empty (content_cut x).1) before (before ++ ((content_cut x).0 ++ (content_cut x).1)) ++ (tail ++ rest)
+unfolding node_text
+left_text before (Nothing z) tail rest e = refl
+left_text before (Inline space inline.empty z) tail rest e = refl
+left_text before (Inline space (inline.alias m) z) tail rest e = refl
+left_text before (Inline space (inline.scalar p) z) tail rest e = refl
+left_text before (Inline space (inline.coll k g is) z) tail rest e = refl
+left_text before (Inline space (inline.anchored m g node) z) tail rest e = simp append_assoc refl
+left_text before (Block space anchor block) tail rest e = absurd (false≢true (sym e))
+
+-- ---- round the anchor's end
+
+-- no part of a name is a CR
+name_clean : (b : ℕ) (m t : List ℕ) → is_return b ≡ false → NoneIn (unless in_name) m t → ends_return (b ∷ m) ≡ false
+name_clean b [] t e h = e
+name_clean b (c ∷ m) t e h = name_clean c m t (at_byte in_name c 13 (twice (in_name c) h.0) refl) h.1
+  where
+    twice : (x : Bool) → not x ≡ false → x ≡ true
+    twice true h = refl
+    twice false h = absurd (false≢true (sym h))
+
+-- what doesn't go on with a name begins with an ASCII byte
+unnamed_ascii : (t : List ℕ) → unless in_name t ≡ true → BeginsAscii t
+unnamed_ascii [] h = tt
+unnamed_ascii (b ∷ t) h = ⊎_elim {0, 0, 0} (λ lt. lt) (λ le.
+    let isnt : (k : ℕ) → k < 128 → eqb b k ≡ false = λ k small. false_from_ne_true (eqb b k) (λ e. absurd (omega (arith, eqb-true b k e))) in
+    let inside : unless in_name (b ∷ t) ≡ false = rw (isnt 32 (omega arith), isnt 9 (omega arith), isnt 10 (omega arith), isnt 13 (omega arith), isnt 44 (omega arith), isnt 91 (omega arith), isnt 93 (omega arith), isnt 123 (omega arith), isnt 125 (omega arith)) refl in
+    absurd (false≢true (sym inside ∙ h)))
+    (cases_lt b 128)
+
+-- What stands round the end of an anchor: no CR before it, and an ASCII byte behind it.
+pub record AnchorEnds (anchor behind : List ℕ) : Type 0 where
+  pub clean : ends_return anchor ≡ false
+  pub ascii : BeginsAscii behind
+
+pub anchor_ends : (n : ℤ) (x : Content) (old : List ℕ) → is_block x ≡ false → is_empty (content_cut x).1 ≡ false → IsContent n x old →
+    AnchorEnds (content_cut x).1 (((content_cut x).2 ++ (content_cut x).3) ++ ((content_cut x).4 ++ old))
+unfolding IsNode node_text
+anchor_ends n (Nothing z) old e some h = absurd (false≢true (sym some))
+anchor_ends n (Inline space inline.empty z) old e some h = absurd (false≢true (sym some))
+anchor_ends n (Inline space (inline.alias m) z) old e some h = absurd (false≢true (sym some))
+anchor_ends n (Inline space (inline.scalar p) z) old e some h = absurd (false≢true (sym some))
+anchor_ends n (Inline space (inline.coll k g is) z) old e some h = absurd (false≢true (sym some))
+anchor_ends n (Inline space (inline.anchored m g node) z) old e some h =
+    let name : IsName m (g ++ node_text node (z ++ old)) = h.1.valid.0 in
+    let text : (g ++ node_text node []) ++ (z ++ old) ≡ g ++ node_text node (z ++ old) = append_assoc g (node_text node []) (z ++ old) ∙ ap (λ l. g ++ l) (sym (node_then node (z ++ old))) in
+    record { clean = name_clean 38 m (g ++ node_text node (z ++ old)) refl name.inside; ascii = subst BeginsAscii (sym text) (unnamed_ascii (g ++ node_text node (z ++ old)) name.ends) }
+anchor_ends n (Block space anchor block) old e some h = absurd (false≢true (sym e))
+
+-- ---- rows under it
+
+-- an anchor may stand before rows that begin with an entry or item
+entry_free : (a : List ℕ) (above : List (List ℕ)) (column : ℕ) (ns : List ℕ) (m : rows.Mark) (x : Content) (ls : List Line) → is_entry m ≡ true → IsFree (Some a) (lines_from above column ns m x ++ ls)
+entry_free a above column [] rows.Bare x ls e = absurd (false≢true e)
+entry_free a above column [] rows.Dash x ls e = tt
+entry_free a above column [] (rows.Key key colon) x ls e = tt
+entry_free a above column (n ∷ ns) m x ls e = tt
+
+pub laid_free : (a : Option (List ℕ)) (column : ℕ) (rs : List Row) (rest : List ℕ) → AreLaid column rs rest → IsFree a (lines_of rs)
+laid_free None column rs rest h = tt
+laid_free (Some a) column [] rest h = absurd h
+laid_free (Some a) column (q ∷ qs) rest h = entry_free a (Rattle.yq_lines.specs.Comments.head_comment q.gap) q.column q.dashes q.mark q.content (lines_of qs) h.entry
