@@ -33,12 +33,7 @@ pub(crate) struct DashPlace<'d> {
 
 /// The dash in a column with which a row begins, where a text ends in that row, and what stands
 /// behind the dash before a rest.
-fn dash_in<'d>(
-    whole: &'d str,
-    row: &'d str,
-    column: usize,
-    behind: &'d str,
-) -> DashPlace<'d>
+fn dash_in<'d>(whole: &'d str, row: &'d str, column: usize, behind: &'d str) -> DashPlace<'d>
     requires { spec.IsDashed whole.now row.now column behind.now }
     ensures { dash_told result ≡ spec.dash_in whole.now row.now column behind.now }
 {
