@@ -1,6 +1,5 @@
 -- Replacing a compact collection behind the dash that begins a row is a way.
 use Rattle.std.proofs.Common.{◌≡◌, ◌⊎◌, inl, inr, ℕ, ◌≤◌, Bool, true, false, cond, List, [], ◌∷◌, ◌++◌, length, Option, Some, None, is_some, refl, sym, ap, ◌∙◌, subst, arith, append_assoc, append-nil}
-use Rattle.std.proofs.lemmas.Bool.{false≢true}
 use Rattle.yq_scalar.specs.Answers.{◌>>=◌}
 use Rattle.yq_scalar.specs.Characters.{text_limit}
 use Rattle.yq_scalar.specs.Paths.{Step, node_at}
@@ -37,7 +36,7 @@ use Rattle.yq_expr.specs.Changes.{is_used_inside}
 use Rattle.yq_expr.specs.Fits.{Fits}
 use Rattle.yq_expr.specs.Operations.{Operation, replace, append, remove, line_comment, head_comment}
 use Rattle.yq_expr.specs.Rooms.{room_of}
-use Rattle.yq_splice.specs.CompactReplacing.{DashPlace, compact_exchanged, dash_place, dash_segments, dash_upto, replace_compact_way}
+use Rattle.yq_splice.specs.CompactReplacing.{DashPlace, dash_place, dash_segments, dash_upto, replace_compact_way}
 use Rattle.yq_splice.specs.Done.{ArePieces}
 use Rattle.yq_splice.specs.Operands.{HasOperand}
 use Rattle.yq_splice.specs.Replacing.{value_written}
@@ -48,7 +47,7 @@ use Rattle.yq_splice.proofs.BreakLaws.{IsLfOrCrLf, last_is}
 use Rattle.yq_splice.proofs.BrokenTails.{quiet_tail}
 use Rattle.yq_splice.proofs.CommentPieceLaws.{nothing, byte_then, break_piece}
 use Rattle.yq_splice.proofs.CommentRowLaws.{row_found}
-use Rattle.yq_splice.proofs.CompactRows.{behind_dash, behind_is, front_text, last_ends_line, mark, node, reach, there, there_is, unnamed, whole_text}
+use Rattle.yq_splice.proofs.CompactRows.{behind_dash, behind_is, front_text, last_ends_line, node, there, there_is, unnamed, whole_text}
 use Rattle.yq_splice.proofs.DoneLaws.{nth_map}
 use Rattle.yq_splice.proofs.FitLaws.{new_value, inside_spared, tree_unique}
 use Rattle.yq_splice.proofs.MarkPieceLaws.{last_cut}

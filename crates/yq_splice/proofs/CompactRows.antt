@@ -1,6 +1,6 @@
 -- The rows of a compact collection behind the dash that begins a row, and the text round them.
-use Rattle.std.proofs.Common.{◌≡◌, ◌⊎◌, inl, inr, ℕ, zero, suc, ◌+◌, ◌-◌, ◌<◌, ◌≤◌, true, false, cond, eqb, List, [], ◌∷◌, ◌++◌, length, take, drop, replicate, Option, Some, None, is_some, refl, sym, ap, ◌∙◌, subst, arith, append_assoc, append-nil, length-append}
-use Rattle.std.proofs.Math.Seq.{take-append_seam, drop-append_seam}
+use Rattle.std.proofs.Common.{◌≡◌, inl, inr, ℕ, zero, suc, ◌+◌, ◌≤◌, true, false, cond, eqb, List, [], ◌∷◌, ◌++◌, length, take, drop, replicate, Option, Some, None, is_some, refl, sym, ap, ◌∙◌, subst, arith, append_assoc, length-append}
+use Rattle.std.proofs.Math.Seq.{drop-append_seam}
 use Rattle.std.proofs.lemmas.Bool.{false≢true, eqb-true}
 use Rattle.std.proofs.lemmas.List.{append_cancel_left, length-replicate}
 use Rattle.yq_scalar.specs.Answers.{◌>>=◌}
@@ -8,33 +8,31 @@ use Rattle.yq_scalar.specs.Paths.{Step}
 use Rattle.yq_scalar.specs.Text.{is_empty}
 use Rattle.yq_scalar.proofs.Bools.{bind_some, guard_then}
 use Rattle.yq_scalar.proofs.BlockPieceLaws.{IsLf}
-use Rattle.yq_lines.specs.Group.{level_or}
-use Rattle.yq_lines.specs.Outline.{Line, flatten, IsEven, anchored, value, head_or}
-use Rattle.yq_lines.specs.Places.{lines_before, Found, content}
+use Rattle.yq_lines.specs.Outline.{Line, flatten, anchored, value, head_or}
+use Rattle.yq_lines.specs.Places.{lines_before, content}
 use Rattle.yq_rows.specs.Exchange.{row_front}
 use Rattle.yq_rows.specs.Gap.{IsBreak}
 use Rattle.yq_rows.specs.Grammar.{unlimited, AreDashes, AreRows}
 use Rattle.yq_rows.specs.Joined.{dashed_row}
-use Rattle.yq_rows.specs.Rows.{Nothing, Row, behind_dashes, behind_gap, dashes_text, print_row, rows_text, Part, part_text, Cut, cut_text}
+use Rattle.yq_rows.specs.Rows.{Nothing, Row, behind_dashes, behind_gap, dashes_text, print_row, rows_text, part_text, Cut, cut_text}
 use Rattle.yq_rows.proofs.PlaceLaws.{row_then}
 use Rattle.yq_rows.proofs.seams.SeamLaws.{rows_text-append}
 use Rattle.yq_tree.specs.CollectionEnds.{CollectionEnd, collection_end}
 use Rattle.yq_tree.specs.CommentPlaces.{LineEnd, LinesAbove, above_row, end_of_line, line_end, lines_above}
-use Rattle.yq_tree.specs.Lines.{lines_of, row_lines}
+use Rattle.yq_tree.specs.Lines.{lines_of}
 use Rattle.yq_tree.specs.Nodes.{anchor_of}
 use Rattle.yq_tree.specs.PlacedRows.{PlacedRow, placed_row, row_of_path}
 use Rattle.yq_tree.specs.PrintedLines.{last_break}
 use Rattle.yq_tree.specs.Reading.{outline_of, read_at}
 use Rattle.yq_tree.proofs.CommentEndLaws.{gap_split}
 use Rattle.yq_tree.proofs.CommentPieceLaws.{Ended}
-use Rattle.yq_tree.proofs.PrintedTexts.{none_some, same}
+use Rattle.yq_tree.proofs.PrintedTexts.{same}
 use Rattle.yq_change.specs.CollectionPlaces.{IsCollectionEnd}
 use Rattle.yq_change.specs.DocumentRows.{IsDocumentPart, behind_document}
 use Rattle.yq_change.specs.Siblings.{HasEntries, NodeLines}
 use Rattle.yq_change.proofs.AppendPlaceLaws.{end_allows}
 use Rattle.yq_change.proofs.CollectionPlaceLaws.{collection_places}
 use Rattle.yq_change.proofs.EndedRowLaws.{rows_ended, rows_then}
-use Rattle.yq_change.proofs.LineLaws.{row_count}
 use Rattle.yq_change.proofs.MovedLaws.{lines_append}
 use Rattle.yq_change.proofs.NodeLineLaws.{Under, before_under, lines_found}
 use Rattle.yq_change.proofs.PathLaws.{seat_number}

@@ -1,7 +1,5 @@
-use Rattle.std.proofs.Common.{◌≡◌, ℕ, ◌-◌, List, length, take, sym, ap, ◌∙◌, subst}
-use Rattle.std.specs.Str.{IsCharBoundary}
+use Rattle.std.proofs.Common.{◌-◌, length, take, ap, ◌∙◌}
 use Rattle.yq_tree.specs.PrintedLines.{less_break, last_break}
-use Rattle.yq_splice.specs.CollectionReplacing.{up_to}
 use Rattle.yq_splice.proofs.CompactAnswers.{dash_cut, front_cut, inner_cut}
 use Rattle.yq_splice.proofs.ways.compact_replacing.dash_in.Goals as goal
 

@@ -1,5 +1,4 @@
-use Rattle.std.proofs.Common.{sym, ◌∙◌, subst, ap, is_some}
-use Rattle.std.specs.Str.{IsUtf8}
+use Rattle.std.proofs.Common.{sym, ◌∙◌, ap, is_some}
 use Rattle.yq_tree.specs.CollectionTelling.{collection_told}
 use Rattle.yq_tree.specs.CommentTelling.{above_told, end_told}
 use Rattle.yq_tree.specs.Located.{steps_of}
