@@ -26,7 +26,8 @@ use Rattle.yq_expr.specs.Operations.{remove}
 use Rattle.yq_splice.specs.FlowWays.{edit_segments, flow_remove_way, flow_segments, in_flow_at, last_step, removed_at}
 use Rattle.yq_splice.specs.Script.{keep, put}
 use Rattle.yq_splice.proofs.FlowPieceLaws.{removed_empty}
-use Rattle.yq_splice.proofs.FlowRemoveLaws.{RemovedAt, bounds, texts}
+use Rattle.yq_splice.proofs.FlowRemoveLaws.{bounds, texts}
+use Rattle.yq_splice.proofs.FlowStandings.{EntryAt}
 
 -- ---- the last step
 
@@ -159,9 +160,9 @@ module _ (c : Cut) (doc : ℕ) (path init : List Step) (s : Step) (w : CollPiece
       go : (o : Option EntryPieces) → item_at w.close s w.items w.rest ≡ o → RemovalFound (cut_text c) c doc path p
       go None at = absurd (no_some (sym (is ∙ place_is None at)))
       go (Some y) at =
-          let a : RemovedAt c doc path (flow_segments (cut_text c) e) = record { init = init; step = s; last = last; coll = w; found = found; item = y; at = at; is = refl } in
-          let b = bounds c doc path (flow_segments (cut_text c) e) read a in
-          let x = texts c doc path (flow_segments (cut_text c) e) read a in
+          let a : EntryAt c doc path = record { init = init; step = s; last = last; coll = w; found = found; item = y; at = at } in
+          let b = bounds c doc path read a in
+          let x = texts c doc path read a in
           let segments = ap (edit_segments (cut_text c) (place_edit (length (cut_text c)) e)) (sym (removed_empty s w)) ∙ segments_at (cut_text c) x.before e x.old in
           subst (RemovalFound (cut_text c) c doc path) (sym (some_same (is ∙ place_is (Some y) at))) (record {
             order = edit_order (cut_text c) e;
