@@ -9,6 +9,7 @@ pub mod OrderLaws
 pub mod StyleLaws
 pub mod SameLaws
 pub mod WayLaws
+pub mod ServingLaws
 pub mod DoneLaws
 pub mod SegmentLaws
 pub mod CommentPieceLaws

@@ -4,6 +4,7 @@ pub mod Segments
 pub mod Style
 pub mod Operands
 pub mod Ways
+pub mod Serving
 pub mod WayAnswers
 pub mod Done
 pub mod Edit
