@@ -15,7 +15,8 @@ use Rattle.yq_lines.specs.Places.{content}
 use Rattle.yq_lines.proofs.Finding.{FoundNode, path_node}
 use Rattle.yq_rows.specs.Exchange.{row_front, with_content}
 use Rattle.yq_rows.specs.Grammar.{IsTail}
-use Rattle.yq_rows.specs.Rows.{Row, rows_text, Cut, cut_text}
+use Rattle.yq_rows.specs.Rows.{Nothing, Row, rows_text, Cut, cut_text}
+use Rattle.yq_rows.proofs.NothingLaws.{tail_apart}
 use Rattle.yq_rows.proofs.PlaceLaws.{row_front-append}
 use Rattle.yq_tree.specs.CollectionEnds.{CollectionEnd, collection_end}
 use Rattle.yq_tree.specs.CommentPlaces.{LinesAbove, line_end, lines_above}

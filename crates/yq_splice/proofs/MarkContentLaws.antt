@@ -140,6 +140,7 @@ left_text before (Block space anchor block) tail rest e = absurd (false≢true (
 -- its text with a node behind it
 pub left_core_text : (before : List ℕ) (core : inline.Node) (x : Content) (tail rest : List ℕ) → is_block x ≡ false →
     before ++ content_text (put_core core (anchor_left x tail)) rest ≡ cond (is_empty (content_cut x).1) before (before ++ ((content_cut x).0 ++ (content_cut x).1)) ++ (32 ∷ node_text core (tail ++ rest))
+unfolding node_text
 left_core_text before core (Nothing z) tail rest e = refl
 left_core_text before core (Inline space inline.empty z) tail rest e = refl
 left_core_text before core (Inline space (inline.alias m) z) tail rest e = refl
@@ -160,7 +161,7 @@ no_gap g rest (inl h) none = absurd (false≢true (sym none ∙ h.1))
 no_gap g rest (inr h) none = h.0
 
 pub alone_there : (n : ℤ) (x : Content) (rest : List ℕ) → IsContent n x rest → head_of x ≡ None → IsAlone x
-unfolding IsNode
+unfolding IsNode node_text
 alone_there n (Nothing z) rest h e = record { block = refl; gone = refl }
 alone_there n (Inline space inline.empty z) rest h e = absurd (false≢true h.1.something)
 alone_there n (Inline space (inline.alias m) z) rest h e = absurd (none_some (sym e))
