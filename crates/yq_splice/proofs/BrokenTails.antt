@@ -73,19 +73,6 @@ module _ (tail rest : List ℕ) (h : IsTail tail rest) (br : Break) where
         alone (inl e) = inl e
         alone (inr e) = inr (e.0, refl)
 
-    -- it stands behind a key or dash
-    pub broken_apart : (more : List ℕ) → separates (broken ++ more) ≡ true
-    broken_apart more = go h.white h.comment h.line.blank h.apart
-      where
-        go : (w c : List ℕ) → IsWhite w → (is_empty c || not (is_empty w)) ≡ true → separates ((w ++ (c ++ break_text br)) ++ more) ≡ true
-        go (b ∷ w) c blank a = rw blank.0 refl
-        go [] [] blank a = first br
-          where
-            first : (br : Break) → separates (break_text br ++ more) ≡ true
-            first Lf = refl
-            first CrLf = refl
-        go [] (b ∷ c) blank a = absurd (false≢true a)
-
 -- a tail without a comment has none
 pub quiet_tail : (tail rest : List ℕ) (h : IsTail tail rest) → is_empty h.comment ≡ true → line_comment tail ≡ Rattle.std.proofs.Common.None
 quiet_tail tail rest h e = ap line_comment h.line.spelled ∙ (comment_is h.white h.comment h.line.break h.line.blank h.line.remark (alone h.line.ends) ∙ ap told (none h.comment e))

@@ -10,6 +10,7 @@ pub mod StyleLaws
 pub mod SameLaws
 pub mod WayLaws
 pub mod ServingLaws
+pub mod PlaceServings
 pub mod DoneLaws
 pub mod SegmentLaws
 pub mod CommentPieceLaws

@@ -43,6 +43,7 @@ use Rattle.yq_block.proofs.LaidRows.{AreLaid, no_gap_here}
 use Rattle.yq_block.proofs.LineLaws.{lines_deeper, node_stands}
 use Rattle.yq_block.proofs.PlaceLaws.{under_laid, upto_row}
 use Rattle.yq_block.proofs.RowLaws.{deeper_laid}
+use Rattle.yq_splice.proofs.MarkContentLaws.{laid_free}
 use Rattle.yq_splice.proofs.NodeRowLaws.{NodeRows, TakesNode, back_there, entry, limit, near, rest, rows_there}
 
 -- ---- marks
@@ -115,18 +116,6 @@ core_apart : (core : inline.Node) (n : ℤ) (x : Content) (rest : List ℕ) → 
 core_apart core n (Nothing tail) rest h a = refl
 core_apart core n (Inline space old tail) rest h a = space_apart space (node_text old (tail ++ rest)) (node_text (recore core old) (tail ++ rest)) h.0 a (inline_starts n old (tail ++ rest) h.1).joined
 core_apart core n (Block space anchor block) rest h a = a
-
--- rows that begin with a key or dash may have an anchor above them
-free_entry : (a : Option (List ℕ)) (column : ℕ) (rs : List Row) (rest : List ℕ) → AreLaid column rs rest → IsFree a (lines_of rs)
-free_entry None column rs rest h = tt
-free_entry (Some a) column [] rest h = absurd h
-free_entry (Some a) column (q ∷ qs) rest h = go q.dashes q.mark h.entry
-  where
-    go : (ns : List ℕ) (m : rows.Mark) → is_entry m ≡ true → IsFree (Some a) (Rattle.yq_tree.specs.Lines.lines_from (Rattle.yq_lines.specs.Comments.head_comment q.gap) q.column ns m q.content ++ lines_of qs)
-    go [] rows.Bare e = absurd (false≢true e)
-    go [] rows.Dash e = tt
-    go [] (rows.Key key colon) e = tt
-    go (n ∷ ns) m e = tt
 
 -- no anchor is free
 free_none : (a : Option (List ℕ)) → IsFree a []
@@ -218,7 +207,7 @@ module _ (doc : ℕ) (s : Step) (ss : List Step) (c : Cut) (h : NodeRows doc s s
           deep = deep;
           lines = gone_lines (with_content x h.mark) rs ∙ ap (λ ls. Rattle.yq_change.proofs.UnderLaws.dashes_of h.mark ++ (line_with h.mark x ∷ ls)) (sym stands.lines_are);
           keys = (mark_fit, nothing_fit x held.holds, keys_fit rs fit);
-          anchors = subst (λ ls. HaveOneAnchorEach (line_with h.mark x ∷ ls)) (sym stands.lines_are) (free_entry (content_anchor x) below rs z laid, anchors_fit rs fit);
+          anchors = subst (λ ls. HaveOneAnchorEach (line_with h.mark x ∷ ls)) (sym stands.lines_are) (laid_free (content_anchor x) below rs z laid, anchors_fit rs fit);
         }
 
   -- ---- behind it on its line
