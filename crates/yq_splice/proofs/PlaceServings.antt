@@ -88,26 +88,30 @@ collection_served doc steps v c w x at ends is =
 
 -- ---- a block scalar
 
--- a value without items and entries is written on the line of its header, or as a literal one
-string_written : (text : Bool) (v : Node) → IsValueTree v → is_filled v ≡ false → ((t : List ℕ) × (line_written text v ≡ Some t)) ⊎ ((text ≡ true) × ((t : List ℕ) × (literal_text (scalar_in v) ≡ Some t)))
+-- A value is written on the line of the header of a block scalar, with a text line or without, or as a literal one in the place of one with a text line.
+abbrev IsWritten : Bool → Node → Type 0
+IsWritten text v = ((t : List ℕ) × (line_written text v ≡ Some t)) ⊎ ((text ≡ true) × ((t : List ℕ) × (literal_text (scalar_in v) ≡ Some t)))
+
+-- one without items and entries is
+string_written : (text : Bool) (v : Node) → IsValueTree v → is_filled v ≡ false → IsWritten text v
 string_written text v is none = go text refl (scalar_in v) refl
   where
     inline : text && is_text (scalar_in v) ≡ false → (t : List ℕ) × (line_written text v ≡ Some t)
     inline e = let t = inline_anywhere false [] v is none in (t.0, cond-false _ _ _ e ∙ t.1)
 
-    go : (b : Bool) → text ≡ b → (o : Option ScalarText) → scalar_in v ≡ o → ((t : List ℕ) × (line_written text v ≡ Some t)) ⊎ ((text ≡ true) × ((t : List ℕ) × (literal_text (scalar_in v) ≡ Some t)))
+    go : (b : Bool) → text ≡ b → (o : Option ScalarText) → scalar_in v ≡ o → IsWritten text v
     go false e o is_o = inl (inline (ap (λ b. b && is_text (scalar_in v)) e))
     go true e None is_o = inl (inline (λ i. e i && is_text (is_o i)))
     go true e (Some s) is_o = string (is_string s.kind) refl
       where
-        literal : is_string s.kind ≡ true → (b : Bool) → can_write s Literal Block ≡ b → ((t : List ℕ) × (line_written text v ≡ Some t)) ⊎ ((text ≡ true) × ((t : List ℕ) × (literal_text (scalar_in v) ≡ Some t)))
+        literal : is_string s.kind ≡ true → (b : Bool) → can_write s Literal Block ≡ b → IsWritten text v
         literal k true can = inr (e, (s.text, ap literal_text is_o ∙ cond-true _ _ _ can))
         literal k false can =
             let text_is : text && is_text (scalar_in v) ≡ true = (λ i. e i && is_text (is_o i)) ∙ k in
             let not_literal : is_literal (scalar_in v) ≡ false = ap is_literal is_o ∙ can in
             inl (double s.text, cond-true _ _ _ text_is ∙ (cond-false _ _ _ not_literal ∙ ap in_quotes is_o))
 
-        string : (b : Bool) → is_string s.kind ≡ b → ((t : List ℕ) × (line_written text v ≡ Some t)) ⊎ ((text ≡ true) × ((t : List ℕ) × (literal_text (scalar_in v) ≡ Some t)))
+        string : (b : Bool) → is_string s.kind ≡ b → IsWritten text v
         string false k = inl (inline ((λ i. e i && is_text (is_o i)) ∙ k))
         string true k = literal k (can_write s Literal Block) refl
 
@@ -133,7 +137,7 @@ scalar_served doc steps v c w at is = go (is_filled v) refl
           ∙ (ap (λ b. literal_at b (first_break (cut_text c)) v w) k ∙ ap (option_map (literal_segments (first_break (cut_text c)) w)) e),
     )
 
-    string : ((t : List ℕ) × (line_written (has_text (node_in doc steps c)) v ≡ Some t)) ⊎ ((has_text (node_in doc steps c) ≡ true) × ((t : List ℕ) × (literal_text (scalar_in v) ≡ Some t))) → IsServed string_ways (replace doc steps v) c
+    string : IsWritten (has_text (node_in doc steps c)) v → IsServed string_ways (replace doc steps v) c
     string (inl x) = served_first scalar_line_way scalar_literal_way (replace doc steps v) c (line (is_kept (node_in doc steps c) v) refl x.0 x.1)
     string (inr x) = served_second scalar_line_way scalar_literal_way (replace doc steps v) c (literal x.0 x.1.0 x.1.1)
 
