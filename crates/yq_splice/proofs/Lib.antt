@@ -70,6 +70,7 @@ pub mod BreakLaws
 pub mod SoleLaws
 pub mod NodeRowLaws
 pub mod NodeValueLaws
+pub mod DashValueLaws
 pub mod CollectionRows
 pub mod CollectionReplaceLaws
 pub mod CollectionAnswers
