@@ -116,11 +116,7 @@ string_written text v is none = go text refl (scalar_in v) refl
         string true k = literal k (can_write s Literal Block) refl
 
 pub scalar_served : (doc : ℕ) (steps : List Step) (v : Node) (c : Cut) (w : ScalarPlace) → scalar_place doc steps c ≡ Some w → IsValueTree v → IsServed scalar_ways (replace doc steps v) c
-unfolding scalar_ways
-unfolding string_ways
-unfolding scalar_line_way
-unfolding scalar_literal_way
-unfolding scalar_collection_way
+unfolding scalar_ways string_ways scalar_line_way scalar_literal_way scalar_collection_way
 scalar_served doc steps v c w at is = go (is_filled v) refl
   where
     line : (b : Bool) → is_kept (node_in doc steps c) v ≡ b → (t : List ℕ) → line_written (has_text (node_in doc steps c)) v ≡ Some t → IsServed scalar_line_way (replace doc steps v) c
@@ -194,9 +190,7 @@ inline_marked doc steps c i read at beside = go steps h.leads
         mark_there doc s ss c d.0 l.found h.front h.row h.back d.1 l.is h.rows_are l.number
 
 pub inline_served : (doc : ℕ) (steps : List Step) (v : Node) (c : Cut) (i : InlinePlace) → read_at (cut_text c) ≡ Some c → inline_from doc steps c ≡ Some i → IsValueTree v → IsServed replace_ways (replace doc steps v) c
-unfolding replace_ways
-unfolding replace_way
-unfolding replace_block_way
+unfolding replace_ways replace_way replace_block_way
 inline_served doc steps v c i read at is = go (is_filled v) refl i.alone refl
   where
     inline : (t : List ℕ) → value_written i.alone (written_text i.old) v ≡ Some t → (b : Bool) → is_kept (node_in doc steps c) v ≡ b → IsServed replace_way (replace doc steps v) c
