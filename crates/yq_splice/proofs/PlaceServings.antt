@@ -14,7 +14,7 @@ use Rattle.yq_scalar.proofs.Bools.{bind_some}
 use Rattle.yq_inline.specs.Valued.{IsValueTree}
 use Rattle.yq_lines.specs.Ends.{found_line}
 use Rattle.yq_lines.specs.Places.{lines_before, Found, find}
-use Rattle.yq_rows.specs.Rows.{Row, Part, Cut, cut_text}
+use Rattle.yq_rows.specs.Rows.{Row, Cut, cut_text}
 use Rattle.yq_tree.specs.CollectionEnds.{CollectionEnd, collection_end}
 use Rattle.yq_tree.specs.CommentPlaces.{LineEnd, end_of_line, line_end}
 use Rattle.yq_tree.specs.FirstBreak.{first_break}
@@ -43,7 +43,6 @@ use Rattle.yq_splice.specs.Replacing.{is_kept, node_in, place_segments, replace_
 use Rattle.yq_splice.specs.ScalarCollection.{collection_segments, scalar_collection_way}
 use Rattle.yq_splice.specs.ScalarLiteral.{literal_at, literal_segments, literal_text, scalar_literal_way}
 use Rattle.yq_splice.specs.ScalarReplacing.{has_text, in_quotes, is_literal, is_text, line_at, line_segments, line_written, scalar_line_way}
-use Rattle.yq_splice.specs.Script.{Segment}
 use Rattle.yq_splice.specs.Serving.{IsServed}
 use Rattle.yq_splice.proofs.ServingLaws.{served_first, served_second}
 
