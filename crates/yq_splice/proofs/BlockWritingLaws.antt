@@ -1,5 +1,5 @@
 -- Replacing a node by a collection in block style is a way.
-use Rattle.std.proofs.Common.{◌≡◌, ℕ, ◌≤◌, not, ◌||◌, Bool, true, false, cond, List, [], ◌∷◌, ◌++◌, length, replicate, Some, None, refl, sym, ap, ◌∙◌, subst, append_assoc, append-nil}
+use Rattle.std.proofs.Common.{◌≡◌, ℕ, ◌+◌, ◌≤◌, not, ◌||◌, Bool, true, false, cond, List, [], ◌∷◌, ◌++◌, length, replicate, None, Some, refl, sym, ap, ◌∙◌, subst, append_assoc, append-nil}
 use Rattle.std.proofs.lemmas.Bool.{false≢true}
 use Rattle.yq_scalar.specs.BlockWritten.{break_text}
 use Rattle.yq_scalar.specs.Characters.{text_limit}
@@ -10,27 +10,33 @@ use Rattle.yq_scalar.specs.Tree.{Node}
 use Rattle.yq_scalar.proofs.Bools.{and_true, guard_then, or_false}
 use Rattle.yq_inline.specs.Valued.{IsValueTree}
 use Rattle.yq_lines.specs.Anchors.{names_of}
+use Rattle.yq_lines.specs.Comments.{line_comment}
 use Rattle.yq_lines.specs.Places.{Found, content}
 use Rattle.yq_lines.proofs.Finding.{FoundNode, path_node}
-use Rattle.yq_rows.specs.Grammar.{IsTail}
-use Rattle.yq_rows.specs.Rows.{Row, Part, Cut, cut_text}
+use Rattle.yq_rows.specs.Exchange.{row_front}
+use Rattle.yq_rows.specs.Grammar.{IsTail, is_entry}
+use Rattle.yq_rows.specs.Rows as rows
+use Rattle.yq_rows.specs.Rows.{Row, mark_column, rows_text, Part, Cut, cut_text}
 use Rattle.yq_rows.specs.View.{slices}
 use Rattle.yq_tree.specs.Documents.{Document, document_parts}
+use Rattle.yq_tree.specs.Lines.{tail_of}
 use Rattle.yq_tree.specs.MarkPlaces.{MarkPlace}
 use Rattle.yq_tree.specs.Reading as reading
 use Rattle.yq_tree.specs.Reading.{documents, outline_of, read_at, root_of}
 use Rattle.yq_tree.specs.RowPaths.{IsReadable}
 use Rattle.yq_tree.proofs.PrintedTexts.{map_some}
+use Rattle.yq_change.specs.Appends.{inserted}
 use Rattle.yq_change.specs.Changed.{put_document}
 use Rattle.yq_change.specs.SoundRoots.{MayReplace}
 use Rattle.yq_change.specs.TextPieces.{IsPiece}
 use Rattle.yq_change.proofs.TextPieceLaws.{pieces_joined}
 use Rattle.yq_block.specs.declared.layout.Layout.{Layout}
 use Rattle.yq_block.specs.BlockReading.{is_filled}
-use Rattle.yq_block.specs.BlockRows.{item_column}
+use Rattle.yq_block.specs.BlockRows.{column_below, indent_step, item_column, node_rows}
 use Rattle.yq_block.specs.BlockText.{block_value}
-use Rattle.yq_block.specs.BlockValues.{HasNearKeys, InRows, IsFilled}
+use Rattle.yq_block.specs.BlockValues.{HasNearKeys, InRows, IsEnd, IsFilled}
 use Rattle.yq_block.proofs.CharacterLaws.{value_sound}
+use Rattle.yq_block.proofs.TextLaws.{value_spelled}
 use Rattle.yq_expr.specs.Changes.{is_used_inside}
 use Rattle.yq_expr.specs.Fits.{Fits}
 use Rattle.yq_expr.specs.Operations.{Operation, replace, append, remove, line_comment, head_comment}
@@ -41,17 +47,21 @@ use Rattle.yq_splice.specs.Layouts.{layout_of}
 use Rattle.yq_splice.specs.Operands.{HasOperand}
 use Rattle.yq_splice.specs.Script.{Segment, old_text, new_text}
 use Rattle.yq_splice.specs.Ways.{IsWay, ReadsAfter}
-use Rattle.yq_splice.proofs.BehindDashLaws.{behind_rows, takes_behind, dash_text}
+use Rattle.yq_splice.proofs.BehindDashLaws.{is_dash}
+use Rattle.yq_splice.proofs.DashValueLaws.{behind_rows, behind_spelled, takes_behind}
+use Rattle.yq_splice.proofs.BrokenTails.{broken_comment, broken_tail, end_tail, quiet_tail}
 use Rattle.yq_splice.proofs.CommentPieceLaws.{nothing, byte_then, break_piece, spaces_piece}
 use Rattle.yq_splice.proofs.DoneLaws.{nth_map}
 use Rattle.yq_splice.proofs.FitLaws.{new_value, inside_spared, near_keys, tree_unique}
 use Rattle.yq_splice.proofs.LayoutLaws.{mapping_least}
-use Rattle.yq_splice.proofs.MarkFacts.{p, r, rest, tail, there, there_is, parted}
+use Rattle.yq_splice.proofs.LeftRows.{holding, left_rows}
+use Rattle.yq_splice.proofs.MarkContentLaws.{anchor_left, tail_is, unnamed}
+use Rattle.yq_splice.proofs.MarkFacts.{column_is, entry, key_is, named, node, own, p, pairs, parted, r, rest, row_is, tail, there, there_is}
 use Rattle.yq_splice.proofs.MarkPieceLaws.{MarkPieces, mark_pieces}
-use Rattle.yq_splice.proofs.MarkReplaceLaws.{TakesMark, q, q_text, mark_reads}
-use Rattle.yq_splice.proofs.MarkRowLaws.{HasMark, mark_has}
+use Rattle.yq_splice.proofs.MarkRowLaws.{HasMark, is_key, mark_has}
+use Rattle.yq_splice.proofs.NodeRowLaws.{NodeRows, TakesNode, node_reads, q_text}
+use Rattle.yq_splice.proofs.NodeValueLaws.{IsHolding, end_is, mark_key, rows_under, takes_under}
 use Rattle.yq_splice.proofs.SegmentLaws.{segments_readable}
-use Rattle.yq_splice.proofs.UnderMarkLaws.{under_rows, takes_under, under_text}
 
 none_some : {A : Type 0} {x : A} → None ≡ Some x → ⊥
 none_some e = cc
@@ -71,6 +81,16 @@ filled_is (tree.map a (tree.child label n cs)) e = tt
 not_true : (b : Bool) → not b ≡ true → b ≡ false
 not_true true e = absurd (false≢true e)
 not_true false e = refl
+
+not_false : (b : Bool) → not b ≡ false → b ≡ true
+not_false true e = refl
+not_false false e = absurd (false≢true (sym e))
+
+-- columns under a key or dash
+pub same_below : (m : rows.Mark) (l : Layout) (v : Node) (n : ℕ) → is_entry m ≡ true → cond (is_key m) (n + indent_step l v) (item_column n) ≡ column_below l n (mark_key m) v
+same_below rows.Bare l v n e = absurd (false≢true e)
+same_below rows.Dash l v n e = refl
+same_below (rows.Key key colon) l v n e = refl
 
 module _ (doc : ℕ) (s : Step) (ss : List Step) (c : Cut) (w : MarkPlace) (h : HasMark doc s ss c w) (v : Node) where
   abbrev l : Layout
@@ -118,21 +138,65 @@ module _ (doc : ℕ) (s : Step) (ss : List Step) (c : Cut) (w : MarkPlace) (h : 
       may_there : MayReplace v (content f.line f.under) (root_of (p doc s ss c w h)) (length (s ∷ ss))
       may_there = subst (λ x. MayReplace v x (root_of (p doc s ss c w h)) (length (s ∷ ss))) (some_same (sym at ∙ (path_node s ss (outline_of (p doc s ss c w h)) ∙ ap FoundNode h.leads.is))) may
 
+      -- on the lines under the key or dash
       under_reads : length (new_text (under_segments l v place)) ≤ text_limit → ReadsAfter op c (new_text (under_segments l v place))
       under_reads size =
-          let new : List Row = under_rows doc s ss c w h l (mapping_least doc c) v filled near in
-          let t : TakesMark doc s ss c w h v new = takes_under doc s ss c w h l (mapping_least doc c) v filled near in
-          let text : cut_text (put_document doc (q doc s ss c w h v new t) c) ≡ new_text (under_segments l v place) = q_text doc s ss c w h v new t ∙ under_text doc s ss c w h l (mapping_least doc c) v filled near in
-          subst (ReadsAfter op c) text (mark_reads doc s ss c w h v new t may_there (subst IsReadable (sym text) (segments_readable (under_segments l v place) under_pieces size)))
+          let k : NodeRows doc s ss c = node doc s ss c w h in
+          let row : Row = r doc s ss c w h in
+          let z : List ℕ = rest doc s ss c w h in
+          let t : IsTail (slices row).tail z = tail doc s ss c w h in
+          let last : List ℕ = t.line.break in
+          let held : List ℕ = t.white ++ (t.comment ++ break_text l.br) in
+          let below : ℕ = column_below l (mark_column row) (mark_key row.mark) v in
+          let rs : List Row = node_rows l below last v in
+          let none : line_comment last ≡ None = quiet_tail last z (end_tail (slices row).tail z t) refl in
+          let ends : IsEnd (mark_column row) last z = end_is doc s ss c k last (end_tail (slices row).tail z t) in
+          let left : IsHolding doc s ss c k (anchor_left row.content held) (rows_text rs z) =
+          holding doc s ss c k h.inline (row_is doc s ss c w h) (named doc s ss c w h) held (rows_text rs z) (broken_tail (slices row).tail z t l.br (pairs doc s ss c w h) (rows_text rs z)) (broken_comment (slices row).tail z t l.br (pairs doc s ss c w h)) in
+          let new : List Row = rows_under doc s ss c k l (mapping_least doc c) v filled near (anchor_left row.content held) last left ends none in
+          let takes : TakesNode doc s ss c k v new = takes_under doc s ss c k l (mapping_least doc c) v filled near (anchor_left row.content held) last left ends none in
+          let column : below_mark l place v ≡ below = (λ i. cond (key_is doc s ss c w h i) (column_is doc s ss c w h i + indent_step l v) (item_column (column_is doc s ss c w h i))) ∙ same_below row.mark l v (mark_column row) (entry doc s ss c w h) in
+          let parts : place.before ++ (held ++ (replicate below 32 ++ (block_value l below v ++ (last ++ z)))) ≡
+              place.before ++ (t.white ++ (t.comment ++ ((break_text l.br ++ (replicate below 32 ++ block_value l below v)) ++ ((last ++ z) ++ [])))) =
+          simp (append_assoc, append-nil) refl in
+          let text : k.start ++ (rows_text k.front [] ++ rows_text new z) ≡ new_text (under_segments l v place) =
+          left_rows doc s ss c k h.inline held rs z
+          ∙ (ap (λ u. place.before ++ (held ++ u)) (value_spelled v l below last z filled.filled filled.value)
+          ∙ (parts ∙ ap (λ n. place.before ++ (t.white ++ (t.comment ++ (lines_below l n v ++ ((last ++ z) ++ []))))) (sym column))) in
+          let same : cut_text (put_document doc (inserted k.front new k.back k.p) c) ≡ new_text (under_segments l v place) = q_text doc s ss c k v new takes ∙ text in
+          subst (ReadsAfter op c) same (node_reads doc s ss c k v new takes may_there (subst IsReadable (sym same) (segments_readable (under_segments l v place) under_pieces size)))
 
+      -- on the line of a dash
       behind_reads : is_compact place ≡ true → length (new_text (behind_segments l v place)) ≤ text_limit → ReadsAfter op c (new_text (behind_segments l v place))
       behind_reads is size =
           let both = and_true (not (place.keyed || place.named)) (is_empty place.comment) is in
-          let none = or_false place.keyed place.named (not_true (place.keyed || place.named) both.0) in
-          let new : List Row = behind_rows doc s ss c w h l (mapping_least doc c) v filled near none.0 none.1 both.1 in
-          let t : TakesMark doc s ss c w h v new = takes_behind doc s ss c w h l (mapping_least doc c) v filled near none.0 none.1 both.1 in
-          let text : cut_text (put_document doc (q doc s ss c w h v new t) c) ≡ new_text (behind_segments l v place) = q_text doc s ss c w h v new t ∙ dash_text doc s ss c w h l (mapping_least doc c) v filled near none.0 none.1 both.1 in
-          subst (ReadsAfter op c) text (mark_reads doc s ss c w h v new t may_there (subst IsReadable (sym text) (segments_readable (behind_segments l v place) behind_pieces size)))
+          let free = or_false place.keyed place.named (not_true (place.keyed || place.named) both.0) in
+          let k : NodeRows doc s ss c = node doc s ss c w h in
+          let row : Row = r doc s ss c w h in
+          let z : List ℕ = rest doc s ss c w h in
+          let t : IsTail (slices row).tail z = tail doc s ss c w h in
+          let last : List ℕ = (slices row).tail in
+          let bare : is_empty (slices row).anchor ≡ true = not_false (is_empty (slices row).anchor) free.1 in
+          let dash : row.mark ≡ rows.Dash = is_dash row.mark (entry doc s ss c w h) (sym (key_is doc s ss c w h) ∙ free.0) in
+          let ends : IsEnd (mark_column row) last z = end_is doc s ss c k last t in
+          let quiet : line_comment last ≡ None = quiet_tail last z t both.1 in
+          let none : line_comment (tail_of row.content) ≡ None = ap line_comment (sym (tail_is row.content)) ∙ quiet in
+          let no_name = named doc s ss c w h ∙ unnamed row.content bare in
+          let new : List Row = behind_rows doc s ss c k l (mapping_least doc c) v filled near last dash ends quiet none no_name in
+          let takes : TakesNode doc s ss c k v new = takes_behind doc s ss c k l (mapping_least doc c) v filled near last dash ends quiet none no_name in
+          let before : List ℕ = (own doc s ss c w h).before ++ row_front row in
+          let before_is : place.before ≡ before = ap (λ e. cond e before (before ++ ((slices row).space ++ (slices row).anchor))) bare in
+          let a : List ℕ = k.start in
+          let b : List ℕ = rows_text k.front [] in
+          let d : List ℕ = row_front row in
+          let x : List ℕ = block_value l (item_column (mark_column row)) v in
+          let parts : a ++ (b ++ (d ++ (32 ∷ (x ++ ((t.white ++ (t.comment ++ t.line.break)) ++ z))))) ≡ ((a ++ b) ++ d) ++ ((32 ∷ x) ++ (t.white ++ (t.comment ++ ((t.line.break ++ z) ++ [])))) = simp (append_assoc, append-nil) refl in
+          let text : k.start ++ (rows_text k.front [] ++ rows_text new z) ≡ new_text (behind_segments l v place) =
+          ap (λ u. a ++ (b ++ u)) (behind_spelled doc s ss c k l (mapping_least doc c) v filled near last dash ends quiet none no_name)
+          ∙ (ap (λ u. a ++ (b ++ (d ++ (32 ∷ (x ++ (u ++ z)))))) t.line.spelled
+          ∙ (parts ∙ (λ i. sym before_is i ++ ((32 ∷ block_value l (item_column (sym (column_is doc s ss c w h) i)) v) ++ (t.white ++ (t.comment ++ ((t.line.break ++ z) ++ []))))))) in
+          let same : cut_text (put_document doc (inserted k.front new k.back k.p) c) ≡ new_text (behind_segments l v place) = q_text doc s ss c k v new takes ∙ text in
+          subst (ReadsAfter op c) same (node_reads doc s ss c k v new takes may_there (subst IsReadable (sym same) (segments_readable (behind_segments l v place) behind_pieces size)))
 
       block_reads : length (new_text (block_segments l v place)) ≤ text_limit → ReadsAfter op c (new_text (block_segments l v place))
       block_reads = go (is_compact place) refl

@@ -16,6 +16,7 @@ use Rattle.yq_rows.specs.Exchange.{row_front, with_content}
 use Rattle.yq_rows.specs.Grammar.{IsTail, is_entry}
 use Rattle.yq_rows.specs.Rows as rows
 use Rattle.yq_rows.specs.Rows.{Content, Row, content_text, mark_column, parent_indent, rows_text, Part, Cut, cut_text}
+use Rattle.yq_rows.specs.Seams.{is_block}
 use Rattle.yq_rows.specs.View.{slices}
 use Rattle.yq_rows.proofs.NodeExchange.{mark_apart}
 use Rattle.yq_rows.proofs.PlaceLaws.{row_front-append}
@@ -57,7 +58,7 @@ use Rattle.yq_splice.specs.Replacing.{value_written}
 use Rattle.yq_splice.specs.Script.{Segment, old_text, new_text}
 use Rattle.yq_splice.specs.Ways.{IsWay, ReadsAfter}
 use Rattle.yq_splice.proofs.AppendPlaces.{kept_pieces}
-use Rattle.yq_splice.proofs.BlockWritingLaws.{filled_is}
+use Rattle.yq_splice.proofs.BlockWritingLaws.{filled_is, same_below}
 use Rattle.yq_splice.proofs.BreakLaws.{IsLfOrCrLf, last_is}
 use Rattle.yq_splice.proofs.BrokenTails.{broken_tail, broken_comment, quiet_tail}
 use Rattle.yq_splice.proofs.CollectionRows.{alone_is, end_pieces, ended_tail, ended_comment, front_text, last_ends_line, node, own_anchor, pairs, parted, rest, tail, there, there_is, behind_is}
@@ -65,8 +66,8 @@ use Rattle.yq_splice.proofs.CommentPieceLaws.{nothing as no_text, byte_then, bre
 use Rattle.yq_splice.proofs.DoneLaws.{nth_map}
 use Rattle.yq_splice.proofs.FitLaws.{new_value, inside_spared, near_keys, tree_unique}
 use Rattle.yq_splice.proofs.LayoutLaws.{mapping_least}
-use Rattle.yq_splice.proofs.MarkContentLaws.{anchor_left, left_anchor, left_apart, left_content, left_core_text, left_nothing, left_tail, left_text}
-use Rattle.yq_splice.proofs.MarkReplaceLaws.{tail_is}
+use Rattle.yq_splice.proofs.LeftRows.{holding, left_row, left_rows}
+use Rattle.yq_splice.proofs.MarkContentLaws.{anchor_left}
 use Rattle.yq_splice.proofs.MarkRowLaws.{is_key}
 use Rattle.yq_splice.proofs.NodeRowLaws.{NodeRows, TakesNode, entry, node_reads, q_text}
 use Rattle.yq_splice.proofs.NodeRowLaws as rowed
@@ -76,15 +77,6 @@ use Rattle.yq_splice.proofs.SegmentLaws.{segments_readable}
 
 some_same : {A : Type 0} {x y : A} → Some x ≡ Some y → x ≡ y
 some_same e = cc
-
-three : (a b d r : List ℕ) → a ++ (b ++ (d ++ r)) ≡ ((a ++ b) ++ d) ++ r
-three a b d r = simp append_assoc refl
-
--- columns under a key or dash
-same_below : (m : rows.Mark) (l : Layout) (v : Node) (n : ℕ) → is_entry m ≡ true → cond (is_key m) (n + Rattle.yq_block.specs.BlockRows.indent_step l v) (Rattle.yq_block.specs.BlockRows.item_column n) ≡ column_below l n (mark_key m) v
-same_below rows.Bare l v n e = absurd (false≢true e)
-same_below rows.Dash l v n e = refl
-same_below (rows.Key key colon) l v n e = refl
 
 module _ (doc : ℕ) (s : Step) (ss : List Step) (c : Cut) (w : MarkPlace) (x : CollectionEnd) (read : read_at (cut_text c) ≡ Some c) (at : mark_place doc (s ∷ ss) c ≡ Some w) (ends : collection_end doc (s ∷ ss) c ≡ Some x) (v : Node) where
   abbrev h : NodeRows doc s ss c
@@ -133,25 +125,15 @@ module _ (doc : ℕ) (s : Step) (ss : List Step) (c : Cut) (w : MarkPlace) (x : 
   abbrev last_tail : IsTail last z
   last_tail = record { white = []; comment = []; line = record { break = last; spelled = refl; blank = tt; remark = tt; ends = last_ends_line doc s ss c w x read at ends }; apart = refl }
 
-  own_tail : (slices h.mark).tail ≡ tail_of h.mark.content
-  own_tail = tail_is h.mark.content
-
   -- what stays behind the key or dash, where nothing but perhaps an anchor stood
   abbrev left : List ℕ → Content
   left tail = anchor_left h.mark.content tail
 
-  holding : (tail more : List ℕ) → IsTail tail more → comments.line_comment tail ≡ comments.line_comment (slices h.mark).tail → IsHolding doc s ss c h (anchor_left h.mark.content tail) more
-  holding tail more is same =
-      let was = (rowed.rows_there doc s ss c h).0 in
-      let block = (alone_is doc s ss c w x read at ends).block in
-      record {
-        holds = left_nothing h.mark.content tail;
-        stands = left_content (parent_indent h.mark) h.mark.content (rest doc s ss c w x read at ends) tail more block was.content is;
-        apart = left_apart (parent_indent h.mark) h.mark.content (rest doc s ss c w x read at ends) tail more block was.content
-            (mark_apart h.mark.mark h.mark.content (rest doc s ss c w x read at ends) (entry doc s ss c h) was.mark) is;
-        comment = ap comments.line_comment (left_tail h.mark.content tail) ∙ (same ∙ ap comments.line_comment own_tail);
-        anchor = left_anchor h.mark.content tail block ∙ sym (own_anchor doc s ss c w x read at ends);
-      }
+  block : is_block (node doc s ss c w x read at ends).mark.content ≡ false
+  block = (alone_is doc s ss c w x read at ends).block
+
+  held : (tail more : List ℕ) → IsTail tail more → comments.line_comment tail ≡ comments.line_comment (slices h.mark).tail → IsHolding doc s ss c h (anchor_left h.mark.content tail) more
+  held = holding doc s ss c h block (rowed.rows_there doc s ss c h).0 (own_anchor doc s ss c w x read at ends)
 
   -- a text for which the document is known reads, where it may be read
   reads_as : (new : List Row) → TakesNode doc s ss c h v new → (y : Written) → MayReplace v (content h.found.line h.found.under) (root_of h.p) (length (s ∷ ss)) → h.start ++ (rows_text h.front [] ++ rows_text new z) ≡ new_text (exchange_segments u y) →
@@ -169,38 +151,32 @@ module _ (doc : ℕ) (s : Step) (ss : List Step) (c : Cut) (w : MarkPlace) (x : 
     abbrev y : Written
     y = written_of [] (lines_below l (below_mark l (there doc s ss c w x read at ends) v) v)
 
-    abbrev held : List ℕ
-    held = t.white ++ (t.comment ++ break_text l.br)
+    abbrev held_text : List ℕ
+    held_text = t.white ++ (t.comment ++ break_text l.br)
 
     abbrev value_rows : List Row
     value_rows = node_rows l (column_below l (mark_column h.mark) (mark_key h.mark.mark) v) last v
 
-    held_is : IsHolding doc s ss c h (anchor_left h.mark.content held) (rows_text value_rows z)
+    held_is : IsHolding doc s ss c h (anchor_left h.mark.content held_text) (rows_text value_rows z)
     held_is =
-        holding held (rows_text value_rows z) (broken_tail (slices h.mark).tail (rest doc s ss c w x read at ends) t l.br (pairs doc s ss c w x read at ends) (rows_text value_rows z))
+        held held_text (rows_text value_rows z) (broken_tail (slices h.mark).tail (rest doc s ss c w x read at ends) t l.br (pairs doc s ss c w x read at ends) (rows_text value_rows z))
         (broken_comment (slices h.mark).tail (rest doc s ss c w x read at ends) t l.br (pairs doc s ss c w x read at ends))
 
     abbrev new : List Row
-    new = rows_under doc s ss c h l (mapping_least doc c) v filled near (left held) last held_is (end_is doc s ss c h last last_tail) (quiet_tail last z last_tail refl)
+    new = rows_under doc s ss c h l (mapping_least doc c) v filled near (left held_text) last held_is (end_is doc s ss c h last last_tail) (quiet_tail last z last_tail refl)
 
     below_is : below ≡ column_below l (mark_column h.mark) (mark_key h.mark.mark) v
     below_is = same_below h.mark.mark l v (mark_column h.mark) (entry doc s ss c h)
 
     lines_text : h.start ++ (rows_text h.front [] ++ rows_text new z) ≡ new_text (exchange_segments u y)
     lines_text =
-        let a : List ℕ = h.start in
-        let b : List ℕ = rows_text h.front [] in
-        let d : List ℕ = row_front h.mark in
         let k : ℕ = column_below l (mark_column h.mark) (mark_key h.mark.mark) v in
-        let block = (alone_is doc s ss c w x read at ends).block in
         let parts : front ++ ((t.white ++ (t.comment ++ break_text l.br)) ++ (replicate k 32 ++ (block_value l k v ++ (last ++ x.behind)))) ≡ front ++ (t.white ++ (t.comment ++ ((break_text l.br ++ (replicate k 32 ++ block_value l k v)) ++ (last ++ (x.behind ++ []))))) =
         simp (append_assoc, append-nil) refl in
-        ap (λ r. a ++ (b ++ r)) (row_front-append (with_content (left held) h.mark) (rows_text value_rows z))
-        ∙ (three a b d (content_text (left held) (rows_text value_rows z))
-        ∙ (left_text ((a ++ b) ++ d) h.mark.content held (rows_text value_rows z) block
-        ∙ (ap (λ r. front ++ (held ++ r)) (value_spelled v l k last z filled.filled filled.value)
-        ∙ (ap (λ r. front ++ (held ++ (replicate k 32 ++ (block_value l k v ++ (last ++ r))))) (sym (behind_is doc s ss c w x read at ends))
-        ∙ (parts ∙ ap (λ n. front ++ (t.white ++ (t.comment ++ (lines_below l n v ++ (last ++ (x.behind ++ [])))))) (sym below_is))))))
+        left_rows doc s ss c h block held_text value_rows z
+        ∙ (ap (λ r. front ++ (held_text ++ r)) (value_spelled v l k last z filled.filled filled.value)
+        ∙ (ap (λ r. front ++ (held_text ++ (replicate k 32 ++ (block_value l k v ++ (last ++ r))))) (sym (behind_is doc s ss c w x read at ends))
+        ∙ (parts ∙ ap (λ n. front ++ (t.white ++ (t.comment ++ (lines_below l n v ++ (last ++ (x.behind ++ [])))))) (sym below_is))))
 
     lines_piece : IsPiece (lines_below l below v)
     lines_piece =
@@ -209,7 +185,7 @@ module _ (doc : ℕ) (s : Step) (ss : List Step) (c : Cut) (w : MarkPlace) (x : 
 
     pub lines_read : length (new_text (exchange_segments u y)) ≤ text_limit → ReadsAfter op c (new_text (exchange_segments u y))
     lines_read =
-        reads_as new (takes_under doc s ss c h l (mapping_least doc c) v filled near (left held) last held_is (end_is doc s ss c h last last_tail) (quiet_tail last z last_tail refl)) y may lines_text no_text lines_piece
+        reads_as new (takes_under doc s ss c h l (mapping_least doc c) v filled near (left held_text) last held_is (end_is doc s ss c h last last_tail) (quiet_tail last z last_tail refl)) y may lines_text no_text lines_piece
 
   -- ---- a text behind it
 
@@ -222,23 +198,17 @@ module _ (doc : ℕ) (s : Step) (ss : List Step) (c : Cut) (w : MarkPlace) (x : 
 
     beside_held : IsHolding doc s ss c h (anchor_left h.mark.content held_text) z
     beside_held =
-        holding held_text z beside_tail
-        (ended_comment (slices h.mark).tail (rest doc s ss c w x read at ends) t (pairs doc s ss c w x read at ends) last z (last_ends_line doc s ss c w x read at ends))
+        held held_text z beside_tail (ended_comment (slices h.mark).tail (rest doc s ss c w x read at ends) t (pairs doc s ss c w x read at ends) last z (last_ends_line doc s ss c w x read at ends))
 
     abbrev beside_rows : List Row
     beside_rows = rows_beside doc s ss c h v for.node for.is (left held_text) beside_held
 
     beside_text : h.start ++ (rows_text h.front [] ++ rows_text beside_rows z) ≡ new_text (exchange_segments u (beside_mark text))
     beside_text =
-        let a : List ℕ = h.start in
-        let b : List ℕ = rows_text h.front [] in
-        let d : List ℕ = row_front h.mark in
         let parts : front ++ (32 ∷ (text ++ ((t.white ++ (t.comment ++ last)) ++ x.behind))) ≡ front ++ ((32 ∷ text) ++ (t.white ++ (t.comment ++ (last ++ (x.behind ++ []))))) = simp (append_assoc, append-nil) refl in
-        ap (λ r. a ++ (b ++ r)) (row_front-append (with_content (put_core for.node (left held_text)) h.mark) z)
-        ∙ (three a b d (content_text (put_core for.node (left held_text)) z)
-        ∙ (left_core_text ((a ++ b) ++ d) for.node h.mark.content held_text z (alone_is doc s ss c w x read at ends).block
+        left_row doc s ss c h block for.node held_text z
         ∙ (ap (λ r. front ++ (32 ∷ r)) (node_then for.node (held_text ++ z) ∙ ap (λ r. r ++ (held_text ++ z)) for.text)
-        ∙ (ap (λ r. front ++ (32 ∷ (text ++ (held_text ++ r)))) (sym (behind_is doc s ss c w x read at ends)) ∙ parts))))
+        ∙ (ap (λ r. front ++ (32 ∷ (text ++ (held_text ++ r)))) (sym (behind_is doc s ss c w x read at ends)) ∙ parts))
 
     pub beside_reads : length (new_text (exchange_segments u (beside_mark text))) ≤ text_limit → ReadsAfter op c (new_text (exchange_segments u (beside_mark text)))
     beside_reads =

@@ -59,10 +59,8 @@ pub mod BrokenTails
 pub mod MarkContentLaws
 pub mod MarkRowLaws
 pub mod MarkFacts
-pub mod MarkReplaceLaws
 pub mod MarkPieceLaws
 pub mod LayoutLaws
-pub mod UnderMarkLaws
 pub mod BehindDashLaws
 pub mod BlockWritingLaws
 pub mod BlockWritingAnswers
@@ -70,6 +68,8 @@ pub mod BreakLaws
 pub mod SoleLaws
 pub mod NodeRowLaws
 pub mod NodeValueLaws
+pub mod LeftRows
+pub mod EntryRows
 pub mod DashValueLaws
 pub mod CollectionRows
 pub mod CollectionReplaceLaws

@@ -41,19 +41,6 @@ anchor_left (Nothing old) tail = Nothing tail
 anchor_left (Inline space node old) tail = node_left space node tail
 anchor_left (Block space anchor block) tail = Nothing tail
 
--- the line of a mark behind which nothing but an anchor stands, if that
-abbrev pub left_line : List (List ℕ) → ℕ → rows.Mark → Option (List ℕ) → List ℕ → Line
-left_line above column mark a tail = record { column = column; mark = mark_of mark; anchor = a; head = None; head_comment = above; line_comment = line_comment tail }
-
-pub left_is : (above : List (List ℕ)) (column : ℕ) (m : rows.Mark) (x : Content) (tail : List ℕ) → mark_line above column m (anchor_left x tail) ≡ left_line above column m (content_anchor (anchor_left x tail)) tail
-left_is above column m (Nothing old) tail = refl
-left_is above column m (Inline space inline.empty old) tail = refl
-left_is above column m (Inline space (inline.alias n) old) tail = refl
-left_is above column m (Inline space (inline.scalar p) old) tail = refl
-left_is above column m (Inline space (inline.coll k g is) old) tail = refl
-left_is above column m (Inline space (inline.anchored n g node) old) tail = refl
-left_is above column m (Block space anchor block) tail = refl
-
 pub left_anchor : (x : Content) (tail : List ℕ) → is_block x ≡ false → content_anchor (anchor_left x tail) ≡ content_anchor x
 left_anchor (Nothing old) tail e = refl
 left_anchor (Inline space inline.empty old) tail e = refl
@@ -72,15 +59,6 @@ left_nothing (Inline space (inline.coll k g is) old) tail = refl
 left_nothing (Inline space (inline.anchored n g node) old) tail = refl
 left_nothing (Block space anchor block) tail = refl
 
-pub left_keys : (x : Content) (tail : List ℕ) → ContentHasFitKeys (anchor_left x tail)
-left_keys (Nothing old) tail = tt
-left_keys (Inline space inline.empty old) tail = tt
-left_keys (Inline space (inline.alias n) old) tail = tt
-left_keys (Inline space (inline.scalar p) old) tail = tt
-left_keys (Inline space (inline.coll k g is) old) tail = tt
-left_keys (Inline space (inline.anchored n g node) old) tail = tt
-left_keys (Block space anchor block) tail = tt
-
 pub left_tail : (x : Content) (tail : List ℕ) → tail_of (anchor_left x tail) ≡ tail
 left_tail (Nothing old) tail = refl
 left_tail (Inline space inline.empty old) tail = refl
@@ -89,6 +67,11 @@ left_tail (Inline space (inline.scalar p) old) tail = refl
 left_tail (Inline space (inline.coll k g is) old) tail = refl
 left_tail (Inline space (inline.anchored n g node) old) tail = refl
 left_tail (Block space anchor block) tail = refl
+
+pub tail_is : (x : Content) → (content_cut x).4 ≡ tail_of x
+tail_is (Nothing tail) = refl
+tail_is (Inline space node tail) = refl
+tail_is (Block space anchor block) = refl
 
 -- without an anchor there is no name
 pub unnamed : (x : Content) → is_empty (content_cut x).1 ≡ true → content_anchor x ≡ None

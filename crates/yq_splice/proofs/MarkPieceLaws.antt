@@ -26,8 +26,9 @@ use Rattle.yq_change.proofs.LineFrontLaws.{clean_cut, ends_more, line_ends_clean
 use Rattle.yq_change.proofs.TextPieceLaws.{byte_cut}
 use Rattle.yq_splice.proofs.BrokenTails.{end_tail, front_clean}
 use Rattle.yq_splice.proofs.MarkContentLaws.{AnchorEnds, anchor_ends}
-use Rattle.yq_splice.proofs.MarkFacts.{r, rest, limit, rows_there, entry, tail, there, raw, own, whole, parted, piece, pairs}
+use Rattle.yq_splice.proofs.MarkFacts.{r, rest, node, row_is, entry, tail, there, raw, own, whole, parted, piece, pairs}
 use Rattle.yq_splice.proofs.MarkRowLaws.{HasMark}
+use Rattle.yq_splice.proofs.NodeRowLaws.{limit}
 
 -- A text ends in this byte.
 abbrev EndsIn : ℕ → List ℕ → Type 0
@@ -108,7 +109,7 @@ mark_pieces doc s ss c w h =
     let z : List ℕ = rest doc s ss c w h in
     let place : MarkPlace = there doc s ss c w h in
     let t : IsTail (slices row).tail z = tail doc s ss c w h in
-    let is_row = (rows_there doc s ss c w h).0 in
+    let is_row = row_is doc s ss c w h in
     let last : ℕ = last_of row.mark in
     let low = low_last row.mark in
     let ends : EndsIn last ((own doc s ss c w h).before ++ row_front row) =
@@ -122,7 +123,7 @@ mark_pieces doc s ss c w h =
     let second =
     clean_cut place.gone ((slices row).tail ++ z) first.1 (front_utf8 place.gone ((slices row).tail ++ z) first.1 (tail_ascii (slices row).tail z t))
     (λ f. gone_clean (upto_anchor (row_front row) sl) place.gone
-    (ap ends_return (mark_seam (row_front row) sl) ∙ line_ends_clean (limit doc s ss c w h) row z is_row row_pairs (subst (λ q. front is_feed ((slices row).tail ++ (q ++ z)) ≡ true) (sym (raw doc s ss c w h)) f))) in
+    (ap ends_return (mark_seam (row_front row) sl) ∙ line_ends_clean (limit doc s ss c (node doc s ss c w h)) row z is_row row_pairs (subst (λ q. front is_feed ((slices row).tail ++ (q ++ z)) ≡ true) (sym (raw doc s ss c w h)) f))) in
     let line : List ℕ = t.white ++ t.comment in
     let behind : List ℕ = t.line.break ++ z in
     let split : (slices row).tail ++ z ≡ line ++ behind = ap (λ l. l ++ z) (t.line.spelled ∙ sym (append_assoc t.white t.comment t.line.break)) ∙ append_assoc line t.line.break z in

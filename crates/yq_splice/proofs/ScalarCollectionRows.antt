@@ -57,32 +57,25 @@ use Rattle.yq_splice.specs.ScalarCollection.{below_scalar, rows_in, rows_segment
 use Rattle.yq_splice.specs.ScalarReplacing.{header_end, break_before, final_break}
 use Rattle.yq_splice.specs.Script.{Segment, old_text, new_text}
 use Rattle.yq_splice.specs.Ways.{ReadsAfter}
-use Rattle.yq_splice.proofs.BehindDashLaws.{first_row, more_rows, rows_are, gap_same, keys_same, behind_text, is_dash}
+use Rattle.yq_splice.proofs.BehindDashLaws.{is_dash}
+use Rattle.yq_splice.proofs.DashValueLaws.{behind_rows, behind_spelled, takes_behind}
+use Rattle.yq_splice.proofs.BlockWritingLaws.{same_below}
 use Rattle.yq_splice.proofs.BreakLaws.{IsLfOrCrLf}
 use Rattle.yq_splice.proofs.BrokenTails.{quiet_tail}
 use Rattle.yq_splice.proofs.CommentPieceLaws.{break_piece, byte_then, spaces_piece}
+use Rattle.yq_splice.proofs.EntryRows.{entry_named, entry_rows}
 use Rattle.yq_splice.proofs.KeptAnchors.{kept, kept_holds, kept_tail, kept_anchor, kept_stands, kept_apart, front_kept, white_begins, white_before, none_anchor, nothing_before}
 use Rattle.yq_splice.proofs.MarkRowLaws.{indent_column, is_key, keyed_is}
 use Rattle.yq_splice.proofs.NodeRowLaws.{NodeRows, TakesNode, node_reads, q_text}
 use Rattle.yq_splice.proofs.NodeRowLaws as rowed
 use Rattle.yq_splice.proofs.NodeValueLaws.{IsHolding, end_is, mark_key, rows_under, takes_under}
 use Rattle.yq_splice.proofs.ScalarLineLaws.{mark_is, new_tail, same_comment, tail_stands}
-use Rattle.yq_splice.proofs.ScalarRowLaws.{HasScalar, p, front, r, back, rest, rows_there, entry, even, fine, valid}
+use Rattle.yq_splice.proofs.ScalarRowLaws.{HasScalar, p, front, r, back, rest, rows_there, entry, valid}
 use Rattle.yq_splice.proofs.ScalarTextLaws.{base, there, row_is, old_is, tail, header_is, lines_are, is_break_line, head_is_piece, end_piece, final_piece, own_tail_piece, rest_piece}
 
 not_true : (b : Bool) → not b ≡ true → b ≡ false
 not_true true e = absurd (false≢true e)
 not_true false e = refl
-
-no_comment : comment_in [] ≡ None
-unfolding upto
-no_comment = refl
-
--- columns under a key or dash
-same_below : (m : rows.Mark) (l : Layout) (v : Node) (n : ℕ) → is_entry m ≡ true → cond (is_key m) (n + indent_step l v) (item_column n) ≡ column_below l n (mark_key m) v
-same_below rows.Bare l v n e = absurd (false≢true e)
-same_below rows.Dash l v n e = refl
-same_below (rows.Key key colon) l v n e = refl
 
 either_break : (br : Break) → IsLfOrCrLf (break_text br)
 either_break Lf = inl refl
@@ -109,27 +102,8 @@ module _ (doc : ℕ) (s : Step) (ss : List Step) (c : Cut) (w : ScalarPlace) (h 
   abbrev t : List ℕ
   t = (slices row).tail
 
-  line_is : line_with row row.content ≡ h.leads.found.line
-  line_is = (entry_back d (front doc s ss c w h) row (back doc s ss c w h) h.found.rows_are (even doc s ss c w h) (fine doc s ss c w h) s ss h.leads).0
-
   abbrev own_rows : NodeRows doc s ss c
-  own_rows = record {
-    p = d;
-    old = h.old;
-    found = h.leads.found;
-    is = h.leads.is;
-    front = front doc s ss c w h;
-    row = row;
-    under = [];
-    back = back doc s ss c w h;
-    rows_are = h.found.rows_are;
-    mark = row;
-    upto = at_mark (entry doc s ss c w h);
-    number = h.leads.number;
-    count = (let size : length (lines_of (row ∷ [])) ≡ suc (length row.dashes) = ap length (append-nil (row_lines row)) ∙ row_count row in omega (arith, size, ap (λ u. length (flatten u)) h.leads.under));
-    start = h.found.s.before;
-    put = λ q. h.found.stands.put q ∙ ap (λ u. h.found.s.before ++ part_text q u) (sym h.found.stands.behind);
-  }
+  own_rows = entry_rows doc s ss c h.y h.found h.old h.leads
 
   abbrev zr : List ℕ
   zr = rows_text (back doc s ss c w h) (d.end ++ behind_document doc c)
@@ -144,9 +118,7 @@ module _ (doc : ℕ) (s : Step) (ss : List Step) (c : Cut) (w : ScalarPlace) (h 
   tail_same = ap (λ (x : Row). (slices x).tail) (row_is doc s ss c w h) ∙ sym (ap tail_of h.content_is)
 
   old_anchor : anchor_of (content h.leads.found.line h.leads.found.under) ≡ block_anchor h.anchor
-  old_anchor =
-      (λ i. anchor_of (content (sym line_is i) (h.leads.under i)))
-      ∙ (content_named (parent_indent row) row.content z (rows_there doc s ss c w h).0.content ∙ ap content_anchor h.content_is)
+  old_anchor = entry_named doc s ss c h.y h.found h.old h.leads ∙ ap content_anchor h.content_is
 
   sep_old : separates (h.space ++ anchor_text h.anchor (block_text h.block z)) ≡ true
   sep_old = mark_apart row.mark (Block h.space h.anchor h.block) z (entry doc s ss c w h) (mark_is doc s ss c w h)
@@ -277,56 +249,19 @@ module _ (doc : ℕ) (s : Step) (ss : List Step) (c : Cut) (w : ScalarPlace) (h 
       abbrev beside : ℕ
       beside = item_column (mark_column row)
 
-      abbrev rs : List Row
-      rs = node_rows l beside nt v
-
       ends : IsEnd (mark_column row) nt zr
       ends = end_is doc s ss c own_rows nt (tail_stands doc s ss c w h zr)
 
-      begun : BeginAt beside rs
-      begun = node_begun v l beside nt filled.filled filled.value
+      no_old : comment_in (tail_of row.content) ≡ None
+      no_old = sym (ap comment_in tail_same) ∙ quiet
 
-      replaces : Replaces (rowed.limit doc s ss c own_rows) (mark_column row) row (rows_text (back doc s ss c w h) (d.end ++ behind_document doc c)) (compact_rows row rs) zr
-      replaces =
-          behind_laid (rowed.limit doc s ss c own_rows) row row (rows_text (back doc s ss c w h) (d.end ++ behind_document doc c)) rs zr (rowed.rows_there doc s ss c own_rows).0 (at_mark (entry doc s ss c w h)) dash
-          (deeper_laid v l (mark_column row) beside nt zr (omega arith) (record { rows = filled; near = near; ends = ends }))
+      unnamed : anchor_of (content h.leads.found.line h.leads.found.under) ≡ None
+      unnamed = old_anchor ∙ ap block_anchor no_anchor
 
-      stands : Stands (lines_of rs) v (level_at beside v)
-      stands = rules_give (level_at beside v) (lines_of rs) v (node_stands v l beside nt step filled.filled filled.value quiet_new)
+      abbrev dash_rows : List Row
+      dash_rows = behind_rows doc s ss c own_rows l step v filled near nt dash ends quiet_new no_old unnamed
 
-      dash_level : level (line_with row (Nothing [])) ≡ entry_level None (mark_column row)
-      unfolding level
-      dash_level = ap (λ m. 3 * mark_column row + Rattle.yq_lines.specs.Outline.rank (Rattle.yq_tree.specs.Lines.mark_of m)) dash
-
-      new_lines : lines_of (compact_rows row rs) ≡ dashes_of row ++ (line_with row (Nothing []) ∷ flatten stands.outline)
-      new_lines =
-          let lines : List Line = dashes_of row in
-          compact_lines row rs begun
-          ∙ (ap (λ ls. ls ++ lines_of rs) (mark_behind (head_comment row.gap) row.column row.dashes rows.Dash (Nothing []))
-          ∙ (append_assoc lines (line_with (record row { mark = rows.Dash }) (Nothing []) ∷ []) (lines_of rs) ∙ (λ i. lines ++ (line_with (record row { mark = sym dash i }) (Nothing []) ∷ sym stands.lines_are i))))
-
-      takes_dash : TakesNode doc s ss c own_rows v (compact_rows row rs)
-      takes_dash = record {
-        first = first_row row rs;
-        more = more_rows rs;
-        new_is = rows_are beside row rs begun;
-        gap_is = gap_same beside row rs begun;
-        replaces = replaces;
-        content = Nothing [];
-        level = level_at beside v;
-        under = stands.outline;
-        comment = no_comment ∙ (sym quiet ∙ ap comment_in tail_same);
-        anchor = sym (old_anchor ∙ ap block_anchor no_anchor);
-        open' = tt;
-        value_is = stands.node_is;
-        even = stands.even;
-        deep = subst (λ n. n < level_at beside v) (sym dash_level) (lines_deeper v l (mark_column row) None step filled.filled);
-        lines = new_lines;
-        keys = keys_same row rs (keys_fit rs (node_fit v l beside nt filled.value));
-        anchors = (tt, subst HaveOneAnchorEach (sym stands.lines_are) (anchors_fit rs (node_fit v l beside nt filled.value)));
-      }
-
-      dash_text_is : h.found.s.before ++ (rows_text (front doc s ss c w h) [] ++ rows_text (compact_rows row rs) zr) ≡ new_text (dash_segments l v k)
+      dash_text_is : h.found.s.before ++ (rows_text (front doc s ss c w h) [] ++ rows_text dash_rows zr) ≡ new_text (dash_segments l v k)
       dash_text_is =
           let a : List ℕ = h.found.s.before in
           let b : List ℕ = rows_text (front doc s ss c w h) [] in
@@ -335,7 +270,7 @@ module _ (doc : ℕ) (s : Step) (ss : List Step) (c : Cut) (w : ScalarPlace) (h 
           let g : List ℕ = final_break k in
           let q : List ℕ = block_value l beside v in
           let parts : (k.before ++ (32 ∷ (q ++ ((e ++ (f ++ g)) ++ zr)))) ≡ k.before ++ ((32 ∷ q) ++ (e ++ (f ++ (g ++ (zr ++ []))))) = simp (append_assoc, append-nil) refl in
-          ap (λ y. a ++ (b ++ y)) (behind_text beside row rs (q ++ (nt ++ zr)) zr begun dash (value_spelled v l beside nt zr filled.filled filled.value))
+          ap (λ y. a ++ (b ++ y)) (behind_spelled doc s ss c own_rows l step v filled near nt dash ends quiet_new no_old unnamed)
           ∙ (sym (append_assoc a b (row_front row ++ (32 ∷ (q ++ (nt ++ zr)))))
           ∙ (sym (append_assoc (a ++ b) (row_front row) (32 ∷ (q ++ (nt ++ zr))))
           ∙ (ap (λ y. y ++ (32 ∷ (q ++ (nt ++ zr)))) (sym before_is)
@@ -354,7 +289,7 @@ module _ (doc : ℕ) (s : Step) (ss : List Step) (c : Cut) (w : ScalarPlace) (h 
           (pieces_joined (e ++ f) (g ++ z) (end_piece doc s ss c w h) (pieces_joined g z (final_piece doc s ss c w h) (rest_piece doc s ss c w h)))))
 
       dash_reads : length (new_text (dash_segments l v k)) ≤ text_limit → ReadsAfter (replace doc (s ∷ ss) v) c (new_text (dash_segments l v k))
-      dash_reads = reads_as (compact_rows row rs) takes_dash (dash_segments l v k) dash_text_is dash_piece
+      dash_reads = reads_as dash_rows (takes_behind doc s ss c own_rows l step v filled near nt dash ends quiet_new no_old unnamed) (dash_segments l v k) dash_text_is dash_piece
 
     pub collection_reads : length (new_text (collection_segments l v k)) ≤ text_limit → ReadsAfter (replace doc (s ∷ ss) v) c (new_text (collection_segments l v k))
     collection_reads = go (begins_on_line k) refl
