@@ -10,7 +10,7 @@ use Rattle.yq_scalar.specs.Tree.{Node}
 use Rattle.yq_scalar.proofs.Bools.{and_true, guard_then, or_false}
 use Rattle.yq_inline.specs.Valued.{IsValueTree}
 use Rattle.yq_lines.specs.Anchors.{names_of}
-use Rattle.yq_lines.specs.Comments.{line_comment}
+use Rattle.yq_lines.specs.Comments.{line_comment as comment_in}
 use Rattle.yq_lines.specs.Places.{Found, content}
 use Rattle.yq_lines.proofs.Finding.{FoundNode, path_node}
 use Rattle.yq_rows.specs.Exchange.{row_front}
@@ -149,7 +149,7 @@ module _ (doc : ℕ) (s : Step) (ss : List Step) (c : Cut) (w : MarkPlace) (h : 
           let held : List ℕ = t.white ++ (t.comment ++ break_text l.br) in
           let below : ℕ = column_below l (mark_column row) (mark_key row.mark) v in
           let rs : List Row = node_rows l below last v in
-          let none : line_comment last ≡ None = quiet_tail last z (end_tail (slices row).tail z t) refl in
+          let none : comment_in last ≡ None = quiet_tail last z (end_tail (slices row).tail z t) refl in
           let ends : IsEnd (mark_column row) last z = end_is doc s ss c k last (end_tail (slices row).tail z t) in
           let left : IsHolding doc s ss c k (anchor_left row.content held) (rows_text rs z) =
           holding doc s ss c k h.inline (row_is doc s ss c w h) (named doc s ss c w h) held (rows_text rs z) (broken_tail (slices row).tail z t l.br (pairs doc s ss c w h) (rows_text rs z)) (broken_comment (slices row).tail z t l.br (pairs doc s ss c w h)) in
@@ -179,8 +179,8 @@ module _ (doc : ℕ) (s : Step) (ss : List Step) (c : Cut) (w : MarkPlace) (h : 
           let bare : is_empty (slices row).anchor ≡ true = not_false (is_empty (slices row).anchor) free.1 in
           let dash : row.mark ≡ rows.Dash = is_dash row.mark (entry doc s ss c w h) (sym (key_is doc s ss c w h) ∙ free.0) in
           let ends : IsEnd (mark_column row) last z = end_is doc s ss c k last t in
-          let quiet : line_comment last ≡ None = quiet_tail last z t both.1 in
-          let none : line_comment (tail_of row.content) ≡ None = ap line_comment (sym (tail_is row.content)) ∙ quiet in
+          let quiet : comment_in last ≡ None = quiet_tail last z t both.1 in
+          let none : comment_in (tail_of row.content) ≡ None = ap comment_in (sym (tail_is row.content)) ∙ quiet in
           let no_name = named doc s ss c w h ∙ unnamed row.content bare in
           let new : List Row = behind_rows doc s ss c k l (mapping_least doc c) v filled near last dash ends quiet none no_name in
           let takes : TakesNode doc s ss c k v new = takes_behind doc s ss c k l (mapping_least doc c) v filled near last dash ends quiet none no_name in

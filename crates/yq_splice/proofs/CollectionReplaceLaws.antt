@@ -151,19 +151,19 @@ module _ (doc : ℕ) (s : Step) (ss : List Step) (c : Cut) (w : MarkPlace) (x : 
     abbrev y : Written
     y = written_of [] (lines_below l (below_mark l (there doc s ss c w x read at ends) v) v)
 
-    abbrev held_text : List ℕ
-    held_text = t.white ++ (t.comment ++ break_text l.br)
+    abbrev held_under : List ℕ
+    held_under = t.white ++ (t.comment ++ break_text l.br)
 
     abbrev value_rows : List Row
     value_rows = node_rows l (column_below l (mark_column h.mark) (mark_key h.mark.mark) v) last v
 
-    held_is : IsHolding doc s ss c h (anchor_left h.mark.content held_text) (rows_text value_rows z)
+    held_is : IsHolding doc s ss c h (anchor_left h.mark.content held_under) (rows_text value_rows z)
     held_is =
-        held held_text (rows_text value_rows z) (broken_tail (slices h.mark).tail (rest doc s ss c w x read at ends) t l.br (pairs doc s ss c w x read at ends) (rows_text value_rows z))
+        held held_under (rows_text value_rows z) (broken_tail (slices h.mark).tail (rest doc s ss c w x read at ends) t l.br (pairs doc s ss c w x read at ends) (rows_text value_rows z))
         (broken_comment (slices h.mark).tail (rest doc s ss c w x read at ends) t l.br (pairs doc s ss c w x read at ends))
 
     abbrev new : List Row
-    new = rows_under doc s ss c h l (mapping_least doc c) v filled near (left held_text) last held_is (end_is doc s ss c h last last_tail) (quiet_tail last z last_tail refl)
+    new = rows_under doc s ss c h l (mapping_least doc c) v filled near (left held_under) last held_is (end_is doc s ss c h last last_tail) (quiet_tail last z last_tail refl)
 
     below_is : below ≡ column_below l (mark_column h.mark) (mark_key h.mark.mark) v
     below_is = same_below h.mark.mark l v (mark_column h.mark) (entry doc s ss c h)
@@ -173,9 +173,9 @@ module _ (doc : ℕ) (s : Step) (ss : List Step) (c : Cut) (w : MarkPlace) (x : 
         let k : ℕ = column_below l (mark_column h.mark) (mark_key h.mark.mark) v in
         let parts : front ++ ((t.white ++ (t.comment ++ break_text l.br)) ++ (replicate k 32 ++ (block_value l k v ++ (last ++ x.behind)))) ≡ front ++ (t.white ++ (t.comment ++ ((break_text l.br ++ (replicate k 32 ++ block_value l k v)) ++ (last ++ (x.behind ++ []))))) =
         simp (append_assoc, append-nil) refl in
-        left_rows doc s ss c h block held_text value_rows z
-        ∙ (ap (λ r. front ++ (held_text ++ r)) (value_spelled v l k last z filled.filled filled.value)
-        ∙ (ap (λ r. front ++ (held_text ++ (replicate k 32 ++ (block_value l k v ++ (last ++ r))))) (sym (behind_is doc s ss c w x read at ends))
+        left_rows doc s ss c h block held_under value_rows z
+        ∙ (ap (λ r. front ++ (held_under ++ r)) (value_spelled v l k last z filled.filled filled.value)
+        ∙ (ap (λ r. front ++ (held_under ++ (replicate k 32 ++ (block_value l k v ++ (last ++ r))))) (sym (behind_is doc s ss c w x read at ends))
         ∙ (parts ∙ ap (λ n. front ++ (t.white ++ (t.comment ++ (lines_below l n v ++ (last ++ (x.behind ++ [])))))) (sym below_is))))
 
     lines_piece : IsPiece (lines_below l below v)
@@ -185,7 +185,7 @@ module _ (doc : ℕ) (s : Step) (ss : List Step) (c : Cut) (w : MarkPlace) (x : 
 
     pub lines_read : length (new_text (exchange_segments u y)) ≤ text_limit → ReadsAfter op c (new_text (exchange_segments u y))
     lines_read =
-        reads_as new (takes_under doc s ss c h l (mapping_least doc c) v filled near (left held_text) last held_is (end_is doc s ss c h last last_tail) (quiet_tail last z last_tail refl)) y may lines_text no_text lines_piece
+        reads_as new (takes_under doc s ss c h l (mapping_least doc c) v filled near (left held_under) last held_is (end_is doc s ss c h last last_tail) (quiet_tail last z last_tail refl)) y may lines_text no_text lines_piece
 
   -- ---- a text behind it
 
