@@ -1,39 +1,16 @@
 -- A collection that begins on the line of a dash.
-use Rattle.std.proofs.Common.{◌≡◌, ℕ, ◌+◌, ◌*◌, ◌<◌, ◌≤◌, not, Bool, true, false, cond, List, [], ◌∷◌, ◌++◌, replicate, None, refl, sym, ap, ◌∙◌, subst, arith, append_assoc, append-nil}
+use Rattle.std.proofs.Common.{◌≡◌, ℕ, true, false, List, [], ◌∷◌, ◌++◌, replicate, refl, sym, ap, ◌∙◌, append_assoc}
 use Rattle.std.proofs.lemmas.Bool.{false≢true}
 use Rattle.std.proofs.lemmas.List.{append_cancel_left}
-use Rattle.yq_scalar.specs.Paths.{Step}
-use Rattle.yq_scalar.specs.Text.{upto}
-use Rattle.yq_scalar.specs.Tree.{Node}
-use Rattle.yq_lines.specs.Anchors.{HaveOneAnchorEach}
-use Rattle.yq_lines.specs.Comments.{head_comment, line_comment}
-use Rattle.yq_lines.specs.Outline.{Line, level, flatten, Stands}
-use Rattle.yq_lines.specs.Places.{content}
-use Rattle.yq_lines.proofs.ByRules.{rules_give}
 use Rattle.yq_rows.specs.Exchange.{row_front}
 use Rattle.yq_rows.specs.Grammar.{is_entry}
 use Rattle.yq_rows.specs.Joined.{compact_row}
 use Rattle.yq_rows.specs.Rows as rows
 use Rattle.yq_rows.specs.Rows.{Content, Nothing, Row, behind_dashes, behind_indent, dashes_text, mark_column, mark_text, print_row, rows_text, Cut}
 use Rattle.yq_tree.specs.Documents.{HaveFitKeys}
-use Rattle.yq_tree.specs.Lines.{mark_line, lines_of, tail_of}
-use Rattle.yq_tree.specs.Nodes.{anchor_of}
-use Rattle.yq_change.specs.DocumentRows.{behind_document}
-use Rattle.yq_change.proofs.LineLaws.{above_mark, mark_behind}
-use Rattle.yq_change.proofs.UnderLaws.{dashes_of, line_with}
-use Rattle.yq_block.specs.declared.layout.Layout.{Layout}
-use Rattle.yq_block.specs.BlockPlaces.{compact_rows, Replaces}
-use Rattle.yq_block.specs.BlockRows.{item_column, node_rows}
-use Rattle.yq_block.specs.BlockText.{block_value}
-use Rattle.yq_block.specs.BlockValues.{HasNearKeys, InRows, IsEnd, entry_level, level_at}
-use Rattle.yq_block.proofs.FitLaws.{anchors_fit, keys_fit, node_fit}
-use Rattle.yq_block.proofs.LineLaws.{BeginAt, lines_deeper, node_begun, node_stands}
-use Rattle.yq_block.proofs.PlaceLaws.{behind_laid, compact_lines}
-use Rattle.yq_block.proofs.RowLaws.{deeper_laid}
-use Rattle.yq_block.proofs.TextLaws.{value_spelled}
+use Rattle.yq_block.specs.BlockPlaces.{compact_rows}
+use Rattle.yq_block.proofs.LineLaws.{BeginAt}
 use Rattle.yq_splice.proofs.MarkRowLaws.{is_key}
-use Rattle.yq_splice.proofs.NodeRowLaws.{NodeRows, TakesNode, limit, rest, rows_there}
-use Rattle.yq_splice.proofs.NodeValueLaws.{upto_gap}
 
 -- a dash is an entry's mark that is no key
 pub is_dash : (m : rows.Mark) → is_entry m ≡ true → is_key m ≡ false → m ≡ rows.Dash

@@ -157,7 +157,7 @@ module _ (doc : ℕ) (s : Step) (ss : List Step) (c : Cut) (w : MarkPlace) (h : 
           let takes : TakesNode doc s ss c k v new = takes_under doc s ss c k l (mapping_least doc c) v filled near (anchor_left row.content held) last left ends none in
           let column : below_mark l place v ≡ below = (λ i. cond (key_is doc s ss c w h i) (column_is doc s ss c w h i + indent_step l v) (item_column (column_is doc s ss c w h i))) ∙ same_below row.mark l v (mark_column row) (entry doc s ss c w h) in
           let parts : place.before ++ (held ++ (replicate below 32 ++ (block_value l below v ++ (last ++ z)))) ≡
-              place.before ++ (t.white ++ (t.comment ++ ((break_text l.br ++ (replicate below 32 ++ block_value l below v)) ++ ((last ++ z) ++ [])))) =
+          place.before ++ (t.white ++ (t.comment ++ ((break_text l.br ++ (replicate below 32 ++ block_value l below v)) ++ ((last ++ z) ++ [])))) =
           simp (append_assoc, append-nil) refl in
           let text : k.start ++ (rows_text k.front [] ++ rows_text new z) ≡ new_text (under_segments l v place) =
           left_rows doc s ss c k h.inline held rs z

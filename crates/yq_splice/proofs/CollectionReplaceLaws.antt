@@ -1,6 +1,5 @@
 -- Replacing a block collection under a key or dash is a way.
 use Rattle.std.proofs.Common.{◌≡◌, ◌⊎◌, inl, inr, ℕ, ◌+◌, ◌<◌, ◌≤◌, not, Bool, true, false, cond, List, [], ◌∷◌, ◌++◌, length, replicate, Option, Some, None, refl, sym, ap, ◌∙◌, subst, arith, append_assoc, append-nil}
-use Rattle.std.proofs.lemmas.Bool.{false≢true}
 use Rattle.yq_scalar.specs.BlockWritten.{break_text}
 use Rattle.yq_scalar.specs.Characters.{text_limit}
 use Rattle.yq_scalar.specs.Paths.{Step, node_at}
@@ -12,18 +11,13 @@ use Rattle.yq_lines.specs.Anchors.{names_of}
 use Rattle.yq_lines.specs.Comments as comments
 use Rattle.yq_lines.specs.Places.{content}
 use Rattle.yq_lines.proofs.Finding.{FoundNode, path_node}
-use Rattle.yq_rows.specs.Exchange.{row_front, with_content}
-use Rattle.yq_rows.specs.Grammar.{IsTail, is_entry}
-use Rattle.yq_rows.specs.Rows as rows
-use Rattle.yq_rows.specs.Rows.{Content, Row, content_text, mark_column, parent_indent, rows_text, Part, Cut, cut_text}
+use Rattle.yq_rows.specs.Grammar.{IsTail}
+use Rattle.yq_rows.specs.Rows.{Content, Row, mark_column, rows_text, Cut, cut_text}
 use Rattle.yq_rows.specs.Seams.{is_block}
 use Rattle.yq_rows.specs.View.{slices}
-use Rattle.yq_rows.proofs.NodeExchange.{mark_apart}
-use Rattle.yq_rows.proofs.PlaceLaws.{row_front-append}
 use Rattle.yq_tree.specs.CollectionEnds.{CollectionEnd, collection_end}
 use Rattle.yq_tree.specs.CommentPlaces.{line_end}
 use Rattle.yq_tree.specs.Documents.{Document, document_parts}
-use Rattle.yq_tree.specs.Lines.{tail_of}
 use Rattle.yq_tree.specs.MarkPlaces.{MarkPlace, mark_place}
 use Rattle.yq_tree.specs.PlacedRows.{row_of_path}
 use Rattle.yq_tree.specs.PrintedLines.{less_break, last_break}
@@ -35,7 +29,6 @@ use Rattle.yq_change.specs.Appends.{inserted}
 use Rattle.yq_change.specs.Changed.{put_document}
 use Rattle.yq_change.specs.SoundRoots.{IsNewValue, MayReplace}
 use Rattle.yq_change.specs.TextPieces.{IsPiece}
-use Rattle.yq_change.proofs.CoreLaws.{put_core}
 use Rattle.yq_change.proofs.RemovalPieceLaws.{piece_back}
 use Rattle.yq_change.proofs.TextPieceLaws.{pieces_joined}
 use Rattle.yq_block.specs.declared.layout.Layout.{Layout}
@@ -68,7 +61,6 @@ use Rattle.yq_splice.proofs.FitLaws.{new_value, inside_spared, near_keys, tree_u
 use Rattle.yq_splice.proofs.LayoutLaws.{mapping_least}
 use Rattle.yq_splice.proofs.LeftRows.{holding, left_row, left_rows}
 use Rattle.yq_splice.proofs.MarkContentLaws.{anchor_left}
-use Rattle.yq_splice.proofs.MarkRowLaws.{is_key}
 use Rattle.yq_splice.proofs.NodeRowLaws.{NodeRows, TakesNode, entry, node_reads, q_text}
 use Rattle.yq_splice.proofs.NodeRowLaws as rowed
 use Rattle.yq_splice.proofs.NodeValueLaws.{IsHolding, end_is, mark_key, rows_beside, rows_under, takes_beside, takes_under}

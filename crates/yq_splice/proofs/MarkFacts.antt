@@ -1,5 +1,5 @@
 -- What stands round a key or dash behind which an inline node, or nothing, is written: the rows of its entry or item, its tail, and the text.
-use Rattle.std.proofs.Common.{◌≡◌, ℕ, suc, not, true, List, [], ◌∷◌, ◌++◌, drop, sym, ap, ◌∙◌, subst, append_assoc}
+use Rattle.std.proofs.Common.{◌≡◌, ℕ, suc, not, true, List, [], ◌++◌, drop, sym, ap, ◌∙◌, subst, append_assoc}
 use Rattle.yq_scalar.specs.Characters.{pairs_returns}
 use Rattle.yq_scalar.specs.Paths.{Step}
 use Rattle.yq_scalar.specs.Text.{is_empty}

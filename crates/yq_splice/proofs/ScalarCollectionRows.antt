@@ -1,31 +1,28 @@
 -- The rows of an item or entry whose value is a block scalar give way to the rows of a collection.
-use Rattle.std.proofs.Common.{◌≡◌, inl, inr, ℕ, suc, ◌+◌, ◌*◌, ◌<◌, ◌≤◌, cond, not, ◌&&◌, List, [], ◌∷◌, ◌++◌, length, replicate, None, Bool, true, false, refl, sym, ap, ◌∙◌, subst, arith, append_assoc, append-nil}
+use Rattle.std.proofs.Common.{◌≡◌, inl, inr, ℕ, ◌+◌, ◌≤◌, cond, not, ◌&&◌, List, [], ◌∷◌, ◌++◌, length, replicate, None, Bool, true, false, refl, sym, ap, ◌∙◌, subst, append_assoc, append-nil}
 use Rattle.std.proofs.lemmas.Bool.{false≢true}
 use Rattle.std.proofs.lemmas.Str.{is_utf8-from_IsUtf8}
 use Rattle.yq_scalar.specs.Block.{block_text}
 use Rattle.yq_scalar.specs.BlockWritten.{break_text}
 use Rattle.yq_scalar.specs.Characters.{text_limit}
 use Rattle.yq_scalar.specs.Paths.{Step}
-use Rattle.yq_scalar.specs.Text.{is_empty, separates, upto}
+use Rattle.yq_scalar.specs.Text.{is_empty, separates}
 use Rattle.yq_scalar.specs.Tree.{Node}
 use Rattle.yq_scalar.specs.declared.block_written.Break.{Break}
 use Rattle.yq_scalar.specs.declared.block_written.Break.TheVariants.{Lf, CrLf}
 use Rattle.yq_scalar.proofs.Bools.{and_true}
 use Rattle.yq_inline.specs.Valued.{IsValueTree}
-use Rattle.yq_lines.specs.Anchors.{HaveOneAnchorEach}
-use Rattle.yq_lines.specs.Comments.{head_comment, line_comment as comment_in}
-use Rattle.yq_lines.specs.Outline.{Line, level, flatten, Stands}
+use Rattle.yq_lines.specs.Comments.{line_comment as comment_in}
 use Rattle.yq_lines.specs.Places.{content}
-use Rattle.yq_lines.proofs.ByRules.{rules_give}
 use Rattle.yq_rows.specs.Exchange.{row_front, with_content}
 use Rattle.yq_rows.specs.Gap.{IsWhite}
-use Rattle.yq_rows.specs.Grammar.{IsTail, is_entry}
+use Rattle.yq_rows.specs.Grammar.{IsTail}
 use Rattle.yq_rows.specs.Rows as rows
 use Rattle.yq_rows.specs.Rows.{Anchor, Content, Nothing, Inline, Block, anchor_text, content_text, Row, mark_column, parent_indent, rows_text, Part, part_text, Cut, cut_text}
 use Rattle.yq_rows.specs.View.{slices}
 use Rattle.yq_rows.proofs.NodeExchange.{mark_apart}
 use Rattle.yq_rows.proofs.PlaceLaws.{row_front-append}
-use Rattle.yq_tree.specs.Lines.{block_anchor, content_anchor, row_lines, tail_of, lines_of}
+use Rattle.yq_tree.specs.Lines.{block_anchor, content_anchor, tail_of}
 use Rattle.yq_tree.specs.Nodes.{anchor_of}
 use Rattle.yq_tree.specs.Reading.{root_of}
 use Rattle.yq_tree.specs.RowPaths.{IsReadable}
@@ -36,21 +33,12 @@ use Rattle.yq_change.specs.Changed.{put_document}
 use Rattle.yq_change.specs.DocumentRows.{behind_document}
 use Rattle.yq_change.specs.SoundRoots.{MayReplace}
 use Rattle.yq_change.specs.TextPieces.{IsPiece}
-use Rattle.yq_change.proofs.ContentLaws.{content_named}
-use Rattle.yq_change.proofs.InlineReplaceLaws.{entry_back}
-use Rattle.yq_change.proofs.LineLaws.{mark_behind, row_count}
 use Rattle.yq_change.proofs.TextPieceLaws.{byte_cut, pieces_joined}
-use Rattle.yq_change.proofs.UnderLaws.{dashes_of, line_with}
 use Rattle.yq_block.specs.declared.layout.Layout.{Layout}
-use Rattle.yq_block.specs.BlockPlaces.{at_mark, compact_rows, Replaces}
 use Rattle.yq_block.specs.BlockRows.{column_below, indent_step, item_column, node_rows}
 use Rattle.yq_block.specs.BlockText.{block_value}
-use Rattle.yq_block.specs.BlockValues.{HasNearKeys, InRows, IsEnd, entry_level, level_at}
+use Rattle.yq_block.specs.BlockValues.{HasNearKeys, InRows, IsEnd}
 use Rattle.yq_block.proofs.CharacterLaws.{value_sound}
-use Rattle.yq_block.proofs.FitLaws.{anchors_fit, keys_fit, node_fit}
-use Rattle.yq_block.proofs.LineLaws.{BeginAt, lines_deeper, node_begun, node_stands}
-use Rattle.yq_block.proofs.PlaceLaws.{behind_laid, compact_lines}
-use Rattle.yq_block.proofs.RowLaws.{deeper_laid}
 use Rattle.yq_block.proofs.TextLaws.{value_spelled}
 use Rattle.yq_expr.specs.Operations.{replace}
 use Rattle.yq_splice.specs.ScalarCollection.{below_scalar, rows_in, rows_segments, dash_segments, begins_on_line, collection_segments}
@@ -65,9 +53,8 @@ use Rattle.yq_splice.proofs.BrokenTails.{quiet_tail}
 use Rattle.yq_splice.proofs.CommentPieceLaws.{break_piece, byte_then, spaces_piece}
 use Rattle.yq_splice.proofs.EntryRows.{entry_named, entry_rows}
 use Rattle.yq_splice.proofs.KeptAnchors.{kept, kept_holds, kept_tail, kept_anchor, kept_stands, kept_apart, front_kept, white_begins, white_before, none_anchor, nothing_before}
-use Rattle.yq_splice.proofs.MarkRowLaws.{indent_column, is_key, keyed_is}
+use Rattle.yq_splice.proofs.MarkRowLaws.{indent_column, keyed_is}
 use Rattle.yq_splice.proofs.NodeRowLaws.{NodeRows, TakesNode, node_reads, q_text}
-use Rattle.yq_splice.proofs.NodeRowLaws as rowed
 use Rattle.yq_splice.proofs.NodeValueLaws.{IsHolding, end_is, mark_key, rows_under, takes_under}
 use Rattle.yq_splice.proofs.ScalarLineLaws.{mark_is, new_tail, same_comment, tail_stands}
 use Rattle.yq_splice.proofs.ScalarRowLaws.{HasScalar, p, front, r, back, rest, rows_there, entry, valid}
