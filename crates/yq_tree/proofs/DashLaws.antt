@@ -1,7 +1,7 @@
 -- Dashes with a collection behind them on their lines, by the row that the code has found.
 use Rattle.std.proofs.Common.{◌≡◌, ◌⊎◌, inl, inr, ℕ, zero, suc, ◌+◌, ◌<◌, ◌≤◌, eqb, Bool, true, false, cond, List, [], ◌∷◌, ◌++◌, length, take, drop, replicate, Option, Some, None, option_map, refl, sym, ap, ◌∙◌, subst, arith, append_assoc, length-append}
 use Rattle.std.proofs.Math.Seq.{take-append_seam, drop-append_seam}
-use Rattle.std.proofs.lemmas.Bool.{eq-eqb, eqb-true, ne_eqb, cases_lt}
+use Rattle.std.proofs.lemmas.Bool.{eq-eqb, ne_eqb, cases_lt}
 use Rattle.std.proofs.lemmas.List.{length-replicate}
 use Rattle.std.proofs.lemmas.Option.{slice_get-map}
 use Rattle.std.specs.List.{slice_get}
@@ -24,7 +24,7 @@ use Rattle.yq_tree.specs.EntryReading.{before_line, dash_at, line_begin}
 use Rattle.yq_tree.specs.Extents.{row_start}
 use Rattle.yq_tree.specs.Lines.{lines_of}
 use Rattle.yq_tree.specs.Located.{steps_of}
-use Rattle.yq_tree.specs.PlacedRows.{PlacedRow, placed_document, placed_row, row_of_path}
+use Rattle.yq_tree.specs.PlacedRows.{PlacedRow, placed_document, row_of_path}
 use Rattle.yq_tree.specs.Reading.{cut_of}
 use Rattle.yq_tree.specs.SeatReading.{Numbers, numbers}
 use Rattle.yq_tree.specs.Seats.{seat_of, seat_at, document_row}
