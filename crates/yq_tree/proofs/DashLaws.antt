@@ -18,7 +18,7 @@ use Rattle.yq_rows.proofs.NodePieces.{behind_ascii}
 use Rattle.yq_tree.specs.declared.path.Path.{Path}
 use Rattle.yq_tree.specs.declared.reading.checks.DocumentLines.{DocumentLines}
 use Rattle.yq_tree.specs.CommentReading.{before_row}
-use Rattle.yq_tree.specs.DashPlaces.{DashPlace, behind_dash, dash_in, dash_place, is_noted, upto_dash}
+use Rattle.yq_tree.specs.DashPlaces.{DashPlace, past_dash, dash_in, dash_place, is_noted, upto_dash}
 use Rattle.yq_tree.specs.DashTelling.{dash_column}
 use Rattle.yq_tree.specs.EntryReading.{before_line, dash_at, line_begin}
 use Rattle.yq_tree.specs.Extents.{row_start}
@@ -51,7 +51,7 @@ columns : (c : ℕ) (ns : List ℕ) → behind_columns c ns ≡ c + length (dash
 columns c [] = omega arith
 columns c (n ∷ ns) = omega (arith, columns (suc (c + n)) ns, length-append (replicate n 32) (dashes_text ns []), length-replicate {A = ℕ} n 32)
 
-from_dash : (k : ℕ) (ns t : List ℕ) → k < length ns → dashes_text (drop k ns) t ≡ 45 ∷ behind_dash (drop k ns) t
+from_dash : (k : ℕ) (ns t : List ℕ) → k < length ns → dashes_text (drop k ns) t ≡ 45 ∷ past_dash (drop k ns) t
 from_dash k [] t h = absurd (omega (arith, h))
 from_dash zero (n ∷ ns) t h = refl
 from_dash (suc k) (n ∷ ns) t h = from_dash k ns t (omega (arith, h))
@@ -62,10 +62,10 @@ front_is k r =
     let parts : r.gap ++ (replicate r.column 32 ++ (f ++ 45 ∷ [])) ≡ (r.gap ++ (replicate r.column 32 ++ f)) ++ 45 ∷ [] = simp append_assoc refl in
     ap (λ l. r.gap ++ (replicate r.column 32 ++ l)) (dashes_then (take k r.dashes) [] (45 ∷ [])) ∙ parts
 
-pub row_cut : (k : ℕ) (r : Row) (t : List ℕ) → k < length r.dashes → print_row r t ≡ row_front (upto_dash k r) ++ behind_dash (drop k r.dashes) (behind_dashes r t)
+pub row_cut : (k : ℕ) (r : Row) (t : List ℕ) → k < length r.dashes → print_row r t ≡ row_front (upto_dash k r) ++ past_dash (drop k r.dashes) (behind_dashes r t)
 row_cut k r t h =
     let f : List ℕ = dashes_text (take k r.dashes) [] in
-    let b : List ℕ = behind_dash (drop k r.dashes) (behind_dashes r t) in
+    let b : List ℕ = past_dash (drop k r.dashes) (behind_dashes r t) in
     let parts : r.gap ++ (replicate r.column 32 ++ (f ++ (45 ∷ b))) ≡ ((r.gap ++ (replicate r.column 32 ++ f)) ++ 45 ∷ []) ++ b = simp append_assoc refl in
     ap (λ l. r.gap ++ (replicate r.column 32 ++ l)) (dashes_split k r.dashes (behind_dashes r t) ∙ ap (λ l. f ++ l) (from_dash k r.dashes (behind_dashes r t) h))
     ∙ (parts ∙ ap (λ l. l ++ b) (sym (front_is k r)))

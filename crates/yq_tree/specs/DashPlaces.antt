@@ -22,9 +22,9 @@ abbrev pub upto_dash : ℕ → Row → Row
 upto_dash line r = dashed_row (take line r.dashes) (Nothing []) r
 
 -- what stands behind a dash, by the spaces behind it and behind each dash after it (8.2.1)
-abbrev pub behind_dash : List ℕ → List ℕ → List ℕ
-behind_dash [] rest = rest
-behind_dash (n ∷ ns) rest = replicate n 32 ++ dashes_text ns rest
+abbrev pub past_dash : List ℕ → List ℕ → List ℕ
+past_dash [] rest = rest
+past_dash (n ∷ ns) rest = replicate n 32 ++ dashes_text ns rest
 
 -- whether a row has an anchor or a comment (6.6, 6.9.2)
 abbrev pub is_noted : Slices → Bool
@@ -34,7 +34,7 @@ is_noted s = not (is_empty s.anchor) || is_some (line_comment s.tail)
 abbrev pub dash_in : PlacedRow → DashPlace
 dash_in w = record {
   before = w.before ++ row_front (upto_dash w.line w.row);
-  behind = behind_dash (drop w.line w.row.dashes) (behind_dashes w.row w.behind);
+  behind = past_dash (drop w.line w.row.dashes) (behind_dashes w.row w.behind);
   column = mark_column (upto_dash w.line w.row);
   noted = is_noted (slices w.row);
 }
