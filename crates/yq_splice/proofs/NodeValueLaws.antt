@@ -62,7 +62,7 @@ upto_fit : {s r : Row} → IsUpto s r → MarkIsFit r.mark → MarkIsFit s.mark
 upto_fit (at_mark {r} e) h = h
 upto_fit (at_dash {r} {ns} n ms is) h = tt
 
-upto_gap : {s r : Row} → IsUpto s r → s.gap ≡ r.gap
+pub upto_gap : {s r : Row} → IsUpto s r → s.gap ≡ r.gap
 upto_gap (at_mark {r} e) = refl
 upto_gap (at_dash {r} {ns} n ms is) = refl
 

@@ -56,7 +56,7 @@ from_dash k [] t h = absurd (omega (arith, h))
 from_dash zero (n ∷ ns) t h = refl
 from_dash (suc k) (n ∷ ns) t h = from_dash k ns t (omega (arith, h))
 
-front_is : (k : ℕ) (r : Row) → row_front (upto_dash k r) ≡ (r.gap ++ (replicate r.column 32 ++ dashes_text (take k r.dashes) [])) ++ 45 ∷ []
+pub front_is : (k : ℕ) (r : Row) → row_front (upto_dash k r) ≡ (r.gap ++ (replicate r.column 32 ++ dashes_text (take k r.dashes) [])) ++ 45 ∷ []
 front_is k r =
     let f : List ℕ = dashes_text (take k r.dashes) [] in
     let parts : r.gap ++ (replicate r.column 32 ++ (f ++ 45 ∷ [])) ≡ (r.gap ++ (replicate r.column 32 ++ f)) ++ 45 ∷ [] = simp append_assoc refl in
