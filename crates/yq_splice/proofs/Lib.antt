@@ -69,6 +69,7 @@ pub mod BreakLaws
 pub mod SoleLaws
 pub mod NodeRowLaws
 pub mod NodeValueLaws
+pub mod DashValueLaws
 pub mod CollectionRows
 pub mod CollectionReplaceLaws
 pub mod CollectionAnswers
@@ -89,5 +90,6 @@ pub mod ScalarCollectionAnswers
 pub mod CompactRows
 pub mod CompactReplaceLaws
 pub mod CompactAnswers
+pub mod CompactServing
 pub mod KeptAnchors
 pub mod ScalarCollectionRows
