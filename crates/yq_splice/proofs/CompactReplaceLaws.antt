@@ -91,7 +91,7 @@ break_apart : (br : Break) (more : List ℕ) → separates (break_text br ++ mor
 break_apart Lf more = refl
 break_apart CrLf more = refl
 
-break_tail : (br : Break) (more : List ℕ) → IsTail (break_text br) more
+abbrev break_tail : (br : Break) (more : List ℕ) → IsTail (break_text br) more
 break_tail br more = record { white = []; comment = []; line = record { break = break_text br; spelled = refl; blank = tt; remark = tt; ends = ends_line br more }; apart = refl }
 
 module _ (doc : ℕ) (s : Step) (ss : List Step) (c : Cut) (k : IsCompact doc s ss c) where

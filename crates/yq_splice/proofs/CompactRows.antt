@@ -80,7 +80,7 @@ dash_there w d within e = go (cases_lt w.line (length w.row.dashes))
     go (inr more) = absurd (known.0 (omega (arith, within, more)))
 
 module _ (doc : ℕ) (s : Step) (ss : List Step) (c : Cut) (k : IsCompact doc s ss c) where
-  row_there : (y : PlacedRow) × (row_of_path doc (s ∷ ss) c ≡ Some y) × (cond (eqb y.line (length y.row.dashes)) None (Some (dash_in y)) ≡ Some k.d)
+  pub row_there : (y : PlacedRow) × (row_of_path doc (s ∷ ss) c ≡ Some y) × (cond (eqb y.line (length y.row.dashes)) None (Some (dash_in y)) ≡ Some k.d)
   row_there = bind_some (row_of_path doc (s ∷ ss) c) k.at
 
   pub f : IsFound doc (s ∷ ss) c row_there.0
@@ -148,10 +148,10 @@ module _ (doc : ℕ) (s : Step) (ss : List Step) (c : Cut) (k : IsCompact doc s 
   dashes_are : f.x.row.dashes ≡ take f.x.line f.x.row.dashes ++ (dash.0 ∷ dash.1)
   dashes_are = sym (take-append-drop f.x.line f.x.row.dashes) ∙ ap (λ ns. take f.x.line f.x.row.dashes ++ ns) dash.2
 
-  upto : IsUpto mark f.x.row
+  pub upto : IsUpto mark f.x.row
   upto = at_dash dash.0 dash.1 dashes_are
 
-  dash_count : length (take f.x.line f.x.row.dashes) ≡ f.x.line
+  pub dash_count : length (take f.x.line f.x.row.dashes) ≡ f.x.line
   dash_count = length-take-le f.x.line f.x.row.dashes (let less = told.0 in omega (arith, less))
 
   -- the rows of the item
