@@ -10,6 +10,7 @@ pub mod StyleLaws
 pub mod SameLaws
 pub mod WayLaws
 pub mod ServingLaws
+pub mod FitServed
 pub mod DoneLaws
 pub mod SegmentLaws
 pub mod CommentPieceLaws
@@ -19,6 +20,7 @@ pub mod LineCommentLaws
 pub mod HeadCommentLaws
 pub mod CarryingLaws
 pub mod CarriedLaws
+pub mod ApplyLaws
 pub mod ServeLaws
 pub mod MeaningLaws
 pub mod UpdateLaws
