@@ -15,7 +15,8 @@ use Rattle.yq_lines.specs.Places.{content}
 use Rattle.yq_lines.proofs.Finding.{FoundNode, path_node}
 use Rattle.yq_rows.specs.Exchange.{row_front, with_content}
 use Rattle.yq_rows.specs.Grammar.{IsTail}
-use Rattle.yq_rows.specs.Rows.{Row, rows_text, Cut, cut_text}
+use Rattle.yq_rows.specs.Rows.{Nothing, Row, rows_text, Cut, cut_text}
+use Rattle.yq_rows.proofs.NothingLaws.{tail_apart}
 use Rattle.yq_rows.proofs.PlaceLaws.{row_front-append}
 use Rattle.yq_tree.specs.CollectionEnds.{CollectionEnd, collection_end}
 use Rattle.yq_tree.specs.CommentPlaces.{LinesAbove, line_end, lines_above}
@@ -53,7 +54,7 @@ use Rattle.yq_splice.proofs.FitLaws.{new_value, inside_spared, tree_unique}
 use Rattle.yq_splice.proofs.MarkPieceLaws.{last_cut}
 use Rattle.yq_splice.proofs.NodeRowLaws.{NodeRows, node_reads, q_text}
 use Rattle.yq_splice.proofs.NodeRowLaws as rowed
-use Rattle.yq_splice.proofs.NodeValueLaws.{end_is, rows_beside, takes_beside}
+use Rattle.yq_splice.proofs.NodeValueLaws.{IsHolding, rows_beside, takes_beside}
 use Rattle.yq_splice.proofs.ReplaceLaws.{IsWrittenFor, written_for}
 use Rattle.yq_splice.proofs.SegmentLaws.{segments_readable}
 
@@ -117,8 +118,11 @@ module _ (doc : ℕ) (s : Step) (ss : List Step) (c : Cut) (a : LinesAbove) (x :
     quiet : comments.line_comment last ≡ comments.line_comment []
     quiet = quiet_tail last z last_tail refl ∙ sym no_comment
 
+    holding : IsHolding doc s ss c h (Nothing last) z
+    holding = record { holds = refl; stands = last_tail; apart = tail_apart last z last_tail; comment = quiet; anchor = sym (unnamed doc s ss c a x read no_end at ends) }
+
     abbrev new : List Row
-    new = rows_beside doc s ss c h v for.node for.is (unnamed doc s ss c a x read no_end at ends) last (end_is doc s ss c h last last_tail) quiet
+    new = rows_beside doc s ss c h v for.node for.is (Nothing last) holding
 
     new_is : h.start ++ (rows_text h.front [] ++ rows_text new z) ≡ new_text (dash_segments d text)
     new_is =
@@ -131,7 +135,7 @@ module _ (doc : ℕ) (s : Step) (ss : List Step) (c : Cut) (a : LinesAbove) (x :
 
     pub compact_read : length (new_text (dash_segments d text)) ≤ text_limit → ReadsAfter op c (new_text (dash_segments d text))
     compact_read size =
-        let takes = takes_beside doc s ss c h v for.node for.is (unnamed doc s ss c a x read no_end at ends) last (end_is doc s ss c h last last_tail) quiet in
+        let takes = takes_beside doc s ss c h v for.node for.is (Nothing last) holding in
         let same : cut_text (put_document doc (inserted h.front new h.back h.p) c) ≡ new_text (dash_segments d text) = q_text doc s ss c h v new takes ∙ new_is in
         subst (ReadsAfter op c) same (node_reads doc s ss c h v new takes may (subst IsReadable (sym same) (segments_readable (dash_segments d text) are_pieces size)))
 

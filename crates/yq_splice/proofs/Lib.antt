@@ -93,3 +93,5 @@ pub mod CompactReplaceLaws
 pub mod CompactAnswers
 pub mod KeptAnchors
 pub mod ScalarCollectionRows
+pub mod PlaceServings
+pub mod DashValueLaws
