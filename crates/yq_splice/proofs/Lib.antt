@@ -81,6 +81,8 @@ pub mod RootRows
 pub mod RootValues
 pub mod RootReadLaws
 pub mod BlockRootLaws
+pub mod OpenGapLaws
+pub mod OpenMarkerLaws
 pub mod UnwrittenRootLaws
 pub mod RootWayLaws
 pub mod RootAnswers
