@@ -13,8 +13,9 @@ use Rattle.yq_rows.proofs.NothingLaws.{line_end_other}
 use Rattle.yq_rows.proofs.seams.GapFronts.{gap_lines}
 use Rattle.yq_change.proofs.EndLaws.{comment_is}
 use Rattle.yq_splice.specs.RootWriting.{is_closed_text}
-use Rattle.yq_splice.proofs.BreakLaws.{IsLfOrCrLf, break_is as break_kind}
+use Rattle.yq_splice.proofs.BreakLaws.{break_is as break_kind}
 use Rattle.yq_splice.proofs.BrokenTails.{break_is, comment_other}
+use Rattle.yq_splice.proofs.ClosedTexts.{closed_behind, closed_end, front_some}
 
 -- lines, of which the last one gets a break
 abbrev pub broken_lines : List (List ℕ) → List ℕ → List (List ℕ)
@@ -27,18 +28,6 @@ joined_broken l [] b = append-nil (l ++ b) ∙ ap (λ x. x ++ b) (sym (append-ni
 joined_broken l (k ∷ ls) b = ap (λ x. l ++ x) (joined_broken k ls b) ∙ sym (append_assoc l (joined (k ∷ ls)) b)
 
 -- ---- its last line
-
-some_end : (a b : List ℕ) → is_empty a ≡ false → is_empty (a ++ b) ≡ false
-some_end [] b some = absurd (false≢true (sym some))
-some_end (x ∷ a) b some = refl
-
-closed_end : (a b : List ℕ) → IsLfOrCrLf b → is_closed_text (a ++ b) ≡ true
-unfolding is_closed_text
-closed_end [] b (inl e) = ap is_closed_text e
-closed_end [] b (inr e) = ap is_closed_text e
-closed_end (x ∷ []) b (inl e) = ap (λ y. is_closed_text (x ∷ y)) e
-closed_end (x ∷ []) b (inr e) = ap (λ y. is_closed_text (x ∷ y)) e
-closed_end (x ∷ (y ∷ a)) b h = closed_end (y ∷ a) b h
 
 -- a line without a break is white space and a comment
 no_break : (l : List ℕ) (h : IsGapLine l []) → is_closed_text l ≡ false → h.line.break ≡ []
@@ -68,7 +57,7 @@ module _ (l : List ℕ) (h : IsGapLine l []) (open' : is_closed_text l ≡ false
     white = h.white;
     comment = h.comment;
     line = record { break = break_text br; spelled = spelled; blank = h.line.blank; remark = remark; ends = inl (break_is br) };
-    some = some_end l (break_text br) h.some;
+    some = front_some l (break_text br) h.some;
   }
 
   pub same_text : comment_text (l ++ break_text br) ≡ comment_text l
@@ -87,13 +76,6 @@ text_there l = go (front (λ b. eqb b 35) (past_white l)) _
 
 -- ---- its lines
 
-closed_last : (l k : List ℕ) → is_empty k ≡ false → is_closed_text (l ++ k) ≡ is_closed_text k
-unfolding is_closed_text
-closed_last [] k some = refl
-closed_last (x ∷ []) [] some = absurd (false≢true (sym some))
-closed_last (x ∷ []) (y ∷ k) some = refl
-closed_last (x ∷ (z ∷ l)) k some = closed_last (z ∷ l) k some
-
 lines_broken : (l : List ℕ) (ls : List (List ℕ)) (x : List ℕ) (br : Break) → AreGapLines (l ∷ ls) [] → is_closed_text (joined (l ∷ ls)) ≡ false → pairs_returns (joined (l ∷ ls)) ≡ true →
     AreGapLines (broken_lines (l ∷ ls) (break_text br)) x × (last_comments (broken_lines (l ∷ ls) (break_text br)) ≡ last_comments (l ∷ ls)) × (are_comments (broken_lines (l ∷ ls) (break_text br)) ≡ are_comments (l ∷ ls))
 lines_broken l [] x br h open' pairs =
@@ -106,17 +88,17 @@ lines_broken l [] x br h open' pairs =
       ap (λ b. b && true) marks,
     )
 lines_broken l (k ∷ ls) x br h open' pairs =
-    let some : is_empty (joined (k ∷ ls)) ≡ false = some_end k (joined ls) h.1.0.some in
-    let own : is_closed_text (joined (k ∷ ls)) ≡ false = sym (closed_last l (joined (k ∷ ls)) some) ∙ open' in
+    let some : is_empty (joined (k ∷ ls)) ≡ false = front_some k (joined ls) h.1.0.some in
+    let own : is_closed_text (joined (k ∷ ls)) ≡ false = sym (closed_behind l (joined (k ∷ ls)) some) ∙ open' in
     let w = lines_broken k ls x br h.1 own (pairs_back l (joined (k ∷ ls)) pairs) in
     let all : are_comments (l ∷ broken_lines (k ∷ ls) (break_text br)) ≡ are_comments (l ∷ (k ∷ ls)) = ap (λ b. front (λ b. eqb b 35) (past_white l) && b) w.2 in
     let more : is_empty (joined (broken_lines (k ∷ ls) (break_text br)) ++ x) ≡ false =
-    ap (λ t. is_empty (t ++ x)) (joined_broken k ls (break_text br)) ∙ some_end (joined (k ∷ ls) ++ break_text br) x (some_end (joined (k ∷ ls)) (break_text br) some) in (
+    ap (λ t. is_empty (t ++ x)) (joined_broken k ls (break_text br)) ∙ front_some (joined (k ∷ ls) ++ break_text br) x (front_some (joined (k ∷ ls)) (break_text br) some) in (
       (
         record {
           white = h.0.white;
           comment = h.0.comment;
-          line = line_end_other h.0.white h.0.comment l (joined (k ∷ ls) ++ []) (joined (broken_lines (k ∷ ls) (break_text br)) ++ x) (some_end (joined (k ∷ ls)) [] some) h.0.line;
+          line = line_end_other h.0.white h.0.comment l (joined (k ∷ ls) ++ []) (joined (broken_lines (k ∷ ls) (break_text br)) ++ x) (front_some (joined (k ∷ ls)) [] some) h.0.line;
           some = h.0.some;
         },
         w.0,
