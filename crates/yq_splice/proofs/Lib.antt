@@ -82,9 +82,16 @@ pub mod ScalarAnswers
 pub mod RootRows
 pub mod RootValues
 pub mod RootReadLaws
+pub mod RootFits
+pub mod SameDocuments
+pub mod ClosedTexts
 pub mod BlockRootLaws
 pub mod UnwrittenRootLaws
+pub mod OpenGapLaws
+pub mod OpenMarkerLaws
+pub mod OpenRootLaws
 pub mod RootWayLaws
+pub mod RootServings
 pub mod RootAnswers
 pub mod ScalarCollectionLaws
 pub mod ScalarCollectionAnswers
