@@ -52,6 +52,7 @@ pub mod FlowServedNodes
 pub mod FlowServedLines
 pub mod FlowServedPaths
 pub mod FlowServed
+pub mod CollectionCases
 pub mod FlowWholeLaws
 pub mod FlowReplaceLaws
 pub mod FlowAppendLaws
