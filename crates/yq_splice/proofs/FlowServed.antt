@@ -124,7 +124,7 @@ pub record TakesInFlow (c : Cut) (doc : ℕ) (steps : List Step) (key : Option (
 
 taken : (key : Option (List ℕ)) (n : tree.Node) → Takes key n → (x : Held) × (held n ≡ Some x) × (x.0 ≡ is_some key)
 taken None n h = ((false, h.1), ap held h.2, refl)
-taken (Some k) n h = ((true, h.1), ap held h.2.0, refl)
+taken (Some k) n h = ((true, h.1), ap held h.2, refl)
 
 bracket_takes : (key : Option (List ℕ)) (w : CollPieces) → eqb w.close 125 ≡ is_some key → takes_key w.close key ≡ true
 bracket_takes None w e = ap (λ (b : Bool). cond b false (not false)) e
