@@ -53,6 +53,7 @@ pub mod FlowServedLines
 pub mod FlowServedPaths
 pub mod FlowServed
 pub mod CollectionCases
+pub mod PathCases
 pub mod FlowWholeLaws
 pub mod FlowReplaceLaws
 pub mod FlowAppendLaws
