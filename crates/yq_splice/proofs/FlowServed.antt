@@ -48,7 +48,7 @@ no_node : {n : tree.Node} → None ≡ Some n → ⊥
 no_node e = cc
 
 -- a node with an item or entry is a collection
-holds_child : (s : Step) (old n : tree.Node) → child_at s (children_of old) ≡ Some n → (x : Held) × (held old ≡ Some x) × (children_of old ≡ x.1)
+pub holds_child : (s : Step) (old n : tree.Node) → child_at s (children_of old) ≡ Some n → (x : Held) × (held old ≡ Some x) × (children_of old ≡ x.1)
 holds_child s (tree.alias name) n e = absurd (no_node e)
 holds_child s (tree.scalar anchor kind text) n e = absurd (no_node e)
 holds_child s (tree.list anchor cs) n e = ((false, cs), refl, refl)

@@ -1,5 +1,5 @@
 -- A path below the root leads to an item or entry of a flow collection, or to one of a block collection.
-use Rattle.std.proofs.Common.{◌≡◌, ◌⊎◌, inl, inr, ℕ, true, false, List, [], ◌∷◌, Option, Some, None, option_map, refl, sym, ap, ◌∙◌, subst}
+use Rattle.std.proofs.Common.{◌≡◌, ◌⊎◌, inl, inr, ℕ, List, [], ◌∷◌, Option, Some, None, option_map, refl, sym, ap, ◌∙◌, subst}
 use Rattle.std.specs.List.{slice_get}
 use Rattle.yq_scalar.specs.Paths.{Step, child_at, node_at}
 use Rattle.yq_scalar.specs.Tree.{Node, alias, scalar, list, map, Children, children_of}
@@ -14,8 +14,7 @@ use Rattle.yq_change.specs.Siblings.{HasEntries, IsCollectionAt, IsEntry, IsEntr
 use Rattle.yq_change.proofs.EditedLaws.{lines_are_there}
 use Rattle.yq_splice.specs.FlowWays.{last_step}
 use Rattle.yq_splice.proofs.CollectionCases.{collection_cases}
-use Rattle.yq_splice.proofs.FlowServed.{InFlow}
-use Rattle.yq_splice.proofs.FlowServedNodes.{Held, held}
+use Rattle.yq_splice.proofs.FlowServed.{InFlow, holds_child}
 use Rattle.yq_splice.proofs.FlowServedPaths.{last_there}
 use Rattle.yq_splice.proofs.FlowSoundLaws.{above_is, last_is}
 
@@ -43,13 +42,6 @@ no_node e = cc
 
 node_same : {x y : Node} → Some x ≡ Some y → x ≡ y
 node_same e = cc
-
--- a node with an item or entry holds these
-holds_child : (s : Step) (old n : Node) → child_at s (children_of old) ≡ Some n → (x : Held) × (held old ≡ Some x)
-holds_child s (alias name) n e = absurd (no_node e)
-holds_child s (scalar anchor kind text) n e = absurd (no_node e)
-holds_child s (list anchor cs) n e = ((false, cs), refl)
-holds_child s (map anchor cs) n e = ((true, cs), refl)
 
 anchored_children : (a : Option (List ℕ)) (n : Node) → children_of (anchored a n) ≡ children_of n
 anchored_children a (alias name) = refl
