@@ -122,7 +122,7 @@ pub record TakesInFlow (c : Cut) (doc : ℕ) (steps : List Step) (key : Option (
   pub at : node_at steps (root_of part) ≡ Some node
   pub takes : Takes key node
 
-taken : (key : Option (List ℕ)) (n : tree.Node) → Takes key n → (x : Held) × (held n ≡ Some x) × (x.0 ≡ is_some key)
+pub taken : (key : Option (List ℕ)) (n : tree.Node) → Takes key n → (x : Held) × (held n ≡ Some x) × (x.0 ≡ is_some key)
 taken None n h = ((false, h.1), ap held h.2, refl)
 taken (Some k) n h = ((true, h.1), ap held h.2, refl)
 

@@ -54,6 +54,7 @@ pub mod FlowServedPaths
 pub mod FlowServed
 pub mod CollectionCases
 pub mod PathCases
+pub mod FitCases
 pub mod FlowWholeLaws
 pub mod FlowReplaceLaws
 pub mod FlowAppendLaws
