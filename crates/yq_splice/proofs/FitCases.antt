@@ -65,7 +65,8 @@ append_cases rooms c doc steps key v read fits =
 
 -- ---- an item or entry taken out, or exchanged
 
-pub remove_cases : (rooms : ℕ → Room) (c : Cut) (doc : ℕ) (path : List Step) → read_at (cut_text c) ≡ Some c → Fits rooms (remove doc path) (documents c) → IsServed flow_remove_way (remove doc path) c ⊎ InBlock c doc path
+pub remove_cases : (rooms : ℕ → Room) (c : Cut) (doc : ℕ) (path : List Step) → read_at (cut_text c) ≡ Some c → Fits rooms (remove doc path) (documents c) →
+    IsServed flow_remove_way (remove doc path) c ⊎ InBlock c doc path
 remove_cases rooms c doc [] read fits = absurd fits.2.0
 remove_cases rooms c doc (s ∷ ss) read fits =
     let p = part_of c doc fits.0 fits.1 in

@@ -18,7 +18,7 @@ use Rattle.yq_lines.proofs.Finding.{path_node}
 use Rattle.yq_lines.proofs.PlaceLaws.{placed}
 use Rattle.yq_lines.proofs.Plug.{allows_from}
 use Rattle.yq_rows.specs.Exchange.{behind_row}
-use Rattle.yq_rows.specs.Rows.{Content, Nothing, Inline, Block, Part, Cut, cut_text, mark_column}
+use Rattle.yq_rows.specs.Rows.{Content, Nothing, Inline, Block, Row, Part, Cut, cut_text, mark_column}
 use Rattle.yq_tree.specs.Documents.{document_parts}
 use Rattle.yq_tree.specs.FlowNodes.{bare_line, content_flow, find_head, flow_collection, head_line, line_collection, part_collection}
 use Rattle.yq_tree.specs.Lines.{content_anchor, head_of, lines_of, mark_line}
@@ -26,6 +26,7 @@ use Rattle.yq_tree.specs.Reading.{outline_of, read_at, root_of}
 use Rattle.yq_tree.specs.Seats.{document_row, Seat, seat}
 use Rattle.yq_tree.proofs.FlowPieces.{head_tree}
 use Rattle.yq_tree.proofs.FlowPlaceLaws.{TakesSteps, mark_seat, middle}
+use Rattle.yq_change.specs.LineRows.{IsSeat}
 use Rattle.yq_change.specs.Moved.{dash_lines}
 use Rattle.yq_change.proofs.FlowLineLaws.{head_takes, head_whole}
 use Rattle.yq_change.proofs.LineLaws.{above_mark, dashes_count, seat_splits}
@@ -100,24 +101,33 @@ record HeadRow (p : Part) (f : Found) : Type 0 where
 one_same : {x y : Line} → x ∷ [] ≡ y ∷ [] → x ≡ y
 one_same e = cc
 
+-- the line of a row's mark, by how many lines stand before it
+row_line : (rs front : List Row) (r : Row) (back : List Row) (before tail : List Line) (l : Line) → rs ≡ front ++ (r ∷ back) → lines_of rs ≡ before ++ (l ∷ tail) →
+    length before ≡ length (lines_of front) + length r.dashes → mark_line (above_mark (head_comment r.gap) r.dashes) (mark_column r) r.mark r.content ≡ l
+row_line rs front r back before tail l rows lines size =
+    let dashes : List Line = dash_lines (head_comment r.gap) r.column r.dashes in
+    let own : Line = mark_line (above_mark (head_comment r.gap) r.dashes) (mark_column r) r.mark r.content in
+    let olds : (lines_of front ++ dashes) ++ (own ∷ lines_of back) ≡ before ++ (l ∷ tail) = sym (ap lines_of rows ∙ last_lines front r back r.content) ∙ lines in
+    let count : length (lines_of front ++ dashes) ≡ length before =
+    length-append (lines_of front) dashes ∙ (ap (λ (j : ℕ). length (lines_of front) + j) (dashes_count (head_comment r.gap) r.column r.dashes) ∙ sym size) in
+    one_same (same_parts (lines_of front ++ dashes) (own ∷ []) (lines_of back) before (l ∷ []) tail olds count refl).1
+
 head_row : (n : ℕ) (p : Part) (steps : List Step) (f : Found) (rest : List Step) → IsEven n (outline_of p) → find_head steps (outline_of p) ≡ Some (f, rest) → HeadRow p f
 head_row n p steps f rest even found =
     let o : Outline = outline_of p in
     let k : ℕ = length (lines_before f.place) in
-    let tail : List Line = flatten f.after ++ lines_after f.place in
-    let lines : lines_of p.rows ≡ lines_before f.place ++ (f.line ∷ (flatten f.under ++ tail)) =
+    let tail : List Line = flatten f.under ++ (flatten f.after ++ lines_after f.place) in
+    let lines : lines_of p.rows ≡ lines_before f.place ++ (f.line ∷ tail) =
     sym (flatten-group (lines_of p.rows)) ∙ (ap flatten (sym (head_whole n o steps f rest even found)) ∙ placed f f.line f.under) in
-    let m = mark_seat p.rows k f.line (ap (λ (ls : List Line). slice_get ls k) lines ∙ middle (lines_before f.place) _ f.line) (head_takes n o steps f rest even found) in
-    let a = seat_splits k p.rows m.0 m.1 in
-    let r = m.0.row in
-    let front : List Line = lines_of a.front ++ dash_lines (head_comment r.gap) r.column r.dashes in
-    let line : Line = mark_line (above_mark (head_comment r.gap) r.dashes) (mark_column r) r.mark r.content in
-    let size : length front ≡ k =
-    length-append (lines_of a.front) (dash_lines (head_comment r.gap) r.column r.dashes)
-    ∙ (ap (λ (j : ℕ). length (lines_of a.front) + j) (dashes_count (head_comment r.gap) r.column r.dashes ∙ sym m.2) ∙ sym a.lines) in
-    let olds : front ++ (line ∷ lines_of a.back) ≡ lines_before f.place ++ (f.line ∷ (flatten f.under ++ tail)) = sym (ap lines_of a.rows_are ∙ last_lines a.front r a.back r.content) ∙ lines in
-    let same : line ≡ f.line = one_same (same_parts front (line ∷ []) (lines_of a.back) (lines_before f.place) (f.line ∷ []) (flatten f.under ++ tail) olds size refl).1 in
-    record { seat_is = m.0; there = m.1; anchor = ap (λ (l : Line). l.anchor) same; head = ap (λ (l : Line). l.head) same }
+    let m = mark_seat p.rows k f.line (ap (λ (ls : List Line). slice_get ls k) lines ∙ middle (lines_before f.place) tail f.line) (head_takes n o steps f rest even found) in
+    of_seat tail m.0 lines m.1 m.2
+  where
+    of_seat : (tail : List Line) (s : Seat) → lines_of p.rows ≡ lines_before f.place ++ (f.line ∷ tail) → seat (length (lines_before f.place)) p.rows ≡ Some s → s.line ≡ length s.row.dashes → HeadRow p f
+    of_seat tail s lines there mark =
+        let a : IsSeat (length (lines_before f.place)) p.rows s = seat_splits (length (lines_before f.place)) p.rows s there in
+        let size : length (lines_before f.place) ≡ length (lines_of a.front) + length s.row.dashes = a.lines ∙ ap (λ (j : ℕ). length (lines_of a.front) + j) mark in
+        let same = row_line p.rows a.front s.row a.back (lines_before f.place) tail f.line a.rows_are lines size in
+        record { seat_is = s; there = there; anchor = ap (λ (l : Line). l.anchor) same; head = ap (λ (l : Line). l.head) same }
 
 -- the line has a head
 head_there : (f : Found) → TakesSteps f.line → IsWhole f.line.mark f.line.head f.after → (h : tree.Node) × (f.line.head ≡ Some h)
@@ -140,7 +150,8 @@ scalar_holds : (ss : List Step) (a b : Option (List ℕ)) (text : List ℕ) (x :
 scalar_holds [] a b text x h = no_held (ap held (node_same h.1) ∙ h.2)
 scalar_holds (s ∷ ss) a b text x h = no_node h.1
 
-content_holds : (y : Content) (h : tree.Node) (rest : List Step) (x : Held) (behind : List ℕ) → head_of y ≡ Some h → HeldAt rest (anchored (content_anchor y) h) x → (w : CollPieces) × (content_flow rest y behind ≡ Some w) × (coll_held w ≡ x)
+content_holds : (y : Content) (h : tree.Node) (rest : List Step) (x : Held) (behind : List ℕ) → head_of y ≡ Some h → HeldAt rest (anchored (content_anchor y) h) x →
+    (w : CollPieces) × (content_flow rest y behind ≡ Some w) × (coll_held w ≡ x)
 content_holds (Nothing tail) h rest x behind head at = absurd (no_node head)
 content_holds (Block space anchor block) h rest x behind head at =
     absurd (scalar_holds rest (content_anchor (Block space anchor block)) None _ x (subst (λ (n : tree.Node). HeldAt rest (anchored (content_anchor (Block space anchor block)) n) x) (sym (node_same head)) at))

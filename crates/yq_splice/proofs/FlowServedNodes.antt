@@ -97,7 +97,9 @@ unfolding items_tree
 item_child k s none rest = refl
 item_child k s (item key n sep is) rest =
     let y : EntryPieces = record { key = key; node = n; rest = sep_text sep (items_text k is rest) } in
-    elim (is_here s (inner (key_content key))) as (λ b. option_map entry_tree (cond b (Some y) (item_at k (further s) is rest)) ≡ cond b (Some (tree_of n)) (child_at (further s) (items_tree is))) [ true ↦ refl | false ↦ item_child k (further s) is rest ]
+    elim (is_here s (inner (key_content key)))
+    as (λ b. option_map entry_tree (cond b (Some y) (item_at k (further s) is rest)) ≡ cond b (Some (tree_of n)) (child_at (further s) (items_tree is)))
+    [ true ↦ refl | false ↦ item_child k (further s) is rest ]
 
 inside_child : (s : Step) (node : Node) (rest : List ℕ) → option_map entry_tree (inside s node rest) ≡ child_at s (kids (held (tree_of node)))
 unfolding tree_of
@@ -107,12 +109,18 @@ inside_child s (scalar p) rest = refl
 inside_child s (coll k gap is) rest = item_child k s is rest ∙ ap (λ o. child_at s (kids o)) (sym (held_coll k (items_tree is)))
 inside_child s (anchored n gap node) rest = inside_child s node rest ∙ ap (λ o. child_at s (kids o)) (sym (held_named n (tree_of node)))
 
+-- Steps lead from a node before a rest to a flow collection that holds these.
+abbrev pub CollThere : List Step → Node → List ℕ → Held → Type 0
+CollThere ss node rest x = (w : CollPieces) × (coll_along ss node rest ≡ Some w) × (coll_held w ≡ x)
+
 -- Where steps lead to a collection in its tree they lead to one in the node.
-pub coll_there : (ss : List Step) (node : Node) (rest : List ℕ) (x : Held) → HeldAt ss (tree_of node) x → (w : CollPieces) × (coll_along ss node rest ≡ Some w) × (coll_held w ≡ x)
+pub coll_there : (ss : List Step) (node : Node) (rest : List ℕ) (x : Held) → HeldAt ss (tree_of node) x → CollThere ss node rest x
 coll_there [] node rest x h = coll_here node rest x (ap held (node_same h.1) ∙ h.2)
-coll_there (s ∷ ss) node rest x h = go (inside s node rest) refl (ap (option_and_then (node_at ss)) (inside_child s node rest ∙ ap (child_at s) (sym (kids_held (tree_of node)))) ∙ h.1) (λ y found. coll_there ss y.node y.rest x found)
+coll_there (s ∷ ss) node rest x h =
+    let child : option_map entry_tree (inside s node rest) ≡ child_at s (children_of (tree_of node)) = inside_child s node rest ∙ ap (child_at s) (sym (kids_held (tree_of node))) in
+    go (inside s node rest) refl (ap (option_and_then (node_at ss)) child ∙ h.1) (λ y found. coll_there ss y.node y.rest x found)
   where
-    go : (o : Option EntryPieces) → inside s node rest ≡ o → option_and_then (node_at ss) (option_map entry_tree o) ≡ Some h.0 → ((y : EntryPieces) → HeldAt ss (entry_tree y) x → (w : CollPieces) × (coll_along ss y.node y.rest ≡ Some w) × (coll_held w ≡ x)) →
-        (w : CollPieces) × (coll_along (s ∷ ss) node rest ≡ Some w) × (coll_held w ≡ x)
+    go : (o : Option EntryPieces) → inside s node rest ≡ o → option_and_then (node_at ss) (option_map entry_tree o) ≡ Some h.0 →
+        ((y : EntryPieces) → HeldAt ss (entry_tree y) x → CollThere ss y.node y.rest x) → CollThere (s ∷ ss) node rest x
     go None is e again = absurd (no_node e)
     go (Some y) is e again = let w = again y (h.0, e, h.2) in (w.0, ap (option_and_then (λ (z : EntryPieces). coll_along ss z.node z.rest)) is ∙ w.1, w.2)

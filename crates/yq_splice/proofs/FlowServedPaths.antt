@@ -75,8 +75,8 @@ unheaded g (t ∷ ts) head h = subst (λ (o : Option Node). IsThere (on_head (re
     go None h = absurd (no_line h.1)
     go (Some x) h = deeper g x.0 x.1 h
 
-rest_there : (g : Found) (y : Step) (ys init : List Step) (f : Found) (s : Step) (ss : List Step) → in_rest g (y ∷ ys) ≡ Some (f, s ∷ ss) → ((b : Found) → find y ys g.under ≡ Some (b, s ∷ ss) → IsThere (find_head init g.under)) →
-    IsThere (on_head (in_rest g init))
+rest_there : (g : Found) (y : Step) (ys init : List Step) (f : Found) (s : Step) (ss : List Step) → in_rest g (y ∷ ys) ≡ Some (f, s ∷ ss) →
+    ((b : Found) → find y ys g.under ≡ Some (b, s ∷ ss) → IsThere (find_head init g.under)) → IsThere (on_head (in_rest g init))
 rest_there g y ys init f s ss e under = go g.line.head refl e
   where
     in_lines : (r : Option Reached) → find y ys g.under ≡ r → option_map {U = Reached} (λ x. (inside g x.0, x.1)) r ≡ Some (f, s ∷ ss) → IsThere (find_head init g.under)
@@ -134,7 +134,8 @@ next_there l u v t y ys init f s ss e again =
     go Dash r e = entry r e
 
 -- The path to the collection leads to a line's head.
-pub above_there : (t : Step) (ts : List Step) (o : Outline) (f : Found) (s : Step) (ss init : List Step) (last : Step) → find t ts o ≡ Some (f, s ∷ ss) → last_step (t ∷ ts) ≡ Some (init, last) → (y : Found × List Step) × (find_head init o ≡ Some y)
+pub above_there : (t : Step) (ts : List Step) (o : Outline) (f : Found) (s : Step) (ss init : List Step) (last : Step) → find t ts o ≡ Some (f, s ∷ ss) → last_step (t ∷ ts) ≡ Some (init, last) →
+    (y : Found × List Step) × (find_head init o ≡ Some y)
 above_there t ts end f s ss init last e is = absurd (no_line e)
 above_there t [] (row l u v) f s ss init last e is =
     subst (λ (x : List Step). IsThere (find_head x (row l u v))) (ap (λ (x : List Step × Step). x.0) (steps_same is)) (first_there l u v t f s ss e)
