@@ -1,5 +1,5 @@
 -- A collection at a path stands in the head of a line, in flow, or it has lines of its own, in block.
-use Rattle.std.proofs.Common.{◌≡◌, ◌⊎◌, inl, inr, Bool, true, false, cond, List, [], ◌∷◌, Option, Some, None, option_map, refl, sym, ap, ◌∙◌, subst}
+use Rattle.std.proofs.Common.{◌≡◌, ◌⊎◌, inl, inr, cond, List, [], ◌∷◌, Option, Some, None, option_map, refl, sym, ap, ◌∙◌, subst}
 use Rattle.std.specs.Prelude.{option_and_then}
 use Rattle.yq_scalar.specs.Answers.{◌>>=◌}
 use Rattle.yq_scalar.specs.Paths.{Step, node_at}
@@ -9,7 +9,7 @@ use Rattle.yq_lines.specs.Places.{here, Found, find, in_head, inside, content}
 use Rattle.yq_lines.specs.Spots.{is_bare}
 use Rattle.yq_lines.proofs.Finding.{path_node}
 use Rattle.yq_tree.specs.FlowNodes.{bare_line, find_head, head_line}
-use Rattle.yq_change.specs.Siblings.{HasEntries, IsCollectionAt, IsEntry, NodeLines, lines_at, lines_below, under_line}
+use Rattle.yq_change.specs.Siblings.{HasEntries, IsCollectionAt, IsEntry, NodeLines, lines_below, under_line}
 use Rattle.yq_splice.proofs.FlowServedNodes.{Held, HeldAt, held, held_anchored, no_held}
 
 abbrev Reached : Type 0

@@ -1,5 +1,5 @@
 -- There is a way for each operation in a flow collection.
-use Rattle.std.proofs.Common.{◌≡◌, ℕ, Bool, true, false, not, cond, eqb, List, [], ◌∷◌, Option, Some, None, option_map, refl, sym, ap, ◌∙◌, subst}
+use Rattle.std.proofs.Common.{◌≡◌, ℕ, Bool, true, false, not, cond, eqb, List, ◌∷◌, Option, Some, None, option_map, refl, sym, ap, ◌∙◌, subst}
 use Rattle.std.specs.List.{slice_get}
 use Rattle.std.specs.Prelude.{is_some}
 use Rattle.yq_scalar.specs.Answers.{◌>>=◌}
@@ -14,7 +14,7 @@ use Rattle.yq_inline.specs.Written.{flow_key, flow_of}
 use Rattle.yq_lines.specs.Places.{Found, find}
 use Rattle.yq_rows.specs.Rows.{Part, Cut, cut_text}
 use Rattle.yq_tree.specs.Documents.{document_parts}
-use Rattle.yq_tree.specs.FlowNodes.{find_head, flow_collection}
+use Rattle.yq_tree.specs.FlowNodes.{find_head}
 use Rattle.yq_tree.specs.Reading.{outline_of, read_at, root_of}
 use Rattle.yq_expr.specs.Fits.{Takes}
 use Rattle.yq_expr.specs.Operations.{replace, append, remove}
@@ -22,8 +22,8 @@ use Rattle.yq_splice.specs.FlowWays.{appended_at, flow_append_way, flow_remove_w
 use Rattle.yq_splice.specs.Replacing.{is_kept, node_in}
 use Rattle.yq_splice.specs.Script.{Segment}
 use Rattle.yq_splice.specs.Serving.{IsServed}
-use Rattle.yq_splice.proofs.FlowServedLines.{HeadHolds, flow_there}
-use Rattle.yq_splice.proofs.FlowServedNodes.{Held, coll_held, entry_tree, held, item_child}
+use Rattle.yq_splice.proofs.FlowServedLines.{flow_there}
+use Rattle.yq_splice.proofs.FlowServedNodes.{Held, entry_tree, held, item_child}
 use Rattle.yq_splice.proofs.FlowServedPaths.{above_there, last_there}
 use Rattle.yq_splice.proofs.FlowSoundLaws.{above_is, last_is}
 use Rattle.yq_splice.proofs.FlowStandings.{EntryAt}

@@ -1,5 +1,5 @@
 -- The line in whose head a path goes on holds the collection to which the path leads, in an inline node of its row.
-use Rattle.std.proofs.Common.{◌≡◌, inl, inr, ℕ, ◌+◌, Bool, true, false, cond, List, [], ◌∷◌, ◌++◌, length, Option, Some, None, option_map, refl, sym, ap, ◌∙◌, subst, length-append}
+use Rattle.std.proofs.Common.{◌≡◌, inl, inr, ℕ, ◌+◌, true, cond, List, [], ◌∷◌, ◌++◌, length, Option, Some, None, option_map, refl, sym, ap, ◌∙◌, subst, length-append}
 use Rattle.std.proofs.lemmas.Bool.{false≢true}
 use Rattle.std.specs.List.{slice_get}
 use Rattle.std.specs.Prelude.{is_some, option_and_then}
@@ -7,11 +7,11 @@ use Rattle.yq_scalar.specs.Answers.{◌>>=◌}
 use Rattle.yq_scalar.specs.Paths.{Step, node_at}
 use Rattle.yq_scalar.specs.Tree as tree
 use Rattle.yq_inline.specs.Collections.{CollPieces}
-use Rattle.yq_inline.specs.Trees.{node_head, tree_of}
+use Rattle.yq_inline.specs.Trees.{tree_of}
 use Rattle.yq_lines.specs.Comments.{head_comment}
 use Rattle.yq_lines.specs.Group.{level_or}
 use Rattle.yq_lines.specs.Outline.{Mark, Bare, Key, Dash, Line, level, Outline, end, row, flatten, IsEven, IsWhole, anchored, collection, head_or, children, value}
-use Rattle.yq_lines.specs.Places.{here, plug, lines_before, lines_after, Found, find, in_head, inside, content}
+use Rattle.yq_lines.specs.Places.{here, lines_before, lines_after, Found, find, in_head, inside, content}
 use Rattle.yq_lines.specs.Spots.{is_bare}
 use Rattle.yq_lines.proofs.Decides.{flatten-group}
 use Rattle.yq_lines.proofs.Finding.{path_node}

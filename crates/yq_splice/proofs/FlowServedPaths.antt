@@ -1,5 +1,5 @@
 -- Where a path goes on in the head of a line, the path to the collection above its end leads to a head, too.
-use Rattle.std.proofs.Common.{◌≡◌, Bool, true, false, cond, List, [], ◌∷◌, Option, Some, None, option_map, refl, sym, ap, ◌∙◌, subst}
+use Rattle.std.proofs.Common.{◌≡◌, cond, List, [], ◌∷◌, Option, Some, None, option_map, refl, sym, ap, ◌∙◌, subst}
 use Rattle.std.specs.Prelude.{option_and_then}
 use Rattle.yq_scalar.specs.Answers.{◌>>=◌}
 use Rattle.yq_scalar.specs.Paths.{Step}

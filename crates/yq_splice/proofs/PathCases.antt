@@ -1,5 +1,5 @@
 -- A path below the root leads to an item or entry of a flow collection, or to one of a block collection.
-use Rattle.std.proofs.Common.{◌≡◌, ◌⊎◌, inl, inr, ℕ, List, [], ◌∷◌, Option, Some, None, option_map, refl, sym, ap, ◌∙◌, subst}
+use Rattle.std.proofs.Common.{◌≡◌, ◌⊎◌, inl, inr, ℕ, List, ◌∷◌, Option, Some, None, option_map, refl, sym, ap, ◌∙◌, subst}
 use Rattle.std.specs.List.{slice_get}
 use Rattle.yq_scalar.specs.Paths.{Step, child_at, node_at}
 use Rattle.yq_scalar.specs.Tree.{Node, alias, scalar, list, map, Children, children_of}
