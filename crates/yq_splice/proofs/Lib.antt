@@ -50,6 +50,13 @@ pub mod FlowSoundLaws
 pub mod FlowPieceLaws
 pub mod FlowRemoveLaws
 pub mod FlowStandings
+pub mod FlowServedNodes
+pub mod FlowServedLines
+pub mod FlowServedPaths
+pub mod FlowServed
+pub mod CollectionCases
+pub mod PathCases
+pub mod FitCases
 pub mod FlowWholeLaws
 pub mod FlowReplaceLaws
 pub mod FlowAppendLaws
