@@ -4,7 +4,7 @@ use Rattle.std.proofs.lemmas.Bool.{false≢true}
 use Rattle.yq_scalar.specs.BlockWritten.{break_text}
 use Rattle.yq_scalar.specs.Characters.{text_limit}
 use Rattle.yq_scalar.specs.Paths.{Step, node_at}
-use Rattle.yq_scalar.specs.Text.{is_line, separates}
+use Rattle.yq_scalar.specs.Text.{is_line}
 use Rattle.yq_scalar.specs.Tree.{Node}
 use Rattle.yq_scalar.specs.declared.block_written.Break.{Break}
 use Rattle.yq_scalar.specs.declared.block_written.Break.TheVariants.{Lf, CrLf}
@@ -19,6 +19,7 @@ use Rattle.yq_rows.specs.Exchange.{row_front, with_content}
 use Rattle.yq_rows.specs.Gap.{IsBreak}
 use Rattle.yq_rows.specs.Grammar.{IsTail}
 use Rattle.yq_rows.specs.Rows.{Nothing, Row, mark_column, rows_text, Cut, cut_text}
+use Rattle.yq_rows.proofs.NothingLaws.{tail_apart}
 use Rattle.yq_rows.proofs.PlaceLaws.{row_front-append}
 use Rattle.yq_tree.specs.CollectionEnds.{CollectionEnd, collection_end}
 use Rattle.yq_tree.specs.DashPlaces.{DashPlace, dash_place}
@@ -81,15 +82,11 @@ break_is_piece b (inl e) = subst IsPiece (sym e) nothing
 break_is_piece b (inr (inl e)) = subst IsPiece (sym e) (break_piece Lf)
 break_is_piece b (inr (inr e)) = subst IsPiece (sym e) (break_piece CrLf)
 
--- a break ends a line, and stands apart from what is in front
+-- a break ends a line
 ends_line : (br : Break) (more : List ℕ) → IsBreak (break_text br) more
 unfolding is_line
 ends_line Lf more = inl refl
 ends_line CrLf more = inl refl
-
-break_apart : (br : Break) (more : List ℕ) → separates (break_text br ++ more) ≡ true
-break_apart Lf more = refl
-break_apart CrLf more = refl
 
 abbrev break_tail : (br : Break) (more : List ℕ) → IsTail (break_text br) more
 break_tail br more = record { white = []; comment = []; line = record { break = break_text br; spelled = refl; blank = tt; remark = tt; ends = ends_line br more }; apart = refl }
@@ -136,6 +133,10 @@ module _ (doc : ℕ) (s : Step) (ss : List Step) (c : Cut) (k : IsCompact doc s 
   quiet : comments.line_comment last ≡ None
   quiet = quiet_tail last z last_tail refl
 
+  -- what may stand behind the dash: the end of its line, without a comment
+  holding : (t more : List ℕ) → IsTail t more → comments.line_comment t ≡ None → IsHolding doc s ss c h (Nothing t) more
+  holding t more tail none = record { holds = refl; stands = tail; apart = tail_apart t more tail; comment = none ∙ sym no_comment; anchor = sym (unnamed doc s ss c k) }
+
   -- a text of rows
   new_there : (t : List ℕ) → ((h.start ++ rows_text h.front []) ++ row_front h.mark) ++ (t ++ (last ++ z)) ≡ new_text (compact_segments p t)
   new_there t =
@@ -160,11 +161,8 @@ module _ (doc : ℕ) (s : Step) (ss : List Step) (c : Cut) (k : IsCompact doc s 
     -- ---- inline behind the dash
 
     module _ (text : List ℕ) (for : IsWrittenFor v text) where
-      beside_comment : comments.line_comment last ≡ comments.line_comment []
-      beside_comment = quiet ∙ sym no_comment
-
       abbrev beside : List Row
-      beside = rows_beside doc s ss c h v for.node for.is (unnamed doc s ss c k) last (end_is doc s ss c h last last_tail) beside_comment
+      beside = rows_beside doc s ss c h v for.node for.is (Nothing last) (holding last z last_tail quiet)
 
       beside_text : rows_text beside z ≡ row_front h.mark ++ ((32 ∷ text) ++ (last ++ z))
       beside_text =
@@ -173,7 +171,7 @@ module _ (doc : ℕ) (s : Step) (ss : List Step) (c : Cut) (k : IsCompact doc s 
 
       pub beside_reads : length (new_text (compact_segments p (32 ∷ text))) ≤ text_limit → ReadsAfter op c (new_text (compact_segments p (32 ∷ text)))
       beside_reads =
-          reads_as beside (takes_beside doc s ss c h v for.node for.is (unnamed doc s ss c k) last (end_is doc s ss c h last last_tail) beside_comment) (32 ∷ text) beside_text (byte_then 32 text refl for.piece)
+          reads_as beside (takes_beside doc s ss c h v for.node for.is (Nothing last) (holding last z last_tail quiet)) (32 ∷ text) beside_text (byte_then 32 text refl for.piece)
 
     -- ---- in rows
 
@@ -197,17 +195,14 @@ module _ (doc : ℕ) (s : Step) (ss : List Step) (c : Cut) (k : IsCompact doc s 
       abbrev held : List ℕ
       held = break_text l.br
 
-      holding : IsHolding doc s ss c h (Nothing held)
-      holding = record {
-        holds = refl;
-        stands = break_tail l.br;
-        apart = break_apart l.br;
-        comment = quiet_tail held [] (break_tail l.br []) refl ∙ sym no_comment;
-        anchor = sym (unnamed doc s ss c k);
-      }
+      abbrev below : List ℕ
+      below = rows_text (node_rows l column last v) z
+
+      break_holds : IsHolding doc s ss c h (Nothing held) below
+      break_holds = holding held below (break_tail l.br below) (quiet_tail held below (break_tail l.br below) refl)
 
       abbrev under : List Row
-      under = rows_under doc s ss c h l (mapping_least doc c) v filled near (Nothing held) holding last (end_is doc s ss c h last last_tail) quiet
+      under = rows_under doc s ss c h l (mapping_least doc c) v filled near (Nothing held) last break_holds (end_is doc s ss c h last last_tail) quiet
 
       under_text : rows_text under z ≡ row_front h.mark ++ (lines_below l column v ++ (last ++ z))
       under_text =
@@ -220,7 +215,7 @@ module _ (doc : ℕ) (s : Step) (ss : List Step) (c : Cut) (k : IsCompact doc s 
 
       under_reads : length (new_text (compact_segments p (lines_below l column v))) ≤ text_limit → ReadsAfter op c (new_text (compact_segments p (lines_below l column v)))
       under_reads =
-          reads_as under (takes_under doc s ss c h l (mapping_least doc c) v filled near (Nothing held) holding last (end_is doc s ss c h last last_tail) quiet) (lines_below l column v) under_text lines_piece
+          reads_as under (takes_under doc s ss c h l (mapping_least doc c) v filled near (Nothing held) last break_holds (end_is doc s ss c h last last_tail) quiet) (lines_below l column v) under_text lines_piece
 
       pub filled_reads : length (new_text (compact_segments p (filled_behind l v k.d))) ≤ text_limit → ReadsAfter op c (new_text (compact_segments p (filled_behind l v k.d)))
       filled_reads =

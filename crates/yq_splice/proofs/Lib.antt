@@ -10,6 +10,7 @@ pub mod StyleLaws
 pub mod SameLaws
 pub mod WayLaws
 pub mod ServingLaws
+pub mod FitServed
 pub mod DoneLaws
 pub mod SegmentLaws
 pub mod CommentPieceLaws
@@ -19,6 +20,7 @@ pub mod LineCommentLaws
 pub mod HeadCommentLaws
 pub mod CarryingLaws
 pub mod CarriedLaws
+pub mod ApplyLaws
 pub mod ServeLaws
 pub mod MeaningLaws
 pub mod UpdateLaws
@@ -48,6 +50,13 @@ pub mod FlowSoundLaws
 pub mod FlowPieceLaws
 pub mod FlowRemoveLaws
 pub mod FlowStandings
+pub mod FlowServedNodes
+pub mod FlowServedLines
+pub mod FlowServedPaths
+pub mod FlowServed
+pub mod CollectionCases
+pub mod PathCases
+pub mod FitCases
 pub mod FlowWholeLaws
 pub mod FlowReplaceLaws
 pub mod FlowAppendLaws
@@ -81,9 +90,16 @@ pub mod ScalarAnswers
 pub mod RootRows
 pub mod RootValues
 pub mod RootReadLaws
+pub mod RootFits
+pub mod SameDocuments
+pub mod ClosedTexts
 pub mod BlockRootLaws
 pub mod UnwrittenRootLaws
+pub mod OpenGapLaws
+pub mod OpenMarkerLaws
+pub mod OpenRootLaws
 pub mod RootWayLaws
+pub mod RootServings
 pub mod RootAnswers
 pub mod ScalarCollectionLaws
 pub mod ScalarCollectionAnswers
@@ -93,3 +109,4 @@ pub mod CompactAnswers
 pub mod CompactServing
 pub mod KeptAnchors
 pub mod ScalarCollectionRows
+pub mod PlaceServings
