@@ -1,6 +1,5 @@
 -- Replacing a compact collection behind a dash is a way.
-use Rattle.std.proofs.Common.{◌≡◌, ◌⊎◌, inl, inr, ℕ, ◌+◌, ◌≤◌, Bool, true, false, cond, List, [], ◌∷◌, ◌++◌, length, replicate, Option, Some, None, option_map, refl, sym, ap, ◌∙◌, subst, arith, append_assoc, append-nil}
-use Rattle.std.proofs.lemmas.Bool.{false≢true}
+use Rattle.std.proofs.Common.{◌≡◌, ◌⊎◌, inl, inr, ℕ, ◌+◌, ◌≤◌, Bool, true, false, cond, List, [], ◌∷◌, ◌++◌, length, replicate, Some, None, option_map, refl, sym, ap, ◌∙◌, subst, arith, append_assoc, append-nil}
 use Rattle.yq_scalar.specs.BlockWritten.{break_text}
 use Rattle.yq_scalar.specs.Characters.{text_limit}
 use Rattle.yq_scalar.specs.Paths.{Step, node_at}
@@ -62,7 +61,7 @@ use Rattle.yq_splice.proofs.BreakLaws.{IsLfOrCrLf, last_is}
 use Rattle.yq_splice.proofs.BrokenTails.{quiet_tail}
 use Rattle.yq_splice.proofs.CommentPieceLaws.{nothing, byte_then, break_piece, spaces_piece}
 use Rattle.yq_splice.proofs.CommentRowLaws.{row_found}
-use Rattle.yq_splice.proofs.CompactRows.{IsCompact, before_is, behind_is, column_is, dash_last, ends_in, front_text, inner, inner_is, last_ends_line, node, unnamed, whole_text}
+use Rattle.yq_splice.proofs.CompactRows.{IsCompact, before_is, behind_is, column_is, dash_last, ends_in, inner_is, last_ends_line, node, unnamed, whole_text}
 use Rattle.yq_splice.proofs.DashValueLaws.{behind_rows, behind_spelled, takes_behind}
 use Rattle.yq_splice.proofs.DoneLaws.{nth_map}
 use Rattle.yq_splice.proofs.FitLaws.{new_value, inside_spared, near_keys, tree_unique}

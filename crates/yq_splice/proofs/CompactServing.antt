@@ -1,8 +1,6 @@
 -- There is a way to put a value in the place of a compact collection.
-use Rattle.std.proofs.Common.{◌≡◌, ℕ, suc, ◌+◌, ◌<◌, Bool, true, false, cond, eqb, List, [], ◌∷◌, length, Option, Some, None, option_map, option_and_then, refl, sym, ap, ◌∙◌, arith, length-append}
-use Rattle.std.proofs.lemmas.Bool.{false≢true, cond-false}
+use Rattle.std.proofs.Common.{◌≡◌, ℕ, ◌+◌, ◌<◌, Bool, true, false, cond, eqb, List, [], ◌∷◌, length, Option, Some, None, option_map, option_and_then, refl, sym, ap, ◌∙◌, arith, length-append}
 use Rattle.std.proofs.lemmas.Option.{slice_get-get_or}
-use Rattle.std.specs.List.{slice_get}
 use Rattle.yq_scalar.specs.Answers.{◌>>=◌}
 use Rattle.yq_scalar.specs.Paths.{Step}
 use Rattle.yq_scalar.specs.Tree as tree
@@ -10,7 +8,7 @@ use Rattle.yq_scalar.specs.Tree.{Node}
 use Rattle.yq_scalar.proofs.Bools.{bind_some}
 use Rattle.yq_inline.specs.Valued.{IsValueTree}
 use Rattle.yq_lines.specs.Ends.{found_line}
-use Rattle.yq_lines.specs.Outline.{Line, flatten}
+use Rattle.yq_lines.specs.Outline.{flatten}
 use Rattle.yq_lines.specs.Places.{lines_before, Found}
 use Rattle.yq_rows.specs.Rows.{Cut, cut_text}
 use Rattle.yq_tree.specs.CollectionEnds.{CollectionEnd, collection_end}
@@ -32,11 +30,9 @@ use Rattle.yq_change.proofs.MovedLaws.{lines_append}
 use Rattle.yq_change.proofs.NodeLineLaws.{Under, before_under, lines_found}
 use Rattle.yq_change.proofs.PlacedPartLaws.{document_stands_at}
 use Rattle.yq_block.specs.declared.layout.Layout.{Layout}
-use Rattle.yq_block.specs.BlockReading.{is_filled}
 use Rattle.yq_expr.specs.Operations.{replace}
 use Rattle.yq_splice.specs.CompactReplacing.{CompactPlace, compact_place, compact_segments, compact_upto, filled_behind, replace_compact_way, value_behind}
 use Rattle.yq_splice.specs.Layouts.{layout_of}
-use Rattle.yq_splice.specs.Replacing.{value_written}
 use Rattle.yq_splice.specs.Serving.{IsServed}
 
 -- any value is written behind a dash
