@@ -35,11 +35,11 @@ closed_line (b ∷ []) h = go (is_feed b) h
     go : (x : Bool) → cond x true false ≡ true → x ≡ true
     go true e = refl
     go false e = e
-closed_line (b ∷ (d ∷ t)) h = go (is_feed b) h
+closed_line (b ∷ (d ∷ t)) h = go (is_feed b) h (closed_line (d ∷ t))
   where
-    go : (x : Bool) → cond x false (is_line (d ∷ t)) ≡ true → is_closed_text (d ∷ t) ≡ true
-    go true e = absurd (false≢true e)
-    go false e = closed_line (d ∷ t) e
+    go : (x : Bool) → cond x false (is_line (d ∷ t)) ≡ true → (is_line (d ∷ t) ≡ true → is_closed_text (d ∷ t) ≡ true) → is_closed_text (d ∷ t) ≡ true
+    go true e more = absurd (false≢true e)
+    go false e more = more e
 
 -- a text that doesn't end in a break isn't empty
 pub open_some : (t : List ℕ) → is_closed_text t ≡ false → is_empty t ≡ false

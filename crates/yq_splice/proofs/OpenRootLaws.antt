@@ -159,6 +159,7 @@ module _ (n : ℕ) (c : Cut) (w : RootPlace) (read : read_at (cut_text c) ≡ So
       other_closed = ap is_closed_text (ap (λ x. broken_text ++ x) none ∙ append-nil broken_text) ∙ closed_end h.d.before (break_text br) (break_kind (break_text br) (break_is br))
 
       takes_behind_marker : TakesValue n (with_last_part (break_text br) h.d.part c) (broken_before (break_text br) h.d) h.d.part.end [] []
+      unfolding other_root
       takes_behind_marker =
           let t = takes_unwritten n other place other_read other_root other_closed br in
           record { stands = t.stands; old = t.old; block = t.block; room = room_at_end h.d.part.end t.room.front; lead = t.lead; starts = t.starts }

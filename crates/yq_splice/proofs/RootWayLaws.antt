@@ -102,10 +102,10 @@ module _ (n : ℕ) (v : Node) (c : Cut) (w : RootPlace) (read : read_at (cut_tex
     by_break : (closed : Bool) → is_closed_text w.before ≡ closed → IsReadable (new_text (new_segments false (layout_of n c) v w)) → ReadsAfter (replace n [] v) c (new_text (new_segments false (layout_of n c) v w))
     by_break true e readable =
         value_reads n c h.d h.d.part.end br [] v (layout_of n c) 0 (new_text (new_segments false (layout_of n c) v w)) (takes_unwritten n c w read h e (layout_of n c).br) (mapping_least n c) value_tree there
-        (sym (new_is ∙ (λ i. h.d.before ++ (h.d.part.end ++ (put_behind (e i) br lines ++ h.d.behind))) ∙ ap (λ t. h.d.before ++ (h.d.part.end ++ t)) (append_assoc lines br h.d.behind))) readable
+        (sym (new_is ∙ ((λ i. h.d.before ++ (h.d.part.end ++ (put_behind (e i) br lines ++ h.d.behind))) ∙ ap (λ t. h.d.before ++ (h.d.part.end ++ t)) (append_assoc lines br h.d.behind)))) readable
     by_break false e readable =
         open_reads n c w read h e (layout_of n c).br v (layout_of n c) (mapping_least n c) value_tree there (new_text (new_segments false (layout_of n c) v w))
-        (new_is ∙ (λ i. h.d.before ++ (h.d.part.end ++ (put_behind (e i) br lines ++ h.d.behind))) ∙ ap (λ t. h.d.before ++ (h.d.part.end ++ t)) (append_assoc br lines h.d.behind)) readable
+        (new_is ∙ ((λ i. h.d.before ++ (h.d.part.end ++ (put_behind (e i) br lines ++ h.d.behind))) ∙ ap (λ t. h.d.before ++ (h.d.part.end ++ t)) (append_assoc br lines h.d.behind))) readable
 
     new_reads : length (new_text (new_segments false (layout_of n c) v w)) ≤ text_limit → ReadsAfter (replace n [] v) c (new_text (new_segments false (layout_of n c) v w))
     new_reads size =

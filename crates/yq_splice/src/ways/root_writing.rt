@@ -62,7 +62,7 @@ fn value_lines(
     place: &RootPlace<'_>,
     value: &Value,
 ) -> Result<String, AllocError>
-    ensures { IfOk result (λ s. string_bytes s ≡ put_behind (spec.is_closed_text place.before.now) (break_text layout.now.br) (block_value layout.now place.now.column (node_of value.now))) }
+    ensures { IfOk result (λ s. string_bytes s ≡ put_behind (spec.is_closed_text place.now.before.now) (break_text layout.now.br) (block_value layout.now place.now.column (node_of value.now))) }
 {
     let mut text = String::new(alloc);
     if is_closed_text(place.before.as_bytes()) {
