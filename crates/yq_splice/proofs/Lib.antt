@@ -10,7 +10,6 @@ pub mod StyleLaws
 pub mod SameLaws
 pub mod WayLaws
 pub mod ServingLaws
-pub mod FitServed
 pub mod DoneLaws
 pub mod SegmentLaws
 pub mod CommentPieceLaws
@@ -108,4 +107,12 @@ pub mod CompactAnswers
 pub mod KeptAnchors
 pub mod ScalarCollectionRows
 pub mod PlaceServings
+pub mod AloneLaws
+pub mod NodePlaces
+pub mod PrintedDocuments
+pub mod AppendServed
+pub mod RemoveServed
+pub mod CommentServed
+pub mod ReplaceServed
+pub mod FitServed
 pub mod DashValueLaws
