@@ -110,3 +110,10 @@ pub mod CompactServing
 pub mod KeptAnchors
 pub mod ScalarCollectionRows
 pub mod PlaceServings
+pub mod AloneLaws
+pub mod NodePlaces
+pub mod PrintedDocuments
+pub mod AppendServed
+pub mod RemoveServed
+pub mod CommentServed
+pub mod ReplaceServed
