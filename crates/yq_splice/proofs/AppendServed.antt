@@ -1,5 +1,5 @@
 -- There is a way to put one more item or entry into a block collection.
-use Rattle.std.proofs.Common.{◌≡◌, Bool, true, false, cond, ℕ, List, [], ◌∷◌, ◌++◌, map, Option, Some, None, option_map, refl, sym, ap, ◌∙◌, subst}
+use Rattle.std.proofs.Common.{◌≡◌, Bool, false, cond, ℕ, List, [], ◌∷◌, ◌++◌, map, Option, Some, None, option_map, refl, sym, ap, ◌∙◌, subst}
 use Rattle.std.specs.List.{slice_get}
 use Rattle.std.specs.Option.{is_some}
 use Rattle.yq_scalar.specs.Answers.{◌>>=◌}
@@ -14,7 +14,7 @@ use Rattle.yq_rows.specs.Rows.{Part, Cut, cut_text}
 use Rattle.yq_tree.specs.CollectionEnds.{CollectionEnd, are_broken, collection_end, end_in, end_of_entry, end_of_found, end_of_lines}
 use Rattle.yq_tree.specs.Documents.{document_parts}
 use Rattle.yq_tree.specs.Lines.{lines_of}
-use Rattle.yq_tree.specs.PathPieces.{BlockEntry, PrintedDocument, found_entry, printed_document}
+use Rattle.yq_tree.specs.PathPieces.{BlockEntry, PrintedDocument}
 use Rattle.yq_tree.specs.PrintedLines.{PrintedLine, line_in, print_line, print_lines}
 use Rattle.yq_tree.specs.Reading.{outline_of, read_at}
 use Rattle.yq_tree.proofs.FoundEntries.{IsFound, entry_found, entry_there}

@@ -8,7 +8,7 @@ use Rattle.yq_rows.specs.Rows.{Cut, cut_text}
 use Rattle.yq_rows.specs.Rows as rows
 use Rattle.yq_tree.specs.declared.path.Part.{Part}
 use Rattle.yq_tree.specs.declared.path.Part.TheVariants.{HeadComment, LineComment}
-use Rattle.yq_tree.specs.CommentPlaces.{LineEnd, LinesAbove, above_row, end_of_line, line_end, lines_above}
+use Rattle.yq_tree.specs.CommentPlaces.{above_row, end_of_line, line_end, lines_above}
 use Rattle.yq_tree.specs.Documents.{document_parts}
 use Rattle.yq_tree.specs.PlacedRows.{PlacedPart, PlacedRow, placed_document, placed_row, row_of_path}
 use Rattle.yq_tree.specs.Reading.{cut_of, documents, read_at}

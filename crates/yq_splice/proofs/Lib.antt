@@ -10,6 +10,10 @@ pub mod StyleLaws
 pub mod SameLaws
 pub mod WayLaws
 pub mod ServingLaws
+pub mod RemoveServed
+pub mod AppendServed
+pub mod CommentServed
+pub mod PrintedDocuments
 pub mod DoneLaws
 pub mod SegmentLaws
 pub mod CommentPieceLaws

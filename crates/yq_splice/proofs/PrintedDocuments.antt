@@ -1,5 +1,5 @@
 -- The lines of a document of a cut that has a reading.
-use Rattle.std.proofs.Common.{◌≡◌, ℕ, Some, not, ◌||◌, refl}
+use Rattle.std.proofs.Common.{◌≡◌, ℕ, Some, true, not, ◌||◌, refl}
 use Rattle.std.specs.List.{slice_get}
 use Rattle.yq_rows.specs.Rows.{Part, Cut, cut_text}
 use Rattle.yq_tree.specs.Documents.{begins_bare, document_parts, has_begin}

@@ -1,25 +1,25 @@
 -- There is a way to take an item or entry out of a block collection.
-use Rattle.std.proofs.Common.{◌≡◌, ◌⊎◌, inl, inr, ◌-◌, Bool, true, false, cond, eqb, ℕ, List, [], ◌∷◌, ◌++◌, length, drop, map, Option, Some, None, option_map, option_and_then, refl, sym, ap, ◌∙◌, subst}
+use Rattle.std.proofs.Common.{◌≡◌, ◌-◌, Bool, true, false, cond, eqb, ℕ, List, [], ◌∷◌, ◌++◌, length, drop, map, Option, Some, None, option_map, option_and_then, refl, sym, ap, ◌∙◌}
 use Rattle.std.proofs.lemmas.Bool.{cond-true, cond-false}
 use Rattle.std.specs.List.{slice_get}
 use Rattle.yq_scalar.specs.Answers.{◌>>=◌}
 use Rattle.yq_scalar.specs.Paths.{Step, node_at}
 use Rattle.yq_scalar.specs.Tree as tree
-use Rattle.yq_scalar.specs.Tree.{Node, Children, none}
+use Rattle.yq_scalar.specs.Tree.{Node, none}
 use Rattle.yq_lines.specs.Ends.{found_line, line_of, lines_end}
 use Rattle.yq_lines.specs.Group.{group}
 use Rattle.yq_lines.specs.Outline.{Mark, Bare, Key, Dash, Line, Outline, end, row, anchored, children, collection, flatten, value}
 use Rattle.yq_lines.specs.Places.{Found, find, lines_after, lines_before}
-use Rattle.yq_rows.specs.Rows.{Row, Part, Cut, cut_text}
+use Rattle.yq_rows.specs.Rows.{Part, Cut, cut_text}
 use Rattle.yq_tree.specs.declared.path.Part.TheVariants.{Entry}
 use Rattle.yq_tree.specs.Documents.{Document, document_parts}
-use Rattle.yq_tree.specs.FirstPlaces.{first_entry, first_out, first_removal}
+use Rattle.yq_tree.specs.FirstPlaces.{first_entry, first_out}
 use Rattle.yq_tree.specs.Lines.{lines_of}
 use Rattle.yq_tree.specs.PathPieces.{BlockEntry, PrintedDocument, entry_piece, found_entry, piece_in, piece_in_entry, printed_document}
 use Rattle.yq_tree.specs.Pieces.{Piece}
 use Rattle.yq_tree.specs.PlacedRows.{PlacedPart, placed_document}
 use Rattle.yq_tree.specs.PrintedLines.{line_in}
-use Rattle.yq_tree.specs.Reading.{document_of, documents, outline_of, read_at, root_of}
+use Rattle.yq_tree.specs.Reading.{document_of, outline_of, read_at}
 use Rattle.yq_tree.specs.RemovalPlaces.{OwnRows, Removal, has_others_at, in_three, own_rows, removal_place, row_count, rows_out}
 use Rattle.yq_tree.specs.Seats.{Seat, seat, seat_of}
 use Rattle.yq_tree.proofs.FoundEntries.{entry_there}
@@ -41,32 +41,18 @@ use Rattle.yq_splice.specs.Serving.{IsServed}
 use Rattle.yq_splice.specs.SoleRemoving.{emptied, emptying, emptying_at, sole_by}
 use Rattle.yq_splice.specs.Ways.{Way}
 use Rattle.yq_splice.proofs.DoneLaws.{nth_map}
-use Rattle.yq_splice.proofs.EntryPaths.{entry_path, found_at}
-use Rattle.yq_splice.proofs.FlowSoundLaws.{last_is}
 use Rattle.yq_splice.proofs.PrintedDocuments.{printed_at}
 use Rattle.yq_splice.proofs.ServingLaws.{served_first, served_second}
 
 -- ---- the line of an item or entry
 
 -- The line to which a path leads, where no step goes on in its head.
-record HasLine (path : List Step) (p : Part) : Type 0 where
-  first : Step
-  others : List Step
-  path_is : path ≡ first ∷ others
-  line : Found
-  found : find first others (outline_of p) ≡ Some (line, [])
-
-line_there : (path init : List Step) (s : Step) (p : Part) (h : NodeLines) (f : Found) → last_step path ≡ Some (init, s) → IsEntryAt init s (outline_of p) h f → HasLine path p
-line_there path init s p h f last at =
-    let g = entry_path init s (outline_of p) h f at in
-    go path (ap (λ (x : List Step). found_at x (outline_of p)) (last_is path init s last) ∙ g.1)
-  where
-    no_line : {x : Found × List Step} → None ≡ Some x → ⊥
-    no_line e = cc
-
-    go : (path : List Step) → found_at path (outline_of p) ≡ Some ((entry_path init s (outline_of p) h f at).0, []) → HasLine path p
-    go [] e = absurd (no_line e)
-    go (t ∷ ts) e = record { first = t; others = ts; path_is = refl; line = (entry_path init s (outline_of p) h f at).0; found = e }
+pub record HasLine (path : List Step) (p : Part) : Type 0 where
+  pub first : Step
+  pub others : List Step
+  pub path_is : path ≡ first ∷ others
+  pub line : Found
+  pub found : find first others (outline_of p) ≡ Some (line, [])
 
 -- its number, and the row in which it stands
 seat_there : (path : List Step) (p : Part) → HasLine path p → (n : ℕ) × (line_of path (lines_of p.rows) ≡ Some n) × ((x : Seat) × (seat n p.rows ≡ Some x))
@@ -155,9 +141,9 @@ module _ (c : Cut) (doc : ℕ) (path : List Step) (p : Part) (there : slice_get 
           served_second remove_way remove_first_way (remove doc path) c (by_first read others x (ap (λ (o : Option ℕ). o >>= λ n. seat n p.rows) number ∙ is) first)
 
 -- One of several items or entries of a block collection is taken out.
-pub remove_served : (c : Cut) (doc : ℕ) (path init : List Step) (s : Step) (p : Part) (h : NodeLines) (f : Found) → read_at (cut_text c) ≡ Some c → slice_get (document_parts c) doc ≡ Some p → last_step path ≡ Some (init, s) →
-    IsEntryAt init s (outline_of p) h f → has_others_at doc path c ≡ true → IsServed remove_ways (remove doc path) c
-remove_served c doc path init s p h f read there last at others = several_served c doc path p there (line_there path init s p h f last at) read others
+pub remove_served : (c : Cut) (doc : ℕ) (path : List Step) (p : Part) → read_at (cut_text c) ≡ Some c → slice_get (document_parts c) doc ≡ Some p → HasLine path p → has_others_at doc path c ≡ true →
+    IsServed remove_ways (remove doc path) c
+remove_served c doc path p read there h others = several_served c doc path p there h read others
 
 -- ---- a sole one
 
