@@ -15,7 +15,7 @@ use Rattle.yq_rows.proofs.seams.ScalarSeams.{ends_return}
 use Rattle.yq_change.proofs.EndLaws.{told, comment_is}
 
 -- a break
-break_is : (br : Break) → (is_break (break_text br) && is_line (break_text br)) ≡ true
+pub break_is : (br : Break) → (is_break (break_text br) && is_line (break_text br)) ≡ true
 unfolding is_line
 break_is Lf = refl
 break_is CrLf = refl

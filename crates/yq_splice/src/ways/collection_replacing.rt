@@ -23,7 +23,7 @@ use yq_expr::{Op, Value};
 use yq_tree::{CollectionEnd, Documents, MarkPlace, Path, split_break};
 
 /// A text up to the rest in which it ends, less its last break, and that break.
-fn lines_upto<'d>(text: &'d str, rest: &str) -> (&'d str, &'d str)
+pub(crate) fn lines_upto<'d>(text: &'d str, rest: &str) -> (&'d str, &'d str)
     requires { spec.EndsIn text.now rest.now }
     ensures gone { result.0.now ≡ lines.less_break (spec.up_to text.now rest.now) }
     ensures last { result.1.now ≡ lines.last_break (spec.up_to text.now rest.now) }
