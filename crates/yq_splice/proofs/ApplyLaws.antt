@@ -1,9 +1,9 @@
 -- An operation that fits is carried out by a way.
-use Rattle.std.proofs.Common.{◌≡◌, ℕ, ◌<◌, ◌≤◌, Bool, true, false, cond, leb, List, length, Option, Some, None, Result, Ok, Err, IfOk, IfErr, string_bytes, refl, sym, ap, ◌∙◌, subst}
-use Rattle.std.proofs.lemmas.Bool.{leb-true, leb-false}
+use Rattle.std.proofs.Common.{◌≡◌, ℕ, ◌<◌, Bool, true, false, cond, leb, List, [], ◌∷◌, length, Option, Some, None, Result, Ok, Err, IfOk, IfErr, string_bytes, refl, sym, ap, ◌∙◌, subst}
+use Rattle.std.proofs.lemmas.Bool.{leb-false}
 use Rattle.yq_scalar.specs.Characters.{text_limit}
-use Rattle.yq_rows.specs.Rows.{Cut, cut_text}
-use Rattle.yq_tree.specs.Reading.{documents, read_at}
+use Rattle.yq_rows.specs.Rows.{cut_text}
+use Rattle.yq_tree.specs.Reading.{cut_of, documents, read_at}
 use Rattle.yq_expr.specs.Fits.{Fits}
 use Rattle.yq_expr.specs.Operations.{Operation}
 use Rattle.yq_expr.specs.Rooms.{room_of}
@@ -11,12 +11,13 @@ use Rattle.yq_expr.specs.declared.refusal.Refusal.{Refusal}
 use Rattle.yq_expr.specs.declared.refusal.Refusal.TheVariants.{TooLarge}
 use Rattle.yq_splice.specs.Answers.{Edits, Fails}
 use Rattle.yq_splice.specs.Carried.{carrying, or_stay, carry_one, carried}
-use Rattle.yq_splice.specs.Edit.{Edit, unreadable, refuses, gives, by_reading, edit_of_segments}
+use Rattle.yq_splice.specs.Edit.{unreadable, refuses, gives, by_reading, edit_of_segments}
 use Rattle.yq_splice.specs.Operands.{HasOperand}
 use Rattle.yq_splice.specs.Patch.{Change}
-use Rattle.yq_splice.specs.Script.{Segment, new_text, changes}
+use Rattle.yq_splice.specs.Script.{Segment, keep, new_text, changes}
 use Rattle.yq_splice.specs.Serving.{IsServed}
-use Rattle.yq_splice.specs.Theorems.{IsFitting, IsApplied, IsLarge, IsRefused}
+use Rattle.yq_splice.specs.Theorems.{IsFitting, IsApplied, IsRefused}
+use Rattle.yq_splice.specs.WayAnswers.{Carries}
 use Rattle.yq_splice.specs.Ways.{ReadsAfter}
 use Rattle.yq_splice.specs.declared.edited.Edited.{Edited}
 use Rattle.yq_splice.specs.declared.edited.EditError.{EditError}
@@ -24,6 +25,7 @@ use Rattle.yq_splice.specs.declared.edited.EditError.TheVariants as error
 use Rattle.yq_splice.proofs.CarriedLaws.{AreGiven, segments_give, text_read}
 use Rattle.yq_splice.proofs.CarryingLaws.{carrying_is}
 use Rattle.yq_splice.proofs.FitServed.{fit_served}
+use Rattle.yq_splice.proofs.WayLaws.{none_stays}
 
 -- what segments come to says how long their text is
 segments_large : (ss : List Segment) (why : Refusal) → edit_of_segments ss ≡ refuses why → (why ≡ TooLarge) × (text_limit < length (new_text ss))
@@ -39,6 +41,12 @@ segments_read ss h = go (leb (length (new_text ss)) text_limit) h
     go : (b : Bool) → cond b (gives (new_text ss) (changes ss)) (refuses TooLarge) ≡ unreadable → ⊥
     go true f = cc
     go false f = cc
+
+-- an operation that has no way leaves the text
+pub text_stays : (r : Result Edited EditError) (t m : List ℕ) (way : Option (List Segment)) → read_at t ≡ Some (cut_of t) → m ≡ t → Carries (Ok None) way → Edits r (edit_of_segments (keep m ∷ [])) →
+    Edits r (edit_of_segments (or_stay (cut_of t) way))
+text_stays r t m way read same none h =
+    none_stays r (cut_of t) way none (subst (λ (x : List ℕ). Edits r (edit_of_segments (keep x ∷ []))) (same ∙ sym (text_read t (cut_of t) read)) h)
 
 module _ (op : Operation) (t : List ℕ) (operand : HasOperand op) (k : IsFitting op t) where
   text : cut_text k.cut ≡ t

@@ -1,13 +1,12 @@
 -- A gap without a final break, with one behind it: it is a gap before any text, and ends in the same comment.
-use Rattle.std.proofs.Common.{◌≡◌, ◌&&◌, inl, inr, eqb, List, [], ◌∷◌, ◌++◌, ℕ, Option, Some, None, is_some, Bool, true, false, cond, refl, sym, ap, ◌∙◌, subst, append_assoc, append-nil, ⊎_elim}
+use Rattle.std.proofs.Common.{◌≡◌, ◌&&◌, inl, inr, eqb, List, [], ◌∷◌, ◌++◌, ℕ, Some, None, is_some, Bool, true, false, cond, refl, sym, ap, ◌∙◌, subst, append_assoc, append-nil, ⊎_elim}
 use Rattle.std.proofs.lemmas.Bool.{false≢true}
 use Rattle.yq_scalar.specs.BlockWritten.{break_text}
 use Rattle.yq_scalar.specs.Characters.{pairs_returns}
-use Rattle.yq_scalar.specs.Text.{front, is_break, is_empty, is_line, joined, lines_of, past_white}
+use Rattle.yq_scalar.specs.Text.{front, is_empty, joined, past_white}
 use Rattle.yq_scalar.specs.declared.block_written.Break.{Break}
-use Rattle.yq_scalar.specs.declared.block_written.Break.TheVariants.{Lf, CrLf}
 use Rattle.yq_lines.specs.Comments.{comment_text, are_comments, with_text, last_comments, head_comment}
-use Rattle.yq_rows.specs.Gap.{IsBreak, IsComment, IsLineEnd, IsGapLine, AreGapLines, IsGap}
+use Rattle.yq_rows.specs.Gap.{IsComment, IsGapLine, AreGapLines, IsGap}
 use Rattle.yq_rows.proofs.CharacterLaws.{pairs_back}
 use Rattle.yq_rows.proofs.NothingLaws.{line_end_other}
 use Rattle.yq_rows.proofs.seams.GapFronts.{gap_lines}

@@ -1,5 +1,5 @@
 -- Where the root of a document comes that has no rows, behind a text that doesn't end in a break: on a line of its own, behind a break that comes first.
-use Rattle.std.proofs.Common.{◌≡◌, ◌⊎◌, inl, inr, ℕ, ◌≤◌, List, [], ◌∷◌, ◌++◌, length, Some, None, Bool, true, false, refl, sym, ap, ◌∙◌, subst, arith, append_assoc, append-nil, length-append}
+use Rattle.std.proofs.Common.{◌≡◌, ◌⊎◌, inl, inr, ℕ, ◌≤◌, List, [], ◌∷◌, ◌++◌, length, Some, None, true, false, refl, sym, ap, ◌∙◌, subst, arith, append_assoc, append-nil, length-append}
 use Rattle.std.proofs.lemmas.Bool.{false≢true, cond-true, false_from_ne_true}
 use Rattle.std.proofs.lemmas.Str.{is_utf8-from_IsUtf8}
 use Rattle.std.specs.List.{list_all}
@@ -172,8 +172,8 @@ module _ (n : ℕ) (c : Cut) (w : RootPlace) (read : read_at (cut_text c) ≡ So
     reads_behind_marker none =
         let text : (h.d.before ++ break_text br) ++ (h.d.part.end ++ (block_value l 0 v ++ [])) ≡ new =
         (λ i. (h.d.before ++ break_text br) ++ (none i ++ (block_value l 0 v ++ [])))
-            ∙ (append_assoc h.d.before (break_text br) (block_value l 0 v ++ [])
-            ∙ sym (is ∙ (λ i. h.d.before ++ (none i ++ (break_text br ++ (block_value l 0 v ++ nothing_behind i)))))) in
+        ∙ (append_assoc h.d.before (break_text br) (block_value l 0 v ++ [])
+        ∙ sym (is ∙ (λ i. h.d.before ++ (none i ++ (break_text br ++ (block_value l 0 v ++ nothing_behind i)))))) in
         let size : length (h.d.before ++ break_text br) ≤ text_limit =
         front_short (h.d.before ++ break_text br) (h.d.part.end ++ (block_value l 0 v ++ [])) text_limit (subst (λ t. length t ≤ text_limit) (sym text) readable.size) in
         same_reads (replace n [] v) (with_last_part (break_text br) h.d.part c) c new (other_read none size) read (marker none).parts_are

@@ -1,4 +1,3 @@
-use Rattle.yq_splice.proofs.RootServings.{root_served}
 use Rattle.yq_splice.proofs.RootWayLaws.{root_is_way}
 use Rattle.yq_splice.proofs.ways.root_writing.roots_read.Goals as goal
 
