@@ -29,21 +29,22 @@ pub fn parse_expr(alloc: Global, text: &str) -> Result<Program, ParseError>
     ensures only { (p : Outline) → Derives text.now p → has_pattern p ≡ false → Answers program_of result (parsed p) }
     ensures refused { IfErr result (λ e. IsRefused e text.now) }
 {
-    checked(alloc, text)
+    parse(alloc, text)
 }
 
-/// The program of a text, each of whose literals is a value.
-fn checked(alloc: Global, text: &str) -> Result<Program, ParseError>
+/// The program of a text.
+fn parse(alloc: Global, text: &str) -> Result<Program, ParseError>
     ensures { Answers program_of result (spec.outcome text.now) }
 {
-    match parse(alloc, text) {
+    match syntax(alloc, text) {
         Ok(syntax) => Ok(Program::new(syntax)),
         Err(e) => Err(e),
     }
 }
 
+/// The syntax tree of the program of a text.
 #[tactic(auto, unfolding(crate::specs::Parse::outcome))]
-fn parse(alloc: Global, text: &str) -> Result<Syntax, ParseError>
+fn syntax(alloc: Global, text: &str) -> Result<Syntax, ParseError>
     ensures { Answers program_of result (spec.outcome text.now) }
 {
     if survey(text)? {
