@@ -36,10 +36,8 @@ pub fn parse_expr(alloc: Global, text: &str) -> Result<Program, ParseError>
 fn parse(alloc: Global, text: &str) -> Result<Program, ParseError>
     ensures { Answers program_of result (spec.outcome text.now) }
 {
-    match syntax(alloc, text) {
-        Ok(syntax) => Ok(Program::new(syntax)),
-        Err(e) => Err(e),
-    }
+    let syntax = syntax(alloc, text)?;
+    Ok(Program::new(syntax))
 }
 
 /// The syntax tree of the program of a text.
