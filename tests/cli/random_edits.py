@@ -108,8 +108,6 @@ def is_right(yaml, folder, roots, update):
     status, out, err = folder.run("-i", update.text, FILE)
     code = err.split(b" ")[1].decode() if status else ""
     new, refusal = meant(roots, update)
-    if code == "E2" and refusal is None:
-        return "not carried out yet", roots
     equal((status, out), (1 if code else 0, b""))
     if code == "X10" and update.operator.endswith("_comment") and comes_to_a_place(roots, update):
         return "no room for a comment", roots

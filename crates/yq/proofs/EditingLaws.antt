@@ -15,7 +15,7 @@ use Rattle.yq_splice.specs.Answers.{Fails}
 use Rattle.yq_splice.specs.declared.edited.EditError.{EditError}
 use Rattle.yq_splice.specs.declared.edited.EditError.TheVariants as error
 use Rattle.yq.specs.declared.fault.Fault.{Fault}
-use Rattle.yq.specs.declared.fault.Fault.TheVariants.{NotInProfile, OutOfMemory, Unreadable}
+use Rattle.yq.specs.declared.fault.Fault.TheVariants.{OutOfMemory, Unreadable}
 use Rattle.yq.specs.Editing.{IsUnreadable, Refuses, edits, of_edit, of_refusal, unreadable, outcome_of}
 
 -- bytes that are no UTF-8
@@ -69,5 +69,4 @@ pub edit_refuses : (p : Program) (s t : List ℕ) (e : EditError) → s ≡ t �
 unfolding edits
 edit_refuses p s t (error.Read f) same utf8 fails other = subst (λ o. Refuses (outcome_of t o) (Unreadable f)) (sym (ap (edit_of p) (sym same) ∙ fails.0)) (unread_text t f utf8 fails.1)
 edit_refuses p s t (error.Refused why) same utf8 fails other = subst (λ o. Refuses (outcome_of t o) (of_refusal why)) (sym (ap (edit_of p) (sym same) ∙ fails)) refl
-edit_refuses p s t error.NotInProfile same utf8 fails other = subst (λ o. Refuses (outcome_of t o) NotInProfile) (sym (ap (edit_of p) (sym same) ∙ fails)) refl
 edit_refuses p s t error.Memory same utf8 fails other = absurd (other refl)

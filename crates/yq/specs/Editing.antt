@@ -80,14 +80,12 @@ of_refusal refusal.KeyTooLong = fault.KeyTooLong
 abbrev pub of_edit : EditError → Fault
 of_edit (error.Read fault) = Unreadable fault
 of_edit (error.Refused why) = of_refusal why
-of_edit error.NotInProfile = NotInProfile
 of_edit error.Memory = OutOfMemory
 
--- what an edit of a text comes to; one that isn't carried out yet is refused as not in the profile (own)
+-- what an edit of a text comes to (own)
 abbrev pub outcome_of : List ℕ → Edit → Outcome
 outcome_of old edit.unreadable = unreadable old
 outcome_of old (edit.refuses why) = refused (of_refusal why)
-outcome_of old edit.unbuilt = refused NotInProfile
 outcome_of old (edit.gives text changes) = edited text changes
 
 -- what a program makes of a text (own)

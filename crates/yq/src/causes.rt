@@ -158,7 +158,6 @@ impl From<EditError> for Fault {
         match error {
             EditError::Read(fault) => Fault::Unreadable(fault),
             EditError::Refused(why) => Fault::from(why),
-            EditError::NotInProfile => Fault::NotInProfile,
             EditError::Memory => Fault::OutOfMemory,
         }
     }

@@ -3,19 +3,19 @@ use Rattle.std.proofs.Common.{◌≡◌, ◌⊎◌, inl, inr, ℕ, Bool, true, f
 use Rattle.std.proofs.lemmas.Bool.{false≢true}
 use Rattle.yq_scalar.specs.BlockWritten.{break_text}
 use Rattle.yq_scalar.specs.Characters.{pairs_returns}
-use Rattle.yq_scalar.specs.Text.{front, is_feed, is_return, is_empty, is_break, is_line, ends_line, separates, NoneIn}
+use Rattle.yq_scalar.specs.Text.{front, is_feed, is_return, is_empty, is_break, is_line, ends_line, NoneIn}
 use Rattle.yq_scalar.specs.declared.block_written.Break.{Break}
 use Rattle.yq_scalar.specs.declared.block_written.Break.TheVariants.{Lf, CrLf}
 use Rattle.yq_scalar.proofs.Bools.{is_true, and_true, or_false}
 use Rattle.yq_lines.specs.Comments.{line_comment}
-use Rattle.yq_rows.specs.Gap.{IsWhite, IsBreak, IsComment}
+use Rattle.yq_rows.specs.Gap.{IsBreak, IsComment}
 use Rattle.yq_rows.specs.Grammar.{IsTail}
 use Rattle.yq_rows.proofs.CharacterLaws.{pairs_back}
 use Rattle.yq_rows.proofs.seams.ScalarSeams.{ends_return}
 use Rattle.yq_change.proofs.EndLaws.{told, comment_is}
 
 -- a break
-break_is : (br : Break) → (is_break (break_text br) && is_line (break_text br)) ≡ true
+pub break_is : (br : Break) → (is_break (break_text br) && is_line (break_text br)) ≡ true
 unfolding is_line
 break_is Lf = refl
 break_is CrLf = refl
@@ -72,19 +72,6 @@ module _ (tail rest : List ℕ) (h : IsTail tail rest) (br : Break) where
         alone : IsBreak h.line.break rest → IsBreak h.line.break []
         alone (inl e) = inl e
         alone (inr e) = inr (e.0, refl)
-
-    -- it stands behind a key or dash
-    pub broken_apart : (more : List ℕ) → separates (broken ++ more) ≡ true
-    broken_apart more = go h.white h.comment h.line.blank h.apart
-      where
-        go : (w c : List ℕ) → IsWhite w → (is_empty c || not (is_empty w)) ≡ true → separates ((w ++ (c ++ break_text br)) ++ more) ≡ true
-        go (b ∷ w) c blank a = rw blank.0 refl
-        go [] [] blank a = first br
-          where
-            first : (br : Break) → separates (break_text br ++ more) ≡ true
-            first Lf = refl
-            first CrLf = refl
-        go [] (b ∷ c) blank a = absurd (false≢true a)
 
 -- a tail without a comment has none
 pub quiet_tail : (tail rest : List ℕ) (h : IsTail tail rest) → is_empty h.comment ≡ true → line_comment tail ≡ Rattle.std.proofs.Common.None

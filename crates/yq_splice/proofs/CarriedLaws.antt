@@ -1,5 +1,5 @@
 -- What is carried out is carried out by segments of the text.
-use Rattle.std.proofs.Common.{◌≡◌, ℕ, ◌+◌, ◌^◌, ◌<◌, ◌≤◌, Bool, true, false, cond, leb, List, length, Option, Some, None, option_map, refl, sym, ap, ◌∙◌, subst, arith}
+use Rattle.std.proofs.Common.{◌≡◌, ℕ, ◌+◌, ◌^◌, ◌<◌, ◌≤◌, Bool, true, false, cond, leb, List, length, Option, Some, None, refl, sym, ap, ◌∙◌, subst, append-nil, arith}
 use Rattle.std.proofs.lemmas.Bool.{leb-true}
 use Rattle.std.specs.Str.{is_utf8}
 use Rattle.yq_scalar.specs.Characters.{text_limit}
@@ -16,7 +16,7 @@ use Rattle.yq_expr.specs.Program as programs
 use Rattle.yq_expr.specs.Program.{Program, Update, updates}
 use Rattle.yq_expr.specs.Rooms.{room_of}
 use Rattle.yq_expr.specs.declared.refusal.Refusal.TheVariants.{TooLarge}
-use Rattle.yq_splice.specs.Carried.{carrying, or_unbuilt, carry_one, carried, carry_out, updated, program_done, edit_of}
+use Rattle.yq_splice.specs.Carried.{carrying, or_stay, carry_one, carried, carry_out, updated, program_done, edit_of}
 use Rattle.yq_splice.specs.Edit.{refuses, gives, by_reading, edit_of_segments}
 use Rattle.yq_splice.specs.Patch.{Change, all_done, lengths_done}
 use Rattle.yq_splice.specs.Script.{Segment, old_text, new_text, changes}
@@ -51,24 +51,29 @@ segments_give ss new cs h = go (leb (length (new_text ss)) text_limit) refl h
     go true e f = record { size = leb-true (length (new_text ss)) text_limit e; text = cc; splices = cc }
     go false e f = absurd (cc)
 
-carried_at : (op : Operation) (t new : List ℕ) (cs : List Change) (c : Cut) → read_at t ≡ Some c → carry_one op c ≡ gives new cs → IsCarried op t new cs
-carried_at op t new cs c read h = go (carrying op c) refl h
+-- its segments are of the text
+old_stays : (op : Operation) (c : Cut) → read_at (cut_text c) ≡ Some c → old_text (or_stay c (carrying op c)) ≡ cut_text c
+old_stays op c read = go (carrying op c) refl
   where
-    go : (o : Option (List Segment)) → carrying op c ≡ o → or_unbuilt (option_map edit_of_segments o) ≡ gives new cs → IsCarried op t new cs
-    go None is e = absurd (cc)
-    go (Some ss) is e =
-        let k : AreGiven ss new cs = segments_give ss new cs e in
-        let text : cut_text c ≡ t = text_read t c read in
-        record {
-          cut = c;
-          read = read;
-          segments = ss;
-          way = is;
-          old_is = carrying_is.old op c ss (ap read_at text ∙ read) is ∙ text;
-          new_is = k.text;
-          size = subst (λ (x : List ℕ). length x ≤ text_limit) k.text k.size;
-          splices = k.splices;
-        }
+    go : (o : Option (List Segment)) → carrying op c ≡ o → old_text (or_stay c o) ≡ cut_text c
+    go None is = append-nil (cut_text c)
+    go (Some ss) is = carrying_is.old op c ss read is
+
+carried_at : (op : Operation) (t new : List ℕ) (cs : List Change) (c : Cut) → read_at t ≡ Some c → carry_one op c ≡ gives new cs → IsCarried op t new cs
+carried_at op t new cs c read h =
+    let ss : List Segment = or_stay c (carrying op c) in
+    let k : AreGiven ss new cs = segments_give ss new cs h in
+    let text : cut_text c ≡ t = text_read t c read in
+    record {
+      cut = c;
+      read = read;
+      segments = ss;
+      way = refl;
+      old_is = old_stays op c (ap read_at text ∙ read) ∙ text;
+      new_is = k.text;
+      size = subst (λ (x : List ℕ). length x ≤ text_limit) k.text k.size;
+      splices = k.splices;
+    }
 
 pub operation_carried : (op : Operation) (t new : List ℕ) (cs : List Change) → carried op t ≡ gives new cs → IsCarried op t new cs
 operation_carried op t new cs h = go (read_at t) refl h

@@ -7,10 +7,10 @@ use Rattle.yq_scalar.specs.Paths.{Step}
 use Rattle.yq_rows.specs.Grammar.{IsCut}
 use Rattle.yq_rows.specs.Rows.{rows_text, Cut, cut_text}
 use Rattle.yq_tree.specs.CollectionEnds.{CollectionEnd, collection_end}
-use Rattle.yq_tree.specs.MarkPlaces.{MarkPlace}
+use Rattle.yq_tree.specs.MarkPlaces.{MarkPlace, mark_place}
 use Rattle.yq_tree.specs.Reading.{all_documents, cut_of, read_at}
 use Rattle.yq_tree.proofs.ReadLaws.{text_again}
-use Rattle.yq_splice.specs.CollectionReplacing.{EndsIn, bare_mark}
+use Rattle.yq_splice.specs.CollectionReplacing.{EndsIn}
 use Rattle.yq_splice.proofs.CollectionReplaceLaws.{no_mark}
 use Rattle.yq_splice.proofs.CollectionRows.{node, rest_is, tail, there_is}
 use Rattle.yq_splice.proofs.NodeRowLaws.{NodeRows}
@@ -19,7 +19,7 @@ pub text_reads : (t : List ℕ) → IsUtf8 t → IsCut t (cut_of t) → all_docu
 unfolding read_at
 text_reads t u cut docs = ap read_at (sym cut.text) ∙ (cond-true _ _ _ (is_utf8-from_IsUtf8 t u) ∙ text_again t (cut_of t) cut docs)
 
-ends_in : (n : ℕ) (steps : List Step) (c : Cut) (w : MarkPlace) (x : CollectionEnd) → read_at (cut_text c) ≡ Some c → bare_mark n steps c ≡ Some w → collection_end n steps c ≡ Some x → EndsIn w.behind x.behind
+ends_in : (n : ℕ) (steps : List Step) (c : Cut) (w : MarkPlace) (x : CollectionEnd) → read_at (cut_text c) ≡ Some c → mark_place n steps c ≡ Some w → collection_end n steps c ≡ Some x → EndsIn w.behind x.behind
 ends_in n [] c w x read at ends = absurd (no_mark n c w at)
 ends_in n (s ∷ ss) c w x read at ends =
     let h : NodeRows n s ss c = node n s ss c w x read at ends in
@@ -34,6 +34,6 @@ rest_cuts t rest h u =
     subst (IsCharBoundary t) (sym count) (IsCharBoundary-at_seam t h.0 rest h.1 u)
 
 -- where the code finds both
-pub ends_there : (t : List ℕ) (n : ℕ) (steps : List Step) (w : MarkPlace) (x : CollectionEnd) → IsUtf8 t → IsCut t (cut_of t) → all_documents (cut_of t) ≡ true → Some w ≡ bare_mark n steps (cut_of t) → Some x ≡ collection_end n steps (cut_of t) →
+pub ends_there : (t : List ℕ) (n : ℕ) (steps : List Step) (w : MarkPlace) (x : CollectionEnd) → IsUtf8 t → IsCut t (cut_of t) → all_documents (cut_of t) ≡ true → Some w ≡ mark_place n steps (cut_of t) → Some x ≡ collection_end n steps (cut_of t) →
     EndsIn w.behind x.behind
 ends_there t n steps w x u cut docs at ends = ends_in n steps (cut_of t) w x (text_reads t u cut docs) (sym at) (sym ends)

@@ -9,12 +9,15 @@ use Rattle.yq_scalar.proofs.Bools.{bind_some}
 use Rattle.yq_inline.specs.Valued.{IsValueTree}
 use Rattle.yq_inline.proofs.WrittenLaws.{node_then}
 use Rattle.yq_lines.specs.Anchors.{names_of}
+use Rattle.yq_lines.specs.Comments as comments
 use Rattle.yq_lines.specs.Places.{content}
 use Rattle.yq_lines.proofs.Finding.{FoundNode, path_node}
 use Rattle.yq_rows.specs.Exchange.{row_front, with_content}
 use Rattle.yq_rows.specs.Grammar.{IsTail, is_entry}
 use Rattle.yq_rows.specs.Rows as rows
-use Rattle.yq_rows.specs.Rows.{Nothing, Row, mark_column, rows_text, Part, Cut, cut_text}
+use Rattle.yq_rows.specs.Rows.{Content, Row, content_text, mark_column, parent_indent, rows_text, Part, Cut, cut_text}
+use Rattle.yq_rows.specs.View.{slices}
+use Rattle.yq_rows.proofs.NodeExchange.{mark_apart}
 use Rattle.yq_rows.proofs.PlaceLaws.{row_front-append}
 use Rattle.yq_tree.specs.CollectionEnds.{CollectionEnd, collection_end}
 use Rattle.yq_tree.specs.CommentPlaces.{line_end}
@@ -31,7 +34,7 @@ use Rattle.yq_change.specs.Appends.{inserted}
 use Rattle.yq_change.specs.Changed.{put_document}
 use Rattle.yq_change.specs.SoundRoots.{IsNewValue, MayReplace}
 use Rattle.yq_change.specs.TextPieces.{IsPiece}
-use Rattle.yq_change.specs.Unders.{spaced}
+use Rattle.yq_change.proofs.CoreLaws.{put_core}
 use Rattle.yq_change.proofs.RemovalPieceLaws.{piece_back}
 use Rattle.yq_change.proofs.TextPieceLaws.{pieces_joined}
 use Rattle.yq_block.specs.declared.layout.Layout.{Layout}
@@ -46,7 +49,7 @@ use Rattle.yq_expr.specs.Fits.{Fits}
 use Rattle.yq_expr.specs.Operations.{Operation, replace, append, remove, line_comment, head_comment}
 use Rattle.yq_expr.specs.Rooms.{room_of}
 use Rattle.yq_splice.specs.BlockWriting.{below_mark, lines_below}
-use Rattle.yq_splice.specs.CollectionReplacing.{bare_mark, LinesUnder, Written, beside_mark, exchange_segments, lines_under, lines_upto, replace_collection_way, up_to, written_of, written_there}
+use Rattle.yq_splice.specs.CollectionReplacing.{LinesUnder, Written, beside_mark, exchange_segments, lines_under, lines_upto, replace_collection_way, up_to, written_of, written_there}
 use Rattle.yq_splice.specs.Done.{ArePieces}
 use Rattle.yq_splice.specs.Layouts.{layout_of}
 use Rattle.yq_splice.specs.Operands.{HasOperand}
@@ -56,12 +59,14 @@ use Rattle.yq_splice.specs.Ways.{IsWay, ReadsAfter}
 use Rattle.yq_splice.proofs.AppendPlaces.{kept_pieces}
 use Rattle.yq_splice.proofs.BlockWritingLaws.{filled_is}
 use Rattle.yq_splice.proofs.BreakLaws.{IsLfOrCrLf, last_is}
-use Rattle.yq_splice.proofs.BrokenTails.{broken_tail, broken_comment, broken_apart, quiet_tail}
-use Rattle.yq_splice.proofs.CollectionRows.{end_pieces, ended_comment, ended_tail, front_text, last_ends_line, node, nothing, pairs, parted, rest, tail, there, there_is, unnamed, behind_is}
+use Rattle.yq_splice.proofs.BrokenTails.{broken_tail, broken_comment, quiet_tail}
+use Rattle.yq_splice.proofs.CollectionRows.{alone_is, end_pieces, ended_tail, ended_comment, front_text, last_ends_line, node, own_anchor, pairs, parted, rest, tail, there, there_is, behind_is}
 use Rattle.yq_splice.proofs.CommentPieceLaws.{nothing as no_text, byte_then, break_piece, spaces_piece}
 use Rattle.yq_splice.proofs.DoneLaws.{nth_map}
 use Rattle.yq_splice.proofs.FitLaws.{new_value, inside_spared, near_keys, tree_unique}
 use Rattle.yq_splice.proofs.LayoutLaws.{mapping_least}
+use Rattle.yq_splice.proofs.MarkContentLaws.{anchor_left, left_anchor, left_apart, left_content, left_core_text, left_nothing, left_tail, left_text}
+use Rattle.yq_splice.proofs.MarkReplaceLaws.{tail_is}
 use Rattle.yq_splice.proofs.MarkRowLaws.{is_key}
 use Rattle.yq_splice.proofs.NodeRowLaws.{NodeRows, TakesNode, entry, node_reads, q_text}
 use Rattle.yq_splice.proofs.NodeRowLaws as rowed
@@ -72,13 +77,16 @@ use Rattle.yq_splice.proofs.SegmentLaws.{segments_readable}
 some_same : {A : Type 0} {x y : A} → Some x ≡ Some y → x ≡ y
 some_same e = cc
 
+three : (a b d r : List ℕ) → a ++ (b ++ (d ++ r)) ≡ ((a ++ b) ++ d) ++ r
+three a b d r = simp append_assoc refl
+
 -- columns under a key or dash
 same_below : (m : rows.Mark) (l : Layout) (v : Node) (n : ℕ) → is_entry m ≡ true → cond (is_key m) (n + Rattle.yq_block.specs.BlockRows.indent_step l v) (Rattle.yq_block.specs.BlockRows.item_column n) ≡ column_below l n (mark_key m) v
 same_below rows.Bare l v n e = absurd (false≢true e)
 same_below rows.Dash l v n e = refl
 same_below (rows.Key key colon) l v n e = refl
 
-module _ (doc : ℕ) (s : Step) (ss : List Step) (c : Cut) (w : MarkPlace) (x : CollectionEnd) (read : read_at (cut_text c) ≡ Some c) (at : bare_mark doc (s ∷ ss) c ≡ Some w) (ends : collection_end doc (s ∷ ss) c ≡ Some x) (v : Node) where
+module _ (doc : ℕ) (s : Step) (ss : List Step) (c : Cut) (w : MarkPlace) (x : CollectionEnd) (read : read_at (cut_text c) ≡ Some c) (at : mark_place doc (s ∷ ss) c ≡ Some w) (ends : collection_end doc (s ∷ ss) c ≡ Some x) (v : Node) where
   abbrev h : NodeRows doc s ss c
   h = node doc s ss c w x read at ends
 
@@ -88,7 +96,7 @@ module _ (doc : ℕ) (s : Step) (ss : List Step) (c : Cut) (w : MarkPlace) (x : 
   abbrev l : Layout
   l = layout_of doc c
 
-  abbrev t : IsTail (nothing doc s ss c w x read at ends).0 (rest doc s ss c w x read at ends)
+  abbrev t : IsTail (slices h.mark).tail (rest doc s ss c w x read at ends)
   t = tail doc s ss c w x read at ends
 
   abbrev u : LinesUnder
@@ -125,8 +133,25 @@ module _ (doc : ℕ) (s : Step) (ss : List Step) (c : Cut) (w : MarkPlace) (x : 
   abbrev last_tail : IsTail last z
   last_tail = record { white = []; comment = []; line = record { break = last; spelled = refl; blank = tt; remark = tt; ends = last_ends_line doc s ss c w x read at ends }; apart = refl }
 
-  own_tail : tail_of h.mark.content ≡ (nothing doc s ss c w x read at ends).0
-  own_tail = ap tail_of (nothing doc s ss c w x read at ends).1
+  own_tail : (slices h.mark).tail ≡ tail_of h.mark.content
+  own_tail = tail_is h.mark.content
+
+  -- what stays behind the key or dash, where nothing but perhaps an anchor stood
+  abbrev left : List ℕ → Content
+  left tail = anchor_left h.mark.content tail
+
+  holding : (tail more : List ℕ) → IsTail tail more → comments.line_comment tail ≡ comments.line_comment (slices h.mark).tail → IsHolding doc s ss c h (anchor_left h.mark.content tail) more
+  holding tail more is same =
+      let was = (rowed.rows_there doc s ss c h).0 in
+      let block = (alone_is doc s ss c w x read at ends).block in
+      record {
+        holds = left_nothing h.mark.content tail;
+        stands = left_content (parent_indent h.mark) h.mark.content (rest doc s ss c w x read at ends) tail more block was.content is;
+        apart = left_apart (parent_indent h.mark) h.mark.content (rest doc s ss c w x read at ends) tail more block was.content
+            (mark_apart h.mark.mark h.mark.content (rest doc s ss c w x read at ends) (entry doc s ss c h) was.mark) is;
+        comment = ap comments.line_comment (left_tail h.mark.content tail) ∙ (same ∙ ap comments.line_comment own_tail);
+        anchor = left_anchor h.mark.content tail block ∙ sym (own_anchor doc s ss c w x read at ends);
+      }
 
   -- a text for which the document is known reads, where it may be read
   reads_as : (new : List Row) → TakesNode doc s ss c h v new → (y : Written) → MayReplace v (content h.found.line h.found.under) (root_of h.p) (length (s ∷ ss)) → h.start ++ (rows_text h.front [] ++ rows_text new z) ≡ new_text (exchange_segments u y) →
@@ -147,17 +172,16 @@ module _ (doc : ℕ) (s : Step) (ss : List Step) (c : Cut) (w : MarkPlace) (x : 
     abbrev held : List ℕ
     held = t.white ++ (t.comment ++ break_text l.br)
 
-    holding : IsHolding doc s ss c h (Nothing held)
-    holding = record {
-      holds = refl;
-      stands = broken_tail (nothing doc s ss c w x read at ends).0 (rest doc s ss c w x read at ends) t l.br (pairs doc s ss c w x read at ends);
-      apart = broken_apart (nothing doc s ss c w x read at ends).0 (rest doc s ss c w x read at ends) t l.br (pairs doc s ss c w x read at ends);
-      comment = broken_comment (nothing doc s ss c w x read at ends).0 (rest doc s ss c w x read at ends) t l.br (pairs doc s ss c w x read at ends) ∙ ap Rattle.yq_lines.specs.Comments.line_comment (sym own_tail);
-      anchor = sym (unnamed doc s ss c w x read at ends);
-    }
+    abbrev value_rows : List Row
+    value_rows = node_rows l (column_below l (mark_column h.mark) (mark_key h.mark.mark) v) last v
+
+    held_is : IsHolding doc s ss c h (anchor_left h.mark.content held) (rows_text value_rows z)
+    held_is =
+        holding held (rows_text value_rows z) (broken_tail (slices h.mark).tail (rest doc s ss c w x read at ends) t l.br (pairs doc s ss c w x read at ends) (rows_text value_rows z))
+        (broken_comment (slices h.mark).tail (rest doc s ss c w x read at ends) t l.br (pairs doc s ss c w x read at ends))
 
     abbrev new : List Row
-    new = rows_under doc s ss c h l (mapping_least doc c) v filled near (Nothing held) holding last (end_is doc s ss c h last last_tail) (quiet_tail last z last_tail refl)
+    new = rows_under doc s ss c h l (mapping_least doc c) v filled near (left held) last held_is (end_is doc s ss c h last last_tail) (quiet_tail last z last_tail refl)
 
     below_is : below ≡ column_below l (mark_column h.mark) (mark_key h.mark.mark) v
     below_is = same_below h.mark.mark l v (mark_column h.mark) (entry doc s ss c h)
@@ -168,11 +192,15 @@ module _ (doc : ℕ) (s : Step) (ss : List Step) (c : Cut) (w : MarkPlace) (x : 
         let b : List ℕ = rows_text h.front [] in
         let d : List ℕ = row_front h.mark in
         let k : ℕ = column_below l (mark_column h.mark) (mark_key h.mark.mark) v in
-        let parts : a ++ (b ++ (d ++ ((t.white ++ (t.comment ++ break_text l.br)) ++ (replicate k 32 ++ (block_value l k v ++ (last ++ x.behind)))))) ≡ ((a ++ b) ++ d) ++ (t.white ++ (t.comment ++ ((break_text l.br ++ (replicate k 32 ++ block_value l k v)) ++ (last ++ (x.behind ++ []))))) =
+        let block = (alone_is doc s ss c w x read at ends).block in
+        let parts : front ++ ((t.white ++ (t.comment ++ break_text l.br)) ++ (replicate k 32 ++ (block_value l k v ++ (last ++ x.behind)))) ≡ front ++ (t.white ++ (t.comment ++ ((break_text l.br ++ (replicate k 32 ++ block_value l k v)) ++ (last ++ (x.behind ++ []))))) =
         simp (append_assoc, append-nil) refl in
-        ap (λ r. a ++ (b ++ r)) (row_front-append (with_content (Nothing held) h.mark) (rows_text (node_rows l k last v) z) ∙ ap (λ r. d ++ (held ++ r)) (value_spelled v l k last z filled.filled filled.value))
-        ∙ (ap (λ r. a ++ (b ++ (d ++ (held ++ (replicate k 32 ++ (block_value l k v ++ (last ++ r))))))) (sym (behind_is doc s ss c w x read at ends))
-        ∙ (parts ∙ ap (λ n. ((a ++ b) ++ d) ++ (t.white ++ (t.comment ++ (lines_below l n v ++ (last ++ (x.behind ++ [])))))) (sym below_is)))
+        ap (λ r. a ++ (b ++ r)) (row_front-append (with_content (left held) h.mark) (rows_text value_rows z))
+        ∙ (three a b d (content_text (left held) (rows_text value_rows z))
+        ∙ (left_text ((a ++ b) ++ d) h.mark.content held (rows_text value_rows z) block
+        ∙ (ap (λ r. front ++ (held ++ r)) (value_spelled v l k last z filled.filled filled.value)
+        ∙ (ap (λ r. front ++ (held ++ (replicate k 32 ++ (block_value l k v ++ (last ++ r))))) (sym (behind_is doc s ss c w x read at ends))
+        ∙ (parts ∙ ap (λ n. front ++ (t.white ++ (t.comment ++ (lines_below l n v ++ (last ++ (x.behind ++ [])))))) (sym below_is))))))
 
     lines_piece : IsPiece (lines_below l below v)
     lines_piece =
@@ -181,7 +209,7 @@ module _ (doc : ℕ) (s : Step) (ss : List Step) (c : Cut) (w : MarkPlace) (x : 
 
     pub lines_read : length (new_text (exchange_segments u y)) ≤ text_limit → ReadsAfter op c (new_text (exchange_segments u y))
     lines_read =
-        reads_as new (takes_under doc s ss c h l (mapping_least doc c) v filled near (Nothing held) holding last (end_is doc s ss c h last last_tail) (quiet_tail last z last_tail refl)) y may lines_text no_text lines_piece
+        reads_as new (takes_under doc s ss c h l (mapping_least doc c) v filled near (left held) last held_is (end_is doc s ss c h last last_tail) (quiet_tail last z last_tail refl)) y may lines_text no_text lines_piece
 
   -- ---- a text behind it
 
@@ -190,28 +218,31 @@ module _ (doc : ℕ) (s : Step) (ss : List Step) (c : Cut) (w : MarkPlace) (x : 
     held_text = t.white ++ (t.comment ++ last)
 
     beside_tail : IsTail held_text z
-    beside_tail = ended_tail (nothing doc s ss c w x read at ends).0 (rest doc s ss c w x read at ends) t (pairs doc s ss c w x read at ends) last z (last_ends_line doc s ss c w x read at ends)
+    beside_tail = ended_tail (slices h.mark).tail (rest doc s ss c w x read at ends) t (pairs doc s ss c w x read at ends) last z (last_ends_line doc s ss c w x read at ends)
 
-    beside_comment : Rattle.yq_lines.specs.Comments.line_comment held_text ≡ Rattle.yq_lines.specs.Comments.line_comment (tail_of h.mark.content)
-    beside_comment =
-        ended_comment (nothing doc s ss c w x read at ends).0 (rest doc s ss c w x read at ends) t (pairs doc s ss c w x read at ends) last z (last_ends_line doc s ss c w x read at ends)
-        ∙ ap Rattle.yq_lines.specs.Comments.line_comment (sym own_tail)
+    beside_held : IsHolding doc s ss c h (anchor_left h.mark.content held_text) z
+    beside_held =
+        holding held_text z beside_tail
+        (ended_comment (slices h.mark).tail (rest doc s ss c w x read at ends) t (pairs doc s ss c w x read at ends) last z (last_ends_line doc s ss c w x read at ends))
 
     abbrev beside_rows : List Row
-    beside_rows = rows_beside doc s ss c h v for.node for.is (unnamed doc s ss c w x read at ends) held_text (end_is doc s ss c h held_text beside_tail) beside_comment
+    beside_rows = rows_beside doc s ss c h v for.node for.is (left held_text) beside_held
 
     beside_text : h.start ++ (rows_text h.front [] ++ rows_text beside_rows z) ≡ new_text (exchange_segments u (beside_mark text))
     beside_text =
         let a : List ℕ = h.start in
         let b : List ℕ = rows_text h.front [] in
         let d : List ℕ = row_front h.mark in
-        let parts : a ++ (b ++ (d ++ (32 ∷ (text ++ ((t.white ++ (t.comment ++ last)) ++ x.behind))))) ≡ ((a ++ b) ++ d) ++ ((32 ∷ text) ++ (t.white ++ (t.comment ++ (last ++ (x.behind ++ []))))) = simp (append_assoc, append-nil) refl in
-        ap (λ r. a ++ (b ++ r)) (row_front-append (with_content (spaced for.node held_text) h.mark) z ∙ ap (λ r. d ++ (32 ∷ r)) (node_then for.node (held_text ++ z) ∙ ap (λ r. r ++ (held_text ++ z)) for.text))
-        ∙ (ap (λ r. a ++ (b ++ (d ++ (32 ∷ (text ++ (held_text ++ r)))))) (sym (behind_is doc s ss c w x read at ends)) ∙ parts)
+        let parts : front ++ (32 ∷ (text ++ ((t.white ++ (t.comment ++ last)) ++ x.behind))) ≡ front ++ ((32 ∷ text) ++ (t.white ++ (t.comment ++ (last ++ (x.behind ++ []))))) = simp (append_assoc, append-nil) refl in
+        ap (λ r. a ++ (b ++ r)) (row_front-append (with_content (put_core for.node (left held_text)) h.mark) z)
+        ∙ (three a b d (content_text (put_core for.node (left held_text)) z)
+        ∙ (left_core_text ((a ++ b) ++ d) for.node h.mark.content held_text z (alone_is doc s ss c w x read at ends).block
+        ∙ (ap (λ r. front ++ (32 ∷ r)) (node_then for.node (held_text ++ z) ∙ ap (λ r. r ++ (held_text ++ z)) for.text)
+        ∙ (ap (λ r. front ++ (32 ∷ (text ++ (held_text ++ r)))) (sym (behind_is doc s ss c w x read at ends)) ∙ parts))))
 
     pub beside_reads : length (new_text (exchange_segments u (beside_mark text))) ≤ text_limit → ReadsAfter op c (new_text (exchange_segments u (beside_mark text)))
     beside_reads =
-        reads_as beside_rows (takes_beside doc s ss c h v for.node for.is (unnamed doc s ss c w x read at ends) held_text (end_is doc s ss c h held_text beside_tail) beside_comment) (beside_mark text) may beside_text
+        reads_as beside_rows (takes_beside doc s ss c h v for.node for.is (left held_text) beside_held) (beside_mark text) may beside_text
         (byte_then 32 text refl for.piece) no_text
 
 -- ---- the way
@@ -222,7 +253,7 @@ pub record IsCollectionWay (doc : ℕ) (steps : List Step) (v : Node) (c : Cut) 
   pub ss : List Step
   pub steps_are : steps ≡ s ∷ ss
   pub w : MarkPlace
-  pub at : bare_mark doc (s ∷ ss) c ≡ Some w
+  pub at : mark_place doc (s ∷ ss) c ≡ Some w
   pub x : CollectionEnd
   pub ends : collection_end doc (s ∷ ss) c ≡ Some x
   pub y : Written
@@ -230,10 +261,9 @@ pub record IsCollectionWay (doc : ℕ) (steps : List Step) (v : Node) (c : Cut) 
   pub are : exchange_segments (lines_upto w x) y ≡ us
 
 -- a root has no key or dash
-pub no_mark : (doc : ℕ) (c : Cut) (w : MarkPlace) → bare_mark doc [] c ≡ Some w → ⊥
+pub no_mark : (doc : ℕ) (c : Cut) (w : MarkPlace) → mark_place doc [] c ≡ Some w → ⊥
 no_mark doc c w e =
-    let m = bind_some (mark_place doc [] c) e in
-    let ends = bind_some (line_end doc [] c) m.1 in
+    let ends = bind_some (line_end doc [] c) e in
     let y = bind_some (row_of_path doc [] c) ends.1 in
     none_some (Rattle.yq_splice.proofs.CommentRowLaws.row_found doc [] c y.0 y.1).seat_is
 
@@ -241,12 +271,12 @@ collection_way : (doc : ℕ) (steps : List Step) (v : Node) (c : Cut) (us : List
 unfolding replace_collection_way
 collection_way doc steps v c us e =
     let b = bind_some (lines_under doc steps c) e in
-    let m = bind_some (bare_mark doc steps c) b.1 in
+    let m = bind_some (mark_place doc steps c) b.1 in
     let x = map_some (collection_end doc steps c) m.2 in
     let y = map_some (written_there (layout_of doc c) v b.0.mark) b.2 in
     by steps m.0 m.1 x.0 x.1 y.0 (subst (λ (q : LinesUnder). written_there (layout_of doc c) v q.mark ≡ Some y.0) (sym x.2) y.1) (subst (λ (q : LinesUnder). exchange_segments q y.0 ≡ us) (sym x.2) y.2)
   where
-    by : (steps : List Step) (w : MarkPlace) → bare_mark doc steps c ≡ Some w → (x : CollectionEnd) → collection_end doc steps c ≡ Some x → (y : Written) → written_there (layout_of doc c) v w ≡ Some y → exchange_segments (lines_upto w x) y ≡ us →
+    by : (steps : List Step) (w : MarkPlace) → mark_place doc steps c ≡ Some w → (x : CollectionEnd) → collection_end doc steps c ≡ Some x → (y : Written) → written_there (layout_of doc c) v w ≡ Some y → exchange_segments (lines_upto w x) y ≡ us →
         IsCollectionWay doc steps v c us
     by [] w at x ends y written are = absurd (no_mark doc c w at)
     by (s ∷ ss) w at x ends y written are = record { s = s; ss = ss; steps_are = refl; w = w; at = at; x = x; ends = ends; y = y; written = written; are = are }
@@ -260,7 +290,7 @@ collection_old doc steps v c us read e =
 same_document : {d g : Document} → Some d ≡ Some g → d ≡ g
 same_document h = cc
 
-reads_there : (doc : ℕ) (s : Step) (ss : List Step) (v : Node) (c : Cut) (w : MarkPlace) (x : CollectionEnd) (y : Written) → read_at (cut_text c) ≡ Some c → bare_mark doc (s ∷ ss) c ≡ Some w → collection_end doc (s ∷ ss) c ≡ Some x →
+reads_there : (doc : ℕ) (s : Step) (ss : List Step) (v : Node) (c : Cut) (w : MarkPlace) (x : CollectionEnd) (y : Written) → read_at (cut_text c) ≡ Some c → mark_place doc (s ∷ ss) c ≡ Some w → collection_end doc (s ∷ ss) c ≡ Some x →
     written_there (layout_of doc c) v w ≡ Some y → IsValueTree v → Fits (room_of (cut_text c)) (replace doc (s ∷ ss) v) (documents c) → length (new_text (exchange_segments (lines_upto w x) y)) ≤ text_limit →
     ReadsAfter (replace doc (s ∷ ss) v) c (new_text (exchange_segments (lines_upto w x) y))
 reads_there doc s ss v c w x y read at ends written value_tree fits =

@@ -1,14 +1,12 @@
 -- The rows of a block collection under a key or dash, and the text round them.
-use Rattle.std.proofs.Common.{◌≡◌, ◌⊎◌, inl, inr, ℕ, ℤ, suc, ◌+◌, ◌-◌, ◌<◌, not, Bool, true, false, cond, ◌&&◌, List, [], ◌∷◌, ◌++◌, length, take, drop, Option, Some, None, option_map, refl, sym, ap, ◌∙◌, subst, arith, append_assoc, append-nil, length-append}
+use Rattle.std.proofs.Common.{◌≡◌, ◌⊎◌, inl, inr, ℕ, suc, ◌+◌, ◌-◌, ◌<◌, not, true, false, ◌&&◌, List, [], ◌∷◌, ◌++◌, length, take, drop, Option, Some, None, option_map, refl, sym, ap, ◌∙◌, subst, arith, append_assoc, append-nil, length-append}
 use Rattle.std.proofs.Math.Seq.{take-append_seam}
 use Rattle.std.proofs.lemmas.Bool.{false≢true}
 use Rattle.yq_scalar.specs.Characters.{pairs_returns}
-use Rattle.yq_scalar.specs.Answers.{◌>>=◌}
 use Rattle.yq_scalar.specs.Paths.{Step}
 use Rattle.yq_scalar.specs.Text.{is_break, is_empty, is_line}
 use Rattle.yq_scalar.proofs.Bools.{and_true, bind_some}
 use Rattle.yq_scalar.proofs.BlockPieceLaws.{IsLf}
-use Rattle.yq_inline.specs.Nodes as inline
 use Rattle.yq_lines.specs.Comments.{line_comment}
 use Rattle.yq_lines.specs.Outline as outline
 use Rattle.yq_lines.specs.Group.{level_or}
@@ -16,25 +14,26 @@ use Rattle.yq_lines.specs.Outline.{Line, Outline, flatten, IsEven, anchored, val
 use Rattle.yq_lines.specs.Places.{lines_before, Found, content}
 use Rattle.yq_rows.specs.Exchange.{row_front}
 use Rattle.yq_rows.specs.Gap.{IsBreak, IsComment}
-use Rattle.yq_rows.specs.Grammar.{unlimited, AreRows, IsContent, IsRow, IsTail, is_entry, no_rows, limit_after}
-use Rattle.yq_rows.specs.Rows.{Content, Nothing, Inline, Block, content_text, Row, mark_column, parent_indent, print_row, rows_text, Part, part_text, Cut, cut_text}
-use Rattle.yq_rows.specs.View.{content_cut, slices}
+use Rattle.yq_rows.specs.Grammar.{unlimited, AreRows, IsRow, IsTail, is_entry, no_rows, limit_after}
+use Rattle.yq_rows.specs.Rows.{Row, mark_column, parent_indent, print_row, rows_text, Part, part_text, Cut, cut_text}
+use Rattle.yq_rows.specs.View.{slices}
 use Rattle.yq_rows.proofs.CharacterLaws.{pairs_back}
-use Rattle.yq_rows.proofs.PlaceLaws.{row_front-append}
 use Rattle.yq_rows.proofs.seams.FrontSeams.{rows_some}
 use Rattle.yq_rows.proofs.seams.SeamLaws.{rows_text-append}
 use Rattle.yq_tree.specs.CollectionEnds.{CollectionEnd, collection_end}
 use Rattle.yq_tree.specs.CommentPlaces.{LineEnd, end_before, end_of_line, line_end, line_text}
 use Rattle.yq_tree.specs.Lines.{content_anchor, head_of, lines_of, row_lines}
-use Rattle.yq_tree.specs.MarkPlaces.{MarkPlace, behind_anchor, column_of, mark_at, mark_in, mark_place, upto_anchor}
+use Rattle.yq_tree.specs.MarkPlaces.{MarkPlace, behind_anchor, behind_mark, column_of, mark_at, mark_in, mark_place, upto_anchor}
 use Rattle.yq_tree.specs.Nodes.{anchor_of}
 use Rattle.yq_tree.specs.PlacedRows.{PlacedRow, placed_row, row_of_path}
 use Rattle.yq_tree.specs.PrintedLines.{last_break}
 use Rattle.yq_tree.specs.Reading.{outline_of, read_at}
+use Rattle.yq_tree.proofs.CommentEndLaws.{row_line}
 use Rattle.yq_tree.proofs.CommentPieceLaws.{Ended}
 use Rattle.yq_tree.proofs.LastBreakLaws.{lf_last}
 use Rattle.yq_tree.proofs.LineEndLaws.{end_of_tail, line_tail, tail_is_end}
-use Rattle.yq_tree.proofs.PrintedTexts.{map_some, none_some}
+use Rattle.yq_tree.proofs.MarkLaws.{mark_seam}
+use Rattle.yq_tree.proofs.PrintedTexts.{map_some}
 use Rattle.yq_change.specs.CollectionPlaces.{IsCollectionEnd}
 use Rattle.yq_change.specs.DocumentRows.{IsDocumentPart, behind_document}
 use Rattle.yq_change.specs.Siblings.{HasEntries, NodeLines, under_line}
@@ -52,12 +51,13 @@ use Rattle.yq_change.proofs.TextPieceLaws.{text_is_piece}
 use Rattle.yq_change.proofs.UnderLaws.{is_mark, line_is}
 use Rattle.yq_change.proofs.PartLaws.{document_known}
 use Rattle.yq_block.specs.BlockPlaces.{at_mark}
-use Rattle.yq_splice.specs.CollectionReplacing.{bare_mark, up_to}
+use Rattle.yq_splice.specs.CollectionReplacing.{up_to}
 use Rattle.yq_splice.proofs.BreakLaws.{IsLfOrCrLf, break_is, last_is}
 use Rattle.yq_splice.proofs.BrokenTails.{comment_other}
 use Rattle.yq_splice.proofs.CommentRowLaws.{count_front, found_text, IsFound, line_whole, row_found}
 use Rattle.yq_splice.proofs.LineCommentLaws.{HasPieces, pieces}
-use Rattle.yq_splice.proofs.MarkRowLaws.{end_there, indent_column, is_key, keyed_is, line_found}
+use Rattle.yq_splice.proofs.MarkContentLaws.{IsAlone, alone_there}
+use Rattle.yq_splice.proofs.MarkRowLaws.{end_there, indent_column, is_key, keyed_is, line_found, no_raw}
 use Rattle.yq_splice.proofs.NodeRowLaws.{NodeRows, rows_there}
 
 -- ---- rows among rows
@@ -78,17 +78,7 @@ rows_reach (x ∷ xs) a az (y ∷ ys) bz e n =
     let w = rows_reach xs a az ys bz (tail_same e) (omega (arith, n, one, length-append (row_lines x) (lines_of xs), length-append (row_lines y) (lines_of ys))) in
     (w.0, (λ i. sym (head_same e) i ∷ w.1 i), w.2)
 
--- ---- what is written behind the mark
-
--- nothing is, where there is neither a head nor an anchor
-nothing_there : (n : ℤ) (x : Content) (rest : List ℕ) → IsContent n x rest → head_of x ≡ None → is_empty (content_cut x).1 ≡ true → (t : List ℕ) × (x ≡ Nothing t)
-nothing_there n (Nothing z) rest h e k = (z, refl)
-nothing_there n (Inline space inline.empty z) rest h e k = absurd (false≢true h.1.something)
-nothing_there n (Inline space (inline.alias m) z) rest h e k = absurd (none_some (sym e))
-nothing_there n (Inline space (inline.scalar p) z) rest h e k = absurd (none_some (sym e))
-nothing_there n (Inline space (inline.coll c g is) z) rest h e k = absurd (none_some (sym e))
-nothing_there n (Inline space (inline.anchored m g node) z) rest h e k = absurd (false≢true k)
-nothing_there n (Block space anchor block) rest h e k = absurd (none_some (sym e))
+-- ---- lines under a mark
 
 -- a block collection has no anchor of its own
 pub value_unnamed : (o : Outline) → HasEntries o → (a : Option (List ℕ)) → anchor_of (anchored a (value o)) ≡ a
@@ -151,6 +141,9 @@ last_ends own rest (inr none) = go (last_is own)
     go (inl e) = inr (e, none)
     go (inr b) = inl (some_break (last_break own) b)
 
+regroup : (p l w k b m : List ℕ) → p ++ (l ++ ((w ++ (k ++ b)) ++ m)) ≡ (p ++ (l ++ (w ++ k))) ++ (b ++ m)
+regroup p l w k b m = simp append_assoc refl
+
 pub front_of : (t a b : List ℕ) → t ≡ a ++ b → up_to t b ≡ a
 front_of t a b e = let n : length t - length b ≡ length a = omega (arith, ap length e, length-append a b) in (λ i. take (n i) (e i)) ∙ take-append_seam a b
 
@@ -185,23 +178,12 @@ module _ (tail more : List ℕ) (h : IsTail tail more) (pairs : pairs_returns (t
 
 -- ---- the place
 
-module _ (doc : ℕ) (s : Step) (ss : List Step) (c : Cut) (w : MarkPlace) (x : CollectionEnd) (read : read_at (cut_text c) ≡ Some c) (at : bare_mark doc (s ∷ ss) c ≡ Some w) (ends : collection_end doc (s ∷ ss) c ≡ Some x) where
+module _ (doc : ℕ) (s : Step) (ss : List Step) (c : Cut) (w : MarkPlace) (x : CollectionEnd) (read : read_at (cut_text c) ≡ Some c) (at : mark_place doc (s ∷ ss) c ≡ Some w) (ends : collection_end doc (s ∷ ss) c ≡ Some x) where
   abbrev pub z : List ℕ
   z = behind_document doc c
 
-  mark_there : (mark_place doc (s ∷ ss) c ≡ Some w) × (w.named ≡ false)
-  mark_there = let m = bind_some (mark_place doc (s ∷ ss) c) at in let g = guard_not m.0.named m.2 in (m.1 ∙ g.1, ap (λ (o : Option MarkPlace). named_of o) (sym g.1) ∙ g.0)
-    where
-      named_of : Option MarkPlace → Bool
-      named_of None = false
-      named_of (Some q) = q.named
-
-      guard_not : {x y : MarkPlace} (b : Bool) → cond b None (Some x) ≡ Some y → (b ≡ false) × (Some x ≡ Some y)
-      guard_not true h = absurd (none_some h)
-      guard_not false h = (refl, h)
-
   pub line_there : (e : LineEnd) × (line_end doc (s ∷ ss) c ≡ Some e) × (option_map (mark_in e) (row_of_path doc (s ∷ ss) c) ≡ Some w)
-  line_there = bind_some (line_end doc (s ∷ ss) c) mark_there.0
+  line_there = bind_some (line_end doc (s ∷ ss) c) at
 
   abbrev pub e : LineEnd
   e = line_there.0
@@ -298,40 +280,31 @@ module _ (doc : ℕ) (s : Step) (ss : List Step) (c : Cut) (w : MarkPlace) (x : 
     put = λ q. f.stands.put q ∙ ap (λ t. f.s.before ++ part_text q t) (sym f.stands.behind);
   }
 
-  -- nothing is written behind the key or dash
+  -- nothing but perhaps an anchor is written behind the key or dash
   told_mark : mark_at ((placed_row f.s f.x).before ++ row_front row) (slices row) line_there.0 ≡ w
   told_mark = ap (λ (q : PlacedRow). mark_in line_there.0 q) f.is ∙ row_there.2
-
-  bare : is_empty (slices row).anchor ≡ true
-  bare = not_false (is_empty (slices row).anchor) (ap (λ (q : MarkPlace). q.named) told_mark ∙ mark_there.1)
-    where
-      not_false : (b : Bool) → not b ≡ false → b ≡ true
-      not_false true e = refl
-      not_false false e = absurd (false≢true (sym e))
 
   head_none : head_of row.content ≡ None
   head_none = ap (λ (l : Line). l.head) (line_is f.s.part s ss front row reach.0 col.back has even) ∙ un.open'
 
-  pub nothing : (t : List ℕ) × (f.x.row.content ≡ Nothing t)
-  nothing =
-      nothing_there (parent_indent row) row.content (rows_text (reach.0 ++ col.back) (f.s.part.end ++ behind_document doc c)) (rows_there doc s ss c node).0.content head_none
-      bare
+  pub alone_is : IsAlone f.x.row.content
+  alone_is = alone_there (parent_indent row) row.content (rows_text (reach.0 ++ col.back) (f.s.part.end ++ behind_document doc c)) (rows_there doc s ss c node).0.content head_none
 
-  pub unnamed : anchor_of (content un.found.line un.found.under) ≡ None
-  unnamed =
+  raw : (slices f.x.row).raw ≡ []
+  raw = no_raw row.content alone_is.block
+
+  pub own_anchor : anchor_of (content un.found.line un.found.under) ≡ content_anchor f.x.row.content
+  own_anchor =
       (λ i. anchor_of (anchored un.found.line.anchor (head_or (un.open' i) (value un.found.under))))
-      ∙ (value_unnamed un.found.under block un.found.line.anchor ∙ (ap (λ (l : Line). l.anchor) (sym (line_is f.s.part s ss front row reach.0 col.back has even)) ∙ ap content_anchor nothing.1))
+      ∙ (value_unnamed un.found.under block un.found.line.anchor ∙ ap (λ (l : Line). l.anchor) (sym (line_is f.s.part s ss front row reach.0 col.back has even)))
 
   -- ---- the text behind the key or dash
-
-  abbrev pub t : List ℕ
-  t = nothing.0
 
   abbrev pub rest : List ℕ
   rest = rows_text (reach.0 ++ col.back) (f.s.part.end ++ behind_document doc c)
 
-  pub tail : IsTail nothing.0 (rows_text (reach.0 ++ col.back) (f.s.part.end ++ behind_document doc c))
-  tail = subst (λ (q : Content). IsContent (parent_indent row) q (rows_text (reach.0 ++ col.back) (f.s.part.end ++ behind_document doc c))) nothing.1 (rows_there doc s ss c node).0.content
+  pub tail : IsTail (slices f.x.row).tail (rows_text (reach.0 ++ col.back) (f.s.part.end ++ behind_document doc c))
+  tail = subst (λ q. IsTail (slices row).tail (q ++ rest)) raw (line_tail (parent_indent row) row.content rest (rows_there doc s ss c node).0.content)
 
   -- the lines of the collection, and what is behind them
   pub rest_is : rows_text (reach.0 ++ col.back) (f.s.part.end ++ behind_document doc c) ≡ rows_text reach.0 [] ++ x.behind
@@ -347,35 +320,34 @@ module _ (doc : ℕ) (s : Step) (ss : List Step) (c : Cut) (w : MarkPlace) (x : 
 
   -- the place, by the pieces of the row
   abbrev pub front_text : List ℕ
-  front_text = (f.s.before ++ rows_text front []) ++ row_front row
+  front_text = upto_anchor ((f.s.before ++ rows_text front []) ++ row_front row) (slices row)
 
   front_is : (placed_row f.s f.x).before ++ line_text row ≡ front_text
-  front_is = ap (λ l. (placed_row f.s f.x).before ++ l) (ap (λ (q : Content). let a = content_cut q in row_front row ++ (a.0 ++ (a.1 ++ (a.2 ++ a.3)))) nothing.1 ∙ append-nil (row_front row))
+  front_is =
+      let before : List ℕ = (placed_row f.s f.x).before in
+      sym (append_assoc before (row_front row) (behind_mark (slices row)))
+      ∙ (sym (mark_seam (before ++ row_front row) (slices row)) ∙ (ap (λ l. front_text ++ l) alone_is.gone ∙ append-nil front_text))
 
-  more_is : (slices row).tail ++ ((slices row).raw ++ (placed_row f.s f.x).behind) ≡ nothing.0 ++ rest
-  more_is =
-      (λ i. let a = content_cut (nothing.1 i) in a.4 ++ (a.5 ++ rows_text backs (f.s.part.end ++ f.s.behind)))
-      ∙ (λ i. nothing.0 ++ rows_text (reach.2 i) (f.s.part.end ++ sym f.stands.behind i))
+  more_is : (slices row).tail ++ ((slices row).raw ++ (placed_row f.s f.x).behind) ≡ (slices row).tail ++ rest
+  more_is = λ i. (slices row).tail ++ (raw i ++ rows_text (reach.2 i) (f.s.part.end ++ sym f.stands.behind i))
 
-  end_is : line_there.0 ≡ end_of_tail front_text nothing.0 rest tail
+  end_is : line_there.0 ≡ end_of_tail front_text (slices row).tail rest tail
   end_is =
       sym ends_there.1
-      ∙ (sym (ap end_of_line f.is) ∙ ((λ i. end_before (front_is i) (more_is i)) ∙ tail_is_end front_text nothing.0 rest tail))
+      ∙ (sym (ap end_of_line f.is) ∙ ((λ i. end_before (front_is i) (more_is i)) ∙ tail_is_end front_text (slices row).tail rest tail))
 
   abbrev pub there : MarkPlace
-  there = record { before = front_text; gone = []; white = tail.white; comment = tail.comment; behind = tail.line.break ++ rest; column = mark_column row; keyed = is_key row.mark; named = false }
+  there = record { before = front_text; gone = []; white = tail.white; comment = tail.comment; behind = tail.line.break ++ rest; column = mark_column row; keyed = is_key row.mark; named = not (is_empty (slices row).anchor) }
 
   entry_is : is_entry row.mark ≡ true
   entry_is = is_mark f.s.part s ss front row reach.0 col.back has even
 
   pub there_is : there ≡ w
   there_is =
-      let before : front_text ≡ upto_anchor front_text (slices row) = ap (λ (q : Content). let a = content_cut q in cond (is_empty a.1) front_text (front_text ++ (a.0 ++ a.1))) (sym nothing.1) in
-      let gone : [] ≡ behind_anchor (slices row) = ap (λ (q : Content). let a = content_cut q in cond (is_empty a.1) (a.0 ++ (a.2 ++ a.3)) (a.2 ++ a.3)) (sym nothing.1) in
-      let named : false ≡ not (is_empty (slices row).anchor) = ap (λ (q : Content). not (is_empty (content_cut q).1)) (sym nothing.1) in
+      let gone : [] ≡ behind_anchor (slices row) = sym alone_is.gone in
       let column : mark_column row ≡ column_of (slices row).parent = sym (indent_column row.mark (mark_column row) entry_is) in
       let keyed : is_key row.mark ≡ not (is_empty (slices row).colon) = sym (keyed_is row.mark row.content (rows_text (reach.0 ++ col.back) (f.s.part.end ++ behind_document doc c)) (rows_there doc s ss c node).0.mark) in
-      (λ i. record { before = before i; gone = gone i; white = (sym end_is i).white; comment = (sym end_is i).comment; behind = (sym end_is i).behind; column = column i; keyed = keyed i; named = named i })
+      (λ i. record { before = front_text; gone = gone i; white = (sym end_is i).white; comment = (sym end_is i).comment; behind = (sym end_is i).behind; column = column i; keyed = keyed i; named = not (is_empty (slices row).anchor) })
       ∙ told_mark
 
   -- ---- the lines that go
@@ -409,15 +381,14 @@ module _ (doc : ℕ) (s : Step) (ss : List Step) (c : Cut) (w : MarkPlace) (x : 
       go (inr e) = ap (λ b. is_empty (b ++ rows_text reach.0 [])) e
 
   -- the text up to the end of the collection
-  upto_text : rows_text col.front [] ≡ (rows_text front [] ++ (row_front row ++ (tail.white ++ tail.comment))) ++ (tail.line.break ++ rows_text reach.0 [])
+  upto_text : rows_text col.front [] ≡ (rows_text front [] ++ (line_text row ++ (tail.white ++ tail.comment))) ++ (tail.line.break ++ rows_text reach.0 [])
   upto_text =
       let more : List ℕ = rows_text reach.0 [] in
-      let parts : rows_text front [] ++ (row_front row ++ ((tail.white ++ (tail.comment ++ tail.line.break)) ++ more)) ≡ (rows_text front [] ++ (row_front row ++ (tail.white ++ tail.comment))) ++ (tail.line.break ++ more) = simp append_assoc refl in
       ap (λ (rs : List Row). rows_text rs []) reach.1
       ∙ (rows_text-append front (row ∷ reach.0) []
       ∙ (rows_then front (print_row row more)
-      ∙ (ap (λ l. rows_text front [] ++ l) (row_front-append row more ∙ ap (λ (q : Content). row_front row ++ content_text q more) nothing.1)
-      ∙ (ap (λ l. rows_text front [] ++ (row_front row ++ (l ++ more))) tail.line.spelled ∙ parts))))
+      ∙ (ap (λ l. rows_text front [] ++ l) (row_line row more ∙ (λ i. line_text row ++ (tail.line.spelled i ++ (raw i ++ more))))
+      ∙ regroup (rows_text front []) (line_text row) tail.white tail.comment tail.line.break more)))
 
   own_ended : Ended (tail.line.break ++ rows_text reach.0 []) x.behind
   own_ended = go (subst (λ b. Ended (rows_text (col.others ++ (col.last ∷ [])) []) b) (sym col.behind_is) (rows_ended unlimited col.others col.last col.back f.s.part.end (behind_document doc c) rows_known))
@@ -430,7 +401,7 @@ module _ (doc : ℕ) (s : Step) (ss : List Step) (c : Cut) (w : MarkPlace) (x : 
       go : Ended (rows_text (col.others ++ (col.last ∷ [])) []) x.behind → Ended (tail.line.break ++ rows_text reach.0 []) x.behind
       go (inr none) = inr none
       go (inl lf) =
-          inl (suffix_lf (rows_text front [] ++ (row_front row ++ (tail.white ++ tail.comment))) (tail.line.break ++ rows_text reach.0 [])
+          inl (suffix_lf (rows_text front [] ++ (line_text row ++ (tail.white ++ tail.comment))) (tail.line.break ++ rows_text reach.0 [])
           (subst IsLf (ap (λ (rs : List Row). rows_text rs []) (sym col.front_is) ∙ upto_text) lf) own_some)
 
   -- the break of the last line
@@ -441,7 +412,7 @@ module _ (doc : ℕ) (s : Step) (ss : List Step) (c : Cut) (w : MarkPlace) (x : 
   last_ends_line = subst (IsBreak last) behind_is (subst (λ own. IsBreak (last_break own) x.behind) (sym lines_are) (last_ends (tail.line.break ++ rows_text reach.0 []) x.behind own_ended))
 
   -- the whole text
-  pub whole_text : cut_text c ≡ front_text ++ (nothing.0 ++ rest)
+  pub whole_text : cut_text c ≡ front_text ++ ((slices row).tail ++ rest)
   whole_text =
       let own : PlacedRow = placed_row f.s f.x in
       found_text c _ row_there.0 f.at
@@ -455,11 +426,11 @@ module _ (doc : ℕ) (s : Step) (ss : List Step) (c : Cut) (w : MarkPlace) (x : 
       ∙ ap (λ l. front_text ++ l) ((λ i. tail.line.spelled i ++ rest_is i) ∙ (parts ∙ ap (λ l. tail.white ++ (tail.comment ++ (l ++ x.behind))) (sym lines_are)))
 
   -- in it an LF stands behind each CR
-  pub pairs : pairs_returns (nothing.0 ++ rest) ≡ true
-  pairs = pairs_back front_text (nothing.0 ++ rest) (ap pairs_returns (sym whole_text) ∙ (and_true _ (pairs_returns (cut_text c)) (text_is_piece c read).characters).1)
+  pub pairs : pairs_returns ((slices row).tail ++ rest) ≡ true
+  pairs = pairs_back front_text ((slices row).tail ++ rest) (ap pairs_returns (sym whole_text) ∙ (and_true _ (pairs_returns (cut_text c)) (text_is_piece c read).characters).1)
 
   -- its pieces
-  pub end_pieces : EndPieces (end_of_tail front_text nothing.0 rest tail)
+  pub end_pieces : EndPieces (end_of_tail front_text (slices row).tail rest tail)
   end_pieces =
       let own : PlacedRow = placed_row f.s f.x in
       let behind : own.behind ≡ rest = λ i. rows_text (reach.2 i) (f.s.part.end ++ sym f.stands.behind i) in
@@ -467,5 +438,5 @@ module _ (doc : ℕ) (s : Step) (ss : List Step) (c : Cut) (w : MarkPlace) (x : 
       let t0 : IsTail (slices row).tail ((slices row).raw ++ own.behind) = line_tail (parent_indent row) row.content own.behind there_row.content in
       let text : cut_text c ≡ own.before ++ print_row row own.behind = found_text c _ row_there.0 f.at ∙ sym (ap (λ (q : PlacedRow). q.before ++ print_row q.row q.behind) f.is) in
       let k : HasPieces own (slices row).tail ((slices row).raw ++ own.behind) t0 = pieces own _ there_row (subst IsPiece text (text_is_piece c read)) t0 in
-      subst EndPieces (sym (tail_is_end (own.before ++ line_text row) (slices row).tail ((slices row).raw ++ own.behind) t0) ∙ ((λ i. end_before (front_is i) (more_is i)) ∙ tail_is_end front_text nothing.0 rest tail))
+      subst EndPieces (sym (tail_is_end (own.before ++ line_text row) (slices row).tail ((slices row).raw ++ own.behind) t0) ∙ ((λ i. end_before (front_is i) (more_is i)) ∙ tail_is_end front_text (slices row).tail rest tail))
       (record { before = k.before; white = k.white; line = k.line })

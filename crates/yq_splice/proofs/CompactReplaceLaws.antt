@@ -1,10 +1,11 @@
--- Replacing a compact collection behind the dash that begins a row is a way.
-use Rattle.std.proofs.Common.{◌≡◌, ◌⊎◌, inl, inr, ℕ, ◌≤◌, Bool, true, false, cond, List, [], ◌∷◌, ◌++◌, length, Option, Some, None, is_some, refl, sym, ap, ◌∙◌, subst, arith, append_assoc, append-nil}
-use Rattle.yq_scalar.specs.Answers.{◌>>=◌}
+-- Replacing a compact collection behind a dash is a way.
+use Rattle.std.proofs.Common.{◌≡◌, ◌⊎◌, inl, inr, ℕ, ◌+◌, ◌≤◌, Bool, true, false, cond, List, [], ◌∷◌, ◌++◌, length, replicate, Some, None, option_map, refl, sym, ap, ◌∙◌, subst, arith, append_assoc, append-nil}
+use Rattle.yq_scalar.specs.BlockWritten.{break_text}
 use Rattle.yq_scalar.specs.Characters.{text_limit}
 use Rattle.yq_scalar.specs.Paths.{Step, node_at}
-use Rattle.yq_scalar.specs.Text.{upto}
+use Rattle.yq_scalar.specs.Text.{is_line}
 use Rattle.yq_scalar.specs.Tree.{Node}
+use Rattle.yq_scalar.specs.declared.block_written.Break.{Break}
 use Rattle.yq_scalar.specs.declared.block_written.Break.TheVariants.{Lf, CrLf}
 use Rattle.yq_scalar.proofs.Bools.{bind_some}
 use Rattle.yq_inline.specs.Valued.{IsValueTree}
@@ -14,11 +15,13 @@ use Rattle.yq_lines.specs.Comments as comments
 use Rattle.yq_lines.specs.Places.{content}
 use Rattle.yq_lines.proofs.Finding.{FoundNode, path_node}
 use Rattle.yq_rows.specs.Exchange.{row_front, with_content}
+use Rattle.yq_rows.specs.Gap.{IsBreak}
 use Rattle.yq_rows.specs.Grammar.{IsTail}
-use Rattle.yq_rows.specs.Rows.{Row, rows_text, Cut, cut_text}
+use Rattle.yq_rows.specs.Rows.{Nothing, Row, mark_column, rows_text, Cut, cut_text}
+use Rattle.yq_rows.proofs.NothingLaws.{tail_apart}
 use Rattle.yq_rows.proofs.PlaceLaws.{row_front-append}
 use Rattle.yq_tree.specs.CollectionEnds.{CollectionEnd, collection_end}
-use Rattle.yq_tree.specs.CommentPlaces.{LinesAbove, line_end, lines_above}
+use Rattle.yq_tree.specs.DashPlaces.{DashPlace, dash_place}
 use Rattle.yq_tree.specs.Documents.{Document, document_parts}
 use Rattle.yq_tree.specs.PlacedRows.{row_of_path}
 use Rattle.yq_tree.specs.PrintedLines.{less_break, last_break}
@@ -31,188 +34,281 @@ use Rattle.yq_change.specs.Changed.{put_document}
 use Rattle.yq_change.specs.SoundRoots.{IsNewValue, MayReplace}
 use Rattle.yq_change.specs.TextPieces.{IsPiece}
 use Rattle.yq_change.specs.Unders.{spaced}
-use Rattle.yq_change.proofs.TextPieceLaws.{text_is_piece}
+use Rattle.yq_change.proofs.TextPieceLaws.{pieces_joined, text_is_piece}
+use Rattle.yq_block.specs.declared.layout.Layout.{Layout}
+use Rattle.yq_block.specs.BlockReading.{is_filled}
+use Rattle.yq_block.specs.BlockRows.{item_column, node_rows}
+use Rattle.yq_block.specs.BlockText.{block_value}
+use Rattle.yq_block.specs.BlockValues.{HasNearKeys, InRows}
+use Rattle.yq_block.proofs.CharacterLaws.{value_sound}
+use Rattle.yq_block.proofs.TextLaws.{value_spelled}
 use Rattle.yq_expr.specs.Changes.{is_used_inside}
 use Rattle.yq_expr.specs.Fits.{Fits}
 use Rattle.yq_expr.specs.Operations.{Operation, replace, append, remove, line_comment, head_comment}
 use Rattle.yq_expr.specs.Rooms.{room_of}
-use Rattle.yq_splice.specs.CompactReplacing.{DashPlace, dash_place, dash_segments, dash_upto, replace_compact_way}
+use Rattle.yq_splice.specs.BlockWriting.{behind_space, lines_below}
+use Rattle.yq_splice.specs.CollectionReplacing.{up_to}
+use Rattle.yq_splice.specs.CompactReplacing.{CompactPlace, compact_place, compact_segments, compact_upto, filled_behind, replace_compact_way, value_behind}
 use Rattle.yq_splice.specs.Done.{ArePieces}
+use Rattle.yq_splice.specs.Layouts.{layout_of}
 use Rattle.yq_splice.specs.Operands.{HasOperand}
 use Rattle.yq_splice.specs.Replacing.{value_written}
 use Rattle.yq_splice.specs.Script.{Segment, old_text, new_text}
 use Rattle.yq_splice.specs.Ways.{IsWay, ReadsAfter}
 use Rattle.yq_splice.proofs.AppendPlaces.{kept_pieces}
+use Rattle.yq_splice.proofs.BlockWritingLaws.{filled_is}
 use Rattle.yq_splice.proofs.BreakLaws.{IsLfOrCrLf, last_is}
 use Rattle.yq_splice.proofs.BrokenTails.{quiet_tail}
-use Rattle.yq_splice.proofs.CommentPieceLaws.{nothing, byte_then, break_piece}
+use Rattle.yq_splice.proofs.CommentPieceLaws.{nothing, byte_then, break_piece, spaces_piece}
 use Rattle.yq_splice.proofs.CommentRowLaws.{row_found}
-use Rattle.yq_splice.proofs.CompactRows.{behind_dash, behind_is, front_text, last_ends_line, node, there, there_is, unnamed, whole_text}
+use Rattle.yq_splice.proofs.CompactRows.{IsCompact, before_is, behind_is, column_is, dash_last, ends_in, inner_is, last_ends_line, node, unnamed, whole_text}
+use Rattle.yq_splice.proofs.DashValueLaws.{behind_rows, behind_spelled, takes_behind}
 use Rattle.yq_splice.proofs.DoneLaws.{nth_map}
-use Rattle.yq_splice.proofs.FitLaws.{new_value, inside_spared, tree_unique}
+use Rattle.yq_splice.proofs.FitLaws.{new_value, inside_spared, near_keys, tree_unique}
+use Rattle.yq_splice.proofs.LayoutLaws.{mapping_least}
 use Rattle.yq_splice.proofs.MarkPieceLaws.{last_cut}
-use Rattle.yq_splice.proofs.NodeRowLaws.{NodeRows, node_reads, q_text}
+use Rattle.yq_splice.proofs.NodeRowLaws.{NodeRows, TakesNode, no_comment, node_reads, q_text}
 use Rattle.yq_splice.proofs.NodeRowLaws as rowed
-use Rattle.yq_splice.proofs.NodeValueLaws.{end_is, rows_beside, takes_beside}
+use Rattle.yq_splice.proofs.NodeValueLaws.{IsHolding, end_is, rows_beside, rows_under, takes_beside, takes_under}
 use Rattle.yq_splice.proofs.ReplaceLaws.{IsWrittenFor, written_for}
 use Rattle.yq_splice.proofs.SegmentLaws.{segments_readable}
 
 some_same : {A : Type 0} {x y : A} → Some x ≡ Some y → x ≡ y
 some_same e = cc
 
-no_comment : comments.line_comment [] ≡ None
-unfolding upto
-no_comment = refl
-
 break_is_piece : (b : List ℕ) → (b ≡ []) ⊎ IsLfOrCrLf b → IsPiece b
 break_is_piece b (inl e) = subst IsPiece (sym e) nothing
 break_is_piece b (inr (inl e)) = subst IsPiece (sym e) (break_piece Lf)
 break_is_piece b (inr (inr e)) = subst IsPiece (sym e) (break_piece CrLf)
 
-module _ (doc : ℕ) (s : Step) (ss : List Step) (c : Cut) (a : LinesAbove) (x : CollectionEnd) (read : read_at (cut_text c) ≡ Some c) (no_end : is_some (line_end doc (s ∷ ss) c) ≡ false) (at : lines_above doc (s ∷ ss) c ≡ Some a)
-    (ends : collection_end doc (s ∷ ss) c ≡ Some x) where
-  abbrev h : NodeRows doc s ss c
-  h = node doc s ss c a x read no_end at ends
+-- a break ends a line
+ends_line : (br : Break) (more : List ℕ) → IsBreak (break_text br) more
+unfolding is_line
+ends_line Lf more = inl refl
+ends_line CrLf more = inl refl
 
-  abbrev d : DashPlace
-  d = there doc s ss c a x read no_end at ends
+abbrev break_tail : (br : Break) (more : List ℕ) → IsTail (break_text br) more
+break_tail br more = record { white = []; comment = []; line = record { break = break_text br; spelled = refl; blank = tt; remark = tt; ends = ends_line br more }; apart = refl }
+
+module _ (doc : ℕ) (s : Step) (ss : List Step) (c : Cut) (k : IsCompact doc s ss c) where
+  abbrev h : NodeRows doc s ss c
+  h = node doc s ss c k
+
+  abbrev l : Layout
+  l = layout_of doc c
+
+  abbrev p : CompactPlace
+  p = compact_upto k.d k.x
 
   abbrev last : List ℕ
-  last = (there doc s ss c a x read no_end at ends).break
-
-  abbrev inner : List ℕ
-  inner = behind_dash doc s ss c a x read no_end at ends (rows_text h.under [])
+  last = last_break (up_to k.d.behind k.x.behind)
 
   abbrev z : List ℕ
   z = rowed.rest doc s ss c h
 
-  pub old_there : (t : List ℕ) → old_text (dash_segments d t) ≡ cut_text c
+  -- the old text
+  pub old_there : (t : List ℕ) → old_text (compact_segments p t) ≡ cut_text c
   old_there t =
-      let front : List ℕ = front_text doc s ss c a x read no_end at ends in
-      let parts : front ++ (less_break inner ++ (last_break inner ++ (x.behind ++ []))) ≡ front ++ ((less_break inner ++ last_break inner) ++ x.behind) = simp (append_assoc, append-nil) refl in
-      parts ∙ (ap (λ o. front ++ (o ++ x.behind)) (less_is inner) ∙ sym (whole_text doc s ss c a x read no_end at ends))
+      let own : List ℕ = up_to k.d.behind k.x.behind in
+      let parts : k.d.before ++ (less_break own ++ (last_break own ++ (k.x.behind ++ []))) ≡ k.d.before ++ ((less_break own ++ last_break own) ++ k.x.behind) = simp (append_assoc, append-nil) refl in
+      parts
+      ∙ (ap (λ o. k.d.before ++ (o ++ k.x.behind)) (less_is own ∙ inner_is doc s ss c k)
+      ∙ (ap (λ b. k.d.before ++ b) (sym (ends_in doc s ss c k)) ∙ sym (whole_text doc s ss c k)))
 
-  front_piece : IsPiece d.front
+  -- it is in pieces
+  front_piece : IsPiece k.d.before
   front_piece =
-      let b : List ℕ = h.start ++ rows_text h.front [] in
-      let r : List ℕ = h.row.gap ++ Rattle.std.proofs.Common.replicate h.row.column 32 in
-      let dash : d.front ≡ (b ++ r) ++ 45 ∷ [] = dash_last b h.row.gap (Rattle.std.proofs.Common.replicate h.row.column 32) in
-      subst IsPiece (sym dash)
-      (last_cut 45 (b ++ r) (inner ++ x.behind) (omega arith) refl
-      (subst (λ l. IsPiece (l ++ (inner ++ x.behind))) dash (subst IsPiece (whole_text doc s ss c a x read no_end at ends) (text_is_piece c read)))).0
-    where
-      dash_last : (p g k : List ℕ) → p ++ (g ++ (k ++ 45 ∷ [])) ≡ (p ++ (g ++ k)) ++ 45 ∷ []
-      dash_last p g k = simp append_assoc refl
+      let e = dash_last doc s ss c k in
+      subst IsPiece (sym e.1)
+      (last_cut 45 e.0 k.d.behind (omega arith) refl (subst (λ b. IsPiece (b ++ k.d.behind)) e.1 (subst IsPiece (whole_text doc s ss c k) (text_is_piece c k.read)))).0
 
-  module _ (v : Node) (text : List ℕ) (for : IsWrittenFor v text) (may : MayReplace v (content h.found.line h.found.under) (root_of h.p) (length (s ∷ ss))) where
+  new_pieces : (t : List ℕ) → IsPiece t → ArePieces (compact_segments p t)
+  new_pieces t piece = (front_piece, (piece, (break_is_piece last (last_is (up_to k.d.behind k.x.behind)), ((kept_pieces doc (s ∷ ss) c k.x k.read k.ends).1, tt))))
+
+  -- the end of the last line
+  abbrev last_tail : IsTail last z
+  last_tail = record { white = []; comment = []; line = record { break = last; spelled = refl; blank = tt; remark = tt; ends = last_ends_line doc s ss c k }; apart = refl }
+
+  quiet : comments.line_comment last ≡ None
+  quiet = quiet_tail last z last_tail refl
+
+  -- what may stand behind the dash: the end of its line, without a comment
+  holding : (t more : List ℕ) → IsTail t more → comments.line_comment t ≡ None → IsHolding doc s ss c h (Nothing t) more
+  holding t more tail none = record { holds = refl; stands = tail; apart = tail_apart t more tail; comment = none ∙ sym no_comment; anchor = sym (unnamed doc s ss c k) }
+
+  -- a text of rows
+  new_there : (t : List ℕ) → ((h.start ++ rows_text h.front []) ++ row_front h.mark) ++ (t ++ (last ++ z)) ≡ new_text (compact_segments p t)
+  new_there t =
+      let parts : k.d.before ++ (t ++ (last ++ k.x.behind)) ≡ k.d.before ++ (t ++ (last ++ (k.x.behind ++ []))) = simp append-nil refl in
+      (λ i. sym (before_is doc s ss c k) i ++ (t ++ (last ++ sym (behind_is doc s ss c k) i))) ∙ parts
+
+  module _ (v : Node) (may : MayReplace v (content h.found.line h.found.under) (root_of h.p) (length (s ∷ ss))) where
     abbrev op : Operation
     op = replace doc (s ∷ ss) v
 
-    are_pieces : ArePieces (dash_segments d text)
-    are_pieces = (front_piece, (byte_then 32 text refl for.piece, (break_is_piece last (last_is inner), ((kept_pieces doc (s ∷ ss) c x read ends).1, tt))))
-
-    abbrev last_tail : IsTail last z
-    last_tail = record { white = []; comment = []; line = record { break = last; spelled = refl; blank = tt; remark = tt; ends = last_ends_line doc s ss c a x read no_end at ends }; apart = refl }
-
-    quiet : comments.line_comment last ≡ comments.line_comment []
-    quiet = quiet_tail last z last_tail refl ∙ sym no_comment
-
-    abbrev new : List Row
-    new = rows_beside doc s ss c h v for.node for.is (unnamed doc s ss c a x read no_end at ends) last (end_is doc s ss c h last last_tail) quiet
-
-    new_is : h.start ++ (rows_text h.front [] ++ rows_text new z) ≡ new_text (dash_segments d text)
-    new_is =
-        let b : List ℕ = h.start in
+    -- a text for which the document is known reads, where it may be read
+    reads_as : (new : List Row) → TakesNode doc s ss c h v new → (t : List ℕ) → rows_text new z ≡ row_front h.mark ++ (t ++ (last ++ z)) → IsPiece t →
+        length (new_text (compact_segments p t)) ≤ text_limit → ReadsAfter op c (new_text (compact_segments p t))
+    reads_as new takes t text piece size =
         let e : List ℕ = rows_text h.front [] in
         let m : List ℕ = row_front h.mark in
-        let parts : b ++ (e ++ (m ++ (32 ∷ (text ++ (last ++ x.behind))))) ≡ ((b ++ e) ++ m) ++ ((32 ∷ text) ++ (last ++ (x.behind ++ []))) = simp (append_assoc, append-nil) refl in
-        ap (λ r. b ++ (e ++ r)) (row_front-append (with_content (spaced for.node last) h.mark) z ∙ ap (λ r. m ++ (32 ∷ r)) (node_then for.node (last ++ z) ∙ ap (λ r. r ++ (last ++ z)) for.text))
-        ∙ (ap (λ r. b ++ (e ++ (m ++ (32 ∷ (text ++ (last ++ r)))))) (sym (behind_is doc s ss c a x read no_end at ends)) ∙ parts)
+        let parts : h.start ++ (e ++ (m ++ (t ++ (last ++ z)))) ≡ ((h.start ++ e) ++ m) ++ (t ++ (last ++ z)) = simp append_assoc refl in
+        let same : cut_text (put_document doc (inserted h.front new h.back h.p) c) ≡ new_text (compact_segments p t) =
+        q_text doc s ss c h v new takes ∙ (ap (λ r. h.start ++ (e ++ r)) text ∙ (parts ∙ new_there t)) in
+        subst (ReadsAfter op c) same (node_reads doc s ss c h v new takes may (subst IsReadable (sym same) (segments_readable (compact_segments p t) (new_pieces t piece) size)))
 
-    pub compact_read : length (new_text (dash_segments d text)) ≤ text_limit → ReadsAfter op c (new_text (dash_segments d text))
-    compact_read size =
-        let takes = takes_beside doc s ss c h v for.node for.is (unnamed doc s ss c a x read no_end at ends) last (end_is doc s ss c h last last_tail) quiet in
-        let same : cut_text (put_document doc (inserted h.front new h.back h.p) c) ≡ new_text (dash_segments d text) = q_text doc s ss c h v new takes ∙ new_is in
-        subst (ReadsAfter op c) same (node_reads doc s ss c h v new takes may (subst IsReadable (sym same) (segments_readable (dash_segments d text) are_pieces size)))
+    -- ---- inline behind the dash
+
+    module _ (text : List ℕ) (for : IsWrittenFor v text) where
+      abbrev beside : List Row
+      beside = rows_beside doc s ss c h v for.node for.is (Nothing last) (holding last z last_tail quiet)
+
+      beside_text : rows_text beside z ≡ row_front h.mark ++ ((32 ∷ text) ++ (last ++ z))
+      beside_text =
+          row_front-append (with_content (spaced for.node last) h.mark) z
+          ∙ ap (λ r. row_front h.mark ++ (32 ∷ r)) (node_then for.node (last ++ z) ∙ ap (λ r. r ++ (last ++ z)) for.text)
+
+      pub beside_reads : length (new_text (compact_segments p (32 ∷ text))) ≤ text_limit → ReadsAfter op c (new_text (compact_segments p (32 ∷ text)))
+      beside_reads =
+          reads_as beside (takes_beside doc s ss c h v for.node for.is (Nothing last) (holding last z last_tail quiet)) (32 ∷ text) beside_text (byte_then 32 text refl for.piece)
+
+    -- ---- in rows
+
+    module _ (value_tree : IsValueTree v) (filled : InRows v) (near : HasNearKeys v) where
+      abbrev column : ℕ
+      column = item_column (mark_column h.mark)
+
+      value_piece : IsPiece (block_value l column v)
+      value_piece = let e = value_sound v l column value_tree in record { utf8 = e.0; characters = e.1 }
+
+      -- the first one on the line of the dash
+      abbrev behind : List Row
+      behind = behind_rows doc s ss c h l (mapping_least doc c) v filled near last refl (end_is doc s ss c h last last_tail) quiet no_comment (unnamed doc s ss c k)
+
+      compact_reads_so : length (new_text (compact_segments p (behind_space l (mark_column h.mark) v))) ≤ text_limit → ReadsAfter op c (new_text (compact_segments p (behind_space l (mark_column h.mark) v)))
+      compact_reads_so =
+          reads_as behind (takes_behind doc s ss c h l (mapping_least doc c) v filled near last refl (end_is doc s ss c h last last_tail) quiet no_comment (unnamed doc s ss c k)) (behind_space l (mark_column h.mark) v)
+          (behind_spelled doc s ss c h l (mapping_least doc c) v filled near last refl (end_is doc s ss c h last last_tail) quiet no_comment (unnamed doc s ss c k)) (byte_then 32 (block_value l column v) refl value_piece)
+
+      -- all on lines under it
+      abbrev held : List ℕ
+      held = break_text l.br
+
+      abbrev below : List ℕ
+      below = rows_text (node_rows l column last v) z
+
+      break_holds : IsHolding doc s ss c h (Nothing held) below
+      break_holds = holding held below (break_tail l.br below) (quiet_tail held below (break_tail l.br below) refl)
+
+      abbrev under : List Row
+      under = rows_under doc s ss c h l (mapping_least doc c) v filled near (Nothing held) last break_holds (end_is doc s ss c h last last_tail) quiet
+
+      under_text : rows_text under z ≡ row_front h.mark ++ (lines_below l column v ++ (last ++ z))
+      under_text =
+          let parts : held ++ (replicate column 32 ++ (block_value l column v ++ (last ++ z))) ≡ lines_below l column v ++ (last ++ z) = simp append_assoc refl in
+          row_front-append (with_content (Nothing held) h.mark) (rows_text (node_rows l column last v) z)
+          ∙ ap (λ r. row_front h.mark ++ r) (ap (λ r. held ++ r) (value_spelled v l column last z filled.filled filled.value) ∙ parts)
+
+      lines_piece : IsPiece (lines_below l column v)
+      lines_piece = pieces_joined held (replicate column 32 ++ block_value l column v) (break_piece l.br) (pieces_joined (replicate column 32) (block_value l column v) (spaces_piece column) value_piece)
+
+      under_reads : length (new_text (compact_segments p (lines_below l column v))) ≤ text_limit → ReadsAfter op c (new_text (compact_segments p (lines_below l column v)))
+      under_reads =
+          reads_as under (takes_under doc s ss c h l (mapping_least doc c) v filled near (Nothing held) last break_holds (end_is doc s ss c h last last_tail) quiet) (lines_below l column v) under_text lines_piece
+
+      pub filled_reads : length (new_text (compact_segments p (filled_behind l v k.d))) ≤ text_limit → ReadsAfter op c (new_text (compact_segments p (filled_behind l v k.d)))
+      filled_reads =
+          subst (λ n. length (new_text (compact_segments p (cond k.d.noted (lines_below l (item_column n) v) (behind_space l n v)))) ≤ text_limit → ReadsAfter op c (new_text (compact_segments p (cond k.d.noted (lines_below l (item_column n) v) (behind_space l n v)))))
+          (sym (column_is doc s ss c k)) (go k.d.noted)
+        where
+          go : (b : Bool) → length (new_text (compact_segments p (cond b (lines_below l column v) (behind_space l (mark_column h.mark) v)))) ≤ text_limit →
+              ReadsAfter op c (new_text (compact_segments p (cond b (lines_below l column v) (behind_space l (mark_column h.mark) v))))
+          go true = under_reads
+          go false = compact_reads_so
 
 -- ---- the way
 
--- What the way gives: the lines above the row of a dash, the end of the collection behind that, and what is written there.
+-- What the way gives: the dash, the end of the collection behind it, and what is written there.
 pub record IsCompactWay (doc : ℕ) (steps : List Step) (v : Node) (c : Cut) (us : List Segment) : Type 0 where
   pub s : Step
   pub ss : List Step
   pub steps_are : steps ≡ s ∷ ss
-  pub no_end : is_some (line_end doc (s ∷ ss) c) ≡ false
-  pub a : LinesAbove
-  pub at : lines_above doc (s ∷ ss) c ≡ Some a
-  pub x : CollectionEnd
-  pub ends : collection_end doc (s ∷ ss) c ≡ Some x
+  pub there : IsCompact doc s ss c
   pub text : List ℕ
-  pub value : value_written false [] v ≡ Some text
-  pub are : dash_segments (dash_upto a x) text ≡ us
+  pub written : value_behind (layout_of doc c) v there.d ≡ Some text
+  pub are : compact_segments (compact_upto there.d there.x) text ≡ us
 
--- a root has no line
-pub no_lines : (doc : ℕ) (c : Cut) (a : LinesAbove) → lines_above doc [] c ≡ Some a → ⊥
-no_lines doc c a e = let y = bind_some (row_of_path doc [] c) e in none_some (row_found doc [] c y.0 y.1).seat_is
+-- a root has no dash
+pub no_dash : (doc : ℕ) (c : Cut) (d : DashPlace) → dash_place doc [] c ≡ Some d → ⊥
+no_dash doc c d e = let y = bind_some (row_of_path doc [] c) e in none_some (row_found doc [] c y.0 y.1).seat_is
 
--- what is found of a dash
-pub dash_found : (doc : ℕ) (steps : List Step) (c : Cut) (d : DashPlace) → dash_place doc steps c ≡ Some d →
-    (is_some (line_end doc steps c) ≡ false) × (a : LinesAbove) × (lines_above doc steps c ≡ Some a) × (x : CollectionEnd) × (collection_end doc steps c ≡ Some x) × (dash_upto a x ≡ d)
-dash_found doc steps c d e = go (is_some (line_end doc steps c)) refl e
-  where
-    go : (b : Bool) → is_some (line_end doc steps c) ≡ b → cond b None (lines_above doc steps c >>= λ a. Rattle.std.proofs.Common.option_map (dash_upto a) (collection_end doc steps c)) ≡ Some d →
-        (is_some (line_end doc steps c) ≡ false) × (a : LinesAbove) × (lines_above doc steps c ≡ Some a) × (x : CollectionEnd) × (collection_end doc steps c ≡ Some x) × (dash_upto a x ≡ d)
-    go true is h = absurd (none_some h)
-    go false is h =
-        let a = bind_some (lines_above doc steps c) h in
-        let x = map_some (collection_end doc steps c) a.2 in
-        (is, a.0, a.1, x.0, x.1, x.2)
-
-compact_way : (doc : ℕ) (steps : List Step) (v : Node) (c : Cut) (us : List Segment) → replace_compact_way (replace doc steps v) c ≡ Some us → IsCompactWay doc steps v c us
+compact_way : (doc : ℕ) (steps : List Step) (v : Node) (c : Cut) (us : List Segment) → read_at (cut_text c) ≡ Some c → replace_compact_way (replace doc steps v) c ≡ Some us → IsCompactWay doc steps v c us
 unfolding replace_compact_way
-compact_way doc steps v c us e =
-    let d = bind_some (dash_place doc steps c) e in
-    let k = dash_found doc steps c d.0 d.1 in
-    let t = map_some (value_written false [] v) d.2 in
-    by steps k.0 k.1 k.2 k.3 k.4 t.0 t.1 (ap (λ q. dash_segments q t.0) k.5 ∙ t.2)
+compact_way doc steps v c us read e =
+    let p = bind_some (compact_place doc steps c) e in
+    let d = bind_some (dash_place doc steps c) p.1 in
+    let x = map_some (collection_end doc steps c) d.2 in
+    let t = map_some (value_behind (layout_of doc c) v p.0.dash) p.2 in
+    by steps d.0 d.1 x.0 x.1 t.0 (subst (λ (q : CompactPlace). value_behind (layout_of doc c) v q.dash ≡ Some t.0) (sym x.2) t.1) (subst (λ (q : CompactPlace). compact_segments q t.0 ≡ us) (sym x.2) t.2)
   where
-    by : (steps : List Step) → is_some (line_end doc steps c) ≡ false → (a : LinesAbove) → lines_above doc steps c ≡ Some a → (x : CollectionEnd) → collection_end doc steps c ≡ Some x → (t : List ℕ) → value_written false [] v ≡ Some t →
-        dash_segments (dash_upto a x) t ≡ us → IsCompactWay doc steps v c us
-    by [] no_end a at x ends t value are = absurd (no_lines doc c a at)
-    by (s ∷ ss) no_end a at x ends t value are = record { s = s; ss = ss; steps_are = refl; no_end = no_end; a = a; at = at; x = x; ends = ends; text = t; value = value; are = are }
+    by : (steps : List Step) (d : DashPlace) → dash_place doc steps c ≡ Some d → (x : CollectionEnd) → collection_end doc steps c ≡ Some x → (t : List ℕ) → value_behind (layout_of doc c) v d ≡ Some t → compact_segments (compact_upto d x) t ≡ us →
+        IsCompactWay doc steps v c us
+    by [] d at x ends t written are = absurd (no_dash doc c d at)
+    by (s ∷ ss) d at x ends t written are = record { s = s; ss = ss; steps_are = refl; there = record { d = d; x = x; read = read; at = at; ends = ends }; text = t; written = written; are = are }
 
 compact_old : (doc : ℕ) (steps : List Step) (v : Node) (c : Cut) (us : List Segment) → read_at (cut_text c) ≡ Some c → replace_compact_way (replace doc steps v) c ≡ Some us → old_text us ≡ cut_text c
 compact_old doc steps v c us read e =
-    let k = compact_way doc steps v c us e in
-    ap old_text (sym k.are)
-    ∙ (ap (λ q. old_text (dash_segments q k.text)) (sym (there_is doc k.s k.ss c k.a k.x read k.no_end k.at k.ends)) ∙ old_there doc k.s k.ss c k.a k.x read k.no_end k.at k.ends k.text)
+    let k = compact_way doc steps v c us read e in
+    ap old_text (sym k.are) ∙ old_there doc k.s k.ss c k.there k.text
 
 same_document : {d g : Document} → Some d ≡ Some g → d ≡ g
 same_document h = cc
 
-reads_there : (doc : ℕ) (s : Step) (ss : List Step) (v : Node) (c : Cut) (a : LinesAbove) (x : CollectionEnd) (text : List ℕ) → read_at (cut_text c) ≡ Some c → is_some (line_end doc (s ∷ ss) c) ≡ false → lines_above doc (s ∷ ss) c ≡ Some a →
-    collection_end doc (s ∷ ss) c ≡ Some x → value_written false [] v ≡ Some text → IsValueTree v → Fits (room_of (cut_text c)) (replace doc (s ∷ ss) v) (documents c) → length (new_text (dash_segments (dash_upto a x) text)) ≤ text_limit →
-    ReadsAfter (replace doc (s ∷ ss) v) c (new_text (dash_segments (dash_upto a x) text))
-reads_there doc s ss v c a x text read no_end at ends value value_tree fits =
-    let h : NodeRows doc s ss c = node doc s ss c a x read no_end at ends in
-    let d : reading.document_of h.p ≡ fits.0 = same_document (sym (nth_map doc h.p reading.document_of (document_parts c) h.old.there) ∙ fits.1) in
-    let root : root_of h.p ≡ fits.0.root = ap (λ (q : Document). q.root) d in
-    let n : Node = fits.2.1.0 in
-    let node_is : n ≡ content h.found.line h.found.under = some_same (sym fits.2.1.1 ∙ (ap (node_at (s ∷ ss)) (sym root) ∙ (path_node s ss (outline_of h.p) ∙ ap FoundNode h.is))) in
-    let used : is_used_inside (names_of (root_of h.p)) (Some n) ≡ false = ap (λ q. is_used_inside (names_of q) (Some n)) root ∙ fits.2.1.2 in
-    let new : IsNewValue v (length (s ∷ ss)) = new_value (length (s ∷ ss)) v value_tree (tree_unique v fits.2.0.0) fits.2.0.2 in
-    let may : MayReplace v (content h.found.line h.found.under) (root_of h.p) (length (s ∷ ss)) =
-    subst (λ q. MayReplace v q (root_of h.p) (length (s ∷ ss))) node_is (record { value_is = new; spared = inside_spared (names_of (root_of h.p)) n used }) in
-    subst (λ (q : DashPlace). length (new_text (dash_segments q text)) ≤ text_limit → ReadsAfter (replace doc (s ∷ ss) v) c (new_text (dash_segments q text))) (there_is doc s ss c a x read no_end at ends)
-    (compact_read doc s ss c a x read no_end at ends v text (written_for false [] v text value_tree (omega (arith, new.nested)) fits.2.0.1 value) may)
+reads_there : (doc : ℕ) (s : Step) (ss : List Step) (v : Node) (c : Cut) (k : IsCompact doc s ss c) (t : List ℕ) → value_behind (layout_of doc c) v k.d ≡ Some t → IsValueTree v → Fits (room_of (cut_text c)) (replace doc (s ∷ ss) v) (documents c) →
+    length (new_text (compact_segments (compact_upto k.d k.x) t)) ≤ text_limit → ReadsAfter (replace doc (s ∷ ss) v) c (new_text (compact_segments (compact_upto k.d k.x) t))
+reads_there doc s ss v c k t written value_tree fits = by (is_filled v) refl written
+  where
+    h : NodeRows doc s ss c
+    h = node doc s ss c k
+
+    d : reading.document_of h.p ≡ fits.0
+    d = same_document (sym (nth_map doc h.p reading.document_of (document_parts c) h.old.there) ∙ fits.1)
+
+    root : root_of h.p ≡ fits.0.root
+    root = ap (λ (q : Document). q.root) d
+
+    n : Node
+    n = fits.2.1.0
+
+    node_is : n ≡ content h.found.line h.found.under
+    node_is = some_same (sym fits.2.1.1 ∙ (ap (node_at (s ∷ ss)) (sym root) ∙ (path_node s ss (outline_of h.p) ∙ ap FoundNode h.is)))
+
+    used : is_used_inside (names_of (root_of h.p)) (Some n) ≡ false
+    used = ap (λ q. is_used_inside (names_of q) (Some n)) root ∙ fits.2.1.2
+
+    new : IsNewValue v (length (s ∷ ss))
+    new = new_value (length (s ∷ ss)) v value_tree (tree_unique v fits.2.0.0) fits.2.0.2
+
+    may : MayReplace v (content h.found.line h.found.under) (root_of h.p) (length (s ∷ ss))
+    may = subst (λ q. MayReplace v q (root_of h.p) (length (s ∷ ss))) node_is (record { value_is = new; spared = inside_spared (names_of (root_of h.p)) n used })
+
+    ReadsSo : List ℕ → Type 0
+    ReadsSo t = length (new_text (compact_segments (compact_upto k.d k.x) t)) ≤ text_limit → ReadsAfter (replace doc (s ∷ ss) v) c (new_text (compact_segments (compact_upto k.d k.x) t))
+
+    by : (b : Bool) → is_filled v ≡ b → cond b (Some (filled_behind (layout_of doc c) v k.d)) (option_map (λ t. 32 ∷ t) (value_written false [] v)) ≡ Some t →
+        length (new_text (compact_segments (compact_upto k.d k.x) t)) ≤ text_limit → ReadsAfter (replace doc (s ∷ ss) v) c (new_text (compact_segments (compact_upto k.d k.x) t))
+    by true full e = subst ReadsSo (some_same e) (filled_reads doc s ss c k v may value_tree (record { filled = filled_is v full; value = value_tree }) (near_keys v value_tree fits.2.0.1))
+    by false full e =
+        let m = map_some (value_written false [] v) e in
+        subst ReadsSo m.2 (beside_reads doc s ss c k v may m.0 (written_for false [] v m.0 value_tree (omega (arith, new.nested)) fits.2.0.1 m.1))
 
 compact_reads : (doc : ℕ) (steps : List Step) (v : Node) (c : Cut) (us : List Segment) → read_at (cut_text c) ≡ Some c → replace_compact_way (replace doc steps v) c ≡ Some us → IsValueTree v → Fits (room_of (cut_text c)) (replace doc steps v) (documents c) →
     length (new_text us) ≤ text_limit → ReadsAfter (replace doc steps v) c (new_text us)
 compact_reads doc steps v c us read e value_tree fits size =
-    let k = compact_way doc steps v c us e in
+    let k = compact_way doc steps v c us read e in
     subst (λ z. ReadsAfter (replace doc steps v) c (new_text z)) k.are
-    (subst (λ (p : List Step). ReadsAfter (replace doc p v) c (new_text (dash_segments (dash_upto k.a k.x) k.text))) (sym k.steps_are)
-    (reads_there doc k.s k.ss v c k.a k.x k.text read k.no_end k.at k.ends k.value value_tree (subst (λ (p : List Step). Fits (room_of (cut_text c)) (replace doc p v) (documents c)) k.steps_are fits)
+    (subst (λ (p : List Step). ReadsAfter (replace doc p v) c (new_text (compact_segments (compact_upto k.there.d k.there.x) k.text))) (sym k.steps_are)
+    (reads_there doc k.s k.ss v c k.there k.text k.written value_tree (subst (λ (p : List Step). Fits (room_of (cut_text c)) (replace doc p v) (documents c)) k.steps_are fits)
     (subst (λ z. length (new_text z) ≤ text_limit) (sym k.are) size)))
 
 pub replace_compact_is : IsWay replace_compact_way

@@ -52,7 +52,7 @@ use Rattle.yq_splice.proofs.MarkRowLaws.{HasMark}
 
 -- ---- contents and rows
 
-tail_is : (x : Content) → (content_cut x).4 ≡ tail_of x
+pub tail_is : (x : Content) → (content_cut x).4 ≡ tail_of x
 tail_is (Nothing tail) = refl
 tail_is (Inline space node tail) = refl
 tail_is (Block space anchor block) = refl

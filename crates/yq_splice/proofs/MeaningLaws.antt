@@ -18,7 +18,7 @@ use Rattle.yq_expr.specs.Plans.{plan}
 use Rattle.yq_expr.specs.Program.{Update, assign, delete, comment, UpdatesHold}
 use Rattle.yq_expr.specs.Rooms.{room_of}
 use Rattle.yq_splice.specs.Carried.{carry_all, carry_out, updated}
-use Rattle.yq_splice.specs.Edit.{Edit, unreadable, refuses, unbuilt, gives, by_reading}
+use Rattle.yq_splice.specs.Edit.{Edit, unreadable, refuses, gives, by_reading}
 use Rattle.yq_splice.specs.Patch.{Change}
 use Rattle.yq_splice.specs.Theorems.{Leads, IsMeant}
 use Rattle.yq_splice.specs.Valid.{HasOperands, IsStep}
@@ -44,14 +44,12 @@ planned_serve u t c ops read operands holds planned = record {
 abbrev IsTold : Update → List ℕ → Edit → Type 0
 IsTold u t unreadable = ⊥
 IsTold u t (refuses why) = Unit {0}
-IsTold u t unbuilt = Unit {0}
 IsTold u t (gives new cs) = IsMeant u t new cs
 
 operations_told : (u : Update) (t : List ℕ) (c : Cut) (ops : List Operation) → read_at t ≡ Some c → plan u (room_of t) (documents c) ≡ judgement.gives ops →
     (e : Edit) → ComesTo (all_after (room_of t) ops (documents c)) e → IsTold u t e
 operations_told u t c ops read planned unreadable h = h
 operations_told u t c ops read planned (refuses why) h = tt
-operations_told u t c ops read planned unbuilt h = tt
 operations_told u t c ops read planned (gives new cs) h = record {
   before = documents c;
   read = read_takes t c read;

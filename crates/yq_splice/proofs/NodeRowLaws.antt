@@ -78,7 +78,7 @@ pub record NodeRows (doc : ℕ) (s : Step) (ss : List Step) (c : Cut) : Type 0 w
 
 -- ---- the lines of a row up to a key or dash, and those behind it
 
-no_comment : line_comment [] ≡ None
+pub no_comment : line_comment [] ≡ None
 unfolding upto
 no_comment = refl
 

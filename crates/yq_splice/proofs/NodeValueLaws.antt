@@ -1,5 +1,5 @@
 -- The rows that are written for a value in the place of those of an item or entry: behind its key or dash, or under it.
-use Rattle.std.proofs.Common.{◌≡◌, ℕ, suc, ◌+◌, ◌*◌, ◌<◌, ◌≤◌, Bool, true, false, cond, List, [], ◌∷◌, ◌++◌, Option, Some, None, refl, sym, ap, ◌∙◌, subst, arith}
+use Rattle.std.proofs.Common.{◌≡◌, ℕ, ℤ, suc, ◌+◌, ◌*◌, ◌<◌, ◌≤◌, Bool, true, false, cond, List, [], ◌∷◌, ◌++◌, Option, Some, None, refl, sym, ap, ◌∙◌, subst, arith}
 use Rattle.std.proofs.lemmas.Bool.{false≢true, lt-ltb}
 use Rattle.yq_scalar.specs.Paths.{Step}
 use Rattle.yq_scalar.specs.Piece.{deeper}
@@ -7,6 +7,7 @@ use Rattle.yq_scalar.specs.Plain.{ends_plain}
 use Rattle.yq_scalar.specs.Text.{separates}
 use Rattle.yq_scalar.specs.Tree.{Node}
 use Rattle.yq_inline.specs.Nodes as inline
+use Rattle.yq_inline.specs.Nodes.{node_text}
 use Rattle.yq_lines.specs.Anchors.{HaveOneAnchorEach, IsFree}
 use Rattle.yq_lines.specs.Comments.{line_comment}
 use Rattle.yq_lines.specs.Outline as outline
@@ -15,20 +16,24 @@ use Rattle.yq_lines.specs.Places.{content}
 use Rattle.yq_lines.proofs.ByRules.{rules_give}
 use Rattle.yq_rows.specs.Alone.{holds_nothing}
 use Rattle.yq_rows.specs.Exchange.{with_content}
-use Rattle.yq_rows.specs.Grammar.{is_plain, unlimited, allows, limit_after, IsContent, IsTail, is_entry}
+use Rattle.yq_rows.specs.Grammar.{is_plain, unlimited, allows, limit_after, limit_behind, IsContent, IsTail, is_entry}
 use Rattle.yq_rows.specs.Rows as rows
 use Rattle.yq_rows.specs.Rows.{Content, Nothing, Inline, Block, content_text, Row, mark_column, parent_indent, rows_text, Cut, cut_text}
+use Rattle.yq_rows.specs.Seams.{is_block}
+use Rattle.yq_rows.proofs.NodeExchange.{inline_starts, space_apart}
 use Rattle.yq_rows.proofs.splices.PartPlaces.{part_ends}
 use Rattle.yq_tree.specs.Documents.{MarkIsFit, ContentHasFitKeys, HaveFitKeys}
+use Rattle.yq_tree.specs.InlinePlaces.{InlinePlace, mark_inline, node_inline}
 use Rattle.yq_tree.specs.Lines.{content_anchor, head_of, tail_of, lines_of, mark_of}
 use Rattle.yq_tree.specs.Nodes.{anchor_of}
 use Rattle.yq_change.specs.DocumentRows.{behind_document, part_number}
 use Rattle.yq_change.specs.InlineRows.{IsValueNode}
-use Rattle.yq_change.specs.Unders.{spaced}
 use Rattle.yq_change.proofs.AnchorLaws.{fit_parts}
+use Rattle.yq_change.proofs.CoreLaws.{put_core, recore}
 use Rattle.yq_change.proofs.InlineReplaceLaws.{deeper_entry, tail_ends_plain}
 use Rattle.yq_change.proofs.PartLaws.{document_known}
 use Rattle.yq_change.proofs.UnderLaws.{line_with, gone_lines}
+use Rattle.yq_change.proofs.ValueContentLaws.{content_is, content_head, content_named, content_tail, content_keys}
 use Rattle.yq_block.specs.declared.layout.Layout.{Layout}
 use Rattle.yq_block.specs.BlockPlaces.{IsUpto, at_mark, at_dash, IsAbove, Replaces}
 use Rattle.yq_block.specs.BlockRows.{column_below, node_rows}
@@ -38,6 +43,7 @@ use Rattle.yq_block.proofs.LaidRows.{AreLaid, no_gap_here}
 use Rattle.yq_block.proofs.LineLaws.{lines_deeper, node_stands}
 use Rattle.yq_block.proofs.PlaceLaws.{under_laid, upto_row}
 use Rattle.yq_block.proofs.RowLaws.{deeper_laid}
+use Rattle.yq_splice.proofs.MarkContentLaws.{laid_free}
 use Rattle.yq_splice.proofs.NodeRowLaws.{NodeRows, TakesNode, back_there, entry, limit, near, rest, rows_there}
 
 -- ---- marks
@@ -62,7 +68,7 @@ upto_fit : {s r : Row} → IsUpto s r → MarkIsFit r.mark → MarkIsFit s.mark
 upto_fit (at_mark {r} e) h = h
 upto_fit (at_dash {r} {ns} n ms is) h = tt
 
-upto_gap : {s r : Row} → IsUpto s r → s.gap ≡ r.gap
+pub upto_gap : {s r : Row} → IsUpto s r → s.gap ≡ r.gap
 upto_gap (at_mark {r} e) = refl
 upto_gap (at_dash {r} {ns} n ms is) = refl
 
@@ -94,17 +100,22 @@ nothing_fit (Inline space (inline.anchored n gap (inline.coll close g is)) tail)
 nothing_fit (Inline space (inline.anchored n gap (inline.anchored m g node)) tail) h = absurd (false≢true h)
 nothing_fit (Block space anchor block) h = tt
 
--- rows that begin with a key or dash may have an anchor above them
-free_entry : (a : Option (List ℕ)) (column : ℕ) (rs : List Row) (rest : List ℕ) → AreLaid column rs rest → IsFree a (lines_of rs)
-free_entry None column rs rest h = tt
-free_entry (Some a) column [] rest h = absurd h
-free_entry (Some a) column (q ∷ qs) rest h = go q.dashes q.mark h.entry
-  where
-    go : (ns : List ℕ) (m : rows.Mark) → is_entry m ≡ true → IsFree (Some a) (Rattle.yq_tree.specs.Lines.lines_from (Rattle.yq_lines.specs.Comments.head_comment q.gap) q.column ns m q.content ++ lines_of qs)
-    go [] rows.Bare e = absurd (false≢true e)
-    go [] rows.Dash e = tt
-    go [] (rows.Key key colon) e = tt
-    go (n ∷ ns) m e = tt
+nothing_block : (x : Content) → holds_nothing x ≡ true → is_block x ≡ false
+nothing_block (Nothing tail) h = refl
+nothing_block (Inline space node tail) h = refl
+nothing_block (Block space anchor block) h = absurd (false≢true h)
+
+-- what is no block scalar has a place
+inline_there : (x : Content) (rest : List ℕ) → is_block x ≡ false → (w : InlinePlace) × (mark_inline false [] x rest ≡ Some w)
+inline_there (Nothing tail) rest h = (record { before = []; old = None; behind = tail ++ rest; alone = false }, refl)
+inline_there (Inline space node tail) rest h = (node_inline false space node (tail ++ rest), refl)
+inline_there (Block space anchor block) rest h = absurd (false≢true (sym h))
+
+-- white space stands before another node there, where it does before the old one
+core_apart : (core : inline.Node) (n : ℤ) (x : Content) (rest : List ℕ) → IsContent n x rest → separates (content_text x rest) ≡ true → separates (content_text (put_core core x) rest) ≡ true
+core_apart core n (Nothing tail) rest h a = refl
+core_apart core n (Inline space old tail) rest h a = space_apart space (node_text old (tail ++ rest)) (node_text (recore core old) (tail ++ rest)) h.0 a (inline_starts n old (tail ++ rest) h.1).joined
+core_apart core n (Block space anchor block) rest h a = a
 
 -- no anchor is free
 free_none : (a : Option (List ℕ)) → IsFree a []
@@ -130,17 +141,18 @@ module _ (doc : ℕ) (s : Step) (ss : List Step) (c : Cut) (h : NodeRows doc s s
             (part_ends c (part_number doc c) true (document_known (cut_text c) c doc h.p h.old).cut.parts));
       }
 
-  -- What stands behind the key or dash on its line, before lines under it: nothing but perhaps the old anchor, and the end of the line with the old comment.
-  pub record IsHolding (x : Content) : Type 0 where
+  -- What stands behind the key or dash on its line, before lines under it or the rows behind: nothing but perhaps the old anchor, and the end of the line with the old comment.
+  pub record IsHolding (x : Content) (more : List ℕ) : Type 0 where
     pub holds : holds_nothing x ≡ true
-    pub stands : (more : List ℕ) → IsContent (parent_indent h.mark) x more
-    pub apart : (more : List ℕ) → separates (content_text x more) ≡ true
+    pub stands : IsContent (parent_indent h.mark) x more
+    pub apart : separates (content_text x more) ≡ true
     pub comment : line_comment (tail_of x) ≡ line_comment (tail_of h.mark.content)
     pub anchor : content_anchor x ≡ anchor_of (content h.found.line h.found.under)
 
   -- ---- under it
 
-  module _ (l : Layout) (step : 1 ≤ l.mapping) (v : Node) (filled : InRows v) (near_keys : HasNearKeys v) (x : Content) (held : IsHolding x) (last : List ℕ) (ends : IsEnd (mark_column h.mark) last (rest doc s ss c h)) (quiet : line_comment last ≡ None) where
+  module _ (l : Layout) (step : 1 ≤ l.mapping) (v : Node) (filled : InRows v) (near_keys : HasNearKeys v) (x : Content) (last : List ℕ)
+      (held : IsHolding x (rows_text (node_rows l (column_below l (mark_column h.mark) (mark_key h.mark.mark) v) last v) (rest doc s ss c h))) (ends : IsEnd (mark_column h.mark) last (rest doc s ss c h)) (quiet : line_comment last ≡ None) where
     abbrev pub below : ℕ
     below = column_below l (mark_column h.mark) (mark_key h.mark.mark) v
 
@@ -162,8 +174,8 @@ module _ (doc : ℕ) (s : Step) (ss : List Step) (c : Cut) (h : NodeRows doc s s
       upto = h.upto;
       deep = below_deep h.mark.mark l v (mark_column h.mark);
       nothing = held.holds;
-      content = held.stands (rows_text rs z);
-      apart = held.apart (rows_text rs z);
+      content = held.stands;
+      apart = held.apart;
     }
 
     stands : Stands (lines_of rs) v (level_at below v)
@@ -195,37 +207,51 @@ module _ (doc : ℕ) (s : Step) (ss : List Step) (c : Cut) (h : NodeRows doc s s
           deep = deep;
           lines = gone_lines (with_content x h.mark) rs ∙ ap (λ ls. Rattle.yq_change.proofs.UnderLaws.dashes_of h.mark ++ (line_with h.mark x ∷ ls)) (sym stands.lines_are);
           keys = (mark_fit, nothing_fit x held.holds, keys_fit rs fit);
-          anchors = subst (λ ls. HaveOneAnchorEach (line_with h.mark x ∷ ls)) (sym stands.lines_are) (free_entry (content_anchor x) below rs z laid, anchors_fit rs fit);
+          anchors = subst (λ ls. HaveOneAnchorEach (line_with h.mark x ∷ ls)) (sym stands.lines_are) (laid_free (content_anchor x) below rs z laid, anchors_fit rs fit);
         }
 
   -- ---- behind it on its line
 
-  module _ (v : Node) (node : inline.Node) (is : IsValueNode v node) (unnamed : anchor_of (content h.found.line h.found.under) ≡ None) (tail : List ℕ) (ends : IsEnd (mark_column h.mark) tail (rest doc s ss c h))
-      (same : line_comment tail ≡ line_comment (tail_of h.mark.content)) where
+  module _ (v : Node) (node : inline.Node) (is : IsValueNode v node) (x : Content) (held : IsHolding x (rest doc s ss c h)) where
     abbrev t : List ℕ
     t = rest doc s ss c h
 
+    abbrev new : Content
+    new = put_core node x
+
     abbrev r : Row
-    r = with_content (spaced node tail) h.mark
+    r = with_content (put_core node x) h.mark
 
     abbrev pub rows_beside : List Row
-    rows_beside = with_content (spaced node tail) h.mark ∷ []
+    rows_beside = with_content (put_core node x) h.mark ∷ []
 
-    stands_beside : IsContent (parent_indent h.mark) (spaced node tail) t
+    there : (w : InlinePlace) × (mark_inline false [] x (rest doc s ss c h) ≡ Some w)
+    there = inline_there x (rest doc s ss c h) (nothing_block x held.holds)
+
+    stands_beside : IsContent (parent_indent h.mark) (put_core node x) t
     stands_beside =
-        ((refl, tt), is.stands (parent_indent h.mark) (tail ++ t) (subst (λ n. ends_plain false (Some n) (tail ++ t) ≡ true) (sym (deeper_entry h.mark.mark (mark_column h.mark) (entry doc s ss c h))) ends.plain), ends.tail)
+        content_is v node is (parent_indent h.mark) false [] x t there.0 held.stands there.1
+        (λ tail ends. subst (λ n. ends_plain false (Some n) (tail ++ t) ≡ true) (sym (deeper_entry h.mark.mark (mark_column h.mark) (entry doc s ss c h))) (end_is tail ends).plain)
 
     follow : (k : ℕ) → k ≤ mark_column h.mark → allows (limit_after r) k ≡ true
-    follow k less = go (is_plain node)
+    follow k less = go x
       where
-        go : (b : Bool) → allows (cond b (record { column = Some (deeper (parent_indent h.mark)) }) unlimited) k ≡ true
-        go true = subst (λ n. allows (record { column = Some n }) k ≡ true) (sym (deeper_entry h.mark.mark (mark_column h.mark) (entry doc s ss c h))) (within (mark_column h.mark) k less)
-        go false = refl
+        plain : (b : Bool) → allows (cond b (record { column = Some (deeper (parent_indent h.mark)) }) unlimited) k ≡ true
+        plain true = subst (λ n. allows (record { column = Some n }) k ≡ true) (sym (deeper_entry h.mark.mark (mark_column h.mark) (entry doc s ss c h))) (within (mark_column h.mark) k less)
+        plain false = refl
+
+        go : (x : Content) → allows (limit_behind (parent_indent h.mark) (put_core node x)) k ≡ true
+        go (Nothing tail) = plain (is_plain node)
+        go (Inline space old tail) = plain (is_plain (recore node old))
+        go (Block space anchor block) = refl
 
     replaces_beside : Replaces (limit doc s ss c h) (mark_column h.mark) h.row (rows_text (h.under ++ h.back) (h.p.end ++ behind_document doc c)) rows_beside t
     replaces_beside =
-        let row = upto_row (spaced node tail) t (rows_there doc s ss c h).0 h.upto stands_beside refl in
+        let row = upto_row new t (rows_there doc s ss c h).0 h.upto stands_beside (core_apart node (parent_indent h.mark) x t held.stands held.apart) in
         record { rows = (row.0, no_gap_here t); alike = row.1; follow = follow }
+
+    head : head_of (put_core node x) ≡ Some v
+    head = content_head v node is false [] x t there.0 there.1
 
     pub takes_beside : TakesNode doc s ss c h v rows_beside
     unfolding level
@@ -235,16 +261,16 @@ module _ (doc : ℕ) (s : Step) (ss : List Step) (c : Cut) (h : NodeRows doc s s
       new_is = refl;
       gap_is = upto_gap h.upto;
       replaces = replaces_beside;
-      content = spaced node tail;
-      level = suc (outline.level (line_with h.mark (spaced node tail)));
+      content = new;
+      level = suc (outline.level (line_with h.mark new));
       under = end;
-      comment = same;
-      anchor = is.unnamed ∙ sym unnamed;
-      open' = subst (λ o. IsOpen o end) (sym is.head) tt;
-      value_is = ap (λ o. head_or o (value end)) is.head;
+      comment = content_tail v node is x ∙ held.comment;
+      anchor = content_named v node is x ∙ held.anchor;
+      open' = subst (λ o. IsOpen o end) (sym head) tt;
+      value_is = ap (λ o. head_or o (value end)) head;
       even = tt;
       deep = omega arith;
-      lines = gone_lines (with_content (spaced node tail) h.mark) [];
-      keys = (mark_fit, is.keys, tt);
-      anchors = (free_none (content_anchor (spaced node tail)), tt);
+      lines = gone_lines (with_content new h.mark) [];
+      keys = (mark_fit, content_keys v node is x, tt);
+      anchors = (free_none (content_anchor new), tt);
     }

@@ -2,7 +2,7 @@
 use Rattle.std.proofs.Common.{◌≡◌, ℕ, List, [], ◌∷◌, ◌++◌, length, Some, refl, sym, ap, ◌∙◌, subst, append_assoc, append-nil}
 use Rattle.std.specs.Prelude.{option_and_then}
 use Rattle.yq_splice.specs.Answers.{Fails}
-use Rattle.yq_splice.specs.Edit.{Edit, unreadable, refuses, unbuilt, gives, behind, and_then, in_order}
+use Rattle.yq_splice.specs.Edit.{Edit, unreadable, refuses, gives, behind, and_then, in_order}
 use Rattle.yq_splice.specs.Patch.{Change, all_done, lengths_done}
 use Rattle.yq_splice.specs.Theorems.{AreSplices, Leads}
 use Rattle.yq_splice.specs.declared.edited.EditError.{EditError}
@@ -36,7 +36,6 @@ leads_give f R each (x ∷ xs) t new cs h =
 behind_gives : (ds : List Change) (e : Edit) (new : List ℕ) (cs : List Change) → behind ds e ≡ gives new cs → (es : List Change) × (e ≡ gives new es) × (cs ≡ ds ++ es)
 behind_gives ds unreadable new cs h = absurd (cc)
 behind_gives ds (refuses why) new cs h = absurd (cc)
-behind_gives ds unbuilt new cs h = absurd (cc)
 behind_gives ds (gives t es) new cs h = let same : t ≡ new = cc in (es, ap (λ (x : List ℕ). gives x es) same, cc)
 
 -- a step that an edit makes
@@ -52,21 +51,18 @@ order_leads f (x ∷ xs) t new cs h = go (f x t) refl (λ m es e. order_leads f 
         and_then (in_order f xs) e ≡ gives new cs → Leads (Makes f) (x ∷ xs) t new cs
     go unreadable is rest e = absurd (cc)
     go (refuses why) is rest e = absurd (cc)
-    go unbuilt is rest e = absurd (cc)
     go (gives m ds) is rest e = let k = behind_gives ds (in_order f xs m) new cs e in (m, ds, k.0, is, rest m k.0 k.1, k.2)
 
 -- an edit that fails, also behind splices
 pub fails_behind : (e : EditError) (cs : List Change) (r : Edit) → Fails e r → Fails e (behind cs r)
 fails_behind (error.Read fault) cs r h = (ap (behind cs) h.0, h.1)
 fails_behind (error.Refused why) cs r h = ap (behind cs) h
-fails_behind error.NotInProfile cs r h = ap (behind cs) h
 fails_behind error.Memory cs r h = tt
 
 -- a step that fails fails all that come after it
 pub fails_on : (e : EditError) (g : List ℕ → Edit) (r : Edit) → Fails e r → Fails e (and_then g r)
 fails_on (error.Read fault) g r h = (ap (and_then g) h.0, h.1)
 fails_on (error.Refused why) g r h = ap (and_then g) h
-fails_on error.NotInProfile g r h = ap (and_then g) h
 fails_on error.Memory g r h = tt
 
 -- and those that came before it

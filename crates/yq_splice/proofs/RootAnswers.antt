@@ -1,6 +1,5 @@
 -- What writing a root comes to, by what the code finds.
-use Rattle.std.proofs.Common.{◌≡◌, ℕ, eqb, List, [], ◌∷◌, Bor, Bool, true, false, cond, Option, Some, None, option_map, refl, sym, ap, ◌∙◌}
-use Rattle.yq_scalar.specs.Answers.{◌>>=◌}
+use Rattle.std.proofs.Common.{◌≡◌, ℕ, eqb, List, [], ◌∷◌, Bor, Bool, true, Option, Some, None, option_map, refl, sym, ap, ◌∙◌}
 use Rattle.yq_scalar.specs.Tree.{Node}
 use Rattle.yq_lines.specs.Bodies.{lent}
 use Rattle.yq_tree.specs.Located.{steps_of, located}
@@ -40,9 +39,9 @@ module _ (p : Path) (v : Node) (t : List ℕ) (r : Option declared.RootPlace) (t
   l = layout_of p.doc (cut_of t)
 
   by_place : (o : Option declared.RootPlace) → r ≡ o →
-      root_way (replace p.doc (steps_of p) v) (cut_of t) ≡ (option_map root_told o >>= λ w. root_at (is_kept (node_in p.doc (steps_of p) (cut_of t)) v) (layout_of p.doc (cut_of t)) v w w.old)
+      root_way (replace p.doc (steps_of p) v) (cut_of t) ≡ option_map (λ (w : RootPlace). root_at (is_kept (node_in p.doc (steps_of p) (cut_of t)) v) (layout_of p.doc (cut_of t)) v w w.old) (option_map root_told o)
   unfolding root_way
-  by_place o is = ap (λ (q : Option RootPlace). q >>= λ w. root_at (is_kept (node_in p.doc (steps_of p) (cut_of t)) v) (layout_of p.doc (cut_of t)) v w w.old) (sym told ∙ ap (option_map root_told) is)
+  by_place o is = ap (option_map (λ (w : RootPlace). root_at (is_kept (node_in p.doc (steps_of p) (cut_of t)) v) (layout_of p.doc (cut_of t)) v w w.old)) (sym told ∙ ap (option_map root_told) is)
 
   -- an inline root, or steps below the root
   pub no_place : r ≡ None → root_way (replace p.doc (steps_of p) v) (cut_of t) ≡ None
@@ -53,19 +52,12 @@ module _ (p : Path) (v : Node) (t : List ℕ) (r : Option declared.RootPlace) (t
       root_way (replace p.doc (steps_of p) v) (cut_of t) ≡ Some (root_segments k v (root_told w) old.now)
   collection_there w old k is there same =
       by_place (Some w) is
-      ∙ (ap (λ (o : Option (Bor (List ℕ))). root_at (is_kept (node_in p.doc (steps_of p) (cut_of t)) v) (layout_of p.doc (cut_of t)) v (root_told w) (lent o)) there ∙ ap (λ (m : Layout). Some (root_segments m v (root_told w) old.now)) (sym same))
+      ∙ (ap (λ (o : Option (Bor (List ℕ))). Some (root_at (is_kept (node_in p.doc (steps_of p) (cut_of t)) v) (layout_of p.doc (cut_of t)) v (root_told w) (lent o))) there ∙ ap (λ (m : Layout). Some (root_segments m v (root_told w) old.now)) (sym same))
 
   -- nothing is written there
-  pub nothing_there : (w : declared.RootPlace) (k : Layout) (closed kept : Bool) (n : Option Node) → r ≡ Some w → w.old ≡ None → k ≡ layout_of p.doc (cut_of t) → closed ≡ is_closed_text w.before.now → n ≡ located p t → kept ≡ is_kept n v →
-      root_way (replace p.doc (steps_of p) v) (cut_of t) ≡ cond closed (Some (new_segments kept k v (root_told w))) None
-  nothing_there w k closed kept n is none same ends node keeps =
+  pub nothing_there : (w : declared.RootPlace) (k : Layout) (kept : Bool) (n : Option Node) → r ≡ Some w → w.old ≡ None → k ≡ layout_of p.doc (cut_of t) → n ≡ located p t → kept ≡ is_kept n v →
+      root_way (replace p.doc (steps_of p) v) (cut_of t) ≡ Some (new_segments kept k v (root_told w))
+  nothing_there w k kept n is none same node keeps =
       by_place (Some w) is
-      ∙ (ap (λ (o : Option (Bor (List ℕ))). root_at (is_kept (node_in p.doc (steps_of p) (cut_of t)) v) (layout_of p.doc (cut_of t)) v (root_told w) (lent o)) none
-      ∙ (λ i. cond (sym ends i) (Some (new_segments ((ap (λ m. is_kept m v) (sym (node_located p t) ∙ sym node) ∙ sym keeps) i) (sym same i) v (root_told w))) None))
-
-  -- behind a text without a final break
-  pub open_there : (w : declared.RootPlace) → r ≡ Some w → w.old ≡ None → false ≡ is_closed_text w.before.now → root_way (replace p.doc (steps_of p) v) (cut_of t) ≡ None
-  open_there w is none ends =
-      by_place (Some w) is
-      ∙ (ap (λ (o : Option (Bor (List ℕ))). root_at (is_kept (node_in p.doc (steps_of p) (cut_of t)) v) (layout_of p.doc (cut_of t)) v (root_told w) (lent o)) none
-      ∙ ap (λ b. cond b (Some (new_segments (is_kept (node_in p.doc (steps_of p) (cut_of t)) v) (layout_of p.doc (cut_of t)) v (root_told w))) None) (sym ends))
+      ∙ (ap (λ (o : Option (Bor (List ℕ))). Some (root_at (is_kept (node_in p.doc (steps_of p) (cut_of t)) v) (layout_of p.doc (cut_of t)) v (root_told w) (lent o))) none
+      ∙ (λ i. Some (new_segments ((ap (λ m. is_kept m v) (sym (node_located p t) ∙ sym node) ∙ sym keeps) i) (sym same i) v (root_told w))))

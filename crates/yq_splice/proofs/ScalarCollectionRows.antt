@@ -165,13 +165,13 @@ module _ (doc : ℕ) (s : Step) (ss : List Step) (c : Cut) (w : ScalarPlace) (h 
       let white : IsWhite k.space = subst (λ (y : Row). IsWhite (space_before (slices y))) (sym (row_is doc s ss c w h)) (white_before h.space h.anchor h.block row (block_text h.block z) old.0 old.1) in
       (byte_cut k.before k.space (head_is_piece doc s ss c w h) (white_begins k.space white)).0
 
-  holding : IsHolding doc s ss c own_rows (kept h.space h.anchor t)
-  holding =
+  holding : (more : List ℕ) → IsHolding doc s ss c own_rows (kept h.space h.anchor t) more
+  holding more =
       let old = valid doc s ss c w h in
       record {
         holds = kept_holds h.space h.anchor t;
-        stands = λ more. kept_stands (parent_indent row) h.space h.anchor t (block_text h.block z) more old.0 old.1 (tail_any more);
-        apart = λ more. kept_apart h.space h.anchor h.block t z more old.0 (tail_any more) sep_old;
+        stands = kept_stands (parent_indent row) h.space h.anchor t (block_text h.block z) more old.0 old.1 (tail_any more);
+        apart = kept_apart h.space h.anchor h.block t z more old.0 (tail_any more) sep_old;
         comment = ap comment_in (kept_tail h.space h.anchor t ∙ tail_same);
         anchor = kept_anchor h.space h.anchor t ∙ sym old_anchor;
       }
@@ -225,7 +225,7 @@ module _ (doc : ℕ) (s : Step) (ss : List Step) (c : Cut) (w : ScalarPlace) (h 
     quiet_last = quiet_tail last zr (end_of_break l.br zr) refl
 
     abbrev new_rows : List Row
-    new_rows = rows_under doc s ss c own_rows l step v filled near x holding last last_end quiet_last
+    new_rows = rows_under doc s ss c own_rows l step v filled near x last (holding (rows_text (node_rows l below last v) zr)) last_end quiet_last
 
     rows_text_is : h.found.s.before ++ (rows_text (front doc s ss c w h) [] ++ rows_text (with_content x row ∷ node_rows l below last v) zr) ≡ new_text (rows_segments l v k)
     rows_text_is =
@@ -246,7 +246,7 @@ module _ (doc : ℕ) (s : Step) (ss : List Step) (c : Cut) (w : ScalarPlace) (h 
         subst IsPiece parts (pieces_joined k.before (t ++ (rows_in l b v ++ z)) before_piece (pieces_joined t (rows_in l b v ++ z) (own_tail_piece doc s ss c w h) (pieces_joined (rows_in l b v) z lines (rest_piece doc s ss c w h))))
 
     pub rows_read : length (new_text (rows_segments l v k)) ≤ text_limit → ReadsAfter (replace doc (s ∷ ss) v) c (new_text (rows_segments l v k))
-    rows_read = reads_as new_rows (takes_under doc s ss c own_rows l step v filled near x holding last last_end quiet_last) (rows_segments l v k) rows_text_is rows_piece
+    rows_read = reads_as new_rows (takes_under doc s ss c own_rows l step v filled near x last (holding (rows_text (node_rows l below last v) zr)) last_end quiet_last) (rows_segments l v k) rows_text_is rows_piece
 
     -- on the line of a dash
     module _ (on_line : begins_on_line k ≡ true) where

@@ -1,5 +1,5 @@
 -- Operations that fit are carried out on texts that read.
-use Rattle.std.proofs.Common.{◌≡◌, ℕ, ◌≤◌, Bool, true, false, cond, leb, List, [], ◌∷◌, length, Option, Some, None, option_map, refl, sym, ap, ◌∙◌, subst}
+use Rattle.std.proofs.Common.{◌≡◌, ℕ, ◌≤◌, Bool, true, false, cond, leb, List, [], ◌∷◌, length, Option, Some, None, refl, sym, ap, ◌∙◌, subst}
 use Rattle.std.proofs.lemmas.Bool.{leb-true}
 use Rattle.yq_scalar.specs.Characters.{text_limit}
 use Rattle.yq_rows.specs.Rows.{Cut, cut_text}
@@ -12,14 +12,16 @@ use Rattle.yq_expr.specs.Rooms.{room_of}
 use Rattle.yq_expr.specs.RoomsKept.{LeavesRooms, MayFollow}
 use Rattle.yq_expr.specs.declared.refusal.Refusal.TheVariants.{TooLarge}
 use Rattle.yq_expr.proofs.updates.AlikeRooms.{rest_follow, rest_after}
-use Rattle.yq_splice.specs.Carried.{carrying, or_unbuilt, carry_one, carry_all}
-use Rattle.yq_splice.specs.Edit.{Edit, unreadable, refuses, unbuilt, gives, behind, and_then, by_reading, edit_of_segments}
+use Rattle.yq_splice.specs.Carried.{carrying, or_stay, carry_one, carry_all}
+use Rattle.yq_splice.specs.Edit.{Edit, unreadable, refuses, gives, behind, and_then, by_reading, edit_of_segments}
 use Rattle.yq_splice.specs.Patch.{Change}
 use Rattle.yq_splice.specs.Script.{Segment, new_text, changes}
+use Rattle.yq_splice.specs.Serving.{IsServed}
 use Rattle.yq_splice.specs.Valid.{HaveOperands}
 use Rattle.yq_splice.specs.Ways.{ReadsAfter}
 use Rattle.yq_splice.proofs.CarriedLaws.{text_read, cut_same}
 use Rattle.yq_splice.proofs.CarryingLaws.{carrying_is}
+use Rattle.yq_splice.proofs.FitServed.{fit_served}
 
 -- A text reads as documents, on which operations with valid operands may follow one another, with the room that it has.
 pub record Serves (docs : List Document) (ops : List Operation) (t : List ℕ) : Type 0 where
@@ -33,13 +35,22 @@ pub record Serves (docs : List Document) (ops : List Operation) (t : List ℕ) :
 abbrev Next : Operation → List ℕ → List Document → List Document
 Next op t docs = after_op (room_of t) op docs
 
+-- it fits the documents of the cut
+fits_there : (docs : List Document) (op : Operation) (ops : List Operation) (t : List ℕ) (s : Serves docs (op ∷ ops) t) → Fits (room_of (cut_text s.cut)) op (documents s.cut)
+fits_there docs op ops t s =
+    subst (λ (x : List ℕ). Fits (room_of x) op (documents s.cut)) (sym (text_read t s.cut s.is_read)) (subst (Fits (room_of t) op) (sym s.is) s.follow.fit.0)
+
+-- so it has a way
+has_way : (docs : List Document) (op : Operation) (ops : List Operation) (t : List ℕ) (s : Serves docs (op ∷ ops) t) → IsServed carrying op s.cut
+has_way docs op ops t s = fit_served op s.cut (ap read_at (text_read t s.cut s.is_read) ∙ s.is_read) s.operands.0 (fits_there docs op ops t s)
+
 -- what is made of the text by the first of them serves the others, and leads to the same documents
 turn_more : (docs : List Document) (op : Operation) (ops : List Operation) (t : List ℕ) (s : Serves docs (op ∷ ops) t) (ss : List Segment) → carrying op s.cut ≡ Some ss →
     length (new_text ss) ≤ text_limit → Serves (Next op t docs) ops (new_text ss) × (all_after (room_of (new_text ss)) ops (Next op t docs) ≡ all_after (room_of t) (op ∷ ops) docs)
 turn_more docs op ops t s ss is size =
     let new : List ℕ = new_text ss in
     let text : cut_text s.cut ≡ t = text_read t s.cut s.is_read in
-    let fits : Fits (room_of (cut_text s.cut)) op (documents s.cut) = subst (λ (x : List ℕ). Fits (room_of x) op (documents s.cut)) (sym text) (subst (Fits (room_of t) op) (sym s.is) s.follow.fit.0) in
+    let fits : Fits (room_of (cut_text s.cut)) op (documents s.cut) = fits_there docs op ops t s in
     let r : ReadsAfter op s.cut new = carrying_is.reads op s.cut ss (ap read_at text ∙ s.is_read) is s.operands.0 fits size in
     let docs_are : documents r.cut ≡ Next op t docs = r.documents_are ∙ (λ i. after_op (room_of (text i)) op (s.is i)) in
     let left : LeavesRooms op (room_of t) (room_of new) (Next op t docs) =
@@ -55,19 +66,17 @@ turn_more docs op ops t s ss is size =
 abbrev pub ComesTo : List Document → Edit → Type 0
 ComesTo docs unreadable = ⊥
 ComesTo docs (refuses why) = why ≡ TooLarge
-ComesTo docs unbuilt = Unit {0}
 ComesTo docs (gives new cs) = (cut : Cut) × (read_at new ≡ Some cut) × (documents cut ≡ docs)
 
 comes_behind : (docs : List Document) (ds : List Change) (e : Edit) → ComesTo docs e → ComesTo docs (behind ds e)
 comes_behind docs ds unreadable h = h
 comes_behind docs ds (refuses why) h = h
-comes_behind docs ds unbuilt h = h
 comes_behind docs ds (gives new cs) h = h
 
 turn : (docs : List Document) (op : Operation) (ops : List Operation) (t : List ℕ) (s : Serves docs (op ∷ ops) t) →
     ((m : List ℕ) → Serves (Next op t docs) ops m → ComesTo (all_after (room_of m) ops (Next op t docs)) (carry_all ops m)) →
-    (o : Option (List Segment)) → carrying op s.cut ≡ o → ComesTo (all_after (room_of t) (op ∷ ops) docs) (and_then (carry_all ops) (or_unbuilt (option_map edit_of_segments o)))
-turn docs op ops t s others None is = tt
+    (o : Option (List Segment)) → carrying op s.cut ≡ o → ComesTo (all_after (room_of t) (op ∷ ops) docs) (and_then (carry_all ops) (edit_of_segments (or_stay s.cut o)))
+turn docs op ops t s others None is = absurd (let e = sym is ∙ (has_way docs op ops t s).1 in cc)
 turn docs op ops t s others (Some ss) is = go (leb (length (new_text ss)) text_limit) refl
   where
     go : (b : Bool) → leb (length (new_text ss)) text_limit ≡ b →

@@ -1,5 +1,5 @@
 -- Of two ways one is enough for an operation.
-use Rattle.std.proofs.Common.{◌≡◌, List, Option, Some, None, refl, ap, ◌∙◌}
+use Rattle.std.proofs.Common.{◌≡◌, List, Option, Some, None, refl, ap}
 use Rattle.yq_rows.specs.Rows.{Cut}
 use Rattle.yq_expr.specs.Operations.{Operation}
 use Rattle.yq_splice.specs.Script.{Segment}

@@ -1,4 +1,4 @@
--- Where the root of a document comes that has no rows, behind a text that ends in a break.
+-- Where the root of a document comes that has no rows: in general, and behind a text that ends in a break.
 use Rattle.std.proofs.Common.{◌≡◌, ◌⊎◌, inl, inr, ℕ, zero, suc, ◌≤◌, List, [], ◌∷◌, ◌++◌, length, Some, None, Bool, true, false, not, ◌||◌, cond, refl, sym, ap, ◌∙◌, subst, arith, append_assoc, append-nil, ⊎_elim}
 use Rattle.std.proofs.lemmas.Bool.{false≢true, or_right}
 use Rattle.yq_scalar.specs.BlockWritten.{break_text}
@@ -22,7 +22,7 @@ use Rattle.yq_rows.proofs.seams.MarkerSeams.{marker_byte, three_lines, after_som
 use Rattle.yq_rows.proofs.splices.PartPlaces.{part_ends}
 use Rattle.yq_block.proofs.EndLaws.{break_tail}
 use Rattle.yq_block.proofs.LaidRows.{no_gap_here}
-use Rattle.yq_tree.specs.Documents.{begins_bare, has_begin}
+use Rattle.yq_tree.specs.Documents.{begins_bare, has_begin, lead_of}
 use Rattle.yq_tree.specs.PlacedRows.{PlacedPart, part_behind, placed_part, placed_document}
 use Rattle.yq_tree.specs.PrintedLines.{printed_lines, run_piece}
 use Rattle.yq_tree.specs.Reading.{read_at}
@@ -34,6 +34,7 @@ use Rattle.yq_tree.proofs.PlacedPartLaws.{map_some, placed_same}
 use Rattle.yq_tree.proofs.RemovalLines.{LineSeam, LiesIn, lies_in, seam_join}
 use Rattle.yq_change.specs.DocumentRows.{IsDocumentPart, number_from, part_number}
 use Rattle.yq_change.specs.PlacedParts.{StandsAt}
+use Rattle.yq_change.specs.Rooms.{is_block_root}
 use Rattle.yq_change.specs.TextPieces.{IsPiece}
 use Rattle.yq_change.proofs.PartLaws.{document_known, part_numbered}
 use Rattle.yq_change.proofs.PlacedPartLaws.{document_stands_at}
@@ -41,17 +42,11 @@ use Rattle.yq_change.proofs.TextPieceLaws.{text_is_piece}
 use Rattle.yq_splice.specs.RootWriting.{is_closed_text}
 use Rattle.yq_splice.proofs.AppendEntryLaws.{break_quiet}
 use Rattle.yq_splice.proofs.BlockRootLaws.{HasFirstLine, first_line, empty_cases, seam_pieces}
+use Rattle.yq_splice.proofs.ClosedTexts.{closed_behind, front_some}
 use Rattle.yq_splice.proofs.RootReadLaws.{TakesValue}
 use Rattle.yq_splice.proofs.RootRows.{HasRoom}
 
 -- ---- texts that end in a break
-
-closed_behind : (a b : List ℕ) → is_empty b ≡ false → is_closed_text (a ++ b) ≡ is_closed_text b
-unfolding is_closed_text
-closed_behind [] b some = refl
-closed_behind (x ∷ []) [] some = absurd (false≢true (sym some))
-closed_behind (x ∷ []) (y ∷ b) some = refl
-closed_behind (x ∷ (z ∷ a)) b some = closed_behind (z ∷ a) b some
 
 open_end : (l : List ℕ) → is_empty l ≡ false → NoneIn ends_line l [] → is_closed_text l ≡ false
 unfolding is_closed_text
@@ -73,10 +68,6 @@ last_line l x h closed = ⊎_elim {0, 0, 0}
     (λ k. record { white = h.white; comment = h.comment; line = record { break = h.line.break; spelled = h.line.spelled; blank = h.line.blank; remark = h.line.remark; ends = inl k }; some = h.some })
     (λ e. absurd (false≢true (sym (remark_open h.white h.comment l [] h.line h.some e.0) ∙ closed)))
     h.line.ends
-
-front_some : (p t : List ℕ) → is_empty p ≡ false → is_empty (p ++ t) ≡ false
-front_some [] t h = absurd (false≢true (sym h))
-front_some (b ∷ p) t h = refl
 
 closed_lines : (ls : List (List ℕ)) (x : List ℕ) → AreGapLines ls [] → is_closed_text (joined ls) ≡ true → AreGapLines ls x
 closed_lines [] x h e = tt
@@ -161,7 +152,7 @@ after_closed : (m t u : List ℕ) → IsMarkerLine m t → (t ≡ []) ⊎ (is_em
 after_closed m t u h (inr some) closed = after_some m t u h some
 after_closed m t u h (inl e) closed = let line = closed_marker m (subst (IsMarkerLine m) e h) (closed e) in rw line (or_right (is_empty m) true refl)
 
-long_some : (m : List ℕ) → 3 ≤ length m → is_empty m ≡ false
+pub long_some : (m : List ℕ) → 3 ≤ length m → is_empty m ≡ false
 long_some [] h = absurd (omega (arith, h))
 long_some (b ∷ m) h = refl
 
@@ -205,35 +196,70 @@ unwritten n c w at none = let d = bind_some (placed_document n c) at in go d.0 d
         }
     go d placed (r ∷ rs) rows e = let h = first_line r rs in absurd (by_line d r rs h (is_bare h.first.line.mark) (ap (root_of_lines d) (sym (ap printed_lines rows ∙ h.lines_are)) ∙ e))
 
+none_front : (a b : List ℕ) → a ++ b ≡ [] → a ≡ []
+none_front [] b e = refl
+none_front (x ∷ a) b e = absurd (let no : x ∷ (a ++ b) ≡ [] = e in cc)
+
 module _ (n : ℕ) (c : Cut) (w : RootPlace) (read : read_at (cut_text c) ≡ Some c) (h : IsUnwrittenRoot n c w) where
   pub stands : StandsAt c n h.d
   stands = document_stands_at c n h.d h.placed
 
-  there : IsDocumentPart (cut_text c) c n h.d.part
+  pub there : IsDocumentPart (cut_text c) c n h.d.part
   there = record { read = read; there = stands.there }
 
-  cut : IsCut (cut_text c) c
+  pub cut : IsCut (cut_text c) c
   cut = (document_known (cut_text c) c n h.d.part there).cut
 
   lies : LiesIn h.d
   lies = lies_in (begins_bare c || not (has_begin c)) true n c h.d cut.parts h.placed
 
-  gap_is : IsGap h.d.part.end h.d.behind
+  pub gap_is : IsGap h.d.part.end h.d.behind
   gap_is = subst (λ xs. AreRows unlimited xs h.d.part.end h.d.behind) h.rows_are lies.rows
 
-  part_is : (rest : List ℕ) → part_text h.d.part rest ≡ h.d.part.end ++ rest
+  pub part_is : (rest : List ℕ) → part_text h.d.part rest ≡ h.d.part.end ++ rest
   part_is rest = ap (λ xs. rows_text xs (h.d.part.end ++ rest)) h.rows_are
 
   -- the old text
   pub whole : w.before ++ w.behind ≡ cut_text c
   whole = (λ i. h.before_is i ++ h.behind_is i) ∙ (append_assoc h.d.before h.d.part.end h.d.behind ∙ (ap (λ t. h.d.before ++ t) (sym (part_is h.d.behind)) ∙ sym stands.text))
 
+  pub seam : LineSeam (h.d.before ++ h.d.part.end) h.d.behind
+  seam = seam_join h.d.before h.d.part.end h.d.behind (subst (LineSeam h.d.before) (part_is h.d.behind) lies.seam) (gap_end h.d.part.end h.d.behind gap_is)
+
   pub pieces : IsPiece w.before × IsPiece w.behind
   pieces =
-      let seam : LineSeam h.d.before (h.d.part.end ++ h.d.behind) = subst (LineSeam h.d.before) (part_is h.d.behind) lies.seam in
-      let both = seam_pieces (h.d.before ++ h.d.part.end) h.d.behind (seam_join h.d.before h.d.part.end h.d.behind seam (gap_end h.d.part.end h.d.behind gap_is))
-      (subst IsPiece (sym ((λ i. sym h.before_is i ++ sym h.behind_is i) ∙ whole)) (text_is_piece c read)) in
+      let both = seam_pieces (h.d.before ++ h.d.part.end) h.d.behind seam (subst IsPiece (sym ((λ i. sym h.before_is i ++ sym h.behind_is i) ∙ whole)) (text_is_piece c read)) in
       (subst IsPiece (sym h.before_is) both.0, subst IsPiece (sym h.behind_is) both.1)
+
+  -- no rows are there
+  pub no_rows_there : is_block_root h.d.part ≡ true
+  no_rows_there = ap (λ xs. begins_no_node (lines_of xs)) h.rows_are
+
+  pub lead_is : head_comment h.d.part.end ≡ lead_of h.d.part
+  lead_is = ap (λ xs. head_comment (first_gap xs h.d.part.end)) (sym h.rows_are)
+
+  abbrev marker : List ℕ
+  marker = marker_before [] (part_number n c) c
+
+  own_line : IsMarkerLine marker (part_text (nth_part (part_number n c) c) (behind_part (part_number n c) c)) → IsMarkerLine marker (h.d.part.end ++ h.d.behind)
+  own_line = subst (IsMarkerLine marker) ((λ i. part_text ((part_numbered c n h.d.part stands.there).0 i) (stands.behind i)) ∙ part_is h.d.behind)
+
+  -- rows may stand behind the marker in front, where the text before them is closed or some stands behind that
+  pub starts_at : (h.d.part.end ++ h.d.behind ≡ [] → is_closed_text (h.d.before ++ h.d.part.end) ≡ true) → (t : List ℕ) → is_after marker t ≡ true
+  starts_at closed t = go (marker_at c (part_number n c) true cut.parts)
+    where
+      ends_closed : IsMarkerLine marker (h.d.part.end ++ h.d.behind) → h.d.part.end ++ h.d.behind ≡ [] → is_closed_text marker ≡ true
+      ends_closed own none =
+          let front = ends_in_marker (begins_bare c || not (has_begin c)) n c h.d [] h.placed in
+          let before : h.d.before ≡ h.d.before ++ h.d.part.end = sym (append-nil h.d.before) ∙ ap (λ x. h.d.before ++ x) (sym (none_front h.d.part.end h.d.behind none)) in
+          sym (closed_behind front.0 marker (long_some marker own.long)) ∙ (ap is_closed_text (sym front.1 ∙ before) ∙ closed none)
+
+      by_line : IsMarkerLine marker (h.d.part.end ++ h.d.behind) → is_after marker t ≡ true
+      by_line own = after_closed marker (h.d.part.end ++ h.d.behind) t own (empty_cases (h.d.part.end ++ h.d.behind)) (ends_closed own)
+
+      go : (marker ≡ []) ⊎ IsMarkerLine marker (part_text (nth_part (part_number n c) c) (behind_part (part_number n c) c)) → is_after marker t ≡ true
+      go (inl e) = ap (λ m. is_after m t) e
+      go (inr line) = by_line (own_line line)
 
   module _ (closed : is_closed_text w.before ≡ true) (br : Break) where
     all_closed : is_closed_text (h.d.before ++ h.d.part.end) ≡ true
@@ -257,33 +283,5 @@ module _ (n : ℕ) (c : Cut) (w : RootPlace) (read : read_at (cut_text c) ≡ So
         apart breaks.Lf = refl
         apart breaks.CrLf = refl
 
-    marker_closed : IsMarkerLine (marker_before [] (part_number n c) c) (part_text (nth_part (part_number n c) c) (behind_part (part_number n c) c)) → (t : List ℕ) → is_after (marker_before [] (part_number n c) c) t ≡ true
-    marker_closed line t =
-        let text : part_text (nth_part (part_number n c) c) (behind_part (part_number n c) c) ≡ h.d.part.end ++ h.d.behind =
-        (λ i. part_text ((part_numbered c n h.d.part stands.there).0 i) (stands.behind i)) ∙ part_is h.d.behind in
-        let own : IsMarkerLine (marker_before [] (part_number n c) c) (h.d.part.end ++ h.d.behind) = subst (IsMarkerLine (marker_before [] (part_number n c) c)) text line in
-        after_closed (marker_before [] (part_number n c) c) (h.d.part.end ++ h.d.behind) t own (empty_cases (h.d.part.end ++ h.d.behind)) (λ none.
-        let front = ends_in_marker (begins_bare c || not (has_begin c)) n c h.d [] h.placed in
-        let end : h.d.part.end ≡ [] = none_first h.d.part.end h.d.behind none in
-        sym (closed_behind front.0 (marker_before [] (part_number n c) c) (long_some _ own.long)) ∙ (ap is_closed_text (sym front.1 ∙ (sym (append-nil h.d.before) ∙ ap (λ x. h.d.before ++ x) (sym end))) ∙ all_closed))
-      where
-        none_first : (a b : List ℕ) → a ++ b ≡ [] → a ≡ []
-        none_first [] b e = refl
-        none_first (x ∷ a) b e = absurd (let no : x ∷ (a ++ b) ≡ [] = e in cc)
-
-    starts : (t : List ℕ) → is_after (marker_before [] (part_number n c) c) t ≡ true
-    starts t = go (marker_at c (part_number n c) true cut.parts)
-      where
-        go : (marker_before [] (part_number n c) c ≡ []) ⊎ IsMarkerLine (marker_before [] (part_number n c) c) (part_text (nth_part (part_number n c) c) (behind_part (part_number n c) c)) → is_after (marker_before [] (part_number n c) c) t ≡ true
-        go (inl e) = ap (λ m. is_after m t) e
-        go (inr line) = marker_closed line t
-
     pub takes_unwritten : TakesValue n c h.d h.d.part.end (break_text br) []
-    takes_unwritten = record {
-      stands = stands;
-      old = there;
-      block = ap (λ xs. begins_no_node (lines_of xs)) h.rows_are;
-      room = room;
-      lead = ap (λ xs. head_comment (first_gap xs h.d.part.end)) (sym h.rows_are);
-      starts = λ t e. starts t;
-    }
+    takes_unwritten = record { stands = stands; old = there; block = no_rows_there; room = room; lead = lead_is; starts = λ t e. starts_at (λ none. all_closed) t }

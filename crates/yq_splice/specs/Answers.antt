@@ -5,7 +5,7 @@ use Rattle.yq_scalar.specs.declared.fault.ReadError.{ReadError}
 use Rattle.yq_scalar.specs.declared.fault.ReadError.TheVariants as reading
 use Rattle.yq_expr.specs.declared.plan_error.PlanError.{PlanError}
 use Rattle.yq_expr.specs.declared.plan_error.PlanError.TheVariants as planning
-use Rattle.yq_splice.specs.Edit.{Edit, unreadable, refuses, unbuilt, gives}
+use Rattle.yq_splice.specs.Edit.{Edit, unreadable, refuses, gives}
 use Rattle.yq_splice.specs.declared.edited.Edited.{Edited}
 use Rattle.yq_splice.specs.declared.edited.EditError.{EditError}
 use Rattle.yq_splice.specs.declared.edited.EditError.TheVariants as error
@@ -24,7 +24,6 @@ of_planning planning.Memory = error.Memory
 abbrev pub Fails : EditError → Edit → Type 0
 Fails (error.Read fault) edit = (edit ≡ unreadable) × (fault.kind ≢ NotUtf8)
 Fails (error.Refused why) edit = edit ≡ refuses why
-Fails error.NotInProfile edit = edit ≡ unbuilt
 Fails error.Memory edit = Unit {0}
 
 -- the answer is what the edit comes to (own)

@@ -1,6 +1,6 @@
 -- What operations, updates and programs make of a text.
-use Rattle.std.specs.Prelude.{ℕ, List, Option, Some, None, option_map}
-use Rattle.yq_rows.specs.Rows.{Cut}
+use Rattle.std.specs.Prelude.{ℕ, List, [], ◌∷◌, Option, Some, None}
+use Rattle.yq_rows.specs.Rows.{Cut, cut_text}
 use Rattle.yq_tree.specs.Reading.{documents, read_at}
 use Rattle.yq_expr.specs.Judgement.{Judgement}
 use Rattle.yq_expr.specs.Judgement as judgement
@@ -14,7 +14,7 @@ use Rattle.yq_splice.specs.BlockWriting.{replace_block_way}
 use Rattle.yq_splice.specs.CollectionReplacing.{replace_collection_way}
 use Rattle.yq_splice.specs.CommentWays.{line_comment_way, head_comment_way}
 use Rattle.yq_splice.specs.CompactReplacing.{replace_compact_way}
-use Rattle.yq_splice.specs.Edit.{Edit, refuses, unbuilt, in_order, by_reading, edit_of_segments}
+use Rattle.yq_splice.specs.Edit.{Edit, refuses, in_order, by_reading, edit_of_segments}
 use Rattle.yq_splice.specs.FlowWays.{flow_append_way, flow_replace_way, flow_remove_way}
 use Rattle.yq_splice.specs.Removing.{remove_way}
 use Rattle.yq_splice.specs.RemovingFirst.{remove_first_way}
@@ -23,6 +23,7 @@ use Rattle.yq_splice.specs.RootWriting.{root_way}
 use Rattle.yq_splice.specs.ScalarCollection.{scalar_collection_way}
 use Rattle.yq_splice.specs.ScalarLiteral.{scalar_literal_way}
 use Rattle.yq_splice.specs.ScalarReplacing.{scalar_line_way}
+use Rattle.yq_splice.specs.Script.{Segment, keep}
 use Rattle.yq_splice.specs.SoleRemoving.{sole_by}
 use Rattle.yq_splice.specs.Ways.{Way, or_else}
 
@@ -94,14 +95,14 @@ content_ways = or_else tree_ways sole_ways
 unfoldable pub carrying : Way
 carrying = or_else content_ways comment_ways
 
--- an edit, if there is one; where no way is one for an operation, that isn't carried out yet (own)
-abbrev pub or_unbuilt : Option Edit → Edit
-or_unbuilt None = unbuilt
-or_unbuilt (Some edit) = edit
+-- the segments of a way; where there is none, as for no operation that fits, the text stays (own)
+abbrev pub or_stay : Cut → Option (List Segment) → List Segment
+or_stay c None = keep (cut_text c) ∷ []
+or_stay c (Some ss) = ss
 
 -- an operation carried out on the text of a cut (own)
 abbrev pub carry_one : Operation → Cut → Edit
-carry_one op c = or_unbuilt (option_map edit_of_segments (carrying op c))
+carry_one op c = edit_of_segments (or_stay c (carrying op c))
 
 -- the same by the reading of a text (own)
 abbrev pub carried : Operation → List ℕ → Edit

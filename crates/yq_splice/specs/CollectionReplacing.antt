@@ -35,19 +35,11 @@ EndsIn t rest = (own : List ℕ) × (t ≡ own ++ rest)
 abbrev pub lines_upto : MarkPlace → CollectionEnd → LinesUnder
 lines_upto w x = let t = up_to w.behind x.behind in record { mark = w; gone = less_break t; break = last_break t; behind = x.behind }
 
--- a key or dash, if no anchor stands behind it
-abbrev pub unnamed_mark : MarkPlace → Option MarkPlace
-unnamed_mark w = if w.named then None else Some w
-
--- the key or dash of the entry or item to which steps lead in document n, if no anchor stands behind it
-abbrev pub bare_mark : ℕ → List Step → Cut → Option MarkPlace
-bare_mark n steps c = mark_place n steps c >>= unnamed_mark
-
--- that key or dash, with the lines of the block collection under it
+-- the key or dash of the entry or item to which steps lead in document n, with its anchor, if one stands behind it, and with the lines of the block collection under it
 abbrev pub lines_under : ℕ → List Step → Cut → Option LinesUnder
-lines_under n steps c = bare_mark n steps c >>= λ w. option_map (lines_upto w) (collection_end n steps c)
+lines_under n steps c = mark_place n steps c >>= λ w. option_map (lines_upto w) (collection_end n steps c)
 
--- What is written in the place of such a collection: a text behind the key or dash, and lines under it, of which one is nothing (own).
+-- What is written in the place of such a collection: a text behind the key or dash and its anchor, and lines under it, of which one is nothing (own).
 pub record Written : Type 0 where
   pub beside : List ℕ
   pub below : List ℕ
@@ -73,7 +65,7 @@ exchange_segments u x =
 abbrev pub collection_exchanged : ℕ → List Step → Node → Cut → Option (List Segment)
 collection_exchanged n steps v c = lines_under n steps c >>= λ u. option_map (exchange_segments u) (written_there (layout_of n c) v u.mark)
 
--- a value takes the place of a block collection under a key or dash: the lines above, and the end of the line of the key or dash stay (8.2)
+-- a value takes the place of a block collection under a key or dash: the lines above, its anchor, and the end of the line of the key or dash stay (8.2)
 unfoldable pub replace_collection_way : Way
 replace_collection_way (replace doc steps v) c = collection_exchanged doc steps v c
 replace_collection_way (append doc steps key v) c = None

@@ -7,25 +7,22 @@ use Rattle.yq_expr.specs.declared.refusal.Refusal.TheVariants.{TooLarge}
 use Rattle.yq_splice.specs.Patch.{Change}
 use Rattle.yq_splice.specs.Script.{Segment, new_text, changes}
 
--- What an edit comes to: the text has no reading, it is refused, or it gives a new text by these changes; or it isn't carried out yet, a case that goes when all are (own).
+-- What an edit comes to: the text has no reading, it is refused, or it gives a new text by these changes (own).
 pub data Edit : Type 0 where
   unreadable : Edit
   refuses : Refusal → Edit
-  unbuilt : Edit
   gives : List ℕ → List Change → Edit
 
 -- an edit with splices before its own (own)
 abbrev pub behind : List Change → Edit → Edit
 behind cs unreadable = unreadable
 behind cs (refuses why) = refuses why
-behind cs unbuilt = unbuilt
 behind cs (gives t ds) = gives t (cs ++ ds)
 
 -- an edit, and then one of the text that it gives (own)
 abbrev pub and_then : (List ℕ → Edit) → Edit → Edit
 and_then f unreadable = unreadable
 and_then f (refuses why) = refuses why
-and_then f unbuilt = unbuilt
 and_then f (gives t cs) = behind cs (f t)
 
 -- an edit for each thing in order, each of the text that the one before gives (own)

@@ -29,4 +29,3 @@ pub mod ScalarReplacing
 pub mod ScalarLiteral
 pub mod ScalarCollection
 pub mod CompactReplacing
-pub mod DashTelling

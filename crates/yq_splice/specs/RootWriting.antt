@@ -1,6 +1,5 @@
 -- The way to write the root of a document: in the place of a block collection, or where none is written (YAML 1.2.2, 8.2 and 9.1.2; own).
-use Rattle.std.specs.Prelude.{ℕ, List, [], ◌∷◌, ◌++◌, Option, Some, None, Bool, true, false, if◌then◌else◌}
-use Rattle.yq_scalar.specs.Answers.{◌>>=◌}
+use Rattle.std.specs.Prelude.{ℕ, List, [], ◌∷◌, Option, Some, None, option_map, Bool, true, false}
 use Rattle.yq_scalar.specs.BlockWritten.{break_text}
 use Rattle.yq_scalar.specs.Text.{is_feed}
 use Rattle.yq_scalar.specs.Tree.{Node}
@@ -8,6 +7,7 @@ use Rattle.yq_tree.specs.RootPlaces.{RootPlace, root_place}
 use Rattle.yq_block.specs.declared.layout.Layout.{Layout}
 use Rattle.yq_block.specs.BlockText.{block_value}
 use Rattle.yq_expr.specs.Operations.{replace, append, remove, line_comment, head_comment}
+use Rattle.yq_splice.specs.AppendWay.{put_behind}
 use Rattle.yq_splice.specs.Layouts.{layout_of}
 use Rattle.yq_splice.specs.Replacing.{node_in, is_kept}
 use Rattle.yq_splice.specs.Script.{Segment, keep, put}
@@ -23,19 +23,19 @@ is_closed_text (b ∷ (d ∷ t)) = is_closed_text (d ∷ t)
 abbrev pub root_segments : Layout → Node → RootPlace → List ℕ → List Segment
 root_segments l v w old = keep w.before ∷ (put old (block_value l w.column v) ∷ (keep w.behind ∷ []))
 
--- the same where a value comes on lines of its own behind the gap of a document that has no rows; where it is the null that the document stands for, the bytes stay (9.1.2)
+-- the same where a value comes on lines of its own behind the gap of a document that has no rows: behind a text without a final break its break comes first; where it is the null that the document stands for, the bytes stay (9.1.2)
 abbrev pub new_segments : Bool → Layout → Node → RootPlace → List Segment
 new_segments true l v w = keep w.before ∷ (keep w.behind ∷ [])
-new_segments false l v w = keep w.before ∷ (put [] (block_value l w.column v ++ break_text l.br) ∷ (keep w.behind ∷ []))
+new_segments false l v w = keep w.before ∷ (put [] (put_behind (is_closed_text w.before) (break_text l.br) (block_value l w.column v)) ∷ (keep w.behind ∷ []))
 
--- the one of these that the place of a root asks for; behind a text without a final break there is none
-abbrev pub root_at : Bool → Layout → Node → RootPlace → Option (List ℕ) → Option (List Segment)
-root_at kept l v w (Some old) = Some (root_segments l v w old)
-root_at kept l v w None = if is_closed_text w.before then Some (new_segments kept l v w) else None
+-- the one of these that the place of a root asks for
+abbrev pub root_at : Bool → Layout → Node → RootPlace → Option (List ℕ) → List Segment
+root_at kept l v w (Some old) = root_segments l v w old
+root_at kept l v w None = new_segments kept l v w
 
 -- a value as a root: in the place of a block collection the text before its first key or dash stays, and so do its last break and what stands behind that (8.2, 9.1.2)
 unfoldable pub root_way : Way
-root_way (replace doc steps v) c = root_place doc steps c >>= λ w. root_at (is_kept (node_in doc steps c) v) (layout_of doc c) v w w.old
+root_way (replace doc steps v) c = option_map (λ w. root_at (is_kept (node_in doc steps c) v) (layout_of doc c) v w w.old) (root_place doc steps c)
 root_way (append doc steps key v) c = None
 root_way (remove doc steps) c = None
 root_way (line_comment doc steps text) c = None

@@ -1,18 +1,23 @@
 -- What an accepted edit promises.
-use Rattle.std.specs.Prelude.{◌≡◌, ℕ, ◌≤◌, List, [], ◌∷◌, ◌++◌, Some, length}
+use Rattle.std.specs.Prelude.{◌≡◌, ⊤, ℕ, ◌<◌, ◌≤◌, List, [], ◌∷◌, ◌++◌, Some, length}
 use Rattle.yq_scalar.specs.Characters.{text_limit}
 use Rattle.yq_rows.specs.Rows.{Cut}
 use Rattle.yq_tree.specs.Documents.{Document, Reads}
 use Rattle.yq_tree.specs.Reading.{documents, read_at}
+use Rattle.yq_expr.specs.Fits.{Fits}
 use Rattle.yq_expr.specs.Judgement.{gives}
 use Rattle.yq_expr.specs.Meaning.{meaning}
 use Rattle.yq_expr.specs.Operations.{Operation}
 use Rattle.yq_expr.specs.Plans.{plan}
 use Rattle.yq_expr.specs.Program.{Program, Update, updates}
 use Rattle.yq_expr.specs.Rooms.{room_of}
-use Rattle.yq_splice.specs.Carried.{carrying}
+use Rattle.yq_expr.specs.declared.refusal.Refusal.TheVariants.{TooLarge}
+use Rattle.yq_splice.specs.Carried.{carrying, or_stay}
 use Rattle.yq_splice.specs.Patch.{Change, all_done, lengths_done}
 use Rattle.yq_splice.specs.Script.{Segment, old_text, new_text, changes}
+use Rattle.yq_splice.specs.Ways.{ReadsAfter}
+use Rattle.yq_splice.specs.declared.edited.EditError.{EditError}
+use Rattle.yq_splice.specs.declared.edited.EditError.TheVariants as error
 
 -- a text leads to another one by splices, in a step for each thing in order (own)
 abbrev pub Leads : {A : Type 0} → (A → List ℕ → List ℕ → List Change → Type 0) → List A → List ℕ → List ℕ → List Change → Type 0
@@ -24,7 +29,7 @@ pub record IsCarried (op : Operation) (t new : List ℕ) (cs : List Change) : Ty
   pub cut : Cut
   pub read : read_at t ≡ Some cut
   pub segments : List Segment
-  pub way : carrying op cut ≡ Some segments
+  pub way : or_stay cut (carrying op cut) ≡ segments
   pub old_is : old_text segments ≡ t
   pub new_is : new_text segments ≡ new
   pub size : length new ≤ text_limit
@@ -57,6 +62,37 @@ pub record AreMeant (p : Program) (t new : List ℕ) (cs : List Change) : Type 0
   pub all : List Update
   pub program : p ≡ updates all
   pub leads : Leads IsMeant all t new cs
+
+-- A text reads, and an operation fits its documents (own).
+pub record IsFitting (op : Operation) (t : List ℕ) : Type 0 where
+  pub cut : Cut
+  pub read : read_at t ≡ Some cut
+  pub fits : Fits (room_of t) op (documents cut)
+
+-- An operation is carried out on a text by a way: its segments are of the text, and the new text, which they make, reads as the documents after the operation; the splices are theirs (own).
+pub record IsApplied (op : Operation) (t new : List ℕ) (cs : List Change) : Type 0 where
+  pub cut : Cut
+  pub read : read_at t ≡ Some cut
+  pub segments : List Segment
+  pub way : carrying op cut ≡ Some segments
+  pub old_is : old_text segments ≡ t
+  pub new_is : new_text segments ≡ new
+  pub splices : changes segments ≡ cs
+  pub reads : ReadsAfter op cut new
+
+-- The text that a way makes of a text is larger than one may be (own).
+pub record IsLarge (op : Operation) (t : List ℕ) : Type 0 where
+  pub cut : Cut
+  pub read : read_at t ≡ Some cut
+  pub segments : List Segment
+  pub way : carrying op cut ≡ Some segments
+  pub size : text_limit < length (new_text segments)
+
+-- what refuses an operation that fits: the size of the new text, or want of memory (own)
+abbrev pub IsRefused : EditError → Operation → List ℕ → Type 0
+IsRefused (error.Read fault) op t = ⊥
+IsRefused (error.Refused why) op t = (why ≡ TooLarge) × IsLarge op t
+IsRefused error.Memory op t = ⊤
 
 -- The splices, done in order, lead from the old text to the new one, and so do their lengths (own).
 pub record AreSplices (changes : List Change) (t new : List ℕ) : Type 0 where

@@ -1,12 +1,15 @@
 //! Carrying out: operations done on a text, one after the other.
-ghost use Rattle.std.specs.Prelude.{◌≡◌, ◌++◌, [], IfOk, OnOk, Some, string_bytes};
+ghost use Rattle.std.specs.Prelude.{◌≡◌, ◌++◌, [], IfErr, IfOk, OnOk, Some, string_bytes};
 ghost use Rattle.yq_expr.specs.Operations.{operation_of, operations_of};
 ghost use Rattle.yq_tree.specs.Reading.{cut_of, read_at};
 ghost use Rattle.yq_splice.specs.Answers.{Edits};
 ghost use Rattle.yq_splice.specs.Carried as spec;
 ghost use Rattle.yq_splice.specs.Edit.{behind};
+ghost use Rattle.yq_splice.specs.Theorems.{IsApplied, IsFitting, IsRefused};
 
 use crate::edited::{EditError, Edited};
+use crate::operands::operand_holds;
+use crate::script::{Segment, exchange};
 use crate::ways::by_ways;
 use std::alloc::{AllocError, Global};
 use yq_expr::Op;
@@ -34,13 +37,15 @@ pub(crate) fn follow(done: &mut Edited, next: Edited) -> Result<(), AllocError>
     Ok(())
 }
 
-/// An operation carried out on documents.
+/// An operation carried out on documents. One that fits them has a way; by
+/// one that has none the text stays.
+#[tactic(auto, using(crate::proofs::WayLaws::given_or_stays, crate::proofs::WayLaws::none_stays, crate::proofs::WayLaws::fails_or_stays))]
 fn carry_one(alloc: Global, documents: &Documents<'_>, op: &Op) -> Result<Edited, EditError>
     ensures { Edits result (spec.carry_one (operation_of op.now) (cut_of documents.now)) }
 {
     match by_ways(alloc, documents, op)? {
         Some(edited) => Ok(edited),
-        None => Err(EditError::NotInProfile),
+        None => exchange(alloc, &[Segment::Keep(documents.text())]),
     }
 }
 
@@ -50,6 +55,22 @@ fn carry(alloc: Global, text: &str, op: &Op) -> Result<Edited, EditError>
 {
     let documents = read(alloc, text.as_bytes())?;
     carry_one(alloc, &documents, op)
+}
+
+/// Carries out an operation on a text that has a reading and whose documents
+/// it fits: the text reads as the documents after it, and each byte that the
+/// operation doesn't name stays as it is.
+///
+/// It is refused where the new text would be larger than 16,777,216 bytes
+/// ([`Refusal::TooLarge`](yq_expr::Refusal::TooLarge)), and for no other reason but memory.
+pub fn apply_op(alloc: Global, text: &str, op: &Op) -> Result<Edited, EditError>
+    requires { IsFitting (operation_of op.now) text.now }
+    ensures exact { Edits result (spec.carried (operation_of op.now) text.now) }
+    ensures done { IfOk result (λ e. IsApplied (operation_of op.now) text.now (string_bytes e.text) e.splices.items) }
+    ensures refused { IfErr result (λ e. IsRefused e (operation_of op.now) text.now) }
+{
+    operand_holds(op);
+    carry(alloc, text, op)
 }
 
 /// Operations carried out on the text that others gave.

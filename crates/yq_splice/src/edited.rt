@@ -21,8 +21,6 @@ pub enum EditError {
     Read(ReadFault),
     /// The program is refused.
     Refused(Refusal),
-    /// The program is not carried out yet, or not on such a text.
-    NotInProfile,
     /// Memory ran out.
     Memory,
 }

@@ -63,7 +63,8 @@ fn entries_hold(entries: &Vec<(String, Value)>)
     }
 }
 
-fn operand_holds(op: &Op)
+/// The operand of an operation is valid, as each is that the code holds.
+pub(crate) fn operand_holds(op: &Op)
     ensures { HasOperand (operation_of op.now) }
 {
     match op {

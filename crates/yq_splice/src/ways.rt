@@ -1,7 +1,13 @@
 //! Ways to carry out operations, each for some of them.
-ghost use Rattle.yq_expr.specs.Operations.{operation_of};
-ghost use Rattle.yq_tree.specs.Reading.{cut_of};
+ghost use Rattle.std.specs.Prelude.{◌≡◌, Some};
+ghost use Rattle.yq_rows.specs.Rows.{Cut, cut_text};
+ghost use Rattle.yq_expr.specs.Fits.{Fits};
+ghost use Rattle.yq_expr.specs.Operations.{Operation, operation_of};
+ghost use Rattle.yq_expr.specs.Rooms.{room_of};
+ghost use Rattle.yq_tree.specs.Reading.{cut_of, documents, read_at};
 ghost use Rattle.yq_splice.specs.Carried as spec;
+ghost use Rattle.yq_splice.specs.Operands.{HasOperand};
+ghost use Rattle.yq_splice.specs.Serving.{IsServed};
 ghost use Rattle.yq_splice.specs.WayAnswers.{Carries};
 ghost use Rattle.yq_splice.specs.Ways.{IsWay};
 
@@ -304,4 +310,9 @@ pub(crate) fn by_ways(
 /// make of it reads as the documents after it, where it fits.
 pub fn ways_carry_out()
     ensures { IsWay spec.carrying }
+{}
+
+/// Every operation that fits the documents of a text has a way.
+pub fn fitting_has_a_way()
+    ensures { (op : Operation) (c : Cut) → read_at (cut_text c) ≡ Some c → HasOperand op → Fits (room_of (cut_text c)) op (documents c) → IsServed spec.carrying op c }
 {}

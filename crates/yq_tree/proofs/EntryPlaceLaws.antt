@@ -35,7 +35,7 @@ use Rattle.yq_lines.proofs.Values.{If}
 use Rattle.yq_tree.specs.declared.reading.checks.DocumentLines.{DocumentLines}
 
 -- a line is one of its row, and that is one of the rows
-abbrev IsSeated : List Row → Seat → Type 0
+abbrev pub IsSeated : List Row → Seat → Type 0
 IsSeated rs s = (slice_get rs s.before ≡ Some s.row) × (s.line ≤ length s.row.dashes)
 
 seated : (n : ℕ) (rs : List Row) → If (seat n rs) (IsSeated rs)
@@ -47,7 +47,7 @@ seated n (r ∷ rs) = go (ltb (length r.dashes) n) refl (seat (n - suc (length r
     go true e (Some s) h = h
     go false e o h = (refl, ltb-false (length r.dashes) n e)
 
-seat_is : (n : ℕ) (rs : List Row) (s : Seat) → seat n rs ≡ Some s → IsSeated rs s
+pub seat_is : (n : ℕ) (rs : List Row) (s : Seat) → seat n rs ≡ Some s → IsSeated rs s
 seat_is n rs s e = go (seat n rs) (seated n rs) e
   where
     same : {x y : Seat} → Some x ≡ Some y → x ≡ y

@@ -97,4 +97,5 @@ pub mod CollectionTold
 pub mod FlowToldLaws
 pub mod FlowNodeLaws
 pub mod MarkLaws
+pub mod DashLaws
 pub mod ScalarPlaceLaws

@@ -63,5 +63,7 @@ pub mod ScalarPlaces
 pub mod ScalarTelling
 pub mod FirstBreak
 pub mod CollectionTelling
+pub mod DashPlaces
+pub mod DashTelling
 pub mod FlowNodes
 pub mod FlowTold

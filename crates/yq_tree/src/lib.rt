@@ -16,6 +16,7 @@ pub use nodes::comments::Comments;
 pub use nodes::node::{Node, NodeKind};
 pub use path::{Part, Path, Span};
 pub use places::collection_end::CollectionEnd;
+pub use places::dash_place::DashPlace;
 pub use places::first_removal::FirstRemoval;
 pub use places::inline_place::InlinePlace;
 pub use places::line_end::LineEnd;

@@ -3,6 +3,7 @@
 pub mod collection_end;
 pub mod comment_place;
 pub mod content_place;
+pub mod dash_place;
 pub mod entry_place;
 pub mod extent;
 pub mod first_break;

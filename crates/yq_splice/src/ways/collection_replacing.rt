@@ -23,7 +23,7 @@ use yq_expr::{Op, Value};
 use yq_tree::{CollectionEnd, Documents, MarkPlace, Path, split_break};
 
 /// A text up to the rest in which it ends, less its last break, and that break.
-fn lines_upto<'d>(text: &'d str, rest: &str) -> (&'d str, &'d str)
+pub(crate) fn lines_upto<'d>(text: &'d str, rest: &str) -> (&'d str, &'d str)
     requires { spec.EndsIn text.now rest.now }
     ensures gone { result.0.now ≡ lines.less_break (spec.up_to text.now rest.now) }
     ensures last { result.1.now ≡ lines.last_break (spec.up_to text.now rest.now) }
@@ -63,18 +63,7 @@ fn written_there(
     Ok(Some((spaced(alloc, &text)?, String::new(alloc))))
 }
 
-/// The key or dash of the entry or item at a path, if no anchor stands behind it.
-fn bare_mark<'d>(documents: &'d Documents<'_>, path: &Path) -> Option<MarkPlace<'d>>
-    ensures { option_map mark_told result ≡ spec.bare_mark path.now.doc (steps_of path.now) (cut_of documents.now) }
-{
-    let mark = documents.mark_place(path)?;
-    if mark.named {
-        return None;
-    }
-    Some(mark)
-}
-
-/// That key or dash, and the end of the block collection under it.
+/// The key or dash of the entry or item at a path, and the end of the block collection under it.
 fn lines_under<'d>(
     documents: &'d Documents<'_>,
     path: &Path,
@@ -83,7 +72,7 @@ fn lines_under<'d>(
     ensures place { option_map (λ p. spec.lines_upto (mark_told p.0) (collection_told p.1)) result ≡ spec.lines_under path.now.doc (steps_of path.now) (cut_of documents.now) }
 {
     let _whole = documents.whole();
-    let mark = bare_mark(documents, path)?;
+    let mark = documents.mark_place(path)?;
     let end = documents.collection_end(path)?;
     Some((mark, end))
 }

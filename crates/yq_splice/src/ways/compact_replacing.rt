@@ -1,94 +1,98 @@
-//! The way to replace a compact collection that begins on the line of a dash.
-ghost use Rattle.std.specs.Prelude.{◌≡◌, Some, option_map};
+//! The way to replace a compact collection, which begins on the line of a dash.
+ghost use Rattle.std.specs.Prelude.{◌≡◌, IfOk, Some, option_map, string_bytes};
 ghost use Rattle.yq_inline.specs.Values as values;
 ghost use Rattle.yq_tree.specs.CollectionTelling.{collection_told};
-ghost use Rattle.yq_tree.specs.CommentTelling.{above_told};
+ghost use Rattle.yq_tree.specs.DashTelling.{dash_told};
 ghost use Rattle.yq_tree.specs.Located.{steps_of};
 ghost use Rattle.yq_tree.specs.Reading.{cut_of};
+ghost use Rattle.yq_tree.specs.declared.places.collection_end.CollectionEnd.{CollectionEnd as CollectionEndOf};
+ghost use Rattle.yq_tree.specs.declared.places.dash_place.DashPlace.{DashPlace as DashPlaceOf};
 ghost use Rattle.yq_expr.specs.Operations.{operation_of};
+ghost use Rattle.yq_splice.specs.CollectionReplacing.{EndsIn};
 ghost use Rattle.yq_splice.specs.CompactReplacing as spec;
-ghost use Rattle.yq_splice.specs.DashTelling.{dash_told};
 ghost use Rattle.yq_splice.specs.WayAnswers.{Carries};
 
 use crate::edited::{EditError, Edited};
+use crate::layout::layout_of;
 use crate::script::{Segment, exchange};
-use crate::ways::collection_replacing::spaced;
+use crate::ways::block_writing::{behind_dash, behind_space, lines_below};
+use crate::ways::collection_replacing::{lines_upto, spaced};
 use crate::ways::replacing::inline_written;
-use std::alloc::Global;
+use std::alloc::{AllocError, Global};
+use yq_block::{Layout, is_filled};
 use yq_expr::{Op, Value};
-use yq_tree::{CollectionEnd, Documents, LinesAbove, Path, split_break};
+use yq_tree::{CollectionEnd, DashPlace, Documents, Path};
 
-/// A dash with a compact collection behind it.
-#[derive(Clone, Copy, Debug)]
-pub(crate) struct DashPlace<'d> {
-    /// The text up to the dash, with it.
-    pub front: &'d str,
-    /// The text from behind the dash to the end of the collection's last line.
-    pub gone: &'d str,
-    /// The break of that line, if it has one.
-    pub line_break: &'d str,
-    /// The text behind it.
-    pub behind: &'d str,
-}
-
-/// The dash in a column with which a row begins, where a text ends in that row, and what stands
-/// behind the dash before a rest.
-fn dash_in<'d>(whole: &'d str, row: &'d str, column: usize, behind: &'d str) -> DashPlace<'d>
-    requires { spec.IsDashed whole.now row.now column behind.now }
-    ensures { dash_told result ≡ spec.dash_in whole.now row.now column behind.now }
+/// What is written of a collection with items or entries behind a dash, or on lines under it.
+fn filled_behind(
+    alloc: Global,
+    layout: &Layout,
+    place: &DashPlace<'_>,
+    value: &Value,
+) -> Result<String, AllocError>
+    ensures { IfOk result (λ s. string_bytes s ≡ spec.filled_behind layout.now (values.node_of value.now) (dash_told place.now)) }
 {
-    let (_, rest) = row.split_at(column + 1);
-    let (front, _) = whole.split_at(whole.len() - rest.len());
-    let (inner, _) = rest.split_at(rest.len() - behind.len());
-    let (gone, line_break) = split_break(inner);
-    DashPlace {
-        front,
-        gone,
-        line_break,
-        behind,
+    if place.noted {
+        let column = behind_dash(place.column)?;
+        lines_below(alloc, layout, column, value)
+    } else {
+        behind_space(alloc, layout, place.column, value)
     }
 }
 
-/// The dash with which a row begins, and what stands behind it up to the end of a collection.
-fn dash_upto<'d>(whole: &'d str, above: LinesAbove<'d>, end: CollectionEnd<'d>) -> DashPlace<'d>
-    requires { spec.BeginsWithDash whole.now (above_told above) (collection_told end) }
-    ensures { dash_told result ≡ spec.dash_upto (above_told above.entry) (collection_told end.entry) }
+/// What is written of a value behind a dash in the place of a compact collection.
+fn value_behind(
+    alloc: Global,
+    layout: &Layout,
+    place: &DashPlace<'_>,
+    value: &Value,
+) -> Result<Option<String>, AllocError>
+    ensures { IfOk result (λ w. option_map string_bytes w ≡ spec.value_behind layout.now (values.node_of value.now) (dash_told place.now)) }
 {
-    dash_in(whole, above.behind, above.column, end.behind)
+    if is_filled(value) {
+        return Ok(Some(filled_behind(alloc, layout, place, value)?));
+    }
+    let Some(text) = inline_written(alloc, "", false, value)? else {
+        return Ok(None);
+    };
+    Ok(Some(spaced(alloc, &text)?))
 }
 
-/// The dash of the item at a path, where it begins its row, and a collection begins behind it.
-fn dash_place<'d>(documents: &'d Documents<'_>, path: &Path) -> Option<DashPlace<'d>>
-    ensures { option_map dash_told result ≡ spec.dash_place path.now.doc (steps_of path.now) (cut_of documents.now) }
+/// The dash of the item at a path, and the end of the compact collection behind it.
+fn compact_place<'d>(
+    documents: &'d Documents<'_>,
+    path: &Path,
+) -> Option<(DashPlace<'d>, CollectionEnd<'d>)>
+    ensures ends { (d : DashPlaceOf) (x : CollectionEndOf) → result ≡ Some (d, x) → EndsIn d.behind.now x.behind.now }
+    ensures place { option_map (λ p. spec.compact_upto (dash_told p.0) (collection_told p.1)) result ≡ spec.compact_place path.now.doc (steps_of path.now) (cut_of documents.now) }
 {
-    let whole = documents.whole();
-    if documents.line_end(path).is_some() {
-        return None;
-    }
-    let above = documents.lines_above(path)?;
+    let _whole = documents.whole();
+    let dash = documents.dash_place(path)?;
     let end = documents.collection_end(path)?;
-    Some(dash_upto(whole, above, end))
+    Some((dash, end))
 }
 
-/// A text put behind a dash and a space, in the place of a collection.
+/// A text put in the place of the compact collection behind a dash.
 fn exchange_behind(
     alloc: Global,
-    place: DashPlace<'_>,
+    dash: &DashPlace<'_>,
+    end: &CollectionEnd<'_>,
     text: &str,
 ) -> Result<Option<Edited>, EditError>
-    ensures { Carries result (Some (spec.dash_segments (dash_told place.entry) text.now)) }
+    requires { EndsIn dash.now.behind.now end.now.behind.now }
+    ensures { Carries result (Some (spec.compact_segments (spec.compact_upto (dash_told dash.now) (collection_told end.now)) text.now)) }
 {
-    let new = spaced(alloc, text)?;
+    let (gone, last) = lines_upto(dash.behind, end.behind);
     let segments = [
-        Segment::Keep(place.front),
-        Segment::Put(place.gone, &new),
-        Segment::Keep(place.line_break),
-        Segment::Keep(place.behind),
+        Segment::Keep(dash.before),
+        Segment::Put(gone, text),
+        Segment::Keep(last),
+        Segment::Keep(end.behind),
     ];
     Ok(Some(exchange(alloc, &segments)?))
 }
 
-/// A value that is written inline in the place of the compact collection at a path.
+/// A value put in the place of the compact collection at a path.
 fn exchange_compact(
     alloc: Global,
     documents: &Documents<'_>,
@@ -97,16 +101,17 @@ fn exchange_compact(
 ) -> Result<Option<Edited>, EditError>
     ensures { Carries result (spec.compact_exchanged path.now.doc (steps_of path.now) (values.node_of value.now) (cut_of documents.now)) }
 {
-    let Some(place) = dash_place(documents, path) else {
+    let Some((dash, end)) = compact_place(documents, path) else {
         return Ok(None);
     };
-    let Some(text) = inline_written(alloc, "", false, value)? else {
+    let layout = layout_of(documents, path.doc);
+    let Some(text) = value_behind(alloc, &layout, &dash, value)? else {
         return Ok(None);
     };
-    exchange_behind(alloc, place, &text)
+    exchange_behind(alloc, &dash, &end, &text)
 }
 
-/// An operation carried out by a value that is written inline in the place of a compact collection.
+/// An operation carried out by a value in the place of a compact collection.
 pub(crate) fn replace_compact_way(
     alloc: Global,
     documents: &Documents<'_>,

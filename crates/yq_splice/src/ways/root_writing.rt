@@ -1,12 +1,13 @@
 //! The way to write the root of a document: in the place of a block collection, or where none is
 //! written.
-ghost use Rattle.std.specs.Prelude.{◌≡◌, ◌++◌, IfOk, Some, string_bytes};
+ghost use Rattle.std.specs.Prelude.{◌≡◌, IfOk, Some, string_bytes};
 ghost use Rattle.yq_inline.specs.Values.{node_of};
 ghost use Rattle.yq_scalar.specs.BlockWritten.{break_text};
 ghost use Rattle.yq_block.specs.BlockText.{block_value};
 ghost use Rattle.yq_expr.specs.Operations.{operation_of};
 ghost use Rattle.yq_tree.specs.Reading.{cut_of};
 ghost use Rattle.yq_tree.specs.RootReading.{root_told};
+ghost use Rattle.yq_splice.specs.AppendWay.{put_behind};
 ghost use Rattle.yq_splice.specs.RootWriting as spec;
 ghost use Rattle.yq_splice.specs.WayAnswers.{Carries};
 ghost use Rattle.yq_splice.specs.Ways.{IsWay};
@@ -54,17 +55,23 @@ fn value_text(
     Ok(text)
 }
 
-/// The same with a break behind it.
+/// The same with a break: behind it, or in front of it, where the line before has none.
 fn value_lines(
     alloc: Global,
     layout: &Layout,
-    column: usize,
+    place: &RootPlace<'_>,
     value: &Value,
 ) -> Result<String, AllocError>
-    ensures { IfOk result (λ s. string_bytes s ≡ block_value layout.now column (node_of value.now) ++ break_text layout.now.br) }
+    ensures { IfOk result (λ s. string_bytes s ≡ put_behind (spec.is_closed_text place.now.before.now) (break_text layout.now.br) (block_value layout.now place.now.column (node_of value.now))) }
 {
-    let mut text = value_text(alloc, layout, column, value)?;
-    text.push_str(break_text(layout.br))?;
+    let mut text = String::new(alloc);
+    if is_closed_text(place.before.as_bytes()) {
+        push_block(alloc, &mut text, layout, place.column, value)?;
+        text.push_str(break_text(layout.br))?;
+    } else {
+        text.push_str(break_text(layout.br))?;
+        push_block(alloc, &mut text, layout, place.column, value)?;
+    }
     Ok(text)
 }
 
@@ -101,7 +108,7 @@ fn put_new(
         let segments = [Segment::Keep(place.before), Segment::Keep(place.behind)];
         return Ok(Some(exchange(alloc, &segments)?));
     }
-    let lines = value_lines(alloc, layout, place.column, value)?;
+    let lines = value_lines(alloc, layout, place, value)?;
     let segments = [
         Segment::Keep(place.before),
         Segment::Put("", &lines),
@@ -111,7 +118,7 @@ fn put_new(
 }
 
 /// An operation carried out by a value as a root: in the place of a block collection, or where none
-/// is written, behind a text that is empty or ends in a break.
+/// is written.
 pub(crate) fn root_way(
     alloc: Global,
     documents: &Documents<'_>,
@@ -128,9 +135,6 @@ pub(crate) fn root_way(
     let layout = layout_of(documents, path.doc);
     if let Some(old) = place.old {
         return put_root(alloc, &layout, place, old, value);
-    }
-    if !is_closed_text(place.before.as_bytes()) {
-        return Ok(None);
     }
     let kept = is_kept(documents.locate(path), value);
     put_new(alloc, kept, &layout, &place, value)

@@ -18,7 +18,7 @@ use yq_rows::{Row, Rows};
 
 /// How far it is to the dash before which so many others stand, or to the end, in bytes.
 #[tactic(auto, unfolding(crate::specs::EntryReading::dash_at))]
-fn dash_at(dashes: &[u8], count: usize) -> usize
+pub(crate) fn dash_at(dashes: &[u8], count: usize) -> usize
     ensures value { result ≡ spec.dash_at count dashes.now }
     ensures within { result ≤ length dashes.now }
 {

@@ -1,9 +1,9 @@
-use Rattle.std.proofs.Common.{rules, true, option_map, sym, ap, ◌∙◌, subst}
+use Rattle.std.proofs.Common.{rules, option_map, sym, subst}
 use Rattle.yq_inline.specs.Values as values
 use Rattle.yq_tree.specs.Nodes.{node_of}
-use Rattle.yq_splice.specs.RootWriting.{is_closed_text, root_way}
+use Rattle.yq_splice.specs.RootWriting.{root_way}
 use Rattle.yq_splice.specs.WayAnswers.{Carries}
-use Rattle.yq_splice.proofs.RootAnswers.{no_place, collection_there, nothing_there, open_there}
+use Rattle.yq_splice.proofs.RootAnswers.{no_place, collection_there, nothing_there}
 use Rattle.yq_splice.proofs.ways.root_writing.root_way.Goals as goal
 
 pub returns-in_default : goal.returns-in_default
@@ -20,14 +20,8 @@ returns-in-Some-old c =
     c.in-Some.is c.in-Some-old.is c.layout_of-layout.ensures in
     rw c.in-Replace.is (subst (Carries c.put_root.result) (sym way) c.put_root.ensures)
 
-pub returns-then-not-is_closed_text : goal.returns-then-not-is_closed_text
-returns-then-not-is_closed_text c =
-    rw c.in-Replace.is
-    (open_there c.in-Replace.path (values.node_of c.in-Replace.value) c.args.documents.now c.root_place.result c.root_place.ensures c.in-Some.place c.in-Some.is c.in_default-old.is
-    (sym c.if-not-is_closed_text.true ∙ (c.is_closed_text.ensures ∙ ap is_closed_text c.as_bytes.ensures.value)))
-
 pub returns : goal.returns
 returns c =
-    let way = nothing_there c.in-Replace.path (values.node_of c.in-Replace.value) c.args.documents.now c.root_place.result c.root_place.ensures c.in-Some.place c.layout_of-layout.result true c.is_kept-kept.result (option_map node_of c.locate.result)
-    c.in-Some.is c.in_default-old.is c.layout_of-layout.ensures (sym c.if-not-is_closed_text.false ∙ (c.is_closed_text.ensures ∙ ap is_closed_text c.as_bytes.ensures.value)) c.locate.ensures.node c.is_kept-kept.ensures in
+    let way = nothing_there c.in-Replace.path (values.node_of c.in-Replace.value) c.args.documents.now c.root_place.result c.root_place.ensures c.in-Some.place c.layout_of-layout.result c.is_kept-kept.result (option_map node_of c.locate.result)
+    c.in-Some.is c.in_default-old.is c.layout_of-layout.ensures c.locate.ensures.node c.is_kept-kept.ensures in
     rw c.in-Replace.is (subst (Carries c.put_new.result) (sym way) c.put_new.ensures)

@@ -1,0 +1,23 @@
+-- The lines of a document of a cut that has a reading.
+use Rattle.std.proofs.Common.{◌≡◌, ℕ, Some, true, not, ◌||◌, refl}
+use Rattle.std.specs.List.{slice_get}
+use Rattle.yq_rows.specs.Rows.{Part, Cut, cut_text}
+use Rattle.yq_tree.specs.Documents.{begins_bare, document_parts, has_begin}
+use Rattle.yq_tree.specs.PathPieces.{PrintedDocument, printed_document}
+use Rattle.yq_tree.specs.Reading.{read_at}
+use Rattle.yq_tree.proofs.PrintedLaws.{IsPrintedDocument, document_is}
+use Rattle.yq_change.proofs.PartLaws.{document_known}
+use Rattle.yq_change.proofs.PlaceTextLaws.{around}
+
+-- The lines of document doc, which has part p.
+pub record IsPrintedAt (c : Cut) (doc : ℕ) (p : Part) : Type 0 where
+  pub document : PrintedDocument
+  pub is : printed_document doc c ≡ Some document
+  pub printed : IsPrintedDocument p document
+
+pub printed_at : (c : Cut) (doc : ℕ) (p : Part) → read_at (cut_text c) ≡ Some c → slice_get (document_parts c) doc ≡ Some p → IsPrintedAt c doc p
+printed_at c doc p read there =
+    let s = around (begins_bare c || not (has_begin c)) doc c p there in
+    let known = document_known (cut_text c) c doc p (record { read = read; there = there }) in
+    let q = document_is (begins_bare c || not (has_begin c)) true doc c _ known.cut.parts s.printed in
+    record { document = _; is = s.printed; printed = record { lines = refl; told = q.2.told } }

@@ -1,0 +1,67 @@
+//! Dashes with a collection behind them on their lines.
+ghost use Rattle.std.specs.Prelude.{◌≡◌, ◌≤◌, ◌+◌, length, option_map};
+ghost use Rattle.yq_scalar.specs.Characters.{text_limit};
+ghost use Rattle.yq_rows.specs.View.{view};
+ghost use Rattle.yq_tree.specs.DashPlaces as spec;
+ghost use Rattle.yq_tree.specs.DashTelling as telling;
+ghost use Rattle.yq_tree.specs.Located.{steps_of};
+ghost use Rattle.yq_tree.specs.Reading.{cut_of};
+
+use crate::document::Documents;
+use crate::nodes::comments::comment_text;
+use crate::path::Path;
+use crate::places::row_place::{dash_at, line_start};
+use yq_rows::Row;
+
+/// A dash of a text with a collection behind it on its line.
+#[derive(Clone, Copy, Debug)]
+pub struct DashPlace<'d> {
+    /// The text up to the dash, with it.
+    pub before: &'d str,
+    /// The text behind it.
+    pub behind: &'d str,
+    /// Its column, counted from 0.
+    pub column: usize,
+    /// Whether its row has an anchor or a comment.
+    pub noted: bool,
+}
+
+/// The column of a line of a row.
+fn dash_column(row: &Row<'_>, line: usize) -> usize
+    requires { (view row.now).column + length (view row.now).dashes ≤ text_limit }
+    ensures { result ≡ telling.dash_column (view row.now) line }
+{
+    row.column() + dash_at(row.dashes().as_bytes(), line)
+}
+
+/// Whether a row has an anchor or a comment.
+fn is_noted(row: &Row<'_>) -> bool
+    ensures { result ≡ spec.is_noted (view row.now) }
+{
+    !row.anchor().is_empty() || comment_text(row.tail()).is_some()
+}
+
+impl Documents<'_> {
+    /// The dash of the item at a path, if a collection begins behind it on its line. The root has
+    /// none, nor has what stands in flow.
+    pub fn dash_place(&self, path: &Path) -> Option<DashPlace<'_>>
+        ensures { option_map telling.dash_told result ≡ spec.dash_place path.now.doc (steps_of path.now) (cut_of self.now) }
+    {
+        let whole = self.whole();
+        let seat = self.seat(path)?;
+        if seat.line == seat.dashes {
+            return None;
+        }
+        let start = line_start(&self.rows, seat);
+        let row = self.rows.row(seat.row);
+        let column = dash_column(&row, seat.line);
+        let (before, behind) = whole.split_at(start + 1);
+        let noted = is_noted(&row);
+        Some(DashPlace {
+            before,
+            behind,
+            column,
+            noted,
+        })
+    }
+}
