@@ -1,8 +1,8 @@
 -- An operation that fits is carried out by a way.
-use Rattle.std.proofs.Common.{◌≡◌, ℕ, ◌<◌, ◌≤◌, Bool, true, false, cond, leb, List, [], ◌∷◌, length, Option, Some, None, Result, Ok, Err, IfOk, IfErr, string_bytes, refl, sym, ap, ◌∙◌, subst}
-use Rattle.std.proofs.lemmas.Bool.{leb-true, leb-false}
+use Rattle.std.proofs.Common.{◌≡◌, ℕ, ◌<◌, Bool, true, false, cond, leb, List, [], ◌∷◌, length, Option, Some, None, Result, Ok, Err, IfOk, IfErr, string_bytes, refl, sym, ap, ◌∙◌, subst}
+use Rattle.std.proofs.lemmas.Bool.{leb-false}
 use Rattle.yq_scalar.specs.Characters.{text_limit}
-use Rattle.yq_rows.specs.Rows.{Cut, cut_text}
+use Rattle.yq_rows.specs.Rows.{cut_text}
 use Rattle.yq_tree.specs.Reading.{cut_of, documents, read_at}
 use Rattle.yq_expr.specs.Fits.{Fits}
 use Rattle.yq_expr.specs.Operations.{Operation}
@@ -11,12 +11,12 @@ use Rattle.yq_expr.specs.declared.refusal.Refusal.{Refusal}
 use Rattle.yq_expr.specs.declared.refusal.Refusal.TheVariants.{TooLarge}
 use Rattle.yq_splice.specs.Answers.{Edits, Fails}
 use Rattle.yq_splice.specs.Carried.{carrying, or_stay, carry_one, carried}
-use Rattle.yq_splice.specs.Edit.{Edit, unreadable, refuses, gives, by_reading, edit_of_segments}
+use Rattle.yq_splice.specs.Edit.{unreadable, refuses, gives, by_reading, edit_of_segments}
 use Rattle.yq_splice.specs.Operands.{HasOperand}
 use Rattle.yq_splice.specs.Patch.{Change}
 use Rattle.yq_splice.specs.Script.{Segment, keep, new_text, changes}
 use Rattle.yq_splice.specs.Serving.{IsServed}
-use Rattle.yq_splice.specs.Theorems.{IsFitting, IsApplied, IsLarge, IsRefused}
+use Rattle.yq_splice.specs.Theorems.{IsFitting, IsApplied, IsRefused}
 use Rattle.yq_splice.specs.WayAnswers.{Carries}
 use Rattle.yq_splice.specs.Ways.{ReadsAfter}
 use Rattle.yq_splice.specs.declared.edited.Edited.{Edited}

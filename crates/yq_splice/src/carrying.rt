@@ -39,7 +39,7 @@ pub(crate) fn follow(done: &mut Edited, next: Edited) -> Result<(), AllocError>
 
 /// An operation carried out on documents. One that fits them has a way; by
 /// one that has none the text stays.
-#[tactic(auto, using(crate::proofs::WayLaws::given_or_stays, crate::proofs::WayLaws::none_stays, crate::proofs::WayLaws::fails_or_stays))]
+#[tactic(auto, using(crate::proofs::WayLaws::given_or_stays, crate::proofs::WayLaws::fails_or_stays))]
 fn carry_one(alloc: Global, documents: &Documents<'_>, op: &Op) -> Result<Edited, EditError>
     ensures { Edits result (spec.carry_one (operation_of op.now) (cut_of documents.now)) }
 {

@@ -1,4 +1,4 @@
-use Rattle.std.proofs.Common.{Option, Ok, List, subst}
+use Rattle.std.proofs.Common.{Option, Ok, subst}
 use Rattle.yq_expr.specs.Operations.{operation_of}
 use Rattle.yq_tree.specs.Reading.{cut_of}
 use Rattle.yq_splice.specs.Carried.{carrying}
