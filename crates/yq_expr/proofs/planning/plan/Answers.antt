@@ -16,7 +16,7 @@ pub returns-clause-fits : goal.returns-clause-fits
 returns-clause-fits c =
     let t : List ℕ = c.args.documents.now in
     λ u e. answer_fits (λ v. operations_of v.items) u (room_of t) (documents_of t) c.planned.result (rooms_are_ready t c.are_ready.ensures)
-      (literals_hold (program_of c.args.program.now) c.args.nth u c.literals_hold.ensures e) (c.planned.ensures u e)
+    (literals_hold (program_of c.args.program.now) c.args.nth u c.literals_hold.ensures e) (c.planned.ensures u e)
 
 pub returns-clause-refused : goal.returns-clause-refused
 returns-clause-refused c =
