@@ -4,11 +4,11 @@ mod layouts;
 mod printed;
 mod refused_memory;
 
-use yq_expr::{Program, Term, Update, Value};
+use yq_expr::{Program, Syntax, Term, Update, Value};
 
 /// The literal that an expression `. = LITERAL` assigns.
 fn literal(program: &Program) -> Option<&Value> {
-    let Program::Updates(updates) = program else {
+    let Syntax::Updates(updates) = program.syntax() else {
         return None;
     };
     let [Update::Assign(assignment)] = updates.as_slice() else {

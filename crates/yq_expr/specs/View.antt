@@ -8,7 +8,7 @@ use Rattle.yq_expr.specs.declared.program.Condition as condition
 use Rattle.yq_expr.specs.declared.program.Stage as stage
 use Rattle.yq_expr.specs.declared.program.Term as term
 use Rattle.yq_expr.specs.declared.program.Update as update
-use Rattle.yq_expr.specs.declared.program.Program as program
+use Rattle.yq_expr.specs.declared.program.Syntax as syntax
 
 -- the step that one of the code stands for (own)
 abbrev pub step_of : step.Step → Step
@@ -42,7 +42,7 @@ update_of (update.TheVariants.Assign a) = assign (map stage_of a.left.items) a.o
 update_of (update.TheVariants.Delete stages) = delete (map stage_of stages.items)
 update_of (update.TheVariants.Comment c) = comment (map stage_of c.left.items) c.place (string_bytes c.text)
 
--- the program that one of the code stands for (own)
-abbrev pub program_of : program.Program → Program
-program_of (program.TheVariants.Read stages) = read (map stage_of stages.items)
-program_of (program.TheVariants.Updates us) = updates (map update_of us.items)
+-- the program that a syntax tree of the code stands for (own)
+abbrev pub program_of : syntax.Syntax → Program
+program_of (syntax.TheVariants.Read stages) = read (map stage_of stages.items)
+program_of (syntax.TheVariants.Updates us) = updates (map update_of us.items)

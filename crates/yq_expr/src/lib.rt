@@ -29,7 +29,7 @@ pub use plan_error::PlanError;
 pub use planning::{copied_steps, plan};
 pub use program::{
     Assignment, Comment, CommentPlace, Comparison, Condition, Operand, Operator, Program, Stage,
-    Step, Term, Update,
+    Step, Syntax, Term, Update,
 };
 pub use refusal::Refusal;
 pub use yq_inline::Value;

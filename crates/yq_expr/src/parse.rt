@@ -5,7 +5,7 @@ ghost use Rattle.yq_expr.specs.Grammar.{literal_depth};
 ghost use Rattle.yq_expr.specs.Lexing.{tokens};
 ghost use Rattle.yq_expr.specs.Outcome.{Answers, Derives, IsRefused, has_pattern, parsed};
 ghost use Rattle.yq_expr.specs.Parse as spec;
-ghost use Rattle.yq_expr.specs.Program.{Program as Outline, LiteralsHold};
+ghost use Rattle.yq_expr.specs.Program.{Program as Outline};
 ghost use Rattle.yq_expr.specs.View.{stage_of, update_of, program_of};
 
 mod literal;
@@ -16,7 +16,7 @@ mod update;
 use crate::error::ParseError;
 use crate::front::is_end;
 use crate::pattern::has_pattern;
-use crate::program::{Program, Stage, Update};
+use crate::program::{Program, Stage, Syntax, Update};
 use crate::survey::survey;
 use std::alloc::Global;
 
@@ -27,24 +27,32 @@ pub fn parse_expr(alloc: Global, text: &str) -> Result<Program, ParseError>
     ensures exact { Answers program_of result (spec.outcome text.now) }
     ensures found { IfOk result (λ p. Derives text.now (program_of p) × (has_pattern (program_of p) ≡ false)) }
     ensures only { (p : Outline) → Derives text.now p → has_pattern p ≡ false → Answers program_of result (parsed p) }
-    ensures values { IfOk result (λ p. LiteralsHold (program_of p)) }
     ensures refused { IfErr result (λ e. IsRefused e text.now) }
 {
     parse(alloc, text)
 }
 
-#[tactic(auto, unfolding(crate::specs::Parse::outcome))]
+/// The program of a text.
 fn parse(alloc: Global, text: &str) -> Result<Program, ParseError>
+    ensures { Answers program_of result (spec.outcome text.now) }
+{
+    let syntax = syntax(alloc, text)?;
+    Ok(Program::new(syntax))
+}
+
+/// The syntax tree of the program of a text.
+#[tactic(auto, unfolding(crate::specs::Parse::outcome))]
+fn syntax(alloc: Global, text: &str) -> Result<Syntax, ParseError>
     ensures { Answers program_of result (spec.outcome text.now) }
 {
     if survey(text)? {
         return Err(ParseError::NotInProfile);
     }
-    let program = program(alloc, text)?;
-    if has_pattern(&program) {
+    let syntax = program(alloc, text)?;
+    if has_pattern(&syntax) {
         return Err(ParseError::Pattern);
     }
-    Ok(program)
+    Ok(syntax)
 }
 
 /// A pipe, and no more.
@@ -61,12 +69,12 @@ fn read(alloc: Global, text: &str) -> Result<Vec<Stage>, ParseError>
 
 /// Updates, and no more.
 #[tactic(auto, unfolding(crate::specs::Parse::updates_at))]
-fn updates(alloc: Global, text: &str) -> Result<Program, ParseError>
+fn updates(alloc: Global, text: &str) -> Result<Syntax, ParseError>
     ensures { Gives program_of result (spec.updates_at literal_depth (tokens text.now)) }
 {
     let (updates, rest) = update::updates(alloc, text)?;
     if is_end(rest) {
-        Ok(Program::Updates(updates))
+        Ok(Syntax::Updates(updates))
     } else {
         Err(ParseError::Syntax)
     }
@@ -74,11 +82,11 @@ fn updates(alloc: Global, text: &str) -> Result<Program, ParseError>
 
 /// A program: a pipe if the text is one, and else updates.
 #[tactic(auto, unfolding(crate::specs::Parse::program_at))]
-fn program(alloc: Global, text: &str) -> Result<Program, ParseError>
+fn program(alloc: Global, text: &str) -> Result<Syntax, ParseError>
     ensures { Gives program_of result (spec.program_at literal_depth (tokens text.now)) }
 {
     match read(alloc, text) {
-        Ok(stages) => Ok(Program::Read(stages)),
+        Ok(stages) => Ok(Syntax::Read(stages)),
         Err(ParseError::Syntax) => updates(alloc, text),
         Err(e) => Err(e),
     }

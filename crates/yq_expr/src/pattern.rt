@@ -4,7 +4,7 @@ ghost use Rattle.std.specs.Prelude.{◌≡◌, ◌==◌, ◌||◌, string_bytes}
 ghost use Rattle.yq_expr.specs.Outcome as spec;
 ghost use Rattle.yq_expr.specs.View.{step_of, operand_of, condition_of, stage_of, term_of, update_of, program_of};
 
-use crate::program::{Condition, Operand, Program, Stage, Step, Term, Update};
+use crate::program::{Condition, Operand, Stage, Step, Syntax, Term, Update};
 
 /// Whether the text has a `*` or a `?`.
 fn is_pattern(text: &str) -> bool
@@ -102,11 +102,11 @@ fn any_matches(updates: &[Update]) -> bool
 
 /// Whether the program asks for keys or values that match a pattern.
 #[tactic(auto, using(crate::proofs::Lists::list_any_map))]
-pub(crate) fn has_pattern(program: &Program) -> bool
-    ensures { result ≡ spec.has_pattern (program_of program.now) }
+pub(crate) fn has_pattern(syntax: &Syntax) -> bool
+    ensures { result ≡ spec.has_pattern (program_of syntax.now) }
 {
-    match program {
-        Program::Read(stages) => pipe_matches(stages),
-        Program::Updates(updates) => any_matches(updates),
+    match syntax {
+        Syntax::Read(stages) => pipe_matches(stages),
+        Syntax::Updates(updates) => any_matches(updates),
     }
 }

@@ -34,7 +34,7 @@ use crate::plan_error::PlanError;
 use crate::planning::changes::changes;
 pub use crate::planning::operations::copied_steps;
 use crate::planning::operations::operations;
-use crate::program::{Program, Update};
+use crate::program::{Program, Syntax, Update};
 use crate::refusal::Refusal;
 use std::alloc::Global;
 use yq_tree::Documents;
@@ -67,9 +67,9 @@ fn planned(
     requires { nth < spec.update_count (program_of program.now) }
     ensures { (u : spec.Update) → spec.update_at nth (program_of program.now) ≡ Some u → Plans (λ v. operations_of v.items) result (plans.plan u (room_of documents.now) (documents_of documents.now)) }
 {
-    match program {
-        Program::Read(_) => Ok(Vec::new(alloc)),
-        Program::Updates(updates) => plan_update(alloc, &updates[nth], documents),
+    match program.syntax() {
+        Syntax::Read(_) => Ok(Vec::new(alloc)),
+        Syntax::Updates(updates) => plan_update(alloc, &updates[nth], documents),
     }
 }
 
@@ -86,13 +86,14 @@ pub fn plan(
     ensures exact { (u : spec.Update) → spec.update_at nth (program_of program.now) ≡ Some u → Plans (λ v. operations_of v.items) result (plans.plan u (room_of documents.now) (documents_of documents.now)) }
     // The operations, one after the other, make what the update means.
     ensures meaning { (u : spec.Update) → spec.update_at nth (program_of program.now) ≡ Some u → IfOk result (λ ops. meaning u (room_of documents.now) (documents_of documents.now) ≡ gives (all_after (room_of documents.now) (operations_of ops.items) (documents_of documents.now))) }
-    // Each fits at its turn, where the update's literals are values, as those of a parsed expression are.
-    ensures fits { (u : spec.Update) → spec.update_at nth (program_of program.now) ≡ Some u → spec.UpdatesHold (u ∷ []) → IfOk result (λ ops. AllFit (room_of documents.now) (operations_of ops.items) (documents_of documents.now)) }
+    // Each fits at its turn.
+    ensures fits { (u : spec.Update) → spec.update_at nth (program_of program.now) ≡ Some u → IfOk result (λ ops. AllFit (room_of documents.now) (operations_of ops.items) (documents_of documents.now)) }
     // A refusal is that of what the update means.
     ensures refused { (u : spec.Update) (why : Refusal) → spec.update_at nth (program_of program.now) ≡ Some u → result ≡ Err (PlanError.Refused why) → meaning u (room_of documents.now) (documents_of documents.now) ≡ refuses why }
     // What the update means is refused only with that refusal.
     ensures refuses { (u : spec.Update) (why : Refusal) → spec.update_at nth (program_of program.now) ≡ Some u → meaning u (room_of documents.now) (documents_of documents.now) ≡ refuses why → (result ≡ Err (PlanError.Refused why)) ⊎ (result ≡ Err PlanError.Memory) }
 {
     documents.are_ready();
+    program.literals_hold();
     planned(alloc, program, nth, documents)
 }

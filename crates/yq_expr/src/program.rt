@@ -1,15 +1,38 @@
-//! Programs: what an expression says, as a syntax tree.
+//! Programs: what an expression says, as a syntax tree whose literals are values.
 ghost use Rattle.std.specs.List.{list_all};
 ghost use Rattle.std.specs.Prelude.{◌≡◌};
 ghost use Rattle.yq_expr.specs.Program as spec;
 ghost use Rattle.yq_expr.specs.View.{program_of, step_of};
 
+use std::marker::Model;
 use yq_inline::Value;
 use yq_scalar::Scalar;
 
-/// A program: a read, or updates that are done one after the other.
+/// A program, known by its syntax tree. Each literal is a value as it may be written.
 #[derive(Debug, Drop)]
-pub enum Program {
+pub struct Program {
+    syntax: Syntax,
+}
+
+impl Model for Program {
+    ghost use Rattle.std.specs.Coded.{codes};
+    ghost use Rattle.yq_inline.specs.contracts.value.Value as value;
+    ghost use Rattle.yq_expr.specs.Program as spec;
+    ghost use Rattle.yq_expr.specs.View.{program_of};
+    ghost use Rattle.yq_expr.specs.declared.program.Syntax.{Syntax};
+
+    ghost Value = { Syntax };
+
+    ghost coded = { Prim.hlevel (codes, value.the_row.coded) };
+
+    ghost view = { λ p. p.syntax };
+
+    ghost invariant = { λ p. spec.LiteralsHold (program_of p.syntax) };
+}
+
+/// The syntax tree of a program: a read, or updates that are done one after the other.
+#[derive(Debug, Drop)]
+pub enum Syntax {
     /// The stages of a pipe, one or more.
     Read(Vec<Stage>),
     /// One or more updates.
@@ -136,20 +159,43 @@ pub(crate) fn is_simple(steps: &[Step]) -> bool
 }
 
 impl Program {
+    /// The program of a syntax tree whose literals are values.
+    pub(crate) fn new(syntax: Syntax) -> Program
+        requires { spec.LiteralsHold (program_of syntax) }
+        ensures { result ≡ syntax }
+    {
+        Program { syntax }
+    }
+
+    /// Its syntax tree.
+    pub fn syntax(&self) -> &Syntax
+        ensures { result.now ≡ self.now }
+    {
+        &self.syntax
+    }
+
+    /// Each literal is a value as it may be written: the keys of each mapping differ, and 64
+    /// collections at most are nested.
+    pub fn literals_hold(&self)
+        ensures { spec.LiteralsHold (program_of self.now) }
+    {
+        let _syntax = &self.syntax;
+    }
+
     /// Whether it only reads.
     pub fn is_read(&self) -> bool
         ensures { result ≡ spec.is_read (program_of self.now) }
     {
-        matches!(self, Program::Read(_))
+        matches!(self.syntax, Syntax::Read(_))
     }
 
     /// How many updates it has: none if it only reads.
     pub fn updates(&self) -> usize
         ensures { result ≡ spec.update_count (program_of self.now) }
     {
-        match self {
-            Program::Read(_) => 0,
-            Program::Updates(updates) => updates.len(),
+        match &self.syntax {
+            Syntax::Read(_) => 0,
+            Syntax::Updates(updates) => updates.len(),
         }
     }
 }

@@ -37,10 +37,10 @@ literals_of p us is h = subst LiteralsHold is h
 steps_meant : (p : Program) (t new : List ℕ) (cs : List Change) → HasSteps p t new cs → LiteralsHold p → AreMeant p t new cs
 steps_meant p t new cs h holds = record { all = h.all; program = h.program; leads = all_meant h.all t new cs (literals_of p h.all h.program holds) h.leads }
 
-pub answer_meant : (r : Result Edited EditError) (p : Program) (t : List ℕ) → IfOk r (λ e. HasSteps p t (string_bytes e.text) e.splices.items) →
-    IfOk r (λ e. LiteralsHold p → AreMeant p t (string_bytes e.text) e.splices.items)
-answer_meant (Ok e) p t h = steps_meant p t (string_bytes e.text) e.splices.items h
-answer_meant (Err e) p t h = tt
+pub answer_meant : (r : Result Edited EditError) (p : Program) (t : List ℕ) → LiteralsHold p → IfOk r (λ e. HasSteps p t (string_bytes e.text) e.splices.items) →
+    IfOk r (λ e. AreMeant p t (string_bytes e.text) e.splices.items)
+answer_meant (Ok e) p t holds h = steps_meant p t (string_bytes e.text) e.splices.items h holds
+answer_meant (Err e) p t holds h = tt
 
 -- ---- the steps
 
@@ -89,6 +89,11 @@ step_fails p us n t m cs e is below h fails =
           let k = front_holds (take n us) (drop (suc n) us) u (subst UpdatesHold all holds) in
           first_unread (take n us) t m cs k.0 h (no_reading u m k.1 (here.valid fault same) (subst (λ y. Fails y (updated u m)) same here.fails).0);
     }
+
+pub answer_unread : (r : Result Edited EditError) (p : Program) (t : List ℕ) → LiteralsHold p →
+    IfErr r (λ e. (fault : ReadFault) → e ≡ error.Read fault → LiteralsHold p → read_at t ≡ None) → IfErr r (λ e. (fault : ReadFault) → e ≡ error.Read fault → read_at t ≡ None)
+answer_unread (Ok e) p t holds h = tt
+answer_unread (Err e) p t holds h = λ fault is. h fault is holds
 
 -- ---- the whole program
 

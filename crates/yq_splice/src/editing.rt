@@ -101,11 +101,12 @@ pub fn edit(alloc: Global, text: &str, program: &Program) -> Result<Edited, Edit
     // Each operation exchanges segments of the text as it then stands, and all else stays.
     ensures inside { IfOk result (λ e. AreInside (program_of program.now) text.now (string_bytes e.text) e.splices.items) }
     // The text after each update reads as what the update means.
-    ensures meaning { IfOk result (λ e. LiteralsHold (program_of program.now) → AreMeant (program_of program.now) text.now (string_bytes e.text) e.splices.items) }
+    ensures meaning { IfOk result (λ e. AreMeant (program_of program.now) text.now (string_bytes e.text) e.splices.items) }
     // The splices lead from the old text to the new one.
     ensures splices { IfOk result (λ e. AreSplices e.splices.items text.now (string_bytes e.text)) }
     // A fault of reading is told where the text has no reading, and of no text on the way.
-    ensures unread { IfErr result (λ e. (fault : ReadFault) → e ≡ error.Read fault → LiteralsHold (program_of program.now) → read_at text.now ≡ None) }
+    ensures unread { IfErr result (λ e. (fault : ReadFault) → e ≡ error.Read fault → read_at text.now ≡ None) }
 {
+    program.literals_hold();
     edit_text(alloc, text, program)
 }

@@ -2,19 +2,19 @@
 
 use std::alloc::{AllocError, Global};
 use yq_expr::{
-    CommentPlace, Condition, Operand, Operator, Program, Stage, Step, Term, Update, Value,
+    CommentPlace, Condition, Operand, Operator, Program, Stage, Step, Syntax, Term, Update, Value,
 };
 use yq_scalar::{Kind, Scalar};
 
 /// The program's form, with kinds before scalars.
 pub(super) fn shown(alloc: Global, program: &Program) -> Result<String, AllocError> {
     let mut out = String::new(alloc);
-    match program {
-        Program::Read(stages) => {
+    match program.syntax() {
+        Syntax::Read(stages) => {
             out.push_str("read ")?;
             pipe(&mut out, stages)?;
         }
-        Program::Updates(updates) => {
+        Syntax::Updates(updates) => {
             let mut between = "";
             for one in updates {
                 out.push_str(between)?;

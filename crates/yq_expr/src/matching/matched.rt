@@ -18,7 +18,7 @@ use crate::match_error::MatchError;
 use crate::matching::copy::copy;
 use crate::matching::pipe::find;
 use crate::matching::place::Place;
-use crate::program::{Program, Stage};
+use crate::program::{Program, Stage, Syntax};
 use bumpalo::Bump;
 use std::alloc::Global;
 use yq_inline::Value;
@@ -119,7 +119,7 @@ pub fn matches(
     // Each copy is a tree, in which the keys of a mapping differ, with no more collections nested than may be.
     ensures trees { IfOk result (λ v. AreMatches (matches_of v.items)) }
 {
-    let Program::Read(pipe) = program else {
+    let Syntax::Read(pipe) = program.syntax() else {
         return Ok(Vec::new(alloc));
     };
     documents.are_ready();

@@ -1,5 +1,5 @@
 use Rattle.yq_expr.specs.View.{program_of}
-use Rattle.yq_expr.proofs.Outcomes.{found_by, only_by, refused_by, values_by}
+use Rattle.yq_expr.proofs.Outcomes.{found_by, only_by, refused_by}
 use Rattle.yq_expr.proofs.parse.parse_expr.Goals as goal
 
 pub returns-clause-found : goal.returns-clause-found
@@ -10,6 +10,3 @@ returns-clause-only c = only_by program_of c.args.text.now c.parse.result c.pars
 
 pub returns-clause-refused : goal.returns-clause-refused
 returns-clause-refused c = refused_by program_of c.args.text.now c.parse.result c.parse.ensures
-
-pub returns-clause-values : goal.returns-clause-values
-returns-clause-values c = values_by program_of c.args.text.now c.parse.result c.parse.ensures

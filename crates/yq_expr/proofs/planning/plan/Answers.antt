@@ -2,8 +2,9 @@ use Rattle.std.proofs.Common.{ℕ, List}
 use Rattle.yq_tree.specs.Reading.{documents_of}
 use Rattle.yq_expr.specs.Operations.{operations_of}
 use Rattle.yq_expr.specs.Rooms.{room_of}
+use Rattle.yq_expr.specs.View.{program_of}
 use Rattle.yq_expr.proofs.RoomLaws.{rooms_are_ready}
-use Rattle.yq_expr.proofs.updates.PlanAnswers.{answer_means, answer_fits, answer_refused, answer_refuses}
+use Rattle.yq_expr.proofs.updates.PlanAnswers.{answer_means, answer_fits, answer_refused, answer_refuses, literals_hold}
 use Rattle.yq_expr.proofs.planning.plan.Goals as goal
 
 pub returns-clause-meaning : goal.returns-clause-meaning
@@ -14,7 +15,8 @@ returns-clause-meaning c =
 pub returns-clause-fits : goal.returns-clause-fits
 returns-clause-fits c =
     let t : List ℕ = c.args.documents.now in
-    λ u e holds. answer_fits (λ v. operations_of v.items) u (room_of t) (documents_of t) c.planned.result (rooms_are_ready t c.are_ready.ensures) holds (c.planned.ensures u e)
+    λ u e. answer_fits (λ v. operations_of v.items) u (room_of t) (documents_of t) c.planned.result (rooms_are_ready t c.are_ready.ensures)
+    (literals_hold (program_of c.args.program.now) c.args.nth u c.literals_hold.ensures e) (c.planned.ensures u e)
 
 pub returns-clause-refused : goal.returns-clause-refused
 returns-clause-refused c =
