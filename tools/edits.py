@@ -1,21 +1,21 @@
-"""The wrong bodies of a crate: files crates/NAME/wrong-bodies/*.edit in the form of `rt must-fail`."""
+"""The wrong bodies of a crate: files *.edit in the form of `rt must-fail`, in crates/NAME/must-fail/ those of the gate, in wrong-bodies/ the others."""
 
 import os
 
 from crates import folder
 
 
-def names_in(crate):
+def names_in(crate, tier="wrong-bodies"):
     """The names of a crate's wrong bodies, in the order in which they are tried."""
-    place = os.path.join(folder(crate), "wrong-bodies")
+    place = os.path.join(folder(crate), tier)
     found = os.listdir(place) if os.path.isdir(place) else ()
     return sorted(it for it in found if it.endswith(".edit"))
 
 
-def hindrance(crate, name):
+def hindrance(crate, name, tier="wrong-bodies"):
     """Why an edit can't be applied to its crate as it stands, or None: each old text stands once in its file."""
     texts, path, old = {}, None, None
-    with open(os.path.join(folder(crate), "wrong-bodies", name), encoding="utf-8") as lines:
+    with open(os.path.join(folder(crate), tier, name), encoding="utf-8") as lines:
         for line in lines.read().split("\n"):
             word, _, text = line.partition(": ")
             if word == "file":

@@ -1,4 +1,4 @@
-"""Tells what `rt ci` would refuse before any proof: layout, files that no check reads, words that are taken, edits that can't be applied.
+"""Tells what `rt ci` would refuse before any proof: layout, links, files that no check reads, wrong bodies that can't be applied.
 
 usage: ready.py
 
@@ -6,80 +6,65 @@ It proves nothing and takes some seconds; the gate can still find what is not pr
 or `not ready`. It works on a copy, so that checks may run meanwhile.
 """
 
-import contextlib
-import io
 import os
-import re
 import shutil
+import subprocess
 import sys
 import tempfile
 
-import toolchain
-from crates import ROOT, libraries
+from crates import ROOT, RT, libraries
 from edits import hindrance, names_in
 
-# What a run of the toolchain says where all is well.
-WELL = re.compile(r"== |rt: (warning|note): |rt: \S+(: its tests are)? proved$|rt: ok; |rt: .*: trying its must-fail edits|rt: FAILED: |rt: .*: can be applied$|\d+ passed, \d+ failed$|$")
+# Where a crate's sources stand, by their ending.
+PLACES = {".rt": ("src",), ".antt": ("specs", "proofs")}
+LEFT = shutil.ignore_patterns(".git", "out", "out.*", "__pycache__")
 
 
-def copied(to):
-    """Copies what `rt ci` looks at, without what was built or is being put aside."""
-    leave = shutil.ignore_patterns(".git", "out", "out.*", "__pycache__")
-    shutil.copytree(ROOT, to, symlinks=True, ignore=leave)
+def misplaced(top):
+    """Links, and sources that are not a listed crate's."""
+    crates = libraries()
+    for folder, folders, files in os.walk(top):
+        for name in folders + files:
+            path = os.path.relpath(os.path.join(folder, name), top)
+            parts, kind = path.split(os.sep), os.path.splitext(name)[1]
+            if os.path.islink(os.path.join(top, path)):
+                yield f"{path} is a link"
+            elif kind in PLACES and not (parts[0] == "crates" and parts[1] in crates and parts[2] in PLACES[kind]):
+                yield f"no check reads {path}"
 
 
-def applied(rt, crate, edit):
-    why = rt.read_edit(edit, crate.folder)[1]
-    name = f"must-fail/{os.path.basename(edit)}"
-    return not why, f"{crate.name}/{name} can't be applied: {why}" if why else f"{name}: can be applied"
+def badly_laid(top):
+    """Sources that the toolchain would lay out in another way."""
+    for crate in libraries():
+        done = subprocess.run([*RT, "fmt"], cwd=os.path.join(top, "crates", crate), stdout=subprocess.PIPE, stderr=subprocess.STDOUT, encoding="utf-8", errors="replace")
+        for line in done.stdout.splitlines():
+            if "formatted " in line:
+                yield f"crates/{crate}/{line.partition('formatted ')[2]} is not in the layout of rt fmt"
+            elif done.returncode:
+                yield f"crates/{crate}: {line}"
 
 
-def unproved(rt, tasks):
-    """Goes through the tasks of `rt ci` in their order, with nothing proved, also of the crates above one that is refused."""
-    given = {}
-    for key, (_, _, _, call) in tasks.items():
-        given[key] = call(given, 1) or True
-    return given
-
-
-def refusals(room):
-    """What `rt ci` says against the repository, but for its proofs."""
-    rt = toolchain.load(toolchain.path())
-    copy = os.path.join(room, "copy")
-    copied(copy)
-    os.mkdir(os.path.join(room, "aside"))
-    os.chdir(copy)
-    rt.Crate.ci = lambda crate, flags, tests: 0
-    rt.must_fail_all = lambda crate, edits, flags: [applied(rt, crate, it) for it in edits]
-    rt.in_lanes = lambda tasks: unproved(rt, tasks)
-    said = io.StringIO()
-    with contextlib.redirect_stdout(said), contextlib.redirect_stderr(said):
-        try:
-            rt.ci_from_nothing(os.path.join(room, "aside"))
-        except SystemExit:
-            pass
-    os.chdir(ROOT)
-    lines = said.getvalue().replace(f"{copy}/", "").replace("NOT PROVED", "would be refused").splitlines()
-    return [it for it in lines if not WELL.match(it)]
+def not_applied():
+    """Wrong bodies that can't be applied to the code as it stands."""
+    for crate in libraries():
+        for tier in ("must-fail", "wrong-bodies"):
+            for name in names_in(crate, tier):
+                why = hindrance(crate, name, tier)
+                if why:
+                    yield f"{crate}/{tier}/{name} can't be applied: {why}"
 
 
 def main(words):
     if words:
         print(__doc__.strip(), file=sys.stderr)
         return 2
-    if not toolchain.path():
-        print("this toolchain's command is of another form: only `rt ci` tells")
-        return 2
     room = tempfile.mkdtemp(prefix="ready-")
     try:
-        found = refusals(room)
+        copy = os.path.join(room, "copy")
+        shutil.copytree(ROOT, copy, symlinks=True, ignore=LEFT)
+        found = [*misplaced(copy), *badly_laid(copy), *not_applied()]
     finally:
         shutil.rmtree(room, ignore_errors=True)
-    for crate in libraries():
-        for name in names_in(crate):
-            why = hindrance(crate, name)
-            if why:
-                found.append(f"{crate}/wrong-bodies/{name} can't be applied: {why}")
     for it in found:
         print(it)
     print("not ready" if found else "ready")

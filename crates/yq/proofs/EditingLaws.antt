@@ -12,8 +12,8 @@ use Rattle.yq_expr.specs.Program.{Program}
 use Rattle.yq_splice.specs.Carried.{edit_of, program_done}
 use Rattle.yq_splice.specs.Edit.{by_reading}
 use Rattle.yq_splice.specs.Answers.{Fails}
-use Rattle.yq_splice.specs.declared.edited.EditError.{EditError}
-use Rattle.yq_splice.specs.declared.edited.EditError.TheVariants as error
+use Rattle.yq_splice.specs.declared.edit_error.EditError.{EditError}
+use Rattle.yq_splice.specs.declared.edit_error.EditError.TheVariants as error
 use Rattle.yq.specs.declared.fault.Fault.{Fault}
 use Rattle.yq.specs.declared.fault.Fault.TheVariants.{OutOfMemory, Unreadable}
 use Rattle.yq.specs.Editing.{IsUnreadable, Refuses, edits, of_edit, of_refusal, unreadable, outcome_of}

@@ -10,12 +10,12 @@ use Rattle.yq_expr.specs.declared.error.ParseError.{ParseError}
 use Rattle.yq_expr.specs.declared.error.ParseError.TheVariants as parse
 use Rattle.yq_expr.specs.declared.refusal.Refusal.{Refusal}
 use Rattle.yq_expr.specs.declared.refusal.Refusal.TheVariants as refusal
-use Rattle.yq_splice.specs.Patch.{Change}
+use Rattle.yq_script.specs.Patch.{Change}
 use Rattle.yq_splice.specs.Carried.{edit_of}
 use Rattle.yq_splice.specs.Edit.{Edit}
 use Rattle.yq_splice.specs.Edit as edit
-use Rattle.yq_splice.specs.declared.edited.EditError.{EditError}
-use Rattle.yq_splice.specs.declared.edited.EditError.TheVariants as error
+use Rattle.yq_splice.specs.declared.edit_error.EditError.{EditError}
+use Rattle.yq_splice.specs.declared.edit_error.EditError.TheVariants as error
 use Rattle.yq.specs.declared.fault.Fault.{Fault}
 use Rattle.yq.specs.declared.fault.Fault.TheVariants as fault
 use Rattle.yq.specs.declared.fault.Fault.TheVariants.{Syntax, NotInProfile, Pattern, OutOfMemory, Unreadable}

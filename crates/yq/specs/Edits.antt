@@ -1,6 +1,6 @@
 -- The record of one edit (own).
 use Rattle.std.specs.Prelude.{ℕ, List}
-use Rattle.yq_splice.specs.Patch.{Change}
+use Rattle.yq_script.specs.Patch.{Change}
 use Rattle.yq_journal.specs.Record.{Patch}
 
 -- a record of these parts, of one edit

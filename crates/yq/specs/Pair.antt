@@ -2,7 +2,7 @@
 use Rattle.std.specs.Prelude.{◌≡◌, ◌≢◌, ◌⊎◌, ℕ, List, [], ◌∷◌, ◌++◌, Option, Some, None, Result, Ok, Err, MatchBool, IsTrue, Vec}
 use Rattle.std.specs.FinMap.{get, insert}
 use Rattle.std.specs.declared.alloc.Global.{Global}
-use Rattle.yq_splice.specs.Patch.{Change}
+use Rattle.yq_script.specs.Patch.{Change}
 use Rattle.yq_journal.specs.Good.{Good, Holds, AtRest, journal_beside}
 use Rattle.yq_journal.specs.History.{History}
 use Rattle.yq_journal.specs.Json.{journal_in}

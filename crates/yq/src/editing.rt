@@ -3,7 +3,7 @@ ghost use Rattle.std.specs.Prelude.{◌≡◌, ◌≢◌, ◌⊎◌, Some, None,
 ghost use Rattle.std.specs.Str.{is_utf8};
 ghost use Rattle.std.specs.String.{string_bytes};
 ghost use Rattle.yq_expr.specs.View.{program_of};
-ghost use Rattle.yq_splice.specs.Patch.{all_done, lengths_done};
+ghost use Rattle.yq_script.specs.Patch.{all_done, lengths_done};
 ghost use Rattle.yq_tree.specs.Reading.{read_at};
 ghost use Rattle.yq.specs.Editing.{IsUnreadable, Refuses, edited, edits, program_in};
 ghost use Rattle.yq.specs.Faults.{is_failure, is_output};

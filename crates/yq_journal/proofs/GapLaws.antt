@@ -5,8 +5,8 @@ use Rattle.std.proofs.lemmas.Grind.{common_steps}
 use Rattle.std.proofs.Math.Seq.{drop-append_seam, take-append_seam}
 use Rattle.std.proofs.lemmas.List.{reverse-append, reverse-reverse, take-append-drop}
 use Prim.Native.Nat.{zero}
-use Rattle.yq_splice.specs.Patch.{Change, Exchanges, change_done}
-use Rattle.yq_splice.proofs.PatchLaws.{done-from_exchanges, exchanges-from_done}
+use Rattle.yq_script.specs.Patch.{Change, Exchanges, change_done}
+use Rattle.yq_script.proofs.PatchLaws.{done-from_exchanges, exchanges-from_done}
 use Rattle.yq_journal.specs.Gap.{change}
 
 empty : (xs : List ℕ) → length xs ≡ 0 → xs ≡ []

@@ -3,8 +3,8 @@ use Rattle.std.proofs.Common.{◌≡◌, ℕ, ◌≤◌, ◌<◌, List, [], ◌�
 use Rattle.std.specs.Prelude.{◌==◌, ◌&&◌, Bool, false, option_and_then, slice_get, take}
 use Prim.Native.Nat.{zero}
 use Rattle.std.proofs.lemmas.Bool.{eqb-true}
-use Rattle.yq_splice.specs.Patch.{lengths_done}
-use Rattle.yq_splice.proofs.PatchLaws.{lengths_done-append}
+use Rattle.yq_script.specs.Patch.{lengths_done}
+use Rattle.yq_script.proofs.PatchLaws.{lengths_done-append}
 use Rattle.std.specs.Prelude.{◌+◌, ◌-◌, drop, if◌then◌else◌, nat_le}
 use Rattle.std.specs.Cmp.Derive.{both_true}
 use Rattle.std.proofs.Common.{sym, get_or, take_all}

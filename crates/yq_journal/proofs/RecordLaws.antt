@@ -3,8 +3,8 @@ use Rattle.std.proofs.Common.{◌≡◌, ◌==◌, ℕ, ◌-◌, ◌≤◌, ◌<
 use Rattle.std.specs.Prelude.{option_and_then}
 use Rattle.std.proofs.lemmas.Bool.{eqb-true}
 use Rattle.std.proofs.lemmas.Grind.{common_steps}
-use Rattle.yq_splice.specs.Patch.{Change, swapped, change_done, all_done, flipped}
-use Rattle.yq_splice.proofs.PatchLaws.{taken_back, done_again, flipped-append}
+use Rattle.yq_script.specs.Patch.{Change, swapped, change_done, all_done, flipped}
+use Rattle.yq_script.proofs.PatchLaws.{taken_back, done_again, flipped-append}
 use Rattle.yq_journal.specs.Record.{Patch, if_length, done, undone}
 
 -- what a record that stands says of the two texts

@@ -4,8 +4,8 @@ use Rattle.std.specs.Prelude.{option_and_then, codes, is_some}
 use Rattle.std.specs.Cmp.Derive.{both_true}
 use Prim.Native.Nat.{zero}
 use Rattle.std.proofs.lemmas.List.{length-take-le, take-append-drop, take-take}
-use Rattle.yq_splice.specs.Patch.{all_done}
-use Rattle.yq_splice.proofs.PatchLaws.{all_done-append}
+use Rattle.yq_script.specs.Patch.{all_done}
+use Rattle.yq_script.proofs.PatchLaws.{all_done-append}
 use Rattle.yq_journal.specs.declared.fault.JournalFault.TheVariants.{BadCount, Unsettled}
 use Rattle.yq_journal.specs.Good.{Leads, AtRest, squash_refusal}
 use Rattle.yq_journal.specs.History.{History, Revision, text_behind, text_at, latest, latest_of, after_squash}

@@ -11,7 +11,7 @@ use Rattle.serde_json.specs.Data.{Data, depth, items_depth}
 use Rattle.serde_json.specs.Read.{read, max_depth, of_json}
 use Rattle.serde_json.specs.View.{items_of}
 use Rattle.serde_json.specs.Written.{IsInOrder, has_float, items_have_float}
-use Rattle.yq_splice.specs.Patch.{Change}
+use Rattle.yq_script.specs.Patch.{Change}
 use Rattle.yq_journal.specs.declared.moves.Move.TheVariants.{Edit, Undo, Redo}
 use Rattle.yq_journal.specs.Json.{change_data, record_data, pending_data, journal_data, journal_of, journal_in}
 use Rattle.yq_journal.specs.Record.{Patch}

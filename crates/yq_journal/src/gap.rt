@@ -1,11 +1,11 @@
 //! A text with a gap at a cursor, where splices are done in turn.
 ghost use Rattle.std.specs.Prelude.{◌≡◌, ◌↔◌, ◌+◌, ◌<◌, ◌≤◌, [], ◌++◌, false, None, Some, IsTrue, IfOk, OnOk, length, drop, option_map, reverse, if◌then◌else◌};
 ghost use Rattle.yq_journal.specs.Gap.{change, whole};
-ghost use Rattle.yq_splice.specs.Patch.{all_done, change_done, flipped};
+ghost use Rattle.yq_script.specs.Patch.{all_done, change_done, flipped};
 
 use std::alloc::{AllocError, Global};
 use std::marker::Model;
-use yq_splice::Splice;
+use yq_script::Splice;
 
 /// A text cut in two at a cursor: the front up to the cursor, the bytes that
 /// were moved back over it, last first, and the rest, which no splice has

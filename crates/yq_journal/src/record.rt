@@ -1,7 +1,7 @@
 //! A record of an edit, and what it does to a text.
 ghost use Rattle.std.specs.Prelude.{◌≡◌, ◌↔◌, ℕ, List, Some, IfOk, IfErr};
 ghost use Rattle.std.specs.String.{string_bytes};
-ghost use Rattle.yq_splice.specs.Patch.{lengths_done};
+ghost use Rattle.yq_script.specs.Patch.{lengths_done};
 ghost use Rattle.yq_journal.specs.Record.{Patch, done, undone};
 ghost use Rattle.yq_journal.specs.Refusals.{Names, if_moves};
 
@@ -9,7 +9,7 @@ use crate::fault::{JournalError, JournalFault};
 use crate::gap::{spliced, unspliced};
 use std::alloc::Global;
 use std::marker::Model;
-use yq_splice::Splice;
+use yq_script::Splice;
 
 /// What an edit did: its expression, its splices in order, and the lengths
 /// in bytes of the texts before and after it.

@@ -8,7 +8,7 @@ use crate::fault::{JournalError, JournalFault};
 use crate::record::Record;
 use std::alloc::{AllocError, Global};
 use std::marker::Model;
-use yq_splice::Splice;
+use yq_script::Splice;
 
 /// The parts of records that are joined one after the other.
 #[derive(Drop)]

@@ -1,12 +1,12 @@
 //! Whether splices can be done on a text, told without memory.
 ghost use Rattle.std.specs.Prelude.{◌≡◌, ◌≢◌, ◌⊎◌, ◌+◌, ◌-◌, ◌^◌, ◌<◌, ◌≤◌, ◌↔◌, ℕ, IfSome, IsTrue, List, None, Some, drop, length, is_some, slice_get, take};
-ghost use Rattle.yq_splice.specs.Patch.{Change, all_done, flipped, lengths_done};
+ghost use Rattle.yq_script.specs.Patch.{Change, all_done, flipped, lengths_done};
 ghost use Rattle.yq_journal.specs.Gap.{change};
 ghost use Rattle.yq_journal.specs.Record.{done, undone};
 ghost use Rattle.yq_journal.specs.Turned.{turned};
 
 use crate::record::Record;
-use yq_splice::Splice;
+use yq_script::Splice;
 
 /// The splice at a place: its offset, the bytes that it finds and those that
 /// it puts there.

@@ -9,7 +9,7 @@ use crate::record::Record;
 use base64::engine::general_purpose::STANDARD;
 use serde_json::{Value, json};
 use std::alloc::{AllocError, Global};
-use yq_splice::Splice;
+use yq_script::Splice;
 
 #[tactic(auto, unfolding(crate::specs::Json::change_of))]
 fn splice_value(alloc: Global, splice: &Splice) -> Result<Value, AllocError>

@@ -5,20 +5,20 @@ use Rattle.yq_scalar.specs.declared.ReadFault.{ReadFault}
 use Rattle.yq_rows.specs.Rows.{Cut}
 use Rattle.yq_tree.specs.Reading.{read_at}
 use Rattle.yq_expr.specs.Program.{Program, Update, assign, delete, comment, read, updates, update_at, update_count, is_read, UpdatesHold, LiteralsHold}
+use Rattle.yq_script.specs.Patch.{Change}
+use Rattle.yq_script.specs.declared.edited.Edited.{Edited}
+use Rattle.yq_script.proofs.PlaceInList.{get_some, split_at, take_next}
 use Rattle.yq_splice.specs.Answers.{Edits, Fails}
 use Rattle.yq_splice.specs.Carried.{updated, program_done, edit_of}
 use Rattle.yq_splice.specs.Edit.{unreadable, gives, and_then, by_reading, in_order}
-use Rattle.yq_splice.specs.Patch.{Change}
 use Rattle.yq_splice.specs.Theorems.{AreInside, AreMeant, AreSplices, Leads}
 use Rattle.yq_splice.specs.Valid.{IsStep, FailsAt, HasSteps, FailsEach}
-use Rattle.yq_splice.specs.declared.edited.Edited.{Edited}
-use Rattle.yq_splice.specs.declared.edited.EditError.{EditError}
-use Rattle.yq_splice.specs.declared.edited.EditError.TheVariants as error
+use Rattle.yq_splice.specs.declared.edit_error.EditError.{EditError}
+use Rattle.yq_splice.specs.declared.edit_error.EditError.TheVariants as error
 use Rattle.yq_splice.proofs.CarriedLaws.{program_carried, program_splices}
 use Rattle.yq_splice.proofs.MeaningLaws.{all_meant, reads_on, no_reading, first_holds, others_hold}
 use Rattle.yq_splice.proofs.OrderLaws.{leads_on, leads_give, leads_fail}
 use Rattle.yq_splice.proofs.UpdateLaws.{unread_updated}
-use Rattle.yq_splice.proofs.PlaceInList.{get_some, split_at, take_next}
 
 -- ---- accepted
 

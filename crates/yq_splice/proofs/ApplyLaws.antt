@@ -9,36 +9,39 @@ use Rattle.yq_expr.specs.Operations.{Operation}
 use Rattle.yq_expr.specs.Rooms.{room_of}
 use Rattle.yq_expr.specs.declared.refusal.Refusal.{Refusal}
 use Rattle.yq_expr.specs.declared.refusal.Refusal.TheVariants.{TooLarge}
+use Rattle.yq_script.specs.Patch.{Change}
+use Rattle.yq_script.specs.Script.{Segment, keep, new_text, changes}
+use Rattle.yq_script.specs.declared.edited.Edited.{Edited}
+use Rattle.yq_script.specs.Exchanging as exchange
+use Rattle.yq_ways.specs.Carrying.{carrying, or_stay}
+use Rattle.yq_ways.specs.Operands.{HasOperand}
+use Rattle.yq_ways.specs.Serving.{IsServed}
+use Rattle.yq_ways.specs.WayAnswers.{Carries}
+use Rattle.yq_ways.specs.Ways.{ReadsAfter}
+use Rattle.yq_ways.proofs.CutLaws.{text_read}
+use Rattle.yq_ways.proofs.CarryingLaws.{carrying_is}
+use Rattle.yq_ways.proofs.FitServed.{fit_served}
+use Rattle.yq_ways.proofs.WayLaws.{none_stays}
 use Rattle.yq_splice.specs.Answers.{Edits, Fails}
-use Rattle.yq_splice.specs.Carried.{carrying, or_stay, carry_one, carried}
-use Rattle.yq_splice.specs.Edit.{unreadable, refuses, gives, by_reading, edit_of_segments}
-use Rattle.yq_splice.specs.Operands.{HasOperand}
-use Rattle.yq_splice.specs.Patch.{Change}
-use Rattle.yq_splice.specs.Script.{Segment, keep, new_text, changes}
-use Rattle.yq_splice.specs.Serving.{IsServed}
+use Rattle.yq_splice.specs.Carried.{carry_one, carried}
+use Rattle.yq_splice.specs.Edit.{unreadable, refuses, by_reading, edit_of_segments, edit_made}
 use Rattle.yq_splice.specs.Theorems.{IsFitting, IsApplied, IsRefused}
-use Rattle.yq_splice.specs.WayAnswers.{Carries}
-use Rattle.yq_splice.specs.Ways.{ReadsAfter}
-use Rattle.yq_splice.specs.declared.edited.Edited.{Edited}
-use Rattle.yq_splice.specs.declared.edited.EditError.{EditError}
-use Rattle.yq_splice.specs.declared.edited.EditError.TheVariants as error
-use Rattle.yq_splice.proofs.CarriedLaws.{AreGiven, segments_give, text_read}
-use Rattle.yq_splice.proofs.CarryingLaws.{carrying_is}
-use Rattle.yq_splice.proofs.FitServed.{fit_served}
-use Rattle.yq_splice.proofs.WayLaws.{none_stays}
+use Rattle.yq_splice.specs.declared.edit_error.EditError.{EditError}
+use Rattle.yq_splice.specs.declared.edit_error.EditError.TheVariants as error
+use Rattle.yq_splice.proofs.CarriedLaws.{AreGiven, segments_give}
 
 -- what segments come to says how long their text is
 segments_large : (ss : List Segment) (why : Refusal) → edit_of_segments ss ≡ refuses why → (why ≡ TooLarge) × (text_limit < length (new_text ss))
 segments_large ss why h = go (leb (length (new_text ss)) text_limit) refl h
   where
-    go : (b : Bool) → leb (length (new_text ss)) text_limit ≡ b → cond b (gives (new_text ss) (changes ss)) (refuses TooLarge) ≡ refuses why → (why ≡ TooLarge) × (text_limit < length (new_text ss))
+    go : (b : Bool) → leb (length (new_text ss)) text_limit ≡ b → edit_made (cond b (exchange.gives (new_text ss) (changes ss)) exchange.too_large) ≡ refuses why → (why ≡ TooLarge) × (text_limit < length (new_text ss))
     go true e f = absurd (cc)
     go false e f = (cc, leb-false (length (new_text ss)) text_limit e)
 
 segments_read : (ss : List Segment) → edit_of_segments ss ≡ unreadable → ⊥
 segments_read ss h = go (leb (length (new_text ss)) text_limit) h
   where
-    go : (b : Bool) → cond b (gives (new_text ss) (changes ss)) (refuses TooLarge) ≡ unreadable → ⊥
+    go : (b : Bool) → edit_made (cond b (exchange.gives (new_text ss) (changes ss)) exchange.too_large) ≡ unreadable → ⊥
     go true f = cc
     go false f = cc
 

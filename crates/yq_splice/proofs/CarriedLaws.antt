@@ -1,13 +1,9 @@
 -- What is carried out is carried out by segments of the text.
 use Rattle.std.proofs.Common.{◌≡◌, ℕ, ◌+◌, ◌^◌, ◌<◌, ◌≤◌, Bool, true, false, cond, leb, List, length, Option, Some, None, refl, sym, ap, ◌∙◌, subst, append-nil, arith}
 use Rattle.std.proofs.lemmas.Bool.{leb-true}
-use Rattle.std.specs.Str.{is_utf8}
 use Rattle.yq_scalar.specs.Characters.{text_limit}
-use Rattle.yq_scalar.proofs.Bools.{guard_then}
-use Rattle.yq_rows.specs.Grammar.{IsCut}
 use Rattle.yq_rows.specs.Rows.{Cut, cut_text}
-use Rattle.yq_tree.specs.Reading.{read_at, documents, cut_of}
-use Rattle.yq_tree.proofs.ReadLaws.{text_takes, cut_is}
+use Rattle.yq_tree.specs.Reading.{read_at, documents}
 use Rattle.yq_expr.specs.Judgement as judgement
 use Rattle.yq_expr.specs.Judgement.{Judgement}
 use Rattle.yq_expr.specs.Operations.{Operation}
@@ -15,26 +11,17 @@ use Rattle.yq_expr.specs.Plans.{plan}
 use Rattle.yq_expr.specs.Program as programs
 use Rattle.yq_expr.specs.Program.{Program, Update, updates}
 use Rattle.yq_expr.specs.Rooms.{room_of}
-use Rattle.yq_expr.specs.declared.refusal.Refusal.TheVariants.{TooLarge}
-use Rattle.yq_splice.specs.Carried.{carrying, or_stay, carry_one, carried, carry_out, updated, program_done, edit_of}
-use Rattle.yq_splice.specs.Edit.{refuses, gives, by_reading, edit_of_segments}
-use Rattle.yq_splice.specs.Patch.{Change, all_done, lengths_done}
-use Rattle.yq_splice.specs.Script.{Segment, old_text, new_text, changes}
+use Rattle.yq_script.specs.Patch.{Change, all_done, lengths_done}
+use Rattle.yq_script.specs.Script.{Segment, old_text, new_text, changes}
+use Rattle.yq_script.proofs.ScriptLaws.{changes_lead, changes_lengths}
+use Rattle.yq_script.specs.Exchanging as exchange
+use Rattle.yq_ways.specs.Carrying.{carrying, or_stay}
+use Rattle.yq_ways.proofs.CarryingLaws.{carrying_is}
+use Rattle.yq_ways.proofs.CutLaws.{cut_read, text_read}
+use Rattle.yq_splice.specs.Carried.{carry_one, carried, carry_out, updated, program_done, edit_of}
+use Rattle.yq_splice.specs.Edit.{gives, by_reading, edit_of_segments, edit_made}
 use Rattle.yq_splice.specs.Theorems.{IsCarried, IsInside, AreInside, AreSplices}
-use Rattle.yq_splice.proofs.CarryingLaws.{carrying_is}
 use Rattle.yq_splice.proofs.OrderLaws.{Makes, order_leads, leads_so, leads_splices}
-use Rattle.yq_splice.proofs.ScriptLaws.{changes_lead, changes_lengths}
-
--- what is read is cut so
-pub cut_read : (t : List ℕ) (c : Cut) → read_at t ≡ Some c → IsCut t c
-unfolding read_at
-cut_read t c h = (text_takes t c (guard_then (is_utf8 t) h).1).0
-
-pub text_read : (t : List ℕ) (c : Cut) → read_at t ≡ Some c → cut_text c ≡ t
-text_read t c h = sym (cut_read t c h).text
-
-pub cut_same : (t : List ℕ) (c : Cut) → read_at t ≡ Some c → cut_of t ≡ c
-cut_same t c h = cut_is t c (cut_read t c h)
 
 -- ---- an operation
 
@@ -47,7 +34,7 @@ pub record AreGiven (ss : List Segment) (new : List ℕ) (cs : List Change) : Ty
 pub segments_give : (ss : List Segment) (new : List ℕ) (cs : List Change) → edit_of_segments ss ≡ gives new cs → AreGiven ss new cs
 segments_give ss new cs h = go (leb (length (new_text ss)) text_limit) refl h
   where
-    go : (b : Bool) → leb (length (new_text ss)) text_limit ≡ b → cond b (gives (new_text ss) (changes ss)) (refuses TooLarge) ≡ gives new cs → AreGiven ss new cs
+    go : (b : Bool) → leb (length (new_text ss)) text_limit ≡ b → edit_made (cond b (exchange.gives (new_text ss) (changes ss)) exchange.too_large) ≡ gives new cs → AreGiven ss new cs
     go true e f = record { size = leb-true (length (new_text ss)) text_limit e; text = cc; splices = cc }
     go false e f = absurd (cc)
 

@@ -17,12 +17,12 @@ use Rattle.yq_expr.specs.Operations.{Operation}
 use Rattle.yq_expr.specs.Plans.{plan}
 use Rattle.yq_expr.specs.Program.{Update, assign, delete, comment, UpdatesHold}
 use Rattle.yq_expr.specs.Rooms.{room_of}
+use Rattle.yq_script.specs.Patch.{Change}
+use Rattle.yq_ways.proofs.CutLaws.{cut_same}
 use Rattle.yq_splice.specs.Carried.{carry_all, carry_out, updated}
 use Rattle.yq_splice.specs.Edit.{Edit, unreadable, refuses, gives, by_reading}
-use Rattle.yq_splice.specs.Patch.{Change}
 use Rattle.yq_splice.specs.Theorems.{Leads, IsMeant}
 use Rattle.yq_splice.specs.Valid.{HasOperands, IsStep}
-use Rattle.yq_splice.proofs.CarriedLaws.{cut_same}
 use Rattle.yq_splice.proofs.ServeLaws.{Serves, ComesTo, all_come}
 
 -- the documents of a text that reads are ready for updates

@@ -1,13 +1,13 @@
 -- Edits one after the other lead from text to text.
 use Rattle.std.proofs.Common.{◌≡◌, ℕ, List, [], ◌∷◌, ◌++◌, length, Some, refl, sym, ap, ◌∙◌, subst, append_assoc, append-nil}
 use Rattle.std.specs.Prelude.{option_and_then}
+use Rattle.yq_script.specs.Patch.{Change, all_done, lengths_done}
+use Rattle.yq_script.proofs.PatchLaws.{all_done-append, lengths_done-append}
 use Rattle.yq_splice.specs.Answers.{Fails}
 use Rattle.yq_splice.specs.Edit.{Edit, unreadable, refuses, gives, behind, and_then, in_order}
-use Rattle.yq_splice.specs.Patch.{Change, all_done, lengths_done}
 use Rattle.yq_splice.specs.Theorems.{AreSplices, Leads}
-use Rattle.yq_splice.specs.declared.edited.EditError.{EditError}
-use Rattle.yq_splice.specs.declared.edited.EditError.TheVariants as error
-use Rattle.yq_splice.proofs.PatchLaws.{all_done-append, lengths_done-append}
+use Rattle.yq_splice.specs.declared.edit_error.EditError.{EditError}
+use Rattle.yq_splice.specs.declared.edit_error.EditError.TheVariants as error
 
 -- what is known of each step, said otherwise
 pub leads_so : {A : Type 0} (R S : A → List ℕ → List ℕ → List Change → Type 0) → ((x : A) (t new : List ℕ) (cs : List Change) → R x t new cs → S x t new cs) →

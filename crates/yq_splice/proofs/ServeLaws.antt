@@ -12,16 +12,18 @@ use Rattle.yq_expr.specs.Rooms.{room_of}
 use Rattle.yq_expr.specs.RoomsKept.{LeavesRooms, MayFollow}
 use Rattle.yq_expr.specs.declared.refusal.Refusal.TheVariants.{TooLarge}
 use Rattle.yq_expr.proofs.updates.AlikeRooms.{rest_follow, rest_after}
-use Rattle.yq_splice.specs.Carried.{carrying, or_stay, carry_one, carry_all}
-use Rattle.yq_splice.specs.Edit.{Edit, unreadable, refuses, gives, behind, and_then, by_reading, edit_of_segments}
-use Rattle.yq_splice.specs.Patch.{Change}
-use Rattle.yq_splice.specs.Script.{Segment, new_text, changes}
-use Rattle.yq_splice.specs.Serving.{IsServed}
+use Rattle.yq_script.specs.Patch.{Change}
+use Rattle.yq_script.specs.Script.{Segment, new_text, changes}
+use Rattle.yq_script.specs.Exchanging as exchange
+use Rattle.yq_ways.specs.Carrying.{carrying, or_stay}
+use Rattle.yq_ways.specs.Serving.{IsServed}
+use Rattle.yq_ways.specs.Ways.{ReadsAfter}
+use Rattle.yq_ways.proofs.CutLaws.{text_read, cut_same}
+use Rattle.yq_ways.proofs.CarryingLaws.{carrying_is}
+use Rattle.yq_ways.proofs.FitServed.{fit_served}
+use Rattle.yq_splice.specs.Carried.{carry_one, carry_all}
+use Rattle.yq_splice.specs.Edit.{Edit, unreadable, refuses, gives, behind, and_then, by_reading, edit_of_segments, edit_made}
 use Rattle.yq_splice.specs.Valid.{HaveOperands}
-use Rattle.yq_splice.specs.Ways.{ReadsAfter}
-use Rattle.yq_splice.proofs.CarriedLaws.{text_read, cut_same}
-use Rattle.yq_splice.proofs.CarryingLaws.{carrying_is}
-use Rattle.yq_splice.proofs.FitServed.{fit_served}
 
 -- A text reads as documents, on which operations with valid operands may follow one another, with the room that it has.
 pub record Serves (docs : List Document) (ops : List Operation) (t : List ℕ) : Type 0 where
@@ -80,7 +82,7 @@ turn docs op ops t s others None is = absurd (let e = sym is ∙ (has_way docs o
 turn docs op ops t s others (Some ss) is = go (leb (length (new_text ss)) text_limit) refl
   where
     go : (b : Bool) → leb (length (new_text ss)) text_limit ≡ b →
-        ComesTo (all_after (room_of t) (op ∷ ops) docs) (and_then (carry_all ops) (cond b (gives (new_text ss) (changes ss)) (refuses TooLarge)))
+        ComesTo (all_after (room_of t) (op ∷ ops) docs) (and_then (carry_all ops) (edit_made (cond b (exchange.gives (new_text ss) (changes ss)) exchange.too_large)))
     go true e =
         let k = turn_more docs op ops t s ss is (leb-true (length (new_text ss)) text_limit e) in
         comes_behind (all_after (room_of t) (op ∷ ops) docs) (changes ss) (carry_all ops (new_text ss))

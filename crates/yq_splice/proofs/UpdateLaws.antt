@@ -16,14 +16,14 @@ use Rattle.yq_expr.specs.Rooms.{room_of}
 use Rattle.yq_expr.specs.declared.refusal.Refusal.{Refusal}
 use Rattle.yq_expr.specs.declared.plan_error.PlanError.{PlanError}
 use Rattle.yq_expr.specs.declared.plan_error.PlanError.TheVariants as planning
+use Rattle.yq_script.specs.Patch.{Change}
+use Rattle.yq_script.specs.declared.edited.Edited.{Edited}
 use Rattle.yq_splice.specs.Answers.{Edits, Fails, of_planning, of_reading}
 use Rattle.yq_splice.specs.Carried.{carry_all, carry_out, updated}
 use Rattle.yq_splice.specs.Edit.{unreadable, by_reading}
-use Rattle.yq_splice.specs.Patch.{Change}
 use Rattle.yq_splice.specs.Valid.{HaveOperands, HasOperands, IsStep, FailsAt}
-use Rattle.yq_splice.specs.declared.edited.Edited.{Edited}
-use Rattle.yq_splice.specs.declared.edited.EditError.{EditError}
-use Rattle.yq_splice.specs.declared.edited.EditError.TheVariants as error
+use Rattle.yq_splice.specs.declared.edit_error.EditError.{EditError}
+use Rattle.yq_splice.specs.declared.edit_error.EditError.TheVariants as error
 use Rattle.yq_splice.proofs.TextFaults.{FailsToRead, text_unread}
 
 -- an update by the reading of the text

@@ -5,10 +5,13 @@ use Rattle.yq_scalar.specs.declared.fault.ReadError.{ReadError}
 use Rattle.yq_scalar.specs.declared.fault.ReadError.TheVariants as reading
 use Rattle.yq_expr.specs.declared.plan_error.PlanError.{PlanError}
 use Rattle.yq_expr.specs.declared.plan_error.PlanError.TheVariants as planning
+use Rattle.yq_script.specs.declared.edited.Edited.{Edited}
+use Rattle.yq_script.specs.declared.exchange_error.ExchangeError.{ExchangeError}
+use Rattle.yq_script.specs.declared.exchange_error.ExchangeError.TheVariants as exchanging
 use Rattle.yq_splice.specs.Edit.{Edit, unreadable, refuses, gives}
-use Rattle.yq_splice.specs.declared.edited.Edited.{Edited}
-use Rattle.yq_splice.specs.declared.edited.EditError.{EditError}
-use Rattle.yq_splice.specs.declared.edited.EditError.TheVariants as error
+use Rattle.yq_splice.specs.declared.edit_error.EditError.{EditError}
+use Rattle.yq_splice.specs.declared.edit_error.EditError.TheVariants as error
+use Rattle.yq_expr.specs.declared.refusal.Refusal.TheVariants.{TooLarge}
 
 -- the error of an edit whose text is not read (own)
 abbrev pub of_reading : ReadError → EditError
@@ -19,6 +22,11 @@ of_reading (reading.Fault fault) = error.Read fault
 abbrev pub of_planning : PlanError → EditError
 of_planning (planning.Refused why) = error.Refused why
 of_planning planning.Memory = error.Memory
+
+-- the error of an edit whose new text is not made (own)
+abbrev pub of_exchange : ExchangeError → EditError
+of_exchange exchanging.TooLarge = error.Refused TooLarge
+of_exchange exchanging.Memory = error.Memory
 
 -- what an error says of the edit, and that no text is told to be no UTF-8; want of memory says nothing (own)
 abbrev pub Fails : EditError → Edit → Type 0

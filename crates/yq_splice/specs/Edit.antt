@@ -1,11 +1,12 @@
 -- What an edit of a text comes to.
-use Rattle.std.specs.Prelude.{ℕ, List, [], ◌∷◌, ◌++◌, length, nat_le, if◌then◌else◌, Option, Some, None}
-use Rattle.yq_scalar.specs.Characters.{text_limit}
+use Rattle.std.specs.Prelude.{ℕ, List, [], ◌∷◌, ◌++◌, Option, Some, None}
 use Rattle.yq_rows.specs.Rows.{Cut}
 use Rattle.yq_expr.specs.declared.refusal.Refusal.{Refusal}
 use Rattle.yq_expr.specs.declared.refusal.Refusal.TheVariants.{TooLarge}
-use Rattle.yq_splice.specs.Patch.{Change}
-use Rattle.yq_splice.specs.Script.{Segment, new_text, changes}
+use Rattle.yq_script.specs.Patch.{Change}
+use Rattle.yq_script.specs.Script.{Segment, changes}
+use Rattle.yq_script.specs.Exchanging.{Exchange, exchange_of}
+use Rattle.yq_script.specs.Exchanging as exchange
 
 -- What an edit comes to: the text has no reading, it is refused, or it gives a new text by these changes (own).
 pub data Edit : Type 0 where
@@ -35,10 +36,11 @@ abbrev pub by_reading : (Cut → Edit) → Option Cut → Edit
 by_reading f None = unreadable
 by_reading f (Some c) = f c
 
--- a length, where a text may have it (own)
-abbrev pub within_limit : ℕ → Option ℕ
-within_limit n = if nat_le n text_limit then Some n else None
+-- what an exchange comes to as an edit (own)
+abbrev pub edit_made : Exchange → Edit
+edit_made (exchange.gives t cs) = gives t cs
+edit_made exchange.too_large = refuses TooLarge
 
 -- what segments of a text come to, unless the new text is too large (own)
 abbrev pub edit_of_segments : List Segment → Edit
-edit_of_segments ss = if nat_le (length (new_text ss)) text_limit then gives (new_text ss) (changes ss) else refuses TooLarge
+edit_of_segments ss = edit_made (exchange_of ss)

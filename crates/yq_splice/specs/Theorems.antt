@@ -12,12 +12,12 @@ use Rattle.yq_expr.specs.Plans.{plan}
 use Rattle.yq_expr.specs.Program.{Program, Update, updates}
 use Rattle.yq_expr.specs.Rooms.{room_of}
 use Rattle.yq_expr.specs.declared.refusal.Refusal.TheVariants.{TooLarge}
-use Rattle.yq_splice.specs.Carried.{carrying, or_stay}
-use Rattle.yq_splice.specs.Patch.{Change, all_done, lengths_done}
-use Rattle.yq_splice.specs.Script.{Segment, old_text, new_text, changes}
-use Rattle.yq_splice.specs.Ways.{ReadsAfter}
-use Rattle.yq_splice.specs.declared.edited.EditError.{EditError}
-use Rattle.yq_splice.specs.declared.edited.EditError.TheVariants as error
+use Rattle.yq_script.specs.Patch.{Change, all_done, lengths_done}
+use Rattle.yq_script.specs.Script.{Segment, old_text, new_text, changes}
+use Rattle.yq_ways.specs.Carrying.{carrying, or_stay}
+use Rattle.yq_ways.specs.Ways.{ReadsAfter}
+use Rattle.yq_splice.specs.declared.edit_error.EditError.{EditError}
+use Rattle.yq_splice.specs.declared.edit_error.EditError.TheVariants as error
 
 -- a text leads to another one by splices, in a step for each thing in order (own)
 abbrev pub Leads : {A : Type 0} → (A → List ℕ → List ℕ → List Change → Type 0) → List A → List ℕ → List ℕ → List Change → Type 0

@@ -8,15 +8,15 @@ use Rattle.yq_expr.specs.Operations.{Operation}
 use Rattle.yq_expr.specs.Plans.{plan}
 use Rattle.yq_expr.specs.Program.{Program, Update, updates, UpdatesHold}
 use Rattle.yq_expr.specs.Rooms.{room_of}
+use Rattle.yq_script.specs.Patch.{Change}
+use Rattle.yq_ways.specs.Operands.{HasOperand}
 use Rattle.yq_splice.specs.Answers.{Fails}
 use Rattle.yq_splice.specs.Carried.{updated}
 use Rattle.yq_splice.specs.Edit.{in_order}
 use Rattle.yq_splice.specs.Edit as edit
-use Rattle.yq_splice.specs.Operands.{HasOperand}
-use Rattle.yq_splice.specs.Patch.{Change}
 use Rattle.yq_splice.specs.Theorems.{Leads}
-use Rattle.yq_splice.specs.declared.edited.EditError.{EditError}
-use Rattle.yq_splice.specs.declared.edited.EditError.TheVariants as error
+use Rattle.yq_splice.specs.declared.edit_error.EditError.{EditError}
+use Rattle.yq_splice.specs.declared.edit_error.EditError.TheVariants as error
 
 -- the operands of operations are valid (own)
 abbrev pub HaveOperands : List Operation → Type 0

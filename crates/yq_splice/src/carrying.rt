@@ -7,13 +7,13 @@ ghost use Rattle.yq_splice.specs.Carried as spec;
 ghost use Rattle.yq_splice.specs.Edit.{behind};
 ghost use Rattle.yq_splice.specs.Theorems.{IsApplied, IsFitting, IsRefused};
 
-use crate::edited::{EditError, Edited};
+use crate::edit_error::EditError;
 use crate::operands::operand_holds;
-use crate::script::{Segment, exchange};
-use crate::ways::by_ways;
 use std::alloc::{AllocError, Global};
 use yq_expr::Op;
+use yq_script::Edited;
 use yq_tree::{Documents, read};
+use yq_ways::carry_by_way;
 
 /// The text as it is.
 pub(crate) fn unchanged(alloc: Global, text: &str) -> Result<Edited, AllocError>
@@ -37,16 +37,11 @@ pub(crate) fn follow(done: &mut Edited, next: Edited) -> Result<(), AllocError>
     Ok(())
 }
 
-/// An operation carried out on documents. One that fits them has a way; by
-/// one that has none the text stays.
-#[tactic(auto, using(crate::proofs::WayLaws::given_or_stays, crate::proofs::WayLaws::fails_or_stays))]
+/// An operation carried out on documents.
 fn carry_one(alloc: Global, documents: &Documents<'_>, op: &Op) -> Result<Edited, EditError>
     ensures { Edits result (spec.carry_one (operation_of op.now) (cut_of documents.now)) }
 {
-    match by_ways(alloc, documents, op)? {
-        Some(edited) => Ok(edited),
-        None => exchange(alloc, &[Segment::Keep(documents.text())]),
-    }
+    Ok(carry_by_way(alloc, documents, op)?)
 }
 
 /// An operation carried out on a text.

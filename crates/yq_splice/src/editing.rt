@@ -4,18 +4,19 @@ ghost use Rattle.yq_scalar.specs.declared.ReadFault.{ReadFault};
 ghost use Rattle.yq_tree.specs.Reading.{read_at};
 ghost use Rattle.yq_expr.specs.Program.{LiteralsHold, Update, update_at, update_count, updates};
 ghost use Rattle.yq_expr.specs.View.{program_of};
+ghost use Rattle.yq_script.specs.Patch.{Change};
 ghost use Rattle.yq_splice.specs.Answers.{Edits};
 ghost use Rattle.yq_splice.specs.Carried as spec;
-ghost use Rattle.yq_splice.specs.Patch.{Change};
 ghost use Rattle.yq_splice.specs.Theorems.{AreInside, AreMeant, AreSplices, Leads};
 ghost use Rattle.yq_splice.specs.Valid.{FailsAt, FailsEach, HasSteps, IsStep};
-ghost use Rattle.yq_splice.specs.declared.edited.EditError.TheVariants as error;
+ghost use Rattle.yq_splice.specs.declared.edit_error.EditError.TheVariants as error;
 
 use crate::carrying::{carry_all, follow, unchanged};
-use crate::edited::{EditError, Edited};
+use crate::edit_error::EditError;
 use crate::operands::operands_hold;
 use std::alloc::Global;
 use yq_expr::{Program, Refusal, plan};
+use yq_script::Edited;
 use yq_tree::read;
 
 /// Update `nth` of a program carried out on a text.

@@ -1,6 +1,6 @@
 use Rattle.std.proofs.Common.{take, sym, ap, ◌∙◌, arith, take_all}
 use Rattle.std.specs.Prelude.{is_some, option_and_then}
-use Rattle.yq_splice.specs.Patch.{all_done, change_done}
+use Rattle.yq_script.specs.Patch.{all_done, change_done}
 use Rattle.yq_journal.specs.Gap.{change}
 use Rattle.yq_journal.specs.Turned.{turned}
 use Rattle.yq_journal.proofs.GapLaws.{not_both}

@@ -1,6 +1,6 @@
 use Rattle.std.proofs.Common.{Some, sym, ap, ◌∙◌, arith}
 use Rattle.std.specs.Prelude.{is_some}
-use Rattle.yq_splice.specs.Patch.{all_done, flipped, lengths_done}
+use Rattle.yq_script.specs.Patch.{all_done, flipped, lengths_done}
 use Rattle.yq_journal.specs.Record.{Patch, undone}
 use Rattle.yq_journal.proofs.StandLaws.{ends_alike, lengths_flip}
 use Rattle.yq_journal.proofs.stands.stands_after.Goals as goal

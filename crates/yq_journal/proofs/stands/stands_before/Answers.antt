@@ -1,6 +1,6 @@
 use Rattle.std.proofs.Common.{ap, ◌∙◌}
 use Rattle.std.specs.Prelude.{is_some}
-use Rattle.yq_splice.specs.Patch.{all_done}
+use Rattle.yq_script.specs.Patch.{all_done}
 use Rattle.yq_journal.specs.Record.{Patch, done}
 use Rattle.yq_journal.proofs.StandLaws.{ends_alike}
 use Rattle.yq_journal.proofs.stands.stands_before.Goals as goal

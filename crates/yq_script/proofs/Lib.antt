@@ -1,0 +1,6 @@
+pub mod PatchLaws
+pub mod ScriptLaws
+pub mod ExtentLaws
+pub mod TouchLaws
+pub mod TurnLaws
+pub mod PlaceInList

@@ -1,0 +1,113 @@
+-- A splice exchanges bytes in one place, and what splices do is taken back by the flipped ones.
+use Rattle.std.proofs.Common.{◌≡◌, ℕ, ◌≤◌, ◌&&◌, Bool, true, false, List, [], ◌∷◌, ◌++◌, length, take, drop, nat_le, nat_eq, Some, None, refl, sym, ap, ◌∙◌, arith, cond, append_assoc, append-nil, length-append}
+use Rattle.std.specs.Prelude.{option_and_then}
+use Rattle.std.specs.List.{starts_with}
+use Rattle.std.specs.Cmp.Derive.{both_true}
+use Rattle.std.proofs.Math.Seq.{drop-append_seam, take-append_seam}
+use Rattle.std.proofs.lemmas.Bool.{le-leb, leb-true}
+use Rattle.std.proofs.lemmas.Bool.Decides.{Decides-eqb}
+use Rattle.std.proofs.lemmas.Grind.{common_steps}
+use Rattle.std.proofs.lemmas.List.{take-append-drop}
+use Rattle.std.proofs.lemmas.Slice.Eq.{starts_is}
+use Rattle.yq_script.specs.Patch.{Change, swapped, Exchanges, is_found, change_done, all_done, flipped, lengths_done, length_done}
+
+and_left : (a b : Bool) → (a && b) ≡ true → a ≡ true
+and_left true b h = refl
+and_left false b h = h
+
+and_right : (a b : Bool) → (a && b) ≡ true → b ≡ true
+and_right true b h = h
+and_right false b h = cc
+
+length-take_le : (n : ℕ) (xs : List ℕ) → n ≤ length xs → length (take n xs) ≡ n
+length-take_le n xs h = grind (arith, common_steps)
+
+-- what is exchanged in one place is a splice done
+pub done-from_exchanges : (s : Change) (b c : List ℕ) → Exchanges s b c → change_done s b ≡ Some c
+unfolding change_done
+done-from_exchanges s b c p =
+    let whole : b ≡ p.front ++ (s.old ++ p.rest) = p.before in
+    let at_front : drop s.at b ≡ s.old ++ p.rest =
+    ap (λ n. drop n b) (sym p.offset) ∙ ap (drop (length p.front)) whole ∙ drop-append_seam p.front (s.old ++ p.rest) in
+    let front : take s.at b ≡ p.front =
+    ap (λ n. take n b) (sym p.offset) ∙ ap (take (length p.front)) whole ∙ take-append_seam p.front (s.old ++ p.rest) in
+    let fits : nat_le s.at (length b) ≡ true =
+    le-leb s.at (length b) (omega (arith, ap length whole, length-append p.front (s.old ++ p.rest), p.offset)) in
+    let stands : starts_with nat_eq (drop s.at b) s.old ≡ true =
+    (starts_is Decides-eqb (drop s.at b) s.old (starts_with nat_eq (drop s.at b) s.old) refl).1 p.rest at_front in
+    let tail : drop (length s.old) (drop s.at b) ≡ p.rest =
+    ap (drop (length s.old)) at_front ∙ drop-append_seam s.old p.rest in
+    ap (λ t. cond t (Some (take s.at b ++ s.new ++ drop (length s.old) (drop s.at b))) None) (both_true fits stands)
+    ∙ ap Some (ap (λ x. x ++ s.new ++ drop (length s.old) (drop s.at b)) front ∙ ap (λ x. p.front ++ s.new ++ x) tail ∙ append_assoc p.front s.new p.rest ∙ sym p.after)
+
+-- the parts, where the test held
+exchanges_if : (s : Change) (b c : List ℕ) (t : Bool) → is_found s b ≡ t → cond t (Some (take s.at b ++ s.new ++ drop (length s.old) (drop s.at b))) None ≡ Some c → Exchanges s b c
+exchanges_if s b c false is e = cc
+exchanges_if s b c true is e =
+    let fits : s.at ≤ length b = leb-true s.at (length b) (and_left _ _ is) in
+    let stands : starts_with nat_eq (drop s.at b) s.old ≡ true = and_right _ _ is in
+    let rest : drop s.at b ≡ s.old ++ drop (length s.old) (drop s.at b) =
+    (starts_is Decides-eqb (drop s.at b) s.old (starts_with nat_eq (drop s.at b) s.old) refl).0 stands in
+    let value : take s.at b ++ s.new ++ drop (length s.old) (drop s.at b) ≡ c = cc in
+    record {
+      front = take s.at b;
+      rest = drop (length s.old) (drop s.at b);
+      offset = length-take_le s.at b fits;
+      before = sym (take-append-drop s.at b) ∙ ap (λ x. take s.at b ++ x) rest;
+      after = sym value ∙ append_assoc (take s.at b) s.new (drop (length s.old) (drop s.at b));
+    }
+
+-- a splice done has exchanged bytes in one place
+pub exchanges-from_done : (s : Change) (b c : List ℕ) → change_done s b ≡ Some c → Exchanges s b c
+unfolding change_done
+exchanges-from_done s b c e = exchanges_if s b c (is_found s b) refl e
+
+-- bytes exchanged are exchanged back by the swapped splice
+swapped_exchanges : (s : Change) (b c : List ℕ) → Exchanges s b c → Exchanges (swapped s) c b
+swapped_exchanges s b c p = record { front = p.front; rest = p.rest; offset = p.offset; before = p.after; after = p.before }
+
+-- one splice done is taken back
+pub change_taken_back : (s : Change) (b c : List ℕ) → change_done s b ≡ Some c → change_done (swapped s) c ≡ Some b
+change_taken_back s b c e = done-from_exchanges (swapped s) c b (swapped_exchanges s b c (exchanges-from_done s b c e))
+
+-- splices done one list after the other
+pub all_done-append : (xs ys : List Change) (b : List ℕ) → all_done (xs ++ ys) b ≡ option_and_then (all_done ys) (all_done xs b)
+all_done-append [] ys b = refl
+all_done-append (x ∷ xs) ys b =
+    elim (change_done x b) as (λ r. option_and_then (all_done (xs ++ ys)) r ≡ option_and_then (all_done ys) (option_and_then (all_done xs) r)) [
+      | None ↦ refl
+      | Some c ↦ all_done-append xs ys c
+    ]
+
+-- splices done are taken back
+pub taken_back : (ss : List Change) (b c : List ℕ) → all_done ss b ≡ Some c → all_done (flipped ss) c ≡ Some b
+taken_back [] b c e = sym e
+taken_back (s ∷ ss) b c e =
+    elim (change_done s b) as (λ r. change_done s b ≡ r → option_and_then (all_done ss) r ≡ Some c → all_done (flipped ss ++ swapped s ∷ []) c ≡ Some b) [
+      | None ↦ λ _ h. cc
+      | Some m ↦ λ is h.
+          all_done-append (flipped ss) (swapped s ∷ []) c
+          ∙ ap (option_and_then (all_done (swapped s ∷ []))) (taken_back ss m c h)
+          ∙ ap (option_and_then (λ d. Some d)) (change_taken_back s b m is)
+    ] refl e
+
+pub flipped-append : (xs ys : List Change) → flipped (xs ++ ys) ≡ flipped ys ++ flipped xs
+flipped-append [] ys = sym (append-nil (flipped ys))
+flipped-append (x ∷ xs) ys = ap (λ l. l ++ swapped x ∷ []) (flipped-append xs ys) ∙ append_assoc (flipped ys) (flipped xs) (swapped x ∷ [])
+
+pub flipped_twice : (ss : List Change) → flipped (flipped ss) ≡ ss
+flipped_twice [] = refl
+flipped_twice (s ∷ ss) = flipped-append (flipped ss) (swapped s ∷ []) ∙ ap (λ l. s ∷ l) (flipped_twice ss)
+
+-- and what was taken back is done again
+pub done_again : (ss : List Change) (b c : List ℕ) → all_done (flipped ss) c ≡ Some b → all_done ss b ≡ Some c
+done_again ss b c e = ap (λ l. all_done l b) (sym (flipped_twice ss)) ∙ taken_back (flipped ss) c b e
+
+-- lengths reached one list after the other
+pub lengths_done-append : (xs ys : List Change) (n : ℕ) → lengths_done (xs ++ ys) n ≡ option_and_then (lengths_done ys) (lengths_done xs n)
+lengths_done-append [] ys n = refl
+lengths_done-append (x ∷ xs) ys n =
+    elim (length_done x n) as (λ r. option_and_then (lengths_done (xs ++ ys)) r ≡ option_and_then (lengths_done ys) (option_and_then (lengths_done xs) r)) [
+      | None ↦ refl
+      | Some m ↦ lengths_done-append xs ys m
+    ]

@@ -1,0 +1,4 @@
+pub mod Patch
+pub mod Script
+pub mod Segments
+pub mod Exchanging

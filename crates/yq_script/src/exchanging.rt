@@ -1,0 +1,105 @@
+//! A text made anew of its segments.
+ghost use Rattle.std.specs.Prelude.{◌≡◌, ◌++◌, ◌∷◌, ℕ, List, IfErr, OnOk, length};
+ghost use Rattle.yq_script.specs.Exchanging.{Exchanged, exchange_of, gives, within_limit};
+ghost use Rattle.yq_script.specs.Script as script;
+ghost use Rattle.yq_script.specs.Segments.{segment_of, segments_of};
+ghost use Rattle.yq_script.specs.declared.exchange_error.ExchangeError.TheVariants.{Memory};
+
+use crate::edited::Edited;
+use crate::exchange_error::ExchangeError;
+use crate::segment::Segment;
+use crate::splice::Splice;
+use std::alloc::Global;
+use yq_scalar::characters::TEXT_LIMIT;
+
+/// What stands in the new text for a segment.
+fn new_of<'t>(segment: Segment<'t>) -> &'t str
+    ensures { (ss : List script.Segment) → script.new_text (segment_of segment.entry ∷ ss) ≡ result.now ++ script.new_text ss }
+{
+    match segment {
+        Segment::Keep(text) => text,
+        Segment::Put(_, new) => new,
+    }
+}
+
+/// How long the new text is, unless it is too large.
+fn new_len(segments: &[Segment<'_>]) -> Option<usize>
+    ensures { result ≡ within_limit (length (script.new_text (segments_of segments.now))) }
+{
+    let mut len = 0;
+    let mut rest = segments;
+    'segments: while let [segment, after @ ..] = rest {
+        let new = new_of(*segment);
+        if new.len() > TEXT_LIMIT - len {
+            return None;
+        }
+        len += new.len();
+        rest = after;
+    }
+    Some(len)
+}
+
+/// Adds an exchange of bytes at an offset to splices, if they differ.
+fn push_splice(
+    splices: &mut Vec<Splice>,
+    at: usize,
+    old: Vec<u8>,
+    new: Vec<u8>,
+) -> Result<(), ExchangeError>
+    ensures ok { OnOk result (splices.new.items ≡ splices.old.items ++ script.splice_at at old.items new.items) }
+    ensures err { IfErr result (λ e. e ≡ Memory) }
+{
+    if old.as_slice() == new.as_slice() {
+        return Ok(());
+    }
+    let at = at as u64;
+    splices.push(Splice { at, old, new })?;
+    Ok(())
+}
+
+/// The new text of segments, which is that long, and their splices.
+fn build(alloc: Global, segments: &[Segment<'_>], len: usize) -> Result<Edited, ExchangeError>
+    ensures { Exchanged result (gives (script.new_text (segments_of segments.now)) (script.changes (segments_of segments.now))) }
+{
+    let mut text = String::with_capacity(alloc, len)?;
+    let mut splices = Vec::new(alloc);
+    let mut old = Vec::new(alloc);
+    let mut new = Vec::new(alloc);
+    let mut at = 0;
+    let mut rest = segments;
+    'segments: while let [segment, after @ ..] = rest {
+        match *segment {
+            Segment::Keep(kept) => {
+                if !kept.is_empty() {
+                    push_splice(&mut splices, at, old, new)?;
+                    old = Vec::new(alloc);
+                    new = Vec::new(alloc);
+                    text.push_str(kept)?;
+                    at = text.len();
+                }
+            }
+            Segment::Put(gone, come) => {
+                old.extend_from_slice(gone.as_bytes())?;
+                new.extend_from_slice(come.as_bytes())?;
+                text.push_str(come)?;
+            }
+        }
+        rest = after;
+    }
+    push_splice(&mut splices, at, old, new)?;
+    Ok(Edited { text, splices })
+}
+
+/// The text that segments make of theirs, and its splices: exchanges that
+/// touch are one, and one that changes no byte is none. One pass counts the
+/// new text's bytes, and one moves each of them once.
+///
+/// The new text may have 16,777,216 bytes at most ([`ExchangeError::TooLarge`]).
+pub fn exchange(alloc: Global, segments: &[Segment<'_>]) -> Result<Edited, ExchangeError>
+    ensures { Exchanged result (exchange_of (segments_of segments.now)) }
+{
+    match new_len(segments) {
+        Some(len) => build(alloc, segments, len),
+        None => Err(ExchangeError::TooLarge),
+    }
+}

@@ -1,8 +1,0 @@
-use Rattle.yq_splice.proofs.ScriptLaws as laws
-use Rattle.yq_splice.proofs.script.laws.changes_lead.Goals as goal
-
-pub returns-clause-texts : goal.returns-clause-texts
-returns-clause-texts c = laws.changes_lead
-
-pub returns-clause-lengths : goal.returns-clause-lengths
-returns-clause-lengths c = laws.changes_lengths

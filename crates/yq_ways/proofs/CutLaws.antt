@@ -1,0 +1,19 @@
+-- A text that reads is that of its cut.
+use Rattle.std.proofs.Common.{◌≡◌, ℕ, List, Some, sym}
+use Rattle.std.specs.Str.{is_utf8}
+use Rattle.yq_scalar.proofs.Bools.{guard_then}
+use Rattle.yq_rows.specs.Grammar.{IsCut}
+use Rattle.yq_rows.specs.Rows.{Cut, cut_text}
+use Rattle.yq_tree.specs.Reading.{read_at, cut_of}
+use Rattle.yq_tree.proofs.ReadLaws.{text_takes, cut_is}
+
+-- what is read is cut so
+pub cut_read : (t : List ℕ) (c : Cut) → read_at t ≡ Some c → IsCut t c
+unfolding read_at
+cut_read t c h = (text_takes t c (guard_then (is_utf8 t) h).1).0
+
+pub text_read : (t : List ℕ) (c : Cut) → read_at t ≡ Some c → cut_text c ≡ t
+text_read t c h = sym (cut_read t c h).text
+
+pub cut_same : (t : List ℕ) (c : Cut) → read_at t ≡ Some c → cut_of t ≡ c
+cut_same t c h = cut_is t c (cut_read t c h)

@@ -1,0 +1,147 @@
+-- What an operation that fits says of its value, its key and the anchors that go.
+use Rattle.std.proofs.Common.{inl, inr, ◌≡◌, ℕ, ◌+◌, Bool, true, false, ◌||◌, cond, List, [], ◌∷◌, ◌++◌, length, Option, Some, None, refl, sym, ap, ◌∙◌, subst, arith}
+use Rattle.std.proofs.lemmas.Bool.{false≢true, ltb-false}
+use Rattle.std.proofs.lemmas.Slice.Eq.{bytes_eq-Decides}
+use Rattle.std.specs.List.{list_any}
+use Rattle.std.proofs.lemmas.List.Elements.{All-cons}
+use Rattle.std.proofs.lemmas.List.Kept.{AllPairs-cons}
+use Rattle.std.specs.Prelude.{◌≢◌, All, AllPairs}
+use Rattle.std.specs.Str.{bytes_eq, chars}
+use Rattle.yq_scalar.specs.Keys.{HasUniqueKeys, EachHasUniqueKeys, AreDistinct, with_key, keys_of, depth}
+use Rattle.yq_scalar.specs.Paths.{To, key_is, child_at}
+use Rattle.yq_scalar.specs.Scalar.{string_of}
+use Rattle.yq_scalar.specs.Shapes.{IsTree, AreTrees, AreEntries, IsNew}
+use Rattle.yq_scalar.specs.Tree as tree
+use Rattle.yq_scalar.specs.Tree.{Node, Children, none, child}
+use Rattle.yq_scalar.specs.declared.style.Place.TheVariants.{FlowKey}
+use Rattle.yq_inline.specs.Inline.{depth_limit}
+use Rattle.yq_inline.specs.Valued.{IsLabel, IsValueTree, AreValueTrees}
+use Rattle.yq_inline.specs.Written.{scalar_text}
+use Rattle.yq_lines.specs.Anchors.{Name, Anchors, Refers, names_of, names_in, IsAmong}
+use Rattle.yq_rows.specs.Grammar.{key_limit}
+use Rattle.yq_block.specs.BlockValues.{IsNear, HasNearKeys, EachHasNearKeys}
+use Rattle.yq_block.proofs.KeyLaws.{near_key}
+use Rattle.yq_change.specs.Conditions.{aliases_in, AreSpared}
+use Rattle.yq_change.specs.SoundRoots.{inner_names, IsNewValue}
+use Rattle.yq_expr.specs.Changes.{is_long, has_long_key, have_long_key, is_deep, is_used, refers_to, is_used_inside}
+use Rattle.yq_ways.specs.Operands.{KeyIsUtf8}
+
+-- ---- values
+
+or_first : (a b : Bool) → (a || b) ≡ false → a ≡ false
+or_first true b h = absurd (false≢true (sym h))
+or_first false b h = refl
+
+or_second : (a b : Bool) → (a || b) ≡ false → b ≡ false
+or_second true b h = absurd (false≢true (sym h))
+or_second false b h = h
+
+mutual
+  pub value_names : (v : Node) → IsValueTree v → names_of v ≡ []
+  value_names (tree.alias n) h = absurd h
+  value_names (tree.scalar a kind text) h = ap (λ x. names_of (tree.scalar x kind text)) h.0
+  value_names (tree.list a cs) h = ap (λ x. names_of (tree.list x cs)) h.0 ∙ values_names false cs h.1
+  value_names (tree.map a cs) h = ap (λ x. names_of (tree.map x cs)) h.0 ∙ values_names true cs h.1
+
+  values_names : (keyed : Bool) (cs : Children) → AreValueTrees keyed cs → names_in cs ≡ []
+  values_names keyed tree.none h = refl
+  values_names keyed (tree.child label n cs) h = λ i. value_names n h.1 i ++ values_names keyed cs h.2 i
+
+-- keys that differ
+key_differs : (k : List ℕ) (o : Option (List ℕ)) (ks : List (List ℕ)) → (o ≢ Some k) → All (λ j. k ≢ j) ks → All (λ j. k ≢ j) (with_key o ks)
+key_differs k None ks h others = others
+key_differs k (Some j) ks h others = All-cons (λ x. k ≢ x) j ks (λ same. h (ap Some (sym same))) others
+
+other_keys : (k : List ℕ) (cs : Children) → IsNew k cs → All (λ j. k ≢ j) (keys_of cs)
+other_keys k tree.none h = λ i d within. absurd (omega (arith, within))
+other_keys k (tree.child label n cs) h = key_differs k label.key (keys_of cs) h.0 (other_keys k cs h.1)
+
+no_pairs : AllPairs (λ (a b : List ℕ). a ≢ b) []
+no_pairs = λ i j d less within. absurd (omega (arith, within))
+
+distinct : (cs : Children) → AreEntries cs → AreDistinct (keys_of cs)
+distinct tree.none h = no_pairs
+distinct (tree.child label n cs) h =
+    subst (λ (o : Option (List ℕ)). AreDistinct (with_key o (keys_of cs))) (sym h.0.1) (AllPairs-cons (λ a b. a ≢ b) h.0.0 (keys_of cs) (other_keys h.0.0 cs h.0.2) (distinct cs h.1))
+
+mutual
+  pub tree_unique : (n : Node) → IsTree n → HasUniqueKeys n
+  tree_unique (tree.alias name) h = tt
+  tree_unique (tree.scalar a kind text) h = tt
+  tree_unique (tree.list a cs) h = trees_unique cs h.1
+  tree_unique (tree.map a cs) h = (distinct cs h.0, trees_unique cs h.1)
+
+  trees_unique : (cs : Children) → AreTrees cs → EachHasUniqueKeys cs
+  trees_unique tree.none h = tt
+  trees_unique (tree.child label n cs) h = (tree_unique n h.0, trees_unique cs h.1)
+
+pub new_value : (above : ℕ) (v : Node) → IsValueTree v → HasUniqueKeys v → is_deep above v ≡ false → IsNewValue v above
+new_value above v h unique deep = record { bare = value_names v h; unique = unique; nested = ltb-false depth_limit (above + depth v) deep }
+
+-- ---- keys
+
+pub key_near : (key : Option (List ℕ)) → KeyIsUtf8 key → is_long key ≡ false → IsNear key
+key_near None u h = tt
+key_near (Some k) u h = near_key k key_limit u (ltb-false key_limit (length (chars (scalar_text (string_of k) FlowKey))) h)
+
+label_near : (keyed : Bool) (label : tree.Label) → IsLabel keyed label → is_long label.key ≡ false → IsNear label.key
+label_near true label h long = key_near label.key (subst KeyIsUtf8 (ap (λ (l : tree.Label). l.key) (sym h.1)) h.2) long
+label_near false label h long = subst IsNear (ap (λ (l : tree.Label). l.key) (sym h)) tt
+
+mutual
+  pub near_keys : (v : Node) → IsValueTree v → has_long_key v ≡ false → HasNearKeys v
+  near_keys (tree.alias n) h long = tt
+  near_keys (tree.scalar a kind text) h long = tt
+  near_keys (tree.list a cs) h long = each_near false cs h.1 long
+  near_keys (tree.map a cs) h long = each_near true cs h.1 long
+
+  each_near : (keyed : Bool) (cs : Children) → AreValueTrees keyed cs → have_long_key cs ≡ false → EachHasNearKeys cs
+  each_near keyed tree.none h long = tt
+  each_near keyed (tree.child label n cs) h long =
+      let others = or_second (is_long label.key) (has_long_key n || have_long_key cs) long in (
+        label_near keyed label h.0 (or_first (is_long label.key) (has_long_key n || have_long_key cs) long),
+        near_keys n h.1 (or_first (has_long_key n) (have_long_key cs) others),
+        each_near keyed cs h.2 (or_second (has_long_key n) (have_long_key cs) others),
+      )
+
+-- a key that a mapping hasn't
+some_none : {A : Type 0} {x : A} → Some x ≡ None → ⊥
+some_none e = cc
+
+same_bytes : (a : List ℕ) → bytes_eq a a ≡ true
+same_bytes a = (bytes_eq-Decides a a).1 refl
+
+key_other : (k : List ℕ) (o : Option (List ℕ)) (ks : List (List ℕ)) → key_is k o ≡ false → (IsAmong k ks → ⊥) → IsAmong k (with_key o ks) → ⊥
+key_other k None ks e others among = others among
+key_other k (Some j) ks e others (inl same) = false≢true (sym e ∙ (ap (λ x. bytes_eq j x) same ∙ same_bytes j))
+key_other k (Some j) ks e others (inr more) = others more
+
+pub new_key : (k : List ℕ) (cs : Children) → child_at (To k) cs ≡ None → IsAmong k (keys_of cs) → ⊥
+new_key k tree.none e among = among
+new_key k (tree.child label n cs) e among = go (key_is k label.key) refl (new_key k cs)
+  where
+    go : (b : Bool) → key_is k label.key ≡ b → (child_at (To k) cs ≡ None → IsAmong k (keys_of cs) → ⊥) → ⊥
+    go true here ih = some_none (ap (λ x. cond x (Some n) (child_at (To k) cs)) (sym here) ∙ e)
+    go false here ih = key_other k label.key (keys_of cs) here (ih (ap (λ x. cond x (Some n) (child_at (To k) cs)) (sym here) ∙ e)) among
+
+-- ---- anchors that go
+
+none_refers : (a : List ℕ) (names : List Name) → list_any (refers_to a) names ≡ false → IsAmong a (aliases_in names) → ⊥
+none_refers a [] h among = among
+none_refers a (Anchors b ∷ names) h among = none_refers a names h among
+none_refers a (Refers b ∷ names) h (inl same) = absurd (false≢true (sym (or_first (bytes_eq a b) (list_any (refers_to a) names) h) ∙ (ap (bytes_eq a) (sym same) ∙ same_bytes a)))
+none_refers a (Refers b ∷ names) h (inr more) = none_refers a names (or_second (bytes_eq a b) (list_any (refers_to a) names) h) more
+
+pub not_used : (names gone : List Name) → list_any (is_used names) gone ≡ false → AreSpared gone [] names
+not_used names [] h a among others = among
+not_used names (Anchors b ∷ gone) h a (inl same) others =
+    none_refers b names (or_first (list_any (refers_to b) names) (list_any (is_used names) gone) h) (subst (λ (x : List ℕ). IsAmong x (aliases_in names)) same others)
+not_used names (Anchors b ∷ gone) h a (inr more) others = not_used names gone (or_second (list_any (refers_to b) names) (list_any (is_used names) gone) h) a more others
+not_used names (Refers b ∷ gone) h a among others = not_used names gone h a among others
+
+-- what goes with a node that is exchanged, and with one that is removed
+pub inside_spared : (names : List Name) (n : Node) → is_used_inside names (Some n) ≡ false → AreSpared (inner_names n) [] names
+inside_spared names (tree.alias name) h = λ a among others. among
+inside_spared names (tree.scalar b kind text) h = λ a among others. among
+inside_spared names (tree.list b cs) h = not_used names (names_in cs) h
+inside_spared names (tree.map b cs) h = not_used names (names_in cs) h

@@ -1,0 +1,74 @@
+-- The first of several items or entries of a compact collection taken out of a text, by its segments.
+use Rattle.std.proofs.Common.{◌≡◌, ℕ, ◌≤◌, true, List, ◌++◌, length, Some, None, sym, ap, ◌∙◌, subst, append-nil}
+use Rattle.yq_scalar.specs.Characters.{text_limit}
+use Rattle.yq_scalar.specs.Paths.{Step}
+use Rattle.yq_scalar.proofs.Bools.{bind_some, guard_then}
+use Rattle.yq_rows.specs.Rows.{Cut, cut_text}
+use Rattle.yq_tree.specs.FirstPlaces.{FirstOut, first_removal}
+use Rattle.yq_tree.specs.Reading.{documents, read_at}
+use Rattle.yq_tree.specs.RemovalPlaces.{has_others_at}
+use Rattle.yq_change.proofs.FirstOutLaws.{first_stands}
+use Rattle.yq_change.proofs.FirstRemovalLaws.{first_taken_out}
+use Rattle.yq_expr.specs.Fits.{Fits}
+use Rattle.yq_expr.specs.Operations.{Operation, replace, append, remove, line_comment, head_comment}
+use Rattle.yq_expr.specs.Rooms.{room_of}
+use Rattle.yq_script.specs.Script.{Segment, old_text, new_text}
+use Rattle.yq_ways.specs.Operands.{HasOperand}
+use Rattle.yq_ways.specs.RemovingFirst.{first_removed, first_removed_at, remove_first_way}
+use Rattle.yq_ways.specs.Ways.{ReadsAfter, IsWay}
+use Rattle.yq_ways.proofs.RemovingLaws.{may_take, taken_reads}
+
+-- The way is one for a removal: these are its segments.
+record IsFirstRemoval (doc : ℕ) (steps : List Step) (c : Cut) (ss : List Segment) : Type 0 where
+  pub others : has_others_at doc steps c ≡ true
+  pub x : FirstOut
+  pub place : first_removal doc steps c ≡ Some x
+  pub are : first_removed x ≡ ss
+
+some_same : {A : Type 0} {x y : A} → Some x ≡ Some y → x ≡ y
+some_same e = cc
+
+none_some : {A : Type 0} {x : A} → None ≡ Some x → ⊥
+none_some e = cc
+
+removal_is : (doc : ℕ) (steps : List Step) (c : Cut) (ss : List Segment) → first_removed_at doc steps c ≡ Some ss → IsFirstRemoval doc steps c ss
+removal_is doc steps c ss e =
+    let g = guard_then (has_others_at doc steps c) e in
+    let x = bind_some (first_removal doc steps c) g.1 in
+    record { others = g.0; x = x.0; place = x.1; are = some_same x.2 }
+
+removed_old : (x : FirstOut) → old_text (first_removed x) ≡ x.before ++ (x.space ++ (x.entry ++ (x.break ++ (x.indent ++ x.behind))))
+removed_old x = ap (λ (t : List ℕ). x.before ++ (x.space ++ (x.entry ++ (x.break ++ (x.indent ++ t))))) (append-nil x.behind)
+
+removed_new : (x : FirstOut) → new_text (first_removed x) ≡ x.before ++ x.behind
+removed_new x = ap (λ (t : List ℕ). x.before ++ t) (append-nil x.behind)
+
+reads_after : (doc : ℕ) (steps : List Step) (c : Cut) (ss : List Segment) → read_at (cut_text c) ≡ Some c → IsFirstRemoval doc steps c ss →
+    Fits (room_of (cut_text c)) (remove doc steps) (documents c) →
+    length (new_text ss) ≤ text_limit → ReadsAfter (remove doc steps) c (new_text ss)
+reads_after doc steps c ss read h fits size =
+    let new : new_text ss ≡ h.x.before ++ h.x.behind = ap new_text (sym h.are) ∙ removed_new h.x in
+    let out = first_taken_out c doc steps h.x read h.place (may_take doc steps c h.others fits) (subst (λ (t : List ℕ). length t ≤ text_limit) new size) in
+    subst (ReadsAfter (remove doc steps) c) (sym new) (taken_reads doc steps c (h.x.before ++ h.x.behind) read out)
+
+pub remove_first_is : IsWay remove_first_way
+remove_first_is = record {
+  old = old;
+  reads = reads;
+}
+  where
+    old : (op : Operation) (c : Cut) (ss : List Segment) → read_at (cut_text c) ≡ Some c → remove_first_way op c ≡ Some ss → old_text ss ≡ cut_text c
+    old (replace doc steps v) c ss read e = absurd (none_some e)
+    old (append doc steps key v) c ss read e = absurd (none_some e)
+    old (remove doc steps) c ss read e =
+        let h = removal_is doc steps c ss e in ap old_text (sym h.are) ∙ (removed_old h.x ∙ sym (first_stands c doc steps h.x h.place))
+    old (line_comment doc steps text) c ss read e = absurd (none_some e)
+    old (head_comment doc steps text) c ss read e = absurd (none_some e)
+
+    reads : (op : Operation) (c : Cut) (ss : List Segment) → read_at (cut_text c) ≡ Some c → remove_first_way op c ≡ Some ss → HasOperand op → Fits (room_of (cut_text c)) op (documents c) →
+        length (new_text ss) ≤ text_limit → ReadsAfter op c (new_text ss)
+    reads (replace doc steps v) c ss read e holds fits size = absurd (none_some e)
+    reads (append doc steps key v) c ss read e holds fits size = absurd (none_some e)
+    reads (remove doc steps) c ss read e holds fits size = reads_after doc steps c ss read (removal_is doc steps c ss e) fits size
+    reads (line_comment doc steps text) c ss read e holds fits size = absurd (none_some e)
+    reads (head_comment doc steps text) c ss read e holds fits size = absurd (none_some e)

@@ -1,0 +1,209 @@
+-- Replacing inline nodes by inline nodes is a way.
+use Rattle.std.proofs.Common.{◌≡◌, ℕ, ◌≤◌, eqb, cond, List, [], ◌++◌, length, Option, Some, None, Bool, true, false, refl, sym, ap, ◌∙◌, subst, arith, append-nil}
+use Rattle.std.proofs.lemmas.Bool.{false≢true}
+use Rattle.std.specs.List.{slice_get}
+use Rattle.std.specs.Str.{is_utf8}
+use Rattle.yq_scalar.specs.Answers.{◌>>=◌}
+use Rattle.yq_scalar.specs.Characters.{text_limit}
+use Rattle.yq_scalar.specs.Keys.{HasUniqueKeys, depth}
+use Rattle.yq_scalar.specs.Paths.{Step, change, node_at}
+use Rattle.yq_scalar.specs.Scalar.{ScalarText}
+use Rattle.yq_scalar.specs.Text.{front}
+use Rattle.yq_scalar.specs.Tree as tree
+use Rattle.yq_scalar.specs.Tree.{Node, Children}
+use Rattle.yq_scalar.specs.Written.{written, IsInline}
+use Rattle.yq_scalar.specs.declared.style.Place.TheVariants.{Block}
+use Rattle.yq_scalar.specs.declared.style.Style.{Style}
+use Rattle.yq_scalar.specs.declared.style.Style.TheVariants as styles
+use Rattle.yq_scalar.proofs.Bools.{bind_some, guard_then}
+use Rattle.yq_inline.specs.Inline.{depth_limit}
+use Rattle.yq_inline.specs.Nodes as inline
+use Rattle.yq_inline.specs.Nodes.{node_text}
+use Rattle.yq_inline.specs.Scalars.{style_of}
+use Rattle.yq_inline.specs.Valued.{IsValueTree}
+use Rattle.yq_inline.specs.Written.{flow_of, flow_text}
+use Rattle.yq_rows.specs.Rows.{Part, Cut, cut_text}
+use Rattle.yq_tree.specs.Documents.{Document, document_parts, lead_of}
+use Rattle.yq_tree.specs.InlinePlaces.{InlinePlace, written_text, apart_from, inline_from}
+use Rattle.yq_tree.specs.PathPieces.{printed_document}
+use Rattle.yq_tree.specs.Reading as reading
+use Rattle.yq_tree.specs.Reading.{documents, read_at, root_of}
+use Rattle.yq_tree.specs.TreeEdits.{replaced}
+use Rattle.yq_tree.proofs.PrintedLaws.{document_is}
+use Rattle.yq_tree.proofs.PrintedTexts.{map_some}
+use Rattle.yq_tree.proofs.ReadLaws.{text_takes}
+use Rattle.yq_change.specs.DocumentRows.{IsDocumentPart}
+use Rattle.yq_change.specs.InlineRows.{IsValueNode, place_text, IsInlineReplaced}
+use Rattle.yq_change.specs.Rooms.{is_block_root}
+use Rattle.yq_change.specs.SoundRoots.{IsNewValue}
+use Rattle.yq_change.specs.TextPieces.{IsPiece}
+use Rattle.yq_change.proofs.InlineDoneLaws.{inline_replaced}
+use Rattle.yq_change.proofs.LeadLaws.{same_lead_goes}
+use Rattle.yq_expr.specs.Changes.{has_long_key, is_deep, is_used_inside}
+use Rattle.yq_expr.specs.Fits.{Fits}
+use Rattle.yq_expr.specs.Operations.{Operation, replace, append, remove, line_comment, head_comment}
+use Rattle.yq_expr.specs.Rooms.{room_of}
+use Rattle.yq_lines.specs.Anchors.{names_of}
+use Rattle.yq_script.specs.Script.{Segment, old_text, new_text}
+use Rattle.yq_ways.specs.Operands.{HasOperand}
+use Rattle.yq_ways.specs.Replacing.{node_in, scalar_in, are_same, is_kept, flow_written, value_written, replace_at, replace_way}
+use Rattle.yq_ways.specs.Style.{new_style}
+use Rattle.yq_ways.specs.Ways.{IsWay, ReadsAfter}
+use Rattle.yq_ways.proofs.DoneLaws.{nth_map, document_done}
+use Rattle.yq_ways.proofs.FitLaws.{new_value, inside_spared, tree_unique}
+use Rattle.yq_ways.proofs.KeptLaws.{led_same, kept_reads}
+use Rattle.yq_ways.proofs.PlaceReadable.{place_readable}
+use Rattle.yq_ways.proofs.ReplaceTexts.{place_whole, segments_old, segments_new}
+use Rattle.yq_ways.proofs.StyleLaws.{style_writes, style_inline}
+use Rattle.yq_ways.proofs.ValueNodes.{scalar_is, list_is, map_is, flow_piece}
+
+some_same : {A : Type 0} {x y : A} → Some x ≡ Some y → x ≡ y
+some_same e = cc
+
+none_some : {A : Type 0} {x : A} → None ≡ Some x → ⊥
+none_some e = cc
+
+-- ---- what is written of a value
+
+-- A text that is written inline for a value, by its node.
+pub record IsWrittenFor (v : Node) (t : List ℕ) : Type 0 where
+  pub node : inline.Node
+  pub is : IsValueNode v node
+  pub text : node_text node [] ≡ t
+  pub piece : IsPiece t
+
+pub style_line : (p : List ℕ) → IsInline (style_of p)
+style_line p = go (front (λ b. eqb b 39) p) (front (λ b. eqb b 34) p)
+  where
+    go : (a b : Bool) → IsInline (cond a styles.Single (cond b styles.Double styles.Plain))
+    go true b = tt
+    go false true = tt
+    go false false = tt
+
+pub scalar_for : (a : Option (List ℕ)) (s : ScalarText) (style : Style) → IsValueTree (tree.scalar a s.kind s.text) → IsInline style → Rattle.yq_scalar.specs.Writable.can_write s style Block ≡ true →
+    IsWrittenFor (tree.scalar a s.kind s.text) (written style s.text)
+unfolding node_text
+scalar_for a s style h i can =
+    let w = scalar_is a s.kind s.text style h i can in
+    record { node = inline.scalar (written style s.text); is = w.0; text = append-nil (written style s.text); piece = w.1 }
+
+flow_for : (alone : Bool) (cs : Children) (v : Node) (t : List ℕ) → IsWrittenFor v (flow_text v) → flow_written alone cs v ≡ Some t → IsWrittenFor v t
+flow_for alone tree.none v t h e = subst (IsWrittenFor v) (some_same e) h
+flow_for true (tree.child label n cs) v t h e = subst (IsWrittenFor v) (some_same e) h
+flow_for false (tree.child label n cs) v t h e = absurd (none_some e)
+
+pub written_for : (alone : Bool) (old : List ℕ) (v : Node) (t : List ℕ) → IsValueTree v → depth v ≤ depth_limit → has_long_key v ≡ false → value_written alone old v ≡ Some t → IsWrittenFor v t
+written_for alone old (tree.alias name) t h deep long e = absurd h
+written_for alone old (tree.scalar a kind text) t h deep long e =
+    let s : ScalarText = record { kind = kind; text = text } in
+    subst (IsWrittenFor (tree.scalar a kind text)) (some_same e) (scalar_for a s (new_style s (style_of old)) h (style_inline Block s (style_of old) (style_line old)) (style_writes Block s (style_of old)))
+written_for alone old (tree.list a cs) t h deep long e =
+    flow_for alone cs (tree.list a cs) t (record { node = flow_of (tree.list a cs); is = list_is a cs h deep long; text = refl; piece = flow_piece (tree.list a cs) h }) e
+written_for alone old (tree.map a cs) t h deep long e =
+    flow_for alone cs (tree.map a cs) t (record { node = flow_of (tree.map a cs); is = map_is a cs h deep long; text = refl; piece = flow_piece (tree.map a cs) h }) e
+
+-- ---- the way at a place
+
+document_there : (doc : ℕ) (steps : List Step) (c : Cut) (w : InlinePlace) → read_at (cut_text c) ≡ Some c → inline_from doc steps c ≡ Some w → (d : Part) × (slice_get (document_parts c) doc ≡ Some d)
+unfolding read_at
+document_there doc steps c w read at =
+    let s = bind_some (printed_document doc c) at in
+    let d = document_is _ true doc c s.0 (text_takes (cut_text c) c (guard_then (is_utf8 (cut_text c)) read).1).0.parts s.1 in
+    (d.0, d.1)
+
+module _ (doc : ℕ) (steps : List Step) (v : Node) (c : Cut) (w : InlinePlace) (read : read_at (cut_text c) ≡ Some c) (at : inline_from doc steps c ≡ Some w) where
+  abbrev op : Operation
+  op = replace doc steps v
+
+  document : (d : Part) × (slice_get (document_parts c) doc ≡ Some d)
+  document = document_there doc steps c w read at
+
+  abbrev p : Part
+  p = document.0
+
+  old_part : IsDocumentPart (cut_text c) c doc p
+  old_part = record { read = read; there = document.1 }
+
+  module _ (h : IsValueTree v) (n : Node) (there : node_at steps (root_of p) ≡ Some n) where
+    -- another node
+    replaced_reads : (t : List ℕ) → HasUniqueKeys v → has_long_key v ≡ false → is_deep (length steps) v ≡ false → is_used_inside (names_of (root_of p)) (Some n) ≡ false →
+        value_written w.alone (written_text w.old) v ≡ Some t → length (place_text w t) ≤ text_limit → ReadsAfter op c (place_text w t)
+    replaced_reads t unique long deep used value size =
+        let new : IsNewValue v (length steps) = new_value (length steps) v h unique deep in
+        let x : IsWrittenFor v t = written_for w.alone (written_text w.old) v t h (omega (arith, new.nested)) long value in
+        let r : IsInlineReplaced c doc p steps w v (node_text x.node []) =
+        inline_replaced (cut_text c) c doc p steps w v n x.node old_part at x.is there (record { value_is = new; spared = inside_spared (names_of (root_of p)) n used })
+        (place_readable c doc steps w (node_text x.node []) read at (subst IsPiece (sym x.text) x.piece) (subst (λ u. length (place_text w u) ≤ text_limit) (sym x.text) size)) in
+        let q : Part = r.part in
+        subst (ReadsAfter op c) (r.text_is ∙ ap (place_text w) x.text)
+        (document_done op c p q (lead_of p) (change steps (replaced v)) (record {
+          read = read;
+          there = document.1;
+          rows = λ none. absurd (false≢true (sym r.some ∙ none));
+          changed = r.changed;
+          root = ap (λ m. change steps (replaced m) (root_of p)) (sym (led_same (is_block_root p) (lead_of p) steps v r.inline));
+          lead_goes = same_lead_goes p q r.lead r.block;
+          block = λ keeps. r.block;
+          seats = λ sets. absurd sets;
+        }))
+
+-- ---- the way
+
+place_old : (kept : Bool) (v : Node) (w : InlinePlace) (ss : List Segment) → replace_at kept v w ≡ Some ss → old_text ss ≡ w.before ++ (written_text w.old ++ w.behind)
+place_old true v w ss e = ap old_text (sym (some_same e)) ∙ segments_old w (written_text w.old) (written_text w.old)
+place_old false v w ss e = let m = map_some (value_written w.alone (written_text w.old) v) e in ap old_text (sym m.2) ∙ segments_old w (written_text w.old) (apart_from w.old m.0)
+
+same_document : {d g : Document} → Some d ≡ Some g → d ≡ g
+same_document h = cc
+
+replace_old : (doc : ℕ) (steps : List Step) (v : Node) (c : Cut) (ss : List Segment) → read_at (cut_text c) ≡ Some c → replace_way (replace doc steps v) c ≡ Some ss → old_text ss ≡ cut_text c
+unfolding replace_way
+replace_old doc steps v c ss read is =
+    let x = bind_some (inline_from doc steps c) is in
+    place_old (is_kept (node_in doc steps c) v) v x.0 ss x.2 ∙ place_whole c doc steps x.0 read x.1
+
+replace_reads : (doc : ℕ) (steps : List Step) (v : Node) (c : Cut) (ss : List Segment) → read_at (cut_text c) ≡ Some c → replace_way (replace doc steps v) c ≡ Some ss → IsValueTree v → Fits (room_of (cut_text c)) (replace doc steps v) (documents c) →
+    length (new_text ss) ≤ text_limit → ReadsAfter (replace doc steps v) c (new_text ss)
+unfolding replace_way
+replace_reads doc steps v c ss read is h fits size =
+    let x = bind_some (inline_from doc steps c) is in
+    let w : InlinePlace = x.0 in
+    let part = document doc steps v c w read x.1 in
+    let d : reading.document_of part.0 ≡ fits.0 = same_document (sym (nth_map doc part.0 reading.document_of (document_parts c) part.1) ∙ fits.1) in
+    let root : root_of part.0 ≡ fits.0.root = ap (λ (y : Document). y.root) d in
+    let n : Node = fits.2.1.0 in
+    let there : node_at steps (root_of part.0) ≡ Some n = ap (node_at steps) root ∙ fits.2.1.1 in
+    let used : is_used_inside (names_of (root_of part.0)) (Some n) ≡ false = ap (λ y. is_used_inside (names_of y) (Some n)) root ∙ fits.2.1.2 in
+    let known : node_in doc steps c ≡ Some n = ap (λ (o : Option Document). o >>= λ d. node_at steps d.root) fits.1 ∙ fits.2.1.1 in
+    go w x.1 n there used (is_kept (node_in doc steps c) v) (sym (ap (λ o. is_kept o v) known)) x.2 (tree_unique v fits.2.0.0) fits.2.0.1 fits.2.0.2
+  where
+    go : (w : InlinePlace) (at : inline_from doc steps c ≡ Some w) (n : Node) → node_at steps (root_of (document doc steps v c w read at).0) ≡ Some n → is_used_inside (names_of (root_of (document doc steps v c w read at).0)) (Some n) ≡ false →
+        (b : Bool) → are_same (scalar_in n) (scalar_in v) ≡ b → replace_at b v w ≡ Some ss → HasUniqueKeys v → has_long_key v ≡ false → is_deep (length steps) v ≡ false → ReadsAfter (replace doc steps v) c (new_text ss)
+    go w at n there used true kept e unique long deep =
+        let text : cut_text c ≡ new_text ss = sym (ap new_text (sym (some_same e)) ∙ (segments_old w (written_text w.old) (written_text w.old) ∙ place_whole c doc steps w read at)) in
+        let part = document doc steps v c w read at in
+        subst (ReadsAfter (replace doc steps v) c) text (kept_reads doc steps v c part.0 read part.1 n h there kept)
+    go w at n there used false kept e unique long deep =
+        let m = map_some (value_written w.alone (written_text w.old) v) e in
+        let text : place_text w m.0 ≡ new_text ss = sym (ap new_text (sym m.2) ∙ segments_new w m.0) in
+        subst (ReadsAfter (replace doc steps v) c) text
+        (replaced_reads doc steps v c w read at h n there m.0 unique long deep used m.1 (subst (λ t. length t ≤ text_limit) (sym text) size))
+
+pub replace_is : IsWay replace_way
+unfolding replace_way
+replace_is = record { old = old; reads = reads }
+  where
+    old : (op : Operation) (c : Cut) (ss : List Segment) → read_at (cut_text c) ≡ Some c → replace_way op c ≡ Some ss → old_text ss ≡ cut_text c
+    old (replace doc steps v) c ss read is = replace_old doc steps v c ss read is
+    old (append doc steps key v) c ss read is = absurd (none_some is)
+    old (remove doc steps) c ss read is = absurd (none_some is)
+    old (line_comment doc steps text) c ss read is = absurd (none_some is)
+    old (head_comment doc steps text) c ss read is = absurd (none_some is)
+
+    reads : (op : Operation) (c : Cut) (ss : List Segment) → read_at (cut_text c) ≡ Some c → replace_way op c ≡ Some ss → HasOperand op → Fits (room_of (cut_text c)) op (documents c) →
+        length (new_text ss) ≤ text_limit → ReadsAfter op c (new_text ss)
+    reads (replace doc steps v) c ss read is operand fits size = replace_reads doc steps v c ss read is operand fits size
+    reads (append doc steps key v) c ss read is operand fits size = absurd (none_some is)
+    reads (remove doc steps) c ss read is operand fits size = absurd (none_some is)
+    reads (line_comment doc steps text) c ss read is operand fits size = absurd (none_some is)
+    reads (head_comment doc steps text) c ss read is operand fits size = absurd (none_some is)

@@ -1,0 +1,50 @@
+-- The way to take out one of several items or entries of a block collection that has whole rows (YAML 1.2.2, 8.2; own).
+use Rattle.std.specs.Prelude.{ℕ, List, [], ◌∷◌, ◌++◌, replicate, Option, Some, None, if◌then◌else◌}
+use Rattle.yq_scalar.specs.Answers.{◌>>=◌}
+use Rattle.yq_scalar.specs.BlockRepair.{is_short, is_outside}
+use Rattle.yq_scalar.specs.Lines.{is_blank}
+use Rattle.yq_scalar.specs.Paths.{Step}
+use Rattle.yq_scalar.specs.Text.{cut, no_white, past_white, joined, lines_of}
+use Rattle.yq_rows.specs.Rows.{Cut}
+use Rattle.yq_tree.specs.RemovalPlaces.{Seam, Removal, removal_place, has_others_at}
+use Rattle.yq_expr.specs.Operations.{replace, append, remove, line_comment, head_comment}
+use Rattle.yq_script.specs.Script.{Segment, keep, put}
+use Rattle.yq_ways.specs.Ways.{Way}
+
+-- the white space in front of a line gives way to so many spaces (own)
+abbrev pub indented : ℕ → List ℕ → List Segment
+indented column l = put (cut no_white l).0 (replicate column 32) ∷ (keep (past_white l) ∷ [])
+
+-- a blank line behind a block scalar goes where the scalar keeps empty lines; else it is emptied, if it isn't short enough to be one (8.1.1.2)
+abbrev pub blank_mended : Seam → List ℕ → List Segment
+blank_mended s l = if s.keeps then put l [] ∷ [] else (if is_short s.indent l then keep l ∷ [] else indented 0 l)
+
+-- a comment line behind a block scalar gets the next row's column, if it would be text of the scalar (8.1.1.1)
+abbrev pub comment_mended : Seam → List ℕ → List Segment
+comment_mended s l = if is_outside s.indent l then keep l ∷ [] else indented s.column l
+
+-- the lines of a gap behind a block scalar: the blank ones in front, and the first comment line (own)
+abbrev pub lines_mended : Seam → List (List ℕ) → List Segment
+lines_mended s [] = []
+lines_mended s (l ∷ ls) = if is_blank l then blank_mended s l ++ lines_mended s ls else comment_mended s l ++ (keep (joined ls) ∷ [])
+
+-- a gap that comes to stand at a seam, if there is one (own)
+abbrev pub gap_mended : Option Seam → List ℕ → List Segment
+gap_mended None gap = keep gap ∷ []
+gap_mended (Some s) gap = lines_mended s (lines_of gap)
+
+-- the lines of an item or entry go, and the gap behind them is mended (own)
+abbrev pub removed : Removal → List Segment
+removed x = keep x.before ∷ (put x.gone [] ∷ (gap_mended x.seam x.gap ++ (keep x.behind ∷ [])))
+
+-- one of several items or entries taken out of a document (own)
+abbrev pub removed_at : ℕ → List Step → Cut → Option (List Segment)
+removed_at doc steps c = if has_others_at doc steps c then (removal_place doc steps c >>= λ x. Some (removed x)) else None
+
+-- the way to remove one of several items or entries that has whole rows
+abbrev pub remove_way : Way
+remove_way (replace doc steps v) c = None
+remove_way (append doc steps key v) c = None
+remove_way (remove doc steps) c = removed_at doc steps c
+remove_way (line_comment doc steps text) c = None
+remove_way (head_comment doc steps text) c = None

@@ -1,0 +1,80 @@
+//! The way to put an item or entry at the end of a block collection.
+ghost use Rattle.std.specs.Prelude.{◌≡◌, ◌++◌, IfOk, OnOk, string_bytes};
+ghost use Rattle.yq_inline.specs.Values.{node_of};
+ghost use Rattle.yq_lines.specs.Bodies.{lent};
+ghost use Rattle.yq_scalar.specs.BlockWritten.{break_text};
+ghost use Rattle.yq_expr.specs.Operations.{operation_of};
+ghost use Rattle.yq_tree.specs.Reading.{cut_of};
+ghost use Rattle.yq_ways.specs.AppendWay as spec;
+ghost use Rattle.yq_ways.specs.WayAnswers.{Carries};
+
+use crate::layout::layout_of;
+use std::alloc::{AllocError, Global};
+use yq_block::{Layout, push_entry};
+use yq_expr::{Op, Value};
+use yq_scalar::block_written::break_text;
+use yq_scalar::push_spaces;
+use yq_script::{Edited, ExchangeError, Segment, exchange};
+use yq_tree::{CollectionEnd, Documents};
+
+/// Adds the lines of an item or entry at a column, up to their last break.
+fn push_lines(
+    alloc: Global,
+    out: &mut String,
+    layout: &Layout,
+    column: usize,
+    key: Option<&str>,
+    value: &Value,
+) -> Result<(), AllocError>
+    ensures { OnOk result (string_bytes out.new ≡ string_bytes out.old ++ spec.entry_lines layout.now column (lent key.entry) (node_of value.now)) }
+{
+    push_spaces(out, column)?;
+    push_entry(alloc, out, layout, column, key, value)
+}
+
+/// The lines of an item or entry at a column with a break: behind them, or in front of them, where
+/// the line before has none.
+fn entry_text(
+    alloc: Global,
+    layout: &Layout,
+    end: &CollectionEnd<'_>,
+    key: Option<&str>,
+    value: &Value,
+) -> Result<String, AllocError>
+    ensures { IfOk result (λ s. string_bytes s ≡ spec.put_behind end.now.broken (break_text layout.now.br) (spec.entry_lines layout.now end.now.column (lent key.entry) (node_of value.now))) }
+{
+    let mut out = String::new(alloc);
+    if end.broken {
+        push_lines(alloc, &mut out, layout, end.column, key, value)?;
+        out.push_str(break_text(layout.br))?;
+    } else {
+        out.push_str(break_text(layout.br))?;
+        push_lines(alloc, &mut out, layout, end.column, key, value)?;
+    }
+    Ok(out)
+}
+
+/// An operation that appends carried out: the item or entry stands on lines of its own behind the
+/// last line of a block collection.
+pub(crate) fn append_way(
+    alloc: Global,
+    documents: &Documents<'_>,
+    op: &Op,
+) -> Result<Option<Edited>, ExchangeError>
+    ensures { Carries result (spec.append_way (operation_of op.now) (cut_of documents.now)) }
+{
+    let Op::Append(path, key, value) = op else {
+        return Ok(None);
+    };
+    let Some(end) = documents.collection_end(path) else {
+        return Ok(None);
+    };
+    let layout = layout_of(documents, path.doc);
+    let new = entry_text(alloc, &layout, &end, key.as_deref(), value)?;
+    let segments = [
+        Segment::Keep(end.before),
+        Segment::Put("", &new),
+        Segment::Keep(end.behind),
+    ];
+    Ok(Some(exchange(alloc, &segments)?))
+}

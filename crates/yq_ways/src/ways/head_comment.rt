@@ -1,0 +1,70 @@
+//! The way to set head comments.
+ghost use Rattle.std.specs.Prelude.{◌≡◌, ◌++◌, IfOk, OnOk, string_bytes};
+ghost use Rattle.yq_expr.specs.Meaning.{head_of};
+ghost use Rattle.yq_expr.specs.Operations.{operation_of};
+ghost use Rattle.yq_tree.specs.Reading.{cut_of};
+ghost use Rattle.yq_ways.specs.CommentWays as spec;
+ghost use Rattle.yq_ways.specs.WayAnswers.{Carries};
+
+use std::alloc::{AllocError, Global};
+use yq_expr::Op;
+use yq_scalar::block_written::break_text;
+use yq_scalar::push_spaces;
+use yq_script::{Edited, ExchangeError, Segment, exchange};
+use yq_tree::Documents;
+
+/// Adds a line of a head comment, with its break.
+fn push_line(out: &mut String, column: usize, br: &str, text: &str) -> Result<(), AllocError>
+    ensures { OnOk result (string_bytes out.new ≡ string_bytes out.old ++ spec.head_line column br.now text.now) }
+{
+    push_spaces(out, column)?;
+    out.push('#')?;
+    if !text.is_empty() {
+        out.push(' ')?;
+        out.push_str(text)?;
+    }
+    out.push_str(br)?;
+    Ok(())
+}
+
+/// The lines of a head comment with a text: one for each line of that.
+fn head_lines(alloc: Global, column: usize, br: &str, text: &str) -> Result<String, AllocError>
+    ensures { IfOk result (λ s. string_bytes s ≡ spec.head_lines column br.now (head_of text.now)) }
+{
+    let mut out = String::new(alloc);
+    if text.is_empty() {
+        return Ok(out);
+    }
+    let mut rest = text;
+    'lines: while let Some((line, after)) = rest.split_once('\n') {
+        push_line(&mut out, column, br, line)?;
+        rest = after;
+    }
+    push_line(&mut out, column, br, rest)?;
+    Ok(out)
+}
+
+/// An operation that sets a head comment carried out: other lines stand above the row.
+pub(crate) fn head_comment_way(
+    alloc: Global,
+    documents: &Documents<'_>,
+    op: &Op,
+) -> Result<Option<Edited>, ExchangeError>
+    ensures { Carries result (spec.head_comment_way (operation_of op.now) (cut_of documents.now)) }
+{
+    let Op::HeadComment(path, text) = op else {
+        return Ok(None);
+    };
+    let Some(above) = documents.lines_above(path) else {
+        return Ok(None);
+    };
+    let br = break_text(documents.first_break());
+    let new = head_lines(alloc, above.column, br, text)?;
+    let segments = [
+        Segment::Keep(above.before),
+        Segment::Put(above.run, &new),
+        Segment::Keep(above.behind),
+    ];
+    let edited = exchange(alloc, &segments)?;
+    Ok(Some(edited))
+}

@@ -1,0 +1,66 @@
+//! The way to set line comments.
+ghost use Rattle.std.specs.Prelude.{◌≡◌, IfOk, string_bytes};
+ghost use Rattle.yq_expr.specs.Operations.{operation_of};
+ghost use Rattle.yq_tree.specs.CommentTelling.{end_told};
+ghost use Rattle.yq_tree.specs.Reading.{cut_of};
+ghost use Rattle.yq_script.specs.Segments.{segment_of};
+ghost use Rattle.yq_ways.specs.CommentWays as spec;
+ghost use Rattle.yq_ways.specs.WayAnswers.{Carries};
+
+use std::alloc::{AllocError, Global};
+use yq_expr::Op;
+use yq_script::{Edited, ExchangeError, Segment, exchange};
+use yq_tree::{Documents, LineEnd};
+
+/// The white space that ends a line: it goes with a comment that is taken away.
+fn white_segment<'t>(text: &str, end: LineEnd<'t>) -> Segment<'t>
+    ensures { segment_of result ≡ spec.white_segment text.now (end_told end.entry) }
+{
+    if text.is_empty() && !end.comment.is_empty() {
+        Segment::Put(end.white, "")
+    } else {
+        Segment::Keep(end.white)
+    }
+}
+
+/// What is written for a line comment with a text.
+fn line_comment_text(alloc: Global, text: &str, end: LineEnd<'_>) -> Result<String, AllocError>
+    ensures { IfOk result (λ s. string_bytes s ≡ spec.line_comment_text text.now (end_told end.entry)) }
+{
+    let mut out = String::new(alloc);
+    if text.is_empty() {
+        return Ok(out);
+    }
+    if end.comment.is_empty() {
+        out.push(' ')?;
+    }
+    out.push_str("# ")?;
+    out.push_str(text)?;
+    Ok(out)
+}
+
+/// An operation that sets a line comment carried out: the comment at the end of the line gives way to
+/// the new one.
+pub(crate) fn line_comment_way(
+    alloc: Global,
+    documents: &Documents<'_>,
+    op: &Op,
+) -> Result<Option<Edited>, ExchangeError>
+    ensures { Carries result (spec.line_comment_way (operation_of op.now) (cut_of documents.now)) }
+{
+    let Op::LineComment(path, text) = op else {
+        return Ok(None);
+    };
+    let Some(end) = documents.line_end(path) else {
+        return Ok(None);
+    };
+    let new = line_comment_text(alloc, text, end)?;
+    let segments = [
+        Segment::Keep(end.before),
+        white_segment(text, end),
+        Segment::Put(end.comment, &new),
+        Segment::Keep(end.behind),
+    ];
+    let edited = exchange(alloc, &segments)?;
+    Ok(Some(edited))
+}

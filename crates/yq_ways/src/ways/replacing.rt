@@ -1,0 +1,124 @@
+//! A way to replace nodes: an inline one takes the place of an inline one outside flow collections,
+//! or of nothing.
+ghost use Rattle.std.specs.Prelude.{◌≡◌, IfOk, Some, option_map, string_bytes};
+ghost use Rattle.yq_inline.specs.Values as values;
+ghost use Rattle.yq_lines.specs.Bodies.{lent};
+ghost use Rattle.yq_tree.specs.InlinePlaces as places;
+ghost use Rattle.yq_tree.specs.Nodes.{node_of};
+ghost use Rattle.yq_tree.specs.Reading.{cut_of};
+ghost use Rattle.yq_expr.specs.Operations.{operation_of};
+ghost use Rattle.yq_ways.specs.PlaceViews.{inline_view};
+ghost use Rattle.yq_ways.specs.Replacing as spec;
+ghost use Rattle.yq_ways.specs.WayAnswers.{Carries};
+
+use crate::style::{is_same, style_in};
+use std::alloc::{AllocError, Global};
+use yq_expr::{Op, Value};
+use yq_inline::{style_of, write_inline};
+use yq_scalar::{Place, write_scalar};
+use yq_script::{Edited, ExchangeError, Segment, exchange};
+use yq_tree::{Documents, InlinePlace, Node, NodeKind};
+
+/// Whether a value is a scalar equal to the node that is there, if one is.
+pub(super) fn is_kept(node: Option<Node<'_, '_>>, value: &Value) -> bool
+    ensures { result ≡ spec.is_kept (option_map node_of node.entry) (values.node_of value.now) }
+{
+    let Some(node) = node else {
+        return false;
+    };
+    let NodeKind::Scalar(kind) = node.kind() else {
+        return false;
+    };
+    let Value::Scalar(scalar) = value else {
+        return false;
+    };
+    is_same(kind, node.text(), scalar)
+}
+
+/// The text that is written in a place, or nothing.
+fn written<'d>(old: Option<&'d str>) -> &'d str
+    ensures { result.now ≡ places.written_text (lent old.entry) }
+{
+    match old {
+        Some(text) => text,
+        None => "",
+    }
+}
+
+/// A text as it is put in a place: behind a space where nothing is written.
+fn apart_from(alloc: Global, old: Option<&str>, new: &str) -> Result<String, AllocError>
+    ensures { IfOk result (λ s. string_bytes s ≡ places.apart_from (lent old.entry) new.now) }
+{
+    let mut text = String::new(alloc);
+    if old.is_none() {
+        text.push_str(" ")?;
+    }
+    text.push_str(new)?;
+    Ok(text)
+}
+
+/// How a value is written in a place, if it is written inline there.
+pub(crate) fn inline_written(
+    alloc: Global,
+    old: &str,
+    alone: bool,
+    value: &Value,
+) -> Result<Option<String>, AllocError>
+    ensures { IfOk result (λ s. option_map string_bytes s ≡ spec.value_written alone old.now (values.node_of value.now)) }
+{
+    let is_inline = match value {
+        Value::Scalar(scalar) => {
+            let style = style_in(Place::Block, scalar, style_of(old.as_bytes()));
+            return Ok(Some(write_scalar(alloc, scalar, style, Place::Block)?));
+        }
+        Value::List(items) => alone || items.is_empty(),
+        Value::Map(entries) => alone || entries.is_empty(),
+    };
+    if is_inline {
+        Ok(Some(write_inline(alloc, value)?))
+    } else {
+        Ok(None)
+    }
+}
+
+/// One text in the place of another.
+fn put(
+    alloc: Global,
+    place: &InlinePlace<'_>,
+    old: &str,
+    new: &str,
+) -> Result<Option<Edited>, ExchangeError>
+    ensures { Carries result (Some (spec.place_segments (inline_view place.now) old.now new.now)) }
+{
+    let segments = [
+        Segment::Keep(place.before),
+        Segment::Put(old, new),
+        Segment::Keep(place.behind),
+    ];
+    Ok(Some(exchange(alloc, &segments)?))
+}
+
+/// An operation carried out by an inline node in the place of an inline one, or of nothing.
+pub(crate) fn replace_way(
+    alloc: Global,
+    documents: &Documents<'_>,
+    op: &Op,
+) -> Result<Option<Edited>, ExchangeError>
+    ensures { Carries result (spec.replace_way (operation_of op.now) (cut_of documents.now)) }
+{
+    let Op::Replace(path, value) = op else {
+        return Ok(None);
+    };
+    let Some(place) = documents.inline_place(path) else {
+        return Ok(None);
+    };
+    let old = written(place.old);
+    if is_kept(documents.locate(path), value) {
+        return put(alloc, &place, old, old);
+    }
+    let Some(text) = inline_written(alloc, old, place.alone, value)? else {
+        return Ok(None);
+    };
+    let new = apart_from(alloc, place.old, &text)?;
+    put(alloc, &place, old, &new)
+}
