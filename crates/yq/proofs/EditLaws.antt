@@ -2,7 +2,7 @@
 use Rattle.std.proofs.Common.{◌≡◌, ◌≢◌, ◌⊎◌, inl, ℕ, Bool, true, false, nat_le, List, length, Option, Some, None, Result, Ok, Err, OnOk, OnErr, IfErr, option_map, if◌then◌else◌, sym, ap, ap₂, ◌∙◌, subst, refl}
 use Rattle.std.specs.Str.{bytes_eq}
 use Rattle.std.proofs.lemmas.Slice.Eq.{bytes_eq-Decides}
-use Rattle.yq_expr.specs.Program.{Program}
+use Rattle.yq_program.specs.Program.{Program}
 use Rattle.yq_script.specs.Patch.{Change}
 use Rattle.yq_journal.specs.declared.fault.JournalFault.TheVariants as journal
 use Rattle.yq_journal.specs.declared.moves.Move.TheVariants.{Edit}

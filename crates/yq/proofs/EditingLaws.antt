@@ -8,7 +8,7 @@ use Rattle.yq_scalar.specs.declared.fault.FaultKind.TheVariants.{NotUtf8, TooLar
 use Rattle.yq_scalar.specs.Characters.{is_text, text_limit}
 use Rattle.yq_rows.specs.Reading.{scan_at, all_parts}
 use Rattle.yq_tree.specs.Reading.{checked, read_at, text_at}
-use Rattle.yq_expr.specs.Program.{Program}
+use Rattle.yq_program.specs.Program.{Program}
 use Rattle.yq_splice.specs.Carried.{edit_of, program_done}
 use Rattle.yq_splice.specs.Edit.{by_reading}
 use Rattle.yq_splice.specs.Answers.{Fails}

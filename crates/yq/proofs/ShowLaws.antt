@@ -14,7 +14,7 @@ use Rattle.yq_expr.specs.Judgement.{Judgement, refuses}
 use Rattle.yq_expr.specs.Judgement as judgement
 use Rattle.yq_expr.specs.declared.match_error.MatchError.{MatchError}
 use Rattle.yq_expr.specs.declared.match_error.MatchError.TheVariants as matching
-use Rattle.yq_expr.specs.Program.{Program, Stage, is_read, read, updates}
+use Rattle.yq_program.specs.Program.{Program, Stage, is_read, read, updates}
 use Rattle.yq_journal.specs.History.{History, text_at}
 use Rattle.yq.specs.declared.fault.Fault.{Fault}
 use Rattle.yq.specs.declared.fault.Fault.TheVariants.{OutOfMemory, Unreadable}

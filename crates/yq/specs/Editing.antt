@@ -3,11 +3,11 @@ use Rattle.std.specs.Prelude.{◌≡◌, ◌↔◌, ◌&&◌, ℕ, Bool, true, n
 use Rattle.std.specs.Str.{is_utf8}
 use Rattle.yq_scalar.specs.Characters.{text_limit}
 use Rattle.yq_scalar.specs.declared.fault.FaultKind.TheVariants.{NotUtf8}
-use Rattle.yq_expr.specs.Program.{Program}
-use Rattle.yq_expr.specs.Parse.{outcome}
-use Rattle.yq_expr.specs.Outcome as expr
-use Rattle.yq_expr.specs.declared.error.ParseError.{ParseError}
-use Rattle.yq_expr.specs.declared.error.ParseError.TheVariants as parse
+use Rattle.yq_program.specs.Program.{Program}
+use Rattle.yq_program.specs.Parse.{outcome}
+use Rattle.yq_program.specs.Outcome as expr
+use Rattle.yq_program.specs.declared.error.ParseError.{ParseError}
+use Rattle.yq_program.specs.declared.error.ParseError.TheVariants as parse
 use Rattle.yq_expr.specs.declared.refusal.Refusal.{Refusal}
 use Rattle.yq_expr.specs.declared.refusal.Refusal.TheVariants as refusal
 use Rattle.yq_script.specs.Patch.{Change}

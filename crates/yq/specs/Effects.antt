@@ -3,7 +3,7 @@ use Rattle.std.specs.Prelude.{◌≡◌, ◌==◌, ℕ, List, length, nat_le, if
 use Rattle.std.specs.FinMap.{get}
 use Rattle.std.specs.Str.{bytes_eq}
 use Rattle.std.specs.String.{string_bytes}
-use Rattle.yq_expr.specs.Program.{Program}
+use Rattle.yq_program.specs.Program.{Program}
 use Rattle.yq_journal.specs.declared.fault.JournalFault.{JournalFault}
 use Rattle.yq_journal.specs.declared.moves.Move.{Move}
 use Rattle.yq_journal.specs.declared.moves.Move.TheVariants as move

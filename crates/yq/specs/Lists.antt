@@ -13,7 +13,7 @@ use Rattle.yq.specs.Causes.{Cause, IsFor}
 use Rattle.yq.specs.Content.{Content}
 use Rattle.yq.specs.Effects.{OfEffect, Tells}
 use Rattle.yq.specs.Faults.{is_failure, is_outside, is_output}
-use Rattle.yq_expr.specs.Program.{Program}
+use Rattle.yq_program.specs.Program.{Program}
 use Rattle.yq_script.specs.Patch.{Change}
 use Rattle.yq.specs.Editing.{program_in, edits, edited}
 use Rattle.yq.specs.Pair.{HasLast}

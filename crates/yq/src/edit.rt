@@ -1,10 +1,10 @@
 //! Edits of a file beside its journal.
 ghost use Rattle.std.specs.Prelude.{◌≡◌, ◌≢◌, Some, Ok, IfOk, IfErr, OnOk, ℕ, List, IsTrue, IsNone, false, length};
-ghost use Rattle.yq_expr.specs.View.{program_of};
+ghost use Rattle.yq_program.specs.View.{program_of};
 ghost use Rattle.yq_journal.specs.History.{History};
 ghost use Rattle.yq_script.specs.Patch.{Change, all_done, lengths_done};
 ghost use Rattle.std.specs.FinMap as map;
-ghost use Rattle.yq_expr.specs.Program as spec;
+ghost use Rattle.yq_program.specs.Program as spec;
 ghost use Rattle.yq.specs.Editing.{edited, edits};
 ghost use Rattle.yq.specs.Edits.{edit_record};
 ghost use Rattle.yq.specs.Effects.{Works, edit_effect};

@@ -2,7 +2,7 @@
 ghost use Rattle.std.specs.Prelude.{◌≡◌, ◌≢◌, ◌⊎◌, Some, None, Ok, Err, IfOk, IfErr, OnErr, true, false, length};
 ghost use Rattle.std.specs.Str.{is_utf8};
 ghost use Rattle.std.specs.String.{string_bytes};
-ghost use Rattle.yq_expr.specs.View.{program_of};
+ghost use Rattle.yq_program.specs.View.{program_of};
 ghost use Rattle.yq_script.specs.Patch.{all_done, lengths_done};
 ghost use Rattle.yq_tree.specs.Reading.{read_at};
 ghost use Rattle.yq.specs.Editing.{IsUnreadable, Refuses, edited, edits, program_in};

@@ -1,7 +1,7 @@
 //! Expressions that aren't carried out in place: what they show of a file.
 ghost use Rattle.std.specs.Prelude.{◌≡◌, ◌≢◌, Ok, ℕ, Bool, List, Option, IfErr, IfOk, OnOk, IsTrue, true, false};
-ghost use Rattle.yq_expr.specs.Program.{is_read};
-ghost use Rattle.yq_expr.specs.View.{program_of};
+ghost use Rattle.yq_program.specs.Program.{is_read};
+ghost use Rattle.yq_program.specs.View.{program_of};
 ghost use Rattle.yq_journal.specs.History.{History};
 ghost use Rattle.yq.specs.Causes.{IsFor};
 ghost use Rattle.yq.specs.Editing.{program_in};

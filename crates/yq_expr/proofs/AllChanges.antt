@@ -7,14 +7,14 @@ use Rattle.yq_expr.specs.Judgement.{Judgement, gives, refuses, and_then, Fails}
 use Rattle.yq_expr.specs.Meaning.{roots_of}
 use Rattle.yq_expr.specs.PlaceView.{places_of, put_behind}
 use Rattle.yq_expr.specs.Places.{Place, root_place, for_each}
-use Rattle.yq_expr.specs.Program.{Stage, Term, Update, assign}
+use Rattle.yq_program.specs.Program.{Stage, Term, Update, assign}
 use Rattle.yq_expr.specs.RightValues.{right_value}
 use Rattle.yq_expr.specs.declared.matching.place.Place as declared
-use Rattle.yq_expr.specs.declared.program.Operator.{Operator}
-use Rattle.yq_expr.specs.declared.program.Operator.TheVariants as operator
+use Rattle.yq_program.specs.declared.program.Operator.{Operator}
+use Rattle.yq_program.specs.declared.program.Operator.TheVariants as operator
 use Rattle.yq_expr.specs.declared.match_error.MatchError.{MatchError}
 use Rattle.yq_expr.proofs.EachLaws.{fails_then}
-use Rattle.yq_expr.proofs.Lists.{past_last}
+use Rattle.yq_program.proofs.Lists.{past_last}
 
 -- ---- places
 

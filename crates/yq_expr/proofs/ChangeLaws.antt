@@ -8,8 +8,8 @@ use Rattle.yq_tree.specs.TreeEdits.{new_label}
 use Rattle.yq_expr.specs.Changes.{nested, made, put_below}
 use Rattle.yq_expr.specs.Judgement.{gives, refuses}
 use Rattle.yq_expr.specs.declared.refusal.Refusal.TheVariants.{IndexOutOfRange}
-use Rattle.yq_expr.proofs.Lists.{list_any_map}
-use Rattle.yq_expr.specs.Program.{is_index, Step, key, index, each}
+use Rattle.yq_program.proofs.Lists.{list_any_map}
+use Rattle.yq_program.specs.Program.{is_index, Step, key, index, each}
 
 -- a value under one key more, inside the others
 pub nested_last : (ms : List Step) (m : Step) (v : Node) → nested (ms ++ m ∷ []) v ≡ nested ms (nested (m ∷ []) v)

@@ -16,7 +16,7 @@ use Rattle.yq_expr.specs.Matching.{Found, find, in_scalar, key_step, item_number
 use Rattle.yq_expr.specs.Pipes.{kept, select_on, stage_on, pipe_on, places}
 use Rattle.yq_expr.specs.PlaceView.{put_behind}
 use Rattle.yq_expr.specs.Places.{Place, root_place, child_place, for_each, miss, found_place, stepped, all_steps, step_there, step_from, step_on, in_turn}
-use Rattle.yq_expr.specs.Program.{Step, key, index, each, Stage, path, select}
+use Rattle.yq_program.specs.Program.{Step, key, index, each, Stage, path, select}
 use Rattle.yq_expr.specs.TreeScalars.{HasScalars, EachHasScalars, HaveScalars}
 use Rattle.yq_expr.specs.declared.match_error.MatchError.{MatchError}
 use Rattle.yq_expr.specs.declared.refusal.Refusal.{Refusal}

@@ -15,7 +15,7 @@ use Rattle.yq_expr.specs.MatchTrees.{IsMatch, AreMatches}
 use Rattle.yq_expr.specs.Pipes.{places}
 use Rattle.yq_expr.specs.Places.{Place, for_each}
 use Rattle.yq_expr.specs.PlacesApart.{IsIn}
-use Rattle.yq_expr.specs.Program.{Stage, Step}
+use Rattle.yq_program.specs.Program.{Stage, Step}
 use Rattle.yq_expr.specs.declared.match_error.MatchError.{MatchError}
 use Rattle.yq_expr.proofs.JudgementLaws.{then_gives, gives_same}
 use Rattle.yq_expr.proofs.updates.GoodPlaces.{AreSound}

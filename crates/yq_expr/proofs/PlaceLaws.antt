@@ -8,7 +8,7 @@ use Rattle.yq_expr.specs.Conditions.{node_there}
 use Rattle.yq_expr.specs.Judgement.{gives}
 use Rattle.yq_expr.specs.PlaceView.{place_of, places_of}
 use Rattle.yq_expr.specs.Places.{Place, child_place, miss, step_by, step_from, stepped}
-use Rattle.yq_expr.specs.Program.{Step}
+use Rattle.yq_program.specs.Program.{Step}
 use Rattle.yq_expr.specs.declared.matching.place.Place as declared
 
 -- where a step is missing there is null

@@ -12,7 +12,7 @@ use Rattle.yq_tree.specs.Outline.{null_node}
 use Rattle.yq_expr.specs.declared.refusal.Refusal.TheVariants.{ThroughAlias}
 use Rattle.yq_expr.specs.Judgement.{Judgement, gives, refuses, and_then}
 use Rattle.yq_expr.specs.Places.{Place, walk}
-use Rattle.yq_expr.specs.Program.{Step, Operand, value_at, document_index, Condition, compares, has}
+use Rattle.yq_program.specs.Program.{Step, Operand, value_at, document_index, Condition, compares, has}
 
 -- whether a text is a word for true (YAML 1.2.2, section 10.3.2)
 abbrev pub is_true_word : List ℕ → Bool

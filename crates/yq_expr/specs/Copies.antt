@@ -8,7 +8,7 @@ use Rattle.yq_expr.specs.Conditions.{value_of}
 use Rattle.yq_expr.specs.Judgement.{Judgement, gives, refuses, and_then}
 use Rattle.yq_expr.specs.Pipes.{places}
 use Rattle.yq_expr.specs.Places.{Place, for_each}
-use Rattle.yq_expr.specs.Program.{Stage}
+use Rattle.yq_program.specs.Program.{Stage}
 
 -- the key of an entry: each one has a key (own)
 abbrev pub key_or_empty : Option (List ℕ) → List ℕ

@@ -8,7 +8,7 @@ use Rattle.yq_expr.specs.ChangeView.{change_of}
 use Rattle.yq_expr.specs.Judgement.{Judgement, and_then}
 use Rattle.yq_expr.specs.Places.{Place}
 use Rattle.yq_expr.specs.RightValues.{right_value}
-use Rattle.yq_expr.specs.View.{term_of}
+use Rattle.yq_program.specs.View.{term_of}
 
 -- a change at a place (own)
 abbrev pub placed_change : Place → change.Change → List Changed

@@ -7,8 +7,8 @@ use Rattle.yq_scalar.specs.Tree as tree
 use Rattle.yq_scalar.specs.Tree.{Node, alias, scalar, list, Children, none, child}
 use Rattle.yq_tree.specs.Anchors.{names_of}
 use Rattle.yq_tree.specs.Documents.{Document}
-use Rattle.yq_expr.specs.declared.program.CommentPlace.{CommentPlace}
-use Rattle.yq_expr.specs.declared.program.CommentPlace.TheVariants as comments
+use Rattle.yq_program.specs.declared.program.CommentPlace.{CommentPlace}
+use Rattle.yq_program.specs.declared.program.CommentPlace.TheVariants as comments
 use Rattle.yq_expr.specs.After.{document_of, after_op}
 use Rattle.yq_expr.specs.Changes.{Room, is_long, has_long_key, is_deep, is_used_inside, is_used_in, is_comment}
 use Rattle.yq_expr.specs.Operations.{Operation, replace, append, remove, line_comment, head_comment}

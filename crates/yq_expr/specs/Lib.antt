@@ -1,13 +1,4 @@
-pub mod Given
-pub mod Grammar
-pub mod Lexing
-pub mod Outcome
-pub mod Parse
-pub mod Program
-pub mod Seen
-pub mod Tokens
 pub use Rattle.yq_inline.specs.Values
-pub mod View
 pub use Rattle.yq_scalar.specs.Tree
 pub mod Matching
 pub mod Operations

@@ -6,14 +6,14 @@ use Rattle.yq_scalar.specs.Shapes.{IsTree}
 use Rattle.yq_scalar.specs.Tree.{Node, Children, children_of}
 use Rattle.yq_tree.specs.Documents.{Document}
 use Rattle.yq_tree.specs.TreeEdits.{replaced, new_label, led, lead_by, with_tree}
-use Rattle.yq_expr.specs.declared.program.CommentPlace.{CommentPlace}
-use Rattle.yq_expr.specs.declared.program.CommentPlace.TheVariants as comments
+use Rattle.yq_program.specs.declared.program.CommentPlace.{CommentPlace}
+use Rattle.yq_program.specs.declared.program.CommentPlace.TheVariants as comments
 use Rattle.yq_expr.specs.Changes as changes
 use Rattle.yq_expr.specs.Changes.{Addition, appends, overwrites, replaces, adds, sets_comment, Changed, Room, changes_of}
 use Rattle.yq_expr.specs.Deeds as deeds
 use Rattle.yq_expr.specs.Deeds.{Deed, becomes, done_by, at_once}
 use Rattle.yq_expr.specs.Judgement.{Judgement, gives, and_then}
-use Rattle.yq_expr.specs.Program.{Update}
+use Rattle.yq_program.specs.Program.{Update}
 
 -- items or entries with an addition (own)
 abbrev pub add_to : Addition → Children → Children

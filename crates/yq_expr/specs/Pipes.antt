@@ -4,7 +4,7 @@ use Rattle.yq_scalar.specs.Tree.{Node}
 use Rattle.yq_expr.specs.Conditions.{holds}
 use Rattle.yq_expr.specs.Judgement.{Judgement, gives, and_then}
 use Rattle.yq_expr.specs.Places.{Place, root_place, for_each, in_turn, walk}
-use Rattle.yq_expr.specs.Program.{Condition, Stage, path, select}
+use Rattle.yq_program.specs.Program.{Condition, Stage, path, select}
 
 -- a place, if it is kept (own)
 abbrev pub kept : Place → Bool → List Place

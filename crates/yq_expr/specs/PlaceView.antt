@@ -15,8 +15,8 @@ use Rattle.yq_expr.specs.declared.matching.place.Place as declared
 use Rattle.yq_expr.specs.Judgement.{Judgement, gives, and_then}
 use Rattle.yq_expr.specs.Matching.{Found}
 use Rattle.yq_expr.specs.Places.{Place}
-use Rattle.yq_expr.specs.Program.{Step}
-use Rattle.yq_expr.specs.View.{step_of}
+use Rattle.yq_program.specs.Program.{Step}
+use Rattle.yq_program.specs.View.{step_of}
 
 -- the step to a node that one of the code stands for (own)
 abbrev pub node_step_of : steps.NodeStep → paths.Step

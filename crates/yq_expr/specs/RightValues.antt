@@ -10,7 +10,7 @@ use Rattle.yq_scalar.specs.Tree.{Node, alias, scalar, list, map, Children, none,
 use Rattle.yq_tree.specs.Outline.{null_node}
 use Rattle.yq_expr.specs.declared.refusal.Refusal.TheVariants.{NotOneValue, KindMismatch, IntegerRange, FloatArithmetic}
 use Rattle.yq_expr.specs.Judgement.{Judgement, gives, refuses, and_then}
-use Rattle.yq_expr.specs.Program.{Term, literal, found}
+use Rattle.yq_program.specs.Program.{Term, literal, found}
 use Rattle.yq_expr.specs.Copies.{copy_at}
 use Rattle.yq_expr.specs.Pipes.{pipe_on}
 use Rattle.yq_expr.specs.Places.{Place}

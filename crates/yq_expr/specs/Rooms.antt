@@ -8,8 +8,8 @@ use Rattle.yq_tree.specs.Documents.{document_parts}
 use Rattle.yq_tree.specs.Reading.{cut_of, documents_of}
 use Rattle.yq_tree.specs.Ready.{root_is_block, TextIsReady}
 use Rattle.yq_tree.specs.Seats.{seat_of, seat_has_room}
-use Rattle.yq_expr.specs.declared.program.CommentPlace.{CommentPlace}
-use Rattle.yq_expr.specs.declared.program.CommentPlace.TheVariants as comments
+use Rattle.yq_program.specs.declared.program.CommentPlace.{CommentPlace}
+use Rattle.yq_program.specs.declared.program.CommentPlace.TheVariants as comments
 use Rattle.yq_expr.specs.Changes.{Room}
 use Rattle.yq_expr.specs.Meaning.{AreReady}
 

@@ -7,9 +7,9 @@ ghost use Rattle.yq_expr.specs.Judgement.{Plans, gives, refuses};
 ghost use Rattle.yq_expr.specs.Meaning.{meaning};
 ghost use Rattle.yq_expr.specs.Operations.{operations_of};
 ghost use Rattle.yq_expr.specs.Plans as plans;
-ghost use Rattle.yq_expr.specs.Program as spec;
+ghost use Rattle.yq_program.specs.Program as spec;
 ghost use Rattle.yq_expr.specs.Rooms.{room_of};
-ghost use Rattle.yq_expr.specs.View.{program_of, update_of};
+ghost use Rattle.yq_program.specs.View.{program_of, update_of};
 
 mod added;
 mod allowed;
@@ -34,9 +34,9 @@ use crate::plan_error::PlanError;
 use crate::planning::changes::changes;
 pub use crate::planning::operations::copied_steps;
 use crate::planning::operations::operations;
-use crate::program::{Program, Syntax, Update};
 use crate::refusal::Refusal;
 use std::alloc::Global;
+use yq_program::{Program, Syntax, Update};
 use yq_tree::Documents;
 
 fn is_removal(update: &Update) -> bool

@@ -8,8 +8,8 @@ use Rattle.yq_expr.specs.Judgement as judgement
 use Rattle.yq_expr.specs.Judgement.{Judgement}
 use Rattle.yq_expr.specs.Operations.{Operation}
 use Rattle.yq_expr.specs.Plans.{plan}
-use Rattle.yq_expr.specs.Program as programs
-use Rattle.yq_expr.specs.Program.{Program, Update, updates}
+use Rattle.yq_program.specs.Program as programs
+use Rattle.yq_program.specs.Program.{Program, Update, updates}
 use Rattle.yq_expr.specs.Rooms.{room_of}
 use Rattle.yq_script.specs.Patch.{Change, all_done, lengths_done}
 use Rattle.yq_script.specs.Script.{Segment, old_text, new_text, changes}

@@ -15,7 +15,7 @@ use Rattle.yq_expr.specs.Judgement.{Judgement}
 use Rattle.yq_expr.specs.Meaning.{AreReady}
 use Rattle.yq_expr.specs.Operations.{Operation}
 use Rattle.yq_expr.specs.Plans.{plan}
-use Rattle.yq_expr.specs.Program.{Update, assign, delete, comment, UpdatesHold}
+use Rattle.yq_program.specs.Program.{Update, assign, delete, comment, UpdatesHold}
 use Rattle.yq_expr.specs.Rooms.{room_of}
 use Rattle.yq_script.specs.Patch.{Change}
 use Rattle.yq_ways.proofs.CutLaws.{cut_same}

@@ -11,7 +11,7 @@ use Rattle.yq_expr.specs.Judgement as judgement
 use Rattle.yq_expr.specs.Judgement.{Judgement, Plans}
 use Rattle.yq_expr.specs.Operations.{Operation}
 use Rattle.yq_expr.specs.Plans.{plan}
-use Rattle.yq_expr.specs.Program.{Update}
+use Rattle.yq_program.specs.Program.{Update}
 use Rattle.yq_expr.specs.Rooms.{room_of}
 use Rattle.yq_expr.specs.declared.refusal.Refusal.{Refusal}
 use Rattle.yq_expr.specs.declared.plan_error.PlanError.{PlanError}

@@ -6,7 +6,7 @@ use Rattle.yq_expr.specs.Judgement.{Judgement}
 use Rattle.yq_expr.specs.Judgement as judgement
 use Rattle.yq_expr.specs.Operations.{Operation}
 use Rattle.yq_expr.specs.Plans.{plan}
-use Rattle.yq_expr.specs.Program.{Program, Update, read, updates}
+use Rattle.yq_program.specs.Program.{Program, Update, read, updates}
 use Rattle.yq_expr.specs.Rooms.{room_of}
 use Rattle.yq_expr.specs.declared.refusal.Refusal.TheVariants.{NotAnUpdate}
 use Rattle.yq_ways.specs.Carrying.{carrying, or_stay}

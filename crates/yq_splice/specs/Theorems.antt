@@ -9,7 +9,7 @@ use Rattle.yq_expr.specs.Judgement.{gives}
 use Rattle.yq_expr.specs.Meaning.{meaning}
 use Rattle.yq_expr.specs.Operations.{Operation}
 use Rattle.yq_expr.specs.Plans.{plan}
-use Rattle.yq_expr.specs.Program.{Program, Update, updates}
+use Rattle.yq_program.specs.Program.{Program, Update, updates}
 use Rattle.yq_expr.specs.Rooms.{room_of}
 use Rattle.yq_expr.specs.declared.refusal.Refusal.TheVariants.{TooLarge}
 use Rattle.yq_script.specs.Patch.{Change, all_done, lengths_done}

@@ -6,7 +6,7 @@ use Rattle.yq_tree.specs.Reading.{documents, read_at}
 use Rattle.yq_expr.specs.Judgement.{gives}
 use Rattle.yq_expr.specs.Operations.{Operation}
 use Rattle.yq_expr.specs.Plans.{plan}
-use Rattle.yq_expr.specs.Program.{Program, Update, updates, UpdatesHold}
+use Rattle.yq_program.specs.Program.{Program, Update, updates, UpdatesHold}
 use Rattle.yq_expr.specs.Rooms.{room_of}
 use Rattle.yq_script.specs.Patch.{Change}
 use Rattle.yq_ways.specs.Operands.{HasOperand}

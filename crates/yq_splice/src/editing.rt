@@ -2,8 +2,8 @@
 ghost use Rattle.std.specs.Prelude.{◌≡◌, ◌++◌, ◌<◌, List, Some, None, IfErr, IfOk, OnOk, string_bytes};
 ghost use Rattle.yq_scalar.specs.declared.ReadFault.{ReadFault};
 ghost use Rattle.yq_tree.specs.Reading.{read_at};
-ghost use Rattle.yq_expr.specs.Program.{LiteralsHold, Update, update_at, update_count, updates};
-ghost use Rattle.yq_expr.specs.View.{program_of};
+ghost use Rattle.yq_program.specs.Program.{LiteralsHold, Update, update_at, update_count, updates};
+ghost use Rattle.yq_program.specs.View.{program_of};
 ghost use Rattle.yq_script.specs.Patch.{Change};
 ghost use Rattle.yq_splice.specs.Answers.{Edits};
 ghost use Rattle.yq_splice.specs.Carried as spec;

@@ -52,7 +52,7 @@ use Rattle.yq_expr.specs.Fits.{Fits}
 use Rattle.yq_expr.specs.Meaning.{head_of}
 use Rattle.yq_expr.specs.Operations.{Operation, replace, append, remove, line_comment, head_comment}
 use Rattle.yq_expr.specs.Rooms.{room_of}
-use Rattle.yq_expr.specs.declared.program.CommentPlace.TheVariants as comments
+use Rattle.yq_program.specs.declared.program.CommentPlace.TheVariants as comments
 use Rattle.yq_script.specs.Script.{Segment, old_text, new_text}
 use Rattle.yq_ways.specs.CommentWays.{head_lines, head_comment_segments, head_comment_way}
 use Rattle.yq_ways.specs.Operands.{HasOperand}

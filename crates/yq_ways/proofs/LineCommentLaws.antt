@@ -51,7 +51,7 @@ use Rattle.yq_expr.specs.Fits.{Fits}
 use Rattle.yq_expr.specs.Meaning.{line_of}
 use Rattle.yq_expr.specs.Operations.{Operation, replace, append, remove, line_comment, head_comment}
 use Rattle.yq_expr.specs.Rooms.{room_of}
-use Rattle.yq_expr.specs.declared.program.CommentPlace.TheVariants as comments
+use Rattle.yq_program.specs.declared.program.CommentPlace.TheVariants as comments
 use Rattle.yq_script.specs.Script.{Segment, keep, put, old_text, new_text}
 use Rattle.yq_ways.specs.CommentWays.{white_segment, line_comment_segments, line_comment_way}
 use Rattle.yq_ways.specs.Done.{ArePieces}

@@ -7,7 +7,7 @@ use Rattle.yq_expr.specs.Changes.{Addition, appends, overwrites, Change, replace
 use Rattle.yq_expr.specs.Deeds.{Deed, becomes, line, head, goes, Deeds, step_to, under, done_at, child_by, inside, each_at_once, at_once, same_path, done_by}
 use Rattle.yq_expr.specs.Meaning.{add_to, add_all, placed_deed, deed_of}
 use Rattle.yq_tree.specs.TreeEdits.{replaced, headed, led, new_label}
-use Rattle.yq_expr.specs.declared.program.CommentPlace.TheVariants as comments
+use Rattle.yq_program.specs.declared.program.CommentPlace.TheVariants as comments
 use Rattle.yq_expr.specs.Changes as changes
 use Rattle.yq_expr.proofs.updates.Mentions.{Mentions, AnyMentions, HasNoAlias, MentionsNoMore}
 

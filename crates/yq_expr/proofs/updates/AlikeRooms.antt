@@ -5,7 +5,7 @@ use Rattle.std.proofs.lemmas.Bool.{eqb-true, eqb-false}
 use Rattle.yq_scalar.specs.Tree.{Node}
 use Rattle.yq_tree.specs.Documents.{Document}
 use Rattle.yq_tree.specs.TreeEdits.{change_nth}
-use Rattle.yq_expr.specs.declared.program.CommentPlace.TheVariants as comments
+use Rattle.yq_program.specs.declared.program.CommentPlace.TheVariants as comments
 use Rattle.yq_expr.specs.After.{document_of, done_to, after_op, all_after}
 use Rattle.yq_expr.specs.Changes.{Room}
 use Rattle.yq_expr.specs.Fits.{FitsRoot, Fits, AllFit}

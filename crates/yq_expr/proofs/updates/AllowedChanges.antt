@@ -17,7 +17,7 @@ use Rattle.yq_expr.specs.Pipes.{kept, stage_on, pipe_on, places}
 use Rattle.yq_expr.specs.Places.{Place, root_place, child_place, for_each, miss, found_place, all_steps, step_there, step_from, step_on, walk}
 use Rattle.yq_scalar.specs.Shapes.{IsNew, AreItems, AreEntries, IsTree, AreTrees}
 use Rattle.yq_tree.specs.TreeEdits.{replaced, new_label}
-use Rattle.yq_expr.specs.Program.{Step, key, index, each, Condition, Stage, path, select}
+use Rattle.yq_program.specs.Program.{Step, key, index, each, Condition, Stage, path, select}
 use Rattle.yq_expr.proofs.JudgementLaws.{then_gives, gives_same}
 use Rattle.yq_expr.proofs.updates.ChildPlaces.{node_further}
 use Rattle.yq_expr.proofs.updates.PathLaws.{bytes_differ, bytes_same, cond_false, none_some}

@@ -4,7 +4,7 @@ use Rattle.yq_scalar.specs.Tree as tree
 use Rattle.yq_scalar.specs.Tree.{Node, alias, scalar, list, Children, none, child, children_of}
 use Rattle.yq_scalar.specs.Paths as paths
 use Rattle.yq_scalar.specs.Paths.{To, Nth, key_is, is_item, is_here, further, child_at, node_at}
-use Rattle.yq_expr.specs.Program.{Step, key, index, each}
+use Rattle.yq_program.specs.Program.{Step, key, index, each}
 use Rattle.yq_expr.specs.Places.{step_by, Place, child_place, miss, stepped}
 use Rattle.yq_expr.specs.PlacesApart.{IsBeforeAll, AreApart, IsIn}
 use Rattle.yq_scalar.specs.PathOrder.{Parts}

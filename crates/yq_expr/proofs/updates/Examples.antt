@@ -10,14 +10,14 @@ use Rattle.yq_scalar.specs.Writable.{can_write_plain}
 use Rattle.yq_inline.specs.Written.{scalar_text}
 use Rattle.yq_tree.specs.Documents.{Document}
 use Rattle.yq_tree.specs.TreeEdits.{new_label}
-use Rattle.yq_expr.specs.declared.program.CommentPlace.TheVariants as comments
-use Rattle.yq_expr.specs.declared.program.Operator.TheVariants as operator
+use Rattle.yq_program.specs.declared.program.CommentPlace.TheVariants as comments
+use Rattle.yq_program.specs.declared.program.Operator.TheVariants as operator
 use Rattle.yq_expr.specs.declared.refusal.Refusal.TheVariants.{NotAMap, NotASequence, IndexOutOfRange, ThroughAlias, AnchorInUse, NotOneValue, KindMismatch, FloatArithmetic, NoPlaceForComment, BadCommentText, RootDelete}
 use Rattle.yq_expr.specs.Judgement.{Judgement, gives, refuses}
 use Rattle.yq_expr.specs.Meaning.{meaning}
 use Rattle.yq_expr.specs.Operations.{Operation, replace, append, remove}
 use Rattle.yq_expr.specs.Plans.{plan}
-use Rattle.yq_expr.specs.Program.{key, index, each, Stage, path, literal, found, Update, assign, delete, comment}
+use Rattle.yq_program.specs.Program.{key, index, each, Stage, path, literal, found, Update, assign, delete, comment}
 
 abbrev entry : List ℕ → Node → Children → Children
 entry k n cs = child (new_label (Some k)) n cs

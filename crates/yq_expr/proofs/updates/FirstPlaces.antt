@@ -7,7 +7,7 @@ use Rattle.yq_scalar.specs.Paths.{node_at}
 use Rattle.yq_expr.specs.declared.refusal.Refusal.TheVariants.{NotASequence}
 use Rattle.yq_expr.specs.Judgement.{Judgement, gives, and_then}
 use Rattle.yq_expr.specs.Matching.{Found, in_scalar, key_step, index_step}
-use Rattle.yq_expr.specs.Program.{Step, key, index, each, Condition, Stage, path, select}
+use Rattle.yq_program.specs.Program.{Step, key, index, each, Condition, Stage, path, select}
 use Rattle.yq_expr.specs.Conditions.{holds}
 use Rattle.yq_expr.specs.Deeds.{step_to}
 use Rattle.yq_expr.specs.Pipes.{kept, select_on, stage_on, pipe_on, places}

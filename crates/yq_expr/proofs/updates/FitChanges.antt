@@ -7,8 +7,8 @@ use Rattle.yq_scalar.specs.Paths as paths
 use Rattle.yq_scalar.specs.Paths.{To, child_at, node_at}
 use Rattle.yq_scalar.proofs.Bools.{and_true, or_false}
 use Rattle.yq_tree.specs.Anchors.{names_of}
-use Rattle.yq_expr.specs.declared.program.CommentPlace.{CommentPlace}
-use Rattle.yq_expr.specs.declared.program.Operator.TheVariants as operator
+use Rattle.yq_program.specs.declared.program.CommentPlace.{CommentPlace}
+use Rattle.yq_program.specs.declared.program.Operator.TheVariants as operator
 use Rattle.yq_expr.specs.declared.refusal.Refusal.TheVariants.{IndexOutOfRange, NoPlaceForComment, AnchorInUse, TooDeep, KeyTooLong}
 use Rattle.yq_expr.specs.Judgement.{Judgement, gives, refuses, and_then}
 use Rattle.yq_expr.specs.Changes.{appends, overwrites, Change, replaces, adds, sets_comment, Changed, Room, is_long, has_long_key, is_deep, nested, made, put_below, put_at, addition, additions, added, add_below, add_at}
@@ -20,7 +20,7 @@ use Rattle.yq_expr.specs.Places.{Place, root_place}
 use Rattle.yq_expr.specs.PlacesApart.{IsIn}
 use Rattle.yq_expr.specs.RightValues.{is_null, as_items, sum, right_value}
 use Rattle.yq_scalar.specs.Shapes.{IsTree}
-use Rattle.yq_expr.specs.Program.{is_index, SumHolds, UpdatesHold, Step, key, index, each, Term, Update, assign, delete, comment}
+use Rattle.yq_program.specs.Program.{is_index, SumHolds, UpdatesHold, Step, key, index, each, Term, Update, assign, delete, comment}
 use Rattle.yq_expr.proofs.updates.Aliases.{AddNone, WritesNone, AllWriteNone}
 use Rattle.yq_expr.proofs.updates.AllowedChanges.{IsMissed, AreMissed, places_missed, list_fits, entries_fit}
 use Rattle.yq_expr.proofs.updates.FitsAtTurn.{FitAdds, MayChange, MayChangeAll}

@@ -9,11 +9,11 @@ use Rattle.yq_expr.specs.Deeds.{Deed, becomes, line, head, goes, Deeds, at_once,
 use Rattle.yq_expr.specs.Meaning.{placed_deed, deed_of}
 use Rattle.yq_expr.specs.Operations.{Operation}
 use Rattle.yq_expr.specs.Plans.{change_ops, ops_of, is_removal, ordered}
-use Rattle.yq_expr.specs.Program.{Update, assign, delete, comment}
+use Rattle.yq_program.specs.Program.{Update, assign, delete, comment}
 use Rattle.yq_scalar.specs.PathOrder.{Before, Apart}
 use Rattle.yq_scalar.specs.Shapes.{IsTree}
 use Rattle.yq_expr.specs.Changes as changes
-use Rattle.yq_expr.specs.declared.program.CommentPlace.TheVariants as comments
+use Rattle.yq_program.specs.declared.program.CommentPlace.TheVariants as comments
 use Rattle.yq_expr.proofs.updates.AtOnce.{one_more}
 use Rattle.yq_expr.proofs.updates.PathLaws.{bytes_same, parts_not}
 use Rattle.yq_expr.proofs.updates.Spares.{idle, IsSpared, Spares, deeds_same}

@@ -8,7 +8,7 @@ use Rattle.yq_scalar.specs.Tree.{Node, alias, scalar, list, Children, none, chil
 use Rattle.yq_tree.specs.Anchors.{Name, Anchors, Refers, with_anchor, names_of, names_in}
 use Rattle.yq_expr.specs.Changes.{refers_to, is_used, is_used_inside, is_used_in}
 use Rattle.yq_scalar.specs.Shapes.{IsTree}
-use Rattle.yq_expr.specs.Program.{IsValue}
+use Rattle.yq_program.specs.Program.{IsValue}
 
 abbrev mutual
   -- some alias of that name is in a node (own)

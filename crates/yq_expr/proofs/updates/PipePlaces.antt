@@ -2,7 +2,7 @@
 use Rattle.std.proofs.Common.{◌≡◌, ℕ, Bool, true, false, List, [], ◌∷◌, refl, subst}
 use Rattle.yq_scalar.specs.Tree.{Node}
 use Rattle.yq_expr.specs.Judgement.{gives}
-use Rattle.yq_expr.specs.Program.{Step, Condition, Stage, path, select}
+use Rattle.yq_program.specs.Program.{Step, Condition, Stage, path, select}
 use Rattle.yq_expr.specs.Conditions.{holds}
 use Rattle.yq_expr.specs.Pipes.{kept, select_on, stage_on, pipe_on, places}
 use Rattle.yq_expr.specs.Places.{Place, root_place, for_each, step_on, in_turn, walk}

@@ -12,7 +12,7 @@ use Rattle.yq_expr.specs.Judgement.{gives, refuses, Plans}
 use Rattle.yq_expr.specs.Meaning.{AreReady, meaning}
 use Rattle.yq_expr.specs.Operations.{Operation}
 use Rattle.yq_expr.specs.Plans.{plan}
-use Rattle.yq_expr.specs.Program.{update_at, Update, assign, delete, comment, Program, read, updates, UpdatesHold, LiteralsHold}
+use Rattle.yq_program.specs.Program.{update_at, Update, assign, delete, comment, Program, read, updates, UpdatesHold, LiteralsHold}
 use Rattle.yq_expr.proofs.updates.PlanFits.{plan_fits}
 use Rattle.yq_expr.proofs.updates.PlanMeans.{plan_means, plan_refused, meaning_refused}
 

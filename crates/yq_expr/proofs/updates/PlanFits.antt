@@ -12,7 +12,7 @@ use Rattle.yq_expr.specs.Meaning.{changed_at_once, roots_of, AreReady}
 use Rattle.yq_expr.specs.Operations.{Operation}
 use Rattle.yq_expr.specs.Plans.{change_ops, ops_of, is_removal, ordered, all_ops, plan}
 use Rattle.yq_scalar.specs.PathOrder.{Before}
-use Rattle.yq_expr.specs.Program.{UpdatesHold, Update}
+use Rattle.yq_program.specs.Program.{UpdatesHold, Update}
 use Rattle.yq_expr.specs.Changes as changes
 use Rattle.yq_expr.proofs.updates.FitsAtTurn.{AllFitRoot, all_fit}
 use Rattle.yq_expr.proofs.updates.Folds.{InPairs, IsGone, AreGone, MayFold, reverse-cons}

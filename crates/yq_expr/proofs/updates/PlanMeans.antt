@@ -2,7 +2,7 @@
 use Rattle.std.proofs.Common.{◌≡◌, ℕ, suc, Bool, true, false, cond, List, [], ◌∷◌, ◌++◌, length, map, refl, sym, ap, subst, ◌∙◌, append_assoc, arith, length-append}
 use Rattle.yq_scalar.specs.Paths as paths
 use Rattle.yq_tree.specs.Documents.{Document}
-use Rattle.yq_expr.specs.declared.program.CommentPlace.TheVariants as comments
+use Rattle.yq_program.specs.declared.program.CommentPlace.TheVariants as comments
 use Rattle.yq_expr.specs.declared.refusal.Refusal.{Refusal}
 use Rattle.yq_expr.specs.declared.refusal.Refusal.TheVariants.{BadCommentText}
 use Rattle.yq_expr.specs.Judgement.{Judgement, gives, refuses, and_then}
@@ -12,7 +12,7 @@ use Rattle.yq_expr.specs.Meaning.{changed_at_once, all_changed, roots_of, meanin
 use Rattle.yq_expr.specs.Operations.{Operation}
 use Rattle.yq_expr.specs.Plans.{add_op, change_ops, ops_of, is_removal, ordered, all_ops, plan}
 use Rattle.yq_tree.specs.TreeEdits.{change_nth}
-use Rattle.yq_expr.specs.Program.{Update}
+use Rattle.yq_program.specs.Program.{Update}
 use Rattle.yq_expr.specs.Changes as changes
 use Rattle.yq_expr.proofs.updates.RootLeads.{document_after, document_folds}
 use Rattle.yq_expr.proofs.JudgementLaws.{then_gives, gives_same}

@@ -4,11 +4,11 @@ use Rattle.std.specs.List.{list_any}
 use Rattle.yq_scalar.specs.Tree as tree
 use Rattle.yq_scalar.specs.Tree.{Node, alias, scalar, list, Children, none, child, children_of}
 use Rattle.yq_scalar.specs.Paths as paths
-use Rattle.yq_expr.specs.declared.program.CommentPlace.{CommentPlace}
-use Rattle.yq_expr.specs.declared.program.Operator.TheVariants as operator
+use Rattle.yq_program.specs.declared.program.CommentPlace.{CommentPlace}
+use Rattle.yq_program.specs.declared.program.Operator.TheVariants as operator
 use Rattle.yq_expr.specs.declared.refusal.Refusal.TheVariants.{IndexOutOfRange, NoPlaceForComment, AnchorInUse, TooDeep, KeyTooLong}
 use Rattle.yq_expr.specs.Judgement.{Judgement, gives, refuses, and_then}
-use Rattle.yq_expr.specs.Program.{is_index, Step, Term, Update, assign, delete, comment}
+use Rattle.yq_program.specs.Program.{is_index, Step, Term, Update, assign, delete, comment}
 use Rattle.yq_expr.specs.Changes.{Change, replaces, sets_comment, Changed, Room, made, put_below, put_at, added_entries, added, add_below, add_at, remove_below, remove_at, is_there, comment_at, is_too_long, is_too_deep}
 use Rattle.yq_expr.specs.Changes.{takes_used, allowed, all_allowed, at_each, with_value, changes_at, left_of, changes_in}
 use Rattle.yq_expr.specs.Deeds.{step_to}

@@ -4,7 +4,7 @@ use Rattle.yq_scalar.specs.Tree as tree
 use Rattle.yq_scalar.specs.Tree.{Label, Node, alias, scalar, list, Children, none, child, children_of}
 use Rattle.yq_scalar.specs.Paths.{Step, To, is_here, further, change_child, relabel_child, append_child, within, change}
 use Rattle.yq_tree.specs.Documents.{Document}
-use Rattle.yq_expr.specs.declared.program.CommentPlace.TheVariants as comments
+use Rattle.yq_program.specs.declared.program.CommentPlace.TheVariants as comments
 use Rattle.yq_expr.specs.After.{root_after, done_to}
 use Rattle.yq_expr.specs.Changes.{Addition, appends, overwrites, replaces, adds, sets_comment, Changed}
 use Rattle.yq_expr.specs.Deeds.{Deed, Deeds, same_path, step_to, done_at, child_by, under, inside, each_at_once, at_once}

@@ -11,7 +11,7 @@ use Rattle.yq_expr.specs.declared.refusal.Refusal.{Refusal}
 use Rattle.yq_expr.specs.declared.refusal.Refusal.TheVariants.{NotAMap, NotASequence}
 use Rattle.yq_expr.specs.Judgement.{Judgement, gives, and_then}
 use Rattle.yq_expr.specs.Matching.{Found, find, in_scalar, key_step, item_number, index_step}
-use Rattle.yq_expr.specs.Program.{Step, key, index, each}
+use Rattle.yq_program.specs.Program.{Step, key, index, each}
 use Rattle.yq_expr.specs.Places.{Place, child_place, found_place, all_steps, step_there, step_from, step_on}
 use Rattle.yq_expr.specs.PlacesApart.{IsIn}
 use Rattle.yq_scalar.specs.Shapes.{IsTree}

@@ -12,7 +12,7 @@ use Rattle.yq_scalar.specs.Tree.{Label, Node, alias, scalar, list, Children, non
 use Rattle.yq_scalar.specs.Paths.{To, key_is, child_at, change_child, append_child}
 use Rattle.yq_expr.specs.declared.refusal.Refusal.TheVariants.{IntegerRange}
 use Rattle.yq_expr.specs.Judgement.{gives, refuses, and_then}
-use Rattle.yq_expr.specs.Program.{SumHolds, Step, Term, literal, found}
+use Rattle.yq_program.specs.Program.{SumHolds, Step, Term, literal, found}
 use Rattle.yq_expr.specs.Conditions.{node_there, value_of}
 use Rattle.yq_expr.specs.Copies.{copy_at}
 use Rattle.yq_expr.proofs.updates.Mentions.{literal_pure, IsPure}

@@ -10,18 +10,18 @@ ghost use Rattle.yq_expr.specs.MatchTrees.{AreMatches};
 ghost use Rattle.yq_expr.specs.MatchView.{matches_of};
 ghost use Rattle.yq_expr.specs.PlaceView.{place_of, places_of, put_behind};
 ghost use Rattle.yq_expr.specs.Places.{for_each};
-ghost use Rattle.yq_expr.specs.Program.{Stage as PipeStage, is_read, read};
+ghost use Rattle.yq_program.specs.Program.{Stage as PipeStage, is_read, read};
 ghost use Rattle.yq_expr.specs.TreeScalars.{HasScalars, HaveScalars};
-ghost use Rattle.yq_expr.specs.View.{program_of, stage_of};
+ghost use Rattle.yq_program.specs.View.{program_of, stage_of};
 
 use crate::match_error::MatchError;
 use crate::matching::copy::copy;
 use crate::matching::pipe::find;
 use crate::matching::place::Place;
-use crate::program::{Program, Stage, Syntax};
 use bumpalo::Bump;
 use std::alloc::Global;
 use yq_inline::Value;
+use yq_program::{Program, Stage, Syntax};
 use yq_scalar::Scalar;
 use yq_tree::{Documents, Node};
 

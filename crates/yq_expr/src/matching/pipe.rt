@@ -5,15 +5,15 @@ ghost use Rattle.yq_expr.specs.Judgement.{Matches};
 ghost use Rattle.yq_expr.specs.Pipes as spec;
 ghost use Rattle.yq_expr.specs.PlaceView.{place_of, places_of, put_behind};
 ghost use Rattle.yq_expr.specs.Places.{for_each};
-ghost use Rattle.yq_expr.specs.View.{condition_of, stage_of};
+ghost use Rattle.yq_program.specs.View.{condition_of, stage_of};
 
 use crate::match_error::MatchError;
 use crate::matching::condition::holds;
 use crate::matching::place::Place;
 use crate::matching::walk::walk;
-use crate::program::{Condition, Stage};
 use bumpalo::Bump;
 use std::alloc::Global;
+use yq_program::{Condition, Stage};
 use yq_tree::Node;
 
 /// Puts a place behind others if the condition holds there.

@@ -5,11 +5,11 @@ ghost use Rattle.yq_tree.specs.Nodes.{node_of};
 ghost use Rattle.yq_expr.specs.Conditions as conditions;
 ghost use Rattle.yq_expr.specs.PlaceView.{missing_of, node_step_of, path_of, node_or_null, place_of};
 ghost use Rattle.yq_expr.specs.Places as spec;
-ghost use Rattle.yq_expr.specs.View.{step_of};
+ghost use Rattle.yq_program.specs.View.{step_of};
 
-use crate::program::Step;
 use bumpalo::Bump;
 use std::alloc::AllocError;
+use yq_program::Step;
 use yq_tree::Node;
 
 /// A step to a node of a document.

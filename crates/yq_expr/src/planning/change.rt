@@ -1,7 +1,7 @@
 //! Changes: what an update changes at the nodes of documents.
 
-use crate::program::CommentPlace;
 use yq_inline::Value;
+use yq_program::CommentPlace;
 use yq_tree::Step;
 
 /// What a collection gets.

@@ -44,7 +44,7 @@ fn some_writes_long_key(alloc: Global, additions: &[Addition]) -> Result<bool, A
 }
 
 /// The same of a change.
-#[tactic(auto, using(crate::proofs::Lists::list_any_map))]
+#[tactic(auto, using(yq_program::proofs::Lists::list_any_map))]
 pub(crate) fn is_too_long(alloc: Global, change: &Change) -> Result<bool, AllocError>
     ensures { IfOk result (λ b. b ≡ spec.is_too_long (change_of change.now)) }
 {
@@ -79,7 +79,7 @@ fn some_adds_too_deep(outer: usize, additions: &[Addition]) -> bool
 }
 
 /// The same of a change.
-#[tactic(auto, using(crate::proofs::Lists::list_any_map))]
+#[tactic(auto, using(yq_program::proofs::Lists::list_any_map))]
 pub(crate) fn is_too_deep(outer: usize, change: &Change) -> bool
     ensures { result ≡ spec.is_too_deep outer (change_of change.now) }
 {

@@ -17,7 +17,7 @@ ghost use Rattle.yq_expr.specs.PlacesApart.{AreIn, IsIn};
 ghost use Rattle.yq_expr.specs.RightValues.{right_value as right_sum};
 ghost use Rattle.yq_expr.specs.Rooms.{room_of};
 ghost use Rattle.yq_expr.specs.TreeScalars.{HasScalars, HaveScalars};
-ghost use Rattle.yq_expr.specs.View.{stage_of, term_of, update_of};
+ghost use Rattle.yq_program.specs.View.{stage_of, term_of, update_of};
 
 use crate::match_error::MatchError;
 use crate::matching::pipe::find;
@@ -30,10 +30,10 @@ use crate::planning::comment_text::has_comment;
 use crate::planning::effect::{Effect, change_at};
 use crate::planning::right_value::right_value;
 use crate::planning::steps::path_steps;
-use crate::program::{Assignment, Operator, Stage, Term, Update};
 use crate::refusal::Refusal;
 use bumpalo::Bump;
 use std::alloc::Global;
+use yq_program::{Assignment, Operator, Stage, Term, Update};
 use yq_tree::{Documents, Node};
 
 /// Puts a change of a place's node behind others, if nothing refuses it.

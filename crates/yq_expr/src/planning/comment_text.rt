@@ -2,9 +2,9 @@
 ghost use Rattle.std.specs.Prelude.{◌≡◌, ◌&&◌, ◌==◌, not};
 ghost use Rattle.yq_scalar.specs.Characters.{is_text_char};
 ghost use Rattle.yq_expr.specs.Changes as spec;
-ghost use Rattle.yq_expr.specs.View.{update_of};
+ghost use Rattle.yq_program.specs.View.{update_of};
 
-use crate::program::{CommentPlace, Update};
+use yq_program::{CommentPlace, Update};
 use yq_scalar::characters::is_text_char;
 
 /// Whether a line comment can have a text: no character is a break.

@@ -17,10 +17,10 @@ use crate::planning::put::put;
 use crate::planning::right_value::right_value;
 use crate::planning::steps::path_steps;
 use crate::planning::sum::is_null;
-use crate::program::{CommentPlace, Term};
 use crate::refusal::Refusal;
 use std::alloc::{AllocError, Global};
 use yq_inline::Value;
+use yq_program::{CommentPlace, Term};
 use yq_tree::{Documents, Part, Path};
 
 /// What an update does at each place.

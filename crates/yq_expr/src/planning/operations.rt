@@ -8,8 +8,8 @@ ghost use Rattle.yq_expr.specs.Plans as spec;
 
 use crate::op::Op;
 use crate::planning::change::{Addition, Change, Changed};
-use crate::program::CommentPlace;
 use std::alloc::{AllocError, Global};
+use yq_program::CommentPlace;
 use yq_tree::{Path, Step};
 
 /// The same step again.
@@ -97,7 +97,7 @@ fn push_change(
 
 /// Changes in the order in which they are made: removals last to first, since
 /// what goes shifts what stands behind it.
-#[tactic(auto, using(crate::proofs::Lists::map_reverse))]
+#[tactic(auto, using(yq_program::proofs::Lists::map_reverse))]
 fn ordered(removal: bool, changes: Vec<Changed>) -> Vec<Changed>
     ensures { map changed_of result.items ≡ spec.ordered removal (map changed_of changes.items) }
 {

@@ -10,17 +10,17 @@ ghost use Rattle.yq_expr.specs.ChangeView.{change_of};
 ghost use Rattle.yq_expr.specs.EffectView.{placed_change};
 ghost use Rattle.yq_expr.specs.Judgement.{Matches};
 ghost use Rattle.yq_expr.specs.PlaceView.{place_of};
-ghost use Rattle.yq_expr.specs.Program.{is_index};
-ghost use Rattle.yq_expr.specs.View.{step_of};
+ghost use Rattle.yq_program.specs.Program.{is_index};
+ghost use Rattle.yq_program.specs.View.{step_of};
 
 use crate::match_error::MatchError;
 use crate::matching::place::Place;
 use crate::planning::change::{Addition, Change};
 use crate::planning::steps::missing_steps;
-use crate::program::{Step, is_index};
 use crate::refusal::Refusal;
 use std::alloc::{AllocError, Global};
 use yq_inline::Value;
+use yq_program::{Step, is_index};
 use yq_tree::{Node, NodeKind};
 
 /// Whether some step is an index.

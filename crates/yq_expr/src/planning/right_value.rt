@@ -7,7 +7,7 @@ ghost use Rattle.yq_expr.specs.PlaceView.{place_of, places_of};
 ghost use Rattle.yq_expr.specs.Places.{in_turn};
 ghost use Rattle.yq_expr.specs.RightValues as spec;
 ghost use Rattle.yq_expr.specs.TreeScalars.{HasScalars, HaveScalars};
-ghost use Rattle.yq_expr.specs.View.{stage_of, term_of};
+ghost use Rattle.yq_program.specs.View.{stage_of, term_of};
 
 use crate::match_error::MatchError;
 use crate::matching::matched::copy_at;
@@ -15,11 +15,11 @@ use crate::matching::pipe::pipe_on;
 use crate::matching::place::Place;
 use crate::planning::copied::copied;
 use crate::planning::sum::sum;
-use crate::program::{Stage, Term};
 use crate::refusal::Refusal;
 use bumpalo::Bump;
 use std::alloc::Global;
 use yq_inline::Value;
+use yq_program::{Stage, Term};
 use yq_scalar::Scalar;
 
 /// A copy of the value at the one place that there is.

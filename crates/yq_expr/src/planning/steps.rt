@@ -2,12 +2,12 @@
 ghost use Rattle.std.specs.Prelude.{◌≡◌, IfOk, map};
 ghost use Rattle.yq_inline.specs.Entries.{step_of as tree_step};
 ghost use Rattle.yq_expr.specs.PlaceView.{missing_of, path_of};
-ghost use Rattle.yq_expr.specs.View.{step_of};
+ghost use Rattle.yq_program.specs.View.{step_of};
 
 use crate::matching::owned;
 use crate::matching::place::{Missing, NodePath};
-use crate::program::Step;
 use std::alloc::{AllocError, Global};
+use yq_program::Step;
 
 /// The steps of a path.
 pub(crate) fn path_steps(

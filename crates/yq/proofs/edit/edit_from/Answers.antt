@@ -2,7 +2,7 @@ use Rattle.std.proofs.Common.{Err, ap, ◌∙◌}
 use Rattle.std.proofs.lemmas.Result.{err_from_is_err_and}
 use Rattle.yq.specs.Editing.{edits}
 use Rattle.yq.proofs.EffectLaws.{edit_not_made}
-use Rattle.yq_expr.specs.View.{program_of}
+use Rattle.yq_program.specs.View.{program_of}
 use Rattle.yq.proofs.edit.edit_from.Goals as goal
 
 pub returns-clause-arrives : goal.returns-clause-arrives

@@ -1,6 +1,6 @@
 use Rattle.std.proofs.Common.{ℕ, Some, Err, refl, sym, ap, ◌∙◌}
 use Rattle.std.proofs.lemmas.Result.{err_from_is_err_and}
-use Rattle.yq_expr.specs.View.{program_of}
+use Rattle.yq_program.specs.View.{program_of}
 use Rattle.yq.specs.Evaluation.{shows}
 use Rattle.yq.proofs.ShowLaws.{show_refused, show_done, shown_is}
 use Rattle.yq.proofs.evaluating.evaluate_program.Goals as goal

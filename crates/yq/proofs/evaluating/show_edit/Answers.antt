@@ -1,6 +1,6 @@
 use Rattle.std.proofs.Common.{Err, ap, ◌∙◌}
 use Rattle.std.proofs.lemmas.Result.{err_from_is_err_and}
-use Rattle.yq_expr.specs.View.{program_of}
+use Rattle.yq_program.specs.View.{program_of}
 use Rattle.yq.specs.Evaluation.{show_edit}
 use Rattle.yq.proofs.ShowLaws.{edit_fails, edit_shows}
 use Rattle.yq.proofs.evaluating.show_edit.Goals as goal

@@ -5,7 +5,7 @@ use Rattle.yq_scalar.specs.Answers.{Fails}
 use Rattle.yq_tree.specs.Reading.{documents, read_at}
 use Rattle.yq_expr.specs.Judgement.{gives}
 use Rattle.yq_expr.specs.MatchView.{matches_of}
-use Rattle.yq_expr.specs.View.{program_of}
+use Rattle.yq_program.specs.View.{program_of}
 use Rattle.yq.specs.Reads as spec
 use Rattle.yq.proofs.ShowLaws.{unread_fails, reading_fails, matching_fails, found_shows}
 use Rattle.yq.proofs.evaluating.show_read.Goals as goal

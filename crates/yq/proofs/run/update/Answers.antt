@@ -1,7 +1,7 @@
 use Rattle.std.proofs.Common.{ℕ, List, Err, sym, ap, ◌∙◌, Some}
 use Rattle.yq_journal.specs.State.{State}
 use Rattle.std.proofs.lemmas.Result.{err_from_is_err_and}
-use Rattle.yq_expr.specs.View.{program_of}
+use Rattle.yq_program.specs.View.{program_of}
 use Rattle.yq.specs.Editing.{edits}
 use Rattle.yq.specs.Effects.{edit_effect}
 use Rattle.yq.proofs.EditLaws.{recorded_by}

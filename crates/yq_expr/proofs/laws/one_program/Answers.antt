@@ -1,4 +1,4 @@
-use Rattle.yq_expr.proofs.Outcomes.{one_of}
+use Rattle.yq_program.proofs.Outcomes.{one_of}
 use Rattle.yq_expr.proofs.laws.one_program.Goals as goal
 
 pub returns : goal.returns

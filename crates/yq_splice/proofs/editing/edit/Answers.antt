@@ -1,4 +1,4 @@
-use Rattle.yq_expr.specs.View.{program_of}
+use Rattle.yq_program.specs.View.{program_of}
 use Rattle.yq_splice.proofs.AnswerLaws.{answer_inside, answer_meant, answer_splices, answer_unread}
 use Rattle.yq_splice.proofs.editing.edit.Goals as goal
 

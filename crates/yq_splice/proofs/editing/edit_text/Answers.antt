@@ -1,6 +1,6 @@
 use Rattle.std.proofs.Common.{◌<◌, sym, ◌∙◌, arith}
-use Rattle.yq_expr.specs.Program.{update_count}
-use Rattle.yq_expr.specs.View.{program_of}
+use Rattle.yq_program.specs.Program.{update_count}
+use Rattle.yq_program.specs.View.{program_of}
 use Rattle.yq_splice.proofs.AnswerLaws.{none_steps, none_unread, each_exact, each_steps, each_unread}
 use Rattle.yq_splice.proofs.editing.edit_text.Goals as goal
 

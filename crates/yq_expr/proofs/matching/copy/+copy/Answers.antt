@@ -10,7 +10,7 @@ use Rattle.yq_expr.specs.Copies.{item_copies, entry_copies}
 use Rattle.yq_expr.specs.PlaceView.{put_behind}
 use Rattle.yq_expr.specs.TreeScalars.{EachHasScalars}
 use Rattle.yq_expr.proofs.CopyLaws.{items_more, entries_more, map_copied, depth_below}
-use Rattle.yq_expr.proofs.Keys.{node_of-map}
+use Rattle.yq_program.proofs.Keys.{node_of-map}
 use Rattle.yq_expr.proofs.matching.copy.+copy.Goals as goal
 
 pub copy-returns-in_ok-entry_copies-in-Map : goal.copy-returns-in_ok-entry_copies-in-Map

@@ -8,7 +8,7 @@ use Rattle.yq_expr.specs.Judgement.{Fails}
 use Rattle.yq_expr.specs.MatchView.{matches_of}
 use Rattle.yq_expr.specs.PlaceView.{put_behind}
 use Rattle.yq_expr.specs.TreeScalars.{HasScalars}
-use Rattle.yq_expr.specs.View.{stage_of}
+use Rattle.yq_program.specs.View.{stage_of}
 use Rattle.yq_expr.proofs.EachLaws.{failed}
 use Rattle.yq_expr.proofs.MatchLaws.{document_there, document_more, document_fails, documents_done}
 use Rattle.yq_expr.proofs.TreeScalarLaws.{documents_have}

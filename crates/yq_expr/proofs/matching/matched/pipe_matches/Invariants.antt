@@ -3,7 +3,7 @@ use Rattle.yq_tree.specs.Reading.{documents_of}
 use Rattle.yq_expr.specs.Copies.{matches_from}
 use Rattle.yq_expr.specs.MatchView.{matches_of}
 use Rattle.yq_expr.specs.PlaceView.{put_behind}
-use Rattle.yq_expr.specs.View.{stage_of}
+use Rattle.yq_program.specs.View.{stage_of}
 use Rattle.yq_expr.proofs.matching.matched.pipe_matches.Given as goal
 
 abbrev pub invariant-documents : goal.invariant-documents

@@ -1,7 +1,7 @@
 use Rattle.std.proofs.Common.{◌≡◌, drop, map}
 use Rattle.yq_expr.specs.Pipes as spec
 use Rattle.yq_expr.specs.PlaceView.{places_of}
-use Rattle.yq_expr.specs.View.{stage_of}
+use Rattle.yq_program.specs.View.{stage_of}
 use Rattle.yq_expr.proofs.matching.pipe.pipe_on.Given as goal
 
 abbrev pub invariant-stages : goal.invariant-stages

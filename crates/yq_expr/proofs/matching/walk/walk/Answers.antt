@@ -3,8 +3,8 @@ use Rattle.std.proofs.lemmas.Result.{err_from_is_err_and}
 use Rattle.yq_expr.specs.Judgement.{Judgement}
 use Rattle.yq_expr.specs.PlaceView.{places_of}
 use Rattle.yq_expr.specs.Places as spec
-use Rattle.yq_expr.specs.Program.{Step}
-use Rattle.yq_expr.specs.View.{step_of}
+use Rattle.yq_program.specs.Program.{Step}
+use Rattle.yq_program.specs.View.{step_of}
 use Rattle.yq_expr.specs.declared.matching.place.Place as declared
 use Rattle.yq_expr.proofs.EachLaws.{turn_more, turn_fails, failed}
 use Rattle.yq_expr.proofs.matching.walk.walk.Goals as goal

@@ -4,7 +4,7 @@ use Rattle.yq_scalar.specs.Tree.{children_of}
 use Rattle.yq_tree.specs.Nodes.{node_of}
 use Rattle.yq_expr.specs.Changes.{Addition, adds, added_entries}
 use Rattle.yq_expr.specs.Judgement.{gives}
-use Rattle.yq_expr.proofs.Keys.{node_of-map}
+use Rattle.yq_program.proofs.Keys.{node_of-map}
 use Rattle.yq_expr.proofs.planning.added.to_map.Goals as goal
 
 pub returns : goal.returns

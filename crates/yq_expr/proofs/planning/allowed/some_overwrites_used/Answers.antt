@@ -3,7 +3,7 @@ use Rattle.yq_scalar.specs.Tree.{children_of}
 use Rattle.yq_tree.specs.Nodes.{node_of}
 use Rattle.yq_expr.specs.ChangeView.{addition_of}
 use Rattle.yq_expr.specs.TakenNames.{overwrites_at}
-use Rattle.yq_expr.proofs.Lists.{any_here, any_further, any_done}
+use Rattle.yq_program.proofs.Lists.{any_here, any_further, any_done}
 use Rattle.yq_expr.proofs.planning.allowed.some_overwrites_used.Goals as goal
 
 pub returns-then-overwrites_used : goal.returns-then-overwrites_used

@@ -6,7 +6,7 @@ use Rattle.yq_expr.specs.ChangeView.{addition_of, change_of}
 use Rattle.yq_expr.specs.TakenNames.{overwrites_at, takes_at}
 use Rattle.yq_expr.specs.declared.planning.change.Change.{Change}
 use Rattle.yq_expr.proofs.IndexLaws.{no_aliases}
-use Rattle.yq_expr.proofs.Lists.{list_any_map}
+use Rattle.yq_program.proofs.Lists.{list_any_map}
 use Rattle.yq_expr.proofs.SumLaws.{nothing_left}
 use Rattle.yq_expr.proofs.UsedLaws.{none_taken}
 use Rattle.yq_expr.proofs.planning.allowed.takes_used.Goals as goal

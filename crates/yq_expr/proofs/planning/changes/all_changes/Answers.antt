@@ -10,7 +10,7 @@ use Rattle.yq_expr.specs.ChangeView.{all_changed_of, changed_of}
 use Rattle.yq_expr.specs.Judgement.{Fails}
 use Rattle.yq_expr.specs.Rooms.{room_of}
 use Rattle.yq_expr.specs.TreeScalars.{HasScalars}
-use Rattle.yq_expr.specs.View.{update_of}
+use Rattle.yq_program.specs.View.{update_of}
 use Rattle.yq_expr.proofs.AllChanges.{document_more, document_fails}
 use Rattle.yq_expr.proofs.EachLaws.{failed}
 use Rattle.yq_expr.proofs.MatchLaws.{document_there}

@@ -5,7 +5,7 @@ use Rattle.yq_expr.specs.ChangeView.{all_changed_of}
 use Rattle.yq_expr.specs.Meaning.{roots_of}
 use Rattle.yq_expr.specs.PlaceView.{put_behind}
 use Rattle.yq_expr.specs.Rooms.{room_of}
-use Rattle.yq_expr.specs.View.{update_of}
+use Rattle.yq_program.specs.View.{update_of}
 use Rattle.yq_expr.proofs.planning.changes.all_changes.Given as goal
 
 abbrev pub invariant-documents : goal.invariant-documents

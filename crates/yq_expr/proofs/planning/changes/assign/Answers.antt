@@ -5,7 +5,7 @@ use Rattle.yq_expr.specs.ChangeView.{changed_of}
 use Rattle.yq_expr.specs.Judgement.{Matches}
 use Rattle.yq_expr.specs.PlaceView.{places_of}
 use Rattle.yq_expr.specs.Rooms.{room_of}
-use Rattle.yq_expr.specs.View.{stage_of, term_of}
+use Rattle.yq_program.specs.View.{stage_of, term_of}
 use Rattle.yq_expr.specs.declared.planning.change.Changed.{Changed}
 use Rattle.yq_expr.proofs.AllChanges.{modified}
 use Rattle.yq_expr.proofs.planning.changes.assign.Goals as goal

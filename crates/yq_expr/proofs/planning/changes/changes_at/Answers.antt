@@ -6,9 +6,9 @@ use Rattle.yq_expr.specs.ChangeView.{changed_of}
 use Rattle.yq_expr.specs.Judgement.{Matches}
 use Rattle.yq_expr.specs.PlaceView.{places_of}
 use Rattle.yq_expr.specs.Rooms.{room_of}
-use Rattle.yq_expr.specs.View.{update_of}
+use Rattle.yq_program.specs.View.{update_of}
 use Rattle.yq_expr.specs.declared.planning.change.Changed.{Changed}
-use Rattle.yq_expr.specs.declared.program.Update.{Update}
+use Rattle.yq_program.specs.declared.program.Update.{Update}
 use Rattle.yq_expr.proofs.planning.changes.changes_at.Goals as goal
 
 pub returns : goal.returns

@@ -3,7 +3,7 @@ use Rattle.yq_tree.specs.Nodes.{node_of}
 use Rattle.yq_expr.specs.PlaceView.{places_of}
 use Rattle.yq_expr.specs.PlacesApart.{AreIn}
 use Rattle.yq_expr.specs.TreeScalars.{HaveScalars}
-use Rattle.yq_expr.specs.View.{stage_of}
+use Rattle.yq_program.specs.View.{stage_of}
 use Rattle.yq_expr.specs.declared.matching.place.Place as declared
 use Rattle.yq_expr.proofs.MatchLaws.{places_have}
 use Rattle.yq_expr.proofs.updates.PipePlaces.{places_stand}

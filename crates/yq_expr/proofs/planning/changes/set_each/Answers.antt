@@ -9,7 +9,7 @@ use Rattle.yq_expr.specs.Judgement.{Fails, Matches}
 use Rattle.yq_expr.specs.PlaceView.{place_of, places_of}
 use Rattle.yq_expr.specs.Places.{root_place}
 use Rattle.yq_expr.specs.RightValues.{right_value}
-use Rattle.yq_expr.specs.View.{term_of}
+use Rattle.yq_program.specs.View.{term_of}
 use Rattle.yq_expr.specs.declared.planning.change.Changed.{Changed}
 use Rattle.yq_expr.proofs.AllChanges.{from_root, some_places, value_there, value_fails}
 use Rattle.yq_expr.proofs.EachLaws.{failed}

@@ -2,7 +2,7 @@ use Rattle.std.proofs.Common.{ℕ, List, None, sym, ap, ◌∙◌}
 use Rattle.yq_inline.specs.Values.{entries, node_of}
 use Rattle.yq_scalar.specs.Tree as tree
 use Rattle.yq_scalar.specs.Tree.{Node}
-use Rattle.yq_expr.proofs.Keys.{node_of-map}
+use Rattle.yq_program.proofs.Keys.{node_of-map}
 use Rattle.yq_expr.proofs.planning.copied.+copied.Goals as goal
 
 pub copied-returns-in_ok-copied_entries-in-Map : goal.copied-returns-in_ok-copied_entries-in-Map

@@ -3,7 +3,7 @@ use Rattle.std.proofs.lemmas.Grind.{common_steps}
 use Rattle.yq_inline.specs.Values.{entries_of, node_of}
 use Rattle.yq_scalar.specs.Keys.{deepest, depth}
 use Rattle.yq_scalar.specs.Tree.{Node}
-use Rattle.yq_expr.proofs.Keys.{node_of-map}
+use Rattle.yq_program.proofs.Keys.{node_of-map}
 use Rattle.yq_expr.proofs.LimitLaws.{one_deeper}
 use Rattle.yq_expr.proofs.planning.limits.+deeper.Goals as goal
 

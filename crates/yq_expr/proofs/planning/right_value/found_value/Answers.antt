@@ -3,7 +3,7 @@ use Rattle.yq_expr.specs.Judgement.{gives}
 use Rattle.yq_expr.specs.Pipes.{pipe_on}
 use Rattle.yq_expr.specs.PlaceView.{place_of, places_of}
 use Rattle.yq_expr.specs.TreeScalars.{HaveScalars}
-use Rattle.yq_expr.specs.View.{stage_of}
+use Rattle.yq_program.specs.View.{stage_of}
 use Rattle.yq_expr.specs.declared.matching.place.Place as declared
 use Rattle.yq_expr.proofs.MatchLaws.{pipe_have}
 use Rattle.yq_expr.proofs.planning.right_value.found_value.Goals as goal

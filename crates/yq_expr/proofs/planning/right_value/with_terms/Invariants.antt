@@ -4,7 +4,7 @@ use Rattle.yq_expr.specs.Judgement.{and_then}
 use Rattle.yq_expr.specs.PlaceView.{place_of}
 use Rattle.yq_expr.specs.Places.{in_turn}
 use Rattle.yq_expr.specs.RightValues.{sum, term_value}
-use Rattle.yq_expr.specs.View.{term_of}
+use Rattle.yq_program.specs.View.{term_of}
 use Rattle.yq_expr.proofs.planning.right_value.with_terms.Given as goal
 
 abbrev pub invariant-terms : goal.invariant-terms

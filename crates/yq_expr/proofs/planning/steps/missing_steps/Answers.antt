@@ -1,7 +1,7 @@
 use Rattle.std.proofs.Common.{◌≡◌, rules, List, [], map, reverse, sym, ap, ◌++◌, ◌∙◌}
 use Rattle.yq_expr.specs.PlaceView.{missing_of}
-use Rattle.yq_expr.specs.Program.{Step}
-use Rattle.yq_expr.specs.View.{step_of}
+use Rattle.yq_program.specs.Program.{Step}
+use Rattle.yq_program.specs.View.{step_of}
 use Rattle.yq_expr.specs.declared.matching.place.Missing.{Nothing, the_lemmas}
 use Rattle.yq_expr.proofs.ChangeLaws.{turned_seen}
 use Rattle.yq_expr.proofs.planning.steps.missing_steps.Goals as goal

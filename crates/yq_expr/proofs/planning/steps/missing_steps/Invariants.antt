@@ -1,6 +1,6 @@
 use Rattle.std.proofs.Common.{◌≡◌, ◌++◌, length, map, reverse}
 use Rattle.yq_expr.specs.PlaceView.{missing_of}
-use Rattle.yq_expr.specs.View.{step_of}
+use Rattle.yq_program.specs.View.{step_of}
 use Rattle.yq_expr.proofs.planning.steps.missing_steps.Given as goal
 
 abbrev pub invariant-steps : goal.invariant-steps

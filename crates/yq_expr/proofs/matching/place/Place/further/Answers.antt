@@ -1,8 +1,8 @@
 use Rattle.std.proofs.Common.{List, [], ◌∷◌, ◌++◌, ap, ◌∙◌}
 use Rattle.yq_expr.specs.PlaceView.{missing_of, place_of}
 use Rattle.yq_expr.specs.Places.{Place}
-use Rattle.yq_expr.specs.Program.{Step}
-use Rattle.yq_expr.specs.View.{step_of}
+use Rattle.yq_program.specs.Program.{Step}
+use Rattle.yq_program.specs.View.{step_of}
 use Rattle.yq_expr.specs.declared.matching.place.Missing.{Missing}
 use Rattle.yq_expr.proofs.matching.place.Place.further.Goals as goal
 

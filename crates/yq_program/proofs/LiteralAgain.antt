@@ -1,0 +1,112 @@
+-- Scalars and literals of the grammar are read again.
+use Rattle.std.proofs.Common.{◌≡◌, ℕ, zero, suc, true, false, List, [], ◌∷◌, map, Some, None, refl, sym, ◌∙◌, inl, inr}
+use Rattle.std.specs.Prelude.{codes}
+use Rattle.std.specs.Str.{bytes_eq}
+use Rattle.std.proofs.lemmas.Bool.{false≢true}
+use Rattle.std.proofs.lemmas.Slice.Eq.{bytes_eq-Decides}
+use Rattle.yq_scalar.specs.Scalar.{ScalarText}
+use Rattle.yq_scalar.specs.Tree.{Node}
+use Rattle.yq_scalar.proofs.Bools.{is_true}
+use Rattle.yq_program.specs.Tokens.{Token, symbol, is_one_of, scalar_words}
+use Rattle.yq_program.specs.Lexing.{after, taken, as_step}
+use Rattle.yq_program.specs.Grammar.{Form, Mark, IsScalar, AreListed, IsField, IsLiteral}
+use Rattle.yq_program.specs.Parse.{Parse, behind_at, word_at, scalar_at, listed_at, field_at, literal_at, begins_left}
+use Rattle.yq_program.proofs.Keys.{distinct_again}
+use Rattle.yq_program.proofs.Readers.{Lessens}
+use Rattle.yq_program.proofs.Turns.{item_lessens, field_lessens}
+use Rattle.yq_program.proofs.FormsAgain.{after_again, Again, parted_again, Anything}
+
+word_again : (w : List ℕ) (r : List Token) → is_one_of scalar_words w ≡ true → word_at (symbol w ∷ r) ≡ Some (w, r)
+word_again w r h = elim (is_true (bytes_eq w (codes "true"))) [
+  | inl is ↦ let e : w ≡ codes "true" = (bytes_eq-Decides w (codes "true")).0 is in rw e refl
+  | inr not_true ↦ elim (is_true (bytes_eq w (codes "false"))) [
+    | inl is ↦ let e : w ≡ codes "false" = (bytes_eq-Decides w (codes "false")).0 is in rw e refl
+    | inr not_false ↦ elim (is_true (bytes_eq w (codes "null"))) [
+      | inl is ↦ let e : w ≡ codes "null" = (bytes_eq-Decides w (codes "null")).0 is in rw e refl
+      | inr not_null ↦
+          let none : is_one_of scalar_words w ≡ false = rw (not_true, not_false, not_null) refl in
+          absurd (false≢true (sym none ∙ h))
+    ]
+  ]
+]
+
+pub scalar_again : Again scalar_at IsScalar Anything
+unfolding scalar_at
+scalar_again s ts rest (inl h) f = rw (h.2, h.1) refl
+scalar_again s ts rest (inr (inl h)) f = rw (h.2, h.1) refl
+scalar_again s ts rest (inr (inr h)) f = rw (h.3, h.1) (rw (word_again h.0 rest h.2) refl)
+
+-- a word for a scalar is none of these marks
+word_is_none : (w : List ℕ) (r : List Token) (s : List ℕ) → is_one_of scalar_words w ≡ true → is_one_of scalar_words s ≡ false → after s (symbol w ∷ r) ≡ None
+word_is_none w r s h not_word = elim (is_true (bytes_eq w s)) [
+  | inl is ↦ let e : w ≡ s = (bytes_eq-Decides w s).0 is in absurd (false≢true (sym not_word ∙ rw e at h))
+  | inr other ↦ rw other refl
+]
+
+-- no mark or word but those of scalars begins a scalar
+scalar_begins : (s : ScalarText) (ts rest : List Token) → IsScalar s ts rest → (mark : List ℕ) → is_one_of scalar_words mark ≡ false → after mark ts ≡ None
+scalar_begins s ts rest (inl h) mark not_word = rw h.2 refl
+scalar_begins s ts rest (inr (inl h)) mark not_word = rw h.2 refl
+scalar_begins s ts rest (inr (inr h)) mark not_word = rw h.3 (word_is_none h.0 rest mark h.2 not_word)
+
+scalar_unnamed : (s : ScalarText) (ts rest : List Token) → IsScalar s ts rest → taken as_step ts ≡ None
+scalar_unnamed s ts rest (inl h) = rw h.2 refl
+scalar_unnamed s ts rest (inr (inl h)) = rw h.2 refl
+scalar_unnamed s ts rest (inr (inr h)) = rw h.3 refl
+
+-- a literal begins with none of these
+pub record BeginsLiteral (ts : List Token) : Type 0 where
+  pub item : after (codes "]") ts ≡ None
+  pub entry : after (codes "}") ts ≡ None
+  pub left : begins_left ts ≡ false
+
+listed_begins : {A : Type 0} (opening closing : List ℕ) (Is : Form A) (xs : List A) (ts rest : List Token) → AreListed opening closing Is xs ts rest → (inner : List Token) × Mark opening ts inner
+listed_begins opening closing Is [] ts rest h = (symbol closing ∷ rest, h)
+listed_begins opening closing Is (x ∷ xs) ts rest h = (h.0, h.2)
+
+pub literal_begins : (depth : ℕ) (n : Node) (ts rest : List Token) → IsLiteral depth n ts rest → BeginsLiteral ts
+unfolding IsLiteral
+literal_begins zero n ts rest h =
+    let none = scalar_begins h.0 ts rest h.2 in
+    record { item = none (codes "]") refl; entry = none (codes "}") refl; left = rw (scalar_unnamed h.0 ts rest h.2, none (codes ".") refl, none (codes "(") refl) refl }
+literal_begins (suc depth) n ts rest (inl h) =
+    let none = scalar_begins h.0 ts rest h.2 in
+    record { item = none (codes "]") refl; entry = none (codes "}") refl; left = rw (scalar_unnamed h.0 ts rest h.2, none (codes ".") refl, none (codes "(") refl) refl }
+literal_begins (suc depth) n ts rest (inr (inl h)) =
+    let o = listed_begins (codes "[") (codes "]") (IsLiteral depth) h.0 ts rest h.2 in
+    record { item = rw o.1 refl; entry = rw o.1 refl; left = rw o.1 refl }
+literal_begins (suc depth) n ts rest (inr (inr h)) =
+    let o = listed_begins (codes "{") (codes "}") (IsField (IsLiteral depth)) h.0 ts rest h.3 in
+    record { item = rw o.1 refl; entry = rw o.1 refl; left = rw o.1 refl }
+
+listed_again : {A : Type 0} (opening closing : List ℕ) (at : Parse A) (Is : Form A) → Lessens (behind_at (codes ",") at) → Again at Is Anything
+    → ((x : A) (ts rest : List Token) → Is x ts rest → after closing ts ≡ None) → ((r : List Token) → after (codes ",") (symbol closing ∷ r) ≡ None)
+    → (xs : List A) (ts rest : List Token) → AreListed opening closing Is xs ts rest → (inner : List Token) × Mark opening ts inner × (listed_at closing at inner ≡ Some (xs, rest))
+listed_again opening closing at Is less again front comma [] ts rest h =
+    let e = after_again closing (symbol closing ∷ rest) rest refl in
+    (symbol closing ∷ rest, h, rw e refl)
+listed_again opening closing at Is less again front comma (x ∷ xs) ts rest h =
+    let e = after_again closing h.1 rest h.4 in
+    let none : after closing h.0 ≡ None = front x h.0 h.3.0 h.3.1 in
+    let stops : after (codes ",") h.1 ≡ None = rw h.4 (comma rest) in
+    let read = parted_again (codes ",") at Is Anything less again (λ r. tt) (x ∷ xs) h.0 h.1 h.3 tt stops in
+    (h.0, h.2, rw (none, read, e) refl)
+
+field_again : {A : Type 0} (at : Parse A) (Is : Form A) → Again at Is Anything → Again (field_at at) (IsField Is) Anything
+field_again at Is again e ts rest h f = rw (h.1, again e.1 h.0 rest h.2 f) refl
+
+pub literal_again : (depth : ℕ) → Again (literal_at depth) (IsLiteral depth) Anything
+unfolding IsLiteral literal_at
+literal_again zero n ts rest h f = rw (scalar_again h.0 ts rest h.2 f, h.1) refl
+literal_again (suc depth) n ts rest (inl h) f =
+    let none = scalar_begins h.0 ts rest h.2 in
+    rw (none (codes "[") refl, none (codes "{") refl, scalar_again h.0 ts rest h.2 f, h.1) refl
+literal_again (suc depth) n ts rest (inr (inl h)) f =
+    let read = listed_again (codes "[") (codes "]") (literal_at depth) (IsLiteral depth) (item_lessens depth) (literal_again depth)
+    (λ x us r is. (literal_begins depth x us r is).item) (λ r. refl) h.0 ts rest h.2 in
+    rw (read.1, h.1) (rw read.2 refl)
+literal_again (suc depth) n ts rest (inr (inr h)) f =
+    let read = listed_again (codes "{") (codes "}") (field_at (literal_at depth)) (IsField (IsLiteral depth)) (field_lessens depth) (field_again (literal_at depth) (IsLiteral depth) (literal_again depth))
+    (λ e us r is. rw is.1 refl) (λ r. refl) h.0 ts rest h.3 in
+    let differ = distinct_again (map (λ e. e.0) h.0) h.2 in
+    rw (read.1, h.1) (rw (read.2, differ) refl)

@@ -1,0 +1,11 @@
+pub mod Given
+pub mod Grammar
+pub mod Lexing
+pub mod Outcome
+pub mod Parse
+pub mod Program
+pub mod Seen
+pub mod Tokens
+pub use Rattle.yq_inline.specs.Values
+pub mod View
+pub use Rattle.yq_scalar.specs.Tree
