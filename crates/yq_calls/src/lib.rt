@@ -1,4 +1,5 @@
-//! Tests of the libraries' public calls: what their contracts leave open.
+//! Tests of the public calls on whole texts, programs, edits and journals: what
+//! their contracts leave open.
 #![tactic(auto)]
 
 #[cfg(test)]
@@ -6,17 +7,7 @@ mod block;
 #[cfg(test)]
 mod expr;
 #[cfg(test)]
-mod inline;
-#[cfg(test)]
-mod inline_edits;
-#[cfg(test)]
 mod journal;
-#[cfg(test)]
-mod memory;
-#[cfg(test)]
-mod rows;
-#[cfg(test)]
-mod scalar;
 #[cfg(test)]
 mod splice;
 #[cfg(test)]

@@ -1,9 +1,9 @@
 //! The calls of yq_splice.
 
-use crate::memory::all_memory;
 use std::test::Fail;
 use yq_expr::parse_expr;
 use yq_splice::{EditError, edit};
+use yq_text_calls::all_memory;
 
 const SERVER: &str = "server:\n  port: 8080\n";
 

@@ -1,11 +1,11 @@
 //! Each growth of memory is refused in turn.
 
 use super::literal;
-use crate::memory::all_memory;
 use std::alloc::{AllocError, Global};
 use std::test::Fail;
 use yq_expr::{Value, parse_expr};
 use yq_splice::print;
+use yq_text_calls::all_memory;
 
 const PRINTED: &str = "a:\n  - b\n  - c: \"true\"\n    \"null\": {}\n";
 

@@ -1,10 +1,10 @@
 //! Each growth of memory is refused in turn.
 
-use crate::memory::all_memory;
 use std::alloc::Global;
 use std::process::Abort;
 use std::test::Fail;
 use yq_expr::{MatchError, ParseError, PlanError, matches, parse_expr, plan};
+use yq_text_calls::all_memory;
 use yq_tree::read;
 
 /// With memory for so many more steps, the answer is Memory, and then the program.

@@ -2,13 +2,13 @@
 //! memory gives its answer.
 
 use crate::journal::{EDITED, FIRST, PORT};
-use crate::memory::all_memory;
 use std::alloc::Global;
 use std::process::Abort;
 use std::test::Fail;
 use yq_expr::parse_expr;
 use yq_journal::{Journal, JournalError, JournalFault, Move, Record, redo_record, undo_record};
 use yq_splice::edit;
+use yq_text_calls::all_memory;
 
 /// `PORT` in version 2.
 const COUNTED: &str =

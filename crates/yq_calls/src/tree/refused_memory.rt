@@ -1,8 +1,8 @@
 //! Each growth of memory is refused in turn.
 
-use crate::memory::all_memory;
 use std::test::Fail;
 use yq_scalar::ReadError;
+use yq_text_calls::all_memory;
 use yq_tree::read;
 
 #[test]
