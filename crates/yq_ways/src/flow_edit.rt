@@ -12,7 +12,7 @@ use yq_script::{Edited, ExchangeError, Segment, exchange};
 use yq_tree::Step;
 
 /// The steps to a collection, and the last one.
-pub(super) fn last_step(steps: &[Step]) -> Option<(&[Step], &Step)>
+pub(crate) fn last_step(steps: &[Step]) -> Option<(&[Step], &Step)>
     ensures { option_map (λ x. (map step_of x.0.now, step_of x.1.now)) result ≡ spec.last_step (map step_of steps.now) }
 {
     match steps {
@@ -22,7 +22,7 @@ pub(super) fn last_step(steps: &[Step]) -> Option<(&[Step], &Step)>
 }
 
 /// A text in which the bytes of an edit give way to what it leads with and to what is written.
-pub(super) fn edit_at(
+pub(crate) fn edit_at(
     alloc: Global,
     text: &str,
     place: EditPlace,
@@ -45,7 +45,7 @@ pub(super) fn edit_at(
 }
 
 /// What stands at the place of an edit.
-pub(super) fn text_at(text: &str, place: EditPlace) -> &str
+pub(crate) fn text_at(text: &str, place: EditPlace) -> &str
     requires order { place.start ≤ place.end }
     requires start { IsCharBoundary text.now place.start }
     requires end { IsCharBoundary text.now place.end }

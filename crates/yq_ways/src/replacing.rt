@@ -20,7 +20,7 @@ use yq_script::{Edited, ExchangeError, Segment, exchange};
 use yq_tree::{Documents, InlinePlace, Node, NodeKind};
 
 /// Whether a value is a scalar equal to the node that is there, if one is.
-pub(super) fn is_kept(node: Option<Node<'_, '_>>, value: &Value) -> bool
+pub(crate) fn is_kept(node: Option<Node<'_, '_>>, value: &Value) -> bool
     ensures { result ≡ spec.is_kept (option_map node_of node.entry) (values.node_of value.now) }
 {
     let Some(node) = node else {
