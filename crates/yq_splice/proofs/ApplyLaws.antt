@@ -13,15 +13,15 @@ use Rattle.yq_script.specs.Patch.{Change}
 use Rattle.yq_script.specs.Script.{Segment, keep, new_text, changes}
 use Rattle.yq_script.specs.declared.edited.Edited.{Edited}
 use Rattle.yq_script.specs.Exchanging as exchange
-use Rattle.yq_ways.specs.Carrying.{carrying, or_stay}
+use Rattle.yq_carrying.specs.Carrying.{carrying, or_stay}
 use Rattle.yq_ways.specs.Operands.{HasOperand}
 use Rattle.yq_ways.specs.Serving.{IsServed}
 use Rattle.yq_ways.specs.WayAnswers.{Carries}
 use Rattle.yq_ways.specs.Ways.{ReadsAfter}
-use Rattle.yq_ways.proofs.CutLaws.{text_read}
-use Rattle.yq_ways.proofs.CarryingLaws.{carrying_is}
-use Rattle.yq_ways.proofs.FitServed.{fit_served}
-use Rattle.yq_ways.proofs.WayLaws.{none_stays}
+use Rattle.yq_flow_ways.proofs.CutLaws.{text_read}
+use Rattle.yq_carrying.proofs.CarryingLaws.{carrying_is}
+use Rattle.yq_carrying.proofs.FitServed.{fit_served}
+use Rattle.yq_carrying.proofs.WayLaws.{none_stays}
 use Rattle.yq_splice.specs.Answers.{Edits, Fails}
 use Rattle.yq_splice.specs.Carried.{carry_one, carried}
 use Rattle.yq_splice.specs.Edit.{unreadable, refuses, by_reading, edit_of_segments, edit_made}

@@ -15,9 +15,9 @@ use Rattle.yq_script.specs.Patch.{Change, all_done, lengths_done}
 use Rattle.yq_script.specs.Script.{Segment, old_text, new_text, changes}
 use Rattle.yq_script.proofs.ScriptLaws.{changes_lead, changes_lengths}
 use Rattle.yq_script.specs.Exchanging as exchange
-use Rattle.yq_ways.specs.Carrying.{carrying, or_stay}
-use Rattle.yq_ways.proofs.CarryingLaws.{carrying_is}
-use Rattle.yq_ways.proofs.CutLaws.{cut_read, text_read}
+use Rattle.yq_carrying.specs.Carrying.{carrying, or_stay}
+use Rattle.yq_carrying.proofs.CarryingLaws.{carrying_is}
+use Rattle.yq_flow_ways.proofs.CutLaws.{cut_read, text_read}
 use Rattle.yq_splice.specs.Carried.{carry_one, carried, carry_out, updated, program_done, edit_of}
 use Rattle.yq_splice.specs.Edit.{gives, by_reading, edit_of_segments, edit_made}
 use Rattle.yq_splice.specs.Theorems.{IsCarried, IsInside, AreInside, AreSplices}

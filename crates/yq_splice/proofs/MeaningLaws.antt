@@ -18,7 +18,7 @@ use Rattle.yq_expr.specs.Plans.{plan}
 use Rattle.yq_program.specs.Program.{Update, assign, delete, comment, UpdatesHold}
 use Rattle.yq_expr.specs.Rooms.{room_of}
 use Rattle.yq_script.specs.Patch.{Change}
-use Rattle.yq_ways.proofs.CutLaws.{cut_same}
+use Rattle.yq_flow_ways.proofs.CutLaws.{cut_same}
 use Rattle.yq_splice.specs.Carried.{carry_all, carry_out, updated}
 use Rattle.yq_splice.specs.Edit.{Edit, unreadable, refuses, gives, by_reading}
 use Rattle.yq_splice.specs.Theorems.{Leads, IsMeant}

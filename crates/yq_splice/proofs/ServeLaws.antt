@@ -15,12 +15,12 @@ use Rattle.yq_expr.proofs.updates.AlikeRooms.{rest_follow, rest_after}
 use Rattle.yq_script.specs.Patch.{Change}
 use Rattle.yq_script.specs.Script.{Segment, new_text, changes}
 use Rattle.yq_script.specs.Exchanging as exchange
-use Rattle.yq_ways.specs.Carrying.{carrying, or_stay}
+use Rattle.yq_carrying.specs.Carrying.{carrying, or_stay}
 use Rattle.yq_ways.specs.Serving.{IsServed}
 use Rattle.yq_ways.specs.Ways.{ReadsAfter}
-use Rattle.yq_ways.proofs.CutLaws.{text_read, cut_same}
-use Rattle.yq_ways.proofs.CarryingLaws.{carrying_is}
-use Rattle.yq_ways.proofs.FitServed.{fit_served}
+use Rattle.yq_flow_ways.proofs.CutLaws.{text_read, cut_same}
+use Rattle.yq_carrying.proofs.CarryingLaws.{carrying_is}
+use Rattle.yq_carrying.proofs.FitServed.{fit_served}
 use Rattle.yq_splice.specs.Carried.{carry_one, carry_all}
 use Rattle.yq_splice.specs.Edit.{Edit, unreadable, refuses, gives, behind, and_then, by_reading, edit_of_segments, edit_made}
 use Rattle.yq_splice.specs.Valid.{HaveOperands}

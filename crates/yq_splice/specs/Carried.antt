@@ -9,7 +9,7 @@ use Rattle.yq_expr.specs.Plans.{plan}
 use Rattle.yq_program.specs.Program.{Program, Update, read, updates}
 use Rattle.yq_expr.specs.Rooms.{room_of}
 use Rattle.yq_expr.specs.declared.refusal.Refusal.TheVariants.{NotAnUpdate}
-use Rattle.yq_ways.specs.Carrying.{carrying, or_stay}
+use Rattle.yq_carrying.specs.Carrying.{carrying, or_stay}
 use Rattle.yq_splice.specs.Edit.{Edit, refuses, in_order, by_reading, edit_of_segments}
 
 -- an operation carried out on the text of a cut (own)

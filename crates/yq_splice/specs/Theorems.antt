@@ -14,7 +14,7 @@ use Rattle.yq_expr.specs.Rooms.{room_of}
 use Rattle.yq_expr.specs.declared.refusal.Refusal.TheVariants.{TooLarge}
 use Rattle.yq_script.specs.Patch.{Change, all_done, lengths_done}
 use Rattle.yq_script.specs.Script.{Segment, old_text, new_text, changes}
-use Rattle.yq_ways.specs.Carrying.{carrying, or_stay}
+use Rattle.yq_carrying.specs.Carrying.{carrying, or_stay}
 use Rattle.yq_ways.specs.Ways.{ReadsAfter}
 use Rattle.yq_splice.specs.declared.edit_error.EditError.{EditError}
 use Rattle.yq_splice.specs.declared.edit_error.EditError.TheVariants as error

@@ -13,7 +13,7 @@ use std::alloc::{AllocError, Global};
 use yq_expr::Op;
 use yq_script::Edited;
 use yq_tree::{Documents, read};
-use yq_ways::carry_by_way;
+use yq_carrying::carry_by_way;
 
 /// The text as it is.
 pub(crate) fn unchanged(alloc: Global, text: &str) -> Result<Edited, AllocError>

@@ -10,14 +10,4 @@ pub mod RemovingFirst
 pub mod Replacing
 pub mod AppendWay
 pub mod Layouts
-pub mod BlockWriting
-pub mod RootWriting
 pub mod PlaceViews
-pub mod Carrying
-pub mod FlowWays
-pub mod SoleRemoving
-pub mod CollectionReplacing
-pub mod ScalarReplacing
-pub mod ScalarLiteral
-pub mod ScalarCollection
-pub mod CompactReplacing

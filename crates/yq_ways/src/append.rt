@@ -56,7 +56,7 @@ fn entry_text(
 
 /// An operation that appends carried out: the item or entry stands on lines of its own behind the
 /// last line of a block collection.
-pub(crate) fn append_way(
+pub fn append_way(
     alloc: Global,
     documents: &Documents<'_>,
     op: &Op,

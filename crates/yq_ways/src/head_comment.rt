@@ -45,7 +45,7 @@ fn head_lines(alloc: Global, column: usize, br: &str, text: &str) -> Result<Stri
 }
 
 /// An operation that sets a head comment carried out: other lines stand above the row.
-pub(crate) fn head_comment_way(
+pub fn head_comment_way(
     alloc: Global,
     documents: &Documents<'_>,
     op: &Op,

@@ -7,7 +7,7 @@ use yq_block::Layout;
 use yq_tree::Documents;
 
 /// How block style looks in document `doc`: with the text's first break, and that document's steps.
-pub(crate) fn layout_of(documents: &Documents<'_>, doc: usize) -> Layout
+pub fn layout_of(documents: &Documents<'_>, doc: usize) -> Layout
     ensures { result ≡ spec.layout_of doc (cut_of documents.now) }
 {
     let steps = documents.steps(doc);

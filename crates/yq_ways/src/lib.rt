@@ -1,27 +1,22 @@
-//! Ways to carry out operations: which segments of a text stay, and which give
-//! way to what.
+//! Ways to carry out operations, as segments of a text that stay or give way:
+//! what a way is, and those that set comments, append, remove, and replace an
+//! inline node by another.
 #![tactic(auto)]
 
 mod append;
-mod block_writing;
-mod collection_replacing;
-mod compact_replacing;
-mod flow_append;
-mod flow_edit;
-mod flow_remove;
-mod flow_replace;
 mod head_comment;
 mod layout;
 mod line_comment;
 mod removing;
 mod removing_first;
 mod replacing;
-mod root_writing;
-mod scalar_collection;
-mod scalar_line;
-mod scalar_literal;
-mod sole_removing;
 mod style;
-mod ways;
 
-pub use ways::{carry_by_way, fitting_has_a_way, ways_carry_out};
+pub use append::append_way;
+pub use head_comment::head_comment_way;
+pub use layout::layout_of;
+pub use line_comment::line_comment_way;
+pub use removing::remove_way;
+pub use removing_first::remove_first_way;
+pub use replacing::{inline_written, is_kept, replace_way};
+pub use style::style_in;

@@ -41,7 +41,7 @@ fn line_comment_text(alloc: Global, text: &str, end: LineEnd<'_>) -> Result<Stri
 
 /// An operation that sets a line comment carried out: the comment at the end of the line gives way to
 /// the new one.
-pub(crate) fn line_comment_way(
+pub fn line_comment_way(
     alloc: Global,
     documents: &Documents<'_>,
     op: &Op,

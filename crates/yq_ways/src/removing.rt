@@ -158,7 +158,7 @@ fn take_out(alloc: Global, removal: &Removal<'_>) -> Result<Edited, ExchangeErro
 }
 
 /// One of several items or entries that has whole rows taken out of a text.
-pub(crate) fn remove_way(
+pub fn remove_way(
     alloc: Global,
     documents: &Documents<'_>,
     op: &Op,

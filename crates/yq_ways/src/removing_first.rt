@@ -32,7 +32,7 @@ fn take_out(alloc: Global, removal: &FirstRemoval<'_>) -> Result<Edited, Exchang
 }
 
 /// The first of several items or entries of a compact collection taken out of a text.
-pub(crate) fn remove_first_way(
+pub fn remove_first_way(
     alloc: Global,
     documents: &Documents<'_>,
     op: &Op,

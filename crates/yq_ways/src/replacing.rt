@@ -20,7 +20,7 @@ use yq_script::{Edited, ExchangeError, Segment, exchange};
 use yq_tree::{Documents, InlinePlace, Node, NodeKind};
 
 /// Whether a value is a scalar equal to the node that is there, if one is.
-pub(crate) fn is_kept(node: Option<Node<'_, '_>>, value: &Value) -> bool
+pub fn is_kept(node: Option<Node<'_, '_>>, value: &Value) -> bool
     ensures { result ≡ spec.is_kept (option_map node_of node.entry) (values.node_of value.now) }
 {
     let Some(node) = node else {
@@ -58,7 +58,7 @@ fn apart_from(alloc: Global, old: Option<&str>, new: &str) -> Result<String, All
 }
 
 /// How a value is written in a place, if it is written inline there.
-pub(crate) fn inline_written(
+pub fn inline_written(
     alloc: Global,
     old: &str,
     alone: bool,
@@ -99,7 +99,7 @@ fn put(
 }
 
 /// An operation carried out by an inline node in the place of an inline one, or of nothing.
-pub(crate) fn replace_way(
+pub fn replace_way(
     alloc: Global,
     documents: &Documents<'_>,
     op: &Op,

@@ -17,7 +17,7 @@ pub(crate) fn is_same(kind: Kind, text: &str, scalar: &Scalar) -> bool
 }
 
 /// The style in which a scalar is written in a place that has one of a style.
-pub(crate) fn style_in(place: Place, scalar: &Scalar, old: Style) -> Style
+pub fn style_in(place: Place, scalar: &Scalar, old: Style) -> Style
     requires { IsInline old }
     ensures value { result ≡ spec.style_in place scalar.now old }
     ensures can { writable.can_write scalar.now result place ≡ true }

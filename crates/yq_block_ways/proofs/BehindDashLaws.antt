@@ -1,0 +1,64 @@
+-- A collection that begins on the line of a dash.
+use Rattle.std.proofs.Common.{◌≡◌, ℕ, true, false, List, [], ◌∷◌, ◌++◌, replicate, refl, sym, ap, ◌∙◌, append_assoc}
+use Rattle.std.proofs.lemmas.Bool.{false≢true}
+use Rattle.std.proofs.lemmas.List.{append_cancel_left}
+use Rattle.yq_rows.specs.Exchange.{row_front}
+use Rattle.yq_rows.specs.Grammar.{is_entry}
+use Rattle.yq_rows.specs.Joined.{compact_row}
+use Rattle.yq_rows.specs.Rows as rows
+use Rattle.yq_rows.specs.Rows.{Content, Nothing, Row, behind_dashes, behind_indent, dashes_text, mark_column, mark_text, print_row, rows_text, Cut}
+use Rattle.yq_tree.specs.Documents.{HaveFitKeys}
+use Rattle.yq_block.specs.BlockPlaces.{compact_rows}
+use Rattle.yq_block.proofs.LineLaws.{BeginAt}
+use Rattle.yq_block_ways.proofs.MarkRowLaws.{is_key}
+
+-- a dash is an entry's mark that is no key
+pub is_dash : (m : rows.Mark) → is_entry m ≡ true → is_key m ≡ false → m ≡ rows.Dash
+is_dash rows.Bare e k = absurd (false≢true e)
+is_dash rows.Dash e k = refl
+is_dash (rows.Key key colon) e k = absurd (false≢true (sym k))
+
+-- the first of the rows behind a dash
+abbrev pub first_row : Row → List Row → Row
+first_row row [] = row
+first_row row (q ∷ qs) = compact_row 1 row q
+
+abbrev pub more_rows : List Row → List Row
+more_rows [] = []
+more_rows (q ∷ qs) = qs
+
+pub rows_are : (column : ℕ) (row : Row) (rs : List Row) → BeginAt column rs → compact_rows row rs ≡ first_row row rs ∷ more_rows rs
+rows_are column row [] b = absurd b
+rows_are column row (q ∷ qs) b = refl
+
+pub gap_same : (column : ℕ) (row : Row) (rs : List Row) → BeginAt column rs → (first_row row rs).gap ≡ row.gap
+gap_same column row [] b = absurd b
+gap_same column row (q ∷ qs) b = refl
+
+pub keys_same : (row : Row) (rs : List Row) → HaveFitKeys rs → HaveFitKeys (compact_rows row rs)
+keys_same row [] h = tt
+keys_same row (q ∷ qs) h = h
+
+-- their text
+dashes_then : (ns ms t : List ℕ) → dashes_text (ns ++ ms) t ≡ dashes_text ns (dashes_text ms t)
+dashes_then [] ms t = refl
+dashes_then (n ∷ ns) ms t = ap (λ l. 45 ∷ (replicate n 32 ++ l)) (dashes_then ns ms t)
+
+dashes_split : (ns a b : List ℕ) → dashes_text ns (a ++ b) ≡ dashes_text ns a ++ b
+dashes_split [] a b = refl
+dashes_split (n ∷ ns) a b = ap (λ l. 45 ∷ l) (ap (λ l. replicate n 32 ++ l) (dashes_split ns a b) ∙ sym (append_assoc (replicate n 32) (dashes_text ns a) b))
+
+dash_front : (row : Row) (u : List ℕ) → row.mark ≡ rows.Dash → row.gap ++ (replicate row.column 32 ++ dashes_text row.dashes (45 ∷ u)) ≡ row_front row ++ u
+dash_front row u is =
+    let front : List ℕ = dashes_text row.dashes (45 ∷ []) in
+    let own : row_front row ≡ row.gap ++ (replicate row.column 32 ++ front) = ap (λ m. row.gap ++ (replicate row.column 32 ++ dashes_text row.dashes (mark_text m []))) is in
+    ap (λ l. row.gap ++ (replicate row.column 32 ++ l)) (dashes_split row.dashes (45 ∷ []) u)
+    ∙ (ap (λ l. row.gap ++ l) (sym (append_assoc (replicate row.column 32) front u)) ∙ (sym (append_assoc row.gap (replicate row.column 32 ++ front) u) ∙ ap (λ l. l ++ u) (sym own)))
+
+pub behind_text : (column : ℕ) (row : Row) (rs : List Row) (u z : List ℕ) → BeginAt column rs → row.mark ≡ rows.Dash → rows_text rs z ≡ replicate column 32 ++ u → rows_text (compact_rows row rs) z ≡ row_front row ++ (32 ∷ u)
+behind_text column row [] u z b is e = absurd b
+behind_text column row (q ∷ qs) u z b is e =
+    let inner : behind_indent q (rows_text qs z) ≡ u =
+    append_cancel_left (replicate column 32) (behind_indent q (rows_text qs z)) u (sym (λ i. b.0 i ++ (replicate (b.1 i) 32 ++ behind_indent q (rows_text qs z))) ∙ e) in
+    ap (λ l. row.gap ++ (replicate row.column 32 ++ l)) (dashes_then row.dashes (1 ∷ q.dashes) (behind_dashes q (rows_text qs z)))
+    ∙ (ap (λ l. row.gap ++ (replicate row.column 32 ++ dashes_text row.dashes (45 ∷ (32 ∷ l)))) inner ∙ dash_front row (32 ∷ u) is)

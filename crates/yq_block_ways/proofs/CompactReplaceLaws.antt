@@ -1,0 +1,331 @@
+-- Replacing a compact collection behind a dash is a way.
+use Rattle.std.proofs.Common.{◌≡◌, ◌⊎◌, inl, inr, ℕ, ◌≤◌, Bool, true, false, cond, List, [], ◌∷◌, ◌++◌, length, replicate, Some, None, option_map, refl, sym, ap, ◌∙◌, subst, arith, append_assoc, append-nil}
+use Rattle.yq_scalar.specs.BlockWritten.{break_text}
+use Rattle.yq_scalar.specs.Characters.{text_limit}
+use Rattle.yq_scalar.specs.Paths.{Step, node_at}
+use Rattle.yq_scalar.specs.Text.{is_line}
+use Rattle.yq_scalar.specs.Tree.{Node}
+use Rattle.yq_scalar.specs.declared.block_written.Break.{Break}
+use Rattle.yq_scalar.specs.declared.block_written.Break.TheVariants.{Lf, CrLf}
+use Rattle.yq_scalar.proofs.Bools.{bind_some}
+use Rattle.yq_inline.specs.Valued.{IsValueTree}
+use Rattle.yq_inline.proofs.WrittenLaws.{node_then}
+use Rattle.yq_lines.specs.Anchors.{names_of}
+use Rattle.yq_lines.specs.Comments as comments
+use Rattle.yq_lines.specs.Places.{content}
+use Rattle.yq_lines.proofs.Finding.{FoundNode, path_node}
+use Rattle.yq_rows.specs.Exchange.{row_front, with_content}
+use Rattle.yq_rows.specs.Gap.{IsBreak}
+use Rattle.yq_rows.specs.Grammar.{IsTail}
+use Rattle.yq_rows.specs.Rows.{Nothing, Row, mark_column, rows_text, Cut, cut_text}
+use Rattle.yq_rows.proofs.NothingLaws.{tail_apart}
+use Rattle.yq_rows.proofs.PlaceLaws.{row_front-append}
+use Rattle.yq_tree.specs.CollectionEnds.{CollectionEnd, collection_end}
+use Rattle.yq_tree.specs.DashPlaces.{DashPlace, dash_place}
+use Rattle.yq_tree.specs.Documents.{Document, document_parts}
+use Rattle.yq_tree.specs.PlacedRows.{row_of_path}
+use Rattle.yq_tree.specs.PrintedLines.{less_break, last_break}
+use Rattle.yq_tree.specs.Reading as reading
+use Rattle.yq_tree.specs.Reading.{documents, outline_of, read_at, root_of}
+use Rattle.yq_tree.specs.RowPaths.{IsReadable}
+use Rattle.yq_tree.proofs.PrintedTexts.{less_is, map_some, none_some}
+use Rattle.yq_change.specs.Appends.{inserted}
+use Rattle.yq_change.specs.Changed.{put_document}
+use Rattle.yq_change.specs.SoundRoots.{IsNewValue, MayReplace}
+use Rattle.yq_change.specs.TextPieces.{IsPiece}
+use Rattle.yq_change.specs.Unders.{spaced}
+use Rattle.yq_change.proofs.TextPieceLaws.{pieces_joined, text_is_piece}
+use Rattle.yq_block.specs.declared.layout.Layout.{Layout}
+use Rattle.yq_block.specs.BlockReading.{is_filled}
+use Rattle.yq_block.specs.BlockRows.{item_column, node_rows}
+use Rattle.yq_block.specs.BlockText.{block_value}
+use Rattle.yq_block.specs.BlockValues.{HasNearKeys, InRows}
+use Rattle.yq_block.proofs.CharacterLaws.{value_sound}
+use Rattle.yq_block.proofs.TextLaws.{value_spelled}
+use Rattle.yq_expr.specs.Changes.{is_used_inside}
+use Rattle.yq_expr.specs.Fits.{Fits}
+use Rattle.yq_expr.specs.Operations.{Operation, replace, append, remove, line_comment, head_comment}
+use Rattle.yq_expr.specs.Rooms.{room_of}
+use Rattle.yq_script.specs.Script.{Segment, old_text, new_text}
+use Rattle.yq_block_ways.specs.BlockWriting.{behind_space, lines_below}
+use Rattle.yq_block_ways.specs.CollectionReplacing.{up_to}
+use Rattle.yq_block_ways.specs.CompactReplacing.{CompactPlace, compact_place, compact_segments, compact_upto, filled_behind, replace_compact_way, value_behind}
+use Rattle.yq_ways.specs.Done.{ArePieces}
+use Rattle.yq_ways.specs.Layouts.{layout_of}
+use Rattle.yq_ways.specs.Operands.{HasOperand}
+use Rattle.yq_ways.specs.Replacing.{value_written}
+use Rattle.yq_ways.specs.Ways.{IsWay, ReadsAfter}
+use Rattle.yq_ways.proofs.AppendPlaces.{kept_pieces}
+use Rattle.yq_block_ways.proofs.BlockWritingLaws.{filled_is}
+use Rattle.yq_ways.proofs.BreakLaws.{IsLfOrCrLf, last_is}
+use Rattle.yq_ways.proofs.BrokenTails.{quiet_tail}
+use Rattle.yq_ways.proofs.CommentPieceLaws.{nothing, byte_then, break_piece, spaces_piece}
+use Rattle.yq_ways.proofs.CommentRowLaws.{row_found}
+use Rattle.yq_block_ways.proofs.CompactRows.{IsCompact, before_is, behind_is, column_is, dash_last, ends_in, inner_is, last_ends_line, node, unnamed, whole_text}
+use Rattle.yq_block_ways.proofs.DashValueLaws.{behind_rows, behind_spelled, takes_behind}
+use Rattle.yq_ways.proofs.DoneLaws.{nth_map}
+use Rattle.yq_ways.proofs.FitLaws.{new_value, inside_spared, near_keys, tree_unique}
+use Rattle.yq_ways.proofs.LayoutLaws.{mapping_least}
+use Rattle.yq_block_ways.proofs.MarkPieceLaws.{last_cut}
+use Rattle.yq_block_ways.proofs.NodeRowLaws.{NodeRows, TakesNode, no_comment, node_reads, q_text}
+use Rattle.yq_block_ways.proofs.NodeRowLaws as rowed
+use Rattle.yq_block_ways.proofs.NodeValueLaws.{IsHolding, end_is, rows_beside, rows_under, takes_beside, takes_under}
+use Rattle.yq_ways.proofs.ReplaceLaws.{IsWrittenFor, written_for}
+use Rattle.yq_ways.proofs.SegmentLaws.{segments_readable}
+
+some_same : {A : Type 0} {x y : A} → Some x ≡ Some y → x ≡ y
+some_same e = cc
+
+break_is_piece : (b : List ℕ) → (b ≡ []) ⊎ IsLfOrCrLf b → IsPiece b
+break_is_piece b (inl e) = subst IsPiece (sym e) nothing
+break_is_piece b (inr (inl e)) = subst IsPiece (sym e) (break_piece Lf)
+break_is_piece b (inr (inr e)) = subst IsPiece (sym e) (break_piece CrLf)
+
+-- a break ends a line
+ends_line : (br : Break) (more : List ℕ) → IsBreak (break_text br) more
+unfolding is_line
+ends_line Lf more = inl refl
+ends_line CrLf more = inl refl
+
+abbrev break_tail : (br : Break) (more : List ℕ) → IsTail (break_text br) more
+break_tail br more = record { white = []; comment = []; line = record { break = break_text br; spelled = refl; blank = tt; remark = tt; ends = ends_line br more }; apart = refl }
+
+module _ (doc : ℕ) (s : Step) (ss : List Step) (c : Cut) (k : IsCompact doc s ss c) where
+  abbrev h : NodeRows doc s ss c
+  h = node doc s ss c k
+
+  abbrev l : Layout
+  l = layout_of doc c
+
+  abbrev p : CompactPlace
+  p = compact_upto k.d k.x
+
+  abbrev last : List ℕ
+  last = last_break (up_to k.d.behind k.x.behind)
+
+  abbrev z : List ℕ
+  z = rowed.rest doc s ss c h
+
+  -- the old text
+  pub old_there : (t : List ℕ) → old_text (compact_segments p t) ≡ cut_text c
+  old_there t =
+      let own : List ℕ = up_to k.d.behind k.x.behind in
+      let parts : k.d.before ++ (less_break own ++ (last_break own ++ (k.x.behind ++ []))) ≡ k.d.before ++ ((less_break own ++ last_break own) ++ k.x.behind) = simp (append_assoc, append-nil) refl in
+      parts
+      ∙ (ap (λ o. k.d.before ++ (o ++ k.x.behind)) (less_is own ∙ inner_is doc s ss c k)
+      ∙ (ap (λ b. k.d.before ++ b) (sym (ends_in doc s ss c k)) ∙ sym (whole_text doc s ss c k)))
+
+  -- it is in pieces
+  front_piece : IsPiece k.d.before
+  front_piece =
+      let e = dash_last doc s ss c k in
+      subst IsPiece (sym e.1)
+      (last_cut 45 e.0 k.d.behind (omega arith) refl (subst (λ b. IsPiece (b ++ k.d.behind)) e.1 (subst IsPiece (whole_text doc s ss c k) (text_is_piece c k.read)))).0
+
+  new_pieces : (t : List ℕ) → IsPiece t → ArePieces (compact_segments p t)
+  new_pieces t piece = (front_piece, (piece, (break_is_piece last (last_is (up_to k.d.behind k.x.behind)), ((kept_pieces doc (s ∷ ss) c k.x k.read k.ends).1, tt))))
+
+  -- the end of the last line
+  abbrev last_tail : IsTail last z
+  last_tail = record { white = []; comment = []; line = record { break = last; spelled = refl; blank = tt; remark = tt; ends = last_ends_line doc s ss c k }; apart = refl }
+
+  quiet : comments.line_comment last ≡ None
+  quiet = quiet_tail last z last_tail refl
+
+  -- what may stand behind the dash: the end of its line, without a comment
+  holding : (t more : List ℕ) → IsTail t more → comments.line_comment t ≡ None → IsHolding doc s ss c h (Nothing t) more
+  holding t more tail none = record { holds = refl; stands = tail; apart = tail_apart t more tail; comment = none ∙ sym no_comment; anchor = sym (unnamed doc s ss c k) }
+
+  -- a text of rows
+  new_there : (t : List ℕ) → ((h.start ++ rows_text h.front []) ++ row_front h.mark) ++ (t ++ (last ++ z)) ≡ new_text (compact_segments p t)
+  new_there t =
+      let parts : k.d.before ++ (t ++ (last ++ k.x.behind)) ≡ k.d.before ++ (t ++ (last ++ (k.x.behind ++ []))) = simp append-nil refl in
+      (λ i. sym (before_is doc s ss c k) i ++ (t ++ (last ++ sym (behind_is doc s ss c k) i))) ∙ parts
+
+  module _ (v : Node) (may : MayReplace v (content h.found.line h.found.under) (root_of h.p) (length (s ∷ ss))) where
+    abbrev op : Operation
+    op = replace doc (s ∷ ss) v
+
+    -- a text for which the document is known reads, where it may be read
+    reads_as : (new : List Row) → TakesNode doc s ss c h v new → (t : List ℕ) → rows_text new z ≡ row_front h.mark ++ (t ++ (last ++ z)) → IsPiece t →
+        length (new_text (compact_segments p t)) ≤ text_limit → ReadsAfter op c (new_text (compact_segments p t))
+    reads_as new takes t text piece size =
+        let e : List ℕ = rows_text h.front [] in
+        let m : List ℕ = row_front h.mark in
+        let parts : h.start ++ (e ++ (m ++ (t ++ (last ++ z)))) ≡ ((h.start ++ e) ++ m) ++ (t ++ (last ++ z)) = simp append_assoc refl in
+        let same : cut_text (put_document doc (inserted h.front new h.back h.p) c) ≡ new_text (compact_segments p t) =
+        q_text doc s ss c h v new takes ∙ (ap (λ r. h.start ++ (e ++ r)) text ∙ (parts ∙ new_there t)) in
+        subst (ReadsAfter op c) same (node_reads doc s ss c h v new takes may (subst IsReadable (sym same) (segments_readable (compact_segments p t) (new_pieces t piece) size)))
+
+    -- ---- inline behind the dash
+
+    module _ (text : List ℕ) (for : IsWrittenFor v text) where
+      abbrev beside : List Row
+      beside = rows_beside doc s ss c h v for.node for.is (Nothing last) (holding last z last_tail quiet)
+
+      beside_text : rows_text beside z ≡ row_front h.mark ++ ((32 ∷ text) ++ (last ++ z))
+      beside_text =
+          row_front-append (with_content (spaced for.node last) h.mark) z
+          ∙ ap (λ r. row_front h.mark ++ (32 ∷ r)) (node_then for.node (last ++ z) ∙ ap (λ r. r ++ (last ++ z)) for.text)
+
+      pub beside_reads : length (new_text (compact_segments p (32 ∷ text))) ≤ text_limit → ReadsAfter op c (new_text (compact_segments p (32 ∷ text)))
+      beside_reads =
+          reads_as beside (takes_beside doc s ss c h v for.node for.is (Nothing last) (holding last z last_tail quiet)) (32 ∷ text) beside_text (byte_then 32 text refl for.piece)
+
+    -- ---- in rows
+
+    module _ (value_tree : IsValueTree v) (filled : InRows v) (near : HasNearKeys v) where
+      abbrev column : ℕ
+      column = item_column (mark_column h.mark)
+
+      value_piece : IsPiece (block_value l column v)
+      value_piece = let e = value_sound v l column value_tree in record { utf8 = e.0; characters = e.1 }
+
+      -- the first one on the line of the dash
+      abbrev behind : List Row
+      behind = behind_rows doc s ss c h l (mapping_least doc c) v filled near last refl (end_is doc s ss c h last last_tail) quiet no_comment (unnamed doc s ss c k)
+
+      compact_reads_so : length (new_text (compact_segments p (behind_space l (mark_column h.mark) v))) ≤ text_limit → ReadsAfter op c (new_text (compact_segments p (behind_space l (mark_column h.mark) v)))
+      compact_reads_so =
+          reads_as behind (takes_behind doc s ss c h l (mapping_least doc c) v filled near last refl (end_is doc s ss c h last last_tail) quiet no_comment (unnamed doc s ss c k)) (behind_space l (mark_column h.mark) v)
+          (behind_spelled doc s ss c h l (mapping_least doc c) v filled near last refl (end_is doc s ss c h last last_tail) quiet no_comment (unnamed doc s ss c k)) (byte_then 32 (block_value l column v) refl value_piece)
+
+      -- all on lines under it
+      abbrev held : List ℕ
+      held = break_text l.br
+
+      abbrev below : List ℕ
+      below = rows_text (node_rows l column last v) z
+
+      break_holds : IsHolding doc s ss c h (Nothing held) below
+      break_holds = holding held below (break_tail l.br below) (quiet_tail held below (break_tail l.br below) refl)
+
+      abbrev under : List Row
+      under = rows_under doc s ss c h l (mapping_least doc c) v filled near (Nothing held) last break_holds (end_is doc s ss c h last last_tail) quiet
+
+      under_text : rows_text under z ≡ row_front h.mark ++ (lines_below l column v ++ (last ++ z))
+      under_text =
+          let parts : held ++ (replicate column 32 ++ (block_value l column v ++ (last ++ z))) ≡ lines_below l column v ++ (last ++ z) = simp append_assoc refl in
+          row_front-append (with_content (Nothing held) h.mark) (rows_text (node_rows l column last v) z)
+          ∙ ap (λ r. row_front h.mark ++ r) (ap (λ r. held ++ r) (value_spelled v l column last z filled.filled filled.value) ∙ parts)
+
+      lines_piece : IsPiece (lines_below l column v)
+      lines_piece = pieces_joined held (replicate column 32 ++ block_value l column v) (break_piece l.br) (pieces_joined (replicate column 32) (block_value l column v) (spaces_piece column) value_piece)
+
+      under_reads : length (new_text (compact_segments p (lines_below l column v))) ≤ text_limit → ReadsAfter op c (new_text (compact_segments p (lines_below l column v)))
+      under_reads =
+          reads_as under (takes_under doc s ss c h l (mapping_least doc c) v filled near (Nothing held) last break_holds (end_is doc s ss c h last last_tail) quiet) (lines_below l column v) under_text lines_piece
+
+      pub filled_reads : length (new_text (compact_segments p (filled_behind l v k.d))) ≤ text_limit → ReadsAfter op c (new_text (compact_segments p (filled_behind l v k.d)))
+      filled_reads =
+          subst (λ n. length (new_text (compact_segments p (cond k.d.noted (lines_below l (item_column n) v) (behind_space l n v)))) ≤ text_limit → ReadsAfter op c (new_text (compact_segments p (cond k.d.noted (lines_below l (item_column n) v) (behind_space l n v)))))
+          (sym (column_is doc s ss c k)) (go k.d.noted)
+        where
+          go : (b : Bool) → length (new_text (compact_segments p (cond b (lines_below l column v) (behind_space l (mark_column h.mark) v)))) ≤ text_limit →
+              ReadsAfter op c (new_text (compact_segments p (cond b (lines_below l column v) (behind_space l (mark_column h.mark) v))))
+          go true = under_reads
+          go false = compact_reads_so
+
+-- ---- the way
+
+-- What the way gives: the dash, the end of the collection behind it, and what is written there.
+pub record IsCompactWay (doc : ℕ) (steps : List Step) (v : Node) (c : Cut) (us : List Segment) : Type 0 where
+  pub s : Step
+  pub ss : List Step
+  pub steps_are : steps ≡ s ∷ ss
+  pub there : IsCompact doc s ss c
+  pub text : List ℕ
+  pub written : value_behind (layout_of doc c) v there.d ≡ Some text
+  pub are : compact_segments (compact_upto there.d there.x) text ≡ us
+
+-- a root has no dash
+pub no_dash : (doc : ℕ) (c : Cut) (d : DashPlace) → dash_place doc [] c ≡ Some d → ⊥
+no_dash doc c d e = let y = bind_some (row_of_path doc [] c) e in none_some (row_found doc [] c y.0 y.1).seat_is
+
+compact_way : (doc : ℕ) (steps : List Step) (v : Node) (c : Cut) (us : List Segment) → read_at (cut_text c) ≡ Some c → replace_compact_way (replace doc steps v) c ≡ Some us → IsCompactWay doc steps v c us
+unfolding replace_compact_way
+compact_way doc steps v c us read e =
+    let p = bind_some (compact_place doc steps c) e in
+    let d = bind_some (dash_place doc steps c) p.1 in
+    let x = map_some (collection_end doc steps c) d.2 in
+    let t = map_some (value_behind (layout_of doc c) v p.0.dash) p.2 in
+    by steps d.0 d.1 x.0 x.1 t.0 (subst (λ (q : CompactPlace). value_behind (layout_of doc c) v q.dash ≡ Some t.0) (sym x.2) t.1) (subst (λ (q : CompactPlace). compact_segments q t.0 ≡ us) (sym x.2) t.2)
+  where
+    by : (steps : List Step) (d : DashPlace) → dash_place doc steps c ≡ Some d → (x : CollectionEnd) → collection_end doc steps c ≡ Some x → (t : List ℕ) → value_behind (layout_of doc c) v d ≡ Some t → compact_segments (compact_upto d x) t ≡ us →
+        IsCompactWay doc steps v c us
+    by [] d at x ends t written are = absurd (no_dash doc c d at)
+    by (s ∷ ss) d at x ends t written are = record { s = s; ss = ss; steps_are = refl; there = record { d = d; x = x; read = read; at = at; ends = ends }; text = t; written = written; are = are }
+
+compact_old : (doc : ℕ) (steps : List Step) (v : Node) (c : Cut) (us : List Segment) → read_at (cut_text c) ≡ Some c → replace_compact_way (replace doc steps v) c ≡ Some us → old_text us ≡ cut_text c
+compact_old doc steps v c us read e =
+    let k = compact_way doc steps v c us read e in
+    ap old_text (sym k.are) ∙ old_there doc k.s k.ss c k.there k.text
+
+same_document : {d g : Document} → Some d ≡ Some g → d ≡ g
+same_document h = cc
+
+reads_there : (doc : ℕ) (s : Step) (ss : List Step) (v : Node) (c : Cut) (k : IsCompact doc s ss c) (t : List ℕ) → value_behind (layout_of doc c) v k.d ≡ Some t → IsValueTree v → Fits (room_of (cut_text c)) (replace doc (s ∷ ss) v) (documents c) →
+    length (new_text (compact_segments (compact_upto k.d k.x) t)) ≤ text_limit → ReadsAfter (replace doc (s ∷ ss) v) c (new_text (compact_segments (compact_upto k.d k.x) t))
+reads_there doc s ss v c k t written value_tree fits = by (is_filled v) refl written
+  where
+    h : NodeRows doc s ss c
+    h = node doc s ss c k
+
+    d : reading.document_of h.p ≡ fits.0
+    d = same_document (sym (nth_map doc h.p reading.document_of (document_parts c) h.old.there) ∙ fits.1)
+
+    root : root_of h.p ≡ fits.0.root
+    root = ap (λ (q : Document). q.root) d
+
+    n : Node
+    n = fits.2.1.0
+
+    node_is : n ≡ content h.found.line h.found.under
+    node_is = some_same (sym fits.2.1.1 ∙ (ap (node_at (s ∷ ss)) (sym root) ∙ (path_node s ss (outline_of h.p) ∙ ap FoundNode h.is)))
+
+    used : is_used_inside (names_of (root_of h.p)) (Some n) ≡ false
+    used = ap (λ q. is_used_inside (names_of q) (Some n)) root ∙ fits.2.1.2
+
+    new : IsNewValue v (length (s ∷ ss))
+    new = new_value (length (s ∷ ss)) v value_tree (tree_unique v fits.2.0.0) fits.2.0.2
+
+    may : MayReplace v (content h.found.line h.found.under) (root_of h.p) (length (s ∷ ss))
+    may = subst (λ q. MayReplace v q (root_of h.p) (length (s ∷ ss))) node_is (record { value_is = new; spared = inside_spared (names_of (root_of h.p)) n used })
+
+    ReadsSo : List ℕ → Type 0
+    ReadsSo t = length (new_text (compact_segments (compact_upto k.d k.x) t)) ≤ text_limit → ReadsAfter (replace doc (s ∷ ss) v) c (new_text (compact_segments (compact_upto k.d k.x) t))
+
+    by : (b : Bool) → is_filled v ≡ b → cond b (Some (filled_behind (layout_of doc c) v k.d)) (option_map (λ t. 32 ∷ t) (value_written false [] v)) ≡ Some t →
+        length (new_text (compact_segments (compact_upto k.d k.x) t)) ≤ text_limit → ReadsAfter (replace doc (s ∷ ss) v) c (new_text (compact_segments (compact_upto k.d k.x) t))
+    by true full e = subst ReadsSo (some_same e) (filled_reads doc s ss c k v may value_tree (record { filled = filled_is v full; value = value_tree }) (near_keys v value_tree fits.2.0.1))
+    by false full e =
+        let m = map_some (value_written false [] v) e in
+        subst ReadsSo m.2 (beside_reads doc s ss c k v may m.0 (written_for false [] v m.0 value_tree (omega (arith, new.nested)) fits.2.0.1 m.1))
+
+compact_reads : (doc : ℕ) (steps : List Step) (v : Node) (c : Cut) (us : List Segment) → read_at (cut_text c) ≡ Some c → replace_compact_way (replace doc steps v) c ≡ Some us → IsValueTree v → Fits (room_of (cut_text c)) (replace doc steps v) (documents c) →
+    length (new_text us) ≤ text_limit → ReadsAfter (replace doc steps v) c (new_text us)
+compact_reads doc steps v c us read e value_tree fits size =
+    let k = compact_way doc steps v c us read e in
+    subst (λ z. ReadsAfter (replace doc steps v) c (new_text z)) k.are
+    (subst (λ (p : List Step). ReadsAfter (replace doc p v) c (new_text (compact_segments (compact_upto k.there.d k.there.x) k.text))) (sym k.steps_are)
+    (reads_there doc k.s k.ss v c k.there k.text k.written value_tree (subst (λ (p : List Step). Fits (room_of (cut_text c)) (replace doc p v) (documents c)) k.steps_are fits)
+    (subst (λ z. length (new_text z) ≤ text_limit) (sym k.are) size)))
+
+pub replace_compact_is : IsWay replace_compact_way
+unfolding replace_compact_way
+replace_compact_is = record { old = old; reads = reads }
+  where
+    old : (op : Operation) (c : Cut) (us : List Segment) → read_at (cut_text c) ≡ Some c → replace_compact_way op c ≡ Some us → old_text us ≡ cut_text c
+    old (replace doc steps v) c us read is = compact_old doc steps v c us read is
+    old (append doc steps key v) c us read is = absurd (none_some is)
+    old (remove doc steps) c us read is = absurd (none_some is)
+    old (line_comment doc steps text) c us read is = absurd (none_some is)
+    old (head_comment doc steps text) c us read is = absurd (none_some is)
+
+    reads : (op : Operation) (c : Cut) (us : List Segment) → read_at (cut_text c) ≡ Some c → replace_compact_way op c ≡ Some us → HasOperand op → Fits (room_of (cut_text c)) op (documents c) →
+        length (new_text us) ≤ text_limit → ReadsAfter op c (new_text us)
+    reads (replace doc steps v) c us read is operand fits size = compact_reads doc steps v c us read is operand fits size
+    reads (append doc steps key v) c us read is operand fits size = absurd (none_some is)
+    reads (remove doc steps) c us read is operand fits size = absurd (none_some is)
+    reads (line_comment doc steps text) c us read is operand fits size = absurd (none_some is)
+    reads (head_comment doc steps text) c us read is operand fits size = absurd (none_some is)

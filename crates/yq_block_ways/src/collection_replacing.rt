@@ -1,0 +1,134 @@
+//! The way to replace a block collection under a key or dash.
+ghost use Rattle.std.specs.Prelude.{◌≡◌, ◌∷◌, ℕ, List, IfOk, Some, option_map, string_bytes};
+ghost use Rattle.yq_inline.specs.Values as values;
+ghost use Rattle.yq_tree.specs.CollectionTelling.{collection_told};
+ghost use Rattle.yq_tree.specs.Located.{steps_of};
+ghost use Rattle.yq_tree.specs.MarkTelling.{mark_told};
+ghost use Rattle.yq_tree.specs.PrintedLines as lines;
+ghost use Rattle.yq_tree.specs.Reading.{cut_of};
+ghost use Rattle.yq_tree.specs.declared.places.collection_end.CollectionEnd.{CollectionEnd as CollectionEndOf};
+ghost use Rattle.yq_tree.specs.declared.places.mark_place.MarkPlace.{MarkPlace as MarkPlaceOf};
+ghost use Rattle.yq_expr.specs.Operations.{operation_of};
+ghost use Rattle.yq_block_ways.specs.CollectionReplacing as spec;
+ghost use Rattle.yq_ways.specs.WayAnswers.{Carries};
+
+use crate::block_writing::{below_mark, lines_below};
+use std::alloc::{AllocError, Global};
+use yq_block::{Layout, is_filled};
+use yq_expr::{Op, Value};
+use yq_script::{Edited, ExchangeError, Segment, exchange};
+use yq_tree::{CollectionEnd, Documents, MarkPlace, Path, split_break};
+use yq_ways::{inline_written, layout_of};
+
+/// A text up to the rest in which it ends, less its last break, and that break.
+pub(crate) fn lines_upto<'d>(text: &'d str, rest: &str) -> (&'d str, &'d str)
+    requires { spec.EndsIn text.now rest.now }
+    ensures gone { result.0.now ≡ lines.less_break (spec.up_to text.now rest.now) }
+    ensures last { result.1.now ≡ lines.last_break (spec.up_to text.now rest.now) }
+{
+    let (own, _) = text.split_at(text.len() - rest.len());
+    split_break(own)
+}
+
+/// A text behind a space.
+pub(crate) fn spaced(alloc: Global, text: &str) -> Result<String, AllocError>
+    ensures { IfOk result (λ s. string_bytes s ≡ 32 ∷ text.now) }
+{
+    let mut out = String::new(alloc);
+    out.push_str(" ")?;
+    out.push_str(text)?;
+    Ok(out)
+}
+
+/// What is written of a value in the place of a block collection under a key or dash: the text
+/// behind that, and the lines under it.
+fn written_there(
+    alloc: Global,
+    layout: &Layout,
+    place: &MarkPlace<'_>,
+    value: &Value,
+) -> Result<Option<(String, String)>, AllocError>
+    ensures { IfOk result (λ w. option_map (λ p. spec.written_of (string_bytes p.0) (string_bytes p.1)) w ≡ spec.written_there layout.now (values.node_of value.now) (mark_told place.now)) }
+{
+    if is_filled(value) {
+        let column = below_mark(layout, place, value)?;
+        let below = lines_below(alloc, layout, column, value)?;
+        return Ok(Some((String::new(alloc), below)));
+    }
+    let Some(text) = inline_written(alloc, "", false, value)? else {
+        return Ok(None);
+    };
+    Ok(Some((spaced(alloc, &text)?, String::new(alloc))))
+}
+
+/// The key or dash of the entry or item at a path, and the end of the block collection under it.
+fn lines_under<'d>(
+    documents: &'d Documents<'_>,
+    path: &Path,
+) -> Option<(MarkPlace<'d>, CollectionEnd<'d>)>
+    ensures ends { (w : MarkPlaceOf) (x : CollectionEndOf) → result ≡ Some (w, x) → spec.EndsIn w.behind.now x.behind.now }
+    ensures place { option_map (λ p. spec.lines_upto (mark_told p.0) (collection_told p.1)) result ≡ spec.lines_under path.now.doc (steps_of path.now) (cut_of documents.now) }
+{
+    let _whole = documents.whole();
+    let mark = documents.mark_place(path)?;
+    let end = documents.collection_end(path)?;
+    Some((mark, end))
+}
+
+/// Texts put in the place of a block collection: one behind a key or dash, and one under it.
+fn exchange_under(
+    alloc: Global,
+    mark: &MarkPlace<'_>,
+    end: &CollectionEnd<'_>,
+    beside: &str,
+    below: &str,
+) -> Result<Option<Edited>, ExchangeError>
+    requires { spec.EndsIn mark.now.behind.now end.now.behind.now }
+    ensures { Carries result (Some (spec.exchange_segments (spec.lines_upto (mark_told mark.now) (collection_told end.now)) (spec.written_of beside.now below.now))) }
+{
+    let (gone, last) = lines_upto(mark.behind, end.behind);
+    let segments = [
+        Segment::Keep(mark.before),
+        Segment::Keep(mark.gone),
+        Segment::Put("", beside),
+        Segment::Keep(mark.white),
+        Segment::Keep(mark.comment),
+        Segment::Put(gone, below),
+        Segment::Keep(last),
+        Segment::Keep(end.behind),
+    ];
+    Ok(Some(exchange(alloc, &segments)?))
+}
+
+/// A value put in the place of the block collection at a path.
+fn exchange_collection(
+    alloc: Global,
+    documents: &Documents<'_>,
+    path: &Path,
+    value: &Value,
+) -> Result<Option<Edited>, ExchangeError>
+    ensures { Carries result (spec.collection_exchanged path.now.doc (steps_of path.now) (values.node_of value.now) (cut_of documents.now)) }
+{
+    let Some((mark, end)) = lines_under(documents, path) else {
+        return Ok(None);
+    };
+    let layout = layout_of(documents, path.doc);
+    let Some((beside, below)) = written_there(alloc, &layout, &mark, value)? else {
+        return Ok(None);
+    };
+    exchange_under(alloc, &mark, &end, &beside, &below)
+}
+
+/// An operation carried out by a value in the place of a block collection under a key or dash.
+pub fn replace_collection_way(
+    alloc: Global,
+    documents: &Documents<'_>,
+    op: &Op,
+) -> Result<Option<Edited>, ExchangeError>
+    ensures { Carries result (spec.replace_collection_way (operation_of op.now) (cut_of documents.now)) }
+{
+    let Op::Replace(path, value) = op else {
+        return Ok(None);
+    };
+    exchange_collection(alloc, documents, path, value)
+}

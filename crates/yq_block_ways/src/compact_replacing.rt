@@ -1,0 +1,124 @@
+//! The way to replace a compact collection, which begins on the line of a dash.
+ghost use Rattle.std.specs.Prelude.{◌≡◌, IfOk, Some, option_map, string_bytes};
+ghost use Rattle.yq_inline.specs.Values as values;
+ghost use Rattle.yq_tree.specs.CollectionTelling.{collection_told};
+ghost use Rattle.yq_tree.specs.DashTelling.{dash_told};
+ghost use Rattle.yq_tree.specs.Located.{steps_of};
+ghost use Rattle.yq_tree.specs.Reading.{cut_of};
+ghost use Rattle.yq_tree.specs.declared.places.collection_end.CollectionEnd.{CollectionEnd as CollectionEndOf};
+ghost use Rattle.yq_tree.specs.declared.places.dash_place.DashPlace.{DashPlace as DashPlaceOf};
+ghost use Rattle.yq_expr.specs.Operations.{operation_of};
+ghost use Rattle.yq_block_ways.specs.CollectionReplacing.{EndsIn};
+ghost use Rattle.yq_block_ways.specs.CompactReplacing as spec;
+ghost use Rattle.yq_ways.specs.WayAnswers.{Carries};
+
+use crate::block_writing::{behind_dash, behind_space, lines_below};
+use crate::collection_replacing::{lines_upto, spaced};
+use std::alloc::{AllocError, Global};
+use yq_block::{Layout, is_filled};
+use yq_expr::{Op, Value};
+use yq_script::{Edited, ExchangeError, Segment, exchange};
+use yq_tree::{CollectionEnd, DashPlace, Documents, Path};
+use yq_ways::{inline_written, layout_of};
+
+/// What is written of a collection with items or entries behind a dash, or on lines under it.
+fn filled_behind(
+    alloc: Global,
+    layout: &Layout,
+    place: &DashPlace<'_>,
+    value: &Value,
+) -> Result<String, AllocError>
+    ensures { IfOk result (λ s. string_bytes s ≡ spec.filled_behind layout.now (values.node_of value.now) (dash_told place.now)) }
+{
+    if place.noted {
+        let column = behind_dash(place.column)?;
+        lines_below(alloc, layout, column, value)
+    } else {
+        behind_space(alloc, layout, place.column, value)
+    }
+}
+
+/// What is written of a value behind a dash in the place of a compact collection.
+fn value_behind(
+    alloc: Global,
+    layout: &Layout,
+    place: &DashPlace<'_>,
+    value: &Value,
+) -> Result<Option<String>, AllocError>
+    ensures { IfOk result (λ w. option_map string_bytes w ≡ spec.value_behind layout.now (values.node_of value.now) (dash_told place.now)) }
+{
+    if is_filled(value) {
+        return Ok(Some(filled_behind(alloc, layout, place, value)?));
+    }
+    let Some(text) = inline_written(alloc, "", false, value)? else {
+        return Ok(None);
+    };
+    Ok(Some(spaced(alloc, &text)?))
+}
+
+/// The dash of the item at a path, and the end of the compact collection behind it.
+fn compact_place<'d>(
+    documents: &'d Documents<'_>,
+    path: &Path,
+) -> Option<(DashPlace<'d>, CollectionEnd<'d>)>
+    ensures ends { (d : DashPlaceOf) (x : CollectionEndOf) → result ≡ Some (d, x) → EndsIn d.behind.now x.behind.now }
+    ensures place { option_map (λ p. spec.compact_upto (dash_told p.0) (collection_told p.1)) result ≡ spec.compact_place path.now.doc (steps_of path.now) (cut_of documents.now) }
+{
+    let _whole = documents.whole();
+    let dash = documents.dash_place(path)?;
+    let end = documents.collection_end(path)?;
+    Some((dash, end))
+}
+
+/// A text put in the place of the compact collection behind a dash.
+fn exchange_behind(
+    alloc: Global,
+    dash: &DashPlace<'_>,
+    end: &CollectionEnd<'_>,
+    text: &str,
+) -> Result<Option<Edited>, ExchangeError>
+    requires { EndsIn dash.now.behind.now end.now.behind.now }
+    ensures { Carries result (Some (spec.compact_segments (spec.compact_upto (dash_told dash.now) (collection_told end.now)) text.now)) }
+{
+    let (gone, last) = lines_upto(dash.behind, end.behind);
+    let segments = [
+        Segment::Keep(dash.before),
+        Segment::Put(gone, text),
+        Segment::Keep(last),
+        Segment::Keep(end.behind),
+    ];
+    Ok(Some(exchange(alloc, &segments)?))
+}
+
+/// A value put in the place of the compact collection at a path.
+fn exchange_compact(
+    alloc: Global,
+    documents: &Documents<'_>,
+    path: &Path,
+    value: &Value,
+) -> Result<Option<Edited>, ExchangeError>
+    ensures { Carries result (spec.compact_exchanged path.now.doc (steps_of path.now) (values.node_of value.now) (cut_of documents.now)) }
+{
+    let Some((dash, end)) = compact_place(documents, path) else {
+        return Ok(None);
+    };
+    let layout = layout_of(documents, path.doc);
+    let Some(text) = value_behind(alloc, &layout, &dash, value)? else {
+        return Ok(None);
+    };
+    exchange_behind(alloc, &dash, &end, &text)
+}
+
+/// An operation carried out by a value in the place of a compact collection.
+pub fn replace_compact_way(
+    alloc: Global,
+    documents: &Documents<'_>,
+    op: &Op,
+) -> Result<Option<Edited>, ExchangeError>
+    ensures { Carries result (spec.replace_compact_way (operation_of op.now) (cut_of documents.now)) }
+{
+    let Op::Replace(path, value) = op else {
+        return Ok(None);
+    };
+    exchange_compact(alloc, documents, path, value)
+}

@@ -1,0 +1,155 @@
+//! The way to replace a block scalar by a value that is written inline on the line of its header.
+ghost use Rattle.std.specs.List.{list_any};
+ghost use Rattle.std.specs.Prelude.{◌≡◌, [], IfOk, Some, if◌then◌else◌, not, option_map, string_bytes};
+ghost use Rattle.yq_expr.specs.Operations.{operation_of};
+ghost use Rattle.yq_inline.specs.Values as values;
+ghost use Rattle.yq_scalar.specs.Text.{is_empty, is_feed};
+ghost use Rattle.yq_tree.specs.Nodes.{node_of};
+ghost use Rattle.yq_tree.specs.PrintedLines as lines;
+ghost use Rattle.yq_tree.specs.Reading.{cut_of};
+ghost use Rattle.yq_tree.specs.ScalarTelling.{scalar_told};
+ghost use Rattle.yq_block_ways.specs.ScalarReplacing as spec;
+ghost use Rattle.yq_ways.specs.WayAnswers.{Carries};
+
+use std::alloc::{AllocError, Global};
+use yq_expr::{Op, Value};
+use yq_scalar::lines::split_at_break;
+use yq_scalar::text::split_white;
+use yq_scalar::{Place, Style, can_write, write_scalar};
+use yq_script::{Edited, ExchangeError, Segment, exchange};
+use yq_tree::{Documents, Node, NodeKind, ScalarPlace, split_break};
+use yq_ways::{inline_written, is_kept};
+
+/// Whether a text holds more than line breaks.
+fn holds_text(text: &str) -> bool
+    ensures { result ≡ list_any (λ b. not (is_feed b)) text.now }
+{
+    text.as_bytes().iter().any(|b| *b != b'\n')
+}
+
+/// Whether a node, if there is one, is a scalar that holds more than line breaks.
+pub(crate) fn has_text(node: Option<Node<'_, '_>>) -> bool
+    ensures { result ≡ spec.has_text (option_map node_of node.entry) }
+{
+    let Some(node) = node else {
+        return false;
+    };
+    let NodeKind::Scalar(_) = node.kind() else {
+        return false;
+    };
+    holds_text(node.text())
+}
+
+/// How a value is written in the place of a block scalar, with a text line or without, if it is
+/// written inline there.
+fn line_written(alloc: Global, text: bool, value: &Value) -> Result<Option<String>, AllocError>
+    ensures { IfOk result (λ s. option_map string_bytes s ≡ spec.line_written text (values.node_of value.now)) }
+{
+    let Value::Scalar(scalar) = value else {
+        return inline_written(alloc, "", false, value);
+    };
+    if !(text && can_write(scalar, Style::Double, Place::Block)) {
+        return inline_written(alloc, "", false, value);
+    }
+    if can_write(scalar, Style::Literal, Place::Block) {
+        return Ok(None);
+    }
+    Ok(Some(write_scalar(alloc, scalar, Style::Double, Place::Block)?))
+}
+
+/// The break of a header's line where lines are behind it, those lines less the last break, and that.
+pub(crate) fn split_lines<'d>(header_break: &'d str, raw: &'d str) -> (&'d str, &'d str, &'d str)
+    ensures before { result.0.now ≡ (if is_empty raw.now then [] else header_break.now) }
+    ensures lines { result.1.now ≡ lines.less_break raw.now }
+    ensures last { result.2.now ≡ (if is_empty raw.now then header_break.now else lines.last_break raw.now) }
+{
+    let (lines, last) = split_break(raw);
+    if raw.is_empty() {
+        ("", lines, header_break)
+    } else {
+        (header_break, lines, last)
+    }
+}
+
+/// A text in the place of a block scalar, on the line of its header.
+fn put_line(
+    alloc: Global,
+    place: ScalarPlace<'_>,
+    text: &str,
+) -> Result<Option<Edited>, ExchangeError>
+    ensures { Carries result (Some (spec.line_segments (scalar_told place.entry) text.now)) }
+{
+    let (white, rest) = split_white(place.tail);
+    let (comment, header_break) = split_at_break(rest);
+    let (before, lines, last) = split_lines(header_break, place.raw);
+    let segments = [
+        Segment::Keep(place.before),
+        Segment::Keep(place.space),
+        Segment::Put(place.header, text),
+        Segment::Keep(white),
+        Segment::Keep(comment),
+        Segment::Put(before, ""),
+        Segment::Put(lines, ""),
+        Segment::Keep(last),
+        Segment::Keep(place.behind),
+    ];
+    Ok(Some(exchange(alloc, &segments)?))
+}
+
+/// Another header and other lines in the place of those of a block scalar.
+pub(crate) fn put_scalar(
+    alloc: Global,
+    place: ScalarPlace<'_>,
+    header: &str,
+    raw: &str,
+) -> Result<Option<Edited>, ExchangeError>
+    ensures { Carries result (Some (spec.scalar_segments (scalar_told place.entry) header.now raw.now)) }
+{
+    let segments = [
+        Segment::Keep(place.before),
+        Segment::Keep(place.space),
+        Segment::Put(place.header, header),
+        Segment::Keep(place.tail),
+        Segment::Put(place.raw, raw),
+        Segment::Keep(place.behind),
+    ];
+    Ok(Some(exchange(alloc, &segments)?))
+}
+
+/// A value in the place of a block scalar, if it is written inline there.
+fn line_at(
+    alloc: Global,
+    place: ScalarPlace<'_>,
+    kept: bool,
+    text: bool,
+    value: &Value,
+) -> Result<Option<Edited>, ExchangeError>
+    ensures { Carries result (spec.line_at kept text (values.node_of value.now) (scalar_told place.entry)) }
+{
+    if kept {
+        return put_scalar(alloc, place, place.header, place.raw);
+    }
+    let Some(written) = line_written(alloc, text, value)? else {
+        return Ok(None);
+    };
+    put_line(alloc, place, &written)
+}
+
+/// An operation carried out by a value that is written inline in the place of a block scalar.
+pub fn scalar_line_way(
+    alloc: Global,
+    documents: &Documents<'_>,
+    op: &Op,
+) -> Result<Option<Edited>, ExchangeError>
+    ensures { Carries result (spec.scalar_line_way (operation_of op.now) (cut_of documents.now)) }
+{
+    let Op::Replace(path, value) = op else {
+        return Ok(None);
+    };
+    let Some(place) = documents.scalar_place(path) else {
+        return Ok(None);
+    };
+    let kept = is_kept(documents.locate(path), value);
+    let text = has_text(documents.locate(path));
+    line_at(alloc, place, kept, text, value)
+}

@@ -1,0 +1,16 @@
+use Rattle.std.proofs.lemmas.Result.{err_from_is_err_and}
+use Rattle.yq_tree.specs.Reading.{cut_of}
+use Rattle.yq_expr.specs.Operations.{operation_of}
+use Rattle.yq_carrying.specs.Carrying.{remove_ways}
+use Rattle.yq_ways.specs.Removing.{remove_way}
+use Rattle.yq_ways.specs.RemovingFirst.{remove_first_way}
+use Rattle.yq_carrying.proofs.WayLaws.{first_way_fails}
+use Rattle.yq_carrying.proofs.ways.by_remove_ways.Goals as goal
+
+pub returns-in_err-edited : goal.returns-in_err-edited
+unfolding remove_ways
+returns-in_err-edited c =
+    let p = err_from_is_err_and c.from_residual.result c.from_residual.ensures.1 in
+    let op = operation_of c.args.op.now in
+    let cut = cut_of c.args.documents.now in
+    rw (p.1, p.2) (first_way_fails _ (remove_way op cut) (remove_first_way op cut) c.in_err-edited.ensures)

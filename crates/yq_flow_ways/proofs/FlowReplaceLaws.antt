@@ -1,0 +1,270 @@
+-- The content of an item or entry of a flow collection gives way to a value.
+use Rattle.std.proofs.Common.{◌≡◌, ℕ, ◌-◌, ◌≤◌, Bool, true, false, List, [], ◌∷◌, ◌++◌, length, Option, Some, None, refl, sym, ap, ◌∙◌, subst, arith, ◌+◌, append-nil, length-append}
+use Rattle.std.proofs.lemmas.Bool.{cond_both}
+use Rattle.std.specs.Str.{IsCharBoundary}
+use Rattle.yq_scalar.specs.Answers.{◌>>=◌}
+use Rattle.yq_scalar.specs.Characters.{text_limit}
+use Rattle.yq_scalar.specs.Keys.{depth}
+use Rattle.yq_scalar.specs.Paths.{Step, change, change_child, is_here, further, node_at, within}
+use Rattle.yq_scalar.specs.Scalar.{ScalarText}
+use Rattle.yq_scalar.specs.Tree as tree
+use Rattle.yq_scalar.specs.declared.style.Place.TheVariants.{Flow}
+use Rattle.yq_inline.specs.Collections.{CollAt, IsCollAt, item_in, room_in}
+use Rattle.yq_inline.specs.Entries.{EntryPieces}
+use Rattle.yq_inline.specs.FlowEdits.{FlowEdit, IsEdited, anchor_in, content_node, put_content, put_item, put_value, replacing, space_for, spaced_key}
+use Rattle.yq_inline.specs.Nodes as inline
+use Rattle.yq_inline.specs.Nodes.{Key, bare, keyed, Items, none, item, is_bare, node_text}
+use Rattle.yq_inline.specs.Places.{locate}
+use Rattle.yq_inline.specs.Scalars.{style_of}
+use Rattle.yq_inline.specs.Trees.{inner, key_content, named, scalar_node}
+use Rattle.yq_inline.specs.Valued.{IsValueTree}
+use Rattle.yq_inline.proofs.EditLaws.{around_is}
+use Rattle.yq_inline.proofs.EditSpans.{EditIsSpan, replace_spans}
+use Rattle.yq_inline.proofs.PathLaws.{items_hold}
+use Rattle.yq_inline.proofs.PlacedEdits.{replace_placed}
+use Rattle.yq_inline.proofs.ValueEdits.{change_last, scalar_replaced, value_replaced}
+use Rattle.yq_inline.proofs.ValueFits.{scalar_block}
+use Rattle.yq_lines.specs.Anchors.{names_of}
+use Rattle.yq_lines.specs.Outline.{anchored}
+use Rattle.yq_rows.specs.Rows.{Cut, cut_text}
+use Rattle.yq_tree.specs.Documents.{Document, EachHasFitKeys, HasFitKey, HasFitKeys, document_parts, lead_of}
+use Rattle.yq_tree.specs.Nodes.{anchor_of}
+use Rattle.yq_tree.specs.Reading as reading
+use Rattle.yq_tree.specs.Reading.{documents, read_at, root_of}
+use Rattle.yq_tree.specs.TreeEdits.{replaced}
+use Rattle.yq_tree.proofs.FlowPieces.{named_is, none_anchored}
+use Rattle.yq_change.specs.FlowRows.{FlowAt}
+use Rattle.yq_change.specs.Rooms.{is_block_root}
+use Rattle.yq_change.specs.SoundRoots.{IsNewValue, IsSoundRoot}
+use Rattle.yq_change.specs.TextPieces.{IsPiece}
+use Rattle.yq_change.proofs.FlowKeptLaws.{flow_keys}
+use Rattle.yq_change.proofs.PartLaws.{document_known}
+use Rattle.yq_change.proofs.SoundRootLaws.{replace_keeps}
+use Rattle.yq_expr.specs.Changes.{has_long_key, is_used_inside}
+use Rattle.yq_expr.specs.Fits.{Fits}
+use Rattle.yq_expr.specs.Operations.{Operation, replace, append, remove, line_comment, head_comment}
+use Rattle.yq_expr.specs.Rooms.{room_of}
+use Rattle.yq_script.specs.Script.{Segment, old_text, new_text}
+use Rattle.yq_flow_ways.specs.FlowWays.{content_written, flow_replace_way, flow_segments, flow_value, last_step, replaced_by}
+use Rattle.yq_ways.specs.Operands.{HasOperand}
+use Rattle.yq_ways.specs.Replacing.{are_same, is_kept, node_in, scalar_in}
+use Rattle.yq_ways.specs.Style.{style_in}
+use Rattle.yq_ways.specs.Ways.{IsWay, ReadsAfter}
+use Rattle.yq_ways.proofs.DoneLaws.{nth_map}
+use Rattle.yq_ways.proofs.FitLaws.{inside_spared, new_value, tree_unique}
+use Rattle.yq_flow_ways.proofs.FlowPieceLaws.{edit_pieces, nothing_piece, one_space}
+use Rattle.yq_flow_ways.proofs.FlowSoundLaws.{last_is}
+use Rattle.yq_flow_ways.proofs.FlowStandings as standing
+use Rattle.yq_flow_ways.proofs.FlowStandings.{EntryAt, entry_made, entry_placed}
+use Rattle.yq_flow_ways.proofs.FlowWayLaws.{before_is, flow_made, segments_old}
+use Rattle.yq_flow_ways.proofs.FlowWholeLaws.{StandsBefore, replaced_stands}
+use Rattle.yq_ways.proofs.FlowWritten.{flow_fits}
+use Rattle.yq_ways.proofs.KeptLaws.{kept_reads, led_same}
+use Rattle.yq_ways.proofs.ReplaceLaws.{style_line}
+use Rattle.yq_ways.proofs.StyleLaws.{style_inline, style_writes}
+use Rattle.yq_ways.proofs.ValueNodes.{flow_piece, scalar_is}
+
+-- ---- what is written of a value
+
+abbrev style_there : List ℕ → ScalarText → Rattle.yq_scalar.specs.declared.style.Style.Style
+style_there old s = style_in Flow s (style_of old)
+
+value_edited : (x : CollAt) (s : Step) (y : EntryPieces) (old : List ℕ) (v : tree.Node) → IsCollAt x → item_in s x ≡ Some y → IsValueTree v → depth v ≤ room_in x →
+    IsEdited x (replacing s y (flow_value old v) x.coll) (change (x.steps ++ (s ∷ [])) (put_value v))
+value_edited x s y old (tree.alias name) h at v deep = absurd v
+value_edited x s y old (tree.scalar a kind t) h at v deep =
+    let z : ScalarText = record { kind = kind; text = t } in
+    let e = replacing s y (flow_value old (tree.scalar a kind t)) x.coll in
+    let named : scalar_node z ≡ tree.scalar a kind t = ap (λ (b : Option (List ℕ)). tree.scalar b kind t) (sym v.0) in
+    subst (λ (n : tree.Node). IsEdited x e (change (x.steps ++ (s ∷ [])) (put_value n))) named
+    (scalar_replaced x s y z (style_there old z) h at v.1 (style_inline Flow z (style_of old) (style_line old)) (style_writes Flow z (style_of old)))
+value_edited x s y old (tree.list a cs) h at v deep = value_replaced x s y (tree.list a cs) h at v deep
+value_edited x s y old (tree.map a cs) h at v deep = value_replaced x s y (tree.map a cs) h at v deep
+
+written_piece : (old : List ℕ) (v : tree.Node) → IsValueTree v → IsPiece (node_text (flow_value old v) [])
+unfolding node_text
+written_piece old (tree.alias name) v = absurd v
+written_piece old (tree.scalar a kind t) v =
+    let z : ScalarText = record { kind = kind; text = t } in
+    let fits = style_inline Flow z (style_of old) (style_line old) in
+    subst IsPiece (sym (append-nil _)) (scalar_is a kind t (style_there old z) v fits (scalar_block z (style_there old z) fits (style_writes Flow z (style_of old)))).1
+written_piece old (tree.list a cs) v = flow_piece (tree.list a cs) v
+written_piece old (tree.map a cs) v = flow_piece (tree.map a cs) v
+
+-- ---- keys
+
+value_keys : (old : List ℕ) (v : tree.Node) → has_long_key v ≡ false → HasFitKeys (flow_value old v)
+value_keys old (tree.alias name) h = tt
+value_keys old (tree.scalar a kind t) h = tt
+value_keys old (tree.list a cs) h = flow_fits (tree.list a cs) h
+value_keys old (tree.map a cs) h = flow_fits (tree.map a cs) h
+
+spaced_fit : (key : Key) → HasFitKey key → HasFitKey (spaced_key key)
+spaced_fit bare h = tt
+spaced_fit (keyed p b g) h = h
+
+content_fit : (m : inline.Node) (key : Key) (n : inline.Node) → HasFitKeys m → HasFitKey key → HasFitKey (put_content m key n).0 × HasFitKeys (put_content m key n).1
+content_fit m key inline.empty h k = (spaced_fit key k, h)
+content_fit m key (inline.alias n) h k = (k, h)
+content_fit m key (inline.scalar p) h k = (k, h)
+content_fit m key (inline.coll close gap is) h k = (k, h)
+content_fit m key (inline.anchored n gap node) h k = (k, h)
+
+put_fit : (s : Step) (m : inline.Node) (is : Items) → HasFitKeys m → EachHasFitKeys is → EachHasFitKeys (put_item s m is)
+put_fit s m none h k = tt
+put_fit s m (item key n sep is) h k =
+    let x = content_fit m key n h k.0 in
+    cond_both (is_here s (inner (key_content key))) (item (put_content m key n).0 (put_content m key n).1 sep is) (item key n sep (put_item (further s) m is)) EachHasFitKeys
+    (λ _. (x.0, x.1, k.2)) (λ _. (k.0, k.1, put_fit (further s) m is h k.2))
+
+-- ---- the tree
+
+put_is : (v old : tree.Node) → put_value v old ≡ replaced v old
+put_is v old = ap (λ (a : Option (List ℕ)). named a v) (own old) ∙ go (anchor_of old)
+  where
+    own : (n : tree.Node) → anchor_in n ≡ anchor_of n
+    own (tree.alias name) = refl
+    own (tree.scalar a kind t) = refl
+    own (tree.list a cs) = refl
+    own (tree.map a cs) = refl
+
+    go : (a : Option (List ℕ)) → named a v ≡ anchored a v
+    go None = none_anchored v
+    go (Some a) = named_is a v
+
+-- the change at the last step of a path
+pub step_change : (path init : List Step) (s : Step) (f : tree.Node → tree.Node) → last_step path ≡ Some (init, s) → change init (within (change_child s f)) ≡ change path f
+step_change path init s f last = change_last init s f ∙ ap (λ (p : List Step). change p f) (sym (last_is path init s last))
+
+no_step : {x : List Step × Step} → None ≡ Some x → ⊥
+no_step e = cc
+
+pub below_root : (block : Bool) (path init : List Step) (s : Step) → last_step path ≡ Some (init, s) → path ≡ [] → block ≡ false
+below_root block path init s last none_left = absurd (no_step (ap last_step (sym none_left) ∙ last))
+
+space_there : (n : inline.Node) → IsPiece (space_for n)
+space_there n = cond_both (is_bare n) (32 ∷ []) [] IsPiece (λ _. one_space) (λ _. nothing_piece)
+
+-- ---- the way at an item or entry
+
+same_document : {d g : Document} → Some d ≡ Some g → d ≡ g
+same_document e = cc
+
+module _ (c : Cut) (doc : ℕ) (path : List Step) (v : tree.Node) (read : read_at (cut_text c) ≡ Some c) (a : EntryAt c doc path) where
+  abbrev pub at : FlowAt c doc a.init a.coll
+  at = standing.at c doc a.init a.coll read a.found
+
+  abbrev pub x : CollAt
+  x = standing.x c doc a.init a.coll read a.found
+
+  abbrev pub m : inline.Node
+  m = flow_value (content_written a.item.node) v
+
+  abbrev pub e : FlowEdit
+  e = replacing a.step a.item m a.coll
+
+  pub stands : IsCollAt x
+  stands = standing.stands c doc a.init a.coll read a.found
+
+  pub there : StandsBefore (cut_text c) (e.old ++ e.behind)
+  there = subst (λ (t : List ℕ). StandsBefore t (e.old ++ e.behind)) (sym (standing.row_text c doc a.init a.coll read a.found).old) (replaced_stands x (standing.row_text c doc a.init a.coll read a.found).before stands a.step a.item a.at)
+
+  pub bounds : IsCharBoundary (cut_text c) (length (cut_text c) - length (e.old ++ e.behind)) × IsCharBoundary (cut_text c) (length (cut_text c) - length e.behind)
+  bounds =
+      let p = standing.placed c doc a.init a.coll read a.found in
+      let spans = entry_placed (cut_text c) a.step p.node p.rest a.coll a.item p.is a.at p.spans in
+      let i = around_is x stands in
+      let is = items_hold i.inner_depth a.coll.close a.step a.coll.items a.coll.rest a.item i.items a.at in
+      subst (EditIsSpan (cut_text c)) (replace_placed true (Some 0) i.inner_depth (length (cut_text c)) a.step a.item m a.coll is) (replace_spans (cut_text c) (locate (length (cut_text c)) a.item.node a.item.rest) spans)
+
+  -- a value of which the operation fits
+  module _ (h : IsValueTree v) (fits : Fits (room_of (cut_text c)) (replace doc path v) (documents c)) where
+    root : fits.0.root ≡ root_of at.part
+    root = ap (λ (d : Document). d.root) (same_document (sym fits.1 ∙ nth_map doc at.part reading.document_of (document_parts c) at.there))
+
+    pub node_there : node_at path (root_of at.part) ≡ Some fits.2.1.0
+    node_there = ap (node_at path) (sym root) ∙ fits.2.1.1
+
+    new : IsNewValue v (length path)
+    new = new_value (length path) v h (tree_unique v fits.2.0.0) fits.2.0.2
+
+    room : depth v ≤ room_in x
+    room =
+        let size : length path ≡ length a.init + 1 = ap length (last_is path a.init a.step a.last) ∙ length-append a.init (a.step ∷ []) in
+        omega (arith, standing.fewer c doc a.init a.coll read a.found, new.nested, size)
+
+    edited : IsEdited x e (change at.rest (within (change_child a.step (replaced v))))
+    edited =
+        let same : change (at.rest ++ (a.step ∷ [])) (put_value v) ≡ change at.rest (within (change_child a.step (replaced v))) =
+        ap (change (at.rest ++ (a.step ∷ []))) (λ i n. put_is v n i) ∙ sym (change_last at.rest a.step (replaced v)) in
+        subst (IsEdited x e) same (value_edited x a.step a.item (content_written a.item.node) v stands a.at h room)
+
+    sound : IsSoundRoot (change a.init (within (change_child a.step (replaced v))) (root_of at.part))
+    sound =
+        let known = document_known (cut_text c) c doc at.part (standing.old c doc a.init a.coll read a.found) in
+        let old : IsSoundRoot (root_of at.part) = record { unique = known.document.unique; nested = known.document.nested; bound = known.document.bound } in
+        let used : is_used_inside (names_of (root_of at.part)) (Some fits.2.1.0) ≡ false = ap (λ n. is_used_inside (names_of n) (Some fits.2.1.0)) (sym root) ∙ fits.2.1.2 in
+        subst (λ (f : tree.Node → tree.Node). IsSoundRoot (f (root_of at.part))) (sym (step_change path a.init a.step (replaced v) a.last))
+        (replace_keeps path (root_of at.part) fits.2.1.0 v old node_there (record { value_is = new; spared = inside_spared (names_of (root_of at.part)) fits.2.1.0 used }))
+
+    pub replaced_reads : length (new_text (flow_segments (cut_text c) e)) ≤ text_limit → ReadsAfter (replace doc path v) c (new_text (flow_segments (cut_text c) e))
+    replaced_reads size =
+        let p = standing.piece c doc a.init a.coll read a.found in
+        let parts = edit_pieces (cut_text c) there.before e p there.text bounds.0 bounds.1 there.whole in
+        flow_made (replace doc path v) c a.init a.coll at e (change_child a.step (replaced v)) read (record {
+          edited = edited;
+          keys = flow_keys (cut_text c) c doc at.part a.init at.line at.rest at.row a.coll e.gap e.items (standing.old c doc a.init a.coll read a.found) at.at (put_fit a.step m a.coll.items (value_keys (content_written a.item.node) v fits.2.0.1));
+          sound = sound;
+          root =
+              ap (λ (f : tree.Node → tree.Node). f (root_of at.part)) (step_change path a.init a.step (replaced v) a.last)
+              ∙ ap (λ n. change path (replaced n) (root_of at.part)) (sym (led_same (is_block_root at.part) (lead_of at.part) path v (below_root (is_block_root at.part) path a.init a.step a.last)));
+          pieces = (subst IsPiece (sym (before_is (cut_text c) there.before (e.old ++ e.behind) there.text)) parts.0, (space_there (content_node a.item.node), (written_piece (content_written a.item.node) v h, (parts.1, tt))));
+        }) size
+
+-- ---- the way
+
+replaced_old : (kept : Bool) (v : tree.Node) (c : Cut) (doc : ℕ) (path : List Step) (read : read_at (cut_text c) ≡ Some c) (a : EntryAt c doc path) → old_text (replaced_by kept v c a.step a.coll a.item) ≡ cut_text c
+replaced_old true v c doc path read a = append-nil (cut_text c)
+replaced_old false v c doc path read a = let w = there c doc path v read a in segments_old (cut_text c) w.before (e c doc path v read a) w.text
+
+by_reads : (kept : Bool) (v : tree.Node) (c : Cut) (doc : ℕ) (path : List Step) (read : read_at (cut_text c) ≡ Some c) (a : EntryAt c doc path) → (h : IsValueTree v) (fits : Fits (room_of (cut_text c)) (replace doc path v) (documents c)) →
+    are_same (scalar_in fits.2.1.0) (scalar_in v) ≡ kept → length (new_text (replaced_by kept v c a.step a.coll a.item)) ≤ text_limit → ReadsAfter (replace doc path v) c (new_text (replaced_by kept v c a.step a.coll a.item))
+by_reads true v c doc path read a h fits same size =
+    subst (ReadsAfter (replace doc path v) c) (sym (append-nil (cut_text c))) (kept_reads doc path v c (at c doc path v read a).part read (at c doc path v read a).there fits.2.1.0 h (node_there c doc path v read a h fits) same)
+by_reads false v c doc path read a h fits same size = replaced_reads c doc path v read a h fits size
+
+replace_old : (doc : ℕ) (path : List Step) (v : tree.Node) (c : Cut) (ss : List Segment) → read_at (cut_text c) ≡ Some c → flow_replace_way (replace doc path v) c ≡ Some ss → old_text ss ≡ cut_text c
+replace_old doc path v c ss read way =
+    let kept : Bool = is_kept (node_in doc path c) v in
+    let a = entry_made (replaced_by kept v c) c doc path ss way in
+    ap old_text (sym a.1) ∙ replaced_old kept v c doc path read a.0
+
+replace_reads : (doc : ℕ) (path : List Step) (v : tree.Node) (c : Cut) (ss : List Segment) → read_at (cut_text c) ≡ Some c → flow_replace_way (replace doc path v) c ≡ Some ss → IsValueTree v → Fits (room_of (cut_text c)) (replace doc path v) (documents c) →
+    length (new_text ss) ≤ text_limit → ReadsAfter (replace doc path v) c (new_text ss)
+replace_reads doc path v c ss read way h fits size =
+    let kept : Bool = is_kept (node_in doc path c) v in
+    let a = entry_made (replaced_by kept v c) c doc path ss way in
+    let known : node_in doc path c ≡ Some fits.2.1.0 = ap (λ (o : Option Document). o >>= λ d. node_at path d.root) fits.1 ∙ fits.2.1.1 in
+    subst (λ (s : List Segment). ReadsAfter (replace doc path v) c (new_text s)) a.1
+    (by_reads kept v c doc path read a.0 h fits (sym (ap (λ o. is_kept o v) known)) (subst (λ (s : List Segment). length (new_text s) ≤ text_limit) (sym a.1) size))
+
+no_segments : {ss : List Segment} → None ≡ Some ss → ⊥
+no_segments e = cc
+
+pub flow_replace_is : IsWay flow_replace_way
+flow_replace_is = record { old = old_is; reads = reads_is }
+  where
+    old_is : (op : Operation) (c : Cut) (ss : List Segment) → read_at (cut_text c) ≡ Some c → flow_replace_way op c ≡ Some ss → old_text ss ≡ cut_text c
+    old_is (replace doc steps v) c ss read way = replace_old doc steps v c ss read way
+    old_is (append doc steps key v) c ss read way = absurd (no_segments way)
+    old_is (remove doc steps) c ss read way = absurd (no_segments way)
+    old_is (line_comment doc steps text) c ss read way = absurd (no_segments way)
+    old_is (head_comment doc steps text) c ss read way = absurd (no_segments way)
+
+    reads_is : (op : Operation) (c : Cut) (ss : List Segment) → read_at (cut_text c) ≡ Some c → flow_replace_way op c ≡ Some ss → HasOperand op → Fits (room_of (cut_text c)) op (documents c) →
+        length (new_text ss) ≤ text_limit → ReadsAfter op c (new_text ss)
+    reads_is (replace doc steps v) c ss read way operand fits size = replace_reads doc steps v c ss read way operand fits size
+    reads_is (append doc steps key v) c ss read way operand fits size = absurd (no_segments way)
+    reads_is (remove doc steps) c ss read way operand fits size = absurd (no_segments way)
+    reads_is (line_comment doc steps text) c ss read way operand fits size = absurd (no_segments way)
+    reads_is (head_comment doc steps text) c ss read way operand fits size = absurd (no_segments way)

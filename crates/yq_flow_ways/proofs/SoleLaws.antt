@@ -1,0 +1,307 @@
+-- A sole item or entry taken out by a way to replace nodes: an empty collection in the place of its own is what is left of that.
+use Rattle.std.proofs.Common.{◌≡◌, ℕ, zero, suc, ◌+◌, ◌-◌, ◌≤◌, cond, ltb, Bool, true, false, List, [], ◌∷◌, ◌++◌, length, map, take, Option, Some, None, option_map, option_and_then, refl, sym, ap, ◌∙◌, subst, arith, append-nil}
+use Rattle.std.proofs.Math.Seq.{take-append_seam}
+use Rattle.std.proofs.lemmas.Bool.{le-ltb, ltb-false}
+use Rattle.std.specs.List.{list_any, slice_get}
+use Rattle.yq_scalar.specs.Answers.{◌>>=◌}
+use Rattle.yq_scalar.specs.Characters.{text_limit}
+use Rattle.yq_scalar.specs.Keys.{depth}
+use Rattle.yq_scalar.specs.Paths.{Step, change, change_child, child_at, further, is_here, node_at, remove_child, within}
+use Rattle.yq_scalar.specs.Shapes.{IsTree}
+use Rattle.yq_scalar.specs.Tree as tree
+use Rattle.yq_scalar.specs.Tree.{Label, Node, Children, none, child, children_of}
+use Rattle.yq_scalar.proofs.Bools.{bind_some}
+use Rattle.yq_inline.specs.Inline.{depth_limit}
+use Rattle.yq_inline.specs.Valued.{IsValueTree}
+use Rattle.yq_lines.specs.Anchors.{Name, names_in, names_of}
+use Rattle.yq_lines.specs.Counts.{count}
+use Rattle.yq_rows.specs.Rows.{Cut, cut_text}
+use Rattle.yq_tree.specs.Documents.{Document, document_parts}
+use Rattle.yq_tree.specs.Reading.{documents, documents_of, read_at, root_of}
+use Rattle.yq_tree.specs.RemovalPlaces.{has_others_at, has_several}
+use Rattle.yq_tree.specs.TreeEdits.{at_end, change_nth, led, replaced}
+use Rattle.yq_change.proofs.AfterLaws.{end_is_change}
+use Rattle.yq_change.proofs.PartLaws.{document_known}
+use Rattle.yq_change.proofs.SoundRootLaws.{depth_at}
+use Rattle.yq_expr.specs.After.{done_to, root_after}
+use Rattle.yq_expr.specs.Changes.{has_long_key, is_deep, is_used, is_used_in}
+use Rattle.yq_expr.specs.Fits.{Fits, IsBelow}
+use Rattle.yq_expr.specs.Operations.{Operation, replace, append, remove, line_comment, head_comment}
+use Rattle.yq_expr.specs.Rooms.{room_of}
+use Rattle.yq_expr.specs.RoomsKept.{HasSome}
+use Rattle.yq_script.specs.Script.{Segment, old_text, new_text}
+use Rattle.yq_flow_ways.specs.FlowWays.{last_step}
+use Rattle.yq_ways.specs.Operands.{HasOperand}
+use Rattle.yq_ways.specs.Replacing.{node_in}
+use Rattle.yq_flow_ways.specs.SoleRemoving.{emptied, emptying, emptying_at, sole_by}
+use Rattle.yq_ways.specs.Ways.{Way, IsWay, ReadsAfter}
+use Rattle.yq_ways.proofs.DoneLaws.{read_cut}
+use Rattle.yq_flow_ways.proofs.FlowSoundLaws.{above_is, last_is}
+use Rattle.yq_ways.proofs.RemovingLaws.{part_of}
+
+some_same : {A : Type 0} {x y : A} → Some x ≡ Some y → x ≡ y
+some_same e = cc
+
+none_some : {A : Type 0} {x : A} → None ≡ Some x → ⊥
+none_some e = cc
+
+-- ---- an empty collection in the place of another
+
+-- What is so of an empty collection in the place of the collection o.
+record IsEmptied (o v : Node) : Type 0 where
+  value : IsValueTree v
+  shape : IsTree v
+  short : has_long_key v ≡ false
+  flat : depth v ≤ depth o
+  led_same : (block : Bool) (lead : List (List ℕ)) (path : List Step) → led block lead path v ≡ v
+  bare : children_of (replaced v o) ≡ none
+  left : (s : Step) → remove_child s (children_of o) ≡ none → replaced v o ≡ within (remove_child s) o
+
+first_none : (a : Option (List ℕ)) → Rattle.yq_lines.specs.Outline.first_anchor a None ≡ a
+first_none None = refl
+first_none (Some x) = refl
+
+led_list : (block : Bool) (lead : List (List ℕ)) (path : List Step) → led block lead path (tree.list None none) ≡ tree.list None none
+led_list true lead [] = refl
+led_list false lead [] = refl
+led_list block lead (s ∷ path) = refl
+
+led_map : (block : Bool) (lead : List (List ℕ)) (path : List Step) → led block lead path (tree.map None none) ≡ tree.map None none
+led_map true lead [] = refl
+led_map false lead [] = refl
+led_map block lead (s ∷ path) = refl
+
+is_emptied : (o v : Node) → emptied o ≡ Some v → IsEmptied o v
+is_emptied (tree.alias name) v e = absurd (none_some e)
+is_emptied (tree.scalar a kind text) v e = absurd (none_some e)
+is_emptied (tree.list a cs) v e = subst (IsEmptied (tree.list a cs)) (some_same e) (record {
+  value = (refl, tt);
+  shape = (tt, tt);
+  short = refl;
+  flat = omega arith;
+  led_same = led_list;
+  bare = refl;
+  left = λ s h. λ i. tree.list (first_none a i) (sym h i);
+})
+is_emptied (tree.map a cs) v e = subst (IsEmptied (tree.map a cs)) (some_same e) (record {
+  value = (refl, tt);
+  shape = (tt, tt);
+  short = refl;
+  flat = omega arith;
+  led_same = led_map;
+  bare = refl;
+  left = λ s h. λ i. tree.map (first_none a i) (sym h i);
+})
+
+-- ---- a sole item or entry
+
+-- A node is the sole one of these items or entries, of which none is left without it.
+record IsSole (s : Step) (cs : Children) (m : Node) : Type 0 where
+  label : Label
+  is : cs ≡ child label m none
+  gone : remove_child s cs ≡ none
+
+sole : (s : Step) (cs : Children) (m : Node) → child_at s cs ≡ Some m → ltb 1 (count cs) ≡ false → IsSole s cs m
+sole s none m e h = absurd (none_some e)
+sole s (child l n none) m e h = go (is_here s l) refl e
+  where
+    go : (b : Bool) → is_here s l ≡ b → cond b (Some n) None ≡ Some m → IsSole s (child l n none) m
+    go true here e = record { label = l; is = ap (λ x. child l x none) (some_same e); gone = ap (λ b. cond b none (child l n none)) here }
+    go false here e = absurd (none_some e)
+sole s (child l n (child k o cs)) m e h = absurd (omega (arith, ltb-false 1 (count (child l n (child k o cs))) h))
+
+-- the anchors that go
+inside_unused : (names : List Name) (cs : Children) (m : Node) (label : Label) → cs ≡ child label m none → list_any (is_used names) (names_of m) ≡ false → list_any (is_used names) (names_in cs) ≡ false
+inside_unused names cs m label is e = ap (list_any (is_used names)) (ap names_in is ∙ append-nil (names_of m)) ∙ e
+
+-- ---- changes that do the same
+
+child_alike : (s : Step) (f g : Node → Node) (at : Node → Option Node) (cs : Children) (n : Node) → ((m : Node) → at m ≡ Some n → f m ≡ g m) → option_and_then at (child_at s cs) ≡ Some n → change_child s f cs ≡ change_child s g cs
+child_alike s f g at none n h e = refl
+child_alike s f g at (child label m cs) n h e = go (is_here s label) (child_alike (further s) f g at cs n h) e
+  where
+    go : (b : Bool) → (option_and_then at (child_at (further s) cs) ≡ Some n → change_child (further s) f cs ≡ change_child (further s) g cs) → option_and_then at (cond b (Some m) (child_at (further s) cs)) ≡ Some n →
+        cond b (child label (f m) cs) (child label m (change_child (further s) f cs)) ≡ cond b (child label (g m) cs) (child label m (change_child (further s) g cs))
+    go true later e = ap (λ x. child label x cs) (h m e)
+    go false later e = ap (child label m) (later e)
+
+change_alike : (ss : List Step) (f g : Node → Node) (root n : Node) → node_at ss root ≡ Some n → f n ≡ g n → change ss f root ≡ change ss g root
+change_alike [] f g root n e h = subst (λ m. f m ≡ g m) (sym (some_same e)) h
+change_alike (s ∷ ss) f g (tree.alias name) n e h = refl
+change_alike (s ∷ ss) f g (tree.scalar a kind t) n e h = refl
+change_alike (s ∷ ss) f g (tree.list a cs) n e h = ap (tree.list a) (child_alike s (change ss f) (change ss g) (node_at ss) cs n (λ m at. change_alike ss f g m n at h) e)
+change_alike (s ∷ ss) f g (tree.map a cs) n e h = ap (tree.map a) (child_alike s (change ss f) (change ss g) (node_at ss) cs n (λ m at. change_alike ss f g m n at h) e)
+
+nth_alike : (k : ℕ) (f g : Document → Document) (ds : List Document) (d : Document) → slice_get ds k ≡ Some d → f d ≡ g d → change_nth k f ds ≡ change_nth k g ds
+nth_alike k f g [] d e h = refl
+nth_alike zero f g (x ∷ ds) d e h = ap (λ y. y ∷ ds) (subst (λ y. f y ≡ g y) (sym (some_same e)) h)
+nth_alike (suc k) f g (x ∷ ds) d e h = ap (λ ys. x ∷ ys) (nth_alike k f g ds d e h)
+
+nth_changed : (k : ℕ) (f : Document → Document) (ds : List Document) (d : Document) → slice_get ds k ≡ Some d → slice_get (change_nth k f ds) k ≡ Some (f d)
+nth_changed k f [] d e = absurd (none_some e)
+nth_changed zero f (x ∷ ds) d e = ap (λ y. Some (f y)) (some_same e)
+nth_changed (suc k) f (x ∷ ds) d e = nth_changed k f ds d e
+
+-- ---- the operation that stands for a removal
+
+-- The operation r puts an empty collection in the place of the one from which the sole item or entry is taken.
+record IsEmptying (doc : ℕ) (steps : List Step) (c : Cut) (r : Operation) : Type 0 where
+  others : has_others_at doc steps c ≡ false
+  init : List Step
+  step : Step
+  steps_are : steps ≡ init ++ (step ∷ [])
+  old : Node
+  there : node_in doc init c ≡ Some old
+  new : Node
+  empty : IsEmptied old new
+  is : replace doc init new ≡ r
+
+guard_else : {A : Type 0} {x : Option A} {y : A} (b : Bool) → cond b None x ≡ Some y → (b ≡ false) × (x ≡ Some y)
+guard_else true h = absurd (none_some h)
+guard_else false h = (refl, h)
+
+mapped : {A B : Type 0} (f : A → B) (x : Option A) (y : B) → option_map f x ≡ Some y → (a : A) × (x ≡ Some a) × (f a ≡ y)
+mapped f None y e = absurd (none_some e)
+mapped f (Some a) y e = (a, refl, some_same e)
+
+emptying_is : (doc : ℕ) (steps : List Step) (c : Cut) (r : Operation) → emptying (remove doc steps) c ≡ Some r → IsEmptying doc steps c r
+emptying_is doc steps c r h = let g = guard_else (has_others_at doc steps c) h in go g.0 (last_step steps) refl g.1
+  where
+    go : has_others_at doc steps c ≡ false → (o : Option (List Step × Step)) → last_step steps ≡ o → emptying_at doc c o ≡ Some r → IsEmptying doc steps c r
+    go others None last e = absurd (none_some e)
+    go others (Some x) last e =
+        let m = mapped (replace doc x.0) (node_in doc x.0 c >>= emptied) r e in
+        let o = bind_some (node_in doc x.0 c) m.1 in
+        record { others = others; init = x.0; step = x.1; steps_are = last_is steps x.0 x.1 last; old = o.0; there = o.1; new = m.0; empty = is_emptied o.0 m.0 o.2; is = m.2 }
+
+take_init : (ss : List Step) (s : Step) → take (length (ss ++ (s ∷ [])) - 1) (ss ++ (s ∷ [])) ≡ ss
+take_init ss s =
+    let size : length (ss ++ (s ∷ [])) - 1 ≡ length ss = omega (arith, Rattle.std.proofs.Common.length-append ss (s ∷ [])) in
+    ap (λ (n : ℕ). take n (ss ++ (s ∷ []))) size ∙ take-append_seam ss (s ∷ [])
+
+-- What is known of a removal that fits and of the operation that stands for it.
+record StandsFor (doc : ℕ) (init : List Step) (s : Step) (v : Node) (c : Cut) : Type 0 where
+  read : read_at (cut_text c) ≡ Some c
+  others : has_others_at doc (init ++ (s ∷ [])) c ≡ false
+  d : Document
+  document : slice_get (documents c) doc ≡ Some d
+  old : Node
+  there : node_in doc init c ≡ Some old
+  empty : IsEmptied old v
+  node : Node
+  node_is : node_at (init ++ (s ∷ [])) d.root ≡ Some node
+  unused : is_used_in (names_of d.root) (Some node) ≡ false
+
+module _ (doc : ℕ) (init : List Step) (s : Step) (v : Node) (c : Cut) (h : StandsFor doc init s v c) where
+  at_init : node_at init h.d.root ≡ Some h.old
+  at_init = sym (ap (λ (x : Option Document). x >>= λ d. node_at init d.root) h.document) ∙ h.there
+
+  above : (old : Node) × (node_at init h.d.root ≡ Some old) × (child_at s (children_of old) ≡ Some h.node)
+  above = above_is init s h.d.root h.node h.node_is
+
+  same : above.0 ≡ h.old
+  same = some_same (sym above.1 ∙ at_init)
+
+  alone : ltb 1 (count (children_of h.old)) ≡ false
+  alone =
+      sym ((λ i. has_several (slice_get (documents c) doc >>= λ (x : Document). node_at (take_init init s i) x.root)) ∙ ap has_several h.there) ∙ h.others
+
+  is_sole : IsSole s (children_of h.old) h.node
+  is_sole = sole s (children_of h.old) h.node (subst (λ (o : Node). child_at s (children_of o) ≡ Some h.node) same above.2) alone
+
+  not_deep : is_deep (length init) v ≡ false
+  not_deep =
+      let p = part_of (document_parts c) doc h.d h.document in
+      let limit : depth (root_of p.0) ≤ depth_limit = (document_known (cut_text c) c doc p.0 (record { read = h.read; there = p.1 })).document.nested in
+      let inside = depth_at init (root_of p.0) h.old (ap (λ (x : Document). node_at init x.root) p.2 ∙ at_init) in
+      le-ltb depth_limit (length init + depth v) (omega (arith, limit, inside, h.empty.flat))
+
+  fits : Fits (room_of (cut_text c)) (replace doc init v) (documents c)
+  fits = (
+    h.d,
+    h.document,
+    (
+      (h.empty.shape, h.empty.short, not_deep),
+      (h.old, at_init, inside_unused (names_of h.d.root) (children_of h.old) h.node is_sole.label is_sole.is h.unused),
+    ),
+  )
+
+  same_root : (block : Bool) (lead : List (List ℕ)) → root_after block lead (replace doc init v) h.d.root ≡ root_after block lead (remove doc (init ++ (s ∷ []))) h.d.root
+  same_root block lead =
+      ap (λ (n : Node). change init (replaced n) h.d.root) (h.empty.led_same block lead init)
+      ∙ (change_alike init (replaced v) (within (remove_child s)) h.d.root h.old at_init (h.empty.left s is_sole.gone) ∙ sym (end_is_change remove_child init s h.d.root))
+
+  same_document : (block : Bool) → done_to block (replace doc init v) h.d ≡ done_to block (remove doc (init ++ (s ∷ []))) h.d
+  same_document block = ap (λ (n : Node). Rattle.yq_tree.specs.TreeEdits.with_tree block n h.d) (same_root block h.d.lead)
+
+  -- where the root after it has items or entries, the collection is below it
+  below : (ss : List Step) (root : Node) → node_at ss root ≡ Some h.old → HasSome (children_of (change ss (replaced v) root)) → IsBelow ss
+  below [] root e some = absurd (subst HasSome (ap (λ (n : Node). children_of (replaced v n)) (some_same e) ∙ h.empty.bare) some)
+  below (t ∷ ts) root e some = tt
+
+  read_so : (new : List ℕ) → ReadsAfter (replace doc init v) c new → ReadsAfter (remove doc (init ++ (s ∷ []))) c new
+  read_so new r =
+      let rooms = room_of (cut_text c) in
+      let block : Bool = (rooms doc).block in
+      record {
+        cut = r.cut;
+        read = r.read;
+        documents_are = r.documents_are ∙ nth_alike doc (done_to block (replace doc init v)) (done_to block (remove doc (init ++ (s ∷ [])))) (documents c) h.d h.document (same_document block);
+        room = record {
+          others = r.room.others;
+          comments = λ sets. absurd sets;
+          block = λ d at keeps.
+              let at_doc : slice_get (documents_of new) doc ≡ Some (done_to block (replace doc init v) h.d) =
+              ap (λ x. slice_get (documents x) doc) (read_cut new r.cut r.read) ∙ (ap (λ ds. slice_get ds doc) r.documents_are ∙ nth_changed doc (done_to block (replace doc init v)) (documents c) h.d h.document) in
+              let root : d.root ≡ change init (replaced v) h.d.root =
+              ap (λ (x : Document). x.root) (some_same (sym at ∙ at_doc)) ∙ ap (λ (n : Node). change init (replaced n) h.d.root) (h.empty.led_same block h.d.lead init) in
+              r.room.block d at (below init h.d.root at_init (subst (λ (n : Node). HasSome (children_of n)) root keeps));
+        };
+      }
+
+stands_for : (doc : ℕ) (steps : List Step) (c : Cut) (r : Operation) (x : IsEmptying doc steps c r) → read_at (cut_text c) ≡ Some c → Fits (room_of (cut_text c)) (remove doc steps) (documents c) → StandsFor doc x.init x.step x.new c
+stands_for doc steps c r x read fits = record {
+  read = read;
+  others = ap (λ z. has_others_at doc z c) (sym x.steps_are) ∙ x.others;
+  d = fits.0;
+  document = fits.1;
+  old = x.old;
+  there = x.there;
+  empty = x.empty;
+  node = fits.2.1.0;
+  node_is = ap (λ z. node_at z fits.0.root) (sym x.steps_are) ∙ fits.2.1.1;
+  unused = fits.2.1.2;
+}
+
+module _ (way : Way) (is_way : IsWay way) where
+  old_is : (op : Operation) (c : Cut) (ss : List Segment) → read_at (cut_text c) ≡ Some c → sole_by way op c ≡ Some ss → old_text ss ≡ cut_text c
+  old_is op c ss read e = let r = bind_some (emptying op c) e in is_way.old r.0 c ss read r.2
+
+  sole_reads : (doc : ℕ) (steps : List Step) (c : Cut) (ss : List Segment) → read_at (cut_text c) ≡ Some c → sole_by way (remove doc steps) c ≡ Some ss → Fits (room_of (cut_text c)) (remove doc steps) (documents c) →
+      length (new_text ss) ≤ text_limit → ReadsAfter (remove doc steps) c (new_text ss)
+  sole_reads doc steps c ss read e fits_it size =
+      let r = bind_some (emptying (remove doc steps) c) e in
+      let x = emptying_is doc steps c r.0 r.1 in
+      let h = stands_for doc steps c r.0 x read fits_it in
+      let taken : way (replace doc x.init x.new) c ≡ Some ss = ap (λ o. way o c) x.is ∙ r.2 in
+      subst (λ z. ReadsAfter (remove doc z) c (new_text ss)) (sym x.steps_are)
+      (read_so doc x.init x.step x.new c h (new_text ss) (is_way.reads (replace doc x.init x.new) c ss read taken x.empty.value (fits doc x.init x.step x.new c h) size))
+
+  reads_is : (op : Operation) (c : Cut) (ss : List Segment) → read_at (cut_text c) ≡ Some c → sole_by way op c ≡ Some ss → HasOperand op → Fits (room_of (cut_text c)) op (documents c) →
+      length (new_text ss) ≤ text_limit → ReadsAfter op c (new_text ss)
+  reads_is (replace doc steps v) c ss read e operand fits_it size = absurd (none_some e)
+  reads_is (append doc steps key v) c ss read e operand fits_it size = absurd (none_some e)
+  reads_is (remove doc steps) c ss read e operand fits_it size = sole_reads doc steps c ss read e fits_it size
+  reads_is (line_comment doc steps text) c ss read e operand fits_it size = absurd (none_some e)
+  reads_is (head_comment doc steps text) c ss read e operand fits_it size = absurd (none_some e)
+
+  pub sole_is : IsWay (sole_by way)
+  sole_is = record { old = old_is; reads = reads_is }
+
+-- ---- by what the code finds
+
+pub sole_none : (way : Way) (op : Operation) (c : Cut) → None ≡ emptying op c → sole_by way op c ≡ None
+sole_none way op c e = ap (λ (o : Option Operation). o >>= λ r. way r c) (sym e)
+
+pub sole_some : (way : Way) (op : Operation) (c : Cut) (r : Operation) → Some r ≡ emptying op c → way r c ≡ sole_by way op c
+sole_some way op c r e = ap (λ (o : Option Operation). o >>= λ r. way r c) e

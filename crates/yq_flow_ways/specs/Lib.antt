@@ -1,0 +1,2 @@
+pub mod FlowWays
+pub mod SoleRemoving

@@ -1,0 +1,64 @@
+//! Items and entries put into flow collections.
+ghost use Rattle.std.specs.Prelude.{◌≡◌, IfOk, string_bytes};
+ghost use Rattle.yq_inline.specs.Nodes.{key_text};
+ghost use Rattle.yq_inline.specs.Values.{node_of};
+ghost use Rattle.yq_inline.specs.View.{view};
+ghost use Rattle.yq_inline.specs.Written.{flow_key, flow_text};
+ghost use Rattle.yq_lines.specs.Bodies.{lent};
+ghost use Rattle.yq_expr.specs.Operations.{operation_of};
+ghost use Rattle.yq_tree.specs.Reading.{cut_of};
+ghost use Rattle.yq_flow_ways.specs.FlowWays as spec;
+ghost use Rattle.yq_ways.specs.WayAnswers.{Carries};
+
+use crate::flow_edit::edit_at;
+use std::alloc::{AllocError, Global};
+use yq_expr::{Op, Value};
+use yq_inline::{Form, Inline, write_entry, write_inline};
+use yq_script::{Edited, ExchangeError};
+use yq_tree::Documents;
+
+/// Whether a node takes an entry of a key, or an item.
+fn takes(node: &Inline<'_>, key: Option<&str>) -> bool
+    ensures { result ≡ spec.placed_takes (view node.now) (lent key.entry) }
+{
+    match &node.form {
+        Form::List(_) => key.is_none(),
+        Form::Map(_) => key.is_some(),
+        Form::Empty | Form::Alias(_) | Form::Scalar(..) => false,
+    }
+}
+
+/// An item or entry as it is written in flow.
+fn entry_text(alloc: Global, key: Option<&str>, value: &Value) -> Result<String, AllocError>
+    ensures { IfOk result (λ s. string_bytes s ≡ key_text (flow_key (lent key.entry)) (flow_text (node_of value.now))) }
+{
+    match key {
+        Some(key) => write_entry(alloc, key, value),
+        None => write_inline(alloc, value),
+    }
+}
+
+/// An item or entry put behind the last one of a flow collection, or right behind its bracket.
+pub fn flow_append_way(
+    alloc: Global,
+    documents: &Documents<'_>,
+    op: &Op,
+) -> Result<Option<Edited>, ExchangeError>
+    ensures { Carries result (spec.flow_append_way (operation_of op.now) (cut_of documents.now)) }
+{
+    let Op::Append(path, key, value) = op else {
+        return Ok(None);
+    };
+    let Some(node) = documents.flow_collection(path.doc, &path.steps) else {
+        return Ok(None);
+    };
+    let text = documents.text();
+    if !takes(node, key.as_deref()) {
+        return Ok(None);
+    }
+    let Some(place) = node.append_place() else {
+        return Ok(None);
+    };
+    let new = entry_text(alloc, key.as_deref(), value)?;
+    edit_at(alloc, text, place, &new)
+}

@@ -1,0 +1,56 @@
+//! Exchanged of flow collections, by their places in the text.
+ghost use Rattle.std.specs.Prelude.{◌≡◌, ◌≤◌, Some, drop, map, option_map, take};
+ghost use Rattle.std.specs.Str.{IsCharBoundary};
+ghost use Rattle.yq_inline.specs.Entries.{step_of};
+ghost use Rattle.yq_inline.specs.FlowPlaces.{edit_view};
+ghost use Rattle.yq_flow_ways.specs.FlowWays as spec;
+ghost use Rattle.yq_ways.specs.WayAnswers.{Carries};
+
+use std::alloc::Global;
+use yq_inline::EditPlace;
+use yq_script::{Edited, ExchangeError, Segment, exchange};
+use yq_tree::Step;
+
+/// The steps to a collection, and the last one.
+pub(crate) fn last_step(steps: &[Step]) -> Option<(&[Step], &Step)>
+    ensures { option_map (λ x. (map step_of x.0.now, step_of x.1.now)) result ≡ spec.last_step (map step_of steps.now) }
+{
+    match steps {
+        [] => None,
+        [above @ .., last] => Some((above, last)),
+    }
+}
+
+/// A text in which the bytes of an edit give way to what it leads with and to what is written.
+pub(crate) fn edit_at(
+    alloc: Global,
+    text: &str,
+    place: EditPlace,
+    written: &str,
+) -> Result<Option<Edited>, ExchangeError>
+    requires order { place.start ≤ place.end }
+    requires start { IsCharBoundary text.now place.start }
+    requires end { IsCharBoundary text.now place.end }
+    ensures { Carries result (Some (spec.edit_segments text.now (edit_view place) written.now)) }
+{
+    let (front, behind) = text.split_at(place.end);
+    let (before, old) = front.split_at(place.start);
+    let segments = [
+        Segment::Keep(before),
+        Segment::Put(old, place.lead),
+        Segment::Put("", written),
+        Segment::Keep(behind),
+    ];
+    Ok(Some(exchange(alloc, &segments)?))
+}
+
+/// What stands at the place of an edit.
+pub(crate) fn text_at(text: &str, place: EditPlace) -> &str
+    requires order { place.start ≤ place.end }
+    requires start { IsCharBoundary text.now place.start }
+    requires end { IsCharBoundary text.now place.end }
+    ensures { result.now ≡ drop place.start (take place.end text.now) }
+{
+    let (front, _) = text.split_at(place.end);
+    front.split_at(place.start).1
+}

@@ -1,0 +1,35 @@
+//! Items and entries taken out of flow collections.
+ghost use Rattle.yq_expr.specs.Operations.{operation_of};
+ghost use Rattle.yq_tree.specs.Reading.{cut_of};
+ghost use Rattle.yq_flow_ways.specs.FlowWays as spec;
+ghost use Rattle.yq_ways.specs.WayAnswers.{Carries};
+
+use crate::flow_edit::{edit_at, last_step};
+use std::alloc::Global;
+use yq_expr::Op;
+use yq_script::{Edited, ExchangeError};
+use yq_tree::Documents;
+
+/// An item or entry taken out of a flow collection, with the white space and comma that go with it.
+pub fn flow_remove_way(
+    alloc: Global,
+    documents: &Documents<'_>,
+    op: &Op,
+) -> Result<Option<Edited>, ExchangeError>
+    ensures { Carries result (spec.flow_remove_way (operation_of op.now) (cut_of documents.now)) }
+{
+    let Op::Remove(path) = op else {
+        return Ok(None);
+    };
+    let Some((above, last)) = last_step(&path.steps) else {
+        return Ok(None);
+    };
+    let Some(node) = documents.flow_collection(path.doc, above) else {
+        return Ok(None);
+    };
+    let text = documents.text();
+    let Some(place) = node.remove_place(text, last) else {
+        return Ok(None);
+    };
+    edit_at(alloc, text, place, "")
+}

@@ -1,0 +1,68 @@
+//! Contents of items and entries of flow collections replaced.
+ghost use Rattle.std.specs.Prelude.{◌≡◌, [], IfOk, Some, ◌∷◌, string_bytes};
+ghost use Rattle.yq_inline.specs.Values.{node_of};
+ghost use Rattle.yq_expr.specs.Operations.{operation_of};
+ghost use Rattle.yq_tree.specs.Reading.{cut_of};
+ghost use Rattle.yq_script.specs.Script as script;
+ghost use Rattle.yq_flow_ways.specs.FlowWays as spec;
+ghost use Rattle.yq_ways.specs.WayAnswers.{Carries};
+
+use crate::flow_edit::{edit_at, last_step, text_at};
+use std::alloc::{AllocError, Global};
+use yq_expr::{Op, Value};
+use yq_inline::{style_of, write_inline};
+use yq_scalar::{Place, write_scalar};
+use yq_script::{Edited, ExchangeError, Segment, exchange};
+use yq_tree::Documents;
+use yq_ways::{is_kept, style_in};
+
+/// A value as it is written in flow, in the place of what is written there.
+fn flow_written(alloc: Global, old: &str, value: &Value) -> Result<String, AllocError>
+    ensures { IfOk result (λ s. string_bytes s ≡ spec.value_text old.now (node_of value.now)) }
+{
+    match value {
+        Value::Scalar(scalar) => {
+            let style = style_in(Place::Flow, scalar, style_of(old.as_bytes()));
+            write_scalar(alloc, scalar, style, Place::Flow)
+        }
+        Value::List(_) => write_inline(alloc, value),
+        Value::Map(_) => write_inline(alloc, value),
+    }
+}
+
+/// A text as it is.
+fn kept(alloc: Global, text: &str) -> Result<Option<Edited>, ExchangeError>
+    ensures { Carries result (Some (script.keep text.now ∷ [])) }
+{
+    let segments = [Segment::Keep(text)];
+    Ok(Some(exchange(alloc, &segments)?))
+}
+
+/// The content of an item or entry of a flow collection replaced, behind its anchor.
+pub fn flow_replace_way(
+    alloc: Global,
+    documents: &Documents<'_>,
+    op: &Op,
+) -> Result<Option<Edited>, ExchangeError>
+    ensures { Carries result (spec.flow_replace_way (operation_of op.now) (cut_of documents.now)) }
+{
+    let Op::Replace(path, value) = op else {
+        return Ok(None);
+    };
+    let Some((above, last)) = last_step(&path.steps) else {
+        return Ok(None);
+    };
+    let Some(node) = documents.flow_collection(path.doc, above) else {
+        return Ok(None);
+    };
+    let text = documents.text();
+    let Some(entry) = node.part(last) else {
+        return Ok(None);
+    };
+    if is_kept(documents.locate(path), value) {
+        return kept(alloc, text);
+    }
+    let place = entry.node.replace_place();
+    let new = flow_written(alloc, text_at(text, place), value)?;
+    edit_at(alloc, text, place, &new)
+}

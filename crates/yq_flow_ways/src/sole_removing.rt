@@ -1,0 +1,52 @@
+//! The operation that carries out a removal of a sole item or entry: an empty collection takes the
+//! place of its own.
+ghost use Rattle.std.specs.Prelude.{◌≡◌, IfOk, option_map};
+ghost use Rattle.yq_expr.specs.Operations.{operation_of};
+ghost use Rattle.yq_inline.specs.Values as values;
+ghost use Rattle.yq_tree.specs.Nodes.{node_of};
+ghost use Rattle.yq_tree.specs.Reading.{cut_of};
+ghost use Rattle.yq_flow_ways.specs.SoleRemoving as spec;
+
+use crate::flow_edit::last_step;
+use std::alloc::{AllocError, Global};
+use yq_expr::{Op, Value, copied_steps};
+use yq_tree::{Documents, Node, NodeKind, Path};
+
+/// The empty collection of the kind of this one.
+fn emptied(alloc: Global, node: Node<'_, '_>) -> Option<Value>
+    ensures { option_map values.node_of result ≡ spec.emptied (node_of node.entry) }
+{
+    match node.kind() {
+        NodeKind::List => Some(Value::List(Vec::new(alloc))),
+        NodeKind::Map => Some(Value::Map(Vec::new(alloc))),
+        NodeKind::Alias => None,
+        NodeKind::Scalar(_) => None,
+    }
+}
+
+/// The operation that puts an empty collection in the place of the one from which this takes the
+/// sole item or entry.
+pub fn emptying(alloc: Global, documents: &Documents<'_>, op: &Op) -> Result<Option<Op>, AllocError>
+    ensures { IfOk result (λ o. option_map operation_of o ≡ spec.emptying (operation_of op.now) (cut_of documents.now)) }
+{
+    let Op::Remove(path) = op else {
+        return Ok(None);
+    };
+    if documents.has_others(path) {
+        return Ok(None);
+    }
+    let Some((above, _)) = last_step(&path.steps) else {
+        return Ok(None);
+    };
+    let place = Path {
+        doc: path.doc,
+        steps: copied_steps(alloc, above)?,
+    };
+    let Some(node) = documents.locate(&place) else {
+        return Ok(None);
+    };
+    let Some(value) = emptied(alloc, node) else {
+        return Ok(None);
+    };
+    Ok(Some(Op::Replace(place, value)))
+}

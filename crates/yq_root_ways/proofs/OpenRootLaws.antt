@@ -1,0 +1,192 @@
+-- Where the root of a document comes that has no rows, behind a text that doesn't end in a break: on a line of its own, behind a break that comes first.
+use Rattle.std.proofs.Common.{◌≡◌, ◌⊎◌, inl, inr, ℕ, ◌≤◌, List, [], ◌∷◌, ◌++◌, length, Some, None, true, false, refl, sym, ap, ◌∙◌, subst, arith, append_assoc, append-nil, length-append}
+use Rattle.std.proofs.lemmas.Bool.{false≢true, cond-true, false_from_ne_true}
+use Rattle.std.proofs.lemmas.Str.{is_utf8-from_IsUtf8}
+use Rattle.std.specs.List.{list_all}
+use Rattle.std.specs.Str.{chars, is_utf8}
+use Rattle.yq_scalar.specs.BlockWritten.{break_text}
+use Rattle.yq_scalar.specs.Characters.{is_text, is_text_char, pairs_returns, text_limit}
+use Rattle.yq_scalar.specs.Text.{is_empty, is_line}
+use Rattle.yq_scalar.specs.Tree.{Node}
+use Rattle.yq_scalar.specs.declared.block_written.Break.{Break}
+use Rattle.yq_scalar.proofs.Bools.{and_true, guard_then}
+use Rattle.yq_inline.specs.Valued.{IsValueTree}
+use Rattle.yq_lines.specs.Comments.{head_comment}
+use Rattle.yq_rows.specs.Appending.{last_marker, with_last_part, PartFits}
+use Rattle.yq_rows.specs.Gap.{IsGap}
+use Rattle.yq_rows.specs.Grammar.{IsCut}
+use Rattle.yq_rows.specs.Rows.{Cut, cut_text}
+use Rattle.yq_rows.proofs.CharacterLaws.{pairs_back}
+use Rattle.yq_rows.proofs.splices.MarkerLaws.{marker_appended}
+use Rattle.yq_tree.specs.PlacedRows.{PlacedPart}
+use Rattle.yq_tree.specs.Reading.{all_documents, is_document, read_at}
+use Rattle.yq_tree.specs.RootPlaces.{RootPlace}
+use Rattle.yq_tree.specs.RowPaths.{IsReadable}
+use Rattle.yq_tree.proofs.ReadLaws.{text_again, text_takes}
+use Rattle.yq_tree.proofs.RemovalLines.{LineSeam}
+use Rattle.yq_block.specs.declared.layout.Layout.{Layout}
+use Rattle.yq_block.specs.BlockText.{block_value}
+use Rattle.yq_block.proofs.LaidRows.{no_gap_here}
+use Rattle.yq_change.specs.PlacedParts.{StandsAt}
+use Rattle.yq_change.specs.TextPieces.{IsPiece}
+use Rattle.yq_change.proofs.PlacedPartLaws.{document_stands_at}
+use Rattle.yq_change.proofs.TextPieceLaws.{pieces_joined}
+use Rattle.yq_expr.specs.Operations.{replace}
+use Rattle.yq_root_ways.specs.RootWriting.{is_closed_text}
+use Rattle.yq_ways.specs.Ways.{ReadsAfter}
+use Rattle.yq_ways.proofs.AppendAtEnd.{nothing_tail}
+use Rattle.yq_ways.proofs.AppendEntryLaws.{none_quiet}
+use Rattle.yq_root_ways.proofs.BlockRootLaws.{empty_cases}
+use Rattle.yq_ways.proofs.BreakLaws.{break_is as break_kind}
+use Rattle.yq_ways.proofs.BrokenTails.{break_is}
+use Rattle.yq_root_ways.proofs.ClosedTexts.{closed_behind, closed_end, closed_line, front_some, open_some}
+use Rattle.yq_ways.proofs.CommentPieceLaws.{break_piece}
+use Rattle.yq_root_ways.proofs.OpenGapLaws.{open_gap}
+use Rattle.yq_root_ways.proofs.OpenMarkerLaws.{broken_before, IsBehindMarker, behind_marker}
+use Rattle.yq_root_ways.proofs.RootFits.{FitsPart, value_reads}
+use Rattle.yq_root_ways.proofs.RootReadLaws.{TakesValue}
+use Rattle.yq_root_ways.proofs.RootRows.{HasRoom}
+use Rattle.yq_root_ways.proofs.SameDocuments.{same_reads}
+use Rattle.yq_root_ways.proofs.UnwrittenRootLaws.{IsUnwrittenRoot, long_some, stands, there, cut, gap_is, part_is, seam, pieces, no_rows_there, lead_is, starts_at, takes_unwritten}
+
+-- rows come behind a gap, at the end of a text
+room_at_end : (gap : List ℕ) → ((x : List ℕ) → is_empty x ≡ false → IsGap gap x) → HasRoom gap [] [] []
+room_at_end gap front = record { front = front; tail = nothing_tail; apart = refl; quiet = none_quiet; back_is = no_gap_here []; ends = refl }
+
+front_short : (a b : List ℕ) (limit : ℕ) → length (a ++ b) ≤ limit → length a ≤ limit
+front_short a b limit h = omega (arith, h, length-append a b)
+
+module _ (n : ℕ) (c : Cut) (w : RootPlace) (read : read_at (cut_text c) ≡ Some c) (h : IsUnwrittenRoot n c w) (open' : is_closed_text w.before ≡ false) (br : Break) where
+  all_open : is_closed_text (h.d.before ++ h.d.part.end) ≡ false
+  all_open = ap is_closed_text (sym h.before_is) ∙ open'
+
+  -- so it is the end of the text
+  nothing_behind : h.d.behind ≡ []
+  unfolding is_closed_text
+  nothing_behind = go (seam n c w read h)
+    where
+      go : LineSeam (h.d.before ++ h.d.part.end) h.d.behind → h.d.behind ≡ []
+      go (inl e) = absurd (false≢true (sym all_open ∙ ap is_closed_text e))
+      go (inr (inl lf)) = absurd (false≢true (sym all_open ∙ (ap is_closed_text lf.1 ∙ closed_behind lf.0 (10 ∷ []) refl)))
+      go (inr (inr e)) = e
+
+  -- ---- behind comments or white space
+
+  module _ (some : is_empty h.d.part.end ≡ false) where
+    gap_open : is_closed_text h.d.part.end ≡ false
+    gap_open = sym (closed_behind h.d.before h.d.part.end some) ∙ all_open
+
+    characters : is_text (h.d.before ++ h.d.part.end) ≡ true
+    characters = (subst IsPiece h.before_is (pieces n c w read h).0).characters
+
+    pairs : pairs_returns h.d.part.end ≡ true
+    pairs = pairs_back h.d.before h.d.part.end (and_true (list_all is_text_char (chars (h.d.before ++ h.d.part.end))) (pairs_returns (h.d.before ++ h.d.part.end)) characters).1
+
+    broken : (x : List ℕ) → IsGap (h.d.part.end ++ break_text br) x × (head_comment (h.d.part.end ++ break_text br) ≡ head_comment h.d.part.end)
+    broken x = open_gap h.d.part.end x br (subst (IsGap h.d.part.end) nothing_behind (gap_is n c w read h)) gap_open pairs
+
+    takes_behind_gap : TakesValue n c h.d (h.d.part.end ++ break_text br) [] []
+    takes_behind_gap = record {
+      stands = stands n c w read h;
+      old = there n c w read h;
+      block = no_rows_there n c w read h;
+      room = subst (HasRoom (h.d.part.end ++ break_text br) [] []) (sym nothing_behind) (room_at_end (h.d.part.end ++ break_text br) (λ x more. (broken x).0));
+      lead = (broken []).1 ∙ lead_is n c w read h;
+      starts = λ t e. starts_at n c w read h (λ none. absurd (false≢true (sym (front_some h.d.part.end h.d.behind some) ∙ ap is_empty none))) t;
+    }
+
+  -- ---- behind a marker
+
+  module _ (none : h.d.part.end ≡ []) where
+    no_gap : h.d.before ++ h.d.part.end ≡ h.d.before
+    no_gap = ap (λ x. h.d.before ++ x) none ∙ append-nil h.d.before
+
+    before_open : is_closed_text h.d.before ≡ false
+    before_open = ap is_closed_text (sym no_gap) ∙ all_open
+
+    abbrev broken_text : List ℕ
+    broken_text = h.d.before ++ break_text br
+
+    marker : IsBehindMarker (break_text br) n c h.d
+    marker = behind_marker (break_text br) n c h.d (cut n c w read h).parts h.placed nothing_behind (open_some h.d.before before_open)
+
+    marker_open : is_closed_text (last_marker c) ≡ false
+    marker_open = sym (closed_behind marker.pre (last_marker c) (long_some (last_marker c) marker.long)) ∙ (ap is_closed_text (sym marker.before_is) ∙ before_open)
+
+    fits_there : PartFits (break_text br) h.d.part c
+    fits_there = record {
+      some = long_some (last_marker c) marker.long;
+      bare = false_from_ne_true (is_line (last_marker c)) (λ line. false≢true (sym marker_open ∙ closed_line (last_marker c) line));
+      break_is = break_is br;
+      part = marker.part_is;
+    }
+
+    -- the text with a break behind it
+    abbrev other : Cut
+    other = with_last_part (break_text br) h.d.part c
+
+    abbrev d : PlacedPart
+    d = broken_before (break_text br) h.d
+
+    other_stands : StandsAt (with_last_part (break_text br) h.d.part c) n (broken_before (break_text br) h.d)
+    other_stands = document_stands_at other n d marker.placed
+
+    other_text : cut_text (with_last_part (break_text br) h.d.part c) ≡ h.d.before ++ break_text br
+    other_text = other_stands.text ∙ (ap (λ t. broken_text ++ t) (part_is n c w read h [] ∙ ap (λ t. t ++ []) none) ∙ append-nil broken_text)
+
+    piece : IsPiece (h.d.before ++ break_text br)
+    piece = pieces_joined h.d.before (break_text br) (subst IsPiece (h.before_is ∙ no_gap) (pieces n c w read h).0) (break_piece br)
+
+    module _ (size : length (h.d.before ++ break_text br) ≤ text_limit) where
+      other_cut : IsCut (cut_text (with_last_part (break_text br) h.d.part c)) (with_last_part (break_text br) h.d.part c)
+      other_cut = marker_appended (cut_text c) c (break_text br) h.d.part (cut n c w read h) fits_there (ap is_text other_text ∙ piece.characters) (subst (λ t. length t ≤ text_limit) (sym other_text) size)
+
+      other_documents : all_documents (with_last_part (break_text br) h.d.part c) ≡ true
+      unfolding read_at
+      other_documents = ap (list_all is_document) marker.parts_are ∙ (text_takes (cut_text c) c (guard_then _ read).1).1
+
+      other_read : read_at (cut_text (with_last_part (break_text br) h.d.part c)) ≡ Some (with_last_part (break_text br) h.d.part c)
+      unfolding read_at
+      other_read = cond-true _ _ _ (ap is_utf8 other_text ∙ is_utf8-from_IsUtf8 broken_text piece.utf8) ∙ text_again (cut_text other) other other_cut other_documents
+
+      abbrev place : RootPlace
+      place = record { before = (h.d.before ++ break_text br) ++ h.d.part.end; old = None; behind = []; column = 0 }
+
+      other_root : IsUnwrittenRoot n (with_last_part (break_text br) h.d.part c) (record { before = (h.d.before ++ break_text br) ++ h.d.part.end; old = None; behind = []; column = 0 })
+      other_root = record { d = broken_before (break_text br) h.d; placed = marker.placed; rows_are = h.rows_are; before_is = refl; behind_is = refl; column_is = refl }
+
+      other_closed : is_closed_text ((h.d.before ++ break_text br) ++ h.d.part.end) ≡ true
+      other_closed = ap is_closed_text (ap (λ x. broken_text ++ x) none ∙ append-nil broken_text) ∙ closed_end h.d.before (break_text br) (break_kind (break_text br) (break_is br))
+
+      takes_behind_marker : TakesValue n (with_last_part (break_text br) h.d.part c) (broken_before (break_text br) h.d) h.d.part.end [] []
+      unfolding other_root
+      takes_behind_marker =
+          let t = takes_unwritten n other place other_read other_root other_closed br in
+          record { stands = t.stands; old = t.old; block = t.block; room = room_at_end h.d.part.end t.room.front; lead = t.lead; starts = t.starts }
+
+  -- ---- both
+
+  module _ (v : Node) (l : Layout) (step : 1 ≤ l.mapping) (value_tree : IsValueTree v) (fits : FitsPart v h.d.part) (new : List ℕ)
+      (is : new ≡ h.d.before ++ (h.d.part.end ++ (break_text br ++ (block_value l 0 v ++ h.d.behind)))) (readable : IsReadable new) where
+    reads_behind_marker : h.d.part.end ≡ [] → ReadsAfter (replace n [] v) c new
+    reads_behind_marker none =
+        let text : (h.d.before ++ break_text br) ++ (h.d.part.end ++ (block_value l 0 v ++ [])) ≡ new =
+        (λ i. (h.d.before ++ break_text br) ++ (none i ++ (block_value l 0 v ++ [])))
+        ∙ (append_assoc h.d.before (break_text br) (block_value l 0 v ++ [])
+        ∙ sym (is ∙ (λ i. h.d.before ++ (none i ++ (break_text br ++ (block_value l 0 v ++ nothing_behind i)))))) in
+        let size : length (h.d.before ++ break_text br) ≤ text_limit =
+        front_short (h.d.before ++ break_text br) (h.d.part.end ++ (block_value l 0 v ++ [])) text_limit (subst (λ t. length t ≤ text_limit) (sym text) readable.size) in
+        same_reads (replace n [] v) (with_last_part (break_text br) h.d.part c) c new (other_read none size) read (marker none).parts_are
+        (value_reads n (with_last_part (break_text br) h.d.part c) (broken_before (break_text br) h.d) h.d.part.end [] [] v l 0 new (takes_behind_marker none size) step value_tree fits text readable)
+
+    reads_behind_gap : is_empty h.d.part.end ≡ false → ReadsAfter (replace n [] v) c new
+    reads_behind_gap some =
+        value_reads n c h.d (h.d.part.end ++ break_text br) [] [] v l 0 new (takes_behind_gap some) step value_tree fits
+        (ap (λ t. h.d.before ++ t) (append_assoc h.d.part.end (break_text br) (block_value l 0 v ++ h.d.behind)) ∙ sym is) readable
+
+    pub open_reads : ReadsAfter (replace n [] v) c new
+    open_reads = go (empty_cases h.d.part.end)
+      where
+        go : (h.d.part.end ≡ []) ⊎ (is_empty h.d.part.end ≡ false) → ReadsAfter (replace n [] v) c new
+        go (inl none) = reads_behind_marker none
+        go (inr some) = reads_behind_gap some

@@ -1,0 +1,63 @@
+-- What writing a root comes to, by what the code finds.
+use Rattle.std.proofs.Common.{◌≡◌, ℕ, eqb, List, [], ◌∷◌, Bor, Bool, true, Option, Some, None, option_map, refl, sym, ap, ◌∙◌}
+use Rattle.yq_scalar.specs.Tree.{Node}
+use Rattle.yq_lines.specs.Bodies.{lent}
+use Rattle.yq_tree.specs.Located.{steps_of, located}
+use Rattle.yq_tree.specs.Reading.{cut_of}
+use Rattle.yq_tree.specs.RootPlaces.{RootPlace, root_place}
+use Rattle.yq_tree.specs.RootReading.{root_told}
+use Rattle.yq_tree.specs.declared.path.Path.{Path}
+use Rattle.yq_tree.specs.declared.places.root_place.RootPlace as declared
+use Rattle.yq_block.specs.declared.layout.Layout.{Layout}
+use Rattle.yq_expr.specs.Operations.{replace}
+use Rattle.yq_ways.specs.Layouts.{layout_of}
+use Rattle.yq_ways.specs.Replacing.{node_in, is_kept}
+use Rattle.yq_root_ways.specs.RootWriting.{is_closed_text, root_segments, new_segments, root_at, root_way}
+use Rattle.yq_ways.proofs.ReplaceAnswers.{node_located}
+
+-- ---- whether a text ends in a break
+
+-- the same of the rest of a text, behind a byte or at the beginning
+abbrev pub closed_or : Bool → List ℕ → Bool
+closed_or b [] = b
+closed_or b (x ∷ t) = is_closed_text (x ∷ t)
+
+pub closed_init : (t : List ℕ) → closed_or true t ≡ is_closed_text t
+unfolding is_closed_text
+closed_init [] = refl
+closed_init (x ∷ t) = refl
+
+pub closed_more : (b : Bool) (x : ℕ) (t : List ℕ) → closed_or (eqb x 10) t ≡ closed_or b (x ∷ t)
+unfolding is_closed_text
+closed_more b x [] = refl
+closed_more b x (y ∷ t) = refl
+
+-- ---- the way
+
+module _ (p : Path) (v : Node) (t : List ℕ) (r : Option declared.RootPlace) (told : option_map root_told r ≡ root_place p.doc (steps_of p) (cut_of t)) where
+  abbrev l : Layout
+  l = layout_of p.doc (cut_of t)
+
+  by_place : (o : Option declared.RootPlace) → r ≡ o →
+      root_way (replace p.doc (steps_of p) v) (cut_of t) ≡ option_map (λ (w : RootPlace). root_at (is_kept (node_in p.doc (steps_of p) (cut_of t)) v) (layout_of p.doc (cut_of t)) v w w.old) (option_map root_told o)
+  unfolding root_way
+  by_place o is = ap (option_map (λ (w : RootPlace). root_at (is_kept (node_in p.doc (steps_of p) (cut_of t)) v) (layout_of p.doc (cut_of t)) v w w.old)) (sym told ∙ ap (option_map root_told) is)
+
+  -- an inline root, or steps below the root
+  pub no_place : r ≡ None → root_way (replace p.doc (steps_of p) v) (cut_of t) ≡ None
+  no_place is = by_place None is
+
+  -- a block collection
+  pub collection_there : (w : declared.RootPlace) (old : Bor (List ℕ)) (k : Layout) → r ≡ Some w → w.old ≡ Some old → k ≡ layout_of p.doc (cut_of t) →
+      root_way (replace p.doc (steps_of p) v) (cut_of t) ≡ Some (root_segments k v (root_told w) old.now)
+  collection_there w old k is there same =
+      by_place (Some w) is
+      ∙ (ap (λ (o : Option (Bor (List ℕ))). Some (root_at (is_kept (node_in p.doc (steps_of p) (cut_of t)) v) (layout_of p.doc (cut_of t)) v (root_told w) (lent o))) there ∙ ap (λ (m : Layout). Some (root_segments m v (root_told w) old.now)) (sym same))
+
+  -- nothing is written there
+  pub nothing_there : (w : declared.RootPlace) (k : Layout) (kept : Bool) (n : Option Node) → r ≡ Some w → w.old ≡ None → k ≡ layout_of p.doc (cut_of t) → n ≡ located p t → kept ≡ is_kept n v →
+      root_way (replace p.doc (steps_of p) v) (cut_of t) ≡ Some (new_segments kept k v (root_told w))
+  nothing_there w k kept n is none same node keeps =
+      by_place (Some w) is
+      ∙ (ap (λ (o : Option (Bor (List ℕ))). Some (root_at (is_kept (node_in p.doc (steps_of p) (cut_of t)) v) (layout_of p.doc (cut_of t)) v (root_told w) (lent o))) none
+      ∙ (λ i. Some (new_segments ((ap (λ m. is_kept m v) (sym (node_located p t) ∙ sym node) ∙ sym keeps) i) (sym same i) v (root_told w))))

@@ -1,0 +1,139 @@
+//! The way to write the root of a document: in the place of a block collection, or where none is
+//! written.
+ghost use Rattle.std.specs.Prelude.{◌≡◌, IfOk, Some, string_bytes};
+ghost use Rattle.yq_inline.specs.Values.{node_of};
+ghost use Rattle.yq_scalar.specs.BlockWritten.{break_text};
+ghost use Rattle.yq_block.specs.BlockText.{block_value};
+ghost use Rattle.yq_expr.specs.Operations.{operation_of};
+ghost use Rattle.yq_tree.specs.Reading.{cut_of};
+ghost use Rattle.yq_tree.specs.RootReading.{root_told};
+ghost use Rattle.yq_ways.specs.AppendWay.{put_behind};
+ghost use Rattle.yq_root_ways.specs.RootWriting as spec;
+ghost use Rattle.yq_ways.specs.WayAnswers.{Carries};
+ghost use Rattle.yq_ways.specs.Ways.{IsWay};
+
+use std::alloc::{AllocError, Global};
+use yq_block::{Layout, push_block};
+use yq_expr::{Op, Value};
+use yq_scalar::block_written::break_text;
+use yq_script::{Edited, ExchangeError, Segment, exchange};
+use yq_tree::{Documents, RootPlace};
+use yq_ways::{is_kept, layout_of};
+
+/// What the segments make of a text reads as its documents with the value as the root of one.
+pub fn roots_read()
+    ensures { IsWay spec.root_way }
+{}
+
+/// Whether a text is empty or ends in a break.
+#[tactic(auto, unfolding(crate::specs::RootWriting::is_closed_text))]
+fn is_closed_text(text: &[u8]) -> bool
+    ensures { result ≡ spec.is_closed_text text.now }
+{
+    let mut is_closed = true;
+    let mut rest = text;
+    'each: while let [first, after @ ..] = rest {
+        is_closed = *first == b'\n';
+        rest = after;
+    }
+    is_closed
+}
+
+/// A value in block style, behind the spaces before its first line.
+fn value_text(
+    alloc: Global,
+    layout: &Layout,
+    column: usize,
+    value: &Value,
+) -> Result<String, AllocError>
+    ensures { IfOk result (λ s. string_bytes s ≡ block_value layout.now column (node_of value.now)) }
+{
+    let mut text = String::new(alloc);
+    push_block(alloc, &mut text, layout, column, value)?;
+    Ok(text)
+}
+
+/// The same with a break: behind it, or in front of it, where the line before has none.
+fn value_lines(
+    alloc: Global,
+    layout: &Layout,
+    place: &RootPlace<'_>,
+    value: &Value,
+) -> Result<String, AllocError>
+    ensures { IfOk result (λ s. string_bytes s ≡ put_behind (spec.is_closed_text place.now.before.now) (break_text layout.now.br) (block_value layout.now place.now.column (node_of value.now))) }
+{
+    let mut text = String::new(alloc);
+    if is_closed_text(place.before.as_bytes()) {
+        push_block(alloc, &mut text, layout, place.column, value)?;
+        text.push_str(break_text(layout.br))?;
+    } else {
+        text.push_str(break_text(layout.br))?;
+        push_block(alloc, &mut text, layout, place.column, value)?;
+    }
+    Ok(text)
+}
+
+/// A value in the place of a block collection.
+fn put_root<'d>(
+    alloc: Global,
+    layout: &Layout,
+    place: RootPlace<'d>,
+    old: &'d str,
+    value: &Value,
+) -> Result<Option<Edited>, ExchangeError>
+    ensures { Carries result (Some (spec.root_segments layout.now (node_of value.now) (root_told place.entry) old.now)) }
+{
+    let text = value_text(alloc, layout, place.column, value)?;
+    let segments = [
+        Segment::Keep(place.before),
+        Segment::Put(old, &text),
+        Segment::Keep(place.behind),
+    ];
+    Ok(Some(exchange(alloc, &segments)?))
+}
+
+/// A value on lines of its own in a document that has no rows, or nothing, where it is kept.
+fn put_new(
+    alloc: Global,
+    kept: bool,
+    layout: &Layout,
+    place: &RootPlace<'_>,
+    value: &Value,
+) -> Result<Option<Edited>, ExchangeError>
+    ensures { Carries result (Some (spec.new_segments kept layout.now (node_of value.now) (root_told place.now))) }
+{
+    if kept {
+        let segments = [Segment::Keep(place.before), Segment::Keep(place.behind)];
+        return Ok(Some(exchange(alloc, &segments)?));
+    }
+    let lines = value_lines(alloc, layout, place, value)?;
+    let segments = [
+        Segment::Keep(place.before),
+        Segment::Put("", &lines),
+        Segment::Keep(place.behind),
+    ];
+    Ok(Some(exchange(alloc, &segments)?))
+}
+
+/// An operation carried out by a value as a root: in the place of a block collection, or where none
+/// is written.
+pub fn root_way(
+    alloc: Global,
+    documents: &Documents<'_>,
+    op: &Op,
+) -> Result<Option<Edited>, ExchangeError>
+    ensures { Carries result (spec.root_way (operation_of op.now) (cut_of documents.now)) }
+{
+    let Op::Replace(path, value) = op else {
+        return Ok(None);
+    };
+    let Some(place) = documents.root_place(path) else {
+        return Ok(None);
+    };
+    let layout = layout_of(documents, path.doc);
+    if let Some(old) = place.old {
+        return put_root(alloc, &layout, place, old, value);
+    }
+    let kept = is_kept(documents.locate(path), value);
+    put_new(alloc, kept, &layout, &place, value)
+}
