@@ -10,10 +10,10 @@ ghost use Rattle.yq_splice.specs.Theorems.{IsApplied, IsFitting, IsRefused};
 use crate::edit_error::EditError;
 use crate::operands::operand_holds;
 use std::alloc::{AllocError, Global};
+use yq_carrying::carry_by_way;
 use yq_expr::Op;
 use yq_script::Edited;
 use yq_tree::{Documents, read};
-use yq_carrying::carry_by_way;
 
 /// The text as it is.
 pub(crate) fn unchanged(alloc: Global, text: &str) -> Result<Edited, AllocError>
