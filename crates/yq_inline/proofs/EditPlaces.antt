@@ -1,7 +1,5 @@
--- The bytes of an edit, by the places of the parts.
-use Rattle.std.proofs.Common.{◌≡◌, ℕ, ◌-◌, List, ◌++◌, length, take, drop, refl, sym, ap, ◌∙◌, arith, append_assoc, length-append}
-use Rattle.std.proofs.Math.Seq.{take-append_seam, drop-append_seam}
-use Rattle.yq_inline.specs.FlowEdits.{Becomes}
+-- Where nodes, items and entries begin and end.
+use Rattle.std.proofs.Common.{◌≡◌, ℕ, ◌-◌, List, length, refl, ◌∙◌}
 use Rattle.yq_inline.specs.Entries.{EntryPieces, start_of, end_of, entry_start, locate_entry, pieces_text}
 use Rattle.yq_inline.specs.Nodes.{Key, bare, keyed, Node, empty, alias, scalar, coll, anchored, key_text, node_text}
 use Rattle.yq_inline.specs.Places.{Placed, placed, with_anchor, locate}
@@ -35,13 +33,3 @@ entry_placed total x = go x.key where
   go : (key : Key) → entry_start (locate_entry total (record { key = key; node = x.node; rest = x.rest })) ≡ total - length (key_text key (node_text x.node x.rest))
   go bare = start_placed total x.node x.rest
   go (keyed p b g) = refl
-
--- the new text: what stands before the bytes, the new ones, and what stands behind
-pub becomes_bytes : (t u old new behind : List ℕ) → Becomes t u old new behind → u ≡ take (length t - length (old ++ behind)) t ++ (new ++ drop (length t - length behind) t)
-becomes_bytes t u old new behind h =
-    let first : length t - length (old ++ behind) ≡ length h.before = omega (arith, ap length h.was, length-append h.before (old ++ behind)) in
-    let whole : t ≡ (h.before ++ old) ++ behind = h.was ∙ sym (append_assoc h.before old behind) in
-    let second : length t - length behind ≡ length (h.before ++ old) = omega (arith, ap length whole, length-append (h.before ++ old) behind) in
-    let front : take (length t - length (old ++ behind)) t ≡ h.before = ap (λ n. take n t) first ∙ (ap (take (length h.before)) h.was ∙ take-append_seam h.before (old ++ behind)) in
-    let back : drop (length t - length behind) t ≡ behind = ap (λ n. drop n t) second ∙ (ap (drop (length (h.before ++ old))) whole ∙ drop-append_seam (h.before ++ old) behind) in
-    h.is ∙ sym (λ i. front i ++ (new ++ back i))

@@ -39,6 +39,7 @@ pub mod ReturnLaws
 pub mod RemoveLaws
 pub mod EditPaths
 pub mod EditPlaces
+pub mod EditBytes
 pub mod FlowLoops
 pub mod PlacedEdits
 pub mod Marks

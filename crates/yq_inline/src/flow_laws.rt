@@ -8,7 +8,7 @@ ghost use Rattle.yq_scalar.specs.Scalar.{ScalarText};
 ghost use Rattle.yq_scalar.specs.Tree as tree;
 ghost use Rattle.yq_scalar.specs.Writable.{can_write};
 ghost use Rattle.yq_scalar.specs.Written as scalars;
-ghost use Rattle.yq_scalar.specs.declared.style.Place.TheVariants.{Flow};
+ghost use Rattle.yq_scalar.specs.declared.style.Place.TheVariants.{Flow, Block};
 ghost use Rattle.yq_scalar.specs.declared.style.Style.{Style};
 ghost use Rattle.yq_inline.specs.Collections.{CollAt, CollPieces, IsCollAt, coll_along, coll_in, item_in, room_in};
 ghost use Rattle.yq_inline.specs.Entries.{EntryPieces, end_of, entry_pieces_at, entry_start, item_at, locate_entry, pieces_text};
@@ -19,8 +19,9 @@ ghost use Rattle.yq_inline.specs.Places.{Placed, locate};
 ghost use Rattle.yq_inline.specs.Removals.{removing};
 ghost use Rattle.yq_inline.specs.Spans.{HasSpans};
 ghost use Rattle.yq_inline.specs.Trees.{inner, key_content, scalar_node, tree_of};
-ghost use Rattle.yq_inline.specs.Valued.{IsLabel, IsValid, IsValueTree};
-ghost use Rattle.yq_inline.specs.Written.{flow_key, flow_of};
+ghost use Rattle.yq_inline.specs.Valued.{IsLabel, IsValid, IsValueTree, Spells, SpellsScalar};
+ghost use Rattle.yq_inline.specs.Written.{flow_key, flow_of, flow_text};
+ghost use Rattle.yq_inline.specs.FlowValues.{SpellsInFlow};
 
 /// The content of an item or entry of a flow collection gives way to another node, behind its own
 /// anchor.
@@ -71,4 +72,21 @@ pub fn flow_places()
 pub fn edit_spans()
     ensures replace { (t : List ℕ) (p : Placed) → HasSpans t p → IsCharBoundary t (replace_place p).start × IsCharBoundary t (replace_place p).end }
     ensures remove { (t : List ℕ) (s : Step) (p : Placed) (e : PlacedEdit) → HasSpans t p → remove_place t s p ≡ Some e → IsCharBoundary t e.start × IsCharBoundary t e.end }
+{}
+
+/// What is written in flow style spells the tree that is written.
+pub fn flow_spells()
+    ensures { (v : tree.Node) → IsValueTree v → Spells v (flow_text v) }
+{}
+
+/// What is written for a scalar outside flow collections, in a style that can write it on one line,
+/// spells it.
+pub fn scalar_spells()
+    ensures { (s : ScalarText) (style : Style) → IsValid s → scalars.IsInline style → can_write s style Block ≡ true → SpellsScalar s (scalars.written style s.text) }
+{}
+
+/// What is written for a scalar in a flow collection, in a style that can write it there, spells it
+/// there.
+pub fn scalar_spells_in_flow()
+    ensures { (s : ScalarText) (style : Style) → IsValid s → scalars.IsInline style → can_write s style Flow ≡ true → SpellsInFlow s (scalars.written style s.text) }
 {}

@@ -1,21 +1,12 @@
 //! Laws of inline nodes, each the contract of a function that does nothing.
 ghost use Rattle.std.specs.Prelude.{◌≡◌, ◌+◌, ◌∷◌, length, Bool, List, Option, Some, option_map, true, ℕ, ℤ};
 ghost use Rattle.yq_scalar.specs.Paths.{Step};
-ghost use Rattle.yq_scalar.specs.Tree as tree;
 ghost use Rattle.yq_scalar.specs.declared.style.Place.{Place};
 ghost use Rattle.yq_inline.specs.Inline.{IsInline, IsInlineAt, inline_at};
 ghost use Rattle.yq_inline.specs.Nodes.{IsNode, Node, node_text};
 ghost use Rattle.yq_inline.specs.Entries.{EntryPieces, StandsIn, placed_entry_at, entry_pieces_at, locate_entry, pieces_text};
 ghost use Rattle.yq_inline.specs.Places.{Placed, locate};
 ghost use Rattle.yq_inline.specs.Trees.{placed_tree, tree_of};
-ghost use Rattle.yq_scalar.specs.Scalar.{ScalarText};
-ghost use Rattle.yq_scalar.specs.Writable.{can_write};
-ghost use Rattle.yq_scalar.specs.Written as scalars;
-ghost use Rattle.yq_scalar.specs.declared.style.Place.TheVariants.{Block, Flow};
-ghost use Rattle.yq_scalar.specs.declared.style.Style.{Style};
-ghost use Rattle.yq_inline.specs.Valued.{IsValid, IsValueTree, Spells, SpellsScalar};
-ghost use Rattle.yq_inline.specs.FlowValues.{SpellsInFlow};
-ghost use Rattle.yq_inline.specs.Written.{flow_text};
 
 /// What is read as an inline node is one, what is one is read, and a text begins with one at most.
 pub fn one_inline()
@@ -27,23 +18,6 @@ pub fn one_inline()
 /// The tree of an inline node with its places is that of its pieces.
 pub fn one_tree()
     ensures { (total : ℕ) (node : Node) (rest : List ℕ) → placed_tree (locate total node rest) ≡ tree_of node }
-{}
-
-/// What is written in flow style spells the tree that is written.
-pub fn flow_spells()
-    ensures { (v : tree.Node) → IsValueTree v → Spells v (flow_text v) }
-{}
-
-/// What is written for a scalar outside flow collections, in a style that can write it on one line,
-/// spells it.
-pub fn scalar_spells()
-    ensures { (s : ScalarText) (style : Style) → IsValid s → scalars.IsInline style → can_write s style Block ≡ true → SpellsScalar s (scalars.written style s.text) }
-{}
-
-/// What is written for a scalar in a flow collection, in a style that can write it there, spells it
-/// there.
-pub fn scalar_spells_in_flow()
-    ensures { (s : ScalarText) (style : Style) → IsValid s → scalars.IsInline style → can_write s style Flow ≡ true → SpellsInFlow s (scalars.written style s.text) }
 {}
 
 /// Each item and entry to which a path leads stands in the text of the node where its places say, and

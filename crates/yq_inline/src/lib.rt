@@ -16,12 +16,13 @@ mod scalar;
 mod value;
 mod write;
 
-pub use flow_laws::{appended_in_flow, edit_spans, flow_places, removed_in_flow, replaced_in_flow};
+pub use flow_laws::{
+    appended_in_flow, edit_spans, flow_places, flow_spells, removed_in_flow, replaced_in_flow,
+    scalar_spells, scalar_spells_in_flow,
+};
 pub use flow_place::EditPlace;
 pub use inline::{Form, Inline};
-pub use laws::{
-    entry_places, flow_spells, one_inline, one_tree, scalar_spells, scalar_spells_in_flow,
-};
+pub use laws::{entry_places, one_inline, one_tree};
 pub use path::{Entry, Step};
 pub use read::{DEPTH_LIMIT, read_inline};
 pub use scalar::style_of;

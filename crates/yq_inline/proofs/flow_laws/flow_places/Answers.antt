@@ -1,5 +1,6 @@
 use Rattle.yq_inline.proofs.EditPaths.{path_item, path_coll}
-use Rattle.yq_inline.proofs.EditPlaces.{entry_placed, end_placed, becomes_bytes}
+use Rattle.yq_inline.proofs.EditPlaces.{entry_placed, end_placed}
+use Rattle.yq_inline.proofs.EditBytes.{becomes_bytes}
 use Rattle.yq_inline.proofs.PlacedEdits.{replace_placed, append_placed}
 use Rattle.yq_inline.proofs.RemovePlaces.{remove_placed}
 use Rattle.yq_inline.proofs.flow_laws.flow_places.Goals as goal

@@ -1,5 +1,5 @@
 use Rattle.yq_inline.proofs.SpelledLaws.{flow_spells}
-use Rattle.yq_inline.proofs.laws.flow_spells.Goals as goal
+use Rattle.yq_inline.proofs.flow_laws.flow_spells.Goals as goal
 
 pub returns : goal.returns
 returns c = flow_spells
