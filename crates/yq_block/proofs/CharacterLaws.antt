@@ -14,7 +14,7 @@ use Rattle.yq_scalar.specs.Tree.{Children}
 use Rattle.yq_scalar.proofs.Bools.{and_true}
 use Rattle.yq_inline.specs.Nodes as inline
 use Rattle.yq_inline.specs.Nodes.{node_text}
-use Rattle.yq_inline.specs.Valued.{IsLabel, IsValueTree, AreValueTrees}
+use Rattle.yq_flow.specs.Valued.{IsLabel, IsValueTree, AreValueTrees}
 use Rattle.yq_rows.proofs.CharacterLaws.{pairs_join}
 use Rattle.yq_rows.proofs.PieceLaws.{both_true}
 use Rattle.yq_block.specs.BlockRows.{block_key, column_below, inline_of}

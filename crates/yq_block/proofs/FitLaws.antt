@@ -3,7 +3,7 @@ use Rattle.std.proofs.Common.{◌≡◌, ℕ, Bool, true, false, List, [], ◌�
 use Rattle.yq_scalar.specs.Tree as tree
 use Rattle.yq_scalar.specs.Tree.{Children}
 use Rattle.yq_inline.specs.Nodes as inline
-use Rattle.yq_inline.specs.Valued.{IsValueTree, AreValueTrees}
+use Rattle.yq_flow.specs.Valued.{IsValueTree, AreValueTrees}
 use Rattle.yq_rows.specs.Rows as rows
 use Rattle.yq_rows.specs.Rows.{Row}
 use Rattle.yq_lines.specs.Anchors.{names_of, names_in, AreBound, HaveOneAnchorEach}

@@ -17,7 +17,7 @@ use Rattle.yq_scalar.proofs.Bools.{and_true, chosen}
 use Rattle.yq_scalar.proofs.PlainSpells.{writable_text}
 use Rattle.yq_scalar.proofs.PlainWritten.{plain_text_parts}
 use Rattle.yq_inline.specs.Written.{scalar_text}
-use Rattle.yq_inline.proofs.SpelledScalars.{plain_anywhere}
+use Rattle.yq_flow.proofs.SpelledScalars.{plain_anywhere}
 use Rattle.yq_inline.proofs.Alikes.{no_first, no_second, no_third}
 use Rattle.yq_scalar.proofs.WrittenText.{scalars_append}
 use Rattle.std.specs.Prelude.{◌≢◌}

@@ -9,7 +9,7 @@ use Rattle.yq_scalar.specs.Tree as tree
 use Rattle.yq_scalar.specs.Tree.{Children}
 use Rattle.yq_inline.specs.Nodes as inline
 use Rattle.yq_inline.specs.Trees.{inner}
-use Rattle.yq_inline.specs.Valued.{IsLabel, IsValueTree, AreValueTrees}
+use Rattle.yq_flow.specs.Valued.{IsLabel, IsValueTree, AreValueTrees}
 use Rattle.yq_lines.specs.Comments.{head_comment, line_comment}
 use Rattle.yq_rows.specs.Rows as rows
 use Rattle.yq_rows.specs.Rows.{Nothing, Inline, Row, behind_columns}

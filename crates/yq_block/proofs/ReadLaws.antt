@@ -7,7 +7,7 @@ use Rattle.yq_scalar.specs.Text.{is_marker}
 use Rattle.yq_scalar.specs.Tree as tree
 use Rattle.yq_inline.specs.Nodes as inline
 use Rattle.yq_inline.specs.Nodes.{node_text}
-use Rattle.yq_inline.specs.Valued.{IsValueTree}
+use Rattle.yq_flow.specs.Valued.{IsValueTree}
 use Rattle.yq_inline.proofs.WrittenLaws.{node_then}
 use Rattle.yq_lines.specs.Comments.{head_comment}
 use Rattle.yq_rows.specs.Grammar.{is_entry, is_plain, unlimited, AreRows, no_rows}

@@ -11,7 +11,7 @@ use Rattle.yq_scalar.specs.Tree as tree
 use Rattle.yq_scalar.specs.Tree.{Children}
 use Rattle.yq_inline.specs.Nodes as inline
 use Rattle.yq_inline.specs.Nodes.{node_text}
-use Rattle.yq_inline.specs.Valued.{IsLabel, IsValueTree, AreValueTrees}
+use Rattle.yq_flow.specs.Valued.{IsLabel, IsValueTree, AreValueTrees}
 use Rattle.yq_rows.specs.Grammar.{is_plain, unlimited, allows, limit_behind, Limit, is_entry, IsMark, IsContent, IsRow}
 use Rattle.yq_rows.specs.Rows.{Nothing, Inline, Row, rows_text, Mark, Dash, Key, Content, content_text, mark_text, parent_of}
 use Rattle.yq_inline.proofs.Alikes.{sep_first}

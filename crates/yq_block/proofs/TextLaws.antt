@@ -6,7 +6,7 @@ use Rattle.yq_scalar.specs.Tree as tree
 use Rattle.yq_scalar.specs.Tree.{Children}
 use Rattle.yq_inline.specs.Nodes as inline
 use Rattle.yq_inline.specs.Nodes.{node_text}
-use Rattle.yq_inline.specs.Valued.{IsValueTree, AreValueTrees}
+use Rattle.yq_flow.specs.Valued.{IsValueTree, AreValueTrees}
 use Rattle.yq_inline.proofs.WrittenLaws.{node_then}
 use Rattle.yq_rows.specs.Rows.{Row, behind_indent, rows_text}
 use Rattle.yq_block.specs.BlockRows.{behind_dash, block_key, children_rows, column_below, end_before, entry_rows, inline_of, node_rows}

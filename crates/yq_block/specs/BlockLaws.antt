@@ -10,7 +10,7 @@ use Rattle.yq_scalar.specs.Scalar.{string_of}
 use Rattle.yq_scalar.specs.Tree as tree
 use Rattle.yq_inline.specs.Inline.{IsInline}
 use Rattle.yq_inline.specs.Nodes as inline
-use Rattle.yq_inline.specs.Valued.{IsValueTree}
+use Rattle.yq_flow.specs.Valued.{IsValueTree}
 use Rattle.yq_inline.specs.Written.{scalar_text}
 use Rattle.yq_lines.specs.Comments.{line_comment}
 use Rattle.yq_rows.specs.Exchange.{asked_behind}

@@ -6,7 +6,7 @@ use Rattle.yq_scalar.specs.Plain.{ends_plain}
 use Rattle.yq_scalar.specs.Tree as tree
 use Rattle.yq_scalar.specs.Tree.{Children}
 use Rattle.yq_inline.specs.Inline.{depth_limit}
-use Rattle.yq_inline.specs.Valued.{IsValueTree}
+use Rattle.yq_flow.specs.Valued.{IsValueTree}
 use Rattle.yq_rows.specs.Grammar.{IsTail, key_limit}
 use Rattle.yq_block.specs.BlockRows.{block_key}
 

@@ -1,6 +1,6 @@
 pub use Rattle.yq_scalar.specs.Keys
 pub use Rattle.yq_scalar.specs.Tree
-pub use Rattle.yq_inline.specs.Valued
+pub use Rattle.yq_flow.specs.Valued
 pub use Rattle.yq_inline.specs.Values
 pub use Rattle.yq_inline.specs.Written
 pub use Rattle.yq_rows.specs.Exchange

@@ -1,6 +1,6 @@
 //! An item or entry of a collection, written in block style.
 ghost use Rattle.std.specs.Prelude.{◌≡◌, ◌++◌, IfOk, OnOk, string_bytes};
-ghost use Rattle.yq_inline.specs.Valued.{IsValueTree};
+ghost use Rattle.yq_flow.specs.Valued.{IsValueTree};
 ghost use Rattle.yq_inline.specs.Values.{node_of};
 ghost use Rattle.yq_lines.specs.Bodies.{lent};
 ghost use Rattle.yq_block.specs.Alone.{alone};

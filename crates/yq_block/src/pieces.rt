@@ -6,7 +6,7 @@ ghost use Rattle.yq_block.specs.BlockRows as rows;
 
 use crate::layout::Layout;
 use std::alloc::{AllocError, Global};
-use yq_inline::push_scalar;
+use yq_flow::push_scalar;
 use yq_scalar::block_written::break_text;
 use yq_scalar::{Place, Scalar, push_spaces};
 

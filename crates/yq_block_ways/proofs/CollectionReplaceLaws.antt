@@ -5,7 +5,7 @@ use Rattle.yq_scalar.specs.Characters.{text_limit}
 use Rattle.yq_scalar.specs.Paths.{Step, node_at}
 use Rattle.yq_scalar.specs.Tree.{Node}
 use Rattle.yq_scalar.proofs.Bools.{bind_some}
-use Rattle.yq_inline.specs.Valued.{IsValueTree}
+use Rattle.yq_flow.specs.Valued.{IsValueTree}
 use Rattle.yq_inline.proofs.WrittenLaws.{node_then}
 use Rattle.yq_lines.specs.Anchors.{names_of}
 use Rattle.yq_lines.specs.Comments as comments

@@ -4,7 +4,7 @@ use Rattle.yq_scalar.specs.Characters.{text_limit}
 use Rattle.yq_scalar.specs.Paths.{Step, node_at}
 use Rattle.yq_scalar.specs.Tree.{Node}
 use Rattle.yq_scalar.proofs.Bools.{guard_then}
-use Rattle.yq_inline.specs.Valued.{IsValueTree}
+use Rattle.yq_flow.specs.Valued.{IsValueTree}
 use Rattle.yq_lines.specs.Places.{content}
 use Rattle.yq_rows.specs.Rows.{Part, Cut, cut_text}
 use Rattle.yq_tree.specs.Reading.{documents, read_at, root_of}

@@ -25,7 +25,7 @@ use Rattle.yq_inline.specs.Inline.{depth_limit}
 use Rattle.yq_inline.specs.Nodes as inline
 use Rattle.yq_inline.specs.Nodes.{node_text, is_bare, IsNode}
 use Rattle.yq_inline.specs.Trees.{node_anchor}
-use Rattle.yq_inline.specs.Valued.{IsValueTree}
+use Rattle.yq_flow.specs.Valued.{IsValueTree}
 use Rattle.yq_inline.proofs.WrittenLaws.{node_then}
 use Rattle.yq_lines.specs.Anchors.{names_of}
 use Rattle.yq_lines.specs.Comments.{line_comment as comment_in}

@@ -35,7 +35,7 @@ use Rattle.yq_scalar.proofs.Bools.{bind_some, and_true, guard_then, is_true}
 use Rattle.yq_scalar.proofs.LineLaws.{AreLines, joined_lines, lines_are}
 use Rattle.yq_scalar.proofs.LiteralText.{literal_block, literal_can, literal_content}
 use Rattle.yq_scalar.proofs.PlainSpells.{string_kind}
-use Rattle.yq_inline.specs.Valued.{IsValueTree}
+use Rattle.yq_flow.specs.Valued.{IsValueTree}
 use Rattle.yq_lines.specs.Outline.{anchored, head_or, value}
 use Rattle.yq_lines.specs.Places.{content}
 use Rattle.yq_rows.specs.Exchange.{allows_first, row_front, with_content}

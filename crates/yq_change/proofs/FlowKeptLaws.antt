@@ -6,9 +6,9 @@ use Rattle.yq_scalar.specs.Paths.{Step, is_here, further}
 use Rattle.yq_inline.specs.Alike.{fresh}
 use Rattle.yq_inline.specs.Collections.{CollPieces, coll_along, put_at, change_item}
 use Rattle.yq_inline.specs.Entries.{EntryPieces, item_at}
-use Rattle.yq_inline.specs.FlowEdits.{FlowEdit}
+use Rattle.yq_flow.specs.FlowEdits.{FlowEdit}
 use Rattle.yq_inline.specs.Nodes.{Node, empty, alias, scalar, coll, anchored, Items, none, item, sep_text, items_text}
-use Rattle.yq_inline.specs.Removals.{drop_item, drop_last, ends_marked, gap_of, gap_to, has_next, is_several, removing_before, removing_end, removing_last, removing_sole, removing_to_comma, until_last, with_gap}
+use Rattle.yq_flow.specs.Removals.{drop_item, drop_last, ends_marked, gap_of, gap_to, has_next, is_several, removing_before, removing_end, removing_last, removing_sole, removing_to_comma, until_last, with_gap}
 use Rattle.yq_inline.specs.Trees.{inner, key_content}
 use Rattle.yq_rows.specs.Exchange.{with_content}
 use Rattle.yq_rows.specs.Rows.{Content, Inline, Row, Part}

@@ -6,12 +6,12 @@ use Rattle.yq_scalar.specs.Text.{is_empty, separates}
 use Rattle.yq_scalar.specs.Tree as tree
 use Rattle.yq_inline.specs.Alike.{Alike, stop, after}
 use Rattle.yq_inline.specs.Collections.{CollPieces, coll_along, put_at}
-use Rattle.yq_inline.specs.FlowEdits.{edited_node}
+use Rattle.yq_flow.specs.FlowEdits.{edited_node}
 use Rattle.yq_inline.specs.Inline.{IsInline}
 use Rattle.yq_inline.specs.Nodes.{Node, empty, alias, scalar, coll, anchored, Items, node_text, items_text}
 use Rattle.yq_inline.specs.Trees.{collection, items_tree, node_anchor, node_head, tree_of}
 use Rattle.yq_inline.proofs.Alikes.{alike_append, alike_separates}
-use Rattle.yq_inline.proofs.CollLaws.{open_stop}
+use Rattle.yq_flow.proofs.CollLaws.{open_stop}
 use Rattle.yq_lines.specs.Anchors.{IsNoAlias}
 use Rattle.yq_lines.specs.Comments.{head_comment}
 use Rattle.yq_lines.specs.Group.{level_or}

@@ -3,7 +3,7 @@ use Rattle.std.specs.Prelude.{◌≡◌, ℕ, List}
 use Rattle.yq_scalar.specs.Paths.{Step}
 use Rattle.yq_inline.specs.Collections.{CollPieces, put_at}
 use Rattle.yq_inline.specs.Nodes.{Items}
-use Rattle.yq_inline.specs.Removals.{removing}
+use Rattle.yq_flow.specs.Removals.{removing}
 use Rattle.yq_lines.specs.Places.{Found}
 use Rattle.yq_rows.specs.Rows.{Part, Cut}
 use Rattle.yq_tree.specs.Documents.{EachHasFitKeys, HasFitKeys, lead_of}

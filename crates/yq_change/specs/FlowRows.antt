@@ -4,7 +4,7 @@ use Rattle.yq_scalar.specs.Paths.{Step, change, within}
 use Rattle.yq_scalar.specs.Tree.{Children}
 use Rattle.yq_scalar.specs.declared.style.Place.TheVariants as places
 use Rattle.yq_inline.specs.Collections.{CollAt, CollPieces, IsCollAt, coll_along}
-use Rattle.yq_inline.specs.FlowEdits.{FlowEdit, IsEdited, edited_node}
+use Rattle.yq_flow.specs.FlowEdits.{FlowEdit, IsEdited, edited_node}
 use Rattle.yq_inline.specs.Nodes.{Node, node_text}
 use Rattle.yq_lines.specs.Places.{lines_before, Found}
 use Rattle.yq_rows.specs.Exchange.{with_content}

@@ -5,15 +5,15 @@ use Rattle.std.specs.Str.{IsCharBoundary}
 use Rattle.yq_scalar.specs.Answers.{◌>>=◌}
 use Rattle.yq_scalar.specs.Paths.{Step, is_here, further}
 use Rattle.yq_inline.specs.Collections.{CollPieces}
-use Rattle.yq_inline.specs.declared.among.Among.{Among}
+use Rattle.yq_flow.specs.declared.among.Among.{Among}
 use Rattle.yq_inline.specs.Entries.{EntryPieces, end_of, entry_start, item_at}
-use Rattle.yq_inline.specs.FlowEdits.{FlowEdit}
-use Rattle.yq_inline.specs.FlowPlaces.{PlacedEdit, among, first_start, place_edit, remove_among, remove_in, remove_part, remove_place}
+use Rattle.yq_flow.specs.FlowEdits.{FlowEdit}
+use Rattle.yq_flow.specs.FlowPlaces.{PlacedEdit, among, first_start, place_edit, remove_among, remove_in, remove_part, remove_place}
 use Rattle.yq_inline.specs.Nodes.{Items, none, item, items_text, key_text, node_text, sep_text}
 use Rattle.yq_inline.specs.Places.{Placed, placed, Parts, nothing, name, text, sequence, mapping, holder, key_placed, locate, locate_items}
-use Rattle.yq_inline.specs.Removals.{removing}
+use Rattle.yq_flow.specs.Removals.{removing}
 use Rattle.yq_inline.specs.Trees.{inner, key_content}
-use Rattle.yq_inline.proofs.RemovePlaces.{remove_placed}
+use Rattle.yq_flow.proofs.RemovePlaces.{remove_placed}
 use Rattle.yq_inline.proofs.TreeLaws.{key_tree}
 use Rattle.yq_rows.specs.Rows.{Cut, cut_text}
 use Rattle.yq_tree.specs.FlowNodes.{flow_collection}

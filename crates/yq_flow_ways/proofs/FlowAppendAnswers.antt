@@ -8,8 +8,8 @@ use Rattle.yq_scalar.specs.Scalar.{string_of}
 use Rattle.yq_scalar.specs.Tree as tree
 use Rattle.yq_scalar.specs.declared.style.Place.TheVariants.{FlowKey}
 use Rattle.yq_inline.specs.Collections.{CollPieces}
-use Rattle.yq_inline.specs.FlowEdits.{FlowEdit}
-use Rattle.yq_inline.specs.FlowPlaces.{PlacedEdit, append_place, place_edit}
+use Rattle.yq_flow.specs.FlowEdits.{FlowEdit}
+use Rattle.yq_flow.specs.FlowPlaces.{PlacedEdit, append_place, place_edit}
 use Rattle.yq_inline.specs.Nodes.{key_text}
 use Rattle.yq_inline.specs.Places.{Placed, placed, nothing, name, text, sequence, mapping, Parts, locate, locate_items}
 use Rattle.yq_inline.specs.Written.{entry_text, flow_key, flow_text, scalar_text}

@@ -11,15 +11,15 @@ use Rattle.yq_scalar.specs.Tree as tree
 use Rattle.yq_scalar.specs.Tree.{children_of}
 use Rattle.yq_scalar.proofs.Bools.{bind_some}
 use Rattle.yq_inline.specs.Collections.{CollAt, CollPieces, IsCollAt, room_in}
-use Rattle.yq_inline.specs.FlowEdits.{FlowEdit, add_last, appending, appending_first, appending_last, behind_appended, behind_last, is_none}
-use Rattle.yq_inline.specs.FlowPlaces.{PlacedEdit, append_at, append_place, last_end, place_edit}
+use Rattle.yq_flow.specs.FlowEdits.{FlowEdit, add_last, appending, appending_first, appending_last, behind_appended, behind_last, is_none}
+use Rattle.yq_flow.specs.FlowPlaces.{PlacedEdit, append_at, append_place, last_end, place_edit}
 use Rattle.yq_inline.specs.Nodes.{Key, Node, Items, none, item, key_text, node_text, open_of}
 use Rattle.yq_inline.specs.Places.{Placed, placed, nothing, name, text, sequence, mapping, Parts, end, part, locate}
 use Rattle.yq_inline.specs.Spans.{HasSpans, PartsHaveSpans}
-use Rattle.yq_inline.specs.Valued.{IsLabel, IsValueTree}
+use Rattle.yq_flow.specs.Valued.{IsLabel, IsValueTree}
 use Rattle.yq_inline.specs.Written.{flow_key, flow_of}
-use Rattle.yq_inline.proofs.PlacedEdits.{append_placed}
-use Rattle.yq_inline.proofs.ValueEdits.{value_appended}
+use Rattle.yq_flow.proofs.PlacedEdits.{append_placed}
+use Rattle.yq_flow.proofs.ValueEdits.{value_appended}
 use Rattle.yq_rows.specs.Rows.{Cut, cut_text}
 use Rattle.yq_tree.specs.Documents.{Document, EachHasFitKeys, HasFitKey, HasFitKeys, document_parts}
 use Rattle.yq_tree.specs.FlowNodes.{flow_collection}

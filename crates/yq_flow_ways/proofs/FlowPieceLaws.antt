@@ -12,11 +12,11 @@ use Rattle.yq_scalar.specs.Text.{front, is_feed, is_return}
 use Rattle.yq_scalar.proofs.Bools.{and_true}
 use Rattle.yq_inline.specs.Alike.{fresh}
 use Rattle.yq_inline.specs.Collections.{CollPieces, coll_text}
-use Rattle.yq_inline.specs.FlowEdits.{FlowEdit}
+use Rattle.yq_flow.specs.FlowEdits.{FlowEdit}
 use Rattle.yq_inline.specs.Nodes.{Sep, last, comma, Items, none, item, items_text, is_close, open_of}
-use Rattle.yq_inline.specs.Removals.{comma_new, ends_marked, gap_of, has_next, is_several, last_sep, removed_for, removing, removing_before, removing_end, removing_last, removing_sole, removing_to_comma, space_to, until_last}
+use Rattle.yq_flow.specs.Removals.{comma_new, ends_marked, gap_of, has_next, is_several, last_sep, removed_for, removing, removing_before, removing_end, removing_last, removing_sole, removing_to_comma, space_to, until_last}
 use Rattle.yq_inline.specs.Trees.{inner, key_content}
-use Rattle.yq_inline.proofs.ReturnLaws.{Whole}
+use Rattle.yq_flow.proofs.ReturnLaws.{Whole}
 use Rattle.yq_rows.proofs.CharacterLaws.{all_text, all_join, pairs_back}
 use Rattle.yq_rows.proofs.PieceLaws.{both_true}
 use Rattle.yq_change.specs.TextPieces.{IsPiece}

@@ -5,17 +5,17 @@ use Rattle.std.specs.Str.{IsCharBoundary}
 use Rattle.yq_scalar.specs.Characters.{pairs_returns, text_limit}
 use Rattle.yq_scalar.specs.Paths.{Step, change, remove_child, within}
 use Rattle.yq_inline.specs.Collections.{CollAt, IsCollAt}
-use Rattle.yq_inline.specs.FlowEdits.{FlowEdit, IsEdited}
-use Rattle.yq_inline.specs.FlowPlaces.{place_edit}
+use Rattle.yq_flow.specs.FlowEdits.{FlowEdit, IsEdited}
+use Rattle.yq_flow.specs.FlowPlaces.{place_edit}
 use Rattle.yq_inline.specs.Nodes.{node_text}
 use Rattle.yq_inline.specs.Places.{locate}
-use Rattle.yq_inline.specs.Removals.{removing}
-use Rattle.yq_inline.proofs.EditLaws.{around_is}
-use Rattle.yq_inline.proofs.EditSpans.{remove_spans}
-use Rattle.yq_inline.proofs.EditWholes.{removed_whole}
-use Rattle.yq_inline.proofs.RemoveLaws.{removed}
-use Rattle.yq_inline.proofs.RemovePlaces.{remove_placed}
-use Rattle.yq_inline.proofs.ReturnLaws.{pairs_behind}
+use Rattle.yq_flow.specs.Removals.{removing}
+use Rattle.yq_flow.proofs.EditLaws.{around_is}
+use Rattle.yq_flow.proofs.EditSpans.{remove_spans}
+use Rattle.yq_flow.proofs.EditWholes.{removed_whole}
+use Rattle.yq_flow.proofs.RemoveLaws.{removed}
+use Rattle.yq_flow.proofs.RemovePlaces.{remove_placed}
+use Rattle.yq_flow.proofs.ReturnLaws.{pairs_behind}
 use Rattle.yq_rows.specs.Rows.{Cut, cut_text}
 use Rattle.yq_tree.specs.Documents.{Document, document_parts}
 use Rattle.yq_tree.specs.Reading as reading

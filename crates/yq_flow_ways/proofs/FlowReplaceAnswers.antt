@@ -8,14 +8,14 @@ use Rattle.yq_scalar.specs.Paths.{Step}
 use Rattle.yq_scalar.specs.Tree as tree
 use Rattle.yq_inline.specs.Collections.{CollPieces}
 use Rattle.yq_inline.specs.Entries.{EntryPieces, PlacedEntry, entry_pieces_at, item_at, locate_entry, part_at, parts_of, placed_entry_at}
-use Rattle.yq_inline.specs.FlowEdits.{FlowEdit}
-use Rattle.yq_inline.specs.FlowPlaces.{PlacedEdit, place_edit, replace_place}
+use Rattle.yq_flow.specs.FlowEdits.{FlowEdit}
+use Rattle.yq_flow.specs.FlowPlaces.{PlacedEdit, place_edit, replace_place}
 use Rattle.yq_inline.specs.Nodes.{bare, coll, node_text}
 use Rattle.yq_inline.specs.Places.{Placed, placed}
 use Rattle.yq_inline.specs.Written.{flow_of}
-use Rattle.yq_inline.proofs.EditLaws.{around_is}
+use Rattle.yq_flow.proofs.EditLaws.{around_is}
 use Rattle.yq_inline.proofs.PathLaws.{items_hold, path_places}
-use Rattle.yq_inline.proofs.PlacedEdits.{replace_placed}
+use Rattle.yq_flow.proofs.PlacedEdits.{replace_placed}
 use Rattle.yq_rows.specs.Rows.{Cut, cut_text}
 use Rattle.yq_tree.specs.FlowNodes.{flow_collection}
 use Rattle.yq_tree.specs.FlowTold.{placed_collection, behind_anchor}

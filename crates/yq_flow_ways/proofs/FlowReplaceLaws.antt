@@ -11,19 +11,19 @@ use Rattle.yq_scalar.specs.Tree as tree
 use Rattle.yq_scalar.specs.declared.style.Place.TheVariants.{Flow}
 use Rattle.yq_inline.specs.Collections.{CollAt, IsCollAt, item_in, room_in}
 use Rattle.yq_inline.specs.Entries.{EntryPieces}
-use Rattle.yq_inline.specs.FlowEdits.{FlowEdit, IsEdited, anchor_in, content_node, put_content, put_item, put_value, replacing, space_for, spaced_key}
+use Rattle.yq_flow.specs.FlowEdits.{FlowEdit, IsEdited, anchor_in, content_node, put_content, put_item, put_value, replacing, space_for, spaced_key}
 use Rattle.yq_inline.specs.Nodes as inline
 use Rattle.yq_inline.specs.Nodes.{Key, bare, keyed, Items, none, item, is_bare, node_text}
 use Rattle.yq_inline.specs.Places.{locate}
 use Rattle.yq_inline.specs.Scalars.{style_of}
 use Rattle.yq_inline.specs.Trees.{inner, key_content, named, scalar_node}
-use Rattle.yq_inline.specs.Valued.{IsValueTree}
-use Rattle.yq_inline.proofs.EditLaws.{around_is}
-use Rattle.yq_inline.proofs.EditSpans.{EditIsSpan, replace_spans}
+use Rattle.yq_flow.specs.Valued.{IsValueTree}
+use Rattle.yq_flow.proofs.EditLaws.{around_is}
+use Rattle.yq_flow.proofs.EditSpans.{EditIsSpan, replace_spans}
 use Rattle.yq_inline.proofs.PathLaws.{items_hold}
-use Rattle.yq_inline.proofs.PlacedEdits.{replace_placed}
-use Rattle.yq_inline.proofs.ValueEdits.{change_last, scalar_replaced, value_replaced}
-use Rattle.yq_inline.proofs.ValueFits.{scalar_block}
+use Rattle.yq_flow.proofs.PlacedEdits.{replace_placed}
+use Rattle.yq_flow.proofs.ValueEdits.{change_last, scalar_replaced, value_replaced}
+use Rattle.yq_flow.proofs.ValueFits.{scalar_block}
 use Rattle.yq_lines.specs.Anchors.{names_of}
 use Rattle.yq_lines.specs.Outline.{anchored}
 use Rattle.yq_rows.specs.Rows.{Cut, cut_text}

@@ -8,8 +8,8 @@ use Rattle.yq_scalar.specs.Tree as tree
 use Rattle.yq_scalar.specs.Tree.{Children, children_of}
 use Rattle.yq_inline.specs.Collections.{CollPieces}
 use Rattle.yq_inline.specs.Entries.{EntryPieces, item_at}
-use Rattle.yq_inline.specs.FlowEdits.{appending}
-use Rattle.yq_inline.specs.Removals.{removing}
+use Rattle.yq_flow.specs.FlowEdits.{appending}
+use Rattle.yq_flow.specs.Removals.{removing}
 use Rattle.yq_inline.specs.Written.{flow_key, flow_of}
 use Rattle.yq_lines.specs.Places.{Found, find}
 use Rattle.yq_rows.specs.Rows.{Part, Cut, cut_text}

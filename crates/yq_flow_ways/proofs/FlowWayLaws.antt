@@ -5,7 +5,7 @@ use Rattle.yq_scalar.specs.Characters.{text_limit}
 use Rattle.yq_scalar.specs.Paths.{Step, change, within}
 use Rattle.yq_scalar.specs.Tree.{Children}
 use Rattle.yq_inline.specs.Collections.{CollPieces}
-use Rattle.yq_inline.specs.FlowEdits.{FlowEdit, IsEdited, edited_node}
+use Rattle.yq_flow.specs.FlowEdits.{FlowEdit, IsEdited, edited_node}
 use Rattle.yq_inline.specs.Nodes.{Node}
 use Rattle.yq_rows.specs.Rows.{Part, Cut, cut_text}
 use Rattle.yq_tree.specs.Documents.{HasFitKeys, lead_of}

@@ -6,18 +6,18 @@ use Rattle.yq_scalar.specs.Text.{front, is_feed}
 use Rattle.yq_inline.specs.Alike.{EndsItem}
 use Rattle.yq_inline.specs.Collections.{CollAt, IsCollAt, item_in}
 use Rattle.yq_inline.specs.Entries.{EntryPieces, item_at, pieces_text}
-use Rattle.yq_inline.specs.FlowEdits.{FitsItem, behind_appended, behind_last, content_node, is_none}
+use Rattle.yq_flow.specs.FlowEdits.{FitsItem, behind_appended, behind_last, content_node, is_none}
 use Rattle.yq_inline.specs.Nodes.{bare, Node, empty, alias, scalar, coll, anchored, Items, none, item, key_text, sep_text, node_text, items_text, is_close, is_bare, AreItems, IsNode, open_of}
-use Rattle.yq_inline.specs.Removals.{ends_return}
+use Rattle.yq_flow.specs.Removals.{ends_return}
 use Rattle.yq_inline.specs.Trees.{inner, key_content}
 use Rattle.yq_inline.proofs.Binds.{some_same}
-use Rattle.yq_inline.proofs.EditLaws.{Around, around_is}
-use Rattle.yq_inline.proofs.EditWholes.{whole_front}
-use Rattle.yq_inline.proofs.ItemLaws.{item_begins, item_some}
-use Rattle.yq_inline.proofs.ItemSwaps.{item_cut}
-use Rattle.yq_inline.proofs.LocalLaws.{node_no_feed}
+use Rattle.yq_flow.proofs.EditLaws.{Around, around_is}
+use Rattle.yq_flow.proofs.EditWholes.{whole_front}
+use Rattle.yq_flow.proofs.ItemLaws.{item_begins, item_some}
+use Rattle.yq_flow.proofs.ItemSwaps.{item_cut}
+use Rattle.yq_flow.proofs.LocalLaws.{node_no_feed}
 use Rattle.yq_inline.proofs.NodeKeeps.{sep_ends}
-use Rattle.yq_inline.proofs.ReturnLaws.{Whole, item_return, return_some, whole_by}
+use Rattle.yq_flow.proofs.ReturnLaws.{Whole, item_return, return_some, whole_by}
 use Rattle.yq_inline.proofs.WrittenLaws.{key_append, node_then}
 
 -- An item or entry stands behind a text, and what ends it behind that.

@@ -7,11 +7,11 @@ use Rattle.yq_scalar.specs.Written.{written}
 use Rattle.yq_scalar.specs.declared.style.Place.TheVariants.{Flow}
 use Rattle.yq_inline.specs.Collections.{CollPieces}
 use Rattle.yq_inline.specs.Entries.{EntryPieces, item_at}
-use Rattle.yq_inline.specs.FlowEdits.{FlowEdit, appending, content_node, replacing}
-use Rattle.yq_inline.specs.FlowPlaces.{PlacedEdit}
+use Rattle.yq_flow.specs.FlowEdits.{FlowEdit, appending, content_node, replacing}
+use Rattle.yq_flow.specs.FlowPlaces.{PlacedEdit}
 use Rattle.yq_inline.specs.Nodes.{Node, alias, scalar, node_text}
 use Rattle.yq_inline.specs.Places as places
-use Rattle.yq_inline.specs.Removals.{removing}
+use Rattle.yq_flow.specs.Removals.{removing}
 use Rattle.yq_inline.specs.Scalars.{style_of}
 use Rattle.yq_inline.specs.Written.{flow_key, flow_of, flow_text}
 use Rattle.yq_rows.specs.Rows.{Cut, cut_text}

@@ -13,7 +13,8 @@ ghost use Rattle.yq_ways.specs.WayAnswers.{Carries};
 use crate::flow_edit::edit_at;
 use std::alloc::{AllocError, Global};
 use yq_expr::{Op, Value};
-use yq_inline::{Form, Inline, write_entry, write_inline};
+use yq_flow::{write_entry, write_inline};
+use yq_inline::{Form, Inline};
 use yq_script::{Edited, ExchangeError};
 use yq_tree::Documents;
 

@@ -2,12 +2,12 @@
 ghost use Rattle.std.specs.Prelude.{◌≡◌, ◌≤◌, Some, drop, map, option_map, take};
 ghost use Rattle.std.specs.Str.{IsCharBoundary};
 ghost use Rattle.yq_inline.specs.Entries.{step_of};
-ghost use Rattle.yq_inline.specs.FlowPlaces.{edit_view};
+ghost use Rattle.yq_flow.specs.FlowPlaces.{edit_view};
 ghost use Rattle.yq_flow_ways.specs.FlowWays as spec;
 ghost use Rattle.yq_ways.specs.WayAnswers.{Carries};
 
 use std::alloc::Global;
-use yq_inline::EditPlace;
+use yq_flow::EditPlace;
 use yq_script::{Edited, ExchangeError, Segment, exchange};
 use yq_tree::Step;
 

@@ -16,13 +16,8 @@ pub mod View
 pub mod Values
 pub mod Written
 pub mod Trees
-pub mod Valued
 pub mod Entries
 pub mod Collections
-pub mod FlowEdits
-pub mod Removals
-pub mod FlowPlaces
-pub mod FlowValues
 pub use Rattle.yq_scalar.specs.Keys
 pub use Rattle.yq_scalar.specs.Paths
 pub use Rattle.yq_scalar.specs.Tree

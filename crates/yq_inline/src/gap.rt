@@ -49,7 +49,7 @@ fn next(before: Before, first: u8) -> Before
 
 /// How long the gap in front is, in bytes, and whether what follows begins a line.
 #[tactic(auto, unfolding(crate::specs::Reading::gap_len, crate::specs::Reading::gap_end))]
-pub(crate) fn gap_len(text: &[u8]) -> (usize, bool)
+pub fn gap_len(text: &[u8]) -> (usize, bool)
     ensures len { result.0 ≡ reading.gap_len token text.now }
     ensures within { result.0 ≤ length text.now }
     ensures line { result.1 ≡ spec.is_break (reading.gap_end token text.now) }

@@ -10,7 +10,7 @@ use Rattle.yq_scalar.specs.Text.{is_empty, is_line}
 use Rattle.yq_scalar.specs.Tree.{Node}
 use Rattle.yq_scalar.specs.declared.block_written.Break.{Break}
 use Rattle.yq_scalar.proofs.Bools.{and_true, guard_then}
-use Rattle.yq_inline.specs.Valued.{IsValueTree}
+use Rattle.yq_flow.specs.Valued.{IsValueTree}
 use Rattle.yq_lines.specs.Comments.{head_comment}
 use Rattle.yq_rows.specs.Appending.{last_marker, with_last_part, PartFits}
 use Rattle.yq_rows.specs.Gap.{IsGap}

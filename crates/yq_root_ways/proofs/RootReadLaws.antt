@@ -5,7 +5,7 @@ use Rattle.yq_scalar.specs.Paths.{within}
 use Rattle.yq_scalar.specs.Tree as tree
 use Rattle.yq_scalar.specs.Tree.{Node, none, child, children_of}
 use Rattle.yq_inline.specs.Inline.{depth_limit}
-use Rattle.yq_inline.specs.Valued.{IsValueTree}
+use Rattle.yq_flow.specs.Valued.{IsValueTree}
 use Rattle.yq_lines.specs.Anchors.{names_of}
 use Rattle.yq_lines.specs.Comments.{head_comment}
 use Rattle.yq_lines.specs.Group.{group}

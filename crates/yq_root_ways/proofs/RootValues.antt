@@ -8,7 +8,7 @@ use Rattle.yq_scalar.specs.Tree.{Node}
 use Rattle.yq_scalar.specs.Writable.{can_write}
 use Rattle.yq_scalar.specs.Written.{written}
 use Rattle.yq_inline.specs.Nodes as inline
-use Rattle.yq_inline.specs.Valued.{IsValueTree}
+use Rattle.yq_flow.specs.Valued.{IsValueTree}
 use Rattle.yq_inline.specs.Written.{scalar_text, flow_of, flow_items}
 use Rattle.yq_inline.proofs.WrittenLaws.{double_when}
 use Rattle.yq_block.specs.declared.layout.Layout.{Layout}

@@ -5,7 +5,7 @@ use Rattle.yq_scalar.specs.BlockWritten.{break_text}
 use Rattle.yq_scalar.specs.Characters.{text_limit}
 use Rattle.yq_scalar.specs.Paths.{Step, node_at}
 use Rattle.yq_scalar.specs.Tree.{Node}
-use Rattle.yq_inline.specs.Valued.{IsValueTree}
+use Rattle.yq_flow.specs.Valued.{IsValueTree}
 use Rattle.yq_rows.specs.Rows.{Cut, cut_text}
 use Rattle.yq_tree.specs.Documents.{Document, document_parts}
 use Rattle.yq_tree.specs.Reading as reading

@@ -1,6 +1,6 @@
 //! Values, as a read prints them.
 ghost use Rattle.std.specs.Prelude.{◌≡◌, ◌++◌, IfOk, OnOk, string_bytes};
-ghost use Rattle.yq_inline.specs.Valued.{IsValueTree};
+ghost use Rattle.yq_flow.specs.Valued.{IsValueTree};
 ghost use Rattle.yq_inline.specs.Values.{node_of};
 ghost use Rattle.yq_block.specs.BlockLaws.{ReadsAlone};
 ghost use Rattle.yq_block.specs.BlockValues.{IsCollection};

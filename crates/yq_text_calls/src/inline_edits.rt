@@ -2,7 +2,8 @@
 
 use std::alloc::{AllocError, Global};
 use std::test::Fail;
-use yq_inline::{EditPlace, Inline, Step, Value, read_inline, write_entry, write_inline};
+use yq_flow::{EditPlace, write_entry, write_inline};
+use yq_inline::{Inline, Step, Value, read_inline};
 use yq_scalar::{Place, ReadError, Scalar};
 
 /// What is done at the end of a path.

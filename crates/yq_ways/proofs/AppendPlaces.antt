@@ -7,7 +7,7 @@ use Rattle.yq_scalar.specs.Paths.{Step, append_child, change, node_at, within}
 use Rattle.yq_scalar.specs.Tree as tree
 use Rattle.yq_scalar.specs.Tree.{Node}
 use Rattle.yq_scalar.proofs.Bools.{bind_some}
-use Rattle.yq_inline.specs.Valued.{IsValueTree}
+use Rattle.yq_flow.specs.Valued.{IsValueTree}
 use Rattle.yq_lines.specs.Anchors.{HaveOneAnchorEach}
 use Rattle.yq_lines.specs.Outline.{children, label}
 use Rattle.yq_lines.specs.Places.{content}

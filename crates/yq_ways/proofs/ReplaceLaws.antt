@@ -20,7 +20,7 @@ use Rattle.yq_inline.specs.Inline.{depth_limit}
 use Rattle.yq_inline.specs.Nodes as inline
 use Rattle.yq_inline.specs.Nodes.{node_text}
 use Rattle.yq_inline.specs.Scalars.{style_of}
-use Rattle.yq_inline.specs.Valued.{IsValueTree}
+use Rattle.yq_flow.specs.Valued.{IsValueTree}
 use Rattle.yq_inline.specs.Written.{flow_of, flow_text}
 use Rattle.yq_rows.specs.Rows.{Part, Cut, cut_text}
 use Rattle.yq_tree.specs.Documents.{Document, document_parts, lead_of}

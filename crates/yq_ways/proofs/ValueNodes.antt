@@ -26,12 +26,12 @@ use Rattle.yq_inline.specs.Inline.{depth_limit}
 use Rattle.yq_inline.specs.Nodes as inline
 use Rattle.yq_inline.specs.Nodes.{first_is, key_text, sep_text, node_text, items_text, IsNode}
 use Rattle.yq_inline.specs.Trees.{scalar_node, tree_of}
-use Rattle.yq_inline.specs.Valued.{IsValid, IsLabel, IsValueTree, AreValueTrees, SpellsScalar}
+use Rattle.yq_flow.specs.Valued.{IsValid, IsLabel, IsValueTree, AreValueTrees, SpellsScalar}
 use Rattle.yq_inline.specs.Written.{scalar_text, flow_key, flow_sep, flow_of, flow_items, flow_text}
 use Rattle.yq_inline.proofs.Alikes.{no_first, no_second, no_third}
 use Rattle.yq_inline.proofs.PieceLaws.{front_not}
-use Rattle.yq_inline.proofs.SpelledLaws.{written_node, written_tree}
-use Rattle.yq_inline.proofs.StyledScalars.{styled_spells}
+use Rattle.yq_flow.proofs.SpelledLaws.{written_node, written_tree}
+use Rattle.yq_flow.proofs.StyledScalars.{styled_spells}
 use Rattle.yq_change.specs.InlineRows.{IsValueNode}
 use Rattle.yq_change.specs.TextPieces.{IsPiece}
 use Rattle.yq_change.proofs.TextPieceLaws.{pieces_joined}

@@ -1,7 +1,7 @@
 -- What is known of the operands of an operation, since the code holds no others.
 use Rattle.std.specs.Prelude.{ℕ, List, Option, Some, None, ⊤}
 use Rattle.std.specs.Str.{IsUtf8}
-use Rattle.yq_inline.specs.Valued.{IsValueTree}
+use Rattle.yq_flow.specs.Valued.{IsValueTree}
 use Rattle.yq_expr.specs.Operations.{Operation, replace, append, remove, line_comment, head_comment}
 
 -- a key is UTF-8, if there is one (own)

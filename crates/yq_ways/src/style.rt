@@ -2,7 +2,7 @@
 ghost use Rattle.std.specs.Prelude.{◌≡◌, true};
 ghost use Rattle.yq_scalar.specs.Writable as writable;
 ghost use Rattle.yq_scalar.specs.Written.{IsInline};
-ghost use Rattle.yq_inline.specs.Valued.{IsValid};
+ghost use Rattle.yq_flow.specs.Valued.{IsValid};
 ghost use Rattle.yq_ways.specs.Style as spec;
 
 use yq_scalar::{Kind, Place, Scalar, Style, can_write};

@@ -5,7 +5,8 @@ use super::writes::value_of;
 use crate::memory::all_memory;
 use std::alloc::{AllocError, Global};
 use std::test::Fail;
-use yq_inline::{Value, write_inline};
+use yq_flow::write_inline;
+use yq_inline::Value;
 use yq_scalar::ReadError;
 
 const TEXT: &str = "[a, {b: 'c', d: 2}]";

@@ -3,7 +3,8 @@
 use super::reading::in_flow;
 use std::alloc::{AllocError, Global};
 use std::test::Fail;
-use yq_inline::{Form, Inline, Value, write_inline};
+use yq_flow::write_inline;
+use yq_inline::{Form, Inline, Value};
 use yq_scalar::{ReadError, Scalar};
 
 /// A value that was read, without anchors; nothing of an alias.

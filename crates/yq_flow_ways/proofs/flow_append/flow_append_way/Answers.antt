@@ -2,7 +2,7 @@ use Rattle.std.proofs.Common.{◌∙◌, ℕ, List, length, map, Option, Some, o
 use Rattle.std.specs.Str.{IsCharBoundary}
 use Rattle.yq_scalar.specs.Paths.{Step}
 use Rattle.yq_inline.specs.Entries.{step_of}
-use Rattle.yq_inline.specs.FlowPlaces.{edit_view}
+use Rattle.yq_flow.specs.FlowPlaces.{edit_view}
 use Rattle.yq_inline.specs.Nodes.{key_text}
 use Rattle.yq_inline.specs.Places.{Placed}
 use Rattle.yq_inline.specs.Values.{node_of}

@@ -2,7 +2,7 @@ use Rattle.std.proofs.Common.{◌∙◌, ℕ, List, [], map, Some, sym, ap, subs
 use Rattle.std.specs.Str.{IsCharBoundary}
 use Rattle.yq_scalar.specs.Paths.{Step}
 use Rattle.yq_inline.specs.Entries.{step_of}
-use Rattle.yq_inline.specs.FlowPlaces.{edit_view, remove_place}
+use Rattle.yq_flow.specs.FlowPlaces.{edit_view, remove_place}
 use Rattle.yq_inline.specs.View.{view}
 use Rattle.yq_tree.specs.Reading.{cut_of}
 use Rattle.yq_flow_ways.specs.FlowWays.{edit_segments, last_step}

@@ -3,7 +3,7 @@ use Rattle.std.specs.Str.{IsCharBoundary}
 use Rattle.yq_scalar.specs.Paths.{Step}
 use Rattle.yq_scalar.specs.Tree.{Node}
 use Rattle.yq_inline.specs.Entries.{entry_view, step_of}
-use Rattle.yq_inline.specs.FlowPlaces.{edit_view}
+use Rattle.yq_flow.specs.FlowPlaces.{edit_view}
 use Rattle.yq_inline.specs.Places.{Placed}
 use Rattle.yq_inline.specs.Values.{node_of}
 use Rattle.yq_inline.specs.View.{view}

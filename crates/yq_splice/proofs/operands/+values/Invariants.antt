@@ -1,5 +1,5 @@
 use Rattle.std.proofs.Common.{drop, false, true}
-use Rattle.yq_inline.specs.Valued.{AreValueTrees}
+use Rattle.yq_flow.specs.Valued.{AreValueTrees}
 use Rattle.yq_inline.specs.Values.{items_of, entries_of}
 use Rattle.yq_splice.proofs.operands.+values.Given as goal
 

@@ -1,0 +1,146 @@
+-- In a text with whole breaks no CR ends an item before an LF.
+use Rattle.std.proofs.Common.{◌≡◌, ◌⊎◌, inl, inr, ℕ, Bool, true, false, ◌&&◌, ◌||◌, eqb, cond, List, [], ◌∷◌, ◌++◌, Some, refl, sym, ap, ◌∙◌, subst, append_assoc, append-nil, eq-eqb}
+use Rattle.std.proofs.lemmas.Bool.{false≢true, not-false, or_right}
+use Rattle.yq_scalar.specs.Characters.{pairs_returns}
+use Rattle.yq_scalar.specs.Quoted.{spell_lines}
+use Rattle.yq_scalar.specs.Text.{NoneIn, unless, front, is_white, is_feed, is_return}
+use Rattle.yq_scalar.proofs.Bools.{is_true, and_true, or_false, at_byte}
+use Rattle.yq_inline.specs.Alike.{EndsItem}
+use Rattle.yq_inline.specs.Nodes.{Key, bare, keyed, Node, empty, alias, scalar, coll, anchored, Items, none, item, key_text, sep_text, node_text, items_text, open_of, in_name, begins_content, begins_node, is_close, IsKey, IsLead, is_bare, IsNode, AreItems, first_is}
+use Rattle.yq_inline.specs.Scalars.{IsScalar}
+use Rattle.yq_flow.specs.Removals.{is_several, ends_return, until_last}
+use Rattle.yq_flow.proofs.ItemSwaps.{item_cut}
+use Rattle.yq_inline.proofs.EndLaws.{ends_node, stops_here, last_space, by_close}
+use Rattle.yq_flow.proofs.ItemLaws.{item_some}
+use Rattle.yq_inline.proofs.KeepLaws.{NotEmpty, some_text, bare_text}
+use Rattle.yq_inline.proofs.KeyKeeps.{lead_none}
+use Rattle.yq_inline.proofs.NodeKeeps.{sep_ends}
+use Rattle.yq_inline.proofs.WrittenLaws.{node_then, key_append}
+
+return_append : (x : List ℕ) (b : ℕ) (y : List ℕ) → ends_return (x ++ (b ∷ y)) ≡ ends_return (b ∷ y)
+return_append [] b y = refl
+return_append (a ∷ []) b y = refl
+return_append (a ∷ c ∷ x) b y = return_append (c ∷ x) b y
+
+append_some : (x : List ℕ) (b : ℕ) (y : List ℕ) → NotEmpty (x ++ (b ∷ y))
+append_some [] b y = (b, (y, refl))
+append_some (a ∷ x) b y = (a, (x ++ (b ∷ y), refl))
+
+-- behind a text that isn't empty
+pub return_some : (x y : List ℕ) → NotEmpty y → ends_return (x ++ y) ≡ ends_return y
+return_some x y s = subst (λ (l : List ℕ). ends_return (x ++ l) ≡ ends_return l) (sym s.1.1) (return_append x s.0 s.1.0)
+
+-- no CR ends this text before an LF of that one
+abbrev pub Whole : List ℕ → List ℕ → Type 0
+Whole p t = (ends_return p && front is_feed t) ≡ false
+
+pub whole_by : (p t : List ℕ) → ends_return p ≡ false → Whole p t
+whole_by p t h = rw h refl
+
+name_return : (n r : List ℕ) → NoneIn (unless in_name) n r → ends_return n ≡ false
+name_return [] r h = refl
+name_return (b ∷ []) r h = at_byte in_name b 13 (not-false (in_name b) h.0) refl
+name_return (b ∷ c ∷ n) r h = name_return (c ∷ n) r h.1
+
+front_name : (k : ℕ) (n r : List ℕ) → is_return k ≡ false → NoneIn (unless in_name) n r → ends_return (k ∷ n) ≡ false
+front_name k [] r e h = e
+front_name k (b ∷ n) r e h = name_return (b ∷ n) r h
+
+plain_return : (k : ℕ) (p t : List ℕ) → is_close k ≡ true → EndsItem k t → NoneIn stops_here p t → Whole p t
+plain_return k [] t c e h = refl
+plain_return k (b ∷ []) t c e h =
+    let s = last_space k t b c e h.0 in
+    let x = or_false (is_white b) (is_feed b || (is_return b && front is_feed t)) s in
+    (or_false (is_feed b) (is_return b && front is_feed t) x.1).1
+plain_return k (b ∷ d ∷ p) t c e h = plain_return k (d ∷ p) t c e h.1
+
+quote_return : (q : ℕ) → (q ≡ 34) ⊎ (q ≡ 39) → is_return q ≡ false
+quote_return q (inl e) = rw e refl
+quote_return q (inr e) = rw e refl
+
+scalar_return : (k : ℕ) (p t : List ℕ) → is_close k ≡ true → EndsItem k t → IsScalar true (Some 0) p t → Whole p t
+scalar_return k p t c e (inl h) = plain_return k p t c e h.inside
+scalar_return k p t c e (inr h) =
+    let q = h.0.1.1 in
+    whole_by p t (ap ends_return q.spelled ∙ (return_append (h.0.0 ∷ spell_lines h.0.1.0) h.0.0 [] ∙ quote_return h.0.0 q.quotes))
+
+-- items end in their closing bracket
+items_return : (k : ℕ) (is : Items) → is_close k ≡ true → NotEmpty (items_text k is []) × (ends_return (items_text k is []) ≡ false)
+unfolding items_text
+items_return k none c = ((k, ([], refl)), by_close (λ b. is_return b ≡ false) k k c (or_right (eqb k 44) (eqb k k) (eq-eqb k k refl)) refl refl refl)
+items_return k (item key n s is) c =
+    let more = items_return k is c in
+    let x : List ℕ = key_text key (node_text n (sep_text s [])) in
+    let cut = item_cut key n s (items_text k is []) in
+    (subst NotEmpty (sym cut) (subst (λ (l : List ℕ). NotEmpty (x ++ l)) (sym more.0.1.1) (append_some x more.0.0 more.0.1.0)), ap ends_return cut ∙ (return_some x (items_text k is []) more.0 ∙ more.1))
+
+node_return : (k : ℕ) (node : Node) (d : ℕ) (t : List ℕ) → is_close k ≡ true → EndsItem k t → IsNode true (Some 0) d node t → Whole (node_text node []) t
+unfolding node_text IsNode
+node_return k empty d t c e h = refl
+node_return k (alias n) d t c e h = whole_by (42 ∷ (n ++ [])) t (ap (λ (l : List ℕ). ends_return (42 ∷ l)) (append-nil n) ∙ front_name 42 n t refl h.inside)
+node_return k (scalar p) d t c e h = subst (λ (l : List ℕ). Whole l t) (sym (append-nil p)) (scalar_return k p t c e h)
+node_return k (coll j g is) d t c e h =
+    let more = items_return j is h.0 in
+    whole_by (open_of j ∷ (g ++ items_text j is [])) t (return_some (open_of j ∷ g) (items_text j is []) more.0 ∙ more.1)
+node_return k (anchored n g node) d t c e h = elim (is_true (is_bare node)) [
+  | inl z ↦ (let no : begins_content true t ≡ false = (or_false (first_is 38 t) (begins_content true t) (ends_node k t c e)).1 in
+      let nothing : g ≡ [] = lead_none (begins_content true) g t no (subst (λ (l : List ℕ). IsLead true (begins_content true) g l) (bare_text node t z) h.1) in
+      whole_by (38 ∷ (n ++ (g ++ node_text node []))) t (ap (λ (l : List ℕ). ends_return (38 ∷ (n ++ (l ++ node_text node [])))) nothing ∙ (ap (λ (l : List ℕ). ends_return (38 ∷ (n ++ l))) (bare_text node [] z) ∙ (ap (λ (l : List ℕ). ends_return (38 ∷ l)) (append-nil n) ∙ front_name 38 n (g ++ node_text node t) refl h.0.inside))))
+  | inr z ↦ (let s = some_text d node t z h.4 in
+      let same : ends_return (38 ∷ (n ++ (g ++ node_text node []))) ≡ ends_return (node_text node []) = ap (λ (l : List ℕ). ends_return (38 ∷ l)) (sym (append_assoc n g (node_text node []))) ∙ return_some (38 ∷ (n ++ g)) (node_text node []) s in
+      subst (λ (b : Bool). (b && front is_feed t) ≡ false) (sym same) (node_return k node d t c e h.4))
+]
+
+pub item_return : (k d : ℕ) (key : Key) (n : Node) (t : List ℕ) → is_close k ≡ true → EndsItem k t → IsKey k key (node_text n t) → IsNode true (Some 0) d n t → Whole (key_text key (node_text n [])) t
+item_return k d bare n t c e x h = node_return k n d t c e h
+item_return k d (keyed p b g) n t c e x h = elim (is_true (is_bare n)) [
+  | inl z ↦ (let nothing : g ≡ [] = lead_none (begins_node true) g t (ends_node k t c e) (subst (λ (l : List ℕ). IsLead true (begins_node true) g l) (bare_text n t z) x.4) in
+      let text : p ++ (b ++ (58 ∷ (g ++ node_text n []))) ≡ (p ++ b) ++ (58 ∷ []) = ap (λ l. p ++ (b ++ (58 ∷ (l ++ node_text n [])))) nothing ∙ (ap (λ l. p ++ (b ++ (58 ∷ l))) (bare_text n [] z) ∙ sym (append_assoc p b (58 ∷ []))) in
+      whole_by (p ++ (b ++ (58 ∷ (g ++ node_text n [])))) t (ap ends_return text ∙ return_append (p ++ b) 58 []))
+  | inr z ↦ (let text : p ++ (b ++ (58 ∷ (g ++ node_text n []))) ≡ (p ++ (b ++ (58 ∷ g))) ++ node_text n [] = ap (λ l. p ++ l) (sym (append_assoc b (58 ∷ g) (node_text n []))) ∙ sym (append_assoc p (b ++ (58 ∷ g)) (node_text n [])) in
+      let same : ends_return (p ++ (b ++ (58 ∷ (g ++ node_text n [])))) ≡ ends_return (node_text n []) = ap ends_return text ∙ return_some (p ++ (b ++ (58 ∷ g))) (node_text n []) (some_text d n t z h) in
+      subst (λ (v : Bool). (v && front is_feed t) ≡ false) (sym same) (node_return k n d t c e h))
+]
+
+-- a text in which an LF follows each CR
+pub pairs_behind : (x t : List ℕ) → pairs_returns (x ++ t) ≡ true → pairs_returns t ≡ true
+unfolding pairs_returns
+pairs_behind [] t h = h
+pairs_behind (b ∷ x) t h = pairs_behind x t (go (is_return b) h) where
+  go : (r : Bool) → cond r (front is_feed (x ++ t) && pairs_returns (x ++ t)) (pairs_returns (x ++ t)) ≡ true → pairs_returns (x ++ t) ≡ true
+  go true e = (and_true (front is_feed (x ++ t)) (pairs_returns (x ++ t)) e).1
+  go false e = e
+
+pub pairs_end : (x t : List ℕ) → pairs_returns (x ++ t) ≡ true → Whole x t → ends_return x ≡ false
+unfolding pairs_returns
+pairs_end [] t h w = refl
+pairs_end (b ∷ []) t h w = go (is_return b) h w where
+  go : (r : Bool) → cond r (front is_feed t && pairs_returns t) (pairs_returns t) ≡ true → (r && front is_feed t) ≡ false → r ≡ false
+  go true e f = absurd (false≢true (sym f ∙ (and_true (front is_feed t) (pairs_returns t) e).0))
+  go false e f = refl
+pairs_end (b ∷ c ∷ x) t h w = pairs_end (c ∷ x) t (pairs_behind (b ∷ []) (c ∷ (x ++ t)) h) w
+
+-- the last item but one
+pub until_some : (d k : ℕ) (is : Items) (rest : List ℕ) → is_several is ≡ true → AreItems d k is rest → NotEmpty (until_last is)
+unfolding items_text AreItems
+until_some d k none rest some a = absurd (false≢true some)
+until_some d k (item key n sep none) rest some a = absurd (false≢true some)
+until_some d k (item key n sep (item key2 n2 sep2 none)) rest some a = item_some d k key n (sep_text sep (items_text k (item key2 n2 sep2 none) rest)) a.0 a.1 a.2
+until_some d k (item key n sep (item key2 n2 sep2 (item key3 n3 sep3 is))) rest some a =
+    let w = until_some d k (item key2 n2 sep2 (item key3 n3 sep3 is)) rest refl a.4 in
+    let x : List ℕ = key_text key (node_text n (sep_text sep [])) in
+    subst NotEmpty (sym (item_cut key n sep (until_last (item key2 n2 sep2 (item key3 n3 sep3 is))))) (subst (λ (l : List ℕ). NotEmpty (x ++ l)) (sym w.1.1) (append_some x w.0 w.1.0))
+
+pub until_return : (d k : ℕ) (is : Items) (rest : List ℕ) → is_close k ≡ true → is_several is ≡ true → AreItems d k is rest → pairs_returns (items_text k is rest) ≡ true → ends_return (until_last is) ≡ false
+unfolding items_text AreItems
+until_return d k none rest c some a h = absurd (false≢true some)
+until_return d k (item key n sep none) rest c some a h = absurd (false≢true some)
+until_return d k (item key n sep (item key2 n2 sep2 none)) rest c some a h =
+    let t : List ℕ = sep_text sep (items_text k (item key2 n2 sep2 none) rest) in
+    let cut : key_text key (node_text n t) ≡ key_text key (node_text n []) ++ t = ap (key_text key) (node_then n t) ∙ key_append key (node_text n []) t in
+    pairs_end (key_text key (node_text n [])) t (subst (λ (l : List ℕ). pairs_returns l ≡ true) cut h) (item_return k d key n t c (sep_ends k sep (items_text k (item key2 n2 sep2 none) rest) a.3) a.0 a.2)
+until_return d k (item key n sep (item key2 n2 sep2 (item key3 n3 sep3 is))) rest c some a h =
+    let tail : Items = item key2 n2 sep2 (item key3 n3 sep3 is) in
+    let x : List ℕ = key_text key (node_text n (sep_text sep [])) in
+    let inner_ : pairs_returns (items_text k tail rest) ≡ true = pairs_behind x (items_text k tail rest) (subst (λ (l : List ℕ). pairs_returns l ≡ true) (item_cut key n sep (items_text k tail rest)) h) in
+    ap ends_return (item_cut key n sep (until_last tail)) ∙ (return_some x (until_last tail) (until_some d k tail rest refl a.4) ∙ until_return d k (item key2 n2 sep2 (item key3 n3 sep3 is)) rest c refl a.4 inner_)

@@ -1,0 +1,5 @@
+use Rattle.yq_flow.proofs.RemoveLaws.{removed}
+use Rattle.yq_flow.proofs.flow_laws.removed_in_flow.Goals as goal
+
+pub returns : goal.returns
+returns c = removed

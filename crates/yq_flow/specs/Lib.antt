@@ -1,0 +1,15 @@
+pub use Rattle.yq_scalar.specs.Answers
+pub use Rattle.yq_scalar.specs.Plain
+pub use Rattle.yq_scalar.specs.Piece
+pub use Rattle.yq_scalar.specs.Quoted
+pub use Rattle.yq_scalar.specs.Scalar
+pub use Rattle.yq_scalar.specs.Text
+pub mod Valued
+pub mod FlowEdits
+pub mod Removals
+pub mod FlowPlaces
+pub mod FlowValues
+pub use Rattle.yq_scalar.specs.Keys
+pub use Rattle.yq_scalar.specs.Paths
+pub use Rattle.yq_scalar.specs.Tree
+pub use Rattle.yq_scalar.specs.Writable

@@ -1,5 +1,0 @@
-use Rattle.yq_inline.proofs.RemoveLaws.{removed}
-use Rattle.yq_inline.proofs.flow_laws.removed_in_flow.Goals as goal
-
-pub returns : goal.returns
-returns c = removed
