@@ -133,69 +133,67 @@ fn append_at(at: usize, last: Option<usize>) -> EditPlace
     }
 }
 
-impl<'t> Inline<'t> {
-    /// Where another content of the node is written: in the place of its content, or behind the node
-    /// and a space where nothing but perhaps an anchor is written.
-    pub fn replace_place(&self) -> EditPlace
-        ensures { spec.edit_view result ≡ spec.replace_place (view self.now) }
-    {
-        match self.content_place() {
-            Some((start, end)) => EditPlace {
-                start,
-                end,
-                lead: "",
-            },
-            None => EditPlace {
-                start: self.end,
-                end: self.end,
-                lead: " ",
-            },
-        }
+/// Where another content of the node is written: in the place of its content, or behind the node
+/// and a space where nothing but perhaps an anchor is written.
+pub fn replace_place(node: &Inline<'_>) -> EditPlace
+    ensures { spec.edit_view result ≡ spec.replace_place (view node.now) }
+{
+    match node.content_place() {
+        Some((start, end)) => EditPlace {
+            start,
+            end,
+            lead: "",
+        },
+        None => EditPlace {
+            start: node.end,
+            end: node.end,
+            lead: " ",
+        },
     }
+}
 
-    /// Where one more item or entry is written: behind the last one, or right behind the opening
-    /// bracket. Nothing where the node is no collection.
-    pub fn append_place(&self) -> Option<EditPlace>
-        ensures { option_map spec.edit_view result ≡ spec.append_place (view self.now) }
-    {
-        let inner = self.content.saturating_add(1).min(self.end);
-        match &self.form {
-            Form::List(items) => Some(append_at(inner, list_ends(items).1)),
-            Form::Map(entries) => Some(append_at(inner, map_ends(entries).1)),
-            Form::Empty | Form::Alias(_) | Form::Scalar(..) => None,
-        }
+/// Where one more item or entry is written: behind the last one, or right behind the opening
+/// bracket. Nothing where the node is no collection.
+pub fn append_place(node: &Inline<'_>) -> Option<EditPlace>
+    ensures { option_map spec.edit_view result ≡ spec.append_place (view node.now) }
+{
+    let inner = node.content.saturating_add(1).min(node.end);
+    match &node.form {
+        Form::List(items) => Some(append_at(inner, list_ends(items).1)),
+        Form::Map(entries) => Some(append_at(inner, map_ends(entries).1)),
+        Form::Empty | Form::Alias(_) | Form::Scalar(..) => None,
     }
+}
 
-    /// What goes with the item or entry to which a step leads, in the text in which the node was read,
-    /// and what takes its place. Nothing where there is none.
-    pub fn remove_place(&self, text: &str, step: &Step) -> Option<EditPlace>
-        ensures { option_map spec.edit_view result ≡ spec.remove_place text.now (entries.step_of step.now) (view self.now) }
-    {
-        match &self.form {
-            Form::List(items) => remove_among(
-                text.as_bytes(),
-                self.whole("[]"),
-                item_among(items, step),
-                list_ends(items).0,
-            ),
-            Form::Map(entries) => remove_among(
-                text.as_bytes(),
-                self.whole("{}"),
-                entry_among(entries, step),
-                map_ends(entries).0,
-            ),
-            Form::Empty | Form::Alias(_) | Form::Scalar(..) => None,
-        }
+/// What goes with the item or entry to which a step leads, in the text in which the node was read,
+/// and what takes its place. Nothing where there is none.
+pub fn remove_place(node: &Inline<'_>, text: &str, step: &Step) -> Option<EditPlace>
+    ensures { option_map spec.edit_view result ≡ spec.remove_place text.now (entries.step_of step.now) (view node.now) }
+{
+    match &node.form {
+        Form::List(items) => remove_among(
+            text.as_bytes(),
+            whole(node, "[]"),
+            item_among(items, step),
+            list_ends(items).0,
+        ),
+        Form::Map(entries) => remove_among(
+            text.as_bytes(),
+            whole(node, "{}"),
+            entry_among(entries, step),
+            map_ends(entries).0,
+        ),
+        Form::Empty | Form::Alias(_) | Form::Scalar(..) => None,
     }
+}
 
-    /// The place of the content, for another text.
-    fn whole(&self, lead: &'static str) -> EditPlace
-        ensures { spec.edit_view result ≡ record { start = self.now.content; end = self.now.end; lead = lead.now } }
-    {
-        EditPlace {
-            start: self.content,
-            end: self.end,
-            lead,
-        }
+/// The place of the content, for another text.
+fn whole(node: &Inline<'_>, lead: &'static str) -> EditPlace
+    ensures { spec.edit_view result ≡ record { start = node.now.content; end = node.now.end; lead = lead.now } }
+{
+    EditPlace {
+        start: node.content,
+        end: node.end,
+        lead,
     }
 }

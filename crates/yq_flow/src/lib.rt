@@ -10,5 +10,5 @@ pub use flow_laws::{
     appended_in_flow, edit_spans, flow_places, flow_spells, removed_in_flow, replaced_in_flow,
     scalar_spells, scalar_spells_in_flow,
 };
-pub use flow_place::EditPlace;
+pub use flow_place::{EditPlace, append_place, remove_place, replace_place};
 pub use write::{push_scalar, write_entry, write_inline};

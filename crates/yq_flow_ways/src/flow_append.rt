@@ -13,7 +13,7 @@ ghost use Rattle.yq_ways.specs.WayAnswers.{Carries};
 use crate::flow_edit::edit_at;
 use std::alloc::{AllocError, Global};
 use yq_expr::{Op, Value};
-use yq_flow::{write_entry, write_inline};
+use yq_flow::{append_place, write_entry, write_inline};
 use yq_inline::{Form, Inline};
 use yq_script::{Edited, ExchangeError};
 use yq_tree::Documents;
@@ -57,7 +57,7 @@ pub fn flow_append_way(
     if !takes(node, key.as_deref()) {
         return Ok(None);
     }
-    let Some(place) = node.append_place() else {
+    let Some(place) = append_place(node) else {
         return Ok(None);
     };
     let new = entry_text(alloc, key.as_deref(), value)?;

@@ -7,6 +7,7 @@ ghost use Rattle.yq_ways.specs.WayAnswers.{Carries};
 use crate::flow_edit::{edit_at, last_step};
 use std::alloc::Global;
 use yq_expr::Op;
+use yq_flow::remove_place;
 use yq_script::{Edited, ExchangeError};
 use yq_tree::Documents;
 
@@ -28,7 +29,7 @@ pub fn flow_remove_way(
         return Ok(None);
     };
     let text = documents.text();
-    let Some(place) = node.remove_place(text, last) else {
+    let Some(place) = remove_place(node, text, last) else {
         return Ok(None);
     };
     edit_at(alloc, text, place, "")

@@ -10,7 +10,7 @@ ghost use Rattle.yq_ways.specs.WayAnswers.{Carries};
 use crate::flow_edit::{edit_at, last_step, text_at};
 use std::alloc::{AllocError, Global};
 use yq_expr::{Op, Value};
-use yq_flow::write_inline;
+use yq_flow::{replace_place, write_inline};
 use yq_inline::style_of;
 use yq_scalar::{Place, write_scalar};
 use yq_script::{Edited, ExchangeError, Segment, exchange};
@@ -63,7 +63,7 @@ pub fn flow_replace_way(
     if is_kept(documents.locate(path), value) {
         return kept(alloc, text);
     }
-    let place = entry.node.replace_place();
+    let place = replace_place(entry.node);
     let new = flow_written(alloc, text_at(text, place), value)?;
     edit_at(alloc, text, place, &new)
 }

@@ -2,7 +2,7 @@
 
 use std::alloc::{AllocError, Global};
 use std::test::Fail;
-use yq_flow::{EditPlace, write_entry, write_inline};
+use yq_flow::{EditPlace, append_place, remove_place, replace_place, write_entry, write_inline};
 use yq_inline::{Inline, Step, Value, read_inline};
 use yq_scalar::{Place, ReadError, Scalar};
 
@@ -106,9 +106,9 @@ fn path_of(alloc: Global, words: &[&str]) -> Result<Vec<Step>, AllocError> {
 /// Where the edit changes the text of a node.
 fn place_of(node: &Inline<'_>, text: &str, steps: &[Step], edit: &Edit) -> Option<EditPlace> {
     match (edit, steps) {
-        (Replace(_), _) => Some(node.entry(steps)?.node.replace_place()),
-        (Item(_) | Entry(..), _) => node.entry(steps)?.node.append_place(),
-        (Remove, [front @ .., last]) => node.entry(front)?.node.remove_place(text, last),
+        (Replace(_), _) => Some(replace_place(node.entry(steps)?.node)),
+        (Item(_) | Entry(..), _) => append_place(node.entry(steps)?.node),
+        (Remove, [front @ .., last]) => remove_place(node.entry(front)?.node, text, last),
         (Remove, []) => None,
     }
 }
