@@ -1,5 +1,7 @@
 //! Commands.
 
+use crate::store::disk::purpose::Purpose;
+
 /// What the words of a command line ask for. A command's journal has another name than its file.
 #[derive(Debug, Drop, PartialEq)]
 pub enum Command {
@@ -35,4 +37,21 @@ pub enum Command {
     },
     /// Prints the help.
     Help,
+}
+
+/// A command's file, and what the command does with it.
+pub fn purpose_of(command: &Command) -> (&str, Purpose) {
+    match command {
+        Command::Eval {
+            file,
+            in_place: false,
+            ..
+        } => (file.as_str(), Purpose::Print),
+        Command::History { file, .. } => (file.as_str(), Purpose::List),
+        Command::Eval { file, .. }
+        | Command::Undo { file, .. }
+        | Command::Redo { file, .. }
+        | Command::Squash { file, .. } => (file.as_str(), Purpose::Edit),
+        Command::Help => ("", Purpose::Print),
+    }
 }

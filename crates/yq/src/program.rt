@@ -1,12 +1,11 @@
 //! The program's words, carried out over real files and standard output.
 
 use crate::answer::Answer;
-use crate::command::Command;
+use crate::command::{Command, purpose_of};
 use crate::fault::Fault;
 use crate::output::standard::StandardOut;
 use crate::run::run_list;
 use crate::store::disk::DiskStore;
-use crate::store::disk::purpose::purpose_of;
 use crate::words::command_of;
 use std::io::ErrorKind;
 
