@@ -14,7 +14,7 @@ use Rattle.yq_journal.specs.State.{State}
 use Rattle.yq.specs.declared.fault.Fault.{Fault}
 use Rattle.yq.specs.declared.fault.Fault.TheVariants.{OutOfMemory, JournalFull}
 use Rattle.yq.specs.Causes.{IsFor, named}
-use Rattle.yq.specs.Content.{Content}
+use Rattle.yq_store.specs.Content.{Content}
 use Rattle.yq.specs.Editing.{Outcome, unreadable, refused, edited, Refuses, edits, program_in}
 use Rattle.yq.specs.Edits.{edit_record}
 use Rattle.yq.specs.Faults.{is_failure, is_outside, of_fault}

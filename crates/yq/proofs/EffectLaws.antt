@@ -17,10 +17,10 @@ use Rattle.yq_journal.specs.Refusals.{Names, Tells, most_records, no_way, or_els
 use Rattle.yq_journal.specs.State.{State, moved, moved_text, settled, squashed}
 use Rattle.yq.specs.declared.fault.Fault.{Fault}
 use Rattle.yq.specs.declared.fault.Fault.TheVariants as fault
-use Rattle.yq.specs.declared.store.FileReadError.{FileReadError}
-use Rattle.yq.specs.declared.store.FileReadError.TheVariants as read
+use Rattle.yq_store.specs.declared.store.FileReadError.{FileReadError}
+use Rattle.yq_store.specs.declared.store.FileReadError.TheVariants as read
 use Rattle.yq.specs.declared.walk.Walk.{Walk}
-use Rattle.yq.specs.Content.{Content, get_written}
+use Rattle.yq_store.specs.Content.{Content, get_written}
 use Rattle.yq.specs.Effects.{Effect, refuses, writes_nothing, leaves, from_pair, from_journal, from_settled, leads_to, goes_to, walk_effect, edit_effect, update_effect, joins_to, squash_effect, Works}
 use Rattle.yq.specs.Editing.{Outcome, unreadable, refused, edited, Refuses, program_in, edits}
 use Rattle.yq.specs.Edits.{edit_record}

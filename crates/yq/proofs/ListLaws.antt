@@ -18,8 +18,8 @@ use Rattle.yq.specs.declared.command.Command.TheVariants.{Eval, Undo, Redo, Hist
 use Rattle.yq.specs.declared.fault.Fault.{Fault}
 use Rattle.yq.specs.declared.fault.Fault.TheVariants as fault
 use Rattle.yq.specs.Causes.{Cause, IsFor, named}
-use Rattle.yq.specs.Content.{Content}
-use Rattle.yq.specs.Count.{one_more}
+use Rattle.yq_store.specs.Content.{Content}
+use Rattle.yq_store.specs.Count.{one_more}
 use Rattle.yq.specs.Editing.{Outcome, unreadable, refused, edited, edits, program_in}
 use Rattle.yq.specs.Effects.{Effect, refuses, writes_nothing, leaves, from_pair, walk_effect, update_effect, squash_effect, OfEffect, Works, Tells}
 use Rattle.yq.specs.Faults.{is_failure, is_outside, is_output, of_fault, counted}

@@ -18,7 +18,7 @@ use Rattle.yq_journal.proofs.GoodLaws.{describes, open_before, open_after, settl
 use Rattle.yq_journal.proofs.HistoryLaws.{move_moves}
 use Rattle.yq.specs.declared.fault.Fault.{Fault}
 use Rattle.yq.specs.Causes.{Cause, IsFor, named}
-use Rattle.yq.specs.Content.{Content, get_written, get_other}
+use Rattle.yq_store.specs.Content.{Content, get_written, get_other}
 use Rattle.yq.specs.Faults.{is_outside, of_fault, of_journal}
 use Rattle.yq.specs.Pair.{Arrives, GoodIn, Rest, Stands, Writes}
 use Rattle.yq.specs.Steps.{walk_cause, walk_next, unless_fault}

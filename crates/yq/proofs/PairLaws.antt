@@ -6,7 +6,7 @@ use Rattle.yq_journal.specs.Good.{Describes, journal_beside}
 use Rattle.yq_journal.specs.History.{History, text_at}
 use Rattle.yq_journal.specs.State.{State, settled}
 use Rattle.yq_journal.proofs.GoodLaws.{settles, settled_rests}
-use Rattle.yq.specs.Content.{Content}
+use Rattle.yq_store.specs.Content.{Content}
 use Rattle.yq.specs.Pair.{GoodIn, Opens, Rest}
 
 pub some_same : {A : Type 0} (x y : A) → Some x ≡ Some y → x ≡ y

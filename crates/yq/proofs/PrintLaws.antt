@@ -9,7 +9,7 @@ use Rattle.yq_journal.specs.Good.{Leads, AtRest}
 use Rattle.yq_journal.specs.History.{History, Revision}
 use Rattle.yq_journal.specs.Record.{Patch}
 use Rattle.yq_journal.specs.State.{State}
-use Rattle.yq.specs.Content.{Content}
+use Rattle.yq_store.specs.Content.{Content}
 use Rattle.yq.specs.Pair.{Opens}
 use Rattle.yq.specs.Prints.{edit_line, lines_behind, history_lines, listing_output}
 

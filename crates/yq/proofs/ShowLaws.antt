@@ -19,7 +19,7 @@ use Rattle.yq_journal.specs.History.{History, text_at}
 use Rattle.yq.specs.declared.fault.Fault.{Fault}
 use Rattle.yq.specs.declared.fault.Fault.TheVariants.{OutOfMemory, Unreadable}
 use Rattle.yq.specs.Causes.{Cause, IsFor, named, no_reading}
-use Rattle.yq.specs.Content.{Content}
+use Rattle.yq_store.specs.Content.{Content}
 use Rattle.yq.specs.Editing.{Outcome, unreadable, refused, edited, IsUnreadable, Refuses, edits, of_refusal}
 use Rattle.yq.specs.Evaluation.{of_file, show_edit, show_found, show_read, shows}
 use Rattle.yq.specs.Faults.{is_outside, of_matching, of_reading}

@@ -13,7 +13,7 @@ use Rattle.yq_journal.proofs.GoodLaws.{describes}
 use Rattle.yq_journal.proofs.SquashLaws.{squash_fault_of, squash_one, squash_rests}
 use Rattle.yq.specs.declared.fault.Fault.{Fault}
 use Rattle.yq.specs.Causes.{IsFor, named}
-use Rattle.yq.specs.Content.{Content}
+use Rattle.yq_store.specs.Content.{Content}
 use Rattle.yq.specs.Faults.{is_outside, of_fault, of_journal}
 use Rattle.yq.specs.Pair.{Arrives, GoodIn, Opens, Rest, Stands, Writes}
 use Rattle.yq.specs.Steps.{squash_cause, squash_next, unless_fault}

@@ -16,7 +16,7 @@ use Rattle.yq.specs.declared.command.Command.{Command}
 use Rattle.yq.specs.declared.command.Command.TheVariants.{Eval, Undo, Redo, History as Lists, Squash}
 use Rattle.yq.specs.declared.fault.Fault.{Fault}
 use Rattle.yq.specs.declared.fault.Fault.TheVariants.{NotThere, DoesNotStand, BadJournal, Unsettled, JournalFull}
-use Rattle.yq.specs.Content.{Content}
+use Rattle.yq_store.specs.Content.{Content}
 use Rattle.yq.specs.Editing.{Outcome, unreadable, refused, edited, program_in, edits}
 use Rattle.yq.specs.Edits.{edit_record}
 use Rattle.yq.specs.Faults.{is_outside, is_output, of_fault}

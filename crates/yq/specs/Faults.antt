@@ -10,11 +10,11 @@ use Rattle.yq_journal.specs.declared.fault.JournalFault.{JournalFault}
 use Rattle.yq_journal.specs.declared.fault.JournalFault.TheVariants as journal
 use Rattle.yq.specs.declared.fault.Fault.{Fault}
 use Rattle.yq.specs.declared.fault.Fault.TheVariants.{NotThere, ReadFailed, WriteFailed, OutFailed, NothingToUndo, NothingToRedo, DoesNotStand, BadJournal, Unsettled, JournalFull, BadCount, Unreadable, OutOfMemory}
-use Rattle.yq.specs.declared.store.FileReadError.{FileReadError}
-use Rattle.yq.specs.declared.store.FileReadError.TheVariants as read
-use Rattle.yq.specs.declared.store.FileWriteError.{FileWriteError}
-use Rattle.yq.specs.declared.store.FileWriteError.TheVariants as write
-use Rattle.yq.specs.Count.{one_more}
+use Rattle.yq_store.specs.declared.store.FileReadError.{FileReadError}
+use Rattle.yq_store.specs.declared.store.FileReadError.TheVariants as read
+use Rattle.yq_store.specs.declared.store.FileWriteError.{FileWriteError}
+use Rattle.yq_store.specs.declared.store.FileWriteError.TheVariants as write
+use Rattle.yq_store.specs.Count.{one_more}
 use Rattle.yq.specs.Editing.{of_refusal}
 
 -- why a file was not read

@@ -10,7 +10,7 @@ use Rattle.yq.specs.declared.command.Command.TheVariants.{Eval, Undo, Redo, Hist
 use Rattle.yq.specs.declared.fault.Fault.{Fault}
 use Rattle.yq.specs.declared.fault.Fault.TheVariants.{OutFailed, OutOfMemory}
 use Rattle.yq.specs.Causes.{Cause, IsFor}
-use Rattle.yq.specs.Content.{Content}
+use Rattle.yq_store.specs.Content.{Content}
 use Rattle.yq.specs.Effects.{OfEffect, Tells}
 use Rattle.yq.specs.Faults.{is_failure, is_outside, is_output}
 use Rattle.yq_program.specs.Program.{Program}

@@ -10,7 +10,7 @@ use Rattle.yq_journal.specs.Record.{Patch}
 use Rattle.yq_journal.specs.State.{State}
 use Rattle.yq.specs.declared.fault.Fault.{Fault}
 use Rattle.yq.specs.declared.fault.Fault.TheVariants.{NotThere}
-use Rattle.yq.specs.Content.{Content}
+use Rattle.yq_store.specs.Content.{Content}
 use Rattle.yq.specs.Causes.{Cause, IsFor}
 use Rattle.yq.specs.Faults.{is_outside}
 

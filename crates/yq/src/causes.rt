@@ -2,12 +2,12 @@
 
 use crate::fault::Fault;
 use crate::output::PutError;
-use crate::store::{FileReadError, FileWriteError};
 use std::alloc::{AllocError, AllocFailed};
 use yq_expr::{MatchError, ParseError, Refusal};
 use yq_journal::{JournalError, JournalFault};
 use yq_scalar::{ReadError, ReadFault};
 use yq_splice::EditError;
+use yq_store::{FileReadError, FileWriteError};
 
 impl From<AllocError> for Fault {
     ghost use Rattle.std.specs.Prelude.{◌≡◌};

@@ -1,6 +1,6 @@
 //! Commands.
 
-use crate::store::disk::purpose::Purpose;
+use yq_store::Purpose;
 
 /// What the words of a command line ask for. A command's journal has another name than its file.
 #[derive(Debug, Drop, PartialEq)]

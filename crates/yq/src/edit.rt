@@ -15,11 +15,11 @@ ghost use Rattle.yq.specs.Steps.{update_cause, update_next};
 use crate::editing::edit_text;
 use crate::fault::Fault;
 use crate::moves::carry_out;
-use crate::store::Store;
 use std::alloc::{AllocError, Global};
 use yq_expr::Program;
 use yq_journal::{Journal, Move, Record};
 use yq_splice::{Edited, Splice};
+use yq_store::Store;
 
 /// The record of an edit from one text to another.
 fn record_of(

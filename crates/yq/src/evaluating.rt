@@ -14,10 +14,10 @@ use crate::editing::{edit_text, given_text, parse};
 use crate::fault::Fault;
 use crate::reads::shown_matches;
 use crate::shown::Shown;
-use crate::store::Store;
 use std::alloc::Global;
 use yq_expr::{Program, matches};
 use yq_splice::Edited;
+use yq_store::Store;
 use yq_tree::read;
 
 /// What a read shows of a text, which need be no UTF-8.

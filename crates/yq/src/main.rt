@@ -18,7 +18,6 @@ mod reads;
 mod run;
 mod shown;
 mod squash;
-mod store;
 mod walk;
 mod words;
 

@@ -14,10 +14,10 @@ ghost use Rattle.yq.specs.Walks.{step_of};
 
 use crate::fault::Fault;
 use crate::pair::write_journal;
-use crate::store::Store;
 use crate::walk::Walk;
 use std::alloc::Global;
 use yq_journal::{Journal, Move};
+use yq_store::Store;
 
 /// Carries out a move that changes the text, in three writes: the journal with the move open, the
 /// file, and the journal settled.

@@ -1,6 +1,6 @@
 //! Outputs.
 ghost use Rattle.std.specs.Prelude.{◌≡◌, ◌++◌, ℕ, List, Bool, IsTrue, OnOk};
-ghost use Rattle.yq.specs.Count.{after_put};
+ghost use Rattle.yq_store.specs.Count.{after_put};
 
 pub mod memory;
 pub mod standard;

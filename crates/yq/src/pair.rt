@@ -10,9 +10,9 @@ ghost use Rattle.yq.specs.Pair.{GoodIn, Opens, Writes};
 ghost use Rattle.yq.specs.Causes.{named};
 
 use crate::fault::Fault;
-use crate::store::{FileReadError, Store};
 use std::alloc::Global;
 use yq_journal::Journal;
+use yq_store::{FileReadError, Store};
 
 /// Reads a journal; one that isn't there is that of a file that was never edited.
 fn read_journal<D: Store>(alloc: Global, store: &mut D, name: &str) -> Result<Journal, Fault>

@@ -16,10 +16,10 @@ use crate::fault::Fault;
 use crate::help::{HELP, USAGE};
 use crate::pair::open_pair;
 use crate::shown::Shown;
-use crate::store::Store;
 use serde_json::Value;
 use std::alloc::{AllocError, Global};
 use yq_journal::Journal;
+use yq_store::Store;
 
 /// A text as a JSON string.
 fn quoted(alloc: Global, text: &str) -> Result<String, AllocError>

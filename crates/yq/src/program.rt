@@ -5,9 +5,9 @@ use crate::command::{Command, purpose_of};
 use crate::fault::Fault;
 use crate::output::standard::StandardOut;
 use crate::run::run_list;
-use crate::store::disk::DiskStore;
 use crate::words::command_of;
 use std::io::ErrorKind;
+use yq_store::DiskStore;
 
 /// The program's words, less its own name.
 fn given_words(rt: &HostRuntime) -> Result<Vec<String>, Fault> {

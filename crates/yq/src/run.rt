@@ -4,7 +4,7 @@ ghost use Rattle.std.specs.List.{list_all};
 ghost use Rattle.std.specs.FinMap as map;
 ghost use Rattle.std.specs.String.{string_bytes};
 ghost use Rattle.yq_journal.specs.History.{History};
-ghost use Rattle.yq.specs.Count.{one_more};
+ghost use Rattle.yq_store.specs.Count.{one_more};
 ghost use Rattle.yq.specs.Editing.{program_in};
 ghost use Rattle.yq.specs.Effects.{OfEffect, Works, from_pair, update_effect, walk_effect};
 ghost use Rattle.yq.specs.Faults.{is_outside, is_output, counted};
@@ -28,9 +28,9 @@ use crate::pair::open_pair;
 use crate::printing::{help, listing};
 use crate::shown::Shown;
 use crate::squash::squash;
-use crate::store::Store;
 use crate::walk::Walk;
 use std::alloc::{AllocError, Global};
+use yq_store::Store;
 
 /// Undoes or redoes an edit of a file.
 fn walk<D: Store>(

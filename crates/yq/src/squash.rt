@@ -11,9 +11,9 @@ ghost use Rattle.yq.specs.Steps.{squash_cause, squash_next};
 
 use crate::fault::Fault;
 use crate::pair::{open_pair, write_journal};
-use crate::store::Store;
 use std::alloc::Global;
 use yq_journal::Journal;
+use yq_store::Store;
 
 /// Joins the last `n` done edits of a settled journal and writes it; of one edit it writes nothing.
 fn squash_from<D: Store>(

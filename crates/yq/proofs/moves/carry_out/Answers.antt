@@ -2,7 +2,7 @@ use Rattle.std.proofs.Common.{inl, inr}
 use Rattle.yq.proofs.MoveLaws.{first_write, second_write, third_write, same_content, moved_journal, on_err, on_ok_map, on_err_map, either}
 use Rattle.std.proofs.Common.{ap, ◌∙◌}
 use Rattle.std.specs.FinMap.{get}
-use Rattle.yq.specs.Content.{get_written}
+use Rattle.yq_store.specs.Content.{get_written}
 use Rattle.yq.proofs.EffectLaws.{on_ok}
 use Rattle.yq.proofs.moves.carry_out.Goals as goal
 

@@ -1,6 +1,6 @@
 //! The lock of a folder, which runs that write files in it hold one after the other.
 
-use crate::store::disk::links::{folder_of, target_of};
+use crate::disk::links::{folder_of, target_of};
 use std::alloc::Global;
 use std::fs::{File, TryLockError};
 use std::io::ErrorKind;

@@ -1,9 +1,9 @@
 -- Counts of failures, which stay at their last value (own).
 use Rattle.std.specs.Prelude.{ℕ, ◌+◌, ◌-◌, ◌^◌, min, Result, Ok, Err}
-use Rattle.yq.specs.declared.store.FileReadError.{FileReadError}
-use Rattle.yq.specs.declared.store.FileReadError.TheVariants as read
-use Rattle.yq.specs.declared.store.FileWriteError.{FileWriteError}
-use Rattle.yq.specs.declared.store.FileWriteError.TheVariants as write
+use Rattle.yq_store.specs.declared.store.FileReadError.{FileReadError}
+use Rattle.yq_store.specs.declared.store.FileReadError.TheVariants as read
+use Rattle.yq_store.specs.declared.store.FileWriteError.{FileWriteError}
+use Rattle.yq_store.specs.declared.store.FileWriteError.TheVariants as write
 
 -- one more, up to the last value of 64 bits
 abbrev pub one_more : ℕ → ℕ

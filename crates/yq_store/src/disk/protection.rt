@@ -1,8 +1,8 @@
 //! What may not be replaced, told before anything is written.
 
-use crate::store::disk::links::{folder_of, target_of};
-use crate::store::disk::reading::read_whole;
-use crate::store::disk::replacing::old_file;
+use crate::disk::links::{folder_of, target_of};
+use crate::disk::reading::read_whole;
+use crate::disk::replacing::old_file;
 use std::alloc::Global;
 use std::fs::{File, OpenOptions};
 use std::io::ErrorKind;

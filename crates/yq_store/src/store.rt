@@ -1,13 +1,10 @@
 //! Stores of named files.
 ghost use Rattle.std.specs.Prelude.{◌≡◌, ◌≢◌, ℕ, List, ◌⊎◌, Bool, IsTrue, IfOk, OnOk, OnErr, IsErrOf, None, Some};
 ghost use Rattle.std.specs.FinMap as map;
-ghost use Rattle.yq.specs.Content.{Content};
-ghost use Rattle.yq.specs.Count.{after_read, after_write};
+ghost use Rattle.yq_store.specs.Content.{Content};
+ghost use Rattle.yq_store.specs.Count.{after_read, after_write};
 
 use std::alloc::Global;
-
-pub mod disk;
-pub mod memory;
 
 /// Why a file was not read.
 #[derive(Clone, Copy, Debug, PartialEq, Eq)]

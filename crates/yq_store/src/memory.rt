@@ -2,7 +2,7 @@
 ghost use Rattle.std.specs.Prelude.{◌≡◌, true, [], IfOk, OnErr, option_map};
 ghost use Rattle.std.specs.FinMap as map;
 ghost use Rattle.std.specs.String.{string_bytes};
-ghost use Rattle.yq.specs.Content.{content_of};
+ghost use Rattle.yq_store.specs.Content.{content_of};
 
 use crate::store::{FileReadError, FileWriteError, Store};
 use std::alloc::Global;

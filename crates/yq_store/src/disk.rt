@@ -10,11 +10,11 @@ pub mod purpose;
 mod reading;
 mod replacing;
 
-use crate::store::disk::locking::locked_folder;
-use crate::store::disk::protection::check_replaceable;
-use crate::store::disk::purpose::Purpose;
-use crate::store::disk::reading::{check_regular, read_text, read_whole};
-use crate::store::disk::replacing::{before_change, replace_file};
+use crate::disk::locking::locked_folder;
+use crate::disk::protection::check_replaceable;
+use crate::disk::purpose::Purpose;
+use crate::disk::reading::{check_regular, read_text, read_whole};
+use crate::disk::replacing::{before_change, replace_file};
 use crate::store::{FileReadError, FileWriteError, Store};
 use std::alloc::Global;
 use std::fs::File;

@@ -1,8 +1,8 @@
 //! Replacing a file: a temporary file beside it is written, synced, and renamed over it.
 
+use crate::disk::links::{folder_of, target_of};
+use crate::disk::ownership::{Rights, take_over};
 use crate::store::FileWriteError;
-use crate::store::disk::links::{folder_of, target_of};
-use crate::store::disk::ownership::{Rights, take_over};
 use std::alloc::Global;
 use std::fs::{Metadata, OpenFile, OpenOptions};
 use std::io::{ErrorKind, Write};

@@ -1,0 +1,11 @@
+//! Stores of named files: real ones on a disk, and one in memory.
+#![tactic(auto)]
+
+mod disk;
+mod memory;
+mod store;
+
+pub use disk::DiskStore;
+pub use disk::purpose::Purpose;
+pub use memory::{Left, MemoryStore};
+pub use store::{FileReadError, FileWriteError, Store};
