@@ -15,9 +15,9 @@ pub use laws::{
 };
 pub use match_error::MatchError;
 pub use matching::{Match, matches};
-pub use op::Op;
+pub use op::{Op, copied_steps};
 pub use plan_error::PlanError;
-pub use planning::{copied_steps, plan};
+pub use planning::plan;
 pub use refusal::Refusal;
 pub use yq_inline::Value;
 pub use yq_program::{

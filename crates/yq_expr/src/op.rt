@@ -1,6 +1,10 @@
 //! Operations: what a program does to documents, one node at a time.
+ghost use Rattle.std.specs.Prelude.{◌≡◌, IfOk, map};
+ghost use Rattle.yq_inline.specs.Entries.{step_of};
+
+use std::alloc::{AllocError, Global};
 use yq_inline::Value;
-use yq_tree::Path;
+use yq_tree::{Path, Step};
 
 /// An operation on documents. The keys of a mapping in its value differ.
 #[derive(Debug, Drop)]
@@ -18,4 +22,25 @@ pub enum Op {
     /// The comment on the lines before an entry or item is set, its lines
     /// parted by LF: no text takes it away.
     HeadComment(Path, String),
+}
+
+/// The same step again.
+fn copied_step(alloc: Global, step: &Step) -> Result<Step, AllocError>
+    ensures { IfOk result (λ s. step_of s ≡ step_of step.now) }
+{
+    match step {
+        Step::Key(key) => Ok(Step::Key(String::from_str(alloc, key.as_str())?)),
+        Step::Index(index) => Ok(Step::Index(*index)),
+    }
+}
+
+/// The same steps again.
+pub fn copied_steps(alloc: Global, steps: &[Step]) -> Result<Vec<Step>, AllocError>
+    ensures { IfOk result (λ v. map step_of v.items ≡ map step_of steps.now) }
+{
+    let mut copies = Vec::with_capacity(alloc, steps.len())?;
+    'each: for step in steps {
+        copies.push(copied_step(alloc, step)?)?;
+    }
+    Ok(copies)
 }

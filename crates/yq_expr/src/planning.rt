@@ -32,7 +32,6 @@ mod sum;
 use crate::op::Op;
 use crate::plan_error::PlanError;
 use crate::planning::changes::changes;
-pub use crate::planning::operations::copied_steps;
 use crate::planning::operations::operations;
 use crate::refusal::Refusal;
 use std::alloc::Global;

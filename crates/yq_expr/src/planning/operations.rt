@@ -1,37 +1,15 @@
 //! Operations that carry out changes: each is of one node.
 ghost use Rattle.std.specs.Prelude.{◌≡◌, ◌++◌, IfOk, OnOk, map, string_bytes};
-ghost use Rattle.yq_inline.specs.Entries.{step_of};
 ghost use Rattle.yq_tree.specs.Located.{steps_of};
 ghost use Rattle.yq_expr.specs.ChangeView.{addition_of, all_changed_of, changed_of};
 ghost use Rattle.yq_expr.specs.Operations.{operation_of, operations_of};
 ghost use Rattle.yq_expr.specs.Plans as spec;
 
-use crate::op::Op;
+use crate::op::{Op, copied_steps};
 use crate::planning::change::{Addition, Change, Changed};
 use std::alloc::{AllocError, Global};
 use yq_program::CommentPlace;
 use yq_tree::{Path, Step};
-
-/// The same step again.
-fn copied_step(alloc: Global, step: &Step) -> Result<Step, AllocError>
-    ensures { IfOk result (λ s. step_of s ≡ step_of step.now) }
-{
-    match step {
-        Step::Key(key) => Ok(Step::Key(String::from_str(alloc, key.as_str())?)),
-        Step::Index(index) => Ok(Step::Index(*index)),
-    }
-}
-
-/// The same steps again.
-pub fn copied_steps(alloc: Global, steps: &[Step]) -> Result<Vec<Step>, AllocError>
-    ensures { IfOk result (λ v. map step_of v.items ≡ map step_of steps.now) }
-{
-    let mut copies = Vec::with_capacity(alloc, steps.len())?;
-    'each: for step in steps {
-        copies.push(copied_step(alloc, step)?)?;
-    }
-    Ok(copies)
-}
 
 /// The operation of an addition at a path.
 fn add_op(alloc: Global, path: &Path, addition: Addition) -> Result<Op, AllocError>
