@@ -9,11 +9,11 @@ use Rattle.yq_scalar.specs.declared.fault.ReadError.TheVariants as reading
 use Rattle.yq_tree.specs.Answers.{IsNotUtf8}
 use Rattle.yq_tree.specs.Documents.{Document}
 use Rattle.yq_tree.specs.Reading.{documents, read_at}
-use Rattle.yq_expr.specs.Copies.{matches}
-use Rattle.yq_expr.specs.Judgement.{Judgement, refuses}
-use Rattle.yq_expr.specs.Judgement as judgement
-use Rattle.yq_expr.specs.declared.match_error.MatchError.{MatchError}
-use Rattle.yq_expr.specs.declared.match_error.MatchError.TheVariants as matching
+use Rattle.yq_meaning.specs.Copies.{matches}
+use Rattle.yq_meaning.specs.Judgement.{Judgement, refuses}
+use Rattle.yq_meaning.specs.Judgement as judgement
+use Rattle.yq_meaning.specs.declared.match_error.MatchError.{MatchError}
+use Rattle.yq_meaning.specs.declared.match_error.MatchError.TheVariants as matching
 use Rattle.yq_program.specs.Program.{Program, Stage, is_read, read, updates}
 use Rattle.yq_journal.specs.History.{History, text_at}
 use Rattle.yq.specs.declared.fault.Fault.{Fault}

@@ -8,8 +8,8 @@ use Rattle.yq_program.specs.Parse.{outcome}
 use Rattle.yq_program.specs.Outcome as expr
 use Rattle.yq_program.specs.declared.error.ParseError.{ParseError}
 use Rattle.yq_program.specs.declared.error.ParseError.TheVariants as parse
-use Rattle.yq_expr.specs.declared.refusal.Refusal.{Refusal}
-use Rattle.yq_expr.specs.declared.refusal.Refusal.TheVariants as refusal
+use Rattle.yq_meaning.specs.declared.refusal.Refusal.{Refusal}
+use Rattle.yq_meaning.specs.declared.refusal.Refusal.TheVariants as refusal
 use Rattle.yq_script.specs.Patch.{Change}
 use Rattle.yq_splice.specs.Carried.{edit_of}
 use Rattle.yq_splice.specs.Edit.{Edit}

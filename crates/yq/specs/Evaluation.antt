@@ -3,8 +3,8 @@ use Rattle.std.specs.Prelude.{ℕ, Bool, List, Option, Some, None, option_map, R
 use Rattle.yq_scalar.specs.Tree.{Node}
 use Rattle.yq_tree.specs.Documents.{Document}
 use Rattle.yq_tree.specs.Reading.{documents, read_at}
-use Rattle.yq_expr.specs.Copies.{matches}
-use Rattle.yq_expr.specs.Judgement.{Judgement, gives, refuses}
+use Rattle.yq_meaning.specs.Copies.{matches}
+use Rattle.yq_meaning.specs.Judgement.{Judgement, gives, refuses}
 use Rattle.yq_program.specs.Program.{Program, Stage, read, updates}
 use Rattle.yq_journal.specs.History.{History, text_at}
 use Rattle.yq.specs.declared.fault.Fault.{Fault}

@@ -2,8 +2,8 @@
 use Rattle.std.specs.Prelude.{ℕ, Bool, true, false, if◌then◌else◌, Result, Ok, Err}
 use Rattle.yq_scalar.specs.declared.fault.ReadError.{ReadError}
 use Rattle.yq_scalar.specs.declared.fault.ReadError.TheVariants as reading
-use Rattle.yq_expr.specs.declared.match_error.MatchError.{MatchError}
-use Rattle.yq_expr.specs.declared.match_error.MatchError.TheVariants as matching
+use Rattle.yq_meaning.specs.declared.match_error.MatchError.{MatchError}
+use Rattle.yq_meaning.specs.declared.match_error.MatchError.TheVariants as matching
 use Rattle.yq_journal.specs.declared.fault.JournalError.{JournalError}
 use Rattle.yq_journal.specs.declared.fault.JournalError.TheVariants as error
 use Rattle.yq_journal.specs.declared.fault.JournalFault.{JournalFault}

@@ -7,7 +7,7 @@ use Rattle.yq_tree.specs.declared.places.mark_place.MarkPlace as declared
 use Rattle.yq_tree.specs.MarkTelling.{mark_told}
 use Rattle.yq_block.specs.declared.layout.Layout.{Layout}
 use Rattle.yq_block.specs.BlockReading.{is_filled}
-use Rattle.yq_expr.specs.Operations.{replace}
+use Rattle.yq_meaning.specs.Operations.{replace}
 use Rattle.yq_block_ways.specs.BlockWriting.{under_segments, behind_segments, is_compact, block_segments, block_mark, replace_block_way}
 use Rattle.yq_ways.specs.Layouts.{layout_of}
 

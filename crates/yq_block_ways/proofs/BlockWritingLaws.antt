@@ -37,10 +37,10 @@ use Rattle.yq_block.specs.BlockText.{block_value}
 use Rattle.yq_block.specs.BlockValues.{HasNearKeys, InRows, IsEnd, IsFilled}
 use Rattle.yq_block.proofs.CharacterLaws.{value_sound}
 use Rattle.yq_block.proofs.TextLaws.{value_spelled}
-use Rattle.yq_expr.specs.Changes.{is_used_inside}
-use Rattle.yq_expr.specs.Fits.{Fits}
-use Rattle.yq_expr.specs.Operations.{Operation, replace, append, remove, line_comment, head_comment}
-use Rattle.yq_expr.specs.Rooms.{room_of}
+use Rattle.yq_meaning.specs.Changes.{is_used_inside}
+use Rattle.yq_meaning.specs.Fits.{Fits}
+use Rattle.yq_meaning.specs.Operations.{Operation, replace, append, remove, line_comment, head_comment}
+use Rattle.yq_meaning.specs.Rooms.{room_of}
 use Rattle.yq_script.specs.Script.{Segment, old_text, new_text}
 use Rattle.yq_block_ways.specs.BlockWriting.{below_mark, lines_below, under_segments, behind_segments, is_compact, block_segments, block_mark, replace_block_way}
 use Rattle.yq_ways.specs.Done.{ArePieces}

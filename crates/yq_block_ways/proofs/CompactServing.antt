@@ -30,7 +30,7 @@ use Rattle.yq_change.proofs.MovedLaws.{lines_append}
 use Rattle.yq_change.proofs.NodeLineLaws.{Under, before_under, lines_found}
 use Rattle.yq_change.proofs.PlacedPartLaws.{document_stands_at}
 use Rattle.yq_block.specs.declared.layout.Layout.{Layout}
-use Rattle.yq_expr.specs.Operations.{replace}
+use Rattle.yq_meaning.specs.Operations.{replace}
 use Rattle.yq_block_ways.specs.CompactReplacing.{CompactPlace, compact_place, compact_segments, compact_upto, filled_behind, replace_compact_way, value_behind}
 use Rattle.yq_ways.specs.Layouts.{layout_of}
 use Rattle.yq_ways.specs.Serving.{IsServed}

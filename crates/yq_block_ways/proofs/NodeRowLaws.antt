@@ -54,7 +54,7 @@ use Rattle.yq_change.proofs.ReplaceLaws.{node_rows_replaced, rows_before_some}
 use Rattle.yq_change.proofs.UnderLaws.{line_with, dashes_of, gone_lines, rows_after}
 use Rattle.yq_block.specs.BlockPlaces.{IsUpto, at_mark, at_dash, Replaces}
 use Rattle.yq_block.proofs.LaidRows.{rows_append}
-use Rattle.yq_expr.specs.Operations.{replace}
+use Rattle.yq_meaning.specs.Operations.{replace}
 use Rattle.yq_ways.specs.Ways.{ReadsAfter}
 use Rattle.yq_ways.proofs.DoneLaws.{document_done}
 

@@ -11,7 +11,7 @@ use Rattle.yq_tree.specs.Located.{steps_of, located}
 use Rattle.yq_tree.specs.Reading.{cut_of}
 use Rattle.yq_tree.specs.ScalarPlaces.{ScalarPlace, scalar_place}
 use Rattle.yq_tree.specs.ScalarTelling.{scalar_told}
-use Rattle.yq_expr.specs.Operations.{replace}
+use Rattle.yq_meaning.specs.Operations.{replace}
 use Rattle.yq_ways.specs.Replacing.{node_in, is_kept}
 use Rattle.yq_block_ways.specs.ScalarLiteral.{literal_at, scalar_literal_way}
 use Rattle.yq_block_ways.specs.ScalarReplacing.{has_text, line_at, scalar_line_way}

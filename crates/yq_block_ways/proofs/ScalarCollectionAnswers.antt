@@ -9,7 +9,7 @@ use Rattle.yq_tree.specs.ScalarPlaces.{scalar_place}
 use Rattle.yq_tree.specs.ScalarTelling.{scalar_told}
 use Rattle.yq_block.specs.declared.layout.Layout.{Layout}
 use Rattle.yq_block.specs.BlockReading.{is_filled}
-use Rattle.yq_expr.specs.Operations.{replace}
+use Rattle.yq_meaning.specs.Operations.{replace}
 use Rattle.yq_ways.specs.Layouts.{layout_of}
 use Rattle.yq_block_ways.specs.ScalarCollection.{collection_segments, scalar_collection_way}
 use Rattle.yq_block_ways.proofs.ScalarAnswers.{FindsScalar}

@@ -12,9 +12,9 @@ use Rattle.yq_tree.specs.ScalarPlaces.{ScalarPlace, scalar_place}
 use Rattle.yq_tree.proofs.PrintedTexts.{map_some}
 use Rattle.yq_change.specs.SoundRoots.{MayReplace}
 use Rattle.yq_block.specs.BlockReading.{is_filled}
-use Rattle.yq_expr.specs.Fits.{Fits}
-use Rattle.yq_expr.specs.Operations.{Operation, replace, append, remove, line_comment, head_comment as head_operation}
-use Rattle.yq_expr.specs.Rooms.{room_of}
+use Rattle.yq_meaning.specs.Fits.{Fits}
+use Rattle.yq_meaning.specs.Operations.{Operation, replace, append, remove, line_comment, head_comment as head_operation}
+use Rattle.yq_meaning.specs.Rooms.{room_of}
 use Rattle.yq_script.specs.Script.{Segment, old_text, new_text}
 use Rattle.yq_ways.specs.Layouts.{layout_of}
 use Rattle.yq_ways.specs.Operands.{HasOperand}

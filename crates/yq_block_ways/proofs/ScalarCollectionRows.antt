@@ -40,7 +40,7 @@ use Rattle.yq_block.specs.BlockText.{block_value}
 use Rattle.yq_block.specs.BlockValues.{HasNearKeys, InRows, IsEnd}
 use Rattle.yq_block.proofs.CharacterLaws.{value_sound}
 use Rattle.yq_block.proofs.TextLaws.{value_spelled}
-use Rattle.yq_expr.specs.Operations.{replace}
+use Rattle.yq_meaning.specs.Operations.{replace}
 use Rattle.yq_script.specs.Script.{Segment, old_text, new_text}
 use Rattle.yq_block_ways.specs.ScalarCollection.{below_scalar, rows_in, rows_segments, dash_segments, begins_on_line, collection_segments}
 use Rattle.yq_block_ways.specs.ScalarReplacing.{header_end, break_before, final_break}

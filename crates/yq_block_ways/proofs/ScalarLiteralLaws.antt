@@ -54,9 +54,9 @@ use Rattle.yq_change.specs.SoundRoots.{MayReplace}
 use Rattle.yq_change.specs.TextPieces.{IsPiece}
 use Rattle.yq_change.proofs.PathTailLaws.{anchor_other}
 use Rattle.yq_change.proofs.TextPieceLaws.{line_cut, pieces_joined}
-use Rattle.yq_expr.specs.Fits.{Fits}
-use Rattle.yq_expr.specs.Operations.{Operation, replace, append, remove, line_comment, head_comment}
-use Rattle.yq_expr.specs.Rooms.{room_of}
+use Rattle.yq_meaning.specs.Fits.{Fits}
+use Rattle.yq_meaning.specs.Operations.{Operation, replace, append, remove, line_comment, head_comment}
+use Rattle.yq_meaning.specs.Rooms.{room_of}
 use Rattle.yq_script.specs.Script.{Segment, old_text, new_text}
 use Rattle.yq_ways.specs.Operands.{HasOperand}
 use Rattle.yq_ways.specs.Replacing.{node_in, scalar_in}

@@ -52,7 +52,7 @@ use Rattle.yq_change.proofs.PathLaws.{seat_number}
 use Rattle.yq_change.proofs.PlacedLaws.{same_parts, whole_line}
 use Rattle.yq_change.proofs.RemarkLaws.{last_lines}
 use Rattle.yq_change.proofs.UnderLaws.{under_kept}
-use Rattle.yq_expr.specs.Operations.{replace}
+use Rattle.yq_meaning.specs.Operations.{replace}
 use Rattle.yq_ways.specs.Ways.{ReadsAfter}
 use Rattle.yq_ways.proofs.CommentRowLaws.{count_front, IsFound, row_found}
 use Rattle.yq_ways.proofs.DoneLaws.{document_done}

@@ -12,7 +12,7 @@ use Rattle.yq_block.specs.declared.layout.Layout.{Layout}
 use Rattle.yq_block.specs.BlockReading.{is_filled}
 use Rattle.yq_block.specs.BlockRows.{indent_step, item_column}
 use Rattle.yq_block.specs.BlockText.{block_value}
-use Rattle.yq_expr.specs.Operations.{replace, append, remove, line_comment, head_comment}
+use Rattle.yq_meaning.specs.Operations.{replace, append, remove, line_comment, head_comment}
 use Rattle.yq_script.specs.Script.{Segment, keep, put}
 use Rattle.yq_ways.specs.Layouts.{layout_of}
 use Rattle.yq_ways.specs.Ways.{Way}

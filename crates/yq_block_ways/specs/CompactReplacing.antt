@@ -10,7 +10,7 @@ use Rattle.yq_tree.specs.PrintedLines.{less_break, last_break}
 use Rattle.yq_block.specs.declared.layout.Layout.{Layout}
 use Rattle.yq_block.specs.BlockReading.{is_filled}
 use Rattle.yq_block.specs.BlockRows.{item_column}
-use Rattle.yq_expr.specs.Operations.{replace, append, remove, line_comment, head_comment}
+use Rattle.yq_meaning.specs.Operations.{replace, append, remove, line_comment, head_comment}
 use Rattle.yq_script.specs.Script.{Segment, keep, put}
 use Rattle.yq_block_ways.specs.BlockWriting.{behind_space, lines_below}
 use Rattle.yq_block_ways.specs.CollectionReplacing.{up_to}

@@ -12,7 +12,7 @@ use Rattle.yq_scalar.specs.declared.style.Style.TheVariants.{Literal}
 use Rattle.yq_tree.specs.CommentPlaces.{LineEnd, end_before}
 use Rattle.yq_tree.specs.PrintedLines.{less_break, last_break}
 use Rattle.yq_tree.specs.ScalarPlaces.{ScalarPlace, scalar_place}
-use Rattle.yq_expr.specs.Operations.{replace, append, remove, line_comment, head_comment}
+use Rattle.yq_meaning.specs.Operations.{replace, append, remove, line_comment, head_comment}
 use Rattle.yq_script.specs.Script.{Segment, keep, put}
 use Rattle.yq_ways.specs.Replacing.{node_in, scalar_in, is_kept, value_written}
 use Rattle.yq_ways.specs.Ways.{Way}

@@ -6,13 +6,14 @@ ghost use Rattle.yq_tree.specs.Located.{steps_of};
 ghost use Rattle.yq_tree.specs.MarkTelling.{mark_told};
 ghost use Rattle.yq_tree.specs.Reading.{cut_of};
 ghost use Rattle.yq_block.specs.BlockRows.{item_column};
-ghost use Rattle.yq_expr.specs.Operations.{operation_of};
+ghost use Rattle.yq_meaning.specs.Operations.{operation_of};
 ghost use Rattle.yq_block_ways.specs.BlockWriting as spec;
 ghost use Rattle.yq_ways.specs.WayAnswers.{Carries};
 
 use std::alloc::{AllocError, Global};
 use yq_block::{Layout, indent_step, is_filled, push_block};
-use yq_expr::{Op, Value};
+use yq_inline::Value;
+use yq_meaning::Op;
 use yq_scalar::block_written::break_text;
 use yq_scalar::push_spaces;
 use yq_script::{Edited, ExchangeError, Segment, exchange};

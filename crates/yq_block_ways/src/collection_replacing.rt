@@ -8,14 +8,15 @@ ghost use Rattle.yq_tree.specs.PrintedLines as lines;
 ghost use Rattle.yq_tree.specs.Reading.{cut_of};
 ghost use Rattle.yq_tree.specs.declared.places.collection_end.CollectionEnd.{CollectionEnd as CollectionEndOf};
 ghost use Rattle.yq_tree.specs.declared.places.mark_place.MarkPlace.{MarkPlace as MarkPlaceOf};
-ghost use Rattle.yq_expr.specs.Operations.{operation_of};
+ghost use Rattle.yq_meaning.specs.Operations.{operation_of};
 ghost use Rattle.yq_block_ways.specs.CollectionReplacing as spec;
 ghost use Rattle.yq_ways.specs.WayAnswers.{Carries};
 
 use crate::block_writing::{below_mark, lines_below};
 use std::alloc::{AllocError, Global};
 use yq_block::{Layout, is_filled};
-use yq_expr::{Op, Value};
+use yq_inline::Value;
+use yq_meaning::Op;
 use yq_script::{Edited, ExchangeError, Segment, exchange};
 use yq_tree::{CollectionEnd, Documents, MarkPlace, Path, split_break};
 use yq_ways::{inline_written, layout_of};

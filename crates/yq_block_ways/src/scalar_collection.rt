@@ -1,6 +1,6 @@
 //! The way to replace a block scalar by a collection in block style.
 ghost use Rattle.std.specs.Prelude.{◌≡◌, IfOk, Some, string_bytes};
-ghost use Rattle.yq_expr.specs.Operations.{operation_of};
+ghost use Rattle.yq_meaning.specs.Operations.{operation_of};
 ghost use Rattle.yq_inline.specs.Values.{node_of};
 ghost use Rattle.yq_tree.specs.Reading.{cut_of};
 ghost use Rattle.yq_tree.specs.ScalarTelling.{scalar_told};
@@ -11,7 +11,8 @@ use crate::block_writing::{behind_dash, behind_space};
 use crate::scalar_line::split_lines;
 use std::alloc::{AllocError, Global};
 use yq_block::{Layout, indent_step, is_filled, push_block};
-use yq_expr::{Op, Value};
+use yq_inline::Value;
+use yq_meaning::Op;
 use yq_scalar::block_written::break_text;
 use yq_scalar::lines::split_at_break;
 use yq_scalar::push_spaces;

@@ -1,7 +1,7 @@
 //! The way to replace a block scalar by a value that is written inline on the line of its header.
 ghost use Rattle.std.specs.List.{list_any};
 ghost use Rattle.std.specs.Prelude.{◌≡◌, [], IfOk, Some, if◌then◌else◌, not, option_map, string_bytes};
-ghost use Rattle.yq_expr.specs.Operations.{operation_of};
+ghost use Rattle.yq_meaning.specs.Operations.{operation_of};
 ghost use Rattle.yq_inline.specs.Values as values;
 ghost use Rattle.yq_scalar.specs.Text.{is_empty, is_feed};
 ghost use Rattle.yq_tree.specs.Nodes.{node_of};
@@ -12,7 +12,8 @@ ghost use Rattle.yq_block_ways.specs.ScalarReplacing as spec;
 ghost use Rattle.yq_ways.specs.WayAnswers.{Carries};
 
 use std::alloc::{AllocError, Global};
-use yq_expr::{Op, Value};
+use yq_inline::Value;
+use yq_meaning::Op;
 use yq_scalar::lines::split_at_break;
 use yq_scalar::text::split_white;
 use yq_scalar::{Place, Style, can_write, write_scalar};

@@ -1,6 +1,6 @@
 //! The way to replace a block scalar by a string that is written as a literal block scalar.
 ghost use Rattle.std.specs.Prelude.{◌≡◌};
-ghost use Rattle.yq_expr.specs.Operations.{operation_of};
+ghost use Rattle.yq_meaning.specs.Operations.{operation_of};
 ghost use Rattle.yq_inline.specs.Values as values;
 ghost use Rattle.yq_tree.specs.Reading.{cut_of};
 ghost use Rattle.yq_tree.specs.ScalarTelling.{scalar_told};
@@ -9,7 +9,8 @@ ghost use Rattle.yq_ways.specs.WayAnswers.{Carries};
 
 use crate::scalar_line::{has_text, put_scalar};
 use std::alloc::Global;
-use yq_expr::{Op, Value};
+use yq_inline::Value;
+use yq_meaning::Op;
 use yq_scalar::{Break, Place, Style, can_write, write_block};
 use yq_script::{Edited, ExchangeError};
 use yq_tree::{Documents, ScalarPlace};

@@ -8,10 +8,10 @@ use Rattle.yq_rows.specs.Rows.{Cut, cut_text}
 use Rattle.yq_tree.specs.Reading.{documents, outline_of, read_at, root_of}
 use Rattle.yq_tree.specs.RemovalPlaces.{has_others_at}
 use Rattle.yq_change.specs.Siblings.{IsCollectionAt}
-use Rattle.yq_expr.specs.Changes.{Room}
-use Rattle.yq_expr.specs.Fits.{Fits}
-use Rattle.yq_expr.specs.Operations.{Operation, replace, append, remove, line_comment, head_comment}
-use Rattle.yq_expr.specs.Rooms.{room_of}
+use Rattle.yq_meaning.specs.Changes.{Room}
+use Rattle.yq_meaning.specs.Fits.{Fits}
+use Rattle.yq_meaning.specs.Operations.{Operation, replace, append, remove, line_comment, head_comment}
+use Rattle.yq_meaning.specs.Rooms.{room_of}
 use Rattle.yq_ways.specs.AppendWay.{append_way}
 use Rattle.yq_carrying.specs.Carrying.{carrying, comment_ways, content_ways, entry_ways, exchange_ways, flow_entry_ways, flow_ways, node_ways, remove_ways, sole_ways, tree_ways}
 use Rattle.yq_ways.specs.CommentWays.{head_comment_way, line_comment_way}

@@ -34,7 +34,7 @@ use Rattle.yq_change.proofs.LineLaws.{row_count}
 use Rattle.yq_change.proofs.PlacedPartLaws.{document_stands_at}
 use Rattle.yq_block.specs.declared.layout.Layout.{Layout}
 use Rattle.yq_block.specs.BlockReading.{is_filled}
-use Rattle.yq_expr.specs.Operations.{replace}
+use Rattle.yq_meaning.specs.Operations.{replace}
 use Rattle.yq_block_ways.specs.BlockWriting.{below_mark, block_mark, block_segments, lines_below, mark_of_node, replace_block_way}
 use Rattle.yq_carrying.specs.Carrying.{replace_ways, scalar_ways, string_ways}
 use Rattle.yq_block_ways.specs.CollectionReplacing.{LinesUnder, Written, beside_mark, exchange_segments, lines_under, lines_upto, replace_collection_way, written_of, written_there}

@@ -30,7 +30,7 @@ use Rattle.yq_tree.proofs.RowPathLaws.{found_lines}
 use Rattle.yq_tree.proofs.SeatLineLaws.{seat_line}
 use Rattle.yq_change.specs.Siblings.{HasEntries, IsEntry, IsEntryAt, NodeLines}
 use Rattle.yq_change.proofs.EditedLaws.{lines_are_there}
-use Rattle.yq_expr.specs.Operations.{Operation, remove, replace}
+use Rattle.yq_meaning.specs.Operations.{Operation, remove, replace}
 use Rattle.yq_script.specs.Script.{Segment}
 use Rattle.yq_carrying.specs.Carrying.{remove_ways}
 use Rattle.yq_flow_ways.specs.FlowWays.{last_step}

@@ -18,7 +18,7 @@ use Rattle.yq_tree.specs.Reading.{outline_of, read_at, root_of}
 use Rattle.yq_tree.proofs.PrintedTexts.{none_some}
 use Rattle.yq_change.specs.Siblings.{IsCollectionAt, NodeLines}
 use Rattle.yq_change.proofs.NodeLineLaws.{lines_found}
-use Rattle.yq_expr.specs.Operations.{replace}
+use Rattle.yq_meaning.specs.Operations.{replace}
 use Rattle.yq_carrying.specs.Carrying.{collection_ways, exchange_ways, leaf_ways, replace_ways, scalar_ways, under_ways}
 use Rattle.yq_block_ways.specs.CollectionReplacing.{replace_collection_way}
 use Rattle.yq_block_ways.specs.CompactReplacing.{replace_compact_way}

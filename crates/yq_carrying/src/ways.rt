@@ -1,9 +1,9 @@
 //! Ways to carry out operations, each for some of them.
 ghost use Rattle.std.specs.Prelude.{◌≡◌, Some};
 ghost use Rattle.yq_rows.specs.Rows.{Cut, cut_text};
-ghost use Rattle.yq_expr.specs.Fits.{Fits};
-ghost use Rattle.yq_expr.specs.Operations.{Operation, operation_of};
-ghost use Rattle.yq_expr.specs.Rooms.{room_of};
+ghost use Rattle.yq_meaning.specs.Fits.{Fits};
+ghost use Rattle.yq_meaning.specs.Operations.{Operation, operation_of};
+ghost use Rattle.yq_meaning.specs.Rooms.{room_of};
 ghost use Rattle.yq_tree.specs.Reading.{cut_of, documents, read_at};
 ghost use Rattle.yq_script.specs.Exchanging.{Exchanged, exchange_of};
 ghost use Rattle.yq_carrying.specs.Carrying as spec;
@@ -17,8 +17,8 @@ use yq_block_ways::{
     replace_block_way, replace_collection_way, replace_compact_way, scalar_collection_way,
     scalar_line_way, scalar_literal_way,
 };
-use yq_expr::Op;
 use yq_flow_ways::{emptying, flow_append_way, flow_remove_way, flow_replace_way};
+use yq_meaning::Op;
 use yq_root_ways::root_way;
 use yq_script::{Edited, ExchangeError, Segment, exchange};
 use yq_tree::Documents;

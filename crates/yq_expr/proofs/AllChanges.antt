@@ -2,17 +2,17 @@
 use Rattle.std.proofs.Common.{◌≡◌, ℕ, suc, ◌+◌, ◌<◌, ◌≤◌, List, [], ◌∷◌, ◌++◌, length, map, drop, refl, sym, ap, ◌∙◌, subst, append-nil, append_assoc, add-one, arith}
 use Rattle.yq_scalar.specs.Tree.{Node}
 use Rattle.yq_tree.specs.Documents.{Document}
-use Rattle.yq_expr.specs.Changes.{Room, Changed, put_at, at_each, with_value, changes_at, changes_in, changes_from}
-use Rattle.yq_expr.specs.Judgement.{Judgement, gives, refuses, and_then, Fails}
-use Rattle.yq_expr.specs.Meaning.{roots_of}
+use Rattle.yq_meaning.specs.Changes.{Room, Changed, put_at, at_each, with_value, changes_at, changes_in, changes_from}
+use Rattle.yq_meaning.specs.Judgement.{Judgement, gives, refuses, and_then, Fails}
+use Rattle.yq_meaning.specs.Meaning.{roots_of}
 use Rattle.yq_expr.specs.PlaceView.{places_of, put_behind}
-use Rattle.yq_expr.specs.Places.{Place, root_place, for_each}
+use Rattle.yq_meaning.specs.Places.{Place, root_place, for_each}
 use Rattle.yq_program.specs.Program.{Stage, Term, Update, assign}
-use Rattle.yq_expr.specs.RightValues.{right_value}
+use Rattle.yq_meaning.specs.RightValues.{right_value}
 use Rattle.yq_expr.specs.declared.matching.place.Place as declared
 use Rattle.yq_program.specs.declared.program.Operator.{Operator}
 use Rattle.yq_program.specs.declared.program.Operator.TheVariants as operator
-use Rattle.yq_expr.specs.declared.match_error.MatchError.{MatchError}
+use Rattle.yq_meaning.specs.declared.match_error.MatchError.{MatchError}
 use Rattle.yq_expr.proofs.EachLaws.{fails_then}
 use Rattle.yq_program.proofs.Lists.{past_last}
 

@@ -5,9 +5,9 @@ use Rattle.std.proofs.lemmas.List.{map_push, reverse-append, take_rest}
 use Rattle.yq_scalar.specs.Tree as tree
 use Rattle.yq_scalar.specs.Tree.{Node, none, child}
 use Rattle.yq_tree.specs.TreeEdits.{new_label}
-use Rattle.yq_expr.specs.Changes.{nested, made, put_below}
-use Rattle.yq_expr.specs.Judgement.{gives, refuses}
-use Rattle.yq_expr.specs.declared.refusal.Refusal.TheVariants.{IndexOutOfRange}
+use Rattle.yq_meaning.specs.Changes.{nested, made, put_below}
+use Rattle.yq_meaning.specs.Judgement.{gives, refuses}
+use Rattle.yq_meaning.specs.declared.refusal.Refusal.TheVariants.{IndexOutOfRange}
 use Rattle.yq_program.proofs.Lists.{list_any_map}
 use Rattle.yq_program.specs.Program.{is_index, Step, key, index, each}
 

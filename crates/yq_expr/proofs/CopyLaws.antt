@@ -7,8 +7,8 @@ use Rattle.yq_inline.specs.Values.{entries}
 use Rattle.yq_tree.specs.Counts.{count}
 use Rattle.yq_tree.specs.Nodes.{kind_of}
 use Rattle.yq_tree.specs.declared.nodes.node.NodeKind.TheVariants as kinds
-use Rattle.yq_expr.specs.Copies.{and_others, keyed, copy, item_copies, entry_copies}
-use Rattle.yq_expr.specs.Judgement.{Judgement, gives, refuses, and_then}
+use Rattle.yq_meaning.specs.Copies.{and_others, keyed, copy, item_copies, entry_copies}
+use Rattle.yq_meaning.specs.Judgement.{Judgement, gives, refuses, and_then}
 use Rattle.yq_expr.specs.PlaceView.{put_behind}
 
 -- one more behind what is there

@@ -1,10 +1,10 @@
 -- What comes of each of several, one behind the other, and of several that act in turn.
 use Rattle.std.proofs.Common.{◌≡◌, ℕ, suc, ◌+◌, ◌<◌, List, [], ◌∷◌, ◌++◌, length, map, drop, get_or, Result, Err, refl, sym, ap, ◌∙◌, subst, append_assoc, add-one, drop-cons}
-use Rattle.yq_expr.specs.Judgement.{Judgement, gives, refuses, and_then, Fails, Matches}
+use Rattle.yq_meaning.specs.Judgement.{Judgement, gives, refuses, and_then, Fails, Matches}
 use Rattle.yq_expr.specs.PlaceView.{put_behind}
-use Rattle.yq_expr.specs.Places.{for_each, in_turn}
-use Rattle.yq_expr.specs.declared.match_error.MatchError.{MatchError}
-use Rattle.yq_expr.specs.declared.match_error.MatchError.TheVariants as error
+use Rattle.yq_meaning.specs.Places.{for_each, in_turn}
+use Rattle.yq_meaning.specs.declared.match_error.MatchError.{MatchError}
+use Rattle.yq_meaning.specs.declared.match_error.MatchError.TheVariants as error
 
 -- an error on the first of two steps is one of both
 pub fails_then : {Y W : Type 0} (f : Y → Judgement W) (j : Judgement Y) (e : MatchError) → Fails e j → Fails e (and_then f j)

@@ -9,18 +9,18 @@ use Rattle.yq_scalar.specs.Paths.{is_here, further, child_at}
 use Rattle.yq_scalar.specs.Tree as tree
 use Rattle.yq_scalar.specs.Tree.{Node, alias, scalar, list, Children, none, child}
 use Rattle.yq_tree.specs.Documents.{Document}
-use Rattle.yq_expr.specs.Conditions.{node_there, value_of, holds}
-use Rattle.yq_expr.specs.Copies.{matches_in, matches_from}
-use Rattle.yq_expr.specs.Judgement.{Judgement, gives, and_then, Fails}
-use Rattle.yq_expr.specs.Matching.{Found, find, in_scalar, key_step, item_number, index_step}
-use Rattle.yq_expr.specs.Pipes.{kept, select_on, stage_on, pipe_on, places}
+use Rattle.yq_meaning.specs.Conditions.{node_there, value_of, holds}
+use Rattle.yq_meaning.specs.Copies.{matches_in, matches_from}
+use Rattle.yq_meaning.specs.Judgement.{Judgement, gives, and_then, Fails}
+use Rattle.yq_meaning.specs.Matching.{Found, find, in_scalar, key_step, item_number, index_step}
+use Rattle.yq_meaning.specs.Pipes.{kept, select_on, stage_on, pipe_on, places}
 use Rattle.yq_expr.specs.PlaceView.{put_behind}
-use Rattle.yq_expr.specs.Places.{Place, root_place, child_place, for_each, miss, found_place, stepped, all_steps, step_there, step_from, step_on, in_turn}
+use Rattle.yq_meaning.specs.Places.{Place, root_place, child_place, for_each, miss, found_place, stepped, all_steps, step_there, step_from, step_on, in_turn}
 use Rattle.yq_program.specs.Program.{Step, key, index, each, Stage, path, select}
 use Rattle.yq_expr.specs.TreeScalars.{HasScalars, EachHasScalars, HaveScalars}
-use Rattle.yq_expr.specs.declared.match_error.MatchError.{MatchError}
-use Rattle.yq_expr.specs.declared.refusal.Refusal.{Refusal}
-use Rattle.yq_expr.specs.declared.refusal.Refusal.TheVariants.{NotAMap, NotASequence}
+use Rattle.yq_meaning.specs.declared.match_error.MatchError.{MatchError}
+use Rattle.yq_meaning.specs.declared.refusal.Refusal.{Refusal}
+use Rattle.yq_meaning.specs.declared.refusal.Refusal.TheVariants.{NotAMap, NotASequence}
 use Rattle.yq_expr.proofs.EachLaws.{fails_then, put_both}
 use Rattle.yq_expr.proofs.JudgementLaws.{then_gives, gives_same}
 

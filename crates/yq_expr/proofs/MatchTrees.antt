@@ -8,18 +8,18 @@ use Rattle.yq_scalar.specs.Tree as tree
 use Rattle.yq_scalar.specs.Tree.{Node, alias, scalar, list, Children, none, child, children_of}
 use Rattle.yq_inline.specs.Values.{items, entries}
 use Rattle.yq_tree.specs.Documents.{Document}
-use Rattle.yq_expr.specs.Conditions.{node_there, value_of}
-use Rattle.yq_expr.specs.Copies.{and_others, keyed, copy, item_copies, entry_copies, copy_at, match_at, matches_in, matches_from, matches}
-use Rattle.yq_expr.specs.Judgement.{gives, and_then, Matches}
+use Rattle.yq_meaning.specs.Conditions.{node_there, value_of}
+use Rattle.yq_meaning.specs.Copies.{and_others, keyed, copy, item_copies, entry_copies, copy_at, match_at, matches_in, matches_from, matches}
+use Rattle.yq_meaning.specs.Judgement.{gives, and_then, Matches}
 use Rattle.yq_expr.specs.MatchTrees.{IsMatch, AreMatches}
-use Rattle.yq_expr.specs.Pipes.{places}
-use Rattle.yq_expr.specs.Places.{Place, for_each}
+use Rattle.yq_meaning.specs.Pipes.{places}
+use Rattle.yq_meaning.specs.Places.{Place, for_each}
 use Rattle.yq_expr.specs.PlacesApart.{IsIn}
 use Rattle.yq_program.specs.Program.{Stage, Step}
-use Rattle.yq_expr.specs.declared.match_error.MatchError.{MatchError}
+use Rattle.yq_meaning.specs.declared.match_error.MatchError.{MatchError}
 use Rattle.yq_expr.proofs.JudgementLaws.{then_gives, gives_same}
 use Rattle.yq_expr.proofs.updates.GoodPlaces.{AreSound}
-use Rattle.yq_expr.proofs.updates.PathLaws.{none_some, some_same}
+use Rattle.yq_meaning.proofs.PathLaws.{none_some, some_same}
 use Rattle.yq_expr.proofs.updates.PipePlaces.{places_apart}
 use Rattle.yq_expr.proofs.updates.Pure.{copy_pure}
 

@@ -4,10 +4,10 @@ use Rattle.std.proofs.lemmas.List.{map_push}
 use Rattle.yq_scalar.specs.Tree.{Label, Node, Children, none, child}
 use Rattle.yq_tree.specs.Counts.{count}
 use Rattle.yq_tree.specs.Outline.{null_node}
-use Rattle.yq_expr.specs.Conditions.{node_there}
-use Rattle.yq_expr.specs.Judgement.{gives}
+use Rattle.yq_meaning.specs.Conditions.{node_there}
+use Rattle.yq_meaning.specs.Judgement.{gives}
 use Rattle.yq_expr.specs.PlaceView.{place_of, places_of}
-use Rattle.yq_expr.specs.Places.{Place, child_place, miss, step_by, step_from, stepped}
+use Rattle.yq_meaning.specs.Places.{Place, child_place, miss, step_by, step_from, stepped}
 use Rattle.yq_program.specs.Program.{Step}
 use Rattle.yq_expr.specs.declared.matching.place.Place as declared
 

@@ -4,9 +4,9 @@ use Rattle.std.specs.List.{slice_get}
 use Rattle.yq_tree.specs.Documents.{Document}
 use Rattle.yq_tree.specs.Reading.{documents_of}
 use Rattle.yq_tree.specs.Ready.{IsReady, TextIsReady}
-use Rattle.yq_expr.specs.Changes.{Room}
-use Rattle.yq_expr.specs.Meaning.{AreReady}
-use Rattle.yq_expr.specs.Rooms.{room_of}
+use Rattle.yq_meaning.specs.Changes.{Room}
+use Rattle.yq_meaning.specs.Meaning.{AreReady}
+use Rattle.yq_meaning.specs.Rooms.{room_of}
 
 ready_from : (rooms : ℕ → Room) (n : ℕ) (docs : List Document) → ((i : ℕ) (d : Document) → slice_get docs i ≡ Some d → IsReady (rooms (n + i)).block d) → AreReady rooms n docs
 ready_from rooms n [] h = tt

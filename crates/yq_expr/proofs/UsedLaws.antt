@@ -7,9 +7,9 @@ use Rattle.yq_scalar.specs.Tree.{Label, Node, alias, scalar, list, Children, chi
 use Rattle.yq_tree.specs.Anchors.{Name, Anchors, Refers, names_of, names_in}
 use Rattle.yq_tree.specs.Nodes.{anchor_of, kind_of, text_of}
 use Rattle.yq_tree.specs.declared.nodes.node.NodeKind.TheVariants as kinds
-use Rattle.yq_expr.specs.Changes.{Addition, appends, overwrites, Change, replaces, adds, removes, sets_comment, allowed, is_too_deep, is_too_long, refers_to, is_used, is_used_inside, is_used_in, overwrites_used, takes_used}
-use Rattle.yq_expr.specs.Judgement.{gives, refuses}
-use Rattle.yq_expr.specs.declared.refusal.Refusal.TheVariants.{AnchorInUse}
+use Rattle.yq_meaning.specs.Changes.{Addition, appends, overwrites, Change, replaces, adds, removes, sets_comment, allowed, is_too_deep, is_too_long, refers_to, is_used, is_used_inside, is_used_in, overwrites_used, takes_used}
+use Rattle.yq_meaning.specs.Judgement.{gives, refuses}
+use Rattle.yq_meaning.specs.declared.refusal.Refusal.TheVariants.{AnchorInUse}
 use Rattle.yq_expr.specs.TakenNames.{is_used_anchor, overwrites_at, takes_at}
 use Rattle.yq_expr.proofs.updates.ChildPlaces.{node_further}
 

@@ -12,7 +12,6 @@ pub mod Folds
 pub mod GoodPlaces
 pub mod Mentions
 pub mod OneAt
-pub mod PathLaws
 pub mod PipePlaces
 pub mod PlanAnswers
 pub mod PlanFits

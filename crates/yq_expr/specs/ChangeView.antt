@@ -6,7 +6,7 @@ use Rattle.yq_inline.specs.Values.{node_of}
 use Rattle.yq_expr.specs.declared.planning.change.Addition as addition
 use Rattle.yq_expr.specs.declared.planning.change.Change as change
 use Rattle.yq_expr.specs.declared.planning.change.Changed as changed
-use Rattle.yq_expr.specs.Changes.{Addition, appends, overwrites, Change, replaces, adds, removes, sets_comment, Changed}
+use Rattle.yq_meaning.specs.Changes.{Addition, appends, overwrites, Change, replaces, adds, removes, sets_comment, Changed}
 
 -- the addition that one of the code stands for (own)
 abbrev pub addition_of : addition.Addition → Addition

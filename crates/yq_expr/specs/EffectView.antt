@@ -3,11 +3,11 @@ use Rattle.std.specs.Prelude.{ℕ, List, [], ◌∷◌, map, Option, Some, None}
 use Rattle.yq_inline.specs.Values.{node_of}
 use Rattle.yq_expr.specs.declared.planning.change.Change as change
 use Rattle.yq_expr.specs.declared.planning.effect.Effect as effect
-use Rattle.yq_expr.specs.Changes.{Room, Changed, put_at, add_at, remove_at, comment_at}
+use Rattle.yq_meaning.specs.Changes.{Room, Changed, put_at, add_at, remove_at, comment_at}
 use Rattle.yq_expr.specs.ChangeView.{change_of}
-use Rattle.yq_expr.specs.Judgement.{Judgement, and_then}
-use Rattle.yq_expr.specs.Places.{Place}
-use Rattle.yq_expr.specs.RightValues.{right_value}
+use Rattle.yq_meaning.specs.Judgement.{Judgement, and_then}
+use Rattle.yq_meaning.specs.Places.{Place}
+use Rattle.yq_meaning.specs.RightValues.{right_value}
 use Rattle.yq_program.specs.View.{term_of}
 
 -- a change at a place (own)

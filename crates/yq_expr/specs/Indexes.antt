@@ -10,7 +10,7 @@ use Rattle.yq_scalar.specs.Tree.{Label, Node, Children}
 use Rattle.yq_tree.specs.Anchors.{Name}
 use Rattle.yq_tree.specs.Nodes.{node_of}
 use Rattle.yq_tree.specs.declared.nodes.node.Node as nodes
-use Rattle.yq_expr.specs.Changes.{refers_to}
+use Rattle.yq_meaning.specs.Changes.{refers_to}
 
 -- what a map has for a text (own)
 abbrev pub text_at : {X : Type 0} → List ℕ → BTreeMap (Bor (List ℕ)) X → Option X

@@ -12,9 +12,9 @@ use Rattle.yq_expr.specs.declared.matching.place.NodePath.TheOpen.{NodePath-F}
 use Rattle.yq_expr.specs.declared.matching.place.Missing.{Missing, fold-Missing}
 use Rattle.yq_expr.specs.declared.matching.place.Missing.TheOpen.{Missing-F}
 use Rattle.yq_expr.specs.declared.matching.place.Place as declared
-use Rattle.yq_expr.specs.Judgement.{Judgement, gives, and_then}
-use Rattle.yq_expr.specs.Matching.{Found}
-use Rattle.yq_expr.specs.Places.{Place}
+use Rattle.yq_meaning.specs.Judgement.{Judgement, gives, and_then}
+use Rattle.yq_meaning.specs.Matching.{Found}
+use Rattle.yq_meaning.specs.Places.{Place}
 use Rattle.yq_program.specs.Program.{Step}
 use Rattle.yq_program.specs.View.{step_of}
 

@@ -4,7 +4,7 @@ use Rattle.yq_scalar.specs.PathOrder.{Before}
 use Rattle.yq_scalar.specs.Paths as paths
 use Rattle.yq_scalar.specs.Paths.{node_at}
 use Rattle.yq_scalar.specs.Tree.{Node}
-use Rattle.yq_expr.specs.Places.{Place}
+use Rattle.yq_meaning.specs.Places.{Place}
 
 -- a path stands before each of these places (own)
 abbrev pub IsBeforeAll : List paths.Step → List Place → Type 0

@@ -4,7 +4,7 @@ use Rattle.std.specs.List.{list_any}
 use Rattle.yq_scalar.specs.Paths.{To, child_at}
 use Rattle.yq_scalar.specs.Tree.{Node, Children, children_of}
 use Rattle.yq_tree.specs.Anchors.{Name}
-use Rattle.yq_expr.specs.Changes.{Addition, appends, overwrites, Change, replaces, adds, removes, sets_comment, refers_to, is_used_inside, is_used_in}
+use Rattle.yq_meaning.specs.Changes.{Addition, appends, overwrites, Change, replaces, adds, removes, sets_comment, refers_to, is_used_inside, is_used_in}
 
 -- whether an anchor, if there is one, is named by an alias among these names (own)
 abbrev pub is_used_anchor : List Name → Option (List ℕ) → Bool

@@ -2,7 +2,7 @@
 use Rattle.std.specs.Prelude.{List, [], ◌∷◌, ⊤}
 use Rattle.yq_scalar.specs.Scalar.{IsScalar}
 use Rattle.yq_scalar.specs.Tree.{Node, alias, scalar, list, map, Children, none, child}
-use Rattle.yq_expr.specs.Places.{Place}
+use Rattle.yq_meaning.specs.Places.{Place}
 
 abbrev mutual
   -- at any depth a scalar's kind is one that its text may have (YAML 1.2.2, section 10.3.2)

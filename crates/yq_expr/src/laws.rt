@@ -5,21 +5,21 @@ ghost use Rattle.yq_scalar.specs.Paths.{Step as TreeStep, change, node_at};
 ghost use Rattle.yq_scalar.specs.Shapes.{IsTree};
 ghost use Rattle.yq_scalar.specs.Tree.{Node};
 ghost use Rattle.yq_tree.specs.Documents.{Document};
-ghost use Rattle.yq_expr.specs.After.{document_of, after_op, all_after};
-ghost use Rattle.yq_expr.specs.Changes.{Room};
-ghost use Rattle.yq_expr.specs.Fits.{Fits, AllFit};
-ghost use Rattle.yq_expr.specs.Judgement.{gives, refuses};
-ghost use Rattle.yq_expr.specs.Meaning.{AreReady, meaning};
-ghost use Rattle.yq_expr.specs.Operations.{Operation};
+ghost use Rattle.yq_meaning.specs.After.{document_of, after_op, all_after};
+ghost use Rattle.yq_meaning.specs.Changes.{Room};
+ghost use Rattle.yq_meaning.specs.Fits.{Fits, AllFit};
+ghost use Rattle.yq_meaning.specs.Judgement.{gives, refuses};
+ghost use Rattle.yq_meaning.specs.Meaning.{AreReady, meaning};
+ghost use Rattle.yq_meaning.specs.Operations.{Operation};
 ghost use Rattle.yq_program.specs.Outcome.{Derives};
-ghost use Rattle.yq_expr.specs.Pipes.{places};
-ghost use Rattle.yq_expr.specs.Places.{Place};
+ghost use Rattle.yq_meaning.specs.Pipes.{places};
+ghost use Rattle.yq_meaning.specs.Places.{Place};
 ghost use Rattle.yq_expr.specs.PlacesApart.{AreApart, AreIn};
 ghost use Rattle.yq_expr.specs.Plans as plans;
 ghost use Rattle.yq_program.specs.Program.{Program as Outline, Stage as PipeStage, Update as Change, UpdatesHold};
-ghost use Rattle.yq_expr.specs.Rooms.{RoomsAreReady};
-ghost use Rattle.yq_expr.specs.RoomsKept.{AlikeFor, LeavesRooms, MayFollow};
-ghost use Rattle.yq_expr.specs.declared.refusal.Refusal.{Refusal as Why};
+ghost use Rattle.yq_meaning.specs.Rooms.{RoomsAreReady};
+ghost use Rattle.yq_meaning.specs.RoomsKept.{AlikeFor, LeavesRooms, MayFollow};
+ghost use Rattle.yq_meaning.specs.declared.refusal.Refusal.{Refusal as Why};
 
 /// No text derives two programs.
 pub fn one_program()

@@ -1,14 +1,14 @@
 //! Planning: the operations that carry out an update on documents.
 ghost use Rattle.std.specs.Prelude.{◌≡◌, ◌<◌, ◌∷◌, ◌⊎◌, [], IfOk, Some};
 ghost use Rattle.yq_tree.specs.Reading.{documents_of};
-ghost use Rattle.yq_expr.specs.After.{all_after};
-ghost use Rattle.yq_expr.specs.Fits.{AllFit};
-ghost use Rattle.yq_expr.specs.Judgement.{Plans, gives, refuses};
-ghost use Rattle.yq_expr.specs.Meaning.{meaning};
-ghost use Rattle.yq_expr.specs.Operations.{operations_of};
+ghost use Rattle.yq_meaning.specs.After.{all_after};
+ghost use Rattle.yq_meaning.specs.Fits.{AllFit};
+ghost use Rattle.yq_meaning.specs.Judgement.{Plans, gives, refuses};
+ghost use Rattle.yq_meaning.specs.Meaning.{meaning};
+ghost use Rattle.yq_meaning.specs.Operations.{operations_of};
 ghost use Rattle.yq_expr.specs.Plans as plans;
 ghost use Rattle.yq_program.specs.Program as spec;
-ghost use Rattle.yq_expr.specs.Rooms.{room_of};
+ghost use Rattle.yq_meaning.specs.Rooms.{room_of};
 ghost use Rattle.yq_program.specs.View.{program_of, update_of};
 
 mod added;
@@ -29,12 +29,10 @@ mod right_value;
 mod steps;
 mod sum;
 
-use crate::op::Op;
-use crate::plan_error::PlanError;
 use crate::planning::changes::changes;
 use crate::planning::operations::operations;
-use crate::refusal::Refusal;
 use std::alloc::Global;
+use yq_meaning::{Op, PlanError, Refusal};
 use yq_program::{Program, Syntax, Update};
 use yq_tree::Documents;
 

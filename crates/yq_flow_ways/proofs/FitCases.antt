@@ -8,9 +8,9 @@ use Rattle.yq_rows.specs.Rows.{Part, Cut, cut_text}
 use Rattle.yq_tree.specs.Documents.{Document, document_parts}
 use Rattle.yq_tree.specs.Reading.{document_of, documents, outline_of, read_at, root_of}
 use Rattle.yq_change.specs.Siblings.{IsCollectionAt, NodeLines}
-use Rattle.yq_expr.specs.Changes.{Room}
-use Rattle.yq_expr.specs.Fits.{Fits, Takes}
-use Rattle.yq_expr.specs.Operations.{append, remove, replace}
+use Rattle.yq_meaning.specs.Changes.{Room}
+use Rattle.yq_meaning.specs.Fits.{Fits, Takes}
+use Rattle.yq_meaning.specs.Operations.{append, remove, replace}
 use Rattle.yq_flow_ways.specs.FlowWays.{flow_append_way, flow_remove_way, flow_replace_way}
 use Rattle.yq_ways.specs.Serving.{IsServed}
 use Rattle.yq_flow_ways.proofs.CollectionCases.{Cases, collection_cases}

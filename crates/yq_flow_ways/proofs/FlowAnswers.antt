@@ -22,7 +22,7 @@ use Rattle.yq_tree.specs.Reading.{read_at}
 use Rattle.yq_tree.proofs.FlowToldLaws.{node_collection}
 use Rattle.yq_change.proofs.FlowPathLaws.{flow_found}
 use Rattle.yq_change.proofs.FlowStandLaws.{coll_stands}
-use Rattle.yq_expr.specs.Operations.{remove}
+use Rattle.yq_meaning.specs.Operations.{remove}
 use Rattle.yq_script.specs.Script.{keep, put}
 use Rattle.yq_flow_ways.specs.FlowWays.{edit_segments, flow_remove_way, flow_segments, in_flow_at, last_step, removed_at}
 use Rattle.yq_flow_ways.proofs.FlowPieceLaws.{removed_empty}

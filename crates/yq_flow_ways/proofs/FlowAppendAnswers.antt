@@ -18,7 +18,7 @@ use Rattle.yq_tree.specs.FlowNodes.{flow_collection}
 use Rattle.yq_tree.specs.FlowTold.{placed_collection, behind_anchor, collection_of}
 use Rattle.yq_tree.specs.Reading.{cut_of, read_at}
 use Rattle.yq_tree.proofs.FlowToldLaws.{node_collection}
-use Rattle.yq_expr.specs.Operations.{append}
+use Rattle.yq_meaning.specs.Operations.{append}
 use Rattle.yq_flow_ways.specs.FlowWays.{appended_at, content_takes, edit_segments, flow_append_way, flow_segments, placed_takes, takes_key}
 use Rattle.yq_flow_ways.proofs.CutLaws.{text_read}
 use Rattle.yq_flow_ways.proofs.FlowAnswers.{coll_found, edit_order, segments_at}

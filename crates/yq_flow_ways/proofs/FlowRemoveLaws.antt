@@ -26,9 +26,9 @@ use Rattle.yq_change.specs.SoundRoots.{IsSoundRoot}
 use Rattle.yq_change.specs.TextPieces.{IsPiece}
 use Rattle.yq_change.proofs.FlowKeptLaws.{flow_keys, left_keys}
 use Rattle.yq_change.proofs.PartLaws.{document_known}
-use Rattle.yq_expr.specs.Fits.{Fits}
-use Rattle.yq_expr.specs.Operations.{Operation, replace, append, remove, line_comment, head_comment}
-use Rattle.yq_expr.specs.Rooms.{room_of}
+use Rattle.yq_meaning.specs.Fits.{Fits}
+use Rattle.yq_meaning.specs.Operations.{Operation, replace, append, remove, line_comment, head_comment}
+use Rattle.yq_meaning.specs.Rooms.{room_of}
 use Rattle.yq_script.specs.Script.{Segment, old_text, new_text}
 use Rattle.yq_flow_ways.specs.FlowWays.{flow_segments, flow_remove_way}
 use Rattle.yq_ways.specs.Operands.{HasOperand}
@@ -85,7 +85,7 @@ module _ (c : Cut) (doc : ℕ) (path : List Step) (read : read_at (cut_text c) �
       let piece = standing.piece c doc a.init a.coll read a.found in
       let known = document_known (cut_text c) c doc at.part old in
       let root : fits.0.root ≡ root_of at.part = ap (λ (d : Document). d.root) (nth_document doc at.part (document_parts c) fits.0 at.there fits.1) in
-      let n = subst (λ r. (n : Rattle.yq_scalar.specs.Tree.Node) × (Rattle.yq_scalar.specs.Paths.node_at path r ≡ Some n) × (Rattle.yq_expr.specs.Changes.is_used_in (Rattle.yq_lines.specs.Anchors.names_of r) (Some n) ≡ Rattle.std.proofs.Common.false)) root fits.2.1 in
+      let n = subst (λ r. (n : Rattle.yq_scalar.specs.Tree.Node) × (Rattle.yq_scalar.specs.Paths.node_at path r ≡ Some n) × (Rattle.yq_meaning.specs.Changes.is_used_in (Rattle.yq_lines.specs.Anchors.names_of r) (Some n) ≡ Rattle.std.proofs.Common.false)) root fits.2.1 in
       let sound : IsSoundRoot (root_of at.part) = record { unique = known.document.unique; nested = known.document.nested; bound = known.document.bound } in
       let whole = removed_whole x a.step a.item row_text.before texts.before stands a.at pairs (sym row_text.old ∙ texts.old) in
       let parts = edit_pieces (cut_text c) texts.before e piece texts.old bounds.0 bounds.1 whole in

@@ -40,10 +40,10 @@ use Rattle.yq_change.specs.TextPieces.{IsPiece}
 use Rattle.yq_change.proofs.FlowKeptLaws.{flow_keys}
 use Rattle.yq_change.proofs.PartLaws.{document_known}
 use Rattle.yq_change.proofs.SoundRootLaws.{replace_keeps}
-use Rattle.yq_expr.specs.Changes.{has_long_key, is_used_inside}
-use Rattle.yq_expr.specs.Fits.{Fits}
-use Rattle.yq_expr.specs.Operations.{Operation, replace, append, remove, line_comment, head_comment}
-use Rattle.yq_expr.specs.Rooms.{room_of}
+use Rattle.yq_meaning.specs.Changes.{has_long_key, is_used_inside}
+use Rattle.yq_meaning.specs.Fits.{Fits}
+use Rattle.yq_meaning.specs.Operations.{Operation, replace, append, remove, line_comment, head_comment}
+use Rattle.yq_meaning.specs.Rooms.{room_of}
 use Rattle.yq_script.specs.Script.{Segment, old_text, new_text}
 use Rattle.yq_flow_ways.specs.FlowWays.{content_written, flow_replace_way, flow_segments, flow_value, last_step, replaced_by}
 use Rattle.yq_ways.specs.Operands.{HasOperand}

@@ -16,8 +16,8 @@ use Rattle.yq_rows.specs.Rows.{Part, Cut, cut_text}
 use Rattle.yq_tree.specs.Documents.{document_parts}
 use Rattle.yq_tree.specs.FlowNodes.{find_head}
 use Rattle.yq_tree.specs.Reading.{outline_of, read_at, root_of}
-use Rattle.yq_expr.specs.Fits.{Takes}
-use Rattle.yq_expr.specs.Operations.{replace, append, remove}
+use Rattle.yq_meaning.specs.Fits.{Takes}
+use Rattle.yq_meaning.specs.Operations.{replace, append, remove}
 use Rattle.yq_script.specs.Script.{Segment}
 use Rattle.yq_flow_ways.specs.FlowWays.{appended_at, flow_append_way, flow_remove_way, flow_replace_way, flow_segments, in_flow_at, last_step, replaced_by, takes_key}
 use Rattle.yq_ways.specs.Replacing.{is_kept, node_in}

@@ -1,7 +1,7 @@
 -- The paths of operations in flow collections, and the roots that they leave.
 use Rattle.std.proofs.Common.{◌≡◌, inl, inr, ℕ, Bool, true, false, ◌||◌, List, [], ◌∷◌, ◌++◌, Option, Some, None, option_map, option_and_then, refl, sym, ap, ◌∙◌, subst}
 use Rattle.std.proofs.lemmas.Bool.{false≢true}
-use Rattle.yq_expr.proofs.updates.PathLaws.{bytes_refl}
+use Rattle.yq_meaning.proofs.PathLaws.{bytes_refl}
 use Rattle.std.specs.List.{list_any}
 use Rattle.std.specs.Str.{bytes_eq}
 use Rattle.yq_scalar.specs.Paths.{Step, change, child_at, node_at, remove_child, within}
@@ -12,7 +12,7 @@ use Rattle.yq_change.specs.Conditions.{AreSpared, anchors_in, aliases_in}
 use Rattle.yq_change.specs.SoundRoots.{IsSoundRoot}
 use Rattle.yq_change.proofs.AfterLaws.{end_is_change}
 use Rattle.yq_change.proofs.SoundRootLess.{remove_keeps}
-use Rattle.yq_expr.specs.Changes.{refers_to, is_used, is_used_in}
+use Rattle.yq_meaning.specs.Changes.{refers_to, is_used, is_used_in}
 use Rattle.yq_flow_ways.specs.FlowWays.{last_step}
 
 -- ---- the last step of a path

@@ -20,8 +20,8 @@ use Rattle.yq_change.proofs.FlowPathLaws.{row_texts}
 use Rattle.yq_change.proofs.FlowRowLaws.{flow_edited}
 use Rattle.yq_change.proofs.LeadLaws.{same_lead_goes}
 use Rattle.yq_change.proofs.PartLaws.{some_behind}
-use Rattle.yq_expr.specs.After.{document_of, root_after}
-use Rattle.yq_expr.specs.Operations.{Operation}
+use Rattle.yq_meaning.specs.After.{document_of, root_after}
+use Rattle.yq_meaning.specs.Operations.{Operation}
 use Rattle.yq_script.specs.Script.{old_text, new_text}
 use Rattle.yq_ways.specs.Done.{ArePieces}
 use Rattle.yq_flow_ways.specs.FlowWays.{text_before, flow_segments}

@@ -23,12 +23,12 @@ use Rattle.yq_tree.specs.TreeEdits.{at_end, change_nth, led, replaced}
 use Rattle.yq_change.proofs.AfterLaws.{end_is_change}
 use Rattle.yq_change.proofs.PartLaws.{document_known}
 use Rattle.yq_change.proofs.SoundRootLaws.{depth_at}
-use Rattle.yq_expr.specs.After.{done_to, root_after}
-use Rattle.yq_expr.specs.Changes.{has_long_key, is_deep, is_used, is_used_in}
-use Rattle.yq_expr.specs.Fits.{Fits, IsBelow}
-use Rattle.yq_expr.specs.Operations.{Operation, replace, append, remove, line_comment, head_comment}
-use Rattle.yq_expr.specs.Rooms.{room_of}
-use Rattle.yq_expr.specs.RoomsKept.{HasSome}
+use Rattle.yq_meaning.specs.After.{done_to, root_after}
+use Rattle.yq_meaning.specs.Changes.{has_long_key, is_deep, is_used, is_used_in}
+use Rattle.yq_meaning.specs.Fits.{Fits, IsBelow}
+use Rattle.yq_meaning.specs.Operations.{Operation, replace, append, remove, line_comment, head_comment}
+use Rattle.yq_meaning.specs.Rooms.{room_of}
+use Rattle.yq_meaning.specs.RoomsKept.{HasSome}
 use Rattle.yq_script.specs.Script.{Segment, old_text, new_text}
 use Rattle.yq_flow_ways.specs.FlowWays.{last_step}
 use Rattle.yq_ways.specs.Operands.{HasOperand}

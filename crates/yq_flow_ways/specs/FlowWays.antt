@@ -16,7 +16,7 @@ use Rattle.yq_inline.specs.Scalars.{style_of}
 use Rattle.yq_inline.specs.Written.{flow_key, flow_of, flow_text}
 use Rattle.yq_rows.specs.Rows.{Cut, cut_text}
 use Rattle.yq_tree.specs.FlowNodes.{flow_collection}
-use Rattle.yq_expr.specs.Operations.{replace, append, remove, line_comment, head_comment}
+use Rattle.yq_meaning.specs.Operations.{replace, append, remove, line_comment, head_comment}
 use Rattle.yq_script.specs.Script.{Segment, keep, put}
 use Rattle.yq_ways.specs.Replacing.{node_in, is_kept}
 use Rattle.yq_ways.specs.Style.{style_in}

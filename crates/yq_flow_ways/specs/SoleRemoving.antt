@@ -5,7 +5,7 @@ use Rattle.yq_scalar.specs.Paths.{Step}
 use Rattle.yq_scalar.specs.Tree.{Node, alias, scalar, list, map, none}
 use Rattle.yq_rows.specs.Rows.{Cut}
 use Rattle.yq_tree.specs.RemovalPlaces.{has_others_at}
-use Rattle.yq_expr.specs.Operations.{Operation, replace, append, remove, line_comment, head_comment}
+use Rattle.yq_meaning.specs.Operations.{Operation, replace, append, remove, line_comment, head_comment}
 use Rattle.yq_flow_ways.specs.FlowWays.{last_step}
 use Rattle.yq_ways.specs.Replacing.{node_in}
 use Rattle.yq_ways.specs.Ways.{Way}

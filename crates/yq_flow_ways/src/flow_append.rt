@@ -5,16 +5,16 @@ ghost use Rattle.yq_inline.specs.Values.{node_of};
 ghost use Rattle.yq_inline.specs.View.{view};
 ghost use Rattle.yq_inline.specs.Written.{flow_key, flow_text};
 ghost use Rattle.yq_lines.specs.Bodies.{lent};
-ghost use Rattle.yq_expr.specs.Operations.{operation_of};
+ghost use Rattle.yq_meaning.specs.Operations.{operation_of};
 ghost use Rattle.yq_tree.specs.Reading.{cut_of};
 ghost use Rattle.yq_flow_ways.specs.FlowWays as spec;
 ghost use Rattle.yq_ways.specs.WayAnswers.{Carries};
 
 use crate::flow_edit::edit_at;
 use std::alloc::{AllocError, Global};
-use yq_expr::{Op, Value};
 use yq_flow::{append_place, write_entry, write_inline};
-use yq_inline::{Form, Inline};
+use yq_inline::{Form, Inline, Value};
+use yq_meaning::Op;
 use yq_script::{Edited, ExchangeError};
 use yq_tree::Documents;
 

@@ -1,13 +1,13 @@
 //! Items and entries taken out of flow collections.
-ghost use Rattle.yq_expr.specs.Operations.{operation_of};
+ghost use Rattle.yq_meaning.specs.Operations.{operation_of};
 ghost use Rattle.yq_tree.specs.Reading.{cut_of};
 ghost use Rattle.yq_flow_ways.specs.FlowWays as spec;
 ghost use Rattle.yq_ways.specs.WayAnswers.{Carries};
 
 use crate::flow_edit::{edit_at, last_step};
 use std::alloc::Global;
-use yq_expr::Op;
 use yq_flow::remove_place;
+use yq_meaning::Op;
 use yq_script::{Edited, ExchangeError};
 use yq_tree::Documents;
 

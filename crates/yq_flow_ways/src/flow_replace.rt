@@ -1,7 +1,7 @@
 //! Contents of items and entries of flow collections replaced.
 ghost use Rattle.std.specs.Prelude.{◌≡◌, [], IfOk, Some, ◌∷◌, string_bytes};
 ghost use Rattle.yq_inline.specs.Values.{node_of};
-ghost use Rattle.yq_expr.specs.Operations.{operation_of};
+ghost use Rattle.yq_meaning.specs.Operations.{operation_of};
 ghost use Rattle.yq_tree.specs.Reading.{cut_of};
 ghost use Rattle.yq_script.specs.Script as script;
 ghost use Rattle.yq_flow_ways.specs.FlowWays as spec;
@@ -9,9 +9,9 @@ ghost use Rattle.yq_ways.specs.WayAnswers.{Carries};
 
 use crate::flow_edit::{edit_at, last_step, text_at};
 use std::alloc::{AllocError, Global};
-use yq_expr::{Op, Value};
 use yq_flow::{replace_place, write_inline};
-use yq_inline::style_of;
+use yq_inline::{Value, style_of};
+use yq_meaning::Op;
 use yq_scalar::{Place, write_scalar};
 use yq_script::{Edited, ExchangeError, Segment, exchange};
 use yq_tree::Documents;

@@ -1,7 +1,7 @@
 //! The operation that carries out a removal of a sole item or entry: an empty collection takes the
 //! place of its own.
 ghost use Rattle.std.specs.Prelude.{◌≡◌, IfOk, option_map};
-ghost use Rattle.yq_expr.specs.Operations.{operation_of};
+ghost use Rattle.yq_meaning.specs.Operations.{operation_of};
 ghost use Rattle.yq_inline.specs.Values as values;
 ghost use Rattle.yq_tree.specs.Nodes.{node_of};
 ghost use Rattle.yq_tree.specs.Reading.{cut_of};
@@ -9,7 +9,8 @@ ghost use Rattle.yq_flow_ways.specs.SoleRemoving as spec;
 
 use crate::flow_edit::last_step;
 use std::alloc::{AllocError, Global};
-use yq_expr::{Op, Value, copied_steps};
+use yq_inline::Value;
+use yq_meaning::{Op, copied_steps};
 use yq_tree::{Documents, Node, NodeKind, Path};
 
 /// The empty collection of the kind of this one.

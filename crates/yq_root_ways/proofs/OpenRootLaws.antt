@@ -31,7 +31,7 @@ use Rattle.yq_change.specs.PlacedParts.{StandsAt}
 use Rattle.yq_change.specs.TextPieces.{IsPiece}
 use Rattle.yq_change.proofs.PlacedPartLaws.{document_stands_at}
 use Rattle.yq_change.proofs.TextPieceLaws.{pieces_joined}
-use Rattle.yq_expr.specs.Operations.{replace}
+use Rattle.yq_meaning.specs.Operations.{replace}
 use Rattle.yq_root_ways.specs.RootWriting.{is_closed_text}
 use Rattle.yq_ways.specs.Ways.{ReadsAfter}
 use Rattle.yq_ways.proofs.AppendAtEnd.{nothing_tail}

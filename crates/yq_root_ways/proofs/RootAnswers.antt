@@ -9,7 +9,7 @@ use Rattle.yq_tree.specs.RootReading.{root_told}
 use Rattle.yq_tree.specs.declared.path.Path.{Path}
 use Rattle.yq_tree.specs.declared.places.root_place.RootPlace as declared
 use Rattle.yq_block.specs.declared.layout.Layout.{Layout}
-use Rattle.yq_expr.specs.Operations.{replace}
+use Rattle.yq_meaning.specs.Operations.{replace}
 use Rattle.yq_ways.specs.Layouts.{layout_of}
 use Rattle.yq_ways.specs.Replacing.{node_in, is_kept}
 use Rattle.yq_root_ways.specs.RootWriting.{is_closed_text, root_segments, new_segments, root_at, root_way}

@@ -15,10 +15,10 @@ use Rattle.yq_block.specs.BlockText.{block_value}
 use Rattle.yq_block.specs.BlockValues.{HasNearKeys}
 use Rattle.yq_change.specs.Conditions.{AreSpared}
 use Rattle.yq_change.specs.SoundRoots.{inner_names, IsNewValue}
-use Rattle.yq_expr.specs.Changes.{is_used_inside}
-use Rattle.yq_expr.specs.Fits.{Fits}
-use Rattle.yq_expr.specs.Operations.{replace}
-use Rattle.yq_expr.specs.Rooms.{room_of}
+use Rattle.yq_meaning.specs.Changes.{is_used_inside}
+use Rattle.yq_meaning.specs.Fits.{Fits}
+use Rattle.yq_meaning.specs.Operations.{replace}
+use Rattle.yq_meaning.specs.Rooms.{room_of}
 use Rattle.yq_ways.specs.Ways.{ReadsAfter}
 use Rattle.yq_ways.proofs.DoneLaws.{nth_map}
 use Rattle.yq_ways.proofs.FitLaws.{new_value, inside_spared, near_keys, tree_unique}

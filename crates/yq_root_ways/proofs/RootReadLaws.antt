@@ -40,7 +40,7 @@ use Rattle.yq_change.proofs.AfterLaws.{nth_is}
 use Rattle.yq_change.proofs.ChangedLaws.{document_put}
 use Rattle.yq_change.proofs.EditedLaws.{led_same}
 use Rattle.yq_change.proofs.RootLaws.{root_rows_replaced}
-use Rattle.yq_expr.specs.Operations.{replace}
+use Rattle.yq_meaning.specs.Operations.{replace}
 use Rattle.yq_ways.specs.Ways.{ReadsAfter}
 use Rattle.yq_ways.proofs.DoneLaws.{document_done}
 use Rattle.yq_root_ways.proofs.RootRows.{root_rows, HasRoom, AreRootRows}

@@ -3,7 +3,7 @@ use Rattle.std.proofs.Common.{◌≡◌, ℕ, [], Some, option_map, ap}
 use Rattle.yq_scalar.specs.Tree.{Node}
 use Rattle.yq_rows.specs.Rows.{Cut}
 use Rattle.yq_tree.specs.RootPlaces.{RootPlace, root_place}
-use Rattle.yq_expr.specs.Operations.{replace}
+use Rattle.yq_meaning.specs.Operations.{replace}
 use Rattle.yq_ways.specs.Layouts.{layout_of}
 use Rattle.yq_ways.specs.Replacing.{node_in, is_kept}
 use Rattle.yq_root_ways.specs.RootWriting.{root_at, root_way}

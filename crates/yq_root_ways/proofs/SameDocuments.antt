@@ -8,11 +8,11 @@ use Rattle.yq_tree.specs.Reading as reading
 use Rattle.yq_tree.specs.Reading.{documents_of, read_at}
 use Rattle.yq_tree.specs.Ready.{part_is_block}
 use Rattle.yq_tree.specs.Seats.{seat_of, seat_has_room}
-use Rattle.yq_expr.specs.After.{after_op}
-use Rattle.yq_expr.specs.Changes.{Room}
-use Rattle.yq_expr.specs.Operations.{Operation}
-use Rattle.yq_expr.specs.Rooms.{comment_part, room_of}
-use Rattle.yq_expr.specs.RoomsKept.{LeavesRooms}
+use Rattle.yq_meaning.specs.After.{after_op}
+use Rattle.yq_meaning.specs.Changes.{Room}
+use Rattle.yq_meaning.specs.Operations.{Operation}
+use Rattle.yq_meaning.specs.Rooms.{comment_part, room_of}
+use Rattle.yq_meaning.specs.RoomsKept.{LeavesRooms}
 use Rattle.yq_ways.specs.Ways.{ReadsAfter}
 use Rattle.yq_ways.proofs.DoneLaws.{read_cut}
 

@@ -4,7 +4,7 @@ ghost use Rattle.std.specs.Prelude.{◌≡◌, IfOk, Some, string_bytes};
 ghost use Rattle.yq_inline.specs.Values.{node_of};
 ghost use Rattle.yq_scalar.specs.BlockWritten.{break_text};
 ghost use Rattle.yq_block.specs.BlockText.{block_value};
-ghost use Rattle.yq_expr.specs.Operations.{operation_of};
+ghost use Rattle.yq_meaning.specs.Operations.{operation_of};
 ghost use Rattle.yq_tree.specs.Reading.{cut_of};
 ghost use Rattle.yq_tree.specs.RootReading.{root_told};
 ghost use Rattle.yq_ways.specs.AppendWay.{put_behind};
@@ -14,7 +14,8 @@ ghost use Rattle.yq_ways.specs.Ways.{IsWay};
 
 use std::alloc::{AllocError, Global};
 use yq_block::{Layout, push_block};
-use yq_expr::{Op, Value};
+use yq_inline::Value;
+use yq_meaning::Op;
 use yq_scalar::block_written::break_text;
 use yq_script::{Edited, ExchangeError, Segment, exchange};
 use yq_tree::{Documents, RootPlace};

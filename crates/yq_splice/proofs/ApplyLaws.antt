@@ -4,11 +4,11 @@ use Rattle.std.proofs.lemmas.Bool.{leb-false}
 use Rattle.yq_scalar.specs.Characters.{text_limit}
 use Rattle.yq_rows.specs.Rows.{cut_text}
 use Rattle.yq_tree.specs.Reading.{cut_of, documents, read_at}
-use Rattle.yq_expr.specs.Fits.{Fits}
-use Rattle.yq_expr.specs.Operations.{Operation}
-use Rattle.yq_expr.specs.Rooms.{room_of}
-use Rattle.yq_expr.specs.declared.refusal.Refusal.{Refusal}
-use Rattle.yq_expr.specs.declared.refusal.Refusal.TheVariants.{TooLarge}
+use Rattle.yq_meaning.specs.Fits.{Fits}
+use Rattle.yq_meaning.specs.Operations.{Operation}
+use Rattle.yq_meaning.specs.Rooms.{room_of}
+use Rattle.yq_meaning.specs.declared.refusal.Refusal.{Refusal}
+use Rattle.yq_meaning.specs.declared.refusal.Refusal.TheVariants.{TooLarge}
 use Rattle.yq_script.specs.Patch.{Change}
 use Rattle.yq_script.specs.Script.{Segment, keep, new_text, changes}
 use Rattle.yq_script.specs.declared.edited.Edited.{Edited}

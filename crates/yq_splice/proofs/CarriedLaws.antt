@@ -4,13 +4,13 @@ use Rattle.std.proofs.lemmas.Bool.{leb-true}
 use Rattle.yq_scalar.specs.Characters.{text_limit}
 use Rattle.yq_rows.specs.Rows.{Cut, cut_text}
 use Rattle.yq_tree.specs.Reading.{read_at, documents}
-use Rattle.yq_expr.specs.Judgement as judgement
-use Rattle.yq_expr.specs.Judgement.{Judgement}
-use Rattle.yq_expr.specs.Operations.{Operation}
+use Rattle.yq_meaning.specs.Judgement as judgement
+use Rattle.yq_meaning.specs.Judgement.{Judgement}
+use Rattle.yq_meaning.specs.Operations.{Operation}
 use Rattle.yq_expr.specs.Plans.{plan}
 use Rattle.yq_program.specs.Program as programs
 use Rattle.yq_program.specs.Program.{Program, Update, updates}
-use Rattle.yq_expr.specs.Rooms.{room_of}
+use Rattle.yq_meaning.specs.Rooms.{room_of}
 use Rattle.yq_script.specs.Patch.{Change, all_done, lengths_done}
 use Rattle.yq_script.specs.Script.{Segment, old_text, new_text, changes}
 use Rattle.yq_script.proofs.ScriptLaws.{changes_lead, changes_lengths}

@@ -9,14 +9,14 @@ use Rattle.yq_tree.proofs.ReadyLaws.{read_ready}
 use Rattle.yq_expr.proofs.RoomLaws.{rooms_are_ready}
 use Rattle.yq_expr.proofs.updates.PlanMeans.{plan_means}
 use Rattle.yq_expr.proofs.updates.RoomsLast.{plan_follows}
-use Rattle.yq_expr.specs.After.{all_after}
-use Rattle.yq_expr.specs.Judgement as judgement
-use Rattle.yq_expr.specs.Judgement.{Judgement}
-use Rattle.yq_expr.specs.Meaning.{AreReady}
-use Rattle.yq_expr.specs.Operations.{Operation}
+use Rattle.yq_meaning.specs.After.{all_after}
+use Rattle.yq_meaning.specs.Judgement as judgement
+use Rattle.yq_meaning.specs.Judgement.{Judgement}
+use Rattle.yq_meaning.specs.Meaning.{AreReady}
+use Rattle.yq_meaning.specs.Operations.{Operation}
 use Rattle.yq_expr.specs.Plans.{plan}
 use Rattle.yq_program.specs.Program.{Update, assign, delete, comment, UpdatesHold}
-use Rattle.yq_expr.specs.Rooms.{room_of}
+use Rattle.yq_meaning.specs.Rooms.{room_of}
 use Rattle.yq_script.specs.Patch.{Change}
 use Rattle.yq_flow_ways.proofs.CutLaws.{cut_same}
 use Rattle.yq_splice.specs.Carried.{carry_all, carry_out, updated}

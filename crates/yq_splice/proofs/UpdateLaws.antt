@@ -7,15 +7,15 @@ use Rattle.yq_scalar.specs.declared.fault.ReadError.{ReadError}
 use Rattle.yq_scalar.specs.declared.fault.ReadError.TheVariants as reading
 use Rattle.yq_rows.specs.Rows.{Cut}
 use Rattle.yq_tree.specs.Reading.{documents, documents_of, cut_of, read_at}
-use Rattle.yq_expr.specs.Judgement as judgement
-use Rattle.yq_expr.specs.Judgement.{Judgement, Plans}
-use Rattle.yq_expr.specs.Operations.{Operation}
+use Rattle.yq_meaning.specs.Judgement as judgement
+use Rattle.yq_meaning.specs.Judgement.{Judgement, Plans}
+use Rattle.yq_meaning.specs.Operations.{Operation}
 use Rattle.yq_expr.specs.Plans.{plan}
 use Rattle.yq_program.specs.Program.{Update}
-use Rattle.yq_expr.specs.Rooms.{room_of}
-use Rattle.yq_expr.specs.declared.refusal.Refusal.{Refusal}
-use Rattle.yq_expr.specs.declared.plan_error.PlanError.{PlanError}
-use Rattle.yq_expr.specs.declared.plan_error.PlanError.TheVariants as planning
+use Rattle.yq_meaning.specs.Rooms.{room_of}
+use Rattle.yq_meaning.specs.declared.refusal.Refusal.{Refusal}
+use Rattle.yq_meaning.specs.declared.plan_error.PlanError.{PlanError}
+use Rattle.yq_meaning.specs.declared.plan_error.PlanError.TheVariants as planning
 use Rattle.yq_script.specs.Patch.{Change}
 use Rattle.yq_script.specs.declared.edited.Edited.{Edited}
 use Rattle.yq_splice.specs.Answers.{Edits, Fails, of_planning, of_reading}

@@ -3,15 +3,15 @@ use Rattle.std.specs.Prelude.{◌≡◌, ◌≢◌, Result, Ok, Err, string_byte
 use Rattle.yq_scalar.specs.declared.fault.FaultKind.TheVariants.{NotUtf8}
 use Rattle.yq_scalar.specs.declared.fault.ReadError.{ReadError}
 use Rattle.yq_scalar.specs.declared.fault.ReadError.TheVariants as reading
-use Rattle.yq_expr.specs.declared.plan_error.PlanError.{PlanError}
-use Rattle.yq_expr.specs.declared.plan_error.PlanError.TheVariants as planning
+use Rattle.yq_meaning.specs.declared.plan_error.PlanError.{PlanError}
+use Rattle.yq_meaning.specs.declared.plan_error.PlanError.TheVariants as planning
 use Rattle.yq_script.specs.declared.edited.Edited.{Edited}
 use Rattle.yq_script.specs.declared.exchange_error.ExchangeError.{ExchangeError}
 use Rattle.yq_script.specs.declared.exchange_error.ExchangeError.TheVariants as exchanging
 use Rattle.yq_splice.specs.Edit.{Edit, unreadable, refuses, gives}
 use Rattle.yq_splice.specs.declared.edit_error.EditError.{EditError}
 use Rattle.yq_splice.specs.declared.edit_error.EditError.TheVariants as error
-use Rattle.yq_expr.specs.declared.refusal.Refusal.TheVariants.{TooLarge}
+use Rattle.yq_meaning.specs.declared.refusal.Refusal.TheVariants.{TooLarge}
 
 -- the error of an edit whose text is not read (own)
 abbrev pub of_reading : ReadError → EditError

@@ -2,13 +2,13 @@
 use Rattle.std.specs.Prelude.{ℕ, List}
 use Rattle.yq_rows.specs.Rows.{Cut}
 use Rattle.yq_tree.specs.Reading.{documents, read_at}
-use Rattle.yq_expr.specs.Judgement.{Judgement}
-use Rattle.yq_expr.specs.Judgement as judgement
-use Rattle.yq_expr.specs.Operations.{Operation}
+use Rattle.yq_meaning.specs.Judgement.{Judgement}
+use Rattle.yq_meaning.specs.Judgement as judgement
+use Rattle.yq_meaning.specs.Operations.{Operation}
 use Rattle.yq_expr.specs.Plans.{plan}
 use Rattle.yq_program.specs.Program.{Program, Update, read, updates}
-use Rattle.yq_expr.specs.Rooms.{room_of}
-use Rattle.yq_expr.specs.declared.refusal.Refusal.TheVariants.{NotAnUpdate}
+use Rattle.yq_meaning.specs.Rooms.{room_of}
+use Rattle.yq_meaning.specs.declared.refusal.Refusal.TheVariants.{NotAnUpdate}
 use Rattle.yq_carrying.specs.Carrying.{carrying, or_stay}
 use Rattle.yq_splice.specs.Edit.{Edit, refuses, in_order, by_reading, edit_of_segments}
 

@@ -1,8 +1,8 @@
 -- What an edit of a text comes to.
 use Rattle.std.specs.Prelude.{ℕ, List, [], ◌∷◌, ◌++◌, Option, Some, None}
 use Rattle.yq_rows.specs.Rows.{Cut}
-use Rattle.yq_expr.specs.declared.refusal.Refusal.{Refusal}
-use Rattle.yq_expr.specs.declared.refusal.Refusal.TheVariants.{TooLarge}
+use Rattle.yq_meaning.specs.declared.refusal.Refusal.{Refusal}
+use Rattle.yq_meaning.specs.declared.refusal.Refusal.TheVariants.{TooLarge}
 use Rattle.yq_script.specs.Patch.{Change}
 use Rattle.yq_script.specs.Script.{Segment, changes}
 use Rattle.yq_script.specs.Exchanging.{Exchange, exchange_of}

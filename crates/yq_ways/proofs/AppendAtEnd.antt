@@ -22,7 +22,7 @@ use Rattle.yq_change.specs.Changed.{put_document}
 use Rattle.yq_change.specs.CollectionPlaces.{IsCollectionEnd}
 use Rattle.yq_change.specs.DocumentRows.{behind_document}
 use Rattle.yq_change.proofs.TextPieceLaws.{pieces_joined}
-use Rattle.yq_expr.specs.Operations.{append}
+use Rattle.yq_meaning.specs.Operations.{append}
 use Rattle.yq_script.specs.Script.{new_text}
 use Rattle.yq_ways.specs.Layouts.{layout_of}
 use Rattle.yq_ways.specs.AppendWay.{entry_lines, put_segments}

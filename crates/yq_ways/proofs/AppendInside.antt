@@ -35,7 +35,7 @@ use Rattle.yq_change.specs.Rooms.{is_block_root}
 use Rattle.yq_change.proofs.AppendLaws.{block_appended}
 use Rattle.yq_change.proofs.EndedRowLaws.{rows_then}
 use Rattle.yq_change.proofs.TextPieceLaws.{pieces_joined}
-use Rattle.yq_expr.specs.Operations.{append}
+use Rattle.yq_meaning.specs.Operations.{append}
 use Rattle.yq_script.specs.Script.{new_text}
 use Rattle.yq_ways.specs.Layouts.{layout_of}
 use Rattle.yq_ways.specs.AppendWay.{entry_lines, put_segments}

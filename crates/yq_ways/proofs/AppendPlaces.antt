@@ -39,9 +39,9 @@ use Rattle.yq_change.proofs.EditedLaws.{lines_are_there}
 use Rattle.yq_change.proofs.EndedRowLaws.{rows_ended, rows_then}
 use Rattle.yq_change.proofs.LeadLaws.{same_lead_goes}
 use Rattle.yq_change.proofs.TextPieceLaws.{text_is_piece, pieces_joined, line_cut}
-use Rattle.yq_expr.specs.Changes.{is_long, has_long_key, is_deep}
-use Rattle.yq_expr.specs.Fits.{Takes}
-use Rattle.yq_expr.specs.Operations.{append}
+use Rattle.yq_meaning.specs.Changes.{is_long, has_long_key, is_deep}
+use Rattle.yq_meaning.specs.Fits.{Takes}
+use Rattle.yq_meaning.specs.Operations.{append}
 use Rattle.yq_ways.specs.Layouts.{layout_of}
 use Rattle.yq_ways.specs.AppendWay.{entry_lines}
 use Rattle.yq_ways.specs.Operands.{KeyIsUtf8}

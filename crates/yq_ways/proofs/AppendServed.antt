@@ -21,7 +21,7 @@ use Rattle.yq_tree.proofs.FoundEntries.{IsFound, entry_found, entry_there}
 use Rattle.yq_tree.proofs.PrintedLaws.{IsPrintedDocument, lines_are}
 use Rattle.yq_change.specs.Siblings.{HasEntries, IsCollectionAt, IsEntry, NodeLines}
 use Rattle.yq_change.proofs.NodeLineLaws.{lines_found}
-use Rattle.yq_expr.specs.Operations.{append}
+use Rattle.yq_meaning.specs.Operations.{append}
 use Rattle.yq_ways.specs.AppendWay.{append_segments, append_way}
 use Rattle.yq_ways.specs.Layouts.{layout_of}
 use Rattle.yq_ways.specs.Serving.{IsServed}

@@ -15,7 +15,7 @@ use Rattle.yq_tree.specs.Steps.{is_key, is_kind, begins_under, first_step, steps
 use Rattle.yq_change.specs.CollectionPlaces.{BeginsAt}
 use Rattle.yq_change.specs.Siblings.{IsEntry, HasEntries}
 use Rattle.yq_change.specs.SoundRoots.{IsNewKey}
-use Rattle.yq_expr.specs.Fits.{Takes}
+use Rattle.yq_meaning.specs.Fits.{Takes}
 use Rattle.yq_ways.proofs.AppendEntryLaws.{entry_level}
 use Rattle.yq_ways.proofs.FitLaws.{new_key}
 

@@ -19,9 +19,9 @@ use Rattle.yq_rows.proofs.seams.ScalarSeams.{ends_return}
 use Rattle.yq_change.specs.TextPieces.{IsPiece}
 use Rattle.yq_change.proofs.LineFrontLaws.{clean_byte, clean_cut}
 use Rattle.yq_change.proofs.TextPieceLaws.{pieces_joined, line_cut}
-use Rattle.yq_expr.specs.Changes.{is_comment}
+use Rattle.yq_meaning.specs.Changes.{is_comment}
 use Rattle.yq_program.specs.declared.program.CommentPlace.TheVariants as comments
-use Rattle.yq_expr.specs.Meaning.{head_of, onto_first, parted}
+use Rattle.yq_meaning.specs.Meaning.{head_of, onto_first, parted}
 use Rattle.yq_ways.specs.CommentWays.{head_line, head_lines}
 
 -- ---- single bytes

@@ -16,9 +16,9 @@ use Rattle.yq_tree.specs.Seats.{Seat, line_has_room, seat_has_room, seat_of}
 use Rattle.yq_tree.proofs.PlacedRowLaws.{document_placed, part_of}
 use Rattle.yq_scalar.specs.BlockWritten.{break_text}
 use Rattle.yq_tree.specs.FirstBreak.{first_break}
-use Rattle.yq_expr.specs.Fits.{Fits}
-use Rattle.yq_expr.specs.Operations.{line_comment, head_comment}
-use Rattle.yq_expr.specs.Rooms.{room_of}
+use Rattle.yq_meaning.specs.Fits.{Fits}
+use Rattle.yq_meaning.specs.Operations.{line_comment, head_comment}
+use Rattle.yq_meaning.specs.Rooms.{room_of}
 use Rattle.yq_ways.specs.CommentWays.{head_comment_segments, head_comment_way, line_comment_segments, line_comment_way}
 use Rattle.yq_ways.specs.Serving.{IsServed}
 use Rattle.yq_ways.proofs.DoneLaws.{read_cut}

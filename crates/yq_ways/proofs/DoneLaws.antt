@@ -15,10 +15,10 @@ use Rattle.yq_tree.proofs.ReadLaws.{text_takes, cut_is}
 use Rattle.yq_change.specs.Changed.{changed, put_document}
 use Rattle.yq_change.proofs.AfterLaws.{nth_is, nth_same}
 use Rattle.yq_change.proofs.ChangedLaws.{document_put}
-use Rattle.yq_expr.specs.After.{document_of, root_after, done_to, after_op}
-use Rattle.yq_expr.specs.Operations.{Operation, replace, append, remove, line_comment, head_comment}
-use Rattle.yq_expr.specs.Rooms.{comment_part, room_of}
-use Rattle.yq_expr.specs.RoomsKept.{SameRoom, KeepsBlock, SetsComment}
+use Rattle.yq_meaning.specs.After.{document_of, root_after, done_to, after_op}
+use Rattle.yq_meaning.specs.Operations.{Operation, replace, append, remove, line_comment, head_comment}
+use Rattle.yq_meaning.specs.Rooms.{comment_part, room_of}
+use Rattle.yq_meaning.specs.RoomsKept.{SameRoom, KeepsBlock, SetsComment}
 use Rattle.yq_change.specs.Rooms.{is_block_root}
 use Rattle.yq_ways.specs.Done.{IsDone, DocumentDone}
 use Rattle.yq_ways.specs.Ways.{RoomStays}

@@ -23,7 +23,7 @@ use Rattle.yq_block.specs.BlockValues.{IsNear, HasNearKeys, EachHasNearKeys}
 use Rattle.yq_block.proofs.KeyLaws.{near_key}
 use Rattle.yq_change.specs.Conditions.{aliases_in, AreSpared}
 use Rattle.yq_change.specs.SoundRoots.{inner_names, IsNewValue}
-use Rattle.yq_expr.specs.Changes.{is_long, has_long_key, have_long_key, is_deep, is_used, refers_to, is_used_inside}
+use Rattle.yq_meaning.specs.Changes.{is_long, has_long_key, have_long_key, is_deep, is_used, refers_to, is_used_inside}
 use Rattle.yq_ways.specs.Operands.{KeyIsUtf8}
 
 -- ---- values

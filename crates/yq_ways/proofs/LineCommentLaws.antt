@@ -46,11 +46,11 @@ use Rattle.yq_change.proofs.PathTailLaws.{path_tail_put}
 use Rattle.yq_change.proofs.ReplaceLaws.{rows_before_some}
 use Rattle.yq_change.proofs.ShapeLaws.{shape_tells}
 use Rattle.yq_change.proofs.TextPieceLaws.{text_is_piece}
-use Rattle.yq_expr.specs.Changes.{is_comment}
-use Rattle.yq_expr.specs.Fits.{Fits}
-use Rattle.yq_expr.specs.Meaning.{line_of}
-use Rattle.yq_expr.specs.Operations.{Operation, replace, append, remove, line_comment, head_comment}
-use Rattle.yq_expr.specs.Rooms.{room_of}
+use Rattle.yq_meaning.specs.Changes.{is_comment}
+use Rattle.yq_meaning.specs.Fits.{Fits}
+use Rattle.yq_meaning.specs.Meaning.{line_of}
+use Rattle.yq_meaning.specs.Operations.{Operation, replace, append, remove, line_comment, head_comment}
+use Rattle.yq_meaning.specs.Rooms.{room_of}
 use Rattle.yq_program.specs.declared.program.CommentPlace.TheVariants as comments
 use Rattle.yq_script.specs.Script.{Segment, keep, put, old_text, new_text}
 use Rattle.yq_ways.specs.CommentWays.{white_segment, line_comment_segments, line_comment_way}

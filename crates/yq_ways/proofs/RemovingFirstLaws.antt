@@ -9,9 +9,9 @@ use Rattle.yq_tree.specs.Reading.{documents, read_at}
 use Rattle.yq_tree.specs.RemovalPlaces.{has_others_at}
 use Rattle.yq_change.proofs.FirstOutLaws.{first_stands}
 use Rattle.yq_change.proofs.FirstRemovalLaws.{first_taken_out}
-use Rattle.yq_expr.specs.Fits.{Fits}
-use Rattle.yq_expr.specs.Operations.{Operation, replace, append, remove, line_comment, head_comment}
-use Rattle.yq_expr.specs.Rooms.{room_of}
+use Rattle.yq_meaning.specs.Fits.{Fits}
+use Rattle.yq_meaning.specs.Operations.{Operation, replace, append, remove, line_comment, head_comment}
+use Rattle.yq_meaning.specs.Rooms.{room_of}
 use Rattle.yq_script.specs.Script.{Segment, old_text, new_text}
 use Rattle.yq_ways.specs.Operands.{HasOperand}
 use Rattle.yq_ways.specs.RemovingFirst.{first_removed, first_removed_at, remove_first_way}

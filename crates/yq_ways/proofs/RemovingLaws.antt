@@ -26,10 +26,10 @@ use Rattle.yq_change.specs.Conditions.{aliases_in, AreSpared}
 use Rattle.yq_change.specs.RemovalChanges.{mended, MayTakeOut, IsTakenOut}
 use Rattle.yq_change.proofs.LeadLaws.{block_lead_goes}
 use Rattle.yq_change.proofs.RemovalChangeLaws.{removal_stands, entry_taken_out}
-use Rattle.yq_expr.specs.Changes.{refers_to, is_used}
-use Rattle.yq_expr.specs.Fits.{Fits}
-use Rattle.yq_expr.specs.Operations.{Operation, replace, append, remove, line_comment, head_comment}
-use Rattle.yq_expr.specs.Rooms.{room_of}
+use Rattle.yq_meaning.specs.Changes.{refers_to, is_used}
+use Rattle.yq_meaning.specs.Fits.{Fits}
+use Rattle.yq_meaning.specs.Operations.{Operation, replace, append, remove, line_comment, head_comment}
+use Rattle.yq_meaning.specs.Rooms.{room_of}
 use Rattle.yq_script.specs.Script.{Segment, keep, put, old_text, new_text}
 use Rattle.yq_ways.specs.Done.{IsDone}
 use Rattle.yq_ways.specs.Operands.{HasOperand}

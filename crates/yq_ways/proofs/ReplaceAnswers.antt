@@ -17,7 +17,7 @@ use Rattle.yq_tree.specs.InlinePlaces.{InlinePlace, written_text, apart_from, in
 use Rattle.yq_tree.specs.InlineReading.{InlineTelling, inline_telling, inline_told}
 use Rattle.yq_tree.specs.Located.{steps_of, document_at, located}
 use Rattle.yq_tree.specs.Reading.{cut_of}
-use Rattle.yq_expr.specs.Operations.{replace}
+use Rattle.yq_meaning.specs.Operations.{replace}
 use Rattle.yq_ways.specs.PlaceViews.{inline_view}
 use Rattle.yq_ways.specs.Replacing.{node_in, is_kept, value_written, flow_written, place_segments, replace_at, replace_way}
 

@@ -39,10 +39,10 @@ use Rattle.yq_change.specs.SoundRoots.{IsNewValue}
 use Rattle.yq_change.specs.TextPieces.{IsPiece}
 use Rattle.yq_change.proofs.InlineDoneLaws.{inline_replaced}
 use Rattle.yq_change.proofs.LeadLaws.{same_lead_goes}
-use Rattle.yq_expr.specs.Changes.{has_long_key, is_deep, is_used_inside}
-use Rattle.yq_expr.specs.Fits.{Fits}
-use Rattle.yq_expr.specs.Operations.{Operation, replace, append, remove, line_comment, head_comment}
-use Rattle.yq_expr.specs.Rooms.{room_of}
+use Rattle.yq_meaning.specs.Changes.{has_long_key, is_deep, is_used_inside}
+use Rattle.yq_meaning.specs.Fits.{Fits}
+use Rattle.yq_meaning.specs.Operations.{Operation, replace, append, remove, line_comment, head_comment}
+use Rattle.yq_meaning.specs.Rooms.{room_of}
 use Rattle.yq_lines.specs.Anchors.{names_of}
 use Rattle.yq_script.specs.Script.{Segment, old_text, new_text}
 use Rattle.yq_ways.specs.Operands.{HasOperand}

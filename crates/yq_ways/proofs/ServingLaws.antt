@@ -1,7 +1,7 @@
 -- Of two ways one is enough for an operation.
 use Rattle.std.proofs.Common.{◌≡◌, List, Option, Some, None, refl, ap}
 use Rattle.yq_rows.specs.Rows.{Cut}
-use Rattle.yq_expr.specs.Operations.{Operation}
+use Rattle.yq_meaning.specs.Operations.{Operation}
 use Rattle.yq_script.specs.Script.{Segment}
 use Rattle.yq_ways.specs.Serving.{IsServed}
 use Rattle.yq_ways.specs.Ways.{Way, first_some, or_else}

@@ -35,7 +35,7 @@ use Rattle.yq_flow.proofs.StyledScalars.{styled_spells}
 use Rattle.yq_change.specs.InlineRows.{IsValueNode}
 use Rattle.yq_change.specs.TextPieces.{IsPiece}
 use Rattle.yq_change.proofs.TextPieceLaws.{pieces_joined}
-use Rattle.yq_expr.specs.Changes.{has_long_key}
+use Rattle.yq_meaning.specs.Changes.{has_long_key}
 use Rattle.yq_ways.proofs.FlowWritten.{flow_fits}
 
 -- ---- scalars

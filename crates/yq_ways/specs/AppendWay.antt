@@ -6,7 +6,7 @@ use Rattle.yq_tree.specs.CollectionEnds.{CollectionEnd, collection_end}
 use Rattle.yq_block.specs.declared.layout.Layout.{Layout}
 use Rattle.yq_block.specs.Alone.{alone}
 use Rattle.yq_block.specs.BlockText.{block_value}
-use Rattle.yq_expr.specs.Operations.{replace, append, remove, line_comment, head_comment}
+use Rattle.yq_meaning.specs.Operations.{replace, append, remove, line_comment, head_comment}
 use Rattle.yq_script.specs.Script.{Segment, keep, put}
 use Rattle.yq_ways.specs.Layouts.{layout_of}
 use Rattle.yq_ways.specs.Ways.{Way}

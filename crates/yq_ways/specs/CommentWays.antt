@@ -5,8 +5,8 @@ use Rattle.yq_scalar.specs.Text.{is_empty}
 use Rattle.yq_rows.specs.Rows.{cut_text}
 use Rattle.yq_tree.specs.CommentPlaces.{LineEnd, LinesAbove, line_end, lines_above}
 use Rattle.yq_tree.specs.FirstBreak.{first_break}
-use Rattle.yq_expr.specs.Meaning.{head_of}
-use Rattle.yq_expr.specs.Operations.{replace, append, remove, line_comment, head_comment}
+use Rattle.yq_meaning.specs.Meaning.{head_of}
+use Rattle.yq_meaning.specs.Operations.{replace, append, remove, line_comment, head_comment}
 use Rattle.yq_script.specs.Script.{Segment, keep, put}
 use Rattle.yq_ways.specs.Ways.{Way}
 

@@ -9,9 +9,9 @@ use Rattle.yq_tree.specs.RowPaths.{IsReadable}
 use Rattle.yq_change.specs.Changed.{IsChanged, KeepsRows, put_document}
 use Rattle.yq_change.specs.Rooms.{is_block_root, LeadGoes, SameSeats}
 use Rattle.yq_change.specs.TextPieces.{IsPiece}
-use Rattle.yq_expr.specs.After.{document_of, root_after}
-use Rattle.yq_expr.specs.Operations.{Operation}
-use Rattle.yq_expr.specs.RoomsKept.{KeepsBlock, SetsComment}
+use Rattle.yq_meaning.specs.After.{document_of, root_after}
+use Rattle.yq_meaning.specs.Operations.{Operation}
+use Rattle.yq_meaning.specs.RoomsKept.{KeepsBlock, SetsComment}
 use Rattle.yq_script.specs.Script.{Segment, keep, put, new_text}
 use Rattle.yq_ways.specs.Ways.{ReadsAfter}
 

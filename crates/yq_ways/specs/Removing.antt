@@ -7,7 +7,7 @@ use Rattle.yq_scalar.specs.Paths.{Step}
 use Rattle.yq_scalar.specs.Text.{cut, no_white, past_white, joined, lines_of}
 use Rattle.yq_rows.specs.Rows.{Cut}
 use Rattle.yq_tree.specs.RemovalPlaces.{Seam, Removal, removal_place, has_others_at}
-use Rattle.yq_expr.specs.Operations.{replace, append, remove, line_comment, head_comment}
+use Rattle.yq_meaning.specs.Operations.{replace, append, remove, line_comment, head_comment}
 use Rattle.yq_script.specs.Script.{Segment, keep, put}
 use Rattle.yq_ways.specs.Ways.{Way}
 

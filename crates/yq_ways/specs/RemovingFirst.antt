@@ -5,7 +5,7 @@ use Rattle.yq_scalar.specs.Paths.{Step}
 use Rattle.yq_rows.specs.Rows.{Cut}
 use Rattle.yq_tree.specs.FirstPlaces.{FirstOut, first_removal}
 use Rattle.yq_tree.specs.RemovalPlaces.{has_others_at}
-use Rattle.yq_expr.specs.Operations.{replace, append, remove, line_comment, head_comment}
+use Rattle.yq_meaning.specs.Operations.{replace, append, remove, line_comment, head_comment}
 use Rattle.yq_script.specs.Script.{Segment, keep, put}
 use Rattle.yq_ways.specs.Ways.{Way}
 

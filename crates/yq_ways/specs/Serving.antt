@@ -1,7 +1,7 @@
 -- Whether there is a way for an operation.
 use Rattle.std.specs.Prelude.{◌≡◌, List, Some}
 use Rattle.yq_rows.specs.Rows.{Cut}
-use Rattle.yq_expr.specs.Operations.{Operation}
+use Rattle.yq_meaning.specs.Operations.{Operation}
 use Rattle.yq_script.specs.Script.{Segment}
 use Rattle.yq_ways.specs.Ways.{Way}
 

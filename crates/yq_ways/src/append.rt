@@ -3,7 +3,7 @@ ghost use Rattle.std.specs.Prelude.{◌≡◌, ◌++◌, IfOk, OnOk, string_byte
 ghost use Rattle.yq_inline.specs.Values.{node_of};
 ghost use Rattle.yq_lines.specs.Bodies.{lent};
 ghost use Rattle.yq_scalar.specs.BlockWritten.{break_text};
-ghost use Rattle.yq_expr.specs.Operations.{operation_of};
+ghost use Rattle.yq_meaning.specs.Operations.{operation_of};
 ghost use Rattle.yq_tree.specs.Reading.{cut_of};
 ghost use Rattle.yq_ways.specs.AppendWay as spec;
 ghost use Rattle.yq_ways.specs.WayAnswers.{Carries};
@@ -11,7 +11,8 @@ ghost use Rattle.yq_ways.specs.WayAnswers.{Carries};
 use crate::layout::layout_of;
 use std::alloc::{AllocError, Global};
 use yq_block::{Layout, push_entry};
-use yq_expr::{Op, Value};
+use yq_inline::Value;
+use yq_meaning::Op;
 use yq_scalar::block_written::break_text;
 use yq_scalar::push_spaces;
 use yq_script::{Edited, ExchangeError, Segment, exchange};

@@ -1,13 +1,13 @@
 //! The way to set head comments.
 ghost use Rattle.std.specs.Prelude.{◌≡◌, ◌++◌, IfOk, OnOk, string_bytes};
-ghost use Rattle.yq_expr.specs.Meaning.{head_of};
-ghost use Rattle.yq_expr.specs.Operations.{operation_of};
+ghost use Rattle.yq_meaning.specs.Meaning.{head_of};
+ghost use Rattle.yq_meaning.specs.Operations.{operation_of};
 ghost use Rattle.yq_tree.specs.Reading.{cut_of};
 ghost use Rattle.yq_ways.specs.CommentWays as spec;
 ghost use Rattle.yq_ways.specs.WayAnswers.{Carries};
 
 use std::alloc::{AllocError, Global};
-use yq_expr::Op;
+use yq_meaning::Op;
 use yq_scalar::block_written::break_text;
 use yq_scalar::push_spaces;
 use yq_script::{Edited, ExchangeError, Segment, exchange};

@@ -1,6 +1,6 @@
 //! The way to set line comments.
 ghost use Rattle.std.specs.Prelude.{◌≡◌, IfOk, string_bytes};
-ghost use Rattle.yq_expr.specs.Operations.{operation_of};
+ghost use Rattle.yq_meaning.specs.Operations.{operation_of};
 ghost use Rattle.yq_tree.specs.CommentTelling.{end_told};
 ghost use Rattle.yq_tree.specs.Reading.{cut_of};
 ghost use Rattle.yq_script.specs.Segments.{segment_of};
@@ -8,7 +8,7 @@ ghost use Rattle.yq_ways.specs.CommentWays as spec;
 ghost use Rattle.yq_ways.specs.WayAnswers.{Carries};
 
 use std::alloc::{AllocError, Global};
-use yq_expr::Op;
+use yq_meaning::Op;
 use yq_script::{Edited, ExchangeError, Segment, exchange};
 use yq_tree::{Documents, LineEnd};
 

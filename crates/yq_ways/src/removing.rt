@@ -1,7 +1,7 @@
 //! The way to take out one of several items or entries that has whole rows.
 ghost use Rattle.std.specs.Prelude.{◌≡◌, ◌++◌, ◌∷◌, [], ℕ, IfErr, IfOk, OnOk, Some, option_map, replicate, string_bytes};
 ghost use Rattle.yq_scalar.specs.Text.{lines_of};
-ghost use Rattle.yq_expr.specs.Operations.{operation_of};
+ghost use Rattle.yq_meaning.specs.Operations.{operation_of};
 ghost use Rattle.yq_tree.specs.Reading.{cut_of};
 ghost use Rattle.yq_tree.specs.declared.places.removal_place.Seam.{Seam as SeamOf};
 ghost use Rattle.yq_tree.specs.RemovalReading.{removal_told, seam_told};
@@ -13,7 +13,7 @@ ghost use Rattle.yq_ways.specs.WayAnswers.{Carries};
 ghost use Rattle.yq_ways.specs.Ways.{IsWay};
 
 use std::alloc::{AllocError, Global};
-use yq_expr::Op;
+use yq_meaning::Op;
 use yq_scalar::block_lines::is_blank;
 use yq_scalar::block_repair::{is_outside, is_short};
 use yq_scalar::lines::split_line;

@@ -1,5 +1,5 @@
 //! The way to take out the first of several items or entries of a compact collection.
-ghost use Rattle.yq_expr.specs.Operations.{operation_of};
+ghost use Rattle.yq_meaning.specs.Operations.{operation_of};
 ghost use Rattle.yq_tree.specs.FirstTelling.{first_told};
 ghost use Rattle.yq_tree.specs.Reading.{cut_of};
 ghost use Rattle.yq_script.specs.Exchanging.{Exchanged, exchange_of};
@@ -8,7 +8,7 @@ ghost use Rattle.yq_ways.specs.WayAnswers.{Carries};
 ghost use Rattle.yq_ways.specs.Ways.{IsWay};
 
 use std::alloc::Global;
-use yq_expr::Op;
+use yq_meaning::Op;
 use yq_script::{Edited, ExchangeError, Segment, exchange};
 use yq_tree::{Documents, FirstRemoval};
 

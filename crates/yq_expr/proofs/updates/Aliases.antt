@@ -3,12 +3,12 @@ use Rattle.std.proofs.Common.{◌≡◌, ℕ, suc, ◌⊎◌, Bool, true, false,
 use Rattle.yq_scalar.specs.Tree as tree
 use Rattle.yq_scalar.specs.Tree.{Label, Node, alias, scalar, list, Children, none, child}
 use Rattle.yq_scalar.specs.Paths.{Step, To, is_here, further, change_child, append_child, within}
-use Rattle.yq_expr.specs.Changes.{Addition, appends, overwrites, Change, replaces, adds, sets_comment, Changed, value_in}
-use Rattle.yq_expr.specs.Deeds.{Deed, becomes, line, head, goes, Deeds, step_to, under, done_at, child_by, inside, each_at_once, at_once, same_path, done_by}
-use Rattle.yq_expr.specs.Meaning.{add_to, add_all, placed_deed, deed_of}
+use Rattle.yq_meaning.specs.Changes.{Addition, appends, overwrites, Change, replaces, adds, sets_comment, Changed, value_in}
+use Rattle.yq_meaning.specs.Deeds.{Deed, becomes, line, head, goes, Deeds, step_to, under, done_at, child_by, inside, each_at_once, at_once, same_path, done_by}
+use Rattle.yq_meaning.specs.Meaning.{add_to, add_all, placed_deed, deed_of}
 use Rattle.yq_tree.specs.TreeEdits.{replaced, headed, led, new_label}
 use Rattle.yq_program.specs.declared.program.CommentPlace.TheVariants as comments
-use Rattle.yq_expr.specs.Changes as changes
+use Rattle.yq_meaning.specs.Changes as changes
 use Rattle.yq_expr.proofs.updates.Mentions.{Mentions, AnyMentions, HasNoAlias, MentionsNoMore}
 
 -- what is done at a place brings no alias

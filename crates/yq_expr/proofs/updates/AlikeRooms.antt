@@ -6,11 +6,11 @@ use Rattle.yq_scalar.specs.Tree.{Node}
 use Rattle.yq_tree.specs.Documents.{Document}
 use Rattle.yq_tree.specs.TreeEdits.{change_nth}
 use Rattle.yq_program.specs.declared.program.CommentPlace.TheVariants as comments
-use Rattle.yq_expr.specs.After.{document_of, done_to, after_op, all_after}
-use Rattle.yq_expr.specs.Changes.{Room}
-use Rattle.yq_expr.specs.Fits.{FitsRoot, Fits, AllFit}
-use Rattle.yq_expr.specs.Operations.{Operation, replace, append, remove, line_comment, head_comment}
-use Rattle.yq_expr.specs.RoomsKept.{KeepsBlockIn, SetsComment, NoneIn, BlockLasts, SetComments, SetNoComment, MayFollow, SameRoom, LeavesRooms, AlikeFor, AreAlike}
+use Rattle.yq_meaning.specs.After.{document_of, done_to, after_op, all_after}
+use Rattle.yq_meaning.specs.Changes.{Room}
+use Rattle.yq_meaning.specs.Fits.{FitsRoot, Fits, AllFit}
+use Rattle.yq_meaning.specs.Operations.{Operation, replace, append, remove, line_comment, head_comment}
+use Rattle.yq_meaning.specs.RoomsKept.{KeepsBlockIn, SetsComment, NoneIn, BlockLasts, SetComments, SetNoComment, MayFollow, SameRoom, LeavesRooms, AlikeFor, AreAlike}
 
 root_alike : (old new : Room) (op : Operation) (root : Node) → AlikeFor op old new → FitsRoot old op root → FitsRoot new op root
 root_alike old new (replace doc path v) root a h = h

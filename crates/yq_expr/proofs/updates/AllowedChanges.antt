@@ -8,19 +8,19 @@ use Rattle.yq_scalar.specs.Paths as paths
 use Rattle.yq_scalar.specs.Paths.{To, key_is, child_at, node_at, change_child, append_child}
 use Rattle.yq_scalar.proofs.Bools.{or_false}
 use Rattle.yq_tree.specs.Anchors.{names_of}
-use Rattle.yq_expr.specs.Judgement.{Judgement, gives, and_then}
-use Rattle.yq_expr.specs.Matching.{Found, find, key_step, index_step}
-use Rattle.yq_expr.specs.Changes.{Addition, appends, overwrites, addition, additions, is_long, has_long_key, writes_long_key, value_in, is_deep, is_used_inside, overwrites_used}
-use Rattle.yq_expr.specs.Conditions.{holds}
-use Rattle.yq_expr.specs.Meaning.{add_to}
-use Rattle.yq_expr.specs.Pipes.{kept, stage_on, pipe_on, places}
-use Rattle.yq_expr.specs.Places.{Place, root_place, child_place, for_each, miss, found_place, all_steps, step_there, step_from, step_on, walk}
+use Rattle.yq_meaning.specs.Judgement.{Judgement, gives, and_then}
+use Rattle.yq_meaning.specs.Matching.{Found, find, key_step, index_step}
+use Rattle.yq_meaning.specs.Changes.{Addition, appends, overwrites, addition, additions, is_long, has_long_key, writes_long_key, value_in, is_deep, is_used_inside, overwrites_used}
+use Rattle.yq_meaning.specs.Conditions.{holds}
+use Rattle.yq_meaning.specs.Meaning.{add_to}
+use Rattle.yq_meaning.specs.Pipes.{kept, stage_on, pipe_on, places}
+use Rattle.yq_meaning.specs.Places.{Place, root_place, child_place, for_each, miss, found_place, all_steps, step_there, step_from, step_on, walk}
 use Rattle.yq_scalar.specs.Shapes.{IsNew, AreItems, AreEntries, IsTree, AreTrees}
 use Rattle.yq_tree.specs.TreeEdits.{replaced, new_label}
 use Rattle.yq_program.specs.Program.{Step, key, index, each, Condition, Stage, path, select}
 use Rattle.yq_expr.proofs.JudgementLaws.{then_gives, gives_same}
 use Rattle.yq_expr.proofs.updates.ChildPlaces.{node_further}
-use Rattle.yq_expr.proofs.updates.PathLaws.{bytes_differ, bytes_same, cond_false, none_some}
+use Rattle.yq_meaning.proofs.PathLaws.{bytes_differ, bytes_same, cond_false, none_some}
 use Rattle.yq_expr.proofs.updates.FitsAtTurn.{FitAdds}
 use Rattle.std.proofs.lemmas.Bool.{false≢true}
 

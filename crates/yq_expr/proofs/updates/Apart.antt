@@ -5,13 +5,13 @@ use Rattle.yq_scalar.specs.Tree as tree
 use Rattle.yq_scalar.specs.Tree.{Label, Node, alias, scalar, list, Children, none, child, children_of}
 use Rattle.yq_scalar.specs.Paths.{Step, To, Nth, key_is, is_item, child_at, node_at, change}
 use Rattle.yq_scalar.proofs.Bools.{is_true}
-use Rattle.yq_expr.specs.Deeds.{Deed, becomes, line, head, goes, Deeds, under, done_at, child_by, inside, each_at_once, at_once, same_path, and_at, done_by, one_at}
-use Rattle.yq_expr.specs.Places.{step_by}
+use Rattle.yq_meaning.specs.Deeds.{Deed, becomes, line, head, goes, Deeds, under, done_at, child_by, inside, each_at_once, at_once, same_path, and_at, done_by, one_at}
+use Rattle.yq_meaning.specs.Places.{step_by}
 use Rattle.yq_scalar.specs.PathOrder.{Before, Apart}
 use Rattle.yq_scalar.specs.Shapes.{AreItems, AreEntries, IsTree}
 use Rattle.yq_expr.proofs.updates.AtOnce.{one_more}
 use Rattle.yq_expr.proofs.updates.ChildPlaces.{child_tree, children_tree}
-use Rattle.yq_expr.proofs.updates.PathLaws.{apart_root, cond_true, cond_false, bytes_refl, bytes_same}
+use Rattle.yq_meaning.proofs.PathLaws.{apart_root, cond_true, cond_false, bytes_refl, bytes_same}
 use Rattle.yq_expr.proofs.updates.Spares.{IsSpared, Spares, spares_root, spares_under, spares_behind, nothing, idle, child_done, deeds_same}
 use Rattle.yq_expr.proofs.updates.Folds.{path_same, apart_irrefl, apart_sym}
 use Rattle.yq_expr.proofs.updates.OneAt.{one_becomes}

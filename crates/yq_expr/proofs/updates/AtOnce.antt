@@ -2,13 +2,13 @@
 use Rattle.std.proofs.Common.{◌≡◌, ◌≢◌, ℕ, suc, ◌+◌, ◌<◌, ◌⊎◌, Bool, true, false, cond, List, [], ◌∷◌, Option, Some, None, refl, sym, ap, subst, ◌∙◌, inl, inr, arith, zero, ◌&&◌}
 use Rattle.yq_scalar.specs.Tree.{Label, Node, alias, scalar, list, Children, none, child, map}
 use Rattle.yq_scalar.specs.Paths.{To, Nth, key_is, is_here, further, Step, within}
-use Rattle.yq_expr.specs.Deeds.{step_to, Deed, becomes, line, head, goes, Deeds, under, done_at, child_by, inside, each_at_once, at_once, same_path, and_at, at_child, here, one_at}
-use Rattle.yq_expr.specs.Places.{step_by}
+use Rattle.yq_meaning.specs.Deeds.{step_to, Deed, becomes, line, head, goes, Deeds, under, done_at, child_by, inside, each_at_once, at_once, same_path, and_at, at_child, here, one_at}
+use Rattle.yq_meaning.specs.Places.{step_by}
 use Rattle.yq_scalar.specs.PathOrder.{Before}
 use Rattle.yq_scalar.specs.Shapes.{IsNew, AreItems, AreEntries, IsTree, AreTrees}
 use Rattle.std.specs.Str.{bytes_eq}
 use Rattle.yq_scalar.proofs.Bools.{is_true}
-use Rattle.yq_expr.proofs.updates.PathLaws.{none_some, some_same, cond_true, cond_false, bytes_refl, bytes_same, bytes_other, to_nth, step_refl, step_other, apart_root}
+use Rattle.yq_meaning.proofs.PathLaws.{none_some, some_same, cond_true, cond_false, bytes_refl, bytes_same, bytes_other, to_nth, step_refl, step_other, apart_root}
 use Rattle.yq_expr.proofs.updates.Spares.{deeds_same, IsSpared, Spares, spares_under, nothing, spares_root, spares_behind, child_done, idle}
 
 -- none of the steps to these is this one

@@ -5,11 +5,11 @@ use Rattle.yq_scalar.specs.Tree.{Node, alias, scalar, list, Children, none, chil
 use Rattle.yq_scalar.specs.Paths as paths
 use Rattle.yq_scalar.specs.Paths.{To, Nth, key_is, is_item, is_here, further, child_at, node_at}
 use Rattle.yq_program.specs.Program.{Step, key, index, each}
-use Rattle.yq_expr.specs.Places.{step_by, Place, child_place, miss, stepped}
+use Rattle.yq_meaning.specs.Places.{step_by, Place, child_place, miss, stepped}
 use Rattle.yq_expr.specs.PlacesApart.{IsBeforeAll, AreApart, IsIn}
 use Rattle.yq_scalar.specs.PathOrder.{Parts}
 use Rattle.yq_scalar.specs.Shapes.{IsNew, AreItems, AreEntries, IsTree, AreTrees}
-use Rattle.yq_expr.proofs.updates.PathLaws.{none_some, some_same, cond_true, cond_false, bytes_refl, bytes_differ, before_in}
+use Rattle.yq_meaning.proofs.PathLaws.{none_some, some_same, cond_true, cond_false, bytes_refl, bytes_differ, before_in}
 use Rattle.yq_expr.proofs.updates.GoodPlaces.{LieIn, AreSound, Leads}
 
 -- no place

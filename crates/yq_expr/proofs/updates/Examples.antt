@@ -12,10 +12,10 @@ use Rattle.yq_tree.specs.Documents.{Document}
 use Rattle.yq_tree.specs.TreeEdits.{new_label}
 use Rattle.yq_program.specs.declared.program.CommentPlace.TheVariants as comments
 use Rattle.yq_program.specs.declared.program.Operator.TheVariants as operator
-use Rattle.yq_expr.specs.declared.refusal.Refusal.TheVariants.{NotAMap, NotASequence, IndexOutOfRange, ThroughAlias, AnchorInUse, NotOneValue, KindMismatch, FloatArithmetic, NoPlaceForComment, BadCommentText, RootDelete}
-use Rattle.yq_expr.specs.Judgement.{Judgement, gives, refuses}
-use Rattle.yq_expr.specs.Meaning.{meaning}
-use Rattle.yq_expr.specs.Operations.{Operation, replace, append, remove}
+use Rattle.yq_meaning.specs.declared.refusal.Refusal.TheVariants.{NotAMap, NotASequence, IndexOutOfRange, ThroughAlias, AnchorInUse, NotOneValue, KindMismatch, FloatArithmetic, NoPlaceForComment, BadCommentText, RootDelete}
+use Rattle.yq_meaning.specs.Judgement.{Judgement, gives, refuses}
+use Rattle.yq_meaning.specs.Meaning.{meaning}
+use Rattle.yq_meaning.specs.Operations.{Operation, replace, append, remove}
 use Rattle.yq_expr.specs.Plans.{plan}
 use Rattle.yq_program.specs.Program.{key, index, each, Stage, path, literal, found, Update, assign, delete, comment}
 

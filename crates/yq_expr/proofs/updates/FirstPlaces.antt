@@ -4,19 +4,19 @@ use Rattle.yq_scalar.specs.Tree as tree
 use Rattle.yq_scalar.specs.Tree.{Label, Node, alias, scalar, list, Children, none, child, children_of}
 use Rattle.yq_scalar.specs.Paths as paths
 use Rattle.yq_scalar.specs.Paths.{node_at}
-use Rattle.yq_expr.specs.declared.refusal.Refusal.TheVariants.{NotASequence}
-use Rattle.yq_expr.specs.Judgement.{Judgement, gives, and_then}
-use Rattle.yq_expr.specs.Matching.{Found, in_scalar, key_step, index_step}
+use Rattle.yq_meaning.specs.declared.refusal.Refusal.TheVariants.{NotASequence}
+use Rattle.yq_meaning.specs.Judgement.{Judgement, gives, and_then}
+use Rattle.yq_meaning.specs.Matching.{Found, in_scalar, key_step, index_step}
 use Rattle.yq_program.specs.Program.{Step, key, index, each, Condition, Stage, path, select}
-use Rattle.yq_expr.specs.Conditions.{holds}
-use Rattle.yq_expr.specs.Deeds.{step_to}
-use Rattle.yq_expr.specs.Pipes.{kept, select_on, stage_on, pipe_on, places}
-use Rattle.yq_expr.specs.Places.{Place, root_place, child_place, for_each, miss, found_place, stepped, all_steps, step_there, step_from, step_on, in_turn, walk}
+use Rattle.yq_meaning.specs.Conditions.{holds}
+use Rattle.yq_meaning.specs.Deeds.{step_to}
+use Rattle.yq_meaning.specs.Pipes.{kept, select_on, stage_on, pipe_on, places}
+use Rattle.yq_meaning.specs.Places.{Place, root_place, child_place, for_each, miss, found_place, stepped, all_steps, step_there, step_from, step_on, in_turn, walk}
 use Rattle.yq_expr.specs.PlacesApart.{IsBeforeAll, IsIn}
 use Rattle.yq_scalar.specs.PathOrder.{Before}
 use Rattle.yq_scalar.specs.Shapes.{AreItems, AreEntries, IsTree}
 use Rattle.yq_expr.proofs.JudgementLaws.{then_gives, gives_same}
-use Rattle.yq_expr.proofs.updates.PathLaws.{some_same, parts_differ}
+use Rattle.yq_meaning.proofs.PathLaws.{some_same, parts_differ}
 use Rattle.yq_expr.proofs.updates.GoodPlaces.{LieIn, AreSound, LeadsSo, AreGood, each_good}
 use Rattle.yq_expr.proofs.updates.ChildPlaces.{StepsBefore, StepsApart, items_apart, entries_apart}
 use Rattle.yq_expr.proofs.updates.StepPlaces.{leads_step}

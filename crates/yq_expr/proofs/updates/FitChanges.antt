@@ -9,16 +9,16 @@ use Rattle.yq_scalar.proofs.Bools.{and_true, or_false}
 use Rattle.yq_tree.specs.Anchors.{names_of}
 use Rattle.yq_program.specs.declared.program.CommentPlace.{CommentPlace}
 use Rattle.yq_program.specs.declared.program.Operator.TheVariants as operator
-use Rattle.yq_expr.specs.declared.refusal.Refusal.TheVariants.{IndexOutOfRange, NoPlaceForComment, AnchorInUse, TooDeep, KeyTooLong}
-use Rattle.yq_expr.specs.Judgement.{Judgement, gives, refuses, and_then}
-use Rattle.yq_expr.specs.Changes.{appends, overwrites, Change, replaces, adds, sets_comment, Changed, Room, is_long, has_long_key, is_deep, nested, made, put_below, put_at, addition, additions, added, add_below, add_at}
-use Rattle.yq_expr.specs.Changes.{remove_below, remove_at, is_there, comment_at, is_too_long, is_too_deep, is_used_inside, is_used_in, takes_used, allowed, all_allowed, at_each, with_value, changes_at, left_of, changes_in}
-use Rattle.yq_expr.specs.Changes.{is_comment, has_comment, value_in}
+use Rattle.yq_meaning.specs.declared.refusal.Refusal.TheVariants.{IndexOutOfRange, NoPlaceForComment, AnchorInUse, TooDeep, KeyTooLong}
+use Rattle.yq_meaning.specs.Judgement.{Judgement, gives, refuses, and_then}
+use Rattle.yq_meaning.specs.Changes.{appends, overwrites, Change, replaces, adds, sets_comment, Changed, Room, is_long, has_long_key, is_deep, nested, made, put_below, put_at, addition, additions, added, add_below, add_at}
+use Rattle.yq_meaning.specs.Changes.{remove_below, remove_at, is_there, comment_at, is_too_long, is_too_deep, is_used_inside, is_used_in, takes_used, allowed, all_allowed, at_each, with_value, changes_at, left_of, changes_in}
+use Rattle.yq_meaning.specs.Changes.{is_comment, has_comment, value_in}
 use Rattle.yq_expr.proofs.updates.Mentions.{HasNoAlias, IsPure}
-use Rattle.yq_expr.specs.Pipes.{places}
-use Rattle.yq_expr.specs.Places.{Place, root_place}
+use Rattle.yq_meaning.specs.Pipes.{places}
+use Rattle.yq_meaning.specs.Places.{Place, root_place}
 use Rattle.yq_expr.specs.PlacesApart.{IsIn}
-use Rattle.yq_expr.specs.RightValues.{is_null, as_items, sum, right_value}
+use Rattle.yq_meaning.specs.RightValues.{is_null, as_items, sum, right_value}
 use Rattle.yq_scalar.specs.Shapes.{IsTree}
 use Rattle.yq_program.specs.Program.{is_index, SumHolds, UpdatesHold, Step, key, index, each, Term, Update, assign, delete, comment}
 use Rattle.yq_expr.proofs.updates.Aliases.{AddNone, WritesNone, AllWriteNone}

@@ -6,17 +6,17 @@ use Rattle.yq_scalar.specs.Tree.{Node, alias, scalar, list, Children, none, chil
 use Rattle.yq_scalar.specs.Paths.{Step, To, is_here, further, child_at, node_at, change_child, within, change}
 use Rattle.yq_tree.specs.Anchors.{names_of}
 use Rattle.yq_program.specs.declared.program.CommentPlace.TheVariants as comments
-use Rattle.yq_expr.specs.After.{root_after}
-use Rattle.yq_expr.specs.Changes.{Addition, appends, overwrites, replaces, adds, sets_comment, Changed, Room, is_long, is_used_inside, is_used_in}
-use Rattle.yq_expr.specs.Deeds.{at_once}
-use Rattle.yq_expr.specs.Fits.{IsWritable, Takes, IsBelow, MayComment, FitsRoot}
+use Rattle.yq_meaning.specs.After.{root_after}
+use Rattle.yq_meaning.specs.Changes.{Addition, appends, overwrites, replaces, adds, sets_comment, Changed, Room, is_long, is_used_inside, is_used_in}
+use Rattle.yq_meaning.specs.Deeds.{at_once}
+use Rattle.yq_meaning.specs.Fits.{IsWritable, Takes, IsBelow, MayComment, FitsRoot}
 use Rattle.yq_expr.proofs.updates.Mentions.{AnyMentions}
-use Rattle.yq_expr.specs.Meaning.{add_to}
-use Rattle.yq_expr.specs.Operations.{Operation}
+use Rattle.yq_meaning.specs.Meaning.{add_to}
+use Rattle.yq_meaning.specs.Operations.{Operation}
 use Rattle.yq_expr.specs.Plans.{add_op, change_ops, ops_of, ordered}
 use Rattle.yq_scalar.specs.PathOrder.{Before, Apart}
 use Rattle.yq_scalar.specs.Shapes.{IsTree}
-use Rattle.yq_expr.specs.Changes as changes
+use Rattle.yq_meaning.specs.Changes as changes
 use Rattle.yq_expr.proofs.updates.Aliases.{AddNone, one_no_more, WritesNone, AllWriteNone, all_bring, at_once_no_more}
 use Rattle.yq_expr.proofs.updates.Mentions.{MentionsNoMore, inside_less, in_less}
 use Rattle.yq_expr.proofs.updates.Apart.{node_spared}

@@ -4,18 +4,18 @@ use Rattle.std.proofs.lemmas.List.{reverse-append, reverse-reverse}
 use Rattle.yq_scalar.specs.Tree.{Node}
 use Rattle.yq_scalar.specs.Paths.{Step}
 use Rattle.yq_scalar.proofs.Bools.{and_true}
-use Rattle.yq_expr.specs.Changes.{Change, replaces, adds, sets_comment, Changed}
-use Rattle.yq_expr.specs.Deeds.{Deed, becomes, line, head, goes, Deeds, at_once, same_step, same_path, and_at, done_by}
-use Rattle.yq_expr.specs.Meaning.{placed_deed, deed_of}
-use Rattle.yq_expr.specs.Operations.{Operation}
+use Rattle.yq_meaning.specs.Changes.{Change, replaces, adds, sets_comment, Changed}
+use Rattle.yq_meaning.specs.Deeds.{Deed, becomes, line, head, goes, Deeds, at_once, same_step, same_path, and_at, done_by}
+use Rattle.yq_meaning.specs.Meaning.{placed_deed, deed_of}
+use Rattle.yq_meaning.specs.Operations.{Operation}
 use Rattle.yq_expr.specs.Plans.{change_ops, ops_of, is_removal, ordered}
 use Rattle.yq_program.specs.Program.{Update, assign, delete, comment}
 use Rattle.yq_scalar.specs.PathOrder.{Before, Apart}
 use Rattle.yq_scalar.specs.Shapes.{IsTree}
-use Rattle.yq_expr.specs.Changes as changes
+use Rattle.yq_meaning.specs.Changes as changes
 use Rattle.yq_program.specs.declared.program.CommentPlace.TheVariants as comments
 use Rattle.yq_expr.proofs.updates.AtOnce.{one_more}
-use Rattle.yq_expr.proofs.updates.PathLaws.{bytes_same, parts_not}
+use Rattle.yq_meaning.proofs.PathLaws.{bytes_same, parts_not}
 use Rattle.yq_expr.proofs.updates.Spares.{idle, IsSpared, Spares, deeds_same}
 use Rattle.yq_expr.proofs.updates.OneAt.{roots_after, roots_join, change_after}
 use Rattle.std.proofs.lemmas.Bool.{false≢true, eqb-true}

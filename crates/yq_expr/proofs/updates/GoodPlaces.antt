@@ -2,13 +2,13 @@
 use Rattle.std.proofs.Common.{◌≡◌, List, [], ◌∷◌, ◌++◌, sym, subst}
 use Rattle.yq_scalar.specs.Tree.{Node}
 use Rattle.yq_scalar.specs.Paths as paths
-use Rattle.yq_expr.specs.Judgement.{Judgement, gives, and_then}
-use Rattle.yq_expr.specs.Places.{Place, for_each}
+use Rattle.yq_meaning.specs.Judgement.{Judgement, gives, and_then}
+use Rattle.yq_meaning.specs.Places.{Place, for_each}
 use Rattle.yq_expr.specs.PlacesApart.{IsBeforeAll, AreApart, IsIn}
 use Rattle.yq_scalar.specs.PathOrder.{Before}
 use Rattle.yq_scalar.specs.Shapes.{IsTree}
 use Rattle.yq_expr.proofs.JudgementLaws.{then_gives, gives_same}
-use Rattle.yq_expr.proofs.updates.PathLaws.{before_right, before_left}
+use Rattle.yq_meaning.proofs.PathLaws.{before_right, before_left}
 
 -- a place is at another one, or lies in it
 abbrev pub LiesIn : List paths.Step → Place → Type 0

@@ -4,14 +4,14 @@ use Rattle.yq_scalar.specs.Tree as tree
 use Rattle.yq_scalar.specs.Tree.{Label, Node, alias, scalar, list, Children, none, child}
 use Rattle.yq_scalar.specs.Paths.{Step, To, is_here, further, change_child, relabel_child, remove_child, within, change}
 use Rattle.yq_program.specs.declared.program.CommentPlace.TheVariants as comments
-use Rattle.yq_expr.specs.After.{root_after}
-use Rattle.yq_expr.specs.Changes.{Addition, appends, overwrites, replaces, adds, sets_comment, Changed}
-use Rattle.yq_expr.specs.Deeds.{Deed, becomes, line, head, goes, done_at, child_by, at_child, one_at}
-use Rattle.yq_expr.specs.Meaning.{add_to, add_all, head_of, line_of, deed_of}
-use Rattle.yq_expr.specs.Operations.{Operation}
+use Rattle.yq_meaning.specs.After.{root_after}
+use Rattle.yq_meaning.specs.Changes.{Addition, appends, overwrites, replaces, adds, sets_comment, Changed}
+use Rattle.yq_meaning.specs.Deeds.{Deed, becomes, line, head, goes, done_at, child_by, at_child, one_at}
+use Rattle.yq_meaning.specs.Meaning.{add_to, add_all, head_of, line_of, deed_of}
+use Rattle.yq_meaning.specs.Operations.{Operation}
 use Rattle.yq_expr.specs.Plans.{add_op, change_ops}
 use Rattle.yq_tree.specs.TreeEdits.{replaced, at_end, with_line_comment, with_head_comment, led}
-use Rattle.yq_expr.specs.Changes as changes
+use Rattle.yq_meaning.specs.Changes as changes
 
 -- ---- changes of one node
 

@@ -2,15 +2,15 @@
 use Rattle.std.proofs.Common.{◌≡◌, ◌⊎◌, ℕ, zero, suc, List, [], ◌∷◌, Some, Result, Ok, Err, IfOk, refl, ap, subst, inl, inr}
 use Rattle.std.specs.List.{slice_get}
 use Rattle.yq_tree.specs.Documents.{Document}
-use Rattle.yq_expr.specs.declared.plan_error.PlanError.{PlanError}
-use Rattle.yq_expr.specs.declared.plan_error.PlanError.TheVariants as error
-use Rattle.yq_expr.specs.declared.refusal.Refusal.{Refusal}
-use Rattle.yq_expr.specs.After.{all_after}
-use Rattle.yq_expr.specs.Changes.{Room}
-use Rattle.yq_expr.specs.Fits.{AllFit}
-use Rattle.yq_expr.specs.Judgement.{gives, refuses, Plans}
-use Rattle.yq_expr.specs.Meaning.{AreReady, meaning}
-use Rattle.yq_expr.specs.Operations.{Operation}
+use Rattle.yq_meaning.specs.declared.plan_error.PlanError.{PlanError}
+use Rattle.yq_meaning.specs.declared.plan_error.PlanError.TheVariants as error
+use Rattle.yq_meaning.specs.declared.refusal.Refusal.{Refusal}
+use Rattle.yq_meaning.specs.After.{all_after}
+use Rattle.yq_meaning.specs.Changes.{Room}
+use Rattle.yq_meaning.specs.Fits.{AllFit}
+use Rattle.yq_meaning.specs.Judgement.{gives, refuses, Plans}
+use Rattle.yq_meaning.specs.Meaning.{AreReady, meaning}
+use Rattle.yq_meaning.specs.Operations.{Operation}
 use Rattle.yq_expr.specs.Plans.{plan}
 use Rattle.yq_program.specs.Program.{update_at, Update, assign, delete, comment, Program, read, updates, UpdatesHold, LiteralsHold}
 use Rattle.yq_expr.proofs.updates.PlanFits.{plan_fits}

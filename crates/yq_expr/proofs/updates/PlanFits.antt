@@ -3,17 +3,17 @@ use Rattle.std.proofs.Common.{◌≡◌, ℕ, suc, Bool, true, false, cond, List
 use Rattle.std.specs.List.{slice_get}
 use Rattle.yq_scalar.specs.Tree.{Node}
 use Rattle.yq_tree.specs.Documents.{Document}
-use Rattle.yq_expr.specs.declared.refusal.Refusal.TheVariants.{BadCommentText}
-use Rattle.yq_expr.specs.Judgement.{gives, refuses, and_then}
-use Rattle.yq_expr.specs.After.{root_after, done_to, after_op, all_after}
-use Rattle.yq_expr.specs.Changes.{replaces, adds, sets_comment, Changed, Room, made, changes_in, has_comment, changes_from, changes_of}
-use Rattle.yq_expr.specs.Fits.{FitsRoot, AllFit}
-use Rattle.yq_expr.specs.Meaning.{changed_at_once, roots_of, AreReady}
-use Rattle.yq_expr.specs.Operations.{Operation}
+use Rattle.yq_meaning.specs.declared.refusal.Refusal.TheVariants.{BadCommentText}
+use Rattle.yq_meaning.specs.Judgement.{gives, refuses, and_then}
+use Rattle.yq_meaning.specs.After.{root_after, done_to, after_op, all_after}
+use Rattle.yq_meaning.specs.Changes.{replaces, adds, sets_comment, Changed, Room, made, changes_in, has_comment, changes_from, changes_of}
+use Rattle.yq_meaning.specs.Fits.{FitsRoot, AllFit}
+use Rattle.yq_meaning.specs.Meaning.{changed_at_once, roots_of, AreReady}
+use Rattle.yq_meaning.specs.Operations.{Operation}
 use Rattle.yq_expr.specs.Plans.{change_ops, ops_of, is_removal, ordered, all_ops, plan}
 use Rattle.yq_scalar.specs.PathOrder.{Before}
 use Rattle.yq_program.specs.Program.{UpdatesHold, Update}
-use Rattle.yq_expr.specs.Changes as changes
+use Rattle.yq_meaning.specs.Changes as changes
 use Rattle.yq_expr.proofs.updates.FitsAtTurn.{AllFitRoot, all_fit}
 use Rattle.yq_expr.proofs.updates.Folds.{InPairs, IsGone, AreGone, MayFold, reverse-cons}
 use Rattle.yq_expr.proofs.updates.RootLeads.{document_after, document_folds, AllLeave, op_any_lead, PutsOrLeaves, puts_or_leaves}

@@ -3,17 +3,17 @@ use Rattle.std.proofs.Common.{◌≡◌, ℕ, suc, Bool, true, false, cond, List
 use Rattle.yq_scalar.specs.Paths as paths
 use Rattle.yq_tree.specs.Documents.{Document}
 use Rattle.yq_program.specs.declared.program.CommentPlace.TheVariants as comments
-use Rattle.yq_expr.specs.declared.refusal.Refusal.{Refusal}
-use Rattle.yq_expr.specs.declared.refusal.Refusal.TheVariants.{BadCommentText}
-use Rattle.yq_expr.specs.Judgement.{Judgement, gives, refuses, and_then}
-use Rattle.yq_expr.specs.After.{document_of, done_to, after_op, all_after}
-use Rattle.yq_expr.specs.Changes.{Addition, appends, overwrites, replaces, adds, sets_comment, Changed, Room, has_comment, changes_in, changes_from, changes_of}
-use Rattle.yq_expr.specs.Meaning.{changed_at_once, all_changed, roots_of, meaning, AreReady}
-use Rattle.yq_expr.specs.Operations.{Operation}
+use Rattle.yq_meaning.specs.declared.refusal.Refusal.{Refusal}
+use Rattle.yq_meaning.specs.declared.refusal.Refusal.TheVariants.{BadCommentText}
+use Rattle.yq_meaning.specs.Judgement.{Judgement, gives, refuses, and_then}
+use Rattle.yq_meaning.specs.After.{document_of, done_to, after_op, all_after}
+use Rattle.yq_meaning.specs.Changes.{Addition, appends, overwrites, replaces, adds, sets_comment, Changed, Room, has_comment, changes_in, changes_from, changes_of}
+use Rattle.yq_meaning.specs.Meaning.{changed_at_once, all_changed, roots_of, meaning, AreReady}
+use Rattle.yq_meaning.specs.Operations.{Operation}
 use Rattle.yq_expr.specs.Plans.{add_op, change_ops, ops_of, is_removal, ordered, all_ops, plan}
 use Rattle.yq_tree.specs.TreeEdits.{change_nth}
 use Rattle.yq_program.specs.Program.{Update}
-use Rattle.yq_expr.specs.Changes as changes
+use Rattle.yq_meaning.specs.Changes as changes
 use Rattle.yq_expr.proofs.updates.RootLeads.{document_after, document_folds}
 use Rattle.yq_expr.proofs.JudgementLaws.{then_gives, gives_same}
 use Rattle.yq_expr.proofs.updates.Planned.{AreOrdered, update_ordered, removal_first}

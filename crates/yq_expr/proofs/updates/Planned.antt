@@ -6,17 +6,17 @@ use Rattle.yq_scalar.specs.Tree.{Node, alias, scalar, list, Children, none, chil
 use Rattle.yq_scalar.specs.Paths as paths
 use Rattle.yq_program.specs.declared.program.CommentPlace.{CommentPlace}
 use Rattle.yq_program.specs.declared.program.Operator.TheVariants as operator
-use Rattle.yq_expr.specs.declared.refusal.Refusal.TheVariants.{IndexOutOfRange, NoPlaceForComment, AnchorInUse, TooDeep, KeyTooLong}
-use Rattle.yq_expr.specs.Judgement.{Judgement, gives, refuses, and_then}
+use Rattle.yq_meaning.specs.declared.refusal.Refusal.TheVariants.{IndexOutOfRange, NoPlaceForComment, AnchorInUse, TooDeep, KeyTooLong}
+use Rattle.yq_meaning.specs.Judgement.{Judgement, gives, refuses, and_then}
 use Rattle.yq_program.specs.Program.{is_index, Step, Term, Update, assign, delete, comment}
-use Rattle.yq_expr.specs.Changes.{Change, replaces, sets_comment, Changed, Room, made, put_below, put_at, added_entries, added, add_below, add_at, remove_below, remove_at, is_there, comment_at, is_too_long, is_too_deep}
-use Rattle.yq_expr.specs.Changes.{takes_used, allowed, all_allowed, at_each, with_value, changes_at, left_of, changes_in}
-use Rattle.yq_expr.specs.Deeds.{step_to}
-use Rattle.yq_expr.specs.Pipes.{places}
-use Rattle.yq_expr.specs.Places.{Place, root_place, for_each}
+use Rattle.yq_meaning.specs.Changes.{Change, replaces, sets_comment, Changed, Room, made, put_below, put_at, added_entries, added, add_below, add_at, remove_below, remove_at, is_there, comment_at, is_too_long, is_too_deep}
+use Rattle.yq_meaning.specs.Changes.{takes_used, allowed, all_allowed, at_each, with_value, changes_at, left_of, changes_in}
+use Rattle.yq_meaning.specs.Deeds.{step_to}
+use Rattle.yq_meaning.specs.Pipes.{places}
+use Rattle.yq_meaning.specs.Places.{Place, root_place, for_each}
 use Rattle.yq_expr.specs.PlacesApart.{IsBeforeAll, AreApart}
 use Rattle.yq_expr.specs.Plans.{is_removal}
-use Rattle.yq_expr.specs.RightValues.{is_null, sum, right_value}
+use Rattle.yq_meaning.specs.RightValues.{is_null, sum, right_value}
 use Rattle.yq_scalar.specs.PathOrder.{Before}
 use Rattle.yq_scalar.specs.Shapes.{IsTree}
 use Rattle.yq_expr.proofs.updates.Folds.{ToEach, InPairs, AllAre, IsGone, IsWritten, IsSaid, IsOf, MayFold, of_may_fold}

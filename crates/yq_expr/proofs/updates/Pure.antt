@@ -4,9 +4,9 @@ use Rattle.yq_scalar.specs.Shapes.{IsNew, AreItems, AreEntries, IsTree, AreTrees
 use Rattle.yq_scalar.specs.Tree as tree
 use Rattle.yq_scalar.specs.Tree.{Label, Node, alias, scalar, list, Children, none, child}
 use Rattle.yq_inline.specs.Values.{item, entry, items, entries}
-use Rattle.yq_expr.specs.Copies.{key_or_empty, and_others, keyed, copy, item_copies, entry_copies}
+use Rattle.yq_meaning.specs.Copies.{key_or_empty, and_others, keyed, copy, item_copies, entry_copies}
 use Rattle.yq_expr.proofs.updates.Mentions.{AnyMentions, IsPure}
-use Rattle.yq_expr.specs.Judgement.{gives}
+use Rattle.yq_meaning.specs.Judgement.{gives}
 use Rattle.yq_expr.proofs.JudgementLaws.{then_gives, gives_same}
 
 abbrev pub HaveNoAlias : Children → Type 0

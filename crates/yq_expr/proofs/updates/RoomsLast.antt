@@ -5,17 +5,17 @@ use Rattle.yq_scalar.specs.Paths.{Step, child_at, node_at}
 use Rattle.yq_scalar.specs.Tree.{Node, Children, none, child, children_of}
 use Rattle.yq_tree.specs.Documents.{Document}
 use Rattle.yq_program.specs.declared.program.CommentPlace.TheVariants as comments
-use Rattle.yq_expr.specs.declared.refusal.Refusal.TheVariants.{BadCommentText}
-use Rattle.yq_expr.specs.After.{document_of, after_op}
-use Rattle.yq_expr.specs.Changes as changes
-use Rattle.yq_expr.specs.Changes.{Addition, appends, overwrites, replaces, adds, sets_comment, Changed, Room, changes_in, has_comment, changes_from, changes_of}
-use Rattle.yq_expr.specs.Fits.{IsBelow, AllFit}
-use Rattle.yq_expr.specs.Judgement.{gives, refuses, and_then}
-use Rattle.yq_expr.specs.Meaning.{roots_of, AreReady}
-use Rattle.yq_expr.specs.Operations.{Operation, replace, append, remove, line_comment, head_comment}
+use Rattle.yq_meaning.specs.declared.refusal.Refusal.TheVariants.{BadCommentText}
+use Rattle.yq_meaning.specs.After.{document_of, after_op}
+use Rattle.yq_meaning.specs.Changes as changes
+use Rattle.yq_meaning.specs.Changes.{Addition, appends, overwrites, replaces, adds, sets_comment, Changed, Room, changes_in, has_comment, changes_from, changes_of}
+use Rattle.yq_meaning.specs.Fits.{IsBelow, AllFit}
+use Rattle.yq_meaning.specs.Judgement.{gives, refuses, and_then}
+use Rattle.yq_meaning.specs.Meaning.{roots_of, AreReady}
+use Rattle.yq_meaning.specs.Operations.{Operation, replace, append, remove, line_comment, head_comment}
 use Rattle.yq_expr.specs.Plans.{add_op, ops_of, is_removal, ordered, all_ops, plan}
 use Rattle.yq_program.specs.Program.{UpdatesHold, Update, assign, delete, comment}
-use Rattle.yq_expr.specs.RoomsKept.{HasSome, KeepsBlock, KeepsBlockIn, NoneIn, BlockLasts, SetComments, SetNoComment, RoomsLast, MayFollow}
+use Rattle.yq_meaning.specs.RoomsKept.{HasSome, KeepsBlock, KeepsBlockIn, NoneIn, BlockLasts, SetComments, SetNoComment, RoomsLast, MayFollow}
 use Rattle.yq_expr.proofs.JudgementLaws.{then_gives, gives_same}
 use Rattle.yq_expr.proofs.updates.Folds.{InPairs, AllAre, AreGone, IsWritten, IsSaid, IsOf, MayFold, of_may_fold}
 use Rattle.yq_expr.proofs.updates.Planned.{update_kind}

@@ -5,16 +5,16 @@ use Rattle.yq_scalar.specs.Tree.{Label, Node, alias, scalar, list, Children, non
 use Rattle.yq_scalar.specs.Paths.{Step, To, is_here, further, change_child, relabel_child, append_child, within, change}
 use Rattle.yq_tree.specs.Documents.{Document}
 use Rattle.yq_program.specs.declared.program.CommentPlace.TheVariants as comments
-use Rattle.yq_expr.specs.After.{root_after, done_to}
-use Rattle.yq_expr.specs.Changes.{Addition, appends, overwrites, replaces, adds, sets_comment, Changed}
-use Rattle.yq_expr.specs.Deeds.{Deed, Deeds, same_path, step_to, done_at, child_by, under, inside, each_at_once, at_once}
-use Rattle.yq_expr.specs.Meaning.{head_of, line_of, deed_of, changed_at_once, IsLed}
-use Rattle.yq_expr.specs.Operations.{Operation, replace, append, remove, line_comment, head_comment}
+use Rattle.yq_meaning.specs.After.{root_after, done_to}
+use Rattle.yq_meaning.specs.Changes.{Addition, appends, overwrites, replaces, adds, sets_comment, Changed}
+use Rattle.yq_meaning.specs.Deeds.{Deed, Deeds, same_path, step_to, done_at, child_by, under, inside, each_at_once, at_once}
+use Rattle.yq_meaning.specs.Meaning.{head_of, line_of, deed_of, changed_at_once, IsLed}
+use Rattle.yq_meaning.specs.Operations.{Operation, replace, append, remove, line_comment, head_comment}
 use Rattle.yq_expr.specs.Plans.{add_op, change_ops, ops_of, ordered}
 use Rattle.yq_scalar.specs.PathOrder.{Before}
 use Rattle.yq_scalar.specs.Shapes.{IsTree}
 use Rattle.yq_tree.specs.TreeEdits.{replaced, at_end, with_line_comment, with_head_comment, led, lead_by, with_tree, new_label}
-use Rattle.yq_expr.specs.Changes as changes
+use Rattle.yq_meaning.specs.Changes as changes
 use Rattle.yq_expr.proofs.updates.AtOnce.{one_more}
 use Rattle.yq_expr.proofs.updates.Spares.{idle, spares_root}
 use Rattle.yq_expr.proofs.updates.Folds.{ToEach, InPairs, IsKept, AreKept, IsGone, MayFold, AreSpared, deeds_of, reverse-cons, path_same, AreGone, ops_join, folds, spared_in_order}

@@ -2,9 +2,9 @@
 use Rattle.std.proofs.Common.{◌≡◌, ℕ, suc, ◌<◌, List, [], ◌∷◌, Option, Some, None, refl, ap, ◌∙◌, inl, inr}
 use Rattle.yq_scalar.specs.Tree.{Label, Node, alias, scalar, list, Children, none, child, map}
 use Rattle.yq_scalar.specs.Paths.{Nth, Step}
-use Rattle.yq_expr.specs.Deeds.{step_to, Deed, becomes, line, head, goes, Deeds, under, done_at, child_by, inside, each_at_once, at_once}
+use Rattle.yq_meaning.specs.Deeds.{step_to, Deed, becomes, line, head, goes, Deeds, under, done_at, child_by, inside, each_at_once, at_once}
 use Rattle.yq_scalar.specs.PathOrder.{Before, Apart}
-use Rattle.yq_expr.proofs.updates.PathLaws.{before_not_in, before_under, apart_under, apart_root, apart_not_in}
+use Rattle.yq_meaning.proofs.PathLaws.{before_not_in, before_under, apart_under, apart_root, apart_not_in}
 
 -- two functions that agree at each path
 pub deeds_same : (f g : Deeds) → ((q : List Step) → f q ≡ g q) → f ≡ g

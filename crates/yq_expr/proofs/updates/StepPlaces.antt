@@ -7,16 +7,16 @@ use Rattle.yq_scalar.specs.Tree as tree
 use Rattle.yq_scalar.specs.Tree.{Node, alias, scalar, list, child, children_of}
 use Rattle.yq_scalar.specs.Paths as paths
 use Rattle.yq_scalar.specs.Paths.{To, Nth, child_at}
-use Rattle.yq_expr.specs.declared.refusal.Refusal.{Refusal}
-use Rattle.yq_expr.specs.declared.refusal.Refusal.TheVariants.{NotAMap, NotASequence}
-use Rattle.yq_expr.specs.Judgement.{Judgement, gives, and_then}
-use Rattle.yq_expr.specs.Matching.{Found, find, in_scalar, key_step, item_number, index_step}
+use Rattle.yq_meaning.specs.declared.refusal.Refusal.{Refusal}
+use Rattle.yq_meaning.specs.declared.refusal.Refusal.TheVariants.{NotAMap, NotASequence}
+use Rattle.yq_meaning.specs.Judgement.{Judgement, gives, and_then}
+use Rattle.yq_meaning.specs.Matching.{Found, find, in_scalar, key_step, item_number, index_step}
 use Rattle.yq_program.specs.Program.{Step, key, index, each}
-use Rattle.yq_expr.specs.Places.{Place, child_place, found_place, all_steps, step_there, step_from, step_on}
+use Rattle.yq_meaning.specs.Places.{Place, child_place, found_place, all_steps, step_there, step_from, step_on}
 use Rattle.yq_expr.specs.PlacesApart.{IsIn}
 use Rattle.yq_scalar.specs.Shapes.{IsTree}
 use Rattle.yq_expr.proofs.JudgementLaws.{then_gives, gives_same}
-use Rattle.yq_expr.proofs.updates.PathLaws.{none_some, some_same}
+use Rattle.yq_meaning.proofs.PathLaws.{none_some, some_same}
 use Rattle.yq_expr.proofs.updates.GoodPlaces.{Leads, LeadsSo}
 use Rattle.yq_expr.proofs.updates.ChildPlaces.{leads_none, leads_missing, leads_child, leads_children}
 

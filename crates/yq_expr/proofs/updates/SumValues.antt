@@ -10,21 +10,21 @@ use Rattle.yq_scalar.specs.SchemaReading.{int_value}
 use Rattle.yq_scalar.specs.Tree as tree
 use Rattle.yq_scalar.specs.Tree.{Label, Node, alias, scalar, list, Children, none, child}
 use Rattle.yq_scalar.specs.Paths.{To, key_is, child_at, change_child, append_child}
-use Rattle.yq_expr.specs.declared.refusal.Refusal.TheVariants.{IntegerRange}
-use Rattle.yq_expr.specs.Judgement.{gives, refuses, and_then}
+use Rattle.yq_meaning.specs.declared.refusal.Refusal.TheVariants.{IntegerRange}
+use Rattle.yq_meaning.specs.Judgement.{gives, refuses, and_then}
 use Rattle.yq_program.specs.Program.{SumHolds, Step, Term, literal, found}
-use Rattle.yq_expr.specs.Conditions.{node_there, value_of}
-use Rattle.yq_expr.specs.Copies.{copy_at}
+use Rattle.yq_meaning.specs.Conditions.{node_there, value_of}
+use Rattle.yq_meaning.specs.Copies.{copy_at}
 use Rattle.yq_expr.proofs.updates.Mentions.{literal_pure, IsPure}
-use Rattle.yq_expr.specs.Pipes.{pipe_on}
-use Rattle.yq_expr.specs.Places.{Place}
+use Rattle.yq_meaning.specs.Pipes.{pipe_on}
+use Rattle.yq_meaning.specs.Places.{Place}
 use Rattle.yq_expr.specs.PlacesApart.{IsIn}
-use Rattle.yq_expr.specs.RightValues.{is_null, int_sum, scalar_sum, followed, as_items, with_entry, with_entries, value_sum, sum, only_copy, term_value, sum_from, right_value}
+use Rattle.yq_meaning.specs.RightValues.{is_null, int_sum, scalar_sum, followed, as_items, with_entry, with_entries, value_sum, sum, only_copy, term_value, sum_from, right_value}
 use Rattle.yq_scalar.specs.Shapes.{IsNew, AreItems, AreEntries, IsTree}
 use Rattle.yq_tree.specs.TreeEdits.{new_label}
 use Rattle.yq_expr.proofs.JudgementLaws.{then_gives, gives_same}
 use Rattle.yq_expr.proofs.updates.GoodPlaces.{AreSound}
-use Rattle.yq_expr.proofs.updates.PathLaws.{bytes_refl}
+use Rattle.yq_meaning.proofs.PathLaws.{bytes_refl}
 use Rattle.yq_expr.proofs.updates.PipePlaces.{pipe_good}
 use Rattle.yq_expr.proofs.updates.Pure.{AreFree, free_child, copy_pure}
 

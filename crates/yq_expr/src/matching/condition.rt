@@ -2,18 +2,17 @@
 ghost use Rattle.std.specs.Prelude.{◌≡◌, map};
 ghost use Rattle.yq_scalar.specs.SchemaReading as numbers;
 ghost use Rattle.yq_tree.specs.Nodes.{node_of};
-ghost use Rattle.yq_expr.specs.Conditions as spec;
-ghost use Rattle.yq_expr.specs.Judgement.{Matches};
+ghost use Rattle.yq_meaning.specs.Conditions as spec;
+ghost use Rattle.yq_meaning.specs.Judgement.{Matches};
 ghost use Rattle.yq_expr.specs.PlaceView.{place_of, places_of};
 ghost use Rattle.yq_program.specs.Program.{value_at};
 ghost use Rattle.yq_program.specs.View.{condition_of, operand_of, step_of};
 
-use crate::match_error::MatchError;
 use crate::matching::place::Place;
 use crate::matching::walk::walk;
-use crate::refusal::Refusal;
 use bumpalo::Bump;
 use std::alloc::Global;
+use yq_meaning::{MatchError, Refusal};
 use yq_program::{Condition, Operand, Step};
 use yq_scalar::{Kind, Scalar, int_value};
 use yq_tree::{Node, NodeKind};

@@ -4,14 +4,13 @@ ghost use Rattle.yq_inline.specs.Values.{field_of, node_of as value_node};
 ghost use Rattle.yq_scalar.specs.Scalar.{IsScalar};
 ghost use Rattle.yq_scalar.specs.Tree.{children_of};
 ghost use Rattle.yq_tree.specs.Nodes.{label_of, node_of};
-ghost use Rattle.yq_expr.specs.Copies as spec;
-ghost use Rattle.yq_expr.specs.Judgement.{Matches};
+ghost use Rattle.yq_meaning.specs.Copies as spec;
+ghost use Rattle.yq_meaning.specs.Judgement.{Matches};
 ghost use Rattle.yq_expr.specs.TreeScalars.{EachHasScalars, HasScalars};
 
-use crate::match_error::MatchError;
-use crate::refusal::Refusal;
 use std::alloc::{AllocError, Global};
 use yq_inline::Value;
+use yq_meaning::{MatchError, Refusal};
 use yq_scalar::{Kind, Scalar};
 use yq_tree::{Node, NodeKind};
 

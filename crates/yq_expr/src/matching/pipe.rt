@@ -1,18 +1,18 @@
 //! Where a pipe leads: each stage acts on all places before the next one does.
 ghost use Rattle.std.specs.Prelude.{◌≡◌, map};
 ghost use Rattle.yq_tree.specs.Nodes.{node_of};
-ghost use Rattle.yq_expr.specs.Judgement.{Matches};
-ghost use Rattle.yq_expr.specs.Pipes as spec;
+ghost use Rattle.yq_meaning.specs.Judgement.{Matches};
+ghost use Rattle.yq_meaning.specs.Pipes as spec;
 ghost use Rattle.yq_expr.specs.PlaceView.{place_of, places_of, put_behind};
-ghost use Rattle.yq_expr.specs.Places.{for_each};
+ghost use Rattle.yq_meaning.specs.Places.{for_each};
 ghost use Rattle.yq_program.specs.View.{condition_of, stage_of};
 
-use crate::match_error::MatchError;
 use crate::matching::condition::holds;
 use crate::matching::place::Place;
 use crate::matching::walk::walk;
 use bumpalo::Bump;
 use std::alloc::Global;
+use yq_meaning::MatchError;
 use yq_program::{Condition, Stage};
 use yq_tree::Node;
 

@@ -2,9 +2,9 @@
 //! place takes one link, however deep it lies.
 ghost use Rattle.std.specs.Prelude.{◌≡◌, ◌++◌, ◌∷◌, [], IfOk};
 ghost use Rattle.yq_tree.specs.Nodes.{node_of};
-ghost use Rattle.yq_expr.specs.Conditions as conditions;
+ghost use Rattle.yq_meaning.specs.Conditions as conditions;
 ghost use Rattle.yq_expr.specs.PlaceView.{missing_of, node_step_of, path_of, node_or_null, place_of};
-ghost use Rattle.yq_expr.specs.Places as spec;
+ghost use Rattle.yq_meaning.specs.Places as spec;
 ghost use Rattle.yq_program.specs.View.{step_of};
 
 use bumpalo::Bump;

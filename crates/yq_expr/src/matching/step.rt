@@ -3,13 +3,12 @@ ghost use Rattle.std.specs.Prelude.{◌≡◌, option_map, Some};
 ghost use Rattle.yq_scalar.specs.Paths.{To, Nth};
 ghost use Rattle.yq_scalar.specs.Tree.{children_of};
 ghost use Rattle.yq_tree.specs.Nodes.{node_of};
-ghost use Rattle.yq_expr.specs.Judgement.{Matches};
-ghost use Rattle.yq_expr.specs.Matching as spec;
+ghost use Rattle.yq_meaning.specs.Judgement.{Matches};
+ghost use Rattle.yq_meaning.specs.Matching as spec;
 ghost use Rattle.yq_expr.specs.PlaceView.{found_of};
 
-use crate::match_error::MatchError;
 use crate::matching::place::NodeStep;
-use crate::refusal::Refusal;
+use yq_meaning::{MatchError, Refusal};
 use yq_scalar::Kind;
 use yq_tree::{Node, NodeKind};
 

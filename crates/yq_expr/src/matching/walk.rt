@@ -3,18 +3,17 @@
 ghost use Rattle.std.specs.Prelude.{◌≡◌, ◌++◌, map, IfOk, OnOk};
 ghost use Rattle.yq_scalar.specs.Tree.{children_of};
 ghost use Rattle.yq_tree.specs.Nodes.{label_of, node_of};
-ghost use Rattle.yq_expr.specs.Judgement.{Matches};
+ghost use Rattle.yq_meaning.specs.Judgement.{Matches};
 ghost use Rattle.yq_expr.specs.PlaceView.{found_of, node_step_of, place_of, places_of, put_behind};
-ghost use Rattle.yq_expr.specs.Places as spec;
+ghost use Rattle.yq_meaning.specs.Places as spec;
 ghost use Rattle.yq_program.specs.Program.{each};
 ghost use Rattle.yq_program.specs.View.{step_of};
 
-use crate::match_error::MatchError;
 use crate::matching::place::{Missing, NodePath, NodeStep, Place};
 use crate::matching::step::{index_step, key_step};
-use crate::refusal::Refusal;
 use bumpalo::Bump;
 use std::alloc::{AllocError, Global};
+use yq_meaning::{MatchError, Refusal};
 use yq_program::Step;
 use yq_scalar::Kind;
 use yq_tree::{Node, NodeKind};

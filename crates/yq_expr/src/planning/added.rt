@@ -3,20 +3,19 @@ ghost use Rattle.std.specs.Prelude.{◌≡◌, IfOk, None, Some, map, false};
 ghost use Rattle.yq_inline.specs.Values.{entries_of, node_of as value_node, items_of};
 ghost use Rattle.yq_scalar.specs.Tree.{Children, children_of, none, scalar};
 ghost use Rattle.yq_tree.specs.Nodes.{node_of};
-ghost use Rattle.yq_expr.specs.Changes as spec;
+ghost use Rattle.yq_meaning.specs.Changes as spec;
 ghost use Rattle.yq_expr.specs.ChangeView.{addition_of, change_of};
 ghost use Rattle.yq_expr.specs.Indexes.{IsIndex};
-ghost use Rattle.yq_expr.specs.Judgement.{Matches};
-ghost use Rattle.yq_expr.specs.RightValues as values;
+ghost use Rattle.yq_meaning.specs.Judgement.{Matches};
+ghost use Rattle.yq_meaning.specs.RightValues as values;
 
-use crate::match_error::MatchError;
 use crate::planning::change::{Addition, Change};
 use crate::planning::copied::copied;
 use crate::planning::entry_index::{EntryIndex, find, index_of};
 use crate::planning::sum::scalar_sum;
-use crate::refusal::Refusal;
 use std::alloc::{AllocError, Global};
 use yq_inline::Value;
+use yq_meaning::{MatchError, Refusal};
 use yq_scalar::Kind;
 use yq_tree::{Node, NodeKind};
 

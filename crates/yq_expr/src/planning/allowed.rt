@@ -5,19 +5,18 @@ ghost use Rattle.yq_scalar.specs.Paths.{Step as TreeStep, node_at};
 ghost use Rattle.yq_scalar.specs.Tree.{Children, Node as TreeNode, children_of};
 ghost use Rattle.yq_tree.specs.Anchors.{Name, names_of};
 ghost use Rattle.yq_tree.specs.Nodes.{node_of};
-ghost use Rattle.yq_expr.specs.Changes as spec;
+ghost use Rattle.yq_meaning.specs.Changes as spec;
 ghost use Rattle.yq_expr.specs.ChangeView.{addition_of, change_of};
 ghost use Rattle.yq_expr.specs.Indexes.{HasAliases, IsIndex};
-ghost use Rattle.yq_expr.specs.Judgement.{Matches};
+ghost use Rattle.yq_meaning.specs.Judgement.{Matches};
 ghost use Rattle.yq_expr.specs.TakenNames.{takes_at, overwrites_at};
 
-use crate::match_error::MatchError;
 use crate::planning::anchors::{Aliases, is_used_in, is_used_inside};
 use crate::planning::change::{Addition, Change};
 use crate::planning::change_limits::{is_too_deep, is_too_long};
 use crate::planning::entry_index::{EntryIndex, find, index_of};
-use crate::refusal::Refusal;
 use std::alloc::{AllocError, Global};
+use yq_meaning::{MatchError, Refusal};
 use yq_tree::Node;
 
 /// Whether what is overwritten by an addition to a mapping holds an anchor that

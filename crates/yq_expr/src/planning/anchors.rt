@@ -4,7 +4,7 @@ ghost use Rattle.std.specs.Prelude.{◌≡◌, ◌||◌, IfOk, List, OnOk, is_so
 ghost use Rattle.yq_scalar.specs.Tree.{children_of};
 ghost use Rattle.yq_tree.specs.Anchors.{Name, names_in, names_of};
 ghost use Rattle.yq_tree.specs.Nodes.{anchor_of, node_of};
-ghost use Rattle.yq_expr.specs.Changes as spec;
+ghost use Rattle.yq_meaning.specs.Changes as spec;
 ghost use Rattle.yq_expr.specs.Indexes.{HasAliases, text_at};
 ghost use Rattle.yq_expr.specs.TakenNames.{is_used_anchor};
 

@@ -2,7 +2,7 @@
 ghost use Rattle.std.specs.List.{list_any};
 ghost use Rattle.std.specs.Prelude.{◌≡◌, ◌||◌, IfOk, Some, suc};
 ghost use Rattle.yq_inline.specs.Values.{node_of};
-ghost use Rattle.yq_expr.specs.Changes as spec;
+ghost use Rattle.yq_meaning.specs.Changes as spec;
 ghost use Rattle.yq_expr.specs.ChangeView.{addition_of, change_of};
 
 use crate::planning::change::{Addition, Change};

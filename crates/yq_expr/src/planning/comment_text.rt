@@ -1,7 +1,7 @@
 //! Texts that comments can have.
 ghost use Rattle.std.specs.Prelude.{◌≡◌, ◌&&◌, ◌==◌, not};
 ghost use Rattle.yq_scalar.specs.Characters.{is_text_char};
-ghost use Rattle.yq_expr.specs.Changes as spec;
+ghost use Rattle.yq_meaning.specs.Changes as spec;
 ghost use Rattle.yq_program.specs.View.{update_of};
 
 use yq_program::{CommentPlace, Update};

@@ -1,14 +1,13 @@
 //! What an update does at one place.
 ghost use Rattle.std.specs.Prelude.{◌≡◌, IfOk, map};
 ghost use Rattle.yq_expr.specs.EffectView.{effect_at, placed};
-ghost use Rattle.yq_expr.specs.Judgement.{Matches};
+ghost use Rattle.yq_meaning.specs.Judgement.{Matches};
 ghost use Rattle.yq_expr.specs.PlaceView.{place_of};
-ghost use Rattle.yq_expr.specs.Changes as spec;
-ghost use Rattle.yq_expr.specs.Rooms.{comment_part, room_of};
+ghost use Rattle.yq_meaning.specs.Changes as spec;
+ghost use Rattle.yq_meaning.specs.Rooms.{comment_part, room_of};
 ghost use Rattle.yq_expr.specs.TreeScalars.{HasScalars};
 ghost use Rattle.yq_inline.specs.Values.{node_of};
 
-use crate::match_error::MatchError;
 use crate::matching::place::{Missing, NodePath, Place};
 use crate::planning::added::added;
 use crate::planning::change::Change;
@@ -17,9 +16,9 @@ use crate::planning::put::put;
 use crate::planning::right_value::right_value;
 use crate::planning::steps::path_steps;
 use crate::planning::sum::is_null;
-use crate::refusal::Refusal;
 use std::alloc::{AllocError, Global};
 use yq_inline::Value;
+use yq_meaning::{MatchError, Refusal};
 use yq_program::{CommentPlace, Term};
 use yq_tree::{Documents, Part, Path};
 

@@ -2,7 +2,7 @@
 ghost use Rattle.std.specs.Prelude.{◌≡◌, IfOk, nat_lt, suc};
 ghost use Rattle.yq_inline.specs.Values.{entries_of, items_of, node_of};
 ghost use Rattle.yq_scalar.specs.Keys.{deepest, depth};
-ghost use Rattle.yq_expr.specs.Changes as spec;
+ghost use Rattle.yq_meaning.specs.Changes as spec;
 
 use std::alloc::{AllocError, Global};
 use yq_inline::Value;

@@ -2,12 +2,12 @@
 ghost use Rattle.std.specs.Prelude.{◌≡◌, ◌++◌, IfOk, OnOk, map, string_bytes};
 ghost use Rattle.yq_tree.specs.Located.{steps_of};
 ghost use Rattle.yq_expr.specs.ChangeView.{addition_of, all_changed_of, changed_of};
-ghost use Rattle.yq_expr.specs.Operations.{operation_of, operations_of};
+ghost use Rattle.yq_meaning.specs.Operations.{operation_of, operations_of};
 ghost use Rattle.yq_expr.specs.Plans as spec;
 
-use crate::op::{Op, copied_steps};
 use crate::planning::change::{Addition, Change, Changed};
 use std::alloc::{AllocError, Global};
+use yq_meaning::{Op, copied_steps};
 use yq_program::CommentPlace;
 use yq_tree::{Path, Step};
 

@@ -5,21 +5,20 @@ ghost use Rattle.yq_inline.specs.Values.{node_of as value_node};
 ghost use Rattle.yq_scalar.specs.Tree as tree;
 ghost use Rattle.yq_tree.specs.Nodes.{node_of};
 ghost use Rattle.yq_tree.specs.TreeEdits.{new_label};
-ghost use Rattle.yq_expr.specs.Changes as spec;
+ghost use Rattle.yq_meaning.specs.Changes as spec;
 ghost use Rattle.yq_expr.specs.ChangeView.{change_of};
 ghost use Rattle.yq_expr.specs.EffectView.{placed_change};
-ghost use Rattle.yq_expr.specs.Judgement.{Matches};
+ghost use Rattle.yq_meaning.specs.Judgement.{Matches};
 ghost use Rattle.yq_expr.specs.PlaceView.{place_of};
 ghost use Rattle.yq_program.specs.Program.{is_index};
 ghost use Rattle.yq_program.specs.View.{step_of};
 
-use crate::match_error::MatchError;
 use crate::matching::place::Place;
 use crate::planning::change::{Addition, Change};
 use crate::planning::steps::missing_steps;
-use crate::refusal::Refusal;
 use std::alloc::{AllocError, Global};
 use yq_inline::Value;
+use yq_meaning::{MatchError, Refusal};
 use yq_program::{Step, is_index};
 use yq_tree::{Node, NodeKind};
 

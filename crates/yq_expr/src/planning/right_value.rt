@@ -1,24 +1,23 @@
 //! Right sides: sums of terms, from a place.
 ghost use Rattle.std.specs.Prelude.{◌≡◌, ◌∷◌, [], map};
 ghost use Rattle.yq_inline.specs.Values.{node_of};
-ghost use Rattle.yq_expr.specs.Judgement.{Matches, and_then};
-ghost use Rattle.yq_expr.specs.Pipes.{pipe_on};
+ghost use Rattle.yq_meaning.specs.Judgement.{Matches, and_then};
+ghost use Rattle.yq_meaning.specs.Pipes.{pipe_on};
 ghost use Rattle.yq_expr.specs.PlaceView.{place_of, places_of};
-ghost use Rattle.yq_expr.specs.Places.{in_turn};
-ghost use Rattle.yq_expr.specs.RightValues as spec;
+ghost use Rattle.yq_meaning.specs.Places.{in_turn};
+ghost use Rattle.yq_meaning.specs.RightValues as spec;
 ghost use Rattle.yq_expr.specs.TreeScalars.{HasScalars, HaveScalars};
 ghost use Rattle.yq_program.specs.View.{stage_of, term_of};
 
-use crate::match_error::MatchError;
 use crate::matching::matched::copy_at;
 use crate::matching::pipe::pipe_on;
 use crate::matching::place::Place;
 use crate::planning::copied::copied;
 use crate::planning::sum::sum;
-use crate::refusal::Refusal;
 use bumpalo::Bump;
 use std::alloc::Global;
 use yq_inline::Value;
+use yq_meaning::{MatchError, Refusal};
 use yq_program::{Stage, Term};
 use yq_scalar::Scalar;
 

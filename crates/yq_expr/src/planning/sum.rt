@@ -6,14 +6,13 @@ ghost use Rattle.yq_scalar.specs.SchemaReading as numbers;
 ghost use Rattle.yq_scalar.specs.Tree.{scalar};
 ghost use Rattle.yq_scalar.specs.declared.kind.Kind.TheVariants.{Int, Text};
 ghost use Rattle.yq_expr.specs.EntryNumbers.{AreNumbered};
-ghost use Rattle.yq_expr.specs.Judgement.{Matches};
-ghost use Rattle.yq_expr.specs.RightValues as spec;
+ghost use Rattle.yq_meaning.specs.Judgement.{Matches};
+ghost use Rattle.yq_meaning.specs.RightValues as spec;
 
-use crate::match_error::MatchError;
 use crate::planning::key_numbers::{KeyNumbers, keep_number, number_of, numbers_of};
-use crate::refusal::Refusal;
 use std::alloc::{AllocError, Global};
 use yq_inline::Value;
+use yq_meaning::{MatchError, Refusal};
 use yq_scalar::{Kind, Scalar, int_value};
 
 /// The int of a number.

@@ -3,7 +3,7 @@ use Rattle.std.proofs.lemmas.Result.{err_from_is_err_and}
 use Rattle.std.specs.Str.{is_utf8}
 use Rattle.yq_scalar.specs.Answers.{Fails}
 use Rattle.yq_tree.specs.Reading.{documents, read_at}
-use Rattle.yq_expr.specs.Judgement.{gives}
+use Rattle.yq_meaning.specs.Judgement.{gives}
 use Rattle.yq_expr.specs.MatchView.{matches_of}
 use Rattle.yq_program.specs.View.{program_of}
 use Rattle.yq.specs.Reads as spec

@@ -1,7 +1,7 @@
 use Rattle.std.proofs.Common.{ℕ, List}
 use Rattle.yq_tree.specs.Reading.{documents_of}
-use Rattle.yq_expr.specs.Operations.{operations_of}
-use Rattle.yq_expr.specs.Rooms.{room_of}
+use Rattle.yq_meaning.specs.Operations.{operations_of}
+use Rattle.yq_meaning.specs.Rooms.{room_of}
 use Rattle.yq_program.specs.View.{program_of}
 use Rattle.yq_expr.proofs.RoomLaws.{rooms_are_ready}
 use Rattle.yq_expr.proofs.updates.PlanAnswers.{answer_means, answer_fits, answer_refused, answer_refuses, literals_hold}

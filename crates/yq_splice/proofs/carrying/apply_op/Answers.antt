@@ -1,4 +1,4 @@
-use Rattle.yq_expr.specs.Operations.{operation_of}
+use Rattle.yq_meaning.specs.Operations.{operation_of}
 use Rattle.yq_splice.proofs.ApplyLaws.{op_applied, op_refused}
 use Rattle.yq_splice.proofs.carrying.apply_op.Goals as goal
 

@@ -1,6 +1,6 @@
 use Rattle.std.proofs.Common.{ap}
 use Rattle.std.proofs.lemmas.Result.{err_from_is_err_and}
-use Rattle.yq_expr.specs.Operations.{operation_of}
+use Rattle.yq_meaning.specs.Operations.{operation_of}
 use Rattle.yq_splice.specs.Carried as spec
 use Rattle.yq_splice.specs.Edit.{by_reading}
 use Rattle.yq_splice.proofs.TextFaults.{edit_not_read}

@@ -1,6 +1,6 @@
 use Rattle.std.proofs.Common.{◌≡◌, length}
 use Rattle.std.specs.String.{string_bytes}
-use Rattle.yq_expr.specs.Operations.{operations_of}
+use Rattle.yq_meaning.specs.Operations.{operations_of}
 use Rattle.yq_splice.specs.Carried.{carry_all}
 use Rattle.yq_splice.specs.Edit.{behind}
 use Rattle.yq_splice.proofs.carrying.carry_more.Given as goal

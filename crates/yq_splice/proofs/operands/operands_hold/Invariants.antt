@@ -1,5 +1,5 @@
 use Rattle.std.proofs.Common.{drop}
-use Rattle.yq_expr.specs.Operations.{operations_of}
+use Rattle.yq_meaning.specs.Operations.{operations_of}
 use Rattle.yq_splice.specs.Valid.{HaveOperands}
 use Rattle.yq_splice.proofs.operands.operands_hold.Given as goal
 

@@ -1,7 +1,7 @@
 use Rattle.std.proofs.Common.{◌≡◌, ◌++◌, string_bytes, length}
 use denote.Text.{Utf8}
 use denote.Shadow.{shadow}
-use Rattle.yq_expr.specs.Meaning.{parted}
+use Rattle.yq_meaning.specs.Meaning.{parted}
 use Rattle.yq_ways.specs.CommentWays as spec
 use Rattle.yq_ways.proofs.head_comment.head_lines.Given as goal
 

@@ -6,7 +6,7 @@ use Rattle.yq_scalar.specs.Tree.{Node}
 use Rattle.yq_tree.specs.Children.{left_of}
 use Rattle.yq_tree.specs.Counts.{count}
 use Rattle.yq_tree.specs.Nodes.{label_of, node_of}
-use Rattle.yq_expr.specs.Copies.{item_copies, entry_copies}
+use Rattle.yq_meaning.specs.Copies.{item_copies, entry_copies}
 use Rattle.yq_expr.specs.PlaceView.{put_behind}
 use Rattle.yq_expr.specs.TreeScalars.{EachHasScalars}
 use Rattle.yq_expr.proofs.CopyLaws.{items_more, entries_more, map_copied, depth_below}

@@ -5,7 +5,7 @@ use Rattle.yq_scalar.specs.Tree.{children_of}
 use Rattle.yq_tree.specs.Children.{left_of}
 use Rattle.yq_tree.specs.Counts.{count}
 use Rattle.yq_tree.specs.Nodes.{node_of}
-use Rattle.yq_expr.specs.Copies as spec
+use Rattle.yq_meaning.specs.Copies as spec
 use Rattle.yq_expr.specs.PlaceView.{put_behind}
 use Rattle.yq_expr.specs.TreeScalars.{EachHasScalars}
 use Rattle.yq_expr.proofs.matching.copy.+copy.Given as goal

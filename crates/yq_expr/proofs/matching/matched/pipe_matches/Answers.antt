@@ -3,8 +3,8 @@ use Rattle.std.proofs.lemmas.Result.{err_from_is_err_and}
 use Rattle.yq_scalar.specs.Tree.{Node}
 use Rattle.yq_tree.specs.Documents.{Document, document_parts}
 use Rattle.yq_tree.specs.Reading.{cut_of, documents_of}
-use Rattle.yq_expr.specs.Copies.{matches, matches_in}
-use Rattle.yq_expr.specs.Judgement.{Fails}
+use Rattle.yq_meaning.specs.Copies.{matches, matches_in}
+use Rattle.yq_meaning.specs.Judgement.{Fails}
 use Rattle.yq_expr.specs.MatchView.{matches_of}
 use Rattle.yq_expr.specs.PlaceView.{put_behind}
 use Rattle.yq_expr.specs.TreeScalars.{HasScalars}

@@ -1,6 +1,6 @@
 use Rattle.std.proofs.Common.{◌≡◌, drop, map}
 use Rattle.yq_tree.specs.Reading.{documents_of}
-use Rattle.yq_expr.specs.Copies.{matches_from}
+use Rattle.yq_meaning.specs.Copies.{matches_from}
 use Rattle.yq_expr.specs.MatchView.{matches_of}
 use Rattle.yq_expr.specs.PlaceView.{put_behind}
 use Rattle.yq_program.specs.View.{stage_of}

@@ -1,6 +1,6 @@
 use Rattle.std.proofs.Common.{Err, ap, ◌∙◌, subst}
 use Rattle.std.proofs.lemmas.Result.{err_from_is_err_and}
-use Rattle.yq_expr.specs.Copies.{match_at}
+use Rattle.yq_meaning.specs.Copies.{match_at}
 use Rattle.yq_expr.specs.MatchView.{matches_of}
 use Rattle.yq_expr.specs.PlaceView.{place_of}
 use Rattle.yq_expr.specs.TreeScalars.{HaveScalars}

@@ -1,8 +1,8 @@
 use Rattle.std.proofs.Common.{◌≡◌, drop}
-use Rattle.yq_expr.specs.Copies.{match_at}
+use Rattle.yq_meaning.specs.Copies.{match_at}
 use Rattle.yq_expr.specs.MatchView.{matches_of}
 use Rattle.yq_expr.specs.PlaceView.{places_of, put_behind}
-use Rattle.yq_expr.specs.Places.{for_each}
+use Rattle.yq_meaning.specs.Places.{for_each}
 use Rattle.yq_expr.specs.TreeScalars.{HaveScalars}
 use Rattle.yq_expr.proofs.matching.matched.push_copies.Given as goal
 

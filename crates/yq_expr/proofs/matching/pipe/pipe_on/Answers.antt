@@ -1,6 +1,6 @@
 use Rattle.std.proofs.Common.{Err, ap, ◌∙◌}
 use Rattle.std.proofs.lemmas.Result.{err_from_is_err_and}
-use Rattle.yq_expr.specs.Pipes as spec
+use Rattle.yq_meaning.specs.Pipes as spec
 use Rattle.yq_expr.specs.PlaceView.{places_of}
 use Rattle.yq_program.specs.View.{stage_of}
 use Rattle.yq_expr.proofs.EachLaws.{turn_more, turn_fails, failed}

@@ -1,5 +1,5 @@
 use Rattle.std.proofs.Common.{◌≡◌, drop, map}
-use Rattle.yq_expr.specs.Pipes as spec
+use Rattle.yq_meaning.specs.Pipes as spec
 use Rattle.yq_expr.specs.PlaceView.{places_of}
 use Rattle.yq_program.specs.View.{stage_of}
 use Rattle.yq_expr.proofs.matching.pipe.pipe_on.Given as goal

@@ -1,6 +1,6 @@
 use Rattle.std.proofs.Common.{Err, ap, ◌∙◌}
 use Rattle.std.proofs.lemmas.Result.{err_from_is_err_and}
-use Rattle.yq_expr.specs.Pipes.{select_on}
+use Rattle.yq_meaning.specs.Pipes.{select_on}
 use Rattle.yq_expr.specs.PlaceView.{place_of, places_of}
 use Rattle.yq_program.specs.View.{condition_of}
 use Rattle.yq_expr.proofs.EachLaws.{each_more, each_fails, failed}

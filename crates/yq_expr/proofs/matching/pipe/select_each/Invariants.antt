@@ -1,7 +1,7 @@
 use Rattle.std.proofs.Common.{◌≡◌, drop}
-use Rattle.yq_expr.specs.Pipes.{select_on}
+use Rattle.yq_meaning.specs.Pipes.{select_on}
 use Rattle.yq_expr.specs.PlaceView.{places_of, put_behind}
-use Rattle.yq_expr.specs.Places.{for_each}
+use Rattle.yq_meaning.specs.Places.{for_each}
 use Rattle.yq_program.specs.View.{condition_of}
 use Rattle.yq_expr.proofs.matching.pipe.select_each.Given as goal
 

@@ -5,7 +5,7 @@ use Rattle.yq_tree.specs.Children.{left_of}
 use Rattle.yq_tree.specs.Counts.{count}
 use Rattle.yq_tree.specs.Nodes.{label_of, node_of}
 use Rattle.yq_expr.specs.PlaceView.{place_of, places_of}
-use Rattle.yq_expr.specs.Places.{Place, child_place, stepped}
+use Rattle.yq_meaning.specs.Places.{Place, child_place, stepped}
 use Rattle.yq_expr.proofs.PlaceLaws.{children_more, none_counted}
 use Rattle.yq_expr.proofs.matching.walk.push_children.Goals as goal
 

@@ -4,7 +4,7 @@ use Rattle.yq_tree.specs.Children.{left_of}
 use Rattle.yq_tree.specs.Counts.{count}
 use Rattle.yq_tree.specs.Nodes.{node_of}
 use Rattle.yq_expr.specs.PlaceView.{path_of, place_of, places_of}
-use Rattle.yq_expr.specs.Places.{child_place, stepped}
+use Rattle.yq_meaning.specs.Places.{child_place, stepped}
 use Rattle.yq_expr.proofs.matching.walk.push_children.Given as goal
 
 abbrev pub invariant-each : goal.invariant-each

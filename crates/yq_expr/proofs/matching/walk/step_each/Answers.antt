@@ -1,7 +1,7 @@
 use Rattle.std.proofs.Common.{Err, ap, ◌∙◌}
 use Rattle.std.proofs.lemmas.Result.{err_from_is_err_and}
 use Rattle.yq_expr.specs.PlaceView.{place_of, places_of}
-use Rattle.yq_expr.specs.Places as spec
+use Rattle.yq_meaning.specs.Places as spec
 use Rattle.yq_program.specs.View.{step_of}
 use Rattle.yq_expr.proofs.EachLaws.{each_more, each_fails, failed}
 use Rattle.yq_expr.proofs.matching.walk.step_each.Goals as goal

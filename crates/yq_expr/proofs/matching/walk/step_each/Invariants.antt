@@ -1,6 +1,6 @@
 use Rattle.std.proofs.Common.{◌≡◌, drop}
 use Rattle.yq_expr.specs.PlaceView.{places_of, put_behind}
-use Rattle.yq_expr.specs.Places as spec
+use Rattle.yq_meaning.specs.Places as spec
 use Rattle.yq_program.specs.View.{step_of}
 use Rattle.yq_expr.proofs.matching.walk.step_each.Given as goal
 

@@ -1,8 +1,8 @@
 use Rattle.std.proofs.Common.{List, Err, drop, map, ap, ◌∙◌}
 use Rattle.std.proofs.lemmas.Result.{err_from_is_err_and}
-use Rattle.yq_expr.specs.Judgement.{Judgement}
+use Rattle.yq_meaning.specs.Judgement.{Judgement}
 use Rattle.yq_expr.specs.PlaceView.{places_of}
-use Rattle.yq_expr.specs.Places as spec
+use Rattle.yq_meaning.specs.Places as spec
 use Rattle.yq_program.specs.Program.{Step}
 use Rattle.yq_program.specs.View.{step_of}
 use Rattle.yq_expr.specs.declared.matching.place.Place as declared

@@ -1,7 +1,7 @@
 use Rattle.std.proofs.Common.{◌≡◌, drop, ◌++◌, map}
 use Rattle.yq_inline.specs.Values.{items_of}
 use Rattle.yq_scalar.specs.Tree.{none}
-use Rattle.yq_expr.specs.Changes.{additions}
+use Rattle.yq_meaning.specs.Changes.{additions}
 use Rattle.yq_expr.specs.ChangeView.{addition_of}
 use Rattle.yq_expr.proofs.planning.added.items.Given as goal
 

@@ -2,8 +2,8 @@ use Rattle.std.proofs.Common.{List, sym, ap, ◌∙◌}
 use Rattle.yq_inline.specs.Values.{node_of as value_node}
 use Rattle.yq_scalar.specs.Tree.{children_of}
 use Rattle.yq_tree.specs.Nodes.{node_of}
-use Rattle.yq_expr.specs.Changes.{Addition, adds, added_entries}
-use Rattle.yq_expr.specs.Judgement.{gives}
+use Rattle.yq_meaning.specs.Changes.{Addition, adds, added_entries}
+use Rattle.yq_meaning.specs.Judgement.{gives}
 use Rattle.yq_program.proofs.Keys.{node_of-map}
 use Rattle.yq_expr.proofs.planning.added.to_map.Goals as goal
 

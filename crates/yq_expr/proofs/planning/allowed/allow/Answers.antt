@@ -1,10 +1,10 @@
 use Rattle.std.proofs.Common.{sym, ap, ◌∙◌, cond}
 use Rattle.yq_tree.specs.Anchors.{names_of}
 use Rattle.yq_tree.specs.Nodes.{node_of}
-use Rattle.yq_expr.specs.Changes.{is_too_deep}
+use Rattle.yq_meaning.specs.Changes.{is_too_deep}
 use Rattle.yq_expr.specs.ChangeView.{change_of}
-use Rattle.yq_expr.specs.Judgement.{gives, refuses}
-use Rattle.yq_expr.specs.declared.refusal.Refusal.TheVariants.{AnchorInUse}
+use Rattle.yq_meaning.specs.Judgement.{gives, refuses}
+use Rattle.yq_meaning.specs.declared.refusal.Refusal.TheVariants.{AnchorInUse}
 use Rattle.yq_expr.proofs.UsedLaws.{allowed_by}
 use Rattle.yq_expr.proofs.planning.allowed.allow.Goals as goal
 

@@ -6,7 +6,7 @@ use Rattle.yq_tree.specs.Anchors.{names_in}
 use Rattle.yq_tree.specs.Children.{left_of}
 use Rattle.yq_tree.specs.Counts.{count}
 use Rattle.yq_tree.specs.Nodes.{node_of}
-use Rattle.yq_expr.specs.Changes.{refers_to}
+use Rattle.yq_meaning.specs.Changes.{refers_to}
 use Rattle.yq_expr.specs.Indexes.{text_at}
 use Rattle.yq_expr.proofs.planning.anchors.+aliases.Given as goal
 

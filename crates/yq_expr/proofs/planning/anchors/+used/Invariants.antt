@@ -6,7 +6,7 @@ use Rattle.yq_tree.specs.Anchors.{Name, names_in}
 use Rattle.yq_tree.specs.Children.{left_of}
 use Rattle.yq_tree.specs.Counts.{count}
 use Rattle.yq_tree.specs.Nodes.{node_of}
-use Rattle.yq_expr.specs.Changes.{is_used}
+use Rattle.yq_meaning.specs.Changes.{is_used}
 use Rattle.yq_expr.specs.Indexes.{HasAliases}
 use Rattle.yq_expr.proofs.planning.anchors.+used.Given as goal
 

@@ -1,6 +1,6 @@
 use Rattle.std.proofs.Common.{◌≡◌, drop, suc}
 use Rattle.std.specs.List.{list_any}
-use Rattle.yq_expr.specs.Changes.{is_deep, value_in}
+use Rattle.yq_meaning.specs.Changes.{is_deep, value_in}
 use Rattle.yq_expr.specs.ChangeView.{addition_of}
 use Rattle.yq_expr.proofs.planning.change_limits.some_adds_too_deep.Given as goal
 

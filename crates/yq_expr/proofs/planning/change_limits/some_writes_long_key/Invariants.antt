@@ -1,6 +1,6 @@
 use Rattle.std.proofs.Common.{◌≡◌, drop}
 use Rattle.std.specs.List.{list_any}
-use Rattle.yq_expr.specs.Changes.{writes_long_key}
+use Rattle.yq_meaning.specs.Changes.{writes_long_key}
 use Rattle.yq_expr.specs.ChangeView.{addition_of}
 use Rattle.yq_expr.proofs.planning.change_limits.some_writes_long_key.Given as goal
 

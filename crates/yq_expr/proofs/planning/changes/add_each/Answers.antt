@@ -3,12 +3,12 @@ use Rattle.std.proofs.lemmas.Result.{err_from_is_err_and}
 use Rattle.std.specs.declared.alloc.Global.{Global}
 use Rattle.yq_inline.specs.Values.{node_of as value_node}
 use Rattle.yq_tree.specs.Nodes.{node_of}
-use Rattle.yq_expr.specs.Changes.{add_at}
+use Rattle.yq_meaning.specs.Changes.{add_at}
 use Rattle.yq_expr.specs.ChangeView.{changed_of}
-use Rattle.yq_expr.specs.Judgement.{Fails, Matches}
+use Rattle.yq_meaning.specs.Judgement.{Fails, Matches}
 use Rattle.yq_expr.specs.PlaceView.{place_of, places_of}
-use Rattle.yq_expr.specs.Places.{root_place}
-use Rattle.yq_expr.specs.RightValues.{right_value}
+use Rattle.yq_meaning.specs.Places.{root_place}
+use Rattle.yq_meaning.specs.RightValues.{right_value}
 use Rattle.yq_program.specs.View.{term_of}
 use Rattle.yq_expr.specs.declared.planning.change.Changed.{Changed}
 use Rattle.yq_expr.proofs.AllChanges.{from_root, some_places, value_there, value_fails}

@@ -5,10 +5,10 @@ use Rattle.yq_scalar.specs.Shapes.{IsTree}
 use Rattle.yq_scalar.specs.Tree.{Node}
 use Rattle.yq_tree.specs.Documents.{Document, document_parts}
 use Rattle.yq_tree.specs.Reading.{cut_of, documents_of}
-use Rattle.yq_expr.specs.Changes.{changes_in}
+use Rattle.yq_meaning.specs.Changes.{changes_in}
 use Rattle.yq_expr.specs.ChangeView.{all_changed_of, changed_of}
-use Rattle.yq_expr.specs.Judgement.{Fails}
-use Rattle.yq_expr.specs.Rooms.{room_of}
+use Rattle.yq_meaning.specs.Judgement.{Fails}
+use Rattle.yq_meaning.specs.Rooms.{room_of}
 use Rattle.yq_expr.specs.TreeScalars.{HasScalars}
 use Rattle.yq_program.specs.View.{update_of}
 use Rattle.yq_expr.proofs.AllChanges.{document_more, document_fails}

@@ -1,10 +1,10 @@
 use Rattle.std.proofs.Common.{◌≡◌, drop}
 use Rattle.yq_tree.specs.Reading.{documents_of}
-use Rattle.yq_expr.specs.Changes.{changes_from}
+use Rattle.yq_meaning.specs.Changes.{changes_from}
 use Rattle.yq_expr.specs.ChangeView.{all_changed_of}
-use Rattle.yq_expr.specs.Meaning.{roots_of}
+use Rattle.yq_meaning.specs.Meaning.{roots_of}
 use Rattle.yq_expr.specs.PlaceView.{put_behind}
-use Rattle.yq_expr.specs.Rooms.{room_of}
+use Rattle.yq_meaning.specs.Rooms.{room_of}
 use Rattle.yq_program.specs.View.{update_of}
 use Rattle.yq_expr.proofs.planning.changes.all_changes.Given as goal
 

@@ -2,9 +2,9 @@ use Rattle.std.proofs.Common.{Vec, map, ap, subst}
 use Rattle.std.specs.declared.alloc.Global.{Global}
 use Rattle.yq_tree.specs.Nodes.{node_of}
 use Rattle.yq_expr.specs.ChangeView.{changed_of}
-use Rattle.yq_expr.specs.Judgement.{Matches}
+use Rattle.yq_meaning.specs.Judgement.{Matches}
 use Rattle.yq_expr.specs.PlaceView.{places_of}
-use Rattle.yq_expr.specs.Rooms.{room_of}
+use Rattle.yq_meaning.specs.Rooms.{room_of}
 use Rattle.yq_program.specs.View.{stage_of, term_of}
 use Rattle.yq_expr.specs.declared.planning.change.Changed.{Changed}
 use Rattle.yq_expr.proofs.AllChanges.{modified}

@@ -1,13 +1,13 @@
 use Rattle.std.proofs.Common.{Err, List, map, ap, ◌∙◌, subst, arith, ◌≤◌, length}
 use Rattle.std.proofs.lemmas.Result.{err_from_is_err_and}
-use Rattle.yq_expr.specs.Changes.{Changed, all_allowed}
+use Rattle.yq_meaning.specs.Changes.{Changed, all_allowed}
 use Rattle.yq_expr.specs.ChangeView.{changed_of}
 use Rattle.yq_expr.specs.EffectView.{effect_at}
-use Rattle.yq_expr.specs.Judgement.{Judgement, and_then}
+use Rattle.yq_meaning.specs.Judgement.{Judgement, and_then}
 use Rattle.yq_expr.specs.PlaceView.{place_of}
 use Rattle.yq_expr.specs.PlacesApart.{AreIn}
-use Rattle.yq_expr.specs.Places.{Place}
-use Rattle.yq_expr.specs.Rooms.{room_of}
+use Rattle.yq_meaning.specs.Places.{Place}
+use Rattle.yq_meaning.specs.Rooms.{room_of}
 use Rattle.yq_expr.specs.TreeScalars.{HaveScalars}
 use Rattle.yq_expr.proofs.AllChanges.{each_done}
 use Rattle.yq_expr.proofs.EachLaws.{each_more, each_fails, failed, reached}

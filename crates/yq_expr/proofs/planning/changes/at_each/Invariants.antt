@@ -1,13 +1,13 @@
 use Rattle.std.proofs.Common.{◌≡◌, drop, map}
 use Rattle.yq_scalar.specs.Tree.{Node}
 use Rattle.yq_tree.specs.Anchors.{names_of}
-use Rattle.yq_expr.specs.Changes.{at_each}
+use Rattle.yq_meaning.specs.Changes.{at_each}
 use Rattle.yq_expr.specs.ChangeView.{changed_of}
 use Rattle.yq_expr.specs.EffectView.{effect_at}
 use Rattle.yq_expr.specs.Indexes.{HasAliases}
 use Rattle.yq_expr.specs.PlaceView.{places_of, put_behind}
 use Rattle.yq_expr.specs.PlacesApart.{AreIn}
-use Rattle.yq_expr.specs.Rooms.{room_of}
+use Rattle.yq_meaning.specs.Rooms.{room_of}
 use Rattle.yq_expr.specs.TreeScalars.{HaveScalars}
 use Rattle.yq_expr.proofs.planning.changes.at_each.Given as goal
 

@@ -1,11 +1,11 @@
 use Rattle.std.proofs.Common.{ℕ, List, Vec, map, sym, ap, ◌∙◌, subst}
 use Rattle.std.specs.declared.alloc.Global.{Global}
 use Rattle.yq_tree.specs.Nodes.{node_of}
-use Rattle.yq_expr.specs.Changes.{at_each, changes_at, comment_at}
+use Rattle.yq_meaning.specs.Changes.{at_each, changes_at, comment_at}
 use Rattle.yq_expr.specs.ChangeView.{changed_of}
-use Rattle.yq_expr.specs.Judgement.{Matches}
+use Rattle.yq_meaning.specs.Judgement.{Matches}
 use Rattle.yq_expr.specs.PlaceView.{places_of}
-use Rattle.yq_expr.specs.Rooms.{room_of}
+use Rattle.yq_meaning.specs.Rooms.{room_of}
 use Rattle.yq_program.specs.View.{update_of}
 use Rattle.yq_expr.specs.declared.planning.change.Changed.{Changed}
 use Rattle.yq_program.specs.declared.program.Update.{Update}

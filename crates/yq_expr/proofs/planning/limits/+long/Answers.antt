@@ -1,6 +1,6 @@
 use Rattle.std.proofs.Common.{◌≡◌, Bool, IfOk, sym, ap, ◌∙◌, subst}
 use Rattle.yq_inline.specs.Values.{node_of}
-use Rattle.yq_expr.specs.Changes.{has_long_key}
+use Rattle.yq_meaning.specs.Changes.{has_long_key}
 use Rattle.yq_program.proofs.Keys.{node_of-map}
 use Rattle.yq_expr.proofs.planning.limits.+long.Goals as goal
 

@@ -1,6 +1,6 @@
 use Rattle.std.proofs.Common.{◌≡◌, drop}
 use Rattle.yq_inline.specs.Values.{entries_of, items_of}
-use Rattle.yq_expr.specs.Changes.{have_long_key}
+use Rattle.yq_meaning.specs.Changes.{have_long_key}
 use Rattle.yq_expr.proofs.planning.limits.+long.Given as goal
 
 abbrev pub invariant-some_holds_long_key-each : goal.invariant-some_holds_long_key-each

@@ -1,7 +1,7 @@
 use Rattle.std.proofs.Common.{◌≡◌, ◌+◌, ◌++◌, length}
 use Rattle.std.specs.Vec.Iter.{into_iter_items, into_iter_len}
 use Rattle.yq_expr.specs.ChangeView.{all_changed_of}
-use Rattle.yq_expr.specs.Operations.{operations_of}
+use Rattle.yq_meaning.specs.Operations.{operations_of}
 use Rattle.yq_expr.specs.Plans.{all_ops}
 use Rattle.yq_expr.proofs.planning.operations.operations.Given as goal
 

@@ -2,7 +2,7 @@ use Rattle.std.proofs.Common.{◌≡◌, ◌++◌, map, length}
 use Rattle.std.specs.Vec.Iter.{into_iter_items, into_iter_len}
 use Rattle.yq_tree.specs.Located.{steps_of}
 use Rattle.yq_expr.specs.ChangeView.{addition_of}
-use Rattle.yq_expr.specs.Operations.{operations_of}
+use Rattle.yq_meaning.specs.Operations.{operations_of}
 use Rattle.yq_expr.specs.Plans.{add_op}
 use Rattle.yq_expr.proofs.planning.operations.push_adds.Given as goal
 

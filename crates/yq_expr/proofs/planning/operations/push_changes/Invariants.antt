@@ -1,7 +1,7 @@
 use Rattle.std.proofs.Common.{◌≡◌, ◌++◌, map, length}
 use Rattle.std.specs.Vec.Iter.{into_iter_items, into_iter_len}
 use Rattle.yq_expr.specs.ChangeView.{changed_of}
-use Rattle.yq_expr.specs.Operations.{operations_of}
+use Rattle.yq_meaning.specs.Operations.{operations_of}
 use Rattle.yq_expr.specs.Plans.{ops_of}
 use Rattle.yq_expr.proofs.planning.operations.push_changes.Given as goal
 

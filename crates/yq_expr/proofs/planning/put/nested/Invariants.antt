@@ -1,6 +1,6 @@
 use Rattle.std.proofs.Common.{◌≡◌, ◌≤◌, length, map}
 use Rattle.yq_inline.specs.Values.{node_of}
-use Rattle.yq_expr.specs.Changes.{nested}
+use Rattle.yq_meaning.specs.Changes.{nested}
 use Rattle.yq_program.specs.View.{step_of}
 use Rattle.yq_expr.proofs.planning.put.nested.Given as goal
 

@@ -1,7 +1,7 @@
 use Rattle.std.proofs.Common.{sym, ap, ◌∙◌}
 use Rattle.yq_inline.specs.Values.{node_of as value_node}
 use Rattle.yq_tree.specs.Nodes.{node_of}
-use Rattle.yq_expr.specs.Judgement.{gives}
+use Rattle.yq_meaning.specs.Judgement.{gives}
 use Rattle.yq_program.specs.View.{step_of}
 use Rattle.yq_expr.proofs.ChangeLaws.{put_made, put_no_item}
 use Rattle.yq_expr.proofs.planning.put.put_below.Goals as goal

@@ -1,6 +1,6 @@
 use Rattle.std.proofs.Common.{rules, ◌≡◌, List, [], ◌∷◌, map, sym, ap, ◌∙◌, subst}
-use Rattle.yq_expr.specs.Judgement.{gives}
-use Rattle.yq_expr.specs.Pipes.{pipe_on}
+use Rattle.yq_meaning.specs.Judgement.{gives}
+use Rattle.yq_meaning.specs.Pipes.{pipe_on}
 use Rattle.yq_expr.specs.PlaceView.{place_of, places_of}
 use Rattle.yq_expr.specs.TreeScalars.{HaveScalars}
 use Rattle.yq_program.specs.View.{stage_of}

@@ -1,6 +1,6 @@
 use Rattle.std.proofs.Common.{sym, subst, arith}
 use Rattle.yq_inline.specs.Values.{node_of}
-use Rattle.yq_expr.specs.Judgement.{Matches}
+use Rattle.yq_meaning.specs.Judgement.{Matches}
 use Rattle.yq_expr.specs.PlaceView.{place_of}
 use Rattle.yq_program.specs.View.{term_of}
 use Rattle.yq_expr.proofs.SumLaws.{right_on}

@@ -1,9 +1,9 @@
 use Rattle.std.proofs.Common.{Err, ap, ◌∙◌}
 use Rattle.std.proofs.lemmas.Result.{err_from_is_err_and}
 use Rattle.yq_inline.specs.Values.{node_of}
-use Rattle.yq_expr.specs.Judgement.{and_then}
+use Rattle.yq_meaning.specs.Judgement.{and_then}
 use Rattle.yq_expr.specs.PlaceView.{place_of}
-use Rattle.yq_expr.specs.RightValues.{sum, term_value}
+use Rattle.yq_meaning.specs.RightValues.{sum, term_value}
 use Rattle.yq_program.specs.View.{term_of}
 use Rattle.yq_expr.proofs.EachLaws.{turn_more, turn_fails, failed}
 use Rattle.yq_expr.proofs.planning.right_value.with_terms.Goals as goal

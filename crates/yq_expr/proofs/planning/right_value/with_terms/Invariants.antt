@@ -1,9 +1,9 @@
 use Rattle.std.proofs.Common.{◌≡◌, drop, map}
 use Rattle.yq_inline.specs.Values.{node_of}
-use Rattle.yq_expr.specs.Judgement.{and_then}
+use Rattle.yq_meaning.specs.Judgement.{and_then}
 use Rattle.yq_expr.specs.PlaceView.{place_of}
-use Rattle.yq_expr.specs.Places.{in_turn}
-use Rattle.yq_expr.specs.RightValues.{sum, term_value}
+use Rattle.yq_meaning.specs.Places.{in_turn}
+use Rattle.yq_meaning.specs.RightValues.{sum, term_value}
 use Rattle.yq_program.specs.View.{term_of}
 use Rattle.yq_expr.proofs.planning.right_value.with_terms.Given as goal
 

@@ -4,7 +4,7 @@ use Rattle.std.specs.Vec.Iter.{into_iter_items}
 use Rattle.yq_inline.specs.Values.{items, items_of, node_of}
 use Rattle.yq_inline.specs.declared.value.Value.{Value}
 use Rattle.yq_scalar.specs.Tree.{Node}
-use Rattle.yq_expr.specs.RightValues.{followed}
+use Rattle.yq_meaning.specs.RightValues.{followed}
 use Rattle.yq_expr.proofs.SumLaws.{followed_none, item_more, nothing_left}
 use Rattle.yq_expr.proofs.planning.sum.push_all.Goals as goal
 

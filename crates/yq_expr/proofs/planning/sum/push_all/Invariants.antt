@@ -1,7 +1,7 @@
 use Rattle.std.proofs.Common.{◌≡◌, length}
 use Rattle.std.specs.Vec.Iter.{into_iter_items, into_iter_len}
 use Rattle.yq_inline.specs.Values.{items_of}
-use Rattle.yq_expr.specs.RightValues.{followed}
+use Rattle.yq_meaning.specs.RightValues.{followed}
 use Rattle.yq_expr.proofs.planning.sum.push_all.Given as goal
 
 abbrev pub invariant-each : goal.invariant-each

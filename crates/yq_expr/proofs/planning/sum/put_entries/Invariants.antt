@@ -2,7 +2,7 @@ use Rattle.std.proofs.Common.{◌≡◌, length, map}
 use Rattle.std.specs.Vec.Iter.{into_iter_items, into_iter_len}
 use Rattle.yq_inline.specs.Values.{entries_of, field_of}
 use Rattle.yq_expr.specs.EntryNumbers.{AreNumbered}
-use Rattle.yq_expr.specs.RightValues.{with_entries}
+use Rattle.yq_meaning.specs.RightValues.{with_entries}
 use Rattle.yq_expr.proofs.planning.sum.put_entries.Given as goal
 
 abbrev pub invariant-each : goal.invariant-each

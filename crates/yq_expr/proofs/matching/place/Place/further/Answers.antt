@@ -1,6 +1,6 @@
 use Rattle.std.proofs.Common.{List, [], ◌∷◌, ◌++◌, ap, ◌∙◌}
 use Rattle.yq_expr.specs.PlaceView.{missing_of, place_of}
-use Rattle.yq_expr.specs.Places.{Place}
+use Rattle.yq_meaning.specs.Places.{Place}
 use Rattle.yq_program.specs.Program.{Step}
 use Rattle.yq_program.specs.View.{step_of}
 use Rattle.yq_expr.specs.declared.matching.place.Missing.{Missing}

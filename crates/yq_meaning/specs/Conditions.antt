@@ -9,9 +9,9 @@ use Rattle.yq_scalar.specs.Paths.{To, child_at}
 use Rattle.yq_scalar.specs.SchemaReading.{int_value}
 use Rattle.yq_scalar.specs.Tree.{Node, alias, scalar, list, map}
 use Rattle.yq_tree.specs.Outline.{null_node}
-use Rattle.yq_expr.specs.declared.refusal.Refusal.TheVariants.{ThroughAlias}
-use Rattle.yq_expr.specs.Judgement.{Judgement, gives, refuses, and_then}
-use Rattle.yq_expr.specs.Places.{Place, walk}
+use Rattle.yq_meaning.specs.declared.refusal.Refusal.TheVariants.{ThroughAlias}
+use Rattle.yq_meaning.specs.Judgement.{Judgement, gives, refuses, and_then}
+use Rattle.yq_meaning.specs.Places.{Place, walk}
 use Rattle.yq_program.specs.Program.{Step, Operand, value_at, document_index, Condition, compares, has}
 
 -- whether a text is a word for true (YAML 1.2.2, section 10.3.2)

@@ -8,11 +8,11 @@ use Rattle.yq_tree.specs.Documents.{Document}
 use Rattle.yq_tree.specs.TreeEdits.{replaced, new_label, led, lead_by, with_tree}
 use Rattle.yq_program.specs.declared.program.CommentPlace.{CommentPlace}
 use Rattle.yq_program.specs.declared.program.CommentPlace.TheVariants as comments
-use Rattle.yq_expr.specs.Changes as changes
-use Rattle.yq_expr.specs.Changes.{Addition, appends, overwrites, replaces, adds, sets_comment, Changed, Room, changes_of}
-use Rattle.yq_expr.specs.Deeds as deeds
-use Rattle.yq_expr.specs.Deeds.{Deed, becomes, done_by, at_once}
-use Rattle.yq_expr.specs.Judgement.{Judgement, gives, and_then}
+use Rattle.yq_meaning.specs.Changes as changes
+use Rattle.yq_meaning.specs.Changes.{Addition, appends, overwrites, replaces, adds, sets_comment, Changed, Room, changes_of}
+use Rattle.yq_meaning.specs.Deeds as deeds
+use Rattle.yq_meaning.specs.Deeds.{Deed, becomes, done_by, at_once}
+use Rattle.yq_meaning.specs.Judgement.{Judgement, gives, and_then}
 use Rattle.yq_program.specs.Program.{Update}
 
 -- items or entries with an addition (own)

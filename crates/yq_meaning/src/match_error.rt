@@ -14,7 +14,7 @@ pub enum MatchError {
 
 impl From<AllocError> for MatchError {
     ghost use Rattle.std.specs.Prelude.{◌≡◌};
-    ghost use Rattle.yq_expr.specs.declared.match_error.MatchError.TheVariants.{Memory};
+    ghost use Rattle.yq_meaning.specs.declared.match_error.MatchError.TheVariants.{Memory};
 
     ghost from_gives = { λ _ e. e ≡ Memory };
 
@@ -25,7 +25,7 @@ impl From<AllocError> for MatchError {
 
 impl<T: Drop> From<AllocFailed<T>> for MatchError {
     ghost use Rattle.std.specs.Prelude.{◌≡◌};
-    ghost use Rattle.yq_expr.specs.declared.match_error.MatchError.TheVariants.{Memory};
+    ghost use Rattle.yq_meaning.specs.declared.match_error.MatchError.TheVariants.{Memory};
 
     ghost from_gives = { λ _ e. e ≡ Memory };
 

@@ -1,7 +1,7 @@
 -- Steps and paths that are the same, and those that part.
 use Rattle.std.proofs.Common.{◌≡◌, ◌≢◌, ℕ, Bool, true, false, cond, List, [], ◌∷◌, ◌++◌, Some, None, refl, sym, ap, subst, ◌∙◌, inl, inr, arith, append-nil}
 use Rattle.yq_scalar.specs.Paths.{To, Nth, Step}
-use Rattle.yq_expr.specs.Deeds.{same_step}
+use Rattle.yq_meaning.specs.Deeds.{same_step}
 use Rattle.yq_scalar.specs.PathOrder.{Parts, Before, Apart}
 use Rattle.std.proofs.lemmas.Bool.{ne_eqb, eq-eqb, false_from_ne_true, false≢true}
 use Rattle.std.specs.Str.{bytes_eq}

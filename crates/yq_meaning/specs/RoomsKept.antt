@@ -4,10 +4,10 @@ use Rattle.yq_scalar.specs.Paths.{Step}
 use Rattle.yq_scalar.specs.Tree.{Node, Children, none, child, children_of}
 use Rattle.yq_tree.specs.Documents.{Document}
 use Rattle.yq_program.specs.declared.program.CommentPlace.{CommentPlace}
-use Rattle.yq_expr.specs.After.{document_of, after_op}
-use Rattle.yq_expr.specs.Changes.{Room}
-use Rattle.yq_expr.specs.Fits.{IsBelow, AllFit}
-use Rattle.yq_expr.specs.Operations.{Operation, replace, append, remove, line_comment, head_comment}
+use Rattle.yq_meaning.specs.After.{document_of, after_op}
+use Rattle.yq_meaning.specs.Changes.{Room}
+use Rattle.yq_meaning.specs.Fits.{IsBelow, AllFit}
+use Rattle.yq_meaning.specs.Operations.{Operation, replace, append, remove, line_comment, head_comment}
 
 -- there are items or entries (own)
 abbrev pub HasSome : Children → Type 0

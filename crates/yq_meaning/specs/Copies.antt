@@ -3,11 +3,11 @@ use Rattle.std.specs.Prelude.{ℕ, suc, List, [], ◌∷◌, ◌++◌, Option, S
 use Rattle.yq_scalar.specs.Tree.{Node, alias, scalar, list, map, Children, none, child}
 use Rattle.yq_inline.specs.Values.{items, entries}
 use Rattle.yq_tree.specs.Documents.{Document}
-use Rattle.yq_expr.specs.declared.refusal.Refusal.TheVariants.{ThroughAlias}
-use Rattle.yq_expr.specs.Conditions.{value_of}
-use Rattle.yq_expr.specs.Judgement.{Judgement, gives, refuses, and_then}
-use Rattle.yq_expr.specs.Pipes.{places}
-use Rattle.yq_expr.specs.Places.{Place, for_each}
+use Rattle.yq_meaning.specs.declared.refusal.Refusal.TheVariants.{ThroughAlias}
+use Rattle.yq_meaning.specs.Conditions.{value_of}
+use Rattle.yq_meaning.specs.Judgement.{Judgement, gives, refuses, and_then}
+use Rattle.yq_meaning.specs.Pipes.{places}
+use Rattle.yq_meaning.specs.Places.{Place, for_each}
 use Rattle.yq_program.specs.Program.{Stage}
 
 -- the key of an entry: each one has a key (own)

@@ -9,9 +9,9 @@ use Rattle.yq_tree.specs.Anchors.{names_of}
 use Rattle.yq_tree.specs.Documents.{Document}
 use Rattle.yq_program.specs.declared.program.CommentPlace.{CommentPlace}
 use Rattle.yq_program.specs.declared.program.CommentPlace.TheVariants as comments
-use Rattle.yq_expr.specs.After.{document_of, after_op}
-use Rattle.yq_expr.specs.Changes.{Room, is_long, has_long_key, is_deep, is_used_inside, is_used_in, is_comment}
-use Rattle.yq_expr.specs.Operations.{Operation, replace, append, remove, line_comment, head_comment}
+use Rattle.yq_meaning.specs.After.{document_of, after_op}
+use Rattle.yq_meaning.specs.Changes.{Room, is_long, has_long_key, is_deep, is_used_inside, is_used_in, is_comment}
+use Rattle.yq_meaning.specs.Operations.{Operation, replace, append, remove, line_comment, head_comment}
 
 -- a value may be written below so many collections: it is a tree, whose keys differ in each mapping, its keys are short enough, and it isn't too deep (own)
 abbrev pub IsWritable : ℕ → Node → Type 0

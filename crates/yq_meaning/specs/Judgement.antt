@@ -1,10 +1,10 @@
 -- What comes of a program.
 use Rattle.std.specs.Prelude.{◌≡◌, Result, Ok, Err}
-use Rattle.yq_expr.specs.declared.match_error.MatchError.{MatchError}
-use Rattle.yq_expr.specs.declared.match_error.MatchError.TheVariants as match_error
-use Rattle.yq_expr.specs.declared.plan_error.PlanError.{PlanError}
-use Rattle.yq_expr.specs.declared.plan_error.PlanError.TheVariants as error
-use Rattle.yq_expr.specs.declared.refusal.Refusal.{Refusal}
+use Rattle.yq_meaning.specs.declared.match_error.MatchError.{MatchError}
+use Rattle.yq_meaning.specs.declared.match_error.MatchError.TheVariants as match_error
+use Rattle.yq_meaning.specs.declared.plan_error.PlanError.{PlanError}
+use Rattle.yq_meaning.specs.declared.plan_error.PlanError.TheVariants as error
+use Rattle.yq_meaning.specs.declared.refusal.Refusal.{Refusal}
 
 -- something, or a refusal (own)
 pub data Judgement (A : Type 0) : Type 0 where

@@ -10,8 +10,8 @@ use Rattle.yq_tree.specs.Ready.{root_is_block, TextIsReady}
 use Rattle.yq_tree.specs.Seats.{seat_of, seat_has_room}
 use Rattle.yq_program.specs.declared.program.CommentPlace.{CommentPlace}
 use Rattle.yq_program.specs.declared.program.CommentPlace.TheVariants as comments
-use Rattle.yq_expr.specs.Changes.{Room}
-use Rattle.yq_expr.specs.Meaning.{AreReady}
+use Rattle.yq_meaning.specs.Changes.{Room}
+use Rattle.yq_meaning.specs.Meaning.{AreReady}
 
 -- the part of an entry or item that a comment is (own)
 abbrev pub comment_part : CommentPlace → Part

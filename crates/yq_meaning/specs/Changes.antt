@@ -17,12 +17,12 @@ use Rattle.yq_tree.specs.Anchors.{Name, Anchors, Refers, names_of, names_in}
 use Rattle.yq_program.specs.declared.program.CommentPlace.{CommentPlace}
 use Rattle.yq_program.specs.declared.program.CommentPlace.TheVariants as comments
 use Rattle.yq_program.specs.declared.program.Operator.TheVariants as operator
-use Rattle.yq_expr.specs.declared.refusal.Refusal.TheVariants.{IndexOutOfRange, ThroughAlias, AnchorInUse, KindMismatch, NoPlaceForComment, BadCommentText, RootDelete, TooDeep, KeyTooLong}
-use Rattle.yq_expr.specs.Judgement.{Judgement, gives, refuses, and_then}
+use Rattle.yq_meaning.specs.declared.refusal.Refusal.TheVariants.{IndexOutOfRange, ThroughAlias, AnchorInUse, KindMismatch, NoPlaceForComment, BadCommentText, RootDelete, TooDeep, KeyTooLong}
+use Rattle.yq_meaning.specs.Judgement.{Judgement, gives, refuses, and_then}
 use Rattle.yq_program.specs.Program.{is_index, Step, key, index, each, Stage, Update, assign, delete, comment}
-use Rattle.yq_expr.specs.Pipes.{places}
-use Rattle.yq_expr.specs.Places.{Place, root_place, for_each}
-use Rattle.yq_expr.specs.RightValues.{is_null, as_items, sum, right_value}
+use Rattle.yq_meaning.specs.Pipes.{places}
+use Rattle.yq_meaning.specs.Places.{Place, root_place, for_each}
+use Rattle.yq_meaning.specs.RightValues.{is_null, as_items, sum, right_value}
 use Rattle.yq_tree.specs.TreeEdits.{new_label}
 
 -- what a collection gets: one item or entry more, or a new value for a key that it has (own)

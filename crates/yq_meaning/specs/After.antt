@@ -4,9 +4,9 @@ use Rattle.yq_scalar.specs.Paths.{relabel_child, remove_child, append_child, wit
 use Rattle.yq_scalar.specs.Tree.{Node}
 use Rattle.yq_tree.specs.Documents.{Document}
 use Rattle.yq_tree.specs.TreeEdits.{change_nth, replaced, at_end, new_label, with_line_comment, with_head_comment, led, with_tree}
-use Rattle.yq_expr.specs.Changes.{Room}
-use Rattle.yq_expr.specs.Meaning.{head_of, line_of}
-use Rattle.yq_expr.specs.Operations.{Operation, replace, append, remove, line_comment, head_comment}
+use Rattle.yq_meaning.specs.Changes.{Room}
+use Rattle.yq_meaning.specs.Meaning.{head_of, line_of}
+use Rattle.yq_meaning.specs.Operations.{Operation, replace, append, remove, line_comment, head_comment}
 
 -- what an operation makes of a root, where a document has such a lead (own)
 abbrev pub root_after : Bool → List (List ℕ) → Operation → Node → Node

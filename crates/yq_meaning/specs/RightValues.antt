@@ -8,12 +8,12 @@ use Rattle.yq_scalar.specs.Paths.{To, child_at, change_child, append_child}
 use Rattle.yq_scalar.specs.SchemaReading.{int_value}
 use Rattle.yq_scalar.specs.Tree.{Node, alias, scalar, list, map, Children, none, child}
 use Rattle.yq_tree.specs.Outline.{null_node}
-use Rattle.yq_expr.specs.declared.refusal.Refusal.TheVariants.{NotOneValue, KindMismatch, IntegerRange, FloatArithmetic}
-use Rattle.yq_expr.specs.Judgement.{Judgement, gives, refuses, and_then}
+use Rattle.yq_meaning.specs.declared.refusal.Refusal.TheVariants.{NotOneValue, KindMismatch, IntegerRange, FloatArithmetic}
+use Rattle.yq_meaning.specs.Judgement.{Judgement, gives, refuses, and_then}
 use Rattle.yq_program.specs.Program.{Term, literal, found}
-use Rattle.yq_expr.specs.Copies.{copy_at}
-use Rattle.yq_expr.specs.Pipes.{pipe_on}
-use Rattle.yq_expr.specs.Places.{Place}
+use Rattle.yq_meaning.specs.Copies.{copy_at}
+use Rattle.yq_meaning.specs.Pipes.{pipe_on}
+use Rattle.yq_meaning.specs.Places.{Place}
 use Rattle.yq_tree.specs.TreeEdits.{new_label}
 
 -- whether a node is null (YAML 1.2.2, section 10.2.1.1)

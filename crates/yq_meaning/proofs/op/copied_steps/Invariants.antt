@@ -1,6 +1,6 @@
 use Rattle.std.proofs.Common.{◌≡◌, map, take}
 use Rattle.yq_inline.specs.Entries.{step_of}
-use Rattle.yq_expr.proofs.op.copied_steps.Given as goal
+use Rattle.yq_meaning.proofs.op.copied_steps.Given as goal
 
 abbrev pub invariant-each : goal.invariant-each
 invariant-each l = map step_of l.copies.items ≡ map step_of (take l.step-index l.steps)

@@ -14,7 +14,7 @@ pub enum PlanError {
 
 impl From<AllocError> for PlanError {
     ghost use Rattle.std.specs.Prelude.{◌≡◌};
-    ghost use Rattle.yq_expr.specs.declared.plan_error.PlanError.TheVariants.{Memory};
+    ghost use Rattle.yq_meaning.specs.declared.plan_error.PlanError.TheVariants.{Memory};
 
     ghost from_gives = { λ _ e. e ≡ Memory };
 
@@ -25,7 +25,7 @@ impl From<AllocError> for PlanError {
 
 impl<T: Drop> From<AllocFailed<T>> for PlanError {
     ghost use Rattle.std.specs.Prelude.{◌≡◌};
-    ghost use Rattle.yq_expr.specs.declared.plan_error.PlanError.TheVariants.{Memory};
+    ghost use Rattle.yq_meaning.specs.declared.plan_error.PlanError.TheVariants.{Memory};
 
     ghost from_gives = { λ _ e. e ≡ Memory };
 

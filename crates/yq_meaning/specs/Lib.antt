@@ -1,0 +1,17 @@
+pub use Rattle.yq_inline.specs.Values
+pub use Rattle.yq_scalar.specs.Tree
+pub mod Matching
+pub mod Operations
+pub mod Judgement
+pub mod Places
+pub mod Conditions
+pub mod Pipes
+pub mod Copies
+pub mod RightValues
+pub mod Changes
+pub mod Deeds
+pub mod Meaning
+pub mod After
+pub mod Fits
+pub mod Rooms
+pub mod RoomsKept
