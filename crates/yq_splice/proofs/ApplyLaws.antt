@@ -1,27 +1,25 @@
 -- An operation that fits is carried out by a way.
-use Rattle.std.proofs.Common.{◌≡◌, ℕ, ◌<◌, Bool, true, false, cond, leb, List, [], ◌∷◌, length, Option, Some, None, Result, Ok, Err, IfOk, IfErr, string_bytes, refl, sym, ap, ◌∙◌, subst}
+use Rattle.std.proofs.Common.{◌≡◌, ℕ, ◌<◌, Bool, true, false, cond, leb, List, length, Option, Some, Result, Ok, Err, IfOk, IfErr, string_bytes, refl, sym, ap, ◌∙◌, subst}
 use Rattle.std.proofs.lemmas.Bool.{leb-false}
 use Rattle.yq_scalar.specs.Characters.{text_limit}
 use Rattle.yq_rows.specs.Rows.{cut_text}
-use Rattle.yq_tree.specs.Reading.{cut_of, documents, read_at}
+use Rattle.yq_tree.specs.Reading.{documents, read_at}
 use Rattle.yq_meaning.specs.Fits.{Fits}
 use Rattle.yq_meaning.specs.Operations.{Operation}
 use Rattle.yq_meaning.specs.Rooms.{room_of}
 use Rattle.yq_meaning.specs.declared.refusal.Refusal.{Refusal}
 use Rattle.yq_meaning.specs.declared.refusal.Refusal.TheVariants.{TooLarge}
 use Rattle.yq_script.specs.Patch.{Change}
-use Rattle.yq_script.specs.Script.{Segment, keep, new_text, changes}
+use Rattle.yq_script.specs.Script.{Segment, new_text, changes}
 use Rattle.yq_script.specs.declared.edited.Edited.{Edited}
 use Rattle.yq_script.specs.Exchanging as exchange
 use Rattle.yq_carrying.specs.Carrying.{carrying, or_stay}
 use Rattle.yq_ways.specs.Operands.{HasOperand}
 use Rattle.yq_ways.specs.Serving.{IsServed}
-use Rattle.yq_ways.specs.WayAnswers.{Carries}
 use Rattle.yq_ways.specs.Ways.{ReadsAfter}
 use Rattle.yq_flow_ways.proofs.CutLaws.{text_read}
 use Rattle.yq_carrying.proofs.CarryingLaws.{carrying_is}
 use Rattle.yq_carrying.proofs.FitServed.{fit_served}
-use Rattle.yq_carrying.proofs.WayLaws.{none_stays}
 use Rattle.yq_splice.specs.Answers.{Edits, Fails}
 use Rattle.yq_splice.specs.Carried.{carry_one, carried}
 use Rattle.yq_splice.specs.Edit.{unreadable, refuses, by_reading, edit_of_segments, edit_made}
@@ -44,12 +42,6 @@ segments_read ss h = go (leb (length (new_text ss)) text_limit) h
     go : (b : Bool) → edit_made (cond b (exchange.gives (new_text ss) (changes ss)) exchange.too_large) ≡ unreadable → ⊥
     go true f = cc
     go false f = cc
-
--- an operation that has no way leaves the text
-pub text_stays : (r : Result Edited EditError) (t m : List ℕ) (way : Option (List Segment)) → read_at t ≡ Some (cut_of t) → m ≡ t → Carries (Ok None) way → Edits r (edit_of_segments (keep m ∷ [])) →
-    Edits r (edit_of_segments (or_stay (cut_of t) way))
-text_stays r t m way read same none h =
-    none_stays r (cut_of t) way none (subst (λ (x : List ℕ). Edits r (edit_of_segments (keep x ∷ []))) (same ∙ sym (text_read t (cut_of t) read)) h)
 
 module _ (op : Operation) (t : List ℕ) (operand : HasOperand op) (k : IsFitting op t) where
   text : cut_text k.cut ≡ t

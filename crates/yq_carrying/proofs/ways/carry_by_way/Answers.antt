@@ -2,10 +2,10 @@ use Rattle.std.proofs.Common.{Option, Ok, subst}
 use Rattle.yq_meaning.specs.Operations.{operation_of}
 use Rattle.yq_tree.specs.Reading.{cut_of}
 use Rattle.yq_script.specs.declared.edited.Edited.{Edited}
-use Rattle.yq_carrying.specs.Carrying.{carrying}
 use Rattle.yq_ways.specs.WayAnswers.{Carries}
-use Rattle.yq_splice.proofs.ApplyLaws.{text_stays}
-use Rattle.yq_splice.proofs.carrying.carry_one.Goals as goal
+use Rattle.yq_carrying.specs.Carrying.{carrying}
+use Rattle.yq_carrying.proofs.WayLaws.{text_stays}
+use Rattle.yq_carrying.proofs.ways.carry_by_way.Goals as goal
 
 pub returns-in-None : goal.returns-in-None
 returns-in-None c =
