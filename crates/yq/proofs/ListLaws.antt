@@ -11,24 +11,26 @@ use Rattle.yq_journal.specs.declared.moves.Move.TheVariants as move
 use Rattle.yq_journal.specs.Good.{Good, after_move, squash_refusal, step_fault}
 use Rattle.yq_journal.specs.History.{History, text_at, after_edit, after_squash}
 use Rattle.yq_journal.specs.Refusals.{most_records}
-use Rattle.yq.specs.declared.answer.Answer.{Answer}
-use Rattle.yq.specs.declared.answer.Answer.TheVariants.{Done, NoMatch, Refused}
-use Rattle.yq.specs.declared.command.Command.{Command}
-use Rattle.yq.specs.declared.command.Command.TheVariants.{Eval, Undo, Redo, History as Lists, Squash, Help}
-use Rattle.yq.specs.declared.fault.Fault.{Fault}
-use Rattle.yq.specs.declared.fault.Fault.TheVariants as fault
-use Rattle.yq.specs.Causes.{Cause, IsFor, named}
+use Rattle.yq_commands.specs.declared.answer.Answer.{Answer}
+use Rattle.yq_commands.specs.declared.answer.Answer.TheVariants.{Done, NoMatch, Refused}
+use Rattle.yq_words.specs.declared.command.Command.{Command}
+use Rattle.yq_words.specs.declared.command.Command.TheVariants.{Eval, Undo, Redo, History as Lists, Squash, Help}
+use Rattle.yq_commands.specs.declared.fault.Fault.{Fault}
+use Rattle.yq_commands.specs.declared.fault.Fault.TheVariants as fault
+use Rattle.yq_commands.specs.Causes.{Cause, IsFor, named}
 use Rattle.yq_store.specs.Content.{Content}
 use Rattle.yq_store.specs.Count.{one_more}
-use Rattle.yq.specs.Editing.{Outcome, unreadable, refused, edited, edits, program_in}
-use Rattle.yq.specs.Effects.{Effect, refuses, writes_nothing, leaves, from_pair, walk_effect, update_effect, squash_effect, OfEffect, Works, Tells}
-use Rattle.yq.specs.Faults.{is_failure, is_outside, is_output, of_fault, counted}
-use Rattle.yq.specs.Lists.{IsOn, IsApart, IsStranger, Reply, answers_in, printed_in, Told, IsRefused, IsCarriedOut, Steps, Goes, Run, IsRecorded, Records, IsReply, GoesExactly, RunExactly, HasEffect, Leaves, Keeps, tells_failure, tells_output, count_told, failures_in, output_failures_in, is_kept, is_memory, has_memory}
-use Rattle.yq.specs.Pair.{GoodIn, Arrives}
-use Rattle.yq.specs.Prints.{shown_of, prints}
-use Rattle.yq.specs.Shown.{Shown, answer_by, nothing}
-use Rattle.yq.specs.Steps.{cause_of, next_of, unless_fault, walk_cause, walk_next, edit_cause, edit_next, update_cause, update_next, squash_cause, squash_next}
-use Rattle.yq.proofs.PairLaws.{good_text, same_pair}
+use Rattle.yq_commands.specs.Editing.{Outcome, unreadable, refused, edited, edits, program_in}
+use Rattle.yq_commands.specs.Effects.{Effect, refuses, writes_nothing, leaves, from_pair, walk_effect, update_effect, squash_effect, OfEffect, Works, Tells}
+use Rattle.yq_commands.specs.Faults.{is_failure, is_outside, is_output, of_fault, counted}
+use Rattle.yq_commands.specs.CommandNames.{IsOn, IsStranger}
+use Rattle.yq.specs.Lists.{IsApart, Reply, answers_in, printed_in, Told, IsRefused, IsCarriedOut, Steps, Goes, Run, Records, IsReply, GoesExactly, RunExactly, HasEffect, Leaves, Keeps, tells_failure, tells_output, count_told, failures_in, output_failures_in, is_kept, is_memory, has_memory}
+use Rattle.yq_commands.specs.Recorded.{IsRecorded}
+use Rattle.yq_commands.specs.Pair.{GoodIn, Arrives}
+use Rattle.yq_commands.specs.Prints.{shown_of, prints}
+use Rattle.yq_commands.specs.Shown.{Shown, answer_by, nothing}
+use Rattle.yq_commands.specs.Steps.{cause_of, next_of, unless_fault, walk_cause, walk_next, edit_cause, edit_next, update_cause, update_next, squash_cause, squash_next}
+use Rattle.yq_commands.proofs.PairLaws.{good_text, same_pair}
 
 -- ---- replies
 

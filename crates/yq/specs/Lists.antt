@@ -3,47 +3,25 @@ use Rattle.std.specs.Prelude.{◌≡◌, ◌≢◌, ◌⊎◌, ◌||◌, ◌+◌
 use Rattle.std.specs.FinMap.{get}
 use Rattle.std.specs.String.{string_bytes}
 use Rattle.yq_journal.specs.History.{History, text_at}
-use Rattle.yq.specs.declared.answer.Answer.{Answer}
-use Rattle.yq.specs.declared.answer.Answer.TheVariants.{Done, NoMatch, Refused}
-use Rattle.yq.specs.declared.command.Command.{Command}
-use Rattle.yq.specs.declared.command.Command.TheVariants.{Eval, Undo, Redo, History as Lists, Squash, Help}
-use Rattle.yq.specs.declared.fault.Fault.{Fault}
-use Rattle.yq.specs.declared.fault.Fault.TheVariants.{OutFailed, OutOfMemory}
-use Rattle.yq.specs.Causes.{Cause, IsFor}
+use Rattle.yq_commands.specs.declared.answer.Answer.{Answer}
+use Rattle.yq_commands.specs.declared.answer.Answer.TheVariants.{Done, NoMatch, Refused}
+use Rattle.yq_words.specs.declared.command.Command.{Command}
+use Rattle.yq_words.specs.declared.command.Command.TheVariants.{Eval, Undo, Redo, History as Lists, Squash, Help}
+use Rattle.yq_commands.specs.declared.fault.Fault.{Fault}
+use Rattle.yq_commands.specs.declared.fault.Fault.TheVariants.{OutFailed, OutOfMemory}
+use Rattle.yq_commands.specs.Causes.{Cause, IsFor}
+use Rattle.yq_commands.specs.CommandNames.{IsOn, IsStranger}
+use Rattle.yq_commands.specs.Recorded.{IsRecorded}
 use Rattle.yq_store.specs.Content.{Content}
-use Rattle.yq.specs.Effects.{OfEffect, Tells}
-use Rattle.yq.specs.Faults.{is_failure, is_outside, is_output}
+use Rattle.yq_commands.specs.Effects.{OfEffect, Tells}
+use Rattle.yq_commands.specs.Faults.{is_failure, is_outside, is_output}
 use Rattle.yq_program.specs.Program.{Program}
 use Rattle.yq_script.specs.Patch.{Change}
-use Rattle.yq.specs.Editing.{program_in, edits, edited}
-use Rattle.yq.specs.Pair.{HasLast}
-use Rattle.yq.specs.Prints.{shown_of, prints}
-use Rattle.yq.specs.Shown.{Shown, answer_by}
-use Rattle.yq.specs.Steps.{cause_of, next_of}
-
--- the command works on this file with this journal; an expression that isn't carried out in place, with any
-abbrev pub IsOn : List ℕ → List ℕ → Command → Type 0
-IsOn file name (Eval expr f j true exit_status no_doc) = (string_bytes f ≡ file) × (string_bytes j ≡ name)
-IsOn file name (Eval expr f j false exit_status no_doc) = string_bytes f ≡ file
-IsOn file name (Undo f j) = (string_bytes f ≡ file) × (string_bytes j ≡ name)
-IsOn file name (Redo f j) = (string_bytes f ≡ file) × (string_bytes j ≡ name)
-IsOn file name (Lists f j) = (string_bytes f ≡ file) × (string_bytes j ≡ name)
-IsOn file name (Squash n f j) = (string_bytes f ≡ file) × (string_bytes j ≡ name)
-IsOn file name Help = ⊥
-
--- the command names neither
-abbrev pub Differs : List ℕ → List ℕ → List ℕ → Type 0
-Differs q file name = (q ≢ file) × (q ≢ name)
-
--- the command doesn't name this name; an expression that isn't carried out in place needs no journal
-abbrev pub IsStranger : List ℕ → Command → Type 0
-IsStranger q (Eval expr f j true exit_status no_doc) = Differs q (string_bytes f) (string_bytes j)
-IsStranger q (Eval expr f j false exit_status no_doc) = q ≢ string_bytes f
-IsStranger q (Undo f j) = Differs q (string_bytes f) (string_bytes j)
-IsStranger q (Redo f j) = Differs q (string_bytes f) (string_bytes j)
-IsStranger q (Lists f j) = Differs q (string_bytes f) (string_bytes j)
-IsStranger q (Squash n f j) = Differs q (string_bytes f) (string_bytes j)
-IsStranger q Help = Unit {0}
+use Rattle.yq_commands.specs.Editing.{program_in, edits, edited}
+use Rattle.yq_commands.specs.Pair.{HasLast}
+use Rattle.yq_commands.specs.Prints.{shown_of, prints}
+use Rattle.yq_commands.specs.Shown.{Shown, answer_by}
+use Rattle.yq_commands.specs.Steps.{cause_of, next_of}
 
 -- the command shares no name with the file and the journal; or it isn't on them, and prints and writes no name
 abbrev pub IsApart : List ℕ → List ℕ → Command → Type 0
@@ -142,16 +120,7 @@ Keeps old (c ∷ cs) [] new = ⊥
 
 -- ---- records
 
--- an edit that changes the file's text is recorded in the journal, last, by its splices and no others
-abbrev pub Recorded : List ℕ → Option (List ℕ) → Option (List ℕ) → Type 0
-Recorded expr file journal = (p : Program) → (t u : List ℕ) → (changes : List Change) → program_in expr ≡ Ok p → file ≡ Some t → edits p t ≡ edited u changes → u ≢ t → HasLast journal changes
-
--- the same of a command, by the file before it and the journal after it
-abbrev pub IsRecorded : Command → Option (List ℕ) → Option (List ℕ) → Type 0
-IsRecorded (Eval expr f j true exit_status no_doc) file journal = Recorded (string_bytes expr) file journal
-IsRecorded _ file journal = Unit {0}
-
--- the same, by the history before the command
+-- what is recorded of a command, by the history before it
 abbrev pub Records : Command → Option History → Option (List ℕ) → Type 0
 Records c h journal = IsRecorded c (option_map text_at h) journal
 

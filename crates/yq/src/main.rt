@@ -1,32 +1,15 @@
 //! The program: commands over a store of files.
 #![tactic(auto)]
 
-mod answer;
-mod causes;
-mod command;
-mod edit;
-mod editing;
-mod evaluating;
-mod fault;
-mod help;
-mod moves;
 mod output;
-mod pair;
-mod printing;
 mod program;
-mod reads;
 mod run;
-mod shown;
-mod squash;
-mod walk;
 mod words;
 
-use crate::answer::Answer;
-use crate::fault::Fault;
-use crate::help::USAGE;
 use crate::program::answer_to_words;
 use std::io;
 use std::process::ExitCode;
+use yq_commands::{Answer, Fault, USAGE};
 
 fn main(rt: HostRuntime) -> io::Result<ExitCode> {
     match answer_to_words(&rt) {

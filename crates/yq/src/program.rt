@@ -1,13 +1,12 @@
 //! The program's words, carried out over real files and standard output.
 
-use crate::answer::Answer;
-use crate::command::{Command, purpose_of};
-use crate::fault::Fault;
 use crate::output::standard::StandardOut;
 use crate::run::run_list;
 use crate::words::command_of;
 use std::io::ErrorKind;
+use yq_commands::{Answer, Fault};
 use yq_store::DiskStore;
+use yq_words::{Command, purpose_of};
 
 /// The program's words, less its own name.
 fn given_words(rt: &HostRuntime) -> Result<Vec<String>, Fault> {

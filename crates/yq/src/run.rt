@@ -1,161 +1,21 @@
 //! Lists of commands, carried out over a store.
-ghost use Rattle.std.specs.Prelude.{◌≡◌, ◌≢◌, ◌⊎◌, ◌+◌, ◌-◌, ◌^◌, ◌<◌, ◌≤◌, ℕ, List, [], ◌∷◌, ◌++◌, Option, Some, None, IfOk, OnOk, IfErr, OnErr, IsTrue, MatchResult, All, true, false, if◌then◌else◌, min, length};
+ghost use Rattle.std.specs.Prelude.{◌≡◌, ◌≢◌, ◌+◌, ◌-◌, ◌^◌, ◌<◌, ℕ, List, ◌∷◌, ◌++◌, [], Option, IfOk, OnErr, IsTrue, MatchResult, All, true, false, if◌then◌else◌, min, length};
 ghost use Rattle.std.specs.List.{list_all};
 ghost use Rattle.std.specs.FinMap as map;
 ghost use Rattle.std.specs.String.{string_bytes};
 ghost use Rattle.yq_journal.specs.History.{History};
 ghost use Rattle.yq_store.specs.Count.{one_more};
-ghost use Rattle.yq.specs.Editing.{program_in};
-ghost use Rattle.yq.specs.Effects.{OfEffect, Works, from_pair, update_effect, walk_effect};
-ghost use Rattle.yq.specs.Faults.{is_outside, is_output, counted};
-ghost use Rattle.yq.specs.Lists.{AllFit, IsOn, IsStranger, Keeps, Run, RunExactly, Told, Recorded, IsRecorded, Records, Reply, answers_in, printed_in, has_memory, failures_in, output_failures_in, tells_output};
-ghost use Rattle.yq.specs.Pair.{Arrives, GoodIn, OthersStay};
-ghost use Rattle.yq.specs.Prints.{prints, shown_of};
-ghost use Rattle.yq.specs.Shown as spec;
-ghost use Rattle.yq.specs.Shown.{nothing, shown_by};
-ghost use Rattle.yq.specs.Steps.{cause_of, next_of, update_cause, update_next, walk_cause, walk_next};
-ghost use Rattle.yq.specs.Walks.{step_of};
+ghost use Rattle.yq_commands.specs.CommandNames.{IsOn, IsStranger};
+ghost use Rattle.yq.specs.Lists.{AllFit, Keeps, Run, RunExactly, Told, Records, Reply, answers_in, printed_in, has_memory, failures_in, output_failures_in, tells_output};
+ghost use Rattle.yq_commands.specs.Pair.{GoodIn};
+ghost use Rattle.yq_commands.specs.Shown as spec;
+ghost use Rattle.yq_commands.specs.Shown.{shown_by};
 
-use crate::answer::Answer;
-use crate::command::Command;
-use crate::edit::edit_from;
-use crate::editing::parse;
-use crate::evaluating::evaluate;
-use crate::fault::Fault;
-use crate::moves::walk_from;
 use crate::output::Out;
-use crate::pair::open_pair;
-use crate::printing::{help, listing};
-use crate::shown::Shown;
-use crate::squash::squash;
-use crate::walk::Walk;
 use std::alloc::{AllocError, Global};
+use yq_commands::{Answer, Fault, Shown, execute};
 use yq_store::Store;
-
-/// Undoes or redoes an edit of a file.
-fn walk<D: Store>(
-    alloc: Global,
-    store: &mut D,
-    file: &str,
-    name: &str,
-    walk: Walk,
-) -> Result<(), Fault>
-    ensures arrives { IsTrue D.keeps → file.now ≢ name.now → (h : Option History) → GoodIn (D.content store.old) file.now name.now h →
-        Arrives (D.content store.new) file.now name.now (walk_cause (step_of walk) h) h (walk_next (step_of walk) h) result }
-    ensures effect { IsTrue D.keeps → file.now ≢ name.now →
-        Works (from_pair (map.get (D.content store.old) file.now) (map.get (D.content store.old) name.now) (walk_effect (step_of walk))) file.now name.now (D.content store.old) (D.content store.new) result }
-    ensures kept { IsTrue D.keeps → IfErr result (λ e. is_outside e ≡ false → D.content store.new ≡ D.content store.old) }
-    ensures others { IsTrue D.keeps → OthersStay (D.content store.old) (D.content store.new) file.now name.now }
-    ensures quiet { IfErr result (λ e. is_output e ≡ false) }
-    ensures count { D.failures store.new ≡ counted result (D.failures store.old) }
-{
-    let (text, mut journal) = open_pair(alloc, store, file, name)?;
-    walk_from(
-        alloc,
-        store,
-        file,
-        name,
-        &mut journal,
-        walk,
-        text.as_slice(),
-    )
-}
-
-/// Edits a file in place.
-fn update<D: Store>(
-    alloc: Global,
-    store: &mut D,
-    file: &str,
-    name: &str,
-    expr: &str,
-) -> Result<(), Fault>
-    ensures arrives { IsTrue D.keeps → file.now ≢ name.now → (h : Option History) → GoodIn (D.content store.old) file.now name.now h →
-        Arrives (D.content store.new) file.now name.now (update_cause (program_in expr.now) h) h (update_next expr.now (program_in expr.now) h) result }
-    ensures effect { IsTrue D.keeps → file.now ≢ name.now →
-        Works (update_effect expr.now (program_in expr.now) (map.get (D.content store.old) file.now) (map.get (D.content store.old) name.now)) file.now name.now (D.content store.old) (D.content store.new) result }
-    ensures recorded { IsTrue D.keeps → OnOk result (Recorded expr.now (map.get (D.content store.old) file.now) (map.get (D.content store.new) name.now)) }
-    ensures kept { IsTrue D.keeps → IfErr result (λ e. is_outside e ≡ false → D.content store.new ≡ D.content store.old) }
-    ensures others { IsTrue D.keeps → OthersStay (D.content store.old) (D.content store.new) file.now name.now }
-    ensures quiet { IfErr result (λ e. is_output e ≡ false) }
-    ensures count { D.failures store.new ≡ counted result (D.failures store.old) }
-{
-    let program = parse(alloc, expr)?;
-    let (text, mut journal) = open_pair(alloc, store, file, name)?;
-    edit_from(
-        alloc,
-        store,
-        file,
-        name,
-        &mut journal,
-        &program,
-        expr,
-        text.as_slice(),
-    )
-}
-
-/// Carries out a command but for its output, and tells what it shows.
-fn execute<D: Store>(
-    alloc: Global,
-    store: &mut D,
-    command: &Command,
-    shown: &mut Shown,
-) -> Result<(), Fault>
-    requires empty { shown_by shown.old ≡ nothing }
-    ensures arrives { IsTrue D.keeps → (file name : List ℕ) → file ≢ name → IsOn file name command.now →
-        (h : Option History) → GoodIn (D.content store.old) file name h →
-        Arrives (D.content store.new) file name (cause_of command.now h) h (next_of command.now h) result }
-    ensures effect { IsTrue D.keeps → (file name : List ℕ) → file ≢ name → IsOn file name command.now →
-        OfEffect command.now (map.get (D.content store.old) file) (map.get (D.content store.old) name) (λ x. Works x file name (D.content store.old) (D.content store.new) result) }
-    ensures output { IsTrue D.keeps → (file name : List ℕ) → IsOn file name command.now →
-        (h : Option History) → GoodIn (D.content store.old) file name h →
-        OnOk result (shown_by shown.new ≡ shown_of command.now h) }
-    ensures silent { prints command.now ≡ false → shown_by shown.new ≡ nothing }
-    ensures still { IsTrue D.keeps → prints command.now ≡ true → D.content store.new ≡ D.content store.old }
-    ensures recorded { IsTrue D.keeps → OnOk result ((file name : List ℕ) → IsOn file name command.now →
-        IsRecorded command.now (map.get (D.content store.old) file) (map.get (D.content store.new) name)) }
-    ensures kept { IsTrue D.keeps → IfErr result (λ e. is_outside e ≡ false → D.content store.new ≡ D.content store.old) }
-    ensures others { IsTrue D.keeps → (q : List ℕ) → IsStranger q command.now → map.get (D.content store.new) q ≡ map.get (D.content store.old) q }
-    ensures quiet { IfErr result (λ e. is_output e ≡ false) }
-    ensures count { D.failures store.new ≡ counted result (D.failures store.old) }
-{
-    match command {
-        Command::Eval {
-            expr,
-            file,
-            journal,
-            in_place: true,
-            ..
-        } => update(alloc, store, file.as_str(), journal.as_str(), expr.as_str()),
-        Command::Eval {
-            expr,
-            file,
-            exit_status,
-            no_doc,
-            ..
-        } => evaluate(
-            alloc,
-            store,
-            file.as_str(),
-            expr.as_str(),
-            *exit_status,
-            *no_doc,
-            shown,
-        ),
-        Command::Undo { file, journal } => {
-            walk(alloc, store, file.as_str(), journal.as_str(), Walk::Undo)
-        }
-        Command::Redo { file, journal } => {
-            walk(alloc, store, file.as_str(), journal.as_str(), Walk::Redo)
-        }
-        Command::History { file, journal } => {
-            listing(alloc, store, file.as_str(), journal.as_str(), shown)
-        }
-        Command::Squash { n, file, journal } => {
-            squash(alloc, store, file.as_str(), journal.as_str(), *n)
-        }
-        Command::Help => help(alloc, shown),
-    }
-}
+use yq_words::Command;
 
 /// The answer to a command that was carried out.
 fn answer_by(is_match: bool) -> Answer

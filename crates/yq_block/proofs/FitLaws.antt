@@ -7,8 +7,8 @@ use Rattle.yq_flow.specs.Valued.{IsValueTree, AreValueTrees}
 use Rattle.yq_rows.specs.Rows as rows
 use Rattle.yq_rows.specs.Rows.{Row}
 use Rattle.yq_lines.specs.Anchors.{names_of, names_in, AreBound, HaveOneAnchorEach}
-use Rattle.yq_tree.specs.Documents.{MarkIsFit, ContentHasFitKeys, HaveFitKeys}
-use Rattle.yq_tree.specs.Lines.{content_anchor, lines_from, lines_of}
+use Rattle.yq_documents.specs.Documents.{MarkIsFit, ContentHasFitKeys, HaveFitKeys}
+use Rattle.yq_documents.specs.Lines.{content_anchor, lines_from, lines_of}
 use Rattle.yq_lines.specs.Outline.{Line}
 use Rattle.yq_block.specs.BlockRows.{behind_dash, children_rows, column_below, end_before, entry_rows, inline_of, node_rows}
 use Rattle.yq_block.specs.declared.layout.Layout.{Layout}

@@ -14,9 +14,9 @@ use Rattle.yq_rows.specs.Grammar.{is_entry, is_plain, unlimited, AreRows, no_row
 use Rattle.yq_rows.specs.Rows as rows
 use Rattle.yq_rows.specs.Rows.{Bare, Inline, Row, rows_text, last, cut_text}
 use Rattle.yq_rows.specs.Splices.{first_gap}
-use Rattle.yq_tree.specs.Documents.{IsRoot, HasShortRoot, is_long_plain, Reads, document_parts, AreDocuments}
+use Rattle.yq_documents.specs.Documents.{IsRoot, HasShortRoot, is_long_plain, Reads, document_parts, AreDocuments}
 use Rattle.yq_lines.specs.Grammar.{IsNode, alone, mapping, sequence}
-use Rattle.yq_tree.specs.Lines.{lines_of}
+use Rattle.yq_documents.specs.Lines.{lines_of}
 use Rattle.yq_lines.specs.Outline.{Line}
 use Rattle.std.proofs.Common.{not}
 use Rattle.yq_scalar.specs.BlockWritten.{break_text}

@@ -17,9 +17,9 @@ use Rattle.yq_rows.specs.Exchange.{asked_behind}
 use Rattle.yq_rows.specs.Grammar.{is_more, Limit, allows, AreRows, key_limit}
 use Rattle.yq_rows.specs.Rows.{rows_text}
 use Rattle.yq_lines.specs.Anchors.{HaveOneAnchorEach}
-use Rattle.yq_tree.specs.Documents.{HasFitKeys, HaveFitKeys, Reads}
+use Rattle.yq_documents.specs.Documents.{HasFitKeys, HaveFitKeys, Reads}
 use Rattle.yq_inline.specs.Trees.{node_anchor, node_head}
-use Rattle.yq_tree.specs.Lines.{lines_of}
+use Rattle.yq_documents.specs.Lines.{lines_of}
 use Rattle.yq_lines.specs.Outline.{Stands}
 use Rattle.yq_block.specs.declared.layout.Layout.{Layout}
 use Rattle.yq_block.specs.BlockRows.{inline_of, column_below, node_rows}

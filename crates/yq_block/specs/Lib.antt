@@ -6,8 +6,8 @@ pub use Rattle.yq_inline.specs.Written
 pub use Rattle.yq_rows.specs.Exchange
 pub use Rattle.yq_rows.specs.Grammar
 pub use Rattle.yq_rows.specs.Rows
-pub use Rattle.yq_tree.specs.Documents
-pub use Rattle.yq_tree.specs.TreeEdits
+pub use Rattle.yq_documents.specs.Documents
+pub use Rattle.yq_documents.specs.TreeEdits
 pub use Rattle.yq_lines.specs.Outline
 pub mod BlockRows
 pub mod BlockText

@@ -7,7 +7,7 @@ use Rattle.yq_rows.specs.Grammar.{is_entry}
 use Rattle.yq_rows.specs.Joined.{compact_row}
 use Rattle.yq_rows.specs.Rows as rows
 use Rattle.yq_rows.specs.Rows.{Content, Nothing, Row, behind_dashes, behind_indent, dashes_text, mark_column, mark_text, print_row, rows_text, Cut}
-use Rattle.yq_tree.specs.Documents.{HaveFitKeys}
+use Rattle.yq_documents.specs.Documents.{HaveFitKeys}
 use Rattle.yq_block.specs.BlockPlaces.{compact_rows}
 use Rattle.yq_block.proofs.LineLaws.{BeginAt}
 use Rattle.yq_block_ways.proofs.MarkRowLaws.{is_key}

@@ -18,11 +18,11 @@ use Rattle.yq_rows.specs.Grammar.{IsTail, is_entry}
 use Rattle.yq_rows.specs.Rows as rows
 use Rattle.yq_rows.specs.Rows.{Row, mark_column, rows_text, Part, Cut, cut_text}
 use Rattle.yq_rows.specs.View.{slices}
-use Rattle.yq_tree.specs.Documents.{Document, document_parts}
-use Rattle.yq_tree.specs.Lines.{tail_of}
+use Rattle.yq_documents.specs.Documents.{Document, document_parts}
+use Rattle.yq_documents.specs.Lines.{tail_of}
 use Rattle.yq_tree.specs.MarkPlaces.{MarkPlace}
-use Rattle.yq_tree.specs.Reading as reading
-use Rattle.yq_tree.specs.Reading.{documents, outline_of, read_at, root_of}
+use Rattle.yq_documents.specs.Reading as reading
+use Rattle.yq_documents.specs.Reading.{documents, outline_of, read_at, root_of}
 use Rattle.yq_tree.specs.RowPaths.{IsReadable}
 use Rattle.yq_tree.proofs.PrintedTexts.{map_some}
 use Rattle.yq_change.specs.Appends.{inserted}

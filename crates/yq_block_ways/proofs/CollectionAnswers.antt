@@ -8,7 +8,7 @@ use Rattle.yq_rows.specs.Grammar.{IsCut}
 use Rattle.yq_rows.specs.Rows.{rows_text, Cut, cut_text}
 use Rattle.yq_tree.specs.CollectionEnds.{CollectionEnd, collection_end}
 use Rattle.yq_tree.specs.MarkPlaces.{MarkPlace, mark_place}
-use Rattle.yq_tree.specs.Reading.{all_documents, cut_of, read_at}
+use Rattle.yq_documents.specs.Reading.{all_documents, cut_of, read_at}
 use Rattle.yq_tree.proofs.ReadLaws.{text_again}
 use Rattle.yq_block_ways.specs.CollectionReplacing.{EndsIn}
 use Rattle.yq_block_ways.proofs.CollectionReplaceLaws.{no_mark}

@@ -22,12 +22,12 @@ use Rattle.yq_rows.proofs.seams.FrontSeams.{rows_some}
 use Rattle.yq_rows.proofs.seams.SeamLaws.{rows_text-append}
 use Rattle.yq_tree.specs.CollectionEnds.{CollectionEnd, collection_end}
 use Rattle.yq_tree.specs.CommentPlaces.{LineEnd, end_before, end_of_line, line_end, line_text}
-use Rattle.yq_tree.specs.Lines.{content_anchor, head_of, lines_of, row_lines}
+use Rattle.yq_documents.specs.Lines.{content_anchor, head_of, lines_of, row_lines}
 use Rattle.yq_tree.specs.MarkPlaces.{MarkPlace, behind_anchor, behind_mark, column_of, mark_at, mark_in, mark_place, upto_anchor}
-use Rattle.yq_tree.specs.Nodes.{anchor_of}
+use Rattle.yq_documents.specs.Nodes.{anchor_of}
 use Rattle.yq_tree.specs.PlacedRows.{PlacedRow, placed_row, row_of_path}
 use Rattle.yq_tree.specs.PrintedLines.{last_break}
-use Rattle.yq_tree.specs.Reading.{outline_of, read_at}
+use Rattle.yq_documents.specs.Reading.{outline_of, read_at}
 use Rattle.yq_tree.proofs.CommentEndLaws.{row_line}
 use Rattle.yq_tree.proofs.CommentPieceLaws.{Ended}
 use Rattle.yq_tree.proofs.LastBreakLaws.{lf_last}

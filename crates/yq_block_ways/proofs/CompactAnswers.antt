@@ -6,7 +6,7 @@ use Rattle.yq_rows.specs.Grammar.{IsCut}
 use Rattle.yq_rows.specs.Rows.{Cut, cut_text}
 use Rattle.yq_tree.specs.CollectionEnds.{CollectionEnd, collection_end}
 use Rattle.yq_tree.specs.DashPlaces.{DashPlace, dash_place}
-use Rattle.yq_tree.specs.Reading.{all_documents, cut_of, read_at}
+use Rattle.yq_documents.specs.Reading.{all_documents, cut_of, read_at}
 use Rattle.yq_block_ways.specs.CollectionReplacing.{EndsIn}
 use Rattle.yq_block_ways.proofs.CollectionAnswers.{text_reads}
 use Rattle.yq_block_ways.proofs.CompactReplaceLaws.{no_dash}

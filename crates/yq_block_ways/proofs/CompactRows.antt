@@ -17,11 +17,11 @@ use Rattle.yq_rows.proofs.PlaceLaws.{row_then}
 use Rattle.yq_rows.proofs.seams.SeamLaws.{rows_text-append}
 use Rattle.yq_tree.specs.CollectionEnds.{CollectionEnd, collection_end}
 use Rattle.yq_tree.specs.DashPlaces.{DashPlace, dash_in, dash_place, past_dash, upto_dash}
-use Rattle.yq_tree.specs.Lines.{lines_of}
-use Rattle.yq_tree.specs.Nodes.{anchor_of}
+use Rattle.yq_documents.specs.Lines.{lines_of}
+use Rattle.yq_documents.specs.Nodes.{anchor_of}
 use Rattle.yq_tree.specs.PlacedRows.{PlacedRow, placed_row, row_of_path}
 use Rattle.yq_tree.specs.PrintedLines.{last_break}
-use Rattle.yq_tree.specs.Reading.{outline_of, read_at}
+use Rattle.yq_documents.specs.Reading.{outline_of, read_at}
 use Rattle.yq_tree.proofs.CommentPieceLaws.{Ended}
 use Rattle.yq_tree.proofs.DashLaws.{front_is, line_within, row_cut}
 use Rattle.yq_tree.proofs.PrintedTexts.{none_some, same}

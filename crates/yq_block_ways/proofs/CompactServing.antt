@@ -14,11 +14,11 @@ use Rattle.yq_rows.specs.Rows.{Cut, cut_text}
 use Rattle.yq_tree.specs.CollectionEnds.{CollectionEnd, collection_end}
 use Rattle.yq_tree.specs.CommentPlaces.{end_of_line, line_end}
 use Rattle.yq_tree.specs.DashPlaces.{DashPlace, dash_in, dash_place}
-use Rattle.yq_tree.specs.Lines.{lines_of}
+use Rattle.yq_documents.specs.Lines.{lines_of}
 use Rattle.yq_tree.specs.PathPieces.{printed_document}
 use Rattle.yq_tree.specs.PlacedRows.{PlacedPart, PlacedRow, placed_document, placed_row, row_of_path}
-use Rattle.yq_tree.specs.Reading.{outline_of, read_at}
-use Rattle.yq_tree.specs.Seats.{Seat, seat, seat_of}
+use Rattle.yq_documents.specs.Reading.{outline_of, read_at}
+use Rattle.yq_documents.specs.Seats.{Seat, seat, seat_of}
 use Rattle.yq_tree.proofs.PrintedTexts.{map_some, none_some}
 use Rattle.yq_tree.proofs.RootTold.{document_printed}
 use Rattle.yq_tree.proofs.SeatLineLaws.{seat_line}

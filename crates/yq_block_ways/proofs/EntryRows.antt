@@ -8,11 +8,11 @@ use Rattle.yq_lines.specs.Outline.{IsEven, flatten}
 use Rattle.yq_lines.specs.Places.{content}
 use Rattle.yq_rows.specs.Grammar.{IsRow, is_entry}
 use Rattle.yq_rows.specs.Rows.{Row, parent_indent, Part, part_text, Cut, cut_text}
-use Rattle.yq_tree.specs.Documents.{document_parts}
-use Rattle.yq_tree.specs.Lines.{content_anchor, lines_of, row_lines}
-use Rattle.yq_tree.specs.Nodes.{anchor_of}
+use Rattle.yq_documents.specs.Documents.{document_parts}
+use Rattle.yq_documents.specs.Lines.{content_anchor, lines_of, row_lines}
+use Rattle.yq_documents.specs.Nodes.{anchor_of}
 use Rattle.yq_tree.specs.PlacedRows.{PlacedRow}
-use Rattle.yq_tree.specs.Reading.{outline_of, read_at}
+use Rattle.yq_documents.specs.Reading.{outline_of, read_at}
 use Rattle.yq_tree.proofs.FoundLines.{each}
 use Rattle.yq_tree.proofs.ReadLaws.{text_takes}
 use Rattle.yq_tree.proofs.RowPathLaws.{document_fine}

@@ -15,7 +15,7 @@ use Rattle.yq_rows.specs.Rows.{Anchor, Content, Nothing, Inline, Block, anchor_t
 use Rattle.yq_rows.specs.View.{slices, colon_of}
 use Rattle.yq_rows.proofs.NodeExchange.{space_apart}
 use Rattle.yq_rows.proofs.NothingLaws.{name_again, tail_apart, tail_lead, tail_no_node}
-use Rattle.yq_tree.specs.Lines.{block_anchor, content_anchor, tail_of}
+use Rattle.yq_documents.specs.Lines.{block_anchor, content_anchor, tail_of}
 use Rattle.yq_tree.specs.ScalarPlaces.{anchor_before, space_before}
 use Rattle.yq_change.specs.TextPieces.{BeginsPiece}
 

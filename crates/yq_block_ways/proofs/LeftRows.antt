@@ -12,9 +12,9 @@ use Rattle.yq_rows.specs.Seams.{is_block}
 use Rattle.yq_rows.specs.View.{slices}
 use Rattle.yq_rows.proofs.NodeExchange.{mark_apart}
 use Rattle.yq_rows.proofs.PlaceLaws.{row_front-append}
-use Rattle.yq_tree.specs.Lines.{content_anchor}
+use Rattle.yq_documents.specs.Lines.{content_anchor}
 use Rattle.yq_tree.specs.MarkPlaces.{upto_anchor}
-use Rattle.yq_tree.specs.Nodes.{anchor_of}
+use Rattle.yq_documents.specs.Nodes.{anchor_of}
 use Rattle.yq_change.specs.DocumentRows.{behind_document}
 use Rattle.yq_change.proofs.CoreLaws.{put_core}
 use Rattle.yq_block_ways.proofs.MarkContentLaws.{anchor_left, left_anchor, left_apart, left_content, left_core_text, left_nothing, left_tail, left_text, tail_is}

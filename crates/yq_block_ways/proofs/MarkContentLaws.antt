@@ -19,7 +19,7 @@ use Rattle.yq_rows.proofs.NodeExchange.{space_apart}
 use Rattle.yq_rows.proofs.NodePieces.{BeginsAscii}
 use Rattle.yq_rows.proofs.NothingLaws.{tail_apart, tail_lead, tail_no_node}
 use Rattle.yq_rows.proofs.seams.ScalarSeams.{ends_return, name_seam}
-use Rattle.yq_tree.specs.Lines.{content_anchor, head_of, lines_from, lines_of, tail_of}
+use Rattle.yq_documents.specs.Lines.{content_anchor, head_of, lines_from, lines_of, tail_of}
 use Rattle.yq_tree.proofs.PrintedTexts.{none_some}
 use Rattle.yq_change.proofs.CoreLaws.{put_core}
 use Rattle.yq_block.proofs.LaidRows.{AreLaid}

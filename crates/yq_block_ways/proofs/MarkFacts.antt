@@ -11,9 +11,9 @@ use Rattle.yq_rows.specs.Rows.{Row, mark_column, parent_indent, print_row, rows_
 use Rattle.yq_rows.specs.View.{slices}
 use Rattle.yq_rows.proofs.CharacterLaws.{pairs_back}
 use Rattle.yq_tree.specs.CommentPlaces.{LineEnd, end_before, line_text, end_of_line}
-use Rattle.yq_tree.specs.Lines.{content_anchor}
+use Rattle.yq_documents.specs.Lines.{content_anchor}
 use Rattle.yq_tree.specs.MarkPlaces.{MarkPlace, behind_anchor, behind_mark, column_of, mark_at, upto_anchor}
-use Rattle.yq_tree.specs.Nodes.{anchor_of}
+use Rattle.yq_documents.specs.Nodes.{anchor_of}
 use Rattle.yq_tree.specs.PlacedRows.{PlacedRow, placed_row}
 use Rattle.yq_tree.proofs.LineEndLaws.{line_tail, end_of_tail, tail_is_end}
 use Rattle.yq_tree.proofs.MarkLaws.{mark_seam}

@@ -15,11 +15,11 @@ use Rattle.yq_rows.specs.Seams.{is_block}
 use Rattle.yq_rows.specs.View.{content_cut, slices, colon_of}
 use Rattle.yq_tree.specs.CommentPlaces.{LineEnd, end_of_line, line_end}
 use Rattle.yq_tree.specs.InlinePlaces.{InlinePlace, mark_inline, inline_from}
-use Rattle.yq_tree.specs.Lines.{lines_of, row_lines}
+use Rattle.yq_documents.specs.Lines.{lines_of, row_lines}
 use Rattle.yq_tree.specs.MarkPlaces.{MarkPlace, column_of, mark_at, mark_in, mark_place}
 use Rattle.yq_tree.specs.PlacedRows.{PlacedRow, placed_row, row_of_path}
-use Rattle.yq_tree.specs.Reading.{outline_of, read_at}
-use Rattle.yq_tree.specs.Seats.{Seat, seat, seat_of}
+use Rattle.yq_documents.specs.Reading.{outline_of, read_at}
+use Rattle.yq_documents.specs.Seats.{Seat, seat, seat_of}
 use Rattle.yq_tree.proofs.PrintedTexts.{map_some, none_some, same}
 use Rattle.yq_change.specs.DocumentRows.{IsDocumentPart}
 use Rattle.yq_change.specs.InlineRows.{LeadsToEntry, LeadsToContent, IsRowPlace}

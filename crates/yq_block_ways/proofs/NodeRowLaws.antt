@@ -22,13 +22,13 @@ use Rattle.yq_rows.specs.Rows.{Content, Nothing, Row, behind_columns, mark_colum
 use Rattle.yq_rows.specs.Splices.{behind_first, first_gap}
 use Rattle.yq_rows.proofs.seams.SeamLaws.{rows_text-append}
 use Rattle.yq_rows.proofs.splices.SpliceTexts.{own_gap, own_end, first_text, first_is}
-use Rattle.yq_tree.specs.Documents.{HaveFitKeys, document_parts, lead_of}
-use Rattle.yq_tree.specs.Lines.{content_anchor, dash_line, head_of, lines_from, mark_line, mark_of, tail_of, lines_of}
-use Rattle.yq_tree.specs.Nodes.{anchor_of}
-use Rattle.yq_tree.specs.Ready.{begins_no_node}
-use Rattle.yq_tree.specs.Reading.{outline_of, read_at, root_of}
+use Rattle.yq_documents.specs.Documents.{HaveFitKeys, document_parts, lead_of}
+use Rattle.yq_documents.specs.Lines.{content_anchor, dash_line, head_of, lines_from, mark_line, mark_of, tail_of, lines_of}
+use Rattle.yq_documents.specs.Nodes.{anchor_of}
+use Rattle.yq_documents.specs.Ready.{begins_no_node}
+use Rattle.yq_documents.specs.Reading.{outline_of, read_at, root_of}
 use Rattle.yq_tree.specs.RowPaths.{IsReadable}
-use Rattle.yq_tree.specs.TreeEdits.{led, replaced}
+use Rattle.yq_documents.specs.TreeEdits.{led, replaced}
 use Rattle.yq_tree.proofs.FoundLines.{each}
 use Rattle.yq_tree.proofs.NextLaws.{StartsAt, found_starts}
 use Rattle.yq_tree.proofs.ReadLaws.{text_takes}

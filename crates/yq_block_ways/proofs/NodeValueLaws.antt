@@ -22,10 +22,10 @@ use Rattle.yq_rows.specs.Rows.{Content, Nothing, Inline, Block, content_text, Ro
 use Rattle.yq_rows.specs.Seams.{is_block}
 use Rattle.yq_rows.proofs.NodeExchange.{inline_starts, space_apart}
 use Rattle.yq_rows.proofs.splices.PartPlaces.{part_ends}
-use Rattle.yq_tree.specs.Documents.{MarkIsFit, ContentHasFitKeys, HaveFitKeys}
+use Rattle.yq_documents.specs.Documents.{MarkIsFit, ContentHasFitKeys, HaveFitKeys}
 use Rattle.yq_tree.specs.InlinePlaces.{InlinePlace, mark_inline, node_inline}
-use Rattle.yq_tree.specs.Lines.{content_anchor, head_of, tail_of, lines_of, mark_of}
-use Rattle.yq_tree.specs.Nodes.{anchor_of}
+use Rattle.yq_documents.specs.Lines.{content_anchor, head_of, tail_of, lines_of, mark_of}
+use Rattle.yq_documents.specs.Nodes.{anchor_of}
 use Rattle.yq_change.specs.DocumentRows.{behind_document, part_number}
 use Rattle.yq_change.specs.InlineRows.{IsValueNode}
 use Rattle.yq_change.proofs.AnchorLaws.{fit_parts}

@@ -4,11 +4,11 @@ use Rattle.yq_scalar.specs.Answers.{◌>>=◌}
 use Rattle.yq_scalar.specs.Tree.{Node}
 use Rattle.yq_scalar.specs.declared.block_written.Break.{Break}
 use Rattle.yq_rows.specs.Rows.{cut_text}
-use Rattle.yq_tree.specs.declared.path.Path.{Path}
+use Rattle.yq_documents.specs.declared.path.Path.{Path}
 use Rattle.yq_tree.specs.declared.places.scalar_place.ScalarPlace as declared
 use Rattle.yq_tree.specs.FirstBreak.{first_break}
-use Rattle.yq_tree.specs.Located.{steps_of, located}
-use Rattle.yq_tree.specs.Reading.{cut_of}
+use Rattle.yq_documents.specs.Located.{steps_of, located}
+use Rattle.yq_documents.specs.Reading.{cut_of}
 use Rattle.yq_tree.specs.ScalarPlaces.{ScalarPlace, scalar_place}
 use Rattle.yq_tree.specs.ScalarTelling.{scalar_told}
 use Rattle.yq_meaning.specs.Operations.{replace}

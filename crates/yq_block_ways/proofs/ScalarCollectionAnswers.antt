@@ -1,10 +1,10 @@
 -- What replacing a block scalar by a collection comes to, by what the code finds.
 use Rattle.std.proofs.Common.{◌≡◌, List, Bool, true, false, cond, Option, Some, None, option_map, sym, ap, ◌∙◌}
 use Rattle.yq_scalar.specs.Tree.{Node}
-use Rattle.yq_tree.specs.declared.path.Path.{Path}
+use Rattle.yq_documents.specs.declared.path.Path.{Path}
 use Rattle.yq_tree.specs.declared.places.scalar_place.ScalarPlace as declared
-use Rattle.yq_tree.specs.Located.{steps_of}
-use Rattle.yq_tree.specs.Reading.{cut_of}
+use Rattle.yq_documents.specs.Located.{steps_of}
+use Rattle.yq_documents.specs.Reading.{cut_of}
 use Rattle.yq_tree.specs.ScalarPlaces.{scalar_place}
 use Rattle.yq_tree.specs.ScalarTelling.{scalar_told}
 use Rattle.yq_block.specs.declared.layout.Layout.{Layout}

@@ -7,7 +7,7 @@ use Rattle.yq_scalar.proofs.Bools.{guard_then}
 use Rattle.yq_flow.specs.Valued.{IsValueTree}
 use Rattle.yq_lines.specs.Places.{content}
 use Rattle.yq_rows.specs.Rows.{Part, Cut, cut_text}
-use Rattle.yq_tree.specs.Reading.{documents, read_at, root_of}
+use Rattle.yq_documents.specs.Reading.{documents, read_at, root_of}
 use Rattle.yq_tree.specs.ScalarPlaces.{ScalarPlace, scalar_place}
 use Rattle.yq_tree.proofs.PrintedTexts.{map_some}
 use Rattle.yq_change.specs.SoundRoots.{MayReplace}

@@ -38,13 +38,13 @@ use Rattle.yq_rows.specs.View.{slices}
 use Rattle.yq_rows.proofs.NodeExchange.{mark_apart, space_apart}
 use Rattle.yq_rows.proofs.splices.PartPlaces.{part_ends}
 use Rattle.yq_tree.specs.CommentPlaces.{LineEnd}
-use Rattle.yq_tree.specs.Documents.{Document, document_parts, lead_of}
-use Rattle.yq_tree.specs.Lines.{block_anchor}
-use Rattle.yq_tree.specs.Reading as reading
-use Rattle.yq_tree.specs.Reading.{documents, read_at, root_of}
+use Rattle.yq_documents.specs.Documents.{Document, document_parts, lead_of}
+use Rattle.yq_documents.specs.Lines.{block_anchor}
+use Rattle.yq_documents.specs.Reading as reading
+use Rattle.yq_documents.specs.Reading.{documents, read_at, root_of}
 use Rattle.yq_tree.specs.RowPaths.{IsReadable}
 use Rattle.yq_tree.specs.ScalarPlaces.{ScalarPlace, scalar_place}
-use Rattle.yq_tree.specs.TreeEdits.{led, replaced}
+use Rattle.yq_documents.specs.TreeEdits.{led, replaced}
 use Rattle.yq_tree.proofs.PrintedTexts.{map_some}
 use Rattle.yq_tree.proofs.WrittenLaws.{may_follow}
 use Rattle.yq_change.specs.Changed.{changed, IsChanged, put_document}

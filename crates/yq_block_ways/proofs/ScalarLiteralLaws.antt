@@ -44,8 +44,8 @@ use Rattle.yq_rows.specs.Rows.{Content, Block, anchor_text, Row, parent_indent, 
 use Rattle.yq_rows.specs.View.{slices}
 use Rattle.yq_rows.proofs.NodeExchange.{mark_apart, space_apart}
 use Rattle.yq_tree.specs.FirstBreak.{first_break}
-use Rattle.yq_tree.specs.Lines.{head_of}
-use Rattle.yq_tree.specs.Reading.{documents, read_at, root_of}
+use Rattle.yq_documents.specs.Lines.{head_of}
+use Rattle.yq_documents.specs.Reading.{documents, read_at, root_of}
 use Rattle.yq_tree.specs.RowPaths.{IsReadable}
 use Rattle.yq_tree.specs.ScalarPlaces.{ScalarPlace, scalar_place}
 use Rattle.yq_tree.proofs.PrintedTexts.{map_some}

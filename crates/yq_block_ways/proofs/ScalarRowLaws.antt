@@ -24,13 +24,13 @@ use Rattle.yq_rows.specs.Seams.{TakesPlace}
 use Rattle.yq_rows.proofs.ExchangeLaws.{one_row}
 use Rattle.yq_rows.proofs.PlaceLaws.{row_front-append}
 use Rattle.yq_rows.proofs.seams.SeamLaws.{rows_text-append}
-use Rattle.yq_tree.specs.Documents.{ContentHasFitKeys, document_parts, is_long_plain, lead_of}
-use Rattle.yq_tree.specs.Lines.{block_anchor, content_anchor, head_of, mark_line, tail_of, lines_of}
+use Rattle.yq_documents.specs.Documents.{ContentHasFitKeys, document_parts, is_long_plain, lead_of}
+use Rattle.yq_documents.specs.Lines.{block_anchor, content_anchor, head_of, mark_line, tail_of, lines_of}
 use Rattle.yq_tree.specs.PlacedRows.{PlacedRow, placed_row, row_of_path}
-use Rattle.yq_tree.specs.Reading.{outline_of, read_at, root_of}
+use Rattle.yq_documents.specs.Reading.{outline_of, read_at, root_of}
 use Rattle.yq_tree.specs.RowPaths.{IsReadable}
 use Rattle.yq_tree.specs.ScalarPlaces.{ScalarPlace, scalar_in, scalar_of, scalar_place}
-use Rattle.yq_tree.specs.TreeEdits.{led, replaced}
+use Rattle.yq_documents.specs.TreeEdits.{led, replaced}
 use Rattle.yq_tree.proofs.FoundLines.{each}
 use Rattle.yq_tree.proofs.PrintedTexts.{map_some, none_some}
 use Rattle.yq_tree.proofs.ReadLaws.{text_takes}

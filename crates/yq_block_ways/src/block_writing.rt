@@ -2,9 +2,9 @@
 //! the place of an inline node or of nothing.
 ghost use Rattle.std.specs.Prelude.{◌≡◌, IfOk, Some, option_map, string_bytes};
 ghost use Rattle.yq_inline.specs.Values.{node_of};
-ghost use Rattle.yq_tree.specs.Located.{steps_of};
+ghost use Rattle.yq_documents.specs.Located.{steps_of};
 ghost use Rattle.yq_tree.specs.MarkTelling.{mark_told};
-ghost use Rattle.yq_tree.specs.Reading.{cut_of};
+ghost use Rattle.yq_documents.specs.Reading.{cut_of};
 ghost use Rattle.yq_block.specs.BlockRows.{item_column};
 ghost use Rattle.yq_meaning.specs.Operations.{operation_of};
 ghost use Rattle.yq_block_ways.specs.BlockWriting as spec;

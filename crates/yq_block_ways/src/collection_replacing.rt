@@ -2,10 +2,10 @@
 ghost use Rattle.std.specs.Prelude.{◌≡◌, ◌∷◌, ℕ, List, IfOk, Some, option_map, string_bytes};
 ghost use Rattle.yq_inline.specs.Values as values;
 ghost use Rattle.yq_tree.specs.CollectionTelling.{collection_told};
-ghost use Rattle.yq_tree.specs.Located.{steps_of};
+ghost use Rattle.yq_documents.specs.Located.{steps_of};
 ghost use Rattle.yq_tree.specs.MarkTelling.{mark_told};
 ghost use Rattle.yq_tree.specs.PrintedLines as lines;
-ghost use Rattle.yq_tree.specs.Reading.{cut_of};
+ghost use Rattle.yq_documents.specs.Reading.{cut_of};
 ghost use Rattle.yq_tree.specs.declared.places.collection_end.CollectionEnd.{CollectionEnd as CollectionEndOf};
 ghost use Rattle.yq_tree.specs.declared.places.mark_place.MarkPlace.{MarkPlace as MarkPlaceOf};
 ghost use Rattle.yq_meaning.specs.Operations.{operation_of};

@@ -3,8 +3,8 @@ ghost use Rattle.std.specs.Prelude.{◌≡◌, IfOk, Some, option_map, string_by
 ghost use Rattle.yq_inline.specs.Values as values;
 ghost use Rattle.yq_tree.specs.CollectionTelling.{collection_told};
 ghost use Rattle.yq_tree.specs.DashTelling.{dash_told};
-ghost use Rattle.yq_tree.specs.Located.{steps_of};
-ghost use Rattle.yq_tree.specs.Reading.{cut_of};
+ghost use Rattle.yq_documents.specs.Located.{steps_of};
+ghost use Rattle.yq_documents.specs.Reading.{cut_of};
 ghost use Rattle.yq_tree.specs.declared.places.collection_end.CollectionEnd.{CollectionEnd as CollectionEndOf};
 ghost use Rattle.yq_tree.specs.declared.places.dash_place.DashPlace.{DashPlace as DashPlaceOf};
 ghost use Rattle.yq_meaning.specs.Operations.{operation_of};

@@ -4,9 +4,9 @@ ghost use Rattle.std.specs.Prelude.{◌≡◌, [], IfOk, Some, if◌then◌else�
 ghost use Rattle.yq_meaning.specs.Operations.{operation_of};
 ghost use Rattle.yq_inline.specs.Values as values;
 ghost use Rattle.yq_scalar.specs.Text.{is_empty, is_feed};
-ghost use Rattle.yq_tree.specs.Nodes.{node_of};
+ghost use Rattle.yq_documents.specs.Nodes.{node_of};
 ghost use Rattle.yq_tree.specs.PrintedLines as lines;
-ghost use Rattle.yq_tree.specs.Reading.{cut_of};
+ghost use Rattle.yq_documents.specs.Reading.{cut_of};
 ghost use Rattle.yq_tree.specs.ScalarTelling.{scalar_told};
 ghost use Rattle.yq_block_ways.specs.ScalarReplacing as spec;
 ghost use Rattle.yq_ways.specs.WayAnswers.{Carries};

@@ -2,7 +2,7 @@
 ghost use Rattle.std.specs.Prelude.{◌≡◌};
 ghost use Rattle.yq_meaning.specs.Operations.{operation_of};
 ghost use Rattle.yq_inline.specs.Values as values;
-ghost use Rattle.yq_tree.specs.Reading.{cut_of};
+ghost use Rattle.yq_documents.specs.Reading.{cut_of};
 ghost use Rattle.yq_tree.specs.ScalarTelling.{scalar_told};
 ghost use Rattle.yq_block_ways.specs.ScalarLiteral as spec;
 ghost use Rattle.yq_ways.specs.WayAnswers.{Carries};

@@ -6,7 +6,7 @@ use Rattle.yq_rows.specs.Grammar.{AreRows, IsMark, Limit, limit_after}
 use Rattle.yq_rows.specs.Removal.{block_of}
 use Rattle.yq_rows.specs.Rows as rows
 use Rattle.yq_rows.specs.Rows.{Content, Nothing, Inline, Block, Row}
-use Rattle.yq_tree.specs.Lines.{mark_of}
+use Rattle.yq_documents.specs.Lines.{mark_of}
 use Rattle.yq_tree.specs.PrintedLines.{PrintedLine, printed_from, printed_lines, printed_row}
 
 -- A line is no block scalar's, if it is a node itself.

@@ -5,7 +5,7 @@ use Rattle.yq_scalar.specs.Tree as tree
 use Rattle.yq_flow.specs.Valued.{IsValueTree}
 use Rattle.yq_lines.specs.Places.{Found, find}
 use Rattle.yq_rows.specs.Rows.{Cut, cut_text}
-use Rattle.yq_tree.specs.Reading.{documents, outline_of, read_at, root_of}
+use Rattle.yq_documents.specs.Reading.{documents, outline_of, read_at, root_of}
 use Rattle.yq_tree.specs.RemovalPlaces.{has_others_at}
 use Rattle.yq_change.specs.Siblings.{IsCollectionAt}
 use Rattle.yq_meaning.specs.Changes.{Room}

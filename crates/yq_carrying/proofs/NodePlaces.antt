@@ -15,17 +15,17 @@ use Rattle.yq_lines.specs.Spots.{is_bare}
 use Rattle.yq_rows.specs.Removal.{block_of}
 use Rattle.yq_rows.specs.Rows.{Content, Nothing, Inline, Block, Row, Part, Cut, cut_text}
 use Rattle.yq_tree.specs.CollectionEnds.{CollectionEnd, are_broken, collection_end, end_in, end_of_entry, end_of_found, end_of_lines}
-use Rattle.yq_tree.specs.Documents.{document_parts}
+use Rattle.yq_documents.specs.Documents.{document_parts}
 use Rattle.yq_tree.specs.Existence.{some_lines}
 use Rattle.yq_tree.specs.InlinePlaces.{InlinePlace, entry_inline, inline_from, inline_in, inline_in_entry, lines_inline, mark_inline}
-use Rattle.yq_tree.specs.Lines.{lines_of}
+use Rattle.yq_documents.specs.Lines.{lines_of}
 use Rattle.yq_tree.specs.PathPieces.{BlockEntry, PrintedDocument, found_entry, printed_document}
 use Rattle.yq_tree.specs.PlacedRows.{PlacedPart, PlacedRow, placed_document, placed_row, row_of_path}
 use Rattle.yq_tree.specs.PrintedLines.{PrintedLine, line_front, line_in, print_line, print_lines, printed_lines, run_piece}
-use Rattle.yq_tree.specs.Reading.{outline_of, read_at}
+use Rattle.yq_documents.specs.Reading.{outline_of, read_at}
 use Rattle.yq_tree.specs.RootPlaces.{RootPlace, root_in, root_of_lines, root_place, unwritten_root, written_root}
 use Rattle.yq_tree.specs.ScalarPlaces.{ScalarPlace, scalar_in, scalar_of, scalar_place}
-use Rattle.yq_tree.specs.Seats.{Seat, seat, seat_of}
+use Rattle.yq_documents.specs.Seats.{Seat, seat, seat_of}
 use Rattle.yq_tree.proofs.FoundEntries.{entry_found, entry_is, entry_on, line_there}
 use Rattle.yq_tree.proofs.PlacedRowLaws.{document_placed}
 use Rattle.yq_tree.proofs.PrintedLaws.{ArePrinted, lines_are, rows_printed}

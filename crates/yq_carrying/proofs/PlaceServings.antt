@@ -19,13 +19,13 @@ use Rattle.yq_tree.specs.CollectionEnds.{CollectionEnd, collection_end}
 use Rattle.yq_tree.specs.CommentPlaces.{LineEnd, end_of_line, line_end}
 use Rattle.yq_tree.specs.FirstBreak.{first_break}
 use Rattle.yq_tree.specs.InlinePlaces.{InlinePlace, apart_from, inline_from, written_text}
-use Rattle.yq_tree.specs.Lines.{lines_of, row_lines}
+use Rattle.yq_documents.specs.Lines.{lines_of, row_lines}
 use Rattle.yq_tree.specs.MarkPlaces.{MarkPlace, mark_in, mark_place}
 use Rattle.yq_tree.specs.PathPieces.{printed_document}
 use Rattle.yq_tree.specs.PlacedRows.{PlacedPart, PlacedRow, placed_document, placed_row, row_of_path}
-use Rattle.yq_tree.specs.Reading.{outline_of, read_at}
+use Rattle.yq_documents.specs.Reading.{outline_of, read_at}
 use Rattle.yq_tree.specs.ScalarPlaces.{ScalarPlace, scalar_place}
-use Rattle.yq_tree.specs.Seats.{Seat, behind_one, seat, seat_of}
+use Rattle.yq_documents.specs.Seats.{Seat, behind_one, seat, seat_of}
 use Rattle.yq_tree.proofs.PrintedTexts.{map_some}
 use Rattle.yq_tree.proofs.RootTold.{document_printed}
 use Rattle.yq_change.specs.InlineRows.{LeadsToContent, LeadsToEntry, IsRowPlace}

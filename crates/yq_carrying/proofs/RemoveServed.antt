@@ -11,17 +11,17 @@ use Rattle.yq_lines.specs.Group.{group}
 use Rattle.yq_lines.specs.Outline.{Mark, Bare, Key, Dash, Line, Outline, end, row, anchored, children, collection, flatten, value}
 use Rattle.yq_lines.specs.Places.{Found, find, lines_after, lines_before}
 use Rattle.yq_rows.specs.Rows.{Part, Cut, cut_text}
-use Rattle.yq_tree.specs.declared.path.Part.TheVariants.{Entry}
-use Rattle.yq_tree.specs.Documents.{Document, document_parts}
+use Rattle.yq_documents.specs.declared.path.Part.TheVariants.{Entry}
+use Rattle.yq_documents.specs.Documents.{Document, document_parts}
 use Rattle.yq_tree.specs.FirstPlaces.{first_entry, first_out}
-use Rattle.yq_tree.specs.Lines.{lines_of}
+use Rattle.yq_documents.specs.Lines.{lines_of}
 use Rattle.yq_tree.specs.PathPieces.{BlockEntry, PrintedDocument, entry_piece, found_entry, piece_in, piece_in_entry, printed_document}
-use Rattle.yq_tree.specs.Pieces.{Piece}
+use Rattle.yq_documents.specs.Pieces.{Piece}
 use Rattle.yq_tree.specs.PlacedRows.{PlacedPart, placed_document}
 use Rattle.yq_tree.specs.PrintedLines.{line_in}
-use Rattle.yq_tree.specs.Reading.{document_of, outline_of, read_at}
+use Rattle.yq_documents.specs.Reading.{document_of, outline_of, read_at}
 use Rattle.yq_tree.specs.RemovalPlaces.{OwnRows, Removal, has_others_at, in_three, own_rows, removal_place, row_count, rows_out}
-use Rattle.yq_tree.specs.Seats.{Seat, seat, seat_of}
+use Rattle.yq_documents.specs.Seats.{Seat, seat, seat_of}
 use Rattle.yq_tree.proofs.FoundEntries.{entry_there}
 use Rattle.yq_tree.proofs.FoundLines.{middle}
 use Rattle.yq_tree.proofs.PlacedRowLaws.{document_placed, part_of}

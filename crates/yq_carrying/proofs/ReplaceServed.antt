@@ -11,10 +11,10 @@ use Rattle.yq_lines.specs.Places.{Found, find, content}
 use Rattle.yq_lines.proofs.Finding.{path_node}
 use Rattle.yq_rows.specs.Rows.{Part, Cut, cut_text}
 use Rattle.yq_tree.specs.CommentPlaces.{LineEnd, end_of_line, line_end}
-use Rattle.yq_tree.specs.Documents.{document_parts}
+use Rattle.yq_documents.specs.Documents.{document_parts}
 use Rattle.yq_tree.specs.MarkPlaces.{MarkPlace, mark_in, mark_place}
 use Rattle.yq_tree.specs.PlacedRows.{PlacedRow, row_of_path}
-use Rattle.yq_tree.specs.Reading.{outline_of, read_at, root_of}
+use Rattle.yq_documents.specs.Reading.{outline_of, read_at, root_of}
 use Rattle.yq_tree.proofs.PrintedTexts.{none_some}
 use Rattle.yq_change.specs.Siblings.{IsCollectionAt, NodeLines}
 use Rattle.yq_change.proofs.NodeLineLaws.{lines_found}

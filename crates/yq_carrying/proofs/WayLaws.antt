@@ -1,7 +1,7 @@
 -- What is answered by the first of two ways, or else by the second.
 use Rattle.std.proofs.Common.{◌≡◌, ℕ, List, [], ◌∷◌, Option, Some, None, option_map, Result, Ok, Err, refl, sym, ◌∙◌, subst}
 use Rattle.yq_rows.specs.Rows.{Cut}
-use Rattle.yq_tree.specs.Reading.{cut_of, read_at}
+use Rattle.yq_documents.specs.Reading.{cut_of, read_at}
 use Rattle.yq_script.specs.Exchanging.{Exchanged, NotExchanged, exchange_of}
 use Rattle.yq_script.specs.Script.{Segment, keep}
 use Rattle.yq_script.specs.declared.edited.Edited.{Edited}

@@ -4,7 +4,7 @@ ghost use Rattle.yq_rows.specs.Rows.{Cut, cut_text};
 ghost use Rattle.yq_meaning.specs.Fits.{Fits};
 ghost use Rattle.yq_meaning.specs.Operations.{Operation, operation_of};
 ghost use Rattle.yq_meaning.specs.Rooms.{room_of};
-ghost use Rattle.yq_tree.specs.Reading.{cut_of, documents, read_at};
+ghost use Rattle.yq_documents.specs.Reading.{cut_of, documents, read_at};
 ghost use Rattle.yq_script.specs.Exchanging.{Exchanged, exchange_of};
 ghost use Rattle.yq_carrying.specs.Carrying as spec;
 ghost use Rattle.yq_ways.specs.Operands.{HasOperand};

@@ -4,14 +4,14 @@ use Rattle.std.specs.List.{slice_get}
 use Rattle.yq_scalar.specs.Paths.{change_child, within}
 use Rattle.yq_scalar.specs.Tree.{Node, Children, none, child, children_of}
 use Rattle.yq_rows.specs.Rows.{Part}
-use Rattle.yq_tree.specs.Documents.{Document, document_parts, lead_of}
-use Rattle.yq_tree.specs.Reading.{document_of, root_of}
+use Rattle.yq_documents.specs.Documents.{Document, document_parts, lead_of}
+use Rattle.yq_documents.specs.Reading.{document_of, root_of}
 use Rattle.yq_change.specs.After.{EndIsChange, with_root_after, AfterBlock, AfterKept, ChangedAlike}
 use Rattle.yq_change.specs.Changed.{changed}
 use Rattle.yq_change.specs.Edited.{first_above}
 use Rattle.yq_change.proofs.ChangedLaws.{document_put}
 use Rattle.yq_change.proofs.EditedLaws.{root_has_lead}
-use Rattle.yq_tree.specs.TreeEdits.{change_nth, lead_by}
+use Rattle.yq_documents.specs.TreeEdits.{change_nth, lead_by}
 
 pub end_is_change : EndIsChange
 end_is_change g [] s n = refl

@@ -16,14 +16,14 @@ use Rattle.yq_rows.proofs.seams.LessLaws.{starts_less}
 use Rattle.yq_rows.proofs.RowAgain.{row_starts}
 use Rattle.yq_rows.proofs.splices.PartPlaces.{part_in}
 use Rattle.yq_rows.proofs.seams.FrontSeams.{seams_any, seams_line}
-use Rattle.yq_tree.specs.Documents.{HaveFitKeys, HasShortRoot}
+use Rattle.yq_documents.specs.Documents.{HaveFitKeys, HasShortRoot}
 use Rattle.yq_lines.specs.Group.{level_or}
-use Rattle.yq_tree.specs.Lines.{lines_from, lines_of}
+use Rattle.yq_documents.specs.Lines.{lines_from, lines_of}
 use Rattle.yq_lines.specs.Outline.{Line, Outline, flatten}
 use Rattle.yq_lines.specs.Outline.{end}
 use Rattle.yq_lines.specs.Outline.{row}
 use Rattle.yq_lines.specs.Places.{lines_before, lines_after}
-use Rattle.yq_tree.specs.Reading.{outline_of}
+use Rattle.yq_documents.specs.Reading.{outline_of}
 use Rattle.yq_lines.proofs.Decides.{flatten-group}
 use Rattle.yq_change.specs.Siblings.{HasEntries, put_lines}
 use Rattle.yq_change.proofs.AnchorLaws.{fit_parts, fit_from}

@@ -3,12 +3,12 @@ use Rattle.std.proofs.Common.{◌≡◌, ℕ, suc, ◌+◌, List, [], ◌∷◌,
 use Rattle.yq_scalar.specs.Keys.{keys_of}
 use Rattle.yq_scalar.specs.Paths.{child_at, node_at, within}
 use Rattle.yq_scalar.specs.Tree.{Node, Children, children_of}
-use Rattle.yq_tree.specs.Documents.{lead_of}
+use Rattle.yq_documents.specs.Documents.{lead_of}
 use Rattle.yq_lines.specs.Group.{level_or}
-use Rattle.yq_tree.specs.Lines.{lines_from, lines_of}
+use Rattle.yq_documents.specs.Lines.{lines_from, lines_of}
 use Rattle.yq_lines.specs.Outline.{Mark, Bare, Key, Dash, Line, Outline, end, row, flatten, anchored, label, collection, children, value}
 use Rattle.yq_lines.specs.Places.{lines_before, content}
-use Rattle.yq_tree.specs.Reading.{outline_of, root_of}
+use Rattle.yq_documents.specs.Reading.{outline_of, root_of}
 use Rattle.yq_lines.specs.Comments.{head_comment}
 use Rattle.yq_rows.specs.Rows.{Row, behind_columns}
 use Rattle.yq_lines.proofs.Finding.{FoundNode, path_node, row_child}
@@ -30,7 +30,7 @@ use Rattle.yq_change.proofs.SiblingLaws.{entry_in, entry_out}
 use Rattle.yq_change.proofs.NodeLineLaws.{unanchored}
 use Rattle.yq_change.proofs.SoundRootLaws.{replace_keeps, append_keeps}
 use Rattle.yq_change.proofs.SoundRootLess.{remove_keeps, relabel_keeps}
-use Rattle.yq_tree.specs.TreeEdits.{headed, replaced}
+use Rattle.yq_documents.specs.TreeEdits.{headed, replaced}
 use Rattle.yq_lines.specs.Anchors.{HaveOneAnchorEach}
 
 pub node_replaced : NodeReplaced

@@ -7,18 +7,18 @@ use Rattle.yq_lines.specs.Comments.{head_comment}
 use Rattle.yq_rows.specs.Grammar.{no_rows, begins_document}
 use Rattle.yq_rows.specs.Rows.{Row, Part, Cut, last, marked, part_text, cut_text}
 use Rattle.yq_rows.proofs.PlaceLaws.{part_then}
-use Rattle.yq_tree.specs.Documents.{Document, IsRoot, parts_from, has_begin, begins_bare, document_parts, lead_of}
+use Rattle.yq_documents.specs.Documents.{Document, IsRoot, parts_from, has_begin, begins_bare, document_parts, lead_of}
 use Rattle.yq_rows.specs.Splices.{first_gap}
-use Rattle.yq_tree.specs.Lines.{lines_from, lines_of}
+use Rattle.yq_documents.specs.Lines.{lines_from, lines_of}
 use Rattle.yq_lines.specs.Outline.{Line, Outline, end, row, flatten, value, null_node}
-use Rattle.yq_tree.specs.Reading.{root_of, document_of, is_document, all_documents, read_at}
+use Rattle.yq_documents.specs.Reading.{root_of, document_of, is_document, all_documents, read_at}
 use Rattle.yq_lines.proofs.ByRules.{rules_from}
 use Rattle.yq_tree.proofs.DocumentLaws.{is_document_of}
 use Rattle.yq_tree.proofs.ReadLaws.{text_takes, text_again}
 use Rattle.yq_scalar.proofs.Bools.{guard_then}
 use Rattle.yq_change.specs.Siblings.{StandsSomewhere}
 use Rattle.yq_change.specs.Changed.{put_from, put_document, KeepsRows, DocumentPut, DifferIn, TextPut, changed, PartStands, DocumentChanged, first_comment, LeadIsFirst}
-use Rattle.yq_tree.specs.TreeEdits.{change_nth}
+use Rattle.yq_documents.specs.TreeEdits.{change_nth}
 
 -- parts
 from_put : (is : Bool) (k : ℕ) (q : Part) (c : Cut) → parts_from is (put_from is k q c) ≡ change_nth k (λ x. q) (parts_from is c)

@@ -19,11 +19,11 @@ use Rattle.yq_lines.specs.Places.{here, lines_before, Found, find}
 use Rattle.yq_lines.specs.Spots.{is_bare}
 use Rattle.yq_lines.proofs.Decides.{flatten-group}
 use Rattle.yq_tree.specs.CollectionEnds.{CollectionEnd, is_broken, are_broken, end_of_lines, end_of_entry, end_of_found, end_in}
-use Rattle.yq_tree.specs.Documents.{begins_bare, has_begin}
-use Rattle.yq_tree.specs.Lines.{lines_of}
+use Rattle.yq_documents.specs.Documents.{begins_bare, has_begin}
+use Rattle.yq_documents.specs.Lines.{lines_of}
 use Rattle.yq_tree.specs.PathPieces.{BlockEntry, PrintedDocument, found_entry, printed_document}
 use Rattle.yq_tree.specs.PrintedLines.{PrintedLine, print_line, print_lines, printed_from, printed_row, printed_lines, line_in}
-use Rattle.yq_tree.specs.Reading.{outline_of}
+use Rattle.yq_documents.specs.Reading.{outline_of}
 use Rattle.yq_tree.proofs.FoundEntries.{IsFound, entry_found, lines_count}
 use Rattle.yq_tree.proofs.PrintedLaws.{ArePrinted, lines_are, rows_printed}
 use Rattle.yq_tree.proofs.PrintedTexts.{same, none_some, line_split, line_then, lines_then, lines_append, rows_are}

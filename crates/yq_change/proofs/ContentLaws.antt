@@ -23,12 +23,12 @@ use Rattle.yq_rows.specs.Rows.{Content, Nothing, Inline, Block, Row, mark_column
 use Rattle.yq_rows.specs.SpliceFits.{StandsFor}
 use Rattle.yq_rows.specs.Splices.{asked_at, first_gap, nth_part, rest_behind, splice}
 use Rattle.yq_rows.proofs.splices.RowReplaced.{row_exchanged}
-use Rattle.yq_tree.specs.Documents.{HaveFitKeys, HasShortRoot, lead_of}
-use Rattle.yq_tree.specs.Lines.{block_anchor, content_anchor, head_of, mark_of, mark_line, lines_of}
-use Rattle.yq_tree.specs.Nodes.{anchor_of}
-use Rattle.yq_tree.specs.Reading.{outline_of, root_of}
+use Rattle.yq_documents.specs.Documents.{HaveFitKeys, HasShortRoot, lead_of}
+use Rattle.yq_documents.specs.Lines.{block_anchor, content_anchor, head_of, mark_of, mark_line, lines_of}
+use Rattle.yq_documents.specs.Nodes.{anchor_of}
+use Rattle.yq_documents.specs.Reading.{outline_of, root_of}
 use Rattle.yq_tree.specs.RowPaths.{spelled, IsReadable}
-use Rattle.yq_tree.specs.TreeEdits.{replaced}
+use Rattle.yq_documents.specs.TreeEdits.{replaced}
 use Rattle.yq_change.specs.Changed.{IsChanged, put_document}
 use Rattle.yq_change.specs.Contents.{recontent, TakesContent, EntryContentReplaced, LowerContentReplaced, RootContentReplaced}
 use Rattle.yq_change.specs.Appends.{inserted}

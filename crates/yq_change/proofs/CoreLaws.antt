@@ -10,7 +10,7 @@ use Rattle.yq_inline.proofs.WrittenLaws.{node_then}
 use Rattle.yq_rows.specs.Grammar.{IsContent, is_more}
 use Rattle.yq_rows.specs.Rows.{Content, Nothing, Inline, Block, content_text}
 use Rattle.yq_rows.proofs.Fronts.{node_starts}
-use Rattle.yq_tree.specs.Documents.{HasFitKeys}
+use Rattle.yq_documents.specs.Documents.{HasFitKeys}
 use Rattle.yq_tree.specs.InlinePlaces.{InlinePlace, node_inline, mark_inline}
 use Rattle.yq_tree.specs.RowPaths.{apart}
 use Rattle.yq_tree.proofs.PrintedTexts.{same, none_some}

@@ -11,13 +11,13 @@ use Rattle.yq_scalar.proofs.Bools.{guard_then}
 use Rattle.yq_lines.specs.Comments.{head_comment}
 use Rattle.yq_rows.specs.Rows.{Part, Cut}
 use Rattle.yq_lines.specs.Anchors.{names_of, AreBound, IsFree, HaveOneAnchorEach}
-use Rattle.yq_tree.specs.Documents.{Document, document_parts, lead_of}
+use Rattle.yq_documents.specs.Documents.{Document, document_parts, lead_of}
 use Rattle.yq_lines.specs.Group.{level_or}
 use Rattle.yq_lines.specs.Laws.{with_lines}
-use Rattle.yq_tree.specs.Lines.{lines_of}
+use Rattle.yq_documents.specs.Lines.{lines_of}
 use Rattle.yq_lines.specs.Outline.{Mark, Bare, Key, Dash, Line, level, Outline, end, row, flatten, IsWhole, IsEven, anchored, head_or, label, collection, children, value}
 use Rattle.yq_lines.specs.Places.{lines_before, lines_after, plug, Found, find, content}
-use Rattle.yq_tree.specs.Reading.{document_of, is_document, outline_of, read_at, root_of}
+use Rattle.yq_documents.specs.Reading.{document_of, is_document, outline_of, read_at, root_of}
 use Rattle.yq_lines.proofs.Allowing as allowing
 use Rattle.yq_lines.proofs.Allowing.{Allows}
 use Rattle.yq_lines.proofs.Decides.{flatten-group, even_from}
@@ -39,7 +39,7 @@ use Rattle.yq_change.proofs.ChangedLaws.{document_changed, lead_is_first}
 use Rattle.yq_change.proofs.CollectionLaws.{Splits, some_at, level_mark, appended, removed, relabelled}
 use Rattle.yq_change.proofs.NodeLineLaws.{Under, lines_found, lines_even, lines_replaced, unanchored}
 use Rattle.yq_change.proofs.SiblingLaws.{entry_out, entries, even_right, next, rest_entries}
-use Rattle.yq_tree.specs.TreeEdits.{change_nth, headed}
+use Rattle.yq_documents.specs.TreeEdits.{change_nth, headed}
 
 -- What is known of a part that is a document.
 pub record Known (p : Part) : Type 0 where

@@ -28,14 +28,14 @@ use Rattle.yq_rows.proofs.seams.ScalarSeams.{ends_return}
 use Rattle.yq_rows.proofs.seams.SeamLaws.{line_by_break, rows_drop}
 use Rattle.yq_rows.proofs.splices.PartPlaces.{part_in}
 use Rattle.yq_rows.proofs.seams.TailLaws.{return_then}
-use Rattle.yq_tree.specs.Documents.{HaveFitKeys, HasShortRoot}
+use Rattle.yq_documents.specs.Documents.{HaveFitKeys, HasShortRoot}
 use Rattle.yq_lines.specs.Group.{level_or}
-use Rattle.yq_tree.specs.Lines.{mark_line, lines_of}
+use Rattle.yq_documents.specs.Lines.{mark_line, lines_of}
 use Rattle.yq_inline.specs.Trees as trees
-use Rattle.yq_tree.specs.Lines as lines
+use Rattle.yq_documents.specs.Lines as lines
 use Rattle.yq_lines.specs.Outline.{Line, flatten}
 use Rattle.yq_lines.specs.Places.{lines_before, lines_after}
-use Rattle.yq_tree.specs.Reading.{outline_of}
+use Rattle.yq_documents.specs.Reading.{outline_of}
 use Rattle.yq_tree.specs.RowPaths.{IsReadable}
 use Rattle.yq_lines.proofs.Decides.{flatten-group}
 use Rattle.yq_change.specs.Changed.{put_document}

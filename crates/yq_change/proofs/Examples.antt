@@ -5,9 +5,9 @@ use Rattle.yq_inline.specs.Scalars.{content_of}
 use Rattle.yq_inline.specs.Trees.{tree_of}
 use Rattle.yq_rows.specs.Grammar.{IsCut}
 use Rattle.yq_rows.proofs.ScanLaws.{scan_takes}
-use Rattle.yq_tree.specs.Lines.{mark_line}
+use Rattle.yq_documents.specs.Lines.{mark_line}
 use Rattle.yq_lines.specs.Places.{content, here, below, find_row}
-use Rattle.yq_tree.specs.Reading.{all_documents, outline_of, read_at, text_at}
+use Rattle.yq_documents.specs.Reading.{all_documents, outline_of, read_at, text_at}
 use Rattle.yq_tree.proofs.ReadLaws.{text_again}
 use Rattle.yq_scalar.specs.Paths.{append_child, change, within, To, Nth}
 use Rattle.yq_change.specs.Changed.{IsChanged, put_document}
@@ -31,7 +31,7 @@ use Rattle.std.specs.Str as strings
 use Rattle.yq_rows.specs.Rows as rows
 use Rattle.yq_rows.specs.Rows.{Inline, Row, Part, Cut, last, marked, print_row, cut_text, rows_text}
 use Rattle.yq_lines.specs.Anchors.{Refers, AreBound, HaveOneAnchorEach}
-use Rattle.yq_tree.specs.Documents.{document_parts}
+use Rattle.yq_documents.specs.Documents.{document_parts}
 use Rattle.yq_lines.specs.Group.{group}
 use Rattle.yq_lines.specs.Outline.{Bare, Key, Dash, Line, level, IsEven, end, row, label, value}
 use Rattle.yq_lines.proofs.KeyLaws.{differ, is_distinct}

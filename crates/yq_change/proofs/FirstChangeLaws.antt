@@ -12,10 +12,10 @@ use Rattle.yq_rows.proofs.GapLaws.{gap_again, gap_stop}
 use Rattle.yq_rows.proofs.MarkLaws.{spaces_again}
 use Rattle.yq_rows.proofs.RowAgain.{row_no_gap, row_starts}
 use Rattle.yq_rows.proofs.seams.SeamLaws.{rows_text-append}
-use Rattle.yq_tree.specs.Documents.{lead_of}
+use Rattle.yq_documents.specs.Documents.{lead_of}
 use Rattle.yq_tree.specs.FirstPlaces.{are_spaces, begins_gap, less_spaces}
-use Rattle.yq_tree.specs.Lines.{lines_from, lines_of}
-use Rattle.yq_tree.specs.Reading.{outline_of, root_of}
+use Rattle.yq_documents.specs.Lines.{lines_from, lines_of}
+use Rattle.yq_documents.specs.Reading.{outline_of, root_of}
 use Rattle.yq_tree.specs.RowPaths.{IsReadable}
 use Rattle.yq_tree.proofs.PrintedLaws.{none_above}
 use Rattle.yq_tree.proofs.RemovalTexts.{texts_then}

@@ -11,9 +11,9 @@ use Rattle.yq_lines.proofs.Values.{rank_small}
 use Rattle.yq_rows.specs.Grammar.{AreDashes, is_entry}
 use Rattle.yq_rows.specs.Rows as rows
 use Rattle.yq_rows.specs.Rows.{Content, Row, behind_columns, Part}
-use Rattle.yq_tree.specs.Lines.{dash_line, mark_line, lines_from, row_lines, lines_of}
-use Rattle.yq_tree.specs.Reading.{outline_of}
-use Rattle.yq_tree.specs.Seats.{Seat, seat}
+use Rattle.yq_documents.specs.Lines.{dash_line, mark_line, lines_from, row_lines, lines_of}
+use Rattle.yq_documents.specs.Reading.{outline_of}
+use Rattle.yq_documents.specs.Seats.{Seat, seat}
 use Rattle.yq_tree.proofs.PrintedLaws.{none_above}
 use Rattle.yq_change.specs.LineRows.{Begins, StandApart, InRows, IsSeat, line_number, lines_behind}
 use Rattle.yq_change.specs.Moved.{dash_lines}

@@ -9,13 +9,13 @@ use Rattle.yq_scalar.specs.Text.{cut, cut_line, no_space, upto, line_len}
 use Rattle.yq_scalar.proofs.Bools.{bind_some}
 use Rattle.yq_lines.specs.Ends.{line_of}
 use Rattle.yq_rows.specs.Rows.{Part, Cut, cut_text}
-use Rattle.yq_tree.specs.declared.path.Part.TheVariants.{Entry}
-use Rattle.yq_tree.specs.Documents.{document_parts}
+use Rattle.yq_documents.specs.declared.path.Part.TheVariants.{Entry}
+use Rattle.yq_documents.specs.Documents.{document_parts}
 use Rattle.yq_tree.specs.FirstPlaces.{begins_gap, less_spaces, end_spaces, FirstOut, first_out, first_entry, first_removal}
-use Rattle.yq_tree.specs.Lines.{lines_of}
+use Rattle.yq_documents.specs.Lines.{lines_of}
 use Rattle.yq_tree.specs.PathPieces.{printed_document, piece_in}
-use Rattle.yq_tree.specs.Pieces.{Piece}
-use Rattle.yq_tree.specs.Seats.{Seat, seat, seat_of}
+use Rattle.yq_documents.specs.Pieces.{Piece}
+use Rattle.yq_documents.specs.Seats.{Seat, seat, seat_of}
 use Rattle.yq_tree.proofs.FirstLaws.{spaces_parts}
 use Rattle.yq_tree.proofs.PieceTexts.{piece_text, document_whole, piece_whole}
 use Rattle.yq_change.specs.RemovalChanges.{FirstStands}
@@ -37,7 +37,7 @@ pub record IsFirstOut (c : Cut) (k : ℕ) (steps : List Step) (x : FirstOut) : T
   pub number : ℕ
   pub line : line_of steps (lines_of part.rows) ≡ Some number
   pub seat : Seat
-  pub seat_is : Rattle.yq_tree.specs.Seats.seat number part.rows ≡ Some seat
+  pub seat_is : Rattle.yq_documents.specs.Seats.seat number part.rows ≡ Some seat
   pub later : 0 < seat.line
   pub is : (printed_document k c >>= piece_in Entry steps) ≡ Some piece
 

@@ -5,7 +5,7 @@ use Rattle.yq_rows.specs.Grammar.{AreDashes, no_rows}
 use Rattle.yq_rows.specs.Rows as rows
 use Rattle.yq_rows.specs.Rows.{Row, Part}
 use Rattle.yq_rows.specs.Splices.{first_gap}
-use Rattle.yq_tree.specs.Documents.{HaveFitKeys, HasShortRoot, is_long_plain}
+use Rattle.yq_documents.specs.Documents.{HaveFitKeys, HasShortRoot, is_long_plain}
 use Rattle.yq_change.specs.Appends.{inserted}
 use Rattle.yq_change.specs.Moved.{emptied, moved_up}
 use Rattle.yq_change.specs.Replaces.{FirstRowDropped, FirstRowMoved}

@@ -16,12 +16,12 @@ use Rattle.yq_rows.specs.Exchange.{asked_behind}
 use Rattle.yq_rows.specs.Rows as rows
 use Rattle.yq_rows.specs.Rows.{Content, Nothing, Row, behind_columns, rows_text, Part}
 use Rattle.yq_rows.proofs.seams.FrontSeams.{rows_some}
-use Rattle.yq_tree.specs.declared.path.Part.TheVariants.{Entry}
-use Rattle.yq_tree.specs.Lines.{dash_line, lines_from, lines_of}
+use Rattle.yq_documents.specs.declared.path.Part.TheVariants.{Entry}
+use Rattle.yq_documents.specs.Lines.{dash_line, lines_from, lines_of}
 use Rattle.yq_tree.specs.PathPieces.{BlockEntry, PrintedDocument, found_entry, piece_in, piece_in_entry}
-use Rattle.yq_tree.specs.Pieces.{Piece}
+use Rattle.yq_documents.specs.Pieces.{Piece}
 use Rattle.yq_tree.specs.PrintedLines.{PrintedLine, line_front, print_lines, printed_from, printed_row, printed_lines, line_in, run_piece}
-use Rattle.yq_tree.specs.Seats.{Seat, seat}
+use Rattle.yq_documents.specs.Seats.{Seat, seat}
 use Rattle.yq_tree.proofs.FoundEntries.{lines_count}
 use Rattle.yq_tree.proofs.PrintedLaws.{lines_are}
 use Rattle.yq_tree.proofs.PrintedTexts.{lines_then, rows_are}

@@ -4,13 +4,13 @@ use Rattle.yq_scalar.specs.Paths.{Step, append_child, change, change_child, remo
 use Rattle.yq_scalar.specs.Tree.{Node, alias, scalar, list, map, Children, none, child}
 use Rattle.yq_rows.specs.Rows.{Part, Cut}
 use Rattle.yq_lines.specs.Anchors.{IsNoAlias, MayTake, IsFree, HaveOneAnchorEach}
-use Rattle.yq_tree.specs.Documents.{lead_of}
+use Rattle.yq_documents.specs.Documents.{lead_of}
 use Rattle.yq_lines.specs.Group.{group, level_or}
 use Rattle.yq_lines.specs.Laws.{with_lines}
-use Rattle.yq_tree.specs.Lines.{lines_of}
+use Rattle.yq_documents.specs.Lines.{lines_of}
 use Rattle.yq_lines.specs.Outline.{Mark, Bare, Key, Dash, Line, level, Outline, end, row, flatten, IsOpen, IsWhole, IsEven, anchored, head_or, label, collection, value}
 use Rattle.yq_lines.specs.Places.{lines_before, plug, Found, find, content}
-use Rattle.yq_tree.specs.Reading.{outline_of, root_of}
+use Rattle.yq_documents.specs.Reading.{outline_of, root_of}
 use Rattle.yq_lines.proofs.Finding.{IsFoundIn, path_whole}
 use Rattle.yq_lines.proofs.PlaceLaws.{at}
 use Rattle.yq_lines.proofs.Plug.{allows_from}
@@ -25,7 +25,7 @@ use Rattle.yq_change.proofs.NodeLineLaws.{unanchored, low_level}
 use Rattle.yq_change.proofs.SoundRootLaws.{replace_keeps, append_keeps}
 use Rattle.yq_change.proofs.SoundRootLess.{remove_keeps}
 use Rattle.yq_change.proofs.PlacedLaws.{whole_line}
-use Rattle.yq_tree.specs.TreeEdits.{replaced}
+use Rattle.yq_documents.specs.TreeEdits.{replaced}
 
 -- a head that is an alias only where the old one is
 abbrev pub NoNewAlias : Node → Node → Type 0

@@ -12,8 +12,8 @@ use Rattle.yq_flow.specs.Removals.{drop_item, drop_last, ends_marked, gap_of, ga
 use Rattle.yq_inline.specs.Trees.{inner, key_content}
 use Rattle.yq_rows.specs.Exchange.{with_content}
 use Rattle.yq_rows.specs.Rows.{Content, Inline, Row, Part}
-use Rattle.yq_tree.specs.Documents.{ContentHasFitKeys, EachHasFitKeys, HasFitKeys, HaveFitKeys}
-use Rattle.yq_tree.specs.Lines.{head_of}
+use Rattle.yq_documents.specs.Documents.{ContentHasFitKeys, EachHasFitKeys, HasFitKeys, HaveFitKeys}
+use Rattle.yq_documents.specs.Lines.{head_of}
 use Rattle.yq_change.specs.FlowKept.{with_items, FlowRooms, FlowKeys, LeftKeys}
 use Rattle.yq_change.specs.Rooms.{row_shape}
 use Rattle.yq_change.proofs.AnchorLaws.{fit_parts}

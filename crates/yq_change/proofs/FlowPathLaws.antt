@@ -17,11 +17,11 @@ use Rattle.yq_rows.specs.Rows.{Content, Nothing, Inline, Block, Row, content_tex
 use Rattle.yq_rows.specs.Splices.{behind_part}
 use Rattle.yq_rows.specs.View.{rows_of}
 use Rattle.yq_rows.proofs.PlaceLaws.{place, new_place}
-use Rattle.yq_tree.specs.Documents.{begins_bare, document_parts, has_begin, parts_from}
+use Rattle.yq_documents.specs.Documents.{begins_bare, document_parts, has_begin, parts_from}
 use Rattle.yq_tree.specs.FlowNodes.{content_flow, find_head}
-use Rattle.yq_tree.specs.Lines.{lines_of}
-use Rattle.yq_tree.specs.Reading.{outline_of}
-use Rattle.yq_tree.specs.Seats.{Seat, seat, rows_before, document_row}
+use Rattle.yq_documents.specs.Lines.{lines_of}
+use Rattle.yq_documents.specs.Reading.{outline_of}
+use Rattle.yq_documents.specs.Seats.{Seat, seat, rows_before, document_row}
 use Rattle.yq_tree.proofs.FlowPlaceLaws.{mark_seat, middle}
 use Rattle.yq_change.specs.Appends.{inserted}
 use Rattle.yq_change.specs.Changed.{put_from}

@@ -32,9 +32,9 @@ use Rattle.yq_rows.proofs.AlikeRows.{dashes_text_alike}
 use Rattle.yq_rows.proofs.ExchangeLaws.{mark_kept}
 use Rattle.yq_rows.proofs.RowPlaces.{takes_place}
 use Rattle.yq_rows.proofs.seams.SeamLaws.{rows_drop}
-use Rattle.yq_tree.specs.Documents.{HaveFitKeys, HasShortRoot, is_long_plain}
-use Rattle.yq_tree.specs.Lines.{mark_line, lines_of}
-use Rattle.yq_tree.specs.Reading.{outline_of}
+use Rattle.yq_documents.specs.Documents.{HaveFitKeys, HasShortRoot, is_long_plain}
+use Rattle.yq_documents.specs.Lines.{mark_line, lines_of}
+use Rattle.yq_documents.specs.Reading.{outline_of}
 use Rattle.yq_tree.proofs.FlowPieces.{named_is, none_anchored, twice}
 use Rattle.yq_change.specs.DocumentRows.{Known, behind_document}
 use Rattle.yq_change.specs.FlowChanges.{with_head}

@@ -11,8 +11,8 @@ use Rattle.yq_inline.proofs.PathLaws.{path_holds, path_places, path_stands, then
 use Rattle.yq_inline.proofs.WrittenLaws.{key_append}
 use Rattle.yq_rows.specs.Exchange.{behind_row}
 use Rattle.yq_rows.specs.Rows.{Cut, cut_text}
-use Rattle.yq_tree.specs.Reading.{read_at}
-use Rattle.yq_tree.specs.Seats.{document_row}
+use Rattle.yq_documents.specs.Reading.{read_at}
+use Rattle.yq_documents.specs.Seats.{document_row}
 use Rattle.yq_tree.proofs.FlowSpanLaws.{entry_spans}
 use Rattle.yq_tree.proofs.HeadSpanLaws.{node_spans}
 use Rattle.yq_change.specs.FlowRows.{behind_node, FlowAt}

@@ -16,7 +16,7 @@ use Rattle.yq_lines.proofs.HeadLaws.{comments_behind, head_repaired}
 use Rattle.yq_rows.proofs.seams.GapFronts.{lines_joined_of}
 use Rattle.yq_rows.proofs.NothingLaws.{some_behind}
 use Rattle.yq_rows.proofs.seams.SeamLaws.{line_by_break}
-use Rattle.yq_tree.specs.Pieces.{before_run}
+use Rattle.yq_documents.specs.Pieces.{before_run}
 
 -- the head comment of a gap, in front of which lines stand that end in no comment
 pub head_joined : (kept next x : List ℕ) → IsGap kept x → is_empty x ≡ false → head_comment kept ≡ [] → head_comment (kept ++ next) ≡ head_comment next

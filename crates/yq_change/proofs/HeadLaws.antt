@@ -31,13 +31,13 @@ use Rattle.yq_rows.proofs.seams.SeamLaws.{rows_drop}
 use Rattle.yq_rows.proofs.seams.FrontSeams.{behind_row_some, seams_any, seams_were}
 use Rattle.yq_rows.proofs.seams.GapFronts.{gap_joined}
 use Rattle.yq_rows.proofs.splices.PartPlaces.{part_in}
-use Rattle.yq_tree.specs.Pieces.{before_run, last_run}
-use Rattle.yq_tree.specs.Documents.{HaveFitKeys, HasShortRoot}
+use Rattle.yq_documents.specs.Pieces.{before_run, last_run}
+use Rattle.yq_documents.specs.Documents.{HaveFitKeys, HasShortRoot}
 use Rattle.yq_lines.specs.Group.{level_or}
 use Rattle.yq_lines.specs.Laws.{with_lines}
-use Rattle.yq_tree.specs.Lines.{mark_line, dash_line, lines_from, lines_of}
+use Rattle.yq_documents.specs.Lines.{mark_line, dash_line, lines_from, lines_of}
 use Rattle.yq_lines.specs.Outline.{Line, level, flatten, label}
-use Rattle.yq_tree.specs.Reading.{outline_of}
+use Rattle.yq_documents.specs.Reading.{outline_of}
 use Rattle.yq_lines.proofs.Decides.{flatten-group}
 use Rattle.yq_change.specs.Siblings.{put_lines}
 use Rattle.yq_change.proofs.BlockChangeLaws.{entry_relabelled}
@@ -52,7 +52,7 @@ use Rattle.yq_tree.proofs.RemovalTexts.{run_parts}
 use Rattle.yq_change.proofs.GapLaws.{none_before}
 use Rattle.yq_change.proofs.PartLaws.{part_numbered, document_known, document_spliced, is_put, some_behind as some_rows, take_front, drop_front}
 use Rattle.yq_change.proofs.RemarkLaws.{one_line}
-use Rattle.yq_tree.specs.TreeEdits.{with_head_comment}
+use Rattle.yq_documents.specs.TreeEdits.{with_head_comment}
 
 -- a comment that begins in a column is less deep than the text of a block scalar that is deeper
 record First (n b : ℕ) (t : List ℕ) : Type 0 where

@@ -24,13 +24,13 @@ use Rattle.yq_rows.proofs.PlaceLaws.{row_front-append}
 use Rattle.yq_rows.proofs.seams.FrontSeams.{behind_row_some}
 use Rattle.yq_rows.proofs.seams.SeamLaws.{rows_text-append}
 use Rattle.yq_rows.proofs.splices.PartPlaces.{part_ends}
-use Rattle.yq_tree.specs.Documents.{document_parts, lead_of}
+use Rattle.yq_documents.specs.Documents.{document_parts, lead_of}
 use Rattle.yq_tree.specs.InlinePlaces.{InlinePlace, mark_inline}
-use Rattle.yq_tree.specs.Lines.{mark_of, mark_line, lines_of}
-use Rattle.yq_tree.specs.Reading.{outline_of, root_of, read_at}
-use Rattle.yq_tree.specs.Ready.{begins_no_node}
+use Rattle.yq_documents.specs.Lines.{mark_of, mark_line, lines_of}
+use Rattle.yq_documents.specs.Reading.{outline_of, root_of, read_at}
+use Rattle.yq_documents.specs.Ready.{begins_no_node}
 use Rattle.yq_tree.specs.RowPaths.{IsReadable}
-use Rattle.yq_tree.specs.TreeEdits.{replaced}
+use Rattle.yq_documents.specs.TreeEdits.{replaced}
 use Rattle.yq_tree.proofs.FoundLines.{each}
 use Rattle.yq_tree.proofs.PrintedTexts.{same, none_some}
 use Rattle.yq_tree.proofs.ReadLaws.{text_takes}

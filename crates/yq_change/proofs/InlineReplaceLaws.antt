@@ -19,8 +19,8 @@ use Rattle.yq_rows.specs.Seams.{ends_part}
 use Rattle.yq_rows.proofs.ExchangeLaws.{relimit}
 use Rattle.yq_rows.proofs.seams.SeamLaws.{rows_drop}
 use Rattle.yq_rows.proofs.seams.TailLaws.{fits_by}
-use Rattle.yq_tree.specs.Lines.{mark_of, mark_line, row_lines, lines_of}
-use Rattle.yq_tree.specs.Reading.{outline_of}
+use Rattle.yq_documents.specs.Lines.{mark_of, mark_line, row_lines, lines_of}
+use Rattle.yq_documents.specs.Reading.{outline_of}
 use Rattle.yq_tree.proofs.NextLaws.{StartsAt, found_starts}
 use Rattle.yq_change.specs.DocumentRows.{IsDocumentPart, behind_document}
 use Rattle.yq_change.specs.InlineRows.{LeadsToEntry, LeadsBelow, IsRootRow, LeadsToContent}

@@ -5,11 +5,11 @@ use Rattle.yq_scalar.specs.Tree.{none, children_of}
 use Rattle.yq_lines.specs.Group.{group}
 use Rattle.yq_lines.specs.Outline.{Mark, Bare, Key, Dash, Line, value}
 use Rattle.yq_lines.specs.Sound.{is_entry}
-use Rattle.yq_tree.specs.Documents.{lead_of}
-use Rattle.yq_tree.specs.Lines.{lines_of}
-use Rattle.yq_tree.specs.Reading.{root_of}
-use Rattle.yq_tree.specs.Ready.{begins_no_node}
-use Rattle.yq_tree.specs.TreeEdits.{lead_by}
+use Rattle.yq_documents.specs.Documents.{lead_of}
+use Rattle.yq_documents.specs.Lines.{lines_of}
+use Rattle.yq_documents.specs.Reading.{root_of}
+use Rattle.yq_documents.specs.Ready.{begins_no_node}
+use Rattle.yq_documents.specs.TreeEdits.{lead_by}
 use Rattle.yq_change.specs.Siblings.{IsEntry, HasEntries}
 use Rattle.yq_change.proofs.AfterLaws.{by_first, none_kept}
 use Rattle.yq_change.proofs.EditedLaws.{root_has_lead}

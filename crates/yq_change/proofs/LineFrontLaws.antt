@@ -30,7 +30,7 @@ use Rattle.yq_rows.proofs.seams.NodeSeams.{plain_text}
 use Rattle.yq_rows.proofs.seams.ScalarSeams.{ends_return}
 use Rattle.yq_rows.proofs.seams.TailLaws.{content_joined}
 use Rattle.yq_tree.proofs.CommentPieceLaws.{Ended, gap_end}
-use Rattle.yq_tree.proofs.TextLaws.{seam}
+use Rattle.yq_documents.proofs.TextLaws.{seam}
 use Rattle.yq_change.specs.LineFronts.{CleanCut, LineEndsClean}
 
 -- ---- texts that end in no CR

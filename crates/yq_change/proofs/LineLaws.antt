@@ -4,9 +4,9 @@ use Rattle.std.proofs.lemmas.Bool.{ltb-true, ltb-false}
 use Rattle.yq_lines.specs.Comments.{head_comment}
 use Rattle.yq_rows.specs.Rows as rows
 use Rattle.yq_rows.specs.Rows.{Content, Row, behind_columns, mark_column}
-use Rattle.yq_tree.specs.Lines.{mark_line, dash_line, lines_from, row_lines, lines_of}
+use Rattle.yq_documents.specs.Lines.{mark_line, dash_line, lines_from, row_lines, lines_of}
 use Rattle.yq_lines.specs.Outline.{Line}
-use Rattle.yq_tree.specs.Seats.{Seat, seat, behind_one}
+use Rattle.yq_documents.specs.Seats.{Seat, seat, behind_one}
 use Rattle.yq_lines.proofs.PlaceLaws.{at}
 use Rattle.yq_lines.proofs.Values.{If}
 use Rattle.yq_change.specs.Moved.{dash_lines}

@@ -13,10 +13,10 @@ use Rattle.yq_lines.specs.Places.{lines_before, lines_after, Found}
 use Rattle.yq_lines.proofs.Decides.{flatten-group}
 use Rattle.yq_rows.specs.Rows as rows
 use Rattle.yq_rows.specs.Rows.{Content, Row, Part}
-use Rattle.yq_tree.specs.Lines.{lines_from, row_lines, lines_of}
-use Rattle.yq_tree.specs.Reading.{outline_of}
+use Rattle.yq_documents.specs.Lines.{lines_from, row_lines, lines_of}
+use Rattle.yq_documents.specs.Reading.{outline_of}
 use Rattle.yq_tree.specs.RemovalPlaces.{OwnRows, row_count, in_three}
-use Rattle.yq_tree.specs.Seats.{Seat, seat}
+use Rattle.yq_documents.specs.Seats.{Seat, seat}
 use Rattle.yq_tree.proofs.UnderCounts.{count_under}
 use Rattle.yq_change.specs.EntryRows.{HasRows}
 use Rattle.yq_change.specs.LineRows.{Begins, lines_behind}

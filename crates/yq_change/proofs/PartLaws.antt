@@ -13,8 +13,8 @@ use Rattle.yq_rows.specs.Rows.{Row, rows_text, Part, Cut, last, marked, cut_text
 use Rattle.yq_rows.specs.Splices.{with_first_gap, end_gap, behind_first, first_gap, splice_part, splice, nth_part, behind_part, is_started, marker_before}
 use Rattle.yq_rows.specs.Seams.{are_seamed}
 use Rattle.yq_rows.specs.SpliceFits.{is_after, SpliceFits}
-use Rattle.yq_tree.specs.Documents.{HaveFitKeys, HasShortRoot, begins_bare, document_parts, has_begin, parts_from}
-use Rattle.yq_tree.specs.Reading.{is_document, read_at}
+use Rattle.yq_documents.specs.Documents.{HaveFitKeys, HasShortRoot, begins_bare, document_parts, has_begin, parts_from}
+use Rattle.yq_documents.specs.Reading.{is_document, read_at}
 use Rattle.yq_tree.specs.RowPaths.{IsReadable}
 use Rattle.yq_lines.proofs.Decides.{even_from}
 use Rattle.yq_tree.proofs.DocumentLaws.{document_is}

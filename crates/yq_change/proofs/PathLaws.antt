@@ -5,14 +5,14 @@ use Rattle.yq_scalar.specs.Paths.{Step}
 use Rattle.yq_scalar.specs.Tree.{Node}
 use Rattle.yq_rows.specs.Rows.{Row}
 use Rattle.yq_lines.specs.Group.{level_or}
-use Rattle.yq_tree.specs.Lines.{lines_of}
+use Rattle.yq_documents.specs.Lines.{lines_of}
 use Rattle.yq_lines.specs.Outline.{Mark, Bare, Key, Dash, Line, Outline, flatten, IsEven}
 use Rattle.yq_lines.specs.Outline.{end}
 use Rattle.yq_lines.specs.Outline.{row}
 use Rattle.yq_lines.specs.Places.{Place, here, below, beside, compose, lines_before, Found, find_row, inside, bare_or, in_head, find}
-use Rattle.yq_tree.specs.Reading.{outline_of}
+use Rattle.yq_documents.specs.Reading.{outline_of}
 use Rattle.yq_lines.specs.Ends.{found_line, line_of}
-use Rattle.yq_tree.specs.Seats.{Seat, seat}
+use Rattle.yq_documents.specs.Seats.{Seat, seat}
 use Rattle.yq_lines.proofs.Values.{If}
 use Rattle.yq_change.specs.Siblings.{IsEntry, HasEntries, NodeLines, lines_at, lines_below, under_line}
 use Rattle.yq_change.proofs.NodeLineLaws.{Under, before_under, lines_found}

@@ -4,10 +4,10 @@ use Rattle.std.proofs.Common.{append_assoc, append-nil, length-append}
 use Rattle.yq_scalar.specs.Paths.{Step, is_here, further}
 use Rattle.yq_scalar.specs.Tree.{Node}
 use Rattle.yq_lines.specs.Laws.{with_lines}
-use Rattle.yq_tree.specs.Lines.{lines_of}
+use Rattle.yq_documents.specs.Lines.{lines_of}
 use Rattle.yq_lines.specs.Outline.{Mark, Bare, Key, Dash, Line, Outline, end, row, flatten, IsEven, label}
 use Rattle.yq_lines.specs.Places.{here, lines_before, lines_after, Found, next_to, find_row, inside, bare_or, in_head, find}
-use Rattle.yq_tree.specs.Reading.{outline_of}
+use Rattle.yq_documents.specs.Reading.{outline_of}
 use Rattle.yq_lines.proofs.Allowing as allowing
 use Rattle.yq_lines.proofs.Allowing.{IsCollection}
 use Rattle.yq_lines.proofs.Decides.{flatten-group}

@@ -8,13 +8,13 @@ use Rattle.yq_rows.specs.Rows.{Content, Nothing, Inline, Block, Row, mark_column
 use Rattle.yq_rows.specs.Seams.{TailFits, is_block, retail, with_tail}
 use Rattle.yq_rows.specs.Splices.{first_gap, nth_part, splice}
 use Rattle.yq_rows.proofs.splices.RowReplaced.{tail_replaced}
-use Rattle.yq_tree.specs.Documents.{HaveFitKeys, HasShortRoot, ContentHasFitKeys, has_lines, is_long_plain, lead_of}
+use Rattle.yq_documents.specs.Documents.{HaveFitKeys, HasShortRoot, ContentHasFitKeys, has_lines, is_long_plain, lead_of}
 use Rattle.yq_lines.specs.Group.{level_or}
 use Rattle.yq_lines.specs.Laws.{with_lines}
-use Rattle.yq_tree.specs.Lines.{content_anchor, head_of, tail_of, mark_line, lines_of}
+use Rattle.yq_documents.specs.Lines.{content_anchor, head_of, tail_of, mark_line, lines_of}
 use Rattle.yq_lines.specs.Outline.{Line, level, flatten, label}
 use Rattle.yq_lines.specs.Places.{lines_before, lines_after, Found}
-use Rattle.yq_tree.specs.Reading.{outline_of}
+use Rattle.yq_documents.specs.Reading.{outline_of}
 use Rattle.yq_tree.specs.RowPaths.{IsReadable}
 use Rattle.yq_lines.proofs.Decides.{flatten-group}
 use Rattle.yq_change.specs.Changed.{put_document}
@@ -31,7 +31,7 @@ use Rattle.yq_change.specs.DocumentRows.{IsDocumentPart, Known, behind_document,
 use Rattle.yq_change.specs.Remarks.{retailed, LineCommented}
 use Rattle.yq_change.proofs.LineLaws.{above_mark, mark_behind, dashes_count}
 use Rattle.yq_change.proofs.PartLaws.{part_numbered, rows_put, gap_stays, document_known, is_put, some_behind}
-use Rattle.yq_tree.specs.TreeEdits.{with_line_comment}
+use Rattle.yq_documents.specs.TreeEdits.{with_line_comment}
 
 -- The line of an item or entry, and the lines with another in its place.
 pub record OneLine (p : Part) (h : NodeLines) (f : Found) (a : List Line) (x : Line) (z : List Line) : Type 0 where

@@ -18,10 +18,10 @@ use Rattle.yq_lines.proofs.Finding.{IsFoundIn, path_node, path_whole, row_child}
 use Rattle.yq_lines.proofs.PlaceLaws.{at}
 use Rattle.yq_rows.specs.Grammar.{no_rows}
 use Rattle.yq_rows.specs.Rows.{Row, Part, Cut, cut_text}
-use Rattle.yq_tree.specs.Documents.{begins_bare, has_begin, lead_of}
-use Rattle.yq_tree.specs.Lines.{lines_of}
-use Rattle.yq_tree.specs.Reading.{outline_of, read_at, root_of}
-use Rattle.yq_tree.specs.Ready.{begins_no_node}
+use Rattle.yq_documents.specs.Documents.{begins_bare, has_begin, lead_of}
+use Rattle.yq_documents.specs.Lines.{lines_of}
+use Rattle.yq_documents.specs.Reading.{outline_of, read_at, root_of}
+use Rattle.yq_documents.specs.Ready.{begins_no_node}
 use Rattle.yq_tree.specs.PlacedRows.{PlacedPart, placed_document}
 use Rattle.yq_tree.specs.RemovalPlaces.{OwnRows, own_rows, Removal, rows_out, removal_place, has_several}
 use Rattle.yq_tree.specs.RowPaths.{IsReadable}

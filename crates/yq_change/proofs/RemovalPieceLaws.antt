@@ -27,7 +27,7 @@ use Rattle.yq_tree.proofs.CommentPieceLaws.{Ended, gap_end}
 use Rattle.yq_tree.proofs.PlacedPartLaws.{part_stands}
 use Rattle.yq_tree.proofs.RemovalLines.{LineSeam, line_seam, lies_in, are_lines}
 use Rattle.yq_tree.proofs.RemovalTexts.{old_text}
-use Rattle.yq_tree.proofs.TextLaws.{seam}
+use Rattle.yq_documents.proofs.TextLaws.{seam}
 use Rattle.yq_change.specs.RemovalChanges.{mended}
 use Rattle.yq_change.specs.TextPieces.{IsPiece}
 use Rattle.yq_change.proofs.TextPieceLaws.{line_cut, pieces_joined}

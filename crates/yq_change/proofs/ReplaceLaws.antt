@@ -13,9 +13,9 @@ use Rattle.yq_rows.specs.Grammar.{unlimited, AreRows, no_rows}
 use Rattle.yq_rows.specs.Rows.{Row, rows_text, Part}
 use Rattle.yq_rows.specs.Splices.{behind_first, first_gap}
 use Rattle.yq_rows.proofs.seams.FrontSeams.{seams_alike, seams_were}
-use Rattle.yq_tree.specs.Documents.{HaveFitKeys, HasShortRoot}
-use Rattle.yq_tree.specs.Lines.{lines_of}
-use Rattle.yq_tree.specs.Reading.{outline_of}
+use Rattle.yq_documents.specs.Documents.{HaveFitKeys, HasShortRoot}
+use Rattle.yq_documents.specs.Lines.{lines_of}
+use Rattle.yq_documents.specs.Reading.{outline_of}
 use Rattle.yq_change.specs.Appends.{inserted}
 use Rattle.yq_change.specs.Conditions.{BeginsEntry}
 use Rattle.yq_change.specs.DocumentRows.{RowsFit, behind_document}

@@ -13,9 +13,9 @@ use Rattle.yq_rows.specs.Grammar.{IsCut}
 use Rattle.yq_rows.specs.Rows.{Row, Part, last, cut_text}
 use Rattle.yq_rows.specs.Reading as scanning
 use Rattle.yq_rows.proofs.ScanLaws.{scan_takes}
-use Rattle.yq_tree.specs.Reading.{all_documents, outline_of, read_at, root_of, text_at}
+use Rattle.yq_documents.specs.Reading.{all_documents, outline_of, read_at, root_of, text_at}
 use Rattle.yq_tree.specs.RowPaths.{IsReadable}
-use Rattle.yq_tree.specs.TreeEdits.{headed}
+use Rattle.yq_documents.specs.TreeEdits.{headed}
 use Rattle.yq_tree.proofs.ReadLaws.{text_again}
 use Rattle.yq_lines.specs.Outline.{level, end, label}
 use Rattle.yq_lines.specs.Places.{content, here}
@@ -30,8 +30,8 @@ use Rattle.yq_lines.specs.Outline.{Line}
 use Rattle.yq_scalar.specs.Paths.{To}
 use Rattle.yq_inline.specs.Alike.{Alike, after, byte}
 use Rattle.yq_rows.specs.Rows.{rows_text}
-use Rattle.yq_tree.specs.Lines.{mark_line}
-use Rattle.yq_tree.specs.TreeEdits.{replaced}
+use Rattle.yq_documents.specs.Lines.{mark_line}
+use Rattle.yq_documents.specs.TreeEdits.{replaced}
 use Rattle.yq_lines.proofs.KeyLaws.{distinct_is}
 use Rattle.yq_change.proofs.ReplaceLaws.{node_rows_replaced}
 use Rattle.yq_change.proofs.Examples.{plain_row, scanned_y, y_bytes, a_entry, b_entry, old_part, b_end, scanned_old, old_bytes, new_bytes, read_old, new_cut, keys_apart}

@@ -12,10 +12,10 @@ use Rattle.yq_lines.specs.Outline.{Mark, Bare, Key, Dash, Line, level, Outline, 
 use Rattle.yq_lines.specs.Places.{Place, here, below, beside, lines_before, compose, Found, next_to, find_row, inside, bare_or, in_head, find}
 use Rattle.yq_rows.specs.Rows as rows
 use Rattle.yq_rows.specs.Rows.{Row, Content, Part}
-use Rattle.yq_tree.specs.declared.path.Part as places
-use Rattle.yq_tree.specs.Lines.{head_of, mark_of, lines_from, row_lines, lines_of}
-use Rattle.yq_tree.specs.Ready.{begins_no_node}
-use Rattle.yq_tree.specs.Seats.{Seat, behind_one, seat, seat_has_room}
+use Rattle.yq_documents.specs.declared.path.Part as places
+use Rattle.yq_documents.specs.Lines.{head_of, mark_of, lines_from, row_lines, lines_of}
+use Rattle.yq_documents.specs.Ready.{begins_no_node}
+use Rattle.yq_documents.specs.Seats.{Seat, behind_one, seat, seat_has_room}
 use Rattle.yq_change.specs.Rooms.{RowShape, row_shape, SameSeats, ShapeTells}
 
 -- ---- lines without what is told behind their marks but that there is a head

@@ -15,8 +15,8 @@ use Rattle.yq_change.specs.Conditions.{aliases_in, AreSpared}
 use Rattle.yq_change.specs.SoundRoots.{IsSoundRoot, IsNewKey, inner_names, ReplaceKeeps, AppendKeeps}
 use Rattle.yq_change.proofs.BoundLaws.{bound_changed, anchor_front}
 use Rattle.yq_change.proofs.TreeLaws.{unique_changed, depth_changed, max_least, max_left, max_right}
-use Rattle.yq_tree.specs.TreeEdits.{replaced}
-use Rattle.yq_tree.specs.Nodes.{anchor_of}
+use Rattle.yq_documents.specs.TreeEdits.{replaced}
+use Rattle.yq_documents.specs.Nodes.{anchor_of}
 
 pub some_same : {x y : Node} → Some x ≡ Some y → x ≡ y
 some_same e = cc

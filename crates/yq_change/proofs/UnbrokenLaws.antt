@@ -15,10 +15,10 @@ use Rattle.yq_rows.proofs.seams.FrontSeams.{rows_some}
 use Rattle.yq_rows.proofs.seams.SeamLaws.{rows_text-append}
 use Rattle.yq_inline.specs.Nodes.{node_text}
 use Rattle.yq_tree.specs.CollectionEnds.{CollectionEnd, is_broken}
-use Rattle.yq_tree.specs.Documents.{lead_of}
-use Rattle.yq_tree.specs.Lines.{lines_from, lines_of}
+use Rattle.yq_documents.specs.Documents.{lead_of}
+use Rattle.yq_documents.specs.Lines.{lines_from, lines_of}
 use Rattle.yq_tree.specs.PrintedLines.{end_break}
-use Rattle.yq_tree.specs.Ready.{begins_no_node}
+use Rattle.yq_documents.specs.Ready.{begins_no_node}
 use Rattle.yq_tree.proofs.ContentEndLaws.{Ends, content_ends}
 use Rattle.yq_change.specs.CollectionPlaces.{IsCollectionEnd}
 use Rattle.yq_change.specs.DocumentRows.{behind_document}

@@ -19,11 +19,11 @@ use Rattle.yq_rows.specs.Rows.{Content, Row, mark_column, parent_indent, print_r
 use Rattle.yq_rows.specs.Splices.{first_gap}
 use Rattle.yq_rows.proofs.seams.SeamLaws.{rows_drop}
 use Rattle.yq_rows.proofs.splices.SpliceTexts.{first_is, first_text}
-use Rattle.yq_tree.specs.Documents.{HaveFitKeys}
-use Rattle.yq_tree.specs.Lines.{mark_of, mark_line, lines_of}
-use Rattle.yq_tree.specs.Reading.{outline_of}
-use Rattle.yq_tree.specs.Ready.{begins_no_node}
-use Rattle.yq_tree.specs.TreeEdits.{replaced}
+use Rattle.yq_documents.specs.Documents.{HaveFitKeys}
+use Rattle.yq_documents.specs.Lines.{mark_of, mark_line, lines_of}
+use Rattle.yq_documents.specs.Reading.{outline_of}
+use Rattle.yq_documents.specs.Ready.{begins_no_node}
+use Rattle.yq_documents.specs.TreeEdits.{replaced}
 use Rattle.yq_tree.proofs.NextLaws.{StartsAt, found_starts}
 use Rattle.yq_change.specs.Contents.{recontent}
 use Rattle.yq_change.specs.DocumentRows.{behind_document}

@@ -11,11 +11,11 @@ use Rattle.yq_lines.specs.Outline.{Line, flatten}
 use Rattle.yq_lines.specs.Places.{lines_before, Found, find}
 use Rattle.yq_rows.specs.Grammar.{no_rows}
 use Rattle.yq_rows.specs.Rows.{Row, Part, Cut}
-use Rattle.yq_tree.specs.Lines.{lines_of, row_lines}
-use Rattle.yq_tree.specs.Documents.{document_parts}
-use Rattle.yq_tree.specs.Reading.{outline_of, read_at}
+use Rattle.yq_documents.specs.Lines.{lines_of, row_lines}
+use Rattle.yq_documents.specs.Documents.{document_parts}
+use Rattle.yq_documents.specs.Reading.{outline_of, read_at}
 use Rattle.yq_tree.specs.RemovalPlaces.{OwnRows, own_rows}
-use Rattle.yq_tree.specs.Seats.{Seat, seat, seat_of}
+use Rattle.yq_documents.specs.Seats.{Seat, seat, seat_of}
 use Rattle.yq_tree.proofs.FoundLines.{each}
 use Rattle.yq_tree.proofs.ReadLaws.{text_takes}
 use Rattle.yq_tree.proofs.RemovalPlaceLaws.{own_stands}

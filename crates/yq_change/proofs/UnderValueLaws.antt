@@ -12,9 +12,9 @@ use Rattle.yq_rows.proofs.ExchangeLaws.{one_row}
 use Rattle.yq_rows.proofs.PlaceLaws.{row_front-append}
 use Rattle.yq_rows.proofs.seams.SeamLaws.{rows_text-append}
 use Rattle.yq_rows.proofs.splices.PartPlaces.{part_ends}
-use Rattle.yq_tree.specs.Documents.{document_parts}
-use Rattle.yq_tree.specs.Lines.{tail_of}
-use Rattle.yq_tree.specs.Reading.{read_at}
+use Rattle.yq_documents.specs.Documents.{document_parts}
+use Rattle.yq_documents.specs.Lines.{tail_of}
+use Rattle.yq_documents.specs.Reading.{read_at}
 use Rattle.yq_tree.proofs.FoundLines.{each}
 use Rattle.yq_tree.proofs.ReadLaws.{text_takes}
 use Rattle.yq_tree.proofs.RemovalTexts.{texts_then}

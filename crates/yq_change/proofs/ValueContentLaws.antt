@@ -18,9 +18,9 @@ use Rattle.yq_rows.specs.Grammar.{IsContent, IsMark, IsTail, is_entry, is_more, 
 use Rattle.yq_rows.specs.Rows as rows
 use Rattle.yq_rows.specs.Rows.{Content, Nothing, Inline, Block, content_text, parent_indent, Row}
 use Rattle.yq_rows.proofs.NodeExchange.{inline_starts, mark_apart, space_apart}
-use Rattle.yq_tree.specs.Documents.{ContentHasFitKeys, is_long_plain}
+use Rattle.yq_documents.specs.Documents.{ContentHasFitKeys, is_long_plain}
 use Rattle.yq_tree.specs.InlinePlaces.{InlinePlace, mark_inline}
-use Rattle.yq_tree.specs.Lines.{content_anchor, head_of, tail_of}
+use Rattle.yq_documents.specs.Lines.{content_anchor, head_of, tail_of}
 use Rattle.yq_tree.proofs.PrintedTexts.{none_some}
 use Rattle.yq_change.specs.InlineRows.{IsValueNode}
 use Rattle.yq_change.proofs.CoreLaws.{recore, put_core, core_head, core_anchor, core_keys, core_bare, core_more, core_node}

@@ -3,11 +3,11 @@ use Rattle.std.specs.Prelude.{◌≡◌, ℕ, List, [], ◌∷◌, ◌++◌, sli
 use Rattle.yq_scalar.specs.Paths.{Step, change, within}
 use Rattle.yq_scalar.specs.Tree.{Node, Children, none, children_of}
 use Rattle.yq_rows.specs.Rows.{Part, Cut}
-use Rattle.yq_tree.specs.Documents.{Document, document_parts, lead_of}
-use Rattle.yq_tree.specs.Reading.{documents, outline_of, root_of}
+use Rattle.yq_documents.specs.Documents.{Document, document_parts, lead_of}
+use Rattle.yq_documents.specs.Reading.{documents, outline_of, root_of}
 use Rattle.yq_change.specs.Changed.{IsChanged, KeepsRows, put_document}
 use Rattle.yq_change.specs.Siblings.{HasEntries}
-use Rattle.yq_tree.specs.TreeEdits.{at_end, change_nth, with_tree}
+use Rattle.yq_documents.specs.TreeEdits.{at_end, change_nth, with_tree}
 
 -- That is a change of the node that holds them.
 abbrev pub EndIsChange : Type 0

@@ -8,11 +8,11 @@ use Rattle.yq_rows.specs.Rows.{Row, Part, Cut, cut_text}
 use Rattle.yq_rows.specs.Splices.{behind_first, first_gap}
 use Rattle.yq_rows.specs.Seams.{ends_in_block, ends_in_line}
 use Rattle.yq_lines.specs.Anchors.{HaveOneAnchorEach}
-use Rattle.yq_tree.specs.Documents.{HaveFitKeys, lead_of}
-use Rattle.yq_tree.specs.Lines.{lines_of}
+use Rattle.yq_documents.specs.Documents.{HaveFitKeys, lead_of}
+use Rattle.yq_documents.specs.Lines.{lines_of}
 use Rattle.yq_lines.specs.Outline.{Line, Outline, flatten, children, label}
 use Rattle.yq_lines.specs.Places.{lines_before, content}
-use Rattle.yq_tree.specs.Reading.{outline_of}
+use Rattle.yq_documents.specs.Reading.{outline_of}
 use Rattle.yq_tree.specs.RowPaths.{IsReadable}
 use Rattle.yq_change.specs.Changed.{IsChanged, put_document}
 use Rattle.yq_change.specs.SoundRoots.{IsNewValue}

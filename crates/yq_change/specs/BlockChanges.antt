@@ -6,19 +6,19 @@ use Rattle.yq_scalar.specs.Tree.{Label, Node}
 use Rattle.yq_lines.specs.Comments.{head_comment, line_comment}
 use Rattle.yq_rows.specs.Rows.{Row, behind_columns, Part, Cut}
 use Rattle.yq_lines.specs.Anchors.{names_of, HaveOneAnchorEach}
-use Rattle.yq_tree.specs.Documents.{lead_of}
+use Rattle.yq_documents.specs.Documents.{lead_of}
 use Rattle.yq_lines.specs.Laws.{with_lines}
-use Rattle.yq_tree.specs.Lines.{lines_from, lines_of}
+use Rattle.yq_documents.specs.Lines.{lines_from, lines_of}
 use Rattle.yq_lines.specs.Outline.{Line, Outline, flatten, IsEven, label, children, value}
 use Rattle.yq_lines.specs.Places.{lines_before, plug, Found, find, content}
-use Rattle.yq_tree.specs.Reading.{outline_of, root_of}
+use Rattle.yq_documents.specs.Reading.{outline_of, root_of}
 use Rattle.yq_change.specs.Changed.{IsChanged, put_document}
 use Rattle.yq_change.specs.Conditions.{AreSpared}
 use Rattle.yq_change.specs.Edited.{IsPut, with_lead, LineFits}
 use Rattle.yq_change.specs.Moved.{moved_up, emptied}
 use Rattle.yq_change.specs.SoundRoots.{IsNewKey, IsNewValue, MayReplace}
 use Rattle.yq_change.specs.Siblings.{HasEntries, NodeLines, put_lines, IsCollectionAt, IsEntryAt, EntryFits, IsRelabelled}
-use Rattle.yq_tree.specs.TreeEdits.{headed, replaced}
+use Rattle.yq_documents.specs.TreeEdits.{headed, replaced}
 
 -- An outline may be that of a root, which it stands for.
 pub record RootFits (m : ℕ) (u : Outline) (root : Node) : Type 0 where

@@ -8,12 +8,12 @@ use Rattle.yq_lines.specs.Comments.{head_comment}
 use Rattle.yq_rows.specs.Grammar.{IsCut, no_rows, begins_document}
 use Rattle.yq_rows.specs.Rows.{Part, Cut, last, marked, part_text, cut_text}
 use Rattle.yq_lines.specs.Anchors.{names_of, AreBound, HaveOneAnchorEach}
-use Rattle.yq_tree.specs.Documents.{Document, HaveFitKeys, HasShortRoot, IsDocument, begins_bare, document_parts, has_begin, lead_of}
-use Rattle.yq_tree.specs.Lines.{lines_of}
+use Rattle.yq_documents.specs.Documents.{Document, HaveFitKeys, HasShortRoot, IsDocument, begins_bare, document_parts, has_begin, lead_of}
+use Rattle.yq_documents.specs.Lines.{lines_of}
 use Rattle.yq_lines.specs.Outline.{Line}
-use Rattle.yq_tree.specs.Reading.{documents, read_at, root_of}
+use Rattle.yq_documents.specs.Reading.{documents, read_at, root_of}
 use Rattle.yq_change.specs.Siblings.{StandsSomewhere}
-use Rattle.yq_tree.specs.TreeEdits.{change_nth}
+use Rattle.yq_documents.specs.TreeEdits.{change_nth}
 
 -- a cut in which document k has another part, where its first part is a document or not
 abbrev pub put_from : Bool → ℕ → Part → Cut → Cut

@@ -5,8 +5,8 @@ use Rattle.yq_rows.specs.Rows.{Row, rows_text, Part, part_text, Cut, cut_text}
 use Rattle.yq_lines.specs.Outline.{Outline, end, row, flatten}
 use Rattle.yq_lines.specs.Places.{lines_before}
 use Rattle.yq_tree.specs.CollectionEnds.{CollectionEnd, is_broken, collection_end}
-use Rattle.yq_tree.specs.Lines.{lines_of}
-use Rattle.yq_tree.specs.Reading.{outline_of}
+use Rattle.yq_documents.specs.Lines.{lines_of}
+use Rattle.yq_documents.specs.Reading.{outline_of}
 use Rattle.yq_change.specs.Changed.{put_document}
 use Rattle.yq_change.specs.DocumentRows.{IsDocumentPart, behind_document}
 use Rattle.yq_change.specs.Siblings.{NodeLines, IsCollectionAt}

@@ -5,10 +5,10 @@ use Rattle.yq_rows.specs.Grammar.{unlimited, AreRows, IsCut, no_rows, begins_doc
 use Rattle.yq_rows.specs.Rows.{Row, rows_text, Part, Cut, last, marked, cut_text}
 use Rattle.yq_rows.specs.Splices.{with_first_gap, end_gap, behind_first, splice_part, splice, nth_part, behind_part}
 use Rattle.yq_rows.specs.Seams.{are_seamed}
-use Rattle.yq_tree.specs.Documents.{IsDocument, begins_bare, document_parts, has_begin}
+use Rattle.yq_documents.specs.Documents.{IsDocument, begins_bare, document_parts, has_begin}
 use Rattle.yq_lines.specs.Group.{level_or}
 use Rattle.yq_lines.specs.Outline.{IsEven}
-use Rattle.yq_tree.specs.Reading.{document_of, outline_of, read_at}
+use Rattle.yq_documents.specs.Reading.{document_of, outline_of, read_at}
 use Rattle.yq_tree.specs.RowPaths.{IsReadable}
 use Rattle.yq_change.specs.Changed.{put_document}
 

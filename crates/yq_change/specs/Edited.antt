@@ -6,18 +6,18 @@ use Rattle.yq_scalar.specs.Tree.{Label, Node, Children, none, child, children_of
 use Rattle.yq_rows.specs.Grammar.{IsCut}
 use Rattle.yq_rows.specs.Rows.{Part, Cut, cut_text}
 use Rattle.yq_lines.specs.Anchors.{IsFree, HaveOneAnchorEach}
-use Rattle.yq_tree.specs.Documents.{Document, HaveFitKeys, HasShortRoot, document_parts, lead_of}
+use Rattle.yq_documents.specs.Documents.{Document, HaveFitKeys, HasShortRoot, document_parts, lead_of}
 use Rattle.yq_lines.specs.Group.{level_or}
 use Rattle.yq_lines.specs.Laws.{with_lines}
-use Rattle.yq_tree.specs.Lines.{lines_of}
+use Rattle.yq_documents.specs.Lines.{lines_of}
 use Rattle.yq_lines.specs.Outline.{Line, level, Outline, end, row, flatten, IsOpen, IsWhole, IsEven, anchored, label, value}
 use Rattle.yq_lines.specs.Places.{lines_before, plug, Found, find, content}
-use Rattle.yq_tree.specs.Reading.{documents, outline_of, read_at, root_of}
+use Rattle.yq_documents.specs.Reading.{documents, outline_of, read_at, root_of}
 use Rattle.yq_change.specs.Changed.{changed, IsChanged, KeepsRows, put_document}
 use Rattle.yq_change.specs.Conditions.{last_anchor}
 use Rattle.yq_change.specs.SoundRoots.{IsSoundRoot, IsNewValue}
 use Rattle.yq_change.specs.Siblings.{HasEntries, NodeLines, lines_at, put_lines, IsCollectionAt, IsEntryAt, LinesFit, EntryFits, IsRelabelled}
-use Rattle.yq_tree.specs.TreeEdits.{change_nth, headed}
+use Rattle.yq_documents.specs.TreeEdits.{change_nth, headed}
 
 -- A text reads as a cut, and another one has that cut with part q for part p of document k; its rows have fit keys and a short root.
 pub record IsPut (t : List ℕ) (c : Cut) (k : ℕ) (p q : Part) : Type 0 where

@@ -4,11 +4,11 @@ use Rattle.yq_scalar.specs.Paths.{Step, append_child, change, within}
 use Rattle.yq_rows.specs.Grammar.{AreRows, limit_after}
 use Rattle.yq_rows.specs.Rows.{Row, Part, Cut, cut_text}
 use Rattle.yq_rows.specs.Appending.{closed_by, TakesBreak}
-use Rattle.yq_tree.specs.Documents.{lead_of}
-use Rattle.yq_tree.specs.Lines.{lines_of}
+use Rattle.yq_documents.specs.Documents.{lead_of}
+use Rattle.yq_documents.specs.Lines.{lines_of}
 use Rattle.yq_lines.specs.Outline.{Line, Outline, flatten, label}
 use Rattle.yq_lines.specs.Places.{lines_before, content}
-use Rattle.yq_tree.specs.Reading.{outline_of}
+use Rattle.yq_documents.specs.Reading.{outline_of}
 use Rattle.yq_tree.specs.RowPaths.{IsReadable}
 use Rattle.yq_change.specs.Changed.{IsChanged, put_document}
 use Rattle.yq_change.specs.Siblings.{NodeLines, IsCollectionAt}

@@ -2,11 +2,11 @@
 use Rattle.std.specs.Prelude.{◌≡◌, ℕ, List, ◌∷◌, ◌++◌, length, Some}
 use Rattle.yq_scalar.specs.Paths.{Step}
 use Rattle.yq_rows.specs.Rows.{Row, Part}
-use Rattle.yq_tree.specs.Lines.{lines_of}
+use Rattle.yq_documents.specs.Lines.{lines_of}
 use Rattle.yq_lines.specs.Outline.{flatten, IsEven}
 use Rattle.yq_lines.specs.Places.{lines_before, lines_after, Found}
-use Rattle.yq_tree.specs.Reading.{outline_of}
-use Rattle.yq_tree.specs.Seats.{Seat, seat}
+use Rattle.yq_documents.specs.Reading.{outline_of}
+use Rattle.yq_documents.specs.Seats.{Seat, seat}
 use Rattle.yq_change.specs.Siblings.{IsEntryAt, NodeLines, IsCollectionAt}
 use Rattle.yq_change.specs.LineRows.{InRows, line_number}
 

@@ -5,18 +5,18 @@ use Rattle.yq_scalar.specs.Paths.{Step, append_child, change, child_at, node_at,
 use Rattle.yq_scalar.specs.Tree.{Label, Node, Children, children_of}
 use Rattle.yq_rows.specs.Rows.{Part, Cut}
 use Rattle.yq_lines.specs.Anchors.{names_of}
-use Rattle.yq_tree.specs.Documents.{lead_of}
+use Rattle.yq_documents.specs.Documents.{lead_of}
 use Rattle.yq_lines.specs.Laws.{with_lines}
-use Rattle.yq_tree.specs.Lines.{lines_of}
+use Rattle.yq_documents.specs.Lines.{lines_of}
 use Rattle.yq_lines.specs.Outline.{Bare, Line}
 use Rattle.yq_lines.specs.Places.{Found, find}
-use Rattle.yq_tree.specs.Reading.{outline_of, root_of}
+use Rattle.yq_documents.specs.Reading.{outline_of, root_of}
 use Rattle.yq_change.specs.Changed.{IsChanged, put_document}
 use Rattle.yq_change.specs.Conditions.{AreSpared}
 use Rattle.yq_change.specs.Edited.{IsPut}
 use Rattle.yq_change.specs.SoundRoots.{IsNewValue, MayReplace}
 use Rattle.yq_change.specs.SoundRoots.{IsNewKey, IsSoundRoot}
-use Rattle.yq_tree.specs.TreeEdits.{replaced}
+use Rattle.yq_documents.specs.TreeEdits.{replaced}
 
 -- a line with another head
 abbrev pub with_head : Node → Line → Line

@@ -6,7 +6,7 @@ use Rattle.yq_inline.specs.Nodes.{Items}
 use Rattle.yq_flow.specs.Removals.{removing}
 use Rattle.yq_lines.specs.Places.{Found}
 use Rattle.yq_rows.specs.Rows.{Part, Cut}
-use Rattle.yq_tree.specs.Documents.{EachHasFitKeys, HasFitKeys, lead_of}
+use Rattle.yq_documents.specs.Documents.{EachHasFitKeys, HasFitKeys, lead_of}
 use Rattle.yq_change.specs.DocumentRows.{IsDocumentPart}
 use Rattle.yq_change.specs.FlowRows.{InlineRow, IsFlowAt, with_node}
 use Rattle.yq_change.specs.Rooms.{is_block_root, SameSeats}

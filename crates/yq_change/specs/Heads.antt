@@ -5,17 +5,17 @@ use Rattle.yq_scalar.specs.Text.{joined, lines_of as text_lines}
 use Rattle.yq_lines.specs.Comments.{head_comment}
 use Rattle.yq_rows.specs.Gap.{IsGap}
 use Rattle.yq_rows.specs.Rows.{Row, behind_gap, rows_text, Part, Cut, cut_text}
-use Rattle.yq_tree.specs.Pieces.{before_run}
-use Rattle.yq_tree.specs.Documents.{lead_of}
-use Rattle.yq_tree.specs.Lines.{lines_of}
+use Rattle.yq_documents.specs.Pieces.{before_run}
+use Rattle.yq_documents.specs.Documents.{lead_of}
+use Rattle.yq_documents.specs.Lines.{lines_of}
 use Rattle.yq_lines.specs.Places.{Found}
-use Rattle.yq_tree.specs.Reading.{outline_of}
+use Rattle.yq_documents.specs.Reading.{outline_of}
 use Rattle.yq_tree.specs.RowPaths.{IsReadable}
 use Rattle.yq_change.specs.Changed.{IsChanged, put_document}
 use Rattle.yq_change.specs.Siblings.{IsEntryAt, NodeLines}
 use Rattle.yq_change.specs.LineRows.{line_number}
 use Rattle.yq_change.specs.DocumentRows.{IsDocumentPart, behind_document, put_rows}
-use Rattle.yq_tree.specs.TreeEdits.{with_head_comment}
+use Rattle.yq_documents.specs.TreeEdits.{with_head_comment}
 
 -- What is written for a head comment before a rest: comment lines of which the first begins in a column, or nothing.
 pub record IsRun (column : ℕ) (run rest : List ℕ) : Type 0 where

@@ -15,12 +15,12 @@ use Rattle.yq_lines.specs.Places.{lines_before, Found, find}
 use Rattle.yq_rows.specs.Exchange.{row_front}
 use Rattle.yq_rows.specs.Grammar.{is_more, is_plain, no_rows}
 use Rattle.yq_rows.specs.Rows.{Bare, Row, rows_text, Part, Cut, cut_text, part_text}
-use Rattle.yq_tree.specs.Documents.{HasFitKeys, lead_of}
+use Rattle.yq_documents.specs.Documents.{HasFitKeys, lead_of}
 use Rattle.yq_tree.specs.InlinePlaces.{InlinePlace, apart_from, mark_inline, inline_from}
-use Rattle.yq_tree.specs.Lines.{lines_of}
-use Rattle.yq_tree.specs.Reading.{outline_of, root_of}
+use Rattle.yq_documents.specs.Lines.{lines_of}
+use Rattle.yq_documents.specs.Reading.{outline_of, root_of}
 use Rattle.yq_tree.specs.RowPaths.{IsReadable}
-use Rattle.yq_tree.specs.TreeEdits.{replaced}
+use Rattle.yq_documents.specs.TreeEdits.{replaced}
 use Rattle.yq_change.specs.Changed.{IsChanged, put_document}
 use Rattle.yq_change.specs.DocumentRows.{IsDocumentPart, behind_document}
 use Rattle.yq_change.specs.Rooms.{is_block_root}

@@ -5,16 +5,16 @@ use Rattle.yq_lines.specs.Comments.{line_comment}
 use Rattle.yq_rows.specs.Rows.{Row, parent_indent, rows_text, Part, Cut, cut_text}
 use Rattle.yq_rows.specs.Seams.{TailFits, is_block, retail}
 use Rattle.yq_rows.specs.Splices.{first_gap}
-use Rattle.yq_tree.specs.Documents.{lead_of}
-use Rattle.yq_tree.specs.Lines.{lines_of}
+use Rattle.yq_documents.specs.Documents.{lead_of}
+use Rattle.yq_documents.specs.Lines.{lines_of}
 use Rattle.yq_lines.specs.Places.{Found}
-use Rattle.yq_tree.specs.Reading.{outline_of}
+use Rattle.yq_documents.specs.Reading.{outline_of}
 use Rattle.yq_tree.specs.RowPaths.{IsReadable}
 use Rattle.yq_change.specs.Changed.{IsChanged, put_document}
 use Rattle.yq_change.specs.Siblings.{IsEntryAt, NodeLines}
 use Rattle.yq_change.specs.LineRows.{line_number}
 use Rattle.yq_change.specs.DocumentRows.{IsDocumentPart, behind_document, put_rows}
-use Rattle.yq_tree.specs.TreeEdits.{with_line_comment}
+use Rattle.yq_documents.specs.TreeEdits.{with_line_comment}
 
 -- a part in which a row has another tail
 abbrev pub retailed : (front : List Row) → Row → (back : List Row) → List ℕ → Part → Part

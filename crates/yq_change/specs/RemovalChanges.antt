@@ -8,11 +8,11 @@ use Rattle.yq_scalar.specs.Tree.{Node}
 use Rattle.yq_lines.specs.Anchors.{names_of}
 use Rattle.yq_lines.specs.Places.{Found}
 use Rattle.yq_rows.specs.Rows.{Part, Cut, cut_text}
-use Rattle.yq_tree.specs.Documents.{document_parts, lead_of}
+use Rattle.yq_documents.specs.Documents.{document_parts, lead_of}
 use Rattle.yq_tree.specs.FirstPlaces.{FirstOut, first_removal}
-use Rattle.yq_tree.specs.Reading.{outline_of, read_at, root_of}
+use Rattle.yq_documents.specs.Reading.{outline_of, read_at, root_of}
 use Rattle.yq_tree.specs.RemovalPlaces.{OwnRows, own_rows, Seam, Removal, removal_place, has_others}
-use Rattle.yq_tree.specs.TreeEdits.{at_end}
+use Rattle.yq_documents.specs.TreeEdits.{at_end}
 use Rattle.yq_change.specs.Changed.{IsChanged, KeepsRows, put_document}
 use Rattle.yq_change.specs.Conditions.{AreSpared}
 use Rattle.yq_change.specs.DocumentRows.{IsDocumentPart}

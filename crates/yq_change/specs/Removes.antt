@@ -6,10 +6,10 @@ use Rattle.yq_rows.specs.Rows.{Row, Part, Cut, cut_text}
 use Rattle.yq_rows.specs.Splices.{first_gap}
 use Rattle.yq_rows.specs.Removal.{last_block, next_column, seam_gap}
 use Rattle.yq_lines.specs.Anchors.{names_of}
-use Rattle.yq_tree.specs.Pieces.{before_run}
-use Rattle.yq_tree.specs.Documents.{lead_of}
+use Rattle.yq_documents.specs.Pieces.{before_run}
+use Rattle.yq_documents.specs.Documents.{lead_of}
 use Rattle.yq_lines.specs.Places.{plug, Found, content}
-use Rattle.yq_tree.specs.Reading.{outline_of, root_of}
+use Rattle.yq_documents.specs.Reading.{outline_of, root_of}
 use Rattle.yq_tree.specs.RowPaths.{IsReadable}
 use Rattle.yq_change.specs.Changed.{IsChanged, put_document}
 use Rattle.yq_change.specs.Conditions.{AreSpared}

@@ -11,11 +11,11 @@ use Rattle.yq_rows.specs.Grammar.{unlimited, AreRows, IsCut, no_rows}
 use Rattle.yq_rows.specs.Rows.{Row, behind_columns, rows_text, Part, Cut, cut_text}
 use Rattle.yq_rows.specs.SpliceFits.{is_after}
 use Rattle.yq_rows.specs.Splices.{behind_first, first_gap, marker_before}
-use Rattle.yq_tree.specs.Documents.{HaveFitKeys, HasShortRoot, lead_of}
-use Rattle.yq_tree.specs.Lines.{lines_from, lines_of}
-use Rattle.yq_tree.specs.Reading.{outline_of, root_of}
+use Rattle.yq_documents.specs.Documents.{HaveFitKeys, HasShortRoot, lead_of}
+use Rattle.yq_documents.specs.Lines.{lines_from, lines_of}
+use Rattle.yq_documents.specs.Reading.{outline_of, root_of}
 use Rattle.yq_tree.specs.RowPaths.{IsReadable}
-use Rattle.yq_tree.specs.TreeEdits.{headed, replaced}
+use Rattle.yq_documents.specs.TreeEdits.{headed, replaced}
 use Rattle.yq_change.specs.Appends.{inserted}
 use Rattle.yq_change.specs.BlockChanges.{AreCounted, MovesUp, RootFits, StaysEmpty}
 use Rattle.yq_change.specs.Changed.{IsChanged, put_document}

@@ -3,13 +3,13 @@ use Rattle.std.specs.Prelude.{◌≡◌, ℕ, List, map, is_some, Bool, true}
 use Rattle.yq_scalar.specs.Paths.{Step}
 use Rattle.yq_scalar.specs.Tree.{none, children_of}
 use Rattle.yq_rows.specs.Rows.{Mark, Row, Part}
-use Rattle.yq_tree.specs.declared.path.Part as places
-use Rattle.yq_tree.specs.Documents.{lead_of}
-use Rattle.yq_tree.specs.Lines.{head_of, lines_of}
-use Rattle.yq_tree.specs.Reading.{outline_of, root_of}
-use Rattle.yq_tree.specs.Ready.{begins_no_node}
-use Rattle.yq_tree.specs.Seats.{seat_of, seat_has_room}
-use Rattle.yq_tree.specs.TreeEdits.{lead_by}
+use Rattle.yq_documents.specs.declared.path.Part as places
+use Rattle.yq_documents.specs.Documents.{lead_of}
+use Rattle.yq_documents.specs.Lines.{head_of, lines_of}
+use Rattle.yq_documents.specs.Reading.{outline_of, root_of}
+use Rattle.yq_documents.specs.Ready.{begins_no_node}
+use Rattle.yq_documents.specs.Seats.{seat_of, seat_has_room}
+use Rattle.yq_documents.specs.TreeEdits.{lead_by}
 use Rattle.yq_change.specs.Siblings.{HasEntries}
 
 -- whether a collection at the root of a part is block (own)

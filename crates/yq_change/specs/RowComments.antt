@@ -10,11 +10,11 @@ use Rattle.yq_rows.specs.Rows as rows
 use Rattle.yq_rows.specs.Rows.{Content, Block, Row, rows_text, Part, Cut, cut_text}
 use Rattle.yq_rows.specs.Seams.{TakesPlace}
 use Rattle.yq_rows.specs.Splices.{first_gap}
-use Rattle.yq_tree.specs.Documents.{ContentHasFitKeys, is_long_plain, lead_of}
-use Rattle.yq_tree.specs.Lines.{content_anchor, head_of, tail_of, lines_of}
-use Rattle.yq_tree.specs.Reading.{outline_of}
+use Rattle.yq_documents.specs.Documents.{ContentHasFitKeys, is_long_plain, lead_of}
+use Rattle.yq_documents.specs.Lines.{content_anchor, head_of, tail_of, lines_of}
+use Rattle.yq_documents.specs.Reading.{outline_of}
 use Rattle.yq_tree.specs.RowPaths.{IsReadable}
-use Rattle.yq_tree.specs.TreeEdits.{with_line_comment}
+use Rattle.yq_documents.specs.TreeEdits.{with_line_comment}
 use Rattle.yq_change.specs.Appends.{inserted}
 use Rattle.yq_change.specs.Changed.{IsChanged, put_document}
 use Rattle.yq_change.specs.DocumentRows.{IsDocumentPart, behind_document}

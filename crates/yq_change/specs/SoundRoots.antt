@@ -6,7 +6,7 @@ use Rattle.yq_scalar.specs.Tree.{Label, Node, alias, scalar, list, map, children
 use Rattle.yq_inline.specs.Inline.{depth_limit}
 use Rattle.yq_lines.specs.Anchors.{Name, Refers, names_of, names_in, IsAmong, AreBound}
 use Rattle.yq_change.specs.Conditions.{AreSpared}
-use Rattle.yq_tree.specs.TreeEdits.{replaced}
+use Rattle.yq_documents.specs.TreeEdits.{replaced}
 
 -- What is asked of the root of a document.
 pub record IsSoundRoot (root : Node) : Type 0 where

@@ -5,7 +5,7 @@ use Rattle.yq_scalar.specs.Characters.{is_text}
 use Rattle.yq_scalar.specs.Text.{front, is_feed}
 use Rattle.yq_rows.specs.Rows.{Cut, cut_text}
 use Rattle.yq_rows.specs.Exchange.{HasPieces}
-use Rattle.yq_tree.specs.Reading.{read_at}
+use Rattle.yq_documents.specs.Reading.{read_at}
 
 -- A piece of a text: whole characters, which a text may hold, with an LF behind each CR (YAML 1.2.2, sections 5.1 and 5.4; own).
 pub record IsPiece (t : List ℕ) : Type 0 where

@@ -11,15 +11,15 @@ use Rattle.yq_rows.specs.Exchange.{allows_first, asked_behind, row_front, with_c
 use Rattle.yq_rows.specs.Grammar.{unlimited, IsTail, limit_after}
 use Rattle.yq_rows.specs.Rows.{Content, Nothing, Inline, Row, rows_text, Part, Cut, cut_text}
 use Rattle.yq_rows.specs.Seams.{TakesPlace}
-use Rattle.yq_tree.specs.Documents.{ContentHasFitKeys, lead_of}
-use Rattle.yq_tree.specs.Lines.{content_anchor, head_of, tail_of, lines_of}
-use Rattle.yq_tree.specs.Nodes.{anchor_of}
+use Rattle.yq_documents.specs.Documents.{ContentHasFitKeys, lead_of}
+use Rattle.yq_documents.specs.Lines.{content_anchor, head_of, tail_of, lines_of}
+use Rattle.yq_documents.specs.Nodes.{anchor_of}
 use Rattle.yq_tree.specs.PlacedRows.{PlacedPart, placed_document}
-use Rattle.yq_tree.specs.Reading.{outline_of, root_of}
+use Rattle.yq_documents.specs.Reading.{outline_of, root_of}
 use Rattle.yq_tree.specs.RemovalPlaces.{OwnRows, own_rows}
 use Rattle.yq_tree.specs.RowPaths.{IsReadable}
-use Rattle.yq_tree.specs.Seats.{Seat, seat_of}
-use Rattle.yq_tree.specs.TreeEdits.{replaced}
+use Rattle.yq_documents.specs.Seats.{Seat, seat_of}
+use Rattle.yq_documents.specs.TreeEdits.{replaced}
 use Rattle.yq_change.specs.Changed.{IsChanged, put_document}
 use Rattle.yq_change.specs.Contents.{recontent}
 use Rattle.yq_change.specs.DocumentRows.{IsDocumentPart, behind_document}

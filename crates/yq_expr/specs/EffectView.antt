@@ -1,23 +1,12 @@
 -- What an update does at each place, as the code has it.
-use Rattle.std.specs.Prelude.{ℕ, List, [], ◌∷◌, map, Option, Some, None}
+use Rattle.std.specs.Prelude.{ℕ, List, map}
 use Rattle.yq_inline.specs.Values.{node_of}
-use Rattle.yq_expr.specs.declared.planning.change.Change as change
-use Rattle.yq_expr.specs.declared.planning.effect.Effect as effect
+use Rattle.yq_expr.specs.declared.effect.Effect as effect
 use Rattle.yq_meaning.specs.Changes.{Room, Changed, put_at, add_at, remove_at, comment_at}
-use Rattle.yq_expr.specs.ChangeView.{change_of}
 use Rattle.yq_meaning.specs.Judgement.{Judgement, and_then}
 use Rattle.yq_meaning.specs.Places.{Place}
 use Rattle.yq_meaning.specs.RightValues.{right_value}
 use Rattle.yq_program.specs.View.{term_of}
-
--- a change at a place (own)
-abbrev pub placed_change : Place → change.Change → List Changed
-placed_change p c = (p.path, change_of c) ∷ []
-
--- the same, if there is one (own)
-abbrev pub placed : Place → Option change.Change → List Changed
-placed p None = []
-placed p (Some c) = placed_change p c
 
 -- what is changed at a place of the document of that number, which has such room (own)
 abbrev pub effect_at : ℕ → Room → effect.Effect → Place → Judgement (List Changed)

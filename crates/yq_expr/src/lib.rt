@@ -1,18 +1,19 @@
 //! Programs matched in documents, and planned on them.
 #![tactic(auto)]
 
-mod laws;
-mod matching;
+mod changes;
+mod effect;
+mod matched;
 mod planning;
 
-pub use laws::{
-    changes_apart, one_program, places_apart, plan_fits, plan_means, plan_refused, plan_rooms,
-    rest_follows, rooms_alike, rooms_ready,
-};
-pub use matching::{Match, matches};
+pub use matched::{Match, matches};
 pub use planning::plan;
 pub use yq_inline::Value;
 pub use yq_meaning::{MatchError, Op, PlanError, Refusal, copied_steps};
+pub use yq_planning::{
+    changes_apart, one_program, places_apart, plan_fits, plan_means, plan_refused, plan_rooms,
+    rest_follows, rooms_alike, rooms_ready,
+};
 pub use yq_program::{
     Assignment, Comment, CommentPlace, Comparison, Condition, Operand, Operator, ParseError,
     Program, Stage, Step, Syntax, Term, Update, parse_expr,

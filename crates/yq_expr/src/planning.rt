@@ -1,38 +1,20 @@
 //! Planning: the operations that carry out an update on documents.
 ghost use Rattle.std.specs.Prelude.{◌≡◌, ◌<◌, ◌∷◌, ◌⊎◌, [], IfOk, Some};
-ghost use Rattle.yq_tree.specs.Reading.{documents_of};
+ghost use Rattle.yq_documents.specs.Reading.{documents_of};
 ghost use Rattle.yq_meaning.specs.After.{all_after};
 ghost use Rattle.yq_meaning.specs.Fits.{AllFit};
 ghost use Rattle.yq_meaning.specs.Judgement.{Plans, gives, refuses};
 ghost use Rattle.yq_meaning.specs.Meaning.{meaning};
 ghost use Rattle.yq_meaning.specs.Operations.{operations_of};
-ghost use Rattle.yq_expr.specs.Plans as plans;
+ghost use Rattle.yq_planning.specs.Plans as plans;
 ghost use Rattle.yq_program.specs.Program as spec;
 ghost use Rattle.yq_meaning.specs.Rooms.{room_of};
 ghost use Rattle.yq_program.specs.View.{program_of, update_of};
 
-mod added;
-mod allowed;
-mod anchors;
-mod change;
-mod change_limits;
-mod changes;
-mod comment_text;
-mod copied;
-mod effect;
-mod entry_index;
-mod key_numbers;
-mod limits;
-mod operations;
-mod put;
-mod right_value;
-mod steps;
-mod sum;
-
-use crate::planning::changes::changes;
-use crate::planning::operations::operations;
+use crate::changes::changes;
 use std::alloc::Global;
 use yq_meaning::{Op, PlanError, Refusal};
+use yq_planning::operations;
 use yq_program::{Program, Syntax, Update};
 use yq_tree::Documents;
 

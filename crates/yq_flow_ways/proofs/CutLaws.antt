@@ -4,7 +4,7 @@ use Rattle.std.specs.Str.{is_utf8}
 use Rattle.yq_scalar.proofs.Bools.{guard_then}
 use Rattle.yq_rows.specs.Grammar.{IsCut}
 use Rattle.yq_rows.specs.Rows.{Cut, cut_text}
-use Rattle.yq_tree.specs.Reading.{read_at, cut_of}
+use Rattle.yq_documents.specs.Reading.{read_at, cut_of}
 use Rattle.yq_tree.proofs.ReadLaws.{text_takes, cut_is}
 
 -- what is read is cut so

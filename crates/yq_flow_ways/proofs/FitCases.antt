@@ -5,8 +5,8 @@ use Rattle.std.specs.Prelude as prelude
 use Rattle.yq_scalar.specs.Paths.{Step, node_at}
 use Rattle.yq_scalar.specs.Tree.{Node}
 use Rattle.yq_rows.specs.Rows.{Part, Cut, cut_text}
-use Rattle.yq_tree.specs.Documents.{Document, document_parts}
-use Rattle.yq_tree.specs.Reading.{document_of, documents, outline_of, read_at, root_of}
+use Rattle.yq_documents.specs.Documents.{Document, document_parts}
+use Rattle.yq_documents.specs.Reading.{document_of, documents, outline_of, read_at, root_of}
 use Rattle.yq_change.specs.Siblings.{IsCollectionAt, NodeLines}
 use Rattle.yq_meaning.specs.Changes.{Room}
 use Rattle.yq_meaning.specs.Fits.{Fits, Takes}

@@ -18,7 +18,7 @@ use Rattle.yq_inline.proofs.TreeLaws.{key_tree}
 use Rattle.yq_rows.specs.Rows.{Cut, cut_text}
 use Rattle.yq_tree.specs.FlowNodes.{flow_collection}
 use Rattle.yq_tree.specs.FlowTold.{placed_collection, behind_anchor, collection_of}
-use Rattle.yq_tree.specs.Reading.{read_at}
+use Rattle.yq_documents.specs.Reading.{read_at}
 use Rattle.yq_tree.proofs.FlowToldLaws.{node_collection}
 use Rattle.yq_change.proofs.FlowPathLaws.{flow_found}
 use Rattle.yq_change.proofs.FlowStandLaws.{coll_stands}

@@ -16,7 +16,7 @@ use Rattle.yq_inline.specs.Written.{entry_text, flow_key, flow_text, scalar_text
 use Rattle.yq_rows.specs.Rows.{Cut, cut_text}
 use Rattle.yq_tree.specs.FlowNodes.{flow_collection}
 use Rattle.yq_tree.specs.FlowTold.{placed_collection, behind_anchor, collection_of}
-use Rattle.yq_tree.specs.Reading.{cut_of, read_at}
+use Rattle.yq_documents.specs.Reading.{cut_of, read_at}
 use Rattle.yq_tree.proofs.FlowToldLaws.{node_collection}
 use Rattle.yq_meaning.specs.Operations.{append}
 use Rattle.yq_flow_ways.specs.FlowWays.{appended_at, content_takes, edit_segments, flow_append_way, flow_segments, placed_takes, takes_key}

@@ -21,11 +21,11 @@ use Rattle.yq_inline.specs.Written.{flow_key, flow_of}
 use Rattle.yq_flow.proofs.PlacedEdits.{append_placed}
 use Rattle.yq_flow.proofs.ValueEdits.{value_appended}
 use Rattle.yq_rows.specs.Rows.{Cut, cut_text}
-use Rattle.yq_tree.specs.Documents.{Document, EachHasFitKeys, HasFitKey, HasFitKeys, document_parts}
+use Rattle.yq_documents.specs.Documents.{Document, EachHasFitKeys, HasFitKey, HasFitKeys, document_parts}
 use Rattle.yq_tree.specs.FlowNodes.{flow_collection}
-use Rattle.yq_tree.specs.Reading as reading
-use Rattle.yq_tree.specs.Reading.{documents, read_at, root_of}
-use Rattle.yq_tree.specs.TreeEdits.{new_label}
+use Rattle.yq_documents.specs.Reading as reading
+use Rattle.yq_documents.specs.Reading.{documents, read_at, root_of}
+use Rattle.yq_documents.specs.TreeEdits.{new_label}
 use Rattle.yq_change.specs.FlowRows.{FlowAt}
 use Rattle.yq_change.specs.SoundRoots.{IsNewKey, IsNewValue, IsSoundRoot}
 use Rattle.yq_change.specs.TextPieces.{IsPiece}

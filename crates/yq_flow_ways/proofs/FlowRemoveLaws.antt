@@ -17,9 +17,9 @@ use Rattle.yq_flow.proofs.RemoveLaws.{removed}
 use Rattle.yq_flow.proofs.RemovePlaces.{remove_placed}
 use Rattle.yq_flow.proofs.ReturnLaws.{pairs_behind}
 use Rattle.yq_rows.specs.Rows.{Cut, cut_text}
-use Rattle.yq_tree.specs.Documents.{Document, document_parts}
-use Rattle.yq_tree.specs.Reading as reading
-use Rattle.yq_tree.specs.Reading.{documents, read_at, root_of}
+use Rattle.yq_documents.specs.Documents.{Document, document_parts}
+use Rattle.yq_documents.specs.Reading as reading
+use Rattle.yq_documents.specs.Reading.{documents, read_at, root_of}
 use Rattle.yq_change.specs.Changed.{put_document}
 use Rattle.yq_change.specs.FlowRows.{with_node, FlowAt, NodeStands}
 use Rattle.yq_change.specs.SoundRoots.{IsSoundRoot}

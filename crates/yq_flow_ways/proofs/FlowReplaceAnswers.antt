@@ -19,7 +19,7 @@ use Rattle.yq_flow.proofs.PlacedEdits.{replace_placed}
 use Rattle.yq_rows.specs.Rows.{Cut, cut_text}
 use Rattle.yq_tree.specs.FlowNodes.{flow_collection}
 use Rattle.yq_tree.specs.FlowTold.{placed_collection, behind_anchor}
-use Rattle.yq_tree.specs.Reading.{cut_of, read_at}
+use Rattle.yq_documents.specs.Reading.{cut_of, read_at}
 use Rattle.yq_meaning.specs.Operations.{replace}
 use Rattle.yq_script.specs.Script.{Segment, keep}
 use Rattle.yq_flow_ways.specs.FlowWays.{edit_segments, flow_replace_way, flow_value, in_flow_at, last_step, replaced_at, replaced_by, value_text}

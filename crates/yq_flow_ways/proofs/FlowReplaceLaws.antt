@@ -27,11 +27,11 @@ use Rattle.yq_flow.proofs.ValueFits.{scalar_block}
 use Rattle.yq_lines.specs.Anchors.{names_of}
 use Rattle.yq_lines.specs.Outline.{anchored}
 use Rattle.yq_rows.specs.Rows.{Cut, cut_text}
-use Rattle.yq_tree.specs.Documents.{Document, EachHasFitKeys, HasFitKey, HasFitKeys, document_parts, lead_of}
-use Rattle.yq_tree.specs.Nodes.{anchor_of}
-use Rattle.yq_tree.specs.Reading as reading
-use Rattle.yq_tree.specs.Reading.{documents, read_at, root_of}
-use Rattle.yq_tree.specs.TreeEdits.{replaced}
+use Rattle.yq_documents.specs.Documents.{Document, EachHasFitKeys, HasFitKey, HasFitKeys, document_parts, lead_of}
+use Rattle.yq_documents.specs.Nodes.{anchor_of}
+use Rattle.yq_documents.specs.Reading as reading
+use Rattle.yq_documents.specs.Reading.{documents, read_at, root_of}
+use Rattle.yq_documents.specs.TreeEdits.{replaced}
 use Rattle.yq_tree.proofs.FlowPieces.{named_is, none_anchored}
 use Rattle.yq_change.specs.FlowRows.{FlowAt}
 use Rattle.yq_change.specs.Rooms.{is_block_root}

@@ -13,9 +13,9 @@ use Rattle.yq_flow.specs.Removals.{removing}
 use Rattle.yq_inline.specs.Written.{flow_key, flow_of}
 use Rattle.yq_lines.specs.Places.{Found, find}
 use Rattle.yq_rows.specs.Rows.{Part, Cut, cut_text}
-use Rattle.yq_tree.specs.Documents.{document_parts}
+use Rattle.yq_documents.specs.Documents.{document_parts}
 use Rattle.yq_tree.specs.FlowNodes.{find_head}
-use Rattle.yq_tree.specs.Reading.{outline_of, read_at, root_of}
+use Rattle.yq_documents.specs.Reading.{outline_of, read_at, root_of}
 use Rattle.yq_meaning.specs.Fits.{Takes}
 use Rattle.yq_meaning.specs.Operations.{replace, append, remove}
 use Rattle.yq_script.specs.Script.{Segment}

@@ -8,8 +8,8 @@ use Rattle.yq_inline.specs.Collections.{CollPieces}
 use Rattle.yq_flow.specs.FlowEdits.{FlowEdit, IsEdited, edited_node}
 use Rattle.yq_inline.specs.Nodes.{Node}
 use Rattle.yq_rows.specs.Rows.{Part, Cut, cut_text}
-use Rattle.yq_tree.specs.Documents.{HasFitKeys, lead_of}
-use Rattle.yq_tree.specs.Reading.{read_at, root_of}
+use Rattle.yq_documents.specs.Documents.{HasFitKeys, lead_of}
+use Rattle.yq_documents.specs.Reading.{read_at, root_of}
 use Rattle.yq_tree.specs.RowPaths.{IsReadable}
 use Rattle.yq_change.specs.Changed.{put_document}
 use Rattle.yq_change.specs.FlowRows.{coll_at, with_node, FlowAt}

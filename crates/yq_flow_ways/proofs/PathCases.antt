@@ -7,9 +7,9 @@ use Rattle.yq_lines.specs.Outline.{Mark, Bare, Key, Dash, Outline, end, row, anc
 use Rattle.yq_lines.specs.Places.{Found, find_row, content}
 use Rattle.yq_lines.proofs.Finding.{row_child}
 use Rattle.yq_rows.specs.Rows.{Part, Cut, cut_text}
-use Rattle.yq_tree.specs.Documents.{document_parts}
+use Rattle.yq_documents.specs.Documents.{document_parts}
 use Rattle.yq_tree.specs.FlowNodes.{find_head}
-use Rattle.yq_tree.specs.Reading.{outline_of, read_at, root_of}
+use Rattle.yq_documents.specs.Reading.{outline_of, read_at, root_of}
 use Rattle.yq_change.specs.Siblings.{HasEntries, IsCollectionAt, IsEntry, IsEntryAt, NodeLines}
 use Rattle.yq_change.proofs.EditedLaws.{lines_are_there}
 use Rattle.yq_flow_ways.specs.FlowWays.{last_step}

@@ -16,10 +16,10 @@ use Rattle.yq_flow.specs.Valued.{IsValueTree}
 use Rattle.yq_lines.specs.Anchors.{Name, names_in, names_of}
 use Rattle.yq_lines.specs.Counts.{count}
 use Rattle.yq_rows.specs.Rows.{Cut, cut_text}
-use Rattle.yq_tree.specs.Documents.{Document, document_parts}
-use Rattle.yq_tree.specs.Reading.{documents, documents_of, read_at, root_of}
+use Rattle.yq_documents.specs.Documents.{Document, document_parts}
+use Rattle.yq_documents.specs.Reading.{documents, documents_of, read_at, root_of}
 use Rattle.yq_tree.specs.RemovalPlaces.{has_others_at, has_several}
-use Rattle.yq_tree.specs.TreeEdits.{at_end, change_nth, led, replaced}
+use Rattle.yq_documents.specs.TreeEdits.{at_end, change_nth, led, replaced}
 use Rattle.yq_change.proofs.AfterLaws.{end_is_change}
 use Rattle.yq_change.proofs.PartLaws.{document_known}
 use Rattle.yq_change.proofs.SoundRootLaws.{depth_at}
@@ -232,7 +232,7 @@ module _ (doc : ℕ) (init : List Step) (s : Step) (v : Node) (c : Cut) (h : Sta
       ∙ (change_alike init (replaced v) (within (remove_child s)) h.d.root h.old at_init (h.empty.left s is_sole.gone) ∙ sym (end_is_change remove_child init s h.d.root))
 
   same_document : (block : Bool) → done_to block (replace doc init v) h.d ≡ done_to block (remove doc (init ++ (s ∷ []))) h.d
-  same_document block = ap (λ (n : Node). Rattle.yq_tree.specs.TreeEdits.with_tree block n h.d) (same_root block h.d.lead)
+  same_document block = ap (λ (n : Node). Rattle.yq_documents.specs.TreeEdits.with_tree block n h.d) (same_root block h.d.lead)
 
   -- where the root after it has items or entries, the collection is below it
   below : (ss : List Step) (root : Node) → node_at ss root ≡ Some h.old → HasSome (children_of (change ss (replaced v) root)) → IsBelow ss

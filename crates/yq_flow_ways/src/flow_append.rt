@@ -6,7 +6,7 @@ ghost use Rattle.yq_inline.specs.View.{view};
 ghost use Rattle.yq_inline.specs.Written.{flow_key, flow_text};
 ghost use Rattle.yq_lines.specs.Bodies.{lent};
 ghost use Rattle.yq_meaning.specs.Operations.{operation_of};
-ghost use Rattle.yq_tree.specs.Reading.{cut_of};
+ghost use Rattle.yq_documents.specs.Reading.{cut_of};
 ghost use Rattle.yq_flow_ways.specs.FlowWays as spec;
 ghost use Rattle.yq_ways.specs.WayAnswers.{Carries};
 

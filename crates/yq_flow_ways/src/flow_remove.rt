@@ -1,6 +1,6 @@
 //! Items and entries taken out of flow collections.
 ghost use Rattle.yq_meaning.specs.Operations.{operation_of};
-ghost use Rattle.yq_tree.specs.Reading.{cut_of};
+ghost use Rattle.yq_documents.specs.Reading.{cut_of};
 ghost use Rattle.yq_flow_ways.specs.FlowWays as spec;
 ghost use Rattle.yq_ways.specs.WayAnswers.{Carries};
 

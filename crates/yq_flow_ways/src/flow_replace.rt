@@ -2,7 +2,7 @@
 ghost use Rattle.std.specs.Prelude.{◌≡◌, [], IfOk, Some, ◌∷◌, string_bytes};
 ghost use Rattle.yq_inline.specs.Values.{node_of};
 ghost use Rattle.yq_meaning.specs.Operations.{operation_of};
-ghost use Rattle.yq_tree.specs.Reading.{cut_of};
+ghost use Rattle.yq_documents.specs.Reading.{cut_of};
 ghost use Rattle.yq_script.specs.Script as script;
 ghost use Rattle.yq_flow_ways.specs.FlowWays as spec;
 ghost use Rattle.yq_ways.specs.WayAnswers.{Carries};

@@ -3,8 +3,8 @@
 ghost use Rattle.std.specs.Prelude.{◌≡◌, IfOk, option_map};
 ghost use Rattle.yq_meaning.specs.Operations.{operation_of};
 ghost use Rattle.yq_inline.specs.Values as values;
-ghost use Rattle.yq_tree.specs.Nodes.{node_of};
-ghost use Rattle.yq_tree.specs.Reading.{cut_of};
+ghost use Rattle.yq_documents.specs.Nodes.{node_of};
+ghost use Rattle.yq_documents.specs.Reading.{cut_of};
 ghost use Rattle.yq_flow_ways.specs.SoleRemoving as spec;
 
 use crate::flow_edit::last_step;

@@ -13,7 +13,7 @@ use Rattle.yq_scalar.specs.Tree.{Node, alias, scalar, list, Children, none, chil
 use Rattle.yq_inline.specs.Inline.{depth_limit}
 use Rattle.yq_inline.specs.Written.{scalar_text}
 use Rattle.yq_rows.specs.Grammar.{key_limit}
-use Rattle.yq_tree.specs.Anchors.{Name, Anchors, Refers, names_of, names_in}
+use Rattle.yq_lines.specs.Anchors.{Name, Anchors, Refers, names_of, names_in}
 use Rattle.yq_program.specs.declared.program.CommentPlace.{CommentPlace}
 use Rattle.yq_program.specs.declared.program.CommentPlace.TheVariants as comments
 use Rattle.yq_program.specs.declared.program.Operator.TheVariants as operator
@@ -23,7 +23,7 @@ use Rattle.yq_program.specs.Program.{is_index, Step, key, index, each, Stage, Up
 use Rattle.yq_meaning.specs.Pipes.{places}
 use Rattle.yq_meaning.specs.Places.{Place, root_place, for_each}
 use Rattle.yq_meaning.specs.RightValues.{is_null, as_items, sum, right_value}
-use Rattle.yq_tree.specs.TreeEdits.{new_label}
+use Rattle.yq_documents.specs.TreeEdits.{new_label}
 
 -- what a collection gets: one item or entry more, or a new value for a key that it has (own)
 pub data Addition : Type 0 where

@@ -8,7 +8,7 @@ use Rattle.yq_scalar.specs.declared.kind.Kind.TheVariants as kinds
 use Rattle.yq_scalar.specs.Paths.{To, child_at}
 use Rattle.yq_scalar.specs.SchemaReading.{int_value}
 use Rattle.yq_scalar.specs.Tree.{Node, alias, scalar, list, map}
-use Rattle.yq_tree.specs.Outline.{null_node}
+use Rattle.yq_lines.specs.Outline.{null_node}
 use Rattle.yq_meaning.specs.declared.refusal.Refusal.TheVariants.{ThroughAlias}
 use Rattle.yq_meaning.specs.Judgement.{Judgement, gives, refuses, and_then}
 use Rattle.yq_meaning.specs.Places.{Place, walk}

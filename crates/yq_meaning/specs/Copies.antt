@@ -2,7 +2,7 @@
 use Rattle.std.specs.Prelude.{ℕ, suc, List, [], ◌∷◌, ◌++◌, Option, Some, None}
 use Rattle.yq_scalar.specs.Tree.{Node, alias, scalar, list, map, Children, none, child}
 use Rattle.yq_inline.specs.Values.{items, entries}
-use Rattle.yq_tree.specs.Documents.{Document}
+use Rattle.yq_documents.specs.Documents.{Document}
 use Rattle.yq_meaning.specs.declared.refusal.Refusal.TheVariants.{ThroughAlias}
 use Rattle.yq_meaning.specs.Conditions.{value_of}
 use Rattle.yq_meaning.specs.Judgement.{Judgement, gives, refuses, and_then}

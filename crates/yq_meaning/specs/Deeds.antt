@@ -3,7 +3,7 @@ use Rattle.std.specs.Prelude.{ℕ, suc, ◌==◌, Bool, true, false, ◌&&◌, L
 use Rattle.std.specs.Str.{bytes_eq}
 use Rattle.yq_scalar.specs.Tree.{Label, Node, alias, scalar, list, map, Children, none, child}
 use Rattle.yq_scalar.specs.Paths.{Step, To, Nth, is_here, further, within}
-use Rattle.yq_tree.specs.TreeEdits.{with_line_comment, with_head_comment}
+use Rattle.yq_documents.specs.TreeEdits.{with_line_comment, with_head_comment}
 use Rattle.yq_meaning.specs.Places.{step_by}
 
 -- what is done at a place: the node becomes another, the line comment or the head comment of the entry or item is set, or it goes (own)

@@ -5,7 +5,7 @@ use Rattle.yq_scalar.specs.declared.kind.Kind.TheVariants as kinds
 use Rattle.yq_scalar.specs.Paths as paths
 use Rattle.yq_scalar.specs.Paths.{To, Nth, child_at}
 use Rattle.yq_scalar.specs.Tree.{Node, alias, scalar, list, map, Children}
-use Rattle.yq_tree.specs.Counts.{count}
+use Rattle.yq_lines.specs.Counts.{count}
 use Rattle.yq_meaning.specs.declared.refusal.Refusal.{Refusal}
 use Rattle.yq_meaning.specs.declared.refusal.Refusal.TheVariants.{NotAMap, NotASequence, IndexOutOfRange, ThroughAlias}
 use Rattle.yq_meaning.specs.Judgement.{Judgement, gives, refuses, and_then}

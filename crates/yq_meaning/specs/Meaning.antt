@@ -4,8 +4,8 @@ use Rattle.yq_scalar.specs.Paths as paths
 use Rattle.yq_scalar.specs.Paths.{To, change_child, append_child, within}
 use Rattle.yq_scalar.specs.Shapes.{IsTree}
 use Rattle.yq_scalar.specs.Tree.{Node, Children, children_of}
-use Rattle.yq_tree.specs.Documents.{Document}
-use Rattle.yq_tree.specs.TreeEdits.{replaced, new_label, led, lead_by, with_tree}
+use Rattle.yq_documents.specs.Documents.{Document}
+use Rattle.yq_documents.specs.TreeEdits.{replaced, new_label, led, lead_by, with_tree}
 use Rattle.yq_program.specs.declared.program.CommentPlace.{CommentPlace}
 use Rattle.yq_program.specs.declared.program.CommentPlace.TheVariants as comments
 use Rattle.yq_meaning.specs.Changes as changes

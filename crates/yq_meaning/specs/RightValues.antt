@@ -7,14 +7,14 @@ use Rattle.yq_scalar.specs.Numbers.{is_i64}
 use Rattle.yq_scalar.specs.Paths.{To, child_at, change_child, append_child}
 use Rattle.yq_scalar.specs.SchemaReading.{int_value}
 use Rattle.yq_scalar.specs.Tree.{Node, alias, scalar, list, map, Children, none, child}
-use Rattle.yq_tree.specs.Outline.{null_node}
+use Rattle.yq_lines.specs.Outline.{null_node}
 use Rattle.yq_meaning.specs.declared.refusal.Refusal.TheVariants.{NotOneValue, KindMismatch, IntegerRange, FloatArithmetic}
 use Rattle.yq_meaning.specs.Judgement.{Judgement, gives, refuses, and_then}
 use Rattle.yq_program.specs.Program.{Term, literal, found}
 use Rattle.yq_meaning.specs.Copies.{copy_at}
 use Rattle.yq_meaning.specs.Pipes.{pipe_on}
 use Rattle.yq_meaning.specs.Places.{Place}
-use Rattle.yq_tree.specs.TreeEdits.{new_label}
+use Rattle.yq_documents.specs.TreeEdits.{new_label}
 
 -- whether a node is null (YAML 1.2.2, section 10.2.1.1)
 abbrev pub is_null : Node → Bool

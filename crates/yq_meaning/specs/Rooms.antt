@@ -2,12 +2,12 @@
 use Rattle.std.specs.Prelude.{ℕ, List, slice_get, Bool}
 use Rattle.yq_scalar.specs.Answers.{◌>>=◌}
 use Rattle.yq_scalar.specs.Paths.{Step}
-use Rattle.yq_tree.specs.declared.path.Part.{Part}
-use Rattle.yq_tree.specs.declared.path.Part.TheVariants.{HeadComment, LineComment}
-use Rattle.yq_tree.specs.Documents.{document_parts}
-use Rattle.yq_tree.specs.Reading.{cut_of, documents_of}
-use Rattle.yq_tree.specs.Ready.{root_is_block, TextIsReady}
-use Rattle.yq_tree.specs.Seats.{seat_of, seat_has_room}
+use Rattle.yq_documents.specs.declared.path.Part.{Part}
+use Rattle.yq_documents.specs.declared.path.Part.TheVariants.{HeadComment, LineComment}
+use Rattle.yq_documents.specs.Documents.{document_parts}
+use Rattle.yq_documents.specs.Reading.{cut_of, documents_of}
+use Rattle.yq_documents.specs.Ready.{root_is_block, TextIsReady}
+use Rattle.yq_documents.specs.Seats.{seat_of, seat_has_room}
 use Rattle.yq_program.specs.declared.program.CommentPlace.{CommentPlace}
 use Rattle.yq_program.specs.declared.program.CommentPlace.TheVariants as comments
 use Rattle.yq_meaning.specs.Changes.{Room}

@@ -3,8 +3,8 @@ ghost use Rattle.std.specs.Prelude.{◌≡◌, IfOk, map};
 ghost use Rattle.yq_inline.specs.Entries.{step_of};
 
 use std::alloc::{AllocError, Global};
-use yq_inline::Value;
-use yq_tree::{Path, Step};
+use yq_documents::Path;
+use yq_inline::{Step, Value};
 
 /// An operation on documents. The keys of a mapping in its value differ.
 #[derive(Debug, Drop)]

@@ -18,12 +18,12 @@ use Rattle.yq_rows.specs.View.{content_cut}
 use Rattle.yq_rows.proofs.NothingLaws.{gap_other}
 use Rattle.yq_rows.proofs.seams.FrontSeams.{behind_row_some}
 use Rattle.yq_rows.proofs.splices.PartPlaces.{part_ends}
-use Rattle.yq_tree.specs.Documents.{begins_bare, has_begin}
-use Rattle.yq_tree.specs.Lines.{lines_from, lines_of}
+use Rattle.yq_documents.specs.Documents.{begins_bare, has_begin}
+use Rattle.yq_documents.specs.Lines.{lines_from, lines_of}
 use Rattle.yq_tree.specs.PlacedRows.{PlacedPart, placed_document}
 use Rattle.yq_tree.specs.PrintedLines.{PrintedLine, line_front, end_break, last_break, printed_from, printed_lines, print_lines, run_break, run_piece}
-use Rattle.yq_tree.specs.Reading.{read_at}
-use Rattle.yq_tree.specs.Ready.{begins_no_node}
+use Rattle.yq_documents.specs.Reading.{read_at}
+use Rattle.yq_documents.specs.Ready.{begins_no_node}
 use Rattle.yq_tree.specs.RootPlaces.{RootPlace, written_root, root_of_lines, root_in, root_place}
 use Rattle.yq_tree.proofs.CommentPieceLaws.{Ended, gap_end}
 use Rattle.yq_tree.proofs.PieceTexts.{run_whole}

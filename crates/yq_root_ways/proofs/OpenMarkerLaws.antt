@@ -6,7 +6,7 @@ use Rattle.yq_rows.specs.Appending.{last_marker, with_last_part}
 use Rattle.yq_rows.specs.Grammar.{IsPart, IsMarkerLine, AreParts, begins_document}
 use Rattle.yq_rows.specs.Rows.{Part, part_text, Cut, last, marked, cut_text}
 use Rattle.yq_rows.proofs.PlaceLaws.{part_then}
-use Rattle.yq_tree.specs.Documents.{begins_bare, has_begin, with_part, parts_from, document_parts}
+use Rattle.yq_documents.specs.Documents.{begins_bare, has_begin, with_part, parts_from, document_parts}
 use Rattle.yq_tree.specs.PlacedRows.{PlacedPart, part_behind, placed_part, placed_document}
 use Rattle.yq_tree.proofs.PlacedPartLaws.{map_some, placed_same}
 

@@ -19,7 +19,7 @@ use Rattle.yq_rows.specs.Rows.{Cut, cut_text}
 use Rattle.yq_rows.proofs.CharacterLaws.{pairs_back}
 use Rattle.yq_rows.proofs.splices.MarkerLaws.{marker_appended}
 use Rattle.yq_tree.specs.PlacedRows.{PlacedPart}
-use Rattle.yq_tree.specs.Reading.{all_documents, is_document, read_at}
+use Rattle.yq_documents.specs.Reading.{all_documents, is_document, read_at}
 use Rattle.yq_tree.specs.RootPlaces.{RootPlace}
 use Rattle.yq_tree.specs.RowPaths.{IsReadable}
 use Rattle.yq_tree.proofs.ReadLaws.{text_again, text_takes}

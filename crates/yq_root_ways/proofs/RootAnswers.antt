@@ -2,11 +2,11 @@
 use Rattle.std.proofs.Common.{◌≡◌, ℕ, eqb, List, [], ◌∷◌, Bor, Bool, true, Option, Some, None, option_map, refl, sym, ap, ◌∙◌}
 use Rattle.yq_scalar.specs.Tree.{Node}
 use Rattle.yq_lines.specs.Bodies.{lent}
-use Rattle.yq_tree.specs.Located.{steps_of, located}
-use Rattle.yq_tree.specs.Reading.{cut_of}
+use Rattle.yq_documents.specs.Located.{steps_of, located}
+use Rattle.yq_documents.specs.Reading.{cut_of}
 use Rattle.yq_tree.specs.RootPlaces.{RootPlace, root_place}
 use Rattle.yq_tree.specs.RootReading.{root_told}
-use Rattle.yq_tree.specs.declared.path.Path.{Path}
+use Rattle.yq_documents.specs.declared.path.Path.{Path}
 use Rattle.yq_tree.specs.declared.places.root_place.RootPlace as declared
 use Rattle.yq_block.specs.declared.layout.Layout.{Layout}
 use Rattle.yq_meaning.specs.Operations.{replace}

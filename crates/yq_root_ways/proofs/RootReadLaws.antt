@@ -17,15 +17,15 @@ use Rattle.yq_rows.specs.Grammar.{unlimited, AreRows, no_rows}
 use Rattle.yq_rows.specs.Rows.{Row, rows_text, Part, Cut, cut_text}
 use Rattle.yq_rows.specs.SpliceFits.{is_after}
 use Rattle.yq_rows.specs.Splices.{first_gap, marker_before}
-use Rattle.yq_tree.specs.Documents.{Document, document_parts, lead_of}
-use Rattle.yq_tree.specs.Lines.{lines_of}
-use Rattle.yq_tree.specs.Nodes.{anchor_of}
+use Rattle.yq_documents.specs.Documents.{Document, document_parts, lead_of}
+use Rattle.yq_documents.specs.Lines.{lines_of}
+use Rattle.yq_documents.specs.Nodes.{anchor_of}
 use Rattle.yq_tree.specs.PlacedRows.{PlacedPart}
-use Rattle.yq_tree.specs.Reading as reading
-use Rattle.yq_tree.specs.Reading.{root_of}
-use Rattle.yq_tree.specs.Ready.{begins_no_node}
+use Rattle.yq_documents.specs.Reading as reading
+use Rattle.yq_documents.specs.Reading.{root_of}
+use Rattle.yq_documents.specs.Ready.{begins_no_node}
 use Rattle.yq_tree.specs.RowPaths.{IsReadable}
-use Rattle.yq_tree.specs.TreeEdits.{headed, lead_by, led, replaced}
+use Rattle.yq_documents.specs.TreeEdits.{headed, lead_by, led, replaced}
 use Rattle.yq_block.specs.declared.layout.Layout.{Layout}
 use Rattle.yq_block.specs.BlockText.{block_value}
 use Rattle.yq_block.specs.BlockValues.{HasNearKeys}

@@ -27,9 +27,9 @@ use Rattle.yq_rows.specs.Splices.{with_first_gap, with_row_gap, first_gap}
 use Rattle.yq_rows.proofs.PlainEnds.{tail_ends, gap_line}
 use Rattle.yq_rows.proofs.seams.FrontSeams.{behind_row_some}
 use Rattle.yq_rows.proofs.seams.SeamLaws.{part_line}
-use Rattle.yq_tree.specs.Documents.{HaveFitKeys, HasShortRoot, is_long_plain}
-use Rattle.yq_tree.specs.Lines.{mark_line, lines_from, lines_of}
-use Rattle.yq_tree.specs.TreeEdits.{headed}
+use Rattle.yq_documents.specs.Documents.{HaveFitKeys, HasShortRoot, is_long_plain}
+use Rattle.yq_documents.specs.Lines.{mark_line, lines_from, lines_of}
+use Rattle.yq_documents.specs.TreeEdits.{headed}
 use Rattle.yq_block.specs.declared.layout.Layout.{Layout}
 use Rattle.yq_block.specs.BlockRows.{inline_of, node_rows}
 use Rattle.yq_block.specs.BlockText.{block_node}

@@ -7,9 +7,9 @@ use Rattle.yq_scalar.specs.Paths.{Step, node_at}
 use Rattle.yq_scalar.specs.Tree.{Node}
 use Rattle.yq_flow.specs.Valued.{IsValueTree}
 use Rattle.yq_rows.specs.Rows.{Cut, cut_text}
-use Rattle.yq_tree.specs.Documents.{Document, document_parts}
-use Rattle.yq_tree.specs.Reading as reading
-use Rattle.yq_tree.specs.Reading.{documents, read_at, root_of}
+use Rattle.yq_documents.specs.Documents.{Document, document_parts}
+use Rattle.yq_documents.specs.Reading as reading
+use Rattle.yq_documents.specs.Reading.{documents, read_at, root_of}
 use Rattle.yq_tree.specs.RootPlaces.{RootPlace, root_place}
 use Rattle.yq_tree.specs.RowPaths.{IsReadable}
 use Rattle.yq_tree.proofs.PlacedPartLaws.{map_some}

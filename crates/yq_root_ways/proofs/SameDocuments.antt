@@ -3,11 +3,11 @@ use Rattle.std.proofs.Common.{◌≡◌, ℕ, List, map, sym, ap, ◌∙◌, sub
 use Rattle.std.specs.List.{slice_get}
 use Rattle.yq_scalar.specs.Answers.{◌>>=◌}
 use Rattle.yq_rows.specs.Rows.{Part, Cut, cut_text}
-use Rattle.yq_tree.specs.Documents.{document_parts}
-use Rattle.yq_tree.specs.Reading as reading
-use Rattle.yq_tree.specs.Reading.{documents_of, read_at}
-use Rattle.yq_tree.specs.Ready.{part_is_block}
-use Rattle.yq_tree.specs.Seats.{seat_of, seat_has_room}
+use Rattle.yq_documents.specs.Documents.{document_parts}
+use Rattle.yq_documents.specs.Reading as reading
+use Rattle.yq_documents.specs.Reading.{documents_of, read_at}
+use Rattle.yq_documents.specs.Ready.{part_is_block}
+use Rattle.yq_documents.specs.Seats.{seat_of, seat_has_room}
 use Rattle.yq_meaning.specs.After.{after_op}
 use Rattle.yq_meaning.specs.Changes.{Room}
 use Rattle.yq_meaning.specs.Operations.{Operation}

@@ -22,12 +22,12 @@ use Rattle.yq_rows.proofs.seams.MarkerSeams.{marker_byte, three_lines, after_som
 use Rattle.yq_rows.proofs.splices.PartPlaces.{part_ends}
 use Rattle.yq_block.proofs.EndLaws.{break_tail}
 use Rattle.yq_block.proofs.LaidRows.{no_gap_here}
-use Rattle.yq_tree.specs.Documents.{begins_bare, has_begin, lead_of}
+use Rattle.yq_documents.specs.Documents.{begins_bare, has_begin, lead_of}
 use Rattle.yq_tree.specs.PlacedRows.{PlacedPart, part_behind, placed_part, placed_document}
 use Rattle.yq_tree.specs.PrintedLines.{printed_lines, run_piece}
-use Rattle.yq_tree.specs.Reading.{read_at}
-use Rattle.yq_tree.specs.Ready.{begins_no_node}
-use Rattle.yq_tree.specs.Lines.{lines_of}
+use Rattle.yq_documents.specs.Reading.{read_at}
+use Rattle.yq_documents.specs.Ready.{begins_no_node}
+use Rattle.yq_documents.specs.Lines.{lines_of}
 use Rattle.yq_tree.specs.RootPlaces.{RootPlace, written_root, unwritten_root, root_of_lines, root_in, root_place}
 use Rattle.yq_tree.proofs.CommentPieceLaws.{gap_end}
 use Rattle.yq_tree.proofs.PlacedPartLaws.{map_some, placed_same}

@@ -5,7 +5,7 @@ ghost use Rattle.yq_inline.specs.Values.{node_of};
 ghost use Rattle.yq_scalar.specs.BlockWritten.{break_text};
 ghost use Rattle.yq_block.specs.BlockText.{block_value};
 ghost use Rattle.yq_meaning.specs.Operations.{operation_of};
-ghost use Rattle.yq_tree.specs.Reading.{cut_of};
+ghost use Rattle.yq_documents.specs.Reading.{cut_of};
 ghost use Rattle.yq_tree.specs.RootReading.{root_told};
 ghost use Rattle.yq_ways.specs.AppendWay.{put_behind};
 ghost use Rattle.yq_root_ways.specs.RootWriting as spec;

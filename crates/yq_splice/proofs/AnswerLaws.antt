@@ -3,7 +3,7 @@ use Rattle.std.proofs.Common.{◌≡◌, ℕ, suc, false, ◌+◌, ◌<◌, ◌�
 use Rattle.std.proofs.Common.{IfOk, IfErr, string_bytes, refl, sym, ap, ◌∙◌, subst, take_all, arith}
 use Rattle.yq_scalar.specs.declared.ReadFault.{ReadFault}
 use Rattle.yq_rows.specs.Rows.{Cut}
-use Rattle.yq_tree.specs.Reading.{read_at}
+use Rattle.yq_documents.specs.Reading.{read_at}
 use Rattle.yq_program.specs.Program.{Program, Update, assign, delete, comment, read, updates, update_at, update_count, is_read, UpdatesHold, LiteralsHold}
 use Rattle.yq_script.specs.Patch.{Change}
 use Rattle.yq_script.specs.declared.edited.Edited.{Edited}

@@ -1,20 +1,20 @@
 -- The text after an update reads as what the update means.
 use Rattle.std.proofs.Common.{◌≡◌, ℕ, List, [], ◌∷◌, Option, Some, None, refl, sym, ap, ◌∙◌, subst}
 use Rattle.yq_rows.specs.Rows.{Cut}
-use Rattle.yq_tree.specs.Documents.{Reads}
-use Rattle.yq_tree.specs.Reading.{read_at, documents}
+use Rattle.yq_documents.specs.Documents.{Reads}
+use Rattle.yq_documents.specs.Reading.{read_at, documents}
 use Rattle.yq_lines.proofs.ShapeLaws.{shaped_by_lines, shaped_is_tree}
 use Rattle.yq_tree.proofs.ReadLaws.{read_takes, read_again}
 use Rattle.yq_tree.proofs.ReadyLaws.{read_ready}
-use Rattle.yq_expr.proofs.RoomLaws.{rooms_are_ready}
-use Rattle.yq_expr.proofs.updates.PlanMeans.{plan_means}
-use Rattle.yq_expr.proofs.updates.RoomsLast.{plan_follows}
+use Rattle.yq_planning.proofs.RoomLaws.{rooms_are_ready}
+use Rattle.yq_planning.proofs.updates.PlanMeans.{plan_means}
+use Rattle.yq_planning.proofs.updates.RoomsLast.{plan_follows}
 use Rattle.yq_meaning.specs.After.{all_after}
 use Rattle.yq_meaning.specs.Judgement as judgement
 use Rattle.yq_meaning.specs.Judgement.{Judgement}
 use Rattle.yq_meaning.specs.Meaning.{AreReady}
 use Rattle.yq_meaning.specs.Operations.{Operation}
-use Rattle.yq_expr.specs.Plans.{plan}
+use Rattle.yq_planning.specs.Plans.{plan}
 use Rattle.yq_program.specs.Program.{Update, assign, delete, comment, UpdatesHold}
 use Rattle.yq_meaning.specs.Rooms.{room_of}
 use Rattle.yq_script.specs.Patch.{Change}

@@ -3,15 +3,15 @@ use Rattle.std.proofs.Common.{◌≡◌, ℕ, ◌≤◌, Bool, true, false, cond
 use Rattle.std.proofs.lemmas.Bool.{leb-true}
 use Rattle.yq_scalar.specs.Characters.{text_limit}
 use Rattle.yq_rows.specs.Rows.{Cut, cut_text}
-use Rattle.yq_tree.specs.Documents.{Document}
-use Rattle.yq_tree.specs.Reading.{read_at, documents, documents_of}
+use Rattle.yq_documents.specs.Documents.{Document}
+use Rattle.yq_documents.specs.Reading.{read_at, documents, documents_of}
 use Rattle.yq_meaning.specs.After.{after_op, all_after}
 use Rattle.yq_meaning.specs.Fits.{Fits}
 use Rattle.yq_meaning.specs.Operations.{Operation}
 use Rattle.yq_meaning.specs.Rooms.{room_of}
 use Rattle.yq_meaning.specs.RoomsKept.{LeavesRooms, MayFollow}
 use Rattle.yq_meaning.specs.declared.refusal.Refusal.TheVariants.{TooLarge}
-use Rattle.yq_expr.proofs.updates.AlikeRooms.{rest_follow, rest_after}
+use Rattle.yq_planning.proofs.updates.AlikeRooms.{rest_follow, rest_after}
 use Rattle.yq_script.specs.Patch.{Change}
 use Rattle.yq_script.specs.Script.{Segment, new_text, changes}
 use Rattle.yq_script.specs.Exchanging as exchange

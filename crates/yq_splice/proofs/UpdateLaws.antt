@@ -6,11 +6,11 @@ use Rattle.yq_scalar.specs.declared.fault.FaultKind.TheVariants.{NotUtf8}
 use Rattle.yq_scalar.specs.declared.fault.ReadError.{ReadError}
 use Rattle.yq_scalar.specs.declared.fault.ReadError.TheVariants as reading
 use Rattle.yq_rows.specs.Rows.{Cut}
-use Rattle.yq_tree.specs.Reading.{documents, documents_of, cut_of, read_at}
+use Rattle.yq_documents.specs.Reading.{documents, documents_of, cut_of, read_at}
 use Rattle.yq_meaning.specs.Judgement as judgement
 use Rattle.yq_meaning.specs.Judgement.{Judgement, Plans}
 use Rattle.yq_meaning.specs.Operations.{Operation}
-use Rattle.yq_expr.specs.Plans.{plan}
+use Rattle.yq_planning.specs.Plans.{plan}
 use Rattle.yq_program.specs.Program.{Update}
 use Rattle.yq_meaning.specs.Rooms.{room_of}
 use Rattle.yq_meaning.specs.declared.refusal.Refusal.{Refusal}

@@ -2,13 +2,13 @@
 use Rattle.std.specs.Prelude.{◌≡◌, ⊤, ℕ, ◌<◌, ◌≤◌, List, [], ◌∷◌, ◌++◌, Some, length}
 use Rattle.yq_scalar.specs.Characters.{text_limit}
 use Rattle.yq_rows.specs.Rows.{Cut}
-use Rattle.yq_tree.specs.Documents.{Document, Reads}
-use Rattle.yq_tree.specs.Reading.{documents, read_at}
+use Rattle.yq_documents.specs.Documents.{Document, Reads}
+use Rattle.yq_documents.specs.Reading.{documents, read_at}
 use Rattle.yq_meaning.specs.Fits.{Fits}
 use Rattle.yq_meaning.specs.Judgement.{gives}
 use Rattle.yq_meaning.specs.Meaning.{meaning}
 use Rattle.yq_meaning.specs.Operations.{Operation}
-use Rattle.yq_expr.specs.Plans.{plan}
+use Rattle.yq_planning.specs.Plans.{plan}
 use Rattle.yq_program.specs.Program.{Program, Update, updates}
 use Rattle.yq_meaning.specs.Rooms.{room_of}
 use Rattle.yq_meaning.specs.declared.refusal.Refusal.TheVariants.{TooLarge}

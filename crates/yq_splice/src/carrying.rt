@@ -1,7 +1,7 @@
 //! Carrying out: operations done on a text, one after the other.
 ghost use Rattle.std.specs.Prelude.{◌≡◌, ◌++◌, [], IfErr, IfOk, OnOk, Some, string_bytes};
 ghost use Rattle.yq_meaning.specs.Operations.{operation_of, operations_of};
-ghost use Rattle.yq_tree.specs.Reading.{cut_of, read_at};
+ghost use Rattle.yq_documents.specs.Reading.{cut_of, read_at};
 ghost use Rattle.yq_splice.specs.Answers.{Edits};
 ghost use Rattle.yq_splice.specs.Carried as spec;
 ghost use Rattle.yq_splice.specs.Edit.{behind};

@@ -1,7 +1,7 @@
 //! Editing: a program carried out on a text.
 ghost use Rattle.std.specs.Prelude.{◌≡◌, ◌++◌, ◌<◌, List, Some, None, IfErr, IfOk, OnOk, string_bytes};
 ghost use Rattle.yq_scalar.specs.declared.ReadFault.{ReadFault};
-ghost use Rattle.yq_tree.specs.Reading.{read_at};
+ghost use Rattle.yq_documents.specs.Reading.{read_at};
 ghost use Rattle.yq_program.specs.Program.{LiteralsHold, Update, update_at, update_count, updates};
 ghost use Rattle.yq_program.specs.View.{program_of};
 ghost use Rattle.yq_script.specs.Patch.{Change};

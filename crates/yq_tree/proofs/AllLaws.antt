@@ -15,21 +15,21 @@ use Rattle.yq_rows.specs.Reading.{scan_at}
 use Rattle.yq_rows.specs.Rows.{Part, Cut, last, marked}
 use Rattle.yq_rows.specs.View.{Shown, shown}
 use Rattle.yq_rows.proofs.ScanLaws.{scan_again}
-use Rattle.yq_tree.specs.Documents.{Document, with_part, parts_from, document_parts, begins_bare, has_begin}
-use Rattle.yq_tree.specs.FlowReading.{document_flows, lines_flows}
+use Rattle.yq_documents.specs.Documents.{Document, with_part, parts_from, document_parts, begins_bare, has_begin}
+use Rattle.yq_documents.specs.FlowReading.{document_flows, lines_flows}
 use Rattle.yq_lines.specs.Group.{group}
-use Rattle.yq_tree.specs.Lines.{lines_of}
+use Rattle.yq_documents.specs.Lines.{lines_of}
 use Rattle.yq_lines.specs.LinesReading.{lines_are_sound}
 use Rattle.yq_lines.specs.Names.{HaveHeadsApart}
 use Rattle.yq_lines.specs.Outline.{value}
-use Rattle.yq_tree.specs.PartReading.{Lined, lined, document_view, part_fits, all_fit, all_lined, lined_parts}
-use Rattle.yq_tree.specs.Reading.{have_fit_keys, has_short_root, is_document, document_of, documents_of, all_documents, checked, text_at, cut_of}
-use Rattle.yq_tree.specs.SoundReading.{all_sound, if_all_sound, AllApart, document_views, Holds}
+use Rattle.yq_documents.specs.PartReading.{Lined, lined, document_view, part_fits, all_fit, all_lined, lined_parts}
+use Rattle.yq_documents.specs.Reading.{have_fit_keys, has_short_root, is_document, document_of, documents_of, all_documents, checked, text_at, cut_of}
+use Rattle.yq_documents.specs.SoundReading.{all_sound, if_all_sound, AllApart, document_views, Holds}
 use Rattle.yq_lines.specs.View.{views}
 use Rattle.yq_tree.proofs.HeadsApart.{heads_apart}
 use Rattle.yq_tree.proofs.ReadLaws.{cut_is, text_again}
-use Rattle.yq_tree.proofs.RowLineLaws.{not_fit}
-use Rattle.yq_tree.specs.declared.reading.checks.DocumentLines.{DocumentLines}
+use Rattle.yq_documents.proofs.RowLineLaws.{not_fit}
+use Rattle.yq_documents.specs.declared.checks.DocumentLines.{DocumentLines}
 
 -- the anchors of rows are apart from their heads
 with_apart : (is : Bool) (p : Part) (ps : List Part) → HaveHeadsApart (lines_of p.rows) → AllApart (all_lined ps) → AllApart (all_lined (with_part is p ps))

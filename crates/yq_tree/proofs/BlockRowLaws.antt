@@ -19,9 +19,9 @@ use Rattle.yq_rows.specs.View.{Slices, slices, anchor_of, apart_of, content_cut,
 use Rattle.yq_rows.proofs.NodePieces.{BeginsAscii, before_ascii}
 use Rattle.yq_rows.proofs.PlaceLaws.{place, row_in}
 use Rattle.yq_tree.specs.Extents.{head_place}
-use Rattle.yq_tree.specs.Reading.{cut_of}
+use Rattle.yq_documents.specs.Reading.{cut_of}
 use Rattle.yq_tree.specs.RemovalReading.{block_numbers}
-use Rattle.yq_tree.specs.RowReading.{begins_block}
+use Rattle.yq_documents.specs.RowReading.{begins_block}
 use Rattle.yq_tree.proofs.HeadEnds.{node_begins}
 use Rattle.yq_tree.proofs.SpanLaws.{get_row}
 

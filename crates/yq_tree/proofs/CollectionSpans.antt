@@ -16,10 +16,10 @@ use Rattle.yq_lines.specs.Places.{lines_before, Found, find}
 use Rattle.yq_lines.specs.Spots.{is_bare}
 use Rattle.yq_tree.specs.CollectionEnds.{CollectionEnd, is_broken, are_broken, end_of_lines, end_of_entry, end_of_found, end_in}
 use Rattle.yq_tree.specs.CollectionTelling.{lines_column, line_column, column_of}
-use Rattle.yq_tree.specs.declared.path.Part.TheVariants as parts
-use Rattle.yq_tree.specs.Lines.{lines_of}
+use Rattle.yq_documents.specs.declared.path.Part.TheVariants as parts
+use Rattle.yq_documents.specs.Lines.{lines_of}
 use Rattle.yq_tree.specs.PathPieces.{BlockEntry, content_piece, PrintedDocument, found_entry, piece_in_entry, piece_in}
-use Rattle.yq_tree.specs.Pieces.{Piece, head_piece}
+use Rattle.yq_documents.specs.Pieces.{Piece, head_piece}
 use Rattle.yq_tree.specs.PrintedLines.{PrintedLine, end_break, line_front, print_line, print_lines, printed_lines, line_in, run_text, run_break, run_piece, lines_piece}
 use Rattle.yq_tree.proofs.ContentEndLaws.{Ends}
 use Rattle.yq_tree.proofs.EndedLines.{seat_ends, run_ends, RowsBefore}

@@ -12,19 +12,19 @@ use Rattle.yq_lines.specs.Group.{group, is_fine}
 use Rattle.yq_lines.specs.View.{views}
 use Rattle.yq_tree.specs.CollectionEnds.{CollectionEnd, end_in, collection_end}
 use Rattle.yq_tree.specs.CollectionTelling.{column_of}
-use Rattle.yq_tree.specs.declared.path.Part.TheVariants as parts
-use Rattle.yq_tree.specs.declared.path.Path.{Path}
-use Rattle.yq_tree.specs.declared.reading.checks.DocumentLines.{DocumentLines}
-use Rattle.yq_tree.specs.Documents.{document_parts}
-use Rattle.yq_tree.specs.Lines.{lines_of}
-use Rattle.yq_tree.specs.Located.{steps_of}
-use Rattle.yq_tree.specs.PartReading.{Lined}
+use Rattle.yq_documents.specs.declared.path.Part.TheVariants as parts
+use Rattle.yq_documents.specs.declared.path.Path.{Path}
+use Rattle.yq_documents.specs.declared.checks.DocumentLines.{DocumentLines}
+use Rattle.yq_documents.specs.Documents.{document_parts}
+use Rattle.yq_documents.specs.Lines.{lines_of}
+use Rattle.yq_documents.specs.Located.{steps_of}
+use Rattle.yq_documents.specs.PartReading.{Lined}
 use Rattle.yq_tree.specs.PathPieces.{PrintedDocument, printed_document, piece_in, piece_at}
-use Rattle.yq_tree.specs.Pieces.{Piece, piece_span}
+use Rattle.yq_documents.specs.Pieces.{Piece, piece_span}
 use Rattle.yq_tree.specs.PrintedLines.{printed_lines, line_in}
-use Rattle.yq_tree.specs.Reading.{all_documents, cut_of}
-use Rattle.yq_tree.specs.Seats.{document_row}
-use Rattle.yq_tree.specs.SoundReading.{Holds}
+use Rattle.yq_documents.specs.Reading.{all_documents, cut_of}
+use Rattle.yq_documents.specs.Seats.{document_row}
+use Rattle.yq_documents.specs.SoundReading.{Holds}
 use Rattle.yq_tree.proofs.CollectionSpans.{IsEndOf, column_at, end_spans, end_column}
 use Rattle.yq_tree.proofs.ContentEndLaws.{end_cut}
 use Rattle.yq_tree.proofs.EndedLines.{RowsBefore, document_rows}

@@ -16,22 +16,22 @@ use Rattle.yq_rows.specs.View.{Slices, slices, rows_of, Shown, shown}
 use Rattle.yq_rows.proofs.NodePieces.{BeginsAscii, before_ascii, tail_ascii}
 use Rattle.yq_rows.proofs.PlaceLaws.{row_front-append, row_in}
 use Rattle.yq_rows.proofs.SliceLaws.{content_slices}
-use Rattle.yq_tree.specs.declared.path.Path.{Path}
+use Rattle.yq_documents.specs.declared.path.Path.{Path}
 use Rattle.yq_tree.specs.CommentPlaces.{LineEnd, LinesAbove, end_before, line_text, end_of_line, line_end, gap_above, above_row, lines_above}
 use Rattle.yq_tree.specs.CommentTelling.{GapStands}
 use Rattle.yq_tree.specs.Extents.{row_start, head_place}
-use Rattle.yq_tree.specs.Located.{steps_of}
-use Rattle.yq_tree.specs.Pieces.{before_run, last_run}
+use Rattle.yq_documents.specs.Located.{steps_of}
+use Rattle.yq_documents.specs.Pieces.{before_run, last_run}
 use Rattle.yq_tree.specs.PlacedRows.{PlacedRow}
-use Rattle.yq_tree.specs.Reading.{cut_of}
+use Rattle.yq_documents.specs.Reading.{cut_of}
 use Rattle.yq_tree.specs.SeatReading.{Numbers, numbers}
-use Rattle.yq_tree.specs.Seats.{seat_at, document_row}
-use Rattle.yq_tree.specs.SoundReading.{Holds}
-use Rattle.yq_tree.specs.declared.reading.checks.DocumentLines.{DocumentLines}
+use Rattle.yq_documents.specs.Seats.{seat_at, document_row}
+use Rattle.yq_documents.specs.SoundReading.{Holds}
+use Rattle.yq_documents.specs.declared.checks.DocumentLines.{DocumentLines}
 use Rattle.yq_tree.proofs.CommentPieceLaws.{row_place, run_begins}
 use Rattle.yq_tree.proofs.LineEndLaws.{line_tail}
 use Rattle.yq_tree.proofs.PlacedRowLaws.{seat_placed, no_seat_placed}
-use Rattle.yq_tree.proofs.RunLaws.{run_split}
+use Rattle.yq_documents.proofs.RunLaws.{run_split}
 use Rattle.yq_tree.proofs.SeamLaws.{IsSeam, seam_boundary, seam_then, gap_seam, row_seam}
 use Rattle.yq_tree.proofs.StartLaws.{front_in, start_told}
 

@@ -9,9 +9,9 @@ use Rattle.yq_lines.specs.Outline.{flatten}
 use Rattle.yq_lines.specs.Places.{lines_before, Found, find}
 use Rattle.yq_rows.specs.Rows.{Content, Nothing, content_text}
 use Rattle.yq_rows.specs.View.{content_cut}
-use Rattle.yq_tree.specs.declared.path.Part.TheVariants as parts
+use Rattle.yq_documents.specs.declared.path.Part.TheVariants as parts
 use Rattle.yq_tree.specs.PathPieces.{BlockEntry, PrintedDocument, found_entry, piece_in_entry, piece_in}
-use Rattle.yq_tree.specs.Pieces.{Piece, HoldsPiece, tail_comment, content_comment, gap_comment}
+use Rattle.yq_documents.specs.Pieces.{Piece, HoldsPiece, tail_comment, content_comment, gap_comment}
 use Rattle.yq_tree.specs.PrintedLines.{line_front, behind_front, print_lines, line_in}
 use Rattle.yq_tree.proofs.CommentPieceLaws.{Ended, tail_piece, gap_piece}
 use Rattle.yq_tree.proofs.PrintedLaws.{IsPrinted, ArePrinted}

@@ -22,9 +22,9 @@ use Rattle.yq_rows.proofs.ExchangeLaws.{slice_front, slice_back}
 use Rattle.yq_rows.proofs.NodePieces.{BeginsAscii, before_ascii}
 use Rattle.yq_rows.proofs.PlaceLaws.{place, row_then, part_then}
 use Rattle.yq_rows.proofs.SliceLaws.{content_slices}
-use Rattle.yq_tree.specs.Pieces.{last_run, before_run, tail_comment, gap_comment, Piece, HoldsPiece}
+use Rattle.yq_documents.specs.Pieces.{last_run, before_run, tail_comment, gap_comment, Piece, HoldsPiece}
 use Rattle.yq_tree.specs.CommentReading.{before_row, before_tail}
-use Rattle.yq_tree.proofs.RunLaws.{run_split}
+use Rattle.yq_documents.proofs.RunLaws.{run_split}
 
 -- a text in three pieces, by the two places
 pieces_at : (before old behind : List ℕ) → IsUtf8 (before ++ (old ++ behind)) → IsCharBoundary (before ++ (old ++ behind)) (length before) → IsCharBoundary (before ++ (old ++ behind)) (length before + length old) →

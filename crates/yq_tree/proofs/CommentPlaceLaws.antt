@@ -7,14 +7,14 @@ use Rattle.yq_rows.specs.Exchange.{before_content, behind_row}
 use Rattle.yq_rows.specs.Rows.{Row, behind_gap, Cut}
 use Rattle.yq_rows.specs.View.{Slices, slices, rows_of, shown}
 use Rattle.yq_scalar.proofs.LineLaws.{joined_lines}
-use Rattle.yq_tree.specs.Pieces.{tail_comment, before_run, last_run, gap_comment, piece_span}
+use Rattle.yq_documents.specs.Pieces.{tail_comment, before_run, last_run, gap_comment, piece_span}
 use Rattle.yq_tree.specs.CommentReading.{before_tail, line_comment_in, head_comment_in, tail_span, line_comment_span, gap_span, head_comment_span, before_row}
 use Rattle.yq_rows.specs.Offsets.{row_length}
 use Rattle.yq_tree.specs.Extents.{passed_length, row_start, front_length, head_place}
 use Rattle.yq_tree.specs.SeatReading.{numbers}
-use Rattle.yq_tree.specs.Seats.{Seat}
+use Rattle.yq_documents.specs.Seats.{Seat}
 use Rattle.yq_tree.proofs.LengthLaws.{head_told}
-use Rattle.yq_tree.proofs.RunLaws.{run_split}
+use Rattle.yq_documents.proofs.RunLaws.{run_split}
 use Rattle.yq_tree.proofs.StartLaws.{start_told}
 
 -- the comment in a tail

@@ -11,15 +11,15 @@ use Rattle.yq_rows.specs.Exchange.{before_content, behind_row}
 use Rattle.yq_rows.specs.Grammar.{begins_document}
 use Rattle.yq_rows.specs.Rows.{Nothing, dashes_text, behind_gap, Row, Part, Cut, last, marked}
 use Rattle.yq_rows.specs.View.{content_cut, slices, rows_of}
-use Rattle.yq_tree.specs.declared.path.Part.TheVariants as parts
-use Rattle.yq_tree.specs.declared.path.Path.{Path}
+use Rattle.yq_documents.specs.declared.path.Part.TheVariants as parts
+use Rattle.yq_documents.specs.declared.path.Path.{Path}
 use Rattle.yq_tree.specs.CommentReading.{before_row, before_tail, line_comment_in, head_comment_in}
-use Rattle.yq_tree.specs.Documents.{parts_from}
-use Rattle.yq_tree.specs.Located.{steps_of}
+use Rattle.yq_documents.specs.Documents.{parts_from}
+use Rattle.yq_documents.specs.Located.{steps_of}
 use Rattle.yq_tree.specs.PathPieces.{PrintedDocument, printed_part, printed_document, found_entry, piece_in_entry, piece_in, piece_at}
-use Rattle.yq_tree.specs.Pieces.{piece_span, tail_comment, content_comment, gap_comment}
+use Rattle.yq_documents.specs.Pieces.{piece_span, tail_comment, content_comment, gap_comment}
 use Rattle.yq_tree.specs.PrintedLines.{PrintedLine, line_front, print_lines, printed_lines, line_in}
-use Rattle.yq_tree.specs.Seats.{Seat, seat, seat_of, seat_at, document_row}
+use Rattle.yq_documents.specs.Seats.{Seat, seat, seat_of, seat_at, document_row}
 use Rattle.yq_tree.proofs.CommentHolds.{no_gap, no_comment}
 use Rattle.yq_tree.proofs.CommentPlaceLaws.{tail_told, gap_told}
 use Rattle.yq_tree.proofs.PieceHolds.{no_part}

@@ -10,21 +10,21 @@ use Rattle.yq_lines.specs.Comments as comments
 use Rattle.yq_rows.specs.Grammar.{IsCut}
 use Rattle.yq_rows.specs.Rows.{Content, Nothing, Inline, Block, Cut}
 use Rattle.yq_rows.specs.View.{content_cut}
-use Rattle.yq_tree.specs.declared.path.Part.TheVariants as parts
-use Rattle.yq_tree.specs.declared.path.Path.{Path}
+use Rattle.yq_documents.specs.declared.path.Part.TheVariants as parts
+use Rattle.yq_documents.specs.declared.path.Path.{Path}
 use Rattle.yq_tree.specs.CommentLaws.{remark, remarks, told_above, CommentsStand}
-use Rattle.yq_tree.specs.Documents.{document_parts}
+use Rattle.yq_documents.specs.Documents.{document_parts}
 use Rattle.yq_lines.specs.Group.{group, is_fine}
 use Rattle.yq_lines.specs.Labelled.{Labelled, labelled_from}
-use Rattle.yq_tree.specs.Lines.{tail_of, lines_of}
-use Rattle.yq_tree.specs.Located.{steps_of, labelled_located}
-use Rattle.yq_tree.specs.Nodes.{unlabelled}
+use Rattle.yq_documents.specs.Lines.{tail_of, lines_of}
+use Rattle.yq_documents.specs.Located.{steps_of, labelled_located}
+use Rattle.yq_documents.specs.Nodes.{unlabelled}
 use Rattle.yq_lines.specs.Outline.{Line, anchored, head_or, value}
 use Rattle.yq_tree.specs.PathPieces.{BlockEntry, PrintedDocument, printed_document, found_entry, piece_in_entry, piece_in}
-use Rattle.yq_tree.specs.Pieces.{Piece, content_comment}
+use Rattle.yq_documents.specs.Pieces.{Piece, content_comment}
 use Rattle.yq_lines.specs.Places.{Found, find}
 use Rattle.yq_tree.specs.PrintedLines.{line_front, behind_front, print_lines, line_in}
-use Rattle.yq_tree.specs.Reading.{all_documents, document_of, read_at}
+use Rattle.yq_documents.specs.Reading.{all_documents, document_of, read_at}
 use Rattle.yq_lines.proofs.Finding.{entry_of}
 use Rattle.yq_lines.proofs.LabelPaths.{reach, FoundEntry, path_entry}
 use Rattle.yq_lines.proofs.Values.{If}

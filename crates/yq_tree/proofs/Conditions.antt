@@ -7,8 +7,8 @@ use Rattle.yq_inline.specs.Nodes.{Items, none, item}
 use Rattle.yq_rows.specs.Grammar.{key_limit}
 use Rattle.yq_rows.specs.Rows as rows
 use Rattle.yq_rows.specs.Rows.{Content, Nothing, Inline, Block, Row}
-use Rattle.yq_tree.specs.Documents.{IsFit, HasFitKey, HasFitKeys, EachHasFitKeys, ContentHasFitKeys, MarkIsFit, HaveFitKeys, HasShortRoot}
-use Rattle.yq_tree.specs.Reading.{is_fit, has_fit_key, has_fit_keys, each_has_fit_keys, content_is_fit, mark_is_fit, have_fit_keys, has_short_root}
+use Rattle.yq_documents.specs.Documents.{IsFit, HasFitKey, HasFitKeys, EachHasFitKeys, ContentHasFitKeys, MarkIsFit, HaveFitKeys, HasShortRoot}
+use Rattle.yq_documents.specs.Reading.{is_fit, has_fit_key, has_fit_keys, each_has_fit_keys, content_is_fit, mark_is_fit, have_fit_keys, has_short_root}
 use Rattle.yq_lines.proofs.KeyLaws.{differ, differs}
 
 not_is : (b : Bool) → not b ≡ true → b ≡ false

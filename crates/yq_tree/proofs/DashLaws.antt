@@ -15,20 +15,20 @@ use Rattle.yq_rows.specs.Exchange.{row_front}
 use Rattle.yq_rows.specs.Rows.{Row, behind_columns, behind_dashes, dashes_text, mark_column, print_row, Cut}
 use Rattle.yq_rows.specs.View.{Slices, slices, rows_of, Shown, shown}
 use Rattle.yq_rows.proofs.NodePieces.{behind_ascii}
-use Rattle.yq_tree.specs.declared.path.Path.{Path}
-use Rattle.yq_tree.specs.declared.reading.checks.DocumentLines.{DocumentLines}
+use Rattle.yq_documents.specs.declared.path.Path.{Path}
+use Rattle.yq_documents.specs.declared.checks.DocumentLines.{DocumentLines}
 use Rattle.yq_tree.specs.CommentReading.{before_row}
 use Rattle.yq_tree.specs.DashPlaces.{DashPlace, past_dash, dash_in, dash_place, is_noted, upto_dash}
 use Rattle.yq_tree.specs.DashTelling.{dash_column}
 use Rattle.yq_tree.specs.EntryReading.{before_line, dash_at, line_begin}
 use Rattle.yq_tree.specs.Extents.{row_start}
-use Rattle.yq_tree.specs.Lines.{lines_of}
-use Rattle.yq_tree.specs.Located.{steps_of}
+use Rattle.yq_documents.specs.Lines.{lines_of}
+use Rattle.yq_documents.specs.Located.{steps_of}
 use Rattle.yq_tree.specs.PlacedRows.{PlacedRow, placed_document, row_of_path}
-use Rattle.yq_tree.specs.Reading.{cut_of}
+use Rattle.yq_documents.specs.Reading.{cut_of}
 use Rattle.yq_tree.specs.SeatReading.{Numbers, numbers}
-use Rattle.yq_tree.specs.Seats.{seat_of, seat_at, document_row}
-use Rattle.yq_tree.specs.SoundReading.{Holds}
+use Rattle.yq_documents.specs.Seats.{seat_of, seat_at, document_row}
+use Rattle.yq_documents.specs.SoundReading.{Holds}
 use Rattle.yq_tree.proofs.CommentEndLaws.{row_same}
 use Rattle.yq_tree.proofs.CommentPieceLaws.{row_place}
 use Rattle.yq_tree.proofs.EntryPlaceLaws.{seat_is}

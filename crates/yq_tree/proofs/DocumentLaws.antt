@@ -7,11 +7,11 @@ use Rattle.yq_scalar.specs.Keys.{depth}
 use Rattle.yq_inline.specs.Inline.{depth_limit}
 use Rattle.yq_rows.specs.Rows.{Part}
 use Rattle.yq_lines.specs.Anchors.{names_of}
-use Rattle.yq_tree.specs.Documents.{Document, IsRoot, IsDocument, AreDocuments}
+use Rattle.yq_documents.specs.Documents.{Document, IsRoot, IsDocument, AreDocuments}
 use Rattle.yq_lines.specs.Group.{group, is_fine}
-use Rattle.yq_tree.specs.Lines.{lines_of}
+use Rattle.yq_documents.specs.Lines.{lines_of}
 use Rattle.yq_lines.specs.Outline.{Line, value}
-use Rattle.yq_tree.specs.Reading.{outline_of, root_of, document_of, have_fit_keys, has_short_root, is_document}
+use Rattle.yq_documents.specs.Reading.{outline_of, root_of, document_of, have_fit_keys, has_short_root, is_document}
 use Rattle.yq_lines.specs.LinesReading.{have_one_anchor_each, are_bound}
 use Rattle.yq_lines.specs.Sound.{has_unique_keys, is_sound}
 use Rattle.yq_lines.proofs.ByRules.{rules_from, rules_give}

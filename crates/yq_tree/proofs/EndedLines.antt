@@ -7,10 +7,10 @@ use Rattle.yq_rows.specs.Grammar.{Limit, unlimited, limit_after, AreRows, ArePar
 use Rattle.yq_rows.specs.Rows as rows
 use Rattle.yq_rows.specs.Rows.{Content, Row, rows_text, Part, Cut, last, marked, cut_text}
 use Rattle.yq_tree.specs.CollectionEnds.{is_broken, are_broken}
-use Rattle.yq_tree.specs.Documents.{parts_from}
+use Rattle.yq_documents.specs.Documents.{parts_from}
 use Rattle.yq_tree.specs.PathPieces.{PrintedDocument, printed_part}
 use Rattle.yq_tree.specs.PrintedLines.{PrintedLine, end_break, print_lines, printed_from, printed_row, printed_lines, run_break}
-use Rattle.yq_tree.specs.Seats.{Seat, behind_one, seat}
+use Rattle.yq_documents.specs.Seats.{Seat, behind_one, seat}
 use Rattle.yq_tree.proofs.ContentEndLaws.{Ends, content_ends}
 use Rattle.yq_tree.proofs.PrintedTexts.{same, none_some, map_some, rows_are}
 

@@ -12,19 +12,19 @@ use Rattle.yq_inline.specs.Places.{Placed}
 use Rattle.yq_rows.specs.Grammar.{IsCut}
 use Rattle.yq_rows.specs.Rows.{Row, Part, Cut}
 use Rattle.yq_rows.specs.View.{Slices, slices, rows_of, Shown, shown}
-use Rattle.yq_tree.specs.Documents.{document_parts}
+use Rattle.yq_documents.specs.Documents.{document_parts}
 use Rattle.yq_tree.specs.EntryReading.{before_line, through_row, lines_place, head_extent, line_head, lines_content, line_content, entry_from, content_from, entry_of, content_of}
 use Rattle.yq_tree.specs.EntryReading.{line_begin, first_row, entry_within, HasFlows}
 use Rattle.yq_tree.specs.Extents.{row_start}
 use Rattle.yq_lines.specs.View.{flows, views}
-use Rattle.yq_tree.specs.Lines.{lines_of}
+use Rattle.yq_documents.specs.Lines.{lines_of}
 use Rattle.yq_lines.specs.Outline.{Line}
-use Rattle.yq_tree.specs.PartReading.{Lined, lined, document_view, first_rows, some_begin}
-use Rattle.yq_tree.specs.Reading.{cut_of}
+use Rattle.yq_documents.specs.PartReading.{Lined, lined, document_view, first_rows, some_begin}
+use Rattle.yq_documents.specs.Reading.{cut_of}
 use Rattle.yq_tree.specs.SeatReading.{begin_row, Numbers, numbers}
-use Rattle.yq_tree.specs.Seats.{Seat, behind_one, seat, seat_of, document_row}
+use Rattle.yq_documents.specs.Seats.{Seat, behind_one, seat, seat_of, document_row}
 use Rattle.yq_lines.specs.Ends.{reached, lines_end}
-use Rattle.yq_tree.specs.SoundReading.{Holds}
+use Rattle.yq_documents.specs.SoundReading.{Holds}
 use Rattle.yq_lines.specs.Spots.{is_bare}
 use Rattle.yq_lines.proofs.EndsLaws.{has_line}
 use Rattle.yq_tree.proofs.FlowPlaceLaws.{flow_told}
@@ -32,7 +32,7 @@ use Rattle.yq_tree.proofs.HeldFlows.{held_flows}
 use Rattle.yq_tree.proofs.RowStarts.{line_begins}
 use Rattle.yq_tree.proofs.SeatLaws.{part_begins, part_at, none_past, held_begin}
 use Rattle.yq_lines.proofs.Values.{If}
-use Rattle.yq_tree.specs.declared.reading.checks.DocumentLines.{DocumentLines}
+use Rattle.yq_documents.specs.declared.checks.DocumentLines.{DocumentLines}
 
 -- a line is one of its row, and that is one of the rows
 abbrev pub IsSeated : List Row → Seat → Type 0

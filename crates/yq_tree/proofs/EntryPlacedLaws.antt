@@ -13,13 +13,13 @@ use Rattle.yq_lines.specs.Comments as comments
 use Rattle.yq_rows.specs.Grammar.{IsCut}
 use Rattle.yq_rows.specs.Rows.{Row, Cut, cut_text}
 use Rattle.yq_rows.specs.View.{rows_of}
-use Rattle.yq_tree.specs.declared.path.Path.{Path}
-use Rattle.yq_tree.specs.Documents.{document_parts}
+use Rattle.yq_documents.specs.declared.path.Path.{Path}
+use Rattle.yq_documents.specs.Documents.{document_parts}
 use Rattle.yq_tree.specs.EntryReading.{lines_place, line_entry, line_head, lines_content, line_content, flow_entry, entry_from, content_from, entry_of, content_of, entry_at, content_at}
-use Rattle.yq_tree.specs.Lines.{row_lines, lines_of}
-use Rattle.yq_tree.specs.Located.{steps_of}
+use Rattle.yq_documents.specs.Lines.{row_lines, lines_of}
+use Rattle.yq_documents.specs.Located.{steps_of}
 use Rattle.yq_lines.specs.Ends.{reached, lines_end}
-use Rattle.yq_tree.specs.Seats.{Seat, behind_one, seat, document_row}
+use Rattle.yq_documents.specs.Seats.{Seat, behind_one, seat, document_row}
 use Rattle.yq_lines.specs.Spots.{is_bare}
 use Rattle.yq_tree.proofs.EntryPlaceLaws.{row_there}
 use Rattle.yq_tree.proofs.FinishLaws.{row_boundary, lines_order}

@@ -11,15 +11,15 @@ use Rattle.yq_scalar.proofs.Bools.{bind_some, and_true}
 use Rattle.yq_inline.specs.Spans.{IsSpan}
 use Rattle.yq_rows.specs.Grammar.{IsCut}
 use Rattle.yq_rows.specs.Rows.{Cut}
-use Rattle.yq_tree.specs.declared.path.Part.TheVariants as parts
-use Rattle.yq_tree.specs.declared.path.Path.{Path}
+use Rattle.yq_documents.specs.declared.path.Part.TheVariants as parts
+use Rattle.yq_documents.specs.declared.path.Path.{Path}
 use Rattle.yq_tree.specs.FirstPlaces.{are_spaces, less_spaces, end_spaces, FirstOut, first_out, first_removal}
-use Rattle.yq_tree.specs.Located.{steps_of}
+use Rattle.yq_documents.specs.Located.{steps_of}
 use Rattle.yq_tree.specs.PathPieces.{printed_document, piece_at}
-use Rattle.yq_tree.specs.Pieces.{Piece, piece_span}
-use Rattle.yq_tree.specs.Reading.{all_documents}
+use Rattle.yq_documents.specs.Pieces.{Piece, piece_span}
+use Rattle.yq_documents.specs.Reading.{all_documents}
 use Rattle.yq_tree.specs.SeatReading.{Numbers, numbers}
-use Rattle.yq_tree.specs.Seats.{Seat, seat_at}
+use Rattle.yq_documents.specs.Seats.{Seat, seat_at}
 use Rattle.yq_tree.proofs.EntryPlacedLaws.{entries_placed}
 use Rattle.yq_tree.proofs.PieceHolds.{spans_are}
 use Rattle.yq_tree.proofs.PieceTexts.{document_whole, piece_whole}

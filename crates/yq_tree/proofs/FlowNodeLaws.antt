@@ -16,16 +16,16 @@ use Rattle.yq_lines.specs.Outline.{Line}
 use Rattle.yq_lines.specs.Places.{lines_before, Found}
 use Rattle.yq_lines.specs.Spots.{is_bare}
 use Rattle.yq_lines.specs.View.{flows, views}
-use Rattle.yq_tree.specs.declared.reading.checks.DocumentLines.{DocumentLines}
-use Rattle.yq_tree.specs.Documents.{document_parts}
+use Rattle.yq_documents.specs.declared.checks.DocumentLines.{DocumentLines}
+use Rattle.yq_documents.specs.Documents.{document_parts}
 use Rattle.yq_tree.specs.EntryReading.{HasFlows}
 use Rattle.yq_tree.specs.FlowNodes.{content_flow, find_head, flow_collection, line_collection, part_collection}
-use Rattle.yq_tree.specs.FlowReading.{kept, core, content_core, row_flow}
+use Rattle.yq_documents.specs.FlowReading.{kept, core, content_core, row_flow}
 use Rattle.yq_tree.specs.FlowTold.{placed_collection, collection_along, bare_at, head_from, head_at}
-use Rattle.yq_tree.specs.Lines.{tail_of, lines_of}
-use Rattle.yq_tree.specs.Reading.{cut_of, outline_of}
-use Rattle.yq_tree.specs.Seats.{Seat, document_row}
-use Rattle.yq_tree.specs.SoundReading.{Holds}
+use Rattle.yq_documents.specs.Lines.{tail_of, lines_of}
+use Rattle.yq_documents.specs.Reading.{cut_of, outline_of}
+use Rattle.yq_documents.specs.Seats.{Seat, document_row}
+use Rattle.yq_documents.specs.SoundReading.{Holds}
 use Rattle.yq_tree.proofs.EntryPlaceLaws.{held_in}
 use Rattle.yq_tree.proofs.FlowPlaceLaws.{MarkSeat, mark_seat, reached_seat}
 use Rattle.yq_tree.proofs.FlowToldLaws.{collection_placed, head_found, numbered}

@@ -13,13 +13,13 @@ use Rattle.yq_rows.specs.Exchange.{behind_row}
 use Rattle.yq_rows.specs.Rows.{Content, Nothing, Inline, Block, Row, Cut, cut_text}
 use Rattle.yq_tree.specs.EntryReading.{inline_node, placed_inline, flow_entry}
 use Rattle.yq_tree.specs.EntryReading.{entry_within, HasFlows}
-use Rattle.yq_tree.specs.FlowReading.{kept, core, content_core, row_flow}
+use Rattle.yq_documents.specs.FlowReading.{kept, core, content_core, row_flow}
 use Rattle.yq_lines.specs.Group.{group}
-use Rattle.yq_tree.specs.Lines.{tail_of, lines_of}
+use Rattle.yq_documents.specs.Lines.{tail_of, lines_of}
 use Rattle.yq_lines.specs.Outline.{Mark, Bare, Key, Dash, Line, Outline, end, row}
 use Rattle.yq_lines.specs.Places.{here, lines_before, Found, find_row, inside, bare_or, in_head, find}
 use Rattle.yq_lines.specs.Ends.{reached}
-use Rattle.yq_tree.specs.Seats.{Seat, seat}
+use Rattle.yq_documents.specs.Seats.{Seat, seat}
 use Rattle.yq_lines.specs.Spots.{is_bare}
 use Rattle.yq_tree.proofs.RowPathLaws.{found_lines}
 use Rattle.yq_tree.proofs.SeatLineLaws.{Tells, seat_line}

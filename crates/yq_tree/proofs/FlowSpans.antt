@@ -5,7 +5,7 @@ use Rattle.yq_inline.specs.Nodes.{Key, bare, keyed, Node, empty, alias, scalar, 
 use Rattle.yq_inline.specs.Places.{Placed, placed, sequence, mapping, holder, locate, locate_items, with_anchor}
 use Rattle.yq_inline.proofs.WrittenLaws.{key_append, node_then}
 use Rattle.yq_tree.proofs.HeadSpanLaws.{node_start, node_end}
-use Rattle.yq_tree.specs.Pieces.{piece_span, node_piece}
+use Rattle.yq_documents.specs.Pieces.{piece_span, node_piece}
 use Rattle.yq_tree.specs.PathPieces.{FlowEntry, flow_piece, flow_content}
 use Rattle.yq_tree.proofs.PieceTexts.{item_text}
 use Rattle.yq_tree.proofs.FlowPieces.{pieces}

@@ -6,7 +6,7 @@ use Rattle.yq_scalar.specs.Paths.{Step}
 use Rattle.yq_scalar.specs.Tree.{Node}
 use Rattle.yq_rows.specs.Rows.{Part}
 use Rattle.yq_lines.specs.Outline.{Mark, Bare, Key, Dash, Line, Outline, IsWhole}
-use Rattle.yq_tree.specs.Reading.{is_document}
+use Rattle.yq_documents.specs.Reading.{is_document}
 use Rattle.yq_lines.proofs.LabelPaths.{HasHead}
 
 pub middle : (xs ys : List Line) (l : Line) → slice_get (xs ++ (l ∷ ys)) (length xs) ≡ Some l

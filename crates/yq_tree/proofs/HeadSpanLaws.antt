@@ -27,7 +27,7 @@ use Rattle.yq_rows.proofs.NodePieces.{BeginsAscii, tail_ascii, before_ascii, nod
 use Rattle.yq_rows.proofs.PlaceLaws.{place, row_in}
 use Rattle.yq_tree.specs.CommentReading.{before_tail, before_row}
 use Rattle.yq_tree.specs.EntryReading.{before_line, head_end, head_extent}
-use Rattle.yq_tree.proofs.HeadLaws.{no_anchor}
+use Rattle.yq_documents.proofs.HeadLaws.{no_anchor}
 use Rattle.yq_tree.proofs.CommentPieceLaws.{Ended, content_end}
 use Rattle.yq_tree.proofs.CommentPieceLaws.{tail_place}
 use Rattle.yq_tree.proofs.SeamLaws.{seam_boundary, ended_seam, ended_after, raw_end, last_ended, line_boundary}

@@ -8,14 +8,14 @@ use Rattle.yq_rows.specs.Exchange.{behind_at, behind_row}
 use Rattle.yq_rows.specs.Grammar.{begins_document}
 use Rattle.yq_rows.specs.Rows.{Row, rows_text, Part, Cut, last, marked, cut_text}
 use Rattle.yq_rows.specs.View.{Shown}
-use Rattle.yq_tree.specs.Documents.{parts_from, document_parts, begins_bare, has_begin}
+use Rattle.yq_documents.specs.Documents.{parts_from, document_parts, begins_bare, has_begin}
 use Rattle.yq_tree.specs.EntryReading.{HasFlows}
-use Rattle.yq_tree.specs.FlowReading.{row_flow, rows_flows, cut_flows, lines_flows}
+use Rattle.yq_documents.specs.FlowReading.{row_flow, rows_flows, cut_flows, lines_flows}
 use Rattle.yq_lines.specs.View.{flows}
-use Rattle.yq_tree.specs.Reading.{cut_of}
-use Rattle.yq_tree.specs.Seats.{Seat, behind_one, seat, rows_before, document_row}
-use Rattle.yq_tree.specs.SoundReading.{Holds}
-use Rattle.yq_tree.specs.declared.reading.checks.DocumentLines.{DocumentLines}
+use Rattle.yq_documents.specs.Reading.{cut_of}
+use Rattle.yq_documents.specs.Seats.{Seat, behind_one, seat, rows_before, document_row}
+use Rattle.yq_documents.specs.SoundReading.{Holds}
+use Rattle.yq_documents.specs.declared.checks.DocumentLines.{DocumentLines}
 
 -- lists, one behind another
 get_back : {A : Type 0} (xs ys : List A) (n : ℕ) → length xs ≤ n → slice_get (xs ++ ys) n ≡ slice_get ys (n - length xs)

@@ -20,10 +20,10 @@ use Rattle.yq_tree.specs.Existence.{some_lines}
 use Rattle.yq_tree.specs.Extents.{head_place}
 use Rattle.yq_tree.specs.InlinePlaces.{InlinePlace, node_inline, mark_inline, lines_inline, entry_inline, inline_in_entry, inline_in}
 use Rattle.yq_tree.specs.InlineReading.{extent_of, content_extent, row_extent, line_extent, lines_extent, entry_extent, extent_from, extent_in}
-use Rattle.yq_tree.specs.Lines.{lines_of}
+use Rattle.yq_documents.specs.Lines.{lines_of}
 use Rattle.yq_tree.specs.PathPieces.{BlockEntry, PrintedDocument, found_entry}
 use Rattle.yq_tree.specs.PrintedLines.{PrintedLine, line_front, print_line, print_lines, printed_lines, line_in}
-use Rattle.yq_tree.specs.Seats.{Seat}
+use Rattle.yq_documents.specs.Seats.{Seat}
 use Rattle.yq_tree.proofs.FoundEntries.{lines_count, within_some}
 use Rattle.yq_tree.proofs.PieceSpans.{IsEntryAt, entry_at_line, bare_head, line_more, by_line}
 use Rattle.yq_tree.proofs.PrintedLaws.{IsValid, IsWritten, IsPrinted, ArePrinted, lines_are}

@@ -12,10 +12,10 @@ use Rattle.yq_rows.specs.View.{Slices, slices, rows_of, Shown, shown}
 use Rattle.yq_lines.specs.Ends.{reached}
 use Rattle.yq_tree.specs.Extents.{head_place}
 use Rattle.yq_tree.specs.InlineReading.{InlineExtent, content_extent, row_extent, line_extent, extent_from, extent_in}
-use Rattle.yq_tree.specs.Lines.{lines_of}
-use Rattle.yq_tree.specs.RowReading.{begins_block}
+use Rattle.yq_documents.specs.Lines.{lines_of}
+use Rattle.yq_documents.specs.RowReading.{begins_block}
 use Rattle.yq_tree.specs.SeatReading.{Numbers, numbers}
-use Rattle.yq_tree.specs.Seats.{Seat, seat}
+use Rattle.yq_documents.specs.Seats.{Seat, seat}
 use Rattle.yq_tree.proofs.EntryPlaceLaws.{row_there}
 use Rattle.yq_tree.proofs.HeadEnds.{block_told}
 

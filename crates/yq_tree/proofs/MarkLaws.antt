@@ -12,17 +12,17 @@ use Rattle.yq_scalar.proofs.Bools.{guard_then}
 use Rattle.yq_rows.specs.Exchange.{row_front}
 use Rattle.yq_rows.specs.Rows.{Cut}
 use Rattle.yq_rows.specs.View.{Slices, slices, rows_of, Shown}
-use Rattle.yq_tree.specs.declared.path.Path.{Path}
-use Rattle.yq_tree.specs.declared.reading.checks.DocumentLines.{DocumentLines}
+use Rattle.yq_documents.specs.declared.path.Path.{Path}
+use Rattle.yq_documents.specs.declared.checks.DocumentLines.{DocumentLines}
 use Rattle.yq_tree.specs.CommentPlaces.{LineEnd, end_of_line, line_end}
-use Rattle.yq_tree.specs.Located.{steps_of}
+use Rattle.yq_documents.specs.Located.{steps_of}
 use Rattle.yq_tree.specs.MarkPlaces.{MarkPlace, behind_anchor, behind_mark, mark_at, mark_in, mark_place, upto_anchor}
 use Rattle.yq_tree.specs.MarkTelling.{EndsBehindMark}
 use Rattle.yq_tree.specs.PlacedRows.{PlacedRow, row_of_path}
-use Rattle.yq_tree.specs.Reading.{cut_of}
+use Rattle.yq_documents.specs.Reading.{cut_of}
 use Rattle.yq_tree.specs.SeatReading.{Numbers, numbers}
-use Rattle.yq_tree.specs.Seats.{seat_at, document_row}
-use Rattle.yq_tree.specs.SoundReading.{Holds}
+use Rattle.yq_documents.specs.Seats.{seat_at, document_row}
+use Rattle.yq_documents.specs.SoundReading.{Holds}
 use Rattle.yq_tree.proofs.CommentEndLaws.{row_same}
 use Rattle.yq_tree.proofs.PlacedRowLaws.{seat_placed, no_seat_placed}
 use Rattle.yq_tree.proofs.PrintedTexts.{same}

@@ -7,8 +7,8 @@ use Rattle.yq_scalar.specs.Paths.{Step, node_at}
 use Rattle.yq_scalar.specs.Tree.{Node, children_of}
 use Rattle.yq_lines.specs.Counts.{count}
 use Rattle.yq_rows.specs.Rows.{Cut}
-use Rattle.yq_tree.specs.Documents.{Document}
-use Rattle.yq_tree.specs.Reading.{documents}
+use Rattle.yq_documents.specs.Documents.{Document}
+use Rattle.yq_documents.specs.Reading.{documents}
 use Rattle.yq_tree.specs.RemovalPlaces.{has_several, has_others_at}
 
 pub there_is : {A : Type 0} (xs : List A) (i : ℕ) → i < length xs → (x : A) × (slice_get xs i ≡ Some x)

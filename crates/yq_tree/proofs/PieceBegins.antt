@@ -4,12 +4,12 @@ use Rattle.yq_scalar.specs.Answers.{◌>>=◌}
 use Rattle.yq_scalar.specs.Paths.{Step}
 use Rattle.yq_inline.specs.Nodes.{Node, empty, alias, scalar, coll, anchored, key_text}
 use Rattle.yq_rows.specs.Rows.{Content, Nothing, Inline, Block, anchor_text}
-use Rattle.yq_tree.specs.declared.path.Part.TheVariants as parts
+use Rattle.yq_documents.specs.declared.path.Part.TheVariants as parts
 use Rattle.yq_lines.specs.Group.{group}
-use Rattle.yq_tree.specs.Located.{steps_of}
+use Rattle.yq_documents.specs.Located.{steps_of}
 use Rattle.yq_lines.specs.Places.{Found, find}
 use Rattle.yq_lines.specs.Spots.{is_bare}
-use Rattle.yq_tree.specs.Pieces.{Piece, node_piece, head_piece}
+use Rattle.yq_documents.specs.Pieces.{Piece, node_piece, head_piece}
 use Rattle.yq_tree.specs.PrintedLines.{line_front, PrintedLine, behind_front, print_line, print_lines, line_in, run_piece, lines_piece}
 use Rattle.yq_tree.specs.PathPieces.{BlockEntry, content_piece, FlowEntry, flow_at, line_inline, flow_piece, flow_content, PrintedDocument, printed_document, found_entry, piece_in_entry, piece_in}
 use Rattle.yq_tree.specs.PieceLaws.{ContentsBegin}

@@ -9,8 +9,8 @@ use Rattle.yq_inline.specs.Nodes as inline
 use Rattle.yq_rows.specs.Rows.{Dash, Content, Inline, Block, Row, Cut, last}
 use Rattle.yq_tree.specs.PrintedLines.{less_break}
 use Rattle.yq_lines.specs.Outline.{level}
-use Rattle.yq_tree.specs.declared.path.Part.{Part}
-use Rattle.yq_tree.specs.declared.path.Part.TheVariants as parts
+use Rattle.yq_documents.specs.declared.path.Part.{Part}
+use Rattle.yq_documents.specs.declared.path.Part.TheVariants as parts
 use Rattle.yq_tree.specs.PathPieces.{printed_document, piece_in}
 
 -- an item's row in column 0, behind dashes

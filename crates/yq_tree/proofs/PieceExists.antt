@@ -9,17 +9,17 @@ use Rattle.yq_scalar.specs.Tree as tree
 use Rattle.yq_scalar.proofs.Bools.{guard_then}
 use Rattle.yq_inline.specs.Nodes.{Node, empty, alias, scalar, coll, anchored}
 use Rattle.yq_rows.specs.Rows.{Content, Nothing, Inline, Block, Cut}
-use Rattle.yq_tree.specs.declared.path.Path.{Path}
-use Rattle.yq_tree.specs.declared.path.Part.TheVariants as parts
-use Rattle.yq_tree.specs.Documents.{document_parts}
+use Rattle.yq_documents.specs.declared.path.Path.{Path}
+use Rattle.yq_documents.specs.declared.path.Part.TheVariants as parts
+use Rattle.yq_documents.specs.Documents.{document_parts}
 use Rattle.yq_lines.specs.Group.{group, level_or, is_fine}
-use Rattle.yq_tree.specs.Lines.{head_of, lines_of}
+use Rattle.yq_documents.specs.Lines.{head_of, lines_of}
 use Rattle.yq_inline.specs.Trees.{tree_of, with_name, node_head}
-use Rattle.yq_tree.specs.Located.{steps_of, located}
+use Rattle.yq_documents.specs.Located.{steps_of, located}
 use Rattle.yq_lines.specs.Outline as outlines
 use Rattle.yq_lines.specs.Outline.{Mark, Line, Outline, end, row, flatten, IsEven, IsWhole, head_or, value}
 use Rattle.yq_lines.specs.Places.{Found, find, content}
-use Rattle.yq_tree.specs.Reading.{document_of, read_at}
+use Rattle.yq_documents.specs.Reading.{document_of, read_at}
 use Rattle.yq_lines.specs.Spots.{is_bare}
 use Rattle.yq_tree.proofs.FoundLines.{each}
 use Rattle.yq_lines.proofs.Decides.{flatten-group, even_from}
@@ -30,7 +30,7 @@ use Rattle.yq_lines.proofs.PlaceLaws.{at}
 use Rattle.yq_tree.proofs.ReadLaws.{cut_is, text_takes}
 use Rattle.yq_tree.proofs.RowPathLaws.{found_place, document_fine}
 use Rattle.yq_tree.specs.Existence.{are_none, IsNull, some_lines, flow_written, or_false, entry_written, document_written, ContentsExist, EntriesExist}
-use Rattle.yq_tree.specs.Pieces.{node_piece, head_piece}
+use Rattle.yq_documents.specs.Pieces.{node_piece, head_piece}
 use Rattle.yq_tree.specs.PrintedLines.{line_front, PrintedLine, print_line, print_lines, line_in, run_piece, lines_piece}
 use Rattle.yq_tree.specs.PathPieces.{BlockEntry, content_piece, FlowEntry, flow_at, line_inline, flow_piece, flow_content, PrintedDocument, printed_document, found_entry, piece_in_entry, piece_in}
 use Rattle.yq_tree.proofs.PieceHolds.{no_part}

@@ -10,16 +10,16 @@ use Rattle.yq_inline.specs.Spans.{IsSpan}
 use Rattle.yq_rows.specs.Exchange.{HasPieces}
 use Rattle.yq_rows.specs.Grammar.{begins_document, IsCut}
 use Rattle.yq_rows.specs.Rows.{Part, part_text, Cut, last, marked, cut_text}
-use Rattle.yq_tree.specs.declared.path.Part.{Part as WhichPart}
-use Rattle.yq_tree.specs.declared.path.Part.TheVariants as parts
-use Rattle.yq_tree.specs.declared.path.Path.{Path}
-use Rattle.yq_tree.specs.Documents.{document_parts, parts_from}
+use Rattle.yq_documents.specs.declared.path.Part.{Part as WhichPart}
+use Rattle.yq_documents.specs.declared.path.Part.TheVariants as parts
+use Rattle.yq_documents.specs.declared.path.Path.{Path}
+use Rattle.yq_documents.specs.Documents.{document_parts, parts_from}
 use Rattle.yq_tree.specs.EntryReading.{content_of, content_at, entry_of, entry_at, first_row}
 use Rattle.yq_lines.specs.Group.{group, is_fine}
-use Rattle.yq_tree.specs.Located.{steps_of}
-use Rattle.yq_tree.specs.Pieces.{piece_span, HoldsPiece}
-use Rattle.yq_tree.specs.Reading.{all_documents, read_at}
-use Rattle.yq_tree.specs.Seats.{document_row}
+use Rattle.yq_documents.specs.Located.{steps_of}
+use Rattle.yq_documents.specs.Pieces.{piece_span, HoldsPiece}
+use Rattle.yq_documents.specs.Reading.{all_documents, read_at}
+use Rattle.yq_documents.specs.Seats.{document_row}
 use Rattle.yq_tree.proofs.FoundLines.{each}
 use Rattle.yq_tree.proofs.EntryPlacedLaws.{entries_placed}
 use Rattle.yq_tree.proofs.CommentHolds.{comments_hold}

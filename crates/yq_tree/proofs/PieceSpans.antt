@@ -16,22 +16,22 @@ use Rattle.yq_rows.specs.Exchange.{before_content, behind_row}
 use Rattle.yq_rows.specs.Rows.{Content, Nothing, Inline, Block, content_text, Row, Part, Cut, cut_text}
 use Rattle.yq_rows.specs.View.{rows_of}
 use Rattle.yq_rows.proofs.PlaceLaws.{place}
-use Rattle.yq_tree.specs.declared.path.Part.TheVariants as parts
+use Rattle.yq_documents.specs.declared.path.Part.TheVariants as parts
 use Rattle.yq_tree.specs.EntryReading as places
 use Rattle.yq_tree.specs.EntryReading.{lines_place, line_head, lines_content, line_content, line_entry, inline_node, placed_inline, flow_entry, entry_from, content_from, content_at, entry_at}
 use Rattle.yq_lines.specs.Ends.{deeper_count, lines_end}
 use Rattle.yq_lines.specs.Group.{group, level_or, is_fine}
-use Rattle.yq_tree.specs.Lines.{head_of, tail_of, lines_of}
+use Rattle.yq_documents.specs.Lines.{head_of, tail_of, lines_of}
 use Rattle.yq_lines.specs.Outline as outlines
 use Rattle.yq_lines.specs.Outline.{Mark, Line, level, Outline, end, row, flatten, IsEven, IsWhole}
 use Rattle.yq_lines.specs.Places.{lines_before, lines_after, Found, find}
 use Rattle.yq_lines.specs.Ends.{reached}
-use Rattle.yq_tree.specs.Seats.{Seat, seat}
+use Rattle.yq_documents.specs.Seats.{Seat, seat}
 use Rattle.yq_lines.specs.Spots.{is_bare}
 use Rattle.yq_lines.proofs.Decides.{flatten-group, even_from}
 use Rattle.yq_tree.proofs.EntryPlaceLaws.{row_there, lines_none}
 use Rattle.yq_tree.proofs.RowPathLaws.{found_lines, found_place}
-use Rattle.yq_tree.specs.Pieces.{piece_span, head_piece}
+use Rattle.yq_documents.specs.Pieces.{piece_span, head_piece}
 use Rattle.yq_tree.specs.PrintedLines.{line_front, PrintedLine, print_line, print_lines, printed_lines, line_in, run_piece, lines_piece}
 use Rattle.yq_tree.specs.PathPieces.{BlockEntry, entry_piece, content_piece, FlowEntry, flow_at, content_inline, line_inline, flow_piece, flow_content, PrintedDocument, found_entry, piece_in_entry, piece_in}
 use Rattle.yq_tree.proofs.PrintedTexts.{same, none_some, content_then, lines_then}

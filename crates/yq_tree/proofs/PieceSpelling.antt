@@ -12,31 +12,31 @@ use Rattle.yq_inline.specs.Entries.{inside}
 use Rattle.yq_inline.specs.Nodes.{Node, empty, alias, scalar, coll, anchored, key_text, IsNode}
 use Rattle.yq_inline.specs.Trees.{tree_of}
 use Rattle.yq_rows.specs.Rows.{Content, Nothing, Inline, Block, Cut}
-use Rattle.yq_tree.specs.declared.path.Part.{Part as WhichPart}
-use Rattle.yq_tree.specs.declared.path.Part.TheVariants as parts
-use Rattle.yq_tree.specs.declared.path.Path.{Path}
-use Rattle.yq_tree.specs.Documents.{document_parts}
+use Rattle.yq_documents.specs.declared.path.Part.{Part as WhichPart}
+use Rattle.yq_documents.specs.declared.path.Part.TheVariants as parts
+use Rattle.yq_documents.specs.declared.path.Path.{Path}
+use Rattle.yq_documents.specs.Documents.{document_parts}
 use Rattle.yq_lines.specs.Group.{group, level_or, is_fine}
-use Rattle.yq_tree.specs.Lines.{head_of, lines_of}
+use Rattle.yq_documents.specs.Lines.{head_of, lines_of}
 use Rattle.yq_inline.specs.Trees.{node_head}
-use Rattle.yq_tree.specs.Documents.{Document}
-use Rattle.yq_tree.specs.Nodes.{unlabelled}
+use Rattle.yq_documents.specs.Documents.{Document}
+use Rattle.yq_documents.specs.Nodes.{unlabelled}
 use Rattle.yq_lines.specs.Labelled.{Labelled, labelled_from}
 use Rattle.yq_lines.proofs.LabelledLaws.{labelled_path}
 use Rattle.yq_lines.proofs.LabelPaths.{FoundEntry, path_entry}
-use Rattle.yq_tree.specs.Located.{steps_of, document_at, labelled_located, located}
+use Rattle.yq_documents.specs.Located.{steps_of, document_at, labelled_located, located}
 use Rattle.yq_lines.specs.Outline as outlines
 use Rattle.yq_lines.specs.Outline.{Mark, Line, level, Outline, end, row, flatten, IsEven, first_anchor, head_or, value, label}
 use Rattle.yq_lines.specs.Places.{lines_before, lines_after, Found, find}
 use Rattle.yq_lines.specs.Places as places
-use Rattle.yq_tree.specs.Reading.{document_of, read_at}
+use Rattle.yq_documents.specs.Reading.{document_of, read_at}
 use Rattle.yq_lines.specs.Spots.{is_bare}
 use Rattle.yq_tree.proofs.FoundLines.{each}
 use Rattle.yq_lines.proofs.Decides.{flatten-group, even_from}
 use Rattle.yq_lines.proofs.Finding.{entry_of}
 use Rattle.yq_tree.proofs.ReadLaws.{cut_is, text_takes}
 use Rattle.yq_tree.proofs.RowPathLaws.{found_place, document_fine}
-use Rattle.yq_tree.specs.Pieces.{Piece, node_piece, head_piece}
+use Rattle.yq_documents.specs.Pieces.{Piece, node_piece, head_piece}
 use Rattle.yq_tree.specs.PrintedLines.{line_front, PrintedLine, print_line, print_lines, line_in, run_piece, lines_piece}
 use Rattle.yq_tree.specs.PathPieces.{BlockEntry, content_piece, FlowEntry, flow_at, line_inline, flow_content, PrintedDocument, printed_document, found_entry, piece_in_entry, piece_in}
 use Rattle.yq_tree.specs.PieceLaws.{IsInlinePiece, IsRun, SpellsTree, SpellsNode, IsEntryRun, IsFlowPiece, ContentsSpell, EntriesSpell, LinesStand}

@@ -16,19 +16,19 @@ use Rattle.yq_rows.specs.Rows.{Content, Nothing, Inline, Block, content_text, Pa
 use Rattle.yq_rows.specs.View.{content_cut}
 use Rattle.yq_rows.proofs.PlaceLaws.{part_then}
 use Rattle.yq_rows.proofs.SliceLaws.{content_slices}
-use Rattle.yq_tree.specs.declared.path.Part.{Part as WhichPart}
-use Rattle.yq_tree.specs.declared.path.Part.TheVariants as parts
-use Rattle.yq_tree.specs.declared.path.Path.{Path}
+use Rattle.yq_documents.specs.declared.path.Part.{Part as WhichPart}
+use Rattle.yq_documents.specs.declared.path.Part.TheVariants as parts
+use Rattle.yq_documents.specs.declared.path.Path.{Path}
 use Rattle.yq_tree.specs.PrintedLines.{PrintedLine, line_front, behind_front, print_line, print_lines, line_in, run_text, run_break, run_piece, lines_piece}
 use Rattle.yq_lines.specs.Group.{group}
-use Rattle.yq_tree.specs.Located.{steps_of}
+use Rattle.yq_documents.specs.Located.{steps_of}
 use Rattle.yq_lines.specs.Outline.{flatten}
 use Rattle.yq_lines.specs.Places.{lines_before, find}
-use Rattle.yq_tree.specs.Reading.{read_at}
+use Rattle.yq_documents.specs.Reading.{read_at}
 use Rattle.yq_lines.specs.Spots.{is_bare}
 use Rattle.yq_tree.proofs.ReadLaws.{text_takes}
-use Rattle.yq_tree.specs.Pieces.{Piece, node_piece, head_piece, tail_comment, content_comment, last_run, before_run, gap_comment}
-use Rattle.yq_tree.proofs.RunLaws.{run_split}
+use Rattle.yq_documents.specs.Pieces.{Piece, node_piece, head_piece, tail_comment, content_comment, last_run, before_run, gap_comment}
+use Rattle.yq_documents.proofs.RunLaws.{run_split}
 use Rattle.yq_tree.specs.PathPieces.{BlockEntry, content_piece, FlowEntry, flow_in, flow_under, flow_at, content_inline, line_inline, flow_piece, flow_content, PrintedDocument, behind_text, printed_part, printed_document, entry_with, found_entry, piece_in_entry, piece_in}
 use Rattle.yq_tree.proofs.PrintedTexts.{same, none_some, line_then, lines_then, lines_append, run_is, then_some, map_some, line_split, rows_are}
 

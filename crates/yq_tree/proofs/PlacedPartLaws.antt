@@ -4,7 +4,7 @@ use Rattle.std.specs.List.{slice_get}
 use Rattle.yq_rows.specs.Grammar.{begins_document}
 use Rattle.yq_rows.specs.Rows.{Part, part_text, Cut, last, marked, cut_text}
 use Rattle.yq_rows.proofs.PlaceLaws.{part_then}
-use Rattle.yq_tree.specs.Documents.{parts_from}
+use Rattle.yq_documents.specs.Documents.{parts_from}
 use Rattle.yq_tree.specs.PlacedRows.{PlacedPart, part_behind, placed_part}
 
 -- A part between two texts.

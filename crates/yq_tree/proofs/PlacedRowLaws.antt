@@ -10,14 +10,14 @@ use Rattle.yq_rows.specs.Rows.{Row, rows_text, Part, part_text, Cut, last, marke
 use Rattle.yq_rows.specs.View.{rows_of}
 use Rattle.yq_rows.proofs.PlaceLaws.{part_then}
 use Rattle.yq_lines.specs.Ends.{line_of}
-use Rattle.yq_tree.specs.declared.path.Path.{Path}
+use Rattle.yq_documents.specs.declared.path.Path.{Path}
 use Rattle.yq_tree.specs.CommentReading.{before_row}
-use Rattle.yq_tree.specs.Documents.{document_parts, parts_from}
-use Rattle.yq_tree.specs.Lines.{lines_of}
-use Rattle.yq_tree.specs.Located.{steps_of}
+use Rattle.yq_documents.specs.Documents.{document_parts, parts_from}
+use Rattle.yq_documents.specs.Lines.{lines_of}
+use Rattle.yq_documents.specs.Located.{steps_of}
 use Rattle.yq_tree.specs.PlacedRows.{PlacedPart, PlacedRow, part_behind, placed_part, placed_document, placed_row, row_of_path}
 use Rattle.yq_tree.specs.SeatReading.{Numbers, numbers}
-use Rattle.yq_tree.specs.Seats.{Seat, seat_of, seat_at, rows_before, document_row}
+use Rattle.yq_documents.specs.Seats.{Seat, seat_of, seat_at, rows_before, document_row}
 use Rattle.yq_tree.proofs.PrintedTexts.{same, none_some, map_some}
 use Rattle.yq_tree.proofs.SeatedLaws.{steps_row}
 

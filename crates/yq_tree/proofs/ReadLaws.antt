@@ -8,8 +8,8 @@ use Rattle.yq_rows.specs.Grammar.{IsCut}
 use Rattle.yq_rows.specs.Reading.{scan_at}
 use Rattle.yq_rows.specs.Rows.{Cut}
 use Rattle.yq_rows.proofs.ScanLaws.{scan_takes, scan_again}
-use Rattle.yq_tree.specs.Documents.{Document, document_parts, Reads}
-use Rattle.yq_tree.specs.Reading.{documents, all_documents, checked, text_at, read_at, cut_or, cut_of}
+use Rattle.yq_documents.specs.Documents.{Document, document_parts, Reads}
+use Rattle.yq_documents.specs.Reading.{documents, all_documents, checked, text_at, read_at, cut_or, cut_of}
 use Rattle.yq_tree.proofs.DocumentLaws.{documents_take, documents_again}
 
 -- a text and its cut, whose parts stand for documents

@@ -4,10 +4,10 @@ use Rattle.std.proofs.lemmas.Bool.{eqb-true, cond-true, cond-false}
 use Rattle.yq_scalar.specs.Text.{cut, front, ends_line, no_white, past_white, upto, is_empty, joined, lines_of, line_len}
 use Rattle.yq_scalar.proofs.LineLaws.{joined_lines, line_step}
 use Rattle.yq_lines.specs.Comments.{less_space, comment_text, are_comments, head_comment}
-use Rattle.yq_tree.specs.Pieces.{last_run, before_run, tail_comment, gap_comment}
+use Rattle.yq_documents.specs.Pieces.{last_run, before_run, tail_comment, gap_comment}
 use Rattle.yq_tree.specs.CommentLaws.{remark, remarks}
-use Rattle.yq_tree.specs.Texts.{texts}
-use Rattle.yq_tree.proofs.RunLaws.{run_texts}
+use Rattle.yq_documents.specs.Texts.{texts}
+use Rattle.yq_documents.proofs.RunLaws.{run_texts}
 
 -- the comment in a tail
 cut_mark : (bs : List ℕ) → drop 1 (cut ends_line (35 ∷ bs)).0 ≡ (cut ends_line bs).0

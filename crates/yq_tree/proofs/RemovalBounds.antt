@@ -9,10 +9,10 @@ use Rattle.yq_rows.specs.Rows.{Row, rows_text, Part, part_text, Cut, last, marke
 use Rattle.yq_rows.specs.Splices.{first_gap}
 use Rattle.yq_rows.specs.View.{slices, rows_of, Bound, bounds_from, bounds_of, bounds_at, shown}
 use Rattle.yq_tree.specs.CommentReading.{before_row}
-use Rattle.yq_tree.specs.Documents.{begins_bare, has_begin}
+use Rattle.yq_documents.specs.Documents.{begins_bare, has_begin}
 use Rattle.yq_tree.specs.PlacedRows.{PlacedPart, part_behind, placed_part, placed_document}
 use Rattle.yq_tree.specs.RemovalReading.{gap_at, gap_and_column}
-use Rattle.yq_tree.specs.Seats.{rows_before, document_row}
+use Rattle.yq_documents.specs.Seats.{rows_before, document_row}
 use Rattle.yq_tree.proofs.PlacedPartLaws.{behind_part, map_some, placed_same}
 
 -- ---- the text before a row

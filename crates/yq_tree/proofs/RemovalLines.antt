@@ -20,7 +20,7 @@ use Rattle.yq_rows.proofs.seams.BlockFronts.{gap_front}
 use Rattle.yq_rows.proofs.seams.FrontSeams.{behind_row_some, rows_some}
 use Rattle.yq_rows.proofs.seams.SeamLaws.{rows_drop, rows_text-append}
 use Rattle.yq_rows.proofs.splices.SpliceTexts.{first_is, first_text}
-use Rattle.yq_tree.specs.Pieces.{before_run, last_run}
+use Rattle.yq_documents.specs.Pieces.{before_run, last_run}
 use Rattle.yq_tree.specs.PlacedRows.{PlacedPart, part_behind, placed_part}
 use Rattle.yq_tree.specs.RemovalPlaces.{comment_above, rows_out}
 use Rattle.yq_tree.proofs.CommentPieceLaws.{Ended, gap_end, tail_end}

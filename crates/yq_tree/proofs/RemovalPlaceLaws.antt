@@ -21,12 +21,12 @@ use Rattle.yq_rows.specs.Removal.{hold_comment}
 use Rattle.yq_rows.specs.Rows.{Mark, Content, Row, Part, Cut}
 use Rattle.yq_rows.specs.View.{Slices, slices, rows_of, Shown, shown}
 use Rattle.yq_tree.specs.Extents.{lines_before_mark}
-use Rattle.yq_tree.specs.Lines.{lines_from, row_lines, lines_of}
-use Rattle.yq_tree.specs.Pieces.{before_run, last_run}
+use Rattle.yq_documents.specs.Lines.{lines_from, row_lines, lines_of}
+use Rattle.yq_documents.specs.Pieces.{before_run, last_run}
 use Rattle.yq_tree.specs.RemovalPlaces.{OwnRows, row_count, in_three, own_rows}
 use Rattle.yq_tree.specs.RemovalReading.{slices_count, marks}
 use Rattle.yq_tree.specs.SeatReading.{Numbers, behind, slices_seat, numbers}
-use Rattle.yq_tree.specs.Seats.{Seat, behind_one, seat}
+use Rattle.yq_documents.specs.Seats.{Seat, behind_one, seat}
 use Rattle.yq_tree.proofs.CountLaws.{AreCounted, cut_counted}
 use Rattle.yq_tree.proofs.PlacedPartLaws.{map_some}
 use Rattle.yq_tree.proofs.RemovalTexts.{gap_parts}

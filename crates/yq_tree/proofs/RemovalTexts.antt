@@ -11,10 +11,10 @@ use Rattle.yq_rows.specs.Splices.{behind_first, first_gap, with_row_gap}
 use Rattle.yq_rows.proofs.PlaceLaws.{row_then}
 use Rattle.yq_rows.proofs.seams.SeamLaws.{rows_text-append}
 use Rattle.yq_rows.proofs.splices.SpliceTexts.{first_text}
-use Rattle.yq_tree.specs.Pieces.{before_run, last_run}
+use Rattle.yq_documents.specs.Pieces.{before_run, last_run}
 use Rattle.yq_tree.specs.PlacedRows.{PlacedPart}
 use Rattle.yq_tree.specs.RemovalPlaces.{OwnRows, kept_gap, comment_above, rows_out}
-use Rattle.yq_tree.proofs.RunLaws.{run_split}
+use Rattle.yq_documents.proofs.RunLaws.{run_split}
 
 pub texts_then : (rs : List Row) (t u : List ℕ) → rows_text rs (t ++ u) ≡ rows_text rs t ++ u
 texts_then [] t u = refl

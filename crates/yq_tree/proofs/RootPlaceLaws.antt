@@ -16,19 +16,19 @@ use Rattle.yq_rows.specs.Grammar.{unlimited, AreRows, begins_document, IsCut, no
 use Rattle.yq_rows.specs.Offsets.{row_length}
 use Rattle.yq_rows.specs.Rows.{Row, rows_text, Part, part_text, Cut, last, marked}
 use Rattle.yq_rows.specs.View.{Slices, slices, Bound, bounds_from, rows_of, Shown, shown}
-use Rattle.yq_tree.specs.Documents.{begins_bare, has_begin, document_parts}
+use Rattle.yq_documents.specs.Documents.{begins_bare, has_begin, document_parts}
 use Rattle.yq_tree.specs.Extents.{bound_length, shown_length, IsShown}
-use Rattle.yq_tree.specs.Lines.{row_lines, lines_of}
-use Rattle.yq_tree.specs.PartReading.{Lined, some_begin, first_rows}
+use Rattle.yq_documents.specs.Lines.{row_lines, lines_of}
+use Rattle.yq_documents.specs.PartReading.{Lined, some_begin, first_rows}
 use Rattle.yq_tree.specs.PlacedRows.{PlacedPart, part_behind, placed_part, placed_document}
-use Rattle.yq_tree.specs.Reading.{cut_of}
+use Rattle.yq_documents.specs.Reading.{cut_of}
 use Rattle.yq_tree.specs.RootPlaces.{RootPlace}
 use Rattle.yq_tree.specs.RootReading.{part_number, end_length, if_unwritten, unwritten_place, unwritten_at}
-use Rattle.yq_tree.specs.SoundReading.{Holds}
-use Rattle.yq_tree.specs.declared.reading.checks.DocumentLines.{DocumentLines}
+use Rattle.yq_documents.specs.SoundReading.{Holds}
+use Rattle.yq_documents.specs.declared.checks.DocumentLines.{DocumentLines}
 use Rattle.yq_tree.proofs.CommentPieceLaws.{gap_end}
 use Rattle.yq_tree.proofs.LengthLaws.{part-length, shown_small}
-use Rattle.yq_tree.proofs.PartsLinedLaws.{document_is}
+use Rattle.yq_documents.proofs.PartsLinedLaws.{document_is}
 use Rattle.yq_tree.proofs.PlacedPartLaws.{map_some, part_stands, placed_same}
 use Rattle.yq_tree.proofs.PlacedRowLaws.{part_of, document_placed}
 use Rattle.yq_tree.proofs.RemovalLines.{LineSeam, lies_in, seam_join}

@@ -10,16 +10,16 @@ use Rattle.yq_lines.specs.Spots.{is_bare}
 use Rattle.yq_rows.specs.Grammar.{begins_document, IsCut, no_rows}
 use Rattle.yq_rows.specs.Rows.{Row, part_text, Cut, last, marked}
 use Rattle.yq_tree.specs.CollectionEnds.{CollectionEnd, end_of_lines, end_in, collection_end}
-use Rattle.yq_tree.specs.Located.{steps_of}
+use Rattle.yq_documents.specs.Located.{steps_of}
 use Rattle.yq_tree.specs.PathPieces.{PrintedDocument, behind_text, printed_part, printed_document, piece_in, piece_at}
-use Rattle.yq_tree.specs.Pieces.{Piece, piece_span}
+use Rattle.yq_documents.specs.Pieces.{Piece, piece_span}
 use Rattle.yq_tree.specs.PlacedRows.{PlacedPart, part_behind, placed_part, placed_document}
 use Rattle.yq_tree.specs.PrintedLines.{PrintedLine, printed_from, printed_lines, lines_piece}
-use Rattle.yq_tree.specs.Reading.{all_documents, cut_of}
+use Rattle.yq_documents.specs.Reading.{all_documents, cut_of}
 use Rattle.yq_tree.specs.RootPlaces.{RootPlace, written_root, unwritten_root, root_of_lines, root_in, root_place}
 use Rattle.yq_tree.specs.RootReading.{if_unwritten, unwritten_place, collection_place}
-use Rattle.yq_tree.specs.declared.path.Part.TheVariants as parts
-use Rattle.yq_tree.specs.declared.path.Path.{Path}
+use Rattle.yq_documents.specs.declared.path.Part.TheVariants as parts
+use Rattle.yq_documents.specs.declared.path.Path.{Path}
 use Rattle.yq_tree.proofs.CollectionTold.{piece_is}
 use Rattle.yq_tree.proofs.EntryPlacedLaws.{entries_placed}
 use Rattle.yq_tree.proofs.PieceHolds.{spans_are}

@@ -6,10 +6,10 @@ use Rattle.yq_rows.specs.Rows.{Part}
 use Rattle.yq_lines.specs.Anchors.{names_of}
 use Rattle.yq_lines.specs.Group.{group, level_or, is_fine}
 use Rattle.yq_lines.specs.Laws.{with_lines}
-use Rattle.yq_tree.specs.Lines.{lines_of}
+use Rattle.yq_documents.specs.Lines.{lines_of}
 use Rattle.yq_lines.specs.Outline.{Line, level, Outline, row, flatten, IsEven}
 use Rattle.yq_lines.specs.Places.{plug, Found, find}
-use Rattle.yq_tree.specs.Reading.{outline_of, root_of, have_fit_keys, has_short_root, is_document}
+use Rattle.yq_documents.specs.Reading.{outline_of, root_of, have_fit_keys, has_short_root, is_document}
 use Rattle.yq_lines.specs.LinesReading.{have_one_anchor_each, are_bound}
 use Rattle.yq_lines.proofs.Allowing.{Allows}
 use Rattle.yq_lines.proofs.Decides.{flatten-group, even_from}

@@ -14,14 +14,14 @@ use Rattle.yq_rows.specs.Rows.{Content, Nothing, Inline, Block, dashes_text, mar
 use Rattle.yq_rows.specs.View.{anchor_cut, anchor_of, apart_of, content_cut, rows_of}
 use Rattle.yq_rows.proofs.PlaceLaws.{part_then}
 use Rattle.yq_tree.specs.EntryReading.{before_line, through_row, lines_place, head_end, head_extent, line_head}
-use Rattle.yq_tree.specs.Lines.{head_of, lines_of}
+use Rattle.yq_documents.specs.Lines.{head_of, lines_of}
 use Rattle.yq_inline.specs.Trees.{node_head}
 use Rattle.yq_tree.specs.CommentReading.{before_row}
-use Rattle.yq_tree.specs.Seats.{Seat, seat}
+use Rattle.yq_documents.specs.Seats.{Seat, seat}
 use Rattle.yq_tree.proofs.EntryPlaceLaws.{row_there}
 use Rattle.yq_tree.proofs.SeatLineLaws.{seat_line}
 use Rattle.yq_tree.proofs.StartLaws.{front_in}
-use Rattle.yq_tree.specs.Pieces.{Piece, piece_span, node_piece, head_piece}
+use Rattle.yq_documents.specs.Pieces.{Piece, piece_span, node_piece, head_piece}
 use Rattle.yq_tree.specs.PrintedLines.{line_front, less_last, less_end, PrintedLine, print_line, print_lines, printed_lines, line_in, run_text, run_piece}
 use Rattle.yq_tree.specs.PathPieces.{PrintedDocument}
 use Rattle.yq_tree.proofs.PrintedTexts.{same, none_some, lines_then, lines_append}

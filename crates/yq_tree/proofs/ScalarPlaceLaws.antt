@@ -15,19 +15,19 @@ use Rattle.yq_rows.specs.Removal.{block_of}
 use Rattle.yq_rows.specs.Rows.{Content, Nothing, Inline, Block, Row, print_row, Cut}
 use Rattle.yq_rows.specs.View.{Slices, slices, content_cut, rows_of, Shown, shown}
 use Rattle.yq_rows.proofs.NodePieces.{BeginsAscii, before_ascii}
-use Rattle.yq_tree.specs.declared.path.Path.{Path}
-use Rattle.yq_tree.specs.declared.reading.checks.DocumentLines.{DocumentLines}
+use Rattle.yq_documents.specs.declared.path.Path.{Path}
+use Rattle.yq_documents.specs.declared.checks.DocumentLines.{DocumentLines}
 use Rattle.yq_tree.specs.CommentPlaces.{line_text}
 use Rattle.yq_tree.specs.Extents.{head_place}
-use Rattle.yq_tree.specs.Located.{steps_of}
+use Rattle.yq_documents.specs.Located.{steps_of}
 use Rattle.yq_tree.specs.PlacedRows.{PlacedRow}
-use Rattle.yq_tree.specs.Reading.{cut_of}
+use Rattle.yq_documents.specs.Reading.{cut_of}
 use Rattle.yq_tree.specs.RemovalReading.{block_numbers}
 use Rattle.yq_tree.specs.ScalarPlaces.{ScalarPlace, anchor_before, space_before, scalar_by, scalar_in, scalar_of, scalar_place}
 use Rattle.yq_tree.specs.ScalarTelling.{StandsAt}
 use Rattle.yq_tree.specs.SeatReading.{Numbers, numbers}
-use Rattle.yq_tree.specs.Seats.{seat_at, document_row}
-use Rattle.yq_tree.specs.SoundReading.{Holds}
+use Rattle.yq_documents.specs.Seats.{seat_at, document_row}
+use Rattle.yq_documents.specs.SoundReading.{Holds}
 use Rattle.yq_tree.proofs.CommentEndLaws.{row_line, row_same}
 use Rattle.yq_tree.proofs.CommentPieceLaws.{row_place}
 use Rattle.yq_tree.proofs.PlacedRowLaws.{seat_placed, no_seat_placed}

@@ -10,21 +10,21 @@ use Rattle.yq_rows.specs.Grammar.{begins_document, IsCut}
 use Rattle.yq_rows.specs.Rows as rows
 use Rattle.yq_rows.specs.Rows.{Content, Row, Part, Cut, last, marked}
 use Rattle.yq_rows.specs.View.{Slices, slices, Bound, bounds_from, rows_of, Shown, shown}
-use Rattle.yq_tree.specs.declared.path.Part.{Part as Place}
-use Rattle.yq_tree.specs.Documents.{parts_from, document_parts, begins_bare, has_begin}
+use Rattle.yq_documents.specs.declared.path.Part.{Part as Place}
+use Rattle.yq_documents.specs.Documents.{parts_from, document_parts, begins_bare, has_begin}
 use Rattle.yq_tree.specs.Extents.{lines_before_mark}
-use Rattle.yq_tree.specs.Lines.{lines_from, row_lines, lines_of}
+use Rattle.yq_documents.specs.Lines.{lines_from, row_lines, lines_of}
 use Rattle.yq_lines.specs.Outline.{Line}
-use Rattle.yq_tree.specs.PartReading.{Lined, lined, document_view, some_begin, first_rows}
-use Rattle.yq_tree.specs.Reading.{cut_of}
+use Rattle.yq_documents.specs.PartReading.{Lined, lined, document_view, some_begin, first_rows}
+use Rattle.yq_documents.specs.Reading.{cut_of}
 use Rattle.yq_lines.specs.Ends.{line_of}
 use Rattle.yq_tree.specs.SeatReading.{begin_row, Numbers, behind, slices_seat, numbers}
-use Rattle.yq_tree.specs.Seats.{Seat, behind_one, seat, seat_of, rows_before, document_row, line_has_room, seat_has_room}
-use Rattle.yq_tree.specs.SoundReading.{Holds}
+use Rattle.yq_documents.specs.Seats.{Seat, behind_one, seat, seat_of, rows_before, document_row, line_has_room, seat_has_room}
+use Rattle.yq_documents.specs.SoundReading.{Holds}
 use Rattle.yq_tree.proofs.CountLaws.{AreCounted, cut_counted}
 use Rattle.yq_lines.proofs.Parts.{drop_at}
-use Rattle.yq_tree.proofs.PartsLinedLaws.{document_is}
-use Rattle.yq_tree.specs.declared.reading.checks.DocumentLines.{DocumentLines}
+use Rattle.yq_documents.proofs.PartsLinedLaws.{document_is}
+use Rattle.yq_documents.specs.declared.checks.DocumentLines.{DocumentLines}
 
 -- a line of rows, in front of other rows
 lines_count : (above : List (List ℕ)) (column : ℕ) (ns : List ℕ) (m : rows.Mark) (x : Content) → length (lines_from above column ns m x) ≡ suc (length ns)

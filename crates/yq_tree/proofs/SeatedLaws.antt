@@ -5,20 +5,20 @@ use Rattle.std.specs.List.{slice_get}
 use Rattle.yq_scalar.specs.Answers.{◌>>=◌}
 use Rattle.yq_rows.specs.Rows.{Row, Part, Cut}
 use Rattle.yq_rows.specs.View.{Slices, slices, rows_of, Shown, shown}
-use Rattle.yq_tree.specs.declared.path.Path.{Path}
-use Rattle.yq_tree.specs.Documents.{document_parts}
+use Rattle.yq_documents.specs.declared.path.Path.{Path}
+use Rattle.yq_documents.specs.Documents.{document_parts}
 use Rattle.yq_tree.specs.Extents.{row_start}
-use Rattle.yq_tree.specs.Lines.{lines_of}
-use Rattle.yq_tree.specs.Located.{steps_of}
-use Rattle.yq_tree.specs.Pieces.{Piece, piece_span}
-use Rattle.yq_tree.specs.Reading.{cut_of}
+use Rattle.yq_documents.specs.Lines.{lines_of}
+use Rattle.yq_documents.specs.Located.{steps_of}
+use Rattle.yq_documents.specs.Pieces.{Piece, piece_span}
+use Rattle.yq_documents.specs.Reading.{cut_of}
 use Rattle.yq_lines.specs.Ends.{line_of}
 use Rattle.yq_tree.specs.SeatReading.{Numbers, numbers}
-use Rattle.yq_tree.specs.Seats.{Seat, behind_one, seat, seat_of, seat_at, document_row}
-use Rattle.yq_tree.specs.SoundReading.{Holds}
+use Rattle.yq_documents.specs.Seats.{Seat, behind_one, seat, seat_of, seat_at, document_row}
+use Rattle.yq_documents.specs.SoundReading.{Holds}
 use Rattle.yq_tree.proofs.SeatLaws.{part_begins}
 use Rattle.yq_lines.proofs.Values.{If}
-use Rattle.yq_tree.specs.declared.reading.checks.DocumentLines.{DocumentLines}
+use Rattle.yq_documents.specs.declared.checks.DocumentLines.{DocumentLines}
 
 -- the row of a line
 seat_row : (n : ℕ) (rs : List Row) → If (seat n rs) (λ s. slice_get rs s.before ≡ Some s.row)

@@ -9,11 +9,11 @@ use Rattle.yq_rows.specs.Grammar.{begins_document}
 use Rattle.yq_rows.specs.Rows as rows
 use Rattle.yq_rows.specs.Rows.{Content, Nothing, Row, dashes_text, mark_text, rows_text, print_row, Part, part_text, Cut, last, marked, cut_text}
 use Rattle.yq_rows.proofs.PlaceLaws.{part_then}
-use Rattle.yq_tree.specs.Documents.{parts_from}
-use Rattle.yq_tree.specs.Lines.{mark_of, dash_line}
+use Rattle.yq_documents.specs.Documents.{parts_from}
+use Rattle.yq_documents.specs.Lines.{mark_of, dash_line}
 use Rattle.yq_lines.specs.Outline.{level}
 use Rattle.yq_tree.specs.CommentReading.{before_row}
-use Rattle.yq_tree.specs.Seats.{Seat, behind_one, seat, rows_before}
+use Rattle.yq_documents.specs.Seats.{Seat, behind_one, seat, rows_before}
 use Rattle.yq_lines.proofs.Values.{rank_small}
 use Rattle.yq_tree.specs.PrintedLines.{PrintedLine, line_front, print_lines, printed_from, printed_row, printed_lines}
 use Rattle.yq_tree.specs.PathPieces.{PrintedDocument, printed_part}

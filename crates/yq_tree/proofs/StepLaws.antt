@@ -5,12 +5,12 @@ use Rattle.yq_lines.specs.declared.line.Line.{Line}
 use Rattle.yq_lines.specs.Outline.{Mark}
 use Rattle.yq_lines.specs.View.{views}
 use Rattle.yq_rows.specs.View.{Shown}
-use Rattle.yq_tree.specs.Documents.{document_parts}
-use Rattle.yq_tree.specs.PartReading.{Lined}
-use Rattle.yq_tree.specs.Reading.{cut_of}
-use Rattle.yq_tree.specs.SoundReading.{Holds}
+use Rattle.yq_documents.specs.Documents.{document_parts}
+use Rattle.yq_documents.specs.PartReading.{Lined}
+use Rattle.yq_documents.specs.Reading.{cut_of}
+use Rattle.yq_documents.specs.SoundReading.{Holds}
 use Rattle.yq_tree.specs.Steps.{first_step, steps_in, steps_of_part, document_steps}
-use Rattle.yq_tree.specs.declared.reading.checks.DocumentLines.{DocumentLines}
+use Rattle.yq_documents.specs.declared.checks.DocumentLines.{DocumentLines}
 use Rattle.yq_tree.proofs.SeatLaws.{part_at, none_past}
 
 pub first_short : (is : Mark → Bool) (ls : List Line) → length ls < 2 → first_step is (views ls) ≡ 2

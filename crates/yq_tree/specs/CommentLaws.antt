@@ -3,16 +3,16 @@ use Rattle.std.specs.Prelude.{ℕ, List, [], drop, Option, Some, None, option_ma
 use Rattle.yq_scalar.specs.Answers.{◌>>=◌}
 use Rattle.yq_scalar.specs.Text.{lines_of}
 use Rattle.yq_rows.specs.Rows.{Cut}
-use Rattle.yq_tree.specs.declared.path.Path.{Path}
-use Rattle.yq_tree.specs.Located.{labelled_located}
+use Rattle.yq_documents.specs.declared.path.Path.{Path}
+use Rattle.yq_documents.specs.Located.{labelled_located}
 use Rattle.yq_lines.specs.Comments.{less_space}
 use Rattle.yq_lines.specs.Labelled.{Labelled}
-use Rattle.yq_tree.specs.Reading.{read_at}
-use Rattle.yq_tree.specs.Texts.{texts}
-use Rattle.yq_tree.specs.declared.path.Part.TheVariants as parts
-use Rattle.yq_tree.specs.Pieces.{Piece}
+use Rattle.yq_documents.specs.Reading.{read_at}
+use Rattle.yq_documents.specs.Texts.{texts}
+use Rattle.yq_documents.specs.declared.path.Part.TheVariants as parts
+use Rattle.yq_documents.specs.Pieces.{Piece}
 use Rattle.yq_tree.specs.PathPieces.{piece_at}
-use Rattle.yq_tree.specs.declared.path.Part.TheVariants as parts
+use Rattle.yq_documents.specs.declared.path.Part.TheVariants as parts
 
 -- the text of the comment in a piece: what follows its `#`, less one leading space (own)
 abbrev pub remark : Piece → List ℕ

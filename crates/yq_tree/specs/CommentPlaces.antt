@@ -7,7 +7,7 @@ use Rattle.yq_scalar.specs.Text.{ends_line, joined, lines_of, no_white, past_whi
 use Rattle.yq_rows.specs.Exchange.{row_front}
 use Rattle.yq_rows.specs.Rows.{Row, behind_gap, Cut}
 use Rattle.yq_rows.specs.View.{slices}
-use Rattle.yq_tree.specs.Pieces.{before_run, last_run}
+use Rattle.yq_documents.specs.Pieces.{before_run, last_run}
 use Rattle.yq_tree.specs.PlacedRows.{PlacedRow, row_of_path}
 
 -- The end of a line: the text before it, the white space and the comment that end the line, each of which may be nothing, and the text from its break on (6.6).

@@ -6,8 +6,8 @@ use Rattle.yq_tree.specs.Extents.{front_length}
 use Rattle.yq_tree.specs.SeatReading.{Numbers}
 use Rattle.yq_rows.specs.Exchange.{before_content, behind_row}
 use Rattle.yq_rows.specs.Rows.{Row, Cut, rows_text, part_text, last, marked, behind_gap}
-use Rattle.yq_tree.specs.Seats.{Seat}
-use Rattle.yq_tree.specs.Pieces.{Piece, tail_comment, last_run, gap_comment}
+use Rattle.yq_documents.specs.Seats.{Seat}
+use Rattle.yq_documents.specs.Pieces.{Piece, tail_comment, last_run, gap_comment}
 
 -- the text of a cut before row i (own)
 abbrev pub before_row : ℕ → Cut → List ℕ

@@ -9,17 +9,17 @@ use Rattle.yq_inline.specs.Places.{Placed, locate}
 use Rattle.yq_rows.specs.Exchange.{behind_row}
 use Rattle.yq_rows.specs.Rows.{Content, Nothing, Inline, Block, Row, dashes_text, Cut, cut_text}
 use Rattle.yq_rows.specs.View.{Slices, slices}
-use Rattle.yq_tree.specs.declared.path.Path.{Path}
+use Rattle.yq_documents.specs.declared.path.Path.{Path}
 use Rattle.yq_tree.specs.CommentReading.{before_tail, before_row}
-use Rattle.yq_tree.specs.Documents.{document_parts}
+use Rattle.yq_documents.specs.Documents.{document_parts}
 use Rattle.yq_tree.specs.Extents.{head_place}
-use Rattle.yq_tree.specs.Lines.{tail_of, lines_of}
-use Rattle.yq_tree.specs.Located.{steps_of}
+use Rattle.yq_documents.specs.Lines.{tail_of, lines_of}
+use Rattle.yq_documents.specs.Located.{steps_of}
 use Rattle.yq_lines.specs.Ends.{reached, lines_end}
-use Rattle.yq_tree.specs.Seats.{seat, document_row, Seat}
+use Rattle.yq_documents.specs.Seats.{seat, document_row, Seat}
 use Rattle.yq_lines.specs.Spots.{is_bare}
-use Rattle.yq_tree.specs.FlowReading.{row_flow}
-use Rattle.yq_tree.specs.RowReading.{begins_block}
+use Rattle.yq_documents.specs.FlowReading.{row_flow}
+use Rattle.yq_documents.specs.RowReading.{begins_block}
 use Rattle.yq_tree.specs.PrintedLines.{less_break}
 
 -- the text of a cut before line k of row i: before its dash, its key or the node itself (8.2.1, 8.2.2)

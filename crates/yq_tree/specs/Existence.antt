@@ -4,14 +4,14 @@ use Rattle.yq_scalar.specs.Answers.{◌>>=◌}
 use Rattle.yq_scalar.specs.Paths.{Step}
 use Rattle.yq_scalar.specs.Tree.{Node}
 use Rattle.yq_rows.specs.Rows.{Cut}
-use Rattle.yq_tree.specs.declared.path.Part.TheVariants as parts
-use Rattle.yq_tree.specs.declared.path.Path.{Path}
+use Rattle.yq_documents.specs.declared.path.Part.TheVariants as parts
+use Rattle.yq_documents.specs.declared.path.Path.{Path}
 use Rattle.yq_lines.specs.Group.{group}
 use Rattle.yq_lines.specs.Outline.{anchored, null_node}
 use Rattle.yq_inline.specs.Trees.{node_head}
-use Rattle.yq_tree.specs.Located.{steps_of, located}
+use Rattle.yq_documents.specs.Located.{steps_of, located}
 use Rattle.yq_lines.specs.Places.{find}
-use Rattle.yq_tree.specs.Reading.{read_at}
+use Rattle.yq_documents.specs.Reading.{read_at}
 use Rattle.yq_tree.specs.PrintedLines.{PrintedLine, line_in}
 use Rattle.yq_tree.specs.PathPieces.{BlockEntry, FlowEntry, flow_at, line_inline, PrintedDocument, printed_document, found_entry, piece_at}
 

@@ -5,11 +5,11 @@ use Rattle.yq_scalar.specs.Lines.{is_hash}
 use Rattle.yq_scalar.specs.Paths.{Step}
 use Rattle.yq_scalar.specs.Text.{cut, cut_line, ends_line, is_empty, no_space, past_white}
 use Rattle.yq_rows.specs.Rows.{Cut}
-use Rattle.yq_tree.specs.declared.path.Part.TheVariants.{Entry}
-use Rattle.yq_tree.specs.Documents.{document_parts}
+use Rattle.yq_documents.specs.declared.path.Part.TheVariants.{Entry}
+use Rattle.yq_documents.specs.Documents.{document_parts}
 use Rattle.yq_tree.specs.PathPieces.{printed_document, piece_in}
-use Rattle.yq_tree.specs.Pieces.{Piece}
-use Rattle.yq_tree.specs.Seats.{Seat, seat_of}
+use Rattle.yq_documents.specs.Pieces.{Piece}
+use Rattle.yq_documents.specs.Seats.{Seat, seat_of}
 
 -- whether a blank line or a comment line is in front (6.6)
 abbrev pub begins_gap : List ℕ → Bool

@@ -2,7 +2,7 @@
 use Rattle.std.specs.Prelude.{ℕ, List}
 use Rattle.yq_tree.specs.declared.places.first_removal.FirstRemoval as declared
 use Rattle.yq_tree.specs.FirstPlaces.{FirstOut}
-use Rattle.yq_tree.specs.Pieces.{Piece}
+use Rattle.yq_documents.specs.Pieces.{Piece}
 
 -- a piece between two texts (own)
 abbrev pub piece_of : (before text behind : List ℕ) → Piece

@@ -8,9 +8,9 @@ use Rattle.yq_rows.specs.Rows.{Content, Nothing, Inline, Block, Row, Part, Cut}
 use Rattle.yq_lines.specs.Outline.{Outline, end, row}
 use Rattle.yq_lines.specs.Places.{here, lines_before, Found, find, in_head, inside}
 use Rattle.yq_lines.specs.Spots.{is_bare}
-use Rattle.yq_tree.specs.Documents.{document_parts}
-use Rattle.yq_tree.specs.Reading.{outline_of}
-use Rattle.yq_tree.specs.Seats.{seat, document_row}
+use Rattle.yq_documents.specs.Documents.{document_parts}
+use Rattle.yq_documents.specs.Reading.{outline_of}
+use Rattle.yq_documents.specs.Seats.{seat, document_row}
 
 -- the first line, if it is a node itself (8.2)
 abbrev pub bare_line : Outline → Option Found

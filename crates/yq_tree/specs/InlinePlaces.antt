@@ -7,9 +7,9 @@ use Rattle.yq_rows.specs.Rows.{Content, Nothing, Inline, Block, Cut}
 use Rattle.yq_lines.specs.Group.{group}
 use Rattle.yq_lines.specs.Places.{find}
 use Rattle.yq_lines.specs.Spots.{is_bare}
-use Rattle.yq_tree.specs.declared.path.Path.{Path}
+use Rattle.yq_documents.specs.declared.path.Path.{Path}
 use Rattle.yq_tree.specs.Existence.{some_lines}
-use Rattle.yq_tree.specs.Located.{steps_of}
+use Rattle.yq_documents.specs.Located.{steps_of}
 use Rattle.yq_tree.specs.PrintedLines.{PrintedLine, line_front, print_line, print_lines, line_in}
 use Rattle.yq_tree.specs.PathPieces.{BlockEntry, PrintedDocument, printed_document, found_entry}
 

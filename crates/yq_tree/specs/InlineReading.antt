@@ -6,15 +6,15 @@ use Rattle.yq_rows.specs.Rows.{Content, Nothing, Inline, Block, Row, Cut}
 use Rattle.yq_lines.specs.Bodies.{lent}
 use Rattle.yq_lines.specs.Ends.{lines_end, reached}
 use Rattle.yq_lines.specs.Spots.{is_bare}
-use Rattle.yq_tree.specs.declared.path.Path.{Path}
+use Rattle.yq_documents.specs.declared.path.Path.{Path}
 use Rattle.yq_tree.specs.declared.places.inline_place.InlinePlace as declared
 use Rattle.yq_tree.specs.declared.places.inline_place.InlineSpan.{InlineSpan}
-use Rattle.yq_tree.specs.Documents.{document_parts}
+use Rattle.yq_documents.specs.Documents.{document_parts}
 use Rattle.yq_tree.specs.Extents.{head_place}
 use Rattle.yq_tree.specs.InlinePlaces.{InlinePlace, written_text}
-use Rattle.yq_tree.specs.Lines.{lines_of}
-use Rattle.yq_tree.specs.Located.{steps_of}
-use Rattle.yq_tree.specs.Seats.{seat, document_row}
+use Rattle.yq_documents.specs.Lines.{lines_of}
+use Rattle.yq_documents.specs.Located.{steps_of}
+use Rattle.yq_documents.specs.Seats.{seat, document_row}
 
 -- a text, if it has bytes
 abbrev pub if_written : List ℕ → Option (List ℕ)

@@ -6,15 +6,15 @@ use Rattle.yq_inline.specs.Nodes.{Key, bare, Node, empty, alias, scalar, coll, a
 use Rattle.yq_inline.specs.Trees.{inner, key_content}
 use Rattle.yq_rows.specs.Grammar.{begins_document}
 use Rattle.yq_rows.specs.Rows.{Content, Nothing, Inline, Block, part_text, Cut, last, marked, cut_text}
-use Rattle.yq_tree.specs.declared.path.Part.{Part}
-use Rattle.yq_tree.specs.declared.path.Path.{Path}
-use Rattle.yq_tree.specs.Documents.{begins_bare, has_begin}
+use Rattle.yq_documents.specs.declared.path.Part.{Part}
+use Rattle.yq_documents.specs.declared.path.Path.{Path}
+use Rattle.yq_documents.specs.Documents.{begins_bare, has_begin}
 use Rattle.yq_lines.specs.Group.{group}
-use Rattle.yq_tree.specs.Located.{steps_of}
+use Rattle.yq_documents.specs.Located.{steps_of}
 use Rattle.yq_lines.specs.Outline.{flatten}
 use Rattle.yq_lines.specs.Places.{lines_before, Found, find}
-use Rattle.yq_tree.specs.declared.path.Part.TheVariants as parts
-use Rattle.yq_tree.specs.Pieces.{Piece, node_piece, head_piece, content_comment, gap_comment}
+use Rattle.yq_documents.specs.declared.path.Part.TheVariants as parts
+use Rattle.yq_documents.specs.Pieces.{Piece, node_piece, head_piece, content_comment, gap_comment}
 use Rattle.yq_tree.specs.PrintedLines.{PrintedLine, line_front, behind_front, print_line, print_lines, printed_lines, line_in, run_piece, lines_piece}
 
 -- A line and those under it, with the text before and behind them.

@@ -7,19 +7,19 @@ use Rattle.yq_scalar.specs.Tree as tree
 use Rattle.yq_inline.specs.Nodes.{Key, key_text, Node, node_text, IsNode}
 use Rattle.yq_inline.specs.Trees.{tree_of, inner, key_content}
 use Rattle.yq_rows.specs.Rows.{Part as Rows, Cut}
-use Rattle.yq_tree.specs.declared.path.Part.{Part}
-use Rattle.yq_tree.specs.declared.path.Part.TheVariants.{Content, Entry}
-use Rattle.yq_tree.specs.declared.path.Path.{Path}
-use Rattle.yq_tree.specs.Documents.{document_parts}
-use Rattle.yq_tree.specs.Lines.{lines_of}
+use Rattle.yq_documents.specs.declared.path.Part.{Part}
+use Rattle.yq_documents.specs.declared.path.Part.TheVariants.{Content, Entry}
+use Rattle.yq_documents.specs.declared.path.Path.{Path}
+use Rattle.yq_documents.specs.Documents.{document_parts}
+use Rattle.yq_documents.specs.Lines.{lines_of}
 use Rattle.yq_inline.specs.Trees.{node_anchor}
-use Rattle.yq_tree.specs.Located.{labelled_located, located}
+use Rattle.yq_documents.specs.Located.{labelled_located, located}
 use Rattle.yq_lines.specs.Labelled.{Labelled}
 use Rattle.yq_lines.specs.Outline.{level, Outline, flatten, IsEven, anchored, value, label}
 use Rattle.yq_lines.specs.Places.{content}
-use Rattle.yq_tree.specs.Reading.{read_at}
+use Rattle.yq_documents.specs.Reading.{read_at}
 use Rattle.yq_lines.specs.Spots.{is_bare}
-use Rattle.yq_tree.specs.Pieces.{Piece, HoldsPiece}
+use Rattle.yq_documents.specs.Pieces.{Piece, HoldsPiece}
 use Rattle.yq_tree.specs.PrintedLines.{PrintedLine, print_lines, printed_lines, line_in, run_piece}
 use Rattle.yq_tree.specs.PathPieces.{PrintedDocument, printed_document, piece_at}
 

@@ -4,8 +4,8 @@ use Rattle.yq_scalar.specs.Answers.{◌>>=◌}
 use Rattle.yq_scalar.specs.Paths.{Step}
 use Rattle.yq_rows.specs.Grammar.{begins_document}
 use Rattle.yq_rows.specs.Rows.{Row, rows_text, Part, part_text, Cut, last, marked, cut_text}
-use Rattle.yq_tree.specs.Documents.{begins_bare, has_begin}
-use Rattle.yq_tree.specs.Seats.{Seat, seat_of}
+use Rattle.yq_documents.specs.Documents.{begins_bare, has_begin}
+use Rattle.yq_documents.specs.Seats.{Seat, seat_of}
 
 -- The part of a cut that is a document, with the text before and behind it (9.1; own).
 pub record PlacedPart : Type 0 where

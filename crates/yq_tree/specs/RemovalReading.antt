@@ -6,12 +6,12 @@ use Rattle.yq_scalar.specs.Paths.{Step}
 use Rattle.yq_rows.specs.Grammar.{IsCut, no_rows}
 use Rattle.yq_rows.specs.Rows.{Cut}
 use Rattle.yq_rows.specs.View.{Slices, Bound, bounds_at, Shown, shown}
-use Rattle.yq_tree.specs.Documents.{document_parts}
+use Rattle.yq_documents.specs.Documents.{document_parts}
 use Rattle.yq_tree.specs.Extents.{lines_before_mark}
-use Rattle.yq_tree.specs.Reading.{cut_of}
+use Rattle.yq_documents.specs.Reading.{cut_of}
 use Rattle.yq_tree.specs.PlacedRows.{PlacedPart, placed_document}
 use Rattle.yq_tree.specs.RemovalPlaces.{OwnRows, own_rows, Seam, Removal}
-use Rattle.yq_tree.specs.Seats.{document_row}
+use Rattle.yq_documents.specs.Seats.{document_row}
 use Rattle.yq_tree.specs.declared.places.removal_place.Removal as declared
 use Rattle.yq_tree.specs.declared.places.removal_place.Seam as seams
 

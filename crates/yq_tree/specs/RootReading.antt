@@ -9,12 +9,12 @@ use Rattle.yq_rows.specs.View.{Bound, Shown}
 use Rattle.yq_lines.specs.Bodies.{lent}
 use Rattle.yq_tree.specs.CollectionEnds.{collection_end}
 use Rattle.yq_tree.specs.Extents.{bound_length}
-use Rattle.yq_tree.specs.Located.{steps_of}
+use Rattle.yq_documents.specs.Located.{steps_of}
 use Rattle.yq_tree.specs.PathPieces.{piece_at}
 use Rattle.yq_tree.specs.PlacedRows.{PlacedPart, placed_document}
 use Rattle.yq_tree.specs.RootPlaces.{RootPlace, written_root, unwritten_root}
-use Rattle.yq_tree.specs.declared.path.Part.TheVariants.{Content}
-use Rattle.yq_tree.specs.declared.path.Path.{Path}
+use Rattle.yq_documents.specs.declared.path.Part.TheVariants.{Content}
+use Rattle.yq_documents.specs.declared.path.Path.{Path}
 use Rattle.yq_tree.specs.declared.places.root_place.RootPlace as declared
 
 -- the number of the part that is document n, behind k parts, where it is known of the next one whether it is a document

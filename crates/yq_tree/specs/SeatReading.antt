@@ -4,7 +4,7 @@ use Rattle.yq_rows.specs.Grammar.{begins_document}
 use Rattle.yq_rows.specs.View.{Slices, Bound}
 use Rattle.yq_tree.specs.declared.places.seat.Seat as declared
 use Rattle.yq_tree.specs.Extents.{lines_before_mark}
-use Rattle.yq_tree.specs.Seats.{Seat}
+use Rattle.yq_documents.specs.Seats.{Seat}
 
 -- how many rows stand before document n of some parts, by where these end; so many rows stand before the first one, of which is known whether it is a document
 abbrev pub begin_row : Bool → ℕ → ℕ → List Bound → Option ℕ

@@ -1,18 +1,15 @@
 //! The documents of a text.
 ghost use Rattle.std.specs.Prelude.{◌≡◌, ◌<◌, ℕ, List, length, option_map, Some};
-ghost use Rattle.yq_tree.specs.Documents.{Document};
-ghost use Rattle.yq_tree.specs.Located.{document_at, labelled_located, located};
-ghost use Rattle.yq_tree.specs.Nodes.{node_of, label_of, labelled_of, unlabelled};
-ghost use Rattle.yq_tree.specs.Reading as spec;
-ghost use Rattle.yq_tree.specs.Ready.{TextIsReady};
-ghost use Rattle.yq_tree.specs.SoundReading.{Holds};
-ghost use Rattle.yq_tree.specs.Texts.{texts_left};
+ghost use Rattle.yq_documents.specs.Documents.{Document};
+ghost use Rattle.yq_documents.specs.Located.{document_at, labelled_located, located};
+ghost use Rattle.yq_documents.specs.Nodes.{node_of, label_of, labelled_of, unlabelled};
+ghost use Rattle.yq_documents.specs.Reading as spec;
+ghost use Rattle.yq_documents.specs.Ready.{TextIsReady};
+ghost use Rattle.yq_documents.specs.SoundReading.{Holds};
+ghost use Rattle.yq_documents.specs.Texts.{texts_left};
 
-use crate::nodes::comments::Comments;
-use crate::nodes::node::Node;
-use crate::path::Path;
-use crate::reading::checks::DocumentLines;
 use std::marker::Model;
+use yq_documents::{Comments, DocumentLines, Node, Path};
 use yq_lines::lines_shaped;
 use yq_rows::Rows;
 

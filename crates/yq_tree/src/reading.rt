@@ -6,24 +6,13 @@ ghost use Rattle.yq_scalar.specs.Answers.{Gives};
 ghost use Rattle.yq_rows.specs.Grammar.{IsCut};
 ghost use Rattle.yq_rows.specs.Rows.{Cut};
 ghost use Rattle.yq_tree.specs.Answers.{IsNotUtf8};
-ghost use Rattle.yq_tree.specs.Documents.{Document, Reads};
-ghost use Rattle.yq_tree.specs.Reading as spec;
-ghost use Rattle.yq_tree.specs.Ready.{TextIsReady};
-
-pub mod checks;
-pub mod documents;
-pub mod fault;
-pub mod fit;
-pub mod flow_keys;
-pub mod front;
-pub mod head;
-pub mod part_lines;
-pub mod row_lines;
+ghost use Rattle.yq_documents.specs.Documents.{Document, Reads};
+ghost use Rattle.yq_documents.specs.Reading as spec;
+ghost use Rattle.yq_documents.specs.Ready.{TextIsReady};
 
 use crate::document::Documents;
-use crate::reading::checks::check_parts;
-use crate::reading::documents::document_lines;
 use std::alloc::Global;
+use yq_documents::{check_parts, document_lines};
 use yq_lines::lines_shaped;
 use yq_rows::scan;
 use yq_scalar::{FaultKind, ReadError, ReadFault};
@@ -84,7 +73,7 @@ fn read_text(alloc: Global, text: &str) -> Result<Documents<'_>, ReadError>
 }
 
 /// Reads bytes as documents.
-#[tactic(auto, unfolding(crate::specs::Reading::read_at))]
+#[tactic(auto, unfolding(yq_documents::specs::Reading::read_at))]
 pub fn read(alloc: Global, bytes: &[u8]) -> Result<Documents<'_>, ReadError>
     // The bytes read as the documents.
     ensures found { IfOk result (λ d. Reads bytes.now (spec.documents_of d)) }

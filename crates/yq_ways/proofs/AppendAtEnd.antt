@@ -10,8 +10,8 @@ use Rattle.yq_scalar.specs.Text.{is_line}
 use Rattle.yq_lines.specs.Outline.{flatten}
 use Rattle.yq_rows.specs.Rows.{Row, rows_text, Part, Cut, cut_text}
 use Rattle.yq_tree.specs.CollectionEnds.{CollectionEnd, collection_end}
-use Rattle.yq_tree.specs.Lines.{lines_of}
-use Rattle.yq_tree.specs.Reading.{read_at}
+use Rattle.yq_documents.specs.Lines.{lines_of}
+use Rattle.yq_documents.specs.Reading.{read_at}
 use Rattle.yq_tree.specs.RowPaths.{IsReadable}
 use Rattle.yq_block.specs.declared.layout.Layout.{Layout}
 use Rattle.yq_block.specs.Alone.{alone}

@@ -17,9 +17,9 @@ use Rattle.yq_rows.specs.Gap.{IsGap}
 use Rattle.yq_rows.specs.Grammar.{Limit, limit_after, allows, AreRows}
 use Rattle.yq_rows.specs.Rows.{Row}
 use Rattle.yq_rows.specs.Splices.{first_gap}
-use Rattle.yq_tree.specs.Documents.{HaveFitKeys}
-use Rattle.yq_tree.specs.Lines.{lines_of}
-use Rattle.yq_tree.specs.TreeEdits.{new_label}
+use Rattle.yq_documents.specs.Documents.{HaveFitKeys}
+use Rattle.yq_documents.specs.Lines.{lines_of}
+use Rattle.yq_documents.specs.TreeEdits.{new_label}
 use Rattle.yq_block.specs.declared.layout.Layout.{Layout}
 use Rattle.yq_block.specs.Alone.{alone}
 use Rattle.yq_block.specs.BlockRows.{inline_of, node_rows, children_rows, entry_rows, behind_dash, end_before, column_below}

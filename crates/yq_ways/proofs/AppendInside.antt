@@ -16,10 +16,10 @@ use Rattle.yq_rows.specs.Splices.{first_gap, behind_first}
 use Rattle.yq_rows.proofs.seams.SeamLaws.{rows_text-append}
 use Rattle.yq_rows.proofs.splices.SpliceTexts.{own_gap, own_end, first_text}
 use Rattle.yq_tree.specs.CollectionEnds.{CollectionEnd, is_broken, collection_end}
-use Rattle.yq_tree.specs.Documents.{lead_of}
-use Rattle.yq_tree.specs.Lines.{lines_from, lines_of}
-use Rattle.yq_tree.specs.Ready.{begins_no_node}
-use Rattle.yq_tree.specs.Reading.{read_at}
+use Rattle.yq_documents.specs.Documents.{lead_of}
+use Rattle.yq_documents.specs.Lines.{lines_from, lines_of}
+use Rattle.yq_documents.specs.Ready.{begins_no_node}
+use Rattle.yq_documents.specs.Reading.{read_at}
 use Rattle.yq_tree.specs.RowPaths.{IsReadable}
 use Rattle.yq_block.specs.declared.layout.Layout.{Layout}
 use Rattle.yq_block.specs.Alone.{alone}

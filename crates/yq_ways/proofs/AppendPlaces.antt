@@ -15,10 +15,10 @@ use Rattle.yq_rows.specs.Grammar.{unlimited, AreRows, no_rows, Limit, allows}
 use Rattle.yq_rows.specs.Rows.{rows_text, Part, Cut, cut_text}
 use Rattle.yq_rows.proofs.seams.SeamLaws.{rows_text-append}
 use Rattle.yq_tree.specs.CollectionEnds.{CollectionEnd, end_in, collection_end}
-use Rattle.yq_tree.specs.Documents.{document_parts, lead_of}
+use Rattle.yq_documents.specs.Documents.{document_parts, lead_of}
 use Rattle.yq_tree.specs.PathPieces.{PrintedDocument, printed_document}
 use Rattle.yq_tree.proofs.PieceSpelling.{lines_stand}
-use Rattle.yq_tree.specs.Reading.{outline_of, read_at, root_of}
+use Rattle.yq_documents.specs.Reading.{outline_of, read_at, root_of}
 use Rattle.yq_tree.proofs.CommentPieceLaws.{Ended}
 use Rattle.yq_block.specs.declared.layout.Layout.{Layout}
 use Rattle.yq_block.specs.Alone.{alone}

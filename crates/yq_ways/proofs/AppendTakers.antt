@@ -10,7 +10,7 @@ use Rattle.yq_scalar.proofs.Bools.{and_true}
 use Rattle.yq_lines.specs.Group.{level_or}
 use Rattle.yq_lines.specs.Outline.{Mark, Bare, Key, Dash, Line, level, rank, Outline, end, row, anchored, children, collection, value}
 use Rattle.yq_rows.specs.Rows.{Part}
-use Rattle.yq_tree.specs.Lines.{lines_of}
+use Rattle.yq_documents.specs.Lines.{lines_of}
 use Rattle.yq_tree.specs.Steps.{is_key, is_kind, begins_under, first_step, steps_of_part}
 use Rattle.yq_change.specs.CollectionPlaces.{BeginsAt}
 use Rattle.yq_change.specs.Siblings.{IsEntry, HasEntries}

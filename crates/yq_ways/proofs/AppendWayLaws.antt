@@ -7,9 +7,9 @@ use Rattle.yq_scalar.specs.Tree.{Node}
 use Rattle.yq_flow.specs.Valued.{IsValueTree}
 use Rattle.yq_rows.specs.Rows.{Cut, cut_text}
 use Rattle.yq_tree.specs.CollectionEnds.{CollectionEnd, collection_end}
-use Rattle.yq_tree.specs.Documents.{Document, document_parts}
-use Rattle.yq_tree.specs.Reading as reading
-use Rattle.yq_tree.specs.Reading.{documents, read_at}
+use Rattle.yq_documents.specs.Documents.{Document, document_parts}
+use Rattle.yq_documents.specs.Reading as reading
+use Rattle.yq_documents.specs.Reading.{documents, read_at}
 use Rattle.yq_meaning.specs.Rooms.{room_of}
 use Rattle.yq_meaning.specs.Fits.{Fits}
 use Rattle.yq_meaning.specs.Operations.{Operation, replace, append, remove, line_comment, head_comment}

@@ -23,11 +23,11 @@ use Rattle.yq_rows.proofs.LineEnds.{line_end_behind}
 use Rattle.yq_rows.proofs.PlaceLaws.{row_then, row_in}
 use Rattle.yq_rows.proofs.RowAgain.{row_starts}
 use Rattle.yq_tree.specs.CommentPlaces.{end_before, line_text}
-use Rattle.yq_tree.specs.Lines.{lines_from, lines_of}
+use Rattle.yq_documents.specs.Lines.{lines_from, lines_of}
 use Rattle.yq_tree.specs.PlacedRows.{PlacedPart, PlacedRow, placed_document, placed_row, row_of_path}
-use Rattle.yq_tree.specs.Reading.{read_at}
-use Rattle.yq_tree.specs.Ready.{begins_no_node}
-use Rattle.yq_tree.specs.Seats.{Seat, seat_of, document_row}
+use Rattle.yq_documents.specs.Reading.{read_at}
+use Rattle.yq_documents.specs.Ready.{begins_no_node}
+use Rattle.yq_documents.specs.Seats.{Seat, seat_of, document_row}
 use Rattle.yq_tree.proofs.CommentEndLaws.{row_line}
 use Rattle.yq_tree.proofs.CommentPieceLaws.{row_place}
 use Rattle.yq_tree.proofs.PlacedRowLaws.{IsAt, part_at}

@@ -6,13 +6,13 @@ use Rattle.yq_scalar.specs.Answers.{◌>>=◌}
 use Rattle.yq_scalar.specs.Paths.{Step}
 use Rattle.yq_rows.specs.Rows.{Cut, cut_text}
 use Rattle.yq_rows.specs.Rows as rows
-use Rattle.yq_tree.specs.declared.path.Part.{Part}
-use Rattle.yq_tree.specs.declared.path.Part.TheVariants.{HeadComment, LineComment}
+use Rattle.yq_documents.specs.declared.path.Part.{Part}
+use Rattle.yq_documents.specs.declared.path.Part.TheVariants.{HeadComment, LineComment}
 use Rattle.yq_tree.specs.CommentPlaces.{above_row, end_of_line, line_end, lines_above}
-use Rattle.yq_tree.specs.Documents.{document_parts}
+use Rattle.yq_documents.specs.Documents.{document_parts}
 use Rattle.yq_tree.specs.PlacedRows.{PlacedPart, PlacedRow, placed_document, placed_row, row_of_path}
-use Rattle.yq_tree.specs.Reading.{cut_of, documents, read_at}
-use Rattle.yq_tree.specs.Seats.{Seat, line_has_room, seat_has_room, seat_of}
+use Rattle.yq_documents.specs.Reading.{cut_of, documents, read_at}
+use Rattle.yq_documents.specs.Seats.{Seat, line_has_room, seat_has_room, seat_of}
 use Rattle.yq_tree.proofs.PlacedRowLaws.{document_placed, part_of}
 use Rattle.yq_scalar.specs.BlockWritten.{break_text}
 use Rattle.yq_tree.specs.FirstBreak.{first_break}

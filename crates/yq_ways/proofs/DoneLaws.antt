@@ -5,12 +5,12 @@ use Rattle.yq_scalar.specs.Tree.{Node, children_of}
 use Rattle.yq_scalar.specs.Answers.{◌>>=◌}
 use Rattle.yq_scalar.proofs.Bools.{guard_then}
 use Rattle.yq_rows.specs.Rows.{Part, Cut, cut_text}
-use Rattle.yq_tree.specs.Documents.{Document, document_parts, lead_of}
-use Rattle.yq_tree.specs.Reading as reading
-use Rattle.yq_tree.specs.Reading.{documents, documents_of, read_at, cut_of, root_of}
-use Rattle.yq_tree.specs.Ready.{part_is_block}
-use Rattle.yq_tree.specs.Seats.{seat_of, seat_has_room}
-use Rattle.yq_tree.specs.TreeEdits.{change_nth, lead_by}
+use Rattle.yq_documents.specs.Documents.{Document, document_parts, lead_of}
+use Rattle.yq_documents.specs.Reading as reading
+use Rattle.yq_documents.specs.Reading.{documents, documents_of, read_at, cut_of, root_of}
+use Rattle.yq_documents.specs.Ready.{part_is_block}
+use Rattle.yq_documents.specs.Seats.{seat_of, seat_has_room}
+use Rattle.yq_documents.specs.TreeEdits.{change_nth, lead_by}
 use Rattle.yq_tree.proofs.ReadLaws.{text_takes, cut_is}
 use Rattle.yq_change.specs.Changed.{changed, put_document}
 use Rattle.yq_change.proofs.AfterLaws.{nth_is, nth_same}

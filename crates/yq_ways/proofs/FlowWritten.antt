@@ -13,7 +13,7 @@ use Rattle.yq_scalar.specs.declared.kind.Kind.TheVariants as kinds
 use Rattle.yq_scalar.specs.declared.style.Style.TheVariants as styles
 use Rattle.yq_scalar.proofs.PlainSpells.{writable_text}
 use Rattle.yq_inline.specs.Written.{scalar_text, flow_key, flow_of, flow_items}
-use Rattle.yq_tree.specs.Documents.{HasFitKey, HasFitKeys, EachHasFitKeys}
+use Rattle.yq_documents.specs.Documents.{HasFitKey, HasFitKeys, EachHasFitKeys}
 use Rattle.yq_meaning.specs.Changes.{is_long, has_long_key, have_long_key}
 
 or_parts : (x y : Bool) → (x || y) ≡ false → (x ≡ false) × (y ≡ false)

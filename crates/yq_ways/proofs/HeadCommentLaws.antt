@@ -22,14 +22,14 @@ use Rattle.yq_rows.proofs.NodePieces.{before_ascii}
 use Rattle.yq_rows.proofs.RowAgain.{row_starts}
 use Rattle.yq_tree.specs.CommentPlaces.{LinesAbove, above_row, lines_above}
 use Rattle.yq_tree.specs.FirstBreak.{first_break}
-use Rattle.yq_tree.specs.Documents.{lead_of}
-use Rattle.yq_tree.specs.Lines as lines
-use Rattle.yq_tree.specs.Pieces.{before_run, last_run}
+use Rattle.yq_documents.specs.Documents.{lead_of}
+use Rattle.yq_documents.specs.Lines as lines
+use Rattle.yq_documents.specs.Pieces.{before_run, last_run}
 use Rattle.yq_tree.specs.PlacedRows.{PlacedRow, placed_row, row_of_path}
-use Rattle.yq_tree.specs.Reading.{documents, read_at, root_of}
+use Rattle.yq_documents.specs.Reading.{documents, read_at, root_of}
 use Rattle.yq_tree.specs.RowPaths.{IsReadable}
-use Rattle.yq_tree.specs.Seats.{seat_of}
-use Rattle.yq_tree.specs.TreeEdits.{at_end, with_head_comment}
+use Rattle.yq_documents.specs.Seats.{seat_of}
+use Rattle.yq_documents.specs.TreeEdits.{at_end, with_head_comment}
 use Rattle.yq_tree.proofs.CommentEndLaws.{gap_split, run_ascii}
 use Rattle.yq_tree.proofs.PlacedRowLaws.{IsAt}
 use Rattle.yq_tree.proofs.PrintedTexts.{map_some, none_some}

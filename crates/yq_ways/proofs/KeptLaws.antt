@@ -9,10 +9,10 @@ use Rattle.yq_scalar.specs.Tree.{Node}
 use Rattle.yq_flow.specs.Valued.{IsValueTree}
 use Rattle.yq_lines.specs.Outline.{first_anchor}
 use Rattle.yq_rows.specs.Rows.{Part, Cut, cut_text}
-use Rattle.yq_tree.specs.Documents.{document_parts, lead_of}
-use Rattle.yq_tree.specs.Reading as reading
-use Rattle.yq_tree.specs.Reading.{documents, read_at, root_of}
-use Rattle.yq_tree.specs.TreeEdits.{led, replaced}
+use Rattle.yq_documents.specs.Documents.{document_parts, lead_of}
+use Rattle.yq_documents.specs.Reading as reading
+use Rattle.yq_documents.specs.Reading.{documents, read_at, root_of}
+use Rattle.yq_documents.specs.TreeEdits.{led, replaced}
 use Rattle.yq_change.specs.Changed.{changed, IsChanged, put_document}
 use Rattle.yq_change.specs.Rooms.{is_block_root}
 use Rattle.yq_change.proofs.LeadLaws.{same_lead_goes}

@@ -6,8 +6,8 @@ use Rattle.std.specs.List.{slice_get}
 use Rattle.yq_scalar.proofs.Bools.{and_true}
 use Rattle.yq_lines.specs.Outline.{Mark, Bare, Key, Dash, Line, level, rank}
 use Rattle.yq_rows.specs.Rows.{Part, Cut}
-use Rattle.yq_tree.specs.Documents.{document_parts}
-use Rattle.yq_tree.specs.Lines.{lines_of}
+use Rattle.yq_documents.specs.Documents.{document_parts}
+use Rattle.yq_documents.specs.Lines.{lines_of}
 use Rattle.yq_tree.specs.Steps.{is_key, is_kind, begins_under, first_step, steps_of_part}
 use Rattle.yq_ways.specs.Layouts.{layout_of}
 

@@ -25,11 +25,11 @@ use Rattle.yq_rows.proofs.NodePieces.{before_ascii, tail_ascii}
 use Rattle.yq_rows.proofs.seams.ScalarSeams.{ends_return}
 use Rattle.yq_rows.proofs.splices.SpliceTexts.{own_gap, own_end}
 use Rattle.yq_tree.specs.CommentPlaces.{LineEnd, line_text, end_of_line, line_end}
-use Rattle.yq_tree.specs.Documents.{lead_of}
+use Rattle.yq_documents.specs.Documents.{lead_of}
 use Rattle.yq_tree.specs.PlacedRows.{PlacedRow, placed_row, row_of_path}
-use Rattle.yq_tree.specs.Reading.{read_at, root_of}
+use Rattle.yq_documents.specs.Reading.{read_at, root_of}
 use Rattle.yq_tree.specs.RowPaths.{IsReadable}
-use Rattle.yq_tree.specs.TreeEdits.{at_end, with_line_comment}
+use Rattle.yq_documents.specs.TreeEdits.{at_end, with_line_comment}
 use Rattle.yq_tree.proofs.CommentEndLaws.{row_line}
 use Rattle.yq_tree.proofs.LineEndLaws.{line_tail, end_of_tail, tail_is_end}
 use Rattle.yq_tree.proofs.PrintedTexts.{map_some, none_some}
@@ -265,7 +265,7 @@ row_then_text r tail rest =
 shape_same : (r : Row) (tail : List ℕ) → row_shape (tailed tail r) ≡ row_shape r
 shape_same r tail = ap (λ (h : Bool). record { column = r.column; dashes = r.dashes; mark = r.mark; headed = h }) (go r.content)
   where
-    go : (c : Content) → Rattle.std.specs.Option.is_some (Rattle.yq_tree.specs.Lines.head_of (with_line_tail tail c)) ≡ Rattle.std.specs.Option.is_some (Rattle.yq_tree.specs.Lines.head_of c)
+    go : (c : Content) → Rattle.std.specs.Option.is_some (Rattle.yq_documents.specs.Lines.head_of (with_line_tail tail c)) ≡ Rattle.std.specs.Option.is_some (Rattle.yq_documents.specs.Lines.head_of c)
     go (Nothing e) = refl
     go (Inline space node e) = refl
     go (Block space anchor block) = refl
@@ -374,7 +374,7 @@ reads doc steps text c e read is utf8 fit size =
     let steps_are = some_steps steps p.rows f.x f.seat_is in
     let fits : IsLineTail tail r.content (rows_text back (p.end ++ behind_document doc c)) = subst (λ u. IsLineTail tail r.content (rows_text back (p.end ++ u))) (sym f.stands.behind) (line_tail_is (parent_indent r) text r.content rest h has.row.content quiet.0) in
     let changed = path_tail_put (cut_text c) c doc p steps_are.0 steps_are.1 f.x front_rows back tail (record { read = read; there = f.stands.there })
-    (ap (λ (s : List Step). Rattle.yq_tree.specs.Seats.seat_of s p.rows) (sym steps_are.2) ∙ f.seat_is)
+    (ap (λ (s : List Step). Rattle.yq_documents.specs.Seats.seat_of s p.rows) (sym steps_are.2) ∙ f.seat_is)
     (ap (λ (x : PlacedRow). x.line) f.is ∙ (a.last ∙ sym (ap (λ (x : PlacedRow). length x.row.dashes) f.is)))
     (record { rows_are = f.rows_are; fits = fits }) (count_front p.rows i r f.row) (subst IsReadable (sym text_then) readable) in
     let shapes = shape_tells p q (shapes_same front_rows r back tail p q f.rows_are rows_then) in
@@ -412,7 +412,7 @@ line_comment_is_way = record { old = olds; reads = news }
         let x = segments_of text (line_end doc steps c) ss h in
         ap old_text (sym x.2) ∙ (segments_old text x.0 ∙ sym (place_text doc steps c x.0 (place doc steps c x.0 x.1)))
 
-    news : (op : Operation) (c : Cut) (ss : List Segment) → read_at (cut_text c) ≡ Some c → line_comment_way op c ≡ Some ss → HasOperand op → Fits (room_of (cut_text c)) op (Rattle.yq_tree.specs.Reading.documents c) →
+    news : (op : Operation) (c : Cut) (ss : List Segment) → read_at (cut_text c) ≡ Some c → line_comment_way op c ≡ Some ss → HasOperand op → Fits (room_of (cut_text c)) op (Rattle.yq_documents.specs.Reading.documents c) →
         length (new_text ss) ≤ text_limit → ReadsAfter op c (new_text ss)
     news (replace doc steps v) c ss read h operand fits size = absurd (none_some h)
     news (append doc steps key v) c ss read h operand fits size = absurd (none_some h)

@@ -18,7 +18,7 @@ use Rattle.yq_rows.specs.Rows.{Content, Nothing, Inline, Block, Row, mark_text, 
 use Rattle.yq_rows.proofs.CharacterLaws.{EndsBlack, ends_after, text_exchanged, text_inserted}
 use Rattle.yq_tree.specs.InlinePlaces.{InlinePlace, written_text, apart_from, node_inline, mark_inline, inline_from}
 use Rattle.yq_tree.specs.PathPieces.{printed_document}
-use Rattle.yq_tree.specs.Reading.{read_at}
+use Rattle.yq_documents.specs.Reading.{read_at}
 use Rattle.yq_tree.specs.RowPaths.{IsReadable}
 use Rattle.yq_tree.proofs.HeldScalars.{behind_utf8}
 use Rattle.yq_tree.proofs.PrintedLaws.{document_is}

@@ -15,14 +15,14 @@ use Rattle.yq_rows.specs.View.{rows_of}
 use Rattle.yq_lines.specs.Ends.{lines_end, reached}
 use Rattle.yq_lines.specs.Group.{group, is_fine}
 use Rattle.yq_lines.specs.Spots.{is_bare}
-use Rattle.yq_tree.specs.Documents.{document_parts}
+use Rattle.yq_documents.specs.Documents.{document_parts}
 use Rattle.yq_tree.specs.EntryReading.{head_end}
 use Rattle.yq_tree.specs.Extents.{head_place}
 use Rattle.yq_tree.specs.InlinePlaces.{InlinePlace, written_text, inline_in, inline_from}
 use Rattle.yq_tree.specs.InlineReading.{InlineExtent, extent_of, content_extent, row_extent, line_extent, lines_extent, entry_extent, extent_from, extent_in}
-use Rattle.yq_tree.specs.Lines.{lines_of}
-use Rattle.yq_tree.specs.Reading.{all_documents, read_at}
-use Rattle.yq_tree.specs.Seats.{seat, document_row}
+use Rattle.yq_documents.specs.Lines.{lines_of}
+use Rattle.yq_documents.specs.Reading.{all_documents, read_at}
+use Rattle.yq_documents.specs.Seats.{seat, document_row}
 use Rattle.yq_tree.specs.PathPieces.{PrintedDocument, printed_document}
 use Rattle.yq_tree.specs.PrintedLines.{printed_lines, line_in}
 use Rattle.yq_tree.proofs.EntryPlaceLaws.{row_there}

@@ -5,7 +5,7 @@ use Rattle.yq_scalar.specs.Paths.{Step}
 use Rattle.yq_scalar.proofs.Bools.{bind_some, guard_then}
 use Rattle.yq_rows.specs.Rows.{Cut, cut_text}
 use Rattle.yq_tree.specs.FirstPlaces.{FirstOut, first_removal}
-use Rattle.yq_tree.specs.Reading.{documents, read_at}
+use Rattle.yq_documents.specs.Reading.{documents, read_at}
 use Rattle.yq_tree.specs.RemovalPlaces.{has_others_at}
 use Rattle.yq_change.proofs.FirstOutLaws.{first_stands}
 use Rattle.yq_change.proofs.FirstRemovalLaws.{first_taken_out}

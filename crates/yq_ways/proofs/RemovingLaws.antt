@@ -17,11 +17,11 @@ use Rattle.yq_scalar.proofs.Bools.{bind_some, guard_then, or_false}
 use Rattle.yq_scalar.proofs.LineLaws.{joined_lines}
 use Rattle.yq_lines.specs.Anchors.{Name, Anchors, Refers, names_of, IsAmong}
 use Rattle.yq_rows.specs.Rows.{Part, Cut, cut_text}
-use Rattle.yq_tree.specs.Documents.{Document, document_parts, lead_of}
-use Rattle.yq_tree.specs.Reading as reading
-use Rattle.yq_tree.specs.Reading.{documents, read_at, root_of}
+use Rattle.yq_documents.specs.Documents.{Document, document_parts, lead_of}
+use Rattle.yq_documents.specs.Reading as reading
+use Rattle.yq_documents.specs.Reading.{documents, read_at, root_of}
 use Rattle.yq_tree.specs.RemovalPlaces.{Seam, Removal, removal_place, has_several, has_others, has_others_at}
-use Rattle.yq_tree.specs.TreeEdits.{at_end}
+use Rattle.yq_documents.specs.TreeEdits.{at_end}
 use Rattle.yq_change.specs.Conditions.{aliases_in, AreSpared}
 use Rattle.yq_change.specs.RemovalChanges.{mended, MayTakeOut, IsTakenOut}
 use Rattle.yq_change.proofs.LeadLaws.{block_lead_goes}

@@ -10,13 +10,13 @@ use Rattle.yq_inline.specs.declared.value.Value.TheVariants as values
 use Rattle.yq_inline.specs.Values.{node_of, items_of, entries}
 use Rattle.yq_inline.specs.Written.{flow_text}
 use Rattle.yq_inline.proofs.WrittenLaws.{node_list, node_map}
-use Rattle.yq_tree.specs.declared.path.Path.{Path}
+use Rattle.yq_documents.specs.declared.path.Path.{Path}
 use Rattle.yq_tree.specs.declared.places.inline_place.InlinePlace as declared
-use Rattle.yq_tree.specs.Documents.{Document}
+use Rattle.yq_documents.specs.Documents.{Document}
 use Rattle.yq_tree.specs.InlinePlaces.{InlinePlace, written_text, apart_from, inline_place}
 use Rattle.yq_tree.specs.InlineReading.{InlineTelling, inline_telling, inline_told}
-use Rattle.yq_tree.specs.Located.{steps_of, document_at, located}
-use Rattle.yq_tree.specs.Reading.{cut_of}
+use Rattle.yq_documents.specs.Located.{steps_of, document_at, located}
+use Rattle.yq_documents.specs.Reading.{cut_of}
 use Rattle.yq_meaning.specs.Operations.{replace}
 use Rattle.yq_ways.specs.PlaceViews.{inline_view}
 use Rattle.yq_ways.specs.Replacing.{node_in, is_kept, value_written, flow_written, place_segments, replace_at, replace_way}

@@ -23,12 +23,12 @@ use Rattle.yq_inline.specs.Scalars.{style_of}
 use Rattle.yq_flow.specs.Valued.{IsValueTree}
 use Rattle.yq_inline.specs.Written.{flow_of, flow_text}
 use Rattle.yq_rows.specs.Rows.{Part, Cut, cut_text}
-use Rattle.yq_tree.specs.Documents.{Document, document_parts, lead_of}
+use Rattle.yq_documents.specs.Documents.{Document, document_parts, lead_of}
 use Rattle.yq_tree.specs.InlinePlaces.{InlinePlace, written_text, apart_from, inline_from}
 use Rattle.yq_tree.specs.PathPieces.{printed_document}
-use Rattle.yq_tree.specs.Reading as reading
-use Rattle.yq_tree.specs.Reading.{documents, read_at, root_of}
-use Rattle.yq_tree.specs.TreeEdits.{replaced}
+use Rattle.yq_documents.specs.Reading as reading
+use Rattle.yq_documents.specs.Reading.{documents, read_at, root_of}
+use Rattle.yq_documents.specs.TreeEdits.{replaced}
 use Rattle.yq_tree.proofs.PrintedLaws.{document_is}
 use Rattle.yq_tree.proofs.PrintedTexts.{map_some}
 use Rattle.yq_tree.proofs.ReadLaws.{text_takes}

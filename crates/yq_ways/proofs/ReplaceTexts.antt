@@ -6,7 +6,7 @@ use Rattle.yq_scalar.proofs.Bools.{bind_some, guard_then}
 use Rattle.yq_rows.specs.Rows.{Cut, cut_text}
 use Rattle.yq_tree.specs.InlinePlaces.{InlinePlace, written_text, apart_from, inline_from}
 use Rattle.yq_tree.specs.PathPieces.{printed_document}
-use Rattle.yq_tree.specs.Reading.{read_at}
+use Rattle.yq_documents.specs.Reading.{read_at}
 use Rattle.yq_tree.proofs.InlineTexts.{inline_in_text}
 use Rattle.yq_tree.proofs.PieceTexts.{document_whole}
 use Rattle.yq_tree.proofs.PrintedLaws.{document_is}

@@ -6,8 +6,8 @@ use Rattle.yq_scalar.specs.Paths.{Step, is_here, further, child_at, change_child
 use Rattle.yq_scalar.specs.Tree.{Node, alias, scalar, list, map, Children, none, child}
 use Rattle.yq_rows.specs.Grammar.{begins_document}
 use Rattle.yq_rows.specs.Rows.{Part, Cut, last, marked}
-use Rattle.yq_tree.specs.Documents.{parts_from}
-use Rattle.yq_tree.specs.TreeEdits.{change_nth}
+use Rattle.yq_documents.specs.Documents.{parts_from}
+use Rattle.yq_documents.specs.TreeEdits.{change_nth}
 use Rattle.yq_change.specs.Changed.{put_from}
 
 some_same : {A : Type 0} {x y : A} → Some x ≡ Some y → x ≡ y

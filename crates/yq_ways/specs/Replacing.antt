@@ -9,7 +9,7 @@ use Rattle.yq_inline.specs.Scalars.{style_of}
 use Rattle.yq_inline.specs.Written.{flow_text}
 use Rattle.yq_rows.specs.Rows.{Cut}
 use Rattle.yq_tree.specs.InlinePlaces.{InlinePlace, written_text, apart_from, inline_from}
-use Rattle.yq_tree.specs.Reading.{documents}
+use Rattle.yq_documents.specs.Reading.{documents}
 use Rattle.yq_meaning.specs.Operations.{replace, append, remove, line_comment, head_comment}
 use Rattle.yq_script.specs.Script.{Segment, keep, put}
 use Rattle.yq_ways.specs.Style.{is_same, new_style}

@@ -2,7 +2,7 @@
 use Rattle.std.specs.Prelude.{◌≡◌, ℕ, ◌≤◌, List, length, Option, Some, None}
 use Rattle.yq_scalar.specs.Characters.{text_limit}
 use Rattle.yq_rows.specs.Rows.{Cut, cut_text}
-use Rattle.yq_tree.specs.Reading.{documents, read_at, documents_of}
+use Rattle.yq_documents.specs.Reading.{documents, read_at, documents_of}
 use Rattle.yq_meaning.specs.After.{after_op}
 use Rattle.yq_meaning.specs.Fits.{Fits}
 use Rattle.yq_meaning.specs.Operations.{Operation}

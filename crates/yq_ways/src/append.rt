@@ -4,7 +4,7 @@ ghost use Rattle.yq_inline.specs.Values.{node_of};
 ghost use Rattle.yq_lines.specs.Bodies.{lent};
 ghost use Rattle.yq_scalar.specs.BlockWritten.{break_text};
 ghost use Rattle.yq_meaning.specs.Operations.{operation_of};
-ghost use Rattle.yq_tree.specs.Reading.{cut_of};
+ghost use Rattle.yq_documents.specs.Reading.{cut_of};
 ghost use Rattle.yq_ways.specs.AppendWay as spec;
 ghost use Rattle.yq_ways.specs.WayAnswers.{Carries};
 

@@ -1,6 +1,6 @@
 //! How block style looks in documents.
 ghost use Rattle.std.specs.Prelude.{◌≡◌};
-ghost use Rattle.yq_tree.specs.Reading.{cut_of};
+ghost use Rattle.yq_documents.specs.Reading.{cut_of};
 ghost use Rattle.yq_ways.specs.Layouts as spec;
 
 use yq_block::Layout;

@@ -2,7 +2,7 @@
 ghost use Rattle.std.specs.Prelude.{◌≡◌, IfOk, string_bytes};
 ghost use Rattle.yq_meaning.specs.Operations.{operation_of};
 ghost use Rattle.yq_tree.specs.CommentTelling.{end_told};
-ghost use Rattle.yq_tree.specs.Reading.{cut_of};
+ghost use Rattle.yq_documents.specs.Reading.{cut_of};
 ghost use Rattle.yq_script.specs.Segments.{segment_of};
 ghost use Rattle.yq_ways.specs.CommentWays as spec;
 ghost use Rattle.yq_ways.specs.WayAnswers.{Carries};

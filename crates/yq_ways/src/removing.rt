@@ -2,7 +2,7 @@
 ghost use Rattle.std.specs.Prelude.{◌≡◌, ◌++◌, ◌∷◌, [], ℕ, IfErr, IfOk, OnOk, Some, option_map, replicate, string_bytes};
 ghost use Rattle.yq_scalar.specs.Text.{lines_of};
 ghost use Rattle.yq_meaning.specs.Operations.{operation_of};
-ghost use Rattle.yq_tree.specs.Reading.{cut_of};
+ghost use Rattle.yq_documents.specs.Reading.{cut_of};
 ghost use Rattle.yq_tree.specs.declared.places.removal_place.Seam.{Seam as SeamOf};
 ghost use Rattle.yq_tree.specs.RemovalReading.{removal_told, seam_told};
 ghost use Rattle.yq_script.specs.Exchanging.{Exchanged, exchange_of};

@@ -1,7 +1,7 @@
 //! The way to take out the first of several items or entries of a compact collection.
 ghost use Rattle.yq_meaning.specs.Operations.{operation_of};
 ghost use Rattle.yq_tree.specs.FirstTelling.{first_told};
-ghost use Rattle.yq_tree.specs.Reading.{cut_of};
+ghost use Rattle.yq_documents.specs.Reading.{cut_of};
 ghost use Rattle.yq_script.specs.Exchanging.{Exchanged, exchange_of};
 ghost use Rattle.yq_ways.specs.RemovingFirst as spec;
 ghost use Rattle.yq_ways.specs.WayAnswers.{Carries};

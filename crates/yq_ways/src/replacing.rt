@@ -4,8 +4,8 @@ ghost use Rattle.std.specs.Prelude.{◌≡◌, IfOk, Some, option_map, string_by
 ghost use Rattle.yq_inline.specs.Values as values;
 ghost use Rattle.yq_lines.specs.Bodies.{lent};
 ghost use Rattle.yq_tree.specs.InlinePlaces as places;
-ghost use Rattle.yq_tree.specs.Nodes.{node_of};
-ghost use Rattle.yq_tree.specs.Reading.{cut_of};
+ghost use Rattle.yq_documents.specs.Nodes.{node_of};
+ghost use Rattle.yq_documents.specs.Reading.{cut_of};
 ghost use Rattle.yq_meaning.specs.Operations.{operation_of};
 ghost use Rattle.yq_ways.specs.PlaceViews.{inline_view};
 ghost use Rattle.yq_ways.specs.Replacing as spec;

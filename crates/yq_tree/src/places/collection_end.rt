@@ -7,11 +7,11 @@ ghost use Rattle.yq_scalar.specs.Text.{cut_line, is_empty};
 ghost use Rattle.yq_tree.specs.CollectionEnds as spec;
 ghost use Rattle.yq_tree.specs.CollectionTelling as telling;
 ghost use Rattle.yq_tree.specs.CollectionTelling.{collection_told};
-ghost use Rattle.yq_tree.specs.Located.{steps_of};
-ghost use Rattle.yq_tree.specs.Reading.{cut_of};
+ghost use Rattle.yq_documents.specs.Located.{steps_of};
+ghost use Rattle.yq_documents.specs.Reading.{cut_of};
 
 use crate::document::Documents;
-use crate::path::Path;
+use yq_documents::Path;
 use yq_inline::Step;
 use yq_lines::Lined;
 use yq_scalar::lines::split_line;

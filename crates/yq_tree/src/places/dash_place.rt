@@ -4,13 +4,12 @@ ghost use Rattle.yq_scalar.specs.Characters.{text_limit};
 ghost use Rattle.yq_rows.specs.View.{view};
 ghost use Rattle.yq_tree.specs.DashPlaces as spec;
 ghost use Rattle.yq_tree.specs.DashTelling as telling;
-ghost use Rattle.yq_tree.specs.Located.{steps_of};
-ghost use Rattle.yq_tree.specs.Reading.{cut_of};
+ghost use Rattle.yq_documents.specs.Located.{steps_of};
+ghost use Rattle.yq_documents.specs.Reading.{cut_of};
 
 use crate::document::Documents;
-use crate::nodes::comments::comment_text;
-use crate::path::Path;
 use crate::places::row_place::{dash_at, line_start};
+use yq_documents::{Path, comment_text};
 use yq_rows::Row;
 
 /// A dash of a text with a collection behind it on its line.

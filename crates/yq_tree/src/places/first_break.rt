@@ -3,7 +3,7 @@ ghost use Rattle.std.specs.Prelude.{◌≡◌};
 ghost use Rattle.yq_scalar.specs.Text.{front, is_return};
 ghost use Rattle.yq_rows.specs.Rows.{cut_text};
 ghost use Rattle.yq_tree.specs.FirstBreak as spec;
-ghost use Rattle.yq_tree.specs.Reading.{cut_of};
+ghost use Rattle.yq_documents.specs.Reading.{cut_of};
 
 use crate::document::Documents;
 use yq_scalar::Break;

@@ -2,12 +2,12 @@
 ghost use Rattle.std.specs.Prelude.{◌≡◌, ◌≤◌, length, option_map};
 ghost use Rattle.yq_tree.specs.FirstPlaces as spec;
 ghost use Rattle.yq_tree.specs.FirstTelling.{first_told, piece_of};
-ghost use Rattle.yq_tree.specs.Located.{steps_of};
-ghost use Rattle.yq_tree.specs.Reading.{cut_of};
+ghost use Rattle.yq_documents.specs.Located.{steps_of};
+ghost use Rattle.yq_documents.specs.Reading.{cut_of};
 
 use crate::document::Documents;
-use crate::path::Path;
 use crate::places::written::cut_at;
+use yq_documents::Path;
 use yq_inline::pieces::first_is;
 use yq_scalar::lines::split_line;
 use yq_scalar::text::{ends_line, past_white, split_spaces};

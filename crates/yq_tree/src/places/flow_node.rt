@@ -7,7 +7,7 @@ ghost use Rattle.yq_lines.specs.Spots.{reached_view};
 ghost use Rattle.yq_lines.specs.View.{flows, views};
 ghost use Rattle.yq_tree.specs.FlowNodes.{flow_collection};
 ghost use Rattle.yq_tree.specs.FlowTold as spec;
-ghost use Rattle.yq_tree.specs.Reading.{cut_of};
+ghost use Rattle.yq_documents.specs.Reading.{cut_of};
 
 use crate::document::Documents;
 use yq_inline::{Form, Inline, Step};

@@ -3,10 +3,10 @@ ghost use Rattle.std.specs.Prelude.{◌≡◌, ◌<◌, length, map, option_and_
 ghost use Rattle.yq_inline.specs.Entries.{content_place, entry_place, entry_view, step_of};
 ghost use Rattle.yq_inline.specs.Places.{Placed};
 ghost use Rattle.yq_tree.specs.EntryReading as spec;
-ghost use Rattle.yq_tree.specs.Pieces.{span};
+ghost use Rattle.yq_documents.specs.Pieces.{span};
 ghost use Rattle.yq_lines.specs.View.{flows, head_flow, views};
 
-use crate::path::Span;
+use yq_documents::Span;
 use yq_inline::{Entry, Step};
 use yq_lines::{Head, Line, Lined};
 

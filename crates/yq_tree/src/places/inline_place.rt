@@ -11,15 +11,14 @@ ghost use Rattle.yq_lines.specs.View.{views};
 ghost use Rattle.yq_tree.specs.Extents.{IsShown};
 ghost use Rattle.yq_tree.specs.InlinePlaces as places;
 ghost use Rattle.yq_tree.specs.InlineReading as spec;
-ghost use Rattle.yq_tree.specs.Lines.{lines_of};
-ghost use Rattle.yq_tree.specs.Reading.{cut_of};
+ghost use Rattle.yq_documents.specs.Lines.{lines_of};
+ghost use Rattle.yq_documents.specs.Reading.{cut_of};
 
 use crate::document::Documents;
-use crate::path::{Path, Span};
 use crate::places::entry_place::line_seat;
 use crate::places::extent::head_place;
 use crate::places::written::cut_at;
-use crate::reading::head::begins_block;
+use yq_documents::{Path, Span, begins_block};
 use yq_inline::Step;
 use yq_lines::Lined;
 use yq_rows::Rows;

@@ -3,12 +3,12 @@ ghost use Rattle.std.specs.Prelude.{◌≡◌, drop, option_map, take};
 ghost use Rattle.std.specs.Str.{IsCharBoundary};
 ghost use Rattle.yq_tree.specs.CommentPlaces as spec;
 ghost use Rattle.yq_tree.specs.CommentTelling.{end_told};
-ghost use Rattle.yq_tree.specs.Located.{steps_of};
-ghost use Rattle.yq_tree.specs.Reading.{cut_of};
+ghost use Rattle.yq_documents.specs.Located.{steps_of};
+ghost use Rattle.yq_documents.specs.Reading.{cut_of};
 
 use crate::document::Documents;
-use crate::path::Path;
 use crate::places::extent::head_place;
+use yq_documents::Path;
 use yq_scalar::lines::split_at_break;
 use yq_scalar::text::split_white;
 

@@ -2,13 +2,12 @@
 ghost use Rattle.std.specs.Prelude.{◌≡◌, option_map};
 ghost use Rattle.yq_tree.specs.CommentPlaces as spec;
 ghost use Rattle.yq_tree.specs.CommentTelling.{above_told, GapStands};
-ghost use Rattle.yq_tree.specs.Located.{steps_of};
-ghost use Rattle.yq_tree.specs.Reading.{cut_of};
+ghost use Rattle.yq_documents.specs.Located.{steps_of};
+ghost use Rattle.yq_documents.specs.Reading.{cut_of};
 
 use crate::document::Documents;
-use crate::nodes::comments::last_run;
-use crate::path::Path;
 use crate::places::extent::row_start;
+use yq_documents::{Path, last_run};
 
 /// The lines above a row of a text.
 #[derive(Clone, Copy, Debug)]

@@ -2,14 +2,14 @@
 ghost use Rattle.std.specs.Prelude.{◌≡◌, option_map};
 ghost use Rattle.yq_rows.specs.View.{view};
 ghost use Rattle.yq_tree.specs.CommentTelling.{end_told};
-ghost use Rattle.yq_tree.specs.Located.{steps_of};
+ghost use Rattle.yq_documents.specs.Located.{steps_of};
 ghost use Rattle.yq_tree.specs.MarkPlaces as spec;
 ghost use Rattle.yq_tree.specs.MarkTelling.{mark_told, EndsBehindMark};
-ghost use Rattle.yq_tree.specs.Reading.{cut_of};
+ghost use Rattle.yq_documents.specs.Reading.{cut_of};
 
 use crate::document::Documents;
-use crate::path::Path;
 use crate::places::line_end::LineEnd;
+use yq_documents::Path;
 use yq_rows::Row;
 
 /// A key or dash of a text, with the anchor behind it, if one stands there.

@@ -1,11 +1,11 @@
 //! Whether an item or entry is one of several.
 ghost use Rattle.std.specs.Prelude.{◌≡◌};
-ghost use Rattle.yq_tree.specs.Located.{steps_of};
-ghost use Rattle.yq_tree.specs.Reading.{cut_of};
+ghost use Rattle.yq_documents.specs.Located.{steps_of};
+ghost use Rattle.yq_documents.specs.Reading.{cut_of};
 ghost use Rattle.yq_tree.specs.RemovalPlaces as spec;
 
 use crate::document::Documents;
-use crate::path::Path;
+use yq_documents::Path;
 
 impl Documents<'_> {
     /// Whether the collection in which a path ends has others beside the item or entry to which it

@@ -1,11 +1,11 @@
 //! Where the parts of entries and items stand.
 ghost use Rattle.std.specs.Prelude.{◌≡◌, option_map};
-ghost use Rattle.yq_tree.specs.Pieces.{piece_span, span};
+ghost use Rattle.yq_documents.specs.Pieces.{piece_span, span};
 ghost use Rattle.yq_tree.specs.PathPieces.{piece_at};
-ghost use Rattle.yq_tree.specs.Reading.{cut_of};
+ghost use Rattle.yq_documents.specs.Reading.{cut_of};
 
 use crate::document::Documents;
-use crate::path::{Part, Path, Span};
+use yq_documents::{Part, Path, Span};
 
 impl Documents<'_> {
     /// The place of a part of the node at a path, in bytes from the start of the text; none, where the

@@ -1,11 +1,11 @@
 //! Where a text has room for comments.
 ghost use Rattle.std.specs.Prelude.{◌≡◌, ℕ};
 ghost use Rattle.yq_tree.specs.SeatReading.{numbers, told};
-ghost use Rattle.yq_tree.specs.Seats as spec;
+ghost use Rattle.yq_documents.specs.Seats as spec;
 
 use crate::document::Documents;
-use crate::path::{Part, Path};
 use crate::places::seat::Seat;
+use yq_documents::{Part, Path};
 
 /// Whether a line has room for a comment.
 fn line_has_room(seat: Seat, part: Part) -> bool

@@ -6,17 +6,16 @@ ghost use Rattle.yq_rows.specs.View.{Bound};
 ghost use Rattle.yq_scalar.specs.Characters.{text_limit};
 ghost use Rattle.yq_tree.specs.Extents as extents;
 ghost use Rattle.yq_tree.specs.Extents.{IsShown};
-ghost use Rattle.yq_tree.specs.Located.{steps_of};
-ghost use Rattle.yq_tree.specs.Reading.{cut_of};
+ghost use Rattle.yq_documents.specs.Located.{steps_of};
+ghost use Rattle.yq_documents.specs.Reading.{cut_of};
 ghost use Rattle.yq_tree.specs.RootPlaces as spec;
 ghost use Rattle.yq_tree.specs.RootReading as reading;
 
 use crate::document::Documents;
-use crate::path::Path;
 use crate::places::extent::rows_len;
 use crate::places::seat::{is_sought, left_behind};
 use crate::places::written::cut_at;
-use crate::reading::documents::{begins_document, first_is_document};
+use yq_documents::{Path, begins_document, first_is_document};
 use yq_rows::Rows;
 
 /// The place of a root.

@@ -7,13 +7,12 @@ ghost use Rattle.yq_rows.specs.View.{rows_of, shown, Slices, view};
 ghost use Rattle.yq_tree.specs.EntryReading as spec;
 ghost use Rattle.yq_tree.specs.Extents as extents;
 ghost use Rattle.yq_tree.specs.Extents.{IsShown};
-ghost use Rattle.yq_tree.specs.Pieces.{span};
+ghost use Rattle.yq_documents.specs.Pieces.{span};
 ghost use Rattle.yq_tree.specs.PrintedLines as lines;
 
-use crate::path::Span;
 use crate::places::extent::{head_place, row_start};
 use crate::places::seat::Seat;
-use crate::reading::head::begins_block;
+use yq_documents::{Span, begins_block};
 use yq_rows::{Row, Rows};
 
 /// How far it is to the dash before which so many others stand, or to the end, in bytes.

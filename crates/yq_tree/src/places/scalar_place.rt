@@ -2,17 +2,17 @@
 ghost use Rattle.std.specs.Prelude.{◌≡◌, not, option_map};
 ghost use Rattle.yq_rows.specs.View.{view};
 ghost use Rattle.yq_scalar.specs.Text.{is_empty};
-ghost use Rattle.yq_tree.specs.Located.{steps_of};
+ghost use Rattle.yq_documents.specs.Located.{steps_of};
 ghost use Rattle.yq_tree.specs.MarkPlaces as marks;
-ghost use Rattle.yq_tree.specs.Reading.{cut_of};
+ghost use Rattle.yq_documents.specs.Reading.{cut_of};
 ghost use Rattle.yq_tree.specs.ScalarPlaces as spec;
 ghost use Rattle.yq_tree.specs.ScalarTelling.{scalar_told, StandsAt};
 
 use crate::document::Documents;
-use crate::path::Path;
 use crate::places::extent::head_place;
 use crate::places::mark_place::column_of;
 use crate::places::removal_place::block_in;
+use yq_documents::Path;
 use yq_rows::Row;
 
 /// A block scalar of a text.

@@ -1,7 +1,7 @@
 //! By how many columns the collections of a document stand deeper than their keys.
 ghost use Rattle.std.specs.Prelude.{◌≡◌, length, Bool};
 ghost use Rattle.yq_lines.specs.View.{mark_view, view, views};
-ghost use Rattle.yq_tree.specs.Reading.{cut_of};
+ghost use Rattle.yq_documents.specs.Reading.{cut_of};
 ghost use Rattle.yq_tree.specs.Steps as spec;
 
 use crate::document::Documents;

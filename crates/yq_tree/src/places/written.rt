@@ -2,7 +2,7 @@
 ghost use Rattle.std.specs.Prelude.{◌≡◌, ◌≤◌, ◌-◌, Some, drop, take, true};
 ghost use Rattle.std.specs.Str.{IsCharBoundary};
 ghost use Rattle.yq_rows.specs.Grammar.{IsCut};
-ghost use Rattle.yq_tree.specs.Reading.{all_documents, cut_of, read_at};
+ghost use Rattle.yq_documents.specs.Reading.{all_documents, cut_of, read_at};
 
 use crate::document::Documents;
 

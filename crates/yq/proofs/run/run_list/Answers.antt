@@ -3,8 +3,9 @@ use Rattle.std.specs.List.{list_all}
 use Rattle.std.proofs.lemmas.Grind.{common_steps}
 use Rattle.std.proofs.lemmas.List.{append-nil, take_more}
 use Rattle.yq_store.specs.Count.{one_more}
-use Rattle.yq.specs.Lists.{IsOn, IsApart, IsStranger, Run, RunExactly, Keeps, failures_in, output_failures_in, tells_failure, tells_output}
-use Rattle.yq.specs.Shown.{shown_by}
+use Rattle.yq_commands.specs.CommandNames.{IsOn, IsStranger}
+use Rattle.yq.specs.Lists.{IsApart, Run, RunExactly, Keeps, failures_in, output_failures_in, tells_failure, tells_output}
+use Rattle.yq_commands.specs.Shown.{shown_by}
 use Rattle.yq.proofs.ListLaws.{reply, is_inside, answers_more, run_more, goes_on, exact_run, all_inside, count_more, put_told, put_more, taken_more, keeps_more, left_by, has_effect, last_more, no_command, no_answers}
 use Rattle.yq.proofs.run.run_list.Goals as goal
 

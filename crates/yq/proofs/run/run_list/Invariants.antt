@@ -1,11 +1,12 @@
 use Rattle.std.proofs.Common.{◌≡◌, ◌≢◌, ◌+◌, ◌-◌, ◌^◌, ◌<◌, ◌≤◌, ℕ, List, [], ◌∷◌, ◌++◌, Option, IsTrue, take, length, min, vec_len, vec_capacity, All}
 use Rattle.std.specs.FinMap.{get}
 use Rattle.yq_journal.specs.History.{History}
-use Rattle.yq.specs.declared.answer.Answer.{Answer}
-use Rattle.yq.specs.declared.answer.Answer.TheVariants.{Done}
-use Rattle.yq.specs.declared.command.Command.{Command}
-use Rattle.yq.specs.Lists.{AllFit, IsOn, IsStranger, Keeps, Reply, Run, Records, answers_in, printed_in, failures_in, output_failures_in}
-use Rattle.yq.specs.Pair.{GoodIn}
+use Rattle.yq_commands.specs.declared.answer.Answer.{Answer}
+use Rattle.yq_commands.specs.declared.answer.Answer.TheVariants.{Done}
+use Rattle.yq_words.specs.declared.command.Command.{Command}
+use Rattle.yq_commands.specs.CommandNames.{IsOn, IsStranger}
+use Rattle.yq.specs.Lists.{AllFit, Keeps, Reply, Run, Records, answers_in, printed_in, failures_in, output_failures_in}
+use Rattle.yq_commands.specs.Pair.{GoodIn}
 use Rattle.yq.proofs.run.run_list.Given as goal
 
 abbrev pub invariant-commands : goal.invariant-commands

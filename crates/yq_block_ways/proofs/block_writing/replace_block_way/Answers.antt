@@ -1,7 +1,7 @@
 use Rattle.std.proofs.Common.{rules, true, false, sym, ◌∙◌, subst}
 use Rattle.yq_inline.specs.Values.{node_of}
-use Rattle.yq_tree.specs.Located.{steps_of}
-use Rattle.yq_tree.specs.Reading.{cut_of}
+use Rattle.yq_documents.specs.Located.{steps_of}
+use Rattle.yq_documents.specs.Reading.{cut_of}
 use Rattle.yq_block_ways.specs.BlockWriting.{replace_block_way}
 use Rattle.yq_ways.specs.WayAnswers.{Carries}
 use Rattle.yq_block_ways.proofs.BlockWritingAnswers.{unfilled, unmarked, marked}

@@ -1,7 +1,7 @@
 use Rattle.std.proofs.Common.{◌≡◌, Some, subst}
 use Rattle.std.specs.Str.{IsUtf8}
 use Rattle.yq_tree.specs.CollectionTelling.{collection_told}
-use Rattle.yq_tree.specs.Located.{steps_of}
+use Rattle.yq_documents.specs.Located.{steps_of}
 use Rattle.yq_tree.specs.MarkTelling.{mark_told}
 use Rattle.yq_tree.specs.declared.places.collection_end.CollectionEnd.{CollectionEnd}
 use Rattle.yq_tree.specs.declared.places.mark_place.MarkPlace.{MarkPlace}

@@ -2,7 +2,7 @@ use Rattle.std.proofs.Common.{◌≡◌, Some, subst}
 use Rattle.std.specs.Str.{IsUtf8}
 use Rattle.yq_tree.specs.CollectionTelling.{collection_told}
 use Rattle.yq_tree.specs.DashTelling.{dash_told}
-use Rattle.yq_tree.specs.Located.{steps_of}
+use Rattle.yq_documents.specs.Located.{steps_of}
 use Rattle.yq_tree.specs.declared.places.collection_end.CollectionEnd.{CollectionEnd}
 use Rattle.yq_tree.specs.declared.places.dash_place.DashPlace.{DashPlace}
 use Rattle.yq_block_ways.specs.CollectionReplacing.{EndsIn}

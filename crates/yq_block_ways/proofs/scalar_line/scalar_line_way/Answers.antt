@@ -1,6 +1,6 @@
 use Rattle.std.proofs.Common.{rules, sym, option_map, subst}
 use Rattle.yq_inline.specs.Values as values
-use Rattle.yq_tree.specs.Nodes.{node_of}
+use Rattle.yq_documents.specs.Nodes.{node_of}
 use Rattle.yq_block_ways.specs.ScalarReplacing.{scalar_line_way}
 use Rattle.yq_ways.specs.WayAnswers.{Carries}
 use Rattle.yq_block_ways.proofs.ScalarAnswers.{no_line, line_there}

@@ -1,5 +1,5 @@
 use Rattle.std.proofs.lemmas.Result.{err_from_is_err_and}
-use Rattle.yq_tree.specs.Reading.{cut_of}
+use Rattle.yq_documents.specs.Reading.{cut_of}
 use Rattle.yq_meaning.specs.Operations.{operation_of}
 use Rattle.yq_carrying.specs.Carrying.{comment_ways}
 use Rattle.yq_ways.specs.CommentWays.{line_comment_way, head_comment_way}

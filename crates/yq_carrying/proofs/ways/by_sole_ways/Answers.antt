@@ -1,6 +1,6 @@
 use Rattle.std.proofs.Common.{option_map, sym, ap, ◌∙◌, subst}
 use Rattle.yq_meaning.specs.Operations.{operation_of}
-use Rattle.yq_tree.specs.Reading.{cut_of}
+use Rattle.yq_documents.specs.Reading.{cut_of}
 use Rattle.yq_carrying.specs.Carrying.{exchange_ways, sole_ways}
 use Rattle.yq_ways.specs.WayAnswers.{Carries}
 use Rattle.yq_flow_ways.proofs.SoleLaws.{sole_none, sole_some}

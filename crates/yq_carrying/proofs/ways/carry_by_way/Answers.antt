@@ -1,6 +1,6 @@
 use Rattle.std.proofs.Common.{Option, Ok, subst}
 use Rattle.yq_meaning.specs.Operations.{operation_of}
-use Rattle.yq_tree.specs.Reading.{cut_of}
+use Rattle.yq_documents.specs.Reading.{cut_of}
 use Rattle.yq_script.specs.declared.edited.Edited.{Edited}
 use Rattle.yq_ways.specs.WayAnswers.{Carries}
 use Rattle.yq_carrying.specs.Carrying.{carrying}

@@ -10,7 +10,7 @@ use Rattle.yq_inline.specs.View.{view}
 use Rattle.yq_inline.specs.Written.{flow_key, flow_text}
 use Rattle.yq_tree.specs.FlowNodes.{flow_collection}
 use Rattle.yq_tree.specs.FlowTold.{placed_collection}
-use Rattle.yq_tree.specs.Reading.{cut_of}
+use Rattle.yq_documents.specs.Reading.{cut_of}
 use Rattle.yq_flow_ways.specs.FlowWays.{edit_segments, placed_takes}
 use Rattle.yq_ways.specs.WayAnswers.{Carries}
 use Rattle.yq_flow_ways.proofs.FlowAppendAnswers.{FindsColl, append_apart, append_found}

@@ -4,7 +4,7 @@ use Rattle.yq_scalar.specs.Paths.{Step}
 use Rattle.yq_inline.specs.Entries.{step_of}
 use Rattle.yq_flow.specs.FlowPlaces.{edit_view, remove_place}
 use Rattle.yq_inline.specs.View.{view}
-use Rattle.yq_tree.specs.Reading.{cut_of}
+use Rattle.yq_documents.specs.Reading.{cut_of}
 use Rattle.yq_flow_ways.specs.FlowWays.{edit_segments, last_step}
 use Rattle.yq_ways.specs.WayAnswers.{Carries}
 use Rattle.yq_flow_ways.proofs.CutLaws.{text_read}

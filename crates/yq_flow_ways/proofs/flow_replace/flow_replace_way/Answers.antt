@@ -7,7 +7,7 @@ use Rattle.yq_flow.specs.FlowPlaces.{edit_view}
 use Rattle.yq_inline.specs.Places.{Placed}
 use Rattle.yq_inline.specs.Values.{node_of}
 use Rattle.yq_inline.specs.View.{view}
-use Rattle.yq_tree.specs.Reading.{cut_of}
+use Rattle.yq_documents.specs.Reading.{cut_of}
 use Rattle.yq_script.specs.Script.{keep}
 use Rattle.yq_flow_ways.specs.FlowWays.{edit_segments, last_step, value_text}
 use Rattle.yq_ways.specs.Replacing.{is_kept}

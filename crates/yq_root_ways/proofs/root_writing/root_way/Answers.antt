@@ -1,6 +1,6 @@
 use Rattle.std.proofs.Common.{rules, option_map, sym, subst}
 use Rattle.yq_inline.specs.Values as values
-use Rattle.yq_tree.specs.Nodes.{node_of}
+use Rattle.yq_documents.specs.Nodes.{node_of}
 use Rattle.yq_root_ways.specs.RootWriting.{root_way}
 use Rattle.yq_ways.specs.WayAnswers.{Carries}
 use Rattle.yq_root_ways.proofs.RootAnswers.{no_place, collection_there, nothing_there}

@@ -1,6 +1,6 @@
 use Rattle.std.proofs.Common.{Some, None, sym, ap, ◌∙◌}
 use Rattle.std.proofs.lemmas.Result.{err_from_is_err_and}
-use Rattle.yq_tree.specs.Reading.{read_at, cut_of}
+use Rattle.yq_documents.specs.Reading.{read_at, cut_of}
 use Rattle.yq_program.specs.View.{program_of}
 use Rattle.yq_splice.specs.Carried.{edit_of}
 use Rattle.yq_splice.specs.Edit.{gives}

@@ -2,7 +2,7 @@ use Rattle.std.proofs.Common.{◌≡◌, ℕ, List, Some, sym, ap, subst, ◌∙
 use Rattle.std.proofs.lemmas.Result.{err_from_is_err_and}
 use Rattle.std.specs.Prelude.{Vec}
 use Rattle.std.specs.declared.alloc.Global.{Global}
-use Rattle.yq_tree.specs.Reading.{cut_of, read_at}
+use Rattle.yq_documents.specs.Reading.{cut_of, read_at}
 use Rattle.yq_meaning.specs.Operations.{Operation, operations_of}
 use Rattle.yq_meaning.specs.declared.op.Op.{Op}
 use Rattle.yq_splice.specs.Answers.{Edits}

@@ -1,6 +1,6 @@
 use Rattle.std.proofs.Common.{rules, Some, None, true, false, option_map, string_bytes, sym, ap, ◌∙◌, subst}
 use Rattle.yq_inline.specs.Values as values
-use Rattle.yq_tree.specs.Nodes.{node_of}
+use Rattle.yq_documents.specs.Nodes.{node_of}
 use Rattle.yq_tree.specs.InlinePlaces.{apart_from, written_text}
 use Rattle.yq_ways.specs.Replacing.{replace_way, place_segments, replace_at}
 use Rattle.yq_ways.specs.WayAnswers.{Carries}

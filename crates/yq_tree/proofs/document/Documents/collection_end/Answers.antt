@@ -5,9 +5,9 @@ use Rattle.yq_inline.specs.Entries.{step_of}
 use Rattle.yq_lines.specs.View.{views}
 use Rattle.yq_tree.specs.CollectionEnds.{collection_end}
 use Rattle.yq_tree.specs.CollectionTelling.{collection_told, column_of}
-use Rattle.yq_tree.specs.Located.{steps_of}
-use Rattle.yq_tree.specs.Pieces.{span}
-use Rattle.yq_tree.specs.Reading.{cut_of}
+use Rattle.yq_documents.specs.Located.{steps_of}
+use Rattle.yq_documents.specs.Pieces.{span}
+use Rattle.yq_documents.specs.Reading.{cut_of}
 use Rattle.yq_tree.proofs.CollectionSpans.{column_at}
 use Rattle.yq_tree.proofs.CollectionTold.{column_held, none_held, end_told, no_content, end_boundary, with_column, without_column, end_same}
 use Rattle.yq_tree.proofs.document.Documents.collection_end.Goals as goal

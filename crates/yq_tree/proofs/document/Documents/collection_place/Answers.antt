@@ -1,7 +1,7 @@
 use Rattle.std.proofs.Common.{List, ℕ, ◌-◌, take, drop, sym, ap, ◌∙◌, subst}
 use Rattle.std.specs.Str.{IsUtf8, IsCharBoundary}
 use Rattle.yq_tree.specs.CollectionTelling as telling
-use Rattle.yq_tree.specs.Pieces.{span}
+use Rattle.yq_documents.specs.Pieces.{span}
 use Rattle.yq_tree.proofs.RootTold.{cut_out, collection_told}
 use Rattle.yq_tree.proofs.document.Documents.collection_place.Goals as goal
 

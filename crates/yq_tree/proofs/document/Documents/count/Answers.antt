@@ -1,5 +1,5 @@
 use Rattle.std.proofs.Common.{◌≡◌, length, rules, ap, ◌∙◌}
-use Rattle.yq_tree.specs.Reading.{documents_of}
+use Rattle.yq_documents.specs.Reading.{documents_of}
 use Rattle.yq_tree.proofs.AllLaws.{count_held}
 use Rattle.yq_tree.proofs.document.Documents.count.Goals as goal
 

@@ -3,10 +3,10 @@ use Rattle.std.specs.Str.{IsUtf8}
 use Rattle.yq_rows.specs.View.{view}
 use Rattle.yq_tree.specs.DashPlaces as spec
 use Rattle.yq_tree.specs.DashTelling as telling
-use Rattle.yq_tree.specs.Located.{steps_of}
-use Rattle.yq_tree.specs.Reading.{cut_of}
+use Rattle.yq_documents.specs.Located.{steps_of}
+use Rattle.yq_documents.specs.Reading.{cut_of}
 use Rattle.yq_tree.specs.SeatReading.{told, numbers}
-use Rattle.yq_tree.specs.Seats.{document_row, seat_at}
+use Rattle.yq_documents.specs.Seats.{document_row, seat_at}
 use Rattle.yq_tree.proofs.DashLaws.{column_fits, dash_boundary, dash_there, last_line_dash, no_row_dash, start_fits}
 use Rattle.yq_tree.proofs.SeatedLaws.{row_within}
 use Rattle.yq_tree.proofs.document.Documents.dash_place.Goals as goal

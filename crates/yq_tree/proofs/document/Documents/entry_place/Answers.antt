@@ -1,13 +1,13 @@
 use Rattle.std.proofs.Common.{map, option_map, refl, sym, ap, ◌∙◌}
 use Rattle.std.proofs.lemmas.Option.{slice_get_read}
 use Rattle.yq_inline.specs.Entries.{step_of}
-use Rattle.yq_tree.specs.declared.path.Part.TheVariants as parts
+use Rattle.yq_documents.specs.declared.path.Part.TheVariants as parts
 use Rattle.yq_tree.specs.EntryReading.{entry_of, first_row}
 use Rattle.yq_scalar.specs.Answers.{◌>>=◌}
-use Rattle.yq_tree.specs.Located.{steps_of}
-use Rattle.yq_tree.specs.Pieces.{piece_span}
+use Rattle.yq_documents.specs.Located.{steps_of}
+use Rattle.yq_documents.specs.Pieces.{piece_span}
 use Rattle.yq_tree.specs.PathPieces.{piece_in, piece_at}
-use Rattle.yq_tree.specs.Reading.{cut_of}
+use Rattle.yq_documents.specs.Reading.{cut_of}
 use Rattle.yq_tree.proofs.EntryPlaceLaws.{first_within, held_in}
 use Rattle.yq_tree.proofs.PieceHolds.{no_document, spans_are}
 use Rattle.yq_tree.proofs.document.Documents.entry_place.Goals as goal

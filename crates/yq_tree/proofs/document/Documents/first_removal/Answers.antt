@@ -2,7 +2,7 @@ use Rattle.std.proofs.Common.{ℕ, List, ◌-◌, Some, take, drop, sym, ap, ◌
 use Rattle.std.specs.Str.{IsUtf8, IsCharBoundary}
 use Rattle.yq_tree.specs.FirstPlaces.{first_out}
 use Rattle.yq_tree.specs.FirstTelling.{piece_of}
-use Rattle.yq_tree.specs.Reading.{cut_of}
+use Rattle.yq_documents.specs.Reading.{cut_of}
 use Rattle.yq_tree.specs.SeatReading.{told}
 use Rattle.yq_tree.proofs.FirstLaws.{entry_stands, first_is, no_first_entry, no_first_seat, other_first_line}
 use Rattle.yq_tree.proofs.document.Documents.first_removal.Goals as goal

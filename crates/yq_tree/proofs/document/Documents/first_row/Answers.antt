@@ -1,6 +1,6 @@
 use Rattle.std.proofs.Common.{rules, ◌≡◌, length, ap, ◌∙◌, arith}
 use Rattle.yq_tree.specs.EntryReading.{first_row}
-use Rattle.yq_tree.specs.Reading.{cut_of}
+use Rattle.yq_documents.specs.Reading.{cut_of}
 use Rattle.yq_tree.specs.SeatReading.{begin_row}
 use Rattle.yq_tree.proofs.EntryPlaceLaws.{first_told, first_past}
 use Rattle.yq_tree.proofs.document.Documents.first_row.Goals as goal

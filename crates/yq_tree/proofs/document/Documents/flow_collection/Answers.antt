@@ -8,7 +8,7 @@ use Rattle.yq_inline.specs.Places.{Placed}
 use Rattle.yq_lines.specs.View.{flows}
 use Rattle.yq_tree.specs.FlowNodes.{flow_collection}
 use Rattle.yq_tree.specs.FlowTold.{placed_collection, collection_along, head_at}
-use Rattle.yq_tree.specs.Reading.{cut_of}
+use Rattle.yq_documents.specs.Reading.{cut_of}
 use Rattle.yq_tree.proofs.FlowNodeLaws.{collection_told, held_collection, no_collection}
 use Rattle.yq_tree.proofs.document.Documents.flow_collection.Goals as goal
 

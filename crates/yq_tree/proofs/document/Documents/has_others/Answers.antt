@@ -1,9 +1,9 @@
 use Rattle.std.proofs.Common.{◌≡◌, ◌-◌, ◌<◌, length, take, map, ◌∙◌, arith}
 use Rattle.yq_inline.specs.Entries.{step_of}
 use Rattle.yq_scalar.specs.Paths.{node_at}
-use Rattle.yq_tree.specs.Located.{steps_of}
-use Rattle.yq_tree.specs.Nodes.{node_of}
-use Rattle.yq_tree.specs.Reading.{cut_of, documents_of}
+use Rattle.yq_documents.specs.Located.{steps_of}
+use Rattle.yq_documents.specs.Nodes.{node_of}
+use Rattle.yq_documents.specs.Reading.{cut_of, documents_of}
 use Rattle.yq_tree.proofs.OthersLaws.{others_none, others_some, steps_above, there_is}
 use Rattle.yq_tree.proofs.document.Documents.has_others.Goals as goal
 

@@ -7,8 +7,8 @@ use Rattle.yq_scalar.specs.Answers.{◌>>=◌}
 use Rattle.yq_tree.specs.EntryReading.{first_row}
 use Rattle.yq_tree.specs.InlinePlaces.{inline_in, inline_place}
 use Rattle.yq_tree.specs.InlineReading.{extent_of, extent_in}
-use Rattle.yq_tree.specs.Located.{steps_of}
-use Rattle.yq_tree.specs.Reading.{cut_of}
+use Rattle.yq_documents.specs.Located.{steps_of}
+use Rattle.yq_documents.specs.Reading.{cut_of}
 use Rattle.yq_tree.proofs.EntryPlaceLaws.{first_within, held_in}
 use Rattle.yq_tree.proofs.InlineHolds.{inline_spans_are}
 use Rattle.yq_tree.proofs.PieceHolds.{no_document}

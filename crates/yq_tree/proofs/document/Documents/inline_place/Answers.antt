@@ -1,7 +1,7 @@
 use Rattle.std.proofs.Common.{ℕ, List, ◌-◌, take, drop, sym, ap, ◌∙◌, subst}
 use Rattle.std.specs.Str.{IsUtf8, IsCharBoundary}
 use Rattle.yq_tree.specs.InlineReading.{InlineExtent, extent_view}
-use Rattle.yq_tree.specs.Reading.{cut_of}
+use Rattle.yq_documents.specs.Reading.{cut_of}
 use Rattle.yq_tree.proofs.InlineHolds.{is_inline_at, inline_ends, inline_telling_is}
 use Rattle.yq_tree.proofs.document.Documents.inline_place.Goals as goal
 

@@ -1,7 +1,7 @@
 use Rattle.std.proofs.Common.{refl, ap, ◌∙◌, length, arith}
 use Rattle.std.proofs.lemmas.Option.{slice_get_read}
-use Rattle.yq_tree.specs.Located.{document_at}
-use Rattle.yq_tree.specs.Reading.{documents_of}
+use Rattle.yq_documents.specs.Located.{document_at}
+use Rattle.yq_documents.specs.Reading.{documents_of}
 use Rattle.yq_tree.proofs.AllLaws.{count_held, told_held}
 use Rattle.yq_tree.proofs.document.Documents.lead.Goals as goal
 

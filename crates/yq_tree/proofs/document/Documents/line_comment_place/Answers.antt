@@ -1,11 +1,11 @@
 use Rattle.std.proofs.Common.{option_map, sym, ap, ◌∙◌}
 use Rattle.yq_tree.specs.CommentReading.{line_comment_in, line_comment_span}
-use Rattle.yq_tree.specs.declared.path.Part.TheVariants as parts
-use Rattle.yq_tree.specs.Pieces.{piece_span}
+use Rattle.yq_documents.specs.declared.path.Part.TheVariants as parts
+use Rattle.yq_documents.specs.Pieces.{piece_span}
 use Rattle.yq_tree.specs.PathPieces.{piece_at}
-use Rattle.yq_tree.specs.Reading.{cut_of}
+use Rattle.yq_documents.specs.Reading.{cut_of}
 use Rattle.yq_tree.specs.SeatReading.{told, numbers}
-use Rattle.yq_tree.specs.Seats.{document_row, seat_at}
+use Rattle.yq_documents.specs.Seats.{document_row, seat_at}
 use Rattle.yq_tree.proofs.CommentPlaceLaws.{line_told}
 use Rattle.yq_tree.proofs.HeldLaws.{held_shown}
 use Rattle.yq_tree.proofs.CommentSpans.{comment_spans}

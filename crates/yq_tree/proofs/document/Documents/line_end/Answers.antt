@@ -1,10 +1,10 @@
 use Rattle.std.proofs.Common.{option_map, sym, ap, ◌∙◌}
 use Rattle.yq_tree.specs.CommentPlaces as spec
 use Rattle.yq_tree.specs.CommentTelling.{end_told}
-use Rattle.yq_tree.specs.Located.{steps_of}
-use Rattle.yq_tree.specs.Reading.{cut_of}
+use Rattle.yq_documents.specs.Located.{steps_of}
+use Rattle.yq_documents.specs.Reading.{cut_of}
 use Rattle.yq_tree.specs.SeatReading.{told, numbers}
-use Rattle.yq_tree.specs.Seats.{document_row, seat_at}
+use Rattle.yq_documents.specs.Seats.{document_row, seat_at}
 use Rattle.yq_tree.proofs.CommentEndLaws.{no_line_end, other_line_end, line_boundary, line_end_is}
 use Rattle.yq_tree.proofs.SeatedLaws.{row_within}
 use Rattle.yq_tree.proofs.document.Documents.line_end.Goals as goal

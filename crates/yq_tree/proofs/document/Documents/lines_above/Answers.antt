@@ -2,10 +2,10 @@ use Rattle.std.proofs.Common.{option_map, sym, ap, ◌∙◌, subst}
 use Rattle.std.specs.Str.{IsUtf8}
 use Rattle.yq_tree.specs.CommentPlaces as spec
 use Rattle.yq_tree.specs.CommentTelling.{above_told}
-use Rattle.yq_tree.specs.Located.{steps_of}
-use Rattle.yq_tree.specs.Reading.{cut_of}
+use Rattle.yq_documents.specs.Located.{steps_of}
+use Rattle.yq_documents.specs.Reading.{cut_of}
 use Rattle.yq_tree.specs.SeatReading.{told, numbers}
-use Rattle.yq_tree.specs.Seats.{document_row, seat_at}
+use Rattle.yq_documents.specs.Seats.{document_row, seat_at}
 use Rattle.yq_rows.specs.View.{Slices}
 use Rattle.yq_tree.proofs.CommentEndLaws.{row_same, no_lines_above, other_lines_above, gap_stands, lines_above_is}
 use Rattle.yq_tree.proofs.SeatedLaws.{row_within}

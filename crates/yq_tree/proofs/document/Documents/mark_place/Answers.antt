@@ -2,12 +2,12 @@ use Rattle.std.proofs.Common.{option_map, sym, ap, ◌∙◌}
 use Rattle.yq_rows.specs.View.{view}
 use Rattle.yq_tree.specs.CommentPlaces.{line_end}
 use Rattle.yq_tree.specs.CommentTelling.{end_told}
-use Rattle.yq_tree.specs.Located.{steps_of}
+use Rattle.yq_documents.specs.Located.{steps_of}
 use Rattle.yq_tree.specs.MarkPlaces as spec
 use Rattle.yq_tree.specs.MarkTelling.{mark_told}
-use Rattle.yq_tree.specs.Reading.{cut_of}
+use Rattle.yq_documents.specs.Reading.{cut_of}
 use Rattle.yq_tree.specs.SeatReading.{told, numbers}
-use Rattle.yq_tree.specs.Seats.{document_row, seat_at}
+use Rattle.yq_documents.specs.Seats.{document_row, seat_at}
 use Rattle.yq_tree.proofs.MarkLaws.{no_line_mark, no_row_mark, ends_there, mark_there}
 use Rattle.yq_tree.proofs.SeatedLaws.{row_within}
 use Rattle.yq_tree.proofs.document.Documents.mark_place.Goals as goal

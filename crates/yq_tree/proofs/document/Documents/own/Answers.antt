@@ -2,7 +2,7 @@ use Rattle.std.proofs.Common.{map, option_map, refl, sym, ap, ◌∙◌}
 use Rattle.std.proofs.lemmas.Option.{slice_get_read}
 use Rattle.yq_inline.specs.Entries.{step_of}
 use Rattle.yq_tree.specs.EntryReading.{first_row}
-use Rattle.yq_tree.specs.Reading.{cut_of}
+use Rattle.yq_documents.specs.Reading.{cut_of}
 use Rattle.yq_tree.specs.RemovalPlaces.{own_rows}
 use Rattle.yq_tree.specs.RemovalReading.{marks, marks_at}
 use Rattle.yq_tree.proofs.EntryPlaceLaws.{first_within, held_in}

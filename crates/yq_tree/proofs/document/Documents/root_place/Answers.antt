@@ -2,7 +2,7 @@ use Rattle.std.proofs.Common.{rules, ◌≡◌, length, option_map, sym, ap, ◌
 use Rattle.std.proofs.lemmas.Bool.{eqb-true}
 use Rattle.std.specs.Vec.{vec_len}
 use Rattle.yq_inline.specs.Entries.{step_of}
-use Rattle.yq_tree.specs.Reading.{cut_of}
+use Rattle.yq_documents.specs.Reading.{cut_of}
 use Rattle.yq_tree.specs.RootReading.{root_told}
 use Rattle.yq_tree.proofs.RootTold.{root_written, root_unwritten, no_steps}
 use Rattle.yq_tree.proofs.document.Documents.root_place.Goals as goal

@@ -1,11 +1,11 @@
 use Rattle.std.proofs.Common.{option_map, sym, ap, ◌∙◌}
 use Rattle.yq_rows.specs.View.{view}
-use Rattle.yq_tree.specs.Located.{steps_of}
-use Rattle.yq_tree.specs.Reading.{cut_of}
+use Rattle.yq_documents.specs.Located.{steps_of}
+use Rattle.yq_documents.specs.Reading.{cut_of}
 use Rattle.yq_tree.specs.ScalarPlaces as spec
 use Rattle.yq_tree.specs.ScalarTelling.{scalar_told}
 use Rattle.yq_tree.specs.SeatReading.{told, numbers}
-use Rattle.yq_tree.specs.Seats.{document_row, seat_at}
+use Rattle.yq_documents.specs.Seats.{document_row, seat_at}
 use Rattle.yq_tree.proofs.ScalarPlaceLaws.{no_scalar, other_scalar, no_scalar_there, stands_there, scalar_there}
 use Rattle.yq_tree.proofs.SeatedLaws.{row_within}
 use Rattle.yq_tree.proofs.document.Documents.scalar_place.Goals as goal

@@ -2,9 +2,9 @@ use Rattle.std.proofs.Common.{map, option_map, refl, sym, ap, ◌∙◌}
 use Rattle.std.proofs.lemmas.Option.{slice_get_read}
 use Rattle.yq_inline.specs.Entries.{step_of}
 use Rattle.yq_tree.specs.EntryReading.{first_row}
-use Rattle.yq_tree.specs.Reading.{cut_of}
+use Rattle.yq_documents.specs.Reading.{cut_of}
 use Rattle.yq_tree.specs.SeatReading.{numbers}
-use Rattle.yq_tree.specs.Seats.{document_row, seat_at, seat_of}
+use Rattle.yq_documents.specs.Seats.{document_row, seat_at, seat_of}
 use Rattle.yq_tree.proofs.EntryPlaceLaws.{first_within, held_in, held_none, seat_numbered}
 use Rattle.yq_tree.proofs.document.Documents.seat.Goals as goal
 

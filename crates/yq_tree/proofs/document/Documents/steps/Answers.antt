@@ -1,7 +1,7 @@
 use Rattle.std.proofs.Common.{rules, ◌≡◌, true, false, length, refl, ap, ◌∙◌, arith}
 use Rattle.std.proofs.lemmas.Option.{slice_get_read}
 use Rattle.yq_lines.specs.View.{views}
-use Rattle.yq_tree.specs.Reading.{cut_of}
+use Rattle.yq_documents.specs.Reading.{cut_of}
 use Rattle.yq_tree.specs.Steps.{Steps, first_step, is_kind, document_steps}
 use Rattle.yq_tree.proofs.StepLaws.{steps_held}
 use Rattle.yq_tree.proofs.document.Documents.steps.Goals as goal

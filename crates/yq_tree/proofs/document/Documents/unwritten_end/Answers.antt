@@ -1,6 +1,6 @@
 use Rattle.std.proofs.Common.{rules, ◌≡◌, length, Some, option_map, refl, sym, ap, ◌∙◌, arith}
 use Rattle.std.proofs.lemmas.Option.{slice_get_read}
-use Rattle.yq_tree.specs.Reading.{cut_of}
+use Rattle.yq_documents.specs.Reading.{cut_of}
 use Rattle.yq_tree.specs.RootPlaces.{RootPlace}
 use Rattle.yq_tree.specs.RootReading.{unwritten_at}
 use Rattle.yq_tree.proofs.RootPlaceLaws.{past_none, written_none, end_there, no_end, told_bound}

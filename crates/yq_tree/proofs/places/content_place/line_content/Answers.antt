@@ -2,7 +2,7 @@ use Rattle.std.proofs.Common.{◌<◌, ◌+◌, suc, ◌≡◌, List, length, ap
 use Rattle.std.specs.List.{slice_get}
 use Rattle.yq_tree.specs.EntryReading.{lines_content}
 use Rattle.yq_lines.specs.Ends.{lines_end}
-use Rattle.yq_tree.specs.Lines.{lines_of}
+use Rattle.yq_documents.specs.Lines.{lines_of}
 use Rattle.yq_lines.specs.Outline.{Line}
 use Rattle.yq_tree.proofs.EntryPlaceLaws.{line_some}
 use Rattle.yq_tree.proofs.places.content_place.line_content.Goals as goal

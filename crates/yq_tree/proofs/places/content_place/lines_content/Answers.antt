@@ -1,6 +1,6 @@
 use Rattle.std.proofs.Common.{◌<◌, ◌-◌, List, length, ap, ◌∙◌, arith}
 use Rattle.std.specs.List.{slice_get}
-use Rattle.yq_tree.specs.Lines.{lines_of}
+use Rattle.yq_documents.specs.Lines.{lines_of}
 use Rattle.yq_lines.specs.Outline.{Line}
 use Rattle.yq_tree.proofs.EntryPlaceLaws.{lines_none, lines_some}
 use Rattle.yq_tree.proofs.places.content_place.lines_content.Goals as goal

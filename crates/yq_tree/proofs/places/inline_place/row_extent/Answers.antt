@@ -1,6 +1,6 @@
 use Rattle.std.proofs.Common.{sym, ap, ◌∙◌}
 use Rattle.yq_rows.specs.View.{view}
-use Rattle.yq_tree.specs.RowReading.{begins_block}
+use Rattle.yq_documents.specs.RowReading.{begins_block}
 use Rattle.yq_tree.proofs.InlineTold.{row_block, row_inline}
 use Rattle.yq_tree.proofs.places.inline_place.row_extent.Goals as goal
 

@@ -1,7 +1,7 @@
 use Rattle.std.proofs.Common.{◌≡◌, ◌<◌, ℕ, ◌+◌, ◌-◌, Some, option_map, sym, ap, ◌∙◌, arith}
 use Rattle.std.specs.List.{slice_get}
 use Rattle.yq_rows.specs.View.{rows_of}
-use Rattle.yq_tree.specs.Reading.{cut_of}
+use Rattle.yq_documents.specs.Reading.{cut_of}
 use Rattle.yq_tree.specs.RemovalReading.{block_numbers}
 use Rattle.yq_tree.proofs.RemovalBounds.{last_row}
 use Rattle.yq_tree.proofs.SeatedLaws.{get_drop, get_front}

@@ -2,7 +2,7 @@ use Rattle.std.proofs.Common.{rules, ℕ, option_map, sym, ap, ◌∙◌, SFits,
 use Rattle.std.proofs.lemmas.Int.{to_z-of_z}
 use Rattle.yq_rows.specs.View.{view}
 use Rattle.yq_tree.specs.RemovalReading.{block_numbers}
-use Rattle.yq_tree.specs.RowReading.{begins_block}
+use Rattle.yq_documents.specs.RowReading.{begins_block}
 use Rattle.yq_tree.proofs.BlockRowLaws.{block_boundary, block_told}
 use Rattle.yq_tree.proofs.places.removal_place.block_in.Goals as goal
 

@@ -2,7 +2,7 @@ use Rattle.std.proofs.Common.{◌+◌, ◌-◌, ℕ, ◌++◌, length, length-ap
 use Rattle.yq_scalar.specs.Text.{joined, lines_of}
 use Rattle.yq_rows.specs.Removal.{last_block}
 use Rattle.yq_rows.specs.View.{view}
-use Rattle.yq_tree.specs.Pieces.{before_run}
+use Rattle.yq_documents.specs.Pieces.{before_run}
 use Rattle.yq_tree.specs.RemovalPlaces.{seam_behind, rows_out}
 use Rattle.yq_tree.specs.RemovalReading.{Marks, block_numbers}
 use Rattle.yq_tree.proofs.RemovalTold.{code_told, out_told}

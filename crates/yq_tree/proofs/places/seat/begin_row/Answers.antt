@@ -2,7 +2,7 @@ use Rattle.std.proofs.Common.{◌∙◌, ◌+◌, drop, sym, ap}
 use Rattle.yq_rows.specs.Grammar.{begins_document}
 use Rattle.yq_rows.specs.View.{bound_view}
 use Rattle.yq_tree.specs.SeatReading.{begin_row}
-use Rattle.yq_tree.proofs.PartLineLaws.{drop_step}
+use Rattle.yq_documents.proofs.PartLineLaws.{drop_step}
 use Rattle.yq_tree.proofs.SeatLaws.{begin_here, begin_later}
 use Rattle.yq_tree.proofs.places.seat.begin_row.Goals as goal
 

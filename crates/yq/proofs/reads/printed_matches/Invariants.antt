@@ -1,9 +1,0 @@
-use Rattle.std.proofs.Common.{◌≡◌, ◌++◌, None, drop}
-use Rattle.std.specs.String.{string_bytes}
-use Rattle.yq_expr.specs.MatchView.{matches_of}
-use Rattle.yq.specs.Reads.{matches_behind}
-use Rattle.yq.proofs.reads.printed_matches.Given as goal
-
-abbrev pub invariant-matches : goal.invariant-matches
-invariant-matches l =
-    string_bytes l.printed ++ matches_behind l.no_doc l.last (matches_of (drop l.found-index l.matches)) ≡ matches_behind l.no_doc None (matches_of l.matches)

@@ -1,0 +1,25 @@
+use Rattle.std.proofs.Common.{sym, ap, subst}
+use Rattle.std.proofs.lemmas.Result.{err_from_is_err_and}
+use Rattle.yq_commands.specs.Effects.{Works, edit_effect}
+use Rattle.yq_commands.specs.Editing.{edits}
+use Rattle.yq_commands.specs.Faults.{is_outside}
+use Rattle.yq_commands.proofs.EditLaws.{edit_ends}
+use Rattle.yq_commands.proofs.EffectLaws.{edit_works, works_outside}
+use Rattle.yq_commands.proofs.edit.commit.Goals as goal
+
+pub returns-clause-arrives : goal.returns-clause-arrives
+returns-clause-arrives g c = λ keeps apart h p k gives.
+    let e = c.carry_out.ensures in
+    edit_ends _ _ _ h _ p _ _ k _ _ _ _ c.in_ok-edit.ensures gives c.requires.changes c.carry_out.result (e.ok keeps apart h k) (e.err keeps apart h k) e.free e.fault (e.barred keeps)
+
+pub returns-in_err-edit-clause-effect : goal.returns-in_err-edit-clause-effect
+returns-in_err-edit-clause-effect g c = λ keeps apart p gives.
+    let r = err_from_is_err_and c.from_residual.result c.from_residual.ensures.1 in
+    let content = g.D.Store.content c.args.store.now in
+    let effect = edit_effect c.args.expr.now (edits p c.args.old.now) c.args.old.now c.args.journal.now in
+    subst (Works effect c.args.file.now c.args.name.now content content) (sym r.1) (works_outside (Unit {0}) effect c.args.file.now c.args.name.now content r.0 (ap is_outside r.2))
+
+pub returns-clause-effect : goal.returns-clause-effect
+returns-clause-effect g c = λ keeps apart p gives.
+    let e = c.carry_out.ensures in
+    edit_works c.args.file.now c.args.name.now (g.D.Store.content c.args.store.now) c.args.expr.now c.args.journal.now c.args.old.now (edits p c.args.old.now) _ _ _ c.in_ok-edit.ensures gives c.requires.changes e.leads _ c.carry_out.result (e.text keeps apart) (e.moved keeps) e.fault e.refused (e.barred keeps)

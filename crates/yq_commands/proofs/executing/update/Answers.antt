@@ -1,0 +1,34 @@
+use Rattle.std.proofs.Common.{ℕ, List, Err, sym, ap, ◌∙◌, Some}
+use Rattle.yq_journal.specs.State.{State}
+use Rattle.std.proofs.lemmas.Result.{err_from_is_err_and}
+use Rattle.yq_program.specs.View.{program_of}
+use Rattle.yq_commands.specs.Editing.{edits}
+use Rattle.yq_commands.specs.Effects.{edit_effect}
+use Rattle.yq_commands.proofs.EditLaws.{recorded_by}
+use Rattle.yq_commands.proofs.EffectLaws.{not_opened, from_opened, not_parsed, parsed_works}
+use Rattle.yq_commands.proofs.executing.update.Goals as goal
+
+pub returns-clause-recorded : goal.returns-clause-recorded
+returns-clause-recorded g c = λ keeps.
+    recorded_by c.edit_from.result (program_of c.in_ok-program.program) c.as_slice.result.now c.args.expr.now _ _
+    c.in_ok-program.ensures.ok (c.in_ok-text.ensures.text keeps ∙ ap Some (sym c.as_slice.ensures.value)) (c.edit_from.ensures.recorded keeps)
+
+pub returns-in_err-program-clause-effect : goal.returns-in_err-program-clause-effect
+returns-in_err-program-clause-effect g c = λ keeps apart.
+    let p = err_from_is_err_and c.from_residual.result c.from_residual.ensures.1 in
+    not_parsed _ _ (g.D.Store.content c.args.store.now) c.args.expr.now _ _ c.from_residual.result _ (p.1 ∙ ap Err p.2) c.in_err-program.ensures.err
+
+pub returns-in_err-text-clause-effect : goal.returns-in_err-text-clause-effect
+returns-in_err-text-clause-effect g c = λ keeps apart.
+    let p = err_from_is_err_and c.from_residual-in_err-text.result c.from_residual-in_err-text.ensures.1 in
+    let does = λ (t : List ℕ) (s : State). edit_effect c.args.expr.now (edits (program_of c.in_ok-program.program) t) t s in
+    parsed_works _ _ (g.D.Store.content c.args.store.now) _ c.args.expr.now (program_of c.in_ok-program.program) _ _ c.from_residual-in_err-text.result c.in_ok-program.ensures.ok
+    (not_opened _ _ does _ _ _ _ c.from_residual-in_err-text.result _ (p.1 ∙ ap Err p.2) (c.in_err-text.ensures.same keeps) (c.in_err-text.ensures.missed keeps))
+
+pub returns-clause-effect : goal.returns-clause-effect
+returns-clause-effect g c = λ keeps apart.
+    let does = λ (t : List ℕ) (s : State). edit_effect c.args.expr.now (edits (program_of c.in_ok-program.program) t) t s in
+    parsed_works _ _ (g.D.Store.content c.args.store.now) _ c.args.expr.now (program_of c.in_ok-program.program) _ _ c.edit_from.result c.in_ok-program.ensures.ok
+    (from_opened _ _ does _ _ (g.D.Store.content c.args.store.now) _ _ c.as_slice.result.now c.in_ok-text.journal c.edit_from.result (c.in_ok-text.ensures.same keeps)
+    (c.in_ok-text.ensures.found keeps does ∙ ap (λ t. does t c.in_ok-text.journal) (sym c.as_slice.ensures.value))
+    (c.edit_from.ensures.effect keeps apart))

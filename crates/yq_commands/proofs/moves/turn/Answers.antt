@@ -1,0 +1,25 @@
+use Rattle.std.proofs.Common.{inl, inr, refl}
+use Rattle.yq_commands.proofs.MoveLaws.{turned, same_content, on_ok_map, on_err_map, either}
+use Rattle.std.proofs.Common.{ap, ◌∙◌, Some}
+use Rattle.yq_journal.specs.State.{moved}
+use Rattle.yq_commands.specs.Walks.{step_of}
+use Rattle.yq_commands.proofs.EffectLaws.{reads_back, way_free}
+use Rattle.yq_commands.proofs.moves.turn.Goals as goal
+
+pub returns-clause-ok : goal.returns-clause-ok
+returns-clause-ok g c = λ keeps file apart h k.
+    on_ok_map _ (c.write_journal.ensures.ok keeps) (turned _ _ apart _ _ _ _ _ _ _ k c.requires.equal _ refl c.in_ok-make.ensures.moved)
+
+pub returns-clause-err : goal.returns-clause-err
+returns-clause-err g c = λ keeps file apart h k. on_err_map _ (c.write_journal.ensures.err keeps)
+    (λ x. either x (λ same. inl (same_content _ _ _ _ _ same k.stands)) (λ w. inr (turned _ _ apart _ _ _ _ _ _ _ k c.requires.equal _ refl c.in_ok-make.ensures.moved w)))
+
+pub returns-clause-moved : goal.returns-clause-moved
+returns-clause-moved g c = λ keeps.
+    on_ok_map _ (c.write_journal.ensures.ok keeps) (λ w. reads_back _ _ _ _ w ∙ ap Some c.in_ok-make.ensures.moved)
+
+pub returns-clause-leads : goal.returns-clause-leads
+returns-clause-leads g c = way_free c.args.journal.now.records c.args.journal.now.at (step_of c.args.walk) c.args.text.now c.args.text.now (moved c.args.journal.now (step_of c.args.walk)) c.requires.way c.requires.equal
+
+pub returns-in_err-make-clause-leads : goal.returns-in_err-make-clause-leads
+returns-in_err-make-clause-leads g c = way_free c.args.journal.now.records c.args.journal.now.at (step_of c.args.walk) c.args.text.now c.args.text.now (moved c.args.journal.now (step_of c.args.walk)) c.requires.way c.requires.equal

@@ -1,0 +1,46 @@
+-- What an expression that isn't carried out in place shows of a file (own).
+use Rattle.std.specs.Prelude.{ℕ, Bool, List, Option, Some, None, option_map, Result, Ok, Err}
+use Rattle.yq_scalar.specs.Tree.{Node}
+use Rattle.yq_documents.specs.Documents.{Document}
+use Rattle.yq_documents.specs.Reading.{documents, read_at}
+use Rattle.yq_meaning.specs.Copies.{matches}
+use Rattle.yq_meaning.specs.Judgement.{Judgement, gives, refuses}
+use Rattle.yq_program.specs.Program.{Program, Stage, read, updates}
+use Rattle.yq_journal.specs.History.{History, text_at}
+use Rattle.yq_commands.specs.declared.fault.Fault.{Fault}
+use Rattle.yq_commands.specs.declared.fault.Fault.TheVariants.{NotThere}
+use Rattle.yq_commands.specs.Causes.{Cause, named, no_reading}
+use Rattle.yq_commands.specs.Editing.{Outcome, unreadable, refused, edited, edits, of_refusal}
+use Rattle.yq_commands.specs.Reads.{shown_matches}
+use Rattle.yq_commands.specs.Shown.{Shown, text}
+
+-- of an edit the new text is shown
+abbrev pub show_edit : Outcome → Result Shown Cause
+show_edit (unreadable old) = Err (no_reading old)
+show_edit (refused f) = Err (named f)
+show_edit (edited t changes) = Ok (text t)
+
+-- of a read its matches are shown, by what matching comes to
+abbrev pub show_found : Bool → Bool → Judgement (List (ℕ × Node)) → Result Shown Cause
+show_found exit_status no_doc (gives ms) = Ok (shown_matches exit_status no_doc ms)
+show_found exit_status no_doc (refuses why) = Err (named (of_refusal why))
+
+-- the same, by the documents, if the text reads as documents
+abbrev pub show_read : Bool → Bool → List Stage → List ℕ → Option (List Document) → Result Shown Cause
+show_read exit_status no_doc pipe t None = Err (no_reading t)
+show_read exit_status no_doc pipe t (Some docs) = show_found exit_status no_doc (matches pipe docs)
+
+-- what a program shows of a text, or why it shows nothing
+unfoldable pub shows : Bool → Bool → Program → List ℕ → Result Shown Cause
+shows exit_status no_doc (read pipe) t = show_read exit_status no_doc pipe t (option_map documents (read_at t))
+shows exit_status no_doc (updates us) t = show_edit (edits (updates us) t)
+
+-- what is shown of a file, by what is shown of its text
+abbrev pub of_file : (List ℕ → Result Shown Cause) → Option History → Result Shown Cause
+of_file of_text None = Err (named NotThere)
+of_file of_text (Some h) = of_text (text_at h)
+
+-- the same, by what an expression is
+abbrev pub evaluated : Bool → Bool → Result Program Fault → Option History → Result Shown Cause
+evaluated exit_status no_doc (Err f) h = Err (named f)
+evaluated exit_status no_doc (Ok p) h = of_file (shows exit_status no_doc p) h

@@ -1,0 +1,14 @@
+pub mod Causes
+pub mod CommandNames
+pub mod Editing
+pub mod Edits
+pub mod Effects
+pub mod Evaluation
+pub mod Faults
+pub mod Pair
+pub mod Prints
+pub mod Reads
+pub mod Recorded
+pub mod Shown
+pub mod Steps
+pub mod Walks

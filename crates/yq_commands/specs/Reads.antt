@@ -1,0 +1,42 @@
+-- What a read prints of its matches (own).
+use Rattle.std.specs.Prelude.{ℕ, ◌==◌, Bool, true, false, not, ◌&&◌, ◌||◌, if◌then◌else◌, List, [], ◌∷◌, ◌++◌, codes, Option, Some, None}
+use Rattle.yq_scalar.specs.declared.kind.Kind.{Kind}
+use Rattle.yq_scalar.specs.declared.kind.Kind.TheVariants as kinds
+use Rattle.yq_scalar.specs.Tree.{Node, alias, scalar, list, map}
+use Rattle.yq_meaning.specs.Conditions.{is_true_word}
+use Rattle.yq_splice.specs.Print.{print_text}
+use Rattle.yq_commands.specs.Shown.{Shown}
+
+-- what stands before a match, by the document of the one before it: the line `---`, where that is another document
+abbrev pub marker_before : Bool → Option ℕ → ℕ → List ℕ
+marker_before no_doc None doc = []
+marker_before no_doc (Some last) doc = if no_doc || (last == doc) then [] else codes "---" ++ 10 ∷ []
+
+-- matches, each with its document's number, as they are printed behind a match of such a document, or first of all
+abbrev pub matches_behind : Bool → Option ℕ → List (ℕ × Node) → List ℕ
+matches_behind no_doc last [] = []
+matches_behind no_doc last (m ∷ ms) = marker_before no_doc last m.0 ++ (print_text m.1 ++ matches_behind no_doc (Some m.0) ms)
+
+-- whether a scalar is null, or false in one of its words (YAML 1.2.2, section 10.3.2)
+abbrev pub is_null_or_false : Kind → List ℕ → Bool
+is_null_or_false kinds.Null text = true
+is_null_or_false kinds.Bool text = not (is_true_word text)
+is_null_or_false kinds.Int text = false
+is_null_or_false kinds.Float text = false
+is_null_or_false kinds.Text text = false
+
+-- whether a value is no match for `-e`
+abbrev pub is_no_match : Node → Bool
+is_no_match (alias name) = false
+is_no_match (scalar anchor kind text) = is_null_or_false kind text
+is_no_match (list anchor cs) = false
+is_no_match (map anchor cs) = false
+
+-- whether all matches are none for `-e`
+abbrev pub have_no_match : List (ℕ × Node) → Bool
+have_no_match [] = true
+have_no_match (m ∷ ms) = is_no_match m.1 && have_no_match ms
+
+-- what is shown of matches: with `-e` there is to be one other than null and false
+abbrev pub shown_matches : Bool → Bool → List (ℕ × Node) → Shown
+shown_matches exit_status no_doc ms = record { printed = matches_behind no_doc None ms; is_match = not (exit_status && have_no_match ms) }

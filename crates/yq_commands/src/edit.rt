@@ -1,0 +1,112 @@
+//! Edits of a file beside its journal.
+ghost use Rattle.std.specs.Prelude.{◌≡◌, ◌≢◌, Some, Ok, IfOk, IfErr, OnOk, ℕ, List, IsTrue, IsNone, false, length};
+ghost use Rattle.yq_program.specs.View.{program_of};
+ghost use Rattle.yq_journal.specs.History.{History};
+ghost use Rattle.yq_script.specs.Patch.{Change, all_done, lengths_done};
+ghost use Rattle.std.specs.FinMap as map;
+ghost use Rattle.yq_program.specs.Program as spec;
+ghost use Rattle.yq_commands.specs.Editing.{edited, edits};
+ghost use Rattle.yq_commands.specs.Edits.{edit_record};
+ghost use Rattle.yq_commands.specs.Effects.{Works, edit_effect};
+ghost use Rattle.yq_commands.specs.Faults.{is_outside, is_output, counted};
+ghost use Rattle.yq_commands.specs.Pair.{Arrives, HasLast, OthersStay, Rest};
+ghost use Rattle.yq_commands.specs.Steps.{update_cause, update_next};
+
+use crate::editing::edit_text;
+use crate::fault::Fault;
+use crate::moves::carry_out;
+use std::alloc::{AllocError, Global};
+use yq_expr::Program;
+use yq_journal::{Journal, Move, Record};
+use yq_splice::{Edited, Splice};
+use yq_store::Store;
+
+/// The record of an edit from one text to another.
+fn record_of(
+    alloc: Global,
+    expr: &str,
+    splices: Vec<Splice>,
+    old: &[u8],
+    new: &[u8],
+) -> Result<Record, AllocError>
+    requires lengths { lengths_done splices.items (length old.now) ≡ Some (length new.now) }
+    ensures { IfOk result (λ r. r ≡ edit_record expr.now splices.items (length old.now) (length new.now)) }
+{
+    let expr = String::from_str(alloc, expr)?;
+    Ok(Record::new(expr, splices, old.len() as u64, new.len() as u64))
+}
+
+/// Carries out an edit to another text.
+fn commit<D: Store>(
+    alloc: Global,
+    store: &mut D,
+    file: &str,
+    name: &str,
+    journal: &mut Journal,
+    expr: &str,
+    splices: Vec<Splice>,
+    old: &[u8],
+    new: &[u8],
+) -> Result<(), Fault>
+    requires at_rest { IsNone journal.old.pending }
+    requires lengths { lengths_done splices.items (length old.now) ≡ Some (length new.now) }
+    requires leads { all_done splices.items old.now ≡ Some new.now }
+    requires changes { new.now ≢ old.now }
+    ensures arrives { IsTrue D.keeps → file.now ≢ name.now → (h : History) → (p : spec.Program) → Rest (D.content store.old) file.now name.now journal.old old.now h →
+        edits p old.now ≡ edited new.now splices.items →
+        Arrives (D.content store.new) file.now name.now (update_cause (Ok p) (Some h)) (Some h) (update_next expr.now (Ok p) (Some h)) result }
+    ensures effect { IsTrue D.keeps → file.now ≢ name.now → (p : spec.Program) → edits p old.now ≡ edited new.now splices.items →
+        Works (edit_effect expr.now (edits p old.now) old.now journal.old) file.now name.now (D.content store.old) (D.content store.new) result }
+    ensures recorded { IsTrue D.keeps → OnOk result (HasLast (map.get (D.content store.new) name.now) splices.items) }
+    ensures kept { IsTrue D.keeps → IfErr result (λ e. is_outside e ≡ false → D.content store.new ≡ D.content store.old) }
+    ensures others { IsTrue D.keeps → OthersStay (D.content store.old) (D.content store.new) file.now name.now }
+    ensures quiet { IfErr result (λ e. is_output e ≡ false) }
+    ensures count { D.failures store.new ≡ counted result (D.failures store.old) }
+{
+    let edit = record_of(alloc, expr, splices, old, new)?;
+    carry_out(
+        alloc,
+        store,
+        file,
+        name,
+        journal,
+        Move::Edit(edit),
+        old,
+        new,
+    )
+}
+
+/// Edits a file beside its settled journal. An edit to an equal text writes nothing.
+pub fn edit_from<D: Store>(
+    alloc: Global,
+    store: &mut D,
+    file: &str,
+    name: &str,
+    journal: &mut Journal,
+    program: &Program,
+    expr: &str,
+    text: &[u8],
+) -> Result<(), Fault>
+    requires at_rest { IsNone journal.old.pending }
+    ensures arrives { IsTrue D.keeps → file.now ≢ name.now → (h : History) → Rest (D.content store.old) file.now name.now journal.old text.now h →
+        Arrives (D.content store.new) file.now name.now (update_cause (Ok (program_of program.now)) (Some h)) (Some h)
+        (update_next expr.now (Ok (program_of program.now)) (Some h)) result }
+    ensures effect { IsTrue D.keeps → file.now ≢ name.now →
+        Works (edit_effect expr.now (edits (program_of program.now) text.now) text.now journal.old) file.now name.now (D.content store.old) (D.content store.new) result }
+    ensures recorded { IsTrue D.keeps → OnOk result ((u : List ℕ) → (changes : List Change) → edits (program_of program.now) text.now ≡ edited u changes →
+        u ≢ text.now → HasLast (map.get (D.content store.new) name.now) changes) }
+    ensures kept { IsTrue D.keeps → IfErr result (λ e. is_outside e ≡ false → D.content store.new ≡ D.content store.old) }
+    ensures others { IsTrue D.keeps → OthersStay (D.content store.old) (D.content store.new) file.now name.now }
+    ensures quiet { IfErr result (λ e. is_output e ≡ false) }
+    ensures count { D.failures store.new ≡ counted result (D.failures store.old) }
+{
+    let Edited {
+        text: made,
+        splices,
+    } = edit_text(alloc, program, text)?;
+    let new = made.as_bytes();
+    if new == text {
+        return Ok(());
+    }
+    commit(alloc, store, file, name, journal, expr, splices, text, new)
+}

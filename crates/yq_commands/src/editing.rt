@@ -1,0 +1,61 @@
+//! What an expression makes of a text.
+ghost use Rattle.std.specs.Prelude.{◌≡◌, ◌≢◌, ◌⊎◌, Some, None, Ok, Err, IfOk, IfErr, OnErr, true, false, length};
+ghost use Rattle.std.specs.Str.{is_utf8};
+ghost use Rattle.std.specs.String.{string_bytes};
+ghost use Rattle.yq_program.specs.View.{program_of};
+ghost use Rattle.yq_script.specs.Patch.{all_done, lengths_done};
+ghost use Rattle.yq_documents.specs.Reading.{read_at};
+ghost use Rattle.yq_commands.specs.Editing.{IsUnreadable, Refuses, edited, edits, program_in};
+ghost use Rattle.yq_commands.specs.Faults.{is_failure, is_output};
+
+use crate::fault::Fault;
+use std::alloc::Global;
+use yq_expr::{Program, parse_expr};
+use yq_scalar::characters::TEXT_LIMIT;
+use yq_scalar::{FaultKind, ReadFault};
+use yq_splice::{Edited, edit};
+use yq_tree::text_of;
+
+/// The program of an expression.
+#[tactic(auto, unfolding(crate::specs::Editing::program_in))]
+pub fn parse(alloc: Global, expr: &str) -> Result<Program, Fault>
+    ensures ok { IfOk result (λ p. program_in expr.now ≡ Ok (program_of p)) }
+    ensures err { IfErr result (λ e. e ≢ Fault.OutOfMemory → program_in expr.now ≡ Err e) }
+    ensures inside { IfErr result (λ e. is_failure e ≡ false) }
+    ensures quiet { IfErr result (λ e. is_output e ≡ false) }
+{
+    Ok(parse_expr(alloc, expr)?)
+}
+
+/// The text of a file's bytes. More bytes than a text may have are refused first, whatever they are,
+/// since of a longer file not all need be known.
+pub fn given_text(bytes: &[u8]) -> Result<&str, Fault>
+    ensures ok { IfOk result (λ s. s.now ≡ bytes.now) }
+    ensures utf8 { IfOk result (λ s. is_utf8 bytes.now ≡ true) }
+    ensures err { IfErr result (IsUnreadable bytes.now) }
+    ensures none { OnErr result (read_at bytes.now ≡ None) }
+    ensures inside { IfErr result (λ e. is_failure e ≡ false) }
+    ensures quiet { IfErr result (λ e. is_output e ≡ false) }
+{
+    if bytes.len() > TEXT_LIMIT {
+        return Err(Fault::Unreadable(ReadFault {
+            kind: FaultKind::TooLarge,
+            line: 1,
+        }));
+    }
+    Ok(text_of(bytes)?)
+}
+
+/// Edits a text, which need be no UTF-8, by a program.
+#[tactic(auto, unfolding(crate::specs::Editing::edits), using(crate::proofs::EditingLaws::unread_refuses, crate::proofs::EditingLaws::edit_refuses))]
+pub fn edit_text(alloc: Global, program: &Program, text: &[u8]) -> Result<Edited, Fault>
+    ensures ok { IfOk result (λ e. edits (program_of program.now) text.now ≡ edited (string_bytes e.text) e.splices.items) }
+    ensures splices { IfOk result (λ e. all_done e.splices.items text.now ≡ Some (string_bytes e.text)) }
+    ensures lengths { IfOk result (λ e. lengths_done e.splices.items (length text.now) ≡ Some (length (string_bytes e.text))) }
+    ensures err { IfErr result (λ e. e ≢ Fault.OutOfMemory → Refuses (edits (program_of program.now) text.now) e) }
+    ensures inside { IfErr result (λ e. is_failure e ≡ false) }
+    ensures quiet { IfErr result (λ e. is_output e ≡ false) }
+{
+    let text = given_text(text)?;
+    Ok(edit(alloc, text, program)?)
+}

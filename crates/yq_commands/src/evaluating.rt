@@ -1,0 +1,122 @@
+//! Expressions that aren't carried out in place: what they show of a file.
+ghost use Rattle.std.specs.Prelude.{◌≡◌, ◌≢◌, Ok, ℕ, Bool, List, Option, IfErr, IfOk, OnOk, IsTrue, true, false};
+ghost use Rattle.yq_program.specs.Program.{is_read};
+ghost use Rattle.yq_program.specs.View.{program_of};
+ghost use Rattle.yq_journal.specs.History.{History};
+ghost use Rattle.yq_commands.specs.Causes.{IsFor};
+ghost use Rattle.yq_commands.specs.Editing.{program_in};
+ghost use Rattle.yq_commands.specs.Evaluation.{evaluated, of_file, shows};
+ghost use Rattle.yq_commands.specs.Faults.{is_failure, is_output, counted};
+ghost use Rattle.yq_commands.specs.Pair.{Arrives, GoodIn};
+ghost use Rattle.yq_commands.specs.Shown.{cause_in, shown_by, shown_in};
+
+use crate::editing::{edit_text, given_text, parse};
+use crate::fault::Fault;
+use crate::reads::shown_matches;
+use crate::shown::Shown;
+use std::alloc::Global;
+use yq_expr::{Program, matches};
+use yq_splice::Edited;
+use yq_store::Store;
+use yq_tree::read;
+
+/// What a read shows of a text, which need be no UTF-8.
+fn show_read(
+    alloc: Global,
+    program: &Program,
+    text: &[u8],
+    exit_status: bool,
+    no_doc: bool,
+) -> Result<Shown, Fault>
+    requires { is_read (program_of program.now) ≡ true }
+    ensures ok { IfOk result (λ s. shows exit_status no_doc (program_of program.now) text.now ≡ Ok (shown_by s)) }
+    ensures err { IfErr result (λ e. e ≢ Fault.OutOfMemory → IsFor (cause_in (shows exit_status no_doc (program_of program.now) text.now)) e) }
+    ensures inside { IfErr result (λ e. is_failure e ≡ false) }
+    ensures quiet { IfErr result (λ e. is_output e ≡ false) }
+{
+    let text = given_text(text)?;
+    let documents = read(alloc, text.as_bytes())?;
+    let found = matches(alloc, program, &documents)?;
+    Ok(shown_matches(alloc, exit_status, no_doc, &found)?)
+}
+
+/// What an update shows of a text: the edited one.
+fn show_edit(alloc: Global, program: &Program, text: &[u8]) -> Result<Shown, Fault>
+    requires { is_read (program_of program.now) ≡ false }
+    ensures ok { (exit_status no_doc : Bool) → IfOk result (λ s. shows exit_status no_doc (program_of program.now) text.now ≡ Ok (shown_by s)) }
+    ensures err { (exit_status no_doc : Bool) → IfErr result (λ e. e ≢ Fault.OutOfMemory → IsFor (cause_in (shows exit_status no_doc (program_of program.now) text.now)) e) }
+    ensures inside { IfErr result (λ e. is_failure e ≡ false) }
+    ensures quiet { IfErr result (λ e. is_output e ≡ false) }
+{
+    let Edited { text, .. } = edit_text(alloc, program, text)?;
+    Ok(Shown {
+        text,
+        is_match: true,
+    })
+}
+
+/// What a program shows of a text, which need be no UTF-8.
+fn show(
+    alloc: Global,
+    program: &Program,
+    text: &[u8],
+    exit_status: bool,
+    no_doc: bool,
+) -> Result<Shown, Fault>
+    ensures ok { IfOk result (λ s. shows exit_status no_doc (program_of program.now) text.now ≡ Ok (shown_by s)) }
+    ensures err { IfErr result (λ e. e ≢ Fault.OutOfMemory → IsFor (cause_in (shows exit_status no_doc (program_of program.now) text.now)) e) }
+    ensures inside { IfErr result (λ e. is_failure e ≡ false) }
+    ensures quiet { IfErr result (λ e. is_output e ≡ false) }
+{
+    if program.is_read() {
+        show_read(alloc, program, text, exit_status, no_doc)
+    } else {
+        show_edit(alloc, program, text)
+    }
+}
+
+/// Shows what a program makes of a file's text.
+fn evaluate_program<D: Store>(
+    alloc: Global,
+    store: &mut D,
+    file: &str,
+    program: &Program,
+    exit_status: bool,
+    no_doc: bool,
+    shown: &mut Shown,
+) -> Result<(), Fault>
+    ensures arrives { IsTrue D.keeps → (name : List ℕ) → (h : Option History) → GoodIn (D.content store.old) file.now name h →
+        Arrives (D.content store.new) file.now name (cause_in (of_file (shows exit_status no_doc (program_of program.now)) h)) h h result }
+    ensures output { IsTrue D.keeps → (name : List ℕ) → (h : Option History) → GoodIn (D.content store.old) file.now name h →
+        OnOk result (shown_by shown.new ≡ shown_in (of_file (shows exit_status no_doc (program_of program.now)) h)) }
+    ensures same { IsTrue D.keeps → D.content store.new ≡ D.content store.old }
+    ensures quiet { IfErr result (λ e. is_output e ≡ false) }
+    ensures count { D.failures store.new ≡ counted result (D.failures store.old) }
+{
+    let text = store.read(alloc, file)?;
+    *shown = show(alloc, program, &text, exit_status, no_doc)?;
+    Ok(())
+}
+
+/// Shows the matches of an expression that reads in a file, or the file's text as the expression
+/// updates it.
+pub fn evaluate<D: Store>(
+    alloc: Global,
+    store: &mut D,
+    file: &str,
+    expr: &str,
+    exit_status: bool,
+    no_doc: bool,
+    shown: &mut Shown,
+) -> Result<(), Fault>
+    ensures arrives { IsTrue D.keeps → (name : List ℕ) → (h : Option History) → GoodIn (D.content store.old) file.now name h →
+        Arrives (D.content store.new) file.now name (cause_in (evaluated exit_status no_doc (program_in expr.now) h)) h h result }
+    ensures output { IsTrue D.keeps → (name : List ℕ) → (h : Option History) → GoodIn (D.content store.old) file.now name h →
+        OnOk result (shown_by shown.new ≡ shown_in (evaluated exit_status no_doc (program_in expr.now) h)) }
+    ensures same { IsTrue D.keeps → D.content store.new ≡ D.content store.old }
+    ensures quiet { IfErr result (λ e. is_output e ≡ false) }
+    ensures count { D.failures store.new ≡ counted result (D.failures store.old) }
+{
+    let program = parse(alloc, expr)?;
+    evaluate_program(alloc, store, file, &program, exit_status, no_doc, shown)
+}

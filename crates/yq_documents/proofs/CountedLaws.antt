@@ -1,0 +1,15 @@
+-- How many items and entries nodes have.
+use Rattle.std.proofs.Common.{◌≡◌, List, [], ◌∷◌, length, refl, ap, suc}
+use Rattle.yq_inline.specs.declared.inline.Inline.{Inline}
+use Rattle.yq_inline.specs.Trees.{parts_tree}
+use Rattle.yq_inline.specs.View.{items_end, entries_end}
+use Rattle.yq_lines.specs.Counts.{count}
+use Rattle.yq_documents.proofs.FlowLaws.{Field}
+
+pub items_count : (is : List Inline) → count (parts_tree (items_end is)) ≡ length is
+items_count [] = refl
+items_count (x ∷ is) = ap suc (items_count is)
+
+pub entries_count : (es : List Field) → count (parts_tree (entries_end es)) ≡ length es
+entries_count [] = refl
+entries_count (e ∷ es) = ap suc (entries_count es)

@@ -1,0 +1,184 @@
+-- The head of a row is that of its content.
+use Rattle.std.proofs.Common.{◌≡◌, ℕ, ℤ, ◌-◌, ◌≤◌, arith, Bool, true, false, cond, not, eqb, List, [], ◌∷◌, ◌++◌, length, drop, Option, Some, None, refl, sym, ap, ◌∙◌, ⊎_elim, append-nil, length-append, subst}
+use Rattle.std.proofs.lemmas.Bool.{false≢true, cond_both}
+use Rattle.std.proofs.lemmas.List.{drop_at}
+use Rattle.std.proofs.lemmas.Str.{IsCharBoundary-at_seam}
+use Rattle.std.specs.Str.{IsUtf8, IsCharBoundary}
+use Rattle.yq_scalar.specs.declared.block_header.BlockStyle.{BlockStyle}
+use Rattle.yq_scalar.specs.declared.block_header.BlockStyle.TheVariants as styles
+use Rattle.yq_scalar.specs.Block.{mark_of, BlockText, block_text, IsBlock}
+use Rattle.yq_scalar.specs.Answers.{◌>>=◌}
+use Rattle.yq_scalar.specs.declared.style.Place.TheVariants as places
+use Rattle.yq_scalar.specs.Piece.{deeper}
+use Rattle.yq_scalar.specs.Tree as trees
+use Rattle.yq_scalar.specs.Plain.{holds_break}
+use Rattle.yq_scalar.specs.Scalar.{plain_of}
+use Rattle.yq_scalar.specs.Text.{is_empty}
+use Rattle.yq_scalar.proofs.BlockLaws.{block_again}
+use Rattle.yq_scalar.proofs.Bools.{is_true, and_true}
+use Rattle.yq_inline.specs.Inline.{depth_limit, IsInlineAt}
+use Rattle.yq_inline.specs.Nodes.{Node, empty, alias, scalar, coll, anchored, node_text, items_text, is_bare, takes_anchor, IsNode}
+use Rattle.yq_inline.specs.Places.{placed, mapping, sequence, Parts, holder, locate, locate_items}
+use Rattle.yq_inline.specs.Scalars.{IsScalar, is_quoted, begins_scalar, scalar_of}
+use Rattle.yq_inline.specs.Trees.{scalar_node, placed_tree, tree_of, node_head}
+use Rattle.yq_inline.proofs.NodeAgain.{is_anchored}
+use Rattle.yq_inline.proofs.InlineLaws.{inline_again}
+use Rattle.yq_inline.proofs.PieceLaws.{front_not, scalar_begins, scalar_some}
+use Rattle.yq_inline.proofs.TreeLaws.{node_tree}
+use Rattle.yq_inline.proofs.WrittenLaws.{node_then}
+use Rattle.yq_rows.specs.Grammar.{IsContent}
+use Rattle.yq_rows.specs.Rows.{Content, Nothing, Inline, Block}
+use Rattle.yq_rows.specs.View.{anchor_cut, content_cut}
+use Rattle.yq_documents.specs.KeyReading.{EndsIn}
+use Rattle.yq_documents.specs.Lines.{head_of}
+use Rattle.yq_documents.specs.Reading.{has_fit_keys, content_is_fit}
+use Rattle.yq_documents.specs.RowReading.{placed_head, is_short_plain, begins_block, block_head_at, fit_head, node_head_at, head_at}
+use Rattle.yq_documents.proofs.FlowKeyLaws.{keys_there}
+use Rattle.yq_lines.proofs.OneLine.{one_line}
+
+-- an inline node that is read is its head
+holder_head : (s c e k : ℕ) (parts : Parts) → placed_head (placed None s c e (holder k parts)) ≡ Some (placed_tree (placed None s c e (holder k parts)))
+holder_head s c e k parts = elim (eqb k 125) as (λ x. placed_head (placed None s c e (cond x (mapping parts) (sequence parts))) ≡ Some (placed_tree (placed None s c e (cond x (mapping parts) (sequence parts))))) [ true ↦ refl | false ↦ refl ]
+
+placed_head_is : (total : ℕ) (node : Node) (rest : List ℕ) → is_anchored node ≡ false → placed_head (locate total node rest) ≡ node_head node
+unfolding locate tree_of
+placed_head_is total empty rest a = refl
+placed_head_is total (alias n) rest a = refl
+placed_head_is total (scalar p) rest a = refl
+placed_head_is total (coll k g is) rest a = (let t = node_text (coll k g is) rest in holder_head (total - length t) (total - length t) (total - length rest) k (locate_items total k is rest)) ∙ ap Some (node_tree total (coll k g is) rest)
+placed_head_is total (anchored n g node) rest a = absurd (false≢true (sym a))
+
+-- where a text ends
+pub ends_drop : (whole t : List ℕ) → EndsIn whole t → drop (length whole - length t) whole ≡ t
+ends_drop whole t h =
+    let start : length whole - length t ≡ length h.0 = omega (arith, ap length h.1, length-append h.0 t) in
+    (λ i. drop (start i) (h.1 i)) ∙ drop_at h.0 t (length h.0) refl
+
+-- a head, where keys are fit
+abbrev pub fitting : Bool → Option trees.Node → Option (Option trees.Node)
+fitting fit head = cond fit (Some head) None
+
+node_again : (whole : List ℕ) (n : ℤ) (node : Node) (rest : List ℕ) → is_anchored node ≡ false → is_bare node ≡ false → EndsIn whole (node_text node rest) → IsNode false (Some (deeper n)) depth_limit node rest →
+    node_head_at whole n (node_text node rest) ≡ fitting (has_fit_keys node) (node_head node)
+node_again whole n node rest a some ends h =
+    let at : ℕ = length whole - length (node_text node rest) in
+    let p = locate (length whole) node rest in
+    let is : IsInlineAt places.Block n 0 at whole p = record {
+      node = node;
+      rest = rest;
+      stands = ends_drop whole (node_text node rest) ends;
+      inline = record { valid = h; something = ap not some };
+      places = refl;
+    } in
+    ap (λ o. o >>= fit_head whole) (inline_again places.Block n 0 at whole p is)
+    ∙ (λ i. fitting (keys_there whole node rest ends i) (placed_head_is (length whole) node rest a i))
+
+-- which head a text is
+by_node : (whole : List ℕ) (n : ℤ) (head t : List ℕ) → is_empty head ≡ false → begins_block head ≡ false → is_short_plain head ≡ false → head_at whole n head t ≡ node_head_at whole n t
+unfolding head_at
+by_node whole n head t some block short = rw (some, block, short) refl
+
+by_plain : (whole : List ℕ) (n : ℤ) (head t : List ℕ) → is_empty head ≡ false → begins_block head ≡ false → is_short_plain head ≡ true → head_at whole n head t ≡ Some (Some (scalar_node (plain_of head)))
+unfolding head_at
+by_plain whole n head t some block short = rw (some, block, short) refl
+
+by_block : (whole : List ℕ) (n : ℤ) (head t : List ℕ) → is_empty head ≡ false → begins_block head ≡ true → head_at whole n head t ≡ block_head_at n t
+unfolding head_at
+by_block whole n head t some block = rw (some, block) refl
+
+by_nothing : (whole : List ℕ) (n : ℤ) (t : List ℕ) → head_at whole n [] t ≡ Some None
+unfolding head_at
+by_nothing whole n t = refl
+
+-- a scalar's head
+short_is : (p : List ℕ) → is_short_plain p ≡ true → scalar_of p ≡ plain_of p
+unfolding scalar_of
+short_is p h =
+    let quoted : is_quoted p ≡ false = ⊎_elim {0, 0, 0} (λ e. absurd (false≢true (let no : is_short_plain p ≡ false = rw e refl in sym no ∙ h))) (λ e. e) (is_true (is_quoted p)) in
+    let broken : holds_break p ≡ false = ⊎_elim {0, 0, 0} (λ e. absurd (false≢true (sym (ap not e) ∙ (and_true _ (not (holds_break p)) h).1))) (λ e. e) (is_true (holds_break p)) in
+    rw quoted (ap plain_of (one_line p broken))
+
+pub scalar_some_is : (n : ℤ) (p rest : List ℕ) → IsScalar false (Some (deeper n)) p rest → (is_empty p ≡ false) × (begins_block p ≡ false)
+scalar_some_is n [] rest h = absurd (omega (arith, scalar_some false (Some (deeper n)) [] rest h))
+scalar_some_is n (b ∷ bs) rest h =
+    let begins = scalar_begins false (Some (deeper n)) (b ∷ bs) rest h in
+    let bar : eqb b 124 ≡ false = front_not (begins_scalar false) 124 (λ cs. refl) (b ∷ (bs ++ rest)) begins in
+    let more : eqb b 62 ≡ false = front_not (begins_scalar false) 62 (λ cs. refl) (b ∷ (bs ++ rest)) begins in
+    (refl, rw (bar, more) refl)
+
+scalar_is : (whole : List ℕ) (n : ℤ) (p rest : List ℕ) → EndsIn whole (node_text (scalar p) rest) → IsNode false (Some (deeper n)) depth_limit (scalar p) rest → head_at whole n p (node_text (scalar p) rest) ≡ Some (node_head (scalar p))
+unfolding IsNode tree_of
+scalar_is whole n p rest ends h =
+    let s = scalar_some_is n p rest h in
+    ⊎_elim {0, 0, 0}
+    (λ e. by_plain whole n p (node_text (scalar p) rest) s.0 s.1 e ∙ ap (λ x. Some (Some (scalar_node x))) (sym (short_is p e)))
+    (λ e. by_node whole n p (node_text (scalar p) rest) s.0 s.1 e ∙ node_again whole n (scalar p) rest refl refl ends h)
+    (is_true (is_short_plain p))
+
+-- the head of a node without an anchor
+abbrev pub Opens : ℕ → Type 0
+Opens b = (t : List ℕ) → (begins_block (b ∷ t) ≡ false) × (is_short_plain (b ∷ t) ≡ false)
+
+pub opens : (k : ℕ) → Opens (cond (eqb k 125) 123 91)
+opens k = cond_both (eqb k 125) 123 91 Opens (λ _ t. (refl, refl)) (λ _ t. (refl, refl))
+
+unnamed_is : (whole : List ℕ) (n : ℤ) (node : Node) (rest : List ℕ) → is_anchored node ≡ false → EndsIn whole (node_text node rest) → IsNode false (Some (deeper n)) depth_limit node rest →
+    head_at whole n (node_text node []) (node_text node rest) ≡ fitting (has_fit_keys node) (node_head node)
+unfolding node_text
+unnamed_is whole n empty rest a ends h = by_nothing whole n rest
+unnamed_is whole n (alias name) rest a ends h = by_node whole n (42 ∷ (name ++ [])) (42 ∷ (name ++ rest)) refl refl refl ∙ node_again whole n (alias name) rest refl refl ends h
+unnamed_is whole n (scalar p) rest a ends h = ap (λ q. head_at whole n q (p ++ rest)) (append-nil p) ∙ scalar_is whole n p rest ends h
+unnamed_is whole n (coll k g is) rest a ends h =
+    let o = opens k (g ++ items_text k is []) in
+    by_node whole n (node_text (coll k g is) []) (node_text (coll k g is) rest) refl o.0 o.1 ∙ node_again whole n (coll k g is) rest refl refl ends h
+unnamed_is whole n (anchored name g node) rest a ends h = absurd (false≢true (sym a))
+
+pub no_anchor : (node : Node) → takes_anchor node ≡ true → is_anchored node ≡ false
+no_anchor empty h = refl
+no_anchor (alias n) h = refl
+no_anchor (scalar p) h = refl
+no_anchor (coll k g is) h = refl
+no_anchor (anchored n g node) h = absurd (false≢true h)
+
+written_is : (whole : List ℕ) (n : ℤ) (node : Node) (rest : List ℕ) → is_anchored node ≡ false → EndsIn whole (node_text node [] ++ rest) → IsNode false (Some (deeper n)) depth_limit node rest →
+    head_at whole n (node_text node []) (node_text node [] ++ rest) ≡ fitting (has_fit_keys node) (node_head node)
+written_is whole n node rest a ends h =
+    ap (head_at whole n (node_text node [])) (sym (node_then node rest)) ∙ unnamed_is whole n node rest a (subst (EndsIn whole) (sym (node_then node rest)) ends) h
+
+node_is : (whole : List ℕ) (n : ℤ) (node : Node) (rest : List ℕ) → EndsIn whole ((anchor_cut node).2 ++ rest) → IsNode false (Some (deeper n)) depth_limit node rest →
+    head_at whole n (anchor_cut node).2 ((anchor_cut node).2 ++ rest) ≡ fitting (has_fit_keys node) (node_head node)
+unfolding IsNode
+node_is whole n empty rest ends h = by_nothing whole n rest
+node_is whole n (alias name) rest ends h = written_is whole n (alias name) rest refl ends h
+node_is whole n (scalar p) rest ends h = written_is whole n (scalar p) rest refl ends h
+node_is whole n (coll k g is) rest ends h = written_is whole n (coll k g is) rest refl ends h
+node_is whole n (anchored name g node) rest ends h = written_is whole n node rest (no_anchor node h.3) ends h.4
+
+-- a block scalar's
+pub block_marks : (style : BlockStyle) (t : List ℕ) → begins_block (mark_of style ∷ t) ≡ true
+block_marks styles.Literal t = refl
+block_marks styles.Folded t = refl
+
+block_is : (whole : List ℕ) (n : ℤ) (space : List ℕ) (b : BlockText) (rest : List ℕ) → IsBlock (deeper n) b rest → head_at whole n (mark_of b.style ∷ b.indicators) (block_text b rest) ≡ Some (head_of (Block space None b))
+block_is whole n space b rest h =
+    by_block whole n (mark_of b.style ∷ b.indicators) (block_text b rest) refl (block_marks b.style b.indicators)
+    ∙ rw (block_again (deeper n) b rest h) refl
+
+-- the text of a row's content from its head on
+abbrev pub head_text : Content → List ℕ → List ℕ
+head_text c rest = (content_cut c).3 ++ ((content_cut c).4 ++ ((content_cut c).5 ++ rest))
+
+-- the head of a row's content, where its keys are fit
+pub head_is : (whole : List ℕ) (n : ℤ) (c : Content) (rest : List ℕ) → EndsIn whole (head_text c rest) → IsContent n c rest → head_at whole n (content_cut c).3 (head_text c rest) ≡ fitting (content_is_fit c) (head_of c)
+head_is whole n (Nothing tail) rest ends h = by_nothing whole n (tail ++ rest)
+head_is whole n (Inline space node tail) rest ends h = node_is whole n node (tail ++ rest) ends h.1.valid
+head_is whole n (Block space anchor block) rest ends h = block_is whole n space block rest h.2
+
+-- where a text ends in a whole one
+pub ends_within : (whole t : List ℕ) → EndsIn whole t → length t ≤ length whole
+ends_within whole t h = omega (arith, ap length h.1, length-append h.0 t)
+
+pub ends_seam : (whole t : List ℕ) → EndsIn whole t → IsUtf8 t → IsCharBoundary whole (length whole - length t)
+ends_seam whole t h u =
+    let there : length h.0 ≡ length whole - length t = omega (arith, ap length h.1, length-append h.0 t) in
+    subst (λ (n : ℕ). IsCharBoundary whole n) there (IsCharBoundary-at_seam whole h.0 t h.1 u)

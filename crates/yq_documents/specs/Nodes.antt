@@ -1,0 +1,55 @@
+-- The nodes of the code, as those of trees.
+use Rattle.std.specs.Prelude.{List, [], ℕ, Option, None}
+use Rattle.yq_scalar.specs.Tree.{Label, Node, alias, scalar, list, map}
+use Rattle.yq_inline.specs.Trees.{inner}
+use Rattle.yq_documents.specs.declared.nodes.node.Node as declared
+use Rattle.yq_documents.specs.declared.nodes.node.NodeKind.{NodeKind}
+use Rattle.yq_documents.specs.declared.nodes.node.NodeKind.TheVariants as kinds
+use Rattle.yq_documents.specs.declared.nodes.node.Slot as slots
+use Rattle.yq_lines.specs.Bodies.{lent, named_node}
+use Rattle.yq_lines.specs.Labelled.{Labelled}
+use Rattle.yq_lines.specs.Outline as outline
+use Rattle.yq_lines.specs.View.{view, views}
+
+-- the node that one of the code stands for (own)
+abbrev pub node_of : declared.Node → Node
+node_of n = named_node (views n.document.now) n.named
+
+-- what is told of a root, which is no entry and no item (own)
+abbrev pub unlabelled : Label
+unlabelled = record { key = None; head_comment = []; line_comment = None }
+
+-- what is told of what stands in such a place (own)
+abbrev pub slot_label : slots.Slot → Label
+slot_label slots.TheVariants.Root = unlabelled
+slot_label (slots.TheVariants.Line l) = outline.label (view l.now)
+slot_label (slots.TheVariants.Inline key) = inner (lent key)
+
+-- what is told of the entry or item of a node of the code (own)
+abbrev pub label_of : declared.Node → Label
+label_of n = slot_label n.slot
+
+-- the node that one of the code stands for, with its label (own)
+abbrev pub labelled_of : declared.Node → Labelled
+labelled_of n = (label_of n, node_of n)
+
+-- what a node is: an alias, a scalar of its kind, a sequence or a mapping (YAML 1.2.2, section 3.2.1)
+abbrev pub kind_of : Node → NodeKind
+kind_of (alias name) = kinds.Alias
+kind_of (scalar anchor kind text) = kinds.Scalar kind
+kind_of (list anchor cs) = kinds.List
+kind_of (map anchor cs) = kinds.Map
+
+-- the text of a scalar, or the name of an alias (own)
+abbrev pub text_of : Node → List ℕ
+text_of (alias name) = name
+text_of (scalar anchor kind text) = text
+text_of (list anchor cs) = []
+text_of (map anchor cs) = []
+
+-- the anchor of a node, if it has one (YAML 1.2.2, section 6.9.2)
+abbrev pub anchor_of : Node → Option (List ℕ)
+anchor_of (alias name) = None
+anchor_of (scalar anchor kind text) = anchor
+anchor_of (list anchor cs) = anchor
+anchor_of (map anchor cs) = anchor

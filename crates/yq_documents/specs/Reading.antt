@@ -1,0 +1,114 @@
+-- Reading (a reader may skip this: the grammar is what is believed, and found and only tie the two): bytes read as documents.
+use Rattle.std.specs.Prelude.{ℕ, nat_le, List, [], ◌∷◌, length, map, Bool, true, not, ◌&&◌, codes, Option, Some, None, if◌then◌else◌}
+use Rattle.std.specs.List.{list_all}
+use Rattle.std.specs.Str.{bytes_eq, chars, is_utf8}
+use Rattle.yq_scalar.specs.Answers.{◌>>=◌}
+use Rattle.yq_scalar.specs.Tree.{Node}
+use Rattle.yq_inline.specs.Nodes as inline
+use Rattle.yq_inline.specs.Nodes.{Items, none, item}
+use Rattle.yq_inline.specs.Inline.{depth_limit}
+use Rattle.yq_rows.specs.Grammar.{key_limit}
+use Rattle.yq_rows.specs.Reading.{scan_at}
+use Rattle.yq_rows.specs.Rows as rows
+use Rattle.yq_rows.specs.Rows.{Content, Nothing, Inline, Block, Row, Part, Cut, last}
+use Rattle.yq_lines.specs.Anchors.{names_of}
+use Rattle.yq_documents.specs.Documents.{Document, document_parts, lead_of, is_long_plain}
+use Rattle.yq_lines.specs.Group.{group}
+use Rattle.yq_documents.specs.Lines.{lines_of}
+use Rattle.yq_lines.specs.LinesReading.{have_one_anchor_each, are_bound}
+use Rattle.yq_lines.specs.Outline.{Outline, value}
+use Rattle.yq_lines.specs.Sound.{is_sound}
+
+-- the outline of a part
+abbrev pub outline_of : Part → Outline
+outline_of p = group (lines_of p.rows)
+
+-- the root node that a part stands for
+abbrev pub root_of : Part → Node
+root_of p = value (outline_of p)
+
+-- the document that a part stands for, if it stands for one
+abbrev pub document_of : Part → Document
+document_of p = record { lead = lead_of p; root = root_of p }
+
+-- whether a key as it is written is fit
+abbrev pub is_fit : List ℕ → Bool
+is_fit key = not (bytes_eq key (codes "<<")) && nat_le (length (chars key)) key_limit
+
+-- whether the key of an entry is fit
+abbrev pub has_fit_key : inline.Key → Bool
+has_fit_key inline.bare = true
+has_fit_key (inline.keyed text before gap) = is_fit text
+
+abbrev mutual
+  -- whether each key of an inline node is fit
+  pub has_fit_keys : inline.Node → Bool
+  has_fit_keys inline.empty = true
+  has_fit_keys (inline.alias name) = true
+  has_fit_keys (inline.scalar p) = true
+  has_fit_keys (inline.coll close gap items) = each_has_fit_keys items
+  has_fit_keys (inline.anchored name gap node) = has_fit_keys node
+
+  -- the same of each item or entry
+  pub each_has_fit_keys : Items → Bool
+  each_has_fit_keys none = true
+  each_has_fit_keys (item key node sep items) = has_fit_key key && (has_fit_keys node && each_has_fit_keys items)
+
+-- whether each key in a row's content is fit
+abbrev pub content_is_fit : Content → Bool
+content_is_fit (Nothing tail) = true
+content_is_fit (Inline space node tail) = has_fit_keys node
+content_is_fit (Block space anchor block) = true
+
+-- whether the key of a row is no plain `<<`
+abbrev pub mark_is_fit : rows.Mark → Bool
+mark_is_fit rows.Bare = true
+mark_is_fit rows.Dash = true
+mark_is_fit (rows.Key key colon) = not (bytes_eq key (codes "<<"))
+
+-- whether each key in rows is fit
+abbrev pub have_fit_keys : List Row → Bool
+have_fit_keys [] = true
+have_fit_keys (r ∷ rs) = mark_is_fit r.mark && (content_is_fit r.content && have_fit_keys rs)
+
+-- whether the root is no plain scalar of several lines
+abbrev pub has_short_root : List Row → Bool
+has_short_root [] = true
+has_short_root (r ∷ rs) = not (is_long_plain r.mark r.content)
+
+-- whether a part stands for a document
+abbrev pub is_document : Part → Bool
+is_document p = have_fit_keys p.rows && (has_short_root p.rows && (have_one_anchor_each (lines_of p.rows) && (are_bound [] (names_of (root_of p)) && is_sound depth_limit (outline_of p))))
+
+-- the documents that the parts of a cut stand for, where each stands for one
+abbrev pub documents : Cut → List Document
+documents c = map document_of (document_parts c)
+
+-- whether the parts of a cut stand for documents
+abbrev pub all_documents : Cut → Bool
+all_documents c = list_all is_document (document_parts c)
+
+-- a cut whose parts stand for documents
+abbrev pub checked : Cut → Option Cut
+checked c = if all_documents c then Some c else None
+
+-- a text, cut into parts that stand for documents
+unfoldable pub text_at : List ℕ → Option Cut
+text_at text = scan_at text >>= checked
+
+-- bytes, which are UTF-8, cut into parts that stand for documents
+unfoldable pub read_at : List ℕ → Option Cut
+read_at bytes = if is_utf8 bytes then text_at bytes else None
+
+-- a cut, or that of no text
+abbrev pub cut_or : Option Cut → Cut
+cut_or None = last (record { rows = []; end = [] })
+cut_or (Some c) = c
+
+-- the cut of a text that has one
+unfoldable pub cut_of : List ℕ → Cut
+cut_of text = cut_or (scan_at text)
+
+-- the documents of a text that reads as documents
+abbrev pub documents_of : List ℕ → List Document
+documents_of text = documents (cut_of text)

@@ -1,0 +1,127 @@
+-- Reading (a reader may skip this: the grammar is what is believed, and found and only tie the two): the lines of a row by its pieces.
+use Rattle.std.specs.Prelude.{◌≡◌, ℕ, suc, ◌-◌, ◌==◌, Bool, ◌||◌, ◌&&◌, not, List, [], ◌∷◌, ◌++◌, length, drop, Option, Some, None, if◌then◌else◌, ℤ}
+use Rattle.yq_scalar.specs.declared.kind.Kind.TheVariants.{Text}
+use Rattle.yq_scalar.specs.declared.style.Place.TheVariants as places
+use Rattle.yq_scalar.specs.Answers.{◌>>=◌}
+use Rattle.yq_scalar.specs.BlockContent.{block_content}
+use Rattle.yq_scalar.specs.BlockReading.{block_at}
+use Rattle.yq_scalar.specs.Piece.{deeper}
+use Rattle.yq_scalar.specs.Plain.{holds_break}
+use Rattle.yq_scalar.specs.Scalar.{plain_of}
+use Rattle.yq_scalar.specs.Text.{front, is_empty}
+use Rattle.yq_scalar.specs.Tree as tree
+use Rattle.yq_inline.specs.Inline.{inline_at}
+use Rattle.yq_inline.specs.Nodes.{first_is}
+use Rattle.yq_inline.specs.Places.{Placed, placed, Content, nothing, name, text, sequence, mapping}
+use Rattle.yq_inline.specs.Scalars.{is_quoted, content_of}
+use Rattle.yq_inline.specs.Trees.{scalar_node, placed_tree}
+use Rattle.yq_lines.specs.Comments as comments
+use Rattle.yq_rows.specs.Grammar.{Limit, IsRow}
+use Rattle.yq_rows.specs.Rows.{Row, print_row}
+use Rattle.yq_rows.specs.View.{Slices, slices}
+use Rattle.yq_documents.specs.KeyReading.{node_fits}
+use Rattle.yq_documents.specs.Lines.{dash_line, row_lines}
+use Rattle.yq_lines.specs.Outline.{Mark, Bare, Key, Dash, Line}
+use Rattle.yq_documents.specs.Reading.{mark_is_fit, content_is_fit}
+use Rattle.yq_documents.specs.declared.front.Front.{Front}
+
+-- what a placed node is as a head, by its content (own)
+abbrev pub form_head : Placed → Content → Option tree.Node
+form_head p nothing = None
+form_head p (name n) = Some (placed_tree p)
+form_head p (text s piece) = Some (scalar_node s)
+form_head p (sequence parts) = Some (placed_tree p)
+form_head p (mapping parts) = Some (placed_tree p)
+
+-- the head that a node without an anchor is, if anything is written (own)
+abbrev pub placed_head : Placed → Option tree.Node
+placed_head (placed a s c e f) = form_head (placed a s c e f) f
+
+-- a plain scalar on one line, among heads (own)
+abbrev pub is_short_plain : List ℕ → Bool
+is_short_plain head = not (is_quoted head || (first_is 42 head || (first_is 91 head || first_is 123 head))) && not (holds_break head)
+
+-- the mark of a block scalar is in front (own)
+abbrev pub begins_block : List ℕ → Bool
+begins_block head = front (λ b. b == 124 || b == 62) head
+
+-- a string, as a head (own)
+abbrev pub string_head : List ℕ → Option tree.Node
+string_head t = Some (tree.scalar None Text t)
+
+-- the head that a block scalar in front is (own)
+abbrev pub block_head_at : ℤ → List ℕ → Option (Option tree.Node)
+block_head_at n t = block_at (deeper n) t >>= λ x. Some (string_head (block_content x.0))
+
+-- the head that an inline node is, whose keys are fit where they stand in the text (own)
+abbrev pub fit_head : List ℕ → Placed → Option (Option tree.Node)
+fit_head whole p = if node_fits whole p then Some (placed_head p) else None
+
+-- the head that an inline node in front is, at the end of a text (own)
+abbrev pub node_head_at : List ℕ → ℤ → List ℕ → Option (Option tree.Node)
+node_head_at whole n t = inline_at places.Block n 0 (length whole - length t) whole >>= fit_head whole
+
+-- the head of a row that is written so, with what follows it, at the end of a text (own)
+unfoldable pub head_at : List ℕ → ℤ → List ℕ → List ℕ → Option (Option tree.Node)
+head_at whole n head t =
+    if is_empty head then Some None
+    else (if begins_block head then block_head_at n t
+    else (if is_short_plain head then Some (Some (scalar_node (plain_of head)))
+    else node_head_at whole n t))
+
+-- the name of an anchor that is written with its `&`, if there is one (own)
+abbrev pub name_in : List ℕ → Option (List ℕ)
+name_in t = if first_is 38 t then Some (drop 1 t) else None
+
+-- The lines of dashes so far, and the gap, the column and the dash, if it is one, of the mark behind them (own).
+pub record Begun : Type 0 where
+  pub lines : List Line
+  pub gap : List ℕ
+  pub column : ℕ
+  pub last : List ℕ
+
+-- the lines of dashes behind others, from a column on, the first of them behind a gap (own)
+unfoldable pub dashes_at : List Line → List ℕ → ℕ → List ℕ → Begun
+dashes_at lines gap column [] = record { lines = lines; gap = gap; column = column; last = [] }
+dashes_at lines gap column (b ∷ bs) =
+    if b == 45 then (
+    if is_empty bs then record { lines = lines; gap = gap; column = column; last = b ∷ bs }
+    else dashes_at (lines ++ dash_line (comments.head_comment gap) column ∷ []) [] (suc column) bs)
+    else dashes_at lines gap (suc column) bs
+
+-- what the code's front shows, behind lines (own)
+abbrev pub begun : List Line → Front → Begun
+begun lines f = record { lines = lines; gap = f.gap.now; column = f.column; last = f.last.now }
+
+-- what a line begins with, by its key with what is behind that, and by its dash (own)
+abbrev pub mark_at : Slices → List ℕ → Mark
+mark_at s last = if is_empty s.colon then (if is_empty last then Bare else Dash) else Key (content_of s.key)
+
+-- the line of a mark behind dashes, with its head (own)
+abbrev pub line_with : Slices → Begun → Option tree.Node → Line
+line_with s b head = record { column = b.column; mark = mark_at s b.last; anchor = name_in s.anchor; head = head; head_comment = comments.head_comment b.gap; line_comment = comments.line_comment s.tail }
+
+-- the line of a mark behind dashes, by the text from its head on (own)
+abbrev pub line_at : List ℕ → Slices → Begun → List ℕ → Option Line
+line_at whole s b t = head_at whole s.parent s.head t >>= λ h. Some (line_with s b h)
+
+-- the text of a row from its head on, before a rest (own)
+abbrev pub from_head : Slices → List ℕ → List ℕ
+from_head s rest = s.head ++ (s.tail ++ (s.raw ++ rest))
+
+-- The pieces are those of a row that is in front of a text.
+pub record HasRow (s : Slices) (t : List ℕ) : Type 0 where
+  pub row : Row
+  pub limit : Limit
+  pub rest : List ℕ
+  pub pieces : s ≡ slices row
+  pub text : t ≡ print_row row rest
+  pub valid : IsRow limit row rest
+
+-- the keys in a row are fit (own)
+abbrev pub row_fits : Row → Bool
+row_fits r = mark_is_fit r.mark && content_is_fit r.content
+
+-- the lines of a row behind others, and what stands behind the row, where its keys are fit (own)
+abbrev pub row_made : List Line → Row → List ℕ → Option (List Line × List ℕ)
+row_made lines r rest = if row_fits r then Some (lines ++ row_lines r, rest) else None

@@ -1,0 +1,65 @@
+-- Which line of which row a line is, and where a text has room for comments (own).
+use Rattle.std.specs.Prelude.{ℕ, zero, suc, ◌+◌, ◌-◌, nat_lt, ◌==◌, Bool, true, false, ◌||◌, not, List, [], ◌∷◌, length, slice_get, Option, Some, None, option_map, if◌then◌else◌}
+use Rattle.yq_scalar.specs.Answers.{◌>>=◌}
+use Rattle.yq_scalar.specs.Paths.{Step}
+use Rattle.yq_rows.specs.Grammar.{begins_document}
+use Rattle.yq_rows.specs.Rows.{Row, Cut, last, marked}
+use Rattle.yq_documents.specs.declared.path.Part.{Part}
+use Rattle.yq_documents.specs.declared.path.Part.TheVariants.{Content, Entry, HeadComment, LineComment}
+use Rattle.yq_documents.specs.declared.path.Path.{Path}
+use Rattle.yq_documents.specs.Documents.{document_parts, begins_bare, has_begin}
+use Rattle.yq_documents.specs.Lines.{lines_of}
+use Rattle.yq_documents.specs.Located.{steps_of}
+use Rattle.yq_documents.specs.Reading.{cut_of}
+use Rattle.yq_lines.specs.Ends.{line_of}
+
+-- A line of a row: how many rows stand before that row, the row, and how many of its lines stand before this one (own).
+pub record Seat : Type 0 where
+  pub before : ℕ
+  pub row : Row
+  pub line : ℕ
+
+-- the same behind one more row (own)
+abbrev pub behind_one : Seat → Seat
+behind_one s = record s { before = suc s.before }
+
+-- line n of rows; a row has a line for each dash before its mark, and one for the mark (own)
+abbrev pub seat : ℕ → List Row → Option Seat
+seat n [] = None
+seat n (r ∷ rs) = if nat_lt (length r.dashes) n then option_map behind_one (seat (n - suc (length r.dashes)) rs) else Some (record { before = 0; row = r; line = n })
+
+-- the line of the entry or item to which steps lead among rows; the root has none, nor has what stands in flow (own)
+abbrev pub seat_of : List Step → List Row → Option Seat
+seat_of steps rs = line_of steps (lines_of rs) >>= λ n. seat n rs
+
+-- the same of a path in a cut, among the rows of its document (own)
+abbrev pub seat_at : Path → Cut → Option Seat
+seat_at p c = slice_get (document_parts c) p.doc >>= λ d. seat_of (steps_of p) d.rows
+
+-- whether a line has room for a comment: above it where it begins its row, behind it where it is that of the row's mark (own)
+abbrev pub line_has_room : Part → Seat → Bool
+line_has_room Content s = false
+line_has_room Entry s = false
+line_has_room HeadComment s = s.line == 0
+line_has_room LineComment s = s.line == length s.row.dashes
+
+-- the same of a line, if there is one (own)
+abbrev pub seat_has_room : Part → Option Seat → Bool
+seat_has_room part None = false
+seat_has_room part (Some s) = line_has_room part s
+
+-- whether a text has room for a comment at a path (own)
+abbrev pub has_room : Path → Part → List ℕ → Bool
+has_room p part t = seat_has_room part (seat_at p (cut_of t))
+
+-- how many rows stand before document n, where it is known of the first part whether it is one (own)
+abbrev pub rows_before : Bool → ℕ → Cut → ℕ
+rows_before true zero c = 0
+rows_before true (suc n) (last p) = 0
+rows_before true (suc n) (marked p marker c) = length p.rows + rows_before (begins_document marker) n c
+rows_before false n (last p) = 0
+rows_before false n (marked p marker c) = length p.rows + rows_before (begins_document marker) n c
+
+-- how many rows stand before document n of a cut (own)
+abbrev pub document_row : ℕ → Cut → ℕ
+document_row n c = rows_before (begins_bare c || not (has_begin c)) n c

@@ -1,0 +1,110 @@
+//! The heads of rows.
+ghost use Rattle.std.specs.Prelude.{◌≡◌, IfOk, None};
+ghost use Rattle.yq_scalar.specs.Answers.{Gives};
+ghost use Rattle.yq_inline.specs.View.{view as node_view};
+ghost use Rattle.yq_documents.specs.FlowReading as flow;
+ghost use Rattle.yq_documents.specs.KeyReading.{EndsIn};
+ghost use Rattle.yq_documents.specs.RowReading as spec;
+ghost use Rattle.yq_lines.specs.View.{head_view, head_flow};
+
+use crate::flow_keys::keys_fault;
+use std::alloc::{AllocError, Global};
+use yq_inline::pieces::{first_is, is_quoted};
+use yq_inline::{Form, Inline, read_inline};
+use yq_lines::{Content, Head, plain_head};
+use yq_scalar::plain::holds_break;
+use yq_scalar::{Kind, Place, ReadError, ReadFault, content, read_block};
+
+/// Whether a head is a plain scalar on one line.
+fn is_short_plain(head: &str) -> bool
+    ensures { result ≡ spec.is_short_plain head.now }
+{
+    let bytes = head.as_bytes();
+    let other = is_quoted(bytes)
+        || (first_is(b'*', bytes) || (first_is(b'[', bytes) || first_is(b'{', bytes)));
+    !other && !holds_break(head)
+}
+
+/// Whether a head is the header of a block scalar.
+pub fn begins_block(head: &[u8]) -> bool
+    ensures { result ≡ spec.begins_block head.now }
+{
+    matches!(head, [b'|' | b'>', ..])
+}
+
+/// The head that a node without an anchor is.
+fn node_head<'t>(alloc: Global, node: Inline<'t>) -> Result<Head<'t>, AllocError>
+    ensures view { IfOk result (λ h. head_view h ≡ spec.placed_head (node_view node.entry)) }
+    ensures flow { IfOk result (λ h. head_flow h ≡ flow.kept (node_view node.entry)) }
+{
+    match node.form {
+        Form::Empty => Ok(Head::Nothing),
+        Form::Scalar(scalar, _) => {
+            let kind = scalar.kind();
+            Ok(Head::Scalar(kind, Content::Own(scalar.into_text())))
+        }
+        _ => Ok(Head::Inline(Box::new(alloc, node)?)),
+    }
+}
+
+/// The inline node in front, as a head, where its keys are fit.
+fn read_node_head<'t>(
+    alloc: Global,
+    whole: &'t str,
+    parent: i64,
+    text: &str,
+) -> Result<Head<'t>, ReadError>
+    requires { EndsIn whole.now text.now }
+    ensures view { Gives head_view result (spec.node_head_at whole.now parent text.now) }
+    ensures flow { IfOk result (λ h. head_flow h ≡ flow.node_flow_at whole.now parent text.now) }
+{
+    let at = whole.len() - text.len();
+    let node = match read_inline(alloc, whole, at, Place::Block, parent, 0) {
+        Ok(node) => node,
+        Err(e) => return Err(e),
+    };
+    match keys_fault(whole, &node) {
+        None => Ok(node_head(alloc, node)?),
+        Some(fault) => Err(ReadError::Fault(fault)),
+    }
+}
+
+/// The block scalar in front, as a head.
+fn read_block_head<'t>(alloc: Global, parent: i64, text: &str) -> Result<Head<'t>, ReadError>
+    ensures view { Gives head_view result (spec.block_head_at parent text.now) }
+    ensures flow { IfOk result (λ h. head_flow h ≡ None) }
+{
+    let piece = match read_block(text, 0, parent) {
+        Ok(piece) => piece,
+        Err(kind) => return Err(ReadError::Fault(ReadFault { kind, line: 1 })),
+    };
+    let text = content(alloc, text, &piece)?;
+    Ok(Head::Scalar(Kind::Text, Content::Own(text)))
+}
+
+/// The head of a row below a parent of this indentation, that is written so and with which the text
+/// begins, where its keys are fit. A plain scalar on one line is lent. The text ends where the whole one
+/// does.
+#[tactic(auto, unfolding(crate::specs::RowReading::head_at, crate::specs::FlowReading::head_flow_at))]
+pub(crate) fn read_head<'t>(
+    alloc: Global,
+    whole: &'t str,
+    parent: i64,
+    head: &'t str,
+    text: &'t str,
+) -> Result<Head<'t>, ReadError>
+    requires { EndsIn whole.now text.now }
+    ensures view { Gives head_view result (spec.head_at whole.now parent head.now text.now) }
+    ensures flow { IfOk result (λ h. head_flow h ≡ flow.head_flow_at whole.now parent head.now text.now) }
+{
+    if head.is_empty() {
+        return Ok(Head::Nothing);
+    }
+    if begins_block(head.as_bytes()) {
+        return read_block_head(alloc, parent, text);
+    }
+    if is_short_plain(head) {
+        return Ok(plain_head(head));
+    }
+    read_node_head(alloc, whole, parent, text)
+}

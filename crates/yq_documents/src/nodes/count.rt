@@ -1,0 +1,38 @@
+//! How many items or entries a node has.
+ghost use Rattle.std.specs.Prelude.{◌≡◌};
+ghost use Rattle.yq_scalar.specs.Tree.{children_of};
+ghost use Rattle.yq_documents.specs.Children.{lines_rest, rest_of};
+ghost use Rattle.yq_lines.specs.Counts as spec;
+ghost use Rattle.yq_documents.specs.Nodes.{node_of};
+ghost use Rattle.yq_lines.specs.View.{views};
+
+use crate::nodes::children::{Rest, next_line};
+use crate::nodes::node::Node;
+use yq_lines::{Lined, Under};
+
+/// How many items or entries these lines begin.
+fn count_lines(document: &Lined<'_>, under: Under) -> usize
+    ensures { result ≡ spec.count (rest_of (views document.now) (lines_rest under)) }
+{
+    let mut rest = under;
+    let mut count = 0;
+    'lines: while let Some((_, behind)) = next_line(document, rest) {
+        rest = behind;
+        count += 1;
+    }
+    count
+}
+
+impl Node<'_, '_> {
+    /// How many items or entries it has.
+    #[tactic(auto, using(crate::proofs::CountedLaws::items_count, crate::proofs::CountedLaws::entries_count))]
+    pub fn count(&self) -> usize
+        ensures { result ≡ spec.count (children_of (node_of self.now)) }
+    {
+        match self.rest() {
+            Rest::Lines(under) => count_lines(self.document, under),
+            Rest::Items(items) => items.len(),
+            Rest::Entries(entries) => entries.len(),
+        }
+    }
+}

@@ -1,0 +1,21 @@
+use Rattle.std.proofs.Common.{◌≡◌, drop, map}
+use Rattle.yq_scalar.specs.Tree.{Node}
+use Rattle.yq_lines.specs.Anchors.{names_of}
+use Rattle.yq_meaning.specs.Changes.{at_each}
+use Rattle.yq_planning.specs.ChangeView.{changed_of}
+use Rattle.yq_expr.specs.EffectView.{effect_at}
+use Rattle.yq_planning.specs.Indexes.{HasAliases}
+use Rattle.yq_planning.specs.PlaceView.{places_of, put_behind}
+use Rattle.yq_planning.specs.PlacesApart.{AreIn}
+use Rattle.yq_meaning.specs.Rooms.{room_of}
+use Rattle.yq_planning.specs.TreeScalars.{HaveScalars}
+use Rattle.yq_expr.proofs.changes.at_each.Given as goal
+
+abbrev pub invariant-places : goal.invariant-places
+invariant-places l = record {
+  scalars : HaveScalars (places_of (drop l.place-index l.places));
+  within : (root : Node) → AreIn root (places_of l.places) → AreIn root (places_of (drop l.place-index l.places));
+  so_far : (root : Node) → HasAliases (names_of root) l.aliases → AreIn root (places_of l.places) →
+      put_behind (map changed_of l.changes.items) (at_each root (effect_at l.doc (room_of l.documents l.doc) l.effect) (places_of (drop l.place-index l.places)))
+      ≡ at_each root (effect_at l.doc (room_of l.documents l.doc) l.effect) (places_of l.places);
+}

@@ -1,0 +1,253 @@
+//! What an update changes in documents.
+ghost use Rattle.std.specs.Prelude.{◌≡◌, ◌<◌, length, map};
+ghost use Rattle.yq_scalar.specs.Shapes.{IsTree};
+ghost use Rattle.yq_scalar.specs.Tree.{Node as TreeNode};
+ghost use Rattle.yq_lines.specs.Anchors.{names_of};
+ghost use Rattle.yq_documents.specs.Nodes.{node_of};
+ghost use Rattle.yq_documents.specs.Reading.{documents_of};
+ghost use Rattle.yq_meaning.specs.Changes as spec;
+ghost use Rattle.yq_planning.specs.ChangeView.{all_changed_of, changed_of, placed_change};
+ghost use Rattle.yq_expr.specs.EffectView.{effect_at};
+ghost use Rattle.yq_planning.specs.Indexes.{HasAliases};
+ghost use Rattle.yq_meaning.specs.Judgement.{Matches, Plans, and_then};
+ghost use Rattle.yq_meaning.specs.Meaning.{roots_of};
+ghost use Rattle.yq_planning.specs.PlaceView.{place_of, places_of, put_behind};
+ghost use Rattle.yq_meaning.specs.Places.{root_place};
+ghost use Rattle.yq_planning.specs.PlacesApart.{AreIn, IsIn};
+ghost use Rattle.yq_meaning.specs.RightValues.{right_value as right_sum};
+ghost use Rattle.yq_meaning.specs.Rooms.{room_of};
+ghost use Rattle.yq_planning.specs.TreeScalars.{HasScalars, HaveScalars};
+ghost use Rattle.yq_program.specs.View.{stage_of, term_of, update_of};
+
+use crate::effect::{Effect, change_at};
+use bumpalo::Bump;
+use std::alloc::Global;
+use yq_documents::Node;
+use yq_meaning::{MatchError, PlanError, Refusal};
+use yq_planning::{
+    Aliases, Change, Changed, Place, aliases_of, allow, find, has_comment, path_steps, right_value,
+};
+use yq_program::{Assignment, Operator, Stage, Term, Update};
+use yq_tree::Documents;
+
+/// Puts a change of a place's node behind others, if nothing refuses it.
+fn push_change(
+    alloc: Global,
+    aliases: &Aliases<'_>,
+    place: Place<'_, '_>,
+    change: Change,
+    changes: &mut Vec<Changed>,
+) -> Result<(), MatchError>
+    ensures { (root : TreeNode) → HasAliases (names_of root) aliases.now → IsIn root (place_of place.entry) → Matches (λ _. map changed_of changes.new.items) result (put_behind (map changed_of changes.old.items) (spec.all_allowed root (placed_change (place_of place.entry) change))) }
+{
+    let path = path_steps(alloc, place.path)?;
+    allow(alloc, aliases, place.node, path.len(), &change)?;
+    changes.push(Changed { path, change })?;
+    Ok(())
+}
+
+/// Puts what is changed at a place behind other changes.
+fn push_effect<'a, 't>(
+    alloc: Global,
+    documents: &Documents<'_>,
+    doc: usize,
+    aliases: &Aliases<'_>,
+    effect: Effect<'a, '_>,
+    place: Place<'a, 't>,
+    changes: &mut Vec<Changed>,
+) -> Result<(), MatchError>
+    requires { HasScalars (place_of place).node }
+    ensures { (root : TreeNode) → HasAliases (names_of root) aliases.now → IsIn root (place_of place.entry) → Matches (λ _. map changed_of changes.new.items) result (put_behind (map changed_of changes.old.items) (and_then (spec.all_allowed root) (effect_at doc (room_of documents.now doc) effect.entry (place_of place.entry)))) }
+{
+    match change_at(alloc, documents, doc, effect, place)? {
+        None => Ok(()),
+        Some(change) => push_change(alloc, aliases, place, change, changes),
+    }
+}
+
+/// What is changed at each of places.
+fn at_each<'a, 't>(
+    alloc: Global,
+    documents: &Documents<'_>,
+    doc: usize,
+    aliases: &Aliases<'_>,
+    effect: Effect<'a, '_>,
+    places: &[Place<'a, 't>],
+) -> Result<Vec<Changed>, MatchError>
+    requires { HaveScalars (places_of places.now) }
+    ensures { (root : TreeNode) → HasAliases (names_of root) aliases.now → AreIn root (places_of places.now) → Matches (λ v. map changed_of v.items) result (spec.at_each root (effect_at doc (room_of documents.now doc) effect.entry) (places_of places.now)) }
+{
+    let mut changes = Vec::new(alloc);
+    'places: for place in places {
+        push_effect(alloc, documents, doc, aliases, effect, *place, &mut changes)?;
+    }
+    Ok(changes)
+}
+
+/// What an update changes at places of document `doc`, which has that root.
+fn changes_at<'a, 't>(
+    alloc: Global,
+    documents: &Documents<'_>,
+    doc: usize,
+    root: Node<'a, 't>,
+    update: &'a Update,
+    places: &[Place<'a, 't>],
+) -> Result<Vec<Changed>, MatchError>
+    requires root { HasScalars (node_of root) }
+    requires scalars { HaveScalars (places_of places.now) }
+    requires within { AreIn (node_of root) (places_of places.now) }
+    ensures { Matches (λ v. map changed_of v.items) result (spec.changes_at doc (room_of documents.now doc) (node_of root.entry) (update_of update.now) (places_of places.now)) }
+{
+    if places.is_empty() {
+        return Ok(Vec::new(alloc));
+    }
+    let aliases = aliases_of(alloc, root)?;
+    match update {
+        Update::Assign(assignment) => assign(
+            alloc, documents, doc, root, &aliases, assignment, places,
+        ),
+        Update::Delete(_) => at_each(alloc, documents, doc, &aliases, Effect::Remove, places),
+        Update::Comment(comment) => {
+            let effect = Effect::SetComment(comment.place, comment.text.as_str());
+            at_each(alloc, documents, doc, &aliases, effect, places)
+        }
+    }
+}
+
+/// What a right side changes that is put at each of places of document `doc`,
+/// which has that root.
+fn set_each<'a, 't>(
+    alloc: Global,
+    documents: &Documents<'_>,
+    doc: usize,
+    root: Node<'a, 't>,
+    aliases: &Aliases<'_>,
+    right: &'a [Term],
+    places: &[Place<'a, 't>],
+) -> Result<Vec<Changed>, MatchError>
+    requires root { HasScalars (node_of root) }
+    requires scalars { HaveScalars (places_of places.now) }
+    requires within { AreIn (node_of root) (places_of places.now) }
+    requires aliases { HasAliases (names_of (node_of root)) aliases.now }
+    requires some { 0 < length places.now }
+    ensures { Matches (λ v. map changed_of v.items) result (spec.with_value (node_of root.entry) (right_sum doc (map term_of right.now) (root_place (node_of root.entry))) spec.put_at (places_of places.now)) }
+{
+    let value = right_value(alloc, doc, right, Place::of_root(root))?;
+    at_each(alloc, documents, doc, aliases, Effect::Put(&value), places)
+}
+
+/// What a right side changes that is added at each of places of document
+/// `doc`, which has that root.
+fn add_each<'a, 't>(
+    alloc: Global,
+    documents: &Documents<'_>,
+    doc: usize,
+    root: Node<'a, 't>,
+    aliases: &Aliases<'_>,
+    right: &'a [Term],
+    places: &[Place<'a, 't>],
+) -> Result<Vec<Changed>, MatchError>
+    requires root { HasScalars (node_of root) }
+    requires scalars { HaveScalars (places_of places.now) }
+    requires within { AreIn (node_of root) (places_of places.now) }
+    requires aliases { HasAliases (names_of (node_of root)) aliases.now }
+    requires some { 0 < length places.now }
+    ensures { Matches (λ v. map changed_of v.items) result (spec.with_value (node_of root.entry) (right_sum doc (map term_of right.now) (root_place (node_of root.entry))) spec.add_at (places_of places.now)) }
+{
+    let value = right_value(alloc, doc, right, Place::of_root(root))?;
+    at_each(alloc, documents, doc, aliases, Effect::Add(&value), places)
+}
+
+/// What an assignment changes at places of document `doc`, which has that root.
+fn assign<'a, 't>(
+    alloc: Global,
+    documents: &Documents<'_>,
+    doc: usize,
+    root: Node<'a, 't>,
+    aliases: &Aliases<'_>,
+    assignment: &'a Assignment,
+    places: &[Place<'a, 't>],
+) -> Result<Vec<Changed>, MatchError>
+    requires root { HasScalars (node_of root) }
+    requires scalars { HaveScalars (places_of places.now) }
+    requires within { AreIn (node_of root) (places_of places.now) }
+    requires aliases { HasAliases (names_of (node_of root)) aliases.now }
+    requires some { 0 < length places.now }
+    ensures { Matches (λ v. map changed_of v.items) result (spec.changes_at doc (room_of documents.now doc) (node_of root.entry) (update_of (Update.Assign assignment.now)) (places_of places.now)) }
+{
+    let right: &[Term] = &assignment.right;
+    match assignment.operator {
+        Operator::Set => set_each(alloc, documents, doc, root, aliases, right, places),
+        Operator::Add => add_each(alloc, documents, doc, root, aliases, right, places),
+        Operator::Modify => at_each(
+            alloc,
+            documents,
+            doc,
+            aliases,
+            Effect::Modify(right),
+            places,
+        ),
+    }
+}
+
+/// The pipe of an update's left side.
+fn left(update: &Update) -> &[Stage]
+    ensures { map stage_of result.now ≡ spec.left_of (update_of update.now) }
+{
+    match update {
+        Update::Assign(assignment) => &assignment.left,
+        Update::Delete(stages) => stages,
+        Update::Comment(comment) => &comment.left,
+    }
+}
+
+/// What an update changes in document `doc`, which has that root.
+fn changes_in(
+    alloc: Global,
+    documents: &Documents<'_>,
+    doc: usize,
+    root: Node<'_, '_>,
+    update: &Update,
+) -> Result<Vec<Changed>, MatchError>
+    requires scalars { HasScalars (node_of root) }
+    requires tree { IsTree (node_of root) }
+    ensures { Matches (λ v. map changed_of v.items) result (spec.changes_in (update_of update.now) doc (room_of documents.now doc) (node_of root.entry)) }
+{
+    let bump = Bump::new(alloc);
+    let places = find(alloc, &bump, doc, left(update), root)?;
+    changes_at(alloc, documents, doc, root, update, &places)
+}
+
+/// What an update changes in each document.
+fn all_changes(
+    alloc: Global,
+    update: &Update,
+    documents: &Documents<'_>,
+) -> Result<Vec<Vec<Changed>>, MatchError>
+    ensures { Matches (λ v. all_changed_of v.items) result (spec.changes_from (update_of update.now) (room_of documents.now) 0 (roots_of (documents_of documents.now))) }
+{
+    documents.are_ready();
+    let mut changes = Vec::new(alloc);
+    'documents: for doc in 0..documents.count() {
+        changes.push(changes_in(alloc, documents, doc, documents.root(doc), update)?)?;
+    }
+    Ok(changes)
+}
+
+/// What an update changes in each document, or the first refusal.
+pub(crate) fn changes(
+    alloc: Global,
+    update: &Update,
+    documents: &Documents<'_>,
+) -> Result<Vec<Vec<Changed>>, PlanError>
+    ensures { Plans (λ v. all_changed_of v.items) result (spec.changes_of (update_of update.now) (room_of documents.now) (roots_of (documents_of documents.now))) }
+{
+    if !has_comment(update) {
+        return Err(PlanError::Refused(Refusal::BadCommentText));
+    }
+    match all_changes(alloc, update, documents) {
+        Ok(changes) => Ok(changes),
+        Err(MatchError::Refused(why)) => Err(PlanError::Refused(why)),
+        Err(MatchError::Memory) => Err(PlanError::Memory),
+    }
+}

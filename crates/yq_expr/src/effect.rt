@@ -1,0 +1,133 @@
+//! What an update does at one place.
+ghost use Rattle.std.specs.Prelude.{◌≡◌, IfOk, map};
+ghost use Rattle.yq_planning.specs.ChangeView.{placed};
+ghost use Rattle.yq_expr.specs.EffectView.{effect_at};
+ghost use Rattle.yq_meaning.specs.Judgement.{Matches};
+ghost use Rattle.yq_planning.specs.PlaceView.{place_of};
+ghost use Rattle.yq_meaning.specs.Changes as spec;
+ghost use Rattle.yq_meaning.specs.Rooms.{comment_part, room_of};
+ghost use Rattle.yq_planning.specs.TreeScalars.{HasScalars};
+ghost use Rattle.yq_inline.specs.Values.{node_of};
+
+use std::alloc::{AllocError, Global};
+use yq_documents::{Part, Path};
+use yq_inline::Value;
+use yq_meaning::{MatchError, Refusal};
+use yq_planning::{
+    Change, Missing, NodePath, Place, added, copied, is_null, path_steps, put, right_value,
+};
+use yq_program::{CommentPlace, Term};
+use yq_tree::Documents;
+
+/// What an update does at each place.
+#[derive(Clone, Copy)]
+pub(crate) enum Effect<'a, 'v> {
+    /// A value is put there.
+    Put(&'v Value),
+    /// The sum of terms, which are found from there, is put there.
+    Modify(&'a [Term]),
+    /// A value is added to what is there.
+    Add(&'v Value),
+    /// What is there is removed.
+    Remove,
+    /// The text of a comment is set.
+    SetComment(CommentPlace, &'v str),
+}
+
+/// A value that is added at a place.
+fn add(alloc: Global, place: Place<'_, '_>, value: &Value) -> Result<Option<Change>, MatchError>
+    ensures { Matches (placed (place_of place.entry)) result (spec.add_at (place_of place.entry) (node_of value.now)) }
+{
+    if is_null(value) {
+        return Ok(None);
+    }
+    match place.missing {
+        Missing::Nothing => Ok(Some(added(alloc, place.node, value)?)),
+        Missing::Further(..) => Ok(Some(put(alloc, place, copied(alloc, value)?)?)),
+    }
+}
+
+/// What is removed at a place: what is missing is not, and a root can't be.
+fn remove(place: Place<'_, '_>) -> Result<Option<Change>, MatchError>
+    ensures { Matches (placed (place_of place.entry)) result (spec.remove_at (place_of place.entry)) }
+{
+    match (place.missing, place.path) {
+        (Missing::Further(..), _) => Ok(None),
+        (Missing::Nothing, NodePath::Root) => Err(MatchError::Refused(Refusal::RootDelete)),
+        (Missing::Nothing, NodePath::Below(..)) => Ok(Some(Change::Removes)),
+    }
+}
+
+/// The part of an entry or item that a comment is.
+fn part(place: CommentPlace) -> Part
+    ensures { result ≡ comment_part place }
+{
+    match place {
+        CommentPlace::Line => Part::LineComment,
+        CommentPlace::Head => Part::HeadComment,
+    }
+}
+
+/// Whether the text of documents has room for a comment of what is at a place
+/// of document `doc`.
+fn has_room(
+    alloc: Global,
+    documents: &Documents<'_>,
+    doc: usize,
+    comment: CommentPlace,
+    place: Place<'_, '_>,
+) -> Result<bool, AllocError>
+    ensures { IfOk result (λ b. b ≡ (room_of documents.now doc).has comment (place_of place.entry).path) }
+{
+    let path = Path {
+        doc,
+        steps: path_steps(alloc, place.path)?,
+    };
+    Ok(documents.has_room(&path, part(comment)))
+}
+
+/// The text of a comment that is set at a place.
+fn set_comment(
+    alloc: Global,
+    documents: &Documents<'_>,
+    doc: usize,
+    comment: CommentPlace,
+    text: &str,
+    place: Place<'_, '_>,
+) -> Result<Option<Change>, MatchError>
+    ensures { Matches (placed (place_of place.entry)) result (spec.comment_at (room_of documents.now doc) comment text.now (place_of place.entry)) }
+{
+    if let Missing::Further(..) = place.missing {
+        return Err(MatchError::Refused(Refusal::NoPlaceForComment));
+    }
+    if !has_room(alloc, documents, doc, comment, place)? {
+        return Err(MatchError::Refused(Refusal::NoPlaceForComment));
+    }
+    let text = String::from_str(alloc, text)?;
+    Ok(Some(Change::SetsComment(comment, text)))
+}
+
+/// What is changed at a place of document `doc`, before anything refuses it.
+pub(crate) fn change_at<'a, 't>(
+    alloc: Global,
+    documents: &Documents<'_>,
+    doc: usize,
+    effect: Effect<'a, '_>,
+    place: Place<'a, 't>,
+) -> Result<Option<Change>, MatchError>
+    requires { HasScalars (place_of place).node }
+    ensures { Matches (placed (place_of place.entry)) result (effect_at doc (room_of documents.now doc) effect.entry (place_of place.entry)) }
+{
+    match effect {
+        Effect::Put(value) => Ok(Some(put(alloc, place, copied(alloc, value)?)?)),
+        Effect::Modify(terms) => {
+            let value = right_value(alloc, doc, terms, place)?;
+            Ok(Some(put(alloc, place, value)?))
+        }
+        Effect::Add(value) => add(alloc, place, value),
+        Effect::Remove => remove(place),
+        Effect::SetComment(comment, text) => {
+            set_comment(alloc, documents, doc, comment, text, place)
+        }
+    }
+}

@@ -1,0 +1,89 @@
+-- What an update changes: place by place, and document by document.
+use Rattle.std.proofs.Common.{◌≡◌, ℕ, suc, ◌+◌, ◌<◌, ◌≤◌, List, [], ◌∷◌, ◌++◌, length, map, drop, refl, sym, ap, ◌∙◌, subst, append-nil, append_assoc, add-one, arith}
+use Rattle.yq_scalar.specs.Tree.{Node}
+use Rattle.yq_documents.specs.Documents.{Document}
+use Rattle.yq_meaning.specs.Changes.{Room, Changed, put_at, at_each, with_value, changes_at, changes_in, changes_from}
+use Rattle.yq_meaning.specs.Judgement.{Judgement, gives, refuses, and_then, Fails}
+use Rattle.yq_meaning.specs.Meaning.{roots_of}
+use Rattle.yq_planning.specs.PlaceView.{places_of, put_behind}
+use Rattle.yq_meaning.specs.Places.{Place, root_place, for_each}
+use Rattle.yq_program.specs.Program.{Stage, Term, Update, assign}
+use Rattle.yq_meaning.specs.RightValues.{right_value}
+use Rattle.yq_planning.specs.declared.matching.place.Place as declared
+use Rattle.yq_program.specs.declared.program.Operator.{Operator}
+use Rattle.yq_program.specs.declared.program.Operator.TheVariants as operator
+use Rattle.yq_meaning.specs.declared.match_error.MatchError.{MatchError}
+use Rattle.yq_planning.proofs.EachLaws.{fails_then}
+use Rattle.yq_program.proofs.Lists.{past_last}
+
+-- ---- places
+
+-- behind the last one nothing more comes
+pub each_done : {X A B : Type 0} (v : X → A) (f : A → Judgement (List B)) (before : List B) (xs : List X) (i : ℕ) (all : Judgement (List B)) → length xs ≤ i → put_behind before (for_each f (map v (drop i xs))) ≡ all → all ≡ gives before
+each_done {X} v f before xs i all past so_far =
+    sym so_far ∙ (ap (λ (ys : List X). put_behind before (for_each f (map v ys))) (past_last xs i past) ∙ ap gives (append-nil before))
+
+-- ---- the value of a right side
+
+-- a value that was evaluated is put or added at each place
+pub value_there : (root : Node) (right : Judgement Node) (f : Place → Node → Judgement (List Changed)) (ps : List Place) (v : Node) → 0 < length ps → right ≡ gives v → with_value root right f ps ≡ at_each root (λ q. f q v) ps
+value_there root right f [] v some is = absurd (omega (arith, some))
+value_there root right f (p ∷ ps) v some is = ap (and_then (λ w. at_each root (λ q. f q w) (p ∷ ps))) is
+
+-- a refusal of the right side is one of all
+pub value_fails : (root : Node) (right : Judgement Node) (f : Place → Node → Judgement (List Changed)) (ps : List Place) (e : MatchError) → 0 < length ps → Fails e right → Fails e (with_value root right f ps)
+value_fails root right f [] e some h = absurd (omega (arith, some))
+value_fails root right f (p ∷ ps) e some h = fails_then (λ w. at_each root (λ q. f q w) (p ∷ ps)) right e h
+
+module _ (doc : ℕ) (room : Room) (root : Node) (left : List Stage) (op : Operator) (right ts : List Term) (ps : List Place) where
+  -- the sum of terms is put at each place
+  pub modified : op ≡ operator.Modify → ts ≡ right → at_each root (λ p. and_then (put_at p) (right_value doc ts p)) ps ≡ changes_at doc room root (assign left op right) ps
+  modified is same =
+      ap (λ (us : List Term). at_each root (λ p. and_then (put_at p) (right_value doc us p)) ps) same
+      ∙ ap (λ (o : Operator). changes_at doc room root (assign left o right) ps) (sym is)
+
+-- as many places of the code as they stand for
+pub some_places : (ps : List declared.Place) → 0 < length ps → 0 < length (places_of ps)
+some_places [] h = absurd (omega (arith, h))
+some_places (p ∷ ps) h = omega arith
+
+-- the right side of an update, evaluated from the root
+pub from_root : (doc : ℕ) (root : Node) (ts : List Term) (p : Place) → p ≡ root_place root → right_value doc ts p ≡ right_value doc ts (root_place root)
+from_root doc root ts p at = ap (right_value doc ts) at
+
+-- ---- documents
+
+-- the changes of one document before those of others
+put_one : {B : Type 0} (before : List B) (j : Judgement B) (k : Judgement (List B)) → put_behind before (and_then (λ first. and_then (λ others. gives (first ∷ others)) k) j) ≡ and_then (λ first. put_behind (before ++ first ∷ []) k) j
+put_one before (gives x) (gives xs) = ap gives (sym (append_assoc before (x ∷ []) xs))
+put_one before (gives x) (refuses why) = refl
+put_one before (refuses why) k = refl
+
+module _ (u : Update) (rooms : ℕ → Room) where
+  -- those from one document on, that one being known
+  behind_document : (docs : List Document) (i : ℕ) (d : Document) (before : List (List Changed)) → drop i docs ≡ d ∷ drop (suc i) docs →
+      put_behind before (changes_from u rooms i (roots_of (drop i docs))) ≡ and_then (λ first. put_behind (before ++ first ∷ []) (changes_from u rooms (i + 1) (roots_of (drop (i + 1) docs)))) (changes_in u i (rooms i) d.root)
+  behind_document docs i d before at =
+      ap (λ (ds : List Document). put_behind before (changes_from u rooms i (roots_of ds))) at
+      ∙ (put_one before (changes_in u i (rooms i) d.root) (changes_from u rooms (suc i) (roots_of (drop (suc i) docs)))
+      ∙ ap (λ (n : ℕ). and_then (λ first. put_behind (before ++ first ∷ []) (changes_from u rooms n (roots_of (drop n docs)))) (changes_in u i (rooms i) d.root)) (sym (add-one i)))
+
+  -- one document more
+  pub document_more : (docs : List Document) (i : ℕ) (d : Document) (before after : List (List Changed)) (cs : List Changed) (all : Judgement (List (List Changed))) → drop i docs ≡ d ∷ drop (suc i) docs → after ≡ before ++ cs ∷ [] →
+      changes_in u i (rooms i) d.root ≡ gives cs → put_behind before (changes_from u rooms i (roots_of (drop i docs))) ≡ all → put_behind after (changes_from u rooms (i + 1) (roots_of (drop (i + 1) docs))) ≡ all
+  document_more docs i d before after cs all at more h so_far =
+      ap (λ (css : List (List Changed)). put_behind css (changes_from u rooms (i + 1) (roots_of (drop (i + 1) docs)))) more
+      ∙ (ap (and_then (λ first. put_behind (before ++ first ∷ []) (changes_from u rooms (i + 1) (roots_of (drop (i + 1) docs))))) (sym h)
+      ∙ (sym (behind_document docs i d before at) ∙ so_far))
+
+  -- a refusal of one document is one of all
+  pub document_fails : (docs : List Document) (i : ℕ) (d : Document) (before : List (List Changed)) (all : Judgement (List (List Changed))) (e : MatchError) → drop i docs ≡ d ∷ drop (suc i) docs →
+      Fails e (changes_in u i (rooms i) d.root) → put_behind before (changes_from u rooms i (roots_of (drop i docs))) ≡ all → Fails e all
+  document_fails docs i d before all e at h so_far =
+      subst (Fails e) (sym (behind_document docs i d before at) ∙ so_far)
+      (fails_then (λ first. put_behind (before ++ first ∷ []) (changes_from u rooms (i + 1) (roots_of (drop (i + 1) docs)))) (changes_in u i (rooms i) d.root) e h)
+
+  -- behind the last one there are no more
+  pub documents_done : (docs : List Document) (i : ℕ) (before : List (List Changed)) (all : Judgement (List (List Changed))) → length docs ≤ i → put_behind before (changes_from u rooms i (roots_of (drop i docs))) ≡ all → all ≡ gives before
+  documents_done docs i before all past so_far =
+      sym so_far ∙ (ap (λ (ds : List Document). put_behind before (changes_from u rooms i (roots_of ds))) (past_last docs i past) ∙ ap gives (append-nil before))

@@ -1,0 +1,102 @@
+-- Maps by texts: one entry or alias more.
+use Rattle.std.proofs.Common.{◌≡◌, ℕ, Bool, true, false, ◌||◌, cond, List, Option, Some, None, is_some, option_map, refl, sym, ap, ◌∙◌, bytes_eq}
+use Rattle.std.proofs.lemmas.Bool.{false≢true}
+use Rattle.std.proofs.lemmas.Map.Text.{btree_map_updates_str}
+use Rattle.std.proofs.lemmas.Slice.Eq.{bytes_eq-Decides}
+use Rattle.std.specs.BTreeMap as maps
+use Rattle.std.specs.BTreeMap.{BTreeMap}
+use Rattle.std.specs.Map.{lookup}
+use Rattle.std.specs.Borrow.{Bor}
+use Rattle.std.specs.Cmp.Lexicographic.{slice_cmp}
+use Rattle.std.specs.List.{list_any}
+use Rattle.std.specs.Ordering.{nat_cmp}
+use Rattle.yq_scalar.specs.Paths.{To, child_at, key_is}
+use Rattle.yq_scalar.specs.Tree as tree
+use Rattle.yq_scalar.specs.Tree.{Label, Node, Children, none}
+use Rattle.yq_lines.specs.Anchors.{Name, names_of}
+use Rattle.yq_meaning.specs.Changes.{refers_to}
+use Rattle.yq_planning.specs.EntryNumbers.{number_kept}
+use Rattle.yq_planning.specs.Indexes.{text_at, HasAliases, kept_first, or_first}
+
+-- that a map has a value more, as `insert` says it
+abbrev pub Puts : {X : Type 0} → BTreeMap (Bor (List ℕ)) X → BTreeMap (Bor (List ℕ)) X → List ℕ → X → Type 0
+Puts m n a v = maps.UpdatesBy (λ x y. slice_cmp nat_cmp x.now y.now) (λ k. slice_cmp nat_cmp a k.now) m n (Some v)
+
+-- what such a map has for a text
+pub put_text : {X : Type 0} (m n : BTreeMap (Bor (List ℕ)) X) (a : List ℕ) (v : X) → Puts m n a v → (k : List ℕ) → text_at k n ≡ cond (bytes_eq a k) (Some v) (text_at k m)
+put_text m n a v h k = btree_map_updates_str a m n (Some v) h k
+
+bytes_back : (a b : List ℕ) → bytes_eq a b ≡ bytes_eq b a
+bytes_back a b = go (bytes_eq a b) (bytes_eq b a) refl refl
+  where
+    go : (x y : Bool) → bytes_eq a b ≡ x → bytes_eq b a ≡ y → x ≡ y
+    go true true e f = refl
+    go true false e f = sym ((bytes_eq-Decides b a).1 (sym ((bytes_eq-Decides a b).0 e))) ∙ f
+    go false true e f = absurd (false≢true (sym e ∙ (bytes_eq-Decides a b).1 (sym ((bytes_eq-Decides b a).0 f))))
+    go false false e f = refl
+
+-- ---- entries
+
+-- an item is kept for no key
+pub item_kept : (k : List ℕ) (o : Option Node) (label : Label) (n : Node) → label.key ≡ None → o ≡ kept_first k o label n
+item_kept k (Some old) label n h = refl
+item_kept k None label n h = ap (λ (key : Option (List ℕ)). cond (key_is k key) (Some n) None) (sym h)
+
+-- the entry of a key for which there is none is kept
+pub new_kept : (a k : List ℕ) (f : List ℕ → Option Node) (label : Label) (n : Node) → label.key ≡ Some a → is_some (f a) ≡ false → cond (bytes_eq a k) (Some n) (f k) ≡ kept_first k (f k) label n
+new_kept a k f label n h absent = go (bytes_eq a k) (f k) refl refl
+  where
+    here : (b : Bool) → bytes_eq a k ≡ b → cond b (Some n) None ≡ kept_first k None label n
+    here b e = ap (λ c. cond c (Some n) None) (sym e ∙ sym (ap (key_is k) h))
+
+    go : (b : Bool) (o : Option Node) → bytes_eq a k ≡ b → f k ≡ o → cond b (Some n) o ≡ kept_first k o label n
+    go true (Some old) e is = absurd (false≢true (sym absent ∙ ap is_some (ap f ((bytes_eq-Decides a k).0 e) ∙ is)))
+    go true None e is = here true e
+    go false (Some old) e is = refl
+    go false None e is = here false e
+
+-- behind the last one nothing comes
+pub first_done : (k : List ℕ) (o : Option Node) (cs : Children) (all : Option Node) → cs ≡ none → or_first o (child_at (To k) cs) ≡ all → o ≡ all
+first_done k o cs all is so_far = go o ∙ (ap (λ (ds : Children). or_first o (child_at (To k) ds)) (sym is) ∙ so_far)
+  where
+    go : (o : Option Node) → o ≡ or_first o None
+    go (Some old) = refl
+    go None = refl
+
+-- ---- aliases
+
+-- one more alias
+pub alias_put : {X : Type 0} (a k : List ℕ) (v : X) (o : Option X) (n : Node) → n ≡ tree.alias a → is_some (cond (bytes_eq a k) (Some v) o) ≡ (is_some o || list_any (refers_to k) (names_of n))
+alias_put {X} a k v o n is = go (bytes_eq a k) (bytes_eq k a) (bytes_back a k) o ∙ ap (λ (m : Node). is_some o || list_any (refers_to k) (names_of m)) (sym is)
+  where
+    go : (b c : Bool) → b ≡ c → (o : Option X) → is_some (cond b (Some v) o) ≡ (is_some o || (c || false))
+    go true true e None = refl
+    go true true e (Some u) = refl
+    go false false e None = refl
+    go false false e (Some u) = refl
+    go true false e o = absurd (false≢true (sym e))
+    go false true e o = absurd (false≢true e)
+
+-- an empty map has no alias
+pub no_aliases : {X : Type 0} (names : List Name) (m : BTreeMap (Bor (List ℕ)) X) → maps.IsEmpty m → HasAliases names m → (k : List ℕ) → list_any (refers_to k) names ≡ false
+no_aliases names m empty h k = sym (h k) ∙ ap (λ es. is_some (lookup (maps.is_at (λ j. slice_cmp nat_cmp k j.now)) es)) empty
+
+-- a view of a value, if one is put
+pub seen_put : {A B : Type 0} (f : A → B) (b : Bool) (v : A) (o : Option A) → option_map f (cond b (Some v) o) ≡ cond b (Some (f v)) (option_map f o)
+seen_put f true v o = refl
+seen_put f false v o = refl
+
+-- no value has no view
+pub seen_none : {A B : Type 0} (f : A → B) (o : Option A) → is_some o ≡ false → is_some (option_map f o) ≡ false
+seen_none f None h = refl
+seen_none f (Some x) h = h
+
+-- the number of an entry whose key has none is kept
+pub new_number : (a k : List ℕ) (f : List ℕ → Option ℕ) (n : ℕ) → is_some (f a) ≡ false → cond (bytes_eq a k) (Some n) (f k) ≡ number_kept k (f k) a n
+new_number a k f n absent = go (bytes_eq a k) (f k) refl refl
+  where
+    go : (b : Bool) (o : Option ℕ) → bytes_eq a k ≡ b → f k ≡ o → cond b (Some n) o ≡ number_kept k o a n
+    go true (Some old) e is = absurd (false≢true (sym absent ∙ ap is_some (ap f ((bytes_eq-Decides a k).0 e) ∙ is)))
+    go true None e is = ap (λ c. cond c (Some n) None) (sym e)
+    go false (Some old) e is = refl
+    go false None e is = ap (λ c. cond c (Some n) None) (sym e)

@@ -1,0 +1,16 @@
+pub mod ScalarValues
+pub mod RoomLaws
+pub mod PlaceLaws
+pub mod EachLaws
+pub mod CopyLaws
+pub mod TreeScalarLaws
+pub mod MatchLaws
+pub mod MatchTrees
+pub mod JudgementLaws
+pub mod updates
+pub mod SumLaws
+pub mod LimitLaws
+pub mod IndexLaws
+pub mod UsedLaws
+pub mod ChangeLaws
+pub mod AllChanges

@@ -1,0 +1,13 @@
+use Rattle.std.proofs.Common.{List, sym, ap, ◌∙◌}
+use Rattle.yq_inline.specs.Values.{node_of as value_node}
+use Rattle.yq_scalar.specs.Tree.{children_of}
+use Rattle.yq_documents.specs.Nodes.{node_of}
+use Rattle.yq_meaning.specs.Changes.{Addition, adds, added_entries}
+use Rattle.yq_meaning.specs.Judgement.{gives}
+use Rattle.yq_program.proofs.Keys.{node_of-map}
+use Rattle.yq_planning.proofs.updating.added.to_map.Goals as goal
+
+pub returns : goal.returns
+returns c =
+    ap (added_entries (children_of (node_of c.args.node))) (ap value_node c.in-Map.is ∙ node_of-map c.in-Map.others)
+    ∙ ap (λ (xs : List Addition). gives (adds xs)) (sym (c.in_ok-entries.ensures (children_of (node_of c.args.node)) c.in_ok-index.ensures))

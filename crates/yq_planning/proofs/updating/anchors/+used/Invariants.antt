@@ -1,0 +1,27 @@
+use Rattle.std.proofs.Common.{◌≡◌, ◌+◌, ◌*◌, ◌≤◌, List}
+use Rattle.std.specs.List.{list_any}
+use Rattle.yq_scalar.specs.Keys.{depth, deepest}
+use Rattle.yq_scalar.specs.Tree.{children_of}
+use Rattle.yq_lines.specs.Anchors.{Name, names_in}
+use Rattle.yq_documents.specs.Children.{left_of}
+use Rattle.yq_lines.specs.Counts.{count}
+use Rattle.yq_documents.specs.Nodes.{node_of}
+use Rattle.yq_meaning.specs.Changes.{is_used}
+use Rattle.yq_planning.specs.Indexes.{HasAliases}
+use Rattle.yq_planning.proofs.updating.anchors.+used.Given as goal
+
+abbrev pub decreases-is_used_in : goal.decreases-is_used_in
+decreases-is_used_in l = 2 * depth (node_of l.node) + 1
+
+abbrev pub decreases-is_used_inside : goal.decreases-is_used_inside
+decreases-is_used_inside l = 2 * depth (node_of l.node)
+
+abbrev pub invariant-is_used_inside-each : goal.invariant-is_used_inside-each
+invariant-is_used_inside-each l = record {
+  counted : count (left_of l.children) ≤ count (children_of (node_of l.fn.node));
+  deep : deepest (left_of l.children) ≤ deepest (children_of (node_of l.fn.node));
+  so_far : (names : List Name) → HasAliases names l.aliases → list_any (is_used names) (names_in (left_of l.children)) ≡ list_any (is_used names) (names_in (children_of (node_of l.fn.node)));
+}
+
+abbrev pub decreases-is_used_inside-each : goal.decreases-is_used_inside-each
+decreases-is_used_inside-each l = count (left_of l.children)

@@ -1,0 +1,17 @@
+use Rattle.std.proofs.Common.{rules, ◌≡◌, List, [], ◌∷◌, map, sym, ap, ◌∙◌, subst}
+use Rattle.yq_meaning.specs.Judgement.{gives}
+use Rattle.yq_meaning.specs.Pipes.{pipe_on}
+use Rattle.yq_planning.specs.PlaceView.{place_of, places_of}
+use Rattle.yq_planning.specs.TreeScalars.{HaveScalars}
+use Rattle.yq_program.specs.View.{stage_of}
+use Rattle.yq_planning.specs.declared.matching.place.Place as declared
+use Rattle.yq_planning.proofs.MatchLaws.{pipe_have}
+use Rattle.yq_planning.proofs.updating.right_value.found_value.Goals as goal
+
+pub only-requires : goal.only-requires
+only-requires c =
+    let started : places_of c.push.new.self.items ≡ place_of c.args.place ∷ [] = search rules in
+    let found : pipe_on c.args.doc (map stage_of c.args.pipe.now) (place_of c.args.place ∷ []) ≡ gives (places_of c.in_ok-places.places.items) =
+    ap (pipe_on c.args.doc (map stage_of c.args.pipe.now)) (sym started) ∙ c.in_ok-places.ensures in
+    subst (λ (ps : List declared.Place). HaveScalars (places_of ps)) (sym c.deref.ensures.value)
+    (pipe_have c.args.doc (map stage_of c.args.pipe.now) (place_of c.args.place ∷ []) (places_of c.in_ok-places.places.items) (c.requires, tt) found)

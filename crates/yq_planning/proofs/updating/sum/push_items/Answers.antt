@@ -1,0 +1,19 @@
+use Rattle.std.proofs.Common.{List, map, refl, ap, ◌∙◌}
+use Rattle.std.proofs.lemmas.List.{map_push}
+use Rattle.yq_inline.specs.Values.{items, node_of}
+use Rattle.yq_inline.specs.declared.value.Value.TheVariants as values
+use Rattle.yq_scalar.specs.Tree.{Node}
+use Rattle.yq_program.proofs.Keys.{node_of-map}
+use Rattle.yq_planning.proofs.ScalarValues.{scalar_value}
+use Rattle.yq_planning.proofs.SumLaws.{one_item}
+use Rattle.yq_planning.proofs.updating.sum.push_items.Goals as goal
+
+pub returns-in_ok-push-in-Scalar : goal.returns-in_ok-push-in-Scalar
+returns-in_ok-push-in-Scalar c =
+    ap (λ (ns : List Node). items ns) (ap (map node_of) c.in_ok-push-in-Scalar.ensures.items ∙ map_push node_of c.args.items.now.items (values.Scalar c.in-Scalar.scalar))
+    ∙ one_item (map node_of c.args.items.now.items) (node_of (values.Scalar c.in-Scalar.scalar)) (node_of c.args.value) _ (scalar_value c.in-Scalar.scalar) (ap node_of c.in-Scalar.is ∙ scalar_value c.in-Scalar.scalar) refl
+
+pub returns-in_ok-push-in-Map : goal.returns-in_ok-push-in-Map
+returns-in_ok-push-in-Map c =
+    ap (λ (ns : List Node). items ns) (ap (map node_of) c.in_ok-push-in-Map.ensures.items ∙ map_push node_of c.args.items.now.items (values.Map c.in-Map.entries))
+    ∙ one_item (map node_of c.args.items.now.items) (node_of (values.Map c.in-Map.entries)) (node_of c.args.value) _ (node_of-map c.in-Map.entries) (ap node_of c.in-Map.is ∙ node_of-map c.in-Map.entries) refl

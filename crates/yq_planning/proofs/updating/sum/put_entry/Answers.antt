@@ -1,0 +1,55 @@
+use Rattle.std.proofs.Common.{◌≡◌, ℕ, List, Some, None, String, length, map, string_bytes, sym, ap, ◌∙◌, arith}
+use Rattle.std.proofs.lemmas.List.{map_push, length-map}
+use Rattle.std.specs.declared.alloc.Global.{Global}
+use Rattle.yq_inline.specs.Values.{entries, field_of, node_of}
+use Rattle.yq_inline.specs.declared.value.Value.{Value}
+use Rattle.yq_scalar.specs.Tree.{Node}
+use Rattle.yq_planning.specs.EntryNumbers.{entry_number}
+use Rattle.yq_planning.proofs.SumLaws.{get_seen, number_same, numbered_push, number_within, set_seen, with_absent, with_present}
+use Rattle.yq_planning.proofs.updating.sum.put_entry.Goals as goal
+
+abbrev Entry : Type 0
+Entry = String Global × Value
+
+pub index_mut-requires : goal.index_mut-requires
+index_mut-requires c =
+    let k : List ℕ = c.as_str.result.now in
+    let es : List Entry = c.args.entries.now.items in
+    let at : entry_number k (map field_of es) ≡ Some c.in-Some.number = sym (c.requires k) ∙ (sym c.number_of.ensures ∙ c.in-Some.is) in
+    let within = number_within k (map field_of es) c.in-Some.number at in
+    let same = length-map es field_of in
+    omega (arith, within, same)
+
+pub returns-in-Some-clause-entries : goal.returns-in-Some-clause-entries
+returns-in-Some-clause-entries c =
+    let k : List ℕ = string_bytes c.args.key in
+    let es : List Entry = c.args.entries.now.items in
+    let r : Entry = c.index_mut.result.now in
+    let same : entry_number k (map field_of es) ≡ Some c.in-Some.number =
+    ap (λ (j : List ℕ). entry_number j (map field_of es)) (sym c.as_str.ensures.value) ∙ (sym (c.requires c.as_str.result.now) ∙ (sym c.number_of.ensures ∙ c.in-Some.is)) in
+    ap (λ (xs : List (List ℕ × Node)). entries xs) (set_seen field_of es c.in-Some.number (r.0, c.args.value))
+    ∙ sym (with_present k (map field_of es) c.in-Some.number (string_bytes r.0) (node_of c.args.value) (field_of r) same
+    (ap (λ (x : List ℕ × Node). x.0) (get_seen field_of es c.in-Some.number r) ∙ ap (λ (x : Entry). string_bytes x.0) (sym c.index_mut.ensures.value)))
+
+pub returns-in-Some-clause-numbers : goal.returns-in-Some-clause-numbers
+returns-in-Some-clause-numbers c = λ k.
+    let j : List ℕ = c.as_str.result.now in
+    let es : List Entry = c.args.entries.now.items in
+    let r : Entry = c.index_mut.result.now in
+    let at : entry_number j (map field_of es) ≡ Some c.in-Some.number = sym (c.requires j) ∙ (sym c.number_of.ensures ∙ c.in-Some.is) in
+    c.requires k
+    ∙ sym (ap (entry_number k) (set_seen field_of es c.in-Some.number (r.0, c.args.value))
+    ∙ number_same k (map field_of es) c.in-Some.number (string_bytes r.0) (node_of c.args.value) (field_of r) (number_within j (map field_of es) c.in-Some.number at)
+    (ap (λ (x : List ℕ × Node). x.0) (get_seen field_of es c.in-Some.number r) ∙ ap (λ (x : Entry). string_bytes x.0) (sym c.index_mut.ensures.value)))
+
+pub returns-in_ok-push-in-None-clause-entries : goal.returns-in_ok-push-in-None-clause-entries
+returns-in_ok-push-in-None-clause-entries c =
+    let k : List ℕ = string_bytes c.args.key in
+    let same : entry_number k (map field_of c.args.entries.now.items) ≡ None =
+    ap (λ (j : List ℕ). entry_number j (map field_of c.args.entries.now.items)) (sym c.as_str.ensures.value) ∙ (sym (c.requires c.as_str.result.now) ∙ (sym c.number_of.ensures ∙ c.in-None.is)) in
+    ap (λ (es : List (List ℕ × Node)). entries es) (ap (map field_of) c.in_ok-push-in-None.ensures.items ∙ map_push field_of c.args.entries.now.items (c.args.key, c.args.value))
+    ∙ sym (with_absent k (map field_of c.args.entries.now.items) (node_of c.args.value) same)
+
+pub returns-in_ok-push-in-None-clause-numbers : goal.returns-in_ok-push-in-None-clause-numbers
+returns-in_ok-push-in-None-clause-numbers c = λ k.
+    numbered_push field_of c.args.entries.now.items _ (c.args.key, c.args.value) c.as_str-in-None.result.now k (length c.as_slice.result.now) _ _ c.as_str-in-None.ensures.value (ap length c.as_slice.ensures.value) (c.requires k) (c.in_ok-keep_number-in-None.ensures k) c.in_ok-push-in-None.ensures.items

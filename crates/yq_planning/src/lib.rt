@@ -1,0 +1,25 @@
+//! What an update changes in trees: where its pipes lead, the changes there, and the operations that carry them out.
+#![tactic(auto)]
+
+mod laws;
+mod matching;
+mod updating;
+
+pub use laws::{
+    changes_apart, one_program, places_apart, plan_fits, plan_means, plan_refused, plan_rooms,
+    rest_follows, rooms_alike, rooms_ready,
+};
+pub use matching::copy::copy_at;
+pub use matching::pipe::find;
+pub use matching::place::{Missing, NodePath, NodeStep, Place};
+pub use updating::added::added;
+pub use updating::allowed::allow;
+pub use updating::anchors::{Aliases, aliases_of};
+pub use updating::change::{Addition, Change, Changed};
+pub use updating::comment_text::has_comment;
+pub use updating::copied::copied;
+pub use updating::operations::operations;
+pub use updating::put::put;
+pub use updating::right_value::right_value;
+pub use updating::steps::path_steps;
+pub use updating::sum::is_null;

@@ -1,0 +1,118 @@
+//! A value that is added to a node.
+ghost use Rattle.std.specs.Prelude.{◌≡◌, IfOk, None, Some, map, false};
+ghost use Rattle.yq_inline.specs.Values.{entries_of, node_of as value_node, items_of};
+ghost use Rattle.yq_scalar.specs.Tree.{Children, children_of, none, scalar};
+ghost use Rattle.yq_documents.specs.Nodes.{node_of};
+ghost use Rattle.yq_meaning.specs.Changes as spec;
+ghost use Rattle.yq_planning.specs.ChangeView.{addition_of, change_of};
+ghost use Rattle.yq_planning.specs.Indexes.{IsIndex};
+ghost use Rattle.yq_meaning.specs.Judgement.{Matches};
+ghost use Rattle.yq_meaning.specs.RightValues as values;
+
+use crate::updating::change::{Addition, Change};
+use crate::updating::copied::copied;
+use crate::updating::entry_index::{EntryIndex, find, index_of};
+use crate::updating::sum::scalar_sum;
+use std::alloc::{AllocError, Global};
+use yq_documents::{Node, NodeKind};
+use yq_inline::Value;
+use yq_meaning::{MatchError, Refusal};
+use yq_scalar::Kind;
+
+/// A value that is added to a scalar.
+fn to_scalar(alloc: Global, kind: Kind, text: &str, value: &Value) -> Result<Change, MatchError>
+    requires { values.is_null (value_node value.now) ≡ false }
+    ensures { Matches change_of result (spec.added (scalar None kind text.now) (value_node value.now)) }
+{
+    match (kind, value) {
+        (Kind::Null, _) => Ok(Change::Replaces(copied(alloc, value)?)),
+        (_, Value::Scalar(other)) => Ok(Change::Replaces(scalar_sum(alloc, kind, text, other)?)),
+        (_, Value::List(_) | Value::Map(_)) => Err(MatchError::Refused(Refusal::KindMismatch)),
+    }
+}
+
+/// One item more.
+fn item(alloc: Global, value: &Value) -> Result<Addition, AllocError>
+    ensures { IfOk result (λ x. addition_of x ≡ spec.appends None (value_node value.now)) }
+{
+    Ok(Addition::Appends(None, copied(alloc, value)?))
+}
+
+/// The items of a list.
+fn items(alloc: Global, values: &Vec<Value>) -> Result<Vec<Addition>, AllocError>
+    ensures { IfOk result (λ v. map addition_of v.items ≡ spec.additions none (items_of values.now.items)) }
+{
+    let mut additions = Vec::new(alloc);
+    'values: for value in values {
+        additions.push(item(alloc, value)?)?;
+    }
+    Ok(additions)
+}
+
+/// The items that a list gets from a value.
+fn to_list(alloc: Global, value: &Value) -> Result<Vec<Addition>, AllocError>
+    ensures { IfOk result (λ v. map addition_of v.items ≡ spec.additions none (values.as_items (value_node value.now))) }
+{
+    if let Value::List(values) = value {
+        return items(alloc, values);
+    }
+    let mut additions = Vec::with_capacity(alloc, 1)?;
+    additions.push(item(alloc, value)?)?;
+    Ok(additions)
+}
+
+/// An entry for a mapping with the entries of that index.
+fn entry(
+    alloc: Global,
+    index: &EntryIndex<'_, '_>,
+    key: &str,
+    value: &Value,
+) -> Result<Addition, AllocError>
+    ensures { (cs : Children) → IsIndex cs index.now → IfOk result (λ x. addition_of x ≡ spec.addition cs (Some key.now) (value_node value.now)) }
+{
+    let owned = String::from_str(alloc, key)?;
+    let value = copied(alloc, value)?;
+    match find(index, key) {
+        Some(_) => Ok(Addition::Overwrites(owned, value)),
+        None => Ok(Addition::Appends(Some(owned), value)),
+    }
+}
+
+/// Entries for a mapping with the entries of that index.
+fn entries(
+    alloc: Global,
+    index: &EntryIndex<'_, '_>,
+    others: &Vec<(String, Value)>,
+) -> Result<Vec<Addition>, AllocError>
+    ensures { (cs : Children) → IsIndex cs index.now → IfOk result (λ v. map addition_of v.items ≡ spec.additions cs (entries_of others.now.items)) }
+{
+    let mut additions = Vec::new(alloc);
+    'each: for other in others {
+        additions.push(entry(alloc, index, other.0.as_str(), &other.1)?)?;
+    }
+    Ok(additions)
+}
+
+/// The entries of a value for a mapping.
+fn to_map(alloc: Global, node: Node<'_, '_>, value: &Value) -> Result<Change, MatchError>
+    ensures { Matches change_of result (spec.added_entries (children_of (node_of node.entry)) (value_node value.now)) }
+{
+    let Value::Map(others) = value else {
+        return Err(MatchError::Refused(Refusal::KindMismatch));
+    };
+    let index = index_of(alloc, node)?;
+    Ok(Change::Adds(entries(alloc, &index, others)?))
+}
+
+/// What a value changes that is added to a node.
+pub fn added(alloc: Global, node: Node<'_, '_>, value: &Value) -> Result<Change, MatchError>
+    requires { values.is_null (value_node value.now) ≡ false }
+    ensures { Matches change_of result (spec.added (node_of node.entry) (value_node value.now)) }
+{
+    match node.kind() {
+        NodeKind::Alias => Err(MatchError::Refused(Refusal::ThroughAlias)),
+        NodeKind::Scalar(kind) => to_scalar(alloc, kind, node.text(), value),
+        NodeKind::List => Ok(Change::Adds(to_list(alloc, value)?)),
+        NodeKind::Map => to_map(alloc, node, value),
+    }
+}

@@ -1,0 +1,48 @@
+//! The entries of a mapping, by their keys.
+ghost use Rattle.std.specs.Prelude.{◌≡◌, IfOk, List, OnOk, option_map, ℕ};
+ghost use Rattle.yq_scalar.specs.Paths.{To, child_at};
+ghost use Rattle.yq_scalar.specs.Tree.{Children, children_of};
+ghost use Rattle.yq_documents.specs.Nodes.{label_of, node_of};
+ghost use Rattle.yq_planning.specs.Indexes.{IsIndex, kept_first, text_at};
+
+use std::alloc::{AllocError, Global};
+use std::collections::BTreeMap;
+use yq_documents::Node;
+
+/// The first value of each key.
+pub(crate) type EntryIndex<'d, 't> = BTreeMap<&'d str, Node<'d, 't>>;
+
+/// Keeps the value of an entry, if there is none for its key.
+fn keep<'d, 't>(index: &mut EntryIndex<'d, 't>, entry: Node<'d, 't>) -> Result<(), AllocError>
+    ensures { OnOk result ((k : List ℕ) → option_map node_of (text_at k index.new) ≡ kept_first k (option_map node_of (text_at k index.old)) (label_of entry.entry) (node_of entry.entry)) }
+{
+    let Some(key) = entry.key() else {
+        return Ok(());
+    };
+    if !index.contains_key(key) {
+        index.insert(key, entry)?;
+    }
+    Ok(())
+}
+
+/// The entries of a node, by their keys.
+pub(crate) fn index_of<'d, 't>(
+    alloc: Global,
+    node: Node<'d, 't>,
+) -> Result<EntryIndex<'d, 't>, AllocError>
+    ensures { IfOk result (λ m. IsIndex (children_of (node_of node.entry)) m) }
+{
+    let mut index = BTreeMap::new(alloc);
+    let mut entries = node.children();
+    'each: while let Some(entry) = entries.next() {
+        keep(&mut index, entry)?;
+    }
+    Ok(index)
+}
+
+/// The value of the entry of a key.
+pub fn find<'d, 't>(index: &EntryIndex<'d, 't>, key: &str) -> Option<Node<'d, 't>>
+    ensures { (cs : Children) → IsIndex cs index.now → option_map node_of result ≡ child_at (To key.now) cs }
+{
+    index.get(key).copied()
+}

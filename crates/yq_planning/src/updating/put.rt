@@ -1,0 +1,121 @@
+//! A value that is put at a place.
+ghost use Rattle.std.specs.List.{list_any};
+ghost use Rattle.std.specs.Prelude.{◌≡◌, ◌∷◌, [], IfOk, map};
+ghost use Rattle.yq_inline.specs.Values.{node_of as value_node};
+ghost use Rattle.yq_scalar.specs.Tree as tree;
+ghost use Rattle.yq_documents.specs.Nodes.{node_of};
+ghost use Rattle.yq_documents.specs.TreeEdits.{new_label};
+ghost use Rattle.yq_meaning.specs.Changes as spec;
+ghost use Rattle.yq_planning.specs.ChangeView.{change_of};
+ghost use Rattle.yq_planning.specs.ChangeView.{placed_change};
+ghost use Rattle.yq_meaning.specs.Judgement.{Matches};
+ghost use Rattle.yq_planning.specs.PlaceView.{place_of};
+ghost use Rattle.yq_program.specs.Program.{is_index};
+ghost use Rattle.yq_program.specs.View.{step_of};
+
+use crate::matching::place::Place;
+use crate::updating::change::{Addition, Change};
+use crate::updating::steps::missing_steps;
+use std::alloc::{AllocError, Global};
+use yq_documents::{Node, NodeKind};
+use yq_inline::Value;
+use yq_meaning::{MatchError, Refusal};
+use yq_program::{Step, is_index};
+
+/// Whether some step is an index.
+fn has_index(steps: &[&Step]) -> bool
+    ensures { result ≡ list_any (λ s. is_index (step_of s.now)) steps.now }
+{
+    steps.iter().any(|step| is_index(step))
+}
+
+/// The mapping of one entry.
+fn single(alloc: Global, key: &str, value: Value) -> Result<Value, AllocError>
+    ensures { IfOk result (λ v. value_node v ≡ tree.map None (tree.child (new_label (Some key.now)) (value_node value) tree.none)) }
+{
+    let key = String::from_str(alloc, key)?;
+    let mut entries = Vec::with_capacity(alloc, 1)?;
+    entries.push((key, value))?;
+    Ok(Value::Map(entries))
+}
+
+/// A value under one key more.
+fn under(alloc: Global, step: &Step, value: Value) -> Result<Value, AllocError>
+    ensures { IfOk result (λ v. value_node v ≡ spec.nested (step_of step.now ∷ []) (value_node value)) }
+{
+    match step {
+        Step::Key(key) => single(alloc, key.as_str(), value),
+        Step::Index(_) | Step::Each => Ok(value),
+    }
+}
+
+/// A value under keys, a mapping of one entry for each.
+fn nested(alloc: Global, steps: &[&Step], value: Value) -> Result<Value, AllocError>
+    ensures { IfOk result (λ v. value_node v ≡ spec.nested (map (λ s. step_of s.now) steps.now) (value_node value)) }
+{
+    let mut nested = value;
+    let mut rest = steps;
+    'steps: while let [front @ .., last] = rest {
+        nested = under(alloc, last, nested)?;
+        rest = front;
+    }
+    Ok(nested)
+}
+
+/// One entry more, of a step's key.
+fn appended(alloc: Global, step: &Step, value: Value) -> Result<Change, AllocError>
+    ensures { IfOk result (λ c. change_of c ≡ spec.adds (spec.appends (spec.step_key (step_of step.now)) (value_node value) ∷ [])) }
+{
+    let key = match step {
+        Step::Key(key) => Some(String::from_str(alloc, key.as_str())?),
+        Step::Index(_) | Step::Each => None,
+    };
+    let mut additions = Vec::with_capacity(alloc, 1)?;
+    additions.push(Addition::Appends(key, value))?;
+    Ok(Change::Adds(additions))
+}
+
+/// A value under missing keys below a node: a mapping gets an entry more, and a
+/// null gives way to a mapping.
+fn made(
+    alloc: Global,
+    node: Node<'_, '_>,
+    first: &Step,
+    others: &[&Step],
+    value: Value,
+) -> Result<Change, AllocError>
+    ensures { IfOk result (λ c. change_of c ≡ spec.made (node_of node.entry) (step_of first.now) (map (λ s. step_of s.now) others.now) (value_node value)) }
+{
+    let below = nested(alloc, others, value)?;
+    if node.kind() == NodeKind::Map {
+        return appended(alloc, first, below);
+    }
+    Ok(Change::Replaces(under(alloc, first, below)?))
+}
+
+/// What a value changes that is put below a node from which steps are missing:
+/// no item can be made.
+fn put_below(
+    alloc: Global,
+    node: Node<'_, '_>,
+    missing: &[&Step],
+    value: Value,
+) -> Result<Change, MatchError>
+    ensures { Matches change_of result (spec.put_below (node_of node.entry) (map (λ s. step_of s.now) missing.now) (value_node value)) }
+{
+    let [first, others @ ..] = missing else {
+        return Ok(Change::Replaces(value));
+    };
+    if has_index(missing) {
+        return Err(MatchError::Refused(Refusal::IndexOutOfRange));
+    }
+    Ok(made(alloc, node, first, others, value)?)
+}
+
+/// What a value changes that is put at a place.
+pub fn put(alloc: Global, place: Place<'_, '_>, value: Value) -> Result<Change, MatchError>
+    ensures { Matches (placed_change (place_of place.entry)) result (spec.put_at (place_of place.entry) (value_node value)) }
+{
+    let missing = missing_steps(alloc, place.missing)?;
+    put_below(alloc, place.node, &missing, value)
+}

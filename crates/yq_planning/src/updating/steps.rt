@@ -1,0 +1,51 @@
+//! The steps of a place, in order.
+ghost use Rattle.std.specs.Prelude.{◌≡◌, IfOk, map};
+ghost use Rattle.yq_inline.specs.Entries.{step_of as tree_step};
+ghost use Rattle.yq_planning.specs.PlaceView.{missing_of, path_of};
+ghost use Rattle.yq_program.specs.View.{step_of};
+
+use crate::matching::owned;
+use crate::matching::place::{Missing, NodePath};
+use std::alloc::{AllocError, Global};
+use yq_program::Step;
+
+/// The steps of a path.
+pub fn path_steps(alloc: Global, path: NodePath<'_>) -> Result<Vec<yq_inline::Step>, AllocError>
+    ensures { IfOk result (λ v. map tree_step v.items ≡ path_of path.entry) }
+{
+    let mut steps = Vec::new(alloc);
+    let mut rest = path;
+    'steps: loop {
+        match rest {
+            NodePath::Root => break,
+            NodePath::Below(front, last) => {
+                steps.push(owned(alloc, last)?)?;
+                rest = *front;
+            }
+        }
+    }
+    steps.reverse();
+    Ok(steps)
+}
+
+/// The steps that are missing.
+pub(crate) fn missing_steps<'a>(
+    alloc: Global,
+    missing: Missing<'a>,
+) -> Result<Vec<&'a Step>, AllocError>
+    ensures { IfOk result (λ v. map (λ s. step_of s.now) v.items ≡ missing_of missing.entry) }
+{
+    let mut steps = Vec::new(alloc);
+    let mut rest = missing;
+    'steps: loop {
+        match rest {
+            Missing::Nothing => break,
+            Missing::Further(front, last) => {
+                steps.push(last)?;
+                rest = *front;
+            }
+        }
+    }
+    steps.reverse();
+    Ok(steps)
+}

@@ -1,0 +1,7 @@
+pub mod ClapRows
+pub mod ClapFaults
+pub mod ClapLevel
+pub mod ClapWalk
+pub mod Counts
+pub mod Simple
+pub mod WordsFound

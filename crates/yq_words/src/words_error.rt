@@ -1,0 +1,23 @@
+//! Why words are no command.
+
+use std::alloc::AllocError;
+
+/// Why words are no command.
+#[derive(Clone, Copy, Debug, PartialEq, Eq)]
+pub enum WordsError {
+    /// They are no words of the command line.
+    Usage,
+    /// Memory ran out.
+    OutOfMemory,
+}
+
+impl From<AllocError> for WordsError {
+    ghost use Rattle.std.specs.Prelude.{◌≡◌};
+    ghost use Rattle.yq_words.specs.declared.words_error.WordsError.TheVariants.{OutOfMemory};
+
+    ghost from_gives = { λ _ e. e ≡ OutOfMemory };
+
+    fn from(_refused: AllocError) -> WordsError {
+        WordsError::OutOfMemory
+    }
+}
