@@ -25,7 +25,7 @@ use Rattle.yq_commands.specs.Effects.{Effect, refuses, writes_nothing, leaves, f
 use Rattle.yq_commands.specs.Editing.{Outcome, unreadable, refused, edited, Refuses, program_in, edits}
 use Rattle.yq_commands.specs.Edits.{edit_record}
 use Rattle.yq_commands.specs.Faults.{is_outside, of_fault, of_journal, of_read}
-use Rattle.yq_commands.specs.Pair.{Writes}
+use Rattle.yq_commands.specs.Pair.{IsJournal}
 use Rattle.yq_commands.specs.Causes.{IsFor, named}
 use Rattle.yq_commands.specs.Walks.{step_of}
 use Rattle.yq_commands.proofs.MoveLaws.{fault_outside, no_way_free}
@@ -34,10 +34,6 @@ use Rattle.yq_commands.proofs.PairLaws.{some_none}
 pub on_ok : {T E P : Type 0} (r : Result T E) → P → OnOk r P
 on_ok (Ok v) p = p
 on_ok (Err e) p = tt
-
--- a journal that was written is read back
-pub reads_back : (c e : Content) (j : List ℕ) (s : State) → Writes c e j s → journal_beside (get e j) ≡ Some s
-reads_back c e j s w = ap (λ m. journal_beside (get m j)) w.written ∙ ap journal_beside (get_written c j w.bytes) ∙ w.reads
 
 -- cut short by the store or by want of memory, with nothing written
 pub works_outside : (T : Type 0) (x : Effect) (f j : List ℕ) (c : Content) (e : Fault) → is_outside e ≡ true → Works x f j c c {T = T} (Err e)
@@ -51,12 +47,12 @@ works_refused T x f j c e is =
     subst (λ y. Works y f j c c {T = T} (Err e)) (sym is)
     (elim (is_outside e) as (λ b. MatchBool b (Unit {0}) (e ≡ e)) [ true ↦ tt | false ↦ refl ], refl)
 
-left : (f j u : List ℕ) (z : State) (c d : Content) {T : Type 0} (r : Result T Fault) → OnOk r (get d f ≡ Some u) → OnOk r (journal_beside (get d j) ≡ Some z) → IfErr r (λ e. IsTrue (is_outside e)) → Works (leaves u z) f j c d r
+left : (f j u : List ℕ) (z : State) (c d : Content) {T : Type 0} (r : Result T Fault) → OnOk r (get d f ≡ Some u) → OnOk r (IsJournal (get d j) z) → IfErr r (λ e. IsTrue (is_outside e)) → Works (leaves u z) f j c d r
 left f j u z c d (Ok v) text journal out = (text, journal)
 left f j u z c d (Err e) text journal out = out
 
 -- carried out, or cut short
-pub works_leaves : (x : Effect) (f j u : List ℕ) (z : State) (c d : Content) {T : Type 0} (r : Result T Fault) → x ≡ leaves u z → OnOk r (get d f ≡ Some u) → OnOk r (journal_beside (get d j) ≡ Some z) → IfErr r (λ e. IsTrue (is_outside e)) → Works x f j c d r
+pub works_leaves : (x : Effect) (f j u : List ℕ) (z : State) (c d : Content) {T : Type 0} (r : Result T Fault) → x ≡ leaves u z → OnOk r (get d f ≡ Some u) → OnOk r (IsJournal (get d j) z) → IfErr r (λ e. IsTrue (is_outside e)) → Works x f j c d r
 works_leaves x f j u z c d r is text journal out = subst (λ y. Works y f j c d r) (sym is) (left f j u z c d r text journal out)
 
 some_fault : (x y : JournalFault) → Some x ≡ Some y → x ≡ y
@@ -93,12 +89,12 @@ walk_refused f j c s t w step {T = T} r e x is err of names =
     (named_walk T f j c s t (step_of w) x (subst (λ y. Names x (way_fault s.records s.at y t)) is names))
 
 -- one that leaves the text equal: the journal alone was written
-pub walk_equal : (f j : List ℕ) (c d : Content) (s : State) (t : List ℕ) (step : Move) {T : Type 0} (r : Result T Fault) → get c f ≡ Some t → get d f ≡ get c f → walk_effect step t s ≡ leaves t (moved s step) → OnOk r (journal_beside (get d j) ≡ Some (moved s step)) → IfErr r (λ e. IsTrue (is_outside e)) → Works (walk_effect step t s) f j c d r
+pub walk_equal : (f j : List ℕ) (c d : Content) (s : State) (t : List ℕ) (step : Move) {T : Type 0} (r : Result T Fault) → get c f ≡ Some t → get d f ≡ get c f → walk_effect step t s ≡ leaves t (moved s step) → OnOk r (IsJournal (get d j) (moved s step)) → IfErr r (λ e. IsTrue (is_outside e)) → Works (walk_effect step t s) f j c d r
 walk_equal f j c d s t step r there same is journal out =
     works_leaves (walk_effect step t s) f j t (moved s step) c d r is (on_ok r (same ∙ there)) journal out
 
 -- a move in three writes
-pub works_carried : (f j : List ℕ) (c d : Content) (s : State) (t u : List ℕ) (step : Move) {T : Type 0} (r : Result T Fault) → moved_text s.records s.at step t ≡ Some u → OnOk r (get d f ≡ Some u) → OnOk r (journal_beside (get d j) ≡ Some (moved s step)) → IfErr r (λ e. is_outside e ≡ false → option_map of_fault (no_way s.records s.at step) ≡ Some e) → ((y : JournalFault) → no_way s.records s.at step ≡ Some y → r ≡ Err (of_fault y)) → (no_way s.records s.at step ≢ None → d ≡ c) → Works (walk_effect step t s) f j c d r
+pub works_carried : (f j : List ℕ) (c d : Content) (s : State) (t u : List ℕ) (step : Move) {T : Type 0} (r : Result T Fault) → moved_text s.records s.at step t ≡ Some u → OnOk r (get d f ≡ Some u) → OnOk r (IsJournal (get d j) (moved s step)) → IfErr r (λ e. is_outside e ≡ false → option_map of_fault (no_way s.records s.at step) ≡ Some e) → ((y : JournalFault) → no_way s.records s.at step ≡ Some y → r ≡ Err (of_fault y)) → (no_way s.records s.at step ≢ None → d ≡ c) → Works (walk_effect step t s) f j c d r
 works_carried f j c d s t u step {T = T} r leads text journal fault told barred = elim (no_way s.records s.at step) as (λ o. no_way s.records s.at step ≡ o → Works (goes_to o (moved_text s.records s.at step t) (moved s step)) f j c d r) [
   | None ↦ λ is. works_leaves (leads_to (moved_text s.records s.at step t) (moved s step)) f j u (moved s step) c d r (ap (λ o. leads_to o (moved s step)) leads) text journal (fault_outside r (no_way s.records s.at step) is fault)
   | Some y ↦ λ is.
@@ -107,7 +103,7 @@ works_carried f j c d s t u step {T = T} r leads text journal fault told barred 
 ] refl
 
 -- an undo or a redo in three writes
-pub walk_other : (f j : List ℕ) (c d : Content) (s : State) (t u : List ℕ) (w : Walk) (step : Move) {T : Type 0} (r : Result T Fault) → step ≡ step_of w → moved_text s.records s.at step t ≡ Some u → OnOk r (get d f ≡ Some u) → OnOk r (journal_beside (get d j) ≡ Some (moved s step)) → IfErr r (λ e. is_outside e ≡ false → option_map of_fault (no_way s.records s.at step) ≡ Some e) → ((y : JournalFault) → no_way s.records s.at step ≡ Some y → r ≡ Err (of_fault y)) → (no_way s.records s.at step ≢ None → d ≡ c) → Works (walk_effect (step_of w) t s) f j c d r
+pub walk_other : (f j : List ℕ) (c d : Content) (s : State) (t u : List ℕ) (w : Walk) (step : Move) {T : Type 0} (r : Result T Fault) → step ≡ step_of w → moved_text s.records s.at step t ≡ Some u → OnOk r (get d f ≡ Some u) → OnOk r (IsJournal (get d j) (moved s step)) → IfErr r (λ e. is_outside e ≡ false → option_map of_fault (no_way s.records s.at step) ≡ Some e) → ((y : JournalFault) → no_way s.records s.at step ≡ Some y → r ≡ Err (of_fault y)) → (no_way s.records s.at step ≢ None → d ≡ c) → Works (walk_effect (step_of w) t s) f j c d r
 walk_other f j c d s t u w step r is leads text journal fault told barred =
     subst (λ x. Works (walk_effect x t s) f j c d r) is (works_carried f j c d s t u step r leads text journal fault told barred)
 
@@ -182,7 +178,7 @@ module _ (f j : List ℕ) (c : Content) (s : State) (t : List ℕ) (n : ℕ) whe
   squash_one_works {T = T} v one free = subst (λ x. Works x f j c c {T = T} (Ok v)) (sym (by_count true one free)) refl
 
   -- of others the journal alone
-  pub squash_works : (d : Content) {T : Type 0} (r : Result T Fault) → (n == 1) ≡ false → squash_fault s n ≡ None → get c f ≡ Some t → get d f ≡ get c f → OnOk r (journal_beside (get d j) ≡ Some (squashed s n)) → IfErr r (λ e. IsTrue (is_outside e)) → Works (squash_effect n t s) f j c d r
+  pub squash_works : (d : Content) {T : Type 0} (r : Result T Fault) → (n == 1) ≡ false → squash_fault s n ≡ None → get c f ≡ Some t → get d f ≡ get c f → OnOk r (IsJournal (get d j) (squashed s n)) → IfErr r (λ e. IsTrue (is_outside e)) → Works (squash_effect n t s) f j c d r
   squash_works d r some free there same journal out = works_leaves (squash_effect n t s) f j t (squashed s n) c d r (by_count false some free) (on_ok r (same ∙ there)) journal out
 
 -- ---- edits
@@ -232,7 +228,7 @@ module _ (f j : List ℕ) (c : Content) (expr : List ℕ) (s : State) (t : List 
         ∙ by_room (nat_le most_records s.at)
         ∙ ap (λ m. goes_to (no_way s.records s.at (move.Edit edit)) m (moved s (move.Edit edit))) (sym leads)
 
-    pub edit_works : (d : Content) {T : Type 0} (r : Result T Fault) → OnOk r (get d f ≡ Some u) → OnOk r (journal_beside (get d j) ≡ Some (moved s (move.Edit edit))) → IfErr r (λ e. is_outside e ≡ false → option_map of_fault (no_way s.records s.at (move.Edit edit)) ≡ Some e) → ((y : JournalFault) → no_way s.records s.at (move.Edit edit) ≡ Some y → r ≡ Err (of_fault y)) → (no_way s.records s.at (move.Edit edit) ≢ None → d ≡ c) → Works (edit_effect expr o t s) f j c d r
+    pub edit_works : (d : Content) {T : Type 0} (r : Result T Fault) → OnOk r (get d f ≡ Some u) → OnOk r (IsJournal (get d j) (moved s (move.Edit edit))) → IfErr r (λ e. is_outside e ≡ false → option_map of_fault (no_way s.records s.at (move.Edit edit)) ≡ Some e) → ((y : JournalFault) → no_way s.records s.at (move.Edit edit) ≡ Some y → r ≡ Err (of_fault y)) → (no_way s.records s.at (move.Edit edit) ≢ None → d ≡ c) → Works (edit_effect expr o t s) f j c d r
     edit_works d r text journal fault told barred =
         subst (λ x. Works x f j c d r) (sym edit_moves) (works_carried f j c d s t u (move.Edit edit) r leads text journal fault told barred)
 

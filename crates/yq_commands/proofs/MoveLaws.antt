@@ -10,6 +10,7 @@ use Rattle.yq_journal.specs.declared.fault.JournalFault.TheVariants as journal
 use Rattle.yq_journal.specs.declared.moves.Move.{Move}
 use Rattle.yq_journal.specs.declared.moves.Move.TheVariants.{Edit, Undo, Redo}
 use Rattle.yq_journal.specs.Good.{AtRest, Describes, after_move, journal_beside, step_fault}
+use Rattle.yq_journal.specs.Json.{journal_text}
 use Rattle.yq_journal.specs.Record.{Patch}
 use Rattle.yq_journal.specs.History.{History}
 use Rattle.yq_journal.specs.Refusals.{Names, no_way, or_else, if_moves, way_fault}
@@ -20,10 +21,11 @@ use Rattle.yq_commands.specs.declared.fault.Fault.{Fault}
 use Rattle.yq_commands.specs.Causes.{Cause, IsFor, named}
 use Rattle.yq_store.specs.Content.{Content, get_written, get_other}
 use Rattle.yq_commands.specs.Faults.{is_outside, of_fault, of_journal}
-use Rattle.yq_commands.specs.Pair.{Arrives, GoodIn, Rest, Stands, Writes}
+use Rattle.yq_commands.specs.Pair.{Arrives, GoodIn, IsJournal, Rest, Stands, Writes}
 use Rattle.yq_commands.specs.Steps.{walk_cause, walk_next, unless_fault}
 use Rattle.yq_commands.specs.Walks.{step_of}
 use Rattle.yq_commands.specs.declared.walk.Walk.{Walk}
+use Rattle.yq_commands.proofs.PairLaws.{some_same}
 
 moved_closed : (s : State) (step : Move) → (moved s step).pending ≡ None
 moved_closed s (Edit r) = refl
@@ -34,14 +36,20 @@ pub none_of : {A : Type 0} (o : Option A) → IsNone o → o ≡ None
 none_of None h = refl
 none_of (Some x) h = cc
 
+-- what was written is the journal's text, which is read back
+pub journal_written : (c e : Content) (j : List ℕ) (s : State) → Writes c e j s → IsJournal (get e j) s
+journal_written c e j s w =
+    let there : get e j ≡ Some (journal_text s) = ap (λ m. get m j) w.written ∙ get_written c j (journal_text s) in
+    record { text = there; reads = ap journal_beside there ∙ w.reads }
+
 module _ (f j : List ℕ) (apart : f ≢ j) where
   -- a journal written beside a text
   pub wrote_journal : (c e : Content) (t : List ℕ) (s : State) (h : History) → get c f ≡ Some t → Writes c e j s → Describes s t h → Stands e f j h
   wrote_journal c e t s h is w k = record {
     text = t;
     state = s;
-    file_is = ap (λ m. get m f) w.written ∙ get_other c j w.bytes f apart ∙ is;
-    journal_is = ap (λ m. journal_beside (get m j)) w.written ∙ ap journal_beside (get_written c j w.bytes) ∙ w.reads;
+    file_is = ap (λ m. get m f) w.written ∙ get_other c j (journal_text s) f apart ∙ is;
+    journal_is = ap (λ m. journal_beside (get m j)) w.written ∙ ap journal_beside (get_written c j (journal_text s)) ∙ w.reads;
     describes = k;
   }
 
@@ -55,7 +63,7 @@ module _ (f j : List ℕ) (apart : f ≢ j) where
         ap (λ m. journal_beside (get m j)) is
         ∙ ap journal_beside (get_other e f u j (λ x. apart (sym x)))
         ∙ ap (λ m. journal_beside (get m j)) w.written
-        ∙ ap journal_beside (get_written c j w.bytes)
+        ∙ ap journal_beside (get_written c j (journal_text s))
         ∙ w.reads;
     describes = k;
   }
@@ -215,11 +223,6 @@ settles_moved s t u step m d =
     ∙ ap (λ b. if b then Some (moved s step) else None) (bytes_same u)
 
 -- the journal that a move leaves
-pub moved_journal : (j : List ℕ) (s : State) (t u : List ℕ) (step : Move) (y z : State) (g l : Content) → moved_text s.records s.at step t ≡ Some u → u ≢ t → y ≡ opened s step t → settled y u ≡ Some z → Writes g l j z → journal_beside (get l j) ≡ Some (moved s step)
+pub moved_journal : (j : List ℕ) (s : State) (t u : List ℕ) (step : Move) (y z : State) (g l : Content) → moved_text s.records s.at step t ≡ Some u → u ≢ t → y ≡ opened s step t → settled y u ≡ Some z → Writes g l j z → IsJournal (get l j) (moved s step)
 moved_journal j s t u step y z g l m changes is settles w =
-    ap (λ x. journal_beside (get x j)) w.written
-    ∙ ap journal_beside (get_written g j w.bytes)
-    ∙ w.reads
-    ∙ sym settles
-    ∙ ap (λ x. settled x u) is
-    ∙ settles_moved s t u step m changes
+    subst (IsJournal (get l j)) (some_same z (moved s step) (sym settles ∙ ap (λ x. settled x u) is ∙ settles_moved s t u step m changes)) (journal_written g l j z w)

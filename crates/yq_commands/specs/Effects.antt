@@ -19,6 +19,7 @@ use Rattle.yq_commands.specs.declared.fault.Fault.TheVariants.{NotThere, DoesNot
 use Rattle.yq_store.specs.Content.{Content}
 use Rattle.yq_commands.specs.Editing.{Outcome, unreadable, refused, edited, program_in, edits}
 use Rattle.yq_commands.specs.Edits.{edit_record}
+use Rattle.yq_commands.specs.Pair.{IsJournal}
 use Rattle.yq_commands.specs.Faults.{is_outside, is_output, of_fault}
 use Rattle.yq_commands.specs.Causes.{Cause, IsFor, named, no_reading}
 
@@ -86,7 +87,7 @@ Works (refuses x) file name old new (Ok v) = ⊥
 Works (refuses x) file name old new (Err e) = MatchBool (is_outside e) (Unit {0}) (IsFor (Some x) e) × (new ≡ old)
 Works writes_nothing file name old new (Ok v) = new ≡ old
 Works writes_nothing file name old new (Err e) = IsTrue (is_outside e) × (new ≡ old)
-Works (leaves u s) file name old new (Ok v) = (get new file ≡ Some u) × (journal_beside (get new name) ≡ Some s)
+Works (leaves u s) file name old new (Ok v) = (get new file ≡ Some u) × IsJournal (get new name) s
 Works (leaves u s) file name old new (Err e) = IsTrue (is_outside e)
 
 -- what an answer tells of an effect; that the output failed tells nothing

@@ -5,7 +5,7 @@ use Rattle.std.specs.declared.alloc.Global.{Global}
 use Rattle.yq_script.specs.Patch.{Change}
 use Rattle.yq_journal.specs.Good.{Good, Holds, AtRest, journal_beside}
 use Rattle.yq_journal.specs.History.{History}
-use Rattle.yq_journal.specs.Json.{journal_in}
+use Rattle.yq_journal.specs.Json.{journal_in, journal_text}
 use Rattle.yq_journal.specs.Record.{Patch}
 use Rattle.yq_journal.specs.State.{State}
 use Rattle.yq_commands.specs.declared.fault.Fault.{Fault}
@@ -22,11 +22,15 @@ GoodIn content file name h = Good (get content file) (get content name) h
 abbrev pub Stands : Content → List ℕ → List ℕ → History → Type 0
 Stands content file name h = Holds (get content file) (get content name) h
 
+-- what a name holds is the journal's text, which reads as that journal
+pub record IsJournal (held : Option (List ℕ)) (s : State) : Type 0 where
+  pub text : held ≡ Some (journal_text s)
+  pub reads : journal_beside held ≡ Some s
+
 -- the text of a journal was written to a name
 pub record Writes (old new : Content) (name : List ℕ) (s : State) : Type 0 where
-  pub bytes : List ℕ
-  pub reads : journal_in bytes ≡ Some s
-  pub written : new ≡ insert old name bytes
+  pub reads : journal_in (journal_text s) ≡ Some s
+  pub written : new ≡ insert old name (journal_text s)
 
 -- the file is this text, beside which this journal is at rest, and the pair is good for the history
 pub record Rest (content : Content) (file name : List ℕ) (s : State) (t : List ℕ) (h : History) : Type 0 where

@@ -1,14 +1,14 @@
 //! Moves of a file and its journal.
 ghost use Rattle.std.specs.Prelude.{◌≡◌, ◌≢◌, ◌⊎◌, ℕ, List, Option, Some, None, Err, false, IsTrue, IsNone, IfErr, OnOk, OnErr, option_map};
 ghost use Rattle.std.specs.FinMap as map;
-ghost use Rattle.yq_journal.specs.Good.{after_move, journal_beside};
+ghost use Rattle.yq_journal.specs.Good.{after_move};
 ghost use Rattle.yq_journal.specs.History.{History};
 ghost use Rattle.yq_journal.specs.Refusals.{no_way, way_fault};
 ghost use Rattle.yq_journal.specs.State.{State, moved, moved_text};
 ghost use Rattle.yq_journal.specs.declared.fault.JournalFault.{JournalFault};
 ghost use Rattle.yq_commands.specs.Effects.{Works, leaves, walk_effect};
 ghost use Rattle.yq_commands.specs.Faults.{is_outside, is_output, counted, of_fault};
-ghost use Rattle.yq_commands.specs.Pair.{Arrives, OthersStay, Rest, Stands};
+ghost use Rattle.yq_commands.specs.Pair.{Arrives, IsJournal, OthersStay, Rest, Stands};
 ghost use Rattle.yq_commands.specs.Steps.{walk_cause, walk_next};
 ghost use Rattle.yq_commands.specs.Walks.{step_of};
 
@@ -39,7 +39,7 @@ pub fn carry_out<D: Store>(
     ensures err { IsTrue D.keeps → file.now ≢ name.now → (h : History) → Rest (D.content store.old) file.now name.now journal.old old.now h →
         OnErr result (Stands (D.content store.new) file.now name.now h ⊎ Stands (D.content store.new) file.now name.now (after_move h step new.now)) }
     ensures text { IsTrue D.keeps → file.now ≢ name.now → OnOk result (map.get (D.content store.new) file.now ≡ Some new.now) }
-    ensures moved { IsTrue D.keeps → OnOk result (journal_beside (map.get (D.content store.new) name.now) ≡ Some (moved journal.old step)) }
+    ensures moved { IsTrue D.keeps → OnOk result (IsJournal (map.get (D.content store.new) name.now) (moved journal.old step)) }
     ensures leads { moved_text journal.old.records journal.old.at step old.now ≡ Some new.now }
     ensures free { OnOk result (no_way journal.old.records journal.old.at step ≡ None) }
     ensures fault { IfErr result (λ e. is_outside e ≡ false → option_map of_fault (no_way journal.old.records journal.old.at step) ≡ Some e) }
@@ -76,7 +76,7 @@ fn turn<D: Store>(
         OnOk result (Stands (D.content store.new) file name.now (after_move h (step_of walk) text.now)) }
     ensures err { IsTrue D.keeps → (file : List ℕ) → file ≢ name.now → (h : History) → Rest (D.content store.old) file name.now journal.old text.now h →
         OnErr result (Stands (D.content store.new) file name.now h ⊎ Stands (D.content store.new) file name.now (after_move h (step_of walk) text.now)) }
-    ensures moved { IsTrue D.keeps → OnOk result (journal_beside (map.get (D.content store.new) name.now) ≡ Some (moved journal.old (step_of walk))) }
+    ensures moved { IsTrue D.keeps → OnOk result (IsJournal (map.get (D.content store.new) name.now) (moved journal.old (step_of walk))) }
     ensures leads { walk_effect (step_of walk) text.now journal.old ≡ leaves text.now (moved journal.old (step_of walk)) }
     ensures outside { IfErr result (λ e. IsTrue (is_outside e)) }
     ensures others { IsTrue D.keeps → (q : List ℕ) → q ≢ name.now → map.get (D.content store.new) q ≡ map.get (D.content store.old) q }

@@ -1,4 +1,4 @@
-//! Ways to edit flow collections, and to take out what stands alone in one.
+//! Ways that edit flow collections, and one that leaves an empty collection where its sole item or entry goes.
 #![tactic(auto)]
 
 mod flow_append;

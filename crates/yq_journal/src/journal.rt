@@ -110,6 +110,7 @@ impl Journal {
         ensures ok { IfOk result (λ v. moved_text self.old.records self.old.at Move.Undo text.now ≡ Some v.items) }
         ensures moved { OnOk result (self.new ≡ moved self.old Move.Undo) }
         ensures fault { IfErr result (λ e. Names e (move_fault self.old Move.Undo text.now)) }
+        ensures memory { IfErr result (λ e. e ≡ JournalError.Memory → IsNone self.old.pending × (no_way self.old.records self.old.at Move.Undo ≡ None)) }
         ensures err { OnErr result (self.new ≡ self.old) }
     {
         if self.open.is_some() {
@@ -128,6 +129,7 @@ impl Journal {
         ensures ok { IfOk result (λ v. moved_text self.old.records self.old.at Move.Redo text.now ≡ Some v.items) }
         ensures moved { OnOk result (self.new ≡ moved self.old Move.Redo) }
         ensures fault { IfErr result (λ e. Names e (move_fault self.old Move.Redo text.now)) }
+        ensures memory { IfErr result (λ e. e ≡ JournalError.Memory → IsNone self.old.pending × (no_way self.old.records self.old.at Move.Redo ≡ None)) }
         ensures err { OnErr result (self.new ≡ self.old) }
     {
         if self.open.is_some() {
@@ -145,6 +147,7 @@ impl Journal {
         ensures ok { IfOk result (λ v. moved_text self.now.records self.now.at step.now text.now ≡ Some v.items) }
         ensures free { OnOk result (way_fault self.now.records self.now.at step.now text.now ≡ None) }
         ensures err { IfErr result (λ e. Names e (way_fault self.now.records self.now.at step.now text.now)) }
+        ensures memory { IfErr result (λ e. e ≡ JournalError.Memory → no_way self.now.records self.now.at step.now ≡ None) }
     {
         target(alloc, &self.records, self.at, step, text)
     }

@@ -1,9 +1,10 @@
 use Rattle.std.proofs.Common.{inl, inr, refl}
-use Rattle.yq_commands.proofs.MoveLaws.{turned, same_content, on_ok_map, on_err_map, either}
-use Rattle.std.proofs.Common.{ap, ◌∙◌, Some}
+use Rattle.yq_commands.proofs.MoveLaws.{journal_written, turned, same_content, on_ok_map, on_err_map, either}
+use Rattle.std.proofs.Common.{subst}
 use Rattle.yq_journal.specs.State.{moved}
+use Rattle.yq_commands.specs.Pair.{IsJournal}
 use Rattle.yq_commands.specs.Walks.{step_of}
-use Rattle.yq_commands.proofs.EffectLaws.{reads_back, way_free}
+use Rattle.yq_commands.proofs.EffectLaws.{way_free}
 use Rattle.yq_commands.proofs.moves.turn.Goals as goal
 
 pub returns-clause-ok : goal.returns-clause-ok
@@ -16,7 +17,7 @@ returns-clause-err g c = λ keeps file apart h k. on_err_map _ (c.write_journal.
 
 pub returns-clause-moved : goal.returns-clause-moved
 returns-clause-moved g c = λ keeps.
-    on_ok_map _ (c.write_journal.ensures.ok keeps) (λ w. reads_back _ _ _ _ w ∙ ap Some c.in_ok-make.ensures.moved)
+    on_ok_map _ (c.write_journal.ensures.ok keeps) (λ w. subst (IsJournal _) c.in_ok-make.ensures.moved (journal_written _ _ _ _ w))
 
 pub returns-clause-leads : goal.returns-clause-leads
 returns-clause-leads g c = way_free c.args.journal.now.records c.args.journal.now.at (step_of c.args.walk) c.args.text.now c.args.text.now (moved c.args.journal.now (step_of c.args.walk)) c.requires.way c.requires.equal

@@ -2,10 +2,11 @@ use Rattle.std.proofs.Common.{ℕ, refl}
 use Rattle.std.proofs.lemmas.Result.{err_from_is_err_and}
 use Rattle.yq_commands.proofs.MoveLaws.{none_of}
 use Rattle.yq_commands.proofs.SquashLaws.{squash_refused, squash_of_one, squash_ends}
-use Rattle.yq_commands.proofs.MoveLaws.{on_ok_map}
-use Rattle.std.proofs.Common.{ap, ◌∙◌, Some}
+use Rattle.yq_commands.proofs.MoveLaws.{journal_written, on_ok_map}
+use Rattle.std.proofs.Common.{subst}
+use Rattle.yq_commands.specs.Pair.{IsJournal}
 use Rattle.std.proofs.lemmas.Bool.{eq-eqb, ne_eqb}
-use Rattle.yq_commands.proofs.EffectLaws.{reads_back, squash_not_done, squash_one_works, squash_works}
+use Rattle.yq_commands.proofs.EffectLaws.{squash_not_done, squash_one_works, squash_works}
 use Rattle.yq_commands.proofs.squash.squash_from.Goals as goal
 
 pub returns-in_err-squash-clause-arrives : goal.returns-in_err-squash-clause-arrives
@@ -34,4 +35,4 @@ returns-then-n-eq1-clause-effect g c = λ keeps file t apart there.
 pub returns-clause-effect : goal.returns-clause-effect
 returns-clause-effect g c = λ keeps file t apart there.
     squash_works file c.args.name.now (g.D.Store.content c.args.store.now) c.args.journal.now t c.args.n _ c.write_journal.result (ne_eqb c.args.n 1 c.if-n-eq1.false) c.in_ok-squash.ensures.free there (c.write_journal.ensures.others keeps file apart)
-    (on_ok_map _ (c.write_journal.ensures.ok keeps) (λ w. reads_back _ _ _ _ w ∙ ap Some c.in_ok-squash.ensures.ok)) c.write_journal.ensures.outside
+    (on_ok_map _ (c.write_journal.ensures.ok keeps) (λ w. subst (IsJournal _) c.in_ok-squash.ensures.ok (journal_written _ _ _ _ w))) c.write_journal.ensures.outside
