@@ -1,9 +1,12 @@
-# make test: the whole gate. make ready: what it would refuse before any proof, in some seconds.
+# make test: the whole gate: every proof from nothing, wrong bodies, tests, and the program on real files.
+# make ready: layout, links, stray sources and wrong bodies that can't be applied, in some seconds.
 # make demo: one edit and its undo.
 # make install, make uninstall: the program, its man page and completions below PREFIX, or not.
 # make dist: an archive of these for those who don't build.
 # make wrong-bodies CRATES="yq_rows yq_tree": the wrong bodies that the gate doesn't try; all crates where none is named.
-# make corpus DIR=FOLDER: one edit and its undo in a copy of each YAML file of a folder.
+# make corpus DIR=FOLDER: edits and their undo in a copy of each YAML file of a folder.
+# make bench: time and memory of reading, editing and parsing.
+# make clean: what was proved and built goes.
 PREFIX ?= $(HOME)/.local
 YQ := crates/yq/out/yq
 SOURCES := $(shell find crates -path '*/out' -prune -o -type f \( -name '*.rt' -o -name '*.antt' \) -print) crates.txt
@@ -16,10 +19,10 @@ BASH_WORDS := $(PLACE)/share/bash-completion/completions/yq
 FISH_WORDS := $(PLACE)/share/fish/vendor_completions.d/yq.fish
 ZSH_WORDS := $(PLACE)/share/zsh/site-functions/_yq
 
-.PHONY: test ready wrong-bodies demo install uninstall dist bench corpus clean
+.PHONY: test ready wrong-bodies demo install uninstall dist bench corpus no-folder clean
 
 $(YQ): $(SOURCES)
-	python3 tools/build.py yq
+	python3 tools/build.py
 	@touch $(YQ)
 
 test:
@@ -53,8 +56,11 @@ bench: $(YQ)
 	python3 bench/edit.py $(YQ)
 	python3 bench/expressions.py $(YQ)
 
-corpus: $(YQ)
-	python3 tests/cli/corpus.py $(YQ) $(DIR)
+corpus: $(if $(DIR),,no-folder) $(YQ)
+	python3 tests/cli/corpus.py $(YQ) "$(DIR)"
+
+no-folder:
+	@echo "make corpus DIR=FOLDER: DIR, the folder with YAML files, is missing" >&2; exit 2
 
 clean:
 	rm -rf crates/*/out dist

@@ -1,6 +1,6 @@
-"""Proves and builds a program and the libraries below it, lowest first, with a line as each begins and ends.
+"""Proves and builds the program and the libraries below it, lowest first, with a line as each begins and ends.
 
-usage: build.py [CRATE]      yq, if no crate is named
+usage: build.py
 
 What is proved is kept in crates/NAME/out, so that only what has changed is proved again.
 """
@@ -10,6 +10,7 @@ import time
 
 from crates import build, libraries, that_fit
 
+PROGRAM = "yq"
 # A check takes about so much memory for each of its jobs, of which it gains from four at most.
 MEMORY, JOBS = 2_500_000_000, 4
 
@@ -30,10 +31,12 @@ def told(crate, began, verb, *words):
 
 
 def main(words):
+    if words:
+        print(__doc__.strip(), file=sys.stderr)
+        return 2
     sys.stdout.reconfigure(errors="replace")
-    program = words[0] if words else "yq"
     began = time.monotonic()
-    well = build_all(libraries()[program], began) and told(program, began, "run", "--", "--help")
+    well = build_all(libraries()[PROGRAM], began) and told(PROGRAM, began, "run", "--", "--help")
     return 0 if well else 1
 
 

@@ -1,6 +1,7 @@
-"""The crates of the repository, as crates.txt lists them, and the command that proves them."""
+"""The crates of the repository, as crates.txt lists them, the command that proves them, and how many checks fit side by side."""
 
 import os
+import re
 import resource
 import subprocess
 import time
@@ -8,6 +9,11 @@ import time
 ROOT = os.path.dirname(os.path.dirname(os.path.abspath(__file__)))
 # The toolchain's command; another one may stand in the environment, as RT="nice rt".
 RT = os.environ.get("RT", "rt").split()
+# The limit of the control group on memory, in its two versions, and what of it is held and can't be given back.
+LIMITS = (
+    ("/sys/fs/cgroup/memory.max", "/sys/fs/cgroup/memory.stat", r"^anon (\d+)"),
+    ("/sys/fs/cgroup/memory/memory.limit_in_bytes", "/sys/fs/cgroup/memory/memory.stat", r"^total_rss (\d+)"),
+)
 
 
 def libraries():
@@ -25,11 +31,29 @@ def libraries():
     return below
 
 
+def number_in(path, pattern):
+    """The number that a pattern finds in a file, or None."""
+    try:
+        with open(path, encoding="utf-8") as text:
+            found = re.search(pattern, text.read(), re.MULTILINE)
+    except OSError:
+        return None
+    return int(found[1]) if found else None
+
+
+def free_memory():
+    """How many bytes of memory are free, under the limit of the control group too."""
+    free = [1024 * number_in("/proc/meminfo", r"^MemAvailable:\s+(\d+)")]
+    for limit, held, pattern in LIMITS:
+        most, taken = number_in(limit, r"(\d+)"), number_in(held, pattern)
+        if most is not None and taken is not None:
+            free.append(most - taken)
+    return min(free)
+
+
 def that_fit(memory):
-    """How many checks of so much memory fit side by side, one a processor at most."""
-    with open("/proc/meminfo", encoding="utf-8") as lines:
-        free = next(int(it.split()[1]) * 1024 for it in lines if it.startswith("MemAvailable:"))
-    return max(1, min(len(os.sched_getaffinity(0)), free // memory))
+    """How many checks of so much memory fit side by side, one a processor at most, and at least one."""
+    return max(1, min(len(os.sched_getaffinity(0)), free_memory() // memory))
 
 
 def folder(crate):

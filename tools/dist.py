@@ -1,5 +1,5 @@
-"""Makes the archive for those who don't build: what `make install` puts below a prefix, the pages for users, the demo and
-checksums.
+"""Makes the archive for those who don't build: what `make install` puts below a prefix, a short README, the pages for users, the
+demo and checksums.
 
 usage: dist.py PATH_OF_YQ FOLDER      writes FOLDER/yq-linux-x86_64.tar.gz
 
@@ -18,7 +18,26 @@ import tempfile
 ROOT = os.path.dirname(os.path.dirname(os.path.abspath(__file__)))
 NAME = "yq-linux-x86_64"
 PAGES = ("MANUAL", "FROM-YQ-V4", "EXPRESSIONS", "TEXT", "STYLE-AND-EXTENTS", "JOURNAL")
-ADDED = ("README.md", "examples/demo.sh", "examples/server.yaml", *(f"docs/{page}.md" for page in PAGES))
+ADDED = ("examples/demo.sh", "examples/server.yaml", *(f"docs/{page}.md" for page in PAGES))
+README = """\
+# yq: edit YAML files in place, with undo
+
+`yq` prints the values of a YAML file, changes what it is told to and no other byte of it, and takes any edit back to the byte.
+
+    yq EXPR FILE               print what EXPR reads, or FILE as the update EXPR would leave it
+    yq -i EXPR FILE            edit FILE in place, and record the edit in FILE.undo.json
+    yq undo FILE               take the last edit back; yq redo FILE makes it again
+    yq history FILE            list the edits; yq squash N FILE joins the last N
+    yq --help                  all commands and options
+
+It runs on Linux with glibc on x86-64-v2. To install it, copy bin/ and share/ below a prefix: `cp -R bin share ~/.local`. To remove
+it, remove these files there. `sha256sum --check SHA256SUMS` and `sh examples/demo.sh bin/yq examples/server.yaml`, in this folder,
+show that it is whole and works.
+
+Pages: the [manual](docs/MANUAL.md) has an example for each task; [FROM-YQ-V4](docs/FROM-YQ-V4.md) is for who knows yq version 4;
+[EXPRESSIONS](docs/EXPRESSIONS.md), [TEXT](docs/TEXT.md), [STYLE-AND-EXTENTS](docs/STYLE-AND-EXTENTS.md) and
+[JOURNAL](docs/JOURNAL.md) tell all of the language, of the texts that are read, of what an edit writes, and of the journal.
+"""
 
 
 def install(yq, top):
@@ -32,6 +51,15 @@ def files_below(top):
     """The files below a folder, by their paths in it, in order."""
     found = [os.path.join(folder, name) for folder, _, names in os.walk(top) for name in names]
     return sorted(os.path.relpath(file, top) for file in found)
+
+
+def add_pages(top):
+    """Adds the README, the pages and the demo."""
+    for name in ADDED:
+        os.makedirs(os.path.dirname(os.path.join(top, name)), exist_ok=True)
+        shutil.copy(os.path.join(ROOT, name), os.path.join(top, name))
+    with open(os.path.join(top, "README.md"), "w", encoding="utf-8") as page:
+        page.write(README)
 
 
 def add_sums(top):
@@ -66,9 +94,7 @@ def main(words):
     yq, folder = map(os.path.abspath, words)
     with tempfile.TemporaryDirectory(prefix="yq-dist-") as top:
         install(yq, top)
-        for name in ADDED:
-            os.makedirs(os.path.dirname(os.path.join(top, name)), exist_ok=True)
-            shutil.copy(os.path.join(ROOT, name), os.path.join(top, name))
+        add_pages(top)
         add_sums(top)
         os.makedirs(folder, exist_ok=True)
         pack(top, os.path.join(folder, f"{NAME}.tar.gz"))

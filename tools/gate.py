@@ -4,7 +4,7 @@ usage: gate.py PATH_OF_YQ
 
 Where `rt ci` doesn't pass, the reasons are told once more at the end: what the prover says of each crate that is not proved, and
 each wrong body that is not refused. Else the last two lines are the processor seconds (user and system) that all of it took, and
-what tests/cli says last.
+what tests/cli says last, or that it said nothing.
 The status is that of `rt ci`, or of tests/cli where `rt ci` passed.
 """
 
@@ -126,17 +126,15 @@ def main(words):
     sys.stdout.reconfigure(errors="replace")
     signal.signal(signal.SIGTERM, lambda *_: sys.exit(143))
     status, tasks, reasons = prove()
-    last = None
+    end = reasons.told()
     if status == 0:
         for line in table(tasks):
             say(line)
         status, last = run_program(words[0])
+        end = [last or f"tests/cli said nothing, and ended with status {status}"]
     say(took(BEGAN))
-    if last is None:
-        for line in reasons.told():
-            say(line)
-    else:
-        say(last)
+    for line in end:
+        say(line)
     return status if status >= 0 else 128 - status
 
 

@@ -1,8 +1,9 @@
-"""Tells what `rt ci` would refuse before any proof: layout, links, files that no check reads, wrong bodies that can't be applied.
+"""Looks at what needs no proof: whether the sources are in the layout of `rt fmt`, links, sources that no check reads, and wrong
+bodies of both tiers that can't be applied.
 
 usage: ready.py
 
-It proves nothing and takes some seconds; the gate can still find what is not proved. The last line is `ready`, with the status 0,
+It takes some seconds; where it says `ready`, the gate can still refuse anything else. The last line is `ready`, with the status 0,
 or `not ready`. It works on a copy, so that checks may run meanwhile.
 """
 
@@ -17,7 +18,7 @@ from edits import hindrance, names_in
 
 # Where a crate's sources stand, by their ending.
 PLACES = {".rt": ("src",), ".antt": ("specs", "proofs")}
-LEFT = shutil.ignore_patterns(".git", "out", "out.*", "__pycache__")
+LEFT = shutil.ignore_patterns(".git", "out", "__pycache__")
 
 
 def misplaced(top):

@@ -6,7 +6,7 @@ import time
 TICKS = os.sysconf("SC_CLK_TCK")
 # What a check is of: a crate, its tests, or a copy of it with a wrong body.
 PROOF, TESTS, EDITS = "proof", "tests", "wrong bodies"
-# Between two wrong bodies of a crate, and between a program's proof and its build, no check runs for less than this.
+# A task has ended where no check of it was seen for so many seconds: the pauses within one are shorter.
 PAUSE = 5
 
 
@@ -25,7 +25,7 @@ def processes():
 
 
 def check_of(pid):
-    """The crate and the kind of the check that a process is, and the folder that it runs in; None if it is none."""
+    """The crate and the kind of the check that a process is; None if it is none."""
     try:
         with open(f"/proc/{pid}/cmdline", "rb") as it:
             words = it.read().decode(errors="replace").split("\0")
@@ -36,8 +36,8 @@ def check_of(pid):
         return None
     crate = words[words.index("--crate-name") + 1]
     if os.path.basename(folder).startswith("rt-edit-"):
-        return crate, EDITS, folder
-    return crate, TESTS if "--test" in words else PROOF, folder
+        return crate, EDITS
+    return crate, TESTS if "--test" in words else PROOF
 
 
 def checks_below(top):
@@ -66,7 +66,6 @@ class Task:
 
     def __init__(self, now):
         self.began = self.seen = now
-        self.folders = []
         self.is_told = False
         self.each = {}
 
@@ -87,14 +86,12 @@ class Watch:
         if now - self.looked < 1:
             return
         self.looked = now
-        for pid, (crate, kind, folder), seconds in checks_below(self.top):
+        for pid, (crate, kind), seconds in checks_below(self.top):
             task = self.tasks.get((crate, kind))
             if not task:
                 task = self.tasks[crate, kind] = Task(now)
                 self.begins(crate, kind, task)
             task.seen = now
-            if folder not in task.folders:
-                task.folders.append(folder)
             task.each[pid] = max(seconds, task.each.get(pid, 0))
         self.close(now - PAUSE)
 

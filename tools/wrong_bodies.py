@@ -3,9 +3,10 @@
 usage: wrong_bodies.py [--look] [CRATE ..]      all crates that have some, if none is named
 With --look it only tells which of them can't be applied to the code as it stands.
 
-They are tried by `rt must-fail` in a temporary copy of the repository, in which they stand in the place of must-fail/: a crate
-after the other, and of a crate as many side by side as processors and memory allow. The toolchain tells a crate's answers once all
-of its wrong bodies were tried, and keeps them, so that one on which nothing has changed since isn't tried again.
+The libraries below these crates are built first. The wrong bodies are then tried by `rt must-fail` in a temporary copy of the
+repository, in which they stand in the place of must-fail/ and those libraries as they were built: several crates side by side, as
+many as processors and memory allow, and first those that take longest. Those of a crate are tried one after the other, by one job;
+a crate's answers come once all of its wrong bodies were tried.
 The last line is `N refused, N not`, and the status 0 exactly where none was not refused.
 """
 
@@ -15,17 +16,23 @@ import signal
 import subprocess
 import sys
 import tempfile
+import threading
 import time
+from concurrent.futures import ThreadPoolExecutor
 
-from build import build_all
-from crates import ROOT, RT, folder, libraries, took
+from build import MEMORY, build_all
+from crates import ROOT, RT, folder, libraries, that_fit, took
 from edits import hindrance, names_in
 
 BEGAN = time.monotonic()
+# A wrong body takes about as long as the proof of so many lines of code.
+LINES = 100
 
 
 def say(text):
-    print(f"{time.monotonic() - BEGAN:5.0f} s  {text}", flush=True)
+    """Prints a line by one write, since crates are tried side by side."""
+    sys.stdout.write(f"{time.monotonic() - BEGAN:5.0f} s  {text}\n")
+    sys.stdout.flush()
 
 
 def look(crates):
@@ -37,24 +44,59 @@ def look(crates):
     return not any(why for _, _, why in found)
 
 
-def copy_to(room, crates):
-    """Copies the crates, and their wrong bodies as what must fail. What was proved or built of them the toolchain finds itself."""
-    os.mkdir(room)
+def copy_to(copy, crates):
+    """Copies all crates, these with their wrong bodies as what must fail, and the libraries that were built."""
+    os.mkdir(copy)
     for name in ("crates.txt", "HANDLES"):
-        shutil.copy2(os.path.join(ROOT, name), room)
+        shutil.copy2(os.path.join(ROOT, name), copy)
     for crate in libraries():
-        source, to = folder(crate), os.path.join(room, "crates", crate)
+        source, to = folder(crate), os.path.join(copy, "crates", crate)
         shutil.copytree(source, to, ignore=shutil.ignore_patterns("out", "must-fail", "wrong-bodies"))
+        if os.path.isdir(f"{source}/out/rlib"):
+            shutil.copytree(f"{source}/out/rlib", f"{to}/out/rlib")
         if crate in crates:
             shutil.copytree(f"{source}/wrong-bodies", f"{to}/must-fail")
 
 
-def tried(crate, room):
+def work(crate):
+    """About how long the wrong bodies of a crate take, in lines of code: a proof of the crate, and something for each."""
+    lines = 0
+    for top, _, names in os.walk(os.path.join(folder(crate), "src")):
+        for name in names:
+            with open(os.path.join(top, name), "rb") as text:
+                lines += text.read().count(b"\n")
+    return lines + LINES * len(names_in(crate))
+
+
+class Runs:
+    """Processes that end with this one."""
+
+    def __init__(self):
+        self.lock, self.all, self.is_over = threading.Lock(), [], False
+
+    def start(self, words, **how):
+        with self.lock:
+            if self.is_over:
+                raise InterruptedError
+            self.all.append(subprocess.Popen(words, **how))
+            return self.all[-1]
+
+    def end(self):
+        with self.lock:
+            self.is_over = True
+            for run in self.all:
+                if run.poll() is None:
+                    run.terminate()
+
+
+def tried(crate, copy, runs):
     """Tries the wrong bodies of one crate, and gives how many there are and how many were refused."""
     count, told, refused = len(names_in(crate)), 0, 0
     say(f"{crate}: begins, {count} wrong bodies")
-    how = {"cwd": room, "stdout": subprocess.PIPE, "stderr": subprocess.STDOUT, "encoding": "utf-8", "errors": "replace"}
-    with subprocess.Popen([*RT, "must-fail", crate], **how) as rt:
+    # What a run keeps while it tries them goes with the room, also where the run is ended.
+    room = tempfile.mkdtemp(prefix=f"{crate}-", dir=os.path.dirname(copy))
+    how = {"cwd": copy, "env": {**os.environ, "TMPDIR": room}, "encoding": "utf-8", "errors": "replace"}
+    with runs.start([*RT, "must-fail", crate], stdout=subprocess.PIPE, stderr=subprocess.STDOUT, **how) as rt:
         for line in rt.stdout:
             text = line.rstrip("\n")
             label = text.startswith(f"rt: must-fail {crate}/")
@@ -65,6 +107,18 @@ def tried(crate, room):
         say(f"{crate}: NO ANSWER for {count - told} of its wrong bodies: rt must-fail ended with status {rt.returncode}")
     say(f"{crate}: ended, {refused} of {count} refused")
     return count, refused
+
+
+def all_tried(crates, copy):
+    """Tries the wrong bodies of crates side by side, and gives how many there are and how many were refused."""
+    runs = Runs()
+    with ThreadPoolExecutor(that_fit(MEMORY)) as pool:
+        try:
+            jobs = [pool.submit(tried, crate, copy, runs) for crate in sorted(crates, key=work, reverse=True)]
+            found = [job.result() for job in jobs]
+        finally:
+            runs.end()
+    return sum(count for count, _ in found), sum(refused for _, refused in found)
 
 
 def parsed(words):
@@ -93,11 +147,11 @@ def main(words):
         return 2
     room = tempfile.mkdtemp(prefix="wrong-bodies-")
     try:
-        copy_to(os.path.join(room, "copy"), crates)
-        found = [tried(crate, os.path.join(room, "copy")) for crate in crates]
+        copy = os.path.join(room, "copy")
+        copy_to(copy, crates)
+        count, refused = all_tried(crates, copy)
     finally:
         shutil.rmtree(room, ignore_errors=True)
-    count, refused = sum(it for it, _ in found), sum(it for _, it in found)
     print(took(BEGAN))
     print(f"{refused} refused, {count - refused} not", flush=True)
     return 0 if refused == count else 1

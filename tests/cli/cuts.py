@@ -8,7 +8,7 @@ import json
 import os
 from concurrent.futures import ThreadPoolExecutor
 
-from harness import NOT_BUILT, Skip, equal
+from harness import equal
 from tracing import calls_in, own_calls, traced
 
 ERRORS = ("ENOSPC", "EIO", "EACCES")
@@ -114,8 +114,6 @@ def tells_its_history(folder, history):
     """Lists what is done and what is undone, and writes nothing."""
     before = {name: folder.read(name) for name in folder.names()}
     status, out, err = folder.run("history", FILE)
-    if err == NOT_BUILT:
-        return
     equal((status, err), (0, b""))
     marks = [line.split()[1] for line in out.split(b"\n")[:-1]]
     undone = len(history.texts) - 1 - history.at
@@ -204,9 +202,6 @@ def check_each_call_of_a_redo(folder):
 
 
 def check_each_call_of_a_squash(folder):
-    if not prepared(folder, SQUASH).copy(folder.name("tried")).can(*SQUASH.words):
-        raise Skip("squash is not carried out yet")
-    os.rename(folder.name("first"), folder.name("begun"))
     each_call(folder, "a squash", SQUASH)
 
 

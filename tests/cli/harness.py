@@ -10,7 +10,6 @@ import traceback
 ROOT = os.path.dirname(os.path.dirname(os.path.dirname(os.path.abspath(__file__))))
 NOBODY = 65534
 SECONDS = 120
-NOT_BUILT = b"Error: E2 not in profile\n"
 
 
 class Skip(Exception):
@@ -62,10 +61,6 @@ class Folder:
         """The command ends with status 1, prints nothing, and its first line on standard error is this."""
         status, out, err = self.run(*words, nobody=nobody)
         equal((status, out, err.split(b"\n")[0]), (1, b"", b"Error: " + line.encode()), words)
-
-    def can(self, *words):
-        """Whether the command is carried out by now."""
-        return self.run(*words)[2] != NOT_BUILT
 
     def give_away(self):
         """Lets nobody into the folder."""

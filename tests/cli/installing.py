@@ -7,6 +7,7 @@ import subprocess
 import sys
 import tarfile
 
+from guides import LINK
 from harness import ROOT, SECONDS, Skip, equal
 
 ARCHIVE = "yq-linux-x86_64"
@@ -84,6 +85,16 @@ def check_the_archive_is_whole(folder):
             equal(sums.pop(name), hashlib.sha256(file.read()).hexdigest(), name)
     equal(sums, {})
     run(folder, "sha256sum", "--check", "--quiet", "SHA256SUMS", cwd=top)
+
+
+def check_the_links_of_the_archive_lead_to_its_files(folder):
+    top = unpacked(folder)
+    for name in sorted(files_below(top)):
+        if name.endswith(".md"):
+            with open(os.path.join(top, name), encoding="utf-8") as page:
+                links = [link.partition("#")[0] for link in LINK.findall(page.read()) if "://" not in link]
+            for link in filter(None, links):
+                equal(os.path.isfile(os.path.join(top, os.path.dirname(name), link)), True, (name, link))
 
 
 def check_the_archive_works_alone(folder):

@@ -11,7 +11,7 @@ LINE = re.compile(r"(\w+)\((.*)")
 
 
 class Call:
-    """The so-manieth system call of a name in a run, from 1."""
+    """The Nth system call of a name in a run, from 1."""
 
     def __init__(self, name, number, text):
         self.name = name

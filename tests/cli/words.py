@@ -1,20 +1,10 @@
-"""The command line: help, an output that takes nothing, texts that are cut, and the lines of refusals."""
+"""The command line: help, an output that takes nothing, and texts that are cut."""
 
 import subprocess
 
 from harness import equal
 
 WEB = b"name: web # main\nport: 8080\n"
-LINES_TO_COME = (
-    "X5 anchor in use",
-    "X6 not one value",
-    "X7 kind mismatch",
-    "X8 integer range",
-    "X9 float arithmetic",
-    "X10 no place for comment",
-    "X11 bad comment text",
-    "X12 root delete",
-)
 
 
 def check_help(folder):
@@ -62,12 +52,5 @@ def check_texts_that_are_cut(folder):
         for end in range(len(text) + 1):
             folder.write("f", text[:end])
             status, _out, err = folder.run(".name = 1", "f")
-            equal(status == 0 or err.startswith((b"Error: Y", b"Error: X", b"Error: E2 ")), True, (text[:end], err))
+            equal(status == 0 or err.startswith((b"Error: Y", b"Error: X")), True, (text[:end], err))
             equal(err == b"Error: Y1 line 1: not utf8\n", not is_whole(text[:end]), (text[:end], err))
-
-
-def check_lines_that_no_command_is_answered_yet(folder):
-    with open(folder.yq, "rb") as program:
-        texts = program.read()
-    for line in LINES_TO_COME:
-        equal(line.encode() in texts, True, line)
