@@ -27,7 +27,7 @@ use Rattle.yq_commands.specs.CommandNames.{IsOn, IsStranger}
 use Rattle.yq.specs.Lists.{IsApart, Reply, answers_in, printed_in, Told, IsRefused, IsCarriedOut, Steps, Goes, Run, Records, IsReply, GoesExactly, RunExactly, HasEffect, Leaves, Keeps, tells_failure, tells_output, count_told, failures_in, output_failures_in, is_kept, is_memory, has_memory}
 use Rattle.yq_commands.specs.Recorded.{IsRecorded}
 use Rattle.yq_commands.specs.Pair.{GoodIn, Arrives}
-use Rattle.yq_commands.specs.Prints.{shown_of, prints}
+use Rattle.yq_commands.specs.Prints.{shown_of, prints, reads_journal}
 use Rattle.yq_commands.specs.Shown.{Shown, answer_by, nothing}
 use Rattle.yq_commands.specs.Steps.{cause_of, next_of, unless_fault, walk_cause, walk_next, edit_cause, edit_next, update_cause, update_next, squash_cause, squash_next}
 use Rattle.yq_commands.proofs.PairLaws.{good_text, same_pair}
@@ -345,28 +345,28 @@ tells_refused T (refuses z) f j c e y p = p
 tells_refused T writes_nothing f j c e y p = p
 tells_refused T (leaves u s) f j c e y p = p
 
-tells_by : (x : Effect) (f j : List ℕ) (c e : Content) (m : Bool) → Works x f j c e {T = Unit {0}} (Ok tt) → Tells x f j c e (answer_by m)
-tells_by x f j c e true p = p
-tells_by x f j c e false p = p
+tells_by : (x : Effect) (f j : List ℕ) (c e : Content) (m : Bool) → m ≡ true → Works x f j c e {T = Unit {0}} (Ok tt) → Tells x f j c e (answer_by m)
+tells_by x f j c e true is p = p
+tells_by x f j c e false is p = cc
 
-tells_effect : {T : Type 0} (x : Effect) (f j : List ℕ) (c e : Content) (r : Result T Fault) (a : Answer) (s : Shown) → Told r a s → IfErr r (λ y. is_output y ≡ false) → Works x f j c e r → Tells x f j c e a
-tells_effect x f j c e (Ok v) a s (inl is) quiet p = subst (Tells x f j c e) (sym is) (tells_by x f j c e s.is_match (tells_done x f j c e v p))
-tells_effect x f j c e (Ok v) a s (inr is) quiet p = subst (Tells x f j c e) (sym is.0) tt
-tells_effect {T = T} x f j c e (Err y) a s is quiet p =
+tells_effect : {T : Type 0} (x : Effect) (f j : List ℕ) (c e : Content) (r : Result T Fault) (a : Answer) (s : Shown) → Told r a s → s.is_match ≡ true → IfErr r (λ y. is_output y ≡ false) → Works x f j c e r → Tells x f j c e a
+tells_effect x f j c e (Ok v) a s (inl is) matched quiet p = subst (Tells x f j c e) (sym is) (tells_by x f j c e s.is_match matched (tells_done x f j c e v p))
+tells_effect x f j c e (Ok v) a s (inr is) matched quiet p = subst (Tells x f j c e) (sym is.0) tt
+tells_effect {T = T} x f j c e (Err y) a s is matched quiet p =
     subst (Tells x f j c e) (sym is) (subst (λ b. MatchBool b (Unit {0}) (Works x f j c e {T = Unit {0}} (Err y))) (sym quiet) (tells_refused T x f j c e y p))
 
-of_effect : (cmd : Command) (file journal : Option (List ℕ)) (P Q : Effect → Type 0) → ((x : Effect) → P x → Q x) → OfEffect cmd file journal P → OfEffect cmd file journal Q
-of_effect (Eval expr f j true s d) file journal P Q more p = more (update_effect (string_bytes expr) (program_in (string_bytes expr)) file journal) p
+of_effect : (cmd : Command) (file journal : Option (List ℕ)) (P Q : Effect → Type 0) → (reads_journal cmd ≡ true → (x : Effect) → P x → Q x) → OfEffect cmd file journal P → OfEffect cmd file journal Q
+of_effect (Eval expr f j true s d) file journal P Q more p = more refl (update_effect (string_bytes expr) (program_in (string_bytes expr)) file journal) p
 of_effect (Eval expr f j false s d) file journal P Q more p = tt
-of_effect (Undo f j) file journal P Q more p = more (from_pair file journal (walk_effect move.Undo)) p
-of_effect (Redo f j) file journal P Q more p = more (from_pair file journal (walk_effect move.Redo)) p
-of_effect (Lists f j) file journal P Q more p = more (from_pair file journal (λ t s. writes_nothing)) p
-of_effect (Squash n f j) file journal P Q more p = more (from_pair file journal (squash_effect n)) p
+of_effect (Undo f j) file journal P Q more p = more refl (from_pair file journal (walk_effect move.Undo)) p
+of_effect (Redo f j) file journal P Q more p = more refl (from_pair file journal (walk_effect move.Redo)) p
+of_effect (Lists f j) file journal P Q more p = more refl (from_pair file journal (λ t s. writes_nothing)) p
+of_effect (Squash n f j) file journal P Q more p = more refl (from_pair file journal (squash_effect n)) p
 of_effect Help file journal P Q more p = tt
 
 -- the effect of a command by its answer
-pub has_effect : {T : Type 0} (cmd : Command) (f j : List ℕ) (c e : Content) (r : Result T Fault) (a : Answer) (s : Shown) → Told r a s → IfErr r (λ y. is_output y ≡ false) → OfEffect cmd (get c f) (get c j) (λ x. Works x f j c e r) → OfEffect cmd (get c f) (get c j) (λ x. Tells x f j c e a)
-has_effect cmd f j c e r a s is quiet p = of_effect cmd (get c f) (get c j) (λ x. Works x f j c e r) (λ x. Tells x f j c e a) (λ x. tells_effect x f j c e r a s is quiet) p
+pub has_effect : {T : Type 0} (cmd : Command) (f j : List ℕ) (c e : Content) (r : Result T Fault) (a : Answer) (s : Shown) → Told r a s → (reads_journal cmd ≡ true → s.is_match ≡ true) → IfErr r (λ y. is_output y ≡ false) → OfEffect cmd (get c f) (get c j) (λ x. Works x f j c e r) → OfEffect cmd (get c f) (get c j) (λ x. Tells x f j c e a)
+has_effect cmd f j c e r a s is matched quiet p = of_effect cmd (get c f) (get c j) (λ x. Works x f j c e r) (λ x. Tells x f j c e a) (λ reads x. tells_effect x f j c e r a s is (matched reads) quiet) p
 
 -- what a command leaves
 pub left_by : {T : Type 0} (c e : Content) (cmd : Command) (r : Result T Fault) (a : Answer) (s : Shown) → Told r a s → (prints cmd ≡ true → e ≡ c) → (prints cmd ≡ false → s ≡ nothing) → IfErr r (λ x. is_outside x ≡ false → e ≡ c) → ((q : List ℕ) → IsStranger q cmd → get e q ≡ get c q) → HasEffect cmd a c e → Leaves cmd a c e

@@ -11,7 +11,7 @@ use Rattle.yq_journal.specs.Good.{journal_beside}
 use Rattle.yq_journal.specs.Refusals.{most_records, no_way, squash_fault}
 use Rattle.yq_journal.specs.State.{State, moved, moved_text, settled, squashed}
 use Rattle.yq_commands.specs.declared.answer.Answer.{Answer}
-use Rattle.yq_commands.specs.declared.answer.Answer.TheVariants.{Refused}
+use Rattle.yq_commands.specs.declared.answer.Answer.TheVariants.{Done, NoMatch, Refused}
 use Rattle.yq_words.specs.declared.command.Command.{Command}
 use Rattle.yq_words.specs.declared.command.Command.TheVariants.{Eval, Undo, Redo, History as Lists, Squash}
 use Rattle.yq_commands.specs.declared.fault.Fault.{Fault}
@@ -90,10 +90,11 @@ Works writes_nothing file name old new (Err e) = IsTrue (is_outside e) × (new �
 Works (leaves u s) file name old new (Ok v) = (get new file ≡ Some u) × IsJournal (get new name) s
 Works (leaves u s) file name old new (Err e) = IsTrue (is_outside e)
 
--- what an answer tells of an effect; that the output failed tells nothing
+-- what an answer tells of an effect; that the output failed tells nothing, and that there is no match is never told
 abbrev pub Tells : Effect → List ℕ → List ℕ → Content → Content → Answer → Type 0
 Tells x file name old new (Refused e) = MatchBool (is_output e) (Unit {0}) (Works x file name old new {T = Unit {0}} (Err e))
-Tells x file name old new _ = Works x file name old new {T = Unit {0}} (Ok tt)
+Tells x file name old new Done = Works x file name old new {T = Unit {0}} (Ok tt)
+Tells x file name old new NoMatch = ⊥
 
 -- something holds of what a command does, by the bytes of its file and its journal; of what prints a file alone, and of help, nothing is said
 abbrev pub OfEffect : Command → Option (List ℕ) → Option (List ℕ) → (Effect → Type 0) → Type 0

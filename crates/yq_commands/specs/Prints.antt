@@ -42,6 +42,13 @@ shown_of (Lists file journal) h = text (listing_output h)
 shown_of (Squash n file journal) h = nothing
 shown_of Help h = nothing
 
+-- the command reads the journal of its file
+abbrev pub reads_journal : Command → Bool
+reads_journal (Eval expr file journal true exit_status no_doc) = true
+reads_journal (Eval expr file journal false exit_status no_doc) = false
+reads_journal Help = false
+reads_journal _ = true
+
 -- the command prints and writes no name
 abbrev pub prints : Command → Bool
 prints (Eval expr file journal true exit_status no_doc) = false

@@ -7,7 +7,7 @@ ghost use Rattle.yq_commands.specs.Editing.{program_in};
 ghost use Rattle.yq_commands.specs.Effects.{OfEffect, Works, from_pair, update_effect, walk_effect};
 ghost use Rattle.yq_commands.specs.Faults.{is_outside, is_output, counted};
 ghost use Rattle.yq_commands.specs.Pair.{Arrives, GoodIn, OthersStay};
-ghost use Rattle.yq_commands.specs.Prints.{prints, shown_of};
+ghost use Rattle.yq_commands.specs.Prints.{prints, reads_journal, shown_of};
 ghost use Rattle.yq_commands.specs.Recorded.{Recorded, IsRecorded};
 ghost use Rattle.yq_commands.specs.Shown.{nothing, shown_by};
 ghost use Rattle.yq_commands.specs.Steps.{cause_of, next_of, update_cause, update_next, walk_cause, walk_next};
@@ -105,6 +105,7 @@ pub fn execute<D: Store>(
         (h : Option History) → GoodIn (D.content store.old) file name h →
         OnOk result (shown_by shown.new ≡ shown_of command.now h) }
     ensures silent { prints command.now ≡ false → shown_by shown.new ≡ nothing }
+    ensures matched { reads_journal command.now ≡ true → shown.new.is_match ≡ true }
     ensures still { IsTrue D.keeps → prints command.now ≡ true → D.content store.new ≡ D.content store.old }
     ensures recorded { IsTrue D.keeps → OnOk result ((file name : List ℕ) → IsOn file name command.now →
         IsRecorded command.now (map.get (D.content store.old) file) (map.get (D.content store.new) name)) }

@@ -1,5 +1,5 @@
 //! Commands that print and write no file.
-ghost use Rattle.std.specs.Prelude.{◌≡◌, ◌∷◌, ◌++◌, [], ℕ, List, Option, IfErr, OnOk, IfOk, IsTrue, false, decimal, map};
+ghost use Rattle.std.specs.Prelude.{◌≡◌, ◌∷◌, ◌++◌, [], ℕ, List, Option, IfErr, OnOk, IfOk, IsTrue, false, true, decimal, map};
 ghost use Rattle.std.specs.FinMap as map;
 ghost use Rattle.std.specs.String.{string_bytes};
 ghost use Rattle.json.specs.Print as json;
@@ -83,6 +83,7 @@ pub fn listing<D: Store>(
         file.now name.now (D.content store.old) (D.content store.new) result }
     ensures output { IsTrue D.keeps → (h : Option History) → GoodIn (D.content store.old) file.now name.now h →
         OnOk result (shown_by shown.new ≡ shown_text (spec.listing_output h)) }
+    ensures matched { shown.new.is_match ≡ true }
     ensures same { IsTrue D.keeps → D.content store.new ≡ D.content store.old }
     ensures quiet { IfErr result (λ e. is_output e ≡ false) }
     ensures count { D.failures store.new ≡ counted result (D.failures store.old) }

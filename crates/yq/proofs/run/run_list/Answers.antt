@@ -74,7 +74,7 @@ commands-preserved g c =
           (keeps_more (content c.args.store.now) (content c.commands.store) (content c.execute-done.new.store) _ _ cmd answer (before.kept keeps)
           (left_by (content c.commands.store) (content c.execute-done.new.store) cmd done answer shown told (c.execute-done.ensures.still keeps)
           c.execute-done.ensures.silent (c.execute-done.ensures.kept keeps) (c.execute-done.ensures.others keeps)
-          (λ file name apart on. has_effect cmd file name (content c.commands.store) (content c.execute-done.new.store) done answer shown told quiet (c.execute-done.ensures.effect keeps file name apart on)))));
+          (λ file name apart on. has_effect cmd file name (content c.commands.store) (content c.execute-done.new.store) done answer shown told c.execute-done.ensures.matched quiet (c.execute-done.ensures.effect keeps file name apart on)))));
       others = λ keeps q strangers.
           c.execute-done.ensures.others keeps q (subst (IsStranger q) (sym c.command-item.is) (strangers c.commands.command-index cmd within)) ∙ before.others keeps q strangers;
       sum = λ small. subst (λ rs. g.D.Store.failures c.execute-done.new.store ≡ min (g.D.Store.failures c.args.store.now + failures_in rs) (2 ^ 64 - 1)) (sym pushed)

@@ -26,3 +26,13 @@ returns-in_err-shown-clause-effect g c = λ keeps.
 pub returns-clause-effect : goal.returns-clause-effect
 returns-clause-effect g c = λ keeps.
     from_opened _ _ (λ t s. writes_nothing) _ _ (g.D.Store.content c.args.store.now) _ _ c.in_ok-_text._text.items c.in_ok-_text.journal {T = Unit {0}} (Ok tt) (c.in_ok-_text.ensures.same keeps) (c.in_ok-_text.ensures.found keeps (λ t s. writes_nothing)) refl
+
+-- what is shown is there, as it was before
+pub returns-clause-matched : goal.returns-clause-matched
+returns-clause-matched g c = ap (λ (s : Shown). s.is_match) c.requires.empty
+
+pub returns-in_err-_text-clause-matched : goal.returns-in_err-_text-clause-matched
+returns-in_err-_text-clause-matched g c = ap (λ (s : Shown). s.is_match) c.requires.empty
+
+pub returns-in_err-shown-clause-matched : goal.returns-in_err-shown-clause-matched
+returns-in_err-shown-clause-matched g c = ap (λ (s : Shown). s.is_match) c.requires.empty
