@@ -2,7 +2,7 @@
 use Rattle.std.specs.Prelude.{ℕ, suc}
 use Rattle.yq_scalar.specs.Tree.{Children, none, child}
 
--- how many items or entries a node has (own)
+-- how many items or entries a node has
 abbrev pub count : Children → ℕ
 count none = 0
 count (child label n cs) = suc (count cs)

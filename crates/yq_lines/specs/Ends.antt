@@ -1,29 +1,29 @@
--- Reading (a reader may skip this: the grammar is what is believed, and found and only tie the two): lines by their indexes, where those under each end, and where steps lead.
+-- Reading (own; a reader may skip it: the grammar is what is believed, and the clauses `found` and `only` tie the two): lines by their indexes, where those under each end, and where steps lead.
 use Rattle.std.specs.Prelude.{◌≡◌, ℕ, zero, suc, ◌+◌, ◌<◌, ◌≤◌, nat_lt, List, [], ◌∷◌, drop, length, slice_get, slice_index, Option, Some, None, option_map, option_and_then, Bool, true, false, if◌then◌else◌}
 use Rattle.yq_scalar.specs.Paths.{Step}
 use Rattle.yq_lines.specs.Outline.{Line, level, Outline, end, row}
 use Rattle.yq_lines.specs.Group.{deeper, shallow, group}
 use Rattle.yq_lines.specs.Places.{lines_before, Found, find}
 
--- the lines from a place on that are deeper than a floor (own)
+-- from a line on, the first lines that are deeper than a level, as an outline
 abbrev pub part : List Line → ℕ → ℕ → Outline
 part ls start floor = deeper floor (group (drop start ls))
 
--- the lines behind those (own)
+-- the lines behind those, as an outline
 abbrev pub rest : List Line → ℕ → ℕ → Outline
 rest ls start floor = shallow floor (group (drop start ls))
 
--- whether an outline has no lines (own)
+-- whether an outline has no lines
 abbrev pub is_end : Outline → Bool
 is_end end = true
 is_end (row l u a) = false
 
--- the lines under line i end there (own)
+-- the lines under line i end before line next
 abbrev pub IsEndOf : List Line → ℕ → ℕ → Type 0
 IsEndOf ls i next =
     (i < next) × (next ≤ length ls) × ((l : Line) → slice_get ls i ≡ Some l → rest ls (i + 1) (level l) ≡ group (drop next ls))
 
--- for each line from line k on, where those under it end (own)
+-- a list tells of each line from line k on where the lines under it end
 abbrev pub AreEndsFrom : ℕ → List Line → List ℕ → Type 0
 AreEndsFrom k ls ends = (i : ℕ) → k ≤ i → i < length ls → IsEndOf ls i (slice_index ends i)
 
@@ -32,7 +32,7 @@ abbrev pub deeper_count : ℕ → List Line → ℕ
 deeper_count n [] = 0
 deeper_count n (l ∷ ls) = if nat_lt n (level l) then suc (deeper_count n ls) else 0
 
--- the line behind line n and those under it, which are those that follow it and are deeper (8.2)
+-- where the lines under line n end, by the number of lines before that: they are the deeper ones that follow it (8.2)
 abbrev pub lines_end : ℕ → List Line → ℕ
 lines_end n [] = 0
 lines_end zero (l ∷ ls) = suc (deeper_count (level l) ls)
@@ -53,12 +53,12 @@ abbrev pub reached : List Step → List Line → Option (ℕ × List Step)
 reached [] ls = None
 reached (s ∷ ss) ls = option_map (λ x. (length (lines_before x.0.place), x.1)) (find s ss (group ls))
 
--- whether no lines are under a line that was found
+-- whether a line was found, and no lines are under it
 abbrev pub has_none_under : Option (Found × List Step) → Bool
 has_none_under None = false
 has_none_under (Some x) = is_end x.0.under
 
--- whether no lines are under the line of the entry or item to which steps lead
+-- whether steps lead to a line, or on into its head, and no lines are under that line
 abbrev pub is_leaf : List Step → List Line → Bool
 is_leaf [] ls = false
 is_leaf (s ∷ ss) ls = has_none_under (find s ss (group ls))

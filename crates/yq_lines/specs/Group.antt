@@ -1,4 +1,4 @@
--- Reading (a reader may skip this: the grammar is what is believed, and found and only tie the two): lines grouped from the last to the first.
+-- Reading (own; a reader may skip it: the grammar is what is believed, and the clauses `found` and `only` tie the two): lines grouped from the last to the first.
 use Rattle.std.specs.Prelude.{ℕ, nat_lt, nat_eq, ◌+◌, List, [], ◌∷◌, Option, Some, None, Bool, true, false, ◌&&◌, if◌then◌else◌}
 use Rattle.yq_scalar.specs.Tree.{Node}
 use Rattle.yq_lines.specs.Outline.{Mark, Bare, Key, Dash, Line, level, Outline, end, row, value}
@@ -8,16 +8,16 @@ abbrev pub deeper : ℕ → Outline → Outline
 deeper n end = end
 deeper n (row l under after) = if nat_lt n (level l) then row l under (deeper n after) else end
 
--- and those behind them
+-- what of an outline is behind those
 abbrev pub shallow : ℕ → Outline → Outline
 shallow n end = end
 shallow n (row l under after) = if nat_lt n (level l) then shallow n after else row l under after
 
--- a line takes the deeper ones behind it
+-- a line before an outline, of which the first deeper lines come under it
 abbrev pub lead : Line → Outline → Outline
 lead l o = row l (deeper (level l) o) (shallow (level l) o)
 
--- the outline of any lines
+-- lines as an outline: under each line the deeper ones that follow it
 abbrev pub group : List Line → Outline
 group [] = end
 group (l ∷ ls) = lead l (group ls)
@@ -36,7 +36,7 @@ is_whole Bare None after = false
 is_whole (Key k) head after = true
 is_whole Dash head after = true
 
--- the level of the first line, or n
+-- the level of an outline's first line, or n where it has no lines
 abbrev pub level_or : ℕ → Outline → ℕ
 level_or n end = n
 level_or n (row l u a) = level l
@@ -51,6 +51,6 @@ is_even n (row l under after) =
 abbrev pub is_fine : Outline → Bool
 is_fine o = is_even (level_or 0 o) o
 
--- the node that lines stand for
+-- the node that lines stand for, if their outline is even
 abbrev pub stand : List Line → Option Node
 stand ls = let o = group ls in if is_fine o then Some (value o) else None

@@ -1,4 +1,4 @@
--- Reading (a reader may skip this: the grammar is what is believed, and found and only tie the two): what is asked of all lines of a document.
+-- Reading (own; a reader may skip it: the grammar is what is believed, and the clauses `found` and `only` tie the two): what is asked of all lines of a document.
 use Rattle.std.specs.Prelude.{ℕ, List, [], ◌∷◌, Bool, true, false, ◌&&◌, Option, Some, None}
 use Rattle.std.specs.List.{list_any}
 use Rattle.std.specs.Str.{bytes_eq}
@@ -11,7 +11,7 @@ use Rattle.yq_lines.specs.Names.{line_names}
 use Rattle.yq_lines.specs.Outline.{Mark, Bare, Key, Dash, Line, value}
 use Rattle.yq_lines.specs.Sound.{is_sound}
 
--- whether there is no alias
+-- whether a node, if there is one, is no alias
 abbrev pub is_no_alias : Option Node → Bool
 is_no_alias None = true
 is_no_alias (Some (alias name)) = false
@@ -19,7 +19,7 @@ is_no_alias (Some (scalar a kind text)) = true
 is_no_alias (Some (list a cs)) = true
 is_no_alias (Some (tree.map a cs)) = true
 
--- whether a node on a line of its own may take an anchor
+-- whether the node that begins with a line may take an anchor
 abbrev pub may_take : Mark → Option (List ℕ) → Option Node → Bool
 may_take Bare None head = is_no_alias head
 may_take Bare (Some a) head = false
@@ -37,7 +37,7 @@ abbrev pub have_one_anchor_each : List Line → Bool
 have_one_anchor_each [] = true
 have_one_anchor_each (l ∷ ls) = is_free l.anchor ls && have_one_anchor_each ls
 
--- whether each alias has an earlier anchor, where these are known already
+-- whether each alias has the name of an anchor before it, or of one that is known already
 abbrev pub are_bound : List (List ℕ) → List Name → Bool
 are_bound known [] = true
 are_bound known (Anchors a ∷ names) = are_bound (a ∷ known) names

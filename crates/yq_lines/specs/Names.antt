@@ -1,4 +1,4 @@
--- Reading (a reader may skip this: the grammar is what is believed, and found and only tie the two): the anchors and aliases of lines.
+-- Reading (own; a reader may skip it: the grammar is what is believed, and the clauses `found` and `only` tie the two): the anchors and aliases of lines.
 use Rattle.std.specs.Prelude.{ℕ, List, [], ◌∷◌, ◌++◌, map, Option, Some, None, ⊤}
 use Rattle.yq_scalar.specs.Tree as tree
 use Rattle.yq_scalar.specs.Tree.{Node, alias, scalar, list}
@@ -6,12 +6,12 @@ use Rattle.yq_lines.specs.Anchors.{Name, Anchors, Refers, with_anchor, names_of,
 use Rattle.yq_lines.specs.declared.names.Name as declared
 use Rattle.yq_lines.specs.Outline.{Line}
 
--- the anchors and aliases in a head, in the order of the text (own)
+-- the anchors and aliases in a head, in the order of the text
 abbrev pub head_names : Option Node → List Name
 head_names None = []
 head_names (Some h) = names_of h
 
--- those of lines (own)
+-- those of lines
 abbrev pub line_names : List Line → List Name
 line_names [] = []
 line_names (l ∷ ls) = with_anchor l.anchor (head_names l.head ++ line_names ls)
@@ -37,11 +37,11 @@ abbrev pub HaveHeadsApart : List Line → Type 0
 HaveHeadsApart [] = ⊤
 HaveHeadsApart (l ∷ ls) = (IsUnnamed l.head × MayBeNamed l.anchor l.head) × HaveHeadsApart ls
 
--- the name that one of the code shows (own)
+-- the name that one of the code shows
 abbrev pub name_view : declared.Name → Name
 name_view (declared.TheVariants.Anchors a) = Anchors a.now
 name_view (declared.TheVariants.Refers a byte) = Refers a.now
 
--- the names that those of the code show, in order (own)
+-- the names that those of the code show, in order
 abbrev pub all_named : List declared.Name → List Name
 all_named ns = map name_view ns

@@ -28,7 +28,7 @@ lines_after here = []
 lines_after (below l p after) = lines_after p ++ flatten after
 lines_after (beside l under p) = lines_after p
 
--- one hole in another
+-- the place of a hole in an outline that is put into another hole, as a place of the whole
 abbrev pub compose : Place → Place → Place
 compose here q = q
 compose (below l p after) q = below l (compose p q) after
@@ -41,7 +41,7 @@ pub record Found : Type 0 where
   pub under : Outline
   pub after : Outline
 
--- the same with one more line beside its place
+-- a line that was found, where another one, with those under it, stands in front
 abbrev pub next_to : Line → Outline → Found → Found
 next_to l under f = record f { place = beside l under f.place }
 
@@ -51,17 +51,17 @@ find_row s end = None
 find_row s (row l under after) =
     if is_here s (label l) then Some (record { place = here; line = l; under = under; after = after }) else option_map (next_to l under) (find_row (further s) after)
 
--- a line found in what is under another, as one of the whole
+-- a line found in what is under another one, as a line of the whole
 abbrev pub inside : Found → Found → Found
 inside f g = record g { place = compose f.place (below f.line g.place f.after) }
 
--- the first where the first line is a node itself, else the second
+-- the first of two answers where a line is a node itself, else the second
 abbrev pub bare_or : Mark → Option (Found × List Step) → Option (Found × List Step) → Option (Found × List Step)
 bare_or Bare x y = x
 bare_or (Key k) x y = y
 bare_or Dash x y = y
 
--- the first where there is a head, else the second
+-- the first of two answers where there is a head, else the second
 abbrev pub in_head : Option Node → Option (Found × List Step) → Option (Found × List Step) → Option (Found × List Step)
 in_head None x y = y
 in_head (Some n) x y = x
@@ -75,6 +75,6 @@ find s (t ∷ ts) (row l under after) =
     bare_or l.mark (Some (record { place = here; line = l; under = under; after = after }, s ∷ (t ∷ ts)))
     (option_and_then (λ f. in_head f.line.head (Some (f, t ∷ ts)) (option_map (λ x. (inside f x.0, x.1)) (find t ts f.under))) (find_row s (row l under after)))
 
--- what an entry's line and the lines under it stand for
+-- what the line of an entry or item and the lines under it stand for
 abbrev pub content : Line → Outline → Node
 content l under = anchored l.anchor (head_or l.head (value under))

@@ -1,4 +1,4 @@
--- Reading (a reader may skip this: the grammar is what is believed, and found and only tie the two): what is asked of a document's lines.
+-- Reading (own; a reader may skip it: the grammar is what is believed, and the clauses `found` and `only` tie the two): what is asked of a document's lines.
 use Rattle.std.specs.Prelude.{◌≡◌, ℕ, nat_le, nat_eq, Option, Some, None, Bool, true, false, ◌&&◌, Result, Ok, Err}
 use Rattle.yq_scalar.specs.declared.fault.ReadError.{ReadError}
 use Rattle.yq_scalar.specs.declared.fault.ReadError.TheVariants as error
@@ -8,7 +8,7 @@ use Rattle.yq_lines.specs.Outline.{Mark, Bare, Key, Dash, Line, level, Outline, 
 use Rattle.yq_lines.specs.Group.{is_fine, is_open}
 
 abbrev mutual
-  -- whether no mapping has a key twice
+  -- whether no mapping has a key twice (3.2.1.3)
   pub has_unique_keys : Node → Bool
   has_unique_keys (alias name) = true
   has_unique_keys (scalar anchor kind text) = true
