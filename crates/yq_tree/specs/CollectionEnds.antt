@@ -10,20 +10,20 @@ use Rattle.yq_lines.specs.Spots.{is_bare}
 use Rattle.yq_tree.specs.PathPieces.{BlockEntry, PrintedDocument, found_entry, printed_document}
 use Rattle.yq_tree.specs.PrintedLines.{PrintedLine, print_line, print_lines, line_in}
 
--- The end of a block collection in a text: the column of its items or entries, the text up to the end of its last line, with its break, whether that line has one, and the text behind (own).
+-- The end of a block collection in a text: the column of its items or entries, the text up to the end of its last line, with its break, whether that line has one, and the text behind.
 pub record CollectionEnd : Type 0 where
   pub column : ℕ
   pub before : List ℕ
   pub broken : Bool
   pub behind : List ℕ
 
--- what stands behind a mark ends in a break; a block scalar's last line has one (5.4, 8.1)
+-- what stands behind a mark ends in a break, as each block scalar does (5.4, 8.1)
 abbrev pub is_broken : Content → Bool
 is_broken (Nothing tail) = is_line tail
 is_broken (Inline space node tail) = is_line tail
 is_broken (Block space anchor block) = true
 
--- the last of lines has a break
+-- what stands behind the mark of the last of lines ends in a break
 abbrev pub are_broken : PrintedLine → List PrintedLine → Bool
 are_broken l [] = is_broken l.content
 are_broken l (k ∷ ks) = are_broken k ks
@@ -35,7 +35,7 @@ end_of_lines before (l ∷ ls) behind =
     if is_bare l.line.mark then None
     else Some (record { column = l.line.column; before = before ++ print_lines (l ∷ ls) []; broken = are_broken l ls; behind = behind })
 
--- the same of the lines under an entry's or item's line, if it has no head
+-- the end of the block collection that the lines under an entry's or item's line are, if that has no head
 abbrev pub end_of_entry : BlockEntry → Option CollectionEnd
 end_of_entry e = if is_some e.line.line.head then None else end_of_lines (e.before ++ print_line e.line []) e.under e.behind
 
@@ -49,6 +49,6 @@ abbrev pub end_in : List Step → PrintedDocument → Option CollectionEnd
 end_in [] s = end_of_lines s.before s.lines s.behind
 end_in (x ∷ xs) s = find x xs (group (map line_in s.lines)) >>= λ f. end_of_found s f.0 f.1
 
--- the same in a cut, by the number of the document
+-- the same in document n of a cut
 abbrev pub collection_end : ℕ → List Step → Cut → Option CollectionEnd
 collection_end doc steps c = printed_document doc c >>= end_in steps

@@ -8,19 +8,19 @@ use Rattle.yq_lines.specs.Spots.{is_bare}
 use Rattle.yq_tree.specs.CollectionEnds.{CollectionEnd}
 use Rattle.yq_tree.specs.declared.places.collection_end.CollectionEnd as declared
 
--- the end of a block collection that the code lends (own)
+-- the end of a block collection that the code lends
 abbrev pub collection_told : declared.CollectionEnd → CollectionEnd
 collection_told x = record { column = x.column; before = x.before.now; broken = x.broken; behind = x.behind.now }
 
--- the column of the block collection for which the lines from one up to another one stand (own)
+-- the column of the block collection for which the lines from one up to another one stand
 abbrev pub lines_column : List Line → ℕ → ℕ → Option ℕ
 lines_column ls from to = if from == to then None else (slice_get ls from >>= λ l. if is_bare l.mark then None else Some l.column)
 
--- the same of the lines under line n, if it has no head (own)
+-- the same of the lines under line n, if it has no head
 abbrev pub line_column : List Line → ℕ → Option ℕ
 line_column ls n = slice_get ls n >>= λ l. if is_some l.head then None else lines_column ls (n + 1) (lines_end n ls)
 
--- the same of the node to which steps lead (own)
+-- the same of the node to which steps lead
 abbrev pub column_of : List Step → List Line → Option ℕ
 column_of [] ls = lines_column ls 0 (length ls)
 column_of (s ∷ ss) ls = line_of (s ∷ ss) ls >>= line_column ls

@@ -14,16 +14,16 @@ use Rattle.yq_documents.specs.Pieces.{Piece}
 use Rattle.yq_tree.specs.PathPieces.{piece_at}
 use Rattle.yq_documents.specs.declared.path.Part.TheVariants as parts
 
--- the text of the comment in a piece: what follows its `#`, less one leading space (own)
+-- the text of the comment in a piece: what follows its `#`, less one leading space
 abbrev pub remark : Piece → List ℕ
 remark p = less_space (drop 1 p.text)
 
--- the texts of the comment lines in a piece, if there is one (own)
+-- the texts of the comment lines in a piece; none where there is no piece
 abbrev pub remarks : Option Piece → List (List ℕ)
 remarks None = []
 remarks (Some p) = texts (lines_of p.text)
 
--- the head comment that is told of an entry or item, if there is one (own)
+-- the head comment that is told of an entry or item; none where there is none
 abbrev pub told_above : Option Labelled → List (List ℕ)
 told_above None = []
 told_above (Some x) = x.0.head_comment

@@ -23,7 +23,7 @@ end_before before rest =
     let line = text.cut ends_line (past_white rest) in
     record { before = before; white = (text.cut no_white rest).0; comment = line.0; behind = line.1 }
 
--- the text of a row up to the end of the line of its key or dash: with what is written there, or with the header of a block scalar (own)
+-- the text of a row up to the end of the line of its key or dash: with what is written there, or with the header of a block scalar
 abbrev pub line_text : Row → List ℕ
 line_text r = let s = slices r in row_front r ++ (s.space ++ (s.anchor ++ (s.apart ++ s.head)))
 

@@ -1,4 +1,4 @@
--- Reading (a reader may skip this): where comments stand, by the pieces of rows.
+-- Reading (own; a reader may skip it): where comments stand, by the pieces of rows.
 use Rattle.std.specs.Prelude.{ℕ, ◌+◌, ◌-◌, ◌==◌, List, length, Option, Some, None, if◌then◌else◌, [], ◌++◌, nat_lt, take}
 use Rattle.yq_scalar.specs.Text.{cut, front, ends_line, is_empty, joined, lines_of, no_white, past_white}
 use Rattle.yq_rows.specs.View.{Slices, slices}
@@ -9,12 +9,12 @@ use Rattle.yq_rows.specs.Rows.{Row, Cut, rows_text, part_text, last, marked, beh
 use Rattle.yq_documents.specs.Seats.{Seat}
 use Rattle.yq_documents.specs.Pieces.{Piece, tail_comment, last_run, gap_comment}
 
--- the text of a cut before row i (own)
+-- the text of a cut before row i
 abbrev pub before_row : ℕ → Cut → List ℕ
 before_row i (last p) = rows_text (take i p.rows) []
 before_row i (marked p marker c) = if nat_lt i (length p.rows) then rows_text (take i p.rows) [] else part_text p (marker ++ before_row (i - length p.rows) c)
 
--- the text of a cut before the tail of row i (own)
+-- the text of a cut before the tail of row i
 abbrev pub before_tail : ℕ → Row → Cut → List ℕ
 before_tail i r c = let s = slices r in before_content i c ++ (s.space ++ (s.anchor ++ (s.apart ++ s.head)))
 
@@ -26,7 +26,7 @@ line_comment_in i s c = if s.line == length s.row.dashes then tail_comment (befo
 abbrev pub head_comment_in : ℕ → Seat → Cut → Option Piece
 head_comment_in i s c = if s.line == 0 then gap_comment (before_row i c) s.row.gap (behind_gap s.row (behind_row i c)) else None
 
--- where the comment in a tail stands that begins at a place
+-- where the comment in a tail stands, by where the tail begins
 abbrev pub tail_span : ℕ → List ℕ → Option (ℕ × ℕ)
 tail_span start tail =
     let white = length (cut no_white tail).0 in
@@ -36,7 +36,7 @@ tail_span start tail =
 abbrev pub line_comment_span : ℕ → Slices → Numbers → Option (ℕ × ℕ)
 line_comment_span start x s = if s.1 == s.2 then tail_span (start + front_length x + length x.head) x.tail else None
 
--- where the run stands that ends a gap, by where the gap begins
+-- where the run of comment lines stands that ends a gap, by where the gap begins
 abbrev pub gap_span : ℕ → List ℕ → Option (ℕ × ℕ)
 gap_span start gap = let run = joined (last_run (lines_of gap)) in if is_empty run then None else Some (start + length gap - length run, start + length gap)
 

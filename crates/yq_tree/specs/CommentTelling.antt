@@ -5,15 +5,15 @@ use Rattle.yq_tree.specs.CommentPlaces.{LineEnd, LinesAbove}
 use Rattle.yq_tree.specs.declared.places.line_end.LineEnd as declared_end
 use Rattle.yq_tree.specs.declared.places.lines_above.LinesAbove as declared_above
 
--- the end of a line that the code lends (own)
+-- the end of a line that the code lends
 abbrev pub end_told : declared_end.LineEnd → LineEnd
 end_told w = record { before = w.before.now; white = w.white.now; comment = w.comment.now; behind = w.behind.now }
 
--- the lines above a row that the code lends (own)
+-- the lines above a row that the code lends
 abbrev pub above_told : declared_above.LinesAbove → LinesAbove
 above_told w = record { before = w.before.now; run = w.run.now; column = w.column; behind = w.behind.now }
 
--- A gap stands in a text from a place on, in bytes, up to a whole character (own).
+-- A gap stands in a text from a place on, in bytes, up to a whole character.
 pub record GapStands (t : List ℕ) (start : ℕ) (gap : List ℕ) : Type 0 where
   pub before : List ℕ
   pub rest : List ℕ

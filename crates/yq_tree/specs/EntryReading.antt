@@ -1,4 +1,4 @@
--- Reading (a reader may skip this): where lines, entries and contents begin and end, by the rows of a text and their pieces, as the code counts.
+-- Reading (own; a reader may skip it): where lines, entries and contents begin and end, by the rows of a text and their pieces, as the code counts.
 use Rattle.std.specs.Prelude.{ℕ, suc, ◌+◌, ◌-◌, ◌==◌, List, [], ◌∷◌, ◌++◌, length, replicate, slice_get, take, Option, Some, None, is_some, option_map, option_and_then, if◌then◌else◌, ◌≡◌}
 use Rattle.yq_scalar.specs.Answers.{◌>>=◌}
 use Rattle.yq_scalar.specs.Paths.{Step}
@@ -26,19 +26,19 @@ use Rattle.yq_tree.specs.PrintedLines.{less_break}
 abbrev pub before_line : ℕ → ℕ → Row → Cut → List ℕ
 before_line i k r c = before_row i c ++ (r.gap ++ (replicate r.column 32 ++ dashes_text (take k r.dashes) []))
 
--- the tail of a row and its raw lines, less the break of the last of these lines (own)
+-- the tail of a row and its raw lines, less the break of the last of these lines
 abbrev pub ending : Slices → List ℕ
 ending s = if is_empty s.raw then less_break s.tail else s.tail ++ less_break s.raw
 
--- the text of a cut up to the end of the last line of row i, before its break (own)
+-- the text of a cut up to the end of the last line of row i, before its break
 abbrev pub through_row : ℕ → Row → Cut → List ℕ
 through_row i r c = before_tail i r c ++ ending (slices r)
 
--- the place of lines of rows, before which k rows of a cut stand: from the beginning of one line to the end of another one's row, before its break (own)
+-- the place of lines of rows, before which k rows of a cut stand: from the beginning of one line to the end of another one's row, before its break
 abbrev pub lines_place : ℕ → Cut → List Row → ℕ → ℕ → Option (ℕ × ℕ)
 lines_place k c rs from to = seat from rs >>= λ a. seat to rs >>= λ b. Some (length (before_line (k + a.before) a.line a.row c), length (through_row (k + b.before) b.row c))
 
--- the place of the entry or item of line n: from its key or dash to the end of its last line, before its break (own)
+-- the place of the entry or item of line n: from its key or dash to the end of its last line, before its break
 abbrev pub line_entry : ℕ → Cut → List Row → ℕ → Option (ℕ × ℕ)
 line_entry k c rs n = lines_place k c rs n (lines_end n (lines_of rs) - 1)
 
@@ -48,11 +48,11 @@ head_end e (Nothing tail) = e
 head_end e (Inline space node tail) = e
 head_end e (Block space anchor block) = e + length block.tail + length (joined block.raw)
 
--- the place of the head of row i, without its anchor (own)
+-- the place of the head of row i, without its anchor
 abbrev pub head_extent : ℕ → Row → Cut → ℕ × ℕ
 head_extent i r c = ((head_place i c r).0, head_end (head_place i c r).1 r.content)
 
--- the same of the head of line n of rows, before which k rows of a cut stand (own)
+-- the same of the head of line n of rows, before which k rows of a cut stand
 abbrev pub line_head : ℕ → Cut → List Row → ℕ → Option (ℕ × ℕ)
 line_head k c rs n = seat n rs >>= λ s. Some (head_extent (k + s.before) s.row c)
 
@@ -72,7 +72,7 @@ inline_node (Nothing tail) = empty
 inline_node (Inline space node tail) = node
 inline_node (Block space anchor block) = empty
 
--- the same of row i of a cut, with the places of its parts in the cut's text (own)
+-- the same of row i of a cut, with the places of its parts in the cut's text
 abbrev pub placed_inline : ℕ → Row → Cut → Placed
 placed_inline i r c = locate (length (cut_text c)) (inline_node r.content) (tail_of r.content ++ behind_row i c)
 
@@ -80,54 +80,54 @@ placed_inline i r c = locate (length (cut_text c)) (inline_node r.content) (tail
 abbrev pub flow_entry : ℕ → Cut → List Row → ℕ → List Step → Option PlacedEntry
 flow_entry k c rs n steps = seat n rs >>= λ s. placed_entry_at steps (None, placed_inline (k + s.before) s.row c)
 
--- the place of the entry or item of line n, or where steps are left, of the one to which they lead in the line's head (own)
+-- the place of the entry or item of line n, or where steps are left, of the one to which they lead in the line's head
 abbrev pub entry_from : ℕ → Cut → List Row → ℕ → List Step → Option (ℕ × ℕ)
 entry_from k c rs n [] = line_entry k c rs n
 entry_from k c rs n (s ∷ ss) = option_map entry_place (flow_entry k c rs n (s ∷ ss))
 
--- the place of the node of line n, or where steps are left, of the one to which they lead in the line's head (own)
+-- the place of the node of line n, or where steps are left, of the one to which they lead in the line's head
 abbrev pub content_from : ℕ → Cut → List Row → ℕ → List Step → Option (ℕ × ℕ)
 content_from k c rs n [] = line_content k c rs n
 content_from k c rs n (s ∷ ss) = option_and_then (λ e. content_place e.1) (flow_entry k c rs n (s ∷ ss))
 
--- the place of the entry or item to which steps lead among rows; the root is none (own)
+-- the place of the entry or item to which steps lead among rows; the root is none
 abbrev pub entry_of : ℕ → Cut → List Row → List Step → Option (ℕ × ℕ)
 entry_of k c rs steps = reached steps (lines_of rs) >>= λ x. entry_from k c rs x.0 x.1
 
--- the place of the node to which steps lead among rows (own)
+-- the place of the node to which steps lead among rows
 abbrev pub content_of : ℕ → Cut → List Row → List Step → Option (ℕ × ℕ)
 content_of k c rs [] = lines_content k c rs 0 (length (lines_of rs))
 content_of k c rs (s ∷ ss) = reached (s ∷ ss) (lines_of rs) >>= λ x. content_from k c rs x.0 x.1
 
--- the place of the entry or item at a path (own)
+-- the place of the entry or item at a path
 abbrev pub entry_at : Path → Cut → Option (ℕ × ℕ)
 entry_at p c = slice_get (document_parts c) p.doc >>= λ d. entry_of (document_row p.doc c) c d.rows (steps_of p)
 
--- the place of the content of the node at a path (own)
+-- the place of the content of the node at a path
 abbrev pub content_at : Path → Cut → Option (ℕ × ℕ)
 content_at p c = slice_get (document_parts c) p.doc >>= λ d. content_of (document_row p.doc c) c d.rows (steps_of p)
 
--- how far it is to the dash before which k others stand, or to the end (own)
+-- how far it is in a text to the dash before which k others stand, or to the end
 unfoldable pub dash_at : ℕ → List ℕ → ℕ
 dash_at k [] = 0
 dash_at k (b ∷ bs) = if b == 45 then (if k == 0 then 0 else suc (dash_at (k - 1) bs)) else suc (dash_at k bs)
 
--- where line k of a row begins that begins at a place (own)
+-- where line k of a row begins, by where the row begins
 abbrev pub line_begin : ℕ → Slices → ℕ → ℕ
 line_begin start s k = start + length s.gap + s.column + dash_at k s.dashes
 
--- where what a head spells ends, by where it ends on its first line (own)
+-- where what a head spells ends, by where it ends on its first line
 abbrev pub head_finish : ℕ → Slices → ℕ
 head_finish end s = if begins_block s.head then end + length s.tail + length s.raw else end
 
--- how many rows stand before document n, if there is one (own)
+-- how many rows stand before document n, if there is such a document
 abbrev pub first_row : ℕ → Cut → Option ℕ
 first_row n c = option_map (λ p. document_row n c) (slice_get (document_parts c) n)
 
--- the item or entry to which steps lead in an alias or flow collection, if there is one (own)
+-- the item or entry to which steps lead in an alias or flow collection, if there is one
 abbrev pub entry_within : List Step → Option Placed → Option PlacedEntry
 entry_within steps flow = flow >>= λ p. placed_entry_at steps (None, p)
 
--- line by line, these are the aliases and flow collections in the heads of rows, before which k rows of a cut stand (own)
+-- line by line, these are the aliases and flow collections in the heads of rows, before which k rows of a cut stand
 abbrev pub HasFlows : ℕ → Cut → List Row → List (Option Placed) → Type 0
 HasFlows k c rs fs = (n : ℕ) (s : Seat) → seat n rs ≡ Some s → s.line ≡ length s.row.dashes → slice_get fs n ≡ Some (row_flow (length (cut_text c)) s.row (behind_row (k + s.before) c))

@@ -15,12 +15,12 @@ use Rattle.yq_documents.specs.Reading.{read_at}
 use Rattle.yq_tree.specs.PrintedLines.{PrintedLine, line_in}
 use Rattle.yq_tree.specs.PathPieces.{BlockEntry, FlowEntry, flow_at, line_inline, PrintedDocument, printed_document, found_entry, piece_at}
 
--- whether there are no steps, so that they stay at the root (own)
+-- whether there are no steps, so that they end at the root
 abbrev pub are_none : List Step → Bool
 are_none [] = true
 are_none (s ∷ ss) = false
 
--- whether a path leads to the root of its document (own)
+-- whether a path leads to the root of its document
 abbrev pub is_root : Path → Bool
 is_root p = are_none (steps_of p)
 
@@ -28,32 +28,31 @@ is_root p = are_none (steps_of p)
 abbrev pub IsNull : Node → Type 0
 IsNull n = (a : Option (List ℕ)) × (n ≡ anchored a null_node)
 
--- whether there are lines
+-- whether there are lines at all
 abbrev pub some_lines : List PrintedLine → Bool
 some_lines [] = false
 some_lines (l ∷ ls) = true
 
--- whether more than an anchor is written for an item's node (7.2)
+-- whether more than an anchor is written for the node of an item or entry in a flow collection (7.2)
 abbrev pub flow_written : FlowEntry → Bool
 flow_written x = is_some (node_head x.node)
 
--- no answer is no
+-- an answer of yes or no; where there is none, no
 abbrev pub or_false : Option Bool → Bool
 or_false None = false
 or_false (Some b) = b
 
--- whether more than an anchor is written for an entry's node, or where steps are left, for the one to which they lead in its line: behind its mark, or on
--- lines under it (7.2)
+-- whether more than an anchor is written for an entry's node, or for the one to which the steps that are left lead in its line (7.2)
 abbrev pub entry_written : List Step → BlockEntry → Bool
 entry_written [] e = is_some e.line.line.head || some_lines e.under
 entry_written (s ∷ ss) e = or_false (line_inline e >>= λ x. option_map flow_written (flow_at (s ∷ ss) x))
 
--- the same of the node to which steps lead in a document; where there is none, nothing is written
+-- the same of the node to which steps lead in a document; where there is none, no
 abbrev pub document_written : List Step → PrintedDocument → Bool
 document_written [] s = some_lines s.lines
 document_written (x ∷ xs) s = or_false (find x xs (group (map line_in s.lines)) >>= λ f. option_map (entry_written f.1) (found_entry s f.0))
 
--- the same of the node at a path
+-- the same of the node at a path (7.2)
 abbrev pub is_written : Path → Cut → Bool
 is_written p c = or_false (option_map (document_written (steps_of p)) (printed_document p.doc c))
 

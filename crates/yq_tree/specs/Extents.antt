@@ -1,4 +1,4 @@
--- Reading (a reader may skip this): where what a row spells stands in its text, by the pieces of rows.
+-- Reading (own; a reader may skip it): where what a row spells stands in its text, by the pieces of rows.
 use Rattle.std.specs.Prelude.{ℕ, ◌+◌, ◌-◌, ◌≤◌, ◌≡◌, nat_le, ◌==◌, List, ◌++◌, length, take, if◌then◌else◌}
 use Rattle.std.specs.List.{sum_by, count_by}
 use Rattle.yq_scalar.specs.Characters.{text_limit}
@@ -18,11 +18,11 @@ head_place i c r =
 abbrev pub bound_length : Bound → ℕ
 bound_length b = length b.end + length b.marker
 
--- the same where that part ends before row i, else nothing
+-- the same where that part ends before row i, else 0
 abbrev pub passed_length : ℕ → Bound → ℕ
 passed_length i b = if nat_le b.rows i then bound_length b else 0
 
--- how long the pieces of rows and ends of parts before row i are
+-- how long the pieces of the rows and the ends of the parts before row i are
 abbrev pub row_start : ℕ → Shown → ℕ
 row_start i s = sum_by row_length (take i s.rows) + sum_by (passed_length i) s.bounds
 
@@ -30,7 +30,7 @@ row_start i s = sum_by row_length (take i s.rows) + sum_by (passed_length i) s.b
 abbrev pub front_length : Slices → ℕ
 front_length s = length s.gap + s.column + length s.dashes + length s.key + length s.colon + length s.space + length s.anchor + length s.apart
 
--- how long all pieces are
+-- how long all pieces of a cut are
 abbrev pub shown_length : Shown → ℕ
 shown_length s = sum_by row_length s.rows + sum_by bound_length s.bounds
 
@@ -42,7 +42,7 @@ dash_count t = count_by (λ b. b == 45) t
 abbrev pub lines_before_mark : Slices → ℕ
 lines_before_mark s = if is_empty s.colon then dash_count s.dashes - 1 else dash_count s.dashes
 
--- A cut whose pieces these are, of a text that is not too long.
+-- These are the pieces of a cut, whose text is not too long.
 pub record IsShown (s : Shown) : Type 0 where
   pub cut : Cut
   pub is : s ≡ shown cut

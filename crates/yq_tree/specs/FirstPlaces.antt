@@ -37,8 +37,7 @@ line_seat n steps c = slice_get (document_parts c) n >>= λ p. seat_of steps p.r
 abbrev pub first_entry : ℕ → List Step → Cut → Option Piece
 first_entry n steps c = line_seat n steps c >>= λ s. if s.line == 0 then None else (printed_document n c >>= piece_in Entry steps)
 
--- What is taken out of a text with the first item or entry of a compact collection: the text before it; the spaces behind its dash, the item or entry, the
--- break behind it and the spaces before the next one, which go, and of which all but the second may be nothing; and the text behind that (8.2.1; own).
+-- What is taken out with the first item or entry of a compact collection, between the text before and the text behind: spaces, the item or entry, its break and the next one's spaces, of which all but the second may be nothing (8.2.1; own).
 pub record FirstOut : Type 0 where
   pub before : List ℕ
   pub space : List ℕ
@@ -47,7 +46,7 @@ pub record FirstOut : Type 0 where
   pub indent : List ℕ
   pub behind : List ℕ
 
--- up to the next one, if there is no gap between their lines; else from behind the dash to the end of its last line, before its break (8.2.1; own)
+-- what is taken out with such an item or entry: all up to the next one, if there is no gap between their lines; else what stands behind the dash up to the end of its last line, before its break (8.2.1; own)
 abbrev pub first_out : Piece → FirstOut
 first_out p =
     let line = cut_line p.behind in
@@ -55,6 +54,6 @@ first_out p =
     if begins_gap line.1 then record { before = less_spaces p.before; space = end_spaces p.before; entry = p.text; break = []; indent = []; behind = p.behind }
     else record { before = p.before; space = []; entry = p.text; break = line.0; indent = next.0; behind = next.1 }
 
--- what is taken out with the item or entry to which steps lead in document n, if it is such a one (8.2.1; own)
+-- what is taken out with the item or entry to which steps lead in document n, if it is the first one of a compact collection (8.2.1; own)
 abbrev pub first_removal : ℕ → List Step → Cut → Option FirstOut
 first_removal n steps c = option_map first_out (first_entry n steps c)

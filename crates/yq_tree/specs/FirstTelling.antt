@@ -8,6 +8,6 @@ use Rattle.yq_documents.specs.Pieces.{Piece}
 abbrev pub piece_of : (before text behind : List ℕ) → Piece
 piece_of before text behind = record { before = before; text = text; behind = behind }
 
--- what the code tells (own)
+-- what is taken out, as the code lends it (own)
 abbrev pub first_told : declared.FirstRemoval → FirstOut
 first_told r = record { before = r.before.now; space = r.space.now; entry = r.entry.now; break = r.line.now; indent = r.indent.now; behind = r.behind.now }

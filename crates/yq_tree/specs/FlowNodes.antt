@@ -17,7 +17,7 @@ abbrev pub bare_line : Outline → Option Found
 bare_line end = None
 bare_line (row l under after) = if is_bare l.mark then Some (record { place = here; line = l; under = under; after = after }) else None
 
--- the line in whose head the node of an entry stands: its own, or the one under it that is a node itself; where steps go on in the head, its own
+-- the line in whose head the node of an entry stands: its own, or the one under it that is a node itself; where steps go on in the head, its own (8.2)
 abbrev pub head_line : Found → List Step → Option (Found × List Step)
 head_line f [] = in_head f.line.head (Some (f, [])) (option_map (λ g. (inside f g, [])) (bare_line f.under))
 head_line f (s ∷ ss) = Some (f, s ∷ ss)
@@ -27,20 +27,20 @@ abbrev pub find_head : List Step → Outline → Option (Found × List Step)
 find_head [] o = option_map (λ f. (f, [])) (bare_line o)
 find_head (s ∷ ss) o = find s ss o >>= λ x. head_line x.0 x.1
 
--- the flow collection to which steps lead in a content before a rest
+-- the flow collection to which steps lead in a content before a rest (7.4)
 abbrev pub content_flow : List Step → Content → List ℕ → Option CollPieces
 content_flow steps (Nothing tail) rest = None
 content_flow steps (Inline space node tail) rest = coll_along steps node (tail ++ rest)
 content_flow steps (Block space anchor block) rest = None
 
--- the same in the head of line n of rows, before which k rows of a cut stand
+-- the same in the head of line n of rows, before which k rows of a cut stand (7.4)
 abbrev pub line_collection : ℕ → Cut → List Row → ℕ → List Step → Option CollPieces
 line_collection k c rs n steps = seat n rs >>= λ s. content_flow steps s.row.content (behind_row (k + s.before) c)
 
--- the same of the node at a path of a document, before which k rows stand
+-- the same at a path of a document, before which k rows stand (7.4)
 abbrev pub part_collection : ℕ → Cut → List Step → Part → Option CollPieces
 part_collection k c steps p = find_head steps (outline_of p) >>= λ x. line_collection k c p.rows (length (lines_before x.0.place)) x.1
 
--- the flow collection at a path of document n, with all text behind it
+-- the flow collection at a path of document n, with all text behind it (7.4)
 abbrev pub flow_collection : ℕ → List Step → Cut → Option CollPieces
 flow_collection n steps c = slice_get (document_parts c) n >>= part_collection (document_row n c) c steps

@@ -13,8 +13,7 @@ use Rattle.yq_documents.specs.Located.{steps_of}
 use Rattle.yq_tree.specs.PrintedLines.{PrintedLine, line_front, print_line, print_lines, line_in}
 use Rattle.yq_tree.specs.PathPieces.{BlockEntry, PrintedDocument, printed_document, found_entry}
 
--- A place in a text: the text before it, with the node's anchor; the inline node that is written there, if one is, without its anchor; the text behind it;
--- and whether the node is alone, on a line of its own or as a root, or else behind a key or dash.
+-- A place in a text: the text before it, with the node's anchor; the inline node there, if one is written, without that anchor; the text behind it; and whether the node is alone on its line, or else behind a key or dash.
 pub record InlinePlace : Type 0 where
   pub before : List ℕ
   pub old : Option (List ℕ)
@@ -26,7 +25,7 @@ abbrev pub written_text : Option (List ℕ) → List ℕ
 written_text None = []
 written_text (Some t) = t
 
--- a text as it is put in a place: behind a space where nothing is written
+-- a text as it is put in a place: behind a space, where nothing is written there
 abbrev pub apart_from : Option (List ℕ) → List ℕ → List ℕ
 apart_from None t = 32 ∷ t
 apart_from (Some old) t = t
@@ -56,7 +55,7 @@ entry_inline e =
     if is_some e.line.line.head || not (some_lines e.under) then mark_inline false (e.before ++ (line_front e.line ++ e.line.mark)) e.line.content (print_lines e.under e.behind)
     else lines_inline (e.before ++ print_line e.line []) e.under e.behind
 
--- the same where no steps are left, that go on in a flow collection
+-- the same, where no steps are left that lead on in the entry's line
 abbrev pub inline_in_entry : List Step → BlockEntry → Option InlinePlace
 inline_in_entry [] e = entry_inline e
 inline_in_entry (s ∷ ss) e = None
@@ -66,10 +65,10 @@ abbrev pub inline_in : List Step → PrintedDocument → Option InlinePlace
 inline_in [] s = lines_inline s.before s.lines s.behind
 inline_in (x ∷ xs) s = find x xs (group (map line_in s.lines)) >>= λ f. found_entry s f.0 >>= inline_in_entry f.1
 
--- the same in document n of a cut
+-- the place of the node to which steps lead in document n of a cut
 abbrev pub inline_from : ℕ → List Step → Cut → Option InlinePlace
 inline_from n steps c = printed_document n c >>= inline_in steps
 
--- the same of the node at a path, if it is an inline node outside flow collections, or nothing but an anchor is written for it behind a key or dash
+-- the place of the node at a path, if it is an inline node outside flow collections, or nothing but an anchor is written for it behind a key or dash
 abbrev pub inline_place : Path → Cut → Option InlinePlace
 inline_place p c = inline_from p.doc (steps_of p) c

@@ -1,4 +1,4 @@
--- Reading (a reader may skip this): where inline nodes stand, by the rows of a text and their pieces, as the code counts.
+-- Reading (own; a reader may skip it): where inline nodes stand, by the rows of a text and their pieces, as the code counts.
 use Rattle.std.specs.Prelude.{◌||◌, ◌==◌, ℕ, suc, ◌+◌, List, [], ◌∷◌, length, Option, Some, None, is_some, Bool, true, false, if◌then◌else◌, slice_get}
 use Rattle.yq_scalar.specs.Answers.{◌>>=◌}
 use Rattle.yq_scalar.specs.Paths.{Step}
@@ -21,25 +21,25 @@ abbrev pub if_written : List ℕ → Option (List ℕ)
 if_written [] = None
 if_written (b ∷ t) = Some (b ∷ t)
 
--- where a place begins and ends, in bytes, and whether it is alone
+-- where the inline node in a place begins and ends, in bytes, and whether it is alone
 abbrev pub InlineExtent : Type 0
 InlineExtent = ℕ × ℕ × Bool
 
--- that of a place
+-- the extent of a place
 abbrev pub extent_of : InlinePlace → InlineExtent
 extent_of w = (length w.before, length w.before + length (written_text w.old), w.alone)
 
--- that which the code tells
+-- the extent that the code tells
 abbrev pub extent_view : InlineSpan → InlineExtent
 extent_view s = (s.span.start, s.span.end, s.alone)
 
--- the place of a content by where its head stands; a block scalar has none
+-- the extent of a content, by where its head stands; a block scalar has none
 abbrev pub content_extent : Bool → ℕ × ℕ → Content → Option InlineExtent
 content_extent alone x (Nothing tail) = Some (x.0, x.1, alone)
 content_extent alone x (Inline space node tail) = Some (x.0, x.1, alone)
 content_extent alone x (Block space anchor block) = None
 
--- the same behind the mark of row i
+-- the same of what is written behind the mark of row i
 abbrev pub row_extent : Bool → ℕ → Row → Cut → Option InlineExtent
 row_extent alone i r c = content_extent alone (head_place i c r) r.content
 
@@ -56,7 +56,7 @@ abbrev pub entry_extent : ℕ → Cut → List Row → ℕ → Option InlineExte
 entry_extent k c rs n =
     slice_get (lines_of rs) n >>= λ l. if is_some l.head || (lines_end n (lines_of rs) == suc n) then line_extent false k c rs n else lines_extent k c rs (suc n) (lines_end n (lines_of rs))
 
--- the same where no steps are left
+-- the same, where no steps are left that lead on in the line
 abbrev pub extent_from : ℕ → Cut → List Row → ℕ → List Step → Option InlineExtent
 extent_from k c rs n [] = entry_extent k c rs n
 extent_from k c rs n (s ∷ ss) = None
@@ -78,6 +78,6 @@ InlineTelling = List ℕ × Option (List ℕ) × List ℕ × Bool
 abbrev pub inline_telling : InlinePlace → InlineTelling
 inline_telling w = (w.before, w.old, w.behind, w.alone)
 
--- what the code tells of one
+-- what the code tells of a place
 abbrev pub inline_told : declared.InlinePlace → InlineTelling
 inline_told w = (w.before.now, lent w.old, w.behind.now, w.alone)

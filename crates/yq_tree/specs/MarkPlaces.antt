@@ -9,8 +9,7 @@ use Rattle.yq_rows.specs.View.{Slices, slices}
 use Rattle.yq_tree.specs.CommentPlaces.{LineEnd, line_end}
 use Rattle.yq_tree.specs.PlacedRows.{PlacedRow, row_of_path}
 
--- A key or dash in a text, with the anchor behind it, if one stands there: the text up to the end of these; the white space behind them and what is written there, which may be nothing; the white space and the comment that end the line;
--- the text from the line's break on; its column; whether it is a key; and whether an anchor stands behind it.
+-- A key or dash in a text, with its anchor, if it has one: the text up to their end; what is written behind them on the line; the line's white space and comment; the text from its break on; its column; whether it is a key; and whether it has an anchor.
 pub record MarkPlace : Type 0 where
   pub before : List ℕ
   pub gone : List ℕ
@@ -21,7 +20,7 @@ pub record MarkPlace : Type 0 where
   pub keyed : Bool
   pub named : Bool
 
--- the column of a key or dash, which is the indentation of the parent of what stands behind it (6.1)
+-- the column of a key or dash: the indentation of the parent of what stands behind it, or 0 where that is less (6.1)
 abbrev pub column_of : ℤ → ℕ
 column_of (pos n) = n
 column_of (negsuc n) = 0
@@ -30,15 +29,15 @@ column_of (negsuc n) = 0
 abbrev pub behind_mark : Slices → List ℕ
 behind_mark s = s.space ++ (s.anchor ++ (s.apart ++ s.head))
 
--- a text up to a key or dash, and the anchor behind that, if one stands there
+-- a text up to a key or dash, with its anchor, if it has one
 abbrev pub upto_anchor : List ℕ → Slices → List ℕ
 upto_anchor before s = if is_empty s.anchor then before else before ++ (s.space ++ s.anchor)
 
--- what is written behind these
+-- what is written on a line behind its key or dash and the anchor there
 abbrev pub behind_anchor : Slices → List ℕ
 behind_anchor s = if is_empty s.anchor then s.space ++ (s.apart ++ s.head) else s.apart ++ s.head
 
--- the key or dash of a row behind a text, by the end of its line
+-- the key or dash of a row, by the text up to it, the row's pieces and the end of its line
 abbrev pub mark_at : List ℕ → Slices → LineEnd → MarkPlace
 mark_at before s e = record {
   before = upto_anchor before s;
@@ -51,7 +50,7 @@ mark_at before s e = record {
   named = not (is_empty s.anchor);
 }
 
--- that of the row
+-- the key or dash of a row in a text, by the end of its line
 abbrev pub mark_in : LineEnd → PlacedRow → MarkPlace
 mark_in e w = mark_at (w.before ++ row_front w.row) (slices w.row) e
 

@@ -24,11 +24,11 @@ pub record BlockEntry : Type 0 where
   pub under : List PrintedLine
   pub behind : List ℕ
 
--- the entry or item of a line: from its key or dash to the end of its last line
+-- the piece of an entry or item: from its key or dash to the end of its last line
 abbrev pub entry_piece : BlockEntry → Piece
 entry_piece e = run_piece e.before e.line e.under e.behind
 
--- its node: what is written behind its mark, or else that for which the lines under it stand
+-- the piece of an entry's or item's node: what is written behind its mark, or else that for which the lines under it stand
 abbrev pub content_piece : BlockEntry → Option Piece
 content_piece e =
     if is_some e.line.line.head then head_piece (e.before ++ (line_front e.line ++ e.line.mark)) e.line.content (print_lines e.under e.behind)
@@ -41,14 +41,14 @@ pub record FlowEntry : Type 0 where
   pub node : Node
   pub behind : List ℕ
 
--- the one to which a step leads, among items between two texts
+-- the item or entry to which a step leads, among those of a flow collection between two texts (7.4)
 abbrev pub flow_in : ℕ → Step → List ℕ → Items → List ℕ → Option FlowEntry
 flow_in k s before none behind = None
 flow_in k s before (item key n sep is) behind =
     if is_here s (inner (key_content key)) then Some (record { before = before; key = key; node = n; behind = sep_text sep (items_text k is behind) })
     else flow_in k (further s) (before ++ key_text key (node_text n (sep_text sep []))) is behind
 
--- the same in a node
+-- the same in an inline node between two texts (7.4)
 abbrev pub flow_under : Step → List ℕ → Node → List ℕ → Option FlowEntry
 flow_under s before empty behind = None
 flow_under s before (alias n) behind = None
@@ -56,7 +56,7 @@ flow_under s before (scalar p) behind = None
 flow_under s before (coll k gap is) behind = flow_in k s (before ++ open_of k ∷ gap) is behind
 flow_under s before (anchored n gap node) behind = flow_under s (before ++ 38 ∷ (n ++ gap)) node behind
 
--- the one to which steps lead
+-- the item or entry to which steps lead from one
 abbrev pub flow_at : List Step → FlowEntry → Option FlowEntry
 flow_at [] x = Some x
 flow_at (s ∷ ss) x = option_and_then (flow_at ss) (flow_under s (x.before ++ key_text x.key []) x.node x.behind)
@@ -67,15 +67,15 @@ content_inline before (Nothing tail) behind = None
 content_inline before (Inline space node tail) behind = Some (record { before = before ++ space; key = bare; node = node; behind = tail ++ behind })
 content_inline before (Block space anchor block) behind = None
 
--- the one in an entry's line
+-- the inline node in an entry's line, as an item without a key
 abbrev pub line_inline : BlockEntry → Option FlowEntry
 line_inline e = content_inline (e.before ++ (line_front e.line ++ e.line.mark)) e.line.content (print_lines e.under e.behind)
 
--- the item or entry with its key
+-- the piece of an item or entry of a flow collection, with its key
 abbrev pub flow_piece : FlowEntry → Piece
 flow_piece x = record { before = x.before; text = key_text x.key (node_text x.node []); behind = x.behind }
 
--- its node
+-- the piece of the node of an item or entry of a flow collection, without its anchor
 abbrev pub flow_content : FlowEntry → Option Piece
 flow_content x = node_piece (x.before ++ key_text x.key []) x.node x.behind
 
@@ -98,11 +98,11 @@ printed_part true zero (marked p marker c) = Some (record { before = []; lines =
 printed_part true (suc n) (marked p marker c) = option_map (behind_text (part_text p marker)) (printed_part (begins_document marker) n c)
 printed_part false n (marked p marker c) = option_map (behind_text (part_text p marker)) (printed_part (begins_document marker) n c)
 
--- document n of a cut
+-- document n of a cut (9.1)
 abbrev pub printed_document : ℕ → Cut → Option PrintedDocument
 printed_document n c = printed_part (begins_bare c || not (has_begin c)) n c
 
--- line n of a document with the m lines behind it
+-- line n of a document, with the m lines behind it as those under it
 abbrev pub entry_with : PrintedDocument → ℕ → ℕ → Option BlockEntry
 entry_with s n m =
     slice_get s.lines n >>= λ l. Some (record { before = s.before ++ print_lines (take n s.lines) []; line = l; under = take m (drop (suc n) s.lines); behind = print_lines (drop m (drop (suc n) s.lines)) s.behind })
@@ -111,7 +111,7 @@ entry_with s n m =
 abbrev pub found_entry : PrintedDocument → Found → Option BlockEntry
 found_entry s f = entry_with s (length (lines_before f.place)) (length (flatten f.under))
 
--- the piece of an entry's part, or where steps are left, of the one to which they lead in its line; comments are those of the line
+-- the piece of a part of an entry, or of the item or entry to which the steps that are left lead in its line; comments are those of the line
 abbrev pub piece_in_entry : Part → List Step → BlockEntry → Option Piece
 piece_in_entry parts.Content [] e = content_piece e
 piece_in_entry parts.Content (s ∷ ss) e = line_inline e >>= λ x. flow_at (s ∷ ss) x >>= flow_content
@@ -122,7 +122,7 @@ piece_in_entry parts.HeadComment (s ∷ ss) e = None
 piece_in_entry parts.LineComment [] e = content_comment (e.before ++ (line_front e.line ++ e.line.mark)) e.line.content (print_lines e.under e.behind)
 piece_in_entry parts.LineComment (s ∷ ss) e = None
 
--- the piece of the part of the node to which steps lead in a document; a root has a content alone
+-- the piece of a part of the node to which steps lead in a document; a root has a content alone
 abbrev pub piece_in : Part → List Step → PrintedDocument → Option Piece
 piece_in parts.Content [] s = lines_piece s.before s.lines s.behind
 piece_in parts.Entry [] s = None

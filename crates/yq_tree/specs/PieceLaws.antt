@@ -38,7 +38,7 @@ pub record IsScalarPiece (p : Piece) (n : tree.Node) : Type 0 where
   pub valid : (least : ℕ) × IsBlock least block p.behind
   pub tree : n ≡ tree.scalar None Text (block_content block)
 
--- A piece is that of a run of lines of a document, behind others and before others.
+-- A piece is that of a run of lines of a document, which stands behind others and before others.
 pub record IsRun (s : PrintedDocument) (first : PrintedLine) (others : List PrintedLine) (p : Piece) : Type 0 where
   pub above : List PrintedLine
   pub below : List PrintedLine
@@ -87,7 +87,7 @@ pub record IsFlowPiece (p : Piece) (n : Labelled) : Type 0 where
   pub label : n.0 ≡ inner (key_content key)
   pub tree : n.1 ≡ tree_of node
 
--- The entry or item at a path is that of the node there, and has its key.
+-- The piece of an entry or item at a path spells the node there, with its key.
 abbrev pub EntriesSpell : Type 0
 EntriesSpell =
     (t : List ℕ) (c : Cut) (p : Path) (s : PrintedDocument) (x : Piece) → read_at t ≡ Some c → printed_document p.doc c ≡ Some s → piece_at p Entry c ≡ Some x →
@@ -99,16 +99,16 @@ LinesStand =
     (t : List ℕ) (c : Cut) (n : ℕ) (s : PrintedDocument) → read_at t ≡ Some c → printed_document n c ≡ Some s →
     (t ≡ s.before ++ print_lines s.lines s.behind) × ((d : Rows) × (slice_get (document_parts c) n ≡ Some d) × (s.lines ≡ printed_lines d.rows) × (map line_in s.lines ≡ lines_of d.rows))
 
--- The content at a path spells the node there.
+-- The piece of a content at a path spells the node there.
 abbrev pub ContentsSpell : Type 0
 ContentsSpell =
     (t : List ℕ) (c : Cut) (p : Path) (s : PrintedDocument) (x : Piece) → read_at t ≡ Some c → printed_document p.doc c ≡ Some s → piece_at p Content c ≡ Some x →
     (n : tree.Node) × (located p t ≡ Some n) × SpellsNode s x n
 
--- The text holds each piece.
+-- The text holds each piece, from one whole character to another.
 abbrev pub PiecesHold : Type 0
 PiecesHold = (t : List ℕ) (c : Cut) (p : Path) (part : Part) (x : Piece) → read_at t ≡ Some c → piece_at p part c ≡ Some x → HoldsPiece t x
 
--- The content of an entry or item begins in it.
+-- The content of an entry or item begins in that entry or item.
 abbrev pub ContentsBegin : Type 0
 ContentsBegin = (c : Cut) (p : Path) (e x : Piece) → piece_at p Entry c ≡ Some e → piece_at p Content c ≡ Some x → (front : List ℕ) × (x.before ≡ e.before ++ front)

@@ -13,7 +13,7 @@ pub record PlacedPart : Type 0 where
   pub part : Part
   pub behind : List ℕ
 
--- the same behind more text (own)
+-- the same part behind more text
 abbrev pub part_behind : List ℕ → PlacedPart → PlacedPart
 part_behind t s = record s { before = t ++ s.before }
 
@@ -30,17 +30,17 @@ placed_part false n (marked p marker c) = option_map (part_behind (part_text p m
 abbrev pub placed_document : ℕ → Cut → Option PlacedPart
 placed_document n c = placed_part (begins_bare c || not (has_begin c)) n c
 
--- A row with a line of it, with the text before the row and behind it (own).
+-- A row with a line of it, with the text before the row and behind it.
 pub record PlacedRow : Type 0 where
   pub before : List ℕ
   pub row : Row
   pub line : ℕ
   pub behind : List ℕ
 
--- the row of a line in a document (own)
+-- the row of a line in a document
 abbrev pub placed_row : PlacedPart → Seat → PlacedRow
 placed_row s x = record { before = s.before ++ rows_text (take x.before s.part.rows) []; row = x.row; line = x.line; behind = rows_text (drop (suc x.before) s.part.rows) (s.part.end ++ s.behind) }
 
--- the row of the line of the entry or item to which steps lead in a document, if one has a line (own)
+-- the row of the line of the entry or item to which steps lead in a document, if one has a line
 abbrev pub row_of_path : ℕ → List Step → Cut → Option PlacedRow
 row_of_path n steps c = placed_document n c >>= λ s. option_map (placed_row s) (seat_of steps s.part.rows)

@@ -69,25 +69,25 @@ printed_from gap spaces column [] m c = record { line = mark_line (comments.head
 printed_from gap spaces column (n ∷ ns) m c =
     record { line = dash_line (comments.head_comment gap) column; gap = gap; spaces = spaces; mark = 45 ∷ replicate n 32; content = Nothing [] } ∷ printed_from [] [] (suc (column + n)) ns m c
 
--- the lines of a row
+-- the lines of a row, with their texts (8.2)
 abbrev pub printed_row : Row → List PrintedLine
 printed_row r = printed_from r.gap (replicate r.column 32) r.column r.dashes r.mark r.content
 
--- the lines of rows
+-- the lines of rows, with their texts
 abbrev pub printed_lines : List Row → List PrintedLine
 printed_lines [] = []
 printed_lines (r ∷ rs) = printed_row r ++ printed_lines rs
 
--- a line as the tree knows it
+-- a line without its text
 abbrev pub line_in : PrintedLine → Line
 line_in l = l.line
 
--- a run of lines: from the key or dash of the first one to the end of the last one, before its break
+-- the text of a run of lines: from the key or dash of the first one to the end of the last one, before its break
 abbrev pub run_text : PrintedLine → List PrintedLine → List ℕ
 run_text l [] = l.mark ++ less_end l.content
 run_text l (k ∷ ks) = behind_front l (line_front k ++ run_text k ks)
 
--- the break behind it
+-- the break of the last line of a run, if it has one
 abbrev pub run_break : PrintedLine → List PrintedLine → List ℕ
 run_break l [] = end_break l.content
 run_break l (k ∷ ks) = run_break k ks

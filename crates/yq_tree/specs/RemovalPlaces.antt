@@ -32,26 +32,24 @@ row_count (suc n) (r ∷ rs) = suc (row_count (n - length r.dashes) rs)
 abbrev pub in_three : ℕ → ℕ → List Row → OwnRows
 in_three i n rs = record { front = take i rs; own = take n (drop i rs); back = drop n (drop i rs) }
 
--- the rows of the item or entry to which steps lead, where its line is the first one of a row; the last one is that of the last line under its own
+-- the rows of the item or entry to which steps lead, where its line is the first one of a row; their last one has the last line under its own
 abbrev pub own_rows : List Step → List Row → Option OwnRows
 own_rows steps rs =
     line_of steps (lines_of rs) >>= λ n. seat n rs >>= λ s.
     if s.line == 0 then Some (in_three s.before (row_count (lines_end n (lines_of rs) - n) (drop s.before rs)) rs) else None
 
--- What a gap that comes to stand behind a block scalar asks: whether the scalar keeps the empty lines at its end, how far its text is indented, and in which
--- column the next row begins (8.1.1; own).
+-- What a gap that comes to stand behind a block scalar has to fit: whether the scalar keeps the empty lines at its end, how far its text is indented, and in which column the next row begins (8.1.1; own).
 pub record Seam : Type 0 where
   pub keeps : Bool
   pub indent : ℕ
   pub column : ℕ
 
--- the seam behind a block scalar, where no comment line stays behind it
+-- the seam behind a block scalar, if there is one, where no comment line stays behind it
 abbrev pub seam_behind : Option BlockText → (column : ℕ) → (kept : List ℕ) → Option Seam
 seam_behind None column kept = None
 seam_behind (Some b) column kept = if hold_comment (text_lines kept) then None else Some (record { keeps = keeps b.chomping; indent = b.indent.columns; column = column })
 
--- What is taken out of a text: the lines that go, between the text before them and the gap behind them, and the text behind that; and the seam of that gap, if
--- it then stands behind a block scalar (own).
+-- What is taken out of a text: the text before it, the lines that go, the gap behind them, the text behind that, and the seam of the gap, if it comes to stand behind a block scalar.
 pub record Removal : Type 0 where
   pub before : List ℕ
   pub gone : List ℕ
@@ -59,7 +57,7 @@ pub record Removal : Type 0 where
   pub behind : List ℕ
   pub seam : Option Seam
 
--- the lines of the gap in front of rows that stay: those before the comment that ends it
+-- the lines that stay of the gap in front of rows: those before the comment that ends it
 abbrev pub kept_gap : List Row → List ℕ → List ℕ
 kept_gap rs end = joined (before_run (text_lines (first_gap rs end)))
 
@@ -81,7 +79,7 @@ rows_out d x = record {
 abbrev pub removal_place : ℕ → List Step → Cut → Option Removal
 removal_place n steps c = placed_document n c >>= λ d. option_map (rows_out d) (own_rows steps d.part.rows)
 
--- whether a node, if it is there, has several items or entries
+-- whether there is a node, and it has several items or entries
 abbrev pub has_several : Option Node → Bool
 has_several None = false
 has_several (Some n) = nat_lt 1 (count (children_of n))

@@ -1,4 +1,4 @@
--- Reading (a reader may skip this): what is taken out with an item or entry, by the pieces of rows, as the code counts.
+-- Reading (own; a reader may skip it): what is taken out with an item or entry, by the pieces of rows, as the code counts.
 use Rattle.std.specs.Prelude.{◌≡◌, ℕ, zero, suc, ◌+◌, ◌-◌, Bool, false, List, [], ◌∷◌, ◌++◌, length, slice_get, Option, Some, None, option_map}
 use Rattle.yq_scalar.specs.Answers.{◌>>=◌}
 use Rattle.yq_scalar.specs.Block.{BlockText, keeps}
@@ -21,13 +21,13 @@ slices_count zero ss = 0
 slices_count (suc n) [] = 0
 slices_count (suc n) (s ∷ ss) = suc (slices_count (n - lines_before_mark s) ss)
 
--- the gap of a row and its column, or where a part ends in front of it, the gap there and 0
+-- the gap of a row and its column; or where a part ends in front of it, the gap at that end and 0
 abbrev pub gap_and_column : List Bound → Option Slices → List ℕ × ℕ
 gap_and_column (b ∷ bs) x = (b.end, 0)
 gap_and_column [] None = ([], 0)
 gap_and_column [] (Some s) = (s.gap, s.column)
 
--- those of row i
+-- the same of row i
 abbrev pub gap_at : ℕ → Shown → List ℕ × ℕ
 gap_at i s = gap_and_column (bounds_at i s.bounds) (slice_get s.rows i)
 
@@ -35,15 +35,15 @@ gap_at i s = gap_and_column (bounds_at i s.bounds) (slice_get s.rows i)
 abbrev pub block_numbers : BlockText → Bool × ℕ
 block_numbers b = (keeps b.chomping, b.indent.columns)
 
--- where a document's rows begin, and an item's or entry's own ones, and where these end, by how many rows stand before
+-- how many rows stand before a document, before an item or entry of it, and before what is behind that
 abbrev pub Marks : Type 0
 Marks = ℕ × ℕ × ℕ
 
--- those of own rows, where so many rows stand before the document
+-- these numbers for rows of an item or entry, where so many rows stand before the document
 abbrev pub marks : ℕ → OwnRows → Marks
 marks k x = (k, k + length x.front, k + length x.front + length x.own)
 
--- those of the item or entry to which steps lead in document n
+-- these numbers for the item or entry to which steps lead in document n
 abbrev pub marks_at : ℕ → List Step → Cut → Option Marks
 marks_at n steps c = slice_get (document_parts c) n >>= λ p. option_map (marks (document_row n c)) (own_rows steps p.rows)
 
@@ -57,16 +57,16 @@ pub record IsOwn (t : List ℕ) (s : Shown) (d : PlacedPart) (x : OwnRows) (m : 
   pub some : no_rows x.own ≡ false
   pub marks_are : m ≡ marks (document_row document (cut_of t)) x
 
--- The same of some rows.
+-- Some rows of a document are an item's or entry's own, by where they begin and end.
 pub record HasOwn (t : List ℕ) (s : Shown) (m : Marks) : Type 0 where
   pub part : PlacedPart
   pub rows : OwnRows
   pub is : IsOwn t s part rows m
 
--- what the code tells of a seam
+-- a seam as the code tells it
 abbrev pub seam_told : seams.Seam → Seam
 seam_told s = record { keeps = s.keeps; indent = s.indent; column = s.column }
 
--- what it tells of what is taken out
+-- what is taken out, as the code lends it
 abbrev pub removal_told : declared.Removal → Removal
 removal_told r = record { before = r.before.now; gone = r.gone.now; gap = r.gap.now; behind = r.behind.now; seam = option_map seam_told r.seam }

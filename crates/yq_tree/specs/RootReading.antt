@@ -1,4 +1,4 @@
--- Reading (a reader may skip this): where the root of a document stands, by the bounds of parts, as the code counts, and by pieces; and what the code tells of it.
+-- Reading (own; a reader may skip it): where the root of a document stands, by the bounds of parts, as the code counts, and by pieces; and what the code tells of it.
 use Rattle.std.specs.Prelude.{ℕ, zero, suc, ◌+◌, Bool, true, false, List, [], ◌∷◌, length, take, Option, Some, None, option_map, if◌then◌else◌}
 use Rattle.std.specs.List.{sum_by}
 use Rattle.yq_scalar.specs.Answers.{◌>>=◌}
@@ -32,11 +32,11 @@ end_length k b s = sum_by row_length (take b.rows s.rows) + sum_by bound_length 
 abbrev pub if_unwritten : PlacedPart → Option RootPlace
 if_unwritten d = if no_rows d.part.rows then Some (unwritten_root d) else None
 
--- the same of document n
+-- the place of the root of document n, if that has no rows
 abbrev pub unwritten_place : ℕ → Cut → Option RootPlace
 unwritten_place n c = placed_document n c >>= if_unwritten
 
--- where that is, in bytes
+-- where the text before that place ends, in bytes
 abbrev pub unwritten_at : ℕ → Cut → Option ℕ
 unwritten_at n c = option_map (λ w. length w.before) (unwritten_place n c)
 

@@ -11,8 +11,7 @@ use Rattle.yq_rows.specs.View.{Slices, slices}
 use Rattle.yq_tree.specs.MarkPlaces.{column_of}
 use Rattle.yq_tree.specs.PlacedRows.{PlacedRow, row_of_path}
 
--- A block scalar in a text: the text up to the white space before its header, with the key or dash and an anchor; that white space; the header; the rest of the header's line, with its break; the scalar's
--- lines; the text behind them; how far its text is indented; whether it has an anchor; and the column of the key or dash, and whether it is a key.
+-- A block scalar in a text: the text before it, with its key or dash and its anchor; the white space behind these; its header; the rest of the header's line; its lines; the text behind; how far it is indented; whether it has an anchor; the column of its key or dash, and whether that is a key (8.1; own).
 pub record ScalarPlace : Type 0 where
   pub before : List ℕ
   pub space : List ℕ
@@ -33,7 +32,7 @@ anchor_before s = if is_empty s.anchor then [] else s.space ++ s.anchor
 abbrev pub space_before : Slices → List ℕ
 space_before s = if is_empty s.anchor then s.space else s.apart
 
--- a block scalar whose text is indented by so many columns, by the pieces of its row, between two texts
+-- a block scalar by the pieces of its row, between two texts, and by how far its text is indented
 abbrev pub scalar_by : List ℕ → Slices → List ℕ → ℕ → ScalarPlace
 scalar_by before s behind indent = record {
   before = before;
@@ -48,11 +47,11 @@ scalar_by before s behind indent = record {
   keyed = not (is_empty s.colon);
 }
 
--- a block scalar of a row
+-- the block scalar of a row in a text
 abbrev pub scalar_in : PlacedRow → BlockText → ScalarPlace
 scalar_in w b = scalar_by ((w.before ++ row_front w.row) ++ anchor_before (slices w.row)) (slices w.row) w.behind b.indent.columns
 
--- that of a line, if it is the one of its row's mark and a block scalar stands behind that
+-- the block scalar of a line, if that is the one of its row's mark and a block scalar stands behind this
 abbrev pub scalar_of : PlacedRow → Option ScalarPlace
 scalar_of w = if w.line == length w.row.dashes then option_map (scalar_in w) (block_of w.row.content) else None
 

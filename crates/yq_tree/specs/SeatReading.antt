@@ -1,4 +1,4 @@
--- Reading (a reader may skip this): the line of a path, by the pieces of rows and by where parts end.
+-- Reading (own; a reader may skip it): the line of a path, by the pieces of rows and by where parts end.
 use Rattle.std.specs.Prelude.{ℕ, zero, suc, ◌+◌, ◌-◌, nat_lt, Bool, true, false, List, [], ◌∷◌, length, Option, Some, None, option_map, if◌then◌else◌}
 use Rattle.yq_rows.specs.Grammar.{begins_document}
 use Rattle.yq_rows.specs.View.{Slices, Bound}
@@ -6,7 +6,7 @@ use Rattle.yq_tree.specs.declared.places.seat.Seat as declared
 use Rattle.yq_tree.specs.Extents.{lines_before_mark}
 use Rattle.yq_documents.specs.Seats.{Seat}
 
--- how many rows stand before document n of some parts, by where these end; so many rows stand before the first one, of which is known whether it is a document
+-- how many rows stand before document n, by where parts end: k stand before the first of them, of which it is known whether it is a document
 abbrev pub begin_row : Bool → ℕ → ℕ → List Bound → Option ℕ
 begin_row is n k [] = None
 begin_row true zero k (b ∷ bs) = Some k
