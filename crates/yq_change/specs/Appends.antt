@@ -40,7 +40,7 @@ pub record TakesRows (p : Part) (front new back : List Row) (rest : List ℕ) : 
   pub new_are : AreRows (asked_behind unlimited front) new (first_gap back p.end) (behind_first back p.end rest)
   pub closed : no_rows back ≡ true → ends_in_block front ≡ false → ends_in_line front ≡ true
 
--- Append to a block collection that has items or entries, in the middle of a document or behind a final break.
+-- One item or entry more is appended to a block collection that has some, in the middle of a document or behind a final break.
 abbrev pub BlockAppended : Type 0
 BlockAppended =
     (t : List ℕ) (c : Cut) (k : ℕ) (p : Part) (steps : List Step) (h : NodeLines) (front back new : List Row) (m : ℕ) (l : Line) (u : Outline) → IsDocumentPart t c k p →

@@ -27,26 +27,26 @@ pub record RootFits (m : ℕ) (u : Outline) (root : Node) : Type 0 where
   pub value_is : value u ≡ root
   pub anchors : HaveOneAnchorEach (flatten u)
 
--- Replace below the root: a line and those under it give way to others that stand for the value behind the old anchor.
+-- A node below the root is replaced: its line and those under it give way to others that stand for the value behind the old anchor.
 abbrev pub NodeReplaced : Type 0
 NodeReplaced =
     (t : List ℕ) (c : Cut) (k : ℕ) (p q : Part) (s : Step) (ss : List Step) (f : Found) (v : Node) (m : ℕ) (l : Line) (u : Outline) → IsPut t c k p q →
     find s ss (outline_of p) ≡ Some (f, []) → LineFits [] f (replaced v) m l u → HaveOneAnchorEach (l ∷ flatten u) → lines_of q.rows ≡ with_lines f (l ∷ flatten u) →
     MayReplace v (content f.line f.under) (root_of p) (length (s ∷ ss)) → IsChanged c (put_document k q c) k (lead_of p) (change (s ∷ ss) (replaced v))
 
--- Replace at the root, on a line of its own: the root keeps its anchor.
+-- The root is replaced on a line of its own, and keeps its anchor.
 abbrev pub RootReplaced : Type 0
 RootReplaced =
     (t : List ℕ) (c : Cut) (k : ℕ) (p q : Part) (v : Node) (m : ℕ) (u : Outline) → IsPut t c k p q → RootFits m u (replaced v (root_of p)) → lines_of q.rows ≡ flatten u →
     MayReplace v (root_of p) (root_of p) 0 → IsChanged c (put_document k q c) k (lead_of q) (replaced v)
 
--- Replace at the root by a block collection, whose first entry or item takes the lead as its head comment.
+-- The root is replaced by a block collection, whose first entry or item takes the lead as its head comment.
 abbrev pub RootRewritten : Type 0
 RootRewritten =
     (t : List ℕ) (c : Cut) (k : ℕ) (p q : Part) (v : Node) (m : ℕ) (u : Outline) → IsPut t c k p q → RootFits m u v → HasEntries u → lines_of q.rows ≡ flatten (with_lead (lead_of p) u) →
     IsNewValue v 0 → IsChanged c (put_document k q c) k (lead_of p) (λ old. within (headed (lead_of p)) v)
 
--- Append to a block collection.
+-- One item or entry more is appended to a block collection.
 abbrev pub EntryAppended : Type 0
 EntryAppended =
     (t : List ℕ) (c : Cut) (k : ℕ) (p q : Part) (steps : List Step) (h : NodeLines) (m : ℕ) (l : Line) (u : Outline) → IsPut t c k p q →
@@ -54,14 +54,14 @@ EntryAppended =
     IsNewValue (content l u) (suc (length steps)) → IsNewKey (label l).key (keys_of (children h.lines)) →
     IsChanged c (put_document k q c) k (lead_of p) (change steps (within (append_child (label l) (content l u))))
 
--- Remove of one of several items or entries of a block collection.
+-- One of several items or entries of a block collection is removed.
 abbrev pub EntryRemoved : Type 0
 EntryRemoved =
     (t : List ℕ) (c : Cut) (k : ℕ) (p q : Part) (steps : List Step) (h : NodeLines) (s : Step) (f : Found) → IsPut t c k p q →
     IsEntryAt steps s (outline_of p) h f → HasEntries (plug f.place f.after) → lines_of q.rows ≡ put_lines h (with_lines f []) →
     AreSpared (names_of (content f.line f.under)) [] (names_of (root_of p)) → IsChanged c (put_document k q c) k (lead_of q) (change steps (within (remove_child s)))
 
--- Another line comment or head comment of an item or entry of a block collection.
+-- An item or entry of a block collection gets another line comment or head comment.
 abbrev pub EntryRelabelled : Type 0
 EntryRelabelled =
     (t : List ℕ) (c : Cut) (k : ℕ) (p q : Part) (steps : List Step) (h : NodeLines) (s : Step) (f : Found) (g : Label → Label) (l : Line) → IsPut t c k p q →
@@ -74,12 +74,12 @@ pub record MovesUp (r b : Row) (n : ℕ) (ns es : List ℕ) : Type 0 where
   pub column : b.column ≡ behind_columns r.column (n ∷ ns)
   pub bare : head_comment b.gap ≡ []
 
--- Lines are as many as those before an item or entry, and others as many as its own.
+-- So many lines stand before an item or entry, and so many are its own.
 pub record AreCounted (h : NodeLines) (f : Found) (before size : ℕ) : Type 0 where
   pub before_are : before ≡ length (lines_before h.place) + length (lines_before f.place)
   pub size_is : size ≡ length (f.line ∷ flatten f.under)
 
--- Remove of the first item or entry of a compact collection: the next one's row stands behind the dash.
+-- The first item or entry of a compact collection is removed: the next one's row stands behind the dash.
 abbrev pub FirstRemoved : Type 0
 FirstRemoved =
     (t : List ℕ) (c : Cut) (k : ℕ) (p q : Part) (steps : List Step) (h : NodeLines) (s : Step) (f : Found) (before gone behind : List Row) (r b : Row) (n : ℕ) (ns es : List ℕ) → IsPut t c k p q →
@@ -92,7 +92,7 @@ pub record StaysEmpty (r : Row) (n : ℕ) (ns es tail : List ℕ) : Type 0 where
   pub dashes : r.dashes ≡ (ns ++ (n ∷ [])) ++ es
   pub bare : line_comment tail ≡ None
 
--- The same where the next one's row keeps its place below the dash.
+-- The first item or entry of a compact collection is removed: the next one's row keeps its place below the dash.
 abbrev pub FirstDropped : Type 0
 FirstDropped =
     (t : List ℕ) (c : Cut) (k : ℕ) (p q : Part) (steps : List Step) (h : NodeLines) (s : Step) (f : Found) (before gone behind : List Row) (r : Row) (n : ℕ) (ns es tail : List ℕ) → IsPut t c k p q →

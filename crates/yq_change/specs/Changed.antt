@@ -15,7 +15,7 @@ use Rattle.yq_documents.specs.Reading.{documents, read_at, root_of}
 use Rattle.yq_change.specs.Siblings.{StandsSomewhere}
 use Rattle.yq_documents.specs.TreeEdits.{change_nth}
 
--- a cut in which document k has another part, where its first part is a document or not
+-- a cut in which document k has another part, by whether the first part is a document
 abbrev pub put_from : Bool → ℕ → Part → Cut → Cut
 put_from true zero q (last p) = last q
 put_from true (suc k) q (last p) = last p
@@ -43,7 +43,7 @@ pub record DifferIn (c new : Cut) (p q : Part) : Type 0 where
   pub old_text : cut_text c ≡ before ++ part_text p behind
   pub new_text : cut_text new ≡ before ++ part_text q behind
 
--- The text before and behind the rows and end gap of document k stays.
+-- The text before and behind the part that is document k stays.
 abbrev pub TextPut : Type 0
 TextPut = (c : Cut) (k : ℕ) (p q : Part) → slice_get (document_parts c) k ≡ Some p → DifferIn c (put_document k q c) p q
 
@@ -66,7 +66,7 @@ pub record HasRoot (q : Part) (root : Node) : Type 0 where
   pub bound : AreBound [] (names_of root)
   pub short : HasShortRoot q.rows
 
--- Such a part is a document of that root.
+-- A part whose rows stand for a root, as is asked, is a document of that root.
 abbrev pub PartStands : Type 0
 PartStands = (q : Part) (root : Node) → HasRoot q root → IsDocument q (record { lead = lead_of q; root = root })
 
@@ -77,7 +77,7 @@ DocumentChanged =
     is_utf8 (cut_text (put_document k q c)) ≡ true → IsCut (cut_text (put_document k q c)) (put_document k q c) →
     HasRoot q (f (root_of p)) → IsChanged c (put_document k q c) k (lead_of q) f
 
--- the head comment of the first line, or another where there is none
+-- the head comment of the first line, or another one where there are no lines
 abbrev pub first_comment : List (List ℕ) → List Line → List (List ℕ)
 first_comment above [] = above
 first_comment above (l ∷ ls) = l.head_comment

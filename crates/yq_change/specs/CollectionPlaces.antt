@@ -35,6 +35,6 @@ pub record IsCollectionEnd (c : Cut) (k : ℕ) (p : Part) (steps : List Step) (x
   pub old_text : cut_text c ≡ start ++ part_text p (behind_document k c)
   pub new_text : (q : Part) → cut_text (put_document k q c) ≡ start ++ part_text q (behind_document k c)
 
--- The end of the block collection at a path is such a place.
+-- The end of the block collection at a path of a document is such a place, at which rows end.
 abbrev pub CollectionPlaces : Type 0
 CollectionPlaces = (t : List ℕ) (c : Cut) (k : ℕ) (p : Part) (steps : List Step) (x : CollectionEnd) → IsDocumentPart t c k p → collection_end k steps c ≡ Some x → IsCollectionEnd c k p steps x

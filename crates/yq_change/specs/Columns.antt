@@ -15,7 +15,7 @@ NextAllowed =
     (n : ℕ) (limit : Limit) (new back : List Row) (end rest : List ℕ) → AreRows limit new end rest → no_rows new ≡ false → AreDeep n (lines_of new) → (m : ℕ) → m < n → Begins m (lines_of back) →
     allows_first (asked_behind limit new) back ≡ true
 
--- Where rows stood, others may stand whose first line is no deeper than theirs.
+-- Where rows stand, others may stand whose first line is no deeper than theirs.
 abbrev pub NextStays : Type 0
 NextStays =
     (limit : Limit) (rows back : List Row) (end rest : List ℕ) (l : Line) (ls : List Line) → AreRows limit rows end rest → lines_of rows ≡ l ∷ ls → Begins (level l) (lines_of back) →
@@ -27,7 +27,7 @@ BlockIsDeeper =
     (limit : Limit) (front rows : List Row) (end rest : List ℕ) (b : BlockText) (l : Line) → AreRows limit (front ++ rows) end rest → last_block front ≡ Some b →
     StandApart (lines_of front) (l ∷ []) → l.column < b.indent.columns
 
--- The same of rows behind closed lines.
+-- Where lines are closed with those of rows in front of them, rows no deeper than the first of them are less deep than the text of a block scalar in which the rows in front end.
 abbrev pub ClosedStandsLess : Type 0
 ClosedStandsLess =
     (limit : Limit) (front gone back : List Row) (end rest : List ℕ) (l : Line) (ls : List Line) → AreRows limit (front ++ gone) end rest → AreClosed (lines_of front ++ (l ∷ ls)) →

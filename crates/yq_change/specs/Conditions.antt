@@ -45,17 +45,17 @@ pub record Around (steps : List Step) (n old : Node) : Type 0 where
   pub old_names : names_of n ≡ before ++ (names_of old ++ after)
   pub new_names : (f : Node → Node) → names_of (change steps f n) ≡ before ++ (names_of (f old) ++ after)
 
--- A node at a path stands among the names of the whole.
+-- The names of the node at a path stand among those of the whole.
 abbrev pub NamesAround : Type 0
 NamesAround = (steps : List Step) (n old : Node) → node_at steps n ≡ Some old → Around steps n old
 
--- Names without aliases come in the place of names of a node.
+-- Names without aliases take the place of some names of a node.
 pub record ExchangesNames (old new : Node) (front gone come back : List Name) : Type 0 where
   pub old_names : names_of old ≡ front ++ (gone ++ back)
   pub new_names : names_of new ≡ front ++ (come ++ back)
   pub bare : aliases_in come ≡ []
 
--- A node changed by names without aliases for others, of whose anchors none has an alias in the whole, leaves the whole bound (7.1).
+-- A node changed so that names without aliases take the place of others, of whose anchors none has an alias in the whole, leaves the whole bound (7.1).
 abbrev pub BoundChanged : Type 0
 BoundChanged =
     (steps : List Step) (n old : Node) (f : Node → Node) (front gone come back : List Name) → node_at steps n ≡ Some old → ExchangesNames old (f old) front gone come back →
@@ -76,7 +76,7 @@ last_anchor [] = None
 last_anchor (l ∷ []) = l.anchor
 last_anchor (l ∷ (k ∷ ls)) = last_anchor (k ∷ ls)
 
--- there are no lines, or the first one is an entry's or item's
+-- there are no lines, or the first one begins an item or entry
 abbrev pub BeginsEntry : List Line → Type 0
 BeginsEntry [] = ⊤
 BeginsEntry (l ∷ ls) = IsEntry l.mark

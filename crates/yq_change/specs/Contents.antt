@@ -19,7 +19,7 @@ use Rattle.yq_change.specs.Changed.{IsChanged, put_document}
 use Rattle.yq_change.specs.DocumentRows.{IsDocumentPart, behind_document}
 use Rattle.yq_change.specs.SoundRoots.{MayReplace}
 
--- a part in which a row has another content
+-- a part in which one row has another content
 abbrev pub recontent : (front : List Row) → Row → (back : List Row) → Content → Part → Part
 recontent front r back new p = inserted front (with_content new r ∷ []) back p
 
@@ -35,21 +35,21 @@ pub record TakesContent (t : List ℕ) (c : Cut) (k : ℕ) (p : Part) (front : L
   pub short : is_long_plain r.mark new ≡ false
   pub text : IsReadable (cut_text (put_document k (recontent front r back new p) c))
 
--- Replace behind a key or dash, with no lines under it.
+-- What is written behind a key or dash, with no lines under it, is replaced.
 abbrev pub EntryContentReplaced : Type 0
 EntryContentReplaced =
     (t : List ℕ) (c : Cut) (k : ℕ) (p : Part) (front back : List Row) (r : Row) (v : Node) (new : Content) (s : Step) (ss : List Step) (f : Found) → TakesContent t c k p front r back v new →
     find s ss (outline_of p) ≡ Some (f, []) → f.under ≡ end → length (lines_of front) + length r.dashes ≡ length (lines_before f.place) → MayReplace v (content f.line f.under) (root_of p) (length (s ∷ ss)) →
     IsChanged c (put_document k (recontent front r back new p) c) k (lead_of p) (change (s ∷ ss) (replaced v))
 
--- Replace of a node that is alone on the line under its key or dash.
+-- A node that is alone on the line under its key or dash is replaced.
 abbrev pub LowerContentReplaced : Type 0
 LowerContentReplaced =
     (t : List ℕ) (c : Cut) (k : ℕ) (p : Part) (front back : List Row) (r : Row) (v : Node) (new : Content) (s : Step) (ss : List Step) (f : Found) → TakesContent t c k p front r back v new →
     find s ss (outline_of p) ≡ Some (f, []) → f.line.head ≡ None → length (flatten f.under) ≡ 1 → r.mark ≡ Bare → length (lines_of front) + length r.dashes ≡ suc (length (lines_before f.place)) →
     MayReplace v (content f.line f.under) (root_of p) (length (s ∷ ss)) → IsChanged c (put_document k (recontent front r back new p) c) k (lead_of p) (change (s ∷ ss) (replaced v))
 
--- Replace of a root that is alone on its line.
+-- A root that is alone on its line is replaced.
 abbrev pub RootContentReplaced : Type 0
 RootContentReplaced =
     (t : List ℕ) (c : Cut) (k : ℕ) (p : Part) (front back : List Row) (r : Row) (v : Node) (new : Content) → TakesContent t c k p front r back v new → length (lines_of p.rows) ≡ 1 → r.mark ≡ Bare →

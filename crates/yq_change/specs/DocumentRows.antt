@@ -12,19 +12,19 @@ use Rattle.yq_documents.specs.Reading.{document_of, outline_of, read_at}
 use Rattle.yq_tree.specs.RowPaths.{IsReadable}
 use Rattle.yq_change.specs.Changed.{put_document}
 
--- Document k of a text that reads as a cut.
+-- Document k of a text that reads as a cut is this part.
 pub record IsDocumentPart (t : List ℕ) (c : Cut) (k : ℕ) (p : Part) : Type 0 where
   pub read : read_at t ≡ Some c
   pub there : slice_get (document_parts c) k ≡ Some p
 
--- the number among the parts of document k, where the first part is a document or not
+-- the number of document k among the parts, by whether the first part is a document
 abbrev pub number_from : Bool → ℕ → Cut → ℕ
 number_from is k (last p) = zero
 number_from true zero (marked p marker c) = zero
 number_from true (suc k) (marked p marker c) = suc (number_from (begins_document marker) k c)
 number_from false k (marked p marker c) = suc (number_from (begins_document marker) k c)
 
--- the number among the parts of document k
+-- the number of document k among the parts
 abbrev pub part_number : ℕ → Cut → ℕ
 part_number k c = number_from (begins_bare c || not (has_begin c)) k c
 
@@ -36,25 +36,25 @@ behind_document k c = behind_part (part_number k c) c
 abbrev pub put_rows : (front new back : List Row) → List ℕ → Part → Part
 put_rows front new back gap p = record { rows = front ++ (new ++ with_first_gap gap back); end = end_gap gap back p.end }
 
--- Document k has that number, and rows exchanged in that part are the document exchanged.
+-- The part of that number is document k, and to exchange rows in it is to exchange them in the document.
 abbrev pub PartNumbered : Type 0
 PartNumbered =
     (c : Cut) (k : ℕ) (p : Part) → slice_get (document_parts c) k ≡ Some p →
     (nth_part (part_number k c) c ≡ p) × ((i j : ℕ) (new : List Row) (gap : List ℕ) → splice (part_number k c) i j new gap c ≡ put_document k (splice_part i j new gap p) c)
 
--- The same of rows in three parts.
+-- The same of rows between those in front and those behind.
 abbrev pub RowsPut : Type 0
 RowsPut =
     (c : Cut) (k : ℕ) (p : Part) (front gone back new : List Row) (gap : List ℕ) → slice_get (document_parts c) k ≡ Some p → p.rows ≡ front ++ (gone ++ back) →
     splice (part_number k c) (length front) (length front + length gone) new gap c ≡ put_document k (put_rows front new back gap p) c
 
--- What is known of such a document.
+-- A text is cut so, and a part stands for a document, whose lines are even.
 pub record Known (t : List ℕ) (c : Cut) (p : Part) : Type 0 where
   pub cut : IsCut t c
   pub document : IsDocument p (document_of p)
   pub even : IsEven (level_or 0 (outline_of p)) (outline_of p)
 
--- Each document of a text that reads as a cut is one, and its lines are even.
+-- A text that reads as a cut is cut so, and each of its documents stands for one, with even lines.
 abbrev pub DocumentKnown : Type 0
 DocumentKnown = (t : List ℕ) (c : Cut) (k : ℕ) (p : Part) → IsDocumentPart t c k p → Known t c p
 

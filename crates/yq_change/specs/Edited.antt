@@ -29,11 +29,11 @@ pub record IsPut (t : List ℕ) (c : Cut) (k : ℕ) (p q : Part) : Type 0 where
   pub keys : HaveFitKeys q.rows
   pub short : HasShortRoot q.rows
 
--- The old root is as is asked.
+-- The root of a document that gives way to another one is as is asked.
 abbrev pub OldIsSound : Type 0
 OldIsSound = (t : List ℕ) (c : Cut) (k : ℕ) (p q : Part) → IsPut t c k p q → IsSoundRoot (root_of p)
 
--- The old lines are even.
+-- The lines of a document that gives way to another one are even.
 abbrev pub OldIsEven : Type 0
 OldIsEven = (t : List ℕ) (c : Cut) (k : ℕ) (p q : Part) → IsPut t c k p q → IsEven (level_or 0 (outline_of p)) (outline_of p)
 
@@ -41,7 +41,7 @@ OldIsEven = (t : List ℕ) (c : Cut) (k : ℕ) (p q : Part) → IsPut t c k p q 
 abbrev pub LinesAreThere : Type 0
 LinesAreThere = (steps : List Step) (o : Outline) (h : NodeLines) → lines_at steps o ≡ Some h → node_at steps (value o) ≡ Some (anchored h.anchor (value h.lines))
 
--- A line, with an outline under it, may stand in the place of one that was found, where the node to which steps lead in its head is changed so.
+-- A line, with an outline under it, may stand in the place of one that was found, where the node to which steps lead in its head is changed by a function.
 pub record LineFits (rest : List Step) (f : Found) (g : Node → Node) (m : ℕ) (l : Line) (u : Outline) : Type 0 where
   pub label_is : label l ≡ label f.line
   pub level_is : level l ≡ level f.line
@@ -55,21 +55,21 @@ pub record AnchorsFit (a : Option (List ℕ)) (ls : List Line) : Type 0 where
   pub each : HaveOneAnchorEach ls
   pub free : IsFree a ls
 
--- A line at a path and the lines under it exchanged: a node is replaced, or something in the flow collection that its head is.
+-- A line at a path and those under it are exchanged: a node is replaced, or something in the flow collection that the line's head is.
 abbrev pub LineExchanged : Type 0
 LineExchanged =
     (t : List ℕ) (c : Cut) (k : ℕ) (p q : Part) (s : Step) (ss rest : List Step) (f : Found) (g : Node → Node) (m : ℕ) (l : Line) (u : Outline) → IsPut t c k p q →
     find s ss (outline_of p) ≡ Some (f, rest) → LineFits rest f g m l u → IsWhole l.mark l.head f.after → AnchorsFit (last_anchor (lines_before f.place)) (l ∷ flatten u) →
     lines_of q.rows ≡ with_lines f (l ∷ flatten u) → IsSoundRoot (change (s ∷ ss) g (root_of p)) → IsChanged c (put_document k q c) k (lead_of p) (change (s ∷ ss) g)
 
--- All lines of the node at a path exchanged: at the root, or under a line that stays.
+-- All lines of the node at a path are exchanged: at the root, or under a line that stays.
 abbrev pub LinesExchanged : Type 0
 LinesExchanged =
     (t : List ℕ) (c : Cut) (k : ℕ) (p q : Part) (steps : List Step) (h : NodeLines) (g : Node → Node) (m : ℕ) (u : Outline) → IsPut t c k p q →
     lines_at steps (outline_of p) ≡ Some h → LinesFit h g m u → AnchorsFit h.anchor (flatten u) →
     lines_of q.rows ≡ put_lines h (flatten u) → IsSoundRoot (change steps g (root_of p)) → IsChanged c (put_document k q c) k (lead_of q) (change steps g)
 
--- Lines of one item or entry more behind those of the collection at a path.
+-- The lines of one item or entry more are put behind those of the collection at a path.
 abbrev pub LinesAppended : Type 0
 LinesAppended =
     (t : List ℕ) (c : Cut) (k : ℕ) (p q : Part) (steps : List Step) (h : NodeLines) (m : ℕ) (l : Line) (v : Outline) → IsPut t c k p q →
@@ -77,14 +77,14 @@ LinesAppended =
     lines_of q.rows ≡ put_lines h (flatten h.lines ++ (l ∷ flatten v)) → IsSoundRoot (change steps (within (append_child (label l) (content l v))) (root_of p)) →
     IsChanged c (put_document k q c) k (lead_of p) (change steps (within (append_child (label l) (content l v))))
 
--- The lines of one of several items or entries of the collection at a path taken out.
+-- The lines of one of several items or entries of the collection at a path are taken out.
 abbrev pub LinesRemoved : Type 0
 LinesRemoved =
     (t : List ℕ) (c : Cut) (k : ℕ) (p q : Part) (steps : List Step) (h : NodeLines) (s : Step) (f : Found) → IsPut t c k p q →
     IsEntryAt steps s (outline_of p) h f → HasEntries (plug f.place f.after) → lines_of q.rows ≡ put_lines h (with_lines f []) →
     IsSoundRoot (change steps (within (remove_child s)) (root_of p)) → IsChanged c (put_document k q c) k (lead_of q) (change steps (within (remove_child s)))
 
--- The line of an item or entry of the collection at a path with other comments.
+-- The line of an item or entry of the collection at a path gets other comments.
 abbrev pub LineRelabelled : Type 0
 LineRelabelled =
     (t : List ℕ) (c : Cut) (k : ℕ) (p q : Part) (steps : List Step) (h : NodeLines) (s : Step) (f : Found) (g : Label → Label) (l : Line) → IsPut t c k p q →
@@ -100,7 +100,7 @@ abbrev pub with_lead : List (List ℕ) → Outline → Outline
 with_lead above end = end
 with_lead above (row l u a) = row (record l { head_comment = above }) u a
 
--- A block collection under a lead has it as the head comment of its first item or entry.
+-- A block collection with a lead above it has that as the head comment of its first item or entry.
 abbrev pub LeadIsAbove : Type 0
 LeadIsAbove = (above : List (List ℕ)) (n : ℕ) (o : Outline) → HasEntries o → IsEven n o → IsEven n (with_lead above o) × (value (with_lead above o) ≡ within (headed above) (value o))
 
@@ -113,7 +113,7 @@ first_above (child l n cs) = Some l.head_comment
 abbrev pub RootHasLead : Type 0
 RootHasLead = (p : Part) → HasEntries (outline_of p) → first_above (children_of (root_of p)) ≡ Some (lead_of p)
 
--- A value without anchors and aliases is sound as a root, also under a lead.
+-- A value without anchors and aliases is sound as a root, also with a lead above it.
 abbrev pub RootKeeps : Type 0
 RootKeeps = (above : List (List ℕ)) (v : Node) → IsNewValue v 0 → IsSoundRoot v × IsSoundRoot (within (headed above) v)
 
@@ -121,7 +121,7 @@ RootKeeps = (above : List (List ℕ)) (v : Node) → IsNewValue v 0 → IsSoundR
 abbrev pub with_root : (Node → Node) → Document → Document
 with_root f d = record d { root = f d.root }
 
--- A changed document with its old lead has its root changed alone.
+-- A document that is changed with its old lead is the old one with its root changed.
 abbrev pub LeadKept : Type 0
 LeadKept =
     (c : Cut) (k : ℕ) (p : Part) (f : Node → Node) → slice_get (document_parts c) k ≡ Some p → change_nth k (changed (lead_of p) f) (documents c) ≡ change_nth k (with_root f) (documents c)

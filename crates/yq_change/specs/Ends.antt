@@ -27,7 +27,7 @@ pub record TakesRowsLast (p : Part) (front : List Row) (r : Row) (break : List �
   pub takes : TakesBreak r break
   pub new_are : AreRows (limit_after r) new [] []
 
--- Append at the end of a text without a final break: the last row gets one.
+-- One item or entry more is appended at the end of a text without a final break: the last row gets one.
 abbrev pub EndAppended : Type 0
 EndAppended =
     (t : List ℕ) (c : Cut) (k : ℕ) (p : Part) (steps : List Step) (h : NodeLines) (front new : List Row) (r : Row) (break : List ℕ) (m : ℕ) (l : Line) (u : Outline) → IsDocumentPart t c k p →

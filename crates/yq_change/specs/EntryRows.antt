@@ -16,13 +16,13 @@ CollectionRows =
     (p : Part) (n : ℕ) (steps : List Step) (h : NodeLines) → IsEven n (outline_of p) → IsCollectionAt steps (outline_of p) h →
     InRows p.rows (lines_before h.place ++ flatten h.lines) (lines_after h.place)
 
--- The rows of an item or entry, which has whole rows, between those in front and those behind.
+-- The rows of an item or entry that has whole rows are those between others in front and others behind.
 pub record HasRows (p : Part) (h : NodeLines) (f : Found) (front gone back : List Row) : Type 0 where
   pub rows_are : p.rows ≡ front ++ (gone ++ back)
   pub number : length (lines_of front) ≡ line_number h f
   pub count : length (lines_of gone) ≡ length (f.line ∷ flatten f.under)
 
--- The same, by how many rows stand before them.
+-- An item or entry has such rows, and so many rows stand before them.
 pub record RowsFrom (p : Part) (h : NodeLines) (f : Found) (before : ℕ) : Type 0 where
   pub front : List Row
   pub gone : List Row

@@ -46,21 +46,21 @@ RootItemsChanged =
     (t : List ℕ) (c : Cut) (k : ℕ) (p q : Part) (l : Line) (n : Node) (h : Children → Children) → IsPut t c k p q → lines_of p.rows ≡ l ∷ [] → l.mark ≡ Bare → l.head ≡ Some n →
     lines_of q.rows ≡ with_head (within h n) l ∷ [] → IsSoundRoot (within h (root_of p)) → IsChanged c (put_document k q c) k (lead_of p) (within h)
 
--- Replace inside flow.
+-- A node inside a flow collection is replaced.
 abbrev pub FlowReplaced : Type 0
 FlowReplaced =
     (t : List ℕ) (c : Cut) (k : ℕ) (p q : Part) (s r : Step) (ss rest : List Step) (f : Found) (n old v : Node) → IsPut t c k p q → IsHeadAt s ss (r ∷ rest) p f n →
     node_at (s ∷ ss) (root_of p) ≡ Some old → lines_of q.rows ≡ with_lines f (with_head (change (r ∷ rest) (replaced v) n) f.line ∷ []) → MayReplace v old (root_of p) (length (s ∷ ss)) →
     IsChanged c (put_document k q c) k (lead_of p) (change (s ∷ ss) (replaced v))
 
--- Append to a flow collection.
+-- One item or entry more is appended to a flow collection.
 abbrev pub FlowAppended : Type 0
 FlowAppended =
     (t : List ℕ) (c : Cut) (k : ℕ) (p q : Part) (s : Step) (ss rest : List Step) (f : Found) (n old v : Node) (l : Label) → IsPut t c k p q → IsHeadAt s ss rest p f n →
     node_at (s ∷ ss) (root_of p) ≡ Some old → lines_of q.rows ≡ with_lines f (with_head (change rest (within (append_child l v)) n) f.line ∷ []) →
     IsNewValue v (suc (length (s ∷ ss))) → IsNewKey l.key (keys_of (children_of old)) → IsChanged c (put_document k q c) k (lead_of p) (change (s ∷ ss) (within (append_child l v)))
 
--- Remove of an item or entry of a flow collection.
+-- An item or entry of a flow collection is removed.
 abbrev pub FlowRemoved : Type 0
 FlowRemoved =
     (t : List ℕ) (c : Cut) (k : ℕ) (p q : Part) (s : Step) (ss rest : List Step) (f : Found) (n old x : Node) (r : Step) → IsPut t c k p q → IsHeadAt s ss rest p f n →

@@ -15,18 +15,18 @@ use Rattle.yq_change.specs.Rooms.{is_block_root, SameSeats}
 abbrev pub with_items : Part → InlineRow → List Step → List ℕ → Items → Part
 with_items p i rest gap is = with_node p i (put_at rest gap is i.node)
 
--- It has room for the same comments, its root is block where it was, and it has the same lead.
+-- Such a document has room for the same comments, its root is block where it was, and it has the same lead.
 abbrev pub FlowRooms : Type 0
 FlowRooms =
     (c : Cut) (k : ℕ) (p : Part) (steps : List Step) (f : Found) (rest : List Step) (i : InlineRow) (w : CollPieces) (gap : List ℕ) (is : Items) → IsFlowAt c k p steps f rest i w →
     SameSeats p (with_items p i rest gap is) × (is_block_root (with_items p i rest gap is) ≡ is_block_root p) × (lead_of (with_items p i rest gap is) ≡ lead_of p)
 
--- Its keys are fit, where those of the items or entries are.
+-- The keys in the changed node are fit, if those of the new items or entries are where those of the old ones are.
 abbrev pub FlowKeys : Type 0
 FlowKeys =
     (t : List ℕ) (c : Cut) (k : ℕ) (p : Part) (steps : List Step) (f : Found) (rest : List Step) (i : InlineRow) (w : CollPieces) (gap : List ℕ) (is : Items) → IsDocumentPart t c k p → IsFlowAt c k p steps f rest i w →
     (EachHasFitKeys w.items → EachHasFitKeys is) → HasFitKeys (put_at rest gap is i.node)
 
--- Those that are left are fit.
+-- Without one of the items or entries, the keys of the others are fit, if all were.
 abbrev pub LeftKeys : Type 0
 LeftKeys = (s : Step) (w : CollPieces) → EachHasFitKeys w.items → EachHasFitKeys (removing s w).items

@@ -19,7 +19,7 @@ use Rattle.yq_change.specs.Changed.{IsChanged, put_document}
 use Rattle.yq_change.specs.DocumentRows.{IsDocumentPart, behind_document}
 use Rattle.yq_change.specs.SoundRoots.{IsSoundRoot}
 
--- An inline node in a row of document k: the rows before and behind that, and its content's pieces.
+-- An inline node in a row of a document: the rows before and behind that one, and the pieces of its content.
 pub record InlineRow : Type 0 where
   pub front : List Row
   pub row : Row
@@ -28,15 +28,15 @@ pub record InlineRow : Type 0 where
   pub node : Node
   pub tail : List ℕ
 
--- the text behind the node
+-- the text behind the inline node of a row in document k
 abbrev pub behind_node : Cut → ℕ → Part → InlineRow → List ℕ
 behind_node c k p i = i.tail ++ rows_text i.back (p.end ++ behind_document k c)
 
--- a collection in the node
+-- a collection in the inline node of a row in document k
 abbrev pub coll_at : Cut → ℕ → Part → InlineRow → List Step → CollPieces → CollAt
 coll_at c k p i steps w = record { place = places.Block; indent = parent_indent i.row; around = 0; node = i.node; rest = behind_node c k p i; steps = steps; coll = w }
 
--- the document with another node there
+-- a part with another inline node in that row
 abbrev pub with_node : Part → InlineRow → Node → Part
 with_node p i m = inserted i.front (with_content (Inline i.space m i.tail) i.row ∷ []) i.back p
 
@@ -48,13 +48,13 @@ pub record IsFlowAt (c : Cut) (k : ℕ) (p : Part) (steps : List Step) (f : Foun
   pub number : length (lines_of i.front) + length i.row.dashes ≡ length (lines_before f.place)
   pub along : coll_along rest i.node (behind_node c k p i) ≡ Some w
 
--- The collection stands in the node.
+-- A collection to which a path leads stands in the inline node of its row.
 abbrev pub FlowStands : Type 0
 FlowStands =
     (t : List ℕ) (c : Cut) (k : ℕ) (p : Part) (steps : List Step) (f : Found) (rest : List Step) (i : InlineRow) (w : CollPieces) → IsDocumentPart t c k p → IsFlowAt c k p steps f rest i w →
     IsCollAt (coll_at c k p i rest w)
 
--- Its items or entries are changed by an edit of the text.
+-- An edit of the text of a flow collection changes its items or entries in the document.
 abbrev pub FlowEdited : Type 0
 FlowEdited =
     (t : List ℕ) (c : Cut) (k : ℕ) (p : Part) (steps : List Step) (f : Found) (rest : List Step) (i : InlineRow) (w : CollPieces) (e : FlowEdit) (h : Children → Children) →
@@ -62,7 +62,7 @@ FlowEdited =
     IsSoundRoot (change steps (within h) (root_of p)) → IsReadable (cut_text (put_document k (with_node p i (edited_node (coll_at c k p i rest w) e)) c)) →
     IsChanged c (put_document k (with_node p i (edited_node (coll_at c k p i rest w) e)) c) k (lead_of p) (change steps (within h))
 
--- A path of document k leads to a flow collection: the part, and the row in which the collection stands.
+-- A path of document k leads to a flow collection, in a row of its part.
 pub record FlowAt (c : Cut) (k : ℕ) (steps : List Step) (w : CollPieces) : Type 0 where
   pub part : Part
   pub there : slice_get (document_parts c) k ≡ Some part
@@ -81,6 +81,6 @@ pub record NodeStands (c : Cut) (k : ℕ) (p : Part) (i : InlineRow) : Type 0 wh
   pub old : cut_text c ≡ before ++ node_text i.node (behind_node c k p i)
   pub new : (m : Node) → cut_text (put_document k (with_node p i m) c) ≡ before ++ node_text m (behind_node c k p i)
 
--- Outside the node it is the same text.
+-- With another inline node in a row the text of a cut is the same outside that node.
 abbrev pub RowTexts : Type 0
 RowTexts = (c : Cut) (k : ℕ) (p : Part) (i : InlineRow) → slice_get (document_parts c) k ≡ Some p → p.rows ≡ i.front ++ (i.row ∷ i.back) → i.row.content ≡ Inline i.space i.node i.tail → NodeStands c k p i

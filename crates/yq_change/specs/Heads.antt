@@ -30,12 +30,12 @@ with_run r run = joined (before_run (text_lines r.gap)) ++ run
 abbrev pub rerun : (front : List Row) → Row → (back : List Row) → List ℕ → Part → Part
 rerun front r back run p = put_rows front [] (r ∷ back) (with_run r run) p
 
--- A row of a part may have this for its head comment before a rest.
+-- A row of a part may have these lines for its head comment before a rest.
 pub record TakesRun (p : Part) (front : List Row) (r : Row) (back : List Row) (run rest : List ℕ) : Type 0 where
   pub rows_are : p.rows ≡ front ++ (r ∷ back)
   pub run_is : IsRun r.column run (behind_gap r (rows_text back (p.end ++ rest)))
 
--- HeadComment of an item or entry whose line is the first of its row.
+-- The head comment of an item or entry is set, where its line is the first of its row.
 abbrev pub HeadCommented : Type 0
 HeadCommented =
     (t : List ℕ) (c : Cut) (k : ℕ) (p : Part) (steps : List Step) (s : Step) (h : NodeLines) (f : Found) (front back : List Row) (r : Row) (run : List ℕ) → IsDocumentPart t c k p →

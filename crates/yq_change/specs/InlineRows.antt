@@ -26,14 +26,14 @@ use Rattle.yq_change.specs.DocumentRows.{IsDocumentPart, behind_document}
 use Rattle.yq_change.specs.Rooms.{is_block_root}
 use Rattle.yq_change.specs.SoundRoots.{MayReplace}
 
--- Steps lead to an entry or item whose line is that of a row's mark behind these, and that has no lines under it.
+-- Steps lead to an entry or item that has no lines under it, and whose line is that of the mark of a row, which stands behind these.
 pub record LeadsToEntry (p : Part) (s : Step) (ss : List Step) (front : List Row) (r : Row) : Type 0 where
   pub found : Found
   pub is : find s ss (outline_of p) ≡ Some (found, [])
   pub under : found.under ≡ end
   pub number : length (lines_of front) + length r.dashes ≡ length (lines_before found.place)
 
--- Steps lead to an entry or item under whose line, behind which nothing is written, a row stands alone.
+-- Steps lead to an entry or item without a head, under whose line a row alone stands, which stands behind these.
 pub record LeadsBelow (p : Part) (s : Step) (ss : List Step) (front : List Row) (r : Row) : Type 0 where
   pub found : Found
   pub is : find s ss (outline_of p) ≡ Some (found, [])
@@ -79,11 +79,11 @@ pub record IsValueNode (v : Node) (node : inline.Node) : Type 0 where
   pub unmarked : (rest : List ℕ) → separates rest ≡ true → is_marker (node_text node rest) ≡ false
   pub line : is_plain node ≡ true → holds_break (node_text node []) ≡ false
 
--- the text round a place with another one there
+-- the text round a place, with another text in it
 abbrev pub place_text : InlinePlace → List ℕ → List ℕ
 place_text w t = w.before ++ (apart_from w.old t ++ w.behind)
 
--- A document with a node in a place: its text, and what it reads as.
+-- With a text in the place of an inline node document k has a part that reads with a value there, has the old lead, and a root that is block where it was.
 pub record IsInlineReplaced (c : Cut) (k : ℕ) (p : Part) (steps : List Step) (w : InlinePlace) (v : Node) (t : List ℕ) : Type 0 where
   pub part : Part
   pub text_is : cut_text (put_document k part c) ≡ place_text w t
@@ -93,7 +93,7 @@ pub record IsInlineReplaced (c : Cut) (k : ℕ) (p : Part) (steps : List Step) (
   pub block : is_block_root part ≡ is_block_root p
   pub inline : steps ≡ [] → is_block_root p ≡ false
 
--- Replace of an inline node outside flow collections, or of nothing, by the inline node of a value.
+-- An inline node outside flow collections, or nothing, is replaced by the inline node of a value.
 abbrev pub InlineReplaced : Type 0
 InlineReplaced =
     (t : List ℕ) (c : Cut) (k : ℕ) (p : Part) (steps : List Step) (w : InlinePlace) (v old : Node) (node : inline.Node) → IsDocumentPart t c k p → inline_from k steps c ≡ Some w → IsValueNode v node →

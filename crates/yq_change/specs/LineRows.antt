@@ -12,7 +12,7 @@ use Rattle.yq_change.specs.Siblings.{HasEntries, NodeLines, lines_at, IsEntryAt}
 abbrev pub line_number : NodeLines → Found → ℕ
 line_number h f = length (lines_before h.place) + length (lines_before f.place)
 
--- The row of a line among rows, and its number in it.
+-- A seat is the row of line n among rows, and the number of that line in it.
 pub record IsSeat (n : ℕ) (rs : List Row) (x : Seat) : Type 0 where
   pub front : List Row
   pub back : List Row
@@ -36,7 +36,7 @@ StandApart [] zs = ⊤
 StandApart (l ∷ []) zs = Begins (level l) zs
 StandApart (l ∷ (k ∷ ls)) zs = StandApart (k ∷ ls) zs
 
--- Rows in two parts, whose lines are these and those behind them.
+-- Rows are in two parts, of which the first has these lines, and the second those behind them.
 pub record InRows (rs : List Row) (a z : List Line) : Type 0 where
   pub front : List Row
   pub back : List Row
@@ -58,7 +58,7 @@ LinesApart =
 abbrev pub lines_behind : NodeLines → Found → List Line
 lines_behind h f = (flatten f.after ++ lines_after f.place) ++ lines_after h.place
 
--- Where the lines of an item or entry begin and end, for rows.
+-- An item or entry, but for the first one, begins no deeper than the line before it, and what is behind it is no deeper than its last line and its own one.
 pub record EntryApart (h : NodeLines) (f : Found) : Type 0 where
   pub begin : (lines_before f.place ≡ [] → ⊥) → StandApart (lines_before h.place ++ lines_before f.place) ((f.line ∷ flatten f.under) ++ lines_behind h f)
   pub end : StandApart ((lines_before h.place ++ lines_before f.place) ++ (f.line ∷ flatten f.under)) (lines_behind h f)

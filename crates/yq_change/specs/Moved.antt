@@ -11,7 +11,7 @@ abbrev pub dash_lines : List (List ℕ) → ℕ → List ℕ → List Line
 dash_lines above column [] = []
 dash_lines above column (n ∷ ns) = dash_line above column ∷ dash_lines [] (suc (column + n)) ns
 
--- a row behind the first dashes of another, whose gap and column it takes
+-- a row behind the first dashes of another one, whose gap and column it takes
 abbrev pub moved_up : Row → List ℕ → Row → Row
 moved_up r dashes b = record b { gap = r.gap; column = r.column; dashes = dashes ++ b.dashes }
 
@@ -19,8 +19,7 @@ moved_up r dashes b = record b { gap = r.gap; column = r.column; dashes = dashes
 abbrev pub emptied : Row → List ℕ → List ℕ → Row
 emptied r dashes tail = record r { dashes = dashes; mark = rows.Dash; content = Nothing tail }
 
--- Where the first entry behind the dashes of row r is that row's rest and further rows, and the next one's row b, in the same column, has no comment
--- above it, the lines with b moved_up behind these dashes are the old ones without that entry's.
+-- Where the next entry's row b, in the same column and with no comment above it, stands behind the first dashes of row r, the lines are the old ones without those of the first entry.
 abbrev pub FirstMoved : Type 0
 FirstMoved =
     (before gone behind : List Row) (r b : Row) (n : ℕ) (ns es : List ℕ) → r.dashes ≡ n ∷ (ns ++ es) → b.column ≡ behind_columns r.column (n ∷ ns) → head_comment b.gap ≡ [] →
@@ -28,7 +27,7 @@ FirstMoved =
     (lines_of before ++ dash_lines (head_comment r.gap) r.column (n ∷ ns)) ++ ((lines_from [] b.column es r.mark r.content ++ lines_of gone) ++ lines_of (b ∷ behind))) ×
     (lines_of (before ++ (moved_up r (n ∷ ns) b ∷ behind)) ≡ (lines_of before ++ dash_lines (head_comment r.gap) r.column (n ∷ ns)) ++ lines_of (b ∷ behind))
 
--- The same where b keeps its gap, and nothing stays behind the dash.
+-- The same where nothing but a tail without a comment stays behind the dashes, and the rows behind the first entry keep their places.
 abbrev pub FirstEmptied : Type 0
 FirstEmptied =
     (before gone behind : List Row) (r : Row) (n : ℕ) (ns es tail : List ℕ) → r.dashes ≡ (ns ++ (n ∷ [])) ++ es → line_comment tail ≡ None →

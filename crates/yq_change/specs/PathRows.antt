@@ -20,18 +20,18 @@ use Rattle.yq_change.specs.Remarks.{retailed, TakesTail}
 use Rattle.yq_documents.specs.TreeEdits.{with_head_comment, with_line_comment}
 use Rattle.yq_change.specs.EntryRows.{RowsFrom}
 
--- A line is that of an item or entry of the block collection at a path.
+-- Line n is that of an item or entry of the block collection at a path.
 pub record IsEntryLine (steps : List Step) (s : Step) (o : Outline) (n : ℕ) : Type 0 where
   pub h : NodeLines
   pub f : Found
   pub entry : IsEntryAt steps s o h f
   pub number : n ≡ line_number h f
 
--- The line to which a path leads is such a one.
+-- The line to which a path leads is that of an item or entry of a block collection.
 abbrev pub PathIsEntry : Type 0
 PathIsEntry = (p : Part) (m : ℕ) (steps : List Step) (s : Step) (n : ℕ) → IsEven m (outline_of p) → line_of (steps ++ (s ∷ [])) (lines_of p.rows) ≡ Some n → IsEntryLine steps s (outline_of p) n
 
--- An item or entry to which a path leads, and its rows.
+-- An item or entry to which a path leads has rows of its own, before which so many stand.
 pub record PathEntry (p : Part) (steps : List Step) (s : Step) (before : ℕ) : Type 0 where
   pub h : NodeLines
   pub f : Found
@@ -43,7 +43,7 @@ abbrev pub PathHasRows : Type 0
 PathHasRows =
     (t : List ℕ) (c : Cut) (k : ℕ) (p : Part) (steps : List Step) (s : Step) (x : Seat) → IsDocumentPart t c k p → seat_of (steps ++ (s ∷ [])) p.rows ≡ Some x → x.line ≡ 0 → PathEntry p steps s x.before
 
--- LineComment at a path: its line is the last of its row.
+-- The line comment at a path is set, where the path's line is the last of its row.
 abbrev pub PathLineCommented : Type 0
 PathLineCommented =
     (t : List ℕ) (c : Cut) (k : ℕ) (p : Part) (steps : List Step) (s : Step) (x : Seat) (front back : List Row) (tail : List ℕ) → IsDocumentPart t c k p →
@@ -51,7 +51,7 @@ PathLineCommented =
     IsReadable (cut_text (put_document k (retailed front x.row back tail p) c)) →
     IsChanged c (put_document k (retailed front x.row back tail p) c) k (lead_of p) (change steps (within (relabel_child s (with_line_comment (line_comment tail)))))
 
--- HeadComment at a path: its line is the first of its row.
+-- The head comment at a path is set, where the path's line is the first of its row.
 abbrev pub PathHeadCommented : Type 0
 PathHeadCommented =
     (t : List ℕ) (c : Cut) (k : ℕ) (p : Part) (steps : List Step) (s : Step) (x : Seat) (front back : List Row) (run : List ℕ) → IsDocumentPart t c k p →

@@ -35,7 +35,7 @@ pub record TakesLineTail (p : Part) (front : List Row) (r : Row) (back : List Ro
   pub rows_are : p.rows ≡ front ++ (r ∷ back)
   pub fits : IsLineTail tail r.content (rows_text back (p.end ++ rest))
 
--- LineComment at a path: its line is the last of its row.
+-- The line comment at a path is set, where the path's line is the last of its row.
 abbrev pub PathTailPut : Type 0
 PathTailPut =
     (t : List ℕ) (c : Cut) (k : ℕ) (p : Part) (steps : List Step) (s : Step) (x : Seat) (front back : List Row) (tail : List ℕ) → IsDocumentPart t c k p →

@@ -17,13 +17,13 @@ SameParts = (a x z b y w : List Line) → a ++ (x ++ z) ≡ b ++ (y ++ w) → le
 abbrev pub RowsInParts : Type 0
 RowsInParts = (before come after : List Row) → lines_of (before ++ (come ++ after)) ≡ lines_of before ++ (lines_of come ++ lines_of after)
 
--- Lines are in three parts, with as many in the first two.
+-- Lines are in three parts, with so many in each of the first two.
 pub record ArePartedAt (ls a x z : List Line) (before size : ℕ) : Type 0 where
   pub parts_are : ls ≡ a ++ (x ++ z)
   pub before_are : length a ≡ before
   pub size_is : length x ≡ size
 
--- Lines that are as many as those under a line that was found, with it, and stand behind as many, are these.
+-- Of lines in three parts, the second is that of a line that was found and those under it, if it is as long and as many stand before it.
 abbrev pub LinePlaced : Type 0
 LinePlaced =
     (n : ℕ) (p : Part) (s : Step) (ss rest : List Step) (f : Found) (a x z : List Line) → IsEven n (outline_of p) → find s ss (outline_of p) ≡ Some (f, rest) →
@@ -35,7 +35,7 @@ LinesPlaced =
     (n : ℕ) (p : Part) (steps : List Step) (h : NodeLines) (a x z : List Line) → IsEven n (outline_of p) → lines_at steps (outline_of p) ≡ Some h →
     ArePartedAt (lines_of p.rows) a x z (length (lines_before h.place)) (length (flatten h.lines)) → (x ≡ flatten h.lines) × ((ls : List Line) → put_lines h ls ≡ a ++ (ls ++ z))
 
--- The same of an item or entry in it.
+-- The same of the lines of an item or entry of that node.
 abbrev pub EntryPlaced : Type 0
 EntryPlaced =
     (n : ℕ) (p : Part) (steps : List Step) (h : NodeLines) (s : Step) (f : Found) (a x z : List Line) → IsEven n (outline_of p) → IsEntryAt steps s (outline_of p) h f →

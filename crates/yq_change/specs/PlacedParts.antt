@@ -13,6 +13,6 @@ pub record StandsAt (c : Cut) (k : ℕ) (s : PlacedPart) : Type 0 where
   pub text : cut_text c ≡ s.before ++ part_text s.part s.behind
   pub put : (q : Part) → cut_text (put_document k q c) ≡ s.before ++ part_text q s.behind
 
--- So does each document of a cut.
+-- Each document of a cut stands in its text so.
 abbrev pub DocumentStandsAt : Type 0
 DocumentStandsAt = (c : Cut) (k : ℕ) (s : PlacedPart) → placed_document k c ≡ Some s → StandsAt c k s

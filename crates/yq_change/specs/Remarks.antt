@@ -26,7 +26,7 @@ pub record TakesTail (p : Part) (front : List Row) (r : Row) (back : List Row) (
   pub inline : is_block r.content ≡ false
   pub fits : TailFits (parent_indent r) tail r.content (rows_text back (p.end ++ rest))
 
--- LineComment of an item or entry whose line is the last of its row, and no block scalar's: the row gets another tail.
+-- The line comment of an item or entry is set, where its line is the last of its row and no block scalar's: the row gets another tail.
 abbrev pub LineCommented : Type 0
 LineCommented =
     (t : List ℕ) (c : Cut) (k : ℕ) (p : Part) (steps : List Step) (s : Step) (h : NodeLines) (f : Found) (front back : List Row) (r : Row) (tail : List ℕ) → IsDocumentPart t c k p →

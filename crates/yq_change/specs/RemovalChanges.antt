@@ -20,14 +20,14 @@ use Rattle.yq_change.specs.EntryRows.{HasRows}
 use Rattle.yq_change.specs.Rooms.{is_block_root}
 use Rattle.yq_change.specs.Siblings.{HasEntries, IsEntryAt, NodeLines}
 
--- An item or entry to which a path leads has these rows.
+-- An item or entry to which a path leads has these rows as its own.
 pub record HasOwnRows (p : Part) (steps : List Step) (s : Step) (x : OwnRows) : Type 0 where
   pub h : NodeLines
   pub f : Found
   pub entry : IsEntryAt steps s (outline_of p) h f
   pub rows : HasRows p h f x.front x.own x.back
 
--- The rows that are an item's or entry's own are its rows.
+-- The rows that are found for an item or entry are its own.
 abbrev pub OwnRowsStand : Type 0
 OwnRowsStand = (t : List ℕ) (c : Cut) (k : ℕ) (p : Part) (steps : List Step) (s : Step) (x : OwnRows) → IsDocumentPart t c k p → own_rows (steps ++ (s ∷ [])) p.rows ≡ Some x → HasOwnRows p steps s x
 
@@ -52,7 +52,7 @@ pub record IsTakenOut (c : Cut) (k : ℕ) (steps : List Step) (t : List ℕ) : T
   pub new_block : is_block_root new ≡ true
   pub new_entries : HasEntries (outline_of new)
 
--- One of several items or entries may be taken out of a document: it isn't alone in its collection, and none of its anchors is aliased.
+-- One of several items or entries may be taken out of a document: it isn't alone in its collection, and none of its anchors has an alias.
 pub record MayTakeOut (c : Cut) (k : ℕ) (steps : List Step) : Type 0 where
   pub part : Part
   pub there : slice_get (document_parts c) k ≡ Some part
@@ -61,7 +61,7 @@ pub record MayTakeOut (c : Cut) (k : ℕ) (steps : List Step) : Type 0 where
   pub node_is : node_at steps (root_of part) ≡ Some node
   pub spared : AreSpared (names_of node) [] (names_of (root_of part))
 
--- It is, where the new text isn't too long.
+-- An item or entry that may be taken out is taken out, where the new text isn't too long.
 abbrev pub EntryTakenOut : Type 0
 EntryTakenOut =
     (c : Cut) (k : ℕ) (steps : List Step) (x : Removal) → read_at (cut_text c) ≡ Some c → removal_place k steps c ≡ Some x → MayTakeOut c k steps →
@@ -71,7 +71,7 @@ EntryTakenOut =
 abbrev pub FirstStands : Type 0
 FirstStands = (c : Cut) (k : ℕ) (steps : List Step) (x : FirstOut) → first_removal k steps c ≡ Some x → cut_text c ≡ x.before ++ (x.space ++ (x.entry ++ (x.break ++ (x.indent ++ x.behind))))
 
--- It is taken out, where the new text isn't too long.
+-- The first item or entry of a compact collection, if it may be taken out, is taken out, where the new text isn't too long.
 abbrev pub FirstTakenOut : Type 0
 FirstTakenOut =
     (c : Cut) (k : ℕ) (steps : List Step) (x : FirstOut) → read_at (cut_text c) ≡ Some c → first_removal k steps c ≡ Some x → MayTakeOut c k steps → length (x.before ++ x.behind) ≤ text_limit → IsTakenOut c k steps (x.before ++ x.behind)

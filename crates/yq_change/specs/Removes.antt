@@ -25,7 +25,7 @@ left_gap front gone back p = seam_gap (last_block front) (next_column back) (joi
 abbrev pub without : (front gone back : List Row) → Part → Part
 without front gone back p = put_rows front [] back (left_gap front gone back p) p
 
--- Remove of one of several items or entries of a block collection, whose lines are those of whole rows.
+-- One of several items or entries of a block collection is removed, whose lines are those of whole rows.
 abbrev pub BlockRemoved : Type 0
 BlockRemoved =
     (t : List ℕ) (c : Cut) (k : ℕ) (p : Part) (steps : List Step) (s : Step) (h : NodeLines) (f : Found) (front gone back : List Row) → IsDocumentPart t c k p →

@@ -41,7 +41,7 @@ DocumentReplaced =
     IsReadable (cut_text (put_document k (put_rows front new back gap p) c)) →
     IsCut (cut_text (put_document k (put_rows front new back gap p) c)) (put_document k (put_rows front new back gap p) c)
 
--- Behind the lines x of dashes, which stay, the lines y of a node are exchanged for a line and those under it.
+-- Behind the lines x of dashes, which stay, the lines y of a node give way to a line and those under it.
 pub record TakesLines (f : Found) (front gone new : List Row) (x y : List Line) (l : Line) (u : Outline) : Type 0 where
   pub before_are : length (lines_of front) + length x ≡ length (lines_before f.place)
   pub old_lines : lines_of gone ≡ x ++ y
@@ -50,7 +50,7 @@ pub record TakesLines (f : Found) (front gone new : List Row) (x y : List Line) 
   pub keys : HaveFitKeys new
   pub anchors : HaveOneAnchorEach (l ∷ flatten u)
 
--- Replace of an item or entry at a path, in each form: by an inline value, by rows, and of rows by either.
+-- The node of an item or entry at a path is replaced: what is written inline or in rows, by either of these.
 abbrev pub NodeRowsReplaced : Type 0
 NodeRowsReplaced =
     (t : List ℕ) (c : Cut) (k : ℕ) (p : Part) (s : Step) (ss : List Step) (f : Found) (v : Node) (front gone new back : List Row) (x y : List Line) (m : ℕ) (l : Line) (u : Outline) →
@@ -76,21 +76,21 @@ DocumentRooted =
     (t : List ℕ) (c : Cut) (k : ℕ) (p : Part) (new : List Row) (gap : List ℕ) → IsDocumentPart t c k p → TakesRoot c k p new gap →
     IsReadable (cut_text (put_document k (rooted new gap p) c)) → IsCut (cut_text (put_document k (rooted new gap p) c)) (put_document k (rooted new gap p) c)
 
--- Replace at the root by rows: the root keeps its anchor.
+-- The root is replaced by rows, and keeps its anchor.
 abbrev pub RootRowsReplaced : Type 0
 RootRowsReplaced =
     (t : List ℕ) (c : Cut) (k : ℕ) (p : Part) (v : Node) (new : List Row) (gap : List ℕ) (m : ℕ) (u : Outline) → IsDocumentPart t c k p → TakesRoot c k p new gap →
     RootFits m u (replaced v (root_of p)) → lines_of new ≡ flatten u → MayReplace v (root_of p) (root_of p) 0 → IsReadable (cut_text (put_document k (rooted new gap p) c)) →
     IsChanged c (put_document k (rooted new gap p) c) k (lead_of (rooted new gap p)) (replaced v)
 
--- Replace at the root by the rows of a block collection, whose first item or entry takes the lead as its head comment.
+-- The root is replaced by the rows of a block collection, whose first item or entry takes the lead as its head comment.
 abbrev pub RootRowsRewritten : Type 0
 RootRowsRewritten =
     (t : List ℕ) (c : Cut) (k : ℕ) (p : Part) (v : Node) (new : List Row) (gap : List ℕ) (m : ℕ) (u : Outline) → IsDocumentPart t c k p → TakesRoot c k p new gap →
     RootFits m u v → HasEntries u → lines_of new ≡ flatten (with_lead (lead_of p) u) → IsNewValue v 0 → IsReadable (cut_text (put_document k (rooted new gap p) c)) →
     IsChanged c (put_document k (rooted new gap p) c) k (lead_of p) (λ old. within (headed (lead_of p)) v)
 
--- Remove of the first item or entry of a compact collection: the next one's row b stands behind the dash.
+-- The first item or entry of a compact collection is removed: the next one's row b stands behind the dash.
 abbrev pub FirstRowMoved : Type 0
 FirstRowMoved =
     (t : List ℕ) (c : Cut) (k : ℕ) (p : Part) (steps : List Step) (s : Step) (h : NodeLines) (f : Found) (front gone back : List Row) (r b : Row) (n : ℕ) (ns es : List ℕ) → IsDocumentPart t c k p →

@@ -12,38 +12,38 @@ use Rattle.yq_documents.specs.Seats.{seat_of, seat_has_room}
 use Rattle.yq_documents.specs.TreeEdits.{lead_by}
 use Rattle.yq_change.specs.Siblings.{HasEntries}
 
--- whether a collection at the root of a part is block (own)
+-- whether a collection at the root of a part is block
 abbrev pub is_block_root : Part → Bool
 is_block_root p = begins_no_node (lines_of p.rows)
 
--- the lead of part q goes with its root, where that takes the place of part p's: it is that one's, or where that root was block, the head comment of the first item or entry (own)
+-- the lead of part q goes with its root, where that takes the place of part p's: it is that one's, or where that root was block, the head comment of the first item or entry
 abbrev pub LeadGoes : Part → Part → Type 0
 LeadGoes p q = lead_of q ≡ lead_by (is_block_root p) (children_of (root_of q)) (lead_of p)
 
--- It does where it is the same one, and the roots are both block or both none.
+-- A lead goes with the root, where it is the old one, and the roots are both block or both none.
 abbrev pub SameLeadGoes : Type 0
 SameLeadGoes = (p q : Part) → lead_of q ≡ lead_of p → is_block_root q ≡ is_block_root p → LeadGoes p q
 
--- It does where both roots are block, and the new one has items or entries.
+-- A lead goes with the root, where both roots are block, and the new one has items or entries.
 abbrev pub BlockLeadGoes : Type 0
 BlockLeadGoes = (p q : Part) → is_block_root p ≡ true → HasEntries (outline_of q) → LeadGoes p q
 
--- It does where it is the same one, and where the old root was block, the new one has neither items nor entries.
+-- A lead goes with the root, where it is the old one, and the new root has neither items nor entries if the old one was block.
 abbrev pub KeptLeadGoes : Type 0
 KeptLeadGoes = (p q : Part) → lead_of q ≡ lead_of p → (is_block_root p ≡ true → children_of (root_of q) ≡ none) → LeadGoes p q
 
--- two parts have room for comments at the same paths (own)
+-- two parts have room for comments at the same paths
 abbrev pub SameSeats : Part → Part → Type 0
 SameSeats p q = (part : places.Part) (steps : List Step) → seat_has_room part (seat_of steps q.rows) ≡ seat_has_room part (seat_of steps p.rows)
 
--- What is told of a row beside its gap and its content: its column, its dashes, its mark, and whether it has a head (own).
+-- What is told of a row beside its gap and its content: its column, its dashes, its mark, and whether it has a head.
 pub record RowShape : Type 0 where
   pub column : ℕ
   pub dashes : List ℕ
   pub mark : Mark
   pub headed : Bool
 
--- that of a row (own)
+-- what is told so of a row
 abbrev pub row_shape : Row → RowShape
 row_shape r = record { column = r.column; dashes = r.dashes; mark = r.mark; headed = is_some (head_of r.content) }
 

@@ -28,7 +28,7 @@ pub record TakesRow (p : Part) (front : List Row) (r new : Row) (back : List Row
   pub takes : TakesPlace (asked_behind unlimited front) r (rows_text back (p.end ++ rest)) new (rows_text back (p.end ++ rest))
   pub next : allows_first (limit_after new) back ≡ true
 
--- So it may stand there.
+-- A row that takes the place of another one replaces it among the rows of a document.
 abbrev pub RowReplaces : Type 0
 RowReplaces =
     (t : List ℕ) (c : Cut) (k : ℕ) (p : Part) (front back : List Row) (r new : Row) → IsDocumentPart t c k p → TakesRow p front r new back (behind_document k c) →
@@ -41,7 +41,7 @@ pub record SpellsAlike (mark : rows.Mark) (old new : Content) : Type 0 where
   pub keys : ContentHasFitKeys new
   pub short : is_long_plain mark new ≡ false
 
--- LineComment of an item or entry whose line is the last of its row: the row gets a content that spells the same.
+-- The line comment of an item or entry is set, where its line is the last of its row: the row gets a content that spells the same.
 abbrev pub ContentCommented : Type 0
 ContentCommented =
     (t : List ℕ) (c : Cut) (k : ℕ) (p : Part) (steps : List Step) (s : Step) (h : NodeLines) (f : Found) (front back : List Row) (r : Row) (new : Content) → IsDocumentPart t c k p →
@@ -53,7 +53,7 @@ ContentCommented =
 abbrev pub with_header_tail : List ℕ → List ℕ → Option rows.Anchor → BlockText → Content
 with_header_tail tail space anchor block = Block space anchor (record block { tail = tail })
 
--- LineComment of a block scalar.
+-- The line comment of a block scalar is set: its header gets another tail.
 abbrev pub BlockCommented : Type 0
 BlockCommented =
     (t : List ℕ) (c : Cut) (k : ℕ) (p : Part) (steps : List Step) (s : Step) (h : NodeLines) (f : Found) (front back : List Row) (r : Row) (space : List ℕ) (anchor : Option rows.Anchor) (block : BlockText)

@@ -7,23 +7,23 @@ use Rattle.yq_lines.specs.Laws.{with_lines}
 use Rattle.yq_lines.specs.Outline.{Mark, Bare, Key, Dash, Line, level, Outline, end, row, flatten, IsOpen, IsEven, anchored, label, children, value, Stands}
 use Rattle.yq_lines.specs.Places.{Place, here, below, plug, lines_before, lines_after, compose, Found, find_row, find, content}
 
--- one outline behind another
+-- an outline with another one behind it
 abbrev pub append_outline : Outline → Outline → Outline
 append_outline end b = b
 append_outline (row l under after) b = row l under (append_outline after b)
 
--- items or entries behind others
+-- items or entries with others behind them
 abbrev pub append_children : Children → Children → Children
 append_children none ds = ds
 append_children (child label n cs) ds = child label n (append_children cs ds)
 
--- a key or a dash (8.2.1, 8.2.2)
+-- a line begins with a key or a dash (8.2.1, 8.2.2)
 abbrev pub IsEntry : Mark → Type 0
 IsEntry Bare = ⊥
 IsEntry (Key k) = ⊤
 IsEntry Dash = ⊤
 
--- an outline begins with a line of an entry or item
+-- an outline's first line is that of an item or entry
 abbrev pub HasEntries : Outline → Type 0
 HasEntries end = ⊥
 HasEntries (row l under after) = IsEntry l.mark
@@ -45,11 +45,11 @@ pub record NodeLines : Type 0 where
   pub anchor : Option (List ℕ)
   pub lines : Outline
 
--- what is under a line that was found
+-- the lines under a line that was found
 abbrev pub under_line : Found → NodeLines
 under_line f = record { place = compose f.place (below f.line here f.after); above = level f.line; anchor = f.line.anchor; lines = f.under }
 
--- the same where the line has no head and no steps are left
+-- the same where that line has no head and no steps are left
 abbrev pub lines_below : Option Node → List Step → Found → Option NodeLines
 lines_below None [] f = Some (under_line f)
 lines_below None (s ∷ ss) f = None
@@ -79,7 +79,7 @@ pub record IsEntryAt (steps : List Step) (s : Step) (o : Outline) (h : NodeLines
   pub block : HasEntries h.lines
   pub found : find_row s h.lines ≡ Some f
 
--- An outline may stand in the place of a node's lines, where the node is changed so: it is deeper than what is above them, and stands for the new node.
+-- An outline may stand in the place of a node's lines, where the node is changed by a function: it is deeper than what is above them, and stands for the new node.
 pub record LinesFit (h : NodeLines) (g : Node → Node) (m : ℕ) (u : Outline) : Type 0 where
   pub deep : h.above < m
   pub even : IsEven m u
@@ -92,7 +92,7 @@ pub record EntryFits (h : NodeLines) (m : ℕ) (l : Line) (u : Outline) : Type 0
   pub deep : level l < m
   pub even : IsEven m u
 
--- A line is another one but for its label, which is changed so.
+-- A line is another one but for its label, which is changed by a function.
 pub record IsRelabelled (g : Label → Label) (old new : Line) : Type 0 where
   pub level_is : level new ≡ level old
   pub head_is : new.head ≡ old.head
@@ -111,21 +111,21 @@ CollectionReplaced =
     (n : ℕ) (o u : Outline) (steps : List Step) (h : NodeLines) (g : Children → Children) → IsEven n o → IsCollectionAt steps o h → HasEntries u → IsEven (level_or 0 h.lines) u →
     children u ≡ g (children h.lines) → (flatten o ≡ put_lines h (flatten h.lines)) × StandsSomewhere (put_lines h (flatten u)) (change steps (within g) (value o))
 
--- One item or entry more at the end of the collection at a path.
+-- With the lines of one item or entry more at the end of the collection at a path, lines stand for the tree with that one.
 abbrev pub Appended : Type 0
 Appended =
     (n m : ℕ) (o v : Outline) (l : Line) (steps : List Step) (h : NodeLines) → IsEven n o → IsCollectionAt steps o h → EntryFits h m l v →
     (flatten o ≡ put_lines h (flatten h.lines)) ×
     StandsSomewhere (put_lines h (flatten h.lines ++ (l ∷ flatten v))) (change steps (within (append_child (label l) (content l v))) (value o))
 
--- One of several items or entries of the collection at a path is taken out.
+-- Without the lines of one of several items or entries of the collection at a path, lines stand for the tree without that one.
 abbrev pub Removed : Type 0
 Removed =
     (n : ℕ) (o : Outline) (steps : List Step) (h : NodeLines) (s : Step) (f : Found) → IsEven n o → IsEntryAt steps s o h f → HasEntries (plug f.place f.after) →
     (flatten o ≡ put_lines h (with_lines f (f.line ∷ flatten f.under))) ×
     StandsSomewhere (put_lines h (with_lines f [])) (change steps (within (remove_child s)) (value o))
 
--- An item or entry of the collection at a path has another head comment or line comment.
+-- With another head comment or line comment of an item or entry of the collection at a path, lines stand for the tree with that one.
 abbrev pub Relabelled : Type 0
 Relabelled =
     (n : ℕ) (o : Outline) (steps : List Step) (h : NodeLines) (s : Step) (f : Found) (g : Label → Label) (l : Line) → IsEven n o → IsEntryAt steps s o h f → IsRelabelled g f.line l →

@@ -12,27 +12,27 @@ pub record IsPiece (t : List ℕ) : Type 0 where
   pub utf8 : IsUtf8 t
   pub characters : is_text t ≡ true
 
--- A text that reads is a piece.
+-- A text that reads as a cut is a piece.
 abbrev pub TextIsPiece : Type 0
 TextIsPiece = (c : Cut) → read_at (cut_text c) ≡ Some c → IsPiece (cut_text c)
 
--- Pieces are one when they are joined.
+-- Two pieces that are joined are one piece.
 abbrev pub PiecesJoined : Type 0
 PiecesJoined = (a b : List ℕ) → IsPiece a → IsPiece b → IsPiece (a ++ b)
 
--- A text cut behind an LF is in pieces.
+-- A piece that is cut behind an LF is two pieces.
 abbrev pub LineCut : Type 0
 LineCut = (a b : List ℕ) → IsPiece ((a ++ 10 ∷ []) ++ b) → IsPiece (a ++ 10 ∷ []) × IsPiece b
 
--- the first byte is ASCII and no LF, or there is none (own)
+-- the first byte is ASCII and no LF, or there is none
 abbrev pub BeginsPiece : List ℕ → Type 0
 BeginsPiece [] = Unit {0}
 BeginsPiece (b ∷ t) = (b < 128) × (is_feed b ≡ false)
 
--- A text cut before such a byte is in pieces.
+-- A piece that is cut before such a byte is two pieces.
 abbrev pub ByteCut : Type 0
 ByteCut = (a b : List ℕ) → IsPiece (a ++ b) → BeginsPiece b → IsPiece a × IsPiece b
 
--- A text in three, of which neither the second nor the third begins with an LF, is in pieces.
+-- A piece in three parts, of which neither the second nor the third begins with an LF, is three pieces.
 abbrev pub PiecesCut : Type 0
 PiecesCut = (t a o b : List ℕ) → IsPiece t → HasPieces t a o b → front is_feed (o ++ b) ≡ false → front is_feed b ≡ false → IsPiece a × IsPiece o × IsPiece b

@@ -46,14 +46,14 @@ pub record TakesUnder (t : List ℕ) (c : Cut) (k : ℕ) (p : Part) (front : Lis
   pub keys : ContentHasFitKeys new
   pub text : IsReadable (cut_text (put_document k (recontent front r back new p) c))
 
--- Replace of an item or entry by a value that is written behind its mark: the rows under it go.
+-- An item or entry is replaced by a value that is written behind its mark: the rows under it go.
 abbrev pub UnderReplaced : Type 0
 UnderReplaced =
     (t : List ℕ) (c : Cut) (k : ℕ) (p : Part) (s : Step) (ss : List Step) (front : List Row) (r : Row) (under back : List Row) (v : Node) (new : Content) (w : HasUnder p s ss front r under back) →
     TakesUnder t c k p front r under back (content w.found.line w.found.under) v new → MayReplace v (content w.found.line w.found.under) (root_of p) (length (s ∷ ss)) →
     IsChanged c (put_document k (recontent front r back new p) c) k (lead_of p) (change (s ∷ ss) (replaced v))
 
--- The lead stays, and so does it whether the root is block.
+-- Without the rows under an item or entry, and with another content behind its mark, a document has the same lead, and its root is block where it was.
 abbrev pub UnderKept : Type 0
 UnderKept =
     (p : Part) (front : List Row) (r : Row) (under back : List Row) (new : Content) → p.rows ≡ front ++ (r ∷ (under ++ back)) →
@@ -66,13 +66,13 @@ pub record OwnUnder (p : Part) (s : Step) (ss : List Step) (x : OwnRows) (y : Se
   pub own_is : x.own ≡ y.row ∷ under
   pub has : HasUnder p s ss x.front y.row under x.back
 
--- They are, where its line is also that of the row's mark.
+-- The own rows of an item or entry are that of its line and those under it, where this line is that of the row's mark.
 abbrev pub OwnUnderStands : Type 0
 OwnUnderStands =
     (t : List ℕ) (c : Cut) (k : ℕ) (p : Part) (s : Step) (ss : List Step) (x : OwnRows) (y : Seat) → IsDocumentPart t c k p → own_rows (s ∷ ss) p.rows ≡ Some x → seat_of (s ∷ ss) p.rows ≡ Some y →
     y.line ≡ length y.row.dashes → OwnUnder p s ss x y
 
--- a content that is an inline node behind a space
+-- an inline node behind a space, as a content
 abbrev pub spaced : inline.Node → List ℕ → Content
 spaced node tail = Inline (32 ∷ []) node tail
 
@@ -84,7 +84,7 @@ NothingTakes =
     anchor_of (content w.found.line w.found.under) ≡ None → IsReadable (cut_text (put_document k (recontent front r back (spaced node tail) p) c)) →
     TakesUnder t c k p front r under back (content w.found.line w.found.under) v (spaced node tail)
 
--- The text then.
+-- The text of a cut in which a row has such a content, by its pieces.
 abbrev pub SpacedText : Type 0
 SpacedText =
     (c : Cut) (k : ℕ) (d : PlacedPart) (front : List Row) (r : Row) (back : List Row) (node : inline.Node) (tail : List ℕ) → placed_document k c ≡ Some d →
