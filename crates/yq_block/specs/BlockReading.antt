@@ -1,4 +1,4 @@
--- Reading (a reader may skip this): items and entries in block style, one behind the other.
+-- Reading (own; a reader may skip it): items and entries in block style, one behind the other.
 use Rattle.std.specs.Prelude.{ℕ, ◌+◌, List, [], ◌∷◌, ◌++◌, Bool, true, false, replicate, map, if◌then◌else◌}
 use Rattle.std.specs.Option.{is_none}
 use Rattle.yq_scalar.specs.BlockWritten.{break_text}

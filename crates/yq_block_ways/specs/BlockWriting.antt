@@ -41,7 +41,7 @@ behind_segments l v w = keep w.before ∷ (put w.gone (behind_space l w.column v
 abbrev pub is_compact : MarkPlace → Bool
 is_compact w = not (w.keyed || w.named) && is_empty w.comment
 
--- the one of these that a place asks for
+-- the segments that a place asks for: behind the dash for a compact collection, else under the key or dash
 abbrev pub block_segments : Layout → Node → MarkPlace → List Segment
 block_segments l v w = if is_compact w then behind_segments l v w else under_segments l v w
 

@@ -39,12 +39,12 @@ lines_upto w x = let t = up_to w.behind x.behind in record { mark = w; gone = le
 abbrev pub lines_under : ℕ → List Step → Cut → Option LinesUnder
 lines_under n steps c = mark_place n steps c >>= λ w. option_map (lines_upto w) (collection_end n steps c)
 
--- What is written in the place of such a collection: a text behind the key or dash and its anchor, and lines under it, of which one is nothing (own).
+-- What is written in the place of such a collection: a text behind the key or dash and its anchor, and lines under it, of which one is nothing.
 pub record Written : Type 0 where
   pub beside : List ℕ
   pub below : List ℕ
 
--- a text and lines (own)
+-- a text and lines
 abbrev pub written_of : List ℕ → List ℕ → Written
 written_of beside below = record { beside = beside; below = below }
 
@@ -52,7 +52,7 @@ written_of beside below = record { beside = beside; below = below }
 abbrev pub beside_mark : List ℕ → Written
 beside_mark t = written_of (32 ∷ t) []
 
--- how a value is written there: a collection with items or entries on lines under the key or dash, other values behind it
+-- how a value is written there: a collection with items or entries on lines under the key or dash, another value behind it
 abbrev pub written_there : Layout → Node → MarkPlace → Option Written
 written_there l v w = if is_filled v then Some (written_of [] (lines_below l (below_mark l w v) v)) else option_map beside_mark (value_written false [] v)
 

@@ -33,11 +33,11 @@ compact_upto d x = let t = up_to d.behind x.behind in record { dash = d; gone = 
 abbrev pub compact_place : ℕ → List Step → Cut → Option CompactPlace
 compact_place n steps c = dash_place n steps c >>= λ d. option_map (compact_upto d) (collection_end n steps c)
 
--- how a collection with items or entries is written there: on the line of the dash, or on lines under it, where the dash's row has an anchor or a comment (8.2.1; own)
+-- how a collection with items or entries is written there: on the line of the dash; or on lines under it, where the dash's row has an anchor or a comment (8.2.1; own)
 abbrev pub filled_behind : Layout → Node → DashPlace → List ℕ
 filled_behind l v d = if d.noted then lines_below l (item_column d.column) v else behind_space l d.column v
 
--- how a value is written there: so, or behind a space (8.2.1)
+-- how a value is written there: a collection with items or entries so, another value behind a space (8.2.1)
 abbrev pub value_behind : Layout → Node → DashPlace → Option (List ℕ)
 value_behind l v d = if is_filled v then Some (filled_behind l v d) else option_map (λ t. 32 ∷ t) (value_written false [] v)
 
@@ -45,7 +45,7 @@ value_behind l v d = if is_filled v then Some (filled_behind l v d) else option_
 abbrev pub compact_segments : CompactPlace → List ℕ → List Segment
 compact_segments p t = keep p.dash.before ∷ (put p.gone t ∷ (keep p.break ∷ (keep p.behind ∷ [])))
 
--- those in which a value takes the place of the compact collection to which steps lead in document n
+-- the segments of a text in which a value takes the place of the compact collection to which steps lead in document n
 abbrev pub compact_exchanged : ℕ → List Step → Node → Cut → Option (List Segment)
 compact_exchanged n steps v c = compact_place n steps c >>= λ p. option_map (compact_segments p) (value_behind (layout_of n c) v p.dash)
 

@@ -37,7 +37,7 @@ dash_segments l v w =
 abbrev pub begins_on_line : ScalarPlace → Bool
 begins_on_line w = not w.keyed && (not w.anchored && is_empty (header_end w).comment)
 
--- the one of these that a place asks for
+-- the segments that a place asks for: on the line of the dash for a collection that begins there, else as rows
 abbrev pub collection_segments : Layout → Node → ScalarPlace → List Segment
 collection_segments l v w = if begins_on_line w then dash_segments l v w else rows_segments l v w
 

@@ -17,12 +17,12 @@ use Rattle.yq_script.specs.Script.{Segment, keep, put}
 use Rattle.yq_ways.specs.Replacing.{node_in, scalar_in, is_kept, value_written}
 use Rattle.yq_ways.specs.Ways.{Way}
 
--- whether a scalar, if there is one, holds more than line breaks: a block scalar that does has a text line (8.1)
+-- whether there is a scalar, and it holds more than line breaks: a block scalar that does has a text line (8.1)
 abbrev pub holds_text : Option ScalarText → Bool
 holds_text None = false
 holds_text (Some s) = list_any (λ b. not (is_feed b)) s.text
 
--- whether a node, if there is one, is a scalar that does
+-- whether there is a node, and it is a scalar that holds more than line breaks
 abbrev pub has_text : Option Node → Bool
 has_text n = holds_text (n >>= scalar_in)
 

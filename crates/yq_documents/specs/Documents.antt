@@ -17,12 +17,12 @@ use Rattle.yq_lines.specs.Grammar.{IsNode}
 use Rattle.yq_documents.specs.Lines.{lines_of}
 use Rattle.yq_lines.specs.Outline.{Line, null_node}
 
--- A document: the comment before it and its root node (9.1, own).
+-- A document: the comment before it and its root node (9.1; own).
 pub record Document : Type 0 where
   pub lead : List (List ℕ)
   pub root : Node
 
--- a part, if it is a document, before others
+-- a part, if it is a document, before others (own)
 abbrev pub with_part : Bool → Part → List Part → List Part
 with_part true p ps = p ∷ ps
 with_part false p ps = ps
@@ -37,7 +37,7 @@ abbrev pub has_begin : Cut → Bool
 has_begin (last p) = false
 has_begin (marked p marker c) = begins_document marker || has_begin c
 
--- there are rows before the first marker
+-- rows stand before the first marker (9.1.3)
 abbrev pub begins_bare : Cut → Bool
 begins_bare (last p) = not (no_rows p.rows)
 begins_bare (marked p marker c) = not (no_rows p.rows)
@@ -46,7 +46,7 @@ begins_bare (marked p marker c) = not (no_rows p.rows)
 abbrev pub document_parts : Cut → List Part
 document_parts c = parts_from (begins_bare c || not (has_begin c)) c
 
--- lines are those of a root node; a document without lines has a null as its root (9.1.2)
+-- lines are those of a root node; a document without lines has a null as its root (7.2, 8.2.3, 9.1.4)
 abbrev pub IsRoot : List Line → Node → Type 0
 IsRoot [] node = node ≡ null_node
 IsRoot (l ∷ ls) node = (n : ℕ) × IsNode n (l ∷ ls) node
@@ -123,7 +123,7 @@ pub record IsDocument (p : Part) (d : Document) : Type 0 where
   pub bound : AreBound [] (names_of d.root)
   pub short : HasShortRoot p.rows
 
--- Parts are those of documents, in order.
+-- Parts are those of documents, in order (9.2).
 abbrev pub AreDocuments : List Part → List Document → Type 0
 AreDocuments [] [] = ⊤
 AreDocuments [] (d ∷ ds) = ⊥

@@ -1,4 +1,4 @@
--- Reading (a reader may skip this: the grammar is what is believed, and found and only tie the two): what is asked of rows, by their pieces.
+-- Reading (own; a reader may skip it: the grammar is what is believed, and the clauses `found` and `only` tie the two): what is asked of rows, by their pieces.
 use Rattle.std.specs.Prelude.{Bool, ◌||◌, ◌&&◌, not, List, ℕ, codes}
 use Rattle.std.specs.Str.{bytes_eq}
 use Rattle.yq_scalar.specs.Plain.{holds_break}

@@ -1,4 +1,4 @@
--- Reading (a reader may skip this: the grammar is what is believed, and found and only tie the two): the lines of the rows of a part.
+-- Reading (own; a reader may skip it: the grammar is what is believed, and the clauses `found` and `only` tie the two): the lines of the rows of a part.
 use Rattle.std.specs.Prelude.{◌≡◌, ℕ, ◌+◌, ◌==◌, Bool, true, false, ◌||◌, not, List, [], ◌∷◌, ◌++◌, length, map, Option, Some, None, ◌&&◌, if◌then◌else◌, ⊤}
 use Rattle.std.specs.List.{list_all}
 use Rattle.yq_lines.specs.Comments.{head_comment}
@@ -13,7 +13,7 @@ use Rattle.yq_documents.specs.Reading.{have_fit_keys, has_short_root}
 use Rattle.yq_lines.specs.View.{views}
 use Rattle.yq_documents.specs.declared.checks.DocumentLines.{DocumentLines}
 
--- The first n of these pieces are those of rows in front of a text, behind which the gap behind the last one and a rest stand.
+-- The first n of these pieces are those of rows in front of a text, behind which the gap behind the last one and a rest stand (own).
 pub record HasRows (n : ℕ) (ss : List Slices) (t : List ℕ) : Type 0 where
   pub rows : List Row
   pub others : List Slices
@@ -29,7 +29,7 @@ pub record HasRows (n : ℕ) (ss : List Slices) (t : List ℕ) : Type 0 where
 abbrev pub part_made : List Row → List ℕ → Option (List Line × List ℕ)
 part_made rows behind = if have_fit_keys rows then Some (lines_of rows, behind) else None
 
--- A part before a text, behind so many rows: these pieces are those of its rows and of those behind it, and this is where it ends.
+-- A part before a text, behind so many rows: these pieces are those of its rows and of those behind it, and this is where it ends (own).
 pub record HasPart (n : ℕ) (ss : List Slices) (b : Bound) (t : List ℕ) : Type 0 where
   pub part : Part
   pub others : List Slices
@@ -44,15 +44,15 @@ pub record HasPart (n : ℕ) (ss : List Slices) (b : Bound) (t : List ℕ) : Typ
 abbrev pub Lined : Type 0
 Lined = List (List ℕ) × List Line
 
--- those of a part (own)
+-- the lead of a part and its lines, as they are told (own)
 abbrev pub lined : Part → Lined
 lined p = (lead_of p, lines_of p.rows)
 
--- those that the code shows (own)
+-- the lead and the lines of a part that the code shows (own)
 abbrev pub lined_view : PartLines → Lined
 lined_view p = (head_comment p.lead.now, views p.lines.items)
 
--- those that a document of the code shows, by the gap that its lead ends and by its lines (own)
+-- the lead and the lines of a document that the code shows, by the gap that its lead ends and by its lines (own)
 abbrev pub document_view : DocumentLines → Lined
 document_view d = (head_comment d.lead.now, views d.lines)
 
@@ -92,12 +92,12 @@ abbrev pub AllParts : List Marked → Type 0
 AllParts [] = ⊤
 AllParts (p ∷ ps) = AreRows unlimited p.0.rows p.0.end (p.1 ++ parts_text ps) × AllParts ps
 
--- those of them that are documents: the first one is, if that is so, and each one behind `---` (own)
+-- those parts that are documents: the first one is, if that is so, and each one behind `---` (own)
 abbrev pub chosen_parts : Bool → List Marked → List Part
 chosen_parts is [] = []
 chosen_parts is (p ∷ ps) = with_part is p.0 (chosen_parts (begins_document p.1) ps)
 
--- The pieces and ends are those of parts before a text, behind so many rows.
+-- The pieces and ends are those of parts before a text, behind so many rows (own).
 pub record HasParts (n : ℕ) (ss : List Slices) (bs : List Bound) (t : List ℕ) : Type 0 where
   pub parts : List Marked
   pub pieces : ss ≡ map slices (parts_rows parts)

@@ -9,21 +9,21 @@ use Rattle.yq_rows.specs.View.{content_cut}
 use Rattle.yq_documents.specs.declared.path.Span.{Span}
 use Rattle.yq_lines.specs.Comments.{are_comments}
 
--- A piece of a text: the text before it, its own, and the text behind it.
+-- A piece of a text: the text before it, its own, and the text behind it (own).
 pub record Piece : Type 0 where
   pub before : List ℕ
   pub text : List ℕ
   pub behind : List ℕ
 
--- where a piece begins and ends, in bytes
+-- where a piece begins and ends, in bytes (own)
 abbrev pub piece_span : Piece → ℕ × ℕ
 piece_span p = (length p.before, length p.before + length p.text)
 
--- the same of a place that the code tells
+-- where a place that the code tells begins and ends, in bytes (own)
 abbrev pub span : Span → ℕ × ℕ
 span s = (s.start, s.end)
 
--- A text holds a piece, from one whole character to another.
+-- A text holds a piece, from one whole character to another (own).
 abbrev pub HoldsPiece : List ℕ → Piece → Type 0
 HoldsPiece t p = HasPieces t p.before p.text p.behind
 
@@ -47,7 +47,7 @@ tail_comment before tail behind =
     let line = cut ends_line (past_white tail) in
     if front (λ b. b == 35) (past_white tail) then Some (record { before = before ++ (cut no_white tail).0; text = line.0; behind = line.1 ++ behind }) else None
 
--- the comment in the tail of a content between two texts
+-- the comment in the tail of a content between two texts (6.6)
 abbrev pub content_comment : List ℕ → Content → List ℕ → Option Piece
 content_comment before c behind = let x = content_cut c in tail_comment (before ++ (x.0 ++ (x.1 ++ (x.2 ++ x.3)))) x.4 (x.5 ++ behind)
 

@@ -1,4 +1,4 @@
--- Reading (a reader may skip this: the grammar is what is believed, and found and only tie the two): bytes read as documents.
+-- Reading (own; a reader may skip it: the grammar is what is believed, and the clauses `found` and `only` tie the two): bytes read as documents.
 use Rattle.std.specs.Prelude.{ℕ, nat_le, List, [], ◌∷◌, length, map, Bool, true, not, ◌&&◌, codes, Option, Some, None, if◌then◌else◌}
 use Rattle.std.specs.List.{list_all}
 use Rattle.std.specs.Str.{bytes_eq, chars, is_utf8}
@@ -100,15 +100,15 @@ text_at text = scan_at text >>= checked
 unfoldable pub read_at : List ℕ → Option Cut
 read_at bytes = if is_utf8 bytes then text_at bytes else None
 
--- a cut, or that of no text
+-- a cut, or the cut of the empty text where there is none
 abbrev pub cut_or : Option Cut → Cut
 cut_or None = last (record { rows = []; end = [] })
 cut_or (Some c) = c
 
--- the cut of a text that has one
+-- the cut of a text; that of the empty text where it has none
 unfoldable pub cut_of : List ℕ → Cut
 cut_of text = cut_or (scan_at text)
 
--- the documents of a text that reads as documents
+-- the documents of a text, if it reads as documents
 abbrev pub documents_of : List ℕ → List Document
 documents_of text = documents (cut_of text)

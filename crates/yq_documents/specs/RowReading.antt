@@ -1,4 +1,4 @@
--- Reading (a reader may skip this: the grammar is what is believed, and found and only tie the two): the lines of a row by its pieces.
+-- Reading (own; a reader may skip it: the grammar is what is believed, and the clauses `found` and `only` tie the two): the lines of a row by its pieces.
 use Rattle.std.specs.Prelude.{◌≡◌, ℕ, suc, ◌-◌, ◌==◌, Bool, ◌||◌, ◌&&◌, not, List, [], ◌∷◌, ◌++◌, length, drop, Option, Some, None, if◌then◌else◌, ℤ}
 use Rattle.yq_scalar.specs.declared.kind.Kind.TheVariants.{Text}
 use Rattle.yq_scalar.specs.declared.style.Place.TheVariants as places
@@ -109,7 +109,7 @@ line_at whole s b t = head_at whole s.parent s.head t >>= λ h. Some (line_with 
 abbrev pub from_head : Slices → List ℕ → List ℕ
 from_head s rest = s.head ++ (s.tail ++ (s.raw ++ rest))
 
--- The pieces are those of a row that is in front of a text.
+-- The pieces are those of a row that is in front of a text (own).
 pub record HasRow (s : Slices) (t : List ℕ) : Type 0 where
   pub row : Row
   pub limit : Limit

@@ -1,4 +1,4 @@
--- A sole item or entry taken out: an empty collection takes the place of its collection (own).
+-- A sole item or entry taken out: an empty collection takes the place of its collection (YAML 1.2.2, 7.4; own).
 use Rattle.std.specs.Prelude.{ℕ, List, Option, Some, None, option_map, if◌then◌else◌}
 use Rattle.yq_scalar.specs.Answers.{◌>>=◌}
 use Rattle.yq_scalar.specs.Paths.{Step}
@@ -10,14 +10,14 @@ use Rattle.yq_flow_ways.specs.FlowWays.{last_step}
 use Rattle.yq_ways.specs.Replacing.{node_in}
 use Rattle.yq_ways.specs.Ways.{Way}
 
--- the empty collection of the kind of this one
+-- the empty collection of the kind of a collection
 abbrev pub emptied : Node → Option Node
 emptied (alias name) = None
 emptied (scalar anchor kind text) = None
 emptied (list anchor cs) = Some (list None none)
 emptied (map anchor cs) = Some (map None none)
 
--- the operation that puts an empty collection in the place of the one to which steps lead
+-- the operation that puts an empty collection in the place of the one in which a path ends, if that isn't the root's path
 abbrev pub emptying_at : ℕ → Cut → Option (List Step × Step) → Option Operation
 emptying_at doc c None = None
 emptying_at doc c (Some x) = option_map (replace doc x.0) (node_in doc x.0 c >>= emptied)

@@ -1,4 +1,4 @@
--- Reading a node with its places (a reader may skip this: found and only tie it to the grammar).
+-- Reading a node with its places (own; a reader may skip it: the clauses `found` and `only` tie it to the grammar).
 use Rattle.std.specs.Prelude.{ℕ, ◌-◌, List, [], length, if◌then◌else◌, Option, Some, None, Bool, true, false, not, ◌||◌, ◌&&◌}
 use Rattle.yq_scalar.specs.declared.piece.Piece.{Piece}
 use Rattle.yq_scalar.specs.Answers.{◌>>=◌}

@@ -1,4 +1,4 @@
--- Reading (a reader may skip this: the grammar is what is believed, and found and only tie the two).
+-- Reading (own; a reader may skip it: the grammar is what is believed, and the clauses `found` and `only` tie the two).
 use Rattle.std.specs.Prelude.{ℕ, zero, suc, Bool, true, false, ◌||◌, ◌&&◌, not, ◌==◌, List, [], ◌∷◌, length, take, drop, Option, Some, None, if◌then◌else◌}
 use Rattle.yq_scalar.specs.Answers.{◌>>=◌}
 use Rattle.yq_scalar.specs.Plain.{plain_at}

@@ -49,7 +49,7 @@ abbrev mutual
   inside f (list anchor cs) = list anchor (each_at_once f 0 cs)
   inside f (map anchor cs) = map anchor (each_at_once f 0 cs)
 
-  -- the same of items or entries, so many of which stand before these
+  -- the same of items or entries, so many of which stand before these (own)
   pub each_at_once : Deeds → ℕ → Children → Children
   each_at_once f i none = none
   each_at_once f i (child label n cs) =

@@ -1,4 +1,4 @@
--- Reading (a reader may skip this: the grammar is what is believed, and found and only tie the two).
+-- Reading (own; a reader may skip it: the grammar is what is believed, and the clauses `found` and `only` tie the two).
 use Rattle.std.specs.Prelude.{◌≡◌, ℕ, zero, suc, ◌+◌, if◌then◌else◌, Bool, true, false, ◌||◌, ◌&&◌, ◌==◌, List, [], ◌∷◌, length, take, drop, Option, Some, None, is_some, option_map, not}
 use Rattle.std.specs.Char.{is_ascii_digit}
 use Rattle.std.specs.List.{prefix_len}

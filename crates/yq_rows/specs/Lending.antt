@@ -1,4 +1,4 @@
--- What reading gives, as the code lends it (a reader may skip this).
+-- What reading gives, as the code lends it (own; a reader may skip it).
 use Rattle.std.specs.Prelude.{ℕ, suc, ◌+◌, Bool, true, false, ◌||◌, List, [], ◌++◌, length, map, take, drop, Option, Some, None, if◌then◌else◌, ℤ}
 use Rattle.yq_scalar.specs.Answers.{◌>>=◌}
 use Rattle.yq_scalar.specs.Piece.{deeper}

@@ -1,4 +1,4 @@
--- Reading (a reader may skip this): the rows of a text, as the code keeps them: where they begin in it, and how long their pieces are.
+-- Reading (own; a reader may skip it): the rows of a text, as the code keeps them: where they begin in it, and how long their pieces are.
 use Rattle.std.specs.Prelude.{◌≡◌, ℕ, ◌+◌, ◌-◌, List, [], ◌∷◌, length, map, take, drop}
 use Rattle.std.specs.List.{All}
 use Rattle.std.specs.Str.{IsUtf8, IsCharBoundary}

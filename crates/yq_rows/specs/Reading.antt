@@ -1,4 +1,4 @@
--- Reading (a reader may skip this: the grammar is what is believed, and found and only tie the two).
+-- Reading (own; a reader may skip it: the grammar is what is believed, and the clauses `found` and `only` tie the two).
 use Rattle.std.specs.Prelude.{ℕ, zero, suc, ◌+◌, ℤ, Bool, true, false, ◌||◌, ◌&&◌, not, ◌==◌, nat_le, List, [], ◌∷◌, ◌++◌, length, take, drop, if◌then◌else◌, Option, Some, None}
 use Rattle.std.specs.Str.{chars}
 use Rattle.yq_scalar.specs.Answers.{◌>>=◌}

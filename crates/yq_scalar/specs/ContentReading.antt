@@ -1,4 +1,4 @@
--- Reading (a reader may skip this: the grammar is what is believed, and found and only tie the two).
+-- Reading (own; a reader may skip it: the grammar is what is believed, and the clauses `found` and `only` tie the two).
 use Rattle.std.specs.Prelude.{ℕ, suc, zero, ◌-◌, Bool, true, false, ◌||◌, ◌&&◌, ◌==◌, Option, Some, None, List, [], ◌∷◌, ◌++◌, length, take, drop, replicate, if◌then◌else◌, slice_index, encode_utf8}
 use Rattle.yq_scalar.specs.Text.{feed, is_white, is_feed, is_break, is_space, front}
 use Rattle.yq_scalar.specs.Quoted.{Gap, folded, joined, one_more, gap_text}

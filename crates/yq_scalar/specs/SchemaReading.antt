@@ -1,4 +1,4 @@
--- Reading (a reader may skip this: the grammar is what is believed, and found and only tie the two).
+-- Reading (own; a reader may skip it: the grammar is what is believed, and the clauses `found` and `only` tie the two).
 use Rattle.std.specs.Prelude.{ℕ, Bool, true, false, ◌||◌, ◌&&◌, not, ◌==◌, nat_lt, Option, Some, None, List, [], ◌∷◌, drop, if◌then◌else◌, bytes_eq, ℤ, pos}
 use Rattle.std.specs.List.{list_any, prefix_len}
 use Rattle.std.specs.Char.{digit_value}

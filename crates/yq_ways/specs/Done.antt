@@ -26,7 +26,7 @@ pub record IsDone (op : Operation) (c : Cut) (p q : Part) (lead : List (List ℕ
   pub block : KeepsBlock op (root_of q) → is_block_root q ≡ is_block_root p
   pub seats : SetsComment op → SameSeats p q
 
--- Then the text reads as the documents after the operation.
+-- A text whose document is so done reads as the documents after the operation (own).
 abbrev pub DocumentDone : Type 0
 DocumentDone = (op : Operation) (c : Cut) (p q : Part) (lead : List (List ℕ)) (f : Node → Node) → IsDone op c p q lead f → ReadsAfter op c (cut_text (put_document (document_of op) q c))
 
@@ -36,6 +36,6 @@ ArePieces [] = ⊤
 ArePieces (keep t ∷ ss) = IsPiece t × ArePieces ss
 ArePieces (put o w ∷ ss) = IsPiece w × ArePieces ss
 
--- What such segments make of a text may be read, if it isn't too long.
+-- What such segments make of a text may be read, if it isn't too long (own).
 abbrev pub SegmentsReadable : Type 0
 SegmentsReadable = (ss : List Segment) → ArePieces ss → length (new_text ss) ≤ text_limit → IsReadable (new_text ss)

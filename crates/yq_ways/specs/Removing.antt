@@ -41,7 +41,7 @@ removed x = keep x.before ∷ (put x.gone [] ∷ (gap_mended x.seam x.gap ++ (ke
 abbrev pub removed_at : ℕ → List Step → Cut → Option (List Segment)
 removed_at doc steps c = if has_others_at doc steps c then (removal_place doc steps c >>= λ x. Some (removed x)) else None
 
--- the way to remove one of several items or entries that has whole rows
+-- the way to remove one of several items or entries that has whole rows (own)
 abbrev pub remove_way : Way
 remove_way (replace doc steps v) c = None
 remove_way (append doc steps key v) c = None

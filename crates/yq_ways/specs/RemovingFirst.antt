@@ -9,7 +9,7 @@ use Rattle.yq_meaning.specs.Operations.{replace, append, remove, line_comment, h
 use Rattle.yq_script.specs.Script.{Segment, keep, put}
 use Rattle.yq_ways.specs.Ways.{Way}
 
--- what stands between the text before and the text behind goes (own)
+-- the segments in which what stands between the text before and the text behind goes (own)
 abbrev pub first_removed : FirstOut → List Segment
 first_removed x = keep x.before ∷ (put x.space [] ∷ (put x.entry [] ∷ (put x.break [] ∷ (put x.indent [] ∷ (keep x.behind ∷ [])))))
 
@@ -17,7 +17,7 @@ first_removed x = keep x.before ∷ (put x.space [] ∷ (put x.entry [] ∷ (put
 abbrev pub first_removed_at : ℕ → List Step → Cut → Option (List Segment)
 first_removed_at doc steps c = if has_others_at doc steps c then (first_removal doc steps c >>= λ x. Some (first_removed x)) else None
 
--- the way to remove such an item or entry
+-- the way to remove the first of several items or entries of a compact collection (own)
 abbrev pub remove_first_way : Way
 remove_first_way (replace doc steps v) c = None
 remove_first_way (append doc steps key v) c = None

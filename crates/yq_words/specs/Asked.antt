@@ -37,7 +37,7 @@ full_words words = codes "yq" ∷ with_command words
 abbrev pub is_help_word : Text → Bool
 is_help_word word = bytes_eq word (codes "-h") || bytes_eq word (codes "--help")
 
--- some word does
+-- some word asks for help
 abbrev pub asks_help : List Text → Bool
 asks_help words = list_any is_help_word words
 
@@ -45,7 +45,7 @@ asks_help words = list_any is_help_word words
 abbrev pub MayCallHelp : List Text → Type 0
 MayCallHelp words = (asks_help words ≡ true) × IsAmong DisplayHelp (fault_of yq (full_words words))
 
--- the same, where it can't end otherwise
+-- a word asks for help, and clap's reading of the words can end at a call for help alone
 abbrev pub CallsHelp : List Text → Type 0
 CallsHelp words = (asks_help words ≡ true) × (fault_of yq (full_words words) ≡ DisplayHelp ∷ [])
 
@@ -101,7 +101,7 @@ abbrev pub names_fit : Option Text → Option Text → Bool
 names_fit None journal = false
 names_fit (Some file) journal = name_fits journal file
 
--- what a command has besides its names
+-- a word names a command, and what that needs besides its names is there and may stand
 abbrev pub words_fit : Text → List Row → Bool
 words_fit name rows =
     if bytes_eq name (codes "eval") then is_some (first_of (codes "expr") rows)

@@ -3,11 +3,11 @@ use Rattle.std.specs.Prelude.{ℕ, List, codes, true, Some}
 use Rattle.clap.specs.Words.{App, Rule, new_app, new_rule, with_rule, with_subcommand}
 use Rattle.clap.specs.declared.builder.ArgAction.TheVariants.{SetTrue}
 
--- a word that has to stand there
+-- a word that has to stand at a place of the command line
 abbrev pub positional : List ℕ → Rule
 positional id = record (new_rule id) { required = true }
 
--- `--journal PATH`
+-- the option `--journal PATH`
 abbrev pub journal_option : Rule
 journal_option = record (new_rule (codes "journal")) { long = Some (codes "journal") }
 
@@ -15,33 +15,33 @@ journal_option = record (new_rule (codes "journal")) { long = Some (codes "journ
 abbrev pub switch : List ℕ → ℕ → Rule
 switch id short = record (new_rule id) { short = Some short; long = Some id; action = Some SetTrue }
 
--- `NAME [--journal PATH] FILE`
+-- a command with `[--journal PATH] FILE`
 abbrev pub file_command : List ℕ → App
 file_command name = with_rule (with_rule (new_app name) journal_option) (positional (codes "file"))
 
--- `squash [--journal PATH] N FILE`
+-- the command `squash [--journal PATH] N FILE`
 abbrev pub squash_command : App
 squash_command =
     with_rule (with_rule (with_rule (new_app (codes "squash")) journal_option) (positional (codes "n"))) (positional (codes "file"))
 
--- `eval` with `-i`, `-e` and `-N`
+-- the command `eval` with `-i`, `-e` and `-N`
 abbrev pub switches_command : App
 switches_command =
     with_rule (with_rule (with_rule (new_app (codes "eval")) (switch (codes "inplace") 105)) (switch (codes "exit-status") 101)) (switch (codes "no-doc") 78)
 
--- `eval [-i] [-e] [-N] [--journal PATH] EXPR FILE`
+-- the command `eval [-i] [-e] [-N] [--journal PATH] EXPR FILE`
 abbrev pub eval_command : App
 eval_command =
     with_rule (with_rule (with_rule switches_command journal_option) (positional (codes "expr"))) (positional (codes "file"))
 
--- `eval` and `undo`
+-- the commands `eval` and `undo`
 abbrev pub two_commands : App
 two_commands = with_subcommand (with_subcommand (new_app (codes "yq")) eval_command.top) (file_command (codes "undo")).top
 
--- and `redo` and `history`
+-- these two, and `redo` and `history`
 abbrev pub four_commands : App
 four_commands = with_subcommand (with_subcommand two_commands (file_command (codes "redo")).top) (file_command (codes "history")).top
 
--- the whole command line
+-- the whole command line: these four, and `squash`
 abbrev pub yq : App
 yq = with_subcommand four_commands squash_command.top
