@@ -1,5 +1,5 @@
-"""Looks at what needs no proof: whether the sources are in the layout of `rt fmt`, links, sources that no check reads, and wrong
-bodies of both tiers that can't be applied.
+"""Looks at what needs no proof: whether the sources are in the layout of `rt fmt`, links, sources that no check reads, definitions
+whose comments name no section, and wrong bodies of both tiers that can't be applied.
 
 usage: ready.py
 
@@ -8,6 +8,7 @@ or `not ready`. It works on a copy, so that checks may run meanwhile.
 """
 
 import os
+import re
 import shutil
 import subprocess
 import sys
@@ -19,6 +20,12 @@ from edits import hindrance, names_in
 # Where a crate's sources stand, by their ending.
 PLACES = {".rt": ("src",), ".antt": ("specs", "proofs")}
 LEFT = shutil.ignore_patterns(".git", "out", "__pycache__")
+# How a definition of specs/ begins, at the left or in a mutual block.
+DEFINITION = re.compile(r"(?:(?:abbrev|unfoldable) pub|pub (?:data|record)) (\S+)")
+INNER = re.compile(r"  pub (?:(?:data|record) )?(\S+)")
+# How a comment says that what stands below is own, and how it names a section.
+OWN = re.compile(r"\(own[;)]|[;,] own\)")
+SECTION = re.compile(r"\d\.\d|\(\d+[,;)]|RFC \d")
 
 
 def misplaced(top):
@@ -45,6 +52,36 @@ def badly_laid(top):
                 yield f"crates/{crate}: {line}"
 
 
+def untold(path, name):
+    """The definitions of a file that have no comment, or whose comment names no section and says nothing of own."""
+    with open(path, encoding="utf-8") as file:
+        lines = file.read().split("\n")
+    own, mutual = lines[0].startswith("--") and OWN.search(lines[0]), False
+    for number, line in enumerate(lines):
+        if line[:1].strip() and not line.startswith("--"):
+            mutual = line.split()[-1] == "mutual"
+        found = DEFINITION.match(line) or (mutual and INNER.match(line))
+        if not found:
+            continue
+        first = number
+        while first and lines[first - 1].lstrip().startswith("--"):
+            first -= 1
+        told = " ".join(lines[first:number]).replace("YAML 1.2.2", "")
+        if not told:
+            yield f"{name}:{number + 1}: {found.group(1)} has no comment"
+        elif not (own or OWN.search(told) or SECTION.search(told)):
+            yield f"{name}:{number + 1}: the comment of {found.group(1)} names no section and doesn't say own"
+
+
+def untold_definitions(top):
+    """Definitions of all crates without a comment, or without a section or own in it or in the first line of their file."""
+    for crate in libraries():
+        room = os.path.join("crates", crate, "specs")
+        for name in sorted(os.listdir(os.path.join(top, room))) if os.path.isdir(os.path.join(top, room)) else ():
+            if name.endswith(".antt"):
+                yield from untold(os.path.join(top, room, name), os.path.join(room, name))
+
+
 def not_applied():
     """Wrong bodies that can't be applied to the code as it stands."""
     for crate in libraries():
@@ -63,7 +100,7 @@ def main(words):
     try:
         copy = os.path.join(room, "copy")
         shutil.copytree(ROOT, copy, symlinks=True, ignore=LEFT)
-        found = [*misplaced(copy), *badly_laid(copy), *not_applied()]
+        found = [*misplaced(copy), *badly_laid(copy), *untold_definitions(copy), *not_applied()]
     finally:
         shutil.rmtree(room, ignore_errors=True)
     for it in found:

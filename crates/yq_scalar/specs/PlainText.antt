@@ -28,7 +28,7 @@ abbrev pub no_rest : (List ℕ → Bool) → List ℕ → Bool
 no_rest test [] = true
 no_rest test (b ∷ bs) = not (test (b ∷ bs)) && no_rest test bs
 
--- the plain key `<<`, which would merge mappings (YAML 1.2.2, section 10.2.1, and the merge key's type)
+-- the plain key `<<`, with which the merge key of YAML 1.1 merges mappings (own)
 abbrev pub is_merge : List ℕ → Bool
 is_merge (a ∷ b ∷ []) = a == 60 && b == 60
 is_merge _ = false
