@@ -13,7 +13,7 @@ use Rattle.yq_lines.specs.Bodies.{under_of}
 use Rattle.yq_lines.specs.Outline as outline
 use Rattle.yq_lines.specs.Outline.{Line}
 
--- those of lines (own)
+-- items or entries that are left on lines (own)
 abbrev pub lines_rest : Under → rests.Rest
 lines_rest under = rests.TheVariants.Lines under
 

@@ -29,11 +29,11 @@ kept_by p (mapping parts) = Some p
 abbrev pub kept : Placed → Option Placed
 kept (placed a s c e f) = kept_by (placed a s c e f) f
 
--- the one in front, at the end of a text (own)
+-- the alias or flow collection in front, at the end of a text (own)
 abbrev pub node_flow_at : List ℕ → ℤ → List ℕ → Option Placed
 node_flow_at whole n t = inline_at places.Block n 0 (length whole - length t) whole >>= kept
 
--- the one that a head is that is written so, with what follows it, at the end of a text (own)
+-- the alias or flow collection that a head is that is written so, with what follows it, at the end of a text (own)
 unfoldable pub head_flow_at : List ℕ → ℤ → List ℕ → List ℕ → Option Placed
 head_flow_at whole n head t =
     if is_empty head then None
@@ -72,7 +72,7 @@ rows_flows total (r ∷ rs) rest = row_flows total r (rows_text rs rest) ++ rows
 abbrev pub part_flows : ℕ → Part → List ℕ → List (Option Placed)
 part_flows total p rest = rows_flows total p.rows (p.end ++ rest)
 
--- those of a part, if it is a document, before those of others (own)
+-- the aliases and flow collections of a part, if it is a document, before those of others (own)
 abbrev pub with_flows : Bool → List (Option Placed) → List (List (Option Placed)) → List (List (Option Placed))
 with_flows true fs others = fs ∷ others
 with_flows false fs others = others
@@ -91,10 +91,10 @@ parts_flows total is (p ∷ ps) = with_flows is (part_flows total p.0 (p.1 ++ pa
 abbrev pub document_flows : ℕ → Cut → List (List (Option Placed))
 document_flows total c = cut_flows total (begins_bare c || not (has_begin c)) c
 
--- those of the lines of documents of the code (own)
+-- the aliases and flow collections in the lines of documents of the code (own)
 abbrev pub lines_flows : List DocumentLines → List (List (Option Placed))
 lines_flows ds = map (λ d. flows d.lines) ds
 
--- those of the lines of parts of the code (own)
+-- the aliases and flow collections in the lines of parts of the code (own)
 abbrev pub parts_lines_flows : List PartLines → List (List (Option Placed))
 parts_lines_flows ps = map (λ p. flows p.lines.items) ps

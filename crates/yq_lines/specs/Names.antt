@@ -11,7 +11,7 @@ abbrev pub head_names : Option Node → List Name
 head_names None = []
 head_names (Some h) = names_of h
 
--- those of lines
+-- the anchors and aliases of lines, in the order of the text
 abbrev pub line_names : List Line → List Name
 line_names [] = []
 line_names (l ∷ ls) = with_anchor l.anchor (head_names l.head ++ line_names ls)

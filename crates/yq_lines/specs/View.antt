@@ -42,6 +42,6 @@ head_flow heads.TheVariants.Nothing = None
 head_flow (heads.TheVariants.Scalar kind t) = None
 head_flow (heads.TheVariants.Inline node) = Some (inline.view node.value)
 
--- those of lines of the code (own)
+-- the aliases and flow collections that heads of lines of the code keep apart (own)
 abbrev pub flows : List declared.Line → List (Option Placed)
 flows ls = map (λ l. head_flow l.head) ls
