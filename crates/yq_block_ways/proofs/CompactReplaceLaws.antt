@@ -10,7 +10,7 @@ use Rattle.yq_scalar.specs.declared.block_written.Break.TheVariants.{Lf, CrLf}
 use Rattle.yq_scalar.proofs.Bools.{bind_some}
 use Rattle.yq_flow.specs.Valued.{IsValueTree}
 use Rattle.yq_inline.proofs.WrittenLaws.{node_then}
-use Rattle.yq_lines.specs.Anchors.{names_of}
+use Rattle.yq_scalar.specs.Anchors.{names_of}
 use Rattle.yq_lines.specs.Comments as comments
 use Rattle.yq_lines.specs.Places.{content}
 use Rattle.yq_lines.proofs.Finding.{FoundNode, path_node}

@@ -27,7 +27,7 @@ use Rattle.yq_inline.specs.Nodes.{node_text, is_bare, IsNode}
 use Rattle.yq_inline.specs.Trees.{node_anchor}
 use Rattle.yq_flow.specs.Valued.{IsValueTree}
 use Rattle.yq_inline.proofs.WrittenLaws.{node_then}
-use Rattle.yq_lines.specs.Anchors.{names_of}
+use Rattle.yq_scalar.specs.Anchors.{names_of}
 use Rattle.yq_lines.specs.Comments.{line_comment as comment_in}
 use Rattle.yq_rows.specs.Exchange.{row_front}
 use Rattle.yq_rows.specs.Gap.{IsWhite}

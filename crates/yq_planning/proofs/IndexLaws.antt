@@ -13,7 +13,7 @@ use Rattle.std.specs.Ordering.{nat_cmp}
 use Rattle.yq_scalar.specs.Paths.{To, child_at, key_is}
 use Rattle.yq_scalar.specs.Tree as tree
 use Rattle.yq_scalar.specs.Tree.{Label, Node, Children, none}
-use Rattle.yq_lines.specs.Anchors.{Name, names_of}
+use Rattle.yq_scalar.specs.Anchors.{Name, names_of}
 use Rattle.yq_meaning.specs.Changes.{refers_to}
 use Rattle.yq_planning.specs.EntryNumbers.{number_kept}
 use Rattle.yq_planning.specs.Indexes.{text_at, HasAliases, kept_first, or_first}

@@ -7,7 +7,7 @@ use Rattle.std.specs.List.{list_any}
 use Rattle.std.specs.Ordering.{nat_cmp}
 use Rattle.yq_scalar.specs.Paths.{To, child_at, key_is}
 use Rattle.yq_scalar.specs.Tree.{Label, Node, Children}
-use Rattle.yq_lines.specs.Anchors.{Name}
+use Rattle.yq_scalar.specs.Anchors.{Name}
 use Rattle.yq_documents.specs.Nodes.{node_of}
 use Rattle.yq_documents.specs.declared.nodes.node.Node as nodes
 use Rattle.yq_meaning.specs.Changes.{refers_to}
