@@ -3,6 +3,7 @@ use Rattle.std.proofs.Common.{◌≡◌, ◌≢◌, ◌⊎◌, inl, inr, ℕ, Bo
 use Rattle.std.specs.FinMap.{get}
 use Rattle.std.specs.Str.{bytes_eq}
 use Rattle.std.proofs.lemmas.Slice.Eq.{bytes_eq-Decides}
+use Rattle.std.specs.Option.{option_or}
 use Rattle.yq_program.specs.Program.{Program}
 use Rattle.yq_script.specs.Patch.{Change}
 use Rattle.yq_journal.specs.declared.fault.JournalError.{JournalError}
@@ -13,7 +14,7 @@ use Rattle.yq_journal.specs.declared.moves.Move.{Move}
 use Rattle.yq_journal.specs.declared.moves.Move.TheVariants as move
 use Rattle.yq_journal.specs.Good.{journal_beside}
 use Rattle.yq_journal.specs.Record.{Patch}
-use Rattle.yq_journal.specs.Refusals.{Names, Tells, most_records, no_way, or_else, if_moves, way_fault, squash_fault}
+use Rattle.yq_journal.specs.Refusals.{Names, Tells, most_records, no_way, if_moves, way_fault, squash_fault}
 use Rattle.yq_journal.specs.State.{State, moved, moved_text, settled, squashed}
 use Rattle.yq_commands.specs.declared.fault.Fault.{Fault}
 use Rattle.yq_commands.specs.declared.fault.Fault.TheVariants as fault
@@ -70,7 +71,7 @@ way_free records at step t u z free is =
 
 -- and one that doesn't is refused for the first cause
 pub way_barred : (records : List Patch) (at : ℕ) (step : Move) (t : List ℕ) (z : State) (y : JournalFault) → way_fault records at step t ≡ Some y → goes_to (no_way records at step) (moved_text records at step t) z ≡ refuses (named (of_fault y))
-way_barred records at step t z y is = elim (no_way records at step) as (λ o. or_else o (if_moves (moved_text records at step t)) ≡ Some y → goes_to o (moved_text records at step t) z ≡ refuses (named (of_fault y))) [
+way_barred records at step t z y is = elim (no_way records at step) as (λ o. option_or o (if_moves (moved_text records at step t)) ≡ Some y → goes_to o (moved_text records at step t) z ≡ refuses (named (of_fault y))) [
   | None ↦ λ e. elim (moved_text records at step t) as (λ o. if_moves o ≡ Some y → leads_to o z ≡ refuses (named (of_fault y))) [
     | None ↦ λ p. ap (λ x. refuses (named (of_fault x))) (some_fault journal.DoesNotStand y p)
     | Some u ↦ λ p. no_fault y p

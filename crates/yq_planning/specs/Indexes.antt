@@ -28,8 +28,3 @@ HasAliases names m = (k : List ℕ) → is_some (text_at k m) ≡ list_any (refe
 abbrev pub kept_first : List ℕ → Option Node → Label → Node → Option Node
 kept_first k (Some old) label n = Some old
 kept_first k None label n = if key_is k label.key then Some n else None
-
--- what is kept, or what comes (own)
-abbrev pub or_first : {A : Type 0} → Option A → Option A → Option A
-or_first (Some old) new = Some old
-or_first None new = new
