@@ -5,7 +5,7 @@ use Rattle.std.specs.Str.{bytes_eq}
 use Rattle.std.proofs.lemmas.Slice.Eq.{bytes_eq-Decides}
 use Rattle.std.specs.Option.{option_or}
 use Rattle.yq_program.specs.Program.{Program}
-use Rattle.yq_script.specs.Patch.{Change}
+use Rattle.yq_script.specs.Patch.{Splice}
 use Rattle.yq_journal.specs.declared.fault.JournalError.{JournalError}
 use Rattle.yq_journal.specs.declared.fault.JournalError.TheVariants as error
 use Rattle.yq_journal.specs.declared.fault.JournalFault.{JournalFault}
@@ -210,14 +210,14 @@ module _ (f j : List ℕ) (c : Content) (expr : List ℕ) (s : State) (t : List 
       ] refl)
 
   -- the edited text is the old one: nothing is written
-  pub edit_equal_works : (o : Outcome) (u : List ℕ) (cs : List Change) {T : Type 0} (v : T) → o ≡ edited u cs → u ≡ t → Works (edit_effect expr o t s) f j c c {T = T} (Ok v)
+  pub edit_equal_works : (o : Outcome) (u : List ℕ) (cs : List Splice) {T : Type 0} (v : T) → o ≡ edited u cs → u ≡ t → Works (edit_effect expr o t s) f j c c {T = T} (Ok v)
   edit_equal_works o u cs {T = T} v is same =
       subst (λ x. Works x f j c c {T = T} (Ok v))
       (sym (ap (λ x. edit_effect expr x t s) is ∙ ap (λ b. if b then writes_nothing else if nat_le most_records s.at then refuses (named fault.JournalFull) else leaves u (moved s (move.Edit (edit_record expr cs (length t) (length u))))) ((bytes_eq-Decides u t).1 same)))
       refl
 
   -- an edit to another text is a move
-  module _ (o : Outcome) (u : List ℕ) (cs : List Change) (edit : Patch) (is_edit : edit ≡ edit_record expr cs (length t) (length u)) (is : o ≡ edited u cs) (changes : u ≢ t) (leads : moved_text s.records s.at (move.Edit edit) t ≡ Some u) where
+  module _ (o : Outcome) (u : List ℕ) (cs : List Splice) (edit : Patch) (is_edit : edit ≡ edit_record expr cs (length t) (length u)) (is : o ≡ edited u cs) (changes : u ≢ t) (leads : moved_text s.records s.at (move.Edit edit) t ≡ Some u) where
     by_room : (b : Bool) → (if b then refuses (named fault.JournalFull) else leaves u (moved s (move.Edit (edit_record expr cs (length t) (length u))))) ≡ goes_to (if b then Some journal.JournalFull else None) (Some u) (moved s (move.Edit edit))
     by_room true = refl
     by_room false = ap (λ r. leaves u (moved s (move.Edit r))) (sym is_edit)
