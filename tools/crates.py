@@ -68,8 +68,15 @@ def build(crate, *words):
     return done.returncode == 0
 
 
-def took(began):
-    """What this process and those that it started took, since a time by the clock."""
+def kept_by_host():
+    """The processor seconds that the host of a virtual machine gave to others since the machine's start; 0 where it doesn't tell."""
+    return (number_in("/proc/stat", r"^cpu +(?:\d+ +){7}(\d+)") or 0) / os.sysconf("SC_CLK_TCK")
+
+
+def took(began, kept):
+    """What this process and those that it started took, since a time by the clock at which the host had kept so many processor seconds."""
     used = [resource.getrusage(it) for it in (resource.RUSAGE_SELF, resource.RUSAGE_CHILDREN)]
     seconds = sum(it.ru_utime + it.ru_stime for it in used)
-    return f"took {seconds:.0f} processor seconds (user and system), {time.monotonic() - began:.0f} s by the clock"
+    told = f"took {seconds:.0f} processor seconds (user and system), {time.monotonic() - began:.0f} s by the clock"
+    kept = kept_by_host() - kept
+    return f"{told}; the machine's host kept {kept:.0f} processor seconds from it" if kept >= 1 else told

@@ -17,13 +17,13 @@ import sys
 import threading
 import time
 
-from crates import ROOT, RT, libraries, took
+from crates import ROOT, RT, kept_by_host, libraries, took
 from reasons import Reasons
 from watch import EDITS, PROOF, TESTS, Watch
 
 KINDS = PROOF, TESTS, EDITS
 VERDICT = re.compile(r"rt: (\w+)(: its tests are)? (NOT PROVED|proved)")
-BEGAN = time.monotonic()
+BEGAN, KEPT = time.monotonic(), kept_by_host()
 
 
 def say(text):
@@ -132,7 +132,7 @@ def main(words):
             say(line)
         status, last = run_program(words[0])
         end = [last or f"tests/cli said nothing, and ended with status {status}"]
-    say(took(BEGAN))
+    say(took(BEGAN, KEPT))
     for line in end:
         say(line)
     return status if status >= 0 else 128 - status

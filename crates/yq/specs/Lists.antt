@@ -16,7 +16,7 @@ use Rattle.yq_store.specs.Content.{Content}
 use Rattle.yq_commands.specs.Effects.{OfEffect, Tells}
 use Rattle.yq_commands.specs.Faults.{is_failure, is_outside, is_output}
 use Rattle.yq_program.specs.Program.{Program}
-use Rattle.yq_script.specs.Patch.{Change}
+use Rattle.yq_script.specs.Patch.{Splice}
 use Rattle.yq_commands.specs.Editing.{program_in, edits, edited}
 use Rattle.yq_commands.specs.Pair.{HasLast}
 use Rattle.yq_commands.specs.Prints.{shown_of, prints}

@@ -6,7 +6,8 @@ use Rattle.yq_inline.specs.Nodes as inline
 use Rattle.yq_flow.specs.Valued.{IsValueTree, AreValueTrees}
 use Rattle.yq_rows.specs.Rows as rows
 use Rattle.yq_rows.specs.Rows.{Row}
-use Rattle.yq_lines.specs.Anchors.{names_of, names_in, AreBound, HaveOneAnchorEach}
+use Rattle.yq_scalar.specs.Anchors.{names_of, names_in, AreBound}
+use Rattle.yq_lines.specs.Anchors.{HaveOneAnchorEach}
 use Rattle.yq_documents.specs.Documents.{MarkIsFit, ContentHasFitKeys, HaveFitKeys}
 use Rattle.yq_documents.specs.Lines.{content_anchor, lines_from, lines_of}
 use Rattle.yq_lines.specs.Outline.{Line}

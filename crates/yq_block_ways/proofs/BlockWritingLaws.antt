@@ -9,7 +9,7 @@ use Rattle.yq_scalar.specs.Tree as tree
 use Rattle.yq_scalar.specs.Tree.{Node}
 use Rattle.yq_scalar.proofs.Bools.{and_true, guard_then, or_false}
 use Rattle.yq_flow.specs.Valued.{IsValueTree}
-use Rattle.yq_lines.specs.Anchors.{names_of}
+use Rattle.yq_scalar.specs.Anchors.{names_of}
 use Rattle.yq_lines.specs.Comments.{line_comment as comment_in}
 use Rattle.yq_lines.specs.Places.{Found, content}
 use Rattle.yq_lines.proofs.Finding.{FoundNode, path_node}

@@ -7,7 +7,7 @@ use Rattle.yq_scalar.specs.Tree.{Node}
 use Rattle.yq_scalar.proofs.Bools.{bind_some}
 use Rattle.yq_flow.specs.Valued.{IsValueTree}
 use Rattle.yq_inline.proofs.WrittenLaws.{node_then}
-use Rattle.yq_lines.specs.Anchors.{names_of}
+use Rattle.yq_scalar.specs.Anchors.{names_of}
 use Rattle.yq_lines.specs.Comments as comments
 use Rattle.yq_lines.specs.Places.{content}
 use Rattle.yq_lines.proofs.Finding.{FoundNode, path_node}
@@ -42,9 +42,9 @@ use Rattle.yq_meaning.specs.Changes.{is_used_inside}
 use Rattle.yq_meaning.specs.Fits.{Fits}
 use Rattle.yq_meaning.specs.Operations.{Operation, replace, append, remove, line_comment, head_comment}
 use Rattle.yq_meaning.specs.Rooms.{room_of}
-use Rattle.yq_script.specs.Script.{Segment, old_text, new_text}
+use Rattle.yq_script.specs.Script.{Segment, old_text, new_text, text_before}
 use Rattle.yq_block_ways.specs.BlockWriting.{below_mark, lines_below}
-use Rattle.yq_block_ways.specs.CollectionReplacing.{LinesUnder, Written, beside_mark, exchange_segments, lines_under, lines_upto, replace_collection_way, up_to, written_of, written_there}
+use Rattle.yq_block_ways.specs.CollectionReplacing.{LinesUnder, Written, beside_mark, exchange_segments, lines_under, lines_upto, replace_collection_way, written_of, written_there}
 use Rattle.yq_ways.specs.Done.{ArePieces}
 use Rattle.yq_ways.specs.Layouts.{layout_of}
 use Rattle.yq_ways.specs.Operands.{HasOperand}
@@ -98,7 +98,7 @@ module _ (doc : ℕ) (s : Step) (ss : List Step) (c : Cut) (w : MarkPlace) (x : 
   -- the old text
   old_there : (y : Written) → old_text (exchange_segments u y) ≡ cut_text c
   old_there y =
-      let own : List ℕ = up_to (there doc s ss c w x read at ends).behind x.behind in
+      let own : List ℕ = text_before (there doc s ss c w x read at ends).behind x.behind in
       let parts : front ++ (t.white ++ (t.comment ++ (less_break own ++ (last_break own ++ (x.behind ++ []))))) ≡ front ++ (t.white ++ (t.comment ++ ((less_break own ++ last_break own) ++ x.behind))) = simp (append_assoc, append-nil) refl in
       parts ∙ (ap (λ o. front ++ (t.white ++ (t.comment ++ (o ++ x.behind)))) (less_is own) ∙ sym (parted doc s ss c w x read at ends))
 
@@ -111,7 +111,7 @@ module _ (doc : ℕ) (s : Step) (ss : List Step) (c : Cut) (w : MarkPlace) (x : 
   new_pieces : (y : Written) → IsPiece y.beside → IsPiece y.below → ArePieces (exchange_segments u y)
   new_pieces y beside below =
       let k = end_pieces doc s ss c w x read at ends in
-      (k.before, (no_text, (beside, (k.white, (piece_back t.white t.comment k.white.utf8 k.line, (below, (break_is_piece last (last_is (up_to (there doc s ss c w x read at ends).behind x.behind)), ((kept_pieces doc (s ∷ ss) c x read ends).1, tt))))))))
+      (k.before, (no_text, (beside, (k.white, (piece_back t.white t.comment k.white.utf8 k.line, (below, (break_is_piece last (last_is (text_before (there doc s ss c w x read at ends).behind x.behind)), ((kept_pieces doc (s ∷ ss) c x read ends).1, tt))))))))
 
   -- the end of the last line
   abbrev last_tail : IsTail last z

@@ -51,7 +51,7 @@ use Rattle.yq_change.proofs.TextPieceLaws.{text_is_piece}
 use Rattle.yq_change.proofs.UnderLaws.{is_mark, line_is}
 use Rattle.yq_change.proofs.PartLaws.{document_known}
 use Rattle.yq_block.specs.BlockPlaces.{at_mark}
-use Rattle.yq_block_ways.specs.CollectionReplacing.{up_to}
+use Rattle.yq_script.specs.Script.{text_before}
 use Rattle.yq_ways.proofs.BreakLaws.{IsLfOrCrLf, break_is, last_is}
 use Rattle.yq_ways.proofs.BrokenTails.{comment_other}
 use Rattle.yq_ways.proofs.CommentRowLaws.{count_front, found_text, IsFound, line_whole, row_found}
@@ -144,7 +144,7 @@ last_ends own rest (inr none) = go (last_is own)
 regroup : (p l w k b m : List ℕ) → p ++ (l ++ ((w ++ (k ++ b)) ++ m)) ≡ (p ++ (l ++ (w ++ k))) ++ (b ++ m)
 regroup p l w k b m = simp append_assoc refl
 
-pub front_of : (t a b : List ℕ) → t ≡ a ++ b → up_to t b ≡ a
+pub front_of : (t a b : List ℕ) → t ≡ a ++ b → text_before t b ≡ a
 front_of t a b e = let n : length t - length b ≡ length a = omega (arith, ap length e, length-append a b) in (λ i. take (n i) (e i)) ∙ take-append_seam a b
 
 -- The text before the end of a line, its white space, and that with its comment are pieces.
@@ -352,7 +352,7 @@ module _ (doc : ℕ) (s : Step) (ss : List Step) (c : Cut) (w : MarkPlace) (x : 
 
   -- ---- the lines that go
 
-  pub lines_are : up_to there.behind x.behind ≡ tail.line.break ++ rows_text reach.0 []
+  pub lines_are : text_before there.behind x.behind ≡ tail.line.break ++ rows_text reach.0 []
   lines_are = front_of (tail.line.break ++ rest) (tail.line.break ++ rows_text reach.0 []) x.behind (ap (λ l. tail.line.break ++ l) rest_is ∙ sym (append_assoc tail.line.break (rows_text reach.0 []) x.behind))
 
   under_is : lines_of reach.0 ≡ flatten un.found.under
@@ -406,9 +406,9 @@ module _ (doc : ℕ) (s : Step) (ss : List Step) (c : Cut) (w : MarkPlace) (x : 
 
   -- the break of the last line
   abbrev pub last : List ℕ
-  last = last_break (up_to (tail.line.break ++ rest) x.behind)
+  last = last_break (text_before (tail.line.break ++ rest) x.behind)
 
-  pub last_ends_line : IsBreak (last_break (up_to (tail.line.break ++ rest) x.behind)) (rows_text col.back (f.s.part.end ++ behind_document doc c))
+  pub last_ends_line : IsBreak (last_break (text_before (tail.line.break ++ rest) x.behind)) (rows_text col.back (f.s.part.end ++ behind_document doc c))
   last_ends_line = subst (IsBreak last) behind_is (subst (λ own. IsBreak (last_break own) x.behind) (sym lines_are) (last_ends (tail.line.break ++ rows_text reach.0 []) x.behind own_ended))
 
   -- the whole text
@@ -418,7 +418,7 @@ module _ (doc : ℕ) (s : Step) (ss : List Step) (c : Cut) (w : MarkPlace) (x : 
       found_text c _ row_there.0 f.at
       ∙ (sym (ap (λ (q : PlacedRow). q.before ++ print_row q.row q.behind) f.is) ∙ (line_whole own ∙ (λ i. front_is i ++ more_is i)))
 
-  pub parted : cut_text c ≡ front_text ++ (tail.white ++ (tail.comment ++ (up_to there.behind x.behind ++ x.behind)))
+  pub parted : cut_text c ≡ front_text ++ (tail.white ++ (tail.comment ++ (text_before there.behind x.behind ++ x.behind)))
   parted =
       let own : List ℕ = rows_text reach.0 [] in
       let parts : (tail.white ++ (tail.comment ++ tail.line.break)) ++ (own ++ x.behind) ≡ tail.white ++ (tail.comment ++ ((tail.line.break ++ own) ++ x.behind)) = simp append_assoc refl in

@@ -10,7 +10,7 @@ use Rattle.yq_scalar.specs.declared.block_written.Break.TheVariants.{Lf, CrLf}
 use Rattle.yq_scalar.proofs.Bools.{bind_some}
 use Rattle.yq_flow.specs.Valued.{IsValueTree}
 use Rattle.yq_inline.proofs.WrittenLaws.{node_then}
-use Rattle.yq_lines.specs.Anchors.{names_of}
+use Rattle.yq_scalar.specs.Anchors.{names_of}
 use Rattle.yq_lines.specs.Comments as comments
 use Rattle.yq_lines.specs.Places.{content}
 use Rattle.yq_lines.proofs.Finding.{FoundNode, path_node}
@@ -46,9 +46,8 @@ use Rattle.yq_meaning.specs.Changes.{is_used_inside}
 use Rattle.yq_meaning.specs.Fits.{Fits}
 use Rattle.yq_meaning.specs.Operations.{Operation, replace, append, remove, line_comment, head_comment}
 use Rattle.yq_meaning.specs.Rooms.{room_of}
-use Rattle.yq_script.specs.Script.{Segment, old_text, new_text}
+use Rattle.yq_script.specs.Script.{Segment, old_text, new_text, text_before}
 use Rattle.yq_block_ways.specs.BlockWriting.{behind_space, lines_below}
-use Rattle.yq_block_ways.specs.CollectionReplacing.{up_to}
 use Rattle.yq_block_ways.specs.CompactReplacing.{CompactPlace, compact_place, compact_segments, compact_upto, filled_behind, replace_compact_way, value_behind}
 use Rattle.yq_ways.specs.Done.{ArePieces}
 use Rattle.yq_ways.specs.Layouts.{layout_of}
@@ -101,7 +100,7 @@ module _ (doc : ℕ) (s : Step) (ss : List Step) (c : Cut) (k : IsCompact doc s 
   p = compact_upto k.d k.x
 
   abbrev last : List ℕ
-  last = last_break (up_to k.d.behind k.x.behind)
+  last = last_break (text_before k.d.behind k.x.behind)
 
   abbrev z : List ℕ
   z = rowed.rest doc s ss c h
@@ -109,7 +108,7 @@ module _ (doc : ℕ) (s : Step) (ss : List Step) (c : Cut) (k : IsCompact doc s 
   -- the old text
   pub old_there : (t : List ℕ) → old_text (compact_segments p t) ≡ cut_text c
   old_there t =
-      let own : List ℕ = up_to k.d.behind k.x.behind in
+      let own : List ℕ = text_before k.d.behind k.x.behind in
       let parts : k.d.before ++ (less_break own ++ (last_break own ++ (k.x.behind ++ []))) ≡ k.d.before ++ ((less_break own ++ last_break own) ++ k.x.behind) = simp (append_assoc, append-nil) refl in
       parts
       ∙ (ap (λ o. k.d.before ++ (o ++ k.x.behind)) (less_is own ∙ inner_is doc s ss c k)
@@ -123,7 +122,7 @@ module _ (doc : ℕ) (s : Step) (ss : List Step) (c : Cut) (k : IsCompact doc s 
       (last_cut 45 e.0 k.d.behind (omega arith) refl (subst (λ b. IsPiece (b ++ k.d.behind)) e.1 (subst IsPiece (whole_text doc s ss c k) (text_is_piece c k.read)))).0
 
   new_pieces : (t : List ℕ) → IsPiece t → ArePieces (compact_segments p t)
-  new_pieces t piece = (front_piece, (piece, (break_is_piece last (last_is (up_to k.d.behind k.x.behind)), ((kept_pieces doc (s ∷ ss) c k.x k.read k.ends).1, tt))))
+  new_pieces t piece = (front_piece, (piece, (break_is_piece last (last_is (text_before k.d.behind k.x.behind)), ((kept_pieces doc (s ∷ ss) c k.x k.read k.ends).1, tt))))
 
   -- the end of the last line
   abbrev last_tail : IsTail last z

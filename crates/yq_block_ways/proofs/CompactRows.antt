@@ -35,7 +35,7 @@ use Rattle.yq_change.proofs.MovedLaws.{lines_append}
 use Rattle.yq_change.proofs.NodeLineLaws.{Under, before_under, lines_found}
 use Rattle.yq_change.proofs.PathLaws.{seat_number}
 use Rattle.yq_block.specs.BlockPlaces.{IsUpto, at_dash}
-use Rattle.yq_block_ways.specs.CollectionReplacing.{up_to}
+use Rattle.yq_script.specs.Script.{text_before}
 use Rattle.yq_block_ways.proofs.CollectionRows.{front_of, last_ends, rows_reach, suffix_lf, value_unnamed}
 use Rattle.yq_ways.proofs.CommentRowLaws.{count_front, found_text, IsFound, row_found}
 use Rattle.yq_block_ways.proofs.MarkRowLaws.{line_found}
@@ -219,7 +219,7 @@ module _ (doc : ℕ) (s : Step) (ss : List Step) (c : Cut) (k : IsCompact doc s 
   pub ends_in : k.d.behind ≡ inner ++ k.x.behind
   ends_in = ap (λ (q : DashPlace). q.behind) (sym told.1) ∙ (ap behind_it rest_is ∙ then_more (rows_text reach.0 []) k.x.behind)
 
-  pub inner_is : up_to k.d.behind k.x.behind ≡ inner
+  pub inner_is : text_before k.d.behind k.x.behind ≡ inner
   inner_is = front_of k.d.behind inner k.x.behind ends_in
 
   pub whole_text : cut_text c ≡ k.d.before ++ k.d.behind
@@ -262,7 +262,7 @@ module _ (doc : ℕ) (s : Step) (ss : List Step) (c : Cut) (k : IsCompact doc s 
       go (inr none) = inr none
       go (inl lf) = inl (suffix_lf (rows_text front [] ++ row_front mark) (behind_it (rows_text reach.0 [])) (subst IsLf (ap (λ (rs : List Row). rows_text rs []) (sym col.front_is) ∙ upto_text) lf) inner_some)
 
-  pub last_ends_line : IsBreak (last_break (up_to k.d.behind k.x.behind)) (rows_text col.back (f.s.part.end ++ behind_document doc c))
+  pub last_ends_line : IsBreak (last_break (text_before k.d.behind k.x.behind)) (rows_text col.back (f.s.part.end ++ behind_document doc c))
   last_ends_line =
       subst (λ t. IsBreak (last_break t) (rows_text col.back (f.s.part.end ++ behind_document doc c))) (sym inner_is)
       (subst (IsBreak (last_break inner)) behind_is (last_ends (behind_it (rows_text reach.0 [])) k.x.behind inner_ended))

@@ -27,13 +27,12 @@ use Rattle.yq_inline.specs.Nodes.{node_text, is_bare, IsNode}
 use Rattle.yq_inline.specs.Trees.{node_anchor}
 use Rattle.yq_flow.specs.Valued.{IsValueTree}
 use Rattle.yq_inline.proofs.WrittenLaws.{node_then}
-use Rattle.yq_lines.specs.Anchors.{names_of}
+use Rattle.yq_scalar.specs.Anchors.{names_of}
 use Rattle.yq_lines.specs.Comments.{line_comment as comment_in}
 use Rattle.yq_rows.specs.Exchange.{row_front}
 use Rattle.yq_rows.specs.Gap.{IsWhite}
-use Rattle.yq_rows.specs.Grammar.{IsAnchor, IsMark, IsTail, is_more, limit_after}
+use Rattle.yq_rows.specs.Grammar.{IsAnchor, IsMark, IsTail, is_more, limit_after, ends_part}
 use Rattle.yq_rows.specs.Rows.{Anchor, Content, Block, Inline, anchor_text, Row, parent_indent, rows_text, Part, Cut, cut_text}
-use Rattle.yq_rows.specs.Seams.{ends_part}
 use Rattle.yq_rows.specs.View.{slices}
 use Rattle.yq_rows.proofs.NodeExchange.{mark_apart, space_apart}
 use Rattle.yq_rows.proofs.splices.PartPlaces.{part_ends}

@@ -10,7 +10,7 @@ use Rattle.yq_tree.specs.PrintedLines.{less_break, last_break}
 use Rattle.yq_block.specs.declared.layout.Layout.{Layout}
 use Rattle.yq_block.specs.BlockReading.{is_filled}
 use Rattle.yq_meaning.specs.Operations.{replace, append, remove, line_comment, head_comment}
-use Rattle.yq_script.specs.Script.{Segment, keep, put}
+use Rattle.yq_script.specs.Script.{Segment, keep, put, text_before}
 use Rattle.yq_block_ways.specs.BlockWriting.{below_mark, lines_below}
 use Rattle.yq_ways.specs.Layouts.{layout_of}
 use Rattle.yq_ways.specs.Replacing.{value_written}
@@ -23,17 +23,13 @@ pub record LinesUnder : Type 0 where
   pub break : List ℕ
   pub behind : List ℕ
 
--- a text up to the rest in which it ends
-abbrev pub up_to : List ℕ → List ℕ → List ℕ
-up_to t rest = take (length t - length rest) t
-
 -- a text ends in a rest
 abbrev pub EndsIn : List ℕ → List ℕ → Type 0
 EndsIn t rest = (own : List ℕ) × (t ≡ own ++ rest)
 
 -- the lines from the end of the line of a key or dash to the end of a collection
 abbrev pub lines_upto : MarkPlace → CollectionEnd → LinesUnder
-lines_upto w x = let t = up_to w.behind x.behind in record { mark = w; gone = less_break t; break = last_break t; behind = x.behind }
+lines_upto w x = let t = text_before w.behind x.behind in record { mark = w; gone = less_break t; break = last_break t; behind = x.behind }
 
 -- the key or dash of the entry or item to which steps lead in document n, with its anchor, if one stands behind it, and with the lines of the block collection under it
 abbrev pub lines_under : ℕ → List Step → Cut → Option LinesUnder

@@ -11,9 +11,8 @@ use Rattle.yq_block.specs.declared.layout.Layout.{Layout}
 use Rattle.yq_block.specs.BlockReading.{is_filled}
 use Rattle.yq_block.specs.BlockRows.{item_column}
 use Rattle.yq_meaning.specs.Operations.{replace, append, remove, line_comment, head_comment}
-use Rattle.yq_script.specs.Script.{Segment, keep, put}
+use Rattle.yq_script.specs.Script.{Segment, keep, put, text_before}
 use Rattle.yq_block_ways.specs.BlockWriting.{behind_space, lines_below}
-use Rattle.yq_block_ways.specs.CollectionReplacing.{up_to}
 use Rattle.yq_ways.specs.Layouts.{layout_of}
 use Rattle.yq_ways.specs.Replacing.{value_written}
 use Rattle.yq_ways.specs.Ways.{Way}
@@ -27,7 +26,7 @@ pub record CompactPlace : Type 0 where
 
 -- a dash, with what stands behind it up to the end of a collection
 abbrev pub compact_upto : DashPlace → CollectionEnd → CompactPlace
-compact_upto d x = let t = up_to d.behind x.behind in record { dash = d; gone = less_break t; break = last_break t; behind = x.behind }
+compact_upto d x = let t = text_before d.behind x.behind in record { dash = d; gone = less_break t; break = last_break t; behind = x.behind }
 
 -- the dash of the item to which steps lead in document n, with the compact collection behind it
 abbrev pub compact_place : ℕ → List Step → Cut → Option CompactPlace

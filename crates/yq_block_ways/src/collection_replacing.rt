@@ -9,6 +9,7 @@ ghost use Rattle.yq_documents.specs.Reading.{cut_of};
 ghost use Rattle.yq_tree.specs.declared.places.collection_end.CollectionEnd.{CollectionEnd as CollectionEndOf};
 ghost use Rattle.yq_tree.specs.declared.places.mark_place.MarkPlace.{MarkPlace as MarkPlaceOf};
 ghost use Rattle.yq_meaning.specs.Operations.{operation_of};
+ghost use Rattle.yq_script.specs.Script.{text_before};
 ghost use Rattle.yq_block_ways.specs.CollectionReplacing as spec;
 ghost use Rattle.yq_ways.specs.WayAnswers.{Carries};
 
@@ -24,8 +25,8 @@ use yq_ways::{inline_written, layout_of};
 /// A text up to the rest in which it ends, less its last break, and that break.
 pub(crate) fn lines_upto<'d>(text: &'d str, rest: &str) -> (&'d str, &'d str)
     requires { spec.EndsIn text.now rest.now }
-    ensures gone { result.0.now ≡ lines.less_break (spec.up_to text.now rest.now) }
-    ensures last { result.1.now ≡ lines.last_break (spec.up_to text.now rest.now) }
+    ensures gone { result.0.now ≡ lines.less_break (text_before text.now rest.now) }
+    ensures last { result.1.now ≡ lines.last_break (text_before text.now rest.now) }
 {
     let (own, _) = text.split_at(text.len() - rest.len());
     split_break(own)

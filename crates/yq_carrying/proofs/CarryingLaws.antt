@@ -1,5 +1,6 @@
 -- The ways carry operations out.
 use Rattle.std.proofs.Common.{◌≡◌, List, Option, Some, None}
+use Rattle.std.specs.Option.{option_or}
 use Rattle.yq_rows.specs.Rows.{cut_text}
 use Rattle.yq_script.specs.Script.{Segment, old_text, new_text}
 use Rattle.yq_ways.specs.AppendWay.{append_way}
@@ -16,7 +17,7 @@ use Rattle.yq_root_ways.specs.RootWriting.{root_way}
 use Rattle.yq_block_ways.specs.ScalarCollection.{scalar_collection_way}
 use Rattle.yq_block_ways.specs.ScalarLiteral.{scalar_literal_way}
 use Rattle.yq_block_ways.specs.ScalarReplacing.{scalar_line_way}
-use Rattle.yq_ways.specs.Ways.{Way, ReadsAfter, IsWay, first_some, or_else}
+use Rattle.yq_ways.specs.Ways.{Way, ReadsAfter, IsWay, or_else}
 use Rattle.yq_ways.proofs.AppendWayLaws.{append_is}
 use Rattle.yq_block_ways.proofs.BlockWritingLaws.{replace_block_is}
 use Rattle.yq_block_ways.proofs.CollectionReplaceLaws.{replace_collection_is}
@@ -36,7 +37,7 @@ use Rattle.yq_block_ways.proofs.ScalarLiteralLaws.{scalar_literal_is}
 use Rattle.yq_flow_ways.proofs.SoleLaws.{sole_is}
 
 -- what follows from either of two follows from the first that there is
-by_either : (x y : Option (List Segment)) (ss : List Segment) (R : Type 0) → (x ≡ Some ss → R) → (y ≡ Some ss → R) → first_some x y ≡ Some ss → R
+by_either : (x y : Option (List Segment)) (ss : List Segment) (R : Type 0) → (x ≡ Some ss → R) → (y ≡ Some ss → R) → option_or x y ≡ Some ss → R
 by_either None y ss R f g is = g is
 by_either (Some x) y ss R f g is = f is
 

@@ -1,5 +1,6 @@
 -- What is answered by the first of two ways, or else by the second.
 use Rattle.std.proofs.Common.{◌≡◌, ℕ, List, [], ◌∷◌, Option, Some, None, option_map, Result, Ok, Err, refl, sym, ◌∙◌, subst}
+use Rattle.std.specs.Option.{option_or}
 use Rattle.yq_rows.specs.Rows.{Cut}
 use Rattle.yq_documents.specs.Reading.{cut_of, read_at}
 use Rattle.yq_script.specs.Exchanging.{Exchanged, NotExchanged, exchange_of}
@@ -9,24 +10,23 @@ use Rattle.yq_script.specs.declared.exchange_error.ExchangeError.{ExchangeError}
 use Rattle.yq_script.specs.declared.exchange_error.ExchangeError.TheVariants as error
 use Rattle.yq_carrying.specs.Carrying.{or_stay}
 use Rattle.yq_ways.specs.WayAnswers.{FailsBy, Carries}
-use Rattle.yq_ways.specs.Ways.{first_some}
 use Rattle.yq_flow_ways.proofs.CutLaws.{text_read}
 
 -- the first one carries it out
-pub first_way_carries : (e : Edited) (x y : Option (List Segment)) → Carries (Ok (Some e)) x → Carries (Ok (Some e)) (first_some x y)
+pub first_way_carries : (e : Edited) (x y : Option (List Segment)) → Carries (Ok (Some e)) x → Carries (Ok (Some e)) (option_or x y)
 first_way_carries e None y h = absurd (cc)
 first_way_carries e (Some ss) y h = h
 
 -- it is none for the operation
-pub second_way_carries : (r : Result (Option Edited) ExchangeError) (x y : Option (List Segment)) → Carries (Ok None) x → Carries r y → Carries r (first_some x y)
-second_way_carries r x y none h = subst (λ (z : Option (List Segment)). Carries r (first_some z y)) (sym none) h
+pub second_way_carries : (r : Result (Option Edited) ExchangeError) (x y : Option (List Segment)) → Carries (Ok None) x → Carries r y → Carries r (option_or x y)
+second_way_carries r x y none h = subst (λ (z : Option (List Segment)). Carries r (option_or z y)) (sym none) h
 
 -- it fails
 memory_fails : (y : Option (List Segment)) → FailsBy error.Memory (option_map exchange_of y)
 memory_fails None = refl
 memory_fails (Some ss) = tt
 
-pub first_way_fails : (e : ExchangeError) (x y : Option (List Segment)) → Carries (Err e) x → Carries (Err e) (first_some x y)
+pub first_way_fails : (e : ExchangeError) (x y : Option (List Segment)) → Carries (Err e) x → Carries (Err e) (option_or x y)
 first_way_fails e None y h = subst (λ (f : ExchangeError). FailsBy f (option_map exchange_of y)) (sym h) (memory_fails y)
 first_way_fails e (Some ss) y h = h
 

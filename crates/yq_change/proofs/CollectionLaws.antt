@@ -1,6 +1,6 @@
 -- Items or entries of the collection at a path, added, taken out and relabelled.
 use Rattle.std.proofs.Common.{◌≡◌, ℕ, ◌<◌, List, [], ◌∷◌, ◌++◌, Option, Some, None, option_map, Bool, true, false, cond, refl, sym, ap, ◌∙◌, subst, append_assoc, append-nil}
-use Rattle.yq_scalar.specs.Paths.{Step, is_here, further, append_child, change, relabel_child, remove_child, within}
+use Rattle.yq_scalar.specs.Paths.{Step, is_here, further, append_child, change, relabel_child, remove_child, within, append_children}
 use Rattle.yq_scalar.specs.Tree.{Label, child}
 use Rattle.yq_lines.specs.Group.{level_or}
 use Rattle.yq_lines.specs.Laws.{with_lines}
@@ -10,7 +10,7 @@ use Rattle.yq_lines.proofs.Allowing as allowing
 use Rattle.yq_lines.proofs.PlaceLaws.{at}
 use Rattle.yq_lines.proofs.Plug.{entry_whole}
 use Rattle.yq_lines.proofs.Values.{If, same_rank, same_entry, anchored-within}
-use Rattle.yq_change.specs.Siblings.{append_outline, append_children, HasEntries, put_lines, StandsSomewhere, CollectionReplaced, Appended, Removed, Relabelled, NodeLines, IsCollectionAt, IsEntryAt}
+use Rattle.yq_change.specs.Siblings.{append_outline, HasEntries, put_lines, StandsSomewhere, CollectionReplaced, Appended, Removed, Relabelled, NodeLines, IsCollectionAt, IsEntryAt}
 use Rattle.yq_change.proofs.SiblingLaws.{entries, even_append, entry_in, entry_out, flatten-append, children-append, even_right, even_replaced, block_value}
 use Rattle.yq_change.proofs.NodeLineLaws.{lines_even, lines_replaced}
 

@@ -2,18 +2,18 @@
 use Rattle.std.proofs.Common.{◌≡◌, ℕ, zero, suc, ◌+◌, ◌&&◌, eqb, Bool, true, false, cond, List, [], ◌∷◌, ◌++◌, length, replicate, take, drop, refl, sym, ap, ◌∙◌, arith, append_assoc, append-nil}
 use Rattle.yq_scalar.specs.Paths.{Step, change, remove_child, within}
 use Rattle.yq_scalar.specs.Text.{cut, no_space}
-use Rattle.yq_lines.specs.Anchors.{names_of}
+use Rattle.yq_scalar.specs.Anchors.{names_of}
 use Rattle.yq_lines.specs.Comments.{head_comment}
 use Rattle.yq_lines.specs.Places.{plug, Found, content}
 use Rattle.yq_rows.specs.Grammar.{IsRow, Limit, unlimited, AreRows}
-use Rattle.yq_rows.specs.Reading.{cut_gap}
+use Rattle.yq_rows.specs.Reading.{cut_gap, begins_gap}
 use Rattle.yq_rows.specs.Rows.{Row, behind_columns, behind_dashes, behind_gap, behind_indent, dashes_text, print_row, rows_text, Part, part_text, Cut, cut_text}
 use Rattle.yq_rows.proofs.GapLaws.{gap_again, gap_stop}
 use Rattle.yq_rows.proofs.MarkLaws.{spaces_again}
 use Rattle.yq_rows.proofs.RowAgain.{row_no_gap, row_starts}
 use Rattle.yq_rows.proofs.seams.SeamLaws.{rows_text-append}
 use Rattle.yq_documents.specs.Documents.{lead_of}
-use Rattle.yq_tree.specs.FirstPlaces.{are_spaces, begins_gap, less_spaces}
+use Rattle.yq_tree.specs.FirstPlaces.{are_spaces, less_spaces}
 use Rattle.yq_documents.specs.Lines.{lines_from, lines_of}
 use Rattle.yq_documents.specs.Reading.{outline_of, root_of}
 use Rattle.yq_tree.specs.RowPaths.{IsReadable}

@@ -9,9 +9,10 @@ use Rattle.yq_scalar.specs.Text.{cut, cut_line, no_space, upto, line_len}
 use Rattle.yq_scalar.proofs.Bools.{bind_some}
 use Rattle.yq_lines.specs.Ends.{line_of}
 use Rattle.yq_rows.specs.Rows.{Part, Cut, cut_text}
+use Rattle.yq_rows.specs.Reading.{begins_gap}
 use Rattle.yq_documents.specs.declared.path.Part.TheVariants.{Entry}
 use Rattle.yq_documents.specs.Documents.{document_parts}
-use Rattle.yq_tree.specs.FirstPlaces.{begins_gap, less_spaces, end_spaces, FirstOut, first_out, first_entry, first_removal}
+use Rattle.yq_tree.specs.FirstPlaces.{less_spaces, end_spaces, FirstOut, first_out, first_entry, first_removal}
 use Rattle.yq_documents.specs.Lines.{lines_of}
 use Rattle.yq_tree.specs.PathPieces.{printed_document, piece_in}
 use Rattle.yq_documents.specs.Pieces.{Piece}

@@ -9,7 +9,7 @@ use Rattle.yq_scalar.specs.Characters.{text_limit}
 use Rattle.yq_scalar.specs.Paths.{Step, change, remove_child, within}
 use Rattle.yq_scalar.specs.Text.{cut, cut_line, no_space}
 use Rattle.yq_scalar.proofs.Bools.{guard_then}
-use Rattle.yq_lines.specs.Anchors.{names_of}
+use Rattle.yq_scalar.specs.Anchors.{names_of}
 use Rattle.yq_lines.specs.Ends.{line_of}
 use Rattle.yq_lines.specs.Group.{group, level_or, is_fine}
 use Rattle.yq_lines.specs.Places.{plug, content}
@@ -17,9 +17,10 @@ use Rattle.yq_rows.specs.Exchange.{asked_behind}
 use Rattle.yq_rows.specs.Grammar.{unlimited, AreRows, limit_after}
 use Rattle.yq_rows.specs.Rows.{Row, behind_columns, behind_indent, rows_text, Part, Cut, cut_text}
 use Rattle.yq_rows.proofs.NodePieces.{BeginsAscii, before_ascii}
+use Rattle.yq_rows.specs.Reading.{begins_gap}
 use Rattle.yq_documents.specs.declared.path.Part.TheVariants.{Entry}
 use Rattle.yq_documents.specs.Documents.{begins_bare, has_begin, document_parts, lead_of}
-use Rattle.yq_tree.specs.FirstPlaces.{begins_gap, less_spaces, end_spaces, FirstOut, first_out}
+use Rattle.yq_tree.specs.FirstPlaces.{less_spaces, end_spaces, FirstOut, first_out}
 use Rattle.yq_documents.specs.Lines.{lines_from, lines_of}
 use Rattle.yq_tree.specs.PathPieces.{PrintedDocument, piece_in}
 use Rattle.yq_documents.specs.Reading.{outline_of, read_at, root_of}

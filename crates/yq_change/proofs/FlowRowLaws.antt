@@ -12,7 +12,7 @@ use Rattle.yq_inline.specs.Nodes.{Node, empty, alias, scalar, coll, anchored, It
 use Rattle.yq_inline.specs.Trees.{collection, items_tree, node_anchor, node_head, tree_of}
 use Rattle.yq_inline.proofs.Alikes.{alike_append, alike_separates}
 use Rattle.yq_flow.proofs.CollLaws.{open_stop}
-use Rattle.yq_lines.specs.Anchors.{IsNoAlias}
+use Rattle.yq_scalar.specs.Anchors.{IsNoAlias}
 use Rattle.yq_lines.specs.Comments.{head_comment}
 use Rattle.yq_lines.specs.Group.{level_or}
 use Rattle.yq_lines.specs.Laws.{with_lines}

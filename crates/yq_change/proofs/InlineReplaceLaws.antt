@@ -12,10 +12,9 @@ use Rattle.yq_lines.specs.Comments.{head_comment}
 use Rattle.yq_lines.proofs.Decides.{flatten-group}
 use Rattle.yq_rows.specs.Exchange.{allows_first, asked_behind}
 use Rattle.yq_inline.specs.Nodes.{scalar}
-use Rattle.yq_rows.specs.Grammar.{Limit, unlimited, AreRows, IsTail, is_entry}
+use Rattle.yq_rows.specs.Grammar.{Limit, unlimited, AreRows, IsTail, is_entry, ends_part}
 use Rattle.yq_rows.specs.Rows as rows
 use Rattle.yq_rows.specs.Rows.{Content, Nothing, Inline, Block, Row, mark_column, parent_of, parent_indent, rows_text, Part, Cut, cut_text}
-use Rattle.yq_rows.specs.Seams.{ends_part}
 use Rattle.yq_rows.proofs.ExchangeLaws.{relimit}
 use Rattle.yq_rows.proofs.seams.SeamLaws.{rows_drop}
 use Rattle.yq_rows.proofs.seams.TailLaws.{fits_by}

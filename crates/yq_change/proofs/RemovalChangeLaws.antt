@@ -7,7 +7,7 @@ use Rattle.yq_scalar.specs.Characters.{text_limit}
 use Rattle.yq_scalar.specs.Paths.{Step, is_here, further, child_at, node_at, remove_child}
 use Rattle.yq_scalar.specs.Tree.{Node, alias, scalar, list, map, Children, children_of}
 use Rattle.yq_scalar.proofs.Bools.{bind_some, guard_then}
-use Rattle.yq_lines.specs.Anchors.{names_of}
+use Rattle.yq_scalar.specs.Anchors.{names_of}
 use Rattle.yq_lines.specs.Counts.{count}
 use Rattle.yq_lines.specs.Group.{group, level_or}
 use Rattle.yq_lines.specs.Laws.{with_lines}

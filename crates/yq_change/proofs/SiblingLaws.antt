@@ -1,13 +1,13 @@
 -- Outlines one behind the other: their lines, evenness, and items or entries.
 use Rattle.std.proofs.Common.{◌≡◌, ℕ, ◌∷◌, ◌++◌, Option, refl, sym, ap, ◌∙◌, append_assoc}
-use Rattle.yq_scalar.specs.Paths.{within}
+use Rattle.yq_scalar.specs.Paths.{within, append_children}
 use Rattle.yq_scalar.specs.Tree.{Children, child}
 use Rattle.yq_lines.specs.Outline.{Mark, Bare, Key, Dash, Line, level, Outline, end, row, flatten, IsWhole, IsEven, label, shaped, children, value}
 use Rattle.yq_lines.specs.Places.{content}
 use Rattle.yq_lines.proofs.Allowing as allowing
 use Rattle.yq_lines.proofs.Allowing.{IsCollection}
 use Rattle.yq_lines.proofs.Values.{same_rank, same_collection, same_entry, within-shaped}
-use Rattle.yq_change.specs.Siblings.{append_outline, append_children, IsEntry, HasEntries, SiblingsReplaced}
+use Rattle.yq_change.specs.Siblings.{append_outline, IsEntry, HasEntries, SiblingsReplaced}
 
 -- marks of items and entries
 pub entry_in : (m : Mark) → IsEntry m → allowing.IsEntry m

@@ -7,7 +7,7 @@ use Rattle.yq_scalar.specs.Keys.{AreDistinct, with_key, keys_of, HasUniqueKeys, 
 use Rattle.yq_scalar.specs.Paths.{Step, is_here, further, append_child, change, child_at, node_at, within}
 use Rattle.yq_scalar.specs.Tree.{Label, Node, alias, scalar, list, map, Children, none, child, children_of}
 use Rattle.yq_inline.specs.Inline.{depth_limit}
-use Rattle.yq_lines.specs.Anchors.{Name, Anchors, with_anchor, names_of, names_in, IsAmong}
+use Rattle.yq_scalar.specs.Anchors.{Name, Anchors, with_anchor, names_of, names_in, IsAmong}
 use Rattle.yq_lines.specs.Outline.{anchored}
 use Rattle.yq_scalar.specs.Keys.{are_distinct}
 use Rattle.yq_lines.proofs.KeyLaws.{differs, distinct_is, is_distinct}

@@ -6,7 +6,7 @@ use Rattle.std.specs.List.{list_any}
 use Rattle.yq_scalar.specs.Keys.{AreDistinct, with_key, keys_of, HasUniqueKeys, EachHasUniqueKeys, depth, deepest}
 use Rattle.yq_scalar.specs.Paths.{Step, is_here, further, child_at, relabel_child, remove_child, within}
 use Rattle.yq_scalar.specs.Tree.{Label, Node, alias, scalar, list, map, Children, none, child, children_of}
-use Rattle.yq_lines.specs.Anchors.{Name, with_anchor, names_of, names_in}
+use Rattle.yq_scalar.specs.Anchors.{Name, with_anchor, names_of, names_in}
 use Rattle.yq_scalar.specs.Keys.{are_distinct}
 use Rattle.yq_lines.proofs.KeyLaws.{distinct_is, is_distinct}
 use Rattle.yq_change.specs.SoundRoots.{RemoveKeeps, RelabelKeeps}

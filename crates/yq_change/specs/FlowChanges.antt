@@ -4,7 +4,7 @@ use Rattle.yq_scalar.specs.Keys.{keys_of}
 use Rattle.yq_scalar.specs.Paths.{Step, append_child, change, child_at, node_at, remove_child, within}
 use Rattle.yq_scalar.specs.Tree.{Label, Node, Children, children_of}
 use Rattle.yq_rows.specs.Rows.{Part, Cut}
-use Rattle.yq_lines.specs.Anchors.{names_of}
+use Rattle.yq_scalar.specs.Anchors.{names_of}
 use Rattle.yq_documents.specs.Documents.{lead_of}
 use Rattle.yq_lines.specs.Laws.{with_lines}
 use Rattle.yq_documents.specs.Lines.{lines_of}

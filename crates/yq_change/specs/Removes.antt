@@ -5,7 +5,7 @@ use Rattle.yq_scalar.specs.Text.{joined, lines_of as text_lines}
 use Rattle.yq_rows.specs.Rows.{Row, Part, Cut, cut_text}
 use Rattle.yq_rows.specs.Splices.{first_gap}
 use Rattle.yq_rows.specs.Removal.{last_block, next_column, seam_gap}
-use Rattle.yq_lines.specs.Anchors.{names_of}
+use Rattle.yq_scalar.specs.Anchors.{names_of}
 use Rattle.yq_documents.specs.Pieces.{before_run}
 use Rattle.yq_documents.specs.Documents.{lead_of}
 use Rattle.yq_lines.specs.Places.{plug, Found, content}

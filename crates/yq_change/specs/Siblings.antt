@@ -1,6 +1,6 @@
 -- Items or entries of a block collection exchanged, and the lines of a node at a path (own).
 use Rattle.std.specs.Prelude.{◌≡◌, ℕ, ◌<◌, List, [], ◌∷◌, ◌++◌, Option, Some, None, option_and_then, ⊤}
-use Rattle.yq_scalar.specs.Paths.{Step, append_child, change, relabel_child, remove_child, within}
+use Rattle.yq_scalar.specs.Paths.{Step, append_child, change, relabel_child, remove_child, within, append_children}
 use Rattle.yq_scalar.specs.Tree.{Label, Node, Children, none, child}
 use Rattle.yq_lines.specs.Group.{level_or}
 use Rattle.yq_lines.specs.Laws.{with_lines}
@@ -11,11 +11,6 @@ use Rattle.yq_lines.specs.Places.{Place, here, below, plug, lines_before, lines_
 abbrev pub append_outline : Outline → Outline → Outline
 append_outline end b = b
 append_outline (row l under after) b = row l under (append_outline after b)
-
--- items or entries with others behind them
-abbrev pub append_children : Children → Children → Children
-append_children none ds = ds
-append_children (child label n cs) ds = child label n (append_children cs ds)
 
 -- a line begins with a key or a dash (8.2.1, 8.2.2)
 abbrev pub IsEntry : Mark → Type 0

@@ -3,7 +3,7 @@ use Rattle.std.proofs.Common.{◌≡◌, ◌≢◌, ◌⊎◌, inl, ℕ, Bool, t
 use Rattle.std.specs.Str.{bytes_eq}
 use Rattle.std.proofs.lemmas.Slice.Eq.{bytes_eq-Decides}
 use Rattle.yq_program.specs.Program.{Program}
-use Rattle.yq_script.specs.Patch.{Change}
+use Rattle.yq_script.specs.Patch.{Splice}
 use Rattle.yq_journal.specs.declared.fault.JournalFault.TheVariants as journal
 use Rattle.yq_journal.specs.declared.moves.Move.TheVariants.{Edit}
 use Rattle.yq_journal.specs.Good.{after_move}
@@ -59,7 +59,7 @@ module _ (c : Content) (f j : List ℕ) (h : History) (expr : List ℕ) (p : Pro
   ] refl
 
   -- the edited text is the old one
-  pub edit_equal : {T : Type 0} (v : T) (u : List ℕ) (cs : List Change) → edits p t ≡ edited u cs → u ≡ t → Arrives c f j (update_cause (Ok p) (Some h)) (Some h) (update_next expr (Ok p) (Some h)) {T = T} (Ok v)
+  pub edit_equal : {T : Type 0} (v : T) (u : List ℕ) (cs : List Splice) → edits p t ≡ edited u cs → u ≡ t → Arrives c f j (update_cause (Ok p) (Some h)) (Some h) (update_next expr (Ok p) (Some h)) {T = T} (Ok v)
   edit_equal v u cs is same =
       let outcome : edits p (text_at h) ≡ edited u cs = sym same_edits ∙ is in
       let equal : bytes_eq u (text_at h) ≡ true = equal_texts (text_at h) u (same ∙ k.at_rest.text) in (
@@ -67,7 +67,7 @@ module _ (c : Content) (f j : List ℕ) (h : History) (expr : List ℕ) (p : Pro
         subst (λ x. Stands c f j x) (sym (ap (edit_next h expr) outcome ∙ ap (λ b. if b then h else if nat_le most_records h.at then h else after_edit h expr u) equal)) k.stands,
       )
 
-  module _ (d : Content) (u : List ℕ) (cs : List Change) (edit : Patch) (is_edit : edit ≡ edit_record expr cs (length t) (length u)) (gives : edits p t ≡ edited u cs) (changes : u ≢ t) where
+  module _ (d : Content) (u : List ℕ) (cs : List Splice) (edit : Patch) (is_edit : edit ≡ edit_record expr cs (length t) (length u)) (gives : edits p t ≡ edited u cs) (changes : u ≢ t) where
     -- whether the journal has room, by the history
     room : (b : Bool) → nat_le most_records s.at ≡ b → update_cause (Ok p) (Some h) ≡ (if b then Some (named JournalFull) else None)
     room b is =
@@ -110,7 +110,7 @@ same_program : {A E : Type 0} (x y : A) (r : Result A E) → r ≡ Ok x → r �
 same_program x y r p q = let e = sym p ∙ q in cc
 
 -- an edit that was carried out is recorded, whatever the file and its program are called
-pub recorded_by : {T : Type 0} (r : Result T Fault) (p : Program) (t : List ℕ) (expr : List ℕ) (file journal : Option (List ℕ)) → program_in expr ≡ Ok p → file ≡ Some t → OnOk r ((u : List ℕ) → (cs : List Change) → edits p t ≡ edited u cs → u ≢ t → HasLast journal cs) → OnOk r (Recorded expr file journal)
+pub recorded_by : {T : Type 0} (r : Result T Fault) (p : Program) (t : List ℕ) (expr : List ℕ) (file journal : Option (List ℕ)) → program_in expr ≡ Ok p → file ≡ Some t → OnOk r ((u : List ℕ) → (cs : List Splice) → edits p t ≡ edited u cs → u ≢ t → HasLast journal cs) → OnOk r (Recorded expr file journal)
 recorded_by (Ok v) p t expr file journal is there k = λ q x u cs parses holds gives changes.
     let program : q ≡ p = same_program q p (program_in expr) parses is in
     let text : x ≡ t = some_same x t (sym holds ∙ there) in

@@ -3,8 +3,9 @@ use Rattle.std.proofs.Common.{◌≡◌, ◌≢◌, ◌⊎◌, inl, inr, ℕ, Bo
 use Rattle.std.specs.FinMap.{get}
 use Rattle.std.specs.Str.{bytes_eq}
 use Rattle.std.proofs.lemmas.Slice.Eq.{bytes_eq-Decides}
+use Rattle.std.specs.Option.{option_or}
 use Rattle.yq_program.specs.Program.{Program}
-use Rattle.yq_script.specs.Patch.{Change}
+use Rattle.yq_script.specs.Patch.{Splice}
 use Rattle.yq_journal.specs.declared.fault.JournalError.{JournalError}
 use Rattle.yq_journal.specs.declared.fault.JournalError.TheVariants as error
 use Rattle.yq_journal.specs.declared.fault.JournalFault.{JournalFault}
@@ -13,7 +14,7 @@ use Rattle.yq_journal.specs.declared.moves.Move.{Move}
 use Rattle.yq_journal.specs.declared.moves.Move.TheVariants as move
 use Rattle.yq_journal.specs.Good.{journal_beside}
 use Rattle.yq_journal.specs.Record.{Patch}
-use Rattle.yq_journal.specs.Refusals.{Names, Tells, most_records, no_way, or_else, if_moves, way_fault, squash_fault}
+use Rattle.yq_journal.specs.Refusals.{Names, Tells, most_records, no_way, if_moves, way_fault, squash_fault}
 use Rattle.yq_journal.specs.State.{State, moved, moved_text, settled, squashed}
 use Rattle.yq_commands.specs.declared.fault.Fault.{Fault}
 use Rattle.yq_commands.specs.declared.fault.Fault.TheVariants as fault
@@ -70,7 +71,7 @@ way_free records at step t u z free is =
 
 -- and one that doesn't is refused for the first cause
 pub way_barred : (records : List Patch) (at : ℕ) (step : Move) (t : List ℕ) (z : State) (y : JournalFault) → way_fault records at step t ≡ Some y → goes_to (no_way records at step) (moved_text records at step t) z ≡ refuses (named (of_fault y))
-way_barred records at step t z y is = elim (no_way records at step) as (λ o. or_else o (if_moves (moved_text records at step t)) ≡ Some y → goes_to o (moved_text records at step t) z ≡ refuses (named (of_fault y))) [
+way_barred records at step t z y is = elim (no_way records at step) as (λ o. option_or o (if_moves (moved_text records at step t)) ≡ Some y → goes_to o (moved_text records at step t) z ≡ refuses (named (of_fault y))) [
   | None ↦ λ e. elim (moved_text records at step t) as (λ o. if_moves o ≡ Some y → leads_to o z ≡ refuses (named (of_fault y))) [
     | None ↦ λ p. ap (λ x. refuses (named (of_fault x))) (some_fault journal.DoesNotStand y p)
     | Some u ↦ λ p. no_fault y p
@@ -209,14 +210,14 @@ module _ (f j : List ℕ) (c : Content) (expr : List ℕ) (s : State) (t : List 
       ] refl)
 
   -- the edited text is the old one: nothing is written
-  pub edit_equal_works : (o : Outcome) (u : List ℕ) (cs : List Change) {T : Type 0} (v : T) → o ≡ edited u cs → u ≡ t → Works (edit_effect expr o t s) f j c c {T = T} (Ok v)
+  pub edit_equal_works : (o : Outcome) (u : List ℕ) (cs : List Splice) {T : Type 0} (v : T) → o ≡ edited u cs → u ≡ t → Works (edit_effect expr o t s) f j c c {T = T} (Ok v)
   edit_equal_works o u cs {T = T} v is same =
       subst (λ x. Works x f j c c {T = T} (Ok v))
       (sym (ap (λ x. edit_effect expr x t s) is ∙ ap (λ b. if b then writes_nothing else if nat_le most_records s.at then refuses (named fault.JournalFull) else leaves u (moved s (move.Edit (edit_record expr cs (length t) (length u))))) ((bytes_eq-Decides u t).1 same)))
       refl
 
   -- an edit to another text is a move
-  module _ (o : Outcome) (u : List ℕ) (cs : List Change) (edit : Patch) (is_edit : edit ≡ edit_record expr cs (length t) (length u)) (is : o ≡ edited u cs) (changes : u ≢ t) (leads : moved_text s.records s.at (move.Edit edit) t ≡ Some u) where
+  module _ (o : Outcome) (u : List ℕ) (cs : List Splice) (edit : Patch) (is_edit : edit ≡ edit_record expr cs (length t) (length u)) (is : o ≡ edited u cs) (changes : u ≢ t) (leads : moved_text s.records s.at (move.Edit edit) t ≡ Some u) where
     by_room : (b : Bool) → (if b then refuses (named fault.JournalFull) else leaves u (moved s (move.Edit (edit_record expr cs (length t) (length u))))) ≡ goes_to (if b then Some journal.JournalFull else None) (Some u) (moved s (move.Edit edit))
     by_room true = refl
     by_room false = ap (λ r. leaves u (moved s (move.Edit r))) (sym is_edit)

@@ -3,6 +3,7 @@ use Rattle.std.proofs.Common.{◌≡◌, ◌≢◌, ◌⊎◌, inl, inr, ℕ, tr
 use Rattle.std.specs.FinMap.{get, insert}
 use Rattle.std.specs.Str.{bytes_eq}
 use Rattle.std.proofs.lemmas.Slice.Eq.{bytes_eq-Decides}
+use Rattle.std.specs.Option.{option_or}
 use Rattle.yq_journal.specs.declared.fault.JournalError.{JournalError}
 use Rattle.yq_journal.specs.declared.fault.JournalError.TheVariants as error
 use Rattle.yq_journal.specs.declared.fault.JournalFault.{JournalFault}
@@ -13,7 +14,7 @@ use Rattle.yq_journal.specs.Good.{AtRest, Describes, after_move, journal_beside,
 use Rattle.yq_journal.specs.Json.{journal_text}
 use Rattle.yq_journal.specs.Record.{Patch}
 use Rattle.yq_journal.specs.History.{History}
-use Rattle.yq_journal.specs.Refusals.{Names, no_way, or_else, if_moves, way_fault}
+use Rattle.yq_journal.specs.Refusals.{Names, no_way, if_moves, way_fault}
 use Rattle.yq_journal.specs.State.{State, closed, is_text, moved, moved_text, opened, settled}
 use Rattle.yq_journal.proofs.GoodLaws.{describes, open_before, open_after, settled_rests, undo_fault, redo_fault}
 use Rattle.yq_journal.proofs.HistoryLaws.{move_moves}
@@ -89,7 +90,7 @@ module _ (f j : List ℕ) (apart : f ≢ j) where
         let rests = settled_rests (opened s step t) z u (after_move h step u) (open_after s h t u step k.at_rest m changes) (sym (ap (λ x. settled x u) is) ∙ settles) in
         wrote_journal g l u z (after_move h step u) (ap (λ x. get x f) put ∙ get_written e f u) w (describes z u (after_move h step u) rests.1 rests.0)
 
-or_none : (o : Option JournalFault) → or_else o None ≡ o
+or_none : (o : Option JournalFault) → option_or o None ≡ o
 or_none None = refl
 or_none (Some f) = refl
 
@@ -181,7 +182,7 @@ fault_outside (Err e) o none h = outside_if e (λ out. absurd (none_some e (sym 
 
 -- where a journal at rest gives the text, the way is free
 pub no_way_free : (records : List Patch) (at : ℕ) (step : Move) (t : List ℕ) → way_fault records at step t ≡ None → no_way records at step ≡ None
-no_way_free records at step t free = elim (no_way records at step) as (λ o. or_else o (if_moves (moved_text records at step t)) ≡ None → o ≡ None) [
+no_way_free records at step t free = elim (no_way records at step) as (λ o. option_or o (if_moves (moved_text records at step t)) ≡ None → o ≡ None) [
   | None ↦ λ e. refl
   | Some y ↦ λ e. absurd (none_some y (sym e))
 ] free

@@ -10,7 +10,7 @@ use Rattle.yq_program.specs.declared.error.ParseError.{ParseError}
 use Rattle.yq_program.specs.declared.error.ParseError.TheVariants as parse
 use Rattle.yq_meaning.specs.declared.refusal.Refusal.{Refusal}
 use Rattle.yq_meaning.specs.declared.refusal.Refusal.TheVariants as refusal
-use Rattle.yq_script.specs.Patch.{Change}
+use Rattle.yq_script.specs.Patch.{Splice}
 use Rattle.yq_splice.specs.Carried.{edit_of}
 use Rattle.yq_splice.specs.Edit.{Edit}
 use Rattle.yq_splice.specs.Edit as edit
@@ -24,7 +24,7 @@ use Rattle.yq_commands.specs.declared.fault.Fault.TheVariants.{Syntax, NotInProf
 pub data Outcome : Type 0 where
   unreadable : List ℕ → Outcome
   refused : Fault → Outcome
-  edited : List ℕ → List Change → Outcome
+  edited : List ℕ → List Splice → Outcome
 
 -- bytes that aren't too many for a text and are no UTF-8 (YAML 1.2.2, section 5.2)
 abbrev pub is_no_utf8 : List ℕ → Bool

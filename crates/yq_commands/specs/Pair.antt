@@ -2,7 +2,7 @@
 use Rattle.std.specs.Prelude.{◌≡◌, ◌≢◌, ◌⊎◌, ℕ, List, [], ◌∷◌, ◌++◌, Option, Some, None, Result, Ok, Err, MatchBool, IsTrue, Vec}
 use Rattle.std.specs.FinMap.{get, insert}
 use Rattle.std.specs.declared.alloc.Global.{Global}
-use Rattle.yq_script.specs.Patch.{Change}
+use Rattle.yq_script.specs.Patch.{Splice}
 use Rattle.yq_journal.specs.Good.{Good, Holds, AtRest, journal_beside}
 use Rattle.yq_journal.specs.History.{History}
 use Rattle.yq_journal.specs.Json.{journal_in, journal_text}
@@ -57,7 +57,7 @@ abbrev pub OthersStay : Content → Content → List ℕ → List ℕ → Type 0
 OthersStay old new file name = (q : List ℕ) → q ≢ file → q ≢ name → get new q ≡ get old q
 
 -- the last record of a journal has these splices and no others
-pub record HasLast (journal : Option (List ℕ)) (changes : List Change) : Type 0 where
+pub record HasLast (journal : Option (List ℕ)) (changes : List Splice) : Type 0 where
   pub state : State
   pub journal_is : journal_beside journal ≡ Some state
   pub earlier : List Patch

@@ -3,7 +3,7 @@ use Rattle.std.specs.Prelude.{ℕ, ◌==◌, Bool, true, false, not, ◌&&◌, �
 use Rattle.yq_scalar.specs.declared.kind.Kind.{Kind}
 use Rattle.yq_scalar.specs.declared.kind.Kind.TheVariants as kinds
 use Rattle.yq_scalar.specs.Tree.{Node, alias, scalar, list, map}
-use Rattle.yq_meaning.specs.Conditions.{is_true_word}
+use Rattle.yq_scalar.specs.SchemaReading.{is_true_word}
 use Rattle.yq_splice.specs.Print.{print_text}
 use Rattle.yq_commands.specs.Shown.{Shown}
 

@@ -2,7 +2,7 @@
 ghost use Rattle.std.specs.Prelude.{◌≡◌, ◌≢◌, Some, Ok, IfOk, IfErr, OnOk, ℕ, List, IsTrue, IsNone, false, length};
 ghost use Rattle.yq_program.specs.View.{program_of};
 ghost use Rattle.yq_journal.specs.History.{History};
-ghost use Rattle.yq_script.specs.Patch.{Change, all_done, lengths_done};
+ghost use Rattle.yq_script.specs.Patch.{Splice, all_done, lengths_done};
 ghost use Rattle.std.specs.FinMap as map;
 ghost use Rattle.yq_program.specs.Program as spec;
 ghost use Rattle.yq_commands.specs.Editing.{edited, edits};
@@ -93,7 +93,7 @@ pub fn edit_from<D: Store>(
         (update_next expr.now (Ok (program_of program.now)) (Some h)) result }
     ensures effect { IsTrue D.keeps → file.now ≢ name.now →
         Works (edit_effect expr.now (edits (program_of program.now) text.now) text.now journal.old) file.now name.now (D.content store.old) (D.content store.new) result }
-    ensures recorded { IsTrue D.keeps → OnOk result ((u : List ℕ) → (changes : List Change) → edits (program_of program.now) text.now ≡ edited u changes →
+    ensures recorded { IsTrue D.keeps → OnOk result ((u : List ℕ) → (changes : List Splice) → edits (program_of program.now) text.now ≡ edited u changes →
         u ≢ text.now → HasLast (map.get (D.content store.new) name.now) changes) }
     ensures kept { IsTrue D.keeps → IfErr result (λ e. is_outside e ≡ false → D.content store.new ≡ D.content store.old) }
     ensures others { IsTrue D.keeps → OthersStay (D.content store.old) (D.content store.new) file.now name.now }

@@ -3,7 +3,6 @@ ghost use Rattle.std.specs.Prelude.{◌≡◌, ◌++◌, IfOk, OnOk, None};
 ghost use Rattle.std.specs.List.{list_all};
 ghost use Rattle.std.specs.String.{string_bytes};
 ghost use Rattle.yq_inline.specs.Values.{node_of};
-ghost use Rattle.yq_meaning.specs.Conditions as conditions;
 ghost use Rattle.yq_expr.specs.MatchView.{matches_of};
 ghost use Rattle.yq_splice.specs.Print.{print_text};
 ghost use Rattle.yq_commands.specs.Reads as spec;
@@ -12,7 +11,7 @@ ghost use Rattle.yq_commands.specs.Shown.{shown_by};
 use crate::shown::Shown;
 use std::alloc::{AllocError, Global};
 use yq_expr::{Match, Value};
-use yq_scalar::Kind;
+use yq_scalar::{Kind, is_true_word};
 use yq_splice::print;
 
 /// Adds what stands before a match: the line `---`, where the match before it is in another document.
@@ -56,13 +55,6 @@ fn printed_matches(alloc: Global, no_doc: bool, matches: &[Match]) -> Result<Str
         last = Some(found.doc);
     }
     Ok(printed)
-}
-
-/// Whether a text is a word for true (YAML 1.2.2, section 10.3.2).
-fn is_true_word(text: &str) -> bool
-    ensures { result ≡ conditions.is_true_word text.now }
-{
-    text == "true" || text == "True" || text == "TRUE"
 }
 
 /// Whether a scalar is null or false.

@@ -12,7 +12,8 @@ use Rattle.yq_rows.specs.Grammar.{IsCut, is_plain, no_rows, begins_document, key
 use Rattle.yq_rows.specs.Rows as rows
 use Rattle.yq_rows.specs.Rows.{Content, Nothing, Inline, Block, Row, Part, Cut, last, marked}
 use Rattle.yq_rows.specs.Splices.{first_gap}
-use Rattle.yq_lines.specs.Anchors.{names_of, AreBound, HaveOneAnchorEach}
+use Rattle.yq_scalar.specs.Anchors.{names_of, AreBound}
+use Rattle.yq_lines.specs.Anchors.{HaveOneAnchorEach}
 use Rattle.yq_lines.specs.Grammar.{IsNode}
 use Rattle.yq_documents.specs.Lines.{lines_of}
 use Rattle.yq_lines.specs.Outline.{Line, null_node}

@@ -11,7 +11,7 @@ use Rattle.yq_rows.specs.Grammar.{key_limit}
 use Rattle.yq_rows.specs.Reading.{scan_at}
 use Rattle.yq_rows.specs.Rows as rows
 use Rattle.yq_rows.specs.Rows.{Content, Nothing, Inline, Block, Row, Part, Cut, last}
-use Rattle.yq_lines.specs.Anchors.{names_of}
+use Rattle.yq_scalar.specs.Anchors.{names_of}
 use Rattle.yq_documents.specs.Documents.{Document, document_parts, lead_of, is_long_plain}
 use Rattle.yq_lines.specs.Group.{group}
 use Rattle.yq_documents.specs.Lines.{lines_of}

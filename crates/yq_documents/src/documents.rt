@@ -12,15 +12,8 @@ ghost use Rattle.yq_lines.specs.View.{flows};
 
 use crate::part_lines::{PartLines, lined_part};
 use std::alloc::{AllocError, Global};
-use yq_rows::Rows;
+use yq_rows::{Rows, begins_document};
 use yq_scalar::ReadError;
-
-/// Whether a document begins behind the line of this marker.
-pub fn begins_document(marker: &[u8]) -> bool
-    ensures { result ≡ grammar.begins_document marker.now }
-{
-    matches!(marker, [b'-', ..])
-}
 
 /// Whether some marker is `---`.
 fn some_begin(rows: &Rows<'_>) -> bool

@@ -1,8 +1,8 @@
 //! Where a text is at fault.
 
-use crate::documents::{begins_document, first_is_document};
+use crate::documents::first_is_document;
 use yq_lines::{Flaw, Position};
-use yq_rows::{Row, Rows};
+use yq_rows::{Row, Rows, begins_document};
 use yq_scalar::{FaultKind, ReadFault};
 
 /// How many line breaks there are, each of which ends with an LF.

@@ -14,7 +14,7 @@ mod path;
 mod row_lines;
 
 pub use checks::{DocumentLines, check_parts};
-pub use documents::{begins_document, document_lines, first_is_document};
+pub use documents::{document_lines, first_is_document};
 pub use head::begins_block;
 pub use nodes::children::Children;
 pub use nodes::comments::{Comments, comment_text, is_comment, last_run};

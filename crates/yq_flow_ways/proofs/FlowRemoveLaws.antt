@@ -85,7 +85,7 @@ module _ (c : Cut) (doc : ℕ) (path : List Step) (read : read_at (cut_text c) �
       let piece = standing.piece c doc a.init a.coll read a.found in
       let known = document_known (cut_text c) c doc at.part old in
       let root : fits.0.root ≡ root_of at.part = ap (λ (d : Document). d.root) (nth_document doc at.part (document_parts c) fits.0 at.there fits.1) in
-      let n = subst (λ r. (n : Rattle.yq_scalar.specs.Tree.Node) × (Rattle.yq_scalar.specs.Paths.node_at path r ≡ Some n) × (Rattle.yq_meaning.specs.Changes.is_used_in (Rattle.yq_lines.specs.Anchors.names_of r) (Some n) ≡ Rattle.std.proofs.Common.false)) root fits.2.1 in
+      let n = subst (λ r. (n : Rattle.yq_scalar.specs.Tree.Node) × (Rattle.yq_scalar.specs.Paths.node_at path r ≡ Some n) × (Rattle.yq_meaning.specs.Changes.is_used_in (Rattle.yq_scalar.specs.Anchors.names_of r) (Some n) ≡ Rattle.std.proofs.Common.false)) root fits.2.1 in
       let sound : IsSoundRoot (root_of at.part) = record { unique = known.document.unique; nested = known.document.nested; bound = known.document.bound } in
       let whole = removed_whole x a.step a.item row_text.before texts.before stands a.at pairs (sym row_text.old ∙ texts.old) in
       let parts = edit_pieces (cut_text c) texts.before e piece texts.old bounds.0 bounds.1 whole in

@@ -24,7 +24,7 @@ use Rattle.yq_inline.proofs.PathLaws.{items_hold}
 use Rattle.yq_flow.proofs.PlacedEdits.{replace_placed}
 use Rattle.yq_flow.proofs.ValueEdits.{change_last, scalar_replaced, value_replaced}
 use Rattle.yq_flow.proofs.ValueFits.{scalar_block}
-use Rattle.yq_lines.specs.Anchors.{names_of}
+use Rattle.yq_scalar.specs.Anchors.{names_of}
 use Rattle.yq_lines.specs.Outline.{anchored}
 use Rattle.yq_rows.specs.Rows.{Cut, cut_text}
 use Rattle.yq_documents.specs.Documents.{Document, EachHasFitKeys, HasFitKey, HasFitKeys, document_parts, lead_of}

@@ -22,9 +22,9 @@ use Rattle.yq_change.proofs.LeadLaws.{same_lead_goes}
 use Rattle.yq_change.proofs.PartLaws.{some_behind}
 use Rattle.yq_meaning.specs.After.{document_of, root_after}
 use Rattle.yq_meaning.specs.Operations.{Operation}
-use Rattle.yq_script.specs.Script.{old_text, new_text}
+use Rattle.yq_script.specs.Script.{old_text, new_text, text_before}
 use Rattle.yq_ways.specs.Done.{ArePieces}
-use Rattle.yq_flow_ways.specs.FlowWays.{text_before, flow_segments}
+use Rattle.yq_flow_ways.specs.FlowWays.{flow_segments}
 use Rattle.yq_ways.specs.Ways.{ReadsAfter}
 use Rattle.yq_ways.proofs.DoneLaws.{document_done}
 use Rattle.yq_ways.proofs.SegmentLaws.{segments_readable}

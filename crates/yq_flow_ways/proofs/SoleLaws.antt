@@ -13,7 +13,7 @@ use Rattle.yq_scalar.specs.Tree.{Label, Node, Children, none, child, children_of
 use Rattle.yq_scalar.proofs.Bools.{bind_some}
 use Rattle.yq_inline.specs.Inline.{depth_limit}
 use Rattle.yq_flow.specs.Valued.{IsValueTree}
-use Rattle.yq_lines.specs.Anchors.{Name, names_in, names_of}
+use Rattle.yq_scalar.specs.Anchors.{Name, names_in, names_of}
 use Rattle.yq_lines.specs.Counts.{count}
 use Rattle.yq_rows.specs.Rows.{Cut, cut_text}
 use Rattle.yq_documents.specs.Documents.{Document, document_parts}

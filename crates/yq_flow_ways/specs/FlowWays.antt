@@ -17,14 +17,10 @@ use Rattle.yq_inline.specs.Written.{flow_key, flow_of, flow_text}
 use Rattle.yq_rows.specs.Rows.{Cut, cut_text}
 use Rattle.yq_tree.specs.FlowNodes.{flow_collection}
 use Rattle.yq_meaning.specs.Operations.{replace, append, remove, line_comment, head_comment}
-use Rattle.yq_script.specs.Script.{Segment, keep, put}
+use Rattle.yq_script.specs.Script.{Segment, keep, put, text_before}
 use Rattle.yq_ways.specs.Replacing.{node_in, is_kept}
 use Rattle.yq_ways.specs.Style.{style_in}
 use Rattle.yq_ways.specs.Ways.{Way}
-
--- the text before what stands at its end (own)
-abbrev pub text_before : List ℕ → List ℕ → List ℕ
-text_before t behind = take (length t - length behind) t
 
 -- the segments of a text in which a flow collection is edited (own)
 abbrev pub flow_segments : List ℕ → FlowEdit → List Segment

@@ -5,7 +5,7 @@ use Rattle.std.proofs.lemmas.Grind.{common_steps}
 use Rattle.std.proofs.Math.Seq.{drop-append_seam, take-append_seam}
 use Rattle.std.proofs.lemmas.List.{reverse-append, reverse-reverse, take-append-drop}
 use Prim.Native.Nat.{zero}
-use Rattle.yq_script.specs.Patch.{Change, Exchanges, change_done}
+use Rattle.yq_script.specs.Patch.{Splice, Exchanges, change_done}
 use Rattle.yq_script.proofs.PatchLaws.{done-from_exchanges, exchanges-from_done}
 use Rattle.yq_journal.specs.Gap.{change}
 
@@ -43,7 +43,7 @@ moved_back front back rest front' back' same =
     sym (append_assoc front' (reverse back') rest) ∙ ap (λ x. x ++ rest) turned ∙ append_assoc front (reverse back) rest
 
 -- no splice is done on a text on which it exchanges nothing
-pub none_done : (s : Change) (b : List ℕ) → ((c : List ℕ) → Exchanges s b c → ⊥) → change_done s b ≡ None
+pub none_done : (s : Splice) (b : List ℕ) → ((c : List ℕ) → Exchanges s b c → ⊥) → change_done s b ≡ None
 none_done s b never = elim (change_done s b) as (λ o. change_done s b ≡ o → o ≡ None) [
   | None ↦ λ e. refl
   | Some c ↦ λ e. absurd (never c (exchanges-from_done s b c e))

@@ -5,6 +5,7 @@ use Rattle.std.specs.Str.{bytes_eq}
 use Prim.Native.Nat.{zero}
 use Rattle.std.proofs.lemmas.Bool.Decides.{nat_tests}
 use Rattle.std.proofs.lemmas.Slice.Eq.{bytes_eq-Decides}
+use Rattle.std.specs.Option.{option_or}
 use Rattle.yq_journal.specs.declared.fault.JournalFault.{JournalFault}
 use Rattle.yq_journal.specs.declared.fault.JournalFault.TheVariants as fault
 use Rattle.yq_journal.specs.declared.moves.Move.{Move}
@@ -12,7 +13,7 @@ use Rattle.yq_journal.specs.declared.moves.Move.TheVariants.{Edit, Undo, Redo}
 use Rattle.yq_journal.specs.Good.{AtRest, Underway, DescribesPending, Describes, Rests, step_fault, after_move}
 use Rattle.yq_journal.specs.History.{History, text_behind}
 use Rattle.yq_journal.specs.Record.{Patch, done, undone}
-use Rattle.yq_journal.specs.Refusals.{most_records, no_way, or_else, if_moves, way_fault}
+use Rattle.yq_journal.specs.Refusals.{most_records, no_way, if_moves, way_fault}
 use Rattle.yq_journal.specs.State.{State, Pending, moved_text, moved, closed, opened, settled, settled_pending, is_text}
 use Rattle.yq_journal.proofs.HistoryLaws.{same_length, leads_at, move_moves}
 use Rattle.yq_journal.proofs.RecordLaws.{undone_after_done}
@@ -147,7 +148,7 @@ way_of s t h Redo k =
 -- an undo of a journal at rest stands wherever the history has one
 pub undo_fault : (s : State) (t : List ℕ) (h : History) → AtRest s t h → way_fault s.records s.at Undo t ≡ step_fault h Undo
 undo_fault s t h k =
-    elim (s.at == 0) as (λ b. (s.at == 0) ≡ b → or_else (if b then Some fault.NothingToUndo else None) (if_moves (moved_text s.records s.at Undo t)) ≡ (if b then Some fault.NothingToUndo else None)) [
+    elim (s.at == 0) as (λ b. (s.at == 0) ≡ b → option_or (if b then Some fault.NothingToUndo else None) (if_moves (moved_text s.records s.at Undo t)) ≡ (if b then Some fault.NothingToUndo else None)) [
       | true ↦ λ e. refl
       | false ↦ λ e. let pos : 0 < s.at = grind (arith, nat_tests) in ap if_moves (undo_stands s h t k pos)
     ] refl
@@ -156,16 +157,16 @@ undo_fault s t h k =
 -- and a redo likewise
 pub redo_fault : (s : State) (t : List ℕ) (h : History) → AtRest s t h → way_fault s.records s.at Redo t ≡ step_fault h Redo
 redo_fault s t h k =
-    elim (nat_le (length s.records) s.at) as (λ b. nat_le (length s.records) s.at ≡ b → or_else (if b then Some fault.NothingToRedo else None) (if_moves (moved_text s.records s.at Redo t)) ≡ (if b then Some fault.NothingToRedo else None)) [
+    elim (nat_le (length s.records) s.at) as (λ b. nat_le (length s.records) s.at ≡ b → option_or (if b then Some fault.NothingToRedo else None) (if_moves (moved_text s.records s.at Redo t)) ≡ (if b then Some fault.NothingToRedo else None)) [
       | true ↦ λ e. refl
       | false ↦ λ e. let fits : s.at < length s.records = grind (arith, nat_tests) in ap if_moves (redo_stands s h t k fits)
     ] refl
     ∙ way_of s t h Redo k
 
-or_none : (o : Option JournalFault) → or_else o None ≡ o
+or_none : (o : Option JournalFault) → option_or o None ≡ o
 or_none None = refl
 or_none (Some f) = refl
 
 -- an edit whose record stands before the text has the history's fault alone
 pub edit_fault : (s : State) (t u : List ℕ) (h : History) (r : Patch) → AtRest s t h → done r t ≡ Some u → way_fault s.records s.at (Edit r) t ≡ step_fault h (Edit r)
-edit_fault s t u h r k d = ap (or_else (no_way s.records s.at (Edit r))) (ap if_moves d) ∙ or_none (no_way s.records s.at (Edit r)) ∙ way_of s t h (Edit r) k
+edit_fault s t u h r k d = ap (option_or (no_way s.records s.at (Edit r))) (ap if_moves d) ∙ or_none (no_way s.records s.at (Edit r)) ∙ way_of s t h (Edit r) k

@@ -1,12 +1,13 @@
 -- Moves that are refused and moves that are not.
 use Rattle.std.proofs.Common.{◌≡◌, ℕ, List, Option, Some, None, refl}
+use Rattle.std.specs.Option.{option_or}
 use Rattle.yq_journal.specs.declared.fault.JournalFault.{JournalFault}
 use Rattle.yq_journal.specs.declared.moves.Move.{Move}
 use Rattle.yq_journal.specs.Record.{Patch}
-use Rattle.yq_journal.specs.Refusals.{no_way, or_else, if_moves, way_fault}
+use Rattle.yq_journal.specs.Refusals.{no_way, if_moves, way_fault}
 use Rattle.yq_journal.specs.State.{moved_text}
 
-first_none : (a b : Option JournalFault) → or_else a b ≡ None → a ≡ None
+first_none : (a b : Option JournalFault) → option_or a b ≡ None → a ≡ None
 first_none None b h = refl
 first_none (Some f) b h = cc
 

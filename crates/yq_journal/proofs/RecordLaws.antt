@@ -3,23 +3,23 @@ use Rattle.std.proofs.Common.{◌≡◌, ◌==◌, ℕ, ◌-◌, ◌≤◌, ◌<
 use Rattle.std.specs.Prelude.{option_and_then}
 use Rattle.std.proofs.lemmas.Bool.{eqb-true}
 use Rattle.std.proofs.lemmas.Grind.{common_steps}
-use Rattle.yq_script.specs.Patch.{Change, swapped, change_done, all_done, flipped}
+use Rattle.yq_script.specs.Patch.{Splice, swapped, change_done, all_done, flipped}
 use Rattle.yq_script.proofs.PatchLaws.{taken_back, done_again, flipped-append}
 use Rattle.yq_journal.specs.Record.{Patch, if_length, done, undone}
 
 -- what a record that stands says of the two texts
-pub record Stands (before_len after_len : ℕ) (changes : List Change) (b c : List ℕ) : Type 0 where
+pub record Stands (before_len after_len : ℕ) (changes : List Splice) (b c : List ℕ) : Type 0 where
   pub starts : length b ≡ before_len
   pub leads : all_done changes b ≡ Some c
   pub ends : length c ≡ after_len
 
-pub of_stands : (n m : ℕ) (ss : List Change) (b c : List ℕ) → Stands n m ss b c → (if length b == n then if_length m (all_done ss b) else None) ≡ Some c
+pub of_stands : (n m : ℕ) (ss : List Splice) (b c : List ℕ) → Stands n m ss b c → (if length b == n then if_length m (all_done ss b) else None) ≡ Some c
 of_stands n m ss b c h =
     ap (λ t. if t then if_length m (all_done ss b) else None) (eq-eqb (length b) n h.starts)
     ∙ ap (if_length m) h.leads
     ∙ ap (λ t. if t then Some c else None) (eq-eqb (length c) m h.ends)
 
-stands_if_length : (n m : ℕ) (ss : List Change) (b c : List ℕ) (r : Option (List ℕ)) → length b ≡ n → all_done ss b ≡ r → if_length m r ≡ Some c → Stands n m ss b c
+stands_if_length : (n m : ℕ) (ss : List Splice) (b c : List ℕ) (r : Option (List ℕ)) → length b ≡ n → all_done ss b ≡ r → if_length m r ≡ Some c → Stands n m ss b c
 stands_if_length n m ss b c None e is h = cc
 stands_if_length n m ss b c (Some d) e is h =
     elim (length d == m) as (λ t. (length d == m) ≡ t → (if t then Some d else None) ≡ Some c → Stands n m ss b c) [
@@ -27,7 +27,7 @@ stands_if_length n m ss b c (Some d) e is h =
       | false ↦ λ t k. cc
     ] refl h
 
-pub stands_of : (n m : ℕ) (ss : List Change) (b c : List ℕ) → (if length b == n then if_length m (all_done ss b) else None) ≡ Some c → Stands n m ss b c
+pub stands_of : (n m : ℕ) (ss : List Splice) (b c : List ℕ) → (if length b == n then if_length m (all_done ss b) else None) ≡ Some c → Stands n m ss b c
 stands_of n m ss b c h =
     elim (length b == n) as (λ t. (length b == n) ≡ t → (if t then if_length m (all_done ss b) else None) ≡ Some c → Stands n m ss b c) [
       | true ↦ λ t k. stands_if_length n m ss b c (all_done ss b) (eqb-true (length b) n t) refl k
@@ -46,11 +46,11 @@ done_after_undone r b c e =
     let h = stands_of r.after_len r.before_len (flipped r.changes) c b e in
     of_stands r.before_len r.after_len r.changes b c (record { starts = h.ends; leads = done_again r.changes b c h.leads; ends = h.starts })
 
-take_last : (ss : List Change) (n : ℕ) (s : Change) → 0 < n → n ≤ length ss → s ≡ get_or ss (n - 1) s → take n ss ≡ take (n - 1) ss ++ s ∷ []
+take_last : (ss : List Splice) (n : ℕ) (s : Splice) → 0 < n → n ≤ length ss → s ≡ get_or ss (n - 1) s → take n ss ≡ take (n - 1) ss ++ s ∷ []
 take_last ss n s pos fits is = grind (arith, common_steps)
 
 -- one splice taken back, from the last on
-pub undone_step : (ss : List Change) (n : ℕ) (s : Change) (b : List ℕ) → 0 < n → n ≤ length ss → s ≡ get_or ss (n - 1) s → all_done (flipped (take n ss)) b ≡ option_and_then (all_done (flipped (take (n - 1) ss))) (change_done (swapped s) b)
+pub undone_step : (ss : List Splice) (n : ℕ) (s : Splice) (b : List ℕ) → 0 < n → n ≤ length ss → s ≡ get_or ss (n - 1) s → all_done (flipped (take n ss)) b ≡ option_and_then (all_done (flipped (take (n - 1) ss))) (change_done (swapped s) b)
 undone_step ss n s b pos fits is =
     ap (λ l. all_done (flipped l) b) (take_last ss n s pos fits is)
     ∙ ap (λ l. all_done l b) (flipped-append (take (n - 1) ss) (s ∷ []))

@@ -7,7 +7,7 @@ use Rattle.std.proofs.Math.Seq.{drop-append_seam, take-append_seam}
 use Rattle.std.proofs.lemmas.Bool.{le-leb, leb-true, lt-ltb, ltb-true}
 use Rattle.std.proofs.lemmas.Bool.Decides.{nat_tests}
 use Rattle.std.proofs.lemmas.List.{take-append-drop, length-take-le}
-use Rattle.yq_script.specs.Patch.{Change, swapped, change_done, all_done, flipped, length_done, lengths_done}
+use Rattle.yq_script.specs.Patch.{Splice, swapped, change_done, all_done, flipped, length_done, lengths_done}
 use Rattle.yq_script.proofs.PlaceInList.{split_at, take_next}
 use Rattle.yq_script.proofs.PatchLaws.{done-from_exchanges, exchanges-from_done, all_done-append, lengths_done-append}
 use Rattle.yq_journal.specs.Turned.{turned}
@@ -20,7 +20,7 @@ some_same x y e = cc
 pub some_none : {A : Type 0} (x : A) → Some x ≡ None → ⊥
 some_none x e = cc
 
-and_then_one : (o : Option (List ℕ)) (s : Change) → option_and_then (all_done (s ∷ [])) o ≡ option_and_then (change_done s) o
+and_then_one : (o : Option (List ℕ)) (s : Splice) → option_and_then (all_done (s ∷ [])) o ≡ option_and_then (change_done s) o
 and_then_one None s = refl
 and_then_one (Some b) s = elim (change_done s b) as (λ r. option_and_then (λ d. Some d) r ≡ r) [ None ↦ refl | Some d ↦ refl ]
 
@@ -36,12 +36,12 @@ get_behind [] ys i j is = let e : i ≡ j = omega (arith, is) in ap (slice_get y
 get_behind (x ∷ xs) ys zero j is = absurd (omega (arith, is))
 get_behind (x ∷ xs) ys (suc i) j is = get_behind xs ys i j (omega (arith, is))
 
-pub length-flipped : (ss : List Change) → length (flipped ss) ≡ length ss
+pub length-flipped : (ss : List Splice) → length (flipped ss) ≡ length ss
 length-flipped [] = refl
 length-flipped (x ∷ ss) = length-append (flipped ss) (swapped x ∷ []) ∙ omega (arith, length-flipped ss)
 
 -- the splices taken back, from the last on
-pub flipped_at : (ss : List Change) (k : ℕ) (s : Change) → k < length ss → slice_get ss (length ss - 1 - k) ≡ Some s → slice_get (flipped ss) k ≡ Some (swapped s)
+pub flipped_at : (ss : List Splice) (k : ℕ) (s : Splice) → k < length ss → slice_get ss (length ss - 1 - k) ≡ Some s → slice_get (flipped ss) k ≡ Some (swapped s)
 flipped_at [] k s h is = absurd (omega arith)
 flipped_at (x ∷ ss) k s h is =
     elim (nat_le (suc k) (length ss)) as (λ t. nat_le (suc k) (length ss) ≡ t → slice_get (flipped ss ++ swapped x ∷ []) k ≡ Some (swapped s)) [
@@ -60,12 +60,12 @@ flipped_at (x ∷ ss) k s h is =
 -- ---- lengths
 
 -- what a splice does to a length
-record Lengths (s : Change) (n m : ℕ) : Type 0 where
+record Lengths (s : Splice) (n m : ℕ) : Type 0 where
   fits : s.at + length s.old ≤ n
   small : m < 2 ^ 64
   is : m ≡ n - length s.old + length s.new
 
-parts_of_length : (s : Change) (n m : ℕ) → length_done s n ≡ Some m → Lengths s n m
+parts_of_length : (s : Splice) (n m : ℕ) → length_done s n ≡ Some m → Lengths s n m
 unfolding length_done
 parts_of_length s n m h =
     elim (nat_le (s.at + length s.old) n) as (λ t. nat_le (s.at + length s.old) n ≡ t → (if t && nat_lt (n - length s.old + length s.new) (2 ^ 64) then Some (n - length s.old + length s.new) else None) ≡ Some m → Lengths s n m) [
@@ -79,7 +79,7 @@ parts_of_length s n m h =
       | false ↦ λ e k. cc
     ] refl h
 
-length_of_parts : (s : Change) (n m : ℕ) → Lengths s n m → length_done s n ≡ Some m
+length_of_parts : (s : Splice) (n m : ℕ) → Lengths s n m → length_done s n ≡ Some m
 unfolding length_done
 length_of_parts s n m p =
     let small : n - length s.old + length s.new < 2 ^ 64 = subst (λ x. x < 2 ^ 64) p.is p.small in
@@ -88,11 +88,11 @@ length_of_parts s n m p =
     ∙ ap Some (sym p.is)
 
 -- the lengths of a text before and after a splice
-record Grown (s : Change) (b c : List ℕ) : Type 0 where
+record Grown (s : Splice) (b c : List ℕ) : Type 0 where
   within : s.at + length s.old ≤ length b
   long : length c ≡ length b - length s.old + length s.new
 
-grown : (s : Change) (b c : List ℕ) → change_done s b ≡ Some c → Grown s b c
+grown : (s : Splice) (b c : List ℕ) → change_done s b ≡ Some c → Grown s b c
 grown s b c e =
     let x = exchanges-from_done s b c e in
     let old : length b ≡ length x.front + (length s.old + length x.rest) = ap length x.before ∙ length-append x.front (s.old ++ x.rest) ∙ ap (λ n. length x.front + n) (length-append s.old x.rest) in
@@ -101,7 +101,7 @@ grown s b c e =
     record { within = omega (arith, old, offset); long = omega (arith, old, new, offset) }
 
 -- lengths that are reached are those of the texts
-pub lengths_follow : (ss : List Change) (b c : List ℕ) → all_done ss b ≡ Some c → lengths_done ss (length b) ≢ None → lengths_done ss (length b) ≡ Some (length c)
+pub lengths_follow : (ss : List Splice) (b c : List ℕ) → all_done ss b ≡ Some c → lengths_done ss (length b) ≢ None → lengths_done ss (length b) ≡ Some (length c)
 lengths_follow [] b c e h = ap Some (ap length (some_same b c e))
 lengths_follow (s ∷ ss) b c e h =
     elim (change_done s b) as (λ r. change_done s b ≡ r → option_and_then (all_done ss) r ≡ Some c → option_and_then (lengths_done ss) (length_done s (length b)) ≡ Some (length c)) [
@@ -115,7 +115,7 @@ lengths_follow (s ∷ ss) b c e h =
           ] refl h
     ] refl e
 
-lengths_small : (ss : List Change) (n m : ℕ) → lengths_done ss n ≡ Some m → n < 2 ^ 64 → m < 2 ^ 64
+lengths_small : (ss : List Splice) (n m : ℕ) → lengths_done ss n ≡ Some m → n < 2 ^ 64 → m < 2 ^ 64
 lengths_small [] n m e h = subst (λ x. x < 2 ^ 64) (some_same n m e) h
 lengths_small (s ∷ ss) n m e h =
     elim (length_done s n) as (λ o. length_done s n ≡ o → option_and_then (lengths_done ss) o ≡ Some m → m < 2 ^ 64) [
@@ -124,7 +124,7 @@ lengths_small (s ∷ ss) n m e h =
     ] refl e
 
 -- splices taken back lead back from the one length to the other
-pub lengths_flip : (ss : List Change) (n m : ℕ) → lengths_done ss n ≡ Some m → n < 2 ^ 64 → lengths_done (flipped ss) m ≡ Some n
+pub lengths_flip : (ss : List Splice) (n m : ℕ) → lengths_done ss n ≡ Some m → n < 2 ^ 64 → lengths_done (flipped ss) m ≡ Some n
 lengths_flip [] n m e h = sym e
 lengths_flip (s ∷ ss) n m e h =
     elim (length_done s n) as (λ o. length_done s n ≡ o → option_and_then (lengths_done ss) o ≡ Some m → lengths_done (flipped ss ++ swapped s ∷ []) m ≡ Some n) [
@@ -144,7 +144,7 @@ and_then_some f None h = absurd (h refl)
 and_then_some f (Some x) h = (x, refl, h)
 
 -- the lengths up to a place of splices whose lengths are all within
-lengths_up_to : (ss rest : List Change) (text b : List ℕ) → lengths_done (ss ++ rest) (length text) ≢ None → all_done ss text ≡ Some b → (lengths_done ss (length text) ≡ Some (length b)) × (lengths_done rest (length b) ≢ None)
+lengths_up_to : (ss rest : List Splice) (text b : List ℕ) → lengths_done (ss ++ rest) (length text) ≢ None → all_done ss text ≡ Some b → (lengths_done ss (length text) ≡ Some (length b)) × (lengths_done rest (length b) ≢ None)
 lengths_up_to ss rest text b h e =
     let there = and_then_some (lengths_done rest) (lengths_done ss (length text)) (λ none. h (lengths_done-append ss rest (length text) ∙ none)) in
     let reached : lengths_done ss (length text) ≡ Some (length b) = lengths_follow ss text b e (λ none. some_none there.0 (sym there.1 ∙ none)) in
@@ -152,41 +152,41 @@ lengths_up_to ss rest text b h e =
     (reached, λ none. there.2 (ap (lengths_done rest) same ∙ none))
 
 -- each splice lies within the text that it finds
-pub lies_within : (ss : List Change) (k : ℕ) (s : Change) (text b : List ℕ) → lengths_done ss (length text) ≢ None → all_done (take k ss) text ≡ Some b → slice_get ss k ≡ Some s → s.at + length s.old ≤ length b
+pub lies_within : (ss : List Splice) (k : ℕ) (s : Splice) (text b : List ℕ) → lengths_done ss (length text) ≢ None → all_done (take k ss) text ≡ Some b → slice_get ss k ≡ Some s → s.at + length s.old ≤ length b
 lies_within ss k s text b h e is =
     let up = lengths_up_to (take k ss) (s ∷ drop (suc k) ss) text b (λ none. h (ap (λ l. lengths_done l (length text)) (split_at ss k s is) ∙ none)) e in
     let there = and_then_some (lengths_done (drop (suc k) ss)) (length_done s (length b)) up.1 in
     (parts_of_length s (length b) there.0 there.1).fits
 
 -- and that text's length is held by 64 bits
-pub stays_small : (ss : List Change) (k : ℕ) (text b : List ℕ) → lengths_done ss (length text) ≢ None → all_done (take k ss) text ≡ Some b → length text < 2 ^ 64 → length b < 2 ^ 64
+pub stays_small : (ss : List Splice) (k : ℕ) (text b : List ℕ) → lengths_done ss (length text) ≢ None → all_done (take k ss) text ≡ Some b → length text < 2 ^ 64 → length b < 2 ^ 64
 stays_small ss k text b h e small =
     let up = lengths_up_to (take k ss) (drop k ss) text b (λ none. h (ap (λ l. lengths_done l (length text)) (sym (take-append-drop k ss)) ∙ none)) e in
     lengths_small (take k ss) (length text) (length b) up.0 small
 
 -- ---- one splice more
 
-pub done_next : (ss : List Change) (k : ℕ) (s : Change) (text : List ℕ) → slice_get ss k ≡ Some s → all_done (take (k + 1) ss) text ≡ option_and_then (change_done s) (all_done (take k ss) text)
+pub done_next : (ss : List Splice) (k : ℕ) (s : Splice) (text : List ℕ) → slice_get ss k ≡ Some s → all_done (take (k + 1) ss) text ≡ option_and_then (change_done s) (all_done (take k ss) text)
 done_next ss k s text is =
     ap (λ l. all_done l text) (take_next ss k s is) ∙ all_done-append (take k ss) (s ∷ []) text
     ∙ and_then_one (all_done (take k ss) text) s
 
 -- where one isn't done, not all are
-pub not_all : (ss : List Change) (k : ℕ) (s : Change) (text b : List ℕ) → slice_get ss k ≡ Some s → all_done (take k ss) text ≡ Some b → change_done s b ≡ None → all_done ss text ≡ None
+pub not_all : (ss : List Splice) (k : ℕ) (s : Splice) (text b : List ℕ) → slice_get ss k ≡ Some s → all_done (take k ss) text ≡ Some b → change_done s b ≡ None → all_done ss text ≡ None
 not_all ss k s text b is e none =
     ap (λ l. all_done l text) (split_at ss k s is) ∙ all_done-append (take k ss) (s ∷ drop (suc k) ss) text
     ∙ ap (option_and_then (all_done (s ∷ drop (suc k) ss))) e ∙ ap (option_and_then (all_done (drop (suc k) ss))) none
 
 -- ---- a byte before a splice
 
-pub record Before (s : Change) (b c : List ℕ) : Type 0 where
+pub record Before (s : Splice) (b c : List ℕ) : Type 0 where
   pub front : (i : ℕ) → i < s.at → slice_get c i ≡ slice_get b i
   pub inside : (i : ℕ) → s.at ≤ i → i < s.at + length s.new → slice_get c i ≡ slice_get s.new (i - s.at)
   pub behind : (i : ℕ) → s.at + length s.new ≤ i → slice_get c i ≡ slice_get b (i - length s.new + length s.old)
   pub long : length c ≡ length b - length s.old + length s.new
   pub within : s.at + length s.old ≤ length b
 
-pub before : (s : Change) (b c : List ℕ) → change_done s b ≡ Some c → Before s b c
+pub before : (s : Splice) (b c : List ℕ) → change_done s b ≡ Some c → Before s b c
 before s b c e =
     let x = exchanges-from_done s b c e in
     let offset : length x.front ≡ s.at = x.offset in
@@ -204,7 +204,7 @@ before s b c e =
     }
 
 -- where a byte came from over a splice
-pub came_from : (s : Change) (b c : List ℕ) (i j : ℕ) → Before s b c → i < length c → ((i < s.at) × (j ≡ i)) ⊎ ((s.at + length s.new ≤ i) × (j ≡ i - length s.new + length s.old)) → (j < length b) × (slice_get b j ≡ slice_get c i)
+pub came_from : (s : Splice) (b c : List ℕ) (i j : ℕ) → Before s b c → i < length c → ((i < s.at) × (j ≡ i)) ⊎ ((s.at + length s.new ≤ i) × (j ≡ i - length s.new + length s.old)) → (j < length b) × (slice_get b j ≡ slice_get c i)
 came_from s b c i j x h (inl (low, is)) =
     let long : length c ≡ length b - length s.old + length s.new = x.long in
     let within : s.at + length s.old ≤ length b = x.within in
@@ -215,13 +215,13 @@ came_from s b c i j x h (inr (high, is)) =
     (omega (arith, high, is, within, long), ap (slice_get b) is ∙ sym (x.behind i high))
 
 -- the text before a splice that was done
-pub record Earlier (ss : List Change) (text : List ℕ) (k : ℕ) (s : Change) (c : List ℕ) : Type 0 where
+pub record Earlier (ss : List Splice) (text : List ℕ) (k : ℕ) (s : Splice) (c : List ℕ) : Type 0 where
   pub text_before : List ℕ
   pub is : all_done (take k ss) text ≡ Some text_before
   pub bytes : Before s text_before c
   pub small : length text_before < 2 ^ 64
 
-pub earlier : (ss : List Change) (text : List ℕ) (k : ℕ) (s : Change) (c : List ℕ) → lengths_done ss (length text) ≢ None → length text < 2 ^ 64 → slice_get ss k ≡ Some s → all_done (take (k + 1) ss) text ≡ Some c → Earlier ss text k s c
+pub earlier : (ss : List Splice) (text : List ℕ) (k : ℕ) (s : Splice) (c : List ℕ) → lengths_done ss (length text) ≢ None → length text < 2 ^ 64 → slice_get ss k ≡ Some s → all_done (take (k + 1) ss) text ≡ Some c → Earlier ss text k s c
 earlier ss text k s c h small is e =
     let one = sym (done_next ss k s text is) ∙ e in
     elim (all_done (take k ss) text) as (λ o. all_done (take k ss) text ≡ o → option_and_then (change_done s) o ≡ Some c → Earlier ss text k s c) [
@@ -230,7 +230,7 @@ earlier ss text k s c h small is e =
     ] refl one
 
 -- the same, from a place down
-pub one_earlier : (ss : List Change) (text : List ℕ) (n : ℕ) (s : Change) (c : List ℕ) → 0 < n → lengths_done ss (length text) ≢ None → length text < 2 ^ 64 → slice_get ss (n - 1) ≡ Some s → all_done (take n ss) text ≡ Some c → Earlier ss text (n - 1) s c
+pub one_earlier : (ss : List Splice) (text : List ℕ) (n : ℕ) (s : Splice) (c : List ℕ) → 0 < n → lengths_done ss (length text) ≢ None → length text < 2 ^ 64 → slice_get ss (n - 1) ≡ Some s → all_done (take n ss) text ≡ Some c → Earlier ss text (n - 1) s c
 one_earlier ss text n s c pos h small is e =
     let one : n - 1 + 1 ≡ n = omega arith in
     earlier ss text (n - 1) s c h small is (ap (λ k. all_done (take k ss) text) one ∙ e)
@@ -241,7 +241,7 @@ pub some_of : {A : Type 0} (o : Option A) → is_some o ≡ true → (x : A) × 
 some_of None h = cc
 some_of (Some x) h = (x, refl)
 
-pub found_there : (s : Change) (b : List ℕ) → s.at + length s.old ≤ length b → take (length s.old) (drop s.at b) ≡ s.old → (c : List ℕ) × (change_done s b ≡ Some c)
+pub found_there : (s : Splice) (b : List ℕ) → s.at + length s.old ≤ length b → take (length s.old) (drop s.at b) ≡ s.old → (c : List ℕ) × (change_done s b ≡ Some c)
 found_there s b within is = (
   take s.at b ++ (s.new ++ drop (length s.old) (drop s.at b)),
   done-from_exchanges s b (take s.at b ++ (s.new ++ drop (length s.old) (drop s.at b))) (record {
@@ -253,19 +253,19 @@ found_there s b within is = (
   }),
 )
 
-pub not_there : (s : Change) (b : List ℕ) → take (length s.old) (drop s.at b) ≢ s.old → change_done s b ≡ None
+pub not_there : (s : Splice) (b : List ℕ) → take (length s.old) (drop s.at b) ≢ s.old → change_done s b ≡ None
 not_there s b other = none_done s b (λ c x.
     other (ap (λ l. take (length s.old) (drop s.at l)) x.before
     ∙ ap (λ n. take (length s.old) (drop n (x.front ++ (s.old ++ x.rest)))) (sym x.offset)
     ∙ ap (take (length s.old)) (drop-append_seam x.front (s.old ++ x.rest))
     ∙ take-append_seam s.old x.rest))
 
-pub length-turned : (back : Bool) (ss : List Change) → length (turned back ss) ≡ length ss
+pub length-turned : (back : Bool) (ss : List Splice) → length (turned back ss) ≡ length ss
 length-turned false ss = refl
 length-turned true ss = length-flipped ss
 
 -- where lengths are within, splices that are done end with the length that is told
-pub ends_alike : (ss : List Change) (n m : ℕ) (b : List ℕ) → lengths_done ss n ≡ Some m → length b ≡ n → is_some (all_done ss b) ≡ is_some (if length b == n then if_length m (all_done ss b) else None)
+pub ends_alike : (ss : List Splice) (n m : ℕ) (b : List ℕ) → lengths_done ss n ≡ Some m → length b ≡ n → is_some (all_done ss b) ≡ is_some (if length b == n then if_length m (all_done ss b) else None)
 ends_alike ss n m b lengths long =
     elim (all_done ss b) as (λ o. all_done ss b ≡ o → is_some o ≡ is_some (if_length m o)) [
       | None ↦ λ e. refl

@@ -11,14 +11,14 @@ use Rattle.serde_json.specs.Data.{Data, depth, items_depth}
 use Rattle.serde_json.specs.Read.{read, max_depth, of_json}
 use Rattle.serde_json.specs.View.{items_of}
 use Rattle.serde_json.specs.Written.{IsInOrder, has_float, items_have_float}
-use Rattle.yq_script.specs.Patch.{Change}
+use Rattle.yq_script.specs.Patch.{Splice}
 use Rattle.yq_journal.specs.declared.moves.Move.TheVariants.{Edit, Undo, Redo}
 use Rattle.yq_journal.specs.Json.{change_data, record_data, pending_data, journal_data, journal_of, journal_in}
 use Rattle.yq_journal.specs.Record.{Patch}
 use Rattle.yq_journal.specs.State.{Pending, State}
 use Rattle.yq_journal.proofs.LineFeed.{tokens_of_line}
 
-no_float_changes : (cs : List Change) → items_have_float (items_of (map change_data cs)) ≡ false
+no_float_changes : (cs : List Splice) → items_have_float (items_of (map change_data cs)) ≡ false
 no_float_changes [] = refl
 no_float_changes (c ∷ cs) = no_float_changes cs
 
@@ -43,7 +43,7 @@ no_float s =
     ap (λ b. b || (items_have_float (items_of (map record_data s.records)) || false)) (no_float_pending s.pending)
     ∙ ap (λ b. b || false) (no_float_records s.records)
 
-flat_changes : (cs : List Change) → items_depth (items_of (map change_data cs)) ≤ 1
+flat_changes : (cs : List Splice) → items_depth (items_of (map change_data cs)) ≤ 1
 flat_changes [] = omega arith
 flat_changes (c ∷ cs) = let more : items_depth (items_of (map change_data cs)) ≤ 1 = flat_changes cs in omega arith
 

@@ -1,6 +1,6 @@
 -- A text cut in two at a cursor.
 use Rattle.std.specs.Prelude.{List, ℕ, ◌++◌}
-use Rattle.yq_script.specs.Patch.{Change}
+use Rattle.yq_script.specs.Patch.{Splice}
 
 -- what stands before the cursor, and what behind it (own)
 pub record Cut : Type 0 where
@@ -12,5 +12,5 @@ abbrev pub whole : Cut → List ℕ
 whole c = c.before ++ c.behind
 
 -- a splice of these parts (own)
-abbrev pub change : ℕ → List ℕ → List ℕ → Change
+abbrev pub change : ℕ → List ℕ → List ℕ → Splice
 change at old new = record { at = at; old = old; new = new }

@@ -9,7 +9,7 @@ use Rattle.serde_json.specs.View.{items_of}
 use Rattle.serde_json.specs.Written.{compact_text}
 use Rattle.base64.specs.GeneralPurpose.{encode_of, decode_of}
 use Rattle.base64.specs.Engines.{standard}
-use Rattle.yq_script.specs.Patch.{Change, lengths_done}
+use Rattle.yq_script.specs.Patch.{Splice, lengths_done}
 use Rattle.yq_journal.specs.declared.moves.Move.{Move}
 use Rattle.yq_journal.specs.declared.moves.Move.TheVariants.{Edit, Undo, Redo}
 use Rattle.yq_journal.specs.Record.{Patch}
@@ -56,18 +56,18 @@ all_of f (item d ds) = and_more (f d) (all_of f ds)
 -- ---- a splice
 
 -- a splice of these parts (own)
-abbrev pub change_from : Option ℕ → Option (List ℕ) → Option (List ℕ) → Option Change
+abbrev pub change_from : Option ℕ → Option (List ℕ) → Option (List ℕ) → Option Splice
 change_from None old new = None
 change_from (Some at) None new = None
 change_from (Some at) (Some old) None = None
 change_from (Some at) (Some old) (Some new) = Some (record { at = at; old = old; new = new })
 
 -- the splice that a value stands for: the keys are at, new, old (own)
-unfoldable pub change_of : Data → Option Change
+unfoldable pub change_of : Data → Option Splice
 change_of d = if has_keys 3 d then change_from (number_at (codes "at") d) (bytes_at (codes "old") d) (bytes_at (codes "new") d) else None
 
 -- the splices that a value stands for (own)
-abbrev pub changes_of : Data → Option (List Change)
+abbrev pub changes_of : Data → Option (List Splice)
 changes_of d = option_and_then (all_of change_of) (as_array d)
 
 -- ---- a record
@@ -82,7 +82,7 @@ abbrev pub is_record : Patch → Bool
 is_record r = nat_le 1 r.count && is_length (lengths_done r.changes r.before_len) r.after_len
 
 -- a record of these parts, if it is one (own)
-abbrev pub record_from : Option (List ℕ) → Option (List Change) → Option ℕ → Option ℕ → Option ℕ → Option Patch
+abbrev pub record_from : Option (List ℕ) → Option (List Splice) → Option ℕ → Option ℕ → Option ℕ → Option Patch
 record_from None changes before after count = None
 record_from (Some e) None before after count = None
 record_from (Some e) (Some cs) None after count = None
@@ -190,7 +190,7 @@ abbrev pub list_data : {A : Type 0} → (A → Data) → List A → Items
 list_data f xs = items_of (map f xs)
 
 -- a splice as a value (own)
-abbrev pub change_data : Change → Data
+abbrev pub change_data : Splice → Data
 change_data c = object (member (codes "at") (number (unsigned c.at)) (member (codes "new") (bytes_data c.new) (member (codes "old") (bytes_data c.old) no_members)))
 
 -- a record as a value (own)

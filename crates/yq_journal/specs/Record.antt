@@ -1,11 +1,11 @@
 -- What an edit did, as splices between two lengths, and what it is to do and to undo it.
 use Rattle.std.specs.Prelude.{◌≡◌, ◌==◌, ℕ, ◌+◌, ◌-◌, ◌^◌, ◌≤◌, ◌&&◌, Bool, true, List, [], ◌∷◌, ◌++◌, length, min, codes, if◌then◌else◌, Option, Some, None}
-use Rattle.yq_script.specs.Patch.{Change, all_done, flipped, lengths_done}
+use Rattle.yq_script.specs.Patch.{Splice, all_done, flipped, lengths_done}
 
 -- a record: an edit's expression, its splices, the lengths of the texts before and after it, and how many edits it stands for (own)
 pub record Patch : Type 0 where
   pub expr : List ℕ
-  pub changes : List Change
+  pub changes : List Splice
   pub before_len : ℕ
   pub after_len : ℕ
   pub count : ℕ

@@ -1,6 +1,6 @@
 -- When a move or a squash is refused, and with which fault first.
 use Rattle.std.specs.Prelude.{◌≡◌, ◌≢◌, ◌==◌, ℕ, ◌≤◌, ◌&&◌, List, length, nat_le, if◌then◌else◌, Option, Some, None, is_some}
-use Rattle.std.specs.Option.{ForSome}
+use Rattle.std.specs.Option.{ForSome, option_or}
 use Rattle.yq_journal.specs.declared.fault.JournalFault.{JournalFault}
 use Rattle.yq_journal.specs.declared.fault.JournalFault.TheVariants.{NothingToUndo, NothingToRedo, DoesNotStand, BadJournal, Unsettled, JournalFull, BadCount}
 use Rattle.yq_journal.specs.declared.fault.JournalError.{JournalError}
@@ -40,14 +40,9 @@ abbrev pub if_journal : Option State → Option JournalFault
 if_journal None = Some BadJournal
 if_journal (Some s) = None
 
--- the first of two faults (own)
-abbrev pub or_else : Option JournalFault → Option JournalFault → Option JournalFault
-or_else None b = b
-or_else (Some f) b = Some f
-
 -- the first fault of a move on a text, where no move is open (own)
 abbrev pub way_fault : List Patch → ℕ → Move → List ℕ → Option JournalFault
-way_fault records at step t = or_else (no_way records at step) (if_moves (moved_text records at step t))
+way_fault records at step t = option_or (no_way records at step) (if_moves (moved_text records at step t))
 
 -- the first fault of a move on a text (own)
 abbrev pub move_fault : State → Move → List ℕ → Option JournalFault

@@ -10,7 +10,7 @@ use Rattle.std.specs.Cmp.Lexicographic.{slice_cmp}
 use Rattle.std.specs.List.{list_any}
 use Rattle.std.specs.Ordering.{nat_cmp}
 use denote.Bor.{Bor}
-use Rattle.yq_lines.specs.Anchors.{Name, Anchors, Refers}
+use Rattle.yq_scalar.specs.Anchors.{Name, Anchors, Refers}
 use Rattle.yq_lines.specs.Names.{name_view, all_named}
 use Rattle.yq_lines.specs.LinesReading.{are_bound}
 use Rattle.yq_lines.specs.declared.names.Name as declared

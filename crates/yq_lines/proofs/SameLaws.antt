@@ -3,7 +3,7 @@ use Rattle.std.proofs.Common.{◌≡◌, suc, max, List, [], ◌∷◌, ◌++◌
 use Rattle.yq_scalar.specs.Keys.{with_key, keys_of, depth, deepest, are_distinct}
 use Rattle.yq_scalar.specs.Paths.{Step, is_here, further, child_at, node_at, change_child, within, change}
 use Rattle.yq_scalar.specs.Tree.{Node, alias, scalar, list, map, Children, none, child, children_of}
-use Rattle.yq_lines.specs.Anchors.{with_anchor, names_of, names_in}
+use Rattle.yq_scalar.specs.Anchors.{with_anchor, names_of, names_in}
 use Rattle.yq_lines.specs.Sound.{has_unique_keys, each_has_unique_keys}
 
 -- as deep, with unique keys or not, and with the same anchors and aliases

@@ -1,3 +1,4 @@
+pub use Rattle.yq_scalar.specs.Anchors
 pub use Rattle.yq_scalar.specs.Tree
 pub use Rattle.yq_scalar.specs.Paths
 pub use Rattle.yq_scalar.specs.Keys

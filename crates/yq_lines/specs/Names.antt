@@ -2,7 +2,7 @@
 use Rattle.std.specs.Prelude.{ℕ, List, [], ◌∷◌, ◌++◌, map, Option, Some, None, ⊤}
 use Rattle.yq_scalar.specs.Tree as tree
 use Rattle.yq_scalar.specs.Tree.{Node, alias, scalar, list}
-use Rattle.yq_lines.specs.Anchors.{Name, Anchors, Refers, with_anchor, names_of, IsNoAlias}
+use Rattle.yq_scalar.specs.Anchors.{Name, Anchors, Refers, with_anchor, names_of, IsNoAlias}
 use Rattle.yq_lines.specs.declared.names.Name as declared
 use Rattle.yq_lines.specs.Outline.{Line}
 

@@ -2,7 +2,7 @@
 ghost use Rattle.std.specs.Prelude.{◌≡◌, ◌++◌, [], drop, option_map, IfOk, OnOk};
 ghost use Rattle.yq_inline.specs.Trees.{parts_tree, placed_tree};
 ghost use Rattle.yq_inline.specs.View as inline;
-ghost use Rattle.yq_lines.specs.Anchors as spec;
+ghost use Rattle.yq_scalar.specs.Anchors as spec;
 ghost use Rattle.yq_lines.specs.Names.{all_named, head_names, line_names};
 ghost use Rattle.yq_lines.specs.View.{head_view, views};
 

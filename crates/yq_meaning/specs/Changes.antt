@@ -13,7 +13,7 @@ use Rattle.yq_scalar.specs.Tree.{Node, alias, scalar, list, Children, none, chil
 use Rattle.yq_inline.specs.Inline.{depth_limit}
 use Rattle.yq_inline.specs.Written.{scalar_text}
 use Rattle.yq_rows.specs.Grammar.{key_limit}
-use Rattle.yq_lines.specs.Anchors.{Name, Anchors, Refers, names_of, names_in}
+use Rattle.yq_scalar.specs.Anchors.{Name, Anchors, Refers, names_of, names_in}
 use Rattle.yq_program.specs.declared.program.CommentPlace.{CommentPlace}
 use Rattle.yq_program.specs.declared.program.CommentPlace.TheVariants as comments
 use Rattle.yq_program.specs.declared.program.Operator.TheVariants as operator

@@ -6,17 +6,13 @@ use Rattle.std.specs.Ordering.{int_eq}
 use Rattle.yq_scalar.specs.declared.kind.Kind.{Kind}
 use Rattle.yq_scalar.specs.declared.kind.Kind.TheVariants as kinds
 use Rattle.yq_scalar.specs.Paths.{To, child_at}
-use Rattle.yq_scalar.specs.SchemaReading.{int_value}
+use Rattle.yq_scalar.specs.SchemaReading.{int_value, is_true_word}
 use Rattle.yq_scalar.specs.Tree.{Node, alias, scalar, list, map}
 use Rattle.yq_lines.specs.Outline.{null_node}
 use Rattle.yq_meaning.specs.declared.refusal.Refusal.TheVariants.{ThroughAlias}
 use Rattle.yq_meaning.specs.Judgement.{Judgement, gives, refuses, and_then}
 use Rattle.yq_meaning.specs.Places.{Place, walk}
 use Rattle.yq_program.specs.Program.{Step, Operand, value_at, document_index, Condition, compares, has}
-
--- whether a text is a word for true (YAML 1.2.2, section 10.3.2)
-abbrev pub is_true_word : List ℕ → Bool
-is_true_word t = bytes_eq t (codes "true") || bytes_eq t (codes "True") || bytes_eq t (codes "TRUE")
 
 -- whether two bools are the same (own)
 abbrev pub same_bool : Bool → Bool → Bool

@@ -4,7 +4,7 @@ use Rattle.std.specs.Fmt.{signed_decimal}
 use Rattle.yq_scalar.specs.declared.kind.Kind.{Kind}
 use Rattle.yq_scalar.specs.declared.kind.Kind.TheVariants as kinds
 use Rattle.yq_scalar.specs.Numbers.{is_i64}
-use Rattle.yq_scalar.specs.Paths.{To, child_at, change_child, append_child}
+use Rattle.yq_scalar.specs.Paths.{To, child_at, change_child, append_child, append_children}
 use Rattle.yq_scalar.specs.SchemaReading.{int_value}
 use Rattle.yq_scalar.specs.Tree.{Node, alias, scalar, list, map, Children, none, child}
 use Rattle.yq_lines.specs.Outline.{null_node}
@@ -39,11 +39,6 @@ scalar_sum kinds.Float t kinds.Float u = refuses FloatArithmetic
 scalar_sum kinds.Text t kinds.Text u = gives (scalar None kinds.Text (t ++ u))
 scalar_sum kind t other u = refuses KindMismatch
 
--- items or entries and then others (own)
-abbrev pub followed : Children → Children → Children
-followed none ds = ds
-followed (child label n cs) ds = child label n (followed cs ds)
-
 -- what a list gets from a value: the items of a list, or the value as one item (own)
 abbrev pub as_items : Node → Children
 as_items (alias name) = child (new_label None) (alias name) none
@@ -63,7 +58,7 @@ with_entries cs (child label v ds) = with_entries (with_entry label.key v cs) ds
 
 -- the sum of two values, neither of which is null (own)
 abbrev pub value_sum : Node → Node → Judgement Node
-value_sum (list a cs) v = gives (list None (followed cs (as_items v)))
+value_sum (list a cs) v = gives (list None (append_children cs (as_items v)))
 value_sum (map a cs) (map b ds) = gives (map None (with_entries cs ds))
 value_sum (scalar a kind t) (scalar b other u) = scalar_sum kind t other u
 value_sum n v = refuses KindMismatch

@@ -10,13 +10,14 @@ use Rattle.std.specs.Borrow.{Bor}
 use Rattle.std.specs.Cmp.Lexicographic.{slice_cmp}
 use Rattle.std.specs.List.{list_any}
 use Rattle.std.specs.Ordering.{nat_cmp}
+use Rattle.std.specs.Option.{option_or}
 use Rattle.yq_scalar.specs.Paths.{To, child_at, key_is}
 use Rattle.yq_scalar.specs.Tree as tree
 use Rattle.yq_scalar.specs.Tree.{Label, Node, Children, none}
-use Rattle.yq_lines.specs.Anchors.{Name, names_of}
+use Rattle.yq_scalar.specs.Anchors.{Name, names_of}
 use Rattle.yq_meaning.specs.Changes.{refers_to}
 use Rattle.yq_planning.specs.EntryNumbers.{number_kept}
-use Rattle.yq_planning.specs.Indexes.{text_at, HasAliases, kept_first, or_first}
+use Rattle.yq_planning.specs.Indexes.{text_at, HasAliases, kept_first}
 
 -- that a map has a value more, as `insert` says it
 abbrev pub Puts : {X : Type 0} → BTreeMap (Bor (List ℕ)) X → BTreeMap (Bor (List ℕ)) X → List ℕ → X → Type 0
@@ -56,10 +57,10 @@ new_kept a k f label n h absent = go (bytes_eq a k) (f k) refl refl
     go false None e is = here false e
 
 -- behind the last one nothing comes
-pub first_done : (k : List ℕ) (o : Option Node) (cs : Children) (all : Option Node) → cs ≡ none → or_first o (child_at (To k) cs) ≡ all → o ≡ all
-first_done k o cs all is so_far = go o ∙ (ap (λ (ds : Children). or_first o (child_at (To k) ds)) (sym is) ∙ so_far)
+pub first_done : (k : List ℕ) (o : Option Node) (cs : Children) (all : Option Node) → cs ≡ none → option_or o (child_at (To k) cs) ≡ all → o ≡ all
+first_done k o cs all is so_far = go o ∙ (ap (λ (ds : Children). option_or o (child_at (To k) ds)) (sym is) ∙ so_far)
   where
-    go : (o : Option Node) → o ≡ or_first o None
+    go : (o : Option Node) → o ≡ option_or o None
     go (Some old) = refl
     go None = refl
 

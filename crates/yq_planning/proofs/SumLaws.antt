@@ -11,7 +11,7 @@ use mir.Val.{to_z, of_z}
 use Rattle.yq_inline.specs.Values.{items, entries}
 use Rattle.yq_scalar.specs.Numbers as numbers
 use Rattle.yq_scalar.specs.Numbers.{unsigned, minus}
-use Rattle.yq_scalar.specs.Paths.{To, child_at, change_child, append_child}
+use Rattle.yq_scalar.specs.Paths.{To, child_at, change_child, append_child, append_children}
 use Rattle.yq_scalar.specs.Scalar.{of_kind, plain_of}
 use Rattle.yq_scalar.specs.SchemaReading.{resolve}
 use Rattle.yq_scalar.specs.Tree as tree
@@ -24,7 +24,7 @@ use Rattle.yq_planning.specs.EntryNumbers.{entry_number, number_kept}
 use Rattle.yq_meaning.specs.Judgement.{Judgement, gives, refuses, and_then}
 use Rattle.yq_meaning.specs.Places.{Place, in_turn}
 use Rattle.yq_program.specs.Program.{Term}
-use Rattle.yq_meaning.specs.RightValues.{followed, as_items, with_entry, with_entries, value_sum, sum, term_value, sum_from, right_value}
+use Rattle.yq_meaning.specs.RightValues.{as_items, with_entry, with_entries, value_sum, sum, term_value, sum_from, right_value}
 
 -- ---- ints
 
@@ -48,22 +48,22 @@ int_told z t fits e = e ∙ ap signed_decimal (to_z-of_z w64 z fits)
 -- ---- items and entries
 
 -- one item more
-pub item_more : (xs : List Node) (x : Node) (ds : Children) → followed (items (xs ++ x ∷ [])) ds ≡ followed (items xs) (child (new_label None) x ds)
+pub item_more : (xs : List Node) (x : Node) (ds : Children) → append_children (items (xs ++ x ∷ [])) ds ≡ append_children (items xs) (child (new_label None) x ds)
 item_more [] x ds = refl
 item_more (y ∷ xs) x ds = ap (child (new_label None) y) (item_more xs x ds)
 
 -- behind items there is nothing more
-pub followed_none : (cs : Children) → followed cs none ≡ cs
+pub followed_none : (cs : Children) → append_children cs none ≡ cs
 followed_none none = refl
 followed_none (child label n cs) = ap (child label n) (followed_none cs)
 
-item_last : (xs : List Node) (x : Node) → items (xs ++ x ∷ []) ≡ followed (items xs) (child (new_label None) x none)
+item_last : (xs : List Node) (x : Node) → items (xs ++ x ∷ []) ≡ append_children (items xs) (child (new_label None) x none)
 item_last xs x = sym (followed_none (items (xs ++ x ∷ []))) ∙ item_more xs x none
 
 -- a value that is no list is one item
-pub one_item : (xs : List Node) (x v m : Node) → x ≡ m → v ≡ m → as_items m ≡ child (new_label None) m none → items (xs ++ x ∷ []) ≡ followed (items xs) (as_items v)
+pub one_item : (xs : List Node) (x v m : Node) → x ≡ m → v ≡ m → as_items m ≡ child (new_label None) m none → items (xs ++ x ∷ []) ≡ append_children (items xs) (as_items v)
 one_item xs x v m a b one =
-    ap (λ (y : Node). items (xs ++ y ∷ [])) a ∙ (item_last xs m ∙ ap (followed (items xs)) (sym one ∙ ap as_items (sym b)))
+    ap (λ (y : Node). items (xs ++ y ∷ [])) a ∙ (item_last xs m ∙ ap (append_children (items xs)) (sym one ∙ ap as_items (sym b)))
 
 -- an entry behind others
 pub entry_last : (k : List ℕ) (v : Node) (es : List (List ℕ × Node)) → append_child (new_label (Some k)) v (entries es) ≡ entries (es ++ (k, v) ∷ [])

@@ -4,7 +4,7 @@ use Rattle.std.specs.List.{list_any}
 use Rattle.yq_scalar.specs.Paths.{Step, To, child_at, node_at}
 use Rattle.yq_scalar.specs.Tree as tree
 use Rattle.yq_scalar.specs.Tree.{Label, Node, alias, scalar, list, Children, child, children_of}
-use Rattle.yq_lines.specs.Anchors.{Name, Anchors, Refers, names_of, names_in}
+use Rattle.yq_scalar.specs.Anchors.{Name, Anchors, Refers, names_of, names_in}
 use Rattle.yq_documents.specs.Nodes.{anchor_of, kind_of, text_of}
 use Rattle.yq_documents.specs.declared.nodes.node.NodeKind.TheVariants as kinds
 use Rattle.yq_meaning.specs.Changes.{Addition, appends, overwrites, Change, replaces, adds, removes, sets_comment, allowed, is_too_deep, is_too_long, refers_to, is_used, is_used_inside, is_used_in, overwrites_used, takes_used}

@@ -7,7 +7,7 @@ use Rattle.std.specs.List.{list_any}
 use Rattle.std.specs.Ordering.{nat_cmp}
 use Rattle.yq_scalar.specs.Paths.{To, child_at, key_is}
 use Rattle.yq_scalar.specs.Tree.{Label, Node, Children}
-use Rattle.yq_lines.specs.Anchors.{Name}
+use Rattle.yq_scalar.specs.Anchors.{Name}
 use Rattle.yq_documents.specs.Nodes.{node_of}
 use Rattle.yq_documents.specs.declared.nodes.node.Node as nodes
 use Rattle.yq_meaning.specs.Changes.{refers_to}
@@ -28,8 +28,3 @@ HasAliases names m = (k : List ℕ) → is_some (text_at k m) ≡ list_any (refe
 abbrev pub kept_first : List ℕ → Option Node → Label → Node → Option Node
 kept_first k (Some old) label n = Some old
 kept_first k None label n = if key_is k label.key then Some n else None
-
--- what is kept, or what comes (own)
-abbrev pub or_first : {A : Type 0} → Option A → Option A → Option A
-or_first (Some old) new = Some old
-or_first None new = new

@@ -7,7 +7,8 @@ use Rattle.std.proofs.lemmas.Slice.Eq.{bytes_eq-Decides}
 use Rattle.yq_scalar.specs.Scalar.{ScalarText}
 use Rattle.yq_scalar.specs.Tree.{Node}
 use Rattle.yq_scalar.proofs.Bools.{is_true}
-use Rattle.yq_program.specs.Tokens.{Token, symbol, is_one_of, scalar_words}
+use Rattle.yq_scalar.specs.SchemaReading.{is_one_of}
+use Rattle.yq_program.specs.Tokens.{Token, symbol, scalar_words}
 use Rattle.yq_program.specs.Lexing.{after, taken, as_step}
 use Rattle.yq_program.specs.Grammar.{Form, Mark, IsScalar, AreListed, IsField, IsLiteral}
 use Rattle.yq_program.specs.Parse.{Parse, behind_at, word_at, scalar_at, listed_at, field_at, literal_at, begins_left}

@@ -4,7 +4,8 @@ use Rattle.std.specs.Prelude.{codes}
 use Rattle.yq_scalar.specs.Tree.{Node}
 use Rattle.yq_scalar.proofs.Bools.{bind_some, guard_some}
 use Rattle.yq_scalar.specs.Keys.{are_distinct}
-use Rattle.yq_program.specs.Tokens.{Token, string, symbol, is_one_of, scalar_words}
+use Rattle.yq_scalar.specs.SchemaReading.{is_one_of}
+use Rattle.yq_program.specs.Tokens.{Token, string, symbol, scalar_words}
 use Rattle.yq_program.specs.Lexing.{after, taken, as_number, as_string}
 use Rattle.yq_program.specs.Grammar.{Form, Mark, AreParted, IsScalar, AreListed, IsField, IsScalarNode, IsLiteral}
 use Rattle.yq_program.specs.Parse.{Parse, parted_at, word_at, scalar_at, listed_at, field_at, mapping_of, scalar_node_at, literal_at}

@@ -6,7 +6,7 @@ use Rattle.yq_scalar.specs.Keys.{AreDistinct, depth, deepest}
 use Rattle.yq_scalar.specs.Shapes.{IsNew, AreItems, AreEntries, IsTree, AreTrees}
 use Rattle.yq_scalar.specs.Tree as tree
 use Rattle.yq_scalar.specs.Tree.{Label, Node, list, Children, none, child}
-use Rattle.yq_lines.specs.Anchors.{names_of, names_in}
+use Rattle.yq_scalar.specs.Anchors.{names_of, names_in}
 use Rattle.yq_program.specs.Program.{Term, literal, found, Update, assign, delete, comment, Program, read, updates, IsValue, SumHolds, UpdatesHold, LiteralsHold}
 use Rattle.yq_program.specs.Tokens.{Token}
 use Rattle.yq_inline.specs.Values.{items, entries}

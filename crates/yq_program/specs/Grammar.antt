@@ -2,7 +2,7 @@
 use Rattle.std.specs.Prelude.{◌≡◌, ℕ, zero, suc, ◌⊎◌, Bool, true, false, List, [], ◌∷◌, map, Some, None, codes}
 use Rattle.yq_scalar.specs.Keys.{AreDistinct}
 use Rattle.yq_scalar.specs.Scalar.{ScalarText, string_of, plain_of}
-use Rattle.yq_scalar.specs.SchemaReading.{int_value}
+use Rattle.yq_scalar.specs.SchemaReading.{int_value, is_one_of}
 use Rattle.yq_scalar.specs.Tree.{Node}
 use Rattle.yq_scalar.specs.Tree as tree
 use Rattle.yq_program.specs.declared.program.Operator.{Operator}
@@ -10,7 +10,7 @@ use Rattle.yq_program.specs.declared.program.Operator.TheVariants as operator
 use Rattle.yq_program.specs.declared.program.CommentPlace.{CommentPlace}
 use Rattle.yq_program.specs.declared.program.CommentPlace.TheVariants as place
 use Rattle.yq_program.specs.Program.{Step, key, index, each, Operand, value_at, document_index, Condition, compares, has, Stage, path, select, Term, literal, found, Update, assign, delete, comment, Program, read, updates}
-use Rattle.yq_program.specs.Tokens.{Token, string, number, step, symbol, is_one_of, scalar_words}
+use Rattle.yq_program.specs.Tokens.{Token, string, number, step, symbol, scalar_words}
 use Rattle.yq_inline.specs.Values.{items, entries}
 
 -- a form: what it says, its tokens with those that follow, and those that follow (own)

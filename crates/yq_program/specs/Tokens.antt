@@ -4,6 +4,7 @@ use Rattle.std.specs.Char.{is_ascii_digit, is_ascii_alphabetic, is_ascii_alphanu
 use Rattle.std.specs.List.{list_any, list_all}
 use Rattle.std.specs.Str.{bytes_eq}
 use Rattle.yq_scalar.specs.Text.{front, unless}
+use Rattle.yq_scalar.specs.SchemaReading.{is_one_of}
 
 -- a token: a string by its content, a number as written, a step `.name` or `."string"` by its key, a mark or
 -- a word of this language, a token that only other expressions have, or a place where no token begins (own)
@@ -47,10 +48,6 @@ place_words = codes "di" ∷ codes "document_index" ∷ codes "line_comment" ∷
 -- the words for scalars (own)
 abbrev pub scalar_words : List (List ℕ)
 scalar_words = codes "true" ∷ codes "false" ∷ codes "null" ∷ []
-
--- whether a name is one of the words (own)
-abbrev pub is_one_of : List (List ℕ) → List ℕ → Bool
-is_one_of ws name = list_any (bytes_eq name) ws
 
 -- whether a name is a word of this language (own)
 abbrev pub is_word : List ℕ → Bool

@@ -10,9 +10,8 @@ use Rattle.yq_lines.specs.Sound.{is_entry}
 use Rattle.yq_lines.specs.Spots.{is_bare}
 use Rattle.yq_lines.specs.Outline as outline
 use Rattle.yq_rows.specs.Gap.{IsGap}
-use Rattle.yq_rows.specs.Grammar.{IsCut, IsTail, unlimited, AreRows, no_rows}
+use Rattle.yq_rows.specs.Grammar.{IsCut, IsTail, unlimited, AreRows, no_rows, ends_part}
 use Rattle.yq_rows.specs.Rows.{Content, Row, behind_gap, rows_text, Cut, cut_text}
-use Rattle.yq_rows.specs.Seams.{ends_part}
 use Rattle.yq_rows.specs.Splices.{first_gap}
 use Rattle.yq_rows.specs.View.{content_cut}
 use Rattle.yq_rows.proofs.NothingLaws.{gap_other}

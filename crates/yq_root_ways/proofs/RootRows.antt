@@ -19,10 +19,9 @@ use Rattle.yq_lines.specs.Outline.{Line, level, rank, Mark, Outline, end, row, f
 use Rattle.yq_lines.proofs.ByRules.{rules_give}
 use Rattle.yq_lines.proofs.NodeLaws.{anchored_none}
 use Rattle.yq_rows.specs.Gap.{IsGap}
-use Rattle.yq_rows.specs.Grammar.{is_entry, is_plain, IsTail, IsRow, unlimited, AreRows, no_rows}
+use Rattle.yq_rows.specs.Grammar.{is_entry, is_plain, IsTail, IsRow, unlimited, AreRows, no_rows, ends_part}
 use Rattle.yq_rows.specs.Rows as rows
 use Rattle.yq_rows.specs.Rows.{Bare, Inline, Row, behind_gap, rows_text}
-use Rattle.yq_rows.specs.Seams.{ends_part}
 use Rattle.yq_rows.specs.Splices.{with_first_gap, with_row_gap, first_gap}
 use Rattle.yq_rows.proofs.PlainEnds.{tail_ends, gap_line}
 use Rattle.yq_rows.proofs.seams.FrontSeams.{behind_row_some}

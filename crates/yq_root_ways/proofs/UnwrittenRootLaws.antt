@@ -9,9 +9,8 @@ use Rattle.yq_scalar.proofs.Bools.{and_true, bind_some, or_false}
 use Rattle.yq_lines.specs.Comments.{head_comment}
 use Rattle.yq_lines.specs.Spots.{is_bare}
 use Rattle.yq_rows.specs.Gap.{IsLineEnd, IsGapLine, AreGapLines, IsGap}
-use Rattle.yq_rows.specs.Grammar.{IsCut, IsMarkerLine, IsTail, unlimited, AreRows, AreParts, begins_document}
+use Rattle.yq_rows.specs.Grammar.{IsCut, IsMarkerLine, IsTail, unlimited, AreRows, AreParts, begins_document, ends_part}
 use Rattle.yq_rows.specs.Rows.{Row, rows_text, Part, part_text, Cut, last, marked, cut_text}
-use Rattle.yq_rows.specs.Seams.{ends_part}
 use Rattle.yq_rows.specs.SpliceFits.{is_after}
 use Rattle.yq_rows.specs.Splices.{behind_part, first_gap, marker_before, nth_part}
 use Rattle.yq_rows.proofs.LineEnds.{white_none, comment_none}

@@ -11,7 +11,7 @@ use Rattle.yq_scalar.proofs.Boundaries.{boundary_line}
 use Rattle.yq_scalar.proofs.LineLaws.{line_len_some, line_len_within}
 use Rattle.yq_scalar.specs.Lines.{is_hash}
 use Rattle.yq_rows.specs.Gap.{IsGapLine, AreGapLines, IsGap}
-use Rattle.yq_rows.specs.Reading.{is_gap_line, gap_lines, gap_len, cut_gap}
+use Rattle.yq_rows.specs.Reading.{begins_gap, gap_lines, gap_len, cut_gap}
 use Rattle.yq_rows.proofs.LineEnds.{white_cut, white_again, line_end_takes, line_end_behind, line_end_line, line_again}
 
 some_line : (t : List ℕ) → is_empty t ≡ false → is_empty (cut_line t).0 ≡ false
@@ -20,7 +20,7 @@ some_line [] h = h
 some_line (b ∷ bs) h = cond_both (is_feed b) 1 (suc (line_len bs)) (λ n. is_empty (take n (b ∷ bs)) ≡ false) (λ _. refl) (λ _. refl)
 
 -- a line of a gap
-gap_line_takes : (t : List ℕ) → is_gap_line t ≡ true → IsGapLine (cut_line t).0 (cut_line t).1
+gap_line_takes : (t : List ℕ) → begins_gap t ≡ true → IsGapLine (cut_line t).0 (cut_line t).1
 gap_line_takes t h =
     let parts = and_true (not (is_empty t)) (ends_line (past_white t) || is_hash (past_white t)) h in
     let c = cut no_white t in
@@ -34,7 +34,7 @@ some_more : (l rest : List ℕ) → is_empty l ≡ false → is_empty (l ++ rest
 some_more [] rest h = absurd (false≢true (sym h))
 some_more (b ∷ l) rest h = refl
 
-gap_line_again : (l rest : List ℕ) → IsGapLine l rest → (is_gap_line (l ++ rest) ≡ true) × (cut_line (l ++ rest) ≡ (l, rest))
+gap_line_again : (l rest : List ℕ) → IsGapLine l rest → (begins_gap (l ++ rest) ≡ true) × (cut_line (l ++ rest) ≡ (l, rest))
 gap_line_again l rest h =
     let u = line_end_behind h.white h.comment l rest h.line in
     let whites : past_white (l ++ rest) ≡ u.0 = ap (λ s. (cut no_white s).1) u.1 ∙ ap (λ (y : List ℕ × List ℕ). y.1) (white_again h.white u.0 h.line.blank u.2) in
@@ -56,9 +56,9 @@ gap_fuel (suc n) (suc m) (x ∷ t) a b =
     let s : List ℕ = x ∷ t in
     let less : length (drop (line_len s) s) ≤ length t = omega (arith, length-drop (line_len s) s, line_len_within s, line_len_pos x t) in
     let again = gap_fuel n m (drop (line_len s) s) (omega arith) (omega arith) in
-    ap (λ k. cond (is_gap_line s) (line_len s + k) 0) again
+    ap (λ k. cond (begins_gap s) (line_len s + k) 0) again
 
-pub gap_step : (t : List ℕ) → is_gap_line t ≡ true → gap_len t ≡ line_len t + gap_len (drop (line_len t) t)
+pub gap_step : (t : List ℕ) → begins_gap t ≡ true → gap_len t ≡ line_len t + gap_len (drop (line_len t) t)
 unfolding gap_lines
 gap_step [] h = absurd (false≢true h)
 gap_step (x ∷ t) h =
@@ -67,14 +67,14 @@ gap_step (x ∷ t) h =
     let again = gap_fuel (length t) (length (drop (line_len s) s)) (drop (line_len s) s) less (omega arith) in
     rw h (ap (λ k. line_len s + k) again)
 
-pub gap_stop : (t : List ℕ) → is_gap_line t ≡ false → gap_len t ≡ 0
+pub gap_stop : (t : List ℕ) → begins_gap t ≡ false → gap_len t ≡ 0
 unfolding gap_lines
 gap_stop [] h = refl
 gap_stop (x ∷ t) h = rw h refl
 
 -- a gap
 abbrev pub IsGapCut : List ℕ → List ℕ → Type 0
-IsGapCut p rest = IsGap p rest × (is_gap_line rest ≡ false)
+IsGapCut p rest = IsGap p rest × (begins_gap rest ≡ false)
 
 gap_lines_take : (n : ℕ) (t : List ℕ) → length t ≤ n → IsGapCut (take (gap_lines n t) t) (drop (gap_lines n t) t)
 unfolding gap_lines
@@ -86,7 +86,7 @@ gap_lines_take (suc n) (b ∷ bs) h =
     let rest = drop (line_len t) t in
     let again = gap_lines_take n rest (omega (arith, length-drop (line_len t) t, line_len_pos b bs)) in
     let k = gap_lines n rest in
-    cond_both (is_gap_line t) (line_len t + k) 0 (λ m. IsGapCut (take m t) (drop m t))
+    cond_both (begins_gap t) (line_len t + k) 0 (λ m. IsGapCut (take m t) (drop m t))
     (λ is. rw (take-add (line_len t) k t, ← drop-drop k (line_len t) t) (
       record {
         lines = take (line_len t) t ∷ again.0.lines;
@@ -100,7 +100,7 @@ gap_lines_take (suc n) (b ∷ bs) h =
 pub gap_takes : (t : List ℕ) → IsGapCut (cut_gap t).0 (cut_gap t).1
 gap_takes t = gap_lines_take (length t) t (omega arith)
 
-gap_len-lines : (lines : List (List ℕ)) (rest : List ℕ) → AreGapLines lines rest → is_gap_line rest ≡ false → gap_len (joined lines ++ rest) ≡ length (joined lines)
+gap_len-lines : (lines : List (List ℕ)) (rest : List ℕ) → AreGapLines lines rest → begins_gap rest ≡ false → gap_len (joined lines ++ rest) ≡ length (joined lines)
 gap_len-lines [] rest h stop = gap_stop rest stop
 gap_len-lines (l ∷ ls) rest h stop =
     let t : List ℕ = l ++ (joined ls ++ rest) in
@@ -123,7 +123,7 @@ unfolding gap_lines
 boundary_lines zero t u = IsCharBoundary-start t u
 boundary_lines (suc n) t u =
     let here = boundary_line t (line_len t) refl u in
-    cond_both (is_gap_line t) (line_len t + gap_lines n (drop (line_len t) t)) 0 (λ k. IsCharBoundary t k)
+    cond_both (begins_gap t) (line_len t + gap_lines n (drop (line_len t) t)) 0 (λ k. IsCharBoundary t k)
     (λ _. IsCharBoundary-from_rest t (line_len t) _ (line_len_within t) (boundary_lines n (drop (line_len t) t) (IsUtf8-drop t _ u here)))
     (λ _. IsCharBoundary-start t u)
 

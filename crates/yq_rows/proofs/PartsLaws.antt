@@ -5,8 +5,8 @@ use Rattle.yq_scalar.specs.Answers.{◌>>=◌}
 use Rattle.yq_scalar.specs.Text.{is_empty, is_marker}
 use Rattle.yq_scalar.proofs.Bools.{is_true, bind_some, guard_some}
 use Rattle.yq_inline.proofs.Binds.{some_same, bind_same}
-use Rattle.yq_rows.specs.Grammar.{Limit, unlimited, limit_after, AreRows, no_rows, IsPart, IsMarkerLine, begins_document}
-use Rattle.yq_rows.specs.Reading.{tail_at, ends_rows, all_rows, part_at, marker_at, parts_at, all_parts}
+use Rattle.yq_rows.specs.Grammar.{Limit, unlimited, limit_after, AreRows, no_rows, IsPart, IsMarkerLine, begins_document, ends_part}
+use Rattle.yq_rows.specs.Reading.{tail_at, all_rows, part_at, marker_at, parts_at, all_parts}
 use Rattle.yq_rows.specs.Rows.{Row, behind_gap, Part, part_text, rows_text, Cut, last, marked}
 use Rattle.yq_rows.proofs.PieceLaws.{tail_takes, tail_again}
 use Rattle.yq_rows.proofs.RowLaws.{row_longer, suffix_le}
@@ -16,7 +16,7 @@ use Rattle.yq_rows.proofs.RowsRead.{rows_takes, rows_again}
 pub record PartCut (started : Bool) (t : List ℕ) (x : Part × List ℕ) : Type 0 where
   pub text : t ≡ part_text x.0 x.1
   pub part : IsPart started x.0 x.1
-  pub ends : ends_rows x.1 ≡ true
+  pub ends : ends_part x.1 ≡ true
 
 pub part_takes : (started : Bool) (t : List ℕ) (x : Part × List ℕ) → part_at started t ≡ Some x → PartCut started t x
 unfolding part_at
@@ -26,7 +26,7 @@ part_takes started t x h =
     let rows = rows_takes (suc (length t)) unlimited t part.0 part.1 in
     subst (PartCut started t) g.1 (record { text = rows.text; part = record { rows = rows.rows; inside = g.0 }; ends = rows.ends })
 
-pub part_again : (started : Bool) (p : Part) (rest : List ℕ) → IsPart started p rest → ends_rows rest ≡ true → part_at started (part_text p rest) ≡ Some (p, rest)
+pub part_again : (started : Bool) (p : Part) (rest : List ℕ) → IsPart started p rest → ends_part rest ≡ true → part_at started (part_text p rest) ≡ Some (p, rest)
 unfolding part_at
 part_again started p rest h ends =
     rw (rows_again p.rows unlimited p.end rest (suc (length (part_text p rest))) h.rows ends (omega arith), h.inside) refl
@@ -59,11 +59,11 @@ marker_shorter t x is h =
     let l = marker_takes t x is h in
     rw l.0 (marker_again x.0 x.1 l.1).1
 
-pub marker_ends : (t : List ℕ) → is_marker t ≡ true → (is_empty t ≡ false) × (ends_rows t ≡ true)
+pub marker_ends : (t : List ℕ) → is_marker t ≡ true → (is_empty t ≡ false) × (ends_part t ≡ true)
 marker_ends [] h = absurd (false≢true h)
 marker_ends (b ∷ t) h = (refl, h)
 
-pub ends_marker : (t : List ℕ) → ends_rows t ≡ true → is_empty t ≡ false → is_marker t ≡ true
+pub ends_marker : (t : List ℕ) → ends_part t ≡ true → is_empty t ≡ false → is_marker t ≡ true
 ends_marker [] h some = absurd (false≢true (sym some))
 ends_marker (b ∷ t) h some = h
 
@@ -89,7 +89,7 @@ then_cut part marker read = read >>= λ parts. Some (marked part marker parts)
 abbrev parts_by : ℕ → Part × List ℕ → Option Cut
 parts_by n part = cond (is_empty part.1) (Some (last part.0)) (marker_at part.1 >>= λ marker. then_cut part.0 marker.0 (parts_at n (begins_document marker.0) marker.1))
 
-marked_fuel : (n m : ℕ) (part : Part × List ℕ) → ends_rows part.1 ≡ true → ((marker : List ℕ × List ℕ) → length marker.1 < length part.1 → parts_at n (begins_document marker.0) marker.1 ≡ parts_at m (begins_document marker.0) marker.1) → parts_by n part ≡ parts_by m part
+marked_fuel : (n m : ℕ) (part : Part × List ℕ) → ends_part part.1 ≡ true → ((marker : List ℕ × List ℕ) → length marker.1 < length part.1 → parts_at n (begins_document marker.0) marker.1 ≡ parts_at m (begins_document marker.0) marker.1) → parts_by n part ≡ parts_by m part
 marked_fuel n m part ends h = elim (is_true (is_empty part.1)) [
   | inl e ↦ rw e refl
   | inr e ↦ rw e (bind_same (λ marker. then_cut part.0 marker.0 (parts_at n (begins_document marker.0) marker.1)) (λ marker. then_cut part.0 marker.0 (parts_at m (begins_document marker.0) marker.1)) (marker_at part.1)
@@ -109,7 +109,7 @@ parts_fuel (suc n) (suc m) started t a b =
 abbrev pub parts_behind : Part × List ℕ → Option Cut
 parts_behind part = cond (is_empty part.1) (Some (last part.0)) (marker_at part.1 >>= λ marker. then_cut part.0 marker.0 (all_parts (begins_document marker.0) marker.1))
 
-marked_all : (n : ℕ) (part : Part × List ℕ) → ends_rows part.1 ≡ true → length part.1 ≤ n → parts_by n part ≡ parts_behind part
+marked_all : (n : ℕ) (part : Part × List ℕ) → ends_part part.1 ≡ true → length part.1 ≤ n → parts_by n part ≡ parts_behind part
 marked_all n part ends h = elim (is_true (is_empty part.1)) [
   | inl e ↦ rw e refl
   | inr e ↦ rw e (bind_same (λ marker. then_cut part.0 marker.0 (parts_at n (begins_document marker.0) marker.1)) (λ marker. then_cut part.0 marker.0 (all_parts (begins_document marker.0) marker.1)) (marker_at part.1)

@@ -4,8 +4,8 @@ use Rattle.std.proofs.Math.Bool.{and-false}
 use Rattle.std.proofs.lemmas.List.{length-replicate}
 use Rattle.yq_scalar.specs.Text.{past_white, is_empty, is_marker}
 use Rattle.yq_rows.specs.Gap.{IsWhite}
-use Rattle.yq_rows.specs.Grammar.{IsRow, IsContent, IsMark, Limit, allows}
-use Rattle.yq_rows.specs.Reading.{is_gap_line, marks_at, fits, marked_row_at, row_at, ends_rows}
+use Rattle.yq_rows.specs.Grammar.{IsRow, IsContent, IsMark, Limit, allows, ends_part}
+use Rattle.yq_rows.specs.Reading.{begins_gap, marks_at, fits, marked_row_at, row_at}
 use Rattle.yq_rows.specs.Rows.{Mark, Bare, Dash, Key, Content, dashes_text, mark_text, content_text, Row, behind_indent, behind_gap, parent_indent}
 use Rattle.yq_rows.proofs.ContentEnds.{alone_no_entry, mark_ended}
 use Rattle.yq_rows.proofs.ContentLaws.{content_again}
@@ -32,12 +32,12 @@ white_spaces zero = tt
 white_spaces (suc n) = (refl, white_spaces n)
 
 -- a row is in no gap
-pub no_gap_line : (n : ℕ) (t : List ℕ) → Starts t → is_gap_line (replicate n 32 ++ t) ≡ false
+pub no_gap_line : (n : ℕ) (t : List ℕ) → Starts t → begins_gap (replicate n 32 ++ t) ≡ false
 no_gap_line n t h =
     let behind : past_white (replicate n 32 ++ t) ≡ t = ap (λ (y : List ℕ × List ℕ). y.1) (white_again (replicate n 32) t (white_spaces n) h.no_white) in
     rw (behind, h.no_end, h.no_hash) (and-false _)
 
-pub row_no_gap : (limit : Limit) (r : Row) (rest : List ℕ) → IsRow limit r rest → is_gap_line (behind_gap r rest) ≡ false
+pub row_no_gap : (limit : Limit) (r : Row) (rest : List ℕ) → IsRow limit r rest → begins_gap (behind_gap r rest) ≡ false
 row_no_gap limit r rest h = no_gap_line r.column (behind_indent r rest) (row_starts limit r rest h)
 
 -- and no marker
@@ -46,11 +46,11 @@ space_no_marker [] = refl
 space_no_marker (a ∷ []) = refl
 space_no_marker (a ∷ (b ∷ t)) = refl
 
-no_end : (n : ℕ) (t : List ℕ) → (eqb n 0 && is_marker t) ≡ false → is_empty t ≡ false → ends_rows (replicate n 32 ++ t) ≡ false
+no_end : (n : ℕ) (t : List ℕ) → (eqb n 0 && is_marker t) ≡ false → is_empty t ≡ false → ends_part (replicate n 32 ++ t) ≡ false
 no_end zero t h some = rw (some, h) refl
 no_end (suc n) t h some = space_no_marker (replicate n 32 ++ t)
 
-pub row_no_end : (limit : Limit) (r : Row) (rest : List ℕ) → IsRow limit r rest → ends_rows (behind_gap r rest) ≡ false
+pub row_no_end : (limit : Limit) (r : Row) (rest : List ℕ) → IsRow limit r rest → ends_part (behind_gap r rest) ≡ false
 row_no_end limit r rest h = no_end r.column (behind_indent r rest) h.unmarked (row_starts limit r rest h).some
 
 -- the row again

@@ -7,9 +7,9 @@ use Rattle.yq_scalar.specs.Text.{cut, no_space, no_white, is_marker}
 use Rattle.yq_scalar.proofs.Bools.{bind_some}
 use Rattle.yq_inline.specs.Nodes.{begins_node}
 use Rattle.yq_inline.proofs.Binds.{some_same}
-use Rattle.yq_rows.specs.Grammar.{Limit, unlimited, allows, limit_after, limit_behind, is_entry, no_rows}
+use Rattle.yq_rows.specs.Grammar.{Limit, unlimited, allows, limit_after, limit_behind, is_entry, no_rows, ends_part}
 use Rattle.yq_rows.specs.Lending.{begun, filled, filled_at, holds_plain, limit_by, Lent, lent, row_of, marked_lent, row_lent, rows_lent, inline_lent, block_lent}
-use Rattle.yq_rows.specs.Reading.{Marks, marks_at, content_at, begins_block, tail_at, fits, marked_row_at, row_at, gap_len, cut_gap, ends_rows, all_rows, part_at}
+use Rattle.yq_rows.specs.Reading.{Marks, marks_at, content_at, begins_block, tail_at, fits, marked_row_at, row_at, gap_len, cut_gap, all_rows, part_at}
 use Rattle.yq_rows.specs.Rows.{Content, Nothing, Inline, Block, Row, behind_columns, parent_of, dashes_text, Part}
 use Rattle.yq_rows.specs.View.{Slices, slices, slices_text, last_dash, key_of, colon_of}
 use Rattle.yq_rows.proofs.BeginSteps.{columns_from}
@@ -106,7 +106,7 @@ pub record OneRow (front : List Slices) (limit : Limit) (gap t : List ℕ) (s : 
   pub shorter : length after < length t
   pub step : rows_lent front (rows_from limit gap t) ≡ rows_lent (front ++ s ∷ []) (rows_from l (cut_gap after).0 (cut_gap after).1)
 
-pub one_row : (front : List Slices) (limit : Limit) (gap t : List ℕ) (s : Slices) (l : Limit) (after : List ℕ) → ends_rows t ≡ false → row_lent limit gap t ≡ Some (s, l, after) → OneRow front limit gap t s l after
+pub one_row : (front : List Slices) (limit : Limit) (gap t : List ℕ) (s : Slices) (l : Limit) (after : List ℕ) → ends_part t ≡ false → row_lent limit gap t ≡ Some (s, l, after) → OneRow front limit gap t s l after
 one_row front limit gap t s l after more h =
     let x = bind_some (row_at limit gap t) h in
     let is : lent x.0 ≡ (s, l, after) = some_same x.2 in
@@ -116,13 +116,13 @@ one_row front limit gap t s l after more h =
       step = ap (rows_lent front) step ∙ lent_front front x.0.0 _;
     })
 
-pub no_row : (front : List Slices) (limit : Limit) (gap t : List ℕ) → ends_rows t ≡ false → row_lent limit gap t ≡ None → rows_lent front (rows_from limit gap t) ≡ None
+pub no_row : (front : List Slices) (limit : Limit) (gap t : List ℕ) → ends_part t ≡ false → row_lent limit gap t ≡ None → rows_lent front (rows_from limit gap t) ≡ None
 no_row front limit gap t more h = ap (rows_lent front) (rows_refused limit gap t more (none (row_at limit gap t) h)) where
   none : (o : Option (Row × List ℕ)) → (o >>= λ x. Some (lent x)) ≡ None → o ≡ None
   none None h = refl
   none (Some x) h = cc
 
-pub rows_end : (front : List Slices) (limit : Limit) (gap t : List ℕ) → ends_rows t ≡ true → rows_lent front (rows_from limit gap t) ≡ Some (front, gap, t)
+pub rows_end : (front : List Slices) (limit : Limit) (gap t : List ℕ) → ends_part t ≡ true → rows_lent front (rows_from limit gap t) ≡ Some (front, gap, t)
 rows_end front limit gap t none = ap (rows_lent front) (rows_done limit gap t none) ∙ ap (λ (l : List Slices). Some (l, gap, t)) (append-nil front)
 
 -- a row that was read, with the gap before it, stands in front of what follows
@@ -147,14 +147,14 @@ cut_within t g r e = subst (λ (y : List ℕ × List ℕ). length y.1 ≤ length
 pub row_joined : (limit next : Limit) (t g r : List ℕ) (s : Slices) (after : List ℕ) → (g, r) ≡ cut_gap t → row_lent limit g r ≡ Some (s, next, after) → t ≡ slices_text s after
 row_joined limit next t g r s after e h = gap_joined t g r e ∙ row_spelled limit g r s next after h
 
-pub loop_smaller : (limit next : Limit) (t g r : List ℕ) (s : Slices) (after : List ℕ) → (g, r) ≡ cut_gap t → ends_rows r ≡ false → row_lent limit g r ≡ Some (s, next, after) → length after < length t
+pub loop_smaller : (limit next : Limit) (t g r : List ℕ) (s : Slices) (after : List ℕ) → (g, r) ≡ cut_gap t → ends_part r ≡ false → row_lent limit g r ≡ Some (s, next, after) → length after < length t
 loop_smaller limit next t g r s after e more h =
     let less = cut_within t g r e in
     let short = (one_row [] limit g r s next after more h).shorter in
     omega arith
 
 pub loop_step : (front items : List Slices) (limit next : Limit) (t g r : List ℕ) (s : Slices) (after : List ℕ) (all : Option (List Slices × List ℕ × List ℕ)) →
-    (g, r) ≡ cut_gap t → ends_rows r ≡ false → row_lent limit g r ≡ Some (s, next, after) → items ≡ front ++ s ∷ [] →
+    (g, r) ≡ cut_gap t → ends_part r ≡ false → row_lent limit g r ≡ Some (s, next, after) → items ≡ front ++ s ∷ [] →
     rows_lent front (all_rows limit t) ≡ all → rows_lent items (all_rows next after) ≡ all
 loop_step front items limit next t g r s after all e more h is so_far =
     let step = (one_row front limit g r s next after more h).step in
@@ -174,17 +174,17 @@ or_none : (started : Bool) (gap : List ℕ × List ℕ) → cond (started || tru
 or_none true gap = refl
 or_none false gap = refl
 
-pub part_empty : (started : Bool) (t : List ℕ) → ends_rows (cut_gap t).1 ≡ true → part_at started t ≡ all_rows unlimited t
+pub part_empty : (started : Bool) (t : List ℕ) → ends_part (cut_gap t).1 ≡ true → part_at started t ≡ all_rows unlimited t
 unfolding part_at
 part_empty started t none =
     let read = rows_cut unlimited t ∙ rows_done unlimited (cut_gap t).0 (cut_gap t).1 none in
     rw read (or_none started (cut_gap t))
 
-pub part_same : (started : Bool) (t : List ℕ) → (started || ends_rows (cut_gap t).1) ≡ true → part_at started t ≡ all_rows unlimited t
+pub part_same : (started : Bool) (t : List ℕ) → (started || ends_part (cut_gap t).1) ≡ true → part_at started t ≡ all_rows unlimited t
 part_same true t h = part_open t
 part_same false t h = part_empty false t h
 
-pub part_refused : (t : List ℕ) → ends_rows (cut_gap t).1 ≡ false → part_at false t ≡ None
+pub part_refused : (t : List ℕ) → ends_part (cut_gap t).1 ≡ false → part_at false t ≡ None
 unfolding part_at rows_from
 part_refused t some = rw (rows_cut unlimited t, some) (rows (row_at unlimited (cut_gap t).0 (cut_gap t).1)) where
   more : (r : Row) (o : Option (Part × List ℕ)) → (with_front (r ∷ []) o >>= λ part. if false || no_rows part.0.rows then Some part else None) ≡ None
@@ -195,6 +195,6 @@ part_refused t some = rw (rows_cut unlimited t, some) (rows (row_at unlimited (c
   rows (Some row) = more row.0 (all_rows (limit_after row.0) row.1)
   rows None = refl
 
-pub part_shut : (started : Bool) (t : List ℕ) → (started || ends_rows (cut_gap t).1) ≡ false → part_at started t ≡ None
+pub part_shut : (started : Bool) (t : List ℕ) → (started || ends_part (cut_gap t).1) ≡ false → part_at started t ≡ None
 part_shut true t h = absurd (false≢true (sym h))
 part_shut false t h = part_refused t h

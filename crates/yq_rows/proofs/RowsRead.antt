@@ -7,8 +7,8 @@ use Rattle.yq_scalar.specs.Text.{is_marker}
 use Rattle.yq_scalar.proofs.Bools.{at_byte, bind_some, chosen}
 use Rattle.yq_inline.proofs.Binds.{some_same}
 use Rattle.yq_rows.specs.Gap.{IsGap}
-use Rattle.yq_rows.specs.Grammar.{IsRow, Limit, limit_after, AreRows}
-use Rattle.yq_rows.specs.Reading.{gap_len, cut_gap, is_gap_line, row_at, ends_rows, rows_at}
+use Rattle.yq_rows.specs.Grammar.{IsRow, Limit, limit_after, AreRows, ends_part}
+use Rattle.yq_rows.specs.Reading.{gap_len, cut_gap, begins_gap, row_at, rows_at}
 use Rattle.yq_rows.specs.Rows.{Row, Part, part_text, behind_gap, print_row, rows_text}
 use Rattle.yq_rows.proofs.Fronts.{Starts, starts_by}
 use Rattle.yq_rows.proofs.GapLaws.{gap_takes, gap_again}
@@ -25,7 +25,7 @@ marker_starts (a ∷ (b ∷ (c ∷ t))) h =
     let test : ℕ → Bool = λ x. is_marker (x ∷ (b ∷ (c ∷ t))) in
     starts_by a (b ∷ (c ∷ t)) (at_byte test a 32 h refl) (at_byte test a 9 h refl) (rw (at_byte test a 10 h refl, at_byte test a 13 h refl) refl) (at_byte test a 35 h refl)
 
-pub end_no_gap : (t : List ℕ) → ends_rows t ≡ true → is_gap_line t ≡ false
+pub end_no_gap : (t : List ℕ) → ends_part t ≡ true → begins_gap t ≡ false
 end_no_gap [] h = refl
 end_no_gap (b ∷ t) h = no_gap_line zero (b ∷ t) (marker_starts (b ∷ t) h)
 
@@ -40,7 +40,7 @@ gap_join t = take-append-drop (gap_len t) t
 pub record RowsCut (limit : Limit) (t : List ℕ) (x : Part × List ℕ) : Type 0 where
   pub text : t ≡ part_text x.0 x.1
   pub rows : AreRows limit x.0.rows x.0.end x.1
-  pub ends : ends_rows x.1 ≡ true
+  pub ends : ends_part x.1 ≡ true
 
 one_more : (limit : Limit) (t : List ℕ) (row : Row × List ℕ) (x : Part × List ℕ) → row_at limit (cut_gap t).0 (cut_gap t).1 ≡ Some row → RowsCut (limit_after row.0) row.1 x → RowsCut limit t (record { rows = row.0 ∷ x.0.rows; end = x.0.end }, x.1)
 one_more limit t row x e more =
@@ -57,19 +57,19 @@ pub rows_takes : (n : ℕ) (limit : Limit) (t : List ℕ) (x : Part × List ℕ)
 unfolding rows_at
 rows_takes zero limit t x h = cc
 rows_takes (suc n) limit t x h = ⊎_elim {0, 0, 0}
-    (λ (e : (ends_rows (cut_gap t).1 ≡ true) × (no_more (cut_gap t) ≡ Some x)).
+    (λ (e : (ends_part (cut_gap t).1 ≡ true) × (no_more (cut_gap t) ≡ Some x)).
     subst (RowsCut limit t) (some_same e.1) (record { text = sym (gap_join t); rows = gap_law t; ends = e.0 }))
     (λ e.
     let row = bind_some (row_at limit (cut_gap t).0 (cut_gap t).1) e.1 in
     let rest = bind_some (rows_at n (limit_after row.0.0) row.0.1) row.2 in
     subst (RowsCut limit t) (some_same rest.2) (one_more limit t row.0 rest.0 row.1 (rows_takes n (limit_after row.0.0) row.0.1 rest.0 rest.1)))
-    (chosen (ends_rows (cut_gap t).1) h)
+    (chosen (ends_part (cut_gap t).1) h)
 
 -- and read again
 abbrev rows_by : ℕ → Limit → List ℕ × List ℕ → Option (Part × List ℕ)
-rows_by n limit g = cond (ends_rows g.1) (no_more g) (row_at limit g.0 g.1 >>= then_rows n)
+rows_by n limit g = cond (ends_part g.1) (no_more g) (row_at limit g.0 g.1 >>= then_rows n)
 
-pub rows_again : (rs : List Row) (limit : Limit) (end rest : List ℕ) (n : ℕ) → AreRows limit rs end rest → ends_rows rest ≡ true → length (rows_text rs (end ++ rest)) < n → rows_at n limit (rows_text rs (end ++ rest)) ≡ Some (record { rows = rs; end = end }, rest)
+pub rows_again : (rs : List Row) (limit : Limit) (end rest : List ℕ) (n : ℕ) → AreRows limit rs end rest → ends_part rest ≡ true → length (rows_text rs (end ++ rest)) < n → rows_at n limit (rows_text rs (end ++ rest)) ≡ Some (record { rows = rs; end = end }, rest)
 unfolding rows_at
 rows_again rs limit end rest zero h ends short = absurd (omega arith)
 rows_again [] limit end rest (suc n) h ends short =

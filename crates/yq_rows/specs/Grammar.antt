@@ -146,6 +146,10 @@ pub record IsMarkerLine (p rest : List ℕ) : Type 0 where
   pub long : 3 ≤ length p
   pub tail : IsTail (drop 3 p) rest
 
+-- the end of the text is in front, or a marker (YAML 1.2.2, section 9.1.2)
+abbrev pub ends_part : List ℕ → Bool
+ends_part t = is_empty t || is_marker t
+
 -- the marker `---`, which begins a document (YAML 1.2.2, section 9.1.2)
 abbrev pub begins_document : List ℕ → Bool
 begins_document marker = front (λ b. b == 45) marker

@@ -10,17 +10,17 @@ use Rattle.yq_scalar.specs.Lines.{is_hash}
 use Rattle.yq_inline.specs.Inline.{depth_limit}
 use Rattle.yq_inline.specs.Nodes.{first_is, in_name, begins_node}
 use Rattle.yq_inline.specs.Reading.{scalar_at, name_at, all_node}
-use Rattle.yq_rows.specs.Grammar.{is_entry, may_be_alone, Limit, unlimited, allows, limit_after, key_limit, no_rows, begins_document}
+use Rattle.yq_rows.specs.Grammar.{is_entry, may_be_alone, Limit, unlimited, allows, limit_after, key_limit, no_rows, begins_document, ends_part}
 use Rattle.yq_rows.specs.Rows.{Mark, Bare, Dash, Key, Anchor, Content, Nothing, Inline, Block, Row, behind_columns, parent_of, Part, Cut, last, marked}
 
 -- a blank line or a comment line in front (own)
-abbrev pub is_gap_line : List ℕ → Bool
-is_gap_line t = not (is_empty t) && (ends_line (past_white t) || is_hash (past_white t))
+abbrev pub begins_gap : List ℕ → Bool
+begins_gap t = not (is_empty t) && (ends_line (past_white t) || is_hash (past_white t))
 
 -- how long the lines of a gap in front are, at most n of them (own)
 unfoldable pub gap_lines : ℕ → List ℕ → ℕ
 gap_lines zero t = 0
-gap_lines (suc n) t = if is_gap_line t then line_len t + gap_lines n (drop (line_len t) t) else 0
+gap_lines (suc n) t = if begins_gap t then line_len t + gap_lines n (drop (line_len t) t) else 0
 
 -- how long the gap in front is (own)
 abbrev pub gap_len : List ℕ → ℕ
@@ -161,16 +161,12 @@ row_at limit gap t =
 abbrev pub with_rows : List Row → Part × List ℕ → Part × List ℕ
 with_rows rows x = (record { rows = rows ++ x.0.rows; end = x.0.end }, x.1)
 
--- no row follows: the end is in front, or a marker (own)
-abbrev pub ends_rows : List ℕ → Bool
-ends_rows t = is_empty t || is_marker t
-
 -- the rows of a part, at most n of them, the gap behind the last one, and what follows (own)
 unfoldable pub rows_at : ℕ → Limit → List ℕ → Option (Part × List ℕ)
 rows_at zero limit t = None
 rows_at (suc n) limit t =
     let gap = cut_gap t in
-    if ends_rows gap.1 then Some (record { rows = []; end = gap.0 }, gap.1) else (do
+    if ends_part gap.1 then Some (record { rows = []; end = gap.0 }, gap.1) else (do
       row ← row_at limit gap.0 gap.1
       rows ← rows_at n (limit_after row.0) row.1
       Some (with_rows (row.0 ∷ []) rows))

@@ -6,7 +6,7 @@ use Rattle.yq_scalar.specs.Plain.{ends_plain}
 use Rattle.yq_scalar.specs.Text.{is_empty, is_line, is_marker, lines_of}
 use Rattle.yq_inline.specs.Alike.{Alike}
 use Rattle.yq_rows.specs.Exchange.{asked_behind, with_content}
-use Rattle.yq_rows.specs.Grammar.{IsTail, is_plain, IsRow, Limit, AreRows, no_rows}
+use Rattle.yq_rows.specs.Grammar.{IsTail, is_plain, IsRow, Limit, AreRows, no_rows, ends_part}
 use Rattle.yq_rows.specs.Rows.{Content, Nothing, Inline, Block, Row, print_row, rows_text}
 
 -- a tail has a break, or nothing is behind it (YAML 1.2.2, section 6.6)
@@ -24,10 +24,6 @@ is_seam (Block space anchor block) rest = ends_block (keeps block.chomping) bloc
 abbrev pub are_seamed : List Row → List ℕ → Bool
 are_seamed [] rest = true
 are_seamed (r ∷ rs) rest = if no_rows rs then is_seam r.content rest else are_seamed rs rest
-
--- the end of the text is in front, or a marker (YAML 1.2.2, section 9.1.2)
-abbrev pub ends_part : List ℕ → Bool
-ends_part t = is_empty t || is_marker t
 
 -- Rows with a gap may stand behind others, of which a limit was asked: they begin where those allow, their text may stand there, and behind them the
 -- part ends (own).

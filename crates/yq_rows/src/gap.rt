@@ -13,9 +13,10 @@ pub(crate) fn is_hash(text: &[u8]) -> bool
     matches!(text, [b'#', ..])
 }
 
-/// Whether a blank line or a comment line is in front.
-fn is_gap_line(text: &[u8]) -> bool
-    ensures { result ≡ spec.is_gap_line text.now }
+/// Whether a blank line or a comment line is in front (YAML 1.2.2, sections 6.4
+/// and 6.6).
+pub fn begins_gap(text: &[u8]) -> bool
+    ensures { result ≡ spec.begins_gap text.now }
 {
     let next = past_white(text);
     !text.is_empty() && (ends_line(next) || is_hash(next))
@@ -27,7 +28,7 @@ fn gap_len(text: &[u8]) -> usize
     ensures { result ≡ spec.gap_len text.now }
 {
     let mut rest = text;
-    'lines: while is_gap_line(rest) {
+    'lines: while begins_gap(rest) {
         rest = rest.split_at(line_len(rest)).1;
     }
     text.len() - rest.len()

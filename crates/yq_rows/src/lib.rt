@@ -12,6 +12,7 @@ mod reading;
 mod row;
 mod scanning;
 
+pub use gap::begins_gap;
 pub use marks::KEY_LIMIT;
 pub use row::Row;
-pub use scanning::{Bound, Rows, scan};
+pub use scanning::{Bound, Rows, begins_document, scan};

@@ -3,7 +3,7 @@ ghost use Rattle.std.specs.Prelude.{◌≡◌, ◌<◌, ◌≤◌, ◌+◌, ◌^
 ghost use Rattle.yq_scalar.specs.Answers.{Gives, Reads};
 ghost use Rattle.yq_scalar.specs.Text;
 ghost use Rattle.yq_rows.specs.Grammar as grammar;
-ghost use Rattle.yq_rows.specs.Grammar.{unlimited};
+ghost use Rattle.yq_rows.specs.Grammar.{unlimited, ends_part};
 ghost use Rattle.yq_rows.specs.Lending.{begin_view, marked_lent, row_lent, rows_lent};
 ghost use Rattle.yq_rows.specs.Offsets.{Ends, Stand, rows_in};
 ghost use Rattle.yq_rows.specs.Reading as spec;
@@ -89,8 +89,8 @@ fn read_row<'t>(
 }
 
 /// Whether no row follows: the end is in front, or a marker.
-fn ends_rows(text: &[u8]) -> bool
-    ensures { result ≡ spec.ends_rows text.now }
+fn ends_part(text: &[u8]) -> bool
+    ensures { result ≡ ends_part text.now }
 {
     text.is_empty() || is_marker(text)
 }
@@ -115,7 +115,7 @@ fn read_rows<'t>(
     let mut at = text;
     'rows: loop {
         let (gap, rest) = split_gap(at);
-        if ends_rows(rest.as_bytes()) {
+        if ends_part(rest.as_bytes()) {
             return Ok((rows, gap, rest));
         }
         let (row, next, after) = match read_row(alloc, whole, limit, gap, rest) {
@@ -138,9 +138,9 @@ fn no_document(text: &[u8]) -> FaultKind {
 
 /// Whether rows may stand in front: where a document is open, or where there are none.
 fn may_begin(is_open: bool, text: &[u8]) -> bool
-    ensures { result ≡ (is_open || spec.ends_rows text.now) }
+    ensures { result ≡ (is_open || ends_part text.now) }
 {
-    is_open || ends_rows(text)
+    is_open || ends_part(text)
 }
 
 /// Adds where the rows of a part stand; gives the gap behind them, and what follows. Where no document

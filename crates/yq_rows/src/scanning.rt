@@ -92,8 +92,9 @@ impl<'t> Rows<'t> {
     }
 }
 
-/// Whether a document begins behind the line of this marker.
-fn begins_document(marker: &[u8]) -> bool
+/// Whether a document begins behind the line of this marker (YAML 1.2.2,
+/// section 9.1.2).
+pub fn begins_document(marker: &[u8]) -> bool
     ensures { result ≡ grammar.begins_document marker.now }
 {
     matches!(marker, [b'-', ..])

@@ -1,3 +1,4 @@
+pub mod Anchors
 pub mod Answers
 pub mod Characters
 pub mod Keys

@@ -60,6 +60,11 @@ abbrev pub append_child : Label → Node → Children → Children
 append_child label v none = child label v none
 append_child label v (child first n cs) = child first n (append_child label v cs)
 
+-- items or entries and then others (own)
+abbrev pub append_children : Children → Children → Children
+append_children none ds = ds
+append_children (child label n cs) ds = child label n (append_children cs ds)
+
 -- a collection with its items or entries changed (own)
 abbrev pub within : (Children → Children) → Node → Node
 within g (alias name) = alias name

@@ -1,5 +1,5 @@
 -- Reading (own; a reader may skip it: the grammar is what is believed, and the clauses `found` and `only` tie the two).
-use Rattle.std.specs.Prelude.{ℕ, Bool, true, false, ◌||◌, ◌&&◌, not, ◌==◌, nat_lt, Option, Some, None, List, [], ◌∷◌, drop, if◌then◌else◌, bytes_eq, ℤ, pos}
+use Rattle.std.specs.Prelude.{ℕ, Bool, true, false, ◌||◌, ◌&&◌, not, ◌==◌, nat_lt, Option, Some, None, List, [], ◌∷◌, drop, if◌then◌else◌, bytes_eq, codes, ℤ, pos}
 use Rattle.std.specs.List.{list_any, prefix_len}
 use Rattle.std.specs.Char.{digit_value}
 use Rattle.std.specs.Str.Parse.{digits_value}
@@ -13,6 +13,10 @@ use Rattle.yq_scalar.specs.Schema.{null_words, bool_words, infinity_words, nan_w
 -- whether the text is one of the words (own)
 abbrev pub is_one_of : List (List ℕ) → List ℕ → Bool
 is_one_of words t = list_any (bytes_eq t) words
+
+-- whether the text is a word for true (10.3.2)
+abbrev pub is_true_word : List ℕ → Bool
+is_true_word t = bytes_eq t (codes "true") || bytes_eq t (codes "True") || bytes_eq t (codes "TRUE")
 
 -- whether the byte is a digit of the base (own)
 abbrev pub is_digit : ℕ → ℕ → Bool

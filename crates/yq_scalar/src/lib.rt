@@ -46,7 +46,7 @@ pub use plain_piece::{further_spaces, read_plain};
 pub use pushing::push_spaces;
 pub use quoted_piece::read_quoted;
 pub use scalar::Scalar;
-pub use schema::resolve;
+pub use schema::{is_true_word, resolve};
 pub use style::{Place, Style};
 pub use writable::{can_write, in_flow};
 pub use write::write_scalar;

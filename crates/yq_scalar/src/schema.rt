@@ -16,6 +16,13 @@ pub fn resolve(text: &str) -> Kind
     kind_of(text.as_bytes())
 }
 
+/// Whether a text is a word for true (YAML 1.2.2, section 10.3.2).
+pub fn is_true_word(text: &str) -> bool
+    ensures { result ≡ spec.is_true_word text.now }
+{
+    text == "true" || text == "True" || text == "TRUE"
+}
+
 #[tactic(auto, unfolding(crate::specs::SchemaReading::resolve))]
 fn kind_of(text: &[u8]) -> Kind
     ensures { result ≡ spec.resolve text.now }

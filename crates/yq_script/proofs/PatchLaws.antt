@@ -9,7 +9,7 @@ use Rattle.std.proofs.lemmas.Bool.Decides.{Decides-eqb}
 use Rattle.std.proofs.lemmas.Grind.{common_steps}
 use Rattle.std.proofs.lemmas.List.{take-append-drop}
 use Rattle.std.proofs.lemmas.Slice.Eq.{starts_is}
-use Rattle.yq_script.specs.Patch.{Change, swapped, Exchanges, is_found, change_done, all_done, flipped, lengths_done, length_done}
+use Rattle.yq_script.specs.Patch.{Splice, swapped, Exchanges, is_found, change_done, all_done, flipped, lengths_done, length_done}
 
 and_left : (a b : Bool) → (a && b) ≡ true → a ≡ true
 and_left true b h = refl
@@ -23,7 +23,7 @@ length-take_le : (n : ℕ) (xs : List ℕ) → n ≤ length xs → length (take 
 length-take_le n xs h = grind (arith, common_steps)
 
 -- what is exchanged in one place is a splice done
-pub done-from_exchanges : (s : Change) (b c : List ℕ) → Exchanges s b c → change_done s b ≡ Some c
+pub done-from_exchanges : (s : Splice) (b c : List ℕ) → Exchanges s b c → change_done s b ≡ Some c
 unfolding change_done
 done-from_exchanges s b c p =
     let whole : b ≡ p.front ++ (s.old ++ p.rest) = p.before in
@@ -41,7 +41,7 @@ done-from_exchanges s b c p =
     ∙ ap Some (ap (λ x. x ++ s.new ++ drop (length s.old) (drop s.at b)) front ∙ ap (λ x. p.front ++ s.new ++ x) tail ∙ append_assoc p.front s.new p.rest ∙ sym p.after)
 
 -- the parts, where the test held
-exchanges_if : (s : Change) (b c : List ℕ) (t : Bool) → is_found s b ≡ t → cond t (Some (take s.at b ++ s.new ++ drop (length s.old) (drop s.at b))) None ≡ Some c → Exchanges s b c
+exchanges_if : (s : Splice) (b c : List ℕ) (t : Bool) → is_found s b ≡ t → cond t (Some (take s.at b ++ s.new ++ drop (length s.old) (drop s.at b))) None ≡ Some c → Exchanges s b c
 exchanges_if s b c false is e = cc
 exchanges_if s b c true is e =
     let fits : s.at ≤ length b = leb-true s.at (length b) (and_left _ _ is) in
@@ -58,20 +58,20 @@ exchanges_if s b c true is e =
     }
 
 -- a splice done has exchanged bytes in one place
-pub exchanges-from_done : (s : Change) (b c : List ℕ) → change_done s b ≡ Some c → Exchanges s b c
+pub exchanges-from_done : (s : Splice) (b c : List ℕ) → change_done s b ≡ Some c → Exchanges s b c
 unfolding change_done
 exchanges-from_done s b c e = exchanges_if s b c (is_found s b) refl e
 
 -- bytes exchanged are exchanged back by the swapped splice
-swapped_exchanges : (s : Change) (b c : List ℕ) → Exchanges s b c → Exchanges (swapped s) c b
+swapped_exchanges : (s : Splice) (b c : List ℕ) → Exchanges s b c → Exchanges (swapped s) c b
 swapped_exchanges s b c p = record { front = p.front; rest = p.rest; offset = p.offset; before = p.after; after = p.before }
 
 -- one splice done is taken back
-pub change_taken_back : (s : Change) (b c : List ℕ) → change_done s b ≡ Some c → change_done (swapped s) c ≡ Some b
+pub change_taken_back : (s : Splice) (b c : List ℕ) → change_done s b ≡ Some c → change_done (swapped s) c ≡ Some b
 change_taken_back s b c e = done-from_exchanges (swapped s) c b (swapped_exchanges s b c (exchanges-from_done s b c e))
 
 -- splices done one list after the other
-pub all_done-append : (xs ys : List Change) (b : List ℕ) → all_done (xs ++ ys) b ≡ option_and_then (all_done ys) (all_done xs b)
+pub all_done-append : (xs ys : List Splice) (b : List ℕ) → all_done (xs ++ ys) b ≡ option_and_then (all_done ys) (all_done xs b)
 all_done-append [] ys b = refl
 all_done-append (x ∷ xs) ys b =
     elim (change_done x b) as (λ r. option_and_then (all_done (xs ++ ys)) r ≡ option_and_then (all_done ys) (option_and_then (all_done xs) r)) [
@@ -80,7 +80,7 @@ all_done-append (x ∷ xs) ys b =
     ]
 
 -- splices done are taken back
-pub taken_back : (ss : List Change) (b c : List ℕ) → all_done ss b ≡ Some c → all_done (flipped ss) c ≡ Some b
+pub taken_back : (ss : List Splice) (b c : List ℕ) → all_done ss b ≡ Some c → all_done (flipped ss) c ≡ Some b
 taken_back [] b c e = sym e
 taken_back (s ∷ ss) b c e =
     elim (change_done s b) as (λ r. change_done s b ≡ r → option_and_then (all_done ss) r ≡ Some c → all_done (flipped ss ++ swapped s ∷ []) c ≡ Some b) [
@@ -91,20 +91,20 @@ taken_back (s ∷ ss) b c e =
           ∙ ap (option_and_then (λ d. Some d)) (change_taken_back s b m is)
     ] refl e
 
-pub flipped-append : (xs ys : List Change) → flipped (xs ++ ys) ≡ flipped ys ++ flipped xs
+pub flipped-append : (xs ys : List Splice) → flipped (xs ++ ys) ≡ flipped ys ++ flipped xs
 flipped-append [] ys = sym (append-nil (flipped ys))
 flipped-append (x ∷ xs) ys = ap (λ l. l ++ swapped x ∷ []) (flipped-append xs ys) ∙ append_assoc (flipped ys) (flipped xs) (swapped x ∷ [])
 
-pub flipped_twice : (ss : List Change) → flipped (flipped ss) ≡ ss
+pub flipped_twice : (ss : List Splice) → flipped (flipped ss) ≡ ss
 flipped_twice [] = refl
 flipped_twice (s ∷ ss) = flipped-append (flipped ss) (swapped s ∷ []) ∙ ap (λ l. s ∷ l) (flipped_twice ss)
 
 -- and what was taken back is done again
-pub done_again : (ss : List Change) (b c : List ℕ) → all_done (flipped ss) c ≡ Some b → all_done ss b ≡ Some c
+pub done_again : (ss : List Splice) (b c : List ℕ) → all_done (flipped ss) c ≡ Some b → all_done ss b ≡ Some c
 done_again ss b c e = ap (λ l. all_done l b) (sym (flipped_twice ss)) ∙ taken_back (flipped ss) c b e
 
 -- lengths reached one list after the other
-pub lengths_done-append : (xs ys : List Change) (n : ℕ) → lengths_done (xs ++ ys) n ≡ option_and_then (lengths_done ys) (lengths_done xs n)
+pub lengths_done-append : (xs ys : List Splice) (n : ℕ) → lengths_done (xs ++ ys) n ≡ option_and_then (lengths_done ys) (lengths_done xs n)
 lengths_done-append [] ys n = refl
 lengths_done-append (x ∷ xs) ys n =
     elim (length_done x n) as (λ r. option_and_then (lengths_done (xs ++ ys)) r ≡ option_and_then (lengths_done ys) (option_and_then (lengths_done xs) r)) [

@@ -1,7 +1,7 @@
 -- What the exchange of segments of a text comes to, and what an answer says of that.
 use Rattle.std.specs.Prelude.{◌≡◌, ℕ, List, length, nat_le, if◌then◌else◌, Option, Some, None, Result, Ok, Err, string_bytes}
 use Rattle.yq_scalar.specs.Characters.{text_limit}
-use Rattle.yq_script.specs.Patch.{Change}
+use Rattle.yq_script.specs.Patch.{Splice}
 use Rattle.yq_script.specs.Script.{Segment, new_text, changes}
 use Rattle.yq_script.specs.declared.edited.Edited.{Edited}
 use Rattle.yq_script.specs.declared.exchange_error.ExchangeError.{ExchangeError}
@@ -10,7 +10,7 @@ use Rattle.yq_script.specs.declared.exchange_error.ExchangeError.TheVariants as 
 -- What an exchange comes to: it gives a new text by these changes, or that would be too large (own).
 pub data Exchange : Type 0 where
   too_large : Exchange
-  gives : List ℕ → List Change → Exchange
+  gives : List ℕ → List Splice → Exchange
 
 -- a length, where a text may have it (own)
 abbrev pub within_limit : ℕ → Option ℕ

@@ -1,7 +1,7 @@
 -- What an edit keeps of a text and what it exchanges, in order, and the splices of that.
 use Rattle.std.specs.Prelude.{◌≡◌, ℕ, ◌+◌, ◌-◌, List, [], ◌∷◌, ◌++◌, length, take, drop, if◌then◌else◌, ⊤}
 use Rattle.std.specs.Str.{bytes_eq}
-use Rattle.yq_script.specs.Patch.{Change}
+use Rattle.yq_script.specs.Patch.{Splice}
 
 -- a segment of a text: it stays, or it gives way to another one (own)
 pub data Segment : Type 0 where
@@ -19,6 +19,10 @@ abbrev pub new_text : List Segment → List ℕ
 new_text [] = []
 new_text (keep t ∷ ss) = t ++ new_text ss
 new_text (put o w ∷ ss) = w ++ new_text ss
+
+-- the text before what stands at its end (own)
+abbrev pub text_before : List ℕ → List ℕ → List ℕ
+text_before t behind = take (length t - length behind) t
 
 -- a kept segment before others; no bytes are no segment (own)
 abbrev pub keep_before : List ℕ → List Segment → List Segment
@@ -40,17 +44,17 @@ merged (keep t ∷ ss) = keep_before t (merged ss)
 merged (put o w ∷ ss) = put_before o w (merged ss)
 
 -- an exchange of bytes at an offset; none where they are the same (own)
-abbrev pub splice_at : ℕ → List ℕ → List ℕ → List Change
+abbrev pub splice_at : ℕ → List ℕ → List ℕ → List Splice
 splice_at n o w = if bytes_eq o w then [] else (record { at = n; old = o; new = w } ∷ [])
 
 -- a splice for each exchanged segment, behind n bytes of the text as it then stands (own)
-abbrev pub splices_at : ℕ → List Segment → List Change
+abbrev pub splices_at : ℕ → List Segment → List Splice
 splices_at n [] = []
 splices_at n (keep t ∷ ss) = splices_at (n + length t) ss
 splices_at n (put o w ∷ ss) = splice_at n o w ++ splices_at (n + length w) ss
 
 -- the splices of an edit (own)
-unfoldable pub changes : List Segment → List Change
+unfoldable pub changes : List Segment → List Splice
 changes ss = splices_at 0 (merged ss)
 
 -- the segments with each exchange turned round (own)

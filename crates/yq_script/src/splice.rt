@@ -1,6 +1,6 @@
 //! Splices: what an edit puts in the place of what.
 ghost use Rattle.std.specs.Prelude.{◌≡◌, ◌↔◌, ℕ, List, Some};
-ghost use Rattle.yq_script.specs.Patch.{Change, Exchanges, change_done, all_done, flipped};
+ghost use Rattle.yq_script.specs.Patch.{Splice, Exchanges, change_done, all_done, flipped};
 
 use std::marker::Model;
 
@@ -13,9 +13,9 @@ pub struct Splice {
 }
 
 impl Model for Splice {
-    ghost use Rattle.yq_script.specs.Patch.{Change};
+    ghost use Rattle.yq_script.specs.Patch.{Splice};
 
-    ghost Value = { Change };
+    ghost Value = { Splice };
 
     ghost view = { λ s. record { at = s.at; old = s.old.items; new = s.new.items } };
 }
@@ -23,11 +23,11 @@ impl Model for Splice {
 /// A splice is done exactly where its old bytes stand between a front of
 /// `at` bytes and a rest, and its new bytes then stand between the same two.
 pub fn splice_exchanges()
-    ensures { (s : Change) (b c : List ℕ) → (change_done s b ≡ Some c) ↔ Exchanges s b c }
+    ensures { (s : Splice) (b c : List ℕ) → (change_done s b ≡ Some c) ↔ Exchanges s b c }
 {}
 
 /// Splices lead from one text to another exactly where, swapped and in
 /// reverse, they lead back.
 pub fn splices_invert()
-    ensures { (ss : List Change) (b c : List ℕ) → (all_done ss b ≡ Some c) ↔ (all_done (flipped ss) c ≡ Some b) }
+    ensures { (ss : List Splice) (b c : List ℕ) → (all_done ss b ≡ Some c) ↔ (all_done (flipped ss) c ≡ Some b) }
 {}

@@ -5,7 +5,7 @@ use Rattle.yq_scalar.specs.declared.ReadFault.{ReadFault}
 use Rattle.yq_rows.specs.Rows.{Cut}
 use Rattle.yq_documents.specs.Reading.{read_at}
 use Rattle.yq_program.specs.Program.{Program, Update, assign, delete, comment, read, updates, update_at, update_count, is_read, UpdatesHold, LiteralsHold}
-use Rattle.yq_script.specs.Patch.{Change}
+use Rattle.yq_script.specs.Patch.{Splice}
 use Rattle.yq_script.specs.declared.edited.Edited.{Edited}
 use Rattle.yq_script.proofs.PlaceInList.{get_some, split_at, take_next}
 use Rattle.yq_splice.specs.Answers.{Edits, Fails}
@@ -34,7 +34,7 @@ answer_splices (Err e) p t h = tt
 literals_of : (p : Program) (us : List Update) → p ≡ updates us → LiteralsHold p → UpdatesHold us
 literals_of p us is h = subst LiteralsHold is h
 
-steps_meant : (p : Program) (t new : List ℕ) (cs : List Change) → HasSteps p t new cs → LiteralsHold p → AreMeant p t new cs
+steps_meant : (p : Program) (t new : List ℕ) (cs : List Splice) → HasSteps p t new cs → LiteralsHold p → AreMeant p t new cs
 steps_meant p t new cs h holds = record { all = h.all; program = h.program; leads = all_meant h.all t new cs (literals_of p h.all h.program holds) h.leads }
 
 pub answer_meant : (r : Result Edited EditError) (p : Program) (t : List ℕ) → LiteralsHold p → IfOk r (λ e. HasSteps p t (string_bytes e.text) e.splices.items) →
@@ -45,8 +45,8 @@ answer_meant (Err e) p t holds h = tt
 -- ---- the steps
 
 -- one update more
-pub step_more : (p : Program) (us : List Update) (n : ℕ) (t m new : List ℕ) (cs all : List Change) → p ≡ updates us → n < length us → Leads IsStep (take n us) t m cs →
-    ((u : Update) → update_at n p ≡ Some u → (es : List Change) × IsStep u m new es × (all ≡ cs ++ es)) → Leads IsStep (take (n + 1) us) t new all
+pub step_more : (p : Program) (us : List Update) (n : ℕ) (t m new : List ℕ) (cs all : List Splice) → p ≡ updates us → n < length us → Leads IsStep (take n us) t m cs →
+    ((u : Update) → update_at n p ≡ Some u → (es : List Splice) × IsStep u m new es × (all ≡ cs ++ es)) → Leads IsStep (take (n + 1) us) t new all
 step_more p us n t m new cs all is below h step =
     let x = get_some us n below in
     let k = step x.0 (ap (update_at n) is ∙ x.1) in
@@ -68,7 +68,7 @@ front_holds (v ∷ us) vs u h =
     let k = front_holds us vs u (others_hold v (us ++ u ∷ vs) h) in
     (both_hold v us (first_holds v (us ++ u ∷ vs) h) k.0, k.1)
 
-first_unread : (us : List Update) (t m : List ℕ) (cs : List Change) → UpdatesHold us → Leads IsStep us t m cs → read_at m ≡ None → read_at t ≡ None
+first_unread : (us : List Update) (t m : List ℕ) (cs : List Splice) → UpdatesHold us → Leads IsStep us t m cs → read_at m ≡ None → read_at t ≡ None
 first_unread us t m cs holds h none = go (read_at t) refl
   where
     go : (r : Option Cut) → read_at t ≡ r → read_at t ≡ None
@@ -76,7 +76,7 @@ first_unread us t m cs holds h none = go (read_at t) refl
     go (Some c) is = let x = reads_on us t m cs c is (all_meant us t m cs holds h) in absurd (let e = sym none ∙ x.1 in cc)
 
 -- an update that fails
-pub step_fails : (p : Program) (us : List Update) (n : ℕ) (t m : List ℕ) (cs : List Change) (e : EditError) → p ≡ updates us → n < length us → Leads IsStep (take n us) t m cs →
+pub step_fails : (p : Program) (us : List Update) (n : ℕ) (t m : List ℕ) (cs : List Splice) (e : EditError) → p ≡ updates us → n < length us → Leads IsStep (take n us) t m cs →
     ((u : Update) → update_at n p ≡ Some u → FailsAt e u m) → FailsEach e us t
 step_fails p us n t m cs e is below h fails =
     let x = get_some us n below in
@@ -133,7 +133,7 @@ each_unread (Ok e) p t some err = tt
 each_unread (Err e) p t some err = let x = has_updates p some in λ fault same holds. (err x.0 x.1).unread fault same (literals_of p x.0 x.1 holds)
 
 -- all updates are done
-pub all_done_so : (p : Program) (n : ℕ) (t new : List ℕ) (cs : List Change) → ((us : List Update) → p ≡ updates us → Leads IsStep (take n us) t new cs) → n ≡ update_count p →
+pub all_done_so : (p : Program) (n : ℕ) (t new : List ℕ) (cs : List Splice) → ((us : List Update) → p ≡ updates us → Leads IsStep (take n us) t new cs) → n ≡ update_count p →
     (us : List Update) → p ≡ updates us → Leads IsStep us t new cs
 all_done_so p n t new cs h count us is =
     let long : length us ≤ n = omega (arith, count ∙ ap update_count is) in
@@ -152,7 +152,7 @@ none_done (updates []) t h none = refl
 none_done (updates (u ∷ us)) t h none = absurd (omega (arith, none))
 
 -- What is known where a program without updates is carried out.
-none_cases : (p : Program) (t new : List ℕ) (cs : List Change) → update_count p ≡ 0 → program_done p t ≡ gives new cs → (p ≡ updates []) × (t ≡ new) × (cs ≡ [])
+none_cases : (p : Program) (t new : List ℕ) (cs : List Splice) → update_count p ≡ 0 → program_done p t ≡ gives new cs → (p ≡ updates []) × (t ≡ new) × (cs ≡ [])
 none_cases (read stages) t new cs none h = absurd (cc)
 none_cases (updates []) t new cs none h = (refl, cc, cc)
 none_cases (updates (u ∷ us)) t new cs none h = absurd (omega (arith, none))

@@ -9,7 +9,7 @@ use Rattle.yq_meaning.specs.Operations.{Operation}
 use Rattle.yq_meaning.specs.Rooms.{room_of}
 use Rattle.yq_meaning.specs.declared.refusal.Refusal.{Refusal}
 use Rattle.yq_meaning.specs.declared.refusal.Refusal.TheVariants.{TooLarge}
-use Rattle.yq_script.specs.Patch.{Change}
+use Rattle.yq_script.specs.Patch.{Splice}
 use Rattle.yq_script.specs.Script.{Segment, new_text, changes}
 use Rattle.yq_script.specs.declared.edited.Edited.{Edited}
 use Rattle.yq_script.specs.Exchanging as exchange
@@ -59,7 +59,7 @@ module _ (op : Operation) (t : List ℕ) (operand : HasOperand op) (k : IsFittin
   comes : carried op t ≡ edit_of_segments way.0
   comes = ap (by_reading (carry_one op)) k.read ∙ ap (λ (x : Option (List Segment)). edit_of_segments (or_stay k.cut x)) way.1
 
-  is_applied : (new : List ℕ) (cs : List Change) → AreGiven way.0 new cs → IsApplied op t new cs
+  is_applied : (new : List ℕ) (cs : List Splice) → AreGiven way.0 new cs → IsApplied op t new cs
   is_applied new cs g = record {
     cut = k.cut;
     read = k.read;

@@ -11,7 +11,7 @@ use Rattle.yq_planning.specs.Plans.{plan}
 use Rattle.yq_program.specs.Program as programs
 use Rattle.yq_program.specs.Program.{Program, Update, updates}
 use Rattle.yq_meaning.specs.Rooms.{room_of}
-use Rattle.yq_script.specs.Patch.{Change, all_done, lengths_done}
+use Rattle.yq_script.specs.Patch.{Splice, all_done, lengths_done}
 use Rattle.yq_script.specs.Script.{Segment, old_text, new_text, changes}
 use Rattle.yq_script.proofs.ScriptLaws.{changes_lead, changes_lengths}
 use Rattle.yq_script.specs.Exchanging as exchange
@@ -26,12 +26,12 @@ use Rattle.yq_splice.proofs.OrderLaws.{Makes, order_leads, leads_so, leads_splic
 -- ---- an operation
 
 -- what segments give
-pub record AreGiven (ss : List Segment) (new : List ℕ) (cs : List Change) : Type 0 where
+pub record AreGiven (ss : List Segment) (new : List ℕ) (cs : List Splice) : Type 0 where
   pub size : length (new_text ss) ≤ text_limit
   pub text : new_text ss ≡ new
   pub splices : changes ss ≡ cs
 
-pub segments_give : (ss : List Segment) (new : List ℕ) (cs : List Change) → edit_of_segments ss ≡ gives new cs → AreGiven ss new cs
+pub segments_give : (ss : List Segment) (new : List ℕ) (cs : List Splice) → edit_of_segments ss ≡ gives new cs → AreGiven ss new cs
 segments_give ss new cs h = go (leb (length (new_text ss)) text_limit) refl h
   where
     go : (b : Bool) → leb (length (new_text ss)) text_limit ≡ b → edit_made (cond b (exchange.gives (new_text ss) (changes ss)) exchange.too_large) ≡ gives new cs → AreGiven ss new cs
@@ -46,7 +46,7 @@ old_stays op c read = go (carrying op c) refl
     go None is = append-nil (cut_text c)
     go (Some ss) is = carrying_is.old op c ss read is
 
-carried_at : (op : Operation) (t new : List ℕ) (cs : List Change) (c : Cut) → read_at t ≡ Some c → carry_one op c ≡ gives new cs → IsCarried op t new cs
+carried_at : (op : Operation) (t new : List ℕ) (cs : List Splice) (c : Cut) → read_at t ≡ Some c → carry_one op c ≡ gives new cs → IsCarried op t new cs
 carried_at op t new cs c read h =
     let ss : List Segment = or_stay c (carrying op c) in
     let k : AreGiven ss new cs = segments_give ss new cs h in
@@ -62,7 +62,7 @@ carried_at op t new cs c read h =
       splices = k.splices;
     }
 
-pub operation_carried : (op : Operation) (t new : List ℕ) (cs : List Change) → carried op t ≡ gives new cs → IsCarried op t new cs
+pub operation_carried : (op : Operation) (t new : List ℕ) (cs : List Splice) → carried op t ≡ gives new cs → IsCarried op t new cs
 operation_carried op t new cs h = go (read_at t) refl h
   where
     go : (o : Option Cut) → read_at t ≡ o → by_reading (carry_one op) o ≡ gives new cs → IsCarried op t new cs
@@ -71,13 +71,13 @@ operation_carried op t new cs h = go (read_at t) refl h
 
 -- ---- an update
 
-plan_carried : (u : Update) (t new : List ℕ) (cs : List Change) (c : Cut) → read_at t ≡ Some c → (j : Judgement (List Operation)) →
+plan_carried : (u : Update) (t new : List ℕ) (cs : List Splice) (c : Cut) → read_at t ≡ Some c → (j : Judgement (List Operation)) →
     plan u (room_of t) (documents c) ≡ j → carry_out t j ≡ gives new cs → IsInside u t new cs
 plan_carried u t new cs c read (judgement.refuses why) is h = absurd (cc)
 plan_carried u t new cs c read (judgement.gives ops) is h =
     record { cut = c; read = read; operations = ops; planned = is; leads = leads_so (Makes carried) IsCarried operation_carried ops t new cs (order_leads carried ops t new cs h) }
 
-pub update_carried : (u : Update) (t new : List ℕ) (cs : List Change) → updated u t ≡ gives new cs → IsInside u t new cs
+pub update_carried : (u : Update) (t new : List ℕ) (cs : List Splice) → updated u t ≡ gives new cs → IsInside u t new cs
 update_carried u t new cs h = go (read_at t) refl h
   where
     go : (o : Option Cut) → read_at t ≡ o → by_reading (λ c. carry_out t (plan u (room_of t) (documents c))) o ≡ gives new cs → IsInside u t new cs
@@ -86,11 +86,11 @@ update_carried u t new cs h = go (read_at t) refl h
 
 -- ---- a program
 
-updates_carried : (p : Program) (t new : List ℕ) (cs : List Change) → program_done p t ≡ gives new cs → AreInside p t new cs
+updates_carried : (p : Program) (t new : List ℕ) (cs : List Splice) → program_done p t ≡ gives new cs → AreInside p t new cs
 updates_carried (programs.read stages) t new cs h = absurd (cc)
 updates_carried (updates us) t new cs h = record { all = us; program = refl; leads = leads_so (Makes updated) IsInside update_carried us t new cs (order_leads updated us t new cs h) }
 
-pub program_carried : (p : Program) (t new : List ℕ) (cs : List Change) → edit_of p t ≡ gives new cs → AreInside p t new cs
+pub program_carried : (p : Program) (t new : List ℕ) (cs : List Splice) → edit_of p t ≡ gives new cs → AreInside p t new cs
 unfolding edit_of
 program_carried p t new cs h = go (read_at t) h
   where
@@ -100,7 +100,7 @@ program_carried p t new cs h = go (read_at t) h
 
 -- ---- the splices
 
-operation_splices : (op : Operation) (t new : List ℕ) (cs : List Change) → IsCarried op t new cs → AreSplices cs t new
+operation_splices : (op : Operation) (t new : List ℕ) (cs : List Splice) → IsCarried op t new cs → AreSplices cs t new
 operation_splices op t new cs k =
     let ss : List Segment = k.segments in
     let small : length t ≤ text_limit = (cut_read t k.cut k.read).size in
@@ -110,8 +110,8 @@ operation_splices op t new cs k =
       lengths = sym (λ i. lengths_done (k.splices i) (length (k.old_is i))) ∙ (changes_lengths ss fits ∙ ap (λ (x : List ℕ). Some (length x)) k.new_is);
     }
 
-update_splices : (u : Update) (t new : List ℕ) (cs : List Change) → IsInside u t new cs → AreSplices cs t new
+update_splices : (u : Update) (t new : List ℕ) (cs : List Splice) → IsInside u t new cs → AreSplices cs t new
 update_splices u t new cs k = leads_splices IsCarried operation_splices k.operations t new cs k.leads
 
-pub program_splices : (p : Program) (t new : List ℕ) (cs : List Change) → AreInside p t new cs → AreSplices cs t new
+pub program_splices : (p : Program) (t new : List ℕ) (cs : List Splice) → AreInside p t new cs → AreSplices cs t new
 program_splices p t new cs k = leads_splices IsInside update_splices k.all t new cs k.leads

@@ -17,7 +17,7 @@ use Rattle.yq_meaning.specs.Operations.{Operation}
 use Rattle.yq_planning.specs.Plans.{plan}
 use Rattle.yq_program.specs.Program.{Update, assign, delete, comment, UpdatesHold}
 use Rattle.yq_meaning.specs.Rooms.{room_of}
-use Rattle.yq_script.specs.Patch.{Change}
+use Rattle.yq_script.specs.Patch.{Splice}
 use Rattle.yq_flow_ways.proofs.CutLaws.{cut_same}
 use Rattle.yq_splice.specs.Carried.{carry_all, carry_out, updated}
 use Rattle.yq_splice.specs.Edit.{Edit, unreadable, refuses, gives, by_reading}
@@ -69,7 +69,7 @@ update_told u t c read operands holds =
     subst (λ (o : Option Cut). IsTold u t (by_reading (λ k. carry_out t (plan u (room_of t) (documents k))) o)) (sym read) (plan_told u t c read operands holds (plan u (room_of t) (documents c)) refl)
 
 -- an update that is carried out
-step_meant : (u : Update) (t new : List ℕ) (cs : List Change) → UpdatesHold (u ∷ []) → IsStep u t new cs → IsMeant u t new cs
+step_meant : (u : Update) (t new : List ℕ) (cs : List Splice) → UpdatesHold (u ∷ []) → IsStep u t new cs → IsMeant u t new cs
 step_meant u t new cs holds k = go (read_at t) refl
   where
     go : (o : Option Cut) → read_at t ≡ o → IsMeant u t new cs
@@ -96,12 +96,12 @@ others_hold (delete left) us h = h
 others_hold (comment left place text) us h = h
 
 -- updates that are carried out
-pub all_meant : (us : List Update) (t new : List ℕ) (cs : List Change) → UpdatesHold us → Leads IsStep us t new cs → Leads IsMeant us t new cs
+pub all_meant : (us : List Update) (t new : List ℕ) (cs : List Splice) → UpdatesHold us → Leads IsStep us t new cs → Leads IsMeant us t new cs
 all_meant [] t new cs holds h = h
 all_meant (u ∷ us) t new cs holds h =
     (h.0, h.1, h.2, step_meant u t h.0 h.1 (first_holds u us holds) h.3, all_meant us h.0 new h.2 (others_hold u us holds) h.4, h.5)
 
 -- the text to which they lead reads, if the first one does
-pub reads_on : (us : List Update) (t m : List ℕ) (cs : List Change) (c : Cut) → read_at t ≡ Some c → Leads IsMeant us t m cs → (d : Cut) × (read_at m ≡ Some d)
+pub reads_on : (us : List Update) (t m : List ℕ) (cs : List Splice) (c : Cut) → read_at t ≡ Some c → Leads IsMeant us t m cs → (d : Cut) × (read_at m ≡ Some d)
 reads_on [] t m cs c is h = (c, ap read_at (sym h.0) ∙ is)
 reads_on (u ∷ us) t m cs c is h = let x = read_again h.0 h.3.after h.3.reads in reads_on us h.0 m h.2 x.0 x.1 h.4

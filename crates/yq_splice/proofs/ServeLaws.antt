@@ -12,7 +12,7 @@ use Rattle.yq_meaning.specs.Rooms.{room_of}
 use Rattle.yq_meaning.specs.RoomsKept.{LeavesRooms, MayFollow}
 use Rattle.yq_meaning.specs.declared.refusal.Refusal.TheVariants.{TooLarge}
 use Rattle.yq_planning.proofs.updates.AlikeRooms.{rest_follow, rest_after}
-use Rattle.yq_script.specs.Patch.{Change}
+use Rattle.yq_script.specs.Patch.{Splice}
 use Rattle.yq_script.specs.Script.{Segment, new_text, changes}
 use Rattle.yq_script.specs.Exchanging as exchange
 use Rattle.yq_carrying.specs.Carrying.{carrying, or_stay}
@@ -70,7 +70,7 @@ ComesTo docs unreadable = ⊥
 ComesTo docs (refuses why) = why ≡ TooLarge
 ComesTo docs (gives new cs) = (cut : Cut) × (read_at new ≡ Some cut) × (documents cut ≡ docs)
 
-comes_behind : (docs : List Document) (ds : List Change) (e : Edit) → ComesTo docs e → ComesTo docs (behind ds e)
+comes_behind : (docs : List Document) (ds : List Splice) (e : Edit) → ComesTo docs e → ComesTo docs (behind ds e)
 comes_behind docs ds unreadable h = h
 comes_behind docs ds (refuses why) h = h
 comes_behind docs ds (gives new cs) h = h

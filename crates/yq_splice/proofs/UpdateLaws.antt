@@ -16,7 +16,7 @@ use Rattle.yq_meaning.specs.Rooms.{room_of}
 use Rattle.yq_meaning.specs.declared.refusal.Refusal.{Refusal}
 use Rattle.yq_meaning.specs.declared.plan_error.PlanError.{PlanError}
 use Rattle.yq_meaning.specs.declared.plan_error.PlanError.TheVariants as planning
-use Rattle.yq_script.specs.Patch.{Change}
+use Rattle.yq_script.specs.Patch.{Splice}
 use Rattle.yq_script.specs.declared.edited.Edited.{Edited}
 use Rattle.yq_splice.specs.Answers.{Edits, Fails, of_planning, of_reading}
 use Rattle.yq_splice.specs.Carried.{carry_all, carry_out, updated}
@@ -86,5 +86,5 @@ pub update_planned : (u : Update) (t d : List ℕ) (ops : List Operation) → d 
 update_planned u t d ops same h = ap (λ (x : List ℕ). plan u (room_of x) (documents_of d)) (sym same) ∙ h
 
 -- the step that an update is, between texts that are known to be the same
-pub step_between : (u : Update) (s t m n : List ℕ) (cs : List Change) → s ≡ t → n ≡ m → IsStep u s m cs → IsStep u t n cs
+pub step_between : (u : Update) (s t m n : List ℕ) (cs : List Splice) → s ≡ t → n ≡ m → IsStep u s m cs → IsStep u t n cs
 step_between u s t m n cs old new h = subst (λ (x : List ℕ). IsStep u x n cs) old (subst (λ (x : List ℕ). IsStep u s x cs) (sym new) h)

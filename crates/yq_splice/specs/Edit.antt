@@ -3,7 +3,7 @@ use Rattle.std.specs.Prelude.{ℕ, List, [], ◌∷◌, ◌++◌, Option, Some, 
 use Rattle.yq_rows.specs.Rows.{Cut}
 use Rattle.yq_meaning.specs.declared.refusal.Refusal.{Refusal}
 use Rattle.yq_meaning.specs.declared.refusal.Refusal.TheVariants.{TooLarge}
-use Rattle.yq_script.specs.Patch.{Change}
+use Rattle.yq_script.specs.Patch.{Splice}
 use Rattle.yq_script.specs.Script.{Segment, changes}
 use Rattle.yq_script.specs.Exchanging.{Exchange, exchange_of}
 use Rattle.yq_script.specs.Exchanging as exchange
@@ -12,10 +12,10 @@ use Rattle.yq_script.specs.Exchanging as exchange
 pub data Edit : Type 0 where
   unreadable : Edit
   refuses : Refusal → Edit
-  gives : List ℕ → List Change → Edit
+  gives : List ℕ → List Splice → Edit
 
 -- an edit with splices before its own (own)
-abbrev pub behind : List Change → Edit → Edit
+abbrev pub behind : List Splice → Edit → Edit
 behind cs unreadable = unreadable
 behind cs (refuses why) = refuses why
 behind cs (gives t ds) = gives t (cs ++ ds)

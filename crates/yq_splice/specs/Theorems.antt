@@ -12,7 +12,7 @@ use Rattle.yq_planning.specs.Plans.{plan}
 use Rattle.yq_program.specs.Program.{Program, Update, updates}
 use Rattle.yq_meaning.specs.Rooms.{room_of}
 use Rattle.yq_meaning.specs.declared.refusal.Refusal.TheVariants.{TooLarge}
-use Rattle.yq_script.specs.Patch.{Change, all_done, lengths_done}
+use Rattle.yq_script.specs.Patch.{Splice, all_done, lengths_done}
 use Rattle.yq_script.specs.Script.{Segment, old_text, new_text, changes}
 use Rattle.yq_carrying.specs.Carrying.{carrying, or_stay}
 use Rattle.yq_ways.specs.Ways.{ReadsAfter}
@@ -20,12 +20,12 @@ use Rattle.yq_splice.specs.declared.edit_error.EditError.{EditError}
 use Rattle.yq_splice.specs.declared.edit_error.EditError.TheVariants as error
 
 -- a text leads to another one by splices, in a step for each thing in order (own)
-abbrev pub Leads : {A : Type 0} → (A → List ℕ → List ℕ → List Change → Type 0) → List A → List ℕ → List ℕ → List Change → Type 0
+abbrev pub Leads : {A : Type 0} → (A → List ℕ → List ℕ → List Splice → Type 0) → List A → List ℕ → List ℕ → List Splice → Type 0
 Leads R [] t new cs = (t ≡ new) × (cs ≡ [])
-Leads R (x ∷ xs) t new cs = (m : List ℕ) × (ds es : List Change) × R x t m ds × Leads R xs m new es × (cs ≡ ds ++ es)
+Leads R (x ∷ xs) t new cs = (m : List ℕ) × (ds es : List Splice) × R x t m ds × Leads R xs m new es × (cs ≡ ds ++ es)
 
 -- An operation is carried out on a text by segments of it, which make the new text; the splices are theirs (own).
-pub record IsCarried (op : Operation) (t new : List ℕ) (cs : List Change) : Type 0 where
+pub record IsCarried (op : Operation) (t new : List ℕ) (cs : List Splice) : Type 0 where
   pub cut : Cut
   pub read : read_at t ≡ Some cut
   pub segments : List Segment
@@ -36,7 +36,7 @@ pub record IsCarried (op : Operation) (t new : List ℕ) (cs : List Change) : Ty
   pub splices : changes segments ≡ cs
 
 -- An update is carried out on a text: each operation of its plan in order, on the text that the one before gives (own).
-pub record IsInside (u : Update) (t new : List ℕ) (cs : List Change) : Type 0 where
+pub record IsInside (u : Update) (t new : List ℕ) (cs : List Splice) : Type 0 where
   pub cut : Cut
   pub read : read_at t ≡ Some cut
   pub operations : List Operation
@@ -44,13 +44,13 @@ pub record IsInside (u : Update) (t new : List ℕ) (cs : List Change) : Type 0 
   pub leads : Leads IsCarried operations t new cs
 
 -- Each update of a program in order is carried out on the text that the one before gives (own).
-pub record AreInside (p : Program) (t new : List ℕ) (cs : List Change) : Type 0 where
+pub record AreInside (p : Program) (t new : List ℕ) (cs : List Splice) : Type 0 where
   pub all : List Update
   pub program : p ≡ updates all
   pub leads : Leads IsInside all t new cs
 
 -- A text reads as documents, and the new one as what an update means of these, with the room that the text has (own).
-pub record IsMeant (u : Update) (t new : List ℕ) (cs : List Change) : Type 0 where
+pub record IsMeant (u : Update) (t new : List ℕ) (cs : List Splice) : Type 0 where
   pub before : List Document
   pub read : Reads t before
   pub after : List Document
@@ -58,7 +58,7 @@ pub record IsMeant (u : Update) (t new : List ℕ) (cs : List Change) : Type 0 w
   pub reads : Reads new after
 
 -- Each update of a program in order makes what it means of the text that the one before gives (own).
-pub record AreMeant (p : Program) (t new : List ℕ) (cs : List Change) : Type 0 where
+pub record AreMeant (p : Program) (t new : List ℕ) (cs : List Splice) : Type 0 where
   pub all : List Update
   pub program : p ≡ updates all
   pub leads : Leads IsMeant all t new cs
@@ -70,7 +70,7 @@ pub record IsFitting (op : Operation) (t : List ℕ) : Type 0 where
   pub fits : Fits (room_of t) op (documents cut)
 
 -- An operation is carried out on a text by a way: its segments are of the text, and the new text, which they make, reads as the documents after the operation; the splices are theirs (own).
-pub record IsApplied (op : Operation) (t new : List ℕ) (cs : List Change) : Type 0 where
+pub record IsApplied (op : Operation) (t new : List ℕ) (cs : List Splice) : Type 0 where
   pub cut : Cut
   pub read : read_at t ≡ Some cut
   pub segments : List Segment
@@ -95,6 +95,6 @@ IsRefused (error.Refused why) op t = (why ≡ TooLarge) × IsLarge op t
 IsRefused error.Memory op t = ⊤
 
 -- The splices, done in order, lead from the old text to the new one, and so do their lengths (own).
-pub record AreSplices (changes : List Change) (t new : List ℕ) : Type 0 where
+pub record AreSplices (changes : List Splice) (t new : List ℕ) : Type 0 where
   pub texts : all_done changes t ≡ Some new
   pub lengths : lengths_done changes (length t) ≡ Some (length new)

@@ -8,7 +8,7 @@ use Rattle.yq_meaning.specs.Operations.{Operation}
 use Rattle.yq_planning.specs.Plans.{plan}
 use Rattle.yq_program.specs.Program.{Program, Update, updates, UpdatesHold}
 use Rattle.yq_meaning.specs.Rooms.{room_of}
-use Rattle.yq_script.specs.Patch.{Change}
+use Rattle.yq_script.specs.Patch.{Splice}
 use Rattle.yq_ways.specs.Operands.{HasOperand}
 use Rattle.yq_splice.specs.Answers.{Fails}
 use Rattle.yq_splice.specs.Carried.{updated}
@@ -28,7 +28,7 @@ abbrev pub HasOperands : Update → List ℕ → Type 0
 HasOperands u t = (c : Cut) (ops : List Operation) → read_at t ≡ Some c → plan u (room_of t) (documents c) ≡ gives ops → HaveOperands ops
 
 -- An update that is carried out on a text, and whose operands are valid (own).
-pub record IsStep (u : Update) (t new : List ℕ) (cs : List Change) : Type 0 where
+pub record IsStep (u : Update) (t new : List ℕ) (cs : List Splice) : Type 0 where
   pub exact : updated u t ≡ edit.gives new cs
   pub valid : HasOperands u t
 
@@ -38,7 +38,7 @@ pub record FailsAt (e : EditError) (u : Update) (t : List ℕ) : Type 0 where
   pub valid : (fault : ReadFault) → e ≡ error.Read fault → HasOperands u t
 
 -- Each update of a program is carried out on the text that the one before gives (own).
-pub record HasSteps (p : Program) (t new : List ℕ) (cs : List Change) : Type 0 where
+pub record HasSteps (p : Program) (t new : List ℕ) (cs : List Splice) : Type 0 where
   pub all : List Update
   pub program : p ≡ updates all
   pub leads : Leads IsStep all t new cs

@@ -4,7 +4,7 @@ ghost use Rattle.yq_scalar.specs.declared.ReadFault.{ReadFault};
 ghost use Rattle.yq_documents.specs.Reading.{read_at};
 ghost use Rattle.yq_program.specs.Program.{LiteralsHold, Update, update_at, update_count, updates};
 ghost use Rattle.yq_program.specs.View.{program_of};
-ghost use Rattle.yq_script.specs.Patch.{Change};
+ghost use Rattle.yq_script.specs.Patch.{Splice};
 ghost use Rattle.yq_splice.specs.Answers.{Edits};
 ghost use Rattle.yq_splice.specs.Carried as spec;
 ghost use Rattle.yq_splice.specs.Theorems.{AreInside, AreMeant, AreSplices, Leads};
@@ -39,7 +39,7 @@ fn update_text(
 /// Update `nth` of a program carried out on the text that those before gave.
 fn step(alloc: Global, done: &mut Edited, program: &Program, nth: usize) -> Result<(), EditError>
     requires { nth < update_count (program_of program.now) }
-    ensures ok { (u : Update) → update_at nth (program_of program.now) ≡ Some u → OnOk result ((cs : List Change) × IsStep u (string_bytes done.old.text) (string_bytes done.new.text) cs × (done.new.splices.items ≡ done.old.splices.items ++ cs)) }
+    ensures ok { (u : Update) → update_at nth (program_of program.now) ≡ Some u → OnOk result ((cs : List Splice) × IsStep u (string_bytes done.old.text) (string_bytes done.new.text) cs × (done.new.splices.items ≡ done.old.splices.items ++ cs)) }
     ensures err { (u : Update) → update_at nth (program_of program.now) ≡ Some u → IfErr result (λ e. FailsAt e u (string_bytes done.old.text)) }
 {
     let next = update_text(alloc, &done.text, program, nth)?;

@@ -5,15 +5,12 @@ use Rattle.yq_scalar.specs.Lines.{is_hash}
 use Rattle.yq_scalar.specs.Paths.{Step}
 use Rattle.yq_scalar.specs.Text.{cut, cut_line, ends_line, is_empty, no_space, past_white}
 use Rattle.yq_rows.specs.Rows.{Cut}
+use Rattle.yq_rows.specs.Reading.{begins_gap}
 use Rattle.yq_documents.specs.declared.path.Part.TheVariants.{Entry}
 use Rattle.yq_documents.specs.Documents.{document_parts}
 use Rattle.yq_tree.specs.PathPieces.{printed_document, piece_in}
 use Rattle.yq_documents.specs.Pieces.{Piece}
 use Rattle.yq_documents.specs.Seats.{Seat, seat_of}
-
--- whether a blank line or a comment line is in front (6.6)
-abbrev pub begins_gap : List ℕ → Bool
-begins_gap t = not (is_empty t) && (ends_line (past_white t) || is_hash (past_white t))
 
 -- whether each byte is a space (5.5)
 abbrev pub are_spaces : List ℕ → Bool

@@ -17,7 +17,7 @@ use Rattle.yq_scalar.specs.declared.style.Place.TheVariants.{FlowKey}
 use Rattle.yq_inline.specs.Inline.{depth_limit}
 use Rattle.yq_flow.specs.Valued.{IsLabel, IsValueTree, AreValueTrees}
 use Rattle.yq_inline.specs.Written.{scalar_text}
-use Rattle.yq_lines.specs.Anchors.{Name, Anchors, Refers, names_of, names_in, IsAmong}
+use Rattle.yq_scalar.specs.Anchors.{Name, Anchors, Refers, names_of, names_in, IsAmong}
 use Rattle.yq_rows.specs.Grammar.{key_limit}
 use Rattle.yq_block.specs.BlockValues.{IsNear, HasNearKeys, EachHasNearKeys}
 use Rattle.yq_block.proofs.KeyLaws.{near_key}

@@ -15,7 +15,7 @@ use Rattle.yq_scalar.specs.Text.{cut, no_white, past_white, upto, joined, lines_
 use Rattle.yq_scalar.specs.Tree.{Node}
 use Rattle.yq_scalar.proofs.Bools.{bind_some, guard_then, or_false}
 use Rattle.yq_scalar.proofs.LineLaws.{joined_lines}
-use Rattle.yq_lines.specs.Anchors.{Name, Anchors, Refers, names_of, IsAmong}
+use Rattle.yq_scalar.specs.Anchors.{Name, Anchors, Refers, names_of, IsAmong}
 use Rattle.yq_rows.specs.Rows.{Part, Cut, cut_text}
 use Rattle.yq_documents.specs.Documents.{Document, document_parts, lead_of}
 use Rattle.yq_documents.specs.Reading as reading

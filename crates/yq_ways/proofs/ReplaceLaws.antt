@@ -43,7 +43,7 @@ use Rattle.yq_meaning.specs.Changes.{has_long_key, is_deep, is_used_inside}
 use Rattle.yq_meaning.specs.Fits.{Fits}
 use Rattle.yq_meaning.specs.Operations.{Operation, replace, append, remove, line_comment, head_comment}
 use Rattle.yq_meaning.specs.Rooms.{room_of}
-use Rattle.yq_lines.specs.Anchors.{names_of}
+use Rattle.yq_scalar.specs.Anchors.{names_of}
 use Rattle.yq_script.specs.Script.{Segment, old_text, new_text}
 use Rattle.yq_ways.specs.Operands.{HasOperand}
 use Rattle.yq_ways.specs.Replacing.{node_in, scalar_in, are_same, is_kept, flow_written, value_written, replace_at, replace_way}

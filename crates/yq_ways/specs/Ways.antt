@@ -1,5 +1,6 @@
 -- Ways to carry out operations on the text of a cut.
 use Rattle.std.specs.Prelude.{◌≡◌, ℕ, ◌≤◌, List, length, Option, Some, None}
+use Rattle.std.specs.Option.{option_or}
 use Rattle.yq_scalar.specs.Characters.{text_limit}
 use Rattle.yq_rows.specs.Rows.{Cut, cut_text}
 use Rattle.yq_documents.specs.Reading.{documents, read_at, documents_of}
@@ -32,11 +33,6 @@ pub record IsWay (way : Way) : Type 0 where
   pub reads : (op : Operation) (c : Cut) (ss : List Segment) → read_at (cut_text c) ≡ Some c → way op c ≡ Some ss → HasOperand op → Fits (room_of (cut_text c)) op (documents c) →
       length (new_text ss) ≤ text_limit → ReadsAfter op c (new_text ss)
 
--- the first of two, if there is one, else the second (own)
-abbrev pub first_some : {A : Type 0} → Option A → Option A → Option A
-first_some None y = y
-first_some (Some x) y = Some x
-
 -- the first of two ways that is one for an operation (own)
 abbrev pub or_else : Way → Way → Way
-or_else f g op c = first_some (f op c) (g op c)
+or_else f g op c = option_or (f op c) (g op c)

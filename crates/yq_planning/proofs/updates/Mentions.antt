@@ -5,7 +5,7 @@ use Rattle.std.specs.Str.{bytes_eq}
 use Rattle.std.proofs.lemmas.Bool.{false≢true}
 use Rattle.yq_scalar.specs.Tree as tree
 use Rattle.yq_scalar.specs.Tree.{Node, alias, scalar, list, Children, none, child, children_of}
-use Rattle.yq_lines.specs.Anchors.{Name, Anchors, Refers, with_anchor, names_of, names_in}
+use Rattle.yq_scalar.specs.Anchors.{Name, Anchors, Refers, with_anchor, names_of, names_in}
 use Rattle.yq_meaning.specs.Changes.{refers_to, is_used, is_used_inside, is_used_in}
 use Rattle.yq_scalar.specs.Shapes.{IsTree}
 use Rattle.yq_program.specs.Program.{IsValue}

@@ -9,7 +9,7 @@ use Rattle.yq_scalar.specs.Numbers.{is_i64}
 use Rattle.yq_scalar.specs.SchemaReading.{int_value}
 use Rattle.yq_scalar.specs.Tree as tree
 use Rattle.yq_scalar.specs.Tree.{Label, Node, alias, scalar, list, Children, none, child}
-use Rattle.yq_scalar.specs.Paths.{To, key_is, child_at, change_child, append_child}
+use Rattle.yq_scalar.specs.Paths.{To, key_is, child_at, change_child, append_child, append_children}
 use Rattle.yq_meaning.specs.declared.refusal.Refusal.TheVariants.{IntegerRange}
 use Rattle.yq_meaning.specs.Judgement.{gives, refuses, and_then}
 use Rattle.yq_program.specs.Program.{SumHolds, Step, Term, literal, found}
@@ -19,7 +19,7 @@ use Rattle.yq_planning.proofs.updates.Mentions.{literal_pure, IsPure}
 use Rattle.yq_meaning.specs.Pipes.{pipe_on}
 use Rattle.yq_meaning.specs.Places.{Place}
 use Rattle.yq_planning.specs.PlacesApart.{IsIn}
-use Rattle.yq_meaning.specs.RightValues.{is_null, int_sum, scalar_sum, followed, as_items, with_entry, with_entries, value_sum, sum, only_copy, term_value, sum_from, right_value}
+use Rattle.yq_meaning.specs.RightValues.{is_null, int_sum, scalar_sum, as_items, with_entry, with_entries, value_sum, sum, only_copy, term_value, sum_from, right_value}
 use Rattle.yq_scalar.specs.Shapes.{IsNew, AreItems, AreEntries, IsTree}
 use Rattle.yq_documents.specs.TreeEdits.{new_label}
 use Rattle.yq_planning.proofs.JudgementLaws.{then_gives, gives_same}
@@ -37,11 +37,11 @@ free_first label n cs f = (f.0.0, λ a m. f.1 a (inl m))
 free_rest : (label : Label) (n : Node) (cs : Children) → AreFree (child label n cs) → AreFree cs
 free_rest label n cs f = (f.0.1, λ a m. f.1 a (inr m))
 
-free_join : (cs ds : Children) → AreFree cs → AreFree ds → AreFree (followed cs ds)
+free_join : (cs ds : Children) → AreFree cs → AreFree ds → AreFree (append_children cs ds)
 free_join none ds f g = g
-free_join (child label n cs) ds f g = free_child label n (followed cs ds) (free_first label n cs f) (free_join cs ds (free_rest label n cs f) g)
+free_join (child label n cs) ds f g = free_child label n (append_children cs ds) (free_first label n cs f) (free_join cs ds (free_rest label n cs f) g)
 
-items_join : (cs ds : Children) → AreItems cs → AreItems ds → AreItems (followed cs ds)
+items_join : (cs ds : Children) → AreItems cs → AreItems ds → AreItems (append_children cs ds)
 items_join none ds h k = k
 items_join (child label n cs) ds h k = (h.0, items_join cs ds h.1 k)
 
@@ -159,7 +159,7 @@ value_pure (scalar a k t) (scalar b j u) w p q h = scalar_pure k t j u w h
 value_pure (scalar a k t) (list b ds) w p q h = absurd (cc)
 value_pure (scalar a k t) (tree.map b ds) w p q h = absurd (cc)
 value_pure (list a cs) v w p q h =
-    let free : AreFree (followed cs (as_items v)) = free_join cs (as_items v) (p.0.1, λ x m. p.1 x m) (items_free v q) in
+    let free : AreFree (append_children cs (as_items v)) = free_join cs (as_items v) (p.0.1, λ x m. p.1 x m) (items_free v q) in
     subst IsPure (gives_same h) ((items_join cs (as_items v) p.0.0 (items_items v q), free.0), λ x m. free.1 x m)
 value_pure (tree.map a cs) (alias name) w p q h = absurd (cc)
 value_pure (tree.map a cs) (scalar b j u) w p q h = absurd (cc)

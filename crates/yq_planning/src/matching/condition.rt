@@ -15,14 +15,7 @@ use std::alloc::Global;
 use yq_documents::{Node, NodeKind};
 use yq_meaning::{MatchError, Refusal};
 use yq_program::{Condition, Operand, Step};
-use yq_scalar::{Kind, Scalar, int_value};
-
-/// Whether a text is a word for true (YAML 1.2.2, section 10.3.2).
-fn is_true_word(text: &str) -> bool
-    ensures { result ≡ spec.is_true_word text.now }
-{
-    text == "true" || text == "True" || text == "TRUE"
-}
+use yq_scalar::{Kind, Scalar, int_value, is_true_word};
 
 /// Whether two ints are the same: by their numbers, where both have one in 64
 /// bits, and else by their texts.

@@ -5,6 +5,7 @@ ghost use Rattle.yq_inline.specs.Values.{entries_of, field_of, items_of, node_of
 ghost use Rattle.yq_scalar.specs.SchemaReading as numbers;
 ghost use Rattle.yq_scalar.specs.Tree.{scalar};
 ghost use Rattle.yq_scalar.specs.declared.kind.Kind.TheVariants.{Int, Text};
+ghost use Rattle.yq_scalar.specs.Paths.{append_children};
 ghost use Rattle.yq_planning.specs.EntryNumbers.{AreNumbered};
 ghost use Rattle.yq_meaning.specs.Judgement.{Matches};
 ghost use Rattle.yq_meaning.specs.RightValues as spec;
@@ -77,7 +78,7 @@ pub fn is_null(value: &Value) -> bool
 /// Puts what a list gets from a value behind its items: the items of a list,
 /// or the value as one item.
 fn push_items(items: &mut Vec<Value>, value: Value) -> Result<(), AllocError>
-    ensures { OnOk result (items_of items.new.items ≡ spec.followed (items_of items.old.items) (spec.as_items (node_of value))) }
+    ensures { OnOk result (items_of items.new.items ≡ append_children (items_of items.old.items) (spec.as_items (node_of value))) }
 {
     match value {
         Value::List(others) => push_all(items, others),
@@ -88,7 +89,7 @@ fn push_items(items: &mut Vec<Value>, value: Value) -> Result<(), AllocError>
 
 /// Puts items behind others.
 fn push_all(items: &mut Vec<Value>, others: Vec<Value>) -> Result<(), AllocError>
-    ensures { OnOk result (items_of items.new.items ≡ spec.followed (items_of items.old.items) (items_of others.items)) }
+    ensures { OnOk result (items_of items.new.items ≡ append_children (items_of items.old.items) (items_of others.items)) }
 {
     'each: for other in others {
         items.push(other)?;

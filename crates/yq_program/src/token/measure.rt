@@ -3,6 +3,7 @@ ghost use Rattle.std.specs.Char.{is_ascii_digit};
 ghost use Rattle.std.specs.List.{prefix_len};
 ghost use Rattle.std.specs.Prelude.{◌≡◌, ◌==◌, ◌&&◌, ◌+◌, ◌^◌, ◌<◌, ◌≤◌, length, is_some, IfSome};
 ghost use Rattle.yq_scalar.specs.Text.{front};
+ghost use Rattle.yq_scalar.specs.SchemaReading.{is_one_of};
 ghost use Rattle.yq_program.specs.Lexing as spec;
 ghost use Rattle.yq_program.specs.Tokens as grammar;
 ghost use Rattle.yq_program.specs.Tokens.{is_name_byte};
@@ -99,13 +100,13 @@ fn number_len(text: &[u8]) -> usize
 }
 
 fn is_call_word(name: &[u8]) -> bool
-    ensures { result ≡ grammar.is_one_of grammar.call_words name.now }
+    ensures { result ≡ is_one_of grammar.call_words name.now }
 {
     name == b"select".as_slice() || name == b"del".as_slice() || name == b"has".as_slice()
 }
 
 fn is_place_word(name: &[u8]) -> bool
-    ensures { result ≡ grammar.is_one_of grammar.place_words name.now }
+    ensures { result ≡ is_one_of grammar.place_words name.now }
 {
     name == b"di".as_slice()
         || name == b"document_index".as_slice()
@@ -114,7 +115,7 @@ fn is_place_word(name: &[u8]) -> bool
 }
 
 fn is_scalar_word(name: &[u8]) -> bool
-    ensures { result ≡ grammar.is_one_of grammar.scalar_words name.now }
+    ensures { result ≡ is_one_of grammar.scalar_words name.now }
 {
     name == b"true".as_slice() || name == b"false".as_slice() || name == b"null".as_slice()
 }

@@ -10,10 +10,9 @@ use Rattle.yq_scalar.specs.Text.{front, is_white, is_feed, is_return, is_empty, 
 use Rattle.yq_scalar.proofs.Bools.{or_false}
 use Rattle.yq_scalar.proofs.RawLaws.{both}
 use Rattle.yq_scalar.proofs.SpaceLaws.{prefix_none, spaces_front, drop_front}
-use Rattle.yq_rows.specs.Grammar.{Limit, AreRows}
+use Rattle.yq_rows.specs.Grammar.{Limit, AreRows, ends_part}
 use Rattle.yq_rows.specs.Rows.{Row, behind_indent, rows_text}
 use Rattle.yq_rows.specs.Removal.{next_column}
-use Rattle.yq_rows.specs.Seams.{ends_part}
 use Rattle.yq_rows.specs.Splices.{behind_first}
 use Rattle.yq_rows.proofs.AlikeBlocks.{put_first}
 use Rattle.yq_rows.proofs.EmptyTexts.{empty_is}

@@ -9,9 +9,9 @@ use Rattle.yq_scalar.proofs.Bools.{and_true}
 use Rattle.yq_inline.specs.Alike.{Alike}
 use Rattle.yq_rows.specs.Exchange.{allows_first, asked_behind, with_content}
 use Rattle.yq_rows.specs.Gap.{IsBreak, IsLineEnd}
-use Rattle.yq_rows.specs.Grammar.{IsTail, IsContent, is_plain, IsRow, Limit, unlimited, limit_after, limit_behind, AreRows, no_rows}
+use Rattle.yq_rows.specs.Grammar.{IsTail, IsContent, is_plain, IsRow, Limit, unlimited, limit_after, limit_behind, AreRows, no_rows, ends_part}
 use Rattle.yq_rows.specs.Rows.{Content, Nothing, Inline, Block, Row, parent_indent, print_row, rows_text}
-use Rattle.yq_rows.specs.Seams.{is_closed, is_seam, MayFollowRows, TakesPlace, with_tail, tail_behind, TailFits, ends_part}
+use Rattle.yq_rows.specs.Seams.{is_closed, is_seam, MayFollowRows, TakesPlace, with_tail, tail_behind, TailFits}
 use Rattle.yq_rows.specs.Splices.{with_first_gap, end_gap, behind_first}
 use Rattle.yq_rows.proofs.AlikeRows.{row_alike, row_text_alike}
 use Rattle.yq_rows.proofs.EmptyTexts.{empty_is, empty_or}

@@ -10,10 +10,10 @@ use Rattle.yq_scalar.proofs.Bools.{and_true, or_false}
 use Rattle.yq_inline.specs.Nodes.{Node, empty, alias, scalar, coll, anchored, node_text, IsNode}
 use Rattle.yq_rows.specs.Exchange.{asked_behind, row_front}
 use Rattle.yq_rows.specs.Gap.{IsComment}
-use Rattle.yq_rows.specs.Grammar.{IsTail, IsContent, IsRow, Limit, limit_after, limit_behind, AreRows}
+use Rattle.yq_rows.specs.Grammar.{IsTail, IsContent, IsRow, Limit, limit_after, limit_behind, AreRows, ends_part}
 use Rattle.yq_rows.specs.Rows.{Content, Nothing, Inline, Block, content_text, Row, parent_indent, print_row, rows_text}
 use Rattle.yq_rows.specs.Appending.{is_one_break, closed_by, TakesBreak}
-use Rattle.yq_rows.specs.Seams.{with_tail, tail_behind, TailFits, ends_part, is_block, TakesPlace, retail}
+use Rattle.yq_rows.specs.Seams.{with_tail, tail_behind, TailFits, is_block, TakesPlace, retail}
 use Rattle.yq_inline.proofs.WrittenLaws.{node_then}
 use Rattle.yq_rows.proofs.CharacterLaws.{pairs_back}
 use Rattle.yq_rows.proofs.ExchangeLaws.{chain}

@@ -3,9 +3,8 @@ use Rattle.std.proofs.Common.{◌≡◌, ℕ, zero, suc, Bool, true, false, List
 use Rattle.std.proofs.Math.Seq.{drop-append_seam}
 use Rattle.std.proofs.lemmas.Bool.{or_right}
 use Rattle.yq_scalar.specs.Text.{is_empty, is_marker}
-use Rattle.yq_rows.specs.Grammar.{unlimited, AreRows, no_rows, IsPart, IsMarkerLine, begins_document, AreParts, IsCut}
+use Rattle.yq_rows.specs.Grammar.{unlimited, AreRows, no_rows, IsPart, IsMarkerLine, begins_document, AreParts, IsCut, ends_part}
 use Rattle.yq_rows.specs.Rows.{Row, Part, part_text, Cut, last, marked, cut_text}
-use Rattle.yq_rows.specs.Seams.{ends_part}
 use Rattle.yq_rows.specs.SpliceFits.{is_after}
 use Rattle.yq_rows.specs.Splices.{nth_part, behind_part, marker_before, is_started, back_rows, asked_at, StandsBetween}
 use Rattle.yq_rows.proofs.seams.FrontSeams.{rows_some}

@@ -5,9 +5,9 @@ use Rattle.std.proofs.lemmas.List.{take-append-drop}
 use Rattle.yq_scalar.specs.Text.{is_empty, is_marker}
 use Rattle.yq_inline.specs.Alike.{Alike}
 use Rattle.yq_rows.specs.Exchange.{asked_behind}
-use Rattle.yq_rows.specs.Grammar.{unlimited, AreRows, no_rows, IsPart, IsMarkerLine, begins_document, AreParts, IsCut}
+use Rattle.yq_rows.specs.Grammar.{unlimited, AreRows, no_rows, IsPart, IsMarkerLine, begins_document, AreParts, IsCut, ends_part}
 use Rattle.yq_rows.specs.Rows.{Row, rows_text, Part, part_text, Cut, last, marked, cut_text}
-use Rattle.yq_rows.specs.Seams.{is_closed, are_seamed, ends_part}
+use Rattle.yq_rows.specs.Seams.{is_closed, are_seamed}
 use Rattle.yq_rows.specs.SpliceFits.{is_after, SpliceFits, FitsIn}
 use Rattle.yq_rows.specs.Splices.{with_first_gap, end_gap, behind_first, splice_part, splice, nth_part, behind_part, marker_before, is_started, CutsItsText}
 use Rattle.yq_rows.proofs.AlikeRows.{part_alike, part_text_alike}

@@ -8,9 +8,9 @@ ghost use Rattle.yq_documents.specs.Reading.{cut_of};
 use crate::document::Documents;
 use crate::places::written::cut_at;
 use yq_documents::Path;
-use yq_inline::pieces::first_is;
+use yq_rows::begins_gap;
 use yq_scalar::lines::split_line;
-use yq_scalar::text::{ends_line, past_white, split_spaces};
+use yq_scalar::text::split_spaces;
 
 /// What is taken out of a text with the first item or entry of a compact collection.
 #[derive(Clone, Copy, Debug)]
@@ -27,14 +27,6 @@ pub struct FirstRemoval<'d> {
     pub indent: &'d str,
     /// The text behind what goes.
     pub behind: &'d str,
-}
-
-/// Whether a blank line or a comment line is in front.
-fn begins_gap(text: &[u8]) -> bool
-    ensures { result ≡ spec.begins_gap text.now }
-{
-    let next = past_white(text);
-    !text.is_empty() && (ends_line(next) || first_is(b'#', next))
 }
 
 /// How long a text is less the spaces that end it, in bytes.

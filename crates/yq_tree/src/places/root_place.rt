@@ -15,8 +15,8 @@ use crate::document::Documents;
 use crate::places::extent::rows_len;
 use crate::places::seat::{is_sought, left_behind};
 use crate::places::written::cut_at;
-use yq_documents::{Path, begins_document, first_is_document};
-use yq_rows::Rows;
+use yq_documents::{Path, first_is_document};
+use yq_rows::{Rows, begins_document};
 
 /// The place of a root.
 #[derive(Clone, Copy, Debug)]

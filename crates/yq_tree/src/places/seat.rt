@@ -13,10 +13,10 @@ ghost use Rattle.yq_documents.specs.Seats.{document_row, seat_at, seat_of};
 
 use crate::document::Documents;
 use crate::places::extent::lines_before_mark;
-use yq_documents::{Path, begins_document, first_is_document};
+use yq_documents::{Path, first_is_document};
 use yq_inline::Step;
 use yq_lines::Lined;
-use yq_rows::Rows;
+use yq_rows::{Rows, begins_document};
 
 /// A line of a row.
 #[derive(Clone, Copy, Debug)]

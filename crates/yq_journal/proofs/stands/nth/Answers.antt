@@ -1,7 +1,7 @@
 use Rattle.std.proofs.Common.{◌-◌, length, Some, sym, ap, ap₂, ◌∙◌, refl, arith}
 use Rattle.std.specs.Prelude.{slice_get}
 use Rattle.std.proofs.lemmas.Option.{slice_get_read}
-use Rattle.yq_script.specs.Patch.{Change, swapped}
+use Rattle.yq_script.specs.Patch.{Splice, swapped}
 use Rattle.yq_journal.specs.Gap.{change}
 use Rattle.yq_journal.specs.Turned.{turned}
 use Rattle.yq_journal.proofs.StandLaws.{flipped_at}
@@ -12,7 +12,7 @@ returns-then-back c =
     ap (λ b. slice_get (turned b c.args.splices.now) c.args.k) c.if-back.true
     ∙ flipped_at c.args.splices.now c.args.k c.index-splices-splices.result c.requires
     (slice_get_read c.args.splices.now (length c.args.splices.now) (length c.args.splices.now - 1 - c.args.k) c.index-splices-splices.result refl (omega arith) c.index-splices-splices.is)
-    ∙ ap (λ (x : Change). Some (swapped x)) (sym c.splice.view_is)
+    ∙ ap (λ (x : Splice). Some (swapped x)) (sym c.splice.view_is)
     ∙ ap₂ (λ o n. Some (change c.splice.inside.at o n)) (sym c.deref.ensures.value) (sym c.deref-then-back.ensures.value)
 
 pub returns-else-back : goal.returns-else-back

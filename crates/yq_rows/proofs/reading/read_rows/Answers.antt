@@ -1,17 +1,17 @@
 use Rattle.std.proofs.Common.{◌≡◌, true, false, rules, sym, subst, ap, ◌∙◌}
 use Rattle.std.proofs.lemmas.List.Elements.{All-push}
 use Rattle.yq_rows.specs.Offsets.{Stand, Stands, rows_in}
-use Rattle.yq_rows.specs.Reading.{ends_rows}
 use Rattle.yq_rows.specs.View.{limit_view, view}
 use Rattle.yq_rows.proofs.Failing.{fails_by}
 use Rattle.yq_rows.proofs.OffsetLaws.{ends_next, row_then, rows_push}
 use Rattle.yq_rows.proofs.RowLending.{at_gap, loop_smaller, loop_step, no_row, row_joined, rows_end}
 use Rattle.yq_rows.proofs.reading.read_rows.Goals as goal
+use Rattle.yq_rows.specs.Grammar.{ends_part}
 
-pub returns-then-ends_rows-clause-found : goal.returns-then-ends_rows-clause-found
-returns-then-ends_rows-clause-found c =
+pub returns-then-ends_part-clause-found : goal.returns-then-ends_part-clause-found
+returns-then-ends_part-clause-found c =
     let front = rows_in c.args.whole.now c.rows.rows.items in
-    let done : ends_rows c.split_gap.result.1.now ≡ true = ap ends_rows (sym c.as_bytes.ensures.value) ∙ (sym c.ends_rows.ensures ∙ c.if-ends_rows.true) in
+    let done : ends_part c.split_gap.result.1.now ≡ true = ap ends_part (sym c.as_bytes.ensures.value) ∙ (sym c.ends_part.ensures ∙ c.if-ends_part.true) in
     sym c.rows.invariant.so_far
     ∙ (at_gap front (limit_view c.rows.limit) c.rows.at.now _ _ c.split_gap.ensures
     ∙ rows_end front (limit_view c.rows.limit) c.split_gap.result.0.now c.split_gap.result.1.now done)
@@ -19,7 +19,7 @@ returns-then-ends_rows-clause-found c =
 pub returns-in-Err-clause-found : goal.returns-in-Err-clause-found
 returns-in-Err-clause-found c =
     let front = rows_in c.args.whole.now c.rows.rows.items in
-    let more : ends_rows c.split_gap.result.1.now ≡ false = ap ends_rows (sym c.as_bytes.ensures.value) ∙ (sym c.ends_rows.ensures ∙ c.if-ends_rows.false) in
+    let more : ends_part c.split_gap.result.1.now ≡ false = ap ends_part (sym c.as_bytes.ensures.value) ∙ (sym c.ends_part.ensures ∙ c.if-ends_part.false) in
     fails_by c.in-Err.e _ _ c.in-Err.ensures (λ none.
     sym c.rows.invariant.so_far
     ∙ (at_gap front (limit_view c.rows.limit) c.rows.at.now _ _ c.split_gap.ensures
@@ -31,7 +31,7 @@ offsets_of-requires-clause-read c =
 
 pub rows-smaller : goal.rows-smaller
 rows-smaller c =
-    let more : ends_rows c.split_gap.result.1.now ≡ false = ap ends_rows (sym c.as_bytes.ensures.value) ∙ (sym c.ends_rows.ensures ∙ c.if-ends_rows.false) in
+    let more : ends_part c.split_gap.result.1.now ≡ false = ap ends_part (sym c.as_bytes.ensures.value) ∙ (sym c.ends_part.ensures ∙ c.if-ends_part.false) in
     loop_smaller (limit_view c.rows.limit) (limit_view c.in-Ok.found.1) c.rows.at.now _ _ (view c.in-Ok.found.0) c.in-Ok.found.2.now c.split_gap.ensures more c.in-Ok.ensures
 
 pub rows-preserved : goal.rows-preserved
@@ -39,7 +39,7 @@ rows-preserved c =
     let whole = c.args.whole.now in
     let row = view c.in-Ok.found.0 in
     let after = c.in-Ok.found.2.now in
-    let more : ends_rows c.split_gap.result.1.now ≡ false = ap ends_rows (sym c.as_bytes.ensures.value) ∙ (sym c.ends_rows.ensures ∙ c.if-ends_rows.false) in
+    let more : ends_part c.split_gap.result.1.now ≡ false = ap ends_part (sym c.as_bytes.ensures.value) ∙ (sym c.ends_part.ensures ∙ c.if-ends_part.false) in
     let joined = row_joined (limit_view c.rows.limit) (limit_view c.in-Ok.found.1) c.rows.at.now _ _ row after c.split_gap.ensures c.in-Ok.ensures in
     let pushed = rows_push whole c.rows.rows.items _ c.offsets_of.result row c.in_ok-push.ensures.items c.offsets_of.ensures.same in
     record {

@@ -1,14 +1,15 @@
 use Rattle.std.proofs.Common.{◌≡◌, ℕ, List, option_map}
+use Rattle.std.specs.Option.{option_or}
 use Rattle.yq_scalar.specs.Paths.{To, child_at}
 use Rattle.yq_scalar.specs.Tree.{children_of}
 use Rattle.yq_documents.specs.Children.{left_of}
 use Rattle.yq_lines.specs.Counts.{count}
 use Rattle.yq_documents.specs.Nodes.{node_of}
-use Rattle.yq_planning.specs.Indexes.{or_first, text_at}
+use Rattle.yq_planning.specs.Indexes.{text_at}
 use Rattle.yq_planning.proofs.updating.entry_index.index_of.Given as goal
 
 abbrev pub invariant-each : goal.invariant-each
-invariant-each l = (k : List ℕ) → or_first (option_map node_of (text_at k l.index)) (child_at (To k) (left_of l.entries)) ≡ child_at (To k) (children_of (node_of l.fn.node))
+invariant-each l = (k : List ℕ) → option_or (option_map node_of (text_at k l.index)) (child_at (To k) (left_of l.entries)) ≡ child_at (To k) (children_of (node_of l.fn.node))
 
 abbrev pub decreases-each : goal.decreases-each
 decreases-each l = count (left_of l.entries)

@@ -4,7 +4,7 @@ use Rattle.std.specs.Vec.Iter.{into_iter_items}
 use Rattle.yq_inline.specs.Values.{items, items_of, node_of}
 use Rattle.yq_inline.specs.declared.value.Value.{Value}
 use Rattle.yq_scalar.specs.Tree.{Node}
-use Rattle.yq_meaning.specs.RightValues.{followed}
+use Rattle.yq_scalar.specs.Paths.{append_children}
 use Rattle.yq_planning.proofs.SumLaws.{followed_none, item_more, nothing_left}
 use Rattle.yq_planning.proofs.updating.sum.push_all.Goals as goal
 
@@ -15,9 +15,9 @@ each-preserved c =
     let steps : into_iter_items at.other-iterator ≡ x ∷ into_iter_items c.next.new.self = c.in-Some.ensures.steps.0 in
     record {
       so_far =
-          ap (λ (ns : List Node). followed (items ns) (items_of (into_iter_items c.next.new.self))) (ap (map node_of) c.in_ok-push.ensures.items ∙ map_push node_of at.items.items x)
+          ap (λ (ns : List Node). append_children (items ns) (items_of (into_iter_items c.next.new.self))) (ap (map node_of) c.in_ok-push.ensures.items ∙ map_push node_of at.items.items x)
           ∙ (item_more (map node_of at.items.items) (node_of x) (items_of (into_iter_items c.next.new.self))
-          ∙ (ap (λ (vs : List Value). followed (items_of at.items.items) (items_of vs)) (sym steps) ∙ at.invariant.so_far));
+          ∙ (ap (λ (vs : List Value). append_children (items_of at.items.items) (items_of vs)) (sym steps) ∙ at.invariant.so_far));
       counted =
           let was = at.invariant.counted in
           let gone = c.in-Some.ensures.steps.1 in
@@ -30,4 +30,4 @@ returns c =
     let at = c.each in
     let none = c.in-None.ensures.steps in
     let empty : into_iter_items at.other-iterator ≡ [] = nothing_left _ (sym at.invariant.counted ∙ none.0) in
-    sym (followed_none (items_of at.items.items)) ∙ (ap (λ (vs : List Value). followed (items_of at.items.items) (items_of vs)) (sym empty) ∙ at.invariant.so_far)
+    sym (followed_none (items_of at.items.items)) ∙ (ap (λ (vs : List Value). append_children (items_of at.items.items) (items_of vs)) (sym empty) ∙ at.invariant.so_far)
