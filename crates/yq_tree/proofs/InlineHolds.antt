@@ -178,10 +178,3 @@ inline_telling_is t c path x before old behind told h a b d e =
     let third : behind ≡ w.behind = d ∙ ((λ i. drop (size i) (rest i)) ∙ drop-append_seam (written_text w.old) w.behind) in
     let alone : x.2 ≡ w.alone = ap (λ (y : InlineExtent). y.2) (sym h.extent) in
     (λ i. Some (first i, second i, third i, alone i)) ∙ sym (ap (option_map inline_telling) h.is)
-
-pub no_inline : (c : Cut) (path : Path) → None ≡ option_map extent_of (inline_place path c) → None ≡ option_map inline_telling (inline_place path c)
-no_inline c path e = go (inline_place path c) e
-  where
-    go : (o : Option InlinePlace) → None ≡ option_map extent_of o → None ≡ option_map inline_telling o
-    go None e = refl
-    go (Some w) e = absurd (none_some e)
