@@ -26,7 +26,6 @@ one_line ls at l m a b = same (sym a ∙ b)
 module _ (ls : List Line) (at floor : ℕ) (l : Line) (is : slice_get ls at ≡ Some l) (deep : floor < level l) where
   value_row : value (part ls at floor) ≡ collection l.mark (children (part ls at floor))
   value_row =
-      let o : Outline = row l (part ls (at + 1) (level l)) (deeper floor (rest ls (at + 1) (level l))) in
       ap value (part_row ls at floor l is deep) ∙ ap (λ x. collection l.mark (children x)) (sym (part_row ls at floor l is deep))
 
   pub map_value : (k : List ℕ) → l.mark ≡ Key k → value (part ls at floor) ≡ map None (children (part ls at floor))
