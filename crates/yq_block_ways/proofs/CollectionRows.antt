@@ -155,9 +155,6 @@ pub record EndPieces (e : LineEnd) : Type 0 where
 
 -- the end of a line, with another break behind its white space and its comment
 module _ (tail more : List ℕ) (h : IsTail tail more) (pairs : pairs_returns (tail ++ more) ≡ true) (break rest : List ℕ) (ends : IsBreak break rest) where
-  abbrev pub ended : List ℕ
-  ended = h.white ++ (h.comment ++ break)
-
   alone : (b z : List ℕ) → IsBreak b z → IsBreak b []
   alone b z (inl e) = inl e
   alone b z (inr e) = inr (e.0, refl)
@@ -314,9 +311,6 @@ module _ (doc : ℕ) (s : Step) (ss : List Step) (c : Cut) (w : MarkPlace) (x : 
 
   pub behind_is : x.behind ≡ rows_text col.back (f.s.part.end ++ behind_document doc c)
   behind_is = col.behind_is
-
-  abbrev pub own_text : List ℕ
-  own_text = tail.line.break ++ rows_text reach.0 []
 
   -- the place, by the pieces of the row
   abbrev pub front_text : List ℕ

@@ -25,10 +25,6 @@ regroup : (a b d r : List ℕ) → a ++ (b ++ (d ++ r)) ≡ ((a ++ b) ++ d) ++ r
 regroup a b d r = simp append_assoc refl
 
 module _ (doc : ℕ) (s : Step) (ss : List Step) (c : Cut) (h : NodeRows doc s ss c) (block : is_block h.mark.content ≡ false) where
-  -- the text up to the key or dash, and its anchor
-  abbrev pub upto_mark : List ℕ
-  upto_mark = upto_anchor ((h.start ++ rows_text h.front []) ++ row_front h.mark) (slices h.mark)
-
   -- before an end of the line with the old comment that may be left there
   pub holding : IsRow (limit doc s ss c h) h.mark (rows_text (h.under ++ h.back) (h.p.end ++ behind_document doc c)) → anchor_of (content h.found.line h.found.under) ≡ content_anchor h.mark.content →
       (tail more : List ℕ) → IsTail tail more → line_comment tail ≡ line_comment (slices h.mark).tail → IsHolding doc s ss c h (anchor_left h.mark.content tail) more

@@ -101,9 +101,6 @@ lines_upto (at_dash {r} {ns} n ms is) under =
 list_head : {a b : Line} {az bz : List Line} → a ∷ az ≡ b ∷ bz → a ≡ b
 list_head e = cc
 
-list_tail : {a b : Line} {az bz : List Line} → a ∷ az ≡ b ∷ bz → az ≡ bz
-list_tail e = cc
-
 -- ---- the rows behind them
 
 follow_first : (limit : Limit) (column : ℕ) (bs : List Row) → ((k : ℕ) → k ≤ column → allows limit k ≡ true) → allows_first (record { column = Some (suc column) }) bs ≡ true → allows_first limit bs ≡ true
@@ -123,10 +120,6 @@ led_below true lead s ss v = refl
 led_below false lead s ss v = refl
 
 module _ (doc : ℕ) (s : Step) (ss : List Step) (c : Cut) (h : NodeRows doc s ss c) where
-  -- the text behind the document, and behind the rows
-  abbrev pub end : List ℕ
-  end = behind_document doc c
-
   abbrev pub rest : List ℕ
   rest = rows_text h.back (h.p.end ++ behind_document doc c)
 
@@ -165,9 +158,6 @@ module _ (doc : ℕ) (s : Step) (ss : List Step) (c : Cut) (h : NodeRows doc s s
 
   pub line_is : line_with h.mark h.mark.content ≡ h.found.line
   line_is = list_head parts.1
-
-  pub under_is : (lines_upto h.upto h.under).0 ≡ flatten h.found.under
-  under_is = list_tail parts.1
 
   pub even : IsEven (level_or 0 (outline_of h.p)) (outline_of h.p)
   even = (document_known (cut_text c) c doc h.p h.old).even

@@ -28,9 +28,6 @@ use Rattle.yq_block_ways.proofs.ScalarRowLaws.{HasScalar, scalar_has, p, node_th
 use Rattle.yq_block_ways.proofs.ScalarTextLaws.{there_is}
 use Rattle.yq_block_ways.proofs.ScalarCollectionRows.{old_there, collection_reads}
 
-some_same : {A : Type 0} {x y : A} → Some x ≡ Some y → x ≡ y
-some_same e = cc
-
 none_some : {A : Type 0} {x : A} → None ≡ Some x → ⊥
 none_some e = cc
 

@@ -17,7 +17,7 @@ use Rattle.yq_rows.specs.Exchange.{row_front, with_content}
 use Rattle.yq_rows.specs.Gap.{IsBreak}
 use Rattle.yq_rows.specs.Grammar.{IsTail}
 use Rattle.yq_rows.specs.Rows.{Anchor, Block, anchor_text, Row, parent_indent, print_row, Cut, cut_text}
-use Rattle.yq_rows.specs.View.{Slices, slices}
+use Rattle.yq_rows.specs.View.{slices}
 use Rattle.yq_rows.proofs.LineEnds.{comment_none, text_line, white_none}
 use Rattle.yq_rows.proofs.PlaceLaws.{row_front-append}
 use Rattle.yq_tree.specs.CommentPlaces.{LineEnd, end_before, line_text}
@@ -158,9 +158,6 @@ module _ (doc : ℕ) (s : Step) (ss : List Step) (c : Cut) (w : ScalarPlace) (h 
 
   abbrev z : List ℕ
   z = rest doc s ss c w h
-
-  abbrev q : Slices
-  q = slices row
 
   abbrev own : PlacedRow
   own = placed_row h.found.s h.found.x

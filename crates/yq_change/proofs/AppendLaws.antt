@@ -77,10 +77,6 @@ less_rows (r ∷ more) limit gap rest b l ls h bare e less =
     let text : rows_text (r ∷ more) (gap ++ rest) ≡ behind_gap r x = ap (λ (g : List ℕ). g ++ behind_gap r x) bare in
     ap (λ (y : List ℕ). ends_block (keeps b.chomping) b.indent (text_lines y)) text ∙ ends_behind (keeps b.chomping) b.indent (text_lines (behind_gap r x)) here
 
-none_or : (rs : List Row) → (no_rows rs ≡ true → ⊥) → no_rows rs ≡ false
-none_or [] h = absurd (h refl)
-none_or (r ∷ rs) h = refl
-
 pub append_seam : (front back new : List Row) (end rest gap behind : List ℕ) (l : Line) (ls : List Line) → AreRows unlimited (front ++ back) end rest →
     AreRows (asked_behind unlimited front) new gap behind → first_gap new [] ≡ [] → lines_of new ≡ l ∷ ls →
     StandApart (lines_of front) (l ∷ []) → (no_rows back ≡ true → ends_in_block front ≡ false → ends_in_line front ≡ true) → are_seamed front (rows_text new (gap ++ behind)) ≡ true

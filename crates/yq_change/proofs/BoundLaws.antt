@@ -90,9 +90,6 @@ around_child s (child l n cs) m e = go (is_here s l) refl e (around_child (furth
           new = λ f. rw h (ap (λ x. names_of n ++ x) (r.new f) ∙ sym (append_assoc (names_of n) r.front (names_of (f m) ++ r.back)));
         }
 
-inner : (a p e q b : List Name) → a ++ (p ++ ((e ++ q) ++ b)) ≡ (a ++ p) ++ (e ++ (q ++ b))
-inner a p e q b = ap (λ x. a ++ (p ++ x)) (append_assoc e q b) ∙ sym (append_assoc a p (e ++ (q ++ b)))
-
 pub anchor_front : (a : Option (List ℕ)) (xs : List Name) → with_anchor a xs ≡ with_anchor a [] ++ xs
 anchor_front None xs = refl
 anchor_front (Some a) xs = refl

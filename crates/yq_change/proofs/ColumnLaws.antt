@@ -16,7 +16,7 @@ use Rattle.yq_lines.proofs.Values.{rank_small}
 use Rattle.yq_change.specs.Moved.{dash_lines}
 use Rattle.yq_change.specs.Columns.{NextAllowed, NextStays, BlockIsDeeper, ClosedStandsLess}
 use Rattle.yq_change.specs.LineRows.{Begins, StandApart, AreDeep, AreClosed}
-use Rattle.yq_change.proofs.ApartLaws.{apart_skip, begins_less, closed_back, first_level, list_head}
+use Rattle.yq_change.proofs.ApartLaws.{apart_skip, closed_back, first_level, list_head}
 use Rattle.yq_change.proofs.LineLaws.{above_mark, mark_behind}
 
 -- columns and levels
@@ -212,11 +212,6 @@ pub apart_first : (a : List Line) (l : Line) (ls : List Line) → StandApart a (
 apart_first [] l ls h = tt
 apart_first (x ∷ []) l ls h = h
 apart_first (x ∷ (y ∷ a)) l ls h = apart_first (y ∷ a) l ls h
-
-apart_lower : (a zs : List Line) (n : ℕ) (l : Line) → level l ≡ n → StandApart a (l ∷ []) → Begins n zs → StandApart a zs
-apart_lower [] zs n l e h b = tt
-apart_lower (x ∷ []) zs n l e h b = begins_less n (level x) zs (omega (arith, e, h)) b
-apart_lower (x ∷ (y ∷ a)) zs n l e h b = apart_lower (y ∷ a) zs n l e h b
 
 bare : (l : Line) (column : ℕ) (a : List Line) → StandApart a (l ∷ []) → 3 * column + 1 ≤ level l → StandApart a (record l { column = column; mark = Rattle.yq_lines.specs.Outline.Bare } ∷ [])
 unfolding level

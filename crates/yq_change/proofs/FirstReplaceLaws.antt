@@ -106,7 +106,6 @@ pub dropped_replaces : (p : Part) (front gone back : List Row) (r : Row) (n : �
     RowsReplace front (r ∷ gone) (emptied r ns tail ∷ []) back (first_gap back p.end) p rest
 dropped_replaces p front gone back r n ns es tail rest h rows f =
     let limit : Limit = asked_behind unlimited front in
-    let new : Row = emptied r ns tail in
     let own : AreRows limit (r ∷ (gone ++ back)) p.end rest = rows_after unlimited front (r ∷ (gone ++ back)) p.end rest (subst (λ (rs : List Row). AreRows unlimited rs p.end rest) rows h) in
     let further : AreRows (asked_behind (limit_after r) gone) back p.end rest = rows_after (limit_after r) gone back p.end rest own.1 in
     let t : List ℕ = rows_text (gone ++ back) (p.end ++ rest) in

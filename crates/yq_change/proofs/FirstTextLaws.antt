@@ -18,7 +18,7 @@ use Rattle.yq_rows.specs.Rows.{Content, Nothing, Row, behind_columns, rows_text,
 use Rattle.yq_rows.proofs.seams.FrontSeams.{rows_some}
 use Rattle.yq_documents.specs.declared.path.Part.TheVariants.{Entry}
 use Rattle.yq_documents.specs.Lines.{dash_line, lines_from, lines_of}
-use Rattle.yq_tree.specs.PathPieces.{BlockEntry, PrintedDocument, found_entry, piece_in, piece_in_entry}
+use Rattle.yq_tree.specs.PathPieces.{BlockEntry, found_entry, piece_in, piece_in_entry}
 use Rattle.yq_documents.specs.Pieces.{Piece}
 use Rattle.yq_tree.specs.PrintedLines.{PrintedLine, line_front, print_lines, printed_from, printed_row, printed_lines, line_in, run_piece}
 use Rattle.yq_documents.specs.Seats.{Seat, seat}
@@ -205,7 +205,6 @@ module _ (p : Part) (start rest : List ℕ) (h : NodeLines) (f : Found) (q : Sea
       piece_in Entry (y ∷ ys) (record { before = start; lines = printed_lines p.rows; behind = p.end ++ rest }) ≡ Some x →
       FirstText start (p.end ++ rest) q fr.front (fr.next ∷ fr.back) x
   first_text y ys x line piece =
-      let s : PrintedDocument = record { before = start; lines = ls; behind = z } in
       let a = bind_some (find y ys (group (map line_in ls))) piece in
       let found : find y ys (group (lines_of p.rows)) ≡ Some a.0 = ap (λ us. find y ys (group us)) (sym (lines_are p.rows)) ∙ a.1 in
       go a.0.0 a.0.1 found (sym (ap (option_and_then (λ x. found_line x.0 x.1)) found) ∙ line) a.2

@@ -112,7 +112,6 @@ items_changed t c k p q s ss rest f n h put at_head lines sound =
 pub root_items_changed : RootItemsChanged
 unfolding level
 root_items_changed t c k p q l n h put old bare head lines sound =
-    let w = known t c k p q put in
     let m : Node = within h n in
     let new : Line = with_head m l in
     let u : Outline = row new end end in

@@ -226,7 +226,6 @@ flow_edited t c k p steps f rest i w e h old at edited keys sound text =
     let d = holds.head in
     let line = line_is t c k p steps f rest i w n.0 known at n.1 in
     let above : List (List ℕ) = above_mark (head_comment r.gap) r.dashes in
-    let x : Line = mark_line above (mark_column r) r.mark (Inline i.space i.node i.tail) in
     let l : Line = mark_line above (mark_column r) r.mark (Inline i.space m i.tail) in
     let made : l ≡ with_head d.0 f.line = (λ j. record l { anchor = holds.anchor j; head = d.1 j }) ∙ ap (with_head d.0) line.is in
     let anchor : node_anchor i.node ≡ f.line.anchor = ap (λ (y : Line). y.anchor) line.is in

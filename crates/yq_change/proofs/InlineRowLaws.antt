@@ -70,9 +70,6 @@ front_of : (rs front back : List Row) → rs ≡ front ++ back → take (length 
 front_of rs front back e = ap (take (length front)) e ∙ take-append_seam front back
 
 module _ (p : Part) where
-  ls : List PrintedLine
-  ls = printed_lines p.rows
-
   -- the line of a mark, by its seat
   mark_line_is : (n : ℕ) (l : PrintedLine) → slice_get (printed_lines p.rows) n ≡ Some l → ((q : Seat) (d : IsSeated p.rows n q) → d.line ≡ l → q.line < length q.row.dashes → ⊥) → IsMarkLine p n l
   mark_line_is n l el last =

@@ -65,6 +65,4 @@ pub mod FlowPathLaws
 pub mod FlowKeptLaws
 pub mod FlowStandLaws
 pub mod UnderLaws
-pub mod UnderRowLaws
-pub mod UnderValueLaws
 pub mod UnbrokenLaws

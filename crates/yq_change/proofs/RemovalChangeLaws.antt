@@ -302,7 +302,6 @@ taken_at c k ss s x read h may size =
     let old : IsDocumentPart t c k p = record { read = read; there = st.there } in
     let w = own_rows_stand t c k p ss s h.own old h.rows in
     let first = has_first p ss s h.own w in
-    let known = document_known t c k p old in
     let o : Outline = outline_of p in
     let q : Part = without h.own.front h.own.own h.own.back p in
     let go = may_go t c k p ss s w.h w.f old w.entry may in

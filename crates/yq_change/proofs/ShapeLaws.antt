@@ -221,9 +221,6 @@ room_numbers places.TheVariants.Entry (Some s) = refl
 room_numbers places.TheVariants.HeadComment (Some s) = refl
 room_numbers places.TheVariants.LineComment (Some s) = refl
 
-number_room : places.Part → List Row → ℕ → Bool
-number_room part rs n = seat_has_room part (seat n rs)
-
 same_room : (part : places.Part) (n : ℕ) (rs ss : List Row) → map row_shape ss ≡ map row_shape rs → seat_has_room part (seat n ss) ≡ seat_has_room part (seat n rs)
 same_room part n rs ss h =
     room_numbers part (seat n ss) ∙ (ap (have_room part) (seat_numbers n ss ∙ (ap (shape_seat n) h ∙ sym (seat_numbers n rs))) ∙ sym (room_numbers part (seat n rs)))

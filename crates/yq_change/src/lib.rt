@@ -6,4 +6,3 @@ pub mod documents;
 pub mod operations;
 pub mod removals;
 pub mod rooms;
-pub mod unders;

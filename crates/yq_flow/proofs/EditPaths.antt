@@ -1,10 +1,9 @@
 -- Paths to a collection and to its items, and the bytes of these.
-use Rattle.std.proofs.Common.{◌≡◌, ℕ, Bool, true, false, cond, List, [], ◌∷◌, ◌++◌, Some, None, option_and_then, refl, sym, ap, ◌∙◌, subst}
+use Rattle.std.proofs.Common.{◌≡◌, ℕ, Bool, true, false, cond, List, [], ◌∷◌, ◌++◌, Some, None, option_and_then, sym, ap, ◌∙◌, subst}
 use Rattle.std.proofs.lemmas.Bool.{false≢true}
 use Rattle.yq_scalar.specs.Paths.{Step, is_here, further}
 use Rattle.yq_inline.specs.Collections.{CollPieces, coll_in, coll_along}
-use Rattle.yq_flow.specs.FlowEdits.{is_none, behind_last}
-use Rattle.yq_flow.specs.Removals.{has_next, removed_text, items_behind, is_several, last_sep, last_text}
+use Rattle.yq_flow.specs.Removals.{has_next, removed_text, items_behind, last_sep}
 use Rattle.yq_inline.specs.Entries.{EntryPieces, item_at, inside, entry_pieces_at, pieces_text}
 use Rattle.yq_inline.specs.Nodes.{Items, none, item, key_text, sep_text, node_text, items_text}
 use Rattle.yq_inline.specs.Trees.{inner, key_content}
@@ -12,7 +11,6 @@ use Rattle.yq_inline.proofs.Binds.{some_same}
 use Rattle.yq_flow.proofs.ContextLaws.{inside_coll}
 use Rattle.yq_flow.proofs.ItemSwaps.{item_cut}
 use Rattle.yq_inline.proofs.PathLaws.{then_some}
-use Rattle.yq_inline.proofs.WrittenLaws.{node_then, key_append, sep_append}
 
 -- the collection at steps, found behind the first one
 coll_next : (s : Step) (ss : List Step) (x z : EntryPieces) → inside s x.node x.rest ≡ Some z → coll_along (s ∷ ss) x.node x.rest ≡ coll_along ss z.node z.rest
@@ -48,12 +46,6 @@ dropped_text k s (item key n sep is) rest y h = go (is_here s (inner (key_conten
   go true again e = sym (item_cut key n sep tail) ∙ ap pieces_text (some_same e)
   go false again e = again e
 
--- what stands behind the last item
-pub behind_is : (k : ℕ) (is : Items) (rest : List ℕ) → is_none is ≡ false → behind_last k is rest ≡ sep_text (last_sep is) (k ∷ rest)
-behind_is k none rest some = absurd (false≢true (sym some))
-behind_is k (item key n sep none) rest some = refl
-behind_is k (item key n sep (item key2 n2 sep2 is)) rest some = behind_is k (item key2 n2 sep2 is) rest refl
-
 pub last_rest : (k : ℕ) (s : Step) (is : Items) (rest : List ℕ) (y : EntryPieces) → item_at k s is rest ≡ Some y → has_next s is ≡ false → y.rest ≡ sep_text (last_sep is) (k ∷ rest)
 unfolding items_text
 last_rest k s none rest y h e = cc
@@ -69,34 +61,3 @@ last_rest k s (item key n sep (item key2 n2 sep2 is)) rest y h e = go (is_here s
       y.rest ≡ sep_text (last_sep tail) (k ∷ rest)
   go true again x f = absurd (false≢true (sym f))
   go false again x f = again x f
-
--- what stands behind the last item but one
-pub before_last : (k : ℕ) (s : Step) (is : Items) (rest : List ℕ) (x : EntryPieces) → item_at k s is rest ≡ Some x → has_next s is ≡ true → is_several (items_behind s is) ≡ false → x.rest ≡ last_text is ++ sep_text (last_sep is) (k ∷ rest)
-unfolding items_text
-before_last k s none rest x h more one = cc
-before_last k s (item key n sep none) rest x h more one = go (is_here s (inner (key_content key))) more where
-  go : (b : Bool) → cond b false false ≡ true → x.rest ≡ [] ++ sep_text sep (k ∷ rest)
-  go true e = absurd (false≢true e)
-  go false e = absurd (false≢true e)
-before_last k s (item key n sep (item key2 n2 sep2 none)) rest x h more one = go (is_here s (inner (key_content key))) (is_here (further s) (inner (key_content key2))) h more where
-  cut : (t : List ℕ) → key_text key2 (node_text n2 t) ≡ key_text key2 (node_text n2 []) ++ t
-  cut t = ap (key_text key2) (node_then n2 t) ∙ key_append key2 (node_text n2 []) t
-
-  behind_ : List ℕ
-  behind_ = sep_text sep (key_text key2 (node_text n2 (sep_text sep2 (k ∷ rest))))
-
-  go : (a b : Bool) → cond a (Some (record { key = key; node = n; rest = behind_ })) (cond b (Some (record { key = key2; node = n2; rest = sep_text sep2 (k ∷ rest) })) None) ≡ Some x → cond a true (cond b false false) ≡ true →
-      x.rest ≡ sep_text sep (key_text key2 (node_text n2 [])) ++ sep_text sep2 (k ∷ rest)
-  go true b e f = sym (ap (λ (z : EntryPieces). z.rest) (some_same e)) ∙ (ap (sep_text sep) (cut (sep_text sep2 (k ∷ rest))) ∙ sep_append sep (key_text key2 (node_text n2 [])) (sep_text sep2 (k ∷ rest)))
-  go false true e f = absurd (false≢true f)
-  go false false e f = absurd (false≢true f)
-before_last k s (item key n sep (item key2 n2 sep2 (item key3 n3 sep3 is))) rest x h more one =
-    go (is_here s (inner (key_content key))) (before_last k (further s) (item key2 n2 sep2 (item key3 n3 sep3 is)) rest x) h more one where
-      tail : Items
-      tail = item key2 n2 sep2 (item key3 n3 sep3 is)
-
-      go : (b : Bool) → (item_at k (further s) tail rest ≡ Some x → has_next (further s) tail ≡ true → is_several (items_behind (further s) tail) ≡ false → x.rest ≡ last_text tail ++ sep_text (last_sep tail) (k ∷ rest)) →
-          cond b (Some (record { key = key; node = n; rest = sep_text sep (items_text k tail rest) })) (item_at k (further s) tail rest) ≡ Some x → cond b true (has_next (further s) tail) ≡ true → is_several (cond b tail (items_behind (further s) tail)) ≡ false →
-          x.rest ≡ last_text tail ++ sep_text (last_sep tail) (k ∷ rest)
-      go true again e f g = absurd (false≢true (sym g))
-      go false again e f g = again e f g

@@ -47,12 +47,6 @@ line_on white (b ∷ t) h =
     (λ _. line_on (white ++ b ∷ []) t p.1 ∙ append_assoc white (b ∷ []) t)
     (λ _. here ∙ ap (λ l. white ++ (b ∷ l)) (line_on [] t p.1))
 
--- what may stand plain in a flow collection may do so outside
-loose : (flow a b : Bool) → ((true && a) || b) ≡ false → ((flow && a) || b) ≡ false
-loose flow true b h = absurd (false≢true (sym h))
-loose true false b h = h
-loose false false b h = h
-
 needs_less : (flow : Bool) (t : List ℕ) → needs_quotes true t ≡ false → needs_quotes flow t ≡ false
 needs_less flow [] h = refl
 needs_less flow (b ∷ t) h = go _ _ h where

@@ -1,8 +1,7 @@
 -- The trees of the code's values.
-use Rattle.std.proofs.Common.{◌≡◌, ℕ, List, ◌∷◌, map, true, false, refl, sym, subst, String, string_bytes, Result, Ok, Err, IfOk}
+use Rattle.std.proofs.Common.{◌≡◌, ℕ, List, map, true, false, refl, sym, subst, String, string_bytes, Result, Ok, Err, IfOk}
 use Rattle.std.specs.declared.alloc.Global.{Global}
 use Rattle.std.specs.Prelude.{Vec}
-use Rattle.std.specs.Str.{IsUtf8}
 use Rattle.yq_inline.specs.declared.value.Value.{Value}
 use Rattle.yq_inline.specs.declared.value.Value.TheVariants as values
 use Rattle.yq_flow.specs.Valued.{IsValueTree, AreValueTrees}
@@ -23,9 +22,6 @@ map_valid v h =
     let pair : String Global × tree.Node → List ℕ × tree.Node = λ e. (string_bytes e.0, e.1) in
     let fields : map pair (map seen v.items) ≡ map field_of v.items = map_twice seen pair v.items in
     subst IsValueTree (sym (node_map v)) (refl, rw fields h)
-
-pub entry_on : {A : Type 0} (es : List Entry) (e : Entry) (rest : List Entry) → es ≡ e ∷ rest → IsUtf8 (string_bytes e.0) → IsValueTree (node_of e.1) → (AreValueTrees true (entries_of es) → A) → AreValueTrees true (entries_of rest) → A
-entry_on es e rest is utf8 valid all h = all (rw is ((string_bytes e.0, refl, utf8), valid, h))
 
 pub if_ok : {A E P : Type 0} (r : Result A E) → P → IfOk r (λ x. P)
 if_ok (Ok x) h = h

@@ -15,9 +15,6 @@ use Rattle.yq_flow_ways.proofs.FlowServedNodes.{Held, HeldAt, held, held_anchore
 abbrev Reached : Type 0
 Reached = Found × List Step
 
-no_line : {x : Reached} → None ≡ Some x → ⊥
-no_line e = cc
-
 no_node : {n : Node} → None ≡ Some n → ⊥
 no_node e = cc
 

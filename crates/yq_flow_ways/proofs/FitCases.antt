@@ -10,11 +10,11 @@ use Rattle.yq_documents.specs.Reading.{document_of, documents, outline_of, read_
 use Rattle.yq_change.specs.Siblings.{IsCollectionAt, NodeLines}
 use Rattle.yq_meaning.specs.Changes.{Room}
 use Rattle.yq_meaning.specs.Fits.{Fits, Takes}
-use Rattle.yq_meaning.specs.Operations.{append, remove, replace}
-use Rattle.yq_flow_ways.specs.FlowWays.{flow_append_way, flow_remove_way, flow_replace_way}
+use Rattle.yq_meaning.specs.Operations.{append, remove}
+use Rattle.yq_flow_ways.specs.FlowWays.{flow_append_way, flow_remove_way}
 use Rattle.yq_ways.specs.Serving.{IsServed}
 use Rattle.yq_flow_ways.proofs.CollectionCases.{Cases, collection_cases}
-use Rattle.yq_flow_ways.proofs.FlowServed.{InFlow, flow_append_served, flow_remove_served, flow_replace_served, taken}
+use Rattle.yq_flow_ways.proofs.FlowServed.{InFlow, flow_append_served, flow_remove_served, taken}
 use Rattle.yq_flow_ways.proofs.PathCases.{InBlock, path_cases}
 
 -- ---- the document of an operation
@@ -72,14 +72,4 @@ remove_cases rooms c doc (s ∷ ss) read fits =
   where
     go : InFlow c doc (s ∷ ss) ⊎ InBlock c doc (s ∷ ss) → IsServed flow_remove_way (remove doc (s ∷ ss)) c ⊎ InBlock c doc (s ∷ ss)
     go (inl h) = inl (flow_remove_served c doc (s ∷ ss) h)
-    go (inr h) = inr h
-
-pub replace_cases : (rooms : ℕ → Room) (c : Cut) (doc : ℕ) (s : Step) (ss : List Step) (v : Node) → read_at (cut_text c) ≡ Some c → Fits rooms (replace doc (s ∷ ss) v) (documents c) →
-    IsServed flow_replace_way (replace doc (s ∷ ss) v) c ⊎ InBlock c doc (s ∷ ss)
-replace_cases rooms c doc s ss v read fits =
-    let p = part_of c doc fits.0 fits.1 in
-    go (path_cases c doc s ss (record { read = read; part = p.part; there = p.there; node = fits.2.1.0; at = ap (node_at (s ∷ ss)) (sym p.root) ∙ fits.2.1.1 }))
-  where
-    go : InFlow c doc (s ∷ ss) ⊎ InBlock c doc (s ∷ ss) → IsServed flow_replace_way (replace doc (s ∷ ss) v) c ⊎ InBlock c doc (s ∷ ss)
-    go (inl h) = inl (flow_replace_served c doc (s ∷ ss) v h)
     go (inr h) = inr h

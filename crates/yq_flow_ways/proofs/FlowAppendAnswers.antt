@@ -1,18 +1,16 @@
 -- What putting an item or entry into a flow collection comes to, by what the code finds.
-use Rattle.std.proofs.Common.{◌≡◌, ℕ, ◌≤◌, Bool, true, false, not, cond, eqb, List, [], ◌∷◌, length, Option, Some, None, option_map, refl, sym, ap, ◌∙◌, subst, append_assoc}
+use Rattle.std.proofs.Common.{◌≡◌, ℕ, ◌≤◌, Bool, true, false, not, cond, eqb, List, length, Option, Some, None, option_map, refl, sym, ap, ◌∙◌, subst}
 use Rattle.std.specs.Prelude.{is_some}
 use Rattle.std.specs.Str.{IsCharBoundary}
 use Rattle.yq_scalar.specs.Answers.{◌>>=◌}
 use Rattle.yq_scalar.specs.Paths.{Step}
-use Rattle.yq_scalar.specs.Scalar.{string_of}
 use Rattle.yq_scalar.specs.Tree as tree
-use Rattle.yq_scalar.specs.declared.style.Place.TheVariants.{FlowKey}
 use Rattle.yq_inline.specs.Collections.{CollPieces}
 use Rattle.yq_flow.specs.FlowEdits.{FlowEdit}
 use Rattle.yq_flow.specs.FlowPlaces.{PlacedEdit, append_place, place_edit}
 use Rattle.yq_inline.specs.Nodes.{key_text}
 use Rattle.yq_inline.specs.Places.{Placed, placed, nothing, name, text, sequence, mapping, Parts, locate, locate_items}
-use Rattle.yq_inline.specs.Written.{entry_text, flow_key, flow_text, scalar_text}
+use Rattle.yq_inline.specs.Written.{flow_key, flow_text}
 use Rattle.yq_rows.specs.Rows.{Cut, cut_text}
 use Rattle.yq_tree.specs.FlowNodes.{flow_collection}
 use Rattle.yq_tree.specs.FlowTold.{placed_collection, behind_anchor, collection_of}
@@ -30,11 +28,6 @@ some_same e = cc
 
 no_some : {A : Type 0} {x : A} → None ≡ Some x → ⊥
 no_some e = cc
-
--- ---- what is written
-
-pub entry_is : (k : List ℕ) (v : tree.Node) → entry_text (k, v) ≡ key_text (flow_key (Some k)) (flow_text v)
-entry_is k v = append_assoc (scalar_text (string_of k) FlowKey) (58 ∷ (32 ∷ [])) (flow_text v)
 
 -- ---- whether the collection takes it
 

@@ -6,8 +6,6 @@ use Rattle.yq_inline.specs.declared.value.Value.{Value}
 use Rattle.yq_inline.specs.declared.value.Value.TheVariants as values
 use Rattle.yq_inline.specs.declared.value.Value.TheFolds.{the_lemmas}
 use Rattle.std.proofs.lemmas.Bool.{false≢true}
-use Rattle.yq_scalar.specs.declared.kind.Kind.{Kind}
-use Rattle.yq_scalar.specs.declared.kind.Kind.TheVariants as kinds
 use Rattle.yq_scalar.specs.declared.style.Place.{Place}
 use Rattle.yq_scalar.specs.declared.style.Style.TheVariants as styles
 use Rattle.yq_scalar.specs.PlainText.{is_plain_text}
@@ -23,17 +21,6 @@ use Rattle.yq_inline.specs.Written.{flow_of, flow_items, flow_sep, flow_key, flo
 double_can : (string resolved plain : Bool) → (not string || (resolved && plain)) ≡ false → string ≡ true
 double_can true resolved plain h = refl
 double_can false resolved plain h = absurd (false≢true (sym h))
-
--- what is no string stands plain
-pub other_plain : (s : ScalarText) (place : Place) → (s.kind ≡ kinds.Text → ⊥) → can_write s styles.Plain place ≡ true
-unfolding can_write_plain
-other_plain s place h = go s.kind h where
-  go : (k : Kind) → (k ≡ kinds.Text → ⊥) → (not (is_string k) || (is_string (resolve s.text) && is_plain_text (in_flow place) s.text)) ≡ true
-  go kinds.Null e = refl
-  go kinds.Bool e = refl
-  go kinds.Int e = refl
-  go kinds.Float e = refl
-  go kinds.Text e = absurd (e refl)
 
 -- what isn't plain is a string
 pub double_when : (s : ScalarText) (place : Place) → can_write s styles.Plain place ≡ false → can_write s styles.Double place ≡ true

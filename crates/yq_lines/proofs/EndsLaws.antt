@@ -1,6 +1,6 @@
 -- Where the lines under each line end.
-use Rattle.std.proofs.Common.{◌≡◌, ℕ, ◌+◌, ◌<◌, ◌≤◌, ltb, List, length, drop, set, get_or, Some, None, option_map, Bool, true, false, not, cond, ◌⊎◌, inl, inr, refl, sym, ap, ◌∙◌, subst, arith, ⊎_elim, get_or-set_same, get_or-set_other}
-use Rattle.std.proofs.lemmas.Bool.{lt-ltb, le-ltb, cases_lt, cases_eq, false≢true}
+use Rattle.std.proofs.Common.{◌≡◌, ℕ, ◌+◌, ◌<◌, ◌≤◌, ltb, List, length, drop, get_or, Some, None, option_map, Bool, true, false, not, cond, ◌⊎◌, inl, inr, refl, sym, ap, ◌∙◌, arith}
+use Rattle.std.proofs.lemmas.Bool.{lt-ltb, le-ltb, cases_lt, false≢true}
 use Rattle.std.proofs.lemmas.List.{length-map}
 use Rattle.std.proofs.lemmas.Option.{slice_get_cases, slice_get-map}
 use Rattle.std.specs.List.{slice_get}
@@ -9,7 +9,7 @@ use Rattle.yq_lines.specs.Outline.{Line, level, Outline, end, row}
 use Rattle.yq_lines.specs.Group.{deeper, shallow, group}
 use Rattle.yq_lines.specs.View.{view, views}
 use Rattle.yq_lines.specs.Ends.{part, rest, is_end, IsEndOf, AreEndsFrom}
-use Rattle.yq_lines.proofs.Parts.{part_row, part_stop, part_past, passed}
+use Rattle.yq_lines.proofs.Parts.{part_row, part_stop, passed}
 
 pub line_at : (ls : List declared.Line) (i : ℕ) (l : declared.Line) → slice_get ls i ≡ Some l → slice_get (views ls) i ≡ Some (view l)
 line_at ls i l e = slice_get-map view ls i ∙ ap (option_map view) e
@@ -31,9 +31,6 @@ deeper_at ls i floor l is = go (cases_lt floor (level l))
     go : (floor < level l) ⊎ (level l ≤ floor) → ltb floor (level l) ≡ not (is_end (part ls i floor))
     go (inl h) = lt-ltb floor (level l) h ∙ sym (ap (λ o. not (is_end o)) (part_row ls i floor l is h))
     go (inr h) = le-ltb floor (level l) h ∙ sym (ap (λ o. not (is_end o)) (part_stop ls i floor l is h))
-
-pub deeper_past : (ls : List declared.Line) (i floor : ℕ) → length ls ≤ i → false ≡ not (is_end (part (views ls) i floor))
-deeper_past ls i floor h = sym (ap (λ o. not (is_end o)) (part_past (views ls) i floor (omega (arith, views-length ls))))
 
 pub not_end : (e : Bool) → true ≡ not e → e ≡ false
 not_end true h = h
@@ -85,8 +82,3 @@ end_found ls at next floor l is same lt within so_far stop = (
   within,
   λ m e. ap (rest ls (at + 1)) (ap level (same_line (sym e ∙ is)) ∙ sym same) ∙ (so_far ∙ rest_end ls next floor (is_at_end _ stop)),
 )
-
--- the end of the lines under one more line
-pub ends_more : (ls : List Line) (ends : List ℕ) (at next : ℕ) → at < length ends → IsEndOf ls at next → AreEndsFrom (at + 1) ls ends → AreEndsFrom at ls (set ends at next)
-ends_more ls ends at next within here later i low high =
-    ⊎_elim {0, 0, 0} (λ (same : i ≡ at). subst (λ e. IsEndOf ls i e) (sym (ap (λ k. get_or (set ends at next) k 0) same ∙ get_or-set_same ends at next 0 within)) (subst (λ k. IsEndOf ls k next) (sym same) here)) (λ other. subst (λ e. IsEndOf ls i e) (sym (get_or-set_other ends at i next 0 other)) (later i (omega arith) high)) (cases_eq i at)

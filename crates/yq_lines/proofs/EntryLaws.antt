@@ -19,14 +19,6 @@ first_deeper n d (row l u a) h = go (ltb n (level l)) refl
     go true e = ltb-true n (level l) e
     go false e = h
 
--- no lines
-pub sound_none : (ls : List Line) (start floor depth : ℕ) → false ≡ not (is_end (part ls start floor)) → true ≡ is_sound depth (part ls start floor)
-sound_none ls start floor depth h = go (part ls start floor) h
-  where
-    go : (o : Outline) → false ≡ not (is_end o) → true ≡ is_sound depth o
-    go end e = sym (ap (λ b. b && true) (le-leb 0 depth (omega arith)))
-    go (row l u a) e = absurd (false≢true e)
-
 -- the first line of a collection
 module _ (ls : List Line) (start floor depth : ℕ) (l : Line) (is : slice_get ls start ≡ Some l) (deep : true ≡ not (is_end (part ls start floor))) where
   first_lt : floor < level l

@@ -22,7 +22,6 @@ pub mod Parts
 pub mod PathLines
 pub mod PlaceLaws
 pub mod Plug
-pub mod SameLaws
 pub mod ShapeLaws
 pub mod SizeLaws
 pub mod SoundLaws

@@ -1,7 +1,6 @@
 -- The lines of a collection, by their indexes.
-use Rattle.std.proofs.Common.{◌≡◌, ℕ, zero, suc, ◌+◌, ◌<◌, ◌≤◌, List, [], ◌∷◌, length, drop, Some, sym, ap, ◌∙◌, add-one}
+use Rattle.std.proofs.Common.{◌≡◌, ℕ, zero, suc, ◌+◌, ◌<◌, ◌≤◌, List, [], ◌∷◌, drop, Some, ap, ◌∙◌, add-one}
 use Rattle.std.proofs.lemmas.Bool.{lt-ltb, le-ltb, cond-true, cond-false}
-use Rattle.std.proofs.lemmas.List.{drop_all}
 use Rattle.std.specs.List.{slice_get}
 use Rattle.yq_lines.specs.Outline.{Line, level, end, row}
 use Rattle.yq_lines.specs.Group.{deeper, shallow, group}
@@ -22,19 +21,9 @@ part_row ls i floor l is deep = ap (λ x. deeper floor (group x)) (drop_at ls i 
 pub part_stop : (ls : List Line) (i floor : ℕ) (l : Line) → slice_get ls i ≡ Some l → level l ≤ floor → part ls i floor ≡ end
 part_stop ls i floor l is low = ap (λ x. deeper floor (group x)) (drop_at ls i l is) ∙ cond-false _ _ _ (le-ltb floor (level l) low)
 
-pub part_past : (ls : List Line) (i floor : ℕ) → length ls ≤ i → part ls i floor ≡ end
-part_past ls i floor h = ap (λ x. deeper floor (group x)) (drop_all i ls h)
-
 pub rest_row : (ls : List Line) (i floor : ℕ) (l : Line) → slice_get ls i ≡ Some l → floor < level l →
     rest ls i floor ≡ shallow floor (rest ls (i + 1) (level l))
 rest_row ls i floor l is deep = ap (λ x. shallow floor (group x)) (drop_at ls i l is) ∙ cond-true _ _ _ (lt-ltb floor (level l) deep)
-
-pub rest_stop : (ls : List Line) (i floor : ℕ) (l : Line) → slice_get ls i ≡ Some l → level l ≤ floor → rest ls i floor ≡ group (drop i ls)
-rest_stop ls i floor l is low =
-    ap (λ x. shallow floor (group x)) (drop_at ls i l is) ∙ (cond-false _ _ _ (le-ltb floor (level l) low) ∙ sym (ap group (drop_at ls i l is)))
-
-pub rest_past : (ls : List Line) (i floor : ℕ) → length ls ≤ i → rest ls i floor ≡ group (drop i ls)
-rest_past ls i floor h = ap (λ x. shallow floor (group x)) (drop_all i ls h) ∙ sym (ap group (drop_all i ls h))
 
 -- where the lines under line i end
 abbrev pub EndsAt : List Line → ℕ → Line → ℕ → Type 0

@@ -60,26 +60,6 @@ pub no_last_line : (steps left : List Step) (ls : List Line) (n : ℕ) → Some 
 no_last_line steps [] ls n e some = absurd (false≢true (some ∙ eq-eqb 0 0 refl))
 no_last_line steps (s ∷ ss) ls n e some = ap (option_and_then (λ (x : ℕ × List Step). line_if_last x.0 x.1)) e ∙ last_reached steps ls
 
--- steps go on in the head of a first line that is a node itself
-bare_found : (first : ℕ) (s : Step) (ss : List Step) (o : Outline) → begins_with_node o ≡ true → behind first (find s ss o) ≡ Some (first, s ∷ ss)
-bare_found first s ss end e = cc
-bare_found first s [] (row l u a) e = go l.mark e
-  where
-    go : (m : Mark) → is_bare m ≡ true → behind first (bare_or m (Some (record { place = here; line = l; under = u; after = a }, s ∷ [])) (option_map (λ f. (f, [])) (find_row s (row l u a)))) ≡ Some (first, s ∷ [])
-    go Bare h = let same : first + 0 ≡ first = omega arith in λ i. Some (same i, s ∷ [])
-    go (Key k) h = cc
-    go Dash h = cc
-bare_found first s (t ∷ ts) (row l u a) e = go l.mark e
-  where
-    go : (m : Mark) → is_bare m ≡ true → behind first (bare_or m (Some (record { place = here; line = l; under = u; after = a }, s ∷ (t ∷ ts)))
-        (option_and_then (λ f. in_head f.line.head (Some (f, t ∷ ts)) (option_map (λ x. (inside f x.0, x.1)) (find t ts f.under))) (find_row s (row l u a)))) ≡ Some (first, s ∷ (t ∷ ts))
-    go Bare h = let same : first + 0 ≡ first = omega arith in λ i. Some (same i, s ∷ (t ∷ ts))
-    go (Key k) h = cc
-    go Dash h = cc
-
-pub bare_line : (ls : List Line) (first floor : ℕ) (s : Step) (ss : List Step) → begins_with_node (part ls first floor) ≡ true → reach_in ls first floor s ss ≡ Some (first, s ∷ ss)
-bare_line ls first floor s ss e = bare_found first s ss (part ls first floor) e
-
 -- where steps lead on from a line that was found
 abbrev in_rest : Found → List Step → Option (Found × List Step)
 in_rest f [] = Some (f, [])

@@ -52,13 +52,3 @@ line_of (s ∷ ss) ls = option_and_then (λ x. found_line x.0 x.1) (find s ss (g
 abbrev pub reached : List Step → List Line → Option (ℕ × List Step)
 reached [] ls = None
 reached (s ∷ ss) ls = option_map (λ x. (length (lines_before x.0.place), x.1)) (find s ss (group ls))
-
--- whether a line was found, and no lines are under it
-abbrev pub has_none_under : Option (Found × List Step) → Bool
-has_none_under None = false
-has_none_under (Some x) = is_end x.0.under
-
--- whether steps lead to a line, or on into its head, and no lines are under that line
-abbrev pub is_leaf : List Step → List Line → Bool
-is_leaf [] ls = false
-is_leaf (s ∷ ss) ls = has_none_under (find s ss (group ls))

@@ -1,7 +1,5 @@
 -- Reading (own; a reader may skip it: the grammar is what is believed, and the clauses `found` and `only` tie the two): what is asked of a document's lines.
-use Rattle.std.specs.Prelude.{◌≡◌, ℕ, nat_le, nat_eq, Option, Some, None, Bool, true, false, ◌&&◌, Result, Ok, Err}
-use Rattle.yq_scalar.specs.declared.fault.ReadError.{ReadError}
-use Rattle.yq_scalar.specs.declared.fault.ReadError.TheVariants as error
+use Rattle.std.specs.Prelude.{ℕ, nat_le, nat_eq, Option, Some, None, Bool, true, false, ◌&&◌}
 use Rattle.yq_scalar.specs.Tree.{Node, alias, scalar, list, map, Children, none, child}
 use Rattle.yq_scalar.specs.Keys.{are_distinct, keys_of, depth, deepest}
 use Rattle.yq_lines.specs.Outline.{Mark, Bare, Key, Dash, Line, level, Outline, value}
@@ -23,12 +21,6 @@ abbrev mutual
 -- whether an outline stands for a node in which at most d collections are nested and no mapping has a key twice
 abbrev pub is_sound : ℕ → Outline → Bool
 is_sound d o = is_fine o && (nat_le (depth (value o)) d && has_unique_keys (value o))
-
--- the answer tells whether a test is passed, unless memory ran out
-abbrev pub Tells : {X : Type 0} → Result X ReadError → Bool → Type 0
-Tells (Ok x) passed = passed ≡ true
-Tells (Err error.Memory) passed = Unit {0}
-Tells (Err (error.Fault f)) passed = passed ≡ false
 
 -- whether at most d collections are nested in a head, and no mapping in it has a key twice
 abbrev pub head_is_sound : ℕ → Option Node → Bool

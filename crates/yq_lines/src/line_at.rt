@@ -1,10 +1,9 @@
 //! The line to which a path leads, and the steps that go on in its head.
-ghost use Rattle.std.specs.Prelude.{◌≡◌, ◌<◌, List, ◌∷◌, length, map, not, option_and_then, option_map, slice_get, IfSome, IsTrue, Some};
+ghost use Rattle.std.specs.Prelude.{◌≡◌, ◌<◌, List, ◌∷◌, length, map, option_and_then, option_map, IfSome, IsTrue, Some};
 ghost use Rattle.yq_inline.specs.Entries.{step_of};
 ghost use Rattle.yq_scalar.specs.Paths as steps;
-ghost use Rattle.yq_lines.specs.Ends.{AreEndsFrom, is_end, line_of, reached};
-ghost use Rattle.yq_lines.specs.Bodies.{lines_under, under_of};
-ghost use Rattle.yq_lines.specs.Outline as outline;
+ghost use Rattle.yq_lines.specs.Ends.{AreEndsFrom, line_of, reached};
+ghost use Rattle.yq_lines.specs.Bodies.{under_of};
 ghost use Rattle.yq_lines.specs.Spots as spec;
 ghost use Rattle.yq_lines.specs.View.{mark_view, views};
 
@@ -115,14 +114,6 @@ fn reach<'s>(lines: &[Line<'_>], ends: &[usize], steps: &'s [Step]) -> Option<(u
     Some((at, left))
 }
 
-/// Whether lines are under line `at`.
-fn has_under(lines: &[Line<'_>], at: usize) -> bool
-    requires { at < length lines.now }
-    ensures { (l : outline.Line) → slice_get (views lines.now) at ≡ Some l → result ≡ not (is_end (lines_under (views lines.now) at l)) }
-{
-    is_deeper(lines, at + 1, level(&lines[at]))
-}
-
 impl<'t> Lined<'t> {
     /// The line to which steps lead, and the steps that go on in its head.
     pub fn reach<'s>(&self, steps: &'s [Step]) -> Option<(usize, &'s [Step])>
@@ -139,13 +130,5 @@ impl<'t> Lined<'t> {
     {
         let (line, left) = self.reach(steps)?;
         if left.is_empty() { Some(line) } else { None }
-    }
-
-    /// Whether lines are under line `at`.
-    pub fn has_under(&self, at: usize) -> bool
-        requires { at < length (views self.now) }
-        ensures { (l : outline.Line) → slice_get (views self.now) at ≡ Some l → result ≡ not (is_end (lines_under (views self.now) at l)) }
-    {
-        has_under(&self.lines, at)
     }
 }

@@ -82,8 +82,3 @@ module _ (u : Update) (rooms : ℕ → Room) where
   document_fails docs i d before all e at h so_far =
       subst (Fails e) (sym (behind_document docs i d before at) ∙ so_far)
       (fails_then (λ first. put_behind (before ++ first ∷ []) (changes_from u rooms (i + 1) (roots_of (drop (i + 1) docs)))) (changes_in u i (rooms i) d.root) e h)
-
-  -- behind the last one there are no more
-  pub documents_done : (docs : List Document) (i : ℕ) (before : List (List Changed)) (all : Judgement (List (List Changed))) → length docs ≤ i → put_behind before (changes_from u rooms i (roots_of (drop i docs))) ≡ all → all ≡ gives before
-  documents_done docs i before all past so_far =
-      sym so_far ∙ (ap (λ (ds : List Document). put_behind before (changes_from u rooms i (roots_of ds))) (past_last docs i past) ∙ ap gives (append-nil before))

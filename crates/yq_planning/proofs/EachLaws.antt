@@ -1,5 +1,5 @@
 -- What comes of each of several, one behind the other, and of several that act in turn.
-use Rattle.std.proofs.Common.{◌≡◌, ℕ, suc, ◌+◌, ◌<◌, List, [], ◌∷◌, ◌++◌, length, map, drop, get_or, Result, Err, refl, sym, ap, ◌∙◌, subst, append_assoc, add-one, drop-cons}
+use Rattle.std.proofs.Common.{◌≡◌, ℕ, suc, ◌+◌, ◌<◌, List, ◌∷◌, ◌++◌, length, map, drop, get_or, Result, Err, refl, sym, ap, ◌∙◌, subst, append_assoc, add-one, drop-cons}
 use Rattle.yq_meaning.specs.Judgement.{Judgement, gives, refuses, and_then, Fails, Matches}
 use Rattle.yq_planning.specs.PlaceView.{put_behind}
 use Rattle.yq_meaning.specs.Places.{for_each, in_turn}
@@ -28,11 +28,6 @@ put_both before (refuses why) k = refl
 -- what comes of one and of the others, behind what is there
 put_each : {A B : Type 0} (f : A → Judgement (List B)) (before : List B) (x : A) (xs : List A) → put_behind before (for_each f (x ∷ xs)) ≡ and_then (λ ys. put_behind ys (for_each f xs)) (put_behind before (f x))
 put_each f before x xs = put_both before (f x) (for_each f xs)
-
--- nothing is there yet
-pub put_first : {B : Type 0} (j : Judgement (List B)) → put_behind [] j ≡ j
-put_first (gives q) = refl
-put_first (refuses why) = refl
 
 -- one more of several
 pub each_more : {X A B : Type 0} (v : X → A) (f : A → Judgement (List B)) (before after : List B) (xs : List X) (i : ℕ) (x : X) (all : Judgement (List B)) →

@@ -10,10 +10,9 @@ use Rattle.std.specs.Borrow.{Bor}
 use Rattle.std.specs.Cmp.Lexicographic.{slice_cmp}
 use Rattle.std.specs.List.{list_any}
 use Rattle.std.specs.Ordering.{nat_cmp}
-use Rattle.std.specs.Option.{option_or}
-use Rattle.yq_scalar.specs.Paths.{To, child_at, key_is}
+use Rattle.yq_scalar.specs.Paths.{key_is}
 use Rattle.yq_scalar.specs.Tree as tree
-use Rattle.yq_scalar.specs.Tree.{Label, Node, Children, none}
+use Rattle.yq_scalar.specs.Tree.{Label, Node}
 use Rattle.yq_scalar.specs.Anchors.{Name, names_of}
 use Rattle.yq_meaning.specs.Changes.{refers_to}
 use Rattle.yq_planning.specs.EntryNumbers.{number_kept}
@@ -38,11 +37,6 @@ bytes_back a b = go (bytes_eq a b) (bytes_eq b a) refl refl
 
 -- ---- entries
 
--- an item is kept for no key
-pub item_kept : (k : List ℕ) (o : Option Node) (label : Label) (n : Node) → label.key ≡ None → o ≡ kept_first k o label n
-item_kept k (Some old) label n h = refl
-item_kept k None label n h = ap (λ (key : Option (List ℕ)). cond (key_is k key) (Some n) None) (sym h)
-
 -- the entry of a key for which there is none is kept
 pub new_kept : (a k : List ℕ) (f : List ℕ → Option Node) (label : Label) (n : Node) → label.key ≡ Some a → is_some (f a) ≡ false → cond (bytes_eq a k) (Some n) (f k) ≡ kept_first k (f k) label n
 new_kept a k f label n h absent = go (bytes_eq a k) (f k) refl refl
@@ -55,14 +49,6 @@ new_kept a k f label n h absent = go (bytes_eq a k) (f k) refl refl
     go true None e is = here true e
     go false (Some old) e is = refl
     go false None e is = here false e
-
--- behind the last one nothing comes
-pub first_done : (k : List ℕ) (o : Option Node) (cs : Children) (all : Option Node) → cs ≡ none → option_or o (child_at (To k) cs) ≡ all → o ≡ all
-first_done k o cs all is so_far = go o ∙ (ap (λ (ds : Children). option_or o (child_at (To k) ds)) (sym is) ∙ so_far)
-  where
-    go : (o : Option Node) → o ≡ option_or o None
-    go (Some old) = refl
-    go None = refl
 
 -- ---- aliases
 

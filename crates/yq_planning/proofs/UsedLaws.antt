@@ -21,12 +21,6 @@ any_join p (x ∷ xs) ys = go (p x) (any_join p xs ys)
     go true h = refl
     go false h = h
 
--- ---- aliases of a node
-
-or_false : (b : Bool) → b ≡ (b || false)
-or_false true = refl
-or_false false = refl
-
 -- ---- anchors of a node
 
 -- an anchor of a node is its own, or one inside

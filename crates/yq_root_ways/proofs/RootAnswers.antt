@@ -1,5 +1,5 @@
 -- What writing a root comes to, by what the code finds.
-use Rattle.std.proofs.Common.{◌≡◌, ℕ, eqb, List, [], ◌∷◌, Bor, Bool, true, Option, Some, None, option_map, refl, sym, ap, ◌∙◌}
+use Rattle.std.proofs.Common.{◌≡◌, ℕ, List, [], ◌∷◌, Bor, Bool, Option, Some, None, option_map, sym, ap, ◌∙◌}
 use Rattle.yq_scalar.specs.Tree.{Node}
 use Rattle.yq_lines.specs.Bodies.{lent}
 use Rattle.yq_documents.specs.Located.{steps_of, located}
@@ -22,22 +22,9 @@ abbrev pub closed_or : Bool → List ℕ → Bool
 closed_or b [] = b
 closed_or b (x ∷ t) = is_closed_text (x ∷ t)
 
-pub closed_init : (t : List ℕ) → closed_or true t ≡ is_closed_text t
-unfolding is_closed_text
-closed_init [] = refl
-closed_init (x ∷ t) = refl
-
-pub closed_more : (b : Bool) (x : ℕ) (t : List ℕ) → closed_or (eqb x 10) t ≡ closed_or b (x ∷ t)
-unfolding is_closed_text
-closed_more b x [] = refl
-closed_more b x (y ∷ t) = refl
-
 -- ---- the way
 
 module _ (p : Path) (v : Node) (t : List ℕ) (r : Option declared.RootPlace) (told : option_map root_told r ≡ root_place p.doc (steps_of p) (cut_of t)) where
-  abbrev l : Layout
-  l = layout_of p.doc (cut_of t)
-
   by_place : (o : Option declared.RootPlace) → r ≡ o →
       root_way (replace p.doc (steps_of p) v) (cut_of t) ≡ option_map (λ (w : RootPlace). root_at (is_kept (node_in p.doc (steps_of p) (cut_of t)) v) (layout_of p.doc (cut_of t)) v w w.old) (option_map root_told o)
   unfolding root_way

@@ -41,9 +41,6 @@ use Rattle.yq_root_ways.proofs.UnwrittenRootLaws.{IsUnwrittenRoot, unwritten, st
 none_some : {A : Type 0} {x : A} → None ≡ Some x → ⊥
 none_some e = cc
 
-some_same : {A : Type 0} {x y : A} → Some x ≡ Some y → x ≡ y
-some_same e = cc
-
 value_piece : (v : Node) (l : Layout) (column : ℕ) → IsValueTree v → IsPiece (block_value l column v)
 value_piece v l column h = let x = value_sound v l column h in record { utf8 = x.0; characters = x.1 }
 

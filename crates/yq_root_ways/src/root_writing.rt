@@ -10,7 +10,6 @@ ghost use Rattle.yq_tree.specs.RootReading.{root_told};
 ghost use Rattle.yq_ways.specs.AppendWay.{put_behind};
 ghost use Rattle.yq_root_ways.specs.RootWriting as spec;
 ghost use Rattle.yq_ways.specs.WayAnswers.{Carries};
-ghost use Rattle.yq_ways.specs.Ways.{IsWay};
 
 use std::alloc::{AllocError, Global};
 use yq_block::{Layout, push_block};
@@ -20,11 +19,6 @@ use yq_scalar::block_written::break_text;
 use yq_script::{Edited, ExchangeError, Segment, exchange};
 use yq_tree::{Documents, RootPlace};
 use yq_ways::{is_kept, layout_of};
-
-/// What the segments make of a text reads as its documents with the value as the root of one.
-pub fn roots_read()
-    ensures { IsWay spec.root_way }
-{}
 
 /// Whether a text is empty or ends in a break.
 #[tactic(auto, unfolding(crate::specs::RootWriting::is_closed_text))]

@@ -1,21 +1,16 @@
 -- Dashes and the mark behind them, as the code reads them.
-use Rattle.std.proofs.Common.{◌≡◌, ℕ, zero, suc, ◌+◌, ◌-◌, ◌<◌, ◌≤◌, true, false, not, ◌&&◌, eqb, List, [], ◌∷◌, ◌++◌, length, take, drop, Option, Some, None, refl, sym, ap, ◌∙◌, subst, arith, append_assoc, append-nil, length-append, replicate, pos}
-use Rattle.std.proofs.lemmas.Bool.{false≢true}
+use Rattle.std.proofs.Common.{◌≡◌, ℕ, suc, ◌+◌, ◌-◌, ◌<◌, ◌≤◌, true, false, not, ◌&&◌, List, [], ◌∷◌, ◌++◌, length, take, drop, Option, Some, None, refl, sym, ap, ◌∙◌, subst, arith, append_assoc, append-nil, length-append, replicate}
 use Rattle.std.proofs.lemmas.List.{length-replicate}
 use Rattle.std.specs.Str.{IsUtf8, IsCharBoundary}
 use Rattle.yq_scalar.specs.Text.{cut, no_space, is_empty}
 use Rattle.yq_scalar.proofs.Upto.{cut_takes}
 use Rattle.yq_rows.specs.Lending.{Begun, begun, behind_front}
 use Rattle.yq_rows.specs.Reading.{Marks, key_at, begins_entry, is_dash, key_mark, mark_at, undashed, with_dash, marks_at}
-use Rattle.yq_rows.specs.Rows.{Mark, Dash, behind_columns, before_column}
+use Rattle.yq_rows.specs.Rows.{Mark, Dash, behind_columns}
 use Rattle.yq_rows.specs.View.{last_dash}
 use Rattle.yq_rows.proofs.MarkLaws.{dash_is, marks_more, marks_dash, marks_none, spaces_are}
 use Rattle.yq_rows.proofs.PieceLaws.{key_takes}
 use Rattle.yq_rows.proofs.FrontLaws.{front_take, front_drop, front_boundary, front_join, front_next}
-
-pub before_some : (c : ℕ) → eqb c 0 ≡ false → before_column c ≡ pos (c - 1)
-before_some zero h = absurd (false≢true (sym h))
-before_some (suc c) h = ap pos (omega arith)
 
 pub columns_from : (c : ℕ) (ns : List ℕ) → behind_columns c ns ≡ c + behind_columns 0 ns
 columns_from c [] = omega arith

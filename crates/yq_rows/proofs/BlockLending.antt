@@ -126,9 +126,6 @@ raw_boundary n t u v p h e f utf8 =
     (λ lf. cut_lf v (joined h.block.raw) h.rest (p.end - p.raw_start) is lf c.raw_len utf8)
     (raw_lf h.block.indent h.block.raw h.law.lines)
 
-pub ordered : (n : ℤ) (t : List ℕ) (p : Piece) → Read n t p → (p.head_end ≤ p.raw_start) × (p.raw_start ≤ p.end)
-ordered n t p h = (omega (arith, h.head_end, h.raw_start), omega (arith, h.raw_start, h.end))
-
 -- the name of an anchor
 name_there : (v : List ℕ) → (length (38 ∷ take (upto (unless in_name) v) v) ≡ 1 → ⊥) → name_at v ≡ Some (cut (unless in_name) v)
 unfolding name_at

@@ -8,12 +8,12 @@ use Rattle.yq_scalar.specs.Text.{is_empty, is_marker}
 use Rattle.yq_scalar.proofs.Bools.{bind_some}
 use Rattle.yq_inline.proofs.Binds.{some_same}
 use Rattle.yq_rows.specs.Grammar.{begins_document}
-use Rattle.yq_rows.specs.Lending.{PartLent, part_behind, rows_lent, shown_read, behind_parts, parts_lent}
+use Rattle.yq_rows.specs.Lending.{PartLent, part_behind, rows_lent, behind_parts, parts_lent}
 use Rattle.yq_rows.specs.Reading.{tail_at, marker_at, part_at, all_parts}
 use Rattle.yq_rows.specs.Rows.{Part, Cut, last, marked}
 use Rattle.yq_rows.specs.View.{Slices, slices, Bound, Shown, rows_of, bounds_from, bound_view, bound_views}
 use Rattle.yq_rows.specs.declared.scanning.Bound as ends
-use Rattle.yq_rows.proofs.PartsLaws.{parts_refused, parts_last, parts_no_marker, parts_marked, part_marker, part_le, parts_smaller}
+use Rattle.yq_rows.proofs.PartsLaws.{parts_refused, parts_last, parts_no_marker, parts_marked, part_marker, parts_smaller}
 use Rattle.yq_rows.proofs.PieceLaws.{tail_takes}
 use Rattle.yq_rows.proofs.FrontLaws.{front_take, front_boundary, front_le}
 
@@ -34,10 +34,6 @@ unfolding marker_at
 marker_some t behind tail rest line three h e =
     let whole = e ∙ front_take t (take 3 t ++ tail) rest (marker_is t behind tail rest three h) in
     ap (λ o. o >>= λ x. Some (take 3 t ++ x.0, x.1)) (ap tail_at (sym three) ∙ h) ∙ ap (λ (l : List ℕ). Some (l, rest)) (sym whole)
-
-pub marker_none : (t behind : List ℕ) → behind ≡ drop 3 t → tail_at behind ≡ None → marker_at t ≡ None
-unfolding marker_at
-marker_none t behind three h = ap (λ o. o >>= λ x. Some (take 3 t ++ x.0, x.1)) (ap tail_at (sym three) ∙ h)
 
 -- A part that was read, behind other rows.
 pub record OnePart (rows : List Slices) (started : Bool) (t : List ℕ) (found : List Slices) (end after : List ℕ) : Type 0 where
@@ -60,9 +56,6 @@ one_part rows started t found end after h =
       end_is = ap (λ (y : PartLent). y.1) (sym is);
       count = ap length rows_here ∙ (length-append rows (map slices x.0.0.rows) ∙ ap (λ n. length rows + n) (length-map x.0.0.rows slices));
     }
-
-pub part_within : (rows : List Slices) (started : Bool) (t : List ℕ) (found : List Slices) (end after : List ℕ) → rows_lent rows (part_at started t) ≡ Some (found, end, after) → length after ≤ length t
-part_within rows started t found end after h = let p = one_part rows started t found end after h in part_le started t (p.part, after) p.read
 
 pub part_is_marker : (rows : List Slices) (started : Bool) (t : List ℕ) (found : List Slices) (end after : List ℕ) → rows_lent rows (part_at started t) ≡ Some (found, end, after) → is_empty after ≡ false → is_marker after ≡ true
 part_is_marker rows started t found end after h some = let p = one_part rows started t found end after h in part_marker started t (p.part, after) p.read some
@@ -110,11 +103,6 @@ parts_more rows bounds started t found end after marker next k h some m e =
     let p = one_part rows started t found end after h in
     ap (parts_lent rows bounds) (parts_marked started t (p.part, after) (marker, next) p.read some m)
     ∙ more_shown rows bounds p.part found end marker k (all_parts (begins_document marker) next) (e ∙ p.count) p.rows_is p.end_is e
-
--- the loop over the parts
-pub all_shown : (o : Option Cut) → parts_lent [] [] o ≡ shown_read o
-all_shown (Some c) = refl
-all_shown None = refl
 
 pub bounds_push : (bounds items : List ends.Bound) (b : ends.Bound) → items ≡ bounds ++ b ∷ [] → bound_views items ≡ bound_views bounds ++ bound_view b ∷ []
 bounds_push bounds items b e = ap bound_views e ∙ map-append bound_view bounds (b ∷ [])

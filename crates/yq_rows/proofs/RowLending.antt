@@ -92,10 +92,6 @@ row_lending limit gap t indent rest e ok =
     rw (subst (λ (y : List ℕ × List ℕ). (allows limit (length y.0) && not (eqb (length y.0) 0 && is_marker y.1)) ≡ true) e ok)
     (ap (λ (y : List ℕ × List ℕ). marked_row_at gap (length y.0) (marks_at y.1) >>= λ x. Some (lent x)) (sym e) ∙ marked_lending gap (length indent) (marks_at rest))
 
-pub row_refused : (limit : Limit) (gap t indent rest : List ℕ) → (indent, rest) ≡ cut no_space t → (allows limit (length indent) && not (eqb (length indent) 0 && is_marker rest)) ≡ false → row_lent limit gap t ≡ None
-unfolding row_at
-row_refused limit gap t indent rest e refused = rw (subst (λ (y : List ℕ × List ℕ). (allows limit (length y.0) && not (eqb (length y.0) 0 && is_marker y.1)) ≡ false) e refused) refl
-
 -- rows behind others
 lent_front : (front : List Slices) (r : Row) (o : Option (Part × List ℕ)) → rows_lent front (with_front (r ∷ []) o) ≡ rows_lent (front ++ slices r ∷ []) o
 lent_front front r (Some x) = ap (λ (l : List Slices). Some (l, x.0.end, x.1)) (sym (append_assoc front (slices r ∷ []) (map slices x.0.rows)))

@@ -1,5 +1,5 @@
 -- The rows of a part: steps of reading them.
-use Rattle.std.proofs.Common.{if◌then◌else◌, ◌≡◌, ℕ, zero, suc, ◌<◌, ◌≤◌, true, false, cond, List, [], ◌∷◌, ◌++◌, length, Option, Some, None, refl, ap, arith, append_assoc, length-drop}
+use Rattle.std.proofs.Common.{if◌then◌else◌, ◌≡◌, ℕ, zero, suc, ◌<◌, ◌≤◌, true, false, cond, List, [], ◌∷◌, length, Option, Some, None, refl, ap, arith, length-drop}
 use Rattle.yq_scalar.specs.Answers.{◌>>=◌}
 use Rattle.yq_inline.proofs.Binds.{bind_same}
 use Rattle.yq_rows.specs.Grammar.{Limit, limit_after, ends_part}
@@ -58,11 +58,3 @@ rows_refused limit gap t some h = rw (some, h) refl
 pub rows_done : (limit : Limit) (gap t : List ℕ) → ends_part t ≡ true → rows_from limit gap t ≡ Some (record { rows = []; end = gap }, t)
 unfolding rows_from
 rows_done limit gap t none = rw none refl
-
-pub with_front-append : (a b : List Row) (o : Option (Part × List ℕ)) → with_front (a ++ b) o ≡ with_front a (with_front b o)
-with_front-append a b (Some x) = ap (λ l. Some (record { rows = l; end = x.0.end }, x.1)) (append_assoc a b x.0.rows)
-with_front-append a b None = refl
-
-pub no_front : (o : Option (Part × List ℕ)) → with_front [] o ≡ o
-no_front (Some x) = refl
-no_front None = refl

@@ -76,10 +76,6 @@ scan_again t c h =
 pub one_cut : (t : List ℕ) (c other : Cut) → IsCut t c → IsCut t other → c ≡ other
 one_cut t c other a b = some_same (sym (scan_again t c a) ∙ scan_again t other b)
 
--- the clauses of a function that gives what reading gives, as it is shown
-abbrev ShownCut : List ℕ → Shown → Type 0
-ShownCut t s = (c : Cut) × IsCut t c × (s ≡ shown c)
-
 pub found_by : {X : Type 0} (v : X → Shown) (t : List ℕ) (r : Result X ReadError) → Gives v r (scan_at t >>= λ c. Some (shown c)) → IfOk r (λ x. (c : Cut) × IsCut t c × (v x ≡ shown c))
 found_by v t (Ok x) h = let c = bind_some (scan_at t) h in (c.0, scan_takes t c.0 c.1, sym (some_same c.2))
 found_by v t (Err e) h = tt

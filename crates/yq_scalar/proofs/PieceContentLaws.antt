@@ -75,12 +75,6 @@ scalar_of text p h = elim h.piece [
   | inr x ↦ quoted_scalar x.0 text p x.1
 ]
 
--- what is cut off is the scalar
-pub cut_is : (text rest : List ℕ) (p : Piece) (s : Scalar text p) → rest ≡ drop p.start text → take (p.end - p.start) rest ≡ s.scalar
-cut_is text rest p s e =
-    let size : p.end - p.start ≡ length s.scalar = omega (arith, s.size) in
-    rw (e, s.stands, size, take-append_seam) refl
-
 pub boundary_end : (text rest : List ℕ) (p : Piece) (s : Scalar text p) → rest ≡ drop p.start text → IsUtf8 rest → IsCharBoundary rest (p.end - p.start)
 boundary_end text rest p s e u =
     let same : rest ≡ s.scalar ++ s.rest = e ∙ s.stands in

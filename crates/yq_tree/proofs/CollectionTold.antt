@@ -76,9 +76,6 @@ column_held t s ds i d steps h there =
     let p = part_at ds (document_parts (cut_of t)) h.lined i d there in
     ap (λ (x : Lined). column_of steps x.1) p.2 ∙ go (printed_document i (cut_of t)) refl p.0 p.1
   where
-    c : Cut
-    c = cut_of t
-
     go : (o : Option PrintedDocument) → printed_document i (cut_of t) ≡ o → (p : Part) → slice_get (document_parts (cut_of t)) i ≡ Some p → column_of steps (lines_of p.rows) ≡ column_at (o >>= end_in steps)
     go None is p at = absurd (none_some (sym (no_part _ i (cut_of t) is) ∙ at))
     go (Some d) is p at =

@@ -202,15 +202,6 @@ some_bytes (b ∷ t) h = omega arith
 pub gap_piece : (before gap rest : List ℕ) (q : Piece) → IsUtf8 (before ++ (gap ++ rest)) → (gap ≡ []) ⊎ Ended gap rest → gap_comment before gap rest ≡ Some q → HoldsPiece (before ++ (gap ++ rest)) q
 gap_piece before gap rest q u ended is = go (is_empty (joined (last_run (lines_of gap)))) refl is
   where
-    run : List ℕ
-    run = joined (last_run (lines_of gap))
-
-    other : List ℕ
-    other = joined (before_run (lines_of gap))
-
-    split : gap ≡ joined (before_run (lines_of gap)) ++ joined (last_run (lines_of gap))
-    split = sym (run_split (lines_of gap) ∙ joined_lines gap)
-
     whole : before ++ (gap ++ rest) ≡ (before ++ joined (before_run (lines_of gap))) ++ (joined (last_run (lines_of gap)) ++ rest)
     whole = ap (λ x. before ++ x) (ap (λ x. x ++ rest) (sym (run_split (lines_of gap) ∙ joined_lines gap)) ∙ append_assoc (joined (before_run (lines_of gap))) (joined (last_run (lines_of gap))) rest)
         ∙ sym (append_assoc before (joined (before_run (lines_of gap))) (joined (last_run (lines_of gap)) ++ rest))

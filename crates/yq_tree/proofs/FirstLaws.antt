@@ -1,6 +1,6 @@
 -- Spaces that end a text, and the text around an item or entry.
 use Rattle.std.proofs.Common.{◌≡◌, inl, ℕ, zero, suc, ◌+◌, ◌-◌, ◌<◌, ◌≤◌, eqb, Bool, true, false, cond, ◌&&◌, List, [], ◌∷◌, ◌++◌, length, take, drop, slice_index, Option, Some, None, option_map, refl, sym, ap, ◌∙◌, subst, arith, append_assoc, length-append}
-use Rattle.std.proofs.Math.Seq.{drop-append_seam, take-append_seam, take-length}
+use Rattle.std.proofs.Math.Seq.{drop-append_seam, take-append_seam}
 use Rattle.std.proofs.lemmas.Bool.{eqb-true, ne_eqb, eq-eqb, cond-true, cond-false}
 use Rattle.std.proofs.lemmas.List.{length-take-le}
 use Rattle.std.proofs.lemmas.Str.{IsCharBoundary-at_seam, IsUtf8-drop, IsUtf8-from_ascii}
@@ -56,9 +56,6 @@ unfolding less_spaces
 other_less [] n h e = absurd (omega (arith, h))
 other_less (b ∷ t) zero h e = ap (λ c. cond c [] (b ∷ [])) (other_spaces (b ∷ t) zero h e)
 other_less (b ∷ t) (suc n) h e = λ i. cond (other_spaces (b ∷ t) (suc n) h e i) [] (b ∷ other_less t n (omega (arith, h)) e i)
-
-pub whole_less : (t : List ℕ) (n : ℕ) → n ≡ length t → less_spaces (take n t) ≡ less_spaces t
-whole_less t n e = ap (λ k. less_spaces (take k t)) e ∙ ap less_spaces (take-length t)
 
 pub none_less : (t : List ℕ) (n : ℕ) → n ≡ 0 → length (less_spaces (take n t)) ≡ n
 unfolding less_spaces

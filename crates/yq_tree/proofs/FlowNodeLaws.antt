@@ -1,5 +1,5 @@
 -- The flow collection at a path is the one that the code finds in the head of a line.
-use Rattle.std.proofs.Common.{◌≡◌, inl, inr, ℕ, suc, ◌+◌, ◌≤◌, ltb, Bool, true, false, cond, List, [], ◌∷◌, ◌++◌, length, Option, Some, None, option_map, refl, sym, ap, ◌∙◌, subst}
+use Rattle.std.proofs.Common.{◌≡◌, inl, inr, ℕ, suc, ◌+◌, ltb, Bool, true, false, cond, List, [], ◌∷◌, ◌++◌, length, Option, Some, None, option_map, refl, sym, ap, ◌∙◌, subst}
 use Rattle.std.specs.List.{slice_get}
 use Rattle.std.specs.Prelude.{is_some}
 use Rattle.yq_scalar.specs.Answers.{◌>>=◌}
@@ -31,7 +31,7 @@ use Rattle.yq_tree.proofs.FlowPlaceLaws.{MarkSeat, mark_seat, reached_seat}
 use Rattle.yq_tree.proofs.FlowToldLaws.{collection_placed, head_found, numbered}
 use Rattle.yq_tree.proofs.FoundLines.{each}
 use Rattle.yq_tree.proofs.RowPathLaws.{document_fine}
-use Rattle.yq_tree.proofs.SeatLaws.{part_at, none_past}
+use Rattle.yq_tree.proofs.SeatLaws.{part_at}
 
 -- ---- the head of a row
 
@@ -146,7 +146,3 @@ held_collection t s ds i d steps found h there told =
     ∙ (part_collection_is k c part.0 steps fine
     ∙ ((λ j. option_map (placed_collection (length (sym h.cut.text j))) (part_collection k c steps part.0))
     ∙ ap (λ (o : Option Part). option_map (placed_collection (length t)) (o >>= part_collection k c steps)) (sym part.1))))
-
-pub held_nowhere : (t : List ℕ) (s : Shown) (ds : List DocumentLines) (i : ℕ) (steps : List Step) → Holds t s ds → length ds ≤ i → None ≡ option_map (placed_collection (length t)) (flow_collection i steps (cut_of t))
-held_nowhere t s ds i steps h past =
-    sym (ap (λ (o : Option Part). option_map (placed_collection (length t)) (o >>= part_collection (document_row i (cut_of t)) (cut_of t) steps)) (none_past ds (document_parts (cut_of t)) h.lined i past))

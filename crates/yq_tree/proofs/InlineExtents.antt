@@ -157,9 +157,6 @@ module _ (c : Cut) (p : Part) (more : List Row) (k : ℕ) (before behind : List 
       ∙ (ap (λ (j : ℕ). cond (is_some l.line.head || eqb j (suc n)) (line_extent false k c p.rows n) (lines_extent k c p.rows (suc n) j)) (sym h.ends)
       ∙ sym (ap (λ (o : Option Line). o >>= λ x. cond (is_some x.head || eqb (lines_end n (lines_of p.rows)) (suc n)) (line_extent false k c p.rows n) (lines_extent k c p.rows (suc n) (lines_end n (lines_of p.rows)))) (line_at n l h.line)))))
     where
-      us : List PrintedLine
-      us = take m (drop (suc n) (printed_lines p.rows))
-
       written : Option InlinePlace
       written = mark_inline false ((before ++ print_lines (take n (printed_lines p.rows)) []) ++ (line_front l ++ l.mark)) l.content (print_lines (take m (drop (suc n) (printed_lines p.rows))) e.behind)
 

@@ -18,8 +18,8 @@ use Rattle.yq_documents.specs.declared.path.Path.{Path}
 use Rattle.yq_documents.specs.Documents.{document_parts}
 use Rattle.yq_tree.specs.EntryReading.{head_end}
 use Rattle.yq_tree.specs.Extents.{head_place}
-use Rattle.yq_tree.specs.InlinePlaces.{InlinePlace, written_text, inline_in, inline_place}
-use Rattle.yq_tree.specs.InlineReading.{InlineExtent, extent_of, content_extent, row_extent, line_extent, lines_extent, entry_extent, extent_from, extent_in, extent_at, inline_telling, if_written}
+use Rattle.yq_tree.specs.InlinePlaces.{InlinePlace, written_text, inline_in, inline_from, inline_place}
+use Rattle.yq_tree.specs.InlineReading.{InlineExtent, extent_of, content_extent, row_extent, line_extent, lines_extent, entry_extent, extent_from, extent_in, inline_telling, if_written}
 use Rattle.yq_documents.specs.Lines.{lines_of}
 use Rattle.yq_documents.specs.Located.{steps_of}
 use Rattle.yq_documents.specs.Reading.{all_documents}
@@ -44,25 +44,29 @@ none_some e = cc
 some_same : {A : Type 0} {x y : A} → Some x ≡ Some y → x ≡ y
 some_same e = cc
 
--- what the code answers is the extent of the place
-pub inline_spans_are : (c : Cut) (path : Path) → IsCut (cut_text c) c → all_documents c ≡ true → option_map extent_of (inline_place path c) ≡ extent_at path c
-inline_spans_are c path cut sound = go (printed_document path.doc c) refl
+-- what is told by the rows of the place at steps
+abbrev pub extent_there : ℕ → List Step → Cut → Option InlineExtent
+extent_there doc steps c = slice_get (document_parts c) doc >>= λ d. extent_in (document_row doc c) c d.rows steps
+
+-- it is the extent of the place
+pub inline_spans_are : (c : Cut) (doc : ℕ) (steps : List Step) → IsCut (cut_text c) c → all_documents c ≡ true → option_map extent_of (inline_from doc steps c) ≡ extent_there doc steps c
+inline_spans_are c doc steps cut sound = go (printed_document doc c) refl
   where
-    go : (o : Option PrintedDocument) → printed_document path.doc c ≡ o → option_map extent_of (o >>= inline_in (steps_of path)) ≡ extent_at path c
-    go None is = sym (ap (λ (d : Option Part). d >>= λ d. extent_in (document_row path.doc c) c d.rows (steps_of path)) (no_part _ path.doc c is))
+    go : (o : Option PrintedDocument) → printed_document doc c ≡ o → option_map extent_of (o >>= inline_in steps) ≡ extent_there doc steps c
+    go None is = sym (ap (λ (d : Option Part). d >>= λ d. extent_in (document_row doc c) c d.rows steps) (no_part _ doc c is))
     go (Some s) is =
-        let q = document_is _ true path.doc c s cut.parts is in
+        let q = document_is _ true doc c s cut.parts is in
         let p : Part = q.0 in
-        let k : ℕ = document_row path.doc c in
-        let b = part_begins c path.doc p q.1 in
-        let fine : is_fine (group (map line_in (printed_lines p.rows))) ≡ true = subst (λ ls. is_fine (group ls) ≡ true) (sym (lines_are p.rows)) (document_fine p (each (document_parts c) sound path.doc p q.1)) in
+        let k : ℕ = document_row doc c in
+        let b = part_begins c doc p q.1 in
+        let fine : is_fine (group (map line_in (printed_lines p.rows))) ≡ true = subst (λ ls. is_fine (group ls) ≡ true) (sym (lines_are p.rows)) (document_fine p (each (document_parts c) sound doc p q.1)) in
         let own : s ≡ record { before = s.before; lines = printed_lines p.rows; behind = s.behind } = (λ i. record { before = s.before; lines = q.2.lines i; behind = s.behind }) in
-        let placed : IsPlaced c k p (record { before = s.before; lines = printed_lines p.rows; behind = s.behind }) = subst (IsPlaced c k p) own (document_placed _ path.doc c p s q.1 is) in
+        let placed : IsPlaced c k p (record { before = s.before; lines = printed_lines p.rows; behind = s.behind }) = subst (IsPlaced c k p) own (document_placed _ doc c p s q.1 is) in
         let told : ArePrinted (printed_lines p.rows) s.behind = subst (λ ls. ArePrinted ls s.behind) q.2.lines q.2.told in
-        let text : document_text (record { before = s.before; lines = printed_lines p.rows; behind = s.behind }) ≡ cut_text c = subst (λ x. document_text x ≡ cut_text c) own (document_whole _ path.doc c s is) in
-        ap (λ x. option_map extent_of (inline_in (steps_of path) x)) own
-        ∙ (inline_is_at c p b.0 k s.before s.behind b.1 placed told text fine (steps_of path)
-        ∙ sym (ap (λ (d : Option Part). d >>= λ d. extent_in (document_row path.doc c) c d.rows (steps_of path)) q.1))
+        let text : document_text (record { before = s.before; lines = printed_lines p.rows; behind = s.behind }) ≡ cut_text c = subst (λ x. document_text x ≡ cut_text c) own (document_whole _ doc c s is) in
+        ap (λ x. option_map extent_of (inline_in steps x)) own
+        ∙ (inline_is_at c p b.0 k s.before s.behind b.1 placed told text fine steps
+        ∙ sym (ap (λ (d : Option Part). d >>= λ d. extent_in (document_row doc c) c d.rows steps) q.1))
 
 -- an extent goes from one whole character to another
 module _ (c : Cut) (rs more : List Row) (k : ℕ) (u : IsUtf8 (cut_text c)) (cut : IsCut (cut_text c) c) (there : drop k (rows_of c) ≡ rs ++ more) where
@@ -109,11 +113,11 @@ module _ (c : Cut) (rs more : List Row) (k : ℕ) (u : IsUtf8 (cut_text c)) (cut
   in_spans [] x e = lines_spans 0 (length (lines_of rs)) x e
   in_spans (s ∷ ss) x e = let y = bind_some (reached (s ∷ ss) (lines_of rs)) e in from_spans y.0.0 y.0.1 x y.2
 
-extents_span : (c : Cut) (path : Path) (x : InlineExtent) → IsUtf8 (cut_text c) → IsCut (cut_text c) c → extent_at path c ≡ Some x → IsSpan (cut_text c) x.0 x.1
-extents_span c path x u cut e =
-    let d = bind_some (slice_get (document_parts c) path.doc) e in
-    let b = part_begins c path.doc d.0 d.1 in
-    in_spans c d.0.rows b.0 (document_row path.doc c) u cut b.1 (steps_of path) x d.2
+pub extents_span : (c : Cut) (doc : ℕ) (steps : List Step) (x : InlineExtent) → IsUtf8 (cut_text c) → IsCut (cut_text c) c → extent_there doc steps c ≡ Some x → IsSpan (cut_text c) x.0 x.1
+extents_span c doc steps x u cut e =
+    let d = bind_some (slice_get (document_parts c) doc) e in
+    let b = part_begins c doc d.0 d.1 in
+    in_spans c d.0.rows b.0 (document_row doc c) u cut b.1 steps x d.2
 
 -- Where a place stands in a text.
 pub record IsInlineAt (t : List ℕ) (c : Cut) (path : Path) (x : InlineExtent) : Type 0 where
@@ -141,7 +145,7 @@ is_inline_at t c path x u cut sound e =
       extent = w.2;
       text = cut.text ∙ (sym (document_whole _ path.doc c s.0 s.1) ∙ sym there.text);
       bytes = there.bytes;
-      span = subst (λ y. IsSpan y x.0 x.1) (sym cut.text) (extents_span c path x (subst IsUtf8 cut.text u) own (sym (inline_spans_are c path own sound) ∙ sym e));
+      span = subst (λ y. IsSpan y x.0 x.1) (sym cut.text) (extents_span c path.doc (steps_of path) x (subst IsUtf8 cut.text u) own (sym (inline_spans_are c path.doc (steps_of path) own sound) ∙ sym e));
     }
 
 -- behind its beginning it ends between characters too
@@ -178,10 +182,3 @@ inline_telling_is t c path x before old behind told h a b d e =
     let third : behind ≡ w.behind = d ∙ ((λ i. drop (size i) (rest i)) ∙ drop-append_seam (written_text w.old) w.behind) in
     let alone : x.2 ≡ w.alone = ap (λ (y : InlineExtent). y.2) (sym h.extent) in
     (λ i. Some (first i, second i, third i, alone i)) ∙ sym (ap (option_map inline_telling) h.is)
-
-pub no_inline : (c : Cut) (path : Path) → None ≡ option_map extent_of (inline_place path c) → None ≡ option_map inline_telling (inline_place path c)
-no_inline c path e = go (inline_place path c) e
-  where
-    go : (o : Option InlinePlace) → None ≡ option_map extent_of o → None ≡ option_map inline_telling o
-    go None e = refl
-    go (Some w) e = absurd (none_some e)

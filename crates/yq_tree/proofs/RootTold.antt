@@ -151,7 +151,3 @@ root_unwritten path c w none e = go (placed_document path.doc c) e ∙ ap (λ st
 pub no_steps : {A : Type 0} (f : A → Step) (xs : List A) → length xs ≡ 0 → map f xs ≡ []
 no_steps f [] e = refl
 no_steps f (x ∷ xs) e = absurd (omega (arith, e))
-
-pub root_below : (n : ℕ) (steps : List Step) (c : Cut) → (steps ≡ [] → ⊥) → None ≡ root_place n steps c
-root_below n [] c some = absurd (some refl)
-root_below n (s ∷ ss) c some = refl

@@ -1,5 +1,5 @@
 -- Block scalars behind keys and dashes, by the row that the code has found.
-use Rattle.std.proofs.Common.{◌≡◌, ℕ, ◌+◌, ◌-◌, ◌<◌, ◌≤◌, eqb, List, ◌∷◌, ◌++◌, length, take, drop, Option, Some, None, option_map, Bool, true, false, cond, refl, sym, ap, ◌∙◌, subst, arith, append_assoc, length-append}
+use Rattle.std.proofs.Common.{◌≡◌, ℕ, ◌+◌, ◌-◌, ◌<◌, eqb, List, ◌∷◌, ◌++◌, length, take, drop, Option, Some, None, option_map, Bool, true, false, cond, refl, sym, ap, ◌∙◌, subst, arith, append_assoc, length-append}
 use Rattle.std.proofs.Math.Seq.{take-append_seam, drop-append_seam}
 use Rattle.std.proofs.lemmas.Bool.{eq-eqb, eqb-true}
 use Rattle.std.proofs.lemmas.Option.{slice_get-map}
@@ -50,9 +50,6 @@ module _ (t : List ℕ) (start : ℕ) (s : Slices) (h : StandsAt t start s) wher
 
   own_size : length s.head + length s.tail + length s.raw ≡ length (s.head ++ (s.tail ++ s.raw))
   own_size = omega (arith, length-append s.head (s.tail ++ s.raw), length-append s.tail s.raw)
-
-  pub space_fits : (front : List ℕ) → front ≡ take start t → length (space_before s) ≤ length front
-  space_fits front e = omega (arith, ap length (e ∙ front_text), length-append h.before (space_before s))
 
   start_size : (front : List ℕ) → front ≡ take start t → length front - length (space_before s) ≡ length h.before
   start_size front e = omega (arith, ap length (e ∙ front_text), length-append h.before (space_before s))

@@ -104,9 +104,6 @@ pub seated : (rs : List Row) (n : ℕ) (q : Seat) → seat n rs ≡ Some q → I
 seated [] n q e = absurd (none_some e)
 seated (r ∷ rs) n q e = go (cases_lt (length r.dashes) n) (λ p h. seated rs (n - suc (length r.dashes)) p h)
   where
-    xs : List PrintedLine
-    xs = printed_row r
-
     count : length (printed_row r) ≡ suc (length r.dashes)
     count = row_count r.gap (replicate r.column 32) r.column r.dashes r.mark r.content
 

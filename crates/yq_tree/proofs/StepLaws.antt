@@ -1,5 +1,5 @@
 -- The steps of few lines, and of documents that are held.
-use Rattle.std.proofs.Common.{◌≡◌, ◌<◌, ◌≤◌, ℕ, Bool, List, [], ◌∷◌, length, Some, None, refl, sym, ap, ◌∙◌, arith}
+use Rattle.std.proofs.Common.{◌≡◌, ◌<◌, ℕ, Bool, List, [], ◌∷◌, length, Some, refl, sym, ap, ◌∙◌, arith}
 use Rattle.std.specs.List.{slice_get}
 use Rattle.yq_lines.specs.declared.line.Line.{Line}
 use Rattle.yq_lines.specs.Outline.{Mark}
@@ -11,7 +11,7 @@ use Rattle.yq_documents.specs.Reading.{cut_of}
 use Rattle.yq_documents.specs.SoundReading.{Holds}
 use Rattle.yq_tree.specs.Steps.{first_step, steps_in, steps_of_part, document_steps}
 use Rattle.yq_documents.specs.declared.checks.DocumentLines.{DocumentLines}
-use Rattle.yq_tree.proofs.SeatLaws.{part_at, none_past}
+use Rattle.yq_tree.proofs.SeatLaws.{part_at}
 
 pub first_short : (is : Mark → Bool) (ls : List Line) → length ls < 2 → first_step is (views ls) ≡ 2
 first_short is [] h = refl
@@ -22,6 +22,3 @@ pub steps_held : (t : List ℕ) (s : Shown) (ds : List DocumentLines) (i : ℕ) 
 steps_held t s ds i d h there =
     let part = part_at ds (document_parts (cut_of t)) h.lined i d there in
     ap (λ (x : Lined). steps_in x.1) part.2 ∙ ap steps_of_part (sym part.1)
-
-pub steps_past : (t : List ℕ) (s : Shown) (ds : List DocumentLines) (i : ℕ) → Holds t s ds → length ds ≤ i → document_steps i (cut_of t) ≡ steps_of_part None
-steps_past t s ds i h past = ap steps_of_part (none_past ds (document_parts (cut_of t)) h.lined i past)

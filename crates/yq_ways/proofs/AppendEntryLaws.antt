@@ -75,9 +75,6 @@ list_same cs ds e = cc
 map_same : (cs ds : Children) → tree.map None cs ≡ tree.map None ds → cs ≡ ds
 map_same cs ds e = cc
 
-map_list : (cs ds : Children) → tree.map None cs ≡ tree.list None ds → ⊥
-map_list cs ds e = cc
-
 -- the line of an outline with one item or entry
 abbrev IsOne : Option (List ℕ) → Node → Line → Outline → Outline → Type 0
 IsOne k v l u a = (label l ≡ new_label k) × (content l u ≡ v) × (a ≡ end)

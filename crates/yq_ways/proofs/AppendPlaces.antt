@@ -52,7 +52,8 @@ use Rattle.yq_ways.proofs.FitLaws.{new_value, key_near, near_keys}
 use Rattle.yq_ways.proofs.CommentPieceLaws.{nothing, spaces_piece}
 use Rattle.yq_lines.specs.Comments.{line_comment as said}
 use Rattle.yq_rows.specs.Gap.{IsGap}
-use Rattle.yq_ways.proofs.AppendTakers.{IsTaker, taker, mapping_least}
+use Rattle.yq_ways.proofs.AppendTakers.{IsTaker, taker}
+use Rattle.yq_ways.proofs.LayoutLaws.{steps_least}
 
 module _ (doc : ℕ) (steps : List Step) (c : Cut) (x : CollectionEnd) (read : read_at (cut_text c) ≡ Some c) (at : collection_end doc steps c ≡ Some x) where
   abbrev t : List ℕ
@@ -139,7 +140,7 @@ module _ (doc : ℕ) (steps : List Step) (key : Option (List ℕ)) (v : Node) (c
 
   -- the rows of the item or entry, the last of which has this end
   pub entry : (last : List ℕ) → said last ≡ None → IsEntryOf key v x.column (node_rows l x.column last (alone key v))
-  entry last quiet = entry_of key v l x.column last quiet (mapping_least (slice_get (document_parts c) doc)) g.key_utf8 g.value_tree
+  entry last quiet = entry_of key v l x.column last quiet (steps_least (slice_get (document_parts c) doc)) g.key_utf8 g.value_tree
 
   known_taker : IsTaker key place.h.lines x.column
   known_taker =

@@ -81,12 +81,6 @@ above doc steps c e h =
     above_same : {x y : LinesAbove} → Some x ≡ Some y → x ≡ y
     above_same e = cc
 
-kept : Row → List ℕ
-kept r = joined (before_run (lines_of r.gap))
-
-run_of : Row → List ℕ
-run_of r = joined (last_run (lines_of r.gap))
-
 gap_text : (w : PlacedRow) → w.before ++ print_row w.row w.behind ≡ (w.before ++ joined (before_run (lines_of w.row.gap))) ++ (joined (last_run (lines_of w.row.gap)) ++ behind_gap w.row w.behind)
 gap_text w =
     let k : List ℕ = joined (before_run (lines_of w.row.gap)) in

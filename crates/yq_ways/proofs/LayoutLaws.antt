@@ -41,7 +41,7 @@ step_least (l ∷ (m ∷ ls)) = go (begins_under (is_kind false) l m) refl (step
     go true e h = key_step l m e
     go false e h = h
 
-steps_least : (o : Option Part) → 1 ≤ (steps_of_part o).mapping
+pub steps_least : (o : Option Part) → 1 ≤ (steps_of_part o).mapping
 steps_least None = omega arith
 steps_least (Some p) = step_least (lines_of p.rows)
 

@@ -10,7 +10,6 @@ ghost use Rattle.yq_script.specs.Segments.{segments_of};
 ghost use Rattle.yq_script.specs.declared.exchange_error.ExchangeError.TheVariants.{Memory};
 ghost use Rattle.yq_ways.specs.Removing as spec;
 ghost use Rattle.yq_ways.specs.WayAnswers.{Carries};
-ghost use Rattle.yq_ways.specs.Ways.{IsWay};
 
 use std::alloc::{AllocError, Global};
 use yq_meaning::Op;
@@ -21,11 +20,6 @@ use yq_scalar::push_spaces;
 use yq_scalar::text::split_white;
 use yq_script::{Edited, ExchangeError, Segment, exchange};
 use yq_tree::{Documents, Removal, Seam};
-
-/// What the segments make of a text reads as its documents after the removal.
-pub fn removals_read()
-    ensures { IsWay spec.remove_way }
-{}
 
 /// So many spaces.
 fn spaces(alloc: Global, count: usize) -> Result<String, AllocError>

@@ -5,17 +5,11 @@ ghost use Rattle.yq_documents.specs.Reading.{cut_of};
 ghost use Rattle.yq_script.specs.Exchanging.{Exchanged, exchange_of};
 ghost use Rattle.yq_ways.specs.RemovingFirst as spec;
 ghost use Rattle.yq_ways.specs.WayAnswers.{Carries};
-ghost use Rattle.yq_ways.specs.Ways.{IsWay};
 
 use std::alloc::Global;
 use yq_meaning::Op;
 use yq_script::{Edited, ExchangeError, Segment, exchange};
 use yq_tree::{Documents, FirstRemoval};
-
-/// What the segments make of a text reads as its documents after the removal.
-pub fn first_removals_read()
-    ensures { IsWay spec.remove_first_way }
-{}
 
 /// What is taken out of a text is gone.
 fn take_out(alloc: Global, removal: &FirstRemoval<'_>) -> Result<Edited, ExchangeError>

@@ -3,5 +3,4 @@ pub mod ClapFaults
 pub mod ClapLevel
 pub mod ClapWalk
 pub mod Counts
-pub mod Simple
 pub mod WordsFound

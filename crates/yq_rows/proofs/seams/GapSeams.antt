@@ -14,10 +14,6 @@ use Rattle.yq_rows.proofs.LineEnds.{line_end_behind, white_again, white_none, co
 use Rattle.yq_rows.proofs.NothingLaws.{some_behind}
 use Rattle.yq_rows.proofs.seams.SeamLaws.{line_by_break}
 
--- the white space of a line, and what stands behind it
-end_alone : (white comment p rest : List ℕ) → IsLineEnd white comment p rest → IsLineEnd white comment p []
-end_alone white comment p rest h = record { break = h.break; spelled = h.spelled; blank = h.blank; remark = h.remark; ends = ⊎_elim {0, 0, 0} (λ e. inl e) (λ e. inr (e.0, refl)) h.ends }
-
 past_line : (white comment p rest : List ℕ) (h : IsLineEnd white comment p rest) → (past_white p ≡ comment ++ h.break) × ((ends_line (comment ++ h.break) || is_hash (comment ++ h.break)) ≡ true)
 past_line white comment p rest h =
     let parts = Rattle.yq_rows.proofs.LineEnds.behind_comment comment h.break [] h.remark (⊎_elim {0, 0, 0} (λ e. inl e) (λ e. inr (e.0, refl)) h.ends) in

@@ -22,9 +22,7 @@ returns-clause-gives c =
 
 pub returns-clause-behind : goal.returns-clause-behind
 returns-clause-behind c =
-    let ls = views c.args.document.now in
     let at = c.args.under.first in
-    let next = slice_index c.ends.result.now at in
     let within = rw c.lines.ensures at c.if-not-is_deeper.ensures.some refl in
     let ends = c.ends.ensures.ends at (omega arith) (omega (arith, within, views-length c.args.document.now)) in
     (ends.0, omega (arith, within, views-length c.args.document.now))

@@ -35,5 +35,5 @@ returns c =
     (slice_get_read c.self.inside.documents.items _ c.args.path.now.doc c.index.result.now refl within c.index.ensures)
     first
     (λ u k p more cut is lines held there. c.extent_in.ensures u k p more cut is lines there ∙ ap (λ xs. extent_in c.in_ok-first.first k p.rows (map step_of xs)) c.deref.ensures.value)
-    ∙ (sym (inline_spans_are (cut_of t) c.args.path.now (subst (λ y. IsCut y (cut_of t)) cut.text cut) c.self.invariant.sound)
+    ∙ (sym (inline_spans_are (cut_of t) c.args.path.now.doc (steps_of c.args.path.now) (subst (λ y. IsCut y (cut_of t)) cut.text cut) c.self.invariant.sound)
     ∙ ap (λ t. option_map extent_of (inline_place c.args.path.now (cut_of t))) c.self.view_is)
