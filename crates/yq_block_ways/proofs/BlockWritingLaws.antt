@@ -9,7 +9,6 @@ use Rattle.yq_scalar.specs.Tree as tree
 use Rattle.yq_scalar.specs.Tree.{Node}
 use Rattle.yq_scalar.proofs.Bools.{and_true, guard_then, or_false}
 use Rattle.yq_flow.specs.Valued.{IsValueTree}
-use Rattle.yq_scalar.specs.Anchors.{names_of}
 use Rattle.yq_lines.specs.Comments.{line_comment as comment_in}
 use Rattle.yq_lines.specs.Places.{Found, content}
 use Rattle.yq_lines.proofs.Finding.{FoundNode, path_node}
@@ -18,10 +17,8 @@ use Rattle.yq_rows.specs.Grammar.{IsTail, is_entry}
 use Rattle.yq_rows.specs.Rows as rows
 use Rattle.yq_rows.specs.Rows.{Row, mark_column, rows_text, Part, Cut, cut_text}
 use Rattle.yq_rows.specs.View.{slices}
-use Rattle.yq_documents.specs.Documents.{Document, document_parts}
 use Rattle.yq_documents.specs.Lines.{tail_of}
 use Rattle.yq_tree.specs.MarkPlaces.{MarkPlace}
-use Rattle.yq_documents.specs.Reading as reading
 use Rattle.yq_documents.specs.Reading.{documents, outline_of, read_at, root_of}
 use Rattle.yq_tree.specs.RowPaths.{IsReadable}
 use Rattle.yq_tree.proofs.PrintedTexts.{map_some}
@@ -37,7 +34,6 @@ use Rattle.yq_block.specs.BlockText.{block_value}
 use Rattle.yq_block.specs.BlockValues.{HasNearKeys, InRows, IsEnd, IsFilled}
 use Rattle.yq_block.proofs.CharacterLaws.{value_sound}
 use Rattle.yq_block.proofs.TextLaws.{value_spelled}
-use Rattle.yq_meaning.specs.Changes.{is_used_inside}
 use Rattle.yq_meaning.specs.Fits.{Fits}
 use Rattle.yq_meaning.specs.Operations.{Operation, replace, append, remove, line_comment, head_comment}
 use Rattle.yq_meaning.specs.Rooms.{room_of}
@@ -51,8 +47,7 @@ use Rattle.yq_block_ways.proofs.BehindDashLaws.{is_dash}
 use Rattle.yq_block_ways.proofs.DashValueLaws.{behind_rows, behind_spelled, takes_behind}
 use Rattle.yq_ways.proofs.BrokenTails.{broken_comment, broken_tail, end_tail, quiet_tail}
 use Rattle.yq_ways.proofs.CommentPieceLaws.{nothing, byte_then, break_piece, spaces_piece}
-use Rattle.yq_ways.proofs.DoneLaws.{nth_map}
-use Rattle.yq_ways.proofs.FitLaws.{new_value, inside_spared, near_keys, tree_unique}
+use Rattle.yq_ways.proofs.FitLaws.{fits_replace}
 use Rattle.yq_ways.proofs.LayoutLaws.{mapping_least}
 use Rattle.yq_block_ways.proofs.LeftRows.{holding, left_rows}
 use Rattle.yq_block_ways.proofs.MarkContentLaws.{anchor_left, tail_is, unnamed}
@@ -218,21 +213,13 @@ block_old doc steps v c us read is =
     let h = mark_has doc steps c x.1 read x.2 in
     ap old_text (sym x.3) ∙ subst (λ (w : MarkPlace). old_text (block_segments (layout_of doc c) v w) ≡ cut_text c) (there_is doc h.0 h.1 c x.1 h.3) (old_there doc h.0 h.1 c x.1 h.3 v)
 
-same_document : {d g : Document} → Some d ≡ Some g → d ≡ g
-same_document h = cc
-
 reads_there : (doc : ℕ) (s : Step) (ss : List Step) (v : Node) (c : Cut) (w : MarkPlace) → HasMark doc s ss c w → is_filled v ≡ true → IsValueTree v → Fits (room_of (cut_text c)) (replace doc (s ∷ ss) v) (documents c) →
     length (new_text (block_segments (layout_of doc c) v w)) ≤ text_limit → ReadsAfter (replace doc (s ∷ ss) v) c (new_text (block_segments (layout_of doc c) v w))
 reads_there doc s ss v c w h full value_tree fits =
     let part : Part = p doc s ss c w h in
-    let d : reading.document_of part ≡ fits.0 = same_document (sym (nth_map doc part reading.document_of (document_parts c) h.old.there) ∙ fits.1) in
-    let root : root_of part ≡ fits.0.root = ap (λ (y : Document). y.root) d in
-    let n : Node = fits.2.1.0 in
-    let at : node_at (s ∷ ss) (root_of part) ≡ Some n = ap (node_at (s ∷ ss)) root ∙ fits.2.1.1 in
-    let used : is_used_inside (names_of (root_of part)) (Some n) ≡ false = ap (λ y. is_used_inside (names_of y) (Some n)) root ∙ fits.2.1.2 in
-    let may : MayReplace v n (root_of part) (length (s ∷ ss)) = record { value_is = new_value (length (s ∷ ss)) v value_tree (tree_unique v fits.2.0.0) fits.2.0.2; spared = inside_spared (names_of (root_of part)) n used } in
+    let f = fits_replace doc (s ∷ ss) v c part h.old.there value_tree fits in
     subst (λ (y : MarkPlace). length (new_text (block_segments (layout_of doc c) v y)) ≤ text_limit → ReadsAfter (replace doc (s ∷ ss) v) c (new_text (block_segments (layout_of doc c) v y))) (there_is doc s ss c w h)
-    (block_reads doc s ss c w h v value_tree (record { filled = filled_is v full; value = value_tree }) (near_keys v value_tree fits.2.0.1) n at may)
+    (block_reads doc s ss c w h v value_tree (record { filled = filled_is v full; value = value_tree }) f.near f.node f.there f.may)
 
 block_way_reads : (doc : ℕ) (steps : List Step) (v : Node) (c : Cut) (us : List Segment) → read_at (cut_text c) ≡ Some c → replace_block_way (replace doc steps v) c ≡ Some us → IsValueTree v → Fits (room_of (cut_text c)) (replace doc steps v) (documents c) →
     length (new_text us) ≤ text_limit → ReadsAfter (replace doc steps v) c (new_text us)

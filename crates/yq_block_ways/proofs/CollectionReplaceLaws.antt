@@ -1,13 +1,12 @@
 -- Replacing a block collection under a key or dash is a way.
-use Rattle.std.proofs.Common.{◌≡◌, ◌⊎◌, inl, inr, ℕ, ◌+◌, ◌<◌, ◌≤◌, not, Bool, true, false, cond, List, [], ◌∷◌, ◌++◌, length, replicate, Option, Some, None, refl, sym, ap, ◌∙◌, subst, arith, append_assoc, append-nil}
+use Rattle.std.proofs.Common.{◌≡◌, ◌⊎◌, inl, inr, ℕ, ◌+◌, ◌<◌, ◌≤◌, not, Bool, true, false, cond, List, [], ◌∷◌, ◌++◌, length, replicate, Option, Some, None, refl, sym, ap, ◌∙◌, subst, append_assoc, append-nil}
 use Rattle.yq_scalar.specs.BlockWritten.{break_text}
 use Rattle.yq_scalar.specs.Characters.{text_limit}
-use Rattle.yq_scalar.specs.Paths.{Step, node_at}
+use Rattle.yq_scalar.specs.Paths.{Step}
 use Rattle.yq_scalar.specs.Tree.{Node}
 use Rattle.yq_scalar.proofs.Bools.{bind_some}
 use Rattle.yq_flow.specs.Valued.{IsValueTree}
 use Rattle.yq_inline.proofs.WrittenLaws.{node_then}
-use Rattle.yq_scalar.specs.Anchors.{names_of}
 use Rattle.yq_lines.specs.Comments as comments
 use Rattle.yq_lines.specs.Places.{content}
 use Rattle.yq_lines.proofs.Finding.{FoundNode, path_node}
@@ -17,7 +16,6 @@ use Rattle.yq_rows.specs.Seams.{is_block}
 use Rattle.yq_rows.specs.View.{slices}
 use Rattle.yq_tree.specs.CollectionEnds.{CollectionEnd, collection_end}
 use Rattle.yq_tree.specs.CommentPlaces.{line_end}
-use Rattle.yq_documents.specs.Documents.{Document, document_parts}
 use Rattle.yq_tree.specs.MarkPlaces.{MarkPlace, mark_place}
 use Rattle.yq_tree.specs.PlacedRows.{row_of_path}
 use Rattle.yq_tree.specs.PrintedLines.{less_break, last_break}
@@ -27,7 +25,7 @@ use Rattle.yq_tree.specs.RowPaths.{IsReadable}
 use Rattle.yq_tree.proofs.PrintedTexts.{less_is, map_some, none_some}
 use Rattle.yq_change.specs.Appends.{inserted}
 use Rattle.yq_change.specs.Changed.{put_document}
-use Rattle.yq_change.specs.SoundRoots.{IsNewValue, MayReplace}
+use Rattle.yq_change.specs.SoundRoots.{MayReplace}
 use Rattle.yq_change.specs.TextPieces.{IsPiece}
 use Rattle.yq_change.proofs.RemovalPieceLaws.{piece_back}
 use Rattle.yq_change.proofs.TextPieceLaws.{pieces_joined}
@@ -38,7 +36,6 @@ use Rattle.yq_block.specs.BlockText.{block_value}
 use Rattle.yq_block.specs.BlockValues.{HasNearKeys, InRows}
 use Rattle.yq_block.proofs.CharacterLaws.{value_sound}
 use Rattle.yq_block.proofs.TextLaws.{value_spelled}
-use Rattle.yq_meaning.specs.Changes.{is_used_inside}
 use Rattle.yq_meaning.specs.Fits.{Fits}
 use Rattle.yq_meaning.specs.Operations.{Operation, replace, append, remove, line_comment, head_comment}
 use Rattle.yq_meaning.specs.Rooms.{room_of}
@@ -56,8 +53,7 @@ use Rattle.yq_ways.proofs.BreakLaws.{IsLfOrCrLf, last_is}
 use Rattle.yq_ways.proofs.BrokenTails.{broken_tail, broken_comment, quiet_tail}
 use Rattle.yq_block_ways.proofs.CollectionRows.{alone_is, end_pieces, ended_tail, ended_comment, front_text, last_ends_line, node, own_anchor, pairs, parted, rest, tail, there, there_is, behind_is}
 use Rattle.yq_ways.proofs.CommentPieceLaws.{nothing as no_text, byte_then, break_piece, spaces_piece}
-use Rattle.yq_ways.proofs.DoneLaws.{nth_map}
-use Rattle.yq_ways.proofs.FitLaws.{new_value, inside_spared, near_keys, tree_unique}
+use Rattle.yq_ways.proofs.FitLaws.{FitsReplace, fits_replace}
 use Rattle.yq_ways.proofs.LayoutLaws.{mapping_least}
 use Rattle.yq_block_ways.proofs.LeftRows.{holding, left_row, left_rows}
 use Rattle.yq_block_ways.proofs.MarkContentLaws.{anchor_left}
@@ -249,9 +245,6 @@ collection_old doc steps v c us read e =
     ap old_text (sym k.are)
     ∙ subst (λ (q : MarkPlace). old_text (exchange_segments (lines_upto q k.x) k.y) ≡ cut_text c) (there_is doc k.s k.ss c k.w k.x read k.at k.ends) (old_there doc k.s k.ss c k.w k.x read k.at k.ends v k.y)
 
-same_document : {d g : Document} → Some d ≡ Some g → d ≡ g
-same_document h = cc
-
 reads_there : (doc : ℕ) (s : Step) (ss : List Step) (v : Node) (c : Cut) (w : MarkPlace) (x : CollectionEnd) (y : Written) → read_at (cut_text c) ≡ Some c → mark_place doc (s ∷ ss) c ≡ Some w → collection_end doc (s ∷ ss) c ≡ Some x →
     written_there (layout_of doc c) v w ≡ Some y → IsValueTree v → Fits (room_of (cut_text c)) (replace doc (s ∷ ss) v) (documents c) → length (new_text (exchange_segments (lines_upto w x) y)) ≤ text_limit →
     ReadsAfter (replace doc (s ∷ ss) v) c (new_text (exchange_segments (lines_upto w x) y))
@@ -262,26 +255,14 @@ reads_there doc s ss v c w x y read at ends written value_tree fits =
     h : NodeRows doc s ss c
     h = node doc s ss c w x read at ends
 
-    d : reading.document_of h.p ≡ fits.0
-    d = same_document (sym (nth_map doc h.p reading.document_of (document_parts c) h.old.there) ∙ fits.1)
+    f : FitsReplace doc (s ∷ ss) v c h.p
+    f = fits_replace doc (s ∷ ss) v c h.p h.old.there value_tree fits
 
-    root : root_of h.p ≡ fits.0.root
-    root = ap (λ (q : Document). q.root) d
-
-    n : Node
-    n = fits.2.1.0
-
-    node_is : n ≡ content h.found.line h.found.under
-    node_is = some_same (sym fits.2.1.1 ∙ (ap (node_at (s ∷ ss)) (sym root) ∙ (path_node s ss (outline_of h.p) ∙ ap FoundNode h.is)))
-
-    used : is_used_inside (names_of (root_of h.p)) (Some n) ≡ false
-    used = ap (λ q. is_used_inside (names_of q) (Some n)) root ∙ fits.2.1.2
-
-    new : IsNewValue v (length (s ∷ ss))
-    new = new_value (length (s ∷ ss)) v value_tree (tree_unique v fits.2.0.0) fits.2.0.2
+    node_is : f.node ≡ content h.found.line h.found.under
+    node_is = some_same (sym f.there ∙ (path_node s ss (outline_of h.p) ∙ ap FoundNode h.is))
 
     may : MayReplace v (content h.found.line h.found.under) (root_of h.p) (length (s ∷ ss))
-    may = subst (λ q. MayReplace v q (root_of h.p) (length (s ∷ ss))) node_is (record { value_is = new; spared = inside_spared (names_of (root_of h.p)) n used })
+    may = subst (λ q. MayReplace v q (root_of h.p) (length (s ∷ ss))) node_is f.may
 
     q : MarkPlace
     q = there doc s ss c w x read at ends
@@ -290,11 +271,11 @@ reads_there doc s ss v c w x y read at ends written value_tree fits =
         length (new_text (exchange_segments (lines_upto q x) y)) ≤ text_limit → ReadsAfter (replace doc (s ∷ ss) v) c (new_text (exchange_segments (lines_upto q x) y))
     by true full e =
         subst (λ (z : Written). length (new_text (exchange_segments (lines_upto q x) z)) ≤ text_limit → ReadsAfter (replace doc (s ∷ ss) v) c (new_text (exchange_segments (lines_upto q x) z))) (some_same e)
-        (lines_read doc s ss c w x read at ends v value_tree (record { filled = filled_is v full; value = value_tree }) (near_keys v value_tree fits.2.0.1) may)
+        (lines_read doc s ss c w x read at ends v value_tree (record { filled = filled_is v full; value = value_tree }) f.near may)
     by false full e =
         let m = map_some (value_written false [] v) e in
         subst (λ (z : Written). length (new_text (exchange_segments (lines_upto q x) z)) ≤ text_limit → ReadsAfter (replace doc (s ∷ ss) v) c (new_text (exchange_segments (lines_upto q x) z))) m.2
-        (beside_reads doc s ss c w x read at ends v m.0 (written_for false [] v m.0 value_tree (omega (arith, new.nested)) fits.2.0.1 m.1) may)
+        (beside_reads doc s ss c w x read at ends v m.0 (written_for false [] v m.0 value_tree f.deep f.long m.1) may)
 
 collection_reads : (doc : ℕ) (steps : List Step) (v : Node) (c : Cut) (us : List Segment) → read_at (cut_text c) ≡ Some c → replace_collection_way (replace doc steps v) c ≡ Some us → IsValueTree v → Fits (room_of (cut_text c)) (replace doc steps v) (documents c) →
     length (new_text us) ≤ text_limit → ReadsAfter (replace doc steps v) c (new_text us)

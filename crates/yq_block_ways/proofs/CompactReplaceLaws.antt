@@ -2,7 +2,7 @@
 use Rattle.std.proofs.Common.{◌≡◌, ◌⊎◌, inl, inr, ℕ, ◌≤◌, Bool, true, false, cond, List, [], ◌∷◌, ◌++◌, length, replicate, Some, None, option_map, refl, sym, ap, ◌∙◌, subst, arith, append_assoc, append-nil}
 use Rattle.yq_scalar.specs.BlockWritten.{break_text}
 use Rattle.yq_scalar.specs.Characters.{text_limit}
-use Rattle.yq_scalar.specs.Paths.{Step, node_at}
+use Rattle.yq_scalar.specs.Paths.{Step}
 use Rattle.yq_scalar.specs.Text.{is_line}
 use Rattle.yq_scalar.specs.Tree.{Node}
 use Rattle.yq_scalar.specs.declared.block_written.Break.{Break}
@@ -10,7 +10,6 @@ use Rattle.yq_scalar.specs.declared.block_written.Break.TheVariants.{Lf, CrLf}
 use Rattle.yq_scalar.proofs.Bools.{bind_some}
 use Rattle.yq_flow.specs.Valued.{IsValueTree}
 use Rattle.yq_inline.proofs.WrittenLaws.{node_then}
-use Rattle.yq_scalar.specs.Anchors.{names_of}
 use Rattle.yq_lines.specs.Comments as comments
 use Rattle.yq_lines.specs.Places.{content}
 use Rattle.yq_lines.proofs.Finding.{FoundNode, path_node}
@@ -22,16 +21,14 @@ use Rattle.yq_rows.proofs.NothingLaws.{tail_apart}
 use Rattle.yq_rows.proofs.PlaceLaws.{row_front-append}
 use Rattle.yq_tree.specs.CollectionEnds.{CollectionEnd, collection_end}
 use Rattle.yq_tree.specs.DashPlaces.{DashPlace, dash_place}
-use Rattle.yq_documents.specs.Documents.{Document, document_parts}
 use Rattle.yq_tree.specs.PlacedRows.{row_of_path}
 use Rattle.yq_tree.specs.PrintedLines.{less_break, last_break}
-use Rattle.yq_documents.specs.Reading as reading
 use Rattle.yq_documents.specs.Reading.{documents, outline_of, read_at, root_of}
 use Rattle.yq_tree.specs.RowPaths.{IsReadable}
 use Rattle.yq_tree.proofs.PrintedTexts.{less_is, map_some, none_some}
 use Rattle.yq_change.specs.Appends.{inserted}
 use Rattle.yq_change.specs.Changed.{put_document}
-use Rattle.yq_change.specs.SoundRoots.{IsNewValue, MayReplace}
+use Rattle.yq_change.specs.SoundRoots.{MayReplace}
 use Rattle.yq_change.specs.TextPieces.{IsPiece}
 use Rattle.yq_change.specs.Unders.{spaced}
 use Rattle.yq_change.proofs.TextPieceLaws.{pieces_joined, text_is_piece}
@@ -42,7 +39,6 @@ use Rattle.yq_block.specs.BlockText.{block_value}
 use Rattle.yq_block.specs.BlockValues.{HasNearKeys, InRows}
 use Rattle.yq_block.proofs.CharacterLaws.{value_sound}
 use Rattle.yq_block.proofs.TextLaws.{value_spelled}
-use Rattle.yq_meaning.specs.Changes.{is_used_inside}
 use Rattle.yq_meaning.specs.Fits.{Fits}
 use Rattle.yq_meaning.specs.Operations.{Operation, replace, append, remove, line_comment, head_comment}
 use Rattle.yq_meaning.specs.Rooms.{room_of}
@@ -62,8 +58,7 @@ use Rattle.yq_ways.proofs.CommentPieceLaws.{nothing, byte_then, break_piece, spa
 use Rattle.yq_ways.proofs.CommentRowLaws.{row_found}
 use Rattle.yq_block_ways.proofs.CompactRows.{IsCompact, before_is, behind_is, column_is, dash_last, ends_in, inner_is, last_ends_line, node, unnamed, whole_text}
 use Rattle.yq_block_ways.proofs.DashValueLaws.{behind_rows, behind_spelled, takes_behind}
-use Rattle.yq_ways.proofs.DoneLaws.{nth_map}
-use Rattle.yq_ways.proofs.FitLaws.{new_value, inside_spared, near_keys, tree_unique}
+use Rattle.yq_ways.proofs.FitLaws.{FitsReplace, fits_replace}
 use Rattle.yq_ways.proofs.LayoutLaws.{mapping_least}
 use Rattle.yq_block_ways.proofs.MarkPieceLaws.{last_cut}
 use Rattle.yq_block_ways.proofs.NodeRowLaws.{NodeRows, TakesNode, no_comment, node_reads, q_text}
@@ -260,9 +255,6 @@ compact_old doc steps v c us read e =
     let k = compact_way doc steps v c us read e in
     ap old_text (sym k.are) ∙ old_there doc k.s k.ss c k.there k.text
 
-same_document : {d g : Document} → Some d ≡ Some g → d ≡ g
-same_document h = cc
-
 reads_there : (doc : ℕ) (s : Step) (ss : List Step) (v : Node) (c : Cut) (k : IsCompact doc s ss c) (t : List ℕ) → value_behind (layout_of doc c) v k.d ≡ Some t → IsValueTree v → Fits (room_of (cut_text c)) (replace doc (s ∷ ss) v) (documents c) →
     length (new_text (compact_segments (compact_upto k.d k.x) t)) ≤ text_limit → ReadsAfter (replace doc (s ∷ ss) v) c (new_text (compact_segments (compact_upto k.d k.x) t))
 reads_there doc s ss v c k t written value_tree fits = by (is_filled v) refl written
@@ -270,36 +262,24 @@ reads_there doc s ss v c k t written value_tree fits = by (is_filled v) refl wri
     h : NodeRows doc s ss c
     h = node doc s ss c k
 
-    d : reading.document_of h.p ≡ fits.0
-    d = same_document (sym (nth_map doc h.p reading.document_of (document_parts c) h.old.there) ∙ fits.1)
+    f : FitsReplace doc (s ∷ ss) v c h.p
+    f = fits_replace doc (s ∷ ss) v c h.p h.old.there value_tree fits
 
-    root : root_of h.p ≡ fits.0.root
-    root = ap (λ (q : Document). q.root) d
-
-    n : Node
-    n = fits.2.1.0
-
-    node_is : n ≡ content h.found.line h.found.under
-    node_is = some_same (sym fits.2.1.1 ∙ (ap (node_at (s ∷ ss)) (sym root) ∙ (path_node s ss (outline_of h.p) ∙ ap FoundNode h.is)))
-
-    used : is_used_inside (names_of (root_of h.p)) (Some n) ≡ false
-    used = ap (λ q. is_used_inside (names_of q) (Some n)) root ∙ fits.2.1.2
-
-    new : IsNewValue v (length (s ∷ ss))
-    new = new_value (length (s ∷ ss)) v value_tree (tree_unique v fits.2.0.0) fits.2.0.2
+    node_is : f.node ≡ content h.found.line h.found.under
+    node_is = some_same (sym f.there ∙ (path_node s ss (outline_of h.p) ∙ ap FoundNode h.is))
 
     may : MayReplace v (content h.found.line h.found.under) (root_of h.p) (length (s ∷ ss))
-    may = subst (λ q. MayReplace v q (root_of h.p) (length (s ∷ ss))) node_is (record { value_is = new; spared = inside_spared (names_of (root_of h.p)) n used })
+    may = subst (λ q. MayReplace v q (root_of h.p) (length (s ∷ ss))) node_is f.may
 
     ReadsSo : List ℕ → Type 0
     ReadsSo t = length (new_text (compact_segments (compact_upto k.d k.x) t)) ≤ text_limit → ReadsAfter (replace doc (s ∷ ss) v) c (new_text (compact_segments (compact_upto k.d k.x) t))
 
     by : (b : Bool) → is_filled v ≡ b → cond b (Some (filled_behind (layout_of doc c) v k.d)) (option_map (λ t. 32 ∷ t) (value_written false [] v)) ≡ Some t →
         length (new_text (compact_segments (compact_upto k.d k.x) t)) ≤ text_limit → ReadsAfter (replace doc (s ∷ ss) v) c (new_text (compact_segments (compact_upto k.d k.x) t))
-    by true full e = subst ReadsSo (some_same e) (filled_reads doc s ss c k v may value_tree (record { filled = filled_is v full; value = value_tree }) (near_keys v value_tree fits.2.0.1))
+    by true full e = subst ReadsSo (some_same e) (filled_reads doc s ss c k v may value_tree (record { filled = filled_is v full; value = value_tree }) f.near)
     by false full e =
         let m = map_some (value_written false [] v) e in
-        subst ReadsSo m.2 (beside_reads doc s ss c k v may m.0 (written_for false [] v m.0 value_tree (omega (arith, new.nested)) fits.2.0.1 m.1))
+        subst ReadsSo m.2 (beside_reads doc s ss c k v may m.0 (written_for false [] v m.0 value_tree f.deep f.long m.1))
 
 compact_reads : (doc : ℕ) (steps : List Step) (v : Node) (c : Cut) (us : List Segment) → read_at (cut_text c) ≡ Some c → replace_compact_way (replace doc steps v) c ≡ Some us → IsValueTree v → Fits (room_of (cut_text c)) (replace doc steps v) (documents c) →
     length (new_text us) ≤ text_limit → ReadsAfter (replace doc steps v) c (new_text us)

@@ -8,7 +8,7 @@ use Rattle.yq_scalar.specs.Text.{separates}
 use Rattle.yq_scalar.specs.Tree.{Node}
 use Rattle.yq_inline.specs.Nodes as inline
 use Rattle.yq_inline.specs.Nodes.{node_text}
-use Rattle.yq_lines.specs.Anchors.{HaveOneAnchorEach, IsFree}
+use Rattle.yq_lines.specs.Anchors.{HaveOneAnchorEach}
 use Rattle.yq_lines.specs.Comments.{line_comment}
 use Rattle.yq_lines.specs.Outline as outline
 use Rattle.yq_lines.specs.Outline.{end, flatten, IsOpen, level, head_or, Stands, value}
@@ -34,6 +34,7 @@ use Rattle.yq_change.proofs.InlineReplaceLaws.{deeper_entry, tail_ends_plain}
 use Rattle.yq_change.proofs.PartLaws.{document_known}
 use Rattle.yq_change.proofs.UnderLaws.{line_with, gone_lines}
 use Rattle.yq_change.proofs.ValueContentLaws.{content_is, content_head, content_named, content_tail, content_keys}
+use Rattle.yq_change.proofs.ContentLaws.{free_alone}
 use Rattle.yq_block.specs.declared.layout.Layout.{Layout}
 use Rattle.yq_block.specs.BlockPlaces.{IsUpto, at_mark, at_dash, IsAbove, Replaces}
 use Rattle.yq_block.specs.BlockRows.{column_below, node_rows}
@@ -116,11 +117,6 @@ core_apart : (core : inline.Node) (n : ℤ) (x : Content) (rest : List ℕ) → 
 core_apart core n (Nothing tail) rest h a = refl
 core_apart core n (Inline space old tail) rest h a = space_apart space (node_text old (tail ++ rest)) (node_text (recore core old) (tail ++ rest)) h.0 a (inline_starts n old (tail ++ rest) h.1).joined
 core_apart core n (Block space anchor block) rest h a = a
-
--- no anchor is free
-free_none : (a : Option (List ℕ)) → IsFree a []
-free_none None = tt
-free_none (Some x) = tt
 
 within : (n k : ℕ) → k ≤ n → allows (record { column = Some (suc n) }) k ≡ true
 within n k h = lt-ltb k (suc n) (omega (arith, h))
@@ -272,5 +268,5 @@ module _ (doc : ℕ) (s : Step) (ss : List Step) (c : Cut) (h : NodeRows doc s s
       deep = omega arith;
       lines = gone_lines (with_content new h.mark) [];
       keys = (mark_fit, content_keys v node is x, tt);
-      anchors = (free_none (content_anchor new), tt);
+      anchors = (free_alone (content_anchor new), tt);
     }

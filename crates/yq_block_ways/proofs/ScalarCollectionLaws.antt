@@ -21,9 +21,8 @@ use Rattle.yq_ways.specs.Operands.{HasOperand}
 use Rattle.yq_block_ways.specs.ScalarCollection.{collection_segments, scalar_collection_way}
 use Rattle.yq_ways.specs.Ways.{IsWay, ReadsAfter}
 use Rattle.yq_block_ways.proofs.BlockWritingLaws.{filled_is}
-use Rattle.yq_ways.proofs.FitLaws.{near_keys}
+use Rattle.yq_ways.proofs.FitLaws.{fits_replace}
 use Rattle.yq_ways.proofs.LayoutLaws.{mapping_least}
-use Rattle.yq_block_ways.proofs.ScalarLineLaws.{scalar_fits}
 use Rattle.yq_block_ways.proofs.ScalarRowLaws.{HasScalar, scalar_has, p, node_there}
 use Rattle.yq_block_ways.proofs.ScalarTextLaws.{there_is}
 use Rattle.yq_block_ways.proofs.ScalarCollectionRows.{old_there, collection_reads}
@@ -52,11 +51,11 @@ way_reads doc steps v c us read is value_tree fits size =
     let n = scalar_has doc steps c a.1 read a.2 in
     let y : HasScalar doc n.0 n.1 c a.1 = n.3 in
     let part : Part = p doc n.0 n.1 c a.1 y in
-    let f = scalar_fits doc steps v c part y.old.there value_tree fits in
+    let f = fits_replace doc steps v c part y.old.there value_tree fits in
     let at : node_at (n.0 ∷ n.1) (root_of part) ≡ Some f.node = ap (λ q. node_at q (root_of part)) (sym n.2) ∙ f.there in
     let may : MayReplace v (content y.leads.found.line y.leads.found.under) (root_of part) (length (n.0 ∷ n.1)) =
     subst (λ q. MayReplace v q (root_of part) (length (n.0 ∷ n.1))) (sym (node_there doc n.0 n.1 c a.1 y f.node at)) (subst (λ q. MayReplace v f.node (root_of part) (length q)) n.2 f.may) in
-    let done = collection_reads doc n.0 n.1 c a.1 y (layout_of doc c) (mapping_least doc c) v value_tree (record { filled = filled_is v a.0; value = value_tree }) (near_keys v value_tree f.long) may in
+    let done = collection_reads doc n.0 n.1 c a.1 y (layout_of doc c) (mapping_least doc c) v value_tree (record { filled = filled_is v a.0; value = value_tree }) f.near may in
     subst (λ q. ReadsAfter (replace doc q v) c (new_text us)) (sym n.2)
     (subst (λ q. length (new_text q) ≤ text_limit → ReadsAfter (replace doc (n.0 ∷ n.1) v) c (new_text q)) (ap (collection_segments (layout_of doc c) v) (there_is doc n.0 n.1 c a.1 y) ∙ a.3) done size)
 

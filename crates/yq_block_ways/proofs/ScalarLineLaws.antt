@@ -1,9 +1,7 @@
 -- A block scalar gives way to a value that is written inline on the line of its header.
-use Rattle.std.proofs.Common.{◌≡◌, inl, ℕ, ◌≤◌, cond, not, List, [], ◌∷◌, ◌++◌, length, Option, Some, None, Bool, true, false, refl, sym, ap, ◌∙◌, subst, arith, append_assoc, append-nil}
+use Rattle.std.proofs.Common.{◌≡◌, inl, ℕ, ◌≤◌, cond, not, List, [], ◌∷◌, ◌++◌, length, Option, Some, None, Bool, true, false, refl, sym, ap, ◌∙◌, subst, append_assoc, append-nil}
 use Rattle.std.proofs.lemmas.Bool.{false≢true}
 use Rattle.std.proofs.lemmas.Str.{is_utf8-from_IsUtf8}
-use Rattle.std.specs.List.{slice_get}
-use Rattle.yq_scalar.specs.Answers.{◌>>=◌}
 use Rattle.yq_scalar.specs.Block.{BlockText, block_text, mark_of}
 use Rattle.yq_scalar.specs.BlockWritten.{break_text}
 use Rattle.yq_scalar.specs.Characters.{text_limit}
@@ -27,7 +25,6 @@ use Rattle.yq_inline.specs.Nodes.{node_text, is_bare, IsNode}
 use Rattle.yq_inline.specs.Trees.{node_anchor}
 use Rattle.yq_flow.specs.Valued.{IsValueTree}
 use Rattle.yq_inline.proofs.WrittenLaws.{node_then}
-use Rattle.yq_scalar.specs.Anchors.{names_of}
 use Rattle.yq_lines.specs.Comments.{line_comment as comment_in}
 use Rattle.yq_rows.specs.Exchange.{row_front}
 use Rattle.yq_rows.specs.Gap.{IsWhite}
@@ -37,7 +34,7 @@ use Rattle.yq_rows.specs.View.{slices}
 use Rattle.yq_rows.proofs.NodeExchange.{mark_apart, space_apart}
 use Rattle.yq_rows.proofs.splices.PartPlaces.{part_ends}
 use Rattle.yq_tree.specs.CommentPlaces.{LineEnd}
-use Rattle.yq_documents.specs.Documents.{Document, document_parts, lead_of}
+use Rattle.yq_documents.specs.Documents.{document_parts, lead_of}
 use Rattle.yq_documents.specs.Lines.{block_anchor}
 use Rattle.yq_documents.specs.Reading as reading
 use Rattle.yq_documents.specs.Reading.{documents, read_at, root_of}
@@ -50,7 +47,6 @@ use Rattle.yq_change.specs.Changed.{changed, IsChanged, put_document}
 use Rattle.yq_change.specs.DocumentRows.{part_number}
 use Rattle.yq_change.specs.InlineRows.{IsValueNode}
 use Rattle.yq_change.specs.Rooms.{is_block_root}
-use Rattle.yq_change.specs.SoundRoots.{IsNewValue}
 use Rattle.yq_change.specs.TextPieces.{IsPiece}
 use Rattle.yq_change.proofs.CoreLaws.{recore, anchored_node, core_anchor, core_bare, core_head, core_keys}
 use Rattle.yq_change.proofs.InlineReplaceLaws.{tail_ends_plain}
@@ -58,7 +54,7 @@ use Rattle.yq_change.proofs.LeadLaws.{same_lead_goes}
 use Rattle.yq_change.proofs.PartLaws.{document_known}
 use Rattle.yq_change.proofs.PathTailLaws.{anchor_other}
 use Rattle.yq_change.proofs.TextPieceLaws.{pieces_joined}
-use Rattle.yq_meaning.specs.Changes.{has_long_key, is_used_inside}
+use Rattle.yq_meaning.specs.Changes.{has_long_key}
 use Rattle.yq_meaning.specs.Fits.{Fits}
 use Rattle.yq_meaning.specs.Operations.{Operation, replace, append, remove, line_comment, head_comment}
 use Rattle.yq_meaning.specs.Rooms.{room_of}
@@ -69,7 +65,7 @@ use Rattle.yq_block_ways.specs.ScalarReplacing.{has_text, header_end, final_brea
 use Rattle.yq_ways.specs.Ways.{IsWay, ReadsAfter}
 use Rattle.yq_ways.proofs.BrokenTails.{broken_tail, broken_comment}
 use Rattle.yq_ways.proofs.DoneLaws.{nth_map, document_done}
-use Rattle.yq_ways.proofs.FitLaws.{new_value, inside_spared, tree_unique}
+use Rattle.yq_ways.proofs.FitLaws.{fits_replace}
 use Rattle.yq_ways.proofs.KeptLaws.{same_node}
 use Rattle.yq_ways.proofs.ReplaceLaws.{IsWrittenFor, scalar_for, written_for}
 use Rattle.yq_ways.proofs.SamePlaceLaws.{put_own, nth_own, change_own}
@@ -295,34 +291,6 @@ module _ (doc : ℕ) (s : Step) (ss : List Step) (c : Cut) (w : ScalarPlace) (h 
       subst (λ q. ReadsAfter (replace doc (s ∷ ss) v) c (new_text q)) m.2
       (line_reads doc s ss c w h v n m.0 (line_for text v m.0 tree deep long m.1) there' may (subst (λ q. length (new_text q) ≤ text_limit) (sym m.2) size))
 
--- an operation that fits, on the document of a block scalar
-pub record FitsScalar (doc : ℕ) (steps : List Step) (v : Node) (c : Cut) (d : Part) : Type 0 where
-  pub node : Node
-  pub there : node_at steps (root_of d) ≡ Some node
-  pub known : node_in doc steps c ≡ Some node
-  pub may : Rattle.yq_change.specs.SoundRoots.MayReplace v node (root_of d) (length steps)
-  pub long : has_long_key v ≡ false
-  pub deep : depth v ≤ depth_limit
-
-same_document : {d g : Document} → Some d ≡ Some g → d ≡ g
-same_document e = cc
-
-pub scalar_fits : (doc : ℕ) (steps : List Step) (v : Node) (c : Cut) (d : Part) → slice_get (document_parts c) doc ≡ Some d → IsValueTree v → Fits (room_of (cut_text c)) (replace doc steps v) (documents c) → FitsScalar doc steps v c d
-scalar_fits doc steps v c d at tree fits =
-    let same : reading.document_of d ≡ fits.0 = same_document (sym (nth_map doc d reading.document_of (document_parts c) at) ∙ fits.1) in
-    let root : root_of d ≡ fits.0.root = ap (λ (y : Document). y.root) same in
-    let n : Node = fits.2.1.0 in
-    let used : is_used_inside (names_of (root_of d)) (Some n) ≡ false = ap (λ y. is_used_inside (names_of y) (Some n)) root ∙ fits.2.1.2 in
-    let new : IsNewValue v (length steps) = new_value (length steps) v tree (tree_unique v fits.2.0.0) fits.2.0.2 in
-    record {
-      node = n;
-      there = ap (node_at steps) root ∙ fits.2.1.1;
-      known = ap (λ (o : Option Document). o >>= λ d. node_at steps d.root) fits.1 ∙ fits.2.1.1;
-      may = record { value_is = new; spared = inside_spared (names_of (root_of d)) n used };
-      long = fits.2.0.1;
-      deep = omega (arith, new.nested);
-    }
-
 way_old : (doc : ℕ) (steps : List Step) (v : Node) (c : Cut) (qs : List Segment) → read_at (cut_text c) ≡ Some c → scalar_line_way (replace doc steps v) c ≡ Some qs → old_text qs ≡ cut_text c
 unfolding scalar_line_way
 way_old doc steps v c qs read is =
@@ -337,7 +305,7 @@ way_reads doc steps v c qs read is tree fits size =
     let x = bind_some (scalar_place doc steps c) is in
     let k = scalar_has doc steps c x.0 read x.1 in
     let y : HasScalar doc k.0 k.1 c x.0 = k.3 in
-    let f = scalar_fits doc steps v c (p doc k.0 k.1 c x.0 y) y.old.there tree fits in
+    let f = fits_replace doc steps v c (p doc k.0 k.1 c x.0 y) y.old.there tree fits in
     subst (λ q. ReadsAfter (replace doc q v) c (new_text qs)) (sym k.2)
     (line_done doc k.0 k.1 c x.0 y (is_kept (node_in doc steps c) v) (has_text (node_in doc steps c)) v f.node qs tree f.deep f.long (ap (λ q. node_at q (root_of (p doc k.0 k.1 c x.0 y))) (sym k.2) ∙ f.there)
     (subst (λ q. Rattle.yq_change.specs.SoundRoots.MayReplace v f.node (root_of (p doc k.0 k.1 c x.0 y)) (length q)) k.2 f.may) (sym (ap (λ o. is_kept o v) f.known))

@@ -64,7 +64,8 @@ use Rattle.yq_block_ways.specs.ScalarLiteral.{literal_text, literal_segments, li
 use Rattle.yq_block_ways.specs.ScalarReplacing.{has_text, holds_text}
 use Rattle.yq_ways.specs.Ways.{IsWay, ReadsAfter}
 use Rattle.yq_ways.proofs.CommentPieceLaws.{break_piece, byte_then, front_piece, no_return, nothing, spaces_piece, text_piece}
-use Rattle.yq_block_ways.proofs.ScalarLineLaws.{block_begins, mark_is, same_old, scalar_fits}
+use Rattle.yq_ways.proofs.FitLaws.{fits_replace}
+use Rattle.yq_block_ways.proofs.ScalarLineLaws.{block_begins, mark_is, same_old}
 use Rattle.yq_block_ways.proofs.ScalarRowLaws.{HasScalar, scalar_has, p, front, r, back, rest, entry, node_there, valid, TakesScalar, part_with, text_with, scalar_reads}
 use Rattle.yq_block_ways.proofs.ScalarTextLaws.{there, there_is, row_is, front_text, head_is_piece, own_tail_piece, rest_piece}
 
@@ -366,7 +367,7 @@ way_reads doc steps v c qs read is tree' fits size =
     let x = bind_some (scalar_place doc steps c) is in
     let k = scalar_has doc steps c x.0 read x.1 in
     let y : HasScalar doc k.0 k.1 c x.0 = k.3 in
-    let f = scalar_fits doc steps v c (p doc k.0 k.1 c x.0 y) y.old.there tree' fits in
+    let f = fits_replace doc steps v c (p doc k.0 k.1 c x.0 y) y.old.there tree' fits in
     subst (λ q. ReadsAfter (replace doc q v) c (new_text qs)) (sym k.2)
     (literal_done doc k.0 k.1 c x.0 y (has_text (node_in doc steps c)) (first_break (cut_text c)) v f.node qs tree' (sym (ap has_text f.known))
     (ap (λ q. node_at q (root_of (p doc k.0 k.1 c x.0 y))) (sym k.2) ∙ f.there) (subst (λ q. MayReplace v f.node (root_of (p doc k.0 k.1 c x.0 y)) (length q)) k.2 f.may)

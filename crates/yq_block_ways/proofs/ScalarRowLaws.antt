@@ -24,6 +24,7 @@ use Rattle.yq_rows.specs.Seams.{TakesPlace}
 use Rattle.yq_rows.proofs.ExchangeLaws.{one_row}
 use Rattle.yq_rows.proofs.PlaceLaws.{row_front-append}
 use Rattle.yq_rows.proofs.seams.SeamLaws.{rows_text-append}
+use Rattle.yq_rows.proofs.splices.SpliceTexts.{own_gap, own_end}
 use Rattle.yq_documents.specs.Documents.{ContentHasFitKeys, document_parts, is_long_plain, lead_of}
 use Rattle.yq_documents.specs.Lines.{block_anchor, content_anchor, head_of, mark_line, tail_of, lines_of}
 use Rattle.yq_tree.specs.PlacedRows.{PlacedRow, placed_row, row_of_path}
@@ -36,6 +37,7 @@ use Rattle.yq_tree.proofs.PrintedTexts.{map_some, none_some}
 use Rattle.yq_tree.proofs.ReadLaws.{text_takes}
 use Rattle.yq_tree.proofs.RemovalTexts.{texts_then}
 use Rattle.yq_tree.proofs.RowPathLaws.{document_fine}
+use Rattle.yq_tree.proofs.RemovalLines.{front_some}
 use Rattle.yq_change.specs.Changed.{IsChanged, put_document}
 use Rattle.yq_change.specs.Contents.{recontent}
 use Rattle.yq_change.specs.DocumentRows.{IsDocumentPart}
@@ -47,7 +49,7 @@ use Rattle.yq_change.proofs.InlineReplaceLaws.{entry_mark, next_stands, own_rows
 use Rattle.yq_change.proofs.LeadLaws.{same_lead_goes}
 use Rattle.yq_change.proofs.LineLaws.{above_mark, dashes_count}
 use Rattle.yq_change.proofs.NodeLineLaws.{under_even}
-use Rattle.yq_change.proofs.PartLaws.{document_known, end_stays, gap_stays, some_behind}
+use Rattle.yq_change.proofs.PartLaws.{document_known}
 use Rattle.yq_change.proofs.PathLaws.{seat_number}
 use Rattle.yq_change.proofs.PlacedLaws.{same_parts, whole_line}
 use Rattle.yq_change.proofs.RemarkLaws.{last_lines}
@@ -207,13 +209,13 @@ module _ (doc : ℕ) (s : Step) (ss : List Step) (c : Cut) (w : ScalarPlace) (h 
   part_with new = recontent front r back new p
 
   with_rows : (new : Content) → (part_with new).rows ≡ front ++ (with_content new r ∷ back)
-  with_rows new = ap (λ (rs : List Row). front ++ (with_content new r ∷ rs)) (gap_stays back p.end)
+  with_rows new = ap (λ (rs : List Row). front ++ (with_content new r ∷ rs)) (own_gap back p.end)
 
   pub text_with : (new : Content) → cut_text (put_document doc (part_with new) c) ≡ h.found.s.before ++ (rows_text front [] ++ (row_front r ++ content_text new rest))
   text_with new =
       h.found.stands.put (part_with new)
       ∙ ap (λ x. h.found.s.before ++ x)
-      ((λ i. rows_text (with_rows new i) (end_stays back p.end i ++ beyond))
+      ((λ i. rows_text (with_rows new i) (own_end back p.end i ++ beyond))
       ∙ (rows_text-append front (with_content new r ∷ back) (p.end ++ beyond)
       ∙ (ap (rows_text front) (row_front-append (with_content new r) rest) ∙ texts_then front [] (row_front r ++ content_text new rest))))
 
@@ -247,7 +249,7 @@ module _ (doc : ℕ) (s : Step) (ss : List Step) (c : Cut) (w : ScalarPlace) (h 
       document_done (replace doc (s ∷ ss) v) c p (part_with new) (lead_of p) (change (s ∷ ss) (replaced v)) (record {
         read = h.old.read;
         there = h.old.there;
-        rows = λ none. absurd (false≢true (sym (ap no_rows (with_rows new) ∙ some_behind front (with_content new r) back) ∙ none));
+        rows = λ none. absurd (false≢true (sym (ap no_rows (with_rows new) ∙ front_some front (with_content new r) back) ∙ none));
         changed = changed;
         root = ap (λ m. change (s ∷ ss) (replaced m) (root_of p)) (sym (led_below (Rattle.yq_change.specs.Rooms.is_block_root p) (lead_of p) v));
         lead_goes = same_lead_goes p (part_with new) kept.0 kept.1;

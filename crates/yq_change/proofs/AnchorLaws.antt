@@ -9,6 +9,7 @@ use Rattle.yq_lines.specs.Places.{Place, here, below, beside, lines_before, line
 use Rattle.yq_lines.proofs.Allowing as allowing
 use Rattle.yq_lines.proofs.Allowing.{Allows, IsCollection}
 use Rattle.yq_lines.proofs.Plug.{headless_entry}
+use Rattle.yq_lines.proofs.NameLaws.{each_front, each_back}
 use Rattle.yq_change.specs.Conditions.{last_anchor, BeginsEntry, AnchorsStay, LinesAmong, FitStays}
 use Rattle.yq_change.specs.Siblings.{IsEntry, NodeLines, under_line}
 use Rattle.yq_change.proofs.NodeLineLaws.{before_under, after_under, Under, lines_found, under_even}
@@ -25,19 +26,6 @@ free_longer (Some a) [] (k ∷ ys) h e = takes k.mark k.anchor k.head e
     takes Bare b n e = absurd e
     takes (Key x) b n e = tt
     takes Dash b n e = tt
-
-free_front : (a : Option (List ℕ)) (xs ys : List Line) → IsFree a (xs ++ ys) → IsFree a xs
-free_front None xs ys h = tt
-free_front (Some a) [] ys h = tt
-free_front (Some a) (l ∷ xs) ys h = h
-
-pub each_front : (xs ys : List Line) → HaveOneAnchorEach (xs ++ ys) → HaveOneAnchorEach xs
-each_front [] ys h = tt
-each_front (l ∷ xs) ys h = (free_front l.anchor xs ys h.0, each_front xs ys h.1)
-
-pub each_back : (xs ys : List Line) → HaveOneAnchorEach (xs ++ ys) → HaveOneAnchorEach ys
-each_back [] ys h = h
-each_back (l ∷ xs) ys h = each_back xs ys h.1
 
 each_join : (xs ys : List Line) → HaveOneAnchorEach xs → HaveOneAnchorEach ys → IsFree (last_anchor xs) ys → HaveOneAnchorEach (xs ++ ys)
 each_join [] ys h k f = k

@@ -25,6 +25,7 @@ use Rattle.yq_lines.specs.Outline.{row}
 use Rattle.yq_lines.specs.Places.{lines_before, lines_after}
 use Rattle.yq_documents.specs.Reading.{outline_of}
 use Rattle.yq_lines.proofs.Decides.{flatten-group}
+use Rattle.yq_rows.proofs.splices.SpliceTexts.{own_gap}
 use Rattle.yq_change.specs.Siblings.{HasEntries, put_lines}
 use Rattle.yq_change.proofs.AnchorLaws.{fit_parts, fit_from}
 use Rattle.yq_change.proofs.CollectionLaws.{appended}
@@ -37,7 +38,7 @@ use Rattle.yq_change.specs.LineRows.{Begins, StandApart, AreDeep}
 use Rattle.yq_change.specs.DocumentRows.{behind_document, part_number, RowsFit}
 use Rattle.yq_change.proofs.ApartLaws.{apart_skip, apart_deep, deep_less, even_deep, lines_apart, list_head}
 use Rattle.yq_change.proofs.ColumnLaws.{block_is_deeper, next_allowed}
-use Rattle.yq_change.proofs.PartLaws.{part_numbered, gap_stays, document_known, document_spliced, is_put, short_stays}
+use Rattle.yq_change.proofs.PartLaws.{part_numbered, document_known, document_spliced, is_put, short_stays}
 
 -- seams
 seam_of : (c : Content) (b : BlockText) (u : List ℕ) → block_of c ≡ Some b → ends_block (keeps b.chomping) b.indent (text_lines u) ≡ true → is_seam c u ≡ true
@@ -124,7 +125,7 @@ block_appended t c k p steps h front back new m l u old there_is size w takes te
     let parts =
     same_parts (lines_of front) [] (lines_of back) (lines_before h.place ++ flatten h.lines) [] (lines_after h.place) whole (size ∙ sym (length-append (lines_before h.place) (flatten h.lines))) refl in
     let some : no_rows front ≡ false = rows_with front (lines_before h.place) (flatten h.lines) parts.0 (block_lines h.lines there_is.block) in
-    let there : q.rows ≡ front ++ (new ++ back) = ap (λ (rs : List Row). front ++ (new ++ rs)) (gap_stays back p.end) in
+    let there : q.rows ≡ front ++ (new ++ back) = ap (λ (rs : List Row). front ++ (new ++ rs)) (own_gap back p.end) in
     let level_is = w.fits.level_is in
     let less = w.fits.deep in
     let above : h.above < n = deep.0 in

@@ -37,19 +37,21 @@ use Rattle.yq_change.specs.DocumentRows.{IsDocumentPart, behind_document, part_n
 use Rattle.yq_change.specs.Edited.{IsPut, LineFits}
 use Rattle.yq_change.specs.Moved.{dash_lines}
 use Rattle.yq_change.specs.SoundRoots.{MayReplace}
-use Rattle.yq_change.proofs.AnchorLaws.{each_back, fit_parts, fit_from}
+use Rattle.yq_change.proofs.AnchorLaws.{fit_parts, fit_from}
 use Rattle.yq_change.proofs.BlockChangeLaws.{node_replaced, root_replaced}
 use Rattle.yq_change.proofs.EditedLaws.{led_as}
 use Rattle.yq_change.proofs.FirstRowLaws.{short_first}
 use Rattle.yq_change.proofs.LineLaws.{above_mark, dashes_count}
 use Rattle.yq_change.proofs.NodeLineLaws.{low_level, under_even}
-use Rattle.yq_change.proofs.PartLaws.{document_known, gap_stays, is_put, part_numbered, part_rows, rows_put, take_front}
+use Rattle.yq_change.proofs.PartLaws.{document_known, is_put, part_numbered, part_rows, rows_put, take_front}
 use Rattle.yq_change.proofs.PlacedLaws.{same_parts, whole_line, line_placed}
 use Rattle.yq_change.proofs.RemarkLaws.{last_lines}
 use Rattle.yq_change.proofs.ReplaceLaws.{rows_before_some}
 use Rattle.yq_change.proofs.RowCommentLaws.{rows_behind, lead_content}
 use Rattle.yq_lines.proofs.Decides.{flatten-group}
 use Rattle.yq_lines.proofs.NodeLaws.{anchored_twice}
+use Rattle.yq_lines.proofs.NameLaws.{each_back}
+use Rattle.yq_rows.proofs.splices.SpliceTexts.{own_gap}
 
 -- ---- what a row spells, and its anchor
 
@@ -198,7 +200,7 @@ module _ (t : List ℕ) (c : Cut) (k : ℕ) (p : Part) (front : List Row) (r : R
   a = lines_of front ++ dash_lines (head_comment r.gap) r.column r.dashes
 
   there : q.rows ≡ front ++ (with_content new r ∷ back)
-  there = ap (λ (rs : List Row). front ++ (with_content new r ∷ rs)) (gap_stays back p.end)
+  there = ap (λ (rs : List Row). front ++ (with_content new r ∷ rs)) (own_gap back p.end)
 
   is_it : IsPut t c k p q
   is_it =

@@ -1,8 +1,7 @@
 -- Texts with other lines in one document.
 use Rattle.std.proofs.Common.{◌≡◌, ℕ, zero, suc, ◌≤◌, List, [], ◌∷◌, ◌++◌, Option, Some, None, true, refl, sym, ap, ◌∙◌, subst, append_assoc, arith}
-use Rattle.std.proofs.lemmas.Bool.{and_parts}
 use Rattle.std.specs.Prelude.{map as each_of}
-use Rattle.std.specs.List.{slice_get, list_all}
+use Rattle.std.specs.List.{slice_get}
 use Rattle.yq_scalar.specs.Keys.{HasUniqueKeys, depth}
 use Rattle.yq_inline.specs.Inline.{depth_limit}
 use Rattle.yq_scalar.specs.Paths.{Step, append_child, change, node_at, relabel_child, remove_child, within}
@@ -29,18 +28,20 @@ use Rattle.yq_lines.proofs.Plug.{allows_from}
 use Rattle.yq_tree.proofs.ReadLaws.{text_takes}
 use Rattle.yq_tree.proofs.RowPathLaws.{document_fine}
 use Rattle.yq_lines.proofs.Values.{same_rank, same_entry}
+use Rattle.yq_lines.proofs.NameLaws.{each_front, each_back}
 use Rattle.yq_change.specs.Changed.{changed, IsChanged, put_document, first_comment}
 use Rattle.yq_change.specs.Conditions.{last_anchor, BeginsEntry}
 use Rattle.yq_change.specs.Edited.{IsPut, OldIsEven, OldIsSound, LinesAreThere, LineExchanged, LinesExchanged, LinesAppended, LinesRemoved, LineRelabelled, LeadStays, LeadIsAbove}
 use Rattle.yq_change.specs.Edited.{first_above, RootHasLead, RootKeeps, with_root, LeadKept}
 use Rattle.yq_change.specs.SoundRoots.{IsSoundRoot}
 use Rattle.yq_change.specs.Siblings.{append_outline, IsEntry, HasEntries, NodeLines, put_lines, StandsSomewhere}
-use Rattle.yq_change.proofs.AnchorLaws.{any_free, anchors_stay, after_anew, both_anew, collection_anew, each_front, each_back, lines_among}
+use Rattle.yq_change.proofs.AnchorLaws.{any_free, anchors_stay, after_anew, both_anew, collection_anew, lines_among}
 use Rattle.yq_change.proofs.ChangedLaws.{document_changed, lead_is_first}
 use Rattle.yq_change.proofs.CollectionLaws.{Splits, some_at, level_mark, appended, removed, relabelled}
 use Rattle.yq_change.proofs.NodeLineLaws.{Under, lines_found, lines_even, lines_replaced, unanchored}
 use Rattle.yq_change.proofs.SiblingLaws.{entry_out, entries, even_right, next, rest_entries}
 use Rattle.yq_documents.specs.TreeEdits.{change_nth, headed}
+use Rattle.yq_change.proofs.PartLaws.{all_at}
 
 -- What is known of a part that is a document.
 pub record Known (p : Part) : Type 0 where
@@ -48,17 +49,6 @@ pub record Known (p : Part) : Type 0 where
   pub lines : flatten (outline_of p) ≡ lines_of p.rows
   pub each : HaveOneAnchorEach (lines_of p.rows)
   pub sound : IsSoundRoot (root_of p)
-
-all_at : (ps : List Part) (k : ℕ) (p : Part) → list_all is_document ps ≡ true → slice_get ps k ≡ Some p → is_document p ≡ true
-all_at [] k p e h = absurd (none_some h)
-  where
-    none_some : {x : Part} → None ≡ Some x → ⊥
-    none_some e = cc
-all_at (x ∷ ps) zero p e h = ap is_document (sym (same h)) ∙ (and_parts (is_document x) (list_all is_document ps) e).0
-  where
-    same : {x y : Part} → Some x ≡ Some y → x ≡ y
-    same e = cc
-all_at (x ∷ ps) (suc k) p e h = all_at ps k p (and_parts (is_document x) (list_all is_document ps) e).1 h
 
 pub known : (t : List ℕ) (c : Cut) (k : ℕ) (p q : Part) → IsPut t c k p q → Known p
 unfolding read_at

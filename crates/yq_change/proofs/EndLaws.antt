@@ -1,7 +1,7 @@
 -- One item or entry more at the end of a text without a final break.
-use Rattle.std.proofs.Common.{◌≡◌, inl, inr, ℕ, suc, ◌+◌, ◌≤◌, ℤ, List, [], ◌∷◌, ◌++◌, length, drop, eqb, ◌&&◌, Option, Some, None, true, false, cond, refl, sym, ap, ◌∙◌, subst}
-use Rattle.std.proofs.Common.{arith, ⊎_elim, append_assoc, append-nil, length-append, eqb-true}
-use Rattle.std.proofs.lemmas.Bool.{false≢true, false_from_ne_true, cond-true, cond-false}
+use Rattle.std.proofs.Common.{◌≡◌, inl, inr, ℕ, suc, ◌+◌, ◌≤◌, List, [], ◌∷◌, ◌++◌, length, drop, eqb, ◌&&◌, Option, Some, None, true, false, cond, refl, sym, ap, ◌∙◌, subst}
+use Rattle.std.proofs.Common.{arith, ⊎_elim, append_assoc, append-nil, length-append}
+use Rattle.std.proofs.lemmas.Bool.{false≢true, cond-true, cond-false}
 use Rattle.std.specs.List.{list_all}
 use Rattle.std.specs.Str.{chars}
 use Rattle.yq_scalar.specs.Characters.{is_text, is_text_char, pairs_returns, text_limit}
@@ -9,12 +9,10 @@ use Rattle.yq_scalar.specs.Lines.{is_hash}
 use Rattle.yq_scalar.specs.Text.{NoneIn, cut, ends_line, is_break, is_feed, is_line, is_return, no_white, past_white}
 use Rattle.yq_scalar.proofs.Bools.{and_true, or_false}
 use Rattle.yq_scalar.proofs.Upto.{cut-append}
-use Rattle.yq_inline.specs.Nodes.{node_text}
-use Rattle.yq_inline.proofs.WrittenLaws.{node_then}
 use Rattle.yq_lines.specs.Comments.{comment_text, head_comment, less_space, line_comment}
 use Rattle.yq_rows.specs.Exchange.{row_front}
 use Rattle.yq_rows.specs.Gap.{IsBreak, IsComment, IsWhite}
-use Rattle.yq_rows.specs.Grammar.{Limit, IsContent, IsTail, unlimited, AreRows, IsCut, no_rows}
+use Rattle.yq_rows.specs.Grammar.{Limit, IsTail, unlimited, AreRows, IsCut, no_rows}
 use Rattle.yq_rows.specs.Rows.{Content, Nothing, Inline, Block, Row, content_text, mark_column, parent_indent, print_row, rows_text, Part, Cut, cut_text}
 use Rattle.yq_rows.specs.Splices.{before_rows, behind_part, nth_part, splice}
 use Rattle.yq_rows.specs.Appending.{closed_by}
@@ -27,7 +25,7 @@ use Rattle.yq_rows.proofs.PlaceLaws.{row_front-append}
 use Rattle.yq_rows.proofs.seams.ScalarSeams.{ends_return}
 use Rattle.yq_rows.proofs.seams.SeamLaws.{line_by_break, rows_drop}
 use Rattle.yq_rows.proofs.splices.PartPlaces.{part_in}
-use Rattle.yq_rows.proofs.seams.TailLaws.{return_then}
+use Rattle.yq_rows.proofs.seams.TailLaws.{comment_closed, no_end_return, content_tail, tail_pairs}
 use Rattle.yq_documents.specs.Documents.{HaveFitKeys, HasShortRoot}
 use Rattle.yq_lines.specs.Group.{level_or}
 use Rattle.yq_documents.specs.Lines.{mark_line, lines_of}
@@ -38,6 +36,8 @@ use Rattle.yq_lines.specs.Places.{lines_before, lines_after}
 use Rattle.yq_documents.specs.Reading.{outline_of}
 use Rattle.yq_tree.specs.RowPaths.{IsReadable}
 use Rattle.yq_lines.proofs.Decides.{flatten-group}
+use Rattle.yq_lines.proofs.HeadLaws.{end_no_hash}
+use Rattle.yq_tree.proofs.RemovalLines.{front_some}
 use Rattle.yq_change.specs.Changed.{put_document}
 use Rattle.yq_change.specs.Moved.{dash_lines}
 use Rattle.yq_change.specs.Siblings.{put_lines}
@@ -50,17 +50,13 @@ use Rattle.yq_change.specs.Ends.{TakesRowsLast, closed_with, EndAppended}
 use Rattle.yq_change.specs.DocumentRows.{IsDocumentPart, behind_document, part_number}
 use Rattle.yq_change.proofs.AppendLaws.{around}
 use Rattle.yq_change.proofs.LineLaws.{above_mark}
-use Rattle.yq_change.proofs.PartLaws.{part_numbered, rows_put, document_known, is_put, some_behind, drop_front}
+use Rattle.yq_change.proofs.PartLaws.{part_numbered, rows_put, document_known, is_put, drop_front}
 use Rattle.yq_change.proofs.RemarkLaws.{fit_retail, short_retail, last_lines}
 
 -- the comment of a line's end
 abbrev pub told : List ℕ → Option (List ℕ)
 told [] = None
 told (b ∷ cs) = Some (less_space cs)
-
-end_no_hash : (t : List ℕ) → ends_line t ≡ true → is_hash t ≡ false
-end_no_hash [] h = refl
-end_no_hash (b ∷ t) h = false_from_ne_true (eqb b 35) (λ e. let is : b ≡ 35 = eqb-true b 35 e in false≢true (subst (λ (x : ℕ). ends_line (x ∷ t) ≡ true) is h))
 
 break_ends : (break : List ℕ) → IsBreak break [] → ends_line break ≡ true
 break_ends break e = ap ends_line (sym (append-nil break)) ∙ (behind_comment [] break [] tt e).2
@@ -84,16 +80,6 @@ none_closed b [] break h e =
     (rw (f.0, e) refl, tt)
 none_closed b (c ∷ p) break h e = (h.0, none_closed c p break h.1 e)
 
-comment_closed : (c break : List ℕ) → IsComment c [] → ends_return c ≡ false → IsComment c break
-comment_closed [] break h e = tt
-comment_closed (b ∷ []) break h e = (h.0, tt)
-comment_closed (b ∷ (c ∷ bs)) break h e = (h.0, none_closed c bs break h.1 e)
-
-no_end_return : (p : List ℕ) → pairs_returns p ≡ true → ends_return p ≡ false
-no_end_return p h = false_from_ne_true (ends_return p) (λ e.
-    let whole : pairs_returns (p ++ []) ≡ true = ap pairs_returns (append-nil p) ∙ h in
-    let feed = return_then p [] whole e in false≢true feed)
-
 -- A tail that gets a break has the same comment.
 pub comment_stays : (tail break : List ℕ) → (is_break break && is_line break) ≡ true → is_line tail ≡ false → pairs_returns tail ≡ true → IsTail tail [] →
     line_comment (tail ++ break) ≡ line_comment tail
@@ -107,16 +93,6 @@ comment_stays tail break b bare pairs h = ⊎_elim {0, 0, 0}
     ∙ (comment_is h.white h.comment break h.line.blank (comment_closed h.comment break remark none) (inl b)
     ∙ sym (ap comment_text (is ∙ ap (λ l. h.white ++ l) (sym (append-nil h.comment))) ∙ comment_is h.white h.comment [] h.line.blank remark (inr (refl, refl)))))
     h.line.ends
-
-content_tail : (n : ℤ) (c : Content) (t : List ℕ) → is_block c ≡ false → IsContent n c t → IsTail (tail_behind c) t
-content_tail n (Nothing tail) t b h = h
-content_tail n (Inline space node tail) t b h = h.2
-content_tail n (Block space anchor block) t b h = absurd (false≢true (sym b))
-
-tail_pairs : (c : Content) (t : List ℕ) → is_block c ≡ false → pairs_returns (content_text c t) ≡ true → pairs_returns (tail_behind c ++ t) ≡ true
-tail_pairs (Nothing tail) t b h = h
-tail_pairs (Inline space node tail) t b h = pairs_back (node_text node []) (tail ++ t) (ap pairs_returns (sym (node_then node (tail ++ t))) ∙ pairs_back space (node_text node (tail ++ t)) h)
-tail_pairs (Block space anchor block) t b h = absurd (false≢true (sym b))
 
 -- the line of a row that gets a break
 line_stays : (above : List (List ℕ)) (column : ℕ) (mark : Rattle.yq_rows.specs.Rows.Mark) (c : Content) (tail : List ℕ) → is_block c ≡ false → line_comment tail ≡ line_comment (tail_behind c) →
@@ -190,7 +166,7 @@ end_of_text_appended t c k p steps h front new r break m l u old there_is size w
     fit_parts (front ++ (closed_by break r ∷ [])) [] (subst HaveFitKeys (sym (append-nil (front ++ (closed_by break r ∷ [])))) (fit_retail front r [] tail (subst HaveFitKeys takes.rows_are known.document.keys))) in
     let fit : HaveFitKeys q.rows = subst HaveFitKeys (append_assoc front (closed_by break r ∷ []) new ∙ sym there) (fit_from (front ++ (closed_by break r ∷ [])) new keys.0 w.keys) in
     let short : HasShortRoot q.rows = subst HasShortRoot (sym there) (first front (short_retail front r [] tail (subst HasShortRoot takes.rows_are known.document.short))) in
-    let put = is_put t c k p q old (ap no_rows there ∙ some_behind front (closed_by break r) new) text cut fit short in
+    let put = is_put t c k p q old (ap no_rows there ∙ front_some front (closed_by break r) new) text cut fit short in
     entry_appended t c k p q steps h m l u put there_is w.fits w.anchors lines w.value_is w.key
   where
     first : (front : List Row) → HasShortRoot (front ++ (closed_by break r ∷ [])) → HasShortRoot (front ++ (closed_by break r ∷ new))

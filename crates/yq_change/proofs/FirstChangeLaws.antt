@@ -12,6 +12,7 @@ use Rattle.yq_rows.proofs.GapLaws.{gap_again, gap_stop}
 use Rattle.yq_rows.proofs.MarkLaws.{spaces_again}
 use Rattle.yq_rows.proofs.RowAgain.{row_no_gap, row_starts}
 use Rattle.yq_rows.proofs.seams.SeamLaws.{rows_text-append}
+use Rattle.yq_rows.proofs.splices.SpliceTexts.{own_gap, own_end}
 use Rattle.yq_documents.specs.Documents.{lead_of}
 use Rattle.yq_tree.specs.FirstPlaces.{are_spaces, less_spaces}
 use Rattle.yq_documents.specs.Lines.{lines_from, lines_of}
@@ -29,14 +30,14 @@ use Rattle.yq_change.specs.Siblings.{HasEntries, IsEntryAt, NodeLines}
 use Rattle.yq_change.proofs.FirstBreakLaws.{IsOneBreak, break_apart, break_bare, break_tail}
 use Rattle.yq_change.proofs.FirstReplaceLaws.{MovedFits, dashes_both, dropped_replaces, moved_replaces}
 use Rattle.yq_change.proofs.FirstRowLaws.{first_row_dropped, first_row_moved}
-use Rattle.yq_change.proofs.PartLaws.{document_known, end_stays, gap_stays, part_rows}
+use Rattle.yq_change.proofs.PartLaws.{document_known, part_rows}
 
 -- ---- the text of rows of which one is new
 
 pub inserted_text : (front back : List Row) (new : Row) (p : Part) (rest : List ℕ) →
     part_text (inserted front (new ∷ []) back p) rest ≡ rows_text front (print_row new (rows_text back (p.end ++ rest)))
 inserted_text front back new p rest =
-    (λ i. rows_text (front ++ (new ∷ gap_stays back p.end i)) (end_stays back p.end i ++ rest)) ∙ rows_text-append front (new ∷ back) (p.end ++ rest)
+    (λ i. rows_text (front ++ (new ∷ own_gap back p.end i)) (own_end back p.end i ++ rest)) ∙ rows_text-append front (new ∷ back) (p.end ++ rest)
 
 dashes_then : (ns t : List ℕ) → dashes_text ns t ≡ dashes_text ns [] ++ t
 dashes_then [] t = refl

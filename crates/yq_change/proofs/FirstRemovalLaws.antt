@@ -17,6 +17,7 @@ use Rattle.yq_rows.specs.Exchange.{asked_behind}
 use Rattle.yq_rows.specs.Grammar.{unlimited, AreRows, limit_after}
 use Rattle.yq_rows.specs.Rows.{Row, behind_columns, behind_indent, rows_text, Part, Cut, cut_text}
 use Rattle.yq_rows.proofs.NodePieces.{BeginsAscii, before_ascii}
+use Rattle.yq_rows.proofs.splices.SpliceTexts.{own_gap}
 use Rattle.yq_rows.specs.Reading.{begins_gap}
 use Rattle.yq_documents.specs.declared.path.Part.TheVariants.{Entry}
 use Rattle.yq_documents.specs.Documents.{begins_bare, has_begin, document_parts, lead_of}
@@ -47,7 +48,7 @@ use Rattle.yq_change.proofs.FirstOutLaws.{IsFirstOut, out_is, piece_stands}
 use Rattle.yq_change.proofs.FirstReplaceLaws.{rows_after}
 use Rattle.yq_change.proofs.FirstTextLaws.{FirstText, first_text}
 use Rattle.yq_change.proofs.OwnRowLaws.{lines_counted}
-use Rattle.yq_change.proofs.PartLaws.{document_known, gap_stays, part_rows}
+use Rattle.yq_change.proofs.PartLaws.{document_known, part_rows}
 use Rattle.yq_change.proofs.PathLaws.{path_is_entry}
 use Rattle.yq_change.proofs.PlaceTextLaws.{IsAround, around}
 use Rattle.yq_change.proofs.RemovalChangeLaws.{snoc, may_go, FirstEntry, first_group, group_begins, keeps, root_entries}
@@ -171,7 +172,7 @@ module _ (c : Cut) (k : ℕ) (y : Step) (ys ss : List Step) (s : Step) (x : Firs
       let old_first : FirstEntry (lines_of (fr.front ++ (r ∷ (fr.gone ++ (fr.next ∷ fr.back))))) =
       subst (λ (rs : List Row). FirstEntry (lines_of rs)) fr.rows_are (entries_first (lines_of p.rows) block) in
       let new_first : FirstEntry (lines_of n.rows) =
-      subst (λ (rs : List Row). FirstEntry (lines_of (fr.front ++ (new ∷ rs)))) (sym (gap_stays back p.end))
+      subst (λ (rs : List Row). FirstEntry (lines_of (fr.front ++ (new ∷ rs)))) (sym (own_gap back p.end))
       (first_stays fr.front (r ∷ (fr.gone ++ (fr.next ∷ fr.back))) (new ∷ back) old_first first) in
       record {
         old = p;

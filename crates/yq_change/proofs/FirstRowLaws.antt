@@ -5,13 +5,14 @@ use Rattle.yq_rows.specs.Grammar.{AreDashes, no_rows}
 use Rattle.yq_rows.specs.Rows as rows
 use Rattle.yq_rows.specs.Rows.{Row, Part}
 use Rattle.yq_rows.specs.Splices.{first_gap}
+use Rattle.yq_rows.proofs.splices.SpliceTexts.{own_gap}
 use Rattle.yq_documents.specs.Documents.{HaveFitKeys, HasShortRoot, is_long_plain}
 use Rattle.yq_change.specs.Appends.{inserted}
 use Rattle.yq_change.specs.Moved.{emptied, moved_up}
 use Rattle.yq_change.specs.Replaces.{FirstRowDropped, FirstRowMoved}
 use Rattle.yq_change.proofs.AnchorLaws.{fit_parts, fit_from}
 use Rattle.yq_change.proofs.BlockChangeLaws.{first_dropped, first_removed}
-use Rattle.yq_change.proofs.PartLaws.{document_known, gap_stays, is_put}
+use Rattle.yq_change.proofs.PartLaws.{document_known, is_put}
 use Rattle.yq_change.proofs.ReplaceLaws.{document_replaced, rows_before_some}
 
 -- a row with dashes is an entry's, so no plain scalar alone
@@ -36,7 +37,7 @@ first_row_moved t c k p steps s h f front gone back r b n ns es old entry left r
     let known = document_known t c k p old in
     let new : Row = moved_up r (n ∷ ns) b in
     let q : Part = inserted front (new ∷ []) back p in
-    let there : q.rows ≡ front ++ (new ∷ back) = ap (λ (rs : List Row). front ++ (new ∷ rs)) (gap_stays back p.end) in
+    let there : q.rows ≡ front ++ (new ∷ back) = ap (λ (rs : List Row). front ++ (new ∷ rs)) (own_gap back p.end) in
     let was : p.rows ≡ front ++ (r ∷ (gone ++ (b ∷ back))) = replaces.rows_are ∙ ap (λ (rs : List Row). front ++ rs) (split_rows r b gone back) in
     let cut = document_replaced t c k p front (r ∷ (gone ++ (b ∷ []))) back (new ∷ []) (first_gap back p.end) old replaces text in
     let keys = fit_parts front (r ∷ (gone ++ (b ∷ back))) (subst HaveFitKeys was known.document.keys) in
@@ -56,7 +57,7 @@ first_row_dropped t c k p steps s h f front gone back r n ns es tail old entry l
     let known = document_known t c k p old in
     let new : Row = emptied r ns tail in
     let q : Part = inserted front (new ∷ []) back p in
-    let there : q.rows ≡ front ++ (new ∷ back) = ap (λ (rs : List Row). front ++ (new ∷ rs)) (gap_stays back p.end) in
+    let there : q.rows ≡ front ++ (new ∷ back) = ap (λ (rs : List Row). front ++ (new ∷ rs)) (own_gap back p.end) in
     let cut = document_replaced t c k p front (r ∷ gone) back (new ∷ []) (first_gap back p.end) old replaces text in
     let keys = fit_parts front (r ∷ (gone ++ back)) (subst HaveFitKeys replaces.rows_are known.document.keys) in
     let fit : HaveFitKeys (front ++ (new ∷ back)) = fit_from front (new ∷ back) keys.0 (emptied_fit r gone back ns tail keys.1) in

@@ -12,13 +12,14 @@ use Rattle.yq_flow.specs.Removals.{drop_item, drop_last, ends_marked, gap_of, ga
 use Rattle.yq_inline.specs.Trees.{inner, key_content}
 use Rattle.yq_rows.specs.Exchange.{with_content}
 use Rattle.yq_rows.specs.Rows.{Content, Inline, Row, Part}
+use Rattle.yq_rows.proofs.splices.SpliceTexts.{own_gap}
 use Rattle.yq_documents.specs.Documents.{ContentHasFitKeys, EachHasFitKeys, HasFitKeys, HaveFitKeys}
 use Rattle.yq_documents.specs.Lines.{head_of}
 use Rattle.yq_change.specs.FlowKept.{with_items, FlowRooms, FlowKeys, LeftKeys}
 use Rattle.yq_change.specs.Rooms.{row_shape}
 use Rattle.yq_change.proofs.AnchorLaws.{fit_parts}
 use Rattle.yq_change.proofs.FlowRowLaws.{node_holds}
-use Rattle.yq_change.proofs.PartLaws.{document_known, gap_stays}
+use Rattle.yq_change.proofs.PartLaws.{document_known}
 use Rattle.yq_change.proofs.RowCommentLaws.{lead_content}
 use Rattle.yq_change.proofs.ShapeLaws.{shape_tells}
 
@@ -95,7 +96,7 @@ flow_rooms c k p steps f rest i w gap is at =
     let q : Part = with_items p i rest gap is in
     let holds = node_holds rest i.node _ w gap is at.along in
     let b : Row = with_content (Inline i.space (put_at rest gap is i.node) i.tail) i.row in
-    let there : q.rows ≡ i.front ++ (b ∷ i.back) = ap (λ (rs : List Row). i.front ++ (b ∷ rs)) (gap_stays i.back p.end) in
+    let there : q.rows ≡ i.front ++ (b ∷ i.back) = ap (λ (rs : List Row). i.front ++ (b ∷ rs)) (own_gap i.back p.end) in
     let headed : is_some (head_of b.content) ≡ is_some (head_of i.row.content) =
     ap is_some holds.head.1 ∙ (sym (ap is_some holds.old_head.1) ∙ sym (ap (λ (x : Content). is_some (head_of x)) at.content_is)) in
     let shape : row_shape b ≡ row_shape i.row = λ j. record { column = i.row.column; dashes = i.row.dashes; mark = i.row.mark; headed = headed j } in

@@ -30,6 +30,7 @@ use Rattle.yq_change.proofs.AnchorLaws.{lines_among}
 use Rattle.yq_change.proofs.EditedLaws.{known, lines_exchanged, lead_from, led_as}
 use Rattle.yq_change.proofs.FlowChangeLaws.{NoNewAlias, changed_head, free_before, other_head, none_under}
 use Rattle.yq_change.proofs.NodeLineLaws.{low_level, under_even}
+use Rattle.yq_change.proofs.ContentLaws.{free_alone}
 
 -- The line is that of an item or entry, or steps go on in its head.
 record InEntry (steps : List Step) (o : Outline) (f : Found) (rest : List Step) : Type 0 where
@@ -140,10 +141,6 @@ bare_after Bare (Some x) (row l u a) e w = absurd w
 bare_after (Key j) h o e w = absurd (cc)
 bare_after Dash h o e w = absurd (cc)
 
-none_free : (a : Option (List ℕ)) → IsFree a []
-none_free None = tt
-none_free (Some a) = tt
-
 whole_end : (k : Mark) (m : Node) → IsWhole k (Some m) end
 whole_end Bare m = tt
 whole_end (Key j) m = tt
@@ -182,7 +179,7 @@ line_changed t c k p q steps rest f n m h put on head new is lines sound =
       even = (old.0, tt, whole_end l.mark m, (suc on.even.0, omega arith, tt), tt);
       node_is = ap (anchored a.anchor) made ∙ (anchored-within a.anchor h (anchored l.anchor n) ∙ ap (λ x. within h (anchored a.anchor x)) (sym node));
     })
-    (record { each = (none_free l.anchor, tt); free = subst (λ b. IsFree b (other ∷ [])) among.1 free }) news sound)
+    (record { each = (free_alone l.anchor, tt); free = subst (λ b. IsFree b (other ∷ [])) among.1 free }) news sound)
 
 -- the line at a path with another head
 pub flow_line_changed : (t : List ℕ) (c : Cut) (k : ℕ) (p q : Part) (steps rest : List Step) (f : Found) (n m : Node) (h : Children → Children) → IsPut t c k p q →

@@ -17,6 +17,7 @@ use Rattle.yq_rows.specs.Rows.{Content, Nothing, Inline, Block, Row, content_tex
 use Rattle.yq_rows.specs.Splices.{behind_part}
 use Rattle.yq_rows.specs.View.{rows_of}
 use Rattle.yq_rows.proofs.PlaceLaws.{place, new_place}
+use Rattle.yq_rows.proofs.splices.SpliceTexts.{own_gap, own_end}
 use Rattle.yq_documents.specs.Documents.{begins_bare, document_parts, has_begin, parts_from}
 use Rattle.yq_tree.specs.FlowNodes.{content_flow, find_head}
 use Rattle.yq_documents.specs.Lines.{lines_of}
@@ -29,7 +30,7 @@ use Rattle.yq_change.specs.DocumentRows.{behind_document, number_from}
 use Rattle.yq_change.specs.FlowRows.{InlineRow, FlowFound, RowTexts}
 use Rattle.yq_change.proofs.FlowLineLaws.{head_takes, head_whole}
 use Rattle.yq_change.proofs.LineLaws.{seat_splits}
-use Rattle.yq_change.proofs.PartLaws.{document_known, end_stays, gap_stays}
+use Rattle.yq_change.proofs.PartLaws.{document_known}
 
 -- ---- a row among rows
 
@@ -62,8 +63,8 @@ pub record InCut (is : Bool) (k : ℕ) (c : Cut) (p : Part) (front : List Row) (
 part_content : (front : List Row) (r : Row) (back : List Row) (end : List ℕ) (x : Content) →
     record { rows = with_content_at (length front) x (front ++ (r ∷ back)); end = end } ≡ inserted front (with_content x r ∷ []) back (record { rows = front ++ (r ∷ back); end = end })
 part_content front r back end x = λ i. record {
-  rows = (content_there front r back x ∙ ap (λ (rs : List Row). front ++ (with_content x r ∷ rs)) (sym (gap_stays back end))) i;
-  end = sym (end_stays back end) i;
+  rows = (content_there front r back x ∙ ap (λ (rs : List Row). front ++ (with_content x r ∷ rs)) (sym (own_gap back end))) i;
+  end = sym (own_end back end) i;
 }
 
 last_row : (front : List Row) (r : Row) (back : List Row) (end : List ℕ) → InCut true zero (last (record { rows = front ++ (r ∷ back); end = end })) (record { rows = front ++ (r ∷ back); end = end }) front r back

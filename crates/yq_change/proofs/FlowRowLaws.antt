@@ -32,10 +32,12 @@ use Rattle.yq_rows.proofs.AlikeRows.{dashes_text_alike}
 use Rattle.yq_rows.proofs.ExchangeLaws.{mark_kept}
 use Rattle.yq_rows.proofs.RowPlaces.{takes_place}
 use Rattle.yq_rows.proofs.seams.SeamLaws.{rows_drop}
+use Rattle.yq_rows.proofs.splices.SpliceTexts.{own_gap}
 use Rattle.yq_documents.specs.Documents.{HaveFitKeys, HasShortRoot, is_long_plain}
 use Rattle.yq_documents.specs.Lines.{mark_line, lines_of}
 use Rattle.yq_documents.specs.Reading.{outline_of}
 use Rattle.yq_tree.proofs.FlowPieces.{named_is, none_anchored, twice}
+use Rattle.yq_tree.proofs.RemovalLines.{front_some}
 use Rattle.yq_change.specs.DocumentRows.{Known, behind_document}
 use Rattle.yq_change.specs.FlowChanges.{with_head}
 use Rattle.yq_change.specs.FlowRows.{InlineRow, coll_at, with_node, IsFlowAt, FlowStands, FlowEdited}
@@ -46,7 +48,7 @@ use Rattle.yq_change.proofs.FirstRowLaws.{short_first}
 use Rattle.yq_change.proofs.FlowChangeLaws.{none_under}
 use Rattle.yq_change.proofs.FlowLineLaws.{head_whole, flow_line_changed}
 use Rattle.yq_change.proofs.LineLaws.{above_mark, dashes_count}
-use Rattle.yq_change.proofs.PartLaws.{document_known, drop_front, take_front, gap_stays, is_put, part_rows, some_behind}
+use Rattle.yq_change.proofs.PartLaws.{document_known, drop_front, take_front, is_put, part_rows}
 use Rattle.yq_change.proofs.PlacedLaws.{same_parts}
 use Rattle.yq_change.proofs.RemarkLaws.{last_lines}
 use Rattle.yq_change.proofs.ReplaceLaws.{document_replaced}
@@ -197,7 +199,7 @@ line_is t c k p steps f rest i w n known at head =
     record {
       is = is;
       put = λ m.
-          ap (λ (rs : List Row). lines_of (i.front ++ (with_content (Inline i.space m i.tail) r ∷ rs))) (gap_stays i.back p.end)
+          ap (λ (rs : List Row). lines_of (i.front ++ (with_content (Inline i.space m i.tail) r ∷ rs))) (own_gap i.back p.end)
           ∙ (last_lines i.front r i.back (Inline i.space m i.tail)
           ∙ ((λ j. parts.0 j ++ (line (Inline i.space m i.tail) ∷ parts.2 j)) ∙ ap (λ (u : Outline). lines_before f.place ++ (line (Inline i.space m i.tail) ∷ (flatten u ++ tail))) under));
     }
@@ -216,12 +218,12 @@ flow_edited t c k p steps f rest i w e h old at edited keys sound text =
       takes = row_takes (asked_behind unlimited i.front) i m u (row_is t c k p i old at.rows_are) at.content_is holds edited.inline;
       next = plain_next (parent_indent r) i.space i.tail m i.back holds.plain;
     } in
-    let there : q.rows ≡ i.front ++ (b ∷ i.back) = ap (λ (rs : List Row). i.front ++ (b ∷ rs)) (gap_stays i.back p.end) in
+    let there : q.rows ≡ i.front ++ (b ∷ i.back) = ap (λ (rs : List Row). i.front ++ (b ∷ rs)) (own_gap i.back p.end) in
     let cut = document_replaced t c k p i.front (r ∷ []) i.back (b ∷ []) (first_gap i.back p.end) old (row_replaces t c k p i.front i.back r b old takes) text in
     let fits = fit_parts i.front (r ∷ i.back) (subst HaveFitKeys at.rows_are known.document.keys) in
     let fit : HaveFitKeys (i.front ++ (b ∷ i.back)) = fit_from i.front (b ∷ i.back) fits.0 (fits.1.0, keys, fits.1.2) in
     let short : HasShortRoot (i.front ++ (b ∷ i.back)) = short_first i.front i.back (r ∷ i.back) b (subst HasShortRoot at.rows_are known.document.short) (short_node r.mark i.space i.tail m holds.plain) in
-    let put = is_put t c k p q old (ap no_rows there ∙ some_behind i.front b i.back) text cut (subst HaveFitKeys (sym there) fit) (subst HasShortRoot (sym there) short) in
+    let put = is_put t c k p q old (ap no_rows there ∙ front_some i.front b i.back) text cut (subst HaveFitKeys (sym there) fit) (subst HasShortRoot (sym there) short) in
     let n = holds.old_head in
     let d = holds.head in
     let line = line_is t c k p steps f rest i w n.0 known at n.1 in

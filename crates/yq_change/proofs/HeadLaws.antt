@@ -50,9 +50,10 @@ use Rattle.yq_change.proofs.AppendLaws.{block_seam, no_block}
 use Rattle.yq_change.proofs.ColumnLaws.{apart_first, block_is_deeper, last_closed}
 use Rattle.yq_tree.proofs.RemovalTexts.{run_parts}
 use Rattle.yq_change.proofs.GapLaws.{none_before}
-use Rattle.yq_change.proofs.PartLaws.{part_numbered, document_known, document_spliced, is_put, some_behind as some_rows, take_front, drop_front}
+use Rattle.yq_change.proofs.PartLaws.{part_numbered, document_known, document_spliced, is_put, take_front, drop_front}
 use Rattle.yq_change.proofs.RemarkLaws.{one_line}
 use Rattle.yq_documents.specs.TreeEdits.{with_head_comment}
+use Rattle.yq_tree.proofs.RemovalLines.{front_some}
 
 -- a comment that begins in a column is less deep than the text of a block scalar that is deeper
 record First (n b : ℕ) (t : List ℕ) : Type 0 where
@@ -212,9 +213,9 @@ head_commented t c k p steps s h f front back r run old at takes size text =
       next = own.0.allowed;
       seam = run_seam front back r run p.end rest a part asked own takes.run_is (in_column (head_comment r.gap) r r.dashes) (λ b e. apart_first (lines_of front) a z (last_closed front b (a ∷ z) e closed));
     } in
-    let cut = document_spliced t c k p front [] (r ∷ back) [] gap old known.cut takes.rows_are (ap no_rows takes.rows_are ∙ some_rows front r back) fits text in
+    let cut = document_spliced t c k p front [] (r ∷ back) [] gap old known.cut takes.rows_are (ap no_rows takes.rows_are ∙ front_some front r back) fits text in
     let put =
-    is_put t c k p q old (some_rows front (record r { gap = gap }) back) text cut (fit_same front r back gap (subst HaveFitKeys takes.rows_are known.document.keys))
+    is_put t c k p q old (front_some front (record r { gap = gap }) back) text cut (fit_same front r back gap (subst HaveFitKeys takes.rows_are known.document.keys))
     (short_same front r back gap (subst HasShortRoot takes.rows_are known.document.short)) in
     let l = first_line (head_comment gap) r r.dashes in
     let one = one_line t c p steps s h f (lines_of front) a z known at olds size in

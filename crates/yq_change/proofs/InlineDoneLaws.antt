@@ -24,6 +24,7 @@ use Rattle.yq_rows.proofs.PlaceLaws.{row_front-append}
 use Rattle.yq_rows.proofs.seams.FrontSeams.{behind_row_some}
 use Rattle.yq_rows.proofs.seams.SeamLaws.{rows_text-append}
 use Rattle.yq_rows.proofs.splices.PartPlaces.{part_ends}
+use Rattle.yq_rows.proofs.splices.SpliceTexts.{own_gap, own_end}
 use Rattle.yq_documents.specs.Documents.{document_parts, lead_of}
 use Rattle.yq_tree.specs.InlinePlaces.{InlinePlace, mark_inline}
 use Rattle.yq_documents.specs.Lines.{mark_of, mark_line, lines_of}
@@ -37,6 +38,7 @@ use Rattle.yq_tree.proofs.ReadLaws.{text_takes}
 use Rattle.yq_tree.proofs.RowPathLaws.{document_fine}
 use Rattle.yq_tree.proofs.RunSpans.{rows_then}
 use Rattle.yq_tree.proofs.WrittenLaws.{may_follow}
+use Rattle.yq_tree.proofs.RemovalLines.{front_some}
 use Rattle.yq_change.specs.Changed.{IsChanged, put_document}
 use Rattle.yq_change.specs.Contents.{recontent, TakesContent}
 use Rattle.yq_change.specs.DocumentRows.{IsDocumentPart, behind_document, part_number}
@@ -49,7 +51,7 @@ use Rattle.yq_change.proofs.CoreLaws.{recore, put_core, content_text_is}
 use Rattle.yq_change.proofs.InlineReplaceLaws.{own_rows, next_stands, tail_ends_plain}
 use Rattle.yq_change.proofs.InlineRowLaws.{inline_placed}
 use Rattle.yq_change.proofs.LineLaws.{above_mark}
-use Rattle.yq_change.proofs.PartLaws.{document_known, end_stays, gap_stays, some_behind}
+use Rattle.yq_change.proofs.PartLaws.{document_known}
 use Rattle.yq_change.proofs.RemarkLaws.{last_lines}
 use Rattle.yq_change.proofs.RowCommentLaws.{lead_content}
 use Rattle.yq_change.proofs.ValueContentLaws.{content_is, content_head, content_named, content_tail, content_keys, content_apart, content_alone, content_unmarked, content_short}
@@ -132,12 +134,12 @@ module _ (t : List ℕ) (c : Cut) (k : ℕ) (p : Part) (steps : List Step) (w : 
   stands = record { gap = refl; column = refl; row = row_new (is_entry r.mark) refl; next = next_new r.content _ h.place_is }
 
   there : q.rows ≡ h.front ++ (with_content new r ∷ h.back)
-  there = ap (λ (rs : List Row). h.front ++ (with_content new r ∷ rs)) (gap_stays h.back p.end)
+  there = ap (λ (rs : List Row). h.front ++ (with_content new r ∷ rs)) (own_gap h.back p.end)
 
   text : cut_text (put_document k q c) ≡ place_text w (node_text node [])
   text =
       h.put q
-      ∙ ((λ i. h.start ++ rows_text (there i) (end_stays h.back p.end i ++ behind_document k c))
+      ∙ ((λ i. h.start ++ rows_text (there i) (own_end h.back p.end i ++ behind_document k c))
       ∙ (ap (λ x. h.start ++ x) (rows_text-append h.front (with_content new r ∷ h.back) (p.end ++ behind_document k c)
       ∙ (ap (rows_text h.front) (row_front-append (with_content new r) rest)
       ∙ (rows_then h.front (row_front r ++ content_text new rest) ∙ (sym (append_assoc (rows_text h.front []) (row_front r) (content_text new rest)) ∙ ap (λ x. x ++ content_text new rest) (sym (rows_then h.front (row_front r)))))))
@@ -194,7 +196,7 @@ module _ (t : List ℕ) (c : Cut) (k : ℕ) (p : Part) (steps : List Step) (w : 
   replaced_is n at may = record {
     part = q;
     text_is = text;
-    some = ap no_rows there ∙ some_behind h.front (with_content new r) h.back;
+    some = ap no_rows there ∙ front_some h.front (with_content new r) h.back;
     changed = changed steps w.alone h.leads n at may;
     lead = lead_content h.front r new h.back p q h.rows_are there;
     block = block;

@@ -10,13 +10,14 @@ use Rattle.yq_rows.proofs.splices.PartPlaces.{part_in, part_after}
 use Rattle.yq_rows.proofs.splices.SpliceLaws.{spliced}
 use Rattle.yq_scalar.specs.Characters.{is_text, text_limit}
 use Rattle.yq_rows.specs.Rows.{Row, rows_text, Part, Cut, last, marked, cut_text}
-use Rattle.yq_rows.specs.Splices.{with_first_gap, end_gap, behind_first, first_gap, splice_part, splice, nth_part, behind_part, is_started, marker_before}
+use Rattle.yq_rows.specs.Splices.{with_first_gap, end_gap, behind_first, splice_part, splice, nth_part, behind_part, is_started, marker_before}
 use Rattle.yq_rows.specs.Seams.{are_seamed}
 use Rattle.yq_rows.specs.SpliceFits.{is_after, SpliceFits}
 use Rattle.yq_documents.specs.Documents.{HaveFitKeys, HasShortRoot, begins_bare, document_parts, has_begin, parts_from}
 use Rattle.yq_documents.specs.Reading.{is_document, read_at}
 use Rattle.yq_tree.specs.RowPaths.{IsReadable}
 use Rattle.yq_lines.proofs.Decides.{even_from}
+use Rattle.yq_rows.proofs.splices.SpliceCases.{open_part}
 use Rattle.yq_tree.proofs.DocumentLaws.{document_is}
 use Rattle.yq_tree.proofs.ReadLaws.{text_takes}
 use Rattle.yq_tree.proofs.RowPathLaws.{document_fine}
@@ -69,17 +70,8 @@ rows_put c k p front gone back new gap there rows =
     (part_numbered c k p there).1 (length front) (length front + length gone) new gap
     ∙ (λ i. put_document k (record { rows = take_front p front (gone ++ back) rows i ++ (new ++ with_first_gap gap (drop_gone p front gone back rows i)); end = end_gap gap (drop_gone p front gone back rows i) p.end }) c)
 
--- the gap of rows that stays
-pub gap_stays : (back : List Row) (end : List ℕ) → with_first_gap (first_gap back end) back ≡ back
-gap_stays [] end = refl
-gap_stays (r ∷ back) end = refl
-
-pub end_stays : (back : List Row) (end : List ℕ) → end_gap (first_gap back end) back end ≡ end
-end_stays [] end = refl
-end_stays (r ∷ back) end = refl
-
 -- a document that is read
-all_at : (ps : List Part) (k : ℕ) (p : Part) → list_all is_document ps ≡ true → slice_get ps k ≡ Some p → is_document p ≡ true
+pub all_at : (ps : List Part) (k : ℕ) (p : Part) → list_all is_document ps ≡ true → slice_get ps k ≡ Some p → is_document p ≡ true
 all_at [] k p e h = absurd (cc)
 all_at (x ∷ ps) zero p e h = ap is_document (sym (some_same h)) ∙ (and_parts (is_document x) (list_all is_document ps) e).0
 all_at (x ∷ ps) (suc k) p e h = all_at ps k p (and_parts (is_document x) (list_all is_document ps) e).1 h
@@ -95,11 +87,6 @@ document_known t c k p h =
 pub is_put : (t : List ℕ) (c : Cut) (k : ℕ) (p q : Part) → IsDocumentPart t c k p → no_rows q.rows ≡ false → IsReadable (cut_text (put_document k q c)) →
     IsCut (cut_text (put_document k q c)) (put_document k q c) → HaveFitKeys q.rows → HasShortRoot q.rows → IsPut t c k p q
 is_put t c k p q old some new cut keys short = record { read = old.read; there = old.there; rows = λ e. absurd (false≢true (sym some ∙ e)); utf8 = new.utf8; cut = cut; keys = keys; short = short }
-
--- rows behind which others stand have a first one
-pub some_behind : (front : List Row) (r : Row) (back : List Row) → no_rows (front ++ (r ∷ back)) ≡ false
-some_behind [] r back = refl
-some_behind (q ∷ front) r back = refl
 
 -- the root is as short behind the same first row
 pub short_stays : (front a b : List Row) → no_rows front ≡ false → HasShortRoot (front ++ a) → HasShortRoot (front ++ b)
@@ -123,10 +110,6 @@ fits marker started front gone back new gap p rest rows h after begun =
       start = by (λ a b. (not (no_rows a) || is_after marker (rows_text new (gap ++ behind_first b p.end rest))) ≡ true) (or_right (not (no_rows front)) _ after);
       inside = rw begun refl;
     }
-
-open_part : (started b : Bool) → (started || b) ≡ true → b ≡ false → started ≡ true
-open_part true b h n = refl
-open_part false b h n = absurd (false≢true (sym n ∙ h))
 
 -- a document is open in its part
 started_is : (is started : Bool) (k : ℕ) (c : Cut) (p : Part) → slice_get (parts_from is c) k ≡ Some p → (is ≡ true → started ≡ true) → is_started started (number_from is k c) c ≡ true

@@ -17,6 +17,7 @@ use Rattle.yq_lines.specs.Places.{lines_before, lines_after, Found}
 use Rattle.yq_documents.specs.Reading.{outline_of}
 use Rattle.yq_tree.specs.RowPaths.{IsReadable}
 use Rattle.yq_lines.proofs.Decides.{flatten-group}
+use Rattle.yq_rows.proofs.splices.SpliceTexts.{own_gap}
 use Rattle.yq_change.specs.Changed.{put_document}
 use Rattle.yq_change.specs.Moved.{dash_lines}
 use Rattle.yq_change.specs.Siblings.{IsEntryAt, NodeLines, put_lines}
@@ -30,8 +31,9 @@ use Rattle.yq_change.specs.LineRows.{line_number}
 use Rattle.yq_change.specs.DocumentRows.{IsDocumentPart, Known, behind_document, part_number}
 use Rattle.yq_change.specs.Remarks.{retailed, LineCommented}
 use Rattle.yq_change.proofs.LineLaws.{above_mark, mark_behind, dashes_count}
-use Rattle.yq_change.proofs.PartLaws.{part_numbered, rows_put, gap_stays, document_known, is_put, some_behind}
+use Rattle.yq_change.proofs.PartLaws.{part_numbered, rows_put, document_known, is_put}
 use Rattle.yq_documents.specs.TreeEdits.{with_line_comment}
+use Rattle.yq_tree.proofs.RemovalLines.{front_some}
 
 -- The line of an item or entry, and the lines with another in its place.
 pub record OneLine (p : Part) (h : NodeLines) (f : Found) (a : List Line) (x : Line) (z : List Line) : Type 0 where
@@ -133,9 +135,9 @@ unfolding level
 line_commented t c k p steps s h f front back r tail old at takes number new =
     let is = document_known t c k p old in
     let q : Part = retailed front r back tail p in
-    let there : q.rows ≡ front ++ (retail tail r ∷ back) = ap (λ (rs : List Row). front ++ (retail tail r ∷ rs)) (gap_stays back p.end) in
+    let there : q.rows ≡ front ++ (retail tail r ∷ back) = ap (λ (rs : List Row). front ++ (retail tail r ∷ rs)) (own_gap back p.end) in
     let put =
-    is_put t c k p q old (ap Rattle.yq_rows.specs.Grammar.no_rows there ∙ some_behind front (retail tail r) back) new (tail_cut t c k p front back r tail old is.cut takes.rows_are takes.fits new)
+    is_put t c k p q old (ap Rattle.yq_rows.specs.Grammar.no_rows there ∙ front_some front (retail tail r) back) new (tail_cut t c k p front back r tail old is.cut takes.rows_are takes.fits new)
     (subst HaveFitKeys (sym there) (fit_retail front r back tail (subst HaveFitKeys takes.rows_are is.document.keys)))
     (subst HasShortRoot (sym there) (short_retail front r back tail (subst HasShortRoot takes.rows_are is.document.short))) in
     let a : List Line = lines_of front ++ dash_lines (head_comment r.gap) r.column r.dashes in

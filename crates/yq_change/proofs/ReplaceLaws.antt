@@ -13,6 +13,7 @@ use Rattle.yq_rows.specs.Grammar.{unlimited, AreRows, no_rows}
 use Rattle.yq_rows.specs.Rows.{Row, rows_text, Part}
 use Rattle.yq_rows.specs.Splices.{behind_first, first_gap}
 use Rattle.yq_rows.proofs.seams.FrontSeams.{seams_alike, seams_were}
+use Rattle.yq_rows.proofs.splices.SpliceTexts.{own_gap}
 use Rattle.yq_documents.specs.Documents.{HaveFitKeys, HasShortRoot}
 use Rattle.yq_documents.specs.Lines.{lines_of}
 use Rattle.yq_documents.specs.Reading.{outline_of}
@@ -24,7 +25,7 @@ use Rattle.yq_change.specs.Siblings.{IsEntry, HasEntries}
 use Rattle.yq_change.proofs.AnchorLaws.{fit_parts, fit_from}
 use Rattle.yq_change.proofs.AppendLaws.{around, rows_with}
 use Rattle.yq_change.proofs.BlockChangeLaws.{node_replaced}
-use Rattle.yq_change.proofs.PartLaws.{document_known, document_spliced, gap_stays, is_put, part_rows}
+use Rattle.yq_change.proofs.PartLaws.{document_known, document_spliced, is_put, part_rows}
 use Rattle.yq_change.proofs.PlacedLaws.{found_is_entry, line_placed, rows_in_parts}
 use Rattle.yq_change.proofs.RemoveLaws.{entry_short}
 use Rattle.yq_change.proofs.SiblingLaws.{entry_in, entry_out}
@@ -99,7 +100,7 @@ node_rows_replaced t c k p s ss f v front gone new back x y m l u old found r w 
     let z : List Line = lines_of back in
     let a : List Line = lines_of front ++ x in
     let d : List Line = l ∷ flatten u in
-    let there : q.rows ≡ front ++ (new ++ back) = ap (λ (rs : List Row). front ++ (new ++ rs)) (gap_stays back p.end) in
+    let there : q.rows ≡ front ++ (new ++ back) = ap (λ (rs : List Row). front ++ (new ++ rs)) (own_gap back p.end) in
     let olds : lines_of p.rows ≡ a ++ (y ++ z) =
     ap lines_of r.rows_are ∙ (rows_in_parts front gone back ∙ (ap (λ (ls : List Line). lines_of front ++ (ls ++ z)) w.old_lines ∙ sym (around (lines_of front) x y z))) in
     let placed = line_placed (level_or 0 o) p s ss [] f a y z known.even found (record { parts_are = olds; before_are = length-append (lines_of front) x ∙ w.before_are; size_is = w.size_is }) in

@@ -12,7 +12,7 @@ use Rattle.yq_rows.specs.Rows as rows
 use Rattle.yq_rows.specs.Rows.{Content, Block, Row, mark_column, print_row, rows_text, Part}
 use Rattle.yq_rows.specs.Splices.{behind_first, first_gap}
 use Rattle.yq_rows.proofs.seams.SeamLaws.{rows_drop}
-use Rattle.yq_rows.proofs.splices.SpliceTexts.{first_is, first_text}
+use Rattle.yq_rows.proofs.splices.SpliceTexts.{first_is, first_text, own_gap}
 use Rattle.yq_documents.specs.Documents.{HaveFitKeys, HasShortRoot, is_long_plain, lead_of}
 use Rattle.yq_documents.specs.Lines.{mark_line, tail_of, lines_of}
 use Rattle.yq_documents.specs.TreeEdits.{with_line_comment}
@@ -28,7 +28,7 @@ use Rattle.yq_change.proofs.BlockChangeLaws.{entry_relabelled}
 use Rattle.yq_change.proofs.EditedLaws.{led_as}
 use Rattle.yq_change.proofs.FirstRowLaws.{short_first}
 use Rattle.yq_change.proofs.LineLaws.{above_mark, dashes_count}
-use Rattle.yq_change.proofs.PartLaws.{document_known, drop_front, gap_stays, is_put, part_rows}
+use Rattle.yq_change.proofs.PartLaws.{document_known, drop_front, is_put, part_rows}
 use Rattle.yq_change.proofs.RemarkLaws.{last_lines, one_line}
 use Rattle.yq_change.proofs.ReplaceLaws.{document_replaced, rows_before_some}
 
@@ -69,7 +69,7 @@ content_commented t c k p steps s h f front back r new old at takes alike number
     let known = document_known t c k p old in
     let b : Row = with_content new r in
     let q : Part = inserted front (b ∷ []) back p in
-    let there : q.rows ≡ front ++ (b ∷ back) = ap (λ (rs : List Row). front ++ (b ∷ rs)) (gap_stays back p.end) in
+    let there : q.rows ≡ front ++ (b ∷ back) = ap (λ (rs : List Row). front ++ (b ∷ rs)) (own_gap back p.end) in
     let cut = document_replaced t c k p front (r ∷ []) back (b ∷ []) (first_gap back p.end) old (row_replaces t c k p front back r b old takes) text in
     let keys = fit_parts front (r ∷ back) (subst HaveFitKeys takes.rows_are known.document.keys) in
     let fit : HaveFitKeys (front ++ (b ∷ back)) = fit_from front (b ∷ back) keys.0 (keys.1.0, alike.keys, keys.1.2) in

@@ -13,6 +13,7 @@ use Rattle.yq_rows.specs.Rows as rows
 use Rattle.yq_rows.specs.Rows.{Content, Row, mark_column, Part}
 use Rattle.yq_rows.specs.Splices.{first_gap}
 use Rattle.yq_rows.proofs.seams.SeamLaws.{rows_drop}
+use Rattle.yq_rows.proofs.splices.SpliceTexts.{own_gap}
 use Rattle.yq_documents.specs.Lines.{mark_of, mark_line, lines_of}
 use Rattle.yq_documents.specs.Reading.{outline_of}
 use Rattle.yq_documents.specs.Ready.{begins_no_node}
@@ -22,7 +23,6 @@ use Rattle.yq_change.specs.Siblings.{IsEntry}
 use Rattle.yq_change.specs.Unders.{HasUnder, UnderKept}
 use Rattle.yq_change.proofs.AppendLaws.{around}
 use Rattle.yq_change.proofs.LineLaws.{above_mark, dashes_count, mark_behind}
-use Rattle.yq_change.proofs.PartLaws.{gap_stays}
 use Rattle.yq_change.proofs.PlacedLaws.{found_is_entry, rows_in_parts, same_parts, whole_line}
 use Rattle.yq_change.proofs.RemarkLaws.{last_lines}
 
@@ -63,7 +63,7 @@ gap_same (q ∷ front) r new cs bs a b = refl
 pub under_kept : UnderKept
 under_kept p front r under back new e =
     let q : Part = recontent front r back new p in
-    let there : q.rows ≡ front ++ (with_content new r ∷ back) = ap (λ (rs : List Row). front ++ (with_content new r ∷ rs)) (gap_stays back p.end) in (
+    let there : q.rows ≡ front ++ (with_content new r ∷ back) = ap (λ (rs : List Row). front ++ (with_content new r ∷ rs)) (own_gap back p.end) in (
       ap (λ (rs : List Row). head_comment (first_gap rs q.end)) there ∙ (ap head_comment (gap_same front r new back (under ++ back) q.end p.end) ∙ ap (λ (rs : List Row). head_comment (first_gap rs p.end)) (sym e)),
       ap begins_no_node (ap lines_of there ∙ last_lines front r back new)
           ∙ (first_same (lines_of front ++ dashes_of r) (line_with r new) (line_with r r.content) (lines_of back) (lines_of (under ++ back)) refl

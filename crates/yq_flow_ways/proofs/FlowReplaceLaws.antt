@@ -2,10 +2,9 @@
 use Rattle.std.proofs.Common.{◌≡◌, ℕ, ◌-◌, ◌≤◌, Bool, true, false, List, [], ◌∷◌, ◌++◌, length, Option, Some, None, refl, sym, ap, ◌∙◌, subst, arith, ◌+◌, append-nil, length-append}
 use Rattle.std.proofs.lemmas.Bool.{cond_both}
 use Rattle.std.specs.Str.{IsCharBoundary}
-use Rattle.yq_scalar.specs.Answers.{◌>>=◌}
 use Rattle.yq_scalar.specs.Characters.{text_limit}
 use Rattle.yq_scalar.specs.Keys.{depth}
-use Rattle.yq_scalar.specs.Paths.{Step, change, change_child, is_here, further, node_at, within}
+use Rattle.yq_scalar.specs.Paths.{Step, change, change_child, is_here, further, within}
 use Rattle.yq_scalar.specs.Scalar.{ScalarText}
 use Rattle.yq_scalar.specs.Tree as tree
 use Rattle.yq_scalar.specs.declared.style.Place.TheVariants.{Flow}
@@ -24,10 +23,9 @@ use Rattle.yq_inline.proofs.PathLaws.{items_hold}
 use Rattle.yq_flow.proofs.PlacedEdits.{replace_placed}
 use Rattle.yq_flow.proofs.ValueEdits.{change_last, scalar_replaced, value_replaced}
 use Rattle.yq_flow.proofs.ValueFits.{scalar_block}
-use Rattle.yq_scalar.specs.Anchors.{names_of}
 use Rattle.yq_lines.specs.Outline.{anchored}
 use Rattle.yq_rows.specs.Rows.{Cut, cut_text}
-use Rattle.yq_documents.specs.Documents.{Document, EachHasFitKeys, HasFitKey, HasFitKeys, document_parts, lead_of}
+use Rattle.yq_documents.specs.Documents.{EachHasFitKeys, HasFitKey, HasFitKeys, lead_of}
 use Rattle.yq_documents.specs.Nodes.{anchor_of}
 use Rattle.yq_documents.specs.Reading as reading
 use Rattle.yq_documents.specs.Reading.{documents, read_at, root_of}
@@ -35,12 +33,12 @@ use Rattle.yq_documents.specs.TreeEdits.{replaced}
 use Rattle.yq_tree.proofs.FlowPieces.{named_is, none_anchored}
 use Rattle.yq_change.specs.FlowRows.{FlowAt}
 use Rattle.yq_change.specs.Rooms.{is_block_root}
-use Rattle.yq_change.specs.SoundRoots.{IsNewValue, IsSoundRoot}
+use Rattle.yq_change.specs.SoundRoots.{IsSoundRoot}
 use Rattle.yq_change.specs.TextPieces.{IsPiece}
 use Rattle.yq_change.proofs.FlowKeptLaws.{flow_keys}
 use Rattle.yq_change.proofs.PartLaws.{document_known}
 use Rattle.yq_change.proofs.SoundRootLaws.{replace_keeps}
-use Rattle.yq_meaning.specs.Changes.{has_long_key, is_used_inside}
+use Rattle.yq_meaning.specs.Changes.{has_long_key}
 use Rattle.yq_meaning.specs.Fits.{Fits}
 use Rattle.yq_meaning.specs.Operations.{Operation, replace, append, remove, line_comment, head_comment}
 use Rattle.yq_meaning.specs.Rooms.{room_of}
@@ -50,8 +48,7 @@ use Rattle.yq_ways.specs.Operands.{HasOperand}
 use Rattle.yq_ways.specs.Replacing.{are_same, is_kept, node_in, scalar_in}
 use Rattle.yq_ways.specs.Style.{style_in}
 use Rattle.yq_ways.specs.Ways.{IsWay, ReadsAfter}
-use Rattle.yq_ways.proofs.DoneLaws.{nth_map}
-use Rattle.yq_ways.proofs.FitLaws.{inside_spared, new_value, tree_unique}
+use Rattle.yq_ways.proofs.FitLaws.{FitsReplace, fits_replace}
 use Rattle.yq_flow_ways.proofs.FlowPieceLaws.{edit_pieces, nothing_piece, one_space}
 use Rattle.yq_flow_ways.proofs.FlowSoundLaws.{last_is}
 use Rattle.yq_flow_ways.proofs.FlowStandings as standing
@@ -147,9 +144,6 @@ space_there n = cond_both (is_bare n) (32 ∷ []) [] IsPiece (λ _. one_space) (
 
 -- ---- the way at an item or entry
 
-same_document : {d g : Document} → Some d ≡ Some g → d ≡ g
-same_document e = cc
-
 module _ (c : Cut) (doc : ℕ) (path : List Step) (v : tree.Node) (read : read_at (cut_text c) ≡ Some c) (a : EntryAt c doc path) where
   abbrev pub at : FlowAt c doc a.init a.coll
   at = standing.at c doc a.init a.coll read a.found
@@ -179,19 +173,13 @@ module _ (c : Cut) (doc : ℕ) (path : List Step) (v : tree.Node) (read : read_a
 
   -- a value of which the operation fits
   module _ (h : IsValueTree v) (fits : Fits (room_of (cut_text c)) (replace doc path v) (documents c)) where
-    root : fits.0.root ≡ root_of at.part
-    root = ap (λ (d : Document). d.root) (same_document (sym fits.1 ∙ nth_map doc at.part reading.document_of (document_parts c) at.there))
-
-    pub node_there : node_at path (root_of at.part) ≡ Some fits.2.1.0
-    node_there = ap (node_at path) (sym root) ∙ fits.2.1.1
-
-    new : IsNewValue v (length path)
-    new = new_value (length path) v h (tree_unique v fits.2.0.0) fits.2.0.2
+    given : FitsReplace doc path v c at.part
+    given = fits_replace doc path v c at.part at.there h fits
 
     room : depth v ≤ room_in x
     room =
         let size : length path ≡ length a.init + 1 = ap length (last_is path a.init a.step a.last) ∙ length-append a.init (a.step ∷ []) in
-        omega (arith, standing.fewer c doc a.init a.coll read a.found, new.nested, size)
+        omega (arith, standing.fewer c doc a.init a.coll read a.found, given.may.value_is.nested, size)
 
     edited : IsEdited x e (change at.rest (within (change_child a.step (replaced v))))
     edited =
@@ -203,9 +191,8 @@ module _ (c : Cut) (doc : ℕ) (path : List Step) (v : tree.Node) (read : read_a
     sound =
         let known = document_known (cut_text c) c doc at.part (standing.old c doc a.init a.coll read a.found) in
         let old : IsSoundRoot (root_of at.part) = record { unique = known.document.unique; nested = known.document.nested; bound = known.document.bound } in
-        let used : is_used_inside (names_of (root_of at.part)) (Some fits.2.1.0) ≡ false = ap (λ n. is_used_inside (names_of n) (Some fits.2.1.0)) (sym root) ∙ fits.2.1.2 in
         subst (λ (f : tree.Node → tree.Node). IsSoundRoot (f (root_of at.part))) (sym (step_change path a.init a.step (replaced v) a.last))
-        (replace_keeps path (root_of at.part) fits.2.1.0 v old node_there (record { value_is = new; spared = inside_spared (names_of (root_of at.part)) fits.2.1.0 used }))
+        (replace_keeps path (root_of at.part) given.node v old given.there given.may)
 
     pub replaced_reads : length (new_text (flow_segments (cut_text c) e)) ≤ text_limit → ReadsAfter (replace doc path v) c (new_text (flow_segments (cut_text c) e))
     replaced_reads size =
@@ -213,7 +200,7 @@ module _ (c : Cut) (doc : ℕ) (path : List Step) (v : tree.Node) (read : read_a
         let parts = edit_pieces (cut_text c) there.before e p there.text bounds.0 bounds.1 there.whole in
         flow_made (replace doc path v) c a.init a.coll at e (change_child a.step (replaced v)) read (record {
           edited = edited;
-          keys = flow_keys (cut_text c) c doc at.part a.init at.line at.rest at.row a.coll e.gap e.items (standing.old c doc a.init a.coll read a.found) at.at (put_fit a.step m a.coll.items (value_keys (content_written a.item.node) v fits.2.0.1));
+          keys = flow_keys (cut_text c) c doc at.part a.init at.line at.rest at.row a.coll e.gap e.items (standing.old c doc a.init a.coll read a.found) at.at (put_fit a.step m a.coll.items (value_keys (content_written a.item.node) v given.long));
           sound = sound;
           root =
               ap (λ (f : tree.Node → tree.Node). f (root_of at.part)) (step_change path a.init a.step (replaced v) a.last)
@@ -228,9 +215,10 @@ replaced_old true v c doc path read a = append-nil (cut_text c)
 replaced_old false v c doc path read a = let w = there c doc path v read a in segments_old (cut_text c) w.before (e c doc path v read a) w.text
 
 by_reads : (kept : Bool) (v : tree.Node) (c : Cut) (doc : ℕ) (path : List Step) (read : read_at (cut_text c) ≡ Some c) (a : EntryAt c doc path) → (h : IsValueTree v) (fits : Fits (room_of (cut_text c)) (replace doc path v) (documents c)) →
-    are_same (scalar_in fits.2.1.0) (scalar_in v) ≡ kept → length (new_text (replaced_by kept v c a.step a.coll a.item)) ≤ text_limit → ReadsAfter (replace doc path v) c (new_text (replaced_by kept v c a.step a.coll a.item))
+    are_same (scalar_in (given c doc path v read a h fits).node) (scalar_in v) ≡ kept → length (new_text (replaced_by kept v c a.step a.coll a.item)) ≤ text_limit → ReadsAfter (replace doc path v) c (new_text (replaced_by kept v c a.step a.coll a.item))
 by_reads true v c doc path read a h fits same size =
-    subst (ReadsAfter (replace doc path v) c) (sym (append-nil (cut_text c))) (kept_reads doc path v c (at c doc path v read a).part read (at c doc path v read a).there fits.2.1.0 h (node_there c doc path v read a h fits) same)
+    let f = given c doc path v read a h fits in
+    subst (ReadsAfter (replace doc path v) c) (sym (append-nil (cut_text c))) (kept_reads doc path v c (at c doc path v read a).part read (at c doc path v read a).there f.node h f.there same)
 by_reads false v c doc path read a h fits same size = replaced_reads c doc path v read a h fits size
 
 replace_old : (doc : ℕ) (path : List Step) (v : tree.Node) (c : Cut) (ss : List Segment) → read_at (cut_text c) ≡ Some c → flow_replace_way (replace doc path v) c ≡ Some ss → old_text ss ≡ cut_text c
@@ -244,9 +232,8 @@ replace_reads : (doc : ℕ) (path : List Step) (v : tree.Node) (c : Cut) (ss : L
 replace_reads doc path v c ss read way h fits size =
     let kept : Bool = is_kept (node_in doc path c) v in
     let a = entry_made (replaced_by kept v c) c doc path ss way in
-    let known : node_in doc path c ≡ Some fits.2.1.0 = ap (λ (o : Option Document). o >>= λ d. node_at path d.root) fits.1 ∙ fits.2.1.1 in
     subst (λ (s : List Segment). ReadsAfter (replace doc path v) c (new_text s)) a.1
-    (by_reads kept v c doc path read a.0 h fits (sym (ap (λ o. is_kept o v) known)) (subst (λ (s : List Segment). length (new_text s) ≤ text_limit) (sym a.1) size))
+    (by_reads kept v c doc path read a.0 h fits (sym (ap (λ o. is_kept o v) (given c doc path v read a.0 h fits).known)) (subst (λ (s : List Segment). length (new_text s) ≤ text_limit) (sym a.1) size))
 
 no_segments : {ss : List Segment} → None ≡ Some ss → ⊥
 no_segments e = cc

@@ -19,7 +19,6 @@ use Rattle.yq_change.proofs.FlowKeptLaws.{flow_rooms}
 use Rattle.yq_change.proofs.FlowPathLaws.{row_texts}
 use Rattle.yq_change.proofs.FlowRowLaws.{flow_edited}
 use Rattle.yq_change.proofs.LeadLaws.{same_lead_goes}
-use Rattle.yq_change.proofs.PartLaws.{some_behind}
 use Rattle.yq_meaning.specs.After.{document_of, root_after}
 use Rattle.yq_meaning.specs.Operations.{Operation}
 use Rattle.yq_script.specs.Script.{old_text, new_text, text_before}
@@ -29,6 +28,7 @@ use Rattle.yq_ways.specs.Ways.{ReadsAfter}
 use Rattle.yq_ways.proofs.DoneLaws.{document_done}
 use Rattle.yq_ways.proofs.SegmentLaws.{segments_readable}
 use Rattle.std.proofs.lemmas.Bool.{false≢true}
+use Rattle.yq_tree.proofs.RemovalLines.{front_some}
 
 -- the node that is edited, in its row
 abbrev pub edited_at : (c : Cut) (k : ℕ) (steps : List Step) (w : CollPieces) → FlowAt c k steps w → FlowEdit → Node
@@ -88,7 +88,7 @@ flow_made op c steps w at e h read made size =
     subst (ReadsAfter op c) (sym is) (document_done op c p q (lead_of p) (change steps (within h)) (record {
       read = read;
       there = at.there;
-      rows = λ none. absurd (false≢true (sym (some_behind at.row.front _ _) ∙ none));
+      rows = λ none. absurd (false≢true (sym (front_some at.row.front _ _) ∙ none));
       changed = changed;
       root = made.root;
       lead_goes = same_lead_goes p q kept.2 kept.1;

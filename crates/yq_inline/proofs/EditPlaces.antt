@@ -5,10 +5,10 @@ use Rattle.yq_inline.specs.Nodes.{Key, bare, keyed, Node, empty, alias, scalar, 
 use Rattle.yq_inline.specs.Places.{Placed, placed, with_anchor, locate}
 
 -- where a node begins and ends
-start_anchor : (n : List ℕ) (start : ℕ) (p : Placed) → start_of (with_anchor n start p) ≡ start
+pub start_anchor : (n : List ℕ) (start : ℕ) (p : Placed) → start_of (with_anchor n start p) ≡ start
 start_anchor n start (placed a s c e f) = refl
 
-end_anchor : (n : List ℕ) (start : ℕ) (p : Placed) → end_of (with_anchor n start p) ≡ end_of p
+pub end_anchor : (n : List ℕ) (start : ℕ) (p : Placed) → end_of (with_anchor n start p) ≡ end_of p
 end_anchor n start (placed a s c e f) = refl
 
 pub start_placed : (total : ℕ) (n : Node) (rest : List ℕ) → start_of (locate total n rest) ≡ total - length (node_text n rest)

@@ -58,7 +58,7 @@ blank_past m l = cond_both (is_short m l) l (past_white l) (λ x. past_white x �
 comment_past : (m column : ℕ) (l : List ℕ) → past_white (repaired_comment m column l) ≡ past_white l
 comment_past m column l = cond_both (is_outside m l) l (replicate column 32 ++ past_white l) (λ x. past_white x ≡ past_white l) (λ _. refl) (λ _. white_front column (past_white l) ∙ past_again l)
 
-end_no_hash : (t : List ℕ) → ends_line t ≡ true → is_hash t ≡ false
+pub end_no_hash : (t : List ℕ) → ends_line t ≡ true → is_hash t ≡ false
 end_no_hash [] h = refl
 end_no_hash (b ∷ t) h = false_from_ne_true (eqb b 35) (λ e. let is : b ≡ 35 = eqb-true b 35 e in false≢true (subst (λ (x : ℕ). ends_line (x ∷ t) ≡ true) is h))
 

@@ -76,16 +76,16 @@ names_value : (n : ℕ) (o : Outline) → IsEven n o → names_of (value o) ≡ 
 names_value n end even = refl
 names_value n (row m v w) even = collection_names m.mark m.head w (label m) _ even.2
 
-free_front : (a : Option (List ℕ)) (xs ys : List Line) → IsFree a (xs ++ ys) → IsFree a xs
+pub free_front : (a : Option (List ℕ)) (xs ys : List Line) → IsFree a (xs ++ ys) → IsFree a xs
 free_front None xs ys h = tt
 free_front (Some a) [] ys h = tt
 free_front (Some a) (l ∷ xs) ys h = h
 
-each_front : (xs ys : List Line) → HaveOneAnchorEach (xs ++ ys) → HaveOneAnchorEach xs
+pub each_front : (xs ys : List Line) → HaveOneAnchorEach (xs ++ ys) → HaveOneAnchorEach xs
 each_front [] ys h = tt
 each_front (l ∷ xs) ys h = (free_front l.anchor xs ys h.0, each_front xs ys h.1)
 
-each_back : (xs ys : List Line) → HaveOneAnchorEach (xs ++ ys) → HaveOneAnchorEach ys
+pub each_back : (xs ys : List Line) → HaveOneAnchorEach (xs ++ ys) → HaveOneAnchorEach ys
 each_back [] ys h = h
 each_back (l ∷ xs) ys h = each_back xs ys h.1
 

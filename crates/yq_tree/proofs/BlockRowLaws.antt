@@ -1,15 +1,13 @@
 -- The block scalar that a row holds, in its text.
-use Rattle.std.proofs.Common.{◌≡◌, ℕ, ◌<◌, true, List, ◌++◌, length, drop, Option, Some, None, option_map, refl, sym, ap, ◌∙◌, subst, arith, append_assoc}
+use Rattle.std.proofs.Common.{◌≡◌, ℕ, true, List, ◌++◌, length, drop, Option, Some, None, option_map, refl, sym, ap, ◌∙◌, subst, append_assoc}
 use Rattle.std.proofs.Math.Seq.{drop-append_seam}
 use Rattle.std.proofs.lemmas.Bool.{false≢true}
 use Rattle.std.proofs.lemmas.Option.{slice_get-map}
 use Rattle.std.specs.List.{slice_get}
 use Rattle.std.specs.Prelude.{Result, Ok, Err}
 use Rattle.std.specs.Str.{IsCharBoundary}
-use Rattle.yq_scalar.specs.Block.{BlockText, block_text, block_piece, mark_of, IsBlock, IsBlockPiece}
+use Rattle.yq_scalar.specs.Block.{BlockText, block_text, block_piece, IsBlock, IsBlockPiece}
 use Rattle.yq_scalar.specs.Piece.{deeper}
-use Rattle.yq_scalar.specs.declared.block_header.BlockStyle.{BlockStyle}
-use Rattle.yq_scalar.specs.declared.block_header.BlockStyle.TheVariants as styles
 use Rattle.yq_scalar.specs.declared.piece.Piece.{Piece}
 use Rattle.yq_rows.specs.Exchange.{before_content, behind_row}
 use Rattle.yq_rows.specs.Grammar.{IsContent, IsCut}
@@ -24,6 +22,7 @@ use Rattle.yq_tree.specs.RemovalReading.{block_numbers}
 use Rattle.yq_documents.specs.RowReading.{begins_block}
 use Rattle.yq_tree.proofs.HeadEnds.{node_begins}
 use Rattle.yq_tree.proofs.SpanLaws.{get_row}
+use Rattle.yq_tree.proofs.HeadSpanLaws.{mark_ascii}
 
 -- A row holds a block scalar that begins at a place of the text.
 record HoldsBlock (t : List ℕ) (i : ℕ) (c : Cut) (r : Row) (start : ℕ) : Type 0 where
@@ -77,10 +76,6 @@ row_pieces t s i x start r h at = slices_same (sym h.there ∙ (ap (λ (y : Show
 held : (t : List ℕ) (s : Shown) (i : ℕ) (x : Slices) (start : ℕ) (r : Row) → BeginsBlock t s i x start → slice_get (rows_of (cut_of t)) i ≡ Some r → HoldsBlock t i (cut_of t) r start
 held t s i x start r h at =
     subst (HoldsBlock t i (cut_of t) r) (sym (h.start_is r at)) (holds t i (cut_of t) r r.content refl h.cut at (ap (λ (y : Slices). begins_block y.head) (sym (row_pieces t s i x start r h at)) ∙ h.begins))
-
-mark_ascii : (m : BlockStyle) → mark_of m < 128
-mark_ascii styles.Literal = omega arith
-mark_ascii styles.Folded = omega arith
 
 pub block_boundary : (t : List ℕ) (s : Shown) (i : ℕ) (x : Slices) (start : ℕ) → BeginsBlock t s i x start → IsCharBoundary t start
 block_boundary t s i x start h =

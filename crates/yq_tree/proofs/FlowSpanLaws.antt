@@ -10,13 +10,14 @@ use Rattle.yq_inline.specs.Spans.{IsSpan, HasKeySpan, HasSpans, PartsHaveSpans}
 use Rattle.yq_inline.specs.Trees.{inner, unplaced_key}
 use Rattle.yq_inline.proofs.NodeAgain.{node_longer}
 use Rattle.yq_inline.proofs.PathLaws.{path_places}
+use Rattle.yq_inline.proofs.EditPlaces.{start_placed, end_placed}
 use Rattle.yq_rows.specs.Exchange.{behind_row}
 use Rattle.yq_rows.specs.Grammar.{IsCut}
 use Rattle.yq_rows.specs.Rows.{Content, Nothing, Inline, Block, Row, Cut, cut_text}
 use Rattle.yq_rows.specs.View.{rows_of}
 use Rattle.yq_tree.specs.EntryReading.{inline_node, placed_inline}
 use Rattle.yq_documents.specs.Lines.{tail_of}
-use Rattle.yq_tree.proofs.HeadSpanLaws.{node_start, node_end, node_spans}
+use Rattle.yq_tree.proofs.HeadSpanLaws.{node_spans}
 
 -- an item or entry with its key
 abbrev pub EntrySpans : List ℕ → PlacedEntry → Type 0
@@ -53,10 +54,10 @@ entry_order : (total : ℕ) (y : EntryPieces) → entry_start (locate_entry tota
 entry_order total y = go y.key
   where
     go : (k : Key) → entry_start (key_placed total (key_text k (node_text y.node y.rest)) k, locate total y.node y.rest) ≤ end_of (locate total y.node y.rest)
-    go bare = omega (arith, node_start total y.node y.rest, node_end total y.node y.rest, node_longer y.node y.rest)
+    go bare = omega (arith, start_placed total y.node y.rest, end_placed total y.node y.rest, node_longer y.node y.rest)
     go (keyed p b g) =
         let n : List ℕ = node_text y.node y.rest in
-        omega (arith, node_end total y.node y.rest, node_longer y.node y.rest, length-append p (b ++ (58 ∷ (g ++ n))), length-append b (58 ∷ (g ++ n)), length-append g n)
+        omega (arith, end_placed total y.node y.rest, node_longer y.node y.rest, length-append p (b ++ (58 ∷ (g ++ n))), length-append b (58 ∷ (g ++ n)), length-append g n)
 
 place_span : (t : List ℕ) (e : PlacedEntry) → EntrySpans t e → entry_start e ≤ end_of e.1 → IsSpan t (entry_start e) (end_of e.1)
 place_span t (None, placed a s c x f) h less = record { ordered = less; begins = h.1.0.begins; ends = h.1.1.ends }

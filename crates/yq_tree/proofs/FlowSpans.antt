@@ -4,7 +4,7 @@ use Rattle.yq_inline.specs.Entries.{entry_place, content_place, locate_entry}
 use Rattle.yq_inline.specs.Nodes.{Key, bare, keyed, Node, empty, alias, scalar, coll, anchored, key_text, node_text}
 use Rattle.yq_inline.specs.Places.{Placed, placed, sequence, mapping, holder, locate, locate_items, with_anchor}
 use Rattle.yq_inline.proofs.WrittenLaws.{key_append, node_then}
-use Rattle.yq_tree.proofs.HeadSpanLaws.{node_start, node_end}
+use Rattle.yq_inline.proofs.EditPlaces.{start_placed, end_placed}
 use Rattle.yq_documents.specs.Pieces.{piece_span, node_piece}
 use Rattle.yq_tree.specs.PathPieces.{FlowEntry, flow_piece, flow_content}
 use Rattle.yq_tree.proofs.PieceTexts.{item_text}
@@ -21,11 +21,11 @@ item_place y total e = (λ i. (start y.key refl i, stop i))
     split = ap length (ap (key_text y.key) (node_then y.node y.behind) ∙ key_append y.key (node_text y.node []) y.behind) ∙ length-append (key_text y.key (node_text y.node [])) y.behind
 
     start : (k : Key) → y.key ≡ k → (entry_place (locate_entry total (record { key = k; node = y.node; rest = y.behind }))).0 ≡ length y.before
-    start bare is = node_start total y.node y.behind ∙ omega (arith, e, text, ap (λ j. length (key_text j (node_text y.node y.behind))) is)
+    start bare is = start_placed total y.node y.behind ∙ omega (arith, e, text, ap (λ j. length (key_text j (node_text y.node y.behind))) is)
     start (keyed t b g) is = omega (arith, e, text, ap (λ j. length (key_text j (node_text y.node y.behind))) is)
 
     stop : (entry_place (locate_entry total (pieces y))).1 ≡ length y.before + length (key_text y.key (node_text y.node []))
-    stop = node_end total y.node y.behind ∙ omega (arith, e, text, split)
+    stop = end_placed total y.node y.behind ∙ omega (arith, e, text, split)
 
 pub anchor_place : (n : List ℕ) (start : ℕ) (p : Placed) → content_place (with_anchor n start p) ≡ content_place p
 anchor_place n start (placed a s c e f) = refl

@@ -10,7 +10,7 @@ use Rattle.yq_scalar.specs.declared.style.Place.TheVariants as places
 use Rattle.yq_scalar.specs.Block.{mark_of}
 use Rattle.yq_scalar.specs.Text.{is_empty}
 use Rattle.yq_scalar.proofs.Bools.{and_true}
-use Rattle.yq_inline.specs.Entries.{start_of, end_of}
+use Rattle.yq_inline.specs.Entries.{end_of}
 use Rattle.yq_inline.specs.Inline.{IsInlineAt}
 use Rattle.yq_inline.specs.Nodes.{Node, empty, alias, scalar, coll, anchored, node_text, IsNode}
 use Rattle.yq_inline.specs.Places.{Placed, placed, with_anchor, locate}
@@ -18,6 +18,7 @@ use Rattle.yq_inline.specs.Spans.{IsSpan, HasSpans}
 use Rattle.yq_inline.proofs.NodeAgain.{is_anchored}
 use Rattle.yq_inline.proofs.SpanLaws.{inline_spans}
 use Rattle.yq_inline.proofs.WrittenLaws.{node_then}
+use Rattle.yq_inline.proofs.EditPlaces.{end_placed}
 use Rattle.yq_rows.specs.Exchange.{before_content, behind_row}
 use Rattle.yq_rows.specs.Grammar.{IsContent, AreDashes, IsMark, is_entry, is_more, IsCut}
 use Rattle.yq_rows.specs.Rows as rows
@@ -37,30 +38,8 @@ use Rattle.yq_tree.proofs.StartLaws.{front_in}
 abbrev core_of : Placed → ℕ
 core_of (placed a s c e f) = c
 
-anchor_start : (n : List ℕ) (start : ℕ) (p : Placed) → start_of (with_anchor n start p) ≡ start
-anchor_start n start (placed a s c e f) = refl
-
 anchor_core : (n : List ℕ) (start : ℕ) (p : Placed) → core_of (with_anchor n start p) ≡ core_of p
 anchor_core n start (placed a s c e f) = refl
-
-anchor_end : (n : List ℕ) (start : ℕ) (p : Placed) → end_of (with_anchor n start p) ≡ end_of p
-anchor_end n start (placed a s c e f) = refl
-
-pub node_start : (total : ℕ) (node : Node) (rest : List ℕ) → start_of (locate total node rest) ≡ total - length (node_text node rest)
-unfolding locate
-node_start total empty rest = refl
-node_start total (alias n) rest = refl
-node_start total (scalar p) rest = refl
-node_start total (coll k g is) rest = refl
-node_start total (anchored n g node) rest = anchor_start n (total - length (node_text (anchored n g node) rest)) (locate total node rest)
-
-pub node_end : (total : ℕ) (node : Node) (rest : List ℕ) → end_of (locate total node rest) ≡ total - length rest
-unfolding locate
-node_end total empty rest = refl
-node_end total (alias n) rest = refl
-node_end total (scalar p) rest = refl
-node_end total (coll k g is) rest = refl
-node_end total (anchored n g node) rest = anchor_end n (total - length (node_text (anchored n g node) rest)) (locate total node rest) ∙ node_end total node rest
 
 unnamed_core : (total : ℕ) (node : Node) (rest : List ℕ) → is_anchored node ≡ false → core_of (locate total node rest) ≡ total - length (node_text node [] ++ rest)
 unfolding locate
@@ -98,7 +77,7 @@ bare_space rows.Bare space node tail rest e h = no_bytes space (and_true (is_emp
 bare_space rows.Dash space node tail rest e h = absurd (false≢true (sym e))
 bare_space (rows.Key key colon) space node tail rest e h = absurd (false≢true (sym e))
 
-mark_ascii : (style : BlockStyle) → mark_of style < 128
+pub mark_ascii : (style : BlockStyle) → mark_of style < 128
 mark_ascii styles.Literal = omega arith
 mark_ascii styles.Folded = omega arith
 
@@ -203,7 +182,7 @@ module _ (c : Cut) (i : ℕ) (r : Row) (u : IsUtf8 (cut_text c)) (cut : IsCut (c
         ap (λ (x : Content). length ((content_cut x).4 ++ ((content_cut x).5 ++ behind_row i c))) content,
       ) in
       let from : core_of p ≡ start = omega (arith, size, head, node_core _ _ _ total node rest valid, length-append (anchor_cut node).2 rest) in
-      let to : end_of p ≡ start + length s.head = omega (arith, size, node_end total node rest) in
+      let to : end_of p ≡ start + length s.head = omega (arith, size, end_placed total node rest) in
       subst (IsSpan (cut_text c) start) to (subst (λ (n : ℕ). IsSpan (cut_text c) n (end_of p)) from (core_span (cut_text c) p (node_spans space node tail content)))
 
   pub head_span : IsSpan (cut_text c) (head_extent i r c).0 (head_extent i r c).1

@@ -19,7 +19,7 @@ use Rattle.yq_documents.specs.Documents.{document_parts}
 use Rattle.yq_tree.specs.EntryReading.{head_end}
 use Rattle.yq_tree.specs.Extents.{head_place}
 use Rattle.yq_tree.specs.InlinePlaces.{InlinePlace, written_text, inline_in, inline_from, inline_place}
-use Rattle.yq_tree.specs.InlineReading.{InlineExtent, extent_of, content_extent, row_extent, line_extent, lines_extent, entry_extent, extent_from, extent_in, inline_telling, if_written}
+use Rattle.yq_tree.specs.InlineReading.{InlineExtent, extent_of, content_extent, row_extent, line_extent, lines_extent, entry_extent, extent_from, extent_in, extent_at, inline_telling, if_written}
 use Rattle.yq_documents.specs.Lines.{lines_of}
 use Rattle.yq_documents.specs.Located.{steps_of}
 use Rattle.yq_documents.specs.Reading.{all_documents}
@@ -44,15 +44,11 @@ none_some e = cc
 some_same : {A : Type 0} {x y : A} → Some x ≡ Some y → x ≡ y
 some_same e = cc
 
--- what is told by the rows of the place at steps
-abbrev pub extent_there : ℕ → List Step → Cut → Option InlineExtent
-extent_there doc steps c = slice_get (document_parts c) doc >>= λ d. extent_in (document_row doc c) c d.rows steps
-
--- it is the extent of the place
-pub inline_spans_are : (c : Cut) (doc : ℕ) (steps : List Step) → IsCut (cut_text c) c → all_documents c ≡ true → option_map extent_of (inline_from doc steps c) ≡ extent_there doc steps c
+-- what the code answers is the extent of the place
+pub inline_spans_are : (c : Cut) (doc : ℕ) (steps : List Step) → IsCut (cut_text c) c → all_documents c ≡ true → option_map extent_of (inline_from doc steps c) ≡ extent_at doc steps c
 inline_spans_are c doc steps cut sound = go (printed_document doc c) refl
   where
-    go : (o : Option PrintedDocument) → printed_document doc c ≡ o → option_map extent_of (o >>= inline_in steps) ≡ extent_there doc steps c
+    go : (o : Option PrintedDocument) → printed_document doc c ≡ o → option_map extent_of (o >>= inline_in steps) ≡ extent_at doc steps c
     go None is = sym (ap (λ (d : Option Part). d >>= λ d. extent_in (document_row doc c) c d.rows steps) (no_part _ doc c is))
     go (Some s) is =
         let q = document_is _ true doc c s cut.parts is in
@@ -113,7 +109,7 @@ module _ (c : Cut) (rs more : List Row) (k : ℕ) (u : IsUtf8 (cut_text c)) (cut
   in_spans [] x e = lines_spans 0 (length (lines_of rs)) x e
   in_spans (s ∷ ss) x e = let y = bind_some (reached (s ∷ ss) (lines_of rs)) e in from_spans y.0.0 y.0.1 x y.2
 
-pub extents_span : (c : Cut) (doc : ℕ) (steps : List Step) (x : InlineExtent) → IsUtf8 (cut_text c) → IsCut (cut_text c) c → extent_there doc steps c ≡ Some x → IsSpan (cut_text c) x.0 x.1
+pub extents_span : (c : Cut) (doc : ℕ) (steps : List Step) (x : InlineExtent) → IsUtf8 (cut_text c) → IsCut (cut_text c) c → extent_at doc steps c ≡ Some x → IsSpan (cut_text c) x.0 x.1
 extents_span c doc steps x u cut e =
     let d = bind_some (slice_get (document_parts c) doc) e in
     let b = part_begins c doc d.0 d.1 in

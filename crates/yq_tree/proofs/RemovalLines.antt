@@ -145,7 +145,7 @@ pub record AreLines (d : PlacedPart) (front own back : List Row) : Type 0 where
   pub gone : Ended (comment_above own d.part.end ++ behind_first own [] []) (first_gap back d.part.end ++ behind_first back d.part.end d.behind)
   pub gap : IsGap (first_gap back d.part.end) (behind_first back d.part.end d.behind)
 
-front_some : (front : List Row) (r : Row) (more : List Row) → no_rows (front ++ (r ∷ more)) ≡ false
+pub front_some : (front : List Row) (r : Row) (more : List Row) → no_rows (front ++ (r ∷ more)) ≡ false
 front_some [] r more = refl
 front_some (q ∷ front) r more = refl
 

@@ -1,5 +1,5 @@
 -- Block scalars behind keys and dashes, by the row that the code has found.
-use Rattle.std.proofs.Common.{◌≡◌, ℕ, ◌+◌, ◌-◌, ◌<◌, eqb, List, ◌∷◌, ◌++◌, length, take, drop, Option, Some, None, option_map, Bool, true, false, cond, refl, sym, ap, ◌∙◌, subst, arith, append_assoc, length-append}
+use Rattle.std.proofs.Common.{◌≡◌, ℕ, ◌+◌, ◌-◌, eqb, List, ◌∷◌, ◌++◌, length, take, drop, Option, Some, None, option_map, Bool, true, false, cond, refl, sym, ap, ◌∙◌, subst, arith, append_assoc, length-append}
 use Rattle.std.proofs.Math.Seq.{take-append_seam, drop-append_seam}
 use Rattle.std.proofs.lemmas.Bool.{eq-eqb, eqb-true}
 use Rattle.std.proofs.lemmas.Option.{slice_get-map}
@@ -7,9 +7,7 @@ use Rattle.std.proofs.lemmas.Str.{IsCharBoundary-at_seam, IsCharBoundary-from_ta
 use Rattle.std.specs.List.{slice_get}
 use Rattle.std.specs.Str.{IsUtf8, IsCharBoundary}
 use Rattle.yq_scalar.specs.Answers.{◌>>=◌}
-use Rattle.yq_scalar.specs.Block.{BlockText, mark_of}
-use Rattle.yq_scalar.specs.declared.block_header.BlockStyle.{BlockStyle}
-use Rattle.yq_scalar.specs.declared.block_header.BlockStyle.TheVariants as styles
+use Rattle.yq_scalar.specs.Block.{BlockText}
 use Rattle.yq_rows.specs.Exchange.{row_front, before_content}
 use Rattle.yq_rows.specs.Removal.{block_of}
 use Rattle.yq_rows.specs.Rows.{Content, Nothing, Inline, Block, Row, print_row, Cut}
@@ -32,6 +30,7 @@ use Rattle.yq_tree.proofs.CommentEndLaws.{row_line, row_same}
 use Rattle.yq_tree.proofs.CommentPieceLaws.{row_place}
 use Rattle.yq_tree.proofs.PlacedRowLaws.{seat_placed, no_seat_placed}
 use Rattle.yq_tree.proofs.StartLaws.{front_in}
+use Rattle.yq_tree.proofs.HeadSpanLaws.{mark_ascii}
 
 -- ---- a text cut round a head and the lines behind it
 
@@ -84,10 +83,6 @@ head_front (Block space None block) b r u e f g h = λ i. go i
     go : r.space ++ (r.anchor ++ (r.apart ++ u)) ≡ anchor_before r ++ (space_before r ++ u)
     go = rw (g, h) refl
 head_front (Block space (Some a) block) b r u e f g h = rw g (sym (append_assoc r.space (38 ∷ a.name) (r.apart ++ u)))
-
-mark_ascii : (m : BlockStyle) → mark_of m < 128
-mark_ascii styles.Literal = omega arith
-mark_ascii styles.Folded = omega arith
 
 head_ascii : (x : Content) (b : BlockText) (u : List ℕ) → block_of x ≡ Some b → BeginsAscii ((content_cut x).3 ++ u)
 head_ascii (Nothing tail) b u e = absurd (cc)

@@ -6,14 +6,12 @@ use Rattle.yq_rows.specs.Rows.{Content, Nothing, Inline, Block, Row, Cut}
 use Rattle.yq_lines.specs.Bodies.{lent}
 use Rattle.yq_lines.specs.Ends.{lines_end, reached}
 use Rattle.yq_lines.specs.Spots.{is_bare}
-use Rattle.yq_documents.specs.declared.path.Path.{Path}
 use Rattle.yq_tree.specs.declared.places.inline_place.InlinePlace as declared
 use Rattle.yq_tree.specs.declared.places.inline_place.InlineSpan.{InlineSpan}
 use Rattle.yq_documents.specs.Documents.{document_parts}
 use Rattle.yq_tree.specs.Extents.{head_place}
 use Rattle.yq_tree.specs.InlinePlaces.{InlinePlace, written_text}
 use Rattle.yq_documents.specs.Lines.{lines_of}
-use Rattle.yq_documents.specs.Located.{steps_of}
 use Rattle.yq_documents.specs.Seats.{seat, document_row}
 
 -- a text, if it has bytes
@@ -66,9 +64,9 @@ abbrev pub extent_in : ℕ → Cut → List Row → List Step → Option InlineE
 extent_in k c rs [] = lines_extent k c rs 0 (length (lines_of rs))
 extent_in k c rs (s ∷ ss) = reached (s ∷ ss) (lines_of rs) >>= λ x. extent_from k c rs x.0 x.1
 
--- the same of the node at a path
-abbrev pub extent_at : Path → Cut → Option InlineExtent
-extent_at p c = slice_get (document_parts c) p.doc >>= λ d. extent_in (document_row p.doc c) c d.rows (steps_of p)
+-- the same of the node to which steps lead in document n of a cut
+abbrev pub extent_at : ℕ → List Step → Cut → Option InlineExtent
+extent_at n steps c = slice_get (document_parts c) n >>= λ d. extent_in (document_row n c) c d.rows steps
 
 -- the text before a place, what is written there, the text behind it, and whether it is alone
 abbrev pub InlineTelling : Type 0

@@ -1,14 +1,15 @@
--- What an operation that fits says of its value, its key and the anchors that go.
-use Rattle.std.proofs.Common.{inl, inr, ◌≡◌, ℕ, ◌+◌, Bool, true, false, ◌||◌, cond, List, [], ◌∷◌, ◌++◌, length, Option, Some, None, refl, sym, ap, ◌∙◌, subst, arith}
+-- What an operation that fits says of its value, its key, the anchors that go, and the node that gives way.
+use Rattle.std.proofs.Common.{inl, inr, ◌≡◌, ℕ, ◌+◌, ◌≤◌, Bool, true, false, ◌||◌, cond, List, [], ◌∷◌, ◌++◌, length, Option, Some, None, refl, sym, ap, ◌∙◌, subst, arith}
 use Rattle.std.proofs.lemmas.Bool.{false≢true, ltb-false}
 use Rattle.std.proofs.lemmas.Slice.Eq.{bytes_eq-Decides}
-use Rattle.std.specs.List.{list_any}
+use Rattle.std.specs.List.{list_any, slice_get}
 use Rattle.std.proofs.lemmas.List.Elements.{All-cons}
 use Rattle.std.proofs.lemmas.List.Kept.{AllPairs-cons}
 use Rattle.std.specs.Prelude.{◌≢◌, All, AllPairs}
 use Rattle.std.specs.Str.{bytes_eq, chars}
+use Rattle.yq_scalar.specs.Answers.{◌>>=◌}
 use Rattle.yq_scalar.specs.Keys.{HasUniqueKeys, EachHasUniqueKeys, AreDistinct, with_key, keys_of, depth}
-use Rattle.yq_scalar.specs.Paths.{To, key_is, child_at}
+use Rattle.yq_scalar.specs.Paths.{Step, To, key_is, child_at, node_at}
 use Rattle.yq_scalar.specs.Scalar.{string_of}
 use Rattle.yq_scalar.specs.Shapes.{IsTree, AreTrees, AreEntries, IsNew}
 use Rattle.yq_scalar.specs.Tree as tree
@@ -19,12 +20,21 @@ use Rattle.yq_flow.specs.Valued.{IsLabel, IsValueTree, AreValueTrees}
 use Rattle.yq_inline.specs.Written.{scalar_text}
 use Rattle.yq_scalar.specs.Anchors.{Name, Anchors, Refers, names_of, names_in, IsAmong}
 use Rattle.yq_rows.specs.Grammar.{key_limit}
+use Rattle.yq_rows.specs.Rows.{Part, Cut, cut_text}
+use Rattle.yq_documents.specs.Documents.{Document, document_parts}
+use Rattle.yq_documents.specs.Reading as reading
+use Rattle.yq_documents.specs.Reading.{documents, root_of}
 use Rattle.yq_block.specs.BlockValues.{IsNear, HasNearKeys, EachHasNearKeys}
 use Rattle.yq_block.proofs.KeyLaws.{near_key}
 use Rattle.yq_change.specs.Conditions.{aliases_in, AreSpared}
-use Rattle.yq_change.specs.SoundRoots.{inner_names, IsNewValue}
+use Rattle.yq_change.specs.SoundRoots.{inner_names, IsNewValue, MayReplace}
 use Rattle.yq_meaning.specs.Changes.{is_long, has_long_key, have_long_key, is_deep, is_used, refers_to, is_used_inside}
+use Rattle.yq_meaning.specs.Fits.{Fits}
+use Rattle.yq_meaning.specs.Operations.{replace}
+use Rattle.yq_meaning.specs.Rooms.{room_of}
 use Rattle.yq_ways.specs.Operands.{KeyIsUtf8}
+use Rattle.yq_ways.specs.Replacing.{node_in}
+use Rattle.yq_ways.proofs.DoneLaws.{nth_map}
 
 -- ---- values
 
@@ -145,3 +155,35 @@ inside_spared names (tree.alias name) h = λ a among others. among
 inside_spared names (tree.scalar b kind text) h = λ a among others. among
 inside_spared names (tree.list b cs) h = not_used names (names_in cs) h
 inside_spared names (tree.map b cs) h = not_used names (names_in cs) h
+
+-- ---- a node that gives way
+
+-- An operation that fits exchanges a node of a part of a cut: that node is there, and the value may stand in its place.
+pub record FitsReplace (doc : ℕ) (steps : List Step) (v : Node) (c : Cut) (p : Part) : Type 0 where
+  pub node : Node
+  pub there : node_at steps (root_of p) ≡ Some node
+  pub known : node_in doc steps c ≡ Some node
+  pub may : MayReplace v node (root_of p) (length steps)
+  pub near : HasNearKeys v
+  pub long : has_long_key v ≡ false
+  pub deep : depth v ≤ depth_limit
+
+document_same : {d g : Document} → Some d ≡ Some g → d ≡ g
+document_same e = cc
+
+pub fits_replace : (doc : ℕ) (steps : List Step) (v : Node) (c : Cut) (p : Part) → slice_get (document_parts c) doc ≡ Some p → IsValueTree v → Fits (room_of (cut_text c)) (replace doc steps v) (documents c) → FitsReplace doc steps v c p
+fits_replace doc steps v c p at h fits =
+    let same : reading.document_of p ≡ fits.0 = document_same (sym (nth_map doc p reading.document_of (document_parts c) at) ∙ fits.1) in
+    let root : root_of p ≡ fits.0.root = ap (λ (d : Document). d.root) same in
+    let n : Node = fits.2.1.0 in
+    let used : is_used_inside (names_of (root_of p)) (Some n) ≡ false = ap (λ m. is_used_inside (names_of m) (Some n)) root ∙ fits.2.1.2 in
+    let new : IsNewValue v (length steps) = new_value (length steps) v h (tree_unique v fits.2.0.0) fits.2.0.2 in
+    record {
+      node = n;
+      there = ap (node_at steps) root ∙ fits.2.1.1;
+      known = ap (λ (o : Option Document). o >>= λ d. node_at steps d.root) fits.1 ∙ fits.2.1.1;
+      may = record { value_is = new; spared = inside_spared (names_of (root_of p)) n used };
+      near = near_keys v h fits.2.0.1;
+      long = fits.2.0.1;
+      deep = omega (arith, new.nested);
+    }

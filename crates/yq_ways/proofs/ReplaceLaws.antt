@@ -1,12 +1,11 @@
 -- Replacing inline nodes by inline nodes is a way.
-use Rattle.std.proofs.Common.{◌≡◌, ℕ, ◌≤◌, eqb, cond, List, [], ◌++◌, length, Option, Some, None, Bool, true, false, refl, sym, ap, ◌∙◌, subst, arith, append-nil}
+use Rattle.std.proofs.Common.{◌≡◌, ℕ, ◌≤◌, eqb, cond, List, [], ◌++◌, length, Option, Some, None, Bool, true, false, refl, sym, ap, ◌∙◌, subst, append-nil}
 use Rattle.std.proofs.lemmas.Bool.{false≢true}
 use Rattle.std.specs.List.{slice_get}
 use Rattle.std.specs.Str.{is_utf8}
-use Rattle.yq_scalar.specs.Answers.{◌>>=◌}
 use Rattle.yq_scalar.specs.Characters.{text_limit}
-use Rattle.yq_scalar.specs.Keys.{HasUniqueKeys, depth}
-use Rattle.yq_scalar.specs.Paths.{Step, change, node_at}
+use Rattle.yq_scalar.specs.Keys.{depth}
+use Rattle.yq_scalar.specs.Paths.{Step, change}
 use Rattle.yq_scalar.specs.Scalar.{ScalarText}
 use Rattle.yq_scalar.specs.Text.{front}
 use Rattle.yq_scalar.specs.Tree as tree
@@ -23,7 +22,7 @@ use Rattle.yq_inline.specs.Scalars.{style_of}
 use Rattle.yq_flow.specs.Valued.{IsValueTree}
 use Rattle.yq_inline.specs.Written.{flow_of, flow_text}
 use Rattle.yq_rows.specs.Rows.{Part, Cut, cut_text}
-use Rattle.yq_documents.specs.Documents.{Document, document_parts, lead_of}
+use Rattle.yq_documents.specs.Documents.{document_parts, lead_of}
 use Rattle.yq_tree.specs.InlinePlaces.{InlinePlace, written_text, apart_from, inline_from}
 use Rattle.yq_tree.specs.PathPieces.{printed_document}
 use Rattle.yq_documents.specs.Reading as reading
@@ -35,22 +34,20 @@ use Rattle.yq_tree.proofs.ReadLaws.{text_takes}
 use Rattle.yq_change.specs.DocumentRows.{IsDocumentPart}
 use Rattle.yq_change.specs.InlineRows.{IsValueNode, place_text, IsInlineReplaced}
 use Rattle.yq_change.specs.Rooms.{is_block_root}
-use Rattle.yq_change.specs.SoundRoots.{IsNewValue}
 use Rattle.yq_change.specs.TextPieces.{IsPiece}
 use Rattle.yq_change.proofs.InlineDoneLaws.{inline_replaced}
 use Rattle.yq_change.proofs.LeadLaws.{same_lead_goes}
-use Rattle.yq_meaning.specs.Changes.{has_long_key, is_deep, is_used_inside}
+use Rattle.yq_meaning.specs.Changes.{has_long_key}
 use Rattle.yq_meaning.specs.Fits.{Fits}
 use Rattle.yq_meaning.specs.Operations.{Operation, replace, append, remove, line_comment, head_comment}
 use Rattle.yq_meaning.specs.Rooms.{room_of}
-use Rattle.yq_scalar.specs.Anchors.{names_of}
 use Rattle.yq_script.specs.Script.{Segment, old_text, new_text}
 use Rattle.yq_ways.specs.Operands.{HasOperand}
 use Rattle.yq_ways.specs.Replacing.{node_in, scalar_in, are_same, is_kept, flow_written, value_written, replace_at, replace_way}
 use Rattle.yq_ways.specs.Style.{new_style}
 use Rattle.yq_ways.specs.Ways.{IsWay, ReadsAfter}
-use Rattle.yq_ways.proofs.DoneLaws.{nth_map, document_done}
-use Rattle.yq_ways.proofs.FitLaws.{new_value, inside_spared, tree_unique}
+use Rattle.yq_ways.proofs.DoneLaws.{document_done}
+use Rattle.yq_ways.proofs.FitLaws.{FitsReplace, fits_replace}
 use Rattle.yq_ways.proofs.KeptLaws.{led_same, kept_reads}
 use Rattle.yq_ways.proofs.PlaceReadable.{place_readable}
 use Rattle.yq_ways.proofs.ReplaceTexts.{place_whole, segments_old, segments_new}
@@ -124,15 +121,13 @@ module _ (doc : ℕ) (steps : List Step) (v : Node) (c : Cut) (w : InlinePlace) 
   old_part : IsDocumentPart (cut_text c) c doc p
   old_part = record { read = read; there = document.1 }
 
-  module _ (h : IsValueTree v) (n : Node) (there : node_at steps (root_of p) ≡ Some n) where
+  module _ (h : IsValueTree v) (f : FitsReplace doc steps v c p) where
     -- another node
-    replaced_reads : (t : List ℕ) → HasUniqueKeys v → has_long_key v ≡ false → is_deep (length steps) v ≡ false → is_used_inside (names_of (root_of p)) (Some n) ≡ false →
-        value_written w.alone (written_text w.old) v ≡ Some t → length (place_text w t) ≤ text_limit → ReadsAfter op c (place_text w t)
-    replaced_reads t unique long deep used value size =
-        let new : IsNewValue v (length steps) = new_value (length steps) v h unique deep in
-        let x : IsWrittenFor v t = written_for w.alone (written_text w.old) v t h (omega (arith, new.nested)) long value in
+    replaced_reads : (t : List ℕ) → value_written w.alone (written_text w.old) v ≡ Some t → length (place_text w t) ≤ text_limit → ReadsAfter op c (place_text w t)
+    replaced_reads t value size =
+        let x : IsWrittenFor v t = written_for w.alone (written_text w.old) v t h f.deep f.long value in
         let r : IsInlineReplaced c doc p steps w v (node_text x.node []) =
-        inline_replaced (cut_text c) c doc p steps w v n x.node old_part at x.is there (record { value_is = new; spared = inside_spared (names_of (root_of p)) n used })
+        inline_replaced (cut_text c) c doc p steps w v f.node x.node old_part at x.is f.there f.may
         (place_readable c doc steps w (node_text x.node []) read at (subst IsPiece (sym x.text) x.piece) (subst (λ u. length (place_text w u) ≤ text_limit) (sym x.text) size)) in
         let q : Part = r.part in
         subst (ReadsAfter op c) (r.text_is ∙ ap (place_text w) x.text)
@@ -153,9 +148,6 @@ place_old : (kept : Bool) (v : Node) (w : InlinePlace) (ss : List Segment) → r
 place_old true v w ss e = ap old_text (sym (some_same e)) ∙ segments_old w (written_text w.old) (written_text w.old)
 place_old false v w ss e = let m = map_some (value_written w.alone (written_text w.old) v) e in ap old_text (sym m.2) ∙ segments_old w (written_text w.old) (apart_from w.old m.0)
 
-same_document : {d g : Document} → Some d ≡ Some g → d ≡ g
-same_document h = cc
-
 replace_old : (doc : ℕ) (steps : List Step) (v : Node) (c : Cut) (ss : List Segment) → read_at (cut_text c) ≡ Some c → replace_way (replace doc steps v) c ≡ Some ss → old_text ss ≡ cut_text c
 unfolding replace_way
 replace_old doc steps v c ss read is =
@@ -167,27 +159,21 @@ replace_reads : (doc : ℕ) (steps : List Step) (v : Node) (c : Cut) (ss : List 
 unfolding replace_way
 replace_reads doc steps v c ss read is h fits size =
     let x = bind_some (inline_from doc steps c) is in
-    let w : InlinePlace = x.0 in
-    let part = document doc steps v c w read x.1 in
-    let d : reading.document_of part.0 ≡ fits.0 = same_document (sym (nth_map doc part.0 reading.document_of (document_parts c) part.1) ∙ fits.1) in
-    let root : root_of part.0 ≡ fits.0.root = ap (λ (y : Document). y.root) d in
-    let n : Node = fits.2.1.0 in
-    let there : node_at steps (root_of part.0) ≡ Some n = ap (node_at steps) root ∙ fits.2.1.1 in
-    let used : is_used_inside (names_of (root_of part.0)) (Some n) ≡ false = ap (λ y. is_used_inside (names_of y) (Some n)) root ∙ fits.2.1.2 in
-    let known : node_in doc steps c ≡ Some n = ap (λ (o : Option Document). o >>= λ d. node_at steps d.root) fits.1 ∙ fits.2.1.1 in
-    go w x.1 n there used (is_kept (node_in doc steps c) v) (sym (ap (λ o. is_kept o v) known)) x.2 (tree_unique v fits.2.0.0) fits.2.0.1 fits.2.0.2
+    let part = document doc steps v c x.0 read x.1 in
+    let f = fits_replace doc steps v c part.0 part.1 h fits in
+    go x.0 x.1 f (is_kept (node_in doc steps c) v) (sym (ap (λ o. is_kept o v) f.known)) x.2
   where
-    go : (w : InlinePlace) (at : inline_from doc steps c ≡ Some w) (n : Node) → node_at steps (root_of (document doc steps v c w read at).0) ≡ Some n → is_used_inside (names_of (root_of (document doc steps v c w read at).0)) (Some n) ≡ false →
-        (b : Bool) → are_same (scalar_in n) (scalar_in v) ≡ b → replace_at b v w ≡ Some ss → HasUniqueKeys v → has_long_key v ≡ false → is_deep (length steps) v ≡ false → ReadsAfter (replace doc steps v) c (new_text ss)
-    go w at n there used true kept e unique long deep =
+    go : (w : InlinePlace) (at : inline_from doc steps c ≡ Some w) (f : FitsReplace doc steps v c (document doc steps v c w read at).0) (b : Bool) → are_same (scalar_in f.node) (scalar_in v) ≡ b → replace_at b v w ≡ Some ss →
+        ReadsAfter (replace doc steps v) c (new_text ss)
+    go w at f true kept e =
         let text : cut_text c ≡ new_text ss = sym (ap new_text (sym (some_same e)) ∙ (segments_old w (written_text w.old) (written_text w.old) ∙ place_whole c doc steps w read at)) in
         let part = document doc steps v c w read at in
-        subst (ReadsAfter (replace doc steps v) c) text (kept_reads doc steps v c part.0 read part.1 n h there kept)
-    go w at n there used false kept e unique long deep =
+        subst (ReadsAfter (replace doc steps v) c) text (kept_reads doc steps v c part.0 read part.1 f.node h f.there kept)
+    go w at f false kept e =
         let m = map_some (value_written w.alone (written_text w.old) v) e in
         let text : place_text w m.0 ≡ new_text ss = sym (ap new_text (sym m.2) ∙ segments_new w m.0) in
         subst (ReadsAfter (replace doc steps v) c) text
-        (replaced_reads doc steps v c w read at h n there m.0 unique long deep used m.1 (subst (λ t. length t ≤ text_limit) (sym text) size))
+        (replaced_reads doc steps v c w read at h f m.0 m.1 (subst (λ t. length t ≤ text_limit) (sym text) size))
 
 pub replace_is : IsWay replace_way
 unfolding replace_way

@@ -75,12 +75,12 @@ none_closed b [] break h e =
     (rw (f.0, e) refl, tt)
 none_closed b (c ∷ p) break h e = (h.0, none_closed c p break h.1 e)
 
-comment_closed : (c break : List ℕ) → IsComment c [] → ends_return c ≡ false → IsComment c break
+pub comment_closed : (c break : List ℕ) → IsComment c [] → ends_return c ≡ false → IsComment c break
 comment_closed [] break h e = tt
 comment_closed (b ∷ []) break h e = (h.0, tt)
 comment_closed (b ∷ (c ∷ bs)) break h e = (h.0, none_closed c bs break h.1 e)
 
-no_end_return : (p : List ℕ) → pairs_returns p ≡ true → ends_return p ≡ false
+pub no_end_return : (p : List ℕ) → pairs_returns p ≡ true → ends_return p ≡ false
 no_end_return p h = false_from_ne_true (ends_return p) (λ e.
     let whole : pairs_returns (p ++ []) ≡ true = ap pairs_returns (append-nil p) ∙ h in
     let feed = return_then p [] whole e in false≢true feed)
@@ -108,12 +108,12 @@ fits_by n (Nothing tail) new rs end rest b t h e = t
 fits_by n (Inline space node tail) new rs end rest b t h e = (t, λ plain. plain_before n (Inline space node new) rs end rest h e plain t)
 fits_by n (Block space anchor block) new rs end rest b t h e = absurd (false≢true (sym b))
 
-content_tail : (n : ℤ) (c : Content) (t : List ℕ) → is_block c ≡ false → IsContent n c t → IsTail (tail_behind c) t
+pub content_tail : (n : ℤ) (c : Content) (t : List ℕ) → is_block c ≡ false → IsContent n c t → IsTail (tail_behind c) t
 content_tail n (Nothing tail) t b h = h
 content_tail n (Inline space node tail) t b h = h.2
 content_tail n (Block space anchor block) t b h = absurd (false≢true (sym b))
 
-tail_pairs : (c : Content) (t : List ℕ) → is_block c ≡ false → pairs_returns (content_text c t) ≡ true → pairs_returns (tail_behind c ++ t) ≡ true
+pub tail_pairs : (c : Content) (t : List ℕ) → is_block c ≡ false → pairs_returns (content_text c t) ≡ true → pairs_returns (tail_behind c ++ t) ≡ true
 tail_pairs (Nothing tail) t b h = h
 tail_pairs (Inline space node tail) t b h = pairs_back (node_text node []) (tail ++ t) (ap pairs_returns (sym (node_then node (tail ++ t))) ∙ pairs_back space (node_text node (tail ++ t)) h)
 tail_pairs (Block space anchor block) t b h = absurd (false≢true (sym b))

@@ -24,7 +24,7 @@ more_front (suc i) [] h = h
 more_front (suc i) (r ∷ rs) h = refl
 
 -- where rows are, a document is open
-open_part : (started b : Bool) → (started || b) ≡ true → b ≡ false → started ≡ true
+pub open_part : (started b : Bool) → (started || b) ≡ true → b ≡ false → started ≡ true
 open_part true b h n = refl
 open_part false b h n = absurd (false≢true (sym n ∙ h))
 
