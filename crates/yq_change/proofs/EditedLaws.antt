@@ -1,6 +1,7 @@
 -- Texts with other lines in one document.
 use Rattle.std.proofs.Common.{◌≡◌, ℕ, zero, suc, ◌≤◌, List, [], ◌∷◌, ◌++◌, Option, Some, None, true, refl, sym, ap, ◌∙◌, subst, append_assoc, arith}
 use Rattle.std.proofs.lemmas.Bool.{and_parts}
+use Rattle.std.proofs.lemmas.Option.{none-some, same_Some}
 use Rattle.std.specs.Prelude.{map as each_of}
 use Rattle.std.specs.List.{slice_get, list_all}
 use Rattle.yq_scalar.specs.Keys.{HasUniqueKeys, depth}
@@ -49,14 +50,8 @@ pub record Known (p : Part) : Type 0 where
   pub sound : IsSoundRoot (root_of p)
 
 all_at : (ps : List Part) (k : ℕ) (p : Part) → list_all is_document ps ≡ true → slice_get ps k ≡ Some p → is_document p ≡ true
-all_at [] k p e h = absurd (none_some h)
-  where
-    none_some : {x : Part} → None ≡ Some x → ⊥
-    none_some e = cc
-all_at (x ∷ ps) zero p e h = ap is_document (sym (same h)) ∙ (and_parts (is_document x) (list_all is_document ps) e).0
-  where
-    same : {x y : Part} → Some x ≡ Some y → x ≡ y
-    same e = cc
+all_at [] k p e h = absurd (none-some _ h)
+all_at (x ∷ ps) zero p e h = ap is_document (sym (same_Some _ _ h)) ∙ (and_parts (is_document x) (list_all is_document ps) e).0
 all_at (x ∷ ps) (suc k) p e h = all_at ps k p (and_parts (is_document x) (list_all is_document ps) e).1 h
 
 pub known : (t : List ℕ) (c : Cut) (k : ℕ) (p q : Part) → IsPut t c k p q → Known p
@@ -86,11 +81,8 @@ finish t c k p q f h stands each sound =
     document_changed t c k p q f h.read h.there h.rows h.utf8 h.cut
     (record { stands = stands; keys = h.keys; unique = sound.unique; nested = sound.nested; anchors = each; bound = sound.bound; short = h.short })
 
-some_same : {A : Type 0} {x y : A} → Some x ≡ Some y → x ≡ y
-some_same e = cc
-
 pub lines_are_there : LinesAreThere
-lines_are_there [] o h e = subst (λ (x : NodeLines). Some (value o) ≡ Some (anchored x.anchor (value x.lines))) (some_same e) (ap Some (sym (unanchored (value o))))
+lines_are_there [] o h e = subst (λ (x : NodeLines). Some (value o) ≡ Some (anchored x.anchor (value x.lines))) (same_Some _ _ e) (ap Some (sym (unanchored (value o))))
 lines_are_there (s ∷ ss) o h e = found (lines_found s ss o h e)
   where
     found : Under s ss o h → node_at (s ∷ ss) (value o) ≡ Some (anchored h.anchor (value h.lines))
@@ -291,10 +283,7 @@ map_of ps = each_of document_of ps
 pub lead_kept : LeadKept
 lead_kept c k p f there = go (document_parts c) k there
   where
-    same : {x y : Part} → Some x ≡ Some y → x ≡ y
-    same e = cc
-
     go : (ps : List Part) (k : ℕ) → slice_get ps k ≡ Some p → change_nth k (changed (lead_of p) f) (map_of ps) ≡ change_nth k (with_root f) (map_of ps)
     go [] k e = refl
-    go (x ∷ ps) zero e = ap (λ (y : Part). record { lead = lead_of y; root = f (root_of x) } ∷ map_of ps) (sym (same e))
+    go (x ∷ ps) zero e = ap (λ (y : Part). record { lead = lead_of y; root = f (root_of x) } ∷ map_of ps) (sym (same_Some _ _ e))
     go (x ∷ ps) (suc k) e = ap (λ ds. document_of x ∷ ds) (go ps k e)

@@ -1,10 +1,13 @@
 -- The rows of an item or entry that has rows of its own are that of its line and those under it.
-use Rattle.std.proofs.Common.{◌≡◌, ℕ, suc, ◌+◌, eqb, List, [], ◌∷◌, ◌++◌, length, take, drop, Option, Some, None, option_and_then, true, false, refl, sym, ap, ◌∙◌, arith, length-append}
-use Rattle.std.proofs.Math.Seq.{take-append_seam, drop-append_seam}
+use Rattle.std.proofs.Common.{◌≡◌, ℕ, suc, ◌+◌, eqb, List, [], ◌∷◌, ◌++◌, length, take, Option, Some, None, option_and_then, true, false, refl, sym, ap, ◌∙◌, arith, length-append}
+use Rattle.std.proofs.Math.Seq.{take-append_seam}
 use Rattle.std.proofs.lemmas.Bool.{false≢true, eqb-true}
+use Rattle.std.proofs.lemmas.List.{append_cancel_left}
+use Rattle.std.proofs.lemmas.Option.{cond_some, none-some, same_Some}
+use mathlib.Core.List.{head-eq_of_cons-eq}
 use Rattle.yq_scalar.specs.Answers.{◌>>=◌}
 use Rattle.yq_scalar.specs.Paths.{Step}
-use Rattle.yq_scalar.proofs.Bools.{bind_some, guard_some, guard_then}
+use Rattle.yq_scalar.proofs.Bools.{bind_some, guard_then}
 use Rattle.yq_lines.specs.Ends.{found_line, line_of, lines_end}
 use Rattle.yq_lines.specs.Group.{group, level_or, is_fine}
 use Rattle.yq_lines.specs.Outline.{Line, flatten}
@@ -27,12 +30,6 @@ use Rattle.yq_change.proofs.LineLaws.{row_count, seat_splits}
 use Rattle.yq_change.proofs.OwnRowLaws.{lines_counted, own_rows_stand}
 use Rattle.yq_change.proofs.PartLaws.{document_known}
 
-some_same : {A : Type 0} {x y : A} → Some x ≡ Some y → x ≡ y
-some_same e = cc
-
-none_some : {A : Type 0} {x : A} → None ≡ Some x → ⊥
-none_some e = cc
-
 -- the last step of a path
 snoc : (s : Step) (ss : List Step) → (init : List Step) × (last : Step) × (s ∷ ss ≡ init ++ (last ∷ []))
 snoc s [] = ([], s, refl)
@@ -40,23 +37,16 @@ snoc s (t ∷ ts) = let x = snoc t ts in (s ∷ x.0, x.1, ap (λ (y : List Step)
 
 -- the line that was found
 found_of : (o : Option (Found × List Step)) (n : ℕ) → option_and_then (λ x. found_line x.0 x.1) o ≡ Some n → (f : Found) × (o ≡ Some (f, [])) × (length (lines_before f.place) ≡ n)
-found_of None n e = absurd (none_some e)
+found_of None n e = absurd (none-some _ e)
 found_of (Some x) n e = go x.0 x.1 refl e
   where
     go : (f : Found) (left : List Step) → x ≡ (f, left) → found_line f left ≡ Some n → (f : Found) × (Some x ≡ Some (f, [])) × (length (lines_before f.place) ≡ n)
-    go f [] is e = (f, ap Some is, some_same e)
-    go f (t ∷ ts) is e = absurd (none_some e)
-
--- rows behind the same ones
-cancel : (front a b : List Row) → front ++ a ≡ front ++ b → a ≡ b
-cancel front a b e = sym (drop-append_seam front a) ∙ (ap (drop (length front)) e ∙ drop-append_seam front b)
+    go f [] is e = (f, ap Some is, same_Some _ _ e)
+    go f (t ∷ ts) is e = absurd (none-some _ e)
 
 first_row : (own back more : List Row) (r : Row) → no_rows own ≡ false → own ++ back ≡ r ∷ more → (under : List Row) × (own ≡ r ∷ under)
 first_row [] back more r some e = absurd (false≢true (sym some))
-first_row (o ∷ us) back more r some e = (us, ap (λ (x : Row). x ∷ us) (head e))
-  where
-    head : {x y : Row} {xs ys : List Row} → x ∷ xs ≡ y ∷ ys → x ≡ y
-    head e = cc
+first_row (o ∷ us) back more r some e = (us, ap (λ (x : Row). x ∷ us) (head-eq_of_cons-eq e))
 
 own_under : (t : List ℕ) (c : Cut) (k : ℕ) (p : Part) (s : Step) (ss : List Step) (x : OwnRows) (y : Seat) → IsDocumentPart t c k p → is_fine (group (lines_of p.rows)) ≡ true → own_rows (s ∷ ss) p.rows ≡ Some x →
     seat_of (s ∷ ss) p.rows ≡ Some y → y.line ≡ length y.row.dashes → OwnUnder p s ss x y
@@ -68,15 +58,15 @@ own_under t c k p s ss x y old fine own seated last =
     let n : ℕ = line.0 in
     let at = bind_some (seat n p.rows) line.2 in
     let q : Seat = at.0 in
-    let g = guard_some (eqb q.line 0) at.2 in
-    let same : q ≡ y = some_same (sym (ap (λ o. o >>= λ n. seat n p.rows) line.1 ∙ at.1) ∙ seated) in
+    let g = cond_some (eqb q.line 0) _ _ at.2 in
+    let same : q ≡ y = same_Some _ _ (sym (ap (λ o. o >>= λ n. seat n p.rows) line.1 ∙ at.1) ∙ seated) in
     let zero : q.line ≡ 0 = eqb-true q.line 0 g.0 in
     let f = found_of (find s ss (outline_of p)) n line.1 in
     let w = seat_splits n p.rows q at.1 in
     let front_is : x.front ≡ w.front = ap (λ (o : OwnRows). o.front) (sym g.1) ∙ ((λ i. take (sym w.before i) (w.rows_are i)) ∙ take-append_seam w.front (q.row ∷ w.back)) in
     let stand = own_stands (s ∷ ss) p.rows x own in
     let both : w.front ++ (x.own ++ x.back) ≡ w.front ++ (q.row ∷ w.back) = sym (stand.rows_are ∙ ap (λ (fs : List Row). fs ++ (x.own ++ x.back)) front_is) ∙ w.rows_are in
-    let mine = first_row x.own x.back w.back q.row stand.some (cancel w.front (x.own ++ x.back) (q.row ∷ w.back) both) in
+    let mine = first_row x.own x.back w.back q.row stand.some (append_cancel_left w.front (x.own ++ x.back) (q.row ∷ w.back) both) in
     let own_is : x.own ≡ y.row ∷ mine.0 = mine.1 ∙ ap (λ (z : Seat). z.row ∷ mine.0) same in
     let number : n ≡ length (lines_of x.front) = w.lines ∙ omega (arith, zero, ap (λ (fs : List Row). length (lines_of fs)) front_is) in
     let d = snoc s ss in
