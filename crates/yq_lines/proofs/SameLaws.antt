@@ -1,5 +1,6 @@
 -- What a change of one node keeps: depth, that keys differ, and the anchors and aliases.
 use Rattle.std.proofs.Common.{◌≡◌, suc, max, List, [], ◌∷◌, ◌++◌, Option, Some, None, option_and_then, Bool, true, false, ◌&&◌, cond, refl, sym, ap, ◌∙◌}
+use Rattle.std.proofs.lemmas.Option.{none-some, same_Some}
 use Rattle.yq_scalar.specs.Keys.{with_key, keys_of, depth, deepest, are_distinct}
 use Rattle.yq_scalar.specs.Paths.{Step, is_here, further, child_at, node_at, change_child, within, change}
 use Rattle.yq_scalar.specs.Tree.{Node, alias, scalar, list, map, Children, none, child, children_of}
@@ -13,9 +14,6 @@ AreAlike n m = (depth n ≡ depth m) × (has_unique_keys n ≡ has_unique_keys m
 abbrev pub ChildrenAreAlike : Children → Children → Type 0
 ChildrenAreAlike cs ds = (deepest cs ≡ deepest ds) × (each_has_unique_keys cs ≡ each_has_unique_keys ds) × (keys_of cs ≡ keys_of ds) × (names_in cs ≡ names_in ds)
 
-some_same : {x y : Node} → Some x ≡ Some y → x ≡ y
-some_same e = cc
-
 -- nodes that are the same as the one that is changed
 alike_at : (f : Node → Node) (n k : Node) → n ≡ k → AreAlike (f k) k → AreAlike (f n) n
 alike_at f n k is same =
@@ -28,7 +26,7 @@ child_alike s f (child label n cs) k e same = go (is_here s label) e (λ d. chil
     go : (b : Bool) → cond b (Some n) (child_at (further s) cs) ≡ Some k → (child_at (further s) cs ≡ Some k → ChildrenAreAlike (change_child (further s) f cs) cs) →
         ChildrenAreAlike (cond b (child label (f n) cs) (child label n (change_child (further s) f cs))) (child label n cs)
     go true e ih =
-        let a = alike_at f n k (some_same e) same in
+        let a = alike_at f n k (same_Some _ _ e) same in
         (ap (λ d. max d (deepest cs)) a.0, ap (λ b. b && each_has_unique_keys cs) a.1, refl, ap (λ x. x ++ names_in cs) a.2)
     go false e ih = let r = ih e in (ap (max (depth n)) r.0, ap (λ b. has_unique_keys n && b) r.1, ap (with_key label.key) r.2, ap (λ x. names_of n ++ x) r.3)
 
@@ -40,12 +38,9 @@ within_alike g (map a cs) h = (ap suc h.0, λ i. are_distinct (h.2 i) && h.1 i, 
 
 -- a change of one node by one that is alike
 pub change_alike : (ss : List Step) (g : Node → Node) (n old : Node) → node_at ss n ≡ Some old → AreAlike (g old) old → AreAlike (change ss g n) n
-change_alike [] g n old e same = alike_at g n old (some_same e) same
+change_alike [] g n old e same = alike_at g n old (same_Some _ _ e) same
 change_alike (s ∷ ss) g n old e same = go (child_at s (children_of n)) refl e (λ k d. change_alike ss g k old d same)
   where
-    none_some : {x : Node} → None ≡ Some x → ⊥
-    none_some e = cc
-
     go : (r : Option Node) → child_at s (children_of n) ≡ r → option_and_then (node_at ss) r ≡ Some old → ((k : Node) → node_at ss k ≡ Some old → AreAlike (change ss g k) k) → AreAlike (within (change_child s (change ss g)) n) n
-    go None is e ih = absurd (none_some e)
+    go None is e ih = absurd (none-some _ e)
     go (Some k) is e ih = within_alike (change_child s (change ss g)) n (child_alike s (change ss g) (children_of n) k is (ih k e))
