@@ -1,5 +1,6 @@
 -- What is written in block style is made of the characters of a text.
 use Rattle.std.proofs.Common.{◌≡◌, ℕ, zero, suc, Bool, true, false, List, [], ◌∷◌, ◌++◌, Option, Some, None, refl, sym, ap, ◌∙◌, subst, append-nil, replicate}
+use Rattle.std.proofs.lemmas.Bool.{and_from, and_parts}
 use Rattle.std.proofs.lemmas.List.Folds.{list_all-append}
 use Rattle.std.proofs.lemmas.Str.{chars-append, IsUtf8-append, IsUtf8-nil}
 use Rattle.std.specs.List.{list_all}
@@ -11,12 +12,10 @@ use Rattle.yq_scalar.specs.BlockWritten.{break_text}
 use Rattle.yq_scalar.specs.Characters.{is_text, is_text_char, pairs_returns}
 use Rattle.yq_scalar.specs.Tree as tree
 use Rattle.yq_scalar.specs.Tree.{Children}
-use Rattle.yq_scalar.proofs.Bools.{and_true}
 use Rattle.yq_inline.specs.Nodes as inline
 use Rattle.yq_inline.specs.Nodes.{node_text}
 use Rattle.yq_flow.specs.Valued.{IsLabel, IsValueTree, AreValueTrees}
 use Rattle.yq_rows.proofs.CharacterLaws.{pairs_join}
-use Rattle.yq_rows.proofs.PieceLaws.{both_true}
 use Rattle.yq_block.specs.BlockRows.{block_key, column_below, inline_of}
 use Rattle.yq_block.specs.BlockText.{block_children, block_entry, block_node, then_lines}
 use Rattle.yq_block.specs.declared.layout.Layout.{Layout}
@@ -29,11 +28,11 @@ IsUtf8Text t = IsUtf8 t × (is_text t ≡ true)
 
 pub sound_join : (a b : List ℕ) → IsUtf8Text a → IsUtf8Text b → IsUtf8Text (a ++ b)
 sound_join a b h k =
-    let p = and_true (list_all is_text_char (chars a)) (pairs_returns a) h.1 in
-    let q = and_true (list_all is_text_char (chars b)) (pairs_returns b) k.1 in
+    let p = and_parts (list_all is_text_char (chars a)) (pairs_returns a) h.1 in
+    let q = and_parts (list_all is_text_char (chars b)) (pairs_returns b) k.1 in
     let all : list_all is_text_char (chars (a ++ b)) ≡ true =
-    ap (list_all is_text_char) (chars-append a b h.0) ∙ (list_all-append is_text_char (chars a) (chars b) ∙ both_true _ _ p.0 q.0) in
-    (IsUtf8-append a b h.0 k.0, both_true _ _ all (pairs_join a b p.1 q.1))
+    ap (list_all is_text_char) (chars-append a b h.0) ∙ (list_all-append is_text_char (chars a) (chars b) ∙ and_from _ _ p.0 q.0) in
+    (IsUtf8-append a b h.0 k.0, and_from _ _ all (pairs_join a b p.1 q.1))
 
 sound_none : IsUtf8Text []
 unfolding chars pairs_returns encode

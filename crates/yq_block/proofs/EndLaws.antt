@@ -1,6 +1,6 @@
 -- What stands behind rows that are written one behind the other.
 use Rattle.std.proofs.Common.{◌≡◌, ℕ, suc, ◌≤◌, Bool, true, false, not, ◌&&◌, ◌||◌, eqb, List, ◌++◌, Option, Some, None, refl, sym, ◌∙◌, inl, inr, arith, []}
-use Rattle.std.proofs.lemmas.Bool.{false≢true, not-true, false_from_ne_true, le-leb, leb-true}
+use Rattle.std.proofs.lemmas.Bool.{false≢true, not-true, false_from_ne_true, le-leb, leb-true, and_parts, cases_Bool}
 use Rattle.std.specs.Prelude.{nat_le}
 use Rattle.yq_scalar.specs.declared.block_written.Break.{Break}
 use Rattle.yq_scalar.specs.declared.block_written.Break.TheVariants as breaks
@@ -8,7 +8,6 @@ use Rattle.yq_scalar.specs.BlockWritten.{break_text}
 use Rattle.yq_scalar.specs.Lines.{spaces}
 use Rattle.yq_scalar.specs.Plain.{no_gap, last_line, may_follow, follows, ends_plain, ends_text}
 use Rattle.yq_scalar.specs.Text.{cut, is_space, is_empty, is_line, front, is_marker}
-use Rattle.yq_scalar.proofs.Bools.{is_true, and_true}
 use Rattle.yq_rows.specs.Grammar.{IsTail}
 use Rattle.yq_rows.proofs.PlainEnds.{AtLine, tail_ends}
 use Rattle.yq_block.specs.BlockValues.{IsEnd}
@@ -32,7 +31,7 @@ less_deep d e n h k = let le : e ≤ n = leb-true e n k in le-leb d n (omega (ar
 follow_less : (d e : ℕ) (line : Option (List ℕ)) (text : List ℕ) → d ≤ e → may_follow (Some e) line text ≡ true → may_follow (Some d) line text ≡ true
 follow_less d e None text h k = refl
 follow_less d e (Some l) text h k =
-    let p = and_true (nat_le e (spaces (l ++ text))) (not (is_marker (l ++ text))) k in
+    let p = and_parts (nat_le e (spaces (l ++ text))) (not (is_marker (l ++ text))) k in
     rw (less_deep d e (spaces (l ++ text)) h p.0, p.1) refl
 
 abbrev may_go_on : List ℕ → Bool
@@ -40,12 +39,12 @@ may_go_on t = not (is_empty t) && not (front (λ b. eqb b 35) t) && not (ends_te
 
 follows_less : (d e : ℕ) (gap text : List ℕ) → d ≤ e → follows false (Some d) gap text ≡ false → follows false (Some e) gap text ≡ false
 follows_less d e gap text h k = false_from_ne_true (follows false (Some e) gap text) (λ on.
-    let p = and_true (may_go_on text) (may_follow (Some e) (last_line gap) text) on in
+    let p = and_parts (may_go_on text) (may_follow (Some e) (last_line gap) text) on in
     let yes : follows false (Some d) gap text ≡ true = rw (p.0, follow_less d e (last_line gap) text h p.1) refl in
     false≢true (sym k ∙ yes))
 
 ends_deeper : (d e : ℕ) (t : List ℕ) → d ≤ e → ends_plain false (Some d) t ≡ true → ends_plain false (Some e) t ≡ true
-ends_deeper d e t h k = elim (is_true (is_space t)) [
+ends_deeper d e t h k = elim (cases_Bool (is_space t)) [
   | inl s ↦ (
       let no : follows false (Some d) (cut no_gap t).0 (cut no_gap t).1 ≡ false = not-true _ (rw s at k) in
       rw s (rw (follows_less d e (cut no_gap t).0 (cut no_gap t).1 h no) refl))

@@ -1,7 +1,7 @@
 -- A key as it is written in block style: no marker, no merge key, and no longer than in a flow collection.
 use Rattle.std.proofs.Common.{◌≡◌, ℕ, ◌+◌, ◌<◌, ◌≤◌, Bool, true, false, cond, not, eqb, ltb, List, [], ◌∷◌, ◌++◌, length, Option, Some, None, flat_map, refl, sym, ap, ◌∙◌, inl, inr, subst, arith, append-nil, length-append}
 use Rattle.std.proofs.Math.Utf8.{encodes, encode, scalar, scalars}
-use Rattle.std.proofs.lemmas.Bool.{false≢true, ltb-true, not-true}
+use Rattle.std.proofs.lemmas.Bool.{false≢true, ltb-true, not-true, and_parts}
 use Rattle.std.proofs.lemmas.Str.{encode_ascii, scalars-chars, chars-encodes, encodes-append}
 use Rattle.std.specs.List.{list_all}
 use Rattle.std.specs.Str.{chars, IsUtf8}
@@ -13,7 +13,7 @@ use Rattle.yq_scalar.specs.PlainText.{is_plain_char, is_plain_text, begins_marke
 use Rattle.yq_scalar.specs.Scalar.{string_of}
 use Rattle.yq_scalar.specs.Writable.{can_write_plain}
 use Rattle.yq_scalar.specs.Written.{written_letters, letter_of, double_by, in_double, written, double}
-use Rattle.yq_scalar.proofs.Bools.{and_true, chosen}
+use Rattle.yq_scalar.proofs.Bools.{chosen}
 use Rattle.yq_scalar.proofs.PlainSpells.{writable_text}
 use Rattle.yq_scalar.proofs.PlainWritten.{plain_text_parts}
 use Rattle.yq_inline.specs.Written.{scalar_text}
@@ -44,7 +44,7 @@ key_by P k plain quoted = styled_by P k (can_write (string_of k) styles.Plain pl
 
 pub key_unmarked : (k t : List ℕ) → is_marker (block_key k ++ (58 ∷ t)) ≡ false
 key_unmarked k t = key_by (λ p. is_marker (p ++ (58 ∷ t)) ≡ false) k
-    (λ text. plain_unmarked k t (not-true (begins_marker k) (and_true _ (not (begins_marker k)) text).1))
+    (λ text. plain_unmarked k t (not-true (begins_marker k) (and_parts _ (not (begins_marker k)) text).1))
     (λ u. no_first 34 (u ++ (58 ∷ t)) refl refl)
 
 -- a key doesn't merge
@@ -86,7 +86,7 @@ counts_byte b h = subst (λ (p : List ℕ). Counts p 1) (encode_ascii b h) (coun
 letter_low : (es : List (ℕ × ℕ)) (c l : ℕ) → list_all (λ e. ltb e.0 128) es ≡ true → letter_of c es ≡ Some l → l < 128
 letter_low [] c l all h = absurd (let e : None ≡ Some l = h in cc)
 letter_low (e ∷ es) c l all h =
-    let p = and_true (ltb e.0 128) (list_all (λ e. ltb e.0 128) es) all in
+    let p = and_parts (ltb e.0 128) (list_all (λ e. ltb e.0 128) es) all in
     elim (chosen (eqb c e.1) h) [
       | inl w ↦ (let same : e.0 ≡ l = (let k : Some e.0 ≡ Some l = w.1 in cc) in subst (λ (x : ℕ). x < 128) same (ltb-true e.0 128 p.0))
       | inr w ↦ letter_low es c l p.1 w.1
@@ -101,9 +101,9 @@ counts_double c None h s t = rw t (counts_char c s)
 counts_doubles : (cs : List ℕ) → scalars cs ≡ true → list_all is_plain_char cs ≡ true → Counts (flat_map in_double cs) (length cs)
 counts_doubles [] h k = record { chars = []; valid = refl; spelled = refl; many = omega arith }
 counts_doubles (c ∷ cs) h k =
-    let p = and_true (scalar c) (scalars cs) h in
-    let q = and_true (is_plain_char c) (list_all is_plain_char cs) k in
-    let more = counts_append (in_double c) (flat_map in_double cs) 1 (length cs) (counts_double c (letter_of c written_letters) refl p.0 (and_true (is_text_char c) _ q.0).0) (counts_doubles cs p.1 q.1) in
+    let p = and_parts (scalar c) (scalars cs) h in
+    let q = and_parts (is_plain_char c) (list_all is_plain_char cs) k in
+    let more = counts_append (in_double c) (flat_map in_double cs) 1 (length cs) (counts_double c (letter_of c written_letters) refl p.0 (and_parts (is_text_char c) _ q.0).0) (counts_doubles cs p.1 q.1) in
     record { chars = more.chars; valid = more.valid; spelled = more.spelled; many = omega (arith, more.many) }
 
 longer : (k : List ℕ) → IsUtf8 k → list_all is_plain_char (chars k) ≡ true → length (chars k) ≤ length (chars (double k))

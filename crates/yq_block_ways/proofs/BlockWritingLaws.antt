@@ -1,13 +1,14 @@
 -- Replacing a node by a collection in block style is a way.
 use Rattle.std.proofs.Common.{◌≡◌, ℕ, ◌+◌, ◌≤◌, not, ◌||◌, Bool, true, false, cond, List, [], ◌∷◌, ◌++◌, length, replicate, None, Some, refl, sym, ap, ◌∙◌, subst, append_assoc, append-nil}
-use Rattle.std.proofs.lemmas.Bool.{false≢true}
+use Rattle.std.proofs.lemmas.Bool.{false≢true, and_parts, not-false, not-true, or_parts}
+use Rattle.std.proofs.lemmas.Option.{none-some, same_Some}
 use Rattle.yq_scalar.specs.BlockWritten.{break_text}
 use Rattle.yq_scalar.specs.Characters.{text_limit}
 use Rattle.yq_scalar.specs.Paths.{Step, node_at}
 use Rattle.yq_scalar.specs.Text.{is_empty}
 use Rattle.yq_scalar.specs.Tree as tree
 use Rattle.yq_scalar.specs.Tree.{Node}
-use Rattle.yq_scalar.proofs.Bools.{and_true, guard_then, or_false}
+use Rattle.yq_scalar.proofs.Bools.{guard_then}
 use Rattle.yq_flow.specs.Valued.{IsValueTree}
 use Rattle.yq_lines.specs.Comments.{line_comment as comment_in}
 use Rattle.yq_lines.specs.Places.{Found, content}
@@ -58,12 +59,6 @@ use Rattle.yq_block_ways.proofs.NodeRowLaws.{NodeRows, TakesNode, node_reads, q_
 use Rattle.yq_block_ways.proofs.NodeValueLaws.{IsHolding, end_is, mark_key, rows_under, takes_under}
 use Rattle.yq_ways.proofs.SegmentLaws.{segments_readable}
 
-none_some : {A : Type 0} {x : A} → None ≡ Some x → ⊥
-none_some e = cc
-
-some_same : {A : Type 0} {x y : A} → Some x ≡ Some y → x ≡ y
-some_same e = cc
-
 -- a collection with items or entries
 pub filled_is : (v : Node) → is_filled v ≡ true → IsFilled v
 filled_is (tree.alias name) e = absurd (false≢true e)
@@ -72,14 +67,6 @@ filled_is (tree.list a tree.none) e = absurd (false≢true e)
 filled_is (tree.list a (tree.child label n cs)) e = tt
 filled_is (tree.map a tree.none) e = absurd (false≢true e)
 filled_is (tree.map a (tree.child label n cs)) e = tt
-
-not_true : (b : Bool) → not b ≡ true → b ≡ false
-not_true true e = absurd (false≢true e)
-not_true false e = refl
-
-not_false : (b : Bool) → not b ≡ false → b ≡ true
-not_false true e = refl
-not_false false e = absurd (false≢true (sym e))
 
 -- columns under a key or dash
 pub same_below : (m : rows.Mark) (l : Layout) (v : Node) (n : ℕ) → is_entry m ≡ true → cond (is_key m) (n + indent_step l v) (item_column n) ≡ column_below l n (mark_key m) v
@@ -131,7 +118,7 @@ module _ (doc : ℕ) (s : Step) (ss : List Step) (c : Cut) (w : MarkPlace) (h : 
       f = h.leads.found
 
       may_there : MayReplace v (content f.line f.under) (root_of (p doc s ss c w h)) (length (s ∷ ss))
-      may_there = subst (λ x. MayReplace v x (root_of (p doc s ss c w h)) (length (s ∷ ss))) (some_same (sym at ∙ (path_node s ss (outline_of (p doc s ss c w h)) ∙ ap FoundNode h.leads.is))) may
+      may_there = subst (λ x. MayReplace v x (root_of (p doc s ss c w h)) (length (s ∷ ss))) (same_Some _ _ (sym at ∙ (path_node s ss (outline_of (p doc s ss c w h)) ∙ ap FoundNode h.leads.is))) may
 
       -- on the lines under the key or dash
       under_reads : length (new_text (under_segments l v place)) ≤ text_limit → ReadsAfter op c (new_text (under_segments l v place))
@@ -164,14 +151,14 @@ module _ (doc : ℕ) (s : Step) (ss : List Step) (c : Cut) (w : MarkPlace) (h : 
       -- on the line of a dash
       behind_reads : is_compact place ≡ true → length (new_text (behind_segments l v place)) ≤ text_limit → ReadsAfter op c (new_text (behind_segments l v place))
       behind_reads is size =
-          let both = and_true (not (place.keyed || place.named)) (is_empty place.comment) is in
-          let free = or_false place.keyed place.named (not_true (place.keyed || place.named) both.0) in
+          let both = and_parts (not (place.keyed || place.named)) (is_empty place.comment) is in
+          let free = or_parts place.keyed place.named (not-true (place.keyed || place.named) both.0) in
           let k : NodeRows doc s ss c = node doc s ss c w h in
           let row : Row = r doc s ss c w h in
           let z : List ℕ = rest doc s ss c w h in
           let t : IsTail (slices row).tail z = tail doc s ss c w h in
           let last : List ℕ = (slices row).tail in
-          let bare : is_empty (slices row).anchor ≡ true = not_false (is_empty (slices row).anchor) free.1 in
+          let bare : is_empty (slices row).anchor ≡ true = not-false (is_empty (slices row).anchor) free.1 in
           let dash : row.mark ≡ rows.Dash = is_dash row.mark (entry doc s ss c w h) (sym (key_is doc s ss c w h) ∙ free.0) in
           let ends : IsEnd (mark_column row) last z = end_is doc s ss c k last t in
           let quiet : comment_in last ≡ None = quiet_tail last z t both.1 in
@@ -241,15 +228,15 @@ replace_block_is = record { old = old; reads = reads }
   where
     old : (op : Operation) (c : Cut) (us : List Segment) → read_at (cut_text c) ≡ Some c → replace_block_way op c ≡ Some us → old_text us ≡ cut_text c
     old (replace doc steps v) c us read is = block_old doc steps v c us read is
-    old (append doc steps key v) c us read is = absurd (none_some is)
-    old (remove doc steps) c us read is = absurd (none_some is)
-    old (line_comment doc steps text) c us read is = absurd (none_some is)
-    old (head_comment doc steps text) c us read is = absurd (none_some is)
+    old (append doc steps key v) c us read is = absurd (none-some _ is)
+    old (remove doc steps) c us read is = absurd (none-some _ is)
+    old (line_comment doc steps text) c us read is = absurd (none-some _ is)
+    old (head_comment doc steps text) c us read is = absurd (none-some _ is)
 
     reads : (op : Operation) (c : Cut) (us : List Segment) → read_at (cut_text c) ≡ Some c → replace_block_way op c ≡ Some us → HasOperand op → Fits (room_of (cut_text c)) op (documents c) →
         length (new_text us) ≤ text_limit → ReadsAfter op c (new_text us)
     reads (replace doc steps v) c us read is operand fits size = block_way_reads doc steps v c us read is operand fits size
-    reads (append doc steps key v) c us read is operand fits size = absurd (none_some is)
-    reads (remove doc steps) c us read is operand fits size = absurd (none_some is)
-    reads (line_comment doc steps text) c us read is operand fits size = absurd (none_some is)
-    reads (head_comment doc steps text) c us read is operand fits size = absurd (none_some is)
+    reads (append doc steps key v) c us read is operand fits size = absurd (none-some _ is)
+    reads (remove doc steps) c us read is operand fits size = absurd (none-some _ is)
+    reads (line_comment doc steps text) c us read is operand fits size = absurd (none-some _ is)
+    reads (head_comment doc steps text) c us read is operand fits size = absurd (none-some _ is)

@@ -1,5 +1,6 @@
 -- Replacing a block collection under a key or dash is a way.
 use Rattle.std.proofs.Common.{◌≡◌, ◌⊎◌, inl, inr, ℕ, ◌+◌, ◌<◌, ◌≤◌, not, Bool, true, false, cond, List, [], ◌∷◌, ◌++◌, length, replicate, Option, Some, None, refl, sym, ap, ◌∙◌, subst, append_assoc, append-nil}
+use Rattle.std.proofs.lemmas.Option.{none-some, same_Some}
 use Rattle.yq_scalar.specs.BlockWritten.{break_text}
 use Rattle.yq_scalar.specs.Characters.{text_limit}
 use Rattle.yq_scalar.specs.Paths.{Step}
@@ -22,7 +23,7 @@ use Rattle.yq_tree.specs.PrintedLines.{less_break, last_break}
 use Rattle.yq_documents.specs.Reading as reading
 use Rattle.yq_documents.specs.Reading.{documents, outline_of, read_at, root_of}
 use Rattle.yq_tree.specs.RowPaths.{IsReadable}
-use Rattle.yq_tree.proofs.PrintedTexts.{less_is, map_some, none_some}
+use Rattle.yq_tree.proofs.PrintedTexts.{less_is, map_some}
 use Rattle.yq_change.specs.Appends.{inserted}
 use Rattle.yq_change.specs.Changed.{put_document}
 use Rattle.yq_change.specs.SoundRoots.{MayReplace}
@@ -62,9 +63,6 @@ use Rattle.yq_block_ways.proofs.NodeRowLaws as rowed
 use Rattle.yq_block_ways.proofs.NodeValueLaws.{IsHolding, end_is, mark_key, rows_beside, rows_under, takes_beside, takes_under}
 use Rattle.yq_ways.proofs.ReplaceLaws.{IsWrittenFor, written_for}
 use Rattle.yq_ways.proofs.SegmentLaws.{segments_readable}
-
-some_same : {A : Type 0} {x y : A} → Some x ≡ Some y → x ≡ y
-some_same e = cc
 
 module _ (doc : ℕ) (s : Step) (ss : List Step) (c : Cut) (w : MarkPlace) (x : CollectionEnd) (read : read_at (cut_text c) ≡ Some c) (at : mark_place doc (s ∷ ss) c ≡ Some w) (ends : collection_end doc (s ∷ ss) c ≡ Some x) (v : Node) where
   abbrev h : NodeRows doc s ss c
@@ -223,7 +221,7 @@ pub no_mark : (doc : ℕ) (c : Cut) (w : MarkPlace) → mark_place doc [] c ≡ 
 no_mark doc c w e =
     let ends = bind_some (line_end doc [] c) e in
     let y = bind_some (row_of_path doc [] c) ends.1 in
-    none_some (Rattle.yq_ways.proofs.CommentRowLaws.row_found doc [] c y.0 y.1).seat_is
+    none-some _ (Rattle.yq_ways.proofs.CommentRowLaws.row_found doc [] c y.0 y.1).seat_is
 
 collection_way : (doc : ℕ) (steps : List Step) (v : Node) (c : Cut) (us : List Segment) → replace_collection_way (replace doc steps v) c ≡ Some us → IsCollectionWay doc steps v c us
 unfolding replace_collection_way
@@ -259,7 +257,7 @@ reads_there doc s ss v c w x y read at ends written value_tree fits =
     f = fits_replace doc (s ∷ ss) v c h.p h.old.there value_tree fits
 
     node_is : f.node ≡ content h.found.line h.found.under
-    node_is = some_same (sym f.there ∙ (path_node s ss (outline_of h.p) ∙ ap FoundNode h.is))
+    node_is = same_Some _ _ (sym f.there ∙ (path_node s ss (outline_of h.p) ∙ ap FoundNode h.is))
 
     may : MayReplace v (content h.found.line h.found.under) (root_of h.p) (length (s ∷ ss))
     may = subst (λ q. MayReplace v q (root_of h.p) (length (s ∷ ss))) node_is f.may
@@ -270,7 +268,7 @@ reads_there doc s ss v c w x y read at ends written value_tree fits =
     by : (b : Bool) → is_filled v ≡ b → cond b (Some (written_of [] (lines_below (layout_of doc c) (below_mark (layout_of doc c) q v) v))) (Rattle.std.proofs.Common.option_map beside_mark (value_written false [] v)) ≡ Some y →
         length (new_text (exchange_segments (lines_upto q x) y)) ≤ text_limit → ReadsAfter (replace doc (s ∷ ss) v) c (new_text (exchange_segments (lines_upto q x) y))
     by true full e =
-        subst (λ (z : Written). length (new_text (exchange_segments (lines_upto q x) z)) ≤ text_limit → ReadsAfter (replace doc (s ∷ ss) v) c (new_text (exchange_segments (lines_upto q x) z))) (some_same e)
+        subst (λ (z : Written). length (new_text (exchange_segments (lines_upto q x) z)) ≤ text_limit → ReadsAfter (replace doc (s ∷ ss) v) c (new_text (exchange_segments (lines_upto q x) z))) (same_Some _ _ e)
         (lines_read doc s ss c w x read at ends v value_tree (record { filled = filled_is v full; value = value_tree }) f.near may)
     by false full e =
         let m = map_some (value_written false [] v) e in
@@ -292,15 +290,15 @@ replace_collection_is = record { old = old; reads = reads }
   where
     old : (op : Operation) (c : Cut) (us : List Segment) → read_at (cut_text c) ≡ Some c → replace_collection_way op c ≡ Some us → old_text us ≡ cut_text c
     old (replace doc steps v) c us read is = collection_old doc steps v c us read is
-    old (append doc steps key v) c us read is = absurd (none_some is)
-    old (remove doc steps) c us read is = absurd (none_some is)
-    old (line_comment doc steps text) c us read is = absurd (none_some is)
-    old (head_comment doc steps text) c us read is = absurd (none_some is)
+    old (append doc steps key v) c us read is = absurd (none-some _ is)
+    old (remove doc steps) c us read is = absurd (none-some _ is)
+    old (line_comment doc steps text) c us read is = absurd (none-some _ is)
+    old (head_comment doc steps text) c us read is = absurd (none-some _ is)
 
     reads : (op : Operation) (c : Cut) (us : List Segment) → read_at (cut_text c) ≡ Some c → replace_collection_way op c ≡ Some us → HasOperand op → Fits (room_of (cut_text c)) op (documents c) →
         length (new_text us) ≤ text_limit → ReadsAfter op c (new_text us)
     reads (replace doc steps v) c us read is operand fits size = collection_reads doc steps v c us read is operand fits size
-    reads (append doc steps key v) c us read is operand fits size = absurd (none_some is)
-    reads (remove doc steps) c us read is operand fits size = absurd (none_some is)
-    reads (line_comment doc steps text) c us read is operand fits size = absurd (none_some is)
-    reads (head_comment doc steps text) c us read is operand fits size = absurd (none_some is)
+    reads (append doc steps key v) c us read is operand fits size = absurd (none-some _ is)
+    reads (remove doc steps) c us read is operand fits size = absurd (none-some _ is)
+    reads (line_comment doc steps text) c us read is operand fits size = absurd (none-some _ is)
+    reads (head_comment doc steps text) c us read is operand fits size = absurd (none-some _ is)

@@ -1,11 +1,12 @@
 -- The rows of a block collection under a key or dash, and the text round them.
 use Rattle.std.proofs.Common.{◌≡◌, ◌⊎◌, inl, inr, ℕ, suc, ◌+◌, ◌-◌, ◌<◌, not, true, false, ◌&&◌, List, [], ◌∷◌, ◌++◌, length, take, drop, Option, Some, None, option_map, refl, sym, ap, ◌∙◌, subst, arith, append_assoc, append-nil, length-append}
 use Rattle.std.proofs.Math.Seq.{take-append_seam}
-use Rattle.std.proofs.lemmas.Bool.{false≢true}
+use Rattle.std.proofs.lemmas.Bool.{false≢true, and_parts}
+use mathlib.Core.List.{head-eq_of_cons-eq, tail-eq_of_cons-eq}
 use Rattle.yq_scalar.specs.Characters.{pairs_returns}
 use Rattle.yq_scalar.specs.Paths.{Step}
 use Rattle.yq_scalar.specs.Text.{is_break, is_empty, is_line}
-use Rattle.yq_scalar.proofs.Bools.{and_true, bind_some}
+use Rattle.yq_scalar.proofs.Bools.{bind_some}
 use Rattle.yq_scalar.proofs.BlockPieceLaws.{IsLf}
 use Rattle.yq_lines.specs.Comments.{line_comment}
 use Rattle.yq_lines.specs.Outline as outline
@@ -62,21 +63,15 @@ use Rattle.yq_block_ways.proofs.NodeRowLaws.{NodeRows, rows_there}
 
 -- ---- rows among rows
 
-head_same : {a b : Row} {az bz : List Row} → a ∷ az ≡ b ∷ bz → a ≡ b
-head_same e = cc
-
-tail_same : {a b : Row} {az bz : List Row} → a ∷ az ≡ b ∷ bz → az ≡ bz
-tail_same e = cc
-
 -- rows that reach behind others begin with them
 pub rows_reach : (xs : List Row) (a : Row) (az ys bz : List Row) → xs ++ (a ∷ az) ≡ ys ++ bz → length (lines_of xs) < length (lines_of ys) → (us : List Row) × (ys ≡ xs ++ (a ∷ us)) × (az ≡ us ++ bz)
 rows_reach [] a az [] bz e n = absurd (omega (arith, n))
-rows_reach [] a az (y ∷ ys) bz e n = (ys, ap (λ (r : Row). r ∷ ys) (sym (head_same e)), tail_same e)
+rows_reach [] a az (y ∷ ys) bz e n = (ys, ap (λ (r : Row). r ∷ ys) (sym (head-eq_of_cons-eq e)), tail-eq_of_cons-eq e)
 rows_reach (x ∷ xs) a az [] bz e n = absurd (omega (arith, n))
 rows_reach (x ∷ xs) a az (y ∷ ys) bz e n =
-    let one = ap (λ (r : Row). length (row_lines r)) (head_same e) in
-    let w = rows_reach xs a az ys bz (tail_same e) (omega (arith, n, one, length-append (row_lines x) (lines_of xs), length-append (row_lines y) (lines_of ys))) in
-    (w.0, (λ i. sym (head_same e) i ∷ w.1 i), w.2)
+    let one = ap (λ (r : Row). length (row_lines r)) (head-eq_of_cons-eq e) in
+    let w = rows_reach xs a az ys bz (tail-eq_of_cons-eq e) (omega (arith, n, one, length-append (row_lines x) (lines_of xs), length-append (row_lines y) (lines_of ys))) in
+    (w.0, (λ i. sym (head-eq_of_cons-eq e) i ∷ w.1 i), w.2)
 
 -- ---- lines under a mark
 
@@ -421,7 +416,7 @@ module _ (doc : ℕ) (s : Step) (ss : List Step) (c : Cut) (w : MarkPlace) (x : 
 
   -- in it an LF stands behind each CR
   pub pairs : pairs_returns ((slices row).tail ++ rest) ≡ true
-  pairs = pairs_back front_text ((slices row).tail ++ rest) (ap pairs_returns (sym whole_text) ∙ (and_true _ (pairs_returns (cut_text c)) (text_is_piece c read).characters).1)
+  pairs = pairs_back front_text ((slices row).tail ++ rest) (ap pairs_returns (sym whole_text) ∙ (and_parts _ (pairs_returns (cut_text c)) (text_is_piece c read).characters).1)
 
   -- its pieces
   pub end_pieces : EndPieces (end_of_tail front_text (slices row).tail rest tail)

@@ -1,5 +1,6 @@
 -- Replacing a compact collection behind a dash is a way.
 use Rattle.std.proofs.Common.{◌≡◌, ◌⊎◌, inl, inr, ℕ, ◌≤◌, Bool, true, false, cond, List, [], ◌∷◌, ◌++◌, length, replicate, Some, None, option_map, refl, sym, ap, ◌∙◌, subst, arith, append_assoc, append-nil}
+use Rattle.std.proofs.lemmas.Option.{none-some, same_Some}
 use Rattle.yq_scalar.specs.BlockWritten.{break_text}
 use Rattle.yq_scalar.specs.Characters.{text_limit}
 use Rattle.yq_scalar.specs.Paths.{Step}
@@ -25,7 +26,7 @@ use Rattle.yq_tree.specs.PlacedRows.{row_of_path}
 use Rattle.yq_tree.specs.PrintedLines.{less_break, last_break}
 use Rattle.yq_documents.specs.Reading.{documents, outline_of, read_at, root_of}
 use Rattle.yq_tree.specs.RowPaths.{IsReadable}
-use Rattle.yq_tree.proofs.PrintedTexts.{less_is, map_some, none_some}
+use Rattle.yq_tree.proofs.PrintedTexts.{less_is, map_some}
 use Rattle.yq_change.specs.Appends.{inserted}
 use Rattle.yq_change.specs.Changed.{put_document}
 use Rattle.yq_change.specs.SoundRoots.{MayReplace}
@@ -66,9 +67,6 @@ use Rattle.yq_block_ways.proofs.NodeRowLaws as rowed
 use Rattle.yq_block_ways.proofs.NodeValueLaws.{IsHolding, end_is, rows_beside, rows_under, takes_beside, takes_under}
 use Rattle.yq_ways.proofs.ReplaceLaws.{IsWrittenFor, written_for}
 use Rattle.yq_ways.proofs.SegmentLaws.{segments_readable}
-
-some_same : {A : Type 0} {x y : A} → Some x ≡ Some y → x ≡ y
-some_same e = cc
 
 break_is_piece : (b : List ℕ) → (b ≡ []) ⊎ IsLfOrCrLf b → IsPiece b
 break_is_piece b (inl e) = subst IsPiece (sym e) nothing
@@ -234,7 +232,7 @@ pub record IsCompactWay (doc : ℕ) (steps : List Step) (v : Node) (c : Cut) (us
 
 -- a root has no dash
 pub no_dash : (doc : ℕ) (c : Cut) (d : DashPlace) → dash_place doc [] c ≡ Some d → ⊥
-no_dash doc c d e = let y = bind_some (row_of_path doc [] c) e in none_some (row_found doc [] c y.0 y.1).seat_is
+no_dash doc c d e = let y = bind_some (row_of_path doc [] c) e in none-some _ (row_found doc [] c y.0 y.1).seat_is
 
 compact_way : (doc : ℕ) (steps : List Step) (v : Node) (c : Cut) (us : List Segment) → read_at (cut_text c) ≡ Some c → replace_compact_way (replace doc steps v) c ≡ Some us → IsCompactWay doc steps v c us
 unfolding replace_compact_way
@@ -266,7 +264,7 @@ reads_there doc s ss v c k t written value_tree fits = by (is_filled v) refl wri
     f = fits_replace doc (s ∷ ss) v c h.p h.old.there value_tree fits
 
     node_is : f.node ≡ content h.found.line h.found.under
-    node_is = some_same (sym f.there ∙ (path_node s ss (outline_of h.p) ∙ ap FoundNode h.is))
+    node_is = same_Some _ _ (sym f.there ∙ (path_node s ss (outline_of h.p) ∙ ap FoundNode h.is))
 
     may : MayReplace v (content h.found.line h.found.under) (root_of h.p) (length (s ∷ ss))
     may = subst (λ q. MayReplace v q (root_of h.p) (length (s ∷ ss))) node_is f.may
@@ -276,7 +274,7 @@ reads_there doc s ss v c k t written value_tree fits = by (is_filled v) refl wri
 
     by : (b : Bool) → is_filled v ≡ b → cond b (Some (filled_behind (layout_of doc c) v k.d)) (option_map (λ t. 32 ∷ t) (value_written false [] v)) ≡ Some t →
         length (new_text (compact_segments (compact_upto k.d k.x) t)) ≤ text_limit → ReadsAfter (replace doc (s ∷ ss) v) c (new_text (compact_segments (compact_upto k.d k.x) t))
-    by true full e = subst ReadsSo (some_same e) (filled_reads doc s ss c k v may value_tree (record { filled = filled_is v full; value = value_tree }) f.near)
+    by true full e = subst ReadsSo (same_Some _ _ e) (filled_reads doc s ss c k v may value_tree (record { filled = filled_is v full; value = value_tree }) f.near)
     by false full e =
         let m = map_some (value_written false [] v) e in
         subst ReadsSo m.2 (beside_reads doc s ss c k v may m.0 (written_for false [] v m.0 value_tree f.deep f.long m.1))
@@ -296,15 +294,15 @@ replace_compact_is = record { old = old; reads = reads }
   where
     old : (op : Operation) (c : Cut) (us : List Segment) → read_at (cut_text c) ≡ Some c → replace_compact_way op c ≡ Some us → old_text us ≡ cut_text c
     old (replace doc steps v) c us read is = compact_old doc steps v c us read is
-    old (append doc steps key v) c us read is = absurd (none_some is)
-    old (remove doc steps) c us read is = absurd (none_some is)
-    old (line_comment doc steps text) c us read is = absurd (none_some is)
-    old (head_comment doc steps text) c us read is = absurd (none_some is)
+    old (append doc steps key v) c us read is = absurd (none-some _ is)
+    old (remove doc steps) c us read is = absurd (none-some _ is)
+    old (line_comment doc steps text) c us read is = absurd (none-some _ is)
+    old (head_comment doc steps text) c us read is = absurd (none-some _ is)
 
     reads : (op : Operation) (c : Cut) (us : List Segment) → read_at (cut_text c) ≡ Some c → replace_compact_way op c ≡ Some us → HasOperand op → Fits (room_of (cut_text c)) op (documents c) →
         length (new_text us) ≤ text_limit → ReadsAfter op c (new_text us)
     reads (replace doc steps v) c us read is operand fits size = compact_reads doc steps v c us read is operand fits size
-    reads (append doc steps key v) c us read is operand fits size = absurd (none_some is)
-    reads (remove doc steps) c us read is operand fits size = absurd (none_some is)
-    reads (line_comment doc steps text) c us read is operand fits size = absurd (none_some is)
-    reads (head_comment doc steps text) c us read is operand fits size = absurd (none_some is)
+    reads (append doc steps key v) c us read is operand fits size = absurd (none-some _ is)
+    reads (remove doc steps) c us read is operand fits size = absurd (none-some _ is)
+    reads (line_comment doc steps text) c us read is operand fits size = absurd (none-some _ is)
+    reads (head_comment doc steps text) c us read is operand fits size = absurd (none-some _ is)

@@ -2,6 +2,7 @@
 use Rattle.std.proofs.Common.{◌≡◌, ◌⊎◌, inl, inr, ℕ, zero, suc, ◌+◌, ◌<◌, ◌≤◌, Bool, true, false, cond, eqb, List, [], ◌∷◌, ◌++◌, length, take, drop, replicate, Some, None, refl, sym, ap, ◌∙◌, subst, arith, append_assoc, length-append}
 use Rattle.std.proofs.lemmas.Bool.{false≢true, cases_lt, eq-eqb}
 use Rattle.std.proofs.lemmas.List.{append_cancel_left, length-take-le, take-append-drop}
+use Rattle.std.proofs.lemmas.Option.{none-some, same_Some}
 use Rattle.yq_scalar.specs.Paths.{Step}
 use Rattle.yq_scalar.specs.Text.{is_empty}
 use Rattle.yq_scalar.proofs.Bools.{bind_some}
@@ -24,7 +25,6 @@ use Rattle.yq_tree.specs.PrintedLines.{last_break}
 use Rattle.yq_documents.specs.Reading.{outline_of, read_at}
 use Rattle.yq_tree.proofs.CommentPieceLaws.{Ended}
 use Rattle.yq_tree.proofs.DashLaws.{front_is, line_within, row_cut}
-use Rattle.yq_tree.proofs.PrintedTexts.{none_some, same}
 use Rattle.yq_change.specs.CollectionPlaces.{IsCollectionEnd}
 use Rattle.yq_change.specs.DocumentRows.{IsDocumentPart, behind_document}
 use Rattle.yq_change.specs.Siblings.{HasEntries, NodeLines}
@@ -69,8 +69,8 @@ dash_there : (w : PlacedRow) (d : DashPlace) → w.line ≤ length w.row.dashes 
 dash_there w d within e = go (cases_lt w.line (length w.row.dashes))
   where
     told : (b : Bool) → eqb w.line (length w.row.dashes) ≡ b → cond b None (Some (dash_in w)) ≡ Some d → (w.line ≡ length w.row.dashes → ⊥) × (dash_in w ≡ d)
-    told true is h = absurd (none_some h)
-    told false is h = (λ last. false≢true (sym is ∙ eq-eqb w.line (length w.row.dashes) last), same h)
+    told true is h = absurd (none-some _ h)
+    told false is h = (λ last. false≢true (sym is ∙ eq-eqb w.line (length w.row.dashes) last), same_Some _ _ h)
 
     known : (w.line ≡ length w.row.dashes → ⊥) × (dash_in w ≡ d)
     known = told (eqb w.line (length w.row.dashes)) refl e

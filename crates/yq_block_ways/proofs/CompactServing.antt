@@ -1,6 +1,6 @@
 -- There is a way to put a value in the place of a compact collection.
 use Rattle.std.proofs.Common.{◌≡◌, ℕ, ◌+◌, ◌<◌, Bool, true, false, cond, eqb, List, [], ◌∷◌, length, Option, Some, None, option_map, option_and_then, refl, sym, ap, ◌∙◌, arith, length-append}
-use Rattle.std.proofs.lemmas.Option.{slice_get-get_or}
+use Rattle.std.proofs.lemmas.Option.{slice_get-get_or, none-some}
 use Rattle.yq_scalar.specs.Answers.{◌>>=◌}
 use Rattle.yq_scalar.specs.Paths.{Step}
 use Rattle.yq_scalar.specs.Tree as tree
@@ -19,7 +19,7 @@ use Rattle.yq_tree.specs.PathPieces.{printed_document}
 use Rattle.yq_tree.specs.PlacedRows.{PlacedPart, PlacedRow, placed_document, placed_row, row_of_path}
 use Rattle.yq_documents.specs.Reading.{outline_of, read_at}
 use Rattle.yq_documents.specs.Seats.{Seat, seat, seat_of}
-use Rattle.yq_tree.proofs.PrintedTexts.{map_some, none_some}
+use Rattle.yq_tree.proofs.PrintedTexts.{map_some}
 use Rattle.yq_tree.proofs.RootTold.{document_printed}
 use Rattle.yq_tree.proofs.SeatLineLaws.{seat_line}
 use Rattle.yq_change.specs.CollectionPlaces.{IsCollectionEnd}
@@ -83,7 +83,7 @@ other_dash doc steps c w at none = go (eqb w.line (length w.row.dashes)) refl
     go true e =
         let end : line_end doc steps c ≡ Some (end_of_line w) =
         ap (λ (o : Option PlacedRow). o >>= λ w. cond (eqb w.line (length w.row.dashes)) (Some (end_of_line w)) None) at ∙ ap (λ b. cond b (Some (end_of_line w)) None) e in
-        absurd (none_some (sym none ∙ end))
+        absurd (none-some _ (sym none ∙ end))
     go false e = (dash_in w, ap (λ (o : Option PlacedRow). o >>= λ w. cond (eqb w.line (length w.row.dashes)) None (Some (dash_in w))) at ∙ ap (λ b. cond b None (Some (dash_in w))) e)
 
 -- a collection that is neither a root nor under the last line of a row gives way to any value

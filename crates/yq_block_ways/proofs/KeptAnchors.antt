@@ -1,10 +1,10 @@
 -- Nothing but the anchor of a block scalar behind a mark, and the white space before a header.
 use Rattle.std.proofs.Common.{◌≡◌, ℕ, ℤ, ◌<◌, eqb, not, ◌&&◌, ◌||◌, List, [], ◌∷◌, ◌++◌, Option, Some, None, Bool, true, false, refl, sym, ap, arith, append_assoc, append-nil, eqb-true}
-use Rattle.std.proofs.lemmas.Bool.{false≢true}
+use Rattle.std.proofs.lemmas.Bool.{false≢true, or_parts}
+use Rattle.std.proofs.lemmas.Option.{none-some}
 use Rattle.yq_scalar.specs.Block.{BlockText, block_text}
 use Rattle.yq_scalar.specs.Text.{is_empty, is_feed, is_return, is_white, separates, unless}
 use Rattle.yq_scalar.specs.Plain.{is_flow_indicator}
-use Rattle.yq_scalar.proofs.Bools.{or_false}
 use Rattle.yq_inline.specs.Nodes as inline
 use Rattle.yq_inline.specs.Nodes.{node_text, in_name, first_is, begins_content, IsName, IsNode}
 use Rattle.yq_rows.specs.Alone.{holds_nothing}
@@ -18,9 +18,6 @@ use Rattle.yq_rows.proofs.NothingLaws.{name_again, tail_apart, tail_lead, tail_n
 use Rattle.yq_documents.specs.Lines.{block_anchor, content_anchor, tail_of}
 use Rattle.yq_tree.specs.ScalarPlaces.{anchor_before, space_before}
 use Rattle.yq_change.specs.TextPieces.{BeginsPiece}
-
-none_some : {A : Type 0} {x : A} → None ≡ Some x → ⊥
-none_some e = cc
 
 -- ---- nothing but the anchor of a block scalar behind a mark
 
@@ -58,7 +55,7 @@ pub kept_stands : (n : ℤ) (space : List ℕ) (a : Option Anchor) (t old more :
 unfolding kept IsNode node_text
 kept_stands n space None t old more white anchor h = h
 kept_stands n space (Some a) t old more white anchor h =
-    let none = or_false (first_is 38 (t ++ more)) (begins_content false (t ++ more)) (tail_no_node t more h) in
+    let none = or_parts (first_is 38 (t ++ more)) (begins_content false (t ++ more)) (tail_no_node t more h) in
     let name : IsName a.name (t ++ more) = record { some = anchor.0.some; inside = name_again in_name a.name (a.gap ++ old) (t ++ more) anchor.0.inside; ends = ends_name (t ++ more) (tail_apart t more h) } in
     (white, record { valid = (name, tail_lead t more h, refl, refl, (none.1, none.0)); something = refl }, h)
 
@@ -94,4 +91,4 @@ none_anchor (Some a) e = absurd (false≢true (sym e))
 
 pub nothing_before : (space : List ℕ) (a : Option Anchor) (block : BlockText) (row : Row) → a ≡ None → anchor_before (slices (with_content (Block space a block) row)) ≡ []
 nothing_before space None block row e = refl
-nothing_before space (Some a) block row e = absurd (none_some (sym e))
+nothing_before space (Some a) block row e = absurd (none-some _ (sym e))

@@ -1,8 +1,9 @@
 -- What is left behind a key or dash where nothing but the anchor stays.
-use Rattle.std.proofs.Common.{◌≡◌, inl, inr, ℕ, ℤ, ◌<◌, not, ⊎_elim, Bool, true, false, cond, eqb, List, [], ◌∷◌, ◌++◌, Option, Some, None, refl, sym, ap, ◌∙◌, subst, arith, append_assoc}
-use Rattle.std.proofs.lemmas.Bool.{cases_lt, eqb-true, false≢true, false_from_ne_true}
+use Rattle.std.proofs.Common.{◌≡◌, inl, inr, ℕ, ℤ, ◌<◌, ⊎_elim, true, false, cond, eqb, List, [], ◌∷◌, ◌++◌, Option, Some, None, refl, sym, ap, ◌∙◌, subst, arith, append_assoc}
+use Rattle.std.proofs.lemmas.Bool.{cases_lt, eqb-true, false≢true, false_from_ne_true, not-false, or_parts}
+use Rattle.std.proofs.lemmas.Option.{none-some}
 use Rattle.yq_scalar.specs.Text.{is_empty, is_return, separates, unless, NoneIn}
-use Rattle.yq_scalar.proofs.Bools.{at_byte, or_false}
+use Rattle.yq_scalar.proofs.Bools.{at_byte}
 use Rattle.yq_inline.specs.Nodes as inline
 use Rattle.yq_inline.specs.Nodes.{begins_content, first_is, in_name, node_text, IsLead, IsName, IsNode}
 use Rattle.yq_inline.proofs.WrittenLaws.{node_then}
@@ -20,7 +21,6 @@ use Rattle.yq_rows.proofs.NodePieces.{BeginsAscii}
 use Rattle.yq_rows.proofs.NothingLaws.{tail_apart, tail_lead, tail_no_node}
 use Rattle.yq_rows.proofs.seams.ScalarSeams.{ends_return, name_seam}
 use Rattle.yq_documents.specs.Lines.{content_anchor, head_of, lines_from, lines_of, tail_of}
-use Rattle.yq_tree.proofs.PrintedTexts.{none_some}
 use Rattle.yq_change.proofs.CoreLaws.{put_core}
 use Rattle.yq_block.proofs.LaidRows.{AreLaid}
 
@@ -92,7 +92,7 @@ left_content n (Inline space (inline.alias m) z) old tail rest e h t = t
 left_content n (Inline space (inline.scalar p) z) old tail rest e h t = t
 left_content n (Inline space (inline.coll k g is) z) old tail rest e h t = t
 left_content n (Inline space (inline.anchored m g node) z) old tail rest e h t =
-    let none = or_false (first_is 38 (tail ++ rest)) (begins_content false (tail ++ rest)) (tail_no_node tail rest t) in
+    let none = or_parts (first_is 38 (tail ++ rest)) (begins_content false (tail ++ rest)) (tail_no_node tail rest t) in
     (h.0, record { valid = (name_seam m (g ++ node_text node (z ++ old)) (tail ++ rest) (tail_apart tail rest t) h.1.valid.0, tail_lead tail rest t, refl, refl, (none.1, none.0)); something = refl }, t)
 left_content n (Block space anchor block) old tail rest e h t = absurd (false≢true (sym e))
 
@@ -146,26 +146,22 @@ pub alone_there : (n : ℤ) (x : Content) (rest : List ℕ) → IsContent n x re
 unfolding IsNode node_text
 alone_there n (Nothing z) rest h e = record { block = refl; gone = refl }
 alone_there n (Inline space inline.empty z) rest h e = absurd (false≢true h.1.something)
-alone_there n (Inline space (inline.alias m) z) rest h e = absurd (none_some (sym e))
-alone_there n (Inline space (inline.scalar p) z) rest h e = absurd (none_some (sym e))
-alone_there n (Inline space (inline.coll c g is) z) rest h e = absurd (none_some (sym e))
+alone_there n (Inline space (inline.alias m) z) rest h e = absurd (none-some _ (sym e))
+alone_there n (Inline space (inline.scalar p) z) rest h e = absurd (none-some _ (sym e))
+alone_there n (Inline space (inline.coll c g is) z) rest h e = absurd (none-some _ (sym e))
 alone_there n (Inline space (inline.anchored m g inline.empty) z) rest h e = record { block = refl; gone = ap (λ l. l ++ []) (no_gap g (z ++ rest) h.1.valid.1 h.1.valid.4.0) }
-alone_there n (Inline space (inline.anchored m g (inline.alias k)) z) rest h e = absurd (none_some (sym e))
-alone_there n (Inline space (inline.anchored m g (inline.scalar p)) z) rest h e = absurd (none_some (sym e))
-alone_there n (Inline space (inline.anchored m g (inline.coll c k is)) z) rest h e = absurd (none_some (sym e))
+alone_there n (Inline space (inline.anchored m g (inline.alias k)) z) rest h e = absurd (none-some _ (sym e))
+alone_there n (Inline space (inline.anchored m g (inline.scalar p)) z) rest h e = absurd (none-some _ (sym e))
+alone_there n (Inline space (inline.anchored m g (inline.coll c k is)) z) rest h e = absurd (none-some _ (sym e))
 alone_there n (Inline space (inline.anchored m g (inline.anchored k y node)) z) rest h e = absurd (false≢true h.1.valid.3)
-alone_there n (Block space anchor block) rest h e = absurd (none_some (sym e))
+alone_there n (Block space anchor block) rest h e = absurd (none-some _ (sym e))
 
 -- ---- round the anchor's end
 
 -- no part of a name is a CR
 name_clean : (b : ℕ) (m t : List ℕ) → is_return b ≡ false → NoneIn (unless in_name) m t → ends_return (b ∷ m) ≡ false
 name_clean b [] t e h = e
-name_clean b (c ∷ m) t e h = name_clean c m t (at_byte in_name c 13 (twice (in_name c) h.0) refl) h.1
-  where
-    twice : (x : Bool) → not x ≡ false → x ≡ true
-    twice true h = refl
-    twice false h = absurd (false≢true (sym h))
+name_clean b (c ∷ m) t e h = name_clean c m t (at_byte in_name c 13 (not-false (in_name c) h.0) refl) h.1
 
 -- what doesn't go on with a name begins with an ASCII byte
 unnamed_ascii : (t : List ℕ) → unless in_name t ≡ true → BeginsAscii t

@@ -1,9 +1,9 @@
 -- What stands round a key or dash behind which an inline node, or nothing, is written: the rows of its entry or item, its tail, and the text.
 use Rattle.std.proofs.Common.{◌≡◌, ℕ, suc, not, true, List, [], ◌++◌, drop, sym, ap, ◌∙◌, subst, append_assoc}
+use Rattle.std.proofs.lemmas.Bool.{and_parts}
 use Rattle.yq_scalar.specs.Characters.{pairs_returns}
 use Rattle.yq_scalar.specs.Paths.{Step}
 use Rattle.yq_scalar.specs.Text.{is_empty}
-use Rattle.yq_scalar.proofs.Bools.{and_true}
 use Rattle.yq_lines.specs.Places.{content}
 use Rattle.yq_rows.specs.Exchange.{row_front}
 use Rattle.yq_rows.specs.Grammar.{IsTail, IsRow, is_entry}
@@ -105,4 +105,4 @@ module _ (doc : ℕ) (s : Step) (ss : List Step) (c : Cut) (w : MarkPlace) (h : 
   pub pairs : pairs_returns ((slices h.found.x.row).tail ++ rowed.rest doc s ss c node) ≡ true
   pairs =
       pairs_back there.gone ((slices r).tail ++ rest)
-      (pairs_back there.before (there.gone ++ ((slices r).tail ++ rest)) (ap pairs_returns (sym parted) ∙ (and_true _ (pairs_returns (cut_text c)) piece.characters).1))
+      (pairs_back there.before (there.gone ++ ((slices r).tail ++ rest)) (ap pairs_returns (sym parted) ∙ (and_parts _ (pairs_returns (cut_text c)) piece.characters).1))

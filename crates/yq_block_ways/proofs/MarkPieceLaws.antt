@@ -1,13 +1,12 @@
 -- The text round a key or dash is in pieces.
 use Rattle.std.proofs.Common.{◌≡◌, ℕ, ◌<◌, Bool, true, false, cond, List, [], ◌∷◌, ◌++◌, length, replicate, refl, sym, ap, ◌∙◌, subst, arith, append_assoc, append-nil}
 use Rattle.std.proofs.Math.Seq.{take-append_seam}
-use Rattle.std.proofs.lemmas.Bool.{false≢true}
+use Rattle.std.proofs.lemmas.Bool.{false≢true, and_parts}
 use Rattle.std.proofs.lemmas.Str.{IsUtf8-take}
 use Rattle.std.specs.Str.{IsUtf8}
 use Rattle.yq_scalar.specs.Characters.{pairs_returns}
 use Rattle.yq_scalar.specs.Paths.{Step}
 use Rattle.yq_scalar.specs.Text.{front, is_empty, is_feed, is_return, ends_line, NoneIn}
-use Rattle.yq_scalar.proofs.Bools.{and_true}
 use Rattle.yq_rows.specs.Exchange.{row_front}
 use Rattle.yq_rows.specs.Gap.{IsComment}
 use Rattle.yq_rows.specs.Grammar.{IsMark, IsTail, is_entry}
@@ -119,7 +118,7 @@ mark_pieces doc s ss c w h =
     let first = mark_cut last ((own doc s ss c w h).before ++ row_front row) sl (sl.tail ++ z) ends low
     (λ some. subst (λ q. AnchorEnds sl.anchor (q ++ (sl.tail ++ z))) (behind_is sl some) (anchor_ends (parent_indent row) row.content z h.inline some is_row.content)) all in
     let row_pairs : pairs_returns (print_row row z) ≡ true =
-    pairs_back (own doc s ss c w h).before (print_row row z) (ap pairs_returns (sym (whole doc s ss c w h)) ∙ (and_true _ (pairs_returns (cut_text c)) (piece doc s ss c w h).characters).1) in
+    pairs_back (own doc s ss c w h).before (print_row row z) (ap pairs_returns (sym (whole doc s ss c w h)) ∙ (and_parts _ (pairs_returns (cut_text c)) (piece doc s ss c w h).characters).1) in
     let second =
     clean_cut place.gone ((slices row).tail ++ z) first.1 (front_utf8 place.gone ((slices row).tail ++ z) first.1 (tail_ascii (slices row).tail z t))
     (λ f. gone_clean (upto_anchor (row_front row) sl) place.gone

@@ -1,6 +1,8 @@
 -- The row of a key or dash behind which an inline node, or nothing, is written for a node.
 use Rattle.std.proofs.Common.{◌≡◌, ℕ, ℤ, suc, ◌+◌, ◌&&◌, not, Bool, true, false, cond, eqb, List, [], ◌∷◌, ◌++◌, length, take, drop, Option, Some, None, refl, sym, ap, ◌∙◌, subst, arith, length-append, append_assoc}
 use Rattle.std.proofs.lemmas.Bool.{false≢true, eqb-true}
+use Rattle.std.proofs.lemmas.Option.{none-some, same_Some}
+use mathlib.Core.List.{head-eq_of_cons-eq, tail-eq_of_cons-eq}
 use Rattle.yq_scalar.specs.Answers.{◌>>=◌}
 use Rattle.yq_scalar.specs.Paths.{Step}
 use Rattle.yq_scalar.specs.Text.{is_empty}
@@ -20,7 +22,7 @@ use Rattle.yq_tree.specs.MarkPlaces.{MarkPlace, column_of, mark_at, mark_in, mar
 use Rattle.yq_tree.specs.PlacedRows.{PlacedRow, placed_row, row_of_path}
 use Rattle.yq_documents.specs.Reading.{outline_of, read_at}
 use Rattle.yq_documents.specs.Seats.{Seat, seat, seat_of}
-use Rattle.yq_tree.proofs.PrintedTexts.{map_some, none_some, same}
+use Rattle.yq_tree.proofs.PrintedTexts.{map_some}
 use Rattle.yq_change.specs.DocumentRows.{IsDocumentPart}
 use Rattle.yq_change.specs.InlineRows.{LeadsToEntry, LeadsToContent, IsRowPlace}
 use Rattle.yq_change.proofs.InlineRowLaws.{inline_placed}
@@ -31,20 +33,14 @@ use Rattle.yq_ways.proofs.CommentRowLaws.{count_front, IsFound, row_found}
 
 -- ---- one row among rows
 
-head_same : {a b : Row} {az bz : List Row} → a ∷ az ≡ b ∷ bz → a ≡ b
-head_same e = cc
-
-tail_same : {a b : Row} {az bz : List Row} → a ∷ az ≡ b ∷ bz → az ≡ bz
-tail_same e = cc
-
 -- rows whose marks have the same line are one
 row_same : (xs ys : List Row) (a b : Row) (az bz : List Row) → xs ++ (a ∷ az) ≡ ys ++ (b ∷ bz) → length (lines_of xs) + length a.dashes ≡ length (lines_of ys) + length b.dashes → a ≡ b
-row_same [] [] a b az bz e n = head_same e
-row_same [] (y ∷ ys) a b az bz e n = let one = ap (λ (r : Row). length r.dashes) (head_same e) in absurd (omega (arith, n, one, row_count y, length-append (row_lines y) (lines_of ys)))
-row_same (x ∷ xs) [] a b az bz e n = let one = ap (λ (r : Row). length r.dashes) (head_same e) in absurd (omega (arith, n, one, row_count x, length-append (row_lines x) (lines_of xs)))
+row_same [] [] a b az bz e n = head-eq_of_cons-eq e
+row_same [] (y ∷ ys) a b az bz e n = let one = ap (λ (r : Row). length r.dashes) (head-eq_of_cons-eq e) in absurd (omega (arith, n, one, row_count y, length-append (row_lines y) (lines_of ys)))
+row_same (x ∷ xs) [] a b az bz e n = let one = ap (λ (r : Row). length r.dashes) (head-eq_of_cons-eq e) in absurd (omega (arith, n, one, row_count x, length-append (row_lines x) (lines_of xs)))
 row_same (x ∷ xs) (y ∷ ys) a b az bz e n =
-    let one = ap (λ (r : Row). length (row_lines r)) (head_same e) in
-    row_same xs ys a b az bz (tail_same e) (omega (arith, n, one, length-append (row_lines x) (lines_of xs), length-append (row_lines y) (lines_of ys)))
+    let one = ap (λ (r : Row). length (row_lines r)) (head-eq_of_cons-eq e) in
+    row_same xs ys a b az bz (tail-eq_of_cons-eq e) (omega (arith, n, one, length-append (row_lines x) (lines_of xs), length-append (row_lines y) (lines_of ys)))
 
 -- ---- a key or dash
 
@@ -72,7 +68,7 @@ indent_column (rows.Key key colon) n e = refl
 no_block : (alone : Bool) (before : List ℕ) (x : Content) (rest : List ℕ) (w : InlinePlace) → mark_inline alone before x rest ≡ Some w → is_block x ≡ false
 no_block alone before (Nothing tail) rest w e = refl
 no_block alone before (Inline space node tail) rest w e = refl
-no_block alone before (Block space anchor block) rest w e = absurd (none_some e)
+no_block alone before (Block space anchor block) rest w e = absurd (none-some _ e)
 
 pub no_raw : (x : Content) → is_block x ≡ false → (content_cut x).5 ≡ []
 no_raw (Nothing tail) e = refl
@@ -93,7 +89,7 @@ pub end_there : (n : ℕ) (steps : List Step) (c : Cut) (e : LineEnd) (y : Place
 end_there n steps c e y h there =
     let known : cond (eqb y.line (length y.row.dashes)) (Some (end_of_line y)) None ≡ Some e = sym (ap (λ (o : Option PlacedRow). o >>= λ w. cond (eqb w.line (length w.row.dashes)) (Some (end_of_line w)) None) there) ∙ h in
     let g = guard_then (eqb y.line (length y.row.dashes)) known in
-    (eqb-true y.line (length y.row.dashes) g.0, same g.1)
+    (eqb-true y.line (length y.row.dashes) g.0, same_Some _ _ g.1)
 
 -- the line of a path is that of what was found
 pub line_found : (s : Step) (ss : List Step) (p : Part) (f : Found) (x : Seat) → find s ss (outline_of p) ≡ Some (f, []) → seat_of (s ∷ ss) p.rows ≡ Some x → seat (length (lines_before f.place)) p.rows ≡ Some x
@@ -136,10 +132,10 @@ mark_has doc [] c w read at = let i = bind_some (inline_from doc [] c) at in abs
         empty h = let e = bind_some (line_end doc [] c) h in let y = map_some (row_of_path doc [] c) e.2 in root (row_found doc [] c y.0 y.1)
           where
             root : {y : PlacedRow} → IsFound doc [] c y → ⊥
-            root f = none_some f.seat_is
+            root f = none-some _ f.seat_is
 
         go : (b : Bool) → cond b None (mark_place doc [] c) ≡ Some w → ⊥
-        go true h = none_some h
+        go true h = none-some _ h
         go false h = empty h
 mark_has doc (s ∷ ss) c w read at =
     let i = bind_some (inline_from doc (s ∷ ss) c) at in
@@ -147,5 +143,5 @@ mark_has doc (s ∷ ss) c w read at =
     (s, ss, refl, marked_in doc s ss c i.0 w read i.1 k.0 k.1)
   where
     beside : (i : InlinePlace) (b : Bool) → i.alone ≡ b → cond b None (mark_place doc (s ∷ ss) c) ≡ Some w → (i.alone ≡ false) × (mark_place doc (s ∷ ss) c ≡ Some w)
-    beside i true is h = absurd (none_some h)
+    beside i true is h = absurd (none-some _ h)
     beside i false is h = (is, h)

@@ -1,6 +1,7 @@
 -- The rows of an item or entry give way to rows that are written for a value: the document with that value there.
 use Rattle.std.proofs.Common.{◌≡◌, ℕ, suc, ◌+◌, ◌<◌, ◌≤◌, Bool, true, false, List, [], ◌∷◌, ◌++◌, length, Option, Some, None, refl, sym, ap, ◌∙◌, subst, arith, append_assoc, append-nil, length-append}
 use Rattle.std.proofs.lemmas.Bool.{false≢true, ltb-true}
+use mathlib.Core.List.{head-eq_of_cons-eq, tail-eq_of_cons-eq}
 use Rattle.std.specs.Str.{is_utf8}
 use Rattle.yq_scalar.specs.Paths.{Step, change}
 use Rattle.yq_scalar.specs.Text.{upto}
@@ -98,9 +99,6 @@ lines_upto (at_dash {r} {ns} n ms is) under =
           ∙ (ap (λ ls. ls ++ lines_of under) (lines_behind (head_comment r.gap) r.column ns n ms r.mark r.content) ∙ append_assoc (dash_lines (head_comment r.gap) r.column ns) (line ∷ more) (lines_of under)),
     )
 
-list_head : {a b : Line} {az bz : List Line} → a ∷ az ≡ b ∷ bz → a ≡ b
-list_head e = cc
-
 -- ---- the rows behind them
 
 follow_first : (limit : Limit) (column : ℕ) (bs : List Row) → ((k : ℕ) → k ≤ column → allows limit k ≡ true) → allows_first (record { column = Some (suc column) }) bs ≡ true → allows_first limit bs ≡ true
@@ -157,7 +155,7 @@ module _ (doc : ℕ) (s : Step) (ss : List Step) (c : Cut) (h : NodeRows doc s s
       (length-append (lines_of h.front) (dashes_of h.mark) ∙ before_are) size_is
 
   pub line_is : line_with h.mark h.mark.content ≡ h.found.line
-  line_is = list_head parts.1
+  line_is = head-eq_of_cons-eq parts.1
 
   pub even : IsEven (level_or 0 (outline_of h.p)) (outline_of h.p)
   even = (document_known (cut_text c) c doc h.p h.old).even

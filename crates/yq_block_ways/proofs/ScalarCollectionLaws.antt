@@ -1,5 +1,6 @@
 -- A block scalar gives way to a collection in block style.
-use Rattle.std.proofs.Common.{◌≡◌, ℕ, ◌≤◌, List, ◌∷◌, length, Some, None, true, sym, ap, ◌∙◌, subst}
+use Rattle.std.proofs.Common.{◌≡◌, ℕ, ◌≤◌, List, ◌∷◌, length, Some, true, sym, ap, ◌∙◌, subst}
+use Rattle.std.proofs.lemmas.Option.{none-some}
 use Rattle.yq_scalar.specs.Characters.{text_limit}
 use Rattle.yq_scalar.specs.Paths.{Step, node_at}
 use Rattle.yq_scalar.specs.Tree.{Node}
@@ -26,9 +27,6 @@ use Rattle.yq_ways.proofs.LayoutLaws.{mapping_least}
 use Rattle.yq_block_ways.proofs.ScalarRowLaws.{HasScalar, scalar_has, p, node_there}
 use Rattle.yq_block_ways.proofs.ScalarTextLaws.{there_is}
 use Rattle.yq_block_ways.proofs.ScalarCollectionRows.{old_there, collection_reads}
-
-none_some : {A : Type 0} {x : A} → None ≡ Some x → ⊥
-none_some e = cc
 
 -- ---- the way
 
@@ -65,15 +63,15 @@ scalar_collection_is = record { old = old; reads = reads }
   where
     old : (op : Operation) (c : Cut) (us : List Segment) → read_at (cut_text c) ≡ Some c → scalar_collection_way op c ≡ Some us → old_text us ≡ cut_text c
     old (replace doc steps v) c us read is = way_old doc steps v c us read is
-    old (append doc steps key v) c us read is = absurd (none_some is)
-    old (remove doc steps) c us read is = absurd (none_some is)
-    old (line_comment doc steps text) c us read is = absurd (none_some is)
-    old (head_operation doc steps text) c us read is = absurd (none_some is)
+    old (append doc steps key v) c us read is = absurd (none-some _ is)
+    old (remove doc steps) c us read is = absurd (none-some _ is)
+    old (line_comment doc steps text) c us read is = absurd (none-some _ is)
+    old (head_operation doc steps text) c us read is = absurd (none-some _ is)
 
     reads : (op : Operation) (c : Cut) (us : List Segment) → read_at (cut_text c) ≡ Some c → scalar_collection_way op c ≡ Some us → HasOperand op → Fits (room_of (cut_text c)) op (documents c) →
         length (new_text us) ≤ text_limit → ReadsAfter op c (new_text us)
     reads (replace doc steps v) c us read is operand fits size = way_reads doc steps v c us read is operand fits size
-    reads (append doc steps key v) c us read is operand fits size = absurd (none_some is)
-    reads (remove doc steps) c us read is operand fits size = absurd (none_some is)
-    reads (line_comment doc steps text) c us read is operand fits size = absurd (none_some is)
-    reads (head_operation doc steps text) c us read is operand fits size = absurd (none_some is)
+    reads (append doc steps key v) c us read is operand fits size = absurd (none-some _ is)
+    reads (remove doc steps) c us read is operand fits size = absurd (none-some _ is)
+    reads (line_comment doc steps text) c us read is operand fits size = absurd (none-some _ is)
+    reads (head_operation doc steps text) c us read is operand fits size = absurd (none-some _ is)

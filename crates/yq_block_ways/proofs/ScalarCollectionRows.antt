@@ -1,6 +1,6 @@
 -- The rows of an item or entry whose value is a block scalar give way to the rows of a collection.
 use Rattle.std.proofs.Common.{◌≡◌, inl, inr, ℕ, ◌+◌, ◌≤◌, cond, not, ◌&&◌, List, [], ◌∷◌, ◌++◌, length, replicate, None, Bool, true, false, refl, sym, ap, ◌∙◌, subst, append_assoc, append-nil}
-use Rattle.std.proofs.lemmas.Bool.{false≢true}
+use Rattle.std.proofs.lemmas.Bool.{and_parts, not-true}
 use Rattle.std.proofs.lemmas.Str.{is_utf8-from_IsUtf8}
 use Rattle.yq_scalar.specs.Block.{block_text}
 use Rattle.yq_scalar.specs.BlockWritten.{break_text}
@@ -10,7 +10,6 @@ use Rattle.yq_scalar.specs.Text.{is_empty, separates}
 use Rattle.yq_scalar.specs.Tree.{Node}
 use Rattle.yq_scalar.specs.declared.block_written.Break.{Break}
 use Rattle.yq_scalar.specs.declared.block_written.Break.TheVariants.{Lf, CrLf}
-use Rattle.yq_scalar.proofs.Bools.{and_true}
 use Rattle.yq_flow.specs.Valued.{IsValueTree}
 use Rattle.yq_lines.specs.Comments.{line_comment as comment_in}
 use Rattle.yq_lines.specs.Places.{content}
@@ -59,10 +58,6 @@ use Rattle.yq_block_ways.proofs.NodeValueLaws.{IsHolding, end_is, mark_key, rows
 use Rattle.yq_block_ways.proofs.ScalarLineLaws.{mark_is, new_tail, same_comment, tail_stands}
 use Rattle.yq_block_ways.proofs.ScalarRowLaws.{HasScalar, p, front, r, back, rest, rows_there, entry, valid}
 use Rattle.yq_block_ways.proofs.ScalarTextLaws.{base, there, row_is, old_is, tail, header_is, lines_are, is_break_line, head_is_piece, end_piece, final_piece, own_tail_piece, rest_piece}
-
-not_true : (b : Bool) → not b ≡ true → b ≡ false
-not_true true e = absurd (false≢true e)
-not_true false e = refl
 
 either_break : (br : Break) → IsLfOrCrLf (break_text br)
 either_break Lf = inl refl
@@ -211,15 +206,15 @@ module _ (doc : ℕ) (s : Step) (ss : List Step) (c : Cut) (w : ScalarPlace) (h 
     module _ (on_line : begins_on_line k ≡ true) where
       asked : (not k.keyed ≡ true) × ((not k.anchored ≡ true) × (is_empty (header_end k).comment ≡ true))
       asked =
-          let both = and_true (not k.keyed) (not k.anchored && is_empty (header_end k).comment) on_line in
-          let two = and_true (not k.anchored) (is_empty (header_end k).comment) both.1 in
+          let both = and_parts (not k.keyed) (not k.anchored && is_empty (header_end k).comment) on_line in
+          let two = and_parts (not k.anchored) (is_empty (header_end k).comment) both.1 in
           (both.0, (two.0, two.1))
 
       dash : row.mark ≡ rows.Dash
-      dash = is_dash row.mark (entry doc s ss c w h) (sym (keyed_is row.mark row.content z (rows_there doc s ss c w h).0.mark) ∙ not_true k.keyed asked.0)
+      dash = is_dash row.mark (entry doc s ss c w h) (sym (keyed_is row.mark row.content z (rows_there doc s ss c w h).0.mark) ∙ not-true k.keyed asked.0)
 
       no_anchor : h.anchor ≡ None
-      no_anchor = none_anchor h.anchor (ap (λ (y : Row). not (is_empty (slices y).anchor)) (sym (row_is doc s ss c w h)) ∙ not_true k.anchored asked.1.0)
+      no_anchor = none_anchor h.anchor (ap (λ (y : Row). not (is_empty (slices y).anchor)) (sym (row_is doc s ss c w h)) ∙ not-true k.anchored asked.1.0)
 
       before_is : k.before ≡ base doc s ss c w h
       before_is = ap (λ (y : Row). base doc s ss c w h ++ anchor_before (slices y)) (row_is doc s ss c w h) ∙ (ap (λ y. base doc s ss c w h ++ y) (nothing_before h.space h.anchor h.block row no_anchor) ∙ append-nil (base doc s ss c w h))

@@ -1,6 +1,7 @@
 -- A block scalar gives way to a value that is written inline on the line of its header.
 use Rattle.std.proofs.Common.{◌≡◌, inl, ℕ, ◌≤◌, cond, not, List, [], ◌∷◌, ◌++◌, length, Option, Some, None, Bool, true, false, refl, sym, ap, ◌∙◌, subst, append_assoc, append-nil}
 use Rattle.std.proofs.lemmas.Bool.{false≢true}
+use Rattle.std.proofs.lemmas.Option.{none-some, same_Some}
 use Rattle.std.proofs.lemmas.Str.{is_utf8-from_IsUtf8}
 use Rattle.yq_scalar.specs.Block.{BlockText, block_text, mark_of}
 use Rattle.yq_scalar.specs.BlockWritten.{break_text}
@@ -71,12 +72,6 @@ use Rattle.yq_ways.proofs.ReplaceLaws.{IsWrittenFor, scalar_for, written_for}
 use Rattle.yq_ways.proofs.SamePlaceLaws.{put_own, nth_own, change_own}
 use Rattle.yq_block_ways.proofs.ScalarRowLaws.{HasScalar, scalar_has, p, front, r, back, beyond, rest, rows_there, entry, near, valid, TakesScalar, part_with, text_with, scalar_reads}
 use Rattle.yq_block_ways.proofs.ScalarTextLaws.{base, there, there_is, row_is, front_text, old_is, tail, break_of, header_is, final_there, lines_are, head_is_piece, end_piece, rest_piece, final_piece, tail_pairs}
-
-some_same : {A : Type 0} {x y : A} → Some x ≡ Some y → x ≡ y
-some_same e = cc
-
-none_some : {A : Type 0} {x : A} → None ≡ Some x → ⊥
-none_some e = cc
 
 -- ---- an inline node behind the anchor of a block scalar
 
@@ -253,8 +248,8 @@ line_for true (tree.map a cs) t h deep long e = written_for false [] (tree.map a
 line_for true (tree.scalar a kind u) t h deep long e = go (is_string kind) refl e
   where
     quoted : (b : Bool) → is_string kind ≡ true → cond b None (Some (double u)) ≡ Some t → IsWrittenFor (tree.scalar a kind u) t
-    quoted true string e = absurd (none_some e)
-    quoted false string e = subst (IsWrittenFor (tree.scalar a kind u)) (some_same e) (scalar_for a (record { kind = kind; text = u }) styles.Double h tt string)
+    quoted true string e = absurd (none-some _ e)
+    quoted false string e = subst (IsWrittenFor (tree.scalar a kind u)) (same_Some _ _ e) (scalar_for a (record { kind = kind; text = u }) styles.Double h tt string)
 
     go : (b : Bool) → is_string kind ≡ b → cond b (cond (can_write (record { kind = kind; text = u }) styles.Literal places.Block) None (Some (double u))) (value_written false [] (tree.scalar a kind u)) ≡ Some t → IsWrittenFor (tree.scalar a kind u) t
     go false string e = written_for false [] (tree.scalar a kind u) t h deep long e
@@ -276,7 +271,7 @@ module _ (doc : ℕ) (s : Step) (ss : List Step) (c : Cut) (w : ScalarPlace) (h 
   same_old header raw = ap (λ u. k2.before ++ (k2.space ++ (k2.header ++ (k2.tail ++ (k2.raw ++ u))))) (append-nil (rest doc s ss c w h)) ∙ sym (old_is doc s ss c w h)
 
   pub line_old : (kept text : Bool) (v : Node) (qs : List Segment) → line_at kept text v k2 ≡ Some qs → old_text qs ≡ cut_text c
-  line_old true text v qs e = ap old_text (sym (some_same e)) ∙ same_old k2.header k2.raw
+  line_old true text v qs e = ap old_text (sym (same_Some _ _ e)) ∙ same_old k2.header k2.raw
   line_old false text v qs e = let m = map_some (line_written text v) e in ap old_text (sym m.2) ∙ segments_old m.0
 
   same_new : new_text (scalar_segments k2 k2.header k2.raw) ≡ cut_text c
@@ -285,7 +280,7 @@ module _ (doc : ℕ) (s : Step) (ss : List Step) (c : Cut) (w : ScalarPlace) (h 
   pub line_done : (kept text : Bool) (v n : Node) (qs : List Segment) → IsValueTree v → depth v ≤ depth_limit → has_long_key v ≡ false → node_at (s ∷ ss) (root_of (p doc s ss c w h)) ≡ Some n →
       Rattle.yq_change.specs.SoundRoots.MayReplace v n (root_of (p doc s ss c w h)) (length (s ∷ ss)) → are_same (scalar_in n) (scalar_in v) ≡ kept → line_at kept text v k2 ≡ Some qs →
       length (new_text qs) ≤ text_limit → ReadsAfter (replace doc (s ∷ ss) v) c (new_text qs)
-  line_done true text v n qs tree deep long there' may same e size = subst (ReadsAfter (replace doc (s ∷ ss) v) c) (sym (ap new_text (sym (some_same e)) ∙ same_new)) (kept_reads doc s ss c w h v n tree there' same)
+  line_done true text v n qs tree deep long there' may same e size = subst (ReadsAfter (replace doc (s ∷ ss) v) c) (sym (ap new_text (sym (same_Some _ _ e)) ∙ same_new)) (kept_reads doc s ss c w h v n tree there' same)
   line_done false text v n qs tree deep long there' may same e size =
       let m = map_some (line_written text v) e in
       subst (λ q. ReadsAfter (replace doc (s ∷ ss) v) c (new_text q)) m.2
@@ -317,15 +312,15 @@ scalar_line_is = record { old = old; reads = reads }
   where
     old : (op : Operation) (c : Cut) (qs : List Segment) → read_at (cut_text c) ≡ Some c → scalar_line_way op c ≡ Some qs → old_text qs ≡ cut_text c
     old (replace doc steps v) c qs read is = way_old doc steps v c qs read is
-    old (append doc steps key v) c qs read is = absurd (none_some is)
-    old (remove doc steps) c qs read is = absurd (none_some is)
-    old (line_comment doc steps text) c qs read is = absurd (none_some is)
-    old (head_comment doc steps text) c qs read is = absurd (none_some is)
+    old (append doc steps key v) c qs read is = absurd (none-some _ is)
+    old (remove doc steps) c qs read is = absurd (none-some _ is)
+    old (line_comment doc steps text) c qs read is = absurd (none-some _ is)
+    old (head_comment doc steps text) c qs read is = absurd (none-some _ is)
 
     reads : (op : Operation) (c : Cut) (qs : List Segment) → read_at (cut_text c) ≡ Some c → scalar_line_way op c ≡ Some qs → HasOperand op → Fits (room_of (cut_text c)) op (documents c) →
         length (new_text qs) ≤ text_limit → ReadsAfter op c (new_text qs)
     reads (replace doc steps v) c qs read is operand fits size = way_reads doc steps v c qs read is operand fits size
-    reads (append doc steps key v) c qs read is operand fits size = absurd (none_some is)
-    reads (remove doc steps) c qs read is operand fits size = absurd (none_some is)
-    reads (line_comment doc steps text) c qs read is operand fits size = absurd (none_some is)
-    reads (head_comment doc steps text) c qs read is operand fits size = absurd (none_some is)
+    reads (append doc steps key v) c qs read is operand fits size = absurd (none-some _ is)
+    reads (remove doc steps) c qs read is operand fits size = absurd (none-some _ is)
+    reads (line_comment doc steps text) c qs read is operand fits size = absurd (none-some _ is)
+    reads (head_comment doc steps text) c qs read is operand fits size = absurd (none-some _ is)

@@ -1,7 +1,8 @@
 -- A block scalar gives way to a string that is written as a literal block scalar.
 use Rattle.std.proofs.Common.{◌≡◌, ◌⊎◌, inl, inr, ℕ, zero, suc, ◌+◌, ◌≤◌, cond, eqb, not, ◌&&◌, ◌||◌, List, [], ◌∷◌, ◌++◌, length, replicate, Option, Some, None, Bool, true, false, refl, sym, ap, ◌∙◌, subst, arith, append_assoc, append-nil, eqb-true}
-use Rattle.std.proofs.lemmas.Bool.{false≢true}
+use Rattle.std.proofs.lemmas.Bool.{false≢true, and_parts, cases_Bool}
 use Rattle.std.proofs.lemmas.List.Folds.{list_all-append}
+use Rattle.std.proofs.lemmas.Option.{none-some, same_Some}
 use Rattle.std.proofs.lemmas.Str.{is_utf8-from_IsUtf8}
 use Rattle.std.specs.List.{list_all, list_any}
 use Rattle.std.specs.Str.{IsUtf8, chars}
@@ -31,7 +32,7 @@ use Rattle.yq_scalar.specs.declared.style.Place.TheVariants as places
 use Rattle.yq_scalar.specs.declared.style.Style.TheVariants as styles
 use Rattle.yq_scalar.proofs.BlockWrittenLines.{Good, IsText, NoCr, indented_some, lines_good}
 use Rattle.yq_scalar.proofs.Bytes.{Each}
-use Rattle.yq_scalar.proofs.Bools.{bind_some, and_true, guard_then, is_true}
+use Rattle.yq_scalar.proofs.Bools.{bind_some, guard_then}
 use Rattle.yq_scalar.proofs.LineLaws.{AreLines, joined_lines, lines_are}
 use Rattle.yq_scalar.proofs.LiteralText.{literal_block, literal_can, literal_content}
 use Rattle.yq_scalar.proofs.PlainSpells.{string_kind}
@@ -69,12 +70,6 @@ use Rattle.yq_block_ways.proofs.ScalarLineLaws.{block_begins, mark_is, same_old}
 use Rattle.yq_block_ways.proofs.ScalarRowLaws.{HasScalar, scalar_has, p, front, r, back, rest, entry, node_there, valid, TakesScalar, part_with, text_with, scalar_reads}
 use Rattle.yq_block_ways.proofs.ScalarTextLaws.{there, there_is, row_is, front_text, head_is_piece, own_tail_piece, rest_piece}
 
-some_same : {A : Type 0} {x y : A} → Some x ≡ Some y → x ≡ y
-some_same e = cc
-
-none_some : {A : Type 0} {x : A} → None ≡ Some x → ⊥
-none_some e = cc
-
 -- ---- without a known indentation a block scalar holds line breaks alone
 
 no_part : (t : List ℕ) → ends_line t ≡ true → line_text t ≡ []
@@ -88,8 +83,8 @@ part_none f l known raw =
     ap line_text own ∙ no_part (behind_spaces l) (go raw.1)
   where
     go : (is_empty_line f l ≡ true) ⊎ (Rattle.yq_scalar.specs.Block.is_text_line f l ≡ true) → ends_line (behind_spaces l) ≡ true
-    go (inl e) = (and_true (ends_line (behind_spaces l)) _ e).0
-    go (inr e) = absurd (false≢true (sym known ∙ (and_true (not (is_empty_line f l)) f.known (and_true (not (is_empty_line f l) && f.known) _ e).0).1))
+    go (inl e) = (and_parts (ends_line (behind_spaces l)) _ e).0
+    go (inr e) = absurd (false≢true (sym known ∙ (and_parts (not (is_empty_line f l)) f.known (and_parts (not (is_empty_line f l) && f.known) _ e).0).1))
 
 feeds : (k : ℕ) → list_all is_feed (replicate k 10) ≡ true
 feeds zero = refl
@@ -132,10 +127,10 @@ content_feeds b known raw = go b.style
 
 no_others : (t : List ℕ) → list_all is_feed t ≡ true → list_any (λ b. not (is_feed b)) t ≡ false
 no_others [] h = refl
-no_others (b ∷ t) h = let both = and_true (is_feed b) (list_all is_feed t) h in rw (both.0, no_others t both.1) refl
+no_others (b ∷ t) h = let both = and_parts (is_feed b) (list_all is_feed t) h in rw (both.0, no_others t both.1) refl
 
 known_text : (b : BlockText) → AreRaw b.indent b.raw → list_any (λ x. not (is_feed x)) (block_content b) ≡ true → b.indent.known ≡ true
-known_text b raw h = go (is_true b.indent.known)
+known_text b raw h = go (cases_Bool b.indent.known)
   where
     go : (b.indent.known ≡ true) ⊎ (b.indent.known ≡ false) → b.indent.known ≡ true
     go (inl e) = e
@@ -176,7 +171,7 @@ literal_is_text : (c : ℕ) → is_literal_char c ≡ true → is_text_char c �
 literal_is_text c h = go (is_plain_char c) refl (eqb c 9) refl (is_feed c) refl h
   where
     go : (x : Bool) → is_plain_char c ≡ x → (y : Bool) → eqb c 9 ≡ y → (w : Bool) → is_feed c ≡ w → ((x || y) || w) ≡ true → is_text_char c ≡ true
-    go true e y f w g h = (and_true (is_text_char c) _ e).0
+    go true e y f w g h = (and_parts (is_text_char c) _ e).0
     go false e true f w g h = ap is_text_char (eqb-true c 9 f)
     go false e false f true g h = ap is_text_char (eqb-true c 10 g)
     go false e false f false g h = absurd (false≢true h)
@@ -184,8 +179,8 @@ literal_is_text c h = go (is_plain_char c) refl (eqb c 9) refl (is_feed c) refl 
 string_piece : (s : ScalarText) → IsUtf8 s.text → can_write s styles.Literal places.Block ≡ true → IsPiece s.text
 string_piece s u can =
     let t : List ℕ = s.text in
-    let text : is_literal_text t ≡ true = (and_true (is_string s.kind && true) (is_literal_text t) can).1 in
-    text_piece is_literal_char t u literal_is_text (and_true _ (list_all is_literal_char (chars t)) text).1 (whole_quiet t (literal_can t u text).plain)
+    let text : is_literal_text t ≡ true = (and_parts (is_string s.kind && true) (is_literal_text t) can).1 in
+    text_piece is_literal_char t u literal_is_text (and_parts _ (list_all is_literal_char (chars t)) text).1 (whole_quiet t (literal_can t u text).plain)
 
 indented_piece : (m : ℕ) (t : List ℕ) → IsPiece t → IsPiece (indented m t)
 indented_piece m [] h = nothing
@@ -213,7 +208,7 @@ written_piece m br (l ∷ ls) are good h =
 
 pub raw_piece : (m : ℕ) (br : Break) (s : ScalarText) → IsUtf8 s.text → can_write s styles.Literal places.Block ≡ true → IsPiece (joined (written m (break_text br) (lines_of s.text)))
 raw_piece m br s u can =
-    let text : is_literal_text s.text ≡ true = (and_true (is_string s.kind && true) (is_literal_text s.text) can).1 in
+    let text : is_literal_text s.text ≡ true = (and_parts (is_string s.kind && true) (is_literal_text s.text) can).1 in
     written_piece m br (lines_of s.text) (lines_are s.text) (lines_good s.text (literal_can s.text u text).plain) (subst IsPiece (sym (joined_lines s.text)) (string_piece s u can))
 
 header_piece : (c : Chomping) → IsPiece (header_text c)
@@ -328,18 +323,18 @@ module _ (doc : ℕ) (s : Step) (ss : List Step) (c : Cut) (w : ScalarPlace) (h 
     pub text : scalar.text ≡ t
 
   literal_value : (v : Node) (t : List ℕ) → IsValueTree v → literal_text (scalar_in v) ≡ Some t → IsLiteral v t
-  literal_value (tree.alias name) t h e = absurd (none_some e)
-  literal_value (tree.list a cs) t h e = absurd (none_some e)
-  literal_value (tree.map a cs) t h e = absurd (none_some e)
+  literal_value (tree.alias name) t h e = absurd (none-some _ e)
+  literal_value (tree.list a cs) t h e = absurd (none-some _ e)
+  literal_value (tree.map a cs) t h e = absurd (none-some _ e)
   literal_value (tree.scalar a kind y) t h e =
       let x : ScalarText = record { kind = kind; text = y } in
       let g = guard_then (can_write x styles.Literal places.Block) e in
-      let string : is_string kind ≡ true = (and_true (is_string kind) true (and_true (is_string kind && true) (is_literal_text y) g.0).0).0 in
-      record { scalar = x; utf8 = h.1.utf8; can = g.0; is = (λ i. tree.scalar (h.0 i) (string_kind kind string i) y); text = some_same g.1 }
+      let string : is_string kind ≡ true = (and_parts (is_string kind) true (and_parts (is_string kind && true) (is_literal_text y) g.0).0).0 in
+      record { scalar = x; utf8 = h.1.utf8; can = g.0; is = (λ i. tree.scalar (h.0 i) (string_kind kind string i) y); text = same_Some _ _ g.1 }
 
   pub literal_done : (text : Bool) (br : Break) (v n : Node) (qs : List Segment) → IsValueTree v → has_text (Some n) ≡ text → node_at (s ∷ ss) (root_of d) ≡ Some n → MayReplace v n (root_of d) (length (s ∷ ss)) →
       literal_at text br v k ≡ Some qs → length (new_text qs) ≤ text_limit → ReadsAfter (replace doc (s ∷ ss) v) c (new_text qs)
-  literal_done false br v n qs tree' has there' may e size = absurd (none_some e)
+  literal_done false br v n qs tree' has there' may e size = absurd (none-some _ e)
   literal_done true br v n qs tree' has there' may e size =
       let m = map_some (literal_text (scalar_in v)) e in
       let x = literal_value v m.0 tree' m.1 in
@@ -348,7 +343,7 @@ module _ (doc : ℕ) (s : Step) (ss : List Step) (c : Cut) (w : ScalarPlace) (h 
       (literal_reads br x.scalar x.utf8 x.can (known n there' has) v n x.is there' may (subst (λ q. length (new_text q) ≤ text_limit) (sym are) size))
 
   pub literal_old : (text : Bool) (br : Break) (v : Node) (qs : List Segment) → literal_at text br v k ≡ Some qs → old_text qs ≡ cut_text c
-  literal_old false br v qs e = absurd (none_some e)
+  literal_old false br v qs e = absurd (none-some _ e)
   literal_old true br v qs e = let m = map_some (literal_text (scalar_in v)) e in ap old_text (sym m.2) ∙ same_old doc s ss c w h (header_text (chomping_of (lines_of m.0))) (joined (written k.indent (break_text br) (lines_of m.0)))
 
 -- ---- the way
@@ -379,15 +374,15 @@ scalar_literal_is = record { old = old; reads = reads }
   where
     old : (op : Operation) (c : Cut) (qs : List Segment) → read_at (cut_text c) ≡ Some c → scalar_literal_way op c ≡ Some qs → old_text qs ≡ cut_text c
     old (replace doc steps v) c qs read is = way_old doc steps v c qs read is
-    old (append doc steps key v) c qs read is = absurd (none_some is)
-    old (remove doc steps) c qs read is = absurd (none_some is)
-    old (line_comment doc steps text) c qs read is = absurd (none_some is)
-    old (head_comment doc steps text) c qs read is = absurd (none_some is)
+    old (append doc steps key v) c qs read is = absurd (none-some _ is)
+    old (remove doc steps) c qs read is = absurd (none-some _ is)
+    old (line_comment doc steps text) c qs read is = absurd (none-some _ is)
+    old (head_comment doc steps text) c qs read is = absurd (none-some _ is)
 
     reads : (op : Operation) (c : Cut) (qs : List Segment) → read_at (cut_text c) ≡ Some c → scalar_literal_way op c ≡ Some qs → HasOperand op → Fits (room_of (cut_text c)) op (documents c) →
         length (new_text qs) ≤ text_limit → ReadsAfter op c (new_text qs)
     reads (replace doc steps v) c qs read is operand fits size = way_reads doc steps v c qs read is operand fits size
-    reads (append doc steps key v) c qs read is operand fits size = absurd (none_some is)
-    reads (remove doc steps) c qs read is operand fits size = absurd (none_some is)
-    reads (line_comment doc steps text) c qs read is operand fits size = absurd (none_some is)
-    reads (head_comment doc steps text) c qs read is operand fits size = absurd (none_some is)
+    reads (append doc steps key v) c qs read is operand fits size = absurd (none-some _ is)
+    reads (remove doc steps) c qs read is operand fits size = absurd (none-some _ is)
+    reads (line_comment doc steps text) c qs read is operand fits size = absurd (none-some _ is)
+    reads (head_comment doc steps text) c qs read is operand fits size = absurd (none-some _ is)

@@ -1,6 +1,8 @@
 -- The row of a block scalar, and another content in its place.
 use Rattle.std.proofs.Common.{◌≡◌, ℕ, suc, ◌+◌, List, [], ◌∷◌, ◌++◌, length, take, drop, Option, Some, None, option_and_then, is_some, Bool, true, false, eqb, refl, sym, ap, ◌∙◌, subst, length-append}
 use Rattle.std.proofs.lemmas.Bool.{false≢true, eqb-true}
+use Rattle.std.proofs.lemmas.Option.{none-some, same_Some}
+use mathlib.Core.List.{head-eq_of_cons-eq}
 use Rattle.std.specs.Str.{is_utf8}
 use Rattle.yq_scalar.specs.Block.{BlockText}
 use Rattle.yq_scalar.specs.Paths.{Step, change, node_at}
@@ -33,7 +35,7 @@ use Rattle.yq_tree.specs.RowPaths.{IsReadable}
 use Rattle.yq_tree.specs.ScalarPlaces.{ScalarPlace, scalar_in, scalar_of, scalar_place}
 use Rattle.yq_documents.specs.TreeEdits.{led, replaced}
 use Rattle.yq_tree.proofs.FoundLines.{each}
-use Rattle.yq_tree.proofs.PrintedTexts.{map_some, none_some}
+use Rattle.yq_tree.proofs.PrintedTexts.{map_some}
 use Rattle.yq_tree.proofs.ReadLaws.{text_takes}
 use Rattle.yq_tree.proofs.RemovalTexts.{texts_then}
 use Rattle.yq_tree.proofs.RowPathLaws.{document_fine}
@@ -59,9 +61,6 @@ use Rattle.yq_ways.specs.Ways.{ReadsAfter}
 use Rattle.yq_ways.proofs.CommentRowLaws.{count_front, IsFound, row_found}
 use Rattle.yq_ways.proofs.DoneLaws.{document_done}
 
-some_same : {A : Type 0} {x y : A} → Some x ≡ Some y → x ≡ y
-some_same e = cc
-
 -- What is known of the row of a block scalar at a path.
 pub record HasScalar (doc : ℕ) (s : Step) (ss : List Step) (c : Cut) (w : ScalarPlace) : Type 0 where
   pub y : PlacedRow
@@ -77,25 +76,22 @@ pub record HasScalar (doc : ℕ) (s : Step) (ss : List Step) (c : Cut) (w : Scal
 -- ---- the line of a path
 
 found_of : (o : Option (Found × List Step)) (n : ℕ) → option_and_then (λ x. found_line x.0 x.1) o ≡ Some n → (f : Found) × (o ≡ Some (f, [])) × (length (lines_before f.place) ≡ n)
-found_of None n e = absurd (none_some e)
+found_of None n e = absurd (none-some _ e)
 found_of (Some x) n e = go x.0 x.1 refl e
   where
     go : (f : Found) (left : List Step) → x ≡ (f, left) → found_line f left ≡ Some n → (f : Found) × (Some x ≡ Some (f, [])) × (length (lines_before f.place) ≡ n)
-    go f [] is e = (f, ap Some is, some_same e)
-    go f (t ∷ ts) is e = absurd (none_some e)
+    go f [] is e = (f, ap Some is, same_Some _ _ e)
+    go f (t ∷ ts) is e = absurd (none-some _ e)
 
 block_there : (x : Content) (b : BlockText) → block_of x ≡ Some b → (space : List ℕ) × (anchor : Option Anchor) × (x ≡ Block space anchor b)
-block_there (Nothing tail) b e = absurd (none_some e)
-block_there (Inline space node tail) b e = absurd (none_some e)
-block_there (Block space anchor block) b e = (space, anchor, ap (Block space anchor) (some_same e))
+block_there (Nothing tail) b e = absurd (none-some _ e)
+block_there (Inline space node tail) b e = absurd (none-some _ e)
+block_there (Block space anchor block) b e = (space, anchor, ap (Block space anchor) (same_Some _ _ e))
 
 open_end : (o : Option Node) (u : Outline) → IsOpen o u → is_some o ≡ true → u ≡ end
 open_end None u h e = absurd (false≢true e)
 open_end (Some n) end h e = refl
 open_end (Some n) (row l u a) h e = absurd h
-
-line_first : {y z : Line} {ys zs : List Line} → y ∷ ys ≡ z ∷ zs → y ≡ z
-line_first e = cc
 
 scalar_in_part : (doc : ℕ) (s : Step) (ss : List Step) (c : Cut) (w : ScalarPlace) → read_at (cut_text c) ≡ Some c → scalar_place doc (s ∷ ss) c ≡ Some w → HasScalar doc s ss c w
 scalar_in_part doc s ss c w read at =
@@ -124,7 +120,7 @@ scalar_in_part doc s ss c w read at =
     let size : length a ≡ length (lines_before e.0.place) =
     length-append (lines_of front) (dash_lines (head_comment r.gap) r.column r.dashes) ∙ (ap (λ (k : ℕ). length (lines_of front) + k) (dashes_count (head_comment r.gap) r.column r.dashes) ∙ count) in
     let parts = same_parts a (here ∷ []) (lines_of back) (lines_before e.0.place) (e.0.line ∷ []) (flatten e.0.under ++ (flatten e.0.after ++ lines_after e.0.place)) (sym all ∙ whole) size refl in
-    let line : here ≡ e.0.line = line_first parts.1 in
+    let line : here ≡ e.0.line = head-eq_of_cons-eq parts.1 in
     let head : is_some e.0.line.head ≡ true = ap (λ (l : Line). is_some l.head) (sym line) ∙ ap (λ z. is_some (head_of z)) x.2 in
     let open' = (under_even (level_or 0 (outline_of p)) (outline_of p) s ss e.0 even e.1).1.1 in
     record {
@@ -145,7 +141,7 @@ scalar_has doc (s ∷ ss) c w read at = (s, ss, refl, scalar_in_part doc s ss c 
 scalar_has doc [] c w read at = let y = bind_some (row_of_path doc [] c) at in absurd (root (row_found doc [] c y.0 y.1))
   where
     root : {y : PlacedRow} → IsFound doc [] c y → ⊥
-    root f = none_some f.seat_is
+    root f = none-some _ f.seat_is
 
 -- ---- what stands round it
 
@@ -192,7 +188,7 @@ module _ (doc : ℕ) (s : Step) (ss : List Step) (c : Cut) (w : ScalarPlace) (h 
 
   -- the node that is there
   pub node_there : (n : Node) → node_at (s ∷ ss) (root_of p) ≡ Some n → content h.leads.found.line h.leads.found.under ≡ n
-  node_there n there = some_same (sym (path_node s ss (outline_of p) ∙ ap FoundNode h.leads.is) ∙ there)
+  node_there n there = same_Some _ _ (sym (path_node s ss (outline_of p) ∙ ap FoundNode h.leads.is) ∙ there)
 
   -- A content that may stand in the place of the block scalar: it stands for a value behind the old anchor, and has the old comment.
   pub record TakesScalar (v : Node) (new : Content) : Type 0 where

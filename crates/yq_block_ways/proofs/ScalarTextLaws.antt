@@ -1,6 +1,7 @@
 -- The text round a block scalar, and the end of its header's line.
 use Rattle.std.proofs.Common.{◌≡◌, ◌⊎◌, inl, inr, ℕ, ◌<◌, ◌≤◌, cond, eqb, List, [], ◌∷◌, ◌++◌, length, drop, Bool, true, false, ◌&&◌, ◌||◌, refl, sym, ap, ◌∙◌, subst, arith, append_assoc, append-nil}
-use Rattle.std.proofs.lemmas.Bool.{false≢true, eqb-true}
+use Rattle.std.proofs.lemmas.Bool.{false≢true, eqb-true, and_parts}
+use mathlib.Core.List.{cons≢nil}
 use Rattle.yq_scalar.specs.Block.{Lines, AreRaw, mark_of, is_tail}
 use Rattle.yq_scalar.specs.BlockWritten.{break_text}
 use Rattle.yq_scalar.specs.Characters.{pairs_returns}
@@ -12,7 +13,6 @@ use Rattle.yq_scalar.specs.declared.block_header.BlockStyle.TheVariants as style
 use Rattle.yq_scalar.specs.declared.block_lines.TextIndent.{TextIndent}
 use Rattle.yq_scalar.specs.declared.block_written.Break.{Break}
 use Rattle.yq_scalar.specs.declared.block_written.Break.TheVariants.{Lf, CrLf}
-use Rattle.yq_scalar.proofs.Bools.{and_true}
 use Rattle.yq_rows.specs.Exchange.{row_front, with_content}
 use Rattle.yq_rows.specs.Gap.{IsBreak}
 use Rattle.yq_rows.specs.Grammar.{IsTail}
@@ -69,16 +69,13 @@ raw_ended f (l ∷ ls) h = go (raw_ended f ls h.1)
     go (inr e) = inr (behind_ended l (joined ls) e)
 
 -- what ends in LF has a last break
-cons_none : {b : ℕ} {t : List ℕ} → b ∷ t ≡ [] → ⊥
-cons_none e = cc
-
 pub has_last : (a : List ℕ) → last_break (a ++ 10 ∷ []) ≡ [] → ⊥
 unfolding less_break
-has_last [] e = cons_none e
+has_last [] e = cons≢nil e
 has_last (b ∷ a) e = go (is_last_break (b ∷ (a ++ 10 ∷ []))) (has_last a) e
   where
     go : (x : Bool) → (last_break (a ++ 10 ∷ []) ≡ [] → ⊥) → drop (length (cond x [] (b ∷ less_break (a ++ 10 ∷ [])))) (b ∷ (a ++ 10 ∷ [])) ≡ [] → ⊥
-    go true more e = cons_none e
+    go true more e = cons≢nil e
     go false more e = more e
 
 last_ended : (t : List ℕ) → Ended t → IsLfOrCrLf (last_break t)
@@ -130,7 +127,7 @@ lines_split break (b ∷ raw) u = ap (λ t. break ++ t) (sym (append_assoc (less
 
 final_is : (break raw : List ℕ) → IsLfOrCrLf break → (raw ≡ []) ⊎ Ended raw → IsLfOrCrLf (final_of break raw)
 final_is break [] b h = b
-final_is break (x ∷ raw) b (inl e) = absurd (cons_none e)
+final_is break (x ∷ raw) b (inl e) = absurd (cons≢nil e)
 final_is break (x ∷ raw) b (inr e) = last_ended (x ∷ raw) e
 
 -- ---- the pieces of a row that holds a block scalar
@@ -203,7 +200,7 @@ module _ (doc : ℕ) (s : Step) (ss : List Step) (c : Cut) (w : ScalarPlace) (h 
   tail_line : is_line (slices row).tail ≡ true
   tail_line =
       ap (λ (x : Row). is_line (slices x).tail) row_is
-      ∙ (and_true (is_line h.block.tail) (is_blank h.block.tail || (front is_white h.block.tail && is_hash (past_white h.block.tail))) (valid doc s ss c w h).2.tail).0
+      ∙ (and_parts (is_line h.block.tail) (is_blank h.block.tail || (front is_white h.block.tail && is_hash (past_white h.block.tail))) (valid doc s ss c w h).2.tail).0
 
   break_there : IsLfOrCrLf tail.line.break
   break_there = has_break (slices row).tail _ tail_line tail
@@ -262,7 +259,7 @@ module _ (doc : ℕ) (s : Step) (ss : List Step) (c : Cut) (w : ScalarPlace) (h 
       subst IsPiece parts (pieces_joined (tail.white ++ tail.comment) (tail.line.break ++ more) has.line has.behind)
 
   pub tail_pairs : pairs_returns ((slices row).tail ++ ((slices row).raw ++ z)) ≡ true
-  tail_pairs = (and_true _ (pairs_returns ((slices row).tail ++ ((slices row).raw ++ z))) tail_piece.characters).1
+  tail_pairs = (and_parts _ (pairs_returns ((slices row).tail ++ ((slices row).raw ++ z))) tail_piece.characters).1
 
   -- the rest of the header's line is a piece
   pub own_tail_piece : IsPiece (slices row).tail

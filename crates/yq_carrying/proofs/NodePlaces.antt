@@ -1,7 +1,7 @@
 -- Where a node at a path stands in a text, if no steps to it go on in flow.
 use Rattle.std.proofs.Common.{◌≡◌, ◌⊎◌, inl, inr, ℕ, ◌<◌, ◌≤◌, Bool, true, false, not, cond, ◌||◌, List, [], ◌∷◌, ◌++◌, length, map, Option, Some, None, option_map, option_and_then, refl, sym, ap, ◌∙◌, subst, arith}
 use Rattle.std.proofs.lemmas.Bool.{cases_lt, cond-true, eq-eqb, false≢true}
-use Rattle.std.proofs.lemmas.Option.{slice_get-map}
+use Rattle.std.proofs.lemmas.Option.{slice_get-map, none-some, same_Some}
 use Rattle.std.specs.List.{slice_get}
 use Rattle.std.specs.Option.{is_some}
 use Rattle.yq_scalar.specs.Answers.{◌>>=◌}
@@ -29,7 +29,6 @@ use Rattle.yq_documents.specs.Seats.{Seat, seat, seat_of}
 use Rattle.yq_tree.proofs.FoundEntries.{entry_found, entry_is, entry_on, line_there}
 use Rattle.yq_tree.proofs.PlacedRowLaws.{document_placed}
 use Rattle.yq_tree.proofs.PrintedLaws.{ArePrinted, lines_are, rows_printed}
-use Rattle.yq_tree.proofs.PrintedTexts.{none_some, same}
 use Rattle.yq_tree.proofs.RootTold.{document_printed}
 use Rattle.yq_tree.proofs.SeatLineLaws.{seat_line}
 use Rattle.yq_tree.proofs.SeatedLines.{IsSeated, seated}
@@ -56,7 +55,7 @@ pub document_there : (c : Cut) (doc : ℕ) (p : Part) → read_at (cut_text c) �
 document_there c doc p read there = go (placed_document doc c) refl (sym (document_placed doc c) ∙ there)
   where
     go : (o : Option PlacedPart) → placed_document doc c ≡ o → option_map (λ (d : PlacedPart). d.part) o ≡ Some p → DocumentThere c doc p
-    go None is e = absurd (none_some e)
+    go None is e = absurd (none-some _ e)
     go (Some d) is e =
         let at = document_stands_at c doc d is in
         let known = document_known (cut_text c) c doc d.part (record { read = read; there = at.there }) in
@@ -64,7 +63,7 @@ document_there c doc p read there = go (placed_document doc c) refl (sym (docume
         record {
           placed = d;
           is = is;
-          part_is = sym (same e);
+          part_is = sym (same_Some _ _ e);
           printed = document_printed doc c ∙ ap (option_map printed_of) is;
           told = subst (λ (behind : List ℕ). ArePrinted (printed_lines d.part.rows) (d.part.end ++ behind)) at.behind (rows_printed _ d.part.rows d.part.end _ here);
           alone = rows_alone _ d.part.rows d.part.end _ here;
@@ -76,7 +75,7 @@ document_there c doc p read there = go (placed_document doc c) refl (sym (docume
 mark_there : (alone : Bool) (before : List ℕ) (x : Content) (behind : List ℕ) → block_of x ≡ None → (i : InlinePlace) × (mark_inline alone before x behind ≡ Some i)
 mark_there alone before (Nothing tail) behind none = (_, refl)
 mark_there alone before (Inline space node tail) behind none = (_, refl)
-mark_there alone before (Block space anchor block) behind none = absurd (none_some (sym none))
+mark_there alone before (Block space anchor block) behind none = absurd (none-some _ (sym none))
 
 -- lines are those of an inline node, or of a block collection
 lines_cases : (before : List ℕ) (ls : List PrintedLine) (behind : List ℕ) → AreAlone ls → some_lines ls ≡ true →
@@ -183,10 +182,10 @@ scalar_seat rs n l b at block = go (cases_lt q.0.line (length q.0.row.dashes))
     z = seated rs n q.0 q.1
 
     own : block_of z.line.content ≡ Some b
-    own = ap (λ (x : PrintedLine). block_of x.content) (same (sym z.there ∙ at)) ∙ block
+    own = ap (λ (x : PrintedLine). block_of x.content) (same_Some _ _ (sym z.there ∙ at)) ∙ block
 
     go : (q.0.line < length q.0.row.dashes) ⊎ (length q.0.row.dashes ≤ q.0.line) → (q : Seat) × (seat n rs ≡ Some q) × (q.line ≡ length q.row.dashes) × (block_of q.row.content ≡ Some b)
-    go (inl less) = absurd (none_some (sym (ap block_of (z.dash less)) ∙ own))
+    go (inl less) = absurd (none-some _ (sym (ap block_of (z.dash less)) ∙ own))
     go (inr more) = let last : q.0.line ≡ length q.0.row.dashes = omega (arith, z.within, more) in (q.0, q.1, last, sym (ap block_of (z.last last).0) ∙ own)
 
 -- An item or entry

@@ -1,6 +1,7 @@
 -- There is a way to take an item or entry out of a block collection.
 use Rattle.std.proofs.Common.{◌≡◌, ◌-◌, Bool, true, false, cond, eqb, ℕ, List, [], ◌∷◌, ◌++◌, length, drop, map, Option, Some, None, option_map, option_and_then, refl, sym, ap, ◌∙◌}
 use Rattle.std.proofs.lemmas.Bool.{cond-true, cond-false}
+use Rattle.std.proofs.lemmas.Option.{none-some, same_Some}
 use Rattle.std.specs.List.{slice_get}
 use Rattle.yq_scalar.specs.Answers.{◌>>=◌}
 use Rattle.yq_scalar.specs.Paths.{Step, node_at}
@@ -71,15 +72,9 @@ seat_there path p h =
 placed_there : (c : Cut) (doc : ℕ) (p : Part) → slice_get (document_parts c) doc ≡ Some p → (d : PlacedPart) × (placed_document doc c ≡ Some d) × (d.part ≡ p)
 placed_there c doc p there = go (placed_document doc c) refl (sym (document_placed doc c) ∙ there)
   where
-    no_part : None ≡ Some p → ⊥
-    no_part e = cc
-
-    same : {x y : Part} → Some x ≡ Some y → x ≡ y
-    same e = cc
-
     go : (o : Option PlacedPart) → placed_document doc c ≡ o → part_of o ≡ Some p → (d : PlacedPart) × (placed_document doc c ≡ Some d) × (d.part ≡ p)
-    go None is e = absurd (no_part e)
-    go (Some d) is e = (d, is, same e)
+    go None is e = absurd (none-some _ e)
+    go (Some d) is e = (d, is, same_Some _ _ e)
 
 module _ (c : Cut) (doc : ℕ) (path : List Step) (p : Part) (there : slice_get (document_parts c) doc ≡ Some p) (h : HasLine path p) where
   abbrev ls : List Line

@@ -1,5 +1,6 @@
 -- There is a way to replace each node.
 use Rattle.std.proofs.Common.{◌≡◌, ◌⊎◌, inl, inr, ℕ, eqb, List, [], ◌∷◌, Option, Some, None, cond, length, option_map, refl, sym, ap, ◌∙◌}
+use Rattle.std.proofs.lemmas.Option.{none-some}
 use Rattle.std.specs.List.{slice_get}
 use Rattle.std.specs.Prelude.{option_and_then}
 use Rattle.yq_scalar.specs.Answers.{◌>>=◌}
@@ -15,7 +16,6 @@ use Rattle.yq_documents.specs.Documents.{document_parts}
 use Rattle.yq_tree.specs.MarkPlaces.{MarkPlace, mark_in, mark_place}
 use Rattle.yq_tree.specs.PlacedRows.{PlacedRow, row_of_path}
 use Rattle.yq_documents.specs.Reading.{outline_of, read_at, root_of}
-use Rattle.yq_tree.proofs.PrintedTexts.{none_some}
 use Rattle.yq_change.specs.Siblings.{IsCollectionAt, NodeLines}
 use Rattle.yq_change.proofs.NodeLineLaws.{lines_found}
 use Rattle.yq_meaning.specs.Operations.{replace}
@@ -37,7 +37,7 @@ mark_last : (doc : ℕ) (steps : List Step) (c : Cut) (e : LineEnd) → line_end
 mark_last doc steps c e is = go (row_of_path doc steps c) refl
   where
     go : (o : Option PlacedRow) → row_of_path doc steps c ≡ o → (w : MarkPlace) × (mark_place doc steps c ≡ Some w)
-    go None row = absurd (none_some (sym (ap (λ (o : Option PlacedRow). o >>= λ w. cond (eqb w.line (length w.row.dashes)) (Some (end_of_line w)) None) row) ∙ is))
+    go None row = absurd (none-some _ (sym (ap (λ (o : Option PlacedRow). o >>= λ w. cond (eqb w.line (length w.row.dashes)) (Some (end_of_line w)) None) row) ∙ is))
     go (Some w) row = (mark_in e w, ap (λ (o : Option LineEnd). o >>= λ e. option_map (mark_in e) (row_of_path doc steps c)) is ∙ ap (option_map (mark_in e)) row)
 
 -- a path that leads to a node below the root leads to a line
@@ -45,7 +45,7 @@ pub line_of_node : (s : Step) (ss : List Step) (o : Outline) (n : tree.Node) →
 line_of_node s ss o n at = go (find s ss o) (sym (path_node s ss o) ∙ at)
   where
     go : (r : Option (Found × List Step)) → option_and_then (λ z. node_at z.1 (content z.0.line z.0.under)) r ≡ Some n → (y : Found × List Step) × (r ≡ Some y)
-    go None e = absurd (none_some e)
+    go None e = absurd (none-some _ e)
     go (Some y) e = (y, refl)
 
 module _ (c : Cut) (doc : ℕ) (p : Part) (v : tree.Node) (read : read_at (cut_text c) ≡ Some c) (there : slice_get (document_parts c) doc ≡ Some p) (is : IsValueTree v) where

@@ -1,5 +1,7 @@
 -- A changed text, told as a tree with the lead that goes with it.
 use Rattle.std.proofs.Common.{◌≡◌, ℕ, zero, suc, List, [], ◌∷◌, map, Bool, true, false, Some, refl, sym, ap, ◌∙◌}
+use Rattle.std.proofs.lemmas.Option.{same_Some}
+use mathlib.Core.List.{head-eq_of_cons-eq, tail-eq_of_cons-eq}
 use Rattle.std.specs.List.{slice_get}
 use Rattle.yq_scalar.specs.Paths.{change_child, within}
 use Rattle.yq_scalar.specs.Tree.{Node, Children, none, child, children_of}
@@ -18,27 +20,18 @@ end_is_change g [] s n = refl
 end_is_change g (t ∷ []) s n = refl
 end_is_change g (t ∷ (u ∷ path)) s n = ap (λ (h : Node → Node). within (change_child t h) n) (λ i m. end_is_change g (u ∷ path) s m i)
 
-part_same : {x y : Part} → Some x ≡ Some y → x ≡ y
-part_same e = cc
-
-head_same : {x y : Document} {xs ys : List Document} → x ∷ xs ≡ y ∷ ys → x ≡ y
-head_same e = cc
-
-tail_same : {x y : Document} {xs ys : List Document} → x ∷ xs ≡ y ∷ ys → xs ≡ ys
-tail_same e = cc
-
 -- document k of a changed list
 pub nth_is : (k : ℕ) (p q : Part) (f : Document → Document) (ps : List Part) → slice_get ps k ≡ Some p → map document_of (change_nth k (λ x. q) ps) ≡ change_nth k f (map document_of ps) →
     document_of q ≡ f (document_of p)
 nth_is k p q f [] e same = absurd (cc)
-nth_is zero p q f (x ∷ ps) e same = head_same same ∙ ap (λ y. f (document_of y)) (part_same e)
-nth_is (suc k) p q f (x ∷ ps) e same = nth_is k p q f ps e (tail_same same)
+nth_is zero p q f (x ∷ ps) e same = head-eq_of_cons-eq same ∙ ap (λ y. f (document_of y)) (same_Some _ _ e)
+nth_is (suc k) p q f (x ∷ ps) e same = nth_is k p q f ps e (tail-eq_of_cons-eq same)
 
 -- two changes that do the same to document k
 pub nth_same : (k : ℕ) (p : Part) (f g : Document → Document) (ps : List Part) → slice_get ps k ≡ Some p → f (document_of p) ≡ g (document_of p) →
     change_nth k f (map document_of ps) ≡ change_nth k g (map document_of ps)
 nth_same k p f g [] e same = refl
-nth_same zero p f g (x ∷ ps) e same = ap (λ d. d ∷ map document_of ps) (ap (λ y. f (document_of y)) (part_same e) ∙ (same ∙ ap (λ y. g (document_of y)) (sym (part_same e))))
+nth_same zero p f g (x ∷ ps) e same = ap (λ d. d ∷ map document_of ps) (ap (λ y. f (document_of y)) (same_Some _ _ e) ∙ (same ∙ ap (λ y. g (document_of y)) (sym (same_Some _ _ e))))
 nth_same (suc k) p f g (x ∷ ps) e same = ap (λ ds. document_of x ∷ ds) (nth_same k p f g ps e same)
 
 -- the lead of a block root goes with it

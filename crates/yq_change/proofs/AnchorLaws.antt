@@ -1,5 +1,6 @@
 -- Anchors of lines, and keys of rows, where some give way to others.
 use Rattle.std.proofs.Common.{◌≡◌, ℕ, List, [], ◌∷◌, ◌++◌, Option, Some, None, refl, sym, ap, ◌∙◌, subst}
+use Rattle.std.proofs.lemmas.Option.{same_Some}
 use Rattle.yq_scalar.specs.Tree.{Node}
 use Rattle.yq_rows.specs.Rows.{Row}
 use Rattle.yq_lines.specs.Anchors.{MayTake, IsFree, HaveOneAnchorEach}
@@ -67,11 +68,8 @@ last_is [] l = refl
 last_is (k ∷ []) l = refl
 last_is (k ∷ (m ∷ xs)) l = last_is (m ∷ xs) l
 
-some_same : {A : Type 0} {x y : A} → Some x ≡ Some y → x ≡ y
-some_same e = cc
-
 pub lines_among : LinesAmong
-lines_among n o [] h even e = subst (λ (x : NodeLines). BeginsEntry (lines_after x.place) × (last_anchor (lines_before x.place) ≡ x.anchor)) (some_same e) (tt, refl)
+lines_among n o [] h even e = subst (λ (x : NodeLines). BeginsEntry (lines_after x.place) × (last_anchor (lines_before x.place) ≡ x.anchor)) (same_Some _ _ e) (tt, refl)
 lines_among n o (s ∷ ss) h even e = found (lines_found s ss o h e)
   where
     found : Under s ss o h → BeginsEntry (lines_after h.place) × (last_anchor (lines_before h.place) ≡ h.anchor)

@@ -2,6 +2,8 @@
 use Rattle.std.proofs.Common.{◌≡◌, ◌⊎◌, inl, inr, ⊎_elim, ℕ, suc, ◌+◌, ◌*◌, ◌≤◌, List, [], ◌∷◌, ◌++◌, Option, Some, None, option_map, is_some, Bool, true, false, cond, refl, sym}
 use Rattle.std.proofs.Common.{ap, ◌∙◌, subst, arith}
 use Rattle.std.proofs.lemmas.Bool.{false≢true}
+use Rattle.std.proofs.lemmas.Option.{same_Some}
+use mathlib.Core.List.{head-eq_of_cons-eq, tail-eq_of_cons-eq}
 use Rattle.yq_scalar.specs.Paths.{Step, is_here, further}
 use Rattle.yq_scalar.specs.Tree.{Node}
 use Rattle.yq_lines.specs.Comments.{head_comment}
@@ -71,10 +73,7 @@ after_begins n m (below l p after) a =
 after_begins n m (beside l under p) a = after_begins n m p a.4
 
 lines_begin : (n : ℕ) (o : Outline) (steps : List Step) (h : NodeLines) → IsEven n o → lines_at steps o ≡ Some h → Begins h.above (lines_after h.place)
-lines_begin n o [] h even e = subst (λ (x : NodeLines). Begins x.above (lines_after x.place)) (same e) tt
-  where
-    same : {x y : NodeLines} → Some x ≡ Some y → x ≡ y
-    same e = cc
+lines_begin n o [] h even e = subst (λ (x : NodeLines). Begins x.above (lines_after x.place)) (same_Some _ _ e) tt
 lines_begin n o (s ∷ ss) h even e = found (lines_found s ss o h e)
   where
     found : Under s ss o h → Begins h.above (lines_after h.place)
@@ -165,12 +164,6 @@ unfolding level
 first_level above column [] m c rest n h = let small = rank_small (mark_line above column m c).mark in omega (arith, h, small.0)
 first_level above column (k ∷ ns) m c rest n h = omega (arith, h)
 
-pub list_tail : {x y : Line} {xs ys : List Line} → x ∷ xs ≡ y ∷ ys → xs ≡ ys
-list_tail e = cc
-
-pub list_head : {x y : Line} {xs ys : List Line} → x ∷ xs ≡ y ∷ ys → x ≡ y
-list_head e = cc
-
 -- Lines in front of others are none of a row's lines, or all of them.
 abbrev Around : List Line → List Line → List Line → List Line → Type 0
 Around ls rest a z = (a ≡ []) ⊎ ((b : List Line) × (a ≡ ls ++ b) × (rest ≡ b ++ z) × StandApart b z)
@@ -183,19 +176,19 @@ row_around : (above : List (List ℕ)) (column : ℕ) (ns : List ℕ) (m : rows.
     Around (lines_from above column ns m c) rest a z
 unfolding level
 row_around above column ns m c rest [] z e h = inl refl
-row_around above column [] m c rest (x ∷ a) z e h = inr (a, (λ i. sym (list_head e) i ∷ a), list_tail e, apart_rest x a z h)
+row_around above column [] m c rest (x ∷ a) z e h = inr (a, (λ i. sym (head-eq_of_cons-eq e) i ∷ a), tail-eq_of_cons-eq e, apart_rest x a z h)
 row_around above column (n ∷ ns) m c rest (x ∷ a) z e h =
     ⊎_elim {0, 0, 0}
     (λ none. absurd (deep none))
-    (λ r. inr (r.0, (λ i. sym (list_head e) i ∷ r.1 i), r.2, r.3))
-    (row_around [] (suc (column + n)) ns m c rest a z (list_tail e) (apart_rest x a z h))
+    (λ r. inr (r.0, (λ i. sym (head-eq_of_cons-eq e) i ∷ r.1 i), r.2, r.3))
+    (row_around [] (suc (column + n)) ns m c rest a z (tail-eq_of_cons-eq e) (apart_rest x a z h))
   where
     deep : a ≡ [] → ⊥
     deep none =
         let one : StandApart (x ∷ []) z = subst (λ (b : List Line). StandApart (x ∷ b) z) none h in
-        let is : z ≡ lines_from [] (suc (column + n)) ns m c ++ rest = ap (λ (b : List Line). b ++ z) (sym none) ∙ sym (list_tail e) in
+        let is : z ≡ lines_from [] (suc (column + n)) ns m c ++ rest = ap (λ (b : List Line). b ++ z) (sym none) ∙ sym (tail-eq_of_cons-eq e) in
         let first = first_level [] (suc (column + n)) ns m c rest (level x) (subst (Begins (level x)) is one) in
-        let same : level x ≡ 3 * column + 3 = ap level (sym (list_head e)) in
+        let same : level x ≡ 3 * column + 3 = ap level (sym (head-eq_of_cons-eq e)) in
         omega (arith, first, same)
 
 pub row_begins : RowBegins

@@ -1,6 +1,7 @@
 -- One item or entry more in a block collection that has some.
 use Rattle.std.proofs.Common.{◌≡◌, ℕ, ◌<◌, List, [], ◌∷◌, ◌++◌, Option, Some, None, true, false, refl, sym, ap, ◌∙◌, subst, arith, append_assoc, length-append}
 use Rattle.std.proofs.lemmas.Bool.{false≢true}
+use mathlib.Core.List.{head-eq_of_cons-eq}
 use Rattle.yq_scalar.specs.Block.{BlockText, ends_block, keeps}
 use Rattle.yq_scalar.specs.Text.{lines_of as text_lines}
 use Rattle.yq_scalar.proofs.BlockRepairLaws.{ends_behind}
@@ -36,7 +37,7 @@ use Rattle.yq_change.proofs.PlacedLaws.{same_parts}
 use Rattle.yq_change.specs.Appends.{inserted, BlockAppended}
 use Rattle.yq_change.specs.LineRows.{Begins, StandApart, AreDeep}
 use Rattle.yq_change.specs.DocumentRows.{behind_document, part_number, RowsFit}
-use Rattle.yq_change.proofs.ApartLaws.{apart_skip, apart_deep, deep_less, even_deep, lines_apart, list_head}
+use Rattle.yq_change.proofs.ApartLaws.{apart_skip, apart_deep, deep_less, even_deep, lines_apart}
 use Rattle.yq_change.proofs.ColumnLaws.{block_is_deeper, next_allowed}
 use Rattle.yq_change.proofs.PartLaws.{part_numbered, document_known, document_spliced, is_put, short_stays}
 
@@ -64,8 +65,8 @@ no_block (r ∷ (q ∷ front)) e = no_block (q ∷ front) e
 -- rows begin in the column of their first line
 first_column : (above : List (List ℕ)) (column : ℕ) (ns : List ℕ) (m : rows.Mark) (c : Content) (rest : List Line) (l : Line) (ls : List Line) → lines_from above column ns m c ++ rest ≡ l ∷ ls →
     l.column ≡ column
-first_column above column [] m c rest l ls e = ap (λ (x : Line). x.column) (sym (list_head e))
-first_column above column (n ∷ ns) m c rest l ls e = ap (λ (x : Line). x.column) (sym (list_head e))
+first_column above column [] m c rest l ls e = ap (λ (x : Line). x.column) (sym (head-eq_of_cons-eq e))
+first_column above column (n ∷ ns) m c rest l ls e = ap (λ (x : Line). x.column) (sym (head-eq_of_cons-eq e))
 
 -- the text of rows without a gap before them, behind a block scalar
 less_rows : (new : List Row) (limit : Limit) (gap rest : List ℕ) (b : BlockText) (l : Line) (ls : List Line) → AreRows limit new gap rest → first_gap new [] ≡ [] → lines_of new ≡ l ∷ ls →

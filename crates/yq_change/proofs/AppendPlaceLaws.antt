@@ -1,6 +1,7 @@
 -- What may stand at the end of a block collection.
 use Rattle.std.proofs.Common.{◌≡◌, ℕ, suc, ◌+◌, ◌*◌, ◌<◌, ◌≤◌, List, [], ◌∷◌, ◌++◌, Option, Some, None, true, refl, sym, ap, ◌∙◌, subst, arith, append_assoc, append-nil, length-append}
 use Rattle.std.proofs.lemmas.Bool.{lt-ltb}
+use Rattle.std.proofs.lemmas.Option.{same_Some}
 use Rattle.yq_scalar.specs.Piece.{deeper}
 use Rattle.yq_lines.specs.Comments.{head_comment}
 use Rattle.yq_lines.specs.Group.{level_or}
@@ -46,12 +47,9 @@ last_of [] y ys = refl
 last_of (x ∷ []) y ys = refl
 last_of (x ∷ (z ∷ xs)) y ys = last_of (z ∷ xs) y ys
 
-some_line : {x y : Line} → Some x ≡ Some y → x ≡ y
-some_line e = cc
-
 deep_last : (n : ℕ) (ls : List Line) (l : Line) → AreDeep n ls → last_line ls ≡ Some l → n ≤ level l
 deep_last n [] l h e = absurd (cc)
-deep_last n (x ∷ []) l h e = subst (λ (y : Line). n ≤ level y) (some_line e) h.0
+deep_last n (x ∷ []) l h e = subst (λ (y : Line). n ≤ level y) (same_Some _ _ e) h.0
 deep_last n (x ∷ (z ∷ ls)) l h e = deep_last n (z ∷ ls) l h.1 e
 
 row_last : (r : Row) → last_line (row_lines r) ≡ Some (mark_line (above_mark (head_comment r.gap) r.dashes) (mark_column r) r.mark r.content)

@@ -1,5 +1,7 @@
 -- Anchors and aliases of a document in which a node is changed.
 use Rattle.std.proofs.Common.{◌≡◌, ◌⊎◌, ℕ, List, [], ◌∷◌, ◌++◌, Option, Some, None, option_and_then, Bool, true, false, cond, refl, sym, ap, ◌∙◌, subst, inl, inr, ⊎_elim, append_assoc, append-nil}
+use Rattle.std.proofs.lemmas.Option.{none-some, same_Some}
+use mathlib.Core.List.{cons≢nil}
 use Rattle.yq_scalar.specs.Paths.{Step, is_here, further, child_at, node_at, change_child, within, change}
 use Rattle.yq_scalar.specs.Tree.{Node, alias, scalar, list, map, Children, none, child, children_of}
 use Rattle.yq_scalar.specs.Anchors.{Name, Anchors, Refers, with_anchor, names_of, names_in, IsAmong, AreBound}
@@ -51,10 +53,7 @@ bound_stays known before gone come after h new spared =
 pub no_alias_bound : (known : List (List ℕ)) (names : List Name) → aliases_in names ≡ [] → AreBound known names
 no_alias_bound known [] e = tt
 no_alias_bound known (Anchors a ∷ names) e = no_alias_bound (a ∷ known) names e
-no_alias_bound known (Refers a ∷ names) e = absurd (cons_nil e)
-  where
-    cons_nil : {A : Type 0} {x : A} {xs : List A} → x ∷ xs ≡ [] → ⊥
-    cons_nil e = cc
+no_alias_bound known (Refers a ∷ names) e = absurd (cons≢nil e)
 
 -- the names around an item or entry
 record AroundChild (s : Step) (cs : Children) (m : Node) : Type 0 where
@@ -64,22 +63,16 @@ record AroundChild (s : Step) (cs : Children) (m : Node) : Type 0 where
   pub new : (f : Node → Node) → names_in (change_child s f cs) ≡ front ++ (names_of (f m) ++ back)
 
 around_child : (s : Step) (cs : Children) (m : Node) → child_at s cs ≡ Some m → AroundChild s cs m
-around_child s none m e = absurd (none_some e)
-  where
-    none_some : {x : Node} → None ≡ Some x → ⊥
-    none_some e = cc
+around_child s none m e = absurd (none-some _ e)
 around_child s (child l n cs) m e = go (is_here s l) refl e (around_child (further s) cs m)
   where
-    same : {x y : Node} → Some x ≡ Some y → x ≡ y
-    same e = cc
-
     go : (b : Bool) → is_here s l ≡ b → cond b (Some n) (child_at (further s) cs) ≡ Some m → (child_at (further s) cs ≡ Some m → AroundChild (further s) cs m) → AroundChild s (child l n cs) m
     go true h e ih =
         record {
           front = [];
           back = names_in cs;
-          old = ap (λ x. names_of x ++ names_in cs) (same e);
-          new = λ f. rw h (ap (λ x. names_of (f x) ++ names_in cs) (same e));
+          old = ap (λ x. names_of x ++ names_in cs) (same_Some _ _ e);
+          new = λ f. rw h (ap (λ x. names_of (f x) ++ names_in cs) (same_Some _ _ e));
         }
     go false h e ih =
         let r = ih e in
@@ -110,17 +103,11 @@ deep n anchor s ss cs k m is changed c r =
         ∙ (ap (λ x. anchor ++ x) (sym (append_assoc c.front r.before (e ++ (r.after ++ c.back)))) ∙ sym (append_assoc anchor (c.front ++ r.before) (e ++ (r.after ++ c.back))))
 
 pub names_around : NamesAround
-names_around [] n m e = record { before = []; after = []; old_names = ap names_of (same e) ∙ sym (append-nil (names_of m)); new_names = λ f. ap (λ x. names_of (f x)) (same e) ∙ sym (append-nil (names_of (f m))) }
-  where
-    same : {x y : Node} → Some x ≡ Some y → x ≡ y
-    same e = cc
+names_around [] n m e = record { before = []; after = []; old_names = ap names_of (same_Some _ _ e) ∙ sym (append-nil (names_of m)); new_names = λ f. ap (λ x. names_of (f x)) (same_Some _ _ e) ∙ sym (append-nil (names_of (f m))) }
 names_around (s ∷ ss) n m e = go (child_at s (children_of n)) refl e (λ k d. names_around ss k m d)
   where
-    none_some : {x : Node} → None ≡ Some x → ⊥
-    none_some e = cc
-
     none_child : (k : Node) → child_at s none ≡ Some k → ⊥
-    none_child k e = none_some e
+    none_child k e = none-some _ e
 
     kinds : (n k : Node) → child_at s (children_of n) ≡ Some k → Around ss k m → Around (s ∷ ss) n m
     kinds (alias name) k is r = absurd (none_child k is)
@@ -129,7 +116,7 @@ names_around (s ∷ ss) n m e = go (child_at s (children_of n)) refl e (λ k d. 
     kinds (map a cs) k is r = deep (map a cs) (with_anchor a []) s ss cs k m (anchor_front a (names_in cs)) (λ g. anchor_front a (names_in (g cs))) (around_child s cs k is) r
 
     go : (r : Option Node) → child_at s (children_of n) ≡ r → option_and_then (node_at ss) r ≡ Some m → ((k : Node) → node_at ss k ≡ Some m → Around ss k m) → Around (s ∷ ss) n m
-    go None is e ih = absurd (none_some e)
+    go None is e ih = absurd (none-some _ e)
     go (Some k) is e ih = kinds n k is (ih k e)
 
 -- an alias among the last names is one of all

@@ -1,6 +1,8 @@
 -- Texts in which one document has another part.
 use Rattle.std.proofs.Common.{◌≡◌, ℕ, zero, suc, List, [], ◌∷◌, ◌++◌, map, Bool, true, false, not, ◌||◌, Some, refl, sym, ap, ◌∙◌, append_assoc}
 use Rattle.std.proofs.lemmas.Bool.{and_parts, and_from, cond-true}
+use Rattle.std.proofs.lemmas.Option.{same_Some}
+use mathlib.Core.List.{cons≢nil}
 use Rattle.std.specs.List.{slice_get, list_all}
 use Rattle.yq_scalar.specs.Tree.{Node}
 use Rattle.yq_lines.specs.Comments.{head_comment}
@@ -92,9 +94,6 @@ document_put c k p q there keeps =
     ap (λ b. parts_from b new) stays ∙ from_put is k q c
 
 -- the texts before and behind a part
-some_same : {x y : Part} → Some x ≡ Some y → x ≡ y
-some_same e = cc
-
 part_place : (p : Part) (marker before text rest : List ℕ) → rest ≡ before ++ text → part_text p (marker ++ rest) ≡ part_text p (marker ++ before) ++ text
 part_place p marker before text rest h = ap (λ l. part_text p (marker ++ l)) h ∙ (ap (part_text p) (sym (append_assoc marker before text)) ∙ part_then p (marker ++ before) text)
 
@@ -107,10 +106,10 @@ further x marker c new p q h = record {
 }
 
 texts_put : (is : Bool) (k : ℕ) (p q : Part) (c : Cut) → slice_get (parts_from is c) k ≡ Some p → DifferIn c (put_from is k q c) p q
-texts_put true zero p q (last x) e = record { before = []; behind = []; old_text = ap (λ y. part_text y []) (some_same e); new_text = refl }
+texts_put true zero p q (last x) e = record { before = []; behind = []; old_text = ap (λ y. part_text y []) (same_Some _ _ e); new_text = refl }
 texts_put true (suc k) p q (last x) e = absurd (cc)
 texts_put false k p q (last x) e = absurd (cc)
-texts_put true zero p q (marked x marker c) e = record { before = []; behind = marker ++ cut_text c; old_text = ap (λ y. part_text y (marker ++ cut_text c)) (some_same e); new_text = refl }
+texts_put true zero p q (marked x marker c) e = record { before = []; behind = marker ++ cut_text c; old_text = ap (λ y. part_text y (marker ++ cut_text c)) (same_Some _ _ e); new_text = refl }
 texts_put true (suc k) p q (marked x marker c) e = further x marker c (put_from (begins_document marker) k q c) p q (texts_put (begins_document marker) k p q c e)
 texts_put false k p q (marked x marker c) e = further x marker c (put_from (begins_document marker) k q c) p q (texts_put (begins_document marker) k p q c e)
 
@@ -123,10 +122,7 @@ root_of_lines [] root h = go h.1.outline h.1.lines_are h.1.node_is
   where
     go : (o : Outline) → flatten o ≡ [] → value o ≡ root → root ≡ null_node
     go end e is = sym is
-    go (row l u a) e is = absurd (cons_nil e)
-      where
-        cons_nil : {A : Type 0} {x : A} {xs : List A} → x ∷ xs ≡ [] → ⊥
-        cons_nil e = cc
+    go (row l u a) e is = absurd (cons≢nil e)
 root_of_lines (l ∷ ls) root h = (h.0, rules_from h.0 (l ∷ ls) root h.1 l ls refl)
 
 pub part_stands : PartStands
@@ -150,10 +146,7 @@ all_with test (suc k) q (p ∷ ps) e h = let r = and_parts (test p) (list_all te
 map_with : (k : ℕ) (p q : Part) (f : Document → Document) (ps : List Part) → slice_get ps k ≡ Some p → document_of q ≡ f (document_of p) →
     map document_of (change_nth k (λ x. q) ps) ≡ change_nth k f (map document_of ps)
 map_with k p q f [] e is = refl
-map_with zero p q f (x ∷ ps) e is = ap (λ d. d ∷ map document_of ps) (is ∙ ap (λ y. f (document_of y)) (sym (same e)))
-  where
-    same : {x y : Part} → Some x ≡ Some y → x ≡ y
-    same e = cc
+map_with zero p q f (x ∷ ps) e is = ap (λ d. d ∷ map document_of ps) (is ∙ ap (λ y. f (document_of y)) (sym (same_Some _ _ e)))
 map_with (suc k) p q f (x ∷ ps) e is = ap (λ ds. document_of x ∷ ds) (map_with k p q f ps e is)
 
 pub document_changed : DocumentChanged

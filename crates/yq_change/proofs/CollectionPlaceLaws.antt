@@ -2,7 +2,8 @@
 use Rattle.std.proofs.Common.{◌≡◌, ℕ, suc, ◌+◌, ◌<◌, List, [], ◌∷◌, ◌++◌, length, take, drop, map, Option, Some, None, option_and_then, Bool, true, false, cond, not, ◌||◌, replicate, refl, sym, ap, ◌∙◌, subst, arith, append_assoc, append-nil, length-append}
 use Rattle.std.proofs.lemmas.Bool.{false≢true}
 use Rattle.std.proofs.lemmas.List.{take-append-drop, length-take-le}
-use Rattle.std.proofs.lemmas.Option.{slice_get_within}
+use Rattle.std.proofs.lemmas.Option.{slice_get_within, none-some, same_Some}
+use mathlib.Core.List.{head-eq_of_cons-eq, tail-eq_of_cons-eq}
 use Rattle.std.specs.List.{slice_get}
 use Rattle.std.specs.Option.{is_some}
 use Rattle.yq_scalar.specs.Answers.{◌>>=◌}
@@ -26,7 +27,7 @@ use Rattle.yq_tree.specs.PrintedLines.{PrintedLine, print_line, print_lines, pri
 use Rattle.yq_documents.specs.Reading.{outline_of}
 use Rattle.yq_tree.proofs.FoundEntries.{IsFound, entry_found, lines_count}
 use Rattle.yq_tree.proofs.PrintedLaws.{ArePrinted, lines_are, rows_printed}
-use Rattle.yq_tree.proofs.PrintedTexts.{same, none_some, line_split, line_then, lines_then, lines_append, rows_are}
+use Rattle.yq_tree.proofs.PrintedTexts.{line_split, line_then, lines_then, lines_append, rows_are}
 use Rattle.yq_change.specs.Changed.{put_document}
 use Rattle.yq_change.specs.CollectionPlaces.{BeginsAt, IsCollectionEnd, CollectionPlaces}
 use Rattle.yq_change.specs.DocumentRows.{IsDocumentPart, behind_document, part_number}
@@ -38,17 +39,11 @@ use Rattle.yq_change.proofs.RowsLaws.{collection_rows}
 
 -- ---- lists
 
-list_head : {A : Type 0} {x y : A} {xs ys : List A} → x ∷ xs ≡ y ∷ ys → x ≡ y
-list_head e = cc
-
-list_tail : {A : Type 0} {x y : A} {xs ys : List A} → x ∷ xs ≡ y ∷ ys → xs ≡ ys
-list_tail e = cc
-
 same_front : {A : Type 0} (a b z w : List A) → a ++ z ≡ b ++ w → length a ≡ length b → (a ≡ b) × (z ≡ w)
 same_front [] [] z w e n = (refl, e)
 same_front [] (k ∷ b) z w e n = absurd (omega (arith, n))
 same_front (l ∷ a) [] z w e n = absurd (omega (arith, n))
-same_front (l ∷ a) (k ∷ b) z w e n = let r = same_front a b z w (list_tail e) (omega (arith, n)) in ((λ i. list_head e i ∷ r.0 i), r.1)
+same_front (l ∷ a) (k ∷ b) z w e n = let r = same_front a b z w (tail-eq_of_cons-eq e) (omega (arith, n)) in ((λ i. head-eq_of_cons-eq e i ∷ r.0 i), r.1)
 
 printed_parts : (front back : List Row) → printed_lines (front ++ back) ≡ printed_lines front ++ printed_lines back
 printed_parts [] back = refl
@@ -163,26 +158,26 @@ no_bare (Key k) e = tt
 no_bare Dash e = tt
 
 ended : (before : List ℕ) (ls : List PrintedLine) (behind : List ℕ) (x : CollectionEnd) → end_of_lines before ls behind ≡ Some x → AreEnded before ls behind x
-ended before [] behind x e = absurd (none_some e)
+ended before [] behind x e = absurd (none-some _ e)
 ended before (l ∷ ls) behind x e = go (is_bare l.line.mark) refl e
   where
     go : (b : Bool) → is_bare l.line.mark ≡ b → cond b None (Some (record { column = l.line.column; before = before ++ print_lines (l ∷ ls) []; broken = are_broken l ls; behind = behind })) ≡ Some x → AreEnded before (l ∷ ls) behind x
-    go true is h = absurd (none_some h)
+    go true is h = absurd (none-some _ h)
     go false is h = record {
       first = l;
       others = ls;
       lines = refl;
       entry = no_bare l.line.mark is;
-      column = ap (λ (y : CollectionEnd). y.column) (same h);
-      broken = ap (λ (y : CollectionEnd). y.broken) (sym (same h));
-      before_is = ap (λ (y : CollectionEnd). y.before) (sym (same h));
-      behind_is = ap (λ (y : CollectionEnd). y.behind) (sym (same h));
+      column = ap (λ (y : CollectionEnd). y.column) (same_Some _ _ h);
+      broken = ap (λ (y : CollectionEnd). y.broken) (sym (same_Some _ _ h));
+      before_is = ap (λ (y : CollectionEnd). y.before) (sym (same_Some _ _ h));
+      behind_is = ap (λ (y : CollectionEnd). y.behind) (sym (same_Some _ _ h));
     }
 
 -- an outline that begins with a line of an entry or item
 outline_begins : (o : Outline) (l : Line) (ls : List Line) → flatten o ≡ l ∷ ls → IsEntry l.mark → (column : ℕ) → l.column ≡ column → HasEntries o × BeginsAt column o
 outline_begins end l ls e m column at = absurd (cc)
-outline_begins (row k u a) l ls e m column at = (subst IsEntry (ap (λ (y : Line). y.mark) (sym (list_head e))) m, ap (λ (y : Line). y.column) (list_head e) ∙ at)
+outline_begins (row k u a) l ls e m column at = (subst IsEntry (ap (λ (y : Line). y.mark) (sym (head-eq_of_cons-eq e))) m, ap (λ (y : Line). y.column) (head-eq_of_cons-eq e) ∙ at)
 
 -- Where the entry of a line that was found stands among the lines of a document.
 pub record StandsAt (s : PrintedDocument) (n : ℕ) (e : BlockEntry) : Type 0 where
@@ -199,7 +194,7 @@ stands_at s f e at =
     let m : ℕ = length (flatten f.under) in
     let l = bind_some (slice_get s.lines n) at in
     let more : List PrintedLine = drop (suc n) s.lines in
-    subst (λ (z : BlockEntry). StandsAt s n z) (same l.2) (record {
+    subst (λ (z : BlockEntry). StandsAt s n z) (same_Some _ _ l.2) (record {
       above = take n s.lines;
       lower = drop m more;
       lines = line_split s.lines n l.0 l.1 ∙ ap (λ x. take n s.lines ++ (l.0 ∷ x)) (sym (take-append-drop m more));
@@ -321,11 +316,11 @@ module _ (t : List ℕ) (c : Cut) (k : ℕ) (p : Part) (h : IsDocumentPart t c k
 
       go : (o : Option Node) → e.line.line.head ≡ o → cond (is_some o) None (end_of_lines (e.before ++ print_line e.line []) e.under e.behind) ≡ Some x → IsCollectionEnd c k p (y ∷ ys) x
       go None none h = found none h
-      go (Some n) some h = absurd (none_some h)
+      go (Some n) some h = absurd (none-some _ h)
 
   found_end : (y : Step) (ys : List Step) (f : Found) (left : List Step) (x : CollectionEnd) → find y ys (outline_of p) ≡ Some (f, left) → end_of_found s f left ≡ Some x → IsCollectionEnd c k p (y ∷ ys) x
   found_end y ys f [] x is e = let w = bind_some (found_entry s f) e in entry_end y ys f w.0 x is w.1 w.2
-  found_end y ys f (z ∷ zs) x is e = absurd (none_some e)
+  found_end y ys f (z ∷ zs) x is e = absurd (none-some _ e)
 
   any_end : (steps : List Step) (x : CollectionEnd) → end_in steps s ≡ Some x → IsCollectionEnd c k p steps x
   any_end [] x e = root_end x e

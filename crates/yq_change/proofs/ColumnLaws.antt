@@ -2,6 +2,8 @@
 use Rattle.std.proofs.Common.{◌≡◌, ℕ, zero, suc, ◌+◌, ◌*◌, ◌-◌, ◌<◌, ◌≤◌, ltb, ℤ, pos, List, [], ◌∷◌, ◌++◌, Option, Some, None, is_some, Bool, true, false, cond, refl, sym, ap}
 use Rattle.std.proofs.Common.{◌∙◌, subst, arith, ⊎_elim, append_assoc}
 use Rattle.std.proofs.lemmas.Bool.{false≢true, lt-ltb, ltb-true}
+use Rattle.std.proofs.lemmas.Option.{none-some, same_Some}
+use mathlib.Core.List.{head-eq_of_cons-eq}
 use Rattle.yq_scalar.specs.Block.{BlockText, Lines, IsBlock, IsDigit, IsTextIndent}
 use Rattle.yq_scalar.specs.declared.block_lines.TextIndent.{TextIndent}
 use Rattle.yq_scalar.specs.Piece.{deeper}
@@ -16,7 +18,7 @@ use Rattle.yq_lines.proofs.Values.{rank_small}
 use Rattle.yq_change.specs.Moved.{dash_lines}
 use Rattle.yq_change.specs.Columns.{NextAllowed, NextStays, BlockIsDeeper, ClosedStandsLess}
 use Rattle.yq_change.specs.LineRows.{Begins, StandApart, AreDeep, AreClosed}
-use Rattle.yq_change.proofs.ApartLaws.{apart_skip, closed_back, first_level, list_head}
+use Rattle.yq_change.proofs.ApartLaws.{apart_skip, closed_back, first_level}
 use Rattle.yq_change.proofs.LineLaws.{above_mark, mark_behind}
 
 -- columns and levels
@@ -37,8 +39,8 @@ high_level l = omega (arith, rank_small l.mark)
 
 first_high : (above : List (List ℕ)) (column : ℕ) (ns : List ℕ) (m : rows.Mark) (c : Content) (rest : List Line) (l : Line) (ls : List Line) → lines_from above column ns m c ++ rest ≡ l ∷ ls →
     level l ≤ 3 * column + 3
-first_high above column [] m c rest l ls e = let high = high_level (mark_line above column m c) in let same = ap level (list_head e) in omega (arith, high, same)
-first_high above column (n ∷ ns) m c rest l ls e = let x = Rattle.yq_documents.specs.Lines.dash_line above column in let high = high_level x in let same = ap level (list_head e) in omega (arith, high, same)
+first_high above column [] m c rest l ls e = let high = high_level (mark_line above column m c) in let same = ap level (head-eq_of_cons-eq e) in omega (arith, high, same)
+first_high above column (n ∷ ns) m c rest l ls e = let x = Rattle.yq_documents.specs.Lines.dash_line above column in let high = high_level x in let same = ap level (head-eq_of_cons-eq e) in omega (arith, high, same)
 
 bare_high : (n : ℕ) (above : List (List ℕ)) (column : ℕ) (c : Content) (rest : List Line) → AreDeep n (lines_from above column [] rows.Bare c ++ rest) → n ≤ 3 * column + 1
 unfolding level
@@ -129,11 +131,8 @@ row_block limit r t b h e = go r.content refl r.mark refl
     entry : (space : List ℕ) (anchor : Option rows.Anchor) (block : BlockText) → r.content ≡ Block space anchor block → deeper (parent_indent r) ≤ b.indent.columns
     entry space anchor block is =
         let own : IsBlock (deeper (parent_indent r)) block t = (subst (λ (x : Content). Rattle.yq_rows.specs.Grammar.IsContent (parent_indent r) x t) is h.content).2 in
-        let same : block ≡ b = some_same (sym (ap block_of is) ∙ e) in
+        let same : block ≡ b = same_Some _ _ (sym (ap block_of is) ∙ e) in
         subst (λ (x : BlockText). deeper (parent_indent r) ≤ x.indent.columns) same (indent_least (deeper (parent_indent r)) block.digit block.indent block.raw own.indicators.small own.indent)
-      where
-        some_same : {x y : BlockText} → Some x ≡ Some y → x ≡ y
-        some_same e = cc
 
     by : (c : Content) (m : rows.Mark) → r.content ≡ c → r.mark ≡ m → is_entry m ≡ true → deeper (parent_indent r) ≤ b.indent.columns → mark_column r < b.indent.columns
     by c rows.Bare is mark k d = absurd (false≢true k)
@@ -141,14 +140,8 @@ row_block limit r t b h e = go r.content refl r.mark refl
     by c (rows.Key key colon) is mark k d = let same : deeper (parent_indent r) ≡ suc (mark_column r) = ap (λ (x : rows.Mark). deeper (parent_of x (mark_column r))) mark in omega (arith, d, same)
 
     go : (c : Content) → r.content ≡ c → (m : rows.Mark) → r.mark ≡ m → mark_column r < b.indent.columns
-    go (Nothing tail) is m mark = absurd (no_block (sym (ap block_of is) ∙ e))
-      where
-        no_block : None ≡ Some b → ⊥
-        no_block e = cc
-    go (Inline space node tail) is m mark = absurd (no_block (sym (ap block_of is) ∙ e))
-      where
-        no_block : None ≡ Some b → ⊥
-        no_block e = cc
+    go (Nothing tail) is m mark = absurd (none-some _ (sym (ap block_of is) ∙ e))
+    go (Inline space node tail) is m mark = absurd (none-some _ (sym (ap block_of is) ∙ e))
     go (Block space anchor block) is rows.Bare mark = absurd (false≢true (subst (λ (x : Content). IsMark rows.Bare x t) is (subst (λ (x : rows.Mark). IsMark x r.content t) mark h.mark)))
     go (Block space anchor block) is rows.Dash mark = by (Block space anchor block) rows.Dash is mark refl (entry space anchor block is)
     go (Block space anchor block) is (rows.Key key colon) mark = by (Block space anchor block) (rows.Key key colon) is mark refl (entry space anchor block is)

@@ -1,6 +1,7 @@
 -- What is written behind the mark of one row gives way to a value.
 use Rattle.std.proofs.Common.{◌≡◌, ◌⊎◌, inl, inr, ℕ, ℤ, suc, ◌+◌, ◌≤◌, ◌++◌, eqb, Bool, true, List, [], ◌∷◌, length, take, Option, Some, None, refl, sym, ap, ◌∙◌, subst, arith, length-append, append_assoc, append-nil}
 use Rattle.std.proofs.lemmas.Bool.{cond_both, false≢true}
+use mathlib.Core.List.{head-eq_of_cons-eq, tail-eq_of_cons-eq}
 use Rattle.yq_scalar.specs.Characters.{is_text, text_limit}
 use Rattle.yq_scalar.specs.Paths.{Step, change}
 use Rattle.yq_scalar.specs.Tree as tree
@@ -134,17 +135,11 @@ free_alone (Some x) = tt
 
 -- ---- lines
 
-cons_same : {x y : Line} {xs ys : List Line} → x ∷ xs ≡ y ∷ ys → x ≡ y
-cons_same e = cc
-
-tail_same : {x y : Line} {xs ys : List Line} → x ∷ xs ≡ y ∷ ys → xs ≡ ys
-tail_same e = cc
-
 single : (o : Outline) (x : Line) → flatten o ≡ x ∷ [] → o ≡ row x end end
 single end x e = absurd (cc)
-single (row y end end) x e = ap (λ (z : Line). row z end end) (cons_same e)
-single (row y end (row z u a)) x e = absurd (let no : z ∷ (flatten u ++ flatten a) ≡ [] = tail_same e in cc)
-single (row y (row z u b) a) x e = absurd (let no : z ∷ ((flatten u ++ flatten b) ++ flatten a) ≡ [] = tail_same e in cc)
+single (row y end end) x e = ap (λ (z : Line). row z end end) (head-eq_of_cons-eq e)
+single (row y end (row z u a)) x e = absurd (let no : z ∷ (flatten u ++ flatten a) ≡ [] = tail-eq_of_cons-eq e in cc)
+single (row y (row z u b) a) x e = absurd (let no : z ∷ ((flatten u ++ flatten b) ++ flatten a) ≡ [] = tail-eq_of_cons-eq e in cc)
 
 -- a line of its own is its node
 pub alone_value : (l : Line) → l.mark ≡ outline.Bare → value (row l end end) ≡ anchored l.anchor (head_or l.head null_node)
@@ -236,7 +231,7 @@ module _ (t : List ℕ) (c : Cut) (k : ℕ) (p : Part) (front : List Row) (r : R
   entry_fits : (f : Found) → x ∷ [] ≡ f.line ∷ flatten f.under → f.under ≡ end → LineFits [] f (replaced v) (suc (level l)) l end
   unfolding level
   entry_fits f one none =
-      let line : x ≡ f.line = cons_same one in
+      let line : x ≡ f.line = head-eq_of_cons-eq one in
       record {
         label_is = (λ i. record { key = outline.key_of x.mark; head_comment = x.head_comment; line_comment = h.comment_is i }) ∙ ap outline.label line;
         level_is = ap level line;

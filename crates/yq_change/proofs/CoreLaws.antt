@@ -1,6 +1,7 @@
 -- Another inline node behind the anchor of what is written behind a mark.
 use Rattle.std.proofs.Common.{◌≡◌, inl, inr, ℕ, ℤ, ◌||◌, not, eqb, List, [], ◌∷◌, ◌++◌, Option, Some, None, Bool, true, false, refl, sym, ap, ◌∙◌, append_assoc}
-use Rattle.std.proofs.lemmas.Bool.{cond_both, false≢true, or_right}
+use Rattle.std.proofs.lemmas.Bool.{cond_both, false≢true, or_right, not-true}
+use Rattle.std.proofs.lemmas.Option.{none-some, same_Some}
 use Rattle.yq_scalar.specs.Text.{is_empty, no_white, unless, NoneIn}
 use Rattle.yq_inline.specs.Nodes.{Node, empty, alias, scalar, coll, anchored, node_text, items_text, open_of, first_is, in_name, begins_content, takes_anchor, is_bare, IsName, IsLead, IsNode}
 use Rattle.yq_inline.specs.Trees.{node_anchor, node_head}
@@ -13,7 +14,6 @@ use Rattle.yq_rows.proofs.Fronts.{node_starts}
 use Rattle.yq_documents.specs.Documents.{HasFitKeys}
 use Rattle.yq_tree.specs.InlinePlaces.{InlinePlace, node_inline, mark_inline}
 use Rattle.yq_tree.specs.RowPaths.{apart}
-use Rattle.yq_tree.proofs.PrintedTexts.{same, none_some}
 use Rattle.yq_change.specs.InlineRows.{place_text}
 
 -- a node in the place of another one, behind its anchor
@@ -167,12 +167,8 @@ core_text alone before core (anchored n g (anchored m x node)) spaces d rest b h
 
 pub content_text_is : (alone : Bool) (before : List ℕ) (core : Node) (n : ℤ) (x : Content) (rest : List ℕ) (w : InlinePlace) → IsContent n x rest → mark_inline alone before x rest ≡ Some w →
     before ++ content_text (put_core core x) rest ≡ place_text w (node_text core [])
-content_text_is alone before core n (Nothing tail) rest w h e = ap (λ l. before ++ (32 ∷ l)) (node_then core (tail ++ rest)) ∙ ap (λ (y : InlinePlace). place_text y (node_text core [])) (same e)
+content_text_is alone before core n (Nothing tail) rest w h e = ap (λ l. before ++ (32 ∷ l)) (node_then core (tail ++ rest)) ∙ ap (λ (y : InlinePlace). place_text y (node_text core [])) (same_Some _ _ e)
 content_text_is alone before core n (Inline space node tail) rest w h e =
     sym (append_assoc before space (node_text (recore core node) (tail ++ rest)))
-    ∙ (core_text alone (before ++ space) core node _ _ (tail ++ rest) (not_false (is_bare node) h.1.something) h.1.valid ∙ ap (λ (y : InlinePlace). place_text y (node_text core [])) (same e))
-  where
-    not_false : (b : Bool) → not b ≡ true → b ≡ false
-    not_false false h = refl
-    not_false true h = absurd (false≢true h)
-content_text_is alone before core n (Block space anchor block) rest w h e = absurd (none_some e)
+    ∙ (core_text alone (before ++ space) core node _ _ (tail ++ rest) (not-true (is_bare node) h.1.something) h.1.valid ∙ ap (λ (y : InlinePlace). place_text y (node_text core [])) (same_Some _ _ e))
+content_text_is alone before core n (Block space anchor block) rest w h e = absurd (none-some _ e)

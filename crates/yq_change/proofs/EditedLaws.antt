@@ -1,5 +1,6 @@
 -- Texts with other lines in one document.
 use Rattle.std.proofs.Common.{◌≡◌, ℕ, zero, suc, ◌≤◌, List, [], ◌∷◌, ◌++◌, Option, Some, None, true, refl, sym, ap, ◌∙◌, subst, append_assoc, arith}
+use Rattle.std.proofs.lemmas.Option.{none-some, same_Some}
 use Rattle.std.specs.Prelude.{map as each_of}
 use Rattle.std.specs.List.{slice_get}
 use Rattle.yq_scalar.specs.Keys.{HasUniqueKeys, depth}
@@ -77,11 +78,8 @@ finish t c k p q f h stands each sound =
     document_changed t c k p q f h.read h.there h.rows h.utf8 h.cut
     (record { stands = stands; keys = h.keys; unique = sound.unique; nested = sound.nested; anchors = each; bound = sound.bound; short = h.short })
 
-some_same : {A : Type 0} {x y : A} → Some x ≡ Some y → x ≡ y
-some_same e = cc
-
 pub lines_are_there : LinesAreThere
-lines_are_there [] o h e = subst (λ (x : NodeLines). Some (value o) ≡ Some (anchored x.anchor (value x.lines))) (some_same e) (ap Some (sym (unanchored (value o))))
+lines_are_there [] o h e = subst (λ (x : NodeLines). Some (value o) ≡ Some (anchored x.anchor (value x.lines))) (same_Some _ _ e) (ap Some (sym (unanchored (value o))))
 lines_are_there (s ∷ ss) o h e = found (lines_found s ss o h e)
   where
     found : Under s ss o h → node_at (s ∷ ss) (value o) ≡ Some (anchored h.anchor (value h.lines))
@@ -282,10 +280,7 @@ map_of ps = each_of document_of ps
 pub lead_kept : LeadKept
 lead_kept c k p f there = go (document_parts c) k there
   where
-    same : {x y : Part} → Some x ≡ Some y → x ≡ y
-    same e = cc
-
     go : (ps : List Part) (k : ℕ) → slice_get ps k ≡ Some p → change_nth k (changed (lead_of p) f) (map_of ps) ≡ change_nth k (with_root f) (map_of ps)
     go [] k e = refl
-    go (x ∷ ps) zero e = ap (λ (y : Part). record { lead = lead_of y; root = f (root_of x) } ∷ map_of ps) (sym (same e))
+    go (x ∷ ps) zero e = ap (λ (y : Part). record { lead = lead_of y; root = f (root_of x) } ∷ map_of ps) (sym (same_Some _ _ e))
     go (x ∷ ps) (suc k) e = ap (λ ds. document_of x ∷ ds) (go ps k e)

@@ -1,13 +1,11 @@
 -- One item or entry more at the end of a text without a final break.
-use Rattle.std.proofs.Common.{◌≡◌, inl, inr, ℕ, suc, ◌+◌, ◌≤◌, List, [], ◌∷◌, ◌++◌, length, drop, eqb, ◌&&◌, Option, Some, None, true, false, cond, refl, sym, ap, ◌∙◌, subst}
-use Rattle.std.proofs.Common.{arith, ⊎_elim, append_assoc, append-nil, length-append}
-use Rattle.std.proofs.lemmas.Bool.{false≢true, cond-true, cond-false}
+use Rattle.std.proofs.Common.{◌≡◌, inl, inr, ℕ, suc, ◌+◌, ◌≤◌, List, [], ◌∷◌, ◌++◌, length, drop, eqb, ◌&&◌, Option, Some, None, true, false, cond, refl, sym, ap, ◌∙◌, subst, arith, ⊎_elim, append_assoc, append-nil, length-append}
+use Rattle.std.proofs.lemmas.Bool.{false≢true, cond-true, cond-false, and_parts, or_parts}
 use Rattle.std.specs.List.{list_all}
 use Rattle.std.specs.Str.{chars}
 use Rattle.yq_scalar.specs.Characters.{is_text, is_text_char, pairs_returns, text_limit}
 use Rattle.yq_scalar.specs.Lines.{is_hash}
 use Rattle.yq_scalar.specs.Text.{NoneIn, cut, ends_line, is_break, is_feed, is_line, is_return, no_white, past_white}
-use Rattle.yq_scalar.proofs.Bools.{and_true, or_false}
 use Rattle.yq_scalar.proofs.Upto.{cut-append}
 use Rattle.yq_lines.specs.Comments.{comment_text, head_comment, less_space, line_comment}
 use Rattle.yq_rows.specs.Exchange.{row_front}
@@ -76,7 +74,7 @@ comment_is white comment break w c e =
 
 none_closed : (b : ℕ) (p break : List ℕ) → NoneIn ends_line (b ∷ p) [] → ends_return (b ∷ p) ≡ false → NoneIn ends_line (b ∷ p) break
 none_closed b [] break h e =
-    let f = or_false (is_feed b) (is_return b && false) h.0 in
+    let f = or_parts (is_feed b) (is_return b && false) h.0 in
     (rw (f.0, e) refl, tt)
 none_closed b (c ∷ p) break h e = (h.0, none_closed c p break h.1 e)
 
@@ -84,7 +82,7 @@ none_closed b (c ∷ p) break h e = (h.0, none_closed c p break h.1 e)
 pub comment_stays : (tail break : List ℕ) → (is_break break && is_line break) ≡ true → is_line tail ≡ false → pairs_returns tail ≡ true → IsTail tail [] →
     line_comment (tail ++ break) ≡ line_comment tail
 comment_stays tail break b bare pairs h = ⊎_elim {0, 0, 0}
-    (λ e. absurd (false≢true (sym bare ∙ (line_by_break h.white h.comment tail [] h.line ∙ (and_true (is_break h.line.break) (is_line h.line.break) e).1))))
+    (λ e. absurd (false≢true (sym bare ∙ (line_by_break h.white h.comment tail [] h.line ∙ (and_parts (is_break h.line.break) (is_line h.line.break) e).1))))
     (λ e.
     let is : tail ≡ h.white ++ h.comment = h.line.spelled ∙ (ap (λ l. h.white ++ (h.comment ++ l)) e.0 ∙ ap (λ l. h.white ++ l) (append-nil h.comment)) in
     let none : ends_return h.comment ≡ false = no_end_return h.comment (pairs_back h.white h.comment (ap pairs_returns (sym is) ∙ pairs)) in
@@ -128,7 +126,7 @@ last_comment t c k p front new r break old cut takes =
     ap (λ (x : Part). rows_text (drop i x.rows) (x.end ++ behind_part j c)) here ∙ (λ v. rows_text (end_is v) (takes.end_is v ++ takes.rest_is v)) in
     let whole : cut_text c ≡ before_rows j i c ++ print_row r [] = front_text c j i ∙ ap (λ (x : List ℕ). before_rows j i c ++ x) place in
     let pairs : pairs_returns (print_row r []) ≡ true =
-    pairs_back (before_rows j i c) (print_row r []) (ap pairs_returns (sym whole) ∙ (ap pairs_returns (sym cut.text) ∙ (and_true (list_all is_text_char (chars t)) (pairs_returns t) cut.characters).1)) in
+    pairs_back (before_rows j i c) (print_row r []) (ap pairs_returns (sym whole) ∙ (ap pairs_returns (sym cut.text) ∙ (and_parts (list_all is_text_char (chars t)) (pairs_returns t) cut.characters).1)) in
     let content : pairs_returns (content_text r.content []) ≡ true = pairs_back (row_front r) (content_text r.content []) (ap pairs_returns (sym (row_front-append r [])) ∙ pairs) in
     let tail : pairs_returns (tail_behind r.content) ≡ true = ap pairs_returns (sym (append-nil (tail_behind r.content))) ∙ tail_pairs r.content [] takes.takes.inline content in
     let own = rows_drop i p.rows unlimited p.end (behind_part j c) (subst (λ (x : Part). AreRows unlimited x.rows x.end (behind_part j c)) here (part_in c j true cut.parts).rows) in

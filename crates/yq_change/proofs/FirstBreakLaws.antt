@@ -1,9 +1,8 @@
 -- The break behind the lines of an item or entry.
 use Rattle.std.proofs.Common.{◌≡◌, ◌⊎◌, inl, inr, ℕ, ℤ, ◌<◌, eqb, Bool, true, false, cond, List, [], ◌∷◌, ◌++◌, length, drop, None, refl, sym, ap, ◌∙◌, subst, arith, append-nil}
-use Rattle.std.proofs.lemmas.Bool.{false≢true, eqb-true}
+use Rattle.std.proofs.lemmas.Bool.{false≢true, eqb-true, and_parts}
 use Rattle.yq_scalar.specs.Text.{cut_line, is_empty, separates}
 use Rattle.yq_scalar.proofs.BlockPieceLaws.{IsLf, line_lf, raw_lf}
-use Rattle.yq_scalar.proofs.Bools.{and_true}
 use Rattle.yq_scalar.specs.Text.{is_line}
 use Rattle.yq_scalar.specs.Text.{joined}
 use Rattle.yq_lines.specs.Comments.{line_comment}
@@ -25,7 +24,7 @@ IsOneBreak t = (t ≡ 10 ∷ []) ⊎ (t ≡ 13 ∷ (10 ∷ []))
 lone_break : (b : ℕ) (bs : List ℕ) → is_last_break (b ∷ bs) ≡ true → IsOneBreak (b ∷ bs)
 lone_break b [] e = inl (ap (λ (x : ℕ). x ∷ []) (eqb-true b 10 e))
 lone_break b (d ∷ []) e =
-    let x = and_true (eqb b 13) (eqb d 10) e in
+    let x = and_parts (eqb b 13) (eqb d 10) e in
     let first : b ≡ 13 = eqb-true b 13 x.0 in
     let last : d ≡ 10 = eqb-true d 10 x.1 in
     inr (λ i. first i ∷ (last i ∷ []))
@@ -61,7 +60,7 @@ content_break n (Inline space node tail) rest h some = go (tail_end tail rest h.
 content_break n (Block space anchor block) rest h some = go (raw_lf block.indent block.raw h.2.lines)
   where
     line : IsLf block.tail
-    line = line_lf block.tail (and_true (is_line block.tail) _ h.2.tail).0
+    line = line_lf block.tail (and_parts (is_line block.tail) _ h.2.tail).0
 
     go : (joined block.raw ≡ []) ⊎ IsLf (joined block.raw) → IsOneBreak (cond (is_empty (joined block.raw)) (last_break block.tail) (last_break (joined block.raw)))
     go (inl none) = subst (λ (t : List ℕ). IsOneBreak (cond (is_empty t) (last_break block.tail) (last_break t))) (sym none) (last_lf block.tail line)

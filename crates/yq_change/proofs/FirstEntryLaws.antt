@@ -1,6 +1,7 @@
 -- The rows of the first item or entry of a compact collection, by its lines.
 use Rattle.std.proofs.Common.{◌≡◌, ℕ, suc, ◌+◌, ◌<◌, ◌≤◌, true, List, [], ◌∷◌, ◌++◌, length, take, drop, Some, refl, sym, ap, ◌∙◌, subst, arith, append_assoc, length-append}
 use Rattle.std.proofs.lemmas.List.{take-append-drop, length-take-le}
+use mathlib.Core.List.{head-eq_of_cons-eq, tail-eq_of_cons-eq}
 use Rattle.yq_scalar.specs.Paths.{Step}
 use Rattle.yq_lines.specs.Comments.{head_comment}
 use Rattle.yq_lines.specs.Group.{level_or}
@@ -54,9 +55,6 @@ apart_dashes a above column (n ∷ (k ∷ ns)) es m c rest some h =
     (subst (λ (x : List Line). StandApart x (lines_from [] (behind_columns column (n ∷ (k ∷ ns))) es m c ++ rest))
     (sym (append_assoc a (dash_line above column ∷ []) (dash_lines [] (suc (column + n)) (k ∷ ns)))) h)
 
-head_same : {x y : Line} {xs ys : List Line} → x ∷ xs ≡ y ∷ ys → x ≡ y
-head_same e = cc
-
 entry_mark : (m : rows.Mark) (above : List (List ℕ)) (column : ℕ) (c : Content) → IsEntry (mark_line above column m c).mark → is_entry m ≡ true
 entry_mark rows.Bare above column c h = absurd h
 entry_mark rows.Dash above column c h = refl
@@ -65,13 +63,13 @@ entry_mark (rows.Key key colon) above column c h = refl
 -- the first line of a row
 first_column : (above : List (List ℕ)) (column : ℕ) (ns : List ℕ) (m : rows.Mark) (c : Content) (rest : List Line) (l : Line) (ls : List Line) → lines_from above column ns m c ++ rest ≡ l ∷ ls →
     l.column ≡ column
-first_column above column [] m c rest l ls e = ap (λ (x : Line). x.column) (sym (head_same e))
-first_column above column (n ∷ ns) m c rest l ls e = ap (λ (x : Line). x.column) (sym (head_same e))
+first_column above column [] m c rest l ls e = ap (λ (x : Line). x.column) (sym (head-eq_of_cons-eq e))
+first_column above column (n ∷ ns) m c rest l ls e = ap (λ (x : Line). x.column) (sym (head-eq_of_cons-eq e))
 
 first_entry : (above : List (List ℕ)) (column : ℕ) (ns : List ℕ) (m : rows.Mark) (c : Content) (rest : List Line) (l : Line) (ls : List Line) → lines_from above column ns m c ++ rest ≡ l ∷ ls →
     AreDashes ns m → IsEntry l.mark →
     is_entry m ≡ true
-first_entry above column [] m c rest l ls e d h = entry_mark m above column c (subst (λ (x : Line). IsEntry x.mark) (sym (head_same e)) h)
+first_entry above column [] m c rest l ls e d h = entry_mark m above column c (subst (λ (x : Line). IsEntry x.mark) (sym (head-eq_of_cons-eq e)) h)
 first_entry above column (n ∷ ns) m c rest l ls e d h = d.1
 
 same_column : (l k : Line) → level l ≡ level k → l.column ≡ k.column
@@ -204,12 +202,6 @@ module _ (p : Part) (m : ℕ) (ss : List Step) (s : Step) (h : NodeLines) (f : F
       behind_is : lines_behind h f ≡ next_is.line ∷ (((flatten next_is.under ++ flatten next_is.after) ++ lines_after f.place) ++ lines_after h.place)
       behind_is = ap (λ (o : Outline). (flatten o ++ lines_after f.place) ++ lines_after h.place) next_is.is
 
-      tail_same : {x y : Row} {xs ys : List Row} → x ∷ xs ≡ y ∷ ys → xs ≡ ys
-      tail_same e = cc
-
-      row_same : {x y : Row} {xs ys : List Row} → x ∷ xs ≡ y ∷ ys → x ≡ y
-      row_same e = cc
-
       found : (gone : List Row) (next : Row) (back : List Row) → w.back ≡ gone ++ (next ∷ back) → row_lines rest ++ lines_of gone ≡ e → lines_of (next ∷ back) ≡ lines_behind h f → FirstRows p h f q
       found gone next back is own behind =
           let first : row_lines next ++ lines_of back ≡ next_is.line ∷ (((flatten next_is.under ++ flatten next_is.after) ++ lines_after f.place) ++ lines_after h.place) = behind ∙ behind_is in
@@ -231,4 +223,4 @@ module _ (p : Part) (m : ℕ) (ss : List Step) (s : Step) (h : NodeLines) (f : F
       go : (front back : List Row) → rest ∷ w.back ≡ front ++ back → lines_of front ≡ e → lines_of back ≡ lines_behind h f → FirstRows p h f q
       go [] back is own behind = absurd (cc)
       go (v ∷ gone) [] is own behind = let none : [] ≡ next_is.line ∷ _ = behind ∙ behind_is in absurd (cc)
-      go (v ∷ gone) (next ∷ back) is own behind = found gone next back (tail_same is) (ap (λ (x : Row). row_lines x ++ lines_of gone) (row_same is) ∙ own) behind
+      go (v ∷ gone) (next ∷ back) is own behind = found gone next back (tail-eq_of_cons-eq is) (ap (λ (x : Row). row_lines x ++ lines_of gone) (head-eq_of_cons-eq is) ∙ own) behind

@@ -2,6 +2,7 @@
 use Rattle.std.proofs.Common.{◌≡◌, ℕ, zero, suc, ◌<◌, eqb, Bool, true, false, cond, List, [], ◌++◌, Option, Some, None, option_map, refl, sym, ap, ◌∙◌, arith, append_assoc}
 use Rattle.std.proofs.lemmas.Bool.{eqb-false}
 use Rattle.std.proofs.lemmas.List.{take-append-drop}
+use Rattle.std.proofs.lemmas.Option.{none-some, same_Some}
 use Rattle.std.specs.List.{slice_get}
 use Rattle.yq_scalar.specs.Answers.{◌>>=◌}
 use Rattle.yq_scalar.specs.Paths.{Step}
@@ -21,12 +22,6 @@ use Rattle.yq_tree.proofs.FirstLaws.{spaces_parts}
 use Rattle.yq_tree.proofs.PieceTexts.{piece_text, document_whole, piece_whole}
 use Rattle.yq_change.specs.RemovalChanges.{FirstStands}
 
-some_same : {A : Type 0} {x y : A} → Some x ≡ Some y → x ≡ y
-some_same e = cc
-
-none_some : {A : Type 0} {x : A} → None ≡ Some x → ⊥
-none_some e = cc
-
 -- ---- what is taken out
 
 -- What is taken out, by the line of the item or entry and its piece.
@@ -43,12 +38,12 @@ pub record IsFirstOut (c : Cut) (k : ℕ) (steps : List Step) (x : FirstOut) : T
   pub is : (printed_document k c >>= piece_in Entry steps) ≡ Some piece
 
 guard_none : {A : Type 0} {x : Option A} {y : A} (b : Bool) → cond b None x ≡ Some y → (b ≡ false) × (x ≡ Some y)
-guard_none true e = absurd (none_some e)
+guard_none true e = absurd (none-some _ e)
 guard_none false e = (refl, e)
 
 map_some : {A B : Type 0} {f : A → B} {y : B} (o : Option A) → option_map f o ≡ Some y → (x : A) × (o ≡ Some x) × (f x ≡ y)
-map_some None e = absurd (none_some e)
-map_some (Some x) e = (x, refl, some_same e)
+map_some None e = absurd (none-some _ e)
+map_some (Some x) e = (x, refl, same_Some _ _ e)
 
 some_line : (n : ℕ) → (n ≡ 0 → ⊥) → 0 < n
 some_line zero h = absurd (h refl)

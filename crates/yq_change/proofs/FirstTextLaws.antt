@@ -1,7 +1,8 @@
 -- The text around the first item or entry of a compact collection.
-use Rattle.std.proofs.Common.{◌≡◌, ℕ, suc, ◌+◌, ◌-◌, ◌<◌, List, [], ◌∷◌, ◌++◌, length, take, drop, map, Option, Some, None, option_and_then, replicate, true, refl, sym, ap, ◌∙◌, subst, arith, append_assoc, length-append}
+use Rattle.std.proofs.Common.{◌≡◌, ℕ, suc, ◌+◌, ◌-◌, ◌<◌, List, [], ◌∷◌, ◌++◌, length, take, drop, map, Option, Some, option_and_then, replicate, true, refl, sym, ap, ◌∙◌, subst, arith, append_assoc, length-append}
 use Rattle.std.proofs.Math.Seq.{take-append_seam, drop-append_seam}
 use Rattle.std.proofs.lemmas.List.{take-append-drop, length-take-le}
+use Rattle.std.proofs.lemmas.Option.{none-some, same_Some}
 use Rattle.std.specs.List.{slice_get}
 use Rattle.yq_scalar.specs.Answers.{◌>>=◌}
 use Rattle.yq_scalar.specs.Paths.{Step}
@@ -33,12 +34,6 @@ use Rattle.yq_change.proofs.FirstBreakLaws.{IsOneBreak, lines_break, rows_break}
 use Rattle.yq_change.proofs.FirstEntryLaws.{FirstRows}
 use Rattle.yq_change.proofs.FirstReplaceLaws.{rows_after}
 use Rattle.yq_change.proofs.PartLaws.{take_front}
-
-some_same : {A : Type 0} {x y : A} → Some x ≡ Some y → x ≡ y
-some_same e = cc
-
-none_some : {A : Type 0} {x : A} → None ≡ Some x → ⊥
-none_some e = cc
 
 -- ---- lines of rows
 
@@ -89,7 +84,7 @@ parts_at : (a b c ls : List PrintedLine) (n m : ℕ) (l : PrintedLine) → ls �
 parts_at a [] c ls n m l is before size there = absurd (omega (arith, size))
 parts_at a (x ∷ b) c ls n m l is before size there =
     let rest : drop (suc n) ls ≡ b ++ c = (λ i. drop (suc (before i)) (is i)) ∙ drop_part a b c x in
-    let first : l ≡ x = some_same (sym there ∙ ((λ i. slice_get (is i) (before i)) ∙ get_part a (b ++ c) x)) in
+    let first : l ≡ x = same_Some _ _ (sym there ∙ ((λ i. slice_get (is i) (before i)) ∙ get_part a (b ++ c) x)) in
     let count : m ≡ length b = omega (arith, size) in
     ((λ i. first i ∷ take (count i) (rest i)) ∙ ap (λ (ys : List PrintedLine). x ∷ ys) (take-append_seam b c), (λ i. drop (count i) (rest i)) ∙ drop-append_seam b c)
 
@@ -189,7 +184,7 @@ module _ (p : Part) (start rest : List ℕ) (h : NodeLines) (f : Found) (q : Sea
       let count : suc m ≡ length own = omega (arith, size, ends_at, own_count) in
       let parts = parts_at above own (printed_lines back) ls n m l parts_are above_count count there in
       let d = seated p.rows n q seat_is in
-      let same : d.line ≡ l = some_same (sym d.there ∙ there) in
+      let same : d.line ≡ l = same_Some _ _ (sym d.there ∙ there) in
       record {
         before =
             append_assoc start (print_lines (take n ls) []) (line_front l)
@@ -217,7 +212,7 @@ module _ (p : Part) (start rest : List ℕ) (h : NodeLines) (f : Found) (q : Sea
           let same : k ≡ n = sym is ∙ at in
           subst (FirstText start z q fr.front back)
           (ap (λ (j : ℕ). run_piece (start ++ print_lines (take j ls) []) l.0 (take (length (flatten g.under)) (drop (suc j) ls))
-          (print_lines (drop (length (flatten g.under)) (drop (suc j) ls)) z)) (sym same) ∙ some_same l.2)
+          (print_lines (drop (length (flatten g.under)) (drop (suc j) ls)) z)) (sym same) ∙ same_Some _ _ l.2)
           (text_found y ys g l.0 found at (ap (slice_get ls) (sym same) ∙ l.1))
 
       go : (g : Found) (more : List Step) → find y ys (group (lines_of p.rows)) ≡ Some (g, more) → found_line g more ≡ Some n →
@@ -225,7 +220,7 @@ module _ (p : Part) (start rest : List ℕ) (h : NodeLines) (f : Found) (q : Sea
       go g [] found at e =
           let b = bind_some (found_entry (record { before = start; lines = ls; behind = z }) g) e in
           let l = bind_some (slice_get ls (length (lines_before g.place))) b.1 in
-          last g found (some_same at) (length (lines_before g.place)) refl
+          last g found (same_Some _ _ at) (length (lines_before g.place)) refl
           (ap (λ (o : Option PrintedLine). o >>= λ l. piece_in_entry Entry [] (entry_at (length (lines_before g.place)) (length (flatten g.under)) l)) l.1
-          ∙ (ap (piece_in_entry Entry []) (some_same l.2) ∙ b.2))
-      go g (t ∷ ts) found at e = absurd (none_some at)
+          ∙ (ap (piece_in_entry Entry []) (same_Some _ _ l.2) ∙ b.2))
+      go g (t ∷ ts) found at e = absurd (none-some _ at)

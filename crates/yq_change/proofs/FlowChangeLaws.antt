@@ -1,5 +1,6 @@
 -- The operations inside flow collections, by the head of one line.
 use Rattle.std.proofs.Common.{◌≡◌, ℕ, ◌+◌, ◌<◌, List, [], ◌∷◌, ◌++◌, Option, Some, None, refl, sym, ap, ◌∙◌, subst, arith}
+use Rattle.std.proofs.lemmas.Option.{none-some}
 use Rattle.yq_scalar.specs.Paths.{Step, append_child, change, change_child, remove_child, within}
 use Rattle.yq_scalar.specs.Tree.{Node, alias, scalar, list, map, Children, none, child}
 use Rattle.yq_rows.specs.Rows.{Part, Cut}
@@ -56,10 +57,7 @@ other_head (Some a) l n m ls ms e new h = go l.mark l.anchor (subst (MayTake l.m
     go Dash b h = tt
 
 pub none_under : (h : Option Node) (n : Node) (u : Outline) → h ≡ Some n → IsOpen h u → u ≡ end
-none_under None n u e o = absurd (none_some e)
-  where
-    none_some : {x : Node} → None ≡ Some x → ⊥
-    none_some e = cc
+none_under None n u e o = absurd (none-some _ e)
 none_under (Some x) n end e o = refl
 none_under (Some x) n (row l u a) e o = absurd o
 

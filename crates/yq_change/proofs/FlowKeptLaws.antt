@@ -1,6 +1,7 @@
 -- What stays of a document in which a flow collection has other items or entries.
-use Rattle.std.proofs.Common.{◌≡◌, ℕ, Bool, true, false, cond, List, [], ◌∷◌, ◌++◌, map, Some, None, option_and_then, sym, ap, ◌∙◌, subst}
+use Rattle.std.proofs.Common.{◌≡◌, ℕ, Bool, true, false, cond, List, [], ◌∷◌, ◌++◌, map, Some, option_and_then, sym, ap, ◌∙◌, subst}
 use Rattle.std.proofs.lemmas.Bool.{cond_both}
+use Rattle.std.proofs.lemmas.Option.{none-some, same_Some}
 use Rattle.std.specs.Prelude.{is_some}
 use Rattle.yq_scalar.specs.Paths.{Step, is_here, further}
 use Rattle.yq_inline.specs.Alike.{fresh}
@@ -23,17 +24,11 @@ use Rattle.yq_change.proofs.PartLaws.{document_known}
 use Rattle.yq_change.proofs.RowCommentLaws.{lead_content}
 use Rattle.yq_change.proofs.ShapeLaws.{shape_tells}
 
-none_coll : {w : CollPieces} → None ≡ Some w → ⊥
-none_coll e = cc
-
-coll_same : {x y : CollPieces} → Some x ≡ Some y → x ≡ y
-coll_same e = cc
-
 -- ---- keys
 
 fit_items : (ss : List Step) (k : ℕ) (s : Step) (os : Items) (rest : List ℕ) (w : CollPieces) (f : Node → Node) → option_and_then (λ (y : EntryPieces). coll_along ss y.node y.rest) (item_at k s os rest) ≡ Some w → EachHasFitKeys os →
     ((node : Node) (u : List ℕ) → coll_along ss node u ≡ Some w → HasFitKeys node → HasFitKeys (f node)) → EachHasFitKeys (change_item s f os)
-fit_items ss k s none rest w f e h fits = absurd (none_coll e)
+fit_items ss k s none rest w f e h fits = absurd (none-some _ e)
 fit_items ss k s (item key n sep os) rest w f e h fits = go (is_here s (inner (key_content key))) (λ again. fit_items ss k (further s) os rest w f again h.2 fits) e
   where
     go : (b : Bool) → (option_and_then (λ (y : EntryPieces). coll_along ss y.node y.rest) (item_at k (further s) os rest) ≡ Some w → EachHasFitKeys (change_item (further s) f os)) → option_and_then (λ (y : EntryPieces). coll_along ss y.node y.rest) (cond b (Some (record { key = key; node = n; rest = sep_text sep (items_text k os rest) })) (item_at k (further s) os rest)) ≡ Some w →
@@ -42,14 +37,14 @@ fit_items ss k s (item key n sep os) rest w f e h fits = go (is_here s (inner (k
     go false again e = (h.0, h.1, again e)
 
 fit_at : (ss : List Step) (node : Node) (rest : List ℕ) (w : CollPieces) (g : List ℕ) (is : Items) → coll_along ss node rest ≡ Some w → HasFitKeys node → (EachHasFitKeys w.items → EachHasFitKeys is) → HasFitKeys (put_at ss g is node)
-fit_at [] empty rest w g is e h f = absurd (none_coll e)
-fit_at [] (alias n) rest w g is e h f = absurd (none_coll e)
-fit_at [] (scalar p) rest w g is e h f = absurd (none_coll e)
-fit_at [] (coll k gap os) rest w g is e h f = f (subst (λ (x : CollPieces). EachHasFitKeys x.items) (coll_same e) h)
+fit_at [] empty rest w g is e h f = absurd (none-some _ e)
+fit_at [] (alias n) rest w g is e h f = absurd (none-some _ e)
+fit_at [] (scalar p) rest w g is e h f = absurd (none-some _ e)
+fit_at [] (coll k gap os) rest w g is e h f = f (subst (λ (x : CollPieces). EachHasFitKeys x.items) (same_Some _ _ e) h)
 fit_at [] (anchored n gap node) rest w g is e h f = fit_at [] node rest w g is e h f
-fit_at (s ∷ ss) empty rest w g is e h f = absurd (none_coll e)
-fit_at (s ∷ ss) (alias n) rest w g is e h f = absurd (none_coll e)
-fit_at (s ∷ ss) (scalar p) rest w g is e h f = absurd (none_coll e)
+fit_at (s ∷ ss) empty rest w g is e h f = absurd (none-some _ e)
+fit_at (s ∷ ss) (alias n) rest w g is e h f = absurd (none-some _ e)
+fit_at (s ∷ ss) (scalar p) rest w g is e h f = absurd (none-some _ e)
 fit_at (s ∷ ss) (coll k gap os) rest w g is e h f = fit_items ss k s os rest w (put_at ss g is) e h (λ node u found fit. fit_at ss node u w g is found fit f)
 fit_at (s ∷ ss) (anchored n gap node) rest w g is e h f = fit_at (s ∷ ss) node rest w g is e h f
 

@@ -1,5 +1,6 @@
 -- The line in whose head a node at a path stands, and a document in which that line has another head.
 use Rattle.std.proofs.Common.{◌≡◌, ◌⊎◌, inl, inr, ℕ, suc, ◌+◌, ◌<◌, List, [], ◌∷◌, ◌++◌, Option, Some, None, option_map, option_and_then, refl, sym, ap, ◌∙◌, subst, arith}
+use Rattle.std.proofs.lemmas.Option.{none-some, same_Some}
 use Rattle.std.specs.Prelude.{is_some}
 use Rattle.yq_scalar.specs.Answers.{◌>>=◌}
 use Rattle.yq_scalar.specs.Paths.{Step, change, within}
@@ -51,12 +52,6 @@ record OnLine (steps : List Step) (o : Outline) (f : Found) (rest : List Step) :
   bare : f.line.mark ≡ Bare
   whole : plug f.place (row f.line f.under f.after) ≡ o
 
-pair_same : {x y : Found × List Step} → Some x ≡ Some y → x ≡ y
-pair_same e = cc
-
-no_pair : {x : Found × List Step} → None ≡ Some x → ⊥
-no_pair e = cc
-
 abbrev Cases : List Step → Outline → Found → List Step → Type 0
 Cases steps o f rest = InEntry steps o f rest ⊎ OnLine steps o f rest
 
@@ -64,9 +59,9 @@ root_line : (n : ℕ) (l : Line) (u a : Outline) (f : Found) (rest : List Step) 
 root_line n l u a f rest even e = go l.mark refl e
   where
     go : (m : Mark) → l.mark ≡ m → option_map {U = Found × List Step} (λ g. (g, [])) (Rattle.std.proofs.Common.cond (is_bare m) (Some (record { place = here; line = l; under = u; after = a })) None) ≡ Some (f, rest) → Cases [] (row l u a) f rest
-    go (Key k) is e = absurd (no_pair e)
-    go Dash is e = absurd (no_pair e)
-    go Bare is e = inr (subst (λ (x : Found × List Step). OnLine [] (row l u a) x.0 x.1) (pair_same e) (record {
+    go (Key k) is e = absurd (none-some _ e)
+    go Dash is e = absurd (none-some _ e)
+    go Bare is e = inr (subst (λ (x : Found × List Step). OnLine [] (row l u a) x.0 x.1) (same_Some _ _ e) (record {
       lines = record { place = here; above = 0; anchor = None; lines = row l u a };
       is = refl;
       left = refl;
@@ -79,13 +74,13 @@ root_line n l u a f rest even e = go l.mark refl e
 
 under_line_is : (n : ℕ) (o : Outline) (s : Step) (ss : List Step) (g : Found) (f : Found) (rest : List Step) → IsEven n o → find s ss o ≡ Some (g, []) → g.line.head ≡ None → (u : Outline) → g.under ≡ u →
     option_map {U = Found × List Step} (λ y. (inside g y, [])) (bare_line u) ≡ Some (f, rest) → Cases (s ∷ ss) o f rest
-under_line_is n o s ss g f rest even is open' end under e = absurd (no_pair e)
+under_line_is n o s ss g f rest even is open' end under e = absurd (none-some _ e)
 under_line_is n o s ss g f rest even is open' (row l v a) under e = go l.mark refl e
   where
     go : (m : Mark) → l.mark ≡ m → option_map {U = Found × List Step} (λ y. (inside g y, [])) (Rattle.std.proofs.Common.cond (is_bare m) (Some (record { place = here; line = l; under = v; after = a })) None) ≡ Some (f, rest) → Cases (s ∷ ss) o f rest
-    go (Key k) mark e = absurd (no_pair e)
-    go Dash mark e = absurd (no_pair e)
-    go Bare mark e = inr (subst (λ (x : Found × List Step). OnLine (s ∷ ss) o x.0 x.1) (pair_same e) (record {
+    go (Key k) mark e = absurd (none-some _ e)
+    go Dash mark e = absurd (none-some _ e)
+    go Bare mark e = inr (subst (λ (x : Found × List Step). OnLine (s ∷ ss) o x.0 x.1) (same_Some _ _ e) (record {
       lines = under_line g;
       is = ap (option_and_then (λ x. lines_below x.0.line.head x.1 x.0)) is ∙ ap (λ h. lines_below h [] g) open';
       left = refl;
@@ -98,12 +93,12 @@ under_line_is n o s ss g f rest even is open' (row l v a) under e = go l.mark re
     }))
 
 head_cases : (n : ℕ) (o : Outline) (steps : List Step) (f : Found) (rest : List Step) → IsEven n o → find_head steps o ≡ Some (f, rest) → Cases steps o f rest
-head_cases n end [] f rest even e = absurd (no_pair e)
+head_cases n end [] f rest even e = absurd (none-some _ e)
 head_cases n (row l u a) [] f rest even e = root_line n l u a f rest even e
 head_cases n o (s ∷ ss) f rest even e = go (find s ss o) refl e
   where
     entry : (g : Found) (left : List Step) → find s ss o ≡ Some (g, left) → TakesSteps g.line → ◌≡◌ {A = Option (Found × List Step)} (Some (g, left)) (Some (f, rest)) → Cases (s ∷ ss) o f rest
-    entry g left is takes e = inl (subst (λ (x : Found × List Step). InEntry (s ∷ ss) o x.0 x.1) (pair_same e) (record { first = s; others = ss; steps_are = refl; found = is; takes = takes }))
+    entry g left is takes e = inl (subst (λ (x : Found × List Step). InEntry (s ∷ ss) o x.0 x.1) (same_Some _ _ e) (record { first = s; others = ss; steps_are = refl; found = is; takes = takes }))
 
     own : (g : Found) → find s ss o ≡ Some (g, []) → (h : Option Node) → g.line.head ≡ h → in_head h (Some (g, [])) (option_map {U = Found × List Step} (λ y. (inside g y, [])) (bare_line g.under)) ≡ Some (f, rest) → Cases (s ∷ ss) o f rest
     own g is (Some m) head e = entry g [] is (inr (ap is_some head)) e
@@ -114,7 +109,7 @@ head_cases n o (s ∷ ss) f rest even e = go (find s ss o) refl e
     line g (t ∷ ts) is e = entry g (t ∷ ts) is (at Takes (find s ss o) (g, t ∷ ts) is (takes_left s ss o)) e
 
     go : (r : Option (Found × List Step)) → find s ss o ≡ r → (r >>= λ x. head_line x.0 x.1) ≡ Some (f, rest) → Cases (s ∷ ss) o f rest
-    go None is e = absurd (no_pair e)
+    go None is e = absurd (none-some _ e)
     go (Some x) is e = line x.0 x.1 is e
 
 -- the line stands in the outline

@@ -1,6 +1,7 @@
 -- From paths to the rows in which flow collections stand, and the text outside them.
-use Rattle.std.proofs.Common.{◌≡◌, ℕ, zero, suc, ◌+◌, ◌-◌, ◌<◌, Bool, true, false, ◌||◌, List, [], ◌∷◌, ◌++◌, length, Option, Some, None, refl, sym, ap, ◌∙◌, subst, arith, append_assoc, length-append}
+use Rattle.std.proofs.Common.{◌≡◌, ℕ, zero, suc, ◌+◌, ◌-◌, ◌<◌, Bool, true, false, ◌||◌, List, [], ◌∷◌, ◌++◌, length, Option, Some, refl, sym, ap, ◌∙◌, subst, arith, append_assoc, length-append}
 use Rattle.std.proofs.lemmas.Bool.{lt-ltb, le-ltb, cond-true, cond-false}
+use Rattle.std.proofs.lemmas.Option.{none-some, same_Some}
 use Rattle.std.specs.List.{slice_get}
 use Rattle.yq_scalar.specs.Paths.{Step}
 use Rattle.yq_scalar.proofs.Bools.{bind_some}
@@ -150,16 +151,10 @@ record InContent (steps : List Step) (x : Content) (rest : List ℕ) (w : CollPi
   is : x ≡ Inline space node tail
   along : coll_along steps node (tail ++ rest) ≡ Some w
 
-no_coll : {w : CollPieces} → None ≡ Some w → ⊥
-no_coll e = cc
-
 in_content : (steps : List Step) (x : Content) (rest : List ℕ) (w : CollPieces) → content_flow steps x rest ≡ Some w → InContent steps x rest w
-in_content steps (Nothing tail) rest w e = absurd (no_coll e)
+in_content steps (Nothing tail) rest w e = absurd (none-some _ e)
 in_content steps (Inline space node tail) rest w e = record { space = space; node = node; tail = tail; is = refl; along = e }
-in_content steps (Block space anchor block) rest w e = absurd (no_coll e)
-
-seat_same : {x y : Seat} → Some x ≡ Some y → x ≡ y
-seat_same e = cc
+in_content steps (Block space anchor block) rest w e = absurd (none-some _ e)
 
 pub flow_found : FlowFound
 flow_found t c k steps w read e =
@@ -179,7 +174,7 @@ flow_found t c k steps w read e =
     let lines : lines_of p.rows ≡ lines_before f.place ++ (f.line ∷ (flatten f.under ++ (flatten f.after ++ lines_after f.place))) =
     sym (flatten-group (lines_of p.rows)) ∙ (ap flatten (sym (head_whole (level_or 0 o) o steps f rest known.even x.1)) ∙ placed f f.line f.under) in
     let m = mark_seat p.rows n f.line (ap (λ (ls : List Line). slice_get ls n) lines ∙ middle (lines_before f.place) _ f.line) (head_takes (level_or 0 o) o steps f rest known.even x.1) in
-    let mark : s.0.line ≡ length s.0.row.dashes = subst (λ (z : Seat). z.line ≡ length z.row.dashes) (seat_same (sym m.1 ∙ s.1)) m.2 in
+    let mark : s.0.line ≡ length s.0.row.dashes = subst (λ (z : Seat). z.line ≡ length z.row.dashes) (same_Some _ _ (sym m.1 ∙ s.1)) m.2 in
     let same : behind_row (document_row k c + s.0.before) c ≡ rows_text a.back (p.end ++ behind_document k c) = ap (λ (z : ℕ). behind_row (document_row k c + z) c) (sym a.before) ∙ h.behind in
     record {
       part = p;

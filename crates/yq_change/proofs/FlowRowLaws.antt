@@ -1,6 +1,8 @@
 -- A flow collection whose items or entries are changed, by the row in which it stands.
 use Rattle.std.proofs.Common.{◌≡◌, ℕ, ◌+◌, Bool, true, false, ◌&&◌, cond, eqb, List, [], ◌∷◌, ◌++◌, length, Option, Some, None, refl, sym, ap, ◌∙◌, subst, length-append, ℤ}
 use Rattle.std.proofs.lemmas.Bool.{and_parts, cond_both}
+use Rattle.std.proofs.lemmas.Option.{none-some, same_Some}
+use mathlib.Core.List.{head-eq_of_cons-eq}
 use Rattle.yq_scalar.specs.Paths.{Step, change, within}
 use Rattle.yq_scalar.specs.Text.{is_empty, separates}
 use Rattle.yq_scalar.specs.Tree as tree
@@ -54,9 +56,6 @@ use Rattle.yq_change.proofs.RemarkLaws.{last_lines}
 use Rattle.yq_change.proofs.ReplaceLaws.{document_replaced}
 use Rattle.yq_change.proofs.RowCommentLaws.{row_replaces}
 
-none_coll : {w : CollPieces} → None ≡ Some w → ⊥
-none_coll e = cc
-
 -- What is known of a node in which a collection stands, and of one with other items or entries there.
 pub record HoldsColl (node m : Node) (rest : List ℕ) : Type 0 where
   pub alike : Alike (Some false) (node_text node rest) (node_text m rest)
@@ -95,30 +94,24 @@ named_holds n g node m rest h = record {
 }
 
 pub node_holds : (ss : List Step) (node : Node) (rest : List ℕ) (w : CollPieces) (g : List ℕ) (is : Items) → coll_along ss node rest ≡ Some w → HoldsColl node (put_at ss g is node) rest
-node_holds [] empty rest w g is e = absurd (none_coll e)
-node_holds [] (alias n) rest w g is e = absurd (none_coll e)
-node_holds [] (scalar p) rest w g is e = absurd (none_coll e)
+node_holds [] empty rest w g is e = absurd (none-some _ e)
+node_holds [] (alias n) rest w g is e = absurd (none-some _ e)
+node_holds [] (scalar p) rest w g is e = absurd (none-some _ e)
 node_holds [] (coll k gap others) rest w g is e = coll_holds k g gap is others rest
 node_holds [] (anchored n gap node) rest w g is e = named_holds n gap node _ rest (node_holds [] node rest w g is e)
-node_holds (s ∷ ss) empty rest w g is e = absurd (none_coll e)
-node_holds (s ∷ ss) (alias n) rest w g is e = absurd (none_coll e)
-node_holds (s ∷ ss) (scalar p) rest w g is e = absurd (none_coll e)
+node_holds (s ∷ ss) empty rest w g is e = absurd (none-some _ e)
+node_holds (s ∷ ss) (alias n) rest w g is e = absurd (none-some _ e)
+node_holds (s ∷ ss) (scalar p) rest w g is e = absurd (none-some _ e)
 node_holds (s ∷ ss) (coll k gap others) rest w g is e = coll_holds k gap gap _ others rest
 node_holds (s ∷ ss) (anchored n gap node) rest w g is e = named_holds n gap node _ rest (node_holds (s ∷ ss) node rest w g is e)
 
 -- the tree of a node by its anchor and its head
-none_head : {x : tree.Node} → None ≡ Some x → ⊥
-none_head e = cc
-
-head_same : {x y : tree.Node} → Some x ≡ Some y → x ≡ y
-head_same e = cc
-
 anchor_head : (node : Node) (h : tree.Node) → node_head node ≡ Some h → tree_of node ≡ outlines.anchored (node_anchor node) h
 unfolding tree_of
-anchor_head empty h e = absurd (none_head e)
-anchor_head (alias n) h e = head_same e ∙ none_anchored h
-anchor_head (scalar p) h e = head_same e ∙ none_anchored h
-anchor_head (coll k g is) h e = head_same e ∙ none_anchored h
+anchor_head empty h e = absurd (none-some _ e)
+anchor_head (alias n) h e = same_Some _ _ e ∙ none_anchored h
+anchor_head (scalar p) h e = same_Some _ _ e ∙ none_anchored h
+anchor_head (coll k g is) h e = same_Some _ _ e ∙ none_anchored h
 anchor_head (anchored n g node) h e = named_is n (tree_of node) ∙ (ap (outlines.anchored (Some n)) (anchor_head node h e) ∙ twice (Some n) (node_anchor node) h)
 
 -- the row
@@ -172,9 +165,6 @@ short_node rows.Bare space tail m e = ap (λ (b : Bool). b && Rattle.yq_scalar.s
 short_node rows.Dash space tail m e = refl
 short_node (rows.Key key colon) space tail m e = refl
 
-one_same : {x y : Line} → x ∷ [] ≡ y ∷ [] → x ≡ y
-one_same e = cc
-
 -- The line of the row's mark is the one at the path, and the document's lines with another line there.
 record LineIs (p : Part) (f : Found) (i : InlineRow) : Type 0 where
   is : mark_line (above_mark (head_comment i.row.gap) i.row.dashes) (mark_column i.row) i.row.mark (Inline i.space i.node i.tail) ≡ f.line
@@ -193,7 +183,7 @@ line_is t c k p steps f rest i w n known at head =
     let olds : a ++ (line r.content ∷ lines_of i.back) ≡ lines_before f.place ++ (f.line ∷ (flatten f.under ++ tail)) =
     sym (ap lines_of at.rows_are ∙ last_lines i.front r i.back r.content) ∙ (sym (flatten-group (lines_of p.rows)) ∙ (ap flatten (sym whole) ∙ placed f f.line f.under)) in
     let parts = same_parts a (line r.content ∷ []) (lines_of i.back) (lines_before f.place) (f.line ∷ []) (flatten f.under ++ tail) olds size refl in
-    let is : line (Inline i.space i.node i.tail) ≡ f.line = ap line (sym at.content_is) ∙ one_same parts.1 in
+    let is : line (Inline i.space i.node i.tail) ≡ f.line = ap line (sym at.content_is) ∙ head-eq_of_cons-eq parts.1 in
     let even = allows_from (level_or 0 o) f.place f.line f.under f.after (subst (λ x. outlines.IsEven (level_or 0 o) x) (sym whole) known.even) in
     let under : f.under ≡ end = none_under f.line.head n f.under (sym (ap (λ (l : Line). l.head) is) ∙ head) even.1.1 in
     record {

@@ -1,5 +1,6 @@
 -- The flow collection at a path as a node of the text, with its places.
 use Rattle.std.proofs.Common.{◌≡◌, ℕ, ◌+◌, Bool, true, List, [], ◌∷◌, ◌++◌, length, Option, Some, option_map, refl, sym, ap, ◌∙◌, subst, append_assoc}
+use Rattle.std.proofs.lemmas.Option.{same_Some}
 use Rattle.std.specs.Str.{IsUtf8}
 use Rattle.yq_scalar.specs.Paths.{Step}
 use Rattle.yq_inline.specs.Collections.{CollPieces, coll_along, coll_in}
@@ -21,9 +22,6 @@ use Rattle.yq_change.proofs.FlowRowLaws.{flow_stands}
 use Rattle.yq_change.proofs.PartLaws.{document_known}
 use Rattle.yq_change.proofs.TextPieceLaws.{text_is_piece}
 
-entry_same : {x y : EntryPieces} → Some x ≡ Some y → x ≡ y
-entry_same e = cc
-
 -- a collection is that of the item or entry to which the steps lead
 coll_entry : (ss : List Step) (x : EntryPieces) (w : CollPieces) → coll_along ss x.node x.rest ≡ Some w → (y : EntryPieces) × (entry_pieces_at ss x ≡ Some y) × (coll_in y.node y.rest ≡ Some w)
 coll_entry [] x w e = (x, refl, e)
@@ -40,7 +38,7 @@ pub record Valid (node : Node) (rest : List ℕ) : Type 0 where
   pub is : IsNode flow spaces depth node rest
 
 entry_valid : (ss : List Step) (x y : EntryPieces) → Valid x.node x.rest → entry_pieces_at ss x ≡ Some y → Valid y.node y.rest
-entry_valid [] x y v e = subst (λ (z : EntryPieces). Valid z.node z.rest) (entry_same e) v
+entry_valid [] x y v e = subst (λ (z : EntryPieces). Valid z.node z.rest) (same_Some _ _ e) v
 entry_valid (s ∷ ss) x y v e = let k = path_holds v.flow v.spaces v.depth s ss x y v.is e in record { flow = true; spaces = Some 0; depth = k.0; is = k.2 }
 
 mapped_to : {A B : Type 0} (f : A → B) (o : Option A) (x : A) → o ≡ Some x → option_map f o ≡ Some (f x)

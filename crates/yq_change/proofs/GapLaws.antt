@@ -1,11 +1,11 @@
 -- The head comment of the gap that stays where rows are taken out.
 use Rattle.std.proofs.Common.{◌≡◌, ℕ, zero, suc, Bool, true, false, eqb, ◌&&◌, List, [], ◌∷◌, ◌++◌, Option, Some, None, refl, sym, ap, ◌∙◌, subst, ⊎_elim, replicate}
-use Rattle.std.proofs.lemmas.Bool.{false≢true, cond_both, cond-true, cond-false}
+use Rattle.std.proofs.lemmas.Bool.{false≢true, cond_both, cond-true, cond-false, and_parts, cases_Bool}
 use Rattle.yq_scalar.specs.Block.{BlockText, Lines, keeps}
 use Rattle.yq_scalar.specs.BlockRepair.{AreGap, is_short, is_outside, repair}
 use Rattle.yq_scalar.specs.Lines.{is_hash, is_blank}
 use Rattle.yq_scalar.specs.Text.{is_break, is_empty, is_line, is_white, joined, lines_of, past_white}
-use Rattle.yq_scalar.proofs.Bools.{is_true, and_true, at_byte}
+use Rattle.yq_scalar.proofs.Bools.{at_byte}
 use Rattle.yq_scalar.proofs.LineLaws.{lines_again}
 use Rattle.yq_scalar.proofs.SpaceLaws.{white_drop}
 use Rattle.yq_lines.specs.Comments.{are_comments, head_comment, last_comments}
@@ -29,9 +29,9 @@ all_before (l ∷ ls) h = ⊎_elim {0, 0, 0}
     (λ e. e)
     (λ e.
     let more : are_comments (l ∷ before_run ls) ≡ true = ap are_comments (sym (cond-false _ _ _ e)) ∙ h in
-    let parts = and_true (is_hash (past_white l)) (are_comments (before_run ls)) more in
+    let parts = and_parts (is_hash (past_white l)) (are_comments (before_run ls)) more in
     absurd (false≢true (sym e ∙ (λ i. parts.0 i && all_before ls parts.1 i))))
-    (is_true (are_comments (l ∷ ls)))
+    (cases_Bool (are_comments (l ∷ ls)))
 
 pub none_before : (ls : Lines) → last_comments (before_run ls) ≡ []
 none_before [] = refl
@@ -39,11 +39,11 @@ none_before (l ∷ ls) = ⊎_elim {0, 0, 0}
     (λ e. ap last_comments (cond-true (are_comments (l ∷ ls)) [] (l ∷ before_run ls) e))
     (λ e.
     let open' : are_comments (l ∷ before_run ls) ≡ false = ⊎_elim {0, 0, 0}
-    (λ k. let parts = and_true (is_hash (past_white l)) (are_comments (before_run ls)) k in absurd (false≢true (sym e ∙ (λ i. parts.0 i && all_before ls parts.1 i))))
+    (λ k. let parts = and_parts (is_hash (past_white l)) (are_comments (before_run ls)) k in absurd (false≢true (sym e ∙ (λ i. parts.0 i && all_before ls parts.1 i))))
     (λ k. k)
-    (is_true (are_comments (l ∷ before_run ls))) in
+    (cases_Bool (are_comments (l ∷ before_run ls))) in
     ap last_comments (cond-false (are_comments (l ∷ ls)) [] (l ∷ before_run ls) e) ∙ (cond-false _ _ _ open' ∙ none_before ls))
-    (is_true (are_comments (l ∷ ls)))
+    (cases_Bool (are_comments (l ∷ ls)))
 
 -- each line has its break
 abbrev AreLines : Lines → Type 0
@@ -60,7 +60,7 @@ none_is t some e = absurd (false≢true (sym some ∙ ap is_empty e))
 
 gap_line : (l rest : List ℕ) → is_empty rest ≡ false → IsGapLine l rest → is_line l ≡ true
 gap_line l rest some h = ⊎_elim {0, 0, 0}
-    (λ e. line_by_break h.white h.comment l rest h.line ∙ (and_true (is_break h.line.break) (is_line h.line.break) e).1)
+    (λ e. line_by_break h.white h.comment l rest h.line ∙ (and_parts (is_break h.line.break) (is_line h.line.break) e).1)
     (λ e. absurd (none_is rest some e.1))
     h.line.ends
 
@@ -78,7 +78,7 @@ line_past [] h = h
 line_past (b ∷ l) h = ⊎_elim {0, 0, 0}
     (λ e. rw (white_drop b l) (rw e (line_past l (sym (line_next b l (at_byte is_white b 10 e refl)) ∙ h))))
     (λ e. rw (white_drop b l) (rw e h))
-    (is_true (is_white b))
+    (cases_Bool (is_white b))
 
 line_spaces : (n : ℕ) (t : List ℕ) → is_line t ≡ true → is_line (replicate n 32 ++ t) ≡ true
 line_spaces zero t h = h
@@ -90,11 +90,11 @@ repaired_lines keep m column [] h = tt
 repaired_lines true m column (l ∷ ls) h = ⊎_elim {0, 0, 0}
     (λ b. rw b (repaired_lines true m column ls h.1))
     (λ b. rw b (cond_both (is_outside m l) l (replicate column 32 ++ past_white l) (λ x. is_line x ≡ true) (λ _. h.0) (λ _. line_spaces column (past_white l) (line_past l h.0)), h.1))
-    (is_true (is_blank l))
+    (cases_Bool (is_blank l))
 repaired_lines false m column (l ∷ ls) h = ⊎_elim {0, 0, 0}
     (λ b. rw b (cond_both (is_short m l) l (past_white l) (λ x. is_line x ≡ true) (λ _. h.0) (λ _. line_past l h.0), repaired_lines false m column ls h.1))
     (λ b. rw b (cond_both (is_outside m l) l (replicate column 32 ++ past_white l) (λ x. is_line x ≡ true) (λ _. h.0) (λ _. line_spaces column (past_white l) (line_past l h.0)), h.1))
-    (is_true (is_blank l))
+    (cases_Bool (is_blank l))
 
 -- The gap that stays has the head comment of the next one, where something stands behind that.
 pub head_left : (o : Option BlockText) (column : ℕ) (ks : Lines) (x next rest : List ℕ) → AreGapLines ks x → is_empty x ≡ false → last_comments ks ≡ [] → IsGap next rest → is_empty rest ≡ false →

@@ -2,15 +2,13 @@
 use Rattle.std.proofs.Common.{◌≡◌, ℕ, zero, suc, ◌+◌, ◌<◌, List, [], ◌∷◌, ◌++◌, length, take, drop, eqb, not, Option, Some, None, true, false, refl, sym, ap, ◌∙◌, subst, arith}
 use Rattle.std.proofs.Common.{⊎_elim, append_assoc, replicate}
 use Rattle.std.proofs.Math.Dec.{ltb}
-use Rattle.std.proofs.lemmas.Bool.{lt-ltb}
+use Rattle.std.proofs.lemmas.Bool.{lt-ltb, and_from, cases_Bool}
 use Rattle.yq_scalar.specs.Block.{BlockText, Lines, ends_block, is_less_indented, keeps}
 use Rattle.yq_scalar.specs.BlockRepair.{is_behind}
 use Rattle.yq_scalar.specs.declared.block_lines.TextIndent.{TextIndent}
 use Rattle.yq_scalar.specs.Lines.{spaces, behind_spaces, is_tab}
 use Rattle.yq_scalar.specs.Text.{ends_line, is_empty, joined, put_byte, lines_of as text_lines}
 use Rattle.yq_scalar.proofs.BlockRepairLaws.{ends_behind}
-use Rattle.yq_scalar.proofs.Bools.{is_true}
-use Rattle.yq_scalar.proofs.RawLaws.{both}
 use Rattle.yq_scalar.proofs.SpaceLaws.{prefix_none, spaces_front, drop_front as spaces_drop}
 use Rattle.yq_lines.specs.Comments.{head_comment, last_comments}
 use Rattle.yq_rows.specs.Exchange.{asked_behind}
@@ -72,7 +70,7 @@ less_line f n l less =
     let deep : spaces (replicate n 32 ++ (35 ∷ l)) ≡ n + 0 = spaces_front n (35 ∷ l) ∙ ap (λ k. n + k) none in
     let behind : behind_spaces (replicate n 32 ++ (35 ∷ l)) ≡ 35 ∷ l = ap (λ k. drop k (replicate n 32 ++ (35 ∷ l))) deep ∙ spaces_drop n 0 (35 ∷ l) in
     let low : ltb (spaces (replicate n 32 ++ (35 ∷ l))) f.columns ≡ true = lt-ltb (spaces (replicate n 32 ++ (35 ∷ l))) f.columns (omega (arith, deep, less)) in
-    both _ _ (both _ _ (ap (λ x. not (ends_line x)) behind) low) (ap (λ x. not (is_tab x)) behind)
+    and_from _ _ (and_from _ _ (ap (λ x. not (ends_line x)) behind) low) (ap (λ x. not (is_tab x)) behind)
 
 hash_less : (f : TextIndent) (n : ℕ) (t : List ℕ) → n < f.columns → is_behind f (text_lines (replicate n 32 ++ (35 ∷ t))) ≡ true
 hash_less f n t less = let p = first n t in ap (is_behind f) p.is ∙ less_line f n p.line less
@@ -134,7 +132,7 @@ run_seam front back r run last rest l old limit own is column apart = go (last_b
         let made : ends_block (keeps b.chomping) b.indent (ks ++ text_lines (run ++ x)) ≡ true = ⊎_elim {0, 0, 0}
         (λ h. ends_comment (keeps b.chomping) b.indent ks (text_lines y) (text_lines (run ++ x)) h ended)
         (λ h. ends_blank (keeps b.chomping) b.indent ks (text_lines y) (text_lines (run ++ x)) h ended (ends_behind (keeps b.chomping) b.indent (text_lines (run ++ x)) (new b less)))
-        (is_true (hold_comment ks)) in
+        (cases_Bool (hold_comment ks)) in
         block_seam front b (with_run r run ++ x) e (ap (ends_block (keeps b.chomping) b.indent) text ∙ made)
 
 -- the first line of a row, and those behind it

@@ -1,6 +1,7 @@
 -- A document whose inline node outside flow collections, or nothing, gives way to the inline node of a value.
-use Rattle.std.proofs.Common.{◌≡◌, ℕ, ◌&&◌, eqb, List, [], ◌∷◌, ◌++◌, length, Some, Bool, true, false, refl, sym, ap, ◌∙◌, subst, append_assoc}
-use Rattle.std.proofs.lemmas.Bool.{false≢true}
+use Rattle.std.proofs.Common.{◌≡◌, ℕ, eqb, List, [], ◌∷◌, ◌++◌, length, Some, Bool, true, false, refl, sym, ap, ◌∙◌, subst, append_assoc}
+use Rattle.std.proofs.lemmas.Bool.{false≢true, and_right}
+use Rattle.std.proofs.lemmas.Option.{none-some, same_Some}
 use Rattle.yq_scalar.specs.Paths.{Step, change, node_at}
 use Rattle.yq_scalar.specs.Piece.{deeper}
 use Rattle.yq_scalar.specs.Text.{is_marker}
@@ -33,7 +34,6 @@ use Rattle.yq_documents.specs.Ready.{begins_no_node}
 use Rattle.yq_tree.specs.RowPaths.{IsReadable}
 use Rattle.yq_documents.specs.TreeEdits.{replaced}
 use Rattle.yq_tree.proofs.FoundLines.{each}
-use Rattle.yq_tree.proofs.PrintedTexts.{same, none_some}
 use Rattle.yq_tree.proofs.ReadLaws.{text_takes}
 use Rattle.yq_tree.proofs.RowPathLaws.{document_fine}
 use Rattle.yq_tree.proofs.RunSpans.{rows_then}
@@ -72,10 +72,6 @@ bare_text [] rows.Bare t e h = refl
 bare_text [] rows.Dash t e h = absurd (false≢true (sym e))
 bare_text [] (rows.Key key colon) t e h = absurd (false≢true (sym e))
 bare_text (n ∷ ns) m t e h = absurd (false≢true (sym e ∙ h.1))
-
-and_none : (a b : Bool) → b ≡ false → (a && b) ≡ false
-and_none false b h = refl
-and_none true b h = h
 
 no_node_first : (xs : List Line) (l m : Line) (ls ms : List Line) → l.mark ≡ m.mark → begins_no_node (xs ++ (l ∷ ls)) ≡ begins_no_node (xs ++ (m ∷ ms))
 no_node_first [] l m ls ms e = ap (λ k. Rattle.yq_lines.specs.Sound.is_entry k) e
@@ -119,7 +115,7 @@ module _ (t : List ℕ) (c : Cut) (k : ℕ) (p : Part) (steps : List Step) (w : 
       record {
         gap = gap_other r.gap (behind_gap r rest) (behind_gap (with_content new r) rest) (behind_row_some limit r rest own.0) own.0.gap;
         allowed = own.0.allowed;
-        unmarked = and_none (eqb r.column 0) _ (ap is_marker (bare_text r.dashes r.mark (content_text new rest) e own.0.dashes) ∙ content_unmarked v node is (parent_indent r) r.content rest alone own.0.content);
+        unmarked = and_right (eqb r.column 0) _ (ap is_marker (bare_text r.dashes r.mark (content_text new rest) e own.0.dashes) ∙ content_unmarked v node is (parent_indent r) r.content rest alone own.0.content);
         dashes = own.0.dashes;
         mark = bare_mark r.mark new rest e (content_alone v node is r.content alone);
         content = content_new;
@@ -128,7 +124,7 @@ module _ (t : List ℕ) (c : Cut) (k : ℕ) (p : Part) (steps : List Step) (w : 
   next_new : (x : Content) (before : List ℕ) → mark_inline w.alone before x rest ≡ Some w → allows_first (limit_after (with_content (put_core node x) r)) h.back ≡ true
   next_new (Nothing tail) before e = may_follow r (32 ∷ []) node tail h.back near
   next_new (Inline space x tail) before e = may_follow r space (recore node x) tail h.back near
-  next_new (Block space anchor block) before e = absurd (none_some e)
+  next_new (Block space anchor block) before e = absurd (none-some _ e)
 
   stands : StandsFor limit r (with_content new r) h.back rest
   stands = record { gap = refl; column = refl; row = row_new (is_entry r.mark) refl; next = next_new r.content _ h.place_is }
@@ -168,15 +164,15 @@ module _ (t : List ℕ) (c : Cut) (k : ℕ) (p : Part) (steps : List Step) (w : 
       ∙ sym (ap begins_no_node (ap lines_of h.rows_are ∙ last_lines h.front r h.back r.content)))
 
   changed : (ss : List Step) (alone : Bool) → LeadsToContent p alone ss h.front r → (n : Node) → node_at ss (root_of p) ≡ Some n → MayReplace v n (root_of p) (length ss) → IsChanged c (put_document k q c) k (lead_of p) (change ss (replaced v))
-  changed [] alone leads n there may = root_content_replaced t c k p h.front h.back r v new takes leads.0.count leads.0.mark (subst (λ x. MayReplace v x (root_of p) 0) (sym (same there)) may)
+  changed [] alone leads n there may = root_content_replaced t c k p h.front h.back r v new takes leads.0.count leads.0.mark (subst (λ x. MayReplace v x (root_of p) 0) (sym (same_Some _ _ there)) may)
   changed (s ∷ ss) false leads n there may =
       let f : Found = leads.found in
       let at : node_at (s ∷ ss) (root_of p) ≡ Some (content f.line f.under) = path_node s ss (outline_of p) ∙ ap FoundNode leads.is in
-      entry_content_replaced t c k p h.front h.back r v new s ss f takes leads.is leads.under leads.number (subst (λ x. MayReplace v x (root_of p) (length (s ∷ ss))) (same (sym there ∙ at)) may)
+      entry_content_replaced t c k p h.front h.back r v new s ss f takes leads.is leads.under leads.number (subst (λ x. MayReplace v x (root_of p) (length (s ∷ ss))) (same_Some _ _ (sym there ∙ at)) may)
   changed (s ∷ ss) true leads n there may =
       let f : Found = leads.found in
       let at : node_at (s ∷ ss) (root_of p) ≡ Some (content f.line f.under) = path_node s ss (outline_of p) ∙ ap FoundNode leads.is in
-      lower_content_replaced t c k p h.front h.back r v new s ss f takes leads.is leads.open' leads.count leads.mark leads.number (subst (λ x. MayReplace v x (root_of p) (length (s ∷ ss))) (same (sym there ∙ at)) may)
+      lower_content_replaced t c k p h.front h.back r v new s ss f takes leads.is leads.open' leads.count leads.mark leads.number (subst (λ x. MayReplace v x (root_of p) (length (s ∷ ss))) (same_Some _ _ (sym there ∙ at)) may)
 
   rooted : (ss : List Step) (alone : Bool) → LeadsToContent p alone ss h.front r → ss ≡ [] → is_block_root p ≡ false
   rooted (s ∷ ss) alone leads e = absurd (cc)

@@ -1,6 +1,7 @@
 -- An inline node outside flow collections, or nothing, gives way to the inline node of a value.
 use Rattle.std.proofs.Common.{◌≡◌, ℕ, ℤ, zero, suc, ◌+◌, ◌*◌, ◌<◌, ◌≤◌, List, [], ◌∷◌, ◌++◌, length, take, Some, Bool, true, false, refl, sym, ap, ◌∙◌, subst, arith, append_assoc, length-append}
 use Rattle.std.proofs.lemmas.Bool.{false≢true, lt-ltb}
+use mathlib.Core.List.{head-eq_of_cons-eq}
 use Rattle.yq_scalar.specs.Paths.{Step}
 use Rattle.yq_scalar.specs.Piece.{deeper}
 use Rattle.yq_scalar.specs.Plain.{ends_plain}
@@ -80,10 +81,7 @@ module _ (p : Part) (front : List Row) (r : Row) (back : List Row) (rows_are : p
       let f : Found = h.found in
       let whole : lines_of p.rows ≡ lines_before f.place ++ ((f.line ∷ flatten f.under) ++ (flatten f.after ++ lines_after f.place)) = sym (flatten-group (lines_of p.rows)) ∙ whole_line (outline_of p) s ss [] f h.is in
       let parts = same_parts a (x ∷ []) (lines_of back) (lines_before f.place) (f.line ∷ flatten f.under) (flatten f.after ++ lines_after f.place) (sym all ∙ whole) (size ∙ h.number) (ap (λ u. suc (length (flatten u))) (sym h.under)) in
-      (first parts.1, parts.2)
-    where
-      first : {y z : Line} {ys zs : List Line} → y ∷ ys ≡ z ∷ zs → y ≡ z
-      first e = cc
+      (head-eq_of_cons-eq parts.1, parts.2)
 
   entry_next : (s : Step) (ss : List Step) (h : LeadsToEntry p s ss front r) → is_entry r.mark ≡ true → allows_first (record { column = Some (deeper (parent_indent r)) }) back ≡ true
   entry_next s ss h e =

@@ -1,9 +1,10 @@
 -- The row in whose content an inline node stands outside flow collections, or nothing.
 use Rattle.std.proofs.Common.{◌≡◌, ◌⊎◌, inl, inr, ℕ, suc, ◌+◌, ◌<◌, ◌≤◌, ◌||◌, not, List, [], ◌∷◌, ◌++◌, length, take, drop, map, Option, Some, None, is_some, option_map, Bool, true, false, cond, refl, sym, ap, ◌∙◌, subst, arith, append_assoc, append-nil, length-append}
+use Rattle.std.proofs.Math.Bool.{or-true}
 use Rattle.std.proofs.Math.Seq.{take-append_seam}
 use Rattle.std.proofs.lemmas.Bool.{cases_lt, cond-true, cond-false, false≢true}
 use Rattle.std.proofs.lemmas.List.{append_cancel_left, take-append-drop}
-use Rattle.std.proofs.lemmas.Option.{slice_get-map}
+use Rattle.std.proofs.lemmas.Option.{slice_get-map, none-some, same_Some}
 use Rattle.std.specs.List.{slice_get}
 use Rattle.yq_scalar.specs.Answers.{◌>>=◌}
 use Rattle.yq_scalar.specs.Paths.{Step}
@@ -33,7 +34,7 @@ use Rattle.yq_tree.proofs.FoundEntries.{lines_count, within_some}
 use Rattle.yq_tree.proofs.FoundLines.{each, middle}
 use Rattle.yq_tree.proofs.NextLaws.{StartsAt, found_starts}
 use Rattle.yq_tree.proofs.PrintedLaws.{lines_are}
-use Rattle.yq_tree.proofs.PrintedTexts.{same, none_some, content_then, line_split, lines_then, lines_append, rows_are}
+use Rattle.yq_tree.proofs.PrintedTexts.{content_then, line_split, lines_then, lines_append, rows_are}
 use Rattle.yq_tree.proofs.ReadLaws.{text_takes}
 use Rattle.yq_tree.proofs.RowPathLaws.{document_fine}
 use Rattle.yq_tree.proofs.PieceSpans.{line_more}
@@ -76,7 +77,7 @@ module _ (p : Part) where
       let line : slice_get (lines_of p.rows) n ≡ Some l.line = ap (λ x. slice_get x n) (sym (lines_are p.rows)) ∙ (slice_get-map line_in (printed_lines p.rows) n ∙ ap (option_map line_in) el) in
       let q = seat_line p.rows n l.line line in
       let d = seated p.rows n q.0 q.1 in
-      let is : d.line ≡ l = same (sym d.there ∙ el) in
+      let is : d.line ≡ l = same_Some _ _ (sym d.there ∙ el) in
       let at : q.0.line ≡ length q.0.row.dashes = mark_last q.0 d is (cases_lt q.0.line (length q.0.row.dashes)) in
       let s = seat_splits n p.rows q.0 q.1 in
       let r : Row = q.0.row in
@@ -158,13 +159,9 @@ node_alone alone before (Rattle.yq_inline.specs.Nodes.coll k g is) behind = refl
 node_alone alone before (Rattle.yq_inline.specs.Nodes.anchored n g node) behind = node_alone alone _ node behind
 
 told_alone : (alone : Bool) (before : List ℕ) (x : Content) (behind : List ℕ) (w : InlinePlace) → mark_inline alone before x behind ≡ Some w → alone ≡ w.alone
-told_alone alone before (rows.Nothing tail) behind w e = ap (λ (y : InlinePlace). y.alone) (same e)
-told_alone alone before (rows.Inline space node tail) behind w e = sym (node_alone alone (before ++ space) node (tail ++ behind)) ∙ ap (λ (y : InlinePlace). y.alone) (same e)
-told_alone alone before (rows.Block space anchor block) behind w e = absurd (none_some e)
-
-or_true : (b : Bool) → (b || true) ≡ true
-or_true false = refl
-or_true true = refl
+told_alone alone before (rows.Nothing tail) behind w e = ap (λ (y : InlinePlace). y.alone) (same_Some _ _ e)
+told_alone alone before (rows.Inline space node tail) behind w e = sym (node_alone alone (before ++ space) node (tail ++ behind)) ∙ ap (λ (y : InlinePlace). y.alone) (same_Some _ _ e)
+told_alone alone before (rows.Block space anchor block) behind w e = absurd (none-some _ e)
 
 bare_line : (m : Mark) → is_bare m ≡ true → m ≡ outline.Bare
 bare_line outline.Bare h = refl
@@ -188,7 +185,7 @@ module _ (p : Part) (start rest : List ℕ) (even : IsEven (level_or 0 (outline_
   line_of_printed n l el = ap (λ x. slice_get x n) (sym (lines_are p.rows)) ∙ (slice_get-map line_in (printed_lines p.rows) n ∙ ap (option_map line_in) el)
 
   headed : (n : ℕ) (l : PrintedLine) (x : Node) → l.line.head ≡ Some x → (q : Seat) (d : IsSeated p.rows n q) → d.line ≡ l → q.line < length q.row.dashes → ⊥
-  headed n l x head q d is less = none_some (sym (d.deeper less).3 ∙ (ap (λ (y : PrintedLine). y.line.head) is ∙ head))
+  headed n l x head q d is less = none-some _ (sym (d.deeper less).3 ∙ (ap (λ (y : PrintedLine). y.line.head) is ∙ head))
 
   -- the place behind the mark of a line
   placed : (alone : Bool) (n : ℕ) (l : PrintedLine) (steps : List Step) → slice_get (printed_lines p.rows) n ≡ Some l → (h : IsMarkLine p n l) → LeadsToContent p alone steps h.front h.row →
@@ -215,7 +212,7 @@ module _ (p : Part) (start rest : List ℕ) (even : IsEven (level_or 0 (outline_
     whole = sym (flatten-group (lines_of p.rows)) ∙ whole_line (outline_of p) s ss [] f found
 
     line_is : l.line ≡ f.line
-    line_is = same (sym (line_of_printed n l el) ∙ (ap (λ x. slice_get x n) whole ∙ middle (lines_before f.place) _ f.line))
+    line_is = same_Some _ _ (sym (line_of_printed n l el) ∙ (ap (λ x. slice_get x n) whole ∙ middle (lines_before f.place) _ f.line))
 
     next_is : (z : PrintedLine) → slice_get (printed_lines p.rows) (suc n) ≡ Some z → slice_get (flatten f.under ++ (flatten f.after ++ lines_after f.place)) 0 ≡ Some z.line
     next_is z ez =
@@ -233,13 +230,13 @@ module _ (p : Part) (start rest : List ℕ) (even : IsEven (level_or 0 (outline_
         (omega (arith, z.2, ap (λ (y : PrintedLine). level y.line) is, ap level line_is))
       where
         shallow : (ys : List Line) → StartsAt (level f.line) ys → (z : Line) → slice_get ys 0 ≡ Some z → level f.line < level z → ⊥
-        shallow [] h z e deep = none_some e
-        shallow (y ∷ ys) h z e deep = let is : y ≡ z = same e in omega (arith, h, deep, ap level is)
+        shallow [] h z e deep = none-some _ e
+        shallow (y ∷ ys) h z e deep = let is : y ≡ z = same_Some _ _ e in omega (arith, h, deep, ap level is)
 
     entry_placed : f.under ≡ end → entry_inline (record { before = start ++ print_lines (take n (printed_lines p.rows)) []; line = l; under = []; behind = print_lines (us n) rest }) ≡ Some w → RowPlaced p start rest (s ∷ ss) w
     entry_placed none e =
         let h = mark_line_is p n l el (nothing_under none) in
-        placed false n l (s ∷ ss) el h (record { found = f; is = found; under = none; number = sym h.number }) (sym (cond-true _ _ _ (or_true (is_some l.line.head))) ∙ e)
+        placed false n l (s ∷ ss) el h (record { found = f; is = found; under = none; number = sym h.number }) (sym (cond-true _ _ _ (or-true (is_some l.line.head))) ∙ e)
 
     -- alone on the line under it
     lower_placed : (z : Line) (a b : Outline) → f.under ≡ row z a b →
@@ -260,7 +257,7 @@ module _ (p : Part) (start rest : List ℕ) (even : IsEven (level_or 0 (outline_
         let y = within_some (printed_lines p.rows) (suc n) size in
         let more : List PrintedLine = us (suc n) in
         let next : us n ≡ y.0 ∷ more = get_some (printed_lines p.rows) (suc n) y.0 y.1 in
-        let line : y.0.line ≡ z = same (sym (next_is y.0 y.1) ∙ ap (λ (u : Outline). slice_get (flatten u ++ (flatten f.after ++ lines_after f.place)) 0) is) in
+        let line : y.0.line ≡ z = same_Some _ _ (sym (next_is y.0 y.1) ∙ ap (λ (u : Outline). slice_get (flatten u ++ (flatten f.after ++ lines_after f.place)) 0) is) in
         let old = (under_even (level_or 0 (outline_of p)) (outline_of p) s ss f even found).1 in
         let under : IsEven old.3.0 (row z a b) = subst (IsEven old.3.0) is old.3.2 in
         let none : f.line.head ≡ None = no_head f.line.head (subst (IsOpen f.line.head) is old.1) in
@@ -280,7 +277,7 @@ module _ (p : Part) (start rest : List ℕ) (even : IsEven (level_or 0 (outline_
         go : (y : PrintedLine) → slice_get (printed_lines p.rows) (suc n) ≡ Some y → y.line ≡ z → (k : ℕ) → us n ≡ y ∷ us (suc n) → f.line.head ≡ None → {m : ℕ} → IsEven m (row z a b) → (c : Bool) → is_bare y.line.mark ≡ c →
             cond c (mark_inline true ((start ++ print_lines (take (suc n) (printed_lines p.rows)) []) ++ (line_front y ++ y.mark)) y.content (print_lines (take k (us (suc n))) (print_lines (drop k (us (suc n))) rest))) None ≡ Some w →
             RowPlaced p start rest (s ∷ ss) w
-        go y ey line k next none under false bare e = absurd (none_some e)
+        go y ey line k next none under false bare e = absurd (none-some _ e)
         go y ey line k next none under true bare e =
             let mark : z.mark ≡ outline.Bare = ap (λ (x : Line). x.mark) (sym line) ∙ bare_line y.line.mark bare in
             let one = alone_bare z.mark z.head a b mark under.1 under.2 in
@@ -304,7 +301,7 @@ module _ (p : Part) (start rest : List ℕ) (even : IsEven (level_or 0 (outline_
 
   -- the root
   root_row : (x : List PrintedLine) → printed_lines p.rows ≡ x → lines_inline start x rest ≡ Some w → RowPlaced p start rest [] w
-  root_row [] is e = absurd (none_some e)
+  root_row [] is e = absurd (none-some _ e)
   root_row (l ∷ more) is e = go (is_bare l.line.mark) refl e
     where
       lines : lines_of p.rows ≡ l.line ∷ map line_in more
@@ -314,7 +311,7 @@ module _ (p : Part) (start rest : List ℕ) (even : IsEven (level_or 0 (outline_
       el = ap (λ x. slice_get x 0) is
 
       go : (b : Bool) → is_bare l.line.mark ≡ b → cond b (mark_inline true (start ++ (line_front l ++ l.mark)) l.content (print_lines more rest)) None ≡ Some w → RowPlaced p start rest [] w
-      go false bare e = absurd (none_some e)
+      go false bare e = absurd (none-some _ e)
       go true bare e =
           let o : Outline = group (l.line ∷ map line_in more) in
           let shape : IsEven (level_or 0 o) o = subst (λ ks. IsEven (level_or 0 (group ks)) (group ks)) lines even in
@@ -334,8 +331,8 @@ module _ (p : Part) (start rest : List ℕ) (even : IsEven (level_or 0 (outline_
       go f [] found e =
           let b = bind_some (found_entry (record { before = start; lines = printed_lines p.rows; behind = rest }) f) e in
           let l = bind_some (slice_get (printed_lines p.rows) (length (lines_before f.place))) b.1 in
-          entry_row s ss f found l.0 l.1 f.under refl (ap entry_inline (same l.2) ∙ b.2)
-      go f (t ∷ ts) found e = let b = bind_some (found_entry (record { before = start; lines = printed_lines p.rows; behind = rest }) f) e in absurd (none_some b.2)
+          entry_row s ss f found l.0 l.1 f.under refl (ap entry_inline (same_Some _ _ l.2) ∙ b.2)
+      go f (t ∷ ts) found e = let b = bind_some (found_entry (record { before = start; lines = printed_lines p.rows; behind = rest }) f) e in absurd (none-some _ b.2)
 
 pub inline_placed : InlinePlaced
 unfolding read_at

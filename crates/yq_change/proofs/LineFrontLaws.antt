@@ -1,7 +1,7 @@
 -- A text cut before the end of a line: no CR stands before the break.
 use Rattle.std.proofs.Common.{inl, inr, ◌⊎◌, ◌≡◌, ℕ, zero, suc, ◌+◌, ℤ, Bool, true, false, ◌&&◌, ◌||◌, not, List, [], ◌∷◌, ◌++◌, length, replicate, refl, sym, ap, ◌∙◌, subst, append_assoc, append-nil, ⊎_elim, arith}
 use Rattle.std.proofs.Math.Seq.{drop-append_seam}
-use Rattle.std.proofs.lemmas.Bool.{false≢true, or_right}
+use Rattle.std.proofs.lemmas.Bool.{false≢true, or_right, and_from, and_parts, cases_Bool}
 use Rattle.std.proofs.lemmas.Str.{IsUtf8-drop}
 use Rattle.std.specs.Str.{IsUtf8, IsCharBoundary}
 use Rattle.yq_scalar.specs.Block.{digit_text, sign_text, IsDigit, IsIndicators}
@@ -11,7 +11,7 @@ use Rattle.yq_scalar.specs.declared.block_header.BlockStyle.{BlockStyle}
 use Rattle.yq_scalar.specs.declared.block_header.BlockStyle.TheVariants as styles
 use Rattle.yq_scalar.specs.declared.block_header.Chomping.{Chomping}
 use Rattle.yq_scalar.specs.declared.block_header.Chomping.TheVariants as chompings
-use Rattle.yq_scalar.proofs.Bools.{is_true, and_true, at_byte}
+use Rattle.yq_scalar.proofs.Bools.{at_byte}
 use Rattle.yq_inline.specs.Nodes as nodes
 use Rattle.yq_inline.specs.Nodes.{Node, empty, alias, scalar, coll, anchored, Items, none, item, Key, Sep, in_name, is_close, open_of, key_text, sep_text, node_text, items_text, IsNode}
 use Rattle.yq_inline.proofs.WrittenLaws.{key_append, sep_append, node_append}
@@ -23,7 +23,6 @@ use Rattle.yq_rows.specs.Rows.{Content, Nothing, Inline, Block, Row, behind_gap,
 use Rattle.yq_rows.specs.View.{anchor_cut, anchor_of, apart_of, content_cut}
 use Rattle.yq_rows.proofs.CharacterLaws.{all_text, all_join, pairs_back}
 use Rattle.yq_rows.proofs.NothingLaws.{some_behind}
-use Rattle.yq_rows.proofs.PieceLaws.{both_true}
 use Rattle.yq_rows.proofs.PlaceLaws.{row_front-append}
 use Rattle.yq_rows.proofs.RowAgain.{row_starts}
 use Rattle.yq_rows.proofs.seams.NodeSeams.{plain_text}
@@ -61,7 +60,7 @@ last_byte p q = ends_more p (q ∷ []) refl
 -- ---- a node
 
 name_byte : (b : ℕ) → unless in_name (b ∷ []) ≡ false → is_return b ≡ false
-name_byte b h = go (is_true (is_return b))
+name_byte b h = go (cases_Bool (is_return b))
   where
     go : (is_return b ≡ true) ⊎ (is_return b ≡ false) → is_return b ≡ false
     go (inr e) = e
@@ -74,7 +73,7 @@ clean_name [] rest h = refl
 clean_name (b ∷ n) rest h = clean_byte b n (name_byte b h.0) (clean_name n rest h.1)
 
 white_byte : (b : ℕ) → not (is_white b) ≡ false → is_return b ≡ false
-white_byte b h = go (is_true (is_white b))
+white_byte b h = go (cases_Bool (is_white b))
   where
     go : (is_white b ≡ true) ⊎ (is_white b ≡ false) → is_return b ≡ false
     go (inl e) = at_byte is_white b 13 e refl
@@ -140,7 +139,7 @@ plain_clean n space node tail rest h pairs feed = go (content_joined n (Inline s
 
 digit_clean : (d : Rattle.std.proofs.Common.Option ℕ) → IsDigit d → ends_return (digit_text d) ≡ false
 digit_clean Rattle.std.proofs.Common.None h = refl
-digit_clean (Rattle.std.proofs.Common.Some d) h = go (is_true (is_return (48 + d)))
+digit_clean (Rattle.std.proofs.Common.Some d) h = go (cases_Bool (is_return (48 + d)))
   where
     go : (is_return (48 + d) ≡ true) ⊎ (is_return (48 + d) ≡ false) → is_return (48 + d) ≡ false
     go (inr e) = e
@@ -210,17 +209,17 @@ pairs_clean : (a b : List ℕ) → ends_return a ≡ false → pairs_returns (a 
 unfolding pairs_returns
 pairs_clean [] b e h = refl
 pairs_clean (x ∷ []) b e h = rw e refl
-pairs_clean (x ∷ (y ∷ a)) b e h = elim (is_true (is_return x)) [
-  | inl r ↦ (let parts = and_true (is_feed y) (pairs_returns (y ∷ (a ++ b))) (rw r at h) in rw r (both_true _ _ parts.0 (pairs_clean (y ∷ a) b e parts.1)))
+pairs_clean (x ∷ (y ∷ a)) b e h = elim (cases_Bool (is_return x)) [
+  | inl r ↦ (let parts = and_parts (is_feed y) (pairs_returns (y ∷ (a ++ b))) (rw r at h) in rw r (and_from _ _ parts.0 (pairs_clean (y ∷ a) b e parts.1)))
   | inr r ↦ rw r (pairs_clean (y ∷ a) b e (rw r at h))
 ]
 
 pub clean_cut : CleanCut
 clean_cut a b h u clean =
-    let x = and_true (all_text (a ++ b)) (pairs_returns (a ++ b)) h.characters in
-    let y = and_true (all_text a) (all_text b) (sym (all_join a b u) ∙ x.0) in
+    let x = and_parts (all_text (a ++ b)) (pairs_returns (a ++ b)) h.characters in
+    let y = and_parts (all_text a) (all_text b) (sym (all_join a b u) ∙ x.0) in
     let start : IsCharBoundary (a ++ b) (length a) = seam (a ++ b) a b refl h.utf8 u in
-    let pairs : pairs_returns a ≡ true = ⊎_elim {0, 0, 0} (λ (e : front is_feed b ≡ true). pairs_clean a b (clean e) x.1) (λ e. Rattle.yq_rows.proofs.CharacterLaws.pairs_front a b e x.1) (is_true (front is_feed b)) in (
-      record { utf8 = u; characters = both_true _ _ y.0 pairs },
-      record { utf8 = subst IsUtf8 (drop-append_seam a b) (IsUtf8-drop (a ++ b) (length a) h.utf8 start); characters = both_true _ _ y.1 (pairs_back a b x.1) },
+    let pairs : pairs_returns a ≡ true = ⊎_elim {0, 0, 0} (λ (e : front is_feed b ≡ true). pairs_clean a b (clean e) x.1) (λ e. Rattle.yq_rows.proofs.CharacterLaws.pairs_front a b e x.1) (cases_Bool (front is_feed b)) in (
+      record { utf8 = u; characters = and_from _ _ y.0 pairs },
+      record { utf8 = subst IsUtf8 (drop-append_seam a b) (IsUtf8-drop (a ++ b) (length a) h.utf8 start); characters = and_from _ _ y.1 (pairs_back a b x.1) },
     )

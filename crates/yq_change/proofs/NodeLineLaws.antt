@@ -1,5 +1,6 @@
 -- The lines of a node at a path, exchanged.
 use Rattle.std.proofs.Common.{◌≡◌, ℕ, ◌<◌, ◌≤◌, List, [], ◌∷◌, ◌++◌, Option, Some, None, refl, sym, ap, ◌∙◌, subst, arith, append_assoc, append-nil}
+use Rattle.std.proofs.lemmas.Option.{none-some, same_Some}
 use Rattle.yq_scalar.specs.Paths.{Step, change}
 use Rattle.yq_scalar.specs.Tree.{Node, alias, scalar, list, map}
 use Rattle.yq_lines.specs.Group.{level_or}
@@ -44,22 +45,16 @@ pub record Under (s : Step) (ss : List Step) (o : Outline) (h : NodeLines) : Typ
   pub open' : found.line.head ≡ None
   pub place_is : under_line found ≡ h
 
-some_same : {A : Type 0} {x y : A} → Some x ≡ Some y → x ≡ y
-some_same e = cc
-
-none_some : {A : Type 0} {x : A} → None ≡ Some x → ⊥
-none_some e = cc
-
 pub lines_found : (s : Step) (ss : List Step) (o : Outline) (h : NodeLines) → lines_at (s ∷ ss) o ≡ Some h → Under s ss o h
 lines_found s ss o h e = go (find s ss o) refl e
   where
     head : (f : Found) (rest : List Step) → find s ss o ≡ Some (f, rest) → (n : Option Node) → f.line.head ≡ n → lines_below n rest f ≡ Some h → Under s ss o h
-    head f [] is None e h = record { found = f; is = is; open' = e; place_is = some_same h }
-    head f (t ∷ ts) is None e h = absurd (none_some h)
-    head f rest is (Some n) e h = absurd (none_some h)
+    head f [] is None e h = record { found = f; is = is; open' = e; place_is = same_Some _ _ h }
+    head f (t ∷ ts) is None e h = absurd (none-some _ h)
+    head f rest is (Some n) e h = absurd (none-some _ h)
 
     go : (r : Option (Found × List Step)) → find s ss o ≡ r → Rattle.std.specs.Prelude.option_and_then (λ x. lines_below x.0.line.head x.1 x.0) r ≡ Some h → Under s ss o h
-    go None is e = absurd (none_some e)
+    go None is e = absurd (none-some _ e)
     go (Some x) is e = head x.0 x.1 is x.0.line.head refl e
 
 -- the line of a node found at a path, and what is under it
@@ -79,7 +74,7 @@ pub lines_even : (n : ℕ) (o : Outline) (steps : List Step) (h : NodeLines) →
 lines_even n o [] h even e block = (deep h block (ap (λ (x : NodeLines). x.above) is), level_even n h.lines block (subst (IsEven n) (ap (λ (x : NodeLines). x.lines) is) even))
   where
     is : record { place = here; above = 0; anchor = None; lines = o } ≡ h
-    is = some_same e
+    is = same_Some _ _ e
 
     deep : (h : NodeLines) → HasEntries h.lines → 0 ≡ h.above → h.above < level_or 0 h.lines
     deep h b e = go h.lines b
@@ -105,7 +100,7 @@ lines_even n o (s ∷ ss) h even e block = found (lines_found s ss o h e)
 
 pub lines_replaced : LinesReplaced
 lines_replaced n m o u [] h g even e fit =
-    subst (λ (x : NodeLines). anchored x.anchor (value u) ≡ g (anchored x.anchor (value x.lines)) → (flatten o ≡ put_lines x (flatten x.lines)) × StandsSomewhere (put_lines x (flatten u)) (g (value o))) (some_same e)
+    subst (λ (x : NodeLines). anchored x.anchor (value u) ≡ g (anchored x.anchor (value x.lines)) → (flatten o ≡ put_lines x (flatten x.lines)) × StandsSomewhere (put_lines x (flatten u)) (g (value o))) (same_Some _ _ e)
     (λ is. (
       sym (append-nil (flatten o)),
       (

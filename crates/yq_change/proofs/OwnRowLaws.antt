@@ -2,8 +2,9 @@
 use Rattle.std.proofs.Common.{◌≡◌, ℕ, suc, ◌+◌, ◌-◌, eqb, ltb, List, [], ◌∷◌, ◌++◌, length, take, drop, Some, refl, sym, ap, ◌∙◌, subst, arith, length-append}
 use Rattle.std.proofs.Math.Seq.{take-append_seam, drop-append_seam}
 use Rattle.std.proofs.lemmas.Bool.{eqb-true, le-ltb, cond-false}
+use Rattle.std.proofs.lemmas.Option.{cond_some}
 use Rattle.yq_scalar.specs.Paths.{Step}
-use Rattle.yq_scalar.proofs.Bools.{bind_some, guard_some}
+use Rattle.yq_scalar.proofs.Bools.{bind_some}
 use Rattle.yq_lines.specs.Comments as comments
 use Rattle.yq_lines.specs.Ends.{deeper_count, line_of, lines_end}
 use Rattle.yq_lines.specs.Group.{level_or}
@@ -102,7 +103,7 @@ own_rows_stand t c k p steps s x old is =
     let n : ℕ = line.0 in
     let at = bind_some (seat n p.rows) line.2 in
     let q : Seat = at.0 in
-    let guard = guard_some (eqb q.line 0) at.2 in
+    let guard = cond_some (eqb q.line 0) _ _ at.2 in
     let first : q.line ≡ 0 = eqb-true q.line 0 guard.0 in
     let w = path_is_entry p m steps s n known.even line.1 in
     let r = entry_rows p m steps s w.h w.f q known.even w.entry (subst (λ (j : ℕ). seat j p.rows ≡ Some q) w.number at.1) first in

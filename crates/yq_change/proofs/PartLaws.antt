@@ -2,6 +2,7 @@
 use Rattle.std.proofs.Common.{◌≡◌, ℕ, zero, suc, ◌+◌, ◌≤◌, List, [], ◌∷◌, ◌++◌, length, take, drop, Bool, true, false, not, ◌||◌, Some, refl, sym, ap, ◌∙◌, subst, arith}
 use Rattle.std.proofs.lemmas.Bool.{and_parts, false≢true, or_right}
 use Rattle.std.proofs.Math.Seq.{take-append_seam, drop-append_seam}
+use Rattle.std.proofs.lemmas.Option.{same_Some}
 use Rattle.std.specs.List.{slice_get, list_all}
 use Rattle.yq_scalar.proofs.Bools.{guard_then}
 use Rattle.yq_rows.specs.Grammar.{unlimited, AreRows, IsCut, no_rows, begins_document}
@@ -25,24 +26,21 @@ use Rattle.yq_change.specs.Changed.{put_from, put_document}
 use Rattle.yq_change.specs.Edited.{IsPut}
 use Rattle.yq_change.specs.DocumentRows.{IsDocumentPart, behind_document, number_from, part_number, PartNumbered, RowsPut, DocumentKnown, RowsFit, DocumentSpliced}
 
-some_same : {A : Type 0} {x y : A} → Some x ≡ Some y → x ≡ y
-some_same e = cc
-
 -- a part by its number
 number_is : (is : Bool) (k : ℕ) (c : Cut) (p : Part) → slice_get (parts_from is c) k ≡ Some p → nth_part (number_from is k c) c ≡ p
-number_is true zero (last x) p e = some_same e
+number_is true zero (last x) p e = same_Some _ _ e
 number_is true (suc k) (last x) p e = absurd (cc)
 number_is false k (last x) p e = absurd (cc)
-number_is true zero (marked x marker c) p e = some_same e
+number_is true zero (marked x marker c) p e = same_Some _ _ e
 number_is true (suc k) (marked x marker c) p e = number_is (begins_document marker) k c p e
 number_is false k (marked x marker c) p e = number_is (begins_document marker) k c p e
 
 number_put : (is : Bool) (k : ℕ) (c : Cut) (p : Part) (i j : ℕ) (new : List Row) (gap : List ℕ) → slice_get (parts_from is c) k ≡ Some p →
     splice (number_from is k c) i j new gap c ≡ put_from is k (splice_part i j new gap p) c
-number_put true zero (last x) p i j new gap e = ap (λ (y : Part). last (splice_part i j new gap y)) (some_same e)
+number_put true zero (last x) p i j new gap e = ap (λ (y : Part). last (splice_part i j new gap y)) (same_Some _ _ e)
 number_put true (suc k) (last x) p i j new gap e = absurd (cc)
 number_put false k (last x) p i j new gap e = absurd (cc)
-number_put true zero (marked x marker c) p i j new gap e = ap (λ (y : Part). marked (splice_part i j new gap y) marker c) (some_same e)
+number_put true zero (marked x marker c) p i j new gap e = ap (λ (y : Part). marked (splice_part i j new gap y) marker c) (same_Some _ _ e)
 number_put true (suc k) (marked x marker c) p i j new gap e = ap (marked x marker) (number_put (begins_document marker) k c p i j new gap e)
 number_put false k (marked x marker c) p i j new gap e = ap (marked x marker) (number_put (begins_document marker) k c p i j new gap e)
 
@@ -73,7 +71,7 @@ rows_put c k p front gone back new gap there rows =
 -- a document that is read
 pub all_at : (ps : List Part) (k : ℕ) (p : Part) → list_all is_document ps ≡ true → slice_get ps k ≡ Some p → is_document p ≡ true
 all_at [] k p e h = absurd (cc)
-all_at (x ∷ ps) zero p e h = ap is_document (sym (some_same h)) ∙ (and_parts (is_document x) (list_all is_document ps) e).0
+all_at (x ∷ ps) zero p e h = ap is_document (sym (same_Some _ _ h)) ∙ (and_parts (is_document x) (list_all is_document ps) e).0
 all_at (x ∷ ps) (suc k) p e h = all_at ps k p (and_parts (is_document x) (list_all is_document ps) e).1 h
 
 pub document_known : DocumentKnown

@@ -1,5 +1,7 @@
 -- The row to which a path leads.
 use Rattle.std.proofs.Common.{◌≡◌, ℕ, suc, ◌+◌, List, [], ◌∷◌, ◌++◌, length, Option, Some, None, option_map, option_and_then, refl, sym, ap, ◌∙◌, subst, arith, append_assoc, length-append}
+use Rattle.std.proofs.lemmas.Option.{none-some, same_Some}
+use mathlib.Core.List.{cons≢nil, head-eq_of_cons-eq, tail-eq_of_cons-eq}
 use Rattle.yq_scalar.specs.Answers.{◌>>=◌}
 use Rattle.yq_scalar.specs.Paths.{Step}
 use Rattle.yq_scalar.specs.Tree.{Node}
@@ -23,12 +25,6 @@ use Rattle.yq_change.proofs.LineLaws.{seat_splits}
 use Rattle.yq_change.proofs.PartLaws.{document_known}
 use Rattle.yq_change.proofs.RemarkLaws.{line_commented}
 use Rattle.yq_change.proofs.RowsLaws.{entry_rows}
-
-some_same : {A : Type 0} {x y : A} → Some x ≡ Some y → x ≡ y
-some_same e = cc
-
-none_some : {A : Type 0} {x : A} → None ≡ Some x → ⊥
-none_some e = cc
 
 -- the line to which steps lead; the root has none
 abbrev found_at : List Step → Outline → Option (Found × List Step)
@@ -68,7 +64,7 @@ step_lines t [] (row l u a) f h b e n is = (
 )
   where
     same : record { place = here; above = 0; anchor = None; lines = f.under } ≡ h
-    same = some_same is
+    same = same_Some _ _ is
 
     go : (m : Mark) → IsEntry m → bare_or m (Some (record { place = here; line = l; under = u; after = a }, t ∷ [])) (option_map (λ f. (f, [])) (find_row t (row l u a))) ≡ Some (f, [])
     go Bare b = absurd b
@@ -97,9 +93,6 @@ step_lines t (v ∷ vs) o f h b e n is = found (lines_found v vs f.under h is)
 abbrev Sits : List Step → Step → Outline → (Found × List Step) → Type 0
 Sits steps s o x = x.1 ≡ [] → IsEntryLine steps s o (length (lines_before x.0.place))
 
-no_more : (t : Step) (ts : List Step) → t ∷ ts ≡ [] → ⊥
-no_more t ts e = cc
-
 path_sits : (steps : List Step) (s : Step) (n : ℕ) (o : Outline) → IsEven n o → If (found_at (steps ++ (s ∷ [])) o) (Sits steps s o)
 path_sits [] s n end even = tt
 path_sits [] s n (row l u a) even = go l.mark refl (find_row s (row l u a)) refl
@@ -110,7 +103,7 @@ path_sits [] s n (row l u a) even = go l.mark refl (find_row s (row l u a)) refl
 
     go : (m : Mark) → l.mark ≡ m → (r : Option Found) → find_row s (row l u a) ≡ r →
         If (bare_or m (Some (record { place = here; line = l; under = u; after = a }, s ∷ [])) (option_map (λ f. (f, [])) r)) (Sits [] s (row l u a))
-    go Bare e r is = λ none. absurd (no_more s [] none)
+    go Bare e r is = λ none. absurd (cons≢nil none)
     go (Key k) e r is = found (subst IsEntry (sym e) tt) r is
     go Dash e r is = found (subst IsEntry (sym e) tt) r is
 path_sits (t ∷ ts) s n o even = split (ts ++ (s ∷ [])) refl o even (λ m u e. path_sits ts s m u e)
@@ -144,7 +137,7 @@ path_sits (t ∷ ts) s n o even = split (ts ++ (s ∷ [])) refl o even (λ m u e
         head_is : HasEntries (row l u a) → (f : Found) → find_row t (row l u a) ≡ Some f → (h : Option Node) → f.line.head ≡ h → If (find v vs f.under) (Sits ts s f.under) →
             If (in_head h (Some (f, v ∷ vs)) (option_map (λ x. (inside f x.0, x.1)) (find v vs f.under))) (Sits (t ∷ ts) s (row l u a))
         head_is b f is None head h = here_is b f is head (find v vs f.under) h
-        head_is b f is (Some x) head h = λ end. absurd (no_more v vs end)
+        head_is b f is (Some x) head h = λ end. absurd (cons≢nil end)
 
         row_is : HasEntries (row l u a) → (r : Option Found) → find_row t (row l u a) ≡ r → If r (Stood n) →
             If (option_and_then (λ f. in_head f.line.head (Some (f, v ∷ vs)) (option_map (λ x. (inside f x.0, x.1)) (find v vs f.under))) r) (Sits (t ∷ ts) s (row l u a))
@@ -154,18 +147,18 @@ path_sits (t ∷ ts) s n o even = split (ts ++ (s ∷ [])) refl o even (λ m u e
         go : (m : Mark) → l.mark ≡ m → (r : Option Found) → find_row t (row l u a) ≡ r →
             If (bare_or m (Some (record { place = here; line = l; under = u; after = a }, t ∷ (v ∷ vs)))
             (option_and_then (λ f. in_head f.line.head (Some (f, v ∷ vs)) (option_map (λ x. (inside f x.0, x.1)) (find v vs f.under))) r)) (Sits (t ∷ ts) s (row l u a))
-        go Bare m r is = λ end. absurd (no_more t (v ∷ vs) end)
+        go Bare m r is = λ end. absurd (cons≢nil end)
         go (Key k) m r is = row_is (subst IsEntry (sym m) tt) r is (subst (λ (x : Option Found). If x (Stood n)) is (row_stood t n (row l u a) even))
         go Dash m r is = row_is (subst IsEntry (sym m) tt) r is (subst (λ (x : Option Found). If x (Stood n)) is (row_stood t n (row l u a) even))
 
 -- the line by its number
 line_at : (steps : List Step) (s : Step) (o : Outline) (r : Option (Found × List Step)) (n : ℕ) → If r (Sits steps s o) → option_and_then (λ x. found_line x.0 x.1) r ≡ Some n → IsEntryLine steps s o n
-line_at steps s o None n h e = absurd (none_some e)
+line_at steps s o None n h e = absurd (none-some _ e)
 line_at steps s o (Some x) n h e = go x.1 refl e
   where
     go : (rest : List Step) → x.1 ≡ rest → found_line x.0 rest ≡ Some n → IsEntryLine steps s o n
-    go [] is e = subst (IsEntryLine steps s o) (some_same e) (h is)
-    go (v ∷ vs) is e = absurd (none_some e)
+    go [] is e = subst (IsEntryLine steps s o) (same_Some _ _ e) (h is)
+    go (v ∷ vs) is e = absurd (none-some _ e)
 
 line_found : (steps : List Step) (rows : List Row) → line_of steps (lines_of rows) ≡ option_and_then (λ x. found_line x.0 x.1) (found_at steps (Rattle.yq_lines.specs.Group.group (lines_of rows)))
 line_found [] rows = refl
@@ -176,20 +169,14 @@ path_is_entry p m steps s n even e = line_at steps s (outline_of p) (found_at (s
 
 -- the seat of a path
 pub seat_line : (rows : List Row) (o : Option ℕ) (x : Seat) → (o >>= λ n. seat n rows) ≡ Some x → (n : ℕ) × (o ≡ Some n) × (seat n rows ≡ Some x)
-seat_line rows None x e = absurd (none_some e)
+seat_line rows None x e = absurd (none-some _ e)
 seat_line rows (Some n) x e = (n, refl, e)
 
 same_rows : (front other : List Row) (a b : List Row) → front ++ a ≡ other ++ b → length front ≡ length other → front ≡ other
 same_rows [] [] a b e n = refl
 same_rows [] (y ∷ other) a b e n = absurd (omega (arith, n))
 same_rows (x ∷ front) [] a b e n = absurd (omega (arith, n))
-same_rows (x ∷ front) (y ∷ other) a b e n = let r = same_rows front other a b (tail_same e) (omega (arith, n)) in λ i. head_same e i ∷ r i
-  where
-    head_same : {x y : Row} {xs ys : List Row} → x ∷ xs ≡ y ∷ ys → x ≡ y
-    head_same e = cc
-
-    tail_same : {x y : Row} {xs ys : List Row} → x ∷ xs ≡ y ∷ ys → xs ≡ ys
-    tail_same e = cc
+same_rows (x ∷ front) (y ∷ other) a b e n = let r = same_rows front other a b (tail-eq_of_cons-eq e) (omega (arith, n)) in λ i. head-eq_of_cons-eq e i ∷ r i
 
 pub seat_number : (rows front back : List Row) (n : ℕ) (x : Seat) → seat n rows ≡ Some x → rows ≡ front ++ (x.row ∷ back) → length front ≡ x.before → n ≡ length (lines_of front) + x.line
 seat_number rows front back n x e is before =

@@ -1,6 +1,8 @@
 -- Where the lines of a node, an entry or an item stand among the lines of rows.
 use Rattle.std.proofs.Common.{◌≡◌, ℕ, List, [], ◌∷◌, ◌++◌, length, Option, Some, None, option_map, option_and_then, Bool, true, false, cond, refl, sym, ap, ◌∙◌, subst, arith}
 use Rattle.std.proofs.Common.{append_assoc, append-nil, length-append}
+use Rattle.std.proofs.lemmas.Option.{same_Some}
+use mathlib.Core.List.{head-eq_of_cons-eq, tail-eq_of_cons-eq}
 use Rattle.yq_scalar.specs.Paths.{Step, is_here, further}
 use Rattle.yq_scalar.specs.Tree.{Node}
 use Rattle.yq_lines.specs.Laws.{with_lines}
@@ -22,17 +24,11 @@ use Rattle.yq_change.proofs.MovedLaws.{lines_append}
 use Rattle.yq_change.proofs.SiblingLaws.{flatten-append, next, entry_out}
 
 -- parts of lines
-head_same : {l k : Line} {xs ys : List Line} → l ∷ xs ≡ k ∷ ys → l ≡ k
-head_same e = cc
-
-tail_same : {l k : Line} {xs ys : List Line} → l ∷ xs ≡ k ∷ ys → xs ≡ ys
-tail_same e = cc
-
 same_front : (a b z w : List Line) → a ++ z ≡ b ++ w → length a ≡ length b → (a ≡ b) × (z ≡ w)
 same_front [] [] z w e n = (refl, e)
 same_front [] (k ∷ b) z w e n = absurd (omega (arith, n))
 same_front (l ∷ a) [] z w e n = absurd (omega (arith, n))
-same_front (l ∷ a) (k ∷ b) z w e n = let r = same_front a b z w (tail_same e) (omega (arith, n)) in ((λ i. head_same e i ∷ r.0 i), r.1)
+same_front (l ∷ a) (k ∷ b) z w e n = let r = same_front a b z w (tail-eq_of_cons-eq e) (omega (arith, n)) in ((λ i. head-eq_of_cons-eq e i ∷ r.0 i), r.1)
 
 pub same_parts : SameParts
 same_parts a x z b y w e n m = let p = same_front a b (x ++ z) (y ++ w) e n in let q = same_front x y z w p.1 m in (p.0, q.0, q.1)
@@ -51,12 +47,9 @@ line_placed n p s ss rest f a x z even found parted =
     (sym parted.parts_are ∙ (sym (flatten-group (lines_of p.rows)) ∙ whole_line (outline_of p) s ss rest f found)) parted.before_are parted.size_is in
     (parts.1, λ ls. λ i. sym parts.0 i ++ (ls ++ sym parts.2 i))
 
-some_same : {A : Type 0} {x y : A} → Some x ≡ Some y → x ≡ y
-some_same e = cc
-
 -- the same around the lines of a node
 pub whole_lines : (o : Outline) (steps : List Step) (h : NodeLines) → lines_at steps o ≡ Some h → flatten o ≡ put_lines h (flatten h.lines)
-whole_lines o [] h e = subst (λ (x : NodeLines). flatten o ≡ put_lines x (flatten x.lines)) (some_same e) (sym (append-nil (flatten o)))
+whole_lines o [] h e = subst (λ (x : NodeLines). flatten o ≡ put_lines x (flatten x.lines)) (same_Some _ _ e) (sym (append-nil (flatten o)))
 whole_lines o (s ∷ ss) h e = found (lines_found s ss o h e)
   where
     found : Under s ss o h → flatten o ≡ put_lines h (flatten h.lines)

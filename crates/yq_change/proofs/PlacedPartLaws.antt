@@ -1,5 +1,6 @@
 -- Where a document that has other rows stands in its text.
 use Rattle.std.proofs.Common.{◌≡◌, ℕ, zero, suc, List, ◌++◌, Option, Some, None, option_map, Bool, true, false, refl, sym, ap, ◌∙◌, subst, append_assoc}
+use Rattle.std.proofs.lemmas.Option.{none-some, same_Some}
 use Rattle.std.specs.List.{slice_get}
 use Rattle.yq_rows.specs.Grammar.{begins_document}
 use Rattle.yq_rows.specs.Rows.{Part, part_text, Cut, last, marked, cut_text}
@@ -11,15 +12,9 @@ use Rattle.yq_change.specs.Changed.{put_from}
 use Rattle.yq_change.specs.DocumentRows.{number_from}
 use Rattle.yq_change.specs.PlacedParts.{DocumentStandsAt}
 
-same : {x y : PlacedPart} → Some x ≡ Some y → x ≡ y
-same e = cc
-
-none_some : {x : PlacedPart} → None ≡ Some x → ⊥
-none_some e = cc
-
 map_some : (f : PlacedPart → PlacedPart) (o : Option PlacedPart) (s : PlacedPart) → option_map f o ≡ Some s → (x : PlacedPart) × (o ≡ Some x) × (f x ≡ s)
-map_some f None s e = absurd (none_some e)
-map_some f (Some x) s e = (x, refl, same e)
+map_some f None s e = absurd (none-some _ e)
+map_some f (Some x) s e = (x, refl, same_Some _ _ e)
 
 -- the same of a part that is a document or not
 record Stands (is : Bool) (n : ℕ) (c : Cut) (s : PlacedPart) : Type 0 where
@@ -33,10 +28,10 @@ later_text : (p q : Part) (marker : List ℕ) (x : PlacedPart) (rest : List ℕ)
 later_text p q marker x rest e = ap (λ l. part_text p (marker ++ l)) e ∙ (part_then p marker (x.before ++ part_text q x.behind) ∙ sym (append_assoc (part_text p marker) x.before (part_text q x.behind)))
 
 stands : (is : Bool) (n : ℕ) (c : Cut) (s : PlacedPart) → placed_part is n c ≡ Some s → Stands is n c s
-stands true zero (last p) s e = subst (Stands true zero (last p)) (same e) (record { there = refl; behind = refl; text = refl; put = λ q. refl })
-stands true (suc n) (last p) s e = absurd (none_some e)
-stands false n (last p) s e = absurd (none_some e)
-stands true zero (marked p marker c) s e = subst (Stands true zero (marked p marker c)) (same e) (record { there = refl; behind = refl; text = refl; put = λ q. refl })
+stands true zero (last p) s e = subst (Stands true zero (last p)) (same_Some _ _ e) (record { there = refl; behind = refl; text = refl; put = λ q. refl })
+stands true (suc n) (last p) s e = absurd (none-some _ e)
+stands false n (last p) s e = absurd (none-some _ e)
+stands true zero (marked p marker c) s e = subst (Stands true zero (marked p marker c)) (same_Some _ _ e) (record { there = refl; behind = refl; text = refl; put = λ q. refl })
 stands true (suc n) (marked p marker c) s e =
     let x = map_some (part_behind (part_text p marker)) (placed_part (begins_document marker) n c) s e in
     let h = stands (begins_document marker) n c x.0 x.1 in

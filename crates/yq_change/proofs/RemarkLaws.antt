@@ -1,6 +1,7 @@
 -- Comments of items and entries, put and taken away.
 use Rattle.std.proofs.Common.{◌≡◌, ℕ, ◌+◌, ◌≤◌, List, [], ◌∷◌, ◌++◌, length, true, false, Option, refl, sym, ap, ◌∙◌, subst, append_assoc, append-nil, length-append, arith}
 use Rattle.std.proofs.lemmas.Bool.{false≢true}
+use mathlib.Core.List.{head-eq_of_cons-eq}
 use Rattle.yq_scalar.specs.Characters.{is_text, text_limit}
 use Rattle.yq_lines.specs.Comments.{head_comment, line_comment}
 use Rattle.yq_rows.specs.Grammar.{IsCut}
@@ -43,9 +44,6 @@ pub record OneLine (p : Part) (h : NodeLines) (f : Found) (a : List Line) (x : L
 pub around : (a x e y z : List Line) → a ++ ((x ++ (e ++ y)) ++ z) ≡ (a ++ x) ++ (e ++ (y ++ z))
 around a x e y z = ap (λ v. a ++ v) (append_assoc x (e ++ y) z ∙ ap (λ v. x ++ v) (append_assoc e y z)) ∙ sym (append_assoc a x (e ++ (y ++ z)))
 
-one_same : {x y : Line} → x ∷ [] ≡ y ∷ [] → x ≡ y
-one_same e = cc
-
 pub one_line : (t : List ℕ) (c : Cut) (p : Part) (steps : List Rattle.yq_scalar.specs.Paths.Step) (s : Rattle.yq_scalar.specs.Paths.Step) (h : NodeLines) (f : Found) (a : List Line) (x : Line) (z : List Line) →
     Known t c p → IsEntryAt steps s (outline_of p) h f →
     lines_of p.rows ≡ a ++ (x ∷ z) → length a ≡ line_number h f → OneLine p h f a x z
@@ -57,7 +55,7 @@ one_line t c p steps s h f a x z old e lines size =
     let olds = (relabelled (level_or 0 (outline_of p)) (outline_of p) steps h s f (λ y. y) f.line old.even e (record { level_is = refl; head_is = refl; anchor_is = refl; label_is = refl })).0 in
     let parts =
     same_parts a (x ∷ []) z b (f.line ∷ []) w (sym lines ∙ (sym (flatten-group (lines_of p.rows)) ∙ (olds ∙ place f.line))) (size ∙ sym (length-append (lines_before h.place) (lines_before f.place))) refl in
-    record { is = one_same parts.1; put = λ l. place l ∙ (λ i. sym parts.0 i ++ (l ∷ sym parts.2 i)) }
+    record { is = head-eq_of_cons-eq parts.1; put = λ l. place l ∙ (λ i. sym parts.0 i ++ (l ∷ sym parts.2 i)) }
 
 -- a content with another tail
 head_stays : (c : Content) (tail : List ℕ) → head_of (with_tail tail c) ≡ head_of c

@@ -2,7 +2,9 @@
 use Rattle.std.proofs.Common.{◌≡◌, ℕ, ◌-◌, ◌<◌, ◌≤◌, Bool, true, false, not, ◌||◌, cond, List, [], ◌∷◌, ◌++◌, length, take, Option, Some, None, option_map, option_and_then, refl, sym, ap, ◌∙◌, subst, arith, length-append}
 use Rattle.std.proofs.Math.Seq.{take-append_seam}
 use Rattle.std.proofs.lemmas.Bool.{false≢true, ltb-true}
+use Rattle.std.proofs.lemmas.Option.{none-some, same_Some}
 use Rattle.std.proofs.lemmas.Str.{is_utf8-from_IsUtf8}
+use mathlib.Core.List.{cons≢nil}
 use Rattle.yq_scalar.specs.Characters.{text_limit}
 use Rattle.yq_scalar.specs.Paths.{Step, is_here, further, child_at, node_at, remove_child}
 use Rattle.yq_scalar.specs.Tree.{Node, alias, scalar, list, map, Children, children_of}
@@ -46,12 +48,6 @@ use Rattle.yq_change.proofs.RemovalTextLaws.{new_text}
 use Rattle.yq_change.proofs.RemoveLaws.{block_gone}
 use Rattle.yq_change.proofs.SiblingLaws.{entry_in, entry_out, flatten-append, next}
 use Rattle.yq_change.proofs.TextPieceLaws.{pieces_joined, text_is_piece}
-
-some_same : {A : Type 0} {x y : A} → Some x ≡ Some y → x ≡ y
-some_same e = cc
-
-none_some : {A : Type 0} {x : A} → None ≡ Some x → ⊥
-none_some e = cc
 
 -- ---- the last step of a path
 
@@ -98,7 +94,7 @@ record HasChildren (steps : List Step) (root : Node) (cs : Children) : Type 0 wh
 
 collection_node : (ss : List Step) (o : Outline) (h : NodeLines) → lines_at ss o ≡ Some h → HasEntries h.lines → HasChildren ss (value o) (children h.lines)
 collection_node [] o h e b =
-    let same : o ≡ h.lines = ap (λ (x : NodeLines). x.lines) (some_same e) in
+    let same : o ≡ h.lines = ap (λ (x : NodeLines). x.lines) (same_Some _ _ e) in
     record { node = value o; there = refl; children_are = children-value o (subst HasEntries (sym same) b) ∙ ap children same }
 collection_node (t ∷ ts) o h e b = found (lines_found t ts o h e)
   where
@@ -138,7 +134,7 @@ left_entries s (row l u a) n f b h e some = go (is_here s (label l)) e
     beside_entry g is = subst (λ (x : Found). HasEntries (plug x.place x.after)) is b
 
     go : (c : Bool) → cond c (Some (record { place = here; line = l; under = u; after = a })) (option_map (next_to l u) (find_row (further s) a)) ≡ Some f → HasEntries (plug f.place f.after)
-    go true e = subst (λ (x : Found). HasEntries (plug x.place x.after)) (some_same e) (left_after n l a b h.0 h.4 some_left)
+    go true e = subst (λ (x : Found). HasEntries (plug x.place x.after)) (same_Some _ _ e) (left_after n l a b h.0 h.4 some_left)
     go false e = let x = map_some (next_to l u) (find_row (further s) a) f e in beside_entry x.0 x.2
 
 -- ---- first lines
@@ -170,15 +166,12 @@ place_first here o ls h own = own h
 place_first (below l p a) o ls h own = h
 place_first (beside l u p) o ls h own = h
 
-no_more : (t : Step) (ts : List Step) → t ∷ ts ≡ [] → ⊥
-no_more t ts e = cc
-
 found_entries : (t : Step) (ts : List Step) (o : Outline) (f : Found) → find t ts o ≡ Some (f, []) → HasEntries o
-found_entries t ts end f e = absurd (none_some e)
+found_entries t ts end f e = absurd (none-some _ e)
 found_entries t [] (row l u a) f e = go l.mark e
   where
     go : (m : Mark) → Rattle.yq_lines.specs.Places.bare_or m (Some (record { place = here; line = l; under = u; after = a }, t ∷ [])) (option_map (λ f. (f, [])) (find_row t (row l u a))) ≡ Some (f, []) → IsEntry m
-    go Bare e = absurd (no_more t [] (ap (λ (x : Found × List Step). x.1) (some_same e)))
+    go Bare e = absurd (cons≢nil (ap (λ (x : Found × List Step). x.1) (same_Some _ _ e)))
     go (Key k) e = tt
     go Dash e = tt
 found_entries t (v ∷ vs) (row l u a) f e = go l.mark e
@@ -186,18 +179,18 @@ found_entries t (v ∷ vs) (row l u a) f e = go l.mark e
     go : (m : Mark) →
         Rattle.yq_lines.specs.Places.bare_or m (Some (record { place = here; line = l; under = u; after = a }, t ∷ (v ∷ vs)))
         (option_and_then (λ f. Rattle.yq_lines.specs.Places.in_head f.line.head (Some (f, v ∷ vs)) (option_map (λ x. (Rattle.yq_lines.specs.Places.inside f x.0, x.1)) (find v vs f.under))) (find_row t (row l u a))) ≡ Some (f, []) → IsEntry m
-    go Bare e = absurd (no_more t (v ∷ vs) (ap (λ (x : Found × List Step). x.1) (some_same e)))
+    go Bare e = absurd (cons≢nil (ap (λ (x : Found × List Step). x.1) (same_Some _ _ e)))
     go (Key k) e = tt
     go Dash e = tt
 
 pub root_entries : (ss : List Step) (o : Outline) (h : NodeLines) → lines_at ss o ≡ Some h → HasEntries h.lines → HasEntries o
-root_entries [] o h e b = subst HasEntries (sym (ap (λ (x : NodeLines). x.lines) (some_same e))) b
+root_entries [] o h e b = subst HasEntries (sym (ap (λ (x : NodeLines). x.lines) (same_Some _ _ e))) b
 root_entries (t ∷ ts) o h e b = let w = lines_found t ts o h e in found_entries t ts o w.found w.is
 
 -- the lines that are left begin with an entry
 left_first : (ss : List Step) (s : Step) (o : Outline) (h : NodeLines) (f : Found) → IsEntryAt ss s o h f → HasEntries (plug f.place f.after) → FirstEntry (put_lines h (with_lines f []))
 left_first [] s o h f at left =
-    let is : record { place = here; above = 0; anchor = None; lines = o } ≡ h = some_same at.place_is in
+    let is : record { place = here; above = 0; anchor = None; lines = o } ≡ h = same_Some _ _ at.place_is in
     let w = some_at s h.lines f at.found in
     let lines : flatten (plug f.place f.after) ≡ with_lines f [] = ap flatten (w.plugs f.after) ∙ (flatten-append w.front f.after ∙ sym (w.lines [])) in
     subst (λ (x : NodeLines). FirstEntry (put_lines x (with_lines f []))) is (subst (λ (ls : List Line). FirstEntry (ls ++ [])) lines (first_flatten (plug f.place f.after) [] left))
@@ -260,7 +253,7 @@ pub removal_stands : RemovalStands
 removal_stands c k steps x read e = go steps refl (out_is c k steps x e)
   where
     go : (ts : List Step) → steps ≡ ts → IsRowsOut c k steps x → cut_text c ≡ x.before ++ (x.gone ++ (x.gap ++ x.behind))
-    go [] is h = absurd (none_some (ap (λ (ts : List Step). own_rows ts h.d.part.rows) (sym is) ∙ h.rows))
+    go [] is h = absurd (none-some _ (ap (λ (ts : List Step). own_rows ts h.d.part.rows) (sym is) ∙ h.rows))
     go (t ∷ ts) is h = let y = snoc t ts in stands_at c k y.0 y.1 x read (subst (λ (zs : List Step). IsRowsOut c k zs x) (is ∙ y.2) h)
 
 -- the new text is one that may be read
@@ -280,7 +273,7 @@ pub may_go : (t : List ℕ) (c : Cut) (k : ℕ) (p : Part) (ss : List Step) (s :
     HasEntries (plug f.place f.after) × AreSpared (names_of (content f.line f.under)) [] (names_of (root_of p))
 may_go t c k p ss s h f old entry may =
     let o : Outline = outline_of p in
-    let same : may.part ≡ p = some_same (sym may.there ∙ old.there) in
+    let same : may.part ≡ p = same_Some _ _ (sym may.there ∙ old.there) in
     let node = collection_node ss o h entry.place_is entry.block in
     let several : has_several (Some node.node) ≡ true =
     ap has_several (sym node.there) ∙ ((λ i. has_several (node_at (sym (take_init ss s) i) (root_of (sym same i)))) ∙ may.others) in
@@ -288,7 +281,7 @@ may_go t c k p ss s h f old entry may =
     let even = (lines_even (level_or 0 o) o ss h (document_known t c k p old).even entry.place_is entry.block).1 in
     let left : HasEntries (plug f.place f.after) = left_entries s h.lines (level_or 0 h.lines) f entry.block even entry.found count_is in
     let node_same : content f.line f.under ≡ may.node =
-    some_same (sym (entry_node ss s o h f entry) ∙ (ap (λ (y : Part). node_at (ss ++ (s ∷ [])) (root_of y)) (sym same) ∙ may.node_is)) in
+    same_Some _ _ (sym (entry_node ss s o h f entry) ∙ (ap (λ (y : Part). node_at (ss ++ (s ∷ [])) (root_of y)) (sym same) ∙ may.node_is)) in
     let spared : AreSpared (names_of (content f.line f.under)) [] (names_of (root_of p)) =
     subst (λ (n : Node). AreSpared (names_of n) [] (names_of (root_of p))) (sym node_same) (subst (λ (y : Part). AreSpared (names_of may.node) [] (names_of (root_of y))) same may.spared) in
     (left, spared)
@@ -332,7 +325,7 @@ pub entry_taken_out : EntryTakenOut
 entry_taken_out c k steps x read e may size = go steps refl (out_is c k steps x e)
   where
     go : (ts : List Step) → steps ≡ ts → IsRowsOut c k steps x → IsTakenOut c k steps (x.before ++ (mended x.seam x.gap ++ x.behind))
-    go [] is h = absurd (none_some (ap (λ (ts : List Step). own_rows ts h.d.part.rows) (sym is) ∙ h.rows))
+    go [] is h = absurd (none-some _ (ap (λ (ts : List Step). own_rows ts h.d.part.rows) (sym is) ∙ h.rows))
     go (t ∷ ts) is h =
         let y = snoc t ts in
         let same : steps ≡ y.0 ++ (y.1 ∷ []) = is ∙ y.2 in

@@ -1,7 +1,7 @@
 -- The text with rows taken out is joined of pieces of the old one.
 use Rattle.std.proofs.Common.{◌≡◌, ◌⊎◌, inl, inr, ℕ, zero, suc, ◌<◌, Bool, true, ◌&&◌, cond, List, [], ◌∷◌, ◌++◌, length, replicate, Option, Some, None, refl, sym, ap, ◌∙◌, subst, append-nil, arith}
 use Rattle.std.proofs.Math.Seq.{drop-append_seam}
-use Rattle.std.proofs.lemmas.Bool.{cond_both}
+use Rattle.std.proofs.lemmas.Bool.{cond_both, and_from, and_parts, cases_Bool}
 use Rattle.std.proofs.lemmas.Str.{IsUtf8-drop, IsUtf8-from_ascii, IsUtf8-nil, chars-IsAscii}
 use Rattle.std.proofs.lemmas.Str.Ascii.{IsAscii-nil, IsAscii-cons}
 use Rattle.std.specs.List.{list_all}
@@ -11,7 +11,6 @@ use Rattle.yq_scalar.specs.BlockRepair.{is_short, is_outside, repaired_blank, re
 use Rattle.yq_scalar.specs.Characters.{is_text, is_text_char, pairs_returns}
 use Rattle.yq_scalar.specs.Lines.{is_blank}
 use Rattle.yq_scalar.specs.Text.{is_white, joined, lines_of as text_lines, past_white}
-use Rattle.yq_scalar.proofs.Bools.{is_true, and_true}
 use Rattle.yq_scalar.proofs.Boundaries.{white_ascii}
 use Rattle.yq_scalar.proofs.SpaceLaws.{white_drop}
 use Rattle.yq_rows.specs.Gap.{IsGap, IsGapLine, AreGapLines}
@@ -19,7 +18,6 @@ use Rattle.yq_rows.specs.Grammar.{AreParts}
 use Rattle.yq_rows.specs.Rows.{Row, rows_text, Cut, cut_text}
 use Rattle.yq_rows.specs.Splices.{behind_first, first_gap}
 use Rattle.yq_rows.proofs.CharacterLaws.{all_text, all_join, pairs_back}
-use Rattle.yq_rows.proofs.PieceLaws.{both_true}
 use Rattle.yq_rows.proofs.seams.GapFronts.{gap_lines}
 use Rattle.yq_tree.specs.PlacedRows.{PlacedPart, placed_part}
 use Rattle.yq_tree.specs.RemovalPlaces.{Seam, kept_gap, rows_out}
@@ -66,11 +64,11 @@ pieces_left is started k c d front r rs back parts e rows piece =
 
 pub piece_back : (a b : List ℕ) → IsUtf8 a → IsPiece (a ++ b) → IsPiece b
 piece_back a b u h =
-    let x = and_true (all_text (a ++ b)) (pairs_returns (a ++ b)) h.characters in
-    let y = and_true (all_text a) (all_text b) (sym (all_join a b u) ∙ x.0) in
+    let x = and_parts (all_text (a ++ b)) (pairs_returns (a ++ b)) h.characters in
+    let y = and_parts (all_text a) (all_text b) (sym (all_join a b u) ∙ x.0) in
     record {
       utf8 = subst IsUtf8 (drop-append_seam a b) (IsUtf8-drop (a ++ b) (length a) h.utf8 (seam (a ++ b) a b refl h.utf8 u));
-      characters = both_true _ _ y.1 (pairs_back a b x.1);
+      characters = and_from _ _ y.1 (pairs_back a b x.1);
     }
 
 byte_ascii : (b : ℕ) → b < 128 → IsAscii (b ∷ [])
@@ -79,7 +77,7 @@ byte_ascii b h = IsAscii-cons b [] h IsAscii-nil
 past_piece : (l : List ℕ) → IsPiece l → IsPiece (past_white l)
 unfolding Rattle.yq_scalar.specs.Text.upto
 past_piece [] h = h
-past_piece (b ∷ l) h = elim (is_true (is_white b)) [
+past_piece (b ∷ l) h = elim (cases_Bool (is_white b)) [
   | inl e ↦ (let less = piece_back (b ∷ []) l (IsUtf8-from_ascii (b ∷ []) (byte_ascii b (white_ascii b e))) h in rw (white_drop b l) (rw e (past_piece l less)))
   | inr e ↦ rw (white_drop b l) (rw e h)
 ]

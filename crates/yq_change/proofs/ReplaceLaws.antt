@@ -1,6 +1,8 @@
 -- Rows of a document in the place of others, and a node below the root replaced by them.
 use Rattle.std.proofs.Common.{◌≡◌, ℕ, List, [], ◌∷◌, ◌++◌, Option, Some, false, refl, sym, ap, ◌∙◌, subst, length-append}
 use Rattle.std.proofs.lemmas.Bool.{false≢true}
+use Rattle.std.proofs.lemmas.Option.{same_Some}
+use mathlib.Core.List.{cons≢nil}
 use Rattle.yq_scalar.specs.Paths.{Step}
 use Rattle.yq_lines.specs.Group.{level_or}
 use Rattle.yq_lines.specs.Laws.{with_lines}
@@ -53,13 +55,7 @@ document_replaced t c k p front gone back new gap old r text =
 
 -- a path that ends at a line leads into a collection
 no_more : (x y : Found × List Step) (s : Step) (ss : List Step) → x.1 ≡ s ∷ ss → y.1 ≡ [] → Some x ≡ Some y → ⊥
-no_more x y s ss a b e = nil (sym a ∙ (ap (λ (z : Found × List Step). z.1) (same e) ∙ b))
-  where
-    same : Some x ≡ Some y → x ≡ y
-    same e = cc
-
-    nil : s ∷ ss ≡ [] → ⊥
-    nil e = cc
+no_more x y s ss a b e = cons≢nil (sym a ∙ (ap (λ (z : Found × List Step). z.1) (same_Some _ _ e) ∙ b))
 
 pub found_entries : (s : Step) (ss : List Step) (o : Outline) (f : Found) → find s ss o ≡ Some (f, []) → HasEntries o
 found_entries s ss end f e = cc

@@ -1,7 +1,9 @@
 -- What a value put in, or one more, leaves of what is asked of a document's root.
 use Rattle.std.proofs.Common.{◌≡◌, ℕ, suc, ◌+◌, ◌-◌, ◌≤◌, max, List, [], ◌∷◌, ◌++◌, length, Option, Some, None, option_and_then, Bool, true, false, cond, refl, sym, ap, ◌∙◌}
 use Rattle.std.proofs.Common.{subst, inl, inr, arith, append-nil, not, bytes_eq}
-use Rattle.std.proofs.lemmas.Bool.{and_parts, and_from, or_parts, or_from}
+use Rattle.std.proofs.lemmas.Bool.{and_parts, and_from, or_parts, or_from, not-true}
+use Rattle.std.proofs.lemmas.Option.{none-some, same_Some}
+use mathlib.Core.List.{cons≢nil}
 use Rattle.std.specs.List.{list_any}
 use Rattle.yq_scalar.specs.Keys.{AreDistinct, with_key, keys_of, HasUniqueKeys, EachHasUniqueKeys, depth, deepest}
 use Rattle.yq_scalar.specs.Paths.{Step, is_here, further, append_child, change, child_at, node_at, within}
@@ -18,23 +20,13 @@ use Rattle.yq_change.proofs.TreeLaws.{unique_changed, depth_changed, max_least, 
 use Rattle.yq_documents.specs.TreeEdits.{replaced}
 use Rattle.yq_documents.specs.Nodes.{anchor_of}
 
-pub some_same : {x y : Node} → Some x ≡ Some y → x ≡ y
-some_same e = cc
-
-pub none_some : {x : Node} → None ≡ Some x → ⊥
-none_some e = cc
-
-pub not_true : (b : Bool) → not b ≡ true → b ≡ false
-not_true false e = refl
-not_true true e = sym e
-
 -- what holds of a whole holds of the node at a path
 child_unique : (s : Step) (cs : Children) (k : Node) → child_at s cs ≡ Some k → EachHasUniqueKeys cs → HasUniqueKeys k
-child_unique s none k e h = absurd (none_some e)
+child_unique s none k e h = absurd (none-some _ e)
 child_unique s (child l n cs) k e h = go (is_here s l) e (λ d. child_unique (further s) cs k d h.1)
   where
     go : (b : Bool) → cond b (Some n) (child_at (further s) cs) ≡ Some k → (child_at (further s) cs ≡ Some k → HasUniqueKeys k) → HasUniqueKeys k
-    go true e ih = subst HasUniqueKeys (some_same e) h.0
+    go true e ih = subst HasUniqueKeys (same_Some _ _ e) h.0
     go false e ih = ih e
 
 each_of : (n : Node) → HasUniqueKeys n → EachHasUniqueKeys (children_of n)
@@ -44,35 +36,35 @@ each_of (list a cs) h = h
 each_of (map a cs) h = h.1
 
 pub unique_at : (steps : List Step) (n old : Node) → node_at steps n ≡ Some old → HasUniqueKeys n → HasUniqueKeys old
-unique_at [] n old e h = subst HasUniqueKeys (some_same e) h
+unique_at [] n old e h = subst HasUniqueKeys (same_Some _ _ e) h
 unique_at (s ∷ ss) n old e h = go (child_at s (children_of n)) refl e (λ k d u. unique_at ss k old d u)
   where
     go : (r : Option Node) → child_at s (children_of n) ≡ r → option_and_then (node_at ss) r ≡ Some old → ((k : Node) → node_at ss k ≡ Some old → HasUniqueKeys k → HasUniqueKeys old) →
         HasUniqueKeys old
-    go None is e ih = absurd (none_some e)
+    go None is e ih = absurd (none-some _ e)
     go (Some k) is e ih = ih k e (child_unique s (children_of n) k is (each_of n h))
 
 child_depth : (s : Step) (cs : Children) (k : Node) → child_at s cs ≡ Some k → depth k ≤ deepest cs
-child_depth s none k e = absurd (none_some e)
+child_depth s none k e = absurd (none-some _ e)
 child_depth s (child l n cs) k e = go (is_here s l) e (λ d. child_depth (further s) cs k d)
   where
     go : (b : Bool) → cond b (Some n) (child_at (further s) cs) ≡ Some k → (child_at (further s) cs ≡ Some k → depth k ≤ deepest cs) → depth k ≤ max (depth n) (deepest cs)
-    go true e ih = omega (arith, ap depth (some_same e), max_left (depth n) (deepest cs))
+    go true e ih = omega (arith, ap depth (same_Some _ _ e), max_left (depth n) (deepest cs))
     go false e ih = let low = ih e in omega (arith, low, max_right (depth n) (deepest cs))
 
 inner_depth : (s : Step) (n k : Node) → child_at s (children_of n) ≡ Some k → suc (depth k) ≤ depth n
-inner_depth s (alias name) k e = absurd (none_some e)
-inner_depth s (scalar a i t) k e = absurd (none_some e)
+inner_depth s (alias name) k e = absurd (none-some _ e)
+inner_depth s (scalar a i t) k e = absurd (none-some _ e)
 inner_depth s (list a cs) k e = let low = child_depth s cs k e in omega (arith, low)
 inner_depth s (map a cs) k e = let low = child_depth s cs k e in omega (arith, low)
 
 pub depth_at : (steps : List Step) (n old : Node) → node_at steps n ≡ Some old → length steps + depth old ≤ depth n
-depth_at [] n old e = let same : depth n ≡ depth old = ap depth (some_same e) in omega (arith, same)
+depth_at [] n old e = let same : depth n ≡ depth old = ap depth (same_Some _ _ e) in omega (arith, same)
 depth_at (s ∷ ss) n old e = go (child_at s (children_of n)) refl e (λ k d. depth_at ss k old d)
   where
     go : (r : Option Node) → child_at s (children_of n) ≡ r → option_and_then (node_at ss) r ≡ Some old → ((k : Node) → node_at ss k ≡ Some old → length ss + depth old ≤ depth k) →
         length (s ∷ ss) + depth old ≤ depth n
-    go None is e ih = absurd (none_some e)
+    go None is e ih = absurd (none-some _ e)
     go (Some k) is e ih = let low = ih k e in let deep = inner_depth s n k is in omega (arith, low, deep)
 
 -- a root changed
@@ -93,24 +85,15 @@ own_names (list a cs) = anchor_front a (names_in cs) ∙ ap (λ x. with_anchor a
 own_names (map a cs) = anchor_front a (names_in cs) ∙ ap (λ x. with_anchor a [] ++ x) (sym (append-nil (names_in cs)))
 
 nameless : (a : Option (List ℕ)) (v : Node) → names_of v ≡ [] → names_of (anchored a v) ≡ with_anchor a [] ++ ([] ++ [])
-nameless a (alias name) e = absurd (cons_nil e)
-  where
-    cons_nil : {A : Type 0} {x : A} {xs : List A} → x ∷ xs ≡ [] → ⊥
-    cons_nil e = cc
+nameless a (alias name) e = absurd (cons≢nil e)
 nameless None (scalar b k t) e = e
 nameless (Some a) (scalar b k t) e = refl
 nameless None (list b cs) e = e
 nameless (Some a) (list None cs) e = ap (λ x. Anchors a ∷ x) e
-nameless (Some a) (list (Some b) cs) e = absurd (cons_nil e)
-  where
-    cons_nil : {A : Type 0} {x : A} {xs : List A} → x ∷ xs ≡ [] → ⊥
-    cons_nil e = cc
+nameless (Some a) (list (Some b) cs) e = absurd (cons≢nil e)
 nameless None (map b cs) e = e
 nameless (Some a) (map None cs) e = ap (λ x. Anchors a ∷ x) e
-nameless (Some a) (map (Some b) cs) e = absurd (cons_nil e)
-  where
-    cons_nil : {A : Type 0} {x : A} {xs : List A} → x ∷ xs ≡ [] → ⊥
-    cons_nil e = cc
+nameless (Some a) (map (Some b) cs) e = absurd (cons≢nil e)
 
 anchored_unique : (a : Option (List ℕ)) (v : Node) → HasUniqueKeys v → HasUniqueKeys (anchored a v)
 anchored_unique a (alias name) h = h
@@ -181,7 +164,7 @@ distinct_more [] x e new = refl
 distinct_more (k ∷ ks) x e new =
     let p = and_parts (not (list_any (bytes_eq k) ks)) (are_distinct ks) e in
     and_from (not (list_any (bytes_eq k) (ks ++ (x ∷ [])))) (are_distinct (ks ++ (x ∷ [])))
-    (ap not (unlike_more k x ks (not_true (list_any (bytes_eq k) ks) p.0) (differs k x (λ is. new (inl (sym is)))))) (distinct_more ks x p.1 (λ m. new (inr m)))
+    (ap not (unlike_more k x ks (not-true (list_any (bytes_eq k) ks) p.0) (differs k x (λ is. new (inl (sym is)))))) (distinct_more ks x p.1 (λ m. new (inr m)))
 
 key_more : (ks : List (List ℕ)) (k : Option (List ℕ)) → AreDistinct ks → IsNewKey k ks → AreDistinct (ks ++ with_key k [])
 key_more ks None h new = subst AreDistinct (sym (append-nil ks)) h

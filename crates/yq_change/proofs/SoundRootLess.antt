@@ -1,7 +1,8 @@
 -- What one less, or another label, leaves of what is asked of a document's root.
 use Rattle.std.proofs.Common.{◌≡◌, ℕ, suc, ◌≤◌, max, List, [], ◌++◌, Option, Some, None, Bool, true, false, cond, refl, sym, ap, ◌∙◌}
 use Rattle.std.proofs.Common.{subst, arith, append_assoc, not, bytes_eq}
-use Rattle.std.proofs.lemmas.Bool.{and_parts, and_from, or_parts, or_from}
+use Rattle.std.proofs.lemmas.Bool.{and_parts, and_from, or_parts, or_from, not-true}
+use Rattle.std.proofs.lemmas.Option.{none-some, same_Some}
 use Rattle.std.specs.List.{list_any}
 use Rattle.yq_scalar.specs.Keys.{AreDistinct, with_key, keys_of, HasUniqueKeys, EachHasUniqueKeys, depth, deepest}
 use Rattle.yq_scalar.specs.Paths.{Step, is_here, further, child_at, relabel_child, remove_child, within}
@@ -12,7 +13,7 @@ use Rattle.yq_lines.proofs.KeyLaws.{distinct_is, is_distinct}
 use Rattle.yq_change.specs.SoundRoots.{RemoveKeeps, RelabelKeeps}
 use Rattle.yq_change.proofs.BoundLaws.{anchor_front}
 use Rattle.yq_change.proofs.TreeLaws.{max_least, max_left, max_right}
-use Rattle.yq_change.proofs.SoundRootLaws.{some_same, none_some, not_true, unique_at, depth_at, sound, same_names}
+use Rattle.yq_change.proofs.SoundRootLaws.{unique_at, depth_at, sound, same_names}
 
 -- one less
 unlike_less : (k : List ℕ) (s : Step) (cs : Children) → list_any (bytes_eq k) (keys_of cs) ≡ false → list_any (bytes_eq k) (keys_of (remove_child s cs)) ≡ false
@@ -39,7 +40,7 @@ distinct_less s (child l n cs) e = go (is_here s l) l.key e (distinct_less (furt
     go false (Some j) e ih =
         let p = and_parts (not (list_any (bytes_eq j) (keys_of cs))) (are_distinct (keys_of cs)) e in
         and_from (not (list_any (bytes_eq j) (keys_of (remove_child (further s) cs)))) (are_distinct (keys_of (remove_child (further s) cs)))
-        (ap not (unlike_less j (further s) cs (not_true (list_any (bytes_eq j) (keys_of cs)) p.0))) (ih p.1)
+        (ap not (unlike_less j (further s) cs (not-true (list_any (bytes_eq j) (keys_of cs)) p.0))) (ih p.1)
 
 each_less : (s : Step) (cs : Children) → EachHasUniqueKeys cs → EachHasUniqueKeys (remove_child s cs)
 each_less s none h = h
@@ -77,11 +78,11 @@ record Without (s : Step) (cs : Children) (x : Node) : Type 0 where
   pub new : names_in (remove_child s cs) ≡ front ++ back
 
 without : (s : Step) (cs : Children) (x : Node) → child_at s cs ≡ Some x → Without s cs x
-without s none x e = absurd (none_some e)
+without s none x e = absurd (none-some _ e)
 without s (child l n cs) x e = go (is_here s l) refl e (without (further s) cs x)
   where
     go : (b : Bool) → is_here s l ≡ b → cond b (Some n) (child_at (further s) cs) ≡ Some x → (child_at (further s) cs ≡ Some x → Without (further s) cs x) → Without s (child l n cs) x
-    go true h e ih = record { front = []; back = names_in cs; old = ap (λ y. names_of y ++ names_in cs) (some_same e); new = rw h refl }
+    go true h e ih = record { front = []; back = names_in cs; old = ap (λ y. names_of y ++ names_in cs) (same_Some _ _ e); new = rw h refl }
     go false h e ih =
         let r = ih e in
         record {
@@ -111,8 +112,8 @@ with_names a s cs x n new old w =
     }
 
 without_in : (s : Step) (n x : Node) → child_at s (children_of n) ≡ Some x → WithoutIn s n x
-without_in s (alias name) x e = absurd (none_some e)
-without_in s (scalar a i t) x e = absurd (none_some e)
+without_in s (alias name) x e = absurd (none-some _ e)
+without_in s (scalar a i t) x e = absurd (none-some _ e)
 without_in s (list a cs) x e = with_names a s cs x (list a cs) (λ g. refl) refl (without s cs x e)
 without_in s (map a cs) x e = with_names a s cs x (map a cs) (λ g. refl) refl (without s cs x e)
 

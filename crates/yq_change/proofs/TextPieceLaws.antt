@@ -4,12 +4,11 @@ use Rattle.std.proofs.Math.Seq.{drop-append_seam}
 use Rattle.std.proofs.lemmas.Str.{IsUtf8-append, IsUtf8-drop, IsUtf8-from_is_utf8}
 use Rattle.std.proofs.lemmas.Str.{IsUtf8-take}
 use Rattle.std.proofs.Math.Seq.{take-append_seam}
+use Rattle.std.proofs.lemmas.Bool.{and_from, and_parts}
 use Rattle.std.specs.Str.{IsUtf8, IsCharBoundary}
 use Rattle.yq_scalar.specs.Characters.{pairs_returns}
 use Rattle.yq_scalar.specs.Text.{front, is_feed}
-use Rattle.yq_scalar.proofs.Bools.{and_true}
 use Rattle.yq_rows.specs.Rows.{cut_text}
-use Rattle.yq_rows.proofs.PieceLaws.{both_true}
 use Rattle.yq_rows.proofs.CharacterLaws.{all_text, all_join, pairs_join, pairs_back, pairs_front, pairs_cut, EndsBlack}
 use Rattle.yq_rows.proofs.NodePieces.{EndsAscii, BeginsAscii, behind_ascii, before_ascii}
 use Rattle.yq_documents.specs.Reading.{read_at}
@@ -20,11 +19,11 @@ use Rattle.yq_change.specs.TextPieces.{IsPiece, TextIsPiece, PiecesJoined, LineC
 
 pub pieces_joined : PiecesJoined
 pieces_joined a b h k =
-    let x = and_true (all_text a) (pairs_returns a) h.characters in
-    let y = and_true (all_text b) (pairs_returns b) k.characters in
+    let x = and_parts (all_text a) (pairs_returns a) h.characters in
+    let y = and_parts (all_text b) (pairs_returns b) k.characters in
     record {
       utf8 = IsUtf8-append a b h.utf8 k.utf8;
-      characters = both_true _ _ (all_join a b h.utf8 ∙ both_true _ _ x.0 y.0) (pairs_join a b x.1 y.1);
+      characters = and_from _ _ (all_join a b h.utf8 ∙ and_from _ _ x.0 y.0) (pairs_join a b x.1 y.1);
     }
 
 -- the text of a cut that reads
@@ -49,11 +48,11 @@ pairs_cut_at a b (behind e) h =
 
 pieces_cut : (a b : List ℕ) → IsPiece (a ++ b) → IsUtf8 a → MayCut a b → IsPiece a × IsPiece b
 pieces_cut a b h u may =
-    let x = and_true (all_text (a ++ b)) (pairs_returns (a ++ b)) h.characters in
-    let y = and_true (all_text a) (all_text b) (sym (all_join a b u) ∙ x.0) in
+    let x = and_parts (all_text (a ++ b)) (pairs_returns (a ++ b)) h.characters in
+    let y = and_parts (all_text a) (all_text b) (sym (all_join a b u) ∙ x.0) in
     let start : IsCharBoundary (a ++ b) (length a) = seam (a ++ b) a b refl h.utf8 u in (
-      record { utf8 = u; characters = both_true _ _ y.0 (pairs_cut_at a b may x.1) },
-      record { utf8 = subst IsUtf8 (drop-append_seam a b) (IsUtf8-drop (a ++ b) (length a) h.utf8 start); characters = both_true _ _ y.1 (pairs_back a b x.1) },
+      record { utf8 = u; characters = and_from _ _ y.0 (pairs_cut_at a b may x.1) },
+      record { utf8 = subst IsUtf8 (drop-append_seam a b) (IsUtf8-drop (a ++ b) (length a) h.utf8 start); characters = and_from _ _ y.1 (pairs_back a b x.1) },
     )
 
 -- behind an ASCII byte that is no CR

@@ -1,15 +1,10 @@
 -- Unique keys and depth of a tree in which a node is changed.
 use Rattle.std.proofs.Common.{◌≡◌, ℕ, ◌+◌, ◌-◌, ◌≤◌, max, [], ◌∷◌, length, Option, Some, None, option_and_then, Bool, true, false, cond, refl, sym, ap, subst, arith}
+use Rattle.std.proofs.lemmas.Option.{none-some, same_Some}
 use Rattle.yq_scalar.specs.Keys.{AreDistinct, with_key, keys_of, HasUniqueKeys, EachHasUniqueKeys, depth, deepest}
 use Rattle.yq_scalar.specs.Paths.{Step, is_here, further, child_at, node_at, change_child, within, change}
 use Rattle.yq_scalar.specs.Tree.{Node, alias, scalar, list, map, Children, none, child, children_of}
 use Rattle.yq_change.specs.Conditions.{UniqueChanged, DepthChanged}
-
-some_same : {x y : Node} → Some x ≡ Some y → x ≡ y
-some_same e = cc
-
-none_some : {x : Node} → None ≡ Some x → ⊥
-none_some e = cc
 
 keys_stay : (s : Step) (f : Node → Node) (cs : Children) → keys_of (change_child s f cs) ≡ keys_of cs
 keys_stay s f none = refl
@@ -27,11 +22,11 @@ each_unique s f (child l n cs) k e new h = go (is_here s l) e (λ d. each_unique
   where
     go : (b : Bool) → cond b (Some n) (child_at (further s) cs) ≡ Some k → (child_at (further s) cs ≡ Some k → EachHasUniqueKeys (change_child (further s) f cs)) →
         EachHasUniqueKeys (cond b (child l (f n) cs) (child l n (change_child (further s) f cs)))
-    go true e ih = (subst (λ x. HasUniqueKeys (f x)) (sym (some_same e)) (new (subst HasUniqueKeys (some_same e) h.0)), h.1)
+    go true e ih = (subst (λ x. HasUniqueKeys (f x)) (sym (same_Some _ _ e)) (new (subst HasUniqueKeys (same_Some _ _ e) h.0)), h.1)
     go false e ih = (h.0, ih e)
 
 pub unique_changed : UniqueChanged
-unique_changed [] n old f e h new = subst (λ x. HasUniqueKeys (f x)) (sym (some_same e)) new
+unique_changed [] n old f e h new = subst (λ x. HasUniqueKeys (f x)) (sym (same_Some _ _ e)) new
 unique_changed (s ∷ ss) n old f e h new = go (child_at s (children_of n)) refl e (λ k d u. unique_changed ss k old f d u new)
   where
     kinds : (n k : Node) → child_at s (children_of n) ≡ Some k → (HasUniqueKeys k → HasUniqueKeys (change ss f k)) → HasUniqueKeys n → HasUniqueKeys (within (change_child s (change ss f)) n)
@@ -42,7 +37,7 @@ unique_changed (s ∷ ss) n old f e h new = go (child_at s (children_of n)) refl
 
     go : (r : Option Node) → child_at s (children_of n) ≡ r → option_and_then (node_at ss) r ≡ Some old → ((k : Node) → node_at ss k ≡ Some old → HasUniqueKeys k → HasUniqueKeys (change ss f k)) →
         HasUniqueKeys (within (change_child s (change ss f)) n)
-    go None is e ih = absurd (none_some e)
+    go None is e ih = absurd (none-some _ e)
     go (Some k) is e ih = kinds n k is (ih k e) h
 
 pub max_least : (a b d : ℕ) → a ≤ d → b ≤ d → max a b ≤ d
@@ -66,12 +61,12 @@ deepest_changed d s f (child l n cs) k e new h = go (is_here s l) e (λ c. deepe
 
     go : (b : Bool) → cond b (Some n) (child_at (further s) cs) ≡ Some k → (child_at (further s) cs ≡ Some k → deepest (change_child (further s) f cs) ≤ d) →
         deepest (cond b (child l (f n) cs) (child l n (change_child (further s) f cs))) ≤ d
-    go true e ih = max_least _ _ d (subst (λ x. depth (f x) ≤ d) (sym (some_same e)) (new (subst (λ x. depth x ≤ d) (some_same e) left))) right
+    go true e ih = max_least _ _ d (subst (λ x. depth (f x) ≤ d) (sym (same_Some _ _ e)) (new (subst (λ x. depth x ≤ d) (same_Some _ _ e) left))) right
     go false e ih = max_least _ _ d left (ih e)
 
 pub depth_changed : DepthChanged
 depth_changed d [] n old f e h new =
-    let less : depth (f old) ≤ d = omega (arith, new) in subst (λ x. depth (f x) ≤ d) (sym (some_same e)) less
+    let less : depth (f old) ≤ d = omega (arith, new) in subst (λ x. depth (f x) ≤ d) (sym (same_Some _ _ e)) less
 depth_changed d (s ∷ ss) n old f e h new =
     let less : length ss + depth (f old) ≤ d - 1 = omega (arith, new) in go (child_at s (children_of n)) refl e (λ k u w. depth_changed (d - 1) ss k old f u w less)
   where
@@ -83,5 +78,5 @@ depth_changed d (s ∷ ss) n old f e h new =
 
     go : (r : Option Node) → child_at s (children_of n) ≡ r → option_and_then (node_at ss) r ≡ Some old → ((k : Node) → node_at ss k ≡ Some old → depth k ≤ d - 1 → depth (change ss f k) ≤ d - 1) →
         depth (within (change_child s (change ss f)) n) ≤ d
-    go None is e ih = absurd (none_some e)
+    go None is e ih = absurd (none-some _ e)
     go (Some k) is e ih = kinds n k is (ih k e) h

@@ -1,6 +1,7 @@
 -- The rows under an item or entry, and their lines, where what is written behind its mark gives way to another content.
 use Rattle.std.proofs.Common.{◌≡◌, ℕ, suc, ◌+◌, List, [], ◌∷◌, ◌++◌, length, drop, true, refl, sym, ap, ◌∙◌, subst, append_assoc, length-append}
 use Rattle.std.proofs.Math.Seq.{take-append_seam, drop-append_seam}
+use mathlib.Core.List.{head-eq_of_cons-eq, tail-eq_of_cons-eq}
 use Rattle.yq_scalar.specs.Paths.{Step}
 use Rattle.yq_lines.specs.Comments.{head_comment}
 use Rattle.yq_lines.specs.Group.{level_or}
@@ -25,12 +26,6 @@ use Rattle.yq_change.proofs.AppendLaws.{around}
 use Rattle.yq_change.proofs.LineLaws.{above_mark, dashes_count, mark_behind}
 use Rattle.yq_change.proofs.PlacedLaws.{found_is_entry, rows_in_parts, same_parts, whole_line}
 use Rattle.yq_change.proofs.RemarkLaws.{last_lines}
-
-cons_same : {x y : Line} {xs ys : List Line} → x ∷ xs ≡ y ∷ ys → x ≡ y
-cons_same e = cc
-
-tail_same : {x y : Line} {xs ys : List Line} → x ∷ xs ≡ y ∷ ys → xs ≡ ys
-tail_same e = cc
 
 -- rows behind some others
 pub rows_after : (limit : Limit) (under back : List Row) (gap rest : List ℕ) → AreRows limit (under ++ back) gap rest → AreRows (asked_behind limit under) back gap rest
@@ -87,10 +82,10 @@ module _ (p : Part) (s : Step) (ss : List Step) (front : List Row) (r : Row) (un
       (sym old_lines ∙ (sym (flatten-group (lines_of p.rows)) ∙ whole_line (outline_of p) s ss [] w.found w.is)) (length-append (lines_of front) (dashes_of r) ∙ before_are) (ap suc w.count)
 
   pub line_is : line_with r r.content ≡ w.found.line
-  line_is = cons_same parts.1
+  line_is = head-eq_of_cons-eq parts.1
 
   pub under_is : lines_of under ≡ flatten w.found.under
-  under_is = tail_same parts.1
+  under_is = tail-eq_of_cons-eq parts.1
 
   pub is_mark : is_entry r.mark ≡ true
   is_mark = go r.mark (subst (λ (l : Line). IsEntry l.mark) (sym line_is) (found_is_entry (level_or 0 (outline_of p)) p s ss w.found even w.is))

@@ -2,6 +2,7 @@
 use Rattle.std.proofs.Common.{◌≡◌, inl, inr, ℕ, ℤ, ◌&&◌, ◌||◌, not, eqb, List, [], ◌∷◌, ◌++◌, Option, Some, Bool, true, false, refl, sym, ap, ◌∙◌}
 use Rattle.std.proofs.lemmas.Bool.{false≢true, and_parts, and_from, eqb-true}
 use Rattle.std.proofs.lemmas.List.Folds.{list_any-append}
+use Rattle.std.proofs.lemmas.Option.{none-some}
 use Rattle.yq_scalar.specs.Piece.{deeper}
 use Rattle.yq_scalar.specs.Plain.{ends_plain, holds_break}
 use Rattle.yq_scalar.specs.Text.{is_empty, is_feed, is_marker, is_white, no_white, separates, unless, NoneIn}
@@ -21,7 +22,6 @@ use Rattle.yq_rows.proofs.NodeExchange.{inline_starts, mark_apart, space_apart}
 use Rattle.yq_documents.specs.Documents.{ContentHasFitKeys, is_long_plain}
 use Rattle.yq_tree.specs.InlinePlaces.{InlinePlace, mark_inline}
 use Rattle.yq_documents.specs.Lines.{content_anchor, head_of, tail_of}
-use Rattle.yq_tree.proofs.PrintedTexts.{none_some}
 use Rattle.yq_change.specs.InlineRows.{IsValueNode}
 use Rattle.yq_change.proofs.CoreLaws.{recore, put_core, core_head, core_anchor, core_keys, core_bare, core_more, core_node}
 
@@ -73,12 +73,12 @@ module _ (v : Node) (node : inline.Node) (is : IsValueNode v node) where
   content_is n alone before (Nothing tail) rest w h e ends = ((refl, tt), is.stands n (tail ++ rest) (ends tail h), h)
   content_is n alone before (Inline space old tail) rest w h e ends =
       (h.0, record { valid = core_node _ _ node (tail ++ rest) is.unnamed some is.takes (is.stands n (tail ++ rest) (ends tail h.2)).valid old h.1.valid; something = ap not (core_bare node old some) }, h.2)
-  content_is n alone before (Block space anchor block) rest w h e ends = absurd (none_some e)
+  content_is n alone before (Block space anchor block) rest w h e ends = absurd (none-some _ e)
 
   pub content_head : (alone : Bool) (before : List ℕ) (x : Content) (rest : List ℕ) (w : InlinePlace) → mark_inline alone before x rest ≡ Some w → head_of (put_core node x) ≡ Some v
   content_head alone before (Nothing tail) rest w e = is.head
   content_head alone before (Inline space old tail) rest w e = core_head node old ∙ is.head
-  content_head alone before (Block space anchor block) rest w e = absurd (none_some e)
+  content_head alone before (Block space anchor block) rest w e = absurd (none-some _ e)
 
   pub content_named : (x : Content) → content_anchor (put_core node x) ≡ content_anchor x
   content_named (Nothing tail) = is.unnamed

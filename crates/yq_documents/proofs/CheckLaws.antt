@@ -1,11 +1,11 @@
 -- Documents, checked one behind the other.
-use Rattle.std.proofs.Common.{◌≡◌, cond, ◌&&◌, List, [], ◌∷◌, ◌++◌, length, Some, None, refl, sym, ap, ◌∙◌, subst, arith, append_assoc, append-nil}
+use Rattle.std.proofs.Common.{◌≡◌, cond, ◌&&◌, List, [], ◌∷◌, ◌++◌, length, Some, None, sym, ap, ◌∙◌, subst, append_assoc, append-nil}
 use Rattle.std.proofs.lemmas.Bool.{cond-false}
-use Rattle.std.proofs.lemmas.List.{map-append}
+use Rattle.std.proofs.lemmas.List.{map-append, nil_from_length}
+use Rattle.std.proofs.lemmas.Option.{cond_some}
 use Rattle.yq_scalar.specs.declared.fault.ReadError.{ReadError}
 use Rattle.yq_scalar.specs.declared.fault.ReadError.TheVariants as errors
 use Rattle.yq_scalar.specs.Answers.{Fails}
-use Rattle.yq_scalar.proofs.Bools.{guard_some}
 use Rattle.yq_documents.specs.declared.part_lines.PartLines.{PartLines}
 use Rattle.yq_documents.specs.FlowReading.{lines_flows, parts_lines_flows}
 use Rattle.yq_lines.specs.LinesReading.{lines_are_sound}
@@ -31,7 +31,7 @@ left_apart all ps p more docs e l = (subst (λ (x : List PartLines). AllApart (l
 
 next_here : (all : List Lined) (x : Lined) (xs docs : List Lined) (d : Lined) → if_sound x ≡ Some d → LeftChecks all (x ∷ xs) docs → LeftChecks all xs (docs ++ d ∷ [])
 next_here all x xs docs d made l =
-    let g = guard_some (lines_are_sound x.1) made in
+    let g = cond_some (lines_are_sound x.1) _ _ made in
     record {
       apart = l.apart.1;
       all_are = append_assoc docs (d ∷ []) xs ∙ (ap (λ y. docs ++ y ∷ xs) (sym g.1) ∙ l.all_are);
@@ -59,12 +59,8 @@ checks_fail all ps p more docs e is f l =
 done_here : (all docs : List Lined) → LeftChecks all [] docs → if_all_sound all ≡ Some docs
 done_here all docs l = ap (λ b. cond b (Some all) None) (sym l.sound_is) ∙ ap Some (sym l.all_are ∙ append-nil docs)
 
-nothing_left : (l : List PartLines) → length l ≡ 0 → l ≡ []
-nothing_left [] h = refl
-nothing_left (x ∷ xs) h = absurd (omega (arith, h))
-
 pub checks_done : (all : List Lined) (ps : List PartLines) (docs : List Lined) → length ps ≡ 0 → LeftChecks all (lined_views ps) docs → if_all_sound all ≡ Some docs
-checks_done all ps docs none l = done_here all docs (subst (λ (x : List PartLines). LeftChecks all (lined_views x) docs) (nothing_left ps none) l)
+checks_done all ps docs none l = done_here all docs (subst (λ (x : List PartLines). LeftChecks all (lined_views x) docs) (nil_from_length ps none) l)
 
 -- the aliases and flow collections in the heads of the documents so far and of the parts that are left
 pub flows_init : (all ps : List PartLines) (docs : List DocumentLines) → ps ≡ all → docs ≡ [] → lines_flows docs ++ parts_lines_flows ps ≡ parts_lines_flows all
@@ -77,4 +73,4 @@ flows_step all ps p more docs new d e pushed same so_far =
     ∙ (append_assoc (lines_flows docs) (flows d.lines ∷ []) (parts_lines_flows more) ∙ ((λ i. lines_flows docs ++ same i ∷ parts_lines_flows more) ∙ (ap (λ x. lines_flows docs ++ parts_lines_flows x) (sym e) ∙ so_far)))
 
 pub flows_done : (all ps : List PartLines) (docs : List DocumentLines) → length ps ≡ 0 → lines_flows docs ++ parts_lines_flows ps ≡ parts_lines_flows all → lines_flows docs ≡ parts_lines_flows all
-flows_done all ps docs none so_far = sym (ap (λ x. lines_flows docs ++ parts_lines_flows x) (nothing_left ps none) ∙ append-nil (lines_flows docs)) ∙ so_far
+flows_done all ps docs none so_far = sym (ap (λ x. lines_flows docs ++ parts_lines_flows x) (nil_from_length ps none) ∙ append-nil (lines_flows docs)) ∙ so_far

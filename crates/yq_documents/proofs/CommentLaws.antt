@@ -1,6 +1,6 @@
 -- The texts of comment lines.
-use Rattle.std.proofs.Common.{◌≡◌, ℕ, Bool, true, false, eqb, ◌&&◌, List, [], ◌∷◌, drop, Some, None, refl, sym, ap, ◌∙◌}
-use Rattle.std.proofs.lemmas.Bool.{false≢true, cond-true, cond-false}
+use Rattle.std.proofs.Common.{◌≡◌, ℕ, true, false, eqb, List, [], ◌∷◌, drop, Some, None, refl, sym, ap, ◌∙◌}
+use Rattle.std.proofs.lemmas.Bool.{cond-true, cond-false, and_parts}
 use Rattle.yq_scalar.specs.Text.{cut, front, ends_line, lines_of, past_white}
 use Rattle.yq_inline.specs.Nodes.{first_is}
 use Rattle.yq_lines.specs.Comments.{less_space, comment_text, are_comments, with_text, last_comments}
@@ -15,10 +15,6 @@ no_space [] h = refl
 no_space (b ∷ bs) h = sym (cond-false _ _ _ h)
 
 -- the texts of lines that are all comments
-both : (a b : Bool) → (a && b) ≡ true → (a ≡ true) × (b ≡ true)
-both true b h = (refl, h)
-both false b h = absurd (false≢true h)
-
 with_then : (l : List ℕ) (ts : List (List ℕ)) → front (λ b. eqb b 35) (past_white l) ≡ true → text_then (comment_text l) ts ≡ with_text (comment_text l) ts
 with_then l ts h = ap (λ o. text_then o ts) is ∙ sym (ap (λ o. with_text o ts) is)
   where
@@ -28,7 +24,7 @@ with_then l ts h = ap (λ o. text_then o ts) is ∙ sym (ap (λ o. with_text o t
 pub all_texts : (ls : List (List ℕ)) → are_comments ls ≡ true → texts ls ≡ last_comments ls
 all_texts [] h = refl
 all_texts (l ∷ ls) h =
-    let p = both _ _ h in
+    let p = and_parts _ _ h in
     ap (text_then (comment_text l)) (all_texts ls p.1) ∙ (with_then l (last_comments ls) p.0 ∙ sym (cond-true _ _ _ h))
 
 -- a line that is no comment

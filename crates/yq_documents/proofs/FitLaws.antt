@@ -2,6 +2,7 @@
 use Rattle.std.proofs.Common.{◌≡◌, ℕ, ℤ, ◌<◌, Bool, true, false, cond, not, ◌||◌, ◌&&◌, eqb, List, [], ◌∷◌, ◌++◌, length, map, Some, refl, sym, ap, ◌∙◌, arith, append-nil}
 use Rattle.std.proofs.lemmas.Bool.{false≢true, cond_both}
 use Rattle.std.proofs.lemmas.List.Folds.{list_any-append}
+use mathlib.Core.List.{head-eq_of_cons-eq}
 use Rattle.yq_scalar.specs.declared.block_header.BlockStyle.{BlockStyle}
 use Rattle.yq_scalar.specs.declared.block_header.BlockStyle.TheVariants as styles
 use Rattle.yq_scalar.specs.Block.{mark_of}
@@ -92,14 +93,11 @@ long_by n (k ∷ ns) (rows.Key key colon) c rest d m h = refl
 long_is : (r : Row) (limit : Limit) (rest : List ℕ) → IsRow limit r rest → is_long (slices r) ≡ is_long_plain r.mark r.content
 long_is r limit rest h = long_by (rows.parent_indent r) r.dashes r.mark r.content rest h.dashes h.mark h.content
 
-slices_same : {x y : Slices} {xs ys : List Slices} → x ∷ xs ≡ y ∷ ys → x ≡ y
-slices_same h = cc
-
 -- the root
 some_short : (n : ℕ) (s : Slices) (others behind : List Slices) (rs : List Row) (limit : Limit) (end rest : List ℕ) → 0 < n → n ≡ length rs → s ∷ others ≡ map slices rs ++ behind → AreRows limit rs end rest → not (is_long s) ≡ has_short_root rs
 some_short n s others behind [] limit end rest some count pieces valid = absurd (omega (arith, some, count))
 some_short n s others behind (r ∷ rs) limit end rest some count pieces valid =
-    ap (λ (x : Slices). not (is_long x)) (slices_same pieces) ∙ ap not (long_is r limit _ valid.0)
+    ap (λ (x : Slices). not (is_long x)) (head-eq_of_cons-eq pieces) ∙ ap not (long_is r limit _ valid.0)
 
 pub short_some : (n : ℕ) (ss : List Slices) (t : List ℕ) (s : Slices) (others : List Slices) → ss ≡ s ∷ others → 0 < n → (h : HasRows n ss t) → not (is_long s) ≡ has_short_root h.rows
 short_some n ss t s others e some h = some_short n s others h.others h.rows h.limit h.end h.rest some h.count (sym e ∙ h.pieces) h.valid

@@ -1,6 +1,6 @@
 -- The head of a row is that of its content.
 use Rattle.std.proofs.Common.{◌≡◌, ℕ, ℤ, ◌-◌, ◌≤◌, arith, Bool, true, false, cond, not, eqb, List, [], ◌∷◌, ◌++◌, length, drop, Option, Some, None, refl, sym, ap, ◌∙◌, ⊎_elim, append-nil, length-append, subst}
-use Rattle.std.proofs.lemmas.Bool.{false≢true, cond_both}
+use Rattle.std.proofs.lemmas.Bool.{false≢true, cond_both, and_parts, cases_Bool}
 use Rattle.std.proofs.lemmas.List.{drop_at}
 use Rattle.std.proofs.lemmas.Str.{IsCharBoundary-at_seam}
 use Rattle.std.specs.Str.{IsUtf8, IsCharBoundary}
@@ -15,7 +15,6 @@ use Rattle.yq_scalar.specs.Plain.{holds_break}
 use Rattle.yq_scalar.specs.Scalar.{plain_of}
 use Rattle.yq_scalar.specs.Text.{is_empty}
 use Rattle.yq_scalar.proofs.BlockLaws.{block_again}
-use Rattle.yq_scalar.proofs.Bools.{is_true, and_true}
 use Rattle.yq_inline.specs.Inline.{depth_limit, IsInlineAt}
 use Rattle.yq_inline.specs.Nodes.{Node, empty, alias, scalar, coll, anchored, node_text, items_text, is_bare, takes_anchor, IsNode}
 use Rattle.yq_inline.specs.Places.{placed, mapping, sequence, Parts, holder, locate, locate_items}
@@ -94,8 +93,8 @@ by_nothing whole n t = refl
 short_is : (p : List ℕ) → is_short_plain p ≡ true → scalar_of p ≡ plain_of p
 unfolding scalar_of
 short_is p h =
-    let quoted : is_quoted p ≡ false = ⊎_elim {0, 0, 0} (λ e. absurd (false≢true (let no : is_short_plain p ≡ false = rw e refl in sym no ∙ h))) (λ e. e) (is_true (is_quoted p)) in
-    let broken : holds_break p ≡ false = ⊎_elim {0, 0, 0} (λ e. absurd (false≢true (sym (ap not e) ∙ (and_true _ (not (holds_break p)) h).1))) (λ e. e) (is_true (holds_break p)) in
+    let quoted : is_quoted p ≡ false = ⊎_elim {0, 0, 0} (λ e. absurd (false≢true (let no : is_short_plain p ≡ false = rw e refl in sym no ∙ h))) (λ e. e) (cases_Bool (is_quoted p)) in
+    let broken : holds_break p ≡ false = ⊎_elim {0, 0, 0} (λ e. absurd (false≢true (sym (ap not e) ∙ (and_parts _ (not (holds_break p)) h).1))) (λ e. e) (cases_Bool (holds_break p)) in
     rw quoted (ap plain_of (one_line p broken))
 
 pub scalar_some_is : (n : ℤ) (p rest : List ℕ) → IsScalar false (Some (deeper n)) p rest → (is_empty p ≡ false) × (begins_block p ≡ false)
@@ -113,7 +112,7 @@ scalar_is whole n p rest ends h =
     ⊎_elim {0, 0, 0}
     (λ e. by_plain whole n p (node_text (scalar p) rest) s.0 s.1 e ∙ ap (λ x. Some (Some (scalar_node x))) (sym (short_is p e)))
     (λ e. by_node whole n p (node_text (scalar p) rest) s.0 s.1 e ∙ node_again whole n (scalar p) rest refl refl ends h)
-    (is_true (is_short_plain p))
+    (cases_Bool (is_short_plain p))
 
 -- the head of a node without an anchor
 abbrev pub Opens : ℕ → Type 0

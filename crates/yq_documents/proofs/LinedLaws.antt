@@ -1,10 +1,11 @@
 -- The lead and the lines of a part.
 use Rattle.std.proofs.Common.{◌≡◌, ℕ, ◌+◌, ◌-◌, ◌<◌, ◌≤◌, Bool, true, false, ◌&&◌, List, [], ◌∷◌, ◌++◌, length, map, Option, Some, None, refl, sym, ap, ◌∙◌, subst, arith}
-use Rattle.std.proofs.lemmas.Bool.{and_from, cond-true, cond-false}
+use Rattle.std.proofs.lemmas.Bool.{and_from, cond-true, cond-false, and_right}
+use Rattle.std.proofs.lemmas.Option.{cond_some}
+use mathlib.Core.List.{head-eq_of_cons-eq}
 use Rattle.yq_scalar.specs.declared.fault.ReadError.{ReadError}
 use Rattle.yq_scalar.specs.declared.fault.ReadError.TheVariants as errors
 use Rattle.yq_scalar.specs.Answers.{Fails}
-use Rattle.yq_scalar.proofs.Bools.{guard_some}
 use Rattle.yq_inline.specs.Places.{Placed}
 use Rattle.yq_lines.specs.Comments.{head_comment}
 use Rattle.yq_rows.specs.Grammar.{unlimited}
@@ -38,12 +39,9 @@ pub in_order : (n : ℕ) (ss : List Slices) (b : Bound) (t : List ℕ) → HasPa
 in_order n ss b t h = omega (arith, h.count)
 
 -- the gap before the first row
-slices_same : {x y : Slices} {xs ys : List Slices} → x ∷ xs ≡ y ∷ ys → x ≡ y
-slices_same h = cc
-
 some_gap : (n k : ℕ) (s : Slices) (others behind : List Slices) (rows : List Row) (end : List ℕ) → n < k → k ≡ n + length rows → s ∷ others ≡ map slices rows ++ behind → s.gap ≡ first_gap rows end
 some_gap n k s others behind [] end some count pieces = absurd (omega (arith, some, count))
-some_gap n k s others behind (r ∷ rs) end some count pieces = ap (λ (x : Slices). x.gap) (slices_same pieces)
+some_gap n k s others behind (r ∷ rs) end some count pieces = ap (λ (x : Slices). x.gap) (head-eq_of_cons-eq pieces)
 
 pub lead_some : (n : ℕ) (ss : List Slices) (b : Bound) (t : List ℕ) (s : Slices) (others : List Slices) → ss ≡ s ∷ others → n < b.rows → (h : HasPart n ss b t) → head_comment s.gap ≡ lead_of h.part
 lead_some n ss b t s others e some h = ap head_comment (some_gap n b.rows s others h.others h.part.rows h.part.end some h.count (sym e ∙ h.pieces))
@@ -68,13 +66,9 @@ unfolding has_rows
 rows_fail n ss b t h e f = rows_stop n ss b t h e (f (has_rows n ss b t h))
 
 -- or where the root is long
-and_false : (a b : Bool) → b ≡ false → (a && b) ≡ false
-and_false true b h = h
-and_false false b h = refl
-
 pub long_root : (n : ℕ) (ss : List Slices) (b : Bound) (t : List ℕ) (h : HasPart n ss b t) (short : Bool) → ((g : HasRows (b.rows - n) ss t) → short ≡ has_short_root g.rows) → short ≡ false → lined_made h.part h.behind ≡ None
 unfolding has_rows
-long_root n ss b t h short told is = cond-false _ _ _ (and_false (have_fit_keys h.part.rows) (has_short_root h.part.rows) (sym (told (has_rows n ss b t h)) ∙ is))
+long_root n ss b t h short told is = cond-false _ _ _ (and_right (have_fit_keys h.part.rows) (has_short_root h.part.rows) (sym (told (has_rows n ss b t h)) ∙ is))
 
 -- the lines that were made, and what stands behind them
 abbrev LinedBy : Part → List Line → List ℕ → List ℕ → Type 0
@@ -83,7 +77,7 @@ LinedBy p lines rest behind = (have_fit_keys p.rows ≡ true) × (lines_of p.row
 pub lined_by : (n : ℕ) (ss : List Slices) (b : Bound) (t : List ℕ) (h : HasPart n ss b t) (lines : List Line) (rest : List ℕ) → ((g : HasRows (b.rows - n) ss t) → part_made g.rows (g.end ++ g.rest) ≡ Some (lines, rest)) → LinedBy h.part lines rest (b.end ++ (b.marker ++ h.behind))
 unfolding has_rows
 lined_by n ss b t h lines rest made =
-    let g = guard_some (have_fit_keys h.part.rows) (made (has_rows n ss b t h)) in
+    let g = cond_some (have_fit_keys h.part.rows) _ _ (made (has_rows n ss b t h)) in
     (g.0, ap (λ (x : List Line × List ℕ). x.0) g.1, sym (ap (λ (x : List Line × List ℕ). x.1) g.1) ∙ ap (λ e. e ++ (b.marker ++ h.behind)) (sym h.end))
 
 -- the part is made

@@ -1,6 +1,6 @@
 -- The aliases and flow collections in the heads of the lines of parts, row by row and part by part.
 use Rattle.std.proofs.Common.{◌≡◌, ℕ, ◌-◌, ◌<◌, ◌≤◌, Bool, true, false, ◌||◌, not, List, [], ◌∷◌, ◌++◌, length, drop, Option, Some, refl, sym, ap, ◌∙◌, subst, arith, append_assoc, append-nil}
-use Rattle.yq_scalar.proofs.Bools.{guard_some}
+use Rattle.std.proofs.lemmas.Option.{cond_some}
 use Rattle.yq_inline.specs.Places.{Placed}
 use Rattle.yq_rows.specs.Grammar.{begins_document, IsCut}
 use Rattle.yq_rows.specs.Rows.{Row, Cut, last, marked}
@@ -32,7 +32,7 @@ flows_step_here : (total : ℕ) (all : Flows) (n m : ℕ) (t u : List ℕ) (line
     LeftFlows total all n (s ∷ others) t so_far → LeftFlows total all m others u new
 flows_step_here total all n m t u lines more so_far new s others some one made put l =
     let f = first n s others t l.rows some in
-    let rest_is : f.row.rest ≡ u = ap (λ (x : List Line × List ℕ). x.1) (guard_some (row_fits f.row.row) (made f.row)).1 in
+    let rest_is : f.row.rest ≡ u = ap (λ (x : List Line × List ℕ). x.1) (cond_some (row_fits f.row.row) _ _ (made f.row)).1 in
     let left = rows_flows total f.more.rows (f.more.end ++ f.more.rest) in
     let all_are : new ++ left ≡ all =
     ap (λ fs. fs ++ left) (put f.row)
@@ -78,7 +78,7 @@ part_flows_step_here : (total : ℕ) (all : List Flows) (n : ℕ) (ss : List Sli
     LeftPartFlows total all n ss (b ∷ bs) t so_far is → LeftPartFlows total all b.rows (drop (b.rows - n) ss) bs u new (begins_document b.marker)
 part_flows_step_here total all n ss b bs t u so_far new is x fs pushed made put l =
     let f = first_part n ss b bs t l.parts in
-    let rest_is : f.part.behind ≡ u = ap (λ (y : Lined × List ℕ). y.1) (guard_some (part_fits f.part.part) (made f.part)).1 in
+    let rest_is : f.part.behind ≡ u = ap (λ (y : Lined × List ℕ). y.1) (cond_some (part_fits f.part.part) _ _ (made f.part)).1 in
     let left = parts_flows total (begins_document b.marker) f.more.parts in
     let first_are : with_flows is fs [] ++ left ≡ parts_flows total is l.parts.parts = sym (with_flows_before is fs left) ∙ (ap (λ y. with_flows is y left) (put f.part) ∙ sym (f.flows total is)) in
     let all_are : new ++ left ≡ all = ap (λ y. y ++ left) pushed ∙ (append_assoc so_far (with_flows is fs []) left ∙ (ap (λ y. so_far ++ y) first_are ∙ l.flows_are)) in

@@ -3,11 +3,11 @@ use Rattle.std.proofs.Common.{◌≡◌, ℕ, ◌+◌, ◌-◌, ◌<◌, Bool, t
 use Rattle.std.proofs.lemmas.List.{length-drop, length-map, drop_more}
 use Rattle.std.proofs.lemmas.Bool.{cond-false}
 use Rattle.std.specs.List.{slice_get}
-use Rattle.std.proofs.lemmas.Option.{slice_get_within, get_or_from_slice_get}
+use Rattle.std.proofs.lemmas.Option.{slice_get_within, get_or_from_slice_get, cond_some}
+use mathlib.Core.List.{head-eq_of_cons-eq, tail-eq_of_cons-eq}
 use Rattle.yq_scalar.specs.declared.fault.ReadError.{ReadError}
 use Rattle.yq_scalar.specs.declared.fault.ReadError.TheVariants as errors
 use Rattle.yq_scalar.specs.Answers.{Fails}
-use Rattle.yq_scalar.proofs.Bools.{guard_some}
 use Rattle.yq_rows.specs.Grammar.{Limit, limit_after, AreRows}
 use Rattle.yq_rows.specs.Rows.{Row, rows_text}
 use Rattle.yq_rows.specs.View.{Slices, slices}
@@ -36,18 +36,12 @@ and_assoc : (a b c : Bool) → (a && (b && c)) ≡ ((a && b) && c)
 and_assoc true b c = refl
 and_assoc false b c = refl
 
-head_same : {X : Type 0} {x y : X} {xs ys : List X} → x ∷ xs ≡ y ∷ ys → x ≡ y
-head_same h = cc
-
-tail_same : {X : Type 0} {x y : X} {xs ys : List X} → x ∷ xs ≡ y ∷ ys → xs ≡ ys
-tail_same h = cc
-
 first_of : (n : ℕ) (s : Slices) (others : List Slices) (t : List ℕ) (rows : List Row) (behind : List Slices) (limit : Limit) (end rest : List ℕ) (count : n ≡ length rows) (pieces : s ∷ others ≡ map slices rows ++ behind) (text : t ≡ rows_text rows (end ++ rest)) (valid : AreRows limit rows end rest) → 0 < n →
     First n (s ∷ others) t s others (record { rows = rows; others = behind; limit = limit; end = end; rest = rest; count = count; pieces = pieces; text = text; valid = valid })
 first_of n s others t [] behind limit end rest count pieces text valid some = absurd (omega (arith, count, some))
 first_of n s others t (r ∷ rs) behind limit end rest count pieces text valid some = record {
-  row = record { row = r; limit = limit; rest = rows_text rs (end ++ rest); pieces = head_same pieces; text = text; valid = valid.0 };
-  more = record { rows = rs; others = behind; limit = limit_after r; end = end; rest = rest; count = omega (arith, count); pieces = tail_same pieces; text = refl; valid = valid.1 };
+  row = record { row = r; limit = limit; rest = rows_text rs (end ++ rest); pieces = head-eq_of_cons-eq pieces; text = text; valid = valid.0 };
+  more = record { rows = rs; others = behind; limit = limit_after r; end = end; rest = rest; count = omega (arith, count); pieces = tail-eq_of_cons-eq pieces; text = refl; valid = valid.1 };
   lines = refl;
   behind = refl;
   fit = and_assoc (mark_is_fit r.mark) (content_is_fit r.content) (have_fit_keys rs);
@@ -81,7 +75,7 @@ left_row all behind fit n ss t lines s others e some l = (first n s others t (so
 left_step_here : (all : List Line) (behind : List ℕ) (fit : Bool) (n m : ℕ) (t u : List ℕ) (lines more : List Line) (s : Slices) (others : List Slices) → 0 < n → m ≡ n - 1 → ((h : HasRow s t) → row_made lines h.row h.rest ≡ Some (more, u)) → Left all behind fit n (s ∷ others) t lines → Left all behind fit m others u more
 left_step_here all behind fit n m t u lines more s others some one made l =
     let f = first n s others t l.rows some in
-    let made_here = guard_some (row_fits f.row.row) (made f.row) in
+    let made_here = cond_some (row_fits f.row.row) _ _ (made f.row) in
     let lines_are : lines ++ row_lines f.row.row ≡ more = ap (λ (x : List Line × List ℕ). x.0) made_here.1 in
     let rest_is : f.row.rest ≡ u = ap (λ (x : List Line × List ℕ). x.1) made_here.1 in
     let all_are : (lines ++ row_lines f.row.row) ++ lines_of f.more.rows ≡ all = append_assoc lines (row_lines f.row.row) (lines_of f.more.rows) ∙ (ap (λ ls. lines ++ ls) (sym f.lines) ∙ l.lines_are) in

@@ -3,10 +3,11 @@ use Rattle.std.proofs.Common.{◌≡◌, ℕ, suc, ◌+◌, ◌-◌, ◌≤◌, 
 use Rattle.std.proofs.lemmas.Bool.{cond-false, false_from_ne_true, false≢true}
 use Rattle.std.specs.List.{slice_get}
 use Rattle.std.proofs.lemmas.List.{length-map, map-append, drop_at}
+use Rattle.std.proofs.lemmas.Option.{cond_some}
+use mathlib.Core.List.{cons≢nil, head-eq_of_cons-eq, tail-eq_of_cons-eq}
 use Rattle.yq_scalar.specs.declared.fault.ReadError.{ReadError}
 use Rattle.yq_scalar.specs.declared.fault.ReadError.TheVariants as errors
 use Rattle.yq_scalar.specs.Answers.{Fails}
-use Rattle.yq_scalar.proofs.Bools.{guard_some}
 use Rattle.yq_rows.specs.Grammar.{unlimited, AreRows, AreParts, IsCut, begins_document, no_rows}
 use Rattle.yq_rows.specs.Rows.{Row, Part, part_text, Cut, last, marked, cut_text}
 use Rattle.yq_rows.specs.View.{Slices, slices, Bound, rows_of, bounds_from, bounds_of, Shown, shown}
@@ -25,15 +26,6 @@ pub record FirstPart (n : ℕ) (ss : List Slices) (b : Bound) (bs : List Bound) 
   pub fit : marked_fit parts ≡ (part_fits part.part && marked_fit more.parts)
   pub flows : (total : ℕ) (is : Bool) → parts_flows total is parts ≡ with_flows is (part_flows total part.part (b.marker ++ part.behind)) (parts_flows total (begins_document b.marker) more.parts)
 
-bound_same : {x y : Bound} {xs ys : List Bound} → x ∷ xs ≡ y ∷ ys → x ≡ y
-bound_same h = cc
-
-bounds_same : {x y : Bound} {xs ys : List Bound} → x ∷ xs ≡ y ∷ ys → xs ≡ ys
-bounds_same h = cc
-
-no_bound : {x : Bound} {xs : List Bound} → x ∷ xs ≡ [] → ⊥
-no_bound h = cc
-
 rows_behind : (n : ℕ) (ss : List Slices) (rows others : List Row) → ss ≡ map slices (rows ++ others) → drop (n + length rows - n) ss ≡ map slices others
 rows_behind n ss rows others e =
     let k : n + length rows - n ≡ length rows = omega arith in
@@ -50,10 +42,10 @@ first_here n ss t p marker ps pieces text valid rest = record {
 }
 
 first_of : (n : ℕ) (ss : List Slices) (b : Bound) (bs : List Bound) (t : List ℕ) (parts : List Marked) → ss ≡ map slices (parts_rows parts) → b ∷ bs ≡ parts_bounds n parts → t ≡ parts_text parts → AllParts parts → FirstPart n ss b bs t parts
-first_of n ss b bs t [] pieces bounds text valid = absurd (no_bound bounds)
+first_of n ss b bs t [] pieces bounds text valid = absurd (cons≢nil bounds)
 first_of n ss b bs t (p ∷ ps) pieces bounds text valid =
-    subst (λ (x : Bound). FirstPart n ss x bs t (p ∷ ps)) (sym (bound_same bounds))
-    (subst (λ (xs : List Bound). FirstPart n ss (record { rows = n + length p.0.rows; end = p.0.end; marker = p.1 }) xs t (p ∷ ps)) (sym (bounds_same bounds))
+    subst (λ (x : Bound). FirstPart n ss x bs t (p ∷ ps)) (sym (head-eq_of_cons-eq bounds))
+    (subst (λ (xs : List Bound). FirstPart n ss (record { rows = n + length p.0.rows; end = p.0.end; marker = p.1 }) xs t (p ∷ ps)) (sym (tail-eq_of_cons-eq bounds))
     (first_here n ss t p.0 p.1 ps pieces text valid.0 valid.1))
 
 pub first_part : (n : ℕ) (ss : List Slices) (b : Bound) (bs : List Bound) (t : List ℕ) (g : HasParts n ss (b ∷ bs) t) → FirstPart n ss b bs t g.parts
@@ -83,7 +75,7 @@ parts_step_here : (all : List Lined) (fit : Bool) (n : ℕ) (ss : List Slices) (
     LeftParts all fit b.rows (drop (b.rows - n) ss) bs u (docs ++ if_document is x) (begins_document b.marker)
 parts_step_here all fit n ss b bs t u docs is x made l =
     let f = first_part n ss b bs t l.parts in
-    let made_here = guard_some (part_fits f.part.part) (made f.part) in
+    let made_here = cond_some (part_fits f.part.part) _ _ (made f.part) in
     let lined_is : lined f.part.part ≡ x = ap (λ (y : Lined × List ℕ). y.0) made_here.1 in
     let rest_is : f.part.behind ≡ u = ap (λ (y : Lined × List ℕ). y.1) made_here.1 in
     let more = all_lined (chosen_parts (begins_document b.marker) f.more.parts) in
@@ -112,7 +104,7 @@ made_if fit all = cond fit (Some all) None
 
 none_left : (all : List Lined) (fit : Bool) (n : ℕ) (docs : List Lined) (is : Bool) (parts : List Marked) → [] ≡ parts_bounds n parts → docs ++ all_lined (chosen_parts is parts) ≡ all → marked_fit parts ≡ fit → made_if fit all ≡ Some docs
 none_left all fit n docs is [] bounds e f = ap (λ b. made_if b all) (sym f) ∙ ap Some (sym e ∙ append-nil docs)
-none_left all fit n docs is (p ∷ ps) bounds e f = absurd (no_bound (sym bounds))
+none_left all fit n docs is (p ∷ ps) bounds e f = absurd (cons≢nil (sym bounds))
 
 left_done : (all : List Lined) (fit : Bool) (n : ℕ) (ss : List Slices) (bs : List Bound) (t : List ℕ) (docs : List Lined) (is : Bool) → bs ≡ [] → LeftParts all fit n ss bs t docs is → made_if fit all ≡ Some docs
 left_done all fit n ss bs t docs is e l = none_left all fit n docs is l.parts.parts (sym e ∙ l.parts.bounds) l.docs_are l.fit_is

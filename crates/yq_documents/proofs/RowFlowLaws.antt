@@ -1,13 +1,12 @@
 -- The alias or flow collection in a row's head stands where its pieces say.
 use Rattle.std.proofs.Common.{◌≡◌, ℕ, zero, suc, ℤ, ◌+◌, ◌-◌, true, false, not, List, [], ◌∷◌, ◌++◌, length, replicate, Option, Some, None, refl, sym, ap, ◌∙◌, ⊎_elim, append-nil, append_assoc, arith, length-append, subst}
-use Rattle.std.proofs.lemmas.Bool.{false≢true}
+use Rattle.std.proofs.lemmas.Bool.{false≢true, cases_Bool}
 use Rattle.std.proofs.lemmas.List.{length-replicate, map-append}
 use Rattle.yq_scalar.specs.Answers.{◌>>=◌}
 use Rattle.yq_scalar.specs.declared.style.Place.TheVariants as places
 use Rattle.yq_scalar.specs.Block.{mark_of}
 use Rattle.yq_scalar.specs.Piece.{deeper}
 use Rattle.yq_scalar.specs.Text.{is_empty}
-use Rattle.yq_scalar.proofs.Bools.{is_true}
 use Rattle.yq_inline.specs.Inline.{depth_limit, IsInlineAt}
 use Rattle.yq_inline.specs.Nodes.{Node, empty, alias, scalar, coll, anchored, node_text, items_text, is_bare, IsNode}
 use Rattle.yq_inline.specs.Places.{Placed, locate}
@@ -76,7 +75,7 @@ scalar_is whole n p rest ends h =
     ⊎_elim {0, 0, 0}
     (λ e. by_plain whole n p (node_text (scalar p) rest) s.0 s.1 e ∙ scalar_none (length whole) p rest)
     (λ e. by_node whole n p (node_text (scalar p) rest) s.0 s.1 e ∙ node_again whole n (scalar p) rest refl ends h)
-    (is_true (is_short_plain p))
+    (cases_Bool (is_short_plain p))
 
 -- a node without an anchor
 unnamed_is : (whole : List ℕ) (n : ℤ) (node : Node) (rest : List ℕ) → is_anchored node ≡ false → EndsIn whole (node_text node rest) → IsNode false (Some (deeper n)) depth_limit node rest →

@@ -2,7 +2,8 @@
 use Rattle.std.proofs.Common.{◌≡◌, ◌≤◌, inl, inr, ℕ, zero, suc, ◌+◌, Bool, true, false, ◌&&◌, cond, not, eqb, codes, List, [], ◌∷◌, ◌++◌, Option, Some, None, refl, sym, ap, ◌∙◌, subst, replicate, append_assoc, arith, length, length-append}
 use Rattle.std.proofs.lemmas.List.{length-replicate}
 use Rattle.std.specs.Str.{bytes_eq}
-use Rattle.std.proofs.lemmas.Bool.{false≢true, and_from, cond-true, cond-false}
+use Rattle.std.proofs.lemmas.Bool.{false≢true, and_from, cond-true, cond-false, and_right}
+use Rattle.std.proofs.lemmas.Option.{cond_some}
 use Rattle.yq_scalar.specs.declared.fault.ReadError.{ReadError}
 use Rattle.yq_scalar.specs.declared.fault.ReadError.TheVariants as errors
 use Rattle.yq_scalar.specs.Answers.{◌>>=◌, Fails}
@@ -12,7 +13,6 @@ use Rattle.yq_scalar.specs.Text.{is_empty, lines_of}
 use Rattle.yq_scalar.specs.Tree as trees
 use Rattle.yq_inline.specs.Nodes.{empty, alias, scalar, coll, anchored}
 use Rattle.yq_inline.specs.Scalars.{IsScalar, is_quoted, content_of}
-use Rattle.yq_scalar.proofs.Bools.{guard_some}
 use Rattle.yq_inline.proofs.PieceLaws.{front_not}
 use Rattle.yq_lines.specs.Comments as comments
 use Rattle.yq_rows.specs.Grammar.{IsMark, AreDashes, Limit, IsRow}
@@ -142,7 +142,7 @@ of_row : (whole : List ℕ) (r : Row) (limit : Limit) (rest : List ℕ) (lines :
 of_row whole r limit rest lines b x line h key ends begun here read =
     let done = ap (finish r.mark r.content) begun ∙ dashes_are r.dashes r.mark r.content lines r.gap r.column h.dashes in
     let last : b.last ≡ last_dash r.mark = ap (λ (y : List Line × List ℕ). y.1) done in
-    let with = guard_some (content_is_fit r.content) (sym (line_there whole r limit rest b x ends h here) ∙ read) in
+    let with = cond_some (content_is_fit r.content) _ _ (sym (line_there whole r limit rest b x ends h here) ∙ read) in
     let same : b.lines ++ line ∷ [] ≡ lines ++ row_lines r =
     ap (λ l. b.lines ++ l ∷ []) (sym with.1 ∙ line_is r b r.content rest refl h.mark last) ∙ ap (λ (y : List Line × List ℕ). y.0) done in
     let fits : row_fits r ≡ true = and_from (mark_is_fit r.mark) (content_is_fit r.content) (sym (key_fit r.mark) ∙ key) with.0 in
@@ -159,12 +159,8 @@ pub not_fit : {A : Type 0} (b : Bool) (x : A) → cond b (Some x) None ≡ None 
 not_fit true x h = cc
 not_fit false x h = refl
 
-and_false : (a b : Bool) → b ≡ false → (a && b) ≡ false
-and_false true b h = h
-and_false false b h = refl
-
 unfit_head : (lines : List Line) (r : Row) (rest : List ℕ) → content_is_fit r.content ≡ false → row_made lines r rest ≡ None
-unfit_head lines r rest e = cond-false _ _ _ (and_false (mark_is_fit r.mark) (content_is_fit r.content) e)
+unfit_head lines r rest e = cond-false _ _ _ (and_right (mark_is_fit r.mark) (content_is_fit r.content) e)
 
 unfit_key : (lines : List Line) (r : Row) (rest : List ℕ) → key_fits (slices r) ≡ false → row_made lines r rest ≡ None
 unfit_key lines r rest e = cond-false _ _ _ (ap (λ b. b && content_is_fit r.content) (sym (key_fit r.mark) ∙ e))

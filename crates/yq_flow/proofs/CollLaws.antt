@@ -1,6 +1,7 @@
 -- The collection of a node, exchanged for another one.
 use Rattle.std.proofs.Common.{◌≡◌, inl, inr, ℕ, zero, suc, ◌+◌, Bool, true, false, not, eqb, cond, List, [], ◌∷◌, ◌++◌, Option, Some, None, refl, sym, ap, ◌∙◌, subst, arith, append_assoc}
 use Rattle.std.proofs.lemmas.Bool.{false≢true, cond_both}
+use Rattle.std.proofs.lemmas.Option.{same_Some}
 use Rattle.yq_scalar.specs.Paths.{within}
 use Rattle.yq_scalar.specs.Text.{is_empty, is_white}
 use Rattle.yq_inline.specs.Alike.{is_stop, Alike, stop}
@@ -9,7 +10,6 @@ use Rattle.yq_inline.specs.Nodes.{Node, empty, alias, scalar, coll, anchored, It
 use Rattle.yq_inline.specs.Collections.{CollPieces, coll_text, coll_in, put_coll}
 use Rattle.yq_inline.specs.Trees.{collection, with_name, tree_of, items_tree}
 use Rattle.yq_inline.proofs.AlikePieces.{gap_alike, none_unless, name_by}
-use Rattle.yq_inline.proofs.Binds.{some_same}
 use Rattle.yq_scalar.specs.Tree as tree
 
 pub open_stop : (k : ℕ) → is_stop (open_of k) ≡ true
@@ -64,7 +64,7 @@ coll_stands flow spaces d empty rest c x h = cc
 coll_stands flow spaces d (alias n) rest c x h = cc
 coll_stands flow spaces d (scalar p) rest c x h = cc
 coll_stands flow spaces zero (coll k g is) rest c x h = absurd x.2
-coll_stands flow spaces (suc d) (coll k g is) rest c x h = subst (λ (c : CollPieces). Stands flow spaces (suc d) (coll k g is) rest c 0 (λ g2 is2. coll k g2 is2) within) (some_same h) (record {
+coll_stands flow spaces (suc d) (coll k g is) rest c x h = subst (λ (c : CollPieces). Stands flow spaces (suc d) (coll k g is) rest c 0 (λ g2 is2. coll k g2 is2) within) (same_Some _ _ h) (record {
   inner_depth = d;
   depths = omega arith;
   closes = x.0;
@@ -84,7 +84,7 @@ coll_stands flow spaces d (anchored n g (alias m)) rest c x h = cc
 coll_stands flow spaces d (anchored n g (scalar p)) rest c x h = cc
 coll_stands flow spaces d (anchored n g (anchored m q node)) rest c x h = absurd (false≢true x.3)
 coll_stands flow spaces zero (anchored n g (coll k q is)) rest c x h = absurd x.4.2
-coll_stands flow spaces (suc d) (anchored n g (coll k q is)) rest c x h = subst (λ (c : CollPieces). Stands flow spaces (suc d) (anchored n g (coll k q is)) rest c 0 (λ g2 is2. anchored n g (coll k g2 is2)) within) (some_same h) (record {
+coll_stands flow spaces (suc d) (anchored n g (coll k q is)) rest c x h = subst (λ (c : CollPieces). Stands flow spaces (suc d) (anchored n g (coll k q is)) rest c 0 (λ g2 is2. anchored n g (coll k g2 is2)) within) (same_Some _ _ h) (record {
   inner_depth = d;
   depths = omega arith;
   closes = x.4.0;

@@ -1,5 +1,6 @@
 -- A collection inside a node, exchanged for another one.
 use Rattle.std.proofs.Common.{◌≡◌, ℕ, Bool, true, false, List, [], ◌∷◌, ◌++◌, length, Option, Some, refl, sym, ap, ◌∙◌, subst, arith, append_assoc}
+use Rattle.std.proofs.lemmas.Option.{same_Some}
 use Rattle.yq_scalar.specs.Paths.{Step, change_child, within, change}
 use Rattle.yq_inline.specs.Alike.{Alike}
 use Rattle.yq_inline.specs.Gaps.{IsGap}
@@ -8,7 +9,6 @@ use Rattle.yq_inline.specs.Entries.{EntryPieces, item_at, inside}
 use Rattle.yq_inline.specs.Collections.{CollPieces, coll_text, coll_in, coll_along, put_coll, within_items, change_item, put_at}
 use Rattle.yq_inline.specs.Trees.{tree_of}
 use Rattle.yq_inline.proofs.AlikePieces.{gap_alike}
-use Rattle.yq_inline.proofs.Binds.{some_same}
 use Rattle.yq_inline.proofs.PathLaws.{then_some, items_hold}
 use Rattle.yq_flow.proofs.ItemSwaps.{items_change, in_items, Swapped, InItems, items_swap}
 use Rattle.yq_flow.proofs.CollLaws.{coll_stands, Stands}
@@ -25,7 +25,7 @@ within_put : (f : Items → Items) (node : Node) (rest : List ℕ) (c : CollPiec
 within_put f empty rest c h = cc
 within_put f (alias n) rest c h = cc
 within_put f (scalar p) rest c h = cc
-within_put f (coll k g is) rest c h = ap (λ (z : CollPieces). coll k z.gap (f z.items)) (some_same h)
+within_put f (coll k g is) rest c h = ap (λ (z : CollPieces). coll k z.gap (f z.items)) (same_Some _ _ h)
 within_put f (anchored n g node) rest c h = ap (anchored n g) (within_put f node rest c h)
 
 regroup : (a b c d x : List ℕ) → a ++ (b ++ (c ++ (d ++ x))) ≡ ((a ++ b) ++ (c ++ d)) ++ x

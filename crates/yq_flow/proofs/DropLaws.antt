@@ -1,10 +1,9 @@
 -- An item taken out.
 use Rattle.std.proofs.Common.{◌≡◌, ℕ, Bool, true, false, not, ◌&&◌, cond, List, [], ◌∷◌, ◌++◌, Some, refl, sym, ap, ◌∙◌, subst, append_assoc, append-nil}
-use Rattle.std.proofs.lemmas.Bool.{false≢true}
+use Rattle.std.proofs.lemmas.Bool.{false≢true, and_parts, not-true}
 use Rattle.yq_scalar.specs.Paths.{Step, is_here, further, remove_child}
 use Rattle.yq_scalar.specs.PlainText.{begins_marker}
 use Rattle.yq_scalar.specs.Text.{is_marker}
-use Rattle.yq_scalar.proofs.Bools.{and_true}
 use Rattle.yq_inline.specs.declared.gap.Before.{Before}
 use Rattle.yq_inline.specs.declared.gap.Before.TheVariants.{Token, White, Break, Comment}
 use Rattle.yq_inline.specs.Alike.{stop, fresh}
@@ -55,7 +54,7 @@ gap_moves g x y bx by h = go (fresh false g && begins_marker y) refl where
     unmarked true q = marker_begins y q
     unmarked false q = refl
   go true e =
-      let line : behind Token g ≡ Break = break_is (behind Token g) (at ∙ (and_true (fresh false g) (begins_marker y) e).0) in
+      let line : behind Token g ≡ Break = break_is (behind Token g) (at ∙ (and_parts (fresh false g) (begins_marker y) e).0) in
       let last_ : behind Token (g ++ (32 ∷ [])) ≡ White = behind_append Token g 32 ∙ ap (λ s. next s 32) line in
       record {
         inside = go_append Token g 32 y (go_front Token g x (32 ∷ y) (node_no_feed x bx) h.inside) (rw line refl);
@@ -115,10 +114,6 @@ next_some : (s : Step) (is : Items) → has_next s is ≡ true → is_none is �
 next_some s none h = absurd (false≢true h)
 next_some s (item key n sep is) h = refl
 
-not_none : (b : Bool) → not b ≡ true → b ≡ false
-not_none false h = refl
-not_none true h = absurd (false≢true h)
-
 -- an item that others follow
 pub drop_left : (d k : ℕ) (s : Step) (g : List ℕ) (is : Items) (rest : List ℕ) → is_close k ≡ true → has_next s is ≡ true → IsGap g (items_text k is rest) → AreItems d k is rest →
     Left d k g is (drop_item k rest s g is).0 (drop_item k rest s g is).1 rest (removed_text s is) (removed_for k rest s g is) (items_text k (items_behind s is) rest)
@@ -137,7 +132,7 @@ drop_left d k s g (item key n sep is) rest c more gap a = go (is_here s (inner (
       (cond b (key_text key (node_text n (sep_text sep []))) (removed_text (further s) is))
       (cond b (cond (fresh false g && begins_marker tail) (32 ∷ []) []) (removed_for k rest (further s) (gap_of sep) is))
       (items_text k (cond b is (items_behind (further s) is)) rest)
-  go true again e = drop_here d k g key n sep is rest (not_none (is_none is) e) gap a
+  go true again e = drop_here d k g key n sep is rest (not-true (is_none is) e) gap a
   go false again e = cons_left d k g key n sep is x.0 x.1 rest (removed_text (further s) is) (removed_for k rest (further s) (gap_of sep) is) (items_text k (items_behind (further s) is) rest) c (next_some (further s) is e) gap a (again e)
 
 pub drop_tree : (k : ℕ) (rest : List ℕ) (s : Step) (g : List ℕ) (is : Items) → items_tree (drop_item k rest s g is).1 ≡ remove_child s (items_tree is)

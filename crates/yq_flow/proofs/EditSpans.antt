@@ -1,6 +1,7 @@
 -- The bytes of an edit of a flow collection go from one whole character to another.
 use Rattle.std.proofs.Common.{◌≡◌, ℕ, zero, suc, ◌<◌, Bool, true, false, cond, eqb-true, List, [], ◌∷◌, length, drop, Option, Some, None, refl, subst, arith}
 use Rattle.std.proofs.lemmas.Bool.{false≢true}
+use Rattle.std.proofs.lemmas.Option.{none-some, same_Some}
 use Rattle.std.proofs.lemmas.Str.{IsCharBoundary-before_ascii}
 use Rattle.std.specs.Prelude.{get_or}
 use Rattle.std.specs.Str.{IsCharBoundary}
@@ -17,12 +18,6 @@ use Rattle.yq_inline.specs.Trees.{inner, unplaced_key}
 -- an edit begins and ends at whole characters
 abbrev pub EditIsSpan : List ℕ → PlacedEdit → Type 0
 EditIsSpan t e = IsCharBoundary t e.start × IsCharBoundary t e.end
-
-edit_same : {x y : PlacedEdit} → Some x ≡ Some y → x ≡ y
-edit_same e = cc
-
-no_edit : {x : PlacedEdit} → None ≡ Some x → ⊥
-no_edit e = cc
 
 -- another content
 pub replace_spans : (t : List ℕ) (p : Placed) → HasSpans t p → EditIsSpan t (replace_place p)
@@ -64,18 +59,12 @@ first_bound : (t : List ℕ) (ps : Parts) → PartsHaveSpans t ps → MayBound t
 first_bound t end h = tt
 first_bound t (part key n ps) h = entry_begins t key n h.0 h.1
 
-among_same : {x y : Among} → Some x ≡ Some y → x ≡ y
-among_same e = cc
-
-no_among : {x : Among} → None ≡ Some x → ⊥
-no_among e = cc
-
 among_spans : (t : List ℕ) (before : Option ℕ) (s : Step) (ps : Parts) (a : Among) → PartsHaveSpans t ps → MayBound t before → among before s ps ≡ Some a → AmongSpans t a
-among_spans t before s end a h b e = absurd (no_among e)
+among_spans t before s end a h b e = absurd (none-some _ e)
 among_spans t before s (part key n ps) a h b e = go (is_here s (inner (unplaced_key key))) (λ again. among_spans t (Some (end_of n)) (further s) ps a h.2 (node_ends t n h.1) again) e
   where
     go : (c : Bool) → (among (Some (end_of n)) (further s) ps ≡ Some a → AmongSpans t a) → cond c (Some (record { before = before; start = entry_start (key, n); end = end_of n; next = first_start ps })) (among (Some (end_of n)) (further s) ps) ≡ Some a → AmongSpans t a
-    go true again e = subst (AmongSpans t) (among_same e) (record { before = b; start = entry_begins t key n h.0 h.1; ends = node_ends t n h.1; next = first_bound t ps h.2 })
+    go true again e = subst (AmongSpans t) (same_Some _ _ e) (record { before = b; start = entry_begins t key n h.0 h.1; ends = node_ends t n h.1; next = first_bound t ps h.2 })
     go false again e = again e
 
 end_spans : (t : List ℕ) (from before e : ℕ) → IsCharBoundary t before → IsCharBoundary t e → EditIsSpan t (remove_end t from before e)
@@ -102,13 +91,13 @@ part_spans : (t : List ℕ) (sole : PlacedEdit) (s : Step) (ps : Parts) (e : Pla
 part_spans t sole s ps e w h is = go (among None s ps) refl (first_start ps) is
   where
     go : (o : Option Among) → among None s ps ≡ o → (f : Option ℕ) → remove_among t sole o f ≡ Some e → EditIsSpan t e
-    go None at f is = absurd (no_edit is)
-    go (Some a) at None is = absurd (no_edit is)
-    go (Some a) at (Some from) is = subst (EditIsSpan t) (edit_same is) (from_spans t sole from a w (among_spans t None s ps a h tt at))
+    go None at f is = absurd (none-some _ is)
+    go (Some a) at None is = absurd (none-some _ is)
+    go (Some a) at (Some from) is = subst (EditIsSpan t) (same_Some _ _ is) (from_spans t sole from a w (among_spans t None s ps a h tt at))
 
 pub remove_spans : (t : List ℕ) (s : Step) (p : Placed) (e : PlacedEdit) → HasSpans t p → remove_place t s p ≡ Some e → EditIsSpan t e
-remove_spans t s (placed a b c x nothing) e h is = absurd (no_edit is)
-remove_spans t s (placed a b c x (name n)) e h is = absurd (no_edit is)
-remove_spans t s (placed a b c x (text y piece)) e h is = absurd (no_edit is)
+remove_spans t s (placed a b c x nothing) e h is = absurd (none-some _ is)
+remove_spans t s (placed a b c x (name n)) e h is = absurd (none-some _ is)
+remove_spans t s (placed a b c x (text y piece)) e h is = absurd (none-some _ is)
 remove_spans t s (placed a b c x (sequence parts)) e h is = part_spans t (record { start = c; end = x; lead = 91 ∷ (93 ∷ []) }) s parts e (h.0.ends, h.1.ends) h.2 is
 remove_spans t s (placed a b c x (mapping parts)) e h is = part_spans t (record { start = c; end = x; lead = 123 ∷ (125 ∷ []) }) s parts e (h.0.ends, h.1.ends) h.2 is

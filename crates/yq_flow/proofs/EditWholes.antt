@@ -1,7 +1,8 @@
 -- Where an item or entry is taken out of a text, no CR stands before an LF.
-use Rattle.std.proofs.Common.{◌≡◌, ℕ, Bool, true, false, ◌&&◌, cond, eqb, List, [], ◌∷◌, ◌++◌, length, take, Some, None, refl, sym, ap, ◌∙◌, subst, arith, append_assoc, length-append}
-use Rattle.std.proofs.Math.Seq.{take-append_seam}
+use Rattle.std.proofs.Common.{◌≡◌, ℕ, Bool, true, false, ◌&&◌, cond, eqb, List, [], ◌∷◌, ◌++◌, Some, refl, sym, ap, ◌∙◌, subst, append_assoc}
 use Rattle.std.proofs.Math.Bool.{and-false}
+use Rattle.std.proofs.lemmas.List.{append_cancel_right}
+use Rattle.std.proofs.lemmas.Option.{none-some, same_Some}
 use Rattle.yq_scalar.specs.Characters.{pairs_returns}
 use Rattle.yq_scalar.specs.Paths.{Step, is_here, further}
 use Rattle.yq_scalar.specs.Text.{front, is_feed}
@@ -20,12 +21,6 @@ use Rattle.yq_flow.proofs.LocalLaws.{node_no_feed}
 use Rattle.yq_flow.proofs.PlacedAmong.{until_text}
 use Rattle.yq_flow.proofs.ReturnLaws.{Whole, pairs_behind, return_some, until_return, until_some, whole_by}
 
-entry_same : {x y : EntryPieces} → Some x ≡ Some y → x ≡ y
-entry_same e = cc
-
-no_entry : {x : EntryPieces} → None ≡ Some x → ⊥
-no_entry e = cc
-
 -- what doesn't begin with an LF may stand behind any text
 pub whole_front : (p t : List ℕ) → front is_feed t ≡ false → Whole p t
 whole_front p t h = ap (λ b. ends_return p && b) h ∙ and-false (ends_return p)
@@ -36,19 +31,13 @@ open_feed k t = elim (eqb k 125) as (λ c. is_feed (cond c 123 91) ≡ false) [ 
 -- an item or entry begins as a node or key
 entry_begins : (d k : ℕ) (s : Step) (is : Items) (rest : List ℕ) (y : EntryPieces) → AreItems d k is rest → item_at k s is rest ≡ Some y → begins_node true (pieces_text y) ≡ true
 unfolding items_text AreItems
-entry_begins d k s none rest y a e = absurd (no_entry e)
+entry_begins d k s none rest y a e = absurd (none-some _ e)
 entry_begins d k s (item key n sep is) rest y a e = go (is_here s (inner (key_content key))) (λ again. entry_begins d k (further s) is rest y a.4 again) e
   where
     go : (b : Bool) → (item_at k (further s) is rest ≡ Some y → begins_node true (pieces_text y) ≡ true) →
         cond b (Some (record { key = key; node = n; rest = sep_text sep (items_text k is rest) })) (item_at k (further s) is rest) ≡ Some y → begins_node true (pieces_text y) ≡ true
-    go true again e = ap (λ (x : EntryPieces). begins_node true (pieces_text x)) (sym (entry_same e)) ∙ item_begins d k key n (sep_text sep (items_text k is rest)) a.0 a.1 a.2
+    go true again e = ap (λ (x : EntryPieces). begins_node true (pieces_text x)) (sym (same_Some _ _ e)) ∙ item_begins d k key n (sep_text sep (items_text k is rest)) a.0 a.1 a.2
     go false again e = again e
-
--- texts before the same one
-front_same : (x y u : List ℕ) → x ++ u ≡ y ++ u → x ≡ y
-front_same x y u e =
-    let size : length x ≡ length y = omega (arith, ap length e, length-append x u, length-append y u) in
-    sym (take-append_seam x u) ∙ ((λ i. take (size i) (e i)) ∙ take-append_seam y u)
 
 -- what may be asked of the text before an edit
 abbrev WholeBefore : List ℕ → List ℕ → FlowEdit → Type 0
@@ -70,7 +59,7 @@ removed_whole x s y text before h found pairs = several (is_several x.coll.items
       ap (λ (l : List ℕ). text ++ l) (i.text ∙ sym (append_assoc i.before (open_of c.close ∷ c.gap) items)) ∙ sym (append_assoc text (i.before ++ (open_of c.close ∷ c.gap)) items) in
       let whole : t ≡ (open' ++ until_last c.items) ++ u =
       split ∙ (ap (λ (l : List ℕ). open' ++ l) (until_text c.close c.items c.rest some ∙ ap (λ (l : List ℕ). until_last c.items ++ l) is) ∙ sym (append_assoc open' (until_last c.items) u)) in
-      let same : before ≡ open' ++ until_last c.items = front_same before (open' ++ until_last c.items) u (sym e ∙ whole) in
+      let same : before ≡ open' ++ until_last c.items = append_cancel_right before (open' ++ until_last c.items) u (sym e ∙ whole) in
       let inside : pairs_returns items ≡ true = pairs_behind open' items (subst (λ (l : List ℕ). pairs_returns l ≡ true) split pairs) in
       whole_by before u
       (ap ends_return same

@@ -1,10 +1,10 @@
 -- An item replaced, and one added behind the last.
 use Rattle.std.proofs.Common.{◌≡◌, ⊎_elim, ℕ, Bool, true, false, not, ◌&&◌, ◌||◌, eqb, cond, List, [], ◌∷◌, ◌++◌, Some, None, refl, sym, ap, ◌∙◌, subst, arith, append_assoc, eqb-true}
 use Rattle.std.proofs.Math.Bool.{and-false}
-use Rattle.std.proofs.lemmas.Bool.{false≢true, or_right, not-true, or_cases}
+use Rattle.std.proofs.lemmas.Bool.{false≢true, or_right, not-true, or_cases, or_parts}
+use Rattle.std.proofs.lemmas.Option.{same_Some}
 use Rattle.yq_scalar.specs.Paths.{Step, is_here, further, change_child, append_child}
 use Rattle.yq_scalar.specs.Text.{front, is_white, is_feed, is_return, is_space, is_marker, separates}
-use Rattle.yq_scalar.proofs.Bools.{or_false}
 use Rattle.yq_inline.specs.Alike.{Alike, stop, EndsItem, fresh, KeepsApart}
 use Rattle.yq_inline.specs.Gaps.{IsGap}
 use Rattle.yq_inline.specs.Nodes.{Key, bare, keyed, Sep, last, comma, Node, Items, none, item, key_text, sep_text, node_text, items_text, first_is, begins_content, begins_node, is_close, IsKey, IsSep, is_bare, is_keyed, IsNode, AreItems}
@@ -15,7 +15,6 @@ use Rattle.yq_inline.specs.Scalars.{begins_scalar}
 use Rattle.yq_inline.specs.Trees.{inner, key_content, tree_of, items_tree}
 use Rattle.yq_inline.proofs.Alikes.{no_second, no_third, alike_append}
 use Rattle.yq_inline.proofs.AlikePieces.{gap_alike}
-use Rattle.yq_inline.proofs.Binds.{some_same}
 use Rattle.yq_flow.proofs.ItemSwaps.{item_cut}
 use Rattle.yq_inline.proofs.GapLaws.{none_gap}
 use Rattle.yq_inline.proofs.KeepLaws.{NotEmpty, some_text, gap_some, keeps_append, keeps_alike, some_begins}
@@ -116,9 +115,9 @@ put_local d k s m (item key n sep is) rest y c a h f = go (is_here s (inner (key
   go : (b : Bool) → (item_at k (further s) is rest ≡ Some y → FitsNode d m y.rest → Local d k is (put_item (further s) m is) rest (node_text (content_node y.node) []) (space_for (content_node y.node) ++ node_text m []) y.rest) →
       cond b (Some here) (item_at k (further s) is rest) ≡ Some y → Result (cond b (item (put_content m key n).0 (put_content m key n).1 sep is) (item key n sep (put_item (further s) m is))) y
   go true again e =
-      let fits : FitsNode d m (sep_text sep tail) = subst (λ (z : EntryPieces). FitsNode d m z.rest) (sym (some_same e)) f in
+      let fits : FitsNode d m (sep_text sep tail) = subst (λ (z : EntryPieces). FitsNode d m z.rest) (sym (same_Some _ _ e)) f in
       let x = filled d k m key n (sep_text sep tail) c (sep_ends k sep tail a.3) fits a.0 a.1 a.2 in
-      subst (Result (item (put_content m key n).0 (put_content m key n).1 sep is)) (some_same e) (record { are = (x.key_is, x.some, x.node_is, a.3, a.4); front = x.front; text = x.text })
+      subst (Result (item (put_content m key n).0 (put_content m key n).1 sep is)) (same_Some _ _ e) (record { are = (x.key_is, x.some, x.node_is, a.3, a.4); front = x.front; text = x.text })
   go false again e = cons_local d k key n sep is (put_item (further s) m is) rest _ _ _ c (some_items k (further s) is rest y e) a (again e f)
 
 pub put_tree : (d k : ℕ) (s : Step) (m : Node) (is : Items) (rest : List ℕ) (y : EntryPieces) → is_close k ≡ true → AreItems d k is rest → item_at k s is rest ≡ Some y → FitsNode d m y.rest →
@@ -133,7 +132,7 @@ put_tree d k s m (item key n sep is) rest y c a h f = go (is_here s (inner (key_
       cond b (Some (record { key = key; node = n; rest = sep_text sep tail })) (item_at k (further s) is rest) ≡ Some y →
       items_tree (cond b (item (put_content m key n).0 (put_content m key n).1 sep is) (item key n sep (put_item (further s) m is))) ≡ cond b (tree.child (inner (key_content key)) (put_value (tree_of m) (tree_of n)) (items_tree is)) (tree.child (inner (key_content key)) (tree_of n) (change_child (further s) (put_value (tree_of m)) (items_tree is)))
   go true again e =
-      let fits : FitsNode d m (sep_text sep tail) = subst (λ (z : EntryPieces). FitsNode d m z.rest) (sym (some_same e)) f in
+      let fits : FitsNode d m (sep_text sep tail) = subst (λ (z : EntryPieces). FitsNode d m z.rest) (sym (same_Some _ _ e)) f in
       let x = filled d k m key n (sep_text sep tail) c (sep_ends k sep tail a.3) fits a.0 a.1 a.2 in
       λ i. tree.child (inner (x.label i)) (x.tree i) (items_tree is)
   go false again e = ap (tree.child (inner (key_content key)) (tree_of n)) (again e f)
@@ -144,7 +143,7 @@ pub record Unmarked (u : List ℕ) : Type 0 where
   pub dot : first_is 46 u ≡ false
 
 byte_on : (b : ℕ) (t u : List ℕ) → (is_return b && front is_feed u) ≡ false → is_space (b ∷ t) ≡ false → is_space (b ∷ u) ≡ false
-byte_on b t u r h = let x = or_false (is_white b) (is_feed b || (is_return b && front is_feed t)) h in let y = or_false (is_feed b) (is_return b && front is_feed t) x.1 in rw (x.0, y.0, r) refl
+byte_on b t u r h = let x = or_parts (is_white b) (is_feed b || (is_return b && front is_feed t)) h in let y = or_parts (is_feed b) (is_return b && front is_feed t) x.1 in rw (x.0, y.0, r) refl
 
 marker_on : (line : Bool) (b : ℕ) (p t u : List ℕ) → Unmarked u → ((line && is_marks (b ∷ p)) && separates u) ≡ false → ((e : ℕ) → (ends_return (e ∷ []) && front is_feed u) ≡ false → is_space (e ∷ t) ≡ false → is_space (e ∷ u) ≡ false) → (ends_return (b ∷ p) && front is_feed u) ≡ false →
     line ≡ true → is_marker (b ∷ (p ++ t)) ≡ false → is_marker (b ∷ (p ++ u)) ≡ false

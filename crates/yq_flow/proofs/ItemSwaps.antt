@@ -1,5 +1,6 @@
 -- The node of an item, exchanged for one that begins like it.
 use Rattle.std.proofs.Common.{◌≡◌, ℕ, Bool, true, false, not, ◌||◌, cond, List, [], ◌++◌, Some, refl, sym, ap, ◌∙◌, subst, append_assoc}
+use Rattle.std.proofs.lemmas.Option.{same_Some}
 use Rattle.yq_scalar.specs.Paths.{Step, is_here, further, change_child}
 use Rattle.yq_inline.specs.Alike.{Alike}
 use Rattle.yq_inline.specs.Nodes.{Key, bare, keyed, Sep, Node, Items, none, item, key_text, sep_text, node_text, items_text, begins_node, is_close, IsKey, IsSep, is_bare, is_keyed, IsNode, AreItems}
@@ -7,7 +8,6 @@ use Rattle.yq_inline.specs.Entries.{EntryPieces, item_at}
 use Rattle.yq_inline.specs.Collections.{change_item}
 use Rattle.yq_inline.specs.Trees.{inner, key_content, tree_of, items_tree}
 use Rattle.yq_inline.proofs.AlikePieces.{gap_alike}
-use Rattle.yq_inline.proofs.Binds.{some_same}
 use Rattle.yq_inline.proofs.KeepLaws.{keeps_alike, some_begins}
 use Rattle.yq_inline.proofs.KeyKeeps.{lead_gap, key_front, key_keeps}
 use Rattle.yq_inline.proofs.NodeKeeps.{node_keeps, sep_ends, sep_alike, sep_text_alike, key_text_alike, node_text_alike}
@@ -63,7 +63,7 @@ items_swap d k s f (item key n sep is) rest y c a h w = go (is_here s (inner (ke
   go : (b : Bool) → (item_at k (further s) is rest ≡ Some y → Swaps d y.node (f y.node) y.rest → Swapped d k is (change_item (further s) f is) rest y (f y.node)) → cond b (Some here) (item_at k (further s) is rest) ≡ Some y →
       Swapped d k (item key n sep is) (cond b (item key (f n) sep is) (item key n sep (change_item (further s) f is))) rest y (f y.node)
   go true again e =
-      let v : Swaps d n (f n) (sep_text sep tail) = subst (λ (z : EntryPieces). Swaps d z.node (f z.node) z.rest) (sym (some_same e)) w in
+      let v : Swaps d n (f n) (sep_text sep tail) = subst (λ (z : EntryPieces). Swaps d z.node (f z.node) z.rest) (sym (same_Some _ _ e)) w in
       record { are = (key_like k d key n (f n) (sep_text sep tail) a.2 v a.0, some_or (is_keyed key) (is_bare (f n)) v.new_some, v.is, a.3, a.4); like = key_text_alike key (node_text n (sep_text sep tail)) (node_text (f n) (sep_text sep tail)) v.like }
   go false again e =
       let more = again e w in
@@ -95,7 +95,7 @@ in_items k s (item key n sep is) rest y h = go (is_here s (inner (key_content ke
   front = key_text key (node_text n (sep_text sep []))
 
   go : (b : Bool) → is_here s (inner (key_content key)) ≡ b → (item_at k (further s) is rest ≡ Some y → InItems k (further s) is rest y) → cond b (Some here) (item_at k (further s) is rest) ≡ Some y → InItems k s (item key n sep is) rest y
-  go true q again e = subst (λ (z : EntryPieces). InItems k s (item key n sep is) rest z) (some_same e) (record {
+  go true q again e = subst (λ (z : EntryPieces). InItems k s (item key n sep is) rest z) (same_Some _ _ e) (record {
     before = key_text key [];
     was = key_append key [] (node_text n (sep_text sep tail));
     is_now = λ f. rw q (key_append key [] (node_text (f n) (sep_text sep tail)));
@@ -116,5 +116,5 @@ items_change k s f g (item key n sep is) rest y h e = go (is_here s (inner (key_
   go : (b : Bool) → (item_at k (further s) is rest ≡ Some y → tree_of (f y.node) ≡ g (tree_of y.node) → items_tree (change_item (further s) f is) ≡ change_child (further s) g (items_tree is)) →
       cond b (Some (record { key = key; node = n; rest = sep_text sep (items_text k is rest) })) (item_at k (further s) is rest) ≡ Some y →
       items_tree (cond b (item key (f n) sep is) (item key n sep (change_item (further s) f is))) ≡ cond b (tree.child (inner (key_content key)) (g (tree_of n)) (items_tree is)) (tree.child (inner (key_content key)) (tree_of n) (change_child (further s) g (items_tree is)))
-  go true again x = ap (λ (v : tree.Node). tree.child (inner (key_content key)) v (items_tree is)) (subst (λ (z : EntryPieces). tree_of (f z.node) ≡ g (tree_of z.node)) (sym (some_same x)) e)
+  go true again x = ap (λ (v : tree.Node). tree.child (inner (key_content key)) v (items_tree is)) (subst (λ (z : EntryPieces). tree_of (f z.node) ≡ g (tree_of z.node)) (sym (same_Some _ _ x)) e)
   go false again x = ap (tree.child (inner (key_content key)) (tree_of n)) (again x e)

@@ -1,7 +1,7 @@
 -- Items of one collection, edited.
-use Rattle.std.proofs.Common.{◌≡◌, inl, ℕ, Bool, true, false, not, ◌&&◌, ◌||◌, eqb, cond, List, [], ◌∷◌, ◌++◌, Option, Some, None, refl, sym, ap, ◌∙◌, subst, append_assoc}
-use Rattle.std.proofs.Math.Bool.{and-false}
-use Rattle.std.proofs.lemmas.Bool.{false≢true, or_right, or_from}
+use Rattle.std.proofs.Common.{◌≡◌, inl, ℕ, true, false, not, ◌&&◌, ◌||◌, eqb, cond, List, [], ◌∷◌, ◌++◌, Option, Some, None, refl, sym, ap, ◌∙◌, subst, append_assoc}
+use Rattle.std.proofs.Math.Bool.{and-false, or-true}
+use Rattle.std.proofs.lemmas.Bool.{false≢true, or_from}
 use Rattle.yq_scalar.specs.Plain.{is_safe}
 use Rattle.yq_inline.specs.Scalars.{is_quoted}
 use Rattle.yq_scalar.specs.Text.{front, is_feed, is_marker, is_empty}
@@ -78,9 +78,6 @@ pub record Filled (d k : ℕ) (m : Node) (key : Key) (n : Node) (rest : List ℕ
   pub tree : tree_of (put_content m key n).1 ≡ put_value (tree_of m) (tree_of n)
   pub label : key_content (put_content m key n).0 ≡ key_content key
 
-or_true : (a : Bool) → (a || true) ≡ true
-or_true a = or_right a true refl
-
 swap_text : (key : Key) (n m : Node) (rest : List ℕ) → Becomes (key_text key (node_text n rest)) (key_text key (node_text m rest)) (node_text n []) (node_text m []) rest
 swap_text key n m rest = record {
   before = key_text key [];
@@ -113,7 +110,7 @@ filled_by d k m key n rest some f h x = refit k key (node_text n rest) (node_tex
 spaced : (k : ℕ) (p b x y : List ℕ) → is_close k ≡ true → begins_node true x ≡ false → begins_node true y ≡ true → is_safe true x ≡ false → IsKey k (keyed p b []) x → IsKey k (keyed p b (32 ∷ [])) y
 spaced k p b x y c bx by unsafe h =
     let like : Alike (Some true) (58 ∷ x) (58 ∷ (32 ∷ y)) = colon unsafe refl in
-    (h.0, scalar_alike true None p (b ++ (58 ∷ x)) (b ++ (58 ∷ (32 ∷ y))) (alike_append (Some true) b (58 ∷ x) (58 ∷ (32 ∷ y)) like) h.1, gap_alike (Some true) b (58 ∷ x) (58 ∷ (32 ∷ y)) like h.2, or_true (is_quoted p), inl (space_before y by, by))
+    (h.0, scalar_alike true None p (b ++ (58 ∷ x)) (b ++ (58 ∷ (32 ∷ y))) (alike_append (Some true) b (58 ∷ x) (58 ∷ (32 ∷ y)) like) h.1, gap_alike (Some true) b (58 ∷ x) (58 ∷ (32 ∷ y)) like h.2, or-true (is_quoted p), inl (space_before y by, by))
 
 pub filled : (d k : ℕ) (m : Node) (key : Key) (n : Node) (rest : List ℕ) → is_close k ≡ true → EndsItem k rest → FitsNode d m rest → IsKey k key (node_text n rest) → (is_keyed key || not (is_bare n)) ≡ true → IsNode true (Some 0) d n rest → Filled d k m key n rest
 unfolding node_text IsNode tree_of
@@ -137,11 +134,11 @@ filled d k m (keyed p b g) empty rest c e f h s x =
       label = refl;
     }
 filled d k m key (alias n) rest c e f h s x = let y = filled_by d k m key (alias n) rest refl f h x in
-    record { key_is = y.0; some = rw f.some (or_true (is_keyed key)); node_is = f.is; front = y.1; text = swap_text key (alias n) m rest; tree = refl; label = refl }
+    record { key_is = y.0; some = rw f.some (or-true (is_keyed key)); node_is = f.is; front = y.1; text = swap_text key (alias n) m rest; tree = refl; label = refl }
 filled d k m key (scalar p) rest c e f h s x = let y = filled_by d k m key (scalar p) rest refl f h x in
-    record { key_is = y.0; some = rw f.some (or_true (is_keyed key)); node_is = f.is; front = y.1; text = swap_text key (scalar p) m rest; tree = refl; label = refl }
+    record { key_is = y.0; some = rw f.some (or-true (is_keyed key)); node_is = f.is; front = y.1; text = swap_text key (scalar p) m rest; tree = refl; label = refl }
 filled d k m key (coll j g is) rest c e f h s x = let y = filled_by d k m key (coll j g is) rest refl f h x in
-    record { key_is = y.0; some = rw f.some (or_true (is_keyed key)); node_is = f.is; front = y.1; text = swap_text key (coll j g is) m rest; tree = ap (λ (a : Option (List ℕ)). named a (tree_of m)) (sym (coll_no_anchor j (items_tree is))); label = refl }
+    record { key_is = y.0; some = rw f.some (or-true (is_keyed key)); node_is = f.is; front = y.1; text = swap_text key (coll j g is) m rest; tree = ap (λ (a : Option (List ℕ)). named a (tree_of m)) (sym (coll_no_anchor j (items_tree is))); label = refl }
 filled d k m key (anchored n g empty) rest c e f h s x =
     let nothing : g ≡ [] = lead_none (begins_content true) g rest x.4.0 x.1 in
     let new : List ℕ = node_text m rest in
@@ -149,8 +146,8 @@ filled d k m key (anchored n g empty) rest c e f h s x =
     let y = refit k key (38 ∷ (n ++ (g ++ rest))) (38 ∷ (n ++ (32 ∷ new))) refl refl (no_first 38 (n ++ (32 ∷ new)) refl refl) h in
     record {
       key_is = y.0;
-      some = or_true (is_keyed key);
-      node_is = (name_space n (g ++ rest) new x.0, inl (space_before new by, taken_begins true (Some 0) d m rest f.some f.takes f.is), or_true (is_bare m), f.takes, f.is);
+      some = or-true (is_keyed key);
+      node_is = (name_space n (g ++ rest) new x.0, inl (space_before new by, taken_begins true (Some 0) d m rest f.some f.takes f.is), or-true (is_bare m), f.takes, f.is);
       front = y.1;
       text = record {
         before = key_text key [] ++ (38 ∷ n);
@@ -169,7 +166,7 @@ filled d k m key (anchored n g (scalar p)) rest c e f h s x =
     let gap = gap_new g (p ++ rest) new (some_begins true (Some 0) d (scalar p) rest refl x.4) (some_begins true (Some 0) d m rest f.some f.is) (unmarked_gap g new f.unmarked) (lead_gap (begins_content true) g (p ++ rest) bx (some_begins true (Some 0) d (scalar p) rest refl x.4) x.1) in
     record {
       key_is = y.0;
-      some = or_true (is_keyed key);
+      some = or-true (is_keyed key);
       node_is = (name_again n g (p ++ rest) new x.2 x.0, inl (gap, taken_begins true (Some 0) d m rest f.some f.takes f.is), rw f.some x.2, f.takes, f.is);
       front = y.1;
       text = record {
@@ -188,7 +185,7 @@ filled d k m key (anchored n g (coll j q is)) rest c e f h s x =
     let gap = gap_new g old new (some_begins true (Some 0) d (coll j q is) rest refl x.4) (some_begins true (Some 0) d m rest f.some f.is) (unmarked_gap g new f.unmarked) (lead_gap (begins_content true) g old bx (some_begins true (Some 0) d (coll j q is) rest refl x.4) x.1) in
     record {
       key_is = y.0;
-      some = or_true (is_keyed key);
+      some = or-true (is_keyed key);
       node_is = (name_again n g old new x.2 x.0, inl (gap, taken_begins true (Some 0) d m rest f.some f.takes f.is), rw f.some x.2, f.takes, f.is);
       front = y.1;
       text = record {

@@ -1,6 +1,7 @@
 -- An item or entry between its neighbours, by its pieces and by its places.
 use Rattle.std.proofs.Common.{◌≡◌, ℕ, ◌-◌, Bool, true, false, cond, List, [], ◌∷◌, ◌++◌, length, Option, Some, None, refl, sym, ap, ◌∙◌, subst, append_assoc}
 use Rattle.std.proofs.lemmas.Bool.{false≢true}
+use Rattle.std.proofs.lemmas.Option.{same_Some}
 use Rattle.yq_scalar.specs.Paths.{Step, is_here, further}
 use Rattle.yq_flow.specs.declared.among.Among.{Among}
 use Rattle.yq_inline.specs.Entries.{EntryPieces, item_at, pieces_text, end_of, entry_start}
@@ -9,7 +10,6 @@ use Rattle.yq_inline.specs.Nodes.{Items, none, item, key_text, sep_text, node_te
 use Rattle.yq_inline.specs.Places.{key_placed, locate, locate_items}
 use Rattle.yq_flow.specs.Removals.{has_next, items_behind, is_several, last_sep, last_text, until_last}
 use Rattle.yq_inline.specs.Trees.{inner, key_content}
-use Rattle.yq_inline.proofs.Binds.{some_same}
 use Rattle.yq_inline.proofs.EditPlaces.{end_placed, entry_placed}
 use Rattle.yq_flow.proofs.ItemSwaps.{item_cut}
 use Rattle.yq_flow.proofs.LastLaws.{text_cut}
@@ -61,7 +61,7 @@ among_placed total k b s (item key n sep is) rest y h =
             next = begin_of total k (cond c is (items_behind (further s) is)) rest;
           })
       go true again e =
-          subst (λ (z : EntryPieces). Some found ≡ Some (record { before = b; start = total - length (pieces_text z); end = total - length z.rest; next = begin_of total k is rest })) (some_same e)
+          subst (λ (z : EntryPieces). Some found ≡ Some (record { before = b; start = total - length (pieces_text z); end = total - length z.rest; next = begin_of total k is rest })) (same_Some _ _ e)
           (λ i. Some (record { before = b; start = entry_placed total here i; end = end_placed total n behind i; next = first_placed total k is rest i }))
       go false again e = ap (λ x. among (Some x) (further s) (locate_items total k is rest)) (end_placed total n behind) ∙ again e
 

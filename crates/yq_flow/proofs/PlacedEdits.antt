@@ -1,6 +1,7 @@
 -- Where another content, and one more item or entry, are written: in the bytes of the edit.
 use Rattle.std.proofs.Common.{◌≡◌, ℕ, suc, ◌+◌, ◌-◌, ◌≤◌, min, Bool, true, false, eqb, cond, List, [], ◌∷◌, ◌++◌, length, Option, Some, None, refl, sym, ap, ◌∙◌, subst, arith}
 use Rattle.std.proofs.lemmas.Bool.{false≢true}
+use Rattle.std.proofs.lemmas.Option.{same_Some}
 use Rattle.yq_scalar.specs.Paths.{Step}
 use Rattle.yq_inline.specs.Collections.{CollPieces, coll_in}
 use Rattle.yq_inline.specs.Entries.{EntryPieces, place_in}
@@ -8,7 +9,6 @@ use Rattle.yq_flow.specs.FlowEdits.{content_node, space_for, replacing, is_none,
 use Rattle.yq_flow.specs.FlowPlaces.{PlacedEdit, place_edit, replace_at, replace_place, last_end, append_at, append_in, append_place}
 use Rattle.yq_inline.specs.Nodes.{Key, Node, empty, alias, scalar, coll, anchored, Items, none, item, sep_text, node_text, items_text, IsNode}
 use Rattle.yq_inline.specs.Places.{Placed, placed, sequence, mapping, Parts, holder, with_anchor, locate, locate_items}
-use Rattle.yq_inline.proofs.Binds.{some_same}
 use Rattle.yq_inline.proofs.EditPlaces.{end_placed}
 use Rattle.yq_inline.proofs.WrittenLaws.{node_then}
 
@@ -76,9 +76,9 @@ append_placed total (anchored n g node) rest c key m h at =
 append_placed total (coll k g none) rest c key m h at =
     let t : List ℕ = g ++ (k ∷ rest) in
     let inner_ = behind_open total (length t) (length rest) h (close_in k g rest) in
-    subst (λ (x : CollPieces). append_place (locate total (coll k g none) rest) ≡ Some (place_edit total (appending key m x))) (some_same at)
+    subst (λ (x : CollPieces). append_place (locate total (coll k g none) rest) ≡ Some (place_edit total (appending key m x))) (same_Some _ _ at)
     (holder_append k _ _ _ ∙ ap (λ a. Some (append_at a None)) inner_)
 append_placed total (coll k g (item key2 n2 sep2 is)) rest c key m h at =
     let inner_ : ℕ = min ((total - length (node_text (coll k g (item key2 n2 sep2 is)) rest)) + 1) (total - length rest) in
-    subst (λ (x : CollPieces). append_place (locate total (coll k g (item key2 n2 sep2 is)) rest) ≡ Some (place_edit total (appending key m x))) (some_same at)
+    subst (λ (x : CollPieces). append_place (locate total (coll k g (item key2 n2 sep2 is)) rest) ≡ Some (place_edit total (appending key m x))) (same_Some _ _ at)
     (holder_append k _ _ _ ∙ ap (λ (o : Option ℕ). Some (append_at inner_ o)) (last_placed total k (item key2 n2 sep2 is) rest refl))

@@ -2,6 +2,7 @@
 use Rattle.std.proofs.Common.{◌≡◌, ⊎_elim, ℕ, suc, ◌+◌, ◌-◌, Bool, true, false, not, ◌&&◌, eqb, cond, List, [], ◌∷◌, ◌++◌, length, drop, Some, refl, sym, ap, ◌∙◌, subst, arith, append_assoc, length-append, eqb-true}
 use Rattle.std.proofs.Math.Seq.{drop-append_seam}
 use Rattle.std.proofs.lemmas.Bool.{false≢true, or_cases}
+use Rattle.std.proofs.lemmas.Option.{same_Some}
 use Rattle.yq_scalar.specs.Paths.{Step, is_here, further}
 use Rattle.yq_scalar.specs.PlainText.{begins_marker}
 use Rattle.yq_scalar.specs.Text.{is_feed}
@@ -15,7 +16,6 @@ use Rattle.yq_inline.specs.Nodes.{Sep, last, comma, Items, none, item, key_text,
 use Rattle.yq_inline.specs.Reading.{gap_len}
 use Rattle.yq_flow.specs.Removals.{has_next, items_behind, removed_for, space_to, comma_new, comma_on}
 use Rattle.yq_inline.specs.Trees.{inner, key_content}
-use Rattle.yq_inline.proofs.Binds.{some_same}
 use Rattle.yq_inline.proofs.GapLaws.{gap_append}
 use Rattle.yq_flow.proofs.ItemSwaps.{item_cut}
 use Rattle.yq_flow.proofs.Marks.{line_behind}
@@ -74,7 +74,7 @@ space_placed d k s (item key n (comma q p) others) rest y t w b g c feed is a h 
       go : (v : Bool) → (item_at k (further s) others rest ≡ Some y → has_next (further s) others ≡ true → space_at t (length t - length (pieces_text y)) (length t - length (items_text k (items_behind (further s) others) rest)) ≡ removed_for k rest (further s) p others) →
           cond v (Some (record { key = key; node = n; rest = sep_text (comma q p) tail })) (item_at k (further s) others rest) ≡ Some y → cond v (not (is_none others)) (has_next (further s) others) ≡ true →
           space_at t (length t - length (pieces_text y)) (length t - length (items_text k (cond v others (items_behind (further s) others)) rest)) ≡ cond v (space_to g tail) (removed_for k rest (further s) p others)
-      go true again e f = subst (λ (z : EntryPieces). space_at t (length t - length (pieces_text z)) (length t - length tail) ≡ space_to g tail) (some_same e) here
+      go true again e f = subst (λ (z : EntryPieces). space_at t (length t - length (pieces_text z)) (length t - length tail) ≡ space_to g tail) (same_Some _ _ e) here
       go false again e f = again e f
 
 -- the comma behind the last one

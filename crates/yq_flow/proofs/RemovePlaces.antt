@@ -1,6 +1,7 @@
 -- What the code tells of an item or entry that is taken out is where the bytes of the edit stand.
 use Rattle.std.proofs.Common.{◌≡◌, ⊎_elim, ℕ, suc, zero, ◌+◌, ◌-◌, Bool, true, false, not, eqb, cond, List, [], ◌∷◌, ◌++◌, length, Option, Some, None, refl, sym, ap, ◌∙◌, subst, arith, append_assoc, length-append, eqb-true}
-use Rattle.std.proofs.lemmas.Bool.{false≢true, or_cases}
+use Rattle.std.proofs.lemmas.Bool.{false≢true, or_cases, not-true}
+use Rattle.std.proofs.lemmas.Option.{same_Some}
 use Rattle.yq_scalar.specs.Paths.{Step, is_here, further}
 use Rattle.yq_scalar.specs.Text.{is_feed}
 use Rattle.yq_inline.specs.Alike.{fresh}
@@ -12,7 +13,6 @@ use Rattle.yq_inline.specs.Nodes.{Node, empty, alias, scalar, coll, anchored, It
 use Rattle.yq_inline.specs.Places.{Placed, placed, Parts, holder, with_anchor, locate, locate_items}
 use Rattle.yq_flow.specs.Removals.{has_next, items_behind, is_several, last_sep, last_text, until_last, ends_marked, comma_old, comma_new, comma_on, removing, removing_sole, removing_before, removing_last, removing_to_comma, removing_end}
 use Rattle.yq_inline.specs.Trees.{inner, key_content}
-use Rattle.yq_inline.proofs.Binds.{some_same}
 use Rattle.yq_flow.proofs.EditPaths.{dropped_text, last_rest}
 use Rattle.yq_flow.proofs.LastLaws.{last_is, comma_was}
 use Rattle.yq_flow.proofs.Marks.{line_behind, marks_are}
@@ -95,12 +95,8 @@ begin_some total k (item key n sep is) rest h = refl
 behind_some : (s : Step) (is : Items) → has_next s is ≡ true → is_none (items_behind s is) ≡ false
 behind_some s none h = absurd (false≢true h)
 behind_some s (item key n sep is) h = go (is_here s (inner (key_content key))) (behind_some (further s) is) h where
-  off : (b : Bool) → not b ≡ true → b ≡ false
-  off false e = refl
-  off true e = absurd (false≢true e)
-
   go : (c : Bool) → (has_next (further s) is ≡ true → is_none (items_behind (further s) is) ≡ false) → cond c (not (is_none is)) (has_next (further s) is) ≡ true → is_none (cond c is (items_behind (further s) is)) ≡ false
-  go true again e = off (is_none is) e
+  go true again e = not-true (is_none is) e
   go false again e = again e
 
 behind_none : (k : ℕ) (s : Step) (is : Items) (rest : List ℕ) (y : EntryPieces) → item_at k s is rest ≡ Some y → has_next s is ≡ false → items_behind s is ≡ none
@@ -194,8 +190,8 @@ remove_placed flow spaces d t w (alias n) rest c s y x at found text = cc
 remove_placed flow spaces d t w (scalar p) rest c s y x at found text = cc
 remove_placed flow spaces zero t w (coll k g is) rest c s y x at found text = absurd x.2
 remove_placed flow spaces (suc d) t w (coll k g is) rest c s y x at found text =
-    let here : item_at k s is rest ≡ Some y = subst (λ (z : CollPieces). item_at z.close s z.items z.rest ≡ Some y) (sym (some_same at)) found in
-    subst (λ (z : CollPieces). remove_place t s (locate (length t) (coll k g is) rest) ≡ Some (place_edit (length t) (removing s z))) (some_same at)
+    let here : item_at k s is rest ≡ Some y = subst (λ (z : CollPieces). item_at z.close s z.items z.rest ≡ Some y) (sym (same_Some _ _ at)) found in
+    subst (λ (z : CollPieces). remove_place t s (locate (length t) (coll k g is) rest) ≡ Some (place_edit (length t) (removing s z))) (same_Some _ _ at)
     (holder_remove t s k _ _ (locate_items (length t) k is rest) x.0 ∙ part_removed d k g s is rest y t w x.0 x.2 here text)
 remove_placed flow spaces d t w (anchored n g node) rest c s y x at found text =
     let inner_ : t ≡ (w ++ (38 ∷ (n ++ g))) ++ node_text node rest = text ∙ (ap (λ l. w ++ (38 ∷ l)) (sym (append_assoc n g (node_text node rest))) ∙ sym (append_assoc w (38 ∷ (n ++ g)) (node_text node rest))) in

@@ -1,10 +1,10 @@
 -- In a text with whole breaks no CR ends an item before an LF.
 use Rattle.std.proofs.Common.{◌≡◌, ◌⊎◌, inl, inr, ℕ, Bool, true, false, ◌&&◌, ◌||◌, eqb, cond, List, [], ◌∷◌, ◌++◌, Some, refl, sym, ap, ◌∙◌, subst, append_assoc, append-nil, eq-eqb}
-use Rattle.std.proofs.lemmas.Bool.{false≢true, not-false, or_right}
+use Rattle.std.proofs.lemmas.Bool.{false≢true, not-false, or_right, and_parts, cases_Bool, or_parts}
 use Rattle.yq_scalar.specs.Characters.{pairs_returns}
 use Rattle.yq_scalar.specs.Quoted.{spell_lines}
 use Rattle.yq_scalar.specs.Text.{NoneIn, unless, front, is_white, is_feed, is_return}
-use Rattle.yq_scalar.proofs.Bools.{is_true, and_true, or_false, at_byte}
+use Rattle.yq_scalar.proofs.Bools.{at_byte}
 use Rattle.yq_inline.specs.Alike.{EndsItem}
 use Rattle.yq_inline.specs.Nodes.{Key, bare, keyed, Node, empty, alias, scalar, coll, anchored, Items, none, item, key_text, sep_text, node_text, items_text, open_of, in_name, begins_content, begins_node, is_close, IsKey, IsLead, is_bare, IsNode, AreItems, first_is}
 use Rattle.yq_inline.specs.Scalars.{IsScalar}
@@ -50,8 +50,8 @@ plain_return : (k : ℕ) (p t : List ℕ) → is_close k ≡ true → EndsItem k
 plain_return k [] t c e h = refl
 plain_return k (b ∷ []) t c e h =
     let s = last_space k t b c e h.0 in
-    let x = or_false (is_white b) (is_feed b || (is_return b && front is_feed t)) s in
-    (or_false (is_feed b) (is_return b && front is_feed t) x.1).1
+    let x = or_parts (is_white b) (is_feed b || (is_return b && front is_feed t)) s in
+    (or_parts (is_feed b) (is_return b && front is_feed t) x.1).1
 plain_return k (b ∷ d ∷ p) t c e h = plain_return k (d ∷ p) t c e h.1
 
 quote_return : (q : ℕ) → (q ≡ 34) ⊎ (q ≡ 39) → is_return q ≡ false
@@ -82,8 +82,8 @@ node_return k (scalar p) d t c e h = subst (λ (l : List ℕ). Whole l t) (sym (
 node_return k (coll j g is) d t c e h =
     let more = items_return j is h.0 in
     whole_by (open_of j ∷ (g ++ items_text j is [])) t (return_some (open_of j ∷ g) (items_text j is []) more.0 ∙ more.1)
-node_return k (anchored n g node) d t c e h = elim (is_true (is_bare node)) [
-  | inl z ↦ (let no : begins_content true t ≡ false = (or_false (first_is 38 t) (begins_content true t) (ends_node k t c e)).1 in
+node_return k (anchored n g node) d t c e h = elim (cases_Bool (is_bare node)) [
+  | inl z ↦ (let no : begins_content true t ≡ false = (or_parts (first_is 38 t) (begins_content true t) (ends_node k t c e)).1 in
       let nothing : g ≡ [] = lead_none (begins_content true) g t no (subst (λ (l : List ℕ). IsLead true (begins_content true) g l) (bare_text node t z) h.1) in
       whole_by (38 ∷ (n ++ (g ++ node_text node []))) t (ap (λ (l : List ℕ). ends_return (38 ∷ (n ++ (l ++ node_text node [])))) nothing ∙ (ap (λ (l : List ℕ). ends_return (38 ∷ (n ++ l))) (bare_text node [] z) ∙ (ap (λ (l : List ℕ). ends_return (38 ∷ l)) (append-nil n) ∙ front_name 38 n (g ++ node_text node t) refl h.0.inside))))
   | inr z ↦ (let s = some_text d node t z h.4 in
@@ -93,7 +93,7 @@ node_return k (anchored n g node) d t c e h = elim (is_true (is_bare node)) [
 
 pub item_return : (k d : ℕ) (key : Key) (n : Node) (t : List ℕ) → is_close k ≡ true → EndsItem k t → IsKey k key (node_text n t) → IsNode true (Some 0) d n t → Whole (key_text key (node_text n [])) t
 item_return k d bare n t c e x h = node_return k n d t c e h
-item_return k d (keyed p b g) n t c e x h = elim (is_true (is_bare n)) [
+item_return k d (keyed p b g) n t c e x h = elim (cases_Bool (is_bare n)) [
   | inl z ↦ (let nothing : g ≡ [] = lead_none (begins_node true) g t (ends_node k t c e) (subst (λ (l : List ℕ). IsLead true (begins_node true) g l) (bare_text n t z) x.4) in
       let text : p ++ (b ++ (58 ∷ (g ++ node_text n []))) ≡ (p ++ b) ++ (58 ∷ []) = ap (λ l. p ++ (b ++ (58 ∷ (l ++ node_text n [])))) nothing ∙ (ap (λ l. p ++ (b ++ (58 ∷ l))) (bare_text n [] z) ∙ sym (append_assoc p b (58 ∷ []))) in
       whole_by (p ++ (b ++ (58 ∷ (g ++ node_text n [])))) t (ap ends_return text ∙ return_append (p ++ b) 58 []))
@@ -108,7 +108,7 @@ unfolding pairs_returns
 pairs_behind [] t h = h
 pairs_behind (b ∷ x) t h = pairs_behind x t (go (is_return b) h) where
   go : (r : Bool) → cond r (front is_feed (x ++ t) && pairs_returns (x ++ t)) (pairs_returns (x ++ t)) ≡ true → pairs_returns (x ++ t) ≡ true
-  go true e = (and_true (front is_feed (x ++ t)) (pairs_returns (x ++ t)) e).1
+  go true e = (and_parts (front is_feed (x ++ t)) (pairs_returns (x ++ t)) e).1
   go false e = e
 
 pub pairs_end : (x t : List ℕ) → pairs_returns (x ++ t) ≡ true → Whole x t → ends_return x ≡ false
@@ -116,7 +116,7 @@ unfolding pairs_returns
 pairs_end [] t h w = refl
 pairs_end (b ∷ []) t h w = go (is_return b) h w where
   go : (r : Bool) → cond r (front is_feed t && pairs_returns t) (pairs_returns t) ≡ true → (r && front is_feed t) ≡ false → r ≡ false
-  go true e f = absurd (false≢true (sym f ∙ (and_true (front is_feed t) (pairs_returns t) e).0))
+  go true e f = absurd (false≢true (sym f ∙ (and_parts (front is_feed t) (pairs_returns t) e).0))
   go false e f = refl
 pairs_end (b ∷ c ∷ x) t h w = pairs_end (c ∷ x) t (pairs_behind (b ∷ []) (c ∷ (x ++ t)) h) w
 

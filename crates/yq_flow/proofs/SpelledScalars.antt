@@ -1,7 +1,7 @@
 -- Scalars that are written are read as they were.
 use Rattle.std.proofs.Common.{◌≡◌, ℕ, Bool, true, false, cond, not, ◌&&◌, ◌||◌, eqb, List, [], ◌∷◌, ◌++◌, Option, Some, None, refl, sym, ap, ◌∙◌, inl, inr, ⊎_elim, append_assoc, append-nil, eqb-true}
 use Rattle.std.proofs.Math.Bool.{and-false}
-use Rattle.std.proofs.lemmas.Bool.{false≢true, cond_both, or_cases}
+use Rattle.std.proofs.lemmas.Bool.{false≢true, cond_both, or_cases, and_parts, not-true, or_parts}
 use Rattle.yq_scalar.specs.declared.kind.Kind.{Kind}
 use Rattle.yq_scalar.specs.declared.kind.Kind.TheVariants as kinds
 use Rattle.yq_scalar.specs.declared.style.Style.TheVariants as styles
@@ -15,7 +15,6 @@ use Rattle.yq_scalar.specs.SchemaReading.{resolve}
 use Rattle.yq_scalar.specs.Text.{is_white, is_feed, is_return, is_break, front}
 use Rattle.yq_scalar.specs.Writable.{can_write_plain, is_string}
 use Rattle.yq_scalar.specs.Written.{written, double}
-use Rattle.yq_scalar.proofs.Bools.{and_true, or_false}
 use Rattle.yq_scalar.proofs.ContentLaws.{quoted_content_is}
 use Rattle.yq_scalar.proofs.PlainSpells.{plain_line, plain_opens, writable_text, writable_same, writable_piece}
 use Rattle.yq_scalar.proofs.PlainWritten.{plain_text_parts}
@@ -27,7 +26,7 @@ use Rattle.yq_flow.specs.Valued.{IsValid}
 -- the content of one line is the line
 front_none : (t : List ℕ) → holds_break t ≡ false → front is_feed t ≡ false
 front_none [] h = refl
-front_none (b ∷ t) h = (or_false (is_feed b) (holds_break t) h).0
+front_none (b ∷ t) h = (or_parts (is_feed b) (holds_break t) h).0
 
 chosen_last : {A : Type 0} (f k : Bool) (y z u : A) → f ≡ false → k ≡ false → cond f y (cond k z u) ≡ u
 chosen_last true k y z u p q = absurd (false≢true (sym p))
@@ -38,7 +37,7 @@ pub line_on : (white t : List ℕ) → holds_break t ≡ false → content_on 0 
 unfolding content_on
 line_on white [] h = sym (append-nil white)
 line_on white (b ∷ t) h =
-    let p = or_false (is_feed b) (holds_break t) h in
+    let p = or_parts (is_feed b) (holds_break t) h in
     let no_break : (is_feed b || (is_return b && front is_feed t)) ≡ false = rw p.0 (rw (front_none t p.1) (and-false (is_return b))) in
     let on : List ℕ = white ++ (b ∷ content_on 0 0 within [] t) in
     let here : cond (is_feed b) (content_on 0 0 (broken within) [] t) (cond (is_break (b ∷ t)) (content_on 0 0 within white t) on) ≡ on =
@@ -52,27 +51,23 @@ needs_less flow [] h = refl
 needs_less flow (b ∷ t) h = go _ _ h where
   go : (x y : Bool) → ((is_flow_indicator b || x) || y) ≡ false → (((flow && is_flow_indicator b) || x) || y) ≡ false
   go x y e =
-      let outer = or_false (is_flow_indicator b || x) y e in
-      let both = or_false (is_flow_indicator b) x outer.0 in
+      let outer = or_parts (is_flow_indicator b || x) y e in
+      let both = or_parts (is_flow_indicator b) x outer.0 in
       rw (both.0, both.1, outer.1) (rw (and-false flow) refl)
 
 no_rest_less : (flow : Bool) (t : List ℕ) → no_rest (needs_quotes true) t ≡ true → no_rest (needs_quotes flow) t ≡ true
 no_rest_less flow [] h = refl
 no_rest_less flow (b ∷ t) h =
-    let p = and_true (not (needs_quotes true (b ∷ t))) (no_rest (needs_quotes true) t) h in
-    let inner : needs_quotes true (b ∷ t) ≡ false = flip (needs_quotes true (b ∷ t)) p.0 in
+    let p = and_parts (not (needs_quotes true (b ∷ t))) (no_rest (needs_quotes true) t) h in
+    let inner : needs_quotes true (b ∷ t) ≡ false = not-true (needs_quotes true (b ∷ t)) p.0 in
     rw (needs_less flow (b ∷ t) inner) (no_rest_less flow t p.1)
-  where
-    flip : (x : Bool) → not x ≡ true → x ≡ false
-    flip true e = absurd (false≢true e)
-    flip false e = refl
 
 third : (a b c d e f : Bool) → (c ≡ true → f ≡ true) → (a && b && c && d && e) ≡ true → (a && b && f && d && e) ≡ true
 third a b c d e f then_ h =
-    let p = and_true (a && b && c && d) e h in
-    let q = and_true (a && b && c) d p.0 in
-    let r = and_true (a && b) c q.0 in
-    let s = and_true a b r.0 in
+    let p = and_parts (a && b && c && d) e h in
+    let q = and_parts (a && b && c) d p.0 in
+    let r = and_parts (a && b) c q.0 in
+    let s = and_parts a b r.0 in
     rw (s.0, s.1, then_ r.1, q.1, p.1) refl
 
 text_anywhere : (flow : Bool) (t : List ℕ) → is_plain_text true t ≡ true → is_plain_text flow t ≡ true

@@ -1,6 +1,6 @@
 -- Scalars that are written outside flow collections, in each style of one line, are read as they were.
 use Rattle.std.proofs.Common.{◌≡◌, ℕ, Bool, true, false, eqb, List, [], ◌∷◌, Option, Some, None, refl, sym, ap, ◌∙◌, inl, inr, subst, eqb-true}
-use Rattle.std.proofs.lemmas.Bool.{false≢true}
+use Rattle.std.proofs.lemmas.Bool.{false≢true, and_parts}
 use Rattle.std.specs.List.{list_all}
 use Rattle.std.specs.Str.{chars}
 use Rattle.yq_scalar.specs.declared.style.Place.TheVariants.{Block}
@@ -13,7 +13,6 @@ use Rattle.yq_scalar.specs.Scalar.{ScalarText, string_of, plain_of}
 use Rattle.yq_scalar.specs.Text.{front}
 use Rattle.yq_scalar.specs.Writable.{can_write, can_write_plain, is_string, is_single_char}
 use Rattle.yq_scalar.specs.Written.{written, single, double, IsInline}
-use Rattle.yq_scalar.proofs.Bools.{and_true}
 use Rattle.yq_scalar.proofs.ContentLaws.{quoted_content_is}
 use Rattle.yq_scalar.proofs.PlainSpells.{plain_line, plain_is_text, plain_opens, writable_text, writable_same, writable_piece}
 use Rattle.yq_scalar.proofs.PlainWritten.{plain_text_parts}
@@ -88,7 +87,7 @@ single_spelled s v h all =
 -- what is written in a style of one line spells its scalar
 pub styled_spells : (s : ScalarText) (style : Style) → IsValid s → IsInline style → can_write s style Block ≡ true → SpellsScalar s (written style s.text)
 styled_spells s styles.Plain v i h = plain_spelled s v h
-styled_spells s styles.Single v i h = let p = and_true (is_string s.kind) (list_all is_single_char (chars s.text)) h in single_spelled s v p.0 p.1
+styled_spells s styles.Single v i h = let p = and_parts (is_string s.kind) (list_all is_single_char (chars s.text)) h in single_spelled s v p.0 p.1
 styled_spells s styles.Double v i h = double_spelled s v h
 styled_spells s styles.Literal v i h = absurd i
 styled_spells s styles.Folded v i h = absurd i

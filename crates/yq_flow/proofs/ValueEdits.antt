@@ -1,6 +1,7 @@
 -- Values put into a flow collection.
 use Rattle.std.proofs.Common.{◌≡◌, ℕ, ◌≤◌, Bool, true, false, eqb, cond, List, [], ◌∷◌, ◌++◌, Some, refl, sym, ap, ◌∙◌, subst, eq-eqb}
 use Rattle.std.proofs.lemmas.Bool.{false≢true, or_right}
+use Rattle.std.proofs.lemmas.Option.{same_Some}
 use Rattle.yq_scalar.specs.declared.style.Style.{Style}
 use Rattle.yq_scalar.specs.Keys.{depth}
 use Rattle.yq_scalar.specs.Paths.{Step, is_here, further, change_child, append_child, within, change}
@@ -15,7 +16,6 @@ use Rattle.yq_inline.specs.Nodes.{Node, scalar, Items, none, item, sep_text, ite
 use Rattle.yq_inline.specs.Trees.{inner, scalar_node, key_content, tree_of}
 use Rattle.yq_flow.specs.Valued.{IsValid, IsLabel, IsValueTree}
 use Rattle.yq_inline.specs.Written.{flow_key, flow_of}
-use Rattle.yq_inline.proofs.Binds.{some_same}
 use Rattle.yq_flow.proofs.EditLaws.{appended, replaced, Around, around_is}
 use Rattle.yq_inline.proofs.NodeKeeps.{sep_ends}
 use Rattle.yq_flow.proofs.SpelledLaws.{written_tree}
@@ -31,7 +31,7 @@ unfolding items_text AreItems
 item_ends d k s none rest y a h = cc
 item_ends d k s (item key n sep is) rest y a h = go (is_here s (inner (key_content key))) (item_ends d k (further s) is rest y a.4) h where
   go : (b : Bool) → (item_at k (further s) is rest ≡ Some y → EndsItem k y.rest) → cond b (Some (record { key = key; node = n; rest = sep_text sep (items_text k is rest) })) (item_at k (further s) is rest) ≡ Some y → EndsItem k y.rest
-  go true again e = subst (λ (z : EntryPieces). EndsItem k z.rest) (some_same e) (sep_ends k sep (items_text k is rest) a.3)
+  go true again e = subst (λ (z : EntryPieces). EndsItem k z.rest) (same_Some _ _ e) (sep_ends k sep (items_text k is rest) a.3)
   go false again e = again e
 
 behind_ends : (d k : ℕ) (is : Items) (rest : List ℕ) → is_none is ≡ false → AreItems d k is rest → EndsItem k (behind_last k is rest)

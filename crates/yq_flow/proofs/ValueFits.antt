@@ -1,6 +1,6 @@
 -- What is written in flow style fits into a flow collection.
 use Rattle.std.proofs.Common.{◌≡◌, inl, inr, ⊎_elim, ℕ, ◌≤◌, Bool, true, false, not, eqb, cond, List, [], ◌∷◌, ◌++◌, Some, refl, sym, ap, subst, eqb-true}
-use Rattle.std.proofs.lemmas.Bool.{or_right, or_cases, not-true}
+use Rattle.std.proofs.lemmas.Bool.{or_right, or_cases, not-true, and_parts}
 use Rattle.std.specs.List.{list_all}
 use Rattle.std.specs.Str.{chars}
 use Rattle.yq_scalar.specs.declared.style.Style.{Style}
@@ -11,7 +11,6 @@ use Rattle.yq_scalar.specs.Scalar.{ScalarText}
 use Rattle.yq_scalar.specs.Text.{is_marker}
 use Rattle.yq_scalar.specs.Writable.{can_write, can_write_plain, is_string, is_single_char}
 use Rattle.yq_scalar.specs.Written.{written}
-use Rattle.yq_scalar.proofs.Bools.{and_true}
 use Rattle.yq_scalar.proofs.PlainSpells.{writable_text, writable_piece}
 use Rattle.yq_scalar.proofs.WrittenLaws.{double_spells, single_spells}
 use Rattle.yq_inline.specs.Alike.{EndsItem}
@@ -44,7 +43,7 @@ marker_append (a ∷ b ∷ []) (c ∷ rest) h m = no_third a b c rest m.dash m.d
 marker_append (a ∷ b ∷ c ∷ t) rest h m = rw h refl
 
 plain_unmarked : (t rest : List ℕ) → is_plain_text true t ≡ true → Unmarked rest → is_marker (t ++ rest) ≡ false
-plain_unmarked t rest h m = marker_append t rest (not-true (begins_marker t) (and_true _ (not (begins_marker t)) h).1) m
+plain_unmarked t rest h m = marker_append t rest (not-true (begins_marker t) (and_parts _ (not (begins_marker t)) h).1) m
 
 written_unmarked : (s : ScalarText) (plain : Bool) (rest : List ℕ) → can_write_plain s true ≡ plain → IsValid s → Unmarked rest → is_marker (written (cond plain styles.Plain styles.Double) s.text ++ rest) ≡ false
 written_unmarked s true rest h v m = plain_unmarked s.text rest (writable_text s.kind s.text true v.kind h) m
@@ -87,7 +86,7 @@ scalar_fits k e s styles.Plain rest c ends v i h = record {
   unmarked = plain_unmarked s.text rest (writable_text s.kind s.text true v.kind h) (ends_mark k rest c ends);
 }
 scalar_fits k e s styles.Single rest c ends v i h =
-    let p = and_true (is_string s.kind) (list_all is_single_char (chars s.text)) h in
+    let p = and_parts (is_string s.kind) (list_all is_single_char (chars s.text)) h in
     let there = single_spells s.text rest v.utf8 p.1 (ends_quote k rest c ends) in
     record { is = inr ((39, (last there.chars, there.is)), refl); some = refl; takes = refl; unmarked = no_first 39 _ refl refl }
 scalar_fits k e s styles.Double rest c ends v i h =

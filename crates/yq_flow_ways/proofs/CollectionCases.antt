@@ -1,5 +1,6 @@
 -- A collection at a path stands in the head of a line, in flow, or it has lines of its own, in block.
 use Rattle.std.proofs.Common.{◌≡◌, ◌⊎◌, inl, inr, cond, List, [], ◌∷◌, Option, Some, None, option_map, refl, sym, ap, ◌∙◌, subst}
+use Rattle.std.proofs.lemmas.Option.{none-some, same_Some}
 use Rattle.std.specs.Prelude.{option_and_then}
 use Rattle.yq_scalar.specs.Answers.{◌>>=◌}
 use Rattle.yq_scalar.specs.Paths.{Step, node_at}
@@ -10,16 +11,10 @@ use Rattle.yq_lines.specs.Spots.{is_bare}
 use Rattle.yq_lines.proofs.Finding.{path_node}
 use Rattle.yq_tree.specs.FlowNodes.{bare_line, find_head, head_line}
 use Rattle.yq_change.specs.Siblings.{HasEntries, IsCollectionAt, IsEntry, NodeLines, lines_below, under_line}
-use Rattle.yq_flow_ways.proofs.FlowServedNodes.{Held, HeldAt, held, held_anchored, no_held}
+use Rattle.yq_flow_ways.proofs.FlowServedNodes.{Held, HeldAt, held, held_anchored}
 
 abbrev Reached : Type 0
 Reached = Found × List Step
-
-no_node : {n : Node} → None ≡ Some n → ⊥
-no_node e = cc
-
-node_same : {x y : Node} → Some x ≡ Some y → x ≡ y
-node_same e = cc
 
 -- The collection at a path stands in the head of a line, or it has lines of its own.
 abbrev pub Cases : List Step → Outline → Type 0
@@ -27,7 +22,7 @@ Cases steps o = ((y : Found × List Step) × (find_head steps o ≡ Some y)) ⊎
 
 -- the lines of a node that is a collection: the first of them is the node itself, or an entry or item
 lines_cases : (o : Outline) (x : Held) → held (value o) ≡ Some x → ((b : Found) × (bare_line o ≡ Some b)) ⊎ HasEntries o
-lines_cases end x is = absurd (no_held is)
+lines_cases end x is = absurd (none-some _ is)
 lines_cases (row l u v) x is = go l.mark refl
   where
     go : (m : Mark) → l.mark ≡ m → ((b : Found) × (cond (is_bare l.mark) (Some (record { place = here; line = l; under = u; after = v })) None ≡ Some b)) ⊎ HasEntries (row l u v)
@@ -64,13 +59,13 @@ below_cases s ss o f x found is = go f.line.head refl
         under head (lines_cases f.under x own)
 
 pub collection_cases : (steps : List Step) (o : Outline) (x : Held) → HeldAt steps (value o) x → Cases steps o
-collection_cases [] o x h = root_cases o x (ap held (node_same h.1) ∙ h.2)
+collection_cases [] o x h = root_cases o x (ap held (same_Some _ _ h.1) ∙ h.2)
 collection_cases (s ∷ ss) o x h = go (find s ss o) refl (sym (path_node s ss o) ∙ h.1)
   where
     line : (f : Found) (left : List Step) → find s ss o ≡ Some (f, left) → node_at left (content f.line f.under) ≡ Some h.0 → Cases (s ∷ ss) o
-    line f [] found at = below_cases s ss o f x found (ap held (node_same at) ∙ h.2)
+    line f [] found at = below_cases s ss o f x found (ap held (same_Some _ _ at) ∙ h.2)
     line f (t ∷ ts) found at = inl ((f, t ∷ ts), ap (λ (r : Option Reached). r >>= λ z. head_line z.0 z.1) found)
 
     go : (r : Option Reached) → find s ss o ≡ r → option_and_then (λ z. node_at z.1 (content z.0.line z.0.under)) r ≡ Some h.0 → Cases (s ∷ ss) o
-    go None found at = absurd (no_node at)
+    go None found at = absurd (none-some _ at)
     go (Some z) found at = line z.0 z.1 found at

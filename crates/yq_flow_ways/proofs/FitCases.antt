@@ -1,5 +1,6 @@
 -- An operation that fits has a way in flow, or it stands in block, or at the root.
-use Rattle.std.proofs.Common.{◌≡◌, ◌⊎◌, inl, inr, ℕ, zero, suc, List, [], ◌∷◌, Option, Some, None, refl, sym, ap, ◌∙◌}
+use Rattle.std.proofs.Common.{◌≡◌, ◌⊎◌, inl, inr, ℕ, zero, suc, List, [], ◌∷◌, Option, Some, refl, sym, ap, ◌∙◌}
+use Rattle.std.proofs.lemmas.Option.{none-some, same_Some}
 use Rattle.std.specs.List.{slice_get}
 use Rattle.std.specs.Prelude as prelude
 use Rattle.yq_scalar.specs.Paths.{Step, node_at}
@@ -25,15 +26,9 @@ pub record PartOf (c : Cut) (doc : ℕ) (d : Document) : Type 0 where
   pub there : slice_get (document_parts c) doc ≡ Some part
   pub root : d.root ≡ root_of part
 
-no_document : {d : Document} → None ≡ Some d → ⊥
-no_document e = cc
-
-document_same : {x y : Document} → Some x ≡ Some y → x ≡ y
-document_same e = cc
-
 mapped : (n : ℕ) (ps : List Part) (d : Document) → slice_get (prelude.map document_of ps) n ≡ Some d → (p : Part) × (slice_get ps n ≡ Some p) × (d ≡ document_of p)
-mapped n [] d e = absurd (no_document e)
-mapped zero (p ∷ ps) d e = (p, refl, sym (document_same e))
+mapped n [] d e = absurd (none-some _ e)
+mapped zero (p ∷ ps) d e = (p, refl, sym (same_Some _ _ e))
 mapped (suc n) (p ∷ ps) d e = mapped n ps d e
 
 pub part_of : (c : Cut) (doc : ℕ) (d : Document) → slice_get (documents c) doc ≡ Some d → PartOf c doc d

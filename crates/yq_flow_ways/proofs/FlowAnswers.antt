@@ -1,6 +1,7 @@
 -- What the code finds of flow collections is what the ways inside them take.
 use Rattle.std.proofs.Common.{◌≡◌, ℕ, ◌-◌, ◌≤◌, Bool, true, false, cond, List, [], ◌∷◌, ◌++◌, length, map, take, drop, slice_index_or, Option, Some, None, option_map, refl, sym, ap, ◌∙◌, subst, arith, append_assoc, length-append}
 use Rattle.std.proofs.Math.Seq.{take-append_seam, drop-append_seam}
+use Rattle.std.proofs.lemmas.Option.{none-some, same_Some}
 use Rattle.std.specs.Str.{IsCharBoundary}
 use Rattle.yq_scalar.specs.Answers.{◌>>=◌}
 use Rattle.yq_scalar.specs.Paths.{Step, is_here, further}
@@ -66,15 +67,9 @@ edit_order t e = omega (arith, length-append e.old e.behind)
 
 -- ---- the collection
 
-no_some : {A : Type 0} {x : A} → None ≡ Some x → ⊥
-no_some e = cc
-
-some_same : {A : Type 0} {x y : A} → Some x ≡ Some y → x ≡ y
-some_same e = cc
-
 pub coll_found : (n : ℕ) (o : Option CollPieces) (p : Placed) → Some p ≡ option_map (placed_collection n) o → (w : CollPieces) × (o ≡ Some w) × (p ≡ placed_collection n w)
-coll_found n None p e = absurd (no_some (sym e))
-coll_found n (Some w) p e = (w, refl, some_same e)
+coll_found n None p e = absurd (none-some _ (sym e))
+coll_found n (Some w) p e = (w, refl, same_Some _ _ e)
 
 -- ---- where an item or entry is taken out
 
@@ -82,11 +77,11 @@ core_place : (t : List ℕ) (s : Step) (p : Placed) → remove_place t s (behind
 core_place t s (placed a b c e f) = refl
 
 found_place : (t : List ℕ) (s : Step) (p r : Placed) → collection_of p ≡ Some r → remove_place t s p ≡ remove_place t s r
-found_place t s (placed a b c e nothing) r h = absurd (no_some h)
-found_place t s (placed a b c e (name n)) r h = absurd (no_some h)
-found_place t s (placed a b c e (text x piece)) r h = absurd (no_some h)
-found_place t s (placed a b c e (sequence parts)) r h = ap (remove_place t s) (some_same h)
-found_place t s (placed a b c e (mapping parts)) r h = ap (remove_place t s) (some_same h)
+found_place t s (placed a b c e nothing) r h = absurd (none-some _ h)
+found_place t s (placed a b c e (name n)) r h = absurd (none-some _ h)
+found_place t s (placed a b c e (text x piece)) r h = absurd (none-some _ h)
+found_place t s (placed a b c e (sequence parts)) r h = ap (remove_place t s) (same_Some _ _ h)
+found_place t s (placed a b c e (mapping parts)) r h = ap (remove_place t s) (same_Some _ _ h)
 
 none_among : (total k : ℕ) (b : Option ℕ) (s : Step) (is : Items) (rest : List ℕ) → item_at k s is rest ≡ None → among b s (locate_items total k is rest) ≡ None
 unfolding locate_items
@@ -104,7 +99,7 @@ none_among total k b s (item key n sep is) rest h =
     others = among (Some (end_of (locate total n behind))) (further s) (locate_items total k is rest)
 
     go : (c : Bool) → (item_at k (further s) is rest ≡ None → others ≡ None) → cond c (Some (record { key = key; node = n; rest = behind })) (item_at k (further s) is rest) ≡ None → cond c (Some found) others ≡ None
-    go true again e = absurd (no_some (sym e))
+    go true again e = absurd (none-some _ (sym e))
     go false again e = again e
 
 holder_none : (t : List ℕ) (s : Step) (k c e : ℕ) (parts : Parts) → among None s parts ≡ None → remove_in t s c e (holder k parts) ≡ None
@@ -158,13 +153,13 @@ module _ (c : Cut) (doc : ℕ) (path init : List Step) (s : Step) (w : CollPiece
   removal_at p is = go (item_at w.close s w.items w.rest) refl
     where
       go : (o : Option EntryPieces) → item_at w.close s w.items w.rest ≡ o → RemovalFound (cut_text c) c doc path p
-      go None at = absurd (no_some (sym (is ∙ place_is None at)))
+      go None at = absurd (none-some _ (sym (is ∙ place_is None at)))
       go (Some y) at =
           let a : EntryAt c doc path = record { init = init; step = s; last = last; coll = w; found = found; item = y; at = at } in
           let b = bounds c doc path read a in
           let x = texts c doc path read a in
           let segments = ap (edit_segments (cut_text c) (place_edit (length (cut_text c)) e)) (sym (removed_empty s w)) ∙ segments_at (cut_text c) x.before e x.old in
-          subst (RemovalFound (cut_text c) c doc path) (sym (some_same (is ∙ place_is (Some y) at))) (record {
+          subst (RemovalFound (cut_text c) c doc path) (sym (same_Some _ _ (is ∙ place_is (Some y) at))) (record {
             order = edit_order (cut_text c) e;
             start = b.0;
             end = b.1;
@@ -176,7 +171,7 @@ module _ (c : Cut) (doc : ℕ) (path init : List Step) (s : Step) (w : CollPiece
     where
       go : (o : Option EntryPieces) → item_at w.close s w.items w.rest ≡ o → flow_remove_way (remove doc path) c ≡ None
       go None at = way_is None at
-      go (Some y) at = absurd (no_some (is ∙ place_is (Some y) at))
+      go (Some y) at = absurd (none-some _ (is ∙ place_is (Some y) at))
 
 -- the place that the code finds in a node
 abbrev Placing : List ℕ → Cut → ℕ → List Step → List Step → Step → Placed → Option PlacedEdit → Type 0 → Type 0

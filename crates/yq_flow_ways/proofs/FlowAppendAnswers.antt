@@ -1,5 +1,6 @@
 -- What putting an item or entry into a flow collection comes to, by what the code finds.
 use Rattle.std.proofs.Common.{◌≡◌, ℕ, ◌≤◌, Bool, true, false, not, cond, eqb, List, length, Option, Some, None, option_map, refl, sym, ap, ◌∙◌, subst}
+use Rattle.std.proofs.lemmas.Option.{none-some, same_Some}
 use Rattle.std.specs.Prelude.{is_some}
 use Rattle.std.specs.Str.{IsCharBoundary}
 use Rattle.yq_scalar.specs.Answers.{◌>>=◌}
@@ -23,12 +24,6 @@ use Rattle.yq_flow_ways.proofs.FlowAnswers.{coll_found, edit_order, segments_at}
 use Rattle.yq_flow_ways.proofs.FlowAppendLaws.{bounds, e, placed_there, there, written_is}
 use Rattle.yq_flow_ways.proofs.FlowStandings as standing
 
-some_same : {A : Type 0} {x y : A} → Some x ≡ Some y → x ≡ y
-some_same e = cc
-
-no_some : {A : Type 0} {x : A} → None ≡ Some x → ⊥
-no_some e = cc
-
 -- ---- whether the collection takes it
 
 core_takes : (q : Placed) (key : Option (List ℕ)) → placed_takes (behind_anchor q) key ≡ placed_takes q key
@@ -48,11 +43,11 @@ core_append : (q : Placed) → append_place (behind_anchor q) ≡ append_place q
 core_append (placed a b c e f) = refl
 
 found_append : (p r : Placed) → collection_of p ≡ Some r → append_place p ≡ append_place r
-found_append (placed a b c e nothing) r h = absurd (no_some h)
-found_append (placed a b c e (name n)) r h = absurd (no_some h)
-found_append (placed a b c e (text x piece)) r h = absurd (no_some h)
-found_append (placed a b c e (sequence parts)) r h = ap append_place (some_same h)
-found_append (placed a b c e (mapping parts)) r h = ap append_place (some_same h)
+found_append (placed a b c e nothing) r h = absurd (none-some _ h)
+found_append (placed a b c e (name n)) r h = absurd (none-some _ h)
+found_append (placed a b c e (text x piece)) r h = absurd (none-some _ h)
+found_append (placed a b c e (sequence parts)) r h = ap append_place (same_Some _ _ h)
+found_append (placed a b c e (mapping parts)) r h = ap append_place (same_Some _ _ h)
 
 -- What the code finds of a flow collection at a path.
 pub record FindsColl (t : List ℕ) (c : Cut) (doc : ℕ) (steps : List Step) (q : Placed) : Type 0 where
@@ -93,7 +88,7 @@ module _ (c : Cut) (doc : ℕ) (steps : List Step) (key : Option (List ℕ)) (v 
       let s = there c doc steps key v w.0 f.read w.1 in
       let b = bounds c doc steps key v w.0 f.read w.1 in
       let written : edit.written ≡ key_text (flow_key key) (flow_text v) = written_is (flow_key key) _ w.0 in
-      subst (AppendFound t c doc steps key v) (sym (some_same (is ∙ place_is))) (record {
+      subst (AppendFound t c doc steps key v) (sym (same_Some _ _ (is ∙ place_is))) (record {
         order = edit_order t edit;
         start = b.0;
         end = b.1;

@@ -1,6 +1,7 @@
 -- One item or entry more in a flow collection.
 use Rattle.std.proofs.Common.{◌≡◌, ℕ, suc, ◌+◌, ◌-◌, ◌<◌, ◌≤◌, min, Bool, true, false, not, eqb, cond, List, [], ◌∷◌, ◌++◌, length, Option, Some, None, refl, sym, ap, ◌∙◌, subst, arith, length-append}
 use Rattle.std.proofs.lemmas.Bool.{cond_both, false≢true}
+use Rattle.std.proofs.lemmas.Option.{none-some, same_Some}
 use Rattle.std.proofs.lemmas.Str.{IsCharBoundary-after_ascii}
 use Rattle.std.specs.Prelude.{get_or, is_some}
 use Rattle.std.specs.Str.{IsCharBoundary, IsUtf8}
@@ -82,14 +83,8 @@ one_fits key m w h k f = cond_both (is_none w.items) (appending_first key m w) (
 
 last_bound : (t : List ℕ) (ps : Parts) (e : ℕ) → PartsHaveSpans t ps → last_end ps ≡ Some e → IsCharBoundary t e
 last_bound t end e h is = absurd (cc)
-last_bound t (part key (placed a s c f g) end) e h is = subst (IsCharBoundary t) (own is) h.1.1.ends
-  where
-    own : {x y : ℕ} → Some x ≡ Some y → x ≡ y
-    own e = cc
+last_bound t (part key (placed a s c f g) end) e h is = subst (IsCharBoundary t) (same_Some _ _ is) h.1.1.ends
 last_bound t (part key n (part j m ps)) e h is = last_bound t (part j m ps) e h.2 is
-
-some_place : {x y : PlacedEdit} → Some x ≡ Some y → x ≡ y
-some_place e = cc
 
 -- what is led by a comma stands behind the last item or entry
 comma_at : (t : List ℕ) (at : ℕ) (ps : Parts) (p : PlacedEdit) → PartsHaveSpans t ps → append_at at (last_end ps) ≡ p → p.lead ≡ 44 ∷ (32 ∷ []) → IsCharBoundary t p.start
@@ -106,8 +101,8 @@ comma_bound : (t : List ℕ) (q : Placed) (p : PlacedEdit) → HasSpans t q → 
 comma_bound t (placed a s c e nothing) p h is led = absurd (cc)
 comma_bound t (placed a s c e (name n)) p h is led = absurd (cc)
 comma_bound t (placed a s c e (text v piece)) p h is led = absurd (cc)
-comma_bound t (placed a s c e (sequence parts)) p h is led = comma_at t (min (c + 1) e) parts p h.2 (some_place is) led
-comma_bound t (placed a s c e (mapping parts)) p h is led = comma_at t (min (c + 1) e) parts p h.2 (some_place is) led
+comma_bound t (placed a s c e (sequence parts)) p h is led = comma_at t (min (c + 1) e) parts p h.2 (same_Some _ _ is) led
+comma_bound t (placed a s c e (mapping parts)) p h is led = comma_at t (min (c + 1) e) parts p h.2 (same_Some _ _ is) led
 
 byte_there : (a : List ℕ) (b : ℕ) (t : List ℕ) → get_or (a ++ (b ∷ t)) (length a) 0 ≡ b
 byte_there [] b t = refl
@@ -138,9 +133,6 @@ key_new None n t = tt
 key_new (Some k) n t = subst (λ (m : tree.Node). IsNewKey (Some k) (keys_of (children_of m))) (sym t.2) (new_key k t.1 t.3)
 
 -- ---- the way in a collection
-
-same_document : {d g : Document} → Some d ≡ Some g → d ≡ g
-same_document e = cc
 
 module _ (c : Cut) (doc : ℕ) (steps : List Step) (key : Option (List ℕ)) (v : tree.Node) (w : CollPieces) (read : read_at (cut_text c) ≡ Some c) (found : flow_collection doc steps c ≡ Some w) where
   abbrev at : FlowAt c doc steps w
@@ -199,7 +191,7 @@ module _ (c : Cut) (doc : ℕ) (steps : List Step) (key : Option (List ℕ)) (v 
   append_reads u h takes fits size =
       let known = document_known (cut_text c) c doc at.part (standing.old c doc steps w read found) in
       let old : IsSoundRoot (root_of at.part) = record { unique = known.document.unique; nested = known.document.nested; bound = known.document.bound } in
-      let root : fits.0.root ≡ root_of at.part = ap (λ (d : Document). d.root) (same_document (sym fits.1 ∙ nth_map doc at.part reading.document_of (document_parts c) at.there)) in
+      let root : fits.0.root ≡ root_of at.part = ap (λ (d : Document). d.root) (same_Some _ _ (sym fits.1 ∙ nth_map doc at.part reading.document_of (document_parts c) at.there)) in
       let node : node_at steps (root_of at.part) ≡ Some fits.2.2.0 = ap (node_at steps) (sym root) ∙ fits.2.2.1 in
       let new : IsNewValue v (suc (length steps)) = new_value (suc (length steps)) v h (tree_unique v fits.2.1.0) fits.2.1.2 in
       let room : depth v ≤ room_in x = omega (arith, standing.fewer c doc steps w read found, new.nested) in
@@ -221,12 +213,6 @@ module _ (c : Cut) (doc : ℕ) (steps : List Step) (key : Option (List ℕ)) (v 
 
 -- ---- the way
 
-no_segments : {ss : List Segment} → None ≡ Some ss → ⊥
-no_segments e = cc
-
-segments_same : {x y : List Segment} → Some x ≡ Some y → x ≡ y
-segments_same e = cc
-
 -- A path leads to a flow collection that takes the item or entry.
 pub record AppendedAt (c : Cut) (doc : ℕ) (steps : List Step) (key : Option (List ℕ)) (v : tree.Node) (ss : List Segment) : Type 0 where
   pub coll : CollPieces
@@ -238,29 +224,29 @@ appended_is : (c : Cut) (doc : ℕ) (steps : List Step) (key : Option (List ℕ)
 appended_is c doc steps key v ss way = let w = bind_some (flow_collection doc steps c) way in go w.0 w.1 (takes_key w.0.close key) refl w.2
   where
     go : (w : CollPieces) → flow_collection doc steps c ≡ Some w → (b : Bool) → takes_key w.close key ≡ b → cond b (Some (flow_segments (cut_text c) (appending (flow_key key) (flow_of v) w))) None ≡ Some ss → AppendedAt c doc steps key v ss
-    go w found true takes e = record { coll = w; found = found; takes = takes; is = segments_same e }
-    go w found false takes e = absurd (no_segments e)
+    go w found true takes e = record { coll = w; found = found; takes = takes; is = same_Some _ _ e }
+    go w found false takes e = absurd (none-some _ e)
 
 pub flow_append_is : IsWay flow_append_way
 flow_append_is = record { old = old_is; reads = reads_is }
   where
     old_is : (op : Operation) (c : Cut) (ss : List Segment) → read_at (cut_text c) ≡ Some c → flow_append_way op c ≡ Some ss → old_text ss ≡ cut_text c
-    old_is (replace doc steps v) c ss read way = absurd (no_segments way)
+    old_is (replace doc steps v) c ss read way = absurd (none-some _ way)
     old_is (append doc steps key v) c ss read way =
         let a = appended_is c doc steps key v ss way in
         let w = there c doc steps key v a.coll read a.found in
         ap old_text (sym a.is) ∙ segments_old (cut_text c) w.before (e c doc steps key v a.coll read a.found) w.text
-    old_is (remove doc steps) c ss read way = absurd (no_segments way)
-    old_is (line_comment doc steps note) c ss read way = absurd (no_segments way)
-    old_is (head_comment doc steps note) c ss read way = absurd (no_segments way)
+    old_is (remove doc steps) c ss read way = absurd (none-some _ way)
+    old_is (line_comment doc steps note) c ss read way = absurd (none-some _ way)
+    old_is (head_comment doc steps note) c ss read way = absurd (none-some _ way)
 
     reads_is : (op : Operation) (c : Cut) (ss : List Segment) → read_at (cut_text c) ≡ Some c → flow_append_way op c ≡ Some ss → HasOperand op → Fits (room_of (cut_text c)) op (documents c) →
         length (new_text ss) ≤ text_limit → ReadsAfter op c (new_text ss)
-    reads_is (replace doc steps v) c ss read way operand fits size = absurd (no_segments way)
+    reads_is (replace doc steps v) c ss read way operand fits size = absurd (none-some _ way)
     reads_is (append doc steps key v) c ss read way operand fits size =
         let a = appended_is c doc steps key v ss way in
         subst (λ (s : List Segment). ReadsAfter (append doc steps key v) c (new_text s)) a.is
         (append_reads c doc steps key v a.coll read a.found operand.0 operand.1 a.takes fits (subst (λ (s : List Segment). length (new_text s) ≤ text_limit) (sym a.is) size))
-    reads_is (remove doc steps) c ss read way operand fits size = absurd (no_segments way)
-    reads_is (line_comment doc steps note) c ss read way operand fits size = absurd (no_segments way)
-    reads_is (head_comment doc steps note) c ss read way operand fits size = absurd (no_segments way)
+    reads_is (remove doc steps) c ss read way operand fits size = absurd (none-some _ way)
+    reads_is (line_comment doc steps note) c ss read way operand fits size = absurd (none-some _ way)
+    reads_is (head_comment doc steps note) c ss read way operand fits size = absurd (none-some _ way)

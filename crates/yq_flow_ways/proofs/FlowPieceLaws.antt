@@ -1,7 +1,7 @@
 -- The pieces of a text from which an item or entry of a flow collection is taken out.
 use Rattle.std.proofs.Common.{◌≡◌, ◌⊎◌, inl, inr, ℕ, ◌-◌, Bool, true, false, ◌&&◌, cond, eqb, eqb-true, List, [], ◌∷◌, ◌++◌, length, take, refl, sym, ap, ◌∙◌, subst, arith, append_assoc, length-append}
 use Rattle.std.proofs.Math.Seq.{take-append_seam, drop-append_seam}
-use Rattle.std.proofs.lemmas.Bool.{cond_both, false≢true, or_cases}
+use Rattle.std.proofs.lemmas.Bool.{cond_both, false≢true, or_cases, and_from, and_parts}
 use Rattle.std.proofs.lemmas.Str.{IsUtf8-drop, IsUtf8-take, IsUtf8-nil, IsUtf8-from_ascii}
 use Rattle.std.proofs.lemmas.Str.Ascii.{IsAscii-cons, IsAscii-nil}
 use Rattle.std.specs.Str.{chars, IsUtf8, IsCharBoundary}
@@ -9,7 +9,6 @@ use Rattle.yq_scalar.specs.Characters.{pairs_returns}
 use Rattle.yq_scalar.specs.Paths.{Step, is_here, further}
 use Rattle.yq_scalar.specs.PlainText.{begins_marker}
 use Rattle.yq_scalar.specs.Text.{front, is_feed, is_return}
-use Rattle.yq_scalar.proofs.Bools.{and_true}
 use Rattle.yq_inline.specs.Alike.{fresh}
 use Rattle.yq_inline.specs.Collections.{CollPieces, coll_text}
 use Rattle.yq_flow.specs.FlowEdits.{FlowEdit}
@@ -18,7 +17,6 @@ use Rattle.yq_flow.specs.Removals.{comma_new, ends_marked, gap_of, has_next, is_
 use Rattle.yq_inline.specs.Trees.{inner, key_content}
 use Rattle.yq_flow.proofs.ReturnLaws.{Whole}
 use Rattle.yq_rows.proofs.CharacterLaws.{all_text, all_join, pairs_back}
-use Rattle.yq_rows.proofs.PieceLaws.{both_true}
 use Rattle.yq_change.specs.TextPieces.{IsPiece}
 
 -- ---- a text cut in two
@@ -29,13 +27,13 @@ pairs_whole [] u h w = refl
 pairs_whole (b ∷ []) u h w = go (is_return b) h w
   where
     go : (r : Bool) → cond r (front is_feed u && pairs_returns u) (pairs_returns u) ≡ true → (r && front is_feed u) ≡ false → cond r (front is_feed [] && pairs_returns []) (pairs_returns []) ≡ true
-    go true h w = absurd (false≢true (sym w ∙ (and_true (front is_feed u) (pairs_returns u) h).0))
+    go true h w = absurd (false≢true (sym w ∙ (and_parts (front is_feed u) (pairs_returns u) h).0))
     go false h w = refl
 pairs_whole (b ∷ (c ∷ x)) u h w = go (is_return b) h (λ k. pairs_whole (c ∷ x) u k w)
   where
     go : (r : Bool) → cond r (is_feed c && pairs_returns (c ∷ (x ++ u))) (pairs_returns (c ∷ (x ++ u))) ≡ true → (pairs_returns (c ∷ (x ++ u)) ≡ true → pairs_returns (c ∷ x) ≡ true) →
         cond r (is_feed c && pairs_returns (c ∷ x)) (pairs_returns (c ∷ x)) ≡ true
-    go true h again = let y = and_true (is_feed c) (pairs_returns (c ∷ (x ++ u))) h in both_true _ _ y.0 (again y.1)
+    go true h again = let y = and_parts (is_feed c) (pairs_returns (c ∷ (x ++ u))) h in and_from _ _ y.0 (again y.1)
     go false h again = again h
 
 -- the text before a place
@@ -49,15 +47,15 @@ behind_utf8 a b u at = subst IsUtf8 (drop-append_seam a b) (IsUtf8-drop (a ++ b)
 
 pub piece_front : (a b : List ℕ) → IsPiece (a ++ b) → IsUtf8 a → Whole a b → IsPiece a
 piece_front a b h u w =
-    let x = and_true (all_text (a ++ b)) (pairs_returns (a ++ b)) h.characters in
-    let y = and_true (all_text a) (all_text b) (sym (all_join a b u) ∙ x.0) in
-    record { utf8 = u; characters = both_true _ _ y.0 (pairs_whole a b x.1 w) }
+    let x = and_parts (all_text (a ++ b)) (pairs_returns (a ++ b)) h.characters in
+    let y = and_parts (all_text a) (all_text b) (sym (all_join a b u) ∙ x.0) in
+    record { utf8 = u; characters = and_from _ _ y.0 (pairs_whole a b x.1 w) }
 
 pub piece_behind : (a b : List ℕ) → IsPiece (a ++ b) → IsUtf8 a → IsCharBoundary (a ++ b) (length a) → IsPiece b
 piece_behind a b h u at =
-    let x = and_true (all_text (a ++ b)) (pairs_returns (a ++ b)) h.characters in
-    let y = and_true (all_text a) (all_text b) (sym (all_join a b u) ∙ x.0) in
-    record { utf8 = behind_utf8 a b h.utf8 at; characters = both_true _ _ y.1 (pairs_back a b x.1) }
+    let x = and_parts (all_text (a ++ b)) (pairs_returns (a ++ b)) h.characters in
+    let y = and_parts (all_text a) (all_text b) (sym (all_join a b u) ∙ x.0) in
+    record { utf8 = behind_utf8 a b h.utf8 at; characters = and_from _ _ y.1 (pairs_back a b x.1) }
 
 -- Of an edit that begins and ends at whole characters, where no CR stands before an LF, the text before and behind it are pieces.
 pub edit_pieces : (t before : List ℕ) (e : FlowEdit) → IsPiece t → t ≡ before ++ (e.old ++ e.behind) → IsCharBoundary t (length t - length (e.old ++ e.behind)) → IsCharBoundary t (length t - length e.behind) →

@@ -1,5 +1,6 @@
 -- An item or entry taken out of a flow collection.
-use Rattle.std.proofs.Common.{◌≡◌, true, ℕ, ◌-◌, ◌≤◌, List, [], ◌∷◌, ◌++◌, length, map, Option, Some, None, option_map, refl, sym, ap, ◌∙◌, subst}
+use Rattle.std.proofs.Common.{◌≡◌, true, ℕ, ◌-◌, ◌≤◌, List, [], ◌∷◌, ◌++◌, length, map, Option, Some, option_map, refl, sym, ap, ◌∙◌, subst}
+use Rattle.std.proofs.lemmas.Option.{none-some}
 use Rattle.std.specs.List.{slice_get}
 use Rattle.std.specs.Str.{IsCharBoundary}
 use Rattle.yq_scalar.specs.Characters.{pairs_returns, text_limit}
@@ -38,9 +39,6 @@ use Rattle.yq_flow_ways.proofs.FlowStandings as standing
 use Rattle.yq_flow_ways.proofs.FlowStandings.{EntryAt, Made, entry_made}
 use Rattle.yq_flow_ways.proofs.FlowSoundLaws.{remove_root, remove_sound}
 use Rattle.yq_flow_ways.proofs.FlowWayLaws.{edited_at, before_is, FlowTexts, flow_made, flow_texts, segments_old}
-
-no_segments : {ss : List Segment} → None ≡ Some ss → ⊥
-no_segments e = cc
 
 -- the document of a number among documents
 nth_document : (k : ℕ) (p : Rattle.yq_rows.specs.Rows.Part) (ps : List Rattle.yq_rows.specs.Rows.Part) (d : Document) → slice_get ps k ≡ Some p → slice_get (map reading.document_of ps) k ≡ Some d → d ≡ reading.document_of p
@@ -108,22 +106,22 @@ pub flow_remove_is : IsWay flow_remove_way
 flow_remove_is = record { old = old_is; reads = reads_is }
   where
     old_is : (op : Operation) (c : Cut) (ss : List Segment) → read_at (cut_text c) ≡ Some c → flow_remove_way op c ≡ Some ss → old_text ss ≡ cut_text c
-    old_is (replace doc steps v) c ss read way = absurd (no_segments way)
-    old_is (append doc steps key v) c ss read way = absurd (no_segments way)
+    old_is (replace doc steps v) c ss read way = absurd (none-some _ way)
+    old_is (append doc steps key v) c ss read way = absurd (none-some _ way)
     old_is (remove doc steps) c ss read way =
         let a = entry_made (removal_of c) c doc steps ss way in
         let w = texts c doc steps read a.0 in
         ap old_text (sym a.1) ∙ segments_old (cut_text c) w.before (removing a.0.step a.0.coll) w.old
-    old_is (line_comment doc steps text) c ss read way = absurd (no_segments way)
-    old_is (head_comment doc steps text) c ss read way = absurd (no_segments way)
+    old_is (line_comment doc steps text) c ss read way = absurd (none-some _ way)
+    old_is (head_comment doc steps text) c ss read way = absurd (none-some _ way)
 
     reads_is : (op : Operation) (c : Cut) (ss : List Segment) → read_at (cut_text c) ≡ Some c → flow_remove_way op c ≡ Some ss → HasOperand op → Fits (room_of (cut_text c)) op (documents c) →
         length (new_text ss) ≤ text_limit → ReadsAfter op c (new_text ss)
-    reads_is (replace doc steps v) c ss read way operand fits size = absurd (no_segments way)
-    reads_is (append doc steps key v) c ss read way operand fits size = absurd (no_segments way)
+    reads_is (replace doc steps v) c ss read way operand fits size = absurd (none-some _ way)
+    reads_is (append doc steps key v) c ss read way operand fits size = absurd (none-some _ way)
     reads_is (remove doc steps) c ss read way operand fits size =
         let a = entry_made (removal_of c) c doc steps ss way in
         subst (λ (s : List Segment). ReadsAfter (remove doc steps) c (new_text s)) a.1
         (removed_reads c doc steps read a.0 fits (subst (λ (s : List Segment). length (new_text s) ≤ text_limit) (sym a.1) size))
-    reads_is (line_comment doc steps text) c ss read way operand fits size = absurd (no_segments way)
-    reads_is (head_comment doc steps text) c ss read way operand fits size = absurd (no_segments way)
+    reads_is (line_comment doc steps text) c ss read way operand fits size = absurd (none-some _ way)
+    reads_is (head_comment doc steps text) c ss read way operand fits size = absurd (none-some _ way)

@@ -1,6 +1,7 @@
 -- What replacing in a flow collection comes to, by what the code finds.
 use Rattle.std.proofs.Common.{◌≡◌, ℕ, ◌-◌, ◌≤◌, Bool, true, false, List, [], ◌∷◌, ◌++◌, length, take, drop, Option, Some, None, option_map, refl, sym, ap, ◌∙◌, subst, arith, append_assoc, append-nil, length-append}
 use Rattle.std.proofs.Math.Seq.{take-append_seam, drop-append_seam}
+use Rattle.std.proofs.lemmas.Option.{none-some, same_Some}
 use Rattle.std.specs.Prelude.{option_and_then}
 use Rattle.std.specs.Str.{IsCharBoundary}
 use Rattle.yq_scalar.specs.Answers.{◌>>=◌}
@@ -28,12 +29,6 @@ use Rattle.yq_flow_ways.proofs.CutLaws.{text_read}
 use Rattle.yq_flow_ways.proofs.FlowAnswers.{coll_found, edit_order, segments_at}
 use Rattle.yq_flow_ways.proofs.FlowReplaceLaws.{bounds, e, m, stands, there, x}
 use Rattle.yq_flow_ways.proofs.FlowStandings.{EntryAt}
-
-some_same : {A : Type 0} {x y : A} → Some x ≡ Some y → x ≡ y
-some_same e = cc
-
-no_some : {A : Type 0} {x : A} → None ≡ Some x → ⊥
-no_some e = cc
 
 -- What the code finds of an item or entry at the last step of a path: the steps, the flow collection and the part.
 pub record Finds (t : List ℕ) (c : Cut) (doc : ℕ) (path init : List Step) (s : Step) (q : Placed) (o : Option PlacedEntry) : Type 0 where
@@ -96,7 +91,7 @@ module _ (c : Cut) (doc : ℕ) (path init : List Step) (s : Step) (q : Placed) (
     where
       go : (g : EntryPieces → List Segment) (y : Option EntryPieces) → None ≡ option_map (locate_entry (length (cut_text c))) y → flow_replace_way (replace doc path v) c ≡ option_map g y → flow_replace_way (replace doc path v) c ≡ None
       go g None is way = way
-      go g (Some y) is way = absurd (no_some is)
+      go g (Some y) is way = absurd (none-some _ is)
 
   -- there is one
   entry_there : (p : PlacedEntry) → o ≡ Some p → (a : EntryAt c doc path) × (p ≡ locate_entry (length (cut_text c)) a.item) × (flow_replace_way (replace doc path v) c ≡ Some (replaced_by (is_kept (node_in doc path c) v) v c a.step a.coll a.item))
@@ -104,9 +99,9 @@ module _ (c : Cut) (doc : ℕ) (path init : List Step) (s : Step) (q : Placed) (
     where
       go : (w : CollPieces) → flow_collection doc init c ≡ Some w → (y : Option EntryPieces) → item_at w.close s w.items w.rest ≡ y → Some p ≡ option_map (locate_entry (length (cut_text c))) y →
           (a : EntryAt c doc path) × (p ≡ locate_entry (length (cut_text c)) a.item) × (flow_replace_way (replace doc path v) c ≡ Some (replaced_by (is_kept (node_in doc path c) v) v c a.step a.coll a.item))
-      go w own None item e = absurd (no_some (sym e))
+      go w own None item e = absurd (none-some _ (sym e))
       go w own (Some y) item e =
-          (record { init = init; step = s; last = sym f.last; coll = w; found = own; item = y; at = item }, some_same e, way_is w own ∙ ap (option_map (replaced_by (is_kept (node_in doc path c) v) v c s w)) item)
+          (record { init = init; step = s; last = sym f.last; coll = w; found = own; item = y; at = item }, same_Some _ _ e, way_is w own ∙ ap (option_map (replaced_by (is_kept (node_in doc path c) v) v c s w)) item)
 
 -- ---- the answers
 

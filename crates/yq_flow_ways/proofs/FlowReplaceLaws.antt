@@ -1,6 +1,7 @@
 -- The content of an item or entry of a flow collection gives way to a value.
 use Rattle.std.proofs.Common.{◌≡◌, ℕ, ◌-◌, ◌≤◌, Bool, true, false, List, [], ◌∷◌, ◌++◌, length, Option, Some, None, refl, sym, ap, ◌∙◌, subst, arith, ◌+◌, append-nil, length-append}
 use Rattle.std.proofs.lemmas.Bool.{cond_both}
+use Rattle.std.proofs.lemmas.Option.{none-some, same_Some}
 use Rattle.std.specs.Str.{IsCharBoundary}
 use Rattle.yq_scalar.specs.Characters.{text_limit}
 use Rattle.yq_scalar.specs.Keys.{depth}
@@ -133,11 +134,8 @@ put_is v old = ap (λ (a : Option (List ℕ)). named a v) (own old) ∙ go (anch
 pub step_change : (path init : List Step) (s : Step) (f : tree.Node → tree.Node) → last_step path ≡ Some (init, s) → change init (within (change_child s f)) ≡ change path f
 step_change path init s f last = change_last init s f ∙ ap (λ (p : List Step). change p f) (sym (last_is path init s last))
 
-no_step : {x : List Step × Step} → None ≡ Some x → ⊥
-no_step e = cc
-
 pub below_root : (block : Bool) (path init : List Step) (s : Step) → last_step path ≡ Some (init, s) → path ≡ [] → block ≡ false
-below_root block path init s last none_left = absurd (no_step (ap last_step (sym none_left) ∙ last))
+below_root block path init s last none_left = absurd (none-some _ (ap last_step (sym none_left) ∙ last))
 
 space_there : (n : inline.Node) → IsPiece (space_for n)
 space_there n = cond_both (is_bare n) (32 ∷ []) [] IsPiece (λ _. one_space) (λ _. nothing_piece)
@@ -235,23 +233,20 @@ replace_reads doc path v c ss read way h fits size =
     subst (λ (s : List Segment). ReadsAfter (replace doc path v) c (new_text s)) a.1
     (by_reads kept v c doc path read a.0 h fits (sym (ap (λ o. is_kept o v) (given c doc path v read a.0 h fits).known)) (subst (λ (s : List Segment). length (new_text s) ≤ text_limit) (sym a.1) size))
 
-no_segments : {ss : List Segment} → None ≡ Some ss → ⊥
-no_segments e = cc
-
 pub flow_replace_is : IsWay flow_replace_way
 flow_replace_is = record { old = old_is; reads = reads_is }
   where
     old_is : (op : Operation) (c : Cut) (ss : List Segment) → read_at (cut_text c) ≡ Some c → flow_replace_way op c ≡ Some ss → old_text ss ≡ cut_text c
     old_is (replace doc steps v) c ss read way = replace_old doc steps v c ss read way
-    old_is (append doc steps key v) c ss read way = absurd (no_segments way)
-    old_is (remove doc steps) c ss read way = absurd (no_segments way)
-    old_is (line_comment doc steps text) c ss read way = absurd (no_segments way)
-    old_is (head_comment doc steps text) c ss read way = absurd (no_segments way)
+    old_is (append doc steps key v) c ss read way = absurd (none-some _ way)
+    old_is (remove doc steps) c ss read way = absurd (none-some _ way)
+    old_is (line_comment doc steps text) c ss read way = absurd (none-some _ way)
+    old_is (head_comment doc steps text) c ss read way = absurd (none-some _ way)
 
     reads_is : (op : Operation) (c : Cut) (ss : List Segment) → read_at (cut_text c) ≡ Some c → flow_replace_way op c ≡ Some ss → HasOperand op → Fits (room_of (cut_text c)) op (documents c) →
         length (new_text ss) ≤ text_limit → ReadsAfter op c (new_text ss)
     reads_is (replace doc steps v) c ss read way operand fits size = replace_reads doc steps v c ss read way operand fits size
-    reads_is (append doc steps key v) c ss read way operand fits size = absurd (no_segments way)
-    reads_is (remove doc steps) c ss read way operand fits size = absurd (no_segments way)
-    reads_is (line_comment doc steps text) c ss read way operand fits size = absurd (no_segments way)
-    reads_is (head_comment doc steps text) c ss read way operand fits size = absurd (no_segments way)
+    reads_is (append doc steps key v) c ss read way operand fits size = absurd (none-some _ way)
+    reads_is (remove doc steps) c ss read way operand fits size = absurd (none-some _ way)
+    reads_is (line_comment doc steps text) c ss read way operand fits size = absurd (none-some _ way)
+    reads_is (head_comment doc steps text) c ss read way operand fits size = absurd (none-some _ way)

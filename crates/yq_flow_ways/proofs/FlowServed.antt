@@ -1,5 +1,6 @@
 -- There is a way for each operation in a flow collection.
 use Rattle.std.proofs.Common.{◌≡◌, ℕ, Bool, true, false, not, cond, eqb, List, ◌∷◌, Option, Some, None, option_map, refl, sym, ap, ◌∙◌, subst}
+use Rattle.std.proofs.lemmas.Option.{none-some}
 use Rattle.std.specs.List.{slice_get}
 use Rattle.std.specs.Prelude.{is_some}
 use Rattle.yq_scalar.specs.Answers.{◌>>=◌}
@@ -44,18 +45,15 @@ pub record InFlow (c : Cut) (doc : ℕ) (path : List Step) : Type 0 where
   pub node : tree.Node
   pub at : node_at path (root_of part) ≡ Some node
 
-no_node : {n : tree.Node} → None ≡ Some n → ⊥
-no_node e = cc
-
 -- a node with an item or entry is a collection
 pub holds_child : (s : Step) (old n : tree.Node) → child_at s (children_of old) ≡ Some n → (x : Held) × (held old ≡ Some x) × (children_of old ≡ x.1)
-holds_child s (tree.alias name) n e = absurd (no_node e)
-holds_child s (tree.scalar anchor kind text) n e = absurd (no_node e)
+holds_child s (tree.alias name) n e = absurd (none-some _ e)
+holds_child s (tree.scalar anchor kind text) n e = absurd (none-some _ e)
 holds_child s (tree.list anchor cs) n e = ((false, cs), refl, refl)
 holds_child s (tree.map anchor cs) n e = ((true, cs), refl, refl)
 
 entry_of : (o : Option EntryPieces) (n : tree.Node) → option_map entry_tree o ≡ Some n → (y : EntryPieces) × (o ≡ Some y)
-entry_of None n e = absurd (no_node e)
+entry_of None n e = absurd (none-some _ e)
 entry_of (Some y) n e = (y, refl)
 
 -- The path leads to an item or entry of a flow collection.

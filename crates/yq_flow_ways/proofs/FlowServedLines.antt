@@ -1,6 +1,8 @@
 -- The line in whose head a path goes on holds the collection to which the path leads, in an inline node of its row.
 use Rattle.std.proofs.Common.{◌≡◌, inl, inr, ℕ, ◌+◌, true, cond, List, [], ◌∷◌, ◌++◌, length, Option, Some, None, option_map, refl, sym, ap, ◌∙◌, subst, length-append}
 use Rattle.std.proofs.lemmas.Bool.{false≢true}
+use Rattle.std.proofs.lemmas.Option.{none-some, same_Some}
+use mathlib.Core.List.{head-eq_of_cons-eq}
 use Rattle.std.specs.List.{slice_get}
 use Rattle.std.specs.Prelude.{is_some, option_and_then}
 use Rattle.yq_scalar.specs.Answers.{◌>>=◌}
@@ -33,22 +35,10 @@ use Rattle.yq_change.proofs.LineLaws.{above_mark, dashes_count, seat_splits}
 use Rattle.yq_change.proofs.PartLaws.{document_known}
 use Rattle.yq_change.proofs.PlacedLaws.{same_parts}
 use Rattle.yq_change.proofs.RemarkLaws.{last_lines}
-use Rattle.yq_flow_ways.proofs.FlowServedNodes.{Held, HeldAt, coll_held, coll_there, held, held_anchored, no_held, same_held}
+use Rattle.yq_flow_ways.proofs.FlowServedNodes.{Held, HeldAt, coll_held, coll_there, held, held_anchored, same_held}
 
 abbrev Reached : Type 0
 Reached = Found × List Step
-
-no_line : {x : Reached} → None ≡ Some x → ⊥
-no_line e = cc
-
-line_same : {x y : Reached} → Some x ≡ Some y → x ≡ y
-line_same e = cc
-
-node_same : {x y : tree.Node} → Some x ≡ Some y → x ≡ y
-node_same e = cc
-
-no_node : {n : tree.Node} → None ≡ Some n → ⊥
-no_node e = cc
 
 -- ---- the collection is that of the line
 
@@ -59,34 +49,34 @@ HeldIn x y = HeldAt y.1 (content y.0.line y.0.under) x
 -- from the lines of a node, if the first of them is the node itself, under an anchor
 bare_held : (a : Option (List ℕ)) (g : Found → Found) → ((b : Found) → (content (g b).line (g b).under ≡ content b.line b.under)) → (o : Outline) (x : Held) (y : Reached) → held (anchored a (value o)) ≡ Some x →
     option_map {U = Reached} (λ b. (g b, [])) (bare_line o) ≡ Some y → HeldIn x y
-bare_held a g same end x y is e = absurd (no_line e)
+bare_held a g same end x y is e = absurd (none-some _ e)
 bare_held a g same (row l u v) x y is e = go l.mark refl e
   where
     go : (m : Mark) → l.mark ≡ m → option_map {U = Reached} (λ b. (g b, [])) (cond (is_bare m) (Some (record { place = here; line = l; under = u; after = v })) None) ≡ Some y → HeldIn x y
-    go (Key k) mark e = absurd (no_line e)
-    go Dash mark e = absurd (no_line e)
+    go (Key k) mark e = absurd (none-some _ e)
+    go Dash mark e = absurd (none-some _ e)
     go Bare mark e =
         let b : Found = record { place = here; line = l; under = u; after = v } in
         let own : value (row l u v) ≡ content l u = ap (λ (m : Mark). collection m (children (row l u v))) mark in
-        subst (HeldIn x) (line_same e) (content (g b).line (g b).under, refl, ap held (same b ∙ sym own) ∙ (sym (held_anchored a (value (row l u v))) ∙ is))
+        subst (HeldIn x) (same_Some _ _ e) (content (g b).line (g b).under, refl, ap held (same b ∙ sym own) ∙ (sym (held_anchored a (value (row l u v))) ∙ is))
 
 head_held : (f : Found) (left : List Step) (x : Held) (y : Reached) → HeldIn x (f, left) → head_line f left ≡ Some y → HeldIn x y
-head_held f (s ∷ ss) x y h e = subst (HeldIn x) (line_same e) h
+head_held f (s ∷ ss) x y h e = subst (HeldIn x) (same_Some _ _ e) h
 head_held f [] x y h e = go f.line.head refl e
   where
     go : (o : Option tree.Node) → f.line.head ≡ o → in_head o (Some (f, [])) (option_map {U = Reached} (λ b. (inside f b, [])) (bare_line f.under)) ≡ Some y → HeldIn x y
-    go (Some n) head e = subst (HeldIn x) (line_same e) h
+    go (Some n) head e = subst (HeldIn x) (same_Some _ _ e) h
     go None head e =
-        let own : held (anchored f.line.anchor (value f.under)) ≡ Some x = ap (λ o. held (anchored f.line.anchor (head_or o (value f.under)))) (sym head) ∙ (ap held (node_same h.1) ∙ h.2) in
+        let own : held (anchored f.line.anchor (value f.under)) ≡ Some x = ap (λ o. held (anchored f.line.anchor (head_or o (value f.under)))) (sym head) ∙ (ap held (same_Some _ _ h.1) ∙ h.2) in
         bare_held f.line.anchor (inside f) (λ b. refl) f.under x y own e
 
 -- A collection at a path is that to which steps lead on from the line.
 pub line_holds : (steps : List Step) (o : Outline) (y : Found × List Step) (x : Held) → find_head steps o ≡ Some y → HeldAt steps (value o) x → HeldAt y.1 (content y.0.line y.0.under) x
-line_holds [] o y x found h = bare_held None (λ b. b) (λ b. refl) o x y (held_anchored None (value o) ∙ (ap held (node_same h.1) ∙ h.2)) found
+line_holds [] o y x found h = bare_held None (λ b. b) (λ b. refl) o x y (held_anchored None (value o) ∙ (ap held (same_Some _ _ h.1) ∙ h.2)) found
 line_holds (s ∷ ss) o y x found h = go (find s ss o) (sym (path_node s ss o) ∙ h.1) found
   where
     go : (r : Option Reached) → option_and_then (λ z. node_at z.1 (content z.0.line z.0.under)) r ≡ Some h.0 → (r >>= λ z. head_line z.0 z.1) ≡ Some y → HeldIn x y
-    go None at e = absurd (no_line e)
+    go None at e = absurd (none-some _ e)
     go (Some z) at e = head_held z.0 z.1 x y (h.0, at, h.2) e
 
 -- ---- the line is that of a row
@@ -98,9 +88,6 @@ record HeadRow (p : Part) (f : Found) : Type 0 where
   anchor : content_anchor seat_is.row.content ≡ f.line.anchor
   head : head_of seat_is.row.content ≡ f.line.head
 
-one_same : {x y : Line} → x ∷ [] ≡ y ∷ [] → x ≡ y
-one_same e = cc
-
 -- the line of a row's mark, by how many lines stand before it
 row_line : (rs front : List Row) (r : Row) (back : List Row) (before tail : List Line) (l : Line) → rs ≡ front ++ (r ∷ back) → lines_of rs ≡ before ++ (l ∷ tail) →
     length before ≡ length (lines_of front) + length r.dashes → mark_line (above_mark (head_comment r.gap) r.dashes) (mark_column r) r.mark r.content ≡ l
@@ -110,7 +97,7 @@ row_line rs front r back before tail l rows lines size =
     let olds : (lines_of front ++ dashes) ++ (own ∷ lines_of back) ≡ before ++ (l ∷ tail) = sym (ap lines_of rows ∙ last_lines front r back r.content) ∙ lines in
     let count : length (lines_of front ++ dashes) ≡ length before =
     length-append (lines_of front) dashes ∙ (ap (λ (j : ℕ). length (lines_of front) + j) (dashes_count (head_comment r.gap) r.column r.dashes) ∙ sym size) in
-    one_same (same_parts (lines_of front ++ dashes) (own ∷ []) (lines_of back) before (l ∷ []) tail olds count refl).1
+    head-eq_of_cons-eq (same_parts (lines_of front ++ dashes) (own ∷ []) (lines_of back) before (l ∷ []) tail olds count refl).1
 
 head_row : (n : ℕ) (p : Part) (steps : List Step) (f : Found) (rest : List Step) → IsEven n (outline_of p) → find_head steps (outline_of p) ≡ Some (f, rest) → HeadRow p f
 head_row n p steps f rest even found =
@@ -147,14 +134,14 @@ head_there f (inr some) whole = go f.line.head some
 -- ---- the row's content is an inline node with the collection
 
 scalar_holds : (ss : List Step) (a b : Option (List ℕ)) (text : List ℕ) (x : Held) → HeldAt ss (anchored a (tree.scalar b Rattle.yq_scalar.specs.declared.kind.Kind.TheVariants.Text text)) x → ⊥
-scalar_holds [] a b text x h = no_held (ap held (node_same h.1) ∙ h.2)
-scalar_holds (s ∷ ss) a b text x h = no_node h.1
+scalar_holds [] a b text x h = none-some _ (ap held (same_Some _ _ h.1) ∙ h.2)
+scalar_holds (s ∷ ss) a b text x h = none-some _ h.1
 
 content_holds : (y : Content) (h : tree.Node) (rest : List Step) (x : Held) (behind : List ℕ) → head_of y ≡ Some h → HeldAt rest (anchored (content_anchor y) h) x →
     (w : CollPieces) × (content_flow rest y behind ≡ Some w) × (coll_held w ≡ x)
-content_holds (Nothing tail) h rest x behind head at = absurd (no_node head)
+content_holds (Nothing tail) h rest x behind head at = absurd (none-some _ head)
 content_holds (Block space anchor block) h rest x behind head at =
-    absurd (scalar_holds rest (content_anchor (Block space anchor block)) None _ x (subst (λ (n : tree.Node). HeldAt rest (anchored (content_anchor (Block space anchor block)) n) x) (sym (node_same head)) at))
+    absurd (scalar_holds rest (content_anchor (Block space anchor block)) None _ x (subst (λ (n : tree.Node). HeldAt rest (anchored (content_anchor (Block space anchor block)) n) x) (sym (same_Some _ _ head)) at))
 content_holds (Inline space node tail) h rest x behind head at =
     let n = head_tree node h head in
     let same : held (anchored (content_anchor (Inline space node tail)) h) ≡ held (tree_of node) = held_anchored (content_anchor (Inline space node tail)) h ∙ (sym (held_anchored n.0 h) ∙ ap held (sym n.1)) in

@@ -1,5 +1,6 @@
 -- Steps lead to a flow collection in an inline node where they lead to a collection in its tree.
 use Rattle.std.proofs.Common.{◌≡◌, ℕ, Bool, true, false, cond, eqb, List, [], ◌∷◌, Option, Some, None, option_map, refl, sym, ap, ◌∙◌}
+use Rattle.std.proofs.lemmas.Option.{none-some, same_Some}
 use Rattle.std.specs.Prelude.{option_and_then}
 use Rattle.yq_scalar.specs.Paths.{Step, is_here, further, child_at, node_at}
 use Rattle.yq_scalar.specs.Tree as tree
@@ -26,18 +27,6 @@ held (tree.map a cs) = Some (true, cs)
 -- what a flow collection holds
 abbrev pub coll_held : CollPieces → Held
 coll_held w = (eqb w.close 125, items_tree w.items)
-
-pub held_same : {x y : Held} → Some x ≡ Some y → x ≡ y
-held_same e = cc
-
-pub no_held : {x : Held} → None ≡ Some x → ⊥
-no_held e = cc
-
-node_same : {x y : tree.Node} → Some x ≡ Some y → x ≡ y
-node_same e = cc
-
-no_node : {n : tree.Node} → None ≡ Some n → ⊥
-no_node e = cc
 
 -- an anchor changes nothing of it
 pub held_anchored : (a : Option (List ℕ)) (n : tree.Node) → held (outlines.anchored a n) ≡ held n
@@ -73,7 +62,7 @@ HeldAt ss root x = (n : tree.Node) × (node_at ss root ≡ Some n) × (held n �
 
 -- the same from another node that holds the same
 pub same_held : (ss : List Step) (a b : tree.Node) (x : Held) → held a ≡ held b → HeldAt ss a x → HeldAt ss b x
-same_held [] a b x same h = (b, refl, sym same ∙ (ap held (node_same h.1) ∙ h.2))
+same_held [] a b x same h = (b, refl, sym same ∙ (ap held (same_Some _ _ h.1) ∙ h.2))
 same_held (s ∷ ss) a b x same h =
     let cs : children_of b ≡ children_of a = kids_held b ∙ (ap kids (sym same) ∙ sym (kids_held a)) in
     (h.0, ap (λ (k : Children). option_and_then (node_at ss) (child_at s k)) cs ∙ h.1, h.2)
@@ -82,10 +71,10 @@ same_held (s ∷ ss) a b x same h =
 
 coll_here : (node : Node) (rest : List ℕ) (x : Held) → held (tree_of node) ≡ Some x → (w : CollPieces) × (coll_in node rest ≡ Some w) × (coll_held w ≡ x)
 unfolding tree_of
-coll_here empty rest x e = absurd (no_held e)
-coll_here (alias n) rest x e = absurd (no_held e)
-coll_here (scalar p) rest x e = absurd (no_held e)
-coll_here (coll k gap is) rest x e = (record { close = k; gap = gap; items = is; rest = rest }, refl, held_same (sym (held_coll k (items_tree is)) ∙ e))
+coll_here empty rest x e = absurd (none-some _ e)
+coll_here (alias n) rest x e = absurd (none-some _ e)
+coll_here (scalar p) rest x e = absurd (none-some _ e)
+coll_here (coll k gap is) rest x e = (record { close = k; gap = gap; items = is; rest = rest }, refl, same_Some _ _ (sym (held_coll k (items_tree is)) ∙ e))
 coll_here (anchored n gap node) rest x e = coll_here node rest x (sym (held_named n (tree_of node)) ∙ e)
 
 -- the tree of an item or entry
@@ -115,12 +104,12 @@ CollThere ss node rest x = (w : CollPieces) × (coll_along ss node rest ≡ Some
 
 -- Where steps lead to a collection in its tree they lead to one in the node.
 pub coll_there : (ss : List Step) (node : Node) (rest : List ℕ) (x : Held) → HeldAt ss (tree_of node) x → CollThere ss node rest x
-coll_there [] node rest x h = coll_here node rest x (ap held (node_same h.1) ∙ h.2)
+coll_there [] node rest x h = coll_here node rest x (ap held (same_Some _ _ h.1) ∙ h.2)
 coll_there (s ∷ ss) node rest x h =
     let child : option_map entry_tree (inside s node rest) ≡ child_at s (children_of (tree_of node)) = inside_child s node rest ∙ ap (child_at s) (sym (kids_held (tree_of node))) in
     go (inside s node rest) refl (ap (option_and_then (node_at ss)) child ∙ h.1) (λ y found. coll_there ss y.node y.rest x found)
   where
     go : (o : Option EntryPieces) → inside s node rest ≡ o → option_and_then (node_at ss) (option_map entry_tree o) ≡ Some h.0 →
         ((y : EntryPieces) → HeldAt ss (entry_tree y) x → CollThere ss y.node y.rest x) → CollThere (s ∷ ss) node rest x
-    go None is e again = absurd (no_node e)
+    go None is e again = absurd (none-some _ e)
     go (Some y) is e again = let w = again y (h.0, e, h.2) in (w.0, ap (option_and_then (λ (z : EntryPieces). coll_along ss z.node z.rest)) is ∙ w.1, w.2)

@@ -1,5 +1,6 @@
 -- Where a path goes on in the head of a line, the path to the collection above its end leads to a head, too.
 use Rattle.std.proofs.Common.{◌≡◌, cond, List, [], ◌∷◌, Option, Some, None, option_map, refl, sym, ap, ◌∙◌, subst}
+use Rattle.std.proofs.lemmas.Option.{none-some, same_Some}
 use Rattle.std.specs.Prelude.{option_and_then}
 use Rattle.yq_scalar.specs.Answers.{◌>>=◌}
 use Rattle.yq_scalar.specs.Paths.{Step}
@@ -16,18 +17,6 @@ Reached = Found × List Step
 -- there is a line
 abbrev IsThere : Option Reached → Type 0
 IsThere o = (y : Reached) × (o ≡ Some y)
-
-no_line : {x : Reached} → None ≡ Some x → ⊥
-no_line e = cc
-
-line_same : {x y : Reached} → Some x ≡ Some y → x ≡ y
-line_same e = cc
-
-no_steps : {x : List Step × Step} → None ≡ Some x → ⊥
-no_steps e = cc
-
-steps_same : {x y : List Step × Step} → Some x ≡ Some y → x ≡ y
-steps_same e = cc
 
 -- ---- the line of a node whose entry is found
 
@@ -54,7 +43,7 @@ deeper g b [] h = go b.line.head (bare_line b.under) h
     go : (o : Option Node) (r : Option Found) → IsThere (in_head o (Some (b, [])) (option_map {U = Reached} (λ z. (inside b z, [])) r)) →
         IsThere (in_head o (Some (inside g b, [])) (option_map {U = Reached} (λ z. (inside (inside g b) z, [])) r))
     go (Some n) r h = ((inside g b, []), refl)
-    go None None h = absurd (no_line h.1)
+    go None None h = absurd (none-some _ h.1)
     go None (Some z) h = ((inside (inside g b) z, []), refl)
 
 -- the entry's line has a head
@@ -67,12 +56,12 @@ unheaded : (g : Found) (init : List Step) → g.line.head ≡ None → IsThere (
 unheaded g [] head h = subst (λ (o : Option Node). IsThere (head_by o g)) (sym head) (go (bare_line g.under) h)
   where
     go : (r : Option Found) → IsThere (option_map {U = Reached} (λ f. (f, [])) r) → IsThere (option_map {U = Reached} (λ f. (inside g f, [])) r)
-    go None h = absurd (no_line h.1)
+    go None h = absurd (none-some _ h.1)
     go (Some f) h = ((inside g f, []), refl)
 unheaded g (t ∷ ts) head h = subst (λ (o : Option Node). IsThere (on_head (rest_by o g t ts))) (sym head) (go (find t ts g.under) h)
   where
     go : (r : Option Reached) → IsThere (on_head r) → IsThere (on_head (option_map {U = Reached} (λ x. (inside g x.0, x.1)) r))
-    go None h = absurd (no_line h.1)
+    go None h = absurd (none-some _ h.1)
     go (Some x) h = deeper g x.0 x.1 h
 
 rest_there : (g : Found) (y : Step) (ys init : List Step) (f : Found) (s : Step) (ss : List Step) → in_rest g (y ∷ ys) ≡ Some (f, s ∷ ss) →
@@ -80,8 +69,8 @@ rest_there : (g : Found) (y : Step) (ys init : List Step) (f : Found) (s : Step)
 rest_there g y ys init f s ss e under = go g.line.head refl e
   where
     in_lines : (r : Option Reached) → find y ys g.under ≡ r → option_map {U = Reached} (λ x. (inside g x.0, x.1)) r ≡ Some (f, s ∷ ss) → IsThere (find_head init g.under)
-    in_lines None is e = absurd (no_line e)
-    in_lines (Some x) is e = under x.0 (is ∙ ap (λ (left : List Step). Some (x.0, left)) (ap (λ (z : Reached). z.1) (line_same e)))
+    in_lines None is e = absurd (none-some _ e)
+    in_lines (Some x) is e = under x.0 (is ∙ ap (λ (left : List Step). Some (x.0, left)) (ap (λ (z : Reached). z.1) (same_Some _ _ e)))
 
     go : (o : Option Node) → g.line.head ≡ o → rest_by o g y ys ≡ Some (f, s ∷ ss) → IsThere (on_head (in_rest g init))
     go (Some n) head e = headed g n init head
@@ -106,8 +95,8 @@ first_there : (l : Line) (u v : Outline) (t : Step) (f : Found) (s : Step) (ss :
 first_there l u v t f s ss e = go l.mark e
   where
     nowhere : (r : Option Found) → option_map {U = Reached} (λ g. (g, [])) r ≡ Some (f, s ∷ ss) → ⊥
-    nowhere None e = no_line e
-    nowhere (Some g) e = none_left (ap (λ (z : Reached). z.1) (line_same e))
+    nowhere None e = none-some _ e
+    nowhere (Some g) e = none_left (ap (λ (z : Reached). z.1) (same_Some _ _ e))
       where
         none_left : [] ≡ s ∷ ss → ⊥
         none_left e = cc
@@ -125,7 +114,7 @@ next_there l u v t y ys init f s ss e again =
     subst (λ (r : Option Reached). IsThere (on_head r)) (sym (find_is l u v t init)) (go l.mark (find_row t (row l u v)) (sym (find_is l u v t (y ∷ ys)) ∙ e))
   where
     entry : (r : Option Found) → option_and_then (λ g. in_rest g (y ∷ ys)) r ≡ Some (f, s ∷ ss) → IsThere (on_head (option_and_then (λ g. in_rest g init) r))
-    entry None e = absurd (no_line e)
+    entry None e = absurd (none-some _ e)
     entry (Some g) e = rest_there g y ys init f s ss e (again g.under)
 
     go : (m : Mark) (r : Option Found) → found_by m l u v t (y ∷ ys) r ≡ Some (f, s ∷ ss) → IsThere (on_head (found_by m l u v t init r))
@@ -136,16 +125,16 @@ next_there l u v t y ys init f s ss e again =
 -- The path to the collection leads to a line's head.
 pub above_there : (t : Step) (ts : List Step) (o : Outline) (f : Found) (s : Step) (ss init : List Step) (last : Step) → find t ts o ≡ Some (f, s ∷ ss) → last_step (t ∷ ts) ≡ Some (init, last) →
     (y : Found × List Step) × (find_head init o ≡ Some y)
-above_there t ts end f s ss init last e is = absurd (no_line e)
+above_there t ts end f s ss init last e is = absurd (none-some _ e)
 above_there t [] (row l u v) f s ss init last e is =
-    subst (λ (x : List Step). IsThere (find_head x (row l u v))) (ap (λ (x : List Step × Step). x.0) (steps_same is)) (first_there l u v t f s ss e)
+    subst (λ (x : List Step). IsThere (find_head x (row l u v))) (ap (λ (x : List Step × Step). x.0) (same_Some _ _ is)) (first_there l u v t f s ss e)
 above_there t (y ∷ ys) (row l u v) f s ss init last e is = go (last_step (y ∷ ys)) refl is (λ o b x at own. above_there y ys o b s ss x.0 x.1 own at)
   where
     go : (r : Option (List Step × Step)) → last_step (y ∷ ys) ≡ r → option_map {U = List Step × Step} (λ (x : List Step × Step). (t ∷ x.0, x.1)) r ≡ Some (init, last) →
         ((o : Outline) (b : Found) (x : List Step × Step) → last_step (y ∷ ys) ≡ Some x → find y ys o ≡ Some (b, s ∷ ss) → IsThere (find_head x.0 o)) → IsThere (find_head init (row l u v))
-    go None at is again = absurd (no_steps is)
+    go None at is again = absurd (none-some _ is)
     go (Some x) at is again =
-        subst (λ (z : List Step). IsThere (find_head z (row l u v))) (ap (λ (z : List Step × Step). z.0) (steps_same is)) (next_there l u v t y ys x.0 f s ss e (λ o b own. again o b x at own))
+        subst (λ (z : List Step). IsThere (find_head z (row l u v))) (ap (λ (z : List Step × Step). z.0) (same_Some _ _ is)) (next_there l u v t y ys x.0 f s ss e (λ o b own. again o b x at own))
 
 -- a path that isn't the root's has a last step
 pub last_there : (t : Step) (ts : List Step) → (x : List Step × Step) × (last_step (t ∷ ts) ≡ Some x)

@@ -1,6 +1,7 @@
 -- The paths of operations in flow collections, and the roots that they leave.
-use Rattle.std.proofs.Common.{◌≡◌, inl, inr, ℕ, Bool, true, false, ◌||◌, List, [], ◌∷◌, ◌++◌, Option, Some, None, option_map, option_and_then, refl, sym, ap, ◌∙◌, subst}
-use Rattle.std.proofs.lemmas.Bool.{false≢true}
+use Rattle.std.proofs.Common.{◌≡◌, inl, inr, ℕ, false, List, [], ◌∷◌, ◌++◌, Option, Some, None, option_map, option_and_then, refl, sym, ap, ◌∙◌, subst}
+use Rattle.std.proofs.lemmas.Bool.{false≢true, or_parts}
+use Rattle.std.proofs.lemmas.Option.{none-some, same_Some}
 use Rattle.yq_meaning.proofs.PathLaws.{bytes_refl}
 use Rattle.std.specs.List.{list_any}
 use Rattle.std.specs.Str.{bytes_eq}
@@ -17,58 +18,45 @@ use Rattle.yq_flow_ways.specs.FlowWays.{last_step}
 
 -- ---- the last step of a path
 
-no_pair : {x : List Step × Step} → None ≡ Some x → ⊥
-no_pair e = cc
-
-pair_same : {x y : List Step × Step} → Some x ≡ Some y → x ≡ y
-pair_same e = cc
-
 pub last_is : (path init : List Step) (s : Step) → last_step path ≡ Some (init, s) → path ≡ init ++ (s ∷ [])
-last_is [] init s e = absurd (no_pair e)
-last_is (t ∷ []) init s e = ap (λ (y : List Step × Step). y.0 ++ (y.1 ∷ [])) (pair_same e)
+last_is [] init s e = absurd (none-some _ e)
+last_is (t ∷ []) init s e = ap (λ (y : List Step × Step). y.0 ++ (y.1 ∷ [])) (same_Some _ _ e)
 last_is (t ∷ (u ∷ path)) init s e = go (last_step (u ∷ path)) refl e (λ a b is. last_is (u ∷ path) a b is)
   where
     go : (o : Option (List Step × Step)) → last_step (u ∷ path) ≡ o → option_map {U = List Step × Step} (λ (x : List Step × Step). (t ∷ x.0, x.1)) o ≡ Some (init, s) → ((a : List Step) (b : Step) → last_step (u ∷ path) ≡ Some (a, b) → u ∷ path ≡ a ++ (b ∷ [])) →
         t ∷ (u ∷ path) ≡ init ++ (s ∷ [])
-    go None is e again = absurd (no_pair e)
-    go (Some x) is e again = ap (λ (l : List Step). t ∷ l) (again x.0 x.1 is) ∙ ap (λ (y : List Step × Step). y.0 ++ (y.1 ∷ [])) (pair_same e)
-
-no_node : {n : Node} → None ≡ Some n → ⊥
-no_node e = cc
+    go None is e again = absurd (none-some _ e)
+    go (Some x) is e again = ap (λ (l : List Step). t ∷ l) (again x.0 x.1 is) ∙ ap (λ (y : List Step × Step). y.0 ++ (y.1 ∷ [])) (same_Some _ _ e)
 
 -- the node above the one to which a path leads
 pub above_is : (init : List Step) (s : Step) (root n : Node) → node_at (init ++ (s ∷ [])) root ≡ Some n → (old : Node) × (node_at init root ≡ Some old) × (child_at s (children_of old) ≡ Some n)
 above_is [] s root n e = (root, refl, go (child_at s (children_of root)) e)
   where
     go : (o : Option Node) → option_and_then (node_at []) o ≡ Some n → o ≡ Some n
-    go None e = absurd (no_node e)
+    go None e = absurd (none-some _ e)
     go (Some x) e = e
 above_is (t ∷ init) s root n e = go (child_at t (children_of root)) refl e (λ x is. above_is init s x n is)
   where
     go : (o : Option Node) → child_at t (children_of root) ≡ o → option_and_then (node_at (init ++ (s ∷ []))) o ≡ Some n →
         ((x : Node) → node_at (init ++ (s ∷ [])) x ≡ Some n → (old : Node) × (node_at init x ≡ Some old) × (child_at s (children_of old) ≡ Some n)) →
         (old : Node) × (node_at (t ∷ init) root ≡ Some old) × (child_at s (children_of old) ≡ Some n)
-    go None at e again = absurd (no_node e)
+    go None at e again = absurd (none-some _ e)
     go (Some x) at e again = let a = again x e in (a.0, ap (option_and_then (node_at init)) at ∙ a.1, a.2)
 
 -- ---- anchors that nobody names
 
-any_parts : (a b : Bool) → (a || b) ≡ false → (a ≡ false) × (b ≡ false)
-any_parts false b e = (refl, e)
-any_parts true b e = absurd (false≢true (sym e))
-
 not_referred : (a : List ℕ) (names : List Name) → list_any (refers_to a) names ≡ false → IsAmong a (aliases_in names) → ⊥
 not_referred a [] e h = h
 not_referred a (Anchors b ∷ names) e h = not_referred a names e h
-not_referred a (Refers b ∷ names) e (inl same) = let x = any_parts (bytes_eq a b) (list_any (refers_to a) names) e in false≢true (sym x.0 ∙ (ap (bytes_eq a) (sym same) ∙ bytes_refl a))
-not_referred a (Refers b ∷ names) e (inr h) = let x = any_parts (bytes_eq a b) (list_any (refers_to a) names) e in not_referred a names x.1 h
+not_referred a (Refers b ∷ names) e (inl same) = let x = or_parts (bytes_eq a b) (list_any (refers_to a) names) e in false≢true (sym x.0 ∙ (ap (bytes_eq a) (sym same) ∙ bytes_refl a))
+not_referred a (Refers b ∷ names) e (inr h) = let x = or_parts (bytes_eq a b) (list_any (refers_to a) names) e in not_referred a names x.1 h
 
 not_used : (a : List ℕ) (gone names : List Name) → list_any (is_used names) gone ≡ false → IsAmong a (anchors_in gone) → IsAmong a (aliases_in names) → ⊥
 not_used a [] names e h r = h
 not_used a (Refers b ∷ gone) names e h r = not_used a gone names e h r
 not_used a (Anchors b ∷ gone) names e (inl same) r =
-    let x = any_parts (list_any (refers_to b) names) (list_any (is_used names) gone) e in not_referred b names x.0 (subst (λ (c : List ℕ). IsAmong c (aliases_in names)) same r)
-not_used a (Anchors b ∷ gone) names e (inr h) r = let x = any_parts (list_any (refers_to b) names) (list_any (is_used names) gone) e in not_used a gone names x.1 h r
+    let x = or_parts (list_any (refers_to b) names) (list_any (is_used names) gone) e in not_referred b names x.0 (subst (λ (c : List ℕ). IsAmong c (aliases_in names)) same r)
+not_used a (Anchors b ∷ gone) names e (inr h) r = let x = or_parts (list_any (refers_to b) names) (list_any (is_used names) gone) e in not_used a gone names x.1 h r
 
 pub spared_of : (gone names : List Name) → list_any (is_used names) gone ≡ false → AreSpared gone [] names
 spared_of gone names e a h r = not_used a gone names e h r

@@ -1,11 +1,13 @@
 -- The flow collection at a path, in its row and in the text, and an item or entry of it.
 use Rattle.std.proofs.Common.{◌≡◌, ℕ, ◌≤◌, true, List, [], ◌∷◌, ◌++◌, length, Option, Some, None, option_map, refl, ap, ◌∙◌, subst, arith}
+use Rattle.std.proofs.lemmas.Bool.{and_parts}
+use Rattle.std.proofs.lemmas.Option.{none-some, same_Some}
 use Rattle.std.specs.Prelude.{option_and_then}
 use Rattle.yq_scalar.specs.Answers.{◌>>=◌}
 use Rattle.yq_scalar.specs.Characters.{pairs_returns}
 use Rattle.yq_scalar.specs.Paths.{Step}
 use Rattle.yq_scalar.specs.Tree.{Node}
-use Rattle.yq_scalar.proofs.Bools.{and_true, bind_some}
+use Rattle.yq_scalar.proofs.Bools.{bind_some}
 use Rattle.yq_inline.specs.Collections.{CollAt, CollPieces, IsCollAt, coll_in}
 use Rattle.yq_inline.specs.Entries.{EntryPieces, entry_pieces_at, inside, item_at, locate_entry, placed_entry_at}
 use Rattle.yq_inline.specs.Nodes as inline
@@ -35,21 +37,15 @@ use Rattle.yq_flow_ways.specs.FlowWays.{in_flow_at, last_step}
 abbrev Reached : Type 0
 Reached = Found × List Step
 
-no_line : {x : Reached} → None ≡ Some x → ⊥
-no_line e = cc
-
-line_same : {x y : Reached} → Some x ≡ Some y → x ≡ y
-line_same e = cc
-
 -- they are no more than all
 abbrev Fewer : ℕ → Option Reached → Type 0
 Fewer n o = (x : Reached) → o ≡ Some x → length x.1 ≤ n
 
 one_fewer : (n : ℕ) (y : Reached) → length y.1 ≤ n → Fewer n (Some y)
-one_fewer n y h x e = subst (λ (z : Reached). length z.1 ≤ n) (line_same e) h
+one_fewer n y h x e = subst (λ (z : Reached). length z.1 ≤ n) (same_Some _ _ e) h
 
 none_fewer : (n : ℕ) → Fewer n None
-none_fewer n x e = absurd (no_line e)
+none_fewer n x e = absurd (none-some _ e)
 
 none_left : (n : ℕ) (g : Found → Found) (o : Option Found) → Fewer n (option_map {U = Reached} (λ f. (g f, [])) o)
 none_left n g None = none_fewer n
@@ -117,7 +113,7 @@ module _ (c : Cut) (doc : ℕ) (steps : List Step) (w : CollPieces) (read : read
   piece = text_is_piece c read
 
   pub pairs : pairs_returns (row_text.before ++ node_text x.node x.rest) ≡ true
-  pairs = subst (λ (l : List ℕ). pairs_returns l ≡ true) row_text.old (and_true (all_text (cut_text c)) (pairs_returns (cut_text c)) piece.characters).1
+  pairs = subst (λ (l : List ℕ). pairs_returns l ≡ true) row_text.old (and_parts (all_text (cut_text c)) (pairs_returns (cut_text c)) piece.characters).1
 
   pub fewer : length at.rest ≤ length steps
   fewer = steps_fewer steps (outline_of at.part) (at.line, at.rest) at.at.found
@@ -126,12 +122,6 @@ module _ (c : Cut) (doc : ℕ) (steps : List Step) (w : CollPieces) (read : read
   placed = coll_stands c doc steps w read at
 
 -- ---- an item or entry
-
-no_segments : {ss : List Segment} → None ≡ Some ss → ⊥
-no_segments e = cc
-
-segments_same : {x y : List Segment} → Some x ≡ Some y → x ≡ y
-segments_same e = cc
 
 -- A path leads to an item or entry of a flow collection.
 pub record EntryAt (c : Cut) (doc : ℕ) (path : List Step) : Type 0 where
@@ -156,11 +146,11 @@ entry_made g c doc path ss e = go (last_step path) refl e
   where
     here' : (x : List Step × Step) → last_step path ≡ Some x → (w : CollPieces) → flow_collection doc x.0 c ≡ Some w → (o : Option EntryPieces) → item_at w.close x.1 w.items w.rest ≡ o →
         option_map (g x.1 w) o ≡ Some ss → (a : EntryAt c doc path) × (g a.step a.coll a.item ≡ ss)
-    here' x is w found None own e = absurd (no_segments e)
-    here' x is w found (Some y) own e = (record { init = x.0; step = x.1; last = is; coll = w; found = found; item = y; at = own }, segments_same e)
+    here' x is w found None own e = absurd (none-some _ e)
+    here' x is w found (Some y) own e = (record { init = x.0; step = x.1; last = is; coll = w; found = found; item = y; at = own }, same_Some _ _ e)
 
     go : (o : Option (List Step × Step)) → last_step path ≡ o → in_flow_at (made_at g) doc c o ≡ Some ss → (a : EntryAt c doc path) × (g a.step a.coll a.item ≡ ss)
-    go None is e = absurd (no_segments e)
+    go None is e = absurd (none-some _ e)
     go (Some x) is e = let w = bind_some (flow_collection doc x.0 c) e in here' x is w.0 w.1 (item_at w.0.close x.1 w.0.items w.0.rest) refl w.2
 
 -- the items or entries of a node are those of its collection
@@ -170,11 +160,8 @@ coll_entry s (inline.alias n) rest w e = absurd (cc)
 coll_entry s (inline.scalar p) rest w e = absurd (cc)
 coll_entry s (inline.coll k gap is) rest w e = go e
   where
-    same : {x y : CollPieces} → Some x ≡ Some y → x ≡ y
-    same e = cc
-
     go : Some (record { close = k; gap = gap; items = is; rest = rest }) ≡ Some w → item_at k s is rest ≡ item_at w.close s w.items w.rest
-    go e = ap (λ (z : CollPieces). item_at z.close s z.items z.rest) (same e)
+    go e = ap (λ (z : CollPieces). item_at z.close s z.items z.rest) (same_Some _ _ e)
 coll_entry s (inline.anchored n gap node) rest w e = coll_entry s node rest w e
 
 -- the item or entry has its places in a text with those of the collection's node

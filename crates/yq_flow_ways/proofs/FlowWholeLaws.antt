@@ -1,6 +1,7 @@
 -- Where something is written in a flow collection, no CR stands before an LF.
 use Rattle.std.proofs.Common.{◌≡◌, ℕ, Bool, true, false, not, ◌&&◌, cond, eqb, List, [], ◌∷◌, ◌++◌, Some, refl, sym, ap, ◌∙◌, subst, append_assoc}
 use Rattle.std.proofs.lemmas.Bool.{false≢true}
+use Rattle.std.proofs.lemmas.Option.{same_Some}
 use Rattle.yq_scalar.specs.Paths.{Step, is_here, further}
 use Rattle.yq_scalar.specs.Text.{front, is_feed}
 use Rattle.yq_inline.specs.Alike.{EndsItem}
@@ -10,7 +11,6 @@ use Rattle.yq_flow.specs.FlowEdits.{FitsItem, behind_appended, behind_last, cont
 use Rattle.yq_inline.specs.Nodes.{bare, Node, empty, alias, scalar, coll, anchored, Items, none, item, key_text, sep_text, node_text, items_text, is_close, is_bare, AreItems, IsNode, open_of}
 use Rattle.yq_flow.specs.Removals.{ends_return}
 use Rattle.yq_inline.specs.Trees.{inner, key_content}
-use Rattle.yq_inline.proofs.Binds.{some_same}
 use Rattle.yq_flow.proofs.EditLaws.{Around, around_is}
 use Rattle.yq_flow.proofs.EditWholes.{whole_front}
 use Rattle.yq_flow.proofs.ItemLaws.{item_begins, item_some}
@@ -45,7 +45,7 @@ item_behind d k s (item key n sep is) rest y a e = go (is_here s (inner (key_con
     first = record { before = []; text = refl; fits = record { key_is = a.0; some = a.1; is = a.2 }; ends = sep_ends k sep tail a.3 }
 
     go : (b : Bool) → (item_at k (further s) is rest ≡ Some y → Behind d k tail y) → cond b (Some own) (item_at k (further s) is rest) ≡ Some y → Behind d k (key_text key (node_text n (sep_text sep tail))) y
-    go true again e = subst (Behind d k (key_text key (node_text n (sep_text sep tail)))) (some_same e) first
+    go true again e = subst (Behind d k (key_text key (node_text n (sep_text sep tail)))) (same_Some _ _ e) first
     go false again e = further_behind d k (key_text key (node_text n (sep_text sep tail))) tail (key_text key (node_text n (sep_text sep []))) y (item_cut key n sep tail) (again e)
 
 -- the last one

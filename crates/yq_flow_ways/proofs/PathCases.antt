@@ -1,5 +1,6 @@
 -- A path below the root leads to an item or entry of a flow collection, or to one of a block collection.
 use Rattle.std.proofs.Common.{◌≡◌, ◌⊎◌, inl, inr, ℕ, List, ◌∷◌, Option, Some, None, option_map, refl, sym, ap, ◌∙◌, subst}
+use Rattle.std.proofs.lemmas.Option.{none-some, same_Some}
 use Rattle.std.specs.List.{slice_get}
 use Rattle.yq_scalar.specs.Paths.{Step, child_at, node_at}
 use Rattle.yq_scalar.specs.Tree.{Node, alias, scalar, list, map, Children, children_of}
@@ -37,12 +38,6 @@ pub record InBlock (c : Cut) (doc : ℕ) (path : List Step) : Type 0 where
   pub found : Found
   pub is : IsEntryAt init step (outline_of part) lines found
 
-no_node : {n : Node} → None ≡ Some n → ⊥
-no_node e = cc
-
-node_same : {x y : Node} → Some x ≡ Some y → x ≡ y
-node_same e = cc
-
 anchored_children : (a : Option (List ℕ)) (n : Node) → children_of (anchored a n) ≡ children_of n
 anchored_children a (alias name) = refl
 anchored_children a (scalar b kind text) = refl
@@ -59,7 +54,7 @@ value_children end h = absurd h
 value_children (row l u v) h = collection_children l.mark (children (row l u v)) h
 
 line_there : (r : Option Found) (n : Node) → option_map (λ f. content f.line f.under) r ≡ Some n → (f : Found) × (r ≡ Some f)
-line_there None n e = absurd (no_node e)
+line_there None n e = absurd (none-some _ e)
 line_there (Some f) n e = (f, refl)
 
 pub path_cases : (c : Cut) (doc : ℕ) (first : Step) (others : List Step) → NodeBelow c doc first others → InFlow c doc (first ∷ others) ⊎ InBlock c doc (first ∷ others)
@@ -75,7 +70,7 @@ path_cases c doc first others h =
         ((y : Found × List Step) × (find_head init (outline_of h.part) ≡ Some y)) ⊎ ((lines : NodeLines) × IsCollectionAt init (outline_of h.part) lines) → InFlow c doc (first ∷ others) ⊎ InBlock c doc (first ∷ others)
     go init s last old at child (inl y) = inl (record { read = h.read; part = h.part; there = h.there; init = init; step = s; last = last; line = y.0.0; rest = y.0.1; found = y.1; node = h.node; at = h.at })
     go init s last old at child (inr b) =
-        let own : anchored b.0.anchor (value b.0.lines) ≡ old = node_same (sym (lines_are_there init (outline_of h.part) b.0 b.1.place_is) ∙ at) in
+        let own : anchored b.0.anchor (value b.0.lines) ≡ old = same_Some _ _ (sym (lines_are_there init (outline_of h.part) b.0 b.1.place_is) ∙ at) in
         let cs : children b.0.lines ≡ children_of old = sym (value_children b.0.lines b.1.block) ∙ (sym (anchored_children b.0.anchor (value b.0.lines)) ∙ ap children_of own) in
         let f = line_there (find_row s b.0.lines) h.node (sym (row_child s b.0.lines) ∙ (ap (child_at s) cs ∙ child)) in
         inr (record { part = h.part; there = h.there; init = init; step = s; last = last; lines = b.0; found = f.0; is = record { place_is = b.1.place_is; block = b.1.block; found = f.1 } })

@@ -2,6 +2,7 @@
 use Rattle.std.proofs.Common.{◌≡◌, ℕ, zero, suc, ◌+◌, ◌-◌, ◌≤◌, cond, ltb, Bool, true, false, List, [], ◌∷◌, ◌++◌, length, map, take, Option, Some, None, option_map, option_and_then, refl, sym, ap, ◌∙◌, subst, arith, append-nil}
 use Rattle.std.proofs.Math.Seq.{take-append_seam}
 use Rattle.std.proofs.lemmas.Bool.{le-ltb, ltb-false}
+use Rattle.std.proofs.lemmas.Option.{none-some, same_Some}
 use Rattle.std.specs.List.{list_any, slice_get}
 use Rattle.yq_scalar.specs.Answers.{◌>>=◌}
 use Rattle.yq_scalar.specs.Characters.{text_limit}
@@ -39,12 +40,6 @@ use Rattle.yq_ways.proofs.DoneLaws.{read_cut}
 use Rattle.yq_flow_ways.proofs.FlowSoundLaws.{above_is, last_is}
 use Rattle.yq_ways.proofs.RemovingLaws.{part_of}
 
-some_same : {A : Type 0} {x y : A} → Some x ≡ Some y → x ≡ y
-some_same e = cc
-
-none_some : {A : Type 0} {x : A} → None ≡ Some x → ⊥
-none_some e = cc
-
 -- ---- an empty collection in the place of another
 
 -- What is so of an empty collection in the place of the collection o.
@@ -72,9 +67,9 @@ led_map false lead [] = refl
 led_map block lead (s ∷ path) = refl
 
 is_emptied : (o v : Node) → emptied o ≡ Some v → IsEmptied o v
-is_emptied (tree.alias name) v e = absurd (none_some e)
-is_emptied (tree.scalar a kind text) v e = absurd (none_some e)
-is_emptied (tree.list a cs) v e = subst (IsEmptied (tree.list a cs)) (some_same e) (record {
+is_emptied (tree.alias name) v e = absurd (none-some _ e)
+is_emptied (tree.scalar a kind text) v e = absurd (none-some _ e)
+is_emptied (tree.list a cs) v e = subst (IsEmptied (tree.list a cs)) (same_Some _ _ e) (record {
   value = (refl, tt);
   shape = (tt, tt);
   short = refl;
@@ -83,7 +78,7 @@ is_emptied (tree.list a cs) v e = subst (IsEmptied (tree.list a cs)) (some_same 
   bare = refl;
   left = λ s h. λ i. tree.list (first_none a i) (sym h i);
 })
-is_emptied (tree.map a cs) v e = subst (IsEmptied (tree.map a cs)) (some_same e) (record {
+is_emptied (tree.map a cs) v e = subst (IsEmptied (tree.map a cs)) (same_Some _ _ e) (record {
   value = (refl, tt);
   shape = (tt, tt);
   short = refl;
@@ -102,12 +97,12 @@ record IsSole (s : Step) (cs : Children) (m : Node) : Type 0 where
   gone : remove_child s cs ≡ none
 
 sole : (s : Step) (cs : Children) (m : Node) → child_at s cs ≡ Some m → ltb 1 (count cs) ≡ false → IsSole s cs m
-sole s none m e h = absurd (none_some e)
+sole s none m e h = absurd (none-some _ e)
 sole s (child l n none) m e h = go (is_here s l) refl e
   where
     go : (b : Bool) → is_here s l ≡ b → cond b (Some n) None ≡ Some m → IsSole s (child l n none) m
-    go true here e = record { label = l; is = ap (λ x. child l x none) (some_same e); gone = ap (λ b. cond b none (child l n none)) here }
-    go false here e = absurd (none_some e)
+    go true here e = record { label = l; is = ap (λ x. child l x none) (same_Some _ _ e); gone = ap (λ b. cond b none (child l n none)) here }
+    go false here e = absurd (none-some _ e)
 sole s (child l n (child k o cs)) m e h = absurd (omega (arith, ltb-false 1 (count (child l n (child k o cs))) h))
 
 -- the anchors that go
@@ -126,7 +121,7 @@ child_alike s f g at (child label m cs) n h e = go (is_here s label) (child_alik
     go false later e = ap (child label m) (later e)
 
 change_alike : (ss : List Step) (f g : Node → Node) (root n : Node) → node_at ss root ≡ Some n → f n ≡ g n → change ss f root ≡ change ss g root
-change_alike [] f g root n e h = subst (λ m. f m ≡ g m) (sym (some_same e)) h
+change_alike [] f g root n e h = subst (λ m. f m ≡ g m) (sym (same_Some _ _ e)) h
 change_alike (s ∷ ss) f g (tree.alias name) n e h = refl
 change_alike (s ∷ ss) f g (tree.scalar a kind t) n e h = refl
 change_alike (s ∷ ss) f g (tree.list a cs) n e h = ap (tree.list a) (child_alike s (change ss f) (change ss g) (node_at ss) cs n (λ m at. change_alike ss f g m n at h) e)
@@ -134,12 +129,12 @@ change_alike (s ∷ ss) f g (tree.map a cs) n e h = ap (tree.map a) (child_alike
 
 nth_alike : (k : ℕ) (f g : Document → Document) (ds : List Document) (d : Document) → slice_get ds k ≡ Some d → f d ≡ g d → change_nth k f ds ≡ change_nth k g ds
 nth_alike k f g [] d e h = refl
-nth_alike zero f g (x ∷ ds) d e h = ap (λ y. y ∷ ds) (subst (λ y. f y ≡ g y) (sym (some_same e)) h)
+nth_alike zero f g (x ∷ ds) d e h = ap (λ y. y ∷ ds) (subst (λ y. f y ≡ g y) (sym (same_Some _ _ e)) h)
 nth_alike (suc k) f g (x ∷ ds) d e h = ap (λ ys. x ∷ ys) (nth_alike k f g ds d e h)
 
 nth_changed : (k : ℕ) (f : Document → Document) (ds : List Document) (d : Document) → slice_get ds k ≡ Some d → slice_get (change_nth k f ds) k ≡ Some (f d)
-nth_changed k f [] d e = absurd (none_some e)
-nth_changed zero f (x ∷ ds) d e = ap (λ y. Some (f y)) (some_same e)
+nth_changed k f [] d e = absurd (none-some _ e)
+nth_changed zero f (x ∷ ds) d e = ap (λ y. Some (f y)) (same_Some _ _ e)
 nth_changed (suc k) f (x ∷ ds) d e = nth_changed k f ds d e
 
 -- ---- the operation that stands for a removal
@@ -157,18 +152,18 @@ record IsEmptying (doc : ℕ) (steps : List Step) (c : Cut) (r : Operation) : Ty
   is : replace doc init new ≡ r
 
 guard_else : {A : Type 0} {x : Option A} {y : A} (b : Bool) → cond b None x ≡ Some y → (b ≡ false) × (x ≡ Some y)
-guard_else true h = absurd (none_some h)
+guard_else true h = absurd (none-some _ h)
 guard_else false h = (refl, h)
 
 mapped : {A B : Type 0} (f : A → B) (x : Option A) (y : B) → option_map f x ≡ Some y → (a : A) × (x ≡ Some a) × (f a ≡ y)
-mapped f None y e = absurd (none_some e)
-mapped f (Some a) y e = (a, refl, some_same e)
+mapped f None y e = absurd (none-some _ e)
+mapped f (Some a) y e = (a, refl, same_Some _ _ e)
 
 emptying_is : (doc : ℕ) (steps : List Step) (c : Cut) (r : Operation) → emptying (remove doc steps) c ≡ Some r → IsEmptying doc steps c r
 emptying_is doc steps c r h = let g = guard_else (has_others_at doc steps c) h in go g.0 (last_step steps) refl g.1
   where
     go : has_others_at doc steps c ≡ false → (o : Option (List Step × Step)) → last_step steps ≡ o → emptying_at doc c o ≡ Some r → IsEmptying doc steps c r
-    go others None last e = absurd (none_some e)
+    go others None last e = absurd (none-some _ e)
     go others (Some x) last e =
         let m = mapped (replace doc x.0) (node_in doc x.0 c >>= emptied) r e in
         let o = bind_some (node_in doc x.0 c) m.1 in
@@ -200,7 +195,7 @@ module _ (doc : ℕ) (init : List Step) (s : Step) (v : Node) (c : Cut) (h : Sta
   above = above_is init s h.d.root h.node h.node_is
 
   same : above.0 ≡ h.old
-  same = some_same (sym above.1 ∙ at_init)
+  same = same_Some _ _ (sym above.1 ∙ at_init)
 
   alone : ltb 1 (count (children_of h.old)) ≡ false
   alone =
@@ -236,7 +231,7 @@ module _ (doc : ℕ) (init : List Step) (s : Step) (v : Node) (c : Cut) (h : Sta
 
   -- where the root after it has items or entries, the collection is below it
   below : (ss : List Step) (root : Node) → node_at ss root ≡ Some h.old → HasSome (children_of (change ss (replaced v) root)) → IsBelow ss
-  below [] root e some = absurd (subst HasSome (ap (λ (n : Node). children_of (replaced v n)) (some_same e) ∙ h.empty.bare) some)
+  below [] root e some = absurd (subst HasSome (ap (λ (n : Node). children_of (replaced v n)) (same_Some _ _ e) ∙ h.empty.bare) some)
   below (t ∷ ts) root e some = tt
 
   read_so : (new : List ℕ) → ReadsAfter (replace doc init v) c new → ReadsAfter (remove doc (init ++ (s ∷ []))) c new
@@ -254,7 +249,7 @@ module _ (doc : ℕ) (init : List Step) (s : Step) (v : Node) (c : Cut) (h : Sta
               let at_doc : slice_get (documents_of new) doc ≡ Some (done_to block (replace doc init v) h.d) =
               ap (λ x. slice_get (documents x) doc) (read_cut new r.cut r.read) ∙ (ap (λ ds. slice_get ds doc) r.documents_are ∙ nth_changed doc (done_to block (replace doc init v)) (documents c) h.d h.document) in
               let root : d.root ≡ change init (replaced v) h.d.root =
-              ap (λ (x : Document). x.root) (some_same (sym at ∙ at_doc)) ∙ ap (λ (n : Node). change init (replaced n) h.d.root) (h.empty.led_same block h.d.lead init) in
+              ap (λ (x : Document). x.root) (same_Some _ _ (sym at ∙ at_doc)) ∙ ap (λ (n : Node). change init (replaced n) h.d.root) (h.empty.led_same block h.d.lead init) in
               r.room.block d at (below init h.d.root at_init (subst (λ (n : Node). HasSome (children_of n)) root keeps));
         };
       }
@@ -289,11 +284,11 @@ module _ (way : Way) (is_way : IsWay way) where
 
   reads_is : (op : Operation) (c : Cut) (ss : List Segment) → read_at (cut_text c) ≡ Some c → sole_by way op c ≡ Some ss → HasOperand op → Fits (room_of (cut_text c)) op (documents c) →
       length (new_text ss) ≤ text_limit → ReadsAfter op c (new_text ss)
-  reads_is (replace doc steps v) c ss read e operand fits_it size = absurd (none_some e)
-  reads_is (append doc steps key v) c ss read e operand fits_it size = absurd (none_some e)
+  reads_is (replace doc steps v) c ss read e operand fits_it size = absurd (none-some _ e)
+  reads_is (append doc steps key v) c ss read e operand fits_it size = absurd (none-some _ e)
   reads_is (remove doc steps) c ss read e operand fits_it size = sole_reads doc steps c ss read e fits_it size
-  reads_is (line_comment doc steps text) c ss read e operand fits_it size = absurd (none_some e)
-  reads_is (head_comment doc steps text) c ss read e operand fits_it size = absurd (none_some e)
+  reads_is (line_comment doc steps text) c ss read e operand fits_it size = absurd (none-some _ e)
+  reads_is (head_comment doc steps text) c ss read e operand fits_it size = absurd (none-some _ e)
 
   pub sole_is : IsWay (sole_by way)
   sole_is = record { old = old_is; reads = reads_is }

@@ -1,11 +1,12 @@
 -- Two texts that are the same up to a byte behind which nobody looks: the tests of what is in front.
 use Rattle.std.proofs.Common.{◌≡◌, inl, inr, ℕ, Bool, true, false, eqb, List, [], ◌∷◌, ◌++◌, Option, Some, None, refl, sym, ap, ◌∙◌}
 use Rattle.std.proofs.Math.Bool.{and-false}
+use Rattle.std.proofs.lemmas.Bool.{cases_Bool, or_parts}
 use Rattle.std.specs.List.{prefix_len}
 use Rattle.yq_scalar.specs.Plain.{begins_plain, ends_plain, ends_text, is_flow_indicator, is_safe, no_gap, last_line, begins_deep, may_follow, follows, IsPlain}
 use Rattle.yq_scalar.specs.QuotedReading.{is_quote}
 use Rattle.yq_scalar.specs.Text.{upto, cut, NoneIn, front, unless, is_empty, is_white, is_feed, is_break, is_space, separates, is_marker}
-use Rattle.yq_scalar.proofs.Bools.{is_true, or_false, at_byte}
+use Rattle.yq_scalar.proofs.Bools.{at_byte}
 use Rattle.yq_inline.specs.Alike.{is_stop, Alike, stop, colon, any_colon, byte, after}
 use Rattle.yq_inline.specs.Nodes.{first_is, begins_content}
 
@@ -49,7 +50,7 @@ pub alike_break : (f : Option Bool) (t u : List ℕ) → Alike f t u → is_brea
 alike_break _ _ _ (stop {f} {b} {t} {u} x) = stop_break b t x ∙ sym (stop_break b u x)
 alike_break _ _ _ (colon {flow} {t} {u} x y) = refl
 alike_break _ _ _ (any_colon {t} {u}) = refl
-alike_break _ _ _ (byte {f} {b} {t} {u} v w x y) = (or_false (is_white b) (is_break (b ∷ t)) v).1 ∙ sym (or_false (is_white b) (is_break (b ∷ u)) w).1
+alike_break _ _ _ (byte {f} {b} {t} {u} v w x y) = (or_parts (is_white b) (is_break (b ∷ t)) v).1 ∙ sym (or_parts (is_white b) (is_break (b ∷ u)) w).1
 alike_break _ _ _ (after {f} {b} {t} {u} h) = rw (alike_front is_feed f t u h) refl
 
 pub alike_space : (f : Option Bool) (t u : List ℕ) → Alike f t u → is_space t ≡ is_space u
@@ -109,7 +110,7 @@ alike_spaces _ _ _ (stop {f} {b} {t} {u} x) = rw (at_byte is_stop b 32 x refl) r
 alike_spaces _ _ _ (colon {flow} {t} {u} x y) = refl
 alike_spaces _ _ _ (any_colon {t} {u}) = refl
 alike_spaces _ _ _ (byte {f} {b} {t} {u} v w x y) =
-    let none : eqb b 32 ≡ false = (or_false (eqb b 32) (eqb b 9) (or_false (is_white b) (is_break (b ∷ t)) v).0).0 in
+    let none : eqb b 32 ≡ false = (or_parts (eqb b 32) (eqb b 9) (or_parts (is_white b) (is_break (b ∷ t)) v).0).0 in
     rw none refl
 alike_spaces _ _ _ (after {f} {b} {t} {u} h) = rw (alike_spaces f t u h) refl
 
@@ -152,7 +153,7 @@ alike_cut flow _ _ (byte {b = b} {t = t} {u = u} v w x y) = rw (v, w) (refl, byt
 alike_cut flow _ _ (after {b = b} {t = t} {u = u} h) =
     let again = alike_cut flow t u h in
     let same = alike_space (Some flow) (b ∷ t) (b ∷ u) (after h) in
-    elim (is_true (is_space (b ∷ t))) [
+    elim (cases_Bool (is_space (b ∷ t))) [
       | inl e ↦ (let g : is_space (b ∷ u) ≡ true = sym same ∙ e in rw (e, g) (ap (λ l. b ∷ l) again.0, again.1))
       | inr e ↦ (let g : is_space (b ∷ u) ≡ false = sym same ∙ e in rw (e, g) (refl, after h))
     ]

@@ -1,10 +1,11 @@
 -- What stands behind an item, and plain scalars before it.
 use Rattle.std.proofs.Common.{◌≡◌, ◌⊎◌, inl, inr, ⊎_elim, ℕ, Bool, true, false, not, ◌&&◌, ◌||◌, eqb, List, [], ◌∷◌, ◌++◌, Option, Some, None, refl, sym, ap, ◌∙◌, subst, cond, arith, eqb-true}
-use Rattle.std.proofs.lemmas.Bool.{false≢true, or_cases, or_right, not-false, not-true, false_from_ne_true, and_from, le-leb}
+use Rattle.std.proofs.lemmas.Bool.{false≢true, or_cases, or_right, not-false, not-true, false_from_ne_true, and_from, le-leb, and_parts, cases_Bool}
+use Rattle.std.proofs.lemmas.Option.{cond_some}
 use Rattle.std.specs.Option.{option_or}
 use Rattle.yq_scalar.specs.Plain.{begins_plain, ends_plain, ends_text, is_flow_indicator, is_safe, no_gap, last_line, may_follow, follows, IsPlain}
 use Rattle.yq_scalar.specs.Text.{upto, cut, NoneIn, front, unless, is_empty, is_white, is_feed, is_return, is_break, is_space, is_marker}
-use Rattle.yq_scalar.proofs.Bools.{is_true, and_true, at_byte}
+use Rattle.yq_scalar.proofs.Bools.{at_byte}
 use Rattle.yq_inline.specs.declared.gap.Before.{Before}
 use Rattle.yq_inline.specs.declared.gap.Before.TheVariants.{Token, White, Break, Comment}
 use Rattle.yq_inline.specs.Alike.{EndsItem, fresh, KeepsApart}
@@ -53,7 +54,7 @@ node_no_space b bs h =
     let no : is_break (b ∷ bs) ≡ false = false_from_ne_true (is_break (b ∷ bs)) (λ e. ⊎_elim {0, 0, 0}
     (λ (f : is_feed b ≡ true). false≢true (sym (isnt 10 (λ cs. refl)) ∙ f))
     (λ f.
-    let parts = and_true (is_return b) (front is_feed bs) f in
+    let parts = and_parts (is_return b) (front is_feed bs) f in
     let here : begins_node true (13 ∷ bs) ≡ true = subst (λ (x : ℕ). begins_node true (x ∷ bs) ≡ true) (eqb-true b 13 parts.0) h in
     let never : begins_node true (13 ∷ bs) ≡ false = rw parts.1 refl in
     false≢true (sym never ∙ here))
@@ -90,7 +91,7 @@ goes_hash Comment b x none h e = absurd (false≢true (sym none))
 dead_gap : (s : Before) (g : List ℕ) (c : ℕ) (r : List ℕ) → is_comment s ≡ false → AllGo s g (c ∷ r) → is_space (c ∷ r) ≡ false → ends_text true (c ∷ r) ≡ true → dead (cut no_gap (g ++ (c ∷ r))).1 ≡ true
 unfolding upto
 dead_gap s [] c r none all h e = rw h (or_right (eqb c 35) (ends_text true (c ∷ r)) e)
-dead_gap s (b ∷ g) c r none all h e = elim (is_true (is_space (b ∷ (g ++ (c ∷ r))))) [
+dead_gap s (b ∷ g) c r none all h e = elim (cases_Bool (is_space (b ∷ (g ++ (c ∷ r))))) [
   | inl x ↦ rw x (dead_gap (next s b) g c r (next_comment s b (g ++ (c ∷ r)) none x) all.1 h e)
   | inr x ↦ (let hash : eqb b 35 ≡ true = goes_hash s b (g ++ (c ∷ r)) none all.0 x in rw x (rw hash refl))
 ]
@@ -103,7 +104,7 @@ dead_ends k t h e =
 
 -- a plain scalar ends there
 pub ends_plainly : (spaces : Option ℕ) (k : ℕ) (t : List ℕ) → is_close k ≡ true → EndsItem k t → ends_plain true spaces t ≡ true
-ends_plainly spaces k t h e = elim (is_true (is_space t)) [
+ends_plainly spaces k t h e = elim (cases_Bool (is_space t)) [
   | inl x ↦ rw x (rw (not_follow spaces (cut no_gap t).0 (cut no_gap t).1 (dead_ends k t h e)) refl)
   | inr x ↦ ends_by (λ t. is_space t ≡ false → ends_plain true spaces t ≡ true) k t h e (λ r y. refl) (λ r y. refl) (λ r y. refl) (λ b r s y. absurd (false≢true (sym y ∙ s))) x
 ]
@@ -151,7 +152,7 @@ record Goes (f : Bool) (p t u : List ℕ) : Type 0 where
 follow : (k : ℕ) (f : Bool) (p t u : List ℕ) → is_close k ≡ true → EndsItem k t → NoneIn stops_here p t → KeepsApart f p t u → (dead (cut no_gap (p ++ t)).1 ≡ true) ⊎ Goes f p t u
 unfolding upto
 follow k f [] t u h e none keeps = inl (dead_ends k t h e)
-follow k f (b ∷ p) t u h e none keeps = elim (is_true (is_space (b ∷ (p ++ t)))) [
+follow k f (b ∷ p) t u h e none keeps = elim (cases_Bool (is_space (b ∷ (p ++ t)))) [
   | inr x ↦ (let y : is_space (b ∷ (p ++ u)) ≡ false = sym (space_same k f b p t u h e none keeps) ∙ x in
       inr (record { gap = []; first = b; text = p; old = rw x refl; new = rw y refl; white = tt; inside = none; keeps = keeps }))
   | inl x ↦ (let y : is_space (b ∷ (p ++ u)) ≡ true = sym (space_same k f b p t u h e none keeps) ∙ x in ⊎_elim {0, 0, 0}
@@ -170,22 +171,18 @@ follow k f (b ∷ p) t u h e none keeps = elim (is_true (is_space (b ∷ (p ++ t
 ]
 
 -- the line on which it goes on
-one_line : (b : Bool) (bs l : List ℕ) → cond b (Some bs) None ≡ Some l → (b ≡ true) × (bs ≡ l)
-one_line true bs l h = (refl, cc)
-one_line false bs l h = cc
-
 last_fresh : (f : Bool) (gap : List ℕ) → last_line gap ≡ Some [] → fresh f gap ≡ true
 last_fresh f [] h = cc
 last_fresh f (b ∷ gap) h = go (last_line gap) refl (last_fresh (is_feed b) gap) h where
   go : (o : Option (List ℕ)) → last_line gap ≡ o → (last_line gap ≡ Some [] → fresh (is_feed b) gap ≡ true) → option_or o (cond (is_feed b) (Some gap) None) ≡ Some [] → fresh (is_feed b) gap ≡ true
-  go None is again e = let x = one_line (is_feed b) gap [] e in subst (λ (g : List ℕ). fresh (is_feed b) g ≡ true) (sym x.1) x.0
+  go None is again e = let x = cond_some (is_feed b) gap [] e in subst (λ (g : List ℕ). fresh (is_feed b) g ≡ true) (sym x.1) x.0
   go (Some l) is again e = again (is ∙ e)
 
 last_mark : (gap : List ℕ) (c : ℕ) (l : List ℕ) → NoMark gap → last_line gap ≡ Some (c ∷ l) → (eqb c 45 ≡ false) × (eqb c 46 ≡ false)
 last_mark [] c l w h = cc
 last_mark (b ∷ gap) c l w h = go (last_line gap) refl (last_mark gap c l w.2) h where
   go : (o : Option (List ℕ)) → last_line gap ≡ o → (last_line gap ≡ Some (c ∷ l) → (eqb c 45 ≡ false) × (eqb c 46 ≡ false)) → option_or o (cond (is_feed b) (Some gap) None) ≡ Some (c ∷ l) → (eqb c 45 ≡ false) × (eqb c 46 ≡ false)
-  go None is again e = let x = one_line (is_feed b) gap (c ∷ l) e in let y : NoMark (c ∷ l) = subst NoMark x.1 w.2 in (y.0, y.1)
+  go None is again e = let x = cond_some (is_feed b) gap (c ∷ l) e in let y : NoMark (c ∷ l) = subst NoMark x.1 w.2 in (y.0, y.1)
   go (Some m) is again e = again (is ∙ e)
 
 may_same : (f : Bool) (gap : List ℕ) (b : ℕ) (p t u : List ℕ) → NoMark gap → KeepsApart (fresh f gap) (b ∷ p) t u → may_follow (Some 0) (last_line gap) (b ∷ (p ++ t)) ≡ true → may_follow (Some 0) (last_line gap) (b ∷ (p ++ u)) ≡ true
@@ -193,7 +190,7 @@ may_same f gap b p t u w keeps h = go (last_line gap) refl h where
   go : (o : Option (List ℕ)) → last_line gap ≡ o → may_follow (Some 0) o (b ∷ (p ++ t)) ≡ true → may_follow (Some 0) o (b ∷ (p ++ u)) ≡ true
   go None is e = refl
   go (Some []) is e =
-      let m : is_marker (b ∷ (p ++ t)) ≡ false = not-true (is_marker (b ∷ (p ++ t))) (and_true _ (not (is_marker (b ∷ (p ++ t)))) e).1 in
+      let m : is_marker (b ∷ (p ++ t)) ≡ false = not-true (is_marker (b ∷ (p ++ t))) (and_parts _ (not (is_marker (b ∷ (p ++ t)))) e).1 in
       let n : is_marker (b ∷ (p ++ u)) ≡ false = keeps.1 (last_fresh f gap is) m in
       and_from _ (not (is_marker (b ∷ (p ++ u)))) (le-leb 0 _ (omega arith)) (rw n refl)
   go (Some (c ∷ l)) is e = let m = last_mark gap c l w is in
@@ -208,14 +205,14 @@ none_keeps k f (b ∷ p) t u h e d none keeps = (here, none_keeps k (is_feed b) 
   goes_on : Goes f (b ∷ p) t u → follows true (Some 0) (cut no_gap (b ∷ (p ++ t))).0 (cut no_gap (b ∷ (p ++ t))).1 ≡ true → follows true (Some 0) (cut no_gap (b ∷ (p ++ u))).0 (cut no_gap (b ∷ (p ++ u))).1 ≡ true
   goes_on g old =
       let x : follows true (Some 0) g.gap (g.first ∷ (g.text ++ t)) ≡ true = subst (λ (c : List ℕ × List ℕ). follows true (Some 0) c.0 c.1 ≡ true) g.old old in
-      let a = and_true _ (may_follow (Some 0) (last_line g.gap) (g.first ∷ (g.text ++ t))) x in
+      let a = and_parts _ (may_follow (Some 0) (last_line g.gap) (g.first ∷ (g.text ++ t))) x in
       let text = text_same k (fresh f g.gap) g.first g.text t u h e d g.inside g.keeps in
       let b : (not false && not (eqb g.first 35) && not (ends_text true (g.first ∷ (g.text ++ u)))) ≡ true = subst (λ (c : Bool). (not false && not (eqb g.first 35) && not c) ≡ true) text a.0 in
       let y : follows true (Some 0) g.gap (g.first ∷ (g.text ++ u)) ≡ true = and_from _ (may_follow (Some 0) (last_line g.gap) (g.first ∷ (g.text ++ u))) b (may_same f g.gap g.first g.text t u g.white g.keeps a.1) in
       subst (λ (c : List ℕ × List ℕ). follows true (Some 0) c.0 c.1 ≡ true) (sym g.new) y
 
   here : stops_here (b ∷ (p ++ u)) ≡ false
-  here = elim (is_true (is_space (b ∷ (p ++ t)))) [
+  here = elim (cases_Bool (is_space (b ∷ (p ++ t)))) [
     | inr x ↦ (let old : ends_text true (b ∷ (p ++ t)) ≡ false = rw x at none.0 in
         rw (sym same ∙ x) (sym (text_same k f b p t u h e d none keeps) ∙ old))
     | inl x ↦ (let old : not (follows true (Some 0) (cut no_gap (b ∷ (p ++ t))).0 (cut no_gap (b ∷ (p ++ t))).1) ≡ false = rw x at none.0 in

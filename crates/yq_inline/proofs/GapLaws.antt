@@ -3,12 +3,13 @@ use Rattle.std.proofs.Common.{◌≡◌, ℕ, suc, true, false, ◌&&◌, List, 
 use Rattle.std.proofs.lemmas.Bool.{cond_both, not-true}
 use Rattle.std.proofs.lemmas.List.{take-append-drop}
 use Rattle.std.proofs.Math.Seq.{take-append_seam, drop-append_seam}
+use Rattle.std.proofs.lemmas.Option.{same_Some}
 use Rattle.yq_scalar.specs.Text.{is_marker}
 use Rattle.yq_inline.specs.declared.gap.Before.{Before}
 use Rattle.yq_inline.specs.declared.gap.Before.TheVariants.{Token}
 use Rattle.yq_inline.specs.Gaps.{goes, next, behind, is_break, AllGo, stops, IsGap}
 use Rattle.yq_inline.specs.Reading.{gap_len, gap_end, gap_at}
-use Rattle.yq_inline.proofs.Binds.{not_then, some_same}
+use Rattle.yq_inline.proofs.Binds.{not_then}
 
 abbrev Cut : Before → List ℕ → ℕ → Type 0
 Cut s t n = AllGo s (take n t) (drop n t) × (stops (behind s (take n t)) (drop n t) ≡ true) × (gap_end s t ≡ behind s (take n t))
@@ -27,7 +28,7 @@ gap_takes t x h =
     let n = gap_len Token t in
     let c = gap_cut Token t in
     let g = not_then (is_break (gap_end Token t) && is_marker (drop n t)) h in
-    subst (λ (y : List ℕ × List ℕ). (t ≡ y.0 ++ y.1) × IsGap y.0 y.1) (some_same g.1)
+    subst (λ (y : List ℕ × List ℕ). (t ≡ y.0 ++ y.1) × IsGap y.0 y.1) (same_Some _ _ g.1)
     (sym (take-append-drop n t), record { inside = c.0; ends = c.1; unmarked = subst (λ (s : Before). (is_break s && is_marker (drop n t)) ≡ false) c.2 g.0 })
 
 pub gap_append : (s : Before) (p rest : List ℕ) → AllGo s p rest → stops (behind s p) rest ≡ true → (gap_len s (p ++ rest) ≡ length p) × (gap_end s (p ++ rest) ≡ behind s p)

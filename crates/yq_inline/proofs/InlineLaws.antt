@@ -1,17 +1,17 @@
 -- The inline node at an offset, read and spelled.
 use Rattle.std.proofs.Common.{◌≡◌, ℕ, ◌-◌, true, not, List, length, drop, Some, sym, ap, ◌∙◌, subst, ℤ, Result, Ok, Err, IfOk}
+use Rattle.std.proofs.lemmas.Option.{cond_some, same_Some}
 use Rattle.yq_scalar.specs.declared.fault.ReadError.{ReadError}
 use Rattle.yq_scalar.specs.declared.style.Place.{Place}
 use Rattle.yq_scalar.specs.Answers.{◌>>=◌, Gives}
 use Rattle.yq_scalar.specs.Piece.{further_spaces}
 use Rattle.yq_scalar.specs.Writable.{in_flow}
-use Rattle.yq_scalar.proofs.Bools.{bind_some, guard_some}
+use Rattle.yq_scalar.proofs.Bools.{bind_some}
 use Rattle.yq_inline.specs.Inline.{depth_limit, IsInlineAt, inline_at, if_something}
 use Rattle.yq_inline.specs.Nodes.{Node, is_bare}
 use Rattle.yq_inline.specs.Places.{Placed, locate, bare_placed}
 use Rattle.yq_inline.specs.PlacedReading.{placed_node}
 use Rattle.yq_inline.specs.Reading.{all_node}
-use Rattle.yq_inline.proofs.Binds.{some_same}
 use Rattle.yq_inline.proofs.NodeLaws.{all_takes, all_again}
 use Rattle.yq_inline.proofs.Steps.{bare_locate}
 
@@ -22,9 +22,9 @@ inline_takes place n depth at text p h =
     let d = depth_limit - depth in
     let x = bind_some (placed_node flow spaces (length text) d (drop at text)) h in
     let y = bind_some (all_node flow spaces d (drop at text)) x.1 in
-    let g = guard_some (not (bare_placed x.0.0)) x.2 in
+    let g = cond_some (not (bare_placed x.0.0)) _ _ x.2 in
     let a = all_takes flow spaces d (drop at text) y.0 y.1 in
-    let here : locate (length text) y.0.0 y.0.1 ≡ x.0.0 = ap (λ (z : Placed × List ℕ). z.0) (some_same y.2) in
+    let here : locate (length text) y.0.0 y.0.1 ≡ x.0.0 = ap (λ (z : Placed × List ℕ). z.0) (same_Some _ _ y.2) in
     let bare : bare_placed x.0.0 ≡ is_bare y.0.0 = ap bare_placed (sym here) ∙ bare_locate (length text) y.0.0 y.0.1 in
     record {
       node = y.0.0;

@@ -1,9 +1,8 @@
 -- Bytes that keep apart from the text behind them: gaps, and nodes that are something.
 use Rattle.std.proofs.Common.{◌≡◌, inl, inr, ℕ, Bool, true, false, ◌||◌, eqb, cond, List, [], ◌∷◌, ◌++◌, Some, refl, sym, ap, ◌∙◌, subst, arith, Option}
 use Rattle.std.proofs.Math.Bool.{and-false}
-use Rattle.std.proofs.lemmas.Bool.{false≢true, or_right, not-true, cond_both}
+use Rattle.std.proofs.lemmas.Bool.{false≢true, or_right, not-true, cond_both, cases_Bool, or_parts}
 use Rattle.yq_scalar.specs.Text.{front, is_feed, is_space, is_marker}
-use Rattle.yq_scalar.proofs.Bools.{is_true, or_false}
 use Rattle.yq_inline.specs.declared.gap.Before.{Before}
 use Rattle.yq_inline.specs.declared.gap.Before.TheVariants.{Token, White, Break, Comment}
 use Rattle.yq_inline.specs.Alike.{Alike, after, fresh, KeepsApart}
@@ -51,15 +50,15 @@ go_front s (b ∷ g) x y h a = (sym (goes_front s b (g ++ x) (g ++ y) (front_app
 
 stops_keeps : (s : Before) (b : ℕ) (x y : List ℕ) → (is_space (b ∷ x) ≡ false → is_space (b ∷ y) ≡ false) → stops s (b ∷ x) ≡ true → stops s (b ∷ y) ≡ true
 stops_keeps Token b x y k h = rw (k (not-true (is_space (b ∷ x)) h)) refl
-stops_keeps White b x y k h = let q = or_false (is_space (b ∷ x)) (eqb b 35) (not-true (is_space (b ∷ x) || eqb b 35) h) in rw (k q.0, q.1) refl
-stops_keeps Break b x y k h = let q = or_false (is_space (b ∷ x)) (eqb b 35) (not-true (is_space (b ∷ x) || eqb b 35) h) in rw (k q.0, q.1) refl
+stops_keeps White b x y k h = let q = or_parts (is_space (b ∷ x)) (eqb b 35) (not-true (is_space (b ∷ x) || eqb b 35) h) in rw (k q.0, q.1) refl
+stops_keeps Break b x y k h = let q = or_parts (is_space (b ∷ x)) (eqb b 35) (not-true (is_space (b ∷ x) || eqb b 35) h) in rw (k q.0, q.1) refl
 stops_keeps Comment b x y k h = absurd (false≢true h)
 
 pub gap_keeps : (g : List ℕ) (b : ℕ) (p t u : List ℕ) → KeepsApart (fresh false g) (b ∷ p) t u → IsGap g (b ∷ (p ++ t)) → IsGap g (b ∷ (p ++ u))
 gap_keeps g b p t u keeps h = record {
   inside = go_front Token g (b ∷ (p ++ t)) (b ∷ (p ++ u)) refl h.inside;
   ends = stops_keeps (behind Token g) b (p ++ t) (p ++ u) keeps.0 h.ends;
-  unmarked = elim (is_true (at_break (behind Token g))) [
+  unmarked = elim (cases_Bool (at_break (behind Token g))) [
     | inl e ↦ (let m : is_marker (b ∷ (p ++ t)) ≡ false = rw e at h.unmarked in rw (keeps.1 (sym (behind_fresh Token g) ∙ e) m) (and-false (at_break (behind Token g))))
     | inr e ↦ rw e refl
   ];

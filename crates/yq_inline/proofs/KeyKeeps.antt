@@ -1,10 +1,10 @@
 -- What stands behind an anchor or a `:`, and keys, before another text.
 use Rattle.std.proofs.Common.{◌≡◌, inl, inr, ℕ, Bool, true, false, ◌||◌, eqb, List, [], ◌∷◌, ◌++◌, Some, None, refl, sym, ◌∙◌, subst, eqb-true}
-use Rattle.std.proofs.lemmas.Bool.{false≢true, or_right, false_from_ne_true}
+use Rattle.std.proofs.lemmas.Bool.{false≢true, or_right, false_from_ne_true, cases_Bool}
 use Rattle.yq_scalar.specs.Plain.{begins_plain, is_safe}
 use Rattle.yq_scalar.specs.QuotedReading.{is_quote}
 use Rattle.yq_scalar.specs.Text.{front, is_space, separates}
-use Rattle.yq_scalar.proofs.Bools.{is_true, at_byte}
+use Rattle.yq_scalar.proofs.Bools.{at_byte}
 use Rattle.yq_inline.specs.Alike.{Alike, colon, any_colon, EndsItem, fresh, KeepsApart}
 use Rattle.yq_inline.specs.Gaps.{IsGap}
 use Rattle.yq_inline.specs.Nodes.{Key, bare, keyed, Node, key_text, node_text, first_is, begins_node, is_close, IsLead, IsKey, is_bare, IsNode}
@@ -99,7 +99,7 @@ key_bare k p b g t u c e d h = subst (λ (l : List ℕ). IsKey k (keyed p b l) u
 pub key_keeps : (k d : ℕ) (f : Bool) (key : Key) (n : Node) (t u : List ℕ) → is_close k ≡ true → EndsItem k t → EndsItem k u → KeepsApart f (key_text key (node_text n [])) t u → IsNode true (Some 0) d n t → IsNode true (Some 0) d n u →
     IsKey k key (node_text n t) → IsKey k key (node_text n u)
 key_keeps k d f bare n t u c e h keeps x y is = is
-key_keeps k d f (keyed p b g) n t u c e h keeps x y is = elim (is_true (is_bare n)) [
+key_keeps k d f (keyed p b g) n t u c e h keeps x y is = elim (cases_Bool (is_bare n)) [
   | inl z ↦ (let old : IsKey k (keyed p b g) t = subst (λ (l : List ℕ). IsKey k (keyed p b g) l) (bare_text n t z) is in
       subst (λ (l : List ℕ). IsKey k (keyed p b g) l) (sym (bare_text n u z)) (key_bare k p b g t u c e h old))
   | inr z ↦ (let bx = some_begins true (Some 0) d n t z x in

@@ -1,8 +1,8 @@
 -- A node outside flow collections before one text is one before a text that is alike.
 use Rattle.std.proofs.Common.{◌≡◌, inl, inr, ℕ, zero, suc, true, false, not, List, [], ◌∷◌, ◌++◌, Option, Some, refl, sym, ap, ◌∙◌, subst}
-use Rattle.std.proofs.lemmas.Bool.{false≢true, not-false}
+use Rattle.std.proofs.lemmas.Bool.{false≢true, not-false, or_parts}
 use Rattle.yq_scalar.specs.Text.{is_white, is_break, no_white}
-use Rattle.yq_scalar.proofs.Bools.{or_false, at_byte}
+use Rattle.yq_scalar.proofs.Bools.{at_byte}
 use Rattle.yq_inline.specs.Alike.{is_stop, Alike, stop, colon, byte, after}
 use Rattle.yq_inline.specs.Nodes.{Node, empty, alias, scalar, coll, anchored, node_text, items_text, begins_content, IsApart, IsLead, IsNode}
 use Rattle.yq_inline.proofs.Alikes.{alike_append, alike_unless, alike_first, alike_content, alike_none}
@@ -32,7 +32,7 @@ none_kept _ _ (stop {b = c} x) (b ∷ g) r e a none_here =
     let none : is_white c ≡ false = rw (at_byte is_stop c 32 x refl, at_byte is_stop c 9 x refl) refl in
     absurd (black b c (cc) none a.0.0)
 none_kept _ _ (colon {t = t} {u = u} x y) (b ∷ g) r e a none_here = absurd (black b 58 (cc) refl a.0.0)
-none_kept _ _ (byte {b = c} {t = t} {u = u} v w x y) (b ∷ g) r e a none_here = absurd (black b c (cc) (or_false (is_white c) (is_break (c ∷ t)) v).0 a.0.0)
+none_kept _ _ (byte {b = c} {t = t} {u = u} v w x y) (b ∷ g) r e a none_here = absurd (black b c (cc) (or_parts (is_white c) (is_break (c ∷ t)) v).0 a.0.0)
 none_kept _ _ (after {b = c} {t = t} {u = u} h) (b ∷ g) r e a none_here =
     let is : b ≡ c = cc in
     let behind : t ≡ g ++ r = cc in

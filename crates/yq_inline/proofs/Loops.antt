@@ -1,5 +1,6 @@
 -- The loops over items and entries.
 use Rattle.std.proofs.Common.{◌≡◌, ℕ, ◌<◌, true, false, List, [], ◌∷◌, ◌++◌, length, Option, Some, None, refl, sym, ap, ◌∙◌, arith, String, string_bytes}
+use Rattle.std.proofs.lemmas.Option.{same_Some}
 use Rattle.std.specs.declared.alloc.Global.{Global}
 use Rattle.yq_scalar.specs.declared.piece.Piece.{Piece}
 use Rattle.yq_scalar.specs.Answers.{◌>>=◌}
@@ -10,7 +11,6 @@ use Rattle.yq_inline.specs.Places.{Placed, Parts, part, locate, bare_placed}
 use Rattle.yq_inline.specs.PlacedReading.{placed_node, placed_items, placed_key, past_sep}
 use Rattle.yq_inline.specs.Reading.{all_node}
 use Rattle.yq_inline.specs.View.{view, items_view, entries_view, behind_items, behind_entries}
-use Rattle.yq_inline.proofs.Binds.{some_same}
 use Rattle.yq_inline.proofs.NodeLaws.{all_takes}
 use Rattle.yq_inline.proofs.NodeAgain.{item_longer}
 use Rattle.yq_inline.proofs.Steps.{bare_locate, items_more, entries_more, then_entry}
@@ -20,8 +20,8 @@ pub node_shorter : (total d : ℕ) (t : List ℕ) (s : Placed) (r : List ℕ) �
 node_shorter total d t s r h some =
     let x = bind_some (all_node true (Some 0) d t) h in
     let a = all_takes true (Some 0) d t x.0 x.1 in
-    let same : locate total x.0.0 x.0.1 ≡ s = ap (λ y. y.0) (some_same x.2) in
-    let rest : x.0.1 ≡ r = ap (λ y. y.1) (some_same x.2) in
+    let same : locate total x.0.0 x.0.1 ≡ s = ap (λ y. y.0) (same_Some _ _ x.2) in
+    let rest : x.0.1 ≡ r = ap (λ y. y.1) (same_Some _ _ x.2) in
     let full : is_bare x.0.0 ≡ false = sym (bare_locate total x.0.0 x.0.1) ∙ (ap bare_placed same ∙ some) in
     let less : length x.0.1 < length (node_text x.0.0 x.0.1) = item_longer true (Some 0) d bare x.0.0 x.0.1 (rw full refl) a.1 in
     omega (arith, less, ap length a.0, ap length rest)

@@ -1,8 +1,8 @@
 -- A node of a flow collection before what stands behind an item is one before another such text, if its bytes keep apart from that.
 use Rattle.std.proofs.Common.{◌≡◌, inl, inr, ⊎_elim, ℕ, zero, suc, drop, eq-eqb, Bool, true, false, not, ◌||◌, eqb, List, [], ◌∷◌, ◌++◌, Option, Some, refl, sym, ap, ◌∙◌, subst, eqb-true, append-nil}
-use Rattle.std.proofs.lemmas.Bool.{or_cases, or_right, not-false}
+use Rattle.std.proofs.lemmas.Bool.{or_cases, or_right, not-false, cases_Bool, or_parts}
 use Rattle.yq_scalar.specs.Text.{NoneIn, unless, is_empty, is_feed}
-use Rattle.yq_scalar.proofs.Bools.{is_true, or_false, at_byte}
+use Rattle.yq_scalar.proofs.Bools.{at_byte}
 use Rattle.yq_inline.specs.Alike.{Alike, stop, after, EndsItem, fresh, KeepsApart}
 use Rattle.yq_inline.specs.Gaps.{IsGap}
 use Rattle.yq_inline.specs.Nodes.{Key, bare, keyed, Sep, last, comma, Node, empty, alias, scalar, coll, anchored, Items, none, item, key_text, sep_text, node_text, items_text, first_is, in_name, begins_content, is_close, IsLead, IsName, IsSep, is_bare, takes_anchor, IsNode, AreItems}
@@ -57,8 +57,8 @@ name_behind k n (b ∷ g) node t u c d a h = name_by n (b ∷ (g ++ node_text no
 
 lead_behind : (k d : ℕ) (g : List ℕ) (node : Node) (t u : List ℕ) → is_close k ≡ true → EndsItem k t → EndsItem k u → KeepsApart (fresh false g) (node_text node []) t u → takes_anchor node ≡ true → IsNode true (Some 0) d node t → IsNode true (Some 0) d node u →
     IsLead true (begins_content true) g (node_text node t) → IsLead true (begins_content true) g (node_text node u)
-lead_behind k d g node t u c e h keeps a x y lead = elim (is_true (is_bare node)) [
-  | inl z ↦ (let no : begins_content true t ≡ false = (or_false (first_is 38 t) (begins_content true t) (ends_node k t c e)).1 in
+lead_behind k d g node t u c e h keeps a x y lead = elim (cases_Bool (is_bare node)) [
+  | inl z ↦ (let no : begins_content true t ≡ false = (or_parts (first_is 38 t) (begins_content true t) (ends_node k t c e)).1 in
       let none_ : g ≡ [] = lead_none (begins_content true) g t no (subst (λ (l : List ℕ). IsLead true (begins_content true) g l) (bare_text node t z) lead) in
       subst (λ (l : List ℕ). IsLead true (begins_content true) l (node_text node u)) (sym none_) (subst (λ (l : List ℕ). IsLead true (begins_content true) [] l) (sym (bare_text node u z)) (ends_lead (begins_content true) k u c h (λ r. refl) (λ r. refl) (λ r. refl))))
   | inr z ↦ inl (gap_node g d node t u z x keeps (lead_gap (begins_content true) g (node_text node t) (taken_begins true (Some 0) d node t z a x) (some_begins true (Some 0) d node t z x) lead), taken_begins true (Some 0) d node u z a y)
@@ -68,7 +68,7 @@ mutual
   unfolding node_text IsNode items_text AreItems
 
   pub node_keeps : (k : ℕ) (node : Node) (d : ℕ) (f : Bool) (t u : List ℕ) → is_close k ≡ true → EndsItem k t → EndsItem k u → KeepsApart f (node_text node []) t u → IsNode true (Some 0) d node t → IsNode true (Some 0) d node u
-  node_keeps k empty d f t u c e h keeps x = let p = or_false (first_is 38 u) (begins_content true u) (ends_node k u c h) in (p.1, p.0)
+  node_keeps k empty d f t u c e h keeps x = let p = or_parts (first_is 38 u) (begins_content true u) (ends_node k u c h) in (p.1, p.0)
   node_keeps k (alias n) d f t u c e h keeps x = name_by n t u (ends_name k u c h) x
   node_keeps k (scalar p) d f t u c e h keeps x = scalar_keeps k f p t u c e h (subst (λ (l : List ℕ). KeepsApart f l t u) (append-nil p) keeps) x
   node_keeps k (coll j g is) zero f t u c e h keeps x = absurd x.2

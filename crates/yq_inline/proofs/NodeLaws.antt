@@ -1,11 +1,12 @@
 -- How many steps are allowed makes no difference.
 use Rattle.std.proofs.Common.{◌≡◌, ℕ, zero, suc, ◌≤◌, ◌<◌, Bool, true, false, cond, not, ◌&&◌, ◌||◌, eqb, List, [], ◌∷◌, ◌++◌, length, drop, Option, Some, None, refl, sym, ap, ◌∙◌, arith, length-append}
+use Rattle.std.proofs.lemmas.Option.{same_Some}
 use Rattle.yq_scalar.specs.Text.{is_empty}
 use Rattle.yq_scalar.specs.Answers.{◌>>=◌}
 use Rattle.yq_scalar.proofs.Bools.{guard_then}
 use Rattle.yq_inline.specs.Nodes.{first_is, key_text, Key, Sep, Node, empty, alias, scalar, coll, anchored, Items, none, item, node_text, begins_content, is_keyed, is_bare, takes_anchor, IsNode}
 use Rattle.yq_inline.specs.Reading.{gap_at, scalar_at, name_at, lead_at, sep_at, Kids, coll_at, content_at, node_at, deeper, items_at, all_items, kids_of, all_node}
-use Rattle.yq_inline.proofs.Binds.{some_same, bind_same}
+use Rattle.yq_inline.proofs.Binds.{bind_same}
 use Rattle.yq_inline.proofs.GapLaws.{gap_takes}
 use Rattle.yq_inline.proofs.PieceLaws.{name_takes, lead_takes, sep_takes}
 use Rattle.yq_inline.proofs.NodeTakes.{node_takes, items_takes, kids_take, key_in, key_in_takes}
@@ -135,4 +136,4 @@ all_again flow spaces d node rest h = let t = node_text node rest in sym (kids_e
 pub one_node : (flow : Bool) (spaces : Option ℕ) (d : ℕ) (t : List ℕ) (a b : Node) (r s : List ℕ) → t ≡ node_text a r → IsNode flow spaces d a r → t ≡ node_text b s → IsNode flow spaces d b s → (a ≡ b) × (r ≡ s)
 one_node flow spaces d t a b r s p x q y =
     let e = sym (ap (all_node flow spaces d) p ∙ all_again flow spaces d a r x) ∙ (ap (all_node flow spaces d) q ∙ all_again flow spaces d b s y) in
-    (ap (λ y. y.0) (some_same e), ap (λ y. y.1) (some_same e))
+    (ap (λ y. y.0) (same_Some _ _ e), ap (λ y. y.1) (same_Some _ _ e))

@@ -1,12 +1,12 @@
 -- What is read is a node.
 use Rattle.std.proofs.Common.{◌≡◌, ℕ, zero, suc, Bool, true, false, cond, not, ◌&&◌, ◌||◌, eqb, List, [], ◌∷◌, ◌++◌, drop, Option, Some, None, refl, ap, ◌∙◌, subst, inl, inr, ◌⊎◌, ⊎_elim, eqb-true}
-use Rattle.std.proofs.lemmas.Bool.{false≢true}
+use Rattle.std.proofs.lemmas.Bool.{false≢true, and_parts}
+use Rattle.std.proofs.lemmas.Option.{cond_some, same_Some}
 use Rattle.yq_scalar.specs.Text.{unless, is_empty}
-use Rattle.yq_scalar.proofs.Bools.{and_true, bind_some, chosen, guard_some, guard_then}
+use Rattle.yq_scalar.proofs.Bools.{bind_some, chosen, guard_then}
 use Rattle.yq_inline.specs.Gaps.{IsGap}
 use Rattle.yq_inline.specs.Nodes.{first_is, in_name, open_of, is_close, Key, bare, Node, Items, key_text, sep_text, node_text, items_text, begins_content, IsLead, IsName, IsKey, IsSep, is_keyed, is_bare, takes_anchor, Deeper, IsNode, AreItems}
 use Rattle.yq_inline.specs.Reading.{gap_at, scalar_at, name_at, lead_at, key_at, sep_at, Kids, coll_at, content_at, node_at, deeper, items_at}
-use Rattle.yq_inline.proofs.Binds.{some_same}
 use Rattle.yq_inline.proofs.GapLaws.{gap_takes}
 use Rattle.yq_inline.proofs.PieceLaws.{scalar_takes, name_takes, lead_takes, key_takes, sep_takes, front_is, front_not}
 
@@ -27,7 +27,7 @@ coll_takes flow spaces kids d k t s x take_kids close is h =
     let a = gap_takes t gap.0 gap.1 in
     let b = take_kids k gap.0.1 items.0 items.1 in
     let closes : is_close k ≡ true = ⊎_elim {0, 0, 0} (λ e. rw e refl) (λ e. rw e refl) close in
-    subst (Nodal flow spaces d s) (some_same items.2)
+    subst (Nodal flow spaces d s) (same_Some _ _ items.2)
     (is ∙ ap (λ l. open_of k ∷ l) (a.0 ∙ ap (λ l. gap.0.0 ++ l) b.0), (closes, subst (IsGap gap.0.0) b.0 a.1, b.1))
 
 pub content_takes : (flow : Bool) (spaces : Option ℕ) (kids : Kids) (d : ℕ) (t : List ℕ) (x : Node × List ℕ) → KidsTake kids d → first_is 38 t ≡ false → content_at flow spaces kids t ≡ Some x → Nodal flow spaces d t x
@@ -35,7 +35,7 @@ unfolding content_at node_text IsNode
 content_takes flow spaces kids d t x take_kids amp h = ⊎_elim {0, 0, 0}
     (λ e. let name = bind_some (name_at (drop 1 t)) e.1 in
     let a = name_takes (drop 1 t) name.0 name.1 in
-    subst (Nodal flow spaces d t) (some_same name.2) (front_is 42 t e.0 ∙ ap (λ l. 42 ∷ l) a.0, a.1))
+    subst (Nodal flow spaces d t) (same_Some _ _ name.2) (front_is 42 t e.0 ∙ ap (λ l. 42 ∷ l) a.0, a.1))
     (λ e. ⊎_elim {0, 0, 0}
     (λ f. coll_takes flow spaces kids d 93 (drop 1 t) t x take_kids (inl refl) (front_is 91 t f.0) f.1)
     (λ f. ⊎_elim {0, 0, 0}
@@ -43,8 +43,8 @@ content_takes flow spaces kids d t x take_kids amp h = ⊎_elim {0, 0, 0}
     (λ g. ⊎_elim {0, 0, 0}
     (λ s. let piece = bind_some (scalar_at flow spaces t) s.1 in
     let a = scalar_takes flow spaces t piece.0 piece.1 in
-    subst (Nodal flow spaces d t) (some_same piece.2) a)
-    (λ s. subst (Nodal flow spaces d t) (some_same s.1) (refl, (s.0, amp)))
+    subst (Nodal flow spaces d t) (same_Some _ _ piece.2) a)
+    (λ s. subst (Nodal flow spaces d t) (same_Some _ _ s.1) (refl, (s.0, amp)))
     (chosen (begins_content flow t) g.1))
     (chosen (first_is 123 t) f.1))
     (chosen (first_is 91 t) e.1))
@@ -72,8 +72,8 @@ node_takes flow spaces kids d t x take_kids h = ⊎_elim {0, 0, 0}
     let name = bind_some (name_at (drop 1 t)) e.1 in
     let gap = bind_some (lead_at flow (begins_content flow) name.0.1) name.2 in
     let node = bind_some (content_at flow spaces kids gap.0.1) gap.2 in
-    let tests = guard_some ((is_bare node.0.0 || not (is_empty gap.0.0)) && takes_anchor node.0.0) node.2 in
-    let both = and_true (is_bare node.0.0 || not (is_empty gap.0.0)) (takes_anchor node.0.0) tests.0 in
+    let tests = cond_some ((is_bare node.0.0 || not (is_empty gap.0.0)) && takes_anchor node.0.0) _ _ node.2 in
+    let both = and_parts (is_bare node.0.0 || not (is_empty gap.0.0)) (takes_anchor node.0.0) tests.0 in
     let a = name_takes (drop 1 t) name.0 name.1 in
     let b = lead_takes flow (begins_content flow) name.0.1 gap.0 gap.1 in
     let c = content_takes flow spaces kids d gap.0.1 node.0 take_kids (lead_amp flow name.0.1 gap.0.0 gap.0.1 a.1.ends b.0 b.1) node.1 in
@@ -92,7 +92,7 @@ key_in k t = cond (eqb k 125) (key_at t) (Some (bare, t))
 pub key_in_takes : (k : ℕ) (t : List ℕ) (x : Key × List ℕ) → key_in k t ≡ Some x → (t ≡ key_text x.0 x.1) × IsKey k x.0 x.1
 key_in_takes k t x h = ⊎_elim {0, 0, 0}
     (λ e. let same : k ≡ 125 = eqb-true k 125 e.0 in rw same (key_takes t x e.1))
-    (λ e. subst (λ (y : Key × List ℕ). (t ≡ key_text y.0 y.1) × IsKey k y.0 y.1) (some_same e.1) (refl, e.0))
+    (λ e. subst (λ (y : Key × List ℕ). (t ≡ key_text y.0 y.1) × IsKey k y.0 y.1) (same_Some _ _ e.1) (refl, e.0))
     (chosen (eqb k 125) h)
 
 pub kids_take : (n d : ℕ) → ((e k : ℕ) (t : List ℕ) (y : Items × List ℕ) → items_at n e k t ≡ Some y → Inside e k t y) → KidsTake (λ j r. deeper d (λ e. items_at n e j r)) d
@@ -103,7 +103,7 @@ pub items_takes : (n d k : ℕ) (t : List ℕ) (x : Items × List ℕ) → items
 unfolding items_at items_text AreItems
 items_takes zero d k t x h = cc
 items_takes (suc n) d k t x h = ⊎_elim {0, 0, 0}
-    (λ e. subst (Inside d k t) (some_same e.1) (front_is k t e.0, tt))
+    (λ e. subst (Inside d k t) (same_Some _ _ e.1) (front_is k t e.0, tt))
     (λ e.
     let kids : Kids = λ j r. deeper d (λ e. items_at n e j r) in
     let key = bind_some (key_in k t) e.1 in
@@ -117,7 +117,7 @@ items_takes (suc n) d k t x h = ⊎_elim {0, 0, 0}
     let r = items_takes n d k sep.0.1 rest.0 rest.1 in
     let behind : node.0.1 ≡ sep_text sep.0.0 (items_text k rest.0.0 rest.0.1) = c.0 ∙ ap (sep_text sep.0.0) r.0 in
     let inner : key.0.1 ≡ node_text node.0.0 (sep_text sep.0.0 (items_text k rest.0.0 rest.0.1)) = b.0 ∙ ap (node_text node.0.0) behind in
-    subst (Inside d k t) (some_same rest.2) (
+    subst (Inside d k t) (same_Some _ _ rest.2) (
       a.0 ∙ ap (key_text key.0.0) inner,
       (subst (IsKey k key.0.0) inner a.1, some.0, subst (IsNode true (Some 0) d node.0.0) behind b.1, subst (IsSep k sep.0.0) r.0 c.1, r.1),
     ))

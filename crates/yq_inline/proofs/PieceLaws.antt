@@ -1,13 +1,14 @@
 -- The pieces of a node, read and spelled.
 use Rattle.std.proofs.Common.{◌≡◌, ◌⊎◌, ℕ, ◌<◌, Bool, true, false, not, ◌&&◌, ◌||◌, eqb, List, [], ◌∷◌, ◌++◌, length, drop, Option, Some, None, refl, sym, ap, ◌∙◌, subst, inl, inr, ⊎_elim, arith, eqb-true}
 use Rattle.std.proofs.Math.Bool.{and-false}
-use Rattle.std.proofs.lemmas.Bool.{false≢true, cond_both, not-true, false_from_ne_true}
+use Rattle.std.proofs.lemmas.Bool.{false≢true, cond_both, not-true, false_from_ne_true, and_parts}
+use Rattle.std.proofs.lemmas.Option.{cond_some, same_Some}
 use Rattle.yq_scalar.specs.Answers.{◌>>=◌}
 use Rattle.yq_scalar.specs.Plain.{begins_plain, ends_plain, ends_text, is_flow_indicator, is_safe}
 use Rattle.yq_scalar.specs.Quoted.{spell_lines}
 use Rattle.yq_scalar.specs.QuotedReading.{is_quote, quoted_at}
 use Rattle.yq_scalar.specs.Text.{upto, cut, unless, is_empty, is_space, no_white}
-use Rattle.yq_scalar.proofs.Bools.{and_true, bind_some, chosen, guard_some}
+use Rattle.yq_scalar.proofs.Bools.{bind_some, chosen}
 use Rattle.yq_scalar.proofs.PlainLaws.{plain_takes, plain_again}
 use Rattle.yq_scalar.proofs.QuotedFound.{quoted_takes, quoted_again}
 use Rattle.yq_scalar.proofs.Upto.{upto_ends, none_in_cut, cut-append, cut_takes}
@@ -15,7 +16,7 @@ use Rattle.yq_inline.specs.Gaps.{IsGap}
 use Rattle.yq_inline.specs.Nodes.{Key, bare, keyed, Sep, last, comma, key_text, sep_text, first_is, in_name, begins_node, IsApart, IsLead, IsName, ends_key, IsKey, IsSep, is_keyed}
 use Rattle.yq_inline.specs.Reading.{gap_at, scalar_at, with_its_lines, name_at, apart_at, lead_at, colon_at, key_at, sep_at, sep_behind}
 use Rattle.yq_inline.specs.Scalars.{is_quoted, has_its_lines, IsScalar, begins_scalar}
-use Rattle.yq_inline.proofs.Binds.{not_then, some_same}
+use Rattle.yq_inline.proofs.Binds.{not_then}
 use Rattle.yq_inline.proofs.GapLaws.{gap_takes, gap_again}
 
 -- a text that passes a test begins with no byte behind which each text fails it
@@ -43,7 +44,7 @@ goes_on flow b bs h = elim (eqb b 58) as (λ c. eqb b 58 ≡ c → ((c && not (i
 ] refl
 
 pub no_space : (flow : Bool) (b : ℕ) (bs : List ℕ) → begins_plain flow (b ∷ bs) ≡ true → is_space (b ∷ bs) ≡ false
-no_space flow b bs h = not-true (is_space (b ∷ bs)) (and_true _ _ h).0
+no_space flow b bs h = not-true (is_space (b ∷ bs)) (and_parts _ _ h).0
 
 plain_no_end : (flow : Bool) (spaces : Option ℕ) (t : List ℕ) → begins_plain flow t ≡ true → ends_plain flow spaces t ≡ false
 plain_no_end flow spaces [] h = absurd (false≢true h)
@@ -69,7 +70,7 @@ scalar_some flow spaces [] rest (inr h) = absurd (let e : [] ≡ h.0.0 ∷ (spel
 quoted_takes_here : (flow : Bool) (spaces : Option ℕ) (t : List ℕ) (x : List ℕ × List ℕ) → (quoted_at t >>= with_its_lines spaces) ≡ Some x → (t ≡ x.0 ++ x.1) × IsScalar flow spaces x.0 x.1
 quoted_takes_here flow spaces t x h =
     let y = bind_some (quoted_at t) h in
-    let g = guard_some (has_its_lines spaces y.0.0) y.2 in
+    let g = cond_some (has_its_lines spaces y.0.0) _ _ y.2 in
     let f = quoted_takes t y.0 y.1 in
     subst (λ (z : List ℕ × List ℕ). (t ≡ z.0 ++ z.1) × IsScalar flow spaces z.0 z.1) g.1 (f.cut, inr ((f.quote, (f.ls, f.is)), g.0))
 
@@ -108,7 +109,7 @@ pub name_takes : (t : List ℕ) (x : List ℕ × List ℕ) → name_at t ≡ Som
 unfolding name_at
 name_takes t x h =
     let g = not_then (unless in_name t) h in
-    subst (λ (y : List ℕ × List ℕ). (t ≡ y.0 ++ y.1) × IsName y.0 y.1) (some_same g.1)
+    subst (λ (y : List ℕ × List ℕ). (t ≡ y.0 ++ y.1) × IsName y.0 y.1) (same_Some _ _ g.1)
     (cut_takes (unless in_name) t, record { some = name_some t g.0; inside = none_in_cut (unless in_name) t; ends = upto_ends (unless in_name) t refl })
 
 pub name_again : (p rest : List ℕ) → IsName p rest → name_at (p ++ rest) ≡ Some (p, rest)
@@ -121,7 +122,7 @@ Apart flow t y = (t ≡ y.0 ++ y.1) × IsApart flow y.0 y.1
 
 pub apart_takes : (flow : Bool) (t : List ℕ) (x : List ℕ × List ℕ) → apart_at flow t ≡ Some x → (t ≡ x.0 ++ x.1) × IsApart flow x.0 x.1
 apart_takes true t x h = gap_takes t x h
-apart_takes false t x h = subst (Apart false t) (some_same h) (cut_takes no_white t, (none_in_cut no_white t, upto_ends no_white t refl))
+apart_takes false t x h = subst (Apart false t) (same_Some _ _ h) (cut_takes no_white t, (none_in_cut no_white t, upto_ends no_white t refl))
 
 pub apart_again : (flow : Bool) (p rest : List ℕ) → IsApart flow p rest → apart_at flow (p ++ rest) ≡ Some (p, rest)
 apart_again true p rest h = gap_again p rest h
@@ -135,7 +136,7 @@ unfolding lead_at
 lead_takes flow begins t x h =
     let g = bind_some (apart_at flow t) h in
     let gap = apart_takes flow t g.0 g.1 in
-    subst (Lead flow begins t) (some_same g.2)
+    subst (Lead flow begins t) (same_Some _ _ g.2)
     (cond_both (begins g.0.1) g.0 ([], t) (Lead flow begins t)
     (λ e. (gap.0, inl (gap.1, e)))
     (λ e. (refl, inr (refl, (g.0.0, g.0.1, gap.0, gap.1, e)))))
@@ -153,8 +154,8 @@ lead_again flow begins p rest h = ⊎_elim {0, 0, 0}
 colon_takes : (p t r : List ℕ) → colon_at p t ≡ Some r → (t ≡ 58 ∷ r) × (ends_key p r ≡ true)
 unfolding colon_at
 colon_takes p t r h =
-    let g = guard_some (first_is 58 t && ends_key p (drop 1 t)) h in
-    let tests = and_true (first_is 58 t) (ends_key p (drop 1 t)) g.0 in
+    let g = cond_some (first_is 58 t && ends_key p (drop 1 t)) _ _ h in
+    let tests = and_parts (first_is 58 t) (ends_key p (drop 1 t)) g.0 in
     subst (λ (y : List ℕ). (t ≡ 58 ∷ y) × (ends_key p y ≡ true)) g.1 (front_is 58 t tests.0, tests.1)
 
 colon_again : (p r : List ℕ) → ends_key p r ≡ true → colon_at p (58 ∷ r) ≡ Some r
@@ -175,7 +176,7 @@ key_takes t x h =
     let d = lead_takes true (begins_node true) rest.0 gap.0 gap.1 in
     let behind : before.0.1 ≡ 58 ∷ (gap.0.0 ++ gap.0.1) = c.0 ∙ ap (λ l. 58 ∷ l) d.0 in
     let all : key.0.1 ≡ before.0.0 ++ (58 ∷ (gap.0.0 ++ gap.0.1)) = b.0 ∙ ap (λ l. before.0.0 ++ l) behind in
-    subst (λ (y : Key × List ℕ). (t ≡ key_text y.0 y.1) × IsKey 125 y.0 y.1) (some_same gap.2)
+    subst (λ (y : Key × List ℕ). (t ≡ key_text y.0 y.1) × IsKey 125 y.0 y.1) (same_Some _ _ gap.2)
     (a.0 ∙ ap (λ l. key.0.0 ++ l) all, (refl, subst (IsScalar true None key.0.0) all a.1, subst (IsGap before.0.0) behind b.1, subst (λ (r : List ℕ). ends_key key.0.0 r ≡ true) d.0 c.1, d.1))
 
 pub key_again : (key : Key) (rest : List ℕ) → is_keyed key ≡ true → IsKey 125 key rest → key_at (key_text key rest) ≡ Some (key, rest)
@@ -195,8 +196,8 @@ sep_by k t g x is gap h = ⊎_elim {0, 0, 0}
     let b = bind_some (gap_at (drop 1 g.1)) e.1 in
     let c = gap_takes (drop 1 g.1) b.0 b.1 in
     let front : g.1 ≡ 44 ∷ (b.0.0 ++ b.0.1) = front_is 44 g.1 e.0 ∙ ap (λ l. 44 ∷ l) c.0 in
-    subst (Sepd k t) (some_same b.2) (is ∙ ap (λ l. g.0 ++ l) front, (subst (IsGap g.0) front gap, c.1)))
-    (λ e. let f = guard_some (first_is k g.1) e.1 in subst (Sepd k t) f.1 (is, (gap, f.0)))
+    subst (Sepd k t) (same_Some _ _ b.2) (is ∙ ap (λ l. g.0 ++ l) front, (subst (IsGap g.0) front gap, c.1)))
+    (λ e. let f = cond_some (first_is k g.1) _ _ e.1 in subst (Sepd k t) f.1 (is, (gap, f.0)))
     (chosen (first_is 44 g.1) h)
 
 pub sep_takes : (k : ℕ) (t : List ℕ) (x : Sep × List ℕ) → sep_at k t ≡ Some x → (t ≡ sep_text x.0 x.1) × IsSep k x.0 x.1

@@ -1,6 +1,7 @@
 -- Steps of reading, as the code takes them.
 use Rattle.std.proofs.Common.{◌≡◌, ℕ, zero, suc, ◌-◌, Bool, true, false, cond, not, ◌&&◌, ◌||◌, eqb, List, ◌∷◌, ◌++◌, length, drop, Option, Some, None, refl, sym, ap, ◌∙◌, subst, Result}
 use Rattle.std.proofs.lemmas.Bool.{false≢true}
+use Rattle.std.proofs.lemmas.Option.{same_Some}
 use Rattle.yq_scalar.specs.declared.fault.ReadError.{ReadError}
 use Rattle.yq_scalar.specs.declared.fault.ReadError.TheVariants as errors
 use Rattle.yq_scalar.specs.declared.piece.Piece.{Piece}
@@ -10,7 +11,7 @@ use Rattle.yq_inline.specs.Nodes.{first_is, Key, bare, keyed, Node, empty, alias
 use Rattle.yq_inline.specs.Places.{Placed, placed, mapping, sequence, Parts, end, part, key_placed, key_here, locate, locate_items, placed_between, with_anchor, bare_in, bare_placed, holder}
 use Rattle.yq_inline.specs.PlacedReading.{piece_of, content_in, placed_node, placed_items, placed_content, placed_key, past_sep, takes_in, takes_placed, then_anchored}
 use Rattle.yq_inline.specs.Reading.{gap_at, scalar_at, name_at, lead_at, key_at, sep_at, Kids, coll_at, content_at, node_at, all_items, kids_of, all_node}
-use Rattle.yq_inline.proofs.Binds.{some_same, bind_same, bind_bind}
+use Rattle.yq_inline.proofs.Binds.{bind_same, bind_bind}
 use Rattle.yq_inline.proofs.PieceLaws.{name_takes, lead_takes, key_takes, sep_takes, front_is}
 use Rattle.yq_inline.proofs.NodeTakes.{content_takes, lead_amp, KidsTake, items_takes}
 use Rattle.yq_inline.proofs.NodeLaws.{items_step, items_done, all_takes, then_node, then_sep, then_items}
@@ -145,15 +146,15 @@ not_anchored : (flow : Bool) (spaces : Option ℕ) (kids : Kids) (t : List ℕ) 
 unfolding content_at coll_at
 not_anchored flow spaces kids t x h = go (first_is 42 t) (first_is 91 t) (first_is 123 t) (begins_content flow t) h where
   named : (r : Option (List ℕ × List ℕ)) → (r >>= λ x. Some (alias x.0, x.1)) ≡ Some x → is_anchored x.0 ≡ false
-  named (Some y) e = subst (λ (z : Node × List ℕ). is_anchored z.0 ≡ false) (some_same e) refl
+  named (Some y) e = subst (λ (z : Node × List ℕ). is_anchored z.0 ≡ false) (same_Some _ _ e) refl
   named None e = cc
 
   piece : (r : Option (List ℕ × List ℕ)) → (r >>= λ x. Some (scalar x.0, x.1)) ≡ Some x → is_anchored x.0 ≡ false
-  piece (Some y) e = subst (λ (z : Node × List ℕ). is_anchored z.0 ≡ false) (some_same e) refl
+  piece (Some y) e = subst (λ (z : Node × List ℕ). is_anchored z.0 ≡ false) (same_Some _ _ e) refl
   piece None e = cc
 
   inner : (k : ℕ) (g : List ℕ) (r : Option (Items × List ℕ)) → (r >>= λ items. Some (coll k g items.0, items.1)) ≡ Some x → is_anchored x.0 ≡ false
-  inner k g (Some y) e = subst (λ (z : Node × List ℕ). is_anchored z.0 ≡ false) (some_same e) refl
+  inner k g (Some y) e = subst (λ (z : Node × List ℕ). is_anchored z.0 ≡ false) (same_Some _ _ e) refl
   inner k g None e = cc
 
   bracket : (k : ℕ) (r : Option (List ℕ × List ℕ)) → (r >>= λ gap. kids k gap.1 >>= λ items. Some (coll k gap.0 items.0, items.1)) ≡ Some x → is_anchored x.0 ≡ false
@@ -165,7 +166,7 @@ not_anchored flow spaces kids t x h = go (first_is 42 t) (first_is 91 t) (first_
   go false true c d e = bracket 93 (gap_at (drop 1 t)) e
   go false false true d e = bracket 125 (gap_at (drop 1 t)) e
   go false false false true e = piece (scalar_at flow spaces t) e
-  go false false false false e = subst (λ (z : Node × List ℕ). is_anchored z.0 ≡ false) (some_same e) refl
+  go false false false false e = subst (λ (z : Node × List ℕ). is_anchored z.0 ≡ false) (same_Some _ _ e) refl
 
 pub node_plain : (flow : Bool) (spaces : Option ℕ) (total d : ℕ) (t : List ℕ) → first_is 38 t ≡ false → placed_node flow spaces total d t ≡ placed_content flow spaces total d t
 unfolding node_at

@@ -1,23 +1,16 @@
 -- What stands before and behind a cursor, as bytes go over it.
-use Rattle.std.proofs.Common.{◌≡◌, ◌≢◌, ℕ, suc, ◌+◌, ◌<◌, List, [], ◌++◌, length, take, drop, refl, sym, ap, ◌∙◌, arith, append_assoc, append-nil, length-append, Some, None, Bool, true, false}
+use Rattle.std.proofs.Common.{◌≡◌, ◌≢◌, ℕ, suc, ◌+◌, ◌<◌, List, [], ◌++◌, length, take, drop, refl, sym, ap, ◌∙◌, arith, append_assoc, append-nil, length-append, Some, None}
 use Rattle.std.specs.Prelude.{reverse}
 use Rattle.std.proofs.lemmas.Grind.{common_steps}
 use Rattle.std.proofs.Math.Seq.{drop-append_seam, take-append_seam}
-use Rattle.std.proofs.lemmas.List.{reverse-append, reverse-reverse, take-append-drop}
+use Rattle.std.proofs.lemmas.List.{reverse-append, reverse-reverse, take-append-drop, nil_from_length}
 use Prim.Native.Nat.{zero}
 use Rattle.yq_script.specs.Patch.{Splice, Exchanges, change_done}
 use Rattle.yq_script.proofs.PatchLaws.{done-from_exchanges, exchanges-from_done}
 use Rattle.yq_journal.specs.Gap.{change}
 
-empty : (xs : List ℕ) → length xs ≡ 0 → xs ≡ []
-empty xs h = grind (arith, common_steps)
-
 over_rest : (front rest : List ℕ) (n : ℕ) → (front ++ take n rest) ++ drop n rest ≡ front ++ rest
 over_rest front rest n = append_assoc front (take n rest) (drop n rest) ∙ ap (λ x. front ++ x) (take-append-drop n rest)
-
-pub not_both : (b : Bool) → b ≡ false → b ≡ true → ⊥
-not_both true f t = cc
-not_both false f t = cc
 
 append_same : (xs ys zs ws : List ℕ) → length xs ≡ length ys → xs ++ zs ≡ ys ++ ws → xs ≡ ys
 append_same xs ys zs ws long same =
@@ -29,7 +22,7 @@ moved_over front back rest front' back' zero same used =
     ap (λ x. x ++ (reverse back' ++ rest)) (append-nil front')
     ∙ sym (append_assoc front' (reverse back') rest) ∙ ap (λ x. x ++ rest) same ∙ append_assoc front (reverse back) rest
 moved_over front back rest front' back' (suc n) same used =
-    let none : back' ≡ [] = empty back' (used (omega arith)) in
+    let none : back' ≡ [] = nil_from_length back' (used (omega arith)) in
     let whole : front' ≡ front ++ reverse back = sym (append-nil front') ∙ ap (λ x. front' ++ reverse x) (sym none) ∙ same in
     ap (λ x. (front' ++ take (suc n) rest) ++ (reverse x ++ drop (suc n) rest)) none
     ∙ over_rest front' rest (suc n) ∙ ap (λ x. x ++ rest) whole ∙ append_assoc front (reverse back) rest

@@ -4,6 +4,7 @@ use Rattle.std.specs.Prelude.{option_and_then, slice_get}
 use Rattle.std.specs.Str.{bytes_eq}
 use Prim.Native.Nat.{zero}
 use Rattle.std.proofs.lemmas.Bool.Decides.{nat_tests}
+use Rattle.std.proofs.lemmas.Option.{same_Some}
 use Rattle.std.proofs.lemmas.Slice.Eq.{bytes_eq-Decides}
 use Rattle.std.specs.Option.{option_or}
 use Rattle.yq_journal.specs.declared.fault.JournalFault.{JournalFault}
@@ -99,14 +100,11 @@ settles_pending s (Some p) t h is k = elim k.stands [
 pub settles : (s : State) (t : List ℕ) (h : History) → Describes s t h → Rests (settled s t) t h
 settles s t h d = settles_pending s s.pending t h refl d
 
-some_same : {A : Type 0} (x y : A) → Some x ≡ Some y → x ≡ y
-some_same x y e = cc
-
 -- what settling gives is at rest with the history
 pub settled_rests : (s r : State) (t : List ℕ) (h : History) → Describes s t h → settled s t ≡ Some r → AtRest r t h × (r.pending ≡ None)
 settled_rests s r t h d is =
     let k = settles s t h d in
-    let same : k.rest ≡ r = some_same k.rest r (sym k.is ∙ is) in
+    let same : k.rest ≡ r = same_Some k.rest r (sym k.is ∙ is) in
     (subst (λ x. AtRest x t h) same k.at_rest, subst (λ (x : State). x.pending ≡ None) same k.closed)
 
 -- a record of the journal at a place before its end

@@ -4,7 +4,7 @@ use Rattle.std.specs.Prelude.{option_and_then, slice_get}
 use Prim.Native.Nat.{zero}
 use Rattle.std.proofs.lemmas.Bool.Decides.{nat_tests}
 use Rattle.std.proofs.lemmas.Grind.{common_steps}
-use Rattle.std.proofs.lemmas.Option.{slice_get_within}
+use Rattle.std.proofs.lemmas.Option.{slice_get_within, same_Some}
 use Rattle.yq_journal.specs.declared.moves.Move.{Move}
 use Rattle.yq_journal.specs.declared.moves.Move.TheVariants.{Edit, Undo, Redo}
 use Rattle.yq_journal.specs.Good.{Leads, AtRest, after_move}
@@ -46,9 +46,6 @@ text_after t e es n fits = rw add-one (text_after_suc t e es n fits)
 positive : (n : ℕ) → (n == 0) ≡ false → 0 < n
 positive n e = grind (arith, nat_tests)
 
-some_same : {A : Type 0} (x y : A) → Some x ≡ Some y → x ≡ y
-some_same x y e = cc
-
 edit_moves : (s : State) (h : History) (t u : List ℕ) (r : Patch) → AtRest s t h → done r t ≡ Some u → AtRest (moved s (Edit r)) u (after_edit h r.expr u)
 edit_moves s h t u r k d = record {
   tells = record {
@@ -72,7 +69,7 @@ undo_moves s h t u r k pos is d =
         cursor = ap (λ n. n - 1) k.tells.cursor;
         within = omega (arith, k.tells.within);
       };
-      text = some_same u (text_at (after_undo h)) (sym d ∙ back ∙ ap (λ n. Some (text_behind h.first h.later (n - 1))) k.tells.cursor);
+      text = same_Some u (text_at (after_undo h)) (sym d ∙ back ∙ ap (λ n. Some (text_behind h.first h.later (n - 1))) k.tells.cursor);
     }
 
 redo_moves : (s : State) (h : History) (t u : List ℕ) (r : Patch) → AtRest s t h → slice_get s.records s.at ≡ Some r → done r t ≡ Some u → AtRest (moved s Redo) u (after_redo h)
@@ -85,7 +82,7 @@ redo_moves s h t u r k is d =
         cursor = ap (λ n. n + 1) k.tells.cursor;
         within = omega (arith, k.tells.cursor, slice_get_within s.records s.at r is, same_length h.first s.records h.later k.tells.leads);
       };
-      text = some_same u (text_at (after_redo h)) (sym d ∙ leads ∙ ap (λ n. Some (text_behind h.first h.later n)) (sym (add-one s.at) ∙ ap (λ n. n + 1) k.tells.cursor));
+      text = same_Some u (text_at (after_redo h)) (sym d ∙ leads ∙ ap (λ n. Some (text_behind h.first h.later n)) (sym (add-one s.at) ∙ ap (λ n. n + 1) k.tells.cursor));
     }
 
 -- where a move stands, the journal and its history go on together

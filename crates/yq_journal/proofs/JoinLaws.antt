@@ -2,7 +2,7 @@
 use Rattle.std.proofs.Common.{◌≡◌, ℕ, ◌≤◌, ◌<◌, List, [], ◌∷◌, ◌++◌, length, suc, Option, Some, None, Result, Err, IfErr, true, refl, ap, ◌∙◌, subst, arith}
 use Rattle.std.specs.Prelude.{◌==◌, ◌&&◌, Bool, false, option_and_then, slice_get, take}
 use Prim.Native.Nat.{zero}
-use Rattle.std.proofs.lemmas.Bool.{eqb-true}
+use Rattle.std.proofs.lemmas.Bool.{eqb-true, and_parts}
 use Rattle.yq_script.specs.Patch.{lengths_done}
 use Rattle.yq_script.proofs.PatchLaws.{lengths_done-append}
 use Rattle.std.specs.Prelude.{◌+◌, ◌-◌, drop, if◌then◌else◌, nat_le}
@@ -29,14 +29,6 @@ pub joined-push : (r : Patch) (rs : List Patch) (q : Patch) → joined r (rs ++ 
 joined-push r [] q = refl
 joined-push r (p ∷ rs) q = joined-push (join r p) rs q
 
-and_left : (a b : Bool) → (a && b) ≡ true → a ≡ true
-and_left true b h = refl
-and_left false b h = h
-
-and_right : (a b : Bool) → (a && b) ≡ true → b ≡ true
-and_right true b h = h
-and_right false b h = cc
-
 -- records that meet are one record together
 pub IsRecord-join : (r q : Patch) → IsRecord r → IsRecord q → r.after_len ≡ q.before_len → IsRecord (join r q)
 IsRecord-join r q h k meets = record {
@@ -51,8 +43,8 @@ meet_join r p (q ∷ rs) h = h
 -- what is joined so far ends with the length with which the next record begins
 pub joined_meets : (r : Patch) (rs : List Patch) (i : ℕ) (q : Patch) → meet (r ∷ rs) ≡ true → slice_get rs i ≡ Some q → (joined r (take i rs)).after_len ≡ q.before_len
 joined_meets r [] i q h is = cc
-joined_meets r (p ∷ rs) zero q h is = let same : p ≡ q = cc in eqb-true r.after_len p.before_len (and_left (r.after_len == p.before_len) (meet (p ∷ rs)) h) ∙ ap (λ (x : Patch). x.before_len) same
-joined_meets r (p ∷ rs) (suc i) q h is = joined_meets (join r p) rs i q (meet_join r p rs (and_right (r.after_len == p.before_len) (meet (p ∷ rs)) h)) is
+joined_meets r (p ∷ rs) zero q h is = let same : p ≡ q = cc in eqb-true r.after_len p.before_len (and_parts (r.after_len == p.before_len) (meet (p ∷ rs)) h).0 ∙ ap (λ (x : Patch). x.before_len) same
+joined_meets r (p ∷ rs) (suc i) q h is = joined_meets (join r p) rs i q (meet_join r p rs (and_parts (r.after_len == p.before_len) (meet (p ∷ rs)) h).1) is
 
 -- the records from a place up to the cursor, cut from either side
 pub slice_run : (rs : List Patch) (at i : ℕ) → i ≤ at → take (at - i) (drop i rs) ≡ drop i (take at rs)

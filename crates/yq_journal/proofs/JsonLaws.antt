@@ -1,12 +1,12 @@
 -- Members that are counted, lists that are read item by item, and tests that are facts.
-use Rattle.std.proofs.Common.{◌≡◌, ◌==◌, ℕ, suc, List, [], ◌∷◌, ◌++◌, length, String, Option, Some, None, Bool, true, false, refl, sym, ap, ◌∙◌, if◌then◌else◌, ◌+◌, ◌<◌, take, map, ap₂, get_or}
+use Rattle.std.proofs.Common.{◌≡◌, ◌==◌, ℕ, suc, List, [], ◌∷◌, ◌++◌, length, String, Option, Some, None, true, false, refl, sym, ap, ◌∙◌, if◌then◌else◌, ◌+◌, ◌<◌, take, map, ap₂, get_or}
 use Rattle.std.specs.Cmp.Derive.{both_true}
 use Rattle.std.proofs.lemmas.List.{take_more, map-append}
 use Rattle.std.specs.Prelude.{◌≢◌, ◌&&◌, not, is_some, nat_le}
 use Rattle.std.specs.Option.{ForSome}
 use Rattle.std.specs.declared.alloc.Global.{Global}
 use Rattle.std.specs.Str.{IsUtf8, bytes_eq, is_utf8}
-use Rattle.std.proofs.lemmas.Bool.{le-leb, leb-true}
+use Rattle.std.proofs.lemmas.Bool.{le-leb, leb-true, and_parts}
 use Rattle.std.proofs.lemmas.Slice.Eq.{bytes_eq-Decides}
 use Rattle.std.proofs.lemmas.Str.{is_utf8-from_IsUtf8, IsUtf8-from_is_utf8}
 use Rattle.serde_json.specs.Data.{Data, Items, Members}
@@ -36,14 +36,6 @@ not_read bs n = elim (is_utf8 bs) as (λ b. is_utf8 bs ≡ b → None ≡ (if b 
   | false ↦ λ e. refl
 ] refl
 
-and_left : (a b : Bool) → (a && b) ≡ true → a ≡ true
-and_left true b h = refl
-and_left false b h = h
-
-and_right : (a b : Bool) → (a && b) ≡ true → b ≡ true
-and_right true b h = h
-and_right false b h = cc
-
 none_of : {A : Type 0} (o : Option A) → not (is_some o) ≡ true → o ≡ None
 none_of None h = refl
 none_of (Some x) h = cc
@@ -58,25 +50,21 @@ not_reached (Some u) t h e =
 
 can_move-move : (rs : List Patch) (at : ℕ) (p : Pending) → can_move rs at (Some p) ≡ true → CanMove rs at p.step p.from
 can_move-move rs at p h = record {
-  stands = none_of (way_fault rs at p.step p.from) (and_left _ _ h);
-  changes = not_reached (moved_text rs at p.step p.from) p.from (and_right (not (is_some (way_fault rs at p.step p.from))) _ h);
+  stands = none_of (way_fault rs at p.step p.from) (and_parts (not (is_some (way_fault rs at p.step p.from))) _ h).0;
+  changes = not_reached (moved_text rs at p.step p.from) p.from (and_parts (not (is_some (way_fault rs at p.step p.from))) _ h).1;
 }
 
 -- a journal that passes the test is sound
 pub IsSound-from_is_sound : (s : State) → is_sound s ≡ true → IsSound s
 unfolding is_sound
 IsSound-from_is_sound s h =
-    let front = and_left (nat_le (length s.records) most_records && nat_le s.at (length s.records)) (can_move s.records s.at s.pending) h in
-    let open_ok : can_move s.records s.at s.pending ≡ true = and_right (nat_le (length s.records) most_records && nat_le s.at (length s.records)) (can_move s.records s.at s.pending) h in
+    let front = (and_parts (nat_le (length s.records) most_records && nat_le s.at (length s.records)) (can_move s.records s.at s.pending) h).0 in
+    let open_ok : can_move s.records s.at s.pending ≡ true = (and_parts (nat_le (length s.records) most_records && nat_le s.at (length s.records)) (can_move s.records s.at s.pending) h).1 in
     record {
-      within = leb-true s.at (length s.records) (and_right (nat_le (length s.records) most_records) _ front);
-      limit = leb-true (length s.records) most_records (and_left (nat_le (length s.records) most_records) _ front);
+      within = leb-true s.at (length s.records) (and_parts (nat_le (length s.records) most_records) _ front).1;
+      limit = leb-true (length s.records) most_records (and_parts (nat_le (length s.records) most_records) _ front).0;
       open_move = λ p is. can_move-move s.records s.at p (ap (can_move s.records s.at) (sym is) ∙ open_ok);
     }
-
-pub not_both : (b : Bool) → b ≡ false → b ≡ true → ⊥
-not_both true f t = cc
-not_both false f t = cc
 
 -- one more of a list that is read
 pub all_of_push : {A : Type 0} (f : Data → Option A) (vs : List Data) (d : Data) (xs : List A) (x : A) → all_of f (items_of vs) ≡ Some xs → f d ≡ Some x → all_of f (items_of (vs ++ d ∷ [])) ≡ Some (xs ++ x ∷ [])

@@ -1,8 +1,9 @@
 -- Joining the last done records of a journal is a squash of its history.
-use Rattle.std.proofs.Common.{◌≡◌, ℕ, suc, ◌+◌, ◌-◌, ◌≤◌, ◌<◌, ◌&&◌, List, [], ◌∷◌, ◌++◌, length, take, drop, Some, None, Bool, true, false, nat_le, refl, sym, ap, ap₂, ◌∙◌, subst, arith, append_assoc, length-append, length-drop, if◌then◌else◌, eq-eqb}
+use Rattle.std.proofs.Common.{◌≡◌, ℕ, suc, ◌+◌, ◌-◌, ◌≤◌, ◌<◌, ◌&&◌, List, [], ◌∷◌, ◌++◌, length, take, drop, Some, None, true, nat_le, refl, sym, ap, ap₂, ◌∙◌, subst, arith, append_assoc, length-append, length-drop, if◌then◌else◌, eq-eqb}
 use Rattle.std.specs.Prelude.{option_and_then, codes, is_some}
 use Rattle.std.specs.Cmp.Derive.{both_true}
 use Prim.Native.Nat.{zero}
+use Rattle.std.proofs.Math.Bool.{and-true}
 use Rattle.std.proofs.lemmas.List.{length-take-le, take-append-drop, take-take}
 use Rattle.yq_script.specs.Patch.{all_done}
 use Rattle.yq_script.proofs.PatchLaws.{all_done-append}
@@ -114,16 +115,12 @@ last_leads s t h n k =
     subst (λ a. Leads (text_end h.first (take (h.at - n) (take h.at h.later))) (drop (a - n) (take a s.records)) (drop (h.at - n) (take h.at h.later))) (sym k.tells.cursor)
     (leads_drop h.first (take h.at s.records) (take h.at h.later) (h.at - n) (leads_take h.first s.records h.later h.at k.tells.leads))
 
-and_true : (a : Bool) → (a && true) ≡ a
-and_true true = refl
-and_true false = refl
-
 -- whether a squash is refused is the history's to say
 pub squash_fault_of : (s : State) (t : List ℕ) (h : History) (n : ℕ) → s.pending ≡ None → AtRest s t h → squash_fault s n ≡ squash_refusal h n
 squash_fault_of s t h n none k =
     let meets : meet (last_done s.records s.at n) ≡ true = leads_meet _ _ _ (last_leads s t h n k) in
     let way : (nat_le 1 n && nat_le n s.at && meet (last_done s.records s.at n)) ≡ (nat_le 1 n && nat_le n h.at) =
-    ap (λ b. nat_le 1 n && nat_le n s.at && b) meets ∙ and_true (nat_le 1 n && nat_le n s.at) ∙ ap (λ a. nat_le 1 n && nat_le n a) k.tells.cursor in
+    ap (λ b. nat_le 1 n && nat_le n s.at && b) meets ∙ and-true (nat_le 1 n && nat_le n s.at) ∙ ap (λ a. nat_le 1 n && nat_le n a) k.tells.cursor in
     ap (λ o. if is_some o then Some Unsettled else if nat_le 1 n && nat_le n s.at && meet (last_done s.records s.at n) then None else Some BadCount) none
     ∙ ap (λ b. if b then None else Some BadCount) way
 

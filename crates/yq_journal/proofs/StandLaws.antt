@@ -7,18 +7,13 @@ use Rattle.std.proofs.Math.Seq.{drop-append_seam, take-append_seam}
 use Rattle.std.proofs.lemmas.Bool.{le-leb, leb-true, lt-ltb, ltb-true}
 use Rattle.std.proofs.lemmas.Bool.Decides.{nat_tests}
 use Rattle.std.proofs.lemmas.List.{take-append-drop, length-take-le}
+use Rattle.std.proofs.lemmas.Option.{none-some, same_Some}
 use Rattle.yq_script.specs.Patch.{Splice, swapped, change_done, all_done, flipped, length_done, lengths_done}
 use Rattle.yq_script.proofs.PlaceInList.{split_at, take_next}
 use Rattle.yq_script.proofs.PatchLaws.{done-from_exchanges, exchanges-from_done, all_done-append, lengths_done-append}
 use Rattle.yq_journal.specs.Turned.{turned}
 use Rattle.yq_journal.proofs.GapLaws.{none_done}
 use Rattle.yq_journal.specs.Record.{if_length}
-
-pub some_same : {A : Type 0} (x y : A) → Some x ≡ Some y → x ≡ y
-some_same x y e = cc
-
-pub some_none : {A : Type 0} (x : A) → Some x ≡ None → ⊥
-some_none x e = cc
 
 and_then_one : (o : Option (List ℕ)) (s : Splice) → option_and_then (all_done (s ∷ [])) o ≡ option_and_then (change_done s) o
 and_then_one None s = refl
@@ -53,7 +48,7 @@ flipped_at (x ∷ ss) k s h is =
       | false ↦ λ e.
           let last : k ≡ length ss = grind (arith, nat_tests) in
           let place : suc (length ss) - 1 - k ≡ 0 = omega arith in
-          let same : x ≡ s = some_same x s (sym (ap (slice_get (x ∷ ss)) place) ∙ is) in
+          let same : x ≡ s = same_Some x s (sym (ap (slice_get (x ∷ ss)) place) ∙ is) in
           get_behind (flipped ss) (swapped x ∷ []) k 0 (omega (arith, length-flipped ss)) ∙ ap (λ y. Some (swapped y)) same
     ] refl
 
@@ -72,7 +67,7 @@ parts_of_length s n m h =
       | true ↦ λ e k.
           elim (nat_lt (n - length s.old + length s.new) (2 ^ 64)) as (λ t. nat_lt (n - length s.old + length s.new) (2 ^ 64) ≡ t → (if t then Some (n - length s.old + length s.new) else None) ≡ Some m → Lengths s n m) [
             | true ↦ λ f q.
-                let same : n - length s.old + length s.new ≡ m = some_same (n - length s.old + length s.new) m q in
+                let same : n - length s.old + length s.new ≡ m = same_Some (n - length s.old + length s.new) m q in
                 record { fits = leb-true (s.at + length s.old) n e; small = subst (λ x. x < 2 ^ 64) same (ltb-true (n - length s.old + length s.new) (2 ^ 64) f); is = sym same }
             | false ↦ λ f q. cc
           ] refl k
@@ -102,7 +97,7 @@ grown s b c e =
 
 -- lengths that are reached are those of the texts
 pub lengths_follow : (ss : List Splice) (b c : List ℕ) → all_done ss b ≡ Some c → lengths_done ss (length b) ≢ None → lengths_done ss (length b) ≡ Some (length c)
-lengths_follow [] b c e h = ap Some (ap length (some_same b c e))
+lengths_follow [] b c e h = ap Some (ap length (same_Some b c e))
 lengths_follow (s ∷ ss) b c e h =
     elim (change_done s b) as (λ r. change_done s b ≡ r → option_and_then (all_done ss) r ≡ Some c → option_and_then (lengths_done ss) (length_done s (length b)) ≡ Some (length c)) [
       | None ↦ λ _ k. cc
@@ -116,7 +111,7 @@ lengths_follow (s ∷ ss) b c e h =
     ] refl e
 
 lengths_small : (ss : List Splice) (n m : ℕ) → lengths_done ss n ≡ Some m → n < 2 ^ 64 → m < 2 ^ 64
-lengths_small [] n m e h = subst (λ x. x < 2 ^ 64) (some_same n m e) h
+lengths_small [] n m e h = subst (λ x. x < 2 ^ 64) (same_Some n m e) h
 lengths_small (s ∷ ss) n m e h =
     elim (length_done s n) as (λ o. length_done s n ≡ o → option_and_then (lengths_done ss) o ≡ Some m → m < 2 ^ 64) [
       | None ↦ λ _ k. cc
@@ -147,8 +142,8 @@ and_then_some f (Some x) h = (x, refl, h)
 lengths_up_to : (ss rest : List Splice) (text b : List ℕ) → lengths_done (ss ++ rest) (length text) ≢ None → all_done ss text ≡ Some b → (lengths_done ss (length text) ≡ Some (length b)) × (lengths_done rest (length b) ≢ None)
 lengths_up_to ss rest text b h e =
     let there = and_then_some (lengths_done rest) (lengths_done ss (length text)) (λ none. h (lengths_done-append ss rest (length text) ∙ none)) in
-    let reached : lengths_done ss (length text) ≡ Some (length b) = lengths_follow ss text b e (λ none. some_none there.0 (sym there.1 ∙ none)) in
-    let same : there.0 ≡ length b = some_same there.0 (length b) (sym there.1 ∙ reached) in
+    let reached : lengths_done ss (length text) ≡ Some (length b) = lengths_follow ss text b e (λ none. none-some there.0 (sym none ∙ there.1)) in
+    let same : there.0 ≡ length b = same_Some there.0 (length b) (sym there.1 ∙ reached) in
     (reached, λ none. there.2 (ap (lengths_done rest) same ∙ none))
 
 -- each splice lies within the text that it finds
@@ -271,8 +266,8 @@ ends_alike ss n m b lengths long =
       | None ↦ λ e. refl
       | Some c ↦ λ e.
           let reached : lengths_done ss (length b) ≡ Some m = ap (lengths_done ss) long ∙ lengths in
-          let follow = lengths_follow ss b c e (λ none. some_none m (sym reached ∙ none)) in
-          let same : length c ≡ m = some_same (length c) m (sym follow ∙ reached) in
+          let follow = lengths_follow ss b c e (λ none. none-some m (sym none ∙ reached)) in
+          let same : length c ≡ m = same_Some (length c) m (sym follow ∙ reached) in
           sym (ap (λ t. is_some (if t then Some c else None)) (eq-eqb (length c) m same))
     ] refl
     ∙ sym (ap (λ t. is_some (if t then if_length m (all_done ss b) else None)) (eq-eqb (length b) n long))

@@ -1,5 +1,7 @@
 -- The rules of the grammar and outlines say the same.
 use Rattle.std.proofs.Common.{◌≡◌, ℕ, ◌+◌, ◌<◌, List, [], ◌∷◌, ◌++◌, Option, Some, None, refl, sym, ap, ◌∙◌, subst, arith}
+use Rattle.std.proofs.lemmas.Option.{none-some}
+use mathlib.Core.List.{head-eq_of_cons-eq, nil≢cons}
 use Rattle.yq_scalar.specs.Tree.{Node, Children, none, child}
 use Rattle.yq_lines.specs.Outline.{Mark, Bare, Key, Dash, Line, level, Outline, end, row, flatten, IsOpen, IsWhole, IsEven, anchored, head_or, null_node, label, collection, shaped, children, value, Stands}
 use Rattle.yq_lines.specs.Grammar.{IsNode, alone, mapping, sequence, AreEntries, no_more, entry, IsUnder, headed, missing, deeper_lines}
@@ -29,23 +31,14 @@ alone_whole : (m : Mark) (h : Option Node) (v : Node) → m ≡ Bare → h ≡ S
 alone_whole (Key k) h v e f = tt
 alone_whole Dash h v e f = tt
 alone_whole Bare (Some n) v e f = tt
-alone_whole Bare None v e f = none_some f
-  where
-    none_some : {n : Node} → None ≡ Some n → ⊥
-    none_some e = cc
+alone_whole Bare None v e f = none-some _ f
 
 kind : (m : Mark) (n : ℕ) (l : Line) (ls : List Line) (cs : Children) → l.mark ≡ m → (x : Listed n (l ∷ ls) cs) → value x.outline ≡ collection m cs
 kind m n l ls cs e x = go x.outline x.lines_are x.children_are
   where
     go : (o : Outline) → flatten o ≡ l ∷ ls → children o ≡ cs → value o ≡ collection m cs
-    go end p q = absurd (nil_cons p)
-      where
-        nil_cons : {x : Line} {xs : List Line} → [] ≡ x ∷ xs → ⊥
-        nil_cons e = cc
-    go (row k u a) p q = ap (shaped (row k u a)) q ∙ ap (λ m. collection m cs) (ap (λ l. l.mark) (first p) ∙ e)
-      where
-        first : {x y : Line} {xs ys : List Line} → x ∷ xs ≡ y ∷ ys → x ≡ y
-        first e = cc
+    go end p q = absurd (nil≢cons p)
+    go (row k u a) p q = ap (shaped (row k u a)) q ∙ ap (λ m. collection m cs) (ap (λ l. l.mark) (head-eq_of_cons-eq p) ∙ e)
 
 mutual
   from_node : {n : ℕ} {ls : List Line} {v : Node} → IsNode n ls v → Stands ls v n
@@ -120,11 +113,8 @@ to_entries n (row l u a) c e =
 pub rules_from : (n : ℕ) (lines : List Line) (v : Node) → Stands lines v n → (l : Line) (ls : List Line) → lines ≡ l ∷ ls → IsNode n lines v
 rules_from n lines v s l ls is = go s.outline s.even s.lines_are s.node_is
   where
-    nil_cons : {x : Line} {xs : List Line} → [] ≡ x ∷ xs → ⊥
-    nil_cons e = cc
-
     go : (o : Outline) → IsEven n o → flatten o ≡ lines → value o ≡ v → IsNode n lines v
-    go end e p q = absurd (nil_cons (p ∙ is))
+    go end e p q = absurd (nil≢cons (p ∙ is))
     go (row k u a) e p q =
         let Q : List Line → Node → Type 0 = IsNode n in
         subst (λ x. Q x v) p (subst (λ x. Q (flatten (row k u a)) x) q (node_of n k u a k.mark k.head refl refl e.0 e.1 e.2 (λ c. to_entries n (row k u a) c e)))

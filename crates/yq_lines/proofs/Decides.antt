@@ -1,6 +1,7 @@
 -- `stand` tells exactly what lines stand for.
 use Rattle.std.proofs.Common.{◌≡◌, ℕ, ◌+◌, ◌<◌, ltb, List, [], ◌∷◌, ◌++◌, Option, Some, None, Bool, true, false, cond, refl, sym, ap, ◌∙◌, arith, append_assoc}
 use Rattle.std.proofs.lemmas.Bool.{lt-ltb, ltb-true, eqb-true, eq-eqb, cond-true, and_parts, and_from, false≢true}
+use Rattle.std.proofs.lemmas.Option.{none-some, same_Some}
 use Rattle.yq_scalar.specs.Tree.{Node}
 use Rattle.yq_lines.specs.Outline.{Mark, Bare, Key, Dash, Line, level, Outline, end, row, flatten, IsOpen, IsWhole, IsEven, value, Stands}
 use Rattle.yq_lines.specs.Group.{deeper, shallow, group}
@@ -74,15 +75,9 @@ to_even n (row l u a) e =
 pub stand-sound : (ls : List Line) (node : Node) → stand ls ≡ Some node → (n : ℕ) × Stands ls node n
 stand-sound ls node e = go (is_even (level_or 0 (group ls)) (group ls)) refl e
   where
-    some : {x y : Node} → Some x ≡ Some y → x ≡ y
-    some p = cc
-
     go : (b : Bool) → is_even (level_or 0 (group ls)) (group ls) ≡ b → cond b (Some (value (group ls))) None ≡ Some node → (n : ℕ) × Stands ls node n
-    go true h e = (level_or 0 (group ls), record { outline = group ls; even = even_from _ _ h; lines_are = flatten-group ls; node_is = some e })
-    go false h e = absurd (none_some e)
-      where
-        none_some : {x : Node} → None ≡ Some x → ⊥
-        none_some p = cc
+    go true h e = (level_or 0 (group ls), record { outline = group ls; even = even_from _ _ h; lines_are = flatten-group ls; node_is = same_Some _ _ e })
+    go false h e = absurd (none-some _ e)
 
 pub stand-complete : (ls : List Line) (node : Node) (n : ℕ) → Stands ls node n → stand ls ≡ Some node
 stand-complete ls node n s =

@@ -2,7 +2,7 @@
 use Rattle.std.proofs.Common.{◌≡◌, ℕ, ◌+◌, ◌<◌, ◌≤◌, ltb, List, length, drop, get_or, Some, None, option_map, Bool, true, false, not, cond, ◌⊎◌, inl, inr, refl, sym, ap, ◌∙◌, arith}
 use Rattle.std.proofs.lemmas.Bool.{lt-ltb, le-ltb, cases_lt, false≢true}
 use Rattle.std.proofs.lemmas.List.{length-map}
-use Rattle.std.proofs.lemmas.Option.{slice_get_cases, slice_get-map}
+use Rattle.std.proofs.lemmas.Option.{slice_get_cases, slice_get-map, same_Some}
 use Rattle.std.specs.List.{slice_get}
 use Rattle.yq_lines.specs.declared.line.Line as declared
 use Rattle.yq_lines.specs.Outline.{Line, level, Outline, end, row}
@@ -71,14 +71,11 @@ end_step ls ends at next floor later lt within deep =
       passed ls floor next (get_or ends next 0) r.0 r.1 (deeper_line ls next floor r.0 r.1 (not_end _ deep)) (e.2 r.0 r.1),
     )
 
-same_line : {x y : Line} → Some x ≡ Some y → x ≡ y
-same_line e = cc
-
 -- where the search stops is the end
 pub end_found : (ls : List Line) (at next floor : ℕ) (l : Line) → slice_get ls at ≡ Some l → floor ≡ level l → at < next → next ≤ length ls →
     rest ls (at + 1) floor ≡ rest ls next floor → false ≡ not (is_end (part ls next floor)) → IsEndOf ls at next
 end_found ls at next floor l is same lt within so_far stop = (
   lt,
   within,
-  λ m e. ap (rest ls (at + 1)) (ap level (same_line (sym e ∙ is)) ∙ sym same) ∙ (so_far ∙ rest_end ls next floor (is_at_end _ stop)),
+  λ m e. ap (rest ls (at + 1)) (ap level (same_Some _ _ (sym e ∙ is)) ∙ sym same) ∙ (so_far ∙ rest_end ls next floor (is_at_end _ stop)),
 )

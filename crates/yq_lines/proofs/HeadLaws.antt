@@ -1,11 +1,10 @@
 -- The comment lines that end lines, behind others, or where the lines are repaired.
 use Rattle.std.proofs.Common.{◌≡◌, ℕ, zero, suc, Bool, true, false, ◌&&◌, eqb, List, [], ◌∷◌, ◌++◌, Option, Some, None, refl, sym, ap, ◌∙◌, subst, ⊎_elim, replicate, eqb-true, drop}
-use Rattle.std.proofs.lemmas.Bool.{false≢true, cond_both, cond-true, cond-false, false_from_ne_true}
+use Rattle.std.proofs.lemmas.Bool.{false≢true, cond_both, cond-true, cond-false, false_from_ne_true, and_parts, cases_Bool}
 use Rattle.yq_scalar.specs.Block.{Lines}
 use Rattle.yq_scalar.specs.BlockRepair.{AreGap, is_short, is_outside, repaired_blank, repaired_comment, repair}
 use Rattle.yq_scalar.specs.Lines.{is_hash, is_blank}
 use Rattle.yq_scalar.specs.Text.{upto, cut, is_white, ends_line, past_white}
-use Rattle.yq_scalar.proofs.Bools.{is_true, and_true}
 use Rattle.yq_scalar.proofs.SpaceLaws.{white_drop}
 use Rattle.yq_lines.specs.Comments.{less_space, comment_text, are_comments, with_text, last_comments}
 
@@ -15,7 +14,7 @@ all_behind [] ms h = absurd (false≢true (sym h))
 all_behind (l ∷ ls) ms h = ⊎_elim {0, 0, 0}
     (λ e. let more : are_comments ls ≡ false = rw e at h in rw e (all_behind ls ms more))
     (λ e. rw e refl)
-    (is_true (is_hash (past_white l)))
+    (cases_Bool (is_hash (past_white l)))
 
 hash_text : (l : List ℕ) → is_hash (past_white l) ≡ true → (t : List ℕ) × (comment_text l ≡ Some t)
 hash_text l h = (less_space (cut ends_line (drop 1 (past_white l))).0, cond-true _ _ _ h)
@@ -26,7 +25,7 @@ some_text (Some x) t ts e h = absurd (cc)
 
 no_run : (l : List ℕ) (ls : Lines) → last_comments (l ∷ ls) ≡ [] → are_comments (l ∷ ls) ≡ false
 no_run l ls h = false_from_ne_true (are_comments (l ∷ ls)) (λ e.
-    let text = hash_text l (and_true (is_hash (past_white l)) (are_comments ls) e).0 in
+    let text = hash_text l (and_parts (is_hash (past_white l)) (are_comments ls) e).0 in
     some_text (comment_text l) text.0 (last_comments ls) text.1 (sym (cond-true _ _ _ e) ∙ h))
 
 pub comments_behind : (ls ms : Lines) → last_comments ls ≡ [] → last_comments (ls ++ ms) ≡ last_comments ms
@@ -50,7 +49,7 @@ past_again [] = refl
 past_again (b ∷ l) = ⊎_elim {0, 0, 0}
     (λ e. rw (white_drop b l) (rw e (past_again l)))
     (λ e. rw (white_drop b l) (rw e (white_drop b l ∙ rw e refl)))
-    (is_true (is_white b))
+    (cases_Bool (is_white b))
 
 blank_past : (m : ℕ) (l : List ℕ) → past_white (repaired_blank m l) ≡ past_white l
 blank_past m l = cond_both (is_short m l) l (past_white l) (λ x. past_white x ≡ past_white l) (λ _. refl) (λ _. past_again l)
@@ -71,10 +70,10 @@ head_repaired keep m column [] h = refl
 head_repaired true m column (l ∷ ls) h = ⊎_elim {0, 0, 0}
     (λ b. rw b (head_repaired true m column ls h.1 ∙ sym (blank_off l ls b)))
     (λ b. rw b (same_line l (repaired_comment m column l) ls (comment_past m column l)))
-    (is_true (is_blank l))
+    (cases_Bool (is_blank l))
 head_repaired false m column (l ∷ ls) h = ⊎_elim {0, 0, 0}
     (λ b.
     let blank : is_blank (repaired_blank m l) ≡ true = ap ends_line (blank_past m l) ∙ b in
     rw b (blank_off (repaired_blank m l) (repair false m column ls) blank ∙ (head_repaired false m column ls h.1 ∙ sym (blank_off l ls b))))
     (λ b. rw b (same_line l (repaired_comment m column l) ls (comment_past m column l)))
-    (is_true (is_blank l))
+    (cases_Bool (is_blank l))

@@ -1,7 +1,7 @@
 -- Unique keys, as a test and as a fact.
 use Rattle.std.proofs.Common.{◌≡◌, ◌≢◌, ℕ, zero, suc, List, [], ◌∷◌, get_or, Bool, true, false, not, refl, sym, ap, ◌∙◌, arith, bytes_eq, ◌↔◌}
 use Rattle.std.specs.Bool.{IsTrue}
-use Rattle.std.proofs.lemmas.Bool.{and_parts, and_from, or_parts, false≢true, false_from_ne_true}
+use Rattle.std.proofs.lemmas.Bool.{and_parts, and_from, or_parts, false≢true, false_from_ne_true, not-true}
 use Rattle.std.proofs.lemmas.List.Folds.{list_any_none}
 use Rattle.std.proofs.lemmas.List.Kept.{AllPairs-cons}
 use Rattle.std.proofs.lemmas.Slice.Eq.{bytes_eq-Decides}
@@ -16,10 +16,6 @@ differ a b e is = false≢true (sym e ∙ (bytes_eq-Decides a b).1 is)
 pub differs : (a b : List ℕ) → a ≢ b → bytes_eq a b ≡ false
 differs a b h = false_from_ne_true (bytes_eq a b) (λ e. h ((bytes_eq-Decides a b).0 e))
 
-not_is : (b : Bool) → not b ≡ true → b ≡ false
-not_is false e = refl
-not_is true e = sym e
-
 none_is : (k : List ℕ) (ks : List (List ℕ)) → list_any (bytes_eq k) ks ≡ false → All (λ b. k ≢ b) ks
 none_is k [] e j d within = absurd (omega arith)
 none_is k (x ∷ xs) e zero d within = differ k x (or_parts (bytes_eq k x) (list_any (bytes_eq k) xs) e).0
@@ -29,7 +25,7 @@ pub distinct_is : (ks : List (List ℕ)) → are_distinct ks ≡ true → AreDis
 distinct_is [] e = λ i j d lt within. absurd (omega arith)
 distinct_is (k ∷ ks) e =
     let p = and_parts (not (list_any (bytes_eq k) ks)) (are_distinct ks) e in
-    AllPairs-cons (λ a b. a ≢ b) k ks (none_is k ks (not_is (list_any (bytes_eq k) ks) p.0)) (distinct_is ks p.1)
+    AllPairs-cons (λ a b. a ≢ b) k ks (none_is k ks (not-true (list_any (bytes_eq k) ks) p.0)) (distinct_is ks p.1)
 
 pub is_distinct : (ks : List (List ℕ)) → AreDistinct ks → are_distinct ks ≡ true
 is_distinct [] h = refl

@@ -1,6 +1,7 @@
 -- Where the lines under a line end, by how many of those behind it are deeper.
 use Rattle.std.proofs.Common.{◌≡◌, ℕ, zero, suc, ◌+◌, ◌<◌, ◌≤◌, ltb, List, [], ◌∷◌, ◌++◌, length, drop, Some, Bool, true, false, cond, refl, sym, ap, ◌∙◌, arith, length-drop}
 use Rattle.std.proofs.lemmas.Bool.{lt-ltb, ltb-true, cond-true}
+use Rattle.std.proofs.lemmas.Option.{same_Some}
 use Rattle.std.specs.List.{slice_get}
 use Rattle.yq_lines.specs.Ends.{IsEndOf, deeper_count, lines_end}
 use Rattle.yq_lines.specs.Group.{deeper, shallow, group}
@@ -46,12 +47,9 @@ pub end_behind : (xs ys : List Line) (l : Line) → lines_end (length xs) (xs ++
 end_behind [] ys l = omega arith
 end_behind (x ∷ xs) ys l = omega (arith, end_behind xs ys l)
 
-line_same : {x y : Line} → Some x ≡ Some y → x ≡ y
-line_same e = cc
-
 end_line : (ls : List Line) (n : ℕ) (l : Line) → slice_get ls n ≡ Some l → lines_end n ls ≡ suc n + deeper_count (level l) (drop (suc n) ls)
 end_line [] n l is = absurd (cc)
-end_line (x ∷ ls) zero l is = let same : deeper_count (level x) ls ≡ deeper_count (level l) ls = ap (λ (y : Line). deeper_count (level y) ls) (line_same is) in omega (arith, same)
+end_line (x ∷ ls) zero l is = let same : deeper_count (level x) ls ≡ deeper_count (level l) ls = ap (λ (y : Line). deeper_count (level y) ls) (same_Some _ _ is) in omega (arith, same)
 end_line (x ∷ ls) (suc n) l is = omega (arith, end_line ls n l is)
 
 -- the end of the lines under a line is where the code keeps it

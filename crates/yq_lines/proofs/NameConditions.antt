@@ -1,5 +1,6 @@
 -- What is asked of anchors and aliases, as a test and as a fact.
-use Rattle.std.proofs.Common.{◌≡◌, ℕ, List, [], ◌∷◌, Bool, true, false, ◌||◌, Option, Some, None, refl, inl, inr, ⊎_elim, bytes_eq}
+use Rattle.std.proofs.Common.{◌≡◌, ℕ, List, [], ◌∷◌, true, Option, Some, None, refl, inl, inr, ⊎_elim, bytes_eq}
+use Rattle.std.proofs.Math.Bool.{or-true}
 use Rattle.std.proofs.lemmas.Bool.{and_parts, and_from, or_cases}
 use Rattle.std.proofs.lemmas.Slice.Eq.{bytes_eq-Decides}
 use Rattle.std.specs.List.{list_any}
@@ -65,10 +66,6 @@ is_among name (k ∷ ks) h = ⊎_elim {0, 0, 0} (λ a. rw (same name k a) refl) 
   where
     same : (a b : List ℕ) → a ≡ b → bytes_eq a b ≡ true
     same a b e = (bytes_eq-Decides a b).1 e
-
-    or-true : (b : Bool) → (b || true) ≡ true
-    or-true true = refl
-    or-true false = refl
 
 pub bound_are : (known : List (List ℕ)) (names : List Name) → are_bound known names ≡ true → AreBound known names
 bound_are known [] e = tt

@@ -1,6 +1,7 @@
 -- The lines of a collection, by their indexes.
 use Rattle.std.proofs.Common.{◌≡◌, ℕ, zero, suc, ◌+◌, ◌<◌, ◌≤◌, List, [], ◌∷◌, drop, Some, ap, ◌∙◌, add-one}
 use Rattle.std.proofs.lemmas.Bool.{lt-ltb, le-ltb, cond-true, cond-false}
+use Rattle.std.proofs.lemmas.Option.{same_Some}
 use Rattle.std.specs.List.{slice_get}
 use Rattle.yq_lines.specs.Outline.{Line, level, end, row}
 use Rattle.yq_lines.specs.Group.{deeper, shallow, group}
@@ -8,10 +9,7 @@ use Rattle.yq_lines.specs.Ends.{part, rest}
 
 pub drop_at : {A : Type 0} (xs : List A) (i : ℕ) (x : A) → slice_get xs i ≡ Some x → drop i xs ≡ x ∷ drop (i + 1) xs
 drop_at {A = A} [] i x h = cc
-drop_at {A = A} (y ∷ xs) zero x h = ap (λ z. z ∷ xs) (some h)
-  where
-    some : {z w : A} → Some z ≡ Some w → z ≡ w
-    some e = cc
+drop_at {A = A} (y ∷ xs) zero x h = ap (λ z. z ∷ xs) (same_Some _ _ h)
 drop_at {A = A} (y ∷ xs) (suc i) x h = rw add-one (let again = drop_at xs i x h in rw add-one at again)
 
 pub part_row : (ls : List Line) (i floor : ℕ) (l : Line) → slice_get ls i ≡ Some l → floor < level l →

@@ -1,6 +1,7 @@
 -- The line to which a path leads, and the steps that go on in its head, step by step.
 use Rattle.std.proofs.Common.{◌≡◌, ℕ, suc, ◌+◌, ◌<◌, eqb, List, [], ◌∷◌, length, Option, Some, None, option_map, option_and_then, true, false, refl, sym, ap, ◌∙◌, arith, length-append}
 use Rattle.std.proofs.lemmas.Bool.{eq-eqb, eqb-true, false≢true}
+use Rattle.std.proofs.lemmas.Option.{none-some, same_Some}
 use Rattle.std.specs.List.{slice_get}
 use Rattle.std.specs.Prelude.{IfSome}
 use Rattle.yq_scalar.specs.Paths.{Step}
@@ -116,9 +117,6 @@ found_step ls first (t ∷ ts) f under is = go f.line.head ∙ sym (from_there l
     go (Some n) = refl
     go None = deep_line first f (find t ts f.under) ∙ ap (λ o. behind (at + 1) (find t ts o)) under
 
-some_same : {A : Type 0} {x y : A} → Some x ≡ Some y → x ≡ y
-some_same e = cc
-
 -- one step
 pub step_line : (ds : List declared.Line) (first floor : ℕ) (s : Step) (ss : List Step) (r : Option ℕ) → begins_with_node (part (views ds) first floor) ≡ false →
     spot first (find_row s (part (views ds) first floor)) ≡ seen (views ds) r → IfSome r (λ i. i < length ds) →
@@ -133,13 +131,10 @@ step_line ds first floor s ss r other found within =
     go None (Some i) e w =
         let line = has_line (views ds) i (omega (arith, w, views-length ds)) in
         let no : None ≡ Some (i, line.0, part (views ds) (i + 1) (level line.0)) = e ∙ ap (option_map (λ l. (i, l, part (views ds) (i + 1) (level l)))) line.1 in
-        absurd (none_some no)
-      where
-        none_some : {A : Type 0} {x : A} → None ≡ Some x → ⊥
-        none_some e = cc
+        absurd (none-some _ no)
     go (Some f) (Some i) e w =
         let line = has_line (views ds) i (omega (arith, w, views-length ds)) in
-        let same = some_same (e ∙ ap (option_map (λ l. (i, l, part (views ds) (i + 1) (level l)))) line.1) in
+        let same = same_Some _ _ (e ∙ ap (option_map (λ l. (i, l, part (views ds) (i + 1) (level l)))) line.1) in
         let index : first + length (lines_before f.place) ≡ i = ap (λ x. x.0) same in
         let is_line : f.line ≡ line.0 = ap (λ x. x.1) same in
         let under : f.under ≡ part (views ds) (i + 1) (level line.0) = ap (λ x. x.2) same in

@@ -1,5 +1,6 @@
 -- What exchanging the lines in a place does to the lines, to evenness and to the tree.
 use Rattle.std.proofs.Common.{◌≡◌, ℕ, ◌∷◌, ◌++◌, Option, Some, None, refl, sym, ap, ◌∙◌, subst, append_assoc, append-nil}
+use Rattle.std.proofs.lemmas.Option.{none-some}
 use Rattle.yq_scalar.specs.Tree.{Node}
 use Rattle.yq_lines.specs.Outline.{Mark, Bare, Key, Dash, Line, level, Outline, end, row, flatten, IsOpen, IsWhole, IsEven}
 use Rattle.yq_lines.specs.Places.{Place, here, below, beside, plug, lines_before, lines_after, compose}
@@ -21,10 +22,7 @@ plug-compose (beside l u p) q o = ap (row l u) (plug-compose p q o)
 pub closed : (h : Option Node) (o : Outline) → h ≡ None → IsOpen h o
 closed None o e = tt
 closed (Some n) end e = tt
-closed (Some n) (row l u a) e = absurd (some_none e)
-  where
-    some_none : {n : Node} → Some n ≡ None → ⊥
-    some_none e = cc
+closed (Some n) (row l u a) e = absurd (none-some _ (sym e))
 
 pub entry_whole : (m : Mark) (h : Option Node) (o : Outline) → IsEntry m → IsWhole m h o
 entry_whole Bare h o e = absurd e
@@ -53,10 +51,7 @@ pub headless_entry : (m : Mark) (h : Option Node) (b : Outline) → h ≡ None �
 headless_entry (Key k) h b e w = tt
 headless_entry Dash h b e w = tt
 headless_entry Bare None b e w = w
-headless_entry Bare (Some n) b e w = some_none e
-  where
-    some_none : {n : Node} → Some n ≡ None → ⊥
-    some_none e = cc
+headless_entry Bare (Some n) b e w = none-some _ (sym e)
 
 followed_entry : (m : Mark) (h : Option Node) (k : Line) (v b : Outline) → IsWhole m h (row k v b) → IsEntry m
 followed_entry (Key j) h k v b w = tt

@@ -1,5 +1,6 @@
 -- The node for which lines stand is a tree.
 use Rattle.std.proofs.Common.{◌≡◌, ◌≢◌, ℕ, zero, suc, ◌+◌, ◌*◌, List, [], ◌∷◌, ◌++◌, Option, Some, None, refl, sym, ap, ◌∙◌, subst, arith}
+use Rattle.std.proofs.lemmas.Option.{same_Some}
 use Rattle.std.specs.List.{All}
 use Rattle.yq_scalar.specs.Keys.{with_key, keys_of, AreDistinct, HasUniqueKeys, EachHasUniqueKeys}
 use Rattle.yq_scalar.specs.Shapes.{IsNew, AreItems, AreKeyed, AreEntries as HaveNewKeys, IsTree, AreTrees, IsShaped, AreShaped}
@@ -76,15 +77,12 @@ shaped_by_lines n ls node d h = node_shaped d h
 
 -- ---- keys that differ
 
-some_same : {j k : List ℕ} → Some j ≡ Some k → j ≡ k
-some_same e = cc
-
 new_key : (k : List ℕ) (cs : Children) → AreKeyed cs → All (λ b. k ≢ b) (keys_of cs) → IsNew k cs
 new_key k none keyed h = tt
 new_key k (child lbl n cs) keyed h =
     let j = keyed.0.0 in
     let all : All (λ b. k ≢ b) (j ∷ keys_of cs) = subst (λ o. All (λ b. k ≢ b) (with_key o (keys_of cs))) keyed.0.1 h in
-    ((λ e. all zero [] (omega arith) (sym (some_same (sym keyed.0.1 ∙ e)))), new_key k cs keyed.1 (λ i d within. all (suc i) d (omega arith)))
+    ((λ e. all zero [] (omega arith) (sym (same_Some _ _ (sym keyed.0.1 ∙ e)))), new_key k cs keyed.1 (λ i d within. all (suc i) d (omega arith)))
 
 new_keys : (cs : Children) → AreKeyed cs → AreDistinct (keys_of cs) → HaveNewKeys cs
 new_keys none keyed h = tt

@@ -1,7 +1,7 @@
 -- What is asked of the items or entries of a collection, line by line.
 use Rattle.std.proofs.Common.{◌≡◌, ℕ, suc, ◌+◌, ◌*◌, ◌<◌, ◌≤◌, max, leb, ltb, eqb, List, [], ◌∷◌, ◌++◌, Option, Some, None, is_some, Bool, true, false, ◌&&◌, cond, ◌⊎◌, inl, inr, refl, sym, ap, ◌∙◌, subst, arith, append_assoc}
 use Rattle.std.proofs.lemmas.Bool.{lt-ltb, eq-eqb, ne_eqb, leb-true, le-leb, ltb-true, cases_eq, and_parts, false_from_ne_true, false≢true}
-use Rattle.std.proofs.Math.Bool.{and-false}
+use Rattle.std.proofs.Math.Bool.{and-false, and-true, and_comm}
 use Rattle.yq_scalar.specs.Tree.{Node, alias, scalar, list, map}
 use Rattle.yq_scalar.specs.Keys.{with_key, keys_of, depth, deepest, are_distinct}
 use Rattle.yq_lines.specs.Outline.{Mark, Bare, Key, Dash, rank, Line, level, Outline, end, row, anchored, head_or, key_of, collection, children, value}
@@ -46,28 +46,18 @@ unique-anchored a (scalar b k t) = refl
 unique-anchored a (list b cs) = refl
 unique-anchored a (map b cs) = refl
 
-with_true : (b : Bool) → (b && true) ≡ b
-with_true true = refl
-with_true false = refl
-
 depth-head : (d : ℕ) (h : Option Node) (o : Outline) → is_open h o ≡ true → leb (depth (head_or h (value o))) d ≡ (leb (depth (value o)) d && head_depth d h)
-depth-head d None o e = sym (with_true (leb (depth (value o)) d))
+depth-head d None o e = sym (and-true (leb (depth (value o)) d))
 depth-head d (Some h) end e = sym (ap (λ b. b && leb (depth h) d) (le-leb 0 d (omega arith)))
 depth-head d (Some h) (row l u a) e = absurd (false≢true e)
 
 unique-head : (h : Option Node) (o : Outline) → is_open h o ≡ true → has_unique_keys (head_or h (value o)) ≡ (has_unique_keys (value o) && head_unique h)
-unique-head None o e = sym (with_true (has_unique_keys (value o)))
+unique-head None o e = sym (and-true (has_unique_keys (value o)))
 unique-head (Some h) end e = refl
 unique-head (Some h) (row l u a) e = absurd (false≢true e)
 
 no_leb : (a b : ℕ) → (a ≤ b → ⊥) → leb a b ≡ false
 no_leb a b h = false_from_ne_true (leb a b) (λ e. h (leb-true a b e))
-
-and_other : (a b : Bool) → (a && b) ≡ (b && a)
-and_other true true = refl
-and_other true false = refl
-and_other false true = refl
-and_other false false = refl
 
 leb-max : (a b d : ℕ) → leb (max a b) d ≡ (leb a d && leb b d)
 leb-max a b d = go (leb a d) (leb b d) refl refl
@@ -201,7 +191,7 @@ no_keys l (row m u a) mark e =
 -- a fact that follows from the first
 guarded : (b x y z : Bool) → (b ≡ true → z ≡ true) → (b && (x && y)) ≡ (b && (x && (y && z)))
 guarded false x y z h = refl
-guarded true x y z h = ap (λ w. x && w) (sym (ap (λ w. y && w) (h refl) ∙ with_true y))
+guarded true x y z h = ap (λ w. x && w) (sym (ap (λ w. y && w) (h refl) ∙ and-true y))
 
 -- what is asked of a collection, of its items or entries
 pub sound_entries : (d : ℕ) (l : Line) (u a : Outline) → is_entry l.mark ≡ true → is_sound (suc d) (row l u a) ≡ asked d (level l) [] (row l u a)
@@ -211,7 +201,7 @@ sound_entries d l u a entry = go l.mark refl entry
     go Bare mark h = absurd (false≢true h)
     go (Key k) mark h =
         ap (λ m. is_even (level l) (row l u a) && (leb (depth (collection m (children (row l u a)))) (suc d) && has_unique_keys (collection m (children (row l u a))))) mark
-        ∙ (λ i. is_even (level l) (row l u a) && (leb-suc (deepest (children (row l u a))) d i && and_other (are_distinct (keys_of (children (row l u a)))) (each_has_unique_keys (children (row l u a))) i))
+        ∙ (λ i. is_even (level l) (row l u a) && (leb-suc (deepest (children (row l u a))) d i && and_comm (are_distinct (keys_of (children (row l u a)))) (each_has_unique_keys (children (row l u a))) i))
     go Dash mark h =
         ap (λ m. is_even (level l) (row l u a) && (leb (depth (collection m (children (row l u a)))) (suc d) && has_unique_keys (collection m (children (row l u a))))) mark
         ∙ (λ i. is_even (level l) (row l u a) && (leb-suc (deepest (children (row l u a))) d i && each_has_unique_keys (children (row l u a))))

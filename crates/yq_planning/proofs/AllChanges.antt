@@ -1,5 +1,6 @@
 -- What an update changes: place by place, and document by document.
 use Rattle.std.proofs.Common.{◌≡◌, ℕ, suc, ◌+◌, ◌<◌, ◌≤◌, List, [], ◌∷◌, ◌++◌, length, map, drop, refl, sym, ap, ◌∙◌, subst, append-nil, append_assoc, add-one, arith}
+use Rattle.std.proofs.lemmas.List.{drop_all}
 use Rattle.yq_scalar.specs.Tree.{Node}
 use Rattle.yq_documents.specs.Documents.{Document}
 use Rattle.yq_meaning.specs.Changes.{Room, Changed, put_at, at_each, with_value, changes_at, changes_in, changes_from}
@@ -14,14 +15,13 @@ use Rattle.yq_program.specs.declared.program.Operator.{Operator}
 use Rattle.yq_program.specs.declared.program.Operator.TheVariants as operator
 use Rattle.yq_meaning.specs.declared.match_error.MatchError.{MatchError}
 use Rattle.yq_planning.proofs.EachLaws.{fails_then}
-use Rattle.yq_program.proofs.Lists.{past_last}
 
 -- ---- places
 
 -- behind the last one nothing more comes
 pub each_done : {X A B : Type 0} (v : X → A) (f : A → Judgement (List B)) (before : List B) (xs : List X) (i : ℕ) (all : Judgement (List B)) → length xs ≤ i → put_behind before (for_each f (map v (drop i xs))) ≡ all → all ≡ gives before
 each_done {X} v f before xs i all past so_far =
-    sym so_far ∙ (ap (λ (ys : List X). put_behind before (for_each f (map v ys))) (past_last xs i past) ∙ ap gives (append-nil before))
+    sym so_far ∙ (ap (λ (ys : List X). put_behind before (for_each f (map v ys))) (drop_all i xs past) ∙ ap gives (append-nil before))
 
 -- ---- the value of a right side
 

@@ -1,5 +1,7 @@
 -- Matches of a pipe in documents: the nodes of its places, one document more.
 use Rattle.std.proofs.Common.{◌≡◌, ℕ, zero, suc, ◌+◌, ◌<◌, ◌≤◌, Bool, true, false, cond, List, [], ◌∷◌, ◌++◌, length, map, drop, Option, Some, None, option_map, refl, sym, ap, ◌∙◌, subst, add-one, append-nil, arith}
+use Rattle.std.proofs.lemmas.List.{drop_all}
+use Rattle.std.proofs.lemmas.Option.{same_Some}
 use Rattle.std.specs.List.{slice_get}
 use Rattle.std.specs.Prelude.{ℤ}
 use Rattle.yq_scalar.specs.declared.kind.Kind.{Kind}
@@ -24,9 +26,6 @@ use Rattle.yq_meaning.specs.declared.refusal.Refusal.TheVariants.{NotAMap, NotAS
 use Rattle.yq_planning.proofs.EachLaws.{fails_then, put_both}
 use Rattle.yq_planning.proofs.JudgementLaws.{then_gives, gives_same}
 
-some_same : {A : Type 0} {x y : A} → Some x ≡ Some y → x ≡ y
-some_same e = cc
-
 -- ---- the scalars of places
 
 join_have : (ps qs : List Place) → HaveScalars ps → HaveScalars qs → HaveScalars (ps ++ qs)
@@ -49,7 +48,7 @@ child_has s none n h e = absurd (cc)
 child_has s (child label m cs) n h e = go (is_here s label) (child_has (further s) cs n h.1) e
   where
     go : (b : Bool) → (child_at (further s) cs ≡ Some n → HasScalars n) → cond b (Some m) (child_at (further s) cs) ≡ Some n → HasScalars n
-    go true rest e = subst HasScalars (some_same e) h.0
+    go true rest e = subst HasScalars (same_Some _ _ e) h.0
     go false rest e = rest e
 
 -- what a step finds has such scalars
@@ -61,7 +60,7 @@ find_has s cs h x e = go (child_at s cs) refl (gives_same e)
   where
     go : (o : Option Node) → child_at s cs ≡ o → option_map (λ m. (s, m)) o ≡ Some x → HasScalars x.1
     go None at e = absurd (cc)
-    go (Some m) at e = subst (λ (y : paths.Step × Node). HasScalars y.1) (some_same e) (child_has s cs m h at)
+    go (Some m) at e = subst (λ (y : paths.Step × Node). HasScalars y.1) (same_Some _ _ e) (child_has s cs m h at)
 
 scalar_finds : (why : Refusal) (kind : Kind) → FindsScalars (in_scalar why kind)
 scalar_finds why kinds.Null x e = absurd (cc)
@@ -185,10 +184,4 @@ document_fails pipe docs i d before all e at h so_far =
 -- behind the last document nothing more is found
 pub documents_done : (pipe : List Stage) (docs : List Document) (i : ℕ) (before : List (ℕ × Node)) (all : Judgement (List (ℕ × Node))) → length docs ≤ i → put_behind before (matches_from i pipe (drop i docs)) ≡ all → all ≡ gives before
 documents_done pipe docs i before all h so_far =
-    sym so_far ∙ (ap (λ ds. put_behind before (matches_from i pipe ds)) (past docs i h) ∙ ap gives (append-nil before))
-  where
-    past : (docs : List Document) (i : ℕ) → length docs ≤ i → drop i docs ≡ []
-    past [] zero h = refl
-    past [] (suc i) h = refl
-    past (d ∷ ds) zero h = absurd (omega arith)
-    past (d ∷ ds) (suc i) h = past ds i (omega arith)
+    sym so_far ∙ (ap (λ ds. put_behind before (matches_from i pipe ds)) (drop_all i docs h) ∙ ap gives (append-nil before))

@@ -1,5 +1,6 @@
 -- Matches of documents that are ready: trees with no more collections nested than in these.
 use Rattle.std.proofs.Common.{◌≡◌, ◌≤◌, ℕ, suc, Bool, true, false, cond, List, [], ◌∷◌, ◌++◌, max, Option, Some, None, option_and_then, Result, Ok, Err, IfOk, slice_get, refl, subst, arith}
+use Rattle.std.proofs.lemmas.Option.{none-some, same_Some}
 use Rattle.yq_scalar.specs.Keys.{depth, deepest}
 use Rattle.yq_scalar.specs.Paths as paths
 use Rattle.yq_scalar.specs.Paths.{is_here, further, child_at, node_at}
@@ -19,7 +20,6 @@ use Rattle.yq_program.specs.Program.{Stage, Step}
 use Rattle.yq_meaning.specs.declared.match_error.MatchError.{MatchError}
 use Rattle.yq_planning.proofs.JudgementLaws.{then_gives, gives_same}
 use Rattle.yq_planning.proofs.updates.GoodPlaces.{AreSound}
-use Rattle.yq_meaning.proofs.PathLaws.{none_some, some_same}
 use Rattle.yq_planning.proofs.updates.PipePlaces.{places_apart}
 use Rattle.yq_planning.proofs.updates.Pure.{copy_pure}
 
@@ -32,17 +32,17 @@ children_depth (list anchor cs) = omega arith
 children_depth (tree.map anchor cs) = omega arith
 
 child_depth : (s : paths.Step) (cs : Children) (n : Node) → child_at s cs ≡ Some n → depth n ≤ deepest cs
-child_depth s none n h = absurd (none_some h)
+child_depth s none n h = absurd (none-some _ h)
 child_depth s (child label m cs) n h = go (is_here s label) (child_depth (further s) cs n) h where
   go : (b : Bool) → (child_at (further s) cs ≡ Some n → depth n ≤ deepest cs) → cond b (Some m) (child_at (further s) cs) ≡ Some n → depth n ≤ max (depth m) (deepest cs)
-  go true rest e = subst (λ (x : Node). depth x ≤ max (depth m) (deepest cs)) (some_same e) (omega arith)
+  go true rest e = subst (λ (x : Node). depth x ≤ max (depth m) (deepest cs)) (same_Some _ _ e) (omega arith)
   go false rest e = omega (arith, rest e)
 
 node_depth : (p : List paths.Step) (root n : Node) → node_at p root ≡ Some n → depth n ≤ depth root
-node_depth [] root n h = subst (λ (x : Node). depth x ≤ depth root) (some_same h) (omega arith)
+node_depth [] root n h = subst (λ (x : Node). depth x ≤ depth root) (same_Some _ _ h) (omega arith)
 node_depth (s ∷ p) root n h = go (child_at s (children_of root)) refl (λ m. node_depth p m n) h where
   go : (o : Option Node) → child_at s (children_of root) ≡ o → ((m : Node) → node_at p m ≡ Some n → depth n ≤ depth m) → option_and_then (node_at p) o ≡ Some n → depth n ≤ depth root
-  go None is rest e = absurd (none_some e)
+  go None is rest e = absurd (none-some _ e)
   go (Some m) is rest e =
       let below : depth n ≤ depth m = rest m e in
       let here : depth m ≤ deepest (children_of root) = child_depth s (children_of root) m is in

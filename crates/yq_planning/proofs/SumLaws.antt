@@ -210,11 +210,6 @@ pub map_sum : (n m : Node) (es ds : List (List ℕ × Node)) (cs : Children) →
 map_sum n m es ds cs a b h =
     ap (λ (x : Node). value_sum x m) a ∙ (ap (λ (x : Node). value_sum (tree.map None (entries es)) x) b ∙ ap (λ (x : Children). gives (tree.map None x)) (sym h))
 
--- nothing is left
-pub nothing_left : {X : Type 0} (l : List X) → length l ≡ 0 → l ≡ []
-nothing_left [] h = refl
-nothing_left (x ∷ xs) h = absurd (omega arith)
-
 -- ---- terms
 
 -- the first of three steps and the second are one step before the third

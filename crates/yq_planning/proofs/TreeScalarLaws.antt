@@ -1,5 +1,6 @@
 -- The scalars of documents have the kinds of their texts.
 use Rattle.std.proofs.Common.{◌≡◌, ℕ, zero, suc, ◌+◌, ◌==◌, nat_lt, Bool, true, false, cond, List, [], ◌∷◌, ◌++◌, map, Option, Some, None, refl, subst}
+use Rattle.std.proofs.lemmas.Option.{none-some}
 use Rattle.std.specs.List.{slice_get}
 use Rattle.yq_scalar.specs.declared.kind.Kind.{Kind}
 use Rattle.yq_scalar.specs.declared.kind.Kind.TheVariants as kinds
@@ -154,10 +155,7 @@ children_have (row l under after) h =
 -- ---- documents
 
 pub documents_have : (ps : List rows.Part) (i : ℕ) (d : Document) → slice_get (map document_of ps) i ≡ Some d → HasScalars d.root
-documents_have [] i d h = absurd (none_some h)
-  where
-    none_some : {A : Type 0} {x : A} → None ≡ Some x → ⊥
-    none_some e = cc
+documents_have [] i d h = absurd (none-some _ h)
 documents_have (p ∷ ps) zero d h =
     let same : document_of p ≡ d = cc in
     let ls = group (lines_of p.rows) in

@@ -1,5 +1,6 @@
 -- Anchors that aliases name, node by node.
-use Rattle.std.proofs.Common.{◌≡◌, ℕ, Bool, true, false, ◌||◌, cond, List, [], ◌∷◌, ◌++◌, length, Option, Some, None, refl, sym, ap, ◌∙◌}
+use Rattle.std.proofs.Common.{◌≡◌, ℕ, Bool, true, false, ◌||◌, cond, List, [], ◌∷◌, length, Option, Some, None, refl, sym, ap, ◌∙◌}
+use Rattle.std.proofs.lemmas.List.Folds.{list_any-append}
 use Rattle.std.specs.List.{list_any}
 use Rattle.yq_scalar.specs.Paths.{Step, To, child_at, node_at}
 use Rattle.yq_scalar.specs.Tree as tree
@@ -12,14 +13,6 @@ use Rattle.yq_meaning.specs.Judgement.{gives, refuses}
 use Rattle.yq_meaning.specs.declared.refusal.Refusal.TheVariants.{AnchorInUse}
 use Rattle.yq_planning.specs.TakenNames.{is_used_anchor, overwrites_at, takes_at}
 use Rattle.yq_planning.proofs.updates.ChildPlaces.{node_further}
-
-pub any_join : {X : Type 0} (p : X → Bool) (xs ys : List X) → list_any p (xs ++ ys) ≡ (list_any p xs || list_any p ys)
-any_join p [] ys = refl
-any_join p (x ∷ xs) ys = go (p x) (any_join p xs ys)
-  where
-    go : (b : Bool) → list_any p (xs ++ ys) ≡ (list_any p xs || list_any p ys) → (b || list_any p (xs ++ ys)) ≡ ((b || list_any p xs) || list_any p ys)
-    go true h = refl
-    go false h = h
 
 -- ---- anchors of a node
 
@@ -44,7 +37,7 @@ pub used_more : (names : List Name) (cs rest : Children) (label : Label) (n : No
     list_any (is_used names) (names_in cs) ≡ all → list_any (is_used names) (names_in rest) ≡ all
 used_more names cs rest label n all is unused so_far =
     ap (λ b. b || list_any (is_used names) (names_in rest)) (sym unused)
-    ∙ (sym (any_join (is_used names) (names_of n) (names_in rest))
+    ∙ (sym (list_any-append (is_used names) (names_of n) (names_in rest))
     ∙ (ap (λ (ds : Children). list_any (is_used names) (names_in ds)) (sym is) ∙ so_far))
 
 -- one in which some anchor is used
@@ -52,7 +45,7 @@ pub used_here : (names : List Name) (cs rest : Children) (label : Label) (n : No
     list_any (is_used names) (names_in cs) ≡ all → true ≡ all
 used_here names cs rest label n all is used so_far =
     ap (λ b. b || list_any (is_used names) (names_in rest)) (sym used)
-    ∙ (sym (any_join (is_used names) (names_of n) (names_in rest))
+    ∙ (sym (list_any-append (is_used names) (names_of n) (names_in rest))
     ∙ (ap (λ (ds : Children). list_any (is_used names) (names_in ds)) (sym is) ∙ so_far))
 
 -- ---- what a change takes

@@ -1,11 +1,11 @@
 -- The content of a string, run by run.
 use Rattle.std.proofs.Common.{◌≡◌, ℕ, ◌<◌, true, false, ◌==◌, not, List, [], ◌∷◌, ◌++◌, Option, Some, None, option_map, refl, sym, ap, ◌∙◌, subst, inl, inr, arith, eqb-true, append_assoc, append-nil}
-use Rattle.std.proofs.lemmas.Bool.{not-true, false≢true}
+use Rattle.std.proofs.lemmas.Bool.{not-true, false≢true, and_parts, cases_Bool}
 use Rattle.std.specs.List.{prefix_len}
 use Rattle.std.specs.Str.{IsCharBoundary}
 use Rattle.yq_scalar.specs.Text.{unless, upto, cut}
 use Rattle.yq_scalar.proofs.Boundaries.{boundary_ends}
-use Rattle.yq_scalar.proofs.Bools.{is_true, and_true, guard_then}
+use Rattle.yq_scalar.proofs.Bools.{guard_then}
 use Rattle.yq_scalar.proofs.Upto.{upto_ends, upto_unless}
 use Rattle.yq_program.specs.Tokens.{escape, put}
 use Rattle.yq_program.specs.Lexing.{content, content_escaped, is_plain, escape_front}
@@ -19,9 +19,9 @@ boundary_plain t n e = rw e (rw (← upto_unless) (boundary_ends (unless is_plai
 pub content_run : (t : List ℕ) → content t ≡ (cut (unless is_plain) t).0 ++ content (cut (unless is_plain) t).1
 unfolding content upto
 content_run [] = refl
-content_run (b ∷ bs) = elim (is_true (is_plain b)) [
+content_run (b ∷ bs) = elim (cases_Bool (is_plain b)) [
   | inl plain ↦
-      let parts = and_true (not (b == 34)) (not (b == 92)) plain in
+      let parts = and_parts (not (b == 34)) (not (b == 92)) plain in
       let a : (b == 34) ≡ false = not-true _ parts.0 in
       let c : (b == 92) ≡ false = not-true _ parts.1 in
       rw (a, c) (ap (λ (s : List ℕ). b ∷ s) (content_run bs))
@@ -46,9 +46,9 @@ content_escape (b ∷ (d ∷ bs)) c rest h =
 content_stops : (t : List ℕ) → unless is_plain t ≡ true → escape_front t ≡ None → content t ≡ []
 unfolding content
 content_stops [] u h = refl
-content_stops (b ∷ bs) u h = elim (is_true (b == 34)) [
+content_stops (b ∷ bs) u h = elim (cases_Bool (b == 34)) [
   | inl quote ↦ rw quote refl
-  | inr on ↦ elim (is_true (b == 92)) [
+  | inr on ↦ elim (cases_Bool (b == 92)) [
     | inl back ↦ let e : b ≡ 92 = eqb-true b 92 back in rw e (go bs (subst (λ (x : ℕ). escape_front (x ∷ bs) ≡ None) e h))
     | inr other ↦
         let plain : is_plain b ≡ true = rw (on, other) refl in

@@ -2,12 +2,11 @@
 use Rattle.std.proofs.Common.{◌≡◌, ◌≢◌, ℕ, zero, suc, ◌<◌, Bool, true, false, List, [], ◌∷◌, length, get_or, refl, sym, ap, ◌∙◌, inl, inr, arith, rules, map, ◌-◌, Option, Some, None, IsTrue, ◌↔◌}
 use Rattle.std.specs.Str.{bytes_eq}
 use Rattle.std.specs.List.{list_any, All}
-use Rattle.std.proofs.lemmas.Bool.{not-true, false≢true, false_from_ne_true}
+use Rattle.std.proofs.lemmas.Bool.{not-true, false≢true, false_from_ne_true, and_parts, cases_Bool}
 use Rattle.std.proofs.lemmas.List.Folds.{list_any_at, Any-from_list_any}
 use Rattle.std.proofs.lemmas.List.Kept.{AllPairs-cons}
 use Rattle.std.proofs.lemmas.Slice.Eq.{bytes_eq-Decides}
 use Rattle.yq_scalar.specs.Keys.{AreDistinct, are_distinct}
-use Rattle.yq_scalar.proofs.Bools.{is_true, and_true}
 use Rattle.std.specs.Prelude.{codes, string_bytes, String, Vec}
 use Rattle.std.specs.declared.alloc.Global.{Global}
 use Rattle.yq_scalar.specs.Tree.{Node}
@@ -26,14 +25,14 @@ others k ks none i d lt same =
 pub distinct_keys : (ks : List (List ℕ)) → are_distinct ks ≡ true → AreDistinct ks
 distinct_keys [] h = λ i j d lt last. absurd (omega arith)
 distinct_keys (k ∷ ks) h =
-    let parts = and_true _ (are_distinct ks) h in
+    let parts = and_parts _ (are_distinct ks) h in
     AllPairs-cons (λ a b. a ≢ b) k ks (others k ks (not-true _ parts.0)) (distinct_keys ks parts.1)
 
 pub distinct_again : (ks : List (List ℕ)) → AreDistinct ks → are_distinct ks ≡ true
 distinct_again [] h = refl
 distinct_again (k ∷ ks) h =
     let tail : AreDistinct ks = λ i j d lt last. h (suc i) (suc j) d (omega arith) (omega arith) in
-    elim (is_true (list_any (bytes_eq k) ks)) [
+    elim (cases_Bool (list_any (bytes_eq k) ks)) [
       | inl some ↦
           let found = Any-from_list_any (bytes_eq k) ks some in
           let lt : found.0 < length ks = found.2 in

@@ -1,7 +1,9 @@
 -- Where tokens end, and that the tokens of a text are those in front and those of what follows.
 use Rattle.std.proofs.Common.{◌≡◌, ◌⊎◌, ℕ, zero, suc, ◌+◌, ◌<◌, ◌≤◌, Bool, true, false, cond, ◌&&◌, ◌||◌, ◌==◌, List, [], ◌∷◌, length, take, drop, get_or, Option, Some, None, is_some, refl, sym, ap, ◌∙◌, subst, inl, inr, arith, add-one, eqb-true, length-drop}
+use Rattle.std.proofs.lemmas.Bool.{and_parts, cases_Bool}
 use Rattle.std.proofs.lemmas.List.{get_or-drop}
 use Rattle.std.proofs.lemmas.List.Sums.{prefix_len_passes, prefix_len-le-length}
+use Rattle.std.proofs.lemmas.Option.{same_Some}
 use Rattle.std.proofs.lemmas.Str.{IsCharBoundary-after_ascii}
 use Rattle.std.specs.Char.{is_ascii_digit}
 use Rattle.std.specs.List.{prefix_len}
@@ -9,7 +11,7 @@ use Rattle.std.specs.Str.{IsUtf8, IsCharBoundary}
 use Rattle.yq_scalar.specs.Text.{front}
 use Rattle.yq_scalar.proofs.Boundaries.{boundary_unless}
 use Rattle.yq_scalar.proofs.Upto.{upto_unless}
-use Rattle.yq_scalar.proofs.Bools.{is_true, and_true, chosen, guard_then}
+use Rattle.yq_scalar.proofs.Bools.{chosen, guard_then}
 use Rattle.yq_program.specs.Tokens.{Token, is_blank, begins_name, is_name_byte, is_word, is_mark, is_mark_before, is_foreign, escape}
 use Rattle.yq_program.specs.Lexing.{beyond, closing, escaping, quoted, fraction_len, number_len, dotted, marked, worded, measure, cut_token, front_token, next, ahead, tokens_in, tokens}
 use Rattle.yq_program.specs.declared.token.Form.{Form}
@@ -27,9 +29,6 @@ EndsAscii t n = (k : ℕ) × (n ≡ suc k) × (k < length t) × (get_or t k 0 < 
 
 behind_one : (b : ℕ) (t : List ℕ) (n : ℕ) → EndsAscii t n → EndsAscii (b ∷ t) (1 + n)
 behind_one b t n h = (suc h.0, omega (arith, h.1), omega (arith, h.2), h.3)
-
-some_is : {A : Type 0} (x y : A) → Some x ≡ Some y → x ≡ y
-some_is x y h = cc
 
 -- the length in an answer
 len_is : {A : Type 0} (x y : A × ℕ) → Some x ≡ Some y → x.1 ≡ y.1
@@ -121,11 +120,11 @@ ends_after t n m h =
 fraction_ends : (t : List ℕ) → (fraction_len t ≡ 0) ⊎ EndsAscii t (fraction_len t)
 fraction_ends [] = inl refl
 fraction_ends (b ∷ []) = elim (b == 46) as (λ v. (cond (v && false) (1 + 0) 0 ≡ 0) ⊎ EndsAscii (b ∷ []) (cond (v && false) (1 + 0) 0)) [ true ↦ inl refl | false ↦ inl refl ]
-fraction_ends (b ∷ (d ∷ ds)) = elim (is_true (b == 46 && is_ascii_digit d)) [
+fraction_ends (b ∷ (d ∷ ds)) = elim (cases_Bool (b == 46 && is_ascii_digit d)) [
   | inl point ↦
-      let b_is : b ≡ 46 = eqb-true b 46 (and_true (b == 46) _ point).0 in
+      let b_is : b ≡ 46 = eqb-true b 46 (and_parts (b == 46) _ point).0 in
       let low : b < 128 = omega arith in
-      inr (rw point (ends_behind b (d ∷ ds) (prefix_len is_ascii_digit (d ∷ ds)) _ (run_ends is_ascii_digit d ds digit_ascii (and_true (b == 46) _ point).1) refl))
+      inr (rw point (ends_behind b (d ∷ ds) (prefix_len is_ascii_digit (d ∷ ds)) _ (run_ends is_ascii_digit d ds digit_ascii (and_parts (b == 46) _ point).1) refl))
   | inr none ↦ inl (rw none refl)
 ]
 
@@ -153,7 +152,7 @@ two_end b (c ∷ cs) h = (1, refl, omega arith, omega (arith, add-one, eqb-true 
 
 marked_ends : (b : ℕ) (bs : List ℕ) (y : Form × ℕ) → marked b bs ≡ Some y → EndsAscii (b ∷ bs) y.1
 marked_ends b bs y h = elim (chosen (is_mark_before b && front (λ c. c == 61) bs) h) [
-  | inl two ↦ let e : 2 ≡ y.1 = len_is (form.Symbol, 2) y two.1 in subst (EndsAscii (b ∷ bs)) e (two_end b bs (and_true (is_mark_before b) _ two.0).1)
+  | inl two ↦ let e : 2 ≡ y.1 = len_is (form.Symbol, 2) y two.1 in subst (EndsAscii (b ∷ bs)) e (two_end b bs (and_parts (is_mark_before b) _ two.0).1)
   | inr one ↦ elim (chosen (is_mark b) one.1) [
     | inl mark ↦ ends_here b bs y.1 (mark_ascii b mark.0) (len_is (form.Symbol, 1) y mark.1)
     | inr other ↦
@@ -181,7 +180,7 @@ measure_ends (b ∷ bs) y h = elim (chosen (b == 34) h) [
   | inr h1 ↦ elim (chosen (b == 46) h1.1) [
     | inl dot ↦ let e : b ≡ 46 = eqb-true b 46 dot.0 in rw e (dotted_ends bs y dot.1)
     | inr h2 ↦ elim (chosen (b == 45 && front is_ascii_digit bs) h2.1) [
-      | inl minus ↦ ends_behind b bs (number_len bs) y.1 (number_ends bs (and_true (b == 45) _ minus.0).1) (len_is (form.Number, 1 + number_len bs) y minus.1)
+      | inl minus ↦ ends_behind b bs (number_len bs) y.1 (number_ends bs (and_parts (b == 45) _ minus.0).1) (len_is (form.Number, 1 + number_len bs) y minus.1)
       | inr h3 ↦ elim (chosen (is_ascii_digit b) h3.1) [
         | inl digit ↦ let e : number_len (b ∷ bs) ≡ y.1 = len_is (form.Number, number_len (b ∷ bs)) y digit.1 in subst (EndsAscii (b ∷ bs)) e (number_ends (b ∷ bs) digit.0)
         | inr h4 ↦ worded_ends b bs y h4.1
@@ -201,7 +200,7 @@ token_some t f n e = let ends = measure_ends t (f, n) e in omega (arith, ends.1)
 
 front_shorter : (t : List ℕ) (x : Token × List ℕ) → front_token t ≡ Some x → length x.1 < length t
 front_shorter [] x h = cc
-front_shorter (b ∷ bs) x h = go (measure (b ∷ bs)) refl (some_is (cut_token (b ∷ bs) (measure (b ∷ bs))) x h)
+front_shorter (b ∷ bs) x h = go (measure (b ∷ bs)) refl (same_Some (cut_token (b ∷ bs) (measure (b ∷ bs))) x h)
   where
     go : (m : Option (Form × ℕ)) → measure (b ∷ bs) ≡ m → cut_token (b ∷ bs) (measure (b ∷ bs)) ≡ x → length x.1 < length (b ∷ bs)
     go None e is =

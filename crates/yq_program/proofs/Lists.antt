@@ -1,6 +1,6 @@
 -- Lists of which each element is seen as another, or tested.
-use Rattle.std.proofs.Common.{◌≡◌, ℕ, zero, suc, ◌+◌, ◌<◌, ◌≤◌, Bool, true, false, ◌&&◌, ◌||◌, List, [], ◌∷◌, ◌++◌, length, map, drop, get_or, reverse, refl, sym, ap, ◌∙◌, add-one, drop-cons, arith}
-use Rattle.std.proofs.lemmas.List.{map_push, reverse-append}
+use Rattle.std.proofs.Common.{◌≡◌, ℕ, suc, ◌+◌, ◌<◌, ◌≤◌, Bool, true, false, ◌&&◌, ◌||◌, List, [], ◌∷◌, ◌++◌, length, map, drop, get_or, reverse, refl, sym, ap, ◌∙◌, add-one, drop-cons}
+use Rattle.std.proofs.lemmas.List.{map_push, reverse-append, drop_all}
 use Rattle.std.specs.List.{list_all, list_any}
 
 pub list_all_map : {X Y : Type 0} (p : Y → Bool) (f : X → Y) (xs : List X) → list_all p (map f xs) ≡ list_all (λ x. p (f x)) xs
@@ -30,13 +30,6 @@ any_here p xs i x all within is passes so_far = ap (λ b. b || list_any p (drop 
 pub any_further : {X : Type 0} (p : X → Bool) (xs : List X) (i : ℕ) (x : X) (all : Bool) → i < length xs → x ≡ get_or xs i x → p x ≡ false → list_any p (drop i xs) ≡ all → list_any p (drop (i + 1) xs) ≡ all
 any_further p xs i x all within is passes so_far = ap (λ b. b || list_any p (drop (i + 1) xs)) (sym passes) ∙ (ap (list_any p) (sym (rest_apart xs i x within is)) ∙ so_far)
 
--- behind the last one there is none
-pub past_last : {X : Type 0} (xs : List X) (i : ℕ) → length xs ≤ i → drop i xs ≡ []
-past_last [] zero h = refl
-past_last [] (suc i) h = refl
-past_last (x ∷ xs) zero h = absurd (omega arith)
-past_last (x ∷ xs) (suc i) h = past_last xs i (omega arith)
-
 -- none does
 pub any_done : {X : Type 0} (p : X → Bool) (xs : List X) (i : ℕ) (all : Bool) → length xs ≤ i → list_any p (drop i xs) ≡ all → false ≡ all
-any_done p xs i all past so_far = ap (list_any p) (sym (past_last xs i past)) ∙ so_far
+any_done p xs i all past so_far = ap (list_any p) (sym (drop_all i xs past)) ∙ so_far

@@ -2,11 +2,10 @@
 use Rattle.std.proofs.Common.{◌≡◌, ℕ, zero, suc, true, false, List, [], ◌∷◌, map, Some, None, refl, sym, ◌∙◌, inl, inr}
 use Rattle.std.specs.Prelude.{codes}
 use Rattle.std.specs.Str.{bytes_eq}
-use Rattle.std.proofs.lemmas.Bool.{false≢true}
+use Rattle.std.proofs.lemmas.Bool.{false≢true, cases_Bool}
 use Rattle.std.proofs.lemmas.Slice.Eq.{bytes_eq-Decides}
 use Rattle.yq_scalar.specs.Scalar.{ScalarText}
 use Rattle.yq_scalar.specs.Tree.{Node}
-use Rattle.yq_scalar.proofs.Bools.{is_true}
 use Rattle.yq_scalar.specs.SchemaReading.{is_one_of}
 use Rattle.yq_program.specs.Tokens.{Token, symbol, scalar_words}
 use Rattle.yq_program.specs.Lexing.{after, taken, as_step}
@@ -18,11 +17,11 @@ use Rattle.yq_program.proofs.Turns.{item_lessens, field_lessens}
 use Rattle.yq_program.proofs.FormsAgain.{after_again, Again, parted_again, Anything}
 
 word_again : (w : List ℕ) (r : List Token) → is_one_of scalar_words w ≡ true → word_at (symbol w ∷ r) ≡ Some (w, r)
-word_again w r h = elim (is_true (bytes_eq w (codes "true"))) [
+word_again w r h = elim (cases_Bool (bytes_eq w (codes "true"))) [
   | inl is ↦ let e : w ≡ codes "true" = (bytes_eq-Decides w (codes "true")).0 is in rw e refl
-  | inr not_true ↦ elim (is_true (bytes_eq w (codes "false"))) [
+  | inr not_true ↦ elim (cases_Bool (bytes_eq w (codes "false"))) [
     | inl is ↦ let e : w ≡ codes "false" = (bytes_eq-Decides w (codes "false")).0 is in rw e refl
-    | inr not_false ↦ elim (is_true (bytes_eq w (codes "null"))) [
+    | inr not_false ↦ elim (cases_Bool (bytes_eq w (codes "null"))) [
       | inl is ↦ let e : w ≡ codes "null" = (bytes_eq-Decides w (codes "null")).0 is in rw e refl
       | inr not_null ↦
           let none : is_one_of scalar_words w ≡ false = rw (not_true, not_false, not_null) refl in
@@ -39,7 +38,7 @@ scalar_again s ts rest (inr (inr h)) f = rw (h.3, h.1) (rw (word_again h.0 rest 
 
 -- a word for a scalar is none of these marks
 word_is_none : (w : List ℕ) (r : List Token) (s : List ℕ) → is_one_of scalar_words w ≡ true → is_one_of scalar_words s ≡ false → after s (symbol w ∷ r) ≡ None
-word_is_none w r s h not_word = elim (is_true (bytes_eq w s)) [
+word_is_none w r s h not_word = elim (cases_Bool (bytes_eq w s)) [
   | inl is ↦ let e : w ≡ s = (bytes_eq-Decides w s).0 is in absurd (false≢true (sym not_word ∙ rw e at h))
   | inr other ↦ rw other refl
 ]

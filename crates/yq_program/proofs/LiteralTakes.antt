@@ -1,8 +1,9 @@
 -- The scalars and literals that are read are those of the grammar, and each has a token at least.
 use Rattle.std.proofs.Common.{◌≡◌, ℕ, zero, suc, true, List, [], ◌∷◌, length, map, Some, refl, ap, ◌∙◌, subst, inl, inr, arith}
+use Rattle.std.proofs.lemmas.Option.{cond_some}
 use Rattle.std.specs.Prelude.{codes}
 use Rattle.yq_scalar.specs.Tree.{Node}
-use Rattle.yq_scalar.proofs.Bools.{bind_some, guard_some}
+use Rattle.yq_scalar.proofs.Bools.{bind_some}
 use Rattle.yq_scalar.specs.Keys.{are_distinct}
 use Rattle.yq_scalar.specs.SchemaReading.{is_one_of}
 use Rattle.yq_program.specs.Tokens.{Token, string, symbol, scalar_words}
@@ -73,7 +74,7 @@ mapping_takes : (depth : ℕ) (all : List Token) (y : List (List ℕ × Node) ×
     → AreListed (codes "{") (codes "}") (IsField (IsLiteral depth)) y.0 all y.1 → mapping_of y ≡ Some x → IsLiteral (suc depth) x.0 all x.1
 unfolding IsLiteral
 mapping_takes depth all y x are h =
-    let g = guard_some (are_distinct (map (λ e. e.0) y.0)) h in
+    let g = cond_some (are_distinct (map (λ e. e.0) y.0)) _ _ h in
     subst (λ (p : Node × List Token). IsLiteral (suc depth) p.0 all p.1) g.1 (inr (inr (y.0, refl, distinct_keys _ g.0, are)))
 
 scalar_node_takes : Takes scalar_node_at IsScalarNode

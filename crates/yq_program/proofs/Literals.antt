@@ -1,5 +1,6 @@
 -- Literals are trees without anchors and aliases, which nest so far and no further.
-use Rattle.std.proofs.Common.{◌≡◌, ◌≢◌, ℕ, zero, suc, ◌≤◌, List, [], ◌∷◌, ◌++◌, map, Some, None, refl, subst, sym, inl, inr, arith}
+use Rattle.std.proofs.Common.{◌≡◌, ◌≢◌, ℕ, zero, suc, ◌≤◌, List, [], ◌∷◌, ◌++◌, map, None, refl, subst, sym, inl, inr, arith}
+use Rattle.std.proofs.lemmas.Option.{same_Some}
 use Rattle.std.specs.List.{All}
 use Rattle.std.specs.Prelude.{⊤, codes}
 use Rattle.yq_scalar.specs.Keys.{AreDistinct, depth, deepest}
@@ -63,12 +64,9 @@ are_items [] = tt
 are_items (n ∷ ns) = (refl, are_items ns)
 
 -- keys that differ are those of entries
-same_key : {j k : List ℕ} → Some j ≡ Some k → j ≡ k
-same_key e = cc
-
 is_new : (k : List ℕ) (es : List (List ℕ × Node)) → All (λ j. k ≢ j) (map (λ e. e.0) es) → IsNew k (entries es)
 is_new k [] h = tt
-is_new k (e ∷ es) h = ((λ is. h zero [] (omega arith) (sym (same_key is))), is_new k es (λ i d within. h (suc i) d (omega arith)))
+is_new k (e ∷ es) h = ((λ is. h zero [] (omega arith) (sym (same_Some _ _ is))), is_new k es (λ i d within. h (suc i) d (omega arith)))
 
 are_entries : (es : List (List ℕ × Node)) → AreDistinct (map (λ e. e.0) es) → AreEntries (entries es)
 are_entries [] h = tt

@@ -1,8 +1,9 @@
 -- What the survey of a text tells, and that outcomes are as the order of refusals says.
 use Rattle.std.proofs.Common.{◌≡◌, ◌⊎◌, ℕ, zero, suc, ◌+◌, ◌<◌, Bool, true, false, ◌||◌, nat_lt, List, [], ◌∷◌, take, Option, Some, None, Result, Ok, Err, refl, sym, ap, ◌∙◌, subst, inl, inr, arith, ltb-true}
-use Rattle.std.proofs.lemmas.Bool.{false≢true, or_cases, lt-ltb}
+use Rattle.std.proofs.lemmas.Bool.{false≢true, or_cases, lt-ltb, or_parts}
+use Rattle.std.proofs.lemmas.Option.{none-some}
 use Rattle.std.specs.Prelude.{IfOk, IfErr}
-use Rattle.yq_scalar.proofs.Bools.{or_false, chosen}
+use Rattle.yq_scalar.proofs.Bools.{chosen}
 use Rattle.yq_program.specs.declared.error.ParseError.{ParseError}
 use Rattle.yq_program.specs.declared.error.ParseError.TheVariants as error
 use Rattle.yq_program.specs.Tokens.{Token, string, number, step, symbol, foreign, unread, AreTokens}
@@ -15,9 +16,6 @@ use Rattle.yq_program.proofs.Literals.{literals_hold}
 use Rattle.yq_program.proofs.TextTokens.{tokens_take, tokens_again}
 use Rattle.yq_program.proofs.UpdateTakes.{program_takes}
 use Rattle.yq_program.proofs.ProgramAgain.{program_again}
-
-none_some : {A : Type 0} {x : A} → None ≡ Some x → ⊥
-none_some h = cc
 
 unread_is : (t : Token) → is_unread t ≡ true → t ≡ unread
 unread_is unread h = refl
@@ -103,8 +101,8 @@ refused_in (t ∷ ts) o a b h = elim (chosen (is_unread t) h) [
 -- the flag after a token is down only if nothing was found
 flag_down : (o : Bool) (t : Token) (a b : ℕ) → (o || is_foreign_token t || nat_lt (b + 64) a) ≡ false → (o ≡ false) × (t ≡ foreign → ⊥) × (b + 64 < a → ⊥)
 flag_down o t a b h =
-    let x = or_false (o || is_foreign_token t) (nat_lt (b + 64) a) h in
-    let y = or_false o (is_foreign_token t) x.0 in
+    let x = or_parts (o || is_foreign_token t) (nat_lt (b + 64) a) h in
+    let y = or_parts o (is_foreign_token t) x.0 in
     (y.0, no_foreign t y.1, λ lt. false≢true (sym x.1 ∙ lt-ltb (b + 64) a lt))
 
 -- the flag is never taken down
@@ -211,7 +209,7 @@ outcome_refused text e h = go (surveyed false 0 0 (tokens text)) refl h
     last None r s k =
         let passes = survey_passes text s in
         let is : error.Syntax ≡ e = cc in
-        subst (λ (x : ParseError). IsRefused x text) is (inr (tokens text, passes.0, passes.1, passes.2, λ p k. none_some (sym r ∙ program_again p (tokens text) k)))
+        subst (λ (x : ParseError). IsRefused x text) is (inr (tokens text, passes.0, passes.1, passes.2, λ p k. none-some _ (sym r ∙ program_again p (tokens text) k)))
     last (Some q) r s k = elim (chosen (has_pattern q) k) [
       | inl pattern ↦ let is : error.Pattern ≡ e = cc in subst (λ (x : ParseError). IsRefused x text) is (q, derives_in text q s r, pattern.0)
       | inr none ↦ cc

@@ -1,5 +1,6 @@
 -- The steps and paths that are read are those of the grammar, and each has a token at least.
 use Rattle.std.proofs.Common.{◌≡◌, true, false, List, [], ◌∷◌, length, Some, is_some, refl, ap, ◌∙◌, inl, inr, arith}
+use Rattle.std.proofs.lemmas.Option.{same_Some}
 use Rattle.std.specs.Prelude.{codes}
 use Rattle.yq_scalar.specs.SchemaReading.{int_value}
 use Rattle.yq_scalar.proofs.Bools.{bind_some, chosen}
@@ -8,7 +9,7 @@ use Rattle.yq_program.specs.Tokens.{Token, string, number, symbol}
 use Rattle.yq_program.specs.Lexing.{after, taken, as_number, as_string, as_step}
 use Rattle.yq_program.specs.Grammar.{Form, Mark, IsBracket, IsDotted, IsNamed, IsFirst, IsNext, Are, IsPath}
 use Rattle.yq_program.specs.Parse.{many, bracketed_at, bracket_at, step_at, path_of, path_at}
-use Rattle.yq_program.proofs.Readers.{some_is, either_cases, after_takes, string_takes, number_takes, named_takes, Takes, TakesMaybe, Shortens, same_form, many_takes, many_shortens}
+use Rattle.yq_program.proofs.Readers.{either_cases, after_takes, string_takes, number_takes, named_takes, Takes, TakesMaybe, Shortens, same_form, many_takes, many_shortens}
 
 -- a bracket from behind its opening mark
 abbrev Inner : Form Step
@@ -40,14 +41,14 @@ bracket_takes : TakesMaybe bracket_at IsBracket
 bracket_takes ts x h = elim (either_cases (after (codes "[") ts) h) [
   | inl opened ↦
       let y = bind_some (bracketed_at opened.0) opened.2 in
-      same_form IsBracket ts (some_is y.2) (bracketed_takes opened.0 y.0 y.1 ts (after_takes (codes "[") ts opened.0 opened.1))
+      same_form IsBracket ts (same_Some _ _ y.2) (bracketed_takes opened.0 y.0 y.1 ts (after_takes (codes "[") ts opened.0 opened.1))
   | inr none ↦ cc
 ]
 
 pub step_takes : TakesMaybe step_at IsNext
 unfolding step_at
 step_takes ts x h = elim (either_cases (taken as_step ts) h) [
-  | inl named ↦ same_form IsNext ts (some_is named.2) (inl (named_takes ts named.0 named.1))
+  | inl named ↦ same_form IsNext ts (same_Some _ _ named.2) (inl (named_takes ts named.0 named.1))
   | inr on ↦ elim (either_cases (after (codes ".") ts) on.1) [
     | inl dot ↦ inr (inr (dot.0, after_takes (codes ".") ts dot.0 dot.1, bracket_takes dot.0 x dot.2))
     | inr none ↦ inr (inl (bracket_takes ts x none.1))

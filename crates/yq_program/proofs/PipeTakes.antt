@@ -1,7 +1,8 @@
 -- The conditions, stages and pipes that are read are those of the grammar, and each has a token at least.
 use Rattle.std.proofs.Common.{◌≡◌, Bool, true, List, [], ◌∷◌, length, Some, refl, ap, subst, inl, inr, arith}
+use Rattle.std.proofs.lemmas.Option.{cond_some}
 use Rattle.std.specs.Prelude.{codes}
-use Rattle.yq_scalar.proofs.Bools.{bind_some, guard_some}
+use Rattle.yq_scalar.proofs.Bools.{bind_some}
 use Rattle.yq_program.specs.Program.{is_simple, Step, key, index, each, Operand, value_at, document_index, compares, has, path, select}
 use Rattle.yq_program.specs.Tokens.{Token, string, symbol}
 use Rattle.yq_program.specs.Lexing.{after, taken, as_string}
@@ -25,7 +26,7 @@ operand_takes ts x h = elim (either_cases (after (codes "di") ts) h) [
     | inl word ↦ same_form IsOperand ts word.2 (inr (after_takes (codes "document_index") ts word.0 word.1))
     | inr other ↦
         let y = bind_some (path_at ts) other.1 in
-        let g = guard_some (is_simple y.0.0) y.2 in
+        let g = cond_some (is_simple y.0.0) _ _ y.2 in
         subst (λ (p : Operand × List Token). IsOperand p.0 ts p.1) g.1 (simple_is y.0.0 g.0, path_takes ts y.0 y.1)
   ]
 ]

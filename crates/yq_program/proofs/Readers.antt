@@ -1,16 +1,14 @@
 -- Steps of reading functions, forms one after the other, and when both tell the same.
 use Rattle.std.proofs.Common.{◌≡◌, ◌⊎◌, ℕ, zero, suc, ◌+◌, ◌<◌, ◌≤◌, true, List, [], ◌∷◌, length, Option, Some, None, refl, sym, ap, ◌∙◌, subst, inl, inr, arith}
+use Rattle.std.proofs.lemmas.Option.{cond_some, same_Some}
 use Rattle.std.specs.Cmp.Lexicographic.{same_text}
 use Rattle.std.specs.Prelude.{option_map}
 use Rattle.yq_scalar.specs.Answers.{◌>>=◌}
-use Rattle.yq_scalar.proofs.Bools.{bind_some, guard_some}
+use Rattle.yq_scalar.proofs.Bools.{bind_some}
 use Rattle.yq_program.specs.Tokens.{Token, is_symbol, string, number, step, symbol, foreign, unread}
 use Rattle.yq_program.specs.Lexing.{after, taken, as_number, as_string, as_step}
 use Rattle.yq_program.specs.Grammar.{Form, Mark, Are, Behind, AreParted, Between}
 use Rattle.yq_program.specs.Parse.{Parse, either, with_front, many_in, many, behind_at, parted_at, closed_at}
-
-pub some_is : {A : Type 0} {x y : A} → Some x ≡ Some y → x ≡ y
-some_is h = cc
 
 pub either_cases : {A B : Type 0} {f : A → B} {y z : B} (o : Option A) → either o f y ≡ z → ((x : A) × (o ≡ Some x) × (f x ≡ z)) ⊎ ((o ≡ None) × (y ≡ z))
 either_cases (Some x) h = inl (x, refl, h)
@@ -18,10 +16,10 @@ either_cases None h = inr (refl, h)
 
 -- the front of two pairs
 pub first : {A B : Type 0} {x y : A × B} → Some x ≡ Some y → x.0 ≡ y.0
-first h = ap (λ p. p.0) (some_is h)
+first h = ap (λ p. p.0) (same_Some _ _ h)
 
 pub second : {A B : Type 0} {x y : A × B} → Some x ≡ Some y → x.1 ≡ y.1
-second h = ap (λ p. p.1) (some_is h)
+second h = ap (λ p. p.1) (same_Some _ _ h)
 
 symbol_is : (s : List ℕ) (t : Token) → is_symbol s t ≡ true → t ≡ symbol s
 symbol_is s (symbol w) h = ap symbol (same_text w s (sym h))
@@ -34,7 +32,7 @@ symbol_is s unread h = cc
 pub after_takes : (s : List ℕ) (ts r : List Token) → after s ts ≡ Some r → Mark s ts r
 after_takes s [] r h = cc
 after_takes s (t ∷ ts) r h =
-    let g = guard_some (is_symbol s t) h in
+    let g = cond_some (is_symbol s t) _ _ h in
     let e : t ≡ symbol s = symbol_is s t g.0 in
     cc
 
@@ -98,7 +96,7 @@ Shortens {A} Is = (x : A) (ts rest : List Token) → Is x ts rest → length res
 
 -- a form at a pair that is the same
 pub same_form : {A : Type 0} (Is : Form A) (ts : List Token) {x y : A × List Token} → Some x ≡ Some y → Is x.0 ts x.1 → Is y.0 ts y.1
-same_form {A} Is ts h is = subst (λ (p : A × List Token). Is p.0 ts p.1) (some_is h) is
+same_form {A} Is ts h is = subst (λ (p : A × List Token). Is p.0 ts p.1) (same_Some _ _ h) is
 
 with_front_some : {A : Type 0} (a : A) (o : Option (List A × List Token)) (y : List A × List Token) → with_front a o ≡ Some y
     → (x : List A × List Token) × (o ≡ Some x) × (◌≡◌ {A = Option (List A × List Token)} (Some (a ∷ x.0, x.1)) (Some y))
@@ -126,7 +124,7 @@ pub behind_takes : {A : Type 0} (s : List ℕ) (at : Parse A) (Is : Form A) → 
 behind_takes s at Is takes ts x h = elim (either_cases (after s ts) h) [
   | inl some ↦
       let y = bind_some (at some.0) some.2 in
-      (some.0, after_takes s ts some.0 some.1, same_form Is some.0 (some_is y.2) (takes some.0 y.0 y.1))
+      (some.0, after_takes s ts some.0 some.1, same_form Is some.0 (same_Some _ _ y.2) (takes some.0 y.0 y.1))
   | inr none ↦ cc
 ]
 

@@ -1,27 +1,27 @@
 -- Runs of bytes, and strings, as they are measured and spelled.
 use Rattle.std.proofs.Common.{◌≡◌, ℕ, suc, ◌+◌, Bool, true, false, cond, ◌||◌, ◌==◌, List, [], ◌∷◌, ◌++◌, length, take, drop, Option, Some, None, is_some, refl, sym, ap, ◌∙◌, subst, inl, inr, arith, eqb-true}
-use Rattle.std.proofs.lemmas.Bool.{not-true}
+use Rattle.std.proofs.lemmas.Bool.{not-true, and_parts, cases_Bool, or_parts}
+use Rattle.std.proofs.lemmas.Option.{same_Some}
 use Rattle.std.specs.List.{prefix_len, list_all}
 use Rattle.yq_scalar.specs.Text.{front, unless}
-use Rattle.yq_scalar.proofs.Bools.{is_true, and_true, or_false, chosen, guard_then}
+use Rattle.yq_scalar.proofs.Bools.{chosen, guard_then}
 use Rattle.yq_program.specs.declared.token.Form.{Form}
 use Rattle.yq_program.specs.declared.token.Form.TheVariants as form
 use Rattle.yq_program.specs.Tokens.{Token, foreign, escape, Character, itself, escaped, spelling, AreCharacters, interpolates, put, said, IsString}
 use Rattle.yq_program.specs.Lexing.{beyond, closing, escaping, quoted, content, token_of}
-use Rattle.yq_program.proofs.Readers.{some_is}
 
 -- ---- runs of bytes that pass a test
 
 pub run_passes : (p : ℕ → Bool) (t : List ℕ) → list_all p (take (prefix_len p t) t) ≡ true
 run_passes p [] = refl
-run_passes p (b ∷ bs) = elim (is_true (p b)) [
+run_passes p (b ∷ bs) = elim (cases_Bool (p b)) [
   | inl here ↦ let n : 1 + prefix_len p bs ≡ suc (prefix_len p bs) = omega arith in rw (here, n) (rw here (run_passes p bs))
   | inr stop ↦ rw stop refl
 ]
 
 pub run_stops : (p : ℕ → Bool) (t : List ℕ) → unless p (drop (prefix_len p t) t) ≡ true
 run_stops p [] = refl
-run_stops p (b ∷ bs) = elim (is_true (p b)) [
+run_stops p (b ∷ bs) = elim (cases_Bool (p b)) [
   | inl here ↦ let n : 1 + prefix_len p bs ≡ suc (prefix_len p bs) = omega arith in rw (here, n) (run_stops p bs)
   | inr stop ↦ rw stop (rw stop refl)
 ]
@@ -30,7 +30,7 @@ pub run_len : (p : ℕ → Bool) (w rest : List ℕ) → list_all p w ≡ true �
 run_len p [] [] h u = refl
 run_len p [] (b ∷ bs) h u = let stop : p b ≡ false = not-true (p b) u in rw stop refl
 run_len p (b ∷ w) rest h u =
-    let parts = and_true (p b) (list_all p w) h in
+    let parts = and_parts (p b) (list_all p w) h in
     let more = run_len p w rest parts.1 u in
     rw parts.0 (omega arith)
 
@@ -45,7 +45,7 @@ Closed t x = (cs : List Character) × AreCharacters cs × (take x.1 t ≡ spelli
 
 pub beyond_is : (o : Bool) (m : ℕ) (r : Option (Bool × ℕ)) (x : Bool × ℕ) → beyond o m r ≡ Some x → (y : Bool × ℕ) × (r ≡ Some y) × (◌≡◌ {A = Bool × ℕ} (o || y.0, m + y.1) x)
 beyond_is o m None x h = cc
-beyond_is o m (Some y) x h = (y, refl, some_is h)
+beyond_is o m (Some y) x h = (y, refl, same_Some _ _ h)
 
 pub closed_more : (b : ℕ) (bs : List ℕ) (y : Bool × ℕ) → (b == 34 || b == 92) ≡ false → Closed bs y → Closed (b ∷ bs) (false || y.0, 1 + y.1)
 closed_more b bs y plain c =
@@ -64,7 +64,7 @@ mutual
   closing_takes [] x h = cc
   closing_takes (b ∷ bs) x h = elim (chosen (b == 34) h) [
     | inl here ↦
-        let e : ◌≡◌ {A = Bool × ℕ} (false, 1) x = some_is here.1 in
+        let e : ◌≡◌ {A = Bool × ℕ} (false, 1) x = same_Some _ _ here.1 in
         let b_is : b ≡ 34 = eqb-true b 34 here.0 in
         subst (Closed (b ∷ bs)) e ([], tt, ap (λ (c : ℕ). c ∷ []) b_is, refl)
     | inr on ↦ elim (chosen (b == 92) on.1) [
@@ -94,14 +94,14 @@ pub closing_again : (cs : List Character) (rest : List ℕ) → AreCharacters cs
 unfolding closing escaping
 closing_again [] rest h = refl
 closing_again (itself b ∷ cs) rest h =
-    let no = or_false (b == 34) (b == 92) h.0 in
+    let no = or_parts (b == 34) (b == 92) h.0 in
     let more = closing_again cs rest h.1 in
     let n : 1 + suc (length (spelling cs)) ≡ suc (suc (length (spelling cs))) = omega arith in
     rw (no.0, no.1, more, n) refl
 closing_again (escaped e ∷ cs) rest h =
     let more = closing_again cs rest h.1 in
     let n : 2 + suc (length (spelling cs)) ≡ suc (suc (suc (length (spelling cs)))) = omega arith in
-    elim (is_true (e == 40)) [
+    elim (cases_Bool (e == 40)) [
       | inl is ↦ rw (is, more, n) refl
       | inr other ↦ let known : is_some (escape e) ≡ true = rw other at h.0 in rw (other, known, more, n) refl
     ]
@@ -110,7 +110,7 @@ pub content_again : (cs : List Character) (rest : List ℕ) → AreCharacters cs
 unfolding content
 content_again [] rest h = refl
 content_again (itself b ∷ cs) rest h =
-    let no = or_false (b == 34) (b == 92) h.0 in
+    let no = or_parts (b == 34) (b == 92) h.0 in
     rw (no.0, no.1) (ap (λ (s : List ℕ). b ∷ s) (content_again cs rest h.1))
 content_again (escaped e ∷ cs) rest h = ap (put (escape e)) (content_again cs rest h.1)
 
@@ -132,4 +132,4 @@ form_if false f p = refl
 
 pub quoted_is : (f : Form) (m : ℕ) (r : Option (Bool × ℕ)) (y : Form × ℕ) → quoted f m r ≡ Some y → (x : Bool × ℕ) × (r ≡ Some x) × (◌≡◌ {A = Form × ℕ} (cond x.0 form.Foreign f, m + x.1) y)
 quoted_is f m None y h = cc
-quoted_is f m (Some x) y h = (x, refl, some_is h)
+quoted_is f m (Some x) y h = (x, refl, same_Some _ _ h)

@@ -1,11 +1,11 @@
 -- The tokens of a text are those that the grammar has.
 use Rattle.std.proofs.Common.{◌≡◌, ℕ, zero, suc, ◌+◌, ◌<◌, Bool, true, false, cond, ◌||◌, ◌==◌, List, [], ◌∷◌, ◌++◌, length, take, drop, Option, Some, None, refl, sym, ap, ◌∙◌, subst, inl, inr, arith, append-nil, eqb-true}
-use Rattle.std.proofs.lemmas.Bool.{or_cases, false_from_ne_true}
+use Rattle.std.proofs.lemmas.Bool.{or_cases, false_from_ne_true, and_parts}
 use Rattle.std.proofs.lemmas.List.{take-append-drop}
 use Rattle.std.proofs.Math.Seq.{take-append_seam, drop-append_seam}
+use Rattle.std.proofs.lemmas.Option.{none-some}
 use Rattle.std.specs.List.{prefix_len, list_all}
 use Rattle.yq_scalar.specs.Text.{unless}
-use Rattle.yq_scalar.proofs.Bools.{and_true}
 use Rattle.yq_program.specs.declared.token.Form.{Form}
 use Rattle.yq_program.specs.Tokens.{Token, string, step, symbol, foreign, unread, is_blank, is_word, interpolates, IsToken, AreTokens}
 use Rattle.yq_program.specs.Lexing.{measure, token_of, cut_token, front_token, next, ahead, tokens, AreRead}
@@ -31,11 +31,8 @@ pub token_front : (u : List ℕ) (y : Form × ℕ) → measure u ≡ Some y → 
 unfolding measure
 token_front [] y h = cc
 token_front (b ∷ bs) y h =
-    let dark : is_blank b ≡ false = false_from_ne_true (is_blank b) (λ k. none_some (sym (blank_no_token b bs k) ∙ h)) in
+    let dark : is_blank b ≡ false = false_from_ne_true (is_blank b) (λ k. none-some _ (sym (blank_no_token b bs k) ∙ h)) in
     (rw dark refl, ap (λ m. Some (cut_token (b ∷ bs) m)) h)
-  where
-    none_some : {A : Type 0} {x : A} → None ≡ Some x → ⊥
-    none_some k = cc
 
 pub token_next : (t : Token) (white piece rest : List ℕ) → list_all is_blank white ≡ true → IsToken t piece rest → next (white ++ (piece ++ rest)) ≡ Some (t, rest)
 token_next t white piece rest blank is =
@@ -68,7 +65,7 @@ not_unread t piece rest (inr (inr (inr (inr (inr (inr h)))))) e = let k = h.1 in
 pub run_drops : (p : ℕ → Bool) (t : List ℕ) → list_all p t ≡ true → drop (prefix_len p t) t ≡ []
 run_drops p [] h = refl
 run_drops p (b ∷ bs) h =
-    let parts = and_true (p b) (list_all p bs) h in
+    let parts = and_parts (p b) (list_all p bs) h in
     let n : 1 + prefix_len p bs ≡ suc (prefix_len p bs) = omega arith in
     rw (parts.0, n) (run_drops p bs parts.1)
 

@@ -1,12 +1,12 @@
 -- Every token is what measuring finds.
 use Rattle.std.proofs.Common.{◌≡◌, ℕ, suc, ◌+◌, Bool, true, false, cond, ◌&&◌, ◌||◌, ◌==◌, List, [], ◌∷◌, ◌++◌, length, take, drop, Some, refl, sym, ap, ◌∙◌, subst, inl, inr, arith, append_assoc, eqb-true, length-append}
-use Rattle.std.proofs.lemmas.Bool.{false≢true, false_from_ne_true}
+use Rattle.std.proofs.lemmas.Bool.{false≢true, false_from_ne_true, cases_Bool, or_parts}
 use Rattle.std.proofs.Math.Bool.{and-false}
 use Rattle.std.proofs.Math.Seq.{take-append_seam, drop-append_seam}
 use Rattle.std.specs.Char.{is_ascii_digit}
 use Rattle.std.specs.List.{prefix_len}
 use Rattle.yq_scalar.specs.Text.{front}
-use Rattle.yq_scalar.proofs.Bools.{is_true, or_false, at_byte}
+use Rattle.yq_scalar.proofs.Bools.{at_byte}
 use Rattle.yq_program.specs.declared.token.Form.TheVariants as form
 use Rattle.yq_program.specs.Tokens.{Token, string, number, step, symbol, foreign, begins_name, is_name_byte, is_word, is_mark, is_mark_before, is_foreign, Character, spelling, AreCharacters, interpolates, said, IsString, IsName, begins_fraction, IsUnsigned, IsNumber, goes_on, begins_equals, IsMark, IsForeign, IsToken}
 use Rattle.yq_program.specs.Lexing.{closing, quoted, fraction_len, number_len, named, marked, measure, content, token_of}
@@ -135,8 +135,8 @@ pub dot_alone : (rest : List ℕ) → goes_on rest ≡ false → measure (46 ∷
 unfolding measure
 dot_alone [] h = refl
 dot_alone (b ∷ bs) h =
-    let x = or_false (b == 46 || b == 34) (begins_name b) h in
-    let y = or_false (b == 46) (b == 34) x.0 in
+    let x = or_parts (b == 46 || b == 34) (begins_name b) h in
+    let y = or_parts (b == 46) (b == 34) x.0 in
     rw (y.0, y.1, x.1) refl
 
 -- marks, foreign characters, digits and the first bytes of names are apart
@@ -177,7 +177,7 @@ mark_again piece rest (inl (b, is, h)) =
 mark_again piece rest (inr (b, is, h, no_equals, no_dot)) = subst (λ (p : List ℕ). Measures (symbol p) p rest) (sym is) (form.Symbol, m, refl)
   where
     m : measure (b ∷ rest) ≡ Some (form.Symbol, 1)
-    m = elim (is_true (b == 46)) [
+    m = elim (cases_Bool (b == 46)) [
       | inl dot ↦
           let b_is : b ≡ 46 = eqb-true b 46 dot in
           let alone : goes_on rest ≡ false = rw dot at no_dot in
@@ -193,7 +193,7 @@ foreign_again piece rest (inl is) = subst (λ (p : List ℕ). Measures foreign p
 foreign_again piece rest (inr (b, is, h, no_equals, no_digit)) = subst (λ (p : List ℕ). Measures foreign p rest) (sym is) (form.Foreign, m, refl)
   where
     before : (is_mark_before b && front (λ c. c == 61) rest) ≡ false
-    before = elim (is_true (b == 33)) [
+    before = elim (cases_Bool (b == 33)) [
       | inl bang ↦ let none : begins_equals rest ≡ false = rw bang at no_equals in rw none (and-false (is_mark_before b))
       | inr other ↦ let none : is_mark_before b ≡ false = foreign_not_before b h other in rw none refl
     ]

@@ -2,16 +2,17 @@
 use Rattle.std.proofs.Common.{◌≡◌, ◌⊎◌, ℕ, suc, ◌+◌, Bool, true, false, cond, ◌&&◌, ◌||◌, ◌==◌, List, [], ◌∷◌, ◌++◌, length, take, drop, Some, refl, sym, ap, ◌∙◌, subst, inl, inr, arith, eqb-true}
 use Rattle.std.proofs.lemmas.List.{drop-drop}
 use Rattle.std.proofs.Math.Seq.{take-add}
+use Rattle.std.proofs.lemmas.Bool.{and_parts, cases_Bool}
+use Rattle.std.proofs.lemmas.Option.{same_Some}
 use Rattle.std.specs.Char.{is_ascii_digit}
 use Rattle.std.specs.List.{prefix_len}
 use Rattle.yq_scalar.specs.Text.{front}
-use Rattle.yq_scalar.proofs.Bools.{is_true, and_true, chosen, guard_then}
+use Rattle.yq_scalar.proofs.Bools.{chosen, guard_then}
 use Rattle.yq_program.specs.declared.token.Form.{Form}
 use Rattle.yq_program.specs.declared.token.Form.TheVariants as form
 use Rattle.yq_program.specs.Tokens.{Token, string, step, symbol, foreign, begins_name, is_name_byte, is_word, is_mark, is_mark_before, is_foreign, IsName, AreDigits, begins_fraction, IsUnsigned, goes_on, begins_equals, IsToken}
 use Rattle.yq_program.specs.Lexing.{closing, fraction_len, number_len, dotted, marked, worded, measure, token_of}
 use Rattle.yq_program.proofs.Lexing.{begins_is_name}
-use Rattle.yq_program.proofs.Readers.{some_is}
 use Rattle.yq_program.proofs.RunLaws.{form_if, quoted_is, run_front, run_passes, run_stops, string_in}
 
 -- ---- what measuring finds is a token
@@ -39,11 +40,11 @@ digits_in b bs h = (run_front is_ascii_digit is_ascii_digit b bs h h, run_passes
 -- a fraction in front, or none
 pub fraction_in : (t : List ℕ) → ((begins_fraction t ≡ false) × (fraction_len t ≡ 0)) ⊎ ((d : ℕ) × (ds : List ℕ) × (t ≡ 46 ∷ (d ∷ ds)) × (is_ascii_digit d ≡ true) × (fraction_len t ≡ 1 + prefix_len is_ascii_digit (d ∷ ds)))
 fraction_in [] = inl (refl, refl)
-fraction_in (b ∷ []) = elim (is_true (b == 46)) [ inl is ↦ inl (rw is refl, rw is refl) | inr other ↦ inl (rw other refl, rw other refl) ]
-fraction_in (b ∷ (d ∷ ds)) = elim (is_true (b == 46 && is_ascii_digit d)) [
+fraction_in (b ∷ []) = elim (cases_Bool (b == 46)) [ inl is ↦ inl (rw is refl, rw is refl) | inr other ↦ inl (rw other refl, rw other refl) ]
+fraction_in (b ∷ (d ∷ ds)) = elim (cases_Bool (b == 46 && is_ascii_digit d)) [
   | inl is ↦
-      let b_is : b ≡ 46 = eqb-true b 46 (and_true (b == 46) _ is).0 in
-      inr (d, ds, ap (λ (c : ℕ). c ∷ (d ∷ ds)) b_is, (and_true (b == 46) _ is).1, rw is refl)
+      let b_is : b ≡ 46 = eqb-true b 46 (and_parts (b == 46) _ is).0 in
+      inr (d, ds, ap (λ (c : ℕ). c ∷ (d ∷ ds)) b_is, (and_parts (b == 46) _ is).1, rw is refl)
   | inr other ↦ inl (other, rw other refl)
 ]
 
@@ -77,11 +78,11 @@ abbrev pub Measures : Token → List ℕ → List ℕ → Type 0
 Measures t piece rest = (f : Form) × (measure (piece ++ rest) ≡ Some (f, length piece)) × (token_of f piece ≡ t)
 
 pub dotted_in : (t : List ℕ) (y : Form × ℕ) → dotted t ≡ Some y → Token_in (46 ∷ t) y
-dotted_in [] y h = subst (Token_in (46 ∷ [])) (some_is h) (inr (inr (inr (inr (inr (inl (inr (46, refl, refl, refl, refl), refl)))))))
+dotted_in [] y h = subst (Token_in (46 ∷ [])) (same_Some _ _ h) (inr (inr (inr (inr (inr (inl (inr (46, refl, refl, refl, refl), refl)))))))
 dotted_in (b ∷ bs) y h = elim (chosen (b == 46) h) [
   | inl dot ↦
       let b_is : b ≡ 46 = eqb-true b 46 dot.0 in
-      subst (Token_in (46 ∷ (b ∷ bs))) (some_is dot.1) (inr (inr (inr (inr (inr (inr (inl (ap (λ (c : ℕ). 46 ∷ (c ∷ [])) b_is), refl)))))))
+      subst (Token_in (46 ∷ (b ∷ bs))) (same_Some _ _ dot.1) (inr (inr (inr (inr (inr (inr (inl (ap (λ (c : ℕ). 46 ∷ (c ∷ [])) b_is), refl)))))))
   | inr on ↦ elim (chosen (b == 34) on.1) [
     | inl quote ↦
         let x = quoted_is form.Quoted 2 (closing bs) y quote.1 in
@@ -91,10 +92,10 @@ dotted_in (b ∷ bs) y h = elim (chosen (b == 46) h) [
       | inl name ↦
           let m = prefix_len is_name_byte (b ∷ bs) in
           let n : 1 + m ≡ suc m = omega arith in
-          subst (Token_in (46 ∷ (b ∷ bs))) (some_is name.1) (rw n (inr (inr (inl (take m (b ∷ bs), refl, name_in b bs name.0, refl)))))
+          subst (Token_in (46 ∷ (b ∷ bs))) (same_Some _ _ name.1) (rw n (inr (inr (inl (take m (b ∷ bs), refl, name_in b bs name.0, refl)))))
       | inr alone ↦
           let none : (b == 46 || b == 34 || begins_name b) ≡ false = rw (on.0, off.0, alone.0) refl in
-          subst (Token_in (46 ∷ (b ∷ bs))) (some_is alone.1) (inr (inr (inr (inr (inr (inl (inr (46, refl, refl, refl, none), refl)))))))
+          subst (Token_in (46 ∷ (b ∷ bs))) (same_Some _ _ alone.1) (inr (inr (inr (inr (inr (inl (inr (46, refl, refl, refl, none), refl)))))))
     ]
   ]
 ]
@@ -103,24 +104,24 @@ dotted_in (b ∷ bs) y h = elim (chosen (b == 46) h) [
 pub marked_in : (b : ℕ) (bs : List ℕ) (y : Form × ℕ) → (b == 46) ≡ false → (b == 45 && front is_ascii_digit bs) ≡ false → marked b bs ≡ Some y → Token_in (b ∷ bs) y
 marked_in b bs y no_dot no_minus h = elim (chosen (is_mark_before b && front (λ c. c == 61) bs) h) [
   | inl two ↦
-      let parts = and_true (is_mark_before b) (front (λ c. c == 61) bs) two.0 in
+      let parts = and_parts (is_mark_before b) (front (λ c. c == 61) bs) two.0 in
       let second = front_some (λ c. c == 61) bs parts.1 in
       let c_is : second.0 ≡ 61 = eqb-true second.0 61 second.3 in
       let piece : take 2 (b ∷ bs) ≡ b ∷ (61 ∷ []) = rw (second.2, c_is) refl in
-      subst (Token_in (b ∷ bs)) (some_is two.1) (inr (inr (inr (inr (inr (inl (inl (b, piece, parts.0), refl)))))))
+      subst (Token_in (b ∷ bs)) (same_Some _ _ two.1) (inr (inr (inr (inr (inr (inl (inl (b, piece, parts.0), refl)))))))
   | inr one ↦ elim (chosen (is_mark b) one.1) [
     | inl mark ↦
         let none : (b == 46 && goes_on bs) ≡ false = rw no_dot refl in
-        subst (Token_in (b ∷ bs)) (some_is mark.1) (inr (inr (inr (inr (inr (inl (inr (b, refl, mark.0, one.0, none), refl)))))))
+        subst (Token_in (b ∷ bs)) (same_Some _ _ mark.1) (inr (inr (inr (inr (inr (inl (inr (b, refl, mark.0, one.0, none), refl)))))))
     | inr other ↦
         let g = guard_then (is_foreign b) other.1 in
         let alone : (b == 33 && begins_equals bs) ≡ false = no_equals b bs one.0 in
-        subst (Token_in (b ∷ bs)) (some_is g.1) (inr (inr (inr (inr (inr (inr (inr (b, refl, g.0, alone, no_minus), refl)))))))
+        subst (Token_in (b ∷ bs)) (same_Some _ _ g.1) (inr (inr (inr (inr (inr (inr (inr (b, refl, g.0, alone, no_minus), refl)))))))
   ]
 ]
   where
     no_equals : (b : ℕ) (bs : List ℕ) → (is_mark_before b && front (λ c. c == 61) bs) ≡ false → (b == 33 && begins_equals bs) ≡ false
-    no_equals b bs k = elim (is_true (b == 33)) [
+    no_equals b bs k = elim (cases_Bool (b == 33)) [
       | inl is ↦
           let b_is : b ≡ 33 = eqb-true b 33 is in
           let before : is_mark_before b ≡ true = rw b_is refl in
@@ -132,7 +133,7 @@ pub worded_in : (b : ℕ) (bs : List ℕ) (y : Form × ℕ) → (b == 46) ≡ fa
 worded_in b bs y no_dot no_minus h = elim (chosen (begins_name b) h) [
   | inl name ↦
       let w = take (prefix_len is_name_byte (b ∷ bs)) (b ∷ bs) in
-      subst (Token_in (b ∷ bs)) (some_is name.1) (inr (inr (inr (inr (inl (name_in b bs name.0, form_word (is_word w) w))))))
+      subst (Token_in (b ∷ bs)) (same_Some _ _ name.1) (inr (inr (inr (inr (inl (name_in b bs name.0, form_word (is_word w) w))))))
   | inr mark ↦ marked_in b bs y no_dot no_minus mark.1
 ]
   where
@@ -154,12 +155,12 @@ measure_in (b ∷ bs) y h = elim (chosen (b == 34) h) [
         subst (λ (c : ℕ). Token_in (c ∷ bs) y) (sym b_is) (dotted_in bs y dot.1)
     | inr h2 ↦ elim (chosen (b == 45 && front is_ascii_digit bs) h2.1) [
       | inl minus ↦
-          let parts = and_true (b == 45) (front is_ascii_digit bs) minus.0 in
+          let parts = and_parts (b == 45) (front is_ascii_digit bs) minus.0 in
           let b_is : b ≡ 45 = eqb-true b 45 parts.0 in
           let n : 1 + number_len bs ≡ suc (number_len bs) = omega arith in
-          subst (Token_in (b ∷ bs)) (some_is minus.1) (rw n (inr (inr (inr (inl (inr (take (number_len bs) bs, ap (λ (c : ℕ). c ∷ take (number_len bs) bs) b_is, unsigned_in bs parts.1), refl))))))
+          subst (Token_in (b ∷ bs)) (same_Some _ _ minus.1) (rw n (inr (inr (inr (inl (inr (take (number_len bs) bs, ap (λ (c : ℕ). c ∷ take (number_len bs) bs) b_is, unsigned_in bs parts.1), refl))))))
       | inr h3 ↦ elim (chosen (is_ascii_digit b) h3.1) [
-        | inl digit ↦ subst (Token_in (b ∷ bs)) (some_is digit.1) (inr (inr (inr (inl (inl (unsigned_in (b ∷ bs) digit.0), refl)))))
+        | inl digit ↦ subst (Token_in (b ∷ bs)) (same_Some _ _ digit.1) (inr (inr (inr (inl (inl (unsigned_in (b ∷ bs) digit.0), refl)))))
         | inr h4 ↦ worded_in b bs y h2.0 h3.0 h4.1
       ]
     ]

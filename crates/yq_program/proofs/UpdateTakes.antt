@@ -1,5 +1,6 @@
 -- The updates and programs that are read are those of the grammar, and each has a token at least.
 use Rattle.std.proofs.Common.{◌≡◌, cond, List, [], ◌∷◌, length, Some, None, refl, ap, subst, inl, inr, arith}
+use Rattle.std.proofs.lemmas.Option.{same_Some}
 use Rattle.std.specs.Prelude.{codes}
 use Rattle.yq_scalar.specs.Answers.{◌>>=◌}
 use Rattle.yq_scalar.proofs.Bools.{bind_some, chosen}
@@ -10,7 +11,7 @@ use Rattle.yq_program.specs.Tokens.{Token, string, symbol}
 use Rattle.yq_program.specs.Lexing.{after, taken, as_string, is_end}
 use Rattle.yq_program.specs.Grammar.{Form, Mark, AreParted, InParentheses, IsPipe, IsLeft, literal_depth, IsTerm, IsRight, operator_mark, place_word, IsUpdate, IsProgram}
 use Rattle.yq_program.specs.Parse.{Parse, parted_at, parenthesized_at, literal_at, pipe_at, left_at, begins_left, term_at, right_at, operator_at, place_at, action_at, update_at, whole, updates_at, program_at}
-use Rattle.yq_program.proofs.Readers.{some_is, either_cases, after_takes, string_takes, Takes, Shortens, same_form, parted_takes, behind_shortens, parted_shortens, between_shortens}
+use Rattle.yq_program.proofs.Readers.{either_cases, after_takes, string_takes, Takes, Shortens, same_form, parted_takes, behind_shortens, parted_shortens, between_shortens}
 use Rattle.yq_program.proofs.LiteralTakes.{literal_takes, literal_shortens}
 use Rattle.yq_program.proofs.PipeTakes.{parenthesized_takes, pipe_takes, pipe_shortens, left_takes, left_shortens}
 
@@ -97,7 +98,7 @@ whole_is : {A : Type 0} (x : A × List Token) (y : A) → whole x ≡ Some y →
 whole_is x y h = go x.1 refl h
   where
     go : (ts : List Token) → x.1 ≡ ts → cond (is_end ts) (Some x.0) None ≡ Some y → (x.0 ≡ y) × (x.1 ≡ [])
-    go [] e k = (some_is k, e)
+    go [] e k = (same_Some _ _ k, e)
     go (t ∷ ts) e k = cc
 
 pub whole_takes : {A : Type 0} (at : Parse A) (Is : Form A) → Takes at Is → (ts : List Token) (x : A) → (at ts >>= whole) ≡ Some x → Is x ts []
@@ -109,9 +110,9 @@ whole_takes {A} at Is takes ts x h =
 pub program_takes : (ts : List Token) (p : Program) → program_at literal_depth ts ≡ Some p → IsProgram p ts
 unfolding program_at updates_at
 program_takes ts p h = elim (either_cases (pipe_at ts >>= whole) h) [
-  | inl piped ↦ subst (λ (q : Program). IsProgram q ts) (some_is piped.2) (whole_takes pipe_at IsPipe pipe_takes ts piped.0 piped.1)
+  | inl piped ↦ subst (λ (q : Program). IsProgram q ts) (same_Some _ _ piped.2) (whole_takes pipe_at IsPipe pipe_takes ts piped.0 piped.1)
   | inr on ↦
       let us = bind_some (parted_at (codes "|") (update_at literal_depth) ts >>= whole) on.1 in
-      subst (λ (q : Program). IsProgram q ts) (some_is us.2)
+      subst (λ (q : Program). IsProgram q ts) (same_Some _ _ us.2)
       (whole_takes (parted_at (codes "|") (update_at literal_depth)) (AreParted (codes "|") IsUpdate) (parted_takes (codes "|") (update_at literal_depth) IsUpdate update_takes) ts us.0 us.1)
 ]

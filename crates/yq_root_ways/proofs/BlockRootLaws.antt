@@ -1,6 +1,7 @@
 -- Where the block collection stands that is the root of a document.
 use Rattle.std.proofs.Common.{◌≡◌, ◌⊎◌, inl, inr, ℕ, List, [], ◌∷◌, ◌++◌, replicate, Some, None, Bool, true, false, cond, not, ◌||◌, refl, sym, ap, ◌∙◌, subst, append_assoc, append-nil}
 use Rattle.std.proofs.lemmas.Bool.{false≢true}
+use Rattle.std.proofs.lemmas.Option.{none-some, same_Some}
 use Rattle.yq_scalar.specs.declared.block_written.Break.TheVariants as breaks
 use Rattle.yq_scalar.specs.Text.{is_empty, separates}
 use Rattle.yq_scalar.proofs.BlockPieceLaws.{append_lf}
@@ -43,12 +44,6 @@ use Rattle.yq_ways.proofs.BreakLaws.{last_is}
 use Rattle.yq_ways.proofs.CommentPieceLaws.{nothing, spaces_piece, break_piece}
 use Rattle.yq_root_ways.proofs.RootReadLaws.{TakesValue}
 use Rattle.yq_root_ways.proofs.RootRows.{HasRoom}
-
-some_same : {A : Type 0} {x y : A} → Some x ≡ Some y → x ≡ y
-some_same e = cc
-
-none_some : {A : Type 0} {x : A} → None ≡ Some x → ⊥
-none_some e = cc
 
 -- ---- the first line of rows
 
@@ -140,11 +135,11 @@ block_root_at n c w old d read placed at is = go d.part.rows refl
     by_rows : (r : Row) (rs : List Row) → d.part.rows ≡ r ∷ rs → (h : HasFirstLine r rs) → is_bare h.first.line.mark ≡ false →
         Some (written_root (run_piece d.before h.first h.others (d.part.end ++ d.behind)) h.first.line.column) ≡ Some w → IsBlockRoot n c w old
     by_rows r rs rows h bare e =
-        let place = some_same e in
+        let place = same_Some _ _ e in
         let last : List ℕ = run_break h.first h.others in
         let more : List ℕ = d.part.end ++ d.behind in
         let are : AreRows unlimited (r ∷ (rs ++ [])) d.part.end d.behind = subst (λ xs. AreRows unlimited xs d.part.end d.behind) (rows ∙ sym (append-nil (r ∷ rs))) lies.rows in
-        let own : old ≡ (run_piece d.before h.first h.others more).text = sym (some_same (ap (λ (x : RootPlace). x.old) place ∙ is)) in
+        let own : old ≡ (run_piece d.before h.first h.others more).text = sym (same_Some _ _ (ap (λ (x : RootPlace). x.old) place ∙ is)) in
         record {
           d = d;
           placed = placed;
@@ -170,11 +165,11 @@ block_root_at n c w old d read placed at is = go d.part.rows refl
 
     by_line : (r : Row) (rs : List Row) → d.part.rows ≡ r ∷ rs → (h : HasFirstLine r rs) → (b : Bool) → is_bare h.first.line.mark ≡ b →
         cond b None (Some (written_root (run_piece d.before h.first h.others (d.part.end ++ d.behind)) h.first.line.column)) ≡ Some w → IsBlockRoot n c w old
-    by_line r rs rows h true bare e = absurd (none_some e)
+    by_line r rs rows h true bare e = absurd (none-some _ e)
     by_line r rs rows h false bare e = by_rows r rs rows h bare e
 
     go : (rs : List Row) → d.part.rows ≡ rs → IsBlockRoot n c w old
-    go [] rows = absurd (none_some (ap (λ (x : RootPlace). x.old) (some_same (ap (λ xs. root_of_lines d (printed_lines xs)) (sym rows) ∙ at)) ∙ is))
+    go [] rows = absurd (none-some _ (ap (λ (x : RootPlace). x.old) (same_Some _ _ (ap (λ xs. root_of_lines d (printed_lines xs)) (sym rows) ∙ at)) ∙ is))
     go (r ∷ rs) rows =
         let h = first_line r rs in
         by_line r rs rows h (is_bare h.first.line.mark) refl (ap (root_of_lines d) (sym (ap printed_lines rows ∙ h.lines_are)) ∙ at)

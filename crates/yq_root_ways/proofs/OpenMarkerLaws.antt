@@ -1,6 +1,7 @@
 -- A document without rows behind a last marker that has no break: the cut in which the marker gets one has the same documents.
 use Rattle.std.proofs.Common.{◌≡◌, ℕ, zero, suc, ◌≤◌, ◌||◌, not, Bool, true, false, List, [], ◌∷◌, ◌++◌, length, Some, option_map, refl, sym, ap, ◌∙◌, subst, arith, append_assoc, append-nil}
 use Rattle.std.proofs.lemmas.Bool.{false≢true}
+use Rattle.std.proofs.lemmas.Option.{same_Some}
 use Rattle.yq_scalar.specs.Text.{is_empty}
 use Rattle.yq_rows.specs.Appending.{last_marker, with_last_part}
 use Rattle.yq_rows.specs.Grammar.{IsPart, IsMarkerLine, AreParts, begins_document}
@@ -8,7 +9,7 @@ use Rattle.yq_rows.specs.Rows.{Part, part_text, Cut, last, marked, cut_text}
 use Rattle.yq_rows.proofs.PlaceLaws.{part_then}
 use Rattle.yq_documents.specs.Documents.{begins_bare, has_begin, with_part, parts_from, document_parts}
 use Rattle.yq_tree.specs.PlacedRows.{PlacedPart, part_behind, placed_part, placed_document}
-use Rattle.yq_tree.proofs.PlacedPartLaws.{map_some, placed_same}
+use Rattle.yq_tree.proofs.PlacedPartLaws.{map_some}
 
 -- a document behind a text with a break more, at the end of a text
 abbrev pub broken_before : List ℕ → PlacedPart → PlacedPart
@@ -34,7 +35,7 @@ marker_some [] t h e = omega (arith, h)
 marker_some (b ∷ m) t h e = cc
 
 one_placed : (b : Bool) (k : ℕ) (q : Part) (x : PlacedPart) → placed_part b k (last q) ≡ Some x → (b ≡ true) × (k ≡ zero) × (record { before = []; part = q; behind = [] } ≡ x)
-one_placed true zero q x e = (refl, refl, placed_same e)
+one_placed true zero q x e = (refl, refl, same_Some _ _ e)
 one_placed true (suc k) q x e = absurd (cc)
 one_placed false k q x e = absurd (cc)
 
@@ -42,7 +43,7 @@ one_placed false k q x e = absurd (cc)
 found : (break : List ℕ) (p : Part) (m : List ℕ) (c : Cut) (x : PlacedPart) → IsMarkerLine m (cut_text c) → x.behind ≡ [] →
     ((k : ℕ) → option_map (part_behind (part_text p m)) (placed_part (begins_document m) k c) ≡ Some x → IsLater break p m k c x) → (is : Bool) (n : ℕ) → placed_part is n (marked p m c) ≡ Some x →
     (k : ℕ) × IsLater break p m k c x × (placed_part is n (with_last_part break x.part (marked p m c)) ≡ Some (broken_before break x))
-found break p m c x line none later true zero e = absurd (marker_some m (cut_text c) line.long (ap (λ (y : PlacedPart). y.behind) (placed_same e) ∙ none))
+found break p m c x line none later true zero e = absurd (marker_some m (cut_text c) line.long (ap (λ (y : PlacedPart). y.behind) (same_Some _ _ e) ∙ none))
 found break p m c x line none later true (suc k) e = let r = later k e in (k, r, r.placed_next)
 found break p m c x line none later false k e = let r = later k e in (k, r, r.placed_first)
 

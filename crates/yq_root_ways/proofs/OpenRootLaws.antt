@@ -1,6 +1,6 @@
 -- Where the root of a document comes that has no rows, behind a text that doesn't end in a break: on a line of its own, behind a break that comes first.
 use Rattle.std.proofs.Common.{◌≡◌, ◌⊎◌, inl, inr, ℕ, ◌≤◌, List, [], ◌∷◌, ◌++◌, length, Some, None, true, false, refl, sym, ap, ◌∙◌, subst, arith, append_assoc, append-nil, length-append}
-use Rattle.std.proofs.lemmas.Bool.{false≢true, cond-true, false_from_ne_true}
+use Rattle.std.proofs.lemmas.Bool.{false≢true, cond-true, false_from_ne_true, and_parts}
 use Rattle.std.proofs.lemmas.Str.{is_utf8-from_IsUtf8}
 use Rattle.std.specs.List.{list_all}
 use Rattle.std.specs.Str.{chars, is_utf8}
@@ -9,7 +9,7 @@ use Rattle.yq_scalar.specs.Characters.{is_text, is_text_char, pairs_returns, tex
 use Rattle.yq_scalar.specs.Text.{is_empty, is_line}
 use Rattle.yq_scalar.specs.Tree.{Node}
 use Rattle.yq_scalar.specs.declared.block_written.Break.{Break}
-use Rattle.yq_scalar.proofs.Bools.{and_true, guard_then}
+use Rattle.yq_scalar.proofs.Bools.{guard_then}
 use Rattle.yq_flow.specs.Valued.{IsValueTree}
 use Rattle.yq_lines.specs.Comments.{head_comment}
 use Rattle.yq_rows.specs.Appending.{last_marker, with_last_part, PartFits}
@@ -80,7 +80,7 @@ module _ (n : ℕ) (c : Cut) (w : RootPlace) (read : read_at (cut_text c) ≡ So
     characters = (subst IsPiece h.before_is (pieces n c w read h).0).characters
 
     pairs : pairs_returns h.d.part.end ≡ true
-    pairs = pairs_back h.d.before h.d.part.end (and_true (list_all is_text_char (chars (h.d.before ++ h.d.part.end))) (pairs_returns (h.d.before ++ h.d.part.end)) characters).1
+    pairs = pairs_back h.d.before h.d.part.end (and_parts (list_all is_text_char (chars (h.d.before ++ h.d.part.end))) (pairs_returns (h.d.before ++ h.d.part.end)) characters).1
 
     broken : (x : List ℕ) → IsGap (h.d.part.end ++ break_text br) x × (head_comment (h.d.part.end ++ break_text br) ≡ head_comment h.d.part.end)
     broken x = open_gap h.d.part.end x br (subst (IsGap h.d.part.end) nothing_behind (gap_is n c w read h)) gap_open pairs

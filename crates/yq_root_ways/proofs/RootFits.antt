@@ -1,5 +1,6 @@
 -- A value that fits as the root of a document: what that says of it, and the text in which it comes there.
 use Rattle.std.proofs.Common.{◌≡◌, ℕ, ◌≤◌, List, [], ◌++◌, replicate, Some, sym, ◌∙◌, subst}
+use Rattle.std.proofs.lemmas.Option.{same_Some}
 use Rattle.std.specs.List.{slice_get}
 use Rattle.yq_scalar.specs.Tree.{Node}
 use Rattle.yq_flow.specs.Valued.{IsValueTree}
@@ -27,13 +28,10 @@ pub record FitsPart (v : Node) (p : Part) : Type 0 where
   pub value_is : IsNewValue v 0
   pub spared : AreSpared (inner_names (root_of p)) [] (names_of (root_of p))
 
-some_same : {A : Type 0} {x y : A} → Some x ≡ Some y → x ≡ y
-some_same e = cc
-
 pub fits_part : (n : ℕ) (v : Node) (c : Cut) (p : Part) → slice_get (document_parts c) n ≡ Some p → IsValueTree v → Fits (room_of (cut_text c)) (replace n [] v) (documents c) → FitsPart v p
 fits_part n v c p there value_tree fits =
     let f = fits_replace n [] v c p there value_tree fits in
-    record { near = f.near; value_is = f.may.value_is; spared = subst (λ m. AreSpared (inner_names m) [] (names_of (root_of p))) (sym (some_same f.there)) f.may.spared }
+    record { near = f.near; value_is = f.may.value_is; spared = subst (λ m. AreSpared (inner_names m) [] (names_of (root_of p))) (sym (same_Some _ _ f.there)) f.may.spared }
 
 pub value_reads : (n : ℕ) (c : Cut) (d : PlacedPart) (gap last back : List ℕ) (v : Node) (l : Layout) (column : ℕ) (new : List ℕ) → TakesValue n c d gap last back → 1 ≤ l.mapping → IsValueTree v → FitsPart v d.part →
     d.before ++ (gap ++ (replicate column 32 ++ (block_value l column v ++ (last ++ (back ++ d.behind))))) ≡ new → IsReadable new → ReadsAfter (replace n [] v) c new

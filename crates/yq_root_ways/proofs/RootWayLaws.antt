@@ -1,5 +1,6 @@
 -- Writing a root in the place of a block collection, or where none is written, is a way.
 use Rattle.std.proofs.Common.{◌≡◌, ◌⊎◌, inl, inr, ℕ, ◌≤◌, Bool, true, false, List, [], ◌∷◌, ◌++◌, length, replicate, Option, Some, None, refl, sym, ap, ◌∙◌, subst, append_assoc, append-nil}
+use Rattle.std.proofs.lemmas.Option.{none-some}
 use Rattle.yq_scalar.specs.Answers.{◌>>=◌}
 use Rattle.yq_scalar.specs.BlockWritten.{break_text}
 use Rattle.yq_scalar.specs.Characters.{text_limit}
@@ -37,9 +38,6 @@ use Rattle.yq_root_ways.proofs.OpenRootLaws.{open_reads}
 use Rattle.yq_root_ways.proofs.RootFits.{FitsPart, fits_part, value_reads}
 use Rattle.yq_ways.proofs.SegmentLaws.{segments_readable}
 use Rattle.yq_root_ways.proofs.UnwrittenRootLaws.{IsUnwrittenRoot, unwritten, stands, whole, pieces, takes_unwritten}
-
-none_some : {A : Type 0} {x : A} → None ≡ Some x → ⊥
-none_some e = cc
 
 value_piece : (v : Node) (l : Layout) (column : ℕ) → IsValueTree v → IsPiece (block_value l column v)
 value_piece v l column h = let x = value_sound v l column h in record { utf8 = x.0; characters = x.1 }
@@ -141,7 +139,7 @@ root_found n v c us is =
 
 root_old : (n : ℕ) (steps : List Step) (v : Node) (c : Cut) (us : List Segment) → read_at (cut_text c) ≡ Some c → root_way (replace n steps v) c ≡ Some us → old_text us ≡ cut_text c
 unfolding root_way
-root_old n (s ∷ ss) v c us read is = absurd (none_some is)
+root_old n (s ∷ ss) v c us read is = absurd (none-some _ is)
 root_old n [] v c us read is = let f = root_found n v c us is in go f.0 f.1 f.2
   where
     go : (w : RootPlace) → root_place n [] c ≡ Some w → RootThere n v c us w → old_text us ≡ cut_text c
@@ -151,7 +149,7 @@ root_old n [] v c us read is = let f = root_found n v c us is in go f.0 f.1 f.2
 root_way_reads : (n : ℕ) (steps : List Step) (v : Node) (c : Cut) (us : List Segment) → read_at (cut_text c) ≡ Some c → root_way (replace n steps v) c ≡ Some us → IsValueTree v →
     Fits (room_of (cut_text c)) (replace n steps v) (documents c) → length (new_text us) ≤ text_limit → ReadsAfter (replace n steps v) c (new_text us)
 unfolding root_way
-root_way_reads n (s ∷ ss) v c us read is value_tree fits size = absurd (none_some is)
+root_way_reads n (s ∷ ss) v c us read is value_tree fits size = absurd (none-some _ is)
 root_way_reads n [] v c us read is value_tree fits size = let f = root_found n v c us is in go f.0 f.1 f.2
   where
     go : (w : RootPlace) → root_place n [] c ≡ Some w → RootThere n v c us w → ReadsAfter (replace n [] v) c (new_text us)
@@ -168,15 +166,15 @@ root_is_way = record { old = old; reads = reads }
   where
     old : (op : Operation) (c : Cut) (us : List Segment) → read_at (cut_text c) ≡ Some c → root_way op c ≡ Some us → old_text us ≡ cut_text c
     old (replace doc steps v) c us read is = root_old doc steps v c us read is
-    old (append doc steps key v) c us read is = absurd (none_some is)
-    old (remove doc steps) c us read is = absurd (none_some is)
-    old (line_comment doc steps text) c us read is = absurd (none_some is)
-    old (head_comment doc steps text) c us read is = absurd (none_some is)
+    old (append doc steps key v) c us read is = absurd (none-some _ is)
+    old (remove doc steps) c us read is = absurd (none-some _ is)
+    old (line_comment doc steps text) c us read is = absurd (none-some _ is)
+    old (head_comment doc steps text) c us read is = absurd (none-some _ is)
 
     reads : (op : Operation) (c : Cut) (us : List Segment) → read_at (cut_text c) ≡ Some c → root_way op c ≡ Some us → HasOperand op → Fits (room_of (cut_text c)) op (documents c) →
         length (new_text us) ≤ text_limit → ReadsAfter op c (new_text us)
     reads (replace doc steps v) c us read is operand fits size = root_way_reads doc steps v c us read is operand fits size
-    reads (append doc steps key v) c us read is operand fits size = absurd (none_some is)
-    reads (remove doc steps) c us read is operand fits size = absurd (none_some is)
-    reads (line_comment doc steps text) c us read is operand fits size = absurd (none_some is)
-    reads (head_comment doc steps text) c us read is operand fits size = absurd (none_some is)
+    reads (append doc steps key v) c us read is operand fits size = absurd (none-some _ is)
+    reads (remove doc steps) c us read is operand fits size = absurd (none-some _ is)
+    reads (line_comment doc steps text) c us read is operand fits size = absurd (none-some _ is)
+    reads (head_comment doc steps text) c us read is operand fits size = absurd (none-some _ is)

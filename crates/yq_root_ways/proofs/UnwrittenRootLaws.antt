@@ -1,11 +1,12 @@
 -- Where the root of a document comes that has no rows: in general, and behind a text that ends in a break.
 use Rattle.std.proofs.Common.{◌≡◌, ◌⊎◌, inl, inr, ℕ, zero, suc, ◌≤◌, List, [], ◌∷◌, ◌++◌, length, Some, None, Bool, true, false, not, ◌||◌, cond, refl, sym, ap, ◌∙◌, subst, arith, append_assoc, append-nil, ⊎_elim}
-use Rattle.std.proofs.lemmas.Bool.{false≢true, or_right}
+use Rattle.std.proofs.lemmas.Bool.{false≢true, or_right, and_parts, or_parts}
+use Rattle.std.proofs.lemmas.Option.{none-some, same_Some}
 use Rattle.yq_scalar.specs.BlockWritten.{break_text}
 use Rattle.yq_scalar.specs.Text.{is_empty, is_feed, is_break, is_line, ends_line, separates, NoneIn, joined}
 use Rattle.yq_scalar.specs.declared.block_written.Break.{Break}
 use Rattle.yq_scalar.specs.declared.block_written.Break.TheVariants as breaks
-use Rattle.yq_scalar.proofs.Bools.{and_true, bind_some, or_false}
+use Rattle.yq_scalar.proofs.Bools.{bind_some}
 use Rattle.yq_lines.specs.Comments.{head_comment}
 use Rattle.yq_lines.specs.Spots.{is_bare}
 use Rattle.yq_rows.specs.Gap.{IsLineEnd, IsGapLine, AreGapLines, IsGap}
@@ -29,7 +30,7 @@ use Rattle.yq_documents.specs.Ready.{begins_no_node}
 use Rattle.yq_documents.specs.Lines.{lines_of}
 use Rattle.yq_tree.specs.RootPlaces.{RootPlace, written_root, unwritten_root, root_of_lines, root_in, root_place}
 use Rattle.yq_tree.proofs.CommentPieceLaws.{gap_end}
-use Rattle.yq_tree.proofs.PlacedPartLaws.{map_some, placed_same}
+use Rattle.yq_tree.proofs.PlacedPartLaws.{map_some}
 use Rattle.yq_tree.proofs.RemovalLines.{LineSeam, LiesIn, lies_in, seam_join}
 use Rattle.yq_change.specs.DocumentRows.{IsDocumentPart, number_from, part_number}
 use Rattle.yq_change.specs.PlacedParts.{StandsAt}
@@ -50,7 +51,7 @@ use Rattle.yq_root_ways.proofs.RootRows.{HasRoom}
 open_end : (l : List ℕ) → is_empty l ≡ false → NoneIn ends_line l [] → is_closed_text l ≡ false
 unfolding is_closed_text
 open_end [] some none = absurd (false≢true (sym some))
-open_end (b ∷ []) some none = (or_false (is_feed b) _ none.0).0
+open_end (b ∷ []) some none = (or_parts (is_feed b) _ none.0).0
 open_end (b ∷ (d ∷ t)) some none = open_end (d ∷ t) refl none.1
 
 -- white space and a comment end in none
@@ -114,10 +115,10 @@ nothing_before : (before : List ℕ) (d : PlacedPart) → d.before ≡ [] → (p
 nothing_before before d e = ([], ap (λ t. before ++ t) e ∙ append-nil before)
 
 ends_in_marker : (is : Bool) (n : ℕ) (c : Cut) (d : PlacedPart) (before : List ℕ) → placed_part is n c ≡ Some d → (pre : List ℕ) × (before ++ d.before ≡ pre ++ marker_before before (number_from is n c) c)
-ends_in_marker true zero (last p) d before e = nothing_before before d (ap (λ (x : PlacedPart). x.before) (sym (placed_same e)))
+ends_in_marker true zero (last p) d before e = nothing_before before d (ap (λ (x : PlacedPart). x.before) (sym (same_Some _ _ e)))
 ends_in_marker true (suc n) (last p) d before e = absurd (cc)
 ends_in_marker false n (last p) d before e = absurd (cc)
-ends_in_marker true zero (marked p marker c) d before e = nothing_before before d (ap (λ (x : PlacedPart). x.before) (sym (placed_same e)))
+ends_in_marker true zero (marked p marker c) d before e = nothing_before before d (ap (λ (x : PlacedPart). x.before) (sym (same_Some _ _ e)))
 ends_in_marker true (suc n) (marked p marker c) d before e =
     let x = map_some (part_behind (part_text p marker)) (placed_part (begins_document marker) n c) d e in
     ends_later p marker before x.0 d _ x.2 (ends_in_marker (begins_document marker) n c x.0 marker x.1)
@@ -133,7 +134,7 @@ open_tail a b c (x ∷ p) t feed closed e = false≢true (sym (remark_open t.whi
 
 closed_tail : (a b c : ℕ) (p : List ℕ) → is_feed c ≡ false → IsTail p [] → is_closed_text (a ∷ (b ∷ (c ∷ p))) ≡ true → is_line p ≡ true
 closed_tail a b c p feed t closed = ⊎_elim {0, 0, 0}
-    (λ k. line_by_break t.white t.comment p [] t.line ∙ (and_true (is_break t.line.break) (is_line t.line.break) k).1)
+    (λ k. line_by_break t.white t.comment p [] t.line ∙ (and_parts (is_break t.line.break) (is_line t.line.break) k).1)
     (λ e. absurd (open_tail a b c p t feed closed e.0))
     t.line.ends
 
@@ -166,25 +167,16 @@ pub record IsUnwrittenRoot (n : ℕ) (c : Cut) (w : RootPlace) : Type 0 where
   pub behind_is : w.behind ≡ d.behind
   pub column_is : w.column ≡ 0
 
-place_same : {x y : RootPlace} → Some x ≡ Some y → x ≡ y
-place_same e = cc
-
-none_place : {w : RootPlace} → None ≡ Some w → ⊥
-none_place e = cc
-
-some_old : {t : List ℕ} → Some t ≡ None → ⊥
-some_old e = cc
-
 pub unwritten : (n : ℕ) (c : Cut) (w : RootPlace) → root_place n [] c ≡ Some w → w.old ≡ None → IsUnwrittenRoot n c w
 unwritten n c w at none = let d = bind_some (placed_document n c) at in go d.0 d.1 d.0.part.rows refl d.2
   where
     by_line : (d : PlacedPart) (r : Row) (rs : List Row) (h : HasFirstLine r rs) (b : Bool) → cond b None (Some (written_root (run_piece d.before h.first h.others (d.part.end ++ d.behind)) h.first.line.column)) ≡ Some w → ⊥
-    by_line d r rs h true e = none_place e
-    by_line d r rs h false e = some_old (ap (λ (y : RootPlace). y.old) (place_same e) ∙ none)
+    by_line d r rs h true e = none-some _ e
+    by_line d r rs h false e = none-some _ (sym (ap (λ (y : RootPlace). y.old) (same_Some _ _ e) ∙ none))
 
     go : (d : PlacedPart) → placed_document n c ≡ Some d → (rs : List Row) → d.part.rows ≡ rs → root_in d ≡ Some w → IsUnwrittenRoot n c w
     go d placed [] rows e =
-        let is : unwritten_root d ≡ w = place_same (ap (λ xs. root_of_lines d (printed_lines xs)) (sym rows) ∙ e) in
+        let is : unwritten_root d ≡ w = same_Some _ _ (ap (λ xs. root_of_lines d (printed_lines xs)) (sym rows) ∙ e) in
         record {
           d = d;
           placed = placed;

@@ -1,7 +1,8 @@
 -- Block scalars behind a mark, as the code lends them.
 use Rattle.std.proofs.Common.{◌≡◌, ℕ, suc, ◌+◌, ◌-◌, ◌<◌, ◌≤◌, true, false, not, ◌||◌, eqb, List, [], ◌∷◌, ◌++◌, length, take, drop, get_or, Option, Some, None, refl, sym, ap, ◌∙◌, subst, ⊎_elim, arith, eqb-true, ℤ, length-append, length-take}
-use Rattle.std.proofs.lemmas.Bool.{false≢true, or_cases}
+use Rattle.std.proofs.lemmas.Bool.{false≢true, or_cases, and_parts, cases_Bool}
 use Rattle.std.proofs.Math.Seq.{take-append_seam, drop-append_seam, get_or-append_seam}
+use Rattle.std.proofs.lemmas.Option.{same_Some}
 use Rattle.std.proofs.lemmas.Str.{IsCharBoundary-start, IsCharBoundary-before_ascii}
 use Rattle.std.specs.Str.{IsUtf8, IsCharBoundary}
 use Rattle.yq_scalar.specs.Answers.{◌>>=◌}
@@ -13,13 +14,12 @@ use Rattle.yq_scalar.specs.Text.{cut, upto, unless, front, no_white, past_white,
 use Rattle.yq_scalar.specs.declared.piece.Piece.{Piece}
 use Rattle.yq_scalar.proofs.BlockLaws.{block_takes}
 use Rattle.yq_scalar.proofs.BlockPieceLaws.{line_lf, raw_lf, cut_lf}
-use Rattle.yq_scalar.proofs.Bools.{is_true, and_true, bind_some}
+use Rattle.yq_scalar.proofs.Bools.{bind_some}
 use Rattle.yq_scalar.proofs.Boundaries.{break_ascii, white_ascii}
 use Rattle.yq_scalar.proofs.Upto.{upto_here, upto_ends, upto_le_length}
 use Rattle.yq_rows.specs.View.{anchor_of, apart_of}
 use Rattle.yq_inline.specs.Nodes.{first_is, in_name}
 use Rattle.yq_inline.specs.Reading.{name_at}
-use Rattle.yq_inline.proofs.Binds.{some_same}
 use Rattle.yq_rows.specs.Lending.{Filled, cut_anchor, cut_apart, block_lent}
 use Rattle.yq_rows.specs.Reading.{past_anchor, begins_block, anchor_at, block_content_at}
 use Rattle.yq_rows.specs.Rows.{Anchor}
@@ -27,7 +27,7 @@ use Rattle.yq_rows.specs.Rows.{Anchor}
 -- where a block scalar begins
 past_is : (t : List ℕ) → past_anchor t ≡ (cut_apart t).2
 past_is [] = refl
-past_is (b ∷ t) = ⊎_elim {0, 0, 0} (λ (e : eqb b 38 ≡ true). rw e refl) (λ e. rw e refl) (is_true (eqb b 38))
+past_is (b ∷ t) = ⊎_elim {0, 0, 0} (λ (e : eqb b 38 ≡ true). rw e refl) (λ e. rw e refl) (cases_Bool (eqb b 38))
 
 pub block_begins : (t : List ℕ) → begins_block t ≡ front (λ b. eqb b 124 || eqb b 62) (cut_apart t).2
 block_begins t = ap (front (λ b. eqb b 124 || eqb b 62)) (past_is t)
@@ -35,15 +35,15 @@ block_begins t = ap (front (λ b. eqb b 124 || eqb b 62)) (past_is t)
 -- the first byte of a tail
 tail_low : (b : ℕ) (l : List ℕ) → is_tail (b ∷ l) ≡ true → b < 128
 tail_low b l h =
-    let parts = and_true (is_line (b ∷ l)) _ h in
+    let parts = and_parts (is_line (b ∷ l)) _ h in
     ⊎_elim {0, 0, 0} (λ (e : is_white b ≡ true). white_ascii b e)
     (λ e. ⊎_elim {0, 0, 0}
     (λ (f : is_blank (b ∷ l) ≡ true).
     let here : past_white (b ∷ l) ≡ b ∷ l = ap (λ k. drop k (b ∷ l)) (upto_here no_white (b ∷ l) (ap not e)) in
     break_ascii b l (subst (λ (t : List ℕ). ends_line t ≡ true) here f))
-    (λ f. absurd (false≢true (sym e ∙ (and_true (is_white b) _ f).0)))
+    (λ f. absurd (false≢true (sym e ∙ (and_parts (is_white b) _ f).0)))
     (or_cases (is_blank (b ∷ l)) _ parts.1))
-    (is_true (is_white b))
+    (cases_Bool (is_white b))
 
 seam_low : (a r : List ℕ) (b : ℕ) → b < 128 → IsCharBoundary (a ++ (b ∷ r)) (length a)
 seam_low a r b low =
@@ -70,7 +70,7 @@ pub block_read : (n : ℤ) (t : List ℕ) (p : Piece) → block_from n 0 t ≡ S
 unfolding block_from
 block_read n t p h =
     let x = bind_some (block_at (deeper n) t) h in
-    let is : block_piece 0 x.0.0 ≡ p = some_same x.2 in
+    let is : block_piece 0 x.0.0 ≡ p = same_Some _ _ x.2 in
     let laws = block_takes (deeper n) t x.0 x.1 in
     record {
       block = x.0.0;
@@ -110,7 +110,7 @@ head_boundary n t p h =
 pub tail_boundary : (n : ℤ) (t u : List ℕ) (p : Piece) → Read n t p → u ≡ drop p.head_end t → IsUtf8 u → IsCharBoundary u (p.raw_start - p.head_end)
 tail_boundary n t u p h e utf8 =
     let c = cuts n t p h in
-    cut_lf u h.block.tail (joined h.block.raw ++ h.rest) (p.raw_start - p.head_end) (e ∙ c.behind_head) (line_lf h.block.tail (and_true (is_line h.block.tail) _ h.law.tail).0) c.tail_len utf8
+    cut_lf u h.block.tail (joined h.block.raw ++ h.rest) (p.raw_start - p.head_end) (e ∙ c.behind_head) (line_lf h.block.tail (and_parts (is_line h.block.tail) _ h.law.tail).0) c.tail_len utf8
 
 raw_is : (n : ℤ) (t u v : List ℕ) (p : Piece) (h : Read n t p) → u ≡ drop p.head_end t → v ≡ drop (p.raw_start - p.head_end) u → v ≡ joined h.block.raw ++ h.rest
 raw_is n t u v p h e f =
@@ -132,7 +132,7 @@ unfolding name_at
 name_there v some = ⊎_elim {0, 0, 0}
     (λ (e : unless in_name v ≡ true). absurd (some (ap (λ k. length (38 ∷ take k v)) (upto_here (unless in_name) v e))))
     (λ e. rw e refl)
-    (is_true (unless in_name v))
+    (cases_Bool (unless in_name v))
 
 name_missing : (v : List ℕ) → length (38 ∷ take (upto (unless in_name) v) v) ≡ 1 → name_at v ≡ None
 unfolding name_at
@@ -185,7 +185,7 @@ anchor_read [] a g u e some = unnamed [] a g u refl e
 anchor_read (b ∷ v) a g u e some = ⊎_elim {0, 0, 0}
     (λ (amp : eqb b 38 ≡ true). subst (λ (x : ℕ). (a, g, u) ≡ cut_apart (x ∷ v) → AnchorRead (x ∷ v) a g u) (sym (eqb-true b 38 amp)) (λ f. named v a g u f some) e)
     (λ amp. unnamed (b ∷ v) a g u amp e)
-    (is_true (eqb b 38))
+    (cases_Bool (eqb b 38))
 
 missing : (n : ℤ) (space v : List ℕ) → length (38 ∷ take (upto (unless in_name) v) v) ≡ 1 → block_lent n space (38 ∷ v) ≡ None
 unfolding block_content_at anchor_at
@@ -199,7 +199,7 @@ anchor_missing n space [] a g u e one = absurd (omega (arith, no_anchor_len [] a
 anchor_missing n space (b ∷ v) a g u e one = ⊎_elim {0, 0, 0}
     (λ (amp : eqb b 38 ≡ true). subst (λ (x : ℕ). (a, g, u) ≡ cut_apart (x ∷ v) → block_lent n space (x ∷ v) ≡ None) (sym (eqb-true b 38 amp)) (λ f. missing n space v (ap (λ (y : List ℕ × List ℕ × List ℕ). length y.0) (sym f) ∙ one)) e)
     (λ amp. absurd (omega (arith, no_anchor_len (b ∷ v) a g u amp e)))
-    (is_true (eqb b 38))
+    (cases_Bool (eqb b 38))
 
 -- the code's cut
 pub apart_none : (t : List ℕ) → first_is 38 t ≡ false → ([], [], t) ≡ cut_apart t

@@ -1,6 +1,7 @@
 -- What stands behind a mark, read and spelled.
 use Rattle.std.proofs.Common.{◌≡◌, ℕ, ℤ, true, false, cond, not, eqb, List, [], ◌∷◌, ◌++◌, drop, Option, Some, None, refl, sym, ap, ◌∙◌, subst, ⊎_elim, eqb-true}
 use Rattle.std.proofs.lemmas.Bool.{false≢true, or_cases}
+use Rattle.std.proofs.lemmas.Option.{same_Some}
 use Rattle.yq_scalar.specs.Answers.{◌>>=◌}
 use Rattle.yq_scalar.specs.declared.style.Place.TheVariants as places
 use Rattle.yq_scalar.specs.Block.{IsBlock, BlockText, block_text}
@@ -13,7 +14,6 @@ use Rattle.yq_scalar.proofs.Upto.{cut_takes}
 use Rattle.yq_inline.specs.Inline.{depth_limit, IsInline}
 use Rattle.yq_inline.specs.Nodes.{Node, node_text, first_is, in_name, begins_node, IsName, is_bare}
 use Rattle.yq_inline.specs.Reading.{name_at, all_node}
-use Rattle.yq_inline.proofs.Binds.{some_same}
 use Rattle.yq_inline.proofs.NodeLaws.{all_takes, all_again}
 use Rattle.yq_inline.proofs.PieceLaws.{front_is, name_takes, name_again}
 use Rattle.yq_rows.specs.Gap.{IsWhite}
@@ -45,12 +45,12 @@ anchor_takes t x h mark = ⊎_elim {0, 0, 0}
     let n = name_takes (drop 1 t) name.0 name.1 in
     let c = cut no_white name.0.1 in
     let gap : name.0.1 ≡ c.0 ++ c.1 = cut_takes no_white name.0.1 in
-    let is : (Some (record { name = name.0.0; gap = c.0 }), c.1) ≡ x = some_same name.2 in
+    let is : (Some (record { name = name.0.0; gap = c.0 }), c.1) ≡ x = same_Some _ _ name.2 in
     let here : front is_block_mark c.1 ≡ true = subst (λ (y : Option Anchor × List ℕ). front is_block_mark y.1 ≡ true) (sym is) mark in
     let named : IsName name.0.0 (c.0 ++ c.1) = subst (λ (s : List ℕ). IsName name.0.0 s) gap n.1 in
     subst (AnchorCut t) is
     (front_is 38 t e.0 ∙ ap (λ l. 38 ∷ l) (n.0 ∙ ap (λ l. name.0.0 ++ l) gap), (named, white_cut name.0.1, apart_some c.0 c.1 named.ends here)))
-    (λ e. subst (AnchorCut t) (some_same e.1) (refl, tt))
+    (λ e. subst (AnchorCut t) (same_Some _ _ e.1) (refl, tt))
     (chosen (first_is 38 t) h)
 
 -- each kind of content is taken
@@ -65,7 +65,7 @@ block_takes_here n space t x blank h =
     let b = block_takes (deeper n) anchor.0.1 block.0 block.1 in
     let mark : front is_block_mark anchor.0.1 ≡ true = rw b.0 (block_front block.0.0 block.0.1).mark in
     let a = anchor_takes t anchor.0 anchor.1 mark in
-    subst (ContentCut n (space ++ t)) (some_same block.2)
+    subst (ContentCut n (space ++ t)) (same_Some _ _ block.2)
     (ap (λ l. space ++ l) (a.0 ∙ ap (anchor_text anchor.0.0) b.0), (blank, subst (λ (s : List ℕ). IsAnchor anchor.0.0 s) b.0 a.1, b.1))
 
 inline_takes_here : (n : ℤ) (space t : List ℕ) (x : Content × List ℕ) → IsWhite space → begins_node false t ≡ true → inline_content_at n space t ≡ Some x → ContentCut n (space ++ t) x
@@ -77,7 +77,7 @@ inline_takes_here n space t x blank begins h =
     let b = tail_takes node.0.1 tail.0 tail.1 in
     let some : not (is_bare node.0.0) ≡ true = bare_node (Some (deeper n)) depth_limit node.0.0 node.0.1 a.1 (subst (λ (s : List ℕ). begins_node false s ≡ true) a.0 begins) in
     let inline : IsInline places.Block n 0 node.0.0 node.0.1 = record { valid = a.1; something = some } in
-    subst (ContentCut n (space ++ t)) (some_same tail.2)
+    subst (ContentCut n (space ++ t)) (same_Some _ _ tail.2)
     (ap (λ l. space ++ l) (a.0 ∙ ap (node_text node.0.0) b.0), (blank, subst (λ (s : List ℕ). IsInline places.Block n 0 node.0.0 s) b.0 inline, b.1))
 
 pub content_takes : (n : ℤ) (t : List ℕ) (x : Content × List ℕ) → content_at n t ≡ Some x → ContentCut n t x
@@ -92,7 +92,7 @@ content_takes n t x h =
     (λ f.
     let tail = bind_some (tail_at t) f.1 in
     let b = tail_takes t tail.0 tail.1 in
-    subst (ContentCut n (c.0 ++ c.1)) (some_same tail.2) (join ∙ b.0, b.1))
+    subst (ContentCut n (c.0 ++ c.1)) (same_Some _ _ tail.2) (join ∙ b.0, b.1))
     (chosen (begins_node false c.1) e.1))
     (chosen (begins_block c.1) h))
 

@@ -1,8 +1,7 @@
 -- What is in front of a node, of a tail and of a marker.
 use Rattle.std.proofs.Common.{◌≡◌, ℕ, true, false, ◌&&◌, ◌||◌, eqb, List, [], ◌∷◌, ◌++◌, refl, sym, ap, ◌∙◌, subst, ⊎_elim, eqb-true}
-use Rattle.std.proofs.lemmas.Bool.{false≢true, or_cases, false_from_ne_true}
+use Rattle.std.proofs.lemmas.Bool.{false≢true, or_cases, false_from_ne_true, and_parts, cases_Bool}
 use Rattle.yq_scalar.specs.Text.{cut, is_feed, is_return, front, is_break, ends_line, no_white, no_space, separates, is_empty}
-use Rattle.yq_scalar.proofs.Bools.{is_true, and_true}
 use Rattle.yq_scalar.specs.Lines.{is_hash}
 use Rattle.yq_inline.specs.Nodes.{first_is, begins_node}
 use Rattle.yq_inline.specs.Scalars.{begins_scalar}
@@ -36,13 +35,13 @@ return_no_break : (bs : List ℕ) → begins_node false (13 ∷ bs) ≡ true →
 return_no_break bs h = ⊎_elim {0, 0, 0}
     (λ (e : front is_feed bs ≡ true). absurd (let no : begins_node false (13 ∷ bs) ≡ false = rw e refl in false≢true (sym no ∙ h)))
     (λ e. e)
-    (is_true (front is_feed bs))
+    (cases_Bool (front is_feed bs))
 
 node_no_break : (b : ℕ) (bs : List ℕ) → begins_node false (b ∷ bs) ≡ true → is_break (b ∷ bs) ≡ false
 node_no_break b bs h = false_from_ne_true (is_break (b ∷ bs)) (λ e. ⊎_elim {0, 0, 0}
     (λ (f : is_feed b ≡ true). false≢true (sym (front_not (begins_node false) 10 (λ cs. refl) (b ∷ bs) h) ∙ f))
     (λ f.
-    let parts = and_true (is_return b) (front is_feed bs) f in
+    let parts = and_parts (is_return b) (front is_feed bs) f in
     let is : b ≡ 13 = eqb-true b 13 parts.0 in
     false≢true (sym (return_no_break bs (subst (λ (x : ℕ). begins_node false (x ∷ bs) ≡ true) is h)) ∙ parts.1))
     (or_cases (is_feed b) (is_return b && front is_feed bs) e))
@@ -71,7 +70,7 @@ stops_by [] h = record { no_node = refl; no_block = refl; no_anchor = refl; no_c
 stops_by (b ∷ bs) h = ⊎_elim {0, 0, 0}
     (λ e. ⊎_elim {0, 0, 0}
     (λ f. rw (eqb-true b 10 f) (record { no_node = refl; no_block = refl; no_anchor = refl; no_colon = refl; no_dash = refl; no_scalar = refl; no_space = refl }))
-    (λ f. let parts = and_true (is_return b) (front is_feed bs) f in rw (eqb-true b 13 parts.0) (return_stops bs parts.1))
+    (λ f. let parts = and_parts (is_return b) (front is_feed bs) f in rw (eqb-true b 13 parts.0) (return_stops bs parts.1))
     (or_cases (is_feed b) (is_return b && front is_feed bs) e))
     (λ e. rw (eqb-true b 35 e) (record { no_node = refl; no_block = refl; no_anchor = refl; no_colon = refl; no_dash = refl; no_scalar = refl; no_space = refl }))
     (or_cases (ends_line (b ∷ bs)) (is_hash (b ∷ bs)) h)

@@ -1,10 +1,9 @@
 -- Gaps, read and spelled.
 use Rattle.std.proofs.Common.{◌≡◌, ℕ, zero, suc, ◌+◌, ◌<◌, ◌≤◌, true, false, cond, not, ◌||◌, List, [], ◌∷◌, ◌++◌, length, take, drop, refl, sym, ap, ◌∙◌, subst, arith, append_assoc, length-append, length-drop, length-take}
-use Rattle.std.proofs.lemmas.Bool.{false≢true, cond_both, not-true}
+use Rattle.std.proofs.lemmas.Bool.{false≢true, cond_both, not-true, and_parts}
 use Rattle.std.proofs.lemmas.List.{take-append-drop, drop-drop}
 use Rattle.std.proofs.Math.Seq.{take-append_seam, drop-append_seam, take-add}
 use Rattle.yq_scalar.specs.Text.{upto, cut, no_white, is_feed, ends_line, is_empty, past_white, line_len, cut_line, joined}
-use Rattle.yq_scalar.proofs.Bools.{and_true}
 use Rattle.std.proofs.lemmas.Str.{IsCharBoundary-start, IsCharBoundary-from_rest, IsUtf8-drop}
 use Rattle.std.specs.Str.{IsUtf8, IsCharBoundary}
 use Rattle.yq_scalar.proofs.Boundaries.{boundary_line}
@@ -22,7 +21,7 @@ some_line (b ∷ bs) h = cond_both (is_feed b) 1 (suc (line_len bs)) (λ n. is_e
 -- a line of a gap
 gap_line_takes : (t : List ℕ) → begins_gap t ≡ true → IsGapLine (cut_line t).0 (cut_line t).1
 gap_line_takes t h =
-    let parts = and_true (not (is_empty t)) (ends_line (past_white t) || is_hash (past_white t)) h in
+    let parts = and_parts (not (is_empty t)) (ends_line (past_white t) || is_hash (past_white t)) h in
     let c = cut no_white t in
     let join : c.0 ++ c.1 ≡ t = take-append-drop (upto no_white t) t in
     let e = line_end_takes c.0 c.1 (white_cut t) parts.1 in

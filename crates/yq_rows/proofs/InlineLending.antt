@@ -2,6 +2,7 @@
 use Rattle.std.proofs.Common.{◌≡◌, inl, inr, ℕ, ◌+◌, ◌-◌, ◌<◌, ◌≤◌, Bool, true, false, cond, not, ◌&&◌, ◌||◌, eqb, List, [], ◌∷◌, ◌++◌, length, take, drop, Option, Some, None, refl, sym, ap, ◌∙◌, subst, arith, ℤ}
 use Rattle.std.proofs.lemmas.Bool.{false≢true, cond_both}
 use Rattle.std.proofs.Math.Seq.{take-append_seam, drop-append_seam}
+use Rattle.std.proofs.lemmas.Option.{same_Some}
 use Rattle.std.proofs.lemmas.Str.{IsCharBoundary-from_rest}
 use Rattle.std.specs.List.{prefix_len}
 use Rattle.std.specs.Str.{IsUtf8, IsCharBoundary}
@@ -17,7 +18,6 @@ use Rattle.yq_inline.specs.PlacedReading.{placed_node}
 use Rattle.yq_inline.specs.Reading.{all_node}
 use Rattle.yq_inline.specs.Scalars.{is_quoted, begins_scalar, style_of}
 use Rattle.yq_scalar.specs.declared.style.Style.TheVariants as styles
-use Rattle.yq_inline.proofs.Binds.{some_same}
 use Rattle.yq_inline.proofs.Bounds.{boundary_name}
 use Rattle.yq_inline.proofs.NodeLaws.{all_takes}
 use Rattle.yq_inline.proofs.PieceLaws.{front_not, scalar_begins}
@@ -186,7 +186,7 @@ pub record Read (spaces : Option ℕ) (t rest : List ℕ) (s : Placed) : Type 0 
 pub node_read : (spaces : Option ℕ) (total : ℕ) (t rest : List ℕ) (s : Placed) → placed_node false spaces total depth_limit t ≡ Some (s, rest) → Read spaces t rest s
 node_read spaces total t rest s h =
     let x = bind_some (all_node false spaces depth_limit t) h in
-    let pair : (locate total x.0.0 x.0.1, x.0.1) ≡ (s, rest) = some_same x.2 in
+    let pair : (locate total x.0.0 x.0.1, x.0.1) ≡ (s, rest) = same_Some _ _ x.2 in
     let behind : x.0.1 ≡ rest = ap (λ (y : Placed × List ℕ). y.1) pair in
     let here : locate total x.0.0 x.0.1 ≡ s = ap (λ (y : Placed × List ℕ). y.0) pair in
     let law = all_takes false spaces depth_limit t x.0 x.1 in

@@ -1,10 +1,9 @@
 -- Dashes and the mark behind them are read again.
 use Rattle.std.proofs.Common.{◌≡◌, ℕ, zero, suc, ◌≤◌, ◌<◌, inl, inr, true, false, cond, not, ◌&&◌, eqb, List, [], ◌∷◌, ◌++◌, length, None, refl, ap, ◌∙◌, subst, arith, eqb-true, replicate, length-append}
-use Rattle.std.proofs.lemmas.Bool.{false≢true, not-true, or_right}
+use Rattle.std.proofs.lemmas.Bool.{false≢true, not-true, or_right, and_parts, cases_Bool}
 use Rattle.std.proofs.lemmas.List.{length-replicate}
 use Rattle.yq_scalar.specs.Plain.{is_safe}
 use Rattle.yq_scalar.specs.Text.{cut, no_space, is_empty, separates}
-use Rattle.yq_scalar.proofs.Bools.{is_true, and_true}
 use Rattle.yq_inline.specs.Nodes.{begins_node, first_is, begins_content}
 use Rattle.yq_inline.specs.Scalars.{begins_scalar}
 use Rattle.yq_inline.proofs.PieceLaws.{scalar_begins}
@@ -18,10 +17,10 @@ use Rattle.yq_rows.proofs.PieceLaws.{key_again}
 -- a scalar is no dash
 pub scalar_no_dash : (t : List ℕ) → begins_scalar false t ≡ true → is_dash t ≡ false
 scalar_no_dash [] h = refl
-scalar_no_dash (b ∷ bs) h = elim (is_true (eqb b 45)) [
+scalar_no_dash (b ∷ bs) h = elim (cases_Bool (eqb b 45)) [
   | inl e ↦ (
       let safe : is_safe false bs ≡ true = subst (λ (x : ℕ). begins_scalar false (x ∷ bs) ≡ true) (eqb-true b 45 e) h in
-      rw e (not-true (separates bs) (and_true (not (separates bs)) true safe).0))
+      rw e (not-true (separates bs) (and_parts (not (separates bs)) true safe).0))
   | inr e ↦ rw e refl
 ]
 

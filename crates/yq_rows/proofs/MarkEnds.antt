@@ -1,9 +1,8 @@
 -- The text before the content of a row ends as what stands in front of it in its row.
 use Rattle.std.proofs.Common.{◌≡◌, inl, inr, ℕ, zero, suc, ◌-◌, List, [], ◌∷◌, ◌++◌, length, Some, sym, subst}
 use Rattle.std.proofs.Math.Dec.{ltb}
-use Rattle.std.proofs.lemmas.Bool.{ltb-true, ltb-false}
+use Rattle.std.proofs.lemmas.Bool.{ltb-true, ltb-false, cases_Bool}
 use Rattle.std.specs.List.{slice_get}
-use Rattle.yq_scalar.proofs.Bools.{is_true}
 use Rattle.yq_rows.specs.Exchange.{row_front, before_at, before_content}
 use Rattle.yq_rows.specs.Rows.{Row, part_text, Cut, last, marked}
 use Rattle.yq_rows.specs.View.{rows_of}
@@ -21,7 +20,7 @@ module _ (P : List ℕ → Type 0) (after : (xs p : List ℕ) → P p → P (xs 
 
   pub content_ends : (c : Cut) (i : ℕ) (r : Row) → slice_get (rows_of c) i ≡ Some r → P (row_front r) → P (before_content i c)
   content_ends (last p) i r is e = at_ends p.rows i r is e
-  content_ends (marked p marker c) i r is e = elim (is_true (ltb i (length p.rows))) [
+  content_ends (marked p marker c) i r is e = elim (cases_Bool (ltb i (length p.rows))) [
     | inl f ↦ rw f (at_ends p.rows i r (slice_front p.rows (rows_of c) i r (ltb-true i (length p.rows) f) is) e)
     | inr f ↦ rw f (subst P (sym (part_then p marker (before_content (i - length p.rows) c))) (after (part_text p marker) _ (content_ends c (i - length p.rows) r (slice_back p.rows (rows_of c) i r (ltb-false i (length p.rows) f) is) e)))
   ]

@@ -1,8 +1,7 @@
 -- Dashes and the mark behind them, read and spelled.
 use Rattle.std.proofs.Common.{◌≡◌, ℕ, zero, suc, ◌≤◌, true, false, cond, not, ◌&&◌, eqb, List, [], ◌∷◌, ◌++◌, length, take, drop, Option, Some, None, refl, ap, ◌∙◌, arith, eqb-true, replicate, length-drop}
-use Rattle.std.proofs.lemmas.Bool.{false≢true, cond_both, not-false}
+use Rattle.std.proofs.lemmas.Bool.{false≢true, cond_both, not-false, and_parts}
 use Rattle.yq_scalar.specs.Text.{upto, cut, NoneIn, no_space, is_empty, separates}
-use Rattle.yq_scalar.proofs.Bools.{and_true}
 use Rattle.yq_scalar.proofs.Upto.{cut-append, cut_takes}
 use Rattle.yq_rows.specs.Grammar.{IsKey, is_entry, AreDashes}
 use Rattle.yq_rows.specs.Reading.{key_at, is_dash, is_some, begins_entry, key_mark, mark_at, Marks, with_dash, undashed, dashes_at, marks_at}
@@ -81,7 +80,7 @@ entry_mark t (Some k) h = refl
 
 pub dash_is : (t : List ℕ) → is_dash t ≡ true → (t ≡ 45 ∷ drop 1 t) × (separates (drop 1 t) ≡ true)
 dash_is [] h = absurd (false≢true h)
-dash_is (b ∷ bs) h = let parts = and_true (eqb b 45) (separates bs) h in (ap (λ x. x ∷ bs) (eqb-true b 45 parts.0), parts.1)
+dash_is (b ∷ bs) h = let parts = and_parts (eqb b 45) (separates bs) h in (ap (λ x. x ∷ bs) (eqb-true b 45 parts.0), parts.1)
 
 -- where an entry begins, an entry is read
 entry_read : (n : ℕ) (t : List ℕ) → length t ≤ n → begins_entry t ≡ true → is_entry (dashes_at n t).1 ≡ true
@@ -95,7 +94,7 @@ entry_read (suc n) (b ∷ t) short h =
     let less = behind_spaces t in
     cond_both (is_dash u) (cond (not (is_empty s.0) && begins_entry s.1) (with_dash (length s.0) (dashes_at n s.1)) ([], Dash, t)) (undashed (mark_at u)) (λ m. is_entry m.1 ≡ true)
     (λ _. cond_both (not (is_empty s.0) && begins_entry s.1) (with_dash (length s.0) (dashes_at n s.1)) ([], Dash, t) (λ m. is_entry m.1 ≡ true)
-    (λ e. entry_read n s.1 (omega arith) (and_true (not (is_empty s.0)) (begins_entry s.1) e).1)
+    (λ e. entry_read n s.1 (omega arith) (and_parts (not (is_empty s.0)) (begins_entry s.1) e).1)
     (λ _. refl))
     (λ e. entry_mark u (key_at u) (rw e at h))
 
@@ -120,7 +119,7 @@ dashes_take (suc n) (b ∷ t) short =
     let less = behind_spaces t in
     cond_both (is_dash u) (cond (not (is_empty s.0) && begins_entry s.1) (with_dash (length s.0) (dashes_at n s.1)) ([], Dash, t)) (undashed (mark_at u)) (MarksCut u)
     (λ d. cond_both (not (is_empty s.0) && begins_entry s.1) (with_dash (length s.0) (dashes_at n s.1)) ([], Dash, t) (MarksCut u)
-    (λ e. let parts = and_true (not (is_empty s.0)) (begins_entry s.1) e in
+    (λ e. let parts = and_parts (not (is_empty s.0)) (begins_entry s.1) e in
     one_dash u (dashes_at n s.1) d parts.0 (entry_read n s.1 (omega arith) parts.1) (dashes_take n s.1 (omega arith)))
     (λ _. let is = dash_is u d in (is.0, tt, is.1)))
     (λ _. mark_takes_at u (key_at u) refl)

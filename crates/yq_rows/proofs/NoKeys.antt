@@ -1,13 +1,13 @@
 -- Before a tail, what stands behind a mark is no key and no dash.
 use Rattle.std.proofs.Common.{◌≡◌, ◌⊎◌, inl, inr, ℕ, suc, ◌+◌, Bool, true, false, cond, not, ◌&&◌, ◌||◌, eqb, leb, List, [], ◌∷◌, ◌++◌, length, drop, Option, Some, None, refl, sym, ap, ◌∙◌, subst}
-use Rattle.std.proofs.lemmas.Bool.{false≢true, cond_both, not-true, not-false}
+use Rattle.std.proofs.lemmas.Bool.{false≢true, cond_both, not-true, not-false, and_parts, cases_Bool, or_parts}
 use Rattle.std.specs.Option.{option_or}
 use Rattle.std.specs.Str.{chars}
 use Rattle.yq_scalar.specs.Answers.{◌>>=◌}
 use Rattle.yq_scalar.specs.Plain.{begins_plain, ends_plain, ends_text, follows, may_follow, last_line, no_gap, plain_at}
 use Rattle.yq_scalar.specs.QuotedReading.{is_quote}
 use Rattle.yq_scalar.specs.Text.{upto, cut, NoneIn, is_white, is_break, is_space, is_empty, front, past_white}
-use Rattle.yq_scalar.proofs.Bools.{is_true, and_true, or_false, at_byte}
+use Rattle.yq_scalar.proofs.Bools.{at_byte}
 use Rattle.yq_scalar.proofs.QuotedFound.{quoted_again}
 use Rattle.yq_scalar.proofs.Upto.{upto_here}
 use Rattle.yq_inline.specs.Nodes.{Node, empty, alias, scalar, coll, anchored, node_text, is_bare, IsNode}
@@ -22,7 +22,7 @@ use Rattle.yq_rows.proofs.MarkAgain.{scalar_no_dash}
 -- no scalar, no key
 no_scalar : (spaces : Option ℕ) (t : List ℕ) → begins_scalar false t ≡ false → scalar_at false spaces t ≡ None
 unfolding scalar_at plain_at
-no_scalar spaces t h = let parts = or_false (is_quoted t) (begins_plain false t) h in rw (parts.0, parts.1) refl
+no_scalar spaces t h = let parts = or_parts (is_quoted t) (begins_plain false t) h in rw (parts.0, parts.1) refl
 
 pub no_key : (t : List ℕ) → begins_scalar false t ≡ false → key_at t ≡ None
 unfolding key_at
@@ -47,11 +47,11 @@ break_no_colon b bs h = rw (at_byte (λ x. is_break (x ∷ bs)) b 58 h refl) ref
 line_no_colon : (t l : List ℕ) → last_line (cut no_gap t).0 ≡ Some l → is_colon (past_white t) ≡ false
 unfolding upto
 line_no_colon [] l h = cc
-line_no_colon (b ∷ bs) l h = elim (is_true (is_white b)) [
+line_no_colon (b ∷ bs) l h = elim (cases_Bool (is_white b)) [
   | inl w ↦ (
       let less : option_or (last_line (cut no_gap bs).0) None ≡ Some l = rw (w, at_byte is_white b 10 w refl) at h in
       rw w (line_no_colon bs l (or_none (last_line (cut no_gap bs).0) less)))
-  | inr w ↦ elim (is_true (is_break (b ∷ bs))) [
+  | inr w ↦ elim (cases_Bool (is_break (b ∷ bs))) [
     | inl e ↦ rw w (break_no_colon b bs e)
     | inr e ↦ absurd (let none : last_line [] ≡ Some l = rw (w, e) at h in cc)
   ]
@@ -66,16 +66,16 @@ may_none d None text h = refl
 may_none d (Some l) text h = absurd (false≢true h)
 
 follows_none : (d : ℕ) (gap text : List ℕ) → follows false (Some d) gap text ≡ false → follows false None gap text ≡ false
-follows_none d gap text h = elim (is_true (follows false None gap text)) [
+follows_none d gap text h = elim (cases_Bool (follows false None gap text)) [
   | inl e ↦ absurd (
-      let parts = and_true (goes_on text) (may_follow None (last_line gap) text) e in
+      let parts = and_parts (goes_on text) (may_follow None (last_line gap) text) e in
       let on : follows false (Some d) gap text ≡ true = rw parts.0 (may_none d (last_line gap) text parts.1) in
       false≢true (sym h ∙ on))
   | inr e ↦ e
 ]
 
 one_ends : (d : ℕ) (t : List ℕ) → ends_plain false (Some d) t ≡ true → ends_plain false None t ≡ true
-one_ends d t h = elim (is_true (is_space t)) [
+one_ends d t h = elim (cases_Bool (is_space t)) [
   | inl e ↦ (let no : follows false (Some d) (cut no_gap t).0 (cut no_gap t).1 ≡ false = not-true _ (rw e at h) in rw e (rw (follows_none d (cut no_gap t).0 (cut no_gap t).1 no) refl))
   | inr e ↦ (let same : (is_empty t || ends_text false t) ≡ true = rw e at h in rw e same)
 ]
@@ -86,11 +86,11 @@ line_between d (Some l) text h = (l, refl)
 
 broken : (d : ℕ) (t : List ℕ) → ends_plain false None t ≡ true → ends_plain false (Some d) t ≡ false → colon_at t ≡ None
 unfolding colon_at
-broken d t one more = elim (is_true (is_space t)) [
+broken d t one more = elim (cases_Bool (is_space t)) [
   | inl e ↦ (
       let no : follows false None (cut no_gap t).0 (cut no_gap t).1 ≡ false = not-true _ (rw e at one) in
       let on : follows false (Some d) (cut no_gap t).0 (cut no_gap t).1 ≡ true = not-false _ (rw e at more) in
-      let text : goes_on (cut no_gap t).1 ≡ true = (and_true (goes_on (cut no_gap t).1) (may_follow (Some d) (last_line (cut no_gap t).0) (cut no_gap t).1) on).0 in
+      let text : goes_on (cut no_gap t).1 ≡ true = (and_parts (goes_on (cut no_gap t).1) (may_follow (Some d) (last_line (cut no_gap t).0) (cut no_gap t).1) on).0 in
       let line = line_between d (last_line (cut no_gap t).0) (cut no_gap t).1 (rw text at no) in
       rw (line_no_colon t line.0 line.1) refl)
   | inr e ↦ absurd (

@@ -1,13 +1,12 @@
 -- An inline node behind a dash or a key, exchanged for another one.
 use Rattle.std.proofs.Common.{◌≡◌, ℕ, ℤ, true, false, List, [], ◌∷◌, ◌++◌, Some, refl, sym, ap, ◌∙◌, subst, append_assoc}
-use Rattle.std.proofs.lemmas.Bool.{false≢true}
+use Rattle.std.proofs.lemmas.Bool.{false≢true, or_parts}
 use Rattle.std.specs.List.{slice_get}
 use Rattle.std.specs.Str.{IsUtf8}
 use Rattle.yq_scalar.specs.declared.style.Place.TheVariants as places
 use Rattle.yq_scalar.specs.Characters.{is_text}
 use Rattle.yq_scalar.specs.Piece.{deeper}
 use Rattle.yq_scalar.specs.Text.{front, is_feed, separates}
-use Rattle.yq_scalar.proofs.Bools.{or_false}
 use Rattle.yq_inline.specs.Inline.{depth_limit, IsInline}
 use Rattle.yq_inline.specs.Nodes.{Node, node_text}
 use Rattle.yq_inline.proofs.WrittenLaws.{node_then}
@@ -75,7 +74,7 @@ new_node_place c i r space new tail is =
 -- the characters of the new text
 starts_no_feed : (t : List ℕ) → Starts t → front is_feed t ≡ false
 starts_no_feed [] h = refl
-starts_no_feed (b ∷ bs) h = (or_false (is_feed b) _ h.no_end).0
+starts_no_feed (b ∷ bs) h = (or_parts (is_feed b) _ h.no_end).0
 
 pub node_text_law : (t : List ℕ) (c : Cut) (i : ℕ) (r : Row) (space : List ℕ) (node new : Node) (tail : List ℕ) → IsCut t c → slice_get (rows_of c) i ≡ Some r → r.content ≡ Inline space node tail → is_entry r.mark ≡ true →
     IsUtf8 (before_content i c ++ space) → IsUtf8 (node_text node []) → IsUtf8 (node_text new []) → is_text (node_text new []) ≡ true → is_text (cut_text (exchange i (Inline space new tail) c)) ≡ true

@@ -1,13 +1,12 @@
 -- Whole characters stand before, in and behind a node.
 use Rattle.std.proofs.Common.{◌≡◌, ◌⊎◌, inl, inr, ℕ, zero, suc, ◌+◌, ◌-◌, ◌<◌, ◌≤◌, replicate, true, false, ◌&&◌, ◌||◌, List, [], ◌∷◌, ◌++◌, length, take, drop, get_or, Some, refl, sym, ap, ◌∙◌, subst, arith, ⊎_elim, eqb-true, append_assoc, append-nil, length-append}
 use Rattle.std.proofs.Math.Seq.{take-append_seam, drop-append_seam, get_or-append_seam}
-use Rattle.std.proofs.lemmas.Bool.{false≢true, or_cases}
+use Rattle.std.proofs.lemmas.Bool.{false≢true, or_cases, and_parts, cases_Bool}
 use Rattle.std.proofs.lemmas.Str.{IsCharBoundary-after_ascii, IsCharBoundary-before_ascii, IsCharBoundary-end, IsUtf8-take, IsUtf8-between}
 use Rattle.std.specs.List.{slice_get}
 use Rattle.std.specs.Str.{IsUtf8, IsCharBoundary}
 use Rattle.yq_scalar.specs.Text.{front, is_feed, is_return, ends_line, separates}
 use Rattle.yq_scalar.proofs.Boundaries.{white_ascii}
-use Rattle.yq_scalar.proofs.Bools.{is_true, and_true}
 use Rattle.yq_scalar.specs.Lines.{is_hash}
 use Rattle.yq_inline.specs.Nodes.{Node, node_text}
 use Rattle.yq_rows.specs.Exchange.{before_content, behind_row, rows_behind, HasPieces}
@@ -57,7 +56,7 @@ stop_ascii [] h = tt
 stop_ascii (b ∷ bs) h = ⊎_elim {0, 0, 0}
     (λ e. ⊎_elim {0, 0, 0}
     (λ f. omega (arith, eqb-true b 10 f))
-    (λ f. omega (arith, eqb-true b 13 (and_true (is_return b) (front is_feed bs) f).0))
+    (λ f. omega (arith, eqb-true b 13 (and_parts (is_return b) (front is_feed bs) f).0))
     (or_cases (is_feed b) (is_return b && front is_feed bs) e))
     (λ e. omega (arith, eqb-true b 35 e))
     (or_cases (ends_line (b ∷ bs)) (is_hash (b ∷ bs)) h)
@@ -118,7 +117,7 @@ space_behind before (b ∷ space) blank e = ends_behind before (b ∷ space) (wh
 node_ends : (t : List ℕ) (c : Cut) (i : ℕ) (r : Row) (space : List ℕ) (node : Node) (tail : List ℕ) → IsCut t c → slice_get (rows_of c) i ≡ Some r → r.content ≡ Inline space node tail → (is_entry r.mark ≡ true) ⊎ (1 ≤ r.column) → EndsAscii (before_content i c ++ space)
 node_ends t c i r space node tail h is content place =
     let row = row_in c i true r h.parts is in
-    elim (is_true (is_entry r.mark)) [
+    elim (cases_Bool (is_entry r.mark)) [
       | inl entry ↦ (
           let old = holds_node r space node tail (behind_row i c) (rows_behind i c) row content entry in
           let starts = inline_starts (parent_indent r) node (tail ++ behind_row i c) old.inline in

@@ -2,11 +2,11 @@
 use Rattle.std.proofs.lemmas.Bool.{eqb-true, false_from_ne_true}
 use Rattle.std.proofs.Common.{◌≡◌, ℕ, suc, ◌+◌, ◌-◌, ◌<◌, ◌≤◌, Bool, true, false, eqb, List, [], ◌∷◌, ◌++◌, length, map, take, drop, Option, Some, None, refl, sym, ap, ◌∙◌, arith, append_assoc, length-append}
 use Rattle.std.proofs.lemmas.List.{take-append-drop, length-map, map-append}
+use Rattle.std.proofs.lemmas.Option.{same_Some}
 use Rattle.std.specs.Str.{IsUtf8, IsCharBoundary}
 use Rattle.yq_scalar.specs.Answers.{◌>>=◌}
 use Rattle.yq_scalar.specs.Text.{is_empty, is_marker}
 use Rattle.yq_scalar.proofs.Bools.{bind_some}
-use Rattle.yq_inline.proofs.Binds.{some_same}
 use Rattle.yq_rows.specs.Grammar.{begins_document}
 use Rattle.yq_rows.specs.Lending.{PartLent, part_behind, rows_lent, behind_parts, parts_lent}
 use Rattle.yq_rows.specs.Reading.{tail_at, marker_at, part_at, all_parts}
@@ -46,7 +46,7 @@ pub record OnePart (rows : List Slices) (started : Bool) (t : List ℕ) (found :
 pub one_part : (rows : List Slices) (started : Bool) (t : List ℕ) (found : List Slices) (end after : List ℕ) → rows_lent rows (part_at started t) ≡ Some (found, end, after) → OnePart rows started t found end after
 one_part rows started t found end after h =
     let x = bind_some (part_at started t) h in
-    let is : part_behind rows x.0 ≡ (found, end, after) = some_same x.2 in
+    let is : part_behind rows x.0 ≡ (found, end, after) = same_Some _ _ x.2 in
     let behind : x.0.1 ≡ after = ap (λ (y : PartLent). y.2) is in
     let rows_here : found ≡ rows ++ map slices x.0.0.rows = ap (λ (y : PartLent). y.0) (sym is) in
     record {

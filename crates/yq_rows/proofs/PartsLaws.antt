@@ -1,10 +1,11 @@
 -- The parts of a text and the markers between them, read and spelled.
 use Rattle.std.proofs.Common.{◌≡◌, inl, inr, ℕ, zero, suc, ◌<◌, ◌≤◌, Bool, true, false, cond, ◌||◌, List, [], ◌∷◌, ◌++◌, length, Option, Some, None, refl, sym, ap, ◌∙◌, subst, arith}
-use Rattle.std.proofs.lemmas.Bool.{false≢true}
+use Rattle.std.proofs.lemmas.Bool.{false≢true, cases_Bool}
+use Rattle.std.proofs.lemmas.Option.{cond_some, same_Some}
 use Rattle.yq_scalar.specs.Answers.{◌>>=◌}
 use Rattle.yq_scalar.specs.Text.{is_empty, is_marker}
-use Rattle.yq_scalar.proofs.Bools.{is_true, bind_some, guard_some}
-use Rattle.yq_inline.proofs.Binds.{some_same, bind_same}
+use Rattle.yq_scalar.proofs.Bools.{bind_some}
+use Rattle.yq_inline.proofs.Binds.{bind_same}
 use Rattle.yq_rows.specs.Grammar.{Limit, unlimited, limit_after, AreRows, no_rows, IsPart, IsMarkerLine, begins_document, ends_part}
 use Rattle.yq_rows.specs.Reading.{tail_at, all_rows, part_at, marker_at, parts_at, all_parts}
 use Rattle.yq_rows.specs.Rows.{Row, behind_gap, Part, part_text, rows_text, Cut, last, marked}
@@ -22,7 +23,7 @@ pub part_takes : (started : Bool) (t : List ℕ) (x : Part × List ℕ) → part
 unfolding part_at
 part_takes started t x h =
     let part = bind_some (all_rows unlimited t) h in
-    let g = guard_some (started || no_rows part.0.0.rows) part.2 in
+    let g = cond_some (started || no_rows part.0.0.rows) _ _ part.2 in
     let rows = rows_takes (suc (length t)) unlimited t part.0 part.1 in
     subst (PartCut started t) g.1 (record { text = rows.text; part = record { rows = rows.rows; inside = g.0 }; ends = rows.ends })
 
@@ -44,7 +45,7 @@ marker_takes (a ∷ (b ∷ (c ∷ t))) x is h =
     let front : List ℕ → List ℕ = λ l. a ∷ (b ∷ (c ∷ l)) in
     let tail = bind_some (tail_at t) h in
     let law = tail_takes t tail.0 tail.1 in
-    subst (MarkerCut (front t)) (some_same tail.2)
+    subst (MarkerCut (front t)) (same_Some _ _ tail.2)
     (ap front law.0, record { marker = subst (λ (s : List ℕ). is_marker (front s) ≡ true) law.0 is; long = omega arith; tail = law.1 })
 
 pub marker_again : (p rest : List ℕ) → IsMarkerLine p rest → (marker_at (p ++ rest) ≡ Some (p, rest)) × (length rest < length (p ++ rest))
@@ -90,7 +91,7 @@ abbrev parts_by : ℕ → Part × List ℕ → Option Cut
 parts_by n part = cond (is_empty part.1) (Some (last part.0)) (marker_at part.1 >>= λ marker. then_cut part.0 marker.0 (parts_at n (begins_document marker.0) marker.1))
 
 marked_fuel : (n m : ℕ) (part : Part × List ℕ) → ends_part part.1 ≡ true → ((marker : List ℕ × List ℕ) → length marker.1 < length part.1 → parts_at n (begins_document marker.0) marker.1 ≡ parts_at m (begins_document marker.0) marker.1) → parts_by n part ≡ parts_by m part
-marked_fuel n m part ends h = elim (is_true (is_empty part.1)) [
+marked_fuel n m part ends h = elim (cases_Bool (is_empty part.1)) [
   | inl e ↦ rw e refl
   | inr e ↦ rw e (bind_same (λ marker. then_cut part.0 marker.0 (parts_at n (begins_document marker.0) marker.1)) (λ marker. then_cut part.0 marker.0 (parts_at m (begins_document marker.0) marker.1)) (marker_at part.1)
       (λ marker f. ap (then_cut part.0 marker.0) (h marker (marker_shorter part.1 marker (ends_marker part.1 ends e) f))))
@@ -110,7 +111,7 @@ abbrev pub parts_behind : Part × List ℕ → Option Cut
 parts_behind part = cond (is_empty part.1) (Some (last part.0)) (marker_at part.1 >>= λ marker. then_cut part.0 marker.0 (all_parts (begins_document marker.0) marker.1))
 
 marked_all : (n : ℕ) (part : Part × List ℕ) → ends_part part.1 ≡ true → length part.1 ≤ n → parts_by n part ≡ parts_behind part
-marked_all n part ends h = elim (is_true (is_empty part.1)) [
+marked_all n part ends h = elim (cases_Bool (is_empty part.1)) [
   | inl e ↦ rw e refl
   | inr e ↦ rw e (bind_same (λ marker. then_cut part.0 marker.0 (parts_at n (begins_document marker.0) marker.1)) (λ marker. then_cut part.0 marker.0 (all_parts (begins_document marker.0) marker.1)) (marker_at part.1)
       (λ marker f.

@@ -1,11 +1,12 @@
 -- Keys and tails, read and spelled.
 use Rattle.std.proofs.Common.{◌≡◌, ℕ, zero, suc, ◌+◌, Bool, true, false, cond, not, ◌&&◌, ◌||◌, eqb, leb, List, [], ◌∷◌, ◌++◌, length, take, drop, Option, Some, None, refl, sym, ap, ◌∙◌, subst, ⊎_elim, eqb-true, append_assoc}
-use Rattle.std.proofs.lemmas.Bool.{false≢true, or_cases, leb-true, le-leb, or_right}
+use Rattle.std.proofs.lemmas.Bool.{false≢true, or_cases, leb-true, le-leb, or_right, and_from, and_parts}
 use Rattle.std.proofs.lemmas.List.{take-append-drop}
 use Rattle.std.proofs.Math.Seq.{take-append_seam, drop-append_seam}
+use Rattle.std.proofs.lemmas.Option.{cond_some}
 use Rattle.std.specs.Str.{chars}
 use Rattle.yq_scalar.specs.Text.{upto, cut, no_white, ends_line, separates, is_empty, cut_line, line_len}
-use Rattle.yq_scalar.proofs.Bools.{and_true, guard_some, bind_some}
+use Rattle.yq_scalar.proofs.Bools.{bind_some}
 use Rattle.yq_scalar.proofs.Upto.{upto-append}
 use Rattle.yq_scalar.specs.Lines.{is_hash}
 use Rattle.yq_inline.specs.Reading.{scalar_at}
@@ -25,13 +26,13 @@ byte_at (x ∷ t) r (suc n) b h = let again = byte_at t r n b h in (ap (λ l. x 
 
 colon_in_front : (t : List ℕ) → is_colon t ≡ true → (r : List ℕ) × (t ≡ 58 ∷ r) × (separates r ≡ true)
 colon_in_front [] h = absurd (false≢true h)
-colon_in_front (b ∷ bs) h = let parts = and_true (eqb b 58) (separates bs) h in let same : b ≡ 58 = eqb-true b 58 parts.0 in (bs, rw same refl, parts.1)
+colon_in_front (b ∷ bs) h = let parts = and_parts (eqb b 58) (separates bs) h in let same : b ≡ 58 = eqb-true b 58 parts.0 in (bs, rw same refl, parts.1)
 
 colon_takes : (t : List ℕ) (x : List ℕ × List ℕ) → colon_at t ≡ Some x → (t ≡ x.0 ++ x.1) × IsColon x.0 x.1
 unfolding colon_at
 colon_takes t x h =
     let n = upto no_white t in
-    let g = guard_some (is_colon (drop n t)) h in
+    let g = cond_some (is_colon (drop n t)) _ _ h in
     let front = colon_in_front (drop n t) g.0 in
     let parts = byte_at t front.0 n 58 front.1 in
     subst (λ (y : List ℕ × List ℕ). (t ≡ y.0 ++ y.1) × IsColon y.0 y.1) g.1
@@ -57,7 +58,7 @@ unfolding key_at
 key_takes t x h =
     let key = bind_some (scalar_at false None t) h in
     let colon = bind_some (colon_at key.0.1) key.2 in
-    let near = guard_some (leb (length (chars key.0.0) + length (chars colon.0.0)) (key_limit + 1)) colon.2 in
+    let near = cond_some (leb (length (chars key.0.0) + length (chars colon.0.0)) (key_limit + 1)) _ _ colon.2 in
     let key_law = scalar_takes false None t key.0 key.1 in
     let colon_law = colon_takes key.0.1 colon.0 colon.1 in
     subst (λ (y : List ℕ × List ℕ × List ℕ). (t ≡ y.0 ++ (y.1 ++ y.2)) × IsKey y.0 y.1 y.2) near.1
@@ -77,23 +78,19 @@ tail_from c l = cond (ends_tail c) (Some l) None
 
 tail_cases : (w u : List ℕ) → ends_tail (w, u) ≡ true → ((ends_line u || is_hash u) ≡ true) × ((ends_line u || not (is_empty w)) ≡ true)
 tail_cases w u h = ⊎_elim {0, 0, 0} (λ e. (rw e refl, rw e refl))
-    (λ e. let parts = and_true (not (is_empty w)) (is_hash u) e in (or_right (ends_line u) (is_hash u) parts.1, or_right (ends_line u) (not (is_empty w)) parts.0))
+    (λ e. let parts = and_parts (not (is_empty w)) (is_hash u) e in (or_right (ends_line u) (is_hash u) parts.1, or_right (ends_line u) (not (is_empty w)) parts.0))
     (or_cases (ends_line u) (not (is_empty w) && is_hash u) h)
-
-pub both_true : (x y : Bool) → x ≡ true → y ≡ true → (x && y) ≡ true
-both_true true y h g = g
-both_true false y h g = h
 
 tail_test : (w u : List ℕ) → ((ends_line u || is_hash u) ≡ true) → ((ends_line u || not (is_empty w)) ≡ true) → ends_tail (w, u) ≡ true
 tail_test w u h apart = ⊎_elim {0, 0, 0} (λ e. rw e refl)
-    (λ e. ⊎_elim {0, 0, 0} (λ f. rw f refl) (λ f. or_right (ends_line u) (not (is_empty w) && is_hash u) (both_true (not (is_empty w)) (is_hash u) e f)) (or_cases (ends_line u) (is_hash u) h))
+    (λ e. ⊎_elim {0, 0, 0} (λ f. rw f refl) (λ f. or_right (ends_line u) (not (is_empty w) && is_hash u) (and_from (not (is_empty w)) (is_hash u) e f)) (or_cases (ends_line u) (is_hash u) h))
     (or_cases (ends_line u) (not (is_empty w)) apart)
 
 pub tail_takes : (t : List ℕ) (x : List ℕ × List ℕ) → tail_at t ≡ Some x → (t ≡ x.0 ++ x.1) × IsTail x.0 x.1
 unfolding tail_at
 tail_takes t x h =
     let c = cut no_white t in
-    let g = guard_some (ends_tail c) h in
+    let g = cond_some (ends_tail c) _ _ h in
     let join : c.0 ++ c.1 ≡ t = take-append-drop (upto no_white t) t in
     let parts = tail_cases c.0 c.1 g.0 in
     let e = line_end_takes c.0 c.1 (white_cut t) parts.0 in

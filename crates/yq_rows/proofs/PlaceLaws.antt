@@ -1,9 +1,8 @@
 -- Where the content of a row stands in a text.
 use Rattle.std.proofs.Common.{◌≡◌, inl, inr, ℕ, zero, suc, ◌-◌, Bool, true, List, [], ◌∷◌, ◌++◌, length, drop, Some, None, refl, sym, ap, ◌∙◌, subst, append_assoc, replicate}
 use Rattle.std.proofs.Math.Dec.{ltb}
-use Rattle.std.proofs.lemmas.Bool.{ltb-true, ltb-false}
+use Rattle.std.proofs.lemmas.Bool.{ltb-true, ltb-false, cases_Bool}
 use Rattle.std.specs.List.{slice_get}
-use Rattle.yq_scalar.proofs.Bools.{is_true}
 use Rattle.yq_inline.specs.Nodes.{node_text}
 use Rattle.yq_inline.proofs.WrittenLaws.{node_append}
 use Rattle.yq_rows.specs.Exchange.{with_content, with_content_at, exchange, row_front, before_at, behind_at, before_content, behind_row, rows_behind, allows_first}
@@ -68,14 +67,14 @@ part_place p marker before text rest h = ap (λ l. part_text p (marker ++ l)) h 
 
 pub place : (c : Cut) (i : ℕ) (r : Row) → slice_get (rows_of c) i ≡ Some r → cut_text c ≡ before_content i c ++ content_text r.content (behind_row i c)
 place (last p) i r h = place_at p.rows i r (p.end ++ []) h
-place (marked p marker c) i r h = elim (is_true (ltb i (length p.rows))) [
+place (marked p marker c) i r h = elim (cases_Bool (ltb i (length p.rows))) [
   | inl e ↦ rw e (place_at p.rows i r (p.end ++ (marker ++ cut_text c)) (slice_front p.rows (rows_of c) i r (ltb-true i (length p.rows) e) h))
   | inr e ↦ rw e (part_place p marker (before_content (i - length p.rows) c) (content_text r.content (behind_row (i - length p.rows) c)) (cut_text c) (place c (i - length p.rows) r (slice_back p.rows (rows_of c) i r (ltb-false i (length p.rows) e) h)))
 ]
 
 pub new_place : (c : Cut) (i : ℕ) (r : Row) (new : Content) → slice_get (rows_of c) i ≡ Some r → cut_text (exchange i new c) ≡ before_content i c ++ content_text new (behind_row i c)
 new_place (last p) i r new h = new_place_at p.rows i r new (p.end ++ []) h
-new_place (marked p marker c) i r new h = elim (is_true (ltb i (length p.rows))) [
+new_place (marked p marker c) i r new h = elim (cases_Bool (ltb i (length p.rows))) [
   | inl e ↦ rw e (new_place_at p.rows i r new (p.end ++ (marker ++ cut_text c)) (slice_front p.rows (rows_of c) i r (ltb-true i (length p.rows) e) h))
   | inr e ↦ rw e (part_place p marker (before_content (i - length p.rows) c) (content_text new (behind_row (i - length p.rows) c)) (cut_text (exchange (i - length p.rows) new c)) (new_place c (i - length p.rows) r new (slice_back p.rows (rows_of c) i r (ltb-false i (length p.rows) e) h)))
 ]
@@ -99,7 +98,7 @@ row_in_at (x ∷ rows) (suc i) limit r end rest h is = row_in_at rows i (limit_a
 
 pub row_in : (c : Cut) (i : ℕ) (started : Bool) (r : Row) → AreParts started c → slice_get (rows_of c) i ≡ Some r → RowIn r (behind_row i c) (rows_behind i c)
 row_in (last p) i started r h is = row_in_at p.rows i unlimited r p.end [] h.rows is
-row_in (marked p marker c) i started r h is = elim (is_true (ltb i (length p.rows))) [
+row_in (marked p marker c) i started r h is = elim (cases_Bool (ltb i (length p.rows))) [
   | inl e ↦ rw e (row_in_at p.rows i unlimited r p.end (marker ++ cut_text c) h.0.rows (slice_front p.rows (rows_of c) i r (ltb-true i (length p.rows) e) is))
   | inr e ↦ rw e (row_in c (i - length p.rows) (begins_document marker) r h.2 (slice_back p.rows (rows_of c) i r (ltb-false i (length p.rows) e) is))
 ]

@@ -3,8 +3,8 @@ use Rattle.std.proofs.Common.{if◌then◌else◌, ◌≡◌, ℕ, zero, suc, �
 use Rattle.std.specs.List.{AllWithin}
 use Rattle.std.specs.List.Sorted.{IsNonDecreasingBy, IsPartitionPoint}
 use Rattle.std.proofs.lemmas.List.{get_or-map, get_or-drop, length-map, length-drop}
+use Rattle.std.proofs.lemmas.Option.{same_Some}
 use Rattle.yq_scalar.specs.Answers.{◌>>=◌}
-use Rattle.yq_inline.proofs.Binds.{some_same}
 use Rattle.yq_rows.specs.Lending.{shown_read}
 use Rattle.yq_rows.specs.Rows.{Cut, last, marked}
 use Rattle.yq_rows.specs.View.{Slices, Bound, bounds_from, bounds_of, bound_view, bound_views, bounds_at, bounds_text, rest_from}
@@ -38,7 +38,7 @@ pub read_rises : (o : Option Cut) (rows : List Slices) (bounds : List ends.Bound
 read_rises None rows bounds h = cc
 read_rises (Some c) rows bounds h =
     let is : Some (bounds_of c) ≡ Some (bound_views bounds) = ap (λ o. o >>= λ s. Some s.bounds) h in
-    viewed_rise bounds (subst (IsNonDecreasingBy (λ b. b.rows)) (some_same is) (bounds_rise 0 c))
+    viewed_rise bounds (subst (IsNonDecreasingBy (λ b. b.rows)) (same_Some _ _ is) (bounds_rise 0 c))
 
 -- the ends that stand before row i are skipped, and those at row i are taken
 pub skipped : (i n : ℕ) (bounds : List ends.Bound) → n ≤ length bounds → AllWithin (λ b. ltb b.rows i ≡ true) bounds 0 n → bounds_at i (bound_views bounds) ≡ bounds_at i (bound_views (drop n bounds))

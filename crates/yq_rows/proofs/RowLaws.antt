@@ -1,10 +1,11 @@
 -- A row, read and spelled.
 use Rattle.std.proofs.Common.{◌≡◌, ℕ, ℤ, ◌<◌, ◌≤◌, true, false, not, ◌&&◌, eqb, List, [], ◌∷◌, ◌++◌, length, Option, Some, None, refl, ap, ◌∙◌, subst, arith, replicate, length-append}
-use Rattle.std.proofs.lemmas.Bool.{not-true}
+use Rattle.std.proofs.lemmas.Bool.{not-true, and_parts}
+use Rattle.std.proofs.lemmas.Option.{cond_some}
 use Rattle.yq_scalar.specs.Block.{block_text}
 use Rattle.yq_scalar.specs.Piece.{deeper}
 use Rattle.yq_scalar.specs.Text.{cut, no_space, is_marker, separates, joined}
-use Rattle.yq_scalar.proofs.Bools.{and_true, guard_then, guard_some, bind_some}
+use Rattle.yq_scalar.proofs.Bools.{guard_then, bind_some}
 use Rattle.yq_scalar.proofs.Upto.{cut_takes}
 use Rattle.yq_inline.specs.Inline.{depth_limit}
 use Rattle.yq_inline.specs.Nodes.{bare, node_text}
@@ -36,7 +37,7 @@ marked_takes gap column t x h =
     let m = marks_at t in
     let n = parent_of m.1 (behind_columns column m.0) in
     let content = bind_some (content_at n m.2) h in
-    let g = guard_some (fits m.1 content.0.0) content.2 in
+    let g = cond_some (fits m.1 content.0.0) _ _ content.2 in
     let marks = marks_take t in
     let c = content_takes n m.2 content.0 content.1 in
     let row : Row = record { gap = gap; column = column; dashes = m.0; mark = m.1; content = content.0.0 } in
@@ -74,7 +75,7 @@ row_takes limit gap t x h =
     let indent = cut no_space t in
     let column = length indent.0 in
     let g = guard_then (allows limit column && not (eqb column 0 && is_marker indent.1)) h in
-    let tests = and_true (allows limit column) (not (eqb column 0 && is_marker indent.1)) g.0 in
+    let tests = and_parts (allows limit column) (not (eqb column 0 && is_marker indent.1)) g.0 in
     let m = marked_takes gap column indent.1 x g.1 in
     let join : t ≡ indent.0 ++ indent.1 = cut_takes no_space t in
     let spaces : indent.0 ≡ replicate column 32 = spaces_are t in

@@ -2,11 +2,11 @@
 use Rattle.std.proofs.Common.{if◌then◌else◌, ◌≡◌, ℕ, ◌+◌, ◌<◌, ◌≤◌, Bool, true, false, cond, not, ◌&&◌, ◌||◌, eqb, List, [], ◌∷◌, ◌++◌, length, map, Option, Some, None, refl, sym, ap, ◌∙◌, subst, arith, append_assoc, append-nil, ℤ}
 use Rattle.std.proofs.lemmas.Bool.{false≢true}
 use Rattle.std.proofs.lemmas.List.{take-append-drop}
+use Rattle.std.proofs.lemmas.Option.{same_Some}
 use Rattle.yq_scalar.specs.Answers.{◌>>=◌}
 use Rattle.yq_scalar.specs.Text.{cut, no_space, no_white, is_marker}
 use Rattle.yq_scalar.proofs.Bools.{bind_some}
 use Rattle.yq_inline.specs.Nodes.{begins_node}
-use Rattle.yq_inline.proofs.Binds.{some_same}
 use Rattle.yq_rows.specs.Grammar.{Limit, unlimited, allows, limit_after, limit_behind, is_entry, no_rows, ends_part}
 use Rattle.yq_rows.specs.Lending.{begun, filled, filled_at, holds_plain, limit_by, Lent, lent, row_of, marked_lent, row_lent, rows_lent, inline_lent, block_lent}
 use Rattle.yq_rows.specs.Reading.{Marks, marks_at, content_at, begins_block, tail_at, fits, marked_row_at, row_at, gap_len, cut_gap, all_rows, part_at}
@@ -105,7 +105,7 @@ pub record OneRow (front : List Slices) (limit : Limit) (gap t : List ℕ) (s : 
 pub one_row : (front : List Slices) (limit : Limit) (gap t : List ℕ) (s : Slices) (l : Limit) (after : List ℕ) → ends_part t ≡ false → row_lent limit gap t ≡ Some (s, l, after) → OneRow front limit gap t s l after
 one_row front limit gap t s l after more h =
     let x = bind_some (row_at limit gap t) h in
-    let is : lent x.0 ≡ (s, l, after) = some_same x.2 in
+    let is : lent x.0 ≡ (s, l, after) = same_Some _ _ x.2 in
     let step = rows_step limit gap t x.0 more x.1 in
     subst (λ (y : Lent). OneRow front limit gap t y.0 y.1 y.2) is (record {
       shorter = row_shorter limit gap t x.0 x.1;
@@ -125,7 +125,7 @@ rows_end front limit gap t none = ap (rows_lent front) (rows_done limit gap t no
 row_spelled : (limit : Limit) (gap t : List ℕ) (s : Slices) (l : Limit) (after : List ℕ) → row_lent limit gap t ≡ Some (s, l, after) → gap ++ t ≡ slices_text s after
 row_spelled limit gap t s l after h =
     let x = bind_some (row_at limit gap t) h in
-    let is : lent x.0 ≡ (s, l, after) = some_same x.2 in
+    let is : lent x.0 ≡ (s, l, after) = same_Some _ _ x.2 in
     let cut = row_takes limit gap t x.0 x.1 in
     subst (λ (y : Lent). gap ++ t ≡ slices_text y.0 y.2) is
     (ap (λ (g : List ℕ). g ++ t) (sym cut.gap_is) ∙ (ap (λ (l : List ℕ). x.0.0.gap ++ l) cut.text ∙ sym (slices_are x.0.0 x.0.1)))

@@ -2,10 +2,10 @@
 use Rattle.std.proofs.Common.{◌≡◌, ℕ, zero, suc, ◌<◌, Bool, true, false, cond, List, [], ◌∷◌, ◌++◌, length, Option, Some, refl, sym, ⊎_elim, ap, ◌∙◌, subst, arith}
 use Rattle.std.proofs.lemmas.Bool.{false≢true}
 use Rattle.std.proofs.lemmas.List.{take-append-drop}
+use Rattle.std.proofs.lemmas.Option.{same_Some}
 use Rattle.yq_scalar.specs.Answers.{◌>>=◌}
 use Rattle.yq_scalar.specs.Text.{is_marker}
 use Rattle.yq_scalar.proofs.Bools.{at_byte, bind_some, chosen}
-use Rattle.yq_inline.proofs.Binds.{some_same}
 use Rattle.yq_rows.specs.Gap.{IsGap}
 use Rattle.yq_rows.specs.Grammar.{IsRow, Limit, limit_after, AreRows, ends_part}
 use Rattle.yq_rows.specs.Reading.{gap_len, cut_gap, begins_gap, row_at, rows_at}
@@ -58,11 +58,11 @@ unfolding rows_at
 rows_takes zero limit t x h = cc
 rows_takes (suc n) limit t x h = ⊎_elim {0, 0, 0}
     (λ (e : (ends_part (cut_gap t).1 ≡ true) × (no_more (cut_gap t) ≡ Some x)).
-    subst (RowsCut limit t) (some_same e.1) (record { text = sym (gap_join t); rows = gap_law t; ends = e.0 }))
+    subst (RowsCut limit t) (same_Some _ _ e.1) (record { text = sym (gap_join t); rows = gap_law t; ends = e.0 }))
     (λ e.
     let row = bind_some (row_at limit (cut_gap t).0 (cut_gap t).1) e.1 in
     let rest = bind_some (rows_at n (limit_after row.0.0) row.0.1) row.2 in
-    subst (RowsCut limit t) (some_same rest.2) (one_more limit t row.0 rest.0 row.1 (rows_takes n (limit_after row.0.0) row.0.1 rest.0 rest.1)))
+    subst (RowsCut limit t) (same_Some _ _ rest.2) (one_more limit t row.0 rest.0 row.1 (rows_takes n (limit_after row.0.0) row.0.1 rest.0 rest.1)))
     (chosen (ends_part (cut_gap t).1) h)
 
 -- and read again

@@ -1,12 +1,12 @@
 -- A whole text, cut into its rows and markers and read again.
 use Rattle.std.proofs.Common.{◌≡◌, ℕ, zero, suc, ◌<◌, Bool, true, false, ◌&&◌, leb, List, [], ◌++◌, length, Option, Some, Result, Ok, Err, IfOk, refl, sym, ⊎_elim, ap, ◌∙◌, subst, arith}
-use Rattle.std.proofs.lemmas.Bool.{leb-true, le-leb}
+use Rattle.std.proofs.lemmas.Bool.{leb-true, le-leb, and_parts}
+use Rattle.std.proofs.lemmas.Option.{same_Some}
 use Rattle.yq_scalar.specs.Answers.{◌>>=◌, Gives}
 use Rattle.yq_scalar.specs.Characters.{is_text, text_limit}
 use Rattle.yq_scalar.specs.Text.{is_empty}
 use Rattle.yq_scalar.specs.declared.fault.ReadError.{ReadError}
-use Rattle.yq_scalar.proofs.Bools.{and_true, bind_some, chosen, guard_then}
-use Rattle.yq_inline.proofs.Binds.{some_same}
+use Rattle.yq_scalar.proofs.Bools.{bind_some, chosen, guard_then}
 use Rattle.yq_rows.specs.Grammar.{begins_document, IsPart, IsMarkerLine, AreParts, IsCut}
 use Rattle.yq_rows.specs.Reading.{part_at, marker_at, parts_at, scan_at}
 use Rattle.yq_rows.specs.Rows.{Part, part_text, Cut, last, marked, cut_text}
@@ -36,11 +36,11 @@ parts_take (suc n) started t c h =
     let part = bind_some (part_at started t) h in
     let p = part_takes started t part.0 part.1 in
     ⊎_elim {0, 0, 0}
-    (λ (e : (is_empty part.0.1 ≡ true) × (Some (last part.0.0) ≡ Some c)). subst (PartsCut started t) (some_same e.1) (parts_last_cut started t part.0 p e.0))
+    (λ (e : (is_empty part.0.1 ≡ true) × (Some (last part.0.0) ≡ Some c)). subst (PartsCut started t) (same_Some _ _ e.1) (parts_last_cut started t part.0 p e.0))
     (λ e.
     let marker = bind_some (marker_at part.0.1) e.1 in
     let rest = bind_some (parts_at n (begins_document marker.0.0) marker.0.1) marker.2 in
-    subst (PartsCut started t) (some_same rest.2) (parts_marked_cut started t part.0 marker.0 rest.0 p e.0 marker.1 (parts_take n (begins_document marker.0.0) marker.0.1 rest.0 rest.1)))
+    subst (PartsCut started t) (same_Some _ _ rest.2) (parts_marked_cut started t part.0 marker.0 rest.0 p e.0 marker.1 (parts_take n (begins_document marker.0.0) marker.0.1 rest.0 rest.1)))
     (chosen (is_empty part.0.1) part.2)
 
 marker_more : (p : Part) (marker rest : List ℕ) (started : Bool) → IsPart started p (marker ++ rest) → IsMarkerLine marker rest → length rest < length (part_text p (marker ++ rest))
@@ -64,7 +64,7 @@ pub scan_takes : (t : List ℕ) (c : Cut) → scan_at t ≡ Some c → IsCut t c
 unfolding scan_at
 scan_takes t c h =
     let g = guard_then (leb (length t) text_limit && is_text t) h in
-    let tests = and_true (leb (length t) text_limit) (is_text t) g.0 in
+    let tests = and_parts (leb (length t) text_limit) (is_text t) g.0 in
     let parts = parts_take (suc (length t)) true t c g.1 in
     record { text = parts.0; parts = parts.1; characters = tests.1; size = leb-true _ _ tests.0 }
 
@@ -74,10 +74,10 @@ scan_again t c h =
     rw (le-leb (length t) text_limit h.size, h.characters) (rw h.text (parts_again c true (suc (length (cut_text c))) h.parts (omega arith)))
 
 pub one_cut : (t : List ℕ) (c other : Cut) → IsCut t c → IsCut t other → c ≡ other
-one_cut t c other a b = some_same (sym (scan_again t c a) ∙ scan_again t other b)
+one_cut t c other a b = same_Some _ _ (sym (scan_again t c a) ∙ scan_again t other b)
 
 pub found_by : {X : Type 0} (v : X → Shown) (t : List ℕ) (r : Result X ReadError) → Gives v r (scan_at t >>= λ c. Some (shown c)) → IfOk r (λ x. (c : Cut) × IsCut t c × (v x ≡ shown c))
-found_by v t (Ok x) h = let c = bind_some (scan_at t) h in (c.0, scan_takes t c.0 c.1, sym (some_same c.2))
+found_by v t (Ok x) h = let c = bind_some (scan_at t) h in (c.0, scan_takes t c.0 c.1, sym (same_Some _ _ c.2))
 found_by v t (Err e) h = tt
 
 pub only_by : {X : Type 0} (v : X → Shown) (t : List ℕ) (r : Result X ReadError) → Gives v r (scan_at t >>= λ c. Some (shown c)) → (c : Cut) → IsCut t c → Gives v r (Some (shown c))

@@ -1,13 +1,14 @@
 -- Over white space and breaks, to where a plain scalar goes on.
 use Rattle.std.proofs.Common.{◌≡◌, ℕ, suc, ◌+◌, ◌-◌, ◌<◌, ◌≤◌, Bool, true, false, cond, not, eqb, List, [], ◌∷◌, ◌++◌, length, take, drop, get_or, Option, Some, None, refl, sym, inl, inr, ◌&&◌, ◌||◌, ap, ◌∙◌, subst, arith, length-drop}
-use Rattle.std.proofs.lemmas.Bool.{false≢true, false_from_ne_true}
+use Rattle.std.proofs.lemmas.Bool.{false≢true, false_from_ne_true, and_parts, cases_Bool}
 use Rattle.std.proofs.lemmas.List.{take_rest, take-append-drop}
+use Rattle.std.proofs.lemmas.Option.{cond_some}
 use Rattle.std.specs.Option.{is_none, option_or}
 use Rattle.yq_scalar.specs.Answers.{more}
 use Rattle.yq_scalar.specs.Text.{upto, cut, is_empty, is_feed, is_white, is_break, is_return, is_space, front}
 use Rattle.yq_scalar.specs.Plain.{begins_deep, ends_plain, ends_text, follows, last_line, may_follow, no_gap}
 use Rattle.yq_scalar.specs.PlainReading.{across}
-use Rattle.yq_scalar.proofs.Bools.{is_true, guard_some, and_true, more_more, more_some, at_byte}
+use Rattle.yq_scalar.proofs.Bools.{more_more, more_some, at_byte}
 
 -- what stands behind the first byte, as a slice's pattern gives it
 abbrev pub rest_of : List ℕ → List ℕ
@@ -57,9 +58,9 @@ go_return flow spaces deep n (b ∷ bs) z le w l k e = rw (rest_is) (go n _ _ z 
 -- a step over one byte of white space or a break
 pub across_space : (flow : Bool) (spaces : Option ℕ) (deep : Bool) (b : ℕ) (bs : List ℕ) → is_space (b ∷ bs) ≡ true → (next : Bool) × (across flow spaces deep (b ∷ bs) ≡ more 1 (across flow spaces next bs))
 across_space flow spaces deep b bs h =
-    elim (is_true (is_white b)) [
+    elim (cases_Bool (is_white b)) [
       | inl w ↦ (deep, across_white flow spaces deep b bs w)
-      | inr w ↦ elim (is_true (is_feed b)) [
+      | inr w ↦ elim (cases_Bool (is_feed b)) [
         | inl l ↦ (begins_deep spaces bs, across_line flow spaces deep b bs w l)
         | inr l ↦ (deep, across_return flow spaces deep b bs w l (let g : is_space (b ∷ bs) ≡ true = h in rw w at g))
       ]
@@ -117,10 +118,10 @@ across_goes : (flow : Bool) (spaces : Option ℕ) (deep : Bool) (t : List ℕ) �
 unfolding across upto
 across_goes flow spaces deep [] = refl
 across_goes flow spaces deep (b ∷ bs) =
-    elim (is_true (is_space (b ∷ bs))) [
-      | inl s ↦ elim (is_true (is_white b)) [
+    elim (cases_Bool (is_space (b ∷ bs))) [
+      | inl s ↦ elim (cases_Bool (is_white b)) [
         | inl w ↦ over flow spaces deep deep b bs s (across_white flow spaces deep b bs w) (across_goes flow spaces deep bs) (same_line deep spaces b (gap_of bs) (past_gap bs) (at_byte is_white b 10 w refl))
-        | inr w ↦ elim (is_true (is_feed b)) [
+        | inr w ↦ elim (cases_Bool (is_feed b)) [
           | inl l ↦ over flow spaces deep (begins_deep spaces bs) b bs s (across_line flow spaces deep b bs w l) (across_goes flow spaces (begins_deep spaces bs) bs)
               (rw l (next_line deep spaces (last_line (gap_of bs)) (gap_of bs) (past_gap bs) bs (take-append-drop (upto no_gap bs) bs)))
           | inr l ↦ over flow spaces deep deep b bs s (across_return flow spaces deep b bs w l (let g : is_space (b ∷ bs) ≡ true = s in rw w at g)) (across_goes flow spaces deep bs) (same_line deep spaces b (gap_of bs) (past_gap bs) l)
@@ -149,13 +150,13 @@ deeper : (flow : Bool) (spaces : Option ℕ) (t : List ℕ) (k : ℕ) → across
 unfolding across
 deeper flow spaces [] k h = h
 deeper flow spaces (b ∷ bs) k h =
-    elim (is_true (is_white b)) [
+    elim (cases_Bool (is_white b)) [
       | inl w ↦ (let g = more_some 1 k _ (sym (across_white flow spaces false b bs w) ∙ h) in across_white flow spaces true b bs w ∙ (ap (more 1) (deeper flow spaces bs g.0 g.1) ∙ ap Some g.2))
-      | inr w ↦ elim (is_true (is_feed b)) [
+      | inr w ↦ elim (cases_Bool (is_feed b)) [
         | inl l ↦ across_line flow spaces true b bs w l ∙ (sym (across_line flow spaces false b bs w l) ∙ h)
-        | inr l ↦ elim (is_true (is_break (b ∷ bs))) [
+        | inr l ↦ elim (cases_Bool (is_break (b ∷ bs))) [
           | inl r ↦ (let g = more_some 1 k _ (sym (across_return flow spaces false b bs w l r) ∙ h) in across_return flow spaces true b bs w l r ∙ (ap (more 1) (deeper flow spaces bs g.0 g.1) ∙ ap Some g.2))
-          | inr r ↦ (let n : is_space (b ∷ bs) ≡ false = rw w r in let g = guard_some _ (sym (across_here flow spaces false b bs n) ∙ h) in absurd (false≢true (and_true _ false g.0).1))
+          | inr r ↦ (let n : is_space (b ∷ bs) ≡ false = rw w r in let g = cond_some _ _ _ (sym (across_here flow spaces false b bs n) ∙ h) in absurd (false≢true (and_parts _ false g.0).1))
         ]
       ]
     ]
@@ -178,25 +179,25 @@ upto_space flow spaces b bs k s h =
 pub across_upto : (flow : Bool) (spaces : Option ℕ) (t : List ℕ) (k : ℕ) → across flow spaces true t ≡ Some k → upto (ends_plain flow spaces) t ≡ k + upto (ends_plain flow spaces) (drop k t)
 across_upto flow spaces [] k h = absurd (let e = sym (across_end flow spaces true) ∙ h in cc)
 across_upto flow spaces (b ∷ bs) k h =
-    elim (is_true (is_space (b ∷ bs))) [
+    elim (cases_Bool (is_space (b ∷ bs))) [
       | inl s ↦ (let next = across_space flow spaces true b bs s in
           let g = more_some 1 k _ (sym next.1 ∙ h) in
           let again = across_upto flow spaces bs g.0 (across_deeper flow spaces next.0 bs g.0 g.1) in
           let here : upto (ends_plain flow spaces) (b ∷ bs) ≡ suc (upto (ends_plain flow spaces) bs) = upto_space flow spaces b bs k s h in
           let same : suc g.0 ≡ k = omega (arith, g.2) in
           subst (λ (n : ℕ). upto (ends_plain flow spaces) (b ∷ bs) ≡ n + upto (ends_plain flow spaces) (drop n (b ∷ bs))) same (omega (arith, here, again)))
-      | inr s ↦ (let g = guard_some _ (sym (across_here flow spaces true b bs s) ∙ h) in
+      | inr s ↦ (let g = cond_some _ _ _ (sym (across_here flow spaces true b bs s) ∙ h) in
           subst (λ (n : ℕ). upto (ends_plain flow spaces) (b ∷ bs) ≡ n + upto (ends_plain flow spaces) (drop n (b ∷ bs))) g.1 (omega arith))
     ]
 
 pub across_bounds : (flow : Bool) (spaces : Option ℕ) (deep : Bool) (t : List ℕ) (k : ℕ) → across flow spaces deep t ≡ Some k → k ≤ length t
 across_bounds flow spaces deep [] k h = absurd (let e = sym (across_end flow spaces deep) ∙ h in cc)
 across_bounds flow spaces deep (b ∷ bs) k h =
-    elim (is_true (is_space (b ∷ bs))) [
+    elim (cases_Bool (is_space (b ∷ bs))) [
       | inl s ↦ (let next = across_space flow spaces deep b bs s in
           let g = more_some 1 k _ (sym next.1 ∙ h) in
           let again = across_bounds flow spaces next.0 bs g.0 g.1 in omega (arith, g.2, again))
-      | inr s ↦ (let g = guard_some _ (sym (across_here flow spaces deep b bs s) ∙ h) in omega (arith, g.1))
+      | inr s ↦ (let g = cond_some _ _ _ (sym (across_here flow spaces deep b bs s) ∙ h) in omega (arith, g.1))
     ]
 
 pub across_some : (flow : Bool) (spaces : Option ℕ) (t : List ℕ) (k : ℕ) → is_space t ≡ true → across flow spaces true t ≡ Some k → 0 < k

@@ -1,10 +1,11 @@
 -- Where the block scalar that is found stands.
 use Rattle.std.proofs.Common.{◌≡◌, ℕ, ◌+◌, ◌-◌, ◌≤◌, Bool, List, ◌++◌, length, drop, Option, Some, refl, sym, ap, ◌∙◌, arith, length-append, Result, Ok, Err, IfOk, ℤ}
+use Rattle.std.proofs.lemmas.Option.{same_Some}
 use Rattle.yq_scalar.proofs.BlockLaws.{block_takes, block_again}
 use Rattle.yq_scalar.proofs.Bools.{bind_some}
 use Rattle.yq_scalar.proofs.HeaderLaws.{head_length}
 use Rattle.yq_scalar.proofs.LineLaws.{joined_lines, joined-append}
-use Rattle.yq_scalar.proofs.RawLaws.{some_same, raw_split}
+use Rattle.yq_scalar.proofs.RawLaws.{raw_split}
 use Rattle.yq_scalar.specs.Answers.{◌>>=◌, Reads}
 use Rattle.yq_scalar.specs.Block.{style_of, keeps, BlockText, block_piece, IsBlockPiece}
 use Rattle.yq_scalar.specs.BlockReading.{raw_at, len_at, indent_at, style_at, indicators_at, values, tail_at, block_behind, block_at, piece_at, block_from}
@@ -20,7 +21,7 @@ pub raw_within : (keep : Bool) (f : TextIndent) (t : List ℕ) (n : ℕ) → len
 raw_within keep f t n h =
     let x = bind_some (raw_at keep f (lines_of t)) h in
     let text : t ≡ joined x.0.0 ++ joined x.0.1 = sym (joined_lines t) ∙ (ap joined (raw_split keep f (lines_of t) x.0 x.1) ∙ joined-append x.0.0 x.0.1) in
-    let is : length (joined x.0.0) ≡ n = some_same x.2 in
+    let is : length (joined x.0.0) ≡ n = same_Some _ _ x.2 in
     let all : length t ≡ length (joined x.0.0) + length (joined x.0.1) = ap length text ∙ length-append (joined x.0.0) (joined x.0.1) in
     omega arith
 
@@ -34,7 +35,7 @@ piece_is start least t u r tail raw s d c f k n z h m g e q l y =
     let sign : (indicators_at u).1 ≡ c = ap (λ (y : Option ℕ × Chomping × List ℕ). y.1) (sym m) in
     let rest : (indicators_at u).3 ≡ r = ap (λ (y : Option ℕ × Chomping × List ℕ). y.2) (sym m) in
     let x = bind_some (raw_at k f (lines_of raw)) l in
-    let is : length (joined x.0.0) ≡ n = some_same x.2 in
+    let is : length (joined x.0.0) ≡ n = same_Some _ _ x.2 in
     let kept : raw_at (keeps c) f (lines_of raw) ≡ Some x.0 = ap (λ b. raw_at b f (lines_of raw)) (sym q) ∙ x.1 in
     let from : start + 1 + length (indicators_at u).2 ≡ start + (length t - length r) = omega arith in
     rw (h, digit, sign, rest, g, e, kept, is, from, q, y) refl
@@ -44,7 +45,7 @@ unfolding block_from
 from_takes n at text p h =
     let x = bind_some (block_at (deeper n) (drop at text)) h in
     let laws = block_takes (deeper n) (drop at text) x.0 x.1 in
-    record { block = x.0.0; rest = x.0.1; stands = laws.0; scalar = laws.1; piece = sym (some_same x.2) }
+    record { block = x.0.0; rest = x.0.1; stands = laws.0; scalar = laws.1; piece = sym (same_Some _ _ x.2) }
 
 pub from_again : (n : ℤ) (at : ℕ) (text : List ℕ) (p : Piece) → IsBlockPiece n at text p → block_from n at text ≡ Some p
 unfolding block_from
@@ -59,5 +60,5 @@ found_by n at text (Ok p) h = from_takes n at text p h
 found_by n at text (Err e) h = tt
 
 pub only_by : {E : Type 0} (n : ℤ) (at : ℕ) (text : List ℕ) (r : Result Piece E) → Reads (λ p. p) r (block_from n at text) → (p : Piece) → IsBlockPiece n at text p → r ≡ Ok p
-only_by n at text (Ok q) h p i = ap Ok (some_same (sym h ∙ from_again n at text p i))
+only_by n at text (Ok q) h p i = ap Ok (same_Some _ _ (sym h ∙ from_again n at text p i))
 only_by n at text (Err e) h p i = absurd (let e = sym h ∙ from_again n at text p i in cc)

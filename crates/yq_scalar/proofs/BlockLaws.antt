@@ -1,10 +1,12 @@
 -- A block scalar, both ways.
 use Rattle.std.proofs.Common.{◌≡◌, ℕ, true, List, ◌∷◌, ◌++◌, Some, sym, ap, ◌∙◌, subst}
+use Rattle.std.proofs.lemmas.List.{append_cancel_left}
+use Rattle.std.proofs.lemmas.Option.{same_Some}
 use Rattle.yq_scalar.proofs.Bools.{bind_some}
 use Rattle.yq_scalar.proofs.DetectedLaws.{indent_takes, indent_again}
 use Rattle.yq_scalar.proofs.HeaderLaws.{style_takes, style_again, indicators_takes, tail_takes, tail_again, tail_no_indicator, indicators_again}
 use Rattle.yq_scalar.proofs.LineLaws.{joined_lines, lines_are, joined-append}
-use Rattle.yq_scalar.proofs.RawLaws.{some_same, raw_split, IsRaw, raw_takes, raw_again, lines_raw, cancel}
+use Rattle.yq_scalar.proofs.RawLaws.{raw_split, IsRaw, raw_takes, raw_again, lines_raw}
 use Rattle.yq_scalar.specs.Block.{ends_block, mark_of, keeps, BlockText, block_text, IsBlock}
 use Rattle.yq_scalar.specs.BlockReading.{raw_at, indent_at, style_at, indicators_at, tail_at, block_behind, block_at}
 use Rattle.yq_scalar.specs.Text.{lines_of, joined}
@@ -19,12 +21,12 @@ block_takes least t x h =
     let ls = lines_of tail.0.1 in
     let indent = bind_some (indent_at least m.0 ls) tail.2 in
     let raw = bind_some (raw_at (keeps m.1) indent.0 ls) indent.2 in
-    let is : (record { style = s.0.0; digit = m.0; chomping = m.1; indicators = m.2; tail = tail.0.0; raw = raw.0.0; indent = indent.0 }, joined raw.0.1) ≡ x = some_same raw.2 in
+    let is : (record { style = s.0.0; digit = m.0; chomping = m.1; indicators = m.2; tail = tail.0.0; raw = raw.0.0; indent = indent.0 }, joined raw.0.1) ≡ x = same_Some _ _ raw.2 in
     let cut : ls ≡ raw.0.0 ++ raw.0.1 = raw_split (keeps m.1) indent.0 ls raw.0 raw.1 in
     let are : IsRaw (keeps m.1) indent.0 raw.0 = raw_takes (keeps m.1) indent.0 ls raw.0 (lines_are tail.0.1) raw.1 in
     let text : tail.0.1 ≡ joined raw.0.0 ++ joined raw.0.1 = sym (joined_lines tail.0.1) ∙ (ap joined cut ∙ joined-append raw.0.0 raw.0.1) in
     let behind : raw.0.1 ≡ lines_of (joined raw.0.1) =
-    cancel raw.0.0 raw.0.1 (lines_of (joined raw.0.1)) (sym cut ∙ (ap lines_of text ∙ lines_raw indent.0 raw.0.0 (joined raw.0.1) are.lines)) in
+    append_cancel_left raw.0.0 raw.0.1 (lines_of (joined raw.0.1)) (sym cut ∙ (ap lines_of text ∙ lines_raw indent.0 raw.0.0 (joined raw.0.1) are.lines)) in
     let line = tail_takes m.3 tail.0 tail.1 in
     let indicators = indicators_takes s.0.1 in
     subst (λ (y : BlockText × List ℕ). (t ≡ block_text y.0 y.1) × IsBlock least y.0 y.1) is (
@@ -52,5 +54,5 @@ block_again least b rest h =
 
 pub one_block : (least : ℕ) (a b : BlockText) (rest other : List ℕ) → block_text a rest ≡ block_text b other → IsBlock least a rest → IsBlock least b other → (a ≡ b) × (rest ≡ other)
 one_block least a b rest other e h k =
-    let same : (a, rest) ≡ (b, other) = some_same (sym (block_again least a rest h) ∙ (ap (block_at least) e ∙ block_again least b other k)) in
+    let same : (a, rest) ≡ (b, other) = same_Some _ _ (sym (block_again least a rest h) ∙ (ap (block_at least) e ∙ block_again least b other k)) in
     (ap (λ (y : BlockText × List ℕ). y.0) same, ap (λ (y : BlockText × List ℕ). y.1) same)

@@ -1,12 +1,11 @@
 -- Where a piece may be cut out of its text.
 use Rattle.std.proofs.Common.{◌≡◌, ℕ, suc, ◌+◌, ◌-◌, ◌<◌, ◌≤◌, true, eqb, List, [], ◌∷◌, ◌++◌, length, take, drop, get_or, Option, Some, None, refl, sym, ap, ◌∙◌, subst, inl, inr, ◌⊎◌, ⊎_elim, arith, eqb-true, append_assoc, append-nil, length-append, length-take, length-drop, min, ℤ}
-use Rattle.std.proofs.lemmas.Bool.{false≢true}
+use Rattle.std.proofs.lemmas.Bool.{false≢true, and_parts, cases_Bool}
 use Rattle.std.proofs.lemmas.List.{take-append-drop, drop-drop}
 use Rattle.std.proofs.Math.Seq.{take-append_seam, drop-append_seam}
 use Rattle.std.specs.Str.{IsUtf8, IsCharBoundary}
 use Rattle.std.proofs.lemmas.Str.{IsCharBoundary-after_ascii}
 use Rattle.yq_scalar.specs.declared.block_header.BlockStyle.TheVariants as styles
-use Rattle.yq_scalar.proofs.Bools.{is_true, and_true}
 use Rattle.yq_scalar.proofs.DetectedLaws.{detect_back}
 use Rattle.yq_scalar.proofs.HeaderLaws.{tail_no_indicator, indicators_again}
 use Rattle.yq_scalar.proofs.RawLaws.{raw_lines}
@@ -33,7 +32,7 @@ line_lf [] h = absurd (false≢true h)
 line_lf (b ∷ l) h = ⊎_elim {0, 0, 0}
     (λ e. let last : l ≡ [] = nil_is l (rw e at h) in ([], rw last (ap (λ x. x ∷ []) (eqb-true b 10 e))))
     (λ e. let again = line_lf l (rw e at h) in (b ∷ again.0, ap (λ x. b ∷ x) again.1))
-    (is_true (eqb b 10))
+    (cases_Bool (eqb b 10))
 
 pub append_lf : (a t : List ℕ) → IsLf t → IsLf (a ++ t)
 append_lf a t h = (a ++ h.0, ap (λ x. a ++ x) h.1 ∙ sym (append_assoc a h.0 (10 ∷ [])))
@@ -81,7 +80,7 @@ pub record Stands (text : List ℕ) (p : Piece) : Type 0 where
   pub ends : IsCharBoundary text p.end
 
 head_lf : (b : BlockText) → is_tail b.tail ≡ true → IsLf ((mark_of b.style ∷ b.indicators) ++ b.tail)
-head_lf b h = append_lf (mark_of b.style ∷ b.indicators) b.tail (line_lf b.tail (and_true (is_line b.tail) _ h).0)
+head_lf b h = append_lf (mark_of b.style ∷ b.indicators) b.tail (line_lf b.tail (and_parts (is_line b.tail) _ h).0)
 
 pub stands : (n : ℤ) (text : List ℕ) (p : Piece) → IsUtf8 text → IsBlockPiece n p.start text p → Stands text p
 stands n text p u h =

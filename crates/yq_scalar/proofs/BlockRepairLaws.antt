@@ -1,8 +1,7 @@
 -- A repaired gap may stand behind a block scalar and keeps its comments.
 use Rattle.std.proofs.Common.{◌≡◌, ℕ, zero, suc, ◌+◌, ◌<◌, Bool, true, false, not, ◌&&◌, ◌||◌, eqb, leb, ltb, List, [], ◌∷◌, ◌++◌, drop, replicate, refl, sym, ap, ◌∙◌, subst, ⊎_elim, arith, eqb-true}
-use Rattle.std.proofs.lemmas.Bool.{false≢true, cond_both, or_cases, false_from_ne_true, le-leb, or_right, lt-ltb}
-use Rattle.yq_scalar.proofs.Bools.{is_true, and_true}
-use Rattle.yq_scalar.proofs.RawLaws.{next_not_empty, both}
+use Rattle.std.proofs.lemmas.Bool.{false≢true, cond_both, or_cases, false_from_ne_true, le-leb, or_right, lt-ltb, and_from, and_parts, cases_Bool}
+use Rattle.yq_scalar.proofs.RawLaws.{next_not_empty}
 use Rattle.yq_scalar.proofs.SpaceLaws.{white_drop, spaces_blank, prefix_none, spaces_front, drop_front}
 use Rattle.yq_scalar.specs.Block.{Lines, is_empty_line, is_less_indented, ends_block}
 use Rattle.yq_scalar.specs.BlockRepair.{AreGap, is_short, is_outside, repaired_blank, repaired_comment, repair, remarks, is_behind}
@@ -20,11 +19,11 @@ end_empty f (b ∷ t) h =
     let other : eqb b 32 ≡ false = false_from_ne_true _ (λ e. let is : b ≡ 32 = eqb-true b 32 e in false≢true (subst (λ (x : ℕ). ends_line (x ∷ t) ≡ true) is h)) in
     let n = no_spaces b t other in
     let low : leb (spaces (b ∷ t)) f.columns ≡ true = le-leb (spaces (b ∷ t)) f.columns (let z : spaces (b ∷ t) ≡ 0 = n.0 in omega arith) in
-    both (ends_line (behind_spaces (b ∷ t))) (not f.known || leb (spaces (b ∷ t)) f.columns) (ap ends_line n.1 ∙ h) (or_right (not f.known) (leb (spaces (b ∷ t)) f.columns) low)
+    and_from (ends_line (behind_spaces (b ∷ t))) (not f.known || leb (spaces (b ∷ t)) f.columns) (ap ends_line n.1 ∙ h) (or_right (not f.known) (leb (spaces (b ∷ t)) f.columns) low)
 
 short_empty : (f : TextIndent) (l : List ℕ) → is_short f.columns l ≡ true → is_empty_line f l ≡ true
-short_empty f l h = let parts = and_true (ends_line (behind_spaces l)) (leb (spaces l) f.columns) h in
-    both (ends_line (behind_spaces l)) (not f.known || leb (spaces l) f.columns) parts.0 (or_right (not f.known) (leb (spaces l) f.columns) parts.1)
+short_empty f l h = let parts = and_parts (ends_line (behind_spaces l)) (leb (spaces l) f.columns) h in
+    and_from (ends_line (behind_spaces l)) (not f.known || leb (spaces l) f.columns) parts.0 (or_right (not f.known) (leb (spaces l) f.columns) parts.1)
 
 pub blank_empty : (f : TextIndent) (l : List ℕ) → is_blank l ≡ true → is_empty_line f (repaired_blank f.columns l) ≡ true
 blank_empty f l h = cond_both (is_short f.columns l) l (past_white l) (λ x. is_empty_line f x ≡ true) (λ k. short_empty f l k) (λ _. end_empty f (past_white l) h)
@@ -41,13 +40,13 @@ moved f column (b ∷ t) lt h =
     let low : ltb (spaces (replicate column 32 ++ (b ∷ t))) f.columns ≡ true = lt-ltb _ f.columns (omega arith) in
     let end : not (ends_line (behind_spaces (replicate column 32 ++ (b ∷ t)))) ≡ true = ap (λ x. not (ends_line x)) behind ∙ rw is refl in
     let tab : not (is_tab (behind_spaces (replicate column 32 ++ (b ∷ t)))) ≡ true = ap (λ x. not (is_tab x)) behind ∙ rw is refl in
-    both _ _ (both _ _ end low) tab
+    and_from _ _ (and_from _ _ end low) tab
 
 stays : (f : TextIndent) (l : List ℕ) → is_blank l ≡ false → (is_outside f.columns l) ≡ true → is_less_indented f l ≡ true
 stays f l n h =
-    let parts = and_true (ltb (spaces l) f.columns) (not (is_tab (behind_spaces l))) h in
+    let parts = and_parts (ltb (spaces l) f.columns) (not (is_tab (behind_spaces l))) h in
     let end : ends_line (behind_spaces l) ≡ false = false_from_ne_true _ (λ e. false≢true (sym n ∙ spaces_blank l e)) in
-    both (not (ends_line (behind_spaces l)) && ltb (spaces l) f.columns) (not (is_tab (behind_spaces l))) (both (not (ends_line (behind_spaces l))) (ltb (spaces l) f.columns) (rw end refl) parts.0) parts.1
+    and_from (not (ends_line (behind_spaces l)) && ltb (spaces l) f.columns) (not (is_tab (behind_spaces l))) (and_from (not (ends_line (behind_spaces l))) (ltb (spaces l) f.columns) (rw end refl) parts.0) parts.1
 
 pub ends_less : (keep : Bool) (f : TextIndent) (l : List ℕ) (ls : Lines) → is_less_indented f l ≡ true → ends_block keep f (l ∷ ls) ≡ true
 unfolding ends_block
@@ -78,11 +77,11 @@ repair_ends keep f column [] rest h e lt = ends_behind keep f rest e
 repair_ends true f column (l ∷ ls) rest h e lt = ⊎_elim {0, 0, 0}
     (λ b. rw b (repair_ends true f column ls rest h.1 e lt))
     (λ b. rw b (first_comment true f column l (ls ++ rest) b h.0 lt))
-    (is_true (is_blank l))
+    (cases_Bool (is_blank l))
 repair_ends false f column (l ∷ ls) rest h e lt = ⊎_elim {0, 0, 0}
     (λ b. rw b (ends_blank f (repaired_blank f.columns l) (repair false f.columns column ls ++ rest) (blank_empty f l b) (repair_ends false f column ls rest h.1 e lt)))
     (λ b. rw b (first_comment false f column l (ls ++ rest) b h.0 lt))
-    (is_true (is_blank l))
+    (cases_Bool (is_blank l))
 
 -- the comments stay
 end_blank : (t : List ℕ) → ends_line t ≡ true → is_blank t ≡ true
@@ -128,9 +127,9 @@ repair_remarks keep f column [] h = refl
 repair_remarks true f column (l ∷ ls) h = ⊎_elim {0, 0, 0}
     (λ b. rw b (repair_remarks true f column ls h.1))
     (λ b. rw b (same_first l (repaired_comment f.columns column l) ls (comment_same f column l b h.0)))
-    (is_true (is_blank l))
+    (cases_Bool (is_blank l))
 repair_remarks false f column (l ∷ ls) h = ⊎_elim {0, 0, 0}
     (λ b. let stays_ : is_blank (repaired_blank f.columns l) ≡ true = cond_both (is_short f.columns l) l (past_white l) (λ x. is_blank x ≡ true) (λ _. b) (λ _. end_blank (past_white l) b) in
     rw b (rw stays_ (repair_remarks false f column ls h.1)))
     (λ b. rw b (same_first l (repaired_comment f.columns column l) ls (comment_same f column l b h.0)))
-    (is_true (is_blank l))
+    (cases_Bool (is_blank l))

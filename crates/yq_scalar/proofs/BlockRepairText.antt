@@ -1,8 +1,8 @@
 -- A repaired gap in front of a text.
 use Rattle.std.proofs.Common.{◌≡◌, ℕ, zero, suc, ◌<◌, Bool, true, false, cond, ◌||◌, eqb, List, [], ◌∷◌, ◌++◌, replicate, ◌⊎◌, inl, inr, refl, sym, ap, ◌∙◌, ⊎_elim, append_assoc, append-nil}
-use Rattle.std.proofs.lemmas.Bool.{cond_both}
+use Rattle.std.proofs.lemmas.Bool.{cond_both, cases_Bool}
 use Rattle.yq_scalar.proofs.BlockRepairLaws.{comment_less, blank_empty, ends_less, ends_blank, ends_behind}
-use Rattle.yq_scalar.proofs.Bools.{is_true, at_byte}
+use Rattle.yq_scalar.proofs.Bools.{at_byte}
 use Rattle.yq_scalar.proofs.LineLaws.{lines_again, joined_lines}
 use Rattle.yq_scalar.proofs.SpaceLaws.{white_drop}
 use Rattle.yq_scalar.specs.Block.{Lines, no_lines, keeps, ends_block, BlockText, IsBlock}
@@ -56,7 +56,7 @@ lines_cut (b ∷ t) rest c = ⊎_elim {0, 0, 0}
     rw e (inl (rw e refl), lines_cut t rest (⊎_elim {0, 0, 0} (λ k. inl (closed_tail (b ∷ []) (lines_of t) k)) (λ k. inr k) c2)))
     (λ e. let c2 : Closed (put_byte b (lines_of t)) rest = rw e at c in
     rw e (cut_put b (lines_of t) rest e c2 (lines_cut t rest (⊎_elim {0, 0, 0} (λ k. inl (closed_back b (lines_of t) e k)) (λ k. inr k) c2))))
-    (is_true (eqb b 10))
+    (cases_Bool (eqb b 10))
 
 -- white space taken off the front, or spaces put there
 white_no_feed : (b : ℕ) → is_white b ≡ true → eqb b 10 ≡ false
@@ -68,7 +68,7 @@ line_past [] h = h
 line_past (b ∷ l) h = ⊎_elim {0, 0, 0}
     (λ e. rw (white_drop b l) (rw e (line_past l (sym (line_next b l (white_no_feed b e)) ∙ h))))
     (λ e. rw (white_drop b l) (rw e h))
-    (is_true (is_white b))
+    (cases_Bool (is_white b))
 
 open_past : (l : List ℕ) → NoFeed l → NoFeed (past_white l)
 unfolding upto
@@ -76,7 +76,7 @@ open_past [] h = tt
 open_past (b ∷ l) h = ⊎_elim {0, 0, 0}
     (λ e. rw (white_drop b l) (rw e (open_past l h.1)))
     (λ e. rw (white_drop b l) (rw e h))
-    (is_true (is_white b))
+    (cases_Bool (is_white b))
 
 line_spaces : (n : ℕ) (t : List ℕ) → is_line t ≡ true → is_line (replicate n 32 ++ t) ≡ true
 line_spaces zero t h = h
@@ -144,7 +144,7 @@ gap_ends keep f column [] rest cut are behind lt = ends_behind keep f (lines_of 
 gap_ends true f column (l ∷ ls) rest cut are behind lt = ⊎_elim {0, 0, 0}
     (λ b. rw b (gap_ends true f column ls rest cut.1 are.1 behind lt))
     (λ b. rw b (ends_comment true f column l ls rest cut.0 b are.0 lt))
-    (is_true (is_blank l))
+    (cases_Bool (is_blank l))
 gap_ends false f column (l ∷ ls) rest cut are behind lt = ⊎_elim {0, 0, 0}
     (λ b.
     let x = repaired_blank f.columns l in
@@ -154,7 +154,7 @@ gap_ends false f column (l ∷ ls) rest cut are behind lt = ⊎_elim {0, 0, 0}
     let whole : Ends false f ((x ++ gone) ++ rest) = cut_front false f x ls gone rest (blank_cut f.columns l ls rest cut.0) (no_repair f.columns column ls) (ends_blank f x (lines_of (gone ++ rest)) empty again) (ends_blank f x [] empty refl) in
     rw b whole)
     (λ b. rw b (ends_comment false f column l ls rest cut.0 b are.0 lt))
-    (is_true (is_blank l))
+    (cases_Bool (is_blank l))
 
 -- the block scalar in front of it
 pub repair_stands : (least column : ℕ) (b : BlockText) (old gap rest : List ℕ) → IsBlock least b old → AreGap (lines_of gap) → Closed (lines_of gap) rest → is_behind b.indent (lines_of rest) ≡ true → column < b.indent.columns →

@@ -1,7 +1,6 @@
 -- Steps of the loops over lines.
-use Rattle.std.proofs.Common.{◌≡◌, ℕ, zero, suc, ◌+◌, ◌<◌, ◌≤◌, Bool, true, false, cond, eqb, ltb, List, [], ◌∷◌, length, take, drop, Option, Some, None, refl, sym, ap, ◌∙◌, ⊎_elim, arith, eqb-true, ltb-true, length-append, length-take, length-drop}
-use Rattle.std.proofs.lemmas.Bool.{false≢true, lt-ltb, false_from_ne_true}
-use Rattle.yq_scalar.proofs.Bools.{is_true}
+use Rattle.std.proofs.Common.{◌≡◌, ℕ, zero, suc, ◌+◌, ◌<◌, ◌≤◌, Bool, true, false, cond, eqb, ltb, List, [], ◌∷◌, length, take, drop, Option, Some, None, refl, sym, ap, ◌∙◌, ⊎_elim, arith, eqb-true, length-append, length-take, length-drop}
+use Rattle.std.proofs.lemmas.Bool.{false≢true, lt-ltb, false_from_ne_true, cases_Bool, le-ltb}
 use Rattle.yq_scalar.proofs.LineLaws.{line_step, line_len_some, line_len_within}
 use Rattle.yq_scalar.specs.Answers.{◌>>=◌}
 use Rattle.yq_scalar.specs.Block.{Lines, is_less_indented}
@@ -34,9 +33,6 @@ pub some_left : (t : List ℕ) (e : Bool) → e ≡ eqb (length t) 0 → e ≡ f
 some_left [] e is h = absurd (false≢true (sym h ∙ is))
 some_left (x ∷ t) e is h = omega arith
 
-ltb-false : (a b : ℕ) → b ≤ a → ltb a b ≡ false
-ltb-false a b h = false_from_ne_true (ltb a b) (λ e. absurd (omega (arith, ltb-true a b e)))
-
 -- The loop for the indent.
 pub detect_blank : (least most i b : ℕ) (t l a : List ℕ) → lines_of t ≡ l ∷ lines_of a → is_blank l ≡ true → i ≡ spaces l → b ≡ cond (ltb most i) i most → detected_at least b (lines_of a) ≡ detected_at least most (lines_of t)
 unfolding detected_at
@@ -46,7 +42,7 @@ pub detect_more : (least most i : ℕ) (t l a : List ℕ) → lines_of t ≡ l �
 detect_more least most i t l a e h is m = detect_blank least most i i t l a e h is (rw (lt-ltb most i m) refl)
 
 pub detect_same : (least most i : ℕ) (t l a : List ℕ) → lines_of t ≡ l ∷ lines_of a → is_blank l ≡ true → i ≡ spaces l → i ≤ most → detected_at least most (lines_of a) ≡ detected_at least most (lines_of t)
-detect_same least most i t l a e h is m = detect_blank least most i most t l a e h is (rw (ltb-false most i m) refl)
+detect_same least most i t l a e h is m = detect_blank least most i most t l a e h is (rw (le-ltb most i m) refl)
 
 pub detect_low : (least most i : ℕ) (t l a : List ℕ) → lines_of t ≡ l ∷ lines_of a → is_blank l ≡ false → i ≡ spaces l → i < least → detected_at least most (lines_of t) ≡ Some (record { columns = least; known = false })
 unfolding detected_at
@@ -54,11 +50,11 @@ detect_low least most i t l a e h is m = let test = rw is at (lt-ltb i least m) 
 
 pub detect_refused : (least most i : ℕ) (t l a : List ℕ) → lines_of t ≡ l ∷ lines_of a → is_blank l ≡ false → i ≡ spaces l → least ≤ i → i < most → detected_at least most (lines_of t) ≡ None
 unfolding detected_at
-detect_refused least most i t l a e h is m k = let high = rw is at (ltb-false i least m) in let test = rw is at (lt-ltb i most k) in rw (e, h, high, test) refl
+detect_refused least most i t l a e h is m k = let high = rw is at (le-ltb i least m) in let test = rw is at (lt-ltb i most k) in rw (e, h, high, test) refl
 
 pub detect_found : (least most i : ℕ) (t l a : List ℕ) → lines_of t ≡ l ∷ lines_of a → is_blank l ≡ false → i ≡ spaces l → least ≤ i → most ≤ i → detected_at least most (lines_of t) ≡ Some (record { columns = i; known = true })
 unfolding detected_at
-detect_found least most i t l a e h is m k = let high = rw is at (ltb-false i least m) in let test = rw is at (ltb-false i most k) in rw (e, h, high, test, is) refl
+detect_found least most i t l a e h is m k = let high = rw is at (le-ltb i least m) in let test = rw is at (le-ltb i most k) in rw (e, h, high, test, is) refl
 
 pub detect_end : (least most : ℕ) (t : List ℕ) → t ≡ [] → detected_at least most (lines_of t) ≡ Some (record { columns = least; known = false })
 unfolding detected_at lines_of
@@ -93,7 +89,7 @@ loose : (l : List ℕ) (ls : Lines) (w s : ℕ) (x : Lines × Lines) → 0 < len
 loose l ls w s x some = ⊎_elim {0, 0, 0}
     (λ h. rw h (rw (nil_length (joined x.0) h) refl))
     (λ h. rw h (ap (λ n. counted w s (Some n)) (length-append l (joined x.0)) ∙ front_loose w s (length l) (length (joined x.0)) (some_length (joined x.0) h)))
-    (is_true (is_empty (joined x.0)))
+    (cases_Bool (is_empty (joined x.0)))
 
 pub len_kept : (l : List ℕ) (ls : Lines) (w s : ℕ) (o : Option (Lines × Lines)) → 0 < length l → counted w s (raw_len (o >>= with_empty true l ls)) ≡ counted (s + length l) (s + length l) (raw_len o)
 len_kept l ls w s None some = refl

@@ -1,10 +1,9 @@
 -- The header that is written, and the loop that writes the lines.
 use Rattle.std.proofs.Common.{◌≡◌, ℕ, suc, ◌-◌, ◌<◌, ◌≤◌, Bool, false, cond, eqb, List, [], ◌∷◌, ◌++◌, length, take, drop, refl, sym, ap, ◌∙◌, ⊎_elim, arith, eqb-true, append_assoc, append-nil}
-use Rattle.std.proofs.lemmas.Bool.{false≢true, false_from_ne_true}
+use Rattle.std.proofs.lemmas.Bool.{false≢true, false_from_ne_true, cases_Bool}
 use Rattle.std.specs.List.{ends_with}
 use Rattle.std.specs.Cmp.Lexicographic.{pointwise}
 use Rattle.std.specs.Prelude.{nat_eq}
-use Rattle.yq_scalar.proofs.Bools.{is_true}
 use Rattle.yq_scalar.proofs.LineLaws.{line_step}
 use Rattle.yq_scalar.specs.Block.{Lines, no_lines}
 use Rattle.yq_scalar.specs.BlockContent.{line_text}
@@ -43,25 +42,25 @@ swap : (b k : ℕ) → eqb k b ≡ eqb b k
 swap b k = ⊎_elim {0, 0, 0}
     (λ e. let same : b ≡ k = eqb-true b k e in ap (λ x. eqb k x) same ∙ ap (λ x. eqb x k) (sym same))
     (λ e. false_from_ne_true (eqb k b) (λ f. let same : k ≡ b = eqb-true k b f in false≢true (sym e ∙ (ap (λ x. eqb x k) (sym same) ∙ (ap (λ x. eqb k x) same ∙ f)))) ∙ sym e)
-    (is_true (eqb b k))
+    (cases_Bool (eqb b k))
 
 -- how a text ends, with a byte more in front
 pub ends_next : (b : ℕ) (s n : List ℕ) → length n ≤ length s → ends_with nat_eq (b ∷ s) n ≡ ends_with nat_eq s n
 ends_next b s n h = let e : length (b ∷ s) - length n ≡ suc (length s - length n) = omega arith in ap (λ k. pointwise nat_eq n (drop k (b ∷ s))) e
 
 ends_one : (b : ℕ) → ends_with nat_eq (b ∷ []) (10 ∷ []) ≡ eqb b 10
-ends_one b = ⊎_elim {0, 0, 0} (λ e. rw (swap b 10) (rw e refl)) (λ e. rw (swap b 10) (rw e refl)) (is_true (eqb b 10))
+ends_one b = ⊎_elim {0, 0, 0} (λ e. rw (swap b 10) (rw e refl)) (λ e. rw (swap b 10) (rw e refl)) (cases_Bool (eqb b 10))
 
 closed_is : (b : ℕ) (s : List ℕ) → closed (lines_of (b ∷ s)) ≡ ends_with nat_eq (b ∷ s) (10 ∷ [])
 unfolding closed lines_of is_line
-closed_is b [] = ⊎_elim {0, 0, 0} (λ e. rw (ends_one b) (rw e (rw e refl))) (λ e. rw (ends_one b) (rw e (rw e refl))) (is_true (eqb b 10))
+closed_is b [] = ⊎_elim {0, 0, 0} (λ e. rw (ends_one b) (rw e (rw e refl))) (λ e. rw (ends_one b) (rw e (rw e refl))) (cases_Bool (eqb b 10))
 closed_is b (c ∷ s) =
     let again = closed_is c s ∙ sym (ends_next b (c ∷ s) (10 ∷ []) (omega arith)) in
     let f = some_lines (c ∷ s) (omega arith) in
     ⊎_elim {0, 0, 0}
     (λ e. rw e (ap (λ ls. closed ((b ∷ []) ∷ ls)) f.2 ∙ (closed_break b f.0 f.1 ∙ (ap closed (sym f.2) ∙ again))))
     (λ e. rw e (ap (λ ls. closed (put_byte b ls)) f.2 ∙ (closed_put b f.0 f.1 e ∙ (ap closed (sym f.2) ∙ again))))
-    (is_true (eqb b 10))
+    (cases_Bool (eqb b 10))
 
 pub chomping_is : (s : List ℕ) (c : Bool) → c ≡ ends_in_feed s → chomping_of (lines_of s) ≡ chomping_by c
 unfolding lines_of closed

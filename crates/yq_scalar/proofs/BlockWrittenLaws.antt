@@ -1,8 +1,8 @@
 -- What is written is a block scalar and stands for the text.
 use Rattle.std.proofs.Common.{◌≡◌, ℕ, ◌+◌, ◌≤◌, Bool, true, false, cond, not, ◌&&◌, eqb, List, [], ◌∷◌, ◌++◌, length, drop, replicate, refl, sym, ap, ◌∙◌, subst, inl, inr, ⊎_elim, arith}
-use Rattle.std.proofs.lemmas.Bool.{false≢true, not-true}
+use Rattle.std.proofs.lemmas.Bool.{false≢true, not-true, and_parts, or_parts}
+use mathlib.Core.List.{cons≢nil}
 use Rattle.yq_scalar.proofs.BlockWrittenLines.{IsText, IsBreak, break_is, given_indent, not_end, some_text, line_regroup, indented_some, indented_raw, indented_part, NoCr, Good, text_next, lines_good}
-use Rattle.yq_scalar.proofs.Bools.{and_true, or_false}
 use Rattle.yq_scalar.proofs.LineLaws.{joined_lines, AreLines, lines_are}
 use Rattle.yq_scalar.proofs.SpaceLaws.{char_not_blank, prefix_none, spaces_front, drop_front}
 use Rattle.yq_scalar.specs.Block.{Lines, is_text_line, ends_block, AreRaw, no_lines, ends_in_text, IsDetected, keeps, is_tail, IsBlock}
@@ -52,9 +52,6 @@ never : (b : Bool) → broken (not (b && false)) ≡ broken true
 never true = refl
 never false = refl
 
-no_cons : {x : List ℕ} {xs : Lines} → x ∷ xs ≡ [] → ⊥
-no_cons h = cc
-
 written_says : (m : ℕ) (br : List ℕ) (ls : Lines) → IsBreak br → Good ls → AreLines ls → literal (not (closed ls)) (given_indent m) (written m br ls) ≡ joined ls
 unfolding written literal closed
 written_says m br [] b h a = refl
@@ -63,7 +60,7 @@ written_says m br (l ∷ []) b h a =
     let say : part_of (given_indent m) (indented m (line_text l) ++ br) ≡ line_text l = indented_part m (line_text l) br h.0.0 b in
     rw (say, same) (ap (λ x. x ++ []) (sym h.0.1))
 written_says m br (l ∷ k ∷ ls) b h a =
-    let line : is_line l ≡ true = ⊎_elim {0, 0, 0} (λ e. e) (λ e. absurd (no_cons e)) a.0 in
+    let line : is_line l ≡ true = ⊎_elim {0, 0, 0} (λ e. e) (λ e. absurd (cons≢nil e)) a.0 in
     let more : broken (not (not (closed (k ∷ ls)) && false)) ≡ broken (is_line l) = rw line (never (not (closed (k ∷ ls)))) in
     let say : part_of (given_indent m) (indented m (line_text l) ++ br) ≡ line_text l = indented_part m (line_text l) br h.0.0 b in
     let front : part_of (given_indent m) (indented m (line_text l) ++ br) ++ broken (not (not (closed (k ∷ ls)) && false)) ≡ l = ap (λ p. p ++ broken (not (not (closed (k ∷ ls)) && false))) say ∙ (ap (λ x. line_text l ++ x) more ∙ sym h.0.1) in
@@ -76,7 +73,7 @@ put_first b [] = ([], [], refl)
 put_first b (l ∷ ls) = (l, ls, refl)
 
 white_parts : (b : ℕ) → is_white b ≡ false → (eqb b 32 ≡ false) × (eqb b 9 ≡ false)
-white_parts b h = or_false (eqb b 32) (eqb b 9) h
+white_parts b h = or_parts (eqb b 32) (eqb b 9) h
 
 first_line : (b : ℕ) (s : List ℕ) → eqb b 10 ≡ false → (l : List ℕ) × (ls : Lines) × (lines_of (b ∷ s) ≡ (b ∷ l) ∷ ls)
 unfolding lines_of
@@ -100,7 +97,7 @@ written_detected least m b br l ls le white e n =
 written_indent : (least m : ℕ) (br s : List ℕ) → least ≤ m → begins_char s ≡ true → NoCr s → IsDetected least (given_indent m) (written m br (lines_of s))
 written_indent least m br [] le h n = absurd (false≢true h)
 written_indent least m br (b ∷ s) le h n =
-    let parts = and_true (not (is_white b)) (not (eqb b 10)) h in
+    let parts = and_parts (not (is_white b)) (not (eqb b 10)) h in
     let lf : eqb b 10 ≡ false = not-true (eqb b 10) parts.1 in
     let f = first_line b s lf in
     subst (λ ls. IsDetected least (given_indent m) (written m br ls)) (sym f.2) (written_detected least m b br f.0 f.1 le (not-true (is_white b) parts.0) lf n.0)

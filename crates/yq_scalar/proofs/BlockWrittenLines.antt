@@ -1,10 +1,8 @@
 -- A line that is written, and what it stands for.
 use Rattle.std.proofs.Common.{◌≡◌, ℕ, zero, suc, ◌+◌, ◌≤◌, true, false, not, ◌&&◌, eqb, leb, min, List, [], ◌∷◌, ◌++◌, length, take, drop, replicate, refl, sym, ap, ◌∙◌, subst, inl, inr, ◌⊎◌, ⊎_elim, arith, eqb-true, append_assoc}
-use Rattle.std.proofs.lemmas.Bool.{false≢true, cond_both, false_from_ne_true, leb-true, le-leb}
+use Rattle.std.proofs.lemmas.Bool.{false≢true, cond_both, false_from_ne_true, leb-true, le-leb, and_from, and_parts}
 use Rattle.std.proofs.Math.Seq.{take-append_seam}
 use Rattle.yq_scalar.specs.declared.block_written.Break.TheVariants as breaks
-use Rattle.yq_scalar.proofs.Bools.{and_true}
-use Rattle.yq_scalar.proofs.RawLaws.{both}
 use Rattle.yq_scalar.proofs.SpaceLaws.{spaces_front, drop_front}
 use Rattle.yq_scalar.specs.Block.{Lines, is_empty_line, is_text_line, IsRawLine}
 use Rattle.yq_scalar.specs.BlockContent.{line_text, unindented, part_of, broken}
@@ -56,7 +54,7 @@ not_end b t h k = rw (h, k) refl
 some_not_empty : (m b : ℕ) (p br : List ℕ) → IsText (b ∷ p) → is_empty_line (given_indent m) (replicate m 32 ++ ((b ∷ p) ++ br)) ≡ false
 some_not_empty m b p br h = false_from_ne_true _ (λ e.
     let t : List ℕ = (b ∷ p) ++ br in
-    let parts = and_true (ends_line (behind_spaces (replicate m 32 ++ t))) (leb (spaces (replicate m 32 ++ t)) m) e in
+    let parts = and_parts (ends_line (behind_spaces (replicate m 32 ++ t))) (leb (spaces (replicate m 32 ++ t)) m) e in
     let low : spaces (replicate m 32 ++ t) ≤ m = leb-true _ _ parts.1 in
     let n : spaces (replicate m 32 ++ t) ≡ m + spaces t = spaces_front m t in
     let none : spaces t ≡ 0 = omega arith in
@@ -68,7 +66,7 @@ some_text m b p br h =
     let t : List ℕ = (b ∷ p) ++ br in
     let n : spaces (replicate m 32 ++ t) ≡ m + spaces t = spaces_front m t in
     let deep : leb m (spaces (replicate m 32 ++ t)) ≡ true = le-leb m (spaces (replicate m 32 ++ t)) (omega arith) in
-    both (not (is_empty_line (given_indent m) (replicate m 32 ++ t)) && true) (leb m (spaces (replicate m 32 ++ t))) (rw (some_not_empty m b p br h) refl) deep
+    and_from (not (is_empty_line (given_indent m) (replicate m 32 ++ t)) && true) (leb m (spaces (replicate m 32 ++ t))) (rw (some_not_empty m b p br h) refl) deep
 
 break_empty : (m : ℕ) (br : List ℕ) → IsBreak br → is_empty_line (given_indent m) br ≡ true
 break_empty m br h =

@@ -1,19 +1,7 @@
 -- Tests, options and the steps of readers.
-use Rattle.std.proofs.Common.{◌≡◌, ◌⊎◌, ℕ, ◌+◌, ◌<◌, Bool, true, false, cond, ◌&&◌, ◌||◌, eqb, Option, Some, None, refl, sym, ap, ◌∙◌, inl, inr, arith, eqb-true}
+use Rattle.std.proofs.Common.{◌≡◌, ◌⊎◌, ℕ, ◌+◌, ◌<◌, Bool, true, false, cond, eqb, Option, Some, None, refl, sym, ap, ◌∙◌, inl, inr, arith, eqb-true}
 use Rattle.std.proofs.lemmas.Bool.{false≢true, false_from_ne_true}
 use Rattle.yq_scalar.specs.Answers.{◌>>=◌, more}
-
-pub is_true : (b : Bool) → (b ≡ true) ⊎ (b ≡ false)
-is_true true = inl refl
-is_true false = inr refl
-
-pub and_true : (x y : Bool) → (x && y) ≡ true → (x ≡ true) × (y ≡ true)
-and_true true y h = (refl, h)
-and_true false y h = absurd (false≢true h)
-
-pub or_false : (x y : Bool) → (x || y) ≡ false → (x ≡ false) × (y ≡ false)
-or_false false y h = (refl, h)
-or_false true y h = absurd (false≢true (sym h))
 
 -- which way a test went
 pub chosen : {A : Type 0} {x y z : A} (b : Bool) → cond b x y ≡ z → ((b ≡ true) × (x ≡ z)) ⊎ ((b ≡ false) × (y ≡ z))
@@ -23,10 +11,6 @@ chosen false h = inr (refl, h)
 pub guard_then : {A : Type 0} {x : Option A} {y : A} (b : Bool) → cond b x None ≡ Some y → (b ≡ true) × (x ≡ Some y)
 guard_then true h = (refl, h)
 guard_then false h = cc
-
-pub guard_some : {A : Type 0} {x y : A} (b : Bool) → cond b (Some x) None ≡ Some y → (b ≡ true) × (x ≡ y)
-guard_some true h = (refl, cc)
-guard_some false h = cc
 
 pub bind_some : {A B : Type 0} {f : A → Option B} {y : B} (r : Option A) → (r >>= f) ≡ Some y → (x : A) × (r ≡ Some x) × (f x ≡ Some y)
 bind_some (Some x) h = (x, refl, h)

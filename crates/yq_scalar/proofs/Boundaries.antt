@@ -1,12 +1,11 @@
 -- Where a text may be cut.
 use Rattle.std.proofs.Common.{◌≡◌, ℕ, zero, suc, ◌+◌, ◌<◌, ◌≤◌, Bool, true, ◌&&◌, eqb, min, List, [], ◌∷◌, length, drop, get_or, refl, ⊎_elim, subst, arith, eqb-true, drop-cons}
-use Rattle.std.proofs.lemmas.Bool.{or_cases, cases_lt}
+use Rattle.std.proofs.lemmas.Bool.{or_cases, cases_lt, and_parts}
 use Rattle.std.proofs.lemmas.List.Sums.{prefix_len_passes}
 use Rattle.std.proofs.lemmas.Str.{IsCharBoundary-start, IsCharBoundary-end, IsCharBoundary-after_ascii}
 use Rattle.std.specs.List.{prefix_len}
 use Rattle.std.specs.Str.{IsUtf8, IsCharBoundary}
 use Rattle.yq_scalar.specs.Text.{upto, at_feed, unless, is_white, is_break, is_space, ends_line, is_return, is_feed, front, line_len}
-use Rattle.yq_scalar.proofs.Bools.{and_true}
 use Rattle.yq_scalar.proofs.Upto.{upto_le_length, upto_ends, upto_unless}
 use Rattle.yq_scalar.proofs.Breaks.{line_len-feed}
 
@@ -36,7 +35,7 @@ pub white_ascii : (b : ℕ) → is_white b ≡ true → b < 128
 white_ascii b h = ⊎_elim (λ e. omega (arith, eqb-true b 32 e)) (λ e. omega (arith, eqb-true b 9 e)) (or_cases (eqb b 32) (eqb b 9) h)
 
 pub break_ascii : (b : ℕ) (bs : List ℕ) → is_break (b ∷ bs) ≡ true → b < 128
-break_ascii b bs h = ⊎_elim (λ e. omega (arith, eqb-true b 10 e)) (λ e. omega (arith, eqb-true b 13 (and_true (is_return b) (front is_feed bs) e).0)) (or_cases (is_feed b) (is_return b && front is_feed bs) h)
+break_ascii b bs h = ⊎_elim (λ e. omega (arith, eqb-true b 10 e)) (λ e. omega (arith, eqb-true b 13 (and_parts (is_return b) (front is_feed bs) e).0)) (or_cases (is_feed b) (is_return b && front is_feed bs) h)
 
 pub space_ascii : (b : ℕ) (bs : List ℕ) → is_space (b ∷ bs) ≡ true → b < 128
 space_ascii b bs h = ⊎_elim (λ e. white_ascii b e) (λ e. break_ascii b bs e) (or_cases (is_white b) (is_break (b ∷ bs)) h)

@@ -1,11 +1,10 @@
 -- Bytes and characters.
 use Rattle.std.proofs.Common.{◌≡◌, ℕ, suc, ◌<◌, ◌≤◌, Bool, true, List, [], ◌∷◌, ◌++◌, length, get_or, sym, ⊎_elim, subst, arith, append-nil}
 use Rattle.std.proofs.Math.Utf8.{encodes, encode}
-use Rattle.std.proofs.lemmas.Bool.{cases_lt}
+use Rattle.std.proofs.lemmas.Bool.{cases_lt, and_parts}
 use Rattle.std.proofs.lemmas.Str.{inside_one, encodes-chars}
 use Rattle.std.specs.List.{list_all}
 use Rattle.std.specs.Str.{chars, IsUtf8}
-use Rattle.yq_scalar.proofs.Bools.{and_true}
 
 -- each byte passes
 abbrev pub Each : (ℕ → Bool) → List ℕ → Type 0
@@ -33,7 +32,7 @@ each_encode p c low high = each_from p (encode c) (λ k le.
 pub each_encodes : (p q : ℕ → Bool) (cs : List ℕ) → list_all q cs ≡ true → ((c : ℕ) → c < 128 → q c ≡ true → p c ≡ true) → ((b : ℕ) → 128 ≤ b → p b ≡ true) → Each p (encodes cs)
 each_encodes p q [] h low high = tt
 each_encodes p q (c ∷ cs) h low high =
-    let parts = and_true (q c) (list_all q cs) h in
+    let parts = and_parts (q c) (list_all q cs) h in
     Each-append p (encode c) (encodes cs) (each_encode p c (λ lt. low c lt parts.0) high) (each_encodes p q cs parts.1 low high)
 
 -- what is said of all characters of a text, said of its bytes

@@ -1,14 +1,15 @@
 -- The characters of quoted scalars: what is read is what is written.
 use Rattle.std.proofs.Common.{◌≡◌, ℕ, zero, suc, ◌+◌, ◌*◌, true, false, eqb, eqb-true, List, [], ◌∷◌, ◌++◌, length, take, drop, Option, Some, None, refl, sym, ap, ◌∙◌, subst, inl, inr, ◌⊎◌, arith}
-use Rattle.std.proofs.lemmas.Bool.{ltb-true, lt-ltb}
+use Rattle.std.proofs.lemmas.Bool.{ltb-true, lt-ltb, cases_Bool}
 use Rattle.std.proofs.Math.Utf8.{encode}
+use Rattle.std.proofs.lemmas.Option.{cond_some}
 use Rattle.std.specs.Char.{digit_value}
 use Rattle.std.specs.Str.Parse.{AllDigits, digits_value, digits_value_after}
 use Rattle.yq_scalar.specs.Text.{is_break}
 use Rattle.yq_scalar.specs.Quoted.{letters, beside, digit_counts, is_unicode, Char, escape as letter_escape, code, spell_char, char_text, bytes_of, IsChar}
 use Rattle.yq_scalar.specs.SchemaReading.{is_digit}
 use Rattle.yq_scalar.specs.QuotedReading.{hex, hex_digit, escape, coded, lettered}
-use Rattle.yq_scalar.proofs.Bools.{is_true, chosen, guard_some, bind_some}
+use Rattle.yq_scalar.proofs.Bools.{chosen, bind_some}
 
 -- digits in front are read as the number that they write
 pub hex_again : (v : ℕ) (digits rest : List ℕ) → AllDigits 16 digits → hex (length digits) v (digits ++ rest) ≡ Some (digits_value_after 16 v digits)
@@ -29,7 +30,7 @@ hex_takes zero v w t h = record { all = tt; many = refl; cut = refl; value = let
 hex_takes (suc n) v w [] h = absurd (let e : None ≡ Some w = h in cc)
 hex_takes (suc n) v w (b ∷ bs) h =
     let x = bind_some (hex_digit b) h in
-    let digit = guard_some (is_digit 16 b) x.1 in
+    let digit = cond_some (is_digit 16 b) _ _ x.1 in
     let rest = hex_takes n (v * 16 + x.0) w bs x.2 in
     record {
       all = (ltb-true _ _ digit.0, rest.all);
@@ -40,7 +41,7 @@ hex_takes (suc n) v w (b ∷ bs) h =
 
 -- a letter of the table isn't one that digits follow, and begins no break
 letter_not : (letter c k : ℕ) → beside letter letters ≡ Some c → beside k letters ≡ None → eqb letter k ≡ false
-letter_not letter c k h none = elim (is_true (eqb letter k)) [
+letter_not letter c k h none = elim (cases_Bool (eqb letter k)) [
   | inl e ↦ absurd (let same : beside k letters ≡ Some c = subst (λ (x : ℕ). beside x letters ≡ Some c) (eqb-true letter k e) h in let no : None ≡ Some c = sym none ∙ same in cc)
   | inr e ↦ e
 ]
@@ -99,7 +100,7 @@ pub record Escaped (c k : ℕ) (t : List ℕ) : Type 0 where
 
 by_digits : (letter n c k v : ℕ) (t : List ℕ) → beside letter digit_counts ≡ Some n → hex n 0 t ≡ Some v → coded n (Some v) ≡ Some (c, k) → Escaped c k (letter ∷ t)
 by_digits letter n c k v t count read h =
-    let guard = guard_some (is_unicode v) h in
+    let guard = cond_some (is_unicode v) _ _ h in
     let d = hex_takes n 0 v t read in
     let size : suc n ≡ k = ap (λ (p : ℕ × ℕ). p.1) guard.1 in
     let same : v ≡ c = ap (λ (p : ℕ × ℕ). p.0) guard.1 in

@@ -1,6 +1,6 @@
 -- What is read as the content of a scalar is what its lines stand for.
 use Rattle.std.proofs.Common.{◌≡◌, ℕ, ◌+◌, ◌-◌, ◌<◌, Bool, true, false, cond, eqb, List, [], ◌∷◌, ◌++◌, length, take, drop, get_or, Option, Result, Ok, Err, IfOk, refl, sym, inl, inr, ◌&&◌, ap, ◌∙◌, subst, arith, eqb-true, append_assoc, append-nil, length-append, length-drop}
-use Rattle.std.proofs.lemmas.Bool.{false≢true}
+use Rattle.std.proofs.lemmas.Bool.{false≢true, and_parts, cases_Bool, or_parts}
 use Rattle.std.proofs.Math.Seq.{take-append_seam}
 use Rattle.std.proofs.Math.Utf8.{encode}
 use Rattle.std.proofs.lemmas.Str.{IsCharBoundary-after_ascii, IsCharBoundary-before_ascii}
@@ -8,7 +8,6 @@ use Rattle.std.specs.Str.{IsUtf8, IsCharBoundary}
 use Rattle.yq_scalar.specs.Text.{is_white, is_break, is_feed, is_return, front}
 use Rattle.yq_scalar.specs.Quoted.{Char, itself, doubled, escape as letter_escape, code, spell_char, spell_chars, char_text, chars_text, bytes_of, IsChar, AreChars, Break, line_feed, return_feed, spell_break, spell_end, Lines, last, line, spell_lines, AreLines, is_blank, are_blank, past_blanks, before_blanks, Gap, folded, joined, one_more, gap_text, lines_text, content, IsQuoted}
 use Rattle.yq_scalar.specs.ContentReading.{Before, within, after, broken, filled, content_on, content_of, quoted_content, is_pair}
-use Rattle.yq_scalar.proofs.Bools.{is_true, and_true, or_false}
 use Rattle.yq_scalar.proofs.QuotedLaws.{of_quotes}
 use Rattle.yq_scalar.proofs.QuotedFound.{at_seam}
 use Rattle.yq_scalar.proofs.CharLaws.{IsEscape, code_escape, letter_is_escape}
@@ -44,8 +43,8 @@ no_later_feed (c ∷ t) rest b h = h
 pub itself_means : (q b : ℕ) (t : List ℕ) → is_break (b ∷ t) ≡ false → (eqb q 34 && eqb b 92) ≡ false → is_pair q (b ∷ t) ≡ false → Means q (itself b) t
 unfolding content_on
 itself_means q b t brk slash pair before w =
-    let n = or_false (is_feed b) (is_return b && front is_feed t) brk in
-    elim (is_true (is_white b)) [
+    let n = or_parts (is_feed b) (is_return b && front is_feed t) brk in
+    elim (cases_Bool (is_white b)) [
       | inl white ↦ rw white refl
       | inr black ↦ rw (black, n.0, n.1, slash, pair) refl
     ]
@@ -55,16 +54,16 @@ unfolding content_on
 doubled_means t before w = refl
 
 no_pair : (q b : ℕ) (t : List ℕ) → eqb b q ≡ false → is_pair q (b ∷ t) ≡ false
-no_pair q b t h = elim (is_true (is_pair q (b ∷ t))) [
-  | inl e ↦ absurd (let p = and_true (eqb q 39 && eqb b 39) (front (λ c. eqb c 39) t) e in
-      let r = and_true (eqb q 39) (eqb b 39) p.0 in
+no_pair q b t h = elim (cases_Bool (is_pair q (b ∷ t))) [
+  | inl e ↦ absurd (let p = and_parts (eqb q 39 && eqb b 39) (front (λ c. eqb c 39) t) e in
+      let r = and_parts (eqb q 39) (eqb b 39) p.0 in
       let other : eqb b 39 ≡ false = subst (λ (x : ℕ). eqb b x ≡ false) (eqb-true q 39 r.0) h in false≢true (sym other ∙ r.1))
   | inr e ↦ e
 ]
 
 char_means : (q : ℕ) (c : Char) (t rest : List ℕ) → IsChar q c (t ++ rest) → Means q c t
 char_means q (itself b) t rest h =
-    let n = or_false (is_feed b) (is_return b && front is_feed (t ++ rest)) h.1 in
+    let n = or_parts (is_feed b) (is_return b && front is_feed (t ++ rest)) h.1 in
     let brk : is_break (b ∷ t) ≡ false = rw (n.0, no_later_feed t rest (is_return b) n.1) refl in
     itself_means q b t brk h.2 (no_pair q b t h.0)
 char_means q doubled t rest h = subst (λ (x : ℕ). Means x doubled t) (sym h) (doubled_means t)
@@ -112,7 +111,7 @@ unfolding Fills
 within_fill q [] t x w h f = f within w
 within_fill q (c ∷ cs) t x w h f =
     let first = ap (content_on q 0 within w) (append_assoc (spell_char c) (spell_chars cs) t) ∙ h.0 within w in
-    elim (is_true (is_blank c)) [
+    elim (cases_Bool (is_blank c)) [
       | inl e ↦ (rw e at first) ∙ (within_fill q cs t x (w ++ char_text c) h.1 f ∙ (append_assoc w (char_text c) (chars_text cs ++ x) ∙ ap (λ l. w ++ l) (sym (append_assoc (char_text c) (chars_text cs) x))))
       | inr e ↦ (rw e at first) ∙ (ap (λ l. w ++ (char_text c ++ l)) (within_fill q cs t x [] h.1 f) ∙ ap (λ l. w ++ l) (sym (append_assoc (char_text c) (chars_text cs) x)))
     ]
@@ -131,8 +130,8 @@ within_drop q [] t u w h d = d within w
 within_drop q (c ∷ cs) t u w h d =
     let x = content_on q 0 (after (folded 0)) [] u in
     let first = ap (content_on q 0 within w) (append_assoc (spell_char c) (spell_chars cs) t) ∙ h.0 within w in
-    elim (is_true (is_blank c)) [
-      | inl e ↦ (rw e at first) ∙ (within_drop q cs t u (w ++ char_text c) h.1 d ∙ elim (is_true (are_blank cs)) [
+    elim (cases_Bool (is_blank c)) [
+      | inl e ↦ (rw e at first) ∙ (within_drop q cs t u (w ++ char_text c) h.1 d ∙ elim (cases_Bool (are_blank cs)) [
         | inl all ↦ rw (e, all, blank_before cs all) refl
         | inr some ↦ rw (e, some) (append_assoc w (char_text c) (chars_text (before_blanks cs) ++ x) ∙ ap (λ l. w ++ l) (sym (append_assoc (char_text c) (chars_text (before_blanks cs)) x)))
       ])
@@ -146,7 +145,7 @@ unfolding Fills
 after_fill q g [] t x w h f = f (after g) w
 after_fill q g (c ∷ cs) t x w h f =
     let first = ap (content_on q 0 (after g) w) (append_assoc (spell_char c) (spell_chars cs) t) ∙ h.0 (after g) w in
-    elim (is_true (is_blank c)) [
+    elim (cases_Bool (is_blank c)) [
       | inl e ↦ (rw e at first) ∙ (after_fill q g cs t x (w ++ char_text c) h.1 f ∙ rw e refl)
       | inr e ↦ (rw e at first) ∙ (ap (λ l. gap_text g ++ (char_text c ++ l)) (within_fill q cs t x [] h.1 f) ∙ rw e (ap (λ l. gap_text g ++ l) (sym (append_assoc (char_text c) (chars_text cs) x))))
     ]
@@ -158,7 +157,7 @@ after_drop q g [] t u w h d = d (after g) w
 after_drop q g (c ∷ cs) t u w h d =
     let x = content_on q 0 (after (folded 0)) [] u in
     let first = ap (content_on q 0 (after g) w) (append_assoc (spell_char c) (spell_chars cs) t) ∙ h.0 (after g) w in
-    elim (is_true (is_blank c)) [
+    elim (cases_Bool (is_blank c)) [
       | inl e ↦ (rw e at first) ∙ (after_drop q g cs t u (w ++ char_text c) h.1 d ∙ rw e refl)
       | inr e ↦ (rw e at first) ∙ (ap (λ l. gap_text g ++ (char_text c ++ l)) (within_drop q cs t u [] h.1 d ∙ ap (λ l. l ++ (chars_text (before_blanks cs) ++ x)) (cond_same (are_blank cs) []))
           ∙ rw (e, e) (ap (λ l. gap_text g ++ l) (sym (append_assoc (char_text c) (chars_text (before_blanks cs)) x))))

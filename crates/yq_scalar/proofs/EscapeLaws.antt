@@ -1,6 +1,7 @@
 -- Escapes: how long they are, and that they are ASCII.
 use Rattle.std.proofs.Common.{◌≡◌, ℕ, zero, suc, ◌+◌, ◌*◌, ◌<◌, ◌≤◌, Bool, true, false, ◌&&◌, not, eqb, ltb, eqb-true, List, [], ◌∷◌, length, drop, get_or, Option, Some, None, refl, sym, ap, ◌∙◌, inl, inr, arith}
-use Rattle.std.proofs.lemmas.Bool.{false≢true, ltb-true, cases_lt, le-ltb}
+use Rattle.std.proofs.lemmas.Bool.{false≢true, ltb-true, cases_lt, le-ltb, and_parts}
+use Rattle.std.proofs.lemmas.Option.{cond_some, same_Some}
 use Rattle.std.specs.Char.{digit_value}
 use Rattle.std.specs.List.{list_all}
 use Rattle.yq_scalar.specs.Answers.{◌>>=◌, more}
@@ -8,7 +9,7 @@ use Rattle.yq_scalar.specs.Text.{is_break, is_marker}
 use Rattle.yq_scalar.specs.Quoted.{letters, beside, is_unicode}
 use Rattle.yq_scalar.specs.SchemaReading.{is_digit}
 use Rattle.yq_scalar.specs.QuotedReading.{hex, hex_digit, escape, behind, closes, coded, lettered, length_of, quoted_len}
-use Rattle.yq_scalar.proofs.Bools.{and_true, chosen, guard_some, bind_some, more_more, more_none}
+use Rattle.yq_scalar.proofs.Bools.{chosen, bind_some, more_more, more_none}
 use Rattle.yq_scalar.proofs.Across.{rest_of, rest_is}
 
 quote_only : (b : Bool) → (true && not (b && false)) ≡ true
@@ -37,7 +38,7 @@ pub hex_some : (m v w : ℕ) (t : List ℕ) → hex 2 v t ≡ Some w → hex (su
 hex_some m v w t h = hex_split m v t ∙ ap (λ o. o >>= (λ w. hex m w (drop 2 t))) h
 
 pub digit_below : (b d : ℕ) → hex_digit b ≡ Some d → d < 16
-digit_below b d h = let g = guard_some (is_digit 16 b) h in omega (arith, ltb-true (digit_value b) 16 g.0, g.1)
+digit_below b d h = let g = cond_some (is_digit 16 b) _ _ h in omega (arith, ltb-true (digit_value b) 16 g.0, g.1)
 
 -- the digits stand in the text
 pub hex_within : (n v w : ℕ) (t : List ℕ) → hex n v t ≡ Some w → n ≤ length t
@@ -46,16 +47,13 @@ hex_within zero v w t h = omega arith
 hex_within (suc n) v w [] h = absurd (let e = h in cc)
 hex_within (suc n) v w (b ∷ t) h = let x = bind_some (hex_digit b) h in let again = hex_within n (v * 16 + x.0) w t x.2 in omega arith
 
-some_is : (x y : ℕ × ℕ) → Some x ≡ Some y → x ≡ y
-some_is x y h = cc
-
 scalar_len : (n c k : ℕ) (o : Option ℕ) → coded n o ≡ Some (c, k) → (v : ℕ) × (o ≡ Some v) × (suc n ≡ k)
 scalar_len n c k None h = absurd (let e = h in cc)
-scalar_len n c k (Some v) h = let g = guard_some (is_unicode v) h in (v, refl, ap (λ p. p.1) g.1)
+scalar_len n c k (Some v) h = let g = cond_some (is_unicode v) _ _ h in (v, refl, ap (λ p. p.1) g.1)
 
 letter_len : (c k : ℕ) (o : Option ℕ) → lettered o ≡ Some (c, k) → 1 ≡ k
 letter_len c k None h = absurd (let e = h in cc)
-letter_len c k (Some v) h = ap (λ p. p.1) (some_is (v, 1) (c, k) h)
+letter_len c k (Some v) h = ap (λ p. p.1) (same_Some (v, 1) (c, k) h)
 
 pub escape_within : (t : List ℕ) (c k : ℕ) → escape t ≡ Some (c, k) → k ≤ length t
 unfolding escape
@@ -124,7 +122,7 @@ value_ascii b h = elim (cases_lt b 123) [
 ]
 
 digit_ascii : (b d : ℕ) → hex_digit b ≡ Some d → b < 128
-digit_ascii b d h = let g = guard_some (is_digit 16 b) h in value_ascii b (ltb-true (digit_value b) 16 g.0)
+digit_ascii b d h = let g = cond_some (is_digit 16 b) _ _ h in value_ascii b (ltb-true (digit_value b) 16 g.0)
 
 hex_ascii : (n v w : ℕ) (t : List ℕ) → hex n v t ≡ Some w → (j : ℕ) → j < n → get_or t j 0 < 128
 unfolding hex
@@ -136,7 +134,7 @@ hex_ascii (suc n) v w (b ∷ t) h (suc j) lt = let x = bind_some (hex_digit b) h
 letter_ascii : (b c : ℕ) (es : List (ℕ × ℕ)) → list_all (λ e. ltb e.0 128) es ≡ true → beside b es ≡ Some c → b < 128
 letter_ascii b c [] low h = absurd (let e = h in cc)
 letter_ascii b c (e ∷ es) low h =
-    let p = and_true (ltb e.0 128) (list_all (λ e. ltb e.0 128) es) low in
+    let p = and_parts (ltb e.0 128) (list_all (λ e. ltb e.0 128) es) low in
     elim (chosen (eqb b e.0) h) [
       | inl x ↦ omega (arith, eqb-true b e.0 x.0, ltb-true e.0 128 p.0)
       | inr x ↦ letter_ascii b c es p.1 x.1

@@ -1,17 +1,14 @@
 -- What white space and breaks stand for.
-use Rattle.std.proofs.Common.{◌≡◌, ℕ, zero, suc, ◌+◌, Bool, true, false, cond, not, List, [], ◌∷◌, ◌++◌, take, drop, replicate, refl, sym, inl, inr, ◌&&◌, ◌||◌, ap, ◌∙◌, arith, append_assoc, append-nil}
-use Rattle.std.proofs.lemmas.Bool.{false≢true, not-false}
+use Rattle.std.proofs.Common.{◌≡◌, ℕ, zero, suc, ◌+◌, Bool, true, false, cond, not, List, [], ◌∷◌, ◌++◌, take, drop, replicate, refl, sym, inl, inr, ◌&&◌, ap, ◌∙◌, arith, append_assoc, append-nil}
+use Rattle.std.proofs.Math.Bool.{or-true}
+use Rattle.std.proofs.lemmas.Bool.{false≢true, not-false, and_parts, cases_Bool, or_parts}
 use Rattle.std.proofs.lemmas.List.{take-append-drop}
 use Rattle.yq_scalar.specs.Text.{is_white, is_break, is_feed, is_return, is_space, front, upto, NoneIn}
 use Rattle.yq_scalar.specs.Quoted.{folded, joined, gap_text}
 use Rattle.yq_scalar.specs.ContentReading.{Before, within, after, filled, broken, content_on, breaks, spaced, space_text, before_of}
 use Rattle.yq_scalar.specs.Plain.{no_gap}
-use Rattle.yq_scalar.proofs.Bools.{is_true, and_true, or_false, at_byte}
+use Rattle.yq_scalar.proofs.Bools.{at_byte}
 use Rattle.yq_scalar.proofs.Upto.{none_in_cut}
-
-or_true : (x : Bool) → (x || true) ≡ true
-or_true true = refl
-or_true false = refl
 
 -- the gap behind k further breaks
 abbrev times : ℕ → Before → Before
@@ -29,9 +26,9 @@ is_spaced b t h = not-false (is_space (b ∷ t)) h
 over_space : (q : ℕ) (g : Before) (w s r : List ℕ) → NoneIn no_gap s r → content_on q 0 g w (s ++ r) ≡ content_on q 0 (times (breaks s) g) (since w s) r
 unfolding content_on breaks
 over_space q g w [] r h = refl
-over_space q g w (b ∷ s) r h = elim (is_true (is_white b)) [
+over_space q g w (b ∷ s) r h = elim (cases_Bool (is_white b)) [
   | inl y ↦ rw (y, at_byte is_white b 10 y refl) (over_space q g (w ++ b ∷ []) s r h.1)
-  | inr y ↦ elim (is_true (is_feed b)) [
+  | inr y ↦ elim (cases_Bool (is_feed b)) [
     | inl e ↦ rw (y, e) (over_space q (broken g) [] s r h.1)
     | inr e ↦ (let k : is_space (b ∷ (s ++ r)) ≡ true = is_spaced b (s ++ r) h.0 in
         let x : (is_return b && front is_feed (s ++ r)) ≡ true = rw (y, e) at k in
@@ -44,8 +41,8 @@ fill : (q : ℕ) (g : Before) (w r : List ℕ) → is_space r ≡ false → cont
 unfolding content_on
 fill q g w [] h = sym (append-nil (filled g w))
 fill q g w (b ∷ r) h =
-    let p = or_false (is_white b) (is_break (b ∷ r)) h in
-    let n = or_false (is_feed b) (is_return b && front is_feed r) p.1 in
+    let p = or_parts (is_white b) (is_break (b ∷ r)) h in
+    let n = or_parts (is_feed b) (is_return b && front is_feed r) p.1 in
     rw (p.0, n.0, n.1) refl
 
 times_joined : (k n : ℕ) → times k (after (joined n)) ≡ after (joined (n + k))
@@ -59,21 +56,21 @@ times_folded (suc k) n = times_folded k (suc n) ∙ ap (λ (i : ℕ). after (fol
 no_line : (s r : List ℕ) → front is_feed (s ++ r) ≡ true → is_space r ≡ false → breaks s ≡ 0 → ⊥
 unfolding breaks
 no_line [] [] f e n = false≢true f
-no_line [] (c ∷ r) f e n = let here : is_space (c ∷ r) ≡ true = rw f (or_true (is_white c)) in false≢true (sym e ∙ here)
+no_line [] (c ∷ r) f e n = let here : is_space (c ∷ r) ≡ true = rw f (or-true (is_white c)) in false≢true (sym e ∙ here)
 no_line (c ∷ s) r f e n = let m : suc (breaks s) ≡ 0 = rw f at n in omega (arith, m)
 
 -- without a break all of it is white space
 since_all : (w s r : List ℕ) → NoneIn no_gap s r → is_space r ≡ false → breaks s ≡ 0 → since w s ≡ w ++ s
 unfolding breaks
 since_all w [] r h e n = sym (append-nil w)
-since_all w (b ∷ s) r h e n = elim (is_true (is_white b)) [
+since_all w (b ∷ s) r h e n = elim (cases_Bool (is_white b)) [
   | inl y ↦ (let m : breaks s ≡ 0 = rw (at_byte is_white b 10 y refl) at n in rw y (since_all (w ++ b ∷ []) s r h.1 e m ∙ append_assoc w (b ∷ []) s))
-  | inr y ↦ elim (is_true (is_feed b)) [
+  | inr y ↦ elim (cases_Bool (is_feed b)) [
     | inl x ↦ absurd (let m : suc (breaks s) ≡ 0 = rw x at n in omega (arith, m))
     | inr x ↦ absurd (let m : breaks s ≡ 0 = rw x at n in
         let k : is_space (b ∷ (s ++ r)) ≡ true = is_spaced b (s ++ r) h.0 in
         let f : (is_return b && front is_feed (s ++ r)) ≡ true = rw (y, x) at k in
-        no_line s r (and_true (is_return b) (front is_feed (s ++ r)) f).1 e m)
+        no_line s r (and_parts (is_return b) (front is_feed (s ++ r)) f).1 e m)
   ]
 ]
 
@@ -92,7 +89,7 @@ content_space q j s r h e = over_space q (before_of j) [] s r h ∙ (fill q (tim
 pub space_ends : (t : List ℕ) → is_space (drop (upto no_gap t) t) ≡ false
 unfolding upto
 space_ends [] = refl
-space_ends (b ∷ bs) = elim (is_true (is_space (b ∷ bs))) [
+space_ends (b ∷ bs) = elim (cases_Bool (is_space (b ∷ bs))) [
   | inl s ↦ rw s (space_ends bs)
   | inr s ↦ rw s s
 ]

@@ -1,13 +1,13 @@
 -- The header of a block scalar, both ways.
 use Rattle.std.proofs.Common.{◌≡◌, ℕ, suc, ◌+◌, ◌-◌, ◌≤◌, true, false, cond, ◌&&◌, ◌||◌, eqb, leb, List, [], ◌∷◌, ◌++◌, length, take, Option, Some, None, refl, sym, ap, ◌∙◌, subst, inl, inr, ⊎_elim, arith, eqb-true, append_assoc, append-nil, length-append}
-use Rattle.std.proofs.lemmas.Bool.{false≢true, cond_both, or_cases, false_from_ne_true, leb-true, le-leb}
+use Rattle.std.proofs.lemmas.Bool.{false≢true, cond_both, or_cases, false_from_ne_true, leb-true, le-leb, and_parts, cases_Bool}
 use Rattle.std.proofs.lemmas.List.{take-append-drop}
 use Rattle.std.proofs.Math.Seq.{take-append_seam, drop-append_seam}
+use Rattle.std.proofs.lemmas.Option.{same_Some}
 use Rattle.yq_scalar.specs.declared.block_header.BlockStyle.TheVariants as styles
 use Rattle.yq_scalar.specs.declared.block_header.Chomping.TheVariants as chompings
-use Rattle.yq_scalar.proofs.Bools.{is_true, and_true, chosen}
+use Rattle.yq_scalar.proofs.Bools.{chosen}
 use Rattle.yq_scalar.proofs.LineLaws.{line_cut}
-use Rattle.yq_scalar.proofs.RawLaws.{some_same}
 use Rattle.yq_scalar.proofs.SpaceLaws.{white_drop}
 use Rattle.yq_scalar.specs.Block.{mark_of, IsDigit, digit_text, sign_text, IsIndicators, is_tail}
 use Rattle.yq_scalar.specs.BlockReading.{style_at, digit_at, sign_at, Indicators, indicators_behind, indicators_at, values, tail_at}
@@ -21,9 +21,9 @@ pub style_takes : (t : List ℕ) (x : BlockStyle × List ℕ) → style_at t ≡
 unfolding style_at
 style_takes [] x h = cc
 style_takes (b ∷ t) x h = ⊎_elim {0, 0, 0}
-    (λ w. subst (λ (y : BlockStyle × List ℕ). (b ∷ t) ≡ mark_of y.0 ∷ y.1) (some_same w.1) (ap (λ n. n ∷ t) (eqb-true b 124 w.0)))
+    (λ w. subst (λ (y : BlockStyle × List ℕ). (b ∷ t) ≡ mark_of y.0 ∷ y.1) (same_Some _ _ w.1) (ap (λ n. n ∷ t) (eqb-true b 124 w.0)))
     (λ w. ⊎_elim {0, 0, 0}
-    (λ v. subst (λ (y : BlockStyle × List ℕ). (b ∷ t) ≡ mark_of y.0 ∷ y.1) (some_same v.1) (ap (λ n. n ∷ t) (eqb-true b 62 v.0)))
+    (λ v. subst (λ (y : BlockStyle × List ℕ). (b ∷ t) ≡ mark_of y.0 ∷ y.1) (same_Some _ _ v.1) (ap (λ n. n ∷ t) (eqb-true b 62 v.0)))
     (λ v. cc) (chosen (eqb b 62) w.1))
     (chosen (eqb b 124) h)
 
@@ -39,7 +39,7 @@ IsDigitCut t x = (t ≡ digit_text x.0 ++ x.1) × IsDigit x.0
 digit_takes : (t : List ℕ) → IsDigitCut t (digit_at t)
 digit_takes [] = (refl, tt)
 digit_takes (b ∷ t) = cond_both (leb 49 b && leb b 57) (Some (b - 48), t) (None, b ∷ t) (IsDigitCut (b ∷ t))
-    (λ h. let parts = and_true (leb 49 b) (leb b 57) h in
+    (λ h. let parts = and_parts (leb 49 b) (leb b 57) h in
     let low : 49 ≤ b = leb-true 49 b parts.0 in
     let high : b ≤ 57 = leb-true b 57 parts.1 in
     let same : b ≡ 48 + (b - 48) = omega arith in
@@ -85,13 +85,13 @@ IsTailCut t x = (t ≡ x.0 ++ x.1) × (is_tail x.0 ≡ true)
 pub tail_takes : (t : List ℕ) (x : List ℕ × List ℕ) → tail_at t ≡ Some x → IsTailCut t x
 unfolding tail_at
 tail_takes t x h = ⊎_elim {0, 0, 0}
-    (λ w. subst (IsTailCut t) (some_same w.1) (sym (take-append-drop (line_len t) t), w.0))
+    (λ w. subst (IsTailCut t) (same_Some _ _ w.1) (sym (take-append-drop (line_len t) t), w.0))
     (λ w. cc) (chosen (is_tail (take (line_len t) t)) h)
 
 pub tail_again : (p rest : List ℕ) → is_tail p ≡ true → tail_at (p ++ rest) ≡ Some (p, rest)
 unfolding tail_at
 tail_again p rest h =
-    let parts = and_true (is_line p) _ h in
+    let parts = and_parts (is_line p) _ h in
     rw (line_cut p rest parts.0) (rw (take-append_seam, drop-append_seam) (rw h refl))
 
 -- what the header's line begins with
@@ -103,9 +103,9 @@ tail_low b l h = ⊎_elim {0, 0, 0}
     (λ e. ⊎_elim {0, 0, 0} (λ w. white_low b w)
     (λ w. let here : ends_line (b ∷ l) ≡ true = rw w at (rw (white_drop b l) at e) in
     ⊎_elim {0, 0, 0} (λ k. let is : b ≡ 10 = eqb-true b 10 k in omega arith)
-    (λ k. let is : b ≡ 13 = eqb-true b 13 (and_true (eqb b 13) (front is_feed l) k).0 in omega arith) (or_cases (eqb b 10) (eqb b 13 && front is_feed l) here))
-    (is_true (is_white b)))
-    (λ e. white_low b (and_true (is_white b) (is_hash (past_white (b ∷ l))) e).0)
+    (λ k. let is : b ≡ 13 = eqb-true b 13 (and_parts (eqb b 13) (front is_feed l) k).0 in omega arith) (or_cases (eqb b 10) (eqb b 13 && front is_feed l) here))
+    (cases_Bool (is_white b)))
+    (λ e. white_low b (and_parts (is_white b) (is_hash (past_white (b ∷ l))) e).0)
     (or_cases (is_blank (b ∷ l)) (front is_white (b ∷ l) && is_hash (past_white (b ∷ l))) h)
 
 -- no digit and no sign is in front
@@ -114,15 +114,15 @@ NoIndicator t = (digit_at t ≡ (None, t)) × (sign_at t ≡ (chompings.Clip, t)
 
 low_no_indicator : (b : ℕ) (t : List ℕ) → b ≤ 32 → NoIndicator (b ∷ t)
 low_no_indicator b t h =
-    let digit : (leb 49 b && leb b 57) ≡ false = false_from_ne_true _ (λ e. let k : 49 ≤ b = leb-true 49 b (and_true (leb 49 b) (leb b 57) e).0 in absurd (omega arith)) in
+    let digit : (leb 49 b && leb b 57) ≡ false = false_from_ne_true _ (λ e. let k : 49 ≤ b = leb-true 49 b (and_parts (leb 49 b) (leb b 57) e).0 in absurd (omega arith)) in
     let minus : eqb b 45 ≡ false = false_from_ne_true _ (λ e. let k : b ≡ 45 = eqb-true b 45 e in absurd (omega arith)) in
     let plus : eqb b 43 ≡ false = false_from_ne_true _ (λ e. let k : b ≡ 43 = eqb-true b 43 e in absurd (omega arith)) in
     (rw digit refl, rw (minus, plus) refl)
 
 pub tail_no_indicator : (p t : List ℕ) → is_tail p ≡ true → NoIndicator (p ++ t)
 unfolding is_line
-tail_no_indicator [] t h = absurd (false≢true (and_true false true h).0)
-tail_no_indicator (b ∷ p) t h = low_no_indicator b (p ++ t) (tail_low b p (and_true (is_line (b ∷ p)) (is_blank (b ∷ p) || (front is_white (b ∷ p) && is_hash (past_white (b ∷ p)))) h).1)
+tail_no_indicator [] t h = absurd (false≢true (and_parts false true h).0)
+tail_no_indicator (b ∷ p) t h = low_no_indicator b (p ++ t) (tail_low b p (and_parts (is_line (b ∷ p)) (is_blank (b ∷ p) || (front is_white (b ∷ p) && is_hash (past_white (b ∷ p)))) h).1)
 
 -- digit and sign
 digit_again : (d : ℕ) (t : List ℕ) → 1 ≤ d → d ≤ 9 → digit_at ((48 + d) ∷ t) ≡ (Some d, t)

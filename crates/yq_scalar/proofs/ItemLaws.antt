@@ -1,6 +1,6 @@
 -- What the items of a scalar stand for, and where a text may be cut.
 use Rattle.std.proofs.Common.{◌≡◌, ℕ, zero, suc, ◌<◌, ◌≤◌, Bool, true, false, eqb, List, [], ◌∷◌, ◌++◌, length, take, drop, get_or, Some, None, Result, Ok, Err, IfOk, refl, sym, inl, inr, ◌&&◌, ◌||◌, ap, ◌∙◌, subst, arith, add-one, eqb-true, append-nil, length-drop}
-use Rattle.std.proofs.lemmas.Bool.{false≢true, or_cases, cases_lt}
+use Rattle.std.proofs.lemmas.Bool.{false≢true, or_cases, cases_lt, and_parts, cases_Bool, or_parts}
 use Rattle.std.proofs.lemmas.List.{take-append-drop}
 use Rattle.std.proofs.lemmas.Str.{IsCharBoundary-start, IsCharBoundary-after_ascii}
 use Rattle.std.proofs.Math.Utf8.{encode}
@@ -10,7 +10,6 @@ use Rattle.yq_scalar.specs.Quoted.{joined}
 use Rattle.yq_scalar.specs.QuotedReading.{escape}
 use Rattle.yq_scalar.specs.ContentReading.{Before, within, after, filled, content_on, break_len, before_of, is_pair, is_slash, ends_run}
 use Rattle.yq_scalar.specs.Plain.{no_gap}
-use Rattle.yq_scalar.proofs.Bools.{is_true, and_true, or_false}
 use Rattle.yq_scalar.proofs.Upto.{upto_le_length, none_in_cut}
 use Rattle.yq_scalar.proofs.Boundaries.{boundary_ends, space_ascii, break_ascii}
 use Rattle.yq_scalar.proofs.EscapeLaws.{escape_ascii, escape_within}
@@ -31,7 +30,7 @@ first_low b bs (suc k) low lt = absurd (omega arith)
 space_low : (t : List ℕ) (k : ℕ) → k < upto no_gap t → get_or t k 0 < 128
 unfolding upto
 space_low [] k lt = absurd (omega arith)
-space_low (b ∷ bs) k lt = elim (is_true (is_space (b ∷ bs))) [
+space_low (b ∷ bs) k lt = elim (cases_Bool (is_space (b ∷ bs))) [
   | inl s ↦ (let n : k < suc (upto no_gap bs) = rw s at lt in low_at b bs (upto no_gap bs) k (space_ascii b bs s) (λ j l. space_low bs j l) n)
   | inr s ↦ absurd (let n : k < 0 = rw s at lt in omega (arith, n))
 ]
@@ -43,9 +42,9 @@ run_ascii : (q b : ℕ) (bs : List ℕ) → ends_run q (b ∷ bs) ≡ true → b
 run_ascii q b bs h = elim (or_cases (is_space (b ∷ bs) || is_pair q (b ∷ bs)) (is_slash q (b ∷ bs)) h) [
   | inl x ↦ elim (or_cases (is_space (b ∷ bs)) (is_pair q (b ∷ bs)) x) [
     | inl y ↦ space_ascii b bs y
-    | inr y ↦ omega (arith, eqb-true b 39 (and_true (eqb q 39) (eqb b 39) (and_true (eqb q 39 && eqb b 39) (front (λ c. eqb c 39) bs) y).0).1)
+    | inr y ↦ omega (arith, eqb-true b 39 (and_parts (eqb q 39) (eqb b 39) (and_parts (eqb q 39 && eqb b 39) (front (λ c. eqb c 39) bs) y).0).1)
   ]
-  | inr x ↦ omega (arith, eqb-true b 92 (and_true (eqb q 34) (eqb b 92) x).1)
+  | inr x ↦ omega (arith, eqb-true b 92 (and_parts (eqb q 34) (eqb b 92) x).1)
 ]
 
 pub boundary_run : (q : ℕ) (t : List ℕ) (n : ℕ) → n ≡ upto (ends_run q) t → IsCharBoundary t n
@@ -90,22 +89,22 @@ boundary_slash (b ∷ bs) h u = boundary_behind (b ∷ bs) 1 u (omega arith) (λ
 
 break_within : (t : List ℕ) → is_break t ≡ true → break_len t ≤ length t
 break_within [] h = absurd (false≢true h)
-break_within (b ∷ []) h = elim (is_true (is_feed b)) [
+break_within (b ∷ []) h = elim (cases_Bool (is_feed b)) [
   | inl e ↦ rw e (omega arith)
-  | inr e ↦ absurd (let g : (is_return b && false) ≡ true = rw e at h in false≢true (and_true (is_return b) false g).1)
+  | inr e ↦ absurd (let g : (is_return b && false) ≡ true = rw e at h in false≢true (and_parts (is_return b) false g).1)
 ]
-break_within (b ∷ c ∷ bs) h = elim (is_true (is_feed b)) [ inl e ↦ rw e (omega arith) | inr e ↦ rw e (omega arith) ]
+break_within (b ∷ c ∷ bs) h = elim (cases_Bool (is_feed b)) [ inl e ↦ rw e (omega arith) | inr e ↦ rw e (omega arith) ]
 
 break_low : (t : List ℕ) → is_break t ≡ true → (k : ℕ) → k < break_len t → get_or t k 0 < 128
 break_low [] h k lt = absurd (false≢true h)
 break_low (b ∷ []) h zero lt = break_ascii b [] h
 break_low (b ∷ []) h (suc k) lt = absurd (let w = break_within (b ∷ []) h in omega (arith, w, lt))
 break_low (b ∷ c ∷ bs) h zero lt = break_ascii b (c ∷ bs) h
-break_low (b ∷ c ∷ bs) h (suc zero) lt = elim (is_true (is_feed b)) [
+break_low (b ∷ c ∷ bs) h (suc zero) lt = elim (cases_Bool (is_feed b)) [
   | inl e ↦ absurd (let n : suc zero < 1 = rw e at lt in omega (arith, n))
-  | inr e ↦ (let g : (is_return b && is_feed c) ≡ true = rw e at h in omega (arith, eqb-true c 10 (and_true (is_return b) (is_feed c) g).1))
+  | inr e ↦ (let g : (is_return b && is_feed c) ≡ true = rw e at h in omega (arith, eqb-true c 10 (and_parts (is_return b) (is_feed c) g).1))
 ]
-break_low (b ∷ c ∷ bs) h (suc (suc k)) lt = absurd (elim (is_true (is_feed b)) [
+break_low (b ∷ c ∷ bs) h (suc (suc k)) lt = absurd (elim (cases_Bool (is_feed b)) [
   | inl e ↦ (let n : suc (suc k) < 1 = rw e at lt in omega (arith, n))
   | inr e ↦ (let n : suc (suc k) < 2 = rw e at lt in omega (arith, n))
 ])
@@ -121,10 +120,10 @@ pub content_itself : (q : ℕ) (p rest : List ℕ) → NoneIn (ends_run q) p res
 unfolding content_on
 content_itself q [] rest h = refl
 content_itself q (b ∷ p) rest h =
-    let x = or_false (is_space (b ∷ (p ++ rest)) || is_pair q (b ∷ (p ++ rest))) (is_slash q (b ∷ (p ++ rest))) h.0 in
-    let y = or_false (is_space (b ∷ (p ++ rest))) (is_pair q (b ∷ (p ++ rest))) x.0 in
-    let z = or_false (is_white b) (is_break (b ∷ (p ++ rest))) y.0 in
-    let n = or_false (is_feed b) (is_return b && front is_feed (p ++ rest)) z.1 in
+    let x = or_parts (is_space (b ∷ (p ++ rest)) || is_pair q (b ∷ (p ++ rest))) (is_slash q (b ∷ (p ++ rest))) h.0 in
+    let y = or_parts (is_space (b ∷ (p ++ rest))) (is_pair q (b ∷ (p ++ rest))) x.0 in
+    let z = or_parts (is_white b) (is_break (b ∷ (p ++ rest))) y.0 in
+    let n = or_parts (is_feed b) (is_return b && front is_feed (p ++ rest)) z.1 in
     rw (z.0, n.0, n.1, x.1, y.1) (ap (λ l. b ∷ l) (content_itself q p rest h.1))
 
 -- two single quotes
@@ -134,22 +133,22 @@ pair_front before w bs = refl
 
 pub content_pair : (q : ℕ) (t : List ℕ) → is_pair q t ≡ true → content_on q 0 within [] t ≡ 39 ∷ content_on q 0 within [] (drop 2 t)
 content_pair q [] h = absurd (false≢true h)
-content_pair q (b ∷ []) h = absurd (false≢true (and_true (eqb q 39 && eqb b 39) false h).1)
+content_pair q (b ∷ []) h = absurd (false≢true (and_parts (eqb q 39 && eqb b 39) false h).1)
 content_pair q (b ∷ c ∷ bs) h =
-    let p = and_true (eqb q 39 && eqb b 39) (eqb c 39) h in
-    let r = and_true (eqb q 39) (eqb b 39) p.0 in
+    let p = and_parts (eqb q 39 && eqb b 39) (eqb c 39) h in
+    let r = and_parts (eqb q 39) (eqb b 39) p.0 in
     rw (eqb-true q 39 r.0, eqb-true b 39 r.1, eqb-true c 39 p.1) (pair_front within [] bs)
 
 pair_low : (q : ℕ) (t : List ℕ) → is_pair q t ≡ true → (k : ℕ) → k < 2 → get_or t k 0 < 128
 pair_low q [] h k lt = absurd (false≢true h)
-pair_low q (b ∷ []) h k lt = absurd (false≢true (and_true (eqb q 39 && eqb b 39) false h).1)
-pair_low q (b ∷ c ∷ bs) h zero lt = omega (arith, eqb-true b 39 (and_true (eqb q 39) (eqb b 39) (and_true (eqb q 39 && eqb b 39) (eqb c 39) h).0).1)
-pair_low q (b ∷ c ∷ bs) h (suc zero) lt = omega (arith, eqb-true c 39 (and_true (eqb q 39 && eqb b 39) (eqb c 39) h).1)
+pair_low q (b ∷ []) h k lt = absurd (false≢true (and_parts (eqb q 39 && eqb b 39) false h).1)
+pair_low q (b ∷ c ∷ bs) h zero lt = omega (arith, eqb-true b 39 (and_parts (eqb q 39) (eqb b 39) (and_parts (eqb q 39 && eqb b 39) (eqb c 39) h).0).1)
+pair_low q (b ∷ c ∷ bs) h (suc zero) lt = omega (arith, eqb-true c 39 (and_parts (eqb q 39 && eqb b 39) (eqb c 39) h).1)
 pair_low q (b ∷ c ∷ bs) h (suc (suc k)) lt = absurd (omega arith)
 
 pair_within : (q : ℕ) (t : List ℕ) → is_pair q t ≡ true → 2 ≤ length t
 pair_within q [] h = absurd (false≢true h)
-pair_within q (b ∷ []) h = absurd (false≢true (and_true (eqb q 39 && eqb b 39) false h).1)
+pair_within q (b ∷ []) h = absurd (false≢true (and_parts (eqb q 39 && eqb b 39) false h).1)
 pair_within q (b ∷ c ∷ bs) h = omega arith
 
 pub boundary_pair : (q : ℕ) (t : List ℕ) → is_pair q t ≡ true → IsUtf8 t → IsCharBoundary t 2

@@ -1,16 +1,15 @@
 -- The lines of a text.
 use Rattle.std.proofs.Common.{◌≡◌, ℕ, suc, ◌<◌, ◌≤◌, true, false, List, [], ◌∷◌, ◌++◌, length, take, drop, refl, sym, ap, ◌∙◌, inl, inr, ◌⊎◌, ⊎_elim, arith, append_assoc}
-use Rattle.std.proofs.lemmas.Bool.{false≢true, cond_both}
+use Rattle.std.proofs.lemmas.Bool.{false≢true, cond_both, cases_Bool}
 use Rattle.yq_scalar.specs.Text.{line_len, lines_of, put_byte, joined, is_line, is_empty, is_feed}
-use Rattle.yq_scalar.proofs.Bools.{is_true}
 
 pub line_first : (b : ℕ) (bs : List ℕ) → lines_of (b ∷ bs) ≡ take (line_len (b ∷ bs)) (b ∷ bs) ∷ lines_of (drop (line_len (b ∷ bs)) (b ∷ bs))
 unfolding lines_of line_len
-line_first b [] = ⊎_elim {0, 0, 0} (λ h. rw h refl) (λ h. rw h refl) (is_true (is_feed b))
+line_first b [] = ⊎_elim {0, 0, 0} (λ h. rw h refl) (λ h. rw h refl) (cases_Bool (is_feed b))
 line_first b (c ∷ cs) =
     let again = line_first c cs in
     ⊎_elim {0, 0, 0} (λ h. rw h refl)
-    (λ h. rw h (ap (put_byte b) again)) (is_true (is_feed b))
+    (λ h. rw h (ap (put_byte b) again)) (cases_Bool (is_feed b))
 
 pub line_step : (t : List ℕ) → 0 < length t → lines_of t ≡ take (line_len t) t ∷ lines_of (drop (line_len t) t)
 line_step [] h = absurd (omega arith)
@@ -36,7 +35,7 @@ joined_lines [] = refl
 joined_lines (b ∷ bs) =
     let again = joined_lines bs in
     ⊎_elim {0, 0, 0} (λ h. rw h (ap (λ x. b ∷ x) again))
-    (λ h. rw h (joined_put b (lines_of bs) ∙ ap (λ x. b ∷ x) again)) (is_true (is_feed b))
+    (λ h. rw h (joined_put b (lines_of bs) ∙ ap (λ x. b ∷ x) again)) (cases_Bool (is_feed b))
 
 -- each line but the last has a break
 abbrev pub AreLines : List (List ℕ) → Type 0
@@ -63,7 +62,7 @@ lines_again [] t h = absurd (false≢true h)
 lines_again (b ∷ bs) t h = ⊎_elim {0, 0, 0}
     (λ e. let last : bs ≡ [] = is_empty_is bs (rw e at h) in rw last (rw e refl))
     (λ e. let again = lines_again bs t (rw e at h) in rw e (ap (put_byte b) again))
-    (is_true (is_feed b))
+    (cases_Bool (is_feed b))
 
 pub line_cut : (l t : List ℕ) → is_line l ≡ true → line_len (l ++ t) ≡ length l
 unfolding line_len is_line
@@ -71,7 +70,7 @@ line_cut [] t h = absurd (false≢true h)
 line_cut (b ∷ bs) t h = ⊎_elim {0, 0, 0}
     (λ e. let last : bs ≡ [] = is_empty_is bs (rw e at h) in rw last (rw e refl))
     (λ e. rw e (ap suc (line_cut bs t (rw e at h))))
-    (is_true (is_feed b))
+    (cases_Bool (is_feed b))
 
 pub line_some : (l : List ℕ) → is_line l ≡ true → 0 < length l
 unfolding is_line

@@ -1,6 +1,6 @@
 -- What a literal scalar holds as it is can be written so.
 use Rattle.std.proofs.Common.{◌≡◌, ℕ, Bool, true, false, not, ◌&&◌, eqb, List, [], ◌∷◌, length, refl, sym, ap, ◌∙◌, inl, inr, ◌⊎◌, ⊎_elim, arith, eqb-true}
-use Rattle.std.proofs.lemmas.Bool.{false≢true, false_from_ne_true, not-true}
+use Rattle.std.proofs.lemmas.Bool.{false≢true, false_from_ne_true, not-true, and_parts, cases_Bool}
 use Rattle.std.specs.Str.{IsUtf8, chars}
 use Rattle.std.specs.List.{ends_with, list_all}
 use Rattle.std.specs.Prelude.{nat_eq}
@@ -8,7 +8,7 @@ use Rattle.std.proofs.Math.Dec.{eqb-suc-zero}
 use Rattle.yq_scalar.proofs.BlockWrittenHeader.{some_lines, ends_next}
 use Rattle.yq_scalar.proofs.BlockWrittenLaws.{ends_some, CanWrite}
 use Rattle.yq_scalar.proofs.BlockWrittenLines.{NoCr, text_next}
-use Rattle.yq_scalar.proofs.Bools.{is_true, and_true, at_byte, not_byte}
+use Rattle.yq_scalar.proofs.Bools.{at_byte, not_byte}
 use Rattle.yq_scalar.proofs.Bytes.{Each, each_byte}
 use Rattle.yq_scalar.specs.Block.{Lines, no_lines}
 use Rattle.yq_scalar.specs.BlockContent.{line_text}
@@ -40,7 +40,7 @@ rest_of (l ∷ ls) = ls
 
 one_line : (c : ℕ) → rest_of (lines_of (c ∷ [])) ≡ []
 unfolding lines_of
-one_line c = ⊎_elim {0, 0, 0} (λ e. rw e refl) (λ e. rw e refl) (is_true (eqb c 10))
+one_line c = ⊎_elim {0, 0, 0} (λ e. rw e refl) (λ e. rw e refl) (cases_Bool (eqb c 10))
 
 more_lines : (c : ℕ) (t l : List ℕ) (ls : Lines) → lines_of (c ∷ t) ≡ l ∷ ls → no_lines ls ≡ false → is_empty t ≡ false
 more_lines c [] l ls e k = let none : ls ≡ [] = sym (ap rest_of e) ∙ one_line c in absurd (false≢true (sym k ∙ ap no_lines none))
@@ -51,7 +51,7 @@ abbrev feeds : List ℕ
 feeds = 10 ∷ 10 ∷ []
 
 one_byte : (c : ℕ) → ends_with nat_eq (c ∷ []) feeds ≡ false
-one_byte c = ⊎_elim {0, 0, 0} (λ e. rw e refl) (λ e. rw e refl) (is_true (eqb 10 c))
+one_byte c = ⊎_elim {0, 0, 0} (λ e. rw e refl) (λ e. rw e refl) (cases_Bool (eqb 10 c))
 
 feeds_next : (b c : ℕ) (t : List ℕ) → ends_with nat_eq (b ∷ c ∷ t) feeds ≡ false → ends_with nat_eq (c ∷ t) feeds ≡ false
 feeds_next b c [] h = one_byte c
@@ -74,7 +74,7 @@ ends_is b (c ∷ t) n h f =
     ⊎_elim {0, 0, 0}
     (λ e. rw e (ap (λ ls. ends_some ((b ∷ []) ∷ ls)) x.2 ∙ (ap ends_some (sym x.2) ∙ ends_is c t n.1 next (feed_behind b c t e h))))
     (λ e. rw e (ap (λ ls. ends_some (put_byte b ls)) x.2 ∙ put_some b x.0 x.1 e n.0 (λ k. ap ends_some (sym x.2) ∙ ends_is c t n.1 next (inr (more_lines c t x.0 x.1 x.2 k)))))
-    (is_true (eqb b 10))
+    (cases_Bool (eqb b 10))
 
 no_cr : (t : List ℕ) → Each (λ x. not (eqb x 13)) t → NoCr t
 no_cr [] h = tt
@@ -88,17 +88,17 @@ literal_can [] u h = absurd (false≢true h)
 literal_can (b ∷ s) u h =
     let white : Bool = not (is_white b) in
     let feed_ : Bool = not (eqb b 10) in
-    let p = and_true (white && feed_ && not (ends_with nat_eq (b ∷ s) feeds)) (list_all is_literal_char (chars (b ∷ s))) h in
-    let q = and_true (white && feed_) (not (ends_with nat_eq (b ∷ s) feeds)) p.0 in
+    let p = and_parts (white && feed_ && not (ends_with nat_eq (b ∷ s) feeds)) (list_all is_literal_char (chars (b ∷ s))) h in
+    let q = and_parts (white && feed_) (not (ends_with nat_eq (b ∷ s) feeds)) p.0 in
     let plain = literal_cr (b ∷ s) u p.1 in
     record {
       begins = q.0;
-      ends = ends_is b s plain (not-true (ends_with nat_eq (b ∷ s) feeds) q.1) (inl (not-true (eqb b 10) (and_true white feed_ q.0).1));
+      ends = ends_is b s plain (not-true (ends_with nat_eq (b ∷ s) feeds) q.1) (inl (not-true (eqb b 10) (and_parts white feed_ q.0).1));
       plain = plain;
     }
 
 can_text : (s : ScalarText) → can_write s styles.Literal places.Block ≡ true → is_literal_text s.text ≡ true
-can_text s h = (and_true (is_string s.kind && true) (is_literal_text s.text) h).1
+can_text s h = (and_parts (is_string s.kind && true) (is_literal_text s.text) h).1
 
 pub literal_block : (least m : ℕ) (b : Break) (s : ScalarText) (tail rest : List ℕ) → IsUtf8 s.text → can_write s styles.Literal places.Block ≡ true → least ≤ m → is_tail tail ≡ true → ends_block false (record { columns = m; known = true }) (lines_of rest) ≡ true → IsBlock least (written_block s.text m (break_text b) tail) rest
 literal_block least m b s tail rest u can le line behind = written_is least m b s.text tail rest (literal_can s.text u (can_text s can)) le line behind

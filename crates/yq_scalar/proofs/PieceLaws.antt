@@ -1,5 +1,6 @@
 -- The piece of a plain scalar.
 use Rattle.std.proofs.Common.{◌≡◌, ℕ, ◌+◌, List, length, drop, Some, Result, Ok, Err, sym, ap, ◌∙◌, IfOk, ℤ}
+use Rattle.std.proofs.lemmas.Option.{same_Some}
 use Rattle.yq_scalar.specs.declared.piece.Piece.{Piece}
 use Rattle.yq_scalar.specs.declared.style.Place.{Place}
 use Rattle.yq_scalar.specs.declared.style.Style.TheVariants as styles
@@ -10,15 +11,12 @@ use Rattle.yq_scalar.specs.Writable.{in_flow}
 use Rattle.yq_scalar.proofs.Bools.{bind_some}
 use Rattle.yq_scalar.proofs.PlainLaws.{plain_takes, plain_again}
 
-some_is : {A : Type 0} {x y : A} → Some x ≡ Some y → x ≡ y
-some_is e = cc
-
 pub piece_takes : (place : Place) (n : ℤ) (at : ℕ) (text : List ℕ) (p : Piece) → plain_from place n at text ≡ Some p → IsPlainPiece place n at text p
 unfolding plain_from
 piece_takes place n at text p h =
     let b = bind_some (plain_at (in_flow place) (further_spaces place n) (drop at text)) h in
     let t = plain_takes (in_flow place) (further_spaces place n) (drop at text) b.0 b.1 in
-    record { scalar = b.0.0; rest = b.0.1; stands = t.0; plain = t.1; piece = sym (some_is b.2) }
+    record { scalar = b.0.0; rest = b.0.1; stands = t.0; plain = t.1; piece = sym (same_Some _ _ b.2) }
 
 pub piece_again : (place : Place) (n : ℤ) (at : ℕ) (text : List ℕ) (p : Piece) → IsPlainPiece place n at text p → plain_from place n at text ≡ Some p
 unfolding plain_from
@@ -32,5 +30,5 @@ found_by place n at text (Ok p) h = piece_takes place n at text p h
 found_by place n at text (Err e) h = tt
 
 pub only_by : {E : Type 0} (place : Place) (n : ℤ) (at : ℕ) (text : List ℕ) (r : Result Piece E) → Reads (λ p. p) r (plain_from place n at text) → (p : Piece) → IsPlainPiece place n at text p → r ≡ Ok p
-only_by place n at text (Ok q) h p i = ap Ok (some_is (sym h ∙ piece_again place n at text p i))
+only_by place n at text (Ok q) h p i = ap Ok (same_Some _ _ (sym h ∙ piece_again place n at text p i))
 only_by place n at text (Err e) h p i = absurd (let e = sym h ∙ piece_again place n at text p i in cc)

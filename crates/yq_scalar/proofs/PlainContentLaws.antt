@@ -1,12 +1,11 @@
 -- What is read as the content of a plain scalar is what its lines stand for.
 use Rattle.std.proofs.Common.{◌≡◌, ℕ, true, false, List, [], ◌∷◌, ◌++◌, refl, sym, inl, inr, ◌&&◌, ap, ◌∙◌, subst, eqb-true, append-nil}
-use Rattle.std.proofs.lemmas.Bool.{false≢true}
+use Rattle.std.proofs.lemmas.Bool.{false≢true, and_parts, cases_Bool}
 use Rattle.std.proofs.Math.Bool.{and-false}
 use Rattle.yq_scalar.specs.Text.{is_break, is_feed, is_return}
 use Rattle.yq_scalar.specs.Quoted.{Char, itself, doubled, escape as letter_escape, code, spell_chars, Break, line_feed, return_feed, spell_break, Lines, last, line, spell_lines, content}
 use Rattle.yq_scalar.specs.PlainContent.{ArePlain, ArePlainLines, IsPlainLines}
 use Rattle.yq_scalar.specs.ContentReading.{plain_content}
-use Rattle.yq_scalar.proofs.Bools.{is_true, and_true}
 use Rattle.yq_scalar.proofs.ContentLaws.{AllMean, LinesMean, itself_means, content_is}
 
 plain_chars_mean : (cs : List Char) (t : List ℕ) → ArePlain cs t → AllMean 0 cs t
@@ -58,14 +57,14 @@ no_break b h = rw h (and-false (is_return b))
 -- each text is made of lines
 pub plain_lines_of : (text : List ℕ) → (ls : Lines) × IsPlainLines ls text
 plain_lines_of [] = (last [], record { spelled = refl; lines = tt })
-plain_lines_of (b ∷ []) = elim (is_true (is_feed b)) [
+plain_lines_of (b ∷ []) = elim (cases_Bool (is_feed b)) [
   | inl e ↦ broken line_feed [] (b ∷ []) (ap (λ x. x ∷ []) (eqb-true b 10 e)) (plain_lines_of [])
   | inr e ↦ pushed b [] (no_break b e) (plain_lines_of [])
 ]
-plain_lines_of (b ∷ c ∷ t) = elim (is_true (is_feed b)) [
+plain_lines_of (b ∷ c ∷ t) = elim (cases_Bool (is_feed b)) [
   | inl e ↦ broken line_feed (c ∷ t) (b ∷ c ∷ t) (ap (λ x. x ∷ c ∷ t) (eqb-true b 10 e)) (plain_lines_of (c ∷ t))
-  | inr e ↦ elim (is_true (is_return b && is_feed c)) [
-    | inl f ↦ let p = and_true (is_return b) (is_feed c) f in
+  | inr e ↦ elim (cases_Bool (is_return b && is_feed c)) [
+    | inl f ↦ let p = and_parts (is_return b) (is_feed c) f in
         broken return_feed t (b ∷ c ∷ t) (ap (λ x. x ∷ c ∷ t) (eqb-true b 13 p.0) ∙ ap (λ x. 13 ∷ x ∷ t) (eqb-true c 10 p.1)) (plain_lines_of t)
     | inr f ↦ pushed b (c ∷ t) (rw (e, f) refl) (plain_lines_of (c ∷ t))
   ]

@@ -1,6 +1,7 @@
 -- What is written plain is read as the same scalar.
-use Rattle.std.proofs.Common.{◌≡◌, ℕ, Bool, true, false, not, ◌&&◌, ◌||◌, eqb, List, [], ◌∷◌, ◌++◌, Option, Some, refl, sym, ap, ◌∙◌, subst, inl, codes}
-use Rattle.std.proofs.lemmas.Bool.{false≢true, false_from_ne_true}
+use Rattle.std.proofs.Common.{◌≡◌, ℕ, Bool, true, false, not, ◌&&◌, ◌||◌, eqb, List, [], ◌∷◌, ◌++◌, Option, refl, sym, ap, ◌∙◌, subst, inl, codes}
+use Rattle.std.proofs.lemmas.Bool.{false≢true, false_from_ne_true, and_parts}
+use Rattle.std.proofs.lemmas.Option.{same_Some}
 use Rattle.std.specs.List.{list_all}
 use Rattle.std.specs.Str.{IsUtf8, chars}
 use Rattle.yq_scalar.specs.declared.kind.Kind.{Kind}
@@ -13,20 +14,17 @@ use Rattle.yq_scalar.specs.Scalar.{ScalarText, IsScalar, plain_of, of_kind}
 use Rattle.yq_scalar.specs.Schema.{Resolves}
 use Rattle.yq_scalar.specs.SchemaReading.{resolve}
 use Rattle.yq_scalar.specs.Writable.{can_write_plain, is_string}
-use Rattle.yq_scalar.proofs.Bools.{and_true, at_byte}
+use Rattle.yq_scalar.proofs.Bools.{at_byte}
 use Rattle.yq_scalar.proofs.Bytes.{Each}
 use Rattle.yq_scalar.proofs.PlainLaws.{plain_again}
 use Rattle.yq_scalar.proofs.PlainWritten.{is_quiet, quiet, quiet_parts, plain_text_parts, plain_written}
 use Rattle.yq_scalar.proofs.SchemaLaws.{resolve_takes, resolve_again}
 use Rattle.yq_scalar.proofs.SchemaPlain.{null_plain, bool_plain, int_plain, float_plain}
 
-some_is : {A : Type 0} {x y : A} → Some x ≡ Some y → x ≡ y
-some_is e = cc
-
 -- a text begins with one plain scalar at most
 pub plain_one : (flow : Bool) (spaces : Option ℕ) (p rest q other : List ℕ) → p ++ rest ≡ q ++ other → IsPlain flow spaces p rest → IsPlain flow spaces q other → (p ≡ q) × (rest ≡ other)
 plain_one flow spaces p rest q other e a b =
-    let same : (p, rest) ≡ (q, other) = some_is (sym (plain_again flow spaces p rest a) ∙ (ap (plain_at flow spaces) e ∙ plain_again flow spaces q other b)) in
+    let same : (p, rest) ≡ (q, other) = same_Some _ _ (sym (plain_again flow spaces p rest a) ∙ (ap (plain_at flow spaces) e ∙ plain_again flow spaces q other b)) in
     (ap (λ (x : List ℕ × List ℕ). x.0) same, ap (λ (x : List ℕ × List ℕ). x.1) same)
 
 quiet_line : (t : List ℕ) → Each is_quiet t → holds_break t ≡ false
@@ -39,7 +37,7 @@ plain_line flow t u h = quiet_line t (quiet t u (plain_text_parts flow t h).0)
 
 text_chars : (cs : List ℕ) → list_all is_plain_char cs ≡ true → list_all is_text_char cs ≡ true
 text_chars [] h = refl
-text_chars (c ∷ cs) h = let p = and_true (is_plain_char c) (list_all is_plain_char cs) h in rw ((and_true (is_text_char c) _ p.0).0, text_chars cs p.1) refl
+text_chars (c ∷ cs) h = let p = and_parts (is_plain_char c) (list_all is_plain_char cs) h in rw ((and_parts (is_text_char c) _ p.0).0, text_chars cs p.1) refl
 
 quiet_pairs : (t : List ℕ) → Each is_quiet t → pairs_returns t ≡ true
 unfolding pairs_returns
@@ -58,9 +56,9 @@ plain_some flow (b ∷ t) h = refl
 pub plain_opens : (test : ℕ → Bool) (t : List ℕ) → ((b : ℕ) → test b ≡ true → is_indicator b ≡ true) → test 45 ≡ false → begins_plainly t ≡ true → front test t ≡ false
 plain_opens test [] only dash h = refl
 plain_opens test (b ∷ t) only dash h = false_from_ne_true (test b) (λ e.
-    let p = and_true (not (eqb b 32)) (not (is_indicator b) || (eqb b 45 && front (λ c. not (eqb c 32)) t)) h in
+    let p = and_parts (not (eqb b 32)) (not (is_indicator b) || (eqb b 45 && front (λ c. not (eqb c 32)) t)) h in
     let d : (eqb b 45 && front (λ c. not (eqb c 32)) t) ≡ true = rw (only b e) at p.1 in
-    false≢true (sym (at_byte test b 45 e dash) ∙ (and_true (eqb b 45) (front (λ c. not (eqb c 32)) t) d).0))
+    false≢true (sym (at_byte test b 45 e dash) ∙ (and_parts (eqb b 45) (front (λ c. not (eqb c 32)) t) d).0))
 
 pub string_kind : (k : Kind) → is_string k ≡ true → k ≡ kinds.Text
 string_kind kinds.Null h = absurd (false≢true h)
@@ -79,7 +77,7 @@ writable_text kinds.Null t flow i h = rw i (null_plain flow)
 writable_text kinds.Bool t flow i h = bool_plain flow t (resolved t kinds.Bool i)
 writable_text kinds.Int t flow i h = int_plain flow t (resolved t kinds.Int i)
 writable_text kinds.Float t flow i h = float_plain flow t (resolved t kinds.Float i).0
-writable_text kinds.Text t flow i h = (and_true (is_string (resolve t)) (is_plain_text flow t) h).1
+writable_text kinds.Text t flow i h = (and_parts (is_string (resolve t)) (is_plain_text flow t) h).1
 
 -- its text stands for it
 pub writable_same : (kind : Kind) (t : List ℕ) (flow : Bool) → IsScalar kind t → can_write_plain (record { kind = kind; text = t }) flow ≡ true → plain_of t ≡ record { kind = kind; text = t }
@@ -88,7 +86,7 @@ writable_same kinds.Null t flow i h = rw i (ap (λ k. of_kind k (codes "null")) 
 writable_same kinds.Bool t flow i h = ap (λ k. of_kind k t) i
 writable_same kinds.Int t flow i h = ap (λ k. of_kind k t) i
 writable_same kinds.Float t flow i h = ap (λ k. of_kind k t) i
-writable_same kinds.Text t flow i h = ap (λ k. of_kind k t) (string_kind (resolve t) (and_true (is_string (resolve t)) (is_plain_text flow t) h).0)
+writable_same kinds.Text t flow i h = ap (λ k. of_kind k t) (string_kind (resolve t) (and_parts (is_string (resolve t)) (is_plain_text flow t) h).0)
 
 pub writable_piece : (s : ScalarText) (flow : Bool) (spaces : Option ℕ) (rest : List ℕ) → IsUtf8 s.text → IsScalar s.kind s.text → can_write_plain s flow ≡ true → ends_plain flow spaces rest ≡ true → IsPlain flow spaces s.text rest
 writable_piece s flow spaces rest u i h e = plain_written flow spaces s.text rest u (writable_text s.kind s.text flow i h) e

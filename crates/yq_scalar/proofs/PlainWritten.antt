@@ -1,6 +1,6 @@
 -- What is written plain is a plain scalar.
 use Rattle.std.proofs.Common.{◌≡◌, ℕ, Bool, true, false, not, eqb, List, [], ◌∷◌, ◌++◌, Option, Some, None, refl, sym, inl, inr, ⊎_elim, ◌&&◌, ◌||◌, ap, ◌∙◌, subst, arith, eqb-true}
-use Rattle.std.proofs.lemmas.Bool.{false≢true, or_cases, not-true}
+use Rattle.std.proofs.lemmas.Bool.{false≢true, or_cases, not-true, and_parts, cases_Bool, or_parts}
 use Rattle.std.specs.List.{list_all}
 use Rattle.std.specs.Str.{chars, IsUtf8}
 use Rattle.std.specs.Option.{is_none}
@@ -9,7 +9,7 @@ use Rattle.yq_scalar.specs.Text.{NoneIn, is_empty, is_space, front}
 use Rattle.yq_scalar.specs.Plain.{ends_plain, ends_text, is_flow_indicator, is_indicator, is_safe, begins_plain, IsPlain}
 use Rattle.yq_scalar.specs.PlainReading.{across}
 use Rattle.yq_scalar.specs.PlainText.{is_plain_char, begins_plainly, needs_quotes, no_rest, is_plain_text, is_merge, begins_marker}
-use Rattle.yq_scalar.proofs.Bools.{and_true, or_false, at_byte, not_byte, is_true}
+use Rattle.yq_scalar.proofs.Bools.{at_byte, not_byte}
 use Rattle.yq_scalar.proofs.Across.{across_white, across_here, ends_space}
 use Rattle.yq_scalar.proofs.Bytes.{Each, each_byte}
 
@@ -40,9 +40,9 @@ front_of flow b bs h =
     let in_flow : Bool = flow && is_flow_indicator b in
     let at_colon : Bool = eqb b 58 && (is_empty bs || front (λ c. eqb c 32) bs) in
     let at_space : Bool = eqb b 32 && (is_empty bs || front (λ c. eqb c 35) bs) in
-    let parts = and_true (not (needs_quotes flow (b ∷ bs))) (no_rest (needs_quotes flow) bs) h in
-    let none = or_false (in_flow || at_colon) at_space (not-true (needs_quotes flow (b ∷ bs)) parts.0) in
-    let two = or_false in_flow at_colon none.0 in
+    let parts = and_parts (not (needs_quotes flow (b ∷ bs))) (no_rest (needs_quotes flow) bs) h in
+    let none = or_parts (in_flow || at_colon) at_space (not-true (needs_quotes flow (b ∷ bs)) parts.0) in
+    let two = or_parts in_flow at_colon none.0 in
     record { flow_free = two.0; colon = two.1; space = none.1; rest = parts.1 }
 
 pub quiet_space : (b : ℕ) (bs : List ℕ) → is_quiet b ≡ true → eqb b 32 ≡ false → is_space (b ∷ bs) ≡ false
@@ -58,7 +58,7 @@ behind_colon flow (d ∷ bs) rest q h e = safe_next flow d bs rest q.0 h e
 pub text_inside : (flow : Bool) (b : ℕ) (bs rest : List ℕ) → Each is_quiet (b ∷ bs) → no_rest (needs_quotes flow) (b ∷ bs) ≡ true → ends_text flow (b ∷ (bs ++ rest)) ≡ false
 text_inside flow b bs rest q h =
     let f = front_of flow b bs h in
-    elim (is_true (eqb b 58)) [
+    elim (cases_Bool (eqb b 58)) [
       | inl e ↦ (let g : (is_empty bs || front (λ c. eqb c 32) bs) ≡ false = rw e at f.colon in
           rw (e, f.flow_free, behind_colon flow bs rest q.1 f.rest g) refl)
       | inr e ↦ rw (e, f.flow_free) refl
@@ -72,9 +72,9 @@ pub across_inside : (flow : Bool) (spaces : Option ℕ) (bs rest : List ℕ) →
 across_inside flow spaces [] rest q h some hash = absurd (false≢true (sym some))
 across_inside flow spaces (c ∷ bs) rest q h some hash =
     let f = front_of flow c bs h in
-    elim (is_true (eqb c 32)) [
+    elim (cases_Bool (eqb c 32)) [
       | inl e ↦ (let g : (is_empty bs || front (λ c. eqb c 35) bs) ≡ false = rw e at f.space in
-          let p = or_false (is_empty bs) (front (λ c. eqb c 35) bs) g in
+          let p = or_parts (is_empty bs) (front (λ c. eqb c 35) bs) g in
           ap is_none (across_white flow spaces true c (bs ++ rest) (rw e refl)) ∙ (is_none_more (across flow spaces true (bs ++ rest)) ∙ across_inside flow spaces bs rest q.1 f.rest p.0 p.1))
       | inr e ↦ ap is_none (across_here flow spaces true c (bs ++ rest) (quiet_space c (bs ++ rest) q.0 e)) ∙ rw (hash, text_inside flow c bs rest q h) refl
     ]
@@ -83,9 +83,9 @@ pub none_inside : (flow : Bool) (spaces : Option ℕ) (t rest : List ℕ) → Ea
 none_inside flow spaces [] rest q h = tt
 none_inside flow spaces (b ∷ bs) rest q h =
     let f = front_of flow b bs h in
-    let here : ends_plain flow spaces (b ∷ (bs ++ rest)) ≡ false = elim (is_true (eqb b 32)) [
+    let here : ends_plain flow spaces (b ∷ (bs ++ rest)) ≡ false = elim (cases_Bool (eqb b 32)) [
       | inl e ↦ (let g : (is_empty bs || front (λ c. eqb c 35) bs) ≡ false = rw e at f.space in
-          let p = or_false (is_empty bs) (front (λ c. eqb c 35) bs) g in
+          let p = or_parts (is_empty bs) (front (λ c. eqb c 35) bs) g in
           let s : is_space (b ∷ (bs ++ rest)) ≡ true = rw e refl in
           let a : is_none (across flow spaces true (b ∷ (bs ++ rest))) ≡ false = ap is_none (across_white flow spaces true b (bs ++ rest) (rw e refl)) ∙ (is_none_more (across flow spaces true (bs ++ rest)) ∙ across_inside flow spaces bs rest q.1 f.rest p.0 p.1) in
           ends_space flow spaces (b ∷ (bs ++ rest)) s ∙ a)
@@ -100,11 +100,11 @@ behind_dash flow (d ∷ bs) rest q h e = safe_next flow d bs rest q.0 h (not-tru
 pub plain_begins : (flow : Bool) (t rest : List ℕ) → Each is_quiet t → begins_plainly t ≡ true → no_rest (needs_quotes flow) t ≡ true → begins_plain flow (t ++ rest) ≡ true
 plain_begins flow [] rest q s h = absurd (false≢true s)
 plain_begins flow (b ∷ bs) rest q s h =
-    let p = and_true (not (eqb b 32)) (not (is_indicator b) || (eqb b 45 && front (λ c. not (eqb c 32)) bs)) s in
+    let p = and_parts (not (eqb b 32)) (not (is_indicator b) || (eqb b 45 && front (λ c. not (eqb c 32)) bs)) s in
     let n : is_space (b ∷ (bs ++ rest)) ≡ false = quiet_space b (bs ++ rest) q.0 (not-true (eqb b 32) p.0) in
     ⊎_elim
     (λ i. rw n (ap (λ (x : Bool). x || ((eqb b 45 || eqb b 63 || eqb b 58) && is_safe flow (bs ++ rest))) i))
-    (λ i. let d = and_true (eqb b 45) (front (λ c. not (eqb c 32)) bs) i in
+    (λ i. let d = and_parts (eqb b 45) (front (λ c. not (eqb c 32)) bs) i in
     let u = behind_dash flow bs rest q.1 (front_of flow b bs h).rest d.1 in
     let is : b ≡ 45 = eqb-true b 45 d.0 in
     rw n (subst (λ (x : ℕ). (not (is_indicator x) || ((eqb x 45 || eqb x 63 || eqb x 58) && is_safe flow (bs ++ rest))) ≡ true) (sym is) (rw u refl)))
@@ -112,10 +112,10 @@ plain_begins flow (b ∷ bs) rest q s h =
 
 pub plain_text_parts : (flow : Bool) (t : List ℕ) → is_plain_text flow t ≡ true → (list_all is_plain_char (chars t) ≡ true) × (begins_plainly t ≡ true) × (no_rest (needs_quotes flow) t ≡ true)
 plain_text_parts flow t h =
-    let a = and_true (list_all is_plain_char (chars t) && begins_plainly t && no_rest (needs_quotes flow) t && not (is_merge t)) (not (begins_marker t)) h in
-    let b = and_true (list_all is_plain_char (chars t) && begins_plainly t && no_rest (needs_quotes flow) t) (not (is_merge t)) a.0 in
-    let c = and_true (list_all is_plain_char (chars t) && begins_plainly t) (no_rest (needs_quotes flow) t) b.0 in
-    let d = and_true (list_all is_plain_char (chars t)) (begins_plainly t) c.0 in
+    let a = and_parts (list_all is_plain_char (chars t) && begins_plainly t && no_rest (needs_quotes flow) t && not (is_merge t)) (not (begins_marker t)) h in
+    let b = and_parts (list_all is_plain_char (chars t) && begins_plainly t && no_rest (needs_quotes flow) t) (not (is_merge t)) a.0 in
+    let c = and_parts (list_all is_plain_char (chars t) && begins_plainly t) (no_rest (needs_quotes flow) t) b.0 in
+    let d = and_parts (list_all is_plain_char (chars t)) (begins_plainly t) c.0 in
     (d.0, d.1, c.1)
 
 -- whatever stands behind it, if a plain scalar has to end there

@@ -2,6 +2,7 @@
 use Rattle.std.proofs.Common.{◌≡◌, ℕ, suc, ◌+◌, ◌<◌, true, eqb, eqb-true, List, [], ◌∷◌, ◌++◌, length, get_or, Option, Some, None, refl, sym, ap, ◌∙◌, subst, inl, inr, ◌⊎◌, arith, append_assoc, length-append}
 use Rattle.std.proofs.lemmas.Bool.{or_cases}
 use Rattle.std.proofs.Math.Seq.{take-append_seam, drop-append_seam}
+use Rattle.std.proofs.lemmas.Option.{same_Some}
 use Rattle.std.proofs.lemmas.Str.{IsCharBoundary-after_ascii}
 use Rattle.std.specs.Str.{IsUtf8, IsCharBoundary}
 use Rattle.yq_scalar.specs.Quoted.{Lines, spell_lines, IsQuoted, IsQuotedText}
@@ -20,9 +21,6 @@ is_quote_again q quotes = of_quotes (λ x. is_quote x ≡ true) q quotes refl re
 cut_is : (t p r : List ℕ) (n : ℕ) → t ≡ p ++ r → n ≡ length p → cut_at t (Some n) ≡ Some (p, r)
 cut_is t p r n e size = rw (e, size, take-append_seam, drop-append_seam) refl
 
-some_is : {A : Type 0} {x y : A} → Some x ≡ Some y → x ≡ y
-some_is h = cc
-
 -- a quoted scalar in front of a text
 pub record Found (t piece rest : List ℕ) : Type 0 where
   pub quote : ℕ
@@ -37,7 +35,7 @@ found b n bs x quote read h =
     let piece : List ℕ = b ∷ (spell_lines r.ls ++ b ∷ []) in
     let cut : b ∷ bs ≡ piece ++ r.rest = ap (λ l. b ∷ l) (r.cut ∙ sym (append_assoc (spell_lines r.ls) (b ∷ []) r.rest)) in
     let size : 2 + n ≡ length piece = omega (arith, r.long, length-append (spell_lines r.ls) (b ∷ [])) in
-    let same : ◌≡◌ {A = List ℕ × List ℕ} (piece, r.rest) x = some_is (sym (cut_is (b ∷ bs) piece r.rest (2 + n) cut size) ∙ h) in
+    let same : ◌≡◌ {A = List ℕ × List ℕ} (piece, r.rest) x = same_Some _ _ (sym (cut_is (b ∷ bs) piece r.rest (2 + n) cut size) ∙ h) in
     subst (λ (y : List ℕ × List ℕ). Found (b ∷ bs) y.0 y.1) same (record {
       quote = b;
       ls = r.ls;
@@ -67,7 +65,7 @@ quoted_again q ls piece rest is =
 -- a text begins with one quoted scalar at most
 pub quoted_one : (q r : ℕ) (ls ms : Lines) (p rest o other : List ℕ) → p ++ rest ≡ o ++ other → IsQuoted q ls p rest → IsQuoted r ms o other → (p ≡ o) × (rest ≡ other)
 quoted_one q r ls ms p rest o other same a b =
-    let e : ◌≡◌ {A = List ℕ × List ℕ} (p, rest) (o, other) = some_is (sym (quoted_again q ls p rest a) ∙ (ap quoted_at same ∙ quoted_again r ms o other b)) in
+    let e : ◌≡◌ {A = List ℕ × List ℕ} (p, rest) (o, other) = same_Some _ _ (sym (quoted_again q ls p rest a) ∙ (ap quoted_at same ∙ quoted_again r ms o other b)) in
     (ap (λ (x : List ℕ × List ℕ). x.0) e, ap (λ (x : List ℕ × List ℕ). x.1) e)
 
 pub at_seam : (p r : List ℕ) (x : ℕ) → get_or (p ++ (x ∷ r)) (length p) 0 ≡ x

@@ -1,10 +1,11 @@
 -- Quoted scalars: what is read is what is written.
 use Rattle.std.proofs.Common.{◌≡◌, ℕ, ◌+◌, Bool, true, false, ◌&&◌, eqb, eq-eqb, List, [], ◌∷◌, ◌++◌, length, Some, refl, sym, ap, ◌∙◌, subst, inl, inr, ◌⊎◌, arith, append_assoc, length-append}
+use Rattle.std.proofs.lemmas.Bool.{or_parts}
 use Rattle.yq_scalar.specs.Answers.{more}
 use Rattle.yq_scalar.specs.Text.{is_feed, is_return, is_marker, front}
 use Rattle.yq_scalar.specs.Quoted.{Char, itself, doubled, escape as letter_escape, code, spell_char, spell_chars, IsChar, AreChars, Break, line_feed, return_feed, spell_break, spell_end, Lines, last, line, spell_lines, AreLines}
 use Rattle.yq_scalar.specs.QuotedReading.{quoted_len}
-use Rattle.yq_scalar.proofs.Bools.{or_false, more_more, more_none}
+use Rattle.yq_scalar.proofs.Bools.{more_more, more_none}
 use Rattle.yq_scalar.proofs.CharLaws.{IsEscape, code_escape, letter_is_escape}
 
 -- bytes that are passed over
@@ -21,7 +22,7 @@ escape_again c e t h = rw (h.line t, h.reads t) (ap (more 1) (length_over 34 e t
 -- a byte that stands for itself
 itself_again : (q b : ℕ) (t : List ℕ) → IsChar q (itself b) t → quoted_len q 0 (b ∷ t) ≡ more 1 (quoted_len q 0 t)
 unfolding quoted_len
-itself_again q b t h = let n = or_false (is_feed b) (is_return b && front is_feed t) h.1 in rw (h.0, n.0, h.2) refl
+itself_again q b t h = let n = or_parts (is_feed b) (is_return b && front is_feed t) h.1 in rw (h.0, n.0, h.2) refl
 
 doubled_again : (t : List ℕ) → quoted_len 39 0 (39 ∷ 39 ∷ t) ≡ more 2 (quoted_len 39 0 t)
 unfolding quoted_len

@@ -1,5 +1,6 @@
 -- The piece of a quoted scalar.
 use Rattle.std.proofs.Common.{◌≡◌, ℕ, ◌+◌, List, length, drop, slice_index, Some, None, Result, Ok, Err, sym, ap, ◌∙◌, IfOk}
+use Rattle.std.proofs.lemmas.Option.{same_Some}
 use Rattle.yq_scalar.specs.declared.piece.Piece.{Piece}
 use Rattle.yq_scalar.specs.Answers.{◌>>=◌, Reads}
 use Rattle.yq_scalar.specs.Piece.{inline_piece}
@@ -8,9 +9,6 @@ use Rattle.yq_scalar.specs.QuotedReading.{quoted_at}
 use Rattle.yq_scalar.specs.QuotedPiece.{style_of, IsQuotedPiece, piece_of, quoted_from}
 use Rattle.yq_scalar.proofs.Bools.{bind_some}
 use Rattle.yq_scalar.proofs.QuotedFound.{quoted_takes, quoted_again}
-
-some_is : {A : Type 0} {x y : A} → Some x ≡ Some y → x ≡ y
-some_is e = cc
 
 first_is : (quote : ℕ) (ls : Lines) (piece rest : List ℕ) → IsQuoted quote ls piece rest → slice_index piece 0 ≡ quote
 first_is quote ls piece rest is = ap (λ (l : List ℕ). slice_index l 0) is.spelled
@@ -27,7 +25,7 @@ piece_takes at text p h =
       rest = b.0.1;
       stands = t.cut;
       quoted = t.is;
-      piece = sym (some_is b.2) ∙ ap (λ q. inline_piece (style_of q) at (at + length b.0.0)) (first_is t.quote t.ls b.0.0 b.0.1 t.is);
+      piece = sym (same_Some _ _ b.2) ∙ ap (λ q. inline_piece (style_of q) at (at + length b.0.0)) (first_is t.quote t.ls b.0.0 b.0.1 t.is);
     }
 
 pub piece_again : (at : ℕ) (text : List ℕ) (p : Piece) → IsQuotedPiece at text p → quoted_from at text ≡ Some p
@@ -42,5 +40,5 @@ found_by at text (Ok p) h = piece_takes at text p h
 found_by at text (Err e) h = tt
 
 pub only_by : {E : Type 0} (at : ℕ) (text : List ℕ) (r : Result Piece E) → Reads (λ p. p) r (quoted_from at text) → (p : Piece) → IsQuotedPiece at text p → r ≡ Ok p
-only_by at text (Ok q) h p i = ap Ok (some_is (sym h ∙ piece_again at text p i))
+only_by at text (Ok q) h p i = ap Ok (same_Some _ _ (sym h ∙ piece_again at text p i))
 only_by at text (Err e) h p i = absurd (let no : None ≡ Some p = sym h ∙ piece_again at text p i in cc)

@@ -1,11 +1,11 @@
 -- Quoted scalars: the lines that are read.
 use Rattle.std.proofs.Common.{◌≡◌, ℕ, zero, suc, ◌+◌, ◌<◌, ◌≤◌, Bool, true, false, ◌&&◌, not, eqb, eqb-true, List, [], ◌∷◌, ◌++◌, length, drop, Some, None, refl, sym, ap, ◌∙◌, subst, inl, inr, ◌⊎◌, arith, length-append, length-drop}
-use Rattle.std.proofs.lemmas.Bool.{false≢true, or_cases, not-true, not-false}
+use Rattle.std.proofs.lemmas.Bool.{false≢true, or_cases, not-true, not-false, and_parts, cases_Bool, or_parts}
 use Rattle.yq_scalar.specs.Answers.{more}
 use Rattle.yq_scalar.specs.Text.{is_break, is_feed, is_return, is_marker, front}
 use Rattle.yq_scalar.specs.Quoted.{itself, doubled, IsChar, Break, line_feed, return_feed, spell_break, Lines, last, spell_lines, AreLines}
 use Rattle.yq_scalar.specs.QuotedReading.{escape, behind, closes, quoted_len}
-use Rattle.yq_scalar.proofs.Bools.{is_true, and_true, or_false, bind_some, more_some}
+use Rattle.yq_scalar.proofs.Bools.{bind_some, more_some}
 use Rattle.yq_scalar.proofs.EscapeLaws.{length_item, length_of_some}
 use Rattle.yq_scalar.proofs.CharLaws.{escape_takes}
 use Rattle.yq_scalar.proofs.QuotedLaws.{Read, of_quotes, read_char, read_line, lines_again, closed_here}
@@ -33,14 +33,14 @@ record Byte (q : ℕ) (t : List ℕ) (n : ℕ) : Type 0 where
 
 feed_double : (n : ℕ) (t : List ℕ) → quoted_len 34 0 (10 ∷ t) ≡ Some n → (is_marker t ≡ false) × Byte 34 t n
 unfolding quoted_len
-feed_double n t h = elim (is_true (is_marker t)) [
+feed_double n t h = elim (cases_Bool (is_marker t)) [
   | inl e ↦ absurd (let no : None ≡ Some n = (rw e at h) in cc)
   | inr e ↦ let x = more_some 1 n (quoted_len 34 0 t) (rw e at h) in (e, record { m = x.0; rest = x.1; size = x.2 })
 ]
 
 feed_single : (n : ℕ) (t : List ℕ) → quoted_len 39 0 (10 ∷ t) ≡ Some n → (is_marker t ≡ false) × Byte 39 t n
 unfolding quoted_len
-feed_single n t h = elim (is_true (is_marker t)) [
+feed_single n t h = elim (cases_Bool (is_marker t)) [
   | inl e ↦ absurd (let no : None ≡ Some n = (rw e at h) in cc)
   | inr e ↦ let x = more_some 1 n (quoted_len 39 0 t) (rw e at h) in (e, record { m = x.0; rest = x.1; size = x.2 })
 ]
@@ -84,11 +84,11 @@ break_back : (q n : ℕ) (t : List ℕ) → (q ≡ 34) ⊎ (q ≡ 39) → is_bre
 break_back q n [] quotes brk h = absurd (false≢true brk)
 break_back q n (b ∷ []) quotes brk h = elim (or_cases (is_feed b) (is_return b && false) brk) [
   | inl e ↦ subst (λ (x : ℕ). quoted_len q 0 (x ∷ []) ≡ Some n → Broken q (x ∷ []) n) (sym (eqb-true b 10 e)) (by_feed q n [] quotes) h
-  | inr e ↦ absurd (false≢true (and_true (is_return b) false e).1)
+  | inr e ↦ absurd (false≢true (and_parts (is_return b) false e).1)
 ]
 break_back q n (b ∷ c ∷ t) quotes brk h = elim (or_cases (is_feed b) (is_return b && is_feed c) brk) [
   | inl e ↦ subst (λ (x : ℕ). quoted_len q 0 (x ∷ c ∷ t) ≡ Some n → Broken q (x ∷ c ∷ t) n) (sym (eqb-true b 10 e)) (by_feed q n (c ∷ t) quotes) h
-  | inr e ↦ let p = and_true (is_return b) (is_feed c) e in
+  | inr e ↦ let p = and_parts (is_return b) (is_feed c) e in
       subst (λ (x : ℕ). quoted_len q 0 (x ∷ c ∷ t) ≡ Some n → Broken q (x ∷ c ∷ t) n) (sym (eqb-true b 13 p.0))
       (subst (λ (y : ℕ). quoted_len q 0 (13 ∷ y ∷ t) ≡ Some n → Broken q (13 ∷ y ∷ t) n) (sym (eqb-true c 10 p.1)) (by_return q n t quotes)) h
 ]
@@ -97,7 +97,7 @@ break_back q n (b ∷ c ∷ t) quotes brk h = elim (or_cases (is_feed b) (is_ret
 read_close : (q b n : ℕ) (bs : List ℕ) → closes q (b ∷ bs) ≡ true → quoted_len q 0 (b ∷ bs) ≡ Some n → Read q (b ∷ bs) n
 unfolding quoted_len
 read_close q b n bs e h =
-    let p = and_true (eqb b q) (not (eqb q 39 && front (λ c. eqb c 39) bs)) e in
+    let p = and_parts (eqb b q) (not (eqb q 39 && front (λ c. eqb c 39) bs)) e in
     let zero_is : Some 0 ≡ Some n = (rw e at h) in
     record {
       ls = last [];
@@ -127,7 +127,7 @@ read_doubled : (q b n : ℕ) (bs : List ℕ) → closes q (b ∷ bs) ≡ false �
 unfolding Reads
 read_doubled q b n [] opened same st one reads = absurd (only_quote (eqb q 39) (rw same at opened))
 read_doubled q b n (c ∷ cs) opened same st one reads =
-    let pair = and_true (eqb q 39) (eqb c 39) (not-false (eqb q 39 && eqb c 39) (rw same at opened)) in
+    let pair = and_parts (eqb q 39) (eqb c 39) (not-false (eqb q 39 && eqb c 39) (rw same at opened)) in
     let long : st.k ≡ 1 = step_len q b n 1 (c ∷ cs) st one in
     let first : b ≡ 39 = eqb-true b q same ∙ eqb-true q 39 pair.0 in
     let second : c ≡ 39 = eqb-true c 39 pair.1 in
@@ -177,27 +177,27 @@ read_break q n t most le quotes brk h reads =
     read_line q x.m n false x.kind x.rest t x.cut (λ e. no_way e) x.begins (reads x.m x.rest less x.read) x.size
 
 read_slash : (n : ℕ) (bs : List ℕ) → Step 34 92 bs n → Reads 34 (length bs) → Read 34 (92 ∷ bs) n
-read_slash n bs st reads = elim (is_true (is_break bs)) [
+read_slash n bs st reads = elim (cases_Bool (is_break bs)) [
   | inl brk ↦ read_joined n bs st brk reads
   | inr no_break ↦ read_escape n bs st no_break reads
 ]
 
 -- whatever is in front
 read_front : (q b n : ℕ) (bs : List ℕ) → (q ≡ 34) ⊎ (q ≡ 39) → closes q (b ∷ bs) ≡ false → quoted_len q 0 (b ∷ bs) ≡ Some n → Reads q (length bs) → Read q (b ∷ bs) n
-read_front q b n bs quotes opened h reads = elim (is_true (is_break (b ∷ bs))) [
+read_front q b n bs quotes opened h reads = elim (cases_Bool (is_break (b ∷ bs))) [
   | inl brk ↦ read_break q n (b ∷ bs) (length bs) (omega arith) quotes brk h reads
   | inr no_break ↦
       let st = step_back q b n bs opened h in
-      let no_feed = or_false (is_feed b) (is_return b && front is_feed bs) no_break in
-      elim (is_true (eqb q 34 && eqb b 92)) [
+      let no_feed = or_parts (is_feed b) (is_return b && front is_feed bs) no_break in
+      elim (cases_Bool (eqb q 34 && eqb b 92)) [
         | inl slash ↦
-            let p = and_true (eqb q 34) (eqb b 92) slash in
+            let p = and_parts (eqb q 34) (eqb b 92) slash in
             let here : Step q b bs n → Reads q (length bs) → Read q (b ∷ bs) n =
             subst (λ (x : ℕ). Step x b bs n → Reads x (length bs) → Read x (b ∷ bs) n) (sym (eqb-true q 34 p.0))
             (subst (λ (y : ℕ). Step 34 y bs n → Reads 34 (length bs) → Read 34 (y ∷ bs) n) (sym (eqb-true b 92 p.1))
             (read_slash n bs)) in
             here st reads
-        | inr no_slash ↦ elim (is_true (eqb b q)) [
+        | inr no_slash ↦ elim (cases_Bool (eqb b q)) [
           | inl same ↦ read_doubled q b n bs opened same st (rw (no_feed.0, no_slash, same) refl) reads
           | inr other ↦ read_itself q b n bs (other, no_break, no_slash) st (rw (no_feed.0, no_slash, other) refl) reads
         ]
@@ -208,7 +208,7 @@ pub lines_takes : (fuel q n : ℕ) (t : List ℕ) → length t ≤ fuel → (q �
 unfolding quoted_len Reads
 lines_takes fuel q n [] le quotes h = absurd (let e : None ≡ Some n = h in cc)
 lines_takes zero q n (b ∷ bs) le quotes h = absurd (omega arith)
-lines_takes (suc fuel) q n (b ∷ bs) le quotes h = elim (is_true (closes q (b ∷ bs))) [
+lines_takes (suc fuel) q n (b ∷ bs) le quotes h = elim (cases_Bool (closes q (b ∷ bs))) [
   | inl e ↦ read_close q b n bs e h
   | inr opened ↦ read_front q b n bs quotes opened h (λ m t less read. lines_takes fuel q m t (omega arith) quotes read)
 ]

@@ -2,6 +2,7 @@
 use Rattle.std.proofs.Common.{◌≡◌, ℕ, ◌≤◌, true, false, ◌&&◌, eqb, List, [], ◌∷◌, ◌++◌, length, refl, sym, ap, ◌∙◌, append-nil, ℤ}
 use Rattle.std.proofs.Math.Bool.{and-false}
 use Rattle.std.proofs.Math.Seq.{drop-append_seam}
+use Rattle.std.proofs.lemmas.Bool.{and_parts, or_parts}
 use Rattle.std.specs.List.{list_all}
 use Rattle.std.specs.Str.{IsUtf8, chars}
 use Rattle.yq_scalar.specs.declared.block_written.Break.{Break}
@@ -21,7 +22,6 @@ use Rattle.yq_scalar.specs.Scalar.{IsScalar, ScalarText, plain_of, string_of}
 use Rattle.yq_scalar.specs.Text.{is_feed, is_return, is_break, front, lines_of}
 use Rattle.yq_scalar.specs.Writable.{can_write, in_flow, is_string, is_single_char}
 use Rattle.yq_scalar.specs.Written.{single, double}
-use Rattle.yq_scalar.proofs.Bools.{and_true, or_false}
 use Rattle.yq_scalar.proofs.LiteralText.{literal_block, literal_content}
 use Rattle.yq_scalar.proofs.PieceContentLaws.{plain_piece_content, quoted_piece_content, block_piece_content}
 use Rattle.yq_scalar.proofs.PlainSpells.{plain_line, string_kind, writable_text, writable_same, writable_piece}
@@ -46,16 +46,16 @@ itselves_text [] = refl
 itselves_text (b ∷ t) = ap (λ x. b ∷ x) (itselves_text t)
 
 no_break : (b : ℕ) (t : List ℕ) → holds_break (b ∷ t) ≡ false → is_break (b ∷ t) ≡ false
-no_break b [] h = rw (or_false (is_feed b) false h).0 (and-false (is_return b))
+no_break b [] h = rw (or_parts (is_feed b) false h).0 (and-false (is_return b))
 no_break b (c ∷ t) h =
-    let here = or_false (is_feed b) (holds_break (c ∷ t)) h in
-    let next = or_false (is_feed c) (holds_break t) here.1 in
+    let here = or_parts (is_feed b) (holds_break (c ∷ t)) h in
+    let next = or_parts (is_feed c) (holds_break t) here.1 in
     rw (here.0, next.0) (and-false (is_return b))
 
 itselves_plain : (t : List ℕ) → holds_break t ≡ false → ArePlain (itselves t) []
 unfolding itselves
 itselves_plain [] h = tt
-itselves_plain (b ∷ t) h = (ap (λ x. is_break (b ∷ x)) (append-nil (spell_chars (itselves t)) ∙ itselves_spelled t) ∙ no_break b t h, itselves_plain t (or_false (is_feed b) (holds_break t) h).1)
+itselves_plain (b ∷ t) h = (ap (λ x. is_break (b ∷ x)) (append-nil (spell_chars (itselves t)) ∙ itselves_spelled t) ∙ no_break b t h, itselves_plain t (or_parts (is_feed b) (holds_break t) h).1)
 
 one_line : (t : List ℕ) → holds_break t ≡ false → IsPlainLines (last (itselves t)) t
 one_line t h = record { spelled = sym (itselves_spelled t); lines = itselves_plain t h }
@@ -97,7 +97,7 @@ pub single_back : (s : ScalarText) (place : Place) (before rest : List ℕ) → 
     × (string_of s.text ≡ s)
 unfolding single_is
 single_back s place before rest u h front_is =
-    let can = and_true (is_string s.kind) (list_all is_single_char (chars s.text)) h in
+    let can = and_parts (is_string s.kind) (list_all is_single_char (chars s.text)) h in
     let spells = single_spells s.text rest u can.1 front_is in
     let is = single_is s.text before rest spells in
     (is, quoted_piece_content (length before) (put styles.Single s.text before rest) (put_piece styles.Single s.text before) is ∙ spells.same, string_same s can.0)
@@ -125,8 +125,8 @@ unfolding block_is
 literal_back s n m br before tail rest u h deep line behind =
     let b = written_block s.text m (break_text br) tail in
     let is = block_is n b before rest (literal_block (deeper n) m br s tail rest u h deep line behind) in
-    let can = and_true (is_string s.kind && true) _ h in (
+    let can = and_parts (is_string s.kind && true) _ h in (
       is,
       block_piece_content n (put_block s.text m br tail before rest) (put_block_piece s.text m br tail before) is ∙ literal_content m br s tail u h,
-      string_same s (and_true (is_string s.kind) true can.0).0,
+      string_same s (and_parts (is_string s.kind) true can.0).0,
     )

@@ -1,6 +1,6 @@
 -- The texts of null, bools, ints and floats may be written plain.
 use Rattle.std.proofs.Common.{◌≡◌, ℕ, ◌<◌, ◌≤◌, Bool, true, eqb, List, [], ◌∷◌, ◌++◌, refl, sym, inl, inr, ⊎_elim, ◌&&◌, ◌||◌, ap, subst, arith, append-nil, append_assoc, codes}
-use Rattle.std.proofs.lemmas.Bool.{lt-ltb}
+use Rattle.std.proofs.lemmas.Bool.{lt-ltb, and_parts}
 use Rattle.std.proofs.lemmas.List.Folds.{list_all-append}
 use Rattle.std.specs.Char.{digit_value}
 use Rattle.std.specs.List.{list_all}
@@ -9,19 +9,18 @@ use Rattle.yq_scalar.specs.Numbers.{Sign, unsigned, plus, minus, spell_sign, Int
 use Rattle.yq_scalar.specs.Schema.{bool_words, infinity_words, nan_words, IsOneOf, IsInt, IsFloat}
 use Rattle.yq_scalar.specs.Text.{front}
 use Rattle.yq_scalar.specs.PlainText.{is_plain_text}
-use Rattle.yq_scalar.proofs.Bools.{and_true}
 use Rattle.yq_scalar.proofs.WordPlain.{is_letter, is_word, begins_unsigned, begins_signed, word_plain}
 
 -- a test of words
 among : (test : List ℕ → Bool) (words : List (List ℕ)) (t : List ℕ) → list_all test words ≡ true → IsOneOf words t → test t ≡ true
 among test [] t h i = absurd i
-among test (w ∷ ws) t h i = let p = and_true (test w) (list_all test ws) h in ⊎_elim (λ e. subst (λ (x : List ℕ). test x ≡ true) (sym e) p.0) (λ j. among test ws t p.1 j) i
+among test (w ∷ ws) t h i = let p = and_parts (test w) (list_all test ws) h in ⊎_elim (λ e. subst (λ (x : List ℕ). test x ≡ true) (sym e) p.0) (λ j. among test ws t p.1 j) i
 
 abbrev is_spelling : List ℕ → Bool
 is_spelling t = list_all is_word t && begins_signed t
 
 spelling_plain : (flow : Bool) (t : List ℕ) → is_spelling t ≡ true → is_plain_text flow t ≡ true
-spelling_plain flow t h = let p = and_true (list_all is_word t) (begins_signed t) h in word_plain flow t p.0 p.1
+spelling_plain flow t h = let p = and_parts (list_all is_word t) (begins_signed t) h in word_plain flow t p.0 p.1
 
 pub bool_plain : (flow : Bool) (t : List ℕ) → IsOneOf bool_words t → is_plain_text flow t ≡ true
 bool_plain flow t h = spelling_plain flow t (among is_spelling bool_words t refl h)

@@ -1,7 +1,8 @@
 -- What stands behind the spaces in front of a line.
 use Rattle.std.proofs.Common.{◌≡◌, ℕ, zero, suc, ◌+◌, Bool, true, false, cond, not, eqb, List, [], ◌∷◌, ◌++◌, drop, replicate, refl, ap, ◌∙◌, ⊎_elim, arith}
+use Rattle.std.proofs.lemmas.Bool.{cases_Bool}
 use Rattle.std.specs.List.{prefix_len}
-use Rattle.yq_scalar.proofs.Bools.{is_true, at_byte}
+use Rattle.yq_scalar.proofs.Bools.{at_byte}
 use Rattle.yq_scalar.specs.Lines.{spaces, behind_spaces, is_tab, is_blank}
 use Rattle.yq_scalar.specs.Text.{is_white, ends_line, past_white, upto, no_white}
 
@@ -27,7 +28,7 @@ spaces_blank (b ∷ l) h = ⊎_elim {0, 0, 0}
     let tab : eqb b 9 ≡ false = at_byte (λ x. ends_line (x ∷ l)) b 9 here refl in
     let white : is_white b ≡ false = rw e tab in
     rw (white_drop b l) (rw white here))
-    (is_true (eqb b 32))
+    (cases_Bool (eqb b 32))
 
 pub char_not_blank : (l : List ℕ) → ends_line (behind_spaces l) ≡ false → is_tab (behind_spaces l) ≡ false → is_blank l ≡ false
 unfolding upto
@@ -40,7 +41,7 @@ char_not_blank (b ∷ l) h k = ⊎_elim {0, 0, 0}
     let tab : eqb b 9 ≡ false = rw e at (rw (prefix_drop (λ x. eqb x 32) b l) at k) in
     let white : is_white b ≡ false = rw e tab in
     rw (white_drop b l) (rw white here))
-    (is_true (eqb b 32))
+    (cases_Bool (eqb b 32))
 
 -- spaces in front
 pub prefix_next : (p : ℕ → Bool) (b : ℕ) (l : List ℕ) → p b ≡ true → prefix_len p (b ∷ l) ≡ suc (prefix_len p l)

@@ -1,6 +1,6 @@
 -- What is written in quotes is a quoted scalar that stands for its string.
 use Rattle.std.proofs.Common.{◌≡◌, ℕ, ◌+◌, ◌/◌, ◌%◌, ◌<◌, ◌≤◌, Bool, true, false, cond, ◌&&◌, ◌||◌, not, eqb, leb, ltb, List, [], ◌∷◌, ◌++◌, Option, Some, None, is_none, flat_map, refl, sym, inl, inr, ap, ◌∙◌, subst, arith, eqb-true, append_assoc, append-nil}
-use Rattle.std.proofs.lemmas.Bool.{false≢true, cases_lt, cond_both, ltb-true, ltb-false, le-leb, lt-ltb, le-ltb, and_from, not_from_false, or_cases, or_right, ne_eqb}
+use Rattle.std.proofs.lemmas.Bool.{false≢true, cases_lt, cond_both, ltb-true, ltb-false, le-leb, lt-ltb, le-ltb, and_from, not_from_false, or_cases, or_right, ne_eqb, and_parts, cases_Bool}
 use Rattle.std.proofs.Math.Utf8.{encodes, encode, scalar, scalars}
 use Rattle.std.proofs.lemmas.Str.{encode_ascii, encodes-chars, scalars-chars}
 use Rattle.std.specs.Char.{digit_value}
@@ -12,7 +12,7 @@ use Rattle.yq_scalar.specs.Text.{is_feed, is_return, front}
 use Rattle.yq_scalar.specs.Quoted.{letters, beside, is_unicode, Char, itself, doubled, escape, code, spell_char, spell_chars, char_text, chars_text, bytes_of, IsChar, AreChars, last, content, IsQuoted}
 use Rattle.yq_scalar.specs.Writable.{is_single_char}
 use Rattle.yq_scalar.specs.Written.{written_letters, letter_of, upper, two_digits, four_digits, code_escape, double_by, in_double, in_single, single, double}
-use Rattle.yq_scalar.proofs.Bools.{is_true, and_true, chosen, at_byte, not_byte}
+use Rattle.yq_scalar.proofs.Bools.{chosen, at_byte, not_byte}
 use Rattle.yq_scalar.proofs.Bytes.{Each, each_encode}
 
 -- a character, written so in these quotes
@@ -122,7 +122,7 @@ four_value : (c : ℕ) → c < 65536 → digits_value 16 (four_digits c) ≡ c
 four_value c h = rw (upper_value (c / 4096 % 16) (omega arith), upper_value (c / 256 % 16) (omega arith), upper_value (c / 16 % 16) (omega arith), upper_value (c % 16) (omega arith)) (omega arith)
 
 code_stands : (c : ℕ) → c < 65536 → is_unicode c ≡ true → Stands 34 (encode c) (code_escape c)
-code_stands c h s = elim (is_true (ltb c 256)) [
+code_stands c h s = elim (cases_Bool (ltb c 256)) [
   | inl lt ↦ (let low : c < 256 = ltb-true c 256 lt in rw lt (one_char 34 (code 120 (two_digits c)) (encode c) (92 ∷ 120 ∷ two_digits c) refl (ap encode (two_value c low))
       (λ rest. (refl, refl, (digit_at (c / 16 % 16) (omega arith), (digit_at (c % 16) (omega arith), tt)), ap is_unicode (two_value c low) ∙ s))))
   | inr ge ↦ rw ge (one_char 34 (code 117 (four_digits c)) (encode c) (92 ∷ 117 ∷ four_digits c) refl (ap encode (four_value c h))
@@ -132,7 +132,7 @@ code_stands c h s = elim (is_true (ltb c 256)) [
 unicode_most : (c : ℕ) → 65536 ≤ c → is_unicode c ≡ true → c < 1114112
 unicode_most c ge s = elim (or_cases (ltb c 55296) (leb 57344 c && ltb c 1114112) s) [
   | inl low ↦ absurd (omega (arith, ltb-true c 55296 low))
-  | inr high ↦ ltb-true c 1114112 (and_true (leb 57344 c) (ltb c 1114112) high).1
+  | inr high ↦ ltb-true c 1114112 (and_parts (leb 57344 c) (ltb c 1114112) high).1
 ]
 
 high_text : (c : ℕ) → 65536 ≤ c → c < 1114112 → is_text_char c ≡ true
@@ -156,7 +156,7 @@ double_ordinary c h =
 
 double_as : (c : ℕ) (o : Option ℕ) → letter_of c written_letters ≡ o → is_unicode c ≡ true → Stands 34 (encode c) (double_by o c)
 double_as c (Some l) h s = letter_stands c l h
-double_as c None h s = elim (is_true (is_text_char c)) [
+double_as c None h s = elim (cases_Bool (is_text_char c)) [
   | inl p ↦ rw p (itself_stands 34 c (omega arith) (λ low. double_ordinary c h))
   | inr p ↦ rw p (code_stands c (below c p s) s)
 ]
@@ -168,14 +168,14 @@ same_scalar false y h = h
 double_stands : (cs : List ℕ) → scalars cs ≡ true → Stands 34 (encodes cs) (flat_map in_double cs)
 double_stands [] h = none_stands 34
 double_stands (c ∷ cs) h =
-    let p = and_true (scalar c) (scalars cs) h in
+    let p = and_parts (scalar c) (scalars cs) h in
     both 34 (encode c) (encodes cs) (in_double c) (flat_map in_double cs) (double_as c (letter_of c written_letters) refl (same_scalar (ltb c 55296) (leb 57344 c && ltb c 1114112) p.0)) (double_stands cs p.1)
 
 single_ordinary : (c : ℕ) → is_single_char c ≡ true → eqb c 39 ≡ false → is_ordinary 39 c ≡ true
 single_ordinary c h n = rw (n, at_byte is_single_char c 10 h refl, at_byte is_single_char c 13 h refl) refl
 
 single_as : (c : ℕ) → is_single_char c ≡ true → Stands 39 (encode c) (in_single c)
-single_as c h = elim (is_true (eqb c 39)) [
+single_as c h = elim (cases_Bool (eqb c 39)) [
   | inl e ↦ (let is : c ≡ 39 = eqb-true c 39 e in subst (λ (x : ℕ). Stands 39 (encode x) (in_single x)) (sym is) (one_char 39 doubled (encode 39) (39 ∷ 39 ∷ []) refl (sym (encode_ascii 39 (omega arith))) (λ rest. refl)))
   | inr n ↦ rw n (itself_stands 39 c (omega arith) (λ low. single_ordinary c h n))
 ]
@@ -183,7 +183,7 @@ single_as c h = elim (is_true (eqb c 39)) [
 single_stands : (cs : List ℕ) → list_all is_single_char cs ≡ true → Stands 39 (encodes cs) (flat_map in_single cs)
 single_stands [] h = none_stands 39
 single_stands (c ∷ cs) h =
-    let p = and_true (is_single_char c) (list_all is_single_char cs) h in
+    let p = and_parts (is_single_char c) (list_all is_single_char cs) h in
     both 39 (encode c) (encodes cs) (in_single c) (flat_map in_single cs) (single_as c p.0) (single_stands cs p.1)
 
 -- a string in quotes

@@ -1,6 +1,6 @@
 -- What is written in quotes is a text, and no break is in it.
 use Rattle.std.proofs.Common.{◌≡◌, ℕ, ◌/◌, ◌%◌, ◌<◌, Bool, true, false, ◌&&◌, not, eqb, ltb, List, [], ◌∷◌, ◌++◌, Option, Some, None, is_none, flat_map, refl, sym, inl, inr, ap, ◌∙◌, subst, arith, eqb-true, append-nil}
-use Rattle.std.proofs.lemmas.Bool.{false≢true, agree_below_at, ltb-true, or_cases, and_from}
+use Rattle.std.proofs.lemmas.Bool.{false≢true, agree_below_at, ltb-true, or_cases, and_from, and_parts, cases_Bool}
 use Rattle.std.proofs.Math.Utf8.{encodes, encode, scalar, scalars, low_scalar}
 use Rattle.std.proofs.lemmas.Str.{encode_ascii, encodes-append, chars-encodes, scalars-chars}
 use Rattle.std.specs.List.{list_all}
@@ -11,7 +11,7 @@ use Rattle.yq_scalar.specs.Plain.{holds_break}
 use Rattle.yq_scalar.specs.PlainText.{is_plain_char}
 use Rattle.yq_scalar.specs.Writable.{is_single_char}
 use Rattle.yq_scalar.specs.Written.{written_letters, letter_of, upper, two_digits, four_digits, code_escape, double_by, in_double, in_single, single, double}
-use Rattle.yq_scalar.proofs.Bools.{is_true, and_true, chosen, at_byte, not_byte}
+use Rattle.yq_scalar.proofs.Bools.{chosen, at_byte, not_byte}
 use Rattle.yq_scalar.proofs.Bytes.{Each, Each-append, each_encode}
 
 -- a byte of no break
@@ -31,11 +31,11 @@ line_none = record { chars = []; spelled = refl; valid = refl; text = refl; byte
 
 all_append : (test : ℕ → Bool) (a b : List ℕ) → list_all test a ≡ true → list_all test b ≡ true → list_all test (a ++ b) ≡ true
 all_append test [] b h k = k
-all_append test (c ∷ a) b h k = let p = and_true (test c) (list_all test a) h in rw (p.0, all_append test a b p.1 k) refl
+all_append test (c ∷ a) b h k = let p = and_parts (test c) (list_all test a) h in rw (p.0, all_append test a b p.1 k) refl
 
 pub scalars_append : (a b : List ℕ) → scalars a ≡ true → scalars b ≡ true → scalars (a ++ b) ≡ true
 scalars_append [] b h k = k
-scalars_append (c ∷ a) b h k = let p = and_true (scalar c) (scalars a) h in rw (p.0, scalars_append a b p.1 k) refl
+scalars_append (c ∷ a) b h k = let p = and_parts (scalar c) (scalars a) h in rw (p.0, scalars_append a b p.1 k) refl
 
 line_append : (a b : List ℕ) → IsLine a → IsLine b → IsLine (a ++ b)
 line_append a b x y = record {
@@ -62,8 +62,8 @@ is_shown b = ltb b 128 && is_text_char b && no_break b
 
 shown_line : (b : ℕ) → is_shown b ≡ true → IsLine (b ∷ [])
 shown_line b h =
-    let p = and_true (ltb b 128 && is_text_char b) (no_break b) h in
-    let r = and_true (ltb b 128) (is_text_char b) p.0 in
+    let p = and_parts (ltb b 128 && is_text_char b) (no_break b) h in
+    let r = and_parts (ltb b 128) (is_text_char b) p.0 in
     let low : b < 128 = ltb-true b 128 r.0 in
     subst IsLine (encode_ascii b low) (char_line b (low_scalar b (omega arith)) r.1 (λ _. p.1))
 
@@ -73,7 +73,7 @@ shown_more b p h l = line_append (b ∷ []) p (shown_line b h) l
 letter_shown : (es : List (ℕ × ℕ)) (c l : ℕ) → list_all (λ e. is_shown e.0) es ≡ true → letter_of c es ≡ Some l → is_shown l ≡ true
 letter_shown [] c l all h = absurd (let e : None ≡ Some l = h in cc)
 letter_shown (e ∷ es) c l all h =
-    let p = and_true (is_shown e.0) (list_all (λ e. is_shown e.0) es) all in
+    let p = and_parts (is_shown e.0) (list_all (λ e. is_shown e.0) es) all in
     elim (chosen (eqb c e.1) h) [
       | inl w ↦ (let same : e.0 ≡ l = (let k : Some e.0 ≡ Some l = w.1 in cc) in subst (λ (x : ℕ). is_shown x ≡ true) same p.0)
       | inr w ↦ letter_shown es c l p.1 w.1
@@ -89,14 +89,14 @@ four_line : (c : ℕ) → IsLine (four_digits c)
 four_line c = shown_more _ _ (upper_shown (c / 4096 % 16) (omega arith)) (shown_more _ _ (upper_shown (c / 256 % 16) (omega arith)) (two_line c))
 
 code_line : (c : ℕ) → IsLine (code_escape c)
-code_line c = elim (is_true (ltb c 256)) [
+code_line c = elim (cases_Bool (ltb c 256)) [
   | inl lt ↦ rw lt (shown_more 92 _ refl (shown_more 120 _ refl (two_line c)))
   | inr ge ↦ rw ge (shown_more 92 _ refl (shown_more 117 _ refl (four_line c)))
 ]
 
 double_line : (c : ℕ) (o : Option ℕ) → letter_of c written_letters ≡ o → scalar c ≡ true → IsLine (double_by o c)
 double_line c (Some l) h s = shown_more 92 (l ∷ []) refl (shown_line l (letter_shown written_letters c l refl h))
-double_line c None h s = elim (is_true (is_text_char c)) [
+double_line c None h s = elim (cases_Bool (is_text_char c)) [
   | inl p ↦ (let test : ℕ → Bool = λ x. is_none (letter_of x written_letters) in
       let none : test c ≡ true = ap is_none h in
       rw p (char_line c s p (λ low. rw (at_byte test c 10 none refl, at_byte test c 13 none refl) refl)))
@@ -106,17 +106,17 @@ double_line c None h s = elim (is_true (is_text_char c)) [
 doubles_line : (cs : List ℕ) → scalars cs ≡ true → IsLine (flat_map in_double cs)
 doubles_line [] h = line_none
 doubles_line (c ∷ cs) h =
-    let p = and_true (scalar c) (scalars cs) h in
+    let p = and_parts (scalar c) (scalars cs) h in
     line_append (in_double c) (flat_map in_double cs) (double_line c (letter_of c written_letters) refl p.0) (doubles_line cs p.1)
 
 single_text : (c : ℕ) → is_single_char c ≡ true → is_text_char c ≡ true
 single_text c h = elim (or_cases (is_plain_char c) (eqb c 9) h) [
-  | inl p ↦ (and_true (is_text_char c) _ p).0
+  | inl p ↦ (and_parts (is_text_char c) _ p).0
   | inr t ↦ subst (λ (x : ℕ). is_text_char x ≡ true) (sym (eqb-true c 9 t)) refl
 ]
 
 single_line : (c : ℕ) → is_single_char c ≡ true → scalar c ≡ true → IsLine (in_single c)
-single_line c h s = elim (is_true (eqb c 39)) [
+single_line c h s = elim (cases_Bool (eqb c 39)) [
   | inl e ↦ rw e (shown_more 39 (39 ∷ []) refl (shown_line 39 refl))
   | inr n ↦ rw n (char_line c s (single_text c h) (λ low. rw (at_byte is_single_char c 10 h refl, at_byte is_single_char c 13 h refl) refl))
 ]
@@ -124,8 +124,8 @@ single_line c h s = elim (is_true (eqb c 39)) [
 singles_line : (cs : List ℕ) → list_all is_single_char cs ≡ true → scalars cs ≡ true → IsLine (flat_map in_single cs)
 singles_line [] h s = line_none
 singles_line (c ∷ cs) h s =
-    let p = and_true (is_single_char c) (list_all is_single_char cs) h in
-    let r = and_true (scalar c) (scalars cs) s in
+    let p = and_parts (is_single_char c) (list_all is_single_char cs) h in
+    let r = and_parts (scalar c) (scalars cs) s in
     line_append (in_single c) (flat_map in_single cs) (single_line c p.0 r.0) (singles_line cs p.1 r.1)
 
 -- a line is a text

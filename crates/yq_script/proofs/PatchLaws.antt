@@ -1,26 +1,14 @@
 -- A splice exchanges bytes in one place, and what splices do is taken back by the flipped ones.
-use Rattle.std.proofs.Common.{◌≡◌, ℕ, ◌≤◌, ◌&&◌, Bool, true, false, List, [], ◌∷◌, ◌++◌, length, take, drop, nat_le, nat_eq, Some, None, refl, sym, ap, ◌∙◌, arith, cond, append_assoc, append-nil, length-append}
+use Rattle.std.proofs.Common.{◌≡◌, ℕ, ◌≤◌, Bool, true, false, List, [], ◌∷◌, ◌++◌, length, take, drop, nat_le, nat_eq, Some, None, refl, sym, ap, ◌∙◌, arith, cond, append_assoc, append-nil, length-append, length-take-le}
 use Rattle.std.specs.Prelude.{option_and_then}
 use Rattle.std.specs.List.{starts_with}
 use Rattle.std.specs.Cmp.Derive.{both_true}
 use Rattle.std.proofs.Math.Seq.{drop-append_seam, take-append_seam}
-use Rattle.std.proofs.lemmas.Bool.{le-leb, leb-true}
+use Rattle.std.proofs.lemmas.Bool.{le-leb, leb-true, and_parts}
 use Rattle.std.proofs.lemmas.Bool.Decides.{Decides-eqb}
-use Rattle.std.proofs.lemmas.Grind.{common_steps}
 use Rattle.std.proofs.lemmas.List.{take-append-drop}
 use Rattle.std.proofs.lemmas.Slice.Eq.{starts_is}
 use Rattle.yq_script.specs.Patch.{Splice, swapped, Exchanges, is_found, change_done, all_done, flipped, lengths_done, length_done}
-
-and_left : (a b : Bool) → (a && b) ≡ true → a ≡ true
-and_left true b h = refl
-and_left false b h = h
-
-and_right : (a b : Bool) → (a && b) ≡ true → b ≡ true
-and_right true b h = h
-and_right false b h = cc
-
-length-take_le : (n : ℕ) (xs : List ℕ) → n ≤ length xs → length (take n xs) ≡ n
-length-take_le n xs h = grind (arith, common_steps)
 
 -- what is exchanged in one place is a splice done
 pub done-from_exchanges : (s : Splice) (b c : List ℕ) → Exchanges s b c → change_done s b ≡ Some c
@@ -44,15 +32,16 @@ done-from_exchanges s b c p =
 exchanges_if : (s : Splice) (b c : List ℕ) (t : Bool) → is_found s b ≡ t → cond t (Some (take s.at b ++ s.new ++ drop (length s.old) (drop s.at b))) None ≡ Some c → Exchanges s b c
 exchanges_if s b c false is e = cc
 exchanges_if s b c true is e =
-    let fits : s.at ≤ length b = leb-true s.at (length b) (and_left _ _ is) in
-    let stands : starts_with nat_eq (drop s.at b) s.old ≡ true = and_right _ _ is in
+    let parts = and_parts (nat_le s.at (length b)) (starts_with nat_eq (drop s.at b) s.old) is in
+    let fits : s.at ≤ length b = leb-true s.at (length b) parts.0 in
+    let stands : starts_with nat_eq (drop s.at b) s.old ≡ true = parts.1 in
     let rest : drop s.at b ≡ s.old ++ drop (length s.old) (drop s.at b) =
     (starts_is Decides-eqb (drop s.at b) s.old (starts_with nat_eq (drop s.at b) s.old) refl).0 stands in
     let value : take s.at b ++ s.new ++ drop (length s.old) (drop s.at b) ≡ c = cc in
     record {
       front = take s.at b;
       rest = drop (length s.old) (drop s.at b);
-      offset = length-take_le s.at b fits;
+      offset = length-take-le s.at b fits;
       before = sym (take-append-drop s.at b) ∙ ap (λ x. take s.at b ++ x) rest;
       after = sym value ∙ append_assoc (take s.at b) s.new (drop (length s.old) (drop s.at b));
     }

@@ -1,5 +1,6 @@
 -- An update that is planned on the documents of a text and carried out.
 use Rattle.std.proofs.Common.{◌≡◌, ◌≢◌, ℕ, List, Some, None, Result, Ok, Err, IfOk, IfErr, string_bytes, sym, ap, ◌∙◌, subst}
+use Rattle.std.proofs.lemmas.Option.{same_Some}
 use Rattle.std.specs.Str.{IsUtf8}
 use Rattle.yq_scalar.specs.declared.ReadFault.{ReadFault}
 use Rattle.yq_scalar.specs.declared.fault.FaultKind.TheVariants.{NotUtf8}
@@ -33,16 +34,13 @@ read_updated u t c is = ap (by_reading (λ k. carry_out t (plan u (room_of t) (d
 pub unread_updated : (u : Update) (t : List ℕ) → read_at t ≡ None → updated u t ≡ unreadable
 unread_updated u t is = ap (by_reading (λ k. carry_out t (plan u (room_of t) (documents k)))) is
 
-cut_alike : {c d : Cut} → Some c ≡ Some d → c ≡ d
-cut_alike e = cc
-
 operations_alike : {os ops : List Operation} → judgement.gives os ≡ judgement.gives ops → os ≡ ops
 operations_alike e = cc
 
 -- the operands of what is planned
 planned_operands : (u : Update) (t : List ℕ) (c : Cut) (ops : List Operation) → read_at t ≡ Some c → plan u (room_of t) (documents c) ≡ judgement.gives ops → HaveOperands ops → HasOperands u t
 planned_operands u t c ops read planned h d os again other =
-    let same : c ≡ d = cut_alike (sym read ∙ again) in
+    let same : c ≡ d = same_Some _ _ (sym read ∙ again) in
     subst HaveOperands (sym (operations_alike (sym other ∙ (ap (λ (k : Cut). plan u (room_of t) (documents k)) (sym same) ∙ planned)))) h
 
 module _ (u : Update) (t : List ℕ) (c : Cut) (ops : List Operation) (is : read_at t ≡ Some c) (planned : plan u (room_of t) (documents c) ≡ judgement.gives ops) (operands : HaveOperands ops) where

@@ -1,13 +1,14 @@
 -- All documents of a text, checked.
 use Rattle.std.proofs.Common.{◌≡◌, ℕ, zero, suc, Bool, true, false, ◌||◌, ◌&&◌, not, List, [], ◌∷◌, map, length, Option, Some, None, refl, sym, ap, ◌∙◌, subst}
+use Rattle.std.proofs.Math.Bool.{and-false}
 use Rattle.std.proofs.lemmas.Bool.{and_from, cond-false}
 use Rattle.std.proofs.lemmas.List.{length-map}
+use Rattle.std.proofs.lemmas.Option.{cond_some, same_Some}
+use mathlib.Core.List.{head-eq_of_cons-eq, tail-eq_of_cons-eq}
 use Rattle.std.specs.List.{list_all, slice_get}
 use Rattle.yq_scalar.specs.declared.fault.ReadError.{ReadError}
 use Rattle.yq_scalar.specs.declared.fault.ReadError.TheVariants as errors
 use Rattle.yq_scalar.specs.Answers.{◌>>=◌, Fails}
-use Rattle.yq_scalar.proofs.Bools.{guard_some}
-use Rattle.yq_inline.proofs.Binds.{some_same}
 use Rattle.yq_lines.specs.Comments.{head_comment}
 use Rattle.yq_rows.specs.Grammar.{unlimited, begins_document, AreParts, IsCut}
 use Rattle.yq_rows.specs.Lending.{shown_read}
@@ -42,7 +43,7 @@ parts_apart started is (marked p marker c) h =
     with_apart is p (parts_from (begins_document marker) c) (heads_apart unlimited p.rows p.end _ h.0.rows) (parts_apart (begins_document marker) (begins_document marker) c h.2)
 
 pub all_apart : (t : List ℕ) (c : Cut) (xs : List Lined) → IsCut t c → lined_parts (document_parts c) ≡ Some xs → AllApart xs
-all_apart t c xs h made = subst AllApart (guard_some (all_fit (document_parts c)) made).1 (parts_apart true (begins_bare c || not (has_begin c)) c h.parts)
+all_apart t c xs h made = subst AllApart (cond_some (all_fit (document_parts c)) _ _ made).1 (parts_apart true (begins_bare c || not (has_begin c)) c h.parts)
 
 -- a part stands for a document where its rows are fit and its lines sound
 and_assoc : (a b c : Bool) → (a && (b && c)) ≡ ((a && b) && c)
@@ -52,13 +53,9 @@ and_assoc false b c = refl
 document_split : (p : Part) → is_document p ≡ (part_fits p && lines_are_sound (lines_of p.rows))
 document_split p = and_assoc (have_fit_keys p.rows) (has_short_root p.rows) (lines_are_sound (lines_of p.rows))
 
-and_false : (a : Bool) → (a && false) ≡ false
-and_false true = refl
-and_false false = refl
-
 paired : (a b c d : Bool) → ((a && b) && (c && d)) ≡ ((a && c) && (b && d))
 paired false b c d = refl
-paired true b false d = and_false b
+paired true b false d = and-false b
 paired true b true d = refl
 
 all_split : (ps : List Part) → list_all is_document ps ≡ (all_fit ps && all_sound (all_lined ps))
@@ -93,9 +90,9 @@ rows_fail t c (errors.Fault k) h f =
 pub lines_fail : (t : List ℕ) (c : Cut) (xs : List Lined) (e : ReadError) → IsCut t c → lined_parts (document_parts c) ≡ Some xs → Fails e (if_all_sound xs) → Fails e (text_at t)
 lines_fail t c xs errors.Memory h made f = tt
 lines_fail t c xs (errors.Fault k) h made f =
-    let g = guard_some (all_fit (document_parts c)) made in
+    let g = cond_some (all_fit (document_parts c)) _ _ made in
     let unsound : all_sound (all_lined (document_parts c)) ≡ false = ap all_sound g.1 ∙ not_fit (all_sound xs) xs f in
-    refused t c h (all_split (document_parts c) ∙ (ap (λ b. all_fit (document_parts c) && b) unsound ∙ and_false (all_fit (document_parts c))))
+    refused t c h (all_split (document_parts c) ∙ (ap (λ b. all_fit (document_parts c) && b) unsound ∙ and-false (all_fit (document_parts c))))
 
 -- what is held of a text that is read
 held_by : (t : List ℕ) (c : Cut) (s : Shown) (ds : List DocumentLines) → IsCut t c → s ≡ shown c → document_views ds ≡ all_lined (document_parts c) → lines_flows ds ≡ document_flows (length t) c → all_documents c ≡ true → (d : Cut) → d ≡ c →
@@ -105,8 +102,8 @@ held_by t c s ds h rows views flows sound d e =
 
 both_sound : (t : List ℕ) (c : Cut) (xs zs : List Lined) → lined_parts (document_parts c) ≡ Some xs → if_all_sound xs ≡ Some zs → (all_documents c ≡ true) × (zs ≡ all_lined (document_parts c))
 both_sound t c xs zs made sound =
-    let g = guard_some (all_fit (document_parts c)) made in
-    let k = guard_some (all_sound xs) sound in
+    let g = cond_some (all_fit (document_parts c)) _ _ made in
+    let k = cond_some (all_sound xs) _ _ sound in
     (all_split (document_parts c) ∙ and_from (all_fit (document_parts c)) (all_sound (all_lined (document_parts c))) g.0 (ap all_sound g.1 ∙ k.0), sym (g.1 ∙ k.1))
 
 pub holds : (t : List ℕ) (c : Cut) (s : Shown) (xs : List Lined) (ds : List DocumentLines) → IsCut t c → s ≡ shown c → lined_parts (document_parts c) ≡ Some xs → if_all_sound xs ≡ Some (document_views ds) → lines_flows ds ≡ document_flows (length t) c → Holds t s ds
@@ -136,14 +133,8 @@ told_first p x d e f =
 told_at : (ps : List Part) (xs : List DocumentLines) → document_views xs ≡ all_lined ps → (i : ℕ) (x : DocumentLines) (d : Document) → slice_get xs i ≡ Some x → slice_get (map document_of ps) i ≡ Some d → Told x d
 told_at ps [] e i x d h k = cc
 told_at [] (y ∷ ys) e i x d h k = cc
-told_at (p ∷ ps) (y ∷ ys) e zero x d h k = told_first p x d (ap document_view (sym (some_same h)) ∙ head_same e) (some_same k)
-  where
-    head_same : {A : Type 0} {a b : A} {xs ys : List A} → a ∷ xs ≡ b ∷ ys → a ≡ b
-    head_same e = cc
-told_at (p ∷ ps) (y ∷ ys) e (suc i) x d h k = told_at ps ys (tail_same e) i x d h k
-  where
-    tail_same : {A : Type 0} {a b : A} {xs ys : List A} → a ∷ xs ≡ b ∷ ys → xs ≡ ys
-    tail_same e = cc
+told_at (p ∷ ps) (y ∷ ys) e zero x d h k = told_first p x d (ap document_view (sym (same_Some _ _ h)) ∙ head-eq_of_cons-eq e) (same_Some _ _ k)
+told_at (p ∷ ps) (y ∷ ys) e (suc i) x d h k = told_at ps ys (tail-eq_of_cons-eq e) i x d h k
 
 pub told_held : (t : List ℕ) (s : Shown) (xs : List DocumentLines) → Holds t s xs → (i : ℕ) (x : DocumentLines) (d : Document) → slice_get xs i ≡ Some x → slice_get (documents_of t) i ≡ Some d → Told x d
 told_held t s xs h i x d is at = told_at (document_parts (cut_of t)) xs h.lined i x d is at

@@ -2,7 +2,7 @@
 use Rattle.std.proofs.Common.{◌≡◌, ℕ, true, List, ◌++◌, length, drop, Option, Some, None, option_map, refl, sym, ap, ◌∙◌, subst, append_assoc}
 use Rattle.std.proofs.Math.Seq.{drop-append_seam}
 use Rattle.std.proofs.lemmas.Bool.{false≢true}
-use Rattle.std.proofs.lemmas.Option.{slice_get-map}
+use Rattle.std.proofs.lemmas.Option.{slice_get-map, same_Some}
 use Rattle.std.specs.List.{slice_get}
 use Rattle.std.specs.Prelude.{Result, Ok, Err}
 use Rattle.std.specs.Str.{IsCharBoundary}
@@ -59,9 +59,6 @@ holds t i c r (Block space anchor block) is cut there begins =
       scalar = valid.2;
     }
 
-slices_same : {x y : Slices} → Some x ≡ Some y → x ≡ y
-slices_same e = cc
-
 -- A row of the code begins a block scalar.
 pub record BeginsBlock (t : List ℕ) (s : Shown) (i : ℕ) (x : Slices) (start : ℕ) : Type 0 where
   pub cut : IsCut t (cut_of t)
@@ -71,7 +68,7 @@ pub record BeginsBlock (t : List ℕ) (s : Shown) (i : ℕ) (x : Slices) (start 
   pub start_is : (r : Row) → slice_get (rows_of (cut_of t)) i ≡ Some r → start ≡ (head_place i (cut_of t) r).0
 
 row_pieces : (t : List ℕ) (s : Shown) (i : ℕ) (x : Slices) (start : ℕ) (r : Row) → BeginsBlock t s i x start → slice_get (rows_of (cut_of t)) i ≡ Some r → x ≡ slices r
-row_pieces t s i x start r h at = slices_same (sym h.there ∙ (ap (λ (y : Shown). slice_get y.rows i) h.shown_is ∙ (slice_get-map slices (rows_of (cut_of t)) i ∙ ap (option_map slices) at)))
+row_pieces t s i x start r h at = same_Some _ _ (sym h.there ∙ (ap (λ (y : Shown). slice_get y.rows i) h.shown_is ∙ (slice_get-map slices (rows_of (cut_of t)) i ∙ ap (option_map slices) at)))
 
 held : (t : List ℕ) (s : Shown) (i : ℕ) (x : Slices) (start : ℕ) (r : Row) → BeginsBlock t s i x start → slice_get (rows_of (cut_of t)) i ≡ Some r → HoldsBlock t i (cut_of t) r start
 held t s i x start r h at =

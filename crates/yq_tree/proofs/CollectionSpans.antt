@@ -2,7 +2,7 @@
 use Rattle.std.proofs.Common.{◌≡◌, ℕ, zero, suc, ◌+◌, ◌≤◌, eqb, List, [], ◌∷◌, ◌++◌, length, take, drop, map, Option, Some, None, is_some, option_map, option_and_then, Bool, true, false, cond, refl, sym, ap, ◌∙◌, subst, arith, append_assoc, append-nil}
 use Rattle.std.proofs.lemmas.Bool.{eqb-true, cond-true, cond-false, eq-eqb}
 use Rattle.std.proofs.lemmas.List.{drop-drop}
-use Rattle.std.proofs.lemmas.Option.{slice_get-map, slice_get_within}
+use Rattle.std.proofs.lemmas.Option.{slice_get-map, slice_get_within, none-some, same_Some}
 use Rattle.std.specs.List.{slice_get}
 use Rattle.yq_scalar.specs.Answers.{◌>>=◌}
 use Rattle.yq_scalar.specs.Paths.{Step}
@@ -26,7 +26,7 @@ use Rattle.yq_tree.proofs.EndedLines.{seat_ends, run_ends, RowsBefore}
 use Rattle.yq_tree.proofs.FoundEntries.{lines_count, within_some, entry_is}
 use Rattle.yq_tree.proofs.PieceSpans.{IsEntryAt, entry_at_line, last_line, last_under}
 use Rattle.yq_tree.proofs.PrintedLaws.{ArePrinted, lines_are}
-use Rattle.yq_tree.proofs.PrintedTexts.{same, none_some, run_is}
+use Rattle.yq_tree.proofs.PrintedTexts.{run_is}
 use Rattle.yq_tree.proofs.RunSpans.{get_some, get_drop}
 use Rattle.yq_tree.proofs.SeatedLines.{IsPlaced, seated}
 
@@ -72,7 +72,7 @@ module _ (c : Cut) (p : Part) (more : List Row) (k : ℕ) (before behind : List 
   run_end from j l z rest el ez last stop =
       let b = last_line c p more k before behind there placed_in told text fine (from + j) z ez last in
       let d = seated p.rows (from + j) b.0 b.1 in
-      let content = ap (λ (x : PrintedLine). x.content) (same (sym ez ∙ d.there)) ∙ (d.last b.2).0 in
+      let content = ap (λ (x : PrintedLine). x.content) (same_Some _ _ (sym ez ∙ d.there)) ∙ (d.last b.2).0 in
       let r = run_ends j l z (drop (suc from) (printed_lines p.rows)) (ap (λ x. slice_get x j) (sym (get_some (printed_lines p.rows) from l el)) ∙ (get_drop (printed_lines p.rows) from j ∙ ez)) in
       ends_same (sym (r.0 ∙ ap is_broken content)) (sym (r.1 ∙ ap end_break content)) (ap (print_lines (drop (suc (from + j)) (printed_lines p.rows))) (sym own.behind_is) ∙ sym stop)
       (seat_ends unlimited p.rows p.end own.rest (from + j) b.0 own.rows b.1 b.2)
@@ -81,7 +81,7 @@ module _ (c : Cut) (p : Part) (more : List Row) (k : ℕ) (before behind : List 
   block_end : (from m : ℕ) (start rest : List ℕ) (x : CollectionEnd) → rest ≡ print_lines (drop (from + m) (printed_lines p.rows)) behind → from + m ≤ length (printed_lines p.rows) →
       ((j : ℕ) → m ≡ suc j → (z : PrintedLine) → slice_get (printed_lines p.rows) (from + j) ≡ Some z → NoDeeper (from + j) z) →
       end_of_lines start (take m (drop from (printed_lines p.rows))) rest ≡ Some x → IsEndOf (lines_piece start (take m (drop from (printed_lines p.rows))) rest) x
-  block_end from zero start rest x stop within last e = absurd (none_some e)
+  block_end from zero start rest x stop within last e = absurd (none-some _ e)
   block_end from (suc j) start rest x stop within last e =
       let l = within_some (printed_lines p.rows) from (omega (arith, within)) in
       let z = within_some (printed_lines p.rows) (from + j) (omega (arith, within)) in
@@ -94,8 +94,8 @@ module _ (c : Cut) (p : Part) (more : List Row) (k : ℕ) (before behind : List 
       go : (l : PrintedLine) (us : List PrintedLine) → Ends (are_broken l us) (run_break l us) rest → (b : Bool) →
           cond b None (Some (record { column = l.line.column; before = start ++ print_lines (l ∷ us) []; broken = are_broken l us; behind = rest })) ≡ Some x →
           IsEndOf (cond b (head_piece (start ++ (line_front l ++ l.mark)) l.content (print_lines us rest)) (Some (run_piece start l us rest))) x
-      go l us ends true e = absurd (none_some e)
-      go l us ends false e = subst (IsEndOf (Some (run_piece start l us rest))) (same e) (record { piece = run_piece start l us rest; is = refl; break = run_break l us; before_is = run_parts start l us; behind_is = refl; ends = ends })
+      go l us ends true e = absurd (none-some _ e)
+      go l us ends false e = subst (IsEndOf (Some (run_piece start l us rest))) (same_Some _ _ e) (record { piece = run_piece start l us rest; is = refl; break = run_break l us; before_is = run_parts start l us; behind_is = refl; ends = ends })
 
   line_at : (n : ℕ) (l : PrintedLine) → slice_get (printed_lines p.rows) n ≡ Some l → slice_get (lines_of p.rows) n ≡ Some l.line
   line_at n l e = ap (λ x. slice_get x n) (sym (lines_are p.rows)) ∙ (slice_get-map line_in (printed_lines p.rows) n ∙ ap (option_map line_in) e)
@@ -135,7 +135,7 @@ module _ (c : Cut) (p : Part) (more : List Row) (k : ℕ) (before behind : List 
 
       go : (b : Bool) → cond b None (end_of_lines start e.under e.behind) ≡ Some x →
           IsEndOf (cond b (head_piece (e.before ++ (line_front e.line ++ e.line.mark)) e.line.content (print_lines e.under e.behind)) (lines_piece start e.under e.behind)) x
-      go true is = absurd (none_some is)
+      go true is = absurd (none-some _ is)
       go false is =
           subst (λ ls. IsEndOf (lines_piece start ls e.behind) x) (sym h.under_is)
           (block_end (suc n) m start e.behind x rest_is h.fits (under_last f n m l e h) (sym (ap (λ ls. end_of_lines start ls e.behind) h.under_is) ∙ is))
@@ -178,10 +178,10 @@ module _ (c : Cut) (p : Part) (more : List Row) (k : ℕ) (before behind : List 
   -- the node to which steps lead
   found_end : (y : Step) (ys rest : List Step) (f : Found) (x : CollectionEnd) → find y ys (group (map line_in (printed_lines p.rows))) ≡ Some (f, rest) → end_of_found document f rest ≡ Some x →
       IsEndOf (found_entry document f >>= piece_in_entry parts.Content rest) x
-  found_end y ys (t ∷ ts) f x is e = absurd (none_some e)
+  found_end y ys (t ∷ ts) f x is e = absurd (none-some _ e)
   found_end y ys [] f x is e =
       let h = entry_at_line c p more k before behind there placed_in told text fine y ys [] f is in
-      let own_entry = same (sym h.1 ∙ entry_is document f h.2 h.3.line) in
+      let own_entry = same_Some _ _ (sym h.1 ∙ entry_is document f h.2 h.3.line) in
       subst (λ o. IsEndOf (o >>= piece_in_entry parts.Content []) x) (sym h.1)
       (entry_end f (length (lines_before f.place)) (length (flatten f.under)) h.2 h.0 x h.3 (ap (λ (z : BlockEntry). z.behind) own_entry) (sym (ap (λ o. o >>= end_of_entry) h.1) ∙ e))
 
@@ -196,7 +196,7 @@ module _ (c : Cut) (p : Part) (more : List Row) (k : ℕ) (before behind : List 
   end_spans (y ∷ ys) x e = go (find y ys (group (map line_in (printed_lines p.rows)))) refl e
     where
       go : (o : Option (Found × List Step)) → find y ys (group (map line_in (printed_lines p.rows))) ≡ o → (o >>= λ f. end_of_found document f.0 f.1) ≡ Some x → IsEndOf (o >>= λ f. found_entry document f.0 >>= piece_in_entry parts.Content f.1) x
-      go None is e = absurd (none_some e)
+      go None is e = absurd (none-some _ e)
       go (Some f) is e = found_end y ys f.1 f.0 x is e
 
   pub end_column : (steps : List Step) → column_of steps (lines_of p.rows) ≡ column_at (end_in steps document)

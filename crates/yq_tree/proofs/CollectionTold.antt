@@ -1,5 +1,6 @@
 -- What the code tells of the end of a block collection is what stands there.
 use Rattle.std.proofs.Common.{◌≡◌, inr, ℕ, ◌≤◌, List, ◌++◌, length, map, not, Option, Some, None, option_map, true, refl, sym, ap, ◌∙◌, subst, append_assoc, length-append}
+use Rattle.std.proofs.lemmas.Option.{none-some, same_Some}
 use Rattle.std.specs.List.{slice_get}
 use Rattle.std.specs.Str.{IsUtf8, IsCharBoundary}
 use Rattle.yq_scalar.specs.Answers.{◌>>=◌}
@@ -33,7 +34,7 @@ use Rattle.yq_tree.proofs.FoundLines.{each}
 use Rattle.yq_tree.proofs.PieceHolds.{no_part, spans_are}
 use Rattle.yq_tree.proofs.PieceTexts.{document_text, document_whole, piece_text, piece_whole}
 use Rattle.yq_tree.proofs.PrintedLaws.{ArePrinted, lines_are, document_is}
-use Rattle.yq_tree.proofs.PrintedTexts.{same, none_some, map_some}
+use Rattle.yq_tree.proofs.PrintedTexts.{map_some}
 use Rattle.yq_tree.proofs.RowPathLaws.{document_fine}
 use Rattle.yq_tree.proofs.SeatedLines.{IsPlaced, document_placed}
 use Rattle.yq_tree.proofs.SeatLaws.{part_at, part_begins, none_past}
@@ -77,10 +78,10 @@ column_held t s ds i d steps h there =
     ap (λ (x : Lined). column_of steps x.1) p.2 ∙ go (printed_document i (cut_of t)) refl p.0 p.1
   where
     go : (o : Option PrintedDocument) → printed_document i (cut_of t) ≡ o → (p : Part) → slice_get (document_parts (cut_of t)) i ≡ Some p → column_of steps (lines_of p.rows) ≡ column_at (o >>= end_in steps)
-    go None is p at = absurd (none_some (sym (no_part _ i (cut_of t) is) ∙ at))
+    go None is p at = absurd (none-some _ (sym (no_part _ i (cut_of t) is) ∙ at))
     go (Some d) is p at =
         let x = document_told (cut_of t) i d steps (subst (λ y. IsCut y (cut_of t)) h.cut.text h.cut) h.sound is in
-        ap (λ (q : Part). column_of steps (lines_of q.rows)) (same (sym at ∙ x.there)) ∙ x.told.column
+        ap (λ (q : Part). column_of steps (lines_of q.rows)) (same_Some _ _ (sym at ∙ x.there)) ∙ x.told.column
 
 pub none_held : (t : List ℕ) (s : Shown) (ds : List DocumentLines) (i : ℕ) (steps : List Step) → Holds t s ds → length ds ≤ i → collection_end i steps (cut_of t) ≡ None
 none_held t s ds i steps h past = go (printed_document i (cut_of t)) refl
@@ -89,7 +90,7 @@ none_held t s ds i steps h past = go (printed_document i (cut_of t)) refl
     go None is = refl
     go (Some d) is =
         let x = document_told (cut_of t) i d steps (subst (λ y. IsCut y (cut_of t)) h.cut.text h.cut) h.sound is in
-        absurd (none_some (sym (none_past ds (document_parts (cut_of t)) h.lined i past) ∙ x.there))
+        absurd (none-some _ (sym (none_past ds (document_parts (cut_of t)) h.lined i past) ∙ x.there))
 
 -- A text cut in front of the break at the end of a block collection.
 pub record IsEndAt (t : List ℕ) (place : ℕ × ℕ) (x : CollectionEnd) : Type 0 where
@@ -105,14 +106,14 @@ content_is : (c : Cut) (path : Path) (x : CollectionEnd) → IsCut (cut_text c) 
 content_is c path x cut sound e = go (printed_document path.doc c) refl e
   where
     go : (o : Option PrintedDocument) → printed_document path.doc c ≡ o → (o >>= end_in (steps_of path)) ≡ Some x → IsEndOf (o >>= piece_in parts.Content (steps_of path)) x
-    go None is e = absurd (none_some e)
+    go None is e = absurd (none-some _ e)
     go (Some s) is e = (document_told c path.doc s (steps_of path) cut sound is).told.ends x e
 
 pub piece_is : (c : Cut) (path : Path) (y : Piece) → piece_at path parts.Content c ≡ Some y → piece_text y ≡ cut_text c
 piece_is c path y e = go (printed_document path.doc c) refl e
   where
     go : (o : Option PrintedDocument) → printed_document path.doc c ≡ o → (o >>= piece_in parts.Content (steps_of path)) ≡ Some y → piece_text y ≡ cut_text c
-    go None is e = absurd (none_some e)
+    go None is e = absurd (none-some _ e)
     go (Some s) is e = piece_whole parts.Content (steps_of path) s y e ∙ document_whole _ path.doc c s is
 
 pub end_told : (t : List ℕ) (path : Path) (place : ℕ × ℕ) (x : CollectionEnd) → IsCut t (cut_of t) → all_documents (cut_of t) ≡ true → Some place ≡ option_map piece_span (piece_at path parts.Content (cut_of t)) → collection_end path.doc (steps_of path) (cut_of t) ≡ Some x →
@@ -120,7 +121,7 @@ pub end_told : (t : List ℕ) (path : Path) (place : ℕ × ℕ) (x : Collection
 end_told t path place x cut sound at e =
     let own : IsCut (cut_text (cut_of t)) (cut_of t) = subst (λ y. IsCut y (cut_of t)) cut.text cut in
     let h = content_is (cut_of t) path x own sound e in
-    let span : place ≡ piece_span h.piece = same (at ∙ ap (option_map piece_span) h.is) in
+    let span : place ≡ piece_span h.piece = same_Some _ _ (at ∙ ap (option_map piece_span) h.is) in
     let ends = end_cut x.broken h.break x.behind h.ends in
     record {
       before = h.piece.before ++ h.piece.text;
@@ -137,7 +138,7 @@ no_content t path cut sound at = go (collection_end path.doc (steps_of path) (cu
   where
     go : (o : Option CollectionEnd) → collection_end path.doc (steps_of path) (cut_of t) ≡ o → o ≡ None
     go None e = refl
-    go (Some x) e = let h = content_is (cut_of t) path x (subst (λ y. IsCut y (cut_of t)) cut.text cut) sound e in absurd (none_some (at ∙ ap (option_map piece_span) h.is))
+    go (Some x) e = let h = content_is (cut_of t) path x (subst (λ y. IsCut y (cut_of t)) cut.text cut) sound e in absurd (none-some _ (at ∙ ap (option_map piece_span) h.is))
 
 -- it ends between characters
 pub end_boundary : (t : List ℕ) (path : Path) (place : ℕ × ℕ) → IsCut t (cut_of t) → all_documents (cut_of t) ≡ true → IsUtf8 t → Some place ≡ option_map piece_span (piece_at path parts.Content (cut_of t)) → IsCharBoundary t place.1
@@ -149,7 +150,7 @@ with_column column o e = map_some o (sym e)
 
 pub without_column : (o : Option CollectionEnd) → None ≡ column_at o → None ≡ o
 without_column None e = refl
-without_column (Some x) e = absurd (none_some e)
+without_column (Some x) e = absurd (none-some _ e)
 
 pub end_same : (column : ℕ) (before break rest : List ℕ) (x : CollectionEnd) → x.column ≡ column → x.before ≡ before ++ break → not (is_empty break) ≡ x.broken → rest ≡ x.behind → record { column = column; before = before ++ break; broken = not (is_empty break); behind = rest } ≡ x
 end_same column before break rest x c b k r = (λ i. record { column = sym c i; before = sym b i; broken = k i; behind = r i })

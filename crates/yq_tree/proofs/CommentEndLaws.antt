@@ -42,10 +42,6 @@ row_line r rest =
     row_front-append r rest ∙ (ap (λ l. row_front r ++ l) (sym (content_slices r.content rest))
     ∙ (let parts : row_front r ++ (s.space ++ (s.anchor ++ (s.apart ++ (s.head ++ (s.tail ++ (s.raw ++ rest)))))) ≡ line_text r ++ (s.tail ++ (s.raw ++ rest)) = simp append_assoc refl in parts))
 
--- the pieces of one row
-pub row_same : {x y : Slices} → Some x ≡ Some y → x ≡ y
-row_same e = cc
-
 -- no line of a row
 pub no_line_end : (path : Path) (c : Cut) (k : ℕ) → None ≡ option_map (numbers k) (seat_at path c) → None ≡ line_end path.doc (steps_of path) c
 no_line_end path c k e = sym (ap (λ (o : Option PlacedRow). o >>= λ w. cond (eqb w.line (length w.row.dashes)) (Some (end_of_line w)) None) (no_seat_placed path c k e))

@@ -1,5 +1,6 @@
 -- The text holds the pieces of comments.
 use Rattle.std.proofs.Common.{◌≡◌, ◌⊎◌, inl, inr, ℕ, List, [], ◌∷◌, ◌++◌, length, map, Some, None, refl, sym, ap, ◌∙◌, subst, append_assoc}
+use Rattle.std.proofs.lemmas.Option.{none-some}
 use Rattle.std.specs.Str.{IsUtf8}
 use Rattle.yq_scalar.specs.Paths.{Step}
 use Rattle.yq_scalar.specs.Text.{upto, lines_of}
@@ -16,7 +17,6 @@ use Rattle.yq_tree.specs.PrintedLines.{line_front, behind_front, print_lines, li
 use Rattle.yq_tree.proofs.CommentPieceLaws.{Ended, tail_piece, gap_piece}
 use Rattle.yq_tree.proofs.PrintedLaws.{IsPrinted, ArePrinted}
 use Rattle.yq_tree.proofs.FoundEntries.{entry_found}
-use Rattle.yq_tree.proofs.PrintedTexts.{none_some}
 use Rattle.yq_tree.proofs.PieceTexts.{tail_text, entry_text, document_text, entry_whole}
 
 pub no_tail : (before behind : List ℕ) → tail_comment before [] behind ≡ None
@@ -32,7 +32,7 @@ no_comment before c behind e = ap (λ x. content_comment before x behind) e ∙ 
 
 content_holds : (before : List ℕ) (c : Content) (behind : List ℕ) (x : Piece) (t : List ℕ) → before ++ content_text c behind ≡ t → IsUtf8 t →
     (c ≡ Nothing []) ⊎ Ended (content_cut c).4 ((content_cut c).5 ++ behind) → content_comment before c behind ≡ Some x → HoldsPiece t x
-content_holds before c behind x t text u (inl none) is = absurd (none_some (sym (no_comment before c behind none) ∙ is))
+content_holds before c behind x t text u (inl none) is = absurd (none-some _ (sym (no_comment before c behind none) ∙ is))
 content_holds before c behind x t text u (inr ended) is =
     let s = content_cut c in
     let whole = tail_text before c behind ∙ text in
@@ -50,14 +50,14 @@ entry_holds e x u told (inr is) =
 
 pub comments_hold : (steps : List Step) (s : PrintedDocument) (x : Piece) → IsUtf8 (document_text s) → ArePrinted s.lines s.behind →
     (piece_in parts.LineComment steps s ≡ Some x) ⊎ (piece_in parts.HeadComment steps s ≡ Some x) → HoldsPiece (document_text s) x
-comments_hold [] s x u told (inl is) = absurd (none_some is)
-comments_hold [] s x u told (inr is) = absurd (none_some is)
+comments_hold [] s x u told (inl is) = absurd (none-some _ is)
+comments_hold [] s x u told (inr is) = absurd (none-some _ is)
 comments_hold (y ∷ ys) s x u told is = go is
   where
     found : (f : Found) (rest : List Step) (e : BlockEntry) → find y ys (group (map line_in s.lines)) ≡ Some (f, rest) → found_entry s f ≡ Some e →
         (piece_in_entry parts.LineComment rest e ≡ Some x) ⊎ (piece_in_entry parts.HeadComment rest e ≡ Some x) → HoldsPiece (document_text s) x
-    found f (t ∷ ts) e at there (inl is) = absurd (none_some is)
-    found f (t ∷ ts) e at there (inr is) = absurd (none_some is)
+    found f (t ∷ ts) e at there (inl is) = absurd (none-some _ is)
+    found f (t ∷ ts) e at there (inr is) = absurd (none-some _ is)
     found f [] e at there is =
         let whole = entry_whole s (length (lines_before f.place)) (length (flatten f.under)) e there in
         subst (λ q. HoldsPiece q x) whole (entry_holds e x (subst IsUtf8 (sym whole) u) (entry_found s y ys [] f e at told there).told.0 is)

@@ -1,14 +1,14 @@
 -- Comments stand in their text between whole characters.
 use Rattle.std.proofs.Common.{◌≡◌, ◌⊎◌, inl, inr, ℕ, zero, suc, ◌+◌, ◌-◌, ◌<◌, ◌≤◌, ℤ, eqb, ltb, List, [], ◌∷◌, ◌++◌, length, take, drop, Some, None, Bool, true, false, cond, not, ◌&&◌, refl, sym, ap, ◌∙◌, subst, arith, append-nil, append_assoc, length-append}
 use Rattle.std.proofs.Math.Seq.{take-append_seam, drop-append_seam}
-use Rattle.std.proofs.lemmas.Bool.{cases_lt, eqb-true, false≢true, lt-ltb, le-ltb}
+use Rattle.std.proofs.lemmas.Bool.{cases_lt, eqb-true, false≢true, lt-ltb, le-ltb, and_parts}
 use Rattle.std.proofs.lemmas.List.{take-append-drop, length-drop}
+use Rattle.std.proofs.lemmas.Option.{same_Some}
 use Rattle.std.proofs.lemmas.Str.{IsUtf8-take, IsUtf8-between}
 use Rattle.std.specs.List.{slice_get}
 use Rattle.std.specs.Str.{IsUtf8, IsCharBoundary}
 use Rattle.yq_scalar.specs.Text.{cut, front, ends_line, is_break, is_white, is_line, is_empty, joined, lines_of, no_white, past_white, upto}
 use Rattle.yq_scalar.proofs.BlockPieceLaws.{IsLf, line_lf, append_lf, cut_lf}
-use Rattle.yq_scalar.proofs.Bools.{and_true}
 use Rattle.yq_scalar.proofs.Boundaries.{white_ascii, break_ascii}
 use Rattle.yq_scalar.proofs.LineLaws.{joined_lines}
 use Rattle.yq_scalar.proofs.Upto.{upto_ends}
@@ -74,7 +74,7 @@ line_end : (white comment p rest : List ℕ) → IsLineEnd white comment p rest 
 line_end white comment p rest h = go h.ends
   where
     go : ((is_break h.break && is_line h.break) ≡ true) ⊎ ((h.break ≡ []) × (rest ≡ [])) → Ended p rest
-    go (inl e) = inl (subst IsLf (sym h.spelled) (append_lf white (comment ++ h.break) (append_lf comment h.break (line_lf h.break (and_true (is_break h.break) (is_line h.break) e).1))))
+    go (inl e) = inl (subst IsLf (sym h.spelled) (append_lf white (comment ++ h.break) (append_lf comment h.break (line_lf h.break (and_parts (is_break h.break) (is_line h.break) e).1))))
     go (inr none) = inr none.1
 
 -- the end of a tail
@@ -111,9 +111,6 @@ tail_text tail = sym (take-append-drop (upto no_white tail) tail)
 line_text : (c : List ℕ) → c ≡ (cut ends_line c).0 ++ (cut ends_line c).1
 line_text c = sym (take-append-drop (upto ends_line c) c)
 
-piece_same : {x y : Piece} → Some x ≡ Some y → x ≡ y
-piece_same e = cc
-
 -- a comment in a tail, as a piece of the text
 comment_piece : (before white c more : List ℕ) → IsUtf8 (before ++ ((white ++ c) ++ more)) → BeginsAscii (c ++ more) → Ended c more → HoldsPiece (before ++ ((white ++ c) ++ more)) (record { before = before ++ white; text = (cut ends_line c).0; behind = (cut ends_line c).1 ++ more })
 comment_piece before white c more u begins ended =
@@ -143,7 +140,7 @@ tail_piece before tail more q u ended is = go (past_white tail) refl is
   where
     test : (c : Bool) (b : ℕ) (bs : List ℕ) → past_white tail ≡ b ∷ bs → eqb b 35 ≡ c → cond c (Some (record { before = before ++ (cut no_white tail).0; text = (cut ends_line (b ∷ bs)).0; behind = (cut ends_line (b ∷ bs)).1 ++ more })) None ≡ Some q → HoldsPiece (before ++ (tail ++ more)) q
     test true b bs e mark found =
-        subst (HoldsPiece (before ++ (tail ++ more))) (piece_same found)
+        subst (HoldsPiece (before ++ (tail ++ more))) (same_Some _ _ found)
         (mark_piece before (cut no_white tail).0 tail more b bs u ended (tail_text tail ∙ ap (λ x. (cut no_white tail).0 ++ x) e) (eqb-true b 35 mark))
     test false b bs e mark found = absurd (cc)
 
@@ -155,7 +152,7 @@ tail_piece before tail more q u ended is = go (past_white tail) refl is
 pub content_end : (n : ℤ) (x : Content) (rest : List ℕ) → IsContent n x rest → Ended (content_cut x).4 ((content_cut x).5 ++ rest)
 content_end n (Nothing tail) rest h = tail_end tail rest h
 content_end n (Inline space node tail) rest h = tail_end tail rest h.2
-content_end n (Block space anchor block) rest h = inl (line_lf block.tail (and_true (is_line block.tail) _ h.2.tail).0)
+content_end n (Block space anchor block) rest h = inl (line_lf block.tail (and_parts (is_line block.tail) _ h.2.tail).0)
 
 -- the end of a gap
 line_then : (l ls rest : List ℕ) → Ended l (ls ++ rest) → (ls ≡ []) ⊎ Ended ls rest → Ended (l ++ ls) rest
@@ -191,7 +188,7 @@ run_begins [] rest some = absurd (omega (arith, some))
 run_begins (l ∷ ls) rest some = go (are_comments (l ∷ ls)) refl some (λ k. run_begins ls rest k)
   where
     go : (b : Bool) → are_comments (l ∷ ls) ≡ b → 0 < length (joined (cond b (l ∷ ls) (last_run ls))) → (0 < length (joined (last_run ls)) → BeginsAscii (joined (last_run ls) ++ rest)) → BeginsAscii (joined (cond b (l ∷ ls) (last_run ls)) ++ rest)
-    go true h some again = subst BeginsAscii (sym (append_assoc l (joined ls) rest)) (comment_begins l (joined ls ++ rest) (and_true (front (λ b. eqb b 35) (past_white l)) (are_comments ls) h).0)
+    go true h some again = subst BeginsAscii (sym (append_assoc l (joined ls) rest)) (comment_begins l (joined ls ++ rest) (and_parts (front (λ b. eqb b 35) (past_white l)) (are_comments ls) h).0)
     go false h some again = again some
 
 some_bytes : (t : List ℕ) → is_empty t ≡ false → 0 < length t
@@ -216,7 +213,7 @@ gap_piece before gap rest q u ended is = go (is_empty (joined (last_run (lines_o
     go false e found =
         let some : 0 < length (joined (last_run (lines_of gap))) = some_bytes (joined (last_run (lines_of gap))) e in
         let here : IsUtf8 ((before ++ joined (before_run (lines_of gap))) ++ (joined (last_run (lines_of gap)) ++ rest)) = subst IsUtf8 whole u in
-        subst (HoldsPiece (before ++ (gap ++ rest))) (piece_same found)
+        subst (HoldsPiece (before ++ (gap ++ rest))) (same_Some _ _ found)
         (subst (λ x. HasPieces x (before ++ joined (before_run (lines_of gap))) (joined (last_run (lines_of gap))) rest) (sym whole)
         (pieces_at (before ++ joined (before_run (lines_of gap))) (joined (last_run (lines_of gap))) rest here
         (begins_at (before ++ joined (before_run (lines_of gap))) (joined (last_run (lines_of gap))) rest (run_begins (lines_of gap) rest some))

@@ -1,6 +1,7 @@
 -- What the code answers for a comment is the span of its piece.
 use Rattle.std.proofs.Common.{◌≡◌, ℕ, zero, suc, ◌+◌, eqb, List, [], ◌∷◌, ◌++◌, length, take, drop, map, Option, Some, None, option_map, option_and_then, Bool, true, false, cond, refl, sym, ap, ◌∙◌, subst, arith, length-append, replicate}
 use Rattle.std.proofs.lemmas.Bool.{eqb-true, eqb-false}
+use Rattle.std.proofs.lemmas.Option.{none-some, same_Some}
 use Rattle.std.specs.List.{slice_get}
 use Rattle.yq_scalar.specs.Answers.{◌>>=◌}
 use Rattle.yq_scalar.specs.Paths.{Step}
@@ -25,7 +26,7 @@ use Rattle.yq_tree.proofs.CommentPlaceLaws.{tail_told, gap_told}
 use Rattle.yq_tree.proofs.PieceHolds.{no_part}
 use Rattle.yq_tree.proofs.PrintedLaws.{lines_are}
 use Rattle.yq_tree.proofs.FoundEntries.{line_there, entry_is}
-use Rattle.yq_tree.proofs.PrintedTexts.{same, none_some, map_some, lines_then}
+use Rattle.yq_tree.proofs.PrintedTexts.{map_some, lines_then}
 use Rattle.yq_tree.proofs.RunSpans.{begin_is, content_size, seat_at as seat_there}
 use Rattle.yq_tree.proofs.SeatLaws.{part_begins}
 use Rattle.yq_tree.proofs.SeatedLines.{row_begin, IsSeated, IsPlaced, document_placed}
@@ -148,10 +149,10 @@ module _ (c : Cut) (p : Part) (more : List Row) (k : ℕ) (start end : List ℕ)
 
 -- the lines of a document of any cut
 document_lines : (is : Bool) (n : ℕ) (c : Cut) (s : PrintedDocument) → printed_part is n c ≡ Some s → (p : Part) × (slice_get (parts_from is c) n ≡ Some p) × (s.lines ≡ printed_lines p.rows)
-document_lines true zero (last p) s e = (p, refl, ap (λ (x : PrintedDocument). x.lines) (sym (same e)))
-document_lines true (suc n) (last p) s e = absurd (none_some e)
-document_lines false n (last p) s e = absurd (none_some e)
-document_lines true zero (marked p marker c) s e = (p, refl, ap (λ (x : PrintedDocument). x.lines) (sym (same e)))
+document_lines true zero (last p) s e = (p, refl, ap (λ (x : PrintedDocument). x.lines) (sym (same_Some _ _ e)))
+document_lines true (suc n) (last p) s e = absurd (none-some _ e)
+document_lines false n (last p) s e = absurd (none-some _ e)
+document_lines true zero (marked p marker c) s e = (p, refl, ap (λ (x : PrintedDocument). x.lines) (sym (same_Some _ _ e)))
 document_lines true (suc n) (marked p marker c) s e =
     let x = map_some (printed_part (begins_document marker) n c) e in
     let q = document_lines (begins_document marker) n c x.0 x.1 in

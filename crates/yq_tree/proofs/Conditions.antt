@@ -1,6 +1,6 @@
 -- What is asked of a document, as a test and as a fact.
-use Rattle.std.proofs.Common.{◌≡◌, ℕ, leb, List, [], ◌∷◌, length, Bool, true, false, not, ◌&&◌, refl, sym, ap, bytes_eq, codes}
-use Rattle.std.proofs.lemmas.Bool.{and_parts, and_from, leb-true, le-leb}
+use Rattle.std.proofs.Common.{◌≡◌, ℕ, leb, List, [], ◌∷◌, length, true, not, ◌&&◌, refl, ap, bytes_eq, codes}
+use Rattle.std.proofs.lemmas.Bool.{and_parts, and_from, leb-true, le-leb, not-true}
 use Rattle.std.specs.Str.{chars}
 use Rattle.yq_inline.specs.Nodes as inline
 use Rattle.yq_inline.specs.Nodes.{Items, none, item}
@@ -11,13 +11,9 @@ use Rattle.yq_documents.specs.Documents.{IsFit, HasFitKey, HasFitKeys, EachHasFi
 use Rattle.yq_documents.specs.Reading.{is_fit, has_fit_key, has_fit_keys, each_has_fit_keys, content_is_fit, mark_is_fit, have_fit_keys, has_short_root}
 use Rattle.yq_lines.proofs.KeyLaws.{differ, differs}
 
-not_is : (b : Bool) → not b ≡ true → b ≡ false
-not_is false e = refl
-not_is true e = sym e
-
 -- keys
 fit_is : (key : List ℕ) → is_fit key ≡ true → IsFit key
-fit_is key e = let p = and_parts (not (bytes_eq key (codes "<<"))) (leb (length (chars key)) key_limit) e in (differ key (codes "<<") (not_is _ p.0), leb-true _ _ p.1)
+fit_is key e = let p = and_parts (not (bytes_eq key (codes "<<"))) (leb (length (chars key)) key_limit) e in (differ key (codes "<<") (not-true _ p.0), leb-true _ _ p.1)
 
 is_fit_of : (key : List ℕ) → IsFit key → is_fit key ≡ true
 is_fit_of key h = and_from (not (bytes_eq key (codes "<<"))) (leb (length (chars key)) key_limit) (ap not (differs key (codes "<<") h.0)) (le-leb _ key_limit h.1)
@@ -69,7 +65,7 @@ is_content_fit (Block space anchor block) h = refl
 mark_fit_is : (m : rows.Mark) → mark_is_fit m ≡ true → MarkIsFit m
 mark_fit_is rows.Bare e = tt
 mark_fit_is rows.Dash e = tt
-mark_fit_is (rows.Key key colon) e = differ key (codes "<<") (not_is _ e)
+mark_fit_is (rows.Key key colon) e = differ key (codes "<<") (not-true _ e)
 
 is_mark_fit : (m : rows.Mark) → MarkIsFit m → mark_is_fit m ≡ true
 is_mark_fit rows.Bare h = refl
@@ -89,7 +85,7 @@ are_keys (r ∷ rs) h = and_from (mark_is_fit r.mark) (content_is_fit r.content 
 -- the root
 pub short_is : (rs : List Row) → has_short_root rs ≡ true → HasShortRoot rs
 short_is [] e = tt
-short_is (r ∷ rs) e = not_is _ e
+short_is (r ∷ rs) e = not-true _ e
 
 pub is_short : (rs : List Row) → HasShortRoot rs → has_short_root rs ≡ true
 is_short [] h = refl

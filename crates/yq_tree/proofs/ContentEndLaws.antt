@@ -1,9 +1,8 @@
 -- A content ends in a break, or the text ends behind it.
 use Rattle.std.proofs.Common.{◌≡◌, ◌⊎◌, inl, inr, ℕ, ℤ, Bool, true, false, not, length, take, drop, ◌&&◌, List, [], ◌∷◌, ◌++◌, refl, sym, ap, ◌∙◌, subst, append-nil}
 use Rattle.std.proofs.Math.Seq.{take-append_seam, drop-append_seam}
-use Rattle.std.proofs.lemmas.Bool.{eqb-true, false_from_ne_true, false≢true}
+use Rattle.std.proofs.lemmas.Bool.{eqb-true, false_from_ne_true, false≢true, and_parts, or_parts}
 use Rattle.yq_scalar.specs.Text.{front, is_white, is_feed, is_return, is_break, is_line, is_empty, line_len, cut_line, ends_line, NoneIn}
-use Rattle.yq_scalar.proofs.Bools.{and_true, or_false}
 use Rattle.yq_scalar.proofs.LineLaws.{line_cut}
 use Rattle.yq_rows.specs.Gap.{IsBreak, IsComment, IsWhite}
 use Rattle.yq_rows.specs.Grammar.{IsContent, IsTail}
@@ -24,7 +23,7 @@ white_no_feed (b ∷ w) h = (false_from_ne_true (is_feed b) (λ e. let is : b �
 
 rest_no_feed : (c : List ℕ) → NoneIn ends_line c [] → HasNoFeed c
 rest_no_feed [] h = tt
-rest_no_feed (b ∷ c) h = ((or_false (is_feed b) (is_return b && front is_feed (c ++ [])) h.0).0, rest_no_feed c h.1)
+rest_no_feed (b ∷ c) h = ((or_parts (is_feed b) (is_return b && front is_feed (c ++ [])) h.0).0, rest_no_feed c h.1)
 
 comment_no_feed : (c : List ℕ) → IsComment c [] → HasNoFeed c
 comment_no_feed [] h = tt
@@ -46,7 +45,7 @@ tail_ends tail rest h = go h.line.ends
 
     go : IsBreak h.line.break rest → Ends (is_line tail) (last_break tail) rest
     go (inl e) =
-        let line : is_line tail ≡ true = same ∙ (and_true (is_break h.line.break) (is_line h.line.break) e).1 in
+        let line : is_line tail ≡ true = same ∙ (and_parts (is_break h.line.break) (is_line h.line.break) e).1 in
         inl (line, line_last tail line)
     go (inr e) =
         let text : tail ≡ h.white ++ h.comment = h.line.spelled ∙ (ap (λ l. h.white ++ (h.comment ++ l)) e.0 ∙ ap (λ l. h.white ++ l) (append-nil h.comment)) in
@@ -57,7 +56,7 @@ pub content_ends : (n : ℤ) (c : Content) (rest : List ℕ) → IsContent n c r
 content_ends n (Nothing tail) rest h = tail_ends tail rest h
 content_ends n (Inline space node tail) rest h = tail_ends tail rest h.2
 content_ends n (Block space anchor block) rest h =
-    inl (refl, raw_last block.indent block.raw block.tail h.2.lines (and_true (is_line block.tail) _ h.2.tail).0)
+    inl (refl, raw_last block.indent block.raw block.tail h.2.lines (and_parts (is_line block.tail) _ h.2.tail).0)
 
 -- so the line in front of what stands behind a content less its break is that break
 some_line : (l : List ℕ) → is_line l ≡ true → not (is_empty l) ≡ true

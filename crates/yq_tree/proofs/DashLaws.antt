@@ -3,7 +3,7 @@ use Rattle.std.proofs.Common.{◌≡◌, ◌⊎◌, inl, inr, ℕ, zero, suc, �
 use Rattle.std.proofs.Math.Seq.{take-append_seam, drop-append_seam}
 use Rattle.std.proofs.lemmas.Bool.{eq-eqb, ne_eqb, cases_lt}
 use Rattle.std.proofs.lemmas.List.{length-replicate}
-use Rattle.std.proofs.lemmas.Option.{slice_get-map}
+use Rattle.std.proofs.lemmas.Option.{slice_get-map, same_Some}
 use Rattle.std.specs.List.{slice_get}
 use Rattle.std.specs.Str.{IsUtf8, IsCharBoundary}
 use Rattle.yq_scalar.specs.Answers.{◌>>=◌}
@@ -29,7 +29,6 @@ use Rattle.yq_documents.specs.Reading.{cut_of}
 use Rattle.yq_tree.specs.SeatReading.{Numbers, numbers}
 use Rattle.yq_documents.specs.Seats.{seat_of, seat_at, document_row}
 use Rattle.yq_documents.specs.SoundReading.{Holds}
-use Rattle.yq_tree.proofs.CommentEndLaws.{row_same}
 use Rattle.yq_tree.proofs.CommentPieceLaws.{row_place}
 use Rattle.yq_tree.proofs.EntryPlaceLaws.{seat_is}
 use Rattle.yq_tree.proofs.HeldLaws.{held_shown}
@@ -102,7 +101,7 @@ module _ (t : List ℕ) (x : Shown) (ds : List DocumentLines) (held : Holds t x 
   k = (seat_placed path (cut_of t) n seat).1
 
   own : slices w.row ≡ s
-  own = row_same (sym (ap (λ (y : Shown). slice_get y.rows n.0) held.rows ∙ (slice_get-map slices (rows_of c) n.0 ∙ ap (option_map slices) k.at.there)) ∙ row)
+  own = same_Some _ _ (sym (ap (λ (y : Shown). slice_get y.rows n.0) held.rows ∙ (slice_get-map slices (rows_of c) n.0 ∙ ap (option_map slices) k.at.there)) ∙ row)
 
   within : w.line ≤ length w.row.dashes
   within = line_within path.doc (steps_of path) c w k.is

@@ -1,6 +1,7 @@
 -- Documents, read from parts and told by them.
-use Rattle.std.proofs.Common.{◌≡◌, leb, List, [], ◌∷◌, map, Bool, true, false, ◌&&◌, Some, None, cond, refl, sym, ap, ◌∙◌}
+use Rattle.std.proofs.Common.{◌≡◌, leb, List, [], ◌∷◌, map, Bool, true, ◌&&◌, refl, sym, ap, ◌∙◌}
 use Rattle.std.proofs.lemmas.Bool.{and_parts, and_from, leb-true, le-leb, cond-true}
+use Rattle.std.proofs.lemmas.Option.{cond_some}
 use Rattle.std.specs.List.{list_all}
 use Rattle.yq_scalar.specs.Tree.{Node}
 use Rattle.yq_scalar.specs.Keys.{depth}
@@ -26,13 +27,9 @@ root_is [] e = refl
 root_is (l ∷ ls) e =
     let s = stand-sound (l ∷ ls) (value (group (l ∷ ls))) (cond-true _ _ _ e) in (s.0, rules_from s.0 (l ∷ ls) (value (group (l ∷ ls))) s.1 l ls refl)
 
-pub fine_value : (b : Bool) (v w : Node) → cond b (Some v) None ≡ Some w → (b ≡ true) × (v ≡ w)
-fine_value true v w e = (refl, cc)
-fine_value false v w e = cc
-
 is_root : (ls : List Line) (node : Node) → IsRoot ls node → (is_fine (group ls) ≡ true) × (value (group ls) ≡ node)
 is_root [] node h = (refl, sym h)
-is_root (l ∷ ls) node h = fine_value (is_fine (group (l ∷ ls))) (value (group (l ∷ ls))) node (stand-complete (l ∷ ls) node h.0 (rules_give h.0 (l ∷ ls) node h.1))
+is_root (l ∷ ls) node h = cond_some (is_fine (group (l ∷ ls))) (value (group (l ∷ ls))) node (stand-complete (l ∷ ls) node h.0 (rules_give h.0 (l ∷ ls) node h.1))
 
 -- what the tests of a document are, one behind the other
 abbrev Tests : Bool → Bool → Bool → Bool → Bool → Type 0

@@ -2,7 +2,7 @@
 use Rattle.std.proofs.Common.{◌≡◌, ℕ, zero, suc, ◌+◌, ◌-◌, ◌<◌, ◌≤◌, eqb, ltb, List, [], ◌∷◌, ◌++◌, length, drop, Option, Some, None, option_map, option_and_then, Bool, true, false, cond, not, ◌||◌, refl, sym, ap, ◌∙◌, subst, arith}
 use Rattle.std.proofs.lemmas.Bool.{ltb-false, eq-eqb, ne_eqb, cond-true, cond-false, false≢true}
 use Rattle.std.proofs.lemmas.List.{length-map}
-use Rattle.std.proofs.lemmas.Option.{slice_get_within, slice_get-map}
+use Rattle.std.proofs.lemmas.Option.{slice_get_within, slice_get-map, same_Some}
 use Rattle.std.specs.List.{slice_get}
 use Rattle.std.specs.Prelude.{is_some}
 use Rattle.yq_scalar.specs.Answers.{◌>>=◌}
@@ -50,12 +50,9 @@ seated n (r ∷ rs) = go (ltb (length r.dashes) n) refl (seat (n - suc (length r
 pub seat_is : (n : ℕ) (rs : List Row) (s : Seat) → seat n rs ≡ Some s → IsSeated rs s
 seat_is n rs s e = go (seat n rs) (seated n rs) e
   where
-    same : {x y : Seat} → Some x ≡ Some y → x ≡ y
-    same e = cc
-
     go : (o : Option Seat) → If o (IsSeated rs) → o ≡ Some s → IsSeated rs s
     go None h e = absurd (cc)
-    go (Some q) h e = subst (IsSeated rs) (same e) h
+    go (Some q) h e = subst (IsSeated rs) (same_Some _ _ e) h
 
 get_front : (xs more : List Row) (i : ℕ) (r : Row) → slice_get xs i ≡ Some r → slice_get (xs ++ more) i ≡ Some r
 get_front [] more i r e = absurd (cc)
@@ -72,9 +69,6 @@ pub row_there : (c : Cut) (rs more : List Row) (first n : ℕ) (s : Seat) → dr
 row_there c rs more first n s there e =
     sym (get_drop first (rows_of c) s.before) ∙ (ap (λ (xs : List Row). slice_get xs s.before) there ∙ get_front rs more s.before s.row (seat_is n rs s e).0)
 
-numbers_same : {x y : Numbers} → Some x ≡ Some y → x ≡ y
-numbers_same e = cc
-
 -- the place from one line to the end of another one's row
 abbrev pub between : ℕ → Cut → Seat → Seat → Option (ℕ × ℕ)
 between first c s q = Some (length (before_line (first + s.before) s.line s.row c), length (through_row (first + q.before) q.row c))
@@ -90,8 +84,8 @@ lines_told c x rs more first from to start end a b is there ea eb told_start tol
     go None so u qu ea eb = absurd (cc)
     go (Some s) so None qu ea eb = absurd (cc)
     go (Some s) so (Some q) qu ea eb =
-        let sa : a ≡ numbers first s = numbers_same ea in
-        let sb : b ≡ numbers first q = numbers_same eb in
+        let sa : a ≡ numbers first s = same_Some _ _ ea in
+        let sb : b ≡ numbers first q = same_Some _ _ eb in
         let row : slice_get (rows_of c) (first + s.before) ≡ Some s.row = row_there c rs more first from s there so in
         let other : slice_get (rows_of c) (first + q.before) ≡ Some q.row = row_there c rs more first to q there qu in
         let pieces : slice_get x.rows a.0 ≡ Some (slices s.row) = (λ j. slice_get (is j).rows (sa j).0) ∙ (slice_get-map slices (rows_of c) (first + s.before) ∙ ap (option_map slices) row) in
@@ -126,7 +120,7 @@ head_told c rs more first n a place there e told = go (seat n rs) refl e
     go : (o : Option Seat) → seat n rs ≡ o → Some a ≡ option_map (numbers first) o → Some place ≡ (o >>= λ s. Some (head_extent (first + s.before) s.row c))
     go None so e = absurd (cc)
     go (Some s) so e =
-        let sa : a ≡ numbers first s = numbers_same e in
+        let sa : a ≡ numbers first s = same_Some _ _ e in
         ap Some (told s.row (ap (λ (y : Numbers). slice_get (rows_of c) y.0) sa ∙ row_there c rs more first n s there so) ∙ ap (λ (y : Numbers). head_extent y.0 s.row c) sa)
 
 pub no_head : (c : Cut) (rs : List Row) (first n : ℕ) → None ≡ option_map (numbers first) (seat n rs) → None ≡ line_head first c rs n
@@ -165,16 +159,13 @@ first_within t s ds i k h e = go (slice_get (document_parts (cut_of t)) i) refl 
 abbrev Place : Type 0
 Place = Option (ℕ × ℕ)
 
-some_same : {x y : ℕ} → Some x ≡ Some y → x ≡ y
-some_same e = cc
-
 pub held_in : {A : Type 0} (t : List ℕ) (s : Shown) (ds : List DocumentLines) (i first : ℕ) (d : DocumentLines) (found : Option A) (place : ℕ → Cut → List Row → Option A) → Holds t s ds → slice_get ds i ≡ Some d → Some first ≡ first_row i (cut_of t) →
     ((u : List ℕ) (c : Cut) (p : Part) (more : List Row) → IsCut u c → s ≡ shown c → views d.lines ≡ lines_of p.rows → HasFlows first c p.rows (flows d.lines) → drop first (rows_of c) ≡ p.rows ++ more → found ≡ place first c p.rows) →
     found ≡ (slice_get (document_parts (cut_of t)) i >>= λ p. place (document_row i (cut_of t)) (cut_of t) p.rows)
 held_in t s ds i first d found place h there e told =
     let part = part_at ds (document_parts (cut_of t)) h.lined i d there in
     let b = part_begins (cut_of t) i part.0 part.1 in
-    let same : first ≡ document_row i (cut_of t) = some_same (e ∙ ap (λ (o : Option Part). option_map (λ p. document_row i (cut_of t)) o) part.1) in
+    let same : first ≡ document_row i (cut_of t) = same_Some _ _ (e ∙ ap (λ (o : Option Part). option_map (λ p. document_row i (cut_of t)) o) part.1) in
     let held : HasFlows first (cut_of t) part.0.rows (flows d.lines) = subst (λ (k : ℕ). HasFlows k (cut_of t) part.0.rows (flows d.lines)) (sym same) (held_flows t s ds i d part.0 h there part.1) in
     told t (cut_of t) part.0 b.0 h.cut h.rows (ap (λ (x : Lined). x.1) part.2) held (ap (λ (k : ℕ). drop k (rows_of (cut_of t))) same ∙ b.1)
     ∙ (ap (λ (k : ℕ). place k (cut_of t) part.0.rows) same

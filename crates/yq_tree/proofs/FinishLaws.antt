@@ -1,11 +1,10 @@
 -- Rows end, before their breaks, at whole characters, and no later than rows behind them.
 use Rattle.std.proofs.Common.{◌≡◌, ◌⊎◌, inl, inr, ℕ, zero, suc, ◌-◌, ◌<◌, ◌≤◌, List, [], ◌∷◌, ◌++◌, length, take, drop, replicate, Some, Bool, true, false, cond, refl, sym, ap, ◌∙◌, subst, arith, eqb-true, append_assoc, length-append}
-use Rattle.std.proofs.lemmas.Bool.{cases_lt, lt-ltb, le-ltb, cond-true, cond-false, false≢true}
+use Rattle.std.proofs.lemmas.Bool.{cases_lt, lt-ltb, le-ltb, cond-true, cond-false, false≢true, and_parts}
 use Rattle.std.specs.List.{slice_get}
 use Rattle.std.specs.Str.{IsCharBoundary}
 use Rattle.yq_scalar.specs.Text.{is_empty, is_feed, is_return}
 use Rattle.yq_scalar.proofs.BlockPieceLaws.{IsLf}
-use Rattle.yq_scalar.proofs.Bools.{and_true}
 use Rattle.yq_rows.specs.Exchange.{row_front, before_at, before_content, behind_row}
 use Rattle.yq_rows.specs.Grammar.{AreParts}
 use Rattle.yq_rows.specs.Rows.{mark_text, dashes_text, content_text, Row, rows_text, parent_indent, part_text, Cut, last, marked, cut_text}
@@ -31,7 +30,7 @@ record IsSplit (x less : List ℕ) : Type 0 where
 
 break_ascii : (b : ℕ) (bs : List ℕ) → is_last_break (b ∷ bs) ≡ true → b < 128
 break_ascii b [] e = omega (arith, eqb-true b 10 e)
-break_ascii b (d ∷ []) e = omega (arith, eqb-true b 13 (and_true (is_return b) (is_feed d) e).0)
+break_ascii b (d ∷ []) e = omega (arith, eqb-true b 13 (and_parts (is_return b) (is_feed d) e).0)
 break_ascii b (d ∷ (f ∷ t)) e = absurd (false≢true e)
 
 pub lf_behind : (b : ℕ) (bs : List ℕ) → is_last_break (b ∷ bs) ≡ false → IsLf (b ∷ bs) → IsLf bs

@@ -1,13 +1,14 @@
 -- Spaces that end a text, and the text around an item or entry.
 use Rattle.std.proofs.Common.{◌≡◌, inl, ℕ, zero, suc, ◌+◌, ◌-◌, ◌<◌, ◌≤◌, eqb, Bool, true, false, cond, ◌&&◌, List, [], ◌∷◌, ◌++◌, length, take, drop, slice_index, Option, Some, None, option_map, refl, sym, ap, ◌∙◌, subst, arith, append_assoc, length-append}
 use Rattle.std.proofs.Math.Seq.{drop-append_seam, take-append_seam}
-use Rattle.std.proofs.lemmas.Bool.{eqb-true, ne_eqb, eq-eqb, cond-true, cond-false}
+use Rattle.std.proofs.lemmas.Bool.{eqb-true, ne_eqb, eq-eqb, cond-true, cond-false, and_parts}
 use Rattle.std.proofs.lemmas.List.{length-take-le}
+use Rattle.std.proofs.lemmas.Option.{same_Some}
 use Rattle.std.proofs.lemmas.Str.{IsCharBoundary-at_seam, IsUtf8-drop, IsUtf8-from_ascii}
 use Rattle.std.proofs.lemmas.Str.Ascii.{IsAscii-nil, IsAscii-cons}
 use Rattle.std.specs.Str.{IsAscii, IsUtf8, IsCharBoundary}
 use Rattle.yq_scalar.specs.Answers.{◌>>=◌}
-use Rattle.yq_scalar.proofs.Bools.{bind_some, and_true}
+use Rattle.yq_scalar.proofs.Bools.{bind_some}
 use Rattle.yq_inline.specs.Spans.{IsSpan}
 use Rattle.yq_rows.specs.Grammar.{IsCut}
 use Rattle.yq_rows.specs.Rows.{Cut}
@@ -95,7 +96,7 @@ end_is (b ∷ t) = go (are_spaces (b ∷ t)) refl (end_is t)
 spaces_ascii : (t : List ℕ) → are_spaces t ≡ true → IsAscii t
 spaces_ascii [] e = IsAscii-nil
 spaces_ascii (b ∷ t) e =
-    let x = and_true (eqb b 32) (are_spaces t) e in
+    let x = and_parts (eqb b 32) (are_spaces t) e in
     let same : b ≡ 32 = eqb-true b 32 x.0 in
     IsAscii-cons b t (omega (arith, same)) (spaces_ascii t x.1)
 
@@ -108,12 +109,9 @@ front_less t n e = (λ i. take (e i) (spaces_parts t i)) ∙ take-append_seam (l
 
 -- ---- the text around an item or entry
 
-some_same : {A : Type 0} {x y : A} → Some x ≡ Some y → x ≡ y
-some_same e = cc
-
 map_some : {A B : Type 0} {f : A → B} {y : B} (o : Option A) → option_map f o ≡ Some y → (x : A) × (o ≡ Some x) × (f x ≡ y)
 map_some None e = absurd (cc)
-map_some (Some x) e = (x, refl, some_same e)
+map_some (Some x) e = (x, refl, same_Some _ _ e)
 
 -- An item or entry at a path stands between two places of a text.
 pub record EntryStands (t : List ℕ) (c : Cut) (path : Path) (start end : ℕ) : Type 0 where
@@ -157,9 +155,6 @@ entry_stands t c path start end u cut sound e =
 abbrev told_of : Option Seat → Option Piece → Option FirstOut
 told_of o e = option_map first_out (o >>= λ s. cond (eqb s.line 0) None e)
 
-numbers_same : {x y : Numbers} → Some x ≡ Some y → x ≡ y
-numbers_same e = cc
-
 pub no_first_seat : (path : Path) (c : Cut) (k : ℕ) → None ≡ option_map (numbers k) (seat_at path c) → None ≡ first_removal path.doc (steps_of path) c
 no_first_seat path c k e = go (seat_at path c) e
   where
@@ -173,7 +168,7 @@ other_first_line path c k n e zero_is = go (seat_at path c) e
     go : (o : Option Seat) → Some n ≡ option_map (numbers k) o → None ≡ told_of o (piece_at path parts.Entry c)
     go None e = absurd (cc)
     go (Some q) e =
-        let line : q.line ≡ 0 = ap (λ (x : Numbers). x.1) (sym (numbers_same e)) ∙ zero_is in
+        let line : q.line ≡ 0 = ap (λ (x : Numbers). x.1) (sym (same_Some _ _ e)) ∙ zero_is in
         ap (option_map first_out) (sym (cond-true (eqb q.line 0) None (piece_at path parts.Entry c) (eq-eqb q.line 0 line)))
 
 pub no_first_entry : (path : Path) (c : Cut) → None ≡ option_map piece_span (piece_at path parts.Entry c) → None ≡ first_removal path.doc (steps_of path) c
@@ -194,5 +189,5 @@ first_is path c k n x e other is = go (seat_at path c) e
     go : (o : Option Seat) → Some n ≡ option_map (numbers k) o → Some (first_out x) ≡ told_of o (piece_at path parts.Entry c)
     go None e = absurd (cc)
     go (Some q) e =
-        let line : q.line ≡ 0 → ⊥ = λ z. other (ap (λ (y : Numbers). y.1) (numbers_same e) ∙ z) in
+        let line : q.line ≡ 0 → ⊥ = λ z. other (ap (λ (y : Numbers). y.1) (same_Some _ _ e) ∙ z) in
         ap (option_map first_out) (sym is ∙ sym (cond-false (eqb q.line 0) None (piece_at path parts.Entry c) (ne_eqb q.line 0 line)))

@@ -1,5 +1,6 @@
 -- Items and entries in flow, and the trees of their nodes.
 use Rattle.std.proofs.Common.{◌≡◌, ℕ, eqb, List, [], ◌∷◌, ◌++◌, Option, Some, None, option_map, option_and_then, Bool, true, false, cond, refl, sym, ap, ◌∙◌}
+use Rattle.std.proofs.lemmas.Option.{none-some, same_Some}
 use Rattle.yq_scalar.specs.declared.kind.Kind.TheVariants.{Text}
 use Rattle.yq_scalar.specs.Answers.{◌>>=◌}
 use Rattle.yq_scalar.specs.BlockContent.{block_content}
@@ -25,7 +26,6 @@ use Rattle.yq_lines.specs.Outline.{Mark, Line, level, Outline, end, row, flatten
 use Rattle.yq_lines.specs.Places.{Found, find}
 use Rattle.yq_tree.specs.PrintedLines.{line_front, print_lines}
 use Rattle.yq_tree.specs.PathPieces.{BlockEntry, FlowEntry, flow_in, flow_under, flow_at, content_inline, line_inline, PrintedDocument}
-use Rattle.yq_tree.proofs.PrintedTexts.{same, none_some}
 use Rattle.yq_tree.proofs.PrintedLaws.{IsValid, IsWritten}
 use Rattle.yq_tree.proofs.FoundEntries.{IsFound}
 
@@ -134,10 +134,10 @@ named_is a (tree.map b cs) = refl
 
 pub head_tree : (node : Node) (h : tree.Node) → node_head node ≡ Some h → (a : Option (List ℕ)) × (tree_of node ≡ outlines.anchored a h)
 unfolding tree_of
-head_tree empty h e = absurd (none_some e)
-head_tree (alias n) h e = (None, same e ∙ none_anchored h)
-head_tree (scalar p) h e = (None, same e ∙ none_anchored h)
-head_tree (coll k g is) h e = (None, same e ∙ none_anchored h)
+head_tree empty h e = absurd (none-some _ e)
+head_tree (alias n) h e = (None, same_Some _ _ e ∙ none_anchored h)
+head_tree (scalar p) h e = (None, same_Some _ _ e ∙ none_anchored h)
+head_tree (coll k g is) h e = (None, same_Some _ _ e ∙ none_anchored h)
 head_tree (anchored n g node) h e = let k = head_tree node h e in (first_anchor (Some n) k.0, named_is n (tree_of node) ∙ (ap (outlines.anchored (Some n)) k.1 ∙ twice (Some n) k.0 h))
 
 -- the item or entry at a path in a line's head
@@ -149,7 +149,7 @@ reach_anchored a s ss (tree.map b cs) = refl
 
 head_labels : (t : Step) (ts : List Step) (before : List ℕ) (c : Content) (rest : List ℕ) (f : Found) (h : tree.Node) → f.line.head ≡ Some h → head_of c ≡ Some h →
     labelled_from (t ∷ ts) (entry_of f.line f.under) ≡ option_map flow_label (content_inline before c rest >>= flow_at (t ∷ ts))
-head_labels t ts before (Nothing tail) rest f h head e = absurd (none_some e)
+head_labels t ts before (Nothing tail) rest f h head e = absurd (none-some _ e)
 head_labels t ts before (Block space anchor block) rest f h head e =
     ap (λ o. reach t ts (outlines.anchored f.line.anchor (head_or o (value f.under)))) (head ∙ sym e) ∙ reach_anchored f.line.anchor t ts (tree.scalar None Text (block_content block))
 head_labels t ts before (Inline space node tail) rest f h head e =
@@ -176,10 +176,10 @@ pub record IsItemAt (ss : List Step) (f : Found) (y : FlowEntry) : Type 0 where
 
 content_valid : (t : Step) (ts : List Step) (before : List ℕ) (c : Content) (rest : List ℕ) (x y : FlowEntry) → content_inline before c rest ≡ Some x → flow_at (t ∷ ts) x ≡ Some y → IsWritten c rest →
     (depth : ℕ) × IsNode true (Some 0) depth y.node y.behind
-content_valid t ts before (Nothing tail) rest x y e at w = absurd (none_some e)
-content_valid t ts before (Block space anchor block) rest x y e at w = absurd (none_some e)
+content_valid t ts before (Nothing tail) rest x y e at w = absurd (none-some _ e)
+content_valid t ts before (Block space anchor block) rest x y e at w = absurd (none-some _ e)
 content_valid t ts before (Inline space node tail) rest x y e at w =
-    item_valid t ts (record { before = before ++ space; key = bare; node = node; behind = tail ++ rest }) y (ap (flow_at (t ∷ ts)) (same e) ∙ at) w
+    item_valid t ts (record { before = before ++ space; key = bare; node = node; behind = tail ++ rest }) y (ap (flow_at (t ∷ ts)) (same_Some _ _ e) ∙ at) w
 
 pub head_item_at : (s : PrintedDocument) (t : Step) (ts : List Step) (e : BlockEntry) (f : Found) (h : tree.Node) (x y : FlowEntry) → IsFound s e f → f.line.head ≡ Some h → line_inline e ≡ Some x →
     flow_at (t ∷ ts) x ≡ Some y → IsItemAt (t ∷ ts) f y

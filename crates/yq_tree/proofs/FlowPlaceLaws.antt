@@ -1,6 +1,7 @@
 -- The items and entries to which steps lead in a head are those of its row.
 use Rattle.std.proofs.Common.{◌≡◌, ◌⊎◌, inl, inr, ℕ, ◌+◌, ◌<◌, ◌≤◌, List, [], ◌∷◌, ◌++◌, length, Option, Some, None, option_map, option_and_then, true, refl, sym, ap, ◌∙◌, subst, arith}
 use Rattle.std.proofs.lemmas.Bool.{cases_lt, false≢true}
+use Rattle.std.proofs.lemmas.Option.{same_Some}
 use Rattle.std.specs.List.{slice_get}
 use Rattle.std.specs.Prelude.{is_some}
 use Rattle.yq_scalar.specs.Answers.{◌>>=◌}
@@ -90,14 +91,11 @@ pub reached_seat : (rs : List Row) (steps : List Step) (n : ℕ) (t : Step) (ts 
 reached_seat rs [] n t ts e = absurd (cc)
 reached_seat rs (s ∷ ss) n t ts e = go (find s ss (group (lines_of rs))) refl (takes_left s ss (group (lines_of rs))) e
   where
-    same : {x y : ℕ × List Step} → Some x ≡ Some y → x ≡ y
-    same e = cc
-
     go : (r : Option (Found × List Step)) → find s ss (group (lines_of rs)) ≡ r → If r Takes → option_map {U = ℕ × List Step} (λ (x : Found × List Step). (length (lines_before x.0.place), x.1)) r ≡ Some (n, t ∷ ts) → MarkSeat rs n
     go None is h e = absurd (cc)
     go (Some x) is h e =
-        let index : length (lines_before x.0.place) ≡ n = ap (λ y. y.0) (same e) in
-        let left : x.1 ≡ t ∷ ts = ap (λ y. y.1) (same e) in
+        let index : length (lines_before x.0.place) ≡ n = ap (λ y. y.0) (same_Some _ _ e) in
+        let left : x.1 ≡ t ∷ ts = ap (λ y. y.1) (same_Some _ _ e) in
         let there : slice_get (lines_of rs) (length (lines_before x.0.place)) ≡ Some x.0.line = ap (λ (k : List Line). slice_get k (length (lines_before x.0.place))) (found_lines (lines_of rs) s ss x.1 x.0 is) ∙ middle (lines_before x.0.place) _ x.0.line in
         mark_seat rs n x.0.line (ap (slice_get (lines_of rs)) (sym index) ∙ there) (subst (TakesLeft x.0.line) left h)
 

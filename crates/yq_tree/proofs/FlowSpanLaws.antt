@@ -1,5 +1,6 @@
 -- Items and entries in flow go from one whole character to another.
 use Rattle.std.proofs.Common.{◌≡◌, ℕ, ◌≤◌, List, [], ◌∷◌, ◌++◌, length, Option, Some, None, option_map, option_and_then, Bool, true, false, cond, refl, sym, ◌∙◌, subst, arith, length-append}
+use Rattle.std.proofs.lemmas.Option.{same_Some}
 use Rattle.std.specs.List.{slice_get}
 use Rattle.std.specs.Str.{IsUtf8}
 use Rattle.yq_scalar.specs.Paths.{Step, is_here, further}
@@ -23,9 +24,6 @@ use Rattle.yq_tree.proofs.HeadSpanLaws.{node_spans}
 abbrev pub EntrySpans : List ℕ → PlacedEntry → Type 0
 EntrySpans t e = HasKeySpan t e.0 × HasSpans t e.1
 
-same : {A : Type 0} {x y : A} → Some x ≡ Some y → x ≡ y
-same e = cc
-
 parts_spans : (t : List ℕ) (p : Placed) → HasSpans t p → PartsHaveSpans t (parts_of p)
 parts_spans t (placed a s c e nothing) h = tt
 parts_spans t (placed a s c e (name n)) h = tt
@@ -38,11 +36,11 @@ part_spans t s end e h is = absurd (cc)
 part_spans t s (part key n ps) e h is = go (is_here s (inner (unplaced_key key))) (λ again. part_spans t (further s) ps e h.2 again) is
   where
     go : (b : Bool) → (part_at (further s) ps ≡ Some e → EntrySpans t e) → cond b (Some (key, n)) (part_at (further s) ps) ≡ Some e → EntrySpans t e
-    go true again is = subst (EntrySpans t) (same is) (h.0, h.1)
+    go true again is = subst (EntrySpans t) (same_Some _ _ is) (h.0, h.1)
     go false again is = again is
 
 pub entry_spans : (t : List ℕ) (ss : List Step) (slot e : PlacedEntry) → EntrySpans t slot → placed_entry_at ss slot ≡ Some e → EntrySpans t e
-entry_spans t [] slot e h is = subst (EntrySpans t) (same is) h
+entry_spans t [] slot e h is = subst (EntrySpans t) (same_Some _ _ is) h
 entry_spans t (s ∷ ss) slot e h is = go (part_at s (parts_of slot.1)) refl (λ x k again. entry_spans t ss x e k again) is
   where
     go : (o : Option PlacedEntry) → part_at s (parts_of slot.1) ≡ o → ((x : PlacedEntry) → EntrySpans t x → placed_entry_at ss x ≡ Some e → EntrySpans t e) → option_and_then (placed_entry_at ss) o ≡ Some e → EntrySpans t e
@@ -65,10 +63,10 @@ place_span t (Some k, placed a s c x f) h less = record { ordered = less; begins
 
 content_span : (t : List ℕ) (p : Placed) (x : ℕ × ℕ) → HasSpans t p → content_place p ≡ Some x → IsSpan t x.0 x.1
 content_span t (placed a s c e nothing) x h is = absurd (cc)
-content_span t (placed a s c e (name n)) x h is = subst (λ (y : ℕ × ℕ). IsSpan t y.0 y.1) (same is) h.1
-content_span t (placed a s c e (text y piece)) x h is = subst (λ (y : ℕ × ℕ). IsSpan t y.0 y.1) (same is) h.1
-content_span t (placed a s c e (sequence parts)) x h is = subst (λ (y : ℕ × ℕ). IsSpan t y.0 y.1) (same is) h.1
-content_span t (placed a s c e (mapping parts)) x h is = subst (λ (y : ℕ × ℕ). IsSpan t y.0 y.1) (same is) h.1
+content_span t (placed a s c e (name n)) x h is = subst (λ (y : ℕ × ℕ). IsSpan t y.0 y.1) (same_Some _ _ is) h.1
+content_span t (placed a s c e (text y piece)) x h is = subst (λ (y : ℕ × ℕ). IsSpan t y.0 y.1) (same_Some _ _ is) h.1
+content_span t (placed a s c e (sequence parts)) x h is = subst (λ (y : ℕ × ℕ). IsSpan t y.0 y.1) (same_Some _ _ is) h.1
+content_span t (placed a s c e (mapping parts)) x h is = subst (λ (y : ℕ × ℕ). IsSpan t y.0 y.1) (same_Some _ _ is) h.1
 
 -- the item or entry, and its content, to which steps lead in the head of a row
 none_within : (total : ℕ) (rest : List ℕ) (s : Step) (ss : List Step) (e : PlacedEntry) → placed_entry_at (s ∷ ss) (None, locate total empty rest) ≡ Some e → ⊥
@@ -77,7 +75,7 @@ none_within total rest s ss e is = cc
 
 mapped : {A B : Type 0} (f : A → B) (o : Option A) (y : B) → option_map f o ≡ Some y → (x : A) × (f x ≡ y)
 mapped f None y is = absurd (cc)
-mapped f (Some x) y is = (x, same is)
+mapped f (Some x) y is = (x, same_Some _ _ is)
 
 -- an entry's place is one from a character to another, and so is that of its content
 abbrev pub AreSpans : List ℕ → PlacedEntry → Type 0

@@ -2,7 +2,7 @@
 use Rattle.std.proofs.Common.{◌≡◌, ℕ, zero, suc, ◌<◌, List, [], ◌∷◌, ◌++◌, length, take, drop, map, Option, Some, option_map, refl, sym, ap, ◌∙◌, subst, arith, length-append}
 use Rattle.std.proofs.Math.Seq.{take-append_seam}
 use Rattle.std.proofs.lemmas.List.{take-append-drop, take-map, drop-map}
-use Rattle.std.proofs.lemmas.Option.{slice_get-map}
+use Rattle.std.proofs.lemmas.Option.{slice_get-map, same_Some}
 use Rattle.std.specs.List.{slice_get}
 use Rattle.yq_scalar.specs.Answers.{◌>>=◌}
 use Rattle.yq_scalar.specs.Paths.{Step}
@@ -14,7 +14,7 @@ use Rattle.yq_tree.proofs.FoundLines.{middle}
 use Rattle.yq_tree.proofs.RowPathLaws.{found_lines}
 use Rattle.yq_tree.specs.PrintedLines.{PrintedLine, print_lines, line_in}
 use Rattle.yq_tree.specs.PathPieces.{BlockEntry, PrintedDocument, found_entry}
-use Rattle.yq_tree.proofs.PrintedTexts.{line_split, same}
+use Rattle.yq_tree.proofs.PrintedTexts.{line_split}
 use Rattle.yq_tree.proofs.PrintedLaws.{ArePrinted, printed_split}
 
 -- Lines between two texts are some of a document.
@@ -50,9 +50,9 @@ entry_found s y ys rest f e is told at =
     ∙ (ap (take m) (sym (drop-map line_in (suc n) s.lines) ∙ (ap (drop (suc n)) found ∙ drop_line (lines_before f.place) (flatten f.under ++ back) f.line)) ∙ take-append_seam (flatten f.under) back) in
     let split : s.lines ≡ take n s.lines ++ (l.0 ∷ (take m more ++ drop m more)) = line_split s.lines n l.0 l.1 ∙ ap (λ x. take n s.lines ++ (l.0 ∷ x)) (sym (take-append-drop m more)) in
     let all = (printed_split (take n s.lines) (l.0 ∷ (take m more ++ drop m more)) s.behind (subst (λ x. ArePrinted x s.behind) split told)).1 in
-    subst (λ (z : BlockEntry). IsFound s z f) (same l.2) (record {
+    subst (λ (z : BlockEntry). IsFound s z f) (same_Some _ _ l.2) (record {
       inside = record { above = take n s.lines; below = drop m more; lines = split; start = refl; stop = refl };
-      line = same there;
+      line = same_Some _ _ there;
       lines = under;
       told = (printed_split (l.0 ∷ take m more) (drop m more) s.behind all).0;
     })

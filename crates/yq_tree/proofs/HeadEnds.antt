@@ -1,6 +1,6 @@
 -- Where the head of a row ends, by its pieces.
 use Rattle.std.proofs.Common.{◌≡◌, ℕ, ℤ, ◌+◌, eqb, Bool, true, false, cond, List, [], ◌∷◌, ◌++◌, length, Some, option_map, ◌≤◌, refl, sym, ap, ◌∙◌, arith, append-nil}
-use Rattle.std.proofs.lemmas.Option.{slice_get-map}
+use Rattle.std.proofs.lemmas.Option.{slice_get-map, same_Some}
 use Rattle.std.proofs.lemmas.Bool.{false≢true, cond_both, cond-false}
 use Rattle.std.specs.List.{slice_get}
 use Rattle.yq_scalar.specs.declared.block_header.BlockStyle.{BlockStyle}
@@ -26,9 +26,6 @@ use Rattle.yq_documents.specs.RowReading.{begins_block}
 use Rattle.yq_tree.proofs.LengthLaws.{row_fits, shown_small}
 use Rattle.yq_tree.proofs.RowStarts.{head_is, row_ends}
 use Rattle.yq_tree.proofs.SpanLaws.{get_row}
-
-some_same : {x y : Slices} → Some x ≡ Some y → x ≡ y
-some_same e = cc
 
 -- no inline node begins as a block scalar does
 scalar_begins_none : (n : ℤ) (p rest : List ℕ) → IsScalar false (Some (deeper n)) p rest → begins_block p ≡ false
@@ -95,7 +92,7 @@ pub head_told : (t : List ℕ) (c : Cut) (s : Shown) (i : ℕ) (x : Slices) (r :
     ◌≡◌ {A = ℕ × ℕ} (place.0, end) (head_extent i r c)
 head_told t c s i x r place end cut is there row at e =
     let pieces : slice_get s.rows i ≡ Some (slices r) = ap (λ (y : Shown). slice_get y.rows i) is ∙ (slice_get-map slices (rows_of c) i ∙ ap (option_map slices) row) in
-    let same : x ≡ slices r = some_same (sym there ∙ pieces) in
+    let same : x ≡ slices r = same_Some _ _ (sym there ∙ pieces) in
     let finish : end ≡ head_end (head_place i c r).1 r.content = e ∙ ((λ j. head_finish (at j).1 (same j)) ∙ head_ends t c i r (head_place i c r).1 cut row) in
     λ j. ((at j).0, finish j)
 
@@ -103,5 +100,5 @@ head_told t c s i x r place end cut is there row at e =
 pub end_told : (c : Cut) (s : Shown) (i : ℕ) (x : Slices) (r : Row) (place : ℕ × ℕ) (n : ℕ) → s ≡ shown c → slice_get s.rows i ≡ Some x → slice_get (rows_of c) i ≡ Some r → place ≡ head_place i c r → n ≡ length (ending x) → place.1 + n ≡ length (through_row i r c)
 end_told c s i x r place n is there row at e =
     let pieces : slice_get s.rows i ≡ Some (slices r) = ap (λ (y : Shown). slice_get y.rows i) is ∙ (slice_get-map slices (rows_of c) i ∙ ap (option_map slices) row) in
-    let same : x ≡ slices r = some_same (sym there ∙ pieces) in
+    let same : x ≡ slices r = same_Some _ _ (sym there ∙ pieces) in
     omega (arith, ap (λ (p : ℕ × ℕ). p.1) at, e, ap (λ (y : Slices). length (ending y)) same, row_ends c i r row)

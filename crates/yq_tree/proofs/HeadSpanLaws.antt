@@ -1,7 +1,7 @@
 -- The heads of rows, and what stands in flow in them, go from one whole character to another.
 use Rattle.std.proofs.Common.{◌≡◌, ℕ, ◌+◌, ◌-◌, ◌<◌, List, [], ◌∷◌, ◌++◌, length, drop, replicate, Option, Some, Bool, true, false, refl, sym, ap, ◌∙◌, subst, arith, append_assoc, length-append, inl}
 use Rattle.std.proofs.Math.Seq.{drop-append_seam}
-use Rattle.std.proofs.lemmas.Bool.{false≢true}
+use Rattle.std.proofs.lemmas.Bool.{false≢true, and_parts}
 use Rattle.std.specs.List.{slice_get}
 use Rattle.std.specs.Str.{IsUtf8, IsCharBoundary}
 use Rattle.yq_scalar.specs.declared.block_header.BlockStyle.{BlockStyle}
@@ -9,7 +9,6 @@ use Rattle.yq_scalar.specs.declared.block_header.BlockStyle.TheVariants as style
 use Rattle.yq_scalar.specs.declared.style.Place.TheVariants as places
 use Rattle.yq_scalar.specs.Block.{mark_of}
 use Rattle.yq_scalar.specs.Text.{is_empty}
-use Rattle.yq_scalar.proofs.Bools.{and_true}
 use Rattle.yq_inline.specs.Entries.{end_of}
 use Rattle.yq_inline.specs.Inline.{IsInlineAt}
 use Rattle.yq_inline.specs.Nodes.{Node, empty, alias, scalar, coll, anchored, node_text, IsNode}
@@ -73,7 +72,7 @@ no_bytes [] e = refl
 no_bytes (b ∷ t) e = absurd (false≢true e)
 
 bare_space : (m : Mark) (space : List ℕ) (node : Node) (tail rest : List ℕ) → is_entry m ≡ false → IsMark m (Inline space node tail) rest → space ≡ []
-bare_space rows.Bare space node tail rest e h = no_bytes space (and_true (is_empty space) (is_more node) h).0
+bare_space rows.Bare space node tail rest e h = no_bytes space (and_parts (is_empty space) (is_more node) h).0
 bare_space rows.Dash space node tail rest e h = absurd (false≢true (sym e))
 bare_space (rows.Key key colon) space node tail rest e h = absurd (false≢true (sym e))
 

@@ -1,7 +1,7 @@
 -- The aliases and flow collections that documents hold are those of their rows.
 use Rattle.std.proofs.Common.{◌≡◌, ◌⊎◌, inl, inr, ℕ, zero, suc, ◌+◌, ◌-◌, ◌<◌, ◌≤◌, List, [], ◌∷◌, ◌++◌, length, replicate, Option, Some, None, option_map, Bool, true, false, not, ◌||◌, refl, sym, ap, ◌∙◌, subst, arith}
 use Rattle.std.proofs.lemmas.Bool.{cases_lt, lt-ltb, le-ltb, cond-true, cond-false}
-use Rattle.std.proofs.lemmas.Option.{slice_get-map}
+use Rattle.std.proofs.lemmas.Option.{slice_get-map, same_Some}
 use Rattle.std.specs.List.{slice_get}
 use Rattle.yq_inline.specs.Places.{Placed}
 use Rattle.yq_rows.specs.Exchange.{behind_at, behind_row}
@@ -35,9 +35,6 @@ flow_at : (n : ℕ) (f : Option Placed) (more : List (Option Placed)) → slice_
 flow_at zero f more = refl
 flow_at (suc n) f more = flow_at n f more
 
-seat_same : {x y : Seat} → Some x ≡ Some y → x ≡ y
-seat_same e = cc
-
 -- line n of rows, by what stands behind its row
 abbrev TellsFlow : ℕ → List Row → List ℕ → ℕ → Seat → Type 0
 TellsFlow total rs rest n s = (s.before < length rs) × (slice_get (rows_flows total rs rest) n ≡ Some (row_flow total s.row (behind_at s.before rs rest)))
@@ -55,7 +52,7 @@ rows_tell total (r ∷ rs) rest n s e mark = go (cases_lt (length r.dashes) n) (
     later : (o : Option Seat) → seat (n - suc d) rs ≡ o → option_map behind_one o ≡ Some s → d < n → ((q : Seat) → seat (n - suc d) rs ≡ Some q → q.line ≡ length q.row.dashes → TellsFlow total rs rest (n - suc d) q) → TellsFlow total (r ∷ rs) rest n s
     later None is k past again = absurd (cc)
     later (Some q) is k past again =
-        let same : behind_one q ≡ s = seat_same k in
+        let same : behind_one q ≡ s = same_Some _ _ k in
         let told = again q is (subst (λ (x : Seat). x.line ≡ length x.row.dashes) (sym same) mark) in
         let at : n - length (marked_flows d f) ≡ n - suc d = ap (λ (k : ℕ). n - k) (flow_count d f) in
         let behind : slice_get (rows_flows total (r ∷ rs) rest) n ≡ slice_get (rows_flows total rs rest) (n - suc d) = get_back (marked_flows d f) (rows_flows total rs rest) n (omega (arith, past, flow_count d f)) ∙ ap (slice_get (rows_flows total rs rest)) at in
@@ -64,7 +61,7 @@ rows_tell total (r ∷ rs) rest n s e mark = go (cases_lt (length r.dashes) n) (
     go : (d < n) ⊎ (n ≤ d) → ((m : ℕ) (q : Seat) → seat m rs ≡ Some q → q.line ≡ length q.row.dashes → TellsFlow total rs rest m q) → TellsFlow total (r ∷ rs) rest n s
     go (inl past) again = later (seat (n - suc d) rs) refl (sym (cond-true _ _ _ (lt-ltb d n past)) ∙ e) past (again (n - suc d))
     go (inr within) again =
-        let same : record { before = 0; row = r; line = n } ≡ s = seat_same (sym (cond-false _ _ _ (le-ltb d n within)) ∙ e) in
+        let same : record { before = 0; row = r; line = n } ≡ s = same_Some _ _ (sym (cond-false _ _ _ (le-ltb d n within)) ∙ e) in
         let is_last : n ≡ d = subst (λ (x : Seat). x.line ≡ length x.row.dashes) (sym same) mark in
         subst (TellsFlow total (r ∷ rs) rest n) same (omega arith, ap (slice_get (rows_flows total (r ∷ rs) rest)) is_last ∙ flow_at d f (rows_flows total rs rest))
 
@@ -98,9 +95,6 @@ has_part total false i (marked q marker c) p e =
     let again = has_part total (begins_document marker) i c p e in
     record { rest = again.rest; lines = again.lines; behind = λ j h. in_later q marker c (rows_before (begins_document marker) i c) j ∙ again.behind j h }
 
-lists_same : {x y : List (Option Placed)} → Some x ≡ Some y → x ≡ y
-lists_same e = cc
-
 -- the lines of a document that is held
 pub held_flows : (t : List ℕ) (s : Shown) (ds : List DocumentLines) (i : ℕ) (d : DocumentLines) (p : Part) → Holds t s ds → slice_get ds i ≡ Some d → slice_get (document_parts (cut_of t)) i ≡ Some p → HasFlows (document_row i (cut_of t)) (cut_of t) p.rows (flows d.lines)
 held_flows t s ds i d p h there at n q is mark =
@@ -108,7 +102,7 @@ held_flows t s ds i d p h there at n q is mark =
     let o = has_part (length t) (begins_bare c || not (has_begin c)) i c p at in
     let told = rows_tell (length t) p.rows o.rest n q is mark in
     let held : slice_get (lines_flows ds) i ≡ Some (flows d.lines) = slice_get-map (λ (x : DocumentLines). flows x.lines) ds i ∙ ap (option_map (λ (x : DocumentLines). flows x.lines)) there in
-    let same : flows d.lines ≡ rows_flows (length t) p.rows o.rest = lists_same (sym held ∙ (ap (λ (fs : List (List (Option Placed))). slice_get fs i) h.flows ∙ o.lines)) in
+    let same : flows d.lines ≡ rows_flows (length t) p.rows o.rest = same_Some _ _ (sym held ∙ (ap (λ (fs : List (List (Option Placed))). slice_get fs i) h.flows ∙ o.lines)) in
     ap (λ (fs : List (Option Placed)). slice_get fs n) same
     ∙ (told.1
     ∙ λ j. Some (row_flow (length (h.cut.text j)) q.row (sym (o.behind q.before told.0) j)))

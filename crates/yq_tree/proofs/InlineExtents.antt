@@ -1,7 +1,7 @@
 -- What the code answers for the place of an inline node, or of nothing, is its extent.
 use Rattle.std.proofs.Common.{◌≡◌, ◌⊎◌, inl, inr, ℕ, zero, suc, ◌+◌, ◌<◌, ◌≤◌, ◌||◌, not, eqb, List, [], ◌∷◌, ◌++◌, length, take, drop, map, Option, Some, None, is_some, option_map, Bool, true, false, cond, refl, sym, ap, ◌∙◌, subst, arith, append_assoc, append-nil, length-append}
 use Rattle.std.proofs.lemmas.Bool.{cases_lt, eq-eqb, eqb-true, cond-true, cond-false}
-use Rattle.std.proofs.lemmas.Option.{slice_get-map}
+use Rattle.std.proofs.lemmas.Option.{slice_get-map, none-some}
 use Rattle.std.specs.List.{slice_get}
 use Rattle.yq_scalar.specs.Answers.{◌>>=◌}
 use Rattle.yq_scalar.specs.Paths.{Step}
@@ -27,7 +27,7 @@ use Rattle.yq_documents.specs.Seats.{Seat}
 use Rattle.yq_tree.proofs.FoundEntries.{lines_count, within_some}
 use Rattle.yq_tree.proofs.PieceSpans.{IsEntryAt, entry_at_line, bare_head, line_more, by_line}
 use Rattle.yq_tree.proofs.PrintedLaws.{IsValid, IsWritten, IsPrinted, ArePrinted, lines_are}
-use Rattle.yq_tree.proofs.PrintedTexts.{none_some, lines_then}
+use Rattle.yq_tree.proofs.PrintedTexts.{lines_then}
 use Rattle.yq_tree.proofs.RunSpans.{get_some, get_drop, head_front, content_size, seat_at}
 use Rattle.yq_tree.proofs.SeatedLines.{IsSeated, IsPlaced}
 use Rattle.yq_tree.proofs.UnderCounts.{count_stops}
@@ -119,7 +119,7 @@ module _ (c : Cut) (p : Part) (more : List Row) (k : ℕ) (before behind : List 
   line_at n l e = ap (λ x. slice_get x n) (sym (lines_are p.rows)) ∙ (slice_get-map line_in (printed_lines p.rows) n ∙ ap (option_map line_in) e)
 
   headed_last : (n : ℕ) (l : PrintedLine) (h : tree.Node) → l.line.head ≡ Some h → (q : Seat) (d : IsSeated p.rows n q) → d.line ≡ l → q.line < length q.row.dashes → ⊥
-  headed_last n l h head q d is less = none_some (sym (d.deeper less).3 ∙ (ap (λ (y : PrintedLine). y.line.head) is ∙ head))
+  headed_last n l h head q d is less = none-some _ (sym (d.deeper less).3 ∙ (ap (λ (y : PrintedLine). y.line.head) is ∙ head))
 
   -- the node for which lines stand
   lines_are_at : (from m : ℕ) (o : Outline) (e : ℕ) (rest : List ℕ) → from + m ≤ length (printed_lines p.rows) → IsEven e o → map line_in (take m (drop from (printed_lines p.rows))) ≡ flatten o →

@@ -2,6 +2,7 @@
 use Rattle.std.proofs.Common.{◌≡◌, ℕ, ◌+◌, ◌-◌, ◌≤◌, eqb, List, [], ◌∷◌, ◌++◌, length, take, drop, map, Option, Some, None, is_some, option_map, ◌||◌, Bool, true, false, cond, refl, sym, ap, ◌∙◌, subst, arith, append_assoc, length-append}
 use Rattle.std.proofs.lemmas.Str.{IsUtf8-drop, IsCharBoundary-at_seam}
 use Rattle.std.proofs.Math.Seq.{take-append_seam, drop-append_seam}
+use Rattle.std.proofs.lemmas.Option.{none-some, same_Some}
 use Rattle.std.specs.List.{slice_get}
 use Rattle.std.specs.Str.{IsUtf8, IsCharBoundary}
 use Rattle.yq_scalar.specs.Answers.{◌>>=◌}
@@ -38,12 +39,6 @@ use Rattle.yq_tree.proofs.RowPathLaws.{document_fine}
 use Rattle.yq_tree.proofs.SeatedLines.{IsPlaced, document_placed}
 use Rattle.yq_tree.proofs.SeatLaws.{part_begins}
 
-none_some : {A : Type 0} {x : A} → None ≡ Some x → ⊥
-none_some e = cc
-
-some_same : {A : Type 0} {x y : A} → Some x ≡ Some y → x ≡ y
-some_same e = cc
-
 -- what the code answers is the extent of the place
 pub inline_spans_are : (c : Cut) (doc : ℕ) (steps : List Step) → IsCut (cut_text c) c → all_documents c ≡ true → option_map extent_of (inline_from doc steps c) ≡ extent_at doc steps c
 inline_spans_are c doc steps cut sound = go (printed_document doc c) refl
@@ -76,9 +71,9 @@ module _ (c : Cut) (rs more : List Row) (k : ℕ) (u : IsUtf8 (cut_text c)) (cut
       whole = head_span c i r u cut at
 
       go : (y : Content) → r.content ≡ y → content_extent alone (head_place i c r) y ≡ Some x → Spans x
-      go (Nothing tail) is e = subst Spans (some_same e) (subst (λ y. IsSpan (cut_text c) (head_place i c r).0 (head_end (head_place i c r).1 y)) is whole)
-      go (Inline space node tail) is e = subst Spans (some_same e) (subst (λ y. IsSpan (cut_text c) (head_place i c r).0 (head_end (head_place i c r).1 y)) is whole)
-      go (Block space anchor block) is e = absurd (none_some e)
+      go (Nothing tail) is e = subst Spans (same_Some _ _ e) (subst (λ y. IsSpan (cut_text c) (head_place i c r).0 (head_end (head_place i c r).1 y)) is whole)
+      go (Inline space node tail) is e = subst Spans (same_Some _ _ e) (subst (λ y. IsSpan (cut_text c) (head_place i c r).0 (head_end (head_place i c r).1 y)) is whole)
+      go (Block space anchor block) is e = absurd (none-some _ e)
 
   line_spans : (alone : Bool) (n : ℕ) (x : InlineExtent) → line_extent alone k c rs n ≡ Some x → Spans x
   line_spans alone n x e = let a = bind_some (seat n rs) e in row_spans alone (k + a.0.before) a.0.row x (row_there c rs more k n a.0 there a.1) a.2
@@ -88,10 +83,10 @@ module _ (c : Cut) (rs more : List Row) (k : ℕ) (u : IsUtf8 (cut_text c)) (cut
     where
       of : (b : Bool) → cond b (line_extent true k c rs from) None ≡ Some x → Spans x
       of true e = line_spans true from x e
-      of false e = absurd (none_some e)
+      of false e = absurd (none-some _ e)
 
       go : (b : Bool) → cond b None (slice_get (lines_of rs) from >>= λ l. cond (is_bare l.mark) (line_extent true k c rs from) None) ≡ Some x → Spans x
-      go true e = absurd (none_some e)
+      go true e = absurd (none-some _ e)
       go false e = let l = bind_some (slice_get (lines_of rs) from) e in of (is_bare l.0.mark) l.2
 
   entry_spans : (n : ℕ) (x : InlineExtent) → entry_extent k c rs n ≡ Some x → Spans x
@@ -103,7 +98,7 @@ module _ (c : Cut) (rs more : List Row) (k : ℕ) (u : IsUtf8 (cut_text c)) (cut
 
   from_spans : (n : ℕ) (left : List Step) (x : InlineExtent) → extent_from k c rs n left ≡ Some x → Spans x
   from_spans n [] x e = entry_spans n x e
-  from_spans n (s ∷ ss) x e = absurd (none_some e)
+  from_spans n (s ∷ ss) x e = absurd (none-some _ e)
 
   in_spans : (steps : List Step) (x : InlineExtent) → extent_in k c rs steps ≡ Some x → Spans x
   in_spans [] x e = lines_spans 0 (length (lines_of rs)) x e
@@ -125,8 +120,8 @@ pub record IsInlineAt (t : List ℕ) (c : Cut) (path : Path) (x : InlineExtent) 
   pub span : IsSpan t x.0 x.1
 
 map_some : {A B : Type 0} {f : A → B} {y : B} (o : Option A) → option_map f o ≡ Some y → (x : A) × (o ≡ Some x) × (f x ≡ y)
-map_some None e = absurd (none_some e)
-map_some (Some x) e = (x, refl, some_same e)
+map_some None e = absurd (none-some _ e)
+map_some (Some x) e = (x, refl, same_Some _ _ e)
 
 pub is_inline_at : (t : List ℕ) (c : Cut) (path : Path) (x : InlineExtent) → IsUtf8 t → IsCut t c → all_documents c ≡ true → Some x ≡ option_map extent_of (inline_place path c) → IsInlineAt t c path x
 is_inline_at t c path x u cut sound e =

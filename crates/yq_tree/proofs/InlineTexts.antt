@@ -1,5 +1,6 @@
 -- The place of an inline node, or of nothing, with what stands before and behind it is the text.
 use Rattle.std.proofs.Common.{◌≡◌, ℕ, ◌||◌, not, eqb, List, [], ◌∷◌, ◌++◌, length, map, Option, Some, None, is_some, Bool, true, false, cond, refl, sym, ap, ◌∙◌, arith, append_assoc}
+use Rattle.std.proofs.lemmas.Option.{none-some, same_Some}
 use Rattle.yq_scalar.specs.Answers.{◌>>=◌}
 use Rattle.yq_scalar.specs.Paths.{Step}
 use Rattle.yq_scalar.specs.Text.{is_empty}
@@ -19,7 +20,7 @@ use Rattle.yq_tree.specs.PrintedLines.{PrintedLine, line_front, print_line, prin
 use Rattle.yq_tree.proofs.FoundEntries.{entry_found}
 use Rattle.yq_tree.proofs.PieceTexts.{entry_text, entry_whole, document_text}
 use Rattle.yq_tree.proofs.PrintedLaws.{IsValid, IsWritten, IsPrinted, ArePrinted}
-use Rattle.yq_tree.proofs.PrintedTexts.{same, none_some, line_then}
+use Rattle.yq_tree.proofs.PrintedTexts.{line_then}
 
 -- what is written in a place, if something is, has bytes
 abbrev pub HasBytes : Option (List ℕ) → Type 0
@@ -48,13 +49,13 @@ node_in alone before (anchored n g node) rest v =
 -- texts that are the same hold the same places
 place_as : {t u : List ℕ} {w x : InlinePlace} → u ≡ t → Some x ≡ Some w → IsPlaceIn u x → IsPlaceIn t w
 place_as e is h =
-    let i : _ = same is in
+    let i : _ = same_Some _ _ is in
     record { text = ap (λ y. y.before ++ (written_text y.old ++ y.behind)) (sym i) ∙ (h.text ∙ e); bytes = Rattle.std.proofs.Common.subst (λ y. HasBytes y.old) i h.bytes }
 
 pub mark_in : (alone : Bool) (before : List ℕ) (c : Content) (rest : List ℕ) (w : InlinePlace) → IsWritten c rest → mark_inline alone before c rest ≡ Some w → IsPlaceIn (before ++ content_text c rest) w
 mark_in alone before (Nothing tail) rest w v e = place_as refl e (record { text = refl; bytes = tt })
 mark_in alone before (Inline space node tail) rest w v e = place_as (append_assoc before space (node_text node (tail ++ rest))) e (node_in alone (before ++ space) node (tail ++ rest) v)
-mark_in alone before (Block space anchor block) rest w v e = absurd (none_some e)
+mark_in alone before (Block space anchor block) rest w v e = absurd (none-some _ e)
 
 -- behind the mark of a line
 line_in_text : (alone : Bool) (before : List ℕ) (l : PrintedLine) (ls : List PrintedLine) (behind : List ℕ) (w : InlinePlace) → IsPrinted l (print_lines ls behind) → mark_inline alone (before ++ (line_front l ++ l.mark)) l.content (print_lines ls behind) ≡ Some w →
@@ -64,12 +65,12 @@ line_in_text alone before l ls behind w v e =
     place_as same_text refl (mark_in alone (before ++ (line_front l ++ l.mark)) l.content (print_lines ls behind) w v.written e)
 
 lines_in_text : (before : List ℕ) (ls : List PrintedLine) (behind : List ℕ) (w : InlinePlace) → ArePrinted ls behind → lines_inline before ls behind ≡ Some w → IsPlaceIn (before ++ print_lines ls behind) w
-lines_in_text before [] behind w v e = absurd (none_some e)
+lines_in_text before [] behind w v e = absurd (none-some _ e)
 lines_in_text before (l ∷ ls) behind w v e = go (is_bare l.line.mark) e
   where
     go : (b : Bool) → cond b (mark_inline true (before ++ (line_front l ++ l.mark)) l.content (print_lines ls behind)) None ≡ Some w → IsPlaceIn (before ++ print_lines (l ∷ ls) behind) w
     go true e = line_in_text true before l ls behind w v.0 e
-    go false e = absurd (none_some e)
+    go false e = absurd (none-some _ e)
 
 entry_in_text : (e : BlockEntry) (w : InlinePlace) → ArePrinted (e.line ∷ e.under) e.behind → entry_inline e ≡ Some w → IsPlaceIn (entry_text e) w
 entry_in_text e w v is = go (is_some e.line.line.head || not (some_lines e.under)) is
@@ -91,4 +92,4 @@ inline_in_text (x ∷ xs) s w v e =
     go f [] is e =
         let b = bind_some (found_entry s f) e in
         place_as (entry_whole s (length (lines_before f.place)) (length (flatten f.under)) b.0 b.1) refl (entry_in_text b.0 w (entry_found s x xs [] f b.0 is v b.1).told b.2)
-    go f (t ∷ ts) is e = let b = bind_some (found_entry s f) e in absurd (none_some b.2)
+    go f (t ∷ ts) is e = let b = bind_some (found_entry s f) e in absurd (none-some _ b.2)

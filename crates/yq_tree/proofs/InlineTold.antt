@@ -1,7 +1,7 @@
 -- What the code is told of the extents of inline nodes.
 use Rattle.std.proofs.Common.{◌≡◌, ℕ, ◌+◌, eqb, List, [], ◌∷◌, ◌++◌, length, drop, Option, Some, None, option_map, Bool, true, false, refl, sym, ap, ◌∙◌}
 use Rattle.std.proofs.lemmas.Bool.{false≢true, eq-eqb}
-use Rattle.std.proofs.lemmas.Option.{slice_get-map}
+use Rattle.std.proofs.lemmas.Option.{slice_get-map, none-some, same_Some}
 use Rattle.std.specs.List.{slice_get}
 use Rattle.yq_scalar.specs.Answers.{◌>>=◌}
 use Rattle.yq_scalar.specs.Paths.{Step}
@@ -19,15 +19,9 @@ use Rattle.yq_documents.specs.Seats.{Seat, seat}
 use Rattle.yq_tree.proofs.EntryPlaceLaws.{row_there}
 use Rattle.yq_tree.proofs.HeadEnds.{block_told}
 
-none_some : {A : Type 0} {x : A} → None ≡ Some x → ⊥
-none_some e = cc
-
-some_same : {A : Type 0} {x y : A} → Some x ≡ Some y → x ≡ y
-some_same e = cc
-
 -- the pieces of a row that is shown
 slices_are : (c : Cut) (s : Shown) (i : ℕ) (x : Slices) (r : Row) → s ≡ shown c → slice_get s.rows i ≡ Some x → slice_get (rows_of c) i ≡ Some r → x ≡ slices r
-slices_are c s i x r is there row = some_same (sym there ∙ (ap (λ (y : Shown). slice_get y.rows i) is ∙ (slice_get-map slices (rows_of c) i ∙ ap (option_map slices) row)))
+slices_are c s i x r is there row = same_Some _ _ (sym there ∙ (ap (λ (y : Shown). slice_get y.rows i) is ∙ (slice_get-map slices (rows_of c) i ∙ ap (option_map slices) row)))
 
 -- a block scalar has none
 pub row_block : (t : List ℕ) (c : Cut) (s : Shown) (alone : Bool) (i : ℕ) (x : Slices) (r : Row) → IsCut t c → s ≡ shown c → slice_get s.rows i ≡ Some x → slice_get (rows_of c) i ≡ Some r → begins_block x.head ≡ true → None ≡ row_extent alone i r c
@@ -55,9 +49,9 @@ pub line_told : (c : Cut) (rs more : List Row) (alone : Bool) (first n : ℕ) (a
 line_told c rs more alone first n a found there e told = go (seat n rs) refl e
   where
     go : (o : Option Seat) → seat n rs ≡ o → Some a ≡ option_map (numbers first) o → found ≡ (o >>= λ s. row_extent alone (first + s.before) s.row c)
-    go None so e = absurd (none_some (sym e))
+    go None so e = absurd (none-some _ (sym e))
     go (Some s) so e =
-        let sa : a ≡ numbers first s = some_same e in
+        let sa : a ≡ numbers first s = same_Some _ _ e in
         told s.row (ap (λ (y : Numbers). slice_get (rows_of c) y.0) sa ∙ row_there c rs more first n s there so) ∙ ap (λ (y : Numbers). row_extent alone y.0 s.row c) sa
 
 pub no_line : (c : Cut) (rs : List Row) (alone : Bool) (first n : ℕ) → None ≡ option_map (numbers first) (seat n rs) → None ≡ line_extent alone first c rs n
@@ -65,11 +59,11 @@ no_line c rs alone first n e = go (seat n rs) e
   where
     go : (o : Option Seat) → None ≡ option_map (numbers first) o → None ≡ (o >>= λ s. row_extent alone (first + s.before) s.row c)
     go None e = refl
-    go (Some s) e = absurd (none_some e)
+    go (Some s) e = absurd (none-some _ e)
 
 -- steps that go on in a flow collection
 in_is : (k : ℕ) (c : Cut) (rs : List Row) (steps left : List Step) (n : ℕ) → reached steps (lines_of rs) ≡ Some (n, left) → extent_from k c rs n left ≡ extent_in k c rs steps
-in_is k c rs [] left n e = absurd (none_some e)
+in_is k c rs [] left n e = absurd (none-some _ e)
 in_is k c rs (s ∷ ss) left n e = sym (ap (λ (o : Option (ℕ × List Step)). o >>= λ x. extent_from k c rs x.0 x.1) e)
 
 pub steps_left : (k : ℕ) (c : Cut) (rs : List Row) (steps left : List Step) (n : ℕ) → Some (n, left) ≡ reached steps (lines_of rs) → false ≡ eqb (length left) 0 → None ≡ extent_in k c rs steps

@@ -3,7 +3,7 @@ use Rattle.std.proofs.Common.{◌≡◌, ◌⊎◌, inl, inr, ℕ, zero, suc, �
 use Rattle.std.proofs.lemmas.Bool.{cases_lt, lt-ltb, le-ltb, le-leb, lt-leb, cond-true, cond-false}
 use Rattle.std.proofs.lemmas.List.{length-replicate, length-map, map-append, take-append-le}
 use Rattle.std.proofs.lemmas.List.Sums.{sum_by-cons, sum_by-append, sum_by_more, sum_by_more_le, sum_by_more_le_part, sum_by-le-sum_by}
-use Rattle.std.proofs.lemmas.Option.{get_or_from_slice_get, slice_get_within, slice_get-map}
+use Rattle.std.proofs.lemmas.Option.{get_or_from_slice_get, slice_get_within, slice_get-map, same_Some}
 use Rattle.std.specs.List.{slice_get, sum_by}
 use Rattle.yq_scalar.specs.Characters.{text_limit}
 use Rattle.yq_rows.specs.Exchange.{row_front, before_at, before_content}
@@ -174,14 +174,11 @@ head_is c i r start end is e f =
     omega (arith, e, text, length-append (before_content i c) (s.space ++ (s.anchor ++ s.apart)), length-append s.space (s.anchor ++ s.apart), length-append s.anchor s.apart) in
     λ j. (sym before j, (f ∙ ap (λ (k : ℕ). k + length s.head) (sym before)) j)
 
-some_same : {x y : Slices} → Some x ≡ Some y → x ≡ y
-some_same e = cc
-
 -- the same by the sums of the code
 pub head_told : (s : Shown) (i rows ends front head : ℕ) (x : Slices) → slice_get s.rows i ≡ Some x → rows ≡ sum_by row_length (take i s.rows) → ends ≡ sum_by (passed_length i) s.bounds → front ≡ front_length x → head ≡ length x.head →
     (c : Cut) → s ≡ shown c → (r : Row) → slice_get (rows_of c) i ≡ Some r → (rows + ends + front, rows + ends + front + head) ≡ head_place i c r
 head_told s i rows ends front head x there rows_are ends_are front_is head_len c shown_is r is =
-    let same : x ≡ slices r = some_same (sym there ∙ (ap (λ (y : Shown). slice_get y.rows i) shown_is ∙ (slice_get-map slices (rows_of c) i ∙ ap (option_map slices) is))) in
+    let same : x ≡ slices r = same_Some _ _ (sym there ∙ (ap (λ (y : Shown). slice_get y.rows i) shown_is ∙ (slice_get-map slices (rows_of c) i ∙ ap (option_map slices) is))) in
     head_is c i r (rows + ends + front) (rows + ends + front + head) is
     (omega (arith, rows_are, ends_are, front_is, ap (row_start i) shown_is, ap front_length same))
     (omega (arith, head_len, ap (λ (y : Slices). length y.head) same))

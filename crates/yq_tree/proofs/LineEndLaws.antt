@@ -1,11 +1,10 @@
 -- The end of a line, by its white space, its comment and its break.
 use Rattle.std.proofs.Common.{◌≡◌, ◌⊎◌, inl, inr, ℕ, ◌<◌, ℤ, true, false, ◌&&◌, ◌||◌, not, List, [], ◌∷◌, ◌++◌, length, refl, sym, ap, ◌∙◌, subst, arith, append_assoc, append-nil, ⊎_elim}
-use Rattle.std.proofs.lemmas.Bool.{false≢true, or_cases}
+use Rattle.std.proofs.lemmas.Bool.{false≢true, or_cases, and_parts}
 use Rattle.yq_scalar.specs.Block.{is_tail}
 use Rattle.yq_scalar.specs.Lines.{is_blank, is_hash}
 use Rattle.yq_scalar.specs.Text as text
 use Rattle.yq_scalar.specs.Text.{front, is_white, is_feed, is_return, is_break, is_line, is_empty, ends_line, no_white, past_white, NoneIn}
-use Rattle.yq_scalar.proofs.Bools.{and_true}
 use Rattle.yq_scalar.proofs.Upto.{upto_ends, none_in_cut, cut-append, cut_takes}
 use Rattle.yq_rows.specs.Gap.{IsWhite, IsBreak, IsComment}
 use Rattle.yq_rows.specs.Grammar.{IsTail, IsContent}
@@ -67,7 +66,7 @@ white_some (b ∷ bs) h = rw h refl
 
 pub header_tail : (tail more : List ℕ) → is_tail tail ≡ true → IsTail tail more
 header_tail tail more h =
-    let parts = and_true (is_line tail) (is_blank tail || (front is_white tail && is_hash (past_white tail))) h in
+    let parts = and_parts (is_line tail) (is_blank tail || (front is_white tail && is_hash (past_white tail))) h in
     let white : List ℕ = (text.cut no_white tail).0 in
     let p : List ℕ = past_white tail in
     let blank : IsWhite white = white_cut tail in
@@ -82,7 +81,7 @@ header_tail tail more h =
       apart = refl;
     })
     (λ (e : (front is_white tail && is_hash (past_white tail)) ≡ true).
-    let both = and_true (front is_white tail) (is_hash p) e in
+    let both = and_parts (front is_white tail) (is_hash p) e in
     let comment : List ℕ = (text.cut ends_line p).0 in
     let break : List ℕ = (text.cut ends_line p).1 in
     let remark = hash_comment p both.1 in

@@ -2,7 +2,7 @@
 use Rattle.std.proofs.Common.{◌≡◌, ℕ, ◌+◌, ◌-◌, eqb, true, false, List, [], ◌∷◌, ◌++◌, length, take, drop, Option, Some, None, option_map, cond, refl, sym, ap, ◌∙◌, subst, arith, append_assoc, length-append}
 use Rattle.std.proofs.Math.Dec.{eqb-suc-zero}
 use Rattle.std.proofs.Math.Seq.{take-append_seam, drop-append_seam}
-use Rattle.std.proofs.lemmas.Option.{slice_get-map}
+use Rattle.std.proofs.lemmas.Option.{slice_get-map, same_Some}
 use Rattle.std.proofs.lemmas.Str.{IsCharBoundary-at_seam, IsUtf8-append}
 use Rattle.std.specs.List.{slice_get}
 use Rattle.std.specs.Str.{IsUtf8, IsCharBoundary}
@@ -23,9 +23,7 @@ use Rattle.yq_documents.specs.Reading.{cut_of}
 use Rattle.yq_tree.specs.SeatReading.{Numbers, numbers}
 use Rattle.yq_documents.specs.Seats.{seat_at, document_row}
 use Rattle.yq_documents.specs.SoundReading.{Holds}
-use Rattle.yq_tree.proofs.CommentEndLaws.{row_same}
 use Rattle.yq_tree.proofs.PlacedRowLaws.{seat_placed, no_seat_placed}
-use Rattle.yq_tree.proofs.PrintedTexts.{same}
 
 -- ---- what is written behind a mark and its anchor
 
@@ -114,20 +112,20 @@ module _ (t : List ℕ) (x : Shown) (ds : List DocumentLines) (held : Holds t x 
   end_there : end ≡ end_of_line w
   end_there =
       let known : cond (eqb w.line (length w.row.dashes)) (Some (end_of_line w)) None ≡ Some end = sym (ap (λ (o : Option PlacedRow). o >>= λ w. cond (eqb w.line (length w.row.dashes)) (Some (end_of_line w)) None) is_row) ∙ sym end_is in
-      sym (same (guard_then (eqb w.line (length w.row.dashes)) known).1)
+      sym (same_Some _ _ (guard_then (eqb w.line (length w.row.dashes)) known).1)
 
   shown_row : slice_get x.rows n.0 ≡ Some (slices w.row)
   shown_row = ap (λ (y : Shown). slice_get y.rows n.0) held.rows ∙ (slice_get-map slices (rows_of (cut_of t)) n.0 ∙ ap (option_map slices) (seat_placed path (cut_of t) n seat_is).1.at.there)
 
   pub ends_there : (s : Slices) → slice_get x.rows n.0 ≡ Some s → EndsBehindMark end.before s
   ends_there s is =
-      let own : slices w.row ≡ s = row_same (sym shown_row ∙ is) in
+      let own : slices w.row ≡ s = same_Some _ _ (sym shown_row ∙ is) in
       subst (EndsBehindMark end.before) own
       (record { before = w.before ++ row_front w.row; text = ap (λ (e : LineEnd). e.before) end_there ∙ sym (append_assoc w.before (row_front w.row) (behind_mark (slices w.row))) })
 
   pub mark_there : (s : Slices) → slice_get x.rows n.0 ≡ Some s → (r : MarkPlace) → ((h : EndsBehindMark end.before s) → r ≡ mark_at h.before s end) → Some r ≡ mark_place path.doc (steps_of path) (cut_of t)
   mark_there s is r told =
-      let own : slices w.row ≡ s = row_same (sym shown_row ∙ is) in
+      let own : slices w.row ≡ s = same_Some _ _ (sym shown_row ∙ is) in
       let text : end.before ≡ (w.before ++ row_front w.row) ++ behind_mark s =
       ap (λ (e : LineEnd). e.before) end_there ∙ (sym (append_assoc w.before (row_front w.row) (behind_mark (slices w.row))) ∙ ap (λ (y : Slices). (w.before ++ row_front w.row) ++ behind_mark y) own) in
       ap Some (told (record { before = w.before ++ row_front w.row; text = text })

@@ -1,6 +1,7 @@
 -- For which nodes there are pieces.
 use Rattle.std.proofs.Common.{◌≡◌, ℕ, List, [], ◌∷◌, ◌++◌, map, Option, Some, None, is_some, option_map, option_and_then, Bool, true, false, cond, not, ◌&&◌, ◌||◌, refl, sym, ap, ◌∙◌, subst}
-use Rattle.std.proofs.lemmas.Option.{slice_get-map}
+use Rattle.std.proofs.lemmas.Bool.{or_parts}
+use Rattle.std.proofs.lemmas.Option.{slice_get-map, none-some, same_Some}
 use Rattle.std.specs.List.{slice_get}
 use Rattle.std.specs.Str.{is_utf8}
 use Rattle.yq_scalar.specs.Answers.{◌>>=◌}
@@ -37,7 +38,6 @@ use Rattle.yq_tree.proofs.PieceHolds.{no_part}
 use Rattle.yq_tree.proofs.PrintedLaws.{ArePrinted, lines_are, document_is}
 use Rattle.yq_tree.proofs.FoundEntries.{IsFound, entry_there, entry_found}
 use Rattle.yq_tree.proofs.FlowPieces.{flow_label, line_labels, head_there, head_item_at}
-use Rattle.yq_tree.proofs.PrintedTexts.{same, none_some}
 
 node_some : (before : List ℕ) (node : Node) (rest : List ℕ) → is_some (node_piece before node rest) ≡ is_some (node_head node)
 node_some before empty rest = refl
@@ -163,10 +163,6 @@ no_lines end ls e none = refl
 no_lines (row l u a) [] e none = cc
 no_lines (row l u a) (k ∷ ls) e none = cc
 
-neither : (a b : Bool) → (a || b) ≡ false → (a ≡ false) × (b ≡ false)
-neither true b h = cc
-neither false b h = (refl, h)
-
 no_head : (h : Option tree.Node) → is_some h ≡ false → h ≡ None
 no_head None e = refl
 no_head (Some n) e = cc
@@ -180,25 +176,25 @@ in_null s t ts e f h n (Some x) found head is some at none = go (flow_at (t ∷ 
     go None there some none = cc
     go (Some w) there some none =
         let labelled = (head_item_at s t ts e f h x w found head is there).labelled in
-        subst IsNull (same (ap (option_map (λ x. x.1)) (sym labelled) ∙ (labelled_path (t ∷ ts) (entry_of f.line f.under) ∙ at))) (headless w.node (no_head (node_head w.node) none))
+        subst IsNull (same_Some _ _ (ap (option_map (λ x. x.1)) (sym labelled) ∙ (labelled_path (t ∷ ts) (entry_of f.line f.under) ∙ at))) (headless w.node (no_head (node_head w.node) none))
 
 entry_null : (s : PrintedDocument) (y : Step) (ys rest : List Step) (f : Found) (e : BlockEntry) (n : tree.Node) → find y ys (group (map line_in s.lines)) ≡ Some (f, rest) → is_fine (group (map line_in s.lines)) ≡ true → IsFound s e f →
     node_at rest (content f.line f.under) ≡ Some n → entry_written rest e ≡ false → IsNull n
 entry_null s y ys [] f e n is fine found at none =
-    let k = neither (is_some e.line.line.head) (some_lines e.under) none in
+    let k = or_parts (is_some e.line.line.head) (some_lines e.under) none in
     let head : f.line.head ≡ None = ap (λ (l : Line). l.head) (sym found.line) ∙ no_head e.line.line.head k.0 in
-    subst IsNull (same at) (f.line.anchor, (λ i. outlines.anchored f.line.anchor (head_or (head i) (value (no_lines f.under e.under found.lines k.1 i)))))
+    subst IsNull (same_Some _ _ at) (f.line.anchor, (λ i. outlines.anchored f.line.anchor (head_or (head i) (value (no_lines f.under e.under found.lines k.1 i)))))
 entry_null s y ys (t ∷ ts) f e n is fine found at none =
     let h = head_there (map line_in s.lines) y ys t ts f is fine in
     in_null s t ts e f h.0 n (line_inline e) found h.1 refl (line_agrees s t ts e f h.0 found h.1 ∙ ap is_some at) at none
 
 document_null : (steps : List Step) (s : PrintedDocument) (n : tree.Node) → ArePrinted s.lines s.behind → is_fine (group (map line_in s.lines)) ≡ true →
     node_at steps (value (group (map line_in s.lines))) ≡ Some n → document_written steps s ≡ false → IsNull n
-document_null [] s n told fine at none = (None, sym (same at) ∙ ap value (no_lines (group (map line_in s.lines)) s.lines (sym (flatten-group (map line_in s.lines))) none))
+document_null [] s n told fine at none = (None, sym (same_Some _ _ at) ∙ ap value (no_lines (group (map line_in s.lines)) s.lines (sym (flatten-group (map line_in s.lines))) none))
 document_null (y ∷ ys) s n told fine at none = go (find y ys (group (map line_in s.lines))) refl (sym (path_node y ys (group (map line_in s.lines))) ∙ at) none
   where
     go : (o : Option (Found × List Step)) → find y ys (group (map line_in s.lines)) ≡ o → FoundNode o ≡ Some n → or_false (o >>= λ f. option_map (entry_written f.1) (found_entry s f.0)) ≡ false → IsNull n
-    go None is at none = absurd (none_some at)
+    go None is at none = absurd (none-some _ at)
     go (Some f) is at none =
         let e = entry_there s y ys f.1 f.0 is in
         entry_null s y ys f.1 f.0 e.0 n is fine (entry_found s y ys f.1 f.0 e.0 is told e.1) at (sym (ap (λ (o : Option BlockEntry). or_false (option_map (entry_written f.1) o)) e.1) ∙ none)
@@ -237,7 +233,7 @@ contents_exist t c p read = go (printed_document p.doc c) refl
     go : (o : Option PrintedDocument) → printed_document p.doc c ≡ o →
         (is_some (o >>= piece_in parts.Content (steps_of p)) ≡ or_false (option_map (document_written (steps_of p)) o)) ×
         ((n : tree.Node) → located p t ≡ Some n → or_false (option_map (document_written (steps_of p)) o) ≡ false → IsNull n)
-    go None is = (refl, λ n at none. absurd (none_some (sym (no_document t c p read is) ∙ at)))
+    go None is = (refl, λ n at none. absurd (none-some _ (sym (no_document t c p read is) ∙ at)))
     go (Some s) is = let r = document_read t c p s read is in (document_some (steps_of p) s r.told r.fine, λ n at none. document_null (steps_of p) s n r.told r.fine (sym r.node ∙ at) none)
 
 pub entries_exist : EntriesExist

@@ -3,7 +3,7 @@ use Rattle.std.proofs.Common.{◌≡◌, ◌⊎◌, inl, inr, ℕ, zero, suc, �
 use Rattle.std.proofs.Math.Seq.{drop-append_seam}
 use Rattle.std.proofs.lemmas.Bool.{cases_lt, eqb-true, cond-true, cond-false}
 use Rattle.std.proofs.lemmas.List.{append_cancel_left}
-use Rattle.std.proofs.lemmas.Option.{slice_get-map, slice_get_within}
+use Rattle.std.proofs.lemmas.Option.{slice_get-map, slice_get_within, none-some, same_Some}
 use Rattle.std.specs.List.{slice_get}
 use Rattle.yq_scalar.specs.Answers.{◌>>=◌}
 use Rattle.yq_scalar.specs.Paths.{Step}
@@ -34,7 +34,7 @@ use Rattle.yq_tree.proofs.RowPathLaws.{found_lines, found_place}
 use Rattle.yq_documents.specs.Pieces.{piece_span, head_piece}
 use Rattle.yq_tree.specs.PrintedLines.{line_front, PrintedLine, print_line, print_lines, printed_lines, line_in, run_piece, lines_piece}
 use Rattle.yq_tree.specs.PathPieces.{BlockEntry, entry_piece, content_piece, FlowEntry, flow_at, content_inline, line_inline, flow_piece, flow_content, PrintedDocument, found_entry, piece_in_entry, piece_in}
-use Rattle.yq_tree.proofs.PrintedTexts.{same, none_some, content_then, lines_then}
+use Rattle.yq_tree.proofs.PrintedTexts.{content_then, lines_then}
 use Rattle.yq_tree.proofs.PieceTexts.{entry_text, item_text, entry_whole, at_whole}
 use Rattle.yq_tree.proofs.PrintedLaws.{IsPrinted, ArePrinted, lines_are}
 use Rattle.yq_tree.proofs.FoundEntries.{lines_count, within_some, IsFound, entry_found, line_there, entry_is}
@@ -50,8 +50,8 @@ by_line o = option_map (λ x. (length (lines_before x.0.place), x.1)) o
 
 -- lists
 pub line_more : (ls : List PrintedLine) (n : ℕ) (l : PrintedLine) → slice_get ls n ≡ Some l → print_lines (take (suc n) ls) [] ≡ print_lines (take n ls) (print_line l [])
-line_more [] n l e = absurd (none_some e)
-line_more (k ∷ ls) zero l e = ap (λ (x : PrintedLine). print_line x []) (same e)
+line_more [] n l e = absurd (none-some _ e)
+line_more (k ∷ ls) zero l e = ap (λ (x : PrintedLine). print_line x []) (same_Some _ _ e)
 line_more (k ∷ ls) (suc n) l e = ap (print_line k) (line_more ls n l e)
 
 whole_head : (h : Option tree.Node) (a : Outline) → IsWhole outlines.Bare h a → (n : tree.Node) × (h ≡ Some n)
@@ -140,7 +140,7 @@ module _ (c : Cut) (p : Part) (more : List Row) (k : ℕ) (before behind : List 
       deep : (k : ℕ) → m ≡ k → level l.line ≤ level z.line
       deep zero is =
           let there_is : n + m ≡ n = omega (arith, is) in
-          omega (arith, ap (λ (w : PrintedLine). level w.line) (same (sym el ∙ (ap (slice_get (printed_lines p.rows)) (sym there_is) ∙ ez))))
+          omega (arith, ap (λ (w : PrintedLine). level w.line) (same_Some _ _ (sym el ∙ (ap (slice_get (printed_lines p.rows)) (sym there_is) ∙ ez))))
       deep (suc j) is =
           let there_is : suc n + j ≡ n + m = omega (arith, is) in
           omega (arith, count_holds (level l.line) (drop (suc n) (map line_in (printed_lines p.rows))) j z.line (omega (arith, is, count)) (line j z (ap (slice_get (printed_lines p.rows)) there_is ∙ ez)))
@@ -249,7 +249,7 @@ module _ (c : Cut) (p : Part) (more : List Row) (k : ℕ) (before behind : List 
       (option_map piece_span (content_inline start y rest >>= λ w. flow_at (t ∷ ts) w >>= flow_content) ≡
       option_and_then (λ (z : PlacedEntry). content_place z.1) (placed_entry_at (t ∷ ts) (None, locate (length (cut_text c)) (inline_node y) (tail_of y ++ rest))))
   unfolding locate
-  in_content t ts x start (Nothing tail) rest some all = absurd (none_some (sym some))
+  in_content t ts x start (Nothing tail) rest some all = absurd (none-some _ (sym some))
   in_content t ts x start (Block space anchor block) rest some all = (refl, refl)
   in_content t ts x start (Inline space node tail) rest some all =
       let z : FlowEntry = record { before = start ++ space; key = bare; node = node; behind = tail ++ rest } in
@@ -273,7 +273,7 @@ module _ (c : Cut) (p : Part) (more : List Row) (k : ℕ) (before behind : List 
       line_head_is = ap (λ (w : Line). w.head) h.line_is ∙ head
 
       mark_last : (q : Seat) (d : IsSeated p.rows n q) → d.line ≡ l → (q.line < length q.row.dashes) ⊎ (length q.row.dashes ≤ q.line) → q.line ≡ length q.row.dashes
-      mark_last q d is (inl less) = absurd (none_some (sym (d.deeper less).3 ∙ (ap (λ (w : PrintedLine). w.line.head) is ∙ line_head_is)))
+      mark_last q d is (inl less) = absurd (none-some _ (sym (d.deeper less).3 ∙ (ap (λ (w : PrintedLine). w.line.head) is ∙ line_head_is)))
       mark_last q d is (inr most) = omega (arith, most, d.within)
 
       go : (q : Seat) → seat n p.rows ≡ Some q → (d : IsSeated p.rows n q) → d.line ≡ l → q.line ≡ length q.row.dashes → (y : Content) → q.row.content ≡ y →

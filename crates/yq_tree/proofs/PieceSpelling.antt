@@ -1,6 +1,6 @@
 -- Contents spell the nodes at their paths.
 use Rattle.std.proofs.Common.{◌≡◌, ◌⊎◌, inl, inr, ℕ, ◌<◌, List, [], ◌∷◌, ◌++◌, map, Option, Some, None, is_some, option_map, option_and_then, Bool, true, false, cond, refl, sym, ap, ◌∙◌, subst, append_assoc, append-nil}
-use Rattle.std.proofs.lemmas.Option.{slice_get-map}
+use Rattle.std.proofs.lemmas.Option.{slice_get-map, none-some, same_Some}
 use Rattle.std.specs.List.{slice_get}
 use Rattle.std.specs.Str.{is_utf8}
 use Rattle.yq_scalar.specs.Answers.{◌>>=◌}
@@ -40,7 +40,7 @@ use Rattle.yq_documents.specs.Pieces.{Piece, node_piece, head_piece}
 use Rattle.yq_tree.specs.PrintedLines.{line_front, PrintedLine, print_line, print_lines, line_in, run_piece, lines_piece}
 use Rattle.yq_tree.specs.PathPieces.{BlockEntry, content_piece, FlowEntry, flow_at, line_inline, flow_content, PrintedDocument, printed_document, found_entry, piece_in_entry, piece_in}
 use Rattle.yq_tree.specs.PieceLaws.{IsInlinePiece, IsRun, SpellsTree, SpellsNode, IsEntryRun, IsFlowPiece, ContentsSpell, EntriesSpell, LinesStand}
-use Rattle.yq_tree.proofs.PrintedTexts.{same, none_some, map_some, lines_then, lines_append}
+use Rattle.yq_tree.proofs.PrintedTexts.{map_some, lines_then, lines_append}
 use Rattle.yq_tree.proofs.PieceTexts.{document_whole}
 use Rattle.yq_tree.proofs.PrintedLaws.{IsValid, IsWritten, IsPrinted, ArePrinted, lines_are, document_is}
 use Rattle.yq_tree.proofs.FoundEntries.{IsIn, IsFound, entry_found}
@@ -50,19 +50,19 @@ use Rattle.yq_tree.proofs.FlowPieces.{none_anchored, twice, head_tree, head_item
 pub node_spells : (before : List ℕ) (node : Node) (behind : List ℕ) (x : Piece) → node_piece before node behind ≡ Some x → IsValid node behind →
     (h : tree.Node) × (node_head node ≡ Some h) × IsInlinePiece x h
 unfolding IsNode
-node_spells before empty behind x e v = absurd (none_some e)
-node_spells before (alias name) behind x e v = (_, refl, record { node = alias name; unnamed = refl; text = ap (λ (p : Piece). p.text) (sym (same e)); valid = subst (λ (p : Piece). IsValid (alias name) p.behind) (same e) v; tree = refl })
-node_spells before (scalar p) behind x e v = (_, refl, record { node = scalar p; unnamed = refl; text = ap (λ (p : Piece). p.text) (sym (same e)); valid = subst (λ (q : Piece). IsValid (scalar p) q.behind) (same e) v; tree = refl })
+node_spells before empty behind x e v = absurd (none-some _ e)
+node_spells before (alias name) behind x e v = (_, refl, record { node = alias name; unnamed = refl; text = ap (λ (p : Piece). p.text) (sym (same_Some _ _ e)); valid = subst (λ (p : Piece). IsValid (alias name) p.behind) (same_Some _ _ e) v; tree = refl })
+node_spells before (scalar p) behind x e v = (_, refl, record { node = scalar p; unnamed = refl; text = ap (λ (p : Piece). p.text) (sym (same_Some _ _ e)); valid = subst (λ (q : Piece). IsValid (scalar p) q.behind) (same_Some _ _ e) v; tree = refl })
 node_spells before (coll close gap items) behind x e v =
-    (_, refl, record { node = coll close gap items; unnamed = refl; text = ap (λ (p : Piece). p.text) (sym (same e)); valid = subst (λ (p : Piece). IsValid (coll close gap items) p.behind) (same e) v; tree = refl })
+    (_, refl, record { node = coll close gap items; unnamed = refl; text = ap (λ (p : Piece). p.text) (sym (same_Some _ _ e)); valid = subst (λ (p : Piece). IsValid (coll close gap items) p.behind) (same_Some _ _ e) v; tree = refl })
 node_spells before (anchored name gap node) behind x e v = node_spells (before ++ 38 ∷ (name ++ gap)) node behind x e (v.0, v.1, v.2, v.3.4)
 
 -- what is written behind a mark
 pub head_spells : (s : PrintedDocument) (before : List ℕ) (c : Content) (behind : List ℕ) (x : Piece) → head_piece before c behind ≡ Some x → IsWritten c behind → (h : tree.Node) × (head_of c ≡ Some h) × SpellsTree s x h
-head_spells s before (Nothing tail) behind x e w = absurd (none_some e)
+head_spells s before (Nothing tail) behind x e w = absurd (none-some _ e)
 head_spells s before (Inline space node tail) behind x e w = let k = node_spells (before ++ space) node (tail ++ behind) x e w in (k.0, k.1, inl k.2)
 head_spells s before (Block space anchor block) behind x e w =
-    (_, refl, inr (inl (record { block = block; text = ap (λ (p : Piece). p.text) (sym (same e)); valid = subst (λ (p : Piece). (least : ℕ) × IsBlock least block p.behind) (same e) w; tree = refl })))
+    (_, refl, inr (inl (record { block = block; text = ap (λ (p : Piece). p.text) (sym (same_Some _ _ e)); valid = subst (λ (p : Piece). (least : ℕ) × IsBlock least block p.behind) (same_Some _ _ e) w; tree = refl })))
 
 pub behind_anchor : (s : PrintedDocument) (a : Option (List ℕ)) (x : Piece) (n : tree.Node) → SpellsNode s x n → SpellsNode s x (outlines.anchored a n)
 behind_anchor s a x n h = record { anchor = first_anchor a h.anchor; tree = h.tree; node = ap (outlines.anchored a) h.node ∙ twice a h.anchor h.tree; spelled = h.spelled }
@@ -85,7 +85,7 @@ run_of s before l ls behind x h e = record { above = h.above; below = h.below; l
 -- the node for which lines stand
 pub block_spells : (s : PrintedDocument) (before : List ℕ) (ls : List PrintedLine) (behind : List ℕ) (x : Piece) (o : Outline) (m : ℕ) → IsIn s before ls behind → lines_piece before ls behind ≡ Some x →
     ArePrinted ls behind → map line_in ls ≡ flatten o → IsEven m o → SpellsNode s x (value o)
-block_spells s before [] behind x o m inside e told lines even = absurd (none_some e)
+block_spells s before [] behind x o m inside e told lines even = absurd (none-some _ e)
 block_spells s before (l ∷ ls) behind x end m inside e told lines even = cc
 block_spells s before (l ∷ ls) behind x (row k u a) m inside e told lines even = go (is_bare l.line.mark) refl e
   where
@@ -102,7 +102,7 @@ block_spells s before (l ∷ ls) behind x (row k u a) m inside e told lines even
       anchor = None;
       tree = value (row k u a);
       node = none_anchored (value (row k u a));
-      spelled = inr (inr (record { first = l; others = ls; run = run_of s before l ls behind x inside (same e); entry = t; outline = row k u a; even = (m, even); lines = lines; tree = refl }));
+      spelled = inr (inr (record { first = l; others = ls; run = run_of s before l ls behind x inside (same_Some _ _ e); entry = t; outline = row k u a; even = (m, even); lines = lines; tree = refl }));
     }
 
 under_in : (s : PrintedDocument) (e : BlockEntry) → IsIn s e.before (e.line ∷ e.under) e.behind → IsIn s (e.before ++ print_line e.line []) e.under e.behind
@@ -164,7 +164,7 @@ part_spells s parts.Entry [] e f x h head even is = (
   inl (record {
     first = e.line;
     others = e.under;
-    run = run_of s e.before e.line e.under e.behind x h.inside (same is);
+    run = run_of s e.before e.line e.under e.behind x h.inside (same_Some _ _ is);
     under = f.under;
     even = (even.0, subst (λ (l : Line). level l < even.0) (sym h.line) even.1, even.2);
     lines = h.lines;
@@ -179,9 +179,9 @@ part_spells s parts.Entry (t ∷ ts) e f x h head even is =
     let valid = subst (λ (p : Piece). IsNode true (Some 0) at.valid.0 y.0.node p.behind) y.2 at.valid.1 in
     (_, at.labelled, inr (record { key = y.0.key; node = y.0.node; text = ap (λ (p : Piece). p.text) (sym y.2); valid = (at.valid.0, valid); label = refl; tree = refl }))
 part_spells s parts.HeadComment [] e f x h head even is = (_, refl, tt)
-part_spells s parts.HeadComment (t ∷ ts) e f x h head even is = absurd (none_some is)
+part_spells s parts.HeadComment (t ∷ ts) e f x h head even is = absurd (none-some _ is)
 part_spells s parts.LineComment [] e f x h head even is = (_, refl, tt)
-part_spells s parts.LineComment (t ∷ ts) e f x h head even is = absurd (none_some is)
+part_spells s parts.LineComment (t ∷ ts) e f x h head even is = absurd (none-some _ is)
 
 -- a document
 steps_spell : (part : WhichPart) (y : Step) (ys : List Step) (s : PrintedDocument) (x : Piece) → ArePrinted s.lines s.behind → is_fine (group (map line_in s.lines)) ≡ true →
@@ -203,9 +203,9 @@ document_spells parts.Content [] s x told fine is =
     let whole : IsIn s s.before s.lines s.behind = record { above = []; below = []; lines = sym (append-nil s.lines); start = sym (append-nil s.before); stop = refl } in
     let even = even_from (level_or 0 (group (map line_in s.lines))) (group (map line_in s.lines)) fine in
     (_, refl, block_spells s s.before s.lines s.behind x (group (map line_in s.lines)) _ whole is told (sym (flatten-group (map line_in s.lines))) even)
-document_spells parts.Entry [] s x told fine is = absurd (none_some is)
-document_spells parts.HeadComment [] s x told fine is = absurd (none_some is)
-document_spells parts.LineComment [] s x told fine is = absurd (none_some is)
+document_spells parts.Entry [] s x told fine is = absurd (none-some _ is)
+document_spells parts.HeadComment [] s x told fine is = absurd (none-some _ is)
+document_spells parts.LineComment [] s x told fine is = absurd (none-some _ is)
 document_spells part (y ∷ ys) s x told fine is = steps_spell part y ys s x told fine is
 
 by_part : (part : WhichPart) (t : List ℕ) (c : Cut) (p : Path) (s : PrintedDocument) (x : Piece) → read_at t ≡ Some c → printed_document p.doc c ≡ Some s → (printed_document p.doc c >>= piece_in part (steps_of p)) ≡ Some x →

@@ -1,6 +1,7 @@
 -- Pieces with what stands before and behind them are the text.
 use Rattle.std.proofs.Common.{◌≡◌, ℕ, zero, suc, eqb, List, [], ◌∷◌, ◌++◌, length, take, drop, map, Some, None, is_some, option_map, Bool, true, false, cond, refl, sym, ap, ◌∙◌, append_assoc}
 use Rattle.std.proofs.lemmas.List.{take-append-drop}
+use Rattle.std.proofs.lemmas.Option.{none-some, same_Some}
 use Rattle.std.specs.List.{slice_get}
 use Rattle.std.specs.Str.{is_utf8}
 use Rattle.yq_scalar.specs.Answers.{◌>>=◌}
@@ -30,7 +31,7 @@ use Rattle.yq_tree.proofs.ReadLaws.{text_takes}
 use Rattle.yq_documents.specs.Pieces.{Piece, node_piece, head_piece, tail_comment, content_comment, last_run, before_run, gap_comment}
 use Rattle.yq_documents.proofs.RunLaws.{run_split}
 use Rattle.yq_tree.specs.PathPieces.{BlockEntry, content_piece, FlowEntry, flow_in, flow_under, flow_at, content_inline, line_inline, flow_piece, flow_content, PrintedDocument, behind_text, printed_part, printed_document, entry_with, found_entry, piece_in_entry, piece_in}
-use Rattle.yq_tree.proofs.PrintedTexts.{same, none_some, line_then, lines_then, lines_append, run_is, then_some, map_some, line_split, rows_are}
+use Rattle.yq_tree.proofs.PrintedTexts.{line_then, lines_then, lines_append, run_is, then_some, map_some, line_split, rows_are}
 
 -- a piece with the text before and behind it
 abbrev pub piece_text : Piece → List ℕ
@@ -39,19 +40,19 @@ piece_text p = p.before ++ (p.text ++ p.behind)
 -- a node
 pub node_whole : (before : List ℕ) (node : Node) (behind : List ℕ) (x : Piece) → node_piece before node behind ≡ Some x → piece_text x ≡ before ++ node_text node behind
 unfolding node_text
-node_whole before empty behind x e = absurd (none_some e)
-node_whole before (alias name) behind x e = ap piece_text (sym (same e)) ∙ ap (λ l. before ++ l) (sym (node_then (alias name) behind))
-node_whole before (scalar p) behind x e = ap piece_text (sym (same e)) ∙ ap (λ l. before ++ l) (sym (node_then (scalar p) behind))
-node_whole before (coll close gap items) behind x e = ap piece_text (sym (same e)) ∙ ap (λ l. before ++ l) (sym (node_then (coll close gap items) behind))
+node_whole before empty behind x e = absurd (none-some _ e)
+node_whole before (alias name) behind x e = ap piece_text (sym (same_Some _ _ e)) ∙ ap (λ l. before ++ l) (sym (node_then (alias name) behind))
+node_whole before (scalar p) behind x e = ap piece_text (sym (same_Some _ _ e)) ∙ ap (λ l. before ++ l) (sym (node_then (scalar p) behind))
+node_whole before (coll close gap items) behind x e = ap piece_text (sym (same_Some _ _ e)) ∙ ap (λ l. before ++ l) (sym (node_then (coll close gap items) behind))
 node_whole before (anchored name gap node) behind x e =
     node_whole (before ++ 38 ∷ (name ++ gap)) node behind x e
     ∙ (append_assoc before (38 ∷ (name ++ gap)) (node_text node behind) ∙ ap (λ l. before ++ (38 ∷ l)) (append_assoc name gap (node_text node behind)))
 
 pub head_whole : (before : List ℕ) (c : Content) (behind : List ℕ) (x : Piece) → head_piece before c behind ≡ Some x → piece_text x ≡ before ++ content_text c behind
-head_whole before (Nothing tail) behind x e = absurd (none_some e)
+head_whole before (Nothing tail) behind x e = absurd (none-some _ e)
 head_whole before (Inline space node tail) behind x e = node_whole (before ++ space) node (tail ++ behind) x e ∙ append_assoc before space (node_text node (tail ++ behind))
-head_whole before (Block space None block) behind x e = ap piece_text (sym (same e)) ∙ simp append_assoc refl
-head_whole before (Block space (Some a) block) behind x e = ap piece_text (sym (same e)) ∙ simp append_assoc refl
+head_whole before (Block space None block) behind x e = ap piece_text (sym (same_Some _ _ e)) ∙ simp append_assoc refl
+head_whole before (Block space (Some a) block) behind x e = ap piece_text (sym (same_Some _ _ e)) ∙ simp append_assoc refl
 
 -- lines
 pub run_whole : (before : List ℕ) (l : PrintedLine) (ls : List PrintedLine) (behind : List ℕ) → piece_text (run_piece before l ls behind) ≡ before ++ print_lines (l ∷ ls) behind
@@ -62,12 +63,12 @@ mark_whole : (before : List ℕ) (l : PrintedLine) (ls : List PrintedLine) (behi
 mark_whole before l ls behind x e = head_whole (before ++ (line_front l ++ l.mark)) l.content (print_lines ls behind) x e ∙ simp append_assoc refl
 
 pub block_whole : (before : List ℕ) (ls : List PrintedLine) (behind : List ℕ) (x : Piece) → lines_piece before ls behind ≡ Some x → piece_text x ≡ before ++ print_lines ls behind
-block_whole before [] behind x e = absurd (none_some e)
+block_whole before [] behind x e = absurd (none-some _ e)
 block_whole before (l ∷ ls) behind x e = go (is_bare l.line.mark) e
   where
     go : (b : Bool) → cond b (head_piece (before ++ (line_front l ++ l.mark)) l.content (print_lines ls behind)) (Some (run_piece before l ls behind)) ≡ Some x → piece_text x ≡ before ++ print_lines (l ∷ ls) behind
     go true e = mark_whole before l ls behind x e
-    go false e = ap piece_text (sym (same e)) ∙ run_whole before l ls behind
+    go false e = ap piece_text (sym (same_Some _ _ e)) ∙ run_whole before l ls behind
 
 -- an entry, with the text before and behind it
 abbrev pub entry_text : BlockEntry → List ℕ
@@ -97,7 +98,7 @@ value_whole x p e = node_whole (x.before ++ key_text x.key []) x.node x.behind p
 
 items_whole : (k : ℕ) (s : Step) (before : List ℕ) (is : Items) (behind : List ℕ) (x : FlowEntry) → flow_in k s before is behind ≡ Some x → item_text x ≡ before ++ items_text k is behind
 unfolding items_text
-items_whole k s before none behind x e = absurd (none_some e)
+items_whole k s before none behind x e = absurd (none-some _ e)
 items_whole k s before (item key n sep is) behind x e = go (is_here s (inner (key_content key))) (λ h. items_whole k (further s) (before ++ key_text key (node_text n (sep_text sep []))) is behind x h) e
   where
     tail : List ℕ
@@ -113,29 +114,29 @@ items_whole k s before (item key n sep is) behind x e = go (is_here s (inner (ke
 
     go : (b : Bool) → (flow_in k (further s) (before ++ front) is behind ≡ Some x → item_text x ≡ (before ++ front) ++ tail) →
         cond b (Some (record { before = before; key = key; node = n; behind = sep_text sep tail })) (flow_in k (further s) (before ++ front) is behind) ≡ Some x → item_text x ≡ before ++ key_text key (node_text n (sep_text sep tail))
-    go true again e = ap item_text (sym (same e))
+    go true again e = ap item_text (sym (same_Some _ _ e))
     go false again e = again e ∙ (append_assoc before front tail ∙ ap (λ l. before ++ l) (sym split))
 
 under_whole : (s : Step) (before : List ℕ) (node : Node) (behind : List ℕ) (x : FlowEntry) → flow_under s before node behind ≡ Some x → item_text x ≡ before ++ node_text node behind
 unfolding node_text
-under_whole s before empty behind x e = absurd (none_some e)
-under_whole s before (alias n) behind x e = absurd (none_some e)
-under_whole s before (scalar p) behind x e = absurd (none_some e)
+under_whole s before empty behind x e = absurd (none-some _ e)
+under_whole s before (alias n) behind x e = absurd (none-some _ e)
+under_whole s before (scalar p) behind x e = absurd (none-some _ e)
 under_whole s before (coll k gap is) behind x e = items_whole k s (before ++ open_of k ∷ gap) is behind x e ∙ append_assoc before (open_of k ∷ gap) (items_text k is behind)
 under_whole s before (anchored n gap node) behind x e =
     under_whole s (before ++ 38 ∷ (n ++ gap)) node behind x e
     ∙ (append_assoc before (38 ∷ (n ++ gap)) (node_text node behind) ∙ ap (λ l. before ++ (38 ∷ l)) (append_assoc n gap (node_text node behind)))
 
 pub at_whole : (ss : List Step) (x y : FlowEntry) → flow_at ss x ≡ Some y → item_text y ≡ item_text x
-at_whole [] x y e = ap item_text (sym (same e))
+at_whole [] x y e = ap item_text (sym (same_Some _ _ e))
 at_whole (s ∷ ss) x y e =
     let z = then_some (flow_under s (x.before ++ key_text x.key []) x.node x.behind) e in
     at_whole ss z.0 y z.2 ∙ (under_whole s (x.before ++ key_text x.key []) x.node x.behind z.0 z.1 ∙ key_before x)
 
 head_item_whole : (before : List ℕ) (c : Content) (behind : List ℕ) (x : FlowEntry) → content_inline before c behind ≡ Some x → item_text x ≡ before ++ content_text c behind
-head_item_whole before (Nothing tail) behind x e = absurd (none_some e)
-head_item_whole before (Inline space node tail) behind x e = ap item_text (sym (same e)) ∙ append_assoc before space (node_text node (tail ++ behind))
-head_item_whole before (Block space anchor block) behind x e = absurd (none_some e)
+head_item_whole before (Nothing tail) behind x e = absurd (none-some _ e)
+head_item_whole before (Inline space node tail) behind x e = ap item_text (sym (same_Some _ _ e)) ∙ append_assoc before space (node_text node (tail ++ behind))
+head_item_whole before (Block space anchor block) behind x e = absurd (none-some _ e)
 
 in_line_whole : (e : BlockEntry) (x : FlowEntry) → line_inline e ≡ Some x → item_text x ≡ entry_text e
 in_line_whole e x is = head_item_whole (e.before ++ (line_front e.line ++ e.line.mark)) e.line.content (print_lines e.under e.behind) x is ∙ simp append_assoc refl
@@ -154,8 +155,8 @@ tail_whole before tail behind x e = go (front (λ b. eqb b 35) (past_white tail)
 
     go : (b : Bool) → cond b (Some (record { before = before ++ (cut no_white tail).0; text = (cut ends_line (past_white tail)).0; behind = (cut ends_line (past_white tail)).1 ++ behind })) None ≡ Some x →
         piece_text x ≡ before ++ (tail ++ behind)
-    go true e = ap piece_text (sym (same e)) ∙ whole
-    go false e = absurd (none_some e)
+    go true e = ap piece_text (sym (same_Some _ _ e)) ∙ whole
+    go false e = absurd (none-some _ e)
 
 pub tail_text : (before : List ℕ) (c : Content) (behind : List ℕ) →
     (before ++ ((content_cut c).0 ++ ((content_cut c).1 ++ ((content_cut c).2 ++ (content_cut c).3)))) ++ ((content_cut c).4 ++ ((content_cut c).5 ++ behind)) ≡ before ++ content_text c behind
@@ -175,9 +176,9 @@ gap_whole : (before gap behind : List ℕ) (x : Piece) → gap_comment before ga
 gap_whole before gap behind x e = go (is_empty (joined (last_run (lines_of gap)))) e
   where
     go : (b : Bool) → cond b None (Some (record { before = before ++ joined (before_run (lines_of gap)); text = joined (last_run (lines_of gap)); behind = behind })) ≡ Some x → piece_text x ≡ before ++ (gap ++ behind)
-    go true e = absurd (none_some e)
+    go true e = absurd (none-some _ e)
     go false e =
-        ap piece_text (sym (same e))
+        ap piece_text (sym (same_Some _ _ e))
         ∙ (append_assoc before (joined (before_run (lines_of gap))) (joined (last_run (lines_of gap)) ++ behind)
         ∙ ap (λ l. before ++ l) (sym (append_assoc (joined (before_run (lines_of gap))) (joined (last_run (lines_of gap))) behind) ∙ ap (λ l. l ++ behind) (run_split (lines_of gap) ∙ joined_lines gap)))
 
@@ -188,7 +189,7 @@ entry_piece_whole parts.Content (s ∷ ss) e x is =
     let h = bind_some (line_inline e) is in
     let y = bind_some (flow_at (s ∷ ss) h.0) h.2 in
     value_whole y.0 x y.2 ∙ (at_whole (s ∷ ss) h.0 y.0 y.1 ∙ in_line_whole e h.0 h.1)
-entry_piece_whole parts.Entry [] e x is = ap piece_text (sym (same is)) ∙ run_whole e.before e.line e.under e.behind
+entry_piece_whole parts.Entry [] e x is = ap piece_text (sym (same_Some _ _ is)) ∙ run_whole e.before e.line e.under e.behind
 entry_piece_whole parts.Entry (s ∷ ss) e x is =
     let h = bind_some (line_inline e) is in
     let y = map_some (flow_at (s ∷ ss) h.0) h.2 in
@@ -196,10 +197,10 @@ entry_piece_whole parts.Entry (s ∷ ss) e x is =
 entry_piece_whole parts.HeadComment [] e x is =
     let rest : List ℕ = behind_front e.line (print_lines e.under e.behind) in
     gap_whole e.before e.line.gap (e.line.spaces ++ rest) x is ∙ ap (λ l. e.before ++ l) (sym (append_assoc e.line.gap e.line.spaces rest))
-entry_piece_whole parts.HeadComment (s ∷ ss) e x is = absurd (none_some is)
+entry_piece_whole parts.HeadComment (s ∷ ss) e x is = absurd (none-some _ is)
 entry_piece_whole parts.LineComment [] e x is =
     comment_whole (e.before ++ (line_front e.line ++ e.line.mark)) e.line.content (print_lines e.under e.behind) x is ∙ simp append_assoc refl
-entry_piece_whole parts.LineComment (s ∷ ss) e x is = absurd (none_some is)
+entry_piece_whole parts.LineComment (s ∷ ss) e x is = absurd (none-some _ is)
 
 -- the lines of a document with the text before and behind them
 abbrev pub document_text : PrintedDocument → List ℕ
@@ -216,7 +217,7 @@ entry_whole s n m e is =
     ∙ (ap (λ x. print_lines front (print_line l.0 (print_lines x s.behind))) (sym (take-append-drop m more))
     ∙ (ap (λ x. print_lines front (print_line l.0 x)) (lines_append (take m more) (drop m more) s.behind)
     ∙ lines_then front [] (print_line l.0 (print_lines (take m more) (print_lines (drop m more) s.behind)))))) in
-    ap entry_text (sym (same l.2))
+    ap entry_text (sym (same_Some _ _ l.2))
     ∙ (append_assoc s.before (print_lines front []) (print_line l.0 (print_lines (take m more) (print_lines (drop m more) s.behind))) ∙ ap (λ x. s.before ++ x) (sym lines))
 
 steps_whole : (part : WhichPart) (y : Step) (ys : List Step) (s : PrintedDocument) (x : Piece) → (find y ys (group (map line_in s.lines)) >>= λ f. found_entry s f.0 >>= piece_in_entry part f.1) ≡ Some x → piece_text x ≡ document_text s
@@ -227,9 +228,9 @@ steps_whole part y ys s x is =
 
 pub piece_whole : (part : WhichPart) (ss : List Step) (s : PrintedDocument) (x : Piece) → piece_in part ss s ≡ Some x → piece_text x ≡ document_text s
 piece_whole parts.Content [] s x is = block_whole s.before s.lines s.behind x is
-piece_whole parts.Entry [] s x is = absurd (none_some is)
-piece_whole parts.HeadComment [] s x is = absurd (none_some is)
-piece_whole parts.LineComment [] s x is = absurd (none_some is)
+piece_whole parts.Entry [] s x is = absurd (none-some _ is)
+piece_whole parts.HeadComment [] s x is = absurd (none-some _ is)
+piece_whole parts.LineComment [] s x is = absurd (none-some _ is)
 piece_whole part (y ∷ ys) s x is = steps_whole part y ys s x is
 
 -- a document
@@ -241,10 +242,10 @@ behind_whole p marker n c s again e =
     ∙ (append_assoc (part_text p marker) x.0.before (print_lines x.0.lines x.0.behind) ∙ (ap (λ l. part_text p marker ++ l) (again x.0 x.1) ∙ sym (part_then p marker (cut_text c))))
 
 pub document_whole : (is : Bool) (n : ℕ) (c : Cut) (s : PrintedDocument) → printed_part is n c ≡ Some s → document_text s ≡ cut_text c
-document_whole true zero (last p) s e = ap document_text (sym (same e)) ∙ rows_are p.rows (p.end ++ [])
-document_whole true (suc n) (last p) s e = absurd (none_some e)
-document_whole false n (last p) s e = absurd (none_some e)
-document_whole true zero (marked p marker c) s e = ap document_text (sym (same e)) ∙ rows_are p.rows (p.end ++ (marker ++ cut_text c))
+document_whole true zero (last p) s e = ap document_text (sym (same_Some _ _ e)) ∙ rows_are p.rows (p.end ++ [])
+document_whole true (suc n) (last p) s e = absurd (none-some _ e)
+document_whole false n (last p) s e = absurd (none-some _ e)
+document_whole true zero (marked p marker c) s e = ap document_text (sym (same_Some _ _ e)) ∙ rows_are p.rows (p.end ++ (marker ++ cut_text c))
 document_whole true (suc n) (marked p marker c) s e = behind_whole p marker n c s (λ x h. document_whole (begins_document marker) n c x h) e
 document_whole false n (marked p marker c) s e = behind_whole p marker n c s (λ x h. document_whole (begins_document marker) n c x h) e
 

@@ -1,7 +1,7 @@
 -- A document's rows in the text of a cut, and the row of a line, by the rows of all parts.
 use Rattle.std.proofs.Common.{◌≡◌, ℕ, zero, suc, ◌+◌, ◌-◌, ltb, List, [], ◌∷◌, ◌++◌, length, take, drop, Option, Some, None, option_map, Bool, true, false, refl, sym, ap, ◌∙◌, subst, arith, append_assoc}
 use Rattle.std.proofs.lemmas.Bool.{lt-ltb, le-ltb, cond-true, cond-false}
-use Rattle.std.proofs.lemmas.Option.{slice_get_within}
+use Rattle.std.proofs.lemmas.Option.{slice_get_within, none-some, same_Some}
 use Rattle.std.specs.List.{slice_get}
 use Rattle.yq_scalar.specs.Answers.{◌>>=◌}
 use Rattle.yq_rows.specs.Exchange.{behind_at, behind_row}
@@ -18,7 +18,7 @@ use Rattle.yq_documents.specs.Located.{steps_of}
 use Rattle.yq_tree.specs.PlacedRows.{PlacedPart, PlacedRow, part_behind, placed_part, placed_document, placed_row, row_of_path}
 use Rattle.yq_tree.specs.SeatReading.{Numbers, numbers}
 use Rattle.yq_documents.specs.Seats.{Seat, seat_of, seat_at, rows_before, document_row}
-use Rattle.yq_tree.proofs.PrintedTexts.{same, none_some, map_some}
+use Rattle.yq_tree.proofs.PrintedTexts.{map_some}
 use Rattle.yq_tree.proofs.SeatedLaws.{steps_row}
 
 -- A row of a cut stands behind others, between these texts.
@@ -37,7 +37,7 @@ rows_behind (x ∷ rows) zero rest = refl
 rows_behind (x ∷ rows) (suc i) rest = rows_behind rows i rest
 
 get_front : (xs more : List Row) (i : ℕ) (r : Row) → slice_get xs i ≡ Some r → slice_get (xs ++ more) i ≡ Some r
-get_front [] more i r e = absurd (none_some e)
+get_front [] more i r e = absurd (none-some _ e)
 get_front (x ∷ xs) more zero r e = e
 get_front (x ∷ xs) more (suc i) r e = get_front xs more i r e
 
@@ -76,10 +76,10 @@ later_at q marker c k s h j r is =
     })
 
 pub part_at : (is : Bool) (n : ℕ) (c : Cut) (s : PlacedPart) → placed_part is n c ≡ Some s → HasRowsAt c (rows_before is n c) s
-part_at true zero (last p) s e = subst (HasRowsAt (last p) 0) (same e) (last_at p)
-part_at true (suc n) (last p) s e = absurd (none_some e)
-part_at false n (last p) s e = absurd (none_some e)
-part_at true zero (marked p marker c) s e = subst (HasRowsAt (marked p marker c) 0) (same e) (first_at p marker c)
+part_at true zero (last p) s e = subst (HasRowsAt (last p) 0) (same_Some _ _ e) (last_at p)
+part_at true (suc n) (last p) s e = absurd (none-some _ e)
+part_at false n (last p) s e = absurd (none-some _ e)
+part_at true zero (marked p marker c) s e = subst (HasRowsAt (marked p marker c) 0) (same_Some _ _ e) (first_at p marker c)
 part_at true (suc n) (marked p marker c) s e =
     let x = map_some (placed_part (begins_document marker) n c) e in
     subst (HasRowsAt (marked p marker c) (length p.rows + rows_before (begins_document marker) n c)) x.2 (later_at p marker c (rows_before (begins_document marker) n c) x.0 (part_at (begins_document marker) n c x.0 x.1))
@@ -113,16 +113,13 @@ pub record IsSeatOf (path : Path) (c : Cut) (n : Numbers) (w : PlacedRow) : Type
   pub dashes : n.2 ≡ length w.row.dashes
   pub at : IsAt c n.0 w.before w.row w.behind
 
-numbers_same : {x y : Numbers} → Some x ≡ Some y → x ≡ y
-numbers_same e = cc
-
 pub seat_placed : (path : Path) (c : Cut) (n : Numbers) → Some n ≡ option_map (numbers (document_row path.doc c)) (seat_at path c) → (w : PlacedRow) × IsSeatOf path c n w
 seat_placed path c n e = go (placed_document path.doc c) refl (e ∙ ap (λ (o : Option Part). option_map (numbers (document_row path.doc c)) (o >>= λ d. seat_of (steps_of path) d.rows)) (document_placed path.doc c))
   where
     at_seat : (s : PlacedPart) → placed_document path.doc c ≡ Some s → (o : Option Seat) → seat_of (steps_of path) s.part.rows ≡ o → Some n ≡ option_map (numbers (document_row path.doc c)) o → (w : PlacedRow) × IsSeatOf path c n w
-    at_seat s there None is e = absurd (none_some (sym e))
+    at_seat s there None is e = absurd (none-some _ (sym e))
     at_seat s there (Some x) is e =
-        let found : n ≡ numbers (document_row path.doc c) x = numbers_same e in
+        let found : n ≡ numbers (document_row path.doc c) x = same_Some _ _ e in
         let row = steps_row (line_of (steps_of path) (lines_of s.part.rows)) s.part.rows x is in
         let at = part_at _ path.doc c s there x.before x.row row in
         let w : PlacedRow = placed_row s x in (
@@ -136,7 +133,7 @@ seat_placed path c n e = go (placed_document path.doc c) refl (e ∙ ap (λ (o :
         )
 
     go : (o : Option PlacedPart) → placed_document path.doc c ≡ o → Some n ≡ option_map (numbers (document_row path.doc c)) (part_of o >>= λ d. seat_of (steps_of path) d.rows) → (w : PlacedRow) × IsSeatOf path c n w
-    go None is e = absurd (none_some (sym e))
+    go None is e = absurd (none-some _ (sym e))
     go (Some s) is e = at_seat s is (seat_of (steps_of path) s.part.rows) refl e
 
 pub no_seat_placed : (path : Path) (c : Cut) (k : ℕ) → None ≡ option_map (numbers k) (seat_at path c) → row_of_path path.doc (steps_of path) c ≡ None
@@ -144,7 +141,7 @@ no_seat_placed path c k e = go (placed_document path.doc c) refl (e ∙ ap (λ (
   where
     at_seat : (s : PlacedPart) (o : Option Seat) → seat_of (steps_of path) s.part.rows ≡ o → None ≡ option_map (numbers k) o → option_map (placed_row s) (seat_of (steps_of path) s.part.rows) ≡ None
     at_seat s None is e = ap (option_map (placed_row s)) is
-    at_seat s (Some x) is e = absurd (none_some e)
+    at_seat s (Some x) is e = absurd (none-some _ e)
 
     go : (o : Option PlacedPart) → placed_document path.doc c ≡ o → None ≡ option_map (numbers k) (part_of o >>= λ d. seat_of (steps_of path) d.rows) → row_of_path path.doc (steps_of path) c ≡ None
     go None is e = ap (λ (o : Option PlacedPart). o >>= λ s. option_map (placed_row s) (seat_of (steps_of path) s.part.rows)) is

@@ -1,5 +1,6 @@
 -- What is told of lines with their texts, and the lines of a document.
 use Rattle.std.proofs.Common.{◌≡◌, ◌⊎◌, inl, inr, ℕ, zero, suc, ◌+◌, List, [], ◌∷◌, ◌++◌, map, Option, Some, None, Bool, true, false, refl, sym, ap, ◌∙◌, subst, replicate, ℤ}
+use Rattle.std.proofs.lemmas.Option.{none-some, same_Some}
 use Rattle.std.specs.List.{slice_get}
 use Rattle.yq_scalar.specs.Block.{IsBlock}
 use Rattle.yq_scalar.specs.Text.{upto, lines_of as text_lines}
@@ -14,7 +15,7 @@ use Rattle.yq_documents.specs.Lines.{head_of, tail_of, dash_line, lines_from, li
 use Rattle.yq_tree.specs.PrintedLines.{behind_front, PrintedLine, print_lines, printed_from, printed_row, printed_lines, line_in}
 use Rattle.yq_tree.specs.PathPieces.{PrintedDocument, printed_part}
 use Rattle.yq_tree.proofs.CommentPieceLaws.{Ended, content_end, gap_end}
-use Rattle.yq_tree.proofs.PrintedTexts.{alone, from_is, same, none_some, map_some, lines_append, rows_are}
+use Rattle.yq_tree.proofs.PrintedTexts.{alone, from_is, map_some, lines_append, rows_are}
 
 -- an inline node is valid where it stands
 abbrev pub IsValid : Node → List ℕ → Type 0
@@ -99,11 +100,11 @@ pub record IsPrintedDocument (p : Part) (s : PrintedDocument) : Type 0 where
   pub told : ArePrinted s.lines s.behind
 
 pub document_is : (is started : Bool) (n : ℕ) (c : Cut) (s : PrintedDocument) → AreParts started c → printed_part is n c ≡ Some s → (p : Part) × (slice_get (parts_from is c) n ≡ Some p) × IsPrintedDocument p s
-document_is true started zero (last p) s h e = (p, refl, subst (IsPrintedDocument p) (same e) (record { lines = refl; told = rows_printed unlimited p.rows p.end [] h.rows }))
-document_is true started (suc n) (last p) s h e = absurd (none_some e)
-document_is false started n (last p) s h e = absurd (none_some e)
+document_is true started zero (last p) s h e = (p, refl, subst (IsPrintedDocument p) (same_Some _ _ e) (record { lines = refl; told = rows_printed unlimited p.rows p.end [] h.rows }))
+document_is true started (suc n) (last p) s h e = absurd (none-some _ e)
+document_is false started n (last p) s h e = absurd (none-some _ e)
 document_is true started zero (marked p marker c) s h e =
-    (p, refl, subst (IsPrintedDocument p) (same e) (record { lines = refl; told = rows_printed unlimited p.rows p.end (marker ++ cut_text c) h.0.rows }))
+    (p, refl, subst (IsPrintedDocument p) (same_Some _ _ e) (record { lines = refl; told = rows_printed unlimited p.rows p.end (marker ++ cut_text c) h.0.rows }))
 document_is true started (suc n) (marked p marker c) s h e =
     let x = map_some (printed_part (begins_document marker) n c) e in
     let q = document_is (begins_document marker) (begins_document marker) n c x.0 h.2 x.1 in

@@ -1,5 +1,6 @@
 -- The texts of lines, and of runs of them.
 use Rattle.std.proofs.Common.{◌≡◌, ℕ, zero, suc, ◌+◌, List, [], ◌∷◌, ◌++◌, length, take, drop, Option, Some, None, option_map, option_and_then, Bool, true, false, cond, refl, sym, ap, ◌∙◌, append_assoc, append-nil, replicate}
+use Rattle.std.proofs.lemmas.Option.{none-some, same_Some}
 use Rattle.std.specs.List.{slice_get}
 use Rattle.yq_scalar.specs.Text.{is_empty}
 use Rattle.yq_inline.specs.Nodes.{node_text}
@@ -9,12 +10,6 @@ use Rattle.yq_rows.specs.Rows.{Bare, Dash, Key as MarkKey, Content, Nothing, Inl
 use Rattle.yq_rows.specs.View.{content_cut}
 use Rattle.yq_rows.proofs.SliceLaws.{content_slices}
 use Rattle.yq_tree.specs.PrintedLines.{is_last_break, less_break, less_last, less_end, last_break, end_break, PrintedLine, line_front, behind_front, print_line, print_lines, printed_from, printed_row, printed_lines, run_text, run_break}
-
-pub same : {A : Type 0} {x y : A} → Some x ≡ Some y → x ≡ y
-same e = cc
-
-pub none_some : {A : Type 0} {x : A} → None ≡ Some x → ⊥
-none_some e = cc
 
 -- a text less its last break, and that break
 pub less_is : (t : List ℕ) → less_break t ++ last_break t ≡ t
@@ -75,12 +70,12 @@ then_some (Some x) h = (x, refl, h)
 
 pub map_some : {A B : Type 0} {f : A → B} {y : B} (o : Option A) → option_map f o ≡ Some y → (x : A) × (o ≡ Some x) × (f x ≡ y)
 map_some None h = cc
-map_some (Some x) h = (x, refl, same h)
+map_some (Some x) h = (x, refl, same_Some _ _ h)
 
 -- a line of a document
 pub line_split : (ls : List PrintedLine) (n : ℕ) (l : PrintedLine) → slice_get ls n ≡ Some l → ls ≡ take n ls ++ (l ∷ drop (suc n) ls)
-line_split [] n l e = absurd (none_some e)
-line_split (k ∷ ls) zero l e = ap (λ x. x ∷ ls) (same e)
+line_split [] n l e = absurd (none-some _ e)
+line_split (k ∷ ls) zero l e = ap (λ x. x ∷ ls) (same_Some _ _ e)
 line_split (k ∷ ls) (suc n) l e = ap (λ x. k ∷ x) (line_split ls n l e)
 
 -- the lines of rows

@@ -1,9 +1,10 @@
 -- Reading bytes as documents, both ways.
 use Rattle.std.proofs.Common.{◌≡◌, ℕ, List, true, Option, Some, None, sym, ap, ◌∙◌, subst}
 use Rattle.std.proofs.lemmas.Bool.{cond-true}
+use Rattle.std.proofs.lemmas.Option.{cond_some, none-some, same_Some}
 use Rattle.std.specs.Str.{is_utf8}
 use Rattle.yq_scalar.specs.Answers.{◌>>=◌}
-use Rattle.yq_scalar.proofs.Bools.{bind_some, guard_some, guard_then}
+use Rattle.yq_scalar.proofs.Bools.{bind_some, guard_then}
 use Rattle.yq_rows.specs.Grammar.{IsCut}
 use Rattle.yq_rows.specs.Reading.{scan_at}
 use Rattle.yq_rows.specs.Rows.{Cut}
@@ -17,7 +18,7 @@ pub text_takes : (t : List ℕ) (c : Cut) → text_at t ≡ Some c → IsCut t c
 unfolding text_at
 text_takes t c e =
     let q = bind_some (scan_at t) e in
-    let g = guard_some (all_documents q.0) q.2 in
+    let g = cond_some (all_documents q.0) _ _ q.2 in
     (subst (IsCut t) g.1 (scan_takes t q.0 q.1), ap all_documents (sym g.1) ∙ g.0)
 
 pub text_again : (t : List ℕ) (c : Cut) → IsCut t c → all_documents c ≡ true → text_at t ≡ Some c
@@ -42,14 +43,11 @@ read_again bytes docs h =
     let d = documents_again (document_parts h.parts) docs h.documents in
     (h.parts, cond-true _ _ _ h.utf8 ∙ text_again bytes h.parts h.cut d.0, d.1)
 
-same_some : {x y : Cut} → Some x ≡ Some y → x ≡ y
-same_some e = cc
-
 pub one_reading : (bytes : List ℕ) (docs others : List Document) → Reads bytes docs → Reads bytes others → docs ≡ others
 one_reading bytes docs others h k =
     let a = read_again bytes docs h in
     let b = read_again bytes others k in
-    sym a.2 ∙ (ap documents (same_some (sym a.1 ∙ b.1)) ∙ b.2)
+    sym a.2 ∙ (ap documents (same_Some _ _ (sym a.1 ∙ b.1)) ∙ b.2)
 
 -- bytes read as the text that they are
 pub read_as_text : (bytes text : List ℕ) (read : Option Cut) → (is_utf8 bytes ≡ true) × (text ≡ bytes) → text_at text ≡ read → read_at bytes ≡ read
@@ -57,10 +55,7 @@ unfolding read_at
 read_as_text bytes text read is e = cond-true _ _ _ is.0 ∙ (ap text_at (sym is.1) ∙ e)
 
 pub only_by : (bytes : List ℕ) (c : Cut) → read_at bytes ≡ Some c → (docs : List Document) → Reads bytes docs → Some docs ≡ Some (documents c)
-only_by bytes c e docs h = let a = read_again bytes docs h in ap Some (sym a.2 ∙ ap documents (same_some (sym a.1 ∙ e)))
+only_by bytes c e docs h = let a = read_again bytes docs h in ap Some (sym a.2 ∙ ap documents (same_Some _ _ (sym a.1 ∙ e)))
 
 pub none_by : (bytes : List ℕ) → read_at bytes ≡ None → (docs : List Document) → Reads bytes docs → Some docs ≡ None
-none_by bytes e docs h = let a = read_again bytes docs h in absurd (some_none (sym a.1 ∙ e))
-  where
-    some_none : {x : Cut} → Some x ≡ None → ⊥
-    some_none e = cc
+none_by bytes e docs h = let a = read_again bytes docs h in absurd (none-some _ (sym e ∙ a.1))

@@ -2,6 +2,7 @@
 use Rattle.std.proofs.Common.{◌≡◌, ℕ, ℤ, zero, suc, ◌+◌, eqb, Bool, true, false, cond, List, [], ◌∷◌, ◌++◌, map, Option, Some, None, refl, sym, ap, ◌∙◌, subst}
 use Rattle.std.specs.List.{list_all, slice_get}
 use Rattle.std.proofs.lemmas.Bool.{and_parts, false≢true}
+use Rattle.std.proofs.lemmas.Option.{none-some}
 use Rattle.yq_scalar.specs.Shapes.{IsShaped, AreShaped, AreItems, AreKeyed}
 use Rattle.yq_scalar.specs.Tree as tree
 use Rattle.yq_scalar.specs.Tree.{Node, Children, children_of}
@@ -157,10 +158,7 @@ part_ready shaped law p d h heads =
 
 parts_ready : ShapedByLines → ShapedIsTree → (ps : List Part) → PartsAreShaped ps → list_all is_document ps ≡ true → (i : ℕ) (d : Document) → slice_get (map document_of ps) i ≡ Some d →
     IsReady (part_is_block (slice_get ps i)) d
-parts_ready shaped law [] heads all i d at = absurd (none_some at)
-  where
-    none_some : {A : Type 0} {x : A} → None ≡ Some x → ⊥
-    none_some e = cc
+parts_ready shaped law [] heads all i d at = absurd (none-some _ at)
 parts_ready shaped law (p ∷ ps) heads all zero d at =
     let same : document_of p ≡ d = cc in
     subst (IsReady (begins_no_node (lines_of p.rows))) same (part_ready shaped law p (document_of p) (document_is p (and_parts (is_document p) (list_all is_document ps) all).0) heads.0)

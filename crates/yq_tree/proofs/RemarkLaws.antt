@@ -1,6 +1,7 @@
 -- The texts of comments, by where they stand.
 use Rattle.std.proofs.Common.{◌≡◌, ℕ, ◌<◌, eqb, List, [], ◌∷◌, ◌++◌, length, drop, Some, None, option_map, Bool, true, false, cond, refl, sym, ap, ◌∙◌, arith}
 use Rattle.std.proofs.lemmas.Bool.{eqb-true, cond-true, cond-false}
+use mathlib.Core.List.{tail-eq_of_cons-eq}
 use Rattle.yq_scalar.specs.Text.{cut, front, ends_line, no_white, past_white, upto, is_empty, joined, lines_of, line_len}
 use Rattle.yq_scalar.proofs.LineLaws.{joined_lines, line_step}
 use Rattle.yq_lines.specs.Comments.{less_space, comment_text, are_comments, head_comment}
@@ -40,11 +41,8 @@ run_is : (ls : List (List ℕ)) (t : List ℕ) → lines_of t ≡ ls → RunIs l
 unfolding lines_of
 run_is [] t e = ([], refl)
 run_is (l ∷ ls) [] e = absurd (cc)
-run_is (l ∷ ls) (b ∷ bs) e = go (are_comments (l ∷ ls)) refl (run_is ls (drop (line_len (b ∷ bs)) (b ∷ bs)) (others (sym (line_step (b ∷ bs) (no_lines b bs)) ∙ e)))
+run_is (l ∷ ls) (b ∷ bs) e = go (are_comments (l ∷ ls)) refl (run_is ls (drop (line_len (b ∷ bs)) (b ∷ bs)) (tail-eq_of_cons-eq (sym (line_step (b ∷ bs) (no_lines b bs)) ∙ e)))
   where
-    others : {x y : List ℕ} {xs ys : List (List ℕ)} → x ∷ xs ≡ y ∷ ys → xs ≡ ys
-    others e = cc
-
     go : (c : Bool) → are_comments (l ∷ ls) ≡ c → RunIs ls → RunIs (l ∷ ls)
     go true h again = (b ∷ bs, e ∙ sym (cond-true _ _ _ h))
     go false h again = (again.0, again.1 ∙ sym (cond-false _ _ _ h))

@@ -1,7 +1,7 @@
 -- Rows of a document and the gaps behind them, among all rows of a text.
 use Rattle.std.proofs.Common.{◌≡◌, ℕ, zero, suc, ◌+◌, ◌-◌, ◌<◌, ◌≤◌, eqb, ltb, List, [], ◌∷◌, ◌++◌, length, length-append, take, Some, option_map, Bool, true, false, cond, not, ◌||◌, refl, sym, ap, ◌∙◌, subst, arith}
 use Rattle.std.proofs.lemmas.Bool.{cond-true, cond-false, eq-eqb, ne_eqb, le-ltb, lt-ltb}
-use Rattle.std.proofs.lemmas.Option.{slice_get-map}
+use Rattle.std.proofs.lemmas.Option.{slice_get-map, same_Some}
 use Rattle.std.specs.List.{slice_get}
 use Rattle.yq_rows.specs.Grammar.{begins_document}
 use Rattle.yq_rows.specs.Removal.{block_of, last_block, next_column}
@@ -13,7 +13,7 @@ use Rattle.yq_documents.specs.Documents.{begins_bare, has_begin}
 use Rattle.yq_tree.specs.PlacedRows.{PlacedPart, part_behind, placed_part, placed_document}
 use Rattle.yq_tree.specs.RemovalReading.{gap_at, gap_and_column}
 use Rattle.yq_documents.specs.Seats.{rows_before, document_row}
-use Rattle.yq_tree.proofs.PlacedPartLaws.{behind_part, map_some, placed_same}
+use Rattle.yq_tree.proofs.PlacedPartLaws.{behind_part, map_some}
 
 -- ---- the text before a row
 
@@ -33,13 +33,13 @@ in_later p marker c i k =
 
 pub text_before : (is : Bool) (n : ℕ) (c : Cut) (d : PlacedPart) → placed_part is n c ≡ Some d → (i : ℕ) → i < length d.part.rows → before_row (rows_before is n c + i) c ≡ d.before ++ rows_text (take i d.part.rows) []
 text_before true zero (last p) d e i h =
-    let same : length p.rows ≡ length d.part.rows = ap (λ (x : PlacedPart). length x.part.rows) (placed_same e) in
-    row_text p i (omega (arith, h, same)) ∙ ap (λ (x : PlacedPart). x.before ++ rows_text (take i x.part.rows) []) (placed_same e)
+    let same : length p.rows ≡ length d.part.rows = ap (λ (x : PlacedPart). length x.part.rows) (same_Some _ _ e) in
+    row_text p i (omega (arith, h, same)) ∙ ap (λ (x : PlacedPart). x.before ++ rows_text (take i x.part.rows) []) (same_Some _ _ e)
 text_before true (suc n) (last p) d e i h = absurd (cc)
 text_before false n (last p) d e i h = absurd (cc)
 text_before true zero (marked p marker c) d e i h =
-    let same : length p.rows ≡ length d.part.rows = ap (λ (x : PlacedPart). length x.part.rows) (placed_same e) in
-    in_first p marker c i (omega (arith, h, same)) ∙ ap (λ (x : PlacedPart). x.before ++ rows_text (take i x.part.rows) []) (placed_same e)
+    let same : length p.rows ≡ length d.part.rows = ap (λ (x : PlacedPart). length x.part.rows) (same_Some _ _ e) in
+    in_first p marker c i (omega (arith, h, same)) ∙ ap (λ (x : PlacedPart). x.before ++ rows_text (take i x.part.rows) []) (same_Some _ _ e)
 text_before true (suc n) (marked p marker c) d e i h =
     let x = map_some (part_behind (part_text p marker)) (placed_part (begins_document marker) n c) d e in
     let same : length x.0.part.rows ≡ length d.part.rows = ap (λ (y : PlacedPart). length y.part.rows) x.2 in
@@ -93,10 +93,10 @@ ends_later k j i m p marker c d some at h =
     }
 
 ends_at : (is : Bool) (n k : ℕ) (c : Cut) (d : PlacedPart) → placed_part is n c ≡ Some d → (j i : ℕ) → 0 < j → i ≡ k + rows_before is n c + j → EndsAt k i c d j
-ends_at true zero k (last p) d e j i some at = subst (λ (x : PlacedPart). EndsAt k i (last p) x j) (placed_same e) (ends_last k j i p at)
+ends_at true zero k (last p) d e j i some at = subst (λ (x : PlacedPart). EndsAt k i (last p) x j) (same_Some _ _ e) (ends_last k j i p at)
 ends_at true (suc n) k (last p) d e j i some at = absurd (cc)
 ends_at false n k (last p) d e j i some at = absurd (cc)
-ends_at true zero k (marked p marker c) d e j i some at = subst (λ (x : PlacedPart). EndsAt k i (marked p marker c) x j) (placed_same e) (ends_first k j i p marker c at)
+ends_at true zero k (marked p marker c) d e j i some at = subst (λ (x : PlacedPart). EndsAt k i (marked p marker c) x j) (same_Some _ _ e) (ends_first k j i p marker c at)
 ends_at true (suc n) k (marked p marker c) d e j i some at =
     let x = map_some (part_behind (part_text p marker)) (placed_part (begins_document marker) n c) d e in
     subst (λ (y : PlacedPart). EndsAt k i (marked p marker c) y j) x.2

@@ -1,12 +1,12 @@
 -- What is taken out of a text with rows of a document begins and ends between lines.
 use Rattle.std.proofs.Common.{◌≡◌, ◌⊎◌, inl, inr, ℕ, zero, suc, ℤ, Bool, true, false, List, [], ◌∷◌, ◌++◌, length, take, drop, replicate, Some, refl, sym, ap, ◌∙◌, subst, append-nil}
 use Rattle.std.proofs.Math.Seq.{drop-append_seam}
-use Rattle.std.proofs.lemmas.Bool.{false≢true}
+use Rattle.std.proofs.lemmas.Bool.{false≢true, and_parts}
 use Rattle.std.proofs.lemmas.List.{take-append-drop}
+use Rattle.std.proofs.lemmas.Option.{same_Some}
 use Rattle.yq_scalar.specs.Block.{Lines}
 use Rattle.yq_scalar.specs.Text.{is_empty, is_line, joined, lines_of as text_lines}
 use Rattle.yq_scalar.proofs.BlockPieceLaws.{IsLf, line_lf, append_lf, raw_lf}
-use Rattle.yq_scalar.proofs.Bools.{and_true}
 use Rattle.yq_rows.specs.Exchange.{asked_behind}
 use Rattle.yq_rows.specs.Gap.{IsGap, AreGapLines}
 use Rattle.yq_rows.specs.Grammar.{begins_document, IsContent, Limit, unlimited, AreRows, no_rows, AreParts}
@@ -24,7 +24,7 @@ use Rattle.yq_documents.specs.Pieces.{before_run, last_run}
 use Rattle.yq_tree.specs.PlacedRows.{PlacedPart, part_behind, placed_part}
 use Rattle.yq_tree.specs.RemovalPlaces.{comment_above, rows_out}
 use Rattle.yq_tree.proofs.CommentPieceLaws.{Ended, gap_end, tail_end}
-use Rattle.yq_tree.proofs.PlacedPartLaws.{map_some, part_stands, placed_same}
+use Rattle.yq_tree.proofs.PlacedPartLaws.{map_some, part_stands}
 use Rattle.yq_tree.proofs.RemovalTexts.{run_parts, texts_then}
 
 -- Between two lines of a text: nothing is in front, an LF, or nothing is behind.
@@ -64,7 +64,7 @@ content_ended n (Inline space node tail) rest h = subst (λ (t : List ℕ). Ende
 content_ended n (Block space anchor block) rest h = go (raw_lf block.indent block.raw h.2.lines)
   where
     line : IsLf block.tail
-    line = line_lf block.tail (and_true (is_line block.tail) _ h.2.tail).0
+    line = line_lf block.tail (and_parts (is_line block.tail) _ h.2.tail).0
 
     go : (joined block.raw ≡ []) ⊎ IsLf (joined block.raw) → Ended (block.tail ++ joined block.raw) rest
     go (inl none) = inl (subst IsLf (sym (ap (λ (t : List ℕ). block.tail ++ t) none ∙ append-nil block.tail)) line)
@@ -126,10 +126,10 @@ lies_behind p marker c d h text lies = record {
 }
 
 pub lies_in : (is started : Bool) (k : ℕ) (c : Cut) (d : PlacedPart) → AreParts started c → placed_part is k c ≡ Some d → LiesIn d
-lies_in true started zero (last p) d h e = subst LiesIn (placed_same e) (record { seam = inl refl; rows = h.rows })
+lies_in true started zero (last p) d h e = subst LiesIn (same_Some _ _ e) (record { seam = inl refl; rows = h.rows })
 lies_in true started (suc k) (last p) d h e = absurd (cc)
 lies_in false started k (last p) d h e = absurd (cc)
-lies_in true started zero (marked p marker c) d h e = subst LiesIn (placed_same e) (record { seam = inl refl; rows = h.0.rows })
+lies_in true started zero (marked p marker c) d h e = subst LiesIn (same_Some _ _ e) (record { seam = inl refl; rows = h.0.rows })
 lies_in true started (suc k) (marked p marker c) d h e =
     let x = map_some (part_behind (part_text p marker)) (placed_part (begins_document marker) k c) d e in
     subst LiesIn x.2 (lies_behind p marker c x.0 (tail_end (drop 3 marker) (cut_text c) h.1.tail) (part_stands (begins_document marker) k c x.0 x.1).text (lies_in (begins_document marker) (begins_document marker) k c x.0 h.2 x.1))
@@ -149,9 +149,6 @@ pub front_some : (front : List Row) (r : Row) (more : List Row) → no_rows (fro
 front_some [] r more = refl
 front_some (q ∷ front) r more = refl
 
-take_is : (front more : List Row) → drop (length front) (front ++ more) ≡ more
-take_is front more = drop-append_seam front more
-
 pub are_lines : (d : PlacedPart) (front : List Row) (r : Row) (rs back : List Row) → LiesIn d → d.part.rows ≡ front ++ ((r ∷ rs) ++ back) → AreLines d front (r ∷ rs) back
 are_lines d front r rs back lies rows =
     let end : List ℕ = d.part.end in
@@ -159,10 +156,10 @@ are_lines d front r rs back lies rows =
     let some : is_empty (part_text d.part d.behind) ≡ false = rows_some unlimited d.part.rows end d.behind (ap no_rows rows ∙ front_some front r (rs ++ back)) lies.rows in
     let asked : Limit = asked_behind unlimited (take (length front) (front ++ (r ∷ (rs ++ back)))) in
     let own : AreRows asked (r ∷ (rs ++ back)) end d.behind =
-    subst (λ (x : List Row). AreRows asked x end d.behind) (take_is front (r ∷ (rs ++ back))) (rows_drop (length front) (front ++ (r ∷ (rs ++ back))) unlimited end d.behind all) in
+    subst (λ (x : List Row). AreRows asked x end d.behind) (drop-append_seam front (r ∷ (rs ++ back))) (rows_drop (length front) (front ++ (r ∷ (rs ++ back))) unlimited end d.behind all) in
     let next : Limit = asked_behind asked (take (length (r ∷ rs)) ((r ∷ rs) ++ back)) in
     let rest : AreRows next back end d.behind =
-    subst (λ (x : List Row). AreRows next x end d.behind) (take_is (r ∷ rs) back) (rows_drop (length (r ∷ rs)) ((r ∷ rs) ++ back) asked end d.behind own) in
+    subst (λ (x : List Row). AreRows next x end d.behind) (drop-append_seam (r ∷ rs) back) (rows_drop (length (r ∷ rs)) ((r ∷ rs) ++ back) asked end d.behind own) in
     let ls : Lines = text_lines r.gap in
     let x : List ℕ = behind_gap r (rows_text (rs ++ back) (end ++ d.behind)) in
     let kept : AreGapLines (before_run ls) (joined (last_run ls) ++ x) = gap_front r.gap x (before_run ls) (last_run ls) own.0.gap (run_parts ls) in

@@ -1,8 +1,9 @@
 -- What is taken out with an item or entry, by the pieces of rows.
-use Rattle.std.proofs.Common.{◌≡◌, ℕ, zero, suc, ◌+◌, ◌-◌, ◌<◌, ◌≤◌, eqb, ltb, List, [], ◌∷◌, ◌++◌, length, map, take, drop, Option, Some, None, option_map, Bool, true, false, cond, refl, sym, ap, ◌∙◌, subst, arith, length-append}
+use Rattle.std.proofs.Common.{◌≡◌, ℕ, zero, suc, ◌+◌, ◌-◌, ◌<◌, ◌≤◌, eqb, ltb, List, [], ◌∷◌, ◌++◌, length, map, take, drop, Option, Some, None, option_map, Bool, true, false, cond, refl, sym, ap, ◌∙◌, subst, arith, length-append, length-take-le}
 use Rattle.std.proofs.Math.Seq.{drop-append_seam, take-append_seam}
 use Rattle.std.proofs.lemmas.Bool.{cond-true, cond-false, eq-eqb, ne_eqb, eqb-true, ltb-true}
-use Rattle.std.proofs.lemmas.List.{drop-map, length-drop, take-append-drop}
+use Rattle.std.proofs.lemmas.List.{drop-map, length-drop, take-append-drop, drop-append-le}
+use Rattle.std.proofs.lemmas.Option.{cond_some, same_Some}
 use Rattle.std.proofs.lemmas.Str.{IsCharBoundary-at_seam}
 use Rattle.std.specs.List.{slice_get}
 use Rattle.std.specs.Str.{IsUtf8, IsCharBoundary}
@@ -10,7 +11,7 @@ use Rattle.yq_scalar.specs.Answers.{◌>>=◌}
 use Rattle.yq_scalar.specs.Paths.{Step}
 use Rattle.yq_scalar.specs.Lines.{is_blank}
 use Rattle.yq_scalar.specs.Text.{joined, lines_of as text_lines}
-use Rattle.yq_scalar.proofs.Bools.{bind_some, guard_some}
+use Rattle.yq_scalar.proofs.Bools.{bind_some}
 use Rattle.yq_scalar.proofs.LineLaws.{joined_lines}
 use Rattle.yq_lines.specs.Comments.{head_comment}
 use Rattle.yq_lines.specs.Ends.{line_of, lines_end}
@@ -74,16 +75,6 @@ drop_more zero j xs = let same : 0 + j ≡ j = omega arith in ap (λ (k : ℕ). 
 drop_more (suc i) j [] = drop_none (suc i + j) ∙ sym (drop_none j)
 drop_more (suc i) j (x ∷ xs) = let same : suc i + j ≡ suc (i + j) = omega arith in ap (λ (k : ℕ). drop k (x ∷ xs)) same ∙ drop_more i j xs
 
-drop_within : {A : Type 0} (i : ℕ) (xs ys : List A) → i ≤ length xs → drop i (xs ++ ys) ≡ drop i xs ++ ys
-drop_within zero xs ys h = refl
-drop_within (suc i) [] ys h = absurd (omega (arith, h))
-drop_within (suc i) (x ∷ xs) ys h = drop_within i xs ys (omega (arith, h))
-
-take_size : {A : Type 0} (i : ℕ) (xs : List A) → i ≤ length xs → length (take i xs) ≡ i
-take_size zero xs h = refl
-take_size (suc i) [] h = absurd (omega (arith, h))
-take_size (suc i) (x ∷ xs) h = ap suc (take_size i xs (omega (arith, h)))
-
 three_whole : (i n : ℕ) (rs : List Row) → rs ≡ take i rs ++ (take n (drop i rs) ++ drop n (drop i rs))
 three_whole i n rs = sym (ap (λ (x : List Row). take i rs ++ x) (take-append-drop n (drop i rs)) ∙ take-append-drop i rs)
 
@@ -96,9 +87,6 @@ from_count above column (n ∷ ns) m x = ap suc (from_count [] (suc (column + n)
 more_lines : (r : Row) (rs : List Row) → length (lines_of (r ∷ rs)) ≡ suc (length r.dashes) + length (lines_of rs)
 more_lines r rs = omega (arith, length-append (row_lines r) (lines_of rs), from_count (head_comment r.gap) r.column r.dashes r.mark r.content)
 
-seat_same : {x y : Seat} → Some x ≡ Some y → x ≡ y
-seat_same e = cc
-
 -- A line's row is among the rows, and so many lines stand from it on.
 abbrev SeatIn : ℕ → List Row → Seat → Type 0
 SeatIn n rs s = (s.before < length rs) × (n + length (lines_of (drop s.before rs)) ≡ length (lines_of rs) + s.line)
@@ -109,7 +97,7 @@ seat_in n (r ∷ rs) s e = go (ltb (length r.dashes) n) refl e (λ q h. seat_in 
   where
     go : (b : Bool) → ltb (length r.dashes) n ≡ b → cond b (option_map behind_one (seat (n - suc (length r.dashes)) rs)) (Some (record { before = 0; row = r; line = n })) ≡ Some s →
         ((q : Seat) → seat (n - suc (length r.dashes)) rs ≡ Some q → SeatIn (n - suc (length r.dashes)) rs q) → SeatIn n (r ∷ rs) s
-    go false less e again = subst (SeatIn n (r ∷ rs)) (seat_same e) (omega arith, omega arith)
+    go false less e again = subst (SeatIn n (r ∷ rs)) (same_Some _ _ e) (omega arith, omega arith)
     go true less e again =
         let x = map_some behind_one (seat (n - suc (length r.dashes)) rs) s e in
         let h = again x.0 x.1 in
@@ -163,11 +151,8 @@ own_line : (steps : List Step) (rs : List Row) (x : OwnRows) → own_rows steps 
 own_line steps rs x e =
     let n = bind_some (line_of steps (lines_of rs)) e in
     let q = bind_some (seat n.0 rs) n.2 in
-    let g = guard_some (eqb q.0.line 0) q.2 in
+    let g = cond_some (eqb q.0.line 0) _ _ q.2 in
     (n.0, q.0, record { line = n.1; row = q.1; first = eqb-true q.0.line 0 g.0 })
-
-own_same : {x y : OwnRows} → Some x ≡ Some y → x ≡ y
-own_same e = cc
 
 pub own_stands : (steps : List Step) (rs : List Row) (x : OwnRows) → own_rows steps rs ≡ Some x → OwnStand rs x
 own_stands steps rs x e =
@@ -178,7 +163,7 @@ own_stands steps rs x e =
     let left : length (drop q.before rs) ≡ length rs - q.before = length-drop q.before rs in
     let lines : 0 < length (lines_of (drop q.before rs)) = some_lines (drop q.before rs) (omega (arith, left, at.0)) in
     let past = end_past n (lines_of rs) (omega (arith, at.1, l.2.first, lines)) in
-    subst (OwnStand rs) (own_same (sym (own_is steps rs n q l.2) ∙ e)) (record {
+    subst (OwnStand rs) (same_Some _ _ (sym (own_is steps rs n q l.2) ∙ e)) (record {
       rows_are = three_whole q.before (row_count (lines_end n (lines_of rs) - n) (drop q.before rs)) rs;
       some = some_own (lines_end n (lines_of rs) - n) (drop q.before rs) (omega (arith, past)) (omega (arith, left, at.0));
     })
@@ -203,14 +188,14 @@ own_told t c s p more steps first n row line dashes end cut is there line_is wit
         let own_pieces : drop row s.rows ≡ map slices (drop q.before p.rows ++ more) =
         ap (λ (j : ℕ). drop j s.rows) row_is
         ∙ (drop_more first q.before s.rows
-        ∙ (ap (drop q.before) pieces ∙ (drop-map slices q.before (p.rows ++ more) ∙ ap (map slices) (drop_within q.before p.rows more (omega (arith, inside.0)))))) in
+        ∙ (ap (drop q.before) pieces ∙ (drop-map slices q.before (p.rows ++ more) ∙ ap (map slices) (drop-append-le q.before p.rows more (omega (arith, inside.0)))))) in
         let counted : AreCounted (drop q.before p.rows ++ more) =
-        subst AreCounted (drop_within q.before p.rows more (omega (arith, inside.0))) (counted_drop q.before (p.rows ++ more) (subst AreCounted there (counted_drop first (rows_of c) (cut_counted true c cut.parts)))) in
+        subst AreCounted (drop-append-le q.before p.rows more (omega (arith, inside.0))) (counted_drop q.before (p.rows ++ more) (subst AreCounted there (counted_drop first (rows_of c) (cut_counted true c cut.parts)))) in
         let m : ℕ = row_count k (drop q.before p.rows) in
         let count : slices_count k (drop row s.rows) ≡ m =
         ap (slices_count k) own_pieces ∙ same_count k (drop q.before p.rows) more counted (omega (arith, inside.1, line_zero, bound)) in
-        let front : length (take q.before p.rows) ≡ q.before = take_size q.before p.rows (omega (arith, inside.0)) in
-        let own : length (take m (drop q.before p.rows)) ≡ m = take_size m (drop q.before p.rows) (rows_within k (drop q.before p.rows)) in
+        let front : length (take q.before p.rows) ≡ q.before = length-take-le q.before p.rows (omega (arith, inside.0)) in
+        let own : length (take m (drop q.before p.rows)) ≡ m = length-take-le m (drop q.before p.rows) (rows_within k (drop q.before p.rows)) in
         let begin : row ≡ first + length (take q.before p.rows) = omega (arith, row_is, front) in
         let finish : end ≡ first + length (take q.before p.rows) + length (take m (drop q.before p.rows)) = omega (arith, end_is, count, row_is, front, own) in
         (λ i. Some (first, begin i, finish i)) ∙ ap (option_map (marks first)) (sym (own_is steps p.rows n q h))

@@ -2,7 +2,7 @@
 use Rattle.std.proofs.Common.{◌≡◌, inl, inr, ℕ, zero, suc, ◌+◌, ◌-◌, ◌<◌, ◌≤◌, List, [], ◌∷◌, ◌++◌, length, length-append, take, drop, Option, Some, None, option_map, Bool, true, false, not, ◌||◌, refl, sym, ap, ◌∙◌, subst, arith, append_assoc}
 use Rattle.std.proofs.Math.Seq.{drop-append_seam, take-append_seam}
 use Rattle.std.proofs.lemmas.Bool.{false≢true}
-use Rattle.std.proofs.lemmas.Option.{slice_get_within, slice_get-map}
+use Rattle.std.proofs.lemmas.Option.{slice_get_within, slice_get-map, none-some, same_Some}
 use Rattle.std.proofs.lemmas.Str.{IsCharBoundary-start, IsUtf8-drop}
 use Rattle.std.specs.List.{slice_get}
 use Rattle.std.specs.Str.{IsUtf8, IsCharBoundary}
@@ -65,9 +65,6 @@ take_both [] own back = let same : 0 + length own ≡ length own = omega arith i
 take_both (r ∷ front) own back =
     let same : suc (length front) + length own ≡ suc (length front + length own) = omega arith in
     ap (λ (n : ℕ). take n (r ∷ (front ++ (own ++ back)))) same ∙ ap (λ (x : List Row). r ∷ x) (take_both front own back)
-
-slices_same : {x y : Slices} → Some x ≡ Some y → x ≡ y
-slices_same e = cc
 
 -- What the code counts for rows that are taken out.
 pub record OutTold (t : List ℕ) (s : Shown) (d : PlacedPart) (x : OwnRows) (first at end : ℕ) : Type 0 where
@@ -137,7 +134,7 @@ told_first t s d front r rs back m h =
     (h.cut.text
     ∙ (st.text
     ∙ ap (λ (z : List ℕ). d.before ++ z)
-    (ap (λ (z : List Row). rows_text z (d.part.end ++ d.behind)) (h.rows_are ∙ sym (append_rows front own back))
+    (ap (λ (z : List Row). rows_text z (d.part.end ++ d.behind)) (h.rows_are ∙ sym (append_assoc front own back))
     ∙ (rows_text-append (front ++ own) back (d.part.end ++ d.behind) ∙ (ap (rows_text (front ++ own)) (first_text back d.part.end d.behind) ∙ texts_then (front ++ own) [] (out.gap ++ out.behind))))))
     ∙ omega (arith, length-append d.before (rows_text (front ++ own) [] ++ (out.gap ++ out.behind)), length-append (rows_text (front ++ own) []) (out.gap ++ out.behind)) in
     let parts : length t ≡ length out.before + (length out.gone + length (out.gap ++ out.behind)) =
@@ -153,7 +150,7 @@ told_first t s d front r rs back m h =
       starts = line_seam out.before (out.gone ++ (out.gap ++ out.behind)) lines.before;
       stops = inr lines.gone;
       gap_stops = gap_end out.gap out.behind lines.gap;
-      kept = λ y e. ap (λ (z : Slices). joined (before_run (text_lines z.gap))) (slices_same (sym e ∙ at_row));
+      kept = λ y e. ap (λ (z : Slices). joined (before_run (text_lines z.gap))) (same_Some _ _ (sym e ∙ at_row));
       start = omega (arith, starts, length-append d.before (rows_text front []), length-append d.before (rows_text front kept), ap length front_text, length-append (rows_text front []) kept);
       stop = omega (
         arith,
@@ -164,17 +161,14 @@ told_first t s d front r rs back m h =
         parts,
       );
       gap = (λ i. gap_at ((end_is ∙ sizes front own k) i) (h.shown_is i))
-          ∙ gap_behind n c d (front ++ own) back h.placed (h.rows_are ∙ sym (append_rows front own back)) (omega (arith, length-append front own))
-          (λ q qs is. ap (slice_get (rows_of c)) (sym (sizes front own k) ∙ three k front own) ∙ there (length front + length own) q (ap (λ (z : List Row). slice_get z (length front + length own)) (h.rows_are ∙ (sym (append_rows front own back) ∙ ap (λ (z : List Row). (front ++ own) ++ z) is)) ∙ (ap (slice_get ((front ++ own) ++ (q ∷ qs))) (sym (length-append front own)) ∙ slice_seam (front ++ own) q qs)));
+          ∙ gap_behind n c d (front ++ own) back h.placed (h.rows_are ∙ sym (append_assoc front own back)) (omega (arith, length-append front own))
+          (λ q qs is. ap (slice_get (rows_of c)) (sym (sizes front own k) ∙ three k front own) ∙ there (length front + length own) q (ap (λ (z : List Row). slice_get z (length front + length own)) (h.rows_are ∙ (sym (append_assoc front own back) ∙ ap (λ (z : List Row). (front ++ own) ++ z) is)) ∙ (ap (slice_get ((front ++ own) ++ (q ∷ qs))) (sym (length-append front own)) ∙ slice_seam (front ++ own) q qs)));
       more = begin.0;
       rows = ap (λ (j : ℕ). drop j (rows_of c)) first_is ∙ begin.1;
       front_size = omega (arith, first_is, at_is, total);
       front_is = (let size : m.1 - m.0 ≡ length front = omega (arith, first_is, at_is) in (λ i. take (size i) (h.rows_are i)) ∙ take-append_seam front (own ++ back));
     }
   where
-    append_rows : (a b c : List Row) → (a ++ b) ++ c ≡ a ++ (b ++ c)
-    append_rows a b c = append_assoc a b c
-
     sizes : (a b : List Row) (k : ℕ) → k + length a + length b ≡ k + length (a ++ b)
     sizes a b k = omega (arith, length-append a b)
 
@@ -261,17 +255,11 @@ pub record TakenAt (t : List ℕ) (s : Shown) (n : ℕ) (steps : List Step) (m :
   pub is : IsOwn t s part rows m
   pub place : removal_place n steps (cut_of t) ≡ Some (rows_out part rows)
 
-part_same : {x y : Part} → Some x ≡ Some y → x ≡ y
-part_same e = cc
-
-no_marks : {x : Marks} → None ≡ Some x → ⊥
-no_marks e = cc
-
 placed_is : (is : Bool) (n : ℕ) (c : Cut) (p : Part) → slice_get (parts_from is c) n ≡ Some p → (d : PlacedPart) × (placed_part is n c ≡ Some d) × (d.part ≡ p)
-placed_is true zero (last q) p e = (record { before = []; part = q; behind = [] }, refl, part_same e)
+placed_is true zero (last q) p e = (record { before = []; part = q; behind = [] }, refl, same_Some _ _ e)
 placed_is true (suc n) (last q) p e = absurd (cc)
 placed_is false n (last q) p e = absurd (cc)
-placed_is true zero (marked q marker c) p e = (record { before = []; part = q; behind = marker ++ cut_text c }, refl, part_same e)
+placed_is true zero (marked q marker c) p e = (record { before = []; part = q; behind = marker ++ cut_text c }, refl, same_Some _ _ e)
 placed_is true (suc n) (marked q marker c) p e =
     let x = placed_is (begins_document marker) n c p e in (part_behind (part_text q marker) x.0, ap (option_map (part_behind (part_text q marker))) x.1, x.2)
 placed_is false n (marked q marker c) p e =
@@ -299,7 +287,7 @@ none_taken n steps c e = go (placed_document n c) refl
     rows d None is there = refl
     rows d (Some x) is there =
         let some : marks_at n steps c ≡ Some (marks (document_row n c) x) = ap (λ o. o >>= λ (p : Part). option_map (marks (document_row n c)) (own_rows steps p.rows)) there ∙ ap (option_map (marks (document_row n c))) is in
-        absurd (no_marks (e ∙ some))
+        absurd (none-some _ (e ∙ some))
 
     go : (o : Option PlacedPart) → placed_document n c ≡ o → None ≡ (o >>= λ d. option_map (rows_out d) (own_rows steps d.part.rows))
     go None is = refl

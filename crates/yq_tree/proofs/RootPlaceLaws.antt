@@ -1,10 +1,10 @@
 -- Where a document ends in which no rows are, as the code counts it.
 use Rattle.std.proofs.Common.{◌≡◌, ℕ, zero, suc, ◌+◌, ◌-◌, ◌<◌, ◌≤◌, eqb, List, [], ◌∷◌, ◌++◌, length, map, take, drop, Option, Some, None, option_map, Bool, true, false, cond, not, ◌||◌, ◌&&◌, refl, sym, ap, ◌∙◌, subst, arith, append_assoc, append-nil, length-append}
-use Rattle.std.proofs.Math.Seq.{drop-append_seam, take-append_seam}
+use Rattle.std.proofs.Math.Seq.{drop-append_seam, take-append_seam, take-append-add}
 use Rattle.std.proofs.lemmas.Bool.{false≢true, eq-eqb, eqb-true, cond-true, cond-false}
-use Rattle.std.proofs.lemmas.List.{length-map, map-append}
+use Rattle.std.proofs.lemmas.List.{length-map, map-append, nil_from_length}
 use Rattle.std.proofs.lemmas.List.Sums.{sum_by-cons, sum_by-append, sum_by_more, sum_by_more_le}
-use Rattle.std.proofs.lemmas.Option.{get_or_from_slice_get, slice_get_within}
+use Rattle.std.proofs.lemmas.Option.{get_or_from_slice_get, slice_get_within, none-some, same_Some}
 use Rattle.std.specs.List.{slice_get, sum_by}
 use Rattle.std.specs.Str.{IsUtf8, IsCharBoundary}
 use Rattle.yq_scalar.specs.Answers.{◌>>=◌}
@@ -29,7 +29,7 @@ use Rattle.yq_documents.specs.declared.checks.DocumentLines.{DocumentLines}
 use Rattle.yq_tree.proofs.CommentPieceLaws.{gap_end}
 use Rattle.yq_tree.proofs.LengthLaws.{part-length, shown_small}
 use Rattle.yq_documents.proofs.PartsLinedLaws.{document_is}
-use Rattle.yq_tree.proofs.PlacedPartLaws.{map_some, part_stands, placed_same}
+use Rattle.yq_tree.proofs.PlacedPartLaws.{map_some, part_stands}
 use Rattle.yq_tree.proofs.PlacedRowLaws.{part_of, document_placed}
 use Rattle.yq_tree.proofs.RemovalLines.{LineSeam, lies_in, seam_join}
 use Rattle.yq_tree.proofs.RemovalTold.{line_boundary}
@@ -66,9 +66,6 @@ parts_more s at b is =
       omega (arith, ap bound_length there, most),
     )
 
-bound_same : {x y : Bound} → Some x ≡ Some y → x ≡ y
-bound_same e = cc
-
 -- ---- the sums of the code
 
 -- how long rows are
@@ -86,18 +83,12 @@ pub record EndsAt (is : Bool) (k n j : ℕ) (c : Cut) (d : PlacedPart) : Type 0 
   pub within : size ≤ length (rows_of c)
   pub length_is : sum_by row_length (take size (map slices (rows_of c))) + sum_by bound_length (take number (bounds_from n c)) + length bound.end ≡ length (d.before ++ part_text d.part [])
 
-take_more : {A : Type 0} (xs ys : List A) (m : ℕ) → take (length xs + m) (xs ++ ys) ≡ xs ++ take m ys
-take_more [] ys m = ap (λ (k : ℕ). take k ys) (omega arith)
-take_more (x ∷ xs) ys m =
-    let more : suc (length xs) + m ≡ suc (length xs + m) = omega arith in
-    ap (λ (k : ℕ). take k (x ∷ (xs ++ ys))) more ∙ ap (λ l. x ∷ l) (take_more xs ys m)
-
 -- the rows of a part, and some behind it
 rows_first : (a b : List Row) (m : ℕ) → sum_by row_length (take (length a + m) (map slices (a ++ b))) ≡ rows_sum a + sum_by row_length (take m (map slices b))
 rows_first a b m =
     ap (λ (l : List Slices). sum_by row_length (take (length a + m) l)) (map-append slices a b)
     ∙ (ap (λ (k : ℕ). sum_by row_length (take (k + m) (map slices a ++ map slices b))) (sym (length-map a slices))
-    ∙ (ap (sum_by row_length) (take_more (map slices a) (map slices b) m) ∙ sum_by-append row_length (map slices a) (take m (map slices b))))
+    ∙ (ap (sum_by row_length) (take-append-add (map slices a) (map slices b) m) ∙ sum_by-append row_length (map slices a) (take m (map slices b))))
 
 no_sum : (ss : List Slices) → sum_by row_length (take 0 ss) ≡ 0
 no_sum ss = refl
@@ -127,7 +118,7 @@ ends_later is k n j p marker c d h there =
 
 pub ends_at : (is : Bool) (k n j : ℕ) (c : Cut) (d : PlacedPart) → placed_part is k c ≡ Some d → EndsAt is k n j c d
 ends_at true zero n j (last p) d e =
-    subst (EndsAt true zero n j (last p)) (placed_same e) (record {
+    subst (EndsAt true zero n j (last p)) (same_Some _ _ e) (record {
       number = 0;
       number_is = ap Some (omega arith);
       bound = record { rows = n + length p.rows; end = p.end; marker = [] };
@@ -146,7 +137,7 @@ ends_at true zero n j (last p) d e =
 ends_at true (suc k) n j (last p) d e = absurd (cc)
 ends_at false k n j (last p) d e = absurd (cc)
 ends_at true zero n j (marked p marker c) d e =
-    subst (EndsAt true zero n j (marked p marker c)) (placed_same e) (record {
+    subst (EndsAt true zero n j (marked p marker c)) (same_Some _ _ e) (record {
       number = 0;
       number_is = ap Some (omega arith);
       bound = record { rows = n + length p.rows; end = p.end; marker = marker };
@@ -168,9 +159,9 @@ ends_at false k n j (marked p marker c) d e =
 
 -- a part ends behind no more rows than there are
 bound_rows : (n : ℕ) (c : Cut) (k : ℕ) (b : Bound) → slice_get (bounds_from n c) k ≡ Some b → b.rows ≤ n + length (rows_of c)
-bound_rows n (last p) zero b e = omega (arith, ap (λ (x : Bound). x.rows) (bound_same e))
+bound_rows n (last p) zero b e = omega (arith, ap (λ (x : Bound). x.rows) (same_Some _ _ e))
 bound_rows n (last p) (suc k) b e = absurd (cc)
-bound_rows n (marked p marker c) zero b e = omega (arith, ap (λ (x : Bound). x.rows) (bound_same e), length-append p.rows (rows_of c))
+bound_rows n (marked p marker c) zero b e = omega (arith, ap (λ (x : Bound). x.rows) (same_Some _ _ e), length-append p.rows (rows_of c))
 bound_rows n (marked p marker c) (suc k) b e = omega (arith, bound_rows (n + length p.rows) c k b e, length-append p.rows (rows_of c))
 
 first_less : {A : Type 0} (f : A → ℕ) (n : ℕ) (xs : List A) → sum_by f (take n xs) ≤ sum_by f xs
@@ -235,28 +226,18 @@ end_there t s ds i d first k b h at none first_is number bound =
     let c : Cut = cut_of t in
     let p = part_of_held ds (document_parts c) h.lined i d at in
     let w = part_there i c p.0 p.1 in
-    let no_lines : lines_of w.0.part.rows ≡ [] = ap (λ (q : Part). lines_of q.rows) w.2 ∙ (sym (ap (λ (x : Lined). x.1) p.2) ∙ empty (views d.lines) none) in
+    let no_lines : lines_of w.0.part.rows ≡ [] = ap (λ (q : Part). lines_of q.rows) w.2 ∙ (sym (ap (λ (x : Lined). x.1) p.2) ∙ nil_from_length (views d.lines) none) in
     let rows : w.0.part.rows ≡ [] = lines_none w.0.part.rows (ap length no_lines) in
     let e = ends_at (begins_bare c || not (has_begin c)) i 0 0 c w.0 w.1 in
     let told : Some k ≡ Some (0 + e.number) = number ∙ ((λ j. part_number ((first_is ∙ document_is c s h.rows) j) i 0 (h.rows j).bounds) ∙ e.number_is) in
-    let same : k ≡ e.number = some_number told ∙ omega arith in
-    let own : b ≡ e.bound = bound_same (sym bound ∙ ((λ j. slice_get (h.rows j).bounds (same j)) ∙ e.bound_is)) in
+    let same : k ≡ e.number = same_Some _ _ told ∙ omega arith in
+    let own : b ≡ e.bound = same_Some _ _ (sym bound ∙ ((λ j. slice_get (h.rows j).bounds (same j)) ∙ e.bound_is)) in
     let size : b.rows ≡ e.size = ap (λ (x : Bound). x.rows) own ∙ (e.rows ∙ omega arith) in
     let lengths : end_length k b s ≡ length (w.0.before ++ part_text w.0.part []) =
     (λ j. sum_by row_length (take (size j) (h.rows j).rows) + sum_by bound_length (take (same j) (h.rows j).bounds) + length (own j).end) ∙ e.length_is in
     let text : part_text w.0.part [] ≡ w.0.part.end = ap (λ (rs : List Row). rows_text rs (w.0.part.end ++ [])) rows ∙ append-nil w.0.part.end in
     ap Some (lengths ∙ ap (λ x. length (w.0.before ++ x)) text)
     ∙ sym (ap (option_map (λ (x : RootPlace). length x.before)) (placed_at i c w.0 w.1 ∙ cond-true _ _ _ (ap no_rows rows)))
-  where
-    empty : {A : Type 0} (xs : List A) → length xs ≡ 0 → xs ≡ []
-    empty [] e = refl
-    empty (x ∷ xs) e = absurd (omega (arith, e))
-
-    some_number : {a b : ℕ} → Some a ≡ Some b → a ≡ b
-    some_number e = cc
-
-no_number : {a : ℕ} → None ≡ Some a → ⊥
-no_number e = cc
 
 pub no_end : (t : List ℕ) (s : Shown) (ds : List DocumentLines) (i : ℕ) (first : Bool) → Holds t s ds → first ≡ (first_rows s.bounds || not (some_begin s.bounds)) → None ≡ part_number first i 0 s.bounds → None ≡ unwritten_at i (cut_of t)
 no_end t s ds i first h first_is number = go (placed_document i (cut_of t)) refl
@@ -266,7 +247,7 @@ no_end t s ds i first h first_is number = go (placed_document i (cut_of t)) refl
     go (Some d) is =
         let c : Cut = cut_of t in
         let e = ends_at (begins_bare c || not (has_begin c)) i 0 0 c d is in
-        absurd (no_number (number ∙ ((λ j. part_number ((first_is ∙ document_is c s h.rows) j) i 0 (h.rows j).bounds) ∙ e.number_is)))
+        absurd (none-some _ (number ∙ ((λ j. part_number ((first_is ∙ document_is c s h.rows) j) i 0 (h.rows j).bounds) ∙ e.number_is)))
 
 -- ---- the place in the text
 
@@ -286,7 +267,7 @@ unwritten_is t i w cut e =
     let lies = lies_in (begins_bare c || not (has_begin c)) true i c d.0 cut.parts d.1 in
     let part : part_text d.0.part d.0.behind ≡ d.0.part.end ++ d.0.behind = ap (λ (rs : List Row). rows_text rs (d.0.part.end ++ d.0.behind)) rows in
     let gap = gap_end d.0.part.end d.0.behind (subst (λ (rs : List Row). AreRows unlimited rs d.0.part.end d.0.behind) rows lies.rows) in
-    subst (IsUnwritten t) (place_same g.1) (record {
+    subst (IsUnwritten t) (same_Some _ _ g.1) (record {
       text = cut.text ∙ (st.text ∙ (ap (λ x. d.0.before ++ x) part ∙ sym (append_assoc d.0.before d.0.part.end d.0.behind)));
       seam = seam_join d.0.before d.0.part.end d.0.behind (subst (LineSeam d.0.before) part lies.seam) gap;
       same = refl;
@@ -295,9 +276,6 @@ unwritten_is t i w cut e =
     none_left : (rs : List Row) → no_rows rs ≡ true → rs ≡ []
     none_left [] e = refl
     none_left (r ∷ rs) e = absurd (false≢true e)
-
-    place_same : {x y : RootPlace} → Some x ≡ Some y → x ≡ y
-    place_same e = cc
 
 pub unwritten_boundary : (t : List ℕ) (i end : ℕ) → IsCut t (cut_of t) → IsUtf8 t → Some end ≡ unwritten_at i (cut_of t) → IsCharBoundary t end
 unwritten_boundary t i end cut u e =

@@ -2,7 +2,7 @@
 use Rattle.std.proofs.Common.{◌≡◌, ◌⊎◌, inl, inr, ℕ, zero, suc, ◌+◌, ◌<◌, ◌≤◌, List, [], ◌∷◌, ◌++◌, length, take, drop, Option, Some, None, option_map, true, refl, sym, ap, ◌∙◌, arith, append_assoc, length-append, replicate}
 use Rattle.std.proofs.Math.Seq.{take-add}
 use Rattle.std.proofs.lemmas.Bool.{cases_lt}
-use Rattle.std.proofs.lemmas.Option.{slice_get-map, slice_get_within}
+use Rattle.std.proofs.lemmas.Option.{slice_get-map, slice_get_within, none-some, same_Some}
 use Rattle.std.specs.List.{slice_get}
 use Rattle.yq_scalar.specs.Answers.{◌>>=◌}
 use Rattle.yq_scalar.specs.Text.{joined}
@@ -24,7 +24,7 @@ use Rattle.yq_tree.proofs.StartLaws.{front_in}
 use Rattle.yq_documents.specs.Pieces.{Piece, piece_span, node_piece, head_piece}
 use Rattle.yq_tree.specs.PrintedLines.{line_front, less_last, less_end, PrintedLine, print_line, print_lines, printed_lines, line_in, run_text, run_piece}
 use Rattle.yq_tree.specs.PathPieces.{PrintedDocument}
-use Rattle.yq_tree.proofs.PrintedTexts.{same, none_some, lines_then, lines_append}
+use Rattle.yq_tree.proofs.PrintedTexts.{lines_then, lines_append}
 use Rattle.yq_tree.proofs.PrintedLaws.{IsValid, IsWritten, IsPrinted, lines_are}
 use Rattle.yq_tree.proofs.SeatedLines.{row_begin, IsSeated, seated, IsPlaced}
 
@@ -39,7 +39,7 @@ pub spans_is : (from to : ℕ) (o : Option Piece) → Spans from to o → option
 spans_is from to o h = ap (option_map piece_span) h.1 ∙ (λ i. Some (h.2 i, h.3 i))
 
 core_size : (before : List ℕ) (node : Node) (rest : List ℕ) (h : tree.Node) → takes_anchor node ≡ true → node_head node ≡ Some h → Spans (length before) (length before + length (node_text node [])) (node_piece before node rest)
-core_size before empty rest h t e = absurd (none_some e)
+core_size before empty rest h t e = absurd (none-some _ e)
 core_size before (alias n) rest h t e = cc
 core_size before (scalar p) rest h t e = (_, refl, refl, refl)
 core_size before (coll k g is) rest h t e = (_, refl, refl, refl)
@@ -48,7 +48,7 @@ core_size before (anchored n g node) rest h t e = cc
 node_size : (before : List ℕ) (node : Node) (rest : List ℕ) (h : tree.Node) → IsValid node rest → node_head node ≡ Some h →
     Spans (length before + length (front_of node)) (length before + length (front_of node) + length (anchor_cut node).2) (node_piece before node rest)
 unfolding IsNode
-node_size before empty rest h v e = absurd (none_some e)
+node_size before empty rest h v e = absurd (none-some _ e)
 node_size before (alias n) rest h v e = (_, refl, omega arith, omega arith)
 node_size before (scalar p) rest h v e = (_, refl, omega arith, omega arith)
 node_size before (coll k g is) rest h v e = (_, refl, omega arith, omega arith)
@@ -66,7 +66,7 @@ head_front c = let x = content_cut c in x.0 ++ (x.1 ++ x.2)
 
 pub head_size : (before : List ℕ) (c : Content) (rest : List ℕ) (h : tree.Node) → IsWritten c rest → head_of c ≡ Some h →
     Spans (length before + length (head_front c)) (head_end (length before + length (head_front c) + length (content_cut c).3) c) (head_piece before c rest)
-head_size before (Nothing tail) rest h w e = absurd (none_some e)
+head_size before (Nothing tail) rest h w e = absurd (none-some _ e)
 head_size before (Inline space node tail) rest h w e =
     let k = node_size (before ++ space) node (tail ++ rest) h w e in
     (k.0, k.1, omega (arith, k.2, length-append before space, length-append space (front_of node)), omega (arith, k.3, length-append before space, length-append space (front_of node)))
@@ -120,8 +120,8 @@ front_is q e =
 
 -- lists
 pub get_some : {A : Type 0} (xs : List A) (n : ℕ) (x : A) → slice_get xs n ≡ Some x → drop n xs ≡ x ∷ drop (suc n) xs
-get_some [] n x e = absurd (none_some e)
-get_some (y ∷ xs) zero x e = ap (λ z. z ∷ xs) (same e)
+get_some [] n x e = absurd (none-some _ e)
+get_some (y ∷ xs) zero x e = ap (λ z. z ∷ xs) (same_Some _ _ e)
 get_some (y ∷ xs) (suc n) x e = get_some xs n x e
 
 pub get_drop : {A : Type 0} (xs : List A) (n m : ℕ) → slice_get (drop n xs) m ≡ slice_get xs (n + m)
@@ -134,8 +134,8 @@ abbrev pub line_less : PrintedLine → List ℕ
 line_less z = line_front z ++ (z.mark ++ less_end z.content)
 
 run_last : (m : ℕ) (l z : PrintedLine) (more : List PrintedLine) → slice_get (l ∷ more) m ≡ Some z → (line_front l) ++ run_text l (take m more) ≡ print_lines (take m (l ∷ more)) (line_less z)
-run_last zero l z more e = ap line_less (same e)
-run_last (suc m) l z [] e = absurd (none_some e)
+run_last zero l z more e = ap line_less (same_Some _ _ e)
+run_last (suc m) l z [] e = absurd (none-some _ e)
 run_last (suc m) l z (k ∷ more) e = ap (print_line l) (run_last m k z more e)
 
 -- the lines of a document among those of a cut
@@ -197,7 +197,7 @@ module _ (c : Cut) (p : Part) (more : List Row) (k : ℕ) (s : PrintedDocument) 
       let line : slice_get (lines_of p.rows) n ≡ Some l.line = ap (λ x. slice_get x n) (sym (lines_are p.rows)) ∙ (slice_get-map line_in (printed_lines p.rows) n ∙ ap (option_map line_in) e) in
       let q = seat_line p.rows n l.line line in
       let d = seated p.rows n q.0 q.1 in
-      (q.0, q.1, d, same (sym d.there ∙ e))
+      (q.0, q.1, d, same_Some _ _ (sym d.there ∙ e))
 
   -- a run of lines, of which the last is the last of its row
   pub run_span : (n m : ℕ) (l z : PrintedLine) (behind : List ℕ) (b : Seat) → slice_get (printed_lines p.rows) n ≡ Some l → slice_get (printed_lines p.rows) (n + m) ≡ Some z → seat (n + m) p.rows ≡ Some b → b.line ≡ length b.row.dashes →
@@ -205,7 +205,7 @@ module _ (c : Cut) (p : Part) (more : List Row) (k : ℕ) (s : PrintedDocument) 
   run_span n m l z behind b el ez is e =
       let a = seat_at n l el in
       let d = seated p.rows (n + m) b is in
-      let last : d.line ≡ z = same (sym d.there ∙ ez) in
+      let last : d.line ≡ z = same_Some _ _ (sym d.there ∙ ez) in
       let rest : List PrintedLine = drop (suc n) (printed_lines p.rows) in
       let from : drop n (printed_lines p.rows) ≡ l ∷ rest = get_some (printed_lines p.rows) n l el in
       let run : (line_front l) ++ run_text l (take m rest) ≡ print_lines (take m (l ∷ rest)) (line_less z) =
@@ -258,5 +258,5 @@ module _ (c : Cut) (p : Part) (more : List Row) (k : ℕ) (s : PrintedDocument) 
       ∙ sym (ap (λ (o : Option Seat). o >>= λ y. Some (head_extent (k + y.before) y.row c)) a.1))
     where
       mark_line : (q : Seat) (d : IsSeated p.rows n q) → d.line ≡ l → (q.line < length q.row.dashes) ⊎ (length q.row.dashes ≤ q.line) → q.line ≡ length q.row.dashes
-      mark_line q d e (inl less) = absurd (none_some (sym (d.deeper less).3 ∙ (ap (λ (y : PrintedLine). y.line.head) e ∙ head)))
+      mark_line q d e (inl less) = absurd (none-some _ (sym (d.deeper less).3 ∙ (ap (λ (y : PrintedLine). y.line.head) e ∙ head)))
       mark_line q d e (inr more) = omega (arith, more, d.within)

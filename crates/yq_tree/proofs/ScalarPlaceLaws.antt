@@ -2,7 +2,7 @@
 use Rattle.std.proofs.Common.{◌≡◌, ℕ, ◌+◌, ◌-◌, eqb, List, ◌∷◌, ◌++◌, length, take, drop, Option, Some, None, option_map, Bool, true, false, cond, refl, sym, ap, ◌∙◌, subst, arith, append_assoc, length-append}
 use Rattle.std.proofs.Math.Seq.{take-append_seam, drop-append_seam}
 use Rattle.std.proofs.lemmas.Bool.{eq-eqb, eqb-true}
-use Rattle.std.proofs.lemmas.Option.{slice_get-map}
+use Rattle.std.proofs.lemmas.Option.{slice_get-map, same_Some}
 use Rattle.std.proofs.lemmas.Str.{IsCharBoundary-at_seam, IsCharBoundary-from_take, IsUtf8-append}
 use Rattle.std.specs.List.{slice_get}
 use Rattle.std.specs.Str.{IsUtf8, IsCharBoundary}
@@ -26,7 +26,7 @@ use Rattle.yq_tree.specs.ScalarTelling.{StandsAt}
 use Rattle.yq_tree.specs.SeatReading.{Numbers, numbers}
 use Rattle.yq_documents.specs.Seats.{seat_at, document_row}
 use Rattle.yq_documents.specs.SoundReading.{Holds}
-use Rattle.yq_tree.proofs.CommentEndLaws.{row_line, row_same}
+use Rattle.yq_tree.proofs.CommentEndLaws.{row_line}
 use Rattle.yq_tree.proofs.CommentPieceLaws.{row_place}
 use Rattle.yq_tree.proofs.PlacedRowLaws.{seat_placed, no_seat_placed}
 use Rattle.yq_tree.proofs.StartLaws.{front_in}
@@ -205,11 +205,11 @@ module _ (t : List ℕ) (x : Shown) (ds : List DocumentLines) (held : Holds t x 
     }
 
     pub stands_there : (y : Slices) → slice_get x.rows n.0 ≡ Some y → StandsAt text place.0 y
-    stands_there y at = stands y (row_same (sym shown_row ∙ at))
+    stands_there y at = stands y (same_Some _ _ (sym shown_row ∙ at))
 
     pub scalar_there : (y : Slices) → slice_get x.rows n.0 ≡ Some y → (r : ScalarPlace) → ((h : StandsAt text place.0 y) → r ≡ scalar_by h.before y h.behind indent) → Some r ≡ scalar_place path.doc (steps_of path) (cut_of t)
     unfolding stands
     scalar_there y at r says =
-        let own : s ≡ y = row_same (sym shown_row ∙ at) in
+        let own : s ≡ y = same_Some _ _ (sym shown_row ∙ at) in
         ap Some (says (stands y own) ∙ (λ i. scalar_by before (sym own i) w.behind (found.1.1 i)))
         ∙ sym (scalar_here path (cut_of t) n seat_is last ∙ ap (option_map (scalar_in w)) found.1.0)

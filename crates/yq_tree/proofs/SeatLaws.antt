@@ -1,7 +1,10 @@
 -- Which line of which row a line is, by the pieces of rows, and where the rows of a document begin.
 use Rattle.std.proofs.Common.{◌≡◌, ℕ, zero, suc, ◌+◌, ◌-◌, ◌<◌, ◌≤◌, ltb, eqb, List, [], ◌∷◌, ◌++◌, length, map, drop, Option, Some, None, option_map, Bool, true, false, cond, not, ◌||◌, ◌&&◌, refl, sym, ap, ◌∙◌, subst, arith, append-nil, length-append}
+use Rattle.std.proofs.Math.Seq.{drop-append-add}
 use Rattle.std.proofs.lemmas.Bool.{lt-ltb, le-ltb, eq-eqb, eqb-true, ltb-true, cond-true, cond-false, false≢true}
 use Rattle.std.proofs.lemmas.List.{drop-map}
+use Rattle.std.proofs.lemmas.Option.{same_Some}
+use mathlib.Core.List.{tail-eq_of_cons-eq}
 use Rattle.std.specs.List.{slice_get}
 use Rattle.yq_scalar.specs.Answers.{◌>>=◌}
 use Rattle.yq_scalar.specs.Paths.{Step}
@@ -15,7 +18,7 @@ use Rattle.yq_documents.specs.Documents.{parts_from, document_parts, begins_bare
 use Rattle.yq_tree.specs.Extents.{lines_before_mark}
 use Rattle.yq_documents.specs.Lines.{lines_from, row_lines, lines_of}
 use Rattle.yq_lines.specs.Outline.{Line}
-use Rattle.yq_documents.specs.PartReading.{Lined, lined, document_view, some_begin, first_rows}
+use Rattle.yq_documents.specs.PartReading.{lined, document_view, some_begin, first_rows}
 use Rattle.yq_documents.specs.Reading.{cut_of}
 use Rattle.yq_lines.specs.Ends.{line_of}
 use Rattle.yq_tree.specs.SeatReading.{begin_row, Numbers, behind, slices_seat, numbers}
@@ -103,12 +106,9 @@ pub no_line_told : (steps : List Step) (rs : List Row) (ls : List Line) (first :
 no_line_told steps rs ls first is e = ap (λ (o : Option ℕ). option_map (numbers first) (o >>= λ n. seat n rs)) (e ∙ ap (line_of steps) is)
 
 -- whether a line has room, by its numbers
-number_same : {x y : Numbers} → Some x ≡ Some y → x ≡ y
-number_same e = cc
-
 pub room_told : (part : Place) (k : ℕ) (x : Numbers) (o : Option Seat) (room : Bool) → Some x ≡ option_map (numbers k) o → ((j : ℕ) (s : Seat) → x ≡ numbers j s → room ≡ line_has_room part s) → room ≡ seat_has_room part o
 room_told part k x None room e told = absurd (cc)
-room_told part k x (Some s) room e told = told k s (number_same e)
+room_told part k x (Some s) room e told = told k s (same_Some _ _ e)
 
 -- part after part
 pub begin_here : (is : Bool) (n k : ℕ) (b : Bound) (bs rest : List Bound) → bs ≡ b ∷ rest → true ≡ (is && eqb n 0) → Some k ≡ begin_row is n k bs
@@ -127,12 +127,6 @@ begin_later is n k b bs rest e other = ap (begin_row is n k) e ∙ go is n other
     go true (suc n) f = ap (λ (j : ℕ). begin_row (begins_document b.marker) j b.rows rest) (omega arith)
     go false n f = refl
 
-drop_front : (xs ys : List Row) (r : ℕ) → drop (length xs + r) (xs ++ ys) ≡ drop r ys
-drop_front [] ys r = ap (λ (k : ℕ). drop k ys) (omega arith)
-drop_front (x ∷ xs) ys r =
-    let more : suc (length xs) + r ≡ suc (length xs + r) = omega arith in
-    ap (λ (k : ℕ). drop k (x ∷ (xs ++ ys))) more ∙ drop_front xs ys r
-
 -- A document's rows begin there among those of a cut, behind so many others.
 record Begins (is : Bool) (n k : ℕ) (c : Cut) (p : Part) : Type 0 where
   pub told : begin_row is n k (bounds_from k c) ≡ Some (k + rows_before is n c)
@@ -150,10 +144,10 @@ begins true zero k (marked q marker c) p e =
     record { told = ap Some (omega arith); more = rows_of c; there = ap (λ (x : Part). x.rows ++ rows_of c) same }
 begins true (suc n) k (marked q marker c) p e =
     let again = begins (begins_document marker) n (k + length q.rows) c p e in
-    record { told = again.told ∙ ap Some (omega arith); more = again.more; there = drop_front q.rows (rows_of c) (rows_before (begins_document marker) n c) ∙ again.there }
+    record { told = again.told ∙ ap Some (omega arith); more = again.more; there = drop-append-add q.rows (rows_of c) (rows_before (begins_document marker) n c) ∙ again.there }
 begins false n k (marked q marker c) p e =
     let again = begins (begins_document marker) n (k + length q.rows) c p e in
-    record { told = again.told ∙ ap Some (omega arith); more = again.more; there = drop_front q.rows (rows_of c) (rows_before (begins_document marker) n c) ∙ again.there }
+    record { told = again.told ∙ ap Some (omega arith); more = again.more; there = drop-append-add q.rows (rows_of c) (rows_before (begins_document marker) n c) ∙ again.there }
 
 pub part_begins : (c : Cut) (n : ℕ) (p : Part) → slice_get (document_parts c) n ≡ Some p → (more : List Row) × (drop (document_row n c) (rows_of c) ≡ p.rows ++ more)
 part_begins c n p at = let b = begins (begins_bare c || not (has_begin c)) n 0 c p at in (b.more, b.there)
@@ -165,20 +159,14 @@ part_at (x ∷ ds) (p ∷ ps) e zero d is =
     let same : x ≡ d = cc in
     let first : document_view x ≡ lined p = cc in
     (p, refl, ap document_view (sym same) ∙ first)
-part_at (x ∷ ds) (p ∷ ps) e (suc i) d is = part_at ds ps (others e) i d is
-  where
-    others : {y z : Lined} {ys zs : List Lined} → y ∷ ys ≡ z ∷ zs → ys ≡ zs
-    others e = cc
+part_at (x ∷ ds) (p ∷ ps) e (suc i) d is = part_at ds ps (tail-eq_of_cons-eq e) i d is
 
 pub none_past : (ds : List DocumentLines) (ps : List Part) → map document_view ds ≡ map lined ps → (i : ℕ) → length ds ≤ i → slice_get ps i ≡ None
 none_past [] [] e i h = refl
 none_past [] (p ∷ ps) e i h = absurd (cc)
 none_past (x ∷ ds) [] e i h = refl
 none_past (x ∷ ds) (p ∷ ps) e zero h = absurd (omega (arith, h))
-none_past (x ∷ ds) (p ∷ ps) e (suc i) h = none_past ds ps (others e) i (omega (arith, h))
-  where
-    others : {y z : Lined} {ys zs : List Lined} → y ∷ ys ≡ z ∷ zs → ys ≡ zs
-    others e = cc
+none_past (x ∷ ds) (p ∷ ps) e (suc i) h = none_past ds ps (tail-eq_of_cons-eq e) i (omega (arith, h))
 
 -- the first row of a document that is held
 pub held_begin : (t : List ℕ) (s : Shown) (ds : List DocumentLines) (i : ℕ) (p : Part) → Holds t s ds → slice_get (document_parts (cut_of t)) i ≡ Some p →

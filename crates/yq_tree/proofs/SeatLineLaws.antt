@@ -1,6 +1,7 @@
 -- What is told of the line that is in a seat.
 use Rattle.std.proofs.Common.{◌≡◌, ◌⊎◌, inl, inr, ℕ, zero, suc, ◌+◌, ◌-◌, ◌<◌, ◌≤◌, List, [], ◌∷◌, ◌++◌, length, Some, None, option_map, refl, sym, ap, ◌∙◌, subst, arith}
 use Rattle.std.proofs.lemmas.Bool.{cases_lt, lt-ltb, le-ltb, cond-true, cond-false}
+use Rattle.std.proofs.lemmas.Option.{same_Some}
 use Rattle.std.specs.List.{slice_get}
 use Rattle.yq_lines.specs.Comments as comments
 use Rattle.yq_rows.specs.Rows as rows
@@ -14,13 +15,10 @@ pub record IsTold (dashes n : ℕ) (l : Line) : Type 0 where
   pub within : n ≤ dashes
   pub dash : n < dashes → (l.mark ≡ Dash) × (l.head ≡ None)
 
-some_same : {x y : Line} → Some x ≡ Some y → x ≡ y
-some_same e = cc
-
 line_from : (above : List (List ℕ)) (column : ℕ) (ns : List ℕ) (m : rows.Mark) (c : Content) (n : ℕ) (l : Line) → slice_get (lines_from above column ns m c) n ≡ Some l → IsTold (length ns) n l
 line_from above column [] m c zero l e = record { within = omega arith; dash = λ p. absurd (omega (arith, p)) }
 line_from above column [] m c (suc n) l e = absurd (cc)
-line_from above column (k ∷ ns) m c zero l e = subst (IsTold (suc (length ns)) 0) (some_same e) (record { within = omega arith; dash = λ p. (refl, refl) })
+line_from above column (k ∷ ns) m c zero l e = subst (IsTold (suc (length ns)) 0) (same_Some _ _ e) (record { within = omega arith; dash = λ p. (refl, refl) })
 line_from above column (k ∷ ns) m c (suc n) l e =
     let h = line_from [] (suc (column + k)) ns m c n l e in
     record { within = omega (arith, h.within); dash = λ p. h.dash (omega (arith, p)) }

@@ -1,6 +1,6 @@
 -- Where a part of a line stands, by the pieces of its row.
 use Rattle.std.proofs.Common.{◌≡◌, ℕ, zero, suc, ◌+◌, ◌-◌, ◌<◌, ltb, List, [], ◌∷◌, ◌++◌, length, drop, Option, Some, None, option_map, Bool, true, false, cond, refl, sym, ap, ◌∙◌, subst, arith}
-use Rattle.std.proofs.lemmas.Option.{slice_get_within, slice_get-map}
+use Rattle.std.proofs.lemmas.Option.{slice_get_within, slice_get-map, same_Some}
 use Rattle.std.specs.List.{slice_get}
 use Rattle.yq_scalar.specs.Answers.{◌>>=◌}
 use Rattle.yq_rows.specs.Rows.{Row, Part, Cut}
@@ -32,10 +32,7 @@ seat_row n (r ∷ rs) = go (ltb (length r.dashes) n) (seat (n - suc (length r.da
 
 of_some : (P : Seat → Type 0) (o : Option Seat) (s : Seat) → If o P → o ≡ Some s → P s
 of_some P None s h e = absurd (cc)
-of_some P (Some q) s h e = subst P (same e) h
-  where
-    same : {x y : Seat} → Some x ≡ Some y → x ≡ y
-    same e = cc
+of_some P (Some q) s h e = subst P (same_Some _ _ e) h
 
 pub steps_row : (steps : Option ℕ) (rs : List Row) (s : Seat) → (steps >>= λ n. seat n rs) ≡ Some s → slice_get rs s.before ≡ Some s.row
 steps_row None rs s e = absurd (cc)
@@ -62,9 +59,6 @@ document_seat path c (Some p) s is e =
 pub path_row : (path : Path) (c : Cut) (s : Seat) → seat_at path c ≡ Some s → slice_get (rows_of c) (document_row path.doc c + s.before) ≡ Some s.row
 path_row path c s e = document_seat path c (slice_get (document_parts c) path.doc) s refl e
 
-numbers_same : {x y : Numbers} → Some x ≡ Some y → x ≡ y
-numbers_same e = cc
-
 -- the row of the code's line is there
 row_slices : (path : Path) (c : Cut) (s : Seat) (n : Numbers) → seat_at path c ≡ Some s → n ≡ numbers (document_row path.doc c) s → slice_get (shown c).rows n.0 ≡ Some (slices s.row)
 row_slices path c s n is e = ap (λ (x : Numbers). slice_get (shown c).rows x.0) e ∙ (slice_get-map slices (rows_of c) (document_row path.doc c + s.before) ∙ ap (option_map slices) (path_row path c s is))
@@ -74,7 +68,7 @@ row_within t x ds path n h e = go (seat_at path (cut_of t)) refl e
   where
     go : (o : Option Seat) → seat_at path (cut_of t) ≡ o → Some n ≡ option_map (numbers (document_row path.doc (cut_of t))) o → n.0 < length x.rows
     go None is e = absurd (cc)
-    go (Some s) is e = subst (λ (y : Shown). n.0 < length y.rows) (sym h.rows) (slice_get_within (shown (cut_of t)).rows n.0 (slices s.row) (row_slices path (cut_of t) s n is (numbers_same e)))
+    go (Some s) is e = subst (λ (y : Shown). n.0 < length y.rows) (sym h.rows) (slice_get_within (shown (cut_of t)).rows n.0 (slices s.row) (row_slices path (cut_of t) s n is (same_Some _ _ e)))
 
 -- a part, by where the row begins and its pieces
 abbrev SpanIn : Type 0
@@ -96,7 +90,7 @@ part_told of in_ tells t x ds path n found h e told = go (seat_at path (cut_of t
     go None is e = absurd (cc)
     go (Some s) is e =
         let k : ℕ = document_row path.doc (cut_of t) in
-        let same = numbers_same e in
+        let same = same_Some _ _ e in
         told (slices s.row) (ap (λ (y : Shown). slice_get y.rows n.0) h.rows ∙ row_slices path (cut_of t) s n is same)
         ∙ ((λ j. of (row_start (same j).0 (h.rows j)) (slices s.row) (same j))
         ∙ tells (cut_of t) (k + s.before) s k (path_row path (cut_of t) s is))

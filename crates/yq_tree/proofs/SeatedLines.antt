@@ -3,6 +3,7 @@ use Rattle.std.proofs.Common.{◌≡◌, ◌⊎◌, inl, inr, ℕ, zero, suc, �
 use Rattle.std.proofs.Math.Seq.{take-append-add}
 use Rattle.std.proofs.lemmas.Bool.{cases_lt, lt-ltb, le-ltb, cond-true, cond-false}
 use Rattle.std.proofs.lemmas.List.{take-append-le}
+use Rattle.std.proofs.lemmas.Option.{none-some, same_Some}
 use Rattle.std.specs.List.{slice_get}
 use Rattle.yq_lines.specs.Comments.{head_comment}
 use Rattle.yq_rows.specs.Grammar.{begins_document}
@@ -17,7 +18,7 @@ use Rattle.yq_documents.specs.Seats.{Seat, behind_one, seat, rows_before}
 use Rattle.yq_lines.proofs.Values.{rank_small}
 use Rattle.yq_tree.specs.PrintedLines.{PrintedLine, line_front, print_lines, printed_from, printed_row, printed_lines}
 use Rattle.yq_tree.specs.PathPieces.{PrintedDocument, printed_part}
-use Rattle.yq_tree.proofs.PrintedTexts.{same, none_some, map_some, lines_append, row_is}
+use Rattle.yq_tree.proofs.PrintedTexts.{map_some, lines_append, row_is}
 
 -- Line n of those of a row.
 pub record IsInRow (ls : List PrintedLine) (gap spaces : List ℕ) (ns : List ℕ) (m : rows.Mark) (c : Content) (n : ℕ) : Type 0 where
@@ -101,7 +102,7 @@ row_count gap spaces column [] m c = refl
 row_count gap spaces column (n ∷ ns) m c = ap suc (row_count [] [] (suc (column + n)) ns m c)
 
 pub seated : (rs : List Row) (n : ℕ) (q : Seat) → seat n rs ≡ Some q → IsSeated rs n q
-seated [] n q e = absurd (none_some e)
+seated [] n q e = absurd (none-some _ e)
 seated (r ∷ rs) n q e = go (cases_lt (length r.dashes) n) (λ p h. seated rs (n - suc (length r.dashes)) p h)
   where
     count : length (printed_row r) ≡ suc (length r.dashes)
@@ -147,7 +148,7 @@ seated (r ∷ rs) n q e = go (cases_lt (length r.dashes) n) (λ p h. seated rs (
     go (inl h) again =
         let p = map_some (seat (n - suc (length r.dashes)) rs) (sym (cond-true _ _ _ (lt-ltb (length r.dashes) n h)) ∙ e) in
         subst (IsSeated (r ∷ rs) n) p.2 (past h p.0 (again p.0 p.1))
-    go (inr h) again = subst (IsSeated (r ∷ rs) n) (same (sym (cond-false _ _ _ (le-ltb (length r.dashes) n h)) ∙ e)) (here h)
+    go (inr h) again = subst (IsSeated (r ∷ rs) n) (same_Some _ _ (sym (cond-false _ _ _ (le-ltb (length r.dashes) n h)) ∙ e)) (here h)
 
 -- A document's rows in the text of a cut, behind k others.
 pub record IsPlaced (c : Cut) (k : ℕ) (p : Part) (s : PrintedDocument) : Type 0 where
@@ -166,13 +167,13 @@ later q marker c k p s h = record {
 
 pub document_placed : (is : Bool) (n : ℕ) (c : Cut) (p : Part) (s : PrintedDocument) → slice_get (parts_from is c) n ≡ Some p → printed_part is n c ≡ Some s → IsPlaced c (rows_before is n c) p s
 document_placed true zero (last q) p s at e =
-    let part : q ≡ p = same at in
-    subst (λ x. IsPlaced (last q) 0 x s) part (subst (IsPlaced (last q) 0 q) (same e) (record { row = λ i less. let j : 0 + i ≡ i = omega arith in ap (λ x. rows_text (take x q.rows) []) j }))
-document_placed true (suc n) (last q) p s at e = absurd (none_some e)
-document_placed false n (last q) p s at e = absurd (none_some e)
+    let part : q ≡ p = same_Some _ _ at in
+    subst (λ x. IsPlaced (last q) 0 x s) part (subst (IsPlaced (last q) 0 q) (same_Some _ _ e) (record { row = λ i less. let j : 0 + i ≡ i = omega arith in ap (λ x. rows_text (take x q.rows) []) j }))
+document_placed true (suc n) (last q) p s at e = absurd (none-some _ e)
+document_placed false n (last q) p s at e = absurd (none-some _ e)
 document_placed true zero (marked q marker c) p s at e =
-    let part : q ≡ p = same at in
-    subst (λ x. IsPlaced (marked q marker c) 0 x s) part (subst (IsPlaced (marked q marker c) 0 q) (same e) (record {
+    let part : q ≡ p = same_Some _ _ at in
+    subst (λ x. IsPlaced (marked q marker c) 0 x s) part (subst (IsPlaced (marked q marker c) 0 q) (same_Some _ _ e) (record {
       row = λ i less.
           let j : 0 + i ≡ i = omega arith in
           ap (λ x. before_row x (marked q marker c)) j ∙ cond-true _ _ _ (lt-ltb i (length q.rows) less);

@@ -1,6 +1,7 @@
 -- How many lines are under one that was found.
 use Rattle.std.proofs.Common.{◌≡◌, ℕ, zero, suc, ◌+◌, ◌<◌, ◌≤◌, ltb, List, [], ◌∷◌, ◌++◌, length, drop, Some, Bool, true, false, cond, refl, ap, ◌∙◌, arith, append_assoc, length-append}
 use Rattle.std.proofs.lemmas.Bool.{ltb-true, ltb-false, lt-ltb, le-ltb, cond-true, cond-false}
+use Rattle.std.proofs.lemmas.Option.{none-some, same_Some}
 use Rattle.std.specs.List.{slice_get}
 use Rattle.yq_scalar.specs.Paths.{Step}
 use Rattle.yq_lines.specs.Ends.{deeper_count, lines_end}
@@ -10,23 +11,22 @@ use Rattle.yq_lines.specs.Places.{Place, here, below, beside, lines_before, line
 use Rattle.yq_lines.proofs.Allowing.{Allows}
 use Rattle.yq_lines.proofs.LineEnds.{end_behind}
 use Rattle.yq_tree.proofs.RowPathLaws.{found_lines, found_place}
-use Rattle.yq_tree.proofs.PrintedTexts.{same, none_some}
 
 -- how many lines are deeper
 pub count_stops : (k : ℕ) (ls : List Line) (x : Line) → slice_get ls (deeper_count k ls) ≡ Some x → level x ≤ k
-count_stops k [] x e = absurd (none_some e)
+count_stops k [] x e = absurd (none-some _ e)
 count_stops k (l ∷ ls) x e = go (ltb k (level l)) refl (λ h. count_stops k ls x h) e
   where
     go : (b : Bool) → ltb k (level l) ≡ b → (slice_get ls (deeper_count k ls) ≡ Some x → level x ≤ k) → slice_get (l ∷ ls) (cond b (suc (deeper_count k ls)) 0) ≡ Some x → level x ≤ k
     go true t again e = again e
-    go false t again e = omega (arith, ltb-false k (level l) t, ap level (same e))
+    go false t again e = omega (arith, ltb-false k (level l) t, ap level (same_Some _ _ e))
 
 pub count_holds : (k : ℕ) (ls : List Line) (j : ℕ) (x : Line) → j < deeper_count k ls → slice_get ls j ≡ Some x → k < level x
-count_holds k [] j x h e = absurd (none_some e)
+count_holds k [] j x h e = absurd (none-some _ e)
 count_holds k (l ∷ ls) j x h e = go (ltb k (level l)) refl (λ i h e. count_holds k ls i x h e) j h e
   where
     go : (b : Bool) → ltb k (level l) ≡ b → ((i : ℕ) → i < deeper_count k ls → slice_get ls i ≡ Some x → k < level x) → (j : ℕ) → j < cond b (suc (deeper_count k ls)) 0 → slice_get (l ∷ ls) j ≡ Some x → k < level x
-    go true t again zero h e = omega (arith, ltb-true k (level l) t, ap level (same e))
+    go true t again zero h e = omega (arith, ltb-true k (level l) t, ap level (same_Some _ _ e))
     go true t again (suc j) h e = again j (omega (arith, h)) e
     go false t again j h e = absurd (omega (arith, h))
 

@@ -1,6 +1,7 @@
 -- The place of one more item or entry in a text, and its rows there.
 use Rattle.std.proofs.Common.{inl, inr, ◌≡◌, ℕ, suc, true, false, List, [], ◌∷◌, ◌++◌, length, Option, Some, None, sym, ap, ◌∙◌, subst, append_assoc, append-nil, replicate}
 use Rattle.std.proofs.lemmas.Bool.{false≢true}
+use Rattle.std.proofs.lemmas.Option.{same_Some}
 use Rattle.std.specs.List.{slice_get}
 use Rattle.yq_scalar.specs.Keys.{HasUniqueKeys, keys_of}
 use Rattle.yq_scalar.specs.Paths.{Step, append_child, change, node_at, within}
@@ -117,9 +118,6 @@ pub record IsAsked (steps : List Step) (key : Option (List ℕ)) (v : Node) (par
   pub node_is : node_at steps (root_of part) ≡ Some node
   pub takes : Takes key node
 
-some_node : {a b : Node} → Some a ≡ Some b → a ≡ b
-some_node h = cc
-
 module _ (doc : ℕ) (steps : List Step) (key : Option (List ℕ)) (v : Node) (c : Cut) (x : CollectionEnd) (read : read_at (cut_text c) ≡ Some c) (at : collection_end doc steps c ≡ Some x) (g : IsAsked steps key v (p doc steps c x read at)) where
   abbrev l : Layout
   l = layout_of doc c
@@ -144,7 +142,7 @@ module _ (doc : ℕ) (steps : List Step) (key : Option (List ℕ)) (v : Node) (c
 
   known_taker : IsTaker key place.h.lines x.column
   known_taker =
-      taker key g.node place.h.anchor place.h.lines x.column g.takes (some_node (sym g.node_is ∙ lines_are_there steps (outline_of part) place.h place.collection.place_is)) place.collection.block place.first
+      taker key g.node place.h.anchor place.h.lines x.column g.takes (same_Some _ _ (sym g.node_is ∙ lines_are_there steps (outline_of part) place.h place.collection.place_is)) place.collection.block place.first
 
   pub written : (last : List ℕ) (quiet : said last ≡ None) → IsWritten place.h (node_rows l x.column last (alone key v)) (entry last quiet).deep.0 (entry last quiet).line (entry last quiet).under (length steps)
   written last quiet =

@@ -1,5 +1,7 @@
 -- There is a way to put one more item or entry into a block collection.
 use Rattle.std.proofs.Common.{◌≡◌, Bool, false, cond, ℕ, List, [], ◌∷◌, ◌++◌, map, Option, Some, None, option_map, refl, sym, ap, ◌∙◌, subst}
+use Rattle.std.proofs.lemmas.Option.{same_Some}
+use mathlib.Core.List.{head-eq_of_cons-eq}
 use Rattle.std.specs.List.{slice_get}
 use Rattle.std.specs.Option.{is_some}
 use Rattle.yq_scalar.specs.Answers.{◌>>=◌}
@@ -38,10 +40,7 @@ no_bare Dash h = refl
 
 first_is : (o : Outline) (l : Line) (ls : List Line) → HasEntries o → l ∷ ls ≡ flatten o → IsEntry l.mark
 first_is end l ls h e = absurd h
-first_is (row k u v) l ls h e = subst (λ (z : Line). IsEntry z.mark) (sym (same e)) h
-  where
-    same : {x y : Line} {xs ys : List Line} → x ∷ xs ≡ y ∷ ys → x ≡ y
-    same e = cc
+first_is (row k u v) l ls h e = subst (λ (z : Line). IsEntry z.mark) (sym (head-eq_of_cons-eq e)) h
 
 none_there : (o : Outline) → HasEntries o → [] ≡ flatten o → ⊥
 none_there end h e = h
@@ -65,11 +64,8 @@ entry_end s e f w head block =
 -- the lines of a block collection have one
 collection_ends : (steps : List Step) (p : Part) (s : PrintedDocument) (h : NodeLines) → IsPrintedDocument p s → IsCollectionAt steps (outline_of p) h → HasEnd (end_in steps s)
 collection_ends [] p s h w at =
-    let own : outline_of p ≡ h.lines = ap (λ (z : NodeLines). z.lines) (same at.place_is) in
+    let own : outline_of p ≡ h.lines = ap (λ (z : NodeLines). z.lines) (same_Some _ _ at.place_is) in
     lines_end s.before s.lines s.behind h.lines at.block (ap (map line_in) w.lines ∙ (lines_are p.rows ∙ (sym (flatten-group (lines_of p.rows)) ∙ ap flatten own)))
-  where
-    same : {x y : NodeLines} → Some x ≡ Some y → x ≡ y
-    same e = cc
 collection_ends (y ∷ ys) p s h printed at =
     let w = lines_found y ys (outline_of p) h at.place_is in
     let found : find y ys (group (map line_in s.lines)) ≡ Some (w.found, []) = ap (λ (ls : List Line). find y ys (group ls)) (ap (map line_in) printed.lines ∙ lines_are p.rows) ∙ w.is in

@@ -1,5 +1,6 @@
 -- One item or entry more in a block collection: what is put there reads as the documents after the operation.
 use Rattle.std.proofs.Common.{◌≡◌, ℕ, ◌≤◌, Bool, true, false, List, ◌++◌, length, Option, Some, None, refl, sym, ap, ◌∙◌, subst, append-nil, option_map}
+use Rattle.std.proofs.lemmas.Option.{none-some, same_Some}
 use Rattle.yq_scalar.specs.BlockWritten.{break_text}
 use Rattle.yq_scalar.specs.Characters.{text_limit}
 use Rattle.yq_scalar.specs.Paths.{Step, node_at}
@@ -24,18 +25,9 @@ use Rattle.yq_ways.proofs.AppendPlaces.{p, document, old_is, IsAsked}
 use Rattle.yq_ways.proofs.AppendInside.{inside_reads}
 use Rattle.yq_ways.proofs.AppendAtEnd.{end_reads}
 
-some_segments : {ss us : List Segment} → Some ss ≡ Some us → ss ≡ us
-some_segments h = cc
-
-none_segments : {us : List Segment} → None ≡ Some us → ⊥
-none_segments h = cc
-
-same_document : {d g : Document} → Some d ≡ Some g → d ≡ g
-same_document h = cc
-
 segments_at : (doc : ℕ) (key : Option (List ℕ)) (v : Node) (c : Cut) (o : Option CollectionEnd) (ss : List Segment) → option_map (append_segments (layout_of doc c) key v) o ≡ Some ss → (x : CollectionEnd) × (o ≡ Some x) × (append_segments (layout_of doc c) key v x ≡ ss)
-segments_at doc key v c None ss is = absurd (none_segments is)
-segments_at doc key v c (Some x) ss is = (x, refl, some_segments is)
+segments_at doc key v c None ss is = absurd (none-some _ is)
+segments_at doc key v c (Some x) ss is = (x, refl, same_Some _ _ is)
 
 append_old : (doc : ℕ) (steps : List Step) (key : Option (List ℕ)) (v : Node) (c : Cut) (ss : List Segment) → read_at (cut_text c) ≡ Some c → append_way (append doc steps key v) c ≡ Some ss → old_text ss ≡ cut_text c
 append_old doc steps key v c ss read is =
@@ -58,7 +50,7 @@ append_reads : (doc : ℕ) (steps : List Step) (key : Option (List ℕ)) (v : No
 append_reads doc steps key v c ss read is u value_tree fits size =
     let x = segments_at doc key v c (collection_end doc steps c) ss is in
     let part = document doc steps c x.0 read x.1 in
-    let d : reading.document_of part.0 ≡ fits.0 = same_document (sym (nth_map doc part.0 reading.document_of (document_parts c) part.1) ∙ fits.1) in
+    let d : reading.document_of part.0 ≡ fits.0 = same_Some _ _ (sym (nth_map doc part.0 reading.document_of (document_parts c) part.1) ∙ fits.1) in
     subst (λ z. ReadsAfter (append doc steps key v) c (new_text z)) x.2
     (at_end doc steps key v c x.0 read x.1
     (record {
@@ -78,16 +70,16 @@ pub append_is : IsWay append_way
 append_is = record { old = old; reads = reads }
   where
     old : (op : Operation) (c : Cut) (ss : List Segment) → read_at (cut_text c) ≡ Some c → append_way op c ≡ Some ss → old_text ss ≡ cut_text c
-    old (replace doc steps v) c ss read is = absurd (none_segments is)
+    old (replace doc steps v) c ss read is = absurd (none-some _ is)
     old (append doc steps key v) c ss read is = append_old doc steps key v c ss read is
-    old (remove doc steps) c ss read is = absurd (none_segments is)
-    old (line_comment doc steps text) c ss read is = absurd (none_segments is)
-    old (head_comment doc steps text) c ss read is = absurd (none_segments is)
+    old (remove doc steps) c ss read is = absurd (none-some _ is)
+    old (line_comment doc steps text) c ss read is = absurd (none-some _ is)
+    old (head_comment doc steps text) c ss read is = absurd (none-some _ is)
 
     reads : (op : Operation) (c : Cut) (ss : List Segment) → read_at (cut_text c) ≡ Some c → append_way op c ≡ Some ss → HasOperand op → Fits (room_of (cut_text c)) op (documents c) →
         length (new_text ss) ≤ text_limit → ReadsAfter op c (new_text ss)
-    reads (replace doc steps v) c ss read is operand fits size = absurd (none_segments is)
+    reads (replace doc steps v) c ss read is operand fits size = absurd (none-some _ is)
     reads (append doc steps key v) c ss read is operand fits size = append_reads doc steps key v c ss read is operand.0 operand.1 fits size
-    reads (remove doc steps) c ss read is operand fits size = absurd (none_segments is)
-    reads (line_comment doc steps text) c ss read is operand fits size = absurd (none_segments is)
-    reads (head_comment doc steps text) c ss read is operand fits size = absurd (none_segments is)
+    reads (remove doc steps) c ss read is operand fits size = absurd (none-some _ is)
+    reads (line_comment doc steps text) c ss read is operand fits size = absurd (none-some _ is)
+    reads (head_comment doc steps text) c ss read is operand fits size = absurd (none-some _ is)

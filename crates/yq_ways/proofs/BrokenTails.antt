@@ -1,12 +1,11 @@
 -- The end of a line with another break.
 use Rattle.std.proofs.Common.{◌≡◌, ◌⊎◌, inl, inr, ℕ, Bool, true, false, ◌&&◌, ◌||◌, not, List, [], ◌∷◌, ◌++◌, refl, sym, ap, ◌∙◌, subst, append_assoc}
-use Rattle.std.proofs.lemmas.Bool.{false≢true}
+use Rattle.std.proofs.lemmas.Bool.{false≢true, and_parts, cases_Bool, or_parts}
 use Rattle.yq_scalar.specs.BlockWritten.{break_text}
 use Rattle.yq_scalar.specs.Characters.{pairs_returns}
 use Rattle.yq_scalar.specs.Text.{front, is_feed, is_return, is_empty, is_break, is_line, ends_line, NoneIn}
 use Rattle.yq_scalar.specs.declared.block_written.Break.{Break}
 use Rattle.yq_scalar.specs.declared.block_written.Break.TheVariants.{Lf, CrLf}
-use Rattle.yq_scalar.proofs.Bools.{is_true, and_true, or_false}
 use Rattle.yq_lines.specs.Comments.{line_comment}
 use Rattle.yq_rows.specs.Gap.{IsBreak, IsComment}
 use Rattle.yq_rows.specs.Grammar.{IsTail}
@@ -24,19 +23,19 @@ break_is CrLf = refl
 pub front_clean : (c rest : List ℕ) → pairs_returns (c ++ rest) ≡ true → NoneIn ends_line c rest → ends_return c ≡ false
 unfolding pairs_returns
 front_clean [] rest h n = refl
-front_clean (b ∷ []) rest h n = go (is_true (is_return b))
+front_clean (b ∷ []) rest h n = go (cases_Bool (is_return b))
   where
     go : (is_return b ≡ true) ⊎ (is_return b ≡ false) → is_return b ≡ false
     go (inr e) = e
     go (inl e) =
         let pairs : (front is_feed rest && pairs_returns rest) ≡ true = rw e at h in
-        let none = (or_false (is_feed b) (is_return b && front is_feed rest) n.0).1 in
-        absurd (false≢true (sym none ∙ rw (e, (and_true (front is_feed rest) (pairs_returns rest) pairs).0) refl))
+        let none = (or_parts (is_feed b) (is_return b && front is_feed rest) n.0).1 in
+        absurd (false≢true (sym none ∙ rw (e, (and_parts (front is_feed rest) (pairs_returns rest) pairs).0) refl))
 front_clean (b ∷ (d ∷ c)) rest h n = front_clean (d ∷ c) rest (pairs_back (b ∷ []) (d ∷ (c ++ rest)) h) n.1
 
 none_other : (c old new : List ℕ) → NoneIn ends_line c old → ends_return c ≡ false → NoneIn ends_line c new
 none_other [] old new n e = tt
-none_other (b ∷ []) old new n e = let f = or_false (is_feed b) (is_return b && front is_feed old) n.0 in (rw (f.0, e) refl, tt)
+none_other (b ∷ []) old new n e = let f = or_parts (is_feed b) (is_return b && front is_feed old) n.0 in (rw (f.0, e) refl, tt)
 none_other (b ∷ (d ∷ c)) old new n e = (n.0, none_other (d ∷ c) old new n.1 e)
 
 -- so a comment there goes up to another break

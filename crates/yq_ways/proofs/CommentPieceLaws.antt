@@ -1,6 +1,6 @@
 -- What is written for comments is made of pieces of texts.
 use Rattle.std.proofs.Common.{◌≡◌, ◌≢◌, get_or, ◌⊎◌, inl, inr, ℕ, zero, suc, ◌+◌, ◌<◌, ◌≤◌, Bool, true, false, ◌&&◌, ◌||◌, not, cond, eqb, List, [], ◌∷◌, ◌++◌, length, replicate, refl, sym, ap, ◌∙◌, subst, arith, append-nil, append_assoc, length-append}
-use Rattle.std.proofs.lemmas.Bool.{false≢true, ltb-true}
+use Rattle.std.proofs.lemmas.Bool.{false≢true, ltb-true, and_parts, cases_Bool}
 use Rattle.std.proofs.lemmas.Str.{encode_ascii, IsUtf8-nil, IsUtf8-take}
 use Rattle.std.proofs.Math.Seq.{take-append_seam}
 use Rattle.std.proofs.Math.Utf8.{encodes, encode, scalars, low_scalar}
@@ -11,7 +11,7 @@ use Rattle.yq_scalar.specs.Characters.{is_text, is_text_char, pairs_returns}
 use Rattle.yq_scalar.specs.Text.{front, is_feed, is_return, is_empty}
 use Rattle.yq_scalar.specs.declared.block_written.Break.{Break}
 use Rattle.yq_scalar.specs.declared.block_written.Break.TheVariants.{Lf, CrLf}
-use Rattle.yq_scalar.proofs.Bools.{is_true, and_true, not_byte}
+use Rattle.yq_scalar.proofs.Bools.{not_byte}
 use Rattle.yq_scalar.proofs.Bytes.{Each, each_byte}
 use Rattle.yq_scalar.proofs.WrittenText.{no_break, is_shown, IsLine, line_is_text}
 use Rattle.yq_rows.proofs.NodePieces.{before_ascii}
@@ -35,8 +35,8 @@ nothing = record { utf8 = IsUtf8-nil; characters = nothing_text }
 
 low_line : (b : ℕ) → is_shown b ≡ true → IsLine (b ∷ []) × IsUtf8 (b ∷ [])
 low_line b h =
-    let p = and_true (Rattle.std.proofs.Common.ltb b 128 && is_text_char b) (no_break b) h in
-    let r = and_true (Rattle.std.proofs.Common.ltb b 128) (is_text_char b) p.0 in
+    let p = and_parts (Rattle.std.proofs.Common.ltb b 128 && is_text_char b) (no_break b) h in
+    let r = and_parts (Rattle.std.proofs.Common.ltb b 128) (is_text_char b) p.0 in
     let low : b < 128 = ltb-true b 128 r.0 in
     let spelled : encodes (b ∷ []) ≡ b ∷ [] = append-nil (encode b) ∙ encode_ascii b low in
     let valid : scalars (b ∷ []) ≡ true = rw (low_scalar b (omega (arith, low))) refl in
@@ -73,12 +73,12 @@ no_return b = not (is_return b)
 
 all_weaker : (p q : ℕ → Bool) → ((c : ℕ) → p c ≡ true → q c ≡ true) → (cs : List ℕ) → list_all p cs ≡ true → list_all q cs ≡ true
 all_weaker p q f [] h = refl
-all_weaker p q f (c ∷ cs) h = let x = and_true (p c) (list_all p cs) h in rw (f c x.0, all_weaker p q f cs x.1) refl
+all_weaker p q f (c ∷ cs) h = let x = and_parts (p c) (list_all p cs) h in rw (f c x.0, all_weaker p q f cs x.1) refl
 
 no_pairs : (t : List ℕ) → Each no_return t → pairs_returns t ≡ true
 unfolding pairs_returns
 no_pairs [] h = refl
-no_pairs (b ∷ t) h = go (is_true (is_return b)) (no_pairs t h.1)
+no_pairs (b ∷ t) h = go (cases_Bool (is_return b)) (no_pairs t h.1)
   where
     go : (is_return b ≡ true) ⊎ (is_return b ≡ false) → pairs_returns t ≡ true → cond (is_return b) (front is_feed t && pairs_returns t) (pairs_returns t) ≡ true
     go (inl e) k = absurd (false≢true (ap not (sym e) ∙ h.0))
@@ -90,19 +90,19 @@ text_piece p t u f h e = record { utf8 = u; characters = rw (all_weaker p is_tex
 -- a text of a line comment
 pub line_text_is : (t : List ℕ) → IsUtf8 t → is_comment comments.Line t ≡ true → Each no_break t × IsPiece t
 line_text_is t u h =
-    let none : Each no_break t = each_byte no_break (λ c. is_text_char c && (not (eqb c 10) && not (eqb c 13))) t u h (λ c low p. (and_true (is_text_char c) (not (eqb c 10) && not (eqb c 13)) p).1)
+    let none : Each no_break t = each_byte no_break (λ c. is_text_char c && (not (eqb c 10) && not (eqb c 13))) t u h (λ c low p. (and_parts (is_text_char c) (not (eqb c 10) && not (eqb c 13)) p).1)
     (λ b high. rw (not_byte b 10 (omega arith), not_byte b 13 (omega arith)) refl) in
-    (none, text_piece (λ c. is_text_char c && (not (eqb c 10) && not (eqb c 13))) t u (λ c p. (and_true (is_text_char c) (not (eqb c 10) && not (eqb c 13)) p).0) h (go t none))
+    (none, text_piece (λ c. is_text_char c && (not (eqb c 10) && not (eqb c 13))) t u (λ c p. (and_parts (is_text_char c) (not (eqb c 10) && not (eqb c 13)) p).0) h (go t none))
   where
     go : (t : List ℕ) → Each no_break t → Each no_return t
     go [] e = tt
-    go (b ∷ t) e = ((and_true (not (is_feed b)) (not (is_return b)) e.0).1, go t e.1)
+    go (b ∷ t) e = ((and_parts (not (is_feed b)) (not (is_return b)) e.0).1, go t e.1)
 
 -- a text of a head comment
 pub head_text_is : (t : List ℕ) → IsUtf8 t → is_comment comments.Head t ≡ true → Each no_return t × IsPiece t
 head_text_is t u h =
-    let none : Each no_return t = each_byte no_return (λ c. is_text_char c && not (eqb c 13)) t u h (λ c low p. (and_true (is_text_char c) (not (eqb c 13)) p).1) (λ b high. rw (not_byte b 13 (omega arith)) refl) in
-    (none, text_piece (λ c. is_text_char c && not (eqb c 13)) t u (λ c p. (and_true (is_text_char c) (not (eqb c 13)) p).0) h none)
+    let none : Each no_return t = each_byte no_return (λ c. is_text_char c && not (eqb c 13)) t u h (λ c low p. (and_parts (is_text_char c) (not (eqb c 13)) p).1) (λ b high. rw (not_byte b 13 (omega arith)) refl) in
+    (none, text_piece (λ c. is_text_char c && not (eqb c 13)) t u (λ c p. (and_parts (is_text_char c) (not (eqb c 13)) p).0) h none)
 
 -- ---- the parts of a text
 
@@ -118,7 +118,7 @@ data Lines : List ℕ → Type 0 where
 
 lines : (t : List ℕ) → Lines t
 lines [] = one tt
-lines (b ∷ t) = go (lines t) (is_true (is_feed b))
+lines (b ∷ t) = go (lines t) (cases_Bool (is_feed b))
   where
     go : Lines t → (is_feed b ≡ true) ⊎ (is_feed b ≡ false) → Lines (b ∷ t)
     go x (inl e) = more [] t tt (ap (λ y. y ∷ t) (Rattle.std.proofs.Common.eqb-true b 10 e))
@@ -127,7 +127,7 @@ lines (b ∷ t) = go (lines t) (is_true (is_feed b))
 
 pub one_part : (t : List ℕ) → Each (λ b. not (is_feed b)) t → parted t ≡ t ∷ []
 one_part [] h = refl
-one_part (b ∷ t) h = go (is_true (is_feed b)) (one_part t h.1)
+one_part (b ∷ t) h = go (cases_Bool (is_feed b)) (one_part t h.1)
   where
     go : (is_feed b ≡ true) ⊎ (is_feed b ≡ false) → parted t ≡ t ∷ [] → cond (eqb b 10) ([] ∷ parted t) (onto_first b (parted t)) ≡ (b ∷ t) ∷ []
     go (inl e) k = absurd (false≢true (ap not (sym e) ∙ h.0))
@@ -135,7 +135,7 @@ one_part (b ∷ t) h = go (is_true (is_feed b)) (one_part t h.1)
 
 pub more_parts : (a b : List ℕ) → Each (λ b. not (is_feed b)) a → parted (a ++ 10 ∷ b) ≡ a ∷ parted b
 more_parts [] b h = refl
-more_parts (x ∷ a) b h = go (is_true (is_feed x)) (more_parts a b h.1)
+more_parts (x ∷ a) b h = go (cases_Bool (is_feed x)) (more_parts a b h.1)
   where
     go : (is_feed x ≡ true) ⊎ (is_feed x ≡ false) → parted (a ++ 10 ∷ b) ≡ a ∷ parted b → cond (eqb x 10) ([] ∷ parted (a ++ 10 ∷ b)) (onto_first x (parted (a ++ 10 ∷ b))) ≡ (x ∷ a) ∷ parted b
     go (inl e) k = absurd (false≢true (ap not (sym e) ∙ h.0))
@@ -151,7 +151,7 @@ each_cut p (x ∷ a) b h = let y = each_cut p a b h.1 in ((h.0, y.0), y.1)
 
 no_return_end : (t : List ℕ) → Each no_return t → ends_return t ≡ false
 no_return_end [] h = refl
-no_return_end (b ∷ t) h = clean_byte b t (go (is_true (is_return b))) (no_return_end t h.1)
+no_return_end (b ∷ t) h = clean_byte b t (go (cases_Bool (is_return b))) (no_return_end t h.1)
   where
     go : (is_return b ≡ true) ⊎ (is_return b ≡ false) → is_return b ≡ false
     go (inl e) = absurd (false≢true (ap not (sym e) ∙ h.0))
@@ -183,7 +183,7 @@ parts_of (suc n) t small h e = go (lines t) (λ b less k f. parts_of n b less k 
 -- a text without LF, by its bytes
 pub quiet_by : (t : List ℕ) → ((i : ℕ) → i < length t → get_or t i 0 ≢ 10) → Each (λ b. not (is_feed b)) t
 quiet_by [] h = tt
-quiet_by (b ∷ t) h = (go (is_true (is_feed b)), quiet_by t (λ i less. h (suc i) (omega (arith, less))))
+quiet_by (b ∷ t) h = (go (cases_Bool (is_feed b)), quiet_by t (λ i less. h (suc i) (omega (arith, less))))
   where
     go : (is_feed b ≡ true) ⊎ (is_feed b ≡ false) → not (is_feed b) ≡ true
     go (inl e) = absurd (h 0 (omega arith) (Rattle.std.proofs.Common.eqb-true b 10 e))

@@ -1,12 +1,11 @@
 -- What is written for comments reads as their texts.
-use Rattle.std.proofs.Common.{◌≡◌, ◌⊎◌, inl, inr, ℕ, zero, suc, Bool, true, false, ◌&&◌, not, cond, eqb, List, [], ◌∷◌, ◌++◌, replicate, drop, Option, Some, None, refl, sym, ap, ◌∙◌, append-nil, append_assoc}
-use Rattle.std.proofs.lemmas.Bool.{false≢true}
+use Rattle.std.proofs.Common.{◌≡◌, ◌⊎◌, inl, inr, ℕ, zero, suc, true, false, ◌&&◌, not, cond, eqb, List, [], ◌∷◌, ◌++◌, replicate, drop, Option, Some, None, refl, sym, ap, ◌∙◌, append-nil, append_assoc}
+use Rattle.std.proofs.lemmas.Bool.{and_parts, not-true}
 use Rattle.yq_scalar.specs.BlockWritten.{break_text}
 use Rattle.yq_scalar.specs.Text as text
 use Rattle.yq_scalar.specs.Text.{front, is_feed, is_return, is_white, is_empty, is_break, is_line, ends_line, no_white, past_white, joined, lines_of, NoneIn}
 use Rattle.yq_scalar.specs.declared.block_written.Break.{Break}
 use Rattle.yq_scalar.specs.declared.block_written.Break.TheVariants.{Lf, CrLf}
-use Rattle.yq_scalar.proofs.Bools.{and_true}
 use Rattle.yq_scalar.proofs.Bytes.{Each}
 use Rattle.yq_scalar.proofs.LineLaws.{lines_again}
 use Rattle.yq_scalar.proofs.Upto.{cut-append}
@@ -21,12 +20,8 @@ use Rattle.yq_ways.proofs.CommentPieceLaws.{AreParts}
 pub quiet_none : (t rest : List ℕ) → Each no_break t → NoneIn ends_line t rest
 quiet_none [] rest h = tt
 quiet_none (b ∷ t) rest h =
-    let x = and_true (not (is_feed b)) (not (is_return b)) h.0 in
-    (rw (byte (is_feed b) x.0, byte (is_return b) x.1) refl, quiet_none t rest h.1)
-  where
-    byte : (x : Bool) → not x ≡ true → x ≡ false
-    byte true e = absurd (false≢true e)
-    byte false e = refl
+    let x = and_parts (not (is_feed b)) (not (is_return b)) h.0 in
+    (rw (not-true (is_feed b) x.0, not-true (is_return b) x.1) refl, quiet_none t rest h.1)
 
 -- the comment behind white space
 no_white_there : (r : List ℕ) → past_white (35 ∷ r) ≡ 35 ∷ r
@@ -78,7 +73,7 @@ line_is column br t h =
     let comment : List ℕ = 35 ∷ behind_hash t in
     let none : NoneIn ends_line comment (break_text br) = (refl, hash_none t (break_text br) h) in
     ap is_line (sym (append_assoc white comment (break_text br)))
-    ∙ (text_line (white ++ comment) (break_text br) (white_none white comment (break_text br) (spaces_white column) none) ∙ (and_true (is_break (break_text br)) (is_line (break_text br)) (break_is br)).1)
+    ∙ (text_line (white ++ comment) (break_text br) (white_none white comment (break_text br) (spaces_white column) none) ∙ (and_parts (is_break (break_text br)) (is_line (break_text br)) (break_is br)).1)
 
 line_tells : (column : ℕ) (br : Break) (t : List ℕ) → Each no_break t → comment_text (head_line column (break_text br) t) ≡ Some t
 line_tells column br t h =

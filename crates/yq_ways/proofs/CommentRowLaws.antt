@@ -1,12 +1,13 @@
 -- The row of the line to which steps lead, in its document and in the text.
 use Rattle.std.proofs.Common.{◌≡◌, ◌⊎◌, inl, inr, ⊎_elim, ℕ, zero, suc, ◌+◌, ◌||◌, not, true, false, List, [], ◌∷◌, ◌++◌, length, take, drop, replicate, Option, Some, None, option_and_then, refl, sym, ap, ◌∙◌, subst, append_assoc}
-use Rattle.std.proofs.lemmas.Bool.{false≢true, or_cases}
+use Rattle.std.proofs.lemmas.Bool.{false≢true, or_cases, cases_Bool}
+use Rattle.std.proofs.lemmas.Option.{none-some, same_Some}
 use Rattle.std.specs.List.{slice_get}
 use Rattle.yq_scalar.specs.Paths.{Step}
 use Rattle.yq_scalar.specs.Text.{is_empty, ends_line, no_white, past_white}
 use Rattle.yq_scalar.specs.Text as text
 use Rattle.yq_scalar.specs.Lines.{is_hash}
-use Rattle.yq_scalar.proofs.Bools.{bind_some, guard_then, is_true}
+use Rattle.yq_scalar.proofs.Bools.{bind_some, guard_then}
 use Rattle.yq_scalar.proofs.Upto.{cut_takes}
 use Rattle.yq_lines.specs.Ends.{found_line, line_of}
 use Rattle.yq_lines.specs.Places.{Found, bare_or}
@@ -31,7 +32,7 @@ use Rattle.yq_documents.specs.Seats.{Seat, seat_of, document_row}
 use Rattle.yq_tree.proofs.CommentEndLaws.{row_line}
 use Rattle.yq_tree.proofs.CommentPieceLaws.{row_place}
 use Rattle.yq_tree.proofs.PlacedRowLaws.{IsAt, part_at}
-use Rattle.yq_tree.proofs.PrintedTexts.{map_some, none_some, same}
+use Rattle.yq_tree.proofs.PrintedTexts.{map_some}
 use Rattle.yq_tree.proofs.ReadLaws.{text_takes}
 use Rattle.yq_tree.proofs.SeatedLaws.{steps_row}
 use Rattle.yq_change.specs.PlacedParts.{StandsAt}
@@ -39,12 +40,12 @@ use Rattle.yq_change.proofs.PlacedPartLaws.{document_stands_at}
 
 -- a row among rows
 pub rows_around : (rows : List Row) (i : ℕ) (r : Row) → slice_get rows i ≡ Some r → rows ≡ take i rows ++ (r ∷ drop (suc i) rows)
-rows_around [] i r h = absurd (none_some h)
-rows_around (x ∷ rows) zero r h = ap (λ (y : Row). y ∷ rows) (same h)
+rows_around [] i r h = absurd (none-some _ h)
+rows_around (x ∷ rows) zero r h = ap (λ (y : Row). y ∷ rows) (same_Some _ _ h)
 rows_around (x ∷ rows) (suc i) r h = ap (λ l. x ∷ l) (rows_around rows i r h)
 
 pub count_front : (rows : List Row) (i : ℕ) (r : Row) → slice_get rows i ≡ Some r → length (take i rows) ≡ i
-count_front [] i r h = absurd (none_some h)
+count_front [] i r h = absurd (none-some _ h)
 count_front (x ∷ rows) zero r h = refl
 count_front (x ∷ rows) (suc i) r h = ap suc (count_front rows i r h)
 
@@ -124,7 +125,7 @@ no_start tail more h s = let u = line_end_behind h.white h.comment tail more h.l
     go [] v e blank f = ⊎_elim {0, 0, 0} (λ k. false≢true (sym s.no_end ∙ (ap ends_line e ∙ k))) (λ k. false≢true (sym s.no_hash ∙ (ap is_hash e ∙ k))) (or_cases (ends_line v) (is_hash v) f)
 
 pub line_some : (limit : Limit) (r : Row) (rest : List ℕ) → IsRow limit r rest → IsTail (slices r).tail ((slices r).raw ++ rest) → is_empty (line_text r) ≡ false
-line_some limit r rest h tail = go (is_true (is_empty (line_text r)))
+line_some limit r rest h tail = go (cases_Bool (is_empty (line_text r)))
   where
     starts : line_text r ≡ [] → Starts ((slices r).tail ++ ((slices r).raw ++ rest))
     starts e =
@@ -148,7 +149,7 @@ split_last s [] = ([], s, refl)
 split_last s (t ∷ ts) = let x = split_last t ts in (s ∷ x.0, x.1, ap (λ l. s ∷ l) x.2)
 
 pub some_steps : (steps : List Step) (rs : List Row) (x : Seat) → seat_of steps rs ≡ Some x → (init : List Step) × (l : Step) × (steps ≡ init ++ l ∷ [])
-some_steps [] rs x e = absurd (none_some e)
+some_steps [] rs x e = absurd (none-some _ e)
 some_steps (s ∷ ss) rs x e = split_last s ss
 
 bare_none : (m : Mark) → m ≡ Bare → (f : Found) (s : Step) (ss : List Step) (y : Option (Found × List Step)) → option_and_then (λ x. found_line x.0 x.1) (bare_or m (Some (f, s ∷ ss)) y) ≡ None
@@ -161,10 +162,10 @@ bare_line s (t ∷ ts) l ls is = bare_none l.mark is _ s (t ∷ ts) _
 no_bare : (s : Step) (ss : List Step) (l : Line) (ls : List Line) (m : Mark) → l.mark ≡ m → (n : ℕ) → line_of (s ∷ ss) (l ∷ ls) ≡ Some n → begins_no_node (l ∷ ls) ≡ true
 no_bare s ss l ls (Key k) is n e = ap is_entry is
 no_bare s ss l ls Dash is n e = ap is_entry is
-no_bare s ss l ls Bare is n e = absurd (none_some (sym (bare_line s ss l ls is) ∙ e))
+no_bare s ss l ls Bare is n e = absurd (none-some _ (sym (bare_line s ss l ls is) ∙ e))
 
 pub line_is_block : (steps : List Step) (ls : List Line) (n : ℕ) → line_of steps ls ≡ Some n → begins_no_node ls ≡ true
-line_is_block [] ls n e = absurd (none_some e)
+line_is_block [] ls n e = absurd (none-some _ e)
 line_is_block (s ∷ ss) [] n e = refl
 line_is_block (s ∷ ss) (l ∷ ls) n e = no_bare s ss l ls l.mark refl n e
 

@@ -1,5 +1,6 @@
 -- One document of a text in the place of another, as an operation makes it: the text reads as the documents after that, and leaves the room that it has to.
 use Rattle.std.proofs.Common.{◌≡◌, ℕ, zero, suc, List, [], ◌∷◌, map, Option, Some, refl, sym, ap, ◌∙◌, subst}
+use Rattle.std.proofs.lemmas.Option.{same_Some}
 use Rattle.std.specs.List.{slice_get}
 use Rattle.yq_scalar.specs.Tree.{Node, children_of}
 use Rattle.yq_scalar.specs.Answers.{◌>>=◌}
@@ -58,9 +59,6 @@ room_by_part t u i h = record {
   block = ap part_is_block h;
   has = λ place steps. ap (λ o. seat_has_room (comment_part place) (o >>= λ p. seat_of steps p.rows)) h;
 }
-
-some_document : {x y : Document} → Some x ≡ Some y → x ≡ y
-some_document e = cc
 
 keeps_block : (op : Operation) (root : Node) → SetsComment op → KeepsBlock op root
 keeps_block (replace doc steps v) root h = absurd h
@@ -135,7 +133,7 @@ module _ (op : Operation) (c : Cut) (p q : Part) (lead : List (List ℕ)) (f : N
           ∙ (h.seats sets (comment_part place) steps ∙ ap (λ o. seat_has_room (comment_part place) (o >>= λ x. seat_of steps x.rows)) (sym old_part));
     };
     block = λ d at keeps.
-        let is : reading.document_of q ≡ d = some_document (sym (nth_map k q reading.document_of (document_parts (cut_of u)) new_part) ∙ at) in
+        let is : reading.document_of q ≡ d = same_Some _ _ (sym (nth_map k q reading.document_of (document_parts (cut_of u)) new_part) ∙ at) in
         block_stays (subst (λ (e : Document). KeepsBlock op e.root) (sym is) keeps);
   }
 

@@ -1,10 +1,11 @@
 -- What an operation that fits says of its value, its key, the anchors that go, and the node that gives way.
 use Rattle.std.proofs.Common.{inl, inr, ◌≡◌, ℕ, ◌+◌, ◌≤◌, Bool, true, false, ◌||◌, cond, List, [], ◌∷◌, ◌++◌, length, Option, Some, None, refl, sym, ap, ◌∙◌, subst, arith}
-use Rattle.std.proofs.lemmas.Bool.{false≢true, ltb-false}
+use Rattle.std.proofs.lemmas.Bool.{false≢true, ltb-false, or_parts}
 use Rattle.std.proofs.lemmas.Slice.Eq.{bytes_eq-Decides}
 use Rattle.std.specs.List.{list_any, slice_get}
 use Rattle.std.proofs.lemmas.List.Elements.{All-cons}
 use Rattle.std.proofs.lemmas.List.Kept.{AllPairs-cons}
+use Rattle.std.proofs.lemmas.Option.{none-some}
 use Rattle.std.specs.Prelude.{◌≢◌, All, AllPairs}
 use Rattle.std.specs.Str.{bytes_eq, chars}
 use Rattle.yq_scalar.specs.Answers.{◌>>=◌}
@@ -37,14 +38,6 @@ use Rattle.yq_ways.specs.Replacing.{node_in}
 use Rattle.yq_ways.proofs.DoneLaws.{nth_map}
 
 -- ---- values
-
-or_first : (a b : Bool) → (a || b) ≡ false → a ≡ false
-or_first true b h = absurd (false≢true (sym h))
-or_first false b h = refl
-
-or_second : (a b : Bool) → (a || b) ≡ false → b ≡ false
-or_second true b h = absurd (false≢true (sym h))
-or_second false b h = h
 
 mutual
   pub value_names : (v : Node) → IsValueTree v → names_of v ≡ []
@@ -108,16 +101,13 @@ mutual
   each_near : (keyed : Bool) (cs : Children) → AreValueTrees keyed cs → have_long_key cs ≡ false → EachHasNearKeys cs
   each_near keyed tree.none h long = tt
   each_near keyed (tree.child label n cs) h long =
-      let others = or_second (is_long label.key) (has_long_key n || have_long_key cs) long in (
-        label_near keyed label h.0 (or_first (is_long label.key) (has_long_key n || have_long_key cs) long),
-        near_keys n h.1 (or_first (has_long_key n) (have_long_key cs) others),
-        each_near keyed cs h.2 (or_second (has_long_key n) (have_long_key cs) others),
+      let others = (or_parts (is_long label.key) (has_long_key n || have_long_key cs) long).1 in (
+        label_near keyed label h.0 (or_parts (is_long label.key) (has_long_key n || have_long_key cs) long).0,
+        near_keys n h.1 (or_parts (has_long_key n) (have_long_key cs) others).0,
+        each_near keyed cs h.2 (or_parts (has_long_key n) (have_long_key cs) others).1,
       )
 
 -- a key that a mapping hasn't
-some_none : {A : Type 0} {x : A} → Some x ≡ None → ⊥
-some_none e = cc
-
 same_bytes : (a : List ℕ) → bytes_eq a a ≡ true
 same_bytes a = (bytes_eq-Decides a a).1 refl
 
@@ -131,7 +121,7 @@ new_key k tree.none e among = among
 new_key k (tree.child label n cs) e among = go (key_is k label.key) refl (new_key k cs)
   where
     go : (b : Bool) → key_is k label.key ≡ b → (child_at (To k) cs ≡ None → IsAmong k (keys_of cs) → ⊥) → ⊥
-    go true here ih = some_none (ap (λ x. cond x (Some n) (child_at (To k) cs)) (sym here) ∙ e)
+    go true here ih = none-some _ (sym (ap (λ x. cond x (Some n) (child_at (To k) cs)) (sym here) ∙ e))
     go false here ih = key_other k label.key (keys_of cs) here (ih (ap (λ x. cond x (Some n) (child_at (To k) cs)) (sym here) ∙ e)) among
 
 -- ---- anchors that go
@@ -139,14 +129,14 @@ new_key k (tree.child label n cs) e among = go (key_is k label.key) refl (new_ke
 none_refers : (a : List ℕ) (names : List Name) → list_any (refers_to a) names ≡ false → IsAmong a (aliases_in names) → ⊥
 none_refers a [] h among = among
 none_refers a (Anchors b ∷ names) h among = none_refers a names h among
-none_refers a (Refers b ∷ names) h (inl same) = absurd (false≢true (sym (or_first (bytes_eq a b) (list_any (refers_to a) names) h) ∙ (ap (bytes_eq a) (sym same) ∙ same_bytes a)))
-none_refers a (Refers b ∷ names) h (inr more) = none_refers a names (or_second (bytes_eq a b) (list_any (refers_to a) names) h) more
+none_refers a (Refers b ∷ names) h (inl same) = absurd (false≢true (sym (or_parts (bytes_eq a b) (list_any (refers_to a) names) h).0 ∙ (ap (bytes_eq a) (sym same) ∙ same_bytes a)))
+none_refers a (Refers b ∷ names) h (inr more) = none_refers a names (or_parts (bytes_eq a b) (list_any (refers_to a) names) h).1 more
 
 pub not_used : (names gone : List Name) → list_any (is_used names) gone ≡ false → AreSpared gone [] names
 not_used names [] h a among others = among
 not_used names (Anchors b ∷ gone) h a (inl same) others =
-    none_refers b names (or_first (list_any (refers_to b) names) (list_any (is_used names) gone) h) (subst (λ (x : List ℕ). IsAmong x (aliases_in names)) same others)
-not_used names (Anchors b ∷ gone) h a (inr more) others = not_used names gone (or_second (list_any (refers_to b) names) (list_any (is_used names) gone) h) a more others
+    none_refers b names (or_parts (list_any (refers_to b) names) (list_any (is_used names) gone) h).0 (subst (λ (x : List ℕ). IsAmong x (aliases_in names)) same others)
+not_used names (Anchors b ∷ gone) h a (inr more) others = not_used names gone (or_parts (list_any (refers_to b) names) (list_any (is_used names) gone) h).1 a more others
 not_used names (Refers b ∷ gone) h a among others = not_used names gone h a among others
 
 -- what goes with a node that is exchanged, and with one that is removed

@@ -1,6 +1,6 @@
 -- What is written of a value in flow style is the inline node of that value, and a piece of a text.
 use Rattle.std.proofs.Common.{◌≡◌, ◌≢◌, ℕ, ◌||◌, eqb, List, [], ◌∷◌, Option, Some, None, Bool, true, false, cond, refl, sym, ap, ◌∙◌, subst}
-use Rattle.std.proofs.lemmas.Bool.{false≢true, ltb-false}
+use Rattle.std.proofs.lemmas.Bool.{false≢true, ltb-false, or_parts}
 use Rattle.std.specs.Prelude.{codes}
 use Rattle.std.specs.Str.{chars}
 use Rattle.yq_scalar.specs.PlainText.{is_plain_text}
@@ -15,10 +15,6 @@ use Rattle.yq_scalar.proofs.PlainSpells.{writable_text}
 use Rattle.yq_inline.specs.Written.{scalar_text, flow_key, flow_of, flow_items}
 use Rattle.yq_documents.specs.Documents.{HasFitKey, HasFitKeys, EachHasFitKeys}
 use Rattle.yq_meaning.specs.Changes.{is_long, has_long_key, have_long_key}
-
-or_parts : (x y : Bool) → (x || y) ≡ false → (x ≡ false) × (y ≡ false)
-or_parts false y h = (refl, h)
-or_parts true y h = absurd (false≢true (sym h))
 
 -- a key doesn't merge
 plain_apart : (k : List ℕ) → is_plain_text true k ≡ true → k ≡ 60 ∷ 60 ∷ [] → ⊥

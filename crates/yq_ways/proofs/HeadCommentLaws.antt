@@ -1,8 +1,9 @@
 -- A head comment set: the text reads as the documents after that.
 use Rattle.std.proofs.Common.{◌≡◌, ◌⊎◌, inl, inr, ℕ, zero, suc, ◌≤◌, Bool, true, false, ◌&&◌, cond, eqb, List, [], ◌∷◌, ◌++◌, length, map, take, drop, replicate, Option, Some, option_map, refl, sym, ap, ◌∙◌, subst, append_assoc, append-nil}
 use Rattle.std.proofs.Math.Seq.{take-append_seam}
-use Rattle.std.proofs.lemmas.Bool.{false≢true, eqb-true}
+use Rattle.std.proofs.lemmas.Bool.{false≢true, eqb-true, and_parts, cases_Bool, or_parts}
 use Rattle.std.proofs.lemmas.List.{map-append}
+use Rattle.std.proofs.lemmas.Option.{none-some, same_Some}
 use Rattle.std.proofs.lemmas.Str.{IsUtf8-take}
 use Rattle.std.specs.Str.{IsUtf8}
 use Rattle.yq_scalar.specs.BlockWritten.{break_text}
@@ -11,7 +12,7 @@ use Rattle.yq_scalar.specs.Paths.{Step, change, relabel_child, within}
 use Rattle.yq_scalar.specs.Text.{front, is_white, is_feed, is_return, is_break, is_empty, ends_line, past_white, no_white, joined, lines_of}
 use Rattle.yq_scalar.specs.Text as text
 use Rattle.yq_scalar.specs.declared.block_written.Break.{Break}
-use Rattle.yq_scalar.proofs.Bools.{bind_some, guard_then, is_true, and_true, or_false}
+use Rattle.yq_scalar.proofs.Bools.{bind_some, guard_then}
 use Rattle.yq_lines.specs.Comments.{are_comments}
 use Rattle.yq_lines.specs.Group.{group}
 use Rattle.yq_rows.specs.Grammar.{IsCut}
@@ -32,7 +33,7 @@ use Rattle.yq_documents.specs.Seats.{seat_of}
 use Rattle.yq_documents.specs.TreeEdits.{at_end, with_head_comment}
 use Rattle.yq_tree.proofs.CommentEndLaws.{gap_split, run_ascii}
 use Rattle.yq_tree.proofs.PlacedRowLaws.{IsAt}
-use Rattle.yq_tree.proofs.PrintedTexts.{map_some, none_some}
+use Rattle.yq_tree.proofs.PrintedTexts.{map_some}
 use Rattle.yq_tree.proofs.SeamLaws.{IsSeam, seam_boundary, seam_then, gap_seam, row_seam}
 use Rattle.yq_change.specs.Changed.{put_document}
 use Rattle.yq_change.specs.DocumentRows.{behind_document}
@@ -76,10 +77,7 @@ above : (doc : ℕ) (steps : List Step) (c : Cut) (e : LinesAbove) → lines_abo
 above doc steps c e h =
     let w = bind_some (row_of_path doc steps c) h in
     let t = guard_then (eqb w.0.line 0) w.2 in
-    record { w = w.0; found = row_found doc steps c w.0 w.1; first = eqb-true w.0.line 0 t.0; is = above_same t.1 }
-  where
-    above_same : {x y : LinesAbove} → Some x ≡ Some y → x ≡ y
-    above_same e = cc
+    record { w = w.0; found = row_found doc steps c w.0 w.1; first = eqb-true w.0.line 0 t.0; is = same_Some _ _ t.1 }
 
 gap_text : (w : PlacedRow) → w.before ++ print_row w.row w.behind ≡ (w.before ++ joined (before_run (lines_of w.row.gap))) ++ (joined (last_run (lines_of w.row.gap)) ++ behind_gap w.row w.behind)
 gap_text w =
@@ -102,7 +100,7 @@ segments_new br text e = ap (λ l. e.before ++ (head_lines e.column br (head_of 
 comment_no_feed : (l rest : List ℕ) → front (λ b. eqb b 35) (past_white l) ≡ true → front is_feed (l ++ rest) ≡ false
 unfolding text.upto
 comment_no_feed [] rest h = absurd (false≢true h)
-comment_no_feed (b ∷ l) rest h = go (is_true (is_feed b))
+comment_no_feed (b ∷ l) rest h = go (cases_Bool (is_feed b))
   where
     go : (is_feed b ≡ true) ⊎ (is_feed b ≡ false) → is_feed b ≡ false
     go (inr e) = e
@@ -113,12 +111,12 @@ run_no_feed [] rest h = h
 run_no_feed (l ∷ ls) rest h = go (are_comments (l ∷ ls)) refl (run_no_feed ls rest h)
   where
     go : (b : Bool) → are_comments (l ∷ ls) ≡ b → front is_feed (joined (last_run ls) ++ rest) ≡ false → front is_feed (joined (cond b (l ∷ ls) (last_run ls)) ++ rest) ≡ false
-    go true e k = ap (front is_feed) (append_assoc l (joined ls) rest) ∙ comment_no_feed l (joined ls ++ rest) (and_true (front (λ b. eqb b 35) (past_white l)) (are_comments ls) e).0
+    go true e k = ap (front is_feed) (append_assoc l (joined ls) rest) ∙ comment_no_feed l (joined ls ++ rest) (and_parts (front (λ b. eqb b 35) (past_white l)) (are_comments ls) e).0
     go false e k = k
 
 start_no_feed : (t : List ℕ) → Starts t → front is_feed t ≡ false
 start_no_feed [] s = refl
-start_no_feed (b ∷ t) s = (or_false (is_feed b) (is_return b && front is_feed t) s.no_end).0
+start_no_feed (b ∷ t) s = (or_parts (is_feed b) (is_return b && front is_feed t) s.no_end).0
 
 row_no_feed : (n : ℕ) (t : List ℕ) → Starts t → front is_feed (replicate n 32 ++ t) ≡ false
 row_no_feed zero t s = start_no_feed t s
@@ -220,20 +218,20 @@ pub head_comment_is_way : IsWay head_comment_way
 head_comment_is_way = record { old = olds; reads = news }
   where
     olds : (op : Operation) (c : Cut) (ss : List Segment) → read_at (cut_text c) ≡ Some c → head_comment_way op c ≡ Some ss → old_text ss ≡ cut_text c
-    olds (replace doc steps v) c ss read h = absurd (none_some h)
-    olds (append doc steps key v) c ss read h = absurd (none_some h)
-    olds (remove doc steps) c ss read h = absurd (none_some h)
-    olds (line_comment doc steps text) c ss read h = absurd (none_some h)
+    olds (replace doc steps v) c ss read h = absurd (none-some _ h)
+    olds (append doc steps key v) c ss read h = absurd (none-some _ h)
+    olds (remove doc steps) c ss read h = absurd (none-some _ h)
+    olds (line_comment doc steps text) c ss read h = absurd (none-some _ h)
     olds (head_comment doc steps text) c ss read h =
         let x = segments_of (break_text (first_break (cut_text c))) text (lines_above doc steps c) ss h in
         ap old_text (sym x.2) ∙ (segments_old (break_text (first_break (cut_text c))) text x.0 ∙ sym (above_text doc steps c x.0 (above doc steps c x.0 x.1)))
 
     news : (op : Operation) (c : Cut) (ss : List Segment) → read_at (cut_text c) ≡ Some c → head_comment_way op c ≡ Some ss → HasOperand op → Fits (room_of (cut_text c)) op (documents c) →
         length (new_text ss) ≤ text_limit → ReadsAfter op c (new_text ss)
-    news (replace doc steps v) c ss read h operand fits size = absurd (none_some h)
-    news (append doc steps key v) c ss read h operand fits size = absurd (none_some h)
-    news (remove doc steps) c ss read h operand fits size = absurd (none_some h)
-    news (line_comment doc steps text) c ss read h operand fits size = absurd (none_some h)
+    news (replace doc steps v) c ss read h operand fits size = absurd (none-some _ h)
+    news (append doc steps key v) c ss read h operand fits size = absurd (none-some _ h)
+    news (remove doc steps) c ss read h operand fits size = absurd (none-some _ h)
+    news (line_comment doc steps text) c ss read h operand fits size = absurd (none-some _ h)
     news (head_comment doc steps text) c ss read h operand fits size =
         let x = segments_of (break_text (first_break (cut_text c))) text (lines_above doc steps c) ss h in
         subst (λ (ss : List Segment). ReadsAfter (head_comment doc steps text) c (new_text ss)) x.2

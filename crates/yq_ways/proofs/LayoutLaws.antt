@@ -1,9 +1,8 @@
 -- The steps of a document's layout.
 use Rattle.std.proofs.Common.{◌≡◌, ℕ, ◌+◌, ◌*◌, ◌-◌, ◌<◌, ◌≤◌, ◌&&◌, Bool, true, false, cond, List, [], ◌∷◌, Option, Some, None, refl, sym, ap, ◌∙◌, arith}
-use Rattle.std.proofs.lemmas.Bool.{false≢true, ltb-true}
+use Rattle.std.proofs.lemmas.Bool.{false≢true, ltb-true, and_parts}
 use Rattle.std.specs.Prelude.{nat_lt}
 use Rattle.std.specs.List.{slice_get}
-use Rattle.yq_scalar.proofs.Bools.{and_true}
 use Rattle.yq_lines.specs.Outline.{Mark, Bare, Key, Dash, Line, level, rank}
 use Rattle.yq_rows.specs.Rows.{Part, Cut}
 use Rattle.yq_documents.specs.Documents.{document_parts}
@@ -17,10 +16,10 @@ unfolding level
 key_step l m h = go l.mark m.mark refl refl
   where
     one : (is_key l.mark ≡ true) × ((is_kind false m.mark && nat_lt (level l) (level m)) ≡ true)
-    one = and_true (is_key l.mark) (is_kind false m.mark && nat_lt (level l) (level m)) h
+    one = and_parts (is_key l.mark) (is_kind false m.mark && nat_lt (level l) (level m)) h
 
     two : (is_kind false m.mark ≡ true) × (nat_lt (level l) (level m) ≡ true)
-    two = and_true (is_kind false m.mark) (nat_lt (level l) (level m)) one.1
+    two = and_parts (is_kind false m.mark) (nat_lt (level l) (level m)) one.1
 
     less : 3 * l.column + rank l.mark < 3 * m.column + rank m.mark
     less = ltb-true (level l) (level m) two.1

@@ -1,8 +1,9 @@
 -- A line comment set: the text reads as the documents after that.
 use Rattle.std.proofs.Common.{◌≡◌, ◌⊎◌, inl, inr, ⊎_elim, ℕ, ◌+◌, ◌<◌, ◌≤◌, Bool, true, false, ◌&&◌, ◌||◌, not, cond, eqb, List, [], ◌∷◌, ◌++◌, length, map, take, drop, Option, Some, None, option_map, refl, sym, ap, ◌∙◌, subst, arith, append_assoc, append-nil}
 use Rattle.std.proofs.Math.Seq.{take-append_seam}
-use Rattle.std.proofs.lemmas.Bool.{false≢true, or_cases, eqb-true}
+use Rattle.std.proofs.lemmas.Bool.{false≢true, or_cases, eqb-true, and_parts, cases_Bool, not-true}
 use Rattle.std.proofs.lemmas.List.{map-append}
+use Rattle.std.proofs.lemmas.Option.{none-some, same_Some}
 use Rattle.std.proofs.lemmas.Str.{IsUtf8-take}
 use Rattle.std.specs.Str.{IsUtf8}
 use Rattle.yq_scalar.specs.Block.{is_tail}
@@ -10,7 +11,7 @@ use Rattle.yq_scalar.specs.Characters.{pairs_returns, text_limit}
 use Rattle.yq_scalar.specs.Lines.{is_blank, is_hash}
 use Rattle.yq_scalar.specs.Paths.{Step, change, relabel_child, within}
 use Rattle.yq_scalar.specs.Text.{front, is_white, is_feed, is_return, is_break, is_line, is_empty, ends_line, no_white, past_white, NoneIn}
-use Rattle.yq_scalar.proofs.Bools.{bind_some, guard_then, is_true, and_true}
+use Rattle.yq_scalar.proofs.Bools.{bind_some, guard_then}
 use Rattle.yq_scalar.proofs.WrittenText.{is_shown}
 use Rattle.yq_lines.specs.Comments.{line_comment as comment_in, head_comment as head_in}
 use Rattle.yq_rows.specs.Exchange.{with_content}
@@ -32,7 +33,7 @@ use Rattle.yq_tree.specs.RowPaths.{IsReadable}
 use Rattle.yq_documents.specs.TreeEdits.{at_end, with_line_comment}
 use Rattle.yq_tree.proofs.CommentEndLaws.{row_line}
 use Rattle.yq_tree.proofs.LineEndLaws.{line_tail, end_of_tail, tail_is_end}
-use Rattle.yq_tree.proofs.PrintedTexts.{map_some, none_some}
+use Rattle.yq_tree.proofs.PrintedTexts.{map_some}
 use Rattle.yq_change.specs.Appends.{inserted}
 use Rattle.yq_change.specs.Changed.{put_document}
 use Rattle.yq_change.specs.DocumentRows.{behind_document}
@@ -76,10 +77,7 @@ pub place : (doc : ℕ) (steps : List Step) (c : Cut) (e : LineEnd) → line_end
 place doc steps c e h =
     let w = bind_some (row_of_path doc steps c) h in
     let t = guard_then (eqb w.0.line (length w.0.row.dashes)) w.2 in
-    record { w = w.0; found = row_found doc steps c w.0 w.1; last = eqb-true w.0.line (length w.0.row.dashes) t.0; is = end_same t.1 }
-  where
-    end_same : {x y : LineEnd} → Some x ≡ Some y → x ≡ y
-    end_same e = cc
+    record { w = w.0; found = row_found doc steps c w.0 w.1; last = eqb-true w.0.line (length w.0.row.dashes) t.0; is = same_Some _ _ t.1 }
 
 -- the text of the cut by its parts there
 pub place_text : (doc : ℕ) (steps : List Step) (c : Cut) (e : LineEnd) → IsPlace doc steps c e → cut_text c ≡ e.before ++ (e.white ++ (e.comment ++ e.behind))
@@ -175,7 +173,7 @@ module _ (text tail more : List ℕ) (h : IsTail tail more) (quiet : Rattle.yq_s
 
   no_hash : (t : List ℕ) → ends_line t ≡ true → front (λ b. eqb b 35) t ≡ false
   no_hash [] e = refl
-  no_hash (b ∷ t) e = go (is_true (eqb b 35))
+  no_hash (b ∷ t) e = go (cases_Bool (eqb b 35))
     where
       go : (eqb b 35 ≡ true) ⊎ (eqb b 35 ≡ false) → eqb b 35 ≡ false
       go (inr f) = f
@@ -226,21 +224,17 @@ module _ (text tail more : List ℕ) (h : IsTail tail more) (quiet : Rattle.yq_s
       ⊎_elim {0, 0, 0}
       (λ (e : is_empty (new_comment text) ≡ true). let k : is_blank tail_then ≡ true = ap ends_line past ∙ (ends ∙ e) in rw (new_line, k) refl)
       (λ (e : is_empty (new_comment text) ≡ false).
-      let some : is_empty (new_white text h.white h.comment) ≡ false = not_true (is_empty (new_white text h.white h.comment)) (ap (λ x. x || not (is_empty (new_white text h.white h.comment))) (sym e) ∙ apart) in
+      let some : is_empty (new_white text h.white h.comment) ≡ false = not-true (is_empty (new_white text h.white h.comment)) (ap (λ x. x || not (is_empty (new_white text h.white h.comment))) (sym e) ∙ apart) in
       let k : (front is_white tail_then && is_hash (past_white tail_then)) ≡ true = rw (white_front (new_white text h.white h.comment) (new_comment text ++ h.line.break) blank some) (ap is_hash past ∙ hash_front (new_comment text) remark e) in
       rw (new_line, k) (Rattle.std.proofs.lemmas.Bool.or_right (is_blank tail_then) true refl))
-      (is_true (is_empty (new_comment text)))
-    where
-      not_true : (b : Bool) → not b ≡ true → b ≡ false
-      not_true true e = absurd (false≢true e)
-      not_true false e = refl
+      (cases_Bool (is_empty (new_comment text)))
 
 -- a content with that end of its line
 line_tail_is : (n : Rattle.std.proofs.Common.ℤ) (text : List ℕ) (c : Content) (rest : List ℕ) (h : IsTail (content_cut c).4 ((content_cut c).5 ++ rest)) → IsContent n c rest → (quiet : Rattle.yq_scalar.proofs.Bytes.Each Rattle.yq_scalar.proofs.WrittenText.no_break text) →
     IsLineTail (tail_then text (content_cut c).4 ((content_cut c).5 ++ rest) h quiet) c rest
 line_tail_is n text (Nothing tail) rest h k quiet = new_tail text tail rest h quiet
 line_tail_is n text (Inline space node tail) rest h k quiet = new_tail text tail rest h quiet
-line_tail_is n text (Block space anchor block) rest h k quiet = in_header text block.tail _ h quiet (and_true (is_line block.tail) _ k.2.tail).0
+line_tail_is n text (Block space anchor block) rest h k quiet = in_header text block.tail _ h quiet (and_parts (is_line block.tail) _ k.2.tail).0
 
 -- ---- the row and the part then
 
@@ -284,7 +278,7 @@ shapes_same front r back tail p q e n =
 
 none_clean : (c rest : List ℕ) → NoneIn ends_line c rest → front is_feed rest ≡ true → ends_return c ≡ false
 none_clean [] rest h f = refl
-none_clean (b ∷ []) rest h f = go (is_true (is_return b))
+none_clean (b ∷ []) rest h f = go (cases_Bool (is_return b))
   where
     go : (is_return b ≡ true) ⊎ (is_return b ≡ false) → is_return b ≡ false
     go (inr e) = e
@@ -313,7 +307,7 @@ pieces w limit row whole h =
     let line : List ℕ = h.white ++ h.comment in
     let behind : List ℕ = h.line.break ++ more in
     let text : IsPiece (front_text ++ (tail ++ more)) = subst IsPiece (line_whole w) whole in
-    let pairs : pairs_returns (print_row w.row w.behind) ≡ true = pairs_back w.before (print_row w.row w.behind) (and_true _ (pairs_returns (w.before ++ print_row w.row w.behind)) whole.characters).1 in
+    let pairs : pairs_returns (print_row w.row w.behind) ≡ true = pairs_back w.before (print_row w.row w.behind) (and_parts _ (pairs_returns (w.before ++ print_row w.row w.behind)) whole.characters).1 in
     let first = clean_cut front_text (tail ++ more) text (front_utf8 front_text (tail ++ more) text (tail_ascii tail more h))
     (λ f. ends_more w.before (line_text w.row) (line_some limit w.row w.behind row h) ∙ line_ends_clean limit w.row w.behind row pairs f) in
     let split : tail ++ more ≡ line ++ behind =
@@ -404,20 +398,20 @@ pub line_comment_is_way : IsWay line_comment_way
 line_comment_is_way = record { old = olds; reads = news }
   where
     olds : (op : Operation) (c : Cut) (ss : List Segment) → read_at (cut_text c) ≡ Some c → line_comment_way op c ≡ Some ss → old_text ss ≡ cut_text c
-    olds (replace doc steps v) c ss read h = absurd (none_some h)
-    olds (append doc steps key v) c ss read h = absurd (none_some h)
-    olds (remove doc steps) c ss read h = absurd (none_some h)
-    olds (head_comment doc steps text) c ss read h = absurd (none_some h)
+    olds (replace doc steps v) c ss read h = absurd (none-some _ h)
+    olds (append doc steps key v) c ss read h = absurd (none-some _ h)
+    olds (remove doc steps) c ss read h = absurd (none-some _ h)
+    olds (head_comment doc steps text) c ss read h = absurd (none-some _ h)
     olds (line_comment doc steps text) c ss read h =
         let x = segments_of text (line_end doc steps c) ss h in
         ap old_text (sym x.2) ∙ (segments_old text x.0 ∙ sym (place_text doc steps c x.0 (place doc steps c x.0 x.1)))
 
     news : (op : Operation) (c : Cut) (ss : List Segment) → read_at (cut_text c) ≡ Some c → line_comment_way op c ≡ Some ss → HasOperand op → Fits (room_of (cut_text c)) op (Rattle.yq_documents.specs.Reading.documents c) →
         length (new_text ss) ≤ text_limit → ReadsAfter op c (new_text ss)
-    news (replace doc steps v) c ss read h operand fits size = absurd (none_some h)
-    news (append doc steps key v) c ss read h operand fits size = absurd (none_some h)
-    news (remove doc steps) c ss read h operand fits size = absurd (none_some h)
-    news (head_comment doc steps text) c ss read h operand fits size = absurd (none_some h)
+    news (replace doc steps v) c ss read h operand fits size = absurd (none-some _ h)
+    news (append doc steps key v) c ss read h operand fits size = absurd (none-some _ h)
+    news (remove doc steps) c ss read h operand fits size = absurd (none-some _ h)
+    news (head_comment doc steps text) c ss read h operand fits size = absurd (none-some _ h)
     news (line_comment doc steps text) c ss read h operand fits size =
         let x = segments_of text (line_end doc steps c) ss h in
         subst (λ (ss : List Segment). ReadsAfter (line_comment doc steps text) c (new_text ss)) x.2

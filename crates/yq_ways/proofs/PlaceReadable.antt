@@ -1,6 +1,7 @@
 -- The text round a place may be read with another text there, if it isn't too long.
 use Rattle.std.proofs.Common.{◌≡◌, inl, inr, ℕ, ℤ, ◌≤◌, eqb, not, cond, replicate, List, [], ◌∷◌, ◌++◌, length, Option, Some, None, Bool, true, false, refl, sym, ap, ◌∙◌, subst, append-nil, eqb-true}
 use Rattle.std.proofs.lemmas.Bool.{false≢true, false_from_ne_true}
+use Rattle.std.proofs.lemmas.Option.{none-some, same_Some}
 use Rattle.std.proofs.lemmas.Str.{IsUtf8-append, is_utf8-from_IsUtf8}
 use Rattle.std.specs.Str.{chars, IsUtf8}
 use lib.Utf8.{encode}
@@ -22,7 +23,6 @@ use Rattle.yq_documents.specs.Reading.{read_at}
 use Rattle.yq_tree.specs.RowPaths.{IsReadable}
 use Rattle.yq_tree.proofs.HeldScalars.{behind_utf8}
 use Rattle.yq_tree.proofs.PrintedLaws.{document_is}
-use Rattle.yq_tree.proofs.PrintedTexts.{same, none_some}
 use Rattle.yq_tree.proofs.ReadLaws.{text_takes}
 use Rattle.yq_tree.proofs.RunSpans.{rows_then}
 use Rattle.yq_change.specs.DocumentRows.{IsDocumentPart, behind_document}
@@ -85,10 +85,10 @@ node_front alone before (anchored n g node) rest spaces d h ends = node_front al
 
 -- behind a mark
 mark_front : (alone : Bool) (before : List ℕ) (x : Content) (rest : List ℕ) (n : ℤ) (w : InlinePlace) → IsContent n x rest → (may_be_alone x ≡ false → EndsBlack before) → mark_inline alone before x rest ≡ Some w → MayPut w
-mark_front alone before (Nothing tail) rest n w h ends e = subst MayPut (same e) (ends refl)
+mark_front alone before (Nothing tail) rest n w h ends e = subst MayPut (same_Some _ _ e) (ends refl)
 mark_front alone before (Inline space node tail) rest n w h ends e =
-    subst MayPut (same e) (node_front alone (before ++ space) node (tail ++ rest) _ _ h.1.valid (λ bare. absurd (false≢true (sym (ap not bare) ∙ h.1.something))))
-mark_front alone before (Block space anchor block) rest n w h ends e = absurd (none_some e)
+    subst MayPut (same_Some _ _ e) (node_front alone (before ++ space) node (tail ++ rest) _ _ h.1.valid (λ bare. absurd (false≢true (sym (ap not bare) ∙ h.1.something))))
+mark_front alone before (Block space anchor block) rest n w h ends e = absurd (none-some _ e)
 
 -- ---- rows
 

@@ -1,5 +1,6 @@
 -- The first of several items or entries of a compact collection taken out of a text, by its segments.
-use Rattle.std.proofs.Common.{◌≡◌, ℕ, ◌≤◌, true, List, ◌++◌, length, Some, None, sym, ap, ◌∙◌, subst, append-nil}
+use Rattle.std.proofs.Common.{◌≡◌, ℕ, ◌≤◌, true, List, ◌++◌, length, Some, sym, ap, ◌∙◌, subst, append-nil}
+use Rattle.std.proofs.lemmas.Option.{none-some, same_Some}
 use Rattle.yq_scalar.specs.Characters.{text_limit}
 use Rattle.yq_scalar.specs.Paths.{Step}
 use Rattle.yq_scalar.proofs.Bools.{bind_some, guard_then}
@@ -25,17 +26,11 @@ record IsFirstRemoval (doc : ℕ) (steps : List Step) (c : Cut) (ss : List Segme
   pub place : first_removal doc steps c ≡ Some x
   pub are : first_removed x ≡ ss
 
-some_same : {A : Type 0} {x y : A} → Some x ≡ Some y → x ≡ y
-some_same e = cc
-
-none_some : {A : Type 0} {x : A} → None ≡ Some x → ⊥
-none_some e = cc
-
 removal_is : (doc : ℕ) (steps : List Step) (c : Cut) (ss : List Segment) → first_removed_at doc steps c ≡ Some ss → IsFirstRemoval doc steps c ss
 removal_is doc steps c ss e =
     let g = guard_then (has_others_at doc steps c) e in
     let x = bind_some (first_removal doc steps c) g.1 in
-    record { others = g.0; x = x.0; place = x.1; are = some_same x.2 }
+    record { others = g.0; x = x.0; place = x.1; are = same_Some _ _ x.2 }
 
 removed_old : (x : FirstOut) → old_text (first_removed x) ≡ x.before ++ (x.space ++ (x.entry ++ (x.break ++ (x.indent ++ x.behind))))
 removed_old x = ap (λ (t : List ℕ). x.before ++ (x.space ++ (x.entry ++ (x.break ++ (x.indent ++ t))))) (append-nil x.behind)
@@ -58,17 +53,17 @@ remove_first_is = record {
 }
   where
     old : (op : Operation) (c : Cut) (ss : List Segment) → read_at (cut_text c) ≡ Some c → remove_first_way op c ≡ Some ss → old_text ss ≡ cut_text c
-    old (replace doc steps v) c ss read e = absurd (none_some e)
-    old (append doc steps key v) c ss read e = absurd (none_some e)
+    old (replace doc steps v) c ss read e = absurd (none-some _ e)
+    old (append doc steps key v) c ss read e = absurd (none-some _ e)
     old (remove doc steps) c ss read e =
         let h = removal_is doc steps c ss e in ap old_text (sym h.are) ∙ (removed_old h.x ∙ sym (first_stands c doc steps h.x h.place))
-    old (line_comment doc steps text) c ss read e = absurd (none_some e)
-    old (head_comment doc steps text) c ss read e = absurd (none_some e)
+    old (line_comment doc steps text) c ss read e = absurd (none-some _ e)
+    old (head_comment doc steps text) c ss read e = absurd (none-some _ e)
 
     reads : (op : Operation) (c : Cut) (ss : List Segment) → read_at (cut_text c) ≡ Some c → remove_first_way op c ≡ Some ss → HasOperand op → Fits (room_of (cut_text c)) op (documents c) →
         length (new_text ss) ≤ text_limit → ReadsAfter op c (new_text ss)
-    reads (replace doc steps v) c ss read e holds fits size = absurd (none_some e)
-    reads (append doc steps key v) c ss read e holds fits size = absurd (none_some e)
+    reads (replace doc steps v) c ss read e holds fits size = absurd (none-some _ e)
+    reads (append doc steps key v) c ss read e holds fits size = absurd (none-some _ e)
     reads (remove doc steps) c ss read e holds fits size = reads_after doc steps c ss read (removal_is doc steps c ss e) fits size
-    reads (line_comment doc steps text) c ss read e holds fits size = absurd (none_some e)
-    reads (head_comment doc steps text) c ss read e holds fits size = absurd (none_some e)
+    reads (line_comment doc steps text) c ss read e holds fits size = absurd (none-some _ e)
+    reads (head_comment doc steps text) c ss read e holds fits size = absurd (none-some _ e)

@@ -1,7 +1,8 @@
 -- One of several items or entries taken out of a text, by its segments.
 use Rattle.std.proofs.Common.{◌≡◌, inl, inr, ℕ, zero, suc, ◌-◌, ◌≤◌, Bool, true, false, cond, ◌||◌, List, [], ◌∷◌, ◌++◌, length, take, map, replicate, Option, Some, None, refl, sym, ap, ◌∙◌, subst, append_assoc, append-nil}
-use Rattle.std.proofs.lemmas.Bool.{false≢true}
+use Rattle.std.proofs.lemmas.Bool.{false≢true, or_parts}
 use Rattle.std.proofs.lemmas.List.{take-append-drop}
+use Rattle.std.proofs.lemmas.Option.{none-some, same_Some}
 use Rattle.std.proofs.lemmas.Slice.Eq.{bytes_eq-Decides}
 use Rattle.std.specs.List.{list_any, slice_get}
 use Rattle.std.specs.Str.{bytes_eq}
@@ -13,7 +14,7 @@ use Rattle.yq_scalar.specs.Lines.{is_blank}
 use Rattle.yq_scalar.specs.Paths.{Step, node_at, remove_child}
 use Rattle.yq_scalar.specs.Text.{cut, no_white, past_white, upto, joined, lines_of}
 use Rattle.yq_scalar.specs.Tree.{Node}
-use Rattle.yq_scalar.proofs.Bools.{bind_some, guard_then, or_false}
+use Rattle.yq_scalar.proofs.Bools.{bind_some, guard_then}
 use Rattle.yq_scalar.proofs.LineLaws.{joined_lines}
 use Rattle.yq_scalar.specs.Anchors.{Name, Anchors, Refers, names_of, IsAmong}
 use Rattle.yq_rows.specs.Rows.{Part, Cut, cut_text}
@@ -112,17 +113,11 @@ record IsRemoval (doc : ℕ) (steps : List Step) (c : Cut) (ss : List Segment) :
   pub place : removal_place doc steps c ≡ Some x
   pub are : removed x ≡ ss
 
-some_same : {A : Type 0} {x y : A} → Some x ≡ Some y → x ≡ y
-some_same e = cc
-
-none_some : {A : Type 0} {x : A} → None ≡ Some x → ⊥
-none_some e = cc
-
 removal_is : (doc : ℕ) (steps : List Step) (c : Cut) (ss : List Segment) → removed_at doc steps c ≡ Some ss → IsRemoval doc steps c ss
 removal_is doc steps c ss e =
     let g = guard_then (has_others_at doc steps c) e in
     let x = bind_some (removal_place doc steps c) g.1 in
-    record { others = g.0; x = x.0; place = x.1; are = some_same x.2 }
+    record { others = g.0; x = x.0; place = x.1; are = same_Some _ _ x.2 }
 
 -- ---- none of its anchors is aliased
 
@@ -143,8 +138,8 @@ refers a (Refers b ∷ names) (inr h) = go (bytes_eq a b) (refers a names h)
 spared : (names gone : List Name) → list_any (is_used names) gone ≡ false → AreSpared gone [] names
 spared names [] h a among aliased = absurd among
 spared names (Anchors b ∷ gone) h a (inl e) aliased =
-    absurd (false≢true (sym (or_false (list_any (refers_to b) names) (list_any (is_used names) gone) h).0 ∙ refers b names (subst (λ (x : List ℕ). IsAmong x (aliases_in names)) e aliased)))
-spared names (Anchors b ∷ gone) h a (inr among) aliased = spared names gone (or_false (list_any (refers_to b) names) (list_any (is_used names) gone) h).1 a among aliased
+    absurd (false≢true (sym (or_parts (list_any (refers_to b) names) (list_any (is_used names) gone) h).0 ∙ refers b names (subst (λ (x : List ℕ). IsAmong x (aliases_in names)) e aliased)))
+spared names (Anchors b ∷ gone) h a (inr among) aliased = spared names gone (or_parts (list_any (refers_to b) names) (list_any (is_used names) gone) h).1 a among aliased
 spared names (Refers b ∷ gone) h a among aliased = spared names gone h a among aliased
 
 -- ---- the documents after it
@@ -152,7 +147,7 @@ spared names (Refers b ∷ gone) h a among aliased = spared names gone h a among
 -- The part of a document.
 pub part_of : (ps : List Part) (n : ℕ) (d : Document) → slice_get (map reading.document_of ps) n ≡ Some d → (p : Part) × (slice_get ps n ≡ Some p) × (reading.document_of p ≡ d)
 part_of [] n d e = absurd (cc)
-part_of (p ∷ ps) zero d e = (p, refl, some_same e)
+part_of (p ∷ ps) zero d e = (p, refl, same_Some _ _ e)
 part_of (p ∷ ps) (suc n) d e = part_of ps n d e
 
 pub may_take : (doc : ℕ) (steps : List Step) (c : Cut) → has_others_at doc steps c ≡ true → Fits (room_of (cut_text c)) (remove doc steps) (documents c) → MayTakeOut c doc steps
@@ -200,17 +195,17 @@ remove_is_way = record {
 }
   where
     old : (op : Operation) (c : Cut) (ss : List Segment) → read_at (cut_text c) ≡ Some c → remove_way op c ≡ Some ss → old_text ss ≡ cut_text c
-    old (replace doc steps v) c ss read e = absurd (none_some e)
-    old (append doc steps key v) c ss read e = absurd (none_some e)
+    old (replace doc steps v) c ss read e = absurd (none-some _ e)
+    old (append doc steps key v) c ss read e = absurd (none-some _ e)
     old (remove doc steps) c ss read e =
         let h = removal_is doc steps c ss e in ap old_text (sym h.are) ∙ (removed_old h.x ∙ sym (removal_stands c doc steps h.x read h.place))
-    old (line_comment doc steps text) c ss read e = absurd (none_some e)
-    old (head_comment doc steps text) c ss read e = absurd (none_some e)
+    old (line_comment doc steps text) c ss read e = absurd (none-some _ e)
+    old (head_comment doc steps text) c ss read e = absurd (none-some _ e)
 
     reads : (op : Operation) (c : Cut) (ss : List Segment) → read_at (cut_text c) ≡ Some c → remove_way op c ≡ Some ss → HasOperand op → Fits (room_of (cut_text c)) op (documents c) →
         length (new_text ss) ≤ text_limit → ReadsAfter op c (new_text ss)
-    reads (replace doc steps v) c ss read e holds fits size = absurd (none_some e)
-    reads (append doc steps key v) c ss read e holds fits size = absurd (none_some e)
+    reads (replace doc steps v) c ss read e holds fits size = absurd (none-some _ e)
+    reads (append doc steps key v) c ss read e holds fits size = absurd (none-some _ e)
     reads (remove doc steps) c ss read e holds fits size = reads_after doc steps c ss read (removal_is doc steps c ss e) fits size
-    reads (line_comment doc steps text) c ss read e holds fits size = absurd (none_some e)
-    reads (head_comment doc steps text) c ss read e holds fits size = absurd (none_some e)
+    reads (line_comment doc steps text) c ss read e holds fits size = absurd (none-some _ e)
+    reads (head_comment doc steps text) c ss read e holds fits size = absurd (none-some _ e)

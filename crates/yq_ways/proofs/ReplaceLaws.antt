@@ -1,6 +1,7 @@
 -- Replacing inline nodes by inline nodes is a way.
-use Rattle.std.proofs.Common.{◌≡◌, ℕ, ◌≤◌, eqb, cond, List, [], ◌++◌, length, Option, Some, None, Bool, true, false, refl, sym, ap, ◌∙◌, subst, append-nil}
+use Rattle.std.proofs.Common.{◌≡◌, ℕ, ◌≤◌, eqb, cond, List, [], ◌++◌, length, Option, Some, Bool, true, false, refl, sym, ap, ◌∙◌, subst, append-nil}
 use Rattle.std.proofs.lemmas.Bool.{false≢true}
+use Rattle.std.proofs.lemmas.Option.{none-some, same_Some}
 use Rattle.std.specs.List.{slice_get}
 use Rattle.std.specs.Str.{is_utf8}
 use Rattle.yq_scalar.specs.Characters.{text_limit}
@@ -54,12 +55,6 @@ use Rattle.yq_ways.proofs.ReplaceTexts.{place_whole, segments_old, segments_new}
 use Rattle.yq_ways.proofs.StyleLaws.{style_writes, style_inline}
 use Rattle.yq_ways.proofs.ValueNodes.{scalar_is, list_is, map_is, flow_piece}
 
-some_same : {A : Type 0} {x y : A} → Some x ≡ Some y → x ≡ y
-some_same e = cc
-
-none_some : {A : Type 0} {x : A} → None ≡ Some x → ⊥
-none_some e = cc
-
 -- ---- what is written of a value
 
 -- A text that is written inline for a value, by its node.
@@ -85,15 +80,15 @@ scalar_for a s style h i can =
     record { node = inline.scalar (written style s.text); is = w.0; text = append-nil (written style s.text); piece = w.1 }
 
 flow_for : (alone : Bool) (cs : Children) (v : Node) (t : List ℕ) → IsWrittenFor v (flow_text v) → flow_written alone cs v ≡ Some t → IsWrittenFor v t
-flow_for alone tree.none v t h e = subst (IsWrittenFor v) (some_same e) h
-flow_for true (tree.child label n cs) v t h e = subst (IsWrittenFor v) (some_same e) h
-flow_for false (tree.child label n cs) v t h e = absurd (none_some e)
+flow_for alone tree.none v t h e = subst (IsWrittenFor v) (same_Some _ _ e) h
+flow_for true (tree.child label n cs) v t h e = subst (IsWrittenFor v) (same_Some _ _ e) h
+flow_for false (tree.child label n cs) v t h e = absurd (none-some _ e)
 
 pub written_for : (alone : Bool) (old : List ℕ) (v : Node) (t : List ℕ) → IsValueTree v → depth v ≤ depth_limit → has_long_key v ≡ false → value_written alone old v ≡ Some t → IsWrittenFor v t
 written_for alone old (tree.alias name) t h deep long e = absurd h
 written_for alone old (tree.scalar a kind text) t h deep long e =
     let s : ScalarText = record { kind = kind; text = text } in
-    subst (IsWrittenFor (tree.scalar a kind text)) (some_same e) (scalar_for a s (new_style s (style_of old)) h (style_inline Block s (style_of old) (style_line old)) (style_writes Block s (style_of old)))
+    subst (IsWrittenFor (tree.scalar a kind text)) (same_Some _ _ e) (scalar_for a s (new_style s (style_of old)) h (style_inline Block s (style_of old) (style_line old)) (style_writes Block s (style_of old)))
 written_for alone old (tree.list a cs) t h deep long e =
     flow_for alone cs (tree.list a cs) t (record { node = flow_of (tree.list a cs); is = list_is a cs h deep long; text = refl; piece = flow_piece (tree.list a cs) h }) e
 written_for alone old (tree.map a cs) t h deep long e =
@@ -145,7 +140,7 @@ module _ (doc : ℕ) (steps : List Step) (v : Node) (c : Cut) (w : InlinePlace) 
 -- ---- the way
 
 place_old : (kept : Bool) (v : Node) (w : InlinePlace) (ss : List Segment) → replace_at kept v w ≡ Some ss → old_text ss ≡ w.before ++ (written_text w.old ++ w.behind)
-place_old true v w ss e = ap old_text (sym (some_same e)) ∙ segments_old w (written_text w.old) (written_text w.old)
+place_old true v w ss e = ap old_text (sym (same_Some _ _ e)) ∙ segments_old w (written_text w.old) (written_text w.old)
 place_old false v w ss e = let m = map_some (value_written w.alone (written_text w.old) v) e in ap old_text (sym m.2) ∙ segments_old w (written_text w.old) (apart_from w.old m.0)
 
 replace_old : (doc : ℕ) (steps : List Step) (v : Node) (c : Cut) (ss : List Segment) → read_at (cut_text c) ≡ Some c → replace_way (replace doc steps v) c ≡ Some ss → old_text ss ≡ cut_text c
@@ -166,7 +161,7 @@ replace_reads doc steps v c ss read is h fits size =
     go : (w : InlinePlace) (at : inline_from doc steps c ≡ Some w) (f : FitsReplace doc steps v c (document doc steps v c w read at).0) (b : Bool) → are_same (scalar_in f.node) (scalar_in v) ≡ b → replace_at b v w ≡ Some ss →
         ReadsAfter (replace doc steps v) c (new_text ss)
     go w at f true kept e =
-        let text : cut_text c ≡ new_text ss = sym (ap new_text (sym (some_same e)) ∙ (segments_old w (written_text w.old) (written_text w.old) ∙ place_whole c doc steps w read at)) in
+        let text : cut_text c ≡ new_text ss = sym (ap new_text (sym (same_Some _ _ e)) ∙ (segments_old w (written_text w.old) (written_text w.old) ∙ place_whole c doc steps w read at)) in
         let part = document doc steps v c w read at in
         subst (ReadsAfter (replace doc steps v) c) text (kept_reads doc steps v c part.0 read part.1 f.node h f.there kept)
     go w at f false kept e =
@@ -181,15 +176,15 @@ replace_is = record { old = old; reads = reads }
   where
     old : (op : Operation) (c : Cut) (ss : List Segment) → read_at (cut_text c) ≡ Some c → replace_way op c ≡ Some ss → old_text ss ≡ cut_text c
     old (replace doc steps v) c ss read is = replace_old doc steps v c ss read is
-    old (append doc steps key v) c ss read is = absurd (none_some is)
-    old (remove doc steps) c ss read is = absurd (none_some is)
-    old (line_comment doc steps text) c ss read is = absurd (none_some is)
-    old (head_comment doc steps text) c ss read is = absurd (none_some is)
+    old (append doc steps key v) c ss read is = absurd (none-some _ is)
+    old (remove doc steps) c ss read is = absurd (none-some _ is)
+    old (line_comment doc steps text) c ss read is = absurd (none-some _ is)
+    old (head_comment doc steps text) c ss read is = absurd (none-some _ is)
 
     reads : (op : Operation) (c : Cut) (ss : List Segment) → read_at (cut_text c) ≡ Some c → replace_way op c ≡ Some ss → HasOperand op → Fits (room_of (cut_text c)) op (documents c) →
         length (new_text ss) ≤ text_limit → ReadsAfter op c (new_text ss)
     reads (replace doc steps v) c ss read is operand fits size = replace_reads doc steps v c ss read is operand fits size
-    reads (append doc steps key v) c ss read is operand fits size = absurd (none_some is)
-    reads (remove doc steps) c ss read is operand fits size = absurd (none_some is)
-    reads (line_comment doc steps text) c ss read is operand fits size = absurd (none_some is)
-    reads (head_comment doc steps text) c ss read is operand fits size = absurd (none_some is)
+    reads (append doc steps key v) c ss read is operand fits size = absurd (none-some _ is)
+    reads (remove doc steps) c ss read is operand fits size = absurd (none-some _ is)
+    reads (line_comment doc steps text) c ss read is operand fits size = absurd (none-some _ is)
+    reads (head_comment doc steps text) c ss read is operand fits size = absurd (none-some _ is)

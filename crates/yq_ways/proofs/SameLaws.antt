@@ -1,11 +1,11 @@
 -- Scalars that are tested to be equal are.
 use Rattle.std.proofs.Common.{◌≡◌, true, eqb, refl, eqb-true}
+use Rattle.std.proofs.lemmas.Bool.{and_parts}
 use Rattle.std.proofs.lemmas.Slice.Eq.{bytes_eq-Decides}
 use Rattle.std.specs.Str.{bytes_eq}
 use Rattle.yq_scalar.specs.Scalar.{ScalarText}
 use Rattle.yq_scalar.specs.declared.kind.Kind.{Kind}
 use Rattle.yq_scalar.specs.declared.kind.Kind.TheVariants as kinds
-use Rattle.yq_scalar.proofs.Bools.{and_true}
 use Rattle.yq_ways.specs.Style.{table_row, is_same}
 
 same_kind : (a b : Kind) → table_row a ≡ table_row b → a ≡ b
@@ -38,7 +38,7 @@ same_kind kinds.Text kinds.Text h = refl
 -- scalars that are tested to be equal are
 pub same_is : (a b : ScalarText) → is_same a b ≡ true → a ≡ b
 same_is a b h =
-    let p = and_true (eqb (table_row a.kind) (table_row b.kind)) (bytes_eq a.text b.text) h in
+    let p = and_parts (eqb (table_row a.kind) (table_row b.kind)) (bytes_eq a.text b.text) h in
     let kind : a.kind ≡ b.kind = same_kind a.kind b.kind (eqb-true (table_row a.kind) (table_row b.kind) p.0) in
     let text : a.text ≡ b.text = (bytes_eq-Decides a.text b.text).0 p.1 in
     λ i. record { kind = kind i; text = text i }

@@ -1,5 +1,6 @@
 -- A document of which one node is exchanged for itself is the same.
 use Rattle.std.proofs.Common.{◌≡◌, ℕ, zero, suc, cond, List, [], ◌∷◌, Option, Some, Bool, true, false, refl, sym, ap, subst}
+use Rattle.std.proofs.lemmas.Option.{same_Some}
 use Rattle.std.specs.List.{slice_get}
 use Rattle.std.specs.Prelude.{option_and_then}
 use Rattle.yq_scalar.specs.Paths.{Step, is_here, further, child_at, change_child, change, node_at}
@@ -10,22 +11,19 @@ use Rattle.yq_documents.specs.Documents.{parts_from}
 use Rattle.yq_documents.specs.TreeEdits.{change_nth}
 use Rattle.yq_change.specs.Changed.{put_from}
 
-some_same : {A : Type 0} {x y : A} → Some x ≡ Some y → x ≡ y
-some_same e = cc
-
 -- one that is put in its own place
 pub put_own : (is : Bool) (k : ℕ) (c : Cut) (p : Part) → slice_get (parts_from is c) k ≡ Some p → put_from is k p c ≡ c
-put_own true zero (last q) p e = ap last (sym (some_same e))
+put_own true zero (last q) p e = ap last (sym (same_Some _ _ e))
 put_own true (suc k) (last q) p e = absurd (cc)
 put_own false k (last q) p e = absurd (cc)
-put_own true zero (marked q marker c) p e = ap (λ (x : Part). marked x marker c) (sym (some_same e))
+put_own true zero (marked q marker c) p e = ap (λ (x : Part). marked x marker c) (sym (same_Some _ _ e))
 put_own true (suc k) (marked q marker c) p e = ap (marked q marker) (put_own (begins_document marker) k c p e)
 put_own false k (marked q marker c) p e = ap (marked q marker) (put_own (begins_document marker) k c p e)
 
 -- an element of a list
 pub nth_own : {A : Type 0} (k : ℕ) (x : A) (f : A → A) (xs : List A) → slice_get xs k ≡ Some x → f x ≡ x → change_nth k f xs ≡ xs
 nth_own k x f [] e h = refl
-nth_own zero x f (y ∷ xs) e h = ap (λ z. z ∷ xs) (subst (λ z. f z ≡ z) (sym (some_same e)) h)
+nth_own zero x f (y ∷ xs) e h = ap (λ z. z ∷ xs) (subst (λ z. f z ≡ z) (sym (same_Some _ _ e)) h)
 nth_own (suc k) x f (y ∷ xs) e h = ap (λ zs. y ∷ zs) (nth_own k x f xs e h)
 
 -- a node at a step
@@ -40,7 +38,7 @@ child_own s g at (child label m cs) n h e = go (is_here s label) (child_own (fur
 
 -- a node at a path
 pub change_own : (ss : List Step) (f : Node → Node) (root n : Node) → node_at ss root ≡ Some n → f n ≡ n → change ss f root ≡ root
-change_own [] f root n e h = subst (λ m. f m ≡ m) (sym (some_same e)) h
+change_own [] f root n e h = subst (λ m. f m ≡ m) (sym (same_Some _ _ e)) h
 change_own (s ∷ ss) f (alias name) n e h = refl
 change_own (s ∷ ss) f (scalar a kind t) n e h = refl
 change_own (s ∷ ss) f (list a cs) n e h = ap (list a) (child_own s (change ss f) (node_at ss) cs n (λ m at. change_own ss f m n at h) e)

@@ -1,6 +1,6 @@
 -- The inline nodes of values: scalars in a style of one line, and collections in flow style.
 use Rattle.std.proofs.Common.{◌≡◌, ℕ, ◌≤◌, eqb, not, cond, List, [], ◌∷◌, ◌++◌, Option, Some, Bool, true, false, refl, sym, ap, ◌∙◌, subst, append-nil}
-use Rattle.std.proofs.lemmas.Bool.{false≢true, not-true}
+use Rattle.std.proofs.lemmas.Bool.{false≢true, not-true, and_parts}
 use Rattle.std.proofs.lemmas.Str.{IsUtf8-nil}
 use Rattle.std.specs.Str.{chars, IsUtf8}
 use lib.Utf8.{encode}
@@ -19,7 +19,6 @@ use Rattle.yq_scalar.specs.declared.kind.Kind.{Kind}
 use Rattle.yq_scalar.specs.declared.style.Place.TheVariants as places
 use Rattle.yq_scalar.specs.declared.style.Style.{Style}
 use Rattle.yq_scalar.specs.declared.style.Style.TheVariants as styles
-use Rattle.yq_scalar.proofs.Bools.{and_true}
 use Rattle.yq_scalar.proofs.PlainSpells.{plain_is_text, writable_text}
 use Rattle.yq_scalar.proofs.WrittenText.{double_is_line, line_is_text}
 use Rattle.yq_inline.specs.Inline.{depth_limit}
@@ -54,7 +53,7 @@ marker_behind (a ∷ b ∷ []) (c ∷ rest) h s = no_third a b c rest (first_oth
 marker_behind (a ∷ b ∷ c ∷ t) rest h s = rw h refl
 
 style_unmarked : (s : ScalarText) (style : Style) (rest : List ℕ) → IsValid s → IsInline style → can_write s style places.Block ≡ true → separates rest ≡ true → is_marker (written style s.text ++ rest) ≡ false
-style_unmarked s styles.Plain rest v i h sep = marker_behind s.text rest (not-true (begins_marker s.text) (and_true _ (not (begins_marker s.text)) (writable_text s.kind s.text false v.kind h)).1) sep
+style_unmarked s styles.Plain rest v i h sep = marker_behind s.text rest (not-true (begins_marker s.text) (and_parts _ (not (begins_marker s.text)) (writable_text s.kind s.text false v.kind h)).1) sep
 style_unmarked s styles.Single rest v i h sep = no_first 39 _ refl refl
 style_unmarked s styles.Double rest v i h sep = no_first 34 _ refl refl
 style_unmarked s styles.Literal rest v i h sep = absurd i

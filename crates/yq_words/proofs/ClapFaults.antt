@@ -1,5 +1,6 @@
 -- Words at which no step of clap's reading fails are words that clap takes.
 use Rattle.std.proofs.Common.{◌≡◌, ◌∙◌, ◌&&◌, ◌||◌, ◌==◌, not, subst, Result, Ok, Err, IfOk, ℕ, zero, suc, Bool, true, false, cond, List, [], ◌∷◌, length, drop, Option, Some, None, is_some, if◌then◌else◌, refl, ap, find, encode_utf8, slice_get, nat_le, nat_lt, min, ◌+◌, arith}
+use Rattle.std.proofs.lemmas.Bool.{and_from}
 use Rattle.std.specs.List.{list_all, list_any}
 use Rattle.std.specs.Option.{option_map_or}
 use Rattle.std.specs.Str.{bytes_eq, chars}
@@ -28,10 +29,6 @@ neither : (a b : Kinds) → or_else a b ≡ [] → (a ≡ []) × (b ≡ [])
 neither [] b e = (refl, e)
 neither (k ∷ ks) b e = cc
 
-and_also : (a b : Bool) → a ≡ true → b ≡ true → (a && b) ≡ true
-and_also true b e f = f
-and_also false b e f = cc
-
 -- a test that fails by a kind
 unless : (b : Bool) (k : ErrorKind) (ks : Kinds) → (if b then [] else k ∷ ks) ≡ [] → b ≡ true
 unless true k ks e = refl
@@ -46,7 +43,7 @@ values_pass : (a : Rule) (vs : List Text) → fault.values_fault a vs ≡ [] →
 values_pass a [] e = refl
 values_pass a (v ∷ vs) e =
     let p = neither (value_kinds a.ignore_case (parser_of_value a.parser) v) _ e in
-    and_also _ _ (value_passes a v p.0) (values_pass a vs p.1)
+    and_from _ _ (value_passes a v p.0) (values_pass a vs p.1)
 
 count_passes : (a : Rule) (vs : List Text) (rows : List Row) → fault.count_fault a vs rows ≡ [] → pass.count_passes a vs rows ≡ true
 count_passes a [] rows e = value_passes a (count_text (min (count_of a.id rows + 1) 255)) e
@@ -60,7 +57,7 @@ repeat_passes false again k e = refl
 set_passes : (again : Bool) (a : Rule) (values : List Text) (rows : List Row) → fault.set_fault again a values rows ≡ [] → pass.set_passes again a values rows ≡ true
 set_passes again a values rows e =
     let p = neither (fault.repeat_fault again a.id rows) _ e in
-    and_also _ _ (repeat_passes (has_row a.id rows) again _ p.0) (values_pass a values p.1)
+    and_from _ _ (repeat_passes (has_row a.id rows) again _ p.0) (values_pass a values p.1)
 
 action_passes : (x : ArgAction) (again : Bool) (a : Rule) (values : List Text) (rows : List Row) → fault.action_fault x again a values rows ≡ [] → pass.action_passes x again a values rows ≡ true
 action_passes Set again a values rows e = set_passes again a values rows e
@@ -94,7 +91,7 @@ use_passes : (again : Bool) (a : Rule) (values : List Text) (rows : List Row) �
 use_passes again a values rows e =
     let p = neither (range_kinds (unwrap_or_range a.range).start_inclusive (most_values a) (length values)) _ e in
     let r = in_range (unwrap_or_range a.range).start_inclusive (most_values a) (length values) p.0 in
-    and_also _ _ r.0 (and_also _ _ r.1 (action_passes (action_of a) again a (values_or_missing a values) rows p.1))
+    and_from _ _ r.0 (and_from _ _ r.1 (action_passes (action_of a) again a (values_or_missing a values) rows p.1))
 
 -- ---- the walk
 
@@ -114,7 +111,7 @@ module _ (c : List Rule) (again : Bool) where
   react_passes : (a : Rule) (values : List Text) (h : Held) → fault.react_fault c again a values h ≡ [] → pass.react_passes c again a values h ≡ true
   react_passes a values h e =
       let p = neither (fault.settle_fault c again h) _ e in
-      and_also _ _ (settle_passes h p.0) (use_passes again a values (settled c h).rows p.1)
+      and_from _ _ (settle_passes h p.0) (use_passes again a values (settled c h).rows p.1)
 
   option_passes : (a : Rule) (v : Option Text) (h : Held) → fault.option_fault c again a v h ≡ [] → pass.option_passes c again a v h ≡ true
   option_passes a (Some v) h e = react_passes a (v ∷ []) h e
@@ -136,7 +133,7 @@ module _ (c : List Rule) (again : Bool) where
     by_takes true e = option_passes a (attached_value rest) h e
     by_takes false e =
         let p = neither (fault.react_fault c again a [] h) _ e in
-        and_also _ _ (react_passes a [] h p.0) (later (reacted c a [] h) p.1)
+        and_from _ _ (react_passes a [] h p.0) (later (reacted c a [] h) p.1)
 
   step_passes : (o : Option ℕ) (flags : Text) (skip : ℕ) (h : Held) (fails : Text → ℕ → Held → Kinds) (on : Text → ℕ → Held → Bool) → ((flags : Text) (skip : ℕ) (h : Held) → fails flags skip h ≡ [] → on flags skip h ≡ true) →
       fault.bundle_step_fault c again o flags skip h fails ≡ [] → pass.bundle_step_passes c again o flags skip h on ≡ true
@@ -199,14 +196,14 @@ turn_passes s names w word e = by_stop (is_some w.stopped) (word_met s.rules nam
   by_stop true met e = refl
   by_stop false met e =
       let p = neither (fault.word_fault s names w.is_trailing w.waiting word w.held) _ e in
-      and_also _ _ (word_passes s names w.is_trailing w.waiting word w.held p.0) (step_taken s w.position met.0 met.1 p.1)
+      and_from _ _ (word_passes s names w.is_trailing w.waiting word w.held p.0) (step_taken s w.position met.0 met.1 p.1)
 
 walk_passes : (s : Shape) (names : Names) (w : Walk) (words : List Text) → fault.walk_fault s names w words ≡ [] → pass.walk_passes s names w words ≡ true
 unfolding fault.walk_fault pass.walk_passes
 walk_passes s names w [] e = refl
 walk_passes s names w (word ∷ words) e =
     let p = neither (fault.turn_fault s names w word) _ e in
-    and_also _ _ (turn_passes s names w word p.0) (walk_passes s names (walked s.rules names w word) words p.1)
+    and_from _ _ (turn_passes s names w word p.0) (walk_passes s names (walked s.rules names w word) words p.1)
 
 -- ---- after the walk
 
@@ -247,9 +244,9 @@ valid s rows has free e =
     let p = not_met (not has && (s.arg_required_else_help && not (list_any (λ r. explicit_source r.source) rows))) _ _ e in
     let q = not_met (not has && s.subcommand_required) _ _ p.1 in
     let r = not_met (not (s.subcommand_negates_reqs && has) && list_any (λ a. a.required && not (pass.is_given a.id rows)) s.rules) _ _ q.1 in
-    and_also _ _ (no_help has s.arg_required_else_help _ p.0)
-    (and_also _ _ (no_want has s.subcommand_required q.0)
-    (and_also _ _ free (no_miss (s.subcommand_negates_reqs && has) _ _ r.0 (none_wants s.rules rows))))
+    and_from _ _ (no_help has s.arg_required_else_help _ p.0)
+    (and_from _ _ (no_want has s.subcommand_required q.0)
+    (and_from _ _ free (no_miss (s.subcommand_negates_reqs && has) _ _ r.0 (none_wants s.rules rows))))
 
 -- one level, and what is below it
 level_passes : (s : Shape) (names : Names) (h : Held) (words : List Text) (has : Bool) (below : Kinds) → is_usual s ≡ true → fault.level_fault s names h words has below ≡ [] → (below ≡ []) × (pass.level_passes s names h words has ≡ true)
@@ -261,9 +258,9 @@ level_passes s names h words has below usual e =
     let r = neither (fault.settle_fault s.rules s.args_override_self end) _ q.1 in
     let d = neither (fault.defaults_fault (settled s.rules end).rows s.rules) _ r.1 in (
       q.0,
-      and_also _ _ (walk_passes s names (walk_from h) words p.0)
-          (and_also _ _ (settle_passes s.rules s.args_override_self end r.0)
-          (and_also _ _ u.0 (valid s (finished s.rules end) has u.1 d.1))),
+      and_from _ _ (walk_passes s names (walk_from h) words p.0)
+          (and_from _ _ (settle_passes s.rules s.args_override_self end r.0)
+          (and_from _ _ u.0 (valid s (finished s.rules end) has u.1 d.1))),
     )
 
 entered_passes : (a : App) (stop : Option (Text × List Text)) → list_all is_usual a.subs ≡ true → fault.entered_fault a stop ≡ [] → pass.entered_passes a stop ≡ true
@@ -284,7 +281,7 @@ built_takes a h words usual e =
     let u = both (is_usual a.top) _ usual in
     let stop = (walk a.top.rules (names_of a) h words).stopped in
     let p = level_passes a.top (names_of a) h words (is_some (entered a stop)) (fault.entered_fault a stop) u.0 e in
-    and_also _ _ (entered_passes a stop u.1 p.0) p.1
+    and_from _ _ (entered_passes a stop u.1 p.0) p.1
 
 -- the words of the program's command line
 pub taken_where_none_fails : (words : List Text) → fault_of yq words ≡ [] → takes yq words ≡ true

@@ -1,5 +1,6 @@
 -- Rows of clap's matches: each has a value, where each use of an argument passes.
 use Rattle.std.proofs.Common.{if◌then◌else◌, ◌≡◌, ◌<◌, ◌+◌, ◌||◌, ◌⊎◌, inl, inr, not, ℕ, Bool, true, false, List, [], ◌∷◌, ◌++◌, length, min, nat_le, Some, is_some, slice_get, option_and_then, cond, refl, arith, leb-true, length-append, find, fold}
+use Rattle.std.proofs.lemmas.Bool.{or_cases}
 use Rattle.std.specs.Option.{option_map_or}
 use Rattle.std.specs.Str.{bytes_eq}
 use Rattle.clap.specs.Facts.{unwrap_or_range, explicit_source}
@@ -47,19 +48,15 @@ without_filled id rows h = row_filled id (λ _. []) [] rows (λ r n. tt) tt h
 abbrev pub fills : Rule → Bool
 fills a = nat_le 1 (unwrap_or_range a.range).start_inclusive || (not (is_empty a.missing) || is_request (action_of a))
 
-pub either : (a b : Bool) → (a || b) ≡ true → (a ≡ true) ⊎ (b ≡ true)
-either true b e = inl refl
-either false b e = inr e
-
 some_missing : (xs : List Text) → not (is_empty xs) ≡ true → 0 < length xs
 some_missing [] h = cc
 some_missing (x ∷ xs) h = omega arith
 
 enough : (a : Rule) (values : List Text) → fills a ≡ true → nat_le (unwrap_or_range a.range).start_inclusive (length values) ≡ true → (is_request (action_of a) ≡ true) ⊎ (0 < length (values_or_missing a values))
 enough a (v ∷ values) f e = inr (omega arith)
-enough a [] f e = elim (either (nat_le 1 (unwrap_or_range a.range).start_inclusive) _ f) [
+enough a [] f e = elim (or_cases (nat_le 1 (unwrap_or_range a.range).start_inclusive) _ f) [
   | inl one ↦ absurd (omega (arith, leb-true _ _ one, leb-true _ _ e))
-  | inr other ↦ elim (either (not (is_empty a.missing)) _ other) [
+  | inr other ↦ elim (or_cases (not (is_empty a.missing)) _ other) [
     | inl some ↦ inr (some_missing a.missing some)
     | inr request ↦ inl request
   ]

@@ -1,5 +1,6 @@
 -- Texts of decimal digits.
 use Rattle.std.proofs.Common.{◌≡◌, ◌≢◌, ◌&&◌, ◌<◌, ◌^◌, ℕ, Bool, true, false, List, length, nat_lt, if◌then◌else◌, Some, None, Result, Ok, Err, sym, ap, ◌∙◌, refl, arith, get_or}
+use Rattle.std.proofs.lemmas.Bool.{and_from, and_parts}
 use Rattle.std.specs.Result.{result_ok}
 use Rattle.std.specs.Str.{all_ascii_digits}
 use Rattle.std.specs.Str.Parse.{ParsesUnsigned, digits_value}
@@ -20,26 +21,14 @@ own = numerals_by_value _ tells_all_ascii_digits
 abbrev is_count : List ℕ → Bool
 is_count text = all_ascii_digits text && (nat_lt 0 (length text) && nat_lt (digits_value 10 text) (2 ^ 64))
 
-both : (a b : Bool) → a ≡ true → b ≡ true → (a && b) ≡ true
-both true b p q = q
-both false b p q = cc
-
-first : (a b : Bool) → (a && b) ≡ true → a ≡ true
-first true b e = refl
-first false b e = e
-
-second : (a b : Bool) → (a && b) ≡ true → b ≡ true
-second true b e = e
-second false b e = cc
-
 -- the test tells
 is_count-true : (text : List ℕ) → all_ascii_digits text ≡ true → 0 < length text → digits_value 10 text < 2 ^ 64 → is_count text ≡ true
-is_count-true text d l v = both _ _ d (both _ _ (lt_true 0 (length text) l) (lt_true (digits_value 10 text) (2 ^ 64) v))
+is_count-true text d l v = and_from _ _ d (and_from _ _ (lt_true 0 (length text) l) (lt_true (digits_value 10 text) (2 ^ 64) v))
 
 true_is_count : (text : List ℕ) → is_count text ≡ true → (all_ascii_digits text ≡ true) × (0 < length text) × (digits_value 10 text < 2 ^ 64)
 true_is_count text e =
-    let rest = second _ _ e in
-    (first _ _ e, true_lt 0 (length text) (first _ _ rest), true_lt (digits_value 10 text) (2 ^ 64) (second _ _ rest))
+    let rest = (and_parts _ _ e).1 in
+    ((and_parts _ _ e).0, true_lt 0 (length text) (and_parts _ _ rest).0, true_lt (digits_value 10 text) (2 ^ 64) (and_parts _ _ rest).1)
 
 -- a text is read as the number that it writes, where no plus stands first
 pub count_parsed : {E : Type 0} (text : List ℕ) (r : Result ℕ E) → ParsesUnsigned 64 10 text r → get_or text 0 0 ≢ 43 → result_ok r ≡ count_in text

@@ -3,7 +3,7 @@ use Rattle.std.proofs.Common.{◌≡◌, ◌∙◌, ◌&&◌, ◌||◌, inl, inr
 use Rattle.std.specs.List.{list_all, list_any}
 use Rattle.std.specs.Option.{option_map_or}
 use Rattle.std.specs.Str.{bytes_eq}
-use Rattle.std.proofs.lemmas.Bool.{false≢true}
+use Rattle.std.proofs.lemmas.Bool.{false≢true, or_cases}
 use Rattle.std.proofs.lemmas.Result.{IfErr-weaker}
 use Rattle.std.proofs.lemmas.Slice.Eq.{bytes_eq-Decides}
 use Rattle.clap.specs.Simple.{Shape, built, is_simple, label_of, names_of, subcommand_of}
@@ -16,12 +16,12 @@ use Rattle.yq_words.specs.Line.{yq}
 use Rattle.yq_words.specs.declared.command.Command.{Command}
 use Rattle.yq_words.specs.declared.words_error.WordsError.{WordsError}
 use Rattle.yq_words.proofs.ClapLevel.{Passed, stops_at, sub_found, sub_passed}
-use Rattle.yq_words.proofs.ClapRows.{either, fills, given_text}
+use Rattle.yq_words.proofs.ClapRows.{fills, given_text}
 
 -- an argument that is required was given
 given_in : (rules : List Rule) (rows : List Row) (id : Text) → list_all (λ a. not a.required || is_given a.id rows) rules ≡ true → list_any (λ a. a.required && bytes_eq a.id id) rules ≡ true → is_given id rows ≡ true
 given_in [] rows id all some = cc
-given_in (a ∷ rules) rows id all some = elim (either (a.required && bytes_eq a.id id) _ some) [
+given_in (a ∷ rules) rows id all some = elim (or_cases (a.required && bytes_eq a.id id) _ some) [
   | inl here ↦
       let is = both a.required _ here in
       let given : (not true || is_given a.id rows) ≡ true = sym (ap (λ b. not b || is_given a.id rows) is.0) ∙ (both (not a.required || is_given a.id rows) _ all).0 in
@@ -121,15 +121,15 @@ squash_words_refused rest taken e =
 
 -- each word that names a command
 word_refused : (word : Text) (rest : List Text) → is_command_word word ≡ true → Refused (codes "yq" ∷ word ∷ rest)
-word_refused word rest h = elim (either (bytes_eq word (codes "eval")) _ h) [
+word_refused word rest h = elim (or_cases (bytes_eq word (codes "eval")) _ h) [
   | inl is ↦ by (codes "eval") is (eval_refused rest)
-  | inr h ↦ elim (either (bytes_eq word (codes "undo")) _ h) [
+  | inr h ↦ elim (or_cases (bytes_eq word (codes "undo")) _ h) [
     | inl is ↦ by (codes "undo") is (undo_refused rest)
-    | inr h ↦ elim (either (bytes_eq word (codes "redo")) _ h) [
+    | inr h ↦ elim (or_cases (bytes_eq word (codes "redo")) _ h) [
       | inl is ↦ by (codes "redo") is (redo_refused rest)
-      | inr h ↦ elim (either (bytes_eq word (codes "history")) _ h) [
+      | inr h ↦ elim (or_cases (bytes_eq word (codes "history")) _ h) [
         | inl is ↦ by (codes "history") is (history_refused rest)
-        | inr h ↦ elim (either (bytes_eq word (codes "squash")) _ h) [
+        | inr h ↦ elim (or_cases (bytes_eq word (codes "squash")) _ h) [
           | inl is ↦ by (codes "squash") is (squash_words_refused rest)
           | inr none ↦ absurd (false≢true none)
         ]

@@ -1,5 +1,6 @@
 -- No change brings an alias that was not there.
 use Rattle.std.proofs.Common.{◌≡◌, ℕ, suc, ◌⊎◌, Bool, true, false, cond, List, [], ◌∷◌, map, Option, Some, None, refl, subst, inl, inr}
+use Rattle.std.proofs.lemmas.Option.{none-some, same_Some}
 use Rattle.yq_scalar.specs.Tree as tree
 use Rattle.yq_scalar.specs.Tree.{Label, Node, alias, scalar, list, Children, none, child}
 use Rattle.yq_scalar.specs.Paths.{Step, To, is_here, further, change_child, append_child, within}
@@ -135,17 +136,11 @@ deed_brings block lead (p, changes.removes) w = tt
 deed_brings block lead (p, sets_comment comments.Line text) w = tt
 deed_brings block lead (p, sets_comment comments.Head text) w = tt
 
-some_same : {A : Type 0} {x y : A} → Some x ≡ Some y → x ≡ y
-some_same e = cc
-
-none_some : {A : Type 0} {x : A} → None ≡ Some x → ⊥
-none_some e = cc
-
 -- what a list of changes does brings none
 pub all_bring : (block : Bool) (lead : List (List ℕ)) (cs : List Changed) → AllWriteNone cs → BringNone (done_by (map (placed_deed block lead) cs))
-all_bring block lead [] w q x h = absurd (none_some h)
+all_bring block lead [] w q x h = absurd (none-some _ h)
 all_bring block lead (c ∷ cs) w q x h = go (same_path c.0 q) (all_bring block lead cs w.1 q x) h
   where
     go : (b : Bool) → (done_by (map (placed_deed block lead) cs) q ≡ Some x → BringsNone x) → cond b (Some (deed_of block lead c)) (done_by (map (placed_deed block lead) cs) q) ≡ Some x → BringsNone x
-    go true rest e = subst BringsNone (some_same e) (deed_brings block lead c w.0)
+    go true rest e = subst BringsNone (same_Some _ _ e) (deed_brings block lead c w.0)
     go false rest e = rest e

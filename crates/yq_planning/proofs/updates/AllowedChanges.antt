@@ -6,7 +6,6 @@ use Rattle.yq_scalar.specs.Tree as tree
 use Rattle.yq_scalar.specs.Tree.{Node, alias, scalar, list, Children, none, child}
 use Rattle.yq_scalar.specs.Paths as paths
 use Rattle.yq_scalar.specs.Paths.{To, key_is, child_at, node_at, change_child, append_child}
-use Rattle.yq_scalar.proofs.Bools.{or_false}
 use Rattle.yq_scalar.specs.Anchors.{names_of}
 use Rattle.yq_meaning.specs.Judgement.{Judgement, gives, and_then}
 use Rattle.yq_meaning.specs.Matching.{Found, find, key_step, index_step}
@@ -20,9 +19,11 @@ use Rattle.yq_documents.specs.TreeEdits.{replaced, new_label}
 use Rattle.yq_program.specs.Program.{Step, key, index, each, Condition, Stage, path, select}
 use Rattle.yq_planning.proofs.JudgementLaws.{then_gives, gives_same}
 use Rattle.yq_planning.proofs.updates.ChildPlaces.{node_further}
-use Rattle.yq_meaning.proofs.PathLaws.{bytes_differ, bytes_same, cond_false, none_some}
+use Rattle.yq_meaning.proofs.PathLaws.{bytes_differ, bytes_same}
 use Rattle.yq_planning.proofs.updates.FitsAtTurn.{FitAdds}
-use Rattle.std.proofs.lemmas.Bool.{false≢true}
+use Rattle.std.proofs.lemmas.Bool.{false≢true, cond-false, or_parts}
+use Rattle.std.proofs.lemmas.Option.{none-some}
+use mathlib.Core.List.{cons≢nil}
 
 -- ---- what is missing
 
@@ -66,7 +67,7 @@ find_none s cs h = go (child_at s cs) h
   where
     go : (o : Option Node) → option_map {U = paths.Step × Node} (λ n. (s, n)) o ≡ None → o ≡ None
     go None e = refl
-    go (Some n) e = absurd (none_some (sym e))
+    go (Some n) e = absurd (none-some _ (sym e))
 
 key_lacks : (k : List ℕ) (n : Node) → key_step k n ≡ gives None → Lacks (key k) n
 key_lacks k (alias name) h = tt
@@ -111,10 +112,7 @@ step_missed s p qs m h = go p.missing refl h
   where
     go : (missing : List Step) → p.missing ≡ missing → step_from missing s p ≡ gives qs → AreMissed qs
     go [] is e = there_missed s p qs m e
-    go (x ∷ xs) is e = subst AreMissed (gives_same e) (miss_missed s p m (λ there. absurd (no_steps x xs (sym is ∙ there))))
-      where
-        no_steps : (y : Step) (ys : List Step) → y ∷ ys ≡ [] → ⊥
-        no_steps y ys eq = cc
+    go (x ∷ xs) is e = subst AreMissed (gives_same e) (miss_missed s p m (λ there. absurd (cons≢nil (sym is ∙ there))))
 
 select_missed : (doc : ℕ) (c : Condition) → Keeps (λ p. and_then (λ b. gives (kept p b)) (holds doc c p))
 select_missed doc c p qs m h = let x = then_gives (λ (b : Bool). gives (kept p b)) (holds doc c p) qs h in subst AreMissed (gives_same x.2) (go x.0)
@@ -148,9 +146,9 @@ Unrefused root p xs = (list_any writes_long_key xs ≡ false) × (list_any (λ x
 
 unrefused_rest : (root : Node) (p : List paths.Step) (x : Addition) (xs : List Addition) → Unrefused root p (x ∷ xs) → Unrefused root p xs
 unrefused_rest root p x xs h = (
-  (or_false (writes_long_key x) (list_any writes_long_key xs) h.0).1,
-  (or_false (is_deep (suc (length p)) (value_in x)) (list_any (λ y. is_deep (suc (length p)) (value_in y)) xs) h.1).1,
-  (or_false (overwrites_used root p x) (list_any (overwrites_used root p) xs) h.2).1,
+  (or_parts (writes_long_key x) (list_any writes_long_key xs) h.0).1,
+  (or_parts (is_deep (suc (length p)) (value_in x)) (list_any (λ y. is_deep (suc (length p)) (value_in y)) xs) h.1).1,
+  (or_parts (overwrites_used root p x) (list_any (overwrites_used root p) xs) h.2).1,
 )
 
 -- items for a sequence
@@ -161,13 +159,13 @@ items_fit root p a cs (child label v ds) items trees h =
     (λ k. ((refl, (trees.0, (k0 k).0, (k0 k).1), (a, cs, refl)), items_fit root p a (append_child (new_label None) v cs) ds items.1 trees.1 (unrefused_rest root p (appends None v) (additions none ds) k))) h
   where
     k0 : Unrefused root p (appends None v ∷ additions none ds) → (has_long_key v ≡ false) × (is_deep (suc (length p)) v ≡ false)
-    k0 k = ((or_false (has_long_key v) (list_any writes_long_key (additions none ds)) k.0).0, (or_false (is_deep (suc (length p)) v) (list_any (λ y. is_deep (suc (length p)) (value_in y)) (additions none ds)) k.1).0)
+    k0 k = ((or_parts (has_long_key v) (list_any writes_long_key (additions none ds)) k.0).0, (or_parts (is_deep (suc (length p)) v) (list_any (λ y. is_deep (suc (length p)) (value_in y)) (additions none ds)) k.1).0)
 
 pub list_fits : (root : Node) (p : List paths.Step) (a : Option (List ℕ)) (cs ds : Children) → AreItems ds → AreTrees ds → Unrefused root p (additions none ds) → FitAdds root p (list a cs) (additions none ds)
 list_fits root p a cs ds items trees h = items_fit root p a cs ds items trees h
 
 other_append : (j k : List ℕ) (v : Node) (es : Children) → j ≢ k → child_at (To k) (append_child (new_label (Some j)) v es) ≡ child_at (To k) es
-other_append j k v none d = cond_false (key_is k (Some j)) (Some v) None (bytes_differ j k d)
+other_append j k v none d = cond-false (key_is k (Some j)) (Some v) None (bytes_differ j k d)
 other_append j k v (child label n es) d = ap (λ (o : Option Node). cond (key_is k label.key) (Some n) o) (other_append j k v es d)
 
 key_same : (j : List ℕ) (o : Option (List ℕ)) → key_is j o ≡ true → o ≡ Some j
@@ -181,7 +179,7 @@ other_change j k f (child label n es) d = go (key_is j label.key) refl (other_ch
     go : (b : Bool) → key_is j label.key ≡ b → child_at (To k) (change_child (To j) f es) ≡ child_at (To k) es → child_at (To k) (cond b (child label (f n) es) (child label n (change_child (To j) f es))) ≡ child_at (To k) (child label n es)
     go true is ih =
         let other : key_is k label.key ≡ false = ap (key_is k) (key_same j label.key is) ∙ bytes_differ j k d in
-        cond_false (key_is k label.key) (Some (f n)) (child_at (To k) es) other ∙ sym (cond_false (key_is k label.key) (Some n) (child_at (To k) es) other)
+        cond-false (key_is k label.key) (Some (f n)) (child_at (To k) es) other ∙ sym (cond-false (key_is k label.key) (Some n) (child_at (To k) es) other)
     go false is ih = ap (λ (o : Option Node). cond (key_is k label.key) (Some n) o) ih
 
 other_add : (cs : Children) (j k : List ℕ) (v : Node) (es : Children) → j ≢ k → child_at (To k) (add_to (addition cs (Some j) v) es) ≡ child_at (To k) es
@@ -199,12 +197,12 @@ module _ (root : Node) (p : List paths.Step) (a first : Option (List ℕ)) (cs :
       go : (o : Option Node) → child_at (To k) cs ≡ o → Unrefused root p (cond (is_some o) (overwrites k v) (appends (Some k) v) ∷ xs) →
           FitAdds root p (tree.map a (add_to (cond (is_some o) (overwrites k v) (appends (Some k) v)) es)) xs → FitAdds root p (tree.map a es) (cond (is_some o) (overwrites k v) (appends (Some k) v) ∷ xs)
       go None is h r =
-          let long = or_false (is_long (Some k)) (has_long_key v) (or_false (is_long (Some k) || has_long_key v) (list_any writes_long_key xs) h.0).0 in
-          ((long.0, (tree_is, long.1, (or_false (is_deep (suc (length p)) v) (list_any (λ y. is_deep (suc (length p)) (value_in y)) xs) h.1).0), (a, es, refl, same ∙ is)), r)
+          let long = or_parts (is_long (Some k)) (has_long_key v) (or_parts (is_long (Some k) || has_long_key v) (list_any writes_long_key xs) h.0).0 in
+          ((long.0, (tree_is, long.1, (or_parts (is_deep (suc (length p)) v) (list_any (λ y. is_deep (suc (length p)) (value_in y)) xs) h.1).0), (a, es, refl, same ∙ is)), r)
       go (Some m) is h r =
-          let used : is_used_inside (names_of root) (node_at (p ++ To k ∷ []) root) ≡ false = (or_false (overwrites_used root p (overwrites k v)) (list_any (overwrites_used root p) xs) h.2).0 in (
+          let used : is_used_inside (names_of root) (node_at (p ++ To k ∷ []) root) ≡ false = (or_parts (overwrites_used root p (overwrites k v)) (list_any (overwrites_used root p) xs) h.2).0 in (
             (
-              (tree_is, (or_false (has_long_key v) (list_any writes_long_key xs) h.0).0, (or_false (is_deep (suc (length p)) v) (list_any (λ y. is_deep (suc (length p)) (value_in y)) xs) h.1).0),
+              (tree_is, (or_parts (has_long_key v) (list_any writes_long_key xs) h.0).0, (or_parts (is_deep (suc (length p)) v) (list_any (λ y. is_deep (suc (length p)) (value_in y)) xs) h.1).0),
               (m, same ∙ is, ap (is_used_inside (names_of root)) (sym (node_further p (To k) root (tree.map first cs) at ∙ is)) ∙ used),
             ),
             r,

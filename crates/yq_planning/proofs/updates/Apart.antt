@@ -1,17 +1,17 @@
 -- What is done at one place leaves the node of another as it is, and two such changes may be made in either order.
 use Rattle.std.proofs.Common.{◌≡◌, ◌≢◌, ℕ, zero, suc, ◌+◌, ◌<◌, ◌⊎◌, Bool, true, false, cond, List, [], ◌∷◌, Option, Some, None, option_map, option_and_then, refl, sym, ap, subst, ◌∙◌, inl, inr, arith}
+use Rattle.std.proofs.lemmas.Bool.{cases_Bool, cond-false, cond-true}
 use Rattle.std.specs.Str.{bytes_eq}
 use Rattle.yq_scalar.specs.Tree as tree
 use Rattle.yq_scalar.specs.Tree.{Label, Node, alias, scalar, list, Children, none, child, children_of}
 use Rattle.yq_scalar.specs.Paths.{Step, To, Nth, key_is, is_item, child_at, node_at, change}
-use Rattle.yq_scalar.proofs.Bools.{is_true}
 use Rattle.yq_meaning.specs.Deeds.{Deed, becomes, line, head, goes, Deeds, under, done_at, child_by, inside, each_at_once, at_once, same_path, and_at, done_by, one_at}
 use Rattle.yq_meaning.specs.Places.{step_by}
 use Rattle.yq_scalar.specs.PathOrder.{Before, Apart}
 use Rattle.yq_scalar.specs.Shapes.{AreItems, AreEntries, IsTree}
 use Rattle.yq_planning.proofs.updates.AtOnce.{one_more}
 use Rattle.yq_planning.proofs.updates.ChildPlaces.{child_tree, children_tree}
-use Rattle.yq_meaning.proofs.PathLaws.{apart_root, cond_true, cond_false, bytes_refl, bytes_same}
+use Rattle.yq_meaning.proofs.PathLaws.{apart_root, bytes_refl, bytes_same}
 use Rattle.yq_planning.proofs.updates.Spares.{IsSpared, Spares, spares_root, spares_under, spares_behind, nothing, idle, child_done, deeds_same}
 use Rattle.yq_planning.proofs.updates.Folds.{path_same, apart_irrefl, apart_sym}
 use Rattle.yq_planning.proofs.updates.OneAt.{one_becomes}
@@ -23,10 +23,10 @@ abbrev first_by : Option Deed → Option (List ℕ) → List (List ℕ) → Opti
 first_by d o hc lc m rest = child_by d (record { key = o; head_comment = hc; line_comment = lc }) m rest
 
 find_past_key : (k : List ℕ) (o : Option (List ℕ)) (hc : List (List ℕ)) (lc : Option (List ℕ)) → key_is k o ≡ false → (d : Option Deed) (m : Node) (rest : Children) → child_at (To k) (first_by d o hc lc m rest) ≡ child_at (To k) rest
-find_past_key k o hc lc e None m rest = cond_false (key_is k o) _ _ e
-find_past_key k o hc lc e (Some (becomes g)) m rest = cond_false (key_is k o) _ _ e
-find_past_key k o hc lc e (Some (line text)) m rest = cond_false (key_is k o) _ _ e
-find_past_key k o hc lc e (Some (head texts)) m rest = cond_false (key_is k o) _ _ e
+find_past_key k o hc lc e None m rest = cond-false (key_is k o) _ _ e
+find_past_key k o hc lc e (Some (becomes g)) m rest = cond-false (key_is k o) _ _ e
+find_past_key k o hc lc e (Some (line text)) m rest = cond-false (key_is k o) _ _ e
+find_past_key k o hc lc e (Some (head texts)) m rest = cond-false (key_is k o) _ _ e
 find_past_key k o hc lc e (Some goes) m rest = refl
 
 find_past_item : (r : ℕ) (d : Option Deed) → d ≢ Some goes → (label : Label) (m : Node) (rest : Children) → child_at (Nth (suc r)) (child_by d label m rest) ≡ child_at (Nth r) rest
@@ -72,19 +72,19 @@ find_key k f free i (child label n cs) = go label.key label.head_comment label.l
         (record { key = Some k; head_comment = hc; line_comment = lc }) n (each_at_once f (suc i) cs)) ≡ done_child (To k) f (cond (key_is k (Some k)) (Some n) (child_at (To k) cs))
     there hc lc =
         ap (λ (d : Option Deed). child_at (To k) (first_by d (Some k) hc lc (at_once (under (To k) f) n) (each_at_once f (suc i) cs))) free
-        ∙ (cond_true (key_is k (Some k)) (Some (at_once (under (To k) f) n)) (child_at (To k) (each_at_once f (suc i) cs)) (bytes_refl k)
-        ∙ sym (ap (λ (o : Option Node). done_child (To k) f o) (cond_true (key_is k (Some k)) (Some n) (child_at (To k) cs) (bytes_refl k))))
+        ∙ (cond-true (key_is k (Some k)) (Some (at_once (under (To k) f) n)) (child_at (To k) (each_at_once f (suc i) cs)) (bytes_refl k)
+        ∙ sym (ap (λ (o : Option Node). done_child (To k) f o) (cond-true (key_is k (Some k)) (Some n) (child_at (To k) cs) (bytes_refl k))))
 
     other : (o : Option (List ℕ)) (hc : List (List ℕ)) (lc : Option (List ℕ)) → key_is k o ≡ false → child_at (To k) (each_at_once f (suc i) cs) ≡ done_child (To k) f (child_at (To k) cs) →
         child_at (To k) (child_done (under (step_by i o) f) (record { key = o; head_comment = hc; line_comment = lc }) n (each_at_once f (suc i) cs)) ≡ done_child (To k) f (cond (key_is k o) (Some n) (child_at (To k) cs))
     other o hc lc e ih =
         find_past_key k o hc lc e (f (step_by i o ∷ [])) (at_once (under (step_by i o) f) n) (each_at_once f (suc i) cs)
-        ∙ (ih ∙ sym (ap (λ (x : Option Node). done_child (To k) f x) (cond_false (key_is k o) (Some n) (child_at (To k) cs) e)))
+        ∙ (ih ∙ sym (ap (λ (x : Option Node). done_child (To k) f x) (cond-false (key_is k o) (Some n) (child_at (To k) cs) e)))
 
     go : (o : Option (List ℕ)) (hc : List (List ℕ)) (lc : Option (List ℕ)) → child_at (To k) (each_at_once f (suc i) cs) ≡ done_child (To k) f (child_at (To k) cs) →
         child_at (To k) (child_done (under (step_by i o) f) (record { key = o; head_comment = hc; line_comment = lc }) n (each_at_once f (suc i) cs)) ≡ done_child (To k) f (cond (key_is k o) (Some n) (child_at (To k) cs))
     go None hc lc ih = other None hc lc refl ih
-    go (Some j) hc lc ih = elim (is_true (bytes_eq j k)) [
+    go (Some j) hc lc ih = elim (cases_Bool (bytes_eq j k)) [
       | inl same ↦ subst (λ (c : List ℕ). child_at (To k) (child_done (under (To c) f) (record { key = Some c; head_comment = hc; line_comment = lc }) n (each_at_once f (suc i) cs)) ≡
           done_child (To k) f (cond (key_is k (Some c)) (Some n) (child_at (To k) cs))) (sym (bytes_same j k same)) (there hc lc)
       | inr differs ↦ other (Some j) hc lc differs ih

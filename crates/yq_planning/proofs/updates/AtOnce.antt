@@ -1,5 +1,7 @@
 -- What is done at once is one thing more done to what the rest makes.
 use Rattle.std.proofs.Common.{◌≡◌, ◌≢◌, ℕ, suc, ◌+◌, ◌<◌, ◌⊎◌, Bool, true, false, cond, List, [], ◌∷◌, Option, Some, None, refl, sym, ap, subst, ◌∙◌, inl, inr, arith, zero, ◌&&◌}
+use Rattle.std.proofs.lemmas.Bool.{cases_Bool, cond-false, cond-true}
+use Rattle.std.proofs.lemmas.Option.{none-some, same_Some}
 use Rattle.yq_scalar.specs.Tree.{Label, Node, alias, scalar, list, Children, none, child, map}
 use Rattle.yq_scalar.specs.Paths.{To, Nth, key_is, is_here, further, Step, within}
 use Rattle.yq_meaning.specs.Deeds.{step_to, Deed, becomes, line, head, goes, Deeds, under, done_at, child_by, inside, each_at_once, at_once, same_path, and_at, at_child, here, one_at}
@@ -7,8 +9,7 @@ use Rattle.yq_meaning.specs.Places.{step_by}
 use Rattle.yq_scalar.specs.PathOrder.{Before}
 use Rattle.yq_scalar.specs.Shapes.{IsNew, AreItems, AreEntries, IsTree, AreTrees}
 use Rattle.std.specs.Str.{bytes_eq}
-use Rattle.yq_scalar.proofs.Bools.{is_true}
-use Rattle.yq_meaning.proofs.PathLaws.{none_some, some_same, cond_true, cond_false, bytes_refl, bytes_same, bytes_other, to_nth, step_refl, step_other, apart_root}
+use Rattle.yq_meaning.proofs.PathLaws.{bytes_refl, bytes_same, bytes_other, to_nth, step_refl, step_other, apart_root}
 use Rattle.yq_planning.proofs.updates.Spares.{deeds_same, IsSpared, Spares, spares_under, nothing, spares_root, spares_behind, child_done, idle}
 
 -- none of the steps to these is this one
@@ -33,10 +34,10 @@ at_rest s h d label m rest = at_child s h (child_by d label m rest) ≡ child_by
 -- a step to a key leads past others
 past_key : (k : List ℕ) (h : Label → Node → Children → Children) (o : Option (List ℕ)) (hc : List (List ℕ)) (lc : Option (List ℕ)) → key_is k o ≡ false → (d : Option Deed) (m : Node) (rest : Children) →
     at_rest (To k) h d (record { key = o; head_comment = hc; line_comment = lc }) m rest
-past_key k h o hc lc e None m rest = cond_false (key_is k o) _ _ e
-past_key k h o hc lc e (Some (becomes g)) m rest = cond_false (key_is k o) _ _ e
-past_key k h o hc lc e (Some (line text)) m rest = cond_false (key_is k o) _ _ e
-past_key k h o hc lc e (Some (head texts)) m rest = cond_false (key_is k o) _ _ e
+past_key k h o hc lc e None m rest = cond-false (key_is k o) _ _ e
+past_key k h o hc lc e (Some (becomes g)) m rest = cond-false (key_is k o) _ _ e
+past_key k h o hc lc e (Some (line text)) m rest = cond-false (key_is k o) _ _ e
+past_key k h o hc lc e (Some (head texts)) m rest = cond-false (key_is k o) _ _ e
 past_key k h o hc lc e (Some goes) m rest = refl
 
 -- a step to a later item leads past one that stays
@@ -80,7 +81,7 @@ more_here s t x p f g more label n tree is fs gs same =
     ap (child_done (under s f) label n) same
     ∙ (ap (λ (m : Node). child_by (f (s ∷ [])) label m gs) (more.within_it n tree)
     ∙ (ap (λ (d : Option Deed). child_by d label (one_at p x (at_once (under s g) n)) gs) more.at
-    ∙ (sym (cond_true (is_here t label) (there x p label (at_once (under s g) n) gs) _ is)
+    ∙ (sym (cond-true (is_here t label) (there x p label (at_once (under s g) n) gs) _ is)
     ∙ ap (λ (d : Option Deed). at_child t (there x p) (child_by d label (at_once (under s g) n) gs)) (sym more.free))))
 
 new_none : (k : List ℕ) (i : ℕ) (cs : Children) → IsNew k cs → HasNone (To k) i cs
@@ -106,11 +107,11 @@ AreDistinct (child label n cs) = ((k : List ℕ) → label.key ≡ Some k → Is
 
 items_distinct : (cs : Children) → AreItems cs → AreDistinct cs
 items_distinct none h = tt
-items_distinct (child label n cs) h = ((λ k e. absurd (none_some (sym h.0 ∙ e))), items_distinct cs h.1)
+items_distinct (child label n cs) h = ((λ k e. absurd (none-some _ (sym h.0 ∙ e))), items_distinct cs h.1)
 
 entries_distinct : (cs : Children) → AreEntries cs → AreDistinct cs
 entries_distinct none h = tt
-entries_distinct (child label n cs) h = ((λ k e. subst (λ j. IsNew j cs) (some_same (sym h.0.1 ∙ e)) h.0.2), entries_distinct cs h.1)
+entries_distinct (child label n cs) h = ((λ k e. subst (λ j. IsNew j cs) (same_Some _ _ (sym h.0.1 ∙ e)) h.0.2), entries_distinct cs h.1)
 
 -- what is done at the first child and those behind it
 abbrev first_done : Deeds → ℕ → Option (List ℕ) → List (List ℕ) → Option (List ℕ) → Node → Children → Children
@@ -137,7 +138,7 @@ module _ (x : Deed) (p : List Step) (f g : Deeds) (i : ℕ) (n : Node) (cs : Chi
       (o : Option (List ℕ)) (hc : List (List ℕ)) (lc : Option (List ℕ)) → ((j : List ℕ) → o ≡ Some j → IsNew j cs) →
       first_done f i o hc lc n (each_at_once f (suc i) cs) ≡ at_child (To k) (there x p) (first_done g i o hc lc n (each_at_once g (suc i) cs))
   key_turn k more rest None hc lc new = key_other k more rest None hc lc refl (λ e. to_nth k i (sym e))
-  key_turn k more rest (Some j) hc lc new = elim (is_true (bytes_eq j k)) [
+  key_turn k more rest (Some j) hc lc new = elim (cases_Bool (bytes_eq j k)) [
     | inl same ↦ subst (λ (c : List ℕ). first_done f i (Some c) hc lc n (each_at_once f (suc i) cs) ≡ at_child (To k) (there x p) (first_done g i (Some c) hc lc n (each_at_once g (suc i) cs)))
         (sym (bytes_same j k same)) (key_this k more hc lc (subst (λ c. IsNew c cs) (bytes_same j k same) (new j refl)))
     | inr differs ↦ key_other k more rest (Some j) hc lc differs (λ e. bytes_other j k differs (let same : j ≡ k = cc in same))

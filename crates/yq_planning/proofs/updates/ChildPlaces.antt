@@ -1,5 +1,7 @@
 -- From a place to a child, and to all of them.
 use Rattle.std.proofs.Common.{◌≡◌, ◌≢◌, ℕ, suc, ◌+◌, ◌<◌, ◌⊎◌, Bool, true, false, cond, List, [], ◌∷◌, ◌++◌, map, Option, Some, None, option_and_then, refl, sym, ap, subst, ◌∙◌, inl, inr, arith, append-nil}
+use Rattle.std.proofs.lemmas.Bool.{cond-false, cond-true}
+use Rattle.std.proofs.lemmas.Option.{none-some, same_Some}
 use Rattle.yq_scalar.specs.Tree as tree
 use Rattle.yq_scalar.specs.Tree.{Node, alias, scalar, list, Children, none, child, children_of}
 use Rattle.yq_scalar.specs.Paths as paths
@@ -9,7 +11,7 @@ use Rattle.yq_meaning.specs.Places.{step_by, Place, child_place, miss, stepped}
 use Rattle.yq_planning.specs.PlacesApart.{IsBeforeAll, AreApart, IsIn}
 use Rattle.yq_scalar.specs.PathOrder.{Parts}
 use Rattle.yq_scalar.specs.Shapes.{IsNew, AreItems, AreEntries, IsTree, AreTrees}
-use Rattle.yq_meaning.proofs.PathLaws.{none_some, some_same, cond_true, cond_false, bytes_refl, bytes_differ, before_in}
+use Rattle.yq_meaning.proofs.PathLaws.{bytes_refl, bytes_differ, before_in}
 use Rattle.yq_planning.proofs.updates.GoodPlaces.{LieIn, AreSound, Leads}
 
 -- no place
@@ -30,7 +32,7 @@ leads_missing root p (index i) tree at = leads_self root p (record p { missing =
 leads_missing root p each tree at = leads_none root p
 
 pub node_further : (p : List paths.Step) (s : paths.Step) (root n : Node) → node_at p root ≡ Some n → node_at (p ++ s ∷ []) root ≡ child_at s (children_of n)
-node_further [] s root n h = same_of (child_at s (children_of root)) ∙ ap (λ (m : Node). child_at s (children_of m)) (some_same h)
+node_further [] s root n h = same_of (child_at s (children_of root)) ∙ ap (λ (m : Node). child_at s (children_of m)) (same_Some _ _ h)
   where
     same_of : (o : Option Node) → option_and_then (node_at []) o ≡ o
     same_of None = refl
@@ -39,15 +41,15 @@ node_further (t ∷ p) s root n h = go (child_at t (children_of root)) (λ m. no
   where
     go : (o : Option Node) → ((m : Node) → node_at p m ≡ Some n → node_at (p ++ s ∷ []) m ≡ child_at s (children_of n)) →
         option_and_then (node_at p) o ≡ Some n → option_and_then (node_at (p ++ s ∷ [])) o ≡ child_at s (children_of n)
-    go None ih e = absurd (none_some e)
+    go None ih e = absurd (none-some _ e)
     go (Some m) ih e = ih m e
 
 pub child_tree : (s : paths.Step) (cs : Children) (n : Node) → AreTrees cs → child_at s cs ≡ Some n → IsTree n
-child_tree s none n trees h = absurd (none_some h)
+child_tree s none n trees h = absurd (none-some _ h)
 child_tree s (child label m cs) n trees h = go (is_here s label) (child_tree (further s) cs n trees.1) h
   where
     go : (b : Bool) → (child_at (further s) cs ≡ Some n → IsTree n) → cond b (Some m) (child_at (further s) cs) ≡ Some n → IsTree n
-    go true rest e = subst IsTree (some_same e) trees.0
+    go true rest e = subst IsTree (same_Some _ _ e) trees.0
     go false rest e = rest e
 
 pub children_tree : (n : Node) → IsTree n → AreTrees (children_of n)
@@ -72,7 +74,7 @@ EachIs Q (x ∷ xs) = Q x.0 x.1 × EachIs Q xs
 
 pub absent : (k : List ℕ) (cs : Children) → IsNew k cs → child_at (To k) cs ≡ None
 absent k none h = refl
-absent k (child label n cs) h = cond_false (key_is k label.key) _ _ (go label.key h.0) ∙ absent k cs h.1
+absent k (child label n cs) h = cond-false (key_is k label.key) _ _ (go label.key h.0) ∙ absent k cs h.1
   where
     go : (o : Option (List ℕ)) → o ≢ Some k → key_is k o ≡ false
     go None d = refl
@@ -83,8 +85,8 @@ entries_at Q i none h q = tt
 entries_at Q i (child label n cs) h q =
     let k : List ℕ = h.0.0 in
     let here : key_is k label.key ≡ true = ap (key_is k) h.0.1 ∙ bytes_refl k in (
-      subst (λ (o : Option (List ℕ)). Q (step_by i o) n) (sym h.0.1) (q k n (cond_true (key_is k label.key) _ _ here)),
-      entries_at Q (suc i) cs h.1 (λ j m e. q j m (cond_false (key_is j label.key) _ _ (ap (key_is j) h.0.1 ∙ bytes_differ k j (λ same. none_some (sym (absent j cs (subst (λ c. IsNew c cs) same h.0.2)) ∙ e))) ∙ e)),
+      subst (λ (o : Option (List ℕ)). Q (step_by i o) n) (sym h.0.1) (q k n (cond-true (key_is k label.key) _ _ here)),
+      entries_at Q (suc i) cs h.1 (λ j m e. q j m (cond-false (key_is j label.key) _ _ (ap (key_is j) h.0.1 ∙ bytes_differ k j (λ same. none-some _ (sym (absent j cs (subst (λ c. IsNew c cs) same h.0.2)) ∙ e))) ∙ e)),
     )
 
 items_at : (Q : paths.Step → Node → Type 0) (i : ℕ) (cs : Children) → AreItems cs → ((r : ℕ) (n : Node) → child_at (Nth r) cs ≡ Some n → Q (Nth (i + r)) n) → EachIs Q (stepped i cs)
@@ -92,7 +94,7 @@ items_at Q i none h q = tt
 items_at Q i (child label n cs) h q =
     let here : is_item label.key ≡ true = ap is_item h.0 in
     let start : i + 0 ≡ i = omega arith in (
-      subst (λ (o : Option (List ℕ)). Q (step_by i o) n) (sym h.0) (subst (λ (j : ℕ). Q (Nth j) n) start (q 0 n (cond_true (is_item label.key) _ _ here))),
+      subst (λ (o : Option (List ℕ)). Q (step_by i o) n) (sym h.0) (subst (λ (j : ℕ). Q (Nth j) n) start (q 0 n (cond-true (is_item label.key) _ _ here))),
       items_at Q (suc i) cs h.1 (λ r m e. let next : i + suc r ≡ suc i + r = omega arith in subst (λ (j : ℕ). Q (Nth j) m) next (q (suc r) m e)),
     )
 

@@ -1,5 +1,7 @@
 -- Of the places to which a pipe leads, none but the first one is at the first item or entry of the root.
 use Rattle.std.proofs.Common.{◌≡◌, ◌≢◌, ℕ, ◌⊎◌, Bool, true, false, List, [], ◌∷◌, ◌++◌, map, Some, None, refl, sym, ap, subst, ◌∙◌, inl, inr}
+use Rattle.std.proofs.lemmas.Option.{same_Some}
+use mathlib.Core.List.{head-eq_of_cons-eq, tail-eq_of_cons-eq}
 use Rattle.yq_scalar.specs.Tree as tree
 use Rattle.yq_scalar.specs.Tree.{Label, Node, alias, scalar, list, Children, none, child, children_of}
 use Rattle.yq_scalar.specs.Paths as paths
@@ -16,7 +18,7 @@ use Rattle.yq_planning.specs.PlacesApart.{IsBeforeAll, IsIn}
 use Rattle.yq_scalar.specs.PathOrder.{Before}
 use Rattle.yq_scalar.specs.Shapes.{AreItems, AreEntries, IsTree}
 use Rattle.yq_planning.proofs.JudgementLaws.{then_gives, gives_same}
-use Rattle.yq_meaning.proofs.PathLaws.{some_same, parts_differ}
+use Rattle.yq_meaning.proofs.PathLaws.{parts_differ}
 use Rattle.yq_planning.proofs.updates.GoodPlaces.{LieIn, AreSound, LeadsSo, AreGood, each_good}
 use Rattle.yq_planning.proofs.updates.ChildPlaces.{StepsBefore, StepsApart, items_apart, entries_apart}
 use Rattle.yq_planning.proofs.updates.StepPlaces.{leads_step}
@@ -48,12 +50,6 @@ later_join : (s : paths.Step) (ps qs : List Place) → NoPlaceLater s ps → NoP
 later_join s [] qs h k = no_later s qs k
 later_join s (p ∷ ps) qs h k = no_join s ps qs h k
 
-cons_nil : (t s : paths.Step) (p : List paths.Step) → t ∷ p ≡ s ∷ [] → p ≡ []
-cons_nil t s p e = cc
-
-cons_head : (t s : paths.Step) (p : List paths.Step) → t ∷ p ≡ s ∷ [] → t ≡ s
-cons_head t s p e = cc
-
 no_nil : (p : List paths.Step) (t : paths.Step) → p ++ t ∷ [] ≡ [] → ⊥
 no_nil [] t e = cc
 no_nil (s ∷ p) t e = cc
@@ -67,7 +63,7 @@ lying_other : (s : paths.Step) (x p : List paths.Step) (r : List paths.Step) →
 lying_other s [] p r b d e = b
 lying_other s (y ∷ x) [] r b d e = b
 lying_other s (y ∷ x) (t ∷ p) r b d e =
-    d (ap (λ (u : paths.Step). u ∷ p) (cons_head t s (p ++ r) e) ∙ ap (λ (q : List paths.Step). s ∷ q) (front_nil p r (cons_nil t s (p ++ r) e)))
+    d (ap (λ (u : paths.Step). u ∷ p) (head-eq_of_cons-eq e) ∙ ap (λ (q : List paths.Step). s ∷ q) (front_nil p r (tail-eq_of_cons-eq e)))
 
 lying_none : (s : paths.Step) (x p : List paths.Step) (qs : List Place) → Before x p → p ≢ s ∷ [] → LieIn p qs → NoPlaceAt s qs
 lying_none s x p [] b d l = tt
@@ -97,13 +93,13 @@ each_first root f so s first (p ∷ ps) qs good n h =
 root_children : (s : paths.Step) (p : Place) (xs : List (paths.Step × Node)) → p.path ≡ [] → StepsBefore s xs → NoPlaceAt s (map (child_place p) xs)
 root_children s p [] is h = tt
 root_children s p (x ∷ xs) is h =
-    ((λ e. parts_differ s x.0 h.0 (cons_head x.0 s [] (ap (λ (q : List paths.Step). q ++ x.0 ∷ []) (sym is) ∙ e))), root_children s p xs is h.1)
+    ((λ e. parts_differ s x.0 h.0 (head-eq_of_cons-eq (ap (λ (q : List paths.Step). q ++ x.0 ∷ []) (sym is) ∙ e))), root_children s p xs is h.1)
 
 -- of those of another node none is there
 other_children : (s t : paths.Step) (r : List paths.Step) (p : Place) (xs : List (paths.Step × Node)) → p.path ≡ t ∷ r → NoPlaceAt s (map (child_place p) xs)
 other_children s t r p [] is = tt
 other_children s t r p (x ∷ xs) is =
-    ((λ e. no_nil r x.0 (cons_nil t s (r ++ x.0 ∷ []) (ap (λ (q : List paths.Step). q ++ x.0 ∷ []) (sym is) ∙ e))), other_children s t r p xs is)
+    ((λ e. no_nil r x.0 (tail-eq_of_cons-eq (ap (λ (q : List paths.Step). q ++ x.0 ∷ []) (sym is) ∙ e))), other_children s t r p xs is)
 
 first_children : (root : Node) (s : paths.Step) → IsFirstStep root s → (p : Place) → IsIn root p → (cs : Children) → children_of p.node ≡ cs → AreItems cs ⊎ AreEntries cs → NoPlaceLater s (map (child_place p) (stepped 0 cs))
 first_children root s first p at none is kind = tt
@@ -118,7 +114,7 @@ first_children root s first p at (child label n cs) is kind = go p.path refl
 
     go : (x : List paths.Step) → p.path ≡ x → NoPlaceAt s (map (child_place p) (stepped 1 cs))
     go [] top =
-        let root_is : root ≡ p.node = some_same (ap (λ (x : List paths.Step). node_at x root) (sym top) ∙ at) in
+        let root_is : root ≡ p.node = same_Some _ _ (ap (λ (x : List paths.Step). node_at x root) (sym top) ∙ at) in
         let same : first.0 ≡ label = label_same first.0 label first.1 n first.2 cs (sym first.3 ∙ (ap children_of root_is ∙ is)) in
         let step : step_to 0 label ≡ s = ap (step_to 0) (sym same) ∙ first.4 in
         root_children s p (stepped 1 cs) top (subst (λ (t : paths.Step). StepsBefore t (stepped 1 cs)) step (apart kind).0)

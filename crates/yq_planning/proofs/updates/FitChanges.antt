@@ -1,11 +1,11 @@
 -- Each operation of a plan fits at its turn.
 use Rattle.std.proofs.Common.{◌≡◌, ℕ, suc, Bool, true, false, cond, ◌&&◌, ◌||◌, List, [], ◌∷◌, ◌++◌, length, Option, Some, None, is_some, refl, sym, ap, subst, ◌∙◌, inl, inr}
+use Rattle.std.proofs.lemmas.Bool.{and_parts, or_parts}
 use Rattle.std.specs.List.{list_any}
 use Rattle.yq_scalar.specs.Tree as tree
 use Rattle.yq_scalar.specs.Tree.{Node, alias, scalar, list, Children, none, child}
 use Rattle.yq_scalar.specs.Paths as paths
 use Rattle.yq_scalar.specs.Paths.{To, child_at, node_at}
-use Rattle.yq_scalar.proofs.Bools.{and_true, or_false}
 use Rattle.yq_scalar.specs.Anchors.{names_of}
 use Rattle.yq_program.specs.declared.program.CommentPlace.{CommentPlace}
 use Rattle.yq_program.specs.declared.program.Operator.TheVariants as operator
@@ -115,8 +115,8 @@ made_fit room root p v (key k) ms (tree.map anchor cs) is at miss pure =
   where
     added_one : IsFree root (p.path, adds (appends (Some k) (nested ms v) ∷ [])) → FitAdds root p.path (tree.map anchor cs) (appends (Some k) (nested ms v) ∷ [])
     added_one f =
-        let long = or_false (is_long (Some k)) (has_long_key (nested ms v)) (or_false (is_long (Some k) || has_long_key (nested ms v)) false f.0).0 in
-        ((long.0, (nested_tree ms v pure.0, long.1, (or_false (is_deep (suc (length p.path)) (nested ms v)) false f.1).0), (anchor, cs, refl, miss)), tt)
+        let long = or_parts (is_long (Some k)) (has_long_key (nested ms v)) (or_parts (is_long (Some k) || has_long_key (nested ms v)) false f.0).0 in
+        ((long.0, (nested_tree ms v pure.0, long.1, (or_parts (is_deep (suc (length p.path)) (nested ms v)) false f.1).0), (anchor, cs, refl, miss)), tt)
 made_fit room root p v (index i) ms (tree.map anchor cs) is at miss pure = absurd miss
 made_fit room root p v each ms (tree.map anchor cs) is at miss pure = absurd miss
 
@@ -187,7 +187,7 @@ say_fits : (room : Room) (root : Node) (place : CommentPlace) (text : List ℕ) 
 say_fits room root place text good p cs tree at miss h = go (is_there p.missing && room.has place p.path) refl h
   where
     go : (b : Bool) → (is_there p.missing && room.has place p.path) ≡ b → cond b (gives ((p.path, sets_comment place text) ∷ [])) (refuses NoPlaceForComment) ≡ gives cs → EachIfFree room root cs
-    go true is e = subst (EachIfFree room root) (gives_same e) ((tt, λ f. ((and_true (is_there p.missing) (room.has place p.path) is).1, good, (p.node, at))), tt)
+    go true is e = subst (EachIfFree room root) (gives_same e) ((tt, λ f. ((and_parts (is_there p.missing) (room.has place p.path) is).1, good, (p.node, at))), tt)
     go false is e = absurd (cc)
 
 -- ---- of an update

@@ -1,6 +1,7 @@
 -- Each operation of changes that are allowed fits at its turn.
 use Rattle.std.proofs.Common.{◌≡◌, ℕ, suc, Bool, true, false, cond, List, [], ◌∷◌, ◌++◌, length, map, reverse, Option, Some, None, option_and_then, refl, sym, ap, subst, ◌∙◌, inl, inr, append-nil, arith, length-append}
 use Rattle.std.proofs.lemmas.List.{reverse-reverse}
+use Rattle.std.proofs.lemmas.Option.{same_Some}
 use Rattle.yq_scalar.specs.Tree as tree
 use Rattle.yq_scalar.specs.Tree.{Node, alias, scalar, list, Children, none, child, children_of}
 use Rattle.yq_scalar.specs.Paths.{Step, To, is_here, further, child_at, node_at, change_child, within, change}
@@ -58,12 +59,9 @@ child_changed : (s : Step) (f : Node → Node) (cs : Children) (n : Node) → ch
 child_changed s f none n h = absurd (cc)
 child_changed s f (child label m cs) n h = go (is_here s label) refl (child_changed (further s) f cs n) h
   where
-    some_same : {x y : Node} → Some x ≡ Some y → x ≡ y
-    some_same e = cc
-
     go : (b : Bool) → is_here s label ≡ b → (child_at (further s) cs ≡ Some n → child_at (further s) (change_child (further s) f cs) ≡ Some (f n)) → cond b (Some m) (child_at (further s) cs) ≡ Some n →
         child_at s (cond b (child label (f m) cs) (child label m (change_child (further s) f cs))) ≡ Some (f n)
-    go true is ih e = ap (λ (b : Bool). cond b (Some (f m)) (child_at (further s) cs)) is ∙ ap (λ (x : Node). Some (f x)) (some_same e)
+    go true is ih e = ap (λ (b : Bool). cond b (Some (f m)) (child_at (further s) cs)) is ∙ ap (λ (x : Node). Some (f x)) (same_Some _ _ e)
     go false is ih e = ap (λ (b : Bool). cond b (Some m) (child_at (further s) (change_child (further s) f cs))) is ∙ ih e
 
 children_within : (s : Step) (f : Node → Node) (r n : Node) → child_at s (children_of r) ≡ Some n → child_at s (children_of (within (change_child s f) r)) ≡ Some (f n)

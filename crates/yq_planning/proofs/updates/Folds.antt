@@ -3,7 +3,6 @@ use Rattle.std.proofs.Common.{◌≡◌, ℕ, Bool, true, false, cond, List, [],
 use Rattle.std.proofs.lemmas.List.{reverse-append, reverse-reverse}
 use Rattle.yq_scalar.specs.Tree.{Node}
 use Rattle.yq_scalar.specs.Paths.{Step}
-use Rattle.yq_scalar.proofs.Bools.{and_true}
 use Rattle.yq_meaning.specs.Changes.{Change, replaces, adds, sets_comment, Changed}
 use Rattle.yq_meaning.specs.Deeds.{Deed, becomes, line, head, goes, Deeds, at_once, same_step, same_path, and_at, done_by}
 use Rattle.yq_meaning.specs.Meaning.{placed_deed, deed_of}
@@ -18,7 +17,7 @@ use Rattle.yq_planning.proofs.updates.AtOnce.{one_more}
 use Rattle.yq_meaning.proofs.PathLaws.{bytes_same, parts_not}
 use Rattle.yq_planning.proofs.updates.Spares.{idle, IsSpared, Spares, deeds_same}
 use Rattle.yq_planning.proofs.updates.OneAt.{roots_after, roots_join, change_after}
-use Rattle.std.proofs.lemmas.Bool.{false≢true, eqb-true}
+use Rattle.std.proofs.lemmas.Bool.{false≢true, eqb-true, and_parts}
 use Rattle.yq_scalar.specs.Paths.{To, Nth}
 
 -- ---- which path is which
@@ -34,7 +33,7 @@ path_same [] [] h = refl
 path_same [] (t ∷ q) h = absurd (false≢true h)
 path_same (s ∷ p) [] h = absurd (false≢true h)
 path_same (s ∷ p) (t ∷ q) h =
-    let parts = and_true (same_step s t) (same_path p q) h in
+    let parts = and_parts (same_step s t) (same_path p q) h in
     ap (λ (r : Step). r ∷ p) (step_same s t parts.0) ∙ ap (λ (r : List Step). t ∷ r) (path_same p q parts.1)
 
 before_irrefl : (p : List Step) → Before p p → ⊥

@@ -1,8 +1,9 @@
 -- Trees without aliases: nothing in them mentions a name.
 use Rattle.std.proofs.Common.{◌≡◌, ℕ, ◌⊎◌, Bool, true, false, ◌||◌, List, [], ◌∷◌, ◌++◌, Option, Some, None, refl, sym, ap, ◌∙◌, inl, inr}
+use Rattle.std.proofs.Math.Bool.{or-false}
 use Rattle.std.specs.List.{list_any}
 use Rattle.std.specs.Str.{bytes_eq}
-use Rattle.std.proofs.lemmas.Bool.{false≢true}
+use Rattle.std.proofs.lemmas.Bool.{false≢true, or_cases, or_left, or_right}
 use Rattle.yq_scalar.specs.Tree as tree
 use Rattle.yq_scalar.specs.Tree.{Node, alias, scalar, list, Children, none, child, children_of}
 use Rattle.yq_scalar.specs.Anchors.{Name, Anchors, Refers, with_anchor, names_of, names_in}
@@ -31,28 +32,16 @@ HasNoAlias n = (a : List ℕ) → Mentions a n → ⊥
 abbrev pub IsPure : Node → Type 0
 IsPure v = IsTree v × HasNoAlias v
 
-or_true : (x y : Bool) → (x || y) ≡ true → (x ≡ true) ⊎ (y ≡ true)
-or_true true y h = inl refl
-or_true false y h = inr h
-
-or_left : (x y : Bool) → x ≡ true → (x || y) ≡ true
-or_left true y h = refl
-or_left false y h = absurd (false≢true h)
-
-or_right : (x y : Bool) → y ≡ true → (x || y) ≡ true
-or_right true y h = refl
-or_right false y h = h
-
 any_split : {A : Type 0} (f : A → Bool) (xs ys : List A) → list_any f (xs ++ ys) ≡ true → (list_any f xs ≡ true) ⊎ (list_any f ys ≡ true)
 any_split f [] ys h = inr h
-any_split f (x ∷ xs) ys h = elim (or_true (f x) (list_any f (xs ++ ys)) h) [
+any_split f (x ∷ xs) ys h = elim (or_cases (f x) (list_any f (xs ++ ys)) h) [
   | inl e ↦ inl (or_left (f x) (list_any f xs) e)
   | inr e ↦ elim (any_split f xs ys e) [ inl k ↦ inl (or_right (f x) (list_any f xs) k) | inr k ↦ inr k ]
 ]
 
 any_left : {A : Type 0} (f : A → Bool) (xs ys : List A) → list_any f xs ≡ true → list_any f (xs ++ ys) ≡ true
 any_left f [] ys h = absurd (false≢true h)
-any_left f (x ∷ xs) ys h = elim (or_true (f x) (list_any f xs) h) [ inl e ↦ or_left (f x) (list_any f (xs ++ ys)) e | inr e ↦ or_right (f x) (list_any f (xs ++ ys)) (any_left f xs ys e) ]
+any_left f (x ∷ xs) ys h = elim (or_cases (f x) (list_any f xs) h) [ inl e ↦ or_left (f x) (list_any f (xs ++ ys)) e | inr e ↦ or_right (f x) (list_any f (xs ++ ys)) (any_left f xs ys e) ]
 
 any_right : {A : Type 0} (f : A → Bool) (xs ys : List A) → list_any f ys ≡ true → list_any f (xs ++ ys) ≡ true
 any_right f [] ys h = h
@@ -62,13 +51,9 @@ any_anchor : (a : List ℕ) (anchor : Option (List ℕ)) (names : List Name) →
 any_anchor a None names = refl
 any_anchor a (Some b) names = refl
 
-one_or : (b : Bool) → (b || false) ≡ b
-one_or true = refl
-one_or false = refl
-
 mutual
   mentioned : (a : List ℕ) (n : Node) → list_any (refers_to a) (names_of n) ≡ true → Mentions a n
-  mentioned a (alias name) h = sym (one_or (bytes_eq a name)) ∙ h
+  mentioned a (alias name) h = sym (or-false (bytes_eq a name)) ∙ h
   mentioned a (scalar anchor kind text) h = false≢true (sym (any_anchor a anchor []) ∙ h)
   mentioned a (list anchor cs) h = any_mentioned a cs (sym (any_anchor a anchor (names_in cs)) ∙ h)
   mentioned a (tree.map anchor cs) h = any_mentioned a cs (sym (any_anchor a anchor (names_in cs)) ∙ h)
@@ -79,7 +64,7 @@ mutual
 
 mutual
   told : (a : List ℕ) (n : Node) → Mentions a n → list_any (refers_to a) (names_of n) ≡ true
-  told a (alias name) h = one_or (bytes_eq a name) ∙ h
+  told a (alias name) h = or-false (bytes_eq a name) ∙ h
   told a (scalar anchor kind text) h = absurd h
   told a (list anchor cs) h = any_anchor a anchor (names_in cs) ∙ any_told a cs h
   told a (tree.map anchor cs) h = any_anchor a anchor (names_in cs) ∙ any_told a cs h

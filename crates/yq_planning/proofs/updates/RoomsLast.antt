@@ -1,5 +1,6 @@
 -- The room that the operations of a plan ask for lasts.
 use Rattle.std.proofs.Common.{◌≡◌, ◌<◌, ◌⊎◌, ℕ, suc, Bool, true, false, cond, List, [], ◌∷◌, ◌++◌, map, reverse, option_and_then, Some, refl, sym, subst, ◌∙◌, inl, inr, arith}
+use Rattle.std.proofs.lemmas.Option.{same_Some}
 use Rattle.yq_scalar.specs.PathOrder.{Before}
 use Rattle.yq_scalar.specs.Paths.{Step, child_at, node_at}
 use Rattle.yq_scalar.specs.Tree.{Node, Children, none, child, children_of}
@@ -59,11 +60,8 @@ removes_keeps rooms (replace doc path v) ops docs r f = absurd r
 removes_keeps rooms (append doc path k v) ops docs r f = absurd r
 removes_keeps rooms (remove doc path) ops docs r f = go (subst (λ (os : List Operation). AllFit rooms os docs) r.2 f)
   where
-    some_same : {d e : Document} → Some d ≡ Some e → d ≡ e
-    some_same e = cc
-
     go : AllFit rooms (remove doc r.0 ∷ r.1) docs → KeepsBlockIn (remove doc path) docs
-    go (fits, rest) e at = subst (λ (x : Document). HasSome (children_of x.root)) (some_same (sym fits.1 ∙ at)) (some_below r.0 fits.0.root fits.2.1.0 fits.2.0 fits.2.1.1)
+    go (fits, rest) e at = subst (λ (x : Document). HasSome (children_of x.root)) (same_Some _ _ (sym fits.1 ∙ at)) (some_below r.0 fits.0.root fits.2.1.0 fits.2.0 fits.2.1.1)
 removes_keeps rooms (line_comment doc path text) ops docs r f = absurd r
 removes_keeps rooms (head_comment doc path text) ops docs r f = absurd r
 

@@ -1,5 +1,6 @@
 -- Operations on a document, one after the other: the root, and the lead.
 use Rattle.std.proofs.Common.{◌≡◌, ◌≢◌, ℕ, ◌⊎◌, Bool, true, false, cond, List, [], ◌∷◌, ◌++◌, map, reverse, Option, Some, None, refl, sym, ap, subst, ◌∙◌, inl, inr, append-nil}
+use mathlib.Core.List.{nil≢cons}
 use Rattle.yq_scalar.specs.Tree as tree
 use Rattle.yq_scalar.specs.Tree.{Label, Node, alias, scalar, list, Children, none, child, children_of}
 use Rattle.yq_scalar.specs.Paths.{Step, To, is_here, further, change_child, relabel_child, append_child, within, change}
@@ -80,10 +81,7 @@ end_leaves g (s ∷ []) n h = within_leaves (relabel_child s g) (relabel_leaves 
 end_leaves g (s ∷ (t ∷ p)) n h = within_leaves (change_child s (at_end (λ r. relabel_child r g) (t ∷ p))) (change_leaves s (at_end (λ r. relabel_child r g) (t ∷ p))) n h
 
 op_leaves : (block : Bool) (lead : List (List ℕ)) (op : Operation) → Leaves op → (n : Node) → IsNone (children_of (root_after block lead op n)) → IsNone (children_of n)
-op_leaves block lead (replace doc [] v) l n h = absurd (go l.0 l.1 l.2)
-  where
-    go : (s : Step) (p : List Step) → [] ≡ s ∷ p → ⊥
-    go s p e = cc
+op_leaves block lead (replace doc [] v) l n h = absurd (nil≢cons l.2)
 op_leaves block lead (replace doc (s ∷ p) v) l n h = within_leaves (change_child s (change p (replaced v))) (change_leaves s (change p (replaced v))) n h
 op_leaves block lead (append doc [] k v) l n h = within_leaves (append_child (new_label k) v) (append_leaves (new_label k) v) n h
 op_leaves block lead (append doc (s ∷ p) k v) l n h = within_leaves (change_child s (change p (within (append_child (new_label k) v)))) (change_leaves s (change p (within (append_child (new_label k) v)))) n h
@@ -96,10 +94,7 @@ ops_leave block lead [] l n h = h
 ops_leave block lead (op ∷ ops) l n h = op_leaves block lead op l.0 n (ops_leave block lead ops l.1 (root_after block lead op n) h)
 
 led_under : (block : Bool) (lead other : List (List ℕ)) (p : List Step) (v : Node) → ((s : Step) × (q : List Step) × (p ≡ s ∷ q)) → led block lead p v ≡ led block other p v
-led_under block lead other [] v l = absurd (go l.0 l.1 l.2)
-  where
-    go : (s : Step) (p : List Step) → [] ≡ s ∷ p → ⊥
-    go s p e = cc
+led_under block lead other [] v l = absurd (nil≢cons l.2)
 led_under block lead other (s ∷ p) v l = refl
 
 pub op_any_lead : (block : Bool) (lead other : List (List ℕ)) (op : Operation) → Leaves op → (n : Node) → root_after block lead op n ≡ root_after block other op n

@@ -1,5 +1,6 @@
 -- From a place by a step.
 use Rattle.std.proofs.Common.{◌≡◌, ℕ, List, [], ◌∷◌, map, Option, Some, None, option_map, refl, sym, ap, subst, ◌∙◌, inl, inr}
+use Rattle.std.proofs.lemmas.Option.{none-some, same_Some}
 use Rattle.std.specs.Prelude.{ℤ}
 use Rattle.yq_scalar.specs.declared.kind.Kind.{Kind}
 use Rattle.yq_scalar.specs.declared.kind.Kind.TheVariants as kinds
@@ -16,7 +17,6 @@ use Rattle.yq_meaning.specs.Places.{Place, child_place, found_place, all_steps, 
 use Rattle.yq_planning.specs.PlacesApart.{IsIn}
 use Rattle.yq_scalar.specs.Shapes.{IsTree}
 use Rattle.yq_planning.proofs.JudgementLaws.{then_gives, gives_same}
-use Rattle.yq_meaning.proofs.PathLaws.{none_some, some_same}
 use Rattle.yq_planning.proofs.updates.GoodPlaces.{Leads, LeadsSo}
 use Rattle.yq_planning.proofs.updates.ChildPlaces.{leads_none, leads_missing, leads_child, leads_children}
 
@@ -25,7 +25,7 @@ abbrev IsFound : Node → Judgement Found → Type 0
 IsFound n j = (x : Found) → j ≡ gives x → (y : paths.Step × Node) → x ≡ Some y → child_at y.0 (children_of n) ≡ Some y.1
 
 found_scalar : (why : Refusal) (kind : Kind) (n : Node) → IsFound n (in_scalar why kind)
-found_scalar why kinds.Null n x e y is = absurd (none_some (gives_same e ∙ is))
+found_scalar why kinds.Null n x e y is = absurd (none-some _ (gives_same e ∙ is))
 found_scalar why kinds.Bool n x e y is = absurd (cc)
 found_scalar why kinds.Int n x e y is = absurd (cc)
 found_scalar why kinds.Float n x e y is = absurd (cc)
@@ -35,8 +35,8 @@ found_find : (s : paths.Step) (n : Node) → IsFound n (gives (find s (children_
 found_find s n x e y is = go (child_at s (children_of n)) refl (gives_same e ∙ is)
   where
     go : (o : Option Node) → child_at s (children_of n) ≡ o → option_map (λ m. (s, m)) o ≡ Some y → child_at y.0 (children_of n) ≡ Some y.1
-    go None at h = absurd (none_some h)
-    go (Some m) at h = let same : ◌≡◌ {A = paths.Step × Node} (s, m) y = some_same h in ap (λ (z : paths.Step × Node). child_at z.0 (children_of n)) (sym same) ∙ (at ∙ ap (λ (z : paths.Step × Node). Some z.1) same)
+    go None at h = absurd (none-some _ h)
+    go (Some m) at h = let same : ◌≡◌ {A = paths.Step × Node} (s, m) y = same_Some _ _ h in ap (λ (z : paths.Step × Node). child_at z.0 (children_of n)) (sym same) ∙ (at ∙ ap (λ (z : paths.Step × Node). Some z.1) same)
 
 found_key : (k : List ℕ) (n : Node) → IsFound n (key_step k n)
 found_key k (alias name) x e y is = absurd (cc)

@@ -3,6 +3,7 @@ use Rattle.std.proofs.Common.{◌≡◌, ◌≢◌, ℕ, Bool, true, false, cond
 use Rattle.std.specs.Prelude.{ℤ, ◌+ℤ◌}
 use Rattle.std.specs.Fmt.{signed_decimal}
 use Rattle.std.proofs.lemmas.Bool.{false≢true}
+use Rattle.std.proofs.lemmas.Option.{none-some}
 use Rattle.yq_scalar.specs.declared.kind.Kind.{Kind}
 use Rattle.yq_scalar.specs.declared.kind.Kind.TheVariants as kinds
 use Rattle.yq_scalar.specs.Numbers.{is_i64}
@@ -74,11 +75,8 @@ pub not_found : (k : List ℕ) (cs : Children) → child_at (To k) cs ≡ None �
 not_found k none h = tt
 not_found k (child label n cs) h = go (key_is k label.key) refl (not_found k cs) h
   where
-    some_none : {A : Type 0} {x : A} → Some x ≡ None → ⊥
-    some_none e = cc
-
     go : (b : Bool) → key_is k label.key ≡ b → (child_at (To k) cs ≡ None → IsNew k cs) → cond b (Some n) (child_at (To k) cs) ≡ None → (label.key ≢ Some k) × IsNew k cs
-    go true is ih e = absurd (some_none e)
+    go true is ih e = absurd (none-some _ (sym e))
     go false is ih e = ((λ same. let there : key_is k label.key ≡ true = ap (key_is k) same ∙ bytes_refl k in false≢true (sym is ∙ there)), ih e)
 
 new_append : (j k : List ℕ) (v : Node) (cs : Children) → j ≢ k → IsNew k cs → IsNew k (append_child (new_label (Some j)) v cs)

@@ -1,13 +1,12 @@
 -- A gap that stands behind a block scalar in the place of another one, repaired.
 use Rattle.std.proofs.Common.{◌≡◌, ◌⊎◌, ℕ, ◌<◌, true, false, List, [], ◌∷◌, ◌++◌, Option, Some, None, refl, sym, ap, ◌∙◌, subst, ⊎_elim, append_assoc}
-use Rattle.std.proofs.lemmas.Bool.{cond_both}
+use Rattle.std.proofs.lemmas.Bool.{cond_both, cases_Bool}
 use Rattle.yq_scalar.specs.Block.{Lines, BlockText, IsBlock, ends_block, keeps}
 use Rattle.yq_scalar.specs.BlockRepair.{AreGap, repair, is_behind}
 use Rattle.yq_scalar.specs.BlockWritten.{closed}
 use Rattle.yq_scalar.specs.Piece.{deeper}
 use Rattle.yq_scalar.specs.Text.{is_empty, lines_of, joined}
 use Rattle.yq_scalar.proofs.BlockRepairText.{repair_stands}
-use Rattle.yq_scalar.proofs.Bools.{is_true}
 use Rattle.yq_scalar.proofs.LineLaws.{joined-append}
 use Rattle.yq_rows.specs.Gap.{IsGapLine, AreGapLines, IsGap}
 use Rattle.yq_rows.specs.Grammar.{IsContent, Limit, limit_after, AreRows}
@@ -50,7 +49,7 @@ block_seam least column b ks x next rest h k some n less behind =
     (λ e.
     let without : hold_comment (lines_of (joined ks)) ≡ false = ap hold_comment own ∙ e in
     rw without (ap (ends_block keep b.indent) (text mended) ∙ ends_blank keep b.indent ks (lines_of x) (lines_of (mended ++ rest)) e was stands.behind))
-    (is_true (hold_comment ks))
+    (cases_Bool (hold_comment ks))
 
 pub seam_gap_is : (o : Option BlockText) (column : ℕ) (ks : Lines) (x next rest : List ℕ) → AreGapLines ks x → is_empty x ≡ false → IsGap next rest → IsGap (seam_gap o column (joined ks) next) rest
 seam_gap_is None column ks x next rest k some n = gap_joined (joined ks) next x rest some (record { lines = ks; spelled = refl; each = k }) n

@@ -1,12 +1,11 @@
 -- Gaps one behind the other, and what stays in front of a gap behind a block scalar.
 use Rattle.std.proofs.Common.{◌≡◌, ℕ, Bool, true, false, not, List, [], ◌∷◌, ◌++◌, refl, sym, ap, ◌∙◌, subst, ⊎_elim}
-use Rattle.std.proofs.lemmas.Bool.{false≢true, not-false, not-true}
+use Rattle.std.proofs.lemmas.Bool.{false≢true, not-false, not-true, and_parts, cases_Bool, or_parts}
 use Rattle.yq_scalar.specs.Block.{Lines, ends_block, is_empty_line, is_less_indented}
 use Rattle.yq_scalar.specs.declared.block_lines.TextIndent.{TextIndent}
 use Rattle.yq_scalar.specs.Lines.{behind_spaces, is_tab, is_blank}
 use Rattle.yq_scalar.specs.Text.{is_empty, ends_line, joined, lines_of}
 use Rattle.yq_scalar.specs.BlockRepair.{repair}
-use Rattle.yq_scalar.proofs.Bools.{is_true, and_true, or_false}
 use Rattle.yq_scalar.proofs.SpaceLaws.{char_not_blank}
 use Rattle.yq_scalar.proofs.LineLaws.{joined-append}
 use Rattle.yq_rows.specs.Gap.{AreGapLines, IsGap}
@@ -42,33 +41,33 @@ gap_repaired keep m column gap rest h = subst (λ (ls : Lines). IsGap (joined (r
 -- what stays in front
 blank_not_less : (f : TextIndent) (l : List ℕ) → is_blank l ≡ true → is_less_indented f l ≡ true → ⊥
 blank_not_less f l b h =
-    let both = and_true _ (not (is_tab (behind_spaces l))) h in
-    let first = and_true (not (ends_line (behind_spaces l))) _ both.0 in
+    let both = and_parts _ (not (is_tab (behind_spaces l))) h in
+    let first = and_parts (not (ends_line (behind_spaces l))) _ both.0 in
     false≢true (sym (char_not_blank l (not-true (ends_line (behind_spaces l)) first.0) (not-true (is_tab (behind_spaces l)) both.1)) ∙ b)
 
 pub ends_blank : (keep : Bool) (f : TextIndent) (ls old new : Lines) → hold_comment ls ≡ false → ends_block keep f (ls ++ old) ≡ true → ends_block keep f new ≡ true → ends_block keep f (ls ++ new) ≡ true
 unfolding ends_block
 ends_blank keep f [] old new c h k = k
 ends_blank keep f (l ∷ ls) old new c h k =
-    let parts = or_false (not (is_blank l)) (hold_comment ls) c in
+    let parts = or_parts (not (is_blank l)) (hold_comment ls) c in
     let blank = not-false (is_blank l) parts.0 in
     ⊎_elim {0, 0, 0}
     (λ e.
-    let more = and_true (not keep) (ends_block keep f (ls ++ old)) (rw e at h) in
+    let more = and_parts (not keep) (ends_block keep f (ls ++ old)) (rw e at h) in
     let again = ends_blank keep f ls old new parts.1 more.1 k in
     rw (more.0, again) (rw e refl))
     (λ e. absurd (blank_not_less f l blank (rw e at h)))
-    (is_true (is_empty_line f l))
+    (cases_Bool (is_empty_line f l))
 
 pub ends_comment : (keep : Bool) (f : TextIndent) (ls old new : Lines) → hold_comment ls ≡ true → ends_block keep f (ls ++ old) ≡ true → ends_block keep f (ls ++ new) ≡ true
 unfolding ends_block
 ends_comment keep f [] old new c h = absurd (false≢true c)
 ends_comment keep f (l ∷ ls) old new c h = ⊎_elim {0, 0, 0}
     (λ e.
-    let more = and_true (not keep) (ends_block keep f (ls ++ old)) (rw e at h) in
-    let blank : is_blank l ≡ true = Rattle.yq_scalar.proofs.SpaceLaws.spaces_blank l (and_true (ends_line (behind_spaces l)) _ e).0 in
+    let more = and_parts (not keep) (ends_block keep f (ls ++ old)) (rw e at h) in
+    let blank : is_blank l ≡ true = Rattle.yq_scalar.proofs.SpaceLaws.spaces_blank l (and_parts (ends_line (behind_spaces l)) _ e).0 in
     let rest : hold_comment ls ≡ true = rw blank at c in
     let again = ends_comment keep f ls old new rest more.1 in
     rw (more.0, again) (rw e refl))
     (λ e. let less : is_less_indented f l ≡ true = rw e at h in rw e less)
-    (is_true (is_empty_line f l))
+    (cases_Bool (is_empty_line f l))

@@ -1,12 +1,11 @@
 -- Gaps joined, and repaired behind a block scalar.
 use Rattle.std.proofs.Common.{◌≡◌, ◌⊎◌, inl, inr, ℕ, zero, suc, Bool, true, false, ◌&&◌, ◌||◌, List, [], ◌∷◌, ◌++◌, refl, sym, ap, ◌∙◌, subst, ⊎_elim, append_assoc, append-nil, replicate}
-use Rattle.std.proofs.lemmas.Bool.{false≢true, cond_both}
+use Rattle.std.proofs.lemmas.Bool.{false≢true, cond_both, and_parts, cases_Bool, or_parts}
 use Rattle.yq_scalar.specs.Block.{Lines}
 use Rattle.yq_scalar.specs.BlockRepair.{AreGap, is_short, is_outside, repaired_blank, repaired_comment, repair}
 use Rattle.yq_scalar.specs.BlockWritten.{closed}
 use Rattle.yq_scalar.specs.Lines.{is_hash, is_blank}
 use Rattle.yq_scalar.specs.Text.{no_white, NoneIn, is_feed, is_return, is_break, is_empty, is_line, ends_line, front, past_white, put_byte, lines_of, joined}
-use Rattle.yq_scalar.proofs.Bools.{is_true, and_true, or_false}
 use Rattle.yq_scalar.proofs.LineLaws.{lines_again}
 use Rattle.yq_rows.specs.Gap.{IsWhite, IsBreak, IsLineEnd, IsGapLine, AreGapLines, IsGap}
 use Rattle.yq_rows.proofs.EmptyTexts.{empty_is, none_is, empty_or}
@@ -40,7 +39,7 @@ joined_some (l ∷ ls) rest h e = absurd (none_is ((l ++ joined ls) ++ rest) (ap
 
 line_is : (l rest : List ℕ) → IsGapLine l rest → (is_line l ≡ true) ⊎ ((rest ≡ []) × NoneIn ends_line l [])
 line_is l rest h = ⊎_elim {0, 0, 0}
-    (λ e. inl (line_by_break h.white h.comment l rest h.line ∙ (and_true (is_break h.line.break) (is_line h.line.break) e).1))
+    (λ e. inl (line_by_break h.white h.comment l rest h.line ∙ (and_parts (is_break h.line.break) (is_line h.line.break) e).1))
     (λ e.
     let is : l ≡ h.white ++ h.comment = h.line.spelled ∙ (ap (λ x. h.white ++ (h.comment ++ x)) e.0 ∙ ap (λ x. h.white ++ x) (append-nil h.comment)) in
     let none = white_none h.white h.comment h.line.break h.line.blank (comment_none h.comment h.line.break h.line.remark) in
@@ -49,8 +48,8 @@ line_is l rest h = ⊎_elim {0, 0, 0}
 
 one_line : (b : ℕ) (p : List ℕ) → NoneIn ends_line (b ∷ p) [] → lines_of (b ∷ p) ≡ (b ∷ p) ∷ []
 unfolding lines_of
-one_line b [] h = rw (or_false (is_feed b) (is_return b && false) h.0).0 refl
-one_line b (c ∷ p) h = rw (or_false (is_feed b) (is_return b && front is_feed (c ∷ (p ++ []))) h.0).0 (ap (put_byte b) (one_line c p h.1))
+one_line b [] h = rw (or_parts (is_feed b) (is_return b && false) h.0).0 refl
+one_line b (c ∷ p) h = rw (or_parts (is_feed b) (is_return b && front is_feed (c ∷ (p ++ []))) h.0).0 (ap (put_byte b) (one_line c p h.1))
 
 some_line : (l : List ℕ) → is_empty l ≡ false → NoneIn ends_line l [] → lines_of (l ++ []) ≡ l ∷ []
 some_line [] some h = absurd (false≢true (sym some))
@@ -91,7 +90,7 @@ put_gap white comment p g rest h k = ⊎_elim {0, 0, 0}
       spelled = ap (λ x. p ++ x) k.spelled;
       each = (record { white = white; comment = comment; line = subst (λ (x : List ℕ). IsLineEnd white comment p (x ++ rest)) k.spelled h; some = e }, k.each);
     })
-    (is_true (is_empty p))
+    (cases_Bool (is_empty p))
 
 spaces_white : (n : ℕ) → IsWhite (replicate n 32)
 spaces_white zero = tt
@@ -127,7 +126,7 @@ repaired_gap true m column (l ∷ ls) rest h = ⊎_elim {0, 0, 0}
     (λ b. rw b (repaired_gap true m column ls rest h.1))
     (λ b. let x = comment_line m column l (joined ls ++ rest) h.0 in
     rw b (put_gap x.0 x.1 (repaired_comment m column l) (joined ls) rest x.2 (record { lines = ls; spelled = refl; each = h.1 })))
-    (is_true (is_blank l))
+    (cases_Bool (is_blank l))
 repaired_gap false m column (l ∷ ls) rest h = ⊎_elim {0, 0, 0}
     (λ b.
     let gone = joined (repair false m column ls) in
@@ -135,4 +134,4 @@ repaired_gap false m column (l ∷ ls) rest h = ⊎_elim {0, 0, 0}
     rw b (put_gap x.0 x.1 (repaired_blank m l) gone rest x.2 (repaired_gap false m column ls rest h.1)))
     (λ b. let x = comment_line m column l (joined ls ++ rest) h.0 in
     rw b (put_gap x.0 x.1 (repaired_comment m column l) (joined ls) rest x.2 (record { lines = ls; spelled = refl; each = h.1 })))
-    (is_true (is_blank l))
+    (cases_Bool (is_blank l))

@@ -1,14 +1,12 @@
 -- What stands behind a gap is less indented than a block scalar's text.
 use Rattle.std.proofs.Common.{◌≡◌, ℕ, zero, suc, ◌+◌, ◌<◌, true, false, not, ◌&&◌, eqb, List, [], ◌∷◌, ◌++◌, drop, refl, sym, ap, ◌∙◌, ⊎_elim, arith, replicate}
 use Rattle.std.proofs.Math.Dec.{ltb}
-use Rattle.std.proofs.lemmas.Bool.{false≢true, lt-ltb, not-true, or_cases}
+use Rattle.std.proofs.lemmas.Bool.{false≢true, lt-ltb, not-true, or_cases, and_from, or_parts}
 use Rattle.yq_scalar.specs.Block.{is_less_indented}
 use Rattle.yq_scalar.specs.BlockRepair.{is_behind}
 use Rattle.yq_scalar.specs.declared.block_lines.TextIndent.{TextIndent}
 use Rattle.yq_scalar.specs.Lines.{spaces, behind_spaces, is_tab}
 use Rattle.yq_scalar.specs.Text.{front, is_white, is_feed, is_return, is_empty, is_marker, ends_line, put_byte, lines_of}
-use Rattle.yq_scalar.proofs.Bools.{or_false}
-use Rattle.yq_scalar.proofs.RawLaws.{both}
 use Rattle.yq_scalar.proofs.SpaceLaws.{prefix_none, spaces_front, drop_front}
 use Rattle.yq_rows.specs.Grammar.{Limit, AreRows, ends_part}
 use Rattle.yq_rows.specs.Rows.{Row, behind_indent, rows_text}
@@ -40,13 +38,13 @@ less_line f n b l space tab end less =
     let low : ltb (spaces (replicate n 32 ++ (b ∷ l))) f.columns ≡ true = lt-ltb (spaces (replicate n 32 ++ (b ∷ l))) f.columns (omega (arith, deep, less)) in
     let ends : not (ends_line (behind_spaces (replicate n 32 ++ (b ∷ l)))) ≡ true = ap (λ x. not (ends_line x)) behind ∙ ap not end in
     let tabs : not (is_tab (behind_spaces (replicate n 32 ++ (b ∷ l)))) ≡ true = ap (λ x. not (is_tab x)) behind ∙ ap not tab in
-    both _ _ (both _ _ ends low) tabs
+    and_from _ _ (and_from _ _ ends low) tabs
 
 pub starts_less : (f : TextIndent) (n : ℕ) (t : List ℕ) → Starts t → n < f.columns → is_behind f (lines_of (replicate n 32 ++ t)) ≡ true
 starts_less f n [] h less = absurd (false≢true (sym h.some))
 starts_less f n (b ∷ t) h less =
-    let white = or_false (eqb b 32) (eqb b 9) (not-true (is_white b) h.no_white) in
-    let feed : is_feed b ≡ false = (or_false (is_feed b) (is_return b && front is_feed t) h.no_end).0 in
+    let white = or_parts (eqb b 32) (eqb b 9) (not-true (is_white b) h.no_white) in
+    let feed : is_feed b ≡ false = (or_parts (is_feed b) (is_return b && front is_feed t) h.no_end).0 in
     let p = first n b t feed in
     let end : ends_line (b ∷ p.line) ≡ false = rw p.front_is h.no_end in
     ap (is_behind f) p.is ∙ less_line f n b p.line white.0 white.1 end less

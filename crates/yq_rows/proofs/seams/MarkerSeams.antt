@@ -1,8 +1,7 @@
 -- The line of a marker before another text.
 use Rattle.std.proofs.Common.{◌≡◌, ◌⊎◌, inl, inr, ℕ, Bool, true, false, ◌&&◌, ◌||◌, eqb, List, [], ◌∷◌, ◌++◌, refl, sym, ap, ◌∙◌, ⊎_elim, arith, eqb-true, Some}
-use Rattle.std.proofs.lemmas.Bool.{or_cases, or_right}
+use Rattle.std.proofs.lemmas.Bool.{or_cases, or_right, and_parts}
 use Rattle.yq_scalar.specs.Text.{is_empty, is_feed, is_space, is_line, is_marker, separates}
-use Rattle.yq_scalar.proofs.Bools.{and_true}
 use Rattle.yq_inline.specs.Alike.{Alike, byte, after}
 use Rattle.yq_rows.specs.Grammar.{IsMarkerLine}
 use Rattle.yq_rows.specs.Seams.{is_closed}
@@ -15,10 +14,10 @@ use Rattle.yq_rows.proofs.seams.SeamLaws.{tail_kept, tail_line}
 -- what stands behind a marker's line
 pub marker_byte : (a b c : ℕ) (t : List ℕ) → is_marker (a ∷ (b ∷ (c ∷ t))) ≡ true → ((a ≡ 45) × (b ≡ 45) × (c ≡ 45)) ⊎ ((a ≡ 46) × (b ≡ 46) × (c ≡ 46))
 marker_byte a b c t h =
-    let p = (and_true ((eqb a 45 && eqb b 45 && eqb c 45) || (eqb a 46 && eqb b 46 && eqb c 46)) (separates t) h).0 in
+    let p = (and_parts ((eqb a 45 && eqb b 45 && eqb c 45) || (eqb a 46 && eqb b 46 && eqb c 46)) (separates t) h).0 in
     ⊎_elim {0, 0, 0}
-    (λ e. let x = and_true (eqb a 45 && eqb b 45) (eqb c 45) e in let y = and_true (eqb a 45) (eqb b 45) x.0 in inl (eqb-true a 45 y.0, eqb-true b 45 y.1, eqb-true c 45 x.1))
-    (λ e. let x = and_true (eqb a 46 && eqb b 46) (eqb c 46) e in let y = and_true (eqb a 46) (eqb b 46) x.0 in inr (eqb-true a 46 y.0, eqb-true b 46 y.1, eqb-true c 46 x.1))
+    (λ e. let x = and_parts (eqb a 45 && eqb b 45) (eqb c 45) e in let y = and_parts (eqb a 45) (eqb b 45) x.0 in inl (eqb-true a 45 y.0, eqb-true b 45 y.1, eqb-true c 45 x.1))
+    (λ e. let x = and_parts (eqb a 46 && eqb b 46) (eqb c 46) e in let y = and_parts (eqb a 46) (eqb b 46) x.0 in inr (eqb-true a 46 y.0, eqb-true b 46 y.1, eqb-true c 46 x.1))
     (or_cases (eqb a 45 && eqb b 45 && eqb c 45) (eqb a 46 && eqb b 46 && eqb c 46) p)
 
 abbrev pub MarkerKept : List ℕ → List ℕ → List ℕ → Type 0

@@ -1,9 +1,8 @@
 -- An inline node before a text is one before another text, where white space, a break or the end is in front of both.
 use Rattle.std.proofs.Common.{◌≡◌, inl, inr, ℕ, zero, suc, true, false, not, ◌||◌, eqb, List, [], ◌∷◌, ◌++◌, Option, refl, sym, ap, ◌∙◌, subst, ⊎_elim, eqb-true, Some}
-use Rattle.std.proofs.lemmas.Bool.{false≢true, not-true, or_cases}
+use Rattle.std.proofs.lemmas.Bool.{false≢true, not-true, or_cases, cases_Bool, or_parts}
 use Rattle.yq_scalar.specs.Plain.{ends_plain}
 use Rattle.yq_scalar.specs.Text.{is_empty, is_white, is_space, separates, unless, NoneIn, no_white}
-use Rattle.yq_scalar.proofs.Bools.{is_true, or_false}
 use Rattle.yq_inline.specs.Nodes.{Key, bare, keyed, Sep, last, comma, Node, empty, alias, scalar, coll, anchored, Items, none, item, key_text, sep_text, node_text, items_text, first_is, is_close, in_name, begins_content, IsLead, IsName, is_bare, IsNode}
 use Rattle.yq_inline.specs.Scalars.{IsScalar}
 use Rattle.yq_inline.specs.Alike.{Alike, byte, after}
@@ -75,7 +74,7 @@ bare_is (coll close gap items) h = absurd (false≢true h)
 bare_is (anchored n g node) h = absurd (false≢true h)
 
 no_content : (t : List ℕ) → separates t ≡ true → begins_content false t ≡ false
-no_content t h = (or_false (first_is 38 t) (begins_content false t) (apart_no_node t h)).1
+no_content t h = (or_parts (first_is 38 t) (begins_content false t) (apart_no_node t h)).1
 
 bare_gap : (gap t : List ℕ) → separates t ≡ true → IsLead false (begins_content false) gap t → gap ≡ []
 bare_gap gap t x (inl h) = absurd (false≢true (sym (no_content t x) ∙ h.1))
@@ -104,7 +103,7 @@ unfolding node_text IsNode
 bare_seam spaces d name gap t u h g =
     let nothing : gap ≡ [] = bare_gap gap t h.was g.1 in
     let was : IsName name t = subst (λ (s : List ℕ). IsName name (s ++ t)) nothing g.0 in
-    let none = or_false (first_is 38 u) (begins_content false u) (apart_no_node u h.apart) in
+    let none = or_parts (first_is 38 u) (begins_content false u) (apart_no_node u h.apart) in
     let text : Alike (Some false) (name ++ t) (name ++ u) = name_alike name t u was.some h.was h.apart was.inside in
     rw nothing ((name_seam name t u h.apart was, h.lead, g.2, g.3, (none.1, none.0)), λ e. after text)
 
@@ -116,7 +115,7 @@ node_bare node spaces d name gap t u e h g =
 
 pub node_seam : (spaces : Option ℕ) (node : Node) (d : ℕ) (t u : List ℕ) → Behind spaces node t u → IsNode false spaces d node t → Kept spaces d node t u
 unfolding node_text IsNode
-node_seam spaces empty d t u h g = let none = or_false (first_is 38 u) (begins_content false u) (apart_no_node u h.apart) in ((none.1, none.0), λ e. absurd (false≢true (sym e)))
+node_seam spaces empty d t u h g = let none = or_parts (first_is 38 u) (begins_content false u) (apart_no_node u h.apart) in ((none.1, none.0), λ e. absurd (false≢true (sym e)))
 node_seam spaces (alias n) d t u h g = (name_seam n t u h.apart g, λ e. after (name_alike n t u g.some h.was h.apart g.inside))
 node_seam spaces (scalar p) d t u h g = let kept = scalar_seam spaces p t u h g in (kept.0, λ e. kept.1)
 node_seam spaces (coll k s is) zero t u h g = absurd g.2
@@ -124,7 +123,7 @@ node_seam spaces (coll k s is) (suc d) t u h g = (
   (g.0, gap_alike (Some true) s (items_text k is t) (items_text k is u) (items_text_alike k is t u g.0) g.1, items_any is d k t u g.0 g.2),
   λ e. after (alike_append (Some false) s _ _ (items_seam k is t u g.0 h.was h.apart)),
 )
-node_seam spaces (anchored n s node) d t u h g = elim (is_true (is_bare node)) [
+node_seam spaces (anchored n s node) d t u h g = elim (cases_Bool (is_bare node)) [
   | inl e ↦ node_bare node spaces d n s t u e h g
   | inr e ↦ (
       let again = node_seam spaces node d t u (record { was = h.was; apart = h.apart; lead = h.lead; ends = h.ends; joint = h.joint }) g.4 in

@@ -1,12 +1,11 @@
 -- A row before one text is a row before another one.
 use Rattle.std.proofs.Common.{◌≡◌, inl, inr, ℕ, ℤ, Bool, true, false, not, ◌||◌, List, [], ◌∷◌, ◌++◌, Option, Some, None, refl, sym}
-use Rattle.std.proofs.lemmas.Bool.{false≢true}
+use Rattle.std.proofs.lemmas.Bool.{false≢true, cases_Bool}
 use Rattle.yq_scalar.specs.Block.{BlockText, block_text, mark_of, IsBlock, ends_block, keeps}
 use Rattle.yq_scalar.specs.declared.block_header.BlockStyle.{BlockStyle}
 use Rattle.yq_scalar.specs.declared.block_header.BlockStyle.TheVariants as styles
 use Rattle.yq_scalar.specs.Piece.{deeper}
 use Rattle.yq_scalar.specs.Text.{is_empty, lines_of, joined, separates, unless}
-use Rattle.yq_scalar.proofs.Bools.{is_true}
 use Rattle.yq_inline.specs.Inline.{depth_limit}
 use Rattle.yq_inline.specs.Nodes.{Node, node_text, in_name, is_bare}
 use Rattle.yq_inline.specs.Alike.{Alike}
@@ -122,7 +121,7 @@ bare_row limit r t new u e h f j =
 
 -- a row with another tail, before another text
 pub row_tail : (limit : Limit) (r : Row) (t new u : List ℕ) → IsRow limit r t → TailFits (parent_indent r) new r.content u → Joined r.content t new u → TakesPlace limit r t (retail new r) u
-row_tail limit r t new u h f j = elim (is_true (is_entry r.mark)) [
+row_tail limit r t new u h f j = elim (cases_Bool (is_entry r.mark)) [
   | inl e ↦ one_row limit r (with_tail new r.content) t u h e (content_seam (parent_indent r) r.content t new u h.content f j) (content_front (parent_indent r) r.content t new u h.content f (mark_apart r.mark r.content t e h.mark))
   | inr e ↦ bare_row limit r t new u e h f j
 ]

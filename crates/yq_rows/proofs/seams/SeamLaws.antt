@@ -1,11 +1,10 @@
 -- Rows before rows that stand in the place of others.
 use Rattle.std.proofs.Common.{◌≡◌, ◌⊎◌, inl, inr, ℕ, zero, suc, ℤ, Bool, true, false, ◌||◌, if◌then◌else◌, List, [], ◌∷◌, ◌++◌, Some, take, drop, refl, sym, ap, ◌∙◌, subst, ⊎_elim, append_assoc}
-use Rattle.std.proofs.lemmas.Bool.{false≢true, or_cases}
+use Rattle.std.proofs.lemmas.Bool.{false≢true, or_cases, and_parts}
 use Rattle.std.proofs.lemmas.List.{take-append-drop}
 use Rattle.yq_scalar.specs.Piece.{deeper}
 use Rattle.yq_scalar.specs.Plain.{ends_plain}
 use Rattle.yq_scalar.specs.Text.{is_empty, front, is_break, is_line, is_marker}
-use Rattle.yq_scalar.proofs.Bools.{and_true}
 use Rattle.yq_inline.specs.Alike.{Alike}
 use Rattle.yq_rows.specs.Exchange.{allows_first, asked_behind, with_content}
 use Rattle.yq_rows.specs.Gap.{IsBreak, IsLineEnd}
@@ -36,7 +35,7 @@ line_by_break white comment tail t h =
 -- a tail without a break is at the end of the text
 pub tail_line : (tail t : List ℕ) → IsTail tail t → (is_line tail ≡ true) ⊎ (t ≡ [])
 tail_line tail t h = ⊎_elim {0, 0, 0}
-    (λ e. inl (line_by_break h.white h.comment tail t h.line ∙ (and_true (is_break h.line.break) (is_line h.line.break) e).1))
+    (λ e. inl (line_by_break h.white h.comment tail t h.line ∙ (and_parts (is_break h.line.break) (is_line h.line.break) e).1))
     (λ e. inr e.1)
     h.line.ends
 

@@ -1,12 +1,11 @@
 -- Another tail behind a row's content, in a text in which an LF stands behind each CR.
 use Rattle.std.proofs.Common.{◌≡◌, ◌⊎◌, inl, inr, ℕ, ℤ, true, false, ◌&&◌, List, [], ◌∷◌, ◌++◌, Option, refl, sym, ap, ◌∙◌, subst, ⊎_elim, append_assoc, append-nil, length, take}
-use Rattle.std.proofs.lemmas.Bool.{false≢true, false_from_ne_true, or_right}
+use Rattle.std.proofs.lemmas.Bool.{false≢true, false_from_ne_true, or_right, and_parts, or_parts}
 use Rattle.std.proofs.Math.Seq.{take-append_seam, drop-append_seam}
 use Rattle.yq_scalar.specs.Characters.{pairs_returns}
 use Rattle.yq_scalar.specs.Plain.{ends_plain}
 use Rattle.yq_scalar.specs.Quoted.{spell_lines}
 use Rattle.yq_scalar.specs.Text.{is_white, is_feed, is_return, is_break, is_space, is_line, ends_line, front, NoneIn}
-use Rattle.yq_scalar.proofs.Bools.{and_true, or_false}
 use Rattle.yq_inline.specs.Nodes.{Node, empty, alias, scalar, coll, anchored, node_text, IsNode}
 use Rattle.yq_rows.specs.Exchange.{asked_behind, row_front}
 use Rattle.yq_rows.specs.Gap.{IsComment}
@@ -27,7 +26,7 @@ use Rattle.yq_rows.proofs.seams.RowSeams.{Joined, row_tail}
 pub return_then : (p t : List ℕ) → pairs_returns (p ++ t) ≡ true → ends_return p ≡ true → front is_feed t ≡ true
 unfolding pairs_returns
 return_then [] t h e = absurd (false≢true e)
-return_then (b ∷ []) t h e = (and_true (front is_feed t) (pairs_returns t) (rw e at h)).0
+return_then (b ∷ []) t h e = (and_parts (front is_feed t) (pairs_returns t) (rw e at h)).0
 return_then (b ∷ (c ∷ p)) t h e = return_then (c ∷ p) t (pairs_back (b ∷ []) (c ∷ (p ++ t)) h) e
 
 -- no plain scalar ends in a CR
@@ -37,7 +36,7 @@ plain_no_return spaces (b ∷ []) t h e pairs = false_from_ne_true (is_return b)
     let feed = return_then (b ∷ []) t pairs r in
     let none : is_space (b ∷ t) ≡ false = last_no_space spaces b t h.0 e in
     let break : is_break (b ∷ t) ≡ true = rw (r, feed) (or_right (is_feed b) true refl) in
-    false≢true (sym (or_false (is_white b) (is_break (b ∷ t)) none).1 ∙ break))
+    false≢true (sym (or_parts (is_white b) (is_break (b ∷ t)) none).1 ∙ break))
 plain_no_return spaces (b ∷ (c ∷ p)) t h e pairs = plain_no_return spaces (c ∷ p) t h.1 e (pairs_back (b ∷ []) (c ∷ (p ++ t)) pairs)
 
 last_return : (p : List ℕ) (q : ℕ) → ends_return (p ++ q ∷ []) ≡ is_return q
@@ -71,7 +70,7 @@ row_retailed limit r t new u h pairs f =
 -- a tail that gets a break
 none_closed : (b : ℕ) (p break : List ℕ) → NoneIn ends_line (b ∷ p) [] → (ends_return (b ∷ p) ≡ false) → NoneIn ends_line (b ∷ p) break
 none_closed b [] break h e =
-    let f = or_false (is_feed b) (is_return b && false) h.0 in
+    let f = or_parts (is_feed b) (is_return b && false) h.0 in
     (rw (f.0, e) refl, tt)
 none_closed b (c ∷ p) break h e = (h.0, none_closed c p break h.1 e)
 
@@ -89,7 +88,7 @@ pub tail_closed : (tail break u : List ℕ) → is_one_break break ≡ true → 
 tail_closed tail break u b bare pairs h = ⊎_elim {0, 0, 0}
     (λ e. absurd (
     let line = line_by_break h.white h.comment tail [] h.line in
-    false≢true (sym bare ∙ (line ∙ (and_true (is_break h.line.break) (is_line h.line.break) e).1))))
+    false≢true (sym bare ∙ (line ∙ (and_parts (is_break h.line.break) (is_line h.line.break) e).1))))
     (λ e.
     let is : tail ≡ h.white ++ h.comment = h.line.spelled ∙ (ap (λ l. h.white ++ (h.comment ++ l)) e.0 ∙ ap (λ l. h.white ++ l) (append-nil h.comment)) in
     let none : ends_return h.comment ≡ false = no_end_return h.comment (pairs_back h.white h.comment (ap pairs_returns (sym is) ∙ pairs)) in

@@ -1,9 +1,8 @@
 -- A row counted through all parts stands in one of them, and there its content is exchanged.
 use Rattle.std.proofs.Common.{◌≡◌, inl, inr, ℕ, zero, suc, ◌-◌, true, List, [], ◌∷◌, ◌++◌, length, take, drop, Some, refl, sym, ap, ◌∙◌, subst, false}
 use Rattle.std.proofs.Math.Dec.{ltb}
-use Rattle.std.proofs.lemmas.Bool.{false≢true, ltb-true, ltb-false}
+use Rattle.std.proofs.lemmas.Bool.{false≢true, ltb-true, ltb-false, cases_Bool}
 use Rattle.std.specs.List.{slice_get}
-use Rattle.yq_scalar.proofs.Bools.{is_true}
 use Rattle.yq_rows.specs.Counted.{RowPlace}
 use Rattle.yq_rows.specs.Exchange.{with_content, with_content_at, with_content_in, exchange, behind_at, behind_row, rows_behind, allows_first, Fits}
 use Rattle.yq_rows.specs.Grammar.{IsMark, may_be_alone, is_entry, IsRow, Limit, limit_after, IsCut}
@@ -60,7 +59,7 @@ row_placed (last p) i r h = record {
   behind = behind_is p.rows i (p.end ++ []);
   exchanged = λ new. ap last (part_content p i r new h);
 }
-row_placed (marked p marker c) i r h = elim (is_true (ltb i (length p.rows))) [
+row_placed (marked p marker c) i r h = elim (cases_Bool (ltb i (length p.rows))) [
   | inl e ↦ (
       let is = slice_front p.rows (rows_of c) i r (ltb-true i (length p.rows) e) h in
       record {

@@ -1,11 +1,10 @@
 -- Rows behind the last marker of a text, which has no break.
 use Rattle.std.proofs.Common.{◌≡◌, ℕ, Bool, true, false, List, [], ◌∷◌, ◌++◌, refl, sym, ap, ◌∙◌, subst, ⊎_elim, arith, append-nil, Some}
-use Rattle.std.proofs.lemmas.Bool.{false≢true}
+use Rattle.std.proofs.lemmas.Bool.{false≢true, and_parts}
 use Rattle.std.specs.List.{list_all}
 use Rattle.std.specs.Str.{chars}
 use Rattle.yq_scalar.specs.Characters.{is_text_char, pairs_returns}
 use Rattle.yq_scalar.specs.Text.{is_empty, is_feed, is_space, is_line}
-use Rattle.yq_scalar.proofs.Bools.{and_true}
 use Rattle.yq_inline.specs.Alike.{Alike, byte, after}
 use Rattle.yq_rows.specs.Grammar.{IsPart, IsMarkerLine, begins_document, AreParts, IsCut}
 use Rattle.yq_rows.specs.Rows.{Part, part_text, Cut, last, marked, cut_text}
@@ -88,5 +87,5 @@ parts_closed (marked q other c) started p marker new break h bare is pairs n =
 pub marker_appended : (t : List ℕ) (c : Cut) (break : List ℕ) (new : Part) → IsCut t c → PartFits break new c → CutsItsText (with_last_part break new c)
 marker_appended t (last p) break new h f = absurd (false≢true (sym f.some))
 marker_appended t (marked p marker c) break new h f = λ characters size.
-    let pairs : pairs_returns (cut_text (marked p marker c)) ≡ true = ap pairs_returns (sym h.text) ∙ (and_true (list_all is_text_char (chars t)) (pairs_returns t) h.characters).1 in
+    let pairs : pairs_returns (cut_text (marked p marker c)) ≡ true = ap pairs_returns (sym h.text) ∙ (and_parts (list_all is_text_char (chars t)) (pairs_returns t) h.characters).1 in
     record { text = refl; parts = (parts_closed c true p marker new break h.parts f.bare f.break_is pairs f.part).0; characters = characters; size = size }

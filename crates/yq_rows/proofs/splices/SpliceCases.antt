@@ -1,7 +1,6 @@
 -- Rows put in, taken away, or exchanged for others that begin like them.
 use Rattle.std.proofs.Common.{◌≡◌, ℕ, zero, suc, Bool, true, false, not, ◌||◌, List, [], ◌∷◌, ◌++◌, take, drop, refl, sym, ap, ◌∙◌, ⊎_elim}
-use Rattle.std.proofs.lemmas.Bool.{false≢true, or_right}
-use Rattle.yq_scalar.proofs.Bools.{is_true}
+use Rattle.std.proofs.lemmas.Bool.{false≢true, or_right, cases_Bool}
 use Rattle.yq_rows.specs.Exchange.{allows_first, asked_behind}
 use Rattle.yq_rows.specs.Grammar.{unlimited, no_rows, IsPart, IsCut, AreRows}
 use Rattle.yq_rows.specs.Rows.{Row, rows_text, Part, Cut}
@@ -62,7 +61,7 @@ replaced t c k i j new gap h f = placed t c k i j new gap h f.some f.rows f.next
 
 -- rows taken away
 block_or : (front : List Row) (u : List ℕ) → (ends_in_block front ≡ false → are_seamed front u ≡ true) → (ends_in_block front ≡ true → are_seamed front u ≡ true) → are_seamed front u ≡ true
-block_or front u f g = ⊎_elim {0, 0, 0} (λ e. g e) (λ e. f e) (is_true (ends_in_block front))
+block_or front u f g = ⊎_elim {0, 0, 0} (λ e. g e) (λ e. f e) (cases_Bool (ends_in_block front))
 
 pub removed : (t : List ℕ) (c : Cut) (k i j : ℕ) (gap : List ℕ) → IsCut t c → RemoveFits k i j gap c → CutsItsText (splice k i j [] gap c)
 removed t c k i j gap h f =

@@ -1,7 +1,7 @@
 -- The text of a cut at rows, and of a cut in which other rows stand there.
 use Rattle.std.proofs.Common.{◌≡◌, ℕ, zero, suc, ◌≤◌, true, List, [], ◌∷◌, ◌++◌, take, drop, refl, sym, ap, ◌∙◌, arith, append_assoc}
+use Rattle.std.proofs.lemmas.Bool.{and_parts}
 use Rattle.std.proofs.lemmas.List.{take-append-drop}
-use Rattle.yq_scalar.proofs.Bools.{and_true}
 use Rattle.yq_rows.specs.Gap.{IsGap}
 use Rattle.yq_rows.specs.Grammar.{Limit, AreRows, IsCut}
 use Rattle.yq_rows.specs.Rows.{Row, print_row, rows_text, Part, part_text, Cut, last, marked, cut_text}
@@ -89,5 +89,5 @@ front_text c k i =
 -- in a cut an LF stands behind each CR, so also from a row on
 pub row_pairs : (t : List ℕ) (c : Cut) (k i : ℕ) → IsCut t c → pairs_returns (rows_text (back_rows k i c) ((nth_part k c).end ++ behind_part k c)) ≡ true
 row_pairs t c k i h =
-    let whole : pairs_returns (cut_text c) ≡ true = ap pairs_returns (sym h.text) ∙ (and_true (list_all is_text_char (chars t)) (pairs_returns t) h.characters).1 in
+    let whole : pairs_returns (cut_text c) ≡ true = ap pairs_returns (sym h.text) ∙ (and_parts (list_all is_text_char (chars t)) (pairs_returns t) h.characters).1 in
     pairs_back (before_rows k i c) (rows_text (back_rows k i c) ((nth_part k c).end ++ behind_part k c)) (ap pairs_returns (sym (front_text c k i)) ∙ whole)

@@ -1,4 +1,5 @@
-use Rattle.std.proofs.Common.{◌≡◌, Some, subst}
+use Rattle.std.proofs.Common.{subst}
+use Rattle.std.proofs.lemmas.Option.{same_Some}
 use Rattle.std.specs.Str.{IsUtf8}
 use Rattle.yq_tree.specs.CollectionTelling.{collection_told}
 use Rattle.yq_documents.specs.Located.{steps_of}
@@ -9,11 +10,8 @@ use Rattle.yq_block_ways.specs.CollectionReplacing.{EndsIn}
 use Rattle.yq_block_ways.proofs.CollectionAnswers.{ends_there}
 use Rattle.yq_block_ways.proofs.collection_replacing.lines_under.Goals as goal
 
-same : {a b : MarkPlace × CollectionEnd} → Some a ≡ Some b → a ≡ b
-same e = cc
-
 pub returns-clause-ends : goal.returns-clause-ends
 returns-clause-ends c = λ w x is.
-    subst (λ (p : MarkPlace × CollectionEnd). EndsIn p.0.behind.now p.1.behind.now) (same is)
+    subst (λ (p : MarkPlace × CollectionEnd). EndsIn p.0.behind.now p.1.behind.now) (same_Some _ _ is)
     (ends_there c.args.documents.now c.args.path.now.doc (steps_of c.args.path.now) (mark_told c.in_ok-mark.mark) (collection_told c.in_ok-end.end) (subst IsUtf8 c.whole-whole.ensures.text c.whole-whole.utf8) c.whole-whole.ensures.cut
     c.whole-whole.ensures.documents c.in_ok-mark.ensures c.in_ok-end.ensures)

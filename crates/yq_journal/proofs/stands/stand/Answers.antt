@@ -1,9 +1,9 @@
 use Rattle.std.proofs.Common.{take, sym, ap, ◌∙◌, arith, take_all}
+use Rattle.std.proofs.lemmas.Bool.{both_ways}
 use Rattle.std.specs.Prelude.{is_some, option_and_then}
 use Rattle.yq_script.specs.Patch.{all_done, change_done}
 use Rattle.yq_journal.specs.Gap.{change}
 use Rattle.yq_journal.specs.Turned.{turned}
-use Rattle.yq_journal.proofs.GapLaws.{not_both}
 use Rattle.yq_journal.proofs.StandLaws.{some_of, lies_within, stays_small, found_there, not_there, not_all, done_next, length-turned}
 use Rattle.yq_journal.proofs.stands.stand.Goals as goal
 
@@ -20,7 +20,7 @@ pub returns-then-not-is_there : goal.returns-then-not-is_there
 returns-then-not-is_there c =
     let b = some_of (all_done (take c.splices.k (turned c.args.back c.args.splices.now)) c.args.text.now) c.splices.invariant in
     let s = change c.nth-at.result.0 c.nth-at.result.1.now c.nth-at.result.2.now in
-    let none = not_there s b.0 (λ same. not_both c.is_there.result c.if-not-is_there.true ((c.is_there.ensures b.0 b.1).1 same)) in
+    let none = not_there s b.0 (λ same. both_ways c.is_there.result c.if-not-is_there.true ((c.is_there.ensures b.0 b.1).1 same)) in
     sym (ap is_some (not_all (turned c.args.back c.args.splices.now) c.splices.k s c.args.text.now b.0 c.nth-at.ensures b.1 none))
 
 pub splices-preserved : goal.splices-preserved

@@ -1,6 +1,7 @@
 use Rattle.std.proofs.Common.{◌≡◌, ◌∙◌, ap, drop, rules}
+use Rattle.std.proofs.lemmas.Bool.{both_ways}
 use Rattle.yq_journal.specs.Gap.{Cut, whole}
-use Rattle.yq_journal.proofs.GapLaws.{exchanged, not_both, not_exchanged, not_reached}
+use Rattle.yq_journal.proofs.GapLaws.{exchanged, not_exchanged, not_reached}
 use Rattle.yq_journal.proofs.gap.Gap.exchange.Goals as goal
 
 pub returns-then-not-branch : goal.returns-then-not-branch
@@ -12,7 +13,7 @@ returns-then-not-is_tail c =
     not_exchanged c.args.at c.args.old.now c.args.new.now c.reach.new.self.before c.reach.new.self.behind (whole c.args.self.now) moved.0 moved.1
     (λ same.
     let front : c.self.inside.front.items ≡ c.reach.new.self.before = ap (λ (g : Cut). g.before) c.self.view_is in
-    not_both c.is_tail.result c.if-not-is_tail.true (c.is_tail.ensures.1 (ap (drop c.args.at) (c.deref.ensures.value ∙ front) ∙ same)))
+    both_ways c.is_tail.result c.if-not-is_tail.true (c.is_tail.ensures.1 (ap (drop c.args.at) (c.deref.ensures.value ∙ front) ∙ same)))
 
 pub returns : goal.returns
 returns c =

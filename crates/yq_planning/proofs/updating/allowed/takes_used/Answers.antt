@@ -1,4 +1,5 @@
 use Rattle.std.proofs.Common.{sym, ap, ◌∙◌, subst, IfOk, ◌≡◌}
+use Rattle.std.proofs.lemmas.List.{nil_from_length}
 use Rattle.std.specs.List.{list_any}
 use Rattle.yq_scalar.specs.Tree.{children_of}
 use Rattle.yq_documents.specs.Nodes.{node_of}
@@ -7,13 +8,12 @@ use Rattle.yq_planning.specs.TakenNames.{overwrites_at, takes_at}
 use Rattle.yq_planning.specs.declared.updating.change.Change.{Change}
 use Rattle.yq_planning.proofs.IndexLaws.{no_aliases}
 use Rattle.yq_program.proofs.Lists.{list_any_map}
-use Rattle.yq_planning.proofs.SumLaws.{nothing_left}
 use Rattle.yq_planning.proofs.UsedLaws.{none_taken}
 use Rattle.yq_planning.proofs.updating.allowed.takes_used.Goals as goal
 
 pub returns-then-is_empty : goal.returns-then-is_empty
 returns-then-is_empty c = λ names h.
-    none_taken names (node_of c.args.node) (change_of c.args.change.now) (no_aliases names c.args.aliases.now (nothing_left _ (c.is_empty.ensures.0 c.if-is_empty.true)) h)
+    none_taken names (node_of c.args.node) (change_of c.args.change.now) (no_aliases names c.args.aliases.now (nil_from_length _ (c.is_empty.ensures.0 c.if-is_empty.true)) h)
 
 pub returns-in-Adds : goal.returns-in-Adds
 returns-in-Adds c = λ names h.

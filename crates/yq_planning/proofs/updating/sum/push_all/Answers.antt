@@ -1,11 +1,11 @@
 use Rattle.std.proofs.Common.{◌≡◌, List, [], ◌∷◌, length, map, sym, ap, ◌∙◌, arith}
-use Rattle.std.proofs.lemmas.List.{map_push}
+use Rattle.std.proofs.lemmas.List.{map_push, nil_from_length}
 use Rattle.std.specs.Vec.Iter.{into_iter_items}
 use Rattle.yq_inline.specs.Values.{items, items_of, node_of}
 use Rattle.yq_inline.specs.declared.value.Value.{Value}
 use Rattle.yq_scalar.specs.Tree.{Node}
 use Rattle.yq_scalar.specs.Paths.{append_children}
-use Rattle.yq_planning.proofs.SumLaws.{followed_none, item_more, nothing_left}
+use Rattle.yq_planning.proofs.SumLaws.{followed_none, item_more}
 use Rattle.yq_planning.proofs.updating.sum.push_all.Goals as goal
 
 pub each-preserved : goal.each-preserved
@@ -29,5 +29,5 @@ pub returns : goal.returns
 returns c =
     let at = c.each in
     let none = c.in-None.ensures.steps in
-    let empty : into_iter_items at.other-iterator ≡ [] = nothing_left _ (sym at.invariant.counted ∙ none.0) in
+    let empty : into_iter_items at.other-iterator ≡ [] = nil_from_length _ (sym at.invariant.counted ∙ none.0) in
     sym (followed_none (items_of at.items.items)) ∙ (ap (λ (vs : List Value). append_children (items_of at.items.items) (items_of vs)) (sym empty) ∙ at.invariant.so_far)

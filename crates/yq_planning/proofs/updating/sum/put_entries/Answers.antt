@@ -1,11 +1,11 @@
 use Rattle.std.proofs.Common.{◌≡◌, List, [], ◌∷◌, String, length, sym, ap, ◌∙◌, arith}
+use Rattle.std.proofs.lemmas.List.{nil_from_length}
 use Rattle.std.specs.Vec.Iter.{into_iter_items}
 use Rattle.std.specs.declared.alloc.Global.{Global}
 use Rattle.yq_inline.specs.Values.{entries_of}
 use Rattle.yq_inline.specs.declared.value.Value.{Value}
 use Rattle.yq_scalar.specs.Tree.{Children}
 use Rattle.yq_meaning.specs.RightValues.{with_entries}
-use Rattle.yq_planning.proofs.SumLaws.{nothing_left}
 use Rattle.yq_planning.proofs.updating.sum.put_entries.Goals as goal
 
 pub each-preserved : goal.each-preserved
@@ -28,5 +28,5 @@ pub returns : goal.returns
 returns c =
     let at = c.each in
     let none = c.in-None.ensures.steps in
-    let empty : into_iter_items at.key-iterator ≡ [] = nothing_left _ (sym at.invariant.counted ∙ none.0) in
+    let empty : into_iter_items at.key-iterator ≡ [] = nil_from_length _ (sym at.invariant.counted ∙ none.0) in
     ap (λ (es : List (String Global × Value)). with_entries (entries_of at.entries.items) (entries_of es)) (sym empty) ∙ at.invariant.so_far

@@ -1,4 +1,5 @@
 use Rattle.std.proofs.Common.{option_map, sym, ap, ◌∙◌, subst}
+use Rattle.std.proofs.lemmas.Option.{same_Some}
 use Rattle.std.specs.Str.{IsUtf8}
 use Rattle.yq_tree.specs.CommentPlaces as spec
 use Rattle.yq_tree.specs.CommentTelling.{above_told}
@@ -7,7 +8,7 @@ use Rattle.yq_documents.specs.Reading.{cut_of}
 use Rattle.yq_tree.specs.SeatReading.{told, numbers}
 use Rattle.yq_documents.specs.Seats.{document_row, seat_at}
 use Rattle.yq_rows.specs.View.{Slices}
-use Rattle.yq_tree.proofs.CommentEndLaws.{row_same, no_lines_above, other_lines_above, gap_stands, lines_above_is}
+use Rattle.yq_tree.proofs.CommentEndLaws.{no_lines_above, other_lines_above, gap_stands, lines_above_is}
 use Rattle.yq_tree.proofs.SeatedLaws.{row_within}
 use Rattle.yq_tree.proofs.document.Documents.lines_above.Goals as goal
 
@@ -32,7 +33,7 @@ above-requires c = record {
   gap = (gap_stands c.self.inside.text.now c.self.inside.rows c.self.inside.documents.items c.self.invariant c.args.path.now (told c.in_ok-seat.seat)
       (c.in_ok-seat.ensures ∙ ap (λ t. option_map (numbers (document_row c.args.path.now.doc (cut_of t))) (seat_at c.args.path.now (cut_of t))) (sym c.self.view_is))
       c.row_start-start.result c.gap-gap.result.now c.whole-whole.result.now c.row_start-start.ensures
-      (λ (y : Slices) is. c.gap-gap.ensures ∙ ap (λ (s : Slices). s.gap) (row_same (sym c.row-row.ensures ∙ is)))
+      (λ (y : Slices) is. c.gap-gap.ensures ∙ ap (λ (s : Slices). s.gap) (same_Some _ _ (sym c.row-row.ensures ∙ is)))
       (c.whole-whole.ensures.text ∙ sym c.self.view_is) (subst IsUtf8 (c.whole-whole.ensures.text ∙ sym c.self.view_is) c.whole-whole.utf8)).0;
 }
 
@@ -41,8 +42,8 @@ returns c =
     lines_above_is c.self.inside.text.now c.self.inside.rows c.self.inside.documents.items c.self.invariant c.args.path.now (told c.in_ok-seat.seat)
     (c.in_ok-seat.ensures ∙ ap (λ t. option_map (numbers (document_row c.args.path.now.doc (cut_of t))) (seat_at c.args.path.now (cut_of t))) (sym c.self.view_is))
     c.row_start-start.result c.gap-gap.result.now c.whole-whole.result.now c.column-column.result _ c.row_start-start.ensures
-    (λ (y : Slices) is. c.gap-gap.ensures ∙ ap (λ (s : Slices). s.gap) (row_same (sym c.row-row.ensures ∙ is)))
+    (λ (y : Slices) is. c.gap-gap.ensures ∙ ap (λ (s : Slices). s.gap) (same_Some _ _ (sym c.row-row.ensures ∙ is)))
     (c.whole-whole.ensures.text ∙ sym c.self.view_is) (subst IsUtf8 (c.whole-whole.ensures.text ∙ sym c.self.view_is) c.whole-whole.utf8)
-    (λ (y : Slices) is. c.column-column.ensures ∙ ap (λ (s : Slices). s.column) (row_same (sym c.row-row.ensures ∙ is)))
+    (λ (y : Slices) is. c.column-column.ensures ∙ ap (λ (s : Slices). s.column) (same_Some _ _ (sym c.row-row.ensures ∙ is)))
     c.if-seat-ne0.false c.above.ensures
     ∙ ap (λ t. spec.lines_above c.args.path.now.doc (steps_of c.args.path.now) (cut_of t)) c.self.view_is
