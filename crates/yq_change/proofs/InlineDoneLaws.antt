@@ -1,5 +1,5 @@
 -- A document whose inline node outside flow collections, or nothing, gives way to the inline node of a value.
-use Rattle.std.proofs.Common.{◌≡◌, ℕ, ◌&&◌, eqb, List, [], ◌∷◌, ◌++◌, length, Some, Bool, true, false, refl, sym, ap, ◌∙◌, subst, append_assoc}
+use Rattle.std.proofs.Common.{◌≡◌, ℕ, eqb, List, [], ◌∷◌, ◌++◌, length, Some, Bool, true, false, refl, sym, ap, ◌∙◌, subst, append_assoc}
 use Rattle.std.proofs.lemmas.Bool.{false≢true}
 use Rattle.yq_scalar.specs.Paths.{Step, change, node_at}
 use Rattle.yq_scalar.specs.Piece.{deeper}
@@ -32,6 +32,7 @@ use Rattle.yq_documents.specs.Reading.{outline_of, root_of, read_at}
 use Rattle.yq_documents.specs.Ready.{begins_no_node}
 use Rattle.yq_tree.specs.RowPaths.{IsReadable}
 use Rattle.yq_documents.specs.TreeEdits.{replaced}
+use Rattle.yq_documents.proofs.LinedLaws.{and_false}
 use Rattle.yq_tree.proofs.FoundLines.{each}
 use Rattle.yq_tree.proofs.PrintedTexts.{same, none_some}
 use Rattle.yq_tree.proofs.ReadLaws.{text_takes}
@@ -73,11 +74,7 @@ bare_text [] rows.Dash t e h = absurd (false≢true (sym e))
 bare_text [] (rows.Key key colon) t e h = absurd (false≢true (sym e))
 bare_text (n ∷ ns) m t e h = absurd (false≢true (sym e ∙ h.1))
 
-and_none : (a b : Bool) → b ≡ false → (a && b) ≡ false
-and_none false b h = refl
-and_none true b h = h
-
-no_node_first : (xs : List Line) (l m : Line) (ls ms : List Line) → l.mark ≡ m.mark → begins_no_node (xs ++ (l ∷ ls)) ≡ begins_no_node (xs ++ (m ∷ ms))
+pub no_node_first : (xs : List Line) (l m : Line) (ls ms : List Line) → l.mark ≡ m.mark → begins_no_node (xs ++ (l ∷ ls)) ≡ begins_no_node (xs ++ (m ∷ ms))
 no_node_first [] l m ls ms e = ap (λ k. Rattle.yq_lines.specs.Sound.is_entry k) e
 no_node_first (x ∷ xs) l m ls ms e = refl
 
@@ -119,7 +116,7 @@ module _ (t : List ℕ) (c : Cut) (k : ℕ) (p : Part) (steps : List Step) (w : 
       record {
         gap = gap_other r.gap (behind_gap r rest) (behind_gap (with_content new r) rest) (behind_row_some limit r rest own.0) own.0.gap;
         allowed = own.0.allowed;
-        unmarked = and_none (eqb r.column 0) _ (ap is_marker (bare_text r.dashes r.mark (content_text new rest) e own.0.dashes) ∙ content_unmarked v node is (parent_indent r) r.content rest alone own.0.content);
+        unmarked = and_false (eqb r.column 0) _ (ap is_marker (bare_text r.dashes r.mark (content_text new rest) e own.0.dashes) ∙ content_unmarked v node is (parent_indent r) r.content rest alone own.0.content);
         dashes = own.0.dashes;
         mark = bare_mark r.mark new rest e (content_alone v node is r.content alone);
         content = content_new;

@@ -68,7 +68,7 @@ unfolding has_rows
 rows_fail n ss b t h e f = rows_stop n ss b t h e (f (has_rows n ss b t h))
 
 -- or where the root is long
-and_false : (a b : Bool) → b ≡ false → (a && b) ≡ false
+pub and_false : (a b : Bool) → b ≡ false → (a && b) ≡ false
 and_false true b h = h
 and_false false b h = refl
 

@@ -122,7 +122,7 @@ plainly (b ∷ t) h = ⊎_elim
     (λ m. let p = and_true (eqb b 45) (begins_unsigned t) m in plainly_as b 45 t p.0 (rw (unsigned_safe t p.1) refl))
     (or_cases (begins_unsigned (b ∷ t) || eqb b 43) (eqb b 45 && begins_unsigned t) h)
 
-and_false : (x : Bool) → (x && false) ≡ false
+pub and_false : (x : Bool) → (x && false) ≡ false
 and_false true = refl
 and_false false = refl
 

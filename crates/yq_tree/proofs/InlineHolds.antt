@@ -37,6 +37,7 @@ use Rattle.yq_tree.proofs.PrintedLaws.{ArePrinted, lines_are, document_is}
 use Rattle.yq_tree.proofs.RowPathLaws.{document_fine}
 use Rattle.yq_tree.proofs.SeatedLines.{IsPlaced, document_placed}
 use Rattle.yq_tree.proofs.SeatLaws.{part_begins}
+use Rattle.yq_tree.proofs.PrintedTexts.{map_some}
 
 none_some : {A : Type 0} {x : A} → None ≡ Some x → ⊥
 none_some e = cc
@@ -123,10 +124,6 @@ pub record IsInlineAt (t : List ℕ) (c : Cut) (path : Path) (x : InlineExtent) 
   pub text : t ≡ place.before ++ (written_text place.old ++ place.behind)
   pub bytes : HasBytes place.old
   pub span : IsSpan t x.0 x.1
-
-map_some : {A B : Type 0} {f : A → B} {y : B} (o : Option A) → option_map f o ≡ Some y → (x : A) × (o ≡ Some x) × (f x ≡ y)
-map_some None e = absurd (none_some e)
-map_some (Some x) e = (x, refl, some_same e)
 
 pub is_inline_at : (t : List ℕ) (c : Cut) (path : Path) (x : InlineExtent) → IsUtf8 t → IsCut t c → all_documents c ≡ true → Some x ≡ option_map extent_of (inline_place path c) → IsInlineAt t c path x
 is_inline_at t c path x u cut sound e =
