@@ -4,9 +4,10 @@ use Rattle.std.proofs.Math.Bool.{and-false}
 use Rattle.yq_rows.specs.Exchange.{asked_behind}
 use Rattle.yq_rows.specs.Gap.{IsGap}
 use Rattle.yq_rows.specs.Grammar.{IsContent, is_entry, IsRow, Limit, unlimited, allows, limit_after, limit_behind, AreRows}
-use Rattle.yq_rows.specs.Rows.{dashes_text, behind_dashes, behind_gap, Row, behind_columns, parent_of, parent_indent, print_row, rows_text}
+use Rattle.yq_rows.specs.Rows.{dashes_text, behind_dashes, behind_gap, Row, behind_columns, parent_of, parent_indent, rows_text}
 use Rattle.yq_inline.proofs.Alikes.{sep_first}
 use Rattle.yq_rows.proofs.PlainEnds.{AtLine, row_line}
+use Rattle.yq_rows.proofs.seams.SeamLaws.{rows_text-append}
 use Rattle.yq_block.specs.BlockRows.{item_column, behind_dash}
 
 -- Rows begin at a column, before a rest, behind any row that allows it; what stands behind them may begin at any column up to that.
@@ -25,13 +26,9 @@ pub no_gap_here : (rest : List ℕ) → IsGap [] rest
 no_gap_here rest = record { lines = []; spelled = refl; each = tt }
 
 -- rows behind rows
-pub text_append : (xs ys : List Row) (rest : List ℕ) → rows_text (xs ++ ys) rest ≡ rows_text xs (rows_text ys rest)
-text_append [] ys rest = refl
-text_append (x ∷ xs) ys rest = ap (print_row x) (text_append xs ys rest)
-
 pub rows_append : (limit : Limit) (xs ys : List Row) (end rest : List ℕ) → AreRows limit xs [] (rows_text ys (end ++ rest)) → AreRows (asked_behind limit xs) ys end rest → AreRows limit (xs ++ ys) end rest
 rows_append limit [] ys end rest h k = k
-rows_append limit (x ∷ xs) ys end rest h k = (subst (IsRow limit x) (sym (text_append xs ys (end ++ rest))) h.0, rows_append (limit_after x) xs ys end rest h.1 k)
+rows_append limit (x ∷ xs) ys end rest h k = (subst (IsRow limit x) (sym (rows_text-append xs ys (end ++ rest))) h.0, rows_append (limit_after x) xs ys end rest h.1 k)
 
 asked_append : (limit : Limit) (xs ys : List Row) → asked_behind limit (xs ++ ys) ≡ asked_behind (asked_behind limit xs) ys
 asked_append limit [] ys = refl

@@ -1,5 +1,5 @@
 -- Rows that are written behind a key or dash of a text.
-use Rattle.std.proofs.Common.{◌≡◌, ℤ, ℕ, zero, suc, ◌+◌, ◌≤◌, true, false, not, ◌&&◌, eqb, List, [], ◌∷◌, ◌++◌, None, refl, sym, ap, ◌∙◌, subst, arith, append_assoc, replicate, Some}
+use Rattle.std.proofs.Common.{◌≡◌, ℤ, ℕ, suc, ◌+◌, ◌≤◌, true, false, not, ◌&&◌, eqb, List, [], ◌∷◌, ◌++◌, None, refl, sym, ap, ◌∙◌, subst, arith, append_assoc, replicate, Some}
 use Rattle.std.proofs.lemmas.Bool.{false≢true}
 use Rattle.yq_scalar.specs.Text.{separates, upto}
 use Rattle.yq_inline.specs.Alike.{Alike, byte}
@@ -17,20 +17,14 @@ use Rattle.yq_documents.specs.Lines.{dash_line, lines_from, row_lines, lines_of}
 use Rattle.yq_lines.specs.Outline as outline
 use Rattle.yq_lines.specs.Outline.{Line}
 use Rattle.yq_rows.specs.Joined.{dashed_row, compact_row}
+use Rattle.yq_rows.proofs.seams.JoinLaws.{space_apart, dashes_text-append, behind_columns-append}
+use Rattle.yq_rows.proofs.seams.SeamLaws.{rows_text-append}
 use Rattle.yq_block.specs.BlockPlaces.{compact_rows, IsUpto, at_mark, at_dash, IsAbove, Replaces, BeginsUpto}
 use Rattle.yq_block.specs.BlockRows.{item_column}
-use Rattle.yq_block.proofs.LaidRows.{AreLaid, IsLaid, rows_append, text_append}
+use Rattle.yq_block.proofs.LaidRows.{AreLaid, IsLaid, rows_append}
 use Rattle.yq_block.proofs.LineLaws.{BeginAt, no_head}
 
 -- dashes in front of dashes
-dashes_append : (ns ms t : List ℕ) → dashes_text (ns ++ ms) t ≡ dashes_text ns (dashes_text ms t)
-dashes_append [] ms t = refl
-dashes_append (n ∷ ns) ms t = ap (λ l. 45 ∷ (replicate n 32 ++ l)) (dashes_append ns ms t)
-
-columns_append : (column : ℕ) (ns ms : List ℕ) → behind_columns column (ns ++ ms) ≡ behind_columns (behind_columns column ns) ms
-columns_append column [] ms = refl
-columns_append column (n ∷ ns) ms = columns_append (suc (column + n)) ns ms
-
 are_dashes : (ns ms : List ℕ) (old new : Mark) → is_entry new ≡ true → AreDashes ns old → AreDashes (1 ∷ ms) new → AreDashes (ns ++ 1 ∷ ms) new
 are_dashes [] ms old new entry h k = k
 are_dashes (n ∷ ns) ms old new entry h k = (h.0, entry, are_dashes ns ms old new entry h.2 k)
@@ -40,10 +34,6 @@ first_dashes [] ms mark h = (tt, h)
 first_dashes (n ∷ ns) ms mark h = let more = first_dashes ns ms mark h.2 in ((h.0, refl, more.0), more.1)
 
 -- behind a dash of a row something else may stand
-spaces_apart : (n : ℕ) (t : List ℕ) → 1 ≤ n → separates (replicate n 32 ++ t) ≡ true
-spaces_apart zero t h = absurd (omega (arith, h))
-spaces_apart (suc n) t h = refl
-
 dash_seam : {limit : Limit} {r s : Row} {old : List ℕ} (u : List ℕ) → IsRow limit r old → IsUpto s r → s.mark ≡ Dash → separates u ≡ true → Alike (Some false) (behind_indent r old) (dashes_text s.dashes (45 ∷ u)) × AreDashes s.dashes Dash
 dash_seam {limit} {old} u h (at_mark {r} entry) last apart =
     let here : separates (content_text r.content old) ≡ true = mark_apart r.mark r.content old entry h.mark in
@@ -52,8 +42,8 @@ dash_seam {limit} {old} u h (at_mark {r} entry) last apart =
 dash_seam {limit} {old} u h (at_dash {r} {ns} n ms is) last apart =
     let t : List ℕ = dashes_text ms (behind_dashes r old) in
     let split = first_dashes ns (n ∷ ms) r.mark (subst (λ (ks : List ℕ). AreDashes ks r.mark) is h.dashes) in
-    let seam : Alike (Some false) (45 ∷ (replicate n 32 ++ t)) (45 ∷ u) = byte refl refl (spaces_apart n t split.1.0) apart in
-    let joined : behind_indent r old ≡ dashes_text ns (45 ∷ (replicate n 32 ++ t)) = ap (λ (ks : List ℕ). dashes_text ks (behind_dashes r old)) is ∙ dashes_append ns (n ∷ ms) (behind_dashes r old) in
+    let seam : Alike (Some false) (45 ∷ (replicate n 32 ++ t)) (45 ∷ u) = byte refl refl (space_apart n t split.1.0) apart in
+    let joined : behind_indent r old ≡ dashes_text ns (45 ∷ (replicate n 32 ++ t)) = ap (λ (ks : List ℕ). dashes_text ks (behind_dashes r old)) is ∙ dashes_text-append ns (n ∷ ms) (behind_dashes r old) in
     (subst (λ (l : List ℕ). Alike (Some false) l (dashes_text ns (45 ∷ u))) (sym joined) (dashes_text_alike ns _ _ seam), split.0)
 
 -- a row that begins where another one does
@@ -123,8 +113,8 @@ on_line limit r old ds q rs rest h seams laid =
     let t : List ℕ = rows_text rs rest in
     let inner : List ℕ = dashes_text q.dashes (behind_dashes q t) in
     let seam = seams (32 ∷ inner) refl in
-    let joined : dashes_text ds (45 ∷ 32 ∷ inner) ≡ behind_indent new t = sym (dashes_append ds (1 ∷ q.dashes) (behind_dashes q t)) in
-    let columns : mark_column q ≡ mark_column new = ap (λ (k : ℕ). behind_columns k q.dashes) laid.at ∙ sym (columns_append r.column ds (1 ∷ q.dashes)) in
+    let joined : dashes_text ds (45 ∷ 32 ∷ inner) ≡ behind_indent new t = sym (dashes_text-append ds (1 ∷ q.dashes) (behind_dashes q t)) in
+    let columns : mark_column q ≡ mark_column new = ap (λ (k : ℕ). behind_columns k q.dashes) laid.at ∙ sym (behind_columns-append r.column ds (1 ∷ q.dashes)) in
     let same : parent_indent q ≡ parent_indent new = ap (λ (k : ℕ). parent_of q.mark k) columns in
     let limits : limit_after q ≡ limit_after new = ap (λ n. limit_behind n q.content) same in
     let alone = laid.laid unlimited refl in
@@ -179,5 +169,5 @@ rows_replaced limit column before under after new r end rest h upto by =
     let tail : AreRows (limit_after r) (under ++ after) end rest = (rows_split limit before (r ∷ (under ++ after)) end rest h).1 in
     let left : AreRows (asked_behind (limit_after r) under) after end rest = rows_split (limit_after r) under after end rest tail in
     let again : AreRows (asked_behind asked new) after end rest = relimit _ (asked_behind asked new) after end rest (allowed_upto (asked_behind asked new) column after by.follow upto) left in
-    let alike = subst (λ (t : List ℕ). Alike (Some false) (print_row r (rows_text (under ++ after) (end ++ rest))) t) (sym (text_append new after (end ++ rest))) by.alike in
+    let alike = subst (λ (t : List ℕ). Alike (Some false) (print_row r (rows_text (under ++ after) (end ++ rest))) t) (sym (rows_text-append new after (end ++ rest))) by.alike in
     (chain before (r ∷ (under ++ after)) (new ++ after) limit end rest end rest h (rows_append asked new after end rest by.rows again) alike).0

@@ -9,11 +9,11 @@ use Rattle.yq_inline.specs.Nodes.{node_text}
 use Rattle.yq_flow.specs.Valued.{IsValueTree, AreValueTrees}
 use Rattle.yq_inline.proofs.WrittenLaws.{node_then}
 use Rattle.yq_rows.specs.Rows.{Row, behind_indent, rows_text}
+use Rattle.yq_rows.proofs.seams.SeamLaws.{rows_text-append}
 use Rattle.yq_block.specs.BlockRows.{behind_dash, block_key, children_rows, column_below, end_before, entry_rows, inline_of, node_rows}
 use Rattle.yq_block.specs.BlockText.{block_children, block_entry, block_node, then_lines}
 use Rattle.yq_block.specs.BlockValues.{IsFilled}
 use Rattle.yq_block.specs.declared.layout.Layout.{Layout}
-use Rattle.yq_block.proofs.LaidRows.{text_append}
 use Rattle.yq_block.proofs.LineLaws.{BeginAt, node_begun}
 use Rattle.yq_block.proofs.ScalarLaws.{Heads, heads}
 use Rattle.yq_block.specs.BlockText.{block_value}
@@ -80,7 +80,7 @@ mutual
       let last : List ℕ = end_before l end cs in
       let here : List Row = entry_rows l column last label.key (inline_of n) (node_rows l below last n) in
       let behind : List ℕ = behind_text l column cs end rest in
-      text_append here (children_rows l column end cs) rest
+      rows_text-append here (children_rows l column end cs) rest
       ∙ (ap (rows_text here) (children_spelled cs l column end rest keyed h.2)
       ∙ (entry_spelled l column below last label.key n (inline_of n) (node_rows l below last n) (block_node l below n) behind (heads n h.1) (λ b. (node_begun n l below last b h.1, node_spelled n l below last behind b h.1))
       ∙ then_spelled l column end cs (block_entry l below label.key (inline_of n) (block_node l below n)) rest))

@@ -7,6 +7,8 @@ use Rattle.yq_rows.specs.Grammar.{is_entry}
 use Rattle.yq_rows.specs.Joined.{compact_row}
 use Rattle.yq_rows.specs.Rows as rows
 use Rattle.yq_rows.specs.Rows.{Content, Nothing, Row, behind_dashes, behind_indent, dashes_text, mark_column, mark_text, print_row, rows_text, Cut}
+use Rattle.yq_rows.proofs.seams.JoinLaws.{dashes_text-append}
+use Rattle.yq_rows.proofs.PlaceLaws.{dashes_then}
 use Rattle.yq_documents.specs.Documents.{HaveFitKeys}
 use Rattle.yq_block.specs.BlockPlaces.{compact_rows}
 use Rattle.yq_block.proofs.LineLaws.{BeginAt}
@@ -40,19 +42,11 @@ keys_same row [] h = tt
 keys_same row (q ∷ qs) h = h
 
 -- their text
-dashes_then : (ns ms t : List ℕ) → dashes_text (ns ++ ms) t ≡ dashes_text ns (dashes_text ms t)
-dashes_then [] ms t = refl
-dashes_then (n ∷ ns) ms t = ap (λ l. 45 ∷ (replicate n 32 ++ l)) (dashes_then ns ms t)
-
-dashes_split : (ns a b : List ℕ) → dashes_text ns (a ++ b) ≡ dashes_text ns a ++ b
-dashes_split [] a b = refl
-dashes_split (n ∷ ns) a b = ap (λ l. 45 ∷ l) (ap (λ l. replicate n 32 ++ l) (dashes_split ns a b) ∙ sym (append_assoc (replicate n 32) (dashes_text ns a) b))
-
 dash_front : (row : Row) (u : List ℕ) → row.mark ≡ rows.Dash → row.gap ++ (replicate row.column 32 ++ dashes_text row.dashes (45 ∷ u)) ≡ row_front row ++ u
 dash_front row u is =
     let front : List ℕ = dashes_text row.dashes (45 ∷ []) in
     let own : row_front row ≡ row.gap ++ (replicate row.column 32 ++ front) = ap (λ m. row.gap ++ (replicate row.column 32 ++ dashes_text row.dashes (mark_text m []))) is in
-    ap (λ l. row.gap ++ (replicate row.column 32 ++ l)) (dashes_split row.dashes (45 ∷ []) u)
+    ap (λ l. row.gap ++ (replicate row.column 32 ++ l)) (dashes_then row.dashes (45 ∷ []) u)
     ∙ (ap (λ l. row.gap ++ l) (sym (append_assoc (replicate row.column 32) front u)) ∙ (sym (append_assoc row.gap (replicate row.column 32 ++ front) u) ∙ ap (λ l. l ++ u) (sym own)))
 
 pub behind_text : (column : ℕ) (row : Row) (rs : List Row) (u z : List ℕ) → BeginAt column rs → row.mark ≡ rows.Dash → rows_text rs z ≡ replicate column 32 ++ u → rows_text (compact_rows row rs) z ≡ row_front row ++ (32 ∷ u)
@@ -60,5 +54,5 @@ behind_text column row [] u z b is e = absurd b
 behind_text column row (q ∷ qs) u z b is e =
     let inner : behind_indent q (rows_text qs z) ≡ u =
     append_cancel_left (replicate column 32) (behind_indent q (rows_text qs z)) u (sym (λ i. b.0 i ++ (replicate (b.1 i) 32 ++ behind_indent q (rows_text qs z))) ∙ e) in
-    ap (λ l. row.gap ++ (replicate row.column 32 ++ l)) (dashes_then row.dashes (1 ∷ q.dashes) (behind_dashes q (rows_text qs z)))
+    ap (λ l. row.gap ++ (replicate row.column 32 ++ l)) (dashes_text-append row.dashes (1 ∷ q.dashes) (behind_dashes q (rows_text qs z)))
     ∙ (ap (λ l. row.gap ++ (replicate row.column 32 ++ dashes_text row.dashes (45 ∷ (32 ∷ l)))) inner ∙ dash_front row (32 ∷ u) is)

@@ -21,6 +21,7 @@ use Rattle.yq_rows.specs.View.{slices}
 use Rattle.yq_documents.specs.Lines.{tail_of}
 use Rattle.yq_tree.specs.MarkPlaces.{MarkPlace}
 use Rattle.yq_documents.specs.Reading.{documents, outline_of, read_at, root_of}
+use Rattle.yq_documents.proofs.RowLineLaws.{tail_is}
 use Rattle.yq_tree.specs.RowPaths.{IsReadable}
 use Rattle.yq_tree.proofs.PrintedTexts.{map_some}
 use Rattle.yq_change.specs.Appends.{inserted}
@@ -28,6 +29,7 @@ use Rattle.yq_change.specs.Changed.{put_document}
 use Rattle.yq_change.specs.SoundRoots.{MayReplace}
 use Rattle.yq_change.specs.TextPieces.{IsPiece}
 use Rattle.yq_change.proofs.TextPieceLaws.{pieces_joined}
+use Rattle.yq_change.proofs.RemovalPieceLaws.{spaces_piece}
 use Rattle.yq_block.specs.declared.layout.Layout.{Layout}
 use Rattle.yq_block.specs.BlockReading.{is_filled}
 use Rattle.yq_block.specs.BlockRows.{column_below, indent_step, item_column, node_rows}
@@ -47,11 +49,11 @@ use Rattle.yq_ways.specs.Ways.{IsWay, ReadsAfter}
 use Rattle.yq_block_ways.proofs.BehindDashLaws.{is_dash}
 use Rattle.yq_block_ways.proofs.DashValueLaws.{behind_rows, behind_spelled, takes_behind}
 use Rattle.yq_ways.proofs.BrokenTails.{broken_comment, broken_tail, end_tail, quiet_tail}
-use Rattle.yq_ways.proofs.CommentPieceLaws.{nothing, byte_then, break_piece, spaces_piece}
+use Rattle.yq_ways.proofs.CommentPieceLaws.{nothing, byte_then, break_piece}
 use Rattle.yq_ways.proofs.FitLaws.{fits_replace}
 use Rattle.yq_ways.proofs.LayoutLaws.{mapping_least}
 use Rattle.yq_block_ways.proofs.LeftRows.{holding, left_rows}
-use Rattle.yq_block_ways.proofs.MarkContentLaws.{anchor_left, tail_is, unnamed}
+use Rattle.yq_block_ways.proofs.MarkContentLaws.{anchor_left, unnamed}
 use Rattle.yq_block_ways.proofs.MarkFacts.{column_is, entry, key_is, named, node, own, p, pairs, parted, r, rest, row_is, tail, there, there_is}
 use Rattle.yq_block_ways.proofs.MarkPieceLaws.{MarkPieces, mark_pieces}
 use Rattle.yq_block_ways.proofs.MarkRowLaws.{HasMark, is_key, mark_has}

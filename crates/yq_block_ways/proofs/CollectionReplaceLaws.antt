@@ -28,7 +28,7 @@ use Rattle.yq_change.specs.Appends.{inserted}
 use Rattle.yq_change.specs.Changed.{put_document}
 use Rattle.yq_change.specs.SoundRoots.{MayReplace}
 use Rattle.yq_change.specs.TextPieces.{IsPiece}
-use Rattle.yq_change.proofs.RemovalPieceLaws.{piece_back}
+use Rattle.yq_change.proofs.RemovalPieceLaws.{piece_back, spaces_piece}
 use Rattle.yq_change.proofs.TextPieceLaws.{pieces_joined}
 use Rattle.yq_block.specs.declared.layout.Layout.{Layout}
 use Rattle.yq_block.specs.BlockReading.{is_filled}
@@ -53,7 +53,7 @@ use Rattle.yq_block_ways.proofs.BlockWritingLaws.{filled_is, same_below}
 use Rattle.yq_ways.proofs.BreakLaws.{IsLfOrCrLf, last_is}
 use Rattle.yq_ways.proofs.BrokenTails.{broken_tail, broken_comment, quiet_tail}
 use Rattle.yq_block_ways.proofs.CollectionRows.{alone_is, end_pieces, ended_tail, ended_comment, front_text, last_ends_line, node, own_anchor, pairs, parted, rest, tail, there, there_is, behind_is}
-use Rattle.yq_ways.proofs.CommentPieceLaws.{nothing as no_text, byte_then, break_piece, spaces_piece}
+use Rattle.yq_ways.proofs.CommentPieceLaws.{nothing as no_text, byte_then, break_piece}
 use Rattle.yq_ways.proofs.FitLaws.{FitsReplace, fits_replace}
 use Rattle.yq_ways.proofs.LayoutLaws.{mapping_least}
 use Rattle.yq_block_ways.proofs.LeftRows.{holding, left_row, left_rows}

@@ -1,11 +1,11 @@
 -- The rows of a block collection under a key or dash, and the text round them.
-use Rattle.std.proofs.Common.{◌≡◌, ◌⊎◌, inl, inr, ℕ, suc, ◌+◌, ◌-◌, ◌<◌, not, true, false, ◌&&◌, List, [], ◌∷◌, ◌++◌, length, take, drop, Option, Some, None, option_map, refl, sym, ap, ◌∙◌, subst, arith, append_assoc, append-nil, length-append}
+use Rattle.std.proofs.Common.{◌≡◌, ◌⊎◌, inl, inr, ℕ, suc, ◌+◌, ◌-◌, ◌<◌, not, true, false, List, [], ◌∷◌, ◌++◌, length, take, drop, Option, Some, None, option_map, refl, sym, ap, ◌∙◌, subst, arith, append_assoc, append-nil, length-append}
 use Rattle.std.proofs.Math.Seq.{take-append_seam}
 use Rattle.std.proofs.lemmas.Bool.{false≢true, and_parts}
 use mathlib.Core.List.{head-eq_of_cons-eq, tail-eq_of_cons-eq}
 use Rattle.yq_scalar.specs.Characters.{pairs_returns}
 use Rattle.yq_scalar.specs.Paths.{Step}
-use Rattle.yq_scalar.specs.Text.{is_break, is_empty, is_line}
+use Rattle.yq_scalar.specs.Text.{is_empty, is_line}
 use Rattle.yq_scalar.proofs.Bools.{bind_some}
 use Rattle.yq_scalar.proofs.BlockPieceLaws.{IsLf}
 use Rattle.yq_lines.specs.Comments.{line_comment}
@@ -21,6 +21,7 @@ use Rattle.yq_rows.specs.View.{slices}
 use Rattle.yq_rows.proofs.CharacterLaws.{pairs_back}
 use Rattle.yq_rows.proofs.seams.FrontSeams.{rows_some}
 use Rattle.yq_rows.proofs.seams.SeamLaws.{rows_text-append}
+use Rattle.yq_rows.proofs.splices.ContentPlaces.{count_front}
 use Rattle.yq_tree.specs.CollectionEnds.{CollectionEnd, collection_end}
 use Rattle.yq_tree.specs.CommentPlaces.{LineEnd, end_before, end_of_line, line_end, line_text}
 use Rattle.yq_documents.specs.Lines.{content_anchor, head_of, lines_of, row_lines}
@@ -35,6 +36,8 @@ use Rattle.yq_tree.proofs.LastBreakLaws.{lf_last}
 use Rattle.yq_tree.proofs.LineEndLaws.{end_of_tail, line_tail, tail_is_end}
 use Rattle.yq_tree.proofs.MarkLaws.{mark_seam}
 use Rattle.yq_tree.proofs.PrintedTexts.{map_some}
+use Rattle.yq_tree.proofs.FlowToldLaws.{before_under}
+use Rattle.yq_tree.proofs.UnderExchange.{lines_append}
 use Rattle.yq_change.specs.CollectionPlaces.{IsCollectionEnd}
 use Rattle.yq_change.specs.DocumentRows.{IsDocumentPart, behind_document}
 use Rattle.yq_change.specs.Siblings.{HasEntries, NodeLines, under_line}
@@ -45,8 +48,7 @@ use Rattle.yq_change.proofs.CollectionPlaceLaws.{collection_places}
 use Rattle.yq_change.proofs.EndLaws.{comment_is}
 use Rattle.yq_change.proofs.EndedRowLaws.{rows_ended, rows_then}
 use Rattle.yq_change.proofs.LineLaws.{row_count}
-use Rattle.yq_change.proofs.MovedLaws.{lines_append}
-use Rattle.yq_change.proofs.NodeLineLaws.{Under, before_under, lines_found}
+use Rattle.yq_change.proofs.NodeLineLaws.{Under, lines_found}
 use Rattle.yq_change.proofs.PathLaws.{seat_number}
 use Rattle.yq_change.proofs.TextPieceLaws.{text_is_piece}
 use Rattle.yq_change.proofs.UnderLaws.{is_mark, line_is}
@@ -55,11 +57,12 @@ use Rattle.yq_block.specs.BlockPlaces.{at_mark}
 use Rattle.yq_script.specs.Script.{text_before}
 use Rattle.yq_ways.proofs.BreakLaws.{IsLfOrCrLf, break_is, last_is}
 use Rattle.yq_ways.proofs.BrokenTails.{comment_other}
-use Rattle.yq_ways.proofs.CommentRowLaws.{count_front, found_text, IsFound, line_whole, row_found}
+use Rattle.yq_ways.proofs.CommentRowLaws.{found_text, IsFound, line_whole, row_found}
 use Rattle.yq_ways.proofs.LineCommentLaws.{HasPieces, pieces}
 use Rattle.yq_block_ways.proofs.MarkContentLaws.{IsAlone, alone_there}
 use Rattle.yq_block_ways.proofs.MarkRowLaws.{end_there, indent_column, is_key, keyed_is, line_found, no_raw}
 use Rattle.yq_block_ways.proofs.NodeRowLaws.{NodeRows, rows_there}
+use Rattle.yq_block_ways.proofs.ScalarTextLaws.{is_break_line}
 
 -- ---- rows among rows
 
@@ -107,21 +110,9 @@ suffix_lf (x ∷ a) b h some = suffix_lf a b (go h.0 h.1) some
     go [] e = absurd (false≢true (sym some ∙ ap is_empty (left_none a b (let rest : a ++ b ≡ [] = cc in rest))))
     go (y ∷ f) e = (f, let rest : a ++ b ≡ f ++ 10 ∷ [] = cc in rest)
 
-lf_break : (is_break (10 ∷ []) && is_line (10 ∷ [])) ≡ true
-unfolding is_line
-lf_break = refl
-
-crlf_break : (is_break (13 ∷ (10 ∷ [])) && is_line (13 ∷ (10 ∷ []))) ≡ true
-unfolding is_line
-crlf_break = refl
-
 no_line : is_line [] ≡ false
 unfolding is_line
 no_line = refl
-
-some_break : (b : List ℕ) → IsLfOrCrLf b → (is_break b && is_line b) ≡ true
-some_break b (inl e) = ap (λ x. is_break x && is_line x) e ∙ lf_break
-some_break b (inr e) = ap (λ x. is_break x && is_line x) e ∙ crlf_break
 
 -- what ends a text that itself ends so, is a break, or nothing at the end of all
 pub last_ends : (own rest : List ℕ) → Ended own rest → IsBreak (last_break own) rest
@@ -129,12 +120,12 @@ last_ends own rest (inl lf) = go (last_is own)
   where
     go : (last_break own ≡ []) ⊎ IsLfOrCrLf (last_break own) → IsBreak (last_break own) rest
     go (inl e) = absurd (false≢true (sym no_line ∙ (sym (ap is_line e) ∙ lf_last own lf)))
-    go (inr b) = inl (some_break (last_break own) b)
+    go (inr b) = inl (is_break_line (last_break own) b)
 last_ends own rest (inr none) = go (last_is own)
   where
     go : (last_break own ≡ []) ⊎ IsLfOrCrLf (last_break own) → IsBreak (last_break own) rest
     go (inl e) = inr (e, none)
-    go (inr b) = inl (some_break (last_break own) b)
+    go (inr b) = inl (is_break_line (last_break own) b)
 
 regroup : (p l w k b m : List ℕ) → p ++ (l ++ ((w ++ (k ++ b)) ++ m)) ≡ (p ++ (l ++ (w ++ k))) ++ (b ++ m)
 regroup p l w k b m = simp append_assoc refl

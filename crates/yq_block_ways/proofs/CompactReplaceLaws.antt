@@ -33,6 +33,7 @@ use Rattle.yq_change.specs.SoundRoots.{MayReplace}
 use Rattle.yq_change.specs.TextPieces.{IsPiece}
 use Rattle.yq_change.specs.Unders.{spaced}
 use Rattle.yq_change.proofs.TextPieceLaws.{pieces_joined, text_is_piece}
+use Rattle.yq_change.proofs.RemovalPieceLaws.{spaces_piece}
 use Rattle.yq_block.specs.declared.layout.Layout.{Layout}
 use Rattle.yq_block.specs.BlockReading.{is_filled}
 use Rattle.yq_block.specs.BlockRows.{item_column, node_rows}
@@ -55,7 +56,7 @@ use Rattle.yq_ways.proofs.AppendPlaces.{kept_pieces}
 use Rattle.yq_block_ways.proofs.BlockWritingLaws.{filled_is}
 use Rattle.yq_ways.proofs.BreakLaws.{IsLfOrCrLf, last_is}
 use Rattle.yq_ways.proofs.BrokenTails.{quiet_tail}
-use Rattle.yq_ways.proofs.CommentPieceLaws.{nothing, byte_then, break_piece, spaces_piece}
+use Rattle.yq_ways.proofs.CommentPieceLaws.{nothing, byte_then, break_piece}
 use Rattle.yq_ways.proofs.CommentRowLaws.{row_found}
 use Rattle.yq_block_ways.proofs.CompactRows.{IsCompact, before_is, behind_is, column_is, dash_last, ends_in, inner_is, last_ends_line, node, unnamed, whole_text}
 use Rattle.yq_block_ways.proofs.DashValueLaws.{behind_rows, behind_spelled, takes_behind}

@@ -16,6 +16,7 @@ use Rattle.yq_rows.specs.Rows as rows
 use Rattle.yq_rows.specs.Rows.{Row, behind_dashes, mark_column, print_row, rows_text, part_text, Cut, cut_text}
 use Rattle.yq_rows.proofs.PlaceLaws.{row_then}
 use Rattle.yq_rows.proofs.seams.SeamLaws.{rows_text-append}
+use Rattle.yq_rows.proofs.splices.ContentPlaces.{count_front}
 use Rattle.yq_tree.specs.CollectionEnds.{CollectionEnd, collection_end}
 use Rattle.yq_tree.specs.DashPlaces.{DashPlace, dash_in, dash_place, past_dash, upto_dash}
 use Rattle.yq_documents.specs.Lines.{lines_of}
@@ -25,19 +26,20 @@ use Rattle.yq_tree.specs.PrintedLines.{last_break}
 use Rattle.yq_documents.specs.Reading.{outline_of, read_at}
 use Rattle.yq_tree.proofs.CommentPieceLaws.{Ended}
 use Rattle.yq_tree.proofs.DashLaws.{front_is, line_within, row_cut}
+use Rattle.yq_tree.proofs.FlowToldLaws.{before_under}
+use Rattle.yq_tree.proofs.UnderExchange.{lines_append}
 use Rattle.yq_change.specs.CollectionPlaces.{IsCollectionEnd}
 use Rattle.yq_change.specs.DocumentRows.{IsDocumentPart, behind_document}
 use Rattle.yq_change.specs.Siblings.{HasEntries, NodeLines}
 use Rattle.yq_change.proofs.AppendPlaceLaws.{end_allows}
 use Rattle.yq_change.proofs.CollectionPlaceLaws.{collection_places}
 use Rattle.yq_change.proofs.EndedRowLaws.{rows_ended, rows_then}
-use Rattle.yq_change.proofs.MovedLaws.{lines_append}
-use Rattle.yq_change.proofs.NodeLineLaws.{Under, before_under, lines_found}
+use Rattle.yq_change.proofs.NodeLineLaws.{Under, lines_found}
 use Rattle.yq_change.proofs.PathLaws.{seat_number}
 use Rattle.yq_block.specs.BlockPlaces.{IsUpto, at_dash}
 use Rattle.yq_script.specs.Script.{text_before}
 use Rattle.yq_block_ways.proofs.CollectionRows.{front_of, last_ends, rows_reach, suffix_lf, value_unnamed}
-use Rattle.yq_ways.proofs.CommentRowLaws.{count_front, found_text, IsFound, row_found}
+use Rattle.yq_ways.proofs.CommentRowLaws.{found_text, IsFound, row_found}
 use Rattle.yq_block_ways.proofs.MarkRowLaws.{line_found}
 use Rattle.yq_block_ways.proofs.NodeRowLaws.{NodeRows, line_is, rows_there}
 

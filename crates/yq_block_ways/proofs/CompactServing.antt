@@ -22,12 +22,13 @@ use Rattle.yq_documents.specs.Seats.{Seat, seat, seat_of}
 use Rattle.yq_tree.proofs.PrintedTexts.{map_some}
 use Rattle.yq_tree.proofs.RootTold.{document_printed}
 use Rattle.yq_tree.proofs.SeatLineLaws.{seat_line}
+use Rattle.yq_tree.proofs.FlowToldLaws.{before_under}
+use Rattle.yq_tree.proofs.UnderExchange.{lines_append}
 use Rattle.yq_change.specs.CollectionPlaces.{IsCollectionEnd}
 use Rattle.yq_change.specs.DocumentRows.{IsDocumentPart}
 use Rattle.yq_change.specs.Siblings.{NodeLines}
 use Rattle.yq_change.proofs.CollectionPlaceLaws.{collection_places}
-use Rattle.yq_change.proofs.MovedLaws.{lines_append}
-use Rattle.yq_change.proofs.NodeLineLaws.{Under, before_under, lines_found}
+use Rattle.yq_change.proofs.NodeLineLaws.{Under, lines_found}
 use Rattle.yq_change.proofs.PlacedPartLaws.{document_stands_at}
 use Rattle.yq_block.specs.declared.layout.Layout.{Layout}
 use Rattle.yq_meaning.specs.Operations.{replace}

@@ -1,10 +1,9 @@
 -- Nothing but the anchor of a block scalar behind a mark, and the white space before a header.
-use Rattle.std.proofs.Common.{◌≡◌, ℕ, ℤ, ◌<◌, eqb, not, ◌&&◌, ◌||◌, List, [], ◌∷◌, ◌++◌, Option, Some, None, Bool, true, false, refl, sym, ap, arith, append_assoc, append-nil, eqb-true}
+use Rattle.std.proofs.Common.{◌≡◌, ℕ, ℤ, ◌<◌, eqb, not, ◌||◌, List, [], ◌∷◌, ◌++◌, Option, Some, None, Bool, true, false, refl, sym, ap, arith, append_assoc, append-nil, eqb-true}
 use Rattle.std.proofs.lemmas.Bool.{false≢true, or_parts}
 use Rattle.std.proofs.lemmas.Option.{none-some}
 use Rattle.yq_scalar.specs.Block.{BlockText, block_text}
-use Rattle.yq_scalar.specs.Text.{is_empty, is_feed, is_return, is_white, separates, unless}
-use Rattle.yq_scalar.specs.Plain.{is_flow_indicator}
+use Rattle.yq_scalar.specs.Text.{is_empty, is_feed, separates}
 use Rattle.yq_inline.specs.Nodes as inline
 use Rattle.yq_inline.specs.Nodes.{node_text, in_name, first_is, begins_content, IsName, IsNode}
 use Rattle.yq_rows.specs.Alone.{holds_nothing}
@@ -15,6 +14,7 @@ use Rattle.yq_rows.specs.Rows.{Anchor, Content, Nothing, Inline, Block, anchor_t
 use Rattle.yq_rows.specs.View.{slices, colon_of}
 use Rattle.yq_rows.proofs.NodeExchange.{space_apart}
 use Rattle.yq_rows.proofs.NothingLaws.{name_again, tail_apart, tail_lead, tail_no_node}
+use Rattle.yq_rows.proofs.seams.ScalarSeams.{apart_unnamed}
 use Rattle.yq_documents.specs.Lines.{block_anchor, content_anchor, tail_of}
 use Rattle.yq_tree.specs.ScalarPlaces.{anchor_before, space_before}
 use Rattle.yq_change.specs.TextPieces.{BeginsPiece}
@@ -40,23 +40,12 @@ unfolding kept
 kept_anchor space None t = refl
 kept_anchor space (Some a) t = refl
 
--- what separates ends a name
-ends_name : (t : List ℕ) → separates t ≡ true → unless in_name t ≡ true
-ends_name [] h = refl
-ends_name (b ∷ t) h = go (is_white b) (is_feed b) (is_return b) _ (is_flow_indicator b) h
-  where
-    go : (w f c x i : Bool) → (w || (f || (c && x))) ≡ true → not (not (w || (f || c) || i)) ≡ true
-    go true f c x i h = refl
-    go false true c x i h = refl
-    go false false true x i h = refl
-    go false false false x i h = absurd (false≢true h)
-
 pub kept_stands : (n : ℤ) (space : List ℕ) (a : Option Anchor) (t old more : List ℕ) → IsWhite space → IsAnchor a old → IsTail t more → IsContent n (kept space a t) more
 unfolding kept IsNode node_text
 kept_stands n space None t old more white anchor h = h
 kept_stands n space (Some a) t old more white anchor h =
     let none = or_parts (first_is 38 (t ++ more)) (begins_content false (t ++ more)) (tail_no_node t more h) in
-    let name : IsName a.name (t ++ more) = record { some = anchor.0.some; inside = name_again in_name a.name (a.gap ++ old) (t ++ more) anchor.0.inside; ends = ends_name (t ++ more) (tail_apart t more h) } in
+    let name : IsName a.name (t ++ more) = record { some = anchor.0.some; inside = name_again in_name a.name (a.gap ++ old) (t ++ more) anchor.0.inside; ends = apart_unnamed (t ++ more) (tail_apart t more h) } in
     (white, record { valid = (name, tail_lead t more h, refl, refl, (none.1, none.0)); something = refl }, h)
 
 pub kept_apart : (space : List ℕ) (a : Option Anchor) (block : BlockText) (t u more : List ℕ) → IsWhite space → IsTail t more → separates (space ++ anchor_text a (block_text block u)) ≡ true → separates (content_text (kept space a t) more) ≡ true

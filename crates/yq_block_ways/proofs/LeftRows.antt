@@ -15,9 +15,10 @@ use Rattle.yq_rows.proofs.PlaceLaws.{row_front-append}
 use Rattle.yq_documents.specs.Lines.{content_anchor}
 use Rattle.yq_tree.specs.MarkPlaces.{upto_anchor}
 use Rattle.yq_documents.specs.Nodes.{anchor_of}
+use Rattle.yq_documents.proofs.RowLineLaws.{tail_is}
 use Rattle.yq_change.specs.DocumentRows.{behind_document}
 use Rattle.yq_change.proofs.CoreLaws.{put_core}
-use Rattle.yq_block_ways.proofs.MarkContentLaws.{anchor_left, left_anchor, left_apart, left_content, left_core_text, left_nothing, left_tail, left_text, tail_is}
+use Rattle.yq_block_ways.proofs.MarkContentLaws.{anchor_left, left_anchor, left_apart, left_content, left_core_text, left_nothing, left_tail, left_text}
 use Rattle.yq_block_ways.proofs.NodeRowLaws.{NodeRows, entry, limit}
 use Rattle.yq_block_ways.proofs.NodeValueLaws.{IsHolding}
 

@@ -1,11 +1,11 @@
 -- What is left behind a key or dash where nothing but the anchor stays.
-use Rattle.std.proofs.Common.{◌≡◌, inl, inr, ℕ, ℤ, ◌<◌, ⊎_elim, true, false, cond, eqb, List, [], ◌∷◌, ◌++◌, Option, Some, None, refl, sym, ap, ◌∙◌, subst, arith, append_assoc}
+use Rattle.std.proofs.Common.{◌≡◌, ℕ, ℤ, ◌<◌, ⊎_elim, true, false, cond, eqb, List, [], ◌∷◌, ◌++◌, Option, Some, None, refl, sym, ap, ◌∙◌, subst, arith, append_assoc}
 use Rattle.std.proofs.lemmas.Bool.{cases_lt, eqb-true, false≢true, false_from_ne_true, not-false, or_parts}
 use Rattle.std.proofs.lemmas.Option.{none-some}
 use Rattle.yq_scalar.specs.Text.{is_empty, is_return, separates, unless, NoneIn}
 use Rattle.yq_scalar.proofs.Bools.{at_byte}
 use Rattle.yq_inline.specs.Nodes as inline
-use Rattle.yq_inline.specs.Nodes.{begins_content, first_is, in_name, node_text, IsLead, IsName, IsNode}
+use Rattle.yq_inline.specs.Nodes.{begins_content, first_is, in_name, node_text, IsName, IsNode}
 use Rattle.yq_inline.proofs.WrittenLaws.{node_then}
 use Rattle.yq_lines.specs.Anchors.{IsFree}
 use Rattle.yq_lines.specs.Comments.{line_comment}
@@ -21,7 +21,7 @@ use Rattle.yq_rows.proofs.NodePieces.{BeginsAscii}
 use Rattle.yq_rows.proofs.NothingLaws.{tail_apart, tail_lead, tail_no_node}
 use Rattle.yq_rows.proofs.seams.ScalarSeams.{ends_return, name_seam}
 use Rattle.yq_documents.specs.Lines.{content_anchor, head_of, lines_from, lines_of, tail_of}
-use Rattle.yq_change.proofs.CoreLaws.{put_core}
+use Rattle.yq_change.proofs.CoreLaws.{put_core, empty_gap}
 use Rattle.yq_block.proofs.LaidRows.{AreLaid}
 
 -- ---- the content
@@ -66,11 +66,6 @@ left_tail (Inline space (inline.scalar p) old) tail = refl
 left_tail (Inline space (inline.coll k g is) old) tail = refl
 left_tail (Inline space (inline.anchored n g node) old) tail = refl
 left_tail (Block space anchor block) tail = refl
-
-pub tail_is : (x : Content) → (content_cut x).4 ≡ tail_of x
-tail_is (Nothing tail) = refl
-tail_is (Inline space node tail) = refl
-tail_is (Block space anchor block) = refl
 
 -- without an anchor there is no name
 pub unnamed : (x : Content) → is_empty (content_cut x).1 ≡ true → content_anchor x ≡ None
@@ -138,10 +133,6 @@ pub record IsAlone (x : Content) : Type 0 where
   pub block : is_block x ≡ false
   pub gone : cond (is_empty (content_cut x).1) ((content_cut x).0 ++ ((content_cut x).2 ++ (content_cut x).3)) ((content_cut x).2 ++ (content_cut x).3) ≡ []
 
-no_gap : (g rest : List ℕ) → IsLead false (begins_content false) g rest → begins_content false rest ≡ false → g ≡ []
-no_gap g rest (inl h) none = absurd (false≢true (sym none ∙ h.1))
-no_gap g rest (inr h) none = h.0
-
 pub alone_there : (n : ℤ) (x : Content) (rest : List ℕ) → IsContent n x rest → head_of x ≡ None → IsAlone x
 unfolding IsNode node_text
 alone_there n (Nothing z) rest h e = record { block = refl; gone = refl }
@@ -149,7 +140,7 @@ alone_there n (Inline space inline.empty z) rest h e = absurd (false≢true h.1.
 alone_there n (Inline space (inline.alias m) z) rest h e = absurd (none-some _ (sym e))
 alone_there n (Inline space (inline.scalar p) z) rest h e = absurd (none-some _ (sym e))
 alone_there n (Inline space (inline.coll c g is) z) rest h e = absurd (none-some _ (sym e))
-alone_there n (Inline space (inline.anchored m g inline.empty) z) rest h e = record { block = refl; gone = ap (λ l. l ++ []) (no_gap g (z ++ rest) h.1.valid.1 h.1.valid.4.0) }
+alone_there n (Inline space (inline.anchored m g inline.empty) z) rest h e = record { block = refl; gone = ap (λ l. l ++ []) (empty_gap g (z ++ rest) h.1.valid.1 h.1.valid.4.0) }
 alone_there n (Inline space (inline.anchored m g (inline.alias k)) z) rest h e = absurd (none-some _ (sym e))
 alone_there n (Inline space (inline.anchored m g (inline.scalar p)) z) rest h e = absurd (none-some _ (sym e))
 alone_there n (Inline space (inline.anchored m g (inline.coll c k is)) z) rest h e = absurd (none-some _ (sym e))

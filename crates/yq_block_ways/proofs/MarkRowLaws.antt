@@ -15,6 +15,7 @@ use Rattle.yq_rows.specs.Rows as rows
 use Rattle.yq_rows.specs.Rows.{Content, Nothing, Inline, Block, Row, content_text, mark_column, parent_indent, rows_text, Part, part_text, Cut, cut_text}
 use Rattle.yq_rows.specs.Seams.{is_block}
 use Rattle.yq_rows.specs.View.{content_cut, slices, colon_of}
+use Rattle.yq_rows.proofs.splices.ContentPlaces.{count_front}
 use Rattle.yq_tree.specs.CommentPlaces.{LineEnd, end_of_line, line_end}
 use Rattle.yq_tree.specs.InlinePlaces.{InlinePlace, mark_inline, inline_from}
 use Rattle.yq_documents.specs.Lines.{lines_of, row_lines}
@@ -29,7 +30,7 @@ use Rattle.yq_change.proofs.InlineRowLaws.{inline_placed}
 use Rattle.yq_change.proofs.LineLaws.{row_count}
 use Rattle.yq_change.proofs.PathLaws.{seat_number}
 use Rattle.yq_block_ways.specs.BlockWriting.{mark_of_node, block_mark}
-use Rattle.yq_ways.proofs.CommentRowLaws.{count_front, IsFound, row_found}
+use Rattle.yq_ways.proofs.CommentRowLaws.{IsFound, row_found}
 
 -- ---- one row among rows
 

@@ -52,7 +52,10 @@ use Rattle.yq_change.proofs.LineLaws.{above_mark, dashes_count}
 use Rattle.yq_change.proofs.PartLaws.{document_known}
 use Rattle.yq_change.proofs.PlacedLaws.{found_is_entry, rows_in_parts, same_parts, whole_line}
 use Rattle.yq_change.proofs.ReplaceLaws.{node_rows_replaced, rows_before_some}
-use Rattle.yq_change.proofs.UnderLaws.{line_with, dashes_of, gone_lines, rows_after}
+use Rattle.yq_change.proofs.UnderLaws.{line_with, dashes_of, gone_lines}
+use Rattle.yq_change.proofs.UnbrokenLaws.{gap_same}
+use Rattle.yq_change.proofs.InlineDoneLaws.{no_node_first}
+use Rattle.yq_change.proofs.FirstReplaceLaws.{rows_after}
 use Rattle.yq_block.specs.BlockPlaces.{IsUpto, at_mark, at_dash, Replaces}
 use Rattle.yq_block.proofs.LaidRows.{rows_append}
 use Rattle.yq_meaning.specs.Operations.{replace}
@@ -104,14 +107,6 @@ lines_upto (at_dash {r} {ns} n ms is) under =
 follow_first : (limit : Limit) (column : ℕ) (bs : List Row) → ((k : ℕ) → k ≤ column → allows limit k ≡ true) → allows_first (record { column = Some (suc column) }) bs ≡ true → allows_first limit bs ≡ true
 follow_first limit column [] f h = refl
 follow_first limit column (b ∷ bs) f h = f b.column (let less = ltb-true b.column (suc column) h in omega (arith, less))
-
-same_gap : (xs : List Row) (a b : Row) (az bz : List Row) (d e : List ℕ) → a.gap ≡ b.gap → first_gap (xs ++ (a ∷ az)) d ≡ first_gap (xs ++ (b ∷ bz)) e
-same_gap [] a b az bz d e h = h
-same_gap (x ∷ xs) a b az bz d e h = refl
-
-same_first : (xs : List Line) (l m : Line) (ls ms : List Line) → l.mark ≡ m.mark → begins_no_node (xs ++ (l ∷ ls)) ≡ begins_no_node (xs ++ (m ∷ ms))
-same_first [] l m ls ms e = ap (λ k. Rattle.yq_lines.specs.Sound.is_entry k) e
-same_first (x ∷ xs) l m ls ms e = refl
 
 led_below : (block : Bool) (lead : List (List ℕ)) (s : Step) (ss : List Step) (v : Node) → led block lead (s ∷ ss) v ≡ v
 led_below true lead s ss v = refl
@@ -272,7 +267,7 @@ module _ (doc : ℕ) (s : Step) (ss : List Step) (c : Cut) (h : NodeRows doc s s
   same_lead : lead_of q ≡ lead_of h.p
   same_lead =
       ap (λ rs. head_comment (first_gap rs q.end)) (q_rows ∙ ap (λ rs. h.front ++ (rs ++ h.back)) t.new_is)
-      ∙ (ap head_comment (same_gap h.front t.first h.row (t.more ++ h.back) (h.under ++ h.back) q.end h.p.end t.gap_is) ∙ sym (ap (λ rs. head_comment (first_gap rs h.p.end)) h.rows_are))
+      ∙ (ap head_comment (gap_same h.front t.first h.row (t.more ++ h.back) (h.under ++ h.back) q.end h.p.end t.gap_is) ∙ sym (ap (λ rs. head_comment (first_gap rs h.p.end)) h.rows_are))
 
   same_block : is_block_root q ≡ is_block_root h.p
   same_block =
@@ -282,7 +277,7 @@ module _ (doc : ℕ) (s : Step) (ss : List Step) (c : Cut) (h : NodeRows doc s s
       ap lines_of q_rows
       ∙ (rows_in_parts h.front new h.back ∙ (ap (λ (ls : List Line). lines_of h.front ++ (ls ++ lines_of h.back)) t.lines ∙ sym (around (lines_of h.front) (dashes_of h.mark) (now ∷ flatten t.under) (lines_of h.back)))) in
       ap begins_no_node lines
-      ∙ (same_first (lines_of h.front ++ dashes_of h.mark) now was (flatten t.under ++ lines_of h.back) ((lines_upto h.upto h.under).0 ++ lines_of h.back) refl ∙ sym (ap begins_no_node (old_lines doc s ss c h)))
+      ∙ (no_node_first (lines_of h.front ++ dashes_of h.mark) now was (flatten t.under ++ lines_of h.back) ((lines_upto h.upto h.under).0 ++ lines_of h.back) refl ∙ sym (ap begins_no_node (old_lines doc s ss c h)))
 
   pub node_reads : MayReplace v (content h.found.line h.found.under) (root_of h.p) (length (s ∷ ss)) → IsReadable (cut_text (put_document doc (inserted h.front new h.back h.p) c)) →
       ReadsAfter (replace doc (s ∷ ss) v) c (cut_text (put_document doc (inserted h.front new h.back h.p) c))

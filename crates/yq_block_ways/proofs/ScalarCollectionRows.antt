@@ -33,6 +33,7 @@ use Rattle.yq_change.specs.DocumentRows.{behind_document}
 use Rattle.yq_change.specs.SoundRoots.{MayReplace}
 use Rattle.yq_change.specs.TextPieces.{IsPiece}
 use Rattle.yq_change.proofs.TextPieceLaws.{byte_cut, pieces_joined}
+use Rattle.yq_change.proofs.RemovalPieceLaws.{spaces_piece}
 use Rattle.yq_block.specs.declared.layout.Layout.{Layout}
 use Rattle.yq_block.specs.BlockRows.{column_below, indent_step, item_column, node_rows}
 use Rattle.yq_block.specs.BlockText.{block_value}
@@ -49,7 +50,7 @@ use Rattle.yq_block_ways.proofs.DashValueLaws.{behind_rows, behind_spelled, take
 use Rattle.yq_block_ways.proofs.BlockWritingLaws.{same_below}
 use Rattle.yq_ways.proofs.BreakLaws.{IsLfOrCrLf}
 use Rattle.yq_ways.proofs.BrokenTails.{quiet_tail}
-use Rattle.yq_ways.proofs.CommentPieceLaws.{break_piece, byte_then, spaces_piece}
+use Rattle.yq_ways.proofs.CommentPieceLaws.{break_piece, byte_then}
 use Rattle.yq_block_ways.proofs.EntryRows.{entry_named, entry_rows}
 use Rattle.yq_block_ways.proofs.KeptAnchors.{kept, kept_holds, kept_tail, kept_anchor, kept_stands, kept_apart, front_kept, white_begins, white_before, none_anchor, nothing_before}
 use Rattle.yq_block_ways.proofs.MarkRowLaws.{indent_column, keyed_is}

@@ -1,39 +1,37 @@
 -- A block scalar gives way to a value that is written inline on the line of its header.
 use Rattle.std.proofs.Common.{◌≡◌, inl, ℕ, ◌≤◌, cond, not, List, [], ◌∷◌, ◌++◌, length, Option, Some, None, Bool, true, false, refl, sym, ap, ◌∙◌, subst, append_assoc, append-nil}
-use Rattle.std.proofs.lemmas.Bool.{false≢true}
 use Rattle.std.proofs.lemmas.Option.{none-some, same_Some}
 use Rattle.std.proofs.lemmas.Str.{is_utf8-from_IsUtf8}
-use Rattle.yq_scalar.specs.Block.{BlockText, block_text, mark_of}
+use Rattle.yq_scalar.specs.Block.{block_text}
 use Rattle.yq_scalar.specs.BlockWritten.{break_text}
 use Rattle.yq_scalar.specs.Characters.{text_limit}
 use Rattle.yq_scalar.specs.Keys.{depth}
 use Rattle.yq_scalar.specs.Paths.{Step, change, node_at}
 use Rattle.yq_scalar.specs.Piece.{deeper}
 use Rattle.yq_scalar.specs.Plain.{ends_plain}
-use Rattle.yq_scalar.specs.Text.{joined, no_white, separates, NoneIn}
 use Rattle.yq_scalar.specs.Tree as tree
 use Rattle.yq_scalar.specs.Tree.{Node}
 use Rattle.yq_scalar.specs.Writable.{can_write, is_string}
 use Rattle.yq_scalar.specs.Written.{double}
-use Rattle.yq_scalar.specs.declared.block_header.BlockStyle.{BlockStyle}
 use Rattle.yq_scalar.specs.declared.block_header.BlockStyle.TheVariants as block_styles
 use Rattle.yq_scalar.specs.declared.style.Place.TheVariants as places
 use Rattle.yq_scalar.specs.declared.style.Style.TheVariants as styles
 use Rattle.yq_scalar.proofs.Bools.{bind_some}
 use Rattle.yq_inline.specs.Inline.{depth_limit}
 use Rattle.yq_inline.specs.Nodes as inline
-use Rattle.yq_inline.specs.Nodes.{node_text, is_bare, IsNode}
+use Rattle.yq_inline.specs.Nodes.{node_text, IsNode}
 use Rattle.yq_inline.specs.Trees.{node_anchor}
 use Rattle.yq_flow.specs.Valued.{IsValueTree}
 use Rattle.yq_inline.proofs.WrittenLaws.{node_then}
 use Rattle.yq_lines.specs.Comments.{line_comment as comment_in}
 use Rattle.yq_rows.specs.Exchange.{row_front}
-use Rattle.yq_rows.specs.Gap.{IsWhite}
-use Rattle.yq_rows.specs.Grammar.{IsAnchor, IsMark, IsTail, is_more, limit_after, ends_part}
+use Rattle.yq_rows.specs.Grammar.{IsAnchor, IsMark, IsTail, limit_after, ends_part}
 use Rattle.yq_rows.specs.Rows.{Anchor, Content, Block, Inline, anchor_text, Row, parent_indent, rows_text, Part, Cut, cut_text}
 use Rattle.yq_rows.specs.View.{slices}
 use Rattle.yq_rows.proofs.NodeExchange.{mark_apart, space_apart}
 use Rattle.yq_rows.proofs.splices.PartPlaces.{part_ends}
+use Rattle.yq_rows.proofs.seams.RowSeams.{block_no_space}
+use Rattle.yq_rows.proofs.LineEnds.{none_in_white}
 use Rattle.yq_tree.specs.CommentPlaces.{LineEnd}
 use Rattle.yq_documents.specs.Documents.{document_parts, lead_of}
 use Rattle.yq_documents.specs.Lines.{block_anchor}
@@ -55,6 +53,7 @@ use Rattle.yq_change.proofs.LeadLaws.{same_lead_goes}
 use Rattle.yq_change.proofs.PartLaws.{document_known}
 use Rattle.yq_change.proofs.PathTailLaws.{anchor_other}
 use Rattle.yq_change.proofs.TextPieceLaws.{pieces_joined}
+use Rattle.yq_change.proofs.ValueContentLaws.{more_some}
 use Rattle.yq_meaning.specs.Changes.{has_long_key}
 use Rattle.yq_meaning.specs.Fits.{Fits}
 use Rattle.yq_meaning.specs.Operations.{Operation, replace, append, remove, line_comment, head_comment}
@@ -84,34 +83,15 @@ carrier_anchor : (a : Option Anchor) → node_anchor (carrier a) ≡ block_ancho
 carrier_anchor None = refl
 carrier_anchor (Some a) = refl
 
-some_node : (node : inline.Node) → is_more node ≡ true → is_bare node ≡ false
-some_node inline.empty h = absurd (false≢true h)
-some_node (inline.alias n) h = refl
-some_node (inline.scalar q) h = refl
-some_node (inline.coll k g is) h = refl
-some_node (inline.anchored n g node) h = refl
-
-white_in : (g t : List ℕ) → IsWhite g → NoneIn no_white g t
-white_in [] t h = tt
-white_in (b ∷ g) t h = (ap not h.0, white_in g t h.1)
-
 named_node : (anchor : Option Anchor) (v : Node) (node : inline.Node) (spaces : Option ℕ) (d : ℕ) (old u : List ℕ) → IsAnchor anchor old → IsValueNode v node → IsNode false spaces d node u → IsNode false spaces d (recore node (carrier anchor)) u
 named_node None v node spaces d old u h is stands = stands
 named_node (Some a) v node spaces d old u h is stands =
-    anchored_node spaces d node u is.unnamed (some_node node is.more) is.takes stands a.name a.gap (inline.coll 93 [] inline.none) (91 ∷ []) refl (anchor_other (Some a) old (91 ∷ []) h).0 (inl ((white_in a.gap (91 ∷ []) h.1, refl), refl)) (ap not h.2)
+    anchored_node spaces d node u is.unnamed (more_some node is.more) is.takes stands a.name a.gap (inline.coll 93 [] inline.none) (91 ∷ []) refl (anchor_other (Some a) old (91 ∷ []) h).0 (inl ((none_in_white a.gap (91 ∷ []) h.1, refl), refl)) (ap not h.2)
 
 named_text : (anchor : Option Anchor) (node : inline.Node) (u : List ℕ) → node_text (recore node (carrier anchor)) u ≡ anchor_text anchor (node_text node u)
 unfolding node_text
 named_text None node u = refl
 named_text (Some a) node u = refl
-
-not_apart : (style : BlockStyle) (u : List ℕ) → separates (mark_of style ∷ u) ≡ false
-not_apart block_styles.Literal u = refl
-not_apart block_styles.Folded u = refl
-
-pub block_begins : (anchor : Option Anchor) (block : BlockText) (u : List ℕ) → separates (anchor_text anchor (block_text block u)) ≡ false
-block_begins None block u = not_apart block.style (block.indicators ++ (block.tail ++ (joined block.raw ++ u)))
-block_begins (Some a) block u = refl
 
 -- ---- the content of the row, and the text
 
@@ -166,12 +146,12 @@ module _ (doc : ℕ) (s : Step) (ss : List Step) (c : Cut) (w : ScalarPlace) (h 
           old.0,
           record {
             valid = named_node h.anchor v node _ _ (block_text h.block z) (new_tail ++ z) old.1 is (is.stands (parent_indent row) (new_tail ++ z) plain_ends).valid;
-            something = ap not (core_bare node (carrier h.anchor) (some_node node is.more));
+            something = ap not (core_bare node (carrier h.anchor) (more_some node is.more));
           },
           tail_stands z,
         );
         apart = space_apart h.space (anchor_text h.anchor (block_text h.block z)) (node_text (recore node (carrier h.anchor)) (new_tail ++ z)) old.0
-            (mark_apart row.mark (Block h.space h.anchor h.block) z (entry doc s ss c w h) mark_is) (block_begins h.anchor h.block z);
+            (mark_apart row.mark (Block h.space h.anchor h.block) z (entry doc s ss c w h) mark_is) (block_no_space h.anchor h.block z);
         next = may_follow row h.space (recore node (carrier h.anchor)) new_tail (back doc s ss c w h) (near doc s ss c w h);
         head_is = core_head node (carrier h.anchor) ∙ is.head;
         anchor_is = core_anchor node (carrier h.anchor) is.unnamed ∙ carrier_anchor h.anchor;

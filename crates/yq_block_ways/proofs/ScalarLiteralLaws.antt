@@ -44,6 +44,7 @@ use Rattle.yq_rows.specs.Grammar.{limit_after}
 use Rattle.yq_rows.specs.Rows.{Content, Block, anchor_text, Row, parent_indent, rows_text, Part, Cut, cut_text}
 use Rattle.yq_rows.specs.View.{slices}
 use Rattle.yq_rows.proofs.NodeExchange.{mark_apart, space_apart}
+use Rattle.yq_rows.proofs.seams.RowSeams.{block_no_space}
 use Rattle.yq_tree.specs.FirstBreak.{first_break}
 use Rattle.yq_documents.specs.Lines.{head_of}
 use Rattle.yq_documents.specs.Reading.{documents, read_at, root_of}
@@ -55,6 +56,7 @@ use Rattle.yq_change.specs.SoundRoots.{MayReplace}
 use Rattle.yq_change.specs.TextPieces.{IsPiece}
 use Rattle.yq_change.proofs.PathTailLaws.{anchor_other}
 use Rattle.yq_change.proofs.TextPieceLaws.{line_cut, pieces_joined}
+use Rattle.yq_change.proofs.RemovalPieceLaws.{spaces_piece}
 use Rattle.yq_meaning.specs.Fits.{Fits}
 use Rattle.yq_meaning.specs.Operations.{Operation, replace, append, remove, line_comment, head_comment}
 use Rattle.yq_meaning.specs.Rooms.{room_of}
@@ -64,9 +66,9 @@ use Rattle.yq_ways.specs.Replacing.{node_in, scalar_in}
 use Rattle.yq_block_ways.specs.ScalarLiteral.{literal_text, literal_segments, literal_at, scalar_literal_way}
 use Rattle.yq_block_ways.specs.ScalarReplacing.{has_text, holds_text}
 use Rattle.yq_ways.specs.Ways.{IsWay, ReadsAfter}
-use Rattle.yq_ways.proofs.CommentPieceLaws.{break_piece, byte_then, front_piece, no_return, nothing, spaces_piece, text_piece}
+use Rattle.yq_ways.proofs.CommentPieceLaws.{break_piece, byte_then, front_piece, no_return, nothing, text_piece}
 use Rattle.yq_ways.proofs.FitLaws.{fits_replace}
-use Rattle.yq_block_ways.proofs.ScalarLineLaws.{block_begins, mark_is, same_old}
+use Rattle.yq_block_ways.proofs.ScalarLineLaws.{mark_is, same_old}
 use Rattle.yq_block_ways.proofs.ScalarRowLaws.{HasScalar, scalar_has, p, front, r, back, rest, entry, node_there, valid, TakesScalar, part_with, text_with, scalar_reads}
 use Rattle.yq_block_ways.proofs.ScalarTextLaws.{there, there_is, row_is, front_text, head_is_piece, own_tail_piece, rest_piece}
 
@@ -274,7 +276,7 @@ module _ (doc : ℕ) (s : Step) (ss : List Step) (c : Cut) (w : ScalarPlace) (h 
         record {
           stands = (old.0, anchor_other h.anchor (block_text h.block z) (block_text new_block z) old.1, stands);
           apart = space_apart h.space (anchor_text h.anchor (block_text h.block z)) (anchor_text h.anchor (block_text new_block z)) old.0
-              (mark_apart row.mark (Block h.space h.anchor h.block) z (entry doc s ss c w h) (mark_is doc s ss c w h)) (block_begins h.anchor h.block z);
+              (mark_apart row.mark (Block h.space h.anchor h.block) z (entry doc s ss c w h) (mark_is doc s ss c w h)) (block_no_space h.anchor h.block z);
           next = next_there (back doc s ss c w h);
           head_is = ap (λ t. Some (tree.scalar None kinds.Text t)) (literal_content m br x h.block.tail u can) ∙ ap Some (sym is);
           anchor_is = refl;

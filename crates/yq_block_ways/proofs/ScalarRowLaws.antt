@@ -27,6 +27,7 @@ use Rattle.yq_rows.proofs.ExchangeLaws.{one_row}
 use Rattle.yq_rows.proofs.PlaceLaws.{row_front-append}
 use Rattle.yq_rows.proofs.seams.SeamLaws.{rows_text-append}
 use Rattle.yq_rows.proofs.splices.SpliceTexts.{own_gap, own_end}
+use Rattle.yq_rows.proofs.splices.ContentPlaces.{count_front}
 use Rattle.yq_documents.specs.Documents.{ContentHasFitKeys, document_parts, is_long_plain, lead_of}
 use Rattle.yq_documents.specs.Lines.{block_anchor, content_anchor, head_of, mark_line, tail_of, lines_of}
 use Rattle.yq_tree.specs.PlacedRows.{PlacedRow, placed_row, row_of_path}
@@ -58,7 +59,7 @@ use Rattle.yq_change.proofs.RemarkLaws.{last_lines}
 use Rattle.yq_change.proofs.UnderLaws.{under_kept}
 use Rattle.yq_meaning.specs.Operations.{replace}
 use Rattle.yq_ways.specs.Ways.{ReadsAfter}
-use Rattle.yq_ways.proofs.CommentRowLaws.{count_front, IsFound, row_found}
+use Rattle.yq_ways.proofs.CommentRowLaws.{IsFound, row_found}
 use Rattle.yq_ways.proofs.DoneLaws.{document_done}
 
 -- What is known of the row of a block scalar at a path.

@@ -20,6 +20,7 @@ use Rattle.yq_rows.specs.Rows.{Anchor, Block, anchor_text, Row, parent_indent, p
 use Rattle.yq_rows.specs.View.{slices}
 use Rattle.yq_rows.proofs.LineEnds.{comment_none, text_line, white_none}
 use Rattle.yq_rows.proofs.PlaceLaws.{row_front-append}
+use Rattle.yq_rows.proofs.EmptyTexts.{empty_is}
 use Rattle.yq_tree.specs.CommentPlaces.{LineEnd, end_before, line_text}
 use Rattle.yq_tree.specs.PlacedRows.{PlacedRow, placed_row}
 use Rattle.yq_tree.specs.PrintedLines.{is_last_break, less_break, last_break}
@@ -40,17 +41,13 @@ use Rattle.yq_block_ways.proofs.ScalarRowLaws.{HasScalar, r, rest, limit, rows_t
 abbrev pub Ended : List ℕ → Type 0
 Ended t = (a : List ℕ) × (t ≡ a ++ 10 ∷ [])
 
-none_of : (t : List ℕ) → is_empty t ≡ true → t ≡ []
-none_of [] h = refl
-none_of (b ∷ t) h = absurd (false≢true h)
-
 pub line_ended : (t : List ℕ) → is_line t ≡ true → Ended t
 unfolding is_line
 line_ended [] h = absurd (false≢true h)
 line_ended (b ∷ bs) h = go (eqb b 10) refl h (line_ended bs)
   where
     go : (x : Bool) → eqb b 10 ≡ x → cond x (is_empty bs) (is_line bs) ≡ true → (is_line bs ≡ true → Ended bs) → Ended (b ∷ bs)
-    go true e h more = ([], λ i. eqb-true b 10 e i ∷ none_of bs h i)
+    go true e h more = ([], λ i. eqb-true b 10 e i ∷ empty_is bs h i)
     go false e h more = let m = more h in (b ∷ m.0, ap (λ t. b ∷ t) m.1)
 
 behind_ended : (a b : List ℕ) → Ended b → Ended (a ++ b)

@@ -18,6 +18,7 @@ use Rattle.yq_lines.specs.Places.{Place, here, below, beside, lines_before, line
 use Rattle.yq_lines.proofs.Allowing.{Allows}
 use Rattle.yq_lines.proofs.PlaceLaws.{at}
 use Rattle.yq_lines.proofs.Values.{If, rank_small}
+use Rattle.yq_tree.proofs.NextLaws.{allowed_level}
 use Rattle.yq_change.specs.Siblings.{HasEntries, NodeLines, lines_at}
 use Rattle.yq_change.proofs.NodeLineLaws.{Under, lines_found, lines_even, under_even, after_under}
 use Rattle.yq_change.specs.LineRows.{Begins, StandApart, RowBegins, LinesApart, lines_behind, EntriesApart, AreDeep, AreClosed, EvenClosed}
@@ -59,16 +60,11 @@ apart_deep n (l ∷ []) z d h = begins_less n (level l) z d.0 h
 apart_deep n (l ∷ (k ∷ b)) z d h = apart_deep n (k ∷ b) z d.1 h
 
 -- lines behind a place
-allows_least : (n m : ℕ) (p : Place) → Allows n p m → n ≤ m
-allows_least n m here a = omega (arith, a)
-allows_least n m (below l p after) a = let lt = a.3.1 in let more = allows_least a.3.0 m p a.3.2 in omega (arith, lt, more)
-allows_least n m (beside l under p) a = allows_least n m p a.4
-
 pub after_begins : (n m : ℕ) (p : Place) → Allows n p m → Begins m (lines_after p)
 after_begins n m here a = tt
 after_begins n m (below l p after) a =
     let lt = a.3.1 in
-    let more = allows_least a.3.0 m p a.3.2 in
+    let more = allowed_level a.3.0 m p a.3.2 in
     begins_both m (lines_after p) (flatten after) (after_begins a.3.0 m p a.3.2) (begins_less n m (flatten after) (omega (arith, lt, more)) (even_begins n after a.4))
 after_begins n m (beside l under p) a = after_begins n m p a.4
 
@@ -84,7 +80,7 @@ lines_begin n o (s ∷ ss) h even e = found (lines_found s ss o h e)
         (subst (Begins (level f.line)) (sym (after_under f.place f.line f.after))
         (begins_both (level f.line) (flatten f.after) (lines_after f.place) (even_begins (level f.line) f.after there.1.4) (after_begins n (level f.line) f.place there.0)))
 
-block_some : (o : Outline) → HasEntries o → flatten o ≡ [] → ⊥
+pub block_some : (o : Outline) → HasEntries o → flatten o ≡ [] → ⊥
 block_some end b e = absurd b
 block_some (row l u a) b e = cc
 

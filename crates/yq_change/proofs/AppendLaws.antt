@@ -10,7 +10,7 @@ use Rattle.yq_rows.specs.Exchange.{asked_behind}
 use Rattle.yq_rows.specs.Grammar.{Limit, unlimited, AreRows, no_rows}
 use Rattle.yq_rows.specs.Rows as rows
 use Rattle.yq_rows.specs.Rows.{Content, Nothing, Inline, Block, Row, behind_gap, behind_indent, rows_text, Part, Cut}
-use Rattle.yq_rows.specs.Seams.{are_seamed, ends_in_block, ends_in_line, is_block, is_seam}
+use Rattle.yq_rows.specs.Seams.{are_seamed, ends_in_block, ends_in_line, is_seam}
 use Rattle.yq_rows.specs.Splices.{behind_first, first_gap}
 use Rattle.yq_rows.specs.Removal.{block_of, last_block}
 use Rattle.yq_rows.proofs.seams.LessLaws.{starts_less}
@@ -22,22 +22,22 @@ use Rattle.yq_lines.specs.Group.{level_or}
 use Rattle.yq_documents.specs.Lines.{lines_from, lines_of}
 use Rattle.yq_lines.specs.Outline.{Line, Outline, flatten}
 use Rattle.yq_lines.specs.Outline.{end}
-use Rattle.yq_lines.specs.Outline.{row}
 use Rattle.yq_lines.specs.Places.{lines_before, lines_after}
 use Rattle.yq_documents.specs.Reading.{outline_of}
 use Rattle.yq_lines.proofs.Decides.{flatten-group}
 use Rattle.yq_rows.proofs.splices.SpliceTexts.{own_gap}
-use Rattle.yq_change.specs.Siblings.{HasEntries, put_lines}
+use Rattle.yq_rows.proofs.seams.BlockFronts.{last_none}
+use Rattle.yq_tree.proofs.UnderExchange.{lines_append}
+use Rattle.yq_change.specs.Siblings.{put_lines}
 use Rattle.yq_change.proofs.AnchorLaws.{fit_parts, fit_from}
 use Rattle.yq_change.proofs.CollectionLaws.{appended}
 use Rattle.yq_change.proofs.NodeLineLaws.{lines_even}
 use Rattle.yq_change.proofs.BlockChangeLaws.{entry_appended}
-use Rattle.yq_change.proofs.MovedLaws.{lines_append}
 use Rattle.yq_change.proofs.PlacedLaws.{same_parts}
 use Rattle.yq_change.specs.Appends.{inserted, BlockAppended}
 use Rattle.yq_change.specs.LineRows.{Begins, StandApart, AreDeep}
 use Rattle.yq_change.specs.DocumentRows.{behind_document, part_number, RowsFit}
-use Rattle.yq_change.proofs.ApartLaws.{apart_skip, apart_deep, deep_less, even_deep, lines_apart}
+use Rattle.yq_change.proofs.ApartLaws.{apart_skip, apart_deep, deep_less, even_deep, lines_apart, block_some}
 use Rattle.yq_change.proofs.ColumnLaws.{block_is_deeper, next_allowed}
 use Rattle.yq_change.proofs.PartLaws.{part_numbered, document_known, document_spliced, is_put, short_stays}
 
@@ -51,16 +51,6 @@ pub block_seam : (front : List Row) (b : BlockText) (u : List ℕ) → last_bloc
 block_seam [] b u e h = refl
 block_seam (r ∷ []) b u e h = seam_of r.content b u e h
 block_seam (r ∷ (q ∷ front)) b u e h = block_seam (q ∷ front) b u e h
-
-content_none : (c : Content) → block_of c ≡ None → is_block c ≡ false
-content_none (Nothing tail) e = refl
-content_none (Inline space node tail) e = refl
-content_none (Block space anchor block) e = absurd (cc)
-
-pub no_block : (front : List Row) → last_block front ≡ None → ends_in_block front ≡ false
-no_block [] e = refl
-no_block (r ∷ []) e = content_none r.content e
-no_block (r ∷ (q ∷ front)) e = no_block (q ∷ front) e
 
 -- rows begin in the column of their first line
 first_column : (above : List (List ℕ)) (column : ℕ) (ns : List ℕ) (m : rows.Mark) (c : Content) (rest : List Line) (l : Line) (ls : List Line) → lines_from above column ns m c ++ rest ≡ l ∷ ls →
@@ -92,14 +82,10 @@ append_seam front back new tail rest gap behind l ls old is bare lines apart end
     plain (b ∷ bs) e n = seams_any front back unlimited tail rest u old (ap no_rows e) n
 
     go : (o : Option BlockText) → last_block front ≡ o → are_seamed front u ≡ true
-    go None e = plain back refl (no_block front e)
+    go None e = plain back refl (last_none front e)
     go (Some b) e = block_seam front b u e (less_rows new (asked_behind unlimited front) gap behind b l ls is bare lines (block_is_deeper unlimited front back tail rest b l old e apart))
 
 -- rows with lines
-pub block_lines : (o : Outline) → HasEntries o → flatten o ≡ [] → ⊥
-block_lines end b e = absurd b
-block_lines (row l u a) b e = cc
-
 pub rows_with : (front : List Row) (a b : List Line) → lines_of front ≡ a ++ b → (b ≡ [] → ⊥) → no_rows front ≡ false
 rows_with [] a b e some = absurd (some (none a b e))
   where
@@ -125,14 +111,14 @@ block_appended t c k p steps h front back new m l u old there_is size w takes te
     sym (lines_append front back) ∙ (ap lines_of (sym takes.rows_are) ∙ (sym (flatten-group (lines_of p.rows)) ∙ (olds ∙ sym (append_assoc (lines_before h.place) (flatten h.lines) (lines_after h.place))))) in
     let parts =
     same_parts (lines_of front) [] (lines_of back) (lines_before h.place ++ flatten h.lines) [] (lines_after h.place) whole (size ∙ sym (length-append (lines_before h.place) (flatten h.lines))) refl in
-    let some : no_rows front ≡ false = rows_with front (lines_before h.place) (flatten h.lines) parts.0 (block_lines h.lines there_is.block) in
+    let some : no_rows front ≡ false = rows_with front (lines_before h.place) (flatten h.lines) parts.0 (block_some h.lines there_is.block) in
     let there : q.rows ≡ front ++ (new ++ back) = ap (λ (rs : List Row). front ++ (new ++ rs)) (own_gap back p.end) in
     let level_is = w.fits.level_is in
     let less = w.fits.deep in
     let above : h.above < n = deep.0 in
     let new_deep : AreDeep n (lines_of new) = subst (AreDeep n) (sym w.lines) (omega (arith, level_is), deep_less n m (flatten u) (omega (arith, level_is, less)) (even_deep m u w.fits.even)) in
     let first : StandApart (lines_of front) (l ∷ []) =
-    subst (λ (ls : List Line). StandApart ls (l ∷ [])) (sym parts.0) (apart_skip (lines_before h.place) (flatten h.lines) (l ∷ []) (block_lines h.lines there_is.block)
+    subst (λ (ls : List Line). StandApart ls (l ∷ [])) (sym parts.0) (apart_skip (lines_before h.place) (flatten h.lines) (l ∷ []) (block_some h.lines there_is.block)
     (apart_deep n (flatten h.lines) (l ∷ []) (even_deep n h.lines deep.1) (omega (arith, level_is)))) in
     let part : AreRows unlimited (front ++ back) p.end rest =
     subst (λ (rs : List Row). AreRows unlimited rs p.end rest) takes.rows_are (subst (λ (x : Part). AreRows unlimited x.rows x.end rest) (part_numbered c k p old.there).0 (part_in c (part_number k c) true known.cut.parts).rows) in

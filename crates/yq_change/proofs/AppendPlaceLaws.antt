@@ -22,15 +22,15 @@ use Rattle.yq_rows.proofs.splices.SpliceTexts.{first_is}
 use Rattle.yq_tree.specs.CollectionEnds.{CollectionEnd}
 use Rattle.yq_documents.specs.Lines.{mark_line, lines_from, row_lines, lines_of}
 use Rattle.yq_documents.specs.Reading.{outline_of}
+use Rattle.yq_tree.proofs.UnderExchange.{lines_append}
 use Rattle.yq_change.specs.CollectionPlaces.{BeginsAt, IsCollectionEnd}
 use Rattle.yq_change.specs.DocumentRows.{IsDocumentPart, behind_document, part_number}
 use Rattle.yq_change.specs.LineRows.{Begins, AreDeep}
 use Rattle.yq_change.specs.Moved.{dash_lines}
 use Rattle.yq_change.specs.Siblings.{HasEntries, IsEntry}
-use Rattle.yq_change.proofs.ApartLaws.{even_deep, lines_apart}
+use Rattle.yq_change.proofs.ApartLaws.{even_deep, lines_apart, block_some}
 use Rattle.yq_change.proofs.ColumnLaws.{allowed_content, below_entry, below_node, high_level, next_low}
 use Rattle.yq_change.proofs.LineLaws.{above_mark, mark_behind}
-use Rattle.yq_change.proofs.MovedLaws.{lines_append}
 use Rattle.yq_change.proofs.NodeLineLaws.{lines_even}
 use Rattle.yq_change.proofs.PartLaws.{document_known, part_numbered}
 use Rattle.yq_change.proofs.PlacedLaws.{same_parts, whole_lines}
@@ -127,10 +127,6 @@ pub record EndAllows (c : Cut) (k : ℕ) (p : Part) (x : CollectionEnd) (front b
   pub line : AtLine (suc x.column) x.behind
   pub gap : IsGap (first_gap back p.end) (behind_first back p.end (behind_document k c))
 
-lines_some : (o : Outline) → HasEntries o → flatten o ≡ [] → ⊥
-lines_some end b e = absurd b
-lines_some (row l u a) b e = absurd (cc)
-
 pub end_allows : (t : List ℕ) (c : Cut) (k : ℕ) (p : Part) (steps : List Step) (x : CollectionEnd) → IsDocumentPart t c k p → (e : IsCollectionEnd c k p steps x) → EndAllows c k p x e.front e.back
 end_allows t c k p steps x h e =
     let known = document_known t c k p h in
@@ -147,7 +143,7 @@ end_allows t c k p steps x h e =
     same_parts (lines_of e.front) [] (lines_of e.back) (lines_before e.h.place ++ flatten e.h.lines) [] (lines_after e.h.place) whole
     (e.count ∙ sym (length-append (lines_before e.h.place) (flatten e.h.lines))) refl in
     let last : last_line (flatten e.h.lines) ≡ Some (mark_line (above_mark (head_comment e.last.gap) e.last.dashes) (mark_column e.last) e.last.mark e.last.content) =
-    sym (ends_some (lines_before e.h.place) (flatten e.h.lines) (lines_some e.h.lines e.collection.block))
+    sym (ends_some (lines_before e.h.place) (flatten e.h.lines) (block_some e.h.lines e.collection.block))
     ∙ (ap last_line (sym parts.0) ∙ (ap (λ rs. last_line (lines_of rs)) e.front_is ∙ (rows_last e.others e.last ∙ row_last e.last))) in
     let all : AreRows unlimited (e.front ++ e.back) p.end rest =
     subst (λ (rs : List Row). AreRows unlimited rs p.end rest) e.rows_are

@@ -1,5 +1,5 @@
 -- The operations on block nodes, by the lines that they exchange, add or drop.
-use Rattle.std.proofs.Common.{◌≡◌, ℕ, suc, ◌+◌, List, [], ◌∷◌, ◌++◌, length, Option, Some, option_map, refl, sym, ap, ◌∙◌, subst, arith, append-nil, length-append}
+use Rattle.std.proofs.Common.{◌≡◌, ℕ, ◌+◌, List, [], ◌∷◌, ◌++◌, length, Option, Some, option_map, refl, sym, ap, ◌∙◌, subst, arith, append-nil, length-append}
 use Rattle.yq_scalar.specs.Keys.{keys_of}
 use Rattle.yq_scalar.specs.Paths.{child_at, node_at, within}
 use Rattle.yq_scalar.specs.Tree.{Node, Children, children_of}
@@ -27,11 +27,12 @@ use Rattle.yq_change.proofs.AnchorLaws.{any_free}
 use Rattle.yq_change.proofs.MovedLaws.{first_moved, first_emptied}
 use Rattle.yq_change.proofs.PlacedLaws.{entry_placed, found_is_entry}
 use Rattle.yq_change.proofs.SiblingLaws.{entry_in, entry_out}
-use Rattle.yq_change.proofs.NodeLineLaws.{unanchored}
 use Rattle.yq_change.proofs.SoundRootLaws.{replace_keeps, append_keeps}
 use Rattle.yq_change.proofs.SoundRootLess.{remove_keeps, relabel_keeps}
 use Rattle.yq_documents.specs.TreeEdits.{headed, replaced}
 use Rattle.yq_lines.specs.Anchors.{HaveOneAnchorEach}
+use Rattle.yq_lines.proofs.NodeLaws.{anchored_none}
+use Rattle.yq_change.proofs.LineLaws.{dashes_count}
 
 pub node_replaced : NodeReplaced
 node_replaced t c k p q s ss f v m l u put found fits each lines may =
@@ -46,7 +47,7 @@ pub root_replaced : RootReplaced
 root_replaced t c k p q v m u put fits lines may =
     let sound = replace_keeps [] (root_of p) (root_of p) v (old_is_sound t c k p q put) refl may in
     lines_exchanged t c k p q [] _ (replaced v) m u put refl
-    (record { deep = fits.deep; even = fits.even; node_is = unanchored (value u) ∙ (fits.value_is ∙ ap (replaced v) (sym (unanchored (root_of p)))) })
+    (record { deep = fits.deep; even = fits.even; node_is = anchored_none (value u) ∙ (fits.value_is ∙ ap (replaced v) (sym (anchored_none (root_of p)))) })
     (record { each = fits.anchors; free = tt }) (lines ∙ sym (append-nil (flatten u))) sound
 
 -- anchors under another lead
@@ -62,7 +63,7 @@ root_rewritten t c k p q v m u put fits block lines is =
     let sound = (root_keeps above v is).1 in
     led_as c (put_document k q c) k (lead_of q) above (λ old. within (headed above) v) (lead_is_first q ∙ (ap (first_comment (head_comment q.end)) lines ∙ first u block))
     (lines_exchanged t c k p q [] _ (λ old. within (headed above) v) m (with_lead above u) put refl
-    (record { deep = fits.deep; even = w.0; node_is = unanchored (value (with_lead above u)) ∙ value_is })
+    (record { deep = fits.deep; even = w.0; node_is = anchored_none (value (with_lead above u)) ∙ value_is })
     (record { each = led_anchors above u fits.anchors; free = tt }) (lines ∙ sym (append-nil (flatten (with_lead above u)))) sound)
   where
     first : (o : Outline) → HasEntries o → first_comment (head_comment q.end) (flatten (with_lead (lead_of p) o)) ≡ lead_of p
@@ -102,14 +103,9 @@ entry_relabelled t c k p q steps h s f g l put entry new_line key lines =
     let sound = relabel_keeps steps (root_of p) (anchored h.anchor (value h.lines)) s g (old_is_sound t c k p q put) there key in
     line_relabelled t c k p q steps h s f g l put entry new_line lines sound
 
--- as many lines as dashes
-dash_length : (above : List (List ℕ)) (column : ℕ) (ds : List ℕ) → length (dash_lines above column ds) ≡ length ds
-dash_length above column [] = refl
-dash_length above column (n ∷ ns) = let same = dash_length [] (suc (column + n)) ns in omega (arith, same)
-
 front_length : (before : List Row) (above : List (List ℕ)) (column : ℕ) (ds : List ℕ) (size : ℕ) → length (lines_of before) + length ds ≡ size →
     length (lines_of before ++ dash_lines above column ds) ≡ size
-front_length before above column ds size e = let same = dash_length above column ds in omega (arith, same, e, length-append (lines_of before) (dash_lines above column ds))
+front_length before above column ds size e = let same = dashes_count above column ds in omega (arith, same, e, length-append (lines_of before) (dash_lines above column ds))
 
 pub first_removed : FirstRemoved
 first_removed t c k p q steps h s f before gone behind r b n ns es put entry left old new moves counts spared =

@@ -28,12 +28,12 @@ use Rattle.yq_documents.specs.Reading.{outline_of}
 use Rattle.yq_tree.proofs.FoundEntries.{IsFound, entry_found, lines_count}
 use Rattle.yq_tree.proofs.PrintedLaws.{ArePrinted, lines_are, rows_printed}
 use Rattle.yq_tree.proofs.PrintedTexts.{line_split, line_then, lines_then, lines_append, rows_are}
+use Rattle.yq_tree.proofs.FlowToldLaws.{before_under}
 use Rattle.yq_change.specs.Changed.{put_document}
 use Rattle.yq_change.specs.CollectionPlaces.{BeginsAt, IsCollectionEnd, CollectionPlaces}
 use Rattle.yq_change.specs.DocumentRows.{IsDocumentPart, behind_document, part_number}
 use Rattle.yq_change.specs.Siblings.{IsEntry, HasEntries, NodeLines, under_line, lines_below, lines_at, IsCollectionAt}
 use Rattle.yq_change.proofs.PartLaws.{document_known, part_numbered}
-use Rattle.yq_change.proofs.NodeLineLaws.{before_under}
 use Rattle.yq_change.proofs.PlaceTextLaws.{around}
 use Rattle.yq_change.proofs.RowsLaws.{collection_rows}
 
@@ -45,7 +45,7 @@ same_front [] (k ∷ b) z w e n = absurd (omega (arith, n))
 same_front (l ∷ a) [] z w e n = absurd (omega (arith, n))
 same_front (l ∷ a) (k ∷ b) z w e n = let r = same_front a b z w (tail-eq_of_cons-eq e) (omega (arith, n)) in ((λ i. head-eq_of_cons-eq e i ∷ r.0 i), r.1)
 
-printed_parts : (front back : List Row) → printed_lines (front ++ back) ≡ printed_lines front ++ printed_lines back
+pub printed_parts : (front back : List Row) → printed_lines (front ++ back) ≡ printed_lines front ++ printed_lines back
 printed_parts [] back = refl
 printed_parts (r ∷ front) back = ap (λ ls. printed_row r ++ ls) (printed_parts front back) ∙ sym (append_assoc (printed_row r) (printed_lines front) (printed_lines back))
 

@@ -11,6 +11,7 @@ use Rattle.yq_inline.proofs.WrittenLaws.{node_then}
 use Rattle.yq_rows.specs.Grammar.{IsContent, is_more}
 use Rattle.yq_rows.specs.Rows.{Content, Nothing, Inline, Block, content_text}
 use Rattle.yq_rows.proofs.Fronts.{node_starts}
+use Rattle.yq_rows.proofs.EmptyTexts.{none_is}
 use Rattle.yq_documents.specs.Documents.{HasFitKeys}
 use Rattle.yq_tree.specs.InlinePlaces.{InlinePlace, node_inline, mark_inline}
 use Rattle.yq_tree.specs.RowPaths.{apart}
@@ -101,17 +102,13 @@ front_again q (b ∷ g) t u some h = h
 name_again : (n g t u : List ℕ) → is_empty g ≡ false → IsName n (g ++ t) → IsName n (g ++ u)
 name_again n g t u some h = record { some = h.some; inside = none_again in_name n (g ++ t) (g ++ u) h.inside; ends = front_again in_name g t u some h.ends }
 
-gap_some : (g : List ℕ) → is_empty g ≡ false → g ≡ [] → ⊥
-gap_some [] some e = cc
-gap_some (b ∷ g) some e = cc
-
 module _ (spaces : Option ℕ) (d : ℕ) (core : Node) (rest : List ℕ) (unnamed : node_anchor core ≡ None) (some : is_bare core ≡ false) (takes : takes_anchor core ≡ true) (stands : IsNode false spaces d core rest) where
   starts : no_white (node_text core rest) ≡ true
   starts = (node_starts (node_text core rest) (or_right (first_is 38 (node_text core rest)) (begins_content false (node_text core rest)) (begins spaces d core rest unnamed some stands))).no_white
 
   lead_again : (g t : List ℕ) → is_empty g ≡ false → IsLead false (begins_content false) g t → IsLead false (begins_content false) g (node_text core rest)
   lead_again g t gap (inl h) = inl ((none_again _ g t (node_text core rest) h.0.0, starts), begins spaces d core rest unnamed some stands)
-  lead_again g t gap (inr h) = absurd (gap_some g gap h.0)
+  lead_again g t gap (inr h) = absurd (none_is g gap h.0)
 
   -- behind an anchor
   pub anchored_node : (n g : List ℕ) (old : Node) (t : List ℕ) → is_bare old ≡ false → IsName n (g ++ t) → IsLead false (begins_content false) g t → (is_bare old || not (is_empty g)) ≡ true → IsNode false spaces d (anchored n g core) rest
@@ -136,7 +133,7 @@ core_node spaces d core rest u b a s (anchored n g (anchored m x node)) h = absu
 
 -- ---- its text
 
-empty_gap : (g rest : List ℕ) → IsLead false (begins_content false) g rest → begins_content false rest ≡ false → g ≡ []
+pub empty_gap : (g rest : List ℕ) → IsLead false (begins_content false) g rest → begins_content false rest ≡ false → g ≡ []
 empty_gap g rest (inl h) none = absurd (false≢true (sym none ∙ h.1))
 empty_gap g rest (inr h) none = h.0
 

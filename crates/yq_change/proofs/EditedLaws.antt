@@ -30,6 +30,7 @@ use Rattle.yq_tree.proofs.ReadLaws.{text_takes}
 use Rattle.yq_tree.proofs.RowPathLaws.{document_fine}
 use Rattle.yq_lines.proofs.Values.{same_rank, same_entry}
 use Rattle.yq_lines.proofs.NameLaws.{each_front, each_back}
+use Rattle.yq_lines.proofs.NodeLaws.{anchored_none}
 use Rattle.yq_change.specs.Changed.{changed, IsChanged, put_document, first_comment}
 use Rattle.yq_change.specs.Conditions.{last_anchor, BeginsEntry}
 use Rattle.yq_change.specs.Edited.{IsPut, OldIsEven, OldIsSound, LinesAreThere, LineExchanged, LinesExchanged, LinesAppended, LinesRemoved, LineRelabelled, LeadStays, LeadIsAbove}
@@ -39,7 +40,7 @@ use Rattle.yq_change.specs.Siblings.{append_outline, IsEntry, HasEntries, NodeLi
 use Rattle.yq_change.proofs.AnchorLaws.{any_free, anchors_stay, after_anew, both_anew, collection_anew, lines_among}
 use Rattle.yq_change.proofs.ChangedLaws.{document_changed, lead_is_first}
 use Rattle.yq_change.proofs.CollectionLaws.{Splits, some_at, level_mark, appended, removed, relabelled}
-use Rattle.yq_change.proofs.NodeLineLaws.{Under, lines_found, lines_even, lines_replaced, unanchored}
+use Rattle.yq_change.proofs.NodeLineLaws.{Under, lines_found, lines_even, lines_replaced}
 use Rattle.yq_change.proofs.SiblingLaws.{entry_out, entries, even_right, next, rest_entries}
 use Rattle.yq_documents.specs.TreeEdits.{change_nth, headed}
 use Rattle.yq_change.proofs.PartLaws.{all_at}
@@ -79,7 +80,7 @@ finish t c k p q f h stands each sound =
     (record { stands = stands; keys = h.keys; unique = sound.unique; nested = sound.nested; anchors = each; bound = sound.bound; short = h.short })
 
 pub lines_are_there : LinesAreThere
-lines_are_there [] o h e = subst (λ (x : NodeLines). Some (value o) ≡ Some (anchored x.anchor (value x.lines))) (same_Some _ _ e) (ap Some (sym (unanchored (value o))))
+lines_are_there [] o h e = subst (λ (x : NodeLines). Some (value o) ≡ Some (anchored x.anchor (value x.lines))) (same_Some _ _ e) (ap Some (sym (anchored_none (value o))))
 lines_are_there (s ∷ ss) o h e = found (lines_found s ss o h e)
   where
     found : Under s ss o h → node_at (s ∷ ss) (value o) ≡ Some (anchored h.anchor (value h.lines))

@@ -5,7 +5,7 @@ use Rattle.std.specs.List.{list_all}
 use Rattle.std.specs.Str.{chars}
 use Rattle.yq_scalar.specs.Characters.{is_text, is_text_char, pairs_returns, text_limit}
 use Rattle.yq_scalar.specs.Lines.{is_hash}
-use Rattle.yq_scalar.specs.Text.{NoneIn, cut, ends_line, is_break, is_feed, is_line, is_return, no_white, past_white}
+use Rattle.yq_scalar.specs.Text.{cut, ends_line, is_break, is_line, no_white, past_white}
 use Rattle.yq_scalar.proofs.Upto.{cut-append}
 use Rattle.yq_lines.specs.Comments.{comment_text, head_comment, less_space, line_comment}
 use Rattle.yq_rows.specs.Exchange.{row_front}
@@ -36,13 +36,13 @@ use Rattle.yq_tree.specs.RowPaths.{IsReadable}
 use Rattle.yq_lines.proofs.Decides.{flatten-group}
 use Rattle.yq_lines.proofs.HeadLaws.{end_no_hash}
 use Rattle.yq_tree.proofs.RemovalLines.{front_some}
+use Rattle.yq_tree.proofs.UnderExchange.{lines_append}
 use Rattle.yq_change.specs.Changed.{put_document}
 use Rattle.yq_change.specs.Moved.{dash_lines}
 use Rattle.yq_change.specs.Siblings.{put_lines}
 use Rattle.yq_change.proofs.AnchorLaws.{fit_parts, fit_from}
 use Rattle.yq_change.proofs.CollectionLaws.{appended}
 use Rattle.yq_change.proofs.BlockChangeLaws.{entry_appended}
-use Rattle.yq_change.proofs.MovedLaws.{lines_append}
 use Rattle.yq_change.proofs.PlacedLaws.{same_parts}
 use Rattle.yq_change.specs.Ends.{TakesRowsLast, closed_with, EndAppended}
 use Rattle.yq_change.specs.DocumentRows.{IsDocumentPart, behind_document, part_number}
@@ -71,12 +71,6 @@ comment_is white comment break w c e =
     go (b ∷ cs) c =
         let whole = cut-append ends_line cs break c.1 (break_ends break e) in
         cond-true _ _ _ (ap (λ (x : ℕ). eqb x 35) c.0) ∙ ap (λ (y : List ℕ × List ℕ). Some (less_space y.0)) whole
-
-none_closed : (b : ℕ) (p break : List ℕ) → NoneIn ends_line (b ∷ p) [] → ends_return (b ∷ p) ≡ false → NoneIn ends_line (b ∷ p) break
-none_closed b [] break h e =
-    let f = or_parts (is_feed b) (is_return b && false) h.0 in
-    (rw (f.0, e) refl, tt)
-none_closed b (c ∷ p) break h e = (h.0, none_closed c p break h.1 e)
 
 -- A tail that gets a break has the same comment.
 pub comment_stays : (tail break : List ℕ) → (is_break break && is_line break) ≡ true → is_line tail ≡ false → pairs_returns tail ≡ true → IsTail tail [] →

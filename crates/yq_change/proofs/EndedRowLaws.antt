@@ -1,31 +1,22 @@
 -- Rows end in an LF, or nothing is behind them.
-use Rattle.std.proofs.Common.{inl, inr, ◌⊎◌, ◌≡◌, ℕ, ℤ, List, [], ◌∷◌, ◌++◌, refl, sym, ap, ◌∙◌, subst, append-nil}
-use Rattle.yq_scalar.proofs.BlockPieceLaws.{IsLf, append_lf, raw_lf}
+use Rattle.std.proofs.Common.{inl, inr, ◌≡◌, ℕ, ℤ, List, [], ◌∷◌, ◌++◌, sym, ◌∙◌, subst}
+use Rattle.yq_scalar.proofs.BlockPieceLaws.{IsLf, append_lf}
 use Rattle.yq_rows.specs.Exchange.{row_front}
 use Rattle.yq_rows.specs.Grammar.{Limit, limit_after, IsContent, IsRow, AreRows}
-use Rattle.yq_rows.specs.Rows.{Content, Nothing, Inline, Block, content_text, Row, print_row, rows_text}
+use Rattle.yq_rows.specs.Rows.{Content, content_text, Row, print_row, rows_text}
 use Rattle.yq_rows.specs.View.{content_cut}
 use Rattle.yq_rows.proofs.PlaceLaws.{part_then, row_front-append}
 use Rattle.yq_rows.proofs.seams.SeamLaws.{rows_text-append}
 use Rattle.yq_rows.proofs.SliceLaws.{content_slices}
 use Rattle.yq_tree.proofs.CommentPieceLaws.{Ended, content_end}
+use Rattle.yq_tree.proofs.SeamLaws.{raw_end, last_ended}
 
 -- the text of a content
 many_lf : (a b c d t : List ℕ) → IsLf t → IsLf (a ++ (b ++ (c ++ (d ++ t))))
 many_lf a b c d t h = append_lf a (b ++ (c ++ (d ++ t))) (append_lf b (c ++ (d ++ t)) (append_lf c (d ++ t) (append_lf d t h)))
 
-last_pieces : (tail raw rest : List ℕ) → Ended tail (raw ++ rest) → (raw ≡ []) ⊎ IsLf raw → Ended (tail ++ (raw ++ [])) rest
-last_pieces tail raw rest e (inr lf) = inl (append_lf tail (raw ++ []) (subst IsLf (sym (append-nil raw)) lf))
-last_pieces tail raw rest (inl lf) (inl none) = inl (subst IsLf (sym (ap (λ x. tail ++ (x ++ [])) none ∙ append-nil tail)) lf)
-last_pieces tail raw rest (inr none_behind) (inl none) = inr (ap (λ x. x ++ rest) (sym none) ∙ none_behind)
-
-raw_ends : (n : ℤ) (c : Content) (rest : List ℕ) → IsContent n c rest → ((content_cut c).5 ≡ []) ⊎ IsLf (content_cut c).5
-raw_ends n (Nothing tail) rest h = inl refl
-raw_ends n (Inline space node tail) rest h = inl refl
-raw_ends n (Block space anchor block) rest h = raw_lf block.indent block.raw h.2.lines
-
 content_ended : (n : ℤ) (c : Content) (rest : List ℕ) → IsContent n c rest → Ended (content_text c []) rest
-content_ended n c rest h = go (last_pieces (content_cut c).4 (content_cut c).5 rest (content_end n c rest h) (raw_ends n c rest h))
+content_ended n c rest h = go (last_ended (content_cut c).4 (content_cut c).5 rest (content_end n c rest h) (raw_end n c rest h))
   where
     go : Ended ((content_cut c).4 ++ ((content_cut c).5 ++ [])) rest → Ended (content_text c []) rest
     go (inl lf) = inl (subst IsLf (content_slices c []) (many_lf (content_cut c).0 (content_cut c).1 (content_cut c).2 (content_cut c).3 ((content_cut c).4 ++ ((content_cut c).5 ++ [])) lf))

@@ -13,12 +13,13 @@ use Rattle.yq_rows.proofs.MarkLaws.{spaces_again}
 use Rattle.yq_rows.proofs.RowAgain.{row_no_gap, row_starts}
 use Rattle.yq_rows.proofs.seams.SeamLaws.{rows_text-append}
 use Rattle.yq_rows.proofs.splices.SpliceTexts.{own_gap, own_end}
+use Rattle.yq_rows.proofs.seams.JoinLaws.{dashes_text-append}
 use Rattle.yq_documents.specs.Documents.{lead_of}
 use Rattle.yq_tree.specs.FirstPlaces.{are_spaces, less_spaces}
 use Rattle.yq_documents.specs.Lines.{lines_from, lines_of}
 use Rattle.yq_documents.specs.Reading.{outline_of, root_of}
+use Rattle.yq_documents.proofs.RowLineLaws.{no_comments}
 use Rattle.yq_tree.specs.RowPaths.{IsReadable}
-use Rattle.yq_tree.proofs.PrintedLaws.{none_above}
 use Rattle.yq_tree.proofs.RemovalTexts.{texts_then}
 use Rattle.yq_change.specs.Appends.{inserted}
 use Rattle.yq_change.specs.BlockChanges.{AreCounted}
@@ -28,7 +29,7 @@ use Rattle.yq_change.specs.DocumentRows.{IsDocumentPart, behind_document}
 use Rattle.yq_change.specs.Moved.{emptied, moved_up}
 use Rattle.yq_change.specs.Siblings.{HasEntries, IsEntryAt, NodeLines}
 use Rattle.yq_change.proofs.FirstBreakLaws.{IsOneBreak, break_apart, break_bare, break_tail}
-use Rattle.yq_change.proofs.FirstReplaceLaws.{MovedFits, dashes_both, dropped_replaces, moved_replaces}
+use Rattle.yq_change.proofs.FirstReplaceLaws.{MovedFits, dropped_replaces, moved_replaces}
 use Rattle.yq_change.proofs.FirstRowLaws.{first_row_dropped, first_row_moved}
 use Rattle.yq_change.proofs.PartLaws.{document_known, part_rows}
 
@@ -53,7 +54,7 @@ front_then r ns t =
     ∙ (ap (λ (x : List ℕ). r.gap ++ x) (sym (append_assoc (replicate r.column 32) (dashes_text ns []) t)) ∙ sym (append_assoc r.gap (replicate r.column 32 ++ dashes_text ns []) t))
 
 pub moved_text : (r b : Row) (ns u : List ℕ) → print_row (moved_up r ns b) u ≡ dashes_front r ns ++ behind_indent b u
-moved_text r b ns u = ap (λ (x : List ℕ). r.gap ++ (replicate r.column 32 ++ x)) (dashes_both ns b.dashes (behind_dashes b u)) ∙ front_then r ns (behind_indent b u)
+moved_text r b ns u = ap (λ (x : List ℕ). r.gap ++ (replicate r.column 32 ++ x)) (dashes_text-append ns b.dashes (behind_dashes b u)) ∙ front_then r ns (behind_indent b u)
 
 pub dropped_text : (r : Row) (ns tail u : List ℕ) → print_row (emptied r ns tail) u ≡ dashes_front r ns ++ (45 ∷ (tail ++ u))
 dropped_text r ns tail u = front_then r ns (45 ∷ (tail ++ u))
@@ -61,7 +62,7 @@ dropped_text r ns tail u = front_then r ns (45 ∷ (tail ++ u))
 -- what ends in a dash and spaces
 pub dash_front : (r : Row) (ns : List ℕ) (n : ℕ) → dashes_front r (ns ++ (n ∷ [])) ≡ dashes_front r ns ++ (45 ∷ replicate n 32)
 dash_front r ns n =
-    ap (λ (x : List ℕ). r.gap ++ (replicate r.column 32 ++ x)) (dashes_both ns (n ∷ []) [] ∙ ap (λ (x : List ℕ). dashes_text ns (45 ∷ x)) (append-nil (replicate n 32)))
+    ap (λ (x : List ℕ). r.gap ++ (replicate r.column 32 ++ x)) (dashes_text-append ns (n ∷ []) [] ∙ ap (λ (x : List ℕ). dashes_text ns (45 ∷ x)) (append-nil (replicate n 32)))
     ∙ front_then r ns (45 ∷ replicate n 32)
 
 pub front_text : (start : List ℕ) (front : List Row) (t u : List ℕ) → start ++ rows_text front (t ++ u) ≡ (start ++ rows_text front t) ++ u
@@ -120,7 +121,7 @@ module _ (t : List ℕ) (c : Cut) (k : ℕ) (p : Part) (ss : List Step) (s : Ste
   moved_changed b [] es rows fits bare counts text = absurd (let some = fits.some in omega (arith, some))
   moved_changed b (n ∷ ns) es rows fits bare counts text =
       first_row_moved t c k p ss s h f front gone back r b n ns es old entry left (moved_replaces p front gone back r b (n ∷ ns) es (behind_document k c) are rows fits)
-      (record { dashes = fits.dashes; column = fits.column; bare = ap head_comment bare ∙ none_above })
+      (record { dashes = fits.dashes; column = fits.column; bare = ap head_comment bare ∙ no_comments })
       (record { before_are = counts.before_are; size_is = ap (λ (j : ℕ). length (lines_from [] j es r.mark r.content ++ lines_of gone)) fits.column ∙ counts.size_is }) spared text
 
   pub dropped_changed : (ns es tail : List ℕ) (n : ℕ) → p.rows ≡ front ++ (r ∷ (gone ++ back)) → r.dashes ≡ (ns ++ (n ∷ [])) ++ es → IsOneBreak tail →

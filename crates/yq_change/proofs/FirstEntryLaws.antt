@@ -15,14 +15,14 @@ use Rattle.yq_rows.specs.Rows.{Content, Row, behind_columns, Part}
 use Rattle.yq_documents.specs.Lines.{dash_line, mark_line, lines_from, row_lines, lines_of}
 use Rattle.yq_documents.specs.Reading.{outline_of}
 use Rattle.yq_documents.specs.Seats.{Seat, seat}
-use Rattle.yq_tree.proofs.PrintedLaws.{none_above}
+use Rattle.yq_documents.proofs.RowLineLaws.{no_comments}
+use Rattle.yq_tree.proofs.UnderExchange.{lines_append}
 use Rattle.yq_change.specs.LineRows.{Begins, StandApart, InRows, IsSeat, line_number, lines_behind}
 use Rattle.yq_change.specs.Moved.{dash_lines}
 use Rattle.yq_change.specs.Siblings.{IsEntry, HasEntries, IsEntryAt, NodeLines}
 use Rattle.yq_change.proofs.ApartLaws.{Stood, row_stood, entries_apart, first_level, row_begins}
 use Rattle.yq_change.proofs.ColumnLaws.{apart_later}
 use Rattle.yq_change.proofs.LineLaws.{dashes_count, seat_splits}
-use Rattle.yq_change.proofs.MovedLaws.{lines_append}
 use Rattle.yq_change.proofs.NodeLineLaws.{lines_even}
 use Rattle.yq_change.proofs.OwnRowLaws.{lines_are}
 use Rattle.yq_change.proofs.PlacedLaws.{same_parts}
@@ -186,7 +186,7 @@ module _ (p : Part) (m : ℕ) (ss : List Step) (s : Step) (h : NodeLines) (f : F
   rest = record r { gap = []; column = column; dashes = es }
 
   rest_lines : row_lines rest ≡ lines_from [] column es r.mark r.content
-  rest_lines = ap (λ above. lines_from above column es r.mark r.content) none_above
+  rest_lines = ap (λ above. lines_from above column es r.mark r.content) no_comments
 
   cut : InRows (rest ∷ w.back) e (lines_behind h f)
   cut =

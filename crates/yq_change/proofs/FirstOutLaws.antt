@@ -1,5 +1,5 @@
 -- What is taken out with the first item or entry of a compact collection stands in the text.
-use Rattle.std.proofs.Common.{◌≡◌, ℕ, zero, suc, ◌<◌, eqb, Bool, true, false, cond, List, [], ◌++◌, Option, Some, None, option_map, refl, sym, ap, ◌∙◌, arith, append_assoc}
+use Rattle.std.proofs.Common.{◌≡◌, ℕ, zero, suc, ◌<◌, eqb, Bool, true, false, cond, List, [], ◌++◌, Some, refl, sym, ap, ◌∙◌, arith, append_assoc}
 use Rattle.std.proofs.lemmas.Bool.{eqb-false}
 use Rattle.std.proofs.lemmas.List.{take-append-drop}
 use Rattle.std.proofs.lemmas.Option.{none-some, same_Some}
@@ -8,6 +8,7 @@ use Rattle.yq_scalar.specs.Answers.{◌>>=◌}
 use Rattle.yq_scalar.specs.Paths.{Step}
 use Rattle.yq_scalar.specs.Text.{cut, cut_line, no_space, upto, line_len}
 use Rattle.yq_scalar.proofs.Bools.{bind_some}
+use Rattle.yq_inline.proofs.Binds.{not_then}
 use Rattle.yq_lines.specs.Ends.{line_of}
 use Rattle.yq_rows.specs.Rows.{Part, Cut, cut_text}
 use Rattle.yq_rows.specs.Reading.{begins_gap}
@@ -20,6 +21,7 @@ use Rattle.yq_documents.specs.Pieces.{Piece}
 use Rattle.yq_documents.specs.Seats.{Seat, seat, seat_of}
 use Rattle.yq_tree.proofs.FirstLaws.{spaces_parts}
 use Rattle.yq_tree.proofs.PieceTexts.{piece_text, document_whole, piece_whole}
+use Rattle.yq_tree.proofs.PrintedTexts.{map_some}
 use Rattle.yq_change.specs.RemovalChanges.{FirstStands}
 
 -- ---- what is taken out
@@ -37,14 +39,6 @@ pub record IsFirstOut (c : Cut) (k : ℕ) (steps : List Step) (x : FirstOut) : T
   pub later : 0 < seat.line
   pub is : (printed_document k c >>= piece_in Entry steps) ≡ Some piece
 
-guard_none : {A : Type 0} {x : Option A} {y : A} (b : Bool) → cond b None x ≡ Some y → (b ≡ false) × (x ≡ Some y)
-guard_none true e = absurd (none-some _ e)
-guard_none false e = (refl, e)
-
-map_some : {A B : Type 0} {f : A → B} {y : B} (o : Option A) → option_map f o ≡ Some y → (x : A) × (o ≡ Some x) × (f x ≡ y)
-map_some None e = absurd (none-some _ e)
-map_some (Some x) e = (x, refl, same_Some _ _ e)
-
 some_line : (n : ℕ) → (n ≡ 0 → ⊥) → 0 < n
 some_line zero h = absurd (h refl)
 some_line (suc n) h = omega arith
@@ -53,7 +47,7 @@ pub out_is : (c : Cut) (k : ℕ) (steps : List Step) (x : FirstOut) → first_re
 out_is c k steps x e =
     let p = map_some (first_entry k steps c) e in
     let q = bind_some (slice_get (document_parts c) k >>= λ d. seat_of steps d.rows) p.1 in
-    let g = guard_none (eqb q.0.line 0) q.2 in
+    let g = not_then (eqb q.0.line 0) q.2 in
     let d = bind_some (slice_get (document_parts c) k) q.1 in
     let n = bind_some (line_of steps (lines_of d.0.rows)) d.2 in
     record {

@@ -1,5 +1,5 @@
 -- Rows that take the place of a compact collection's first item or entry.
-use Rattle.std.proofs.Common.{◌≡◌, ℕ, zero, suc, ◌+◌, ◌<◌, ◌≤◌, true, false, List, [], ◌∷◌, ◌++◌, length, replicate, Some, refl, sym, ap, ◌∙◌, subst, arith, append_assoc}
+use Rattle.std.proofs.Common.{◌≡◌, ℕ, ◌+◌, ◌<◌, true, false, List, [], ◌∷◌, ◌++◌, length, Some, refl, sym, ap, ◌∙◌, subst, arith, append_assoc}
 use Rattle.yq_scalar.specs.Text.{separates}
 use Rattle.yq_inline.specs.Alike.{Alike, byte}
 use Rattle.yq_rows.specs.Exchange.{allows_first, asked_behind}
@@ -10,8 +10,9 @@ use Rattle.yq_rows.specs.Rows.{Nothing, Row, behind_columns, behind_dashes, behi
 use Rattle.yq_rows.specs.Seams.{TakesPlace}
 use Rattle.yq_rows.specs.Splices.{behind_first, first_gap}
 use Rattle.yq_rows.proofs.RowPlaces.{takes_place}
-use Rattle.yq_rows.proofs.seams.JoinLaws.{row_dashed}
+use Rattle.yq_rows.proofs.seams.JoinLaws.{row_dashed, space_apart, dashes_text-append, behind_columns-append}
 use Rattle.yq_rows.proofs.splices.SpliceTexts.{first_is, first_text}
+use Rattle.yq_rows.proofs.PlaceLaws.{first_allowed}
 use Rattle.yq_change.specs.Moved.{emptied, moved_up}
 use Rattle.yq_change.specs.Replaces.{RowsReplace}
 
@@ -22,28 +23,12 @@ pub rows_after : (limit : Limit) (a b : List Row) (end rest : List ℕ) → AreR
 rows_after limit [] b end rest h = h
 rows_after limit (r ∷ a) b end rest h = rows_after (limit_after r) a b end rest h.1
 
-rows_allowed : (limit : Limit) (rs : List Row) (end rest : List ℕ) → AreRows limit rs end rest → allows_first limit rs ≡ true
-rows_allowed limit [] end rest h = refl
-rows_allowed limit (r ∷ rs) end rest h = h.0.allowed
-
 -- ---- a row behind the first dashes of another
-
-pub dashes_both : (ns ms t : List ℕ) → dashes_text (ns ++ ms) t ≡ dashes_text ns (dashes_text ms t)
-dashes_both [] ms t = refl
-dashes_both (n ∷ ns) ms t = ap (λ l. 45 ∷ (replicate n 32 ++ l)) (dashes_both ns ms t)
-
-columns_both : (column : ℕ) (ns ms : List ℕ) → behind_columns column (ns ++ ms) ≡ behind_columns (behind_columns column ns) ms
-columns_both column [] ms = refl
-columns_both column (n ∷ ns) ms = columns_both (suc (column + n)) ns ms
 
 -- dashes before another mark
 dashes_moved : (ns es ms : List ℕ) (old new : rows.Mark) → is_entry new ≡ true → AreDashes (ns ++ es) old → AreDashes ms new → AreDashes (ns ++ ms) new
 dashes_moved [] es ms old new e h k = k
 dashes_moved (n ∷ ns) es ms old new e h k = (h.0, e, dashes_moved ns es ms old new e h.2 k)
-
-space_apart : (n : ℕ) (t : List ℕ) → 1 ≤ n → separates (replicate n 32 ++ t) ≡ true
-space_apart zero t h = absurd (omega (arith, h))
-space_apart (suc n) t h = refl
 
 dashes_alike : (ns es t u : List ℕ) (mark : rows.Mark) → 0 < length ns → AreDashes (ns ++ es) mark → Alike (Some false) (dashes_text ns t) (dashes_text ns u)
 dashes_alike [] es t u mark some h = absurd (omega (arith, some))
@@ -57,13 +42,13 @@ pub record MovedFits (r b : Row) (ns es : List ℕ) : Type 0 where
   pub entry : AreDashes b.dashes b.mark → is_entry b.mark ≡ true
 
 same_parent : (r b : Row) (ns : List ℕ) → b.column ≡ behind_columns r.column ns → parent_indent (moved_up r ns b) ≡ parent_indent b
-same_parent r b ns e = ap (parent_of b.mark) (columns_both r.column ns b.dashes ∙ ap (λ n. behind_columns n b.dashes) (sym e))
+same_parent r b ns e = ap (parent_of b.mark) (behind_columns-append r.column ns b.dashes ∙ ap (λ n. behind_columns n b.dashes) (sym e))
 
 moved_takes : (limit other : Limit) (r b : Row) (ns es t u : List ℕ) → IsRow limit r t → IsRow other b u → MovedFits r b ns es → TakesPlace limit r t (moved_up r ns b) u
 moved_takes limit other r b ns es t u h k f =
     let own : AreDashes (ns ++ es) r.mark = subst (λ (x : List ℕ). AreDashes x r.mark) f.dashes h.dashes in
-    let old : behind_indent r t ≡ dashes_text ns (dashes_text es (behind_dashes r t)) = ap (λ (x : List ℕ). dashes_text x (behind_dashes r t)) f.dashes ∙ dashes_both ns es (behind_dashes r t) in
-    let new : dashes_text (ns ++ b.dashes) (behind_dashes b u) ≡ dashes_text ns (behind_indent b u) = dashes_both ns b.dashes (behind_dashes b u) in
+    let old : behind_indent r t ≡ dashes_text ns (dashes_text es (behind_dashes r t)) = ap (λ (x : List ℕ). dashes_text x (behind_dashes r t)) f.dashes ∙ dashes_text-append ns es (behind_dashes r t) in
+    let new : dashes_text (ns ++ b.dashes) (behind_dashes b u) ≡ dashes_text ns (behind_indent b u) = dashes_text-append ns b.dashes (behind_dashes b u) in
     let indent : Alike (Some false) (behind_indent r t) (dashes_text (ns ++ b.dashes) (behind_dashes b u)) =
     rw (old, new) (dashes_alike ns es (dashes_text es (behind_dashes r t)) (behind_indent b u) r.mark f.some own) in
     let content : IsContent (parent_of b.mark (behind_columns r.column (ns ++ b.dashes))) b.content u = subst (λ (n : _). IsContent n b.content u) (sym (same_parent r b ns f.column)) k.content in
@@ -88,7 +73,7 @@ moved_replaces p front gone back r b ns es rest h rows f =
       rows_are = rows ∙ ap (λ (rs : List Row). front ++ rs) (sym split);
       some = refl;
       new_are = (subst (IsRow limit new) text takes.row, first_is (limit_after b) back p.end rest next.1);
-      next = ap (λ (n : _). allows_first (limit_behind n b.content) back) (same_parent r b ns f.column) ∙ rows_allowed (limit_after b) back p.end rest next.1;
+      next = ap (λ (n : _). allows_first (limit_behind n b.content) back) (same_parent r b ns f.column) ∙ first_allowed (limit_after b) back p.end rest next.1;
       alike = subst (λ (rs : List Row). Alike (Some false) (rows_text rs (p.end ++ rest)) (rows_text (new ∷ []) (first_gap back p.end ++ behind_first back p.end rest))) (sym split)
           (subst (λ (x : List ℕ). Alike (Some false) (print_row r t) (print_row new x)) text takes.alike);
     }

@@ -21,12 +21,12 @@ use Rattle.yq_documents.specs.declared.path.Part.TheVariants.{Entry}
 use Rattle.yq_documents.specs.Lines.{dash_line, lines_from, lines_of}
 use Rattle.yq_tree.specs.PathPieces.{BlockEntry, found_entry, piece_in, piece_in_entry}
 use Rattle.yq_documents.specs.Pieces.{Piece}
-use Rattle.yq_tree.specs.PrintedLines.{PrintedLine, line_front, print_lines, printed_from, printed_row, printed_lines, line_in, run_piece}
+use Rattle.yq_tree.specs.PrintedLines.{PrintedLine, line_front, print_lines, printed_from, printed_lines, line_in, run_piece}
 use Rattle.yq_documents.specs.Seats.{Seat, seat}
 use Rattle.yq_tree.proofs.FoundEntries.{lines_count}
 use Rattle.yq_tree.proofs.PrintedLaws.{lines_are}
 use Rattle.yq_tree.proofs.PrintedTexts.{lines_then, rows_are}
-use Rattle.yq_tree.proofs.SeatedLines.{row_begin, seated}
+use Rattle.yq_tree.proofs.SeatedLines.{row_begin, seated, row_count}
 use Rattle.yq_tree.proofs.UnderCounts.{end_is}
 use Rattle.yq_change.specs.LineRows.{line_number}
 use Rattle.yq_change.specs.Siblings.{NodeLines}
@@ -34,19 +34,12 @@ use Rattle.yq_change.proofs.FirstBreakLaws.{IsOneBreak, lines_break, rows_break}
 use Rattle.yq_change.proofs.FirstEntryLaws.{FirstRows}
 use Rattle.yq_change.proofs.FirstReplaceLaws.{rows_after}
 use Rattle.yq_change.proofs.PartLaws.{take_front}
+use Rattle.yq_change.proofs.CollectionPlaceLaws.{printed_parts}
 
 -- ---- lines of rows
 
-printed_both : (a b : List Row) → printed_lines (a ++ b) ≡ printed_lines a ++ printed_lines b
-printed_both [] b = refl
-printed_both (r ∷ a) b = ap (λ (ls : List PrintedLine). printed_row r ++ ls) (printed_both a b) ∙ sym (append_assoc (printed_row r) (printed_lines a) (printed_lines b))
-
 printed_count : (rs : List Row) → length (printed_lines rs) ≡ length (lines_of rs)
 printed_count rs = omega (arith, lines_count (printed_lines rs), ap length (lines_are rs))
-
-from_count : (gap spaces : List ℕ) (column : ℕ) (ns : List ℕ) (m : rows.Mark) (c : Content) → length (printed_from gap spaces column ns m c) ≡ suc (length ns)
-from_count gap spaces column [] m c = refl
-from_count gap spaces column (n ∷ ns) m c = ap suc (from_count [] [] (suc (column + n)) ns m c)
 
 lines_count_from : (above : List (List ℕ)) (column : ℕ) (ns : List ℕ) (m : rows.Mark) (c : Content) → length (lines_from above column ns m c) ≡ suc (length ns)
 lines_count_from above column [] m c = refl
@@ -136,9 +129,9 @@ module _ (p : Part) (start rest : List ℕ) (h : NodeLines) (f : Found) (q : Sea
   parts_are : ls ≡ above ++ (own ++ printed_lines back)
   parts_are =
       ap printed_lines fr.rows_are
-      ∙ (printed_both fr.front (r ∷ (fr.gone ++ back))
+      ∙ (printed_parts fr.front (r ∷ (fr.gone ++ back))
       ∙ ((λ i. printed_lines fr.front ++ ((ap (λ ds. printed_from r.gap (replicate r.column 32) r.column ds r.mark r.content) (sym (take-append-drop q.line r.dashes))
-      ∙ dashes.is) i ++ printed_both fr.gone back i))
+      ∙ dashes.is) i ++ printed_parts fr.gone back i))
       ∙ (ap (λ (x : List PrintedLine). printed_lines fr.front ++ x)
       (append_assoc dashes.lines (printed_from [] [] column es r.mark r.content) (printed_lines fr.gone ++ printed_lines back)
       ∙ ap (λ (x : List PrintedLine). dashes.lines ++ x) (sym (append_assoc (printed_from [] [] column es r.mark r.content) (printed_lines fr.gone) (printed_lines back))))
@@ -154,7 +147,7 @@ module _ (p : Part) (start rest : List ℕ) (h : NodeLines) (f : Found) (q : Sea
         fr.size,
         length-append (printed_from [] [] column es r.mark r.content) (printed_lines fr.gone),
         length-append (lines_from [] column es r.mark r.content) (lines_of fr.gone),
-        from_count [] [] column es r.mark r.content,
+        row_count [] [] column es r.mark r.content,
         lines_count_from [] column es r.mark r.content,
         printed_count fr.gone,
       )

@@ -17,13 +17,14 @@ use Rattle.yq_lines.proofs.Finding.{IsFoundIn, path_whole}
 use Rattle.yq_lines.proofs.PlaceLaws.{at}
 use Rattle.yq_lines.proofs.Plug.{allows_from}
 use Rattle.yq_lines.proofs.Values.{anchored-within}
+use Rattle.yq_lines.proofs.NodeLaws.{anchored_none}
 use Rattle.yq_change.specs.Changed.{IsChanged, put_document}
 use Rattle.yq_change.specs.Conditions.{last_anchor}
 use Rattle.yq_change.specs.Edited.{IsPut}
 use Rattle.yq_change.specs.FlowChanges.{with_head, HeadChanged, ItemsChanged, RootItemsChanged, FlowReplaced, FlowAppended, FlowRemoved}
 use Rattle.yq_change.specs.SoundRoots.{IsSoundRoot}
 use Rattle.yq_change.proofs.EditedLaws.{known, old_is_sound, line_exchanged, lines_exchanged, lead_from, led_as}
-use Rattle.yq_change.proofs.NodeLineLaws.{unanchored, low_level}
+use Rattle.yq_change.proofs.NodeLineLaws.{low_level}
 use Rattle.yq_change.proofs.SoundRootLaws.{replace_keeps, append_keeps}
 use Rattle.yq_change.proofs.SoundRootLess.{remove_keeps}
 use Rattle.yq_change.proofs.PlacedLaws.{whole_line}
@@ -119,7 +120,7 @@ root_items_changed t c k p q l n h put old bare head lines sound =
     let even : IsEven (level l) u = (refl, tt, whole l.mark bare, (level l + 1, omega arith, tt), tt) in
     led_as c (put_document k q c) k (lead_of q) (lead_of p) (within h) (lead_from p q [] l new [] [] old lines refl)
     (lines_exchanged t c k p q [] _ (within h) (level l) u put refl
-    (record { deep = low l; even = even; node_is = unanchored (value u) ∙ (value_is ∙ ap (within h) (sym (unanchored (root_of p)))) })
+    (record { deep = low l; even = even; node_is = anchored_none (value u) ∙ (value_is ∙ ap (within h) (sym (anchored_none (root_of p)))) })
     (record { each = (none_free l.anchor, tt); free = tt }) lines sound)
   where
     whole : (k : Mark) → k ≡ Bare → IsWhole k (Some (within h n)) end

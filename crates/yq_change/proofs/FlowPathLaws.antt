@@ -24,7 +24,8 @@ use Rattle.yq_tree.specs.FlowNodes.{content_flow, find_head}
 use Rattle.yq_documents.specs.Lines.{lines_of}
 use Rattle.yq_documents.specs.Reading.{outline_of}
 use Rattle.yq_documents.specs.Seats.{Seat, seat, rows_before, document_row}
-use Rattle.yq_tree.proofs.FlowPlaceLaws.{mark_seat, middle}
+use Rattle.yq_tree.proofs.FlowPlaceLaws.{mark_seat}
+use Rattle.yq_tree.proofs.FoundLines.{middle}
 use Rattle.yq_change.specs.Appends.{inserted}
 use Rattle.yq_change.specs.Changed.{put_from}
 use Rattle.yq_change.specs.DocumentRows.{behind_document, number_from}

@@ -1,13 +1,12 @@
 -- The head comment of the gap that stays where rows are taken out.
-use Rattle.std.proofs.Common.{◌≡◌, ℕ, zero, suc, Bool, true, false, eqb, ◌&&◌, List, [], ◌∷◌, ◌++◌, Option, Some, None, refl, sym, ap, ◌∙◌, subst, ⊎_elim, replicate}
+use Rattle.std.proofs.Common.{◌≡◌, ℕ, Bool, true, false, ◌&&◌, List, [], ◌∷◌, ◌++◌, Option, Some, None, refl, sym, ap, ◌∙◌, subst, ⊎_elim, replicate}
 use Rattle.std.proofs.lemmas.Bool.{false≢true, cond_both, cond-true, cond-false, and_parts, cases_Bool}
 use Rattle.yq_scalar.specs.Block.{BlockText, Lines, keeps}
 use Rattle.yq_scalar.specs.BlockRepair.{AreGap, is_short, is_outside, repair}
 use Rattle.yq_scalar.specs.Lines.{is_hash, is_blank}
-use Rattle.yq_scalar.specs.Text.{is_break, is_empty, is_line, is_white, joined, lines_of, past_white}
-use Rattle.yq_scalar.proofs.Bools.{at_byte}
+use Rattle.yq_scalar.specs.Text.{is_break, is_empty, is_line, joined, lines_of, past_white}
 use Rattle.yq_scalar.proofs.LineLaws.{lines_again}
-use Rattle.yq_scalar.proofs.SpaceLaws.{white_drop}
+use Rattle.yq_scalar.proofs.BlockRepairText.{line_past, line_spaces}
 use Rattle.yq_lines.specs.Comments.{are_comments, head_comment, last_comments}
 use Rattle.yq_rows.specs.Gap.{IsGapLine, AreGapLines, IsGap}
 use Rattle.yq_rows.specs.Removal.{hold_comment, seam_gap}
@@ -16,6 +15,7 @@ use Rattle.yq_lines.proofs.HeadLaws.{comments_behind, head_repaired}
 use Rattle.yq_rows.proofs.seams.GapFronts.{lines_joined_of}
 use Rattle.yq_rows.proofs.NothingLaws.{some_behind}
 use Rattle.yq_rows.proofs.seams.SeamLaws.{line_by_break}
+use Rattle.yq_rows.proofs.EmptyTexts.{none_is}
 use Rattle.yq_documents.specs.Pieces.{before_run}
 
 -- the head comment of a gap, in front of which lines stand that end in no comment
@@ -55,9 +55,6 @@ unfolding lines_of
 joined_lines [] h = refl
 joined_lines (l ∷ ls) h = lines_again l (joined ls) h.0 ∙ ap (λ (x : Lines). l ∷ x) (joined_lines ls h.1)
 
-none_is : (t : List ℕ) → is_empty t ≡ false → t ≡ [] → ⊥
-none_is t some e = absurd (false≢true (sym some ∙ ap is_empty e))
-
 gap_line : (l rest : List ℕ) → is_empty rest ≡ false → IsGapLine l rest → is_line l ≡ true
 gap_line l rest some h = ⊎_elim {0, 0, 0}
     (λ e. line_by_break h.white h.comment l rest h.line ∙ (and_parts (is_break h.line.break) (is_line h.line.break) e).1)
@@ -67,22 +64,6 @@ gap_line l rest some h = ⊎_elim {0, 0, 0}
 gap_lines : (ls : Lines) (rest : List ℕ) → is_empty rest ≡ false → AreGapLines ls rest → AreLines ls
 gap_lines [] rest some h = tt
 gap_lines (l ∷ ls) rest some h = (gap_line l (joined ls ++ rest) (some_behind (joined ls) rest some) h.0, gap_lines ls rest some h.1)
-
-line_next : (b : ℕ) (l : List ℕ) → eqb b 10 ≡ false → is_line (b ∷ l) ≡ is_line l
-unfolding is_line
-line_next b l e = rw e refl
-
-line_past : (l : List ℕ) → is_line l ≡ true → is_line (past_white l) ≡ true
-unfolding Rattle.yq_scalar.specs.Text.upto
-line_past [] h = h
-line_past (b ∷ l) h = ⊎_elim {0, 0, 0}
-    (λ e. rw (white_drop b l) (rw e (line_past l (sym (line_next b l (at_byte is_white b 10 e refl)) ∙ h))))
-    (λ e. rw (white_drop b l) (rw e h))
-    (cases_Bool (is_white b))
-
-line_spaces : (n : ℕ) (t : List ℕ) → is_line t ≡ true → is_line (replicate n 32 ++ t) ≡ true
-line_spaces zero t h = h
-line_spaces (suc n) t h = line_next 32 (replicate n 32 ++ t) refl ∙ line_spaces n t h
 
 repaired_lines : (keep : Bool) (m column : ℕ) (ls : Lines) → AreLines ls → AreLines (repair keep m column ls)
 unfolding repair

@@ -23,7 +23,7 @@ use Rattle.yq_rows.proofs.seams.GapFronts.{ends_blank, ends_comment}
 use Rattle.yq_change.proofs.GapLaws.{head_joined}
 use Rattle.yq_rows.proofs.seams.LessLaws.{starts_less}
 use Rattle.yq_rows.proofs.NothingLaws.{some_behind}
-use Rattle.yq_rows.proofs.seams.BlockFronts.{gap_front}
+use Rattle.yq_rows.proofs.seams.BlockFronts.{gap_front, last_none}
 use Rattle.yq_rows.proofs.RowAgain.{row_starts}
 use Rattle.yq_rows.proofs.seams.SeamLaws.{rows_drop}
 use Rattle.yq_rows.proofs.seams.FrontSeams.{behind_row_some, seams_any, seams_were}
@@ -39,12 +39,11 @@ use Rattle.yq_documents.specs.Reading.{outline_of}
 use Rattle.yq_lines.proofs.Decides.{flatten-group}
 use Rattle.yq_change.specs.Siblings.{put_lines}
 use Rattle.yq_change.proofs.BlockChangeLaws.{entry_relabelled}
-use Rattle.yq_change.proofs.MovedLaws.{lines_append}
 use Rattle.yq_change.specs.Heads.{IsRun, with_run, rerun, HeadCommented}
 use Rattle.yq_change.specs.LineRows.{StandApart, AreClosed}
 use Rattle.yq_change.specs.DocumentRows.{behind_document, part_number, RowsFit}
 use Rattle.yq_change.proofs.ApartLaws.{even_closed}
-use Rattle.yq_change.proofs.AppendLaws.{block_seam, no_block}
+use Rattle.yq_change.proofs.AppendLaws.{block_seam}
 use Rattle.yq_change.proofs.ColumnLaws.{apart_first, block_is_deeper, last_closed}
 use Rattle.yq_tree.proofs.RemovalTexts.{run_parts}
 use Rattle.yq_change.proofs.GapLaws.{none_before}
@@ -52,6 +51,7 @@ use Rattle.yq_change.proofs.PartLaws.{part_numbered, document_known, document_sp
 use Rattle.yq_change.proofs.RemarkLaws.{one_line}
 use Rattle.yq_documents.specs.TreeEdits.{with_head_comment}
 use Rattle.yq_tree.proofs.RemovalLines.{front_some}
+use Rattle.yq_tree.proofs.UnderExchange.{lines_append}
 
 -- a comment that begins in a column is less deep than the text of a block scalar that is deeper
 record First (n b : ℕ) (t : List ℕ) : Type 0 where
@@ -121,7 +121,7 @@ run_seam front back r run last rest l old limit own is column apart = go (last_b
         is.stands
 
     go : (o : Option BlockText) → last_block front ≡ o → are_seamed front (with_run r run ++ x) ≡ true
-    go None e = seams_any front (r ∷ back) unlimited last rest (with_run r run ++ x) old refl (no_block front e)
+    go None e = seams_any front (r ∷ back) unlimited last rest (with_run r run ++ x) old refl (last_none front e)
     go (Some b) e =
         let deep = block_is_deeper unlimited front (r ∷ back) last rest b l old e (apart b e) in
         let less : r.column < b.indent.columns = omega (arith, deep, column) in

@@ -33,6 +33,7 @@ use Rattle.yq_documents.specs.Reading.{outline_of, root_of, read_at}
 use Rattle.yq_documents.specs.Ready.{begins_no_node}
 use Rattle.yq_tree.specs.RowPaths.{IsReadable}
 use Rattle.yq_documents.specs.TreeEdits.{replaced}
+use Rattle.yq_documents.proofs.LinedLaws.{and_false}
 use Rattle.yq_tree.proofs.FoundLines.{each}
 use Rattle.yq_tree.proofs.ReadLaws.{text_takes}
 use Rattle.yq_tree.proofs.RowPathLaws.{document_fine}
@@ -73,7 +74,7 @@ bare_text [] rows.Dash t e h = absurd (false≢true (sym e))
 bare_text [] (rows.Key key colon) t e h = absurd (false≢true (sym e))
 bare_text (n ∷ ns) m t e h = absurd (false≢true (sym e ∙ h.1))
 
-no_node_first : (xs : List Line) (l m : Line) (ls ms : List Line) → l.mark ≡ m.mark → begins_no_node (xs ++ (l ∷ ls)) ≡ begins_no_node (xs ++ (m ∷ ms))
+pub no_node_first : (xs : List Line) (l m : Line) (ls ms : List Line) → l.mark ≡ m.mark → begins_no_node (xs ++ (l ∷ ls)) ≡ begins_no_node (xs ++ (m ∷ ms))
 no_node_first [] l m ls ms e = ap (λ k. Rattle.yq_lines.specs.Sound.is_entry k) e
 no_node_first (x ∷ xs) l m ls ms e = refl
 

@@ -20,7 +20,7 @@ use Rattle.yq_lines.proofs.Decides.{flatten-group}
 use Rattle.yq_rows.specs.Exchange.{row_front}
 use Rattle.yq_rows.specs.Rows as rows
 use Rattle.yq_rows.specs.Rows.{Content, content_text, Row, mark_column, mark_text, rows_text, Part, Cut, cut_text}
-use Rattle.yq_rows.proofs.PlaceLaws.{row_front-append}
+use Rattle.yq_rows.proofs.PlaceLaws.{row_front-append, content_then}
 use Rattle.yq_rows.proofs.seams.SeamLaws.{rows_text-append}
 use Rattle.yq_documents.specs.Documents.{begins_bare, document_parts, has_begin}
 use Rattle.yq_tree.specs.Existence.{some_lines}
@@ -34,7 +34,7 @@ use Rattle.yq_tree.proofs.FoundEntries.{lines_count, within_some}
 use Rattle.yq_tree.proofs.FoundLines.{each, middle}
 use Rattle.yq_tree.proofs.NextLaws.{StartsAt, found_starts}
 use Rattle.yq_tree.proofs.PrintedLaws.{lines_are}
-use Rattle.yq_tree.proofs.PrintedTexts.{content_then, line_split, lines_then, lines_append, rows_are}
+use Rattle.yq_tree.proofs.PrintedTexts.{line_split, lines_then, lines_append, rows_are}
 use Rattle.yq_tree.proofs.ReadLaws.{text_takes}
 use Rattle.yq_tree.proofs.RowPathLaws.{document_fine}
 use Rattle.yq_tree.proofs.PieceSpans.{line_more}

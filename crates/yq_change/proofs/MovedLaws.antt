@@ -2,14 +2,11 @@
 use Rattle.std.proofs.Common.{◌≡◌, ℕ, suc, ◌+◌, List, [], ◌∷◌, ◌++◌, Option, None, refl, sym, ap, ◌∙◌, append_assoc}
 use Rattle.yq_lines.specs.Comments.{head_comment, line_comment}
 use Rattle.yq_rows.specs.Rows as rows
-use Rattle.yq_rows.specs.Rows.{Content, Nothing, Row, behind_columns}
+use Rattle.yq_rows.specs.Rows.{Content, Nothing, behind_columns}
 use Rattle.yq_documents.specs.Lines.{dash_line, lines_from, row_lines, lines_of}
 use Rattle.yq_lines.specs.Outline.{Line, Dash}
+use Rattle.yq_tree.proofs.UnderExchange.{lines_append}
 use Rattle.yq_change.specs.Moved.{dash_lines, moved_up, emptied, DashesFirst, FirstMoved, FirstEmptied}
-
-pub lines_append : (a b : List Row) → lines_of (a ++ b) ≡ lines_of a ++ lines_of b
-lines_append [] b = refl
-lines_append (r ∷ a) b = ap (λ (ls : List Line). row_lines r ++ ls) (lines_append a b) ∙ sym (append_assoc (row_lines r) (lines_of a) (lines_of b))
 
 -- the lines of dashes, and those behind them
 pub from_dashes : DashesFirst

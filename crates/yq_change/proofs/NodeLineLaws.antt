@@ -2,7 +2,7 @@
 use Rattle.std.proofs.Common.{◌≡◌, ℕ, ◌<◌, ◌≤◌, List, [], ◌∷◌, ◌++◌, Option, Some, None, refl, sym, ap, ◌∙◌, subst, arith, append_assoc, append-nil}
 use Rattle.std.proofs.lemmas.Option.{none-some, same_Some}
 use Rattle.yq_scalar.specs.Paths.{Step, change}
-use Rattle.yq_scalar.specs.Tree.{Node, alias, scalar, list, map}
+use Rattle.yq_scalar.specs.Tree.{Node}
 use Rattle.yq_lines.specs.Group.{level_or}
 use Rattle.yq_lines.specs.Laws.{with_lines}
 use Rattle.yq_lines.specs.Outline.{Line, level, Outline, end, row, flatten, IsEven, anchored, value, Stands}
@@ -12,21 +12,11 @@ use Rattle.yq_lines.proofs.Finding.{IsFoundIn, path_whole}
 use Rattle.yq_lines.proofs.PlaceLaws.{at, exchanged}
 use Rattle.yq_lines.proofs.Plug.{allows_from, closed}
 use Rattle.yq_lines.proofs.Values.{rank_small}
+use Rattle.yq_lines.proofs.NodeLaws.{anchored_none}
+use Rattle.yq_tree.proofs.FlowToldLaws.{before_under}
 use Rattle.yq_change.specs.Siblings.{HasEntries, NodeLines, under_line, lines_below, lines_at, put_lines, StandsSomewhere, LinesReplaced}
 
-pub unanchored : (n : Node) → anchored None n ≡ n
-unanchored (alias n) = refl
-unanchored (scalar b k t) = refl
-unanchored (list b cs) = refl
-unanchored (map b cs) = refl
-
--- the lines before a place in what is under a line
-pub before_under : (p : Place) (l : Line) (a : Outline) → lines_before (compose p (below l here a)) ≡ lines_before p ++ (l ∷ [])
-before_under here l a = refl
-before_under (below k p b) l a = ap (λ x. k ∷ x) (before_under p l a)
-before_under (beside k v p) l a = ap (λ x. k ∷ x) (ap (λ x. flatten v ++ x) (before_under p l a) ∙ sym (append_assoc (flatten v) (lines_before p) (l ∷ [])))
-
--- and those behind it
+-- the lines behind a place in what is under a line
 pub after_under : (p : Place) (l : Line) (a : Outline) → lines_after (compose p (below l here a)) ≡ flatten a ++ lines_after p
 after_under here l a = sym (append-nil (flatten a))
 after_under (below k p b) l a = ap (λ x. x ++ flatten b) (after_under p l a) ∙ append_assoc (flatten a) (lines_after p) (flatten b)
@@ -109,7 +99,7 @@ lines_replaced n m o u [] h g even e fit =
           outline = u;
           even = fit.even;
           lines_are = sym (append-nil (flatten u));
-          node_is = sym (unanchored (value u)) ∙ (is ∙ ap g (unanchored (value o)));
+          node_is = sym (anchored_none (value u)) ∙ (is ∙ ap g (anchored_none (value o)));
         },
       ),
     )) fit.node_is

@@ -13,11 +13,12 @@ use Rattle.yq_lines.specs.Outline.{row}
 use Rattle.yq_lines.specs.Places.{lines_before, lines_after, Found}
 use Rattle.yq_lines.proofs.Decides.{flatten-group}
 use Rattle.yq_rows.specs.Rows as rows
-use Rattle.yq_rows.specs.Rows.{Content, Row, Part}
-use Rattle.yq_documents.specs.Lines.{lines_from, row_lines, lines_of}
+use Rattle.yq_rows.specs.Rows.{Row, Part}
+use Rattle.yq_documents.specs.Lines.{row_lines, lines_of}
 use Rattle.yq_documents.specs.Reading.{outline_of}
 use Rattle.yq_tree.specs.RemovalPlaces.{OwnRows, row_count, in_three}
 use Rattle.yq_documents.specs.Seats.{Seat, seat}
+use Rattle.yq_documents.proofs.RowFlowLaws.{lines_count}
 use Rattle.yq_tree.proofs.UnderCounts.{count_under}
 use Rattle.yq_change.specs.EntryRows.{HasRows}
 use Rattle.yq_change.specs.LineRows.{Begins, lines_behind}
@@ -33,10 +34,6 @@ use Rattle.yq_change.proofs.RowsLaws.{entry_rows}
 use Rattle.yq_change.proofs.SiblingLaws.{even_right}
 
 -- rows that have so many lines
-from_count : (above : List (List ℕ)) (column : ℕ) (ns : List ℕ) (m : rows.Mark) (x : Content) → length (lines_from above column ns m x) ≡ suc (length ns)
-from_count above column [] m x = refl
-from_count above column (n ∷ ns) m x = ap suc (from_count [] (suc (column + n)) ns m x)
-
 row_more : (n : ℕ) (r : Row) (rs : List Row) → row_count (suc (length r.dashes) + n) (r ∷ rs) ≡ suc (row_count n rs)
 row_more n r rs =
     let more : suc (length r.dashes) + n ≡ suc (length r.dashes + n) = omega arith in
@@ -46,7 +43,7 @@ row_more n r rs =
 pub count_rows : (a b : List Row) → row_count (length (lines_of a)) (a ++ b) ≡ length a
 count_rows [] b = refl
 count_rows (r ∷ a) b =
-    let count : length (row_lines r) ≡ suc (length r.dashes) = from_count (comments.head_comment r.gap) r.column r.dashes r.mark r.content in
+    let count : length (row_lines r) ≡ suc (length r.dashes) = lines_count (comments.head_comment r.gap) r.column r.dashes r.mark r.content in
     let all : length (lines_of (r ∷ a)) ≡ suc (length r.dashes) + length (lines_of a) = omega (arith, count, length-append (row_lines r) (lines_of a)) in
     ap (λ (k : ℕ). row_count k (r ∷ (a ++ b))) all ∙ (row_more (length (lines_of a)) r (a ++ b) ∙ ap suc (count_rows a b))
 

@@ -16,8 +16,9 @@ use Rattle.yq_documents.specs.Reading.{outline_of}
 use Rattle.yq_lines.specs.Ends.{found_line, line_of}
 use Rattle.yq_documents.specs.Seats.{Seat, seat}
 use Rattle.yq_lines.proofs.Values.{If}
+use Rattle.yq_tree.proofs.FlowToldLaws.{before_under}
 use Rattle.yq_change.specs.Siblings.{IsEntry, HasEntries, NodeLines, lines_at, lines_below, under_line}
-use Rattle.yq_change.proofs.NodeLineLaws.{Under, before_under, lines_found}
+use Rattle.yq_change.proofs.NodeLineLaws.{Under, lines_found}
 use Rattle.yq_change.specs.PathRows.{IsEntryLine, PathIsEntry, PathLineCommented, PathHeadCommented, PathHasRows}
 use Rattle.yq_change.proofs.ApartLaws.{Stood, row_stood}
 use Rattle.yq_change.proofs.HeadLaws.{head_commented}

@@ -12,7 +12,7 @@ use Rattle.yq_inline.proofs.AlikePieces.{name_by}
 use Rattle.yq_lines.specs.Comments.{line_comment}
 use Rattle.yq_lines.specs.Ends.{line_of}
 use Rattle.yq_lines.specs.Group.{level_or}
-use Rattle.yq_rows.specs.Exchange.{allows_first, asked_behind, with_content}
+use Rattle.yq_rows.specs.Exchange.{asked_behind, with_content}
 use Rattle.yq_rows.specs.Gap.{IsWhite}
 use Rattle.yq_rows.specs.Grammar.{unlimited, limit_after, AreRows, IsAnchor, IsMark, IsRow, is_entry, ends_part}
 use Rattle.yq_rows.specs.Rows as rows
@@ -28,6 +28,7 @@ use Rattle.yq_documents.specs.Reading.{outline_of}
 use Rattle.yq_tree.specs.RowPaths.{IsReadable}
 use Rattle.yq_documents.specs.Seats.{Seat, seat_of}
 use Rattle.yq_documents.specs.TreeEdits.{with_line_comment}
+use Rattle.yq_tree.proofs.WrittenLaws.{free_first}
 use Rattle.yq_change.specs.Appends.{inserted}
 use Rattle.yq_change.specs.Changed.{IsChanged, put_document}
 use Rattle.yq_change.specs.DocumentRows.{IsDocumentPart, behind_document, part_number}
@@ -71,10 +72,6 @@ entry_apart : (mark : rows.Mark) (space : List ℕ) (anchor : Option rows.Anchor
 entry_apart rows.Bare space anchor block rest h = absurd (false≢true h)
 entry_apart rows.Dash space anchor block rest h = (refl, h)
 entry_apart (rows.Key key colon) space anchor block rest h = (refl, h.colon_is.separated)
-
-free_first : (rs : List Row) → allows_first unlimited rs ≡ true
-free_first [] = refl
-free_first (r ∷ rs) = refl
 
 header_takes : (p : Part) (front back : List Row) (r : Row) (space : List ℕ) (anchor : Option rows.Anchor) (block : BlockText) (tail rest : List ℕ) → r.content ≡ Block space anchor block → p.rows ≡ front ++ (r ∷ back) →
     Rattle.yq_scalar.specs.Block.is_tail tail ≡ true → IsRow (asked_behind unlimited front) r (rows_text back (p.end ++ rest)) → TakesRow p front r (with_content (with_header_tail tail space anchor block) r) back rest

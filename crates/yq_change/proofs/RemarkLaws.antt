@@ -26,7 +26,6 @@ use Rattle.yq_change.proofs.AnchorLaws.{fit_parts, fit_from}
 use Rattle.yq_change.proofs.CollectionLaws.{relabelled}
 use Rattle.yq_change.proofs.EditedLaws.{led_as}
 use Rattle.yq_change.proofs.BlockChangeLaws.{entry_relabelled}
-use Rattle.yq_change.proofs.MovedLaws.{lines_append}
 use Rattle.yq_change.proofs.PlacedLaws.{same_parts}
 use Rattle.yq_change.specs.LineRows.{line_number}
 use Rattle.yq_change.specs.DocumentRows.{IsDocumentPart, Known, behind_document, part_number}
@@ -35,6 +34,7 @@ use Rattle.yq_change.proofs.LineLaws.{above_mark, mark_behind, dashes_count}
 use Rattle.yq_change.proofs.PartLaws.{part_numbered, rows_put, document_known, is_put}
 use Rattle.yq_documents.specs.TreeEdits.{with_line_comment}
 use Rattle.yq_tree.proofs.RemovalLines.{front_some}
+use Rattle.yq_tree.proofs.UnderExchange.{lines_append}
 
 -- The line of an item or entry, and the lines with another in its place.
 pub record OneLine (p : Part) (h : NodeLines) (f : Found) (a : List Line) (x : Line) (z : List Line) : Type 0 where

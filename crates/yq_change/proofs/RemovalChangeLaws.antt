@@ -48,6 +48,7 @@ use Rattle.yq_change.proofs.RemovalTextLaws.{new_text}
 use Rattle.yq_change.proofs.RemoveLaws.{block_gone}
 use Rattle.yq_change.proofs.SiblingLaws.{entry_in, entry_out, flatten-append, next}
 use Rattle.yq_change.proofs.TextPieceLaws.{pieces_joined, text_is_piece}
+use Rattle.yq_change.proofs.ReplaceLaws.{found_entries}
 
 -- ---- the last step of a path
 
@@ -55,7 +56,7 @@ pub snoc : (s : Step) (ss : List Step) → (init : List Step) × (last : Step) �
 snoc s [] = ([], s, refl)
 snoc s (t ∷ ts) = let x = snoc t ts in (s ∷ x.0, x.1, ap (λ (y : List Step). s ∷ y) x.2)
 
-take_init : (ss : List Step) (s : Step) → take (length (ss ++ (s ∷ [])) - 1) (ss ++ (s ∷ [])) ≡ ss
+pub take_init : (ss : List Step) (s : Step) → take (length (ss ++ (s ∷ [])) - 1) (ss ++ (s ∷ [])) ≡ ss
 take_init ss s =
     let size : length (ss ++ (s ∷ [])) - 1 ≡ length ss = omega (arith, length-append ss (s ∷ [])) in
     ap (λ (n : ℕ). take n (ss ++ (s ∷ []))) size ∙ take-append_seam ss (s ∷ [])
@@ -71,7 +72,7 @@ node_behind (t ∷ ts) s n = go (child_at t (children_of n)) (λ m. node_behind 
 
 -- ---- the collection at a path
 
-children-anchored : (a : Option (List ℕ)) (n : Node) → children_of (anchored a n) ≡ children_of n
+pub children-anchored : (a : Option (List ℕ)) (n : Node) → children_of (anchored a n) ≡ children_of n
 children-anchored a (alias n) = refl
 children-anchored a (scalar b k t) = refl
 children-anchored a (list b cs) = refl
@@ -82,7 +83,7 @@ children-collection Bare cs e = absurd e
 children-collection (Key k) cs e = refl
 children-collection Dash cs e = refl
 
-children-value : (o : Outline) → HasEntries o → children_of (value o) ≡ children o
+pub children-value : (o : Outline) → HasEntries o → children_of (value o) ≡ children o
 children-value end h = absurd h
 children-value (row l u a) h = children-collection l.mark (children (row l u a)) h
 
@@ -165,23 +166,6 @@ place_first : (p : Place) (o : Outline) (ls : List Line) → HasEntries (plug p 
 place_first here o ls h own = own h
 place_first (below l p a) o ls h own = h
 place_first (beside l u p) o ls h own = h
-
-found_entries : (t : Step) (ts : List Step) (o : Outline) (f : Found) → find t ts o ≡ Some (f, []) → HasEntries o
-found_entries t ts end f e = absurd (none-some _ e)
-found_entries t [] (row l u a) f e = go l.mark e
-  where
-    go : (m : Mark) → Rattle.yq_lines.specs.Places.bare_or m (Some (record { place = here; line = l; under = u; after = a }, t ∷ [])) (option_map (λ f. (f, [])) (find_row t (row l u a))) ≡ Some (f, []) → IsEntry m
-    go Bare e = absurd (cons≢nil (ap (λ (x : Found × List Step). x.1) (same_Some _ _ e)))
-    go (Key k) e = tt
-    go Dash e = tt
-found_entries t (v ∷ vs) (row l u a) f e = go l.mark e
-  where
-    go : (m : Mark) →
-        Rattle.yq_lines.specs.Places.bare_or m (Some (record { place = here; line = l; under = u; after = a }, t ∷ (v ∷ vs)))
-        (option_and_then (λ f. Rattle.yq_lines.specs.Places.in_head f.line.head (Some (f, v ∷ vs)) (option_map (λ x. (Rattle.yq_lines.specs.Places.inside f x.0, x.1)) (find v vs f.under))) (find_row t (row l u a))) ≡ Some (f, []) → IsEntry m
-    go Bare e = absurd (cons≢nil (ap (λ (x : Found × List Step). x.1) (same_Some _ _ e)))
-    go (Key k) e = tt
-    go Dash e = tt
 
 pub root_entries : (ss : List Step) (o : Outline) (h : NodeLines) → lines_at ss o ≡ Some h → HasEntries h.lines → HasEntries o
 root_entries [] o h e b = subst HasEntries (sym (ap (λ (x : NodeLines). x.lines) (same_Some _ _ e))) b

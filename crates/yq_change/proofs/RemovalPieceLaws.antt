@@ -37,7 +37,7 @@ nothing_text = refl
 nothing_piece : IsPiece []
 nothing_piece = record { utf8 = IsUtf8-nil; characters = nothing_text }
 
-seam_pieces : (a b : List ℕ) → LineSeam a b → IsPiece (a ++ b) → IsPiece a × IsPiece b
+pub seam_pieces : (a b : List ℕ) → LineSeam a b → IsPiece (a ++ b) → IsPiece a × IsPiece b
 seam_pieces a b (inl e) h = (subst IsPiece (sym e) nothing_piece, subst IsPiece (ap (λ (x : List ℕ). x ++ b) e) h)
 seam_pieces a b (inr (inl lf)) h = let x = line_cut lf.0 b (subst (λ (y : List ℕ). IsPiece (y ++ b)) lf.1 h) in (subst IsPiece (sym lf.1) x.0, x.1)
 seam_pieces a b (inr (inr e)) h = (subst IsPiece (ap (λ (x : List ℕ). a ++ x) e ∙ append-nil a) h, subst IsPiece (sym e) nothing_piece)

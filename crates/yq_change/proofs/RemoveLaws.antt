@@ -9,15 +9,14 @@ use Rattle.yq_rows.specs.Exchange.{allows_first, asked_behind}
 use Rattle.yq_rows.specs.Gap.{AreGapLines}
 use Rattle.yq_rows.specs.Grammar.{Limit, unlimited, AreDashes, AreRows, IsCut, no_rows}
 use Rattle.yq_rows.specs.Rows as rows
-use Rattle.yq_rows.specs.Rows.{Row, rows_text, Part, Cut, cut_text}
+use Rattle.yq_rows.specs.Rows.{Row, Part, Cut, cut_text}
 use Rattle.yq_rows.specs.Splices.{behind_first, first_gap, with_first_gap, nth_part, splice}
 use Rattle.yq_rows.specs.Removal.{RepairFits, last_block, next_column, removed_gap, seam_gap, StandsLess, without_rows}
 use Rattle.yq_rows.proofs.splices.SpliceTexts.{first_is}
 use Rattle.yq_rows.proofs.seams.BlockFronts.{gap_front}
-use Rattle.yq_rows.proofs.splices.RemoveLaws.{removed_repaired}
+use Rattle.yq_rows.proofs.splices.RemoveLaws.{removed_repaired, behind_some}
 use Rattle.yq_rows.proofs.NothingLaws.{some_behind}
 use Rattle.yq_rows.proofs.seams.SeamLaws.{rows_drop}
-use Rattle.yq_rows.proofs.seams.FrontSeams.{behind_row_some}
 use Rattle.yq_rows.proofs.splices.PartPlaces.{part_in}
 use Rattle.yq_documents.specs.Pieces.{before_run, last_run}
 use Rattle.yq_documents.specs.Documents.{HaveFitKeys, HasShortRoot, is_long_plain, lead_of}
@@ -32,6 +31,7 @@ use Rattle.yq_lines.specs.Outline.{row}
 use Rattle.yq_lines.specs.Places.{lines_before, lines_after, plug, Found, content}
 use Rattle.yq_documents.specs.Reading.{outline_of, root_of}
 use Rattle.yq_tree.specs.RowPaths.{IsReadable}
+use Rattle.yq_tree.proofs.UnderExchange.{lines_append}
 use Rattle.yq_change.specs.Changed.{IsChanged, put_document}
 use Rattle.yq_change.specs.Conditions.{AreSpared, BeginsEntry}
 use Rattle.yq_change.specs.EntryRows.{HasRows}
@@ -40,14 +40,13 @@ use Rattle.yq_change.proofs.AnchorLaws.{both_anew, collection_anew, fit_parts, f
 use Rattle.yq_change.proofs.CollectionLaws.{Splits, some_at}
 use Rattle.yq_change.proofs.NodeLineLaws.{lines_even}
 use Rattle.yq_change.proofs.BlockChangeLaws.{entry_removed}
-use Rattle.yq_change.proofs.MovedLaws.{lines_append}
 use Rattle.yq_change.proofs.PlacedLaws.{entry_placed, same_parts}
 use Rattle.yq_change.proofs.SiblingLaws.{entries, even_right, flatten-append, next, rest_entries}
 use Rattle.yq_change.specs.LineRows.{lines_behind, Begins, AreClosed}
 use Rattle.yq_change.specs.DocumentRows.{IsDocumentPart, behind_document, part_number}
 use Rattle.yq_change.specs.Removes.{left_gap, without, BlockRemoved}
-use Rattle.yq_change.proofs.ApartLaws.{entries_apart, even_closed}
-use Rattle.yq_change.proofs.AppendLaws.{block_lines, rows_with}
+use Rattle.yq_change.proofs.ApartLaws.{entries_apart, even_closed, block_some}
+use Rattle.yq_change.proofs.AppendLaws.{rows_with}
 use Rattle.yq_change.proofs.ColumnLaws.{closed_stands_less, next_stays}
 use Rattle.yq_change.proofs.GapLaws.{head_left, none_before}
 use Rattle.yq_change.proofs.PartLaws.{part_numbered, rows_put, document_known, is_put, take_front, drop_front, drop_gone}
@@ -95,7 +94,7 @@ behind_entry n o steps s h f even e =
 
 -- what is left has lines
 left_lines : (s : Step) (h : NodeLines) (f : Found) → Splits s h.lines f → HasEntries (plug f.place f.after) → with_lines f [] ≡ [] → ⊥
-left_lines s h f w left e = block_lines (plug f.place f.after) left (ap flatten (w.plugs f.after) ∙ (flatten-append w.front f.after ∙ (sym (w.lines []) ∙ e)))
+left_lines s h f w left e = block_some (plug f.place f.after) left (ap flatten (w.plugs f.after) ∙ (flatten-append w.front f.after ∙ (sym (w.lines []) ∙ e)))
 
 rows_inside : (rs : List Row) (a x b : List Line) → lines_of rs ≡ a ++ (x ++ b) → (x ≡ [] → ⊥) → no_rows rs ≡ false
 rows_inside rs a x b e some = rows_with rs a (x ++ b) e (λ none. some (front x none))
@@ -111,10 +110,6 @@ first_same (r ∷ gone) back last n = refl
 some_rows : (gone back : List Row) → no_rows gone ≡ false → no_rows (gone ++ back) ≡ false
 some_rows [] back n = absurd (false≢true (sym n))
 some_rows (r ∷ gone) back n = refl
-
-behind_some : (limit : Limit) (rs : List Row) (last rest : List ℕ) → no_rows rs ≡ false → AreRows limit rs last rest → is_empty (behind_first rs last rest) ≡ false
-behind_some limit [] last rest n h = absurd (false≢true (sym n))
-behind_some limit (r ∷ rs) last rest n h = behind_row_some limit r (rows_text rs (last ++ rest)) h.0
 
 next_more : (limit : Limit) (gone back more : List Row) (last rest : List ℕ) (l : Line) (ls : List Line) → AreRows limit (gone ++ more) last rest → lines_of gone ≡ l ∷ ls →
     Begins (level l) (lines_of back) → allows_first limit back ≡ true

@@ -13,6 +13,7 @@ use Rattle.yq_scalar.specs.Anchors.{Name, Anchors, with_anchor, names_of, names_
 use Rattle.yq_lines.specs.Outline.{anchored}
 use Rattle.yq_scalar.specs.Keys.{are_distinct}
 use Rattle.yq_lines.proofs.KeyLaws.{differs, distinct_is, is_distinct}
+use Rattle.yq_lines.proofs.SoundLaws.{depth-anchored}
 use Rattle.yq_change.specs.Conditions.{aliases_in, AreSpared}
 use Rattle.yq_change.specs.SoundRoots.{IsSoundRoot, IsNewKey, inner_names, ReplaceKeeps, AppendKeeps}
 use Rattle.yq_change.proofs.BoundLaws.{bound_changed, anchor_front}
@@ -101,16 +102,10 @@ anchored_unique a (scalar b k t) h = h
 anchored_unique a (list b cs) h = h
 anchored_unique a (map b cs) h = h
 
-anchored_depth : (a : Option (List ℕ)) (v : Node) → depth (anchored a v) ≡ depth v
-anchored_depth a (alias name) = refl
-anchored_depth a (scalar b k t) = refl
-anchored_depth a (list b cs) = refl
-anchored_depth a (map b cs) = refl
-
 pub replace_keeps : ReplaceKeeps
 replace_keeps steps root old v h there may =
     let a : Option (List ℕ) = anchor_of old in
-    let deep : length steps + depth (anchored a v) ≤ depth_limit = subst (λ k. length steps + k ≤ depth_limit) (sym (anchored_depth a v)) may.value_is.nested in
+    let deep : length steps + depth (anchored a v) ≤ depth_limit = subst (λ k. length steps + k ≤ depth_limit) (sym (depth-anchored a v)) may.value_is.nested in
     sound steps root old (replaced v) (with_anchor a []) (inner_names old) [] [] h there (anchored_unique a v may.value_is.unique) deep (own_names old) (nameless a v may.value_is.bare) refl may.spared
 
 -- one more

@@ -111,7 +111,7 @@ pub closed_root : (p : Part) (others new : List Row) (last : Row) (break : List 
 closed_root p others new last break e =
     begins_same others last (with_tail (tail_behind last.content ++ break) last.content) last.content (new ++ []) [] ∙ ap (λ rs. begins_no_node (lines_of rs)) (sym e)
 
-gap_same : (others : List Row) (r s : Row) (a b : List Row) (f g : List ℕ) → r.gap ≡ s.gap → first_gap (others ++ (r ∷ a)) f ≡ first_gap (others ++ (s ∷ b)) g
+pub gap_same : (others : List Row) (r s : Row) (a b : List Row) (f g : List ℕ) → r.gap ≡ s.gap → first_gap (others ++ (r ∷ a)) f ≡ first_gap (others ++ (s ∷ b)) g
 gap_same [] r s a b f g e = e
 gap_same (q ∷ others) r s a b f g e = refl
 

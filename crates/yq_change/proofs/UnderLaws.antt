@@ -1,6 +1,5 @@
 -- The rows under an item or entry, and their lines, where what is written behind its mark gives way to another content.
-use Rattle.std.proofs.Common.{◌≡◌, ℕ, suc, ◌+◌, List, [], ◌∷◌, ◌++◌, length, drop, true, refl, sym, ap, ◌∙◌, subst, append_assoc, length-append}
-use Rattle.std.proofs.Math.Seq.{take-append_seam, drop-append_seam}
+use Rattle.std.proofs.Common.{◌≡◌, ℕ, suc, ◌+◌, List, [], ◌∷◌, ◌++◌, length, true, refl, sym, ap, ◌∙◌, subst, append_assoc, length-append}
 use mathlib.Core.List.{head-eq_of_cons-eq, tail-eq_of_cons-eq}
 use Rattle.yq_scalar.specs.Paths.{Step}
 use Rattle.yq_lines.specs.Comments.{head_comment}
@@ -8,12 +7,11 @@ use Rattle.yq_lines.specs.Group.{level_or}
 use Rattle.yq_lines.specs.Outline.{Line, flatten, IsEven}
 use Rattle.yq_lines.specs.Places.{lines_before, lines_after}
 use Rattle.yq_lines.proofs.Decides.{flatten-group}
-use Rattle.yq_rows.specs.Exchange.{asked_behind, with_content}
-use Rattle.yq_rows.specs.Grammar.{Limit, AreRows, is_entry}
+use Rattle.yq_rows.specs.Exchange.{with_content}
+use Rattle.yq_rows.specs.Grammar.{is_entry}
 use Rattle.yq_rows.specs.Rows as rows
 use Rattle.yq_rows.specs.Rows.{Content, Row, mark_column, Part}
 use Rattle.yq_rows.specs.Splices.{first_gap}
-use Rattle.yq_rows.proofs.seams.SeamLaws.{rows_drop}
 use Rattle.yq_rows.proofs.splices.SpliceTexts.{own_gap}
 use Rattle.yq_documents.specs.Lines.{mark_of, mark_line, lines_of}
 use Rattle.yq_documents.specs.Reading.{outline_of}
@@ -26,12 +24,7 @@ use Rattle.yq_change.proofs.AppendLaws.{around}
 use Rattle.yq_change.proofs.LineLaws.{above_mark, dashes_count, mark_behind}
 use Rattle.yq_change.proofs.PlacedLaws.{found_is_entry, rows_in_parts, same_parts, whole_line}
 use Rattle.yq_change.proofs.RemarkLaws.{last_lines}
-
--- rows behind some others
-pub rows_after : (limit : Limit) (under back : List Row) (gap rest : List ℕ) → AreRows limit (under ++ back) gap rest → AreRows (asked_behind limit under) back gap rest
-rows_after limit under back gap rest h =
-    subst (λ (rs : List Row). AreRows (asked_behind limit under) rs gap rest) (drop-append_seam under back)
-    (subst (λ (rs : List Row). AreRows (asked_behind limit rs) (drop (length under) (under ++ back)) gap rest) (take-append_seam under back) (rows_drop (length under) (under ++ back) limit gap rest h))
+use Rattle.yq_change.proofs.InlineDoneLaws.{no_node_first}
 
 -- the line of a row's mark, with a content
 abbrev pub line_with : Row → Content → Line
@@ -47,10 +40,6 @@ gone_lines r under = ap (λ (ls : List Line). ls ++ lines_of under) (mark_behind
 
 -- ---- what stays
 
-first_same : (xs : List Line) (a b : Line) (ks ls : List Line) → a.mark ≡ b.mark → begins_no_node (xs ++ (a ∷ ks)) ≡ begins_no_node (xs ++ (b ∷ ls))
-first_same [] a b ks ls e = ap (λ k. Rattle.yq_lines.specs.Sound.is_entry k) e
-first_same (y ∷ xs) a b ks ls e = refl
-
 gap_same : (front : List Row) (r : Row) (new : Content) (cs bs : List Row) (a b : List ℕ) → first_gap (front ++ (with_content new r ∷ cs)) a ≡ first_gap (front ++ (r ∷ bs)) b
 gap_same [] r new cs bs a b = refl
 gap_same (q ∷ front) r new cs bs a b = refl
@@ -61,7 +50,7 @@ under_kept p front r under back new e =
     let there : q.rows ≡ front ++ (with_content new r ∷ back) = ap (λ (rs : List Row). front ++ (with_content new r ∷ rs)) (own_gap back p.end) in (
       ap (λ (rs : List Row). head_comment (first_gap rs q.end)) there ∙ (ap head_comment (gap_same front r new back (under ++ back) q.end p.end) ∙ ap (λ (rs : List Row). head_comment (first_gap rs p.end)) (sym e)),
       ap begins_no_node (ap lines_of there ∙ last_lines front r back new)
-          ∙ (first_same (lines_of front ++ dashes_of r) (line_with r new) (line_with r r.content) (lines_of back) (lines_of (under ++ back)) refl
+          ∙ (no_node_first (lines_of front ++ dashes_of r) (line_with r new) (line_with r r.content) (lines_of back) (lines_of (under ++ back)) refl
           ∙ sym (ap begins_no_node (ap lines_of e ∙ last_lines front r (under ++ back) r.content))),
     )
 

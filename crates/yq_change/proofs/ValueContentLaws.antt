@@ -25,7 +25,7 @@ use Rattle.yq_documents.specs.Lines.{content_anchor, head_of, tail_of}
 use Rattle.yq_change.specs.InlineRows.{IsValueNode}
 use Rattle.yq_change.proofs.CoreLaws.{recore, put_core, core_head, core_anchor, core_keys, core_bare, core_more, core_node}
 
-more_some : (node : inline.Node) → is_more node ≡ true → is_bare node ≡ false
+pub more_some : (node : inline.Node) → is_more node ≡ true → is_bare node ≡ false
 more_some empty h = absurd (false≢true h)
 more_some (alias n) h = refl
 more_some (scalar p) h = refl

@@ -12,7 +12,7 @@ use Rattle.yq_scalar.specs.Text.{is_empty, is_feed}
 use Rattle.yq_inline.specs.Inline.{depth_limit}
 use Rattle.yq_inline.specs.Nodes.{Node, empty, alias, scalar, coll, anchored, node_text, items_text, IsNode}
 use Rattle.yq_inline.specs.Scalars.{IsScalar, is_quoted, begins_scalar}
-use Rattle.yq_inline.proofs.NodeAgain.{is_anchored}
+use Rattle.yq_inline.proofs.NodeAgain.{is_anchored, takes_unanchored}
 use Rattle.yq_inline.proofs.PieceLaws.{front_not, scalar_begins, scalar_some}
 use Rattle.yq_rows.specs.Grammar.{Limit, AreRows, IsRow, IsMark, IsContent, AreDashes, is_plain}
 use Rattle.yq_rows.specs.Rows as rows
@@ -22,7 +22,6 @@ use Rattle.yq_documents.specs.Documents.{has_lines, is_long_plain}
 use Rattle.yq_documents.specs.Reading.{has_short_root}
 use Rattle.yq_documents.specs.FitReading.{is_plain_head, is_long}
 use Rattle.yq_documents.specs.PartReading.{HasRows}
-use Rattle.yq_documents.proofs.HeadLaws.{no_anchor}
 use Rattle.yq_documents.proofs.RowLineLaws.{colon_some}
 
 or_none : (x : Bool) → not (x || false) ≡ not x
@@ -57,7 +56,7 @@ plain_is n empty rest h = refl
 plain_is n (alias name) rest h = unnamed_plain n (alias name) rest refl h
 plain_is n (scalar p) rest h = unnamed_plain n (scalar p) rest refl h
 plain_is n (coll k g is) rest h = unnamed_plain n (coll k g is) rest refl h
-plain_is n (anchored name g node) rest h = unnamed_plain n node rest (no_anchor node h.3) h.4
+plain_is n (anchored name g node) rest h = unnamed_plain n node rest (takes_unanchored node h.3) h.4
 
 -- the breaks of a node, by its pieces
 abbrev broken : List ℕ → List ℕ → List ℕ → Bool

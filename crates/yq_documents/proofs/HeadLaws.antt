@@ -16,11 +16,11 @@ use Rattle.yq_scalar.specs.Scalar.{plain_of}
 use Rattle.yq_scalar.specs.Text.{is_empty}
 use Rattle.yq_scalar.proofs.BlockLaws.{block_again}
 use Rattle.yq_inline.specs.Inline.{depth_limit, IsInlineAt}
-use Rattle.yq_inline.specs.Nodes.{Node, empty, alias, scalar, coll, anchored, node_text, items_text, is_bare, takes_anchor, IsNode}
+use Rattle.yq_inline.specs.Nodes.{Node, empty, alias, scalar, coll, anchored, node_text, items_text, is_bare, IsNode}
 use Rattle.yq_inline.specs.Places.{placed, mapping, sequence, Parts, holder, locate, locate_items}
 use Rattle.yq_inline.specs.Scalars.{IsScalar, is_quoted, begins_scalar, scalar_of}
 use Rattle.yq_inline.specs.Trees.{scalar_node, placed_tree, tree_of, node_head}
-use Rattle.yq_inline.proofs.NodeAgain.{is_anchored}
+use Rattle.yq_inline.proofs.NodeAgain.{is_anchored, takes_unanchored}
 use Rattle.yq_inline.proofs.InlineLaws.{inline_again}
 use Rattle.yq_inline.proofs.PieceLaws.{front_not, scalar_begins, scalar_some}
 use Rattle.yq_inline.proofs.TreeLaws.{node_tree}
@@ -132,13 +132,6 @@ unnamed_is whole n (coll k g is) rest a ends h =
     by_node whole n (node_text (coll k g is) []) (node_text (coll k g is) rest) refl o.0 o.1 ∙ node_again whole n (coll k g is) rest refl refl ends h
 unnamed_is whole n (anchored name g node) rest a ends h = absurd (false≢true (sym a))
 
-pub no_anchor : (node : Node) → takes_anchor node ≡ true → is_anchored node ≡ false
-no_anchor empty h = refl
-no_anchor (alias n) h = refl
-no_anchor (scalar p) h = refl
-no_anchor (coll k g is) h = refl
-no_anchor (anchored n g node) h = absurd (false≢true h)
-
 written_is : (whole : List ℕ) (n : ℤ) (node : Node) (rest : List ℕ) → is_anchored node ≡ false → EndsIn whole (node_text node [] ++ rest) → IsNode false (Some (deeper n)) depth_limit node rest →
     head_at whole n (node_text node []) (node_text node [] ++ rest) ≡ fitting (has_fit_keys node) (node_head node)
 written_is whole n node rest a ends h =
@@ -151,7 +144,7 @@ node_is whole n empty rest ends h = by_nothing whole n rest
 node_is whole n (alias name) rest ends h = written_is whole n (alias name) rest refl ends h
 node_is whole n (scalar p) rest ends h = written_is whole n (scalar p) rest refl ends h
 node_is whole n (coll k g is) rest ends h = written_is whole n (coll k g is) rest refl ends h
-node_is whole n (anchored name g node) rest ends h = written_is whole n node rest (no_anchor node h.3) ends h.4
+node_is whole n (anchored name g node) rest ends h = written_is whole n node rest (takes_unanchored node h.3) ends h.4
 
 -- a block scalar's
 pub block_marks : (style : BlockStyle) (t : List ℕ) → begins_block (mark_of style ∷ t) ≡ true

@@ -32,7 +32,7 @@ pub record First (n : ℕ) (ss : List Slices) (t : List ℕ) (s : Slices) (other
   pub fit : have_fit_keys g.rows ≡ (row_fits row.row && have_fit_keys more.rows)
   pub flows : (total : ℕ) → rows_flows total g.rows (g.end ++ g.rest) ≡ row_flows total row.row row.rest ++ rows_flows total more.rows (more.end ++ more.rest)
 
-and_assoc : (a b c : Bool) → (a && (b && c)) ≡ ((a && b) && c)
+pub and_assoc : (a b c : Bool) → (a && (b && c)) ≡ ((a && b) && c)
 and_assoc true b c = refl
 and_assoc false b c = refl
 

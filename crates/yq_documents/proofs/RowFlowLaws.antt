@@ -11,7 +11,7 @@ use Rattle.yq_inline.specs.Inline.{depth_limit, IsInlineAt}
 use Rattle.yq_inline.specs.Nodes.{Node, empty, alias, scalar, coll, anchored, node_text, items_text, is_bare, IsNode}
 use Rattle.yq_inline.specs.Places.{Placed, locate}
 use Rattle.yq_inline.proofs.InlineLaws.{inline_again}
-use Rattle.yq_inline.proofs.NodeAgain.{is_anchored}
+use Rattle.yq_inline.proofs.NodeAgain.{is_anchored, takes_unanchored}
 use Rattle.yq_inline.proofs.WrittenLaws.{node_then}
 use Rattle.yq_lines.specs.Comments as comments
 use Rattle.yq_rows.specs.Grammar.{IsContent, Limit, IsRow}
@@ -25,7 +25,7 @@ use Rattle.yq_documents.specs.Lines.{tail_of, mark_line, lines_from}
 use Rattle.yq_lines.specs.Outline.{Line}
 use Rattle.yq_documents.specs.RowReading.{is_short_plain, begins_block, Begun, dashes_at, from_head, HasRow}
 use Rattle.yq_lines.specs.View.{views, head_flow, flows}
-use Rattle.yq_documents.proofs.HeadLaws.{ends_drop, head_text, no_anchor, opens, block_marks, scalar_some_is}
+use Rattle.yq_documents.proofs.HeadLaws.{ends_drop, head_text, opens, block_marks, scalar_some_is}
 use Rattle.yq_documents.proofs.RowLineLaws.{finish, dashes_are}
 
 -- an inline node that is read
@@ -101,7 +101,7 @@ node_is whole n empty rest ends h = by_nothing whole n rest ∙ empty_none (leng
 node_is whole n (alias name) rest ends h = written_is whole n (alias name) rest refl ends h
 node_is whole n (scalar p) rest ends h = written_is whole n (scalar p) rest refl ends h
 node_is whole n (coll k g is) rest ends h = written_is whole n (coll k g is) rest refl ends h
-node_is whole n (anchored name g node) rest ends h = written_is whole n node rest (no_anchor node h.3) ends h.4
+node_is whole n (anchored name g node) rest ends h = written_is whole n node rest (takes_unanchored node h.3) ends h.4
 
 -- that of a row's content
 head_is : (whole : List ℕ) (n : ℤ) (c : Content) (rest : List ℕ) → EndsIn whole (head_text c rest) → IsContent n c rest → head_flow_at whole n (content_cut c).3 (head_text c rest) ≡ kept (locate (length whole) (content_core c) (tail_of c ++ rest))
@@ -111,7 +111,7 @@ head_is whole n (Block space anchor block) rest ends h =
     by_block whole n (mark_of block.style ∷ block.indicators) (head_text (Block space anchor block) rest) refl (block_marks block.style block.indicators) ∙ empty_none (length whole) (block.tail ++ rest)
 
 -- how many lines a row's dashes are
-lines_count : (above : List (List ℕ)) (column : ℕ) (ns : List ℕ) (m : rows.Mark) (c : Content) → length (lines_from above column ns m c) ≡ suc (length ns)
+pub lines_count : (above : List (List ℕ)) (column : ℕ) (ns : List ℕ) (m : rows.Mark) (c : Content) → length (lines_from above column ns m c) ≡ suc (length ns)
 lines_count above column [] m c = refl
 lines_count above column (n ∷ ns) m c = ap suc (lines_count [] (suc (column + n)) ns m c)
 

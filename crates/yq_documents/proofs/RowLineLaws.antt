@@ -52,7 +52,7 @@ anchor_is (Inline space (anchored name g node) tail) = refl
 anchor_is (Block space None block) = refl
 anchor_is (Block space (Some a) block) = refl
 
-tail_is : (c : Content) → (content_cut c).4 ≡ tail_of c
+pub tail_is : (c : Content) → (content_cut c).4 ≡ tail_of c
 tail_is (Nothing tail) = refl
 tail_is (Inline space node tail) = refl
 tail_is (Block space anchor block) = refl
@@ -89,7 +89,7 @@ unfolding dashes_at
 spaces_on zero lines gap column t = ap (λ n. dashes_at lines gap n t) (omega arith)
 spaces_on (suc k) lines gap column t = spaces_on k lines gap (suc column) t ∙ ap (λ n. dashes_at lines gap n t) (omega arith)
 
-no_comments : comments.head_comment [] ≡ []
+pub no_comments : comments.head_comment [] ≡ []
 unfolding lines_of
 no_comments = refl
 

@@ -69,7 +69,7 @@ appended_last x key m h some fits =
     let l = add_local i.inner_depth c.close key m c.items c.rest i.closes some i.items f in
     edited x (appending_last key m c) (append_child (inner (key_content key)) (tree_of m)) i (l.front c.gap i.gap) l.are (add_tree key m c.items some) (behind_gap c.close c.gap c.items (add_last key m c.items) c.rest _ _ _ l.text)
 
-none_is : (is : Items) → is_none is ≡ true → is ≡ none
+pub none_is : (is : Items) → is_none is ≡ true → is ≡ none
 none_is none h = refl
 none_is (item key n sep is) h = absurd (false≢true h)
 

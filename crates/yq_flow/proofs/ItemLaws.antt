@@ -93,7 +93,7 @@ cons_local d k key n (comma b g) (item key2 n2 sep2 is) new rest old fresh_ behi
       text = becomes_same _ _ _ _ old fresh_ behind (item_cut key n (comma b g) t) (item_cut key n (comma b g) u) (put_before (key_text key (node_text n (sep_text (comma b g) []))) t u old fresh_ behind l.text);
     }
 
-some_items : (k : ℕ) (s : Step) (is : Items) (rest : List ℕ) (y : EntryPieces) → item_at k s is rest ≡ Some y → is_none is ≡ false
+pub some_items : (k : ℕ) (s : Step) (is : Items) (rest : List ℕ) (y : EntryPieces) → item_at k s is rest ≡ Some y → is_none is ≡ false
 some_items k s none rest y h = cc
 some_items k s (item key n sep is) rest y h = refl
 

@@ -20,6 +20,7 @@ use Rattle.yq_flow.proofs.PlacedAmong.{prior, begin_of, first_placed, among_plac
 use Rattle.yq_flow.proofs.PlacedRemovals.{space_placed, comma_part, comma_placed}
 use Rattle.yq_flow.proofs.RemoveLaws.{several_some}
 use Rattle.yq_inline.proofs.WrittenLaws.{items_append}
+use Rattle.yq_flow.proofs.ItemLaws.{some_items}
 
 open_feed : (k : ℕ) → is_feed (open_of k) ≡ false
 open_feed k = elim (eqb k 125) as (λ c. is_feed (cond c 123 91) ≡ false) [ true ↦ refl | false ↦ refl ]
@@ -121,10 +122,6 @@ sole_prior total k s (item key n sep none) rest y h one = go (is_here s (inner (
   go false e = cc
 sole_prior total k s (item key n sep (item key2 n2 sep2 is)) rest y h one = absurd (false≢true (sym one))
 
-items_some : (k : ℕ) (s : Step) (is : Items) (rest : List ℕ) (y : EntryPieces) → item_at k s is rest ≡ Some y → is_none is ≡ false
-items_some k s none rest y h = cc
-items_some k s (item key n sep is) rest y h = refl
-
 -- an item or entry of a collection
 part_removed : (d k : ℕ) (g : List ℕ) (s : Step) (is : Items) (rest : List ℕ) (y : EntryPieces) (t w : List ℕ) → is_close k ≡ true → AreItems d k is rest → item_at k s is rest ≡ Some y → t ≡ w ++ (open_of k ∷ (g ++ items_text k is rest)) →
     remove_part t (record { start = length t - length (coll_text k g is rest); end = length t - length rest; lead = open_of k ∷ (k ∷ []) }) s (locate_items (length t) k is rest) ≡ Some (place_edit (length t) (removing s (record { close = k; gap = g; items = is; rest = rest })))
@@ -146,7 +143,7 @@ part_removed d k g s is rest y t w c a found text = (λ i. remove_among t whole 
   start = total - length (pieces_text y)
 
   first : first_start (locate_items total k is rest) ≡ Some from
-  first = first_placed total k is rest ∙ begin_some total k is rest (items_some k s is rest y found)
+  first = first_placed total k is rest ∙ begin_some total k is rest (some_items k s is rest y found)
 
   behind_next : has_next s is ≡ true → remove_from t whole from start (total - length y.rest) (prior total k None s is rest) (begin_of total k (items_behind s is) rest) ≡ place_edit total (removing_before s pieces)
   behind_next more =

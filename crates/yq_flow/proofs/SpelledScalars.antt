@@ -3,7 +3,6 @@ use Rattle.std.proofs.Common.{◌≡◌, ℕ, Bool, true, false, cond, not, ◌&
 use Rattle.std.proofs.Math.Bool.{and-false}
 use Rattle.std.proofs.lemmas.Bool.{false≢true, cond_both, or_cases, and_parts, not-true, or_parts}
 use Rattle.yq_scalar.specs.declared.kind.Kind.{Kind}
-use Rattle.yq_scalar.specs.declared.kind.Kind.TheVariants as kinds
 use Rattle.yq_scalar.specs.declared.style.Style.TheVariants as styles
 use Rattle.yq_scalar.specs.ContentReading.{within, broken, content_on}
 use Rattle.yq_scalar.specs.Plain.{ends_plain, holds_break, is_indicator, is_flow_indicator}
@@ -16,7 +15,7 @@ use Rattle.yq_scalar.specs.Text.{is_white, is_feed, is_return, is_break, front}
 use Rattle.yq_scalar.specs.Writable.{can_write_plain, is_string}
 use Rattle.yq_scalar.specs.Written.{written, double}
 use Rattle.yq_scalar.proofs.ContentLaws.{quoted_content_is}
-use Rattle.yq_scalar.proofs.PlainSpells.{plain_line, plain_opens, writable_text, writable_same, writable_piece}
+use Rattle.yq_scalar.proofs.PlainSpells.{plain_line, plain_opens, writable_text, writable_same, writable_piece, string_kind}
 use Rattle.yq_scalar.proofs.PlainWritten.{plain_text_parts}
 use Rattle.yq_scalar.proofs.WrittenLaws.{double_spells}
 use Rattle.yq_scalar.proofs.WrittenText.{line_holds, double_is_line}
@@ -94,14 +93,6 @@ plain_unquoted s v h = plain_opens is_quote s.text quote_indicates refl (plain_t
 plain_text : (s : ScalarText) → IsValid s → can_write_plain s true ≡ true → content_on 0 0 within [] s.text ≡ s.text
 plain_text s v h = line_on [] s.text (plain_line true s.text v.utf8 (writable_text s.kind s.text true v.kind h))
 
--- the kind of a string
-pub kind_is : (k : Kind) → is_string k ≡ true → k ≡ kinds.Text
-kind_is kinds.Null h = absurd (false≢true h)
-kind_is kinds.Bool h = absurd (false≢true h)
-kind_is kinds.Int h = absurd (false≢true h)
-kind_is kinds.Float h = absurd (false≢true h)
-kind_is kinds.Text h = refl
-
 string_by : (string other : Bool) → (not string || other) ≡ false → string ≡ true
 string_by true other h = refl
 string_by false other h = absurd (false≢true (sym h))
@@ -109,7 +100,7 @@ string_by false other h = absurd (false≢true (sym h))
 -- what else is quoted is a string
 quoted_string : (s : ScalarText) → can_write_plain s true ≡ false → string_of s.text ≡ s
 unfolding can_write_plain
-quoted_string s h = ap (λ (k : Kind). record { kind = k; text = s.text }) (sym (kind_is s.kind (string_by (is_string s.kind) _ h)))
+quoted_string s h = ap (λ (k : Kind). record { kind = k; text = s.text }) (sym (string_kind s.kind (string_by (is_string s.kind) _ h)))
 
 -- a written scalar stands for its scalar, and is one wherever a plain one may end
 pub record IsWritten (s : ScalarText) (p : List ℕ) : Type 0 where

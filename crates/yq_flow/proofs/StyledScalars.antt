@@ -14,17 +14,17 @@ use Rattle.yq_scalar.specs.Text.{front}
 use Rattle.yq_scalar.specs.Writable.{can_write, can_write_plain, is_string, is_single_char}
 use Rattle.yq_scalar.specs.Written.{written, single, double, IsInline}
 use Rattle.yq_scalar.proofs.ContentLaws.{quoted_content_is}
-use Rattle.yq_scalar.proofs.PlainSpells.{plain_line, plain_is_text, plain_opens, writable_text, writable_same, writable_piece}
+use Rattle.yq_scalar.proofs.PlainSpells.{plain_line, plain_is_text, plain_opens, writable_text, writable_same, writable_piece, string_kind}
 use Rattle.yq_scalar.proofs.PlainWritten.{plain_text_parts}
 use Rattle.yq_scalar.proofs.WrittenLaws.{double_spells, single_spells}
 use Rattle.yq_scalar.proofs.WrittenText.{line_holds, line_is_text, double_is_line, single_is_line}
 use Rattle.yq_inline.specs.Scalars.{is_quoted, has_its_lines, scalar_of}
 use Rattle.yq_flow.specs.Valued.{IsValid, SpellsScalar}
-use Rattle.yq_flow.proofs.SpelledScalars.{line_on, quote_indicates, kind_is}
+use Rattle.yq_flow.proofs.SpelledScalars.{line_on, quote_indicates}
 
 -- a string is that of its text
 string_is : (s : ScalarText) → is_string s.kind ≡ true → string_of s.text ≡ s
-string_is s h = ap (λ k. record { kind = k; text = s.text }) (sym (kind_is s.kind h))
+string_is s h = ap (λ k. record { kind = k; text = s.text }) (sym (string_kind s.kind h))
 
 -- a plain scalar doesn't end at a quote
 no_quote : (spaces : Option ℕ) (rest : List ℕ) → ends_plain false spaces rest ≡ true → front (λ b. eqb b 39) rest ≡ false

@@ -27,7 +27,8 @@ use Rattle.yq_documents.specs.Lines.{content_anchor, head_of, lines_of, mark_lin
 use Rattle.yq_documents.specs.Reading.{outline_of, read_at, root_of}
 use Rattle.yq_documents.specs.Seats.{document_row, Seat, seat}
 use Rattle.yq_tree.proofs.FlowPieces.{head_tree}
-use Rattle.yq_tree.proofs.FlowPlaceLaws.{TakesSteps, mark_seat, middle}
+use Rattle.yq_tree.proofs.FlowPlaceLaws.{TakesSteps, mark_seat}
+use Rattle.yq_tree.proofs.FoundLines.{middle}
 use Rattle.yq_change.specs.LineRows.{IsSeat}
 use Rattle.yq_change.specs.Moved.{dash_lines}
 use Rattle.yq_change.proofs.FlowLineLaws.{head_takes, head_whole}

@@ -1,19 +1,19 @@
 -- The paths of operations in flow collections, and the roots that they leave.
 use Rattle.std.proofs.Common.{◌≡◌, inl, inr, ℕ, false, List, [], ◌∷◌, ◌++◌, Option, Some, None, option_map, option_and_then, refl, sym, ap, ◌∙◌, subst}
-use Rattle.std.proofs.lemmas.Bool.{false≢true, or_parts}
+use Rattle.std.proofs.lemmas.Bool.{or_parts}
 use Rattle.std.proofs.lemmas.Option.{none-some, same_Some}
-use Rattle.yq_meaning.proofs.PathLaws.{bytes_refl}
 use Rattle.std.specs.List.{list_any}
-use Rattle.std.specs.Str.{bytes_eq}
 use Rattle.yq_scalar.specs.Paths.{Step, change, child_at, node_at, remove_child, within}
 use Rattle.yq_scalar.specs.Tree.{Node, children_of}
 use Rattle.yq_scalar.specs.Anchors.{Name, Anchors, Refers, IsAmong, names_of}
+use Rattle.yq_scalar.proofs.Bools.{or_false}
 use Rattle.yq_documents.specs.TreeEdits.{at_end}
 use Rattle.yq_change.specs.Conditions.{AreSpared, anchors_in, aliases_in}
 use Rattle.yq_change.specs.SoundRoots.{IsSoundRoot}
 use Rattle.yq_change.proofs.AfterLaws.{end_is_change}
 use Rattle.yq_change.proofs.SoundRootLess.{remove_keeps}
 use Rattle.yq_meaning.specs.Changes.{refers_to, is_used, is_used_in}
+use Rattle.yq_ways.proofs.FitLaws.{none_refers}
 use Rattle.yq_flow_ways.specs.FlowWays.{last_step}
 
 -- ---- the last step of a path
@@ -45,17 +45,11 @@ above_is (t ∷ init) s root n e = go (child_at t (children_of root)) refl e (λ
 
 -- ---- anchors that nobody names
 
-not_referred : (a : List ℕ) (names : List Name) → list_any (refers_to a) names ≡ false → IsAmong a (aliases_in names) → ⊥
-not_referred a [] e h = h
-not_referred a (Anchors b ∷ names) e h = not_referred a names e h
-not_referred a (Refers b ∷ names) e (inl same) = let x = or_parts (bytes_eq a b) (list_any (refers_to a) names) e in false≢true (sym x.0 ∙ (ap (bytes_eq a) (sym same) ∙ bytes_refl a))
-not_referred a (Refers b ∷ names) e (inr h) = let x = or_parts (bytes_eq a b) (list_any (refers_to a) names) e in not_referred a names x.1 h
-
 not_used : (a : List ℕ) (gone names : List Name) → list_any (is_used names) gone ≡ false → IsAmong a (anchors_in gone) → IsAmong a (aliases_in names) → ⊥
 not_used a [] names e h r = h
 not_used a (Refers b ∷ gone) names e h r = not_used a gone names e h r
 not_used a (Anchors b ∷ gone) names e (inl same) r =
-    let x = or_parts (list_any (refers_to b) names) (list_any (is_used names) gone) e in not_referred b names x.0 (subst (λ (c : List ℕ). IsAmong c (aliases_in names)) same r)
+    let x = or_parts (list_any (refers_to b) names) (list_any (is_used names) gone) e in none_refers b names x.0 (subst (λ (c : List ℕ). IsAmong c (aliases_in names)) same r)
 not_used a (Anchors b ∷ gone) names e (inr h) r = let x = or_parts (list_any (refers_to b) names) (list_any (is_used names) gone) e in not_used a gone names x.1 h r
 
 pub spared_of : (gone names : List Name) → list_any (is_used names) gone ≡ false → AreSpared gone [] names

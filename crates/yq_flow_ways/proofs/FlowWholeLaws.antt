@@ -11,7 +11,7 @@ use Rattle.yq_flow.specs.FlowEdits.{FitsItem, behind_appended, behind_last, cont
 use Rattle.yq_inline.specs.Nodes.{bare, Node, empty, alias, scalar, coll, anchored, Items, none, item, key_text, sep_text, node_text, items_text, is_close, is_bare, AreItems, IsNode, open_of}
 use Rattle.yq_flow.specs.Removals.{ends_return}
 use Rattle.yq_inline.specs.Trees.{inner, key_content}
-use Rattle.yq_flow.proofs.EditLaws.{Around, around_is}
+use Rattle.yq_flow.proofs.EditLaws.{Around, around_is, none_is}
 use Rattle.yq_flow.proofs.EditWholes.{whole_front}
 use Rattle.yq_flow.proofs.ItemLaws.{item_begins, item_some}
 use Rattle.yq_flow.proofs.ItemSwaps.{item_cut}
@@ -109,10 +109,6 @@ bare_written (scalar p) e = absurd (false≢true e)
 bare_written (coll k gap is) e = absurd (false≢true e)
 bare_written (anchored m gap node) e = absurd (false≢true e)
 
-none_there : (is : Items) → is_none is ≡ true → is ≡ none
-none_there none h = refl
-none_there (item key n sep is) h = absurd (false≢true h)
-
 none_text : (k : ℕ) (rest : List ℕ) → items_text k none rest ≡ k ∷ rest
 unfolding items_text
 none_text k rest = refl
@@ -164,7 +160,7 @@ module _ (x : CollAt) (text : List ℕ) (h : IsCollAt x) where
   pub bracket_stands : is_none x.coll.items ≡ true → (front' : List ℕ) × (t ≡ front' ++ (open_of x.coll.close ∷ (x.coll.gap ++ (x.coll.close ∷ x.coll.rest))))
   bracket_stands e =
       let k : ℕ = x.coll.close in
-      let inside : items_text k x.coll.items x.coll.rest ≡ k ∷ x.coll.rest = ap (λ (j : Items). items_text k j x.coll.rest) (none_there x.coll.items e) ∙ none_text k x.coll.rest in (
+      let inside : items_text k x.coll.items x.coll.rest ≡ k ∷ x.coll.rest = ap (λ (j : Items). items_text k j x.coll.rest) (none_is x.coll.items e) ∙ none_text k x.coll.rest in (
         text ++ around.before,
         ap (λ (l : List ℕ). text ++ l) (around.text ∙ ap (λ (l : List ℕ). around.before ++ (open_of k ∷ (x.coll.gap ++ l))) inside) ∙ sym (append_assoc text around.before (open_of k ∷ (x.coll.gap ++ (k ∷ x.coll.rest)))),
       )

@@ -3,16 +3,17 @@ use Rattle.std.proofs.Common.{◌≡◌, ◌⊎◌, inl, inr, ℕ, List, ◌∷�
 use Rattle.std.proofs.lemmas.Option.{none-some, same_Some}
 use Rattle.std.specs.List.{slice_get}
 use Rattle.yq_scalar.specs.Paths.{Step, child_at, node_at}
-use Rattle.yq_scalar.specs.Tree.{Node, alias, scalar, list, map, Children, children_of}
-use Rattle.yq_lines.specs.Outline.{Mark, Bare, Key, Dash, Outline, end, row, anchored, children, collection, value}
+use Rattle.yq_scalar.specs.Tree.{Node, children_of}
+use Rattle.yq_lines.specs.Outline.{anchored, children, value}
 use Rattle.yq_lines.specs.Places.{Found, find_row, content}
 use Rattle.yq_lines.proofs.Finding.{row_child}
 use Rattle.yq_rows.specs.Rows.{Part, Cut, cut_text}
 use Rattle.yq_documents.specs.Documents.{document_parts}
 use Rattle.yq_tree.specs.FlowNodes.{find_head}
 use Rattle.yq_documents.specs.Reading.{outline_of, read_at, root_of}
-use Rattle.yq_change.specs.Siblings.{HasEntries, IsCollectionAt, IsEntry, IsEntryAt, NodeLines}
+use Rattle.yq_change.specs.Siblings.{IsCollectionAt, IsEntryAt, NodeLines}
 use Rattle.yq_change.proofs.EditedLaws.{lines_are_there}
+use Rattle.yq_change.proofs.RemovalChangeLaws.{children-anchored, children-value}
 use Rattle.yq_flow_ways.specs.FlowWays.{last_step}
 use Rattle.yq_flow_ways.proofs.CollectionCases.{collection_cases}
 use Rattle.yq_flow_ways.proofs.FlowServed.{InFlow, holds_child}
@@ -38,21 +39,6 @@ pub record InBlock (c : Cut) (doc : ℕ) (path : List Step) : Type 0 where
   pub found : Found
   pub is : IsEntryAt init step (outline_of part) lines found
 
-anchored_children : (a : Option (List ℕ)) (n : Node) → children_of (anchored a n) ≡ children_of n
-anchored_children a (alias name) = refl
-anchored_children a (scalar b kind text) = refl
-anchored_children a (list b cs) = refl
-anchored_children a (map b cs) = refl
-
-collection_children : (m : Mark) (cs : Children) → IsEntry m → children_of (collection m cs) ≡ cs
-collection_children Bare cs e = absurd e
-collection_children (Key k) cs e = refl
-collection_children Dash cs e = refl
-
-value_children : (o : Outline) → HasEntries o → children_of (value o) ≡ children o
-value_children end h = absurd h
-value_children (row l u v) h = collection_children l.mark (children (row l u v)) h
-
 line_there : (r : Option Found) (n : Node) → option_map (λ f. content f.line f.under) r ≡ Some n → (f : Found) × (r ≡ Some f)
 line_there None n e = absurd (none-some _ e)
 line_there (Some f) n e = (f, refl)
@@ -71,6 +57,6 @@ path_cases c doc first others h =
     go init s last old at child (inl y) = inl (record { read = h.read; part = h.part; there = h.there; init = init; step = s; last = last; line = y.0.0; rest = y.0.1; found = y.1; node = h.node; at = h.at })
     go init s last old at child (inr b) =
         let own : anchored b.0.anchor (value b.0.lines) ≡ old = same_Some _ _ (sym (lines_are_there init (outline_of h.part) b.0 b.1.place_is) ∙ at) in
-        let cs : children b.0.lines ≡ children_of old = sym (value_children b.0.lines b.1.block) ∙ (sym (anchored_children b.0.anchor (value b.0.lines)) ∙ ap children_of own) in
+        let cs : children b.0.lines ≡ children_of old = sym (children-value b.0.lines b.1.block) ∙ (sym (children-anchored b.0.anchor (value b.0.lines)) ∙ ap children_of own) in
         let f = line_there (find_row s b.0.lines) h.node (sym (row_child s b.0.lines) ∙ (ap (child_at s) cs ∙ child)) in
         inr (record { part = h.part; there = h.there; init = init; step = s; last = last; lines = b.0; found = f.0; is = record { place_is = b.1.place_is; block = b.1.block; found = f.1 } })

@@ -1,6 +1,5 @@
 -- A sole item or entry taken out by a way to replace nodes: an empty collection in the place of its own is what is left of that.
-use Rattle.std.proofs.Common.{◌≡◌, ℕ, zero, suc, ◌+◌, ◌-◌, ◌≤◌, cond, ltb, Bool, true, false, List, [], ◌∷◌, ◌++◌, length, map, take, Option, Some, None, option_map, option_and_then, refl, sym, ap, ◌∙◌, subst, arith, append-nil}
-use Rattle.std.proofs.Math.Seq.{take-append_seam}
+use Rattle.std.proofs.Common.{◌≡◌, ℕ, zero, suc, ◌+◌, ◌-◌, ◌≤◌, cond, ltb, Bool, true, false, List, [], ◌∷◌, ◌++◌, length, map, Option, Some, None, option_and_then, refl, sym, ap, ◌∙◌, subst, arith, append-nil}
 use Rattle.std.proofs.lemmas.Bool.{le-ltb, ltb-false}
 use Rattle.std.proofs.lemmas.Option.{none-some, same_Some}
 use Rattle.std.specs.List.{list_any, slice_get}
@@ -13,6 +12,7 @@ use Rattle.yq_scalar.specs.Tree as tree
 use Rattle.yq_scalar.specs.Tree.{Label, Node, Children, none, child, children_of}
 use Rattle.yq_scalar.proofs.Bools.{bind_some}
 use Rattle.yq_inline.specs.Inline.{depth_limit}
+use Rattle.yq_inline.proofs.Binds.{not_then}
 use Rattle.yq_flow.specs.Valued.{IsValueTree}
 use Rattle.yq_scalar.specs.Anchors.{Name, names_in, names_of}
 use Rattle.yq_lines.specs.Counts.{count}
@@ -21,9 +21,11 @@ use Rattle.yq_documents.specs.Documents.{Document, document_parts}
 use Rattle.yq_documents.specs.Reading.{documents, documents_of, read_at, root_of}
 use Rattle.yq_tree.specs.RemovalPlaces.{has_others_at, has_several}
 use Rattle.yq_documents.specs.TreeEdits.{at_end, change_nth, led, replaced}
+use Rattle.yq_tree.proofs.PlacedPartLaws.{map_some}
 use Rattle.yq_change.proofs.AfterLaws.{end_is_change}
 use Rattle.yq_change.proofs.PartLaws.{document_known}
 use Rattle.yq_change.proofs.SoundRootLaws.{depth_at}
+use Rattle.yq_change.proofs.RemovalChangeLaws.{take_init}
 use Rattle.yq_meaning.specs.After.{done_to, root_after}
 use Rattle.yq_meaning.specs.Changes.{has_long_key, is_deep, is_used, is_used_in}
 use Rattle.yq_meaning.specs.Fits.{Fits, IsBelow}
@@ -151,28 +153,15 @@ record IsEmptying (doc : ℕ) (steps : List Step) (c : Cut) (r : Operation) : Ty
   empty : IsEmptied old new
   is : replace doc init new ≡ r
 
-guard_else : {A : Type 0} {x : Option A} {y : A} (b : Bool) → cond b None x ≡ Some y → (b ≡ false) × (x ≡ Some y)
-guard_else true h = absurd (none-some _ h)
-guard_else false h = (refl, h)
-
-mapped : {A B : Type 0} (f : A → B) (x : Option A) (y : B) → option_map f x ≡ Some y → (a : A) × (x ≡ Some a) × (f a ≡ y)
-mapped f None y e = absurd (none-some _ e)
-mapped f (Some a) y e = (a, refl, same_Some _ _ e)
-
 emptying_is : (doc : ℕ) (steps : List Step) (c : Cut) (r : Operation) → emptying (remove doc steps) c ≡ Some r → IsEmptying doc steps c r
-emptying_is doc steps c r h = let g = guard_else (has_others_at doc steps c) h in go g.0 (last_step steps) refl g.1
+emptying_is doc steps c r h = let g = not_then (has_others_at doc steps c) h in go g.0 (last_step steps) refl g.1
   where
     go : has_others_at doc steps c ≡ false → (o : Option (List Step × Step)) → last_step steps ≡ o → emptying_at doc c o ≡ Some r → IsEmptying doc steps c r
     go others None last e = absurd (none-some _ e)
     go others (Some x) last e =
-        let m = mapped (replace doc x.0) (node_in doc x.0 c >>= emptied) r e in
+        let m = map_some (replace doc x.0) (node_in doc x.0 c >>= emptied) r e in
         let o = bind_some (node_in doc x.0 c) m.1 in
         record { others = others; init = x.0; step = x.1; steps_are = last_is steps x.0 x.1 last; old = o.0; there = o.1; new = m.0; empty = is_emptied o.0 m.0 o.2; is = m.2 }
-
-take_init : (ss : List Step) (s : Step) → take (length (ss ++ (s ∷ [])) - 1) (ss ++ (s ∷ [])) ≡ ss
-take_init ss s =
-    let size : length (ss ++ (s ∷ [])) - 1 ≡ length ss = omega (arith, Rattle.std.proofs.Common.length-append ss (s ∷ [])) in
-    ap (λ (n : ℕ). take n (ss ++ (s ∷ []))) size ∙ take-append_seam ss (s ∷ [])
 
 -- What is known of a removal that fits and of the operation that stands for it.
 record StandsFor (doc : ℕ) (init : List Step) (s : Step) (v : Node) (c : Cut) : Type 0 where

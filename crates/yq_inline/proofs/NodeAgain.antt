@@ -139,7 +139,7 @@ is_anchored (scalar p) = false
 is_anchored (coll k g is) = false
 is_anchored (anchored n g node) = true
 
-takes_unanchored : (node : Node) → takes_anchor node ≡ true → is_anchored node ≡ false
+pub takes_unanchored : (node : Node) → takes_anchor node ≡ true → is_anchored node ≡ false
 takes_unanchored empty h = refl
 takes_unanchored (alias n) h = refl
 takes_unanchored (scalar p) h = refl

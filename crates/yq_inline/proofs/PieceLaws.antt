@@ -12,6 +12,7 @@ use Rattle.yq_scalar.proofs.Bools.{bind_some, chosen}
 use Rattle.yq_scalar.proofs.PlainLaws.{plain_takes, plain_again}
 use Rattle.yq_scalar.proofs.QuotedFound.{quoted_takes, quoted_again}
 use Rattle.yq_scalar.proofs.Upto.{upto_ends, none_in_cut, cut-append, cut_takes}
+use Rattle.yq_scalar.proofs.QuotedLaws.{of_quotes}
 use Rattle.yq_inline.specs.Gaps.{IsGap}
 use Rattle.yq_inline.specs.Nodes.{Key, bare, keyed, Sep, last, comma, key_text, sep_text, first_is, in_name, begins_node, IsApart, IsLead, IsName, ends_key, IsKey, IsSep, is_keyed}
 use Rattle.yq_inline.specs.Reading.{gap_at, scalar_at, with_its_lines, name_at, apart_at, lead_at, colon_at, key_at, sep_at, sep_behind}
@@ -49,11 +50,6 @@ no_space flow b bs h = not-true (is_space (b ∷ bs)) (and_parts _ _ h).0
 plain_no_end : (flow : Bool) (spaces : Option ℕ) (t : List ℕ) → begins_plain flow t ≡ true → ends_plain flow spaces t ≡ false
 plain_no_end flow spaces [] h = absurd (false≢true h)
 plain_no_end flow spaces (b ∷ bs) h = rw (no_space flow b bs h) (goes_on flow b bs h)
-
--- the quotes are two bytes
-of_quotes : (P : ℕ → Type 0) (q : ℕ) → (q ≡ 34) ⊎ (q ≡ 39) → P 34 → P 39 → P q
-of_quotes P q (inl e) double single = subst P (sym e) double
-of_quotes P q (inr e) double single = subst P (sym e) single
 
 -- scalars
 pub scalar_begins : (flow : Bool) (spaces : Option ℕ) (p rest : List ℕ) → IsScalar flow spaces p rest → begins_scalar flow (p ++ rest) ≡ true

@@ -25,7 +25,7 @@ pub record Known {X : Type 0} (m : BTreeMap (Bor (List ℕ)) X) (names : List Na
   pub same : (q : List ℕ) → has m q ≡ list_any (bytes_eq q) known
   pub so_far : all ≡ are_bound known names
 
-equal_back : (a b : List ℕ) → bytes_eq a b ≡ bytes_eq b a
+pub equal_back : (a b : List ℕ) → bytes_eq a b ≡ bytes_eq b a
 equal_back a b = go (bytes_eq a b) (bytes_eq b a) refl refl
   where
     go : (x y : Bool) → bytes_eq a b ≡ x → bytes_eq b a ≡ y → x ≡ y

@@ -52,7 +52,7 @@ node-anchored a s ss (map b cs) = refl
 abbrev pub FoundNode : Option (Found × List Step) → Option Node
 FoundNode r = option_and_then (λ x. node_at x.1 (content x.0.line x.0.under)) r
 
-children-collection : (m : Mark) (cs : Children) → IsEntry m → children_of (collection m cs) ≡ cs
+pub children-collection : (m : Mark) (cs : Children) → IsEntry m → children_of (collection m cs) ≡ cs
 children-collection Bare cs e = absurd e
 children-collection (Key k) cs e = refl
 children-collection Dash cs e = refl

@@ -1,11 +1,12 @@
 -- The comment lines that end lines, behind others, or where the lines are repaired.
-use Rattle.std.proofs.Common.{◌≡◌, ℕ, zero, suc, Bool, true, false, ◌&&◌, eqb, List, [], ◌∷◌, ◌++◌, Option, Some, None, refl, sym, ap, ◌∙◌, subst, ⊎_elim, replicate, eqb-true, drop}
+use Rattle.std.proofs.Common.{◌≡◌, ℕ, Bool, true, false, ◌&&◌, eqb, List, [], ◌∷◌, ◌++◌, Option, Some, None, refl, sym, ap, ◌∙◌, subst, ⊎_elim, replicate, eqb-true, drop}
 use Rattle.std.proofs.lemmas.Bool.{false≢true, cond_both, cond-true, cond-false, false_from_ne_true, and_parts, cases_Bool}
 use Rattle.yq_scalar.specs.Block.{Lines}
 use Rattle.yq_scalar.specs.BlockRepair.{AreGap, is_short, is_outside, repaired_blank, repaired_comment, repair}
 use Rattle.yq_scalar.specs.Lines.{is_hash, is_blank}
 use Rattle.yq_scalar.specs.Text.{upto, cut, is_white, ends_line, past_white}
 use Rattle.yq_scalar.proofs.SpaceLaws.{white_drop}
+use Rattle.yq_scalar.proofs.BlockRepairLaws.{white_front}
 use Rattle.yq_lines.specs.Comments.{less_space, comment_text, are_comments, with_text, last_comments}
 
 -- lines behind lines
@@ -38,10 +39,6 @@ comments_behind (l ∷ ls) ms h =
 -- a line with other white space in front
 same_line : (l x : List ℕ) (ls : Lines) → past_white x ≡ past_white l → last_comments (x ∷ ls) ≡ last_comments (l ∷ ls)
 same_line l x ls h = rw h refl
-
-white_front : (n : ℕ) (t : List ℕ) → past_white (replicate n 32 ++ t) ≡ past_white t
-white_front zero t = refl
-white_front (suc n) t = white_drop 32 (replicate n 32 ++ t) ∙ white_front n t
 
 past_again : (l : List ℕ) → past_white (past_white l) ≡ past_white l
 unfolding upto

@@ -1,12 +1,12 @@
 -- Where steps lead in what lines stand for, with the label there.
 use Rattle.std.proofs.Common.{◌≡◌, ℕ, List, [], ◌∷◌, Option, Some, None, option_map, option_and_then, refl, sym, ap, ◌∙◌, subst}
-use Rattle.yq_scalar.specs.Tree.{Node, alias, scalar, list, map, Children, children_of}
+use Rattle.yq_scalar.specs.Tree.{Node, alias, scalar, list, map, children_of}
 use Rattle.yq_scalar.specs.Paths.{Step}
 use Rattle.yq_lines.specs.Labelled.{Labelled, labelled_at, labelled_from}
 use Rattle.yq_lines.specs.Outline.{Mark, Bare, Key, Dash, Outline, end, row, anchored, head_or, collection, children, value}
 use Rattle.yq_lines.specs.Places.{here, Found, find_row, inside, bare_or, in_head, find}
 use Rattle.yq_lines.proofs.Allowing.{IsEntry}
-use Rattle.yq_lines.proofs.Finding.{entry_of, row_labelled}
+use Rattle.yq_lines.proofs.Finding.{entry_of, row_labelled, children-collection}
 use Rattle.yq_lines.proofs.Values.{If}
 
 -- where steps lead from a node
@@ -18,11 +18,6 @@ reach-anchored a s ss (alias n) = refl
 reach-anchored a s ss (scalar b k t) = refl
 reach-anchored a s ss (list b cs) = refl
 reach-anchored a s ss (map b cs) = refl
-
-children-collection : (m : Mark) (cs : Children) → IsEntry m → children_of (collection m cs) ≡ cs
-children-collection Bare cs e = absurd e
-children-collection (Key k) cs e = refl
-children-collection Dash cs e = refl
 
 abbrev pub FoundEntry : Option (Found × List Step) → Option Labelled
 FoundEntry r = option_and_then (λ x. labelled_from x.1 (entry_of x.0.line x.0.under)) r

@@ -9,6 +9,7 @@ use Rattle.yq_lines.specs.Names.{head_names, line_names, IsUnnamed, MayBeNamed, 
 use Rattle.yq_lines.specs.Outline.{Mark, Bare, Key, Dash, Line, Outline, end, row, flatten, IsOpen, IsWhole, IsEven, anchored, head_or, label, collection, children, value}
 use Rattle.yq_lines.proofs.Decides.{flatten-group, even_from}
 use Rattle.yq_lines.proofs.Parts.{drop_at}
+use Rattle.yq_lines.proofs.NodeLaws.{anchored_none}
 
 with-append : (a : Option (List ℕ)) (xs ys : List Name) → with_anchor a (xs ++ ys) ≡ with_anchor a xs ++ ys
 with-append None xs ys = refl
@@ -42,15 +43,9 @@ head_takes : (a : Option (List ℕ)) (h : Node) → IsUnnamed (Some h) → MayBe
 head_takes None h u m = tt
 head_takes (Some a) h u m = (m, u)
 
-unanchored : (n : Node) → anchored None n ≡ n
-unanchored (alias n) = refl
-unanchored (scalar b k t) = refl
-unanchored (list b cs) = refl
-unanchored (map b cs) = refl
-
 bare_takes : (x : List ℕ) (k : Option (List ℕ)) (h : Option Node) (v w : Outline) → MayTake Bare k h → IsUnnamed h → IsWhole Bare h w → NodeTakes (Some x) (anchored k (head_or h (value v)))
 bare_takes x None None v w take unnamed whole = absurd whole
-bare_takes x None (Some h) v w take unnamed whole = subst (NodeTakes (Some x)) (sym (unanchored h)) (take, unnamed)
+bare_takes x None (Some h) v w take unnamed whole = subst (NodeTakes (Some x)) (sym (anchored_none h)) (take, unnamed)
 bare_takes x (Some a) h v w take unnamed whole = absurd take
 
 collection_takes : (x : List ℕ) (m : Mark) (k : Option (List ℕ)) (h : Option Node) (v w : Outline) (lbl : Label) (cs : Children) → MayTake m k h → IsUnnamed h → IsWhole m h w →

@@ -34,7 +34,7 @@ head_parts : (d : ℕ) (h : Option Node) → head_is_sound d h ≡ (head_depth d
 head_parts d None = refl
 head_parts d (Some h) = refl
 
-depth-anchored : (a : Option (List ℕ)) (n : Node) → depth (anchored a n) ≡ depth n
+pub depth-anchored : (a : Option (List ℕ)) (n : Node) → depth (anchored a n) ≡ depth n
 depth-anchored a (alias n) = refl
 depth-anchored a (scalar b k t) = refl
 depth-anchored a (list b cs) = refl

@@ -14,6 +14,7 @@ use Rattle.yq_scalar.specs.Paths.{key_is}
 use Rattle.yq_scalar.specs.Tree as tree
 use Rattle.yq_scalar.specs.Tree.{Label, Node}
 use Rattle.yq_scalar.specs.Anchors.{Name, names_of}
+use Rattle.yq_lines.proofs.BoundLaws.{equal_back}
 use Rattle.yq_meaning.specs.Changes.{refers_to}
 use Rattle.yq_planning.specs.EntryNumbers.{number_kept}
 use Rattle.yq_planning.specs.Indexes.{text_at, HasAliases, kept_first}
@@ -25,15 +26,6 @@ Puts m n a v = maps.UpdatesBy (λ x y. slice_cmp nat_cmp x.now y.now) (λ k. sli
 -- what such a map has for a text
 pub put_text : {X : Type 0} (m n : BTreeMap (Bor (List ℕ)) X) (a : List ℕ) (v : X) → Puts m n a v → (k : List ℕ) → text_at k n ≡ cond (bytes_eq a k) (Some v) (text_at k m)
 put_text m n a v h k = btree_map_updates_str a m n (Some v) h k
-
-bytes_back : (a b : List ℕ) → bytes_eq a b ≡ bytes_eq b a
-bytes_back a b = go (bytes_eq a b) (bytes_eq b a) refl refl
-  where
-    go : (x y : Bool) → bytes_eq a b ≡ x → bytes_eq b a ≡ y → x ≡ y
-    go true true e f = refl
-    go true false e f = sym ((bytes_eq-Decides b a).1 (sym ((bytes_eq-Decides a b).0 e))) ∙ f
-    go false true e f = absurd (false≢true (sym e ∙ (bytes_eq-Decides a b).1 (sym ((bytes_eq-Decides b a).0 f))))
-    go false false e f = refl
 
 -- ---- entries
 
@@ -54,7 +46,7 @@ new_kept a k f label n h absent = go (bytes_eq a k) (f k) refl refl
 
 -- one more alias
 pub alias_put : {X : Type 0} (a k : List ℕ) (v : X) (o : Option X) (n : Node) → n ≡ tree.alias a → is_some (cond (bytes_eq a k) (Some v) o) ≡ (is_some o || list_any (refers_to k) (names_of n))
-alias_put {X} a k v o n is = go (bytes_eq a k) (bytes_eq k a) (bytes_back a k) o ∙ ap (λ (m : Node). is_some o || list_any (refers_to k) (names_of m)) (sym is)
+alias_put {X} a k v o n is = go (bytes_eq a k) (bytes_eq k a) (equal_back a k) o ∙ ap (λ (m : Node). is_some o || list_any (refers_to k) (names_of m)) (sym is)
   where
     go : (b c : Bool) → b ≡ c → (o : Option X) → is_some (cond b (Some v) o) ≡ (is_some o || (c || false))
     go true true e None = refl

@@ -37,11 +37,12 @@ use Rattle.yq_change.proofs.EndedRowLaws.{rows_ended, rows_then}
 use Rattle.yq_change.proofs.FirstBreakLaws.{IsOneBreak, lines_break, rows_break, break_tail, break_apart, break_bare}
 use Rattle.yq_change.proofs.PartLaws.{document_known}
 use Rattle.yq_change.proofs.PlacedPartLaws.{document_stands_at}
-use Rattle.yq_change.proofs.TextPieceLaws.{pieces_joined, text_is_piece, line_cut}
+use Rattle.yq_change.proofs.TextPieceLaws.{pieces_joined, text_is_piece}
+use Rattle.yq_change.proofs.RemovalPieceLaws.{spaces_piece, seam_pieces}
 use Rattle.yq_ways.proofs.AppendAtEnd.{nothing_tail}
 use Rattle.yq_ways.proofs.AppendEntryLaws.{none_quiet}
 use Rattle.yq_ways.proofs.BreakLaws.{last_is}
-use Rattle.yq_ways.proofs.CommentPieceLaws.{nothing, spaces_piece, break_piece}
+use Rattle.yq_ways.proofs.CommentPieceLaws.{nothing, break_piece}
 use Rattle.yq_root_ways.proofs.RootReadLaws.{TakesValue}
 use Rattle.yq_root_ways.proofs.RootRows.{HasRoom}
 
@@ -178,12 +179,6 @@ pub block_root : (n : ℕ) (c : Cut) (w : RootPlace) (old : List ℕ) → read_a
 block_root n c w old read at is = let d = bind_some (placed_document n c) at in block_root_at n c w old d.0 read d.1 d.2 is
 
 -- ---- a value may come there
-
-pub seam_pieces : (a b : List ℕ) → LineSeam a b → IsPiece (a ++ b) → IsPiece a × IsPiece b
-seam_pieces a b (inl e) h = (subst IsPiece (sym e) nothing, subst (λ x. IsPiece (x ++ b)) e h)
-seam_pieces a b (inr (inl lf)) h =
-    subst (λ x. IsPiece x × IsPiece b) (sym lf.1) (line_cut lf.0 b (subst (λ x. IsPiece (x ++ b)) lf.1 h))
-seam_pieces a b (inr (inr e)) h = (subst IsPiece (append-nil a) (subst (λ x. IsPiece (a ++ x)) e h), subst IsPiece (sym e) nothing)
 
 end_seam : (a b c : List ℕ) → Ended b c → LineSeam (a ++ b) c
 end_seam a b c (inl lf) = inr (inl (append_lf a b lf))

@@ -5,10 +5,6 @@ use Rattle.yq_scalar.specs.Text.{is_empty, is_feed, is_line}
 use Rattle.yq_root_ways.specs.RootWriting.{is_closed_text}
 use Rattle.yq_ways.proofs.BreakLaws.{IsLfOrCrLf}
 
-pub front_some : (p t : List ℕ) → is_empty p ≡ false → is_empty (p ++ t) ≡ false
-front_some [] t h = absurd (false≢true (sym h))
-front_some (b ∷ p) t h = refl
-
 -- the end of a text tells
 pub closed_behind : (a b : List ℕ) → is_empty b ≡ false → is_closed_text (a ++ b) ≡ is_closed_text b
 unfolding is_closed_text

@@ -10,11 +10,13 @@ use Rattle.yq_rows.specs.Gap.{IsComment, IsGapLine, AreGapLines, IsGap}
 use Rattle.yq_rows.proofs.CharacterLaws.{pairs_back}
 use Rattle.yq_rows.proofs.NothingLaws.{line_end_other}
 use Rattle.yq_rows.proofs.seams.GapFronts.{gap_lines}
+use Rattle.yq_rows.proofs.GapLaws.{some_more}
 use Rattle.yq_change.proofs.EndLaws.{comment_is}
 use Rattle.yq_root_ways.specs.RootWriting.{is_closed_text}
 use Rattle.yq_ways.proofs.BreakLaws.{break_is as break_kind}
-use Rattle.yq_ways.proofs.BrokenTails.{break_is, comment_other}
-use Rattle.yq_root_ways.proofs.ClosedTexts.{closed_behind, closed_end, front_some}
+use Rattle.yq_ways.proofs.BrokenTails.{comment_other}
+use Rattle.yq_ways.proofs.CommentReadLaws.{break_is}
+use Rattle.yq_root_ways.proofs.ClosedTexts.{closed_behind, closed_end}
 
 -- lines, of which the last one gets a break
 abbrev pub broken_lines : List (List ℕ) → List ℕ → List (List ℕ)
@@ -56,7 +58,7 @@ module _ (l : List ℕ) (h : IsGapLine l []) (open' : is_closed_text l ≡ false
     white = h.white;
     comment = h.comment;
     line = record { break = break_text br; spelled = spelled; blank = h.line.blank; remark = remark; ends = inl (break_is br) };
-    some = front_some l (break_text br) h.some;
+    some = some_more l (break_text br) h.some;
   }
 
   pub same_text : comment_text (l ++ break_text br) ≡ comment_text l
@@ -87,17 +89,17 @@ lines_broken l [] x br h open' pairs =
       ap (λ b. b && true) marks,
     )
 lines_broken l (k ∷ ls) x br h open' pairs =
-    let some : is_empty (joined (k ∷ ls)) ≡ false = front_some k (joined ls) h.1.0.some in
+    let some : is_empty (joined (k ∷ ls)) ≡ false = some_more k (joined ls) h.1.0.some in
     let own : is_closed_text (joined (k ∷ ls)) ≡ false = sym (closed_behind l (joined (k ∷ ls)) some) ∙ open' in
     let w = lines_broken k ls x br h.1 own (pairs_back l (joined (k ∷ ls)) pairs) in
     let all : are_comments (l ∷ broken_lines (k ∷ ls) (break_text br)) ≡ are_comments (l ∷ (k ∷ ls)) = ap (λ b. front (λ b. eqb b 35) (past_white l) && b) w.2 in
     let more : is_empty (joined (broken_lines (k ∷ ls) (break_text br)) ++ x) ≡ false =
-    ap (λ t. is_empty (t ++ x)) (joined_broken k ls (break_text br)) ∙ front_some (joined (k ∷ ls) ++ break_text br) x (front_some (joined (k ∷ ls)) (break_text br) some) in (
+    ap (λ t. is_empty (t ++ x)) (joined_broken k ls (break_text br)) ∙ some_more (joined (k ∷ ls) ++ break_text br) x (some_more (joined (k ∷ ls)) (break_text br) some) in (
       (
         record {
           white = h.0.white;
           comment = h.0.comment;
-          line = line_end_other h.0.white h.0.comment l (joined (k ∷ ls) ++ []) (joined (broken_lines (k ∷ ls) (break_text br)) ++ x) (front_some (joined (k ∷ ls)) [] some) h.0.line;
+          line = line_end_other h.0.white h.0.comment l (joined (k ∷ ls) ++ []) (joined (broken_lines (k ∷ ls) (break_text br)) ++ x) (some_more (joined (k ∷ ls)) [] some) h.0.line;
           some = h.0.some;
         },
         w.0,

@@ -18,6 +18,7 @@ use Rattle.yq_rows.specs.Grammar.{IsCut}
 use Rattle.yq_rows.specs.Rows.{Cut, cut_text}
 use Rattle.yq_rows.proofs.CharacterLaws.{pairs_back}
 use Rattle.yq_rows.proofs.splices.MarkerLaws.{marker_appended}
+use Rattle.yq_rows.proofs.GapLaws.{some_more}
 use Rattle.yq_tree.specs.PlacedRows.{PlacedPart}
 use Rattle.yq_documents.specs.Reading.{all_documents, is_document, read_at}
 use Rattle.yq_tree.specs.RootPlaces.{RootPlace}
@@ -38,9 +39,9 @@ use Rattle.yq_ways.proofs.AppendAtEnd.{nothing_tail}
 use Rattle.yq_ways.proofs.AppendEntryLaws.{none_quiet}
 use Rattle.yq_root_ways.proofs.BlockRootLaws.{empty_cases}
 use Rattle.yq_ways.proofs.BreakLaws.{break_is as break_kind}
-use Rattle.yq_ways.proofs.BrokenTails.{break_is}
-use Rattle.yq_root_ways.proofs.ClosedTexts.{closed_behind, closed_end, closed_line, front_some, open_some}
+use Rattle.yq_root_ways.proofs.ClosedTexts.{closed_behind, closed_end, closed_line, open_some}
 use Rattle.yq_ways.proofs.CommentPieceLaws.{break_piece}
+use Rattle.yq_ways.proofs.CommentReadLaws.{break_is}
 use Rattle.yq_root_ways.proofs.OpenGapLaws.{open_gap}
 use Rattle.yq_root_ways.proofs.OpenMarkerLaws.{broken_before, IsBehindMarker, behind_marker}
 use Rattle.yq_root_ways.proofs.RootFits.{FitsPart, value_reads}
@@ -92,7 +93,7 @@ module _ (n : ℕ) (c : Cut) (w : RootPlace) (read : read_at (cut_text c) ≡ So
       block = no_rows_there n c w read h;
       room = subst (HasRoom (h.d.part.end ++ break_text br) [] []) (sym nothing_behind) (room_at_end (h.d.part.end ++ break_text br) (λ x more. (broken x).0));
       lead = (broken []).1 ∙ lead_is n c w read h;
-      starts = λ t e. starts_at n c w read h (λ none. absurd (false≢true (sym (front_some h.d.part.end h.d.behind some) ∙ ap is_empty none))) t;
+      starts = λ t e. starts_at n c w read h (λ none. absurd (false≢true (sym (some_more h.d.part.end h.d.behind some) ∙ ap is_empty none))) t;
     }
 
   -- ---- behind a marker

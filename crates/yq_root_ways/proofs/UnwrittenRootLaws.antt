@@ -20,6 +20,7 @@ use Rattle.yq_rows.proofs.NothingLaws.{gap_other, line_end_other}
 use Rattle.yq_rows.proofs.PlaceLaws.{part_then}
 use Rattle.yq_rows.proofs.seams.MarkerSeams.{marker_byte, three_lines, after_some}
 use Rattle.yq_rows.proofs.splices.PartPlaces.{part_ends}
+use Rattle.yq_rows.proofs.GapLaws.{some_more}
 use Rattle.yq_block.proofs.EndLaws.{break_tail}
 use Rattle.yq_block.proofs.LaidRows.{no_gap_here}
 use Rattle.yq_documents.specs.Documents.{begins_bare, has_begin, lead_of}
@@ -39,10 +40,11 @@ use Rattle.yq_change.specs.TextPieces.{IsPiece}
 use Rattle.yq_change.proofs.PartLaws.{document_known, part_numbered}
 use Rattle.yq_change.proofs.PlacedPartLaws.{document_stands_at}
 use Rattle.yq_change.proofs.TextPieceLaws.{text_is_piece}
+use Rattle.yq_change.proofs.RemovalPieceLaws.{seam_pieces}
+use Rattle.yq_block.proofs.LineLaws.{break_quiet}
 use Rattle.yq_root_ways.specs.RootWriting.{is_closed_text}
-use Rattle.yq_ways.proofs.AppendEntryLaws.{break_quiet}
-use Rattle.yq_root_ways.proofs.BlockRootLaws.{HasFirstLine, first_line, empty_cases, seam_pieces}
-use Rattle.yq_root_ways.proofs.ClosedTexts.{closed_behind, front_some}
+use Rattle.yq_root_ways.proofs.BlockRootLaws.{HasFirstLine, first_line, empty_cases}
+use Rattle.yq_root_ways.proofs.ClosedTexts.{closed_behind}
 use Rattle.yq_root_ways.proofs.RootReadLaws.{TakesValue}
 use Rattle.yq_root_ways.proofs.RootRows.{HasRoom}
 
@@ -73,11 +75,11 @@ closed_lines : (ls : List (List ℕ)) (x : List ℕ) → AreGapLines ls [] → i
 closed_lines [] x h e = tt
 closed_lines (l ∷ []) x h e = (last_line l x h.0 (sym (ap is_closed_text (append-nil l)) ∙ e), tt)
 closed_lines (l ∷ (k ∷ ls)) x h e =
-    let some : is_empty (k ++ joined ls) ≡ false = front_some k (joined ls) h.1.0.some in (
+    let some : is_empty (k ++ joined ls) ≡ false = some_more k (joined ls) h.1.0.some in (
       record {
         white = h.0.white;
         comment = h.0.comment;
-        line = line_end_other h.0.white h.0.comment l ((k ++ joined ls) ++ []) ((k ++ joined ls) ++ x) (front_some (k ++ joined ls) [] some) h.0.line;
+        line = line_end_other h.0.white h.0.comment l ((k ++ joined ls) ++ []) ((k ++ joined ls) ++ x) (some_more (k ++ joined ls) [] some) h.0.line;
         some = h.0.some;
       },
       closed_lines (k ∷ ls) x h.1 (sym (closed_behind l (k ++ joined ls) some) ∙ e),

@@ -29,7 +29,7 @@ gap_line_takes t h =
     record { white = c.0; comment = e.0; line = e.1; some = subst (λ (s : List ℕ). is_empty (cut_line s).0 ≡ false) (sym join) (some_line t (not-true (is_empty t) parts.0)) } in
     subst (λ (s : List ℕ). IsGapLine (cut_line s).0 (cut_line s).1) join line
 
-some_more : (l rest : List ℕ) → is_empty l ≡ false → is_empty (l ++ rest) ≡ false
+pub some_more : (l rest : List ℕ) → is_empty l ≡ false → is_empty (l ++ rest) ≡ false
 some_more [] rest h = absurd (false≢true (sym h))
 some_more (b ∷ l) rest h = refl
 

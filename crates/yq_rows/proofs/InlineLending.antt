@@ -29,6 +29,7 @@ use Rattle.yq_rows.specs.View.{anchor_cut}
 use Rattle.yq_rows.proofs.Fronts.{node_starts}
 use Rattle.yq_rows.proofs.MarkAgain.{scalar_node}
 use Rattle.yq_rows.proofs.FrontLaws.{front_take, front_boundary, front_le}
+use Rattle.yq_rows.proofs.NodeFronts.{bare_or}
 
 -- the anchor in front
 pub anchor_some : (t : List ℕ) (n : ℕ) → first_is 38 t ≡ true → n ≡ prefix_len in_name (drop 1 t) → (take (n + 1) t, drop (n + 1) t) ≡ cut_anchor t
@@ -133,13 +134,6 @@ content_some spaces d (alias n) rest h begins = refl
 content_some spaces d (scalar p) rest h begins = refl
 content_some spaces d (coll k g is) rest h begins = refl
 content_some spaces d (anchored n g node) rest h begins = refl
-
-bare_or : (node : Node) (g : List ℕ) → (is_bare node || not (is_empty g)) ≡ true → g ≡ [] → is_bare node ≡ true
-bare_or empty g h e = refl
-bare_or (alias n) g h e = rw e at h
-bare_or (scalar p) g h e = rw e at h
-bare_or (coll k gap is) g h e = rw e at h
-bare_or (anchored n gap node) g h e = rw e at h
 
 -- what is behind an anchor
 lead_front : (spaces : Option ℕ) (d : ℕ) (g : List ℕ) (node : Node) (rest : List ℕ) → IsNode false spaces d node rest → IsLead false (begins_content false) g (node_text node rest) → (is_bare node || not (is_empty g)) ≡ true → cut_lead (is_bare node) (g ++ node_text node rest) ≡ (g, node_text node rest)

@@ -1,5 +1,5 @@
 -- Before a tail, what stands behind a mark is no key and no dash.
-use Rattle.std.proofs.Common.{◌≡◌, ◌⊎◌, inl, inr, ℕ, suc, ◌+◌, Bool, true, false, cond, not, ◌&&◌, ◌||◌, eqb, leb, List, [], ◌∷◌, ◌++◌, length, drop, Option, Some, None, refl, sym, ap, ◌∙◌, subst}
+use Rattle.std.proofs.Common.{◌≡◌, inl, inr, ℕ, suc, ◌+◌, Bool, true, false, cond, not, ◌&&◌, ◌||◌, eqb, leb, List, [], ◌∷◌, ◌++◌, length, drop, Option, Some, None, refl, sym, ap, ◌∙◌}
 use Rattle.std.proofs.lemmas.Bool.{false≢true, cond_both, not-true, not-false, and_parts, cases_Bool, or_parts}
 use Rattle.std.specs.Option.{option_or}
 use Rattle.std.specs.Str.{chars}
@@ -10,6 +10,7 @@ use Rattle.yq_scalar.specs.Text.{upto, cut, NoneIn, is_white, is_break, is_space
 use Rattle.yq_scalar.proofs.Bools.{at_byte}
 use Rattle.yq_scalar.proofs.QuotedFound.{quoted_again}
 use Rattle.yq_scalar.proofs.Upto.{upto_here}
+use Rattle.yq_scalar.proofs.QuotedLaws.{of_quotes}
 use Rattle.yq_inline.specs.Nodes.{Node, empty, alias, scalar, coll, anchored, node_text, is_bare, IsNode}
 use Rattle.yq_inline.specs.Reading.{scalar_at}
 use Rattle.yq_inline.specs.Scalars.{is_quoted, has_its_lines, IsScalar, begins_scalar}
@@ -116,10 +117,6 @@ plain_no_quote (b ∷ t) h =
 -- a key that was read up to its `:`
 abbrev then_colon : Option (List ℕ × List ℕ) → Option (List ℕ × List ℕ × List ℕ)
 then_colon o = o >>= λ key. colon_at key.1 >>= λ colon. cond (leb (length (chars key.0) + length (chars colon.0)) (key_limit + 1)) (Some (key.0, colon.0, colon.1)) None
-
-of_quotes : (P : ℕ → Type 0) (q : ℕ) → (q ≡ 34) ⊎ (q ≡ 39) → P 34 → P 39 → P q
-of_quotes P q (inl e) double single = subst P (sym e) double
-of_quotes P q (inr e) double single = subst P (sym e) single
 
 scalar_no_key : (d : ℕ) (p rest : List ℕ) → IsScalar false (Some d) p rest → colon_at rest ≡ None → key_at (p ++ rest) ≡ None
 unfolding key_at scalar_at plain_at

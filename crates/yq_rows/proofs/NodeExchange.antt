@@ -72,7 +72,7 @@ new_node_place c i r space new tail is =
     new_place c i r (Inline space new tail) is ∙ regroup (before_content i c) space new (tail ++ behind_row i c)
 
 -- the characters of the new text
-starts_no_feed : (t : List ℕ) → Starts t → front is_feed t ≡ false
+pub starts_no_feed : (t : List ℕ) → Starts t → front is_feed t ≡ false
 starts_no_feed [] h = refl
 starts_no_feed (b ∷ bs) h = (or_parts (is_feed b) _ h.no_end).0
 

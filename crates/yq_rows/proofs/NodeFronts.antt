@@ -9,6 +9,7 @@ use Rattle.yq_scalar.proofs.Upto.{cut-append}
 use Rattle.yq_inline.specs.Nodes.{Node, empty, alias, scalar, coll, anchored, node_text, items_text, first_is, in_name, begins_content, begins_node, IsLead, IsName, is_bare, IsNode}
 use Rattle.yq_inline.specs.Scalars.{begins_scalar}
 use Rattle.yq_inline.proofs.PieceLaws.{front_not, scalar_begins}
+use Rattle.yq_inline.proofs.KeepLaws.{bare_text}
 use Rattle.yq_rows.specs.Reading.{is_dash, begins_block}
 use Rattle.yq_rows.proofs.MarkAgain.{scalar_node}
 
@@ -34,14 +35,6 @@ bare_node spaces k (scalar p) rest h begins = refl
 bare_node spaces k (coll close gap items) rest h begins = refl
 bare_node spaces k (anchored n g node) rest h begins = refl
 
-bare_text : (node : Node) (rest : List ℕ) → is_bare node ≡ true → node_text node rest ≡ rest
-unfolding node_text
-bare_text empty rest h = refl
-bare_text (alias n) rest h = absurd (false≢true h)
-bare_text (scalar p) rest h = absurd (false≢true h)
-bare_text (coll close gap items) rest h = absurd (false≢true h)
-bare_text (anchored n g node) rest h = absurd (false≢true h)
-
 -- a test of the byte in front
 front_first : (t : List ℕ) → first_is 124 t ≡ false → first_is 62 t ≡ false → front is_block_mark t ≡ false
 front_first [] a b = refl
@@ -62,7 +55,7 @@ past_is w t inside ends = ap (λ (y : List ℕ × List ℕ). y.1) (cut-append no
 pub name_cut : (n t : List ℕ) → IsName n t → drop (upto (unless in_name) (n ++ t)) (n ++ t) ≡ t
 name_cut n t h = ap (λ (y : List ℕ × List ℕ). y.1) (cut-append (unless in_name) n t h.inside h.ends)
 
-bare_or : (node : Node) (g : List ℕ) → (is_bare node || not (is_empty g)) ≡ true → g ≡ [] → is_bare node ≡ true
+pub bare_or : (node : Node) (g : List ℕ) → (is_bare node || not (is_empty g)) ≡ true → g ≡ [] → is_bare node ≡ true
 bare_or empty g h e = refl
 bare_or (alias n) g h e = rw e at h
 bare_or (scalar p) g h e = rw e at h

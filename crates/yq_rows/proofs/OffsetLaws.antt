@@ -43,11 +43,11 @@ cuts (p ∷ ps) t rest e whole each =
     let place : IsCharBoundary t (length p) = IsCharBoundary-from_take t (length p) whole (omega (arith, long, length-append p (pieces_text ps rest))) (subst IsUtf8 (sym front) each.0) in
     (place, cuts ps (drop (length p) t) rest behind (IsUtf8-drop t (length p) whole place) each.1)
 
-spaces_ascii : (n : ℕ) → IsAscii (replicate n 32)
+pub spaces_ascii : (n : ℕ) → IsAscii (replicate n 32)
 spaces_ascii zero = IsAscii-nil
 spaces_ascii (suc n) = IsAscii-cons 32 (replicate n 32) (omega arith) (spaces_ascii n)
 
-spaces_text : (n : ℕ) → IsUtf8 (replicate n 32)
+pub spaces_text : (n : ℕ) → IsUtf8 (replicate n 32)
 spaces_text n = IsUtf8-from_ascii (replicate n 32) (spaces_ascii n)
 
 texts : (s : Slices) → AreTexts s → AreAll (pieces s)

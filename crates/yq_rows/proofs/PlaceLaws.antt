@@ -12,7 +12,7 @@ use Rattle.yq_rows.specs.View.{rows_of}
 use Rattle.yq_rows.proofs.ExchangeLaws.{slice_front, slice_back}
 
 -- the text of a row, before two texts
-dashes_then : (ns t u : List ℕ) → dashes_text ns (t ++ u) ≡ dashes_text ns t ++ u
+pub dashes_then : (ns t u : List ℕ) → dashes_text ns (t ++ u) ≡ dashes_text ns t ++ u
 dashes_then [] t u = refl
 dashes_then (n ∷ ns) t u = ap (λ l. 45 ∷ l) (ap (λ l. replicate n 32 ++ l) (dashes_then ns t u) ∙ sym (append_assoc (replicate n 32) (dashes_text ns t) u))
 
@@ -21,7 +21,7 @@ mark_then Bare t u = refl
 mark_then Dash t u = refl
 mark_then (Key key colon) t u = simp append_assoc refl
 
-content_then : (c : Content) (t u : List ℕ) → content_text c (t ++ u) ≡ content_text c t ++ u
+pub content_then : (c : Content) (t u : List ℕ) → content_text c (t ++ u) ≡ content_text c t ++ u
 content_then (Nothing tail) t u = sym (append_assoc tail t u)
 content_then (Inline space node tail) t u =
     ap (λ l. space ++ l) (ap (node_text node) (sym (append_assoc tail t u)) ∙ node_append node (tail ++ t) u) ∙ sym (append_assoc space (node_text node (tail ++ t)) u)

@@ -27,7 +27,7 @@ mark_starts (k ∷ ns) mark n c rest m h = dash_starts (replicate k 32 ++ dashes
 pub row_starts : (limit : Limit) (r : Row) (rest : List ℕ) → IsRow limit r rest → Starts (behind_indent r rest)
 row_starts limit r rest h = mark_starts r.dashes r.mark (parent_indent r) r.content rest h.mark h.content
 
-white_spaces : (n : ℕ) → IsWhite (replicate n 32)
+pub white_spaces : (n : ℕ) → IsWhite (replicate n 32)
 white_spaces zero = tt
 white_spaces (suc n) = (refl, white_spaces n)
 

@@ -13,24 +13,21 @@ use Rattle.yq_scalar.specs.Block.{Lines, AreRaw, IsTextIndent, mark_of, style_of
 use Rattle.yq_scalar.specs.BlockContent.{content_of, block_content}
 use Rattle.yq_scalar.specs.BlockReading.{block_style, indent_of, raw_content, piece_content, indicators_at, values}
 use Rattle.yq_scalar.specs.Piece.{deeper}
-use Rattle.yq_scalar.specs.Text.{is_empty, lines_of, joined, is_line}
+use Rattle.yq_scalar.specs.Text.{lines_of, joined, is_line}
 use Rattle.yq_scalar.specs.declared.block_header.BlockStyle.{BlockStyle}
 use Rattle.yq_scalar.specs.declared.block_lines.TextIndent.{TextIndent}
 use Rattle.yq_scalar.specs.declared.piece.Piece.{Piece}
+use Rattle.yq_scalar.proofs.LineLaws.{is_empty_is}
 
 -- a text that ends in LF
 abbrev pub IsLf : List ℕ → Type 0
 IsLf t = (front : List ℕ) × (t ≡ front ++ 10 ∷ [])
 
-nil_is : (t : List ℕ) → is_empty t ≡ true → t ≡ []
-nil_is [] h = refl
-nil_is (b ∷ t) h = absurd (false≢true h)
-
 pub line_lf : (l : List ℕ) → is_line l ≡ true → IsLf l
 unfolding is_line
 line_lf [] h = absurd (false≢true h)
 line_lf (b ∷ l) h = ⊎_elim {0, 0, 0}
-    (λ e. let last : l ≡ [] = nil_is l (rw e at h) in ([], rw last (ap (λ x. x ∷ []) (eqb-true b 10 e))))
+    (λ e. let last : l ≡ [] = is_empty_is l (rw e at h) in ([], rw last (ap (λ x. x ∷ []) (eqb-true b 10 e))))
     (λ e. let again = line_lf l (rw e at h) in (b ∷ again.0, ap (λ x. b ∷ x) again.1))
     (cases_Bool (eqb b 10))
 

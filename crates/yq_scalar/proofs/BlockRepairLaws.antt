@@ -91,7 +91,7 @@ end_blank (b ∷ t) h =
     let other : eqb b 32 ≡ false = false_from_ne_true _ (λ e. let is : b ≡ 32 = eqb-true b 32 e in false≢true (subst (λ (x : ℕ). ends_line (x ∷ t) ≡ true) is h)) in
     spaces_blank (b ∷ t) (ap ends_line (no_spaces b t other).1 ∙ h)
 
-white_front : (n : ℕ) (t : List ℕ) → past_white (replicate n 32 ++ t) ≡ past_white t
+pub white_front : (n : ℕ) (t : List ℕ) → past_white (replicate n 32 ++ t) ≡ past_white t
 white_front zero t = refl
 white_front (suc n) t = white_drop 32 (replicate n 32 ++ t) ∙ white_front n t
 

@@ -29,7 +29,7 @@ AreCut (l ∷ ls) rest = IsCut l ls rest × AreCut ls rest
 abbrev Closed : Lines → List ℕ → Type 0
 Closed ls rest = (closed ls ≡ true) ⊎ (rest ≡ [])
 
-line_next : (b : ℕ) (l : List ℕ) → eqb b 10 ≡ false → is_line (b ∷ l) ≡ is_line l
+pub line_next : (b : ℕ) (l : List ℕ) → eqb b 10 ≡ false → is_line (b ∷ l) ≡ is_line l
 unfolding is_line
 line_next b l e = rw e refl
 
@@ -62,7 +62,7 @@ lines_cut (b ∷ t) rest c = ⊎_elim {0, 0, 0}
 white_no_feed : (b : ℕ) → is_white b ≡ true → eqb b 10 ≡ false
 white_no_feed b h = at_byte is_white b 10 h refl
 
-line_past : (l : List ℕ) → is_line l ≡ true → is_line (past_white l) ≡ true
+pub line_past : (l : List ℕ) → is_line l ≡ true → is_line (past_white l) ≡ true
 unfolding upto
 line_past [] h = h
 line_past (b ∷ l) h = ⊎_elim {0, 0, 0}
@@ -78,7 +78,7 @@ open_past (b ∷ l) h = ⊎_elim {0, 0, 0}
     (λ e. rw (white_drop b l) (rw e h))
     (cases_Bool (is_white b))
 
-line_spaces : (n : ℕ) (t : List ℕ) → is_line t ≡ true → is_line (replicate n 32 ++ t) ≡ true
+pub line_spaces : (n : ℕ) (t : List ℕ) → is_line t ≡ true → is_line (replicate n 32 ++ t) ≡ true
 line_spaces zero t h = h
 line_spaces (suc n) t h = line_next 32 (replicate n 32 ++ t) refl ∙ line_spaces n t h
 

@@ -10,7 +10,7 @@ use Rattle.yq_scalar.proofs.Upto.{upto_le_length, upto_ends, upto_unless}
 use Rattle.yq_scalar.proofs.Breaks.{line_len-feed}
 
 -- behind bytes that are all ASCII
-boundary_behind : (t : List ℕ) (n : ℕ) → IsUtf8 t → n ≤ length t → ((k : ℕ) → k < n → get_or t k 0 < 128) → IsCharBoundary t n
+pub boundary_behind : (t : List ℕ) (n : ℕ) → IsUtf8 t → n ≤ length t → ((k : ℕ) → k < n → get_or t k 0 < 128) → IsCharBoundary t n
 boundary_behind t zero u le ascii = IsCharBoundary-start t u
 boundary_behind t (suc m) u le ascii =
     let same : m + 1 ≡ suc m = omega arith in

@@ -1,8 +1,7 @@
 -- What the items of a scalar stand for, and where a text may be cut.
-use Rattle.std.proofs.Common.{◌≡◌, ℕ, zero, suc, ◌<◌, ◌≤◌, Bool, true, false, eqb, List, [], ◌∷◌, ◌++◌, length, take, drop, get_or, Some, None, Result, Ok, Err, IfOk, refl, sym, inl, inr, ◌&&◌, ◌||◌, ap, ◌∙◌, subst, arith, add-one, eqb-true, append-nil, length-drop}
+use Rattle.std.proofs.Common.{◌≡◌, ℕ, zero, suc, ◌<◌, ◌≤◌, Bool, true, false, eqb, List, [], ◌∷◌, ◌++◌, length, take, drop, get_or, Some, None, Result, Ok, Err, IfOk, refl, sym, inl, inr, ◌&&◌, ◌||◌, ap, ◌∙◌, subst, arith, eqb-true, append-nil, length-drop}
 use Rattle.std.proofs.lemmas.Bool.{false≢true, or_cases, cases_lt, and_parts, cases_Bool, or_parts}
 use Rattle.std.proofs.lemmas.List.{take-append-drop}
-use Rattle.std.proofs.lemmas.Str.{IsCharBoundary-start, IsCharBoundary-after_ascii}
 use Rattle.std.proofs.Math.Utf8.{encode}
 use Rattle.std.specs.Str.{IsUtf8, IsCharBoundary}
 use Rattle.yq_scalar.specs.Text.{is_white, is_break, is_feed, is_return, is_space, front, upto, NoneIn}
@@ -11,14 +10,10 @@ use Rattle.yq_scalar.specs.QuotedReading.{escape}
 use Rattle.yq_scalar.specs.ContentReading.{Before, within, after, filled, content_on, break_len, before_of, is_pair, is_slash, ends_run}
 use Rattle.yq_scalar.specs.Plain.{no_gap}
 use Rattle.yq_scalar.proofs.Upto.{upto_le_length, none_in_cut}
-use Rattle.yq_scalar.proofs.Boundaries.{boundary_ends, space_ascii, break_ascii}
+use Rattle.yq_scalar.proofs.Boundaries.{boundary_ends, space_ascii, break_ascii, boundary_behind}
 use Rattle.yq_scalar.proofs.EscapeLaws.{escape_ascii, escape_within}
 
--- behind bytes that are all ASCII
-boundary_behind : (t : List ℕ) (n : ℕ) → IsUtf8 t → n ≤ length t → ((k : ℕ) → k < n → get_or t k 0 < 128) → IsCharBoundary t n
-boundary_behind t zero u le ascii = IsCharBoundary-start t u
-boundary_behind t (suc m) u le ascii = rw (← add-one) (IsCharBoundary-after_ascii t m u (omega arith) (ascii m (omega arith)))
-
+-- bytes that are all ASCII
 low_at : (b : ℕ) (bs : List ℕ) (n k : ℕ) → b < 128 → ((j : ℕ) → j < n → get_or bs j 0 < 128) → k < suc n → get_or (b ∷ bs) k 0 < 128
 low_at b bs n zero low rest lt = low
 low_at b bs n (suc k) low rest lt = rest k (omega arith)

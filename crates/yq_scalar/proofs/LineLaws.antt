@@ -52,7 +52,7 @@ unfolding lines_of is_line
 lines_are [] = tt
 lines_are (b ∷ bs) = cond_both (is_feed b) ((b ∷ []) ∷ lines_of bs) (put_byte b (lines_of bs)) AreLines (λ h. (inl (rw h refl), lines_are bs)) (λ h. are_put b (lines_of bs) h (lines_are bs))
 
-is_empty_is : (t : List ℕ) → is_empty t ≡ true → t ≡ []
+pub is_empty_is : (t : List ℕ) → is_empty t ≡ true → t ≡ []
 is_empty_is [] h = refl
 is_empty_is (b ∷ t) h = absurd (false≢true h)
 

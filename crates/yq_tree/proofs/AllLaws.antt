@@ -9,6 +9,7 @@ use Rattle.std.specs.List.{list_all, slice_get}
 use Rattle.yq_scalar.specs.declared.fault.ReadError.{ReadError}
 use Rattle.yq_scalar.specs.declared.fault.ReadError.TheVariants as errors
 use Rattle.yq_scalar.specs.Answers.{◌>>=◌, Fails}
+use Rattle.yq_scalar.proofs.WordPlain.{and_false}
 use Rattle.yq_lines.specs.Comments.{head_comment}
 use Rattle.yq_rows.specs.Grammar.{unlimited, begins_document, AreParts, IsCut}
 use Rattle.yq_rows.specs.Lending.{shown_read}
@@ -31,6 +32,7 @@ use Rattle.yq_tree.proofs.HeadsApart.{heads_apart}
 use Rattle.yq_tree.proofs.ReadLaws.{cut_is, text_again}
 use Rattle.yq_documents.proofs.RowLineLaws.{not_fit}
 use Rattle.yq_documents.specs.declared.checks.DocumentLines.{DocumentLines}
+use Rattle.yq_documents.proofs.PartLineLaws.{and_assoc}
 
 -- the anchors of rows are apart from their heads
 with_apart : (is : Bool) (p : Part) (ps : List Part) → HaveHeadsApart (lines_of p.rows) → AllApart (all_lined ps) → AllApart (all_lined (with_part is p ps))
@@ -46,10 +48,6 @@ pub all_apart : (t : List ℕ) (c : Cut) (xs : List Lined) → IsCut t c → lin
 all_apart t c xs h made = subst AllApart (cond_some (all_fit (document_parts c)) _ _ made).1 (parts_apart true (begins_bare c || not (has_begin c)) c h.parts)
 
 -- a part stands for a document where its rows are fit and its lines sound
-and_assoc : (a b c : Bool) → (a && (b && c)) ≡ ((a && b) && c)
-and_assoc true b c = refl
-and_assoc false b c = refl
-
 document_split : (p : Part) → is_document p ≡ (part_fits p && lines_are_sound (lines_of p.rows))
 document_split p = and_assoc (have_fit_keys p.rows) (has_short_root p.rows) (lines_are_sound (lines_of p.rows))
 

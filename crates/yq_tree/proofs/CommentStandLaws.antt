@@ -8,7 +8,7 @@ use Rattle.yq_scalar.specs.Paths.{Step}
 use Rattle.yq_scalar.proofs.Bools.{guard_then}
 use Rattle.yq_lines.specs.Comments as comments
 use Rattle.yq_rows.specs.Grammar.{IsCut}
-use Rattle.yq_rows.specs.Rows.{Content, Nothing, Inline, Block, Cut}
+use Rattle.yq_rows.specs.Rows.{Content, Cut}
 use Rattle.yq_rows.specs.View.{content_cut}
 use Rattle.yq_documents.specs.declared.path.Part.TheVariants as parts
 use Rattle.yq_documents.specs.declared.path.Path.{Path}
@@ -28,6 +28,7 @@ use Rattle.yq_documents.specs.Reading.{all_documents, document_of, read_at}
 use Rattle.yq_lines.proofs.Finding.{entry_of}
 use Rattle.yq_lines.proofs.LabelPaths.{reach, FoundEntry, path_entry}
 use Rattle.yq_lines.proofs.Values.{If}
+use Rattle.yq_documents.proofs.RowLineLaws.{tail_is}
 use Rattle.yq_tree.proofs.FoundLines.{each}
 use Rattle.yq_tree.proofs.FlowPieces.{head_there}
 use Rattle.yq_tree.proofs.PieceHolds.{no_part}
@@ -37,11 +38,6 @@ use Rattle.yq_tree.proofs.QuietLaws.{HasNone, Quiet, quiet_content, quiet_reach}
 use Rattle.yq_tree.proofs.ReadLaws.{cut_is, text_takes}
 use Rattle.yq_tree.proofs.RemarkLaws.{tail_told, gap_told}
 use Rattle.yq_tree.proofs.RowPathLaws.{document_fine}
-
-tail_is : (c : Content) → (content_cut c).4 ≡ tail_of c
-tail_is (Nothing tail) = refl
-tail_is (Inline space node tail) = refl
-tail_is (Block space anchor block) = refl
 
 content_told : (before : List ℕ) (c : Content) (behind : List ℕ) → comments.line_comment (tail_of c) ≡ option_map remark (content_comment before c behind)
 content_told before c behind =

@@ -6,6 +6,7 @@ use Rattle.yq_scalar.specs.Text.{is_empty}
 use Rattle.yq_rows.specs.Grammar.{IsMark, Limit, unlimited, limit_after, AreDashes, AreRows, AreParts, begins_document}
 use Rattle.yq_rows.specs.Rows.{Mark, Bare, Dash, Key, Content, Row, dashes_text, rows_text, Cut, last, marked, cut_text}
 use Rattle.yq_rows.specs.View.{slices, last_dash, colon_of, rows_of}
+use Rattle.yq_documents.proofs.RowLineLaws.{colon_some}
 use Rattle.yq_tree.specs.Extents.{dash_count, lines_before_mark}
 
 none_in_spaces : (n : ℕ) (t : List ℕ) → dash_count (replicate n 32 ++ t) ≡ dash_count t
@@ -21,10 +22,6 @@ dashes_count (n ∷ ns) t =
     omega (arith, step, none_in_spaces n (dashes_text ns t), dashes_count ns t)
 
 -- the lines before the last one of a row
-some_colon : (white : List ℕ) → is_empty (white ++ 58 ∷ []) ≡ false
-some_colon [] = refl
-some_colon (b ∷ white) = refl
-
 before_mark : (ns : List ℕ) (m : Mark) (c : Content) (rest : List ℕ) → AreDashes ns m → IsMark m c rest → cond (is_empty (colon_of m)) (dash_count (dashes_text ns (last_dash m)) - 1) (dash_count (dashes_text ns (last_dash m))) ≡ length ns
 before_mark [] Bare c rest d m = refl
 before_mark (n ∷ ns) Bare c rest d m = absurd (cc)
@@ -33,7 +30,7 @@ before_mark ns Dash c rest d m = omega (arith, dashes_count ns (45 ∷ []), one)
     one : dash_count (45 ∷ []) ≡ 1
     one = refl
 before_mark ns (Key key colon) c rest d m =
-    let some : is_empty colon ≡ false = ap is_empty m.colon_is.spelled ∙ some_colon m.colon_is.white in
+    let some : is_empty colon ≡ false = ap is_empty m.colon_is.spelled ∙ colon_some m.colon_is.white in
     let none : dash_count [] ≡ 0 = refl in
     let count : dash_count (dashes_text ns []) ≡ length ns = omega (arith, dashes_count ns [], none) in
     cond-false _ _ _ some ∙ count

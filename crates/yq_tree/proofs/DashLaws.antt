@@ -15,6 +15,7 @@ use Rattle.yq_rows.specs.Exchange.{row_front}
 use Rattle.yq_rows.specs.Rows.{Row, behind_columns, behind_dashes, dashes_text, mark_column, print_row, Cut}
 use Rattle.yq_rows.specs.View.{Slices, slices, rows_of, Shown, shown}
 use Rattle.yq_rows.proofs.NodePieces.{behind_ascii}
+use Rattle.yq_rows.proofs.PlaceLaws.{dashes_then}
 use Rattle.yq_documents.specs.declared.path.Path.{Path}
 use Rattle.yq_documents.specs.declared.checks.DocumentLines.{DocumentLines}
 use Rattle.yq_tree.specs.CommentReading.{before_row}
@@ -40,10 +41,6 @@ use Rattle.yq_tree.proofs.SeamLaws.{dashes_split}
 use Rattle.yq_tree.proofs.StartLaws.{start_told}
 
 -- ---- a row, cut behind a dash
-
-dashes_then : (ns a b : List ℕ) → dashes_text ns (a ++ b) ≡ dashes_text ns a ++ b
-dashes_then [] a b = refl
-dashes_then (n ∷ ns) a b = ap (λ l. 45 ∷ l) (ap (λ l. replicate n 32 ++ l) (dashes_then ns a b) ∙ sym (append_assoc (replicate n 32) (dashes_text ns a) b))
 
 -- the column behind dashes
 columns : (c : ℕ) (ns : List ℕ) → behind_columns c ns ≡ c + length (dashes_text ns [])

@@ -1,12 +1,12 @@
 -- A text cut behind a break.
-use Rattle.std.proofs.Common.{◌≡◌, ◌+◌, ◌++◌, List, [], ◌∷◌, ℕ, Bool, true, false, eqb, length, take, drop, refl, sym, ap, ◌∙◌, subst, arith, length-append, append_assoc}
+use Rattle.std.proofs.Common.{◌≡◌, ◌+◌, ◌++◌, List, ℕ, Bool, eqb, length, take, drop, refl, sym, ap, ◌∙◌, subst, arith, length-append, append_assoc}
 use Rattle.std.proofs.Math.Seq.{take-append_seam, drop-append_seam}
-use Rattle.std.proofs.lemmas.Bool.{eqb-true}
 use Rattle.std.proofs.lemmas.List.{length-take-le}
 use Rattle.std.proofs.lemmas.Str.{IsUtf8-drop, IsCharBoundary-from_rest}
 use Rattle.std.specs.Str.{IsUtf8, IsCharBoundary}
 use Rattle.yq_scalar.specs.Text.{is_empty, line_len, cut_line}
 use Rattle.yq_scalar.proofs.Boundaries.{boundary_line}
+use Rattle.yq_tree.proofs.MarkLaws.{none_there}
 
 abbrev Cut : Type 0
 Cut = List ℕ × List ℕ
@@ -22,14 +22,6 @@ break_boundary t rest line behind end u at is cut =
     let size : length line ≡ line_len rest = ap length (first_same cut) ∙ length-take-le (line_len rest) rest bound.0 in
     IsCharBoundary-from_rest t end (length line) at.0 (subst (λ (x : List ℕ). IsCharBoundary x (length line)) is (subst (IsCharBoundary rest) (sym size) bound))
 
-empty_is : (t : List ℕ) → eqb (length t) 0 ≡ is_empty t
-empty_is [] = refl
-empty_is (b ∷ t) = go (eqb (length (b ∷ t)) 0) refl
-  where
-    go : (e : Bool) → eqb (length (b ∷ t)) 0 ≡ e → e ≡ false
-    go true is = absurd (omega (arith, eqb-true (length (b ∷ t)) 0 is))
-    go false is = refl
-
 -- the text in front of the cut and behind it, and whether there is a break
 pub end_is_told : (t left line behind before break rest : List ℕ) (end : ℕ) (none : Bool) → t ≡ before ++ (break ++ rest) → end ≡ length before → cut_line (break ++ rest) ≡ (break, rest) → left ≡ drop end t → (line, behind) ≡ cut_line left → none ≡ eqb (length line) 0 →
     (take (end + length line) t ≡ before ++ break) × (drop (end + length line) t ≡ rest) × (none ≡ is_empty break)
@@ -40,5 +32,5 @@ end_is_told t left line behind before break rest end none text at cut is own emp
     let whole : t ≡ (before ++ break) ++ rest = text ∙ sym (append_assoc before break rest) in (
       (λ i. take (size i) (whole i)) ∙ take-append_seam (before ++ break) rest,
       (λ i. drop (size i) (whole i)) ∙ drop-append_seam (before ++ break) rest,
-      empty ∙ (ap (λ (x : List ℕ). eqb (length x) 0) line_is ∙ empty_is break),
+      empty ∙ (ap (λ (x : List ℕ). eqb (length x) 0) line_is ∙ none_there break),
     )

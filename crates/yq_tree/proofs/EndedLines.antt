@@ -6,20 +6,17 @@ use Rattle.std.proofs.lemmas.Option.{none-some, same_Some}
 use Rattle.std.specs.List.{slice_get}
 use Rattle.yq_rows.specs.Grammar.{Limit, unlimited, limit_after, AreRows, AreParts, begins_document}
 use Rattle.yq_rows.specs.Rows as rows
-use Rattle.yq_rows.specs.Rows.{Content, Row, rows_text, Part, Cut, last, marked, cut_text}
+use Rattle.yq_rows.specs.Rows.{Row, rows_text, Part, Cut, last, marked, cut_text}
 use Rattle.yq_tree.specs.CollectionEnds.{is_broken, are_broken}
 use Rattle.yq_documents.specs.Documents.{parts_from}
 use Rattle.yq_tree.specs.PathPieces.{PrintedDocument, printed_part}
-use Rattle.yq_tree.specs.PrintedLines.{PrintedLine, end_break, print_lines, printed_from, printed_row, printed_lines, run_break}
+use Rattle.yq_tree.specs.PrintedLines.{PrintedLine, end_break, print_lines, printed_row, printed_lines, run_break}
 use Rattle.yq_documents.specs.Seats.{Seat, behind_one, seat}
 use Rattle.yq_tree.proofs.ContentEndLaws.{Ends, content_ends}
 use Rattle.yq_tree.proofs.PrintedTexts.{map_some, rows_are}
+use Rattle.yq_tree.proofs.SeatedLines.{row_count}
 
 -- ---- by seats
-
-row_count : (gap spaces : List ℕ) (column : ℕ) (ns : List ℕ) (m : rows.Mark) (c : Content) → length (printed_from gap spaces column ns m c) ≡ suc (length ns)
-row_count gap spaces column [] m c = refl
-row_count gap spaces column (n ∷ ns) m c = ap suc (row_count [] [] (suc (column + n)) ns m c)
 
 -- the text behind a line of rows
 abbrev behind_line : List Row → ℕ → List ℕ → List ℕ

@@ -33,6 +33,7 @@ use Rattle.yq_tree.proofs.RowStarts.{line_begins}
 use Rattle.yq_tree.proofs.SeatLaws.{part_begins, part_at, none_past, held_begin}
 use Rattle.yq_lines.proofs.Values.{If}
 use Rattle.yq_documents.specs.declared.checks.DocumentLines.{DocumentLines}
+use Rattle.yq_tree.proofs.SeatedLaws.{get_drop, get_front}
 
 -- a line is one of its row, and that is one of the rows
 abbrev pub IsSeated : List Row → Seat → Type 0
@@ -53,16 +54,6 @@ seat_is n rs s e = go (seat n rs) (seated n rs) e
     go : (o : Option Seat) → If o (IsSeated rs) → o ≡ Some s → IsSeated rs s
     go None h e = absurd (cc)
     go (Some q) h e = subst (IsSeated rs) (same_Some _ _ e) h
-
-get_front : (xs more : List Row) (i : ℕ) (r : Row) → slice_get xs i ≡ Some r → slice_get (xs ++ more) i ≡ Some r
-get_front [] more i r e = absurd (cc)
-get_front (x ∷ xs) more zero r e = e
-get_front (x ∷ xs) more (suc i) r e = get_front xs more i r e
-
-get_drop : (k : ℕ) (xs : List Row) (i : ℕ) → slice_get (drop k xs) i ≡ slice_get xs (k + i)
-get_drop zero xs i = let same : i ≡ 0 + i = omega arith in ap (slice_get xs) same
-get_drop (suc k) [] i = refl
-get_drop (suc k) (x ∷ xs) i = let same : suc (k + i) ≡ suc k + i = omega arith in get_drop k xs i ∙ ap (slice_get (x ∷ xs)) same
 
 -- the row of a line of rows that stand among those of a cut
 pub row_there : (c : Cut) (rs more : List Row) (first n : ℕ) (s : Seat) → drop first (rows_of c) ≡ rs ++ more → seat n rs ≡ Some s → slice_get (rows_of c) (first + s.before) ≡ Some s.row

@@ -24,6 +24,7 @@ use Rattle.yq_documents.specs.Seats.{Seat, seat_at}
 use Rattle.yq_tree.proofs.EntryPlacedLaws.{entries_placed}
 use Rattle.yq_tree.proofs.PieceHolds.{spans_are}
 use Rattle.yq_tree.proofs.PieceTexts.{document_whole, piece_whole}
+use Rattle.yq_tree.proofs.PrintedTexts.{map_some}
 
 -- ---- the spaces that end a text
 
@@ -108,10 +109,6 @@ pub front_less : (t : List ℕ) (n : ℕ) → n ≡ length (less_spaces t) → t
 front_less t n e = (λ i. take (e i) (spaces_parts t i)) ∙ take-append_seam (less_spaces t) (end_spaces t)
 
 -- ---- the text around an item or entry
-
-map_some : {A B : Type 0} {f : A → B} {y : B} (o : Option A) → option_map f o ≡ Some y → (x : A) × (o ≡ Some x) × (f x ≡ y)
-map_some None e = absurd (cc)
-map_some (Some x) e = (x, refl, same_Some _ _ e)
 
 -- An item or entry at a path stands between two places of a text.
 pub record EntryStands (t : List ℕ) (c : Cut) (path : Path) (start end : ℕ) : Type 0 where

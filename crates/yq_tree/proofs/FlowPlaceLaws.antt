@@ -25,6 +25,7 @@ use Rattle.yq_lines.specs.Spots.{is_bare}
 use Rattle.yq_tree.proofs.RowPathLaws.{found_lines}
 use Rattle.yq_tree.proofs.SeatLineLaws.{Tells, seat_line}
 use Rattle.yq_lines.proofs.Values.{If}
+use Rattle.yq_tree.proofs.FoundLines.{middle}
 
 -- a line in whose head steps may go on: a node itself, or a line that has a head
 abbrev pub TakesSteps : Line → Type 0
@@ -81,10 +82,6 @@ mark_seat rs n l e takes = let q = seat_line rs n l e in (q.0, q.1, go q.0 q.2 (
     go : (s : Seat) → Tells s l → (s.line < length s.row.dashes) ⊎ (length s.row.dashes ≤ s.line) → s.line ≡ length s.row.dashes
     go s told (inl less) = absurd (dash_takes_none l (told.dash less) takes)
     go s told (inr more) = omega (arith, more, told.within)
-
-pub middle : (xs ys : List Line) (l : Line) → slice_get (xs ++ (l ∷ ys)) (length xs) ≡ Some l
-middle [] ys l = refl
-middle (x ∷ xs) ys l = middle xs ys l
 
 -- where steps are left, the line is that of its row's mark
 pub reached_seat : (rs : List Row) (steps : List Step) (n : ℕ) (t : Step) (ts : List Step) → reached steps (lines_of rs) ≡ Some (n, t ∷ ts) → MarkSeat rs n

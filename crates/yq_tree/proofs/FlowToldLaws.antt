@@ -20,9 +20,9 @@ use Rattle.yq_lines.specs.Spots.{is_bare}
 use Rattle.yq_tree.specs.FlowNodes.{bare_line, head_line, find_head}
 use Rattle.yq_tree.specs.FlowTold.{placed_collection, if_collection, collection_of, collection_along, bare_at, head_from, head_at}
 use Rattle.yq_lines.proofs.EndsLaws.{has_line}
-use Rattle.yq_tree.proofs.FlowPlaceLaws.{middle}
 use Rattle.yq_tree.proofs.RowPathLaws.{found_lines}
 use Rattle.yq_tree.proofs.UnderCounts.{end_is}
+use Rattle.yq_tree.proofs.FoundLines.{middle}
 
 -- ---- collections in nodes with places
 
@@ -76,7 +76,7 @@ first_line (l ∷ ls) = go (is_bare l.mark) (deeper (level l) (group ls)) (shall
     go true u a = refl
     go false u a = refl
 
-before_under : (p : Place) (l : Line) (a : Outline) → lines_before (compose p (below l here a)) ≡ lines_before p ++ (l ∷ [])
+pub before_under : (p : Place) (l : Line) (a : Outline) → lines_before (compose p (below l here a)) ≡ lines_before p ++ (l ∷ [])
 before_under here l a = refl
 before_under (below k p b) l a = ap (λ x. k ∷ x) (before_under p l a)
 before_under (beside k v p) l a = ap (λ x. k ∷ x) (ap (λ x. flatten v ++ x) (before_under p l a) ∙ sym (append_assoc (flatten v) (lines_before p) (l ∷ [])))

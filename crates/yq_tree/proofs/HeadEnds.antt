@@ -3,9 +3,6 @@ use Rattle.std.proofs.Common.{◌≡◌, ℕ, ℤ, ◌+◌, eqb, Bool, true, fal
 use Rattle.std.proofs.lemmas.Option.{slice_get-map, same_Some}
 use Rattle.std.proofs.lemmas.Bool.{false≢true, cond_both, cond-false}
 use Rattle.std.specs.List.{slice_get}
-use Rattle.yq_scalar.specs.declared.block_header.BlockStyle.{BlockStyle}
-use Rattle.yq_scalar.specs.declared.block_header.BlockStyle.TheVariants as styles
-use Rattle.yq_scalar.specs.Block.{mark_of}
 use Rattle.yq_scalar.specs.Characters.{text_limit}
 use Rattle.yq_scalar.specs.Piece.{deeper}
 use Rattle.yq_scalar.specs.Text.{joined}
@@ -23,6 +20,7 @@ use Rattle.yq_tree.specs.EntryReading.{ending, head_end, head_extent, through_ro
 use Rattle.yq_tree.specs.EntryReading.{head_finish}
 use Rattle.yq_tree.specs.Extents.{row_start, front_length, head_place, IsShown}
 use Rattle.yq_documents.specs.RowReading.{begins_block}
+use Rattle.yq_documents.proofs.HeadLaws.{block_marks}
 use Rattle.yq_tree.proofs.LengthLaws.{row_fits, shown_small}
 use Rattle.yq_tree.proofs.RowStarts.{head_is, row_ends}
 use Rattle.yq_tree.proofs.SpanLaws.{get_row}
@@ -58,14 +56,10 @@ node_begins n (scalar p) rest h = ap begins_block (append-nil p) ∙ scalar_begi
 node_begins n (coll k g is) rest h = opens k (g ++ items_text k is [])
 node_begins n (anchored m g node) rest h = behind_anchor n node rest h.3 h.4
 
-block_begins : (style : BlockStyle) (t : List ℕ) → begins_block (mark_of style ∷ t) ≡ true
-block_begins styles.Literal t = refl
-block_begins styles.Folded t = refl
-
 content_ends : (n : ℤ) (end : ℕ) (x : Content) (rest : List ℕ) → IsContent n x rest → cond (begins_block (content_cut x).3) (end + length (content_cut x).4 + length (content_cut x).5) end ≡ head_end end x
 content_ends n end (Nothing tail) rest h = refl
 content_ends n end (Inline space node tail) rest h = cond-false _ _ _ (node_begins n node (tail ++ rest) h.1.valid)
-content_ends n end (Block space anchor block) rest h = ap (λ (b : Bool). cond b (end + length block.tail + length (joined block.raw)) end) (block_begins block.style block.indicators)
+content_ends n end (Block space anchor block) rest h = ap (λ (b : Bool). cond b (end + length block.tail + length (joined block.raw)) end) (block_marks block.style block.indicators)
 
 -- the head of a row begins as a block scalar does where it is one
 pub block_told : (t : List ℕ) (c : Cut) (i : ℕ) (r : Row) → IsCut t c → slice_get (rows_of c) i ≡ Some r → begins_block (slices r).head ≡ is_block r.content
@@ -74,7 +68,7 @@ block_told t c i r cut is = go r.content (row_in c i true r cut.parts is).row.co
     go : (x : Content) → IsContent (parent_indent r) x (behind_row i c) → begins_block (content_cut x).3 ≡ is_block x
     go (Nothing tail) h = refl
     go (Inline space node tail) h = node_begins (parent_indent r) node (tail ++ behind_row i c) h.1.valid
-    go (Block space anchor block) h = block_begins block.style block.indicators
+    go (Block space anchor block) h = block_marks block.style block.indicators
 
 head_ends : (t : List ℕ) (c : Cut) (i : ℕ) (r : Row) (end : ℕ) → IsCut t c → slice_get (rows_of c) i ≡ Some r → head_finish end (slices r) ≡ head_end end r.content
 head_ends t c i r end cut is = content_ends (parent_indent r) end r.content (behind_row i c) (row_in c i true r cut.parts is).row.content

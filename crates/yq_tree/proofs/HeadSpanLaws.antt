@@ -14,7 +14,7 @@ use Rattle.yq_inline.specs.Inline.{IsInlineAt}
 use Rattle.yq_inline.specs.Nodes.{Node, empty, alias, scalar, coll, anchored, node_text, IsNode}
 use Rattle.yq_inline.specs.Places.{Placed, placed, with_anchor, locate}
 use Rattle.yq_inline.specs.Spans.{IsSpan, HasSpans}
-use Rattle.yq_inline.proofs.NodeAgain.{is_anchored}
+use Rattle.yq_inline.proofs.NodeAgain.{is_anchored, takes_unanchored}
 use Rattle.yq_inline.proofs.SpanLaws.{inline_spans}
 use Rattle.yq_inline.proofs.WrittenLaws.{node_then}
 use Rattle.yq_inline.proofs.EditPlaces.{end_placed}
@@ -25,9 +25,9 @@ use Rattle.yq_rows.specs.Rows.{Mark, Content, Nothing, Inline, Block, content_te
 use Rattle.yq_rows.specs.View.{Slices, anchor_cut, content_cut, slices, rows_of}
 use Rattle.yq_rows.proofs.NodePieces.{BeginsAscii, tail_ascii, before_ascii, node_pieces}
 use Rattle.yq_rows.proofs.PlaceLaws.{place, row_in}
+use Rattle.yq_rows.proofs.EmptyTexts.{empty_is}
 use Rattle.yq_tree.specs.CommentReading.{before_tail, before_row}
 use Rattle.yq_tree.specs.EntryReading.{before_line, head_end, head_extent}
-use Rattle.yq_documents.proofs.HeadLaws.{no_anchor}
 use Rattle.yq_tree.proofs.CommentPieceLaws.{Ended, content_end}
 use Rattle.yq_tree.proofs.CommentPieceLaws.{tail_place}
 use Rattle.yq_tree.proofs.SeamLaws.{seam_boundary, ended_seam, ended_after, raw_end, last_ended, line_boundary}
@@ -55,7 +55,7 @@ node_core flow spaces d total (alias n) rest h = unnamed_core total (alias n) re
 node_core flow spaces d total (scalar p) rest h = unnamed_core total (scalar p) rest refl
 node_core flow spaces d total (coll k g is) rest h = unnamed_core total (coll k g is) rest refl
 node_core flow spaces d total (anchored n g node) rest h =
-    anchor_core n (total - length (node_text (anchored n g node) rest)) (locate total node rest) ∙ unnamed_core total node rest (no_anchor node h.3)
+    anchor_core n (total - length (node_text (anchored n g node) rest)) (locate total node rest) ∙ unnamed_core total node rest (takes_unanchored node h.3)
 
 core_span : (t : List ℕ) (p : Placed) → HasSpans t p → IsSpan t (core_of p) (end_of p)
 core_span t (placed a s c e f) h = h.1
@@ -67,12 +67,8 @@ bare_front [] rows.Dash e h = absurd (false≢true (sym e))
 bare_front [] (rows.Key key colon) e h = absurd (false≢true (sym e))
 bare_front (n ∷ ns) m e h = absurd (false≢true (sym e ∙ h.1))
 
-no_bytes : (t : List ℕ) → is_empty t ≡ true → t ≡ []
-no_bytes [] e = refl
-no_bytes (b ∷ t) e = absurd (false≢true e)
-
 bare_space : (m : Mark) (space : List ℕ) (node : Node) (tail rest : List ℕ) → is_entry m ≡ false → IsMark m (Inline space node tail) rest → space ≡ []
-bare_space rows.Bare space node tail rest e h = no_bytes space (and_parts (is_empty space) (is_more node) h).0
+bare_space rows.Bare space node tail rest e h = empty_is space (and_parts (is_empty space) (is_more node) h).0
 bare_space rows.Dash space node tail rest e h = absurd (false≢true (sym e))
 bare_space (rows.Key key colon) space node tail rest e h = absurd (false≢true (sym e))
 

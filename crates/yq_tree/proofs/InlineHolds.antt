@@ -38,6 +38,7 @@ use Rattle.yq_tree.proofs.PrintedLaws.{ArePrinted, lines_are, document_is}
 use Rattle.yq_tree.proofs.RowPathLaws.{document_fine}
 use Rattle.yq_tree.proofs.SeatedLines.{IsPlaced, document_placed}
 use Rattle.yq_tree.proofs.SeatLaws.{part_begins}
+use Rattle.yq_tree.proofs.PrintedTexts.{map_some}
 
 -- what the code answers is the extent of the place
 pub inline_spans_are : (c : Cut) (doc : ℕ) (steps : List Step) → IsCut (cut_text c) c → all_documents c ≡ true → option_map extent_of (inline_from doc steps c) ≡ extent_at doc steps c
@@ -118,10 +119,6 @@ pub record IsInlineAt (t : List ℕ) (c : Cut) (path : Path) (x : InlineExtent) 
   pub text : t ≡ place.before ++ (written_text place.old ++ place.behind)
   pub bytes : HasBytes place.old
   pub span : IsSpan t x.0 x.1
-
-map_some : {A B : Type 0} {f : A → B} {y : B} (o : Option A) → option_map f o ≡ Some y → (x : A) × (o ≡ Some x) × (f x ≡ y)
-map_some None e = absurd (none-some _ e)
-map_some (Some x) e = (x, refl, same_Some _ _ e)
 
 pub is_inline_at : (t : List ℕ) (c : Cut) (path : Path) (x : InlineExtent) → IsUtf8 t → IsCut t c → all_documents c ≡ true → Some x ≡ option_map extent_of (inline_place path c) → IsInlineAt t c path x
 is_inline_at t c path x u cut sound e =

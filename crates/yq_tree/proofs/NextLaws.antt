@@ -21,7 +21,7 @@ even_starts n k end e h = tt
 even_starts n k (row l u a) e h = omega (arith, e.0, h)
 
 -- what stands behind a place is no deeper than what it allows
-allowed_level : (n m : ℕ) (p : Place) → Allows n p m → n ≤ m
+pub allowed_level : (n m : ℕ) (p : Place) → Allows n p m → n ≤ m
 allowed_level n m here h = omega (arith, h)
 allowed_level n m (below l p a) h = omega (arith, h.3.1, allowed_level h.3.0 m p h.3.2)
 allowed_level n m (beside l u p) h = allowed_level n m p h.4

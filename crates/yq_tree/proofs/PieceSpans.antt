@@ -15,7 +15,7 @@ use Rattle.yq_inline.proofs.PathLaws.{path_places}
 use Rattle.yq_rows.specs.Exchange.{before_content, behind_row}
 use Rattle.yq_rows.specs.Rows.{Content, Nothing, Inline, Block, content_text, Row, Part, Cut, cut_text}
 use Rattle.yq_rows.specs.View.{rows_of}
-use Rattle.yq_rows.proofs.PlaceLaws.{place}
+use Rattle.yq_rows.proofs.PlaceLaws.{place, content_then}
 use Rattle.yq_documents.specs.declared.path.Part.TheVariants as parts
 use Rattle.yq_tree.specs.EntryReading as places
 use Rattle.yq_tree.specs.EntryReading.{lines_place, line_head, lines_content, line_content, line_entry, inline_node, placed_inline, flow_entry, entry_from, content_from, content_at, entry_at}
@@ -23,7 +23,7 @@ use Rattle.yq_lines.specs.Ends.{deeper_count, lines_end}
 use Rattle.yq_lines.specs.Group.{group, level_or, is_fine}
 use Rattle.yq_documents.specs.Lines.{head_of, tail_of, lines_of}
 use Rattle.yq_lines.specs.Outline as outlines
-use Rattle.yq_lines.specs.Outline.{Mark, Line, level, Outline, end, row, flatten, IsEven, IsWhole}
+use Rattle.yq_lines.specs.Outline.{Line, level, Outline, end, row, flatten, IsEven, IsWhole}
 use Rattle.yq_lines.specs.Places.{lines_before, lines_after, Found, find}
 use Rattle.yq_lines.specs.Ends.{reached}
 use Rattle.yq_documents.specs.Seats.{Seat, seat}
@@ -34,7 +34,7 @@ use Rattle.yq_tree.proofs.RowPathLaws.{found_lines, found_place}
 use Rattle.yq_documents.specs.Pieces.{piece_span, head_piece}
 use Rattle.yq_tree.specs.PrintedLines.{line_front, PrintedLine, print_line, print_lines, printed_lines, line_in, run_piece, lines_piece}
 use Rattle.yq_tree.specs.PathPieces.{BlockEntry, entry_piece, content_piece, FlowEntry, flow_at, content_inline, line_inline, flow_piece, flow_content, PrintedDocument, found_entry, piece_in_entry, piece_in}
-use Rattle.yq_tree.proofs.PrintedTexts.{content_then, lines_then}
+use Rattle.yq_tree.proofs.PrintedTexts.{lines_then}
 use Rattle.yq_tree.proofs.PieceTexts.{entry_text, item_text, entry_whole, at_whole}
 use Rattle.yq_tree.proofs.PrintedLaws.{IsPrinted, ArePrinted, lines_are}
 use Rattle.yq_tree.proofs.FoundEntries.{lines_count, within_some, IsFound, entry_found, line_there, entry_is}
@@ -43,6 +43,7 @@ use Rattle.yq_tree.proofs.SeatedLines.{IsSeated, IsPlaced}
 use Rattle.yq_tree.proofs.RunSpans.{get_some, get_drop, content_size, seat_at, run_span, head_span}
 use Rattle.yq_tree.proofs.UnderCounts.{count_stops, count_holds, end_is}
 use Rattle.yq_tree.proofs.FlowSpans.{item_place, value_place}
+use Rattle.yq_tree.proofs.PieceSpelling.{bare_is}
 
 -- where a path leads among lines, by the number of the line
 abbrev pub by_line : Option (Found × List Step) → Option (ℕ × List Step)
@@ -57,11 +58,6 @@ line_more (k ∷ ls) (suc n) l e = ap (print_line k) (line_more ls n l e)
 whole_head : (h : Option tree.Node) (a : Outline) → IsWhole outlines.Bare h a → (n : tree.Node) × (h ≡ Some n)
 whole_head None a w = absurd w
 whole_head (Some n) a w = (n, refl)
-
-bare_is : (m : Mark) → is_bare m ≡ true → m ≡ outlines.Bare
-bare_is outlines.Bare t = refl
-bare_is (outlines.Key x) t = cc
-bare_is outlines.Dash t = cc
 
 -- a line of its own spells a node
 pub bare_head : (e : ℕ) (l : PrintedLine) (us : List PrintedLine) (o : Outline) → IsEven e o → map line_in (l ∷ us) ≡ flatten o → is_bare l.line.mark ≡ true → (n : tree.Node) × (l.line.head ≡ Some n)

@@ -74,7 +74,7 @@ line_spells s before l rest x told e n =
     let k = head_spells s before l.content rest x e told.written in
     record { anchor = l.line.anchor; tree = k.0; node = ap (λ h. outlines.anchored l.line.anchor (head_or h n)) (told.head ∙ k.1); spelled = k.2 }
 
-bare_is : (m : Mark) → is_bare m ≡ true → m ≡ outlines.Bare
+pub bare_is : (m : Mark) → is_bare m ≡ true → m ≡ outlines.Bare
 bare_is outlines.Bare e = refl
 bare_is (outlines.Key k) e = cc
 bare_is outlines.Dash e = cc

@@ -12,6 +12,7 @@ use Rattle.yq_scalar.proofs.Bools.{bind_some, guard_then}
 use Rattle.yq_inline.specs.Nodes.{Node, empty, alias, scalar, coll, anchored, Items, none, item, key_text, sep_text, open_of, node_text, items_text}
 use Rattle.yq_inline.specs.Trees.{inner, key_content}
 use Rattle.yq_inline.proofs.WrittenLaws.{key_append, sep_append, node_append, node_then}
+use Rattle.yq_inline.proofs.PathLaws.{then_some}
 use Rattle.yq_rows.specs.Grammar.{begins_document}
 use Rattle.yq_rows.specs.Rows.{Content, Nothing, Inline, Block, content_text, Part, part_text, Cut, last, marked, cut_text}
 use Rattle.yq_rows.specs.View.{content_cut}
@@ -31,7 +32,7 @@ use Rattle.yq_tree.proofs.ReadLaws.{text_takes}
 use Rattle.yq_documents.specs.Pieces.{Piece, node_piece, head_piece, tail_comment, content_comment, last_run, before_run, gap_comment}
 use Rattle.yq_documents.proofs.RunLaws.{run_split}
 use Rattle.yq_tree.specs.PathPieces.{BlockEntry, content_piece, FlowEntry, flow_in, flow_under, flow_at, content_inline, line_inline, flow_piece, flow_content, PrintedDocument, behind_text, printed_part, printed_document, entry_with, found_entry, piece_in_entry, piece_in}
-use Rattle.yq_tree.proofs.PrintedTexts.{line_then, lines_then, lines_append, run_is, then_some, map_some, line_split, rows_are}
+use Rattle.yq_tree.proofs.PrintedTexts.{line_then, lines_then, lines_append, run_is, map_some, line_split, rows_are}
 
 -- a piece with the text before and behind it
 abbrev pub piece_text : Piece → List ℕ

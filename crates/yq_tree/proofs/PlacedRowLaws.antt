@@ -19,7 +19,7 @@ use Rattle.yq_tree.specs.PlacedRows.{PlacedPart, PlacedRow, part_behind, placed_
 use Rattle.yq_tree.specs.SeatReading.{Numbers, numbers}
 use Rattle.yq_documents.specs.Seats.{Seat, seat_of, seat_at, rows_before, document_row}
 use Rattle.yq_tree.proofs.PrintedTexts.{map_some}
-use Rattle.yq_tree.proofs.SeatedLaws.{steps_row}
+use Rattle.yq_tree.proofs.SeatedLaws.{steps_row, get_front}
 
 -- A row of a cut stands behind others, between these texts.
 pub record IsAt (c : Cut) (i : ℕ) (before : List ℕ) (r : Row) (behind : List ℕ) : Type 0 where
@@ -35,11 +35,6 @@ rows_behind : (rows : List Row) (i : ℕ) (rest : List ℕ) → behind_at i rows
 rows_behind [] i rest = refl
 rows_behind (x ∷ rows) zero rest = refl
 rows_behind (x ∷ rows) (suc i) rest = rows_behind rows i rest
-
-get_front : (xs more : List Row) (i : ℕ) (r : Row) → slice_get xs i ≡ Some r → slice_get (xs ++ more) i ≡ Some r
-get_front [] more i r e = absurd (none-some _ e)
-get_front (x ∷ xs) more zero r e = e
-get_front (x ∷ xs) more (suc i) r e = get_front xs more i r e
 
 get_behind : (xs ys : List Row) (n : ℕ) → slice_get (xs ++ ys) (length xs + n) ≡ slice_get ys n
 get_behind [] ys n = ap (slice_get ys) (omega arith)

@@ -3,7 +3,7 @@ use Rattle.std.proofs.Common.{◌≡◌, ◌⊎◌, inl, inr, ℕ, zero, suc, �
 use Rattle.std.proofs.lemmas.Option.{none-some, same_Some}
 use Rattle.std.specs.List.{slice_get}
 use Rattle.yq_scalar.specs.Block.{IsBlock}
-use Rattle.yq_scalar.specs.Text.{upto, lines_of as text_lines}
+use Rattle.yq_scalar.specs.Text.{upto}
 use Rattle.yq_inline.specs.Nodes.{Node, IsNode}
 use Rattle.yq_lines.specs.Comments as comments
 use Rattle.yq_rows.specs.Grammar.{Limit, unlimited, limit_after, IsContent, AreRows, AreParts, begins_document}
@@ -12,6 +12,7 @@ use Rattle.yq_rows.specs.View.{content_cut}
 use Rattle.yq_rows.specs.Rows.{Content, Nothing, Inline, Block, content_text, mark_text, dashes_text, behind_gap, Row, rows_text, Part, Cut, last, marked, cut_text}
 use Rattle.yq_documents.specs.Documents.{parts_from}
 use Rattle.yq_documents.specs.Lines.{head_of, tail_of, dash_line, lines_from, lines_of}
+use Rattle.yq_documents.proofs.RowLineLaws.{no_comments}
 use Rattle.yq_tree.specs.PrintedLines.{behind_front, PrintedLine, print_lines, printed_from, printed_row, printed_lines, line_in}
 use Rattle.yq_tree.specs.PathPieces.{PrintedDocument, printed_part}
 use Rattle.yq_tree.proofs.CommentPieceLaws.{Ended, content_end, gap_end}
@@ -58,10 +59,6 @@ pub none_beside : comments.line_comment [] ≡ None
 unfolding upto
 none_beside = refl
 
-pub none_above : comments.head_comment [] ≡ []
-unfolding text_lines
-none_above = refl
-
 pub from_printed : (gap spaces : List ℕ) (column : ℕ) (ns : List ℕ) (m : rows.Mark) (c : Content) (rest : List ℕ) → IsWritten c rest → Ended (content_cut c).4 ((content_cut c).5 ++ rest) →
     (gap ≡ []) ⊎ Ended gap (spaces ++ dashes_text ns (mark_text m (content_text c rest))) → ArePrinted (printed_from gap spaces column ns m c) rest
 from_printed gap spaces column [] m c rest h e g =
@@ -88,7 +85,7 @@ map_append (x ∷ xs) ys = ap (λ l. line_in x ∷ l) (map_append xs ys)
 pub from_lines : (gap spaces : List ℕ) (column : ℕ) (ns : List ℕ) (m : rows.Mark) (c : Content) → map line_in (printed_from gap spaces column ns m c) ≡ lines_from (comments.head_comment gap) column ns m c
 from_lines gap spaces column [] m c = refl
 from_lines gap spaces column (n ∷ ns) m c =
-    ap (λ l. dash_line (comments.head_comment gap) column ∷ l) (from_lines [] [] (suc (column + n)) ns m c ∙ ap (λ above. lines_from above (suc (column + n)) ns m c) none_above)
+    ap (λ l. dash_line (comments.head_comment gap) column ∷ l) (from_lines [] [] (suc (column + n)) ns m c ∙ ap (λ above. lines_from above (suc (column + n)) ns m c) no_comments)
 
 pub lines_are : (rs : List Row) → map line_in (printed_lines rs) ≡ lines_of rs
 lines_are [] = refl

@@ -1,14 +1,13 @@
 -- The texts of lines, and of runs of them.
-use Rattle.std.proofs.Common.{◌≡◌, ℕ, zero, suc, ◌+◌, List, [], ◌∷◌, ◌++◌, length, take, drop, Option, Some, None, option_map, option_and_then, Bool, true, false, cond, refl, sym, ap, ◌∙◌, append_assoc, append-nil, replicate}
+use Rattle.std.proofs.Common.{◌≡◌, ℕ, zero, suc, ◌+◌, List, [], ◌∷◌, ◌++◌, length, take, drop, Option, Some, None, option_map, Bool, true, false, cond, refl, sym, ap, ◌∙◌, append_assoc, append-nil, replicate}
 use Rattle.std.proofs.lemmas.Option.{none-some, same_Some}
 use Rattle.std.specs.List.{slice_get}
 use Rattle.yq_scalar.specs.Text.{is_empty}
-use Rattle.yq_inline.specs.Nodes.{node_text}
-use Rattle.yq_inline.proofs.WrittenLaws.{node_append}
 use Rattle.yq_rows.specs.Rows as rows
-use Rattle.yq_rows.specs.Rows.{Bare, Dash, Key as MarkKey, Content, Nothing, Inline, Block, dashes_text, mark_text, content_text, Row, print_row, rows_text}
+use Rattle.yq_rows.specs.Rows.{Bare, Dash, Key as MarkKey, Content, dashes_text, mark_text, content_text, Row, print_row, rows_text}
 use Rattle.yq_rows.specs.View.{content_cut}
 use Rattle.yq_rows.proofs.SliceLaws.{content_slices}
+use Rattle.yq_rows.proofs.PlaceLaws.{content_then}
 use Rattle.yq_tree.specs.PrintedLines.{is_last_break, less_break, less_last, less_end, last_break, end_break, PrintedLine, line_front, behind_front, print_line, print_lines, printed_from, printed_row, printed_lines, run_text, run_break}
 
 -- a text less its last break, and that break
@@ -36,13 +35,6 @@ end_is c z =
     four x.0 x.1 x.2 x.3 (less_last x.4 x.5) (end_break c ++ z)
     ∙ (ap (λ l. x.0 ++ (x.1 ++ (x.2 ++ (x.3 ++ l)))) (last_is x.4 x.5 z) ∙ content_slices c z)
 
-pub content_then : (c : Content) (t u : List ℕ) → content_text c (t ++ u) ≡ content_text c t ++ u
-content_then (Nothing tail) t u = sym (append_assoc tail t u)
-content_then (Inline space node tail) t u =
-    ap (λ l. space ++ l) (ap (node_text node) (sym (append_assoc tail t u)) ∙ node_append node (tail ++ t) u) ∙ sym (append_assoc space (node_text node (tail ++ t)) u)
-content_then (Block space None block) t u = simp append_assoc refl
-content_then (Block space (Some a) block) t u = simp append_assoc refl
-
 pub front_then : (l : PrintedLine) (t u : List ℕ) → behind_front l (t ++ u) ≡ behind_front l t ++ u
 front_then l t u = ap (λ x. l.mark ++ x) (content_then l.content t u) ∙ sym (append_assoc l.mark (content_text l.content t) u)
 
@@ -63,10 +55,6 @@ run_is l [] z = append_assoc l.mark (less_end l.content) (end_break l.content ++
 run_is l (k ∷ ks) z =
     sym (front_then l (line_front k ++ run_text k ks) (run_break k ks ++ z))
     ∙ ap (behind_front l) (append_assoc (line_front k) (run_text k ks) (run_break k ks ++ z) ∙ ap (λ x. line_front k ++ x) (run_is k ks z))
-
-pub then_some : {A B : Type 0} {f : A → Option B} {y : B} (o : Option A) → option_and_then f o ≡ Some y → (x : A) × (o ≡ Some x) × (f x ≡ Some y)
-then_some None h = cc
-then_some (Some x) h = (x, refl, h)
 
 pub map_some : {A B : Type 0} {f : A → B} {y : B} (o : Option A) → option_map f o ≡ Some y → (x : A) × (o ≡ Some x) × (f x ≡ y)
 map_some None h = cc

@@ -1,7 +1,7 @@
 -- What is taken out of a text with rows of a document begins and ends between lines.
 use Rattle.std.proofs.Common.{◌≡◌, ◌⊎◌, inl, inr, ℕ, zero, suc, ℤ, Bool, true, false, List, [], ◌∷◌, ◌++◌, length, take, drop, replicate, Some, refl, sym, ap, ◌∙◌, subst, append-nil}
 use Rattle.std.proofs.Math.Seq.{drop-append_seam}
-use Rattle.std.proofs.lemmas.Bool.{false≢true, and_parts}
+use Rattle.std.proofs.lemmas.Bool.{and_parts}
 use Rattle.std.proofs.lemmas.List.{take-append-drop}
 use Rattle.std.proofs.lemmas.Option.{same_Some}
 use Rattle.yq_scalar.specs.Block.{Lines}
@@ -20,6 +20,7 @@ use Rattle.yq_rows.proofs.seams.BlockFronts.{gap_front}
 use Rattle.yq_rows.proofs.seams.FrontSeams.{behind_row_some, rows_some}
 use Rattle.yq_rows.proofs.seams.SeamLaws.{rows_drop, rows_text-append}
 use Rattle.yq_rows.proofs.splices.SpliceTexts.{first_is, first_text}
+use Rattle.yq_rows.proofs.EmptyTexts.{none_is}
 use Rattle.yq_documents.specs.Pieces.{before_run, last_run}
 use Rattle.yq_tree.specs.PlacedRows.{PlacedPart, part_behind, placed_part}
 use Rattle.yq_tree.specs.RemovalPlaces.{comment_above, rows_out}
@@ -40,13 +41,10 @@ seam_join a b c h (inr (inr e)) = inr (inr e)
 abbrev pub AtLine : List ℕ → Type 0
 AtLine a = (a ≡ []) ⊎ IsLf a
 
-not_none : (t : List ℕ) → is_empty t ≡ false → t ≡ [] → ⊥
-not_none t some e = false≢true (sym some ∙ ap is_empty e)
-
 at_line : (a b : List ℕ) → LineSeam a b → is_empty b ≡ false → AtLine a
 at_line a b (inl e) some = inl e
 at_line a b (inr (inl lf)) some = inr lf
-at_line a b (inr (inr e)) some = absurd (not_none b some e)
+at_line a b (inr (inr e)) some = absurd (none_is b some e)
 
 lines_join : (a b : List ℕ) → AtLine a → AtLine b → AtLine (a ++ b)
 lines_join a b h (inl e) = subst AtLine (sym (ap (λ (x : List ℕ). a ++ x) e ∙ append-nil a)) h

@@ -31,7 +31,7 @@ use Rattle.yq_documents.specs.Seats.{Seat, behind_one, seat}
 use Rattle.yq_tree.proofs.CountLaws.{AreCounted, cut_counted}
 use Rattle.yq_tree.proofs.PlacedPartLaws.{map_some}
 use Rattle.yq_tree.proofs.RemovalTexts.{gap_parts}
-use Rattle.yq_tree.proofs.SeatLaws.{seat_told}
+use Rattle.yq_tree.proofs.SeatLaws.{seat_told, counted_drop}
 
 -- ---- a gap cut before its comment
 
@@ -111,11 +111,6 @@ end_past (suc n) (l ∷ ls) h = omega (arith, end_past n ls (omega (arith, h)))
 some_lines : (rs : List Row) → 0 < length rs → 0 < length (lines_of rs)
 some_lines [] h = absurd (omega (arith, h))
 some_lines (r ∷ rs) h = omega (arith, more_lines r rs)
-
-counted_drop : (k : ℕ) (rs : List Row) → AreCounted rs → AreCounted (drop k rs)
-counted_drop zero rs h = h
-counted_drop (suc k) [] h = h
-counted_drop (suc k) (r ∷ rs) h = counted_drop k rs h.1
 
 same_count : (k : ℕ) (rs more : List Row) → AreCounted (rs ++ more) → k ≤ length (lines_of rs) → slices_count k (map slices (rs ++ more)) ≡ row_count k rs
 same_count zero rs more h less = refl

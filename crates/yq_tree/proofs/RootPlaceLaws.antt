@@ -30,11 +30,11 @@ use Rattle.yq_tree.proofs.CommentPieceLaws.{gap_end}
 use Rattle.yq_tree.proofs.LengthLaws.{part-length, shown_small}
 use Rattle.yq_documents.proofs.PartsLinedLaws.{document_is}
 use Rattle.yq_tree.proofs.PlacedPartLaws.{map_some, part_stands}
+use Rattle.yq_documents.proofs.RowFlowLaws.{lines_count}
 use Rattle.yq_tree.proofs.PlacedRowLaws.{part_of, document_placed}
 use Rattle.yq_tree.proofs.RemovalLines.{LineSeam, lies_in, seam_join}
 use Rattle.yq_tree.proofs.RemovalTold.{line_boundary}
 use Rattle.yq_tree.proofs.SeatLaws.{none_past, part_at as part_of_held}
-use Rattle.yq_tree.proofs.SeatLineLaws.{lines_count}
 
 -- ---- part after part
 

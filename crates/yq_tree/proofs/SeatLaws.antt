@@ -10,13 +10,12 @@ use Rattle.yq_scalar.specs.Answers.{◌>>=◌}
 use Rattle.yq_scalar.specs.Paths.{Step}
 use Rattle.yq_lines.specs.Comments as comments
 use Rattle.yq_rows.specs.Grammar.{begins_document, IsCut}
-use Rattle.yq_rows.specs.Rows as rows
-use Rattle.yq_rows.specs.Rows.{Content, Row, Part, Cut, last, marked}
+use Rattle.yq_rows.specs.Rows.{Row, Part, Cut, last, marked}
 use Rattle.yq_rows.specs.View.{Slices, slices, Bound, bounds_from, rows_of, Shown, shown}
 use Rattle.yq_documents.specs.declared.path.Part.{Part as Place}
 use Rattle.yq_documents.specs.Documents.{parts_from, document_parts, begins_bare, has_begin}
 use Rattle.yq_tree.specs.Extents.{lines_before_mark}
-use Rattle.yq_documents.specs.Lines.{lines_from, row_lines, lines_of}
+use Rattle.yq_documents.specs.Lines.{row_lines, lines_of}
 use Rattle.yq_lines.specs.Outline.{Line}
 use Rattle.yq_documents.specs.PartReading.{lined, document_view, some_begin, first_rows}
 use Rattle.yq_documents.specs.Reading.{cut_of}
@@ -28,12 +27,9 @@ use Rattle.yq_tree.proofs.CountLaws.{AreCounted, cut_counted}
 use Rattle.yq_lines.proofs.Parts.{drop_at}
 use Rattle.yq_documents.proofs.PartsLinedLaws.{document_is}
 use Rattle.yq_documents.specs.declared.checks.DocumentLines.{DocumentLines}
+use Rattle.yq_documents.proofs.RowFlowLaws.{lines_count}
 
 -- a line of rows, in front of other rows
-lines_count : (above : List (List ℕ)) (column : ℕ) (ns : List ℕ) (m : rows.Mark) (x : Content) → length (lines_from above column ns m x) ≡ suc (length ns)
-lines_count above column [] m x = refl
-lines_count above column (n ∷ ns) m x = ap suc (lines_count [] (suc (column + n)) ns m x)
-
 seat_front : (rs more : List Row) (n : ℕ) → n < length (lines_of rs) → seat n (rs ++ more) ≡ seat n rs
 seat_front [] more n h = absurd (omega (arith, h))
 seat_front (r ∷ rs) more n h = go (ltb (length r.dashes) n) refl (λ k. seat_front rs more (n - suc (length r.dashes)) k)
@@ -70,7 +66,7 @@ same_seat n (r ∷ rs) h =
     go true e = ap (behind 1) e ∙ one_more (seat (n - suc (length r.dashes)) rs)
     go false e = refl
 
-counted_drop : (k : ℕ) (rs : List Row) → AreCounted rs → AreCounted (drop k rs)
+pub counted_drop : (k : ℕ) (rs : List Row) → AreCounted rs → AreCounted (drop k rs)
 counted_drop zero rs h = h
 counted_drop (suc k) [] h = h
 counted_drop (suc k) (r ∷ rs) h = counted_drop k rs h.1

@@ -9,6 +9,7 @@ use Rattle.yq_rows.specs.Rows.{Content, Row}
 use Rattle.yq_documents.specs.Lines.{lines_from, row_lines, lines_of}
 use Rattle.yq_lines.specs.Outline.{Dash, Line}
 use Rattle.yq_documents.specs.Seats.{Seat, behind_one, seat}
+use Rattle.yq_documents.proofs.RowFlowLaws.{lines_count}
 
 -- Line n of a row, before whose mark so many dashes stand: before the mark it is that of a dash.
 pub record IsTold (dashes n : ℕ) (l : Line) : Type 0 where
@@ -22,10 +23,6 @@ line_from above column (k ∷ ns) m c zero l e = subst (IsTold (suc (length ns))
 line_from above column (k ∷ ns) m c (suc n) l e =
     let h = line_from [] (suc (column + k)) ns m c n l e in
     record { within = omega (arith, h.within); dash = λ p. h.dash (omega (arith, p)) }
-
-pub lines_count : (above : List (List ℕ)) (column : ℕ) (ns : List ℕ) (m : rows.Mark) (x : Content) → length (lines_from above column ns m x) ≡ suc (length ns)
-lines_count above column [] m x = refl
-lines_count above column (n ∷ ns) m x = ap suc (lines_count [] (suc (column + n)) ns m x)
 
 get_front : (xs ys : List Line) (n : ℕ) (l : Line) → n < length xs → slice_get (xs ++ ys) n ≡ Some l → slice_get xs n ≡ Some l
 get_front [] ys n l h e = absurd (omega (arith, h))

@@ -97,7 +97,7 @@ get_behind : {A : Type 0} (xs ys : List A) (n : ℕ) → slice_get (xs ++ ys) (l
 get_behind [] ys n = ap (slice_get ys) (omega arith)
 get_behind (x ∷ xs) ys n = let more : suc (length xs) + n ≡ suc (length xs + n) = omega arith in ap (slice_get (x ∷ (xs ++ ys))) more ∙ get_behind xs ys n
 
-row_count : (gap spaces : List ℕ) (column : ℕ) (ns : List ℕ) (m : rows.Mark) (c : Content) → length (printed_from gap spaces column ns m c) ≡ suc (length ns)
+pub row_count : (gap spaces : List ℕ) (column : ℕ) (ns : List ℕ) (m : rows.Mark) (c : Content) → length (printed_from gap spaces column ns m c) ≡ suc (length ns)
 row_count gap spaces column [] m c = refl
 row_count gap spaces column (n ∷ ns) m c = ap suc (row_count [] [] (suc (column + n)) ns m c)
 

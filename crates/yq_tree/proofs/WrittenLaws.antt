@@ -6,7 +6,7 @@ use Rattle.yq_rows.specs.Exchange.{with_content, allows_first}
 use Rattle.yq_rows.specs.Grammar.{is_plain, unlimited, limit_after}
 use Rattle.yq_rows.specs.Rows.{Inline, Row, parent_indent}
 
-free_first : (rs : List Row) → allows_first unlimited rs ≡ true
+pub free_first : (rs : List Row) → allows_first unlimited rs ≡ true
 free_first [] = refl
 free_first (r ∷ rs) = refl
 

@@ -1,8 +1,5 @@
 -- The rows of one item or entry that is written.
 use Rattle.std.proofs.Common.{◌≡◌, ℕ, ◌+◌, ◌*◌, ◌<◌, ◌≤◌, true, List, [], ◌∷◌, ◌++◌, Option, Some, None, refl, sym, ap, ◌∙◌, subst, arith, append-nil}
-use Rattle.yq_scalar.specs.declared.block_written.Break.{Break}
-use Rattle.yq_scalar.specs.declared.block_written.Break.TheVariants as breaks
-use Rattle.yq_scalar.specs.BlockWritten.{break_text}
 use Rattle.yq_scalar.specs.Text.{upto}
 use Rattle.yq_scalar.specs.Tree as tree
 use Rattle.yq_scalar.specs.Tree.{Node, Children, none, child}
@@ -109,12 +106,7 @@ one_row key v column (row l u a) rs even lines same =
       node_is = only.1;
     }
 
--- a break is no comment, nor is nothing
-pub break_quiet : (br : Break) → line_comment (break_text br) ≡ None
-unfolding upto
-break_quiet breaks.Lf = refl
-break_quiet breaks.CrLf = refl
-
+-- nothing is no comment
 pub none_quiet : line_comment [] ≡ None
 unfolding upto
 none_quiet = refl

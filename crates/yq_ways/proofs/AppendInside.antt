@@ -35,6 +35,7 @@ use Rattle.yq_change.specs.Rooms.{is_block_root}
 use Rattle.yq_change.proofs.AppendLaws.{block_appended}
 use Rattle.yq_change.proofs.EndedRowLaws.{rows_then}
 use Rattle.yq_change.proofs.TextPieceLaws.{pieces_joined}
+use Rattle.yq_block.proofs.LineLaws.{break_quiet}
 use Rattle.yq_meaning.specs.Operations.{append}
 use Rattle.yq_script.specs.Script.{new_text}
 use Rattle.yq_ways.specs.Layouts.{layout_of}
@@ -42,7 +43,6 @@ use Rattle.yq_ways.specs.AppendWay.{entry_lines, put_segments}
 use Rattle.yq_ways.specs.Ways.{ReadsAfter}
 use Rattle.yq_ways.proofs.CommentPieceLaws.{break_piece}
 use Rattle.yq_ways.proofs.SegmentLaws.{segments_readable}
-use Rattle.yq_ways.proofs.AppendEntryLaws.{break_quiet}
 use Rattle.yq_ways.proofs.AppendPlaces.{p, there, e, allows_there, kept_pieces, IsAsked, entry, written, new_rows_are, entry_piece, filled, finished}
 
 last_closed : (others : List Row) (r : Row) → is_broken r.content ≡ true → ends_in_block (others ++ (r ∷ [])) ≡ false → ends_in_line (others ++ (r ∷ [])) ≡ true

@@ -50,9 +50,10 @@ use Rattle.yq_ways.specs.Ways.{ReadsAfter}
 use Rattle.yq_ways.proofs.AppendEntryLaws.{alone_value, alone_writable, IsEntryOf, entry_of, entry_keys, entry_anchors, entry_bare, entry_rows_are}
 use Rattle.yq_ways.proofs.DoneLaws.{document_done}
 use Rattle.yq_ways.proofs.FitLaws.{new_value, key_near, near_keys}
-use Rattle.yq_ways.proofs.CommentPieceLaws.{nothing, spaces_piece}
+use Rattle.yq_ways.proofs.CommentPieceLaws.{nothing}
 use Rattle.yq_lines.specs.Comments.{line_comment as said}
 use Rattle.yq_rows.specs.Gap.{IsGap}
+use Rattle.yq_change.proofs.RemovalPieceLaws.{spaces_piece}
 use Rattle.yq_ways.proofs.AppendTakers.{IsTaker, taker}
 use Rattle.yq_ways.proofs.LayoutLaws.{steps_least}
 

@@ -2,15 +2,12 @@
 use Rattle.std.proofs.Common.{◌≡◌, ◌⊎◌, inl, inr, ℕ, List, [], ◌∷◌, length, drop, Bool, true, false, cond, ◌&&◌, ◌||◌, refl, sym, ap, ◌∙◌, eqb-true}
 use Rattle.std.proofs.lemmas.Bool.{false≢true, and_parts}
 use Rattle.yq_scalar.specs.Text.{front, is_break, is_empty, is_feed, is_line, is_return}
+use Rattle.yq_rows.proofs.EmptyTexts.{empty_is}
 use Rattle.yq_tree.specs.PrintedLines.{is_last_break, less_break, last_break}
 
 -- a break: LF or CR LF
 abbrev pub IsLfOrCrLf : List ℕ → Type 0
 IsLfOrCrLf t = (t ≡ 10 ∷ []) ⊎ (t ≡ 13 ∷ (10 ∷ []))
-
-empty_is : (t : List ℕ) → is_empty t ≡ true → t ≡ []
-empty_is [] h = refl
-empty_is (b ∷ t) h = absurd (false≢true h)
 
 pub break_is : (p : List ℕ) → (is_break p && is_line p) ≡ true → IsLfOrCrLf p
 unfolding is_line

@@ -3,21 +3,15 @@ use Rattle.std.proofs.Common.{◌≡◌, ◌⊎◌, inl, inr, ℕ, Bool, true, f
 use Rattle.std.proofs.lemmas.Bool.{false≢true, and_parts, cases_Bool, or_parts}
 use Rattle.yq_scalar.specs.BlockWritten.{break_text}
 use Rattle.yq_scalar.specs.Characters.{pairs_returns}
-use Rattle.yq_scalar.specs.Text.{front, is_feed, is_return, is_empty, is_break, is_line, ends_line, NoneIn}
+use Rattle.yq_scalar.specs.Text.{front, is_feed, is_return, is_empty, ends_line, NoneIn}
 use Rattle.yq_scalar.specs.declared.block_written.Break.{Break}
-use Rattle.yq_scalar.specs.declared.block_written.Break.TheVariants.{Lf, CrLf}
 use Rattle.yq_lines.specs.Comments.{line_comment}
 use Rattle.yq_rows.specs.Gap.{IsBreak, IsComment}
 use Rattle.yq_rows.specs.Grammar.{IsTail}
 use Rattle.yq_rows.proofs.CharacterLaws.{pairs_back}
 use Rattle.yq_rows.proofs.seams.ScalarSeams.{ends_return}
 use Rattle.yq_change.proofs.EndLaws.{told, comment_is}
-
--- a break
-pub break_is : (br : Break) → (is_break (break_text br) && is_line (break_text br)) ≡ true
-unfolding is_line
-break_is Lf = refl
-break_is CrLf = refl
+use Rattle.yq_ways.proofs.CommentReadLaws.{break_is}
 
 -- what stands in front of a break ends in no CR
 pub front_clean : (c rest : List ℕ) → pairs_returns (c ++ rest) ≡ true → NoneIn ends_line c rest → ends_return c ≡ false

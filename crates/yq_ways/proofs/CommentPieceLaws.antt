@@ -21,6 +21,7 @@ use Rattle.yq_change.proofs.LineFrontLaws.{clean_byte, clean_cut}
 use Rattle.yq_change.proofs.TextPieceLaws.{pieces_joined, line_cut}
 use Rattle.yq_meaning.specs.Changes.{is_comment}
 use Rattle.yq_program.specs.declared.program.CommentPlace.TheVariants as comments
+use Rattle.yq_change.proofs.RemovalPieceLaws.{spaces_piece}
 use Rattle.yq_meaning.specs.Meaning.{head_of, onto_first, parted}
 use Rattle.yq_ways.specs.CommentWays.{head_line, head_lines}
 
@@ -47,10 +48,6 @@ shown_piece b h = let x = low_line b h in record { utf8 = x.1; characters = line
 
 pub byte_then : (b : ℕ) (t : List ℕ) → is_shown b ≡ true → IsPiece t → IsPiece (b ∷ t)
 byte_then b t h k = pieces_joined (b ∷ []) t (shown_piece b h) k
-
-pub spaces_piece : (n : ℕ) → IsPiece (replicate n 32)
-spaces_piece zero = nothing
-spaces_piece (suc n) = byte_then 32 (replicate n 32) refl (spaces_piece n)
 
 break_chars : (br : Break) → (encodes (break_text br) ≡ break_text br) × (scalars (break_text br) ≡ true) × (list_all is_text_char (break_text br) ≡ true) × (pairs_returns (break_text br) ≡ true)
 unfolding pairs_returns

@@ -13,6 +13,7 @@ use Rattle.yq_scalar.proofs.WrittenText.{no_break}
 use Rattle.yq_lines.specs.Comments.{less_space, comment_text, are_comments, with_text, last_comments, head_comment as head_texts}
 use Rattle.yq_rows.specs.Gap.{IsWhite, IsGap, IsGapLine, AreGapLines}
 use Rattle.yq_rows.proofs.LineEnds.{text_line, white_again, white_none}
+use Rattle.yq_rows.proofs.RowAgain.{white_spaces}
 use Rattle.yq_ways.specs.CommentWays.{head_line, head_lines}
 use Rattle.yq_ways.proofs.CommentPieceLaws.{AreParts}
 
@@ -57,14 +58,10 @@ break_ends : (br : Break) (rest : List ℕ) → ends_line (break_text br ++ rest
 break_ends Lf rest = refl
 break_ends CrLf rest = refl
 
-break_is : (br : Break) → (is_break (break_text br) && is_line (break_text br)) ≡ true
+pub break_is : (br : Break) → (is_break (break_text br) && is_line (break_text br)) ≡ true
 unfolding is_line
 break_is Lf = refl
 break_is CrLf = refl
-
-spaces_white : (n : ℕ) → IsWhite (replicate n 32)
-spaces_white zero = tt
-spaces_white (suc n) = (refl, spaces_white n)
 
 -- a line of a head comment
 line_is : (column : ℕ) (br : Break) (t : List ℕ) → Each no_break t → is_line (head_line column (break_text br) t) ≡ true
@@ -73,15 +70,15 @@ line_is column br t h =
     let comment : List ℕ = 35 ∷ behind_hash t in
     let none : NoneIn ends_line comment (break_text br) = (refl, hash_none t (break_text br) h) in
     ap is_line (sym (append_assoc white comment (break_text br)))
-    ∙ (text_line (white ++ comment) (break_text br) (white_none white comment (break_text br) (spaces_white column) none) ∙ (and_parts (is_break (break_text br)) (is_line (break_text br)) (break_is br)).1)
+    ∙ (text_line (white ++ comment) (break_text br) (white_none white comment (break_text br) (white_spaces column) none) ∙ (and_parts (is_break (break_text br)) (is_line (break_text br)) (break_is br)).1)
 
 line_tells : (column : ℕ) (br : Break) (t : List ℕ) → Each no_break t → comment_text (head_line column (break_text br) t) ≡ Some t
 line_tells column br t h =
-    comment_behind (replicate column 32) (break_text br) (behind_hash t) (spaces_white column)
+    comment_behind (replicate column 32) (break_text br) (behind_hash t) (white_spaces column)
     ∙ (comment_is (behind_hash t) (break_text br) (hash_none t (break_text br) h) (ap ends_line (sym (append-nil (break_text br))) ∙ break_ends br []) ∙ ap Some (less_is t))
 
 line_begins : (column : ℕ) (br : Break) (t : List ℕ) → front (λ b. eqb b 35) (past_white (head_line column (break_text br) t)) ≡ true
-line_begins column br t = ap (λ (x : List ℕ × List ℕ). front (λ b. eqb b 35) x.1) (white_again (replicate column 32) (35 ∷ (behind_hash t ++ break_text br)) (spaces_white column) refl)
+line_begins column br t = ap (λ (x : List ℕ × List ℕ). front (λ b. eqb b 35) x.1) (white_again (replicate column 32) (35 ∷ (behind_hash t ++ break_text br)) (white_spaces column) refl)
 
 lines_are : (column : ℕ) (br : Break) (t : List ℕ) (ts : List (List ℕ)) → Each no_break t → lines_of (head_lines column (break_text br) (t ∷ ts)) ≡ head_line column (break_text br) t ∷ lines_of (head_lines column (break_text br) ts)
 lines_are column br t ts h = lines_again (head_line column (break_text br) t) (head_lines column (break_text br) ts) (line_is column br t h)
@@ -119,7 +116,7 @@ gap_line : (column : ℕ) (br : Break) (t rest : List ℕ) → Each no_break t �
 gap_line column br t rest h = record {
   white = replicate column 32;
   comment = 35 ∷ behind_hash t;
-  line = record { break = break_text br; spelled = refl; blank = spaces_white column; remark = (refl, hash_none t (break_text br) h); ends = inl (break_is br) };
+  line = record { break = break_text br; spelled = refl; blank = white_spaces column; remark = (refl, hash_none t (break_text br) h); ends = inl (break_is br) };
   some = some_line column (behind_hash t ++ break_text br);
 }
 

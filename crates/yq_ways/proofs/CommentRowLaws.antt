@@ -1,5 +1,5 @@
 -- The row of the line to which steps lead, in its document and in the text.
-use Rattle.std.proofs.Common.{◌≡◌, ◌⊎◌, inl, inr, ⊎_elim, ℕ, zero, suc, ◌+◌, ◌||◌, not, true, false, List, [], ◌∷◌, ◌++◌, length, take, drop, replicate, Option, Some, None, option_and_then, refl, sym, ap, ◌∙◌, subst, append_assoc}
+use Rattle.std.proofs.Common.{◌≡◌, ◌⊎◌, inl, inr, ⊎_elim, ℕ, suc, ◌+◌, ◌||◌, not, true, false, List, [], ◌∷◌, ◌++◌, take, drop, replicate, Option, Some, None, option_and_then, refl, sym, ap, ◌∙◌, subst, append_assoc}
 use Rattle.std.proofs.lemmas.Bool.{false≢true, or_cases, cases_Bool}
 use Rattle.std.proofs.lemmas.Option.{none-some, same_Some}
 use Rattle.std.specs.List.{slice_get}
@@ -23,6 +23,8 @@ use Rattle.yq_rows.proofs.Fronts.{Starts}
 use Rattle.yq_rows.proofs.LineEnds.{line_end_behind}
 use Rattle.yq_rows.proofs.PlaceLaws.{row_then, row_in}
 use Rattle.yq_rows.proofs.RowAgain.{row_starts}
+use Rattle.yq_rows.proofs.EmptyTexts.{empty_is}
+use Rattle.yq_rows.proofs.splices.ContentPlaces.{rows_around}
 use Rattle.yq_tree.specs.CommentPlaces.{end_before, line_text}
 use Rattle.yq_documents.specs.Lines.{lines_from, lines_of}
 use Rattle.yq_tree.specs.PlacedRows.{PlacedPart, PlacedRow, placed_document, placed_row, row_of_path}
@@ -37,17 +39,6 @@ use Rattle.yq_tree.proofs.ReadLaws.{text_takes}
 use Rattle.yq_tree.proofs.SeatedLaws.{steps_row}
 use Rattle.yq_change.specs.PlacedParts.{StandsAt}
 use Rattle.yq_change.proofs.PlacedPartLaws.{document_stands_at}
-
--- a row among rows
-pub rows_around : (rows : List Row) (i : ℕ) (r : Row) → slice_get rows i ≡ Some r → rows ≡ take i rows ++ (r ∷ drop (suc i) rows)
-rows_around [] i r h = absurd (none-some _ h)
-rows_around (x ∷ rows) zero r h = ap (λ (y : Row). y ∷ rows) (same_Some _ _ h)
-rows_around (x ∷ rows) (suc i) r h = ap (λ l. x ∷ l) (rows_around rows i r h)
-
-pub count_front : (rows : List Row) (i : ℕ) (r : Row) → slice_get rows i ≡ Some r → length (take i rows) ≡ i
-count_front [] i r h = absurd (none-some _ h)
-count_front (x ∷ rows) zero r h = refl
-count_front (x ∷ rows) (suc i) r h = ap suc (count_front rows i r h)
 
 pub rows_front : (front rs : List Row) (rest : List ℕ) → rows_text (front ++ rs) rest ≡ rows_text front [] ++ rows_text rs rest
 rows_front [] rs rest = refl
@@ -113,10 +104,6 @@ left_none : (a b : List ℕ) → a ++ b ≡ [] → a ≡ []
 left_none [] b e = refl
 left_none (x ∷ a) b e = absurd (let bad : x ∷ (a ++ b) ≡ [] = e in cc)
 
-none_of : (t : List ℕ) → is_empty t ≡ true → t ≡ []
-none_of [] h = refl
-none_of (b ∷ t) h = absurd (false≢true h)
-
 no_start : (tail more : List ℕ) → IsTail tail more → Starts (tail ++ more) → ⊥
 no_start tail more h s = let u = line_end_behind h.white h.comment tail more h.line in go h.white u.0 u.1 h.line.blank u.3
   where
@@ -139,7 +126,7 @@ line_some limit r rest h tail = go (cases_Bool (is_empty (line_text r)))
 
     go : (is_empty (line_text r) ≡ true) ⊎ (is_empty (line_text r) ≡ false) → is_empty (line_text r) ≡ false
     go (inr e) = e
-    go (inl e) = absurd (no_start (slices r).tail ((slices r).raw ++ rest) tail (starts (none_of (line_text r) e)))
+    go (inl e) = absurd (no_start (slices r).tail ((slices r).raw ++ rest) tail (starts (empty_is (line_text r) e)))
 
 -- ---- a path to a line
 

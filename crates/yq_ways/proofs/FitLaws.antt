@@ -126,7 +126,7 @@ new_key k (tree.child label n cs) e among = go (key_is k label.key) refl (new_ke
 
 -- ---- anchors that go
 
-none_refers : (a : List ℕ) (names : List Name) → list_any (refers_to a) names ≡ false → IsAmong a (aliases_in names) → ⊥
+pub none_refers : (a : List ℕ) (names : List Name) → list_any (refers_to a) names ≡ false → IsAmong a (aliases_in names) → ⊥
 none_refers a [] h among = among
 none_refers a (Anchors b ∷ names) h among = none_refers a names h among
 none_refers a (Refers b ∷ names) h (inl same) = absurd (false≢true (sym (or_parts (bytes_eq a b) (list_any (refers_to a) names) h).0 ∙ (ap (bytes_eq a) (sym same) ∙ same_bytes a)))

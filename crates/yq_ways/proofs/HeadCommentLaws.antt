@@ -1,5 +1,5 @@
 -- A head comment set: the text reads as the documents after that.
-use Rattle.std.proofs.Common.{◌≡◌, ◌⊎◌, inl, inr, ℕ, zero, suc, ◌≤◌, Bool, true, false, ◌&&◌, cond, eqb, List, [], ◌∷◌, ◌++◌, length, map, take, drop, replicate, Option, Some, option_map, refl, sym, ap, ◌∙◌, subst, append_assoc, append-nil}
+use Rattle.std.proofs.Common.{◌≡◌, ◌⊎◌, inl, inr, ℕ, zero, suc, ◌≤◌, Bool, true, false, cond, eqb, List, [], ◌∷◌, ◌++◌, length, map, take, drop, replicate, Option, Some, option_map, refl, sym, ap, ◌∙◌, subst, append_assoc, append-nil}
 use Rattle.std.proofs.Math.Seq.{take-append_seam}
 use Rattle.std.proofs.lemmas.Bool.{false≢true, eqb-true, and_parts, cases_Bool, or_parts}
 use Rattle.std.proofs.lemmas.List.{map-append}
@@ -9,7 +9,7 @@ use Rattle.std.specs.Str.{IsUtf8}
 use Rattle.yq_scalar.specs.BlockWritten.{break_text}
 use Rattle.yq_scalar.specs.Characters.{text_limit}
 use Rattle.yq_scalar.specs.Paths.{Step, change, relabel_child, within}
-use Rattle.yq_scalar.specs.Text.{front, is_white, is_feed, is_return, is_break, is_empty, ends_line, past_white, no_white, joined, lines_of}
+use Rattle.yq_scalar.specs.Text.{front, is_white, is_feed, is_break, is_empty, ends_line, past_white, no_white, joined, lines_of}
 use Rattle.yq_scalar.specs.Text as text
 use Rattle.yq_scalar.specs.declared.block_written.Break.{Break}
 use Rattle.yq_scalar.proofs.Bools.{bind_some, guard_then}
@@ -54,13 +54,15 @@ use Rattle.yq_meaning.specs.Meaning.{head_of}
 use Rattle.yq_meaning.specs.Operations.{Operation, replace, append, remove, line_comment, head_comment}
 use Rattle.yq_meaning.specs.Rooms.{room_of}
 use Rattle.yq_program.specs.declared.program.CommentPlace.TheVariants as comments
+use Rattle.yq_rows.proofs.NodeExchange.{starts_no_feed}
+use Rattle.yq_rows.proofs.splices.ContentPlaces.{count_front}
 use Rattle.yq_script.specs.Script.{Segment, old_text, new_text}
 use Rattle.yq_ways.specs.CommentWays.{head_lines, head_comment_segments, head_comment_way}
 use Rattle.yq_ways.specs.Operands.{HasOperand}
 use Rattle.yq_ways.specs.Ways.{IsWay, ReadsAfter}
 use Rattle.yq_ways.proofs.CommentPieceLaws.{AreParts, head_parts, lines_piece}
 use Rattle.yq_ways.proofs.CommentReadLaws.{lines_tell, lines_gap, lines_stand}
-use Rattle.yq_ways.proofs.CommentRowLaws.{count_front, rows_front, IsFound, row_found, found_text, found_row, cut_is, some_steps, seat_is_block, lines_some}
+use Rattle.yq_ways.proofs.CommentRowLaws.{rows_front, IsFound, row_found, found_text, found_row, cut_is, some_steps, seat_is_block, lines_some}
 use Rattle.yq_ways.proofs.DoneLaws.{document_done}
 use Rattle.yq_ways.proofs.SegmentLaws.{segments_readable}
 
@@ -114,12 +116,8 @@ run_no_feed (l ∷ ls) rest h = go (are_comments (l ∷ ls)) refl (run_no_feed l
     go true e k = ap (front is_feed) (append_assoc l (joined ls) rest) ∙ comment_no_feed l (joined ls ++ rest) (and_parts (front (λ b. eqb b 35) (past_white l)) (are_comments ls) e).0
     go false e k = k
 
-start_no_feed : (t : List ℕ) → Starts t → front is_feed t ≡ false
-start_no_feed [] s = refl
-start_no_feed (b ∷ t) s = (or_parts (is_feed b) (is_return b && front is_feed t) s.no_end).0
-
 row_no_feed : (n : ℕ) (t : List ℕ) → Starts t → front is_feed (replicate n 32 ++ t) ≡ false
-row_no_feed zero t s = start_no_feed t s
+row_no_feed zero t s = starts_no_feed t s
 row_no_feed (suc n) t s = refl
 
 -- What is known of the pieces of the text above a row.

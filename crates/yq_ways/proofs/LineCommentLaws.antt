@@ -53,6 +53,7 @@ use Rattle.yq_meaning.specs.Meaning.{line_of}
 use Rattle.yq_meaning.specs.Operations.{Operation, replace, append, remove, line_comment, head_comment}
 use Rattle.yq_meaning.specs.Rooms.{room_of}
 use Rattle.yq_program.specs.declared.program.CommentPlace.TheVariants as comments
+use Rattle.yq_rows.proofs.splices.ContentPlaces.{count_front}
 use Rattle.yq_script.specs.Script.{Segment, keep, put, old_text, new_text}
 use Rattle.yq_ways.specs.CommentWays.{white_segment, line_comment_segments, line_comment_way}
 use Rattle.yq_ways.specs.Done.{ArePieces}
@@ -60,7 +61,7 @@ use Rattle.yq_ways.specs.Operands.{HasOperand}
 use Rattle.yq_ways.specs.Ways.{IsWay, ReadsAfter}
 use Rattle.yq_ways.proofs.CommentPieceLaws.{nothing, byte_then, line_text_is}
 use Rattle.yq_ways.proofs.CommentReadLaws.{quiet_none, comment_behind, comment_is}
-use Rattle.yq_ways.proofs.CommentRowLaws.{count_front, rows_front, IsFound, row_found, found_text, found_row, cut_is, HasRow, line_whole, end_parts, line_some, some_steps}
+use Rattle.yq_ways.proofs.CommentRowLaws.{rows_front, IsFound, row_found, found_text, found_row, cut_is, HasRow, line_whole, end_parts, line_some, some_steps}
 use Rattle.yq_ways.proofs.DoneLaws.{document_done}
 use Rattle.yq_ways.proofs.SegmentLaws.{segments_readable}
 

@@ -1,5 +1,5 @@
 -- The text round a place may be read with another text there, if it isn't too long.
-use Rattle.std.proofs.Common.{◌≡◌, inl, inr, ℕ, ℤ, ◌≤◌, eqb, not, cond, replicate, List, [], ◌∷◌, ◌++◌, length, Option, Some, None, Bool, true, false, refl, sym, ap, ◌∙◌, subst, append-nil, eqb-true}
+use Rattle.std.proofs.Common.{◌≡◌, ℕ, ℤ, ◌≤◌, eqb, not, cond, replicate, List, [], ◌∷◌, ◌++◌, length, Option, Some, None, Bool, true, false, refl, sym, ap, ◌∙◌, subst, append-nil, eqb-true}
 use Rattle.std.proofs.lemmas.Bool.{false≢true, false_from_ne_true}
 use Rattle.std.proofs.lemmas.Option.{none-some, same_Some}
 use Rattle.std.proofs.lemmas.Str.{IsUtf8-append, is_utf8-from_IsUtf8}
@@ -33,6 +33,7 @@ use Rattle.yq_change.proofs.InlineRowLaws.{inline_placed}
 use Rattle.yq_change.proofs.TextPieceLaws.{pieces_joined, text_is_piece}
 use Rattle.yq_ways.proofs.PlaceSpans.{place_pieces}
 use Rattle.std.specs.Str.{is_utf8}
+use Rattle.yq_change.proofs.CoreLaws.{empty_gap}
 
 -- a text may be put between two others: behind a byte that is no CR, or in the place of one that no LF begins
 abbrev FrontOf : Option (List ℕ) → List ℕ → List ℕ → Type 0
@@ -52,15 +53,11 @@ name_ends [] rest some h = absurd (cc)
 name_ends (b ∷ []) rest some h = record { front = []; last = b; is = refl; no_return = name_byte b rest h.0 }
 name_ends (b ∷ (d ∷ name)) rest some h = ends_after (b ∷ []) (d ∷ name) (name_ends (d ∷ name) rest refl h.1)
 
-no_lead : (gap rest : List ℕ) → IsLead false (begins_content false) gap rest → begins_content false rest ≡ false → gap ≡ []
-no_lead gap rest (inl lead) none = absurd (false≢true (sym none ∙ lead.1))
-no_lead gap rest (inr lead) none = lead.0
-
 anchor_ends : (before n g : List ℕ) (node : Node) (rest : List ℕ) (spaces : Option ℕ) (d : ℕ) → IsName n (g ++ node_text node rest) → IsLead false (begins_content false) g (node_text node rest) → IsNode false spaces d node rest → is_bare node ≡ true →
     EndsBlack (before ++ 38 ∷ (n ++ g))
 unfolding IsNode node_text
 anchor_ends before n g empty rest spaces d name lead h e =
-    let none : g ≡ [] = no_lead g rest lead h.0 in
+    let none : g ≡ [] = empty_gap g rest lead h.0 in
     ends_after before (38 ∷ (n ++ g)) (ends_after (38 ∷ []) (n ++ g) (subst EndsBlack (sym (append-nil n) ∙ ap (λ (q : List ℕ). n ++ q) (sym none)) (name_ends n (g ++ rest) name.some name.inside)))
 anchor_ends before n g (alias m) rest spaces d name lead h e = absurd (false≢true e)
 anchor_ends before n g (scalar p) rest spaces d name lead h e = absurd (false≢true e)

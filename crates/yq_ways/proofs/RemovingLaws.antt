@@ -1,11 +1,9 @@
 -- One of several items or entries taken out of a text, by its segments.
-use Rattle.std.proofs.Common.{◌≡◌, inl, inr, ℕ, zero, suc, ◌-◌, ◌≤◌, Bool, true, false, cond, ◌||◌, List, [], ◌∷◌, ◌++◌, length, take, map, replicate, Option, Some, None, refl, sym, ap, ◌∙◌, subst, append_assoc, append-nil}
-use Rattle.std.proofs.lemmas.Bool.{false≢true, or_parts}
+use Rattle.std.proofs.Common.{◌≡◌, ℕ, zero, suc, ◌-◌, ◌≤◌, Bool, true, false, cond, List, [], ◌∷◌, ◌++◌, length, take, map, replicate, Option, Some, None, refl, sym, ap, ◌∙◌, subst, append_assoc, append-nil}
+use Rattle.std.proofs.lemmas.Bool.{or_parts}
 use Rattle.std.proofs.lemmas.List.{take-append-drop}
 use Rattle.std.proofs.lemmas.Option.{none-some, same_Some}
-use Rattle.std.proofs.lemmas.Slice.Eq.{bytes_eq-Decides}
-use Rattle.std.specs.List.{list_any, slice_get}
-use Rattle.std.specs.Str.{bytes_eq}
+use Rattle.std.specs.List.{slice_get}
 use Rattle.yq_scalar.specs.Answers.{◌>>=◌}
 use Rattle.yq_scalar.specs.Block.{Lines}
 use Rattle.yq_scalar.specs.BlockRepair.{is_short, is_outside, repair}
@@ -23,11 +21,10 @@ use Rattle.yq_documents.specs.Reading as reading
 use Rattle.yq_documents.specs.Reading.{documents, read_at, root_of}
 use Rattle.yq_tree.specs.RemovalPlaces.{Seam, Removal, removal_place, has_several, has_others, has_others_at}
 use Rattle.yq_documents.specs.TreeEdits.{at_end}
-use Rattle.yq_change.specs.Conditions.{aliases_in, AreSpared}
+use Rattle.yq_change.specs.Conditions.{AreSpared}
 use Rattle.yq_change.specs.RemovalChanges.{mended, MayTakeOut, IsTakenOut}
 use Rattle.yq_change.proofs.LeadLaws.{block_lead_goes}
 use Rattle.yq_change.proofs.RemovalChangeLaws.{removal_stands, entry_taken_out}
-use Rattle.yq_meaning.specs.Changes.{refers_to, is_used}
 use Rattle.yq_meaning.specs.Fits.{Fits}
 use Rattle.yq_meaning.specs.Operations.{Operation, replace, append, remove, line_comment, head_comment}
 use Rattle.yq_meaning.specs.Rooms.{room_of}
@@ -37,6 +34,7 @@ use Rattle.yq_ways.specs.Operands.{HasOperand}
 use Rattle.yq_ways.specs.Removing.{indented, lines_mended, gap_mended, removed, removed_at, remove_way}
 use Rattle.yq_ways.specs.Ways.{ReadsAfter, IsWay}
 use Rattle.yq_ways.proofs.DoneLaws.{document_done}
+use Rattle.yq_ways.proofs.FitLaws.{not_used}
 
 -- ---- segments one behind the other
 
@@ -119,29 +117,6 @@ removal_is doc steps c ss e =
     let x = bind_some (removal_place doc steps c) g.1 in
     record { others = g.0; x = x.0; place = x.1; are = same_Some _ _ x.2 }
 
--- ---- none of its anchors is aliased
-
-refers : (a : List ℕ) (names : List Name) → IsAmong a (aliases_in names) → list_any (refers_to a) names ≡ true
-refers a [] h = absurd h
-refers a (Anchors b ∷ names) h = refers a names h
-refers a (Refers b ∷ names) (inl e) = go (bytes_eq a b) ((bytes_eq-Decides a b).1 e)
-  where
-    go : (x : Bool) → x ≡ true → (x || list_any (refers_to a) names) ≡ true
-    go true e = refl
-    go false e = absurd (false≢true e)
-refers a (Refers b ∷ names) (inr h) = go (bytes_eq a b) (refers a names h)
-  where
-    go : (x : Bool) → list_any (refers_to a) names ≡ true → (x || list_any (refers_to a) names) ≡ true
-    go true e = refl
-    go false e = e
-
-spared : (names gone : List Name) → list_any (is_used names) gone ≡ false → AreSpared gone [] names
-spared names [] h a among aliased = absurd among
-spared names (Anchors b ∷ gone) h a (inl e) aliased =
-    absurd (false≢true (sym (or_parts (list_any (refers_to b) names) (list_any (is_used names) gone) h).0 ∙ refers b names (subst (λ (x : List ℕ). IsAmong x (aliases_in names)) e aliased)))
-spared names (Anchors b ∷ gone) h a (inr among) aliased = spared names gone (or_parts (list_any (refers_to b) names) (list_any (is_used names) gone) h).1 a among aliased
-spared names (Refers b ∷ gone) h a among aliased = spared names gone h a among aliased
-
 -- ---- the documents after it
 
 -- The part of a document.
@@ -162,7 +137,7 @@ may_take doc steps c others fits =
       others = (λ i. has_others steps (sym root i)) ∙ (sym (ap (λ o. has_several (o >>= λ (y : Document). node_at (take (length steps - 1) steps) y.root)) fits.1) ∙ others);
       node = n;
       node_is = (λ i. node_at steps (sym root i)) ∙ fits.2.1.1;
-      spared = subst (λ (r : Node). AreSpared (names_of n) [] (names_of r)) root (spared (names_of d.root) (names_of n) fits.2.1.2);
+      not_used = subst (λ (r : Node). AreSpared (names_of n) [] (names_of r)) root (not_used (names_of d.root) (names_of n) fits.2.1.2);
     }
 
 -- the text without an item or entry reads so

@@ -84,7 +84,7 @@ last_is_block (r ∷ (q ∷ front)) rows limit end rest b h e =
     let more = last_is_block (q ∷ front) rows (limit_after r) end rest b h.1 e in
     record { least = more.least; block = more.block; seam = more.seam }
 
-content_none : (c : Content) → block_of c ≡ None → is_block c ≡ false
+pub content_none : (c : Content) → block_of c ≡ None → is_block c ≡ false
 content_none (Nothing tail) e = refl
 content_none (Inline space node tail) e = refl
 content_none (Block space anchor block) e = absurd (cc)

@@ -1,5 +1,5 @@
 -- Gaps joined, and repaired behind a block scalar.
-use Rattle.std.proofs.Common.{◌≡◌, ◌⊎◌, inl, inr, ℕ, zero, suc, Bool, true, false, ◌&&◌, ◌||◌, List, [], ◌∷◌, ◌++◌, refl, sym, ap, ◌∙◌, subst, ⊎_elim, append_assoc, append-nil, replicate}
+use Rattle.std.proofs.Common.{◌≡◌, ◌⊎◌, inl, inr, ℕ, Bool, true, false, ◌&&◌, ◌||◌, List, [], ◌∷◌, ◌++◌, refl, sym, ap, ◌∙◌, subst, ⊎_elim, append_assoc, append-nil, replicate}
 use Rattle.std.proofs.lemmas.Bool.{false≢true, cond_both, and_parts, cases_Bool, or_parts}
 use Rattle.yq_scalar.specs.Block.{Lines}
 use Rattle.yq_scalar.specs.BlockRepair.{AreGap, is_short, is_outside, repaired_blank, repaired_comment, repair}
@@ -7,11 +7,12 @@ use Rattle.yq_scalar.specs.BlockWritten.{closed}
 use Rattle.yq_scalar.specs.Lines.{is_hash, is_blank}
 use Rattle.yq_scalar.specs.Text.{no_white, NoneIn, is_feed, is_return, is_break, is_empty, is_line, ends_line, front, past_white, put_byte, lines_of, joined}
 use Rattle.yq_scalar.proofs.LineLaws.{lines_again}
-use Rattle.yq_rows.specs.Gap.{IsWhite, IsBreak, IsLineEnd, IsGapLine, AreGapLines, IsGap}
+use Rattle.yq_rows.specs.Gap.{IsBreak, IsLineEnd, IsGapLine, AreGapLines, IsGap}
 use Rattle.yq_rows.proofs.EmptyTexts.{empty_is, none_is, empty_or}
 use Rattle.yq_rows.proofs.LineEnds.{line_end_behind, white_again, white_none, comment_none}
 use Rattle.yq_rows.proofs.NothingLaws.{some_behind}
 use Rattle.yq_rows.proofs.seams.SeamLaws.{line_by_break}
+use Rattle.yq_rows.proofs.RowAgain.{white_spaces}
 
 past_line : (white comment p rest : List ℕ) (h : IsLineEnd white comment p rest) → (past_white p ≡ comment ++ h.break) × ((ends_line (comment ++ h.break) || is_hash (comment ++ h.break)) ≡ true)
 past_line white comment p rest h =
@@ -92,10 +93,6 @@ put_gap white comment p g rest h k = ⊎_elim {0, 0, 0}
     })
     (cases_Bool (is_empty p))
 
-spaces_white : (n : ℕ) → IsWhite (replicate n 32)
-spaces_white zero = tt
-spaces_white (suc n) = (refl, spaces_white n)
-
 nothing_left : (keep : Bool) (m column : ℕ) (ls : Lines) (rest : List ℕ) → AreGapLines ls rest → joined ls ++ rest ≡ [] → joined (repair keep m column ls) ++ rest ≡ []
 unfolding repair
 nothing_left keep m column ls rest h e =
@@ -117,7 +114,7 @@ comment_line : (m column : ℕ) (l rest : List ℕ) → IsGapLine l rest → End
 comment_line m column l rest h =
     cond_both (is_outside m l) l (replicate column 32 ++ past_white l) (λ x. EndOf x rest)
     (λ _. (h.white, h.comment, h.line))
-    (λ _. (replicate column 32, h.comment, record { break = h.line.break; spelled = ap (λ x. replicate column 32 ++ x) (past_line h.white h.comment l rest h.line).0; blank = spaces_white column; remark = h.line.remark; ends = h.line.ends }))
+    (λ _. (replicate column 32, h.comment, record { break = h.line.break; spelled = ap (λ x. replicate column 32 ++ x) (past_line h.white h.comment l rest h.line).0; blank = white_spaces column; remark = h.line.remark; ends = h.line.ends }))
 
 pub repaired_gap : (keep : Bool) (m column : ℕ) (ls : Lines) (rest : List ℕ) → AreGapLines ls rest → IsGap (joined (repair keep m column ls)) rest
 unfolding repair

@@ -10,11 +10,11 @@ use Rattle.yq_rows.specs.Seams.{TakesPlace}
 use Rattle.yq_rows.proofs.AlikeRows.{dashes_text_alike}
 use Rattle.yq_rows.proofs.RowPlaces.{takes_place}
 
-dashes_text-append : (ns ms t : List ℕ) → dashes_text (ns ++ ms) t ≡ dashes_text ns (dashes_text ms t)
+pub dashes_text-append : (ns ms t : List ℕ) → dashes_text (ns ++ ms) t ≡ dashes_text ns (dashes_text ms t)
 dashes_text-append [] ms t = refl
 dashes_text-append (n ∷ ns) ms t = ap (λ l. 45 ∷ (replicate n 32 ++ l)) (dashes_text-append ns ms t)
 
-behind_columns-append : (column : ℕ) (ns ms : List ℕ) → behind_columns column (ns ++ ms) ≡ behind_columns (behind_columns column ns) ms
+pub behind_columns-append : (column : ℕ) (ns ms : List ℕ) → behind_columns column (ns ++ ms) ≡ behind_columns (behind_columns column ns) ms
 behind_columns-append column [] ms = refl
 behind_columns-append column (n ∷ ns) ms = behind_columns-append (suc (column + n)) ns ms
 
@@ -22,7 +22,7 @@ dashes_joined : (ns ms : List ℕ) (old new : Mark) → is_entry new ≡ true �
 dashes_joined [] ms old new e h k = k
 dashes_joined (n ∷ ns) ms old new e h k = (h.0, e, dashes_joined ns ms old new e h.2 k)
 
-space_apart : (n : ℕ) (t : List ℕ) → 1 ≤ n → separates (replicate n 32 ++ t) ≡ true
+pub space_apart : (n : ℕ) (t : List ℕ) → 1 ≤ n → separates (replicate n 32 ++ t) ≡ true
 space_apart zero t h = absurd (omega (arith, h))
 space_apart (suc n) t h = refl
 

@@ -14,9 +14,9 @@ use Rattle.yq_rows.specs.Removal.{next_column}
 use Rattle.yq_rows.specs.Splices.{behind_first}
 use Rattle.yq_rows.proofs.AlikeBlocks.{put_first}
 use Rattle.yq_rows.proofs.EmptyTexts.{empty_is}
-use Rattle.yq_rows.proofs.Fronts.{Starts, starts_by}
+use Rattle.yq_rows.proofs.Fronts.{Starts}
 use Rattle.yq_rows.proofs.RowAgain.{row_starts}
-use Rattle.yq_rows.proofs.seams.MarkerSeams.{marker_byte}
+use Rattle.yq_rows.proofs.RowsRead.{marker_starts}
 
 -- The first line of a text that begins with spaces and a byte.
 record First (n b : ℕ) (t : List ℕ) : Type 0 where
@@ -48,15 +48,6 @@ starts_less f n (b ∷ t) h less =
     let p = first n b t feed in
     let end : ends_line (b ∷ p.line) ≡ false = rw p.front_is h.no_end in
     ap (is_behind f) p.is ∙ less_line f n b p.line white.0 white.1 end less
-
-marker_starts : (t : List ℕ) → is_marker t ≡ true → Starts t
-marker_starts [] h = absurd (false≢true h)
-marker_starts (a ∷ []) h = absurd (false≢true h)
-marker_starts (a ∷ (b ∷ [])) h = absurd (false≢true h)
-marker_starts (a ∷ (b ∷ (c ∷ t))) h = ⊎_elim {0, 0, 0}
-    (λ e. starts_by a (b ∷ (c ∷ t)) (rw e.0 refl) (rw e.0 refl) (rw e.0 refl) (rw e.0 refl))
-    (λ e. starts_by a (b ∷ (c ∷ t)) (rw e.0 refl) (rw e.0 refl) (rw e.0 refl) (rw e.0 refl))
-    (marker_byte a b c t h)
 
 no_lines_behind : (f : TextIndent) → is_behind f (lines_of []) ≡ true
 unfolding lines_of

@@ -83,7 +83,7 @@ bare_gap gap t x (inr h) = h.0
 white_again : (gap t u : List ℕ) → NoneIn no_white gap t → NoneIn no_white gap u
 white_again gap t u h = name_again is_white gap t u h
 
-name_front : (gap t u : List ℕ) → is_empty gap ≡ false → unless in_name (gap ++ t) ≡ true → unless in_name (gap ++ u) ≡ true
+pub name_front : (gap t u : List ℕ) → is_empty gap ≡ false → unless in_name (gap ++ t) ≡ true → unless in_name (gap ++ u) ≡ true
 name_front [] t u some h = absurd (false≢true (sym some))
 name_front (b ∷ gap) t u some h = h
 

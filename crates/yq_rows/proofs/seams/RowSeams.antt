@@ -5,7 +5,7 @@ use Rattle.yq_scalar.specs.Block.{BlockText, block_text, mark_of, IsBlock, ends_
 use Rattle.yq_scalar.specs.declared.block_header.BlockStyle.{BlockStyle}
 use Rattle.yq_scalar.specs.declared.block_header.BlockStyle.TheVariants as styles
 use Rattle.yq_scalar.specs.Piece.{deeper}
-use Rattle.yq_scalar.specs.Text.{is_empty, lines_of, joined, separates, unless}
+use Rattle.yq_scalar.specs.Text.{lines_of, joined, separates}
 use Rattle.yq_inline.specs.Inline.{depth_limit}
 use Rattle.yq_inline.specs.Nodes.{Node, node_text, in_name, is_bare}
 use Rattle.yq_inline.specs.Alike.{Alike}
@@ -18,7 +18,7 @@ use Rattle.yq_rows.proofs.ExchangeLaws.{one_row}
 use Rattle.yq_rows.proofs.RowPlaces.{takes_place}
 use Rattle.yq_rows.proofs.NodeExchange.{mark_apart, space_apart, inline_starts}
 use Rattle.yq_rows.proofs.NothingLaws.{name_again, tail_lead, tail_apart}
-use Rattle.yq_rows.proofs.seams.NodeSeams.{plain_text, Behind, node_seam}
+use Rattle.yq_rows.proofs.seams.NodeSeams.{plain_text, Behind, node_seam, name_front}
 use Rattle.yq_rows.proofs.seams.ScalarSeams.{Joint}
 
 -- the plain scalar of a content, if it is one
@@ -52,14 +52,10 @@ inline_seam n space node tail t new u h f j =
     ((h.0, record { valid = kept.0; something = h.1.something }, f.0), kept.1 (something (is_bare node) h.1.something))
 
 -- block scalars
-name_before : (gap t u : List ℕ) → is_empty gap ≡ false → unless in_name (gap ++ t) ≡ true → unless in_name (gap ++ u) ≡ true
-name_before [] t u some h = absurd (false≢true (sym some))
-name_before (b ∷ gap) t u some h = h
-
 anchor_seam : (anchor : Option Anchor) (t u : List ℕ) → IsAnchor anchor t → IsAnchor anchor u
 anchor_seam None t u h = h
 anchor_seam (Some a) t u h = (
-  record { some = h.0.some; inside = name_again in_name a.name (a.gap ++ t) (a.gap ++ u) h.0.inside; ends = name_before a.gap t u h.2 h.0.ends },
+  record { some = h.0.some; inside = name_again in_name a.name (a.gap ++ t) (a.gap ++ u) h.0.inside; ends = name_front a.gap t u h.2 h.0.ends },
   h.1,
   h.2,
 )
@@ -67,11 +63,11 @@ anchor_seam (Some a) t u h = (
 block_seam : (least : ℕ) (b : BlockText) (t u : List ℕ) → ends_block (keeps b.chomping) b.indent (lines_of u) ≡ true → IsBlock least b t → IsBlock least b u
 block_seam least b t u e h = record { indicators = h.indicators; tail = h.tail; indent = h.indent; lines = h.lines; ends = h.ends; behind = e }
 
-style_no_space : (s : BlockStyle) (t : List ℕ) → separates (mark_of s ∷ t) ≡ false
+pub style_no_space : (s : BlockStyle) (t : List ℕ) → separates (mark_of s ∷ t) ≡ false
 style_no_space styles.Literal t = refl
 style_no_space styles.Folded t = refl
 
-block_no_space : (anchor : Option Anchor) (block : BlockText) (t : List ℕ) → separates (anchor_text anchor (block_text block t)) ≡ false
+pub block_no_space : (anchor : Option Anchor) (block : BlockText) (t : List ℕ) → separates (anchor_text anchor (block_text block t)) ≡ false
 block_no_space None block t = style_no_space block.style (block.indicators ++ (block.tail ++ (joined block.raw ++ t)))
 block_no_space (Some a) block t = refl
 

@@ -18,12 +18,12 @@ use Rattle.yq_rows.specs.Alone.{FitsAlone}
 use Rattle.yq_rows.proofs.splices.SpliceTexts.{own_gap, own_end}
 
 -- row i among rows
-rows_around : (rows : List Row) (i : ℕ) (r : Row) → slice_get rows i ≡ Some r → rows ≡ take i rows ++ (r ∷ drop (suc i) rows)
+pub rows_around : (rows : List Row) (i : ℕ) (r : Row) → slice_get rows i ≡ Some r → rows ≡ take i rows ++ (r ∷ drop (suc i) rows)
 rows_around [] i r h = cc
 rows_around (x ∷ rows) zero r h = let is : x ≡ r = cc in ap (λ (y : Row). y ∷ rows) is
 rows_around (x ∷ rows) (suc i) r h = ap (λ l. x ∷ l) (rows_around rows i r h)
 
-count_front : (rows : List Row) (i : ℕ) (r : Row) → slice_get rows i ≡ Some r → length (take i rows) ≡ i
+pub count_front : (rows : List Row) (i : ℕ) (r : Row) → slice_get rows i ≡ Some r → length (take i rows) ≡ i
 count_front [] i r h = cc
 count_front (x ∷ rows) zero r h = refl
 count_front (x ∷ rows) (suc i) r h = ap suc (count_front rows i r h)

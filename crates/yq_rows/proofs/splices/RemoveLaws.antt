@@ -23,7 +23,7 @@ use Rattle.yq_rows.proofs.splices.SpliceCases.{removed}
 use Rattle.yq_rows.proofs.splices.SpliceTexts.{first_text, first_is}
 
 -- what stands where rows are taken away
-behind_some : (limit : Limit) (rs : List Row) (end rest : List ℕ) → no_rows rs ≡ false → AreRows limit rs end rest → is_empty (behind_first rs end rest) ≡ false
+pub behind_some : (limit : Limit) (rs : List Row) (end rest : List ℕ) → no_rows rs ≡ false → AreRows limit rs end rest → is_empty (behind_first rs end rest) ≡ false
 behind_some limit [] end rest n h = absurd (false≢true (sym n))
 behind_some limit (r ∷ rs) end rest n h = behind_row_some limit r (rows_text rs (end ++ rest)) h.0
 
