@@ -33,7 +33,6 @@ use Rattle.yq_documents.specs.Reading.{outline_of, root_of, read_at}
 use Rattle.yq_documents.specs.Ready.{begins_no_node}
 use Rattle.yq_tree.specs.RowPaths.{IsReadable}
 use Rattle.yq_documents.specs.TreeEdits.{replaced}
-use Rattle.yq_documents.proofs.LinedLaws.{and_false}
 use Rattle.yq_tree.proofs.FoundLines.{each}
 use Rattle.yq_tree.proofs.ReadLaws.{text_takes}
 use Rattle.yq_tree.proofs.RowPathLaws.{document_fine}

@@ -6,7 +6,6 @@ use Rattle.std.specs.List.{list_any}
 use Rattle.yq_scalar.specs.Paths.{Step, change, child_at, node_at, remove_child, within}
 use Rattle.yq_scalar.specs.Tree.{Node, children_of}
 use Rattle.yq_scalar.specs.Anchors.{Name, Anchors, Refers, IsAmong, names_of}
-use Rattle.yq_scalar.proofs.Bools.{or_false}
 use Rattle.yq_documents.specs.TreeEdits.{at_end}
 use Rattle.yq_change.specs.Conditions.{AreSpared, anchors_in, aliases_in}
 use Rattle.yq_change.specs.SoundRoots.{IsSoundRoot}

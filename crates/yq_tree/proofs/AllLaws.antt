@@ -9,7 +9,6 @@ use Rattle.std.specs.List.{list_all, slice_get}
 use Rattle.yq_scalar.specs.declared.fault.ReadError.{ReadError}
 use Rattle.yq_scalar.specs.declared.fault.ReadError.TheVariants as errors
 use Rattle.yq_scalar.specs.Answers.{◌>>=◌, Fails}
-use Rattle.yq_scalar.proofs.WordPlain.{and_false}
 use Rattle.yq_lines.specs.Comments.{head_comment}
 use Rattle.yq_rows.specs.Grammar.{unlimited, begins_document, AreParts, IsCut}
 use Rattle.yq_rows.specs.Lending.{shown_read}

@@ -12,7 +12,6 @@ use Rattle.yq_scalar.specs.Written.{written}
 use Rattle.yq_scalar.specs.declared.kind.Kind.TheVariants as kinds
 use Rattle.yq_scalar.specs.declared.style.Style.TheVariants as styles
 use Rattle.yq_scalar.proofs.PlainSpells.{writable_text}
-use Rattle.yq_scalar.proofs.Bools.{or_false}
 use Rattle.yq_inline.specs.Written.{scalar_text, flow_key, flow_of, flow_items}
 use Rattle.yq_documents.specs.Documents.{HasFitKey, HasFitKeys, EachHasFitKeys}
 use Rattle.yq_meaning.specs.Changes.{is_long, has_long_key, have_long_key}
@@ -45,6 +44,6 @@ mutual
   items_fit : (cs : Children) → have_long_key cs ≡ false → EachHasFitKeys (flow_items cs)
   items_fit tree.none h = tt
   items_fit (tree.child label n cs) h =
-      let a = or_false (is_long label.key) (has_long_key n || have_long_key cs) h in
-      let b = or_false (has_long_key n) (have_long_key cs) a.1 in
+      let a = or_parts (is_long label.key) (has_long_key n || have_long_key cs) h in
+      let b = or_parts (has_long_key n) (have_long_key cs) a.1 in
       (key_fits label.key a.0, flow_fits n b.0, items_fit cs b.1)
