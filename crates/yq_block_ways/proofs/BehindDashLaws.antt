@@ -6,7 +6,7 @@ use Rattle.yq_rows.specs.Exchange.{row_front}
 use Rattle.yq_rows.specs.Grammar.{is_entry}
 use Rattle.yq_rows.specs.Joined.{compact_row}
 use Rattle.yq_rows.specs.Rows as rows
-use Rattle.yq_rows.specs.Rows.{Content, Nothing, Row, behind_dashes, behind_indent, dashes_text, mark_column, mark_text, print_row, rows_text, Cut}
+use Rattle.yq_rows.specs.Rows.{Row, behind_dashes, behind_indent, dashes_text, mark_text, rows_text}
 use Rattle.yq_rows.proofs.seams.JoinLaws.{dashes_text-append}
 use Rattle.yq_rows.proofs.PlaceLaws.{dashes_then}
 use Rattle.yq_documents.specs.Documents.{HaveFitKeys}

@@ -40,7 +40,7 @@ use Rattle.yq_tree.proofs.FlowToldLaws.{before_under}
 use Rattle.yq_tree.proofs.UnderExchange.{lines_append}
 use Rattle.yq_change.specs.CollectionPlaces.{IsCollectionEnd}
 use Rattle.yq_change.specs.DocumentRows.{IsDocumentPart, behind_document}
-use Rattle.yq_change.specs.Siblings.{HasEntries, NodeLines, under_line}
+use Rattle.yq_change.specs.Siblings.{HasEntries, NodeLines}
 use Rattle.yq_change.specs.TextPieces.{IsPiece}
 use Rattle.yq_change.specs.Unders.{HasUnder}
 use Rattle.yq_change.proofs.AppendPlaceLaws.{end_allows}

@@ -11,7 +11,7 @@ use Rattle.yq_rows.specs.Exchange.{with_content}
 use Rattle.yq_rows.specs.Gap.{IsWhite}
 use Rattle.yq_rows.specs.Grammar.{IsAnchor, IsContent, IsTail}
 use Rattle.yq_rows.specs.Rows.{Anchor, Content, Nothing, Inline, Block, anchor_text, content_text, Row}
-use Rattle.yq_rows.specs.View.{slices, colon_of}
+use Rattle.yq_rows.specs.View.{slices}
 use Rattle.yq_rows.proofs.NodeExchange.{space_apart}
 use Rattle.yq_rows.proofs.NothingLaws.{name_again, tail_apart, tail_lead, tail_no_node}
 use Rattle.yq_rows.proofs.seams.ScalarSeams.{apart_unnamed}

@@ -1,7 +1,7 @@
 -- The rows of an item or entry give way to rows that are written for a value: the document with that value there.
 use Rattle.std.proofs.Common.{◌≡◌, ℕ, suc, ◌+◌, ◌<◌, ◌≤◌, Bool, true, false, List, [], ◌∷◌, ◌++◌, length, Option, Some, None, refl, sym, ap, ◌∙◌, subst, arith, append_assoc, append-nil, length-append}
 use Rattle.std.proofs.lemmas.Bool.{false≢true, ltb-true}
-use mathlib.Core.List.{head-eq_of_cons-eq, tail-eq_of_cons-eq}
+use mathlib.Core.List.{head-eq_of_cons-eq}
 use Rattle.std.specs.Str.{is_utf8}
 use Rattle.yq_scalar.specs.Paths.{Step, change}
 use Rattle.yq_scalar.specs.Text.{upto}
@@ -19,7 +19,7 @@ use Rattle.yq_rows.specs.Exchange.{allows_first, asked_behind}
 use Rattle.yq_rows.specs.Gap.{IsGap}
 use Rattle.yq_rows.specs.Grammar.{Limit, unlimited, allows, limit_after, AreRows, is_entry, no_rows}
 use Rattle.yq_rows.specs.Rows as rows
-use Rattle.yq_rows.specs.Rows.{Content, Nothing, Row, behind_columns, mark_column, parent_indent, print_row, rows_text, Part, part_text, Cut, cut_text}
+use Rattle.yq_rows.specs.Rows.{Content, Nothing, Row, behind_columns, mark_column, print_row, rows_text, Part, part_text, Cut, cut_text}
 use Rattle.yq_rows.specs.Splices.{behind_first, first_gap}
 use Rattle.yq_rows.proofs.seams.SeamLaws.{rows_text-append}
 use Rattle.yq_rows.proofs.splices.SpliceTexts.{own_gap, own_end, first_text, first_is}

@@ -11,7 +11,7 @@ use Rattle.yq_inline.specs.Nodes.{node_text}
 use Rattle.yq_lines.specs.Anchors.{HaveOneAnchorEach}
 use Rattle.yq_lines.specs.Comments.{line_comment}
 use Rattle.yq_lines.specs.Outline as outline
-use Rattle.yq_lines.specs.Outline.{end, flatten, IsOpen, level, head_or, Stands, value}
+use Rattle.yq_lines.specs.Outline.{end, IsOpen, level, head_or, Stands, value}
 use Rattle.yq_lines.specs.Places.{content}
 use Rattle.yq_lines.proofs.ByRules.{rules_give}
 use Rattle.yq_rows.specs.Alone.{holds_nothing}

@@ -9,7 +9,7 @@ use Rattle.yq_lines.specs.Comments.{head_comment}
 use Rattle.yq_rows.specs.Exchange.{asked_behind}
 use Rattle.yq_rows.specs.Grammar.{Limit, unlimited, AreRows, no_rows}
 use Rattle.yq_rows.specs.Rows as rows
-use Rattle.yq_rows.specs.Rows.{Content, Nothing, Inline, Block, Row, behind_gap, behind_indent, rows_text, Part, Cut}
+use Rattle.yq_rows.specs.Rows.{Content, Nothing, Inline, Block, Row, behind_gap, behind_indent, rows_text, Part}
 use Rattle.yq_rows.specs.Seams.{are_seamed, ends_in_block, ends_in_line, is_seam}
 use Rattle.yq_rows.specs.Splices.{behind_first, first_gap}
 use Rattle.yq_rows.specs.Removal.{block_of, last_block}

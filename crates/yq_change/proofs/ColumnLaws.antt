@@ -1,5 +1,5 @@
 -- Where rows may stand, by the levels of lines.
-use Rattle.std.proofs.Common.{◌≡◌, ℕ, zero, suc, ◌+◌, ◌*◌, ◌-◌, ◌<◌, ◌≤◌, ltb, ℤ, pos, List, [], ◌∷◌, ◌++◌, Option, Some, None, is_some, Bool, true, false, cond, refl, sym, ap}
+use Rattle.std.proofs.Common.{◌≡◌, ℕ, zero, suc, ◌+◌, ◌*◌, ◌-◌, ◌<◌, ◌≤◌, ℤ, pos, List, [], ◌∷◌, ◌++◌, Option, Some, None, is_some, Bool, true, false, cond, refl, sym, ap}
 use Rattle.std.proofs.Common.{◌∙◌, subst, arith, ⊎_elim, append_assoc}
 use Rattle.std.proofs.lemmas.Bool.{false≢true, lt-ltb, ltb-true}
 use Rattle.std.proofs.lemmas.Option.{none-some, same_Some}
@@ -8,12 +8,12 @@ use Rattle.yq_scalar.specs.Block.{BlockText, Lines, IsBlock, IsDigit, IsTextInde
 use Rattle.yq_scalar.specs.declared.block_lines.TextIndent.{TextIndent}
 use Rattle.yq_scalar.specs.Piece.{deeper}
 use Rattle.yq_lines.specs.Comments.{head_comment}
-use Rattle.yq_rows.specs.Grammar.{Limit, allows, is_within, unlimited, limit_after, limit_behind, is_plain, is_entry, AreDashes, IsMark, IsRow, AreRows, no_rows}
+use Rattle.yq_rows.specs.Grammar.{Limit, allows, is_within, unlimited, limit_after, limit_behind, is_plain, is_entry, AreDashes, IsMark, IsRow}
 use Rattle.yq_rows.specs.Rows as rows
 use Rattle.yq_rows.specs.Rows.{Content, Nothing, Inline, Block, Row, behind_columns, before_column, mark_column, parent_of, parent_indent, rows_text}
 use Rattle.yq_rows.specs.Removal.{block_of, last_block, next_column, StandsLess}
 use Rattle.yq_documents.specs.Lines.{mark_line, lines_from, row_lines, lines_of, head_of}
-use Rattle.yq_lines.specs.Outline.{Line, level, rank}
+use Rattle.yq_lines.specs.Outline.{Line, level}
 use Rattle.yq_lines.proofs.Values.{rank_small}
 use Rattle.yq_change.specs.Moved.{dash_lines}
 use Rattle.yq_change.specs.Columns.{NextAllowed, NextStays, BlockIsDeeper, ClosedStandsLess}

@@ -1,6 +1,6 @@
 -- Texts with other lines in one document.
 use Rattle.std.proofs.Common.{◌≡◌, ℕ, zero, suc, ◌≤◌, List, [], ◌∷◌, ◌++◌, Option, Some, None, true, refl, sym, ap, ◌∙◌, subst, append_assoc, arith}
-use Rattle.std.proofs.lemmas.Option.{none-some, same_Some}
+use Rattle.std.proofs.lemmas.Option.{same_Some}
 use Rattle.std.specs.Prelude.{map as each_of}
 use Rattle.std.specs.List.{slice_get}
 use Rattle.yq_scalar.specs.Keys.{HasUniqueKeys, depth}

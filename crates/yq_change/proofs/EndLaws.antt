@@ -1,6 +1,7 @@
 -- One item or entry more at the end of a text without a final break.
-use Rattle.std.proofs.Common.{◌≡◌, inl, inr, ℕ, suc, ◌+◌, ◌≤◌, List, [], ◌∷◌, ◌++◌, length, drop, eqb, ◌&&◌, Option, Some, None, true, false, cond, refl, sym, ap, ◌∙◌, subst, arith, ⊎_elim, append_assoc, append-nil, length-append}
-use Rattle.std.proofs.lemmas.Bool.{false≢true, cond-true, cond-false, and_parts, or_parts}
+use Rattle.std.proofs.Common.{◌≡◌, inl, inr, ℕ, suc, ◌+◌, ◌≤◌, List, [], ◌∷◌, ◌++◌, length, drop, eqb, ◌&&◌, Option, Some, None, true, false, cond, refl, sym, ap, ◌∙◌, subst}
+use Rattle.std.proofs.Common.{arith, ⊎_elim, append_assoc, append-nil, length-append}
+use Rattle.std.proofs.lemmas.Bool.{false≢true, cond-true, cond-false, and_parts}
 use Rattle.std.specs.List.{list_all}
 use Rattle.std.specs.Str.{chars}
 use Rattle.yq_scalar.specs.Characters.{is_text, is_text_char, pairs_returns, text_limit}

@@ -29,7 +29,7 @@ use Rattle.yq_scalar.specs.Text.{is_line, line_len, lines_of, upto}
 use Rattle.std.specs.Str.{chars}
 use Rattle.std.specs.Str as strings
 use Rattle.yq_rows.specs.Rows as rows
-use Rattle.yq_rows.specs.Rows.{Inline, Row, Part, Cut, last, marked, print_row, cut_text, rows_text}
+use Rattle.yq_rows.specs.Rows.{Inline, Row, Part, last, marked, cut_text, rows_text}
 use Rattle.yq_scalar.specs.Anchors.{Refers, AreBound}
 use Rattle.yq_lines.specs.Anchors.{HaveOneAnchorEach}
 use Rattle.yq_documents.specs.Documents.{document_parts}

@@ -17,7 +17,7 @@ use Rattle.yq_lines.proofs.Finding.{FoundNode, path_node}
 use Rattle.yq_rows.specs.Exchange.{allows_first, asked_behind, row_front, with_content}
 use Rattle.yq_rows.specs.Grammar.{Limit, unlimited, AreDashes, AreRows, IsContent, IsMark, IsRow, is_entry, limit_after, may_be_alone, no_rows}
 use Rattle.yq_rows.specs.Rows as rows
-use Rattle.yq_rows.specs.Rows.{Content, Nothing, Inline, Block, content_text, dashes_text, mark_text, behind_gap, behind_indent, Row, mark_column, parent_indent, part_text, rows_text, Part, Cut, cut_text}
+use Rattle.yq_rows.specs.Rows.{Content, Nothing, Inline, Block, content_text, dashes_text, mark_text, behind_gap, Row, mark_column, parent_indent, rows_text, Part, Cut, cut_text}
 use Rattle.yq_rows.specs.SpliceFits.{StandsFor}
 use Rattle.yq_rows.proofs.ExchangeLaws.{one_row}
 use Rattle.yq_rows.proofs.NothingLaws.{gap_other}

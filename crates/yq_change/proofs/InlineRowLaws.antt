@@ -19,12 +19,12 @@ use Rattle.yq_lines.specs.Spots.{is_bare}
 use Rattle.yq_lines.proofs.Decides.{flatten-group}
 use Rattle.yq_rows.specs.Exchange.{row_front}
 use Rattle.yq_rows.specs.Rows as rows
-use Rattle.yq_rows.specs.Rows.{Content, content_text, Row, mark_column, mark_text, rows_text, Part, Cut, cut_text}
+use Rattle.yq_rows.specs.Rows.{Content, content_text, Row, mark_column, mark_text, rows_text, Part}
 use Rattle.yq_rows.proofs.PlaceLaws.{row_front-append, content_then}
 use Rattle.yq_rows.proofs.seams.SeamLaws.{rows_text-append}
 use Rattle.yq_documents.specs.Documents.{begins_bare, document_parts, has_begin}
 use Rattle.yq_tree.specs.Existence.{some_lines}
-use Rattle.yq_tree.specs.InlinePlaces.{InlinePlace, mark_inline, lines_inline, entry_inline, inline_in_entry, inline_in, inline_from}
+use Rattle.yq_tree.specs.InlinePlaces.{InlinePlace, mark_inline, lines_inline, entry_inline, inline_in_entry, inline_in}
 use Rattle.yq_documents.specs.Lines.{mark_of, mark_line, lines_of}
 use Rattle.yq_tree.specs.PathPieces.{PrintedDocument, found_entry}
 use Rattle.yq_tree.specs.PrintedLines.{PrintedLine, line_front, print_line, print_lines, printed_lines, line_in}

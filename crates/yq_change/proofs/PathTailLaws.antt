@@ -14,7 +14,7 @@ use Rattle.yq_lines.specs.Ends.{line_of}
 use Rattle.yq_lines.specs.Group.{level_or}
 use Rattle.yq_rows.specs.Exchange.{asked_behind, with_content}
 use Rattle.yq_rows.specs.Gap.{IsWhite}
-use Rattle.yq_rows.specs.Grammar.{unlimited, limit_after, AreRows, IsAnchor, IsMark, IsRow, is_entry, ends_part}
+use Rattle.yq_rows.specs.Grammar.{unlimited, AreRows, IsAnchor, IsMark, IsRow, is_entry, ends_part}
 use Rattle.yq_rows.specs.Rows as rows
 use Rattle.yq_rows.specs.Rows.{Content, Nothing, Inline, Block, Row, anchor_text, content_text, parent_indent, rows_text, Part, Cut, cut_text}
 use Rattle.yq_rows.specs.Seams.{is_block, retail, with_tail}

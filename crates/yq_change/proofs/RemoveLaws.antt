@@ -26,7 +26,6 @@ use Rattle.yq_lines.specs.Group.{level_or}
 use Rattle.yq_lines.specs.Laws.{with_lines}
 use Rattle.yq_documents.specs.Lines.{row_lines, lines_of}
 use Rattle.yq_lines.specs.Outline.{Line, level, Outline, flatten}
-use Rattle.yq_lines.specs.Outline.{end}
 use Rattle.yq_lines.specs.Outline.{row}
 use Rattle.yq_lines.specs.Places.{lines_before, lines_after, plug, Found, content}
 use Rattle.yq_documents.specs.Reading.{outline_of, root_of}
@@ -35,7 +34,7 @@ use Rattle.yq_tree.proofs.UnderExchange.{lines_append}
 use Rattle.yq_change.specs.Changed.{IsChanged, put_document}
 use Rattle.yq_change.specs.Conditions.{AreSpared, BeginsEntry}
 use Rattle.yq_change.specs.EntryRows.{HasRows}
-use Rattle.yq_change.specs.Siblings.{IsEntryAt, IsEntry, HasEntries, NodeLines, put_lines}
+use Rattle.yq_change.specs.Siblings.{IsEntryAt, HasEntries, NodeLines, put_lines}
 use Rattle.yq_change.proofs.AnchorLaws.{both_anew, collection_anew, fit_parts, fit_from, lines_among}
 use Rattle.yq_change.proofs.CollectionLaws.{Splits, some_at}
 use Rattle.yq_change.proofs.NodeLineLaws.{lines_even}

@@ -4,7 +4,7 @@ use Rattle.yq_scalar.specs.Paths as paths
 use Rattle.yq_scalar.specs.Paths.{To, child_at, node_at}
 use Rattle.yq_scalar.specs.Shapes.{IsTree}
 use Rattle.yq_scalar.specs.Tree as tree
-use Rattle.yq_scalar.specs.Tree.{Node, alias, scalar, list, Children, none, child}
+use Rattle.yq_scalar.specs.Tree.{Node, list, Children}
 use Rattle.yq_scalar.specs.Anchors.{names_of}
 use Rattle.yq_documents.specs.Documents.{Document}
 use Rattle.yq_program.specs.declared.program.CommentPlace.{CommentPlace}

@@ -18,7 +18,7 @@ use Rattle.yq_rows.specs.View.{rows_of}
 use Rattle.yq_rows.proofs.PlaceLaws.{place, content_then}
 use Rattle.yq_documents.specs.declared.path.Part.TheVariants as parts
 use Rattle.yq_tree.specs.EntryReading as places
-use Rattle.yq_tree.specs.EntryReading.{lines_place, line_head, lines_content, line_content, line_entry, inline_node, placed_inline, flow_entry, entry_from, content_from, content_at, entry_at}
+use Rattle.yq_tree.specs.EntryReading.{lines_place, line_head, lines_content, line_content, line_entry, inline_node, placed_inline, flow_entry, entry_from, content_from}
 use Rattle.yq_lines.specs.Ends.{deeper_count, lines_end}
 use Rattle.yq_lines.specs.Group.{group, level_or, is_fine}
 use Rattle.yq_documents.specs.Lines.{head_of, tail_of, lines_of}

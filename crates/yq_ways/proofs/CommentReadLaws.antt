@@ -3,7 +3,7 @@ use Rattle.std.proofs.Common.{◌≡◌, ◌⊎◌, inl, inr, ℕ, zero, suc, tr
 use Rattle.std.proofs.lemmas.Bool.{and_parts, not-true}
 use Rattle.yq_scalar.specs.BlockWritten.{break_text}
 use Rattle.yq_scalar.specs.Text as text
-use Rattle.yq_scalar.specs.Text.{front, is_feed, is_return, is_white, is_empty, is_break, is_line, ends_line, no_white, past_white, joined, lines_of, NoneIn}
+use Rattle.yq_scalar.specs.Text.{front, is_feed, is_return, is_empty, is_break, is_line, ends_line, past_white, joined, lines_of, NoneIn}
 use Rattle.yq_scalar.specs.declared.block_written.Break.{Break}
 use Rattle.yq_scalar.specs.declared.block_written.Break.TheVariants.{Lf, CrLf}
 use Rattle.yq_scalar.proofs.Bytes.{Each}

@@ -5,7 +5,7 @@ use Rattle.std.proofs.lemmas.Slice.Eq.{bytes_eq-Decides}
 use Rattle.std.specs.List.{list_any, slice_get}
 use Rattle.std.proofs.lemmas.List.Elements.{All-cons}
 use Rattle.std.proofs.lemmas.List.Kept.{AllPairs-cons}
-use Rattle.std.proofs.lemmas.Option.{none-some}
+use Rattle.std.proofs.lemmas.Option.{none-some, same_Some}
 use Rattle.std.specs.Prelude.{◌≢◌, All, AllPairs}
 use Rattle.std.specs.Str.{bytes_eq, chars}
 use Rattle.yq_scalar.specs.Answers.{◌>>=◌}
@@ -14,7 +14,7 @@ use Rattle.yq_scalar.specs.Paths.{Step, To, key_is, child_at, node_at}
 use Rattle.yq_scalar.specs.Scalar.{string_of}
 use Rattle.yq_scalar.specs.Shapes.{IsTree, AreTrees, AreEntries, IsNew}
 use Rattle.yq_scalar.specs.Tree as tree
-use Rattle.yq_scalar.specs.Tree.{Node, Children, none, child}
+use Rattle.yq_scalar.specs.Tree.{Node, Children}
 use Rattle.yq_scalar.specs.declared.style.Place.TheVariants.{FlowKey}
 use Rattle.yq_inline.specs.Inline.{depth_limit}
 use Rattle.yq_flow.specs.Valued.{IsLabel, IsValueTree, AreValueTrees}
@@ -158,12 +158,9 @@ pub record FitsReplace (doc : ℕ) (steps : List Step) (v : Node) (c : Cut) (p :
   pub long : has_long_key v ≡ false
   pub deep : depth v ≤ depth_limit
 
-document_same : {d g : Document} → Some d ≡ Some g → d ≡ g
-document_same e = cc
-
 pub fits_replace : (doc : ℕ) (steps : List Step) (v : Node) (c : Cut) (p : Part) → slice_get (document_parts c) doc ≡ Some p → IsValueTree v → Fits (room_of (cut_text c)) (replace doc steps v) (documents c) → FitsReplace doc steps v c p
 fits_replace doc steps v c p at h fits =
-    let same : reading.document_of p ≡ fits.0 = document_same (sym (nth_map doc p reading.document_of (document_parts c) at) ∙ fits.1) in
+    let same : reading.document_of p ≡ fits.0 = same_Some _ _ (sym (nth_map doc p reading.document_of (document_parts c) at) ∙ fits.1) in
     let root : root_of p ≡ fits.0.root = ap (λ (d : Document). d.root) same in
     let n : Node = fits.2.1.0 in
     let used : is_used_inside (names_of (root_of p)) (Some n) ≡ false = ap (λ m. is_used_inside (names_of m) (Some n)) root ∙ fits.2.1.2 in

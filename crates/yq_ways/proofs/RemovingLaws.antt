@@ -1,6 +1,5 @@
 -- One of several items or entries taken out of a text, by its segments.
 use Rattle.std.proofs.Common.{◌≡◌, ℕ, zero, suc, ◌-◌, ◌≤◌, Bool, true, false, cond, List, [], ◌∷◌, ◌++◌, length, take, map, replicate, Option, Some, None, refl, sym, ap, ◌∙◌, subst, append_assoc, append-nil}
-use Rattle.std.proofs.lemmas.Bool.{or_parts}
 use Rattle.std.proofs.lemmas.List.{take-append-drop}
 use Rattle.std.proofs.lemmas.Option.{none-some, same_Some}
 use Rattle.std.specs.List.{slice_get}
@@ -14,7 +13,7 @@ use Rattle.yq_scalar.specs.Text.{cut, no_white, past_white, upto, joined, lines_
 use Rattle.yq_scalar.specs.Tree.{Node}
 use Rattle.yq_scalar.proofs.Bools.{bind_some, guard_then}
 use Rattle.yq_scalar.proofs.LineLaws.{joined_lines}
-use Rattle.yq_scalar.specs.Anchors.{Name, Anchors, Refers, names_of, IsAmong}
+use Rattle.yq_scalar.specs.Anchors.{names_of}
 use Rattle.yq_rows.specs.Rows.{Part, Cut, cut_text}
 use Rattle.yq_documents.specs.Documents.{Document, document_parts, lead_of}
 use Rattle.yq_documents.specs.Reading as reading

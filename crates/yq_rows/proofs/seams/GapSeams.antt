@@ -9,7 +9,7 @@ use Rattle.yq_scalar.specs.Text.{no_white, NoneIn, is_feed, is_return, is_break,
 use Rattle.yq_scalar.proofs.LineLaws.{lines_again}
 use Rattle.yq_rows.specs.Gap.{IsBreak, IsLineEnd, IsGapLine, AreGapLines, IsGap}
 use Rattle.yq_rows.proofs.EmptyTexts.{empty_is, none_is, empty_or}
-use Rattle.yq_rows.proofs.LineEnds.{line_end_behind, white_again, white_none, comment_none}
+use Rattle.yq_rows.proofs.LineEnds.{white_again, white_none, comment_none}
 use Rattle.yq_rows.proofs.NothingLaws.{some_behind}
 use Rattle.yq_rows.proofs.seams.SeamLaws.{line_by_break}
 use Rattle.yq_rows.proofs.RowAgain.{white_spaces}
