@@ -17,6 +17,7 @@ use Rattle.yq_lines.specs.Places.{Place, here, below, beside, plug, lines_before
 use Rattle.yq_lines.specs.Sound.{is_entry}
 use Rattle.yq_lines.proofs.Finding.{IsFoundIn, path_node, path_whole, row_child}
 use Rattle.yq_lines.proofs.PlaceLaws.{at}
+use Rattle.yq_lines.proofs.ChildLaws.{anchored_children}
 use Rattle.yq_rows.specs.Grammar.{no_rows}
 use Rattle.yq_rows.specs.Rows.{Row, Part, Cut, cut_text}
 use Rattle.yq_documents.specs.Documents.{begins_bare, has_begin, lead_of}
@@ -71,12 +72,6 @@ node_behind (t ∷ ts) s n = go (child_at t (children_of n)) (λ m. node_behind 
 
 -- ---- the collection at a path
 
-pub children-anchored : (a : Option (List ℕ)) (n : Node) → children_of (anchored a n) ≡ children_of n
-children-anchored a (alias n) = refl
-children-anchored a (scalar b k t) = refl
-children-anchored a (list b cs) = refl
-children-anchored a (map b cs) = refl
-
 children-collection : (m : Mark) (cs : Children) → IsEntry m → children_of (collection m cs) ≡ cs
 children-collection Bare cs e = absurd e
 children-collection (Key k) cs e = refl
@@ -105,7 +100,7 @@ collection_node (t ∷ ts) o h e b = found (lines_found t ts o h e)
         record {
           node = content f.line f.under;
           there = path_node t ts o ∙ ap (λ r. option_and_then (λ (x : Found × List Step). node_at x.1 (content x.0.line x.0.under)) r) w.is;
-          children_are = children-anchored f.line.anchor (head_or f.line.head (value f.under))
+          children_are = anchored_children f.line.anchor (head_or f.line.head (value f.under))
               ∙ (ap (λ n. children_of (head_or n (value f.under))) w.open' ∙ (children-value f.under (subst HasEntries (sym same) b) ∙ ap children same));
         }
 

@@ -7,13 +7,14 @@ use Rattle.yq_scalar.specs.Tree.{Node, children_of}
 use Rattle.yq_lines.specs.Outline.{anchored, children, value}
 use Rattle.yq_lines.specs.Places.{Found, find_row, content}
 use Rattle.yq_lines.proofs.Finding.{row_child}
+use Rattle.yq_lines.proofs.ChildLaws.{anchored_children}
 use Rattle.yq_rows.specs.Rows.{Part, Cut, cut_text}
 use Rattle.yq_documents.specs.Documents.{document_parts}
 use Rattle.yq_tree.specs.FlowNodes.{find_head}
 use Rattle.yq_documents.specs.Reading.{outline_of, read_at, root_of}
 use Rattle.yq_change.specs.Siblings.{IsCollectionAt, IsEntryAt, NodeLines}
 use Rattle.yq_change.proofs.EditedLaws.{lines_are_there}
-use Rattle.yq_change.proofs.RemovalChangeLaws.{children-anchored, children-value}
+use Rattle.yq_change.proofs.RemovalChangeLaws.{children-value}
 use Rattle.yq_flow_ways.specs.FlowWays.{last_step}
 use Rattle.yq_flow_ways.proofs.CollectionCases.{collection_cases}
 use Rattle.yq_flow_ways.proofs.FlowServed.{InFlow, holds_child}
@@ -57,6 +58,6 @@ path_cases c doc first others h =
     go init s last old at child (inl y) = inl (record { read = h.read; part = h.part; there = h.there; init = init; step = s; last = last; line = y.0.0; rest = y.0.1; found = y.1; node = h.node; at = h.at })
     go init s last old at child (inr b) =
         let own : anchored b.0.anchor (value b.0.lines) ≡ old = same_Some _ _ (sym (lines_are_there init (outline_of h.part) b.0 b.1.place_is) ∙ at) in
-        let cs : children b.0.lines ≡ children_of old = sym (children-value b.0.lines b.1.block) ∙ (sym (children-anchored b.0.anchor (value b.0.lines)) ∙ ap children_of own) in
+        let cs : children b.0.lines ≡ children_of old = sym (children-value b.0.lines b.1.block) ∙ (sym (anchored_children b.0.anchor (value b.0.lines)) ∙ ap children_of own) in
         let f = line_there (find_row s b.0.lines) h.node (sym (row_child s b.0.lines) ∙ (ap (child_at s) cs ∙ child)) in
         inr (record { part = h.part; there = h.there; init = init; step = s; last = last; lines = b.0; found = f.0; is = record { place_is = b.1.place_is; block = b.1.block; found = f.1 } })

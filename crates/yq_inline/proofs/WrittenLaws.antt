@@ -6,6 +6,8 @@ use Rattle.yq_inline.specs.declared.value.Value.{Value}
 use Rattle.yq_inline.specs.declared.value.Value.TheVariants as values
 use Rattle.yq_inline.specs.declared.value.Value.TheFolds.{the_lemmas}
 use Rattle.std.proofs.lemmas.Bool.{false≢true}
+use Rattle.yq_scalar.specs.declared.kind.Kind.{Kind}
+use Rattle.yq_scalar.specs.declared.kind.Kind.TheVariants as kinds
 use Rattle.yq_scalar.specs.declared.style.Place.{Place}
 use Rattle.yq_scalar.specs.declared.style.Style.TheVariants as styles
 use Rattle.yq_scalar.specs.PlainText.{is_plain_text}
@@ -26,6 +28,17 @@ double_can false resolved plain h = absurd (false≢true (sym h))
 pub double_when : (s : ScalarText) (place : Place) → can_write s styles.Plain place ≡ false → can_write s styles.Double place ≡ true
 unfolding can_write_plain
 double_when s place h = double_can (is_string s.kind) (is_string (resolve s.text)) (is_plain_text (in_flow place) s.text) h
+
+-- what is no string stands plain
+pub other_plain : (s : ScalarText) (place : Place) → (s.kind ≡ kinds.Text → ⊥) → can_write s styles.Plain place ≡ true
+unfolding can_write_plain
+other_plain s place h = go s.kind h where
+  go : (k : Kind) → (k ≡ kinds.Text → ⊥) → (not (is_string k) || (is_string (resolve s.text) && is_plain_text (in_flow place) s.text)) ≡ true
+  go kinds.Null e = refl
+  go kinds.Bool e = refl
+  go kinds.Int e = refl
+  go kinds.Float e = refl
+  go kinds.Text e = absurd (e refl)
 
 pub key_append : (key : Key) (r s : List ℕ) → key_text key (r ++ s) ≡ key_text key r ++ s
 key_append bare r s = refl

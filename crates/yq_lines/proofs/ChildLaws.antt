@@ -1,17 +1,31 @@
 -- The items or entries of nodes.
 use Rattle.std.proofs.Common.{◌≡◌, ℕ, List, Option, Some, None, option_map, true, not, refl, sym, ap, ◌∙◌}
 use Rattle.std.specs.List.{slice_get}
-use Rattle.yq_scalar.specs.Tree.{Label, Node, child}
+use Rattle.yq_scalar.specs.Tree.{Label, Node, alias, scalar, list, map, child, children_of}
+use Rattle.yq_inline.specs.Trees.{named}
 use Rattle.yq_lines.specs.Ends.{part, is_end, IsEndOf}
 use Rattle.yq_scalar.specs.Paths.{Step}
 use Rattle.yq_lines.specs.Labelled.{labelled_at}
 use Rattle.yq_lines.specs.Bodies.{lines_under}
-use Rattle.yq_lines.specs.Outline.{Line, Outline, label, children}
+use Rattle.yq_lines.specs.Outline.{Line, Outline, anchored, label, children}
 use Rattle.yq_lines.specs.Places.{Found, find_row, content}
 use Rattle.yq_lines.specs.Spots.{spot, seen}
 use Rattle.yq_lines.proofs.EndsLaws.{deeper_line, not_end}
 use Rattle.yq_lines.proofs.Finding.{entry_of, row_labelled}
 use Rattle.yq_lines.proofs.Parts.{row_parts}
+
+pub anchored_children : (a : Option (List ℕ)) (n : Node) → children_of (anchored a n) ≡ children_of n
+anchored_children a (alias n) = refl
+anchored_children a (scalar b k t) = refl
+anchored_children a (list b cs) = refl
+anchored_children a (map b cs) = refl
+
+pub inline_children : (a : Option (List ℕ)) (n : Node) → children_of (named a n) ≡ children_of n
+inline_children None n = refl
+inline_children (Some a) (alias n) = refl
+inline_children (Some a) (scalar b k t) = refl
+inline_children (Some a) (list b cs) = refl
+inline_children (Some a) (map b cs) = refl
 
 pub first_child : (ls : List Line) (at floor next : ℕ) (l : Line) → slice_get ls at ≡ Some l → true ≡ not (is_end (part ls at floor)) → IsEndOf ls at next →
     children (part ls at floor) ≡ child (label l) (content l (lines_under ls at l)) (children (part ls next floor))
