@@ -119,12 +119,15 @@ records_of counted d = option_and_then (all_of (record_of counted)) (as_array d)
 abbrev pub with_null : Move → Data → Option Move
 with_null step d = if is_some (as_null d) then Some step else None
 
+-- the move of a kind that has no record (own)
+abbrev pub bare_move : List ℕ → Option Move
+bare_move kind = if bytes_eq kind (codes "undo") then Some Undo else if bytes_eq kind (codes "redo") then Some Redo else None
+
 -- the move of a kind, with the value of its record (own)
 unfoldable pub move_of : Bool → List ℕ → Data → Option Move
 move_of counted kind d =
     if bytes_eq kind (codes "edit") then option_map Edit (record_of counted d)
-    else if bytes_eq kind (codes "undo") then with_null Undo d
-    else if bytes_eq kind (codes "redo") then with_null Redo d
+    else if is_some (as_null d) then bare_move kind
     else None
 
 -- an open move of these parts (own)

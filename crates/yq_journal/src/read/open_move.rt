@@ -12,6 +12,17 @@ use crate::record::Record;
 use serde_json::Value;
 use std::alloc::{AllocError, Global};
 
+/// The move of a kind that has no record.
+fn bare_move(kind: &str) -> Option<Move>
+    ensures { result ≡ spec.bare_move kind.now }
+{
+    match kind {
+        "undo" => Some(Move::Undo),
+        "redo" => Some(Move::Redo),
+        _ => None,
+    }
+}
+
 /// The move of a kind, with the value of its record.
 #[tactic(auto, unfolding(crate::specs::Json::move_of))]
 fn move_with(
@@ -22,13 +33,14 @@ fn move_with(
 ) -> Result<Option<Move>, AllocError>
     ensures { IfOk result (λ o. o ≡ spec.move_of counted kind.now (view value.now)) }
 {
-    match kind {
-        "edit" => match record(alloc, value, counted)? {
+    if kind == "edit" {
+        return match record(alloc, value, counted)? {
             Some(record) => Ok(Some(Move::Edit(record))),
             None => Ok(None),
-        },
-        "undo" if matches!(value, Value::Null) => Ok(Some(Move::Undo)),
-        "redo" if matches!(value, Value::Null) => Ok(Some(Move::Redo)),
+        };
+    }
+    match value {
+        Value::Null => Ok(bare_move(kind)),
         _ => Ok(None),
     }
 }
