@@ -8,7 +8,7 @@ use Rattle.yq_scalar.proofs.Bools.{bind_some}
 use Rattle.yq_inline.specs.declared.inline.Inline.{Inline}
 use Rattle.yq_inline.specs.Nodes.{first_is, bare, is_bare, node_text}
 use Rattle.yq_inline.specs.Places.{Placed, Parts, part, locate, bare_placed}
-use Rattle.yq_inline.specs.PlacedReading.{placed_node, placed_items, placed_key, past_sep}
+use Rattle.yq_inline.specs.PlacedReading.{placed_node, placed_items, placed_item, placed_entry}
 use Rattle.yq_inline.specs.Reading.{all_node}
 use Rattle.yq_inline.specs.View.{view, items_view, entries_view, behind_items, behind_entries}
 use Rattle.yq_inline.proofs.NodeLaws.{all_takes}
@@ -35,10 +35,10 @@ behind_push is x (Some y) = ap (λ s. Some (s, y.1)) (items_push is x y.0)
 behind_push is x None = refl
 
 -- one item more
-pub items_on : (total d : ℕ) (is items : List Inline) (x : Inline) (t r s : List ℕ) (all : Option (Parts × List ℕ)) → first_is 93 t ≡ false → placed_node true (Some 0) total d t ≡ Some (view x, r) → bare_placed (view x) ≡ false → past_sep 93 r ≡ Some s →
+pub items_on : (total d : ℕ) (is items : List Inline) (x : Inline) (t s : List ℕ) (all : Option (Parts × List ℕ)) → first_is 93 t ≡ false → placed_item total d t ≡ Some (view x, s) →
     items ≡ is ++ x ∷ [] → behind_items is (placed_items total d 93 t) ≡ all → behind_items items (placed_items total d 93 s) ≡ all
-items_on total d is items x t r s all opens node some sep pushed so_far =
-    let step : placed_items total d 93 t ≡ then_entry total d 93 None (view x) s = items_more total d t opens ∙ rw node (rw some (rw sep refl)) in
+items_on total d is items x t s all opens item pushed so_far =
+    let step : placed_items total d 93 t ≡ then_entry total d 93 None (view x) s = items_more total d t opens ∙ rw item refl in
     rw pushed (behind_push is x (placed_items total d 93 s) ∙ (ap (behind_items is) (sym step) ∙ so_far))
 
 abbrev Entry : Type 0
@@ -53,8 +53,8 @@ behind_entry es e (Some y) = ap (λ s. Some (s, y.1)) (entries_push es e y.0)
 behind_entry es e None = refl
 
 -- one entry more
-pub entries_on : (total d : ℕ) (es entries : List Entry) (e : Entry) (t k r s : List ℕ) (all : Option (Parts × List ℕ)) → first_is 125 t ≡ false → placed_key total t ≡ Some ((string_bytes e.0, e.1), k) → placed_node true (Some 0) total d k ≡ Some (view e.2, r) → past_sep 125 r ≡ Some s →
+pub entries_on : (total d : ℕ) (es entries : List Entry) (e : Entry) (t s : List ℕ) (all : Option (Parts × List ℕ)) → first_is 125 t ≡ false → placed_entry total d t ≡ Some (((string_bytes e.0, e.1), view e.2), s) →
     entries ≡ es ++ e ∷ [] → behind_entries es (placed_items total d 125 t) ≡ all → behind_entries entries (placed_items total d 125 s) ≡ all
-entries_on total d es entries e t k r s all opens key node sep pushed so_far =
-    let step : placed_items total d 125 t ≡ then_entry total d 125 (Some (string_bytes e.0, e.1)) (view e.2) s = entries_more total d t opens ∙ rw key (rw node (rw sep refl)) in
+entries_on total d es entries e t s all opens entry pushed so_far =
+    let step : placed_items total d 125 t ≡ then_entry total d 125 (Some (string_bytes e.0, e.1)) (view e.2) s = entries_more total d t opens ∙ rw entry refl in
     rw pushed (behind_entry es e (placed_items total d 125 s) ∙ (ap (behind_entries es) (sym step) ∙ so_far))

@@ -9,7 +9,7 @@ use Rattle.yq_scalar.specs.Answers.{◌>>=◌, Fails, Gives}
 use Rattle.yq_scalar.specs.Text.{is_empty}
 use Rattle.yq_inline.specs.Nodes.{first_is, Key, bare, keyed, Node, empty, alias, scalar, coll, anchored, Items, item, key_text, sep_text, node_text, items_text, begins_content, is_keyed, is_bare, takes_anchor, IsKey}
 use Rattle.yq_inline.specs.Places.{Placed, placed, mapping, sequence, Parts, end, part, key_placed, key_here, locate, locate_items, placed_between, with_anchor, bare_in, bare_placed, holder}
-use Rattle.yq_inline.specs.PlacedReading.{piece_of, content_in, placed_node, placed_items, placed_content, placed_key, past_sep, takes_in, takes_placed, then_anchored}
+use Rattle.yq_inline.specs.PlacedReading.{piece_of, content_in, placed_node, placed_items, placed_content, placed_key, past_sep, placed_item, placed_entry, takes_in, takes_placed, then_anchored}
 use Rattle.yq_inline.specs.Reading.{gap_at, scalar_at, name_at, lead_at, key_at, sep_at, Kids, coll_at, content_at, node_at, all_items, kids_of, all_node}
 use Rattle.yq_inline.proofs.Binds.{bind_same, bind_bind}
 use Rattle.yq_inline.proofs.PieceLaws.{name_takes, lead_takes, key_takes, sep_takes, front_is}
@@ -90,13 +90,32 @@ bare_step total d t node = go (is_bare node.0) refl where
   go true e = rw (bare_locate total node.0 node.1 ∙ e) (rw e refl)
   go false e = rw (bare_locate total node.0 node.1 ∙ e) (sep_step total d 93 (node_text node.0 node.1) bare node refl (rw e refl))
 
-pub items_more : (total d : ℕ) (t : List ℕ) → first_is 93 t ≡ false → placed_items total d 93 t ≡ (placed_node true (Some 0) total d t >>= λ x. cond (bare_placed x.0) None (then_value total d 93 None x))
-items_more total d t h =
+items_by_node : (total d : ℕ) (t : List ℕ) → first_is 93 t ≡ false → placed_items total d 93 t ≡ (placed_node true (Some 0) total d t >>= λ x. cond (bare_placed x.0) None (then_value total d 93 None x))
+items_by_node total d t h =
     ap (λ o. o >>= λ x. Some (locate_items total 93 x.0 x.1, x.1)) (items_step d 93 t h)
     ∙ (bind_bind (all_node true (Some 0) d t) (then_sep d 93 bare) (λ x. Some (locate_items total 93 x.0 x.1, x.1))
     ∙ (bind_same (λ node. then_sep d 93 bare node >>= λ x. Some (locate_items total 93 x.0 x.1, x.1)) (λ node. cond (bare_placed (locate total node.0 node.1)) None (then_value total d 93 None (locate total node.0 node.1, node.1))) (all_node true (Some 0) d t)
     (λ node e. bare_step total d t node)
     ∙ sym (bind_bind (all_node true (Some 0) d t) (λ x. Some (locate total x.0 x.1, x.1)) (λ x. cond (bare_placed x.0) None (then_value total d 93 None x)))))
+
+pub items_more : (total d : ℕ) (t : List ℕ) → first_is 93 t ≡ false → placed_items total d 93 t ≡ (placed_item total d t >>= λ x. then_entry total d 93 None x.0 x.1)
+items_more total d t h =
+    items_by_node total d t h
+    ∙ (bind_same (λ x. cond (bare_placed x.0) None (then_value total d 93 None x)) (λ x. item_behind x >>= whole_item) (placed_node true (Some 0) total d t) (λ x _. one x (bare_placed x.0))
+    ∙ sym (bind_bind (placed_node true (Some 0) total d t) item_behind whole_item))
+  where
+    whole_item : Placed × List ℕ → Option (Parts × List ℕ)
+    whole_item x = then_entry total d 93 None x.0 x.1
+
+    past_item : Placed × List ℕ → Option (Placed × List ℕ)
+    past_item x = past_sep 93 x.1 >>= λ r. Some (x.0, r)
+
+    item_behind : Placed × List ℕ → Option (Placed × List ℕ)
+    item_behind x = cond (bare_placed x.0) None (past_item x)
+
+    one : (x : Placed × List ℕ) (b : Bool) → cond b None (then_value total d 93 None x) ≡ (cond b None (past_item x) >>= whole_item)
+    one x true = refl
+    one x false = sym (bind_bind (past_sep 93 x.1) (λ r. Some (x.0, r)) whole_item)
 
 -- a key's place
 keyed_place : (total : ℕ) (t : List ℕ) (key : Key) → is_keyed key ≡ true → key_placed total t key ≡ Some (key_here total t (piece_of key))
@@ -129,13 +148,33 @@ entry_step total d t key e =
     ∙ ap (λ (o : Option (List ℕ × Piece)). then_value total d 125 o (locate total node.0 node.1, node.1)) place)
     ∙ sym (bind_bind (all_node true (Some 0) d key.1) (λ x. Some (locate total x.0 x.1, x.1)) (then_value total d 125 (Some (key_here total t (piece_of key.0))))))
 
-pub entries_more : (total d : ℕ) (t : List ℕ) → first_is 125 t ≡ false → placed_items total d 125 t ≡ (placed_key total t >>= λ key. placed_node true (Some 0) total d key.1 >>= then_value total d 125 (Some key.0))
-entries_more total d t h =
+entries_by_key : (total d : ℕ) (t : List ℕ) → first_is 125 t ≡ false → placed_items total d 125 t ≡ (placed_key total t >>= λ key. placed_node true (Some 0) total d key.1 >>= then_value total d 125 (Some key.0))
+entries_by_key total d t h =
     ap (λ o. o >>= λ x. Some (locate_items total 125 x.0 x.1, x.1)) (items_step d 125 t h)
     ∙ (bind_bind (key_at t) (then_node d 125) (λ x. Some (locate_items total 125 x.0 x.1, x.1))
     ∙ (bind_same (λ key. then_node d 125 key >>= λ x. Some (locate_items total 125 x.0 x.1, x.1)) (λ key. then_node_placed total d (key_here total t (piece_of key.0), key.1)) (key_at t)
     (entry_step total d t)
     ∙ sym (key_bind total t (then_node_placed total d))))
+
+pub entries_more : (total d : ℕ) (t : List ℕ) → first_is 125 t ≡ false → placed_items total d 125 t ≡ (placed_entry total d t >>= λ x. then_entry total d 125 (Some x.0.0) x.0.1 x.1)
+entries_more total d t h =
+    entries_by_key total d t h
+    ∙ (bind_same (then_node_placed total d) (λ key. value_behind key >>= whole_entry) (placed_key total t) (λ key _. by_value key)
+    ∙ sym (bind_bind (placed_key total t) value_behind whole_entry))
+  where
+    whole_entry : ((List ℕ × Piece) × Placed) × List ℕ → Option (Parts × List ℕ)
+    whole_entry x = then_entry total d 125 (Some x.0.0) x.0.1 x.1
+
+    sep_behind : List ℕ × Piece → Placed × List ℕ → Option (((List ℕ × Piece) × Placed) × List ℕ)
+    sep_behind key x = past_sep 125 x.1 >>= λ r. Some ((key, x.0), r)
+
+    value_behind : (List ℕ × Piece) × List ℕ → Option (((List ℕ × Piece) × Placed) × List ℕ)
+    value_behind key = placed_node true (Some 0) total d key.1 >>= sep_behind key.0
+
+    by_value : (key : (List ℕ × Piece) × List ℕ) → then_node_placed total d key ≡ (value_behind key >>= whole_entry)
+    by_value key =
+        bind_same (then_value total d 125 (Some key.0)) (λ x. sep_behind key.0 x >>= whole_entry) (placed_node true (Some 0) total d key.1) (λ x _. sym (bind_bind (past_sep 125 x.1) (λ r. Some ((key.0, x.0), r)) whole_entry))
+        ∙ sym (bind_bind (placed_node true (Some 0) total d key.1) (sep_behind key.0) whole_entry)
 
 -- nodes
 kids_all : (d n : ℕ) → KidsTake (kids_of d) d

@@ -72,3 +72,11 @@ stands_behind g s = (bare_placed s || not (is_empty g)) && takes_placed s
 -- a node behind an anchor and a gap (own)
 abbrev pub then_anchored : ℕ → List ℕ → List ℕ → List ℕ → Placed × List ℕ → Option (Placed × List ℕ)
 then_anchored total t n g x = if stands_behind g x.0 then Some (with_anchor n (total - length t) x.0, x.1) else None
+
+-- the item in front with what stands behind it, and what follows (own)
+abbrev pub placed_item : ℕ → ℕ → List ℕ → Option (Placed × List ℕ)
+placed_item total d t = placed_node true (Some 0) total d t >>= λ x. if bare_placed x.0 then None else (past_sep 93 x.1 >>= λ r. Some (x.0, r))
+
+-- the entry in front with what stands behind it, and what follows (own)
+abbrev pub placed_entry : ℕ → ℕ → List ℕ → Option (((List ℕ × Piece) × Placed) × List ℕ)
+placed_entry total d t = placed_key total t >>= λ key. placed_node true (Some 0) total d key.1 >>= λ x. past_sep 125 x.1 >>= λ r. Some ((key.0, x.0), r)

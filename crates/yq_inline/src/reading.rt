@@ -1,5 +1,6 @@
 //! Inline nodes, read from left to right.
-ghost use Rattle.std.specs.Prelude.{◌≡◌, ◌≤◌, IfOk, Some, length, true};
+ghost use Rattle.std.specs.Prelude.{◌≡◌, ◌<◌, ◌≤◌, IfOk, Some, length, true};
+ghost use Rattle.std.specs.String.{string_bytes};
 ghost use Rattle.yq_scalar.specs.Answers.{Gives};
 ghost use Rattle.yq_inline.specs.Places as spec;
 ghost use Rattle.yq_inline.specs.PlacedReading as seen;
@@ -177,6 +178,28 @@ fn read_mapping<'t>(
     Ok((Form::Map(entries), rest))
 }
 
+/// The item in front up to behind its `,`, and what follows; behind the `[` stood `open`.
+#[cycle(nodes)]
+fn read_item<'t>(
+    alloc: Global,
+    whole: &'t str,
+    depth: usize,
+    open: &str,
+    text: &'t str,
+) -> Result<(Inline<'t>, &'t str), ReadError>
+    requires { length text.now ≤ length whole.now }
+    ensures shorter { IfOk result (λ x. length x.1.now < length text.now) }
+    ensures read { Gives (λ x. (view x.0, x.1.now)) result (seen.placed_item (length whole.now) depth text.now) }
+{
+    let (item, rest) = read_node(alloc, true, Some(0), whole, depth, text)?;
+    if is_bare(&item) {
+        let kind = no_node(text.as_bytes(), FaultKind::BadFlow);
+        return Err(ReadError::from(flow_fault(kind, whole, open, text)));
+    }
+    let rest = read_sep(b']', whole, open, rest)?;
+    Ok((item, rest))
+}
+
 /// The items in front, and what follows their `]`; behind their `[` stood `open`.
 #[cycle(nodes)]
 #[tactic(auto, using(crate::proofs::Steps::items_more, crate::proofs::Steps::items_end))]
@@ -198,15 +221,29 @@ fn read_items<'t>(
             items.shrink_to_fit();
             return Ok((items, behind));
         }
-        let (item, after) = read_node(alloc, true, Some(0), whole, depth, rest)?;
-        if is_bare(&item) {
-            let kind = no_node(rest.as_bytes(), FaultKind::BadFlow);
-            return Err(ReadError::from(flow_fault(kind, whole, open, rest)));
-        }
-        let after = read_sep(b']', whole, open, after)?;
+        let (item, after) = read_item(alloc, whole, depth, open, rest)?;
         items.push(item)?;
         rest = after;
     }
+}
+
+/// The entry in front up to behind its `,`, and what follows; behind the `{` stood `open`.
+#[cycle(nodes)]
+fn read_entry<'t>(
+    alloc: Global,
+    whole: &'t str,
+    depth: usize,
+    open: &str,
+    text: &'t str,
+) -> Result<((String, Piece, Inline<'t>), &'t str), ReadError>
+    requires { length text.now ≤ length whole.now }
+    ensures shorter { IfOk result (λ x. length x.1.now < length text.now) }
+    ensures read { Gives (λ x. (((string_bytes x.0.0, x.0.1), view x.0.2), x.1.now)) result (seen.placed_entry (length whole.now) depth text.now) }
+{
+    let (key, piece, rest) = read_entry_key(alloc, whole, open, text)?;
+    let (value, rest) = read_node(alloc, true, Some(0), whole, depth, rest)?;
+    let rest = read_sep(b'}', whole, open, rest)?;
+    Ok(((key, piece, value), rest))
 }
 
 /// The entries in front, and what follows their `}`; behind their `{` stood `open`.
@@ -230,10 +267,8 @@ fn read_entries<'t>(
             entries.shrink_to_fit();
             return Ok((entries, behind));
         }
-        let (key, piece, after) = read_entry_key(alloc, whole, open, rest)?;
-        let (value, after) = read_node(alloc, true, Some(0), whole, depth, after)?;
-        let after = read_sep(b'}', whole, open, after)?;
-        entries.push((key, piece, value))?;
+        let (entry, after) = read_entry(alloc, whole, depth, open, rest)?;
+        entries.push(entry)?;
         rest = after;
     }
 }

@@ -6,21 +6,21 @@ use Rattle.yq_inline.proofs.reading.+nodes.Goals as goal
 pub read_entries-each-preserved : goal.read_entries-each-preserved
 read_entries-each-preserved t c = record {
   utf8 = search rules;
-  within = omega (arith, c.in_ok-after.ensures.shorter, c.in_ok-value.ensures.shorter, c.in_ok-key.ensures.shorter, c.each.invariant.within);
-  so_far = entries_on (length c.args.whole.now) c.args.depth c.each.entries.items c.push.new.self.items (c.in_ok-key.key, c.in_ok-key.piece, c.in_ok-value.value) c.each.rest.now c.in_ok-key.after.now c.in_ok-value.after.now c.in_ok-after.after.now _
-      c.in_default.ensures c.in_ok-key.ensures.read c.in_ok-value.ensures.read c.in_ok-after.ensures.read c.in_ok-push.ensures.items c.each.invariant.so_far;
+  within = omega (arith, c.in_ok-entry.ensures.shorter, c.each.invariant.within);
+  so_far = entries_on (length c.args.whole.now) c.args.depth c.each.entries.items c.push.new.self.items c.in_ok-entry.entry c.each.rest.now c.in_ok-entry.after.now _
+      c.in_default.ensures c.in_ok-entry.ensures.read c.in_ok-push.ensures.items c.each.invariant.so_far;
 }
-
-pub read_items-each-smaller : goal.read_items-each-smaller
-read_items-each-smaller t c = omega (arith, c.in_ok-after.ensures.shorter, node_shorter (length c.args.whole.now) c.args.depth c.each.rest.now _ _ c.in_ok-item.ensures.read (sym c.is_bare.ensures ∙ c.if-is_bare.false))
 
 pub read_items-each-preserved : goal.read_items-each-preserved
 read_items-each-preserved t c = record {
   utf8 = search rules;
-  within = omega (arith, c.in_ok-after.ensures.shorter, c.in_ok-item.ensures.shorter, c.each.invariant.within);
-  so_far = items_on (length c.args.whole.now) c.args.depth c.each.items.items c.push.new.self.items c.in_ok-item.item c.each.rest.now c.in_ok-item.after.now c.in_ok-after.after.now _
-      c.in_default.ensures c.in_ok-item.ensures.read (sym c.is_bare.ensures ∙ c.if-is_bare.false) c.in_ok-after.ensures.read c.in_ok-push.ensures.items c.each.invariant.so_far;
+  within = omega (arith, c.in_ok-item.ensures.shorter, c.each.invariant.within);
+  so_far = items_on (length c.args.whole.now) c.args.depth c.each.items.items c.push.new.self.items c.in_ok-item.item c.each.rest.now c.in_ok-item.after.now _
+      c.in_default.ensures c.in_ok-item.ensures.read c.in_ok-push.ensures.items c.each.invariant.so_far;
 }
+
+pub read_item-returns-clause-shorter : goal.read_item-returns-clause-shorter
+read_item-returns-clause-shorter t c = omega (arith, c.in_ok-rest.ensures.shorter, node_shorter (length c.args.whole.now) c.args.depth c.args.text.now _ _ c.in_ok-item.ensures.read (sym c.is_bare.ensures ∙ c.if-is_bare.false))
 
 pub read_node-returns-in-Ok-clause-read : goal.read_node-returns-in-Ok-clause-read
 read_node-returns-in-Ok-clause-read t c =
