@@ -16,7 +16,7 @@ use Rattle.yq_lines.specs.Comments.{line_comment}
 use Rattle.yq_rows.specs.Exchange.{asked_behind}
 use Rattle.yq_rows.specs.Grammar.{is_more, Limit, allows, AreRows, key_limit}
 use Rattle.yq_rows.specs.Rows.{rows_text}
-use Rattle.yq_lines.specs.Anchors.{HaveOneAnchorEach}
+use Rattle.yq_lines.specs.LineAnchors.{HaveOneAnchorEach}
 use Rattle.yq_documents.specs.Documents.{HasFitKeys, HaveFitKeys, Reads}
 use Rattle.yq_inline.specs.Trees.{node_anchor, node_head}
 use Rattle.yq_documents.specs.Lines.{lines_of}

@@ -3,7 +3,7 @@ use Rattle.std.proofs.Common.{◌≡◌, ℕ, ◌*◌, ◌+◌, ◌<◌, ◌≤�
 use Rattle.yq_scalar.specs.Paths.{Step}
 use Rattle.yq_scalar.specs.Text.{upto}
 use Rattle.yq_scalar.specs.Tree.{Node}
-use Rattle.yq_lines.specs.Anchors.{HaveOneAnchorEach}
+use Rattle.yq_lines.specs.LineAnchors.{HaveOneAnchorEach}
 use Rattle.yq_lines.specs.Comments.{head_comment, line_comment}
 use Rattle.yq_lines.specs.Outline.{Line, level, flatten, Stands}
 use Rattle.yq_lines.specs.Places.{content}

@@ -7,7 +7,7 @@ use Rattle.yq_scalar.proofs.Bools.{at_byte}
 use Rattle.yq_inline.specs.Nodes as inline
 use Rattle.yq_inline.specs.Nodes.{begins_content, first_is, in_name, node_text, IsName, IsNode}
 use Rattle.yq_inline.proofs.WrittenLaws.{node_then}
-use Rattle.yq_lines.specs.Anchors.{IsFree}
+use Rattle.yq_lines.specs.LineAnchors.{IsFree}
 use Rattle.yq_lines.specs.Outline.{Line}
 use Rattle.yq_rows.specs.Alone.{holds_nothing}
 use Rattle.yq_rows.specs.Grammar.{IsContent, IsTail, is_entry}

@@ -8,7 +8,7 @@ use Rattle.yq_scalar.specs.Text.{upto}
 use Rattle.yq_scalar.specs.Tree.{Node}
 use Rattle.yq_scalar.proofs.Bools.{guard_then}
 use Rattle.yq_inline.specs.Alike.{Alike}
-use Rattle.yq_lines.specs.Anchors.{HaveOneAnchorEach}
+use Rattle.yq_lines.specs.LineAnchors.{HaveOneAnchorEach}
 use Rattle.yq_lines.specs.Comments.{head_comment, line_comment}
 use Rattle.yq_lines.specs.Group.{group, is_fine, level_or}
 use Rattle.yq_lines.specs.Outline as outline

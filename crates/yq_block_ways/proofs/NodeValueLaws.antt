@@ -8,7 +8,7 @@ use Rattle.yq_scalar.specs.Text.{separates}
 use Rattle.yq_scalar.specs.Tree.{Node}
 use Rattle.yq_inline.specs.Nodes as inline
 use Rattle.yq_inline.specs.Nodes.{node_text}
-use Rattle.yq_lines.specs.Anchors.{HaveOneAnchorEach}
+use Rattle.yq_lines.specs.LineAnchors.{HaveOneAnchorEach}
 use Rattle.yq_lines.specs.Comments.{line_comment}
 use Rattle.yq_lines.specs.Outline as outline
 use Rattle.yq_lines.specs.Outline.{end, IsOpen, level, head_or, Stands, value}

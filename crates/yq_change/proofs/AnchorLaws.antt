@@ -3,7 +3,7 @@ use Rattle.std.proofs.Common.{◌≡◌, ℕ, List, [], ◌∷◌, ◌++◌, Opt
 use Rattle.std.proofs.lemmas.Option.{same_Some}
 use Rattle.yq_scalar.specs.Tree.{Node}
 use Rattle.yq_rows.specs.Rows.{Row}
-use Rattle.yq_lines.specs.Anchors.{MayTake, IsFree, HaveOneAnchorEach}
+use Rattle.yq_lines.specs.LineAnchors.{MayTake, IsFree, HaveOneAnchorEach}
 use Rattle.yq_documents.specs.Documents.{HaveFitKeys}
 use Rattle.yq_lines.specs.Outline.{Mark, Bare, Key, Dash, Line, level, Outline, end, row, flatten}
 use Rattle.yq_lines.specs.Places.{Place, here, below, beside, lines_before, lines_after, Found}

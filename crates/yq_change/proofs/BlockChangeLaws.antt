@@ -30,7 +30,7 @@ use Rattle.yq_change.proofs.SiblingLaws.{entry_in, entry_out}
 use Rattle.yq_change.proofs.SoundRootLaws.{replace_keeps, append_keeps}
 use Rattle.yq_change.proofs.SoundRootLess.{remove_keeps, relabel_keeps}
 use Rattle.yq_documents.specs.TreeEdits.{headed, replaced}
-use Rattle.yq_lines.specs.Anchors.{HaveOneAnchorEach}
+use Rattle.yq_lines.specs.LineAnchors.{HaveOneAnchorEach}
 use Rattle.yq_lines.proofs.NodeLaws.{anchored_none}
 use Rattle.yq_change.proofs.LineLaws.{dashes_count}
 

@@ -11,7 +11,7 @@ use Rattle.yq_inline.specs.Nodes.{takes_anchor, IsNode}
 use Rattle.yq_inline.specs.Trees as trees
 use Rattle.yq_inline.specs.Trees.{tree_of, node_anchor, node_head, items_tree}
 use Rattle.yq_scalar.specs.Anchors.{IsNoAlias, names_of}
-use Rattle.yq_lines.specs.Anchors.{IsFree, MayTake, HaveOneAnchorEach}
+use Rattle.yq_lines.specs.LineAnchors.{IsFree, MayTake, HaveOneAnchorEach}
 use Rattle.yq_lines.specs.Comments.{head_comment}
 use Rattle.yq_lines.specs.Group.{group, level_or}
 use Rattle.yq_lines.specs.Laws.{with_lines}

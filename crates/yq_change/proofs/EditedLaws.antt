@@ -11,7 +11,7 @@ use Rattle.yq_scalar.proofs.Bools.{guard_then}
 use Rattle.yq_lines.specs.Comments.{head_comment}
 use Rattle.yq_rows.specs.Rows.{Part, Cut}
 use Rattle.yq_scalar.specs.Anchors.{names_of, AreBound}
-use Rattle.yq_lines.specs.Anchors.{IsFree, HaveOneAnchorEach}
+use Rattle.yq_lines.specs.LineAnchors.{IsFree, HaveOneAnchorEach}
 use Rattle.yq_documents.specs.Documents.{Document, document_parts, lead_of}
 use Rattle.yq_lines.specs.Group.{level_or}
 use Rattle.yq_lines.specs.Laws.{with_lines}

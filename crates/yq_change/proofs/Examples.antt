@@ -31,7 +31,7 @@ use Rattle.std.specs.Str as strings
 use Rattle.yq_rows.specs.Rows as rows
 use Rattle.yq_rows.specs.Rows.{Inline, Row, Part, last, marked, cut_text, rows_text}
 use Rattle.yq_scalar.specs.Anchors.{Refers, AreBound}
-use Rattle.yq_lines.specs.Anchors.{HaveOneAnchorEach}
+use Rattle.yq_lines.specs.LineAnchors.{HaveOneAnchorEach}
 use Rattle.yq_documents.specs.Documents.{document_parts}
 use Rattle.yq_lines.specs.Group.{group}
 use Rattle.yq_lines.specs.Outline.{Bare, Key, Dash, Line, level, IsEven, end, row, label, value}

@@ -5,7 +5,7 @@ use Rattle.yq_scalar.specs.Paths.{Step, append_child, change, change_child, remo
 use Rattle.yq_scalar.specs.Tree.{Node, alias, scalar, list, map, Children, none, child}
 use Rattle.yq_rows.specs.Rows.{Part, Cut}
 use Rattle.yq_scalar.specs.Anchors.{IsNoAlias}
-use Rattle.yq_lines.specs.Anchors.{MayTake, IsFree, HaveOneAnchorEach}
+use Rattle.yq_lines.specs.LineAnchors.{MayTake, IsFree, HaveOneAnchorEach}
 use Rattle.yq_documents.specs.Documents.{lead_of}
 use Rattle.yq_lines.specs.Group.{group, level_or}
 use Rattle.yq_lines.specs.Laws.{with_lines}

@@ -7,7 +7,7 @@ use Rattle.yq_rows.specs.Grammar.{unlimited, AreRows, no_rows}
 use Rattle.yq_rows.specs.Rows.{Row, Part, Cut, cut_text}
 use Rattle.yq_rows.specs.Splices.{behind_first, first_gap}
 use Rattle.yq_rows.specs.Seams.{ends_in_block, ends_in_line}
-use Rattle.yq_lines.specs.Anchors.{HaveOneAnchorEach}
+use Rattle.yq_lines.specs.LineAnchors.{HaveOneAnchorEach}
 use Rattle.yq_documents.specs.Documents.{HaveFitKeys, lead_of}
 use Rattle.yq_documents.specs.Lines.{lines_of}
 use Rattle.yq_lines.specs.Outline.{Line, Outline, flatten, children, label}

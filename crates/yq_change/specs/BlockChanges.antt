@@ -6,7 +6,7 @@ use Rattle.yq_scalar.specs.Tree.{Label, Node}
 use Rattle.yq_lines.specs.Comments.{head_comment, line_comment}
 use Rattle.yq_rows.specs.Rows.{Row, behind_columns, Part, Cut}
 use Rattle.yq_scalar.specs.Anchors.{names_of}
-use Rattle.yq_lines.specs.Anchors.{HaveOneAnchorEach}
+use Rattle.yq_lines.specs.LineAnchors.{HaveOneAnchorEach}
 use Rattle.yq_documents.specs.Documents.{lead_of}
 use Rattle.yq_lines.specs.Laws.{with_lines}
 use Rattle.yq_documents.specs.Lines.{lines_from, lines_of}

@@ -8,7 +8,7 @@ use Rattle.yq_lines.specs.Comments.{head_comment}
 use Rattle.yq_rows.specs.Grammar.{IsCut, no_rows, begins_document}
 use Rattle.yq_rows.specs.Rows.{Part, Cut, last, marked, part_text, cut_text}
 use Rattle.yq_scalar.specs.Anchors.{names_of, AreBound}
-use Rattle.yq_lines.specs.Anchors.{HaveOneAnchorEach}
+use Rattle.yq_lines.specs.LineAnchors.{HaveOneAnchorEach}
 use Rattle.yq_documents.specs.Documents.{Document, HaveFitKeys, HasShortRoot, IsDocument, begins_bare, document_parts, has_begin, lead_of}
 use Rattle.yq_documents.specs.Lines.{lines_of}
 use Rattle.yq_lines.specs.Outline.{Line}

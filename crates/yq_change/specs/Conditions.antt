@@ -5,7 +5,7 @@ use Rattle.yq_scalar.specs.Paths.{Step, node_at, change}
 use Rattle.yq_scalar.specs.Tree.{Node}
 use Rattle.yq_rows.specs.Rows.{Row}
 use Rattle.yq_scalar.specs.Anchors.{Name, Anchors, Refers, names_of, IsAmong, AreBound}
-use Rattle.yq_lines.specs.Anchors.{IsFree, HaveOneAnchorEach}
+use Rattle.yq_lines.specs.LineAnchors.{IsFree, HaveOneAnchorEach}
 use Rattle.yq_documents.specs.Documents.{HaveFitKeys}
 use Rattle.yq_lines.specs.Outline.{Line, Outline, IsEven}
 use Rattle.yq_lines.specs.Places.{lines_before, lines_after}

@@ -5,7 +5,7 @@ use Rattle.yq_scalar.specs.Paths.{Step, append_child, change, node_at, relabel_c
 use Rattle.yq_scalar.specs.Tree.{Label, Node, Children, none, child, children_of}
 use Rattle.yq_rows.specs.Grammar.{IsCut}
 use Rattle.yq_rows.specs.Rows.{Part, Cut, cut_text}
-use Rattle.yq_lines.specs.Anchors.{IsFree, HaveOneAnchorEach}
+use Rattle.yq_lines.specs.LineAnchors.{IsFree, HaveOneAnchorEach}
 use Rattle.yq_documents.specs.Documents.{Document, HaveFitKeys, HasShortRoot, document_parts, lead_of}
 use Rattle.yq_lines.specs.Group.{level_or}
 use Rattle.yq_lines.specs.Laws.{with_lines}

@@ -3,7 +3,7 @@ use Rattle.std.proofs.Common.{◌≡◌, ℕ, ◌+◌, List, [], ◌∷◌, ◌+
 use Rattle.std.specs.List.{slice_get}
 use Rattle.yq_scalar.specs.Tree.{Label, Node, alias, scalar, list, map, Children, child}
 use Rattle.yq_scalar.specs.Anchors.{Name, with_anchor, names_of, names_in, IsNoAlias}
-use Rattle.yq_lines.specs.Anchors.{MayTake, IsFree, HaveOneAnchorEach}
+use Rattle.yq_lines.specs.LineAnchors.{MayTake, IsFree, HaveOneAnchorEach}
 use Rattle.yq_lines.specs.Group.{group, level_or, is_fine}
 use Rattle.yq_lines.specs.Names.{head_names, line_names, IsUnnamed, MayBeNamed, HaveHeadsApart}
 use Rattle.yq_lines.specs.Outline.{Mark, Bare, Key, Dash, Line, Outline, end, row, flatten, IsOpen, IsWhole, IsEven, anchored, head_or, label, collection, children, value}

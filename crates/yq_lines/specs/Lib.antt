@@ -8,7 +8,7 @@ pub use Rattle.yq_inline.specs.Trees
 pub mod Outline
 pub mod Grammar
 pub mod Group
-pub mod Anchors
+pub mod LineAnchors
 pub mod Sound
 pub mod Names
 pub mod LinesReading

@@ -6,7 +6,7 @@ pub use Rattle.yq_scalar.specs.Shapes
 pub use Rattle.yq_lines.specs.Outline
 pub use Rattle.yq_lines.specs.Grammar
 pub use Rattle.yq_lines.specs.Group
-pub use Rattle.yq_lines.specs.Anchors
+pub use Rattle.yq_lines.specs.LineAnchors
 pub use Rattle.yq_lines.specs.Sound
 pub use Rattle.yq_lines.specs.Ends
 pub use Rattle.yq_lines.specs.Places

@@ -9,7 +9,7 @@ use Rattle.yq_scalar.specs.Tree as tree
 use Rattle.yq_scalar.specs.Tree.{Node}
 use Rattle.yq_scalar.proofs.Bools.{bind_some}
 use Rattle.yq_flow.specs.Valued.{IsValueTree}
-use Rattle.yq_lines.specs.Anchors.{HaveOneAnchorEach}
+use Rattle.yq_lines.specs.LineAnchors.{HaveOneAnchorEach}
 use Rattle.yq_lines.specs.Outline.{children, label}
 use Rattle.yq_lines.specs.Places.{content}
 use Rattle.yq_rows.specs.Grammar.{unlimited, AreRows, no_rows, Limit, allows}
