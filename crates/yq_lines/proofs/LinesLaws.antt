@@ -1,5 +1,5 @@
 -- What is asked of all lines of a document.
-use Rattle.std.proofs.Common.{◌≡◌, ◌<◌, leb, List, [], Bool, true, false, ◌&&◌, refl, sym, ap, ◌∙◌, arith}
+use Rattle.std.proofs.Common.{◌≡◌, ◌<◌, leb, List, [], None, Bool, true, false, ◌&&◌, refl, sym, ap, ◌∙◌, arith}
 use Rattle.std.proofs.lemmas.Bool.{lt-ltb, cond-true, and_parts}
 use Rattle.std.proofs.Math.Bool.{and-false}
 use Rattle.yq_scalar.specs.Keys.{depth}
@@ -9,10 +9,11 @@ use Rattle.yq_lines.specs.Ends.{part}
 use Rattle.yq_lines.specs.Group.{deeper, group, is_fine}
 use Rattle.yq_lines.specs.LinesReading.{names_are_sound, lines_are_sound, have_one_anchor_each, are_bound}
 use Rattle.yq_lines.specs.Names.{line_names, HaveHeadsApart}
-use Rattle.yq_lines.specs.Outline.{Line, level, Outline, end, row, value}
+use Rattle.yq_lines.specs.Outline.{Line, level, Outline, end, row, anchored, value}
 use Rattle.yq_lines.specs.Sound.{has_unique_keys, is_sound}
 use Rattle.yq_lines.proofs.NameConditions.{anchors_are}
 use Rattle.yq_lines.proofs.NameLaws.{names_lines}
+use Rattle.yq_lines.proofs.NodeLaws.{anchored_none}
 use Rattle.yq_lines.proofs.Values.{rank_small}
 
 above : (l : Line) → 0 < level l
@@ -26,6 +27,10 @@ deeper-all (row l u a) = cond-true _ _ _ (lt-ltb 0 (level l) (above l)) ∙ ap (
 
 pub part-all : (ls : List Line) → part ls 0 0 ≡ group ls
 part-all ls = deeper-all (group ls)
+
+-- the node of all lines
+pub all_value : (ls : List Line) → anchored None (value (part ls 0 0)) ≡ value (group ls)
+all_value ls = anchored_none (value (part ls 0 0)) ∙ ap value (part-all ls)
 
 -- lines that don't stand for a node, or not for one that is sound
 pub lines_unsound : (ls : List Line) → false ≡ is_sound depth_limit (part ls 0 0) → false ≡ lines_are_sound ls

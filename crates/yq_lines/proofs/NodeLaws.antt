@@ -4,9 +4,8 @@ use Rattle.std.proofs.lemmas.Option.{same_Some}
 use Rattle.std.specs.List.{slice_get}
 use Rattle.yq_scalar.specs.Tree.{Node, alias, scalar, list, map}
 use Rattle.yq_lines.specs.Ends.{part, rest}
-use Rattle.yq_lines.specs.Group.{deeper, group}
+use Rattle.yq_lines.specs.Group.{deeper}
 use Rattle.yq_lines.specs.Outline.{Bare, Key, Dash, Line, level, Outline, row, first_anchor, anchored, head_or, collection, children, value}
-use Rattle.yq_lines.proofs.LinesLaws.{part-all}
 use Rattle.yq_lines.proofs.Parts.{part_row}
 
 pub anchored_twice : (a b : Option (List ℕ)) (n : Node) → anchored a (anchored b n) ≡ anchored (first_anchor a b) n
@@ -48,7 +47,3 @@ anchored_none (map c cs) = refl
 pub first_none : (a : Option (List ℕ)) → first_anchor a None ≡ a
 first_none None = refl
 first_none (Some a) = refl
-
--- the node of all lines
-pub all_value : (ls : List Line) → anchored None (value (part ls 0 0)) ≡ value (group ls)
-all_value ls = anchored_none (value (part ls 0 0)) ∙ ap value (part-all ls)

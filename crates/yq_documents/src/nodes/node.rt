@@ -60,7 +60,7 @@ fn line_key<'d>(line: &'d Line<'_>) -> Option<&'d str>
 
 impl<'d, 't> Node<'d, 't> {
     /// The root of a document.
-    #[tactic(auto, using(yq_lines::proofs::NodeLaws::all_value))]
+    #[tactic(auto, using(yq_lines::proofs::LinesLaws::all_value))]
     pub fn root(document: &'d Lined<'t>) -> Node<'d, 't>
         ensures node { spec.node_of result ≡ value (group (views document.now)) }
         ensures label { spec.label_of result ≡ spec.unlabelled }
