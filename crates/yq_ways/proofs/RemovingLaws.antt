@@ -136,7 +136,7 @@ may_take doc steps c others fits =
       others = (λ i. has_others steps (sym root i)) ∙ (sym (ap (λ o. has_several (o >>= λ (y : Document). node_at (take (length steps - 1) steps) y.root)) fits.1) ∙ others);
       node = n;
       node_is = (λ i. node_at steps (sym root i)) ∙ fits.2.1.1;
-      not_used = subst (λ (r : Node). AreSpared (names_of n) [] (names_of r)) root (not_used (names_of d.root) (names_of n) fits.2.1.2);
+      spared = subst (λ (r : Node). AreSpared (names_of n) [] (names_of r)) root (not_used (names_of d.root) (names_of n) fits.2.1.2);
     }
 
 -- the text without an item or entry reads so
