@@ -50,7 +50,7 @@ def check_the_man_page_is_clean(folder):
 
 
 def check_the_manual_tells_of_each_answer(_folder):
-    with open(os.path.join(ROOT, "crates", "yq_commands", "src", "fault.rt"), encoding="utf-8") as text:
+    with open(os.path.join(ROOT, "crates", "yq_history", "src", "fault.rt"), encoding="utf-8") as text:
         codes = set(CODE.findall(text.read())) | {"N1"}
     told = set(re.findall(r"Error: ([A-Z]\d+) ", "\n".join(lines_of("docs/MANUAL.md"))))
     equal(told, codes)

@@ -1,27 +1,22 @@
 -- Lists of commands as runs of a history (own).
-use Rattle.std.specs.Prelude.{◌≡◌, ◌≢◌, ◌⊎◌, ◌||◌, ◌+◌, ℕ, Bool, true, false, not, List, [], ◌∷◌, map, flat_map, All, if◌then◌else◌, MatchBool, MatchResult, Option, Some, None, option_map, Result, Ok}
+use Rattle.std.specs.Prelude.{◌≡◌, ◌≢◌, ◌⊎◌, ◌||◌, ◌+◌, ℕ, Bool, true, false, not, List, [], ◌∷◌, map, flat_map, All, if◌then◌else◌, MatchBool, MatchResult, Option, Some, None, Result, Ok, Err}
 use Rattle.std.specs.FinMap.{get}
-use Rattle.std.specs.String.{string_bytes}
-use Rattle.yq_journal.specs.History.{History, text_at}
+use Rattle.yq_journal.specs.History.{History}
 use Rattle.yq_commands.specs.declared.answer.Answer.{Answer}
 use Rattle.yq_commands.specs.declared.answer.Answer.TheVariants.{Done, NoMatch, Refused}
 use Rattle.yq_words.specs.declared.command.Command.{Command}
-use Rattle.yq_words.specs.declared.command.Command.TheVariants.{Eval, Undo, Redo, History as Lists, Squash, Help}
-use Rattle.yq_commands.specs.declared.fault.Fault.{Fault}
-use Rattle.yq_commands.specs.declared.fault.Fault.TheVariants.{OutFailed, OutOfMemory}
-use Rattle.yq_commands.specs.Causes.{Cause, IsFor}
+use Rattle.yq_history.specs.declared.fault.Fault.{Fault}
+use Rattle.yq_history.specs.declared.fault.Fault.TheVariants.{OutFailed, OutOfMemory}
+use Rattle.yq_history.specs.Causes.{Cause, IsFor}
 use Rattle.yq_commands.specs.CommandNames.{IsOn, IsStranger}
-use Rattle.yq_commands.specs.Recorded.{IsRecorded}
 use Rattle.yq_store.specs.Content.{Content}
-use Rattle.yq_commands.specs.Effects.{OfEffect, Tells}
-use Rattle.yq_commands.specs.Faults.{is_failure, is_outside, is_output}
-use Rattle.yq_program.specs.Program.{Program}
-use Rattle.yq_script.specs.Patch.{Splice}
-use Rattle.yq_commands.specs.Editing.{program_in, edits, edited}
-use Rattle.yq_commands.specs.Pair.{HasLast}
-use Rattle.yq_commands.specs.Prints.{shown_of, prints}
-use Rattle.yq_commands.specs.Shown.{Shown, answer_by}
-use Rattle.yq_commands.specs.Steps.{cause_of, next_of}
+use Rattle.yq_commands.specs.CommandEffects.{OfEffect}
+use Rattle.yq_history.specs.Effects.{Effect, Works, printed_by}
+use Rattle.yq_history.specs.Faults.{is_failure, is_outside, is_output}
+use Rattle.yq_history.specs.Pair.{GoodIn}
+use Rattle.yq_commands.specs.Prints.{shown_of, prints, answer_by}
+use Rattle.yq_history.specs.Shown.{Shown}
+use Rattle.yq_commands.specs.CommandSteps.{cause_of, next_of}
 
 -- the command shares no name with the file and the journal; or it isn't on them, and prints and writes no name
 abbrev pub IsApart : List ℕ → List ℕ → Command → Type 0
@@ -101,28 +96,37 @@ abbrev pub is_kept : Answer → Bool
 is_kept (Refused e) = not (is_outside e)
 is_kept _ = false
 
--- the answer, and what the file and the journal then hold, are those of the command's effect on what they held, be they good for a history or not
-abbrev pub HasEffect : Command → Answer → Content → Content → Type 0
-HasEffect c a old new = (file name : List ℕ) → file ≢ name → IsOn file name c → OfEffect c (get old file) (get old name) (λ x. Tells x file name old new a)
+-- what a command's answer and the bytes that it printed tell of an effect: it came about and printed its bytes; or it was refused and printed nothing;
+-- that the output failed tells nothing, and that there is no match is never told
+abbrev pub TellsEffect : Effect → List ℕ → List ℕ → Content → Content → Answer → List ℕ → Type 0
+TellsEffect x file name old new Done o = Works x file name old new {T = Unit {0}} (Ok tt) × (o ≡ printed_by x)
+TellsEffect x file name old new NoMatch o = ⊥
+TellsEffect x file name old new (Refused e) o = MatchBool (is_output e) (Unit {0}) (Works x file name old new {T = Unit {0}} (Err e)) × (o ≡ [])
 
--- a command that prints, or is refused so, leaves every name; any other leaves the names that it doesn't name, and has its effect
-pub record Leaves (c : Command) (a : Answer) (old new : Content) : Type 0 where
-  pub all : (prints c || is_kept a) ≡ true → new ≡ old
+-- the reply, and what the file and the journal then hold, are those of the command's effect on what they held, be they good for a history or not
+abbrev pub HasEffect : Command → Reply → Content → Content → Type 0
+HasEffect c r old new =
+    (file name : List ℕ) → file ≢ name → IsOn file name c → OfEffect c (get old file) (get old name) (λ x. TellsEffect x file name old new r.answer r.printed)
+
+-- from every history for which a pair is good it goes on to one for which the pair is good then
+abbrev pub StepsHistory : Command → Reply → Content → Content → Type 0
+StepsHistory c r old new =
+    (file name : List ℕ) → file ≢ name → IsOn file name c ⊎ IsApart file name c → (h : Option History) → GoodIn old file name h →
+    (k : Option History) × Goes file name c h r k × GoodIn new file name k
+
+-- a command that prints, or is refused so, leaves every name; any other leaves the names that it doesn't name; it has its effect, and steps histories
+pub record Leaves (c : Command) (r : Reply) (old new : Content) : Type 0 where
+  pub all : (prints c || is_kept r.answer) ≡ true → new ≡ old
   pub others : (q : List ℕ) → IsStranger q c → get new q ≡ get old q
-  pub effect : HasEffect c a old new
+  pub effect : HasEffect c r old new
+  pub steps : StepsHistory c r old new
 
 -- one command after another
-abbrev pub Keeps : Content → List Command → List Answer → Content → Type 0
+abbrev pub Keeps : Content → List Command → List Reply → Content → Type 0
 Keeps old [] [] new = new ≡ old
-Keeps old (c ∷ cs) (a ∷ as') new = (m : Content) × Leaves c a old m × Keeps m cs as' new
-Keeps old [] (a ∷ as') new = ⊥
+Keeps old (c ∷ cs) (r ∷ rs) new = (m : Content) × Leaves c r old m × Keeps m cs rs new
+Keeps old [] (r ∷ rs) new = ⊥
 Keeps old (c ∷ cs) [] new = ⊥
-
--- ---- records
-
--- what is recorded of a command, by the history before it
-abbrev pub Records : Command → Option History → Option (List ℕ) → Type 0
-Records c h journal = IsRecorded c (option_map text_at h) journal
 
 -- ---- answers
 

@@ -9,7 +9,8 @@ mod words;
 use crate::program::answer_to_words;
 use std::io;
 use std::process::ExitCode;
-use yq_commands::{Answer, Fault, USAGE};
+use yq_commands::{Answer, USAGE};
+use yq_history::Fault;
 
 fn main(rt: HostRuntime) -> io::Result<ExitCode> {
     match answer_to_words(&rt) {

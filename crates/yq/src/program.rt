@@ -4,7 +4,8 @@ use crate::output::standard::StandardOut;
 use crate::run::run_list;
 use crate::words::command_of;
 use std::io::ErrorKind;
-use yq_commands::{Answer, Fault};
+use yq_commands::Answer;
+use yq_history::Fault;
 use yq_store::DiskStore;
 use yq_words::{Command, purpose_of};
 

@@ -1,19 +1,20 @@
 //! Lists of commands, carried out over a store.
-ghost use Rattle.std.specs.Prelude.{◌≡◌, ◌≢◌, ◌+◌, ◌-◌, ◌^◌, ◌<◌, ℕ, List, ◌∷◌, ◌++◌, [], Option, IfOk, OnErr, IsTrue, MatchResult, All, true, false, if◌then◌else◌, min, length};
+ghost use Rattle.std.specs.Prelude.{◌≡◌, ◌≢◌, ◌+◌, ◌-◌, ◌^◌, ◌<◌, ℕ, List, ◌++◌, Option, IfOk, OnErr, IsTrue, MatchResult, All, true, false, if◌then◌else◌, min, length};
 ghost use Rattle.std.specs.List.{list_all};
 ghost use Rattle.std.specs.FinMap as map;
 ghost use Rattle.std.specs.String.{string_bytes};
 ghost use Rattle.yq_journal.specs.History.{History};
 ghost use Rattle.yq_store.specs.Count.{one_more};
-ghost use Rattle.yq_commands.specs.CommandNames.{IsOn, IsStranger};
-ghost use Rattle.yq.specs.Lists.{AllFit, Keeps, Run, RunExactly, Told, Records, Reply, answers_in, printed_in, has_memory, failures_in, output_failures_in, tells_output};
-ghost use Rattle.yq_commands.specs.Pair.{GoodIn};
-ghost use Rattle.yq_commands.specs.Shown as spec;
-ghost use Rattle.yq_commands.specs.Shown.{shown_by};
+ghost use Rattle.yq_commands.specs.CommandNames.{IsStranger};
+ghost use Rattle.yq.specs.Lists.{AllFit, Keeps, Run, RunExactly, Told, Reply, answers_in, printed_in, has_memory, failures_in, output_failures_in, tells_output};
+ghost use Rattle.yq_history.specs.Pair.{GoodIn};
+ghost use Rattle.yq_commands.specs.Prints as spec;
+ghost use Rattle.yq_history.specs.Shown.{shown_by};
 
 use crate::output::Out;
 use std::alloc::{AllocError, Global};
-use yq_commands::{Answer, Fault, Shown, execute};
+use yq_commands::{Answer, execute};
+use yq_history::{Fault, Shown};
 use yq_store::Store;
 use yq_words::Command;
 
@@ -57,6 +58,7 @@ pub fn run_list<D: Store, W: Out>(
 ) -> Result<Vec<Answer>, AllocError>
     ensures run { IsTrue D.keeps → IfOk result (λ answers. (replies : List Reply) × (answers_in replies ≡ answers.items)
         × (IsTrue W.tells → W.failures out.new ≡ W.failures out.old → W.failures out.new < 2 ^ 64 - 1 → W.taken out.new ≡ W.taken out.old ++ printed_in replies)
+        × Keeps (D.content store.old) commands.now replies (D.content store.new)
         × ((file name : List ℕ) → file ≢ name → AllFit file name commands.now → (h : Option History) → GoodIn (D.content store.old) file name h →
         (k : Option History) × Run file name h commands.now replies k × GoodIn (D.content store.new) file name k)) }
     ensures exact { IsTrue D.keeps → D.failures store.new ≡ D.failures store.old → D.failures store.new < 2 ^ 64 - 1 →
@@ -65,11 +67,6 @@ pub fn run_list<D: Store, W: Out>(
         × (IsTrue W.tells → W.taken out.new ≡ W.taken out.old ++ printed_in replies)
         × ((file name : List ℕ) → file ≢ name → AllFit file name commands.now → (h : Option History) → GoodIn (D.content store.old) file name h →
         (k : Option History) × RunExactly file name h commands.now replies k × GoodIn (D.content store.new) file name k)) }
-    ensures recorded { IsTrue D.keeps → IfOk result (λ answers. (file name : List ℕ) → file ≢ name →
-        AllFit file name commands.now → (h : Option History) → GoodIn (D.content store.old) file name h →
-        (cs : List Command) → (c : Command) → (before : List Answer) → commands.now ≡ cs ++ c ∷ [] → answers.items ≡ before ++ Answer.Done ∷ [] → IsOn file name c →
-        (m : Option History) × (replies : List Reply) × (answers_in replies ≡ before) × Run file name h cs replies m × Records c m (map.get (D.content store.new) name)) }
-    ensures kept { IsTrue D.keeps → IfOk result (λ answers. Keeps (D.content store.old) commands.now answers.items (D.content store.new)) }
     ensures others { IsTrue D.keeps → (q : List ℕ) → All (IsStranger q) commands.now → map.get (D.content store.new) q ≡ map.get (D.content store.old) q }
     ensures count { D.failures store.old < 2 ^ 64 → IfOk result (λ answers. D.failures store.new ≡ min (D.failures store.old + failures_in answers.items) (2 ^ 64 - 1)) }
     ensures out_count { W.failures out.old < 2 ^ 64 → IfOk result (λ answers. W.failures out.new ≡ min (W.failures out.old + output_failures_in answers.items) (2 ^ 64 - 1)) }

@@ -1,14 +1,15 @@
 //! The command that the program's words ask for.
 ghost use Rattle.std.specs.Prelude.{◌≡◌, ◌≢◌, IfOk, IfErr, MatchResult, map, true, Ok};
 ghost use Rattle.clap.specs.Words.{subcommand_of, takes};
-ghost use Rattle.yq_commands.specs.Faults.{of_words};
+ghost use Rattle.yq_commands.specs.CommandFaults.{of_words};
 ghost use Rattle.yq_words.specs.declared.command.Command.TheVariants.{Help};
 ghost use Rattle.yq_words.specs.declared.words_error.WordsError.{WordsError};
 ghost use Rattle.yq_words.specs.Asked as spec;
 ghost use Rattle.yq_words.specs.Line.{yq};
 
 use std::alloc::Global;
-use yq_commands::Fault;
+use yq_commands::words_fault;
+use yq_history::Fault;
 use yq_words::{Command, read_words};
 
 /// The command of the words, which don't include the program's name.
@@ -26,5 +27,8 @@ pub fn command_of(alloc: Global, words: &[&str]) -> Result<Command, Fault>
     ensures called { spec.CallsHelp (map (λ w. w.now) words.now) → MatchResult result (λ c. c ≡ Help) (λ e. e ≡ Fault.OutOfMemory) }
     ensures err { IfErr result (λ fault. (e : WordsError) × (fault ≡ of_words e) × spec.IsRefused (spec.full_words (map (λ w. w.now) words.now)) e) }
 {
-    Ok(read_words(alloc, words)?)
+    match read_words(alloc, words) {
+        Ok(command) => Ok(command),
+        Err(error) => Err(words_fault(error)),
+    }
 }

@@ -14,9 +14,11 @@ use Rattle.yq_splice.specs.Edit.{by_reading}
 use Rattle.yq_splice.specs.Answers.{Fails}
 use Rattle.yq_splice.specs.declared.edit_error.EditError.{EditError}
 use Rattle.yq_splice.specs.declared.edit_error.EditError.TheVariants as error
-use Rattle.yq_commands.specs.declared.fault.Fault.{Fault}
-use Rattle.yq_commands.specs.declared.fault.Fault.TheVariants.{OutOfMemory, Unreadable}
-use Rattle.yq_commands.specs.Editing.{IsUnreadable, Refuses, edits, of_edit, of_refusal, unreadable, outcome_of}
+use Rattle.yq_history.specs.declared.fault.Fault.{Fault}
+use Rattle.yq_history.specs.declared.fault.Fault.TheVariants.{OutOfMemory, Unreadable}
+use Rattle.yq_history.specs.Causes.{IsUnreadable}
+use Rattle.yq_commands.specs.Editing.{Refuses, edits, unreadable, outcome_of}
+use Rattle.yq_commands.specs.CommandFaults.{of_edit, of_refusal}
 
 -- bytes that are no UTF-8
 pub not_read : (t : List ℕ) → is_utf8 t ≡ false → read_at t ≡ None

@@ -1,9 +1,5 @@
+pub mod EditEffects
 pub mod EditLaws
 pub mod EditingLaws
-pub mod EffectLaws
-pub mod MoveLaws
-pub mod PairLaws
-pub mod PrintLaws
 pub mod ReadLaws
 pub mod ShowLaws
-pub mod SquashLaws

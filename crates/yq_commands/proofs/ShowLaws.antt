@@ -1,5 +1,6 @@
 -- What is shown of a file, by what is shown of its text.
-use Rattle.std.proofs.Common.{◌≡◌, ◌≢◌, inl, true, false, Bool, ℕ, List, Option, Some, None, option_map, Result, Ok, Err, IfErr, sym, ap, ◌∙◌, subst, refl}
+use Rattle.std.proofs.Common.{◌≡◌, ◌≢◌, inl, true, false, Bool, ℕ, List, Option, Some, None, option_map, Result, Ok, Err, IfErr, sym, ap, ◌∙◌, subst, refl, true≢false}
+use Rattle.std.proofs.lemmas.Option.{same_Some}
 use Rattle.std.specs.FinMap.{get}
 use Rattle.std.specs.Str.{is_utf8}
 use Rattle.yq_scalar.specs.Answers.{Fails}
@@ -16,22 +17,19 @@ use Rattle.yq_meaning.specs.declared.match_error.MatchError.{MatchError}
 use Rattle.yq_meaning.specs.declared.match_error.MatchError.TheVariants as matching
 use Rattle.yq_program.specs.Program.{Program, Stage, is_read, read, updates}
 use Rattle.yq_journal.specs.History.{History, text_at}
-use Rattle.yq_commands.specs.declared.fault.Fault.{Fault}
-use Rattle.yq_commands.specs.declared.fault.Fault.TheVariants.{OutOfMemory, Unreadable}
-use Rattle.yq_commands.specs.Causes.{Cause, IsFor, named, no_reading}
+use Rattle.yq_history.specs.declared.fault.Fault.{Fault}
+use Rattle.yq_history.specs.declared.fault.Fault.TheVariants.{OutOfMemory, Unreadable}
+use Rattle.yq_history.specs.Causes.{Cause, IsFor, named, no_reading, IsUnreadable}
 use Rattle.yq_store.specs.Content.{Content}
-use Rattle.yq_commands.specs.Editing.{Outcome, unreadable, refused, edited, IsUnreadable, Refuses, edits, of_refusal}
-use Rattle.yq_commands.specs.Evaluation.{of_file, show_edit, show_found, show_read, shows}
-use Rattle.yq_commands.specs.Faults.{is_outside, of_matching, of_reading}
-use Rattle.yq_commands.specs.Pair.{Arrives, GoodIn}
-use Rattle.yq_commands.specs.Shown.{Shown, cause_in, shown_in}
+use Rattle.yq_commands.specs.Editing.{Outcome, unreadable, refused, edited, Refuses, edits}
+use Rattle.yq_commands.specs.CommandFaults.{of_refusal, of_matching}
+use Rattle.yq_commands.specs.Evaluation.{of_file, show_edit, show_found, show_read, shows, cause_in, shown_in}
+use Rattle.yq_history.specs.Faults.{is_outside, of_reading}
+use Rattle.yq_history.specs.Pair.{Arrives, GoodIn}
+use Rattle.yq_history.specs.Shown.{Shown}
 use Rattle.yq_commands.proofs.EditingLaws.{unread_text}
-use Rattle.yq_commands.proofs.MoveLaws.{cut, told}
-use Rattle.yq_commands.proofs.PairLaws.{good_text, same_pair, some_same}
-
-not_both : (b : Bool) → b ≡ true → b ≡ false → ⊥
-not_both true p q = cc
-not_both false p q = cc
+use Rattle.yq_history.proofs.MoveLaws.{cut, told}
+use Rattle.yq_history.proofs.PairLaws.{good_text, same_pair}
 
 -- the fault of an edit tells why its text isn't shown
 pub tells_edit : (o : Outcome) (x : Fault) → Refuses o x → IsFor (cause_in (show_edit o)) x
@@ -43,7 +41,8 @@ tells_edit (edited u changes) x is = absurd is
 
 module _ (exit_status no_doc : Bool) (t : List ℕ) where
   -- a read, by the documents
-  by_documents : (p : Program) (docs : Option (List Document)) → is_read p ≡ true → option_map documents (read_at t) ≡ docs → (pipe : List Stage) × (p ≡ read pipe) × (shows exit_status no_doc p t ≡ show_read exit_status no_doc pipe t docs)
+  by_documents : (p : Program) (docs : Option (List Document)) → is_read p ≡ true →
+      option_map documents (read_at t) ≡ docs → (pipe : List Stage) × (p ≡ read pipe) × (shows exit_status no_doc p t ≡ show_read exit_status no_doc pipe t docs)
   unfolding shows
   by_documents (read pipe) docs is reads = (pipe, refl, ap (show_read exit_status no_doc pipe t) reads)
   by_documents (updates us) docs is reads = cc
@@ -53,7 +52,8 @@ module _ (exit_status no_doc : Bool) (t : List ℕ) where
   unread_shows p is none = (by_documents p None is (ap (option_map documents) none)).2
 
   -- a read of a text, by its matches
-  pub found_shows : (p : Program) (docs : List Document) (found : Judgement (List (ℕ × Node))) → is_read p ≡ true → option_map documents (read_at t) ≡ Some docs → ((pipe : List Stage) → p ≡ read pipe → matches pipe docs ≡ found) → shows exit_status no_doc p t ≡ show_found exit_status no_doc found
+  pub found_shows : (p : Program) (docs : List Document) (found : Judgement (List (ℕ × Node))) → is_read p ≡ true → option_map documents (read_at t) ≡ Some docs →
+      ((pipe : List Stage) → p ≡ read pipe → matches pipe docs ≡ found) → shows exit_status no_doc p t ≡ show_found exit_status no_doc found
   found_shows p docs found is reads matched =
       let x = by_documents p (Some docs) is reads in
       x.2 ∙ ap (show_found exit_status no_doc) (matched x.0 x.1)
@@ -71,12 +71,14 @@ module _ (exit_status no_doc : Bool) (t : List ℕ) where
   unread_fails p r x is fails unread none = for_cause p (no_reading t) r x fails (λ memory. (unread_shows p is none, unread))
 
   -- a text that isn't read
-  pub reading_fails : (p : Program) {T : Type 0} (r : Result T Fault) (e : ReadError) → is_read p ≡ true → is_utf8 t ≡ true → r ≡ Err (of_reading e) → Fails e (read_at t) → (IsNotUtf8 {X = List ℕ} (Err e) → is_utf8 t ≡ false) → Told p r
+  pub reading_fails : (p : Program) {T : Type 0} (r : Result T Fault) (e : ReadError) → is_read p ≡ true → is_utf8 t ≡ true →
+      r ≡ Err (of_reading e) → Fails e (read_at t) → (IsNotUtf8 {X = List ℕ} (Err e) → is_utf8 t ≡ false) → Told p r
   reading_fails p r reading.Memory is utf8 fails none text = for_cause p (no_reading t) r OutOfMemory fails (λ memory. absurd (memory refl))
-  reading_fails p r (reading.Fault f) is utf8 fails none text = unread_fails p r (Unreadable f) is fails (unread_text t f utf8 (λ no. not_both (is_utf8 t) utf8 (text no))) none
+  reading_fails p r (reading.Fault f) is utf8 fails none text = unread_fails p r (Unreadable f) is fails (unread_text t f utf8 (λ no. true≢false (sym utf8 ∙ text no))) none
 
   -- documents on which matching is refused
-  pub matching_fails : (p : Program) (docs : List Document) {T : Type 0} (r : Result T Fault) (e : MatchError) → is_read p ≡ true → r ≡ Err (of_matching e) → option_map documents (read_at t) ≡ Some docs → ((pipe : List Stage) → p ≡ read pipe → judgement.Fails e (matches pipe docs)) → Told p r
+  pub matching_fails : (p : Program) (docs : List Document) {T : Type 0} (r : Result T Fault) (e : MatchError) → is_read p ≡ true →
+      r ≡ Err (of_matching e) → option_map documents (read_at t) ≡ Some docs → ((pipe : List Stage) → p ≡ read pipe → judgement.Fails e (matches pipe docs)) → Told p r
   matching_fails p docs r matching.Memory is fails reads why = for_cause p (no_reading t) r OutOfMemory fails (λ memory. absurd (memory refl))
   matching_fails p docs r (matching.Refused x) is fails reads why =
       for_cause p (named (of_refusal x)) r (of_refusal x) fails (λ memory. (found_shows p docs (refuses x) is reads why, refl))
@@ -97,7 +99,7 @@ module _ (c e : Content) (f j : List ℕ) (of_text : List ℕ → Result Shown C
   -- a file that is there has a history, of which it is the text at the cursor
   there : (h : Option History) → GoodIn c f j h → (x : History) × (h ≡ Some x) × (text_at x ≡ t)
   there None good = let no : None ≡ Some t = sym good ∙ file_is in cc
-  there (Some x) good = (x, refl, some_same (text_at x) t (sym (good_text c f j (Some x) good) ∙ file_is))
+  there (Some x) good = (x, refl, same_Some (text_at x) t (sym (good_text c f j (Some x) good) ∙ file_is))
 
   module _ (h : Option History) (good : GoodIn c f j h) where
     file_shows : of_file of_text h ≡ of_text t
@@ -111,7 +113,7 @@ module _ (c e : Content) (f j : List ℕ) (of_text : List ℕ → Result Shown C
     show_refused r x is why = elim (is_outside x) as (λ b. is_outside x ≡ b → Arrives e f j (cause_in (of_file of_text h)) h h r) [
       | true ↦ λ out. cut e f j (cause_in (of_file of_text h)) h h r x is out (inl still_good)
       | false ↦ λ out. told e f j (cause_in (of_file of_text h)) h h r x is out
-          (subst (λ o. IsFor (cause_in o) x) (sym file_shows) (why (λ memory. not_both (is_outside x) (ap is_outside memory) out))) still_good
+          (subst (λ o. IsFor (cause_in o) x) (sym file_shows) (why (λ memory. true≢false (sym (ap is_outside memory) ∙ out)))) still_good
     ] refl
 
     -- it was carried out on it

@@ -7,12 +7,13 @@ use Rattle.yq_meaning.specs.Copies.{matches}
 use Rattle.yq_meaning.specs.Judgement.{Judgement, gives, refuses}
 use Rattle.yq_program.specs.Program.{Program, Stage, read, updates}
 use Rattle.yq_journal.specs.History.{History, text_at}
-use Rattle.yq_commands.specs.declared.fault.Fault.{Fault}
-use Rattle.yq_commands.specs.declared.fault.Fault.TheVariants.{NotThere}
-use Rattle.yq_commands.specs.Causes.{Cause, named, no_reading}
-use Rattle.yq_commands.specs.Editing.{Outcome, unreadable, refused, edited, edits, of_refusal}
+use Rattle.yq_history.specs.declared.fault.Fault.{Fault}
+use Rattle.yq_history.specs.declared.fault.Fault.TheVariants.{NotThere}
+use Rattle.yq_history.specs.Causes.{Cause, named, no_reading}
+use Rattle.yq_commands.specs.Editing.{Outcome, unreadable, refused, edited, edits}
+use Rattle.yq_commands.specs.CommandFaults.{of_refusal}
 use Rattle.yq_commands.specs.Reads.{shown_matches}
-use Rattle.yq_commands.specs.Shown.{Shown, text}
+use Rattle.yq_history.specs.Shown.{Shown, text, nothing}
 
 -- of an edit the new text is shown
 abbrev pub show_edit : Outcome → Result Shown Cause
@@ -44,3 +45,13 @@ of_file of_text (Some h) = of_text (text_at h)
 abbrev pub evaluated : Bool → Bool → Result Program Fault → Option History → Result Shown Cause
 evaluated exit_status no_doc (Err f) h = Err (named f)
 evaluated exit_status no_doc (Ok p) h = of_file (shows exit_status no_doc p) h
+
+-- why nothing is shown
+abbrev pub cause_in : Result Shown Cause → Option Cause
+cause_in (Ok s) = None
+cause_in (Err x) = Some x
+
+-- what is shown, where there is no cause for a refusal
+abbrev pub shown_in : Result Shown Cause → Shown
+shown_in (Ok s) = s
+shown_in (Err x) = nothing

@@ -1,14 +1,9 @@
-pub mod Causes
+pub mod CommandEffects
+pub mod CommandFaults
 pub mod CommandNames
+pub mod CommandSteps
 pub mod Editing
 pub mod Edits
-pub mod Effects
 pub mod Evaluation
-pub mod Faults
-pub mod Pair
 pub mod Prints
 pub mod Reads
-pub mod Recorded
-pub mod Shown
-pub mod Steps
-pub mod Walks

@@ -5,7 +5,7 @@ use Rattle.yq_scalar.specs.declared.kind.Kind.TheVariants as kinds
 use Rattle.yq_scalar.specs.Tree.{Node, alias, scalar, list, map}
 use Rattle.yq_scalar.specs.SchemaReading.{is_true_word}
 use Rattle.yq_splice.specs.Print.{print_text}
-use Rattle.yq_commands.specs.Shown.{Shown}
+use Rattle.yq_history.specs.Shown.{Shown}
 
 -- what stands before a match, by the document of the one before it: the line `---`, where that is another document
 abbrev pub marker_before : Bool → Option ℕ → ℕ → List ℕ

@@ -1,6 +1,6 @@
 //! Answers to commands.
 
-use crate::fault::Fault;
+use yq_history::Fault;
 
 /// What a command comes to.
 #[derive(Clone, Copy, Debug, PartialEq, Eq)]

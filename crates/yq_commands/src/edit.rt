@@ -1,5 +1,5 @@
 //! Edits of a file beside its journal.
-ghost use Rattle.std.specs.Prelude.{◌≡◌, ◌≢◌, Some, Ok, IfOk, IfErr, OnOk, ℕ, List, IsTrue, IsNone, false, length};
+ghost use Rattle.std.specs.Prelude.{◌≡◌, ◌≢◌, Some, Ok, IfOk, IfErr, IsTrue, IsNone, false, length};
 ghost use Rattle.yq_program.specs.View.{program_of};
 ghost use Rattle.yq_journal.specs.History.{History};
 ghost use Rattle.yq_script.specs.Patch.{Splice, all_done, lengths_done};
@@ -7,16 +7,16 @@ ghost use Rattle.std.specs.FinMap as map;
 ghost use Rattle.yq_program.specs.Program as spec;
 ghost use Rattle.yq_commands.specs.Editing.{edited, edits};
 ghost use Rattle.yq_commands.specs.Edits.{edit_record};
-ghost use Rattle.yq_commands.specs.Effects.{Works, edit_effect};
-ghost use Rattle.yq_commands.specs.Faults.{is_outside, is_output, counted};
-ghost use Rattle.yq_commands.specs.Pair.{Arrives, HasLast, OthersStay, Rest};
-ghost use Rattle.yq_commands.specs.Steps.{update_cause, update_next};
+ghost use Rattle.yq_commands.specs.CommandEffects.{edit_effect};
+ghost use Rattle.yq_history.specs.Effects.{Works};
+ghost use Rattle.yq_history.specs.Faults.{is_outside, is_output, counted};
+ghost use Rattle.yq_history.specs.Pair.{Arrives, OthersStay, Rest};
+ghost use Rattle.yq_commands.specs.CommandSteps.{update_cause, update_next};
 
 use crate::editing::edit_text;
-use crate::fault::Fault;
-use crate::moves::carry_out;
 use std::alloc::{AllocError, Global};
 use yq_expr::Program;
+use yq_history::{Fault, carry_out};
 use yq_journal::{Journal, Move, Record};
 use yq_splice::{Edited, Splice};
 use yq_store::Store;
@@ -57,7 +57,6 @@ fn commit<D: Store>(
         Arrives (D.content store.new) file.now name.now (update_cause (Ok p) (Some h)) (Some h) (update_next expr.now (Ok p) (Some h)) result }
     ensures effect { IsTrue D.keeps → file.now ≢ name.now → (p : spec.Program) → edits p old.now ≡ edited new.now splices.items →
         Works (edit_effect expr.now (edits p old.now) old.now journal.old) file.now name.now (D.content store.old) (D.content store.new) result }
-    ensures recorded { IsTrue D.keeps → OnOk result (HasLast (map.get (D.content store.new) name.now) splices.items) }
     ensures kept { IsTrue D.keeps → IfErr result (λ e. is_outside e ≡ false → D.content store.new ≡ D.content store.old) }
     ensures others { IsTrue D.keeps → OthersStay (D.content store.old) (D.content store.new) file.now name.now }
     ensures quiet { IfErr result (λ e. is_output e ≡ false) }
@@ -93,8 +92,6 @@ pub fn edit_from<D: Store>(
         (update_next expr.now (Ok (program_of program.now)) (Some h)) result }
     ensures effect { IsTrue D.keeps → file.now ≢ name.now →
         Works (edit_effect expr.now (edits (program_of program.now) text.now) text.now journal.old) file.now name.now (D.content store.old) (D.content store.new) result }
-    ensures recorded { IsTrue D.keeps → OnOk result ((u : List ℕ) → (changes : List Splice) → edits (program_of program.now) text.now ≡ edited u changes →
-        u ≢ text.now → HasLast (map.get (D.content store.new) name.now) changes) }
     ensures kept { IsTrue D.keeps → IfErr result (λ e. is_outside e ≡ false → D.content store.new ≡ D.content store.old) }
     ensures others { IsTrue D.keeps → OthersStay (D.content store.old) (D.content store.new) file.now name.now }
     ensures quiet { IfErr result (λ e. is_output e ≡ false) }

@@ -1,16 +1,18 @@
 //! What an expression makes of a text.
-ghost use Rattle.std.specs.Prelude.{◌≡◌, ◌≢◌, ◌⊎◌, Some, None, Ok, Err, IfOk, IfErr, OnErr, true, false, length};
+ghost use Rattle.std.specs.Prelude.{◌≡◌, ◌≢◌, Some, None, Ok, Err, IfOk, IfErr, OnErr, true, false, length};
 ghost use Rattle.std.specs.Str.{is_utf8};
 ghost use Rattle.std.specs.String.{string_bytes};
 ghost use Rattle.yq_program.specs.View.{program_of};
 ghost use Rattle.yq_script.specs.Patch.{all_done, lengths_done};
 ghost use Rattle.yq_documents.specs.Reading.{read_at};
-ghost use Rattle.yq_commands.specs.Editing.{IsUnreadable, Refuses, edited, edits, program_in};
-ghost use Rattle.yq_commands.specs.Faults.{is_failure, is_output};
+ghost use Rattle.yq_history.specs.Causes.{IsUnreadable};
+ghost use Rattle.yq_commands.specs.Editing.{Refuses, edited, edits, program_in};
+ghost use Rattle.yq_history.specs.Faults.{is_failure, is_output};
 
-use crate::fault::Fault;
+use crate::faults::{edit_fault, parse_fault};
 use std::alloc::Global;
 use yq_expr::{Program, parse_expr};
+use yq_history::Fault;
 use yq_scalar::characters::TEXT_LIMIT;
 use yq_scalar::{FaultKind, ReadFault};
 use yq_splice::{Edited, edit};
@@ -24,7 +26,7 @@ pub fn parse(alloc: Global, expr: &str) -> Result<Program, Fault>
     ensures inside { IfErr result (λ e. is_failure e ≡ false) }
     ensures quiet { IfErr result (λ e. is_output e ≡ false) }
 {
-    Ok(parse_expr(alloc, expr)?)
+    parse_expr(alloc, expr).map_err(parse_fault)
 }
 
 /// The text of a file's bytes. More bytes than a text may have are refused first, whatever they are,
@@ -57,5 +59,5 @@ pub fn edit_text(alloc: Global, program: &Program, text: &[u8]) -> Result<Edited
     ensures quiet { IfErr result (λ e. is_output e ≡ false) }
 {
     let text = given_text(text)?;
-    Ok(edit(alloc, text, program)?)
+    edit(alloc, text, program).map_err(edit_fault)
 }

@@ -3,19 +3,19 @@ ghost use Rattle.std.specs.Prelude.{◌≡◌, ◌≢◌, Ok, ℕ, Bool, List, O
 ghost use Rattle.yq_program.specs.Program.{is_read};
 ghost use Rattle.yq_program.specs.View.{program_of};
 ghost use Rattle.yq_journal.specs.History.{History};
-ghost use Rattle.yq_commands.specs.Causes.{IsFor};
+ghost use Rattle.yq_history.specs.Causes.{IsFor};
 ghost use Rattle.yq_commands.specs.Editing.{program_in};
-ghost use Rattle.yq_commands.specs.Evaluation.{evaluated, of_file, shows};
-ghost use Rattle.yq_commands.specs.Faults.{is_failure, is_output, counted};
-ghost use Rattle.yq_commands.specs.Pair.{Arrives, GoodIn};
-ghost use Rattle.yq_commands.specs.Shown.{cause_in, shown_by, shown_in};
+ghost use Rattle.yq_commands.specs.Evaluation.{cause_in, evaluated, of_file, shown_in, shows};
+ghost use Rattle.yq_history.specs.Faults.{is_failure, is_output, counted};
+ghost use Rattle.yq_history.specs.Pair.{Arrives, GoodIn};
+ghost use Rattle.yq_history.specs.Shown.{shown_by};
 
 use crate::editing::{edit_text, given_text, parse};
-use crate::fault::Fault;
+use crate::faults::match_fault;
 use crate::reads::shown_matches;
-use crate::shown::Shown;
 use std::alloc::Global;
 use yq_expr::{Program, matches};
+use yq_history::{Fault, Shown};
 use yq_splice::Edited;
 use yq_store::Store;
 use yq_tree::read;
@@ -36,7 +36,10 @@ fn show_read(
 {
     let text = given_text(text)?;
     let documents = read(alloc, text.as_bytes())?;
-    let found = matches(alloc, program, &documents)?;
+    let found = match matches(alloc, program, &documents) {
+        Ok(found) => found,
+        Err(error) => return Err(match_fault(error)),
+    };
     Ok(shown_matches(alloc, exit_status, no_doc, &found)?)
 }
 

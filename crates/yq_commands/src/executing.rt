@@ -1,60 +1,26 @@
 //! One command, carried out over a store.
 ghost use Rattle.std.specs.Prelude.{◌≡◌, ◌≢◌, ℕ, List, Option, IfErr, OnOk, IsTrue, true, false};
 ghost use Rattle.std.specs.FinMap as map;
+ghost use Rattle.std.specs.String.{string_bytes};
 ghost use Rattle.yq_journal.specs.History.{History};
 ghost use Rattle.yq_commands.specs.CommandNames.{IsOn, IsStranger};
 ghost use Rattle.yq_commands.specs.Editing.{program_in};
-ghost use Rattle.yq_commands.specs.Effects.{OfEffect, Works, from_pair, update_effect, walk_effect};
-ghost use Rattle.yq_commands.specs.Faults.{is_outside, is_output, counted};
-ghost use Rattle.yq_commands.specs.Pair.{Arrives, GoodIn, OthersStay};
+ghost use Rattle.yq_commands.specs.CommandEffects.{IsListing, OfEffect, update_effect};
+ghost use Rattle.yq_history.specs.Effects.{Works};
+ghost use Rattle.yq_history.specs.Faults.{is_outside, is_output, counted};
+ghost use Rattle.yq_history.specs.Pair.{Arrives, GoodIn, OthersStay};
 ghost use Rattle.yq_commands.specs.Prints.{prints, reads_journal, shown_of};
-ghost use Rattle.yq_commands.specs.Recorded.{Recorded, IsRecorded};
-ghost use Rattle.yq_commands.specs.Shown.{nothing, shown_by};
-ghost use Rattle.yq_commands.specs.Steps.{cause_of, next_of, update_cause, update_next, walk_cause, walk_next};
-ghost use Rattle.yq_commands.specs.Walks.{step_of};
+ghost use Rattle.yq_history.specs.Shown.{nothing, shown_by};
+ghost use Rattle.yq_commands.specs.CommandSteps.{cause_of, next_of, update_cause, update_next};
 
 use crate::edit::edit_from;
 use crate::editing::parse;
 use crate::evaluating::evaluate;
-use crate::fault::Fault;
-use crate::moves::walk_from;
-use crate::pair::open_pair;
-use crate::printing::{help, listing};
-use crate::shown::Shown;
-use crate::squash::squash;
-use crate::walk::Walk;
+use crate::help::help;
 use std::alloc::Global;
+use yq_history::{Fault, Shown, Walk, listing, open_pair, squash, walk_file};
 use yq_store::Store;
 use yq_words::Command;
-
-/// Undoes or redoes an edit of a file.
-fn walk<D: Store>(
-    alloc: Global,
-    store: &mut D,
-    file: &str,
-    name: &str,
-    walk: Walk,
-) -> Result<(), Fault>
-    ensures arrives { IsTrue D.keeps → file.now ≢ name.now → (h : Option History) → GoodIn (D.content store.old) file.now name.now h →
-        Arrives (D.content store.new) file.now name.now (walk_cause (step_of walk) h) h (walk_next (step_of walk) h) result }
-    ensures effect { IsTrue D.keeps → file.now ≢ name.now →
-        Works (from_pair (map.get (D.content store.old) file.now) (map.get (D.content store.old) name.now) (walk_effect (step_of walk))) file.now name.now (D.content store.old) (D.content store.new) result }
-    ensures kept { IsTrue D.keeps → IfErr result (λ e. is_outside e ≡ false → D.content store.new ≡ D.content store.old) }
-    ensures others { IsTrue D.keeps → OthersStay (D.content store.old) (D.content store.new) file.now name.now }
-    ensures quiet { IfErr result (λ e. is_output e ≡ false) }
-    ensures count { D.failures store.new ≡ counted result (D.failures store.old) }
-{
-    let (text, mut journal) = open_pair(alloc, store, file, name)?;
-    walk_from(
-        alloc,
-        store,
-        file,
-        name,
-        &mut journal,
-        walk,
-        text.as_slice(),
-    )
-}
 
 /// Edits a file in place.
 fn update<D: Store>(
@@ -68,7 +34,6 @@ fn update<D: Store>(
         Arrives (D.content store.new) file.now name.now (update_cause (program_in expr.now) h) h (update_next expr.now (program_in expr.now) h) result }
     ensures effect { IsTrue D.keeps → file.now ≢ name.now →
         Works (update_effect expr.now (program_in expr.now) (map.get (D.content store.old) file.now) (map.get (D.content store.old) name.now)) file.now name.now (D.content store.old) (D.content store.new) result }
-    ensures recorded { IsTrue D.keeps → OnOk result (Recorded expr.now (map.get (D.content store.old) file.now) (map.get (D.content store.new) name.now)) }
     ensures kept { IsTrue D.keeps → IfErr result (λ e. is_outside e ≡ false → D.content store.new ≡ D.content store.old) }
     ensures others { IsTrue D.keeps → OthersStay (D.content store.old) (D.content store.new) file.now name.now }
     ensures quiet { IfErr result (λ e. is_output e ≡ false) }
@@ -104,11 +69,11 @@ pub fn execute<D: Store>(
     ensures output { IsTrue D.keeps → (file name : List ℕ) → IsOn file name command.now →
         (h : Option History) → GoodIn (D.content store.old) file name h →
         OnOk result (shown_by shown.new ≡ shown_of command.now h) }
+    ensures listed { IsTrue D.keeps → (file name : List ℕ) → IsOn file name command.now →
+        OnOk result (IsListing command.now (map.get (D.content store.old) file) (map.get (D.content store.old) name) (string_bytes shown.new.text)) }
     ensures silent { prints command.now ≡ false → shown_by shown.new ≡ nothing }
     ensures matched { reads_journal command.now ≡ true → shown.new.is_match ≡ true }
     ensures still { IsTrue D.keeps → prints command.now ≡ true → D.content store.new ≡ D.content store.old }
-    ensures recorded { IsTrue D.keeps → OnOk result ((file name : List ℕ) → IsOn file name command.now →
-        IsRecorded command.now (map.get (D.content store.old) file) (map.get (D.content store.new) name)) }
     ensures kept { IsTrue D.keeps → IfErr result (λ e. is_outside e ≡ false → D.content store.new ≡ D.content store.old) }
     ensures others { IsTrue D.keeps → (q : List ℕ) → IsStranger q command.now → map.get (D.content store.new) q ≡ map.get (D.content store.old) q }
     ensures quiet { IfErr result (λ e. is_output e ≡ false) }
@@ -138,10 +103,10 @@ pub fn execute<D: Store>(
             shown,
         ),
         Command::Undo { file, journal } => {
-            walk(alloc, store, file.as_str(), journal.as_str(), Walk::Undo)
+            walk_file(alloc, store, file.as_str(), journal.as_str(), Walk::Undo)
         }
         Command::Redo { file, journal } => {
-            walk(alloc, store, file.as_str(), journal.as_str(), Walk::Redo)
+            walk_file(alloc, store, file.as_str(), journal.as_str(), Walk::Redo)
         }
         Command::History { file, journal } => {
             listing(alloc, store, file.as_str(), journal.as_str(), shown)

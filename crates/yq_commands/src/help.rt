@@ -1,4 +1,9 @@
-//! The texts of help.
+//! Help.
+ghost use Rattle.std.specs.Prelude.{◌≡◌, IfErr};
+ghost use Rattle.yq_history.specs.Shown.{nothing, shown_by};
+
+use std::alloc::Global;
+use yq_history::{Fault, Shown};
 
 /// The ways to call the program.
 pub const USAGE: &str = "\
@@ -8,7 +13,7 @@ Usage: yq [eval|e] [-i] [-e] [-N] [--journal PATH] EXPR FILE
 ";
 
 /// What `--help` prints behind the ways to call the program.
-pub const HELP: &str = "
+const DETAILS: &str = "
 Edits YAML files in place, and takes the edits back to the byte.
 
 Commands:
@@ -30,3 +35,14 @@ Examples:
   yq -i '.server.port = 9090' config.yaml
   yq undo config.yaml
 ";
+
+/// Shows the help.
+pub fn help(alloc: Global, shown: &mut Shown) -> Result<(), Fault>
+    requires empty { shown_by shown.old ≡ nothing }
+    ensures memory { IfErr result (λ e. e ≡ Fault.OutOfMemory) }
+{
+    let mut text = String::from_str(alloc, USAGE)?;
+    text.push_str(DETAILS)?;
+    shown.text = text;
+    Ok(())
+}

@@ -2,23 +2,15 @@
 #![tactic(auto)]
 
 mod answer;
-mod causes;
 mod edit;
 mod editing;
 mod evaluating;
 mod executing;
-mod fault;
+mod faults;
 mod help;
-mod moves;
-mod pair;
-mod printing;
 mod reads;
-mod shown;
-mod squash;
-mod walk;
 
 pub use answer::Answer;
 pub use executing::execute;
-pub use fault::Fault;
+pub use faults::words_fault;
 pub use help::USAGE;
-pub use shown::Shown;

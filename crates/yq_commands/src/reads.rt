@@ -6,11 +6,11 @@ ghost use Rattle.yq_inline.specs.Values.{node_of};
 ghost use Rattle.yq_expr.specs.MatchView.{matches_of};
 ghost use Rattle.yq_splice.specs.Print.{print_text};
 ghost use Rattle.yq_commands.specs.Reads as spec;
-ghost use Rattle.yq_commands.specs.Shown.{shown_by};
+ghost use Rattle.yq_history.specs.Shown.{shown_by};
 
-use crate::shown::Shown;
 use std::alloc::{AllocError, Global};
 use yq_expr::{Match, Value};
+use yq_history::Shown;
 use yq_scalar::{Kind, is_true_word};
 use yq_splice::print;
 

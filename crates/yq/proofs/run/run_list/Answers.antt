@@ -1,21 +1,22 @@
-use Rattle.std.proofs.Common.{rules, ◌≡◌, ◌⊎◌, ◌∷◌, ◌++◌, [], ◌+◌, ◌-◌, ◌^◌, ◌<◌, min, take, length, sym, ap, ◌∙◌, subst, arith, is_ok, true, vec_len, if◌then◌else◌}
+use Rattle.std.proofs.Common.{rules, ◌≡◌, ◌∷◌, ◌++◌, [], ◌+◌, ◌-◌, ◌^◌, ◌<◌, min, take, length, sym, ap, ◌∙◌, subst, arith, is_ok, true, vec_len, if◌then◌else◌}
 use Rattle.std.specs.List.{list_all}
 use Rattle.std.proofs.lemmas.Grind.{common_steps}
 use Rattle.std.proofs.lemmas.List.{append-nil, take_more}
 use Rattle.yq_store.specs.Count.{one_more}
-use Rattle.yq_commands.specs.CommandNames.{IsOn, IsStranger}
-use Rattle.yq.specs.Lists.{IsApart, Run, RunExactly, Keeps, failures_in, output_failures_in, tells_failure, tells_output}
-use Rattle.yq_commands.specs.Shown.{shown_by}
-use Rattle.yq.proofs.ListLaws.{reply, is_inside, answers_more, run_more, goes_on, exact_run, all_inside, count_more, put_told, put_more, taken_more, keeps_more, left_by, has_effect, last_more, no_command, no_answers}
+use Rattle.yq_commands.specs.CommandNames.{IsStranger}
+use Rattle.yq.specs.Lists.{Keeps, failures_in, output_failures_in, tells_failure, tells_output}
+use Rattle.yq_history.specs.Shown.{shown_by}
+use Rattle.yq.proofs.CountLaws.{count_more, no_answers, put_more, put_told}
+use Rattle.yq.proofs.KeepLaws.{keeps_more, left_by, run_of}
+use Rattle.yq.proofs.ListLaws.{all_inside, exact_run, is_inside}
+use Rattle.yq.proofs.ReplyLaws.{answers_more, reply, taken_more}
 use Rattle.yq.proofs.run.run_list.Goals as goal
 
 pub commands-init : goal.commands-init
 commands-init g c = record {
   count = search rules;
   room = search rules;
-  run = λ keeps. ([], search rules, (λ tells same below. sym (append-nil (g.W.Out.taken c.args.out.now))), (λ file name apart fit h good. (h, search rules, good)));
-  recorded = λ keeps file name apart fit h good cs d before commands answers on. no_command h cs d commands;
-  kept = search rules;
+  run = λ keeps. ([], search rules, (λ tells same below. sym (append-nil (g.W.Out.taken c.args.out.now))), search rules);
   others = search rules;
   sum = λ small. no_answers tells_failure c.in_ok-answers.answers.items (g.D.Store.failures c.args.store.now) (search rules) small;
   out_sum = λ small. no_answers tells_output c.in_ok-answers.answers.items (g.W.Out.failures c.args.out.now) (search rules) small;
@@ -31,7 +32,7 @@ commands-preserved g c =
     let answer = c.answer_of-answer.result in
     let shown = shown_by c.execute-done.new.shown in
     let told = c.answer_of-answer.ensures.told in
-    let quiet = c.execute-done.ensures.quiet in
+    let ran = c.execute-done.ensures in
     let within : c.commands.command-index < length c.args.commands.now = omega arith in
     let more : take (c.commands.command-index + 1) c.args.commands.now ≡ take c.commands.command-index c.args.commands.now ++ cmd ∷ [] =
     take_more c.args.commands.now c.commands.command-index cmd within ∙ ap (λ x. take c.commands.command-index c.args.commands.now ++ x ∷ []) (sym c.command-item.is) in
@@ -39,7 +40,7 @@ commands-preserved g c =
     let pushed : c.push.new.self.items ≡ c.commands.answers.items ++ answer ∷ [] =
     c.push.ensures.items ∙ ap (λ b. if b then c.commands.answers.items ++ answer ∷ [] else c.commands.answers.items) ok in
     let put : failures c.answer_of-answer.new.out ≡ (if tells_output answer then one_more (failures c.commands.out) else failures c.commands.out) =
-    put_told done answer shown (failures c.commands.out) _ told quiet c.answer_of-answer.ensures.count in
+    put_told done answer shown (failures c.commands.out) _ told ran.quiet c.answer_of-answer.ensures.count in
     record {
       count = c.push.ensures.len ∙ ap (λ b. if b then vec_len c.commands.answers + 1 else vec_len c.commands.answers) ok ∙ ap (λ n. n + 1) before.count;
       room = omega (arith, c.push.ensures.capacity);
@@ -49,32 +50,22 @@ commands-preserved g c =
             answers_more now.0 c.commands.answers.items answer shown.printed now.1 ∙ sym pushed,
             (λ tells same below. taken_more done answer shown now.0 (g.W.Out.taken c.args.out.now) (g.W.Out.taken c.commands.out) _ (output_failures_in c.commands.answers.items) (failures c.args.out.now) (failures c.commands.out) _ told
                 before.out_sum put same below (now.2 tells) (c.answer_of-answer.ensures.taken tells)),
-            (λ file name apart fit h good.
-                let one = now.3 file name apart fit h good in
-                let here : IsOn file name cmd ⊎ IsApart file name cmd =
-                subst (λ x. IsOn file name x ⊎ IsApart file name x) (sym c.command-item.is) (fit c.commands.command-index cmd within) in
-                let next = goes_on (content c.commands.store) (content c.execute-done.new.store) file name cmd one.0 done answer shown here one.2
-                (λ on. c.execute-done.ensures.arrives keeps file name apart on one.0 one.2)
-                (λ on. c.execute-done.ensures.output keeps file name on one.0 one.2)
-                quiet (c.execute-done.ensures.others keeps) (c.execute-done.ensures.still keeps) told in (
-                  next.0,
-                  subst (λ cs. Run file name h cs (now.0 ++ reply answer shown.printed ∷ []) next.0) (sym more)
-                      (run_more file name h one.0 next.0 _ now.0 cmd (reply answer shown.printed) one.1 next.1),
-                  next.2,
-                )),
+            subst (λ cs. Keeps (content c.args.store.now) cs (now.0 ++ reply answer shown.printed ∷ []) (content c.execute-done.new.store)) (sym more)
+                (keeps_more (content c.args.store.now) (content c.commands.store) (content c.execute-done.new.store) _ now.0 cmd (reply answer shown.printed) now.3
+                (left_by (content c.commands.store) (content c.execute-done.new.store) cmd done answer shown (record {
+                  told = told;
+                  arrives = λ file name apart on. ran.arrives keeps file name apart on;
+                  output = λ file name on. ran.output keeps file name on;
+                  effect = λ file name apart on. ran.effect keeps file name apart on;
+                  listed = λ file name on. ran.listed keeps file name on;
+                  silent = ran.silent;
+                  matched = ran.matched;
+                  still = ran.still keeps;
+                  kept = ran.kept keeps;
+                  others = ran.others keeps;
+                  quiet = ran.quiet;
+                }))),
           );
-      recorded = λ keeps file name apart fit h good cs d rs commands answers on.
-          let now = before.run keeps in
-          let one = now.3 file name apart fit h good in
-          last_more (content c.commands.store) (content c.execute-done.new.store) file name h one.0 _ now.0 c.commands.answers.items cmd answer shown done now.1 one.1 one.2 told
-          (c.execute-done.ensures.recorded keeps) cs d rs (sym more ∙ commands) (sym pushed ∙ answers) on;
-      kept = λ keeps.
-          subst (λ cs. Keeps (content c.args.store.now) cs c.push.new.self.items (content c.execute-done.new.store)) (sym more)
-          (subst (λ rs. Keeps (content c.args.store.now) (take c.commands.command-index c.args.commands.now ++ cmd ∷ []) rs (content c.execute-done.new.store)) (sym pushed)
-          (keeps_more (content c.args.store.now) (content c.commands.store) (content c.execute-done.new.store) _ _ cmd answer (before.kept keeps)
-          (left_by (content c.commands.store) (content c.execute-done.new.store) cmd done answer shown told (c.execute-done.ensures.still keeps)
-          c.execute-done.ensures.silent (c.execute-done.ensures.kept keeps) (c.execute-done.ensures.others keeps)
-          (λ file name apart on. has_effect cmd file name (content c.commands.store) (content c.execute-done.new.store) done answer shown told c.execute-done.ensures.matched quiet (c.execute-done.ensures.effect keeps file name apart on)))));
       others = λ keeps q strangers.
           c.execute-done.ensures.others keeps q (subst (IsStranger q) (sym c.command-item.is) (strangers c.commands.command-index cmd within)) ∙ before.others keeps q strangers;
       sum = λ small. subst (λ rs. g.D.Store.failures c.execute-done.new.store ≡ min (g.D.Store.failures c.args.store.now + failures_in rs) (2 ^ 64 - 1)) (sym pushed)
@@ -86,14 +77,9 @@ commands-preserved g c =
 pub returns-clause-run : goal.returns-clause-run
 returns-clause-run g c = λ keeps.
     let now = c.commands.invariant.run keeps in
-    let all : take c.commands.command-index c.args.commands.now ≡ c.args.commands.now = grind (arith, common_steps) in (
-      now.0,
-      now.1,
-      now.2,
-      (λ file name apart fit h good.
-          let done = now.3 file name apart fit h good in
-          (done.0, subst (λ cs. Run file name h cs now.0 done.0) all done.1, done.2)),
-    )
+    let all : take c.commands.command-index c.args.commands.now ≡ c.args.commands.now = grind (arith, common_steps) in
+    let kept = subst (λ cs. Keeps (g.D.Store.content c.args.store.now) cs now.0 (g.D.Store.content c.commands.store)) all now.3 in
+    (now.0, now.1, now.2, kept, (λ file name apart fit h good. run_of file name apart c.args.commands.now now.0 _ _ h kept fit good))
 
 pub returns-clause-exact : goal.returns-clause-exact
 returns-clause-exact g c = λ keeps same below quiet under memory.
@@ -102,16 +88,13 @@ returns-clause-exact g c = λ keeps same below quiet under memory.
     let none : failures_in c.commands.answers.items ≡ 0 = omega (arith, sum, same, below) in
     let none_out : output_failures_in c.commands.answers.items ≡ 0 = omega (arith, out_sum, quiet, under) in
     let now = c.commands.invariant.run keeps in
-    let inside = all_inside c.commands.answers.items none none_out memory in
-    let all : take c.commands.command-index c.args.commands.now ≡ c.args.commands.now = grind (arith, common_steps) in (
+    let inside = subst (λ rs. list_all is_inside rs ≡ true) (sym now.1) (all_inside c.commands.answers.items none none_out memory) in
+    let all : take c.commands.command-index c.args.commands.now ≡ c.args.commands.now = grind (arith, common_steps) in
+    let kept = subst (λ cs. Keeps (g.D.Store.content c.args.store.now) cs now.0 (g.D.Store.content c.commands.store)) all now.3 in (
       now.0,
       now.1,
       (λ tells. now.2 tells quiet under),
       (λ file name apart fit h good.
-          let done = now.3 file name apart fit h good in (
-            done.0,
-            subst (λ cs. RunExactly file name h cs now.0 done.0) all
-                (exact_run file name _ now.0 h done.0 done.1 (subst (λ rs. list_all is_inside rs ≡ true) (sym now.1) inside)),
-            done.2,
-          )),
+          let done = run_of file name apart c.args.commands.now now.0 _ _ h kept fit good in
+          (done.0, exact_run file name c.args.commands.now now.0 h done.0 done.1 inside, done.2)),
     )

@@ -1,16 +1,30 @@
-use Rattle.std.proofs.Common.{sym, ap, subst}
+use Rattle.std.proofs.Common.{◌∙◌, sym, ap, subst}
 use Rattle.std.proofs.lemmas.Result.{err_from_is_err_and}
-use Rattle.yq_commands.specs.Effects.{Works, edit_effect}
+use Rattle.yq_history.specs.Effects.{Works}
+use Rattle.yq_commands.specs.CommandEffects.{edit_effect}
 use Rattle.yq_commands.specs.Editing.{edits}
-use Rattle.yq_commands.specs.Faults.{is_outside}
-use Rattle.yq_commands.proofs.EditLaws.{edit_ends}
-use Rattle.yq_commands.proofs.EffectLaws.{edit_works, works_outside}
+use Rattle.yq_history.specs.Faults.{is_outside}
+use Rattle.yq_journal.specs.Record.{Patch, done}
+use Rattle.yq_commands.proofs.EditLaws.{edit_done, edit_ends}
+use Rattle.yq_history.proofs.EffectLaws.{works_outside}
+use Rattle.yq_commands.proofs.EditEffects.{edit_works}
 use Rattle.yq_commands.proofs.edit.commit.Goals as goal
 
 pub returns-clause-arrives : goal.returns-clause-arrives
 returns-clause-arrives g c = λ keeps apart h p k gives.
     let e = c.carry_out.ensures in
-    edit_ends _ _ _ h _ p _ _ k _ _ _ _ c.in_ok-edit.ensures gives c.requires.changes c.carry_out.result (e.ok keeps apart h k) (e.err keeps apart h k) e.free e.fault (e.barred keeps)
+    let leads = ap (λ (r : Patch). done r c.args.old.now) c.in_ok-edit.ensures ∙ edit_done c.args.expr.now _ c.args.old.now c.args.new.now c.requires.leads in
+    edit_ends _ _ _ h _ p _ _ k _ _ _ _ c.in_ok-edit.ensures gives c.requires.changes c.carry_out.result
+    (record {
+      leads = leads;
+      ok = e.ok keeps apart;
+      err = e.err keeps apart;
+      text = e.text keeps apart;
+      beside = e.moved keeps;
+      fault = e.fault;
+      refused = e.refused;
+      barred = e.barred keeps;
+    })
 
 pub returns-in_err-edit-clause-effect : goal.returns-in_err-edit-clause-effect
 returns-in_err-edit-clause-effect g c = λ keeps apart p gives.
@@ -22,4 +36,16 @@ returns-in_err-edit-clause-effect g c = λ keeps apart p gives.
 pub returns-clause-effect : goal.returns-clause-effect
 returns-clause-effect g c = λ keeps apart p gives.
     let e = c.carry_out.ensures in
-    edit_works c.args.file.now c.args.name.now (g.D.Store.content c.args.store.now) c.args.expr.now c.args.journal.now c.args.old.now (edits p c.args.old.now) _ _ _ c.in_ok-edit.ensures gives c.requires.changes e.leads _ c.carry_out.result (e.text keeps apart) (e.moved keeps) e.fault e.refused (e.barred keeps)
+    let leads = ap (λ (r : Patch). done r c.args.old.now) c.in_ok-edit.ensures ∙ edit_done c.args.expr.now _ c.args.old.now c.args.new.now c.requires.leads in
+    edit_works c.args.file.now c.args.name.now (g.D.Store.content c.args.store.now) c.args.expr.now c.args.journal.now c.args.old.now _ _ _ c.in_ok-edit.ensures
+    (edits p c.args.old.now) _ c.carry_out.result gives c.requires.changes
+    (record {
+      leads = leads;
+      ok = e.ok keeps apart;
+      err = e.err keeps apart;
+      text = e.text keeps apart;
+      beside = e.moved keeps;
+      fault = e.fault;
+      refused = e.refused;
+      barred = e.barred keeps;
+    })

@@ -1,7 +1,7 @@
 use Rattle.std.proofs.Common.{Err, ap, ◌∙◌}
 use Rattle.std.proofs.lemmas.Result.{err_from_is_err_and}
 use Rattle.yq_commands.specs.Editing.{edits}
-use Rattle.yq_commands.proofs.EffectLaws.{edit_not_made}
+use Rattle.yq_commands.proofs.EditEffects.{edit_not_made}
 use Rattle.yq_program.specs.View.{program_of}
 use Rattle.yq_commands.proofs.edit.edit_from.Goals as goal
 
@@ -16,7 +16,8 @@ returns-clause-arrives g c = λ keeps apart h k.
 pub returns-in_err-made-clause-effect : goal.returns-in_err-made-clause-effect
 returns-in_err-made-clause-effect g c = λ keeps apart.
     let p = err_from_is_err_and c.from_residual.result c.from_residual.ensures.1 in
-    edit_not_made c.args.file.now c.args.name.now (g.D.Store.content c.args.store.now) c.args.expr.now c.args.journal.now c.args.text.now (edits (program_of c.args.program.now) c.args.text.now) c.from_residual.result _ (p.1 ∙ ap Err p.2) c.in_err-made.ensures.err
+    edit_not_made c.args.file.now c.args.name.now (g.D.Store.content c.args.store.now) c.args.expr.now c.args.journal.now c.args.text.now
+    (edits (program_of c.args.program.now) c.args.text.now) c.from_residual.result _ (p.1 ∙ ap Err p.2) c.in_err-made.ensures.err
 
 pub returns-clause-effect : goal.returns-clause-effect
 returns-clause-effect g c = λ keeps apart.

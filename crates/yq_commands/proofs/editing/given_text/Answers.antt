@@ -3,7 +3,7 @@ use Rattle.std.proofs.lemmas.Result.{err_from_is_err_and}
 use Rattle.yq_scalar.specs.declared.fault.FaultKind.TheVariants.{TooLarge}
 use Rattle.yq_documents.specs.Reading.{read_at}
 use Rattle.yq_commands.proofs.EditingLaws.{long_told, no_utf8_told, not_read, too_long}
-use Rattle.yq_commands.specs.Editing.{IsUnreadable}
+use Rattle.yq_history.specs.Causes.{IsUnreadable}
 use Rattle.yq_commands.proofs.editing.given_text.Goals as goal
 
 pub returns-then-bytes-gt-TEXT_LIMIT-clause-none : goal.returns-then-bytes-gt-TEXT_LIMIT-clause-none

@@ -1,17 +1,12 @@
-use Rattle.std.proofs.Common.{ℕ, List, Err, sym, ap, ◌∙◌, Some}
+use Rattle.std.proofs.Common.{ℕ, List, Err, sym, ap, ◌∙◌}
 use Rattle.yq_journal.specs.State.{State}
 use Rattle.std.proofs.lemmas.Result.{err_from_is_err_and}
 use Rattle.yq_program.specs.View.{program_of}
 use Rattle.yq_commands.specs.Editing.{edits}
-use Rattle.yq_commands.specs.Effects.{edit_effect}
-use Rattle.yq_commands.proofs.EditLaws.{recorded_by}
-use Rattle.yq_commands.proofs.EffectLaws.{not_opened, from_opened, not_parsed, parsed_works}
+use Rattle.yq_commands.specs.CommandEffects.{edit_effect}
+use Rattle.yq_history.proofs.EffectLaws.{not_opened, from_opened}
+use Rattle.yq_commands.proofs.EditEffects.{not_parsed, parsed_works}
 use Rattle.yq_commands.proofs.executing.update.Goals as goal
-
-pub returns-clause-recorded : goal.returns-clause-recorded
-returns-clause-recorded g c = λ keeps.
-    recorded_by c.edit_from.result (program_of c.in_ok-program.program) c.as_slice.result.now c.args.expr.now _ _
-    c.in_ok-program.ensures.ok (c.in_ok-text.ensures.text keeps ∙ ap Some (sym c.as_slice.ensures.value)) (c.edit_from.ensures.recorded keeps)
 
 pub returns-in_err-program-clause-effect : goal.returns-in_err-program-clause-effect
 returns-in_err-program-clause-effect g c = λ keeps apart.

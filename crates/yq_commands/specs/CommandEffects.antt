@@ -1,0 +1,44 @@
+-- What a command does to a file and its journal, by their bytes as they are, good for a history or not (own).
+use Rattle.std.specs.Prelude.{◌≡◌, ℕ, List, [], length, nat_le, if◌then◌else◌, Option, Result, Ok, Err, true}
+use Rattle.std.specs.Str.{bytes_eq}
+use Rattle.std.specs.String.{string_bytes}
+use Rattle.yq_program.specs.Program.{Program}
+use Rattle.yq_journal.specs.declared.moves.Move.TheVariants as move
+use Rattle.yq_journal.specs.Refusals.{most_records}
+use Rattle.yq_journal.specs.State.{State, moved}
+use Rattle.yq_words.specs.declared.command.Command.{Command}
+use Rattle.yq_words.specs.declared.command.Command.TheVariants.{Eval, Undo, Redo, History as Lists, Squash}
+use Rattle.yq_history.specs.declared.fault.Fault.{Fault}
+use Rattle.yq_history.specs.declared.fault.Fault.TheVariants.{JournalFull}
+use Rattle.yq_commands.specs.Editing.{Outcome, unreadable, refused, edited, program_in, edits}
+use Rattle.yq_commands.specs.Edits.{edit_record}
+use Rattle.yq_history.specs.Effects.{Effect, refuses, writes_nothing, leaves, from_pair, walk_effect, squash_effect, listing_effect, printed_by}
+use Rattle.yq_history.specs.Causes.{named, no_reading}
+
+-- what an edit does to them, by what it comes to: a record of one edit goes into the journal
+abbrev pub edit_effect : List ℕ → Outcome → List ℕ → State → Effect
+edit_effect expr (unreadable old) t s = refuses (no_reading old)
+edit_effect expr (refused f) t s = refuses (named f)
+edit_effect expr (edited u changes) t s =
+    if bytes_eq u t then writes_nothing []
+    else if nat_le most_records s.at then refuses (named JournalFull)
+    else leaves u (moved s (move.Edit (edit_record expr changes (length t) (length u))))
+
+-- the same, by its expression
+abbrev pub update_effect : List ℕ → Result Program Fault → Option (List ℕ) → Option (List ℕ) → Effect
+update_effect expr (Err f) file journal = refuses (named f)
+update_effect expr (Ok p) file journal = from_pair file journal (λ t s. edit_effect expr (edits p t) t s)
+
+-- something holds of what a command does, by the bytes of its file and its journal; of what prints a file alone, and of help, nothing is said
+abbrev pub OfEffect : Command → Option (List ℕ) → Option (List ℕ) → (Effect → Type 0) → Type 0
+OfEffect (Eval expr f j true exit_status no_doc) file journal holds = holds (update_effect (string_bytes expr) (program_in (string_bytes expr)) file journal)
+OfEffect (Undo f j) file journal holds = holds (from_pair file journal (walk_effect move.Undo))
+OfEffect (Redo f j) file journal holds = holds (from_pair file journal (walk_effect move.Redo))
+OfEffect (Lists f j) file journal holds = holds (from_pair file journal listing_effect)
+OfEffect (Squash n f j) file journal holds = holds (from_pair file journal (squash_effect n))
+OfEffect _ file journal holds = Unit {0}
+
+-- the bytes are those that `history` prints of what a file and a journal hold; of other commands nothing is said
+abbrev pub IsListing : Command → Option (List ℕ) → Option (List ℕ) → List ℕ → Type 0
+IsListing (Lists f j) file journal printed = printed ≡ printed_by (from_pair file journal listing_effect)
+IsListing _ file journal printed = Unit {0}

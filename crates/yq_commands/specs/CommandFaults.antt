@@ -1,0 +1,56 @@
+-- Faults of words and expressions as faults of a command (own).
+use Rattle.yq_program.specs.declared.error.ParseError.{ParseError}
+use Rattle.yq_program.specs.declared.error.ParseError.TheVariants as parse
+use Rattle.yq_meaning.specs.declared.match_error.MatchError.{MatchError}
+use Rattle.yq_meaning.specs.declared.match_error.MatchError.TheVariants as matching
+use Rattle.yq_meaning.specs.declared.refusal.Refusal.{Refusal}
+use Rattle.yq_meaning.specs.declared.refusal.Refusal.TheVariants as refusal
+use Rattle.yq_splice.specs.declared.edit_error.EditError.{EditError}
+use Rattle.yq_splice.specs.declared.edit_error.EditError.TheVariants as error
+use Rattle.yq_words.specs.declared.words_error.WordsError.{WordsError}
+use Rattle.yq_words.specs.declared.words_error.WordsError.TheVariants as words
+use Rattle.yq_history.specs.declared.fault.Fault.{Fault}
+use Rattle.yq_history.specs.declared.fault.Fault.TheVariants as fault
+use Rattle.yq_history.specs.declared.fault.Fault.TheVariants.{Usage, Syntax, NotInProfile, Pattern, OutOfMemory, Unreadable}
+
+-- why words are no command
+abbrev pub of_words : WordsError → Fault
+of_words words.Usage = Usage
+of_words words.OutOfMemory = OutOfMemory
+
+-- why an expression has no program
+abbrev pub of_parse : ParseError → Fault
+of_parse parse.Syntax = Syntax
+of_parse parse.NotInProfile = NotInProfile
+of_parse parse.Pattern = Pattern
+of_parse parse.Memory = OutOfMemory
+
+-- why a program is refused on a text
+abbrev pub of_refusal : Refusal → Fault
+of_refusal refusal.NotAMap = fault.NotAMap
+of_refusal refusal.NotASequence = fault.NotASequence
+of_refusal refusal.IndexOutOfRange = fault.IndexOutOfRange
+of_refusal refusal.ThroughAlias = fault.ThroughAlias
+of_refusal refusal.AnchorInUse = fault.AnchorInUse
+of_refusal refusal.NotOneValue = fault.NotOneValue
+of_refusal refusal.KindMismatch = fault.KindMismatch
+of_refusal refusal.IntegerRange = fault.IntegerRange
+of_refusal refusal.FloatArithmetic = fault.FloatArithmetic
+of_refusal refusal.NoPlaceForComment = fault.NoPlaceForComment
+of_refusal refusal.BadCommentText = fault.BadCommentText
+of_refusal refusal.RootDelete = fault.RootDelete
+of_refusal refusal.TooDeep = fault.TooDeep
+of_refusal refusal.TooLarge = fault.TooLarge
+of_refusal refusal.NotAnUpdate = fault.NotAnUpdate
+of_refusal refusal.KeyTooLong = fault.KeyTooLong
+
+-- why nothing was matched
+abbrev pub of_matching : MatchError → Fault
+of_matching (matching.Refused why) = of_refusal why
+of_matching matching.Memory = OutOfMemory
+
+-- why a text isn't edited
+abbrev pub of_edit : EditError → Fault
+of_edit (error.Read fault) = Unreadable fault
+of_edit (error.Refused why) = of_refusal why
+of_edit error.Memory = OutOfMemory

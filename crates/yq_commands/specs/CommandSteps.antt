@@ -1,0 +1,66 @@
+-- What a command does to a history, and why it is refused (own).
+use Rattle.std.specs.Prelude.{ℕ, true, false, if◌then◌else◌, List, nat_le, Option, Some, None, Result, Ok, Err}
+use Rattle.std.specs.Str.{bytes_eq}
+use Rattle.std.specs.String.{string_bytes}
+use Rattle.yq_program.specs.Program.{Program}
+use Rattle.yq_journal.specs.declared.moves.Move.TheVariants as move
+use Rattle.yq_journal.specs.History.{History, text_at, after_edit}
+use Rattle.yq_journal.specs.Refusals.{most_records}
+use Rattle.yq_words.specs.declared.command.Command.{Command}
+use Rattle.yq_words.specs.declared.command.Command.TheVariants.{Eval, Undo, Redo, History as Lists, Squash, Help}
+use Rattle.yq_history.specs.declared.fault.Fault.{Fault}
+use Rattle.yq_history.specs.declared.fault.Fault.TheVariants.{NotThere, JournalFull}
+use Rattle.yq_history.specs.Causes.{Cause, named, no_reading}
+use Rattle.yq_commands.specs.Editing.{Outcome, unreadable, refused, edited, program_in, edits}
+use Rattle.yq_commands.specs.Evaluation.{evaluated, cause_in}
+use Rattle.yq_history.specs.Steps.{walk_cause, walk_next, squash_cause, squash_next, listing_cause}
+
+-- an edit to another text wants room in the journal
+abbrev pub room_cause : History → List ℕ → Option Cause
+room_cause h text =
+    if bytes_eq text (text_at h) then None
+    else if nat_le most_records h.at then Some (named JournalFull) else None
+
+-- why an edit is refused, by what it comes to
+abbrev pub edit_cause : History → Outcome → Option Cause
+edit_cause h (unreadable old) = Some (no_reading old)
+edit_cause h (refused f) = Some (named f)
+edit_cause h (edited text changes) = room_cause h text
+
+-- the history after it: one to an equal text leaves it
+abbrev pub edit_next : History → List ℕ → Outcome → History
+edit_next h expr (unreadable old) = h
+edit_next h expr (refused f) = h
+edit_next h expr (edited text changes) =
+    if bytes_eq text (text_at h) then h
+    else if nat_le most_records h.at then h else after_edit h expr text
+
+-- why the edit of a file is refused, by what its expression is
+abbrev pub update_cause : Result Program Fault → Option History → Option Cause
+update_cause (Err f) h = Some (named f)
+update_cause (Ok p) None = Some (named NotThere)
+update_cause (Ok p) (Some h) = edit_cause h (edits p (text_at h))
+
+-- the history after it
+abbrev pub update_next : List ℕ → Result Program Fault → Option History → Option History
+update_next expr (Err f) h = h
+update_next expr (Ok p) None = None
+update_next expr (Ok p) (Some h) = Some (edit_next h expr (edits p (text_at h)))
+
+-- why a command is refused
+abbrev pub cause_of : Command → Option History → Option Cause
+cause_of (Eval expr file journal true exit_status no_doc) h = update_cause (program_in (string_bytes expr)) h
+cause_of (Eval expr file journal false exit_status no_doc) h = cause_in (evaluated exit_status no_doc (program_in (string_bytes expr)) h)
+cause_of (Undo file journal) h = walk_cause move.Undo h
+cause_of (Redo file journal) h = walk_cause move.Redo h
+cause_of (Lists file journal) h = listing_cause h
+cause_of (Squash n file journal) h = squash_cause n h
+cause_of Help h = None
+
+-- the history after a command
+abbrev pub next_of : Command → Option History → Option History
+next_of (Eval expr file journal true exit_status no_doc) h = update_next (string_bytes expr) (program_in (string_bytes expr)) h
+next_of (Undo file journal) h = walk_next move.Undo h
+next_of (Redo file journal) h = walk_next move.Redo h
+next_of (Squash n file journal) h = squash_next n h
+next_of _ h = h

@@ -1,0 +1,75 @@
+//! The fault of a command for each cause that words and expressions tell.
+ghost use Rattle.std.specs.Prelude.{◌≡◌};
+ghost use Rattle.yq_commands.specs.CommandFaults.{of_edit, of_matching, of_parse, of_refusal, of_words};
+
+use yq_expr::{MatchError, ParseError, Refusal};
+use yq_history::Fault;
+use yq_splice::EditError;
+use yq_words::WordsError;
+
+/// Why words are no command.
+pub fn words_fault(error: WordsError) -> Fault
+    ensures { result ≡ of_words error }
+{
+    match error {
+        WordsError::Usage => Fault::Usage,
+        WordsError::OutOfMemory => Fault::OutOfMemory,
+    }
+}
+
+/// Why an expression has no program.
+pub fn parse_fault(error: ParseError) -> Fault
+    ensures { result ≡ of_parse error }
+{
+    match error {
+        ParseError::Syntax => Fault::Syntax,
+        ParseError::NotInProfile => Fault::NotInProfile,
+        ParseError::Pattern => Fault::Pattern,
+        ParseError::Memory => Fault::OutOfMemory,
+    }
+}
+
+/// Why a program is refused on a text.
+fn refusal_fault(refusal: Refusal) -> Fault
+    ensures { result ≡ of_refusal refusal }
+{
+    match refusal {
+        Refusal::NotAMap => Fault::NotAMap,
+        Refusal::NotASequence => Fault::NotASequence,
+        Refusal::IndexOutOfRange => Fault::IndexOutOfRange,
+        Refusal::ThroughAlias => Fault::ThroughAlias,
+        Refusal::AnchorInUse => Fault::AnchorInUse,
+        Refusal::NotOneValue => Fault::NotOneValue,
+        Refusal::KindMismatch => Fault::KindMismatch,
+        Refusal::IntegerRange => Fault::IntegerRange,
+        Refusal::FloatArithmetic => Fault::FloatArithmetic,
+        Refusal::NoPlaceForComment => Fault::NoPlaceForComment,
+        Refusal::BadCommentText => Fault::BadCommentText,
+        Refusal::RootDelete => Fault::RootDelete,
+        Refusal::TooDeep => Fault::TooDeep,
+        Refusal::TooLarge => Fault::TooLarge,
+        Refusal::NotAnUpdate => Fault::NotAnUpdate,
+        Refusal::KeyTooLong => Fault::KeyTooLong,
+    }
+}
+
+/// Why nothing is matched.
+pub fn match_fault(error: MatchError) -> Fault
+    ensures { result ≡ of_matching error }
+{
+    match error {
+        MatchError::Refused(why) => refusal_fault(why),
+        MatchError::Memory => Fault::OutOfMemory,
+    }
+}
+
+/// Why a text is not edited.
+pub fn edit_fault(error: EditError) -> Fault
+    ensures { result ≡ of_edit error }
+{
+    match error {
+        EditError::Read(fault) => Fault::Unreadable(fault),
+        EditError::Refused(why) => refusal_fault(why),
+        EditError::Memory => Fault::OutOfMemory,
+    }
+}

@@ -1,0 +1,188 @@
+-- The effects of commands, from the contracts of the calls of which they are made.
+use Rattle.std.proofs.Common.{◌≡◌, ◌⊎◌, inl, inr, ℕ, Bool, true, false, ◌==◌, List, [], Option, Some, None, Result, Ok, Err, OnOk, IfErr, IsTrue, MatchBool, if◌then◌else◌, sym, ap, ◌∙◌, subst, refl}
+use Rattle.std.specs.Option.{option_or}
+use Rattle.std.proofs.lemmas.Option.{same_Some, none-some}
+use Rattle.std.specs.FinMap.{get}
+use Rattle.yq_journal.specs.declared.fault.JournalError.{JournalError}
+use Rattle.yq_journal.specs.declared.fault.JournalError.TheVariants as error
+use Rattle.yq_journal.specs.declared.fault.JournalFault.{JournalFault}
+use Rattle.yq_journal.specs.declared.fault.JournalFault.TheVariants as journal
+use Rattle.yq_journal.specs.declared.moves.Move.{Move}
+use Rattle.yq_journal.specs.declared.moves.Move.TheVariants as move
+use Rattle.yq_journal.specs.Good.{journal_beside}
+use Rattle.yq_journal.specs.Record.{Patch}
+use Rattle.yq_journal.specs.Refusals.{Names, Tells, no_way, if_moves, way_fault, squash_fault}
+use Rattle.yq_journal.specs.State.{State, moved, moved_text, settled, squashed}
+use Rattle.yq_history.specs.declared.fault.Fault.{Fault}
+use Rattle.yq_history.specs.declared.fault.Fault.TheVariants as fault
+use Rattle.yq_store.specs.declared.store.FileReadError.{FileReadError}
+use Rattle.yq_store.specs.declared.store.FileReadError.TheVariants as read
+use Rattle.yq_history.specs.declared.walk.Walk.{Walk}
+use Rattle.yq_store.specs.Content.{Content}
+use Rattle.yq_history.specs.Effects.{Effect, refuses, writes_nothing, leaves, from_pair, from_journal, from_settled, leads_to, goes_to, walk_effect, joins_to, squash_effect, Works}
+use Rattle.yq_history.specs.Faults.{is_outside, of_fault, of_journal, of_read}
+use Rattle.yq_history.specs.Pair.{IsJournal}
+use Rattle.yq_history.specs.Causes.{IsFor, named}
+use Rattle.yq_history.specs.Walks.{step_of}
+use Rattle.yq_history.proofs.MoveLaws.{IsMove, fault_outside, no_way_free}
+
+pub on_ok : {T E P : Type 0} (r : Result T E) → P → OnOk r P
+on_ok (Ok v) p = p
+on_ok (Err e) p = tt
+
+-- cut short by the store or by want of memory, with nothing written
+pub works_outside : (T : Type 0) (x : Effect) (f j : List ℕ) (c : Content) (e : Fault) → is_outside e ≡ true → Works x f j c c {T = T} (Err e)
+works_outside T (refuses x) f j c e out = (subst (λ b. MatchBool b (Unit {0}) (IsFor (Some x) e)) (sym out) tt, refl)
+works_outside T (writes_nothing o) f j c e out = (out, refl)
+works_outside T (leaves u s) f j c e out = out
+
+-- refused for its cause
+pub works_refused : (T : Type 0) (x : Effect) (f j : List ℕ) (c : Content) (e : Fault) → x ≡ refuses (named e) → Works x f j c c {T = T} (Err e)
+works_refused T x f j c e is =
+    subst (λ y. Works y f j c c {T = T} (Err e)) (sym is)
+    (elim (is_outside e) as (λ b. MatchBool b (Unit {0}) (e ≡ e)) [ true ↦ tt | false ↦ refl ], refl)
+
+left : (f j u : List ℕ) (z : State) (c d : Content) {T : Type 0} (r : Result T Fault) → OnOk r (get d f ≡ Some u) → OnOk r (IsJournal (get d j) z) → IfErr r (λ e. IsTrue (is_outside e)) → Works (leaves u z) f j c d r
+left f j u z c d (Ok v) text journal out = (text, journal)
+left f j u z c d (Err e) text journal out = out
+
+-- carried out, or cut short
+pub works_leaves : (x : Effect) (f j u : List ℕ) (z : State) (c d : Content) {T : Type 0} (r : Result T Fault) →
+    x ≡ leaves u z → OnOk r (get d f ≡ Some u) → OnOk r (IsJournal (get d j) z) → IfErr r (λ e. IsTrue (is_outside e)) → Works x f j c d r
+works_leaves x f j u z c d r is text journal out = subst (λ y. Works y f j c d r) (sym is) (left f j u z c d r text journal out)
+
+-- ---- moves
+
+-- a move that stands leads to its text
+pub way_free : (records : List Patch) (at : ℕ) (step : Move) (t u : List ℕ) (z : State) →
+    way_fault records at step t ≡ None → moved_text records at step t ≡ Some u → goes_to (no_way records at step) (moved_text records at step t) z ≡ leaves u z
+way_free records at step t u z free is =
+    ap (λ o. goes_to o (moved_text records at step t) z) (no_way_free records at step t free) ∙ ap (λ o. leads_to o z) is
+
+-- and one that doesn't is refused for the first cause
+pub way_barred : (records : List Patch) (at : ℕ) (step : Move) (t : List ℕ) (z : State) (y : JournalFault) →
+    way_fault records at step t ≡ Some y → goes_to (no_way records at step) (moved_text records at step t) z ≡ refuses (named (of_fault y))
+way_barred records at step t z y is = elim (no_way records at step) as (λ o. option_or o (if_moves (moved_text records at step t)) ≡ Some y → goes_to o (moved_text records at step t) z ≡ refuses (named (of_fault y))) [
+  | None ↦ λ e. elim (moved_text records at step t) as (λ o. if_moves o ≡ Some y → leads_to o z ≡ refuses (named (of_fault y))) [
+    | None ↦ λ p. ap (λ x. refuses (named (of_fault x))) (same_Some journal.DoesNotStand y p)
+    | Some u ↦ λ p. absurd (none-some y p)
+  ] e
+  | Some x ↦ λ e. ap (λ x. refuses (named (of_fault x))) (same_Some x y e)
+] is
+
+named_walk : (T : Type 0) (f j : List ℕ) (c : Content) (s : State) (t : List ℕ) (step : Move) (x : JournalError) → Names x (way_fault s.records s.at step t) → Works (walk_effect step t s) f j c c {T = T} (Err (of_journal x))
+named_walk T f j c s t step error.Memory names = works_outside T (walk_effect step t s) f j c fault.OutOfMemory refl
+named_walk T f j c s t step (error.Fault y) names = works_refused T (walk_effect step t s) f j c (of_fault y) (way_barred s.records s.at step t (moved s step) y names)
+
+-- an undo or a redo that the journal refused
+pub walk_refused : (f j : List ℕ) (c : Content) (s : State) (t : List ℕ) (w : Walk) (step : Move) {T : Type 0} (r : Result T Fault) (e : Fault) (x : JournalError) →
+    step ≡ step_of w → r ≡ Err e → e ≡ of_journal x → Names x (way_fault s.records s.at step t) → Works (walk_effect (step_of w) t s) f j c c r
+walk_refused f j c s t w step {T = T} r e x is err of names =
+    subst (Works (walk_effect (step_of w) t s) f j c c) (sym (err ∙ ap Err of))
+    (named_walk T f j c s t (step_of w) x (subst (λ y. Names x (way_fault s.records s.at y t)) is names))
+
+-- one that leaves the text equal: the journal alone was written
+pub walk_equal : (f j : List ℕ) (c d : Content) (s : State) (t : List ℕ) (step : Move) {T : Type 0} (r : Result T Fault) →
+    get c f ≡ Some t → get d f ≡ get c f → walk_effect step t s ≡ leaves t (moved s step) →
+    OnOk r (IsJournal (get d j) (moved s step)) → IfErr r (λ e. IsTrue (is_outside e)) → Works (walk_effect step t s) f j c d r
+walk_equal f j c d s t step r there same is journal out =
+    works_leaves (walk_effect step t s) f j t (moved s step) c d r is (on_ok r (same ∙ there)) journal out
+
+-- a move in three writes
+pub works_carried : (f j : List ℕ) (c d : Content) (s : State) (t u : List ℕ) (step : Move) {T : Type 0} (r : Result T Fault) → IsMove c d f j s t u step r → Works (walk_effect step t s) f j c d r
+works_carried f j c d s t u step {T = T} r m =
+    elim (no_way s.records s.at step) as (λ o. no_way s.records s.at step ≡ o → Works (goes_to o (moved_text s.records s.at step t) (moved s step)) f j c d r) [
+      | None ↦ λ is. works_leaves (leads_to (moved_text s.records s.at step t) (moved s step)) f j u (moved s step) c d r
+          (ap (λ o. leads_to o (moved s step)) m.leads) m.text m.beside (fault_outside r (no_way s.records s.at step) is m.fault)
+      | Some y ↦ λ is.
+          subst (λ x. Works (refuses (named (of_fault y))) f j c x r) (sym (m.barred (λ none. none-some y (sym none ∙ is))))
+          (subst (Works (refuses (named (of_fault y))) f j c c) (sym (m.refused y is)) (works_refused T (refuses (named (of_fault y))) f j c (of_fault y) refl))
+    ] refl
+
+-- an undo or a redo in three writes
+pub walk_other : (f j : List ℕ) (c d : Content) (s : State) (t u : List ℕ) (w : Walk) (step : Move) {T : Type 0} (r : Result T Fault) →
+    step ≡ step_of w → IsMove c d f j s t u step r → Works (walk_effect (step_of w) t s) f j c d r
+walk_other f j c d s t u w step r is m = subst (λ x. Works (walk_effect x t s) f j c d r) is (works_carried f j c d s t u step r m)
+
+-- ---- reading a pair
+
+module _ (file beside : Option (List ℕ)) where
+  -- what goes on is refused
+  abbrev pub Refused : Fault → Type 0
+  Refused e = is_outside e ≡ false → (go : List ℕ → State → Effect) → from_pair file beside go ≡ refuses (named e)
+
+  not_outside : (e : Fault) → is_outside e ≡ true → Refused e
+  not_outside e out = λ no. let bad : true ≡ false = sym out ∙ no in cc
+
+  -- the file was not read
+  pub unread_file : (e : Fault) (x : FileReadError) → e ≡ of_read x → (x ≡ read.NotThere → file ≡ None) → Refused e
+  unread_file e read.NotThere is absent = subst Refused (sym is) (λ no go. ap (λ o. from_pair o beside go) (absent refl))
+  unread_file e read.ReadFailed is absent = subst Refused (sym is) (not_outside fault.ReadFailed refl)
+  unread_file e read.OutOfMemory is absent = subst Refused (sym is) (not_outside fault.OutOfMemory refl)
+
+  module _ (t : List ℕ) (file_is : file ≡ Some t) where
+    -- nor the journal
+    pub unread_journal : (e : Fault) → ((e ≡ fault.BadJournal) × (journal_beside beside ≡ None)) ⊎ IsTrue (is_outside e) → Refused e
+    unread_journal e (inl p) = subst Refused (sym p.0) (λ no go. ap (λ o. from_pair o beside go) file_is ∙ ap (λ o. from_journal o t go) p.1)
+    unread_journal e (inr out) = not_outside e out
+
+    module _ (s : State) (journal_is : journal_beside beside ≡ Some s) where
+      settling : (go : List ℕ → State → Effect) → from_pair file beside go ≡ from_settled (settled s t) t go
+      settling go = ap (λ o. from_pair o beside go) file_is ∙ ap (λ o. from_journal o t go) journal_is
+
+      -- nor settled
+      pub unsettled : (e : Fault) (x : JournalError) → e ≡ of_journal x → (x ≡ error.Memory) ⊎ ((x ≡ error.Fault journal.Unsettled) × (settled s t ≡ None)) → Refused e
+      unsettled e x is (inl memory) = not_outside e (ap is_outside (is ∙ ap of_journal memory))
+      unsettled e x is (inr p) = subst Refused (sym (is ∙ ap of_journal p.0)) (λ no go. settling go ∙ ap (λ o. from_settled o t go) p.1)
+
+      -- both were read, and settled
+      pub opened : (r : State) → settled s t ≡ Some r → (go : List ℕ → State → Effect) → from_pair file beside go ≡ go t r
+      opened r is go = settling go ∙ ap (λ o. from_settled o t go) is
+
+-- ---- commands
+
+-- a pair that was not read
+pub not_opened : (file journal : Option (List ℕ)) (go : List ℕ → State → Effect) (f j : List ℕ) (c d : Content) {T : Type 0} (r : Result T Fault) (e : Fault) →
+    r ≡ Err e → d ≡ c → Refused file journal e → Works (from_pair file journal go) f j c d r
+not_opened file journal go f j c d {T = T} r e is same why =
+    subst (Works (from_pair file journal go) f j c d) (sym is)
+    (subst (λ m. Works (from_pair file journal go) f j c m {T = T} (Err e)) (sym same)
+    (elim (is_outside e) as (λ b. is_outside e ≡ b → Works (from_pair file journal go) f j c c {T = T} (Err e)) [
+      | true ↦ λ out. works_outside T (from_pair file journal go) f j c e out
+      | false ↦ λ out. works_refused T (from_pair file journal go) f j c e (why out go)
+    ] refl))
+
+-- one that was, by what it came to
+pub from_opened : (file journal : Option (List ℕ)) (go : List ℕ → State → Effect) (f j : List ℕ) (c m d : Content) (t : List ℕ) (s : State) {T : Type 0} (r : Result T Fault) →
+    m ≡ c → from_pair file journal go ≡ go t s → Works (go t s) f j m d r → Works (from_pair file journal go) f j c d r
+from_opened file journal go f j c m d t s r same is works =
+    subst (λ x. Works x f j c d r) (sym is) (subst (λ x. Works (go t s) f j x d r) same works)
+
+-- ---- squashes
+
+module _ (f j : List ℕ) (c : Content) (s : State) (t : List ℕ) (n : ℕ) where
+  joined_by : (T : Type 0) (x : JournalError) → Tells x (squash_fault s n) → Works (squash_effect n t s) f j c c {T = T} (Err (of_journal x))
+  joined_by T error.Memory tells = works_outside T (squash_effect n t s) f j c fault.OutOfMemory refl
+  joined_by T (error.Fault y) tells = works_refused T (squash_effect n t s) f j c (of_fault y) (ap (λ o. joins_to o n t (squashed s n)) tells)
+
+  -- the journal refused it
+  pub squash_not_done : {T : Type 0} (r : Result T Fault) (e : Fault) (x : JournalError) → r ≡ Err e → e ≡ of_journal x → Tells x (squash_fault s n) → Works (squash_effect n t s) f j c c r
+  squash_not_done {T = T} r e x is of tells = subst (Works (squash_effect n t s) f j c c) (sym (is ∙ ap Err of)) (joined_by T x tells)
+
+  by_count : (b : Bool) → (n == 1) ≡ b → squash_fault s n ≡ None → squash_effect n t s ≡ (if b then writes_nothing [] else leaves t (squashed s n))
+  by_count b is free = ap (λ o. joins_to o n t (squashed s n)) free ∙ ap (λ x. if x then writes_nothing [] else leaves t (squashed s n)) is
+
+  -- of one edit nothing is written
+  pub squash_one_works : {T : Type 0} (v : T) → (n == 1) ≡ true → squash_fault s n ≡ None → Works (squash_effect n t s) f j c c {T = T} (Ok v)
+  squash_one_works {T = T} v one free = subst (λ x. Works x f j c c {T = T} (Ok v)) (sym (by_count true one free)) refl
+
+  -- of others the journal alone
+  pub squash_works : (d : Content) {T : Type 0} (r : Result T Fault) → (n == 1) ≡ false → squash_fault s n ≡ None → get c f ≡ Some t → get d f ≡ get c f →
+      OnOk r (IsJournal (get d j) (squashed s n)) → IfErr r (λ e. IsTrue (is_outside e)) → Works (squash_effect n t s) f j c d r
+  squash_works d r some free there same journal out = works_leaves (squash_effect n t s) f j t (squashed s n) c d r (by_count false some free) (on_ok r (same ∙ there)) journal out
+
+-- ---- listings
+
+-- memory was refused, and nothing was written
+pub listing_cut : (f j : List ℕ) (c : Content) (o : List ℕ) {T : Type 0} (r : Result T Fault) (e : Fault) → r ≡ Err e → is_outside e ≡ true → Works (writes_nothing o) f j c c r
+listing_cut f j c o {T = T} r e is out = subst (Works (writes_nothing o) f j c c) (sym is) (works_outside T (writes_nothing o) f j c e out)

@@ -1,0 +1,5 @@
+pub mod EffectLaws
+pub mod MoveLaws
+pub mod PairLaws
+pub mod PrintLaws
+pub mod SquashLaws

@@ -1,0 +1,240 @@
+-- What each write of a move leaves, and how a move ends.
+use Rattle.std.proofs.Common.{◌≡◌, ◌≢◌, ◌⊎◌, inl, inr, ℕ, true, false, List, [], Option, Some, None, Result, Ok, Err, OnOk, OnErr, IfErr, IsTrue, IsNone, MatchBool, option_map, if◌then◌else◌, sym, ap, ◌∙◌, subst, refl}
+use Rattle.std.specs.FinMap.{get, insert}
+use Rattle.std.specs.Str.{bytes_eq}
+use Rattle.std.specs.Option.{option_or}
+use Rattle.std.proofs.lemmas.Option.{same_Some, none-some}
+use Rattle.std.proofs.lemmas.Slice.Eq.{bytes_eq-Decides}
+use Rattle.yq_journal.specs.declared.fault.JournalError.{JournalError}
+use Rattle.yq_journal.specs.declared.fault.JournalError.TheVariants as error
+use Rattle.yq_journal.specs.declared.fault.JournalFault.{JournalFault}
+use Rattle.yq_journal.specs.declared.fault.JournalFault.TheVariants as journal
+use Rattle.yq_journal.specs.declared.moves.Move.{Move}
+use Rattle.yq_journal.specs.declared.moves.Move.TheVariants.{Edit, Undo, Redo}
+use Rattle.yq_journal.specs.Good.{AtRest, Describes, after_move, journal_beside, step_fault}
+use Rattle.yq_journal.specs.Json.{journal_text}
+use Rattle.yq_journal.specs.Record.{Patch}
+use Rattle.yq_journal.specs.History.{History}
+use Rattle.yq_journal.specs.Refusals.{Names, no_way, if_moves, way_fault}
+use Rattle.yq_journal.specs.State.{State, closed, is_text, moved, moved_text, opened, settled}
+use Rattle.yq_journal.proofs.GoodLaws.{describes, open_before, open_after, settled_rests, undo_fault, redo_fault}
+use Rattle.yq_journal.proofs.HistoryLaws.{move_moves}
+use Rattle.yq_history.specs.declared.fault.Fault.{Fault}
+use Rattle.yq_history.specs.Causes.{Cause, IsFor, named}
+use Rattle.yq_store.specs.Content.{Content, get_written, get_other}
+use Rattle.yq_history.specs.Faults.{is_outside, of_fault, of_journal}
+use Rattle.yq_history.specs.Pair.{Arrives, GoodIn, IsJournal, Rest, Stands, Writes}
+use Rattle.yq_history.specs.Steps.{walk_cause, walk_next, unless_fault}
+use Rattle.yq_history.specs.Walks.{step_of}
+use Rattle.yq_history.specs.declared.walk.Walk.{Walk}
+
+moved_closed : (s : State) (step : Move) → (moved s step).pending ≡ None
+moved_closed s (Edit r) = refl
+moved_closed s Undo = refl
+moved_closed s Redo = refl
+
+pub none_of : {A : Type 0} (o : Option A) → IsNone o → o ≡ None
+none_of None h = refl
+none_of (Some x) h = cc
+
+-- what was written is the journal's text, which is read back
+pub journal_written : (c e : Content) (j : List ℕ) (s : State) → Writes c e j s → IsJournal (get e j) s
+journal_written c e j s w =
+    let there : get e j ≡ Some (journal_text s) = ap (λ m. get m j) w.written ∙ get_written c j (journal_text s) in
+    record { text = there; reads = ap journal_beside there ∙ w.reads }
+
+module _ (f j : List ℕ) (apart : f ≢ j) where
+  -- a journal written beside a text
+  pub wrote_journal : (c e : Content) (t : List ℕ) (s : State) (h : History) → get c f ≡ Some t → Writes c e j s → Describes s t h → Stands e f j h
+  wrote_journal c e t s h is w k = record {
+    text = t;
+    state = s;
+    file_is = ap (λ m. get m f) w.written ∙ get_other c j (journal_text s) f apart ∙ is;
+    journal_is = ap (λ m. journal_beside (get m j)) w.written ∙ ap journal_beside (get_written c j (journal_text s)) ∙ w.reads;
+    describes = k;
+  }
+
+  -- and then a text beside it
+  wrote_text : (c e g : Content) (u : List ℕ) (s : State) (h : History) → Writes c e j s → g ≡ insert e f u → Describes s u h → Stands g f j h
+  wrote_text c e g u s h w is k = record {
+    text = u;
+    state = s;
+    file_is = ap (λ m. get m f) is ∙ get_written e f u;
+    journal_is =
+        ap (λ m. journal_beside (get m j)) is
+        ∙ ap journal_beside (get_other e f u j (λ x. apart (sym x)))
+        ∙ ap (λ m. journal_beside (get m j)) w.written
+        ∙ ap journal_beside (get_written c j (journal_text s))
+        ∙ w.reads;
+    describes = k;
+  }
+
+  module _ (c e : Content) (s : State) (t u : List ℕ) (h : History) (step : Move) (k : Rest c f j s t h) (m : moved_text s.records s.at step t ≡ Some u) where
+    -- a move that leaves the text equal: the settled journal
+    pub turned : (z : State) → u ≡ t → z ≡ moved s step → Writes c e j z → Stands e f j (after_move h step u)
+    turned z same is w = wrote_journal c e u (moved s step) (after_move h step u) (subst (λ x. get c f ≡ Some x) (sym same) k.file_is) (subst (Writes c e j) is w)
+        (describes (moved s step) u (after_move h step u) (moved_closed s step) (move_moves s h t u step k.at_rest m))
+
+    -- the first write: the journal with the move open
+    pub first_write : (z : State) → u ≢ t → z ≡ opened s step t → Writes c e j z → Stands e f j h
+    first_write z changes is w = wrote_journal c e t (opened s step t) h k.file_is (subst (Writes c e j) is w) (open_before s h t u step k.at_rest m changes)
+
+    -- the second: the file
+    pub second_write : (z : State) (g : Content) → u ≢ t → z ≡ opened s step t → Writes c e j z → g ≡ insert e f u → Stands g f j (after_move h step u)
+    second_write z g changes is w put =
+        wrote_text c e g u (opened s step t) (after_move h step u) (subst (Writes c e j) is w) put (open_after s h t u step k.at_rest m changes)
+
+    -- the third: the journal settled
+    pub third_write : (y z : State) (g l : Content) → u ≢ t → y ≡ opened s step t → g ≡ insert e f u → settled y u ≡ Some z → Writes g l j z → Stands l f j (after_move h step u)
+    third_write y z g l changes is put settles w =
+        let rests = settled_rests (opened s step t) z u (after_move h step u) (open_after s h t u step k.at_rest m changes) (sym (ap (λ x. settled x u) is) ∙ settles) in
+        wrote_journal g l u z (after_move h step u) (ap (λ x. get x f) put ∙ get_written e f u) w (describes z u (after_move h step u) rests.1 rests.0)
+
+pub on_err : {T E P : Type 0} (r : Result T E) → P → OnErr r P
+on_err (Ok v) p = tt
+on_err (Err e) p = p
+
+pub on_ok_map : {T E P Q : Type 0} (r : Result T E) → OnOk r P → (P → Q) → OnOk r Q
+on_ok_map (Ok v) p f = f p
+on_ok_map (Err e) p f = tt
+
+pub on_err_map : {T E P Q : Type 0} (r : Result T E) → OnErr r P → (P → Q) → OnErr r Q
+on_err_map (Ok v) p f = tt
+on_err_map (Err e) p f = f p
+
+pub either : {A B C : Type 0} → A ⊎ B → (A → C) → (B → C) → C
+either (inl a) f h = f a
+either (inr b) f h = h b
+
+pub fault_inside : (f : JournalFault) → is_outside (of_fault f) ≡ false
+fault_inside journal.NothingToUndo = refl
+fault_inside journal.NothingToRedo = refl
+fault_inside journal.DoesNotStand = refl
+fault_inside journal.BadJournal = refl
+fault_inside journal.Unsettled = refl
+fault_inside journal.JournalFull = refl
+fault_inside journal.BadCount = refl
+
+module _ (c : Content) (f j : List ℕ) (cause : Option Cause) (h k : Option History) where
+  -- cut short by the store or by want of memory
+  pub cut : {T : Type 0} (r : Result T Fault) (e : Fault) → r ≡ Err e → is_outside e ≡ true → GoodIn c f j h ⊎ GoodIn c f j k → Arrives c f j cause h k r
+  cut r e is out goods =
+      subst (Arrives c f j cause h k) (sym is)
+      (subst (λ b. MatchBool b (GoodIn c f j h ⊎ GoodIn c f j k) (IsFor cause e × GoodIn c f j h)) (sym out) goods)
+
+  -- refused
+  pub told : {T : Type 0} (r : Result T Fault) (e : Fault) → r ≡ Err e → is_outside e ≡ false → IsFor cause e → GoodIn c f j h → Arrives c f j cause h k r
+  told r e is out tells good =
+      subst (Arrives c f j cause h k) (sym is)
+      (subst (λ b. MatchBool b (GoodIn c f j h ⊎ GoodIn c f j k) (IsFor cause e × GoodIn c f j h)) (sym out) (tells, good))
+
+  -- carried out, or cut short
+  pub ends : {T : Type 0} (r : Result T Fault) → cause ≡ None → OnOk r (GoodIn c f j k) → OnErr r (GoodIn c f j h ⊎ GoodIn c f j k) → IfErr r (λ e. IsTrue (is_outside e)) → Arrives c f j cause h k r
+  ends (Ok v) none ok err out = (none, ok)
+  ends {T = T} (Err e) none ok err out = cut {T = T} (Err e) e refl out err
+
+pub same_content : (c e : Content) (f j : List ℕ) (h : History) → e ≡ c → Stands c f j h → Stands e f j h
+same_content c e f j h is k = subst (λ m. Stands m f j h) (sym is) k
+
+-- an undo or a redo goes on with the history, whatever its text
+pub same_walk : (h : History) (w : Walk) (u : List ℕ) → after_move h (step_of w) u ≡ after_move h (step_of w) []
+same_walk h Walk.Undo u = refl
+same_walk h Walk.Redo u = refl
+
+-- the journal refuses it where the history does
+pub walk_fault : (s : State) (t : List ℕ) (h : History) (w : Walk) → AtRest s t h → way_fault s.records s.at (step_of w) t ≡ step_fault h (step_of w)
+walk_fault s t h Walk.Undo k = undo_fault s t h k
+walk_fault s t h Walk.Redo k = redo_fault s t h k
+
+outside_if : (e : Fault) → (is_outside e ≡ false → ⊥) → is_outside e ≡ true
+outside_if e h = elim (is_outside e) as (λ b. is_outside e ≡ b → b ≡ true) [ true ↦ λ _. refl | false ↦ λ is. absurd (h is) ] refl
+
+pub fault_outside : {T : Type 0} (r : Result T Fault) (o : Option JournalFault) → o ≡ None → IfErr r (λ e. is_outside e ≡ false → option_map of_fault o ≡ Some e) → IfErr r (λ e. IsTrue (is_outside e))
+fault_outside (Ok v) o none h = tt
+fault_outside (Err e) o none h = outside_if e (λ out. none-some e (sym (ap (option_map of_fault) none) ∙ h out))
+
+-- where a journal at rest gives the text, the way is free
+pub no_way_free : (records : List Patch) (at : ℕ) (step : Move) (t : List ℕ) → way_fault records at step t ≡ None → no_way records at step ≡ None
+no_way_free records at step t free = elim (no_way records at step) as (λ o. option_or o (if_moves (moved_text records at step t)) ≡ None → o ≡ None) [
+  | None ↦ λ e. refl
+  | Some y ↦ λ e. absurd (none-some y (sym e))
+] free
+
+-- what is known behind a move of a pair from one text to another, by its contract: it was carried out from any history, or cut short; or the journal had no way for it
+pub record IsMove {T : Type 0} (c d : Content) (f j : List ℕ) (s : State) (t u : List ℕ) (step : Move) (r : Result T Fault) : Type 0 where
+  pub leads : moved_text s.records s.at step t ≡ Some u
+  pub ok : (h : History) → Rest c f j s t h → OnOk r (Stands d f j (after_move h step u))
+  pub err : (h : History) → Rest c f j s t h → OnErr r (Stands d f j h ⊎ Stands d f j (after_move h step u))
+  pub text : OnOk r (get d f ≡ Some u)
+  pub beside : OnOk r (IsJournal (get d j) (moved s step))
+  pub fault : IfErr r (λ e. is_outside e ≡ false → option_map of_fault (no_way s.records s.at step) ≡ Some e)
+  pub refused : (y : JournalFault) → no_way s.records s.at step ≡ Some y → r ≡ Err (of_fault y)
+  pub barred : no_way s.records s.at step ≢ None → d ≡ c
+
+-- an undo or a redo of a pair
+module _ (f j : List ℕ) (h : History) (w : Walk) where
+  -- the pair behind it
+  abbrev pub Walked : {T : Type 0} → Content → Result T Fault → Type 0
+  Walked d r = Arrives d f j (walk_cause (step_of w) (Some h)) (Some h) (walk_next (step_of w) (Some h)) r
+
+  -- it was carried out, or cut short
+  walk_ends : {T : Type 0} (d : Content) (r : Result T Fault) (u : List ℕ) → step_fault h (step_of w) ≡ None →
+      OnOk r (Stands d f j (after_move h (step_of w) u)) →
+      OnErr r (Stands d f j h ⊎ Stands d f j (after_move h (step_of w) u)) →
+      IfErr r (λ e. IsTrue (is_outside e)) → Walked d r
+  walk_ends d r u free ok err out =
+      subst (λ x. Arrives d f j (walk_cause (step_of w) (Some h)) (Some h) (Some x) r)
+      (same_walk h w u ∙ ap (λ o. unless_fault o h (after_move h (step_of w) [])) (sym free))
+      (ends d f j (walk_cause (step_of w) (Some h)) (Some h) (Some (after_move h (step_of w) u)) r (ap (option_map (λ y. named (of_fault y))) free) ok err out)
+
+  -- the journal refused it
+  walk_told : {T : Type 0} (c : Content) (r : Result T Fault) (x : JournalError) → r ≡ Err (of_journal x) → Names x (step_fault h (step_of w)) → Stands c f j h → Walked c r
+  walk_told c r error.Memory is names good = cut c f j (walk_cause (step_of w) (Some h)) (Some h) (walk_next (step_of w) (Some h)) r (of_journal error.Memory) is refl (inl good)
+  walk_told c r (error.Fault y) is names good =
+      told c f j (walk_cause (step_of w) (Some h)) (Some h) (walk_next (step_of w) (Some h)) r (of_fault y) is (fault_inside y)
+      (subst (λ o. IsFor (option_map (λ z. named (of_fault z)) o) (of_fault y)) (sym names) refl) good
+
+  -- from a pair at rest, by the journal's answer
+  module _ (c d : Content) (s : State) (t : List ℕ) (step : Move) (is : step ≡ step_of w) (k : Rest c f j s t h) where
+    free_walk : way_fault s.records s.at step t ≡ None → step_fault h (step_of w) ≡ None
+    free_walk free = sym (walk_fault s t h w k.at_rest) ∙ ap (λ x. way_fault s.records s.at x t) (sym is) ∙ free
+
+    pub refused_walk : {T : Type 0} (r : Result T Fault) (e : Fault) (x : JournalError) → r ≡ Err e → e ≡ of_journal x → Names x (way_fault s.records s.at step t) → Walked c r
+    refused_walk r e x err of names =
+        walk_told c r x (err ∙ ap Err of)
+        (subst (Names x) (ap (λ y. way_fault s.records s.at y t) is ∙ walk_fault s t h w k.at_rest) names) k.stands
+
+    pub equal_walk : {T : Type 0} (r : Result T Fault) → way_fault s.records s.at step t ≡ None →
+        OnOk r (Stands d f j (after_move h (step_of w) t)) →
+        OnErr r (Stands d f j h ⊎ Stands d f j (after_move h (step_of w) t)) →
+        IfErr r (λ e. IsTrue (is_outside e)) → Walked d r
+    equal_walk r free ok err out = walk_ends d r t (free_walk free) ok err out
+
+    pub other_walk : {T : Type 0} (r : Result T Fault) (u : List ℕ) (again : Move) → again ≡ step_of w → way_fault s.records s.at step t ≡ None → IsMove c d f j s t u again r → Walked d r
+    other_walk r u again same free m =
+        walk_ends d r u (free_walk free)
+        (subst (λ x. OnOk r (Stands d f j (after_move h x u))) same (m.ok h k))
+        (subst (λ x. OnErr r (Stands d f j h ⊎ Stands d f j (after_move h x u))) same (m.err h k))
+        (fault_outside r (no_way s.records s.at again) (ap (no_way s.records s.at) (same ∙ sym is) ∙ no_way_free s.records s.at step t free) m.fault)
+
+bytes_same : (t : List ℕ) → bytes_eq t t ≡ true
+bytes_same t = (bytes_eq-Decides t t).1 refl
+
+pub bytes_differ : (t u : List ℕ) → t ≢ u → bytes_eq t u ≡ false
+bytes_differ t u d = elim (bytes_eq t u) as (λ b. bytes_eq t u ≡ b → b ≡ false) [
+  | true ↦ λ e. absurd (d ((bytes_eq-Decides t u).0 e))
+  | false ↦ λ e. refl
+] refl
+
+-- an open move is done beside the text to which it leads
+settles_moved : (s : State) (t u : List ℕ) (step : Move) → moved_text s.records s.at step t ≡ Some u → u ≢ t → settled (opened s step t) u ≡ Some (moved s step)
+settles_moved s t u step m d =
+    ap (λ b. if b then Some (closed s) else if is_text (moved_text s.records s.at step t) u then Some (moved s step) else None) (bytes_differ t u (λ e. d (sym e)))
+    ∙ ap (λ o. if is_text o u then Some (moved s step) else None) m
+    ∙ ap (λ b. if b then Some (moved s step) else None) (bytes_same u)
+
+-- the journal that a move leaves
+pub moved_journal : (j : List ℕ) (s : State) (t u : List ℕ) (step : Move) (y z : State) (g l : Content) →
+    moved_text s.records s.at step t ≡ Some u → u ≢ t → y ≡ opened s step t → settled y u ≡ Some z → Writes g l j z → IsJournal (get l j) (moved s step)
+moved_journal j s t u step y z g l m changes is settles w =
+    subst (IsJournal (get l j)) (same_Some z (moved s step) (sym settles ∙ ap (λ x. settled x u) is ∙ settles_moved s t u step m changes)) (journal_written g l j z w)

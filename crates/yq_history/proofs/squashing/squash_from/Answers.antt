@@ -1,0 +1,38 @@
+use Rattle.std.proofs.Common.{ℕ, refl}
+use Rattle.std.proofs.lemmas.Result.{err_from_is_err_and}
+use Rattle.yq_history.proofs.MoveLaws.{none_of}
+use Rattle.yq_history.proofs.SquashLaws.{squash_refused, squash_of_one, squash_ends}
+use Rattle.yq_history.proofs.MoveLaws.{journal_written, on_ok_map}
+use Rattle.std.proofs.Common.{subst}
+use Rattle.yq_history.specs.Pair.{IsJournal}
+use Rattle.std.proofs.lemmas.Bool.{eq-eqb, ne_eqb}
+use Rattle.yq_history.proofs.EffectLaws.{squash_not_done, squash_one_works, squash_works}
+use Rattle.yq_history.proofs.squashing.squash_from.Goals as goal
+
+pub returns-in_err-squash-clause-arrives : goal.returns-in_err-squash-clause-arrives
+returns-in_err-squash-clause-arrives g c = λ keeps file t apart h k.
+    let p = err_from_is_err_and c.from_residual.result c.from_residual.ensures.1 in
+    squash_refused (g.D.Store.content c.args.store.now) _ _ h _ _ t (none_of _ c.requires.at_rest) k c.from_residual.result p.0 _ p.1 p.2 c.in_err-squash.ensures.fault
+
+pub returns-then-n-eq1-clause-arrives : goal.returns-then-n-eq1-clause-arrives
+returns-then-n-eq1-clause-arrives g c = λ keeps file t apart h k.
+    squash_of_one (g.D.Store.content c.args.store.now) _ _ h _ _ t (none_of _ c.requires.at_rest) k {T = ℕ} 0 _ c.if-n-eq1.true refl c.in_ok-squash.ensures.free
+
+pub returns-clause-arrives : goal.returns-clause-arrives
+returns-clause-arrives g c = λ keeps file t apart h k.
+    squash_ends (g.D.Store.content c.args.store.now) _ _ h _ _ t (none_of _ c.requires.at_rest) k apart _ _ c.in_ok-squash.ensures.ok c.in_ok-squash.ensures.free c.write_journal.result
+    (c.write_journal.ensures.ok keeps) (c.write_journal.ensures.err keeps) c.write_journal.ensures.outside
+
+pub returns-in_err-squash-clause-effect : goal.returns-in_err-squash-clause-effect
+returns-in_err-squash-clause-effect g c = λ keeps file t apart there.
+    let p = err_from_is_err_and c.from_residual.result c.from_residual.ensures.1 in
+    squash_not_done file c.args.name.now (g.D.Store.content c.args.store.now) c.args.journal.now t c.args.n c.from_residual.result p.0 _ p.1 p.2 c.in_err-squash.ensures.fault
+
+pub returns-then-n-eq1-clause-effect : goal.returns-then-n-eq1-clause-effect
+returns-then-n-eq1-clause-effect g c = λ keeps file t apart there.
+    squash_one_works file c.args.name.now (g.D.Store.content c.args.store.now) c.args.journal.now t c.args.n {T = Unit {0}} tt (eq-eqb c.args.n 1 c.if-n-eq1.true) c.in_ok-squash.ensures.free
+
+pub returns-clause-effect : goal.returns-clause-effect
+returns-clause-effect g c = λ keeps file t apart there.
+    squash_works file c.args.name.now (g.D.Store.content c.args.store.now) c.args.journal.now t c.args.n _ c.write_journal.result (ne_eqb c.args.n 1 c.if-n-eq1.false) c.in_ok-squash.ensures.free there (c.write_journal.ensures.others keeps file apart)
+    (on_ok_map _ (c.write_journal.ensures.ok keeps) (λ w. subst (IsJournal _) c.in_ok-squash.ensures.ok (journal_written _ _ _ _ w))) c.write_journal.ensures.outside

@@ -1,0 +1,77 @@
+-- What is done to a file and its journal, by their bytes as they are, good for a history or not (own).
+use Rattle.std.specs.Prelude.{◌≡◌, ◌==◌, ℕ, List, [], if◌then◌else◌, Option, Some, None, Result, Ok, Err, IsTrue, MatchBool}
+use Rattle.std.specs.FinMap.{get}
+use Rattle.yq_journal.specs.declared.fault.JournalFault.{JournalFault}
+use Rattle.yq_journal.specs.declared.moves.Move.{Move}
+use Rattle.yq_journal.specs.Good.{journal_beside}
+use Rattle.yq_journal.specs.Refusals.{no_way, squash_fault}
+use Rattle.yq_journal.specs.State.{State, moved, moved_text, settled, squashed}
+use Rattle.yq_history.specs.declared.fault.Fault.{Fault}
+use Rattle.yq_history.specs.declared.fault.Fault.TheVariants.{NotThere, DoesNotStand, BadJournal, Unsettled}
+use Rattle.yq_store.specs.Content.{Content}
+use Rattle.yq_history.specs.Pair.{IsJournal}
+use Rattle.yq_history.specs.Faults.{is_outside, of_fault}
+use Rattle.yq_history.specs.Listing.{record_lines}
+use Rattle.yq_history.specs.Causes.{Cause, IsFor, named}
+
+-- what a command does: it is refused; it writes nothing and prints these bytes; or it leaves this text in the file and this journal beside it, and prints nothing
+pub data Effect : Type 0 where
+  refuses : Cause → Effect
+  writes_nothing : List ℕ → Effect
+  leaves : List ℕ → State → Effect
+
+-- what goes on from a text and its journal, settled beside it; J5 where it can't be settled
+abbrev pub from_settled : Option State → List ℕ → (List ℕ → State → Effect) → Effect
+from_settled None t go = refuses (named Unsettled)
+from_settled (Some s) t go = go t s
+
+-- the same, from the journal as it was read; J4 where it is none
+abbrev pub from_journal : Option State → List ℕ → (List ℕ → State → Effect) → Effect
+from_journal None t go = refuses (named BadJournal)
+from_journal (Some s) t go = from_settled (settled s t) t go
+
+-- the same, from the bytes of the file and of the journal; S1 where the file isn't there
+abbrev pub from_pair : Option (List ℕ) → Option (List ℕ) → (List ℕ → State → Effect) → Effect
+from_pair None journal go = refuses (named NotThere)
+from_pair (Some t) journal go = from_journal (journal_beside journal) t go
+
+-- what a move does, by the text to which it leads and the journal behind it; J3 where it leads nowhere
+abbrev pub leads_to : Option (List ℕ) → State → Effect
+leads_to None s = refuses (named DoesNotStand)
+leads_to (Some u) s = leaves u s
+
+-- the same, where there may be no way for it: J1, J2 or J6 come first
+abbrev pub goes_to : Option JournalFault → Option (List ℕ) → State → Effect
+goes_to (Some f) u s = refuses (named (of_fault f))
+goes_to None u s = leads_to u s
+
+-- what an undo or a redo does to a text and its settled journal
+abbrev pub walk_effect : Move → List ℕ → State → Effect
+walk_effect step t s = goes_to (no_way s.records s.at step) (moved_text s.records s.at step t) (moved s step)
+
+-- what a squash does, by its fault: the file stays, and one edit stays as it is
+abbrev pub joins_to : Option JournalFault → ℕ → List ℕ → State → Effect
+joins_to (Some f) n t s = refuses (named (of_fault f))
+joins_to None n t s = if n == 1 then writes_nothing [] else leaves t s
+
+-- what a squash of the last n edits does to a text and its settled journal
+abbrev pub squash_effect : ℕ → List ℕ → State → Effect
+squash_effect n t s = joins_to (squash_fault s n) n t (squashed s n)
+
+-- what `history` does to a text and its settled journal
+abbrev pub listing_effect : List ℕ → State → Effect
+listing_effect t s = writes_nothing (record_lines s)
+
+-- the bytes that are printed where the effect came about
+abbrev pub printed_by : Effect → List ℕ
+printed_by (writes_nothing o) = o
+printed_by _ = []
+
+-- the effect came about; where a call of the store failed or memory was refused, only what writes nothing wrote nothing
+abbrev pub Works : Effect → List ℕ → List ℕ → Content → Content → {T : Type 0} → Result T Fault → Type 0
+Works (refuses x) file name old new (Ok v) = ⊥
+Works (refuses x) file name old new (Err e) = MatchBool (is_outside e) (Unit {0}) (IsFor (Some x) e) × (new ≡ old)
+Works (writes_nothing o) file name old new (Ok v) = new ≡ old
+Works (writes_nothing o) file name old new (Err e) = IsTrue (is_outside e) × (new ≡ old)
+Works (leaves u s) file name old new (Ok v) = (get new file ≡ Some u) × IsJournal (get new name) s
+Works (leaves u s) file name old new (Err e) = IsTrue (is_outside e)

@@ -1,0 +1,69 @@
+-- Faults of stores, journals and readings as faults of a command, and those that come from outside (own).
+use Rattle.std.specs.Prelude.{ℕ, Bool, true, false, if◌then◌else◌, Result, Ok, Err}
+use Rattle.yq_scalar.specs.declared.fault.ReadError.{ReadError}
+use Rattle.yq_scalar.specs.declared.fault.ReadError.TheVariants as reading
+use Rattle.yq_journal.specs.declared.fault.JournalError.{JournalError}
+use Rattle.yq_journal.specs.declared.fault.JournalError.TheVariants as error
+use Rattle.yq_journal.specs.declared.fault.JournalFault.{JournalFault}
+use Rattle.yq_journal.specs.declared.fault.JournalFault.TheVariants as journal
+use Rattle.yq_history.specs.declared.fault.Fault.{Fault}
+use Rattle.yq_history.specs.declared.fault.Fault.TheVariants.{NotThere, ReadFailed, WriteFailed, OutFailed, NothingToUndo, NothingToRedo, DoesNotStand, BadJournal, Unsettled, JournalFull, BadCount, Unreadable, OutOfMemory}
+use Rattle.yq_store.specs.declared.store.FileReadError.{FileReadError}
+use Rattle.yq_store.specs.declared.store.FileReadError.TheVariants as read
+use Rattle.yq_store.specs.declared.store.FileWriteError.{FileWriteError}
+use Rattle.yq_store.specs.declared.store.FileWriteError.TheVariants as write
+use Rattle.yq_store.specs.Count.{one_more}
+
+-- why a file was not read
+abbrev pub of_read : FileReadError → Fault
+of_read read.NotThere = NotThere
+of_read read.ReadFailed = ReadFailed
+of_read read.OutOfMemory = OutOfMemory
+
+-- why a file was not written
+abbrev pub of_write : FileWriteError → Fault
+of_write write.WriteFailed = WriteFailed
+of_write write.OutOfMemory = OutOfMemory
+
+-- why a journal refused
+abbrev pub of_fault : JournalFault → Fault
+of_fault journal.NothingToUndo = NothingToUndo
+of_fault journal.NothingToRedo = NothingToRedo
+of_fault journal.DoesNotStand = DoesNotStand
+of_fault journal.BadJournal = BadJournal
+of_fault journal.Unsettled = Unsettled
+of_fault journal.JournalFull = JournalFull
+of_fault journal.BadCount = BadCount
+
+-- why a call of a journal failed
+abbrev pub of_journal : JournalError → Fault
+of_journal error.Memory = OutOfMemory
+of_journal (error.Fault f) = of_fault f
+
+-- why a text was not read as documents
+abbrev pub of_reading : ReadError → Fault
+of_reading reading.Memory = OutOfMemory
+of_reading (reading.Fault f) = Unreadable f
+
+-- a call of the store failed
+abbrev pub is_failure : Fault → Bool
+is_failure ReadFailed = true
+is_failure WriteFailed = true
+is_failure _ = false
+
+-- the output failed
+abbrev pub is_output : Fault → Bool
+is_output OutFailed = true
+is_output _ = false
+
+-- a call of the store failed, or memory was refused
+abbrev pub is_outside : Fault → Bool
+is_outside ReadFailed = true
+is_outside WriteFailed = true
+is_outside OutOfMemory = true
+is_outside _ = false
+
+-- the store's count of failures after a command
+abbrev pub counted : {T : Type 0} → Result T Fault → ℕ → ℕ
+counted (Ok v) n = n
+counted (Err e) n = if is_failure e then one_more n else n

@@ -1,0 +1,33 @@
+-- What `history` prints (own).
+use Rattle.std.specs.Prelude.{ℕ, ◌+◌, Bool, true, false, List, [], ◌∷◌, ◌++◌, map, nat_lt, codes, decimal, Option, Some, None}
+use Rattle.json.specs.Print.{quoted}
+use Rattle.yq_journal.specs.History.{History, Revision}
+use Rattle.yq_journal.specs.Record.{Patch}
+use Rattle.yq_journal.specs.State.{State}
+
+-- the word for an edit that is done, or undone
+abbrev pub state_word : Bool → List ℕ
+state_word true = codes " done "
+state_word false = codes " undone "
+
+-- the line of an edit: its number, whether it is done, its expression as a JSON string, and a line feed (RFC 8259, section 7)
+abbrev pub edit_line : ℕ → Bool → List ℕ → List ℕ
+edit_line number is_done expr = decimal number ++ state_word is_done ++ quoted expr ++ 10 ∷ []
+
+-- the lines of the edits with these expressions behind the first n, of which so many are done
+abbrev pub lines_behind : ℕ → ℕ → List (List ℕ) → List ℕ
+lines_behind n done [] = []
+lines_behind n done (expr ∷ exprs) = edit_line (n + 1) (nat_lt n done) expr ++ lines_behind (n + 1) done exprs
+
+-- the lines of a journal, one for each record, oldest first, numbered from 1
+abbrev pub record_lines : State → List ℕ
+record_lines s = lines_behind 0 s.at (map (λ (r : Patch). r.expr) s.records)
+
+-- the lines of a history, one for each edit, oldest first, numbered from 1
+abbrev pub history_lines : History → List ℕ
+history_lines h = lines_behind 0 h.at (map (λ (e : Revision). e.expr) h.later)
+
+-- the lines of a file's history, where it is there
+abbrev pub listing_output : Option History → List ℕ
+listing_output None = []
+listing_output (Some h) = history_lines h

@@ -1,0 +1,39 @@
+-- What an undo, a redo and a squash do to a history, and why they and its listing are refused (own).
+use Rattle.std.specs.Prelude.{ℕ, [], Option, Some, None, option_map}
+use Rattle.yq_journal.specs.declared.fault.JournalFault.{JournalFault}
+use Rattle.yq_journal.specs.declared.moves.Move.{Move}
+use Rattle.yq_journal.specs.Good.{after_move, squash_refusal, step_fault}
+use Rattle.yq_journal.specs.History.{History, after_squash}
+use Rattle.yq_history.specs.declared.fault.Fault.TheVariants.{NotThere}
+use Rattle.yq_history.specs.Causes.{Cause, named}
+use Rattle.yq_history.specs.Faults.{of_fault}
+
+-- a history that stays where there is a fault, and else goes on
+abbrev pub unless_fault : Option JournalFault → History → History → History
+unless_fault None h k = k
+unless_fault (Some f) h k = h
+
+-- why an undo or a redo is refused
+abbrev pub walk_cause : Move → Option History → Option Cause
+walk_cause step None = Some (named NotThere)
+walk_cause step (Some h) = option_map (λ f. named (of_fault f)) (step_fault h step)
+
+-- the history after it
+abbrev pub walk_next : Move → Option History → Option History
+walk_next step None = None
+walk_next step (Some h) = Some (unless_fault (step_fault h step) h (after_move h step []))
+
+-- why a squash is refused
+abbrev pub squash_cause : ℕ → Option History → Option Cause
+squash_cause n None = Some (named NotThere)
+squash_cause n (Some h) = option_map (λ f. named (of_fault f)) (squash_refusal h n)
+
+-- the history after it
+abbrev pub squash_next : ℕ → Option History → Option History
+squash_next n None = None
+squash_next n (Some h) = Some (unless_fault (squash_refusal h n) h (after_squash h n))
+
+-- why a file's history isn't listed
+abbrev pub listing_cause : Option History → Option Cause
+listing_cause None = Some (named NotThere)
+listing_cause (Some h) = None

@@ -1,0 +1,93 @@
+//! The lines of a history.
+ghost use Rattle.std.specs.Prelude.{◌≡◌, ◌∷◌, ◌++◌, [], Option, IfErr, OnOk, IfOk, IsTrue, false, true, decimal};
+ghost use Rattle.std.specs.FinMap as map;
+ghost use Rattle.std.specs.String.{string_bytes};
+ghost use Rattle.json.specs.Print as json;
+ghost use Rattle.yq_journal.specs.History.{History};
+ghost use Rattle.yq_history.specs.Effects.{Works, from_pair, listing_effect, printed_by};
+ghost use Rattle.yq_history.specs.Faults.{is_output, counted};
+ghost use Rattle.yq_history.specs.Pair.{Arrives, GoodIn};
+ghost use Rattle.yq_history.specs.Listing as spec;
+ghost use Rattle.yq_history.specs.Shown.{nothing, shown_by, text as shown_text};
+ghost use Rattle.yq_history.specs.Steps.{listing_cause};
+
+use crate::fault::Fault;
+use crate::pair::open_pair;
+use crate::shown::Shown;
+use serde_json::Value;
+use std::alloc::{AllocError, Global};
+use yq_journal::Journal;
+use yq_store::Store;
+
+/// A text as a JSON string.
+fn quoted(alloc: Global, text: &str) -> Result<String, AllocError>
+    ensures { IfOk result (λ s. string_bytes s ≡ json.quoted text.now) }
+{
+    let value = Value::String(String::from_str(alloc, text)?);
+    value.to_string(alloc)
+}
+
+/// The word for an edit that is done, or undone.
+fn state_word(is_done: bool) -> &'static str
+    ensures { result.now ≡ spec.state_word is_done }
+{
+    if is_done { " done " } else { " undone " }
+}
+
+/// A number, two texts and a line feed.
+fn joined_line(alloc: Global, number: usize, state: &str, expr: &str) -> Result<String, AllocError>
+    ensures { IfOk result (λ s. string_bytes s ≡ ((decimal number ++ state.now) ++ expr.now) ++ 10 ∷ []) }
+{
+    let mut line = number.to_string(alloc)?;
+    line.push_str(state)?;
+    line.push_str(expr)?;
+    line.push_str("\n")?;
+    Ok(line)
+}
+
+/// The line of an edit. Its number counts from 1.
+fn edit_line(alloc: Global, number: usize, is_done: bool, expr: &str) -> Result<String, AllocError>
+    ensures { IfOk result (λ s. string_bytes s ≡ spec.edit_line number is_done expr.now) }
+{
+    let state = state_word(is_done);
+    let expr = quoted(alloc, expr)?;
+    joined_line(alloc, number, state, &expr)
+}
+
+/// A line for each record, oldest first.
+fn lines_of(alloc: Global, journal: &Journal) -> Result<String, AllocError>
+    ensures { IfOk result (λ s. string_bytes s ≡ spec.record_lines journal.now) }
+{
+    let mut lines = String::new(alloc);
+    'records: for i in 0..journal.len() {
+        let line = edit_line(alloc, i + 1, i < journal.at(), &journal.record(i).expr)?;
+        lines.push_str(&line)?;
+    }
+    Ok(lines)
+}
+
+/// Lists the edits of a file.
+pub fn listing<D: Store>(
+    alloc: Global,
+    store: &mut D,
+    file: &str,
+    name: &str,
+    shown: &mut Shown,
+) -> Result<(), Fault>
+    requires empty { shown_by shown.old ≡ nothing }
+    ensures arrives { IsTrue D.keeps → (h : Option History) → GoodIn (D.content store.old) file.now name.now h →
+        Arrives (D.content store.new) file.now name.now (listing_cause h) h h result }
+    ensures effect { IsTrue D.keeps → Works (from_pair (map.get (D.content store.old) file.now) (map.get (D.content store.old) name.now) listing_effect)
+        file.now name.now (D.content store.old) (D.content store.new) result }
+    ensures lines { IsTrue D.keeps → OnOk result (string_bytes shown.new.text ≡ printed_by (from_pair (map.get (D.content store.old) file.now) (map.get (D.content store.old) name.now) listing_effect)) }
+    ensures output { IsTrue D.keeps → (h : Option History) → GoodIn (D.content store.old) file.now name.now h →
+        OnOk result (shown_by shown.new ≡ shown_text (spec.listing_output h)) }
+    ensures matched { shown.new.is_match ≡ true }
+    ensures same { IsTrue D.keeps → D.content store.new ≡ D.content store.old }
+    ensures quiet { IfErr result (λ e. is_output e ≡ false) }
+    ensures count { D.failures store.new ≡ counted result (D.failures store.old) }
+{
+    let (_text, journal) = open_pair(alloc, store, file, name)?;
+    shown.text = lines_of(alloc, &journal)?;
+    Ok(())
+}
