@@ -18,13 +18,13 @@ use Rattle.yq_history.specs.declared.fault.Fault.{Fault}
 use Rattle.yq_history.specs.declared.fault.Fault.TheVariants as fault
 use Rattle.yq_history.specs.Causes.{named}
 use Rattle.yq_store.specs.Content.{Content}
-use Rattle.yq_commands.specs.Editing.{Outcome, unreadable, refused, edited, edits, program_in}
+use Rattle.yq_commands.specs.Editing.{EditOutcome, unreadable, refused, edited, edits, program_in}
 use Rattle.yq_history.specs.Effects.{Effect, refuses, writes_nothing, leaves, from_settled, from_journal, from_pair, leads_to, goes_to, walk_effect, joins_to, squash_effect, listing_effect, printed_by, Works}
 use Rattle.yq_commands.specs.CommandEffects.{edit_effect, update_effect, OfEffect, IsListing}
 use Rattle.yq_commands.specs.Edits.{edit_record}
 use Rattle.yq_history.specs.Faults.{is_outside, is_output}
 use Rattle.yq_commands.specs.CommandNames.{IsOn, IsStranger}
-use Rattle.yq.specs.Lists.{IsApart, AllFit, Reply, Told, Goes, Run, TellsEffect, HasEffect, Leaves, Keeps, is_kept}
+use Rattle.yq.specs.Lists.{IsApart, AllOnOrApart, Reply, Told, Goes, Run, TellsEffect, HasEffect, Leaves, Keeps, is_kept}
 use Rattle.yq_history.specs.Pair.{GoodIn, Arrives}
 use Rattle.yq_commands.specs.Prints.{shown_of, prints, reads_journal, answer_by}
 use Rattle.yq_history.specs.Shown.{Shown, nothing}
@@ -62,7 +62,7 @@ squash_silent n t s = elim (squash_fault s n) as (λ o. printed_by (joins_to o n
   | Some y ↦ refl
 ]
 
-edit_silent : (expr : List ℕ) (o : Outcome) (t : List ℕ) (s : State) → printed_by (edit_effect expr o t s) ≡ []
+edit_silent : (expr : List ℕ) (o : EditOutcome) (t : List ℕ) (s : State) → printed_by (edit_effect expr o t s) ≡ []
 edit_silent expr (unreadable old) t s = refl
 edit_silent expr (refused f) t s = refl
 edit_silent expr (edited u cs) t s =
@@ -186,7 +186,7 @@ keeps_more old m new (d ∷ cs) [] c r k left = absurd k
 
 -- from a pair that is good for a history it is a run
 pub run_of : (f j : List ℕ) → f ≢ j → (cs : List Command) (rs : List Reply) (old new : Content) (h : Option History) →
-    Keeps old cs rs new → AllFit f j cs → GoodIn old f j h → (k : Option History) × Run f j h cs rs k × GoodIn new f j k
+    Keeps old cs rs new → AllOnOrApart f j cs → GoodIn old f j h → (k : Option History) × Run f j h cs rs k × GoodIn new f j k
 run_of f j apart [] [] old new h keeps fit good = (h, refl, same_pair old new f j h keeps good)
 run_of f j apart (c ∷ cs) (r ∷ rs) old new h keeps fit good =
     let one = keeps.1.steps f j apart (All-head (λ x. IsOn f j x ⊎ IsApart f j x) c cs fit) h good in

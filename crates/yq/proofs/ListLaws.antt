@@ -19,7 +19,7 @@ use Rattle.yq_history.specs.declared.fault.Fault.{Fault}
 use Rattle.yq_history.specs.declared.fault.Fault.TheVariants as fault
 use Rattle.yq_history.specs.Causes.{Cause, IsFor, named}
 use Rattle.yq_store.specs.Content.{Content}
-use Rattle.yq_commands.specs.Editing.{Outcome, unreadable, refused, edited, edits, program_in}
+use Rattle.yq_commands.specs.Editing.{EditOutcome, unreadable, refused, edited, edits, program_in}
 use Rattle.yq_history.specs.Faults.{is_failure, is_outside, is_output, of_fault}
 use Rattle.yq.specs.Lists.{Reply, answers_in, Told, IsRefused, IsCarriedOut, Steps, Goes, Run, IsReply, GoesExactly, RunExactly, tells_failure, tells_output, count_told, failures_in, output_failures_in, is_memory, has_memory}
 use Rattle.yq_history.specs.Pair.{GoodIn, Arrives}
@@ -98,7 +98,7 @@ room_stays h expr u x true b is = refl
 room_stays h expr u x false true is = refl
 room_stays h expr u x false false is = absurd (none-some x is)
 
-edit_stays : (h : History) (expr : List ℕ) (o : Outcome) (x : Cause) → edit_cause h o ≡ Some x → edit_next h expr o ≡ h
+edit_stays : (h : History) (expr : List ℕ) (o : EditOutcome) (x : Cause) → edit_cause h o ≡ Some x → edit_next h expr o ≡ h
 edit_stays h expr (unreadable old) x is = refl
 edit_stays h expr (refused f) x is = refl
 edit_stays h expr (edited u cs) x is = room_stays h expr u x (bytes_eq u (text_at h)) (nat_le most_records h.at) is

@@ -23,8 +23,8 @@ abbrev pub IsApart : List ℕ → List ℕ → Command → Type 0
 IsApart file name c = (IsStranger file c × IsStranger name c) ⊎ ((IsOn file name c → ⊥) × (prints c ≡ true))
 
 -- each command is on the pair, or apart from it
-abbrev pub AllFit : List ℕ → List ℕ → List Command → Type 0
-AllFit file name cs = All (λ c. IsOn file name c ⊎ IsApart file name c) cs
+abbrev pub AllOnOrApart : List ℕ → List ℕ → List Command → Type 0
+AllOnOrApart file name cs = All (λ c. IsOn file name c ⊎ IsApart file name c) cs
 
 -- what a command comes to: its answer, and the bytes that it printed
 pub record Reply : Type 0 where

@@ -24,7 +24,7 @@ use Rattle.yq_lines.specs.Outline.{Stands}
 use Rattle.yq_block.specs.declared.layout.Layout.{Layout}
 use Rattle.yq_block.specs.BlockRows.{inline_of, column_below, node_rows}
 use Rattle.yq_block.specs.BlockText.{block_value}
-use Rattle.yq_block.specs.BlockValues.{IsFilled, InRows, IsNear, IsWritable, MayBeRoot, entry_level, level_at}
+use Rattle.yq_block.specs.BlockValues.{IsFilled, IsFilledValue, IsNear, IsWritable, MayBeRoot, entry_level, level_at}
 
 -- An inline node is a value's: it is one below any parent, before any rest at which a plain scalar ends; it stands for the value and has no anchor; it may
 -- stand alone on its line; and its keys are fit (own).
@@ -41,7 +41,7 @@ InlineWritten = (v : tree.Node) (node : inline.Node) → IsValueTree v → inlin
 
 -- The rows in which a value is written have its text, behind the spaces before the first of them (own).
 abbrev pub TextWritten : Type 0
-TextWritten = (v : tree.Node) (l : Layout) (column : ℕ) (end rest : List ℕ) → InRows v →
+TextWritten = (v : tree.Node) (l : Layout) (column : ℕ) (end rest : List ℕ) → IsFilledValue v →
     rows_text (node_rows l column end v) rest ≡ replicate column 32 ++ (block_value l column v ++ (end ++ rest))
 
 -- They are rows, behind any row that allows their column, where no plain scalar goes on behind them (own).
@@ -56,7 +56,7 @@ RowsFollow = (v : tree.Node) (l : Layout) (column c : ℕ) (end rest : List ℕ)
 
 -- Their lines stand for the value, at the level of their column, where a mapping stands deeper than its key and no comment is in the last line (own).
 abbrev pub LinesWritten : Type 0
-LinesWritten = (v : tree.Node) (l : Layout) (column : ℕ) (end : List ℕ) → 1 ≤ l.mapping → InRows v → line_comment end ≡ None →
+LinesWritten = (v : tree.Node) (l : Layout) (column : ℕ) (end : List ℕ) → 1 ≤ l.mapping → IsFilledValue v → line_comment end ≡ None →
     Stands (lines_of (node_rows l column end v)) v (level_at column v)
 
 -- They are deeper than the line of the key or dash under which they stand (own).
@@ -65,8 +65,8 @@ LinesDeeper = (v : tree.Node) (l : Layout) (column : ℕ) (key : Option (List �
     entry_level key column < level_at (column_below l column key v) v
 
 -- They hold no anchors, and no keys that would merge mappings or are too long (own).
-abbrev pub RowsFit : Type 0
-RowsFit = (v : tree.Node) (l : Layout) (column : ℕ) (end : List ℕ) → IsValueTree v →
+abbrev pub RowsFitDocuments : Type 0
+RowsFitDocuments = (v : tree.Node) (l : Layout) (column : ℕ) (end : List ℕ) → IsValueTree v →
     HaveFitKeys (node_rows l column end v) × HaveOneAnchorEach (lines_of (node_rows l column end v))
 
 -- A key that isn't too long as it is written in a flow collection isn't too long in block style (own).

@@ -11,7 +11,7 @@ use Rattle.yq_rows.specs.Rows.{Dash, Content, Nothing, content_text, Row, parent
 use Rattle.yq_documents.specs.Lines.{row_lines, lines_of}
 use Rattle.yq_block.specs.declared.layout.Layout.{Layout}
 use Rattle.yq_block.specs.BlockRows.{item_column, node_rows}
-use Rattle.yq_block.specs.BlockValues.{InRows, IsWritable}
+use Rattle.yq_block.specs.BlockValues.{IsFilledValue, IsWritable}
 
 -- rows of which the first one stands on the line of a row's dash, behind a space (YAML 1.2.2, section 8.2.1)
 abbrev pub compact_rows : Row → List Row → List Row
@@ -56,7 +56,7 @@ BehindWritten = (v : tree.Node) (l : Layout) (limit : Limit) (r s : Row) (old en
 
 -- The lines of these rows are those of the row up to its dash, and those of the value (own).
 abbrev pub BehindLines : Type 0
-BehindLines = (v : tree.Node) (l : Layout) (s : Row) (end : List ℕ) → InRows v →
+BehindLines = (v : tree.Node) (l : Layout) (s : Row) (end : List ℕ) → IsFilledValue v →
     lines_of (compact_node l end s v) ≡ row_lines (dashed_row s.dashes (Nothing []) s) ++ lines_of (node_rows l (item_column (mark_column s)) end v)
 
 -- the first of these rows, if there is one, begins at a column up to this one (own)

@@ -27,7 +27,7 @@ IsFilled (tree.map a tree.none) = ⊥
 IsFilled (tree.map a (tree.child label n cs)) = ⊤
 
 -- The tree of a value that is written in rows (own).
-pub record InRows (v : tree.Node) : Type 0 where
+pub record IsFilledValue (v : tree.Node) : Type 0 where
   pub filled : IsFilled v
   pub value : IsValueTree v
 
@@ -57,7 +57,7 @@ pub record IsEnd (column : ℕ) (end rest : List ℕ) : Type 0 where
 
 -- A value can be written in rows, of which the last one has that end before a rest, and none is less deep than a column (own).
 pub record IsWritable (v : tree.Node) (column : ℕ) (end rest : List ℕ) : Type 0 where
-  pub rows : InRows v
+  pub rows : IsFilledValue v
   pub near : HasNearKeys v
   pub ends : IsEnd column end rest
 

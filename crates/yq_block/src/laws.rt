@@ -11,7 +11,7 @@ pub fn block_written()
     ensures follow { laws.RowsFollow }
     ensures lines { laws.LinesWritten }
     ensures deeper { laws.LinesDeeper }
-    ensures fit { laws.RowsFit }
+    ensures fit { laws.RowsFitDocuments }
     ensures near { laws.KeysNear }
     ensures characters { laws.CharactersWritten }
 {}

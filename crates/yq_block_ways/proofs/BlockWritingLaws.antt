@@ -34,7 +34,7 @@ use Rattle.yq_block.specs.declared.layout.Layout.{Layout}
 use Rattle.yq_block.specs.BlockReading.{is_filled}
 use Rattle.yq_block.specs.BlockRows.{column_below, indent_step, item_column, node_rows}
 use Rattle.yq_block.specs.BlockText.{block_value}
-use Rattle.yq_block.specs.BlockValues.{HasNearKeys, InRows, IsEnd, IsFilled}
+use Rattle.yq_block.specs.BlockValues.{HasNearKeys, IsFilledValue, IsEnd, IsFilled}
 use Rattle.yq_block.proofs.CharacterLaws.{value_sound}
 use Rattle.yq_block.proofs.TextLaws.{value_spelled}
 use Rattle.yq_meaning.specs.Fits.{Fits}
@@ -115,7 +115,7 @@ module _ (doc : ℕ) (s : Step) (ss : List Step) (c : Cut) (w : MarkPlace) (h : 
     behind_pieces : ArePieces (behind_segments l v place)
     behind_pieces = let k : MarkPieces place = mark_pieces doc s ss c w h in (k.before, (byte_then 32 (block_value l (item_column place.column) v) refl (block_piece (item_column place.column)), (k.white, (k.comment, (k.behind, tt)))))
 
-    module _ (filled : InRows v) (near : HasNearKeys v) (n : Node) (at : node_at (s ∷ ss) (root_of (p doc s ss c w h)) ≡ Some n) (may : MayReplace v n (root_of (p doc s ss c w h)) (length (s ∷ ss))) where
+    module _ (filled : IsFilledValue v) (near : HasNearKeys v) (n : Node) (at : node_at (s ∷ ss) (root_of (p doc s ss c w h)) ≡ Some n) (may : MayReplace v n (root_of (p doc s ss c w h)) (length (s ∷ ss))) where
       abbrev f : Found
       f = h.leads.found
 

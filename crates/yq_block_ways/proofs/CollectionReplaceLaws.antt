@@ -34,7 +34,7 @@ use Rattle.yq_block.specs.declared.layout.Layout.{Layout}
 use Rattle.yq_block.specs.BlockReading.{is_filled}
 use Rattle.yq_block.specs.BlockRows.{column_below, node_rows}
 use Rattle.yq_block.specs.BlockText.{block_value}
-use Rattle.yq_block.specs.BlockValues.{HasNearKeys, InRows}
+use Rattle.yq_block.specs.BlockValues.{HasNearKeys, IsFilledValue}
 use Rattle.yq_block.proofs.CharacterLaws.{value_sound}
 use Rattle.yq_block.proofs.TextLaws.{value_spelled}
 use Rattle.yq_meaning.specs.Fits.{Fits}
@@ -130,7 +130,7 @@ module _ (doc : ℕ) (s : Step) (ss : List Step) (c : Cut) (w : MarkPlace) (x : 
 
   -- ---- lines under the key or dash
 
-  module _ (value_tree : IsValueTree v) (filled : InRows v) (near : HasNearKeys v) (may : MayReplace v (content h.found.line h.found.under) (root_of h.p) (length (s ∷ ss))) where
+  module _ (value_tree : IsValueTree v) (filled : IsFilledValue v) (near : HasNearKeys v) (may : MayReplace v (content h.found.line h.found.under) (root_of h.p) (length (s ∷ ss))) where
     abbrev below : ℕ
     below = below_mark l (there doc s ss c w x read at ends) v
 

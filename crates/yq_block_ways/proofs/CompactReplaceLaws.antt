@@ -38,7 +38,7 @@ use Rattle.yq_block.specs.declared.layout.Layout.{Layout}
 use Rattle.yq_block.specs.BlockReading.{is_filled}
 use Rattle.yq_block.specs.BlockRows.{item_column, node_rows}
 use Rattle.yq_block.specs.BlockText.{block_value}
-use Rattle.yq_block.specs.BlockValues.{HasNearKeys, InRows}
+use Rattle.yq_block.specs.BlockValues.{HasNearKeys, IsFilledValue}
 use Rattle.yq_block.proofs.CharacterLaws.{value_sound}
 use Rattle.yq_block.proofs.TextLaws.{value_spelled}
 use Rattle.yq_meaning.specs.Fits.{Fits}
@@ -167,7 +167,7 @@ module _ (doc : ℕ) (s : Step) (ss : List Step) (c : Cut) (k : IsCompact doc s 
 
     -- ---- in rows
 
-    module _ (value_tree : IsValueTree v) (filled : InRows v) (near : HasNearKeys v) where
+    module _ (value_tree : IsValueTree v) (filled : IsFilledValue v) (near : HasNearKeys v) where
       abbrev column : ℕ
       column = item_column (mark_column h.mark)
 

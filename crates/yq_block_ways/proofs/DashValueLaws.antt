@@ -20,7 +20,7 @@ use Rattle.yq_block.specs.declared.layout.Layout.{Layout}
 use Rattle.yq_block.specs.BlockPlaces.{compact_rows, Replaces}
 use Rattle.yq_block.specs.BlockRows.{item_column, node_rows}
 use Rattle.yq_block.specs.BlockText.{block_value}
-use Rattle.yq_block.specs.BlockValues.{HasNearKeys, InRows, IsEnd, entry_level, level_at}
+use Rattle.yq_block.specs.BlockValues.{HasNearKeys, IsFilledValue, IsEnd, entry_level, level_at}
 use Rattle.yq_block.proofs.FitLaws.{anchors_fit, keys_fit, node_fit}
 use Rattle.yq_block.proofs.LineLaws.{BeginAt, lines_deeper, node_begun, node_stands}
 use Rattle.yq_block.proofs.PlaceLaws.{behind_laid, compact_lines}
@@ -35,7 +35,7 @@ unfolding upto
 no_comment = refl
 
 -- in the place of what stands behind the dash, which has neither an anchor nor a comment: before an end of the line without a comment
-module _ (doc : ℕ) (s : Step) (ss : List Step) (c : Cut) (h : NodeRows doc s ss c) (l : Layout) (step : 1 ≤ l.mapping) (v : Node) (filled : InRows v) (near_keys : HasNearKeys v) (last : List ℕ) (dash : h.mark.mark ≡ rows.Dash)
+module _ (doc : ℕ) (s : Step) (ss : List Step) (c : Cut) (h : NodeRows doc s ss c) (l : Layout) (step : 1 ≤ l.mapping) (v : Node) (filled : IsFilledValue v) (near_keys : HasNearKeys v) (last : List ℕ) (dash : h.mark.mark ≡ rows.Dash)
     (ends : IsEnd (mark_column h.mark) last (rest doc s ss c h)) (quiet : line_comment last ≡ None) (none : line_comment (tail_of h.mark.content) ≡ None) (unnamed : anchor_of (content h.found.line h.found.under) ≡ None) where
   abbrev below : ℕ
   below = item_column (mark_column h.mark)

@@ -38,7 +38,7 @@ use Rattle.yq_change.proofs.ContentLaws.{free_alone}
 use Rattle.yq_block.specs.declared.layout.Layout.{Layout}
 use Rattle.yq_block.specs.BlockPlaces.{IsUpto, at_mark, at_dash, IsAbove, Replaces}
 use Rattle.yq_block.specs.BlockRows.{column_below, node_rows}
-use Rattle.yq_block.specs.BlockValues.{HasNearKeys, InRows, IsEnd, entry_level, level_at}
+use Rattle.yq_block.specs.BlockValues.{HasNearKeys, IsFilledValue, IsEnd, entry_level, level_at}
 use Rattle.yq_block.proofs.FitLaws.{anchors_fit, keys_fit, node_fit}
 use Rattle.yq_block.proofs.LaidRows.{AreLaid, no_gap_here}
 use Rattle.yq_block.proofs.LineLaws.{lines_deeper, node_stands}
@@ -147,7 +147,7 @@ module _ (doc : ℕ) (s : Step) (ss : List Step) (c : Cut) (h : NodeRows doc s s
 
   -- ---- under it
 
-  module _ (l : Layout) (step : 1 ≤ l.mapping) (v : Node) (filled : InRows v) (near_keys : HasNearKeys v) (x : Content) (last : List ℕ)
+  module _ (l : Layout) (step : 1 ≤ l.mapping) (v : Node) (filled : IsFilledValue v) (near_keys : HasNearKeys v) (x : Content) (last : List ℕ)
       (held : IsHolding x (rows_text (node_rows l (column_below l (mark_column h.mark) (mark_key h.mark.mark) v) last v) (rest doc s ss c h))) (ends : IsEnd (mark_column h.mark) last (rest doc s ss c h)) (quiet : line_comment last ≡ None) where
     abbrev pub below : ℕ
     below = column_below l (mark_column h.mark) (mark_key h.mark.mark) v

@@ -37,7 +37,7 @@ use Rattle.yq_change.proofs.RemovalPieceLaws.{spaces_piece}
 use Rattle.yq_block.specs.declared.layout.Layout.{Layout}
 use Rattle.yq_block.specs.BlockRows.{column_below, indent_step, item_column, node_rows}
 use Rattle.yq_block.specs.BlockText.{block_value}
-use Rattle.yq_block.specs.BlockValues.{HasNearKeys, InRows, IsEnd}
+use Rattle.yq_block.specs.BlockValues.{HasNearKeys, IsFilledValue, IsEnd}
 use Rattle.yq_block.proofs.CharacterLaws.{value_sound}
 use Rattle.yq_block.proofs.TextLaws.{value_spelled}
 use Rattle.yq_meaning.specs.Operations.{replace}
@@ -150,7 +150,7 @@ module _ (doc : ℕ) (s : Step) (ss : List Step) (c : Cut) (w : ScalarPlace) (h 
 
   -- ---- rows
 
-  module _ (l : Layout) (step : 1 ≤ l.mapping) (v : Node) (value_tree : IsValueTree v) (filled : InRows v) (near : HasNearKeys v) (may : MayReplace v (content h.leads.found.line h.leads.found.under) (root_of d) (length (s ∷ ss))) where
+  module _ (l : Layout) (step : 1 ≤ l.mapping) (v : Node) (value_tree : IsValueTree v) (filled : IsFilledValue v) (near : HasNearKeys v) (may : MayReplace v (content h.leads.found.line h.leads.found.under) (root_of d) (length (s ∷ ss))) where
     value_piece : (column : ℕ) → IsPiece (block_value l column v)
     value_piece column = let e = value_sound v l column value_tree in record { utf8 = e.0; characters = e.1 }
 

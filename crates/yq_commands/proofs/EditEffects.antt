@@ -2,11 +2,11 @@
 use Rattle.std.proofs.Common.{◌≡◌, ◌≢◌, ℕ, Bool, true, false, nat_le, List, [], length, Option, Some, None, Result, Ok, Err, MatchBool, if◌then◌else◌, sym, ap, ◌∙◌, subst, refl}
 use Rattle.std.proofs.lemmas.Slice.Eq.{bytes_eq-Decides}
 use Rattle.yq_program.specs.Program.{Program}
-use Rattle.yq_script.specs.Patch.{Splice}
+use Rattle.yq_script.specs.Splice.{Splice}
 use Rattle.yq_journal.specs.declared.fault.JournalFault.{JournalFault}
 use Rattle.yq_journal.specs.declared.fault.JournalFault.TheVariants as journal
 use Rattle.yq_journal.specs.declared.moves.Move.TheVariants as move
-use Rattle.yq_journal.specs.Record.{Patch}
+use Rattle.yq_journal.specs.Record.{Record}
 use Rattle.yq_journal.specs.Refusals.{most_records, no_way}
 use Rattle.yq_journal.specs.State.{State, moved, moved_text}
 use Rattle.yq_history.specs.declared.fault.Fault.{Fault}
@@ -14,7 +14,7 @@ use Rattle.yq_history.specs.declared.fault.Fault.TheVariants as fault
 use Rattle.yq_store.specs.Content.{Content}
 use Rattle.yq_commands.specs.CommandEffects.{edit_effect, update_effect}
 use Rattle.yq_history.specs.Effects.{Effect, refuses, writes_nothing, leaves, from_pair, goes_to, walk_effect, Works}
-use Rattle.yq_commands.specs.Editing.{Outcome, unreadable, refused, edited, Refuses, program_in, edits}
+use Rattle.yq_commands.specs.Editing.{EditOutcome, unreadable, refused, edited, Refuses, program_in, edits}
 use Rattle.yq_commands.specs.Edits.{edit_record}
 use Rattle.yq_history.specs.Faults.{is_outside}
 use Rattle.yq_history.specs.Causes.{named}
@@ -26,13 +26,13 @@ inside_memory : {P : Type 0} (e : Fault) → is_outside e ≡ false → (e ≢ f
 inside_memory e out why = why (λ memory. let bad : false ≡ true = sym out ∙ ap is_outside memory in cc)
 
 module _ (f j : List ℕ) (c : Content) (expr : List ℕ) (s : State) (t : List ℕ) where
-  tells_why : (T : Type 0) (o : Outcome) (e : Fault) → Refuses o e → Works (edit_effect expr o t s) f j c c {T = T} (Err e)
+  tells_why : (T : Type 0) (o : EditOutcome) (e : Fault) → Refuses o e → Works (edit_effect expr o t s) f j c c {T = T} (Err e)
   tells_why T (unreadable old) e why = (elim (is_outside e) as (λ b. MatchBool b (Unit {0}) (Refuses (unreadable old) e)) [ true ↦ tt | false ↦ why ], refl)
   tells_why T (refused x) e why = works_refused T (refuses (named x)) f j c e (ap (λ y. refuses (named y)) (sym why))
   tells_why T (edited u cs) e why = absurd why
 
   -- the edit was refused
-  pub edit_not_made : (o : Outcome) {T : Type 0} (r : Result T Fault) (e : Fault) → r ≡ Err e → (e ≢ fault.OutOfMemory → Refuses o e) → Works (edit_effect expr o t s) f j c c r
+  pub edit_not_made : (o : EditOutcome) {T : Type 0} (r : Result T Fault) (e : Fault) → r ≡ Err e → (e ≢ fault.OutOfMemory → Refuses o e) → Works (edit_effect expr o t s) f j c c r
   edit_not_made o {T = T} r e is why =
       subst (Works (edit_effect expr o t s) f j c c) (sym is)
       (elim (is_outside e) as (λ b. is_outside e ≡ b → Works (edit_effect expr o t s) f j c c {T = T} (Err e)) [
@@ -47,26 +47,26 @@ module _ (f j : List ℕ) (c : Content) (expr : List ℕ) (s : State) (t : List 
       else if full then refuses (named fault.JournalFull) else leaves u (moved s (move.Edit (edit_record expr cs (length t) (length u))))
 
   -- the edited text is the old one: nothing is written
-  pub edit_equal_works : (o : Outcome) (u : List ℕ) (cs : List Splice) {T : Type 0} (v : T) → o ≡ edited u cs → u ≡ t → Works (edit_effect expr o t s) f j c c {T = T} (Ok v)
+  pub edit_equal_works : (o : EditOutcome) (u : List ℕ) (cs : List Splice) {T : Type 0} (v : T) → o ≡ edited u cs → u ≡ t → Works (edit_effect expr o t s) f j c c {T = T} (Ok v)
   edit_equal_works o u cs {T = T} v is same =
       subst (λ x. Works x f j c c {T = T} (Ok v))
       (sym (ap (λ x. edit_effect expr x t s) is ∙ ap (λ b. by_tests u cs b (nat_le most_records s.at)) ((bytes_eq-Decides u t).1 same)))
       refl
 
   -- an edit to another text is a move
-  module _ (u : List ℕ) (cs : List Splice) (edit : Patch) (is_edit : edit ≡ edit_record expr cs (length t) (length u)) where
+  module _ (u : List ℕ) (cs : List Splice) (edit : Record) (is_edit : edit ≡ edit_record expr cs (length t) (length u)) where
     by_room : (full : Bool) → by_tests u cs false full ≡ goes_to (if full then Some journal.JournalFull else None) (Some u) (moved s (move.Edit edit))
     by_room true = refl
     by_room false = ap (λ r. leaves u (moved s (move.Edit r))) (sym is_edit)
 
-    edit_moves : (o : Outcome) → o ≡ edited u cs → u ≢ t → moved_text s.records s.at (move.Edit edit) t ≡ Some u → edit_effect expr o t s ≡ walk_effect (move.Edit edit) t s
+    edit_moves : (o : EditOutcome) → o ≡ edited u cs → u ≢ t → moved_text s.records s.at (move.Edit edit) t ≡ Some u → edit_effect expr o t s ≡ walk_effect (move.Edit edit) t s
     edit_moves o is changes leads =
         ap (λ x. edit_effect expr x t s) is
         ∙ ap (λ b. by_tests u cs b (nat_le most_records s.at)) (bytes_differ u t changes)
         ∙ by_room (nat_le most_records s.at)
         ∙ ap (λ m. goes_to (no_way s.records s.at (move.Edit edit)) m (moved s (move.Edit edit))) (sym leads)
 
-    pub edit_works : (o : Outcome) (d : Content) {T : Type 0} (r : Result T Fault) → o ≡ edited u cs → u ≢ t → IsMove c d f j s t u (move.Edit edit) r → Works (edit_effect expr o t s) f j c d r
+    pub edit_works : (o : EditOutcome) (d : Content) {T : Type 0} (r : Result T Fault) → o ≡ edited u cs → u ≢ t → IsMove c d f j s t u (move.Edit edit) r → Works (edit_effect expr o t s) f j c d r
     edit_works o d r is changes m = subst (λ x. Works x f j c d r) (sym (edit_moves o is changes m.leads)) (works_carried f j c d s t u (move.Edit edit) r m)
 
 -- an expression that has no program

@@ -5,19 +5,19 @@ use Rattle.std.proofs.lemmas.Bool.{eq-eqb}
 use Rattle.std.proofs.lemmas.Option.{none-some}
 use Rattle.std.proofs.lemmas.Slice.Eq.{bytes_eq-Decides}
 use Rattle.yq_program.specs.Program.{Program}
-use Rattle.yq_script.specs.Patch.{Splice, all_done}
+use Rattle.yq_script.specs.Splice.{Splice, all_done}
 use Rattle.yq_journal.specs.declared.fault.JournalFault.TheVariants as journal
 use Rattle.yq_journal.specs.declared.moves.Move.TheVariants.{Edit}
 use Rattle.yq_journal.specs.Good.{after_move}
 use Rattle.yq_journal.specs.History.{History, text_at, after_edit}
-use Rattle.yq_journal.specs.Record.{Patch, done, if_length}
+use Rattle.yq_journal.specs.Record.{Record, done, if_length}
 use Rattle.yq_journal.specs.Refusals.{no_way, most_records}
 use Rattle.yq_journal.specs.State.{State}
 use Rattle.yq_history.specs.declared.fault.Fault.{Fault}
 use Rattle.yq_history.specs.declared.fault.Fault.TheVariants.{OutOfMemory, JournalFull}
 use Rattle.yq_history.specs.Causes.{IsFor, named}
 use Rattle.yq_store.specs.Content.{Content}
-use Rattle.yq_commands.specs.Editing.{Outcome, unreadable, refused, edited, Refuses, edits}
+use Rattle.yq_commands.specs.Editing.{EditOutcome, unreadable, refused, edited, Refuses, edits}
 use Rattle.yq_commands.specs.Edits.{edit_record}
 use Rattle.yq_history.specs.Faults.{is_failure, is_outside}
 use Rattle.yq_history.specs.Pair.{Arrives, Rest, Stands}
@@ -31,7 +31,7 @@ edit_done expr cs t u leads =
     ∙ ap (if_length (length u)) leads
     ∙ ap (λ b. if b then Some u else None) (eq-eqb (length u) (length u) refl)
 
-tells_cause : (h : History) (o : Outcome) (e : Fault) → Refuses o e → IsFor (edit_cause h o) e
+tells_cause : (h : History) (o : EditOutcome) (e : Fault) → Refuses o e → IsFor (edit_cause h o) e
 tells_cause h (unreadable old) e is = is
 tells_cause h (refused f) e is = is
 tells_cause h (edited text changes) e is = absurd is
@@ -65,7 +65,7 @@ module _ (c : Content) (f j : List ℕ) (h : History) (expr : List ℕ) (p : Pro
         subst (λ x. Stands c f j x) (sym (ap (edit_next h expr) outcome ∙ ap (λ b. if b then h else if nat_le most_records h.at then h else after_edit h expr u) equal)) k.stands,
       )
 
-  module _ (d : Content) (u : List ℕ) (cs : List Splice) (edit : Patch) (is_edit : edit ≡ edit_record expr cs (length t) (length u)) (gives : edits p t ≡ edited u cs) (changes : u ≢ t) where
+  module _ (d : Content) (u : List ℕ) (cs : List Splice) (edit : Record) (is_edit : edit ≡ edit_record expr cs (length t) (length u)) (gives : edits p t ≡ edited u cs) (changes : u ≢ t) where
     -- whether the journal has room, by the history
     room : (b : Bool) → nat_le most_records s.at ≡ b → update_cause (Ok p) (Some h) ≡ (if b then Some (named JournalFull) else None)
     room b is =
@@ -81,7 +81,7 @@ module _ (c : Content) (f j : List ℕ) (h : History) (expr : List ℕ) (p : Pro
         ∙ ap (λ x. Some (if x then h else after_edit h expr u)) (ap (nat_le most_records) (sym k.at_rest.tells.cursor) ∙ is)
 
     moved_on : after_move h (Edit edit) u ≡ after_edit h expr u
-    moved_on = ap (λ (x : Patch). after_edit h x.expr u) is_edit
+    moved_on = ap (λ (x : Record). after_edit h x.expr u) is_edit
 
     -- the journal had no room
     full : {T : Type 0} (r : Result T Fault) → nat_le most_records s.at ≡ true → IsMove c d f j s t u (Edit edit) r → Updated d r

@@ -21,7 +21,7 @@ use Rattle.yq_history.specs.declared.fault.Fault.{Fault}
 use Rattle.yq_history.specs.declared.fault.Fault.TheVariants.{OutOfMemory, Unreadable}
 use Rattle.yq_history.specs.Causes.{Cause, IsFor, named, no_reading, IsUnreadable}
 use Rattle.yq_store.specs.Content.{Content}
-use Rattle.yq_commands.specs.Editing.{Outcome, unreadable, refused, edited, Refuses, edits}
+use Rattle.yq_commands.specs.Editing.{EditOutcome, unreadable, refused, edited, Refuses, edits}
 use Rattle.yq_commands.specs.CommandFaults.{of_refusal, of_matching}
 use Rattle.yq_commands.specs.Evaluation.{of_file, show_edit, show_found, show_read, shows, cause_in, shown_in}
 use Rattle.yq_history.specs.Faults.{is_outside, of_reading}
@@ -32,7 +32,7 @@ use Rattle.yq_history.proofs.MoveLaws.{cut, told}
 use Rattle.yq_history.proofs.PairLaws.{good_text, same_pair}
 
 -- the fault of an edit tells why its text isn't shown
-pub tells_edit : (o : Outcome) (x : Fault) → Refuses o x → IsFor (cause_in (show_edit o)) x
+pub tells_edit : (o : EditOutcome) (x : Fault) → Refuses o x → IsFor (cause_in (show_edit o)) x
 tells_edit (unreadable old) x is = is
 tells_edit (refused f) x is = is
 tells_edit (edited u changes) x is = absurd is

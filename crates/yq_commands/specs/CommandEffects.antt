@@ -10,13 +10,13 @@ use Rattle.yq_words.specs.declared.command.Command.{Command}
 use Rattle.yq_words.specs.declared.command.Command.TheVariants.{Eval, Undo, Redo, History as Lists, Squash}
 use Rattle.yq_history.specs.declared.fault.Fault.{Fault}
 use Rattle.yq_history.specs.declared.fault.Fault.TheVariants.{JournalFull}
-use Rattle.yq_commands.specs.Editing.{Outcome, unreadable, refused, edited, program_in, edits}
+use Rattle.yq_commands.specs.Editing.{EditOutcome, unreadable, refused, edited, program_in, edits}
 use Rattle.yq_commands.specs.Edits.{edit_record}
 use Rattle.yq_history.specs.Effects.{Effect, refuses, writes_nothing, leaves, from_pair, walk_effect, squash_effect, listing_effect, printed_by}
 use Rattle.yq_history.specs.Causes.{named, no_reading}
 
 -- what an edit does to them, by what it comes to: a record of one edit goes into the journal
-abbrev pub edit_effect : List ℕ → Outcome → List ℕ → State → Effect
+abbrev pub edit_effect : List ℕ → EditOutcome → List ℕ → State → Effect
 edit_effect expr (unreadable old) t s = refuses (no_reading old)
 edit_effect expr (refused f) t s = refuses (named f)
 edit_effect expr (edited u changes) t s =

@@ -11,7 +11,7 @@ use Rattle.yq_words.specs.declared.command.Command.TheVariants.{Eval, Undo, Redo
 use Rattle.yq_history.specs.declared.fault.Fault.{Fault}
 use Rattle.yq_history.specs.declared.fault.Fault.TheVariants.{NotThere, JournalFull}
 use Rattle.yq_history.specs.Causes.{Cause, named, no_reading}
-use Rattle.yq_commands.specs.Editing.{Outcome, unreadable, refused, edited, program_in, edits}
+use Rattle.yq_commands.specs.Editing.{EditOutcome, unreadable, refused, edited, program_in, edits}
 use Rattle.yq_commands.specs.Evaluation.{evaluated, cause_in}
 use Rattle.yq_history.specs.Steps.{walk_cause, walk_next, squash_cause, squash_next, listing_cause}
 
@@ -22,13 +22,13 @@ room_cause h text =
     else if nat_le most_records h.at then Some (named JournalFull) else None
 
 -- why an edit is refused, by what it comes to
-abbrev pub edit_cause : History → Outcome → Option Cause
+abbrev pub edit_cause : History → EditOutcome → Option Cause
 edit_cause h (unreadable old) = Some (no_reading old)
 edit_cause h (refused f) = Some (named f)
 edit_cause h (edited text changes) = room_cause h text
 
 -- the history after it: one to an equal text leaves it
-abbrev pub edit_next : History → List ℕ → Outcome → History
+abbrev pub edit_next : History → List ℕ → EditOutcome → History
 edit_next h expr (unreadable old) = h
 edit_next h expr (refused f) = h
 edit_next h expr (edited text changes) =

@@ -3,7 +3,7 @@ use Rattle.std.specs.Prelude.{◌≡◌, ℕ, List, Result, Ok, Err}
 use Rattle.yq_program.specs.Program.{Program}
 use Rattle.yq_program.specs.Parse.{outcome}
 use Rattle.yq_program.specs.Outcome as expr
-use Rattle.yq_script.specs.Patch.{Splice}
+use Rattle.yq_script.specs.Splice.{Splice}
 use Rattle.yq_splice.specs.Carried.{edit_of}
 use Rattle.yq_splice.specs.Edit.{Edit}
 use Rattle.yq_splice.specs.Edit as edit
@@ -12,13 +12,13 @@ use Rattle.yq_history.specs.Causes.{IsUnreadable}
 use Rattle.yq_commands.specs.CommandFaults.{of_parse, of_refusal}
 
 -- what an edit comes to: this text has no reading, or the program is refused on it, or it gives a text by splices (own)
-pub data Outcome : Type 0 where
-  unreadable : List ℕ → Outcome
-  refused : Fault → Outcome
-  edited : List ℕ → List Splice → Outcome
+pub data EditOutcome : Type 0 where
+  unreadable : List ℕ → EditOutcome
+  refused : Fault → EditOutcome
+  edited : List ℕ → List Splice → EditOutcome
 
 -- the fault tells why nothing is given (own)
-abbrev pub Refuses : Outcome → Fault → Type 0
+abbrev pub Refuses : EditOutcome → Fault → Type 0
 Refuses (unreadable text) e = IsUnreadable text e
 Refuses (refused f) e = e ≡ f
 Refuses (edited text changes) e = ⊥
@@ -33,11 +33,11 @@ unfoldable pub program_in : List ℕ → Result Program Fault
 program_in expr = result_of (outcome expr)
 
 -- what an edit of a text comes to (own)
-abbrev pub outcome_of : List ℕ → Edit → Outcome
+abbrev pub outcome_of : List ℕ → Edit → EditOutcome
 outcome_of old edit.unreadable = unreadable old
 outcome_of old (edit.refuses why) = refused (of_refusal why)
 outcome_of old (edit.gives text changes) = edited text changes
 
 -- what a program makes of a text (own)
-unfoldable pub edits : Program → List ℕ → Outcome
+unfoldable pub edits : Program → List ℕ → EditOutcome
 edits program text = outcome_of text (edit_of program text)

@@ -1,8 +1,8 @@
 -- The record of one edit (own).
 use Rattle.std.specs.Prelude.{ℕ, List}
-use Rattle.yq_script.specs.Patch.{Splice}
-use Rattle.yq_journal.specs.Record.{Patch}
+use Rattle.yq_script.specs.Splice.{Splice}
+use Rattle.yq_journal.specs.Record.{Record}
 
 -- a record of these parts, of one edit
-abbrev pub edit_record : List ℕ → List Splice → ℕ → ℕ → Patch
+abbrev pub edit_record : List ℕ → List Splice → ℕ → ℕ → Record
 edit_record expr changes before after = record { expr = expr; changes = changes; before_len = before; after_len = after; count = 1 }

@@ -10,13 +10,13 @@ use Rattle.yq_journal.specs.History.{History, text_at}
 use Rattle.yq_history.specs.declared.fault.Fault.{Fault}
 use Rattle.yq_history.specs.declared.fault.Fault.TheVariants.{NotThere}
 use Rattle.yq_history.specs.Causes.{Cause, named, no_reading}
-use Rattle.yq_commands.specs.Editing.{Outcome, unreadable, refused, edited, edits}
+use Rattle.yq_commands.specs.Editing.{EditOutcome, unreadable, refused, edited, edits}
 use Rattle.yq_commands.specs.CommandFaults.{of_refusal}
 use Rattle.yq_commands.specs.Reads.{shown_matches}
 use Rattle.yq_history.specs.Shown.{Shown, text, nothing}
 
 -- of an edit the new text is shown
-abbrev pub show_edit : Outcome → Result Shown Cause
+abbrev pub show_edit : EditOutcome → Result Shown Cause
 show_edit (unreadable old) = Err (no_reading old)
 show_edit (refused f) = Err (named f)
 show_edit (edited t changes) = Ok (text t)

@@ -2,7 +2,7 @@
 ghost use Rattle.std.specs.Prelude.{◌≡◌, ◌≢◌, Some, Ok, IfOk, IfErr, IsTrue, IsNone, false, length};
 ghost use Rattle.yq_program.specs.View.{program_of};
 ghost use Rattle.yq_journal.specs.History.{History};
-ghost use Rattle.yq_script.specs.Patch.{Splice, all_done, lengths_done};
+ghost use Rattle.yq_script.specs.Splice.{Splice, all_done, lengths_done};
 ghost use Rattle.std.specs.FinMap as map;
 ghost use Rattle.yq_program.specs.Program as spec;
 ghost use Rattle.yq_commands.specs.Editing.{edited, edits};

@@ -3,7 +3,7 @@ ghost use Rattle.std.specs.Prelude.{◌≡◌, ◌≢◌, Some, None, Ok, Err, I
 ghost use Rattle.std.specs.Str.{is_utf8};
 ghost use Rattle.std.specs.String.{string_bytes};
 ghost use Rattle.yq_program.specs.View.{program_of};
-ghost use Rattle.yq_script.specs.Patch.{all_done, lengths_done};
+ghost use Rattle.yq_script.specs.Splice.{all_done, lengths_done};
 ghost use Rattle.yq_documents.specs.Reading.{read_at};
 ghost use Rattle.yq_history.specs.Causes.{IsUnreadable};
 ghost use Rattle.yq_commands.specs.Editing.{Refuses, edited, edits, program_in};

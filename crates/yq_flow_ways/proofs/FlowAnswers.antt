@@ -25,7 +25,7 @@ use Rattle.yq_change.proofs.FlowPathLaws.{flow_found}
 use Rattle.yq_change.proofs.FlowStandLaws.{coll_stands}
 use Rattle.yq_meaning.specs.Operations.{remove}
 use Rattle.yq_script.specs.Script.{keep, put}
-use Rattle.yq_flow_ways.specs.FlowWays.{edit_segments, flow_remove_way, flow_segments, in_flow_at, last_step, removed_at}
+use Rattle.yq_flow_ways.specs.FlowWays.{edit_segments, flow_remove_way, flow_segments, in_flow_at, last_step, flow_removed}
 use Rattle.yq_flow_ways.proofs.FlowPieceLaws.{removed_empty}
 use Rattle.yq_flow_ways.proofs.FlowRemoveLaws.{bounds, texts}
 use Rattle.yq_flow_ways.proofs.FlowStandings.{EntryAt}
@@ -144,7 +144,7 @@ module _ (c : Cut) (doc : ℕ) (path init : List Step) (s : Step) (w : CollPiece
   e = removing s w
 
   way_is : (o : Option EntryPieces) → item_at w.close s w.items w.rest ≡ o → flow_remove_way (remove doc path) c ≡ option_map (λ (y : EntryPieces). flow_segments (cut_text c) e) o
-  way_is o at = ap (in_flow_at (removed_at c) doc c) last ∙ (ap (λ (o : Option CollPieces). o >>= removed_at c s) found ∙ ap (option_map (λ (y : EntryPieces). flow_segments (cut_text c) e)) at)
+  way_is o at = ap (in_flow_at (flow_removed c) doc c) last ∙ (ap (λ (o : Option CollPieces). o >>= flow_removed c s) found ∙ ap (option_map (λ (y : EntryPieces). flow_segments (cut_text c) e)) at)
 
   place_is : (o : Option EntryPieces) → item_at w.close s w.items w.rest ≡ o → remove_place (cut_text c) s (placed_collection (length (cut_text c)) w) ≡ option_map (λ (y : EntryPieces). place_edit (length (cut_text c)) e) o
   place_is o at = removal_placed c doc init s w read found ∙ ap (option_map (λ (y : EntryPieces). place_edit (length (cut_text c)) e)) at

@@ -38,8 +38,8 @@ last_step (s ∷ []) = Some ([], s)
 last_step (s ∷ (t ∷ ss)) = option_map (λ (x : List Step × Step). (s ∷ x.0, x.1)) (last_step (t ∷ ss))
 
 -- the item or entry at a path taken out of a flow collection (own)
-abbrev pub removed_at : Cut → Step → CollPieces → Option (List Segment)
-removed_at c s w = option_map (λ (y : EntryPieces). flow_segments (cut_text c) (removing s w)) (item_at w.close s w.items w.rest)
+abbrev pub flow_removed : Cut → Step → CollPieces → Option (List Segment)
+flow_removed c s w = option_map (λ (y : EntryPieces). flow_segments (cut_text c) (removing s w)) (item_at w.close s w.items w.rest)
 
 -- the segments for the item or entry to which a path leads in a flow collection (own)
 abbrev pub in_flow_at : (Step → CollPieces → Option (List Segment)) → ℕ → Cut → Option (List Step × Step) → Option (List Segment)
@@ -51,7 +51,7 @@ in_flow_at f doc c (Some x) = flow_collection doc x.0 c >>= f x.1
 abbrev pub flow_remove_way : Way
 flow_remove_way (replace doc steps v) c = None
 flow_remove_way (append doc steps key v) c = None
-flow_remove_way (remove doc steps) c = in_flow_at (removed_at c) doc c (last_step steps)
+flow_remove_way (remove doc steps) c = in_flow_at (flow_removed c) doc c (last_step steps)
 flow_remove_way (line_comment doc steps text) c = None
 flow_remove_way (head_comment doc steps text) c = None
 

@@ -10,7 +10,7 @@ use Rattle.yq_journal.specs.declared.fault.JournalFault.TheVariants as journal
 use Rattle.yq_journal.specs.declared.moves.Move.{Move}
 use Rattle.yq_journal.specs.declared.moves.Move.TheVariants as move
 use Rattle.yq_journal.specs.Good.{journal_beside}
-use Rattle.yq_journal.specs.Record.{Patch}
+use Rattle.yq_journal.specs.Record.{Record}
 use Rattle.yq_journal.specs.Refusals.{Names, Tells, no_way, if_moves, way_fault, squash_fault}
 use Rattle.yq_journal.specs.State.{State, moved, moved_text, settled, squashed}
 use Rattle.yq_history.specs.declared.fault.Fault.{Fault}
@@ -54,13 +54,13 @@ works_leaves x f j u z c d r is text journal out = subst (λ y. Works y f j c d 
 -- ---- moves
 
 -- a move that stands leads to its text
-pub way_free : (records : List Patch) (at : ℕ) (step : Move) (t u : List ℕ) (z : State) →
+pub way_free : (records : List Record) (at : ℕ) (step : Move) (t u : List ℕ) (z : State) →
     way_fault records at step t ≡ None → moved_text records at step t ≡ Some u → goes_to (no_way records at step) (moved_text records at step t) z ≡ leaves u z
 way_free records at step t u z free is =
     ap (λ o. goes_to o (moved_text records at step t) z) (no_way_free records at step t free) ∙ ap (λ o. leads_to o z) is
 
 -- and one that doesn't is refused for the first cause
-pub way_barred : (records : List Patch) (at : ℕ) (step : Move) (t : List ℕ) (z : State) (y : JournalFault) →
+pub way_barred : (records : List Record) (at : ℕ) (step : Move) (t : List ℕ) (z : State) (y : JournalFault) →
     way_fault records at step t ≡ Some y → goes_to (no_way records at step) (moved_text records at step t) z ≡ refuses (named (of_fault y))
 way_barred records at step t z y is = elim (no_way records at step) as (λ o. option_or o (if_moves (moved_text records at step t)) ≡ Some y → goes_to o (moved_text records at step t) z ≡ refuses (named (of_fault y))) [
   | None ↦ λ e. elim (moved_text records at step t) as (λ o. if_moves o ≡ Some y → leads_to o z ≡ refuses (named (of_fault y))) [

@@ -13,7 +13,7 @@ use Rattle.yq_journal.specs.declared.moves.Move.{Move}
 use Rattle.yq_journal.specs.declared.moves.Move.TheVariants.{Edit, Undo, Redo}
 use Rattle.yq_journal.specs.Good.{AtRest, Describes, after_move, journal_beside, step_fault}
 use Rattle.yq_journal.specs.Json.{journal_text}
-use Rattle.yq_journal.specs.Record.{Patch}
+use Rattle.yq_journal.specs.Record.{Record}
 use Rattle.yq_journal.specs.History.{History}
 use Rattle.yq_journal.specs.Refusals.{Names, no_way, if_moves, way_fault}
 use Rattle.yq_journal.specs.State.{State, closed, is_text, moved, moved_text, opened, settled}
@@ -154,7 +154,7 @@ fault_outside (Ok v) o none h = tt
 fault_outside (Err e) o none h = outside_if e (λ out. none-some e (sym (ap (option_map of_fault) none) ∙ h out))
 
 -- where a journal at rest gives the text, the way is free
-pub no_way_free : (records : List Patch) (at : ℕ) (step : Move) (t : List ℕ) → way_fault records at step t ≡ None → no_way records at step ≡ None
+pub no_way_free : (records : List Record) (at : ℕ) (step : Move) (t : List ℕ) → way_fault records at step t ≡ None → no_way records at step ≡ None
 no_way_free records at step t free = elim (no_way records at step) as (λ o. option_or o (if_moves (moved_text records at step t)) ≡ None → o ≡ None) [
   | None ↦ λ e. refl
   | Some y ↦ λ e. absurd (none-some y (sym e))

@@ -2,7 +2,7 @@
 use Rattle.std.specs.Prelude.{ℕ, ◌+◌, Bool, true, false, List, [], ◌∷◌, ◌++◌, map, nat_lt, codes, decimal, Option, Some, None}
 use Rattle.json.specs.Print.{quoted}
 use Rattle.yq_journal.specs.History.{History, Revision}
-use Rattle.yq_journal.specs.Record.{Patch}
+use Rattle.yq_journal.specs.Record.{Record}
 use Rattle.yq_journal.specs.State.{State}
 
 -- the word for an edit that is done, or undone
@@ -21,7 +21,7 @@ lines_behind n done (expr ∷ exprs) = edit_line (n + 1) (nat_lt n done) expr ++
 
 -- the lines of a journal, one for each record, oldest first, numbered from 1
 abbrev pub record_lines : State → List ℕ
-record_lines s = lines_behind 0 s.at (map (λ (r : Patch). r.expr) s.records)
+record_lines s = lines_behind 0 s.at (map (λ (r : Record). r.expr) s.records)
 
 -- the lines of a history, one for each edit, oldest first, numbered from 1
 abbrev pub history_lines : History → List ℕ

@@ -5,8 +5,8 @@ use Rattle.std.proofs.lemmas.Grind.{common_steps}
 use Rattle.std.proofs.Math.Seq.{drop-append_seam, take-append_seam}
 use Rattle.std.proofs.lemmas.List.{reverse-append, reverse-reverse, take-append-drop, nil_from_length}
 use Prim.Native.Nat.{zero}
-use Rattle.yq_script.specs.Patch.{Splice, Exchanges, change_done}
-use Rattle.yq_script.proofs.PatchLaws.{done-from_exchanges, exchanges-from_done}
+use Rattle.yq_script.specs.Splice.{Splice, Exchanges, change_done}
+use Rattle.yq_script.proofs.SpliceLaws.{done-from_exchanges, exchanges-from_done}
 use Rattle.yq_journal.specs.Gap.{change}
 
 over_rest : (front rest : List ℕ) (n : ℕ) → (front ++ take n rest) ++ drop n rest ≡ front ++ rest

@@ -13,7 +13,7 @@ use Rattle.yq_journal.specs.declared.moves.Move.{Move}
 use Rattle.yq_journal.specs.declared.moves.Move.TheVariants.{Edit, Undo, Redo}
 use Rattle.yq_journal.specs.Good.{AtRest, Underway, DescribesPending, Describes, Rests, step_fault, after_move}
 use Rattle.yq_journal.specs.History.{History, text_behind}
-use Rattle.yq_journal.specs.Record.{Patch, done, undone}
+use Rattle.yq_journal.specs.Record.{Record, done, undone}
 use Rattle.yq_journal.specs.Refusals.{most_records, no_way, if_moves, way_fault}
 use Rattle.yq_journal.specs.State.{State, Pending, moved_text, moved, closed, opened, settled, settled_pending, is_text}
 use Rattle.yq_journal.proofs.HistoryLaws.{same_length, leads_at, move_moves}
@@ -108,7 +108,7 @@ settled_rests s r t h d is =
     (subst (λ x. AtRest x t h) same k.at_rest, subst (λ (x : State). x.pending ≡ None) same k.closed)
 
 -- a record of the journal at a place before its end
-get_at : (rs : List Patch) (n : ℕ) → n < length rs → (r : Patch) × (slice_get rs n ≡ Some r)
+get_at : (rs : List Record) (n : ℕ) → n < length rs → (r : Record) × (slice_get rs n ≡ Some r)
 get_at [] n h = absurd (omega arith)
 get_at (r ∷ rs) zero h = (r, refl)
 get_at (r ∷ rs) (suc n) h = get_at rs n (omega arith)
@@ -166,5 +166,5 @@ or_none None = refl
 or_none (Some f) = refl
 
 -- an edit whose record stands before the text has the history's fault alone
-pub edit_fault : (s : State) (t u : List ℕ) (h : History) (r : Patch) → AtRest s t h → done r t ≡ Some u → way_fault s.records s.at (Edit r) t ≡ step_fault h (Edit r)
+pub edit_fault : (s : State) (t u : List ℕ) (h : History) (r : Record) → AtRest s t h → done r t ≡ Some u → way_fault s.records s.at (Edit r) t ≡ step_fault h (Edit r)
 edit_fault s t u h r k d = ap (option_or (no_way s.records s.at (Edit r))) (ap if_moves d) ∙ or_none (no_way s.records s.at (Edit r)) ∙ way_of s t h (Edit r) k

@@ -9,18 +9,18 @@ use Rattle.yq_journal.specs.declared.moves.Move.{Move}
 use Rattle.yq_journal.specs.declared.moves.Move.TheVariants.{Edit, Undo, Redo}
 use Rattle.yq_journal.specs.Good.{Leads, AtRest, after_move}
 use Rattle.yq_journal.specs.History.{History, Revision, text_behind, text_at, after_edit, after_undo, after_redo}
-use Rattle.yq_journal.specs.Record.{Patch, done, undone}
+use Rattle.yq_journal.specs.Record.{Record, done, undone}
 use Rattle.yq_journal.specs.State.{State, moved_text, moved}
 use Rattle.yq_journal.proofs.RecordLaws.{undone_after_done}
 
-pub same_length : (t : List ℕ) (rs : List Patch) (es : List Revision) → Leads t rs es → length rs ≡ length es
+pub same_length : (t : List ℕ) (rs : List Record) (es : List Revision) → Leads t rs es → length rs ≡ length es
 same_length t [] [] l = refl
 same_length t (r ∷ rs) (e ∷ es) l = ap suc (same_length e.text rs es l.2)
 same_length t [] (e ∷ es) l = absurd l
 same_length t (r ∷ rs) [] l = absurd l
 
 -- the record at a place leads from the text there to the next one
-pub leads_at : (t : List ℕ) (rs : List Patch) (es : List Revision) (n : ℕ) (r : Patch) → Leads t rs es → slice_get rs n ≡ Some r → done r (text_behind t es n) ≡ Some (text_behind t es (suc n))
+pub leads_at : (t : List ℕ) (rs : List Record) (es : List Revision) (n : ℕ) (r : Record) → Leads t rs es → slice_get rs n ≡ Some r → done r (text_behind t es n) ≡ Some (text_behind t es (suc n))
 leads_at t [] [] n r l e = cc
 leads_at t (q ∷ rs) (e ∷ es) zero r l is = let same : q ≡ r = cc in ap (λ p. done p t) (sym same) ∙ l.1
 leads_at t (q ∷ rs) (e ∷ es) (suc n) r l is = leads_at e.text rs es n r l.2 is
@@ -28,7 +28,7 @@ leads_at t [] (e ∷ es) n r l is = absurd l
 leads_at t (r ∷ rs) [] n q l is = absurd l
 
 -- a record that leads on from the text at a place
-leads_on : (t u : List ℕ) (rs : List Patch) (es : List Revision) (n : ℕ) (r : Patch) → Leads t rs es → n ≤ length es → done r (text_behind t es n) ≡ Some u → Leads t (take n rs ++ r ∷ []) (take n es ++ record { expr = r.expr; text = u } ∷ [])
+leads_on : (t u : List ℕ) (rs : List Record) (es : List Revision) (n : ℕ) (r : Record) → Leads t rs es → n ≤ length es → done r (text_behind t es n) ≡ Some u → Leads t (take n rs ++ r ∷ []) (take n es ++ record { expr = r.expr; text = u } ∷ [])
 leads_on t u rs es zero r l fits d = (refl, d, tt)
 leads_on t u [] [] (suc n) r l fits d = absurd (omega arith)
 leads_on t u (q ∷ rs) (e ∷ es) (suc n) r l fits d = (l.0, l.1, leads_on e.text u rs es n r l.2 (omega arith) d)
@@ -46,7 +46,7 @@ text_after t e es n fits = rw add-one (text_after_suc t e es n fits)
 positive : (n : ℕ) → (n == 0) ≡ false → 0 < n
 positive n e = grind (arith, nat_tests)
 
-edit_moves : (s : State) (h : History) (t u : List ℕ) (r : Patch) → AtRest s t h → done r t ≡ Some u → AtRest (moved s (Edit r)) u (after_edit h r.expr u)
+edit_moves : (s : State) (h : History) (t u : List ℕ) (r : Record) → AtRest s t h → done r t ≡ Some u → AtRest (moved s (Edit r)) u (after_edit h r.expr u)
 edit_moves s h t u r k d = record {
   tells = record {
     leads = subst (λ n. Leads h.first (take n s.records ++ r ∷ []) (take h.at h.later ++ record { expr = r.expr; text = u } ∷ [])) (sym k.tells.cursor)
@@ -57,7 +57,7 @@ edit_moves s h t u r k d = record {
   text = sym (text_after h.first (record { expr = r.expr; text = u }) h.later h.at k.tells.within);
 }
 
-undo_moves : (s : State) (h : History) (t u : List ℕ) (r : Patch) → AtRest s t h → 0 < s.at → slice_get s.records (s.at - 1) ≡ Some r → undone r t ≡ Some u → AtRest (moved s Undo) u (after_undo h)
+undo_moves : (s : State) (h : History) (t u : List ℕ) (r : Record) → AtRest s t h → 0 < s.at → slice_get s.records (s.at - 1) ≡ Some r → undone r t ≡ Some u → AtRest (moved s Undo) u (after_undo h)
 undo_moves s h t u r k pos is d =
     let place : suc (s.at - 1) ≡ h.at = omega (arith, k.tells.cursor) in
     let leads : done r (text_behind h.first h.later (s.at - 1)) ≡ Some t =
@@ -72,7 +72,7 @@ undo_moves s h t u r k pos is d =
       text = same_Some u (text_at (after_undo h)) (sym d ∙ back ∙ ap (λ n. Some (text_behind h.first h.later (n - 1))) k.tells.cursor);
     }
 
-redo_moves : (s : State) (h : History) (t u : List ℕ) (r : Patch) → AtRest s t h → slice_get s.records s.at ≡ Some r → done r t ≡ Some u → AtRest (moved s Redo) u (after_redo h)
+redo_moves : (s : State) (h : History) (t u : List ℕ) (r : Record) → AtRest s t h → slice_get s.records s.at ≡ Some r → done r t ≡ Some u → AtRest (moved s Redo) u (after_redo h)
 redo_moves s h t u r k is d =
     let leads : done r t ≡ Some (text_behind h.first h.later (suc s.at)) =
     ap (done r) (k.text ∙ ap (text_behind h.first h.later) (sym k.tells.cursor)) ∙ leads_at h.first s.records h.later s.at r k.tells.leads is in

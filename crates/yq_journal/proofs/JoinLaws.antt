@@ -3,8 +3,8 @@ use Rattle.std.proofs.Common.{◌≡◌, ℕ, ◌≤◌, ◌<◌, List, [], ◌�
 use Rattle.std.specs.Prelude.{◌==◌, ◌&&◌, Bool, false, option_and_then, slice_get, take}
 use Prim.Native.Nat.{zero}
 use Rattle.std.proofs.lemmas.Bool.{eqb-true, and_parts}
-use Rattle.yq_script.specs.Patch.{lengths_done}
-use Rattle.yq_script.proofs.PatchLaws.{lengths_done-append}
+use Rattle.yq_script.specs.Splice.{lengths_done}
+use Rattle.yq_script.proofs.SpliceLaws.{lengths_done-append}
 use Rattle.std.specs.Prelude.{◌+◌, ◌-◌, drop, if◌then◌else◌, nat_le}
 use Rattle.std.specs.Cmp.Derive.{both_true}
 use Rattle.std.proofs.Common.{sym, get_or, take_all}
@@ -16,38 +16,38 @@ use Rattle.yq_journal.specs.declared.fault.JournalFault.{JournalFault}
 use Rattle.yq_journal.specs.declared.fault.JournalFault.TheVariants.{BadCount}
 use Rattle.yq_journal.specs.Refusals.{Tells, count_fault}
 use Rattle.yq_journal.specs.State.{last_done}
-use Rattle.yq_journal.specs.Record.{Patch, IsRecord, join, joined, meet}
+use Rattle.yq_journal.specs.Record.{Record, IsRecord, join, joined, meet}
 
 -- fewer than two records meet
-pub short_meet : (rs : List Patch) → length rs < 2 → meet rs ≡ true
+pub short_meet : (rs : List Record) → length rs < 2 → meet rs ≡ true
 short_meet [] h = refl
 short_meet (r ∷ []) h = refl
 short_meet (r ∷ q ∷ rs) h = absurd (omega arith)
 
 -- one more record is joined to those before it
-pub joined-push : (r : Patch) (rs : List Patch) (q : Patch) → joined r (rs ++ q ∷ []) ≡ join (joined r rs) q
+pub joined-push : (r : Record) (rs : List Record) (q : Record) → joined r (rs ++ q ∷ []) ≡ join (joined r rs) q
 joined-push r [] q = refl
 joined-push r (p ∷ rs) q = joined-push (join r p) rs q
 
 -- records that meet are one record together
-pub IsRecord-join : (r q : Patch) → IsRecord r → IsRecord q → r.after_len ≡ q.before_len → IsRecord (join r q)
+pub IsRecord-join : (r q : Record) → IsRecord r → IsRecord q → r.after_len ≡ q.before_len → IsRecord (join r q)
 IsRecord-join r q h k meets = record {
   counted = omega (arith, h.counted);
   lengths = lengths_done-append r.changes q.changes r.before_len ∙ ap (option_and_then (lengths_done q.changes)) h.lengths ∙ ap (lengths_done q.changes) meets ∙ k.lengths;
 }
 
-meet_join : (r p : Patch) (rs : List Patch) → meet (p ∷ rs) ≡ true → meet (join r p ∷ rs) ≡ true
+meet_join : (r p : Record) (rs : List Record) → meet (p ∷ rs) ≡ true → meet (join r p ∷ rs) ≡ true
 meet_join r p [] h = refl
 meet_join r p (q ∷ rs) h = h
 
 -- what is joined so far ends with the length with which the next record begins
-pub joined_meets : (r : Patch) (rs : List Patch) (i : ℕ) (q : Patch) → meet (r ∷ rs) ≡ true → slice_get rs i ≡ Some q → (joined r (take i rs)).after_len ≡ q.before_len
+pub joined_meets : (r : Record) (rs : List Record) (i : ℕ) (q : Record) → meet (r ∷ rs) ≡ true → slice_get rs i ≡ Some q → (joined r (take i rs)).after_len ≡ q.before_len
 joined_meets r [] i q h is = cc
-joined_meets r (p ∷ rs) zero q h is = let same : p ≡ q = cc in eqb-true r.after_len p.before_len (and_parts (r.after_len == p.before_len) (meet (p ∷ rs)) h).0 ∙ ap (λ (x : Patch). x.before_len) same
+joined_meets r (p ∷ rs) zero q h is = let same : p ≡ q = cc in eqb-true r.after_len p.before_len (and_parts (r.after_len == p.before_len) (meet (p ∷ rs)) h).0 ∙ ap (λ (x : Record). x.before_len) same
 joined_meets r (p ∷ rs) (suc i) q h is = joined_meets (join r p) rs i q (meet_join r p rs (and_parts (r.after_len == p.before_len) (meet (p ∷ rs)) h).1) is
 
 -- the records from a place up to the cursor, cut from either side
-pub slice_run : (rs : List Patch) (at i : ℕ) → i ≤ at → take (at - i) (drop i rs) ≡ drop i (take at rs)
+pub slice_run : (rs : List Record) (at i : ℕ) → i ≤ at → take (at - i) (drop i rs) ≡ drop i (take at rs)
 slice_run rs at i h =
     let whole : i + (at - i) ≡ at = omega arith in
     sym (drop-take i (at - i) rs) ∙ ap (λ n. drop i (take n rs)) whole
@@ -57,14 +57,14 @@ never true = refl
 never false = refl
 
 -- what is refused as a bad count, and what isn't refused
-pub bad_count : (rs : List Patch) (at n : ℕ) → meet (last_done rs at n) ≡ false → count_fault rs at n ≡ Some BadCount
+pub bad_count : (rs : List Record) (at n : ℕ) → meet (last_done rs at n) ≡ false → count_fault rs at n ≡ Some BadCount
 bad_count rs at n h = ap (λ b. if nat_le 1 n && nat_le n at && b then None else Some BadCount) h ∙ never (nat_le 1 n && nat_le n at)
 
-pub good_count : (rs : List Patch) (at n : ℕ) → 1 ≤ n → n ≤ at → meet (last_done rs at n) ≡ true → count_fault rs at n ≡ None
+pub good_count : (rs : List Record) (at n : ℕ) → 1 ≤ n → n ≤ at → meet (last_done rs at n) ≡ true → count_fault rs at n ≡ None
 good_count rs at n some fits h = ap (λ b. if b then None else Some BadCount) (both_true (both_true (le-leb 1 n some) (le-leb n at fits)) h)
 
 -- a list that isn't empty is its first element and the rest
-pub split_first : (rs : List Patch) (r : Patch) → 1 ≤ length rs → r ≡ get_or rs 0 r → rs ≡ r ∷ take (length rs - 1) (drop 1 rs)
+pub split_first : (rs : List Record) (r : Record) → 1 ≤ length rs → r ≡ get_or rs 0 r → rs ≡ r ∷ take (length rs - 1) (drop 1 rs)
 split_first [] r some is = absurd (omega arith)
 split_first (q ∷ rs) r some is =
     let one : suc (length rs) - 1 ≡ length rs = omega arith in

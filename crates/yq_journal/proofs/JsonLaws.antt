@@ -14,7 +14,7 @@ use Rattle.serde_json.specs.Read.{read}
 use Rattle.serde_json.specs.View.{items_of, members_view}
 use Rattle.serde_json.specs.declared.value.Value.{Value}
 use Rattle.yq_journal.specs.Json.{count_members, counts, and_more, all_of, can_move, is_sound, record_of, pending_of, state_from, state_of, journal_of, journal_object}
-use Rattle.yq_journal.specs.Record.{Patch}
+use Rattle.yq_journal.specs.Record.{Record}
 use Rattle.yq_journal.specs.Refusals.{most_records, CanMove, IsSound, way_fault}
 use Rattle.yq_journal.specs.State.{Pending, State, moved_text, is_text}
 
@@ -48,7 +48,7 @@ not_reached (Some u) t h e =
     let no : not true ≡ true = ap not (sym yes) ∙ h in
     cc
 
-can_move-move : (rs : List Patch) (at : ℕ) (p : Pending) → can_move rs at (Some p) ≡ true → CanMove rs at p.step p.from
+can_move-move : (rs : List Record) (at : ℕ) (p : Pending) → can_move rs at (Some p) ≡ true → CanMove rs at p.step p.from
 can_move-move rs at p h = record {
   stands = none_of (way_fault rs at p.step p.from) (and_parts (not (is_some (way_fault rs at p.step p.from))) _ h).0;
   changes = not_reached (moved_text rs at p.step p.from) p.from (and_parts (not (is_some (way_fault rs at p.step p.from))) _ h).1;
@@ -104,7 +104,7 @@ reached_other (Some u) t d = elim (bytes_eq u t) as (λ b. bytes_eq u t ≡ b �
   | false ↦ λ e. refl
 ] refl
 
-move-can_move : (rs : List Patch) (at : ℕ) (o : Option Pending) → ForSome o (λ p. CanMove rs at p.step p.from) → can_move rs at o ≡ true
+move-can_move : (rs : List Record) (at : ℕ) (o : Option Pending) → ForSome o (λ p. CanMove rs at p.step p.from) → can_move rs at o ≡ true
 move-can_move rs at None h = refl
 move-can_move rs at (Some p) h =
     both_true (is_some-none (way_fault rs at p.step p.from) (h p refl).stands) (reached_other (moved_text rs at p.step p.from) p.from (h p refl).changes)

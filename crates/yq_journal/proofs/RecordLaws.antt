@@ -3,9 +3,9 @@ use Rattle.std.proofs.Common.{◌≡◌, ◌==◌, ℕ, ◌-◌, ◌≤◌, ◌<
 use Rattle.std.specs.Prelude.{option_and_then}
 use Rattle.std.proofs.lemmas.Bool.{eqb-true}
 use Rattle.std.proofs.lemmas.Grind.{common_steps}
-use Rattle.yq_script.specs.Patch.{Splice, swapped, change_done, all_done, flipped}
-use Rattle.yq_script.proofs.PatchLaws.{taken_back, done_again, flipped-append}
-use Rattle.yq_journal.specs.Record.{Patch, if_length, done, undone}
+use Rattle.yq_script.specs.Splice.{Splice, swapped, change_done, all_done, flipped}
+use Rattle.yq_script.proofs.SpliceLaws.{taken_back, done_again, flipped-append}
+use Rattle.yq_journal.specs.Record.{Record, if_length, done, undone}
 
 -- what a record that stands says of the two texts
 pub record Stands (before_len after_len : ℕ) (changes : List Splice) (b c : List ℕ) : Type 0 where
@@ -35,13 +35,13 @@ stands_of n m ss b c h =
     ] refl h
 
 -- what was done is undone, on every text on which it was done
-pub undone_after_done : (r : Patch) (b c : List ℕ) → done r b ≡ Some c → undone r c ≡ Some b
+pub undone_after_done : (r : Record) (b c : List ℕ) → done r b ≡ Some c → undone r c ≡ Some b
 undone_after_done r b c e =
     let h = stands_of r.before_len r.after_len r.changes b c e in
     of_stands r.after_len r.before_len (flipped r.changes) c b (record { starts = h.ends; leads = taken_back r.changes b c h.leads; ends = h.starts })
 
 -- and the other way round
-pub done_after_undone : (r : Patch) (b c : List ℕ) → undone r c ≡ Some b → done r b ≡ Some c
+pub done_after_undone : (r : Record) (b c : List ℕ) → undone r c ≡ Some b → done r b ≡ Some c
 done_after_undone r b c e =
     let h = stands_of r.after_len r.before_len (flipped r.changes) c b e in
     of_stands r.before_len r.after_len r.changes b c (record { starts = h.ends; leads = done_again r.changes b c h.leads; ends = h.starts })

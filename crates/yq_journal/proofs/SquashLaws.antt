@@ -5,18 +5,18 @@ use Rattle.std.specs.Cmp.Derive.{both_true}
 use Prim.Native.Nat.{zero}
 use Rattle.std.proofs.Math.Bool.{and-true}
 use Rattle.std.proofs.lemmas.List.{length-take-le, take-append-drop, take-take}
-use Rattle.yq_script.specs.Patch.{all_done}
-use Rattle.yq_script.proofs.PatchLaws.{all_done-append}
+use Rattle.yq_script.specs.Splice.{all_done}
+use Rattle.yq_script.proofs.SpliceLaws.{all_done-append}
 use Rattle.yq_journal.specs.declared.fault.JournalFault.TheVariants.{BadCount, Unsettled}
 use Rattle.yq_journal.specs.Good.{Leads, AtRest, squash_refusal}
 use Rattle.yq_journal.specs.History.{History, Revision, text_behind, text_at, latest, latest_of, after_squash}
-use Rattle.yq_journal.specs.Record.{Patch, done, join, joined, meet}
+use Rattle.yq_journal.specs.Record.{Record, done, join, joined, meet}
 use Rattle.yq_journal.specs.Refusals.{squash_fault}
 use Rattle.yq_journal.specs.State.{State, joined_of, last_done, squashed}
 use Rattle.yq_journal.proofs.RecordLaws.{stands_of, of_stands}
 
 -- one record done after the other is their join done
-done_join : (r q : Patch) (b c d : List ℕ) → done r b ≡ Some c → done q c ≡ Some d → done (join r q) b ≡ Some d
+done_join : (r q : Record) (b c d : List ℕ) → done r b ≡ Some c → done q c ≡ Some d → done (join r q) b ≡ Some d
 done_join r q b c d e f =
     let h = stands_of r.before_len r.after_len r.changes b c e in
     let k = stands_of q.before_len q.after_len q.changes c d f in
@@ -47,14 +47,14 @@ unfolding text_end
 text_end-append t [] fs = refl
 text_end-append t (e ∷ es) fs = text_end-append e.text es fs
 
-leads_take : (t : List ℕ) (rs : List Patch) (es : List Revision) (n : ℕ) → Leads t rs es → Leads t (take n rs) (take n es)
+leads_take : (t : List ℕ) (rs : List Record) (es : List Revision) (n : ℕ) → Leads t rs es → Leads t (take n rs) (take n es)
 leads_take t rs es zero l = tt
 leads_take t [] [] (suc n) l = tt
 leads_take t (r ∷ rs) (e ∷ es) (suc n) l = (l.0, l.1, leads_take e.text rs es n l.2)
 leads_take t [] (e ∷ es) (suc n) l = absurd l
 leads_take t (r ∷ rs) [] (suc n) l = absurd l
 
-leads_drop : (t : List ℕ) (rs : List Patch) (es : List Revision) (n : ℕ) → Leads t rs es → Leads (text_end t (take n es)) (drop n rs) (drop n es)
+leads_drop : (t : List ℕ) (rs : List Record) (es : List Revision) (n : ℕ) → Leads t rs es → Leads (text_end t (take n es)) (drop n rs) (drop n es)
 unfolding text_end
 leads_drop t rs es zero l = l
 leads_drop t [] [] (suc n) l = tt
@@ -62,7 +62,7 @@ leads_drop t (r ∷ rs) (e ∷ es) (suc n) l = leads_drop e.text rs es n l.2
 leads_drop t [] (e ∷ es) (suc n) l = absurd l
 leads_drop t (r ∷ rs) [] (suc n) l = absurd l
 
-leads_append : (t : List ℕ) (rs qs : List Patch) (es fs : List Revision) → Leads t rs es → Leads (text_end t es) qs fs → Leads t (rs ++ qs) (es ++ fs)
+leads_append : (t : List ℕ) (rs qs : List Record) (es fs : List Revision) → Leads t rs es → Leads (text_end t es) qs fs → Leads t (rs ++ qs) (es ++ fs)
 unfolding text_end
 leads_append t [] qs [] fs l k = k
 leads_append t (r ∷ rs) qs (e ∷ es) fs l k = (l.0, l.1, leads_append e.text rs qs es fs l.2 k)
@@ -70,7 +70,7 @@ leads_append t [] qs (e ∷ es) fs l k = absurd l
 leads_append t (r ∷ rs) qs [] fs l k = absurd l
 
 -- a run of records and its join lead from the one text to the other
-leads_joined : (t : List ℕ) (r : Patch) (rs : List Patch) (e : Revision) (es : List Revision) → Leads t (r ∷ rs) (e ∷ es) → Leads t (joined r rs ∷ []) (latest e es ∷ [])
+leads_joined : (t : List ℕ) (r : Record) (rs : List Record) (e : Revision) (es : List Revision) → Leads t (r ∷ rs) (e ∷ es) → Leads t (joined r rs ∷ []) (latest e es ∷ [])
 leads_joined t r [] e [] l = (l.0, l.1, tt)
 leads_joined t r (q ∷ rs) e (f ∷ es) l =
     leads_joined t (join r q) rs (record { expr = e.expr ++ codes " | " ++ f.expr; text = f.text }) es
@@ -78,7 +78,7 @@ leads_joined t r (q ∷ rs) e (f ∷ es) l =
 leads_joined t r [] e (f ∷ es) l = absurd l.2
 leads_joined t r (q ∷ rs) e [] l = absurd l.2
 
-leads_joined_of : (t : List ℕ) (rs : List Patch) (es : List Revision) → Leads t rs es → Leads t (joined_of rs) (latest_of es)
+leads_joined_of : (t : List ℕ) (rs : List Record) (es : List Revision) → Leads t rs es → Leads t (joined_of rs) (latest_of es)
 leads_joined_of t [] [] l = tt
 leads_joined_of t (r ∷ rs) (e ∷ es) l = leads_joined t r rs e es l
 leads_joined_of t [] (e ∷ es) l = absurd l
@@ -99,7 +99,7 @@ length-latest_of [] h = absurd (omega arith)
 length-latest_of (e ∷ es) h = refl
 
 -- records that lead through texts have lengths that meet
-leads_meet : (t : List ℕ) (rs : List Patch) (es : List Revision) → Leads t rs es → meet rs ≡ true
+leads_meet : (t : List ℕ) (rs : List Record) (es : List Revision) → Leads t rs es → meet rs ≡ true
 leads_meet t [] es l = refl
 leads_meet t (r ∷ []) es l = refl
 leads_meet t (r ∷ q ∷ rs) (e ∷ f ∷ es) l =

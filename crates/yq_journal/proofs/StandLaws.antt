@@ -8,9 +8,9 @@ use Rattle.std.proofs.lemmas.Bool.{le-leb, leb-true, lt-ltb, ltb-true}
 use Rattle.std.proofs.lemmas.Bool.Decides.{nat_tests}
 use Rattle.std.proofs.lemmas.List.{take-append-drop, length-take-le}
 use Rattle.std.proofs.lemmas.Option.{none-some, same_Some}
-use Rattle.yq_script.specs.Patch.{Splice, swapped, change_done, all_done, flipped, length_done, lengths_done}
+use Rattle.yq_script.specs.Splice.{Splice, swapped, change_done, all_done, flipped, length_done, lengths_done}
 use Rattle.yq_script.proofs.PlaceInList.{split_at, take_next}
-use Rattle.yq_script.proofs.PatchLaws.{done-from_exchanges, exchanges-from_done, all_done-append, lengths_done-append}
+use Rattle.yq_script.proofs.SpliceLaws.{done-from_exchanges, exchanges-from_done, all_done-append, lengths_done-append}
 use Rattle.yq_journal.specs.Turned.{turned}
 use Rattle.yq_journal.proofs.GapLaws.{none_done}
 use Rattle.yq_journal.specs.Record.{if_length}

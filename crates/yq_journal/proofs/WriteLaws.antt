@@ -11,10 +11,10 @@ use Rattle.serde_json.specs.Data.{Data, depth, items_depth}
 use Rattle.serde_json.specs.Read.{read, max_depth, of_json}
 use Rattle.serde_json.specs.View.{items_of}
 use Rattle.serde_json.specs.Written.{IsInOrder, has_float, items_have_float}
-use Rattle.yq_script.specs.Patch.{Splice}
+use Rattle.yq_script.specs.Splice.{Splice}
 use Rattle.yq_journal.specs.declared.moves.Move.TheVariants.{Edit, Undo, Redo}
 use Rattle.yq_journal.specs.Json.{change_data, record_data, pending_data, journal_data, journal_of, journal_in}
-use Rattle.yq_journal.specs.Record.{Patch}
+use Rattle.yq_journal.specs.Record.{Record}
 use Rattle.yq_journal.specs.State.{Pending, State}
 use Rattle.yq_journal.proofs.LineFeed.{tokens_of_line}
 
@@ -22,10 +22,10 @@ no_float_changes : (cs : List Splice) → items_have_float (items_of (map change
 no_float_changes [] = refl
 no_float_changes (c ∷ cs) = no_float_changes cs
 
-no_float_record : (r : Patch) → has_float (record_data r) ≡ false
+no_float_record : (r : Record) → has_float (record_data r) ≡ false
 no_float_record r = ap (λ b. b || false) (no_float_changes r.changes)
 
-no_float_records : (rs : List Patch) → items_have_float (items_of (map record_data rs)) ≡ false
+no_float_records : (rs : List Record) → items_have_float (items_of (map record_data rs)) ≡ false
 no_float_records [] = refl
 no_float_records (r ∷ rs) = ap (λ b. b || items_have_float (items_of (map record_data rs))) (no_float_record r) ∙ no_float_records rs
 
@@ -47,10 +47,10 @@ flat_changes : (cs : List Splice) → items_depth (items_of (map change_data cs)
 flat_changes [] = omega arith
 flat_changes (c ∷ cs) = let more : items_depth (items_of (map change_data cs)) ≤ 1 = flat_changes cs in omega arith
 
-flat_record : (r : Patch) → depth (record_data r) ≤ 3
+flat_record : (r : Record) → depth (record_data r) ≤ 3
 flat_record r = let f : items_depth (items_of (map change_data r.changes)) ≤ 1 = flat_changes r.changes in omega arith
 
-flat_records : (rs : List Patch) → items_depth (items_of (map record_data rs)) ≤ 3
+flat_records : (rs : List Record) → items_depth (items_of (map record_data rs)) ≤ 3
 flat_records [] = omega arith
 flat_records (r ∷ rs) =
     let first : depth (record_data r) ≤ 3 = flat_record r in

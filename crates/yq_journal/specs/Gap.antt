@@ -1,6 +1,6 @@
 -- A text cut in two at a cursor.
 use Rattle.std.specs.Prelude.{List, ℕ, ◌++◌}
-use Rattle.yq_script.specs.Patch.{Splice}
+use Rattle.yq_script.specs.Splice.{Splice}
 
 -- what stands before the cursor, and what behind it (own)
 pub record Cut : Type 0 where

@@ -5,20 +5,20 @@ use Rattle.yq_journal.specs.declared.fault.JournalFault.TheVariants.{NothingToUn
 use Rattle.yq_journal.specs.declared.moves.Move.{Move}
 use Rattle.yq_journal.specs.declared.moves.Move.TheVariants.{Edit, Undo, Redo}
 use Rattle.yq_journal.specs.History.{History, Revision, text_at, after_edit, after_undo, after_redo}
-use Rattle.yq_journal.specs.Record.{Patch, done}
+use Rattle.yq_journal.specs.Record.{Record, done}
 use Rattle.yq_journal.specs.Json.{journal_in}
 use Rattle.yq_journal.specs.Refusals.{most_records}
 use Rattle.yq_journal.specs.State.{State, Pending, empty_state, moved_text}
 
 -- each record leads from a text to the next, and has its expression (own)
-abbrev pub Leads : List ℕ → List Patch → List Revision → Type 0
+abbrev pub Leads : List ℕ → List Record → List Revision → Type 0
 Leads t [] [] = Unit {0}
 Leads t (r ∷ rs) (e ∷ es) = (r.expr ≡ e.expr) × (done r t ≡ Some e.text) × Leads e.text rs es
 Leads t [] (e ∷ es) = ⊥
 Leads t (r ∷ rs) [] = ⊥
 
 -- a journal's records lead through a history, and both have one cursor (own)
-pub record Tells (s : State) (h : History) : Type 0 where
+pub record TellsHistory (s : State) (h : History) : Type 0 where
   pub leads : Leads h.first s.records h.later
   pub cursor : s.at ≡ h.at
   pub within : h.at ≤ length h.later
@@ -31,13 +31,13 @@ after_move h Redo u = after_redo h
 
 -- no open move: the text is that at the cursor (own)
 pub record AtRest (s : State) (t : List ℕ) (h : History) : Type 0 where
-  pub tells : Tells s h
+  pub tells : TellsHistory s h
   pub text : t ≡ text_at h
 
 -- an open move: the journal tells the history before it and keeps the text at its cursor, which the move changes; the text is that one, or the one to which the move leads, with the history after it (own)
 pub record Underway (s : State) (p : Pending) (t : List ℕ) (h : History) : Type 0 where
   pub before : History
-  pub tells : Tells s before
+  pub tells : TellsHistory s before
   pub from : p.from ≡ text_at before
   pub to : List ℕ
   pub moves : moved_text s.records s.at p.step p.from ≡ Some to

@@ -9,10 +9,10 @@ use Rattle.serde_json.specs.View.{items_of}
 use Rattle.serde_json.specs.Written.{compact_text}
 use Rattle.base64.specs.GeneralPurpose.{encode_of, decode_of}
 use Rattle.base64.specs.Engines.{standard}
-use Rattle.yq_script.specs.Patch.{Splice, lengths_done}
+use Rattle.yq_script.specs.Splice.{Splice, lengths_done}
 use Rattle.yq_journal.specs.declared.moves.Move.{Move}
 use Rattle.yq_journal.specs.declared.moves.Move.TheVariants.{Edit, Undo, Redo}
-use Rattle.yq_journal.specs.Record.{Patch}
+use Rattle.yq_journal.specs.Record.{Record}
 use Rattle.yq_journal.specs.State.{Pending, State, state, moved_text, is_text}
 use Rattle.yq_journal.specs.Refusals.{most_records, way_fault}
 
@@ -35,12 +35,12 @@ abbrev pub number_at : List ℕ → Data → Option ℕ
 number_at k d = option_and_then as_u64 (option_and_then as_number (get k d))
 
 -- the text under a key (RFC 8259, section 7)
-abbrev pub text_at : List ℕ → Data → Option (List ℕ)
-text_at k d = option_and_then as_str (get k d)
+abbrev pub string_at : List ℕ → Data → Option (List ℕ)
+string_at k d = option_and_then as_str (get k d)
 
 -- the bytes under a key (RFC 4648, section 4)
 abbrev pub bytes_at : List ℕ → Data → Option (List ℕ)
-bytes_at k d = option_and_then (λ s. result_ok (decode_of standard s)) (text_at k d)
+bytes_at k d = option_and_then (λ s. result_ok (decode_of standard s)) (string_at k d)
 
 -- a list, and each thing in it (own)
 abbrev pub and_more : {A : Type 0} → Option A → Option (List A) → Option (List A)
@@ -78,11 +78,11 @@ is_length None n = false
 is_length (Some m) n = m == n
 
 -- whether a record stands for an edit at least, and its splices lead from its one length to its other (own)
-abbrev pub is_record : Patch → Bool
+abbrev pub is_record : Record → Bool
 is_record r = nat_le 1 r.count && is_length (lengths_done r.changes r.before_len) r.after_len
 
 -- a record of these parts, if it is one (own)
-abbrev pub record_from : Option (List ℕ) → Option (List Splice) → Option ℕ → Option ℕ → Option ℕ → Option Patch
+abbrev pub record_from : Option (List ℕ) → Option (List Splice) → Option ℕ → Option ℕ → Option ℕ → Option Record
 record_from None changes before after count = None
 record_from (Some e) None before after count = None
 record_from (Some e) (Some cs) None after count = None
@@ -104,13 +104,13 @@ record_keys true = 5
 record_keys false = 4
 
 -- the record that a value stands for: the keys are after_len, before_len, count (from version 2), expr, splices (own)
-unfoldable pub record_of : Bool → Data → Option Patch
+unfoldable pub record_of : Bool → Data → Option Record
 record_of counted d = if has_keys (record_keys counted) d
-    then record_from (text_at (codes "expr") d) (option_and_then changes_of (get (codes "splices") d)) (number_at (codes "before_len") d) (number_at (codes "after_len") d) (count_at counted d)
+    then record_from (string_at (codes "expr") d) (option_and_then changes_of (get (codes "splices") d)) (number_at (codes "before_len") d) (number_at (codes "after_len") d) (count_at counted d)
     else None
 
 -- the records that a value stands for (own)
-abbrev pub records_of : Bool → Data → Option (List Patch)
+abbrev pub records_of : Bool → Data → Option (List Record)
 records_of counted d = option_and_then (all_of (record_of counted)) (as_array d)
 
 -- ---- an open move
@@ -138,7 +138,7 @@ open_from (Some step) (Some from) = Some (record { step = step; from = from })
 
 -- the move under the keys kind and record (own)
 abbrev pub move_at : Bool → Data → Option Move
-move_at counted d = option_and_then (λ kind. option_and_then (move_of counted kind) (get (codes "record") d)) (text_at (codes "kind") d)
+move_at counted d = option_and_then (λ kind. option_and_then (move_of counted kind) (get (codes "record") d)) (string_at (codes "kind") d)
 
 -- the open move that a value stands for: the keys are from, kind, record (own)
 unfoldable pub open_of : Bool → Data → Option Pending
@@ -151,7 +151,7 @@ pending_of counted d = if is_some (as_null d) then Some None else option_map Som
 -- ---- a journal
 
 -- whether an open move stands on its text and changes it (own)
-abbrev pub can_move : List Patch → ℕ → Option Pending → Bool
+abbrev pub can_move : List Record → ℕ → Option Pending → Bool
 can_move records at None = true
 can_move records at (Some p) = not (is_some (way_fault records at p.step p.from)) && not (is_text (moved_text records at p.step p.from) p.from)
 
@@ -160,7 +160,7 @@ unfoldable pub is_sound : State → Bool
 is_sound s = nat_le (length s.records) most_records && nat_le s.at (length s.records) && can_move s.records s.at s.pending
 
 -- a journal of these parts, if it is one (own)
-abbrev pub state_from : Option ℕ → Option (Option Pending) → Option (List Patch) → Option State
+abbrev pub state_from : Option ℕ → Option (Option Pending) → Option (List Record) → Option State
 state_from None pending records = None
 state_from (Some at) None records = None
 state_from (Some at) (Some p) None = None
@@ -197,7 +197,7 @@ abbrev pub change_data : Splice → Data
 change_data c = object (member (codes "at") (number (unsigned c.at)) (member (codes "new") (bytes_data c.new) (member (codes "old") (bytes_data c.old) no_members)))
 
 -- a record as a value (own)
-abbrev pub record_data : Patch → Data
+abbrev pub record_data : Record → Data
 record_data r = object (member (codes "after_len") (number (unsigned r.after_len)) (member (codes "before_len") (number (unsigned r.before_len))
     (member (codes "count") (number (unsigned r.count)) (member (codes "expr") (string r.expr) (member (codes "splices") (array (list_data change_data r.changes)) no_members)))))
 

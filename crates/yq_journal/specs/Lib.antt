@@ -6,4 +6,4 @@ pub mod Record
 pub mod Refusals
 pub mod State
 pub mod Turned
-pub use Rattle.yq_script.specs.Patch
+pub use Rattle.yq_script.specs.Splice

@@ -7,7 +7,7 @@ use Rattle.yq_journal.specs.declared.fault.JournalError.{JournalError}
 use Rattle.yq_journal.specs.declared.fault.JournalError.TheVariants as error
 use Rattle.yq_journal.specs.declared.moves.Move.{Move}
 use Rattle.yq_journal.specs.declared.moves.Move.TheVariants.{Edit, Undo, Redo}
-use Rattle.yq_journal.specs.Record.{Patch, meet}
+use Rattle.yq_journal.specs.Record.{Record, meet}
 use Rattle.yq_journal.specs.State.{State, moved_text, last_done}
 
 -- an error names the fault; want of memory says nothing (own)
@@ -25,7 +25,7 @@ abbrev pub most_records : ℕ
 most_records = 4096
 
 -- an edit needs room, an undo and a redo a record to move over (own)
-abbrev pub no_way : List Patch → ℕ → Move → Option JournalFault
+abbrev pub no_way : List Record → ℕ → Move → Option JournalFault
 no_way records at (Edit r) = if nat_le most_records at then Some JournalFull else None
 no_way records at Undo = if at == 0 then Some NothingToUndo else None
 no_way records at Redo = if nat_le (length records) at then Some NothingToRedo else None
@@ -41,7 +41,7 @@ if_journal None = Some BadJournal
 if_journal (Some s) = None
 
 -- the first fault of a move on a text, where no move is open (own)
-abbrev pub way_fault : List Patch → ℕ → Move → List ℕ → Option JournalFault
+abbrev pub way_fault : List Record → ℕ → Move → List ℕ → Option JournalFault
 way_fault records at step t = option_or (no_way records at step) (if_moves (moved_text records at step t))
 
 -- the first fault of a move on a text (own)
@@ -49,11 +49,11 @@ abbrev pub move_fault : State → Move → List ℕ → Option JournalFault
 move_fault s step t = if is_some s.pending then Some Unsettled else way_fault s.records s.at step t
 
 -- the first fault of a record that is pushed (own)
-abbrev pub push_fault : State → Patch → Option JournalFault
+abbrev pub push_fault : State → Record → Option JournalFault
 push_fault s r = if is_some s.pending then Some Unsettled else no_way s.records s.at (Edit r)
 
 -- the fault of joining the last n records up to the cursor: there are so many, at least one, and each ends with the length with which the next one begins (own)
-abbrev pub count_fault : List Patch → ℕ → ℕ → Option JournalFault
+abbrev pub count_fault : List Record → ℕ → ℕ → Option JournalFault
 count_fault records at n = if nat_le 1 n && nat_le n at && meet (last_done records at n) then None else Some BadCount
 
 -- the first fault of a squash of the last n done records (own)
@@ -61,7 +61,7 @@ abbrev pub squash_fault : State → ℕ → Option JournalFault
 squash_fault s n = if is_some s.pending then Some Unsettled else count_fault s.records s.at n
 
 -- an open move stands on its text and changes it (own)
-pub record CanMove (records : List Patch) (at : ℕ) (step : Move) (from : List ℕ) : Type 0 where
+pub record CanMove (records : List Record) (at : ℕ) (step : Move) (from : List ℕ) : Type 0 where
   pub stands : way_fault records at step from ≡ None
   pub changes : moved_text records at step from ≢ Some from
 

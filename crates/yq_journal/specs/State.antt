@@ -3,7 +3,7 @@ use Rattle.std.specs.Prelude.{◌==◌, ℕ, ◌+◌, ◌-◌, Bool, false, List
 use Rattle.std.specs.Str.{bytes_eq}
 use Rattle.yq_journal.specs.declared.moves.Move.{Move}
 use Rattle.yq_journal.specs.declared.moves.Move.TheVariants.{Edit, Undo, Redo}
-use Rattle.yq_journal.specs.Record.{Patch, done, undone, joined}
+use Rattle.yq_journal.specs.Record.{Record, done, undone, joined}
 
 -- an open move, with the whole text from which it starts (own)
 pub record Pending : Type 0 where
@@ -12,7 +12,7 @@ pub record Pending : Type 0 where
 
 -- a journal: its records, a cursor, which says how many of them are done, and perhaps an open move (own)
 pub record State : Type 0 where
-  pub records : List Patch
+  pub records : List Record
   pub at : ℕ
   pub pending : Option Pending
 
@@ -21,7 +21,7 @@ abbrev pub empty_state : State
 empty_state = record { records = []; at = 0; pending = None }
 
 -- the text that a move leads to from this one, where it stands (own)
-abbrev pub moved_text : List Patch → ℕ → Move → List ℕ → Option (List ℕ)
+abbrev pub moved_text : List Record → ℕ → Move → List ℕ → Option (List ℕ)
 moved_text records at (Edit r) t = done r t
 moved_text records at Undo t = if at == 0 then None else option_and_then (λ r. undone r t) (slice_get records (at - 1))
 moved_text records at Redo t = option_and_then (λ r. done r t) (slice_get records at)
@@ -58,12 +58,12 @@ abbrev pub settled : State → List ℕ → Option State
 settled s t = settled_pending s s.pending t
 
 -- several records as one, none as none (own)
-abbrev pub joined_of : List Patch → List Patch
+abbrev pub joined_of : List Record → List Record
 joined_of [] = []
 joined_of (r ∷ rs) = joined r rs ∷ []
 
 -- the last n records up to the cursor (own)
-abbrev pub last_done : List Patch → ℕ → ℕ → List Patch
+abbrev pub last_done : List Record → ℕ → ℕ → List Record
 last_done records at n = drop (at - n) (take at records)
 
 -- the journal with its last n done records joined into one (own)
@@ -75,5 +75,5 @@ squashed s n = record {
 }
 
 -- a journal of these parts (own)
-abbrev pub state : List Patch → ℕ → Option Pending → State
+abbrev pub state : List Record → ℕ → Option Pending → State
 state records at pending = record { records = records; at = at; pending = pending }

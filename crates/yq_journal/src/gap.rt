@@ -1,7 +1,7 @@
 //! A text with a gap at a cursor, where splices are done in turn.
 ghost use Rattle.std.specs.Prelude.{◌≡◌, ◌↔◌, ◌+◌, ◌<◌, ◌≤◌, [], ◌++◌, false, None, Some, IsTrue, IfOk, OnOk, length, drop, option_map, reverse, if◌then◌else◌};
 ghost use Rattle.yq_journal.specs.Gap.{change, whole};
-ghost use Rattle.yq_script.specs.Patch.{all_done, change_done, flipped};
+ghost use Rattle.yq_script.specs.Splice.{all_done, change_done, flipped};
 
 use std::alloc::{AllocError, Global};
 use std::marker::Model;

@@ -2,7 +2,7 @@
 ghost use Rattle.std.specs.Prelude.{◌≡◌, ◌≢◌, ◌≤◌, ℕ, List, None, Some, length};
 ghost use Rattle.yq_journal.specs.Good.{AtRest, Describes, Rests, after_move, squash_refusal, step_fault};
 ghost use Rattle.yq_journal.specs.History.{History, after_squash};
-ghost use Rattle.yq_journal.specs.Record.{Patch, done};
+ghost use Rattle.yq_journal.specs.Record.{Record, done};
 ghost use Rattle.yq_journal.specs.Refusals.{squash_fault, way_fault};
 ghost use Rattle.yq_journal.specs.State.{State, moved, moved_text, opened, settled, squashed};
 ghost use Rattle.yq_journal.specs.declared.moves.Move.{Move};
@@ -32,7 +32,7 @@ pub fn settling_rests()
 pub fn faults_are_of_history()
     ensures undo { (s : State) (t : List ℕ) (h : History) → AtRest s t h → way_fault s.records s.at Undo t ≡ step_fault h Undo }
     ensures redo { (s : State) (t : List ℕ) (h : History) → AtRest s t h → way_fault s.records s.at Redo t ≡ step_fault h Redo }
-    ensures edit { (s : State) (t u : List ℕ) (h : History) (r : Patch) → AtRest s t h → done r t ≡ Some u → way_fault s.records s.at (Edit r) t ≡ step_fault h (Edit r) }
+    ensures edit { (s : State) (t u : List ℕ) (h : History) (r : Record) → AtRest s t h → done r t ≡ Some u → way_fault s.records s.at (Edit r) t ≡ step_fault h (Edit r) }
     ensures squash { (s : State) (t : List ℕ) (h : History) (n : ℕ) → s.pending ≡ None → AtRest s t h → squash_fault s n ≡ squash_refusal h n }
 {}
 

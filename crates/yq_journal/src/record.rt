@@ -1,8 +1,8 @@
 //! A record of an edit, and what it does to a text.
 ghost use Rattle.std.specs.Prelude.{◌≡◌, ◌↔◌, ℕ, List, Some, IfOk, IfErr};
 ghost use Rattle.std.specs.String.{string_bytes};
-ghost use Rattle.yq_script.specs.Patch.{lengths_done};
-ghost use Rattle.yq_journal.specs.Record.{Patch, done, undone};
+ghost use Rattle.yq_script.specs.Splice.{lengths_done};
+ghost use Rattle.yq_journal.specs.Record.{Record, done, undone};
 ghost use Rattle.yq_journal.specs.Refusals.{Names, if_moves};
 
 use crate::fault::{JournalError, JournalFault};
@@ -25,9 +25,9 @@ pub struct Record {
 
 impl Model for Record {
     ghost use Rattle.std.specs.String.{string_bytes};
-    ghost use Rattle.yq_journal.specs.Record.{Patch, IsRecord};
+    ghost use Rattle.yq_journal.specs.Record.{Record, IsRecord};
 
-    ghost Value = { Patch };
+    ghost Value = { Record };
 
     ghost view = { λ r. record { expr = string_bytes r.expr; changes = r.splices.items; before_len = r.before_len; after_len = r.after_len; count = r.count } };
 
@@ -84,5 +84,5 @@ pub fn undo_record(alloc: Global, patch: &Record, text: &[u8]) -> Result<Vec<u8>
 /// What a record did is undone, and what it undid is done again, on every
 /// text on which it stands.
 pub fn record_inverts()
-    ensures { (r : Patch) (b c : List ℕ) → (done r b ≡ Some c) ↔ (undone r c ≡ Some b) }
+    ensures { (r : Record) (b c : List ℕ) → (done r b ≡ Some c) ↔ (undone r c ≡ Some b) }
 {}

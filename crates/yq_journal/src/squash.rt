@@ -22,9 +22,9 @@ struct Parts {
 
 impl Model for Parts {
     ghost use Rattle.std.specs.String.{string_bytes};
-    ghost use Rattle.yq_journal.specs.Record.{Patch};
+    ghost use Rattle.yq_journal.specs.Record.{Record};
 
-    ghost Value = { Patch };
+    ghost Value = { Record };
 
     ghost view = { λ p. record { expr = string_bytes p.expr; changes = p.splices.items; before_len = p.before_len; after_len = p.after_len; count = p.count } };
 }

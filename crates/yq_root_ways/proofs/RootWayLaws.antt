@@ -23,7 +23,7 @@ use Rattle.yq_meaning.specs.Fits.{Fits}
 use Rattle.yq_meaning.specs.Operations.{Operation, replace, append, remove, line_comment, head_comment}
 use Rattle.yq_meaning.specs.Rooms.{room_of}
 use Rattle.yq_script.specs.Script.{Segment, old_text, new_text}
-use Rattle.yq_ways.specs.AppendWay.{put_behind}
+use Rattle.yq_ways.specs.AppendWay.{lines_put_behind}
 use Rattle.yq_ways.specs.Layouts.{layout_of}
 use Rattle.yq_ways.specs.Operands.{HasOperand}
 use Rattle.yq_ways.specs.Replacing.{node_in, is_kept}
@@ -70,7 +70,7 @@ module _ (n : ℕ) (v : Node) (c : Cut) (w : RootPlace) (old : List ℕ) (read :
 
 -- ---- where none is written
 
-put_piece : (closed : Bool) (br lines : List ℕ) → IsPiece br → IsPiece lines → IsPiece (put_behind closed br lines)
+put_piece : (closed : Bool) (br lines : List ℕ) → IsPiece br → IsPiece lines → IsPiece (lines_put_behind closed br lines)
 put_piece true br lines b k = pieces_joined lines br k b
 put_piece false br lines b k = pieces_joined br lines b k
 
@@ -89,23 +89,23 @@ module _ (n : ℕ) (v : Node) (c : Cut) (w : RootPlace) (read : read_at (cut_tex
     there : FitsPart v h.d.part
     there = fits_part n v c h.d.part (stands n c w read h).there value_tree fits
 
-    new_is : new_text (new_segments false (layout_of n c) v w) ≡ h.d.before ++ (h.d.part.end ++ (put_behind (is_closed_text w.before) (break_text (layout_of n c).br) (block_value (layout_of n c) 0 v) ++ h.d.behind))
+    new_is : new_text (new_segments false (layout_of n c) v w) ≡ h.d.before ++ (h.d.part.end ++ (lines_put_behind (is_closed_text w.before) (break_text (layout_of n c).br) (block_value (layout_of n c) 0 v) ++ h.d.behind))
     new_is =
-        (λ i. h.before_is i ++ (put_behind (is_closed_text w.before) br (block_value (layout_of n c) (h.column_is i) v) ++ (append-nil w.behind ∙ h.behind_is) i))
-        ∙ append_assoc h.d.before h.d.part.end (put_behind (is_closed_text w.before) br lines ++ h.d.behind)
+        (λ i. h.before_is i ++ (lines_put_behind (is_closed_text w.before) br (block_value (layout_of n c) (h.column_is i) v) ++ (append-nil w.behind ∙ h.behind_is) i))
+        ∙ append_assoc h.d.before h.d.part.end (lines_put_behind (is_closed_text w.before) br lines ++ h.d.behind)
 
     by_break : (closed : Bool) → is_closed_text w.before ≡ closed → IsReadable (new_text (new_segments false (layout_of n c) v w)) → ReadsAfter (replace n [] v) c (new_text (new_segments false (layout_of n c) v w))
     by_break true e readable =
         value_reads n c h.d h.d.part.end br [] v (layout_of n c) 0 (new_text (new_segments false (layout_of n c) v w)) (takes_unwritten n c w read h e (layout_of n c).br) (mapping_least n c) value_tree there
-        (sym (new_is ∙ ((λ i. h.d.before ++ (h.d.part.end ++ (put_behind (e i) br lines ++ h.d.behind))) ∙ ap (λ t. h.d.before ++ (h.d.part.end ++ t)) (append_assoc lines br h.d.behind)))) readable
+        (sym (new_is ∙ ((λ i. h.d.before ++ (h.d.part.end ++ (lines_put_behind (e i) br lines ++ h.d.behind))) ∙ ap (λ t. h.d.before ++ (h.d.part.end ++ t)) (append_assoc lines br h.d.behind)))) readable
     by_break false e readable =
         open_reads n c w read h e (layout_of n c).br v (layout_of n c) (mapping_least n c) value_tree there (new_text (new_segments false (layout_of n c) v w))
-        (new_is ∙ ((λ i. h.d.before ++ (h.d.part.end ++ (put_behind (e i) br lines ++ h.d.behind))) ∙ ap (λ t. h.d.before ++ (h.d.part.end ++ t)) (append_assoc br lines h.d.behind))) readable
+        (new_is ∙ ((λ i. h.d.before ++ (h.d.part.end ++ (lines_put_behind (e i) br lines ++ h.d.behind))) ∙ ap (λ t. h.d.before ++ (h.d.part.end ++ t)) (append_assoc br lines h.d.behind))) readable
 
     new_reads : length (new_text (new_segments false (layout_of n c) v w)) ≤ text_limit → ReadsAfter (replace n [] v) c (new_text (new_segments false (layout_of n c) v w))
     new_reads size =
         let kept = pieces n c w read h in
-        let put_there : IsPiece (put_behind (is_closed_text w.before) br (block_value (layout_of n c) w.column v)) =
+        let put_there : IsPiece (lines_put_behind (is_closed_text w.before) br (block_value (layout_of n c) w.column v)) =
         put_piece (is_closed_text w.before) br (block_value (layout_of n c) w.column v) (break_piece (layout_of n c).br) (value_piece v (layout_of n c) w.column value_tree) in
         by_break (is_closed_text w.before) refl (segments_readable (new_segments false (layout_of n c) v w) (kept.0, (put_there, (kept.1, tt))) size)
 

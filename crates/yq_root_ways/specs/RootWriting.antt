@@ -8,7 +8,7 @@ use Rattle.yq_block.specs.declared.layout.Layout.{Layout}
 use Rattle.yq_block.specs.BlockText.{block_value}
 use Rattle.yq_meaning.specs.Operations.{replace, append, remove, line_comment, head_comment}
 use Rattle.yq_script.specs.Script.{Segment, keep, put}
-use Rattle.yq_ways.specs.AppendWay.{put_behind}
+use Rattle.yq_ways.specs.AppendWay.{lines_put_behind}
 use Rattle.yq_ways.specs.Layouts.{layout_of}
 use Rattle.yq_ways.specs.Replacing.{node_in, is_kept}
 use Rattle.yq_ways.specs.Ways.{Way}
@@ -26,7 +26,7 @@ root_segments l v w old = keep w.before ∷ (put old (block_value l w.column v) 
 -- the same where a value comes on lines of its own behind the gap of a document that has no rows: behind a text without a final break its break comes first; where it is the null that the document stands for, the bytes stay (7.2, 9.1)
 abbrev pub new_segments : Bool → Layout → Node → RootPlace → List Segment
 new_segments true l v w = keep w.before ∷ (keep w.behind ∷ [])
-new_segments false l v w = keep w.before ∷ (put [] (put_behind (is_closed_text w.before) (break_text l.br) (block_value l w.column v)) ∷ (keep w.behind ∷ []))
+new_segments false l v w = keep w.before ∷ (put [] (lines_put_behind (is_closed_text w.before) (break_text l.br) (block_value l w.column v)) ∷ (keep w.behind ∷ []))
 
 -- the segments that the place of a root asks for: in the place of the block collection there, or where there is none, behind the document's gap
 abbrev pub root_at : Bool → Layout → Node → RootPlace → Option (List ℕ) → List Segment

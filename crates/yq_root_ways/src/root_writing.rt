@@ -7,7 +7,7 @@ ghost use Rattle.yq_block.specs.BlockText.{block_value};
 ghost use Rattle.yq_meaning.specs.Operations.{operation_of};
 ghost use Rattle.yq_documents.specs.Reading.{cut_of};
 ghost use Rattle.yq_tree.specs.RootReading.{root_told};
-ghost use Rattle.yq_ways.specs.AppendWay.{put_behind};
+ghost use Rattle.yq_ways.specs.AppendWay.{lines_put_behind};
 ghost use Rattle.yq_root_ways.specs.RootWriting as spec;
 ghost use Rattle.yq_ways.specs.WayAnswers.{Carries};
 
@@ -55,7 +55,7 @@ fn value_lines(
     place: &RootPlace<'_>,
     value: &Value,
 ) -> Result<String, AllocError>
-    ensures { IfOk result (λ s. string_bytes s ≡ put_behind (spec.is_closed_text place.now.before.now) (break_text layout.now.br) (block_value layout.now place.now.column (node_of value.now))) }
+    ensures { IfOk result (λ s. string_bytes s ≡ lines_put_behind (spec.is_closed_text place.now.before.now) (break_text layout.now.br) (block_value layout.now place.now.column (node_of value.now))) }
 {
     let mut text = String::new(alloc);
     if is_closed_text(place.before.as_bytes()) {

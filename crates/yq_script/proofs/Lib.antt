@@ -1,4 +1,4 @@
-pub mod PatchLaws
+pub mod SpliceLaws
 pub mod ScriptLaws
 pub mod ExtentLaws
 pub mod TouchLaws

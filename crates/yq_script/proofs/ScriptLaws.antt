@@ -5,8 +5,8 @@ use Rattle.std.specs.Str.{bytes_eq}
 use Rattle.std.proofs.lemmas.Bool.{le-leb, lt-ltb}
 use Rattle.std.specs.Cmp.Derive.{both_true}
 use Rattle.std.proofs.lemmas.Slice.Eq.{bytes_eq-Decides}
-use Rattle.yq_script.specs.Patch.{all_done, length_done, lengths_done}
-use Rattle.yq_script.proofs.PatchLaws.{done-from_exchanges, all_done-append, lengths_done-append}
+use Rattle.yq_script.specs.Splice.{all_done, length_done, lengths_done}
+use Rattle.yq_script.proofs.SpliceLaws.{done-from_exchanges, all_done-append, lengths_done-append}
 use Rattle.yq_script.specs.Script.{Segment, keep, put, old_text, new_text, keep_before, put_before, merged, splice_at, splices_at, changes, AllStay}
 
 -- merged segments are of the same text

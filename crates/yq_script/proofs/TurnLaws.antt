@@ -1,6 +1,6 @@
 -- The segments so far and one more.
 use Rattle.std.proofs.Common.{◌≡◌, ℕ, ◌<◌, List, [], ◌∷◌, ◌++◌, length, refl, sym, ap, ◌∙◌, arith, append-nil}
-use Rattle.yq_script.specs.Patch.{Splice}
+use Rattle.yq_script.specs.Splice.{Splice}
 use Rattle.yq_script.specs.Exchanging.{gives}
 use Rattle.yq_script.specs.Script.{Segment, new_text, put_before, merged, splice_at, splices_at, changes}
 use Rattle.yq_script.specs.Segments.{segments_of}

@@ -1,4 +1,4 @@
-pub mod Patch
+pub mod Splice
 pub mod Script
 pub mod Segments
 pub mod Exchanging

@@ -1,7 +1,7 @@
 -- What an edit keeps of a text and what it exchanges, in order, and the splices of that.
 use Rattle.std.specs.Prelude.{◌≡◌, ℕ, ◌+◌, ◌-◌, List, [], ◌∷◌, ◌++◌, length, take, drop, if◌then◌else◌, ⊤}
 use Rattle.std.specs.Str.{bytes_eq}
-use Rattle.yq_script.specs.Patch.{Splice}
+use Rattle.yq_script.specs.Splice.{Splice}
 
 -- a segment of a text: it stays, or it gives way to another one (own)
 pub data Segment : Type 0 where

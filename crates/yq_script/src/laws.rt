@@ -1,6 +1,6 @@
 //! What holds of every edit that is given by its segments.
 ghost use Rattle.std.specs.Prelude.{◌≡◌, ℕ, ◌+◌, ◌^◌, ◌<◌, List, [], ◌∷◌, ◌++◌, Some, length};
-ghost use Rattle.yq_script.specs.Patch.{all_done, lengths_done};
+ghost use Rattle.yq_script.specs.Splice.{all_done, lengths_done};
 ghost use Rattle.yq_script.specs.Script.{Segment, keep, put, old_text, new_text, changes, AllStay, kept_text, extents, outside, swapped_segments};
 
 /// Done in order, the splices lead from the old text to the new one, and so

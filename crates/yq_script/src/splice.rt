@@ -1,6 +1,6 @@
 //! Splices: what an edit puts in the place of what.
 ghost use Rattle.std.specs.Prelude.{◌≡◌, ◌↔◌, ℕ, List, Some};
-ghost use Rattle.yq_script.specs.Patch.{Splice, Exchanges, change_done, all_done, flipped};
+ghost use Rattle.yq_script.specs.Splice.{Splice, Exchanges, change_done, all_done, flipped};
 
 use std::marker::Model;
 
@@ -13,7 +13,7 @@ pub struct Splice {
 }
 
 impl Model for Splice {
-    ghost use Rattle.yq_script.specs.Patch.{Splice};
+    ghost use Rattle.yq_script.specs.Splice.{Splice};
 
     ghost Value = { Splice };
 

@@ -5,13 +5,13 @@ use Rattle.yq_scalar.specs.declared.ReadFault.{ReadFault}
 use Rattle.yq_rows.specs.Rows.{Cut}
 use Rattle.yq_documents.specs.Reading.{read_at}
 use Rattle.yq_program.specs.Program.{Program, Update, assign, delete, comment, read, updates, update_at, update_count, is_read, UpdatesHold, LiteralsHold}
-use Rattle.yq_script.specs.Patch.{Splice}
+use Rattle.yq_script.specs.Splice.{Splice}
 use Rattle.yq_script.specs.declared.edited.Edited.{Edited}
 use Rattle.yq_script.proofs.PlaceInList.{get_some, split_at, take_next}
 use Rattle.yq_splice.specs.Answers.{Edits, Fails}
 use Rattle.yq_splice.specs.Carried.{updated, program_done, edit_of}
 use Rattle.yq_splice.specs.Edit.{unreadable, gives, and_then, by_reading, in_order}
-use Rattle.yq_splice.specs.Theorems.{AreInside, AreMeant, AreSplices, Leads}
+use Rattle.yq_splice.specs.Theorems.{AreInside, AreMeant, AreSplices, InOrder}
 use Rattle.yq_splice.specs.Valid.{IsStep, FailsAt, HasSteps, FailsEach}
 use Rattle.yq_splice.specs.declared.edit_error.EditError.{EditError}
 use Rattle.yq_splice.specs.declared.edit_error.EditError.TheVariants as error
@@ -45,13 +45,13 @@ answer_meant (Err e) p t holds h = tt
 -- ---- the steps
 
 -- one update more
-pub step_more : (p : Program) (us : List Update) (n : ℕ) (t m new : List ℕ) (cs all : List Splice) → p ≡ updates us → n < length us → Leads IsStep (take n us) t m cs →
-    ((u : Update) → update_at n p ≡ Some u → (es : List Splice) × IsStep u m new es × (all ≡ cs ++ es)) → Leads IsStep (take (n + 1) us) t new all
+pub step_more : (p : Program) (us : List Update) (n : ℕ) (t m new : List ℕ) (cs all : List Splice) → p ≡ updates us → n < length us → InOrder IsStep (take n us) t m cs →
+    ((u : Update) → update_at n p ≡ Some u → (es : List Splice) × IsStep u m new es × (all ≡ cs ++ es)) → InOrder IsStep (take (n + 1) us) t new all
 step_more p us n t m new cs all is below h step =
     let x = get_some us n below in
     let k = step x.0 (ap (update_at n) is ∙ x.1) in
-    subst (λ l. Leads IsStep l t new all) (sym (take_next us n x.0 x.1))
-    (subst (λ l. Leads IsStep (take n us ++ x.0 ∷ []) t new l) (sym k.2) (leads_on IsStep (take n us) x.0 t m new cs k.0 h k.1))
+    subst (λ l. InOrder IsStep l t new all) (sym (take_next us n x.0 x.1))
+    (subst (λ l. InOrder IsStep (take n us ++ x.0 ∷ []) t new l) (sym k.2) (leads_on IsStep (take n us) x.0 t m new cs k.0 h k.1))
 
 -- ---- refused
 
@@ -68,7 +68,7 @@ front_holds (v ∷ us) vs u h =
     let k = front_holds us vs u (others_hold v (us ++ u ∷ vs) h) in
     (both_hold v us (first_holds v (us ++ u ∷ vs) h) k.0, k.1)
 
-first_unread : (us : List Update) (t m : List ℕ) (cs : List Splice) → UpdatesHold us → Leads IsStep us t m cs → read_at m ≡ None → read_at t ≡ None
+first_unread : (us : List Update) (t m : List ℕ) (cs : List Splice) → UpdatesHold us → InOrder IsStep us t m cs → read_at m ≡ None → read_at t ≡ None
 first_unread us t m cs holds h none = go (read_at t) refl
   where
     go : (r : Option Cut) → read_at t ≡ r → read_at t ≡ None
@@ -76,7 +76,7 @@ first_unread us t m cs holds h none = go (read_at t) refl
     go (Some c) is = let x = reads_on us t m cs c is (all_meant us t m cs holds h) in absurd (let e = sym none ∙ x.1 in cc)
 
 -- an update that fails
-pub step_fails : (p : Program) (us : List Update) (n : ℕ) (t m : List ℕ) (cs : List Splice) (e : EditError) → p ≡ updates us → n < length us → Leads IsStep (take n us) t m cs →
+pub step_fails : (p : Program) (us : List Update) (n : ℕ) (t m : List ℕ) (cs : List Splice) (e : EditError) → p ≡ updates us → n < length us → InOrder IsStep (take n us) t m cs →
     ((u : Update) → update_at n p ≡ Some u → FailsAt e u m) → FailsEach e us t
 step_fails p us n t m cs e is below h fails =
     let x = get_some us n below in
@@ -111,7 +111,7 @@ has_updates (read stages) h = absurd (omega (arith, h))
 has_updates (updates us) h = (us, refl, h)
 
 pub each_exact : (r : Result Edited EditError) (p : Program) (t : List ℕ) → 0 < update_count p →
-    IfOk r (λ e. (us : List Update) → p ≡ updates us → Leads IsStep us t (string_bytes e.text) e.splices.items) →
+    IfOk r (λ e. (us : List Update) → p ≡ updates us → InOrder IsStep us t (string_bytes e.text) e.splices.items) →
     IfErr r (λ e. (us : List Update) → p ≡ updates us → FailsEach e us t) → Edits r (edit_of p t)
 unfolding edit_of
 each_exact (Ok e) p t some ok err =
@@ -123,7 +123,7 @@ each_exact (Err e) p t some ok err =
     subst (Fails e) (sym (ap (λ q. by_reading (λ c. program_done q t) (read_at t)) x.1 ∙ program_edit x.0 t x.2)) (err x.0 x.1).fails
 
 pub each_steps : (r : Result Edited EditError) (p : Program) (t : List ℕ) → 0 < update_count p →
-    IfOk r (λ e. (us : List Update) → p ≡ updates us → Leads IsStep us t (string_bytes e.text) e.splices.items) → IfOk r (λ e. HasSteps p t (string_bytes e.text) e.splices.items)
+    IfOk r (λ e. (us : List Update) → p ≡ updates us → InOrder IsStep us t (string_bytes e.text) e.splices.items) → IfOk r (λ e. HasSteps p t (string_bytes e.text) e.splices.items)
 each_steps (Ok e) p t some ok = let x = has_updates p some in record { all = x.0; program = x.1; leads = ok x.0 x.1 }
 each_steps (Err e) p t some ok = tt
 
@@ -133,11 +133,11 @@ each_unread (Ok e) p t some err = tt
 each_unread (Err e) p t some err = let x = has_updates p some in λ fault same holds. (err x.0 x.1).unread fault same (literals_of p x.0 x.1 holds)
 
 -- all updates are done
-pub all_done_so : (p : Program) (n : ℕ) (t new : List ℕ) (cs : List Splice) → ((us : List Update) → p ≡ updates us → Leads IsStep (take n us) t new cs) → n ≡ update_count p →
-    (us : List Update) → p ≡ updates us → Leads IsStep us t new cs
+pub all_done_so : (p : Program) (n : ℕ) (t new : List ℕ) (cs : List Splice) → ((us : List Update) → p ≡ updates us → InOrder IsStep (take n us) t new cs) → n ≡ update_count p →
+    (us : List Update) → p ≡ updates us → InOrder IsStep us t new cs
 all_done_so p n t new cs h count us is =
     let long : length us ≤ n = omega (arith, count ∙ ap update_count is) in
-    subst (λ l. Leads IsStep l t new cs) (take_all n us long) (h us is)
+    subst (λ l. InOrder IsStep l t new cs) (take_all n us long) (h us is)
 
 -- ---- a program without updates
 

@@ -11,7 +11,7 @@ use Rattle.yq_planning.specs.Plans.{plan}
 use Rattle.yq_program.specs.Program as programs
 use Rattle.yq_program.specs.Program.{Program, Update, updates}
 use Rattle.yq_meaning.specs.Rooms.{room_of}
-use Rattle.yq_script.specs.Patch.{Splice, all_done, lengths_done}
+use Rattle.yq_script.specs.Splice.{Splice, all_done, lengths_done}
 use Rattle.yq_script.specs.Script.{Segment, old_text, new_text, changes}
 use Rattle.yq_script.proofs.ScriptLaws.{changes_lead, changes_lengths}
 use Rattle.yq_script.specs.Exchanging as exchange

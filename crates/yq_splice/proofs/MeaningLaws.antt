@@ -17,11 +17,11 @@ use Rattle.yq_meaning.specs.Operations.{Operation}
 use Rattle.yq_planning.specs.Plans.{plan}
 use Rattle.yq_program.specs.Program.{Update, assign, delete, comment, UpdatesHold}
 use Rattle.yq_meaning.specs.Rooms.{room_of}
-use Rattle.yq_script.specs.Patch.{Splice}
+use Rattle.yq_script.specs.Splice.{Splice}
 use Rattle.yq_flow_ways.proofs.CutLaws.{cut_same}
 use Rattle.yq_splice.specs.Carried.{carry_all, carry_out, updated}
 use Rattle.yq_splice.specs.Edit.{Edit, unreadable, refuses, gives, by_reading}
-use Rattle.yq_splice.specs.Theorems.{Leads, IsMeant}
+use Rattle.yq_splice.specs.Theorems.{InOrder, IsMeant}
 use Rattle.yq_splice.specs.Valid.{HasOperands, IsStep}
 use Rattle.yq_splice.proofs.ServeLaws.{Serves, ComesTo, all_come}
 
@@ -96,12 +96,12 @@ others_hold (delete left) us h = h
 others_hold (comment left place text) us h = h
 
 -- updates that are carried out
-pub all_meant : (us : List Update) (t new : List ℕ) (cs : List Splice) → UpdatesHold us → Leads IsStep us t new cs → Leads IsMeant us t new cs
+pub all_meant : (us : List Update) (t new : List ℕ) (cs : List Splice) → UpdatesHold us → InOrder IsStep us t new cs → InOrder IsMeant us t new cs
 all_meant [] t new cs holds h = h
 all_meant (u ∷ us) t new cs holds h =
     (h.0, h.1, h.2, step_meant u t h.0 h.1 (first_holds u us holds) h.3, all_meant us h.0 new h.2 (others_hold u us holds) h.4, h.5)
 
 -- the text to which they lead reads, if the first one does
-pub reads_on : (us : List Update) (t m : List ℕ) (cs : List Splice) (c : Cut) → read_at t ≡ Some c → Leads IsMeant us t m cs → (d : Cut) × (read_at m ≡ Some d)
+pub reads_on : (us : List Update) (t m : List ℕ) (cs : List Splice) (c : Cut) → read_at t ≡ Some c → InOrder IsMeant us t m cs → (d : Cut) × (read_at m ≡ Some d)
 reads_on [] t m cs c is h = (c, ap read_at (sym h.0) ∙ is)
 reads_on (u ∷ us) t m cs c is h = let x = read_again h.0 h.3.after h.3.reads in reads_on us h.0 m h.2 x.0 x.1 h.4

@@ -1,23 +1,23 @@
 -- Edits one after the other lead from text to text.
 use Rattle.std.proofs.Common.{◌≡◌, ℕ, List, [], ◌∷◌, ◌++◌, length, Some, refl, sym, ap, ◌∙◌, subst, append_assoc, append-nil}
 use Rattle.std.specs.Prelude.{option_and_then}
-use Rattle.yq_script.specs.Patch.{Splice, all_done, lengths_done}
-use Rattle.yq_script.proofs.PatchLaws.{all_done-append, lengths_done-append}
+use Rattle.yq_script.specs.Splice.{Splice, all_done, lengths_done}
+use Rattle.yq_script.proofs.SpliceLaws.{all_done-append, lengths_done-append}
 use Rattle.yq_splice.specs.Answers.{Fails}
 use Rattle.yq_splice.specs.Edit.{Edit, unreadable, refuses, gives, behind, and_then, in_order}
-use Rattle.yq_splice.specs.Theorems.{AreSplices, Leads}
+use Rattle.yq_splice.specs.Theorems.{AreSplices, InOrder}
 use Rattle.yq_splice.specs.declared.edit_error.EditError.{EditError}
 use Rattle.yq_splice.specs.declared.edit_error.EditError.TheVariants as error
 
 -- what is known of each step, said otherwise
 pub leads_so : {A : Type 0} (R S : A → List ℕ → List ℕ → List Splice → Type 0) → ((x : A) (t new : List ℕ) (cs : List Splice) → R x t new cs → S x t new cs) →
-    (xs : List A) (t new : List ℕ) (cs : List Splice) → Leads R xs t new cs → Leads S xs t new cs
+    (xs : List A) (t new : List ℕ) (cs : List Splice) → InOrder R xs t new cs → InOrder S xs t new cs
 leads_so R S each [] t new cs h = h
 leads_so R S each (x ∷ xs) t new cs h = (h.0, h.1, h.2, each x t h.0 h.1 h.3, leads_so R S each xs h.0 new h.2 h.4, h.5)
 
 -- one step more
-pub leads_on : {A : Type 0} (R : A → List ℕ → List ℕ → List Splice → Type 0) (xs : List A) (x : A) (t m new : List ℕ) (cs ds : List Splice) → Leads R xs t m cs →
-    R x m new ds → Leads R (xs ++ x ∷ []) t new (cs ++ ds)
+pub leads_on : {A : Type 0} (R : A → List ℕ → List ℕ → List Splice → Type 0) (xs : List A) (x : A) (t m new : List ℕ) (cs ds : List Splice) → InOrder R xs t m cs →
+    R x m new ds → InOrder R (xs ++ x ∷ []) t new (cs ++ ds)
 leads_on R [] x t m new cs ds h step =
     let all : cs ++ ds ≡ ds ++ [] = ap (λ l. l ++ ds) h.1 ∙ sym (append-nil ds) in
     (new, ds, [], subst (λ s. R x s new ds) (sym h.0) step, (refl, refl), all)
@@ -26,7 +26,7 @@ leads_on R (y ∷ xs) x t m new cs ds h step =
 
 -- steps that give texts give the last one
 pub leads_give : {A : Type 0} (f : A → List ℕ → Edit) (R : A → List ℕ → List ℕ → List Splice → Type 0) → ((x : A) (t new : List ℕ) (cs : List Splice) → R x t new cs → f x t ≡ gives new cs) →
-    (xs : List A) (t new : List ℕ) (cs : List Splice) → Leads R xs t new cs → in_order f xs t ≡ gives new cs
+    (xs : List A) (t new : List ℕ) (cs : List Splice) → InOrder R xs t new cs → in_order f xs t ≡ gives new cs
 leads_give f R each [] t new cs h = λ i. gives (h.0 i) (sym h.1 i)
 leads_give f R each (x ∷ xs) t new cs h =
     ap (and_then (in_order f xs)) (each x t h.0 h.1 h.3)
@@ -43,12 +43,12 @@ abbrev pub Makes : {A : Type 0} → (A → List ℕ → Edit) → A → List ℕ
 Makes f x t new cs = f x t ≡ gives new cs
 
 -- what is given in order is given step by step
-pub order_leads : {A : Type 0} (f : A → List ℕ → Edit) (xs : List A) (t new : List ℕ) (cs : List Splice) → in_order f xs t ≡ gives new cs → Leads (Makes f) xs t new cs
+pub order_leads : {A : Type 0} (f : A → List ℕ → Edit) (xs : List A) (t new : List ℕ) (cs : List Splice) → in_order f xs t ≡ gives new cs → InOrder (Makes f) xs t new cs
 order_leads f [] t new cs h = (cc, cc)
 order_leads f (x ∷ xs) t new cs h = go (f x t) refl (λ m es e. order_leads f xs m new es e) h
   where
-    go : (e : Edit) → f x t ≡ e → ((m : List ℕ) (es : List Splice) → in_order f xs m ≡ gives new es → Leads (Makes f) xs m new es) →
-        and_then (in_order f xs) e ≡ gives new cs → Leads (Makes f) (x ∷ xs) t new cs
+    go : (e : Edit) → f x t ≡ e → ((m : List ℕ) (es : List Splice) → in_order f xs m ≡ gives new es → InOrder (Makes f) xs m new es) →
+        and_then (in_order f xs) e ≡ gives new cs → InOrder (Makes f) (x ∷ xs) t new cs
     go unreadable is rest e = absurd (cc)
     go (refuses why) is rest e = absurd (cc)
     go (gives m ds) is rest e = let k = behind_gives ds (in_order f xs m) new cs e in (m, ds, k.0, is, rest m k.0 k.1, k.2)
@@ -67,7 +67,7 @@ fails_on error.Memory g r h = tt
 
 -- and those that came before it
 pub leads_fail : {A : Type 0} (f : A → List ℕ → Edit) (R : A → List ℕ → List ℕ → List Splice → Type 0) → ((x : A) (t new : List ℕ) (cs : List Splice) → R x t new cs → f x t ≡ gives new cs) →
-    (xs : List A) (y : A) (ys : List A) (t m : List ℕ) (cs : List Splice) (e : EditError) → Leads R xs t m cs → Fails e (f y m) → Fails e (in_order f (xs ++ y ∷ ys) t)
+    (xs : List A) (y : A) (ys : List A) (t m : List ℕ) (cs : List Splice) (e : EditError) → InOrder R xs t m cs → Fails e (f y m) → Fails e (in_order f (xs ++ y ∷ ys) t)
 leads_fail f R each [] y ys t m cs e h fails = fails_on e (in_order f ys) (f y t) (subst (λ s. Fails e (f y s)) (sym h.0) fails)
 leads_fail f R each (x ∷ xs) y ys t m cs e h fails =
     subst (Fails e) (ap (and_then (in_order f (xs ++ y ∷ ys))) (sym (each x t h.0 h.1 h.3)))
@@ -81,7 +81,7 @@ splices_join t m new ds es p q = record {
 }
 
 pub leads_splices : {A : Type 0} (R : A → List ℕ → List ℕ → List Splice → Type 0) → ((x : A) (t new : List ℕ) (cs : List Splice) → R x t new cs → AreSplices cs t new) →
-    (xs : List A) (t new : List ℕ) (cs : List Splice) → Leads R xs t new cs → AreSplices cs t new
+    (xs : List A) (t new : List ℕ) (cs : List Splice) → InOrder R xs t new cs → AreSplices cs t new
 leads_splices R each [] t new cs h =
     subst (λ x. AreSplices x t new) (sym h.1) (record { texts = ap Some h.0; lengths = ap (λ x. Some (length x)) h.0 })
 leads_splices R each (x ∷ xs) t new cs h =

@@ -17,7 +17,7 @@ use Rattle.yq_meaning.specs.Rooms.{room_of}
 use Rattle.yq_meaning.specs.declared.refusal.Refusal.{Refusal}
 use Rattle.yq_meaning.specs.declared.plan_error.PlanError.{PlanError}
 use Rattle.yq_meaning.specs.declared.plan_error.PlanError.TheVariants as planning
-use Rattle.yq_script.specs.Patch.{Splice}
+use Rattle.yq_script.specs.Splice.{Splice}
 use Rattle.yq_script.specs.declared.edited.Edited.{Edited}
 use Rattle.yq_splice.specs.Answers.{Edits, Fails, of_planning, of_reading}
 use Rattle.yq_splice.specs.Carried.{carry_all, carry_out, updated}

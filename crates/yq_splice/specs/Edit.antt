@@ -3,7 +3,7 @@ use Rattle.std.specs.Prelude.{ℕ, List, [], ◌∷◌, ◌++◌, Option, Some, 
 use Rattle.yq_rows.specs.Rows.{Cut}
 use Rattle.yq_meaning.specs.declared.refusal.Refusal.{Refusal}
 use Rattle.yq_meaning.specs.declared.refusal.Refusal.TheVariants.{TooLarge}
-use Rattle.yq_script.specs.Patch.{Splice}
+use Rattle.yq_script.specs.Splice.{Splice}
 use Rattle.yq_script.specs.Script.{Segment}
 use Rattle.yq_script.specs.Exchanging.{Exchange, exchange_of}
 use Rattle.yq_script.specs.Exchanging as exchange

@@ -12,7 +12,7 @@ use Rattle.yq_planning.specs.Plans.{plan}
 use Rattle.yq_program.specs.Program.{Program, Update, updates}
 use Rattle.yq_meaning.specs.Rooms.{room_of}
 use Rattle.yq_meaning.specs.declared.refusal.Refusal.TheVariants.{TooLarge}
-use Rattle.yq_script.specs.Patch.{Splice, all_done, lengths_done}
+use Rattle.yq_script.specs.Splice.{Splice, all_done, lengths_done}
 use Rattle.yq_script.specs.Script.{Segment, old_text, new_text, changes}
 use Rattle.yq_carrying.specs.Carrying.{carrying, or_stay}
 use Rattle.yq_ways.specs.Ways.{ReadsAfter}
@@ -20,9 +20,9 @@ use Rattle.yq_splice.specs.declared.edit_error.EditError.{EditError}
 use Rattle.yq_splice.specs.declared.edit_error.EditError.TheVariants as error
 
 -- a text leads to another one by splices, in a step for each thing in order (own)
-abbrev pub Leads : {A : Type 0} → (A → List ℕ → List ℕ → List Splice → Type 0) → List A → List ℕ → List ℕ → List Splice → Type 0
-Leads R [] t new cs = (t ≡ new) × (cs ≡ [])
-Leads R (x ∷ xs) t new cs = (m : List ℕ) × (ds es : List Splice) × R x t m ds × Leads R xs m new es × (cs ≡ ds ++ es)
+abbrev pub InOrder : {A : Type 0} → (A → List ℕ → List ℕ → List Splice → Type 0) → List A → List ℕ → List ℕ → List Splice → Type 0
+InOrder R [] t new cs = (t ≡ new) × (cs ≡ [])
+InOrder R (x ∷ xs) t new cs = (m : List ℕ) × (ds es : List Splice) × R x t m ds × InOrder R xs m new es × (cs ≡ ds ++ es)
 
 -- An operation is carried out on a text by segments of it, which make the new text; the splices are theirs (own).
 pub record IsCarried (op : Operation) (t new : List ℕ) (cs : List Splice) : Type 0 where
@@ -41,13 +41,13 @@ pub record IsInside (u : Update) (t new : List ℕ) (cs : List Splice) : Type 0 
   pub read : read_at t ≡ Some cut
   pub operations : List Operation
   pub planned : plan u (room_of t) (documents cut) ≡ gives operations
-  pub leads : Leads IsCarried operations t new cs
+  pub leads : InOrder IsCarried operations t new cs
 
 -- Each update of a program in order is carried out on the text that the one before gives (own).
 pub record AreInside (p : Program) (t new : List ℕ) (cs : List Splice) : Type 0 where
   pub all : List Update
   pub program : p ≡ updates all
-  pub leads : Leads IsInside all t new cs
+  pub leads : InOrder IsInside all t new cs
 
 -- A text reads as documents, and the new one as what an update means of these, with the room that the text has (own).
 pub record IsMeant (u : Update) (t new : List ℕ) (cs : List Splice) : Type 0 where
@@ -61,7 +61,7 @@ pub record IsMeant (u : Update) (t new : List ℕ) (cs : List Splice) : Type 0 w
 pub record AreMeant (p : Program) (t new : List ℕ) (cs : List Splice) : Type 0 where
   pub all : List Update
   pub program : p ≡ updates all
-  pub leads : Leads IsMeant all t new cs
+  pub leads : InOrder IsMeant all t new cs
 
 -- A text reads, and an operation fits its documents (own).
 pub record IsFitting (op : Operation) (t : List ℕ) : Type 0 where

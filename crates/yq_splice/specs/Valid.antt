@@ -8,13 +8,13 @@ use Rattle.yq_meaning.specs.Operations.{Operation}
 use Rattle.yq_planning.specs.Plans.{plan}
 use Rattle.yq_program.specs.Program.{Program, Update, updates, UpdatesHold}
 use Rattle.yq_meaning.specs.Rooms.{room_of}
-use Rattle.yq_script.specs.Patch.{Splice}
+use Rattle.yq_script.specs.Splice.{Splice}
 use Rattle.yq_ways.specs.Operands.{HasOperand}
 use Rattle.yq_splice.specs.Answers.{Fails}
 use Rattle.yq_splice.specs.Carried.{updated}
 use Rattle.yq_splice.specs.Edit.{in_order}
 use Rattle.yq_splice.specs.Edit as edit
-use Rattle.yq_splice.specs.Theorems.{Leads}
+use Rattle.yq_splice.specs.Theorems.{InOrder}
 use Rattle.yq_splice.specs.declared.edit_error.EditError.{EditError}
 use Rattle.yq_splice.specs.declared.edit_error.EditError.TheVariants as error
 
@@ -41,7 +41,7 @@ pub record FailsAt (e : EditError) (u : Update) (t : List ℕ) : Type 0 where
 pub record HasSteps (p : Program) (t new : List ℕ) (cs : List Splice) : Type 0 where
   pub all : List Update
   pub program : p ≡ updates all
-  pub leads : Leads IsStep all t new cs
+  pub leads : InOrder IsStep all t new cs
 
 -- An error is that of updates in order; that a text has no reading is said of the first one alone (own).
 pub record FailsEach (e : EditError) (us : List Update) (t : List ℕ) : Type 0 where

@@ -4,10 +4,10 @@ ghost use Rattle.yq_scalar.specs.declared.ReadFault.{ReadFault};
 ghost use Rattle.yq_documents.specs.Reading.{read_at};
 ghost use Rattle.yq_program.specs.Program.{LiteralsHold, Update, update_at, update_count, updates};
 ghost use Rattle.yq_program.specs.View.{program_of};
-ghost use Rattle.yq_script.specs.Patch.{Splice};
+ghost use Rattle.yq_script.specs.Splice.{Splice};
 ghost use Rattle.yq_splice.specs.Answers.{Edits};
 ghost use Rattle.yq_splice.specs.Carried as spec;
-ghost use Rattle.yq_splice.specs.Theorems.{AreInside, AreMeant, AreSplices, Leads};
+ghost use Rattle.yq_splice.specs.Theorems.{AreInside, AreMeant, AreSplices, InOrder};
 ghost use Rattle.yq_splice.specs.Valid.{FailsAt, FailsEach, HasSteps, IsStep};
 ghost use Rattle.yq_splice.specs.declared.edit_error.EditError.TheVariants as error;
 
@@ -49,7 +49,7 @@ fn step(alloc: Global, done: &mut Edited, program: &Program, nth: usize) -> Resu
 
 /// The updates of a program carried out on a text, one after the other.
 fn update_each(alloc: Global, text: &str, program: &Program) -> Result<Edited, EditError>
-    ensures ok { IfOk result (λ e. (us : List Update) → program_of program.now ≡ updates us → Leads IsStep us text.now (string_bytes e.text) e.splices.items) }
+    ensures ok { IfOk result (λ e. (us : List Update) → program_of program.now ≡ updates us → InOrder IsStep us text.now (string_bytes e.text) e.splices.items) }
     ensures err { IfErr result (λ e. (us : List Update) → program_of program.now ≡ updates us → FailsEach e us text.now) }
 {
     let mut done = unchanged(alloc, text)?;

@@ -20,7 +20,7 @@ use Rattle.yq_documents.specs.TreeEdits.{new_label}
 use Rattle.yq_block.specs.declared.layout.Layout.{Layout}
 use Rattle.yq_block.specs.Alone.{alone}
 use Rattle.yq_block.specs.BlockRows.{inline_of, node_rows, children_rows, entry_rows, behind_dash, end_before, column_below}
-use Rattle.yq_block.specs.BlockValues.{IsEnd, InRows, IsNear, HasNearKeys, IsWritable, level_at}
+use Rattle.yq_block.specs.BlockValues.{IsEnd, IsFilledValue, IsNear, HasNearKeys, IsWritable, level_at}
 use Rattle.yq_block.proofs.FitLaws.{node_fit, keys_fit, anchors_fit}
 use Rattle.yq_block.proofs.LaidRows.{laid_rows}
 use Rattle.yq_block.proofs.LineLaws.{node_stands}
@@ -28,7 +28,7 @@ use Rattle.yq_block.proofs.RowLaws.{value_laid}
 use Rattle.yq_ways.specs.Operands.{KeyIsUtf8}
 
 -- a collection of one item or entry is a value that is written in rows
-pub alone_value : (key : Option (List ℕ)) (v : Node) → KeyIsUtf8 key → IsValueTree v → InRows (alone key v)
+pub alone_value : (key : Option (List ℕ)) (v : Node) → KeyIsUtf8 key → IsValueTree v → IsFilledValue (alone key v)
 alone_value None v u h = record { filled = tt; value = (refl, (refl, h, tt)) }
 alone_value (Some k) v u h = record { filled = tt; value = (refl, ((k, refl, u), h, tt)) }
 

@@ -25,7 +25,7 @@ use Rattle.yq_block.specs.declared.layout.Layout.{Layout}
 use Rattle.yq_block.specs.Alone.{alone}
 use Rattle.yq_block.specs.BlockRows.{node_rows}
 use Rattle.yq_block.specs.BlockText.{block_value}
-use Rattle.yq_block.specs.BlockValues.{InRows, IsEnd}
+use Rattle.yq_block.specs.BlockValues.{IsFilledValue, IsEnd}
 use Rattle.yq_block.proofs.CharacterLaws.{value_sound}
 use Rattle.yq_change.specs.Appends.{IsWritten}
 use Rattle.yq_change.specs.Changed.{IsChanged, put_document}
@@ -129,7 +129,7 @@ module _ (doc : ℕ) (steps : List Step) (key : Option (List ℕ)) (v : Node) (c
   abbrev place : IsCollectionEnd c doc (p doc steps c x read at) steps x
   place = e doc steps c x read at
 
-  pub filled : InRows (alone key v)
+  pub filled : IsFilledValue (alone key v)
   filled = alone_value key v g.key_utf8 g.value_tree
 
   pub entry_piece : IsPiece (entry_lines l x.column key v)

@@ -16,7 +16,7 @@ use Rattle.yq_meaning.specs.Fits.{Fits}
 use Rattle.yq_meaning.specs.Operations.{Operation, replace, append, remove, line_comment, head_comment}
 use Rattle.yq_script.specs.Script.{Segment, old_text, new_text}
 use Rattle.yq_ways.specs.Layouts.{layout_of}
-use Rattle.yq_ways.specs.AppendWay.{entry_lines, append_segments, append_way, put_behind, put_segments}
+use Rattle.yq_ways.specs.AppendWay.{entry_lines, append_segments, append_way, lines_put_behind, put_segments}
 use Rattle.yq_ways.specs.Operands.{KeyIsUtf8, HasOperand}
 use Rattle.yq_ways.specs.Ways.{ReadsAfter, IsWay}
 use Rattle.yq_ways.proofs.DoneLaws.{nth_map}
@@ -39,7 +39,7 @@ at_end : (doc : ℕ) (steps : List Step) (key : Option (List ℕ)) (v : Node) (c
 at_end doc steps key v c x read at g = go x.broken refl
   where
     segments : Bool → List Segment
-    segments b = put_segments x (put_behind b (break_text (layout_of doc c).br) (entry_lines (layout_of doc c) x.column key v))
+    segments b = put_segments x (lines_put_behind b (break_text (layout_of doc c).br) (entry_lines (layout_of doc c) x.column key v))
 
     go : (b : Bool) → x.broken ≡ b → length (new_text (segments b)) ≤ text_limit → ReadsAfter (append doc steps key v) c (new_text (segments b))
     go true is size = inside_reads doc steps key v c x read at g is size

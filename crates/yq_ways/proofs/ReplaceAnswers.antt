@@ -19,7 +19,7 @@ use Rattle.yq_documents.specs.Located.{steps_of, document_at, located}
 use Rattle.yq_documents.specs.Reading.{cut_of}
 use Rattle.yq_meaning.specs.Operations.{replace}
 use Rattle.yq_ways.specs.PlaceViews.{inline_view}
-use Rattle.yq_ways.specs.Replacing.{node_in, is_kept, value_written, flow_written, place_segments, replace_at, replace_way}
+use Rattle.yq_ways.specs.Replacing.{node_in, is_kept, value_written, collection_written, place_segments, replace_at, replace_way}
 
 -- the place that is told
 place_told : InlineTelling → InlinePlace
@@ -67,7 +67,7 @@ put_at v w o e = ap (option_map (λ t. place_segments w (written_text w.old) (ap
 -- ---- collections that aren't written inline
 
 -- one with children, where it isn't alone
-unwritten : (alone : Bool) (cs : Children) (v : Node) → alone ≡ false → (cs ≡ none → ⊥) → None ≡ flow_written alone cs v
+unwritten : (alone : Bool) (cs : Children) (v : Node) → alone ≡ false → (cs ≡ none → ⊥) → None ≡ collection_written alone cs v
 unwritten alone none v a some = absurd (some refl)
 unwritten alone (child label n cs) v a some = sym (ap (λ b. if b then Some (flow_text v) else None) a)
 

@@ -44,7 +44,7 @@ use Rattle.yq_meaning.specs.Operations.{Operation, replace, append, remove, line
 use Rattle.yq_meaning.specs.Rooms.{room_of}
 use Rattle.yq_script.specs.Script.{Segment, old_text, new_text}
 use Rattle.yq_ways.specs.Operands.{HasOperand}
-use Rattle.yq_ways.specs.Replacing.{node_in, scalar_in, are_same, is_kept, flow_written, value_written, replace_at, replace_way}
+use Rattle.yq_ways.specs.Replacing.{node_in, scalar_in, are_same, is_kept, collection_written, value_written, replace_at, replace_way}
 use Rattle.yq_ways.specs.Style.{new_style}
 use Rattle.yq_ways.specs.Ways.{IsWay, ReadsAfter}
 use Rattle.yq_ways.proofs.DoneLaws.{document_done}
@@ -79,7 +79,7 @@ scalar_for a s style h i can =
     let w = scalar_is a s.kind s.text style h i can in
     record { node = inline.scalar (written style s.text); is = w.0; text = append-nil (written style s.text); piece = w.1 }
 
-flow_for : (alone : Bool) (cs : Children) (v : Node) (t : List ℕ) → IsWrittenFor v (flow_text v) → flow_written alone cs v ≡ Some t → IsWrittenFor v t
+flow_for : (alone : Bool) (cs : Children) (v : Node) (t : List ℕ) → IsWrittenFor v (flow_text v) → collection_written alone cs v ≡ Some t → IsWrittenFor v t
 flow_for alone tree.none v t h e = subst (IsWrittenFor v) (same_Some _ _ e) h
 flow_for true (tree.child label n cs) v t h e = subst (IsWrittenFor v) (same_Some _ _ e) h
 flow_for false (tree.child label n cs) v t h e = absurd (none-some _ e)

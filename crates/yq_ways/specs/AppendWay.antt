@@ -16,9 +16,9 @@ abbrev pub entry_lines : Layout → ℕ → Option (List ℕ) → Node → List 
 entry_lines l column key v = replicate column 32 ++ block_value l column (alone key v)
 
 -- lines put behind a line: with a break behind them, or, where that line has none, with the break in front of them, so that the text again ends without one (own)
-abbrev pub put_behind : (broken : Bool) → List ℕ → List ℕ → List ℕ
-put_behind true br lines = lines ++ br
-put_behind false br lines = br ++ lines
+abbrev pub lines_put_behind : (broken : Bool) → List ℕ → List ℕ → List ℕ
+lines_put_behind true br lines = lines ++ br
+lines_put_behind false br lines = br ++ lines
 
 -- the segments of a text in which another one is put at the end of a collection (own)
 abbrev pub put_segments : CollectionEnd → List ℕ → List Segment
@@ -26,7 +26,7 @@ put_segments x new = keep x.before ∷ (put [] new ∷ (keep x.behind ∷ []))
 
 -- the same where an item or entry is put there (own)
 abbrev pub append_segments : Layout → Option (List ℕ) → Node → CollectionEnd → List Segment
-append_segments l key v x = put_segments x (put_behind x.broken (break_text l.br) (entry_lines l x.column key v))
+append_segments l key v x = put_segments x (lines_put_behind x.broken (break_text l.br) (entry_lines l x.column key v))
 
 -- An item or entry more is put on lines of its own behind the last line of a block collection that has some, at their column (own).
 abbrev pub append_way : Way

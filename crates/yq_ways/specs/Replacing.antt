@@ -37,16 +37,16 @@ abbrev pub is_kept : Option Node → Node → Bool
 is_kept old v = are_same (old >>= scalar_in) (scalar_in v)
 
 -- a collection in flow style: an empty one anywhere, others where they are alone (own)
-abbrev pub flow_written : Bool → Children → Node → Option (List ℕ)
-flow_written alone none v = Some (flow_text v)
-flow_written alone (child label n cs) v = if alone then Some (flow_text v) else None
+abbrev pub collection_written : Bool → Children → Node → Option (List ℕ)
+collection_written alone none v = Some (flow_text v)
+collection_written alone (child label n cs) v = if alone then Some (flow_text v) else None
 
 -- how a value is written in a place, alone or not, where that text is written or none, if it is written inline there: a scalar in the style of the old one, if that can write it, else plain if it can be, else in double quotes; a collection in flow style (own)
 abbrev pub value_written : Bool → List ℕ → Node → Option (List ℕ)
 value_written alone old (alias name) = None
 value_written alone old (scalar anchor kind text) = Some (written (new_style (record { kind = kind; text = text }) (style_of old)) text)
-value_written alone old (list anchor cs) = flow_written alone cs (list anchor cs)
-value_written alone old (map anchor cs) = flow_written alone cs (map anchor cs)
+value_written alone old (list anchor cs) = collection_written alone cs (list anchor cs)
+value_written alone old (map anchor cs) = collection_written alone cs (map anchor cs)
 
 -- the segments of the text round a place where one text gives way to another (own)
 abbrev pub place_segments : InlinePlace → List ℕ → List ℕ → List Segment

@@ -42,7 +42,7 @@ fn entry_text(
     key: Option<&str>,
     value: &Value,
 ) -> Result<String, AllocError>
-    ensures { IfOk result (λ s. string_bytes s ≡ spec.put_behind end.now.broken (break_text layout.now.br) (spec.entry_lines layout.now end.now.column (lent key.entry) (node_of value.now))) }
+    ensures { IfOk result (λ s. string_bytes s ≡ spec.lines_put_behind end.now.broken (break_text layout.now.br) (spec.entry_lines layout.now end.now.column (lent key.entry) (node_of value.now))) }
 {
     let mut out = String::new(alloc);
     if end.broken {

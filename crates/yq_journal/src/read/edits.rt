@@ -2,7 +2,7 @@
 ghost use Rattle.std.specs.Prelude.{◌≡◌, IfOk, option_map, option_and_then};
 ghost use Rattle.serde_json.specs.Find.{get};
 ghost use Rattle.serde_json.specs.View.{view};
-ghost use Rattle.yq_script.specs.Patch.{length_done, lengths_done};
+ghost use Rattle.yq_script.specs.Splice.{length_done, lengths_done};
 ghost use Rattle.yq_journal.specs.Json as spec;
 
 use super::fields::{bytes, has_keys, number, text};
@@ -49,7 +49,7 @@ fn splices(alloc: Global, value: &Value) -> Result<Option<Vec<Splice>>, AllocErr
 }
 
 /// The length that a splice leaves, where it lies within the length before it.
-#[tactic(auto, unfolding(yq_script::specs::Patch::length_done))]
+#[tactic(auto, unfolding(yq_script::specs::Splice::length_done))]
 fn length_after(splice: &Splice, length: u64) -> Option<u64>
     ensures { result ≡ length_done splice.now length }
 {

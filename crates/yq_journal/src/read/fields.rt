@@ -17,7 +17,7 @@ pub(super) fn number(value: &Value, key: &str) -> Option<u64>
 
 /// The text under a key.
 pub(super) fn text<'a>(value: &'a Value, key: &str) -> Option<&'a str>
-    ensures { option_map (λ s. s.now) result ≡ spec.text_at key.now (view value.now) }
+    ensures { option_map (λ s. s.now) result ≡ spec.string_at key.now (view value.now) }
 {
     value.get(key)?.as_str()
 }

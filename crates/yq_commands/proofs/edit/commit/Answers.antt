@@ -4,7 +4,7 @@ use Rattle.yq_history.specs.Effects.{Works}
 use Rattle.yq_commands.specs.CommandEffects.{edit_effect}
 use Rattle.yq_commands.specs.Editing.{edits}
 use Rattle.yq_history.specs.Faults.{is_outside}
-use Rattle.yq_journal.specs.Record.{Patch, done}
+use Rattle.yq_journal.specs.Record.{Record, done}
 use Rattle.yq_commands.proofs.EditLaws.{edit_done, edit_ends}
 use Rattle.yq_history.proofs.EffectLaws.{works_outside}
 use Rattle.yq_commands.proofs.EditEffects.{edit_works}
@@ -13,7 +13,7 @@ use Rattle.yq_commands.proofs.edit.commit.Goals as goal
 pub returns-clause-arrives : goal.returns-clause-arrives
 returns-clause-arrives g c = λ keeps apart h p k gives.
     let e = c.carry_out.ensures in
-    let leads = ap (λ (r : Patch). done r c.args.old.now) c.in_ok-edit.ensures ∙ edit_done c.args.expr.now _ c.args.old.now c.args.new.now c.requires.leads in
+    let leads = ap (λ (r : Record). done r c.args.old.now) c.in_ok-edit.ensures ∙ edit_done c.args.expr.now _ c.args.old.now c.args.new.now c.requires.leads in
     edit_ends _ _ _ h _ p _ _ k _ _ _ _ c.in_ok-edit.ensures gives c.requires.changes c.carry_out.result
     (record {
       leads = leads;
@@ -36,7 +36,7 @@ returns-in_err-edit-clause-effect g c = λ keeps apart p gives.
 pub returns-clause-effect : goal.returns-clause-effect
 returns-clause-effect g c = λ keeps apart p gives.
     let e = c.carry_out.ensures in
-    let leads = ap (λ (r : Patch). done r c.args.old.now) c.in_ok-edit.ensures ∙ edit_done c.args.expr.now _ c.args.old.now c.args.new.now c.requires.leads in
+    let leads = ap (λ (r : Record). done r c.args.old.now) c.in_ok-edit.ensures ∙ edit_done c.args.expr.now _ c.args.old.now c.args.new.now c.requires.leads in
     edit_works c.args.file.now c.args.name.now (g.D.Store.content c.args.store.now) c.args.expr.now c.args.journal.now c.args.old.now _ _ _ c.in_ok-edit.ensures
     (edits p c.args.old.now) _ c.carry_out.result gives c.requires.changes
     (record {

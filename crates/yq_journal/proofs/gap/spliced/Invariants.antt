@@ -1,5 +1,5 @@
 use Rattle.std.proofs.Common.{◌≡◌, drop}
-use Rattle.yq_script.specs.Patch.{all_done}
+use Rattle.yq_script.specs.Splice.{all_done}
 use Rattle.yq_journal.specs.Gap.{whole}
 use Rattle.yq_journal.proofs.gap.spliced.Given as goal
 

@@ -1,7 +1,7 @@
 use Rattle.std.proofs.Common.{◌≡◌, ◌≤◌, ◌<◌, ◌+◌, ◌-◌, ◌^◌, length, take, sym, ap, ◌∙◌, arith, refl}
 use Rattle.std.proofs.lemmas.Option.{same_Some}
 use Rattle.std.specs.Prelude.{slice_get}
-use Rattle.yq_script.specs.Patch.{all_done}
+use Rattle.yq_script.specs.Splice.{all_done}
 use Rattle.yq_journal.specs.Turned.{turned}
 use Rattle.yq_journal.proofs.StandLaws.{one_earlier, came_from}
 use Rattle.yq_journal.proofs.stands.byte_after.Goals as goal

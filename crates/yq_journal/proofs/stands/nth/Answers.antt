@@ -1,7 +1,7 @@
 use Rattle.std.proofs.Common.{◌-◌, length, Some, sym, ap, ap₂, ◌∙◌, refl, arith}
 use Rattle.std.specs.Prelude.{slice_get}
 use Rattle.std.proofs.lemmas.Option.{slice_get_read}
-use Rattle.yq_script.specs.Patch.{Splice, swapped}
+use Rattle.yq_script.specs.Splice.{Splice, swapped}
 use Rattle.yq_journal.specs.Gap.{change}
 use Rattle.yq_journal.specs.Turned.{turned}
 use Rattle.yq_journal.proofs.StandLaws.{flipped_at}

@@ -1,6 +1,6 @@
 use Rattle.std.proofs.Common.{◌≡◌, true, take}
 use Rattle.std.specs.Prelude.{is_some}
-use Rattle.yq_script.specs.Patch.{all_done}
+use Rattle.yq_script.specs.Splice.{all_done}
 use Rattle.yq_journal.specs.Turned.{turned}
 use Rattle.yq_journal.proofs.stands.stand.Given as goal
 

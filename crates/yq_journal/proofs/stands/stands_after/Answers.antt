@@ -1,7 +1,7 @@
 use Rattle.std.proofs.Common.{Some, sym, ap, ◌∙◌, arith}
 use Rattle.std.specs.Prelude.{is_some}
-use Rattle.yq_script.specs.Patch.{all_done, flipped, lengths_done}
-use Rattle.yq_journal.specs.Record.{Patch, undone}
+use Rattle.yq_script.specs.Splice.{all_done, flipped, lengths_done}
+use Rattle.yq_journal.specs.Record.{Record, undone}
 use Rattle.yq_journal.proofs.StandLaws.{ends_alike, lengths_flip}
 use Rattle.yq_journal.proofs.stands.stands_after.Goals as goal
 
@@ -13,4 +13,4 @@ returns-then-text-patch c =
     let back = lengths_flip c.patch.inside.splices.items c.patch.inside.before_len c.patch.inside.after_len c.patch.invariant.lengths (omega arith) in
     c.stand_back.ensures ∙ ap (λ l. is_some (all_done (flipped l) c.args.text.now)) c.deref.ensures.value
     ∙ ends_alike (flipped c.patch.inside.splices.items) c.patch.inside.after_len c.patch.inside.before_len c.args.text.now back c.if-text-patch.true
-    ∙ ap (λ (p : Patch). is_some (undone p c.args.text.now)) c.patch.view_is
+    ∙ ap (λ (p : Record). is_some (undone p c.args.text.now)) c.patch.view_is

@@ -1,4 +1,4 @@
-use Rattle.yq_script.proofs.PatchLaws.{done-from_exchanges, exchanges-from_done}
+use Rattle.yq_script.proofs.SpliceLaws.{done-from_exchanges, exchanges-from_done}
 use Rattle.yq_script.proofs.splice.splice_exchanges.Goals as goal
 
 pub returns : goal.returns

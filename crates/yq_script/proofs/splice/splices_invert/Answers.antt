@@ -1,4 +1,4 @@
-use Rattle.yq_script.proofs.PatchLaws.{taken_back, done_again}
+use Rattle.yq_script.proofs.SpliceLaws.{taken_back, done_again}
 use Rattle.yq_script.proofs.splice.splices_invert.Goals as goal
 
 pub returns : goal.returns

@@ -1,6 +1,6 @@
 use Rattle.std.proofs.Common.{ℕ, List}
 use Rattle.std.specs.String.{string_bytes}
-use Rattle.yq_script.specs.Patch.{Splice}
+use Rattle.yq_script.specs.Splice.{Splice}
 use Rattle.yq_splice.proofs.UpdateLaws.{step_between}
 use Rattle.yq_splice.proofs.editing.step.Goals as goal
 

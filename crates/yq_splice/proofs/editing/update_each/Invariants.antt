@@ -2,7 +2,7 @@ use Rattle.std.proofs.Common.{◌≡◌, ◌≤◌, ◌-◌, List, take}
 use Rattle.std.specs.String.{string_bytes}
 use Rattle.yq_program.specs.Program.{Update, update_count, updates}
 use Rattle.yq_program.specs.View.{program_of}
-use Rattle.yq_splice.specs.Theorems.{Leads}
+use Rattle.yq_splice.specs.Theorems.{InOrder}
 use Rattle.yq_splice.specs.Valid.{IsStep}
 use Rattle.yq_splice.proofs.editing.update_each.Given as goal
 
@@ -10,7 +10,7 @@ abbrev pub invariant-updates : goal.invariant-updates
 invariant-updates l = record {
   count : l.count ≡ update_count (program_of l.fn.program);
   bound : l.nth ≤ l.count;
-  leads : (us : List Update) → program_of l.fn.program ≡ updates us → Leads IsStep (take l.nth us) l.fn.text (string_bytes l.done.text) l.done.splices.items;
+  leads : (us : List Update) → program_of l.fn.program ≡ updates us → InOrder IsStep (take l.nth us) l.fn.text (string_bytes l.done.text) l.done.splices.items;
 }
 
 abbrev pub decreases-updates : goal.decreases-updates

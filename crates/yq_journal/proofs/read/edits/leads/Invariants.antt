@@ -1,5 +1,5 @@
 use Rattle.std.proofs.Common.{◌≡◌, drop}
-use Rattle.yq_script.specs.Patch.{lengths_done}
+use Rattle.yq_script.specs.Splice.{lengths_done}
 use Rattle.yq_journal.proofs.read.edits.leads.Given as goal
 
 abbrev pub invariant-splices : goal.invariant-splices

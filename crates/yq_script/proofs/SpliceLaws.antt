@@ -8,7 +8,7 @@ use Rattle.std.proofs.lemmas.Bool.{le-leb, leb-true, and_parts}
 use Rattle.std.proofs.lemmas.Bool.Decides.{Decides-eqb}
 use Rattle.std.proofs.lemmas.List.{take-append-drop}
 use Rattle.std.proofs.lemmas.Slice.Eq.{starts_is}
-use Rattle.yq_script.specs.Patch.{Splice, swapped, Exchanges, is_found, change_done, all_done, flipped, lengths_done, length_done}
+use Rattle.yq_script.specs.Splice.{Splice, swapped, Exchanges, is_found, change_done, all_done, flipped, lengths_done, length_done}
 
 -- what is exchanged in one place is a splice done
 pub done-from_exchanges : (s : Splice) (b c : List ℕ) → Exchanges s b c → change_done s b ≡ Some c
