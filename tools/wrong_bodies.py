@@ -93,9 +93,10 @@ def tried(crate, copy, runs):
     """Tries the wrong bodies of one crate, and gives how many there are and how many were refused."""
     count, told, refused = len(names_in(crate)), 0, 0
     say(f"{crate}: begins, {count} wrong bodies")
-    # What a run keeps while it tries them goes with the room, also where the run is ended.
+    # What a run keeps while it tries them goes with the room, also where the run is ended. Each run does one thing at a time,
+    # since as many run as processors and memory allow.
     room = tempfile.mkdtemp(prefix=f"{crate}-", dir=os.path.dirname(copy))
-    how = {"cwd": copy, "env": {**os.environ, "TMPDIR": room}, "encoding": "utf-8", "errors": "replace"}
+    how = {"cwd": copy, "env": {**os.environ, "TMPDIR": room, "RT_JOBS": "1"}, "encoding": "utf-8", "errors": "replace"}
     with runs.start([*RT, "must-fail", crate], stdout=subprocess.PIPE, stderr=subprocess.STDOUT, **how) as rt:
         for line in rt.stdout:
             text = line.rstrip("\n")
