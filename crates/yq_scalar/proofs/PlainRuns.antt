@@ -1,5 +1,5 @@
 -- Bytes at which no plain scalar ends.
-use Rattle.std.proofs.Common.{◌≡◌, ◌⊎◌, ℕ, suc, ◌+◌, Bool, true, false, ◌||◌, not, eqb, Option, List, [], ◌∷◌, length, drop, refl, sym, inl, inr, ◌∙◌, subst, arith}
+use Rattle.std.proofs.Common.{◌≡◌, ℕ, suc, ◌+◌, Bool, true, false, ◌||◌, not, eqb, Option, List, [], ◌∷◌, drop, refl, sym, inl, inr, subst, arith}
 use Rattle.std.proofs.lemmas.Bool.{false≢true, and_right, cases_Bool}
 use Rattle.std.specs.List.{prefix_len}
 use Rattle.yq_scalar.specs.Text.{upto, is_feed, is_white, is_return, is_space}
