@@ -57,6 +57,17 @@ fn bare_fault(
     head_fault(alloc, &line.head, depth)
 }
 
+/// Why a line can't stand where others of a collection at a level do: behind neither key nor dash in the
+/// column of the keys, where its key is missing, or in another column or collection.
+fn misplaced(line: &Line<'_>, n: usize) -> FaultKind {
+    let is_bare = matches!(line.mark, Mark::Bare);
+    if is_bare && level(line).saturating_add(1) == n {
+        FaultKind::BadKey
+    } else {
+        FaultKind::BadIndent
+    }
+}
+
 /// What is at fault in a line of a collection: it is to stand at the collection's level, to have no head
 /// where lines are under it, and a head that is sound.
 fn line_fault(
@@ -71,7 +82,7 @@ fn line_fault(
 {
     let line = &lines[at];
     if level(line) != n {
-        return Ok(Some(Flaw::of_line(at, FaultKind::BadIndent)));
+        return Ok(Some(Flaw::of_line(at, misplaced(line, n))));
     }
     if has_head(&line.head) && is_deeper(lines, at + 1, n) {
         return Ok(Some(Flaw::of_line(at + 1, FaultKind::BadIndent)));

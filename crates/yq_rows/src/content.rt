@@ -9,10 +9,10 @@ ghost use Rattle.yq_rows.specs.Lending.{filled_at, filling_view};
 ghost use Rattle.yq_scalar.specs.Text.{front, is_empty};
 ghost use Rattle.yq_rows.specs.Reading as spec;
 
-use crate::fault::fault;
+use crate::fault::{block_fault, fault};
 use crate::gap::is_hash;
 use crate::marks::Mark;
-use crate::naming::{no_content, no_tail};
+use crate::naming::{no_content, no_further_line, no_tail};
 use std::alloc::Global;
 use yq_inline::pieces::{begins_content, first_is, name_len, strip};
 use yq_inline::reading::read_node;
@@ -113,7 +113,7 @@ fn read_block_content<'t>(
     }
     let piece = match read_block(rest, 0, parent) {
         Ok(piece) => piece,
-        Err(kind) => return Err(ReadError::Fault(fault(kind, whole, rest))),
+        Err(kind) => return Err(ReadError::Fault(block_fault(kind, whole, rest))),
     };
     let (head, rest) = rest.split_at(piece.head_end);
     let (tail, rest) = rest.split_at(piece.raw_start - piece.head_end);
@@ -199,10 +199,10 @@ fn read_inline_content<'t>(
             alone: may_be_alone(space, nothing),
             rest,
         }),
-        None => {
-            let kind = no_tail(mark, space, anchor, head, behind);
-            Err(ReadError::Fault(fault(kind, whole, text)))
-        }
+        None => Err(ReadError::Fault(match no_further_line(mark, spaces, head, behind) {
+            Some(kind) => fault(kind, whole, behind),
+            None => fault(no_tail(mark, space, anchor, head, behind), whole, text),
+        })),
     }
 }
 
