@@ -3,7 +3,7 @@ use Rattle.std.proofs.Common.{◌≡◌, ℕ, zero, suc, ◌+◌, Bool, true, fa
 use Rattle.std.proofs.Math.Bool.{or-true}
 use Rattle.std.proofs.lemmas.Bool.{false≢true, not-false, and_parts, cases_Bool, or_parts}
 use Rattle.std.proofs.lemmas.List.{take-append-drop}
-use Rattle.yq_scalar.specs.Text.{is_white, is_break, is_feed, is_return, is_space, front, upto, NoneIn}
+use Rattle.yq_scalar.specs.Text.{is_white, is_break, is_feed, is_return, is_space, front, upto, cut, NoneIn}
 use Rattle.yq_scalar.specs.Quoted.{folded, joined, gap_text}
 use Rattle.yq_scalar.specs.ContentReading.{Before, within, after, filled, broken, content_on, breaks, spaced, space_text, before_of}
 use Rattle.yq_scalar.specs.Plain.{no_gap}
@@ -98,3 +98,15 @@ space_ends (b ∷ bs) = elim (cases_Bool (is_space (b ∷ bs))) [
 pub content_gap : (q : ℕ) (j : Bool) (t : List ℕ) → content_on q 0 (before_of j) [] t ≡ space_text j (take (upto no_gap t) t) ++ content_on q 0 within [] (drop (upto no_gap t) t)
 content_gap q j t = ap (content_on q 0 (before_of j) []) (sym (take-append-drop (upto no_gap t) t))
     ∙ content_space q j (take (upto no_gap t) t) (drop (upto no_gap t) t) (none_in_cut no_gap t) (space_ends t)
+
+-- what white space and breaks in front stand for, and what follows
+pub gap_next : (q : ℕ) (j : Bool) (t space next gap : List ℕ) → (space, next) ≡ cut no_gap t → gap ≡ space_text j space → content_on q 0 (before_of j) [] t ≡ gap ++ content_on q 0 within [] next
+gap_next q j t space next gap parts is =
+    content_gap q j t
+    ∙ ((λ i. space_text j (sym (ap (λ (y : List ℕ × List ℕ). y.0) parts) i) ++ content_on q 0 within [] (sym (ap (λ (y : List ℕ × List ℕ). y.1) parts) i))
+    ∙ ap (λ l. l ++ content_on q 0 within [] next) (sym is))
+
+-- what these and the item behind them stand for, and what follows
+pub content_next : (q : ℕ) (j k : Bool) (t space next rest gap front : List ℕ) → (space, next) ≡ cut no_gap t → gap ≡ space_text j space → content_on q 0 within [] next ≡ front ++ content_on q 0 (before_of k) [] rest →
+    content_on q 0 (before_of j) [] t ≡ gap ++ (front ++ content_on q 0 (before_of k) [] rest)
+content_next q j k t space next rest gap front parts is item = gap_next q j t space next gap parts is ∙ ap (λ l. gap ++ l) item

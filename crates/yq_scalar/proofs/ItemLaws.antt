@@ -163,6 +163,11 @@ cut_shorter ends (b ∷ bs) r e some h =
     let rest : r ≡ drop (upto ends bs) bs = rw h at e in
     omega (arith, ap length rest, length-drop (upto ends bs) bs)
 
+-- a run begins where neither white space, a break, two quotes nor a backslash is in front
+pub runs_on : (q : ℕ) (t : List ℕ) → 0 < length t → is_space t ≡ false → is_pair q t ≡ false → is_slash q t ≡ false → ends_run q t ≡ false
+runs_on q [] some space pair slash = absurd (omega (arith, some))
+runs_on q (b ∷ bs) some space pair slash = rw (space, pair, slash) refl
+
 -- what is shorter than a text that is no longer
 pub shorter_still : (x next all : ℕ) → next ≤ all → x ≤ next → (0 < next → x < next) → 0 < all → x < all
 shorter_still x next all no_longer le lt some = elim (cases_lt 0 next) [

@@ -27,6 +27,7 @@ pub mod QuotedFound
 pub mod PieceLaws
 pub mod FoldLaws
 pub mod ItemLaws
+pub mod SameContentLaws
 pub mod ContentLaws
 pub mod PlainContentLaws
 pub mod WrittenLaws

@@ -30,3 +30,4 @@ pub mod BlockContent
 pub mod BlockWritten
 pub mod BlockRepair
 pub mod ReadBack
+pub mod Folded

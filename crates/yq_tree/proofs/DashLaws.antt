@@ -17,7 +17,6 @@ use Rattle.yq_rows.specs.View.{Slices, slices, rows_of, Shown, shown}
 use Rattle.yq_rows.proofs.NodePieces.{behind_ascii}
 use Rattle.yq_rows.proofs.PlaceLaws.{dashes_then}
 use Rattle.yq_documents.specs.declared.path.Path.{Path}
-use Rattle.yq_documents.specs.declared.checks.DocumentLines.{DocumentLines}
 use Rattle.yq_tree.specs.CommentReading.{before_row}
 use Rattle.yq_tree.specs.DashPlaces.{DashPlace, past_dash, dash_in, dash_place, is_noted, upto_dash}
 use Rattle.yq_tree.specs.DashTelling.{dash_column}
@@ -29,10 +28,10 @@ use Rattle.yq_tree.specs.PlacedRows.{PlacedRow, placed_document, row_of_path}
 use Rattle.yq_documents.specs.Reading.{cut_of}
 use Rattle.yq_tree.specs.SeatReading.{Numbers, numbers}
 use Rattle.yq_documents.specs.Seats.{seat_of, seat_at, document_row}
-use Rattle.yq_documents.specs.SoundReading.{Holds}
+use Rattle.yq_tree.specs.RowWalk.{HasCut}
 use Rattle.yq_tree.proofs.CommentPieceLaws.{row_place}
 use Rattle.yq_tree.proofs.EntryPlaceLaws.{seat_is}
-use Rattle.yq_tree.proofs.HeldLaws.{held_shown}
+use Rattle.yq_tree.proofs.HeldLaws.{cut_shown}
 use Rattle.yq_tree.proofs.LengthLaws.{row_fits, shown_small}
 use Rattle.yq_tree.proofs.PlacedRowLaws.{IsSeatOf, seat_placed, no_seat_placed}
 use Rattle.yq_tree.proofs.PrintedTexts.{map_some}
@@ -87,7 +86,7 @@ last_line_dash path c n seat last =
     sym (ap (λ (o : Option PlacedRow). o >>= λ w. cond (eqb w.line (length w.row.dashes)) None (Some (dash_in w))) k.is ∙ ap (λ b. cond b None (Some (dash_in w))) test)
 
 -- another line of it
-module _ (t : List ℕ) (x : Shown) (ds : List DocumentLines) (held : Holds t x ds) (path : Path) (n : Numbers) (seat : Some n ≡ option_map (numbers (document_row path.doc (cut_of t))) (seat_at path (cut_of t))) (s : Slices) (row : slice_get x.rows n.0 ≡ Some s) where
+module _ (t : List ℕ) (x : Shown) (held : HasCut t x) (path : Path) (n : Numbers) (seat : Some n ≡ option_map (numbers (document_row path.doc (cut_of t))) (seat_at path (cut_of t))) (s : Slices) (row : slice_get x.rows n.0 ≡ Some s) where
   abbrev c : Cut
   c = cut_of t
 
@@ -105,7 +104,7 @@ module _ (t : List ℕ) (x : Shown) (ds : List DocumentLines) (held : Holds t x 
 
   -- the column fits
   pub column_fits : s.column + length s.dashes ≤ text_limit
-  column_fits = let f = row_fits x n.0 s row in omega (arith, f, shown_small x (held_shown t x ds held))
+  column_fits = let f = row_fits x n.0 s row in omega (arith, f, shown_small x (cut_shown t x held))
 
   begins : line_begin (row_start n.0 (shown c)) (slices w.row) w.line ≡ length (before_line n.0 w.line w.row c)
   begins = line_begins c n.0 w.line w.row k.at.there within

@@ -16,12 +16,13 @@ use Rattle.yq_documents.specs.Documents.{document_parts}
 use Rattle.yq_tree.specs.EntryReading.{before_line, through_row, lines_place, head_extent, line_head, lines_content, line_content, entry_from, content_from, entry_of, content_of}
 use Rattle.yq_tree.specs.EntryReading.{line_begin, first_row, entry_within, HasFlows}
 use Rattle.yq_tree.specs.Extents.{row_start}
+use Rattle.yq_tree.specs.RowWalk.{document_rows}
 use Rattle.yq_lines.specs.View.{flows, views}
 use Rattle.yq_documents.specs.Lines.{lines_of}
 use Rattle.yq_lines.specs.Outline.{Line}
-use Rattle.yq_documents.specs.PartReading.{Lined, lined, document_view, first_rows, some_begin}
+use Rattle.yq_documents.specs.PartReading.{Lined, lined, document_view}
 use Rattle.yq_documents.specs.Reading.{cut_of}
-use Rattle.yq_tree.specs.SeatReading.{begin_row, Numbers, numbers}
+use Rattle.yq_tree.specs.SeatReading.{Numbers, numbers}
 use Rattle.yq_documents.specs.Seats.{Seat, behind_one, seat, seat_of, document_row}
 use Rattle.yq_lines.specs.Ends.{reached, lines_end}
 use Rattle.yq_documents.specs.SoundReading.{Holds}
@@ -30,7 +31,7 @@ use Rattle.yq_lines.proofs.EndsLaws.{has_line}
 use Rattle.yq_tree.proofs.FlowPlaceLaws.{flow_told}
 use Rattle.yq_tree.proofs.HeldFlows.{held_flows}
 use Rattle.yq_tree.proofs.RowStarts.{line_begins}
-use Rattle.yq_tree.proofs.SeatLaws.{part_begins, part_at, none_past, held_begin}
+use Rattle.yq_tree.proofs.SeatLaws.{part_begins, part_at}
 use Rattle.yq_lines.proofs.Values.{If}
 use Rattle.yq_documents.specs.declared.checks.DocumentLines.{DocumentLines}
 use Rattle.yq_tree.proofs.SeatedLaws.{get_drop, get_front}
@@ -121,21 +122,15 @@ no_head c rs first n e = go (seat n rs) e
     go None e = refl
     go (Some s) e = absurd (cc)
 
--- the first row of a document that is held
-pub first_told : (t : List ℕ) (s : Shown) (ds : List DocumentLines) (i : ℕ) → Holds t s ds → i < length ds → begin_row (first_rows s.bounds || not (some_begin s.bounds)) i 0 s.bounds ≡ first_row i (cut_of t)
-first_told t s ds i h within =
-    let there = got ds i within in
-    let part = part_at ds (document_parts (cut_of t)) h.lined i there.0 there.1 in
-    (held_begin t s ds i part.0 h part.1).0 ∙ ap (λ (o : Option Part). option_map (λ p. document_row i (cut_of t)) o) (sym part.1)
+-- the first row of a document, by its rows
+pub first_told : (c : Cut) (i : ℕ) → option_map (λ x. x.0) (document_rows i c) ≡ first_row i c
+first_told c i = go (slice_get (document_parts c) i)
   where
-    got : (ds : List DocumentLines) (i : ℕ) → i < length ds → (d : DocumentLines) × (slice_get ds i ≡ Some d)
-    got [] i h = absurd (omega (arith, h))
-    got (d ∷ ds) zero h = (d, refl)
-    got (d ∷ ds) (suc i) h = got ds i (omega (arith, h))
+    go : (o : Option Part) → option_map (λ x. x.0) (option_map (λ p. (document_row i c, document_row i c + length p.rows)) o) ≡ option_map (λ p. document_row i c) o
+    go None = refl
+    go (Some p) = refl
 
-pub first_past : (t : List ℕ) (s : Shown) (ds : List DocumentLines) (i : ℕ) → Holds t s ds → length ds ≤ i → None ≡ first_row i (cut_of t)
-first_past t s ds i h past = ap (λ (o : Option Part). option_map (λ p. document_row i (cut_of t)) o) (sym (none_past ds (document_parts (cut_of t)) h.lined i past))
-
+-- a document that has a first row is one of those that are held
 pub first_within : (t : List ℕ) (s : Shown) (ds : List DocumentLines) (i k : ℕ) → Holds t s ds → Some k ≡ first_row i (cut_of t) → i < length ds
 first_within t s ds i k h e = go (slice_get (document_parts (cut_of t)) i) refl e
   where

@@ -35,6 +35,12 @@ pub mod RowPathLaws
 pub mod SeatedLaws
 pub mod NextLaws
 pub mod HeldScalars
+pub mod WalkDocuments
+pub mod WalkEnds
+pub mod WalkLevels
+pub mod WalkRows
+pub mod WalkSpots
+pub mod WalkNodes
 pub mod WrittenLaws
 pub mod UnderExchange
 pub mod PrintedTexts

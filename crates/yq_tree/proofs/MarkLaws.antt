@@ -13,7 +13,6 @@ use Rattle.yq_rows.specs.Exchange.{row_front}
 use Rattle.yq_rows.specs.Rows.{Cut}
 use Rattle.yq_rows.specs.View.{Slices, slices, rows_of, Shown}
 use Rattle.yq_documents.specs.declared.path.Path.{Path}
-use Rattle.yq_documents.specs.declared.checks.DocumentLines.{DocumentLines}
 use Rattle.yq_tree.specs.CommentPlaces.{LineEnd, end_of_line, line_end}
 use Rattle.yq_documents.specs.Located.{steps_of}
 use Rattle.yq_tree.specs.MarkPlaces.{MarkPlace, behind_anchor, behind_mark, mark_at, mark_in, mark_place, upto_anchor}
@@ -22,7 +21,7 @@ use Rattle.yq_tree.specs.PlacedRows.{PlacedRow, row_of_path}
 use Rattle.yq_documents.specs.Reading.{cut_of}
 use Rattle.yq_tree.specs.SeatReading.{Numbers, numbers}
 use Rattle.yq_documents.specs.Seats.{seat_at, document_row}
-use Rattle.yq_documents.specs.SoundReading.{Holds}
+use Rattle.yq_tree.specs.RowWalk.{HasCut}
 use Rattle.yq_tree.proofs.PlacedRowLaws.{seat_placed, no_seat_placed}
 
 -- ---- what is written behind a mark and its anchor
@@ -102,7 +101,7 @@ pub no_row_mark : (path : Path) (c : Cut) (k : ℕ) (end : LineEnd) → Some end
 no_row_mark path c k end there e =
     sym (ap (λ (o : Option PlacedRow). option_map (mark_in end) o) (no_seat_placed path c k e)) ∙ ap (λ (o : Option LineEnd). o >>= λ e. option_map (mark_in e) (row_of_path path.doc (steps_of path) c)) there
 
-module _ (t : List ℕ) (x : Shown) (ds : List DocumentLines) (held : Holds t x ds) (path : Path) (n : Numbers) (seat_is : Some n ≡ option_map (numbers (document_row path.doc (cut_of t))) (seat_at path (cut_of t))) (end : LineEnd) (end_is : Some end ≡ line_end path.doc (steps_of path) (cut_of t)) where
+module _ (t : List ℕ) (x : Shown) (held : HasCut t x) (path : Path) (n : Numbers) (seat_is : Some n ≡ option_map (numbers (document_row path.doc (cut_of t))) (seat_at path (cut_of t))) (end : LineEnd) (end_is : Some end ≡ line_end path.doc (steps_of path) (cut_of t)) where
   abbrev w : PlacedRow
   w = (seat_placed path (cut_of t) n seat_is).0
 

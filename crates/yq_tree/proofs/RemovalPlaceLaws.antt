@@ -2,7 +2,7 @@
 use Rattle.std.proofs.Common.{◌≡◌, ℕ, zero, suc, ◌+◌, ◌-◌, ◌<◌, ◌≤◌, eqb, ltb, List, [], ◌∷◌, ◌++◌, length, map, take, drop, Option, Some, None, option_map, Bool, true, false, cond, refl, sym, ap, ◌∙◌, subst, arith, length-append, length-take-le}
 use Rattle.std.proofs.Math.Seq.{drop-append_seam, take-append_seam}
 use Rattle.std.proofs.lemmas.Bool.{cond-true, cond-false, eq-eqb, ne_eqb, eqb-true, ltb-true}
-use Rattle.std.proofs.lemmas.List.{drop-map, length-drop, take-append-drop, drop-append-le}
+use Rattle.std.proofs.lemmas.List.{length-drop, take-append-drop}
 use Rattle.std.proofs.lemmas.Option.{cond_some, same_Some}
 use Rattle.std.proofs.lemmas.Str.{IsCharBoundary-at_seam}
 use Rattle.std.specs.List.{slice_get}
@@ -16,22 +16,20 @@ use Rattle.yq_scalar.proofs.LineLaws.{joined_lines}
 use Rattle.yq_lines.specs.Comments.{head_comment}
 use Rattle.yq_lines.specs.Ends.{line_of, lines_end}
 use Rattle.yq_lines.specs.Outline.{Line}
-use Rattle.yq_lines.proofs.Parts.{drop_at}
-use Rattle.yq_rows.specs.Grammar.{IsCut, no_rows}
+use Rattle.yq_rows.specs.Grammar.{no_rows}
 use Rattle.yq_rows.specs.Removal.{hold_comment}
-use Rattle.yq_rows.specs.Rows.{Mark, Content, Row, Part, Cut}
-use Rattle.yq_rows.specs.View.{Slices, slices, rows_of, Shown, shown}
-use Rattle.yq_tree.specs.Extents.{lines_before_mark}
+use Rattle.yq_rows.specs.Rows.{Mark, Content, Row}
 use Rattle.yq_documents.specs.Lines.{lines_from, row_lines, lines_of}
 use Rattle.yq_documents.specs.Pieces.{before_run, last_run}
 use Rattle.yq_tree.specs.RemovalPlaces.{OwnRows, row_count, in_three, own_rows}
-use Rattle.yq_tree.specs.RemovalReading.{slices_count, marks}
-use Rattle.yq_tree.specs.SeatReading.{Numbers, behind, slices_seat, numbers}
+use Rattle.yq_tree.specs.RemovalReading.{marks}
+use Rattle.yq_tree.specs.RowWalk.{line_number}
+use Rattle.yq_tree.specs.declared.places.spot.Spot.{Spot}
+use Rattle.yq_tree.specs.declared.places.spot.Stretch.{Stretch}
 use Rattle.yq_documents.specs.Seats.{Seat, behind_one, seat}
-use Rattle.yq_tree.proofs.CountLaws.{AreCounted, cut_counted}
 use Rattle.yq_tree.proofs.PlacedPartLaws.{map_some}
 use Rattle.yq_tree.proofs.RemovalTexts.{gap_parts}
-use Rattle.yq_tree.proofs.SeatLaws.{seat_told, counted_drop}
+use Rattle.yq_tree.proofs.WalkDocuments.{seat_number}
 
 -- ---- a gap cut before its comment
 
@@ -55,25 +53,12 @@ rest_is gap run e = (λ i. drop (kept_length gap run e i) (gap_is gap run e i)) 
 
 -- ---- rows that have so many lines
 
-pub next_count : (n : ℕ) (s : Slices) (ss : List Slices) → 0 < n → slices_count n (s ∷ ss) ≡ suc (slices_count (n - lines_before_mark s - 1) ss)
-next_count zero s ss h = absurd (omega (arith, h))
-next_count (suc n) s ss h = let less : n - lines_before_mark s ≡ suc n - lines_before_mark s - 1 = omega arith in ap (λ (k : ℕ). suc (slices_count k ss)) less
-
 rows_within : (n : ℕ) (rs : List Row) → row_count n rs ≤ length rs
 rows_within zero rs = omega arith
 rows_within (suc n) [] = omega arith
 rows_within (suc n) (r ∷ rs) = omega (arith, rows_within (n - length r.dashes) rs)
 
 -- ---- lists cut in two
-
-drop_none : {A : Type 0} (i : ℕ) → drop {A = A} i [] ≡ []
-drop_none zero = refl
-drop_none (suc i) = refl
-
-drop_more : {A : Type 0} (i j : ℕ) (xs : List A) → drop (i + j) xs ≡ drop j (drop i xs)
-drop_more zero j xs = let same : 0 + j ≡ j = omega arith in ap (λ (k : ℕ). drop k xs) same
-drop_more (suc i) j [] = drop_none (suc i + j) ∙ sym (drop_none j)
-drop_more (suc i) j (x ∷ xs) = let same : suc i + j ≡ suc (i + j) = omega arith in ap (λ (k : ℕ). drop k (x ∷ xs)) same ∙ drop_more i j xs
 
 three_whole : (i n : ℕ) (rs : List Row) → rs ≡ take i rs ++ (take n (drop i rs) ++ drop n (drop i rs))
 three_whole i n rs = sym (ap (λ (x : List Row). take i rs ++ x) (take-append-drop n (drop i rs)) ∙ take-append-drop i rs)
@@ -112,11 +97,34 @@ some_lines : (rs : List Row) → 0 < length rs → 0 < length (lines_of rs)
 some_lines [] h = absurd (omega (arith, h))
 some_lines (r ∷ rs) h = omega (arith, more_lines r rs)
 
-same_count : (k : ℕ) (rs more : List Row) → AreCounted (rs ++ more) → k ≤ length (lines_of rs) → slices_count k (map slices (rs ++ more)) ≡ row_count k rs
-same_count zero rs more h less = refl
-same_count (suc k) [] more h less = absurd (omega (arith, less))
-same_count (suc k) (r ∷ rs) more h less =
-    ap (λ (j : ℕ). suc (slices_count (k - j) (map slices (rs ++ more)))) h.0 ∙ ap suc (same_count (k - length r.dashes) rs more h.1 (omega (arith, less, more_lines r rs)))
+-- so many rows have the lines of the first of them
+count_rows : (j : ℕ) (rs : List Row) → j ≤ length rs → row_count (length (lines_of (take j rs))) rs ≡ j
+count_rows zero rs h = refl
+count_rows (suc j) [] h = absurd (omega (arith, h))
+count_rows (suc j) (r ∷ rs) h =
+    let m : ℕ = length (lines_of (take j rs)) in
+    let size : length (lines_of (r ∷ take j rs)) ≡ suc (length r.dashes + m) = omega (arith, more_lines r (take j rs)) in
+    let less : length r.dashes + m - length r.dashes ≡ m = omega arith in
+    ap (λ (k : ℕ). row_count k (r ∷ rs)) size ∙ ap suc (ap (λ (k : ℕ). row_count k rs) less ∙ count_rows j rs (omega (arith, h)))
+
+-- the lines of rows between others
+lines_between : (i e : ℕ) (rs : List Row) → i ≤ e → length (lines_of (take e rs)) ≡ length (lines_of (take i rs)) + length (lines_of (take (e - i) (drop i rs)))
+lines_between zero e rs h = let same : e ≡ e - 0 = omega arith in omega (arith, ap (λ (k : ℕ). length (lines_of (take k rs))) same)
+lines_between (suc i) zero rs h = absurd (omega (arith, h))
+lines_between (suc i) (suc e) [] h = omega (arith, none (suc e - suc i))
+  where
+    none : (k : ℕ) → length (lines_of (take k [])) ≡ 0
+    none zero = refl
+    none (suc k) = refl
+lines_between (suc i) (suc e) (r ∷ rs) h =
+    let less : suc e - suc i ≡ e - i = omega arith in
+    omega (
+      arith,
+      lines_between i e rs (omega (arith, h)),
+      more_lines r (take e rs),
+      more_lines r (take i rs),
+      ap (λ (k : ℕ). length (lines_of (take k (drop i rs)))) less,
+    )
 
 -- ---- the rows of an item or entry
 
@@ -163,63 +171,34 @@ own_stands steps rs x e =
       some = some_own (lines_end n (lines_of rs) - n) (drop q.before rs) (omega (arith, past)) (omega (arith, left, at.0));
     })
 
--- by the pieces of rows
-pub own_told : (t : List ℕ) (c : Cut) (s : Shown) (p : Part) (more : List Row) (steps : List Step) (first n row line dashes end : ℕ) → IsCut t c → s ≡ shown c → drop first (rows_of c) ≡ p.rows ++ more →
-    Some n ≡ line_of steps (lines_of p.rows) → n < length (lines_of p.rows) → Some (row, line, dashes) ≡ behind first (slices_seat n (drop first s.rows)) → line ≡ 0 → lines_end n (lines_of p.rows) ≤ length (lines_of p.rows) →
-    end ≡ row + slices_count (lines_end n (lines_of p.rows) - n) (drop row s.rows) → Some (first, row, end) ≡ option_map (marks first) (own_rows steps p.rows)
-own_told t c s p more steps first n row line dashes end cut is there line_is within at none_before bound end_is =
-    go (seat n p.rows) refl (seat_told t c s p more first n (Some (row, line, dashes)) cut is there within at)
-  where
-    go : (o : Option Seat) → seat n p.rows ≡ o → Some (row, line, dashes) ≡ option_map (numbers first) o → Some (first, row, end) ≡ option_map (marks first) (own_rows steps p.rows)
-    go None so e = absurd (cc)
-    go (Some q) so e =
-        let told : (row, line, dashes) ≡ numbers first q = (let f : Some (row, line, dashes) ≡ Some (numbers first q) = e in cc) in
-        let row_is : row ≡ first + q.before = ap (λ (x : Numbers). x.0) told in
-        let line_zero : q.line ≡ 0 = sym (ap (λ (x : Numbers). x.1) told) ∙ none_before in
-        let h : OwnLine steps p.rows n q = record { line = sym line_is; row = so; first = line_zero } in
-        let k : ℕ = lines_end n (lines_of p.rows) - n in
-        let inside = seat_in n p.rows q so in
-        let pieces : drop first s.rows ≡ map slices (p.rows ++ more) = ap (λ (x : Shown). drop first x.rows) is ∙ (drop-map slices first (rows_of c) ∙ ap (map slices) there) in
-        let own_pieces : drop row s.rows ≡ map slices (drop q.before p.rows ++ more) =
-        ap (λ (j : ℕ). drop j s.rows) row_is
-        ∙ (drop_more first q.before s.rows
-        ∙ (ap (drop q.before) pieces ∙ (drop-map slices q.before (p.rows ++ more) ∙ ap (map slices) (drop-append-le q.before p.rows more (omega (arith, inside.0)))))) in
-        let counted : AreCounted (drop q.before p.rows ++ more) =
-        subst AreCounted (drop-append-le q.before p.rows more (omega (arith, inside.0))) (counted_drop q.before (p.rows ++ more) (subst AreCounted there (counted_drop first (rows_of c) (cut_counted true c cut.parts)))) in
-        let m : ℕ = row_count k (drop q.before p.rows) in
-        let count : slices_count k (drop row s.rows) ≡ m =
-        ap (slices_count k) own_pieces ∙ same_count k (drop q.before p.rows) more counted (omega (arith, inside.1, line_zero, bound)) in
-        let front : length (take q.before p.rows) ≡ q.before = length-take-le q.before p.rows (omega (arith, inside.0)) in
-        let own : length (take m (drop q.before p.rows)) ≡ m = length-take-le m (drop q.before p.rows) (rows_within k (drop q.before p.rows)) in
-        let begin : row ≡ first + length (take q.before p.rows) = omega (arith, row_is, front) in
-        let finish : end ≡ first + length (take q.before p.rows) + length (take m (drop q.before p.rows)) = omega (arith, end_is, count, row_is, front, own) in
-        (λ i. Some (first, begin i, finish i)) ∙ ap (option_map (marks first)) (sym (own_is steps p.rows n q h))
+-- what the code counts
+pub own_told : (d : Stretch) (rs : List Row) (steps : List Step) (q e : Spot) (r : Row) → Some (line_number d rs q) ≡ line_of steps (lines_of rs) → slice_get rs (q.row - d.first) ≡ Some r → d.first ≤ q.row → q.line ≡ 0 → e.line ≡ 0 → q.row < e.row →
+    e.row - d.first ≤ length rs → line_number d rs e ≡ lines_end (line_number d rs q) (lines_of rs) → Some (d.first, q.row, e.row) ≡ option_map (marks d.first) (own_rows steps rs)
+own_told d rs steps q e r line there from none last less within end =
+    let i : ℕ = q.row - d.first in
+    let j : ℕ = e.row - d.first in
+    let n : ℕ = line_number d rs q in
+    let k : ℕ = lines_end n (lines_of rs) - n in
+    let h : OwnLine steps rs n (record { before = i; row = r; line = q.line }) = record { line = sym line; row = seat_number rs i q.line r there (omega (arith, none)); first = none } in
+    let left : length (drop i rs) ≡ length rs - i = length-drop i rs in
+    let size : k ≡ length (lines_of (take (j - i) (drop i rs))) = omega (arith, end, none, last, lines_between i j rs (omega (arith, less))) in
+    let count : row_count k (drop i rs) ≡ j - i = ap (λ (m : ℕ). row_count m (drop i rs)) size ∙ count_rows (j - i) (drop i rs) (omega (arith, left, within)) in
+    let front : length (take i rs) ≡ i = length-take-le i rs (omega (arith, within, less, from)) in
+    let own : length (take (row_count k (drop i rs)) (drop i rs)) ≡ j - i = ap (λ (m : ℕ). length (take m (drop i rs))) count ∙ length-take-le (j - i) (drop i rs) (omega (arith, left, within)) in
+    let begin : q.row ≡ d.first + length (take i rs) = omega (arith, front, from) in
+    let finish : e.row ≡ d.first + length (take i rs) + length (take (row_count k (drop i rs)) (drop i rs)) = omega (arith, front, own, from, less) in
+    (λ x. Some (d.first, begin x, finish x)) ∙ ap (option_map (marks d.first)) (sym (own_is steps rs n (record { before = i; row = r; line = q.line }) h))
 
-pub no_own_seat : (t : List ℕ) (c : Cut) (s : Shown) (p : Part) (more : List Row) (steps : List Step) (first n : ℕ) → IsCut t c → s ≡ shown c → drop first (rows_of c) ≡ p.rows ++ more →
-    Some n ≡ line_of steps (lines_of p.rows) → n < length (lines_of p.rows) → None ≡ behind first (slices_seat n (drop first s.rows)) → None ≡ option_map (marks first) (own_rows steps p.rows)
-no_own_seat t c s p more steps first n cut is there line_is within at = go (seat n p.rows) refl (seat_told t c s p more first n None cut is there within at)
-  where
-    after : ℕ → Option Seat → Option OwnRows
-    after n o = o >>= λ s. cond (eqb s.line 0) (Some (in_three s.before (row_count (lines_end n (lines_of p.rows) - n) (drop s.before p.rows)) p.rows)) None
+-- no line, or none that begins a row
+pub no_own : (first : ℕ) (rs : List Row) (steps : List Step) → None ≡ line_of steps (lines_of rs) → None ≡ option_map (marks first) (own_rows steps rs)
+no_own first rs steps e =
+    ap (λ (o : Option ℕ). option_map (marks first) (o >>= λ n. seat n rs >>= λ s. cond (eqb s.line 0) (Some (in_three s.before (row_count (lines_end n (lines_of rs) - n) (drop s.before rs)) rs)) None)) e
 
-    go : (o : Option Seat) → seat n p.rows ≡ o → None ≡ option_map (numbers first) o → None ≡ option_map (marks first) (own_rows steps p.rows)
-    go None so e = ap (λ o. option_map (marks first) (after n o)) (sym so) ∙ ap (λ o. option_map (marks first) (o >>= λ n. after n (seat n p.rows))) line_is
-    go (Some q) so e = absurd (cc)
-
-pub not_own : (t : List ℕ) (c : Cut) (s : Shown) (p : Part) (more : List Row) (steps : List Step) (first n row line dashes : ℕ) → IsCut t c → s ≡ shown c → drop first (rows_of c) ≡ p.rows ++ more →
-    Some n ≡ line_of steps (lines_of p.rows) → n < length (lines_of p.rows) → Some (row, line, dashes) ≡ behind first (slices_seat n (drop first s.rows)) → (line ≡ 0 → ⊥) → None ≡ option_map (marks first) (own_rows steps p.rows)
-not_own t c s p more steps first n row line dashes cut is there line_is within at some = go (seat n p.rows) refl (seat_told t c s p more first n (Some (row, line, dashes)) cut is there within at)
-  where
-    after : ℕ → Option Seat → Option OwnRows
-    after n o = o >>= λ s. cond (eqb s.line 0) (Some (in_three s.before (row_count (lines_end n (lines_of p.rows) - n) (drop s.before p.rows)) p.rows)) None
-
-    go : (o : Option Seat) → seat n p.rows ≡ o → Some (row, line, dashes) ≡ option_map (numbers first) o → None ≡ option_map (marks first) (own_rows steps p.rows)
-    go None so e = absurd (cc)
-    go (Some q) so e =
-        let told : (row, line, dashes) ≡ numbers first q = (let f : Some (row, line, dashes) ≡ Some (numbers first q) = e in cc) in
-        let apart : q.line ≡ 0 → ⊥ = λ z. some (ap (λ (x : Numbers). x.1) told ∙ z) in
-        ap (option_map (marks first)) (sym (cond-false (eqb q.line 0) (Some (in_three q.before (row_count (lines_end n (lines_of p.rows) - n) (drop q.before p.rows)) p.rows)) None (ne_eqb q.line 0 apart)))
-        ∙ (ap (λ o. option_map (marks first) (after n o)) (sym so) ∙ ap (λ o. option_map (marks first) (o >>= λ n. after n (seat n p.rows))) line_is)
+pub not_own : (first n : ℕ) (rs : List Row) (steps : List Step) (q : Seat) → Some n ≡ line_of steps (lines_of rs) → seat n rs ≡ Some q → (q.line ≡ 0 → ⊥) → None ≡ option_map (marks first) (own_rows steps rs)
+not_own first n rs steps q line is some =
+    ap (option_map (marks first)) (sym (cond-false (eqb q.line 0) (Some (in_three q.before (row_count (lines_end n (lines_of rs) - n) (drop q.before rs)) rs)) None (ne_eqb q.line 0 some)))
+    ∙ (ap (λ (o : Option Seat). option_map (marks first) (o >>= λ s. cond (eqb s.line 0) (Some (in_three s.before (row_count (lines_end n (lines_of rs) - n) (drop s.before rs)) rs)) None)) (sym is)
+    ∙ ap (λ (o : Option ℕ). option_map (marks first) (o >>= λ n. seat n rs >>= λ s. cond (eqb s.line 0) (Some (in_three s.before (row_count (lines_end n (lines_of rs) - n) (drop s.before rs)) rs)) None)) line)
 
 -- ---- the loops
 
@@ -232,14 +211,6 @@ held_on l ls e = rw e refl
 pub none_held : (t : List ℕ) → t ≡ [] → hold_comment (text_lines t) ≡ false
 unfolding Rattle.yq_scalar.specs.Text.lines_of
 none_held t e = ap (λ (x : List ℕ). hold_comment (text_lines x)) e
-
-pub step_count : (ss : List Slices) (at left before next : ℕ) (x : Slices) → slice_get ss at ≡ Some x → 0 < left → before ≡ lines_before_mark x → next ≡ left - before - 1 →
-    at + slices_count left (drop at ss) ≡ at + 1 + slices_count next (drop (at + 1) ss)
-step_count ss at left before next x is some count less =
-    let one : slices_count left (drop at ss) ≡ suc (slices_count (left - lines_before_mark x - 1) (drop (at + 1) ss)) = ap (slices_count left) (drop_at ss at x is) ∙ next_count left x (drop (at + 1) ss) some in
-    let same : slices_count (left - lines_before_mark x - 1) (drop (at + 1) ss) ≡ slices_count next (drop (at + 1) ss) =
-    ap (λ (k : ℕ). slices_count k (drop (at + 1) ss)) (omega (arith, count, less)) in
-    omega (arith, one, same)
 
 pub run_less : (gap run : List ℕ) → text_lines run ≡ last_run (text_lines gap) → length run ≤ length gap
 run_less gap run e = omega (arith, ap length (gap_is gap run e), length-append (joined (before_run (text_lines gap))) run)

@@ -14,7 +14,6 @@ use Rattle.yq_rows.specs.Rows.{Content, Nothing, Inline, Block, Row, print_row, 
 use Rattle.yq_rows.specs.View.{Slices, slices, content_cut, rows_of, Shown, shown}
 use Rattle.yq_rows.proofs.NodePieces.{BeginsAscii, before_ascii}
 use Rattle.yq_documents.specs.declared.path.Path.{Path}
-use Rattle.yq_documents.specs.declared.checks.DocumentLines.{DocumentLines}
 use Rattle.yq_tree.specs.CommentPlaces.{line_text}
 use Rattle.yq_tree.specs.Extents.{head_place}
 use Rattle.yq_documents.specs.Located.{steps_of}
@@ -25,7 +24,7 @@ use Rattle.yq_tree.specs.ScalarPlaces.{ScalarPlace, anchor_before, space_before,
 use Rattle.yq_tree.specs.ScalarTelling.{StandsAt}
 use Rattle.yq_tree.specs.SeatReading.{Numbers, numbers}
 use Rattle.yq_documents.specs.Seats.{seat_at, document_row}
-use Rattle.yq_documents.specs.SoundReading.{Holds}
+use Rattle.yq_tree.specs.RowWalk.{HasCut}
 use Rattle.yq_tree.proofs.CommentEndLaws.{row_line}
 use Rattle.yq_tree.proofs.CommentPieceLaws.{row_place}
 use Rattle.yq_tree.proofs.PlacedRowLaws.{seat_placed, no_seat_placed}
@@ -119,7 +118,7 @@ module _ (path : Path) (c : Cut) (n : Numbers) (seat_is : Some n ≡ option_map 
       place_is ∙ ap (λ b. cond b (option_map (scalar_in seated) (block_of seated.row.content)) None) test
 
 -- the row of a line that the code tells, in a text that is held
-module _ (t : List ℕ) (x : Shown) (ds : List DocumentLines) (held : Holds t x ds) (path : Path) (n : Numbers) (seat_is : Some n ≡ option_map (numbers (document_row path.doc (cut_of t))) (seat_at path (cut_of t)))
+module _ (t : List ℕ) (x : Shown) (held : HasCut t x) (path : Path) (n : Numbers) (seat_is : Some n ≡ option_map (numbers (document_row path.doc (cut_of t))) (seat_at path (cut_of t)))
     (text : List ℕ) (same : text ≡ t) (last : n.1 ≡ n.2) where
   abbrev w : PlacedRow
   w = (seat_placed path (cut_of t) n seat_is).0

@@ -11,21 +11,20 @@ use Rattle.yq_scalar.specs.Paths.{Step}
 use Rattle.yq_lines.specs.Comments as comments
 use Rattle.yq_rows.specs.Grammar.{begins_document, IsCut}
 use Rattle.yq_rows.specs.Rows.{Row, Part, Cut, last, marked}
-use Rattle.yq_rows.specs.View.{Slices, slices, Bound, bounds_from, rows_of, Shown, shown}
+use Rattle.yq_rows.specs.View.{Slices, slices, rows_of, Shown, shown}
 use Rattle.yq_documents.specs.declared.path.Part.{Part as Place}
 use Rattle.yq_documents.specs.Documents.{parts_from, document_parts, begins_bare, has_begin}
 use Rattle.yq_tree.specs.Extents.{lines_before_mark}
 use Rattle.yq_documents.specs.Lines.{row_lines, lines_of}
 use Rattle.yq_lines.specs.Outline.{Line}
-use Rattle.yq_documents.specs.PartReading.{lined, document_view, some_begin, first_rows}
+use Rattle.yq_documents.specs.PartReading.{lined, document_view}
 use Rattle.yq_documents.specs.Reading.{cut_of}
 use Rattle.yq_lines.specs.Ends.{line_of}
-use Rattle.yq_tree.specs.SeatReading.{begin_row, Numbers, behind, slices_seat, numbers}
+use Rattle.yq_tree.specs.SeatReading.{Numbers, behind, slices_seat, numbers}
 use Rattle.yq_documents.specs.Seats.{Seat, behind_one, seat, seat_of, rows_before, document_row, line_has_room, seat_has_room}
 use Rattle.yq_documents.specs.SoundReading.{Holds}
 use Rattle.yq_tree.proofs.CountLaws.{AreCounted, cut_counted}
 use Rattle.yq_lines.proofs.Parts.{drop_at}
-use Rattle.yq_documents.proofs.PartsLinedLaws.{document_is}
 use Rattle.yq_documents.specs.declared.checks.DocumentLines.{DocumentLines}
 use Rattle.yq_documents.proofs.RowFlowLaws.{lines_count}
 
@@ -106,47 +105,25 @@ pub room_told : (part : Place) (k : ℕ) (x : Numbers) (o : Option Seat) (room :
 room_told part k x None room e told = absurd (cc)
 room_told part k x (Some s) room e told = told k s (same_Some _ _ e)
 
--- part after part
-pub begin_here : (is : Bool) (n k : ℕ) (b : Bound) (bs rest : List Bound) → bs ≡ b ∷ rest → true ≡ (is && eqb n 0) → Some k ≡ begin_row is n k bs
-begin_here is n k b bs rest e found = go is n found ∙ sym (ap (begin_row is n k) e)
-  where
-    go : (is : Bool) (n : ℕ) → true ≡ (is && eqb n 0) → Some k ≡ begin_row is n k (b ∷ rest)
-    go true zero f = refl
-    go true (suc n) f = absurd (omega (arith, eqb-true (suc n) 0 (sym f)))
-    go false n f = absurd (false≢true (sym f))
-
-pub begin_later : (is : Bool) (n k : ℕ) (b : Bound) (bs rest : List Bound) → bs ≡ b ∷ rest → false ≡ (is && eqb n 0) → begin_row is n k bs ≡ begin_row (begins_document b.marker) (cond is (n - 1) n) b.rows rest
-begin_later is n k b bs rest e other = ap (begin_row is n k) e ∙ go is n other
-  where
-    go : (is : Bool) (n : ℕ) → false ≡ (is && eqb n 0) → begin_row is n k (b ∷ rest) ≡ begin_row (begins_document b.marker) (cond is (n - 1) n) b.rows rest
-    go true zero f = absurd (false≢true (f ∙ eq-eqb 0 0 refl))
-    go true (suc n) f = ap (λ (j : ℕ). begin_row (begins_document b.marker) j b.rows rest) (omega arith)
-    go false n f = refl
-
--- A document's rows begin there among those of a cut, behind so many others.
-record Begins (is : Bool) (n k : ℕ) (c : Cut) (p : Part) : Type 0 where
-  pub told : begin_row is n k (bounds_from k c) ≡ Some (k + rows_before is n c)
-  pub more : List Row
-  pub there : drop (rows_before is n c) (rows_of c) ≡ p.rows ++ more
-
-begins : (is : Bool) (n k : ℕ) (c : Cut) (p : Part) → slice_get (parts_from is c) n ≡ Some p → Begins is n k c p
-begins true zero k (last q) p e =
+-- a document's rows stand among those of a cut, behind so many others
+begins : (is : Bool) (n : ℕ) (c : Cut) (p : Part) → slice_get (parts_from is c) n ≡ Some p → (more : List Row) × (drop (rows_before is n c) (rows_of c) ≡ p.rows ++ more)
+begins true zero (last q) p e =
     let same : q ≡ p = cc in
-    record { told = ap Some (omega arith); more = []; there = ap (λ (x : Part). x.rows) same ∙ sym (append-nil p.rows) }
-begins true (suc n) k (last q) p e = absurd (cc)
-begins false n k (last q) p e = absurd (cc)
-begins true zero k (marked q marker c) p e =
+    ([], ap (λ (x : Part). x.rows) same ∙ sym (append-nil p.rows))
+begins true (suc n) (last q) p e = absurd (cc)
+begins false n (last q) p e = absurd (cc)
+begins true zero (marked q marker c) p e =
     let same : q ≡ p = cc in
-    record { told = ap Some (omega arith); more = rows_of c; there = ap (λ (x : Part). x.rows ++ rows_of c) same }
-begins true (suc n) k (marked q marker c) p e =
-    let again = begins (begins_document marker) n (k + length q.rows) c p e in
-    record { told = again.told ∙ ap Some (omega arith); more = again.more; there = drop-append-add q.rows (rows_of c) (rows_before (begins_document marker) n c) ∙ again.there }
-begins false n k (marked q marker c) p e =
-    let again = begins (begins_document marker) n (k + length q.rows) c p e in
-    record { told = again.told ∙ ap Some (omega arith); more = again.more; there = drop-append-add q.rows (rows_of c) (rows_before (begins_document marker) n c) ∙ again.there }
+    (rows_of c, ap (λ (x : Part). x.rows ++ rows_of c) same)
+begins true (suc n) (marked q marker c) p e =
+    let again = begins (begins_document marker) n c p e in
+    (again.0, drop-append-add q.rows (rows_of c) (rows_before (begins_document marker) n c) ∙ again.1)
+begins false n (marked q marker c) p e =
+    let again = begins (begins_document marker) n c p e in
+    (again.0, drop-append-add q.rows (rows_of c) (rows_before (begins_document marker) n c) ∙ again.1)
 
 pub part_begins : (c : Cut) (n : ℕ) (p : Part) → slice_get (document_parts c) n ≡ Some p → (more : List Row) × (drop (document_row n c) (rows_of c) ≡ p.rows ++ more)
-part_begins c n p at = let b = begins (begins_bare c || not (has_begin c)) n 0 c p at in (b.more, b.there)
+part_begins c n p at = begins (begins_bare c || not (has_begin c)) n c p at
 
 pub part_at : (ds : List DocumentLines) (ps : List Part) → map document_view ds ≡ map lined ps → (i : ℕ) (d : DocumentLines) → slice_get ds i ≡ Some d → (p : Part) × (slice_get ps i ≡ Some p) × (document_view d ≡ lined p)
 part_at [] ps e i d is = absurd (cc)
@@ -163,11 +140,3 @@ none_past [] (p ∷ ps) e i h = absurd (cc)
 none_past (x ∷ ds) [] e i h = refl
 none_past (x ∷ ds) (p ∷ ps) e zero h = absurd (omega (arith, h))
 none_past (x ∷ ds) (p ∷ ps) e (suc i) h = none_past ds ps (tail-eq_of_cons-eq e) i (omega (arith, h))
-
--- the first row of a document that is held
-pub held_begin : (t : List ℕ) (s : Shown) (ds : List DocumentLines) (i : ℕ) (p : Part) → Holds t s ds → slice_get (document_parts (cut_of t)) i ≡ Some p →
-    (begin_row (first_rows s.bounds || not (some_begin s.bounds)) i 0 s.bounds ≡ Some (document_row i (cut_of t))) × ((more : List Row) × (drop (document_row i (cut_of t)) (rows_of (cut_of t)) ≡ p.rows ++ more))
-held_begin t s ds i p h at =
-    let c : Cut = cut_of t in
-    let b = begins (begins_bare c || not (has_begin c)) i 0 c p at in
-    (ap (λ (is : Bool). begin_row is i 0 s.bounds) (document_is c s h.rows) ∙ (ap (λ (x : Shown). begin_row (begins_bare c || not (has_begin c)) i 0 x.bounds) h.rows ∙ (b.told ∙ ap Some (omega arith))), (b.more, b.there))

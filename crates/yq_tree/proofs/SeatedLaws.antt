@@ -13,12 +13,11 @@ use Rattle.yq_documents.specs.Located.{steps_of}
 use Rattle.yq_documents.specs.Pieces.{Piece, piece_span}
 use Rattle.yq_documents.specs.Reading.{cut_of}
 use Rattle.yq_lines.specs.Ends.{line_of}
+use Rattle.yq_tree.specs.RowWalk.{HasCut}
 use Rattle.yq_tree.specs.SeatReading.{Numbers, numbers}
 use Rattle.yq_documents.specs.Seats.{Seat, behind_one, seat, seat_of, seat_at, document_row}
-use Rattle.yq_documents.specs.SoundReading.{Holds}
 use Rattle.yq_tree.proofs.SeatLaws.{part_begins}
 use Rattle.yq_lines.proofs.Values.{If}
-use Rattle.yq_documents.specs.declared.checks.DocumentLines.{DocumentLines}
 
 -- the row of a line
 seat_row : (n : ℕ) (rs : List Row) → If (seat n rs) (λ s. slice_get rs s.before ≡ Some s.row)
@@ -63,8 +62,8 @@ path_row path c s e = document_seat path c (slice_get (document_parts c) path.do
 row_slices : (path : Path) (c : Cut) (s : Seat) (n : Numbers) → seat_at path c ≡ Some s → n ≡ numbers (document_row path.doc c) s → slice_get (shown c).rows n.0 ≡ Some (slices s.row)
 row_slices path c s n is e = ap (λ (x : Numbers). slice_get (shown c).rows x.0) e ∙ (slice_get-map slices (rows_of c) (document_row path.doc c + s.before) ∙ ap (option_map slices) (path_row path c s is))
 
-pub row_within : (t : List ℕ) (x : Shown) (ds : List DocumentLines) (path : Path) (n : Numbers) → Holds t x ds → Some n ≡ option_map (numbers (document_row path.doc (cut_of t))) (seat_at path (cut_of t)) → n.0 < length x.rows
-row_within t x ds path n h e = go (seat_at path (cut_of t)) refl e
+pub row_within : (t : List ℕ) (x : Shown) (path : Path) (n : Numbers) → HasCut t x → Some n ≡ option_map (numbers (document_row path.doc (cut_of t))) (seat_at path (cut_of t)) → n.0 < length x.rows
+row_within t x path n h e = go (seat_at path (cut_of t)) refl e
   where
     go : (o : Option Seat) → seat_at path (cut_of t) ≡ o → Some n ≡ option_map (numbers (document_row path.doc (cut_of t))) o → n.0 < length x.rows
     go None is e = absurd (cc)
@@ -81,10 +80,10 @@ PieceIn = ℕ → Seat → Cut → Option Piece
 abbrev Tells : SpanIn → PieceIn → Type 0
 Tells of in_ = (c : Cut) (i : ℕ) (s : Seat) (k : ℕ) → slice_get (rows_of c) i ≡ Some s.row → of (row_start i (shown c)) (slices s.row) (numbers k s) ≡ option_map piece_span (in_ i s c)
 
-pub part_told : (of : SpanIn) (in_ : PieceIn) → Tells of in_ → (t : List ℕ) (x : Shown) (ds : List DocumentLines) (path : Path) (n : Numbers) (found : Option (ℕ × ℕ)) → Holds t x ds →
+pub part_told : (of : SpanIn) (in_ : PieceIn) → Tells of in_ → (t : List ℕ) (x : Shown) (path : Path) (n : Numbers) (found : Option (ℕ × ℕ)) → HasCut t x →
     Some n ≡ option_map (numbers (document_row path.doc (cut_of t))) (seat_at path (cut_of t)) → ((y : Slices) → slice_get x.rows n.0 ≡ Some y → found ≡ of (row_start n.0 x) y n) →
     found ≡ option_map piece_span (seat_at path (cut_of t) >>= λ s. in_ (document_row path.doc (cut_of t) + s.before) s (cut_of t))
-part_told of in_ tells t x ds path n found h e told = go (seat_at path (cut_of t)) refl e
+part_told of in_ tells t x path n found h e told = go (seat_at path (cut_of t)) refl e
   where
     go : (o : Option Seat) → seat_at path (cut_of t) ≡ o → Some n ≡ option_map (numbers (document_row path.doc (cut_of t))) o → found ≡ option_map piece_span (o >>= λ s. in_ (document_row path.doc (cut_of t) + s.before) s (cut_of t))
     go None is e = absurd (cc)

@@ -1,5 +1,5 @@
 -- Reading (own; a reader may skip it): what is taken out with an item or entry, by the pieces of rows, as the code counts.
-use Rattle.std.specs.Prelude.{◌≡◌, ℕ, zero, suc, ◌+◌, ◌-◌, Bool, false, List, [], ◌∷◌, ◌++◌, length, slice_get, Option, Some, None, option_map}
+use Rattle.std.specs.Prelude.{◌≡◌, ℕ, ◌+◌, Bool, false, List, [], ◌∷◌, ◌++◌, length, slice_get, Option, Some, None, option_map}
 use Rattle.yq_scalar.specs.Answers.{◌>>=◌}
 use Rattle.yq_scalar.specs.Block.{BlockText, keeps}
 use Rattle.yq_scalar.specs.Paths.{Step}
@@ -7,19 +7,12 @@ use Rattle.yq_rows.specs.Grammar.{IsCut, no_rows}
 use Rattle.yq_rows.specs.Rows.{Cut}
 use Rattle.yq_rows.specs.View.{Slices, Bound, bounds_at, Shown, shown}
 use Rattle.yq_documents.specs.Documents.{document_parts}
-use Rattle.yq_tree.specs.Extents.{lines_before_mark}
 use Rattle.yq_documents.specs.Reading.{cut_of}
 use Rattle.yq_tree.specs.PlacedRows.{PlacedPart, placed_document}
 use Rattle.yq_tree.specs.RemovalPlaces.{OwnRows, own_rows, Seam, Removal}
 use Rattle.yq_documents.specs.Seats.{document_row}
 use Rattle.yq_tree.specs.declared.places.removal_place.Removal as declared
 use Rattle.yq_tree.specs.declared.places.removal_place.Seam as seams
-
--- how many rows in front have so many lines, by their pieces
-abbrev pub slices_count : ℕ → List Slices → ℕ
-slices_count zero ss = 0
-slices_count (suc n) [] = 0
-slices_count (suc n) (s ∷ ss) = suc (slices_count (n - lines_before_mark s) ss)
 
 -- the gap of a row and its column; or where a part ends in front of it, the gap at that end and 0
 abbrev pub gap_and_column : List Bound → Option Slices → List ℕ × ℕ

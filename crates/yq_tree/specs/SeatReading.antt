@@ -1,17 +1,9 @@
--- Reading (own; a reader may skip it): the line of a path, by the pieces of rows and by where parts end.
-use Rattle.std.specs.Prelude.{ℕ, zero, suc, ◌+◌, ◌-◌, nat_lt, Bool, true, false, List, [], ◌∷◌, length, Option, Some, None, option_map, if◌then◌else◌}
-use Rattle.yq_rows.specs.Grammar.{begins_document}
-use Rattle.yq_rows.specs.View.{Slices, Bound}
+-- Reading (own; a reader may skip it): the line of a path, by the pieces of rows.
+use Rattle.std.specs.Prelude.{ℕ, suc, ◌+◌, ◌-◌, nat_lt, List, [], ◌∷◌, length, Option, Some, None, option_map, if◌then◌else◌}
+use Rattle.yq_rows.specs.View.{Slices}
 use Rattle.yq_tree.specs.declared.places.seat.Seat as declared
 use Rattle.yq_tree.specs.Extents.{lines_before_mark}
 use Rattle.yq_documents.specs.Seats.{Seat}
-
--- how many rows stand before document n, by where parts end: k stand before the first of them, of which it is known whether it is a document
-abbrev pub begin_row : Bool → ℕ → ℕ → List Bound → Option ℕ
-begin_row is n k [] = None
-begin_row true zero k (b ∷ bs) = Some k
-begin_row true (suc n) k (b ∷ bs) = begin_row (begins_document b.marker) n b.rows bs
-begin_row false n k (b ∷ bs) = begin_row (begins_document b.marker) n b.rows bs
 
 -- a line by three numbers: the rows before its row, the lines of its row before it, and the lines of its row before that of the mark
 abbrev pub Numbers : Type 0

@@ -11,7 +11,7 @@ ghost use Rattle.yq_documents.specs.Reading.{cut_of};
 ghost use Rattle.yq_tree.specs.SeatReading.{told};
 ghost use Rattle.yq_documents.specs.declared.path.Part.TheVariants as parts;
 
-use crate::document::Documents;
+use crate::cut_text::CutText;
 use crate::places::extent::{front_len, row_start};
 use crate::places::seat::Seat;
 use yq_documents::{Path, Span, is_comment, last_run};
@@ -73,13 +73,13 @@ fn head_comment_in(rows: &Rows<'_>, seat: Seat) -> Option<Span>
     gap_comment(row_start(rows, seat.row), rows.row(seat.row).gap())
 }
 
-impl Documents<'_> {
+impl<'t> CutText<'_, 't> {
     /// The place of the comment behind the entry or item at a path, on the line of its key or dash.
     pub(crate) fn line_comment_place(&self, path: &Path) -> Option<Span>
         ensures { option_map span result ≡ option_map piece_span (piece_at path.now parts.LineComment (cut_of self.now)) }
     {
         let seat = self.seat(path)?;
-        line_comment_in(&self.rows, seat)
+        line_comment_in(self.rows, seat)
     }
 
     /// The place of the run of comments above the entry or item at a path, with the breaks.
@@ -87,6 +87,6 @@ impl Documents<'_> {
         ensures { option_map span result ≡ option_map piece_span (piece_at path.now parts.HeadComment (cut_of self.now)) }
     {
         let seat = self.seat(path)?;
-        head_comment_in(&self.rows, seat)
+        head_comment_in(self.rows, seat)
     }
 }

@@ -7,6 +7,7 @@ ghost use Rattle.yq_tree.specs.DashTelling as telling;
 ghost use Rattle.yq_documents.specs.Located.{steps_of};
 ghost use Rattle.yq_documents.specs.Reading.{cut_of};
 
+use crate::cut_text::CutText;
 use crate::document::Documents;
 use crate::places::row_place::{dash_at, line_start};
 use yq_documents::{Path, comment_text};
@@ -40,10 +41,10 @@ fn is_noted(row: &Row<'_>) -> bool
     !row.anchor().is_empty() || comment_text(row.tail()).is_some()
 }
 
-impl Documents<'_> {
+impl<'t> CutText<'_, 't> {
     /// The dash of the item at a path, if a collection begins behind it on its line. The root has
     /// none, nor has what stands in flow.
-    pub fn dash_place(&self, path: &Path) -> Option<DashPlace<'_>>
+    pub fn dash_place(&self, path: &Path) -> Option<DashPlace<'t>>
         ensures { option_map telling.dash_told result ≡ spec.dash_place path.now.doc (steps_of path.now) (cut_of self.now) }
     {
         let whole = self.whole();
@@ -51,7 +52,7 @@ impl Documents<'_> {
         if seat.line == seat.dashes {
             return None;
         }
-        let start = line_start(&self.rows, seat);
+        let start = line_start(self.rows, seat);
         let row = self.rows.row(seat.row);
         let column = dash_column(&row, seat.line);
         let (before, behind) = whole.split_at(start + 1);
@@ -62,5 +63,14 @@ impl Documents<'_> {
             column,
             noted,
         })
+    }
+}
+
+impl Documents<'_> {
+    /// The same of the text of the documents.
+    pub fn dash_place(&self, path: &Path) -> Option<DashPlace<'_>>
+        ensures { option_map telling.dash_told result ≡ spec.dash_place path.now.doc (steps_of path.now) (cut_of self.now) }
+    {
+        self.cut().dash_place(path)
     }
 }

@@ -1,26 +1,26 @@
 //! Where inline nodes stand outside flow collections, and where nothing is written.
-ghost use Rattle.std.specs.Prelude.{◌≡◌, ◌<◌, ◌≤◌, ◌++◌, ◌-◌, ℕ, List, Some, drop, length, map, option_map};
+ghost use Rattle.std.specs.Prelude.{◌≡◌, ◌<◌, ℕ, List, Some, length, map, option_map, slice_get};
 ghost use Rattle.std.specs.Str.{IsCharBoundary};
 ghost use Rattle.yq_inline.specs.Entries.{step_of};
 ghost use Rattle.yq_rows.specs.Grammar.{IsCut};
-ghost use Rattle.yq_rows.specs.Rows.{Cut, Part, Row as RowOf};
+ghost use Rattle.yq_rows.specs.Rows.{Cut, Row as RowOf};
 ghost use Rattle.yq_rows.specs.View.{rows_of, shown};
-ghost use Rattle.std.specs.Prelude.{slice_get};
 ghost use Rattle.yq_lines.specs.Bodies.{lent};
-ghost use Rattle.yq_lines.specs.View.{views};
 ghost use Rattle.yq_tree.specs.Extents.{IsShown};
 ghost use Rattle.yq_tree.specs.InlinePlaces as places;
 ghost use Rattle.yq_tree.specs.InlineReading as spec;
-ghost use Rattle.yq_documents.specs.Lines.{lines_of};
+ghost use Rattle.yq_tree.specs.RowWalk.{EndsAt, HasDocument, InCut, IsLine, IsSpot, line_number};
 ghost use Rattle.yq_documents.specs.Reading.{cut_of};
 
+use crate::cut_text::CutText;
 use crate::document::Documents;
-use crate::places::entry_place::line_seat;
 use crate::places::extent::head_place;
+use crate::places::spot::{Spot, Stretch, is_deeper, level_at, next};
+use crate::places::spot_marks::has_head;
+use crate::places::spot_reach::{begins_with_node, reach};
 use crate::places::written::cut_at;
 use yq_documents::{Path, Span, begins_block};
 use yq_inline::Step;
-use yq_lines::Lined;
 use yq_rows::Rows;
 
 /// The place of an inline node outside flow collections, or one where nothing is written.
@@ -59,64 +59,55 @@ fn row_extent(rows: &Rows<'_>, alone: bool, i: usize) -> Option<InlineSpan>
     })
 }
 
-/// The place behind the mark of a line of a document.
-fn line_extent(rows: &Rows<'_>, alone: bool, first: usize, line: usize) -> Option<InlineSpan>
-    requires { IsShown rows.now }
-    ensures { (t : List ℕ) (c : Cut) (p : Part) (more : List RowOf) → IsCut t c → rows.now ≡ shown c → drop first (rows_of c) ≡ p.rows ++ more → line < length (lines_of p.rows) → option_map spec.extent_view result ≡ spec.line_extent alone first c p.rows line }
-{
-    let seat = line_seat(rows, first, line)?;
-    row_extent(rows, alone, seat.row)
-}
-
-/// The place of the node for which the lines from one up to another one stand, if it is on a line of
-/// its own.
-fn lines_extent(
-    rows: &Rows<'_>,
-    first: usize,
-    lines: &Lined<'_>,
-    from: usize,
-    to: usize,
-) -> Option<InlineSpan>
-    requires order { from ≤ to }
-    requires within { to ≤ length (views lines.now) }
+/// The place of the node on a line of its own with which the lines begin, from one on, that are deeper
+/// than a level.
+fn node_extent(rows: &Rows<'_>, document: Stretch, under: Spot, floor: usize) -> Option<InlineSpan>
     requires shown { IsShown rows.now }
-    ensures { (t : List ℕ) (c : Cut) (p : Part) (more : List RowOf) → IsCut t c → rows.now ≡ shown c → views lines.now ≡ lines_of p.rows → drop first (rows_of c) ≡ p.rows ++ more → option_map spec.extent_view result ≡ spec.lines_extent first c p.rows from to }
+    requires document { HasDocument rows.now document }
+    requires under { IsSpot rows.now document under }
+    ensures { (c : Cut) (k : InCut rows.now document c) (to : ℕ) → EndsAt document k.document.rows under floor to → option_map spec.extent_view result ≡ spec.lines_extent document.first c k.document.rows (line_number document k.document.rows under) to }
 {
-    if from == to {
-        return None;
-    }
-    if lines.is_bare(from) {
-        line_extent(rows, true, first, from)
+    if begins_with_node(rows, document, under, floor) {
+        row_extent(rows, true, under.row)
     } else {
         None
     }
 }
 
 /// The place of the node of a line.
-fn entry_extent(rows: &Rows<'_>, first: usize, lines: &Lined<'_>, line: usize) -> Option<InlineSpan>
-    requires within { line < length (views lines.now) }
+fn entry_extent(rows: &Rows<'_>, document: Stretch, at: Spot) -> Option<InlineSpan>
     requires shown { IsShown rows.now }
-    ensures { (t : List ℕ) (c : Cut) (p : Part) (more : List RowOf) → IsCut t c → rows.now ≡ shown c → views lines.now ≡ lines_of p.rows → drop first (rows_of c) ≡ p.rows ++ more → option_map spec.extent_view result ≡ spec.entry_extent first c p.rows line }
+    requires document { HasDocument rows.now document }
+    requires at { IsLine rows.now document at }
+    ensures { (c : Cut) (k : InCut rows.now document c) → option_map spec.extent_view result ≡ spec.entry_extent document.first c k.document.rows (line_number document k.document.rows at) }
 {
-    let end = lines.end_of(line);
-    if lines.has_head(line) || end == line + 1 {
-        line_extent(rows, false, first, line)
-    } else {
-        lines_extent(rows, first, lines, line + 1, end)
+    if has_head(rows, document, at) {
+        return row_extent(rows, false, at.row);
     }
+    let under = next(rows, document, at);
+    let floor = level_at(rows, at);
+    if !is_deeper(rows, document, under, floor) {
+        return row_extent(rows, false, at.row);
+    }
+    node_extent(rows, document, under, floor)
 }
 
 /// The place of the node to which steps lead.
-fn extent_in(rows: &Rows<'_>, first: usize, lines: &Lined<'_>, steps: &[Step]) -> Option<InlineSpan>
-    requires { IsShown rows.now }
-    ensures { (t : List ℕ) (c : Cut) (p : Part) (more : List RowOf) → IsCut t c → rows.now ≡ shown c → views lines.now ≡ lines_of p.rows → drop first (rows_of c) ≡ p.rows ++ more → option_map spec.extent_view result ≡ spec.extent_in first c p.rows (map step_of steps.now) }
+fn extent_in(rows: &Rows<'_>, document: Stretch, steps: &[Step]) -> Option<InlineSpan>
+    requires shown { IsShown rows.now }
+    requires document { HasDocument rows.now document }
+    ensures { (c : Cut) (k : InCut rows.now document c) → option_map spec.extent_view result ≡ spec.extent_in document.first c k.document.rows (map step_of steps.now) }
 {
     if steps.is_empty() {
-        return lines_extent(rows, first, lines, 0, lines.count());
+        let first = Spot {
+            row: document.first,
+            line: 0,
+        };
+        return node_extent(rows, document, first, 0);
     }
-    let (line, left) = lines.reach(steps)?;
+    let (at, left) = reach(rows, document, steps)?;
     if left.is_empty() {
-        entry_extent(rows, first, lines, line)
+        entry_extent(rows, document, at)
     } else {
         None
     }
@@ -129,24 +120,20 @@ fn if_written(text: &str) -> Option<&str>
     if text.is_empty() { None } else { Some(text) }
 }
 
-impl Documents<'_> {
+impl<'t> CutText<'_, 't> {
     /// The place, in bytes, of the inline node at a path, or of nothing.
     fn inline_extent(&self, path: &Path) -> Option<InlineSpan>
         ensures { option_map spec.extent_view result ≡ option_map spec.extent_of (places.inline_place path.now (cut_of self.now)) }
     {
-        let first = self.first_row(path.doc)?;
-        extent_in(
-            &self.rows,
-            first,
-            &self.documents[path.doc].lines,
-            &path.steps,
-        )
+        let document = self.stretch(path.doc)?;
+        let _whole = self.whole();
+        extent_in(self.rows(), document, &path.steps)
     }
 
     /// The place of the node at a path, if it is an inline node outside flow collections: behind a key
     /// or dash, on a line of its own, or a root; or where nothing but perhaps an anchor is written for
     /// it behind a key or dash.
-    pub fn inline_place(&self, path: &Path) -> Option<InlinePlace<'_>>
+    pub fn inline_place(&self, path: &Path) -> Option<InlinePlace<'t>>
         ensures { option_map spec.inline_told result ≡ option_map spec.inline_telling (places.inline_place path.now (cut_of self.now)) }
     {
         let whole = self.whole();
@@ -158,5 +145,14 @@ impl Documents<'_> {
             behind,
             alone,
         })
+    }
+}
+
+impl Documents<'_> {
+    /// The same of the text of the documents.
+    pub fn inline_place(&self, path: &Path) -> Option<InlinePlace<'_>>
+        ensures { option_map spec.inline_told result ≡ option_map spec.inline_telling (places.inline_place path.now (cut_of self.now)) }
+    {
+        self.cut().inline_place(path)
     }
 }

@@ -7,6 +7,7 @@ ghost use Rattle.yq_tree.specs.MarkPlaces as spec;
 ghost use Rattle.yq_tree.specs.MarkTelling.{mark_told, EndsBehindMark};
 ghost use Rattle.yq_documents.specs.Reading.{cut_of};
 
+use crate::cut_text::CutText;
 use crate::document::Documents;
 use crate::places::line_end::LineEnd;
 use yq_documents::Path;
@@ -73,14 +74,23 @@ fn mark_at<'d>(end: LineEnd<'d>, row: &Row<'_>) -> MarkPlace<'d>
     }
 }
 
-impl Documents<'_> {
+impl<'t> CutText<'_, 't> {
     /// The key or dash of the entry or item at a path, if its line is the last one of its row. The
     /// root has none, nor has what stands in flow.
-    pub fn mark_place(&self, path: &Path) -> Option<MarkPlace<'_>>
+    pub fn mark_place(&self, path: &Path) -> Option<MarkPlace<'t>>
         ensures { option_map mark_told result ≡ spec.mark_place path.now.doc (steps_of path.now) (cut_of self.now) }
     {
         let end = self.line_end(path)?;
         let seat = self.seat(path)?;
         Some(mark_at(end, &self.rows.row(seat.row)))
+    }
+}
+
+impl Documents<'_> {
+    /// The same of the text of the documents.
+    pub fn mark_place(&self, path: &Path) -> Option<MarkPlace<'_>>
+        ensures { option_map mark_told result ≡ spec.mark_place path.now.doc (steps_of path.now) (cut_of self.now) }
+    {
+        self.cut().mark_place(path)
     }
 }

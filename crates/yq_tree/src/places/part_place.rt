@@ -23,8 +23,8 @@ impl Documents<'_> {
         match part {
             Part::Content => self.content_place(path),
             Part::Entry => self.entry_place(path),
-            Part::HeadComment => self.head_comment_place(path),
-            Part::LineComment => self.line_comment_place(path),
+            Part::HeadComment => self.cut().head_comment_place(path),
+            Part::LineComment => self.cut().line_comment_place(path),
         }
     }
 }

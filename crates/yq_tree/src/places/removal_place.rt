@@ -11,21 +11,21 @@ ghost use Rattle.std.specs.Str.{IsCharBoundary};
 ghost use Rattle.yq_scalar.specs.Text.{joined, lines_of as text_lines};
 ghost use Rattle.yq_tree.specs.Extents as extents;
 ghost use Rattle.yq_tree.specs.Extents.{IsShown};
-ghost use Rattle.yq_documents.specs.Lines.{lines_of};
 ghost use Rattle.yq_documents.specs.Located.{steps_of};
 ghost use Rattle.yq_documents.specs.Pieces as pieces;
 ghost use Rattle.yq_documents.specs.Reading.{cut_of};
 ghost use Rattle.yq_tree.specs.PlacedRows.{PlacedPart};
 ghost use Rattle.yq_tree.specs.RemovalPlaces as spec;
 ghost use Rattle.yq_tree.specs.RemovalReading as reading;
-ghost use Rattle.yq_lines.specs.View.{views};
+ghost use Rattle.yq_tree.specs.RowWalk.{HasDocument};
 
+use crate::cut_text::CutText;
 use crate::document::Documents;
-use crate::places::extent::{head_place, lines_before_mark, row_len, row_start};
-use crate::places::seat::find_seat;
+use crate::places::extent::{head_place, row_len, row_start};
+use crate::places::spot::{Stretch, behind};
+use crate::places::spot_reach::reach;
 use yq_documents::{Path, begins_block, last_run};
 use yq_inline::Step;
-use yq_lines::Lined;
 use yq_rows::Rows;
 use yq_scalar::block_lines::is_blank;
 use yq_scalar::lines::split_line;
@@ -81,40 +81,21 @@ fn holds_comment(gap: &str) -> bool
     false
 }
 
-/// The row behind those, from one on, that have so many lines.
-fn rows_end(rows: &Rows<'_>, first: usize, lines: usize) -> usize
-    requires { first ≤ length rows.now.rows }
-    ensures value { result ≡ first + reading.slices_count lines (drop first rows.now.rows) }
-    ensures within { result ≤ length rows.now.rows }
-{
-    let mut left = lines;
-    'rows: for at in first..rows.len() {
-        if left == 0 {
-            return at;
-        }
-        let before = lines_before_mark(&rows.row(at));
-        left = left.saturating_sub(before).saturating_sub(1);
-    }
-    rows.len()
-}
-
 /// Where the rows of the item or entry begin and end to which steps lead, behind where those of its
 /// document begin, if its line is the first one of a row.
-fn own_rows(
-    rows: &Rows<'_>,
-    first: usize,
-    lines: &Lined<'_>,
-    steps: &[Step],
-) -> Option<(usize, usize, usize)>
-    ensures { (t : List ℕ) (c : Cut) (p : Part) (more : List RowOf) → IsCut t c → rows.now ≡ shown c → views lines.now ≡ lines_of p.rows → drop first (rows_of c) ≡ p.rows ++ more → option_map (λ m. (m.0, m.1, m.2)) result ≡ option_map (reading.marks first) (spec.own_rows (map step_of steps.now) p.rows) }
+fn own_rows(rows: &Rows<'_>, document: Stretch, steps: &[Step]) -> Option<(usize, usize, usize)>
+    requires shown { IsShown rows.now }
+    requires document { HasDocument rows.now document }
+    ensures { (h : HasDocument rows.now document) → option_map (λ m. (m.0, m.1, m.2)) result ≡ option_map (reading.marks document.first) (spec.own_rows (map step_of steps.now) h.rows) }
 {
-    let line = lines.line_at(steps)?;
-    let seat = find_seat(rows, first, line)?;
-    if seat.line != 0 {
+    let (at, left) = reach(rows, document, steps)?;
+    if !left.is_empty() {
         return None;
     }
-    let end = rows_end(rows, seat.row, lines.end_of(line) - line);
-    Some((first, seat.row, end))
+    if at.line != 0 {
+        return None;
+    }
+    Some((document.first, at.row, behind(rows, document, at).row))
 }
 
 /// The gap before row `i` and its column; where a part ends before it, the gap there and 0.
@@ -221,29 +202,34 @@ fn rows_out<'d>(rows: &Rows<'d>, whole: &'d str, marks: (usize, usize, usize)) -
     }
 }
 
-impl Documents<'_> {
+impl<'t> CutText<'_, 't> {
     /// Where the rows of the item or entry at a path begin and end, behind where those of its document
     /// begin.
     fn own(&self, path: &Path) -> Option<(usize, usize, usize)>
         ensures { option_map (λ m. (m.0, m.1, m.2)) result ≡ reading.marks_at path.now.doc (steps_of path.now) (cut_of self.now) }
     {
-        let first = self.first_row(path.doc)?;
-        own_rows(
-            &self.rows,
-            first,
-            &self.documents[path.doc].lines,
-            &path.steps,
-        )
+        let document = self.stretch(path.doc)?;
+        let _whole = self.whole();
+        own_rows(self.rows(), document, &path.steps)
     }
 
     /// What is taken out of the text with the item or entry at a path: the lines of the comment above
     /// it, and its rows, less the gap before the first one. None, where its line is not the first one of
     /// a row, as in flow, or behind another dash.
-    pub fn removal(&self, path: &Path) -> Option<Removal<'_>>
+    pub fn removal(&self, path: &Path) -> Option<Removal<'t>>
         ensures { option_map reading.removal_told result ≡ spec.removal_place path.now.doc (steps_of path.now) (cut_of self.now) }
     {
         let whole = self.whole();
         let marks = self.own(path)?;
-        Some(rows_out(&self.rows, whole, marks))
+        Some(rows_out(self.rows(), whole, marks))
+    }
+}
+
+impl Documents<'_> {
+    /// The same of the text of the documents.
+    pub fn removal(&self, path: &Path) -> Option<Removal<'_>>
+        ensures { option_map reading.removal_told result ≡ spec.removal_place path.now.doc (steps_of path.now) (cut_of self.now) }
+    {
+        self.cut().removal(path)
     }
 }

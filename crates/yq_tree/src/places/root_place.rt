@@ -13,7 +13,7 @@ ghost use Rattle.yq_tree.specs.RootReading as reading;
 
 use crate::document::Documents;
 use crate::places::extent::rows_len;
-use crate::places::seat::{is_sought, left_behind};
+use crate::places::stretch::{is_sought, left_behind};
 use crate::places::written::cut_at;
 use yq_documents::{Path, first_is_document};
 use yq_rows::{Rows, begins_document};

@@ -8,6 +8,7 @@ ghost use Rattle.yq_documents.specs.Reading.{cut_of};
 ghost use Rattle.yq_tree.specs.ScalarPlaces as spec;
 ghost use Rattle.yq_tree.specs.ScalarTelling.{scalar_told, StandsAt};
 
+use crate::cut_text::CutText;
 use crate::document::Documents;
 use crate::places::extent::head_place;
 use crate::places::mark_place::column_of;
@@ -95,9 +96,9 @@ fn place_at<'d>(whole: &'d str, row: &Row<'d>, start: usize, indent: usize) -> S
     }
 }
 
-impl Documents<'_> {
+impl<'t> CutText<'_, 't> {
     /// The block scalar at a path, if there is one.
-    pub fn scalar_place(&self, path: &Path) -> Option<ScalarPlace<'_>>
+    pub fn scalar_place(&self, path: &Path) -> Option<ScalarPlace<'t>>
         ensures { option_map scalar_told result ≡ spec.scalar_place path.now.doc (steps_of path.now) (cut_of self.now) }
     {
         let whole = self.whole();
@@ -105,8 +106,17 @@ impl Documents<'_> {
         if seat.line != seat.dashes {
             return None;
         }
-        let (_, indent) = block_in(&self.rows, whole, seat.row)?;
-        let (start, _) = head_place(&self.rows, seat.row);
+        let (_, indent) = block_in(self.rows, whole, seat.row)?;
+        let (start, _) = head_place(self.rows, seat.row);
         Some(place_at(whole, &self.rows.row(seat.row), start, indent))
+    }
+}
+
+impl Documents<'_> {
+    /// The same of the text of the documents.
+    pub fn scalar_place(&self, path: &Path) -> Option<ScalarPlace<'_>>
+        ensures { option_map scalar_told result ≡ spec.scalar_place path.now.doc (steps_of path.now) (cut_of self.now) }
+    {
+        self.cut().scalar_place(path)
     }
 }

@@ -1,26 +1,9 @@
-use Rattle.std.proofs.Common.{◌∙◌, ◌-◌, ap, List, ℕ, string_bytes, slice_index, take, drop, length}
-use Rattle.yq_scalar.specs.ContentReading as spec
-use Rattle.yq_scalar.proofs.ContentLaws.{if_ok_same, quoted_content_is, boundary_open, boundary_close, between_quotes}
+use Rattle.std.proofs.Common.{◌∙◌, string_bytes}
+use Rattle.yq_scalar.proofs.ContentLaws.{if_ok_same, quoted_content_is}
 use Rattle.yq_scalar.proofs.folding.quoted_content.Goals as goal
 
-pub split_at-requires : goal.split_at-requires
-split_at-requires c = boundary_open c.requires.0 c.requires.1.0 c.args.piece.now c.requires.1.1.0 c.requires.1.1.1 c.utf8.piece
-
-pub split_at-requires-2 : goal.split_at-requires-2
-split_at-requires-2 c = boundary_close c.requires.0 c.requires.1.0 c.args.piece.now c.requires.1.1.0 _ c.requires.1.1.1 c.split_at.ensures.back
-
 pub returns-clause-exact : goal.returns-clause-exact
-returns-clause-exact c =
-    let inner = c.split_at-2.ensures.front ∙ between_quotes c.args.piece.now _ c.split_at.ensures.back in
-    let quote = ap (λ (l : List ℕ). slice_index l 0) c.as_bytes.ensures.value in
-    if_ok_same c.fold.result (λ s. string_bytes s) _ _ c.fold.ensures
-    (ap (spec.content_of (slice_index c.as_bytes.result.now 0)) inner ∙ ap (λ q. spec.content_of q (take (length c.args.piece.now - 2) (drop 1 c.args.piece.now))) quote)
+returns-clause-exact c = if_ok_same c.fold.result (λ s. string_bytes s) _ _ c.fold.ensures c.inside-quote.ensures
 
 pub returns-clause-found : goal.returns-clause-found
-returns-clause-found c = λ quote ls rest is.
-    let inner = c.split_at-2.ensures.front ∙ between_quotes c.args.piece.now _ c.split_at.ensures.back in
-    let mark = ap (λ (l : List ℕ). slice_index l 0) c.as_bytes.ensures.value in
-    if_ok_same c.fold.result (λ s. string_bytes s) _ _ c.fold.ensures
-    (ap (spec.content_of (slice_index c.as_bytes.result.now 0)) inner
-    ∙ (ap (λ q. spec.content_of q (take (length c.args.piece.now - 2) (drop 1 c.args.piece.now))) mark
-    ∙ quoted_content_is quote ls c.args.piece.now rest is))
+returns-clause-found c = λ quote ls rest is. if_ok_same c.fold.result (λ s. string_bytes s) _ _ c.fold.ensures (c.inside-quote.ensures ∙ quoted_content_is quote ls c.args.piece.now rest is)

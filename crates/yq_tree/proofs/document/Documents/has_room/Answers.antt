@@ -1,6 +1,0 @@
-use Rattle.yq_tree.specs.SeatReading.{told}
-use Rattle.yq_tree.proofs.SeatLaws.{room_told}
-use Rattle.yq_tree.proofs.document.Documents.has_room.Goals as goal
-
-pub returns : goal.returns
-returns c = room_told c.args.part _ (told c.in-Some.seat) _ c.line_has_room.result c.in-Some.ensures c.line_has_room.ensures

@@ -1,0 +1,25 @@
+use Rattle.std.proofs.Common.{◌≡◌, cond, false, None, option_map, sym, ap, ◌∙◌, arith}
+use Rattle.yq_documents.specs.Lines.{lines_of}
+use Rattle.yq_lines.specs.Ends.{part}
+use Rattle.yq_lines.specs.Spots.{begins_with_node}
+use Rattle.yq_tree.specs.InlineReading.{line_extent, row_extent}
+use Rattle.yq_tree.specs.RowWalk.{line_number}
+use Rattle.yq_tree.proofs.WalkNodes.{node_first, row_told}
+use Rattle.yq_tree.proofs.places.inline_place.node_extent.Goals as goal
+
+pub returns-then-begins_with_node : goal.returns-then-begins_with_node
+returns-then-begins_with_node c = λ cut k to ends.
+    let d = c.args.document in
+    let rs = k.document.rows in
+    let n = line_number d rs c.args.under in
+    let place = line_extent true d.first cut rs n in
+    row_told c.args.rows.now d cut k c.args.under (c.if-begins_with_node.ensures.some refl) (λ i r. row_extent true i r cut) _ (λ r is. c.row_extent.ensures k.text cut k.cut k.rows r is)
+    ∙ (ap (λ b. cond b place None) (c.if-begins_with_node.ensures.test k.document) ∙ node_first (lines_of rs) n to c.args.floor place ends)
+
+pub returns-else-begins_with_node : goal.returns-else-begins_with_node
+returns-else-begins_with_node c = λ cut k to ends.
+    let d = c.args.document in
+    let rs = k.document.rows in
+    let n = line_number d rs c.args.under in
+    let place = line_extent true d.first cut rs n in
+    ap (λ b. cond b place None) (c.if-begins_with_node.ensures.test k.document) ∙ node_first (lines_of rs) n to c.args.floor place ends

@@ -1,0 +1,125 @@
+-- Reading (own; a reader may skip it): where steps lead in a document, row by row, by the pieces of rows, as the code goes.
+use Rattle.std.specs.Prelude.{◌≡◌, ℕ, zero, suc, Bool, true, false, ◌+◌, ◌-◌, ◌*◌, ◌<◌, ◌≤◌, nat_eq, nat_lt, List, [], ◌∷◌, ◌++◌, length, map, take, drop, slice_get, Option, Some, None, option_and_then, option_map, if◌then◌else◌}
+use denote.Bor.{Bor}
+use Rattle.yq_inline.specs.declared.path.Step as declared
+use Rattle.yq_inline.specs.Entries.{step_of}
+use Rattle.yq_scalar.specs.Paths.{Step}
+use Rattle.yq_scalar.specs.Text.{is_empty}
+use Rattle.yq_lines.specs.Ends.{is_end, part}
+use Rattle.yq_lines.specs.Outline.{Line}
+use Rattle.yq_lines.specs.Places.{find_row}
+use Rattle.yq_lines.specs.Spots.{reach_from, seen, spot}
+use Rattle.yq_rows.specs.Grammar.{Limit, AreRows, IsCut, begins_document}
+use Rattle.yq_rows.specs.Rows.{Row, Cut}
+use Rattle.yq_rows.specs.View.{Slices, slices, rows_of, Bound, Shown, shown}
+use Rattle.yq_documents.specs.Documents.{document_parts}
+use Rattle.yq_documents.specs.Lines.{lines_of}
+use Rattle.yq_documents.specs.Reading.{all_documents, cut_of}
+use Rattle.yq_documents.specs.Seats.{document_row}
+use Rattle.yq_tree.specs.EntryReading.{dash_at}
+use Rattle.yq_tree.specs.Extents.{lines_before_mark}
+use Rattle.yq_tree.specs.declared.places.spot.Spot.{Spot}
+use Rattle.yq_tree.specs.declared.places.spot.Stretch.{Stretch}
+use Rattle.yq_tree.specs.declared.places.spot_reach.Next as nexts
+
+-- the rank of line k of a row: that of a dash, of a key, or of a node itself (8.2.3)
+abbrev pub line_rank : ℕ → Slices → ℕ
+line_rank k s = if nat_lt (dash_at k s.dashes) (length s.dashes) then 3 else (if is_empty s.colon then 1 else 2)
+
+-- how deep line k of a row is (8.2.3)
+abbrev pub line_level : ℕ → Slices → ℕ
+line_level k s = 3 * (s.column + dash_at k s.dashes) + line_rank k s
+
+-- how many rows in front begin deeper than a level (8.2)
+abbrev pub deeper_rows : ℕ → List Slices → ℕ
+deeper_rows n [] = 0
+deeper_rows n (s ∷ ss) = if nat_lt n (line_level 0 s) then suc (deeper_rows n ss) else 0
+
+-- The rows of a text from one up to another one are those of a document.
+pub record HasDocument (s : Shown) (d : Stretch) : Type 0 where
+  pub rows : List Row
+  pub limit : Limit
+  pub end : List ℕ
+  pub rest : List ℕ
+  pub order : d.first ≤ d.end
+  pub within : d.end ≤ length s.rows
+  pub pieces : take (d.end - d.first) (drop d.first s.rows) ≡ map slices rows
+  pub valid : AreRows limit rows end rest
+
+-- A line of a document, or the end behind its rows.
+pub record IsSpot (s : Shown) (d : Stretch) (q : Spot) : Type 0 where
+  pub from : d.first ≤ q.row
+  pub upto : q.row ≤ d.end
+  pub line : (x : Slices) → slice_get s.rows q.row ≡ Some x → q.line ≤ lines_before_mark x
+  pub last : q.row ≡ d.end → q.line ≡ 0
+
+-- A line of a document.
+pub record IsLine (s : Shown) (d : Stretch) (q : Spot) : Type 0 where
+  pub from : d.first ≤ q.row
+  pub upto : q.row < d.end
+  pub line : (x : Slices) → slice_get s.rows q.row ≡ Some x → q.line ≤ lines_before_mark x
+
+-- the number of a line among those of a document's rows
+abbrev pub line_number : Stretch → List Row → Spot → ℕ
+line_number d rs q = length (lines_of (take (q.row - d.first) rs)) + q.line
+
+-- What is said of the line of a document that is there.
+abbrev pub OfLine : Shown → Stretch → Spot → (Line → Type 0) → Type 0
+OfLine s d q said = (h : HasDocument s d) (l : Line) → slice_get (lines_of h.rows) (line_number d h.rows q) ≡ Some l → said l
+
+-- A step leads to that line, if to any, among the lines from one on that are deeper than a level.
+abbrev pub Finds : Shown → Stretch → Spot → ℕ → Step → Option Spot → Type 0
+Finds s d under floor step found =
+    (h : HasDocument s d) → spot (line_number d h.rows under) (find_row step (part (lines_of h.rows) (line_number d h.rows under) floor)) ≡ seen (lines_of h.rows) (option_map (line_number d h.rows) found)
+
+-- where steps lead whose first one leads there, with a line by its number
+abbrev pub next_reached : Stretch → List Row → Step → List Step → nexts.Next → Option (ℕ × List Step)
+next_reached d rs s ss (nexts.TheVariants.Line q) = reach_from (lines_of rs) (Some (line_number d rs q)) ss
+next_reached d rs s ss (nexts.TheVariants.Head q) = Some (line_number d rs q, s ∷ ss)
+
+-- Where steps lead, by lines and their numbers, is where the code finds that the first of them leads.
+abbrev pub LeadsTo : Shown → Stretch → (List Line → (Spot → ℕ) → List Step → Option (ℕ × List Step)) → Step → Option nexts.Next → Type 0
+LeadsTo s d leads step found = (h : HasDocument s d) (ss : List Step) → leads (lines_of h.rows) (line_number d h.rows) ss ≡ option_and_then (next_reached d h.rows step ss) found
+
+-- the line where a step leads
+abbrev pub next_spot : nexts.Next → Spot
+next_spot (nexts.TheVariants.Line q) = q
+next_spot (nexts.TheVariants.Head q) = q
+
+-- where the code's steps lead, with a line by its number, and on
+abbrev pub reached_told : Stretch → List Row → Spot × Bor (List declared.Step) → ℕ × List Step
+reached_told d rs x = (line_number d rs x.0, map step_of x.1.now)
+
+-- the rows of a document as two numbers: how many rows of the text stand before them, and before what is behind them
+abbrev pub stretch_told : Stretch → ℕ × ℕ
+stretch_told d = (d.first, d.end)
+
+-- these numbers of document n, by where parts end: k rows stand before the first of them, of which it is known whether it is a document
+abbrev pub begin_rows : Bool → ℕ → ℕ → List Bound → Option (ℕ × ℕ)
+begin_rows is n k [] = None
+begin_rows true zero k (b ∷ bs) = Some (k, b.rows)
+begin_rows true (suc n) k (b ∷ bs) = begin_rows (begins_document b.marker) n b.rows bs
+begin_rows false n k (b ∷ bs) = begin_rows (begins_document b.marker) n b.rows bs
+
+-- these numbers of document n of a cut
+abbrev pub document_rows : ℕ → Cut → Option (ℕ × ℕ)
+document_rows n c = option_map (λ p. (document_row n c, document_row n c + length p.rows)) (slice_get (document_parts c) n)
+
+-- A text with its cut: these are the pieces of the cut, and its parts stand for documents.
+pub record HasCut (t : List ℕ) (s : Shown) : Type 0 where
+  pub cut : IsCut t (cut_of t)
+  pub rows : s ≡ shown (cut_of t)
+  pub sound : all_documents (cut_of t) ≡ true
+
+-- The rows of a document among those of a cut.
+pub record InCut (s : Shown) (d : Stretch) (c : Cut) : Type 0 where
+  pub text : List ℕ
+  pub cut : IsCut text c
+  pub rows : s ≡ shown c
+  pub document : HasDocument s d
+  pub more : List Row
+  pub there : drop d.first (rows_of c) ≡ document.rows ++ more
+
+-- Lines from one on that are deeper than a level end before that number exactly where there are none of them.
+abbrev pub EndsAt : Stretch → List Row → Spot → ℕ → ℕ → Type 0
+EndsAt d rs under floor to = nat_eq (line_number d rs under) to ≡ is_end (part (lines_of rs) (line_number d rs under) floor)

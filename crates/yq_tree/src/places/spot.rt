@@ -1,0 +1,124 @@
+//! Lines of a document by their rows, and how deep they are.
+ghost use Rattle.std.specs.Prelude.{◌≡◌, ◌<◌, ◌≤◌, ◌+◌, ◌-◌, ◌^◌, drop, length, not, slice_get, take, IsTrue, Some};
+ghost use Rattle.yq_lines.specs.Ends.{IsEndOf, is_end, part};
+ghost use Rattle.yq_rows.specs.View.{view, Slices};
+ghost use Rattle.yq_documents.specs.Lines.{lines_of};
+ghost use Rattle.yq_scalar.specs.Characters.{text_limit};
+ghost use Rattle.yq_tree.specs.Extents.{IsShown};
+ghost use Rattle.yq_tree.specs.RowWalk as spec;
+ghost use Rattle.yq_tree.specs.RowWalk.{HasDocument, IsLine, IsSpot};
+
+use crate::places::extent::lines_before_mark;
+use crate::places::row_place::dash_at;
+use yq_rows::{Row, Rows};
+
+/// The rows of a document: those of a text from one up to another one.
+#[derive(Clone, Copy, Debug)]
+pub(crate) struct Stretch {
+    pub(crate) first: usize,
+    pub(crate) end: usize,
+}
+
+/// A line of a document by its row, of those of the text, and by how many lines of that row stand
+/// before it; or the end behind the document's rows.
+#[derive(Clone, Copy, Debug)]
+pub(crate) struct Spot {
+    pub(crate) row: usize,
+    pub(crate) line: usize,
+}
+
+/// What a line of a row begins with, as the order of marks in a column: 1 for a node itself, 2 for a key,
+/// 3 for a dash.
+pub(crate) fn line_rank(row: &Row<'_>, line: usize) -> usize
+    ensures { result ≡ spec.line_rank line (view row.now) }
+{
+    if dash_at(row.dashes().as_bytes(), line) < row.dashes().len() {
+        return 3;
+    }
+    if row.colon().is_empty() { 1 } else { 2 }
+}
+
+/// How deep a line of a row is: three for each column, and by what it begins with.
+fn line_level(row: &Row<'_>, line: usize) -> usize
+    requires { (view row.now).column + length (view row.now).dashes ≤ text_limit }
+    ensures { result ≡ spec.line_level line (view row.now) }
+{
+    let at = dash_at(row.dashes().as_bytes(), line);
+    3 * (row.column() + at) + line_rank(row, line)
+}
+
+/// How deep a line is.
+pub(crate) fn level_at(rows: &Rows<'_>, spot: Spot) -> usize
+    requires within { spot.row < length rows.now.rows }
+    requires shown { IsShown rows.now }
+    ensures { (x : Slices) → slice_get rows.now.rows spot.row ≡ Some x → result ≡ spec.line_level spot.line x }
+{
+    line_level(&rows.row(spot.row), spot.line)
+}
+
+/// The first row from one on, before another one, that doesn't begin deeper than a level.
+fn rows_under(rows: &Rows<'_>, from: usize, end: usize, level: usize) -> usize
+    requires order { from ≤ end }
+    requires within { end ≤ length rows.now.rows }
+    requires shown { IsShown rows.now }
+    ensures value { result ≡ from + spec.deeper_rows level (take (end - from) (drop from rows.now.rows)) }
+    ensures within { result ≤ end }
+{
+    'rows: for at in from..end {
+        if level_at(rows, Spot { row: at, line: 0 }) <= level {
+            return at;
+        }
+    }
+    end
+}
+
+/// Whether a line is there, and is deeper than a level.
+pub(crate) fn is_deeper(rows: &Rows<'_>, document: Stretch, spot: Spot, floor: usize) -> bool
+    requires shown { IsShown rows.now }
+    requires document { HasDocument rows.now document }
+    requires spot { IsSpot rows.now document spot }
+    ensures some { IsTrue result → spot.row < document.end }
+    ensures test { (h : HasDocument rows.now document) → result ≡ not (is_end (part (lines_of h.rows) (spec.line_number document h.rows spot) floor)) }
+{
+    if spot.row >= document.end {
+        return false;
+    }
+    floor < level_at(rows, spot)
+}
+
+/// What is behind a line and those under it.
+pub(crate) fn behind(rows: &Rows<'_>, document: Stretch, spot: Spot) -> Spot
+    requires shown { IsShown rows.now }
+    requires document { HasDocument rows.now document }
+    requires spot { IsLine rows.now document spot }
+    ensures end { (h : HasDocument rows.now document) → IsEndOf (lines_of h.rows) (spec.line_number document h.rows spot) (spec.line_number document h.rows result) }
+    ensures spot { IsSpot rows.now document result }
+    ensures line { result.line ≡ 0 }
+    ensures later { spot.row < result.row }
+{
+    let level = level_at(rows, spot);
+    Spot {
+        row: rows_under(rows, spot.row + 1, document.end, level),
+        line: 0,
+    }
+}
+
+/// The line behind a line.
+pub(crate) fn next(rows: &Rows<'_>, document: Stretch, spot: Spot) -> Spot
+    requires document { HasDocument rows.now document }
+    requires spot { IsLine rows.now document spot }
+    ensures number { (h : HasDocument rows.now document) → spec.line_number document h.rows result ≡ spec.line_number document h.rows spot + 1 }
+    ensures spot { IsSpot rows.now document result }
+{
+    if spot.line < lines_before_mark(&rows.row(spot.row)) {
+        Spot {
+            row: spot.row,
+            line: spot.line + 1,
+        }
+    } else {
+        Spot {
+            row: spot.row + 1,
+            line: 0,
+        }
+    }
+}
