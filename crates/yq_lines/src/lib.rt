@@ -9,6 +9,7 @@ mod ends;
 mod fault;
 mod find;
 mod flaw;
+mod keys;
 mod laws;
 mod line;
 mod line_at;
