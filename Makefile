@@ -5,7 +5,7 @@
 # make dist: an archive of these for those who don't build.
 # make wrong-bodies CRATES="yq_rows yq_tree": the wrong bodies that the gate doesn't try; all crates where none is named.
 # make corpus DIR=FOLDER: edits and their undo in a copy of each YAML file of a folder.
-# make bench: time and memory of reading, editing and parsing.
+# make bench: time, instructions and memory of reading, editing and parsing; DIR=FOLDER names a folder of YAML files to be read too.
 # make clean: what was proved and built goes.
 PREFIX ?= $(HOME)/.local
 YQ := crates/yq/out/yq
@@ -60,6 +60,7 @@ bench: $(YQ)
 	python3 bench/read.py $(YQ)
 	python3 bench/reads.py $(YQ)
 	python3 bench/edit.py $(YQ)
+	python3 bench/cost.py $(YQ) $(DIR)
 	python3 bench/expressions.py $(YQ)
 
 corpus: $(if $(DIR),,no-folder) $(YQ)
