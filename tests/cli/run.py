@@ -23,6 +23,7 @@ import memory
 import owners
 import random_edits
 import reads
+import shells
 import together
 import words
 from harness import run_all
@@ -30,7 +31,7 @@ from pages import run_pages
 from tables import run_tables
 
 CHECKS = [
-    edits, words, completions, guides, installing, failures, links, owners, leftovers, disks, reads, random_edits,
+    edits, words, completions, guides, installing, failures, links, owners, leftovers, disks, reads, shells, random_edits,
     together, cuts, memory,
 ]
 
