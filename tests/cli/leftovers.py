@@ -38,6 +38,25 @@ def check_what_a_cut_left_goes_after_an_hour(folder):
         equal((place.read("f"), place.names()), (WEB, ["f", "f.undo.json"]))
 
 
+def check_a_run_that_is_killed_leaves_nothing_for_long(folder):
+    """Before a write, a sync or a renaming of each of the three files of an edit."""
+    for place, user, before in each_user(folder):
+        for call in ("fchmod", "rename"):
+            for number in (1, 2, 3):
+                cut = type(folder)(folder.yq, place.name(f"{call}-{number}"))
+                os.mkdir(cut.path)
+                cut.write("f", WEB)
+                for path in (cut.path, cut.name("f")):
+                    os.chown(path, user, user)
+                traced(cut, EDIT, f"{call}:signal=KILL:when={number}", nobody=user != 0)
+                left = [name for name in cut.names() if name.startswith(".")]
+                equal(len(left), 1, left)
+                equal((cut.mode(left[0]) & 0o077 & ~cut.mode("f"), os.stat(cut.name(left[0])).st_uid), (0, user))
+                grow_old(cut, left[0], HOUR + 1)
+                cut.accepts("-i", ".port = 1", "f", before=before)
+                equal((cut.read("f"), cut.names()), (WEB.replace(b"8080", b"1"), ["f", "f.undo.json"]))
+
+
 def check_what_is_no_temporary_file_stays(folder):
     """Other names, also those of other files, and what is no regular file."""
     kept = [

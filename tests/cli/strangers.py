@@ -90,6 +90,25 @@ def check_a_link_of_a_stranger_to_a_journal_of_ones_own(folder):
         place.accepts("history", "f", before=before)
 
 
+def check_a_link_of_the_owner_to_the_journal_of_another_user(folder):
+    """Who owns the file may give it a journal, and not lead to one that it may not write."""
+    as_nobody()
+    for place, user, before in each_user(folder):
+        os.chmod(place.path, 0o777)
+        put(place, "g", ONE, user, user, 0o644)
+        place.accepts("-i", ".n = 3", "g", before=before)
+        owner = stranger_of(user)
+        put(place, "f", ONE, owner, owner, 0o666)
+        told(place, owner, owner, "ln", "-s", "g.undo.json", "f.undo.json")
+        for words in (EDIT, ["undo", "f"], ["history", "f"]):
+            is_refused(place, "S2 read failed", *words, before=before)
+        os.chmod(place.name("g.undo.json"), 0o666)
+        place.accepts("history", "f", before=before)
+        os.chmod(place.name("g.undo.json"), 0o644)
+        told(place, owner, owner, "sh", "-ec", "rm f.undo.json; cp g.undo.json j; ln -s j f.undo.json")
+        place.accepts("history", "f", before=before)
+
+
 def check_whose_journal_is_believed(folder):
     """Its owner is root, the user of the run or the owner of the file, or may write the file anyway."""
     as_nobody()

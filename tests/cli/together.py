@@ -11,7 +11,7 @@ from tracing import Held, calls_in, own_calls, traced
 
 DONE, NO_LOCK = (0, b"", b""), (1, b"", b"Error: S2 read failed\n")
 RUNS = 8
-EDITS = 50
+EDITS, EDITS_OF_NOBODY = 50, 10
 MOMENT = 0.5
 LONGEST_WAIT = 60
 
@@ -62,15 +62,14 @@ def check_runs_at_the_same_time(folder):
     for place, user, before in each_user(folder):
         place.write("f", text(value(0)))
         os.chown(place.name("f"), user, user)
+        edits = EDITS_OF_NOBODY if user else EDITS
         began = time.monotonic()
         with ThreadPoolExecutor(RUNS) as pool:
-            jobs = [
-                pool.submit(edited, place, range(run * EDITS + 1, (run + 1) * EDITS + 1), before) for run in range(RUNS)
-            ]
+            jobs = [pool.submit(edited, place, range(run * edits + 1, (run + 1) * edits + 1), before) for run in range(RUNS)]
             for job in jobs:
                 job.result()
-        print(f"runs at once: {RUNS} times {EDITS} edits in {time.monotonic() - began:.1f} s, none of them lost")
-        holds_all(place, range(1, RUNS * EDITS + 1))
+        print(f"runs at once: {RUNS} times {edits} edits in {time.monotonic() - began:.1f} s, none of them lost")
+        holds_all(place, range(1, RUNS * edits + 1))
 
 
 def prepared(folder):

@@ -52,7 +52,7 @@ pub fn read_edited<R: Files<File = File> + Clock + Alloc<A = Global>>(
         path,
         lock: file,
         state: FileState::of(&found),
-        trust: Trust::beside(&found),
+        trust: Trust::of(&found),
     };
     Ok((text, edited))
 }
@@ -74,7 +74,7 @@ pub fn journal_place<R: Files + Alloc<A = Global>>(
     edited: &Edited,
     name: &str,
 ) -> io::Result<Place> {
-    let target = target_of(rt, name, Some(edited.trust))?;
+    let target = target_of(rt, name)?;
     let rights = journal_rights(rt, &target, edited.trust, &edited.path)?;
     let Target { path, .. } = target;
     Ok(Place { path, rights })

@@ -13,18 +13,29 @@ use std::path::PathBuf;
 use std::rt::Files;
 use std::{fs, io};
 
-/// The bytes of a journal. One of someone who could not have written its file is not read, nor one
-/// behind a link of such a user.
+/// Fails at a journal of someone who may not write its file, and at one behind a link of someone who
+/// may not write both: such a link could lead to the journal of another file.
+fn check_makers(target: &Target, journal: &Metadata, trust: Trust) -> io::Result<()> {
+    trust.check(journal)?;
+    let of_journal = Trust::of(journal);
+    'links: for link in &target.links {
+        trust.check(link)?;
+        of_journal.check(link)?;
+    }
+    Ok(())
+}
+
+/// The bytes of a journal, unless someone put it there who may not write its file.
 pub fn read_journal<R: Files<File = File> + Alloc<A = Global>>(
     rt: &R,
     alloc: Global,
     name: &str,
     trust: Trust,
 ) -> io::Result<Vec<u8>> {
-    target_of(rt, name, Some(trust))?;
+    let target = target_of(rt, name)?;
     check_regular(rt, name)?;
     let mut journal = fs::open(rt, name)?;
-    trust.check(&journal.metadata()?)?;
+    check_makers(&target, &journal.metadata()?, trust)?;
     read_whole(alloc, &mut journal)
 }
 
@@ -45,10 +56,10 @@ pub fn journal_rights<R: Files>(
     let beside = fs::metadata(rt, file.as_path())?;
     match old_file(rt, &target.path)? {
         Some(old) => {
-            trust.check(&old)?;
+            check_makers(target, &old, trust)?;
             Ok(Rights::of_old_journal(&old, &beside))
         }
-        None if target.is_link => Err(io::Error::from(ErrorKind::NotFound)),
+        None if !target.links.is_empty() => Err(io::Error::from(ErrorKind::NotFound)),
         None if is_beside(rt, &target.path, file)? => Ok(Rights::of_journal_beside(&beside)),
         None => Ok(Rights::of_journal_elsewhere(&beside)),
     }

@@ -1,6 +1,5 @@
 //! Symbolic links, and the folder of a path.
 
-use crate::disk::trust::Trust;
 use std::alloc::Global;
 use std::fs::Metadata;
 use std::io::ErrorKind;
@@ -20,8 +19,8 @@ const PROCESSES: &str = "/proc";
 pub struct Target {
     /// The path behind the last link, whether or not a file is there.
     pub path: PathBuf,
-    /// Whether the name is a link.
-    pub is_link: bool,
+    /// The links on the way, of which the first is the name.
+    pub links: Vec<Metadata>,
 }
 
 /// The device of the files that tell of processes, where there are any.
@@ -42,32 +41,25 @@ fn found_at<R: Files>(rt: &R, path: &PathBuf) -> io::Result<Option<Metadata>> {
     }
 }
 
-/// Follows the symbolic links of a name. Where a journal is asked for, each link must be one that
-/// its trust covers. A name that leads through the files that tell of processes leads to no file.
-pub fn target_of<R: Files + Alloc<A = Global>>(
-    rt: &R,
-    name: &str,
-    trust: Option<Trust>,
-) -> io::Result<Target> {
+/// Follows the symbolic links of a name. One that leads through the files that tell of processes
+/// leads to no file.
+pub fn target_of<R: Files + Alloc<A = Global>>(rt: &R, name: &str) -> io::Result<Target> {
     let processes = device_of_processes(rt);
     let mut path = PathBuf::from_str(rt.alloc(), name)?;
-    let mut is_link = false;
+    let mut links = Vec::new(rt.alloc());
     'links: for _ in 0..=MOST_LINKS {
         let Some(found) = found_at(rt, &path)? else {
-            return Ok(Target { path, is_link });
+            return Ok(Target { path, links });
         };
         if path.as_path().starts_with(PROCESSES) || processes == Some(found.dev()) {
             return Err(io::Error::from(ErrorKind::InvalidInput));
         }
         if !found.is_symlink() {
-            return Ok(Target { path, is_link });
-        }
-        if let Some(trust) = trust {
-            trust.check(&found)?;
+            return Ok(Target { path, links });
         }
         let link = fs::read_link(rt, path.as_path())?;
         path.set_file_name(link.as_path().as_str())?;
-        is_link = true;
+        links.push(found)?;
     }
     Err(io::Error::from(ErrorKind::FilesystemLoop))
 }

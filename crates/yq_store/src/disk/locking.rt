@@ -38,7 +38,7 @@ fn open_at<R: Files<File = File> + Alloc<A = Global>>(
     name: &str,
     writes: bool,
 ) -> io::Result<OpenedFile> {
-    let Target { path, .. } = target_of(rt, name, None)?;
+    let Target { path, .. } = target_of(rt, name)?;
     check_regular(rt, name)?;
     let file = OpenOptions::new()
         .read(true)

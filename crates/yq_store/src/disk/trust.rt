@@ -16,8 +16,8 @@ const GROUP_WRITES: u32 = 0o020;
 /// The bit that lets everyone write a file.
 const EVERYONE_WRITES: u32 = 0o002;
 
-/// Who may give a file its journal: the user of the run, root, the owner of the file, and who may
-/// write the file anyway.
+/// Who may put something in the place of a file or beside it, since they may write the file: the user
+/// of the run, root, the owner of the file, and whom its mode allows it.
 #[derive(Clone, Copy, Debug, PartialEq, Eq)]
 pub struct Trust {
     user: u32,
@@ -27,8 +27,8 @@ pub struct Trust {
 }
 
 impl Trust {
-    /// Who may give this file its journal.
-    pub fn beside(file: &Metadata) -> Trust {
+    /// Who may write this file.
+    pub fn of(file: &Metadata) -> Trust {
         Trust {
             user: libc::geteuid(),
             owner: file.uid(),
@@ -37,7 +37,7 @@ impl Trust {
         }
     }
 
-    /// Whether who made a journal, or a link to one, could have written the file.
+    /// Whether the maker of a journal, or of a link, may write the file.
     fn covers(&self, owner: u32, group: u32) -> bool
         ensures { result ≡ spec.believes self.now owner group }
     {
@@ -48,7 +48,7 @@ impl Trust {
             || self.mode & GROUP_WRITES != 0 && group == self.group
     }
 
-    /// Fails at a journal, or a link to one, of someone else.
+    /// Fails at a journal, or a link, of someone else.
     pub fn check(&self, found: &Metadata) -> io::Result<()> {
         if self.covers(found.uid(), found.gid()) {
             Ok(())
