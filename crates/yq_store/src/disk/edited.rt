@@ -52,7 +52,7 @@ pub fn read_edited<R: Files<File = File> + Clock + Alloc<A = Global>>(
         path,
         lock: file,
         state: FileState::of(&found),
-        trust: Trust::of(&found),
+        trust: Trust::of(rt, &found),
     };
     Ok((text, edited))
 }

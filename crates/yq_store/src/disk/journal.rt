@@ -17,7 +17,7 @@ use std::{fs, io};
 /// may not write both: such a link could lead to the journal of another file.
 fn check_makers(target: &Target, journal: &Metadata, trust: Trust) -> io::Result<()> {
     trust.check(journal)?;
-    let of_journal = Trust::of(journal);
+    let of_journal = trust.of_other(journal);
     'links: for link in &target.links {
         trust.check(link)?;
         of_journal.check(link)?;
