@@ -18,7 +18,7 @@ use Rattle.yq_scalar.proofs.BlockLaws.{block_again}
 use Rattle.yq_inline.specs.Inline.{depth_limit, IsInlineAt}
 use Rattle.yq_inline.specs.Nodes.{Node, empty, alias, scalar, coll, anchored, node_text, items_text, is_bare, IsNode}
 use Rattle.yq_inline.specs.Places.{placed, mapping, sequence, Parts, holder, locate, locate_items}
-use Rattle.yq_inline.specs.Scalars.{IsScalar, is_quoted, begins_scalar, scalar_of}
+use Rattle.yq_inline.specs.Scalars.{IsScalar, is_quoted, begins_scalar, content_of, scalar_of}
 use Rattle.yq_inline.specs.Trees.{scalar_node, placed_tree, tree_of, node_head}
 use Rattle.yq_inline.proofs.NodeAgain.{is_anchored, takes_unanchored}
 use Rattle.yq_inline.proofs.InlineLaws.{inline_again}
@@ -31,7 +31,7 @@ use Rattle.yq_rows.specs.View.{anchor_cut, content_cut}
 use Rattle.yq_documents.specs.KeyReading.{EndsIn}
 use Rattle.yq_documents.specs.Lines.{head_of}
 use Rattle.yq_documents.specs.Reading.{has_fit_keys, content_is_fit}
-use Rattle.yq_documents.specs.RowReading.{placed_head, is_short_plain, begins_block, block_head_at, fit_head, node_head_at, head_at}
+use Rattle.yq_documents.specs.RowReading.{placed_head, is_short_plain, begins_block, string_head, block_head_at, fit_head, node_head_at, head_at}
 use Rattle.yq_documents.proofs.FlowKeyLaws.{keys_there}
 use Rattle.yq_lines.proofs.OneLine.{one_line}
 
@@ -73,13 +73,17 @@ node_again whole n node rest a some ends h =
     ∙ (λ i. fitting (keys_there whole node rest ends i) (placed_head_is (length whole) node rest a i))
 
 -- which head a text is
-by_node : (whole : List ℕ) (n : ℤ) (head t : List ℕ) → is_empty head ≡ false → begins_block head ≡ false → is_short_plain head ≡ false → head_at whole n head t ≡ node_head_at whole n t
+by_node : (whole : List ℕ) (n : ℤ) (head t : List ℕ) → is_empty head ≡ false → begins_block head ≡ false → is_quoted head ≡ false → is_short_plain head ≡ false → head_at whole n head t ≡ node_head_at whole n t
 unfolding head_at
-by_node whole n head t some block short = rw (some, block, short) refl
+by_node whole n head t some block quoted short = rw (some, block, short, quoted) refl
 
-by_plain : (whole : List ℕ) (n : ℤ) (head t : List ℕ) → is_empty head ≡ false → begins_block head ≡ false → is_short_plain head ≡ true → head_at whole n head t ≡ Some (Some (scalar_node (plain_of head)))
+by_plain : (whole : List ℕ) (n : ℤ) (head t : List ℕ) → is_empty head ≡ false → begins_block head ≡ false → is_quoted head ≡ false → is_short_plain head ≡ true → head_at whole n head t ≡ Some (Some (scalar_node (plain_of head)))
 unfolding head_at
-by_plain whole n head t some block short = rw (some, block, short) refl
+by_plain whole n head t some block quoted short = rw (some, block, short, quoted) refl
+
+by_quotes : (whole : List ℕ) (n : ℤ) (head t : List ℕ) → is_empty head ≡ false → begins_block head ≡ false → is_quoted head ≡ true → head_at whole n head t ≡ Some (string_head (content_of head))
+unfolding head_at
+by_quotes whole n head t some block quoted = rw (some, block, quoted) refl
 
 by_block : (whole : List ℕ) (n : ℤ) (head t : List ℕ) → is_empty head ≡ false → begins_block head ≡ true → head_at whole n head t ≡ block_head_at n t
 unfolding head_at
@@ -90,12 +94,15 @@ unfolding head_at
 by_nothing whole n t = refl
 
 -- a scalar's head
-short_is : (p : List ℕ) → is_short_plain p ≡ true → scalar_of p ≡ plain_of p
+short_is : (p : List ℕ) → is_quoted p ≡ false → is_short_plain p ≡ true → scalar_of p ≡ plain_of p
 unfolding scalar_of
-short_is p h =
-    let quoted : is_quoted p ≡ false = ⊎_elim {0, 0, 0} (λ e. absurd (false≢true (let no : is_short_plain p ≡ false = rw e refl in sym no ∙ h))) (λ e. e) (cases_Bool (is_quoted p)) in
+short_is p quoted h =
     let broken : holds_break p ≡ false = ⊎_elim {0, 0, 0} (λ e. absurd (false≢true (sym (ap not e) ∙ (and_parts _ (not (holds_break p)) h).1))) (λ e. e) (cases_Bool (holds_break p)) in
     rw quoted (ap plain_of (one_line p broken))
+
+string_is : (p : List ℕ) → is_quoted p ≡ true → string_head (content_of p) ≡ Some (scalar_node (scalar_of p))
+unfolding scalar_of content_of
+string_is p q = rw q refl
 
 pub scalar_some_is : (n : ℤ) (p rest : List ℕ) → IsScalar false (Some (deeper n)) p rest → (is_empty p ≡ false) × (begins_block p ≡ false)
 scalar_some_is n [] rest h = absurd (omega (arith, scalar_some false (Some (deeper n)) [] rest h))
@@ -110,26 +117,29 @@ unfolding IsNode tree_of
 scalar_is whole n p rest ends h =
     let s = scalar_some_is n p rest h in
     ⊎_elim {0, 0, 0}
-    (λ e. by_plain whole n p (node_text (scalar p) rest) s.0 s.1 e ∙ ap (λ x. Some (Some (scalar_node x))) (sym (short_is p e)))
-    (λ e. by_node whole n p (node_text (scalar p) rest) s.0 s.1 e ∙ node_again whole n (scalar p) rest refl refl ends h)
-    (cases_Bool (is_short_plain p))
+    (λ q. by_quotes whole n p (node_text (scalar p) rest) s.0 s.1 q ∙ ap (λ x. Some x) (string_is p q))
+    (λ q. ⊎_elim {0, 0, 0}
+    (λ e. by_plain whole n p (node_text (scalar p) rest) s.0 s.1 q e ∙ ap (λ x. Some (Some (scalar_node x))) (sym (short_is p q e)))
+    (λ e. by_node whole n p (node_text (scalar p) rest) s.0 s.1 q e ∙ node_again whole n (scalar p) rest refl refl ends h)
+    (cases_Bool (is_short_plain p)))
+    (cases_Bool (is_quoted p))
 
 -- the head of a node without an anchor
 abbrev pub Opens : ℕ → Type 0
-Opens b = (t : List ℕ) → (begins_block (b ∷ t) ≡ false) × (is_short_plain (b ∷ t) ≡ false)
+Opens b = (t : List ℕ) → (begins_block (b ∷ t) ≡ false) × ((is_quoted (b ∷ t) ≡ false) × (is_short_plain (b ∷ t) ≡ false))
 
 pub opens : (k : ℕ) → Opens (cond (eqb k 125) 123 91)
-opens k = cond_both (eqb k 125) 123 91 Opens (λ _ t. (refl, refl)) (λ _ t. (refl, refl))
+opens k = cond_both (eqb k 125) 123 91 Opens (λ _ t. (refl, (refl, refl))) (λ _ t. (refl, (refl, refl)))
 
 unnamed_is : (whole : List ℕ) (n : ℤ) (node : Node) (rest : List ℕ) → is_anchored node ≡ false → EndsIn whole (node_text node rest) → IsNode false (Some (deeper n)) depth_limit node rest →
     head_at whole n (node_text node []) (node_text node rest) ≡ fitting (has_fit_keys node) (node_head node)
 unfolding node_text
 unnamed_is whole n empty rest a ends h = by_nothing whole n rest
-unnamed_is whole n (alias name) rest a ends h = by_node whole n (42 ∷ (name ++ [])) (42 ∷ (name ++ rest)) refl refl refl ∙ node_again whole n (alias name) rest refl refl ends h
+unnamed_is whole n (alias name) rest a ends h = by_node whole n (42 ∷ (name ++ [])) (42 ∷ (name ++ rest)) refl refl refl refl ∙ node_again whole n (alias name) rest refl refl ends h
 unnamed_is whole n (scalar p) rest a ends h = ap (λ q. head_at whole n q (p ++ rest)) (append-nil p) ∙ scalar_is whole n p rest ends h
 unnamed_is whole n (coll k g is) rest a ends h =
     let o = opens k (g ++ items_text k is []) in
-    by_node whole n (node_text (coll k g is) []) (node_text (coll k g is) rest) refl o.0 o.1 ∙ node_again whole n (coll k g is) rest refl refl ends h
+    by_node whole n (node_text (coll k g is) []) (node_text (coll k g is) rest) refl o.0 o.1.0 o.1.1 ∙ node_again whole n (coll k g is) rest refl refl ends h
 unnamed_is whole n (anchored name g node) rest a ends h = absurd (false≢true (sym a))
 
 written_is : (whole : List ℕ) (n : ℤ) (node : Node) (rest : List ℕ) → is_anchored node ≡ false → EndsIn whole (node_text node [] ++ rest) → IsNode false (Some (deeper n)) depth_limit node rest →

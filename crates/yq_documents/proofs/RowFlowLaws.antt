@@ -10,6 +10,7 @@ use Rattle.yq_scalar.specs.Text.{is_empty}
 use Rattle.yq_inline.specs.Inline.{depth_limit, IsInlineAt}
 use Rattle.yq_inline.specs.Nodes.{Node, empty, alias, scalar, coll, anchored, node_text, items_text, is_bare, IsNode}
 use Rattle.yq_inline.specs.Places.{Placed, locate}
+use Rattle.yq_inline.specs.Scalars.{is_quoted}
 use Rattle.yq_inline.proofs.InlineLaws.{inline_again}
 use Rattle.yq_inline.proofs.NodeAgain.{is_anchored, takes_unanchored}
 use Rattle.yq_inline.proofs.WrittenLaws.{node_then}
@@ -43,13 +44,17 @@ node_again whole n node rest some ends h =
     ap (λ o. o >>= kept) (inline_again places.Block n 0 at whole p is)
 
 -- which head a text is
-by_node : (whole : List ℕ) (n : ℤ) (head t : List ℕ) → is_empty head ≡ false → begins_block head ≡ false → is_short_plain head ≡ false → head_flow_at whole n head t ≡ node_flow_at whole n t
+by_node : (whole : List ℕ) (n : ℤ) (head t : List ℕ) → is_empty head ≡ false → begins_block head ≡ false → is_quoted head ≡ false → is_short_plain head ≡ false → head_flow_at whole n head t ≡ node_flow_at whole n t
 unfolding head_flow_at
-by_node whole n head t some block short = rw (some, block, short) refl
+by_node whole n head t some block quoted short = rw (some, block, short, quoted) refl
 
-by_plain : (whole : List ℕ) (n : ℤ) (head t : List ℕ) → is_empty head ≡ false → begins_block head ≡ false → is_short_plain head ≡ true → head_flow_at whole n head t ≡ None
+by_plain : (whole : List ℕ) (n : ℤ) (head t : List ℕ) → is_empty head ≡ false → begins_block head ≡ false → is_quoted head ≡ false → is_short_plain head ≡ true → head_flow_at whole n head t ≡ None
 unfolding head_flow_at
-by_plain whole n head t some block short = rw (some, block, short) refl
+by_plain whole n head t some block quoted short = rw (some, block, short, quoted) refl
+
+by_quotes : (whole : List ℕ) (n : ℤ) (head t : List ℕ) → is_empty head ≡ false → begins_block head ≡ false → is_quoted head ≡ true → head_flow_at whole n head t ≡ None
+unfolding head_flow_at
+by_quotes whole n head t some block quoted = rw (some, block, quoted) refl
 
 by_block : (whole : List ℕ) (n : ℤ) (head t : List ℕ) → is_empty head ≡ false → begins_block head ≡ true → head_flow_at whole n head t ≡ None
 unfolding head_flow_at
@@ -73,20 +78,23 @@ unfolding IsNode
 scalar_is whole n p rest ends h =
     let s = scalar_some_is n p rest h in
     ⊎_elim {0, 0, 0}
-    (λ e. by_plain whole n p (node_text (scalar p) rest) s.0 s.1 e ∙ scalar_none (length whole) p rest)
-    (λ e. by_node whole n p (node_text (scalar p) rest) s.0 s.1 e ∙ node_again whole n (scalar p) rest refl ends h)
-    (cases_Bool (is_short_plain p))
+    (λ q. by_quotes whole n p (node_text (scalar p) rest) s.0 s.1 q ∙ scalar_none (length whole) p rest)
+    (λ q. ⊎_elim {0, 0, 0}
+    (λ e. by_plain whole n p (node_text (scalar p) rest) s.0 s.1 q e ∙ scalar_none (length whole) p rest)
+    (λ e. by_node whole n p (node_text (scalar p) rest) s.0 s.1 q e ∙ node_again whole n (scalar p) rest refl ends h)
+    (cases_Bool (is_short_plain p)))
+    (cases_Bool (is_quoted p))
 
 -- a node without an anchor
 unnamed_is : (whole : List ℕ) (n : ℤ) (node : Node) (rest : List ℕ) → is_anchored node ≡ false → EndsIn whole (node_text node rest) → IsNode false (Some (deeper n)) depth_limit node rest →
     head_flow_at whole n (node_text node []) (node_text node rest) ≡ kept (locate (length whole) node rest)
 unfolding node_text
 unnamed_is whole n empty rest a ends h = by_nothing whole n rest ∙ empty_none (length whole) rest
-unnamed_is whole n (alias name) rest a ends h = by_node whole n (42 ∷ (name ++ [])) (42 ∷ (name ++ rest)) refl refl refl ∙ node_again whole n (alias name) rest refl ends h
+unnamed_is whole n (alias name) rest a ends h = by_node whole n (42 ∷ (name ++ [])) (42 ∷ (name ++ rest)) refl refl refl refl ∙ node_again whole n (alias name) rest refl ends h
 unnamed_is whole n (scalar p) rest a ends h = ap (λ q. head_flow_at whole n q (p ++ rest)) (append-nil p) ∙ scalar_is whole n p rest ends h
 unnamed_is whole n (coll k g is) rest a ends h =
     let o = opens k (g ++ items_text k is []) in
-    by_node whole n (node_text (coll k g is) []) (node_text (coll k g is) rest) refl o.0 o.1 ∙ node_again whole n (coll k g is) rest refl ends h
+    by_node whole n (node_text (coll k g is) []) (node_text (coll k g is) rest) refl o.0 o.1.0 o.1.1 ∙ node_again whole n (coll k g is) rest refl ends h
 unnamed_is whole n (anchored name g node) rest a ends h = absurd (false≢true (sym a))
 
 written_is : (whole : List ℕ) (n : ℤ) (node : Node) (rest : List ℕ) → is_anchored node ≡ false → EndsIn whole (node_text node [] ++ rest) → IsNode false (Some (deeper n)) depth_limit node rest →

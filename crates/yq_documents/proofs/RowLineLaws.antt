@@ -1,5 +1,5 @@
 -- The lines of a row are made of its pieces.
-use Rattle.std.proofs.Common.{◌≡◌, ◌≤◌, inl, inr, ℕ, zero, suc, ◌+◌, Bool, true, false, ◌&&◌, cond, not, eqb, codes, List, [], ◌∷◌, ◌++◌, Option, Some, None, refl, sym, ap, ◌∙◌, subst, replicate, append_assoc, arith, length, length-append}
+use Rattle.std.proofs.Common.{◌≡◌, ◌≤◌, inl, inr, ℕ, ℤ, zero, suc, ◌+◌, Bool, true, false, ◌&&◌, cond, not, eqb, codes, List, [], ◌∷◌, ◌++◌, Option, Some, None, refl, sym, ap, ◌∙◌, subst, replicate, append_assoc, append-nil, arith, length, length-append}
 use Rattle.std.proofs.lemmas.List.{length-replicate}
 use Rattle.std.specs.Str.{bytes_eq}
 use Rattle.std.proofs.lemmas.Bool.{false≢true, and_from, cond-true, cond-false, and_right}
@@ -7,18 +7,24 @@ use Rattle.std.proofs.lemmas.Option.{cond_some}
 use Rattle.yq_scalar.specs.declared.fault.ReadError.{ReadError}
 use Rattle.yq_scalar.specs.declared.fault.ReadError.TheVariants as errors
 use Rattle.yq_scalar.specs.Answers.{◌>>=◌, Fails}
+use Rattle.yq_scalar.specs.declared.block_header.BlockStyle.{BlockStyle}
+use Rattle.yq_scalar.specs.declared.block_header.BlockStyle.TheVariants as styles
+use Rattle.yq_scalar.specs.Block.{mark_of as block_mark}
+use Rattle.yq_scalar.specs.Piece.{deeper}
 use Rattle.yq_scalar.specs.Plain.{begins_plain}
 use Rattle.yq_scalar.specs.Quoted.{IsQuotedText}
 use Rattle.yq_scalar.specs.Text.{is_empty, lines_of}
 use Rattle.yq_scalar.specs.Tree as trees
-use Rattle.yq_inline.specs.Nodes.{empty, alias, scalar, coll, anchored}
+use Rattle.yq_inline.specs.Inline.{depth_limit}
+use Rattle.yq_inline.specs.Nodes.{Node, empty, alias, scalar, coll, anchored, node_text, items_text, IsNode}
+use Rattle.yq_inline.proofs.NodeAgain.{is_anchored, takes_unanchored}
 use Rattle.yq_inline.specs.Scalars.{IsScalar, is_quoted, content_of}
 use Rattle.yq_inline.proofs.PieceLaws.{front_not}
 use Rattle.yq_lines.specs.Comments as comments
-use Rattle.yq_rows.specs.Grammar.{IsMark, AreDashes, Limit, IsRow}
+use Rattle.yq_rows.specs.Grammar.{IsMark, IsContent, AreDashes, Limit, IsRow}
 use Rattle.yq_rows.specs.Rows as rows
 use Rattle.yq_rows.specs.Rows.{Content, Nothing, Inline, Block, Row, dashes_text, parent_indent, print_row}
-use Rattle.yq_rows.specs.View.{Slices, last_dash, key_of, colon_of, content_cut, slices, slices_text}
+use Rattle.yq_rows.specs.View.{Slices, last_dash, key_of, colon_of, anchor_cut, content_cut, slices, slices_text}
 use Rattle.yq_rows.proofs.SliceLaws.{slices_are}
 use Rattle.yq_documents.specs.Lines.{content_anchor, head_of, tail_of, mark_of, mark_line, dash_line, lines_from, row_lines}
 use Rattle.yq_lines.specs.Outline.{Mark, Bare, Key, Dash, Line}
@@ -27,7 +33,7 @@ use Rattle.yq_documents.specs.KeyReading.{EndsIn}
 use Rattle.yq_documents.specs.Reading.{mark_is_fit, content_is_fit}
 use Rattle.yq_documents.specs.RowReading.{name_in, Begun, dashes_at, mark_at, line_with, line_at, from_head, head_at, HasRow, row_fits, row_made}
 use Rattle.yq_documents.proofs.FlowKeyLaws.{past}
-use Rattle.yq_documents.proofs.HeadLaws.{fitting, head_is}
+use Rattle.yq_documents.proofs.HeadLaws.{fitting, head_is, opens}
 
 -- the pieces of a row tell its mark, its anchor and its tail
 pub colon_some : (white : List ℕ) → is_empty (white ++ 58 ∷ []) ≡ false
@@ -66,18 +72,49 @@ plain_key (b ∷ bs) rest h q =
     let no : is_quoted (b ∷ bs) ≡ false = rw (double, single) refl in
     absurd (false≢true (sym no ∙ q))
 
-scalar_key : (key rest : List ℕ) → IsScalar false None key rest → is_quoted key ≡ true → IsQuotedText key
-scalar_key key rest (inl h) q = plain_key key rest h.begins q
-scalar_key key rest (inr h) q = (h.0.0, (h.0.1.0, (rest, h.0.1.1)))
+scalar_quoted : (spaces : Option ℕ) (p rest : List ℕ) → IsScalar false spaces p rest → is_quoted p ≡ true → IsQuotedText p
+scalar_quoted spaces p rest (inl h) q = plain_key p rest h.begins q
+scalar_quoted spaces p rest (inr h) q = (h.0.0, (h.0.1.0, (rest, h.0.1.1)))
 
 key_is : (m : rows.Mark) (c : Content) (rest : List ℕ) → IsMark m c rest → is_quoted (key_of m) ≡ true → IsQuotedText (key_of m)
 key_is rows.Bare c rest h q = absurd (false≢true q)
 key_is rows.Dash c rest h q = absurd (false≢true q)
-key_is (rows.Key key colon) c rest h q = scalar_key key (colon ++ rows.content_text c rest) h.scalar q
+key_is (rows.Key key colon) c rest h q = scalar_quoted None key (colon ++ rows.content_text c rest) h.scalar q
 
 pub quoted_key : (s : Slices) (t : List ℕ) → HasRow s t → is_quoted s.key ≡ true → IsQuotedText s.key
 quoted_key s t h =
     subst (λ (x : Slices). is_quoted x.key ≡ true → IsQuotedText x.key) (sym h.pieces) (key_is h.row.mark h.row.content h.rest h.valid.mark)
+
+-- a quoted head is a quoted scalar
+written_quoted : (n : ℤ) (node : Node) (rest : List ℕ) → is_anchored node ≡ false → IsNode false (Some (deeper n)) depth_limit node rest → is_quoted (node_text node []) ≡ true → IsQuotedText (node_text node [])
+unfolding IsNode node_text
+written_quoted n empty rest a h q = absurd (false≢true q)
+written_quoted n (alias name) rest a h q = absurd (false≢true q)
+written_quoted n (scalar p) rest a h q =
+    subst (λ (x : List ℕ). is_quoted x ≡ true → IsQuotedText x) (sym (append-nil p)) (scalar_quoted (Some (deeper n)) p rest h) q
+written_quoted n (coll k g is) rest a h q = absurd (false≢true (sym (opens k (g ++ items_text k is [])).1.0 ∙ q))
+written_quoted n (anchored name g node) rest a h q = absurd (false≢true (sym a))
+
+node_quoted : (n : ℤ) (node : Node) (rest : List ℕ) → IsNode false (Some (deeper n)) depth_limit node rest → is_quoted (anchor_cut node).2 ≡ true → IsQuotedText (anchor_cut node).2
+unfolding IsNode
+node_quoted n empty rest h q = absurd (false≢true q)
+node_quoted n (alias name) rest h q = written_quoted n (alias name) rest refl h q
+node_quoted n (scalar p) rest h q = written_quoted n (scalar p) rest refl h q
+node_quoted n (coll k g is) rest h q = written_quoted n (coll k g is) rest refl h q
+node_quoted n (anchored name g node) rest h q = written_quoted n node rest (takes_unanchored node h.3) h.4 q
+
+block_quoted : (style : BlockStyle) (t : List ℕ) → is_quoted (block_mark style ∷ t) ≡ false
+block_quoted styles.Literal t = refl
+block_quoted styles.Folded t = refl
+
+content_quoted : (n : ℤ) (c : Content) (rest : List ℕ) → IsContent n c rest → is_quoted (content_cut c).3 ≡ true → IsQuotedText (content_cut c).3
+content_quoted n (Nothing tail) rest h q = absurd (false≢true q)
+content_quoted n (Inline space node tail) rest h q = node_quoted n node (tail ++ rest) h.1.valid q
+content_quoted n (Block space anchor block) rest h q = absurd (false≢true (sym (block_quoted block.style block.indicators) ∙ q))
+
+pub quoted_head : (s : Slices) (t : List ℕ) → HasRow s t → is_quoted s.head ≡ true → IsQuotedText s.head
+quoted_head s t h =
+    subst (λ (x : Slices). is_quoted x.head ≡ true → IsQuotedText x.head) (sym h.pieces) (content_quoted (parent_indent h.row) h.row.content h.rest h.valid.content)
 
 -- the text of a row by its pieces
 pub pieces_text : (s : Slices) (t : List ℕ) → (h : HasRow s t) → t ≡ slices_text s h.rest

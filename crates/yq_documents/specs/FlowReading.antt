@@ -6,6 +6,7 @@ use Rattle.yq_scalar.specs.Text.{is_empty}
 use Rattle.yq_inline.specs.Inline.{inline_at}
 use Rattle.yq_inline.specs.Nodes.{Node, empty, alias, scalar, coll, anchored}
 use Rattle.yq_inline.specs.Places.{Placed, placed, Content, nothing, name, text, sequence, mapping, locate}
+use Rattle.yq_inline.specs.Scalars.{is_quoted}
 use Rattle.yq_rows.specs.Grammar.{begins_document}
 use Rattle.yq_rows.specs.Rows as rows
 use Rattle.yq_rows.specs.Rows.{Row, rows_text, Part, Cut, last, marked, cut_text}
@@ -38,8 +39,9 @@ unfoldable pub head_flow_at : List ℕ → ℤ → List ℕ → List ℕ → Opt
 head_flow_at whole n head t =
     if is_empty head then None
     else (if begins_block head then None
+    else (if is_quoted head then None
     else (if is_short_plain head then None
-    else node_flow_at whole n t))
+    else node_flow_at whole n t)))
 
 -- a node without the anchor before it (6.9.2)
 abbrev pub core : Node → Node

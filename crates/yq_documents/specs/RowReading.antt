@@ -66,8 +66,9 @@ unfoldable pub head_at : List ℕ → ℤ → List ℕ → List ℕ → Option (
 head_at whole n head t =
     if is_empty head then Some None
     else (if begins_block head then block_head_at n t
+    else (if is_quoted head then Some (string_head (content_of head))
     else (if is_short_plain head then Some (Some (scalar_node (plain_of head)))
-    else node_head_at whole n t))
+    else node_head_at whole n t)))
 
 -- the name of an anchor that is written with its `&`, if there is one (own)
 abbrev pub name_in : List ℕ → Option (List ℕ)

@@ -1,6 +1,8 @@
 //! The heads of rows.
-ghost use Rattle.std.specs.Prelude.{◌≡◌, IfOk, None};
+ghost use Rattle.std.specs.Prelude.{◌≡◌, IfOk, None, true};
 ghost use Rattle.yq_scalar.specs.Answers.{Gives};
+ghost use Rattle.yq_scalar.specs.Quoted.{IsQuotedText};
+ghost use Rattle.yq_inline.specs.Scalars.{is_quoted, content_of as content_text};
 ghost use Rattle.yq_inline.specs.View.{view as node_view};
 ghost use Rattle.yq_documents.specs.FlowReading as flow;
 ghost use Rattle.yq_documents.specs.KeyReading.{EndsIn};
@@ -11,9 +13,19 @@ use crate::flow_keys::keys_fault;
 use std::alloc::{AllocError, Global};
 use yq_inline::pieces::{first_is, is_quoted};
 use yq_inline::{Form, Inline, read_inline};
-use yq_lines::{Content, Head, plain_head};
+use yq_lines::{Content, Head, content_of, plain_head};
 use yq_scalar::plain::holds_break;
 use yq_scalar::{Kind, Place, ReadError, ReadFault, content, read_block};
+
+/// The head that a quoted scalar is: one on one line without escapes is lent.
+fn quoted_head(alloc: Global, head: &str) -> Result<Head<'_>, AllocError>
+    requires { is_quoted head.now ≡ true → IsQuotedText head.now }
+    ensures view { IfOk result (λ h. head_view h ≡ spec.string_head (content_text head.now)) }
+    ensures flow { IfOk result (λ h. head_flow h ≡ None) }
+{
+    let text = content_of(alloc, head)?;
+    Ok(Head::Scalar(Kind::Text, text))
+}
 
 /// Whether a head is a plain scalar on one line.
 fn is_short_plain(head: &str) -> bool
@@ -83,8 +95,8 @@ fn read_block_head<'t>(alloc: Global, parent: i64, text: &str) -> Result<Head<'t
 }
 
 /// The head of a row below a parent of this indentation, that is written so and with which the text
-/// begins, where its keys are fit. A plain scalar on one line is lent. The text ends where the whole one
-/// does.
+/// begins, where its keys are fit. A plain scalar on one line is lent, and a quoted one without escapes.
+/// The text ends where the whole one does.
 #[tactic(auto, unfolding(crate::specs::RowReading::head_at, crate::specs::FlowReading::head_flow_at))]
 pub(crate) fn read_head<'t>(
     alloc: Global,
@@ -93,7 +105,8 @@ pub(crate) fn read_head<'t>(
     head: &'t str,
     text: &'t str,
 ) -> Result<Head<'t>, ReadError>
-    requires { EndsIn whole.now text.now }
+    requires quoted { is_quoted head.now ≡ true → IsQuotedText head.now }
+    requires ends { EndsIn whole.now text.now }
     ensures view { Gives head_view result (spec.head_at whole.now parent head.now text.now) }
     ensures flow { IfOk result (λ h. head_flow h ≡ flow.head_flow_at whole.now parent head.now text.now) }
 {
@@ -102,6 +115,9 @@ pub(crate) fn read_head<'t>(
     }
     if begins_block(head.as_bytes()) {
         return read_block_head(alloc, parent, text);
+    }
+    if is_quoted(head.as_bytes()) {
+        return Ok(quoted_head(alloc, head)?);
     }
     if is_short_plain(head) {
         return Ok(plain_head(head));

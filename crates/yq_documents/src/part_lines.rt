@@ -57,6 +57,7 @@ pub(crate) fn part_lines<'t>(
         rest = after;
         at += 1;
     }
+    lines.shrink_to_fit();
     Ok((lines, rest))
 }
 

@@ -26,7 +26,8 @@ fn read_line<'t>(
     front: Front<'t>,
     text: &'t str,
 ) -> Result<Line<'t>, ReadError>
-    requires quoted { scalars.is_quoted (row_view row.now).key ≡ true → IsQuotedText (row_view row.now).key }
+    requires key { scalars.is_quoted (row_view row.now).key ≡ true → IsQuotedText (row_view row.now).key }
+    requires head { scalars.is_quoted (row_view row.now).head ≡ true → IsQuotedText (row_view row.now).head }
     requires column { front.column < 2 ^ 32 }
     requires ends { EndsIn whole.now text.now }
     ensures line { Gives view result (spec.line_at whole.now (row_view row.now) (spec.begun [] front.entry) text.now) }

@@ -1,5 +1,8 @@
 //! The nodes of documents.
-ghost use Rattle.std.specs.Prelude.{◌≡◌, ◌<◌, length, slice_get, Some};
+ghost use Rattle.std.specs.List.{list_any};
+ghost use Rattle.std.specs.Prelude.{◌≡◌, ◌<◌, false, length, slice_get, Some};
+ghost use Rattle.yq_scalar.specs.Anchors.{names_of};
+ghost use Rattle.yq_lines.specs.Names.{is_reference};
 ghost use Rattle.yq_inline.specs.Trees.{inner, placed_tree};
 ghost use Rattle.yq_inline.specs.View as inline;
 ghost use Rattle.yq_lines.specs.Group.{group};
@@ -12,7 +15,7 @@ ghost use Rattle.yq_lines.specs.Bodies.{lent, lines_under};
 
 use crate::nodes::flow::{inline_anchor, inline_kind, inline_text};
 use yq_inline::Inline;
-use yq_lines::{Body, Line, Lined, Mark, Named, Under, line_node, lines_node};
+use yq_lines::{Body, Line, Lined, Mark, Named, Under, body_refers, line_node, lines_node};
 use yq_scalar::Kind;
 
 /// What a node is.
@@ -148,6 +151,14 @@ impl<'d, 't> Node<'d, 't> {
             Body::List(_) => before,
             Body::Inline(node) => inline_anchor(before, node),
         }
+    }
+
+    /// Whether an alias may stand in it: none does, where none stands in the document's lines.
+    #[tactic(auto, using(yq_lines::proofs::AliasLaws::none_anchored))]
+    pub fn may_refer(&self) -> bool
+        ensures { result ≡ false → list_any is_reference (names_of (spec.node_of self.now)) ≡ false }
+    {
+        body_refers(self.document.lines(), &self.named.body)
     }
 
     /// The key of its entry; an item and the root have none.

@@ -42,9 +42,9 @@ rows-preserved c = record {
 }
 
 pub returns-clause-lines : goal.returns-clause-lines
-returns-clause-lines c =
-    goes_done _ _ c.args.text.now (c.args.to - c.rows.at) (drop c.rows.at c.args.rows.now.rows) c.rows.rest.now (views c.rows.lines.items) (omega (arith, c.rows-test.false)) c.rows.invariant.so_far
+returns-clause-lines c = rw c.shrink_to_fit.ensures.items
+    (goes_done _ _ c.args.text.now (c.args.to - c.rows.at) (drop c.rows.at c.args.rows.now.rows) c.rows.rest.now (views c.rows.lines.items) (omega (arith, c.rows-test.false)) c.rows.invariant.so_far)
 
 pub returns-clause-flows : goal.returns-clause-flows
-returns-clause-flows c =
-    flows_done _ _ _ c.args.text.now (c.args.to - c.rows.at) (drop c.rows.at c.args.rows.now.rows) c.rows.rest.now (flows c.rows.lines.items) (omega (arith, c.rows-test.false)) c.rows.invariant.flows_so_far
+returns-clause-flows c = rw c.shrink_to_fit.ensures.items
+    (flows_done _ _ _ c.args.text.now (c.args.to - c.rows.at) (drop c.rows.at c.args.rows.now.rows) c.rows.rest.now (flows c.rows.lines.items) (omega (arith, c.rows-test.false)) c.rows.invariant.flows_so_far)

@@ -5,7 +5,7 @@ use Rattle.yq_documents.specs.KeyReading.{EndsIn}
 use Rattle.yq_documents.specs.RowReading.{begun, dashes_at}
 use Rattle.yq_lines.specs.View.{view, views, flows}
 use Rattle.yq_documents.proofs.HeadLaws.{ends_within}
-use Rattle.yq_documents.proofs.RowLineLaws.{quoted_key, pieces_text, column_within, key_stops, line_fails, made, head_ends, rest_ends}
+use Rattle.yq_documents.proofs.RowLineLaws.{quoted_key, quoted_head, pieces_text, column_within, key_stops, line_fails, made, head_ends, rest_ends}
 use Rattle.yq_documents.proofs.RowFlowLaws.{row_flows_are}
 use Rattle.yq_documents.proofs.row_lines.row_lines.Goals as goal
 
@@ -19,8 +19,11 @@ push_dashes-requires c =
 pub at_head-text-requires : goal.at_head-text-requires
 at_head-text-requires c = (c.requires.row.rest, pieces_text (row_view c.args.row.now) c.args.text.now c.requires.row)
 
-pub read_line-requires-clause-quoted : goal.read_line-requires-clause-quoted
-read_line-requires-clause-quoted c = quoted_key (row_view c.args.row.now) c.args.text.now c.requires.row
+pub read_line-requires-clause-key : goal.read_line-requires-clause-key
+read_line-requires-clause-key c = quoted_key (row_view c.args.row.now) c.args.text.now c.requires.row
+
+pub read_line-requires-clause-head : goal.read_line-requires-clause-head
+read_line-requires-clause-head c = quoted_head (row_view c.args.row.now) c.args.text.now c.requires.row
 
 pub read_line-requires-clause-ends : goal.read_line-requires-clause-ends
 read_line-requires-clause-ends c =
