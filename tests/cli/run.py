@@ -24,6 +24,7 @@ import owners
 import random_edits
 import reads
 import saves
+import shells
 import strangers
 import together
 import words
@@ -32,7 +33,7 @@ from pages import run_pages
 from tables import run_tables
 
 CHECKS = [
-    edits, words, completions, guides, installing, failures, links, owners, strangers, leftovers, disks, reads,
+    edits, words, completions, guides, installing, failures, links, owners, strangers, leftovers, disks, reads, shells,
     random_edits, together, saves, cuts, memory,
 ]
 
