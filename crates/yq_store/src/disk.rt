@@ -23,7 +23,7 @@ use crate::disk::replacing::{before_change, replace_file};
 use crate::store::{FileReadError, FileWriteError, Store};
 use std::alloc::Global;
 use std::fs::File;
-use std::io::ErrorKind;
+use std::io::{Eprint, ErrorKind};
 use std::random::RandomSource;
 use std::rt::Files;
 use std::time::Clock;
@@ -39,6 +39,7 @@ pub struct DiskStore<'a, R: Drop> {
     purpose: Purpose,
     edited: Option<Edited>,
     is_checked: bool,
+    tells: bool,
     failures: u64,
 }
 
@@ -51,12 +52,24 @@ impl<'a, R: Drop> DiskStore<'a, R> {
             purpose,
             edited: None,
             is_checked: false,
+            tells: false,
             failures: 0,
         }
     }
+
+    /// The same store, which tells on standard error, or doesn't, where it waits for another run for
+    /// longer than a second.
+    pub fn telling(self, tells: bool) -> Self {
+        let mut store = self;
+        store.tells = tells;
+        store
+    }
 }
 
-impl<'a, R: Files<File = File> + RandomSource + Clock + Alloc<A = Global> + Drop> DiskStore<'a, R> {
+impl<
+    'a,
+    R: Files<File = File> + RandomSource + Clock + Eprint + Alloc<A = Global> + Drop,
+> DiskStore<'a, R> {
     /// The bytes of a file. A command that looks at a journal locks its file first.
     fn bytes_of(&mut self, alloc: Global, name: &str) -> io::Result<Vec<u8>>
         ensures { self.new.failures ≡ self.old.failures }
@@ -67,7 +80,7 @@ impl<'a, R: Files<File = File> + RandomSource + Clock + Alloc<A = Global> + Drop
         if name == self.file {
             self.edited = None;
             self.is_checked = false;
-            let (text, edited) = read_edited(&self.rt, alloc, name, self.purpose)?;
+            let (text, edited) = read_edited(&self.rt, alloc, name, self.purpose, self.tells)?;
             self.edited = Some(edited);
             return Ok(text);
         }
@@ -102,7 +115,7 @@ impl<'a, R: Files<File = File> + RandomSource + Clock + Alloc<A = Global> + Drop
     }
 }
 
-impl<'a, R: Files<File = File> + RandomSource + Clock + Alloc<A = Global> + Drop> Store
+impl<'a, R: Files<File = File> + RandomSource + Clock + Eprint + Alloc<A = Global> + Drop> Store
     for DiskStore<'a, R> {
     ghost keeps = { false };
 

@@ -13,7 +13,7 @@ use crate::disk::temporary::remove_left;
 use crate::disk::trust::Trust;
 use std::alloc::Global;
 use std::fs::File;
-use std::io::ErrorKind;
+use std::io::{Eprint, ErrorKind};
 use std::path::PathBuf;
 use std::rt::Files;
 use std::time::Clock;
@@ -35,14 +35,16 @@ pub struct Place {
     pub rights: Rights,
 }
 
-/// Locks the file to which a name leads, and reads it.
-pub fn read_edited<R: Files<File = File> + Clock + Alloc<A = Global>>(
+/// Locks the file to which a name leads, and reads it. Where `tells` is set, a run that waits for the
+/// lock for longer than a second tells it.
+pub fn read_edited<R: Files<File = File> + Clock + Eprint + Alloc<A = Global>>(
     rt: &R,
     alloc: Global,
     name: &str,
     purpose: Purpose,
+    tells: bool,
 ) -> io::Result<(Vec<u8>, Edited)> {
-    let OpenedFile { path, file } = locked_file(rt, name, purpose)?;
+    let OpenedFile { path, file } = locked_file(rt, name, purpose, tells)?;
     let found = file.metadata()?;
     if purpose == Purpose::Replay {
         check_length(&found)?;

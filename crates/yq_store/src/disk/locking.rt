@@ -6,7 +6,7 @@ use crate::disk::reading::check_regular;
 use crate::disk::state::is_same_file;
 use std::alloc::Global;
 use std::fs::{File, OpenOptions, TryLockError};
-use std::io::ErrorKind;
+use std::io::{Eprint, ErrorKind};
 use std::path::PathBuf;
 use std::rt::Files;
 use std::time::{Clock, Duration};
@@ -14,6 +14,9 @@ use std::{fs, io, thread};
 
 /// How many times a lock is asked for: with a pause behind each, a minute long.
 const MOST_TRIES: u32 = 12_000;
+
+/// After how many tries a run tells for what it waits: about a second.
+const QUIET_TRIES: u32 = 200;
 
 /// The pause between two tries, in milliseconds.
 const PAUSE: u64 = 5;
@@ -70,18 +73,25 @@ fn is_at<R: Files>(rt: &R, file: &File, name: &str) -> io::Result<bool> {
     Ok(is_same_file(&file.metadata()?, &fs::metadata(rt, name)?))
 }
 
+/// Tells on standard error for what a run waits.
+fn tell_waiting<R: Eprint>(rt: &R, name: &str) {
+    let _told = eprintln!(rt; "yq: waiting for another run at {name:?}");
+}
+
 /// Opens and locks the file to which a name leads; where another run keeps the lock for too long,
 /// that is an error. Where the name leads to another file once the lock is had, since a run that
 /// held it put that there, it begins again. The lock goes when the file is closed, also when a run
 /// is killed. On a file system without locks the file is open and not locked.
-pub fn locked_file<R: Files<File = File> + Clock + Alloc<A = Global>>(
+/// Where `tells` is set, a run that waits for longer than a second tells it.
+pub fn locked_file<R: Files<File = File> + Clock + Eprint + Alloc<A = Global>>(
     rt: &R,
     name: &str,
     purpose: Purpose,
+    tells: bool,
 ) -> io::Result<OpenedFile> {
     let mut writes = false;
     let mut waiting = None;
-    'tries: for _ in 0..MOST_TRIES {
+    'tries: for tried in 0..MOST_TRIES {
         let opened = match waiting.take() {
             Some(opened) => opened,
             None => open_at(rt, name, writes)?,
@@ -93,6 +103,9 @@ pub fn locked_file<R: Files<File = File> + Clock + Alloc<A = Global>>(
                 }
             }
             Ok(false) => {
+                if tells && tried == QUIET_TRIES {
+                    tell_waiting(rt, name);
+                }
                 thread::sleep(rt, Duration::from_millis(PAUSE));
                 waiting = Some(opened);
             }
