@@ -1,11 +1,11 @@
 # make test: the whole gate: every proof from nothing, wrong bodies, tests, and the program on real files.
 # make ready: layout, links, stray sources, definitions without a section, and wrong bodies that can't be applied, in some seconds.
 # make demo: one edit and its undo.
-# make install, make uninstall: the program, its man page and completions below PREFIX, or not.
+# make install, make uninstall: the program, its man page, pages for users and completions below PREFIX, or not.
 # make dist: an archive of these for those who don't build.
 # make wrong-bodies CRATES="yq_rows yq_tree": the wrong bodies that the gate doesn't try; all crates where none is named.
 # make corpus DIR=FOLDER: edits and their undo in a copy of each YAML file of a folder.
-# make bench: time and memory of reading, editing and parsing.
+# make bench: time, instructions and memory of reading, editing and parsing; DIR=FOLDER names a folder of YAML files to be read too.
 # make clean: what was proved and built goes.
 PREFIX ?= $(HOME)/.local
 YQ := crates/yq/out/yq
@@ -18,6 +18,8 @@ MAN := $(PLACE)/share/man/man1/yq.1
 BASH_WORDS := $(PLACE)/share/bash-completion/completions/yq
 FISH_WORDS := $(PLACE)/share/fish/vendor_completions.d/yq.fish
 ZSH_WORDS := $(PLACE)/share/zsh/site-functions/_yq
+DOC := $(PLACE)/share/doc/yq
+PAGES := MANUAL.md FROM-YQ-V4.md EXPRESSIONS.md TEXT.md STYLE-AND-EXTENTS.md JOURNAL.md
 
 .PHONY: test ready wrong-bodies demo install uninstall dist bench corpus no-folder clean
 
@@ -43,9 +45,13 @@ install: $(YQ)
 	install -Dm644 completions/yq.bash "$(BASH_WORDS)"
 	install -Dm644 completions/yq.fish "$(FISH_WORDS)"
 	install -Dm644 completions/_yq "$(ZSH_WORDS)"
+	install -d "$(DOC)"
+	install -m644 $(PAGES:%=docs/%) "$(DOC)"
 
 uninstall:
 	rm -f "$(PROGRAM)" "$(MAN)" "$(BASH_WORDS)" "$(FISH_WORDS)" "$(ZSH_WORDS)"
+	for page in $(PAGES); do rm -f "$(DOC)/$$page"; done
+	if test -d "$(DOC)"; then rmdir --ignore-fail-on-non-empty "$(DOC)"; fi
 
 dist: $(YQ)
 	python3 tools/dist.py $(YQ) dist
@@ -54,6 +60,7 @@ bench: $(YQ)
 	python3 bench/read.py $(YQ)
 	python3 bench/reads.py $(YQ)
 	python3 bench/edit.py $(YQ)
+	python3 bench/cost.py $(YQ) $(DIR)
 	python3 bench/expressions.py $(YQ)
 
 corpus: $(if $(DIR),,no-folder) $(YQ)

@@ -1,17 +1,32 @@
 # Completion of yq in bash: commands, options and files.
 # Read it by `source`, or put it as `yq` into a folder from which bash-completion loads.
 
+# The words up to the cursor, a line each. Bash cuts a word at = and : and the like; here it is whole, as the line has it.
+_yq_words() {
+    local line=$COMP_LINE rest word whole= at
+    for ((at = 0; at <= COMP_CWORD; at++)); do
+        word=${COMP_WORDS[at]} rest=${line#"${line%%[![:space:]]*}"}
+        if ((at > 0)) && [[ ! $line || $line != "$rest" || ! $rest ]]; then
+            printf '%s\n' "${whole//$'\n'/ }"
+            whole=
+        fi
+        whole+=$word line=${rest#"$word"}
+    done
+    printf '%s\n' "${whole//$'\n'/ }"
+}
+
 # How many words stand before the cursor that are neither options nor the value of one, from the word of index $1 on.
 _yq_places() {
-    local at word names= places=0
-    for ((at = $1; at < COMP_CWORD; at++)); do
-        word=${COMP_WORDS[at]}
+    local at word names= places=0 words
+    mapfile -t words < <(_yq_words)
+    for ((at = $1; at < ${#words[@]} - 1; at++)); do
+        word=${words[at]}
         if [[ $names ]]; then
             ((places++))
         elif [[ $word == -- ]]; then
             names=1
         elif [[ $word == --journal ]]; then
-            [[ ${COMP_WORDS[at + 1]} == = ]] && ((at++))
+            [[ ${words[at + 1]} == = ]] && ((at++))
             ((at++))
         elif [[ $word != -?* ]]; then
             ((places++))

@@ -1,5 +1,4 @@
-"""Makes the archive for those who don't build: what `make install` puts below a prefix, a short README, the pages for users, the
-demo and checksums.
+"""Makes the archive for those who don't build: what `make install` puts below a prefix, a short README, the demo and checksums.
 
 usage: dist.py PATH_OF_YQ FOLDER      writes FOLDER/yq-linux-x86_64.tar.gz
 
@@ -17,8 +16,7 @@ import tempfile
 
 ROOT = os.path.dirname(os.path.dirname(os.path.abspath(__file__)))
 NAME = "yq-linux-x86_64"
-PAGES = ("MANUAL", "FROM-YQ-V4", "EXPRESSIONS", "TEXT", "STYLE-AND-EXTENTS", "JOURNAL")
-ADDED = ("examples/demo.sh", "examples/server.yaml", *(f"docs/{page}.md" for page in PAGES))
+ADDED = ("examples/demo.sh", "examples/server.yaml")
 README = """\
 # yq: edit YAML files in place, with undo
 
@@ -34,9 +32,10 @@ It runs on Linux with glibc on x86-64-v2. To install it, copy bin/ and share/ be
 it, remove these files there. `sha256sum --check SHA256SUMS` and `sh examples/demo.sh bin/yq examples/server.yaml`, in this folder,
 show that it is whole and works.
 
-Pages: the [manual](docs/MANUAL.md) has an example for each task; [FROM-YQ-V4](docs/FROM-YQ-V4.md) is for who knows yq version 4;
-[EXPRESSIONS](docs/EXPRESSIONS.md), [TEXT](docs/TEXT.md), [STYLE-AND-EXTENTS](docs/STYLE-AND-EXTENTS.md) and
-[JOURNAL](docs/JOURNAL.md) tell all of the language, of the texts that are read, of what an edit writes, and of the journal.
+Pages, in share/doc/yq: the [manual](share/doc/yq/MANUAL.md) has an example for each task;
+[FROM-YQ-V4](share/doc/yq/FROM-YQ-V4.md) is for who knows yq version 4; [EXPRESSIONS](share/doc/yq/EXPRESSIONS.md),
+[TEXT](share/doc/yq/TEXT.md), [STYLE-AND-EXTENTS](share/doc/yq/STYLE-AND-EXTENTS.md) and [JOURNAL](share/doc/yq/JOURNAL.md) tell all
+of the language, of the texts that are read, of what an edit writes, and of the journal.
 """
 
 
@@ -54,7 +53,7 @@ def files_below(top):
 
 
 def add_pages(top):
-    """Adds the README, the pages and the demo."""
+    """Adds the README and the demo."""
     for name in ADDED:
         os.makedirs(os.path.dirname(os.path.join(top, name)), exist_ok=True)
         shutil.copy(os.path.join(ROOT, name), os.path.join(top, name))

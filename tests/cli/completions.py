@@ -8,6 +8,7 @@ from guides import helped
 from harness import ROOT, SECONDS, Skip, equal
 
 FILES = {"a.yaml": b"n: 2\n", "b c.yml": b"", "a.yaml.undo.json": b"{}"}
+LINE = 'source "$0"; COMP_LINE=$1; shift; COMP_WORDS=("$@"); COMP_CWORD=$(($# - 1)); _yq; printf "%s\\n" "${COMPREPLY[@]}"'
 DRIVE = 'source "$0"; COMP_WORDS=("$@"); COMP_CWORD=$(($# - 1)); _yq; printf "%s\\n" "${COMPREPLY[@]}"'
 
 
@@ -71,6 +72,25 @@ def check_bash_completes(folder):
         (["--", ".a", ""], files),
     ):
         equal(in_bash(folder, *words), offered, words)
+
+
+def check_bash_completes_behind_words_that_it_cuts(folder):
+    """The words of a line as bash cuts them: at = and :, and not in quotes."""
+    with_files(folder)
+    files = ["a.yaml", "b c.yml", "dir"]
+    for line, words, offered in (
+        ("yq -i .a=1 a", ["-i", ".a", "=", "1", "a"], ["a.yaml"]),
+        ("yq  -i .a=1 ", ["-i", ".a", "=", "1", ""], files),
+        ("yq .a+=1 b", [".a+", "=", "1", "b"], ["b c.yml"]),
+        ("yq e .a=.b:c a", ["e", ".a", "=", ".b", ":", "c", "a"], ["a.yaml"]),
+        ("yq -i '.a = 1' a", ["-i", "'.a = 1'", "a"], ["a.yaml"]),
+        ("yq --journal=j .a=1 a", ["--journal", "=", "j", ".a", "=", "1", "a"], ["a.yaml"]),
+        ("yq --journal j .a=1 a", ["--journal", "j", ".a", "=", "1", "a"], ["a.yaml"]),
+        ("yq -i .a=a", ["-i", ".a", "=", "a"], []),
+        ("yq undo --journal=b", ["undo", "--journal", "=", "b"], ["b c.yml"]),
+    ):
+        printed = run(folder, "bash", "--norc", "--noprofile", "-c", LINE, script("yq.bash"), line, "yq", *words)
+        equal(sorted(word for word in printed if word), offered, line)
 
 
 def check_bash_keeps_to_its_own_names(folder):

@@ -16,7 +16,10 @@ def check_the_mode_stays_and_a_new_journal_has_it(folder):
     equal(folder.mode("f"), 0o640)
     os.chmod(folder.name("f.undo.json"), 0o644)
     folder.accepts("redo", "f")
-    equal((folder.mode("f"), folder.mode("f.undo.json")), (0o640, 0o644))
+    equal((folder.mode("f"), folder.mode("f.undo.json")), (0o640, 0o640))
+    os.chmod(folder.name("f.undo.json"), 0o600)
+    folder.accepts("undo", "f")
+    equal((folder.mode("f"), folder.mode("f.undo.json")), (0o640, 0o600))
 
 
 def check_sixteen_mebibytes(folder):

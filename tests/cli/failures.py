@@ -1,9 +1,10 @@
 """Files that can't be read or written, leftovers, and moves that were cut."""
 
+import json
 import os
 import subprocess
 
-from harness import as_nobody, equal
+from harness import as_nobody, each_user, equal
 from tracing import traced
 
 WEB = b"name: web # main\nport: 8080\n"
@@ -31,6 +32,64 @@ def check_a_pipe_as_file(folder):
         for words in (["undo", *pair], ["history", *pair], ["-i", ".port = 2", *pair]):
             folder.refuses("S2 read failed", *words)
             equal((folder.read("f"), folder.names()), (WEB, ["f", "p"]))
+
+
+def check_a_path_through_a_file(folder):
+    for place, user, before in each_user(folder):
+        place.write("f", WEB)
+        os.chown(place.name("f"), user, user)
+        old = place.files()
+        for name in ("f/x", "f/", "f/."):
+            for words in (["-i", ".port = 2", name], ["undo", name], ["history", name], [".port", name]):
+                place.refuses("S1 not there", *words, before=before)
+        place.refuses("S3 write failed", "-i", ".port = 2", "--journal", "f/j", "f", before=before)
+        place.refuses("J1 nothing to undo", "undo", "--journal", "f/j", "f", before=before)
+        equal(place.files(), old)
+
+
+def with_input(folder, line, name):
+    """What a command answers with this file as its standard input."""
+    with open(folder.name(name), "rb") as opened:
+        done = subprocess.run(line, cwd=folder.path, stdin=opened, capture_output=True)
+    return done.returncode, done.stdout, done.stderr
+
+
+def check_no_name_leads_through_the_files_of_processes(folder):
+    """An open file is edited by its own name; what only prints may read it by any."""
+    for place, user, before in each_user(folder):
+        place.write("f", WEB)
+        os.chown(place.name("f"), user, user)
+        names = ["/proc/self/fd/0", "/dev/fd/0", "/dev/stdin", "/proc/self/cwd/f", "//proc//self/fd/0"]
+        for number, leads in enumerate(names[:4]):
+            os.symlink(leads, place.name(f"l{number}"))
+        old = place.files()
+        for name in [*names, "l0", "l1", "l2", "l3"]:
+            edit = ["-i", ".port = 2"]
+            for words in ([*edit, name], ["undo", name], ["history", name], [*edit, "--journal", name, "f"]):
+                answer = with_input(place, [*before, place.yq, *words], "f")
+                equal((answer, place.files()), ((1, b"", b"Error: S2 read failed\n"), old), words)
+            equal(with_input(place, [*before, place.yq, ".port", name], "f"), (0, b"8080\n", b""), name)
+
+
+def check_a_text_that_is_too_long_is_not_undone(folder):
+    """What is read of it isn't all, so its end would be lost."""
+    line = b"n: 1 # " + b"x" * (LIMIT + 1 - 8) + b"\n"
+    splices = [{"at": 3, "new": "MQ==", "old": "OQ=="}]
+    record = {"after_len": LIMIT + 1, "before_len": LIMIT + 1, "count": 1, "expr": ".n = 1", "splices": splices}
+    equal(len(line), LIMIT + 1)
+    for place, user, before in each_user(folder):
+        place.write("f", line + b"o: 3\n")
+        place.write("f.undo.json", json.dumps({"at": 1, "pending": None, "records": [record], "version": 2}).encode())
+        for name in place.names():
+            os.chown(place.name(name), user, user)
+        old = place.files()
+        for words in (["undo", "f"], ["redo", "f"], ["squash", "1", "f"]):
+            place.refuses("S2 read failed", *words, before=before)
+            equal(place.files(), old)
+        place.refuses("Y18 line 1: too large", "-i", ".n = 2", "f", before=before)
+        equal(place.files(), old)
+        os.truncate(place.name("f"), LIMIT)
+        place.refuses("J3 does not stand", "undo", "f", before=before)
 
 
 def check_a_text_without_an_end(folder):

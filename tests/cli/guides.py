@@ -11,6 +11,8 @@ from pages import examples, lines_of
 MAN = os.path.join("man", "yq.1")
 LINK = re.compile(r"\]\(([^)\s]+)\)")
 CODE = re.compile(r'"([A-Z]\d+)\b')
+FAULT = re.compile(r'#\[error\("([A-Z]\d+ [a-z ]+)"\)\]')
+KIND = re.compile(r'FaultKind::(\w+) => "([\w ]+)"')
 
 
 def section(lines, head):
@@ -49,9 +51,23 @@ def check_the_man_page_is_clean(folder):
     raise Skip("needs mandoc or groff")
 
 
-def check_the_manual_tells_of_each_answer(_folder):
+def faults():
+    """The source of the faults' texts."""
     with open(os.path.join(ROOT, "crates", "yq_history", "src", "fault.rt"), encoding="utf-8") as text:
-        codes = set(CODE.findall(text.read())) | {"N1"}
+        return text.read()
+
+
+def check_the_man_page_tells_of_each_answer_by_its_name(_folder):
+    named = {}
+    for kind, told in KIND.findall(faults()):
+        named.setdefault(kind, []).append(told)
+    names = {*FAULT.findall(faults()), *map(" ".join, named.values()), "N1 no matches found"}
+    told = re.findall(r"^\.It ([A-Z]\d+ .*)$", man_page(), re.MULTILINE)
+    equal((set(told), len(told)), (names, len(names)))
+
+
+def check_the_manual_tells_of_each_answer(_folder):
+    codes = set(CODE.findall(faults())) | {"N1"}
     told = set(re.findall(r"Error: ([A-Z]\d+) ", "\n".join(lines_of("docs/MANUAL.md"))))
     equal(told, codes)
 

@@ -2,6 +2,7 @@
 
 import os
 import shutil
+import stat
 import subprocess
 import sys
 import tempfile
@@ -27,8 +28,12 @@ class Folder:
         return os.path.join(self.path, file)
 
     def copy(self, path):
-        """The same files in a new folder of this path."""
-        return Folder(self.yq, shutil.copytree(self.path, path, symlinks=True))
+        """The same files, of the same owners, in a new folder of this path."""
+        files = self.files()
+        copied = Folder(self.yq, shutil.copytree(self.path, path, symlinks=True))
+        for name, (owner, group, _mode, _what) in files.items():
+            os.chown(copied.name(name), owner, group, follow_symlinks=False)
+        return copied
 
     def write(self, file, data):
         with open(self.name(file), "wb") as out:
@@ -57,20 +62,48 @@ class Folder:
         equal((status, err), (0, b""), words)
         return out
 
-    def refuses(self, line, *words, nobody=False):
+    def refuses(self, line, *words, nobody=False, before=()):
         """The command ends with status 1, prints nothing, and its first line on standard error is this."""
-        status, out, err = self.run(*words, nobody=nobody)
+        status, out, err = self.run(*words, nobody=nobody, before=before)
         equal((status, out, err.split(b"\n")[0]), (1, b"", b"Error: " + line.encode()), words)
 
     def give_away(self):
         """Lets nobody into the folder."""
         os.chmod(self.path, 0o777)
 
+    def files(self):
+        """Each file below the folder: its owner, its group, its mode and its bytes, or where a link leads."""
+        found = {}
+        for top, folders, names in os.walk(self.path):
+            for name in folders + names:
+                path = os.path.join(top, name)
+                seen = os.lstat(path)
+                what = os.readlink(path) if stat.S_ISLNK(seen.st_mode) else None
+                if stat.S_ISREG(seen.st_mode):
+                    what = self.read(path)
+                found[os.path.relpath(path, self.path)] = seen.st_uid, seen.st_gid, seen.st_mode, what
+        return found
 
-def as_nobody():
+
+def as_user(user, group, *groups):
+    """What runs a command as this user, with this group and these others."""
     if os.geteuid() != 0 or shutil.which("setpriv") is None:
         raise Skip("needs root and setpriv")
-    return ["setpriv", f"--reuid={NOBODY}", f"--regid={NOBODY}", "--clear-groups"]
+    others = f"--groups={','.join(map(str, groups))}" if groups else "--clear-groups"
+    return ["setpriv", f"--reuid={user}", f"--regid={group}", others]
+
+
+def as_nobody():
+    return as_user(NOBODY, NOBODY)
+
+
+def each_user(folder):
+    """A folder of its own for root and one for nobody, with what runs a command as them."""
+    for user, before in ((0, []), (NOBODY, as_nobody())):
+        place = Folder(folder.yq, folder.name(f"of-{user}"))
+        os.mkdir(place.path)
+        os.chown(place.path, user, user)
+        yield place, user, before
 
 
 def equal(seen, wanted, what=""):

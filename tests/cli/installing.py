@@ -11,15 +11,16 @@ from guides import LINK
 from harness import ROOT, SECONDS, Skip, equal
 
 ARCHIVE = "yq-linux-x86_64"
+PAGES = ("MANUAL", "FROM-YQ-V4", "EXPRESSIONS", "TEXT", "STYLE-AND-EXTENTS", "JOURNAL")
 INSTALLED = {
     "bin/yq": 0o755,
     "share/man/man1/yq.1": 0o644,
     "share/bash-completion/completions/yq": 0o644,
     "share/fish/vendor_completions.d/yq.fish": 0o644,
     "share/zsh/site-functions/_yq": 0o644,
+    **{f"share/doc/yq/{page}.md": 0o644 for page in PAGES},
 }
-PAGES = ("MANUAL", "FROM-YQ-V4", "EXPRESSIONS", "TEXT", "STYLE-AND-EXTENTS", "JOURNAL")
-ADDED = {"README.md", "SHA256SUMS", "examples/demo.sh", "examples/server.yaml", *(f"docs/{page}.md" for page in PAGES)}
+ADDED = {"README.md", "SHA256SUMS", "examples/demo.sh", "examples/server.yaml"}
 
 
 def run(folder, *words, cwd=ROOT, **environment):

@@ -1,30 +1,122 @@
-"""What a cut left beside a file is neither read nor in the way."""
+"""What a cut left beside a file is neither read nor in the way, and goes when it is an hour old."""
 
 import os
+import time
 
-from harness import equal
+from harness import as_nobody, each_user, equal
 from tracing import calls_in, traced
 
 WEB = b"name: web # main\nport: 8080\n"
 EDITED = b"name: web # main\nport: 9090\n"
 EDIT = ["-i", ".port = 9090", "f"]
-SAME_NAME = ".yq-0000000000000000"
+DIGITS = "0123456789abcdef"
+SAME_NAME = ".f.undo.json.yq-" + "0" * 16
+HOUR = 3_600
 
 
-def check_leftovers_stay_as_they_are(folder):
-    left = {SAME_NAME: b"name: ", ".yq-ffffffffffffffff": b"", ".yq-new": b"port: 1\n", "f.yq-new": b"x"}
+def grow_old(folder, name, seconds):
+    then = time.time() - seconds
+    os.utime(folder.name(name), (then, then), follow_symlinks=False)
+
+
+def check_what_a_cut_left_goes_after_an_hour(folder):
+    """Of the file and of its journal, whatever is in it and whoever may read it; what is younger stays."""
+    for place, user, before in each_user(folder):
+        old = [f".f.yq-{DIGITS}", f".f.undo.json.yq-{DIGITS}", ".f.yq-" + "f" * 16]
+        young = [".f.yq-" + "1" * 16, ".f.undo.json.yq-" + "2" * 16]
+        place.write("f", WEB)
+        os.chown(place.name("f"), user, user)
+        for name in old + young:
+            place.write(name, b"port: 1\n")
+            os.chmod(place.name(name), 0)
+            grow_old(place, name, HOUR + 60 if name in old else HOUR - 60)
+        place.accepts(*EDIT, before=before)
+        equal((place.read("f"), place.names()), (EDITED, sorted([*young, "f", "f.undo.json"])))
+        for name in young:
+            grow_old(place, name, HOUR + 60)
+        place.accepts("undo", "f", before=before)
+        equal((place.read("f"), place.names()), (WEB, ["f", "f.undo.json"]))
+
+
+def check_a_run_that_is_killed_leaves_nothing_for_long(folder):
+    """Before a write, a sync or a renaming of each of the three files of an edit."""
+    for place, user, before in each_user(folder):
+        for call in ("fchmod", "rename"):
+            for number in (1, 2, 3):
+                cut = type(folder)(folder.yq, place.name(f"{call}-{number}"))
+                os.mkdir(cut.path)
+                cut.write("f", WEB)
+                for path in (cut.path, cut.name("f")):
+                    os.chown(path, user, user)
+                traced(cut, EDIT, f"{call}:signal=KILL:when={number}", nobody=user != 0)
+                left = [name for name in cut.names() if name.startswith(".")]
+                equal(len(left), 1, left)
+                equal((cut.mode(left[0]) & 0o077 & ~cut.mode("f"), os.stat(cut.name(left[0])).st_uid), (0, user))
+                grow_old(cut, left[0], HOUR + 1)
+                cut.accepts("-i", ".port = 1", "f", before=before)
+                equal((cut.read("f"), cut.names()), (WEB.replace(b"8080", b"1"), ["f", "f.undo.json"]))
+
+
+def check_what_is_no_temporary_file_stays(folder):
+    """Other names, also those of other files, and what is no regular file."""
+    kept = [
+        f".yq-{DIGITS}", f".g.yq-{DIGITS}", f"f.yq-{DIGITS}", f"..f.yq-{DIGITS}", f".f.undo.yq-{DIGITS}",
+        ".f.yq-", ".f.yq-new", ".f.yq-" + DIGITS[:-1], f".f.yq-{DIGITS}0", f".f.yq-{DIGITS}.undo.json",
+        ".f.yq-" + DIGITS.upper(), ".f.yq-" + "\u0663" * 8,
+    ]
     folder.write("f", WEB)
-    for name, data in left.items():
-        folder.write(name, data)
-        os.chmod(folder.name(name), 0)
-    folder.accepts(*EDIT)
-    folder.accepts("undo", "f")
-    folder.accepts("redo", "f")
-    equal((folder.read("f"), folder.names()), (EDITED, sorted([*left, "f", "f.undo.json"])))
-    for name, data in left.items():
-        equal(folder.mode(name), 0)
-        os.chmod(folder.name(name), 0o600)
-        equal(folder.read(name), data)
+    for name in kept:
+        folder.write(name, b"port: 1\n")
+        grow_old(folder, name, 10 * HOUR)
+    with open(os.fsencode(folder.path) + b"/.f.yq-\xff", "wb"):
+        pass
+    os.mkdir(folder.name(".f.yq-" + "3" * 16))
+    os.symlink("g", folder.name(".f.yq-" + "4" * 16))
+    os.mkfifo(folder.name(".f.yq-" + "5" * 16))
+    for digit in "345":
+        grow_old(folder, ".f.yq-" + digit * 16, 10 * HOUR)
+    before = folder.names()
+    for words in (EDIT, ["undo", "f"], ["redo", "f"]):
+        folder.accepts(*words)
+        equal(folder.names(), sorted([*before, "f.undo.json"]))
+
+
+def check_what_writes_nothing_removes_nothing(folder):
+    folder.write("f", WEB)
+    folder.write(f".f.yq-{DIGITS}", b"")
+    grow_old(folder, f".f.yq-{DIGITS}", 10 * HOUR)
+    for words in ([".port", "f"], ["history", "f"], ["-i", ".port = 8080", "f"]):
+        folder.accepts(*words)
+    folder.refuses("J1 nothing to undo", "undo", "f")
+    equal(folder.run("-i", ".port.a = 1", "f")[0], 1)
+    equal(folder.names(), [f".f.yq-{DIGITS}", "f"])
+
+
+def check_what_can_not_be_removed_stays(folder):
+    """In a folder in which each user removes only its own files."""
+    before = as_nobody()
+    os.chmod(folder.path, 0o1777)
+    folder.write("f", WEB)
+    os.chown(folder.name("f"), 65534, 65534)
+    folder.write(f".f.yq-{DIGITS}", b"")
+    grow_old(folder, f".f.yq-{DIGITS}", 10 * HOUR)
+    folder.accepts(*EDIT, before=before)
+    equal((folder.read("f"), folder.names()), (EDITED, [f".f.yq-{DIGITS}", "f", "f.undo.json"]))
+
+
+def check_long_names(folder):
+    """With the longest names that a file and its journal may have."""
+    for name in ("a" * 245, "\u00e9" * 122, "x" + "\u20ac" * 81):
+        folder.write(name, WEB)
+        left = "." + name.encode()[:234].decode(errors="ignore") + f".yq-{DIGITS}"
+        folder.write(left, b"")
+        grow_old(folder, left, 10 * HOUR)
+        folder.accepts("-i", ".port = 9090", name)
+        equal((folder.read(name), folder.names()), (EDITED, sorted([name, name + ".undo.json"])))
+        folder.accepts("undo", name)
+        equal(folder.read(name), WEB)
+        for old in folder.names():
+            os.remove(folder.name(old))
 
 
 def names_tried(trace):

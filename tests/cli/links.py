@@ -2,7 +2,7 @@
 
 import os
 
-from harness import as_nobody, equal
+from harness import as_nobody, each_user, equal
 
 WEB = b"name: web # main\nport: 8080\n"
 EDITED = b"name: web # main\nport: 9090\n"
@@ -88,12 +88,33 @@ def check_links_in_a_circle(folder):
 def check_a_journal_behind_a_link(folder):
     os.mkdir(folder.name("d"))
     folder.write("f", WEB)
+    folder.accepts("-i", ".port = 1", "--journal", "d/j", "f")
     os.symlink("d/j", folder.name("f.undo.json"))
     folder.accepts(*EDIT, "f")
     equal((folder.read("f"), folder.mode("d/j")), (EDITED, folder.mode("f")))
-    folder.accepts("undo", "f")
-    equal((folder.read("f"), os.readlink(folder.name("f.undo.json"))), (WEB, "d/j"))
+    for wanted in (WEB.replace(b"8080", b"1"), WEB):
+        folder.accepts("undo", "f")
+        equal((folder.read("f"), os.readlink(folder.name("f.undo.json"))), (wanted, "d/j"))
     equal((folder.names(), os.listdir(folder.name("d"))), (["d", "f", "f.undo.json"], ["j"]))
+
+
+def check_a_journal_behind_a_link_to_nothing(folder):
+    """Nothing is made where it leads, and nothing is written."""
+    for place, user, before in each_user(folder):
+        os.mkdir(place.name("d"))
+        os.chmod(place.name("d"), 0o777)
+        place.write("f", WEB)
+        os.chown(place.name("f"), user, user)
+        os.symlink("d/j", place.name("f.undo.json"))
+        os.symlink("f.undo.json", place.name("l"))
+        old = place.files()
+        for words in ([*EDIT, "f"], [*EDIT, "--journal", "l", "f"], [*EDIT, "--journal", "d/../l", "f"]):
+            place.refuses("S3 write failed", *words, before=before)
+            place.refuses("J1 nothing to undo", "undo", *words[2:], before=before)
+            equal(place.files(), old)
+        equal(place.accepts("history", "f", before=before), b"")
+        place.accepts("-i", ".port = 8080", "f", before=before)
+        equal(place.files(), old)
 
 
 def check_a_link_in_a_folder_that_nobody_may_write(folder):

@@ -31,11 +31,14 @@ def check_the_owner_and_the_mode_stay(folder):
 def check_the_journal_keeps_its_owner(folder):
     as_nobody()
     folder.write("f", WEB)
+    os.chown(folder.name("f"), SOMEBODY, SOMEBODY)
     folder.accepts(*EDIT, "f")
-    os.chown(folder.name("f.undo.json"), SOMEBODY, SOME_GROUP)
-    os.chmod(folder.name("f.undo.json"), 0o640)
-    folder.accepts("undo", "f")
-    equal(rights(folder, "f.undo.json"), (SOMEBODY, SOME_GROUP, 0o640))
+    for owner, group in ((SOMEBODY, SOME_GROUP), (0, SOME_GROUP), (0, 0)):
+        os.chown(folder.name("f.undo.json"), owner, group)
+        os.chmod(folder.name("f.undo.json"), 0o640)
+        folder.accepts("undo", "f")
+        equal(rights(folder, "f.undo.json"), (owner, group, 0o640))
+        folder.accepts("redo", "f")
 
 
 def check_who_may_not_give_files_away(folder):

@@ -23,6 +23,9 @@ import memory
 import owners
 import random_edits
 import reads
+import saves
+import shells
+import strangers
 import together
 import words
 from harness import run_all
@@ -30,8 +33,8 @@ from pages import run_pages
 from tables import run_tables
 
 CHECKS = [
-    edits, words, completions, guides, installing, failures, links, owners, leftovers, disks, reads, random_edits,
-    together, cuts, memory,
+    edits, words, completions, guides, installing, failures, links, owners, strangers, leftovers, disks, reads, shells,
+    random_edits, together, saves, cuts, memory,
 ]
 
 sys.exit(run_all(CHECKS, [run_tables, run_pages], sys.argv))

@@ -1,18 +1,19 @@
-"""Runs at once: one after the other has the lock of the folder, and no accepted edit is lost."""
+"""Runs at the same time: each has the lock of its file, and no edit is lost."""
 
 import json
 import os
 import signal
-import subprocess
 import time
-from concurrent.futures import ThreadPoolExecutor
+from concurrent.futures import ThreadPoolExecutor, wait
 
-from harness import SECONDS, equal
-from tracing import calls_in, own_calls, strace, traced
+from harness import each_user, equal
+from tracing import Held, calls_in, own_calls, traced
 
 DONE, NO_LOCK = (0, b"", b""), (1, b"", b"Error: S2 read failed\n")
 RUNS = 8
-EDITS = 50
+EDITS, EDITS_OF_NOBODY = 50, 10
+MOMENT = 0.5
+LONGEST_WAIT = 60
 
 
 def text(value):
@@ -28,14 +29,13 @@ def expression(i):
     return f'.n = "{value(i).decode()}"'
 
 
-def words(i):
-    return ["-i", expression(i), "f"]
+def words(i, file="f"):
+    return ["-i", expression(i), file]
 
 
-def listed(folder):
+def listed(folder, lines):
     """The expressions of the history, oldest first, all of which are done."""
-    lines = folder.accepts("history", "f").decode().split("\n")[:-1]
-    parts = [line.split(" ", 2) for line in lines]
+    parts = [line.split(" ", 2) for line in lines.decode().split("\n")[:-1]]
     equal([part[:2] for part in parts], [[str(i + 1), "done"] for i in range(len(parts))])
     return [json.loads(part[2]) for part in parts]
 
@@ -43,7 +43,7 @@ def listed(folder):
 def holds_all(folder, numbers):
     """The history holds each of these edits once and no other; undone one by one they give all texts back."""
     equal(folder.names(), sorted({"f"} | ({"f.undo.json"} if numbers else set())))
-    order = listed(folder)
+    order = listed(folder, folder.accepts("history", "f"))
     equal(sorted(order), sorted(expression(i) for i in numbers))
     texts = {expression(i): text(value(i)) for i in numbers}
     for i in reversed(range(len(order))):
@@ -53,105 +53,184 @@ def holds_all(folder, numbers):
     folder.refuses("J1 nothing to undo", "undo", "f")
 
 
-def edited(folder, numbers):
-    """Edits one after the other, and gives the numbers of those that were accepted."""
-    accepted = []
+def edited(folder, numbers, before):
     for i in numbers:
-        answer = folder.run(*words(i))
-        equal(answer in (DONE, NO_LOCK), True, answer)
-        if answer == DONE:
-            accepted.append(i)
-    return accepted
+        equal(folder.run(*words(i), before=before), DONE, i)
 
 
 def check_runs_at_the_same_time(folder):
-    folder.write("f", text(value(0)))
-    with ThreadPoolExecutor(RUNS) as pool:
-        jobs = [pool.submit(edited, folder, range(run * EDITS + 1, (run + 1) * EDITS + 1)) for run in range(RUNS)]
-        accepted = [i for job in jobs for i in job.result()]
-    equal(len(accepted) > 0, True)
-    print(f"runs at once: {RUNS * EDITS} edits, {len(accepted)} of them accepted")
-    holds_all(folder, accepted)
+    for place, user, before in each_user(folder):
+        place.write("f", text(value(0)))
+        os.chown(place.name("f"), user, user)
+        edits = EDITS_OF_NOBODY if user else EDITS
+        began = time.monotonic()
+        with ThreadPoolExecutor(RUNS) as pool:
+            jobs = [pool.submit(edited, place, range(run * edits + 1, (run + 1) * edits + 1), before) for run in range(RUNS)]
+            for job in jobs:
+                job.result()
+        print(f"runs at once: {RUNS} times {edits} edits in {time.monotonic() - began:.1f} s, none of them lost")
+        holds_all(place, range(1, RUNS * edits + 1))
 
 
-def stopped(log):
-    with open(log, encoding="utf-8", errors="replace") as trace:
-        return "--- stopped by SIGSTOP ---" in trace.read()
+def prepared(folder):
+    first = folder.copy(folder.name("first"))
+    first.write("f", text(value(0)))
+    return first
 
 
-def child_of(pid):
-    with open(f"/proc/{pid}/task/{pid}/children") as children:
-        return int(children.read().split()[0])
+def calls_of(first, path, given):
+    """The calls of a run, and from which one on and up to which one it has the lock."""
+    _status, _err, trace = traced(first.copy(path), given)
+    own = own_calls([call for call in calls_in(trace) if call.name != "exit_group"], "f")
+    locks = [i for i, call in enumerate(own) if call.name == "flock"]
+    file = own[locks[-1]].text.split(",")[0]
+    closed = (i for i, call in enumerate(own) if call.name == "close" and call.text.startswith(f"{file})"))
+    return own, locks[0], next(i for i in closed if i > locks[-1])
 
 
-def holding(folder, call, given):
-    """Runs the program until one call has been made, and gives the run and a way to let it go on."""
-    log = folder.path + ".trace"
-    line = [strace(), "-o", log, "-e", f"inject={call.name}:signal=STOP:when={call.number}", folder.yq, *given]
-    run = subprocess.Popen(
-        line, cwd=folder.path, stdin=subprocess.DEVNULL, stdout=subprocess.PIPE, stderr=subprocess.PIPE
-    )
-    end = time.monotonic() + SECONDS
-    while not (os.path.exists(log) and stopped(log)):
-        equal(time.monotonic() < end and run.poll() is None, True, "the run was stopped")
-        time.sleep(0.01)
-    return run, child_of(run.pid)
-
-
-def run_between(first, path, call, has_lock):
-    """One run is stopped behind a call, a second one runs, and the first one goes on."""
+def run_between(first, path, call, waits, given, later, file="f"):
+    """One run is stopped behind a call, and another one runs, which waits where the first one has the lock."""
     both = first.copy(path)
-    run, pid = holding(both, call, words(1))
-    before = {name: both.read(name) for name in both.names()}
-    answer = both.run(*words(2))
-    equal(answer, NO_LOCK if has_lock else DONE, call)
-    if has_lock:
-        equal({name: both.read(name) for name in both.names()}, before)
-    os.kill(pid, signal.SIGCONT)
-    out, err = run.communicate(timeout=SECONDS)
-    equal((run.returncode, out, err), DONE, call)
-    holds_all(both, [1] if has_lock else [1, 2])
+    held = Held(both, call, given)
+    old = both.files()
+    with ThreadPoolExecutor(1) as pool:
+        job = pool.submit(both.run, *later)
+        if waits:
+            wait([job], timeout=MOMENT)
+            equal((job.done(), both.files()), (False, old), call)
+        else:
+            job.result()
+        ended = held.sent()
+        return both, ended, job.result()
+
+
+def is_between(first, path, call, waits):
+    both, ended, later = run_between(first, path, call, waits, words(1), words(2))
+    equal((ended, later), (DONE, DONE), call)
+    holds_all(both, [1, 2])
 
 
 def check_a_run_between_any_two_calls_of_another(folder):
-    first = folder.copy(folder.name("first"))
-    first.write("f", text(value(0)))
-    _status, _err, trace = traced(first.copy(folder.name("whole")), words(1))
-    own = own_calls([call for call in calls_in(trace) if call.name != "exit_group"], "f")
-    taken = next(i for i, call in enumerate(own) if call.name == "flock")
-    file = own[taken].text.split(",")[0]
-    closed = (i for i, call in enumerate(own) if call.name == "close" and call.text.startswith(f"{file})"))
-    given = next(i for i in closed if i > taken)
+    first = prepared(folder)
+    own, taken, given = calls_of(first, folder.name("whole"), words(1))
     with ThreadPoolExecutor(len(own)) as pool:
         jobs = []
         for i, call in enumerate(own):
             path = folder.name(f"{call.name}-{call.number}")
-            jobs.append(pool.submit(run_between, first, path, call, taken <= i < given))
+            jobs.append(pool.submit(is_between, first, path, call, taken <= i < given))
         for job in jobs:
             job.result()
 
 
-def check_a_run_waits_for_another(folder):
-    """The lock is had by whoever waits for it, also where the run that holds it is killed."""
-    first = folder.copy(folder.name("first"))
-    first.write("f", text(value(0)))
-    _status, _err, trace = traced(first.copy(folder.name("whole")), words(1))
-    lock = next(call for call in calls_in(trace) if call.name == "flock")
-    for sent, accepted in ((signal.SIGCONT, [1, 2]), (signal.SIGKILL, [2])):
-        both = first.copy(folder.name(sent.name))
-        run, pid = holding(both, lock, words(1))
-        with ThreadPoolExecutor(1) as pool:
-            later = pool.submit(both.run, *words(2))
-            time.sleep(0.3)
-            equal(later.done(), False, "it waits")
-            os.kill(pid, sent)
-            equal(later.result(), DONE)
-        run.communicate(timeout=SECONDS)
-        holds_all(both, accepted)
+def is_listed(first, path, call, waits):
+    """A history, stopped behind a call, while two edits are made."""
+    both, ended, later = run_between(first, path, call, waits, ["history", "f"], words(2))
+    equal((ended[0], ended[2], later), (0, b"", DONE), call)
+    order = listed(both, ended[1])
+    equal(order in ([expression(1)], [expression(1), expression(2)]), True, order)
+    holds_all(both, [1, 2])
 
 
-def check_what_writes_nothing_asks_for_no_lock(folder):
+def check_an_edit_between_any_two_calls_of_a_history(folder):
+    first = prepared(folder)
+    first.accepts(*words(1))
+    own, taken, given = calls_of(first, folder.name("whole"), ["history", "f"])
+    with ThreadPoolExecutor(len(own)) as pool:
+        jobs = []
+        for i, call in enumerate(own):
+            path = folder.name(f"{call.name}-{call.number}")
+            jobs.append(pool.submit(is_listed, first, path, call, taken <= i < given))
+        for job in jobs:
+            job.result()
+
+
+def check_a_history_waits_for_a_move(folder):
+    """Behind each of the three writes of an edit."""
+    first = prepared(folder)
+    own, _taken, _given = calls_of(first, folder.name("whole"), words(1))
+    renames = [call for call in own if call.name == "rename"]
+    equal(len(renames), 3)
+    for call in renames:
+        path = folder.name(f"rename-{call.number}")
+        both, ended, later = run_between(first, path, call, True, words(1), ["history", "f"])
+        equal((ended, later[0], later[2]), (DONE, 0, b""))
+        equal(listed(both, later[1]), [expression(1)])
+
+
+def check_histories_do_not_wait_for_each_other(folder):
+    first = prepared(folder)
+    first.accepts(*words(1))
+    own, taken, _given = calls_of(first, folder.name("whole"), ["history", "f"])
+    _both, ended, later = run_between(first, folder.name("both"), own[taken], False, ["history", "f"], ["history", "f"])
+    equal((ended == later, ended[0]), (True, 0))
+
+
+def check_edits_of_two_files_do_not_wait_for_each_other(folder):
+    """Of one folder; an edit of the same file by a link of another folder waits."""
+    first = prepared(folder)
+    first.write("g", b"n: 1\n")
+    os.mkdir(first.name("d"))
+    os.symlink("../f", first.name("d/l"))
+    own, taken, _given = calls_of(first, folder.name("whole"), words(1))
+    both, ended, later = run_between(first, folder.name("two"), own[taken], False, words(1), ["-i", ".n = 2", "g"])
+    equal((ended, later, both.read("f"), both.read("g")), (DONE, DONE, text(value(1)), b"n: 2\n"))
+    both, ended, later = run_between(first, folder.name("one"), own[taken], True, words(1), words(2, "d/l"))
+    equal((ended, later, both.read("f")), (DONE, DONE, text(value(2))))
+
+
+def check_a_run_that_holds_the_lock_is_killed(folder):
+    """The lock is had by whoever waits for it."""
+    first = prepared(folder)
+    own, taken, _given = calls_of(first, folder.name("whole"), words(1))
+    held = Held(first, own[taken], words(1))
+    with ThreadPoolExecutor(1) as pool:
+        later = pool.submit(first.run, *words(2))
+        wait([later], timeout=MOMENT)
+        equal(later.done(), False, "it waits")
+        held.sent(signal.SIGKILL)
+        equal(later.result(), DONE)
+    holds_all(first, [2])
+
+
+def check_a_run_does_not_wait_for_ever(folder):
+    """It asks for the lock for a minute, and then changes nothing."""
+    first = prepared(folder)
+    first.accepts(*words(1))
+    own, taken, _given = calls_of(first, folder.name("whole"), words(2))
+    both = first.copy(folder.name("both"))
+    held = Held(both, own[taken], words(2))
+    old = both.files()
+    for given in (words(3), ["undo", "f"], ["history", "f"]):
+        status, err, trace = traced(both, given, "clock_nanosleep:retval=0", log=".other")
+        equal((status, err, both.files()), (1, NO_LOCK[2], old), given)
+        pauses = [line for line in trace if line.startswith("clock_nanosleep(")]
+        equal(all("tv_nsec=5000000" in line for line in pauses), True)
+        equal(len(pauses) * 5, LONGEST_WAIT * 1_000)
+    equal(held.sent(), DONE)
+    holds_all(both, [1, 2])
+
+
+def check_a_file_system_without_locks(folder):
+    """It says that it has none, or lends one only to who may write."""
+    for error in ("ENOLCK", "EOPNOTSUPP", "ENOSYS", "EBADF:when=1"):
+        place = type(folder)(folder.yq, folder.name(error[:5]))
+        os.mkdir(place.path)
+        place.write("f", text(value(0)))
+        status, err, trace = traced(place, words(1), f"flock:error={error}")
+        equal((status, err), (0, b""), error)
+        opens = [line for line in trace if line.startswith("openat(") and '"f"' in line]
+        equal(any("O_RDWR" in line for line in opens), "EBADF" in error, opens)
+        holds_all(place, [1])
     folder.write("f", text(value(0)))
-    for given in ([expression(1), "f"], ["history", "f"], ["--help"]):
+    for error in ("EBADF", "EIO"):
+        status, err, _trace = traced(folder, words(1), f"flock:error={error}")
+        equal((status, err, folder.read("f")), (1, NO_LOCK[2], text(value(0))), error)
+
+
+def check_what_only_prints_asks_for_no_lock(folder):
+    folder.write("f", text(value(0)))
+    for given, asked in ([expression(1), "f"], []), (["--help"], []), (["history", "f"], ["LOCK_SH|LOCK_NB"]):
         _status, _err, trace = traced(folder, given)
-        equal([call for call in calls_in(trace) if call.name == "flock"], [], given)
+        locks = [call.text for call in calls_in(trace) if call.name == "flock"]
+        equal(len(locks), len(asked), locks)
+        equal(all(how in lock for how, lock in zip(asked, locks)), True, locks)

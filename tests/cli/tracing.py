@@ -1,11 +1,15 @@
 """The system calls of a run, listed by strace, and made to fail or to be the last."""
 
 import functools
+import os
+import pwd
 import re
 import shutil
+import signal
 import subprocess
+import time
 
-from harness import SECONDS, Skip
+from harness import NOBODY, SECONDS, Skip, equal
 
 LINE = re.compile(r"(\w+)\((.*)")
 
@@ -33,10 +37,15 @@ def strace():
     return path
 
 
-def traced(folder, words, *injections, env=None):
+def traced_line(log, nobody):
+    """What runs a command under strace, as the user who runs the tests or as nobody."""
+    return [strace(), *(["-u", pwd.getpwuid(NOBODY).pw_name] if nobody else []), "-o", log, "-s", "64"]
+
+
+def traced(folder, words, *injections, env=None, nobody=False, log=".trace"):
     """Runs the program under strace. Gives status, standard error and the lines of the trace."""
-    log = folder.path + ".trace"
-    line = [strace(), "-o", log, "-s", "64"]
+    log = folder.path + log
+    line = traced_line(log, nobody)
     for injection in injections:
         line += ["-e", "inject=" + injection]
     line += [folder.yq, *words]
@@ -64,3 +73,36 @@ def own_calls(calls, file):
     """The calls from the first one on that names this file."""
     first = next(i for i, call in enumerate(calls) if f'"{file}"' in call.text)
     return calls[first:]
+
+
+def stopped(log):
+    with open(log, encoding="utf-8", errors="replace") as trace:
+        return "--- stopped by SIGSTOP ---" in trace.read()
+
+
+def child_of(pid):
+    with open(f"/proc/{pid}/task/{pid}/children") as children:
+        return int(children.read().split()[0])
+
+
+class Held:
+    """A run that is stopped behind one of its system calls."""
+
+    def __init__(self, folder, call, words, nobody=False):
+        log = folder.path + ".trace"
+        stop = f"inject={call.name}:signal=STOP:when={call.number}"
+        line = [*traced_line(log, nobody), "-e", stop, folder.yq, *words]
+        self.run = subprocess.Popen(
+            line, cwd=folder.path, stdin=subprocess.DEVNULL, stdout=subprocess.PIPE, stderr=subprocess.PIPE
+        )
+        end = time.monotonic() + SECONDS
+        while not (os.path.exists(log) and stopped(log)):
+            equal(time.monotonic() < end and self.run.poll() is None, True, f"the run was stopped at {call}")
+            time.sleep(0.01)
+        self.pid = child_of(self.run.pid)
+
+    def sent(self, what=signal.SIGCONT):
+        """Lets it go on, or ends it, and gives its status and what it printed."""
+        os.kill(self.pid, what)
+        out, err = self.run.communicate(timeout=SECONDS)
+        return self.run.returncode, out, err

@@ -1,11 +1,9 @@
 //! The program's words, carried out over real files and standard output.
 
-use crate::output::standard::StandardOut;
-use crate::run::run_list;
-use crate::words::command_of;
 use std::io::ErrorKind;
 use yq_commands::Answer;
 use yq_history::Fault;
+use yq_lists::{StandardOut, command_of, run_list};
 use yq_store::DiskStore;
 use yq_words::{Command, purpose_of};
 

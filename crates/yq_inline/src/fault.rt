@@ -1,5 +1,7 @@
 //! Where a text is at fault.
 
+use yq_scalar::block_lines::behind_spaces;
+use yq_scalar::text::spaces_len;
 use yq_scalar::{FaultKind, ReadFault};
 
 /// A fault that begins where this rest of the whole text does.
@@ -15,8 +17,29 @@ pub(crate) fn fault(kind: FaultKind, whole: &str, rest: &str) -> ReadFault {
     }
 }
 
+/// The whole text from the line on which this rest of it begins.
+fn from_line<'t>(whole: &'t str, rest: &str) -> &'t [u8] {
+    let bytes = whole.as_bytes();
+    let before = bytes.split_at(whole.len().saturating_sub(rest.len())).0;
+    match before.iter().rposition(|b| *b == b'\n') {
+        Some(feed) => bytes.split_at(feed + 1).1,
+        None => bytes,
+    }
+}
+
+/// Whether a flow collection behind whose bracket stood `open` is not closed before this rest of the
+/// whole text: at its end, and where a line that is indented no further than that of the bracket stands
+/// behind it, on which a key or dash stands before the bracket.
+fn is_unclosed(whole: &str, open: &str, rest: &str) -> bool {
+    let opened = from_line(whole, open);
+    let line = from_line(whole, rest);
+    let is_left = line.len() < opened.len() && spaces_len(line) <= spaces_len(opened);
+    rest.is_empty() || (is_left && !matches!(behind_spaces(opened), [b'[' | b'{', ..]))
+}
+
 /// A fault in a flow collection behind whose bracket stood `open`: where this rest of the whole text
-/// begins, or, at the text's end, where the collection does, which is not closed.
+/// begins, or, where the collection isn't closed before it, where that begins.
 pub(crate) fn flow_fault(kind: FaultKind, whole: &str, open: &str, rest: &str) -> ReadFault {
-    fault(kind, whole, if rest.is_empty() { open } else { rest })
+    let is_unclosed = is_unclosed(whole, open, rest);
+    fault(kind, whole, if is_unclosed { open } else { rest })
 }

@@ -72,7 +72,7 @@ pub fn is_quoted(text: &[u8]) -> bool
 }
 
 /// Whether a scalar may begin in front.
-fn begins_scalar(flow: bool, text: &[u8]) -> bool
+pub fn begins_scalar(flow: bool, text: &[u8]) -> bool
     ensures { result ≡ scalars.begins_scalar flow text.now }
 {
     is_quoted(text) || begins_plain(flow, text)

@@ -50,7 +50,7 @@ fn scalar_of(alloc: Global, piece: &str) -> Result<Scalar, AllocError>
         return Ok(Scalar::string(text));
     }
     let text = plain_content(alloc, piece)?;
-    Scalar::plain(alloc, text.as_str())
+    Scalar::from_plain(alloc, text)
 }
 
 /// The scalar in front, with its piece, and what follows it.

@@ -1,3 +1,4 @@
+pub mod AliasLaws
 pub mod Allowing
 pub mod AnchorLaws
 pub mod BoundLaws

@@ -15,7 +15,7 @@ with-append : (a : Option (List ℕ)) (xs ys : List Name) → with_anchor a (xs 
 with-append None xs ys = refl
 with-append (Some a) xs ys = refl
 
-line_names-append : (xs ys : List Line) → line_names (xs ++ ys) ≡ line_names xs ++ line_names ys
+pub line_names-append : (xs ys : List Line) → line_names (xs ++ ys) ≡ line_names xs ++ line_names ys
 line_names-append [] ys = refl
 line_names-append (l ∷ xs) ys =
     ap (with_anchor l.anchor) (ap (λ t. head_names l.head ++ t) (line_names-append xs ys) ∙ sym (append_assoc (head_names l.head) (line_names xs) (line_names ys)))

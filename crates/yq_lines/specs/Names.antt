@@ -1,10 +1,15 @@
 -- Reading (own; a reader may skip it: the grammar is what is believed, and the clauses `found` and `only` tie the two): the anchors and aliases of lines.
-use Rattle.std.specs.Prelude.{ℕ, List, [], ◌∷◌, ◌++◌, map, Option, Some, None, ⊤}
+use Rattle.std.specs.Prelude.{ℕ, Bool, true, false, List, [], ◌∷◌, ◌++◌, map, Option, Some, None, ⊤}
 use Rattle.yq_scalar.specs.Tree as tree
 use Rattle.yq_scalar.specs.Tree.{Node, alias, scalar, list}
 use Rattle.yq_scalar.specs.Anchors.{Name, Anchors, Refers, with_anchor, names_of, IsNoAlias}
 use Rattle.yq_lines.specs.declared.names.Name as declared
 use Rattle.yq_lines.specs.Outline.{Line}
+
+-- whether a name is that of an alias (7.1)
+abbrev pub is_reference : Name → Bool
+is_reference (Anchors a) = false
+is_reference (Refers a) = true
 
 -- the anchors and aliases in a head, in the order of the text
 abbrev pub head_names : Option Node → List Name

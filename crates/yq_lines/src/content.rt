@@ -1,5 +1,7 @@
 //! The texts that keys and scalars stand for.
-ghost use Rattle.std.specs.Prelude.{◌≡◌, IfOk, None, Some, true};
+ghost use Rattle.std.specs.List.{list_any};
+ghost use Rattle.std.specs.Prelude.{◌≡◌, ◌==◌, ◌-◌, IfOk, None, Some, drop, if◌then◌else◌, length, take, true};
+ghost use Rattle.yq_scalar.specs.ContentReading as reading;
 ghost use Rattle.yq_scalar.specs.Quoted.{IsQuotedText};
 ghost use Rattle.yq_scalar.specs.Scalar.{plain_of};
 ghost use Rattle.yq_inline.specs.Scalars as scalars;
@@ -13,15 +15,44 @@ use yq_scalar::folding::{plain_content, quoted_content};
 use yq_scalar::plain::holds_break;
 use yq_scalar::{Kind, resolve};
 
-/// The text that a key, as it is written, stands for: a plain one on one line is lent.
+/// What stands between the quotes of a quoted scalar.
+fn between_quotes(piece: &str) -> &str
+    requires { IsQuotedText piece.now }
+    ensures { result.now ≡ take (length piece.now - 2) (drop 1 piece.now) }
+{
+    let inner = piece.split_at(1).1;
+    inner.split_at(inner.len() - 1).0
+}
+
+/// Whether a backslash stands in double quotes, or a quote in single ones.
+fn holds_escape(quote: u8, inner: &str) -> bool
+    ensures { result ≡ list_any (λ b. b == (if quote == 34 then 92 else 39)) inner.now }
+{
+    let sign = if quote == b'"' { b'\\' } else { b'\'' };
+    inner.as_bytes().iter().any(|b| *b == sign)
+}
+
+/// The text that a quoted scalar stands for: one on one line without escapes is lent.
+fn quoted_text<'t>(alloc: Global, piece: &'t str) -> Result<Content<'t>, AllocError>
+    requires { IsQuotedText piece.now }
+    ensures { IfOk result (λ c. content_view c ≡ reading.quoted_content piece.now) }
+{
+    let inner = between_quotes(piece);
+    if holds_break(inner) || holds_escape(piece.as_bytes()[0], inner) {
+        let text = quoted_content(alloc, piece)?;
+        return Ok(Content::Own(text));
+    }
+    Ok(Content::Slice(inner))
+}
+
+/// The text that a key or a scalar, as it is written, stands for: one on one line without escapes is lent.
 #[tactic(auto, unfolding(yq_inline::specs::Scalars::content_of), using(crate::proofs::OneLine::one_line))]
 pub fn content_of<'t>(alloc: Global, piece: &'t str) -> Result<Content<'t>, AllocError>
     requires { scalars.is_quoted piece.now ≡ true → IsQuotedText piece.now }
     ensures { IfOk result (λ c. content_view c ≡ scalars.content_of piece.now) }
 {
     if is_quoted(piece.as_bytes()) {
-        let text = quoted_content(alloc, piece)?;
-        return Ok(Content::Own(text));
+        return quoted_text(alloc, piece);
     }
     if holds_break(piece) {
         let text = plain_content(alloc, piece)?;

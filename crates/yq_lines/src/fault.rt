@@ -5,6 +5,7 @@ ghost use Rattle.yq_lines.specs.LinesReading as spec;
 ghost use Rattle.yq_lines.specs.Names.{HaveHeadsApart};
 ghost use Rattle.yq_lines.specs.View.{views};
 
+use crate::aliases::lines_refer;
 use crate::anchors::second_anchor;
 use crate::bound::unbound_alias;
 use crate::flaw::Flaw;
@@ -18,11 +19,15 @@ use yq_scalar::FaultKind;
 
 /// What is at fault in the anchors and aliases of lines: a second anchor of a node, an anchor of an
 /// alias, or an alias without an earlier anchor of its name.
+#[tactic(auto, using(crate::proofs::AliasLaws::bound_alone))]
 fn name_fault(alloc: Global, lines: &[Line<'_>]) -> Result<Option<Flaw>, AllocError>
     ensures { IfOk result (λ f. is_none f ≡ spec.names_are_sound (views lines.now)) }
 {
     if let Some(line) = second_anchor(lines) {
         return Ok(Some(Flaw::of_line(line, FaultKind::BadScalar)));
+    }
+    if !lines_refer(lines) {
+        return Ok(None);
     }
     let names = names_of(alloc, lines)?;
     match unbound_alias(alloc, &names)? {

@@ -1,6 +1,7 @@
 //! Block nodes of YAML by the indentation of their lines: what lines stand for, and what is asked of them.
 #![tactic(auto)]
 
+mod aliases;
 mod anchors;
 mod body;
 mod bound;
@@ -9,6 +10,7 @@ mod ends;
 mod fault;
 mod find;
 mod flaw;
+mod keys;
 mod laws;
 mod line;
 mod line_at;
@@ -18,6 +20,7 @@ mod names;
 mod nested;
 mod sound;
 
+pub use aliases::body_refers;
 pub use body::{Body, Named, Under, first_anchor, line_node, lines_node};
 pub use content::{content_of, plain_head};
 pub use ends::{is_deeper, level};

@@ -7,6 +7,7 @@ ghost use Rattle.yq_lines.specs.Sound as spec;
 ghost use Rattle.yq_lines.specs.View.{head_view};
 
 use crate::flaw::Flaw;
+use crate::keys::Keys;
 use crate::line::Head;
 use std::alloc::{AllocError, Global};
 use std::collections::BTreeMap;
@@ -92,14 +93,14 @@ fn entries_fault(
 ) -> Result<Option<Flaw>, AllocError>
     ensures { let cs = parts_tree (entries_end entries.now.items) in IfOk result (λ f. is_none f ≡ (spec.are_sound depth cs && are_distinct (keys_of cs))) }
 {
-    let mut keys = Vec::new(alloc);
+    let mut keys = Keys::new(alloc);
     'each: for entry in entries {
         if let Some(flaw) = node_fault(alloc, &entry.2, depth)? {
             return Ok(Some(flaw));
         }
         keys.push(entry.0.as_str())?;
     }
-    if !are_distinct(&mut keys) {
+    if !are_distinct(keys.as_mut_slice()) {
         let byte = repeated_key(alloc, entries)?;
         return Ok(Some(Flaw::of_byte(byte, FaultKind::DuplicateKey)));
     }

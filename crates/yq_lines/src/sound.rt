@@ -8,6 +8,7 @@ ghost use Rattle.yq_lines.specs.View.{head_view, mark_view, views};
 
 use crate::ends::{is_deeper, level};
 use crate::flaw::Flaw;
+use crate::keys::Keys;
 use crate::line::{Head, Line, Mark};
 use crate::nested::head_fault;
 use std::alloc::{AllocError, Global};
@@ -57,6 +58,17 @@ fn bare_fault(
     head_fault(alloc, &line.head, depth)
 }
 
+/// Why a line can't stand where others of a collection at a level do: behind neither key nor dash in the
+/// column of the keys, where its key is missing, or in another column or collection.
+fn misplaced(line: &Line<'_>, n: usize) -> FaultKind {
+    let is_bare = matches!(line.mark, Mark::Bare);
+    if is_bare && level(line).saturating_add(1) == n {
+        FaultKind::BadKey
+    } else {
+        FaultKind::BadIndent
+    }
+}
+
 /// What is at fault in a line of a collection: it is to stand at the collection's level, to have no head
 /// where lines are under it, and a head that is sound.
 fn line_fault(
@@ -71,7 +83,7 @@ fn line_fault(
 {
     let line = &lines[at];
     if level(line) != n {
-        return Ok(Some(Flaw::of_line(at, FaultKind::BadIndent)));
+        return Ok(Some(Flaw::of_line(at, misplaced(line, n))));
     }
     if has_head(&line.head) && is_deeper(lines, at + 1, n) {
         return Ok(Some(Flaw::of_line(at + 1, FaultKind::BadIndent)));
@@ -80,7 +92,7 @@ fn line_fault(
 }
 
 /// Adds the key of a line, if it has one.
-fn push_key<'k>(keys: &mut Vec<&'k str>, mark: &'k Mark<'_>) -> Result<(), AllocError>
+fn push_key<'k>(keys: &mut Keys<'k>, mark: &'k Mark<'_>) -> Result<(), AllocError>
     ensures { OnOk result (map (λ k. k.now) keys.new.items ≡ map (λ k. k.now) keys.old.items ++ with_key (outline.key_of (mark_view mark.now)) []) }
 {
     match mark {
@@ -144,7 +156,7 @@ pub(crate) fn find_flaw(
         return Ok(Some(Flaw::of_line(start, FaultKind::TooDeep)));
     }
     let n = level(first);
-    let mut keys = Vec::new(alloc);
+    let mut keys = Keys::new(alloc);
     let mut at = start;
     'lines: while is_deeper(lines, at, floor) {
         if let Some(flaw) = line_fault(alloc, lines, at, n, depth - 1)? {
@@ -157,7 +169,7 @@ pub(crate) fn find_flaw(
         push_key(&mut keys, &line.mark)?;
         at = ends[at];
     }
-    if !are_distinct(&mut keys) {
+    if !are_distinct(keys.as_mut_slice()) {
         let line = repeated_line(alloc, lines, ends, start, floor)?;
         return Ok(Some(Flaw::of_line(line, FaultKind::DuplicateKey)));
     }

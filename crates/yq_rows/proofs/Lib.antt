@@ -7,7 +7,9 @@ pub mod ExchangeLaws
 pub mod Fronts
 pub mod GapLaws
 pub mod LineEnds
+pub mod KeyRoom
 pub mod MarkAgain
+pub mod ScalarLending
 pub mod MarkEnds
 pub mod MarkLaws
 pub mod NoKeys

@@ -1,8 +1,8 @@
 -- What reading gives, as the code lends it (own; a reader may skip it).
-use Rattle.std.specs.Prelude.{ℕ, suc, ◌+◌, Bool, true, false, ◌||◌, List, [], ◌++◌, length, map, take, drop, Option, Some, None, if◌then◌else◌, ℤ}
+use Rattle.std.specs.Prelude.{ℕ, suc, ◌+◌, Bool, true, false, ◌||◌, ◌==◌, List, [], ◌++◌, length, map, take, drop, Option, Some, None, if◌then◌else◌, ℤ}
 use Rattle.yq_scalar.specs.Answers.{◌>>=◌}
 use Rattle.yq_scalar.specs.Piece.{deeper}
-use Rattle.yq_scalar.specs.Text.{upto, cut, unless, no_white}
+use Rattle.yq_scalar.specs.Text.{upto, cut, front, unless, no_white}
 use Rattle.yq_scalar.specs.declared.style.Style.{Style}
 use Rattle.yq_scalar.specs.declared.style.Style.TheVariants as styles
 use Rattle.yq_inline.specs.Nodes.{first_is, in_name}
@@ -189,6 +189,10 @@ plain_in (mapping s) = false
 -- a plain scalar, perhaps behind an anchor (own)
 abbrev pub plain_placed : Placed → Bool
 plain_placed (placed a s c e f) = plain_in f
+
+-- an anchor, an alias or a flow collection begins here (YAML 1.2.2, section 7.5)
+abbrev pub begins_other : List ℕ → Bool
+begins_other t = front (λ b. b == 38 || b == 42 || b == 91 || b == 123) t
 
 -- an inline node behind white space, as the code lends it (own)
 abbrev pub inline_lent : ℤ → List ℕ → List ℕ → Option Filled

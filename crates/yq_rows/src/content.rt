@@ -1,20 +1,20 @@
 //! What stands behind a row's mark.
 ghost use Rattle.std.specs.Option.{option_map};
-ghost use Rattle.std.specs.Prelude.{◌≡◌, ◌≤◌, ◌==◌, ◌||◌, ◌&&◌, not, length, false};
+ghost use Rattle.std.specs.Prelude.{◌≡◌, ◌≤◌, ◌==◌, ◌||◌, ◌&&◌, not, length, true, false};
 ghost use Rattle.yq_scalar.specs.Answers.{Gives};
-ghost use Rattle.yq_inline.specs.Nodes as nodes;
+ghost use Rattle.yq_inline.specs.Scalars as scalars;
 ghost use Rattle.yq_inline.specs.View.{view as node_view};
 ghost use Rattle.yq_rows.specs.Lending as lending;
 ghost use Rattle.yq_rows.specs.Lending.{filled_at, filling_view};
 ghost use Rattle.yq_scalar.specs.Text.{front, is_empty};
 ghost use Rattle.yq_rows.specs.Reading as spec;
 
-use crate::fault::fault;
+use crate::fault::{block_fault, fault};
 use crate::gap::is_hash;
 use crate::marks::Mark;
-use crate::naming::{no_content, no_tail};
+use crate::naming::{no_content, no_further_line, no_tail};
 use std::alloc::Global;
-use yq_inline::pieces::{begins_content, first_is, name_len, strip};
+use yq_inline::pieces::{begins_scalar, first_is, is_quoted, name_len, read_scalar, strip};
 use yq_inline::reading::read_node;
 use yq_inline::{DEPTH_LIMIT, Form, Inline};
 use yq_scalar::lines::split_line;
@@ -91,11 +91,11 @@ fn begins_block(text: &str) -> bool
     is_block_mark(split_apart(text).2.as_bytes())
 }
 
-/// Whether an inline node begins here.
-fn begins_node(text: &[u8]) -> bool
-    ensures { result ≡ nodes.begins_node false text.now }
+/// Whether an anchor, an alias or a flow collection begins here.
+fn begins_other(text: &[u8]) -> bool
+    ensures { result ≡ lending.begins_other text.now }
 {
-    first_is(b'&', text) || begins_content(false, text)
+    matches!(text, [b'&' | b'*' | b'[' | b'{', ..])
 }
 
 /// A block scalar behind white space.
@@ -113,7 +113,7 @@ fn read_block_content<'t>(
     }
     let piece = match read_block(rest, 0, parent) {
         Ok(piece) => piece,
-        Err(kind) => return Err(ReadError::Fault(fault(kind, whole, rest))),
+        Err(kind) => return Err(ReadError::Fault(block_fault(kind, whole, rest))),
     };
     let (head, rest) = rest.split_at(piece.head_end);
     let (tail, rest) = rest.split_at(piece.raw_start - piece.head_end);
@@ -166,7 +166,7 @@ fn may_be_alone(space: &str, nothing: bool) -> bool
     space.is_empty() && !nothing
 }
 
-/// An inline node behind white space, and its tail.
+/// A node that an anchor, an alias or a flow collection begins, behind white space, and its tail.
 fn read_inline_content<'t>(
     alloc: Global,
     whole: &'t str,
@@ -199,8 +199,43 @@ fn read_inline_content<'t>(
             alone: may_be_alone(space, nothing),
             rest,
         }),
+        None => Err(ReadError::Fault(match no_further_line(mark, spaces, head, behind) {
+            Some(kind) => fault(kind, whole, behind),
+            None => fault(no_tail(mark, space, anchor, head, behind), whole, text),
+        })),
+    }
+}
+
+/// A scalar without an anchor behind white space, and its tail. Only its end is found.
+fn read_scalar_content<'t>(
+    whole: &str,
+    mark: Mark<'t>,
+    parent: i64,
+    space: &'t str,
+    text: &'t str,
+) -> Result<Filling<'t>, ReadError>
+    requires { (lending.begins_other text.now ≡ false) × (scalars.begins_scalar false text.now ≡ true) }
+    ensures { Gives filling_view result (lending.inline_lent parent space.now text.now) }
+{
+    let spaces = further_spaces(Place::Block, parent);
+    let (head, behind) = match read_scalar(false, spaces, whole, text) {
+        Ok(found) => found,
+        Err(e) => return Err(ReadError::Fault(e)),
+    };
+    match find_tail(behind) {
+        Some((tail, rest)) => Ok(Filling {
+            space,
+            anchor: "",
+            apart: "",
+            head,
+            tail,
+            raw: "",
+            plain: !is_quoted(head.as_bytes()),
+            alone: may_be_alone(space, false),
+            rest,
+        }),
         None => {
-            let kind = no_tail(mark, space, anchor, head, behind);
+            let kind = no_tail(mark, space, "", head, behind);
             Err(ReadError::Fault(fault(kind, whole, text)))
         }
     }
@@ -221,8 +256,11 @@ pub(crate) fn read_content<'t>(
     if begins_block(rest) {
         return read_block_content(whole, parent, space, rest);
     }
-    if begins_node(rest.as_bytes()) {
+    if begins_other(rest.as_bytes()) {
         return read_inline_content(alloc, whole, mark, parent, space, rest);
+    }
+    if begins_scalar(false, rest.as_bytes()) {
+        return read_scalar_content(whole, mark, parent, space, rest);
     }
     match find_tail(text) {
         Some((tail, rest)) => Ok(Filling {

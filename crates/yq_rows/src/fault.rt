@@ -1,7 +1,10 @@
 //! Where a text is at fault.
 ghost use Rattle.std.specs.Prelude.{◌≡◌};
 
+use yq_scalar::block_lines::{behind_spaces, is_blank};
 use yq_scalar::characters::{TEXT_LIMIT, is_text_char};
+use yq_scalar::lines::line_len;
+use yq_scalar::text::spaces_len;
 use yq_scalar::{FaultKind, ReadFault};
 
 /// A fault that begins where this rest of the whole text does.
@@ -14,6 +17,65 @@ pub(crate) fn fault(kind: FaultKind, whole: &str, rest: &str) -> ReadFault {
     ReadFault {
         kind,
         line: breaks.saturating_add(1),
+    }
+}
+
+/// How many spaces the first line behind a header begins with that isn't blank; the most that there are
+/// where all are blank.
+fn text_indent(raw: &[u8]) -> usize {
+    let mut rest = raw;
+    'lines: while !rest.is_empty() {
+        let (line, after) = rest.split_at(line_len(rest));
+        if !is_blank(line) {
+            return spaces_len(line);
+        }
+        rest = after;
+    }
+    usize::MAX
+}
+
+/// Whether a line of a block scalar may be at fault where its text begins in a column: it has a tab
+/// before that, or it is blank and goes on past it.
+fn is_at_fault(kind: FaultKind, column: usize, line: &[u8]) -> bool {
+    match kind {
+        FaultKind::TabIndent => {
+            spaces_len(line) < column && matches!(behind_spaces(line), [b'\t', ..])
+        }
+        FaultKind::BadIndent => is_blank(line) && column < spaces_len(line),
+        _ => false,
+    }
+}
+
+/// How many lines stand before the first of these that may be at fault; none where none may be.
+fn lines_before(kind: FaultKind, column: usize, raw: &[u8]) -> Option<u64> {
+    let mut count = 0u64;
+    let mut rest = raw;
+    'lines: while !rest.is_empty() {
+        let (line, after) = rest.split_at(line_len(rest));
+        if is_at_fault(kind, column, line) {
+            return Some(count);
+        }
+        count = count.saturating_add(1);
+        rest = after;
+    }
+    None
+}
+
+/// A fault of the block scalar with which this rest of the whole text begins: on the line whose
+/// indentation is at fault, or else on that of the header.
+pub(crate) fn block_fault(kind: FaultKind, whole: &str, rest: &str) -> ReadFault {
+    let at_header = fault(kind, whole, rest);
+    let raw = rest.as_bytes().split_at(line_len(rest.as_bytes())).1;
+    let found = match lines_before(kind, text_indent(raw), raw) {
+        Some(count) => Some(count),
+        None => lines_before(kind, usize::MAX, raw),
+    };
+    match found {
+        Some(count) => ReadFault {
+            kind,
+            line: at_header.line.saturating_add(1).saturating_add(count),
+        },
+        None => at_header,
     }
 }
 

@@ -1,8 +1,10 @@
 //! Dashes and keys.
 ghost use Rattle.std.specs.Option.{option_map};
-ghost use Rattle.std.specs.Prelude.{◌≡◌, ◌≤◌, ◌&&◌, length, not};
+ghost use Rattle.std.specs.Prelude.{◌≡◌, ◌≤◌, ◌&&◌, ◌+◌, length, nat_le, not};
+ghost use Rattle.std.specs.Str.{chars};
 ghost use Rattle.yq_scalar.specs.Text.{is_empty};
 ghost use Rattle.yq_rows.specs.Grammar as grammar;
+ghost use Rattle.yq_rows.specs.Grammar.{key_limit};
 ghost use Rattle.yq_rows.specs.Lending.{begin_view, begun, mark_view};
 ghost use Rattle.yq_rows.specs.Reading as spec;
 ghost use Rattle.yq_rows.specs.Rows as rows;
@@ -86,6 +88,19 @@ fn find_colon(text: &str) -> Option<(&str, &str)>
     Some(text.split_at(white.len() + 1))
 }
 
+/// Whether a key, and what stands behind it up to its `:`, are as short as they have to be. Characters
+/// are counted where there are more bytes than that.
+#[tactic(auto, using(crate::proofs::KeyRoom::room_by_bytes))]
+fn has_key_room(key: &str, colon: &str) -> bool
+    ensures { result ≡ nat_le (length (chars key.now) + length (chars colon.now)) (key_limit + 1) }
+{
+    if key.len().saturating_add(colon.len()) <= KEY_LIMIT + 1 {
+        return true;
+    }
+    let key_chars = char_count(key);
+    key_chars <= KEY_LIMIT + 1 && char_count(colon) <= KEY_LIMIT + 1 - key_chars
+}
+
 /// The key in front, what stands behind it up to its `:`, and what follows.
 #[tactic(auto, unfolding(crate::specs::Reading::key_at))]
 fn find_key(text: &str) -> Option<(&str, &str, &str)>
@@ -95,11 +110,11 @@ fn find_key(text: &str) -> Option<(&str, &str, &str)>
         return None;
     };
     let (colon, rest) = find_colon(rest)?;
-    let key_chars = char_count(key);
-    if key_chars > KEY_LIMIT + 1 || char_count(colon) > KEY_LIMIT + 1 - key_chars {
-        return None;
+    if has_key_room(key, colon) {
+        Some((key, colon, rest))
+    } else {
+        None
     }
-    Some((key, colon, rest))
 }
 
 /// Whether a dash is in front.

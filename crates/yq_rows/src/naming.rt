@@ -2,7 +2,7 @@
 
 use crate::marks::{Mark, begins_entry, is_colon};
 use yq_scalar::FaultKind;
-use yq_scalar::text::{past_white, separates};
+use yq_scalar::text::{past_white, separates, split_spaces};
 
 /// Whether a tab is in this white space.
 fn holds_tab(space: &str) -> bool {
@@ -43,9 +43,40 @@ pub(crate) fn no_tail(
         FaultKind::AnchorOnKey
     } else if is_key {
         FaultKind::BadKey
+    } else if matches!(head.as_bytes(), [b'[' | b'{', ..]) {
+        FaultKind::BadFlow
     } else {
         FaultKind::BadScalar
     }
+}
+
+/// The last line of a plain scalar of several lines.
+fn further_line(head: &str) -> Option<&str> {
+    if matches!(head.as_bytes(), [b'"' | b'\'' | b'[' | b'{', ..]) {
+        return None;
+    }
+    Some(head.rsplit_once('\n')?.1)
+}
+
+/// Why the last line of a head of several lines, of which a further one begins with so many spaces at
+/// least, is none: it is an entry that is indented too far.
+pub(crate) fn no_further_line(
+    mark: Mark<'_>,
+    spaces: Option<usize>,
+    head: &str,
+    rest: &str,
+) -> Option<FaultKind> {
+    let (indent, key) = split_spaces(further_line(head)?);
+    if matches!(mark, Mark::Bare) || !is_colon(past_white(rest.as_bytes())) {
+        return None;
+    }
+    Some(if matches!(key.as_bytes(), [b'\t', ..]) {
+        FaultKind::TabIndent
+    } else if matches!(mark, Mark::Dash) || spaces == Some(indent.len()) {
+        FaultKind::BadIndent
+    } else {
+        FaultKind::BadScalar
+    })
 }
 
 /// Why this can't stand on a line of its own, behind white space.

@@ -83,13 +83,21 @@ only_less o Less e p q = cc
 only_less o Equal e p q = let tie = ap is_eq (sym e) ∙ q in cc
 only_less o Greater e p q = e
 
--- Neighbours that are in order and differ rise strictly, and so do all pairs.
+-- the key at k is less than the next one
+abbrev pub RisesAt : List Key → ℕ → Type 0
+RisesAt ks k = (d : Key) → key_cmp (get_or ks k d) (get_or ks (k + 1) d) ≡ Less
+
+-- Where neighbours rise, all pairs differ.
+pub DifferAt-from_rising : (ks : List Key) → ((k : ℕ) → k + 1 < length ks → RisesAt ks k) → (i j : ℕ) → i < j → j < length ks → DifferAt ks i j
+DifferAt-from_rising ks rises i j less within d =
+    let total = on_total (λ (k : Key). k.now) nat_list_cmp_total in
+    let below = Less-from_sorted key_cmp ks i j d (sorted_from_all_adjacent total ks d (λ k h. rises k h d)) less within in
+    sym (is_eq-slice_cmp (get_or ks i d).now (get_or ks j d).now) ∙ ap is_eq below
+
+-- Neighbours that are in order and differ rise.
 pub DifferAt-from_sorted : (ks : List Key) → IsSorted key_cmp ks → ((k : ℕ) → k + 1 < length ks → DifferAt ks k (k + 1))
     → (i j : ℕ) → i < j → j < length ks → DifferAt ks i j
-DifferAt-from_sorted ks sorted neighbours i j less within d =
+DifferAt-from_sorted ks sorted neighbours =
     let total = on_total (λ (k : Key). k.now) nat_list_cmp_total in
-    let rises : (k : ℕ) → k + 1 < length ks → key_cmp (get_or ks k d) (get_or ks (k + 1) d) ≡ Less =
-    λ k h. let x = get_or ks k d in let y = get_or ks (k + 1) d in
-    only_less (key_cmp x y) (key_cmp y x) (total.antisymm x y) (sorted k d (omega arith) h) (is_eq-slice_cmp x.now y.now ∙ neighbours k h d) in
-    let below = Less-from_sorted key_cmp ks i j d (sorted_from_all_adjacent total ks d rises) less within in
-    sym (is_eq-slice_cmp (get_or ks i d).now (get_or ks j d).now) ∙ ap is_eq below
+    DifferAt-from_rising ks (λ k h d. let x = get_or ks k d in let y = get_or ks (k + 1) d in
+    only_less (key_cmp x y) (key_cmp y x) (total.antisymm x y) (sorted k d (omega arith) h) (is_eq-slice_cmp x.now y.now ∙ neighbours k h d))

@@ -1,4 +1,6 @@
 pub mod Across
+pub mod TextChars
+pub mod PlainRuns
 pub mod Bools
 pub mod Boundaries
 pub mod Breaks

@@ -16,6 +16,10 @@ is_mark c = c == 65279
 abbrev pub is_text_char : ℕ → Bool
 is_text_char c = is_printable c && not (is_mark c)
 
+-- a byte that is a character of a text: tab, LF, CR or printable ASCII (YAML 1.2.2, section 5.1)
+abbrev pub is_ascii_char : ℕ → Bool
+is_ascii_char b = b == 9 || is_feed b || is_return b || (nat_le 32 b && nat_le b 126)
+
 -- an LF follows each CR (own)
 unfoldable pub pairs_returns : List ℕ → Bool
 pairs_returns [] = true

@@ -3,6 +3,9 @@ ghost use Rattle.std.specs.List.{list_all};
 ghost use Rattle.std.specs.Prelude.{◌≡◌, length};
 ghost use Rattle.std.specs.Str.{chars};
 ghost use Rattle.yq_scalar.specs.Characters as spec;
+ghost use Rattle.yq_scalar.specs.Text.{front, is_feed};
+
+use memchr::memchr;
 
 /// How many bytes a text has at most.
 pub const TEXT_LIMIT: usize = 16_777_216;
@@ -24,14 +27,40 @@ pub fn has_text_chars(text: &str) -> bool
     text.chars().all(|c| is_text_char(c))
 }
 
+/// Whether the byte is a character that a text may hold.
+fn is_ascii_char(b: u8) -> bool
+    ensures { result ≡ spec.is_ascii_char b }
+{
+    matches!(b, b'\t' | b'\n' | b'\r' | b' '..=b'~')
+}
+
+/// Whether each byte is such a character. No byte ends the loop, so that many are tested at a time.
+fn has_ascii_chars(text: &[u8]) -> bool
+    ensures { result ≡ list_all spec.is_ascii_char text.now }
+{
+    let mut all = true;
+    'each: for b in text {
+        all = all & is_ascii_char(*b);
+    }
+    all
+}
+
+/// Whether an LF is in front.
+fn begins_feed(text: &[u8]) -> bool
+    ensures { result ≡ front is_feed text.now }
+{
+    matches!(text, [b'\n', ..])
+}
+
 /// Whether an LF follows each CR.
-#[tactic(auto, unfolding(crate::specs::Characters::pairs_returns))]
+#[tactic(auto, using(crate::proofs::TextChars::pairs_none))]
 pub fn pairs_returns(text: &[u8]) -> bool
     ensures { result ≡ spec.pairs_returns text.now }
 {
     let mut rest = text;
-    'each: while let [first, after @ ..] = rest {
-        if *first == b'\r' && !matches!(after, [b'\n', ..]) {
+    'each: while let Some(place) = memchr(b'\r', rest) {
+        let after = rest.split_at(place + 1).1;
+        if !begins_feed(after) {
             return false;
         }
         rest = after;
@@ -40,10 +69,11 @@ pub fn pairs_returns(text: &[u8]) -> bool
 }
 
 /// Whether the characters are those of a text.
+#[tactic(auto, using(crate::proofs::TextChars::ascii_chars))]
 pub fn is_text(text: &str) -> bool
     ensures { result ≡ spec.is_text text.now }
 {
-    has_text_chars(text) && pairs_returns(text.as_bytes())
+    (has_ascii_chars(text.as_bytes()) || has_text_chars(text)) && pairs_returns(text.as_bytes())
 }
 
 /// How many characters a text has.

@@ -1,5 +1,6 @@
 //! Plain scalars (YAML 1.2.2, section 7.3.3).
-ghost use Rattle.std.specs.Prelude.{◌≡◌, true};
+ghost use Rattle.std.specs.List.{prefix_len};
+ghost use Rattle.std.specs.Prelude.{◌≡◌, ◌≤◌, length, true};
 ghost use Rattle.yq_scalar.specs.Plain as spec;
 ghost use Rattle.yq_scalar.specs.PlainReading as reading;
 ghost use Rattle.yq_scalar.specs.Text.{cut, upto};
@@ -98,9 +99,29 @@ pub fn begins_plain(flow: bool, text: &[u8]) -> bool
 {
     match text {
         [] => false,
+        [b'a'..=b'z' | b'A'..=b'Z' | b'0'..=b'9', ..] => true,
         [b'-' | b'?' | b':', rest @ ..] => is_safe(flow, rest),
         [first, ..] => !is_space(text) && !is_indicator(*first),
     }
+}
+
+/// Whether a plain scalar goes on at this byte, whatever follows it.
+fn is_inside(b: u8) -> bool
+    ensures { result ≡ reading.is_inside b }
+{
+    matches!(b, b'a'..=b'z')
+        || !matches!(
+            b,
+            b' ' | b'\t' | b'\n' | b'\r' | b':' | b',' | b'[' | b']' | b'{' | b'}'
+        )
+}
+
+/// How many such bytes are in front.
+fn inside_len(text: &[u8]) -> usize
+    ensures value { result ≡ prefix_len reading.is_inside text.now }
+    ensures within { result ≤ length text.now }
+{
+    text.iter().take_while(|b| is_inside(**b)).count()
 }
 
 /// How far a plain scalar in front goes on, in bytes.
@@ -110,7 +131,11 @@ pub fn plain_len(flow: bool, spaces: Option<usize>, text: &[u8]) -> usize
     let mut n = 0;
     let mut rest = text;
     'each: while let [_, after @ ..] = rest {
-        if is_space(rest) {
+        let run = inside_len(rest);
+        if run > 0 {
+            n += run;
+            rest = rest.split_at(run).1;
+        } else if is_space(rest) {
             if let Some(k) = across(flow, spaces, rest) {
                 n += k;
                 rest = rest.split_at(k).1;

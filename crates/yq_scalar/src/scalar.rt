@@ -32,12 +32,17 @@ impl Scalar {
     pub fn plain(alloc: Global, text: &str) -> Result<Self, AllocError>
         ensures { IfOk result (λ s. s ≡ spec.plain_of text.now) }
     {
-        match resolve(text) {
+        let text = String::from_str(alloc, text)?;
+        Scalar::from_plain(alloc, text)
+    }
+
+    /// The same of a text that the scalar takes.
+    pub fn from_plain(alloc: Global, text: String) -> Result<Self, AllocError>
+        ensures { IfOk result (λ s. s ≡ spec.plain_of (string_bytes text)) }
+    {
+        match resolve(text.as_str()) {
             Kind::Null => Scalar::null(alloc),
-            kind => Ok(Scalar {
-                kind,
-                text: String::from_str(alloc, text)?,
-            }),
+            kind => Ok(Scalar { kind, text }),
         }
     }
 

@@ -1,6 +1,6 @@
 pub mod TextFaults
 pub mod OrderLaws
-pub mod CarriedLaws
+pub mod SpliceLaws
 pub mod ApplyLaws
 pub mod ServeLaws
 pub mod MeaningLaws

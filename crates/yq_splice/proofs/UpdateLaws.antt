@@ -1,6 +1,6 @@
 -- An update that is planned on the documents of a text and carried out.
-use Rattle.std.proofs.Common.{◌≡◌, ◌≢◌, ℕ, List, Some, None, Result, Ok, Err, IfOk, IfErr, string_bytes, sym, ap, ◌∙◌, subst}
-use Rattle.std.proofs.lemmas.Option.{same_Some}
+use Rattle.std.proofs.Common.{◌≡◌, ◌≢◌, ℕ, zero, suc, List, [], ◌∷◌, slice_get, Some, None, Result, Ok, Err, IfOk, IfErr, string_bytes, sym, ap, ◌∙◌, subst}
+use Rattle.std.proofs.lemmas.Option.{none-some, same_Some}
 use Rattle.std.specs.Str.{IsUtf8}
 use Rattle.yq_scalar.specs.declared.ReadFault.{ReadFault}
 use Rattle.yq_scalar.specs.declared.fault.FaultKind.TheVariants.{NotUtf8}
@@ -8,11 +8,12 @@ use Rattle.yq_scalar.specs.declared.fault.ReadError.{ReadError}
 use Rattle.yq_scalar.specs.declared.fault.ReadError.TheVariants as reading
 use Rattle.yq_rows.specs.Rows.{Cut}
 use Rattle.yq_documents.specs.Reading.{documents, documents_of, cut_of, read_at}
+use Rattle.yq_tree.proofs.ExactReading.{parts_read}
 use Rattle.yq_meaning.specs.Judgement as judgement
-use Rattle.yq_meaning.specs.Judgement.{Judgement, Plans}
+use Rattle.yq_meaning.specs.Judgement.{Plans}
 use Rattle.yq_meaning.specs.Operations.{Operation}
 use Rattle.yq_planning.specs.Plans.{plan}
-use Rattle.yq_program.specs.Program.{Update}
+use Rattle.yq_program.specs.Program.{Program, Update, assign, delete, comment, read, updates, update_at, UpdatesHold, LiteralsHold}
 use Rattle.yq_meaning.specs.Rooms.{room_of}
 use Rattle.yq_meaning.specs.declared.refusal.Refusal.{Refusal}
 use Rattle.yq_meaning.specs.declared.plan_error.PlanError.{PlanError}
@@ -22,10 +23,16 @@ use Rattle.yq_script.specs.declared.edited.Edited.{Edited}
 use Rattle.yq_splice.specs.Answers.{Edits, Fails, of_planning, of_reading}
 use Rattle.yq_splice.specs.Carried.{carry_all, carry_out, updated}
 use Rattle.yq_splice.specs.Edit.{unreadable, by_reading}
-use Rattle.yq_splice.specs.Valid.{HaveOperands, HasOperands, IsStep, FailsAt}
+use Rattle.yq_splice.specs.Theorems.{HasReading}
+use Rattle.yq_splice.specs.Valid.{HaveOperands, IsStep, UpdateFails, FailsAt}
 use Rattle.yq_splice.specs.declared.edit_error.EditError.{EditError}
 use Rattle.yq_splice.specs.declared.edit_error.EditError.TheVariants as error
+use Rattle.yq_splice.proofs.MeaningLaws.{UpdateComes, plan_comes, plan_stops}
 use Rattle.yq_splice.proofs.TextFaults.{FailsToRead, text_unread}
+
+-- a text that isn't read has no reading
+pub no_reading : (t : List ℕ) → read_at t ≡ None → ¬ HasReading t
+no_reading t none h = none-some _ (sym none ∙ (parts_read t h.0 h.1).0)
 
 -- an update by the reading of the text
 read_updated : (u : Update) (t : List ℕ) (c : Cut) → read_at t ≡ Some c → updated u t ≡ carry_out t (plan u (room_of t) (documents c))
@@ -34,38 +41,39 @@ read_updated u t c is = ap (by_reading (λ k. carry_out t (plan u (room_of t) (d
 pub unread_updated : (u : Update) (t : List ℕ) → read_at t ≡ None → updated u t ≡ unreadable
 unread_updated u t is = ap (by_reading (λ k. carry_out t (plan u (room_of t) (documents k)))) is
 
-operations_alike : {os ops : List Operation} → judgement.gives os ≡ judgement.gives ops → os ≡ ops
-operations_alike e = cc
-
--- the operands of what is planned
-planned_operands : (u : Update) (t : List ℕ) (c : Cut) (ops : List Operation) → read_at t ≡ Some c → plan u (room_of t) (documents c) ≡ judgement.gives ops → HaveOperands ops → HasOperands u t
-planned_operands u t c ops read planned h d os again other =
-    let same : c ≡ d = same_Some _ _ (sym read ∙ again) in
-    subst HaveOperands (sym (operations_alike (sym other ∙ (ap (λ (k : Cut). plan u (room_of t) (documents k)) (sym same) ∙ planned)))) h
-
-module _ (u : Update) (t : List ℕ) (c : Cut) (ops : List Operation) (is : read_at t ≡ Some c) (planned : plan u (room_of t) (documents c) ≡ judgement.gives ops) (operands : HaveOperands ops) where
+-- an update that is planned, and whose literals and operands are valid
+module _ (u : Update) (t : List ℕ) (c : Cut) (ops : List Operation) (is : read_at t ≡ Some c) (planned : plan u (room_of t) (documents c) ≡ judgement.gives ops)
+    (holds : UpdatesHold (u ∷ [])) (operands : HaveOperands ops) where
   done : updated u t ≡ carry_all ops t
   done = read_updated u t c is ∙ ap (carry_out t) planned
 
+  comes : UpdateComes u t (carry_all ops t)
+  comes = plan_comes u t c is ops planned operands holds
+
   pub update_ok : (r : Result Edited EditError) → Edits r (carry_all ops t) → IfOk r (λ e. IsStep u t (string_bytes e.text) e.splices.items)
-  update_ok (Ok e) h = record { exact = done ∙ h; valid = planned_operands u t c ops is planned operands }
+  update_ok (Ok e) h = record { exact = done ∙ h; is = subst (UpdateComes u t) h comes }
   update_ok (Err e) h = tt
+
+  fails_so : (e : EditError) → Fails e (carry_all ops t) → UpdateFails e u t
+  fails_so (error.Read fault) h = absurd (subst (UpdateComes u t) h.0 comes)
+  fails_so (error.Refused why) h = subst (UpdateComes u t) h comes
+  fails_so error.Memory h = tt
 
   pub update_err : (r : Result Edited EditError) → Edits r (carry_all ops t) → IfErr r (λ e. FailsAt e u t)
   update_err (Ok e) h = tt
-  update_err (Err e) h = record { fails = subst (Fails e) (sym done) h; valid = λ fault same. planned_operands u t c ops is planned operands }
+  update_err (Err e) h = record { fails = subst (Fails e) (sym done) h; why = fails_so e h }
 
 -- an update that is refused
-pub update_refused : (u : Update) (t : List ℕ) (c : Cut) (why : Refusal) → read_at t ≡ Some c → plan u (room_of t) (documents c) ≡ judgement.refuses why → FailsAt (error.Refused why) u t
-update_refused u t c why is refused = record { fails = read_updated u t c is ∙ ap (carry_out t) refused; valid = λ fault same. absurd (cc) }
+update_refused : (u : Update) (t : List ℕ) (c : Cut) (why : Refusal) → read_at t ≡ Some c → plan u (room_of t) (documents c) ≡ judgement.refuses why → FailsAt (error.Refused why) u t
+update_refused u t c why is refused = record { fails = read_updated u t c is ∙ ap (carry_out t) refused; why = plan_stops u t c is why refused }
 
 -- a text that has no reading
 update_unread : (u : Update) (t : List ℕ) (fault : ReadFault) → read_at t ≡ None → fault.kind ≢ NotUtf8 → FailsAt (error.Read fault) u t
-update_unread u t fault none text = record { fails = (unread_updated u t none, text); valid = λ f same d os again. absurd (let e = sym none ∙ again in cc) }
+update_unread u t fault none text = record { fails = (unread_updated u t none, text); why = no_reading t none }
 
 -- memory that ran out
-pub update_refused_memory : (u : Update) (t : List ℕ) → FailsAt error.Memory u t
-update_refused_memory u t = record { fails = tt; valid = λ fault same. absurd (cc) }
+update_refused_memory : (u : Update) (t : List ℕ) → FailsAt error.Memory u t
+update_refused_memory u t = record { fails = tt; why = tt }
 
 -- an update of a text that isn't read
 pub update_not_read : (u : Update) (bytes t : List ℕ) (e : ReadError) → bytes ≡ t → IsUtf8 t → FailsToRead e bytes → FailsAt (of_reading e) u t
@@ -86,3 +94,26 @@ update_planned u t d ops same h = ap (λ (x : List ℕ). plan u (room_of x) (doc
 -- the step that an update is, between texts that are known to be the same
 pub step_between : (u : Update) (s t m n : List ℕ) (cs : List Splice) → s ≡ t → n ≡ m → IsStep u s m cs → IsStep u t n cs
 step_between u s t m n cs old new h = subst (λ (x : List ℕ). IsStep u x n cs) old (subst (λ (x : List ℕ). IsStep u s x cs) (sym new) h)
+
+-- ---- literals
+
+-- those of the first of updates, and of the others
+first_holds : (u : Update) (us : List Update) → UpdatesHold (u ∷ us) → UpdatesHold (u ∷ [])
+first_holds (assign left operator right) us h = (h.0, tt)
+first_holds (delete left) us h = tt
+first_holds (comment left place text) us h = tt
+
+others_hold : (u : Update) (us : List Update) → UpdatesHold (u ∷ us) → UpdatesHold us
+others_hold (assign left operator right) us h = h.1
+others_hold (delete left) us h = h
+others_hold (comment left place text) us h = h
+
+nth_holds : (us : List Update) (n : ℕ) (u : Update) → UpdatesHold us → slice_get us n ≡ Some u → UpdatesHold (u ∷ [])
+nth_holds [] n u h at = absurd (none-some _ at)
+nth_holds (x ∷ us) zero u h at = subst (λ y. UpdatesHold (y ∷ [])) (same_Some _ _ at) (first_holds x us h)
+nth_holds (x ∷ us) (suc n) u h at = nth_holds us n u (others_hold x us h) at
+
+-- those of an update of a program
+pub update_holds : (p : Program) (n : ℕ) (u : Update) → LiteralsHold p → update_at n p ≡ Some u → UpdatesHold (u ∷ [])
+update_holds (read stages) n u h at = absurd (none-some _ at)
+update_holds (updates us) n u h at = nth_holds us n u h at

@@ -1,15 +1,12 @@
 //! Editing: a program carried out on a text.
-ghost use Rattle.std.specs.Prelude.{◌≡◌, ◌++◌, ◌<◌, List, Some, None, IfErr, IfOk, OnOk, string_bytes};
-ghost use Rattle.yq_scalar.specs.declared.ReadFault.{ReadFault};
-ghost use Rattle.yq_documents.specs.Reading.{read_at};
+ghost use Rattle.std.specs.Prelude.{◌≡◌, ◌++◌, ◌<◌, List, Some, IfErr, IfOk, OnOk, string_bytes};
 ghost use Rattle.yq_program.specs.Program.{LiteralsHold, Update, update_at, update_count, updates};
 ghost use Rattle.yq_program.specs.View.{program_of};
 ghost use Rattle.yq_script.specs.Splice.{Splice};
 ghost use Rattle.yq_splice.specs.Answers.{Edits};
 ghost use Rattle.yq_splice.specs.Carried as spec;
-ghost use Rattle.yq_splice.specs.Theorems.{AreInside, AreMeant, AreSplices, InOrder};
-ghost use Rattle.yq_splice.specs.Valid.{FailsAt, FailsEach, HasSteps, IsStep};
-ghost use Rattle.yq_splice.specs.declared.edit_error.EditError.TheVariants as error;
+ghost use Rattle.yq_splice.specs.Theorems.{AreSplices, EditRefused, InOrder, IsEdited};
+ghost use Rattle.yq_splice.specs.Valid.{FailsAt, FailsEach, IsStep};
 
 use crate::carrying::{carry_all, follow, unchanged};
 use crate::edit_error::EditError;
@@ -26,7 +23,8 @@ fn update_text(
     program: &Program,
     nth: usize,
 ) -> Result<Edited, EditError>
-    requires { nth < update_count (program_of program.now) }
+    requires within { nth < update_count (program_of program.now) }
+    requires literals { LiteralsHold (program_of program.now) }
     ensures ok { (u : Update) → update_at nth (program_of program.now) ≡ Some u → IfOk result (λ e. IsStep u text.now (string_bytes e.text) e.splices.items) }
     ensures err { (u : Update) → update_at nth (program_of program.now) ≡ Some u → IfErr result (λ e. FailsAt e u text.now) }
 {
@@ -38,7 +36,8 @@ fn update_text(
 
 /// Update `nth` of a program carried out on the text that those before gave.
 fn step(alloc: Global, done: &mut Edited, program: &Program, nth: usize) -> Result<(), EditError>
-    requires { nth < update_count (program_of program.now) }
+    requires within { nth < update_count (program_of program.now) }
+    requires literals { LiteralsHold (program_of program.now) }
     ensures ok { (u : Update) → update_at nth (program_of program.now) ≡ Some u → OnOk result ((cs : List Splice) × IsStep u (string_bytes done.old.text) (string_bytes done.new.text) cs × (done.new.splices.items ≡ done.old.splices.items ++ cs)) }
     ensures err { (u : Update) → update_at nth (program_of program.now) ≡ Some u → IfErr result (λ e. FailsAt e u (string_bytes done.old.text)) }
 {
@@ -49,6 +48,7 @@ fn step(alloc: Global, done: &mut Edited, program: &Program, nth: usize) -> Resu
 
 /// The updates of a program carried out on a text, one after the other.
 fn update_each(alloc: Global, text: &str, program: &Program) -> Result<Edited, EditError>
+    requires { LiteralsHold (program_of program.now) }
     ensures ok { IfOk result (λ e. (us : List Update) → program_of program.now ≡ updates us → InOrder IsStep us text.now (string_bytes e.text) e.splices.items) }
     ensures err { IfErr result (λ e. (us : List Update) → program_of program.now ≡ updates us → FailsEach e us text.now) }
 {
@@ -77,9 +77,10 @@ fn no_updates(alloc: Global, text: &str, program: &Program) -> Result<Edited, Ed
 
 /// A program carried out on a text.
 fn edit_text(alloc: Global, text: &str, program: &Program) -> Result<Edited, EditError>
+    requires { LiteralsHold (program_of program.now) }
     ensures exact { Edits result (spec.edit_of (program_of program.now) text.now) }
-    ensures steps { IfOk result (λ e. HasSteps (program_of program.now) text.now (string_bytes e.text) e.splices.items) }
-    ensures unread { IfErr result (λ e. (fault : ReadFault) → e ≡ error.Read fault → LiteralsHold (program_of program.now) → read_at text.now ≡ None) }
+    ensures edited { IfOk result (λ e. IsEdited (program_of program.now) text.now (string_bytes e.text) e.splices.items) }
+    ensures refused { IfErr result (λ e. EditRefused e (program_of program.now) text.now) }
 {
     if program.updates() == 0 {
         return no_updates(alloc, text, program);
@@ -99,14 +100,14 @@ fn edit_text(alloc: Global, text: &str, program: &Program) -> Result<Edited, Edi
 pub fn edit(alloc: Global, text: &str, program: &Program) -> Result<Edited, EditError>
     // The new text, or why there is none.
     ensures exact { Edits result (spec.edit_of (program_of program.now) text.now) }
-    // Each operation exchanges segments of the text as it then stands, and all else stays.
-    ensures inside { IfOk result (λ e. AreInside (program_of program.now) text.now (string_bytes e.text) e.splices.items) }
-    // The text after each update reads as what the update means.
-    ensures meaning { IfOk result (λ e. AreMeant (program_of program.now) text.now (string_bytes e.text) e.splices.items) }
+    // Each update exchanges segments of the text as it then stands, all else stays, and the text behind it
+    // reads as what the update means.
+    ensures edited { IfOk result (λ e. IsEdited (program_of program.now) text.now (string_bytes e.text) e.splices.items) }
     // The splices lead from the old text to the new one.
     ensures splices { IfOk result (λ e. AreSplices e.splices.items text.now (string_bytes e.text)) }
-    // A fault of reading is told where the text has no reading, and of no text on the way.
-    ensures unread { IfErr result (λ e. (fault : ReadFault) → e ≡ error.Read fault → read_at text.now ≡ None) }
+    // The text has no reading, or the program or one of its updates is refused for what it means, or for
+    // the size of a new text.
+    ensures refused { IfErr result (λ e. EditRefused e (program_of program.now) text.now) }
 {
     program.literals_hold();
     edit_text(alloc, text, program)

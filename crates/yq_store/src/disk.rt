@@ -2,6 +2,8 @@
 ghost use Rattle.std.specs.Prelude.{◌≡◌, false};
 ghost use Rattle.std.specs.FinMap as map;
 
+mod edited;
+mod journal;
 mod links;
 mod locking;
 mod ownership;
@@ -9,11 +11,14 @@ mod protection;
 pub mod purpose;
 mod reading;
 mod replacing;
+mod state;
+mod temporary;
+mod trust;
 
-use crate::disk::locking::locked_folder;
-use crate::disk::protection::check_replaceable;
+use crate::disk::edited::{Edited, check_first, journal_place, own_place, read_edited};
+use crate::disk::journal::read_journal;
 use crate::disk::purpose::Purpose;
-use crate::disk::reading::{check_regular, read_text, read_whole};
+use crate::disk::reading::read_text;
 use crate::disk::replacing::{before_change, replace_file};
 use crate::store::{FileReadError, FileWriteError, Store};
 use std::alloc::Global;
@@ -24,14 +29,15 @@ use std::rt::Files;
 use std::time::Clock;
 use std::{fs, io};
 
-/// Real files, for one command. A temporary file with the new bytes is written beside the old file,
-/// and renamed over it. What is said of a store's content holds for none of this.
+/// Real files, for one command, which reads its file before it reads or writes anything else. A
+/// temporary file with the new bytes is written beside the old file, and renamed over it. What is
+/// said of a store's content holds for none of this.
 #[derive(Drop)]
 pub struct DiskStore<'a, R: Drop> {
     rt: R,
     file: &'a str,
     purpose: Purpose,
-    lock: Option<File>,
+    edited: Option<Edited>,
     is_checked: bool,
     failures: u64,
 }
@@ -43,7 +49,7 @@ impl<'a, R: Drop> DiskStore<'a, R> {
             rt,
             file,
             purpose,
-            lock: None,
+            edited: None,
             is_checked: false,
             failures: 0,
         }
@@ -51,32 +57,46 @@ impl<'a, R: Drop> DiskStore<'a, R> {
 }
 
 impl<'a, R: Files<File = File> + RandomSource + Clock + Alloc<A = Global> + Drop> DiskStore<'a, R> {
-    /// The bytes of a file. A command that is to edit locks the folder of its file first.
+    /// The bytes of a file. A command that looks at a journal locks its file first.
     fn bytes_of(&mut self, alloc: Global, name: &str) -> io::Result<Vec<u8>>
         ensures { self.new.failures ≡ self.old.failures }
     {
-        if self.purpose == Purpose::Edit && self.lock.is_none() {
-            self.lock = Some(locked_folder(&self.rt, self.file)?);
+        if self.purpose == Purpose::Print {
+            return read_text(alloc, fs::open(&self.rt, name)?);
         }
-        if self.purpose != Purpose::Print {
-            check_regular(&self.rt, name)?;
-        }
-        let mut file = fs::open(&self.rt, name)?;
         if name == self.file {
-            read_text(alloc, file)
-        } else {
-            read_whole(alloc, &mut file)
+            self.edited = None;
+            self.is_checked = false;
+            let (text, edited) = read_edited(&self.rt, alloc, name, self.purpose)?;
+            self.edited = Some(edited);
+            return Ok(text);
+        }
+        match &self.edited {
+            Some(edited) => read_journal(&self.rt, alloc, name, edited.trust),
+            None => Err(io::Error::from(ErrorKind::Other)),
         }
     }
 
-    /// Before the first write, that the command's file and the written one may both be replaced.
-    fn check(&mut self, name: &str) -> io::Result<()>
+    /// Replaces a file. Before the first write it is looked whether the command may write at all.
+    fn put(&mut self, name: &str, bytes: &[u8]) -> Result<(), FileWriteError>
         ensures { self.new.failures ≡ self.old.failures }
     {
+        let is_own = name == self.file;
+        let Some(edited) = &mut self.edited else {
+            return Err(FileWriteError::WriteFailed);
+        };
+        let place = if is_own {
+            own_place(&self.rt, edited).map_err(before_change)?
+        } else {
+            journal_place(&self.rt, edited, name).map_err(before_change)?
+        };
         if !self.is_checked {
-            check_replaceable(&self.rt, self.file)?;
-            check_replaceable(&self.rt, name)?;
+            check_first(&self.rt, edited, self.file, &place).map_err(before_change)?;
             self.is_checked = true;
+        }
+        let new = replace_file(&self.rt, &place.path, bytes, place.rights, is_own)?;
+        if is_own {
+            edited.lock = new;
         }
         Ok(())
     }
@@ -93,7 +113,9 @@ impl<'a, R: Files<File = File> + RandomSource + Clock + Alloc<A = Global> + Drop
     fn read(&mut self, alloc: Global, name: &str) -> Result<Vec<u8>, FileReadError> {
         match self.bytes_of(alloc, name) {
             Ok(bytes) => Ok(bytes),
-            Err(e) if e.kind() == ErrorKind::NotFound => Err(FileReadError::NotThere),
+            Err(e) if matches!(e.kind(), ErrorKind::NotFound | ErrorKind::NotADirectory) => {
+                Err(FileReadError::NotThere)
+            }
             Err(e) if e.kind() == ErrorKind::OutOfMemory => Err(FileReadError::OutOfMemory),
             Err(_) => {
                 self.failures = self.failures.saturating_add(1);
@@ -103,10 +125,7 @@ impl<'a, R: Files<File = File> + RandomSource + Clock + Alloc<A = Global> + Drop
     }
 
     fn replace(&mut self, name: &str, bytes: &[u8]) -> Result<(), FileWriteError> {
-        let replaced = match self.check(name) {
-            Ok(()) => replace_file(&self.rt, name, self.file, bytes),
-            Err(e) => Err(before_change(e)),
-        };
+        let replaced = self.put(name, bytes);
         if let Err(FileWriteError::WriteFailed) = replaced {
             self.failures = self.failures.saturating_add(1);
         }

@@ -18,6 +18,7 @@ pub mod QuietLaws
 pub mod RemarkLaws
 pub mod HeadsApart
 pub mod ReadLaws
+pub mod ExactReading
 pub mod ReadyLaws
 pub mod LengthLaws
 pub mod CommentPieceLaws

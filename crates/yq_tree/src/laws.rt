@@ -1,4 +1,5 @@
-//! Laws on paths and places, for the crates above.
+//! Laws on reading, paths and places, for the crates above.
 
 pub mod path_laws;
 pub mod piece_laws;
+pub mod reading_laws;

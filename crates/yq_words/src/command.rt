@@ -48,10 +48,10 @@ pub fn purpose_of(command: &Command) -> (&str, Purpose) {
             ..
         } => (file.as_str(), Purpose::Print),
         Command::History { file, .. } => (file.as_str(), Purpose::List),
-        Command::Eval { file, .. }
-        | Command::Undo { file, .. }
-        | Command::Redo { file, .. }
-        | Command::Squash { file, .. } => (file.as_str(), Purpose::Edit),
+        Command::Eval { file, .. } => (file.as_str(), Purpose::Edit),
+        Command::Undo { file, .. } | Command::Redo { file, .. } | Command::Squash { file, .. } => {
+            (file.as_str(), Purpose::Replay)
+        }
         Command::Help => ("", Purpose::Print),
     }
 }

@@ -1,37 +1,113 @@
-//! The lock of a folder, which runs that write files in it hold one after the other.
+//! The lock of a file, which runs that edit it hold one after the other.
 
-use crate::disk::links::{folder_of, target_of};
+use crate::disk::links::{Target, target_of};
+use crate::disk::purpose::Purpose;
+use crate::disk::reading::check_regular;
+use crate::disk::state::is_same_file;
 use std::alloc::Global;
-use std::fs::{File, TryLockError};
+use std::fs::{File, OpenOptions, TryLockError};
 use std::io::ErrorKind;
+use std::path::PathBuf;
 use std::rt::Files;
 use std::time::{Clock, Duration};
 use std::{fs, io, thread};
 
-/// How many times a lock is asked for: with a pause behind each, ten seconds long.
-const MOST_TRIES: u32 = 2_000;
+/// How many times a lock is asked for: with a pause behind each, a minute long.
+const MOST_TRIES: u32 = 12_000;
 
 /// The pause between two tries, in milliseconds.
 const PAUSE: u64 = 5;
 
-/// Opens and locks the folder of the file to which a name leads; where another run keeps the lock for
-/// too long, that is an error. The lock goes when the folder is closed, also when a run is killed.
-/// On a file system without locks the folder is open and not locked.
-pub fn locked_folder<R: Files<File = File> + Clock + Alloc<A = Global>>(
+/// The system's number for "no locks available", of a file system that has none.
+const NO_LOCKS: i32 = 37;
+
+/// The system's number for a file that isn't open in the way that a call asks for. Network file
+/// systems lock a file for one run alone only where it is open for writing.
+const NOT_OPEN_FOR_THAT: i32 = 9;
+
+/// An open file, and the path at which it stands.
+#[derive(Drop)]
+pub struct OpenedFile {
+    pub path: PathBuf,
+    pub file: File,
+}
+
+/// Opens the file to which a name leads.
+fn open_at<R: Files<File = File> + Alloc<A = Global>>(
     rt: &R,
     name: &str,
-) -> io::Result<File> {
-    let target = target_of(rt, name)?;
-    let folder = fs::open(rt, folder_of(&target))?;
-    for _ in 0..MOST_TRIES {
-        match folder.try_lock() {
-            Ok(()) => return Ok(folder),
-            Err(TryLockError::WouldBlock) => thread::sleep(rt, Duration::from_millis(PAUSE)),
-            Err(TryLockError::Error(e)) if e.kind() == ErrorKind::Unsupported => {
-                return Ok(folder);
+    writes: bool,
+) -> io::Result<OpenedFile> {
+    let Target { path, .. } = target_of(rt, name)?;
+    check_regular(rt, name)?;
+    let file = OpenOptions::new()
+        .read(true)
+        .write(writes)
+        .open(rt, path.as_path())?;
+    Ok(OpenedFile { path, file })
+}
+
+/// Whether the lock was had, or the file system has no locks: one that other readers may hold too,
+/// to list what is recorded, and one for this run alone, to edit.
+fn is_locked(file: &File, purpose: Purpose) -> io::Result<bool> {
+    let locked = match purpose {
+        Purpose::List => file.try_lock_shared(),
+        _ => file.try_lock(),
+    };
+    match locked {
+        Ok(()) => Ok(true),
+        Err(TryLockError::WouldBlock) => Ok(false),
+        Err(TryLockError::Error(e))
+            if e.kind() == ErrorKind::Unsupported || e.raw_os_error() == Some(NO_LOCKS) => {
+            Ok(true)
+        }
+        Err(TryLockError::Error(e)) => Err(e),
+    }
+}
+
+/// Whether a name still leads to this open file.
+fn is_at<R: Files>(rt: &R, file: &File, name: &str) -> io::Result<bool> {
+    Ok(is_same_file(&file.metadata()?, &fs::metadata(rt, name)?))
+}
+
+/// Opens and locks the file to which a name leads; where another run keeps the lock for too long,
+/// that is an error. Where the name leads to another file once the lock is had, since a run that
+/// held it put that there, it begins again. The lock goes when the file is closed, also when a run
+/// is killed. On a file system without locks the file is open and not locked.
+pub fn locked_file<R: Files<File = File> + Clock + Alloc<A = Global>>(
+    rt: &R,
+    name: &str,
+    purpose: Purpose,
+) -> io::Result<OpenedFile> {
+    let mut writes = false;
+    let mut waiting = None;
+    'tries: for _ in 0..MOST_TRIES {
+        let opened = match waiting.take() {
+            Some(opened) => opened,
+            None => open_at(rt, name, writes)?,
+        };
+        match is_locked(&opened.file, purpose) {
+            Ok(true) => {
+                if is_at(rt, &opened.file, name)? {
+                    return Ok(opened);
+                }
             }
-            Err(TryLockError::Error(e)) => return Err(e),
+            Ok(false) => {
+                thread::sleep(rt, Duration::from_millis(PAUSE));
+                waiting = Some(opened);
+            }
+            Err(e) if e.raw_os_error() == Some(NOT_OPEN_FOR_THAT) && !writes => writes = true,
+            Err(e) => return Err(e),
         }
     }
     Err(io::Error::from(ErrorKind::WouldBlock))
+}
+
+/// Locks a new file before a name leads to it, so that the run that made it goes on holding the lock.
+pub fn lock_new(file: &File) -> io::Result<()> {
+    if is_locked(file, Purpose::Edit)? {
+        Ok(())
+    } else {
+        Err(io::Error::from(ErrorKind::WouldBlock))
+    }
 }

@@ -24,6 +24,13 @@ fn mode_in_another_group(mode: u32) -> u32
     mode & READ_WRITE_RUN & (!GROUP_BITS | (mode & 0o007) << 3)
 }
 
+/// The mode of a journal, less what the mode of its file lacks.
+fn mode_within(mode: u32, of_file: u32) -> u32
+    ensures { bit_and result of_file ≡ result }
+{
+    mode & ALL_BITS & of_file
+}
+
 /// Whether the system carried out a change of owner. Where it doesn't give files away, it says so;
 /// any other error is a failure.
 fn is_allowed(changed: io::Result<()>) -> io::Result<bool> {
@@ -38,11 +45,11 @@ fn is_allowed(changed: io::Result<()>) -> io::Result<bool> {
     }
 }
 
-/// Who a file belongs to, and who may do what with it.
+/// Who a file is to belong to, and who may do what with it.
 #[derive(Clone, Copy, Debug, PartialEq, Eq)]
 pub struct Rights {
-    owner: u32,
-    group: u32,
+    /// The owner and the group; nothing where these are its maker's.
+    holder: Option<(u32, u32)>,
     mode: u32,
 }
 
@@ -50,17 +57,33 @@ impl Rights {
     /// Those of a file, for the one that replaces it.
     pub fn of(file: &Metadata) -> Rights {
         Rights {
-            owner: file.uid(),
-            group: file.gid(),
+            holder: Some((file.uid(), file.gid())),
             mode: file.mode() & ALL_BITS,
         }
     }
 
-    /// Those of a new journal of a file: who may do what with the one may do so with the other.
-    pub fn of_journal(file: &Metadata) -> Rights {
+    /// Those of a new journal in the folder of its file: who may do what with the one may do so with
+    /// the other.
+    pub fn of_journal_beside(file: &Metadata) -> Rights {
         Rights {
+            holder: Some((file.uid(), file.gid())),
             mode: file.mode() & READ_WRITE_RUN,
-            ..Rights::of(file)
+        }
+    }
+
+    /// Those of a new journal in another folder: it isn't given away.
+    pub fn of_journal_elsewhere(file: &Metadata) -> Rights {
+        Rights {
+            holder: None,
+            mode: file.mode() & READ_WRITE_RUN,
+        }
+    }
+
+    /// Those of a journal, for the one that replaces it: nobody gains what the mode of its file lacks.
+    pub fn of_old_journal(journal: &Metadata, file: &Metadata) -> Rights {
+        Rights {
+            holder: Some((journal.uid(), journal.gid())),
+            mode: mode_within(journal.mode(), file.mode()),
         }
     }
 }
@@ -69,13 +92,18 @@ impl Rights {
 /// from the mode. Where the system doesn't allow the owner or the group, the new file keeps its
 /// maker's, and loses the bits that would then say too much.
 pub fn take_over<F: OpenFile + AsFd>(new: &F, rights: Rights) -> io::Result<()> {
-    let Rights { owner, group, mode } = rights;
-    let mode = if is_allowed(fchown(new, Some(owner), Some(group)))? {
-        mode
-    } else if is_allowed(fchown(new, None, Some(group)))? {
-        mode & READ_WRITE_RUN
-    } else {
-        mode_in_another_group(mode)
+    let Rights { holder, mode } = rights;
+    let mode = match holder {
+        None => mode,
+        Some((owner, group)) => {
+            if is_allowed(fchown(new, Some(owner), Some(group)))? {
+                mode
+            } else if is_allowed(fchown(new, None, Some(group)))? {
+                mode & READ_WRITE_RUN
+            } else {
+                mode_in_another_group(mode)
+            }
+        }
     };
     new.set_permissions(Permissions::from_mode(mode))
 }

@@ -1,12 +1,13 @@
 //! What may not be replaced, told before anything is written.
 
-use crate::disk::links::{folder_of, target_of};
+use crate::disk::links::folder_of;
 use crate::disk::reading::read_whole;
 use crate::disk::replacing::old_file;
 use std::alloc::Global;
 use std::fs::{File, OpenOptions};
 use std::io::ErrorKind;
 use std::os::fd::AsRawFd;
+use std::path::PathBuf;
 use std::rt::Files;
 use std::{fs, io};
 
@@ -35,19 +36,18 @@ fn mount_of<R: Files + Alloc<A = Global>>(rt: &R, file: &File) -> io::Result<Str
     Ok(String::from_str(rt.alloc(), mount_in(text))?)
 }
 
-/// Fails where the file to which a name leads may not be replaced: it is no regular file, the user
-/// may not write it, or it is mounted on its own, so that no file can be renamed over it. Nothing is
-/// changed. Where no file is there, nothing is asked.
+/// Fails where the file at a path may not be replaced: it is no regular file, the user may not write
+/// it, or it is mounted on its own, so that no file can be renamed over it. Nothing is changed. Where
+/// no file is there, nothing is asked.
 pub fn check_replaceable<R: Files<File = File> + Alloc<A = Global>>(
     rt: &R,
-    name: &str,
+    path: &PathBuf,
 ) -> io::Result<()> {
-    let target = target_of(rt, name)?;
-    if old_file(rt, &target)?.is_none() {
+    if old_file(rt, path)?.is_none() {
         return Ok(());
     }
-    let file = OpenOptions::new().write(true).open(rt, target.as_path())?;
-    let folder = fs::open(rt, folder_of(&target))?;
+    let file = OpenOptions::new().write(true).open(rt, path.as_path())?;
+    let folder = fs::open(rt, folder_of(path))?;
     let own = mount_of(rt, &file)?;
     let around = mount_of(rt, &folder)?;
     if !own.is_empty() && !around.is_empty() && own.as_str() != around.as_str() {

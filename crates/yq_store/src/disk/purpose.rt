@@ -7,6 +7,9 @@ pub enum Purpose {
     Print,
     /// It reads the file and its journal, and writes neither.
     List,
-    /// It reads both, and writes them.
+    /// It reads both, and writes them. Of a file that is too long for a text it reads what shows this.
     Edit,
+    /// It goes by what the journal records, and writes both. A file that is too long for a text is
+    /// not read, since what is read of it isn't all.
+    Replay,
 }

@@ -1,6 +1,7 @@
 //! Reading files, as far as a text may be long.
 
 use std::alloc::Global;
+use std::fs::Metadata;
 use std::io::{ErrorKind, Read};
 use std::rt::Files;
 use std::{fs, io};
@@ -22,6 +23,15 @@ pub fn check_regular<R: Files>(rt: &R, name: &str) -> io::Result<()> {
         Ok(())
     } else {
         Err(io::Error::from(ErrorKind::InvalidInput))
+    }
+}
+
+/// Fails at a file that is too long for a text.
+pub fn check_length(file: &Metadata) -> io::Result<()> {
+    if file.len() < MOST_OF_TEXT {
+        Ok(())
+    } else {
+        Err(io::Error::from(ErrorKind::FileTooLarge))
     }
 }
 

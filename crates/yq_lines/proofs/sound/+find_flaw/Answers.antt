@@ -76,8 +76,8 @@ lines-preserved t c =
 
 pub returns-then-not-are_distinct : goal.returns-then-not-are_distinct
 returns-then-not-are_distinct t c =
-    sym (c.lines.invariant.so_far ∙ (no_more (c.args.depth - 1) _ (map (λ k. k.now) c.lines.keys.items) _ c.lines-test.ensures.test ∙ distinct_told _ _ (rw c.deref_mut.ensures.value at c.if-not-are_distinct.ensures)))
+    sym (c.lines.invariant.so_far ∙ (no_more (c.args.depth - 1) _ (map (λ k. k.now) c.lines.keys.items) _ c.lines-test.ensures.test ∙ distinct_told _ _ (rw c.as_mut_slice.ensures.value at c.if-not-are_distinct.ensures)))
 
 pub returns : goal.returns
 returns t c =
-    sym (c.lines.invariant.so_far ∙ (no_more (c.args.depth - 1) _ (map (λ k. k.now) c.lines.keys.items) _ c.lines-test.ensures.test ∙ distinct_told _ _ (rw c.deref_mut.ensures.value at c.if-not-are_distinct.ensures)))
+    sym (c.lines.invariant.so_far ∙ (no_more (c.args.depth - 1) _ (map (λ k. k.now) c.lines.keys.items) _ c.lines-test.ensures.test ∙ distinct_told _ _ (rw c.as_mut_slice.ensures.value at c.if-not-are_distinct.ensures)))

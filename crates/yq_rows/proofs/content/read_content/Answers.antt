@@ -1,8 +1,10 @@
 use Rattle.std.proofs.Common.{Some, None, false, sym, ap, ◌∙◌, subst, w64}
 use Rattle.std.proofs.lemmas.Int.{to_z-of_z}
 use Rattle.yq_scalar.specs.Answers.{Gives}
-use Rattle.yq_inline.specs.Nodes.{begins_node}
-use Rattle.yq_rows.specs.Lending.{filling_view}
+use Rattle.yq_inline.specs.Scalars.{begins_scalar}
+use Rattle.yq_rows.specs.Lending.{filling_view, begins_other}
+use Rattle.yq_rows.proofs.MarkAgain.{scalar_node}
+use Rattle.yq_rows.proofs.ScalarLending.{other_node, no_node}
 use Rattle.yq_rows.proofs.RowLending.{content_block, content_inline, content_nothing}
 use Rattle.yq_rows.proofs.content.read_content.Goals as goal
 
@@ -11,18 +13,30 @@ returns-then-begins_block c =
     subst (Gives filling_view c.read_block_content.result) (sym (content_block c.args.parent c.args.text.now _ _ c.split_white.ensures (sym c.begins_block.ensures ∙ c.if-begins_block.true)))
     (rw (to_z-of_z w64 c.args.parent c.ranges.parent) at c.read_block_content.ensures)
 
-pub returns-then-begins_node : goal.returns-then-begins_node
-returns-then-begins_node c =
+pub returns-then-begins_other : goal.returns-then-begins_other
+returns-then-begins_other c =
     subst (Gives filling_view c.read_inline_content.result)
-    (sym (content_inline c.args.parent c.args.text.now _ _ c.split_white.ensures (sym c.begins_block.ensures ∙ c.if-begins_block.false) (ap (begins_node false) (sym c.as_bytes.ensures.value) ∙ (sym c.begins_node.ensures ∙ c.if-begins_node.true))))
+    (sym (content_inline c.args.parent c.args.text.now _ _ c.split_white.ensures (sym c.begins_block.ensures ∙ c.if-begins_block.false) (other_node c.split_white.result.1.now (ap begins_other (sym c.as_bytes.ensures.value) ∙ (sym c.begins_other.ensures ∙ c.if-begins_other.true)))))
     (rw (to_z-of_z w64 c.args.parent c.ranges.parent) at c.read_inline_content.ensures)
+
+pub read_scalar_content-requires : goal.read_scalar_content-requires
+read_scalar_content-requires c = (
+  ap begins_other (sym c.as_bytes.ensures.value) ∙ (sym c.begins_other.ensures ∙ c.if-begins_other.false),
+  ap (begins_scalar false) (sym c.as_bytes-2.ensures.value) ∙ (sym c.begins_scalar.ensures ∙ c.if-begins_scalar.true),
+)
+
+pub returns-then-begins_scalar : goal.returns-then-begins_scalar
+returns-then-begins_scalar c =
+    subst (Gives filling_view c.read_scalar_content.result)
+    (sym (content_inline c.args.parent c.args.text.now _ _ c.split_white.ensures (sym c.begins_block.ensures ∙ c.if-begins_block.false) (scalar_node c.split_white.result.1.now (ap (begins_scalar false) (sym c.as_bytes-2.ensures.value) ∙ (sym c.begins_scalar.ensures ∙ c.if-begins_scalar.true)))))
+    (rw (to_z-of_z w64 c.args.parent c.ranges.parent) at c.read_scalar_content.ensures)
 
 pub returns-in-Some : goal.returns-in-Some
 returns-in-Some c =
     content_nothing c.args.parent c.args.text.now _ _ (Some (c.in-Some.tail.now, c.in-Some.rest.now)) c.split_white.ensures (sym c.begins_block.ensures ∙ c.if-begins_block.false)
-    (ap (begins_node false) (sym c.as_bytes.ensures.value) ∙ (sym c.begins_node.ensures ∙ c.if-begins_node.false)) (sym c.in-Some.ensures)
+    (no_node c.split_white.result.1.now (ap begins_other (sym c.as_bytes.ensures.value) ∙ (sym c.begins_other.ensures ∙ c.if-begins_other.false)) (ap (begins_scalar false) (sym c.as_bytes-2.ensures.value) ∙ (sym c.begins_scalar.ensures ∙ c.if-begins_scalar.false))) (sym c.in-Some.ensures)
 
 pub returns-in-None : goal.returns-in-None
 returns-in-None c =
     content_nothing c.args.parent c.args.text.now _ _ None c.split_white.ensures (sym c.begins_block.ensures ∙ c.if-begins_block.false)
-    (ap (begins_node false) (sym c.as_bytes.ensures.value) ∙ (sym c.begins_node.ensures ∙ c.if-begins_node.false)) (sym c.in-None.ensures)
+    (no_node c.split_white.result.1.now (ap begins_other (sym c.as_bytes.ensures.value) ∙ (sym c.begins_other.ensures ∙ c.if-begins_other.false)) (ap (begins_scalar false) (sym c.as_bytes-2.ensures.value) ∙ (sym c.begins_scalar.ensures ∙ c.if-begins_scalar.false))) (sym c.in-None.ensures)

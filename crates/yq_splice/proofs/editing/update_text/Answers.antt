@@ -5,10 +5,11 @@ use Rattle.std.specs.declared.alloc.Global.{Global}
 use Rattle.yq_documents.specs.Reading.{cut_of, read_at}
 use Rattle.yq_meaning.specs.Operations.{Operation, operations_of}
 use Rattle.yq_meaning.specs.declared.op.Op.{Op}
+use Rattle.yq_program.specs.View.{program_of}
 use Rattle.yq_splice.specs.Answers.{Edits}
 use Rattle.yq_splice.specs.Carried.{carry_all}
 use Rattle.yq_splice.specs.Valid.{HaveOperands}
-use Rattle.yq_splice.proofs.UpdateLaws.{update_not_read, update_unplanned, update_planned, update_ok, update_err}
+use Rattle.yq_splice.proofs.UpdateLaws.{update_not_read, update_unplanned, update_planned, update_holds, update_ok, update_err}
 use Rattle.yq_splice.proofs.editing.update_text.Goals as goal
 
 pub returns-in_err-documents-clause-err : goal.returns-in_err-documents-clause-err
@@ -35,7 +36,7 @@ returns-clause-ok c =
     let is : read_at t ≡ Some (cut_of d) = ap read_at (sym c.as_bytes.ensures.value) ∙ c.in_ok-documents.ensures.exact in
     let valid : HaveOperands ops = subst (λ (x : List Op). HaveOperands (operations_of x)) c.deref.ensures.value c.operands_hold.ensures in
     let made : Edits c.carry_all.result (carry_all ops t) = subst (λ (x : List Op). Edits c.carry_all.result (carry_all (operations_of x) t)) c.deref-2.ensures.value c.carry_all.ensures in
-    λ u at. update_ok u t (cut_of d) ops is (update_planned u t d ops text (c.in_ok-ops.ensures.exact u at)) valid c.carry_all.result made
+    λ u at. update_ok u t (cut_of d) ops is (update_planned u t d ops text (c.in_ok-ops.ensures.exact u at)) (update_holds (program_of c.args.program.now) c.args.nth u c.requires.literals at) valid c.carry_all.result made
 
 pub returns-clause-err : goal.returns-clause-err
 returns-clause-err c =
@@ -46,4 +47,4 @@ returns-clause-err c =
     let is : read_at t ≡ Some (cut_of d) = ap read_at (sym c.as_bytes.ensures.value) ∙ c.in_ok-documents.ensures.exact in
     let valid : HaveOperands ops = subst (λ (x : List Op). HaveOperands (operations_of x)) c.deref.ensures.value c.operands_hold.ensures in
     let made : Edits c.carry_all.result (carry_all ops t) = subst (λ (x : List Op). Edits c.carry_all.result (carry_all (operations_of x) t)) c.deref-2.ensures.value c.carry_all.ensures in
-    λ u at. update_err u t (cut_of d) ops is (update_planned u t d ops text (c.in_ok-ops.ensures.exact u at)) valid c.carry_all.result made
+    λ u at. update_err u t (cut_of d) ops is (update_planned u t d ops text (c.in_ok-ops.ensures.exact u at)) (update_holds (program_of c.args.program.now) c.args.nth u c.requires.literals at) valid c.carry_all.result made

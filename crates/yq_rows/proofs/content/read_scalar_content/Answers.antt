@@ -1,0 +1,22 @@
+use Rattle.std.proofs.Common.{◌≡◌, Some, w64, sym, ap, ◌∙◌, not}
+use Rattle.std.proofs.lemmas.Int.{to_z-of_z}
+use Rattle.yq_scalar.specs.Piece.{deeper}
+use Rattle.yq_inline.specs.Scalars.{is_quoted}
+use Rattle.yq_rows.proofs.ScalarLending.{scalar_none, scalar_no_tail, scalar_some}
+use Rattle.yq_rows.proofs.content.read_scalar_content.Goals as goal
+
+pub returns-in-Err : goal.returns-in-Err
+returns-in-Err c =
+    let spaces : c.further_spaces-spaces.result ≡ Some (deeper c.args.parent) = rw (to_z-of_z w64 c.args.parent c.ranges.parent) at c.further_spaces-spaces.ensures in
+    scalar_none c.args.parent c.args.space.now c.args.text.now c.requires.0 c.requires.1 (rw spaces at c.in-Err.ensures.read)
+
+pub returns-in-Some : goal.returns-in-Some
+returns-in-Some c =
+    let spaces : c.further_spaces-spaces.result ≡ Some (deeper c.args.parent) = rw (to_z-of_z w64 c.args.parent c.ranges.parent) at c.further_spaces-spaces.ensures in
+    scalar_some c.args.parent c.args.space.now c.args.text.now c.in-Ok.found.0.now c.in-Ok.found.1.now c.in-Some.tail.now c.in-Some.rest.now _ c.may_be_alone.result c.requires.0 c.requires.1 (rw spaces at c.in-Ok.ensures.read) (sym c.in-Some.ensures)
+    (ap not (c.is_quoted.ensures ∙ ap is_quoted c.as_bytes.ensures.value)) c.may_be_alone.ensures
+
+pub returns-in-None : goal.returns-in-None
+returns-in-None c =
+    let spaces : c.further_spaces-spaces.result ≡ Some (deeper c.args.parent) = rw (to_z-of_z w64 c.args.parent c.ranges.parent) at c.further_spaces-spaces.ensures in
+    scalar_no_tail c.args.parent c.args.space.now c.args.text.now c.in-Ok.found.0.now c.in-Ok.found.1.now c.requires.0 c.requires.1 (rw spaces at c.in-Ok.ensures.read) (sym c.in-None.ensures)
