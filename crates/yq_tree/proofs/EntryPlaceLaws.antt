@@ -123,10 +123,10 @@ no_head c rs first n e = go (seat n rs) e
     go (Some s) e = absurd (cc)
 
 -- the first row of a document, by its rows
-pub first_told : (c : Cut) (i : ℕ) → option_map (λ x. x.0) (document_rows i c) ≡ first_row i c
+pub first_told : (c : Cut) (i : ℕ) → option_map (λ (x : ℕ × ℕ). x.0) (document_rows i c) ≡ first_row i c
 first_told c i = go (slice_get (document_parts c) i)
   where
-    go : (o : Option Part) → option_map (λ x. x.0) (option_map (λ p. (document_row i c, document_row i c + length p.rows)) o) ≡ option_map (λ p. document_row i c) o
+    go : (o : Option Part) → option_map (λ (x : ℕ × ℕ). x.0) (option_map (λ (p : Part). (document_row i c, document_row i c + length p.rows)) o) ≡ option_map (λ p. document_row i c) o
     go None = refl
     go (Some p) = refl
 

@@ -167,7 +167,7 @@ place_found t s c n d found place cut is e told =
 pub no_place_found : {A : Type 0} (c : Cut) (n : ℕ) (place : ℕ → Cut → List Row → Option A) → None ≡ document_rows n c → None ≡ (slice_get (document_parts c) n >>= λ p. place (document_row n c) c p.rows)
 no_place_found {A = A} c n place e = go (slice_get (document_parts c) n) e
   where
-    go : (o : Option Part) → None ≡ option_map (λ p. (document_row n c, document_row n c + length p.rows)) o → None ≡ (o >>= λ p. place (document_row n c) c p.rows)
+    go : (o : Option Part) → ◌≡◌ {A = Option (ℕ × ℕ)} None (option_map (λ p. (document_row n c, document_row n c + length p.rows)) o) → None ≡ (o >>= λ p. place (document_row n c) c p.rows)
     go None e = refl
     go (Some p) e = absurd (cc)
 

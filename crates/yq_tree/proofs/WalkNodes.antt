@@ -42,8 +42,8 @@ ends_here ls n l is = go ((slice_get_cases ls (suc n)).1)
         eq-eqb (lines_end n ls) (suc n) (omega (arith, end, ap (deeper_count (level l)) none)) ∙ sym (ap is_end (ap (λ (k : ℕ). part ls k (level l)) (sym next) ∙ ap (λ (ms : List Line). deeper (level l) (group ms)) none))
     go (inl there) =
         let m : Line = there.0 in
-        let count : deeper_count (level l) (drop (suc n) ls) ≡ cond (ltb (level l) (level m)) (suc (deeper_count (level l) (drop (suc n + 1) ls))) 0 = ap (deeper_count (level l)) (drop_at ls (suc n) m there.2.0) in
-        let at : slice_get ls (n + 1) ≡ Some m = ap (slice_get ls) (sym next) ∙ there.2.0 in
+        let count : deeper_count (level l) (drop (suc n) ls) ≡ cond (ltb (level l) (level m)) (suc (deeper_count (level l) (drop (suc n + 1) ls))) 0 = ap (deeper_count (level l)) (drop_at ls (suc n) m there.2) in
+        let at : slice_get ls (n + 1) ≡ Some m = ap (slice_get ls) (sym next) ∙ there.2 in
         go2 m count at (cases_lt (level l) (level m))
       where
         go2 : (m : Line) → deeper_count (level l) (drop (suc n) ls) ≡ cond (ltb (level l) (level m)) (suc (deeper_count (level l) (drop (suc n + 1) ls))) 0 → slice_get ls (n + 1) ≡ Some m → (level l < level m) ⊎ (level m ≤ level l) →
@@ -103,7 +103,7 @@ node_first {A = A} ls n to floor x e = go ((slice_get_cases ls n).1)
     go (inr past) =
         let none : part ls n floor ≡ deeper floor (group []) = ap (λ (ms : List Line). deeper floor (group ms)) (drop_all n ls past.0) in
         ap (λ o. cond (begins_with_node o) x None) none ∙ sym (ap (λ b. cond b None (slice_get ls n >>= λ l. cond (is_bare l.mark) x None)) (e ∙ ap is_end none))
-    go (inl there) = go2 there.0 there.2.0 (cases_lt floor (level there.0))
+    go (inl there) = go2 there.0 there.2 (cases_lt floor (level there.0))
       where
         go2 : (l : Line) → slice_get ls n ≡ Some l → (floor < level l) ⊎ (level l ≤ floor) → cond (begins_with_node (part ls n floor)) x None ≡ cond (eqb n to) None (slice_get ls n >>= λ l. cond (is_bare l.mark) x None)
         go2 l is (inl deep) =
@@ -125,13 +125,13 @@ pub no_line : (steps : List Step) (ls : List Line) → None ≡ reached steps ls
 no_line [] ls e = refl
 no_line (s ∷ ss) ls e = go (find s ss (group ls)) e
   where
-    go : (o : Option (Found × List Step)) → None ≡ option_map (λ x. (length (lines_before x.0.place), x.1)) o → None ≡ option_and_then (λ x. found_line x.0 x.1) o
+    go : (o : Option (Found × List Step)) → ◌≡◌ {A = Option (ℕ × List Step)} None (option_map (λ x. (length (lines_before x.0.place), x.1)) o) → None ≡ option_and_then (λ x. found_line x.0 x.1) o
     go None e = refl
     go (Some x) e = absurd (cc)
 
 -- the row of a line among those of a cut
 module _ (s : Shown) (d : Stretch) (c : Cut) (k : InCut s d c) (q : Spot) (at : IsLine s d q) where
-  pub row_is : Row
+  abbrev pub row_is : Row
   row_is = (located s d k.document q at).row
 
   pub seat_is : seat (line_number d k.document.rows q) k.document.rows ≡ Some (record { before = q.row - d.first; row = row_is; line = q.line })

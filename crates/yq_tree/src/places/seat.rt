@@ -46,8 +46,7 @@ impl<'t> Documents<'t> {
     pub(crate) fn first_row(&self, doc: usize) -> Option<usize>
         ensures { result ≡ reading.first_row doc (cut_of self.now) }
     {
-        let document = self.cut().stretch(doc)?;
-        Some(document.first)
+        self.cut().first_row(doc)
     }
 
     /// The line of the entry or item at a path, if one of a row is.

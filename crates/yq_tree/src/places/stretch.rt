@@ -3,6 +3,7 @@ ghost use Rattle.std.specs.Prelude.{◌≡◌, ◌&&◌, ◌==◌, ◌-◌, map,
 ghost use Rattle.yq_inline.specs.Entries.{step_of};
 ghost use Rattle.yq_documents.specs.Reading.{cut_of};
 ghost use Rattle.yq_documents.specs.Seats.{document_row, seat_at, seat_of};
+ghost use Rattle.yq_tree.specs.EntryReading as reading;
 ghost use Rattle.yq_tree.specs.Extents.{IsShown};
 ghost use Rattle.yq_tree.specs.RowWalk as spec;
 ghost use Rattle.yq_tree.specs.RowWalk.{HasDocument};
@@ -82,6 +83,14 @@ impl<'d, 't> CutText<'d, 't> {
     {
         let rows = self.rows();
         begin_rows(rows, first_is_document(rows), doc)
+    }
+
+    /// How many rows stand before document `doc`, counted from 0, if there is one.
+    pub(crate) fn first_row(&self, doc: usize) -> Option<usize>
+        ensures { result ≡ reading.first_row doc (cut_of self.now) }
+    {
+        let document = self.stretch(doc)?;
+        Some(document.first)
     }
 
     /// The line of the entry or item at a path, if one of a row is.

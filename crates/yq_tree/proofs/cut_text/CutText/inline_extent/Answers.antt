@@ -16,7 +16,7 @@ pub returns-in_err-document : goal.returns-in_err-document
 returns-in_err-document c =
     let doc = c.args.path.now.doc in
     let cut = cut_of c.args.self.now in
-    rw c.from_residual.ensures (sym (ap (λ o. option_map extent_of (o >>= inline_in (steps_of c.args.path.now))) (no_document doc cut (ap (option_map (λ x. x.0)) c.in_err-document.ensures ∙ first_told cut doc))))
+    rw c.from_residual.ensures (sym (ap (λ o. option_map extent_of (o >>= inline_in (steps_of c.args.path.now))) (no_document doc cut (ap (option_map (λ (x : ℕ × ℕ). x.0)) c.in_err-document.ensures ∙ first_told cut doc))))
 
 pub extent_in-requires-clause-document : goal.extent_in-requires-clause-document
 extent_in-requires-clause-document c =

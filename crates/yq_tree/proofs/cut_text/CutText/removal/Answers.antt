@@ -15,14 +15,14 @@ pub rows_out-requires : goal.rows_out-requires
 rows_out-requires c =
     let text = c.whole-whole.ensures.text in
     let cut = subst (λ t. IsCut t (cut_of t)) (sym text) c.whole-whole.ensures.cut in
-    let rows = c.self.invariant.rows ∙ ap (λ t. shown (cut_of t)) (c.self.view_is ∙ sym text) in
-    let x = taken_at c.whole-whole.result.now c.self.inside.rows.now c.args.path.now.doc (steps_of c.args.path.now) _ cut rows (c.in_ok-marks.ensures ∙ ap (λ t. marks_at c.args.path.now.doc (steps_of c.args.path.now) (cut_of t)) (sym text)) in
+    let rows = c.rows.ensures ∙ ap (λ t. shown (cut_of t)) (sym text) in
+    let x = taken_at c.whole-whole.result.now c.rows.result.now c.args.path.now.doc (steps_of c.args.path.now) _ cut rows (c.in_ok-marks.ensures ∙ ap (λ t. marks_at c.args.path.now.doc (steps_of c.args.path.now) (cut_of t)) (sym text)) in
     record { part = x.part; rows = x.rows; is = x.is }
 
 pub returns : goal.returns
 returns c =
     let text = c.whole-whole.ensures.text in
     let cut = subst (λ t. IsCut t (cut_of t)) (sym text) c.whole-whole.ensures.cut in
-    let rows = c.self.invariant.rows ∙ ap (λ t. shown (cut_of t)) (c.self.view_is ∙ sym text) in
-    let x = taken_at c.whole-whole.result.now c.self.inside.rows.now c.args.path.now.doc (steps_of c.args.path.now) _ cut rows (c.in_ok-marks.ensures ∙ ap (λ t. marks_at c.args.path.now.doc (steps_of c.args.path.now) (cut_of t)) (sym text)) in
+    let rows = c.rows.ensures ∙ ap (λ t. shown (cut_of t)) (sym text) in
+    let x = taken_at c.whole-whole.result.now c.rows.result.now c.args.path.now.doc (steps_of c.args.path.now) _ cut rows (c.in_ok-marks.ensures ∙ ap (λ t. marks_at c.args.path.now.doc (steps_of c.args.path.now) (cut_of t)) (sym text)) in
     ap Some (c.rows_out.ensures x.part x.rows x.is) ∙ (sym x.place ∙ ap (λ t. removal_place c.args.path.now.doc (steps_of c.args.path.now) (cut_of t)) text)

@@ -18,7 +18,7 @@ returns-then-has_head c = λ cut k.
     let rs = k.document.rows in
     let n = line_number d rs c.args.at in
     let l = located c.args.rows.now d k.document c.args.at c.requires.at in
-    row_told c.args.rows.now d cut k c.args.at c.requires.at (λ i r. row_extent false i r cut) _ (λ r is. c.row_extent-then-has_head.ensures k.text cut k.cut k.rows r is)
+    row_told c.args.rows.now d cut k c.args.at c.requires.at (λ i r. row_extent false i r cut) _ (λ r is. c.row_extent.ensures k.text cut k.cut k.rows r is)
     ∙ with_head (lines_of rs) n l.line _ _ l.is (c.if-has_head.ensures k.document l.line l.is)
 
 pub returns-then-not-is_deeper : goal.returns-then-not-is_deeper

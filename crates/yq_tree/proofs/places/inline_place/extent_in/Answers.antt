@@ -36,4 +36,4 @@ returns-else-is_empty-2 c = λ cut k.
 pub returns-in_err-at : goal.returns-in_err-at
 returns-in_err-at c = λ cut k.
     let steps = map step_of c.args.steps.now in
-    rw c.from_residual.ensures (no_place c.args.document.first cut k.document.rows steps (c.if-is_empty.ensures ∙ sym (ap (λ n. eqb n 0) (length-map c.args.steps.now step_of))) (c.in_err-at.ensures k.document))
+    rw c.from_residual.ensures (no_place c.args.document.first cut k.document.rows steps (c.if-is_empty.ensures ∙ sym (ap (λ n. eqb n 0) (length-map c.args.steps.now step_of))) (c.in_err-at.ensures.found k.document))

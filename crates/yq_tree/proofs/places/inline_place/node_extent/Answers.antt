@@ -1,7 +1,5 @@
-use Rattle.std.proofs.Common.{◌≡◌, cond, false, None, option_map, sym, ap, ◌∙◌, arith}
+use Rattle.std.proofs.Common.{cond, true, None, refl, ap, ◌∙◌}
 use Rattle.yq_documents.specs.Lines.{lines_of}
-use Rattle.yq_lines.specs.Ends.{part}
-use Rattle.yq_lines.specs.Spots.{begins_with_node}
 use Rattle.yq_tree.specs.InlineReading.{line_extent, row_extent}
 use Rattle.yq_tree.specs.RowWalk.{line_number}
 use Rattle.yq_tree.proofs.WalkNodes.{node_first, row_told}

@@ -16,7 +16,7 @@ use Rattle.yq_tree.proofs.places.removal_place.own_rows.Goals as goal
 pub returns-in_err-at : goal.returns-in_err-at
 returns-in_err-at c = rw c.from_residual.ensures (λ h.
     let steps = map step_of c.args.steps.now in
-    no_own c.args.document.first h.rows steps (no_line steps (lines_of h.rows) (c.in_err-at.ensures h)))
+    no_own c.args.document.first h.rows steps (no_line steps (lines_of h.rows) (c.in_err-at.ensures.found h)))
 
 pub returns-then-not-is_empty : goal.returns-then-not-is_empty
 returns-then-not-is_empty c = λ h.
