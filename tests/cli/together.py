@@ -2,7 +2,9 @@
 
 import json
 import os
+import select
 import signal
+import subprocess
 import time
 from concurrent.futures import ThreadPoolExecutor, wait
 
@@ -155,6 +157,16 @@ def check_a_history_waits_for_a_move(folder):
         both, ended, later = run_between(first, path, call, True, words(1), ["history", "f"])
         equal((ended, later[0], later[2]), (DONE, 0, b""))
         equal(listed(both, later[1]), [expression(1)])
+
+
+def check_a_history_that_nobody_reads_holds_no_edit_back(folder):
+    """It has no lock any more when it prints more than a pipe takes."""
+    folder.write("f", text(value(0)))
+    folder.accepts("-i", f'.n = "{"w" * 100_000}"', "f")
+    history = subprocess.Popen([folder.yq, "history", "f"], cwd=folder.path, stdout=subprocess.PIPE)
+    select.select([history.stdout], [], [])
+    folder.accepts(*words(1))
+    equal((history.poll(), len(history.communicate()[0]) > 100_000, history.returncode), (None, True, 0))
 
 
 def check_histories_do_not_wait_for_each_other(folder):

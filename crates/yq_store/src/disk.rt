@@ -84,10 +84,15 @@ impl<
             self.edited = Some(edited);
             return Ok(text);
         }
-        match &self.edited {
-            Some(edited) => read_journal(&self.rt, alloc, name, edited.trust),
-            None => Err(io::Error::from(ErrorKind::Other)),
+        let Some(edited) = &self.edited else {
+            return Err(io::Error::from(ErrorKind::Other));
+        };
+        let bytes = read_journal(&self.rt, alloc, name, edited.trust)?;
+        // What only lists has read all: it holds nobody back while it prints.
+        if self.purpose == Purpose::List {
+            self.edited = None;
         }
+        Ok(bytes)
     }
 
     /// Replaces a file. Before the first write it is looked whether the command may write at all.
