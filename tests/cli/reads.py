@@ -37,8 +37,12 @@ def check_a_pipe_with_a_name_is_read(folder):
 def check_a_pipe_past_the_limit_is_refused(folder):
     """Also where the last character that is read is cut, and where what comes later is no text."""
     equal(read_input(folder, b"#" * LIMIT, "."), (0, b"null\n", b""))
-    for data in (b"#" * (LIMIT + 1), b"#" * LIMIT + "\u00e9".encode(), b"#" * (2 * LIMIT) + b"\xff"):
+    cut = (b"#" * n + "\u00e9".encode() for n in (LIMIT, LIMIT + 2, LIMIT + 3))
+    for data in (b"#" * (LIMIT + 1), *cut, b"#" * (2 * LIMIT) + b"\xff"):
         equal(read_input(folder, data, "."), TOO_LARGE)
+    for data in (b"\xff" + b"#" * LIMIT, b"#\n" * (LIMIT // 2) + b"\xff"):
+        line = data.count(b"\n") + 1
+        equal(read_input(folder, data, "."), (1, b"", b"Error: Y1 line %d: not utf8\n" % line))
 
 
 def check_a_large_collection_is_printed_and_read_back(folder):

@@ -8,12 +8,12 @@ use Rattle.yq_journal.specs.declared.fault.JournalFault.TheVariants as journal
 use Rattle.yq_journal.specs.declared.moves.Move.TheVariants as move
 use Rattle.yq_journal.specs.Record.{Record}
 use Rattle.yq_journal.specs.Refusals.{most_records, no_way}
-use Rattle.yq_journal.specs.State.{State, moved, moved_text}
+use Rattle.yq_journal.specs.State.{State, moved, moved_text, opened}
 use Rattle.yq_history.specs.declared.fault.Fault.{Fault}
 use Rattle.yq_history.specs.declared.fault.Fault.TheVariants as fault
 use Rattle.yq_store.specs.Content.{Content}
-use Rattle.yq_commands.specs.CommandEffects.{edit_effect, update_effect}
-use Rattle.yq_history.specs.Effects.{Effect, refuses, writes_nothing, leaves, from_pair, goes_to, walk_effect, Works}
+use Rattle.yq_commands.specs.CommandEffects.{edit_effect, edit_leaves, update_effect}
+use Rattle.yq_history.specs.Effects.{Effect, refuses, writes_nothing, from_pair, goes_to, walk_effect, Works}
 use Rattle.yq_commands.specs.Editing.{EditOutcome, unreadable, refused, edited, Refuses, program_in, edits}
 use Rattle.yq_commands.specs.Edits.{edit_record}
 use Rattle.yq_history.specs.Faults.{is_outside}
@@ -44,7 +44,7 @@ module _ (f j : List ℕ) (c : Content) (expr : List ℕ) (s : State) (t : List 
   abbrev by_tests : List ℕ → List Splice → Bool → Bool → Effect
   by_tests u cs equal full =
       if equal then writes_nothing []
-      else if full then refuses (named fault.JournalFull) else leaves u (moved s (move.Edit (edit_record expr cs (length t) (length u))))
+      else if full then refuses (named fault.JournalFull) else edit_leaves (edit_record expr cs (length t) (length u)) t u s
 
   -- the edited text is the old one: nothing is written
   pub edit_equal_works : (o : EditOutcome) (u : List ℕ) (cs : List Splice) {T : Type 0} (v : T) → o ≡ edited u cs → u ≡ t → Works (edit_effect expr o t s) f j c c {T = T} (Ok v)
@@ -55,16 +55,16 @@ module _ (f j : List ℕ) (c : Content) (expr : List ℕ) (s : State) (t : List 
 
   -- an edit to another text is a move
   module _ (u : List ℕ) (cs : List Splice) (edit : Record) (is_edit : edit ≡ edit_record expr cs (length t) (length u)) where
-    by_room : (full : Bool) → by_tests u cs false full ≡ goes_to (if full then Some journal.JournalFull else None) (Some u) (moved s (move.Edit edit))
+    by_room : (full : Bool) → by_tests u cs false full ≡ goes_to (if full then Some journal.JournalFull else None) (Some u) (opened s (move.Edit edit) t) (moved s (move.Edit edit))
     by_room true = refl
-    by_room false = ap (λ r. leaves u (moved s (move.Edit r))) (sym is_edit)
+    by_room false = ap (λ r. edit_leaves r t u s) (sym is_edit)
 
     edit_moves : (o : EditOutcome) → o ≡ edited u cs → u ≢ t → moved_text s.records s.at (move.Edit edit) t ≡ Some u → edit_effect expr o t s ≡ walk_effect (move.Edit edit) t s
     edit_moves o is changes leads =
         ap (λ x. edit_effect expr x t s) is
         ∙ ap (λ b. by_tests u cs b (nat_le most_records s.at)) (bytes_differ u t changes)
         ∙ by_room (nat_le most_records s.at)
-        ∙ ap (λ m. goes_to (no_way s.records s.at (move.Edit edit)) m (moved s (move.Edit edit))) (sym leads)
+        ∙ ap (λ m. goes_to (no_way s.records s.at (move.Edit edit)) m (opened s (move.Edit edit) t) (moved s (move.Edit edit))) (sym leads)
 
     pub edit_works : (o : EditOutcome) (d : Content) {T : Type 0} (r : Result T Fault) → o ≡ edited u cs → u ≢ t → IsMove c d f j s t u (move.Edit edit) r → Works (edit_effect expr o t s) f j c d r
     edit_works o d r is changes m = subst (λ x. Works x f j c d r) (sym (edit_moves o is changes m.leads)) (works_carried f j c d s t u (move.Edit edit) r m)

@@ -1,13 +1,9 @@
 -- Texts without a reading, and why a program is refused on a text.
-use Rattle.std.proofs.Common.{◌≡◌, ◌≢◌, ◌<◌, ◌≤◌, ℕ, Bool, List, length, nat_le, true, false, not, ◌&&◌, if◌then◌else◌, None, refl, sym, ap, ap₂, subst, ◌∙◌, true≢false}
-use Rattle.std.proofs.lemmas.Bool.{lt-leb, le-leb}
+use Rattle.std.proofs.Common.{◌≡◌, ◌≢◌, ℕ, List, true, false, if◌then◌else◌, None, refl, sym, ap, subst, ◌∙◌, true≢false}
 use Rattle.std.specs.Str.{is_utf8}
-use Rattle.yq_scalar.specs.Answers.{◌>>=◌}
 use Rattle.yq_scalar.specs.declared.ReadFault.{ReadFault}
-use Rattle.yq_scalar.specs.declared.fault.FaultKind.TheVariants.{NotUtf8, TooLarge}
-use Rattle.yq_scalar.specs.Characters.{is_text, text_limit}
-use Rattle.yq_rows.specs.Reading.{scan_at, all_parts}
-use Rattle.yq_documents.specs.Reading.{checked, read_at, text_at}
+use Rattle.yq_scalar.specs.declared.fault.FaultKind.TheVariants.{NotUtf8}
+use Rattle.yq_documents.specs.Reading.{read_at, text_at}
 use Rattle.yq_program.specs.Program.{Program}
 use Rattle.yq_splice.specs.Carried.{edit_of, program_done}
 use Rattle.yq_splice.specs.Edit.{by_reading}
@@ -25,18 +21,6 @@ pub not_read : (t : List ℕ) → is_utf8 t ≡ false → read_at t ≡ None
 unfolding read_at
 not_read t is = ap (λ b. if b then text_at t else None) is
 
-not_text : (t : List ℕ) → nat_le (length t) text_limit ≡ false → text_at t ≡ None
-unfolding text_at scan_at
-not_text t is = ap (λ b. (if b && is_text t then all_parts true t else None) >>= checked) is
-
--- more bytes than a text may have
-pub too_long : (t : List ℕ) → text_limit < length t → read_at t ≡ None
-unfolding read_at
-too_long t is = elim (is_utf8 t) as (λ b. (if b then text_at t else None) ≡ None) [
-  | true ↦ not_text t (lt-leb (length t) text_limit is)
-  | false ↦ refl
-]
-
 -- nothing is made of them
 unread : (p : Program) (t : List ℕ) → read_at t ≡ None → edits p t ≡ unreadable t
 unfolding edits edit_of
@@ -47,24 +31,13 @@ unread_refuses p t e none tells = subst (λ o. Refuses o e) (sym (unread p t non
 
 -- ---- whether a fault tells that they are no UTF-8
 
--- of more bytes than a text may have it tells another thing
-pub long_told : (t : List ℕ) (f : ReadFault) → text_limit < length t → f.kind ≡ TooLarge → IsUnreadable t (Unreadable f)
-long_told t f long kind = (
-  λ is. let bad : TooLarge ≡ NotUtf8 = sym kind ∙ is in cc,
-  λ is. absurd (true≢false (sym is ∙ ap (λ b. b && not (is_utf8 t)) (lt-leb (length t) text_limit long))),
-)
-
--- of others it tells just that
-pub no_utf8_told : (t : List ℕ) (f : ReadFault) → length t ≤ text_limit → is_utf8 t ≡ false → f.kind ≡ NotUtf8 → IsUnreadable t (Unreadable f)
-no_utf8_told t f short other kind = (λ is. ap₂ (λ a b. a && not b) (le-leb (length t) text_limit short) other, λ is. kind)
+-- of other bytes it tells that
+pub no_utf8_told : (t : List ℕ) (f : ReadFault) → is_utf8 t ≡ false → f.kind ≡ NotUtf8 → IsUnreadable t (Unreadable f)
+no_utf8_told t f no kind = (λ is. no, λ is. kind)
 
 -- and of UTF-8 it doesn't
 pub unread_text : (t : List ℕ) (f : ReadFault) → is_utf8 t ≡ true → f.kind ≢ NotUtf8 → IsUnreadable t (Unreadable f)
-unread_text t f utf8 other = (λ is. absurd (other is), λ is. absurd (some_no (nat_le (length t) text_limit) (is_utf8 t) utf8 is)) where
-  some_no : (a b : Bool) → b ≡ true → (a && not b) ≡ true → ⊥
-  some_no true true is h = cc
-  some_no true false is h = cc
-  some_no false b is h = cc
+unread_text t f utf8 other = (λ is. absurd (other is), λ no. absurd (true≢false (sym utf8 ∙ no)))
 
 -- why a program is refused on a text
 pub edit_refuses : (p : Program) (s t : List ℕ) (e : EditError) → s ≡ t → is_utf8 t ≡ true → Fails e (edit_of p s) → of_edit e ≢ OutOfMemory → Refuses (edits p t) (of_edit e)

@@ -1,19 +1,24 @@
 -- What a command does to a file and its journal, by their bytes as they are, good for a history or not (own).
-use Rattle.std.specs.Prelude.{◌≡◌, ℕ, List, [], length, nat_le, if◌then◌else◌, Option, Result, Ok, Err, true}
+use Rattle.std.specs.Prelude.{◌≡◌, ◌≢◌, ℕ, List, [], length, nat_le, if◌then◌else◌, Option, Some, None, Result, Ok, Err, MatchResult, true}
 use Rattle.std.specs.Str.{bytes_eq}
 use Rattle.std.specs.String.{string_bytes}
 use Rattle.yq_program.specs.Program.{Program}
 use Rattle.yq_journal.specs.declared.moves.Move.TheVariants as move
+use Rattle.yq_journal.specs.Record.{Record}
 use Rattle.yq_journal.specs.Refusals.{most_records}
-use Rattle.yq_journal.specs.State.{State, moved}
+use Rattle.yq_journal.specs.State.{State, moved, opened}
 use Rattle.yq_words.specs.declared.command.Command.{Command}
 use Rattle.yq_words.specs.declared.command.Command.TheVariants.{Eval, Undo, Redo, History as Lists, Squash}
 use Rattle.yq_history.specs.declared.fault.Fault.{Fault}
-use Rattle.yq_history.specs.declared.fault.Fault.TheVariants.{JournalFull}
+use Rattle.yq_history.specs.declared.fault.Fault.TheVariants.{JournalFull, OutOfMemory}
 use Rattle.yq_commands.specs.Editing.{EditOutcome, unreadable, refused, edited, program_in, edits}
 use Rattle.yq_commands.specs.Edits.{edit_record}
 use Rattle.yq_history.specs.Effects.{Effect, refuses, writes_nothing, leaves, from_pair, walk_effect, squash_effect, listing_effect, printed_by}
 use Rattle.yq_history.specs.Causes.{named, no_reading}
+
+-- what the edit of a record does from one text to another
+abbrev pub edit_leaves : Record → List ℕ → List ℕ → State → Effect
+edit_leaves edit t u s = leaves u (opened s (move.Edit edit) t) (moved s (move.Edit edit))
 
 -- what an edit does to them, by what it comes to: a record of one edit goes into the journal
 abbrev pub edit_effect : List ℕ → EditOutcome → List ℕ → State → Effect
@@ -22,7 +27,7 @@ edit_effect expr (refused f) t s = refuses (named f)
 edit_effect expr (edited u changes) t s =
     if bytes_eq u t then writes_nothing []
     else if nat_le most_records s.at then refuses (named JournalFull)
-    else leaves u (moved s (move.Edit (edit_record expr changes (length t) (length u))))
+    else edit_leaves (edit_record expr changes (length t) (length u)) t u s
 
 -- the same, by its expression
 abbrev pub update_effect : List ℕ → Result Program Fault → Option (List ℕ) → Option (List ℕ) → Effect
@@ -37,6 +42,20 @@ OfEffect (Redo f j) file journal holds = holds (from_pair file journal (walk_eff
 OfEffect (Lists f j) file journal holds = holds (from_pair file journal listing_effect)
 OfEffect (Squash n f j) file journal holds = holds (from_pair file journal (squash_effect n))
 OfEffect _ file journal holds = Unit {0}
+
+-- the fault of an expression that is no program
+abbrev pub fault_of : Result Program Fault → Option Fault
+fault_of (Ok p) = None
+fault_of (Err f) = Some f
+
+-- the fault of a command's expression, if it is no program
+abbrev pub expression_fault : Command → Option Fault
+expression_fault (Eval expr f j in_place exit_status no_doc) = fault_of (program_in (string_bytes expr))
+expression_fault _ = None
+
+-- a command is refused for such a fault, or for want of memory, and for nothing else
+abbrev pub IsUnparsed : Fault → {T : Type 0} → Result T Fault → Type 0
+IsUnparsed f r = MatchResult r (λ v. ⊥) (λ e. e ≢ OutOfMemory → e ≡ f)
 
 -- the bytes are those that `history` prints of what a file and a journal hold; of other commands nothing is said
 abbrev pub IsListing : Command → Option (List ℕ) → Option (List ℕ) → List ℕ → Type 0

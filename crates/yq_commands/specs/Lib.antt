@@ -5,5 +5,6 @@ pub mod CommandSteps
 pub mod Editing
 pub mod Edits
 pub mod Evaluation
+pub mod FileEdits
 pub mod Prints
 pub mod Reads

@@ -1,5 +1,5 @@
 //! Edits of a file beside its journal.
-ghost use Rattle.std.specs.Prelude.{◌≡◌, ◌≢◌, Some, Ok, IfOk, IfErr, IsTrue, IsNone, false, length};
+ghost use Rattle.std.specs.Prelude.{◌≡◌, ◌≢◌, Some, Ok, IfOk, OnOk, IfErr, IsTrue, IsNone, false, length};
 ghost use Rattle.yq_program.specs.View.{program_of};
 ghost use Rattle.yq_journal.specs.History.{History};
 ghost use Rattle.yq_script.specs.Splice.{Splice, all_done, lengths_done};
@@ -8,6 +8,7 @@ ghost use Rattle.yq_program.specs.Program as spec;
 ghost use Rattle.yq_commands.specs.Editing.{edited, edits};
 ghost use Rattle.yq_commands.specs.Edits.{edit_record};
 ghost use Rattle.yq_commands.specs.CommandEffects.{edit_effect};
+ghost use Rattle.yq_commands.specs.FileEdits.{HoldsEdited};
 ghost use Rattle.yq_history.specs.Effects.{Works};
 ghost use Rattle.yq_history.specs.Faults.{is_outside, is_output, counted};
 ghost use Rattle.yq_history.specs.Pair.{Arrives, OthersStay, Rest};
@@ -55,6 +56,7 @@ fn commit<D: Store>(
     ensures arrives { IsTrue D.keeps → file.now ≢ name.now → (h : History) → (p : spec.Program) → Rest (D.content store.old) file.now name.now journal.old old.now h →
         edits p old.now ≡ edited new.now splices.items →
         Arrives (D.content store.new) file.now name.now (update_cause (Ok p) (Some h)) (Some h) (update_next expr.now (Ok p) (Some h)) result }
+    ensures text { IsTrue D.keeps → file.now ≢ name.now → OnOk result (map.get (D.content store.new) file.now ≡ Some new.now) }
     ensures effect { IsTrue D.keeps → file.now ≢ name.now → (p : spec.Program) → edits p old.now ≡ edited new.now splices.items →
         Works (edit_effect expr.now (edits p old.now) old.now journal.old) file.now name.now (D.content store.old) (D.content store.new) result }
     ensures kept { IsTrue D.keeps → IfErr result (λ e. is_outside e ≡ false → D.content store.new ≡ D.content store.old) }
@@ -92,6 +94,8 @@ pub fn edit_from<D: Store>(
         (update_next expr.now (Ok (program_of program.now)) (Some h)) result }
     ensures effect { IsTrue D.keeps → file.now ≢ name.now →
         Works (edit_effect expr.now (edits (program_of program.now) text.now) text.now journal.old) file.now name.now (D.content store.old) (D.content store.new) result }
+    ensures edited { IsTrue D.keeps → file.now ≢ name.now → map.get (D.content store.old) file.now ≡ Some text.now →
+        OnOk result (HoldsEdited (program_of program.now) text.now (map.get (D.content store.new) file.now)) }
     ensures kept { IsTrue D.keeps → IfErr result (λ e. is_outside e ≡ false → D.content store.new ≡ D.content store.old) }
     ensures others { IsTrue D.keeps → OthersStay (D.content store.old) (D.content store.new) file.now name.now }
     ensures quiet { IfErr result (λ e. is_output e ≡ false) }

@@ -7,14 +7,13 @@ ghost use Rattle.yq_script.specs.Splice.{all_done, lengths_done};
 ghost use Rattle.yq_documents.specs.Reading.{read_at};
 ghost use Rattle.yq_history.specs.Causes.{IsUnreadable};
 ghost use Rattle.yq_commands.specs.Editing.{Refuses, edited, edits, program_in};
+ghost use Rattle.yq_commands.specs.FileEdits.{IsTextEdited};
 ghost use Rattle.yq_history.specs.Faults.{is_failure, is_output};
 
 use crate::faults::{edit_fault, parse_fault};
 use std::alloc::Global;
 use yq_expr::{Program, parse_expr};
 use yq_history::Fault;
-use yq_scalar::characters::TEXT_LIMIT;
-use yq_scalar::{FaultKind, ReadFault};
 use yq_splice::{Edited, edit};
 use yq_tree::text_of;
 
@@ -29,8 +28,7 @@ pub fn parse(alloc: Global, expr: &str) -> Result<Program, Fault>
     parse_expr(alloc, expr).map_err(parse_fault)
 }
 
-/// The text of a file's bytes. More bytes than a text may have are refused first, whatever they are,
-/// since of a longer file not all need be known.
+/// The text of a file's bytes, which are refused where they are no UTF-8, however many they are.
 pub fn given_text(bytes: &[u8]) -> Result<&str, Fault>
     ensures ok { IfOk result (λ s. s.now ≡ bytes.now) }
     ensures utf8 { IfOk result (λ s. is_utf8 bytes.now ≡ true) }
@@ -39,12 +37,6 @@ pub fn given_text(bytes: &[u8]) -> Result<&str, Fault>
     ensures inside { IfErr result (λ e. is_failure e ≡ false) }
     ensures quiet { IfErr result (λ e. is_output e ≡ false) }
 {
-    if bytes.len() > TEXT_LIMIT {
-        return Err(Fault::Unreadable(ReadFault {
-            kind: FaultKind::TooLarge,
-            line: 1,
-        }));
-    }
     Ok(text_of(bytes)?)
 }
 
@@ -54,6 +46,7 @@ pub fn edit_text(alloc: Global, program: &Program, text: &[u8]) -> Result<Edited
     ensures ok { IfOk result (λ e. edits (program_of program.now) text.now ≡ edited (string_bytes e.text) e.splices.items) }
     ensures splices { IfOk result (λ e. all_done e.splices.items text.now ≡ Some (string_bytes e.text)) }
     ensures lengths { IfOk result (λ e. lengths_done e.splices.items (length text.now) ≡ Some (length (string_bytes e.text))) }
+    ensures edited { IfOk result (λ e. IsTextEdited (program_of program.now) text.now (string_bytes e.text)) }
     ensures err { IfErr result (λ e. e ≢ Fault.OutOfMemory → Refuses (edits (program_of program.now) text.now) e) }
     ensures inside { IfErr result (λ e. is_failure e ≡ false) }
     ensures quiet { IfErr result (λ e. is_output e ≡ false) }

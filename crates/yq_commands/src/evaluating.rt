@@ -1,11 +1,15 @@
 //! Expressions that aren't carried out in place: what they show of a file.
-ghost use Rattle.std.specs.Prelude.{◌≡◌, ◌≢◌, Ok, ℕ, Bool, List, Option, IfErr, IfOk, OnOk, IsTrue, true, false};
+ghost use Rattle.std.specs.Prelude.{◌≡◌, ◌≢◌, Ok, ℕ, Bool, List, Option, Some, IfErr, IfOk, OnOk, IsTrue, true, false};
+ghost use Rattle.std.specs.FinMap as map;
+ghost use Rattle.std.specs.String.{string_bytes};
 ghost use Rattle.yq_program.specs.Program.{is_read};
 ghost use Rattle.yq_program.specs.View.{program_of};
 ghost use Rattle.yq_journal.specs.History.{History};
 ghost use Rattle.yq_history.specs.Causes.{IsFor};
+ghost use Rattle.yq_commands.specs.CommandEffects.{IsUnparsed, fault_of};
 ghost use Rattle.yq_commands.specs.Editing.{program_in};
 ghost use Rattle.yq_commands.specs.Evaluation.{cause_in, evaluated, of_file, shown_in, shows};
+ghost use Rattle.yq_commands.specs.FileEdits.{IsTextEdited, PrintsEdited};
 ghost use Rattle.yq_history.specs.Faults.{is_failure, is_output, counted};
 ghost use Rattle.yq_history.specs.Pair.{Arrives, GoodIn};
 ghost use Rattle.yq_history.specs.Shown.{shown_by};
@@ -46,6 +50,7 @@ fn show_read(
 /// What an update shows of a text: the edited one.
 fn show_edit(alloc: Global, program: &Program, text: &[u8]) -> Result<Shown, Fault>
     requires { is_read (program_of program.now) ≡ false }
+    ensures edited { IfOk result (λ s. IsTextEdited (program_of program.now) text.now (string_bytes s.text)) }
     ensures ok { (exit_status no_doc : Bool) → IfOk result (λ s. shows exit_status no_doc (program_of program.now) text.now ≡ Ok (shown_by s)) }
     ensures err { (exit_status no_doc : Bool) → IfErr result (λ e. e ≢ Fault.OutOfMemory → IsFor (cause_in (shows exit_status no_doc (program_of program.now) text.now)) e) }
     ensures inside { IfErr result (λ e. is_failure e ≡ false) }
@@ -66,6 +71,7 @@ fn show(
     exit_status: bool,
     no_doc: bool,
 ) -> Result<Shown, Fault>
+    ensures edited { is_read (program_of program.now) ≡ false → IfOk result (λ s. IsTextEdited (program_of program.now) text.now (string_bytes s.text)) }
     ensures ok { IfOk result (λ s. shows exit_status no_doc (program_of program.now) text.now ≡ Ok (shown_by s)) }
     ensures err { IfErr result (λ e. e ≢ Fault.OutOfMemory → IsFor (cause_in (shows exit_status no_doc (program_of program.now) text.now)) e) }
     ensures inside { IfErr result (λ e. is_failure e ≡ false) }
@@ -92,6 +98,8 @@ fn evaluate_program<D: Store>(
         Arrives (D.content store.new) file.now name (cause_in (of_file (shows exit_status no_doc (program_of program.now)) h)) h h result }
     ensures output { IsTrue D.keeps → (name : List ℕ) → (h : Option History) → GoodIn (D.content store.old) file.now name h →
         OnOk result (shown_by shown.new ≡ shown_in (of_file (shows exit_status no_doc (program_of program.now)) h)) }
+    ensures edited { IsTrue D.keeps → is_read (program_of program.now) ≡ false → OnOk result ((text : List ℕ) ×
+        (map.get (D.content store.old) file.now ≡ Some text) × IsTextEdited (program_of program.now) text (string_bytes shown.new.text)) }
     ensures same { IsTrue D.keeps → D.content store.new ≡ D.content store.old }
     ensures quiet { IfErr result (λ e. is_output e ≡ false) }
     ensures count { D.failures store.new ≡ counted result (D.failures store.old) }
@@ -116,6 +124,8 @@ pub fn evaluate<D: Store>(
         Arrives (D.content store.new) file.now name (cause_in (evaluated exit_status no_doc (program_in expr.now) h)) h h result }
     ensures output { IsTrue D.keeps → (name : List ℕ) → (h : Option History) → GoodIn (D.content store.old) file.now name h →
         OnOk result (shown_by shown.new ≡ shown_in (evaluated exit_status no_doc (program_in expr.now) h)) }
+    ensures edited { IsTrue D.keeps → OnOk result (PrintsEdited expr.now (map.get (D.content store.old) file.now) (string_bytes shown.new.text)) }
+    ensures unparsed { (f : Fault) → fault_of (program_in expr.now) ≡ Some f → IsUnparsed f result }
     ensures same { IsTrue D.keeps → D.content store.new ≡ D.content store.old }
     ensures quiet { IfErr result (λ e. is_output e ≡ false) }
     ensures count { D.failures store.new ≡ counted result (D.failures store.old) }

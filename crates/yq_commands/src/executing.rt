@@ -1,11 +1,12 @@
 //! One command, carried out over a store.
-ghost use Rattle.std.specs.Prelude.{◌≡◌, ◌≢◌, ℕ, List, Option, IfErr, OnOk, IsTrue, true, false};
+ghost use Rattle.std.specs.Prelude.{◌≡◌, ◌≢◌, ℕ, List, Option, Some, IfErr, OnOk, IsTrue, true, false};
 ghost use Rattle.std.specs.FinMap as map;
 ghost use Rattle.std.specs.String.{string_bytes};
 ghost use Rattle.yq_journal.specs.History.{History};
 ghost use Rattle.yq_commands.specs.CommandNames.{IsOn, IsStranger};
 ghost use Rattle.yq_commands.specs.Editing.{program_in};
-ghost use Rattle.yq_commands.specs.CommandEffects.{IsListing, OfEffect, update_effect};
+ghost use Rattle.yq_commands.specs.CommandEffects.{IsListing, IsUnparsed, OfEffect, expression_fault, fault_of, update_effect};
+ghost use Rattle.yq_commands.specs.FileEdits.{HasEdited, IsFileEdited};
 ghost use Rattle.yq_history.specs.Effects.{Works};
 ghost use Rattle.yq_history.specs.Faults.{is_outside, is_output, counted};
 ghost use Rattle.yq_history.specs.Pair.{Arrives, GoodIn, OthersStay};
@@ -34,6 +35,9 @@ fn update<D: Store>(
         Arrives (D.content store.new) file.now name.now (update_cause (program_in expr.now) h) h (update_next expr.now (program_in expr.now) h) result }
     ensures effect { IsTrue D.keeps → file.now ≢ name.now →
         Works (update_effect expr.now (program_in expr.now) (map.get (D.content store.old) file.now) (map.get (D.content store.old) name.now)) file.now name.now (D.content store.old) (D.content store.new) result }
+    ensures edited { IsTrue D.keeps → file.now ≢ name.now →
+        OnOk result (IsFileEdited expr.now (map.get (D.content store.old) file.now) (map.get (D.content store.new) file.now)) }
+    ensures unparsed { (f : Fault) → fault_of (program_in expr.now) ≡ Some f → IsUnparsed f result }
     ensures kept { IsTrue D.keeps → IfErr result (λ e. is_outside e ≡ false → D.content store.new ≡ D.content store.old) }
     ensures others { IsTrue D.keeps → OthersStay (D.content store.old) (D.content store.new) file.now name.now }
     ensures quiet { IfErr result (λ e. is_output e ≡ false) }
@@ -71,6 +75,8 @@ pub fn execute<D: Store>(
         OnOk result (shown_by shown.new ≡ shown_of command.now h) }
     ensures listed { IsTrue D.keeps → (file name : List ℕ) → IsOn file name command.now →
         OnOk result (IsListing command.now (map.get (D.content store.old) file) (map.get (D.content store.old) name) (string_bytes shown.new.text)) }
+    ensures edited { IsTrue D.keeps → OnOk result (HasEdited command.now (D.content store.old) (D.content store.new) (string_bytes shown.new.text)) }
+    ensures unparsed { (f : Fault) → expression_fault command.now ≡ Some f → IsUnparsed f result }
     ensures silent { prints command.now ≡ false → shown_by shown.new ≡ nothing }
     ensures matched { reads_journal command.now ≡ true → shown.new.is_match ≡ true }
     ensures still { IsTrue D.keeps → prints command.now ≡ true → D.content store.new ≡ D.content store.old }

@@ -1,5 +1,5 @@
 -- The effects of commands, from the contracts of the calls of which they are made.
-use Rattle.std.proofs.Common.{◌≡◌, ◌⊎◌, inl, inr, ℕ, Bool, true, false, ◌==◌, List, [], Option, Some, None, Result, Ok, Err, OnOk, IfErr, IsTrue, MatchBool, if◌then◌else◌, sym, ap, ◌∙◌, subst, refl}
+use Rattle.std.proofs.Common.{◌≡◌, ◌⊎◌, inl, inr, ℕ, Bool, true, false, ◌==◌, List, [], Option, Some, None, Result, Ok, Err, OnOk, OnErr, IfErr, IsTrue, MatchBool, if◌then◌else◌, sym, ap, ◌∙◌, subst, refl}
 use Rattle.std.specs.Option.{option_or}
 use Rattle.std.proofs.lemmas.Option.{same_Some, none-some}
 use Rattle.std.specs.FinMap.{get}
@@ -8,23 +8,23 @@ use Rattle.yq_journal.specs.declared.fault.JournalError.TheVariants as error
 use Rattle.yq_journal.specs.declared.fault.JournalFault.{JournalFault}
 use Rattle.yq_journal.specs.declared.fault.JournalFault.TheVariants as journal
 use Rattle.yq_journal.specs.declared.moves.Move.{Move}
-use Rattle.yq_journal.specs.declared.moves.Move.TheVariants as move
 use Rattle.yq_journal.specs.Good.{journal_beside}
 use Rattle.yq_journal.specs.Record.{Record}
 use Rattle.yq_journal.specs.Refusals.{Names, Tells, no_way, if_moves, way_fault, squash_fault}
-use Rattle.yq_journal.specs.State.{State, moved, moved_text, settled, squashed}
+use Rattle.yq_journal.specs.State.{State, moved, moved_text, opened, settled, squashed}
 use Rattle.yq_history.specs.declared.fault.Fault.{Fault}
 use Rattle.yq_history.specs.declared.fault.Fault.TheVariants as fault
 use Rattle.yq_store.specs.declared.store.FileReadError.{FileReadError}
 use Rattle.yq_store.specs.declared.store.FileReadError.TheVariants as read
 use Rattle.yq_history.specs.declared.walk.Walk.{Walk}
 use Rattle.yq_store.specs.Content.{Content}
-use Rattle.yq_history.specs.Effects.{Effect, refuses, writes_nothing, leaves, from_pair, from_journal, from_settled, leads_to, goes_to, walk_effect, joins_to, squash_effect, Works}
+use Rattle.yq_history.specs.Effects.{Effect, refuses, writes_nothing, leaves, from_pair, from_journal, from_settled, leads_to, goes_to, walk_effect, joins_to, squash_effect, IsCutShort, Works}
 use Rattle.yq_history.specs.Faults.{is_outside, of_fault, of_journal, of_read}
 use Rattle.yq_history.specs.Pair.{IsJournal}
 use Rattle.yq_history.specs.Causes.{IsFor, named}
 use Rattle.yq_history.specs.Walks.{step_of}
-use Rattle.yq_history.proofs.MoveLaws.{IsMove, fault_outside, no_way_free}
+use Rattle.yq_history.proofs.MoveLaws.{IsMove, either, fault_outside, no_way_free, on_err_map}
+use Rattle.yq_history.proofs.CutLaws.{cut_unwritten, cut_settled}
 
 pub on_ok : {T E P : Type 0} (r : Result T E) → P → OnOk r P
 on_ok (Ok v) p = p
@@ -34,7 +34,7 @@ on_ok (Err e) p = tt
 pub works_outside : (T : Type 0) (x : Effect) (f j : List ℕ) (c : Content) (e : Fault) → is_outside e ≡ true → Works x f j c c {T = T} (Err e)
 works_outside T (refuses x) f j c e out = (subst (λ b. MatchBool b (Unit {0}) (IsFor (Some x) e)) (sym out) tt, refl)
 works_outside T (writes_nothing o) f j c e out = (out, refl)
-works_outside T (leaves u s) f j c e out = out
+works_outside T (leaves u started s) f j c e out = (out, inl (refl, inl refl))
 
 -- refused for its cause
 pub works_refused : (T : Type 0) (x : Effect) (f j : List ℕ) (c : Content) (e : Fault) → x ≡ refuses (named e) → Works x f j c c {T = T} (Err e)
@@ -42,28 +42,45 @@ works_refused T x f j c e is =
     subst (λ y. Works y f j c c {T = T} (Err e)) (sym is)
     (elim (is_outside e) as (λ b. MatchBool b (Unit {0}) (e ≡ e)) [ true ↦ tt | false ↦ refl ], refl)
 
-left : (f j u : List ℕ) (z : State) (c d : Content) {T : Type 0} (r : Result T Fault) → OnOk r (get d f ≡ Some u) → OnOk r (IsJournal (get d j) z) → IfErr r (λ e. IsTrue (is_outside e)) → Works (leaves u z) f j c d r
-left f j u z c d (Ok v) text journal out = (text, journal)
-left f j u z c d (Err e) text journal out = out
+-- What is known where an effect came about or was cut short.
+pub record IsLeft {T : Type 0} (u : List ℕ) (started z : State) (f j : List ℕ) (c d : Content) (r : Result T Fault) : Type 0 where
+  pub text : OnOk r (get d f ≡ Some u)
+  pub journal : OnOk r (IsJournal (get d j) z)
+  pub outside : IfErr r (λ e. IsTrue (is_outside e))
+  pub cut : OnErr r (IsCutShort u started z f j c d)
+
+left : (u : List ℕ) (started z : State) (f j : List ℕ) (c d : Content) {T : Type 0} (r : Result T Fault) → IsLeft u started z f j c d r → Works (leaves u started z) f j c d r
+left u started z f j c d (Ok v) k = (k.text, k.journal)
+left u started z f j c d (Err e) k = (k.outside, k.cut)
 
 -- carried out, or cut short
-pub works_leaves : (x : Effect) (f j u : List ℕ) (z : State) (c d : Content) {T : Type 0} (r : Result T Fault) →
-    x ≡ leaves u z → OnOk r (get d f ≡ Some u) → OnOk r (IsJournal (get d j) z) → IfErr r (λ e. IsTrue (is_outside e)) → Works x f j c d r
-works_leaves x f j u z c d r is text journal out = subst (λ y. Works y f j c d r) (sym is) (left f j u z c d r text journal out)
+pub works_leaves : (x : Effect) (u : List ℕ) (started z : State) (f j : List ℕ) (c d : Content) {T : Type 0} (r : Result T Fault) →
+    x ≡ leaves u started z → IsLeft u started z f j c d r → Works x f j c d r
+works_leaves x u started z f j c d r is k = subst (λ y. Works y f j c d r) (sym is) (left u started z f j c d r k)
+
+-- the journal alone was written, or nothing was
+journal_left : (f j : List ℕ) (c d : Content) (t : List ℕ) (started z : State) {T : Type 0} (r : Result T Fault) → get c f ≡ Some t → get d f ≡ get c f →
+    OnOk r (IsJournal (get d j) z) → OnErr r ((d ≡ c) ⊎ IsJournal (get d j) z) → IfErr r (λ e. IsTrue (is_outside e)) → IsLeft t started z f j c d r
+journal_left f j c d t started z r there same journal cut out = record {
+  text = on_ok r (same ∙ there);
+  journal = journal;
+  outside = out;
+  cut = on_err_map r cut (λ x. either x (cut_unwritten f j t started z c d) (cut_settled f j t started z c d (same ∙ there)));
+}
 
 -- ---- moves
 
 -- a move that stands leads to its text
-pub way_free : (records : List Record) (at : ℕ) (step : Move) (t u : List ℕ) (z : State) →
-    way_fault records at step t ≡ None → moved_text records at step t ≡ Some u → goes_to (no_way records at step) (moved_text records at step t) z ≡ leaves u z
-way_free records at step t u z free is =
-    ap (λ o. goes_to o (moved_text records at step t) z) (no_way_free records at step t free) ∙ ap (λ o. leads_to o z) is
+pub way_free : (records : List Record) (at : ℕ) (step : Move) (t u : List ℕ) (started z : State) →
+    way_fault records at step t ≡ None → moved_text records at step t ≡ Some u → goes_to (no_way records at step) (moved_text records at step t) started z ≡ leaves u started z
+way_free records at step t u started z free is =
+    ap (λ o. goes_to o (moved_text records at step t) started z) (no_way_free records at step t free) ∙ ap (λ o. leads_to o started z) is
 
 -- and one that doesn't is refused for the first cause
-pub way_barred : (records : List Record) (at : ℕ) (step : Move) (t : List ℕ) (z : State) (y : JournalFault) →
-    way_fault records at step t ≡ Some y → goes_to (no_way records at step) (moved_text records at step t) z ≡ refuses (named (of_fault y))
-way_barred records at step t z y is = elim (no_way records at step) as (λ o. option_or o (if_moves (moved_text records at step t)) ≡ Some y → goes_to o (moved_text records at step t) z ≡ refuses (named (of_fault y))) [
-  | None ↦ λ e. elim (moved_text records at step t) as (λ o. if_moves o ≡ Some y → leads_to o z ≡ refuses (named (of_fault y))) [
+pub way_barred : (records : List Record) (at : ℕ) (step : Move) (t : List ℕ) (started z : State) (y : JournalFault) →
+    way_fault records at step t ≡ Some y → goes_to (no_way records at step) (moved_text records at step t) started z ≡ refuses (named (of_fault y))
+way_barred records at step t started z y is = elim (no_way records at step) as (λ o. option_or o (if_moves (moved_text records at step t)) ≡ Some y → goes_to o (moved_text records at step t) started z ≡ refuses (named (of_fault y))) [
+  | None ↦ λ e. elim (moved_text records at step t) as (λ o. if_moves o ≡ Some y → leads_to o started z ≡ refuses (named (of_fault y))) [
     | None ↦ λ p. ap (λ x. refuses (named (of_fault x))) (same_Some journal.DoesNotStand y p)
     | Some u ↦ λ p. absurd (none-some y p)
   ] e
@@ -72,7 +89,7 @@ way_barred records at step t z y is = elim (no_way records at step) as (λ o. op
 
 named_walk : (T : Type 0) (f j : List ℕ) (c : Content) (s : State) (t : List ℕ) (step : Move) (x : JournalError) → Names x (way_fault s.records s.at step t) → Works (walk_effect step t s) f j c c {T = T} (Err (of_journal x))
 named_walk T f j c s t step error.Memory names = works_outside T (walk_effect step t s) f j c fault.OutOfMemory refl
-named_walk T f j c s t step (error.Fault y) names = works_refused T (walk_effect step t s) f j c (of_fault y) (way_barred s.records s.at step t (moved s step) y names)
+named_walk T f j c s t step (error.Fault y) names = works_refused T (walk_effect step t s) f j c (of_fault y) (way_barred s.records s.at step t (opened s step t) (moved s step) y names)
 
 -- an undo or a redo that the journal refused
 pub walk_refused : (f j : List ℕ) (c : Content) (s : State) (t : List ℕ) (w : Walk) (step : Move) {T : Type 0} (r : Result T Fault) (e : Fault) (x : JournalError) →
@@ -83,17 +100,19 @@ walk_refused f j c s t w step {T = T} r e x is err of names =
 
 -- one that leaves the text equal: the journal alone was written
 pub walk_equal : (f j : List ℕ) (c d : Content) (s : State) (t : List ℕ) (step : Move) {T : Type 0} (r : Result T Fault) →
-    get c f ≡ Some t → get d f ≡ get c f → walk_effect step t s ≡ leaves t (moved s step) →
-    OnOk r (IsJournal (get d j) (moved s step)) → IfErr r (λ e. IsTrue (is_outside e)) → Works (walk_effect step t s) f j c d r
-walk_equal f j c d s t step r there same is journal out =
-    works_leaves (walk_effect step t s) f j t (moved s step) c d r is (on_ok r (same ∙ there)) journal out
+    get c f ≡ Some t → get d f ≡ get c f → walk_effect step t s ≡ leaves t (opened s step t) (moved s step) →
+    OnOk r (IsJournal (get d j) (moved s step)) → OnErr r ((d ≡ c) ⊎ IsJournal (get d j) (moved s step)) → IfErr r (λ e. IsTrue (is_outside e)) → Works (walk_effect step t s) f j c d r
+walk_equal f j c d s t step r there same is journal cut out =
+    works_leaves (walk_effect step t s) t (opened s step t) (moved s step) f j c d r is
+    (journal_left f j c d t (opened s step t) (moved s step) r there same journal cut out)
 
 -- a move in three writes
 pub works_carried : (f j : List ℕ) (c d : Content) (s : State) (t u : List ℕ) (step : Move) {T : Type 0} (r : Result T Fault) → IsMove c d f j s t u step r → Works (walk_effect step t s) f j c d r
 works_carried f j c d s t u step {T = T} r m =
-    elim (no_way s.records s.at step) as (λ o. no_way s.records s.at step ≡ o → Works (goes_to o (moved_text s.records s.at step t) (moved s step)) f j c d r) [
-      | None ↦ λ is. works_leaves (leads_to (moved_text s.records s.at step t) (moved s step)) f j u (moved s step) c d r
-          (ap (λ o. leads_to o (moved s step)) m.leads) m.text m.beside (fault_outside r (no_way s.records s.at step) is m.fault)
+    elim (no_way s.records s.at step) as (λ o. no_way s.records s.at step ≡ o → Works (goes_to o (moved_text s.records s.at step t) (opened s step t) (moved s step)) f j c d r) [
+      | None ↦ λ is. works_leaves (leads_to (moved_text s.records s.at step t) (opened s step t) (moved s step)) u (opened s step t) (moved s step) f j c d r
+          (ap (λ o. leads_to o (opened s step t) (moved s step)) m.leads)
+          (record { text = m.text; journal = m.beside; outside = fault_outside r (no_way s.records s.at step) is m.fault; cut = m.cut })
       | Some y ↦ λ is.
           subst (λ x. Works (refuses (named (of_fault y))) f j c x r) (sym (m.barred (λ none. none-some y (sym none ∙ is))))
           (subst (Works (refuses (named (of_fault y))) f j c c) (sym (m.refused y is)) (works_refused T (refuses (named (of_fault y))) f j c (of_fault y) refl))
@@ -136,8 +155,8 @@ module _ (file beside : Option (List ℕ)) where
       unsettled e x is (inr p) = subst Refused (sym (is ∙ ap of_journal p.0)) (λ no go. settling go ∙ ap (λ o. from_settled o t go) p.1)
 
       -- both were read, and settled
-      pub opened : (r : State) → settled s t ≡ Some r → (go : List ℕ → State → Effect) → from_pair file beside go ≡ go t r
-      opened r is go = settling go ∙ ap (λ o. from_settled o t go) is
+      pub settles : (r : State) → settled s t ≡ Some r → (go : List ℕ → State → Effect) → from_pair file beside go ≡ go t r
+      settles r is go = settling go ∙ ap (λ o. from_settled o t go) is
 
 -- ---- commands
 
@@ -169,8 +188,8 @@ module _ (f j : List ℕ) (c : Content) (s : State) (t : List ℕ) (n : ℕ) whe
   pub squash_not_done : {T : Type 0} (r : Result T Fault) (e : Fault) (x : JournalError) → r ≡ Err e → e ≡ of_journal x → Tells x (squash_fault s n) → Works (squash_effect n t s) f j c c r
   squash_not_done {T = T} r e x is of tells = subst (Works (squash_effect n t s) f j c c) (sym (is ∙ ap Err of)) (joined_by T x tells)
 
-  by_count : (b : Bool) → (n == 1) ≡ b → squash_fault s n ≡ None → squash_effect n t s ≡ (if b then writes_nothing [] else leaves t (squashed s n))
-  by_count b is free = ap (λ o. joins_to o n t (squashed s n)) free ∙ ap (λ x. if x then writes_nothing [] else leaves t (squashed s n)) is
+  by_count : (b : Bool) → (n == 1) ≡ b → squash_fault s n ≡ None → squash_effect n t s ≡ (if b then writes_nothing [] else leaves t (squashed s n) (squashed s n))
+  by_count b is free = ap (λ o. joins_to o n t (squashed s n)) free ∙ ap (λ x. if x then writes_nothing [] else leaves t (squashed s n) (squashed s n)) is
 
   -- of one edit nothing is written
   pub squash_one_works : {T : Type 0} (v : T) → (n == 1) ≡ true → squash_fault s n ≡ None → Works (squash_effect n t s) f j c c {T = T} (Ok v)
@@ -178,8 +197,10 @@ module _ (f j : List ℕ) (c : Content) (s : State) (t : List ℕ) (n : ℕ) whe
 
   -- of others the journal alone
   pub squash_works : (d : Content) {T : Type 0} (r : Result T Fault) → (n == 1) ≡ false → squash_fault s n ≡ None → get c f ≡ Some t → get d f ≡ get c f →
-      OnOk r (IsJournal (get d j) (squashed s n)) → IfErr r (λ e. IsTrue (is_outside e)) → Works (squash_effect n t s) f j c d r
-  squash_works d r some free there same journal out = works_leaves (squash_effect n t s) f j t (squashed s n) c d r (by_count false some free) (on_ok r (same ∙ there)) journal out
+      OnOk r (IsJournal (get d j) (squashed s n)) → OnErr r ((d ≡ c) ⊎ IsJournal (get d j) (squashed s n)) → IfErr r (λ e. IsTrue (is_outside e)) → Works (squash_effect n t s) f j c d r
+  squash_works d r some free there same journal cut out =
+      works_leaves (squash_effect n t s) t (squashed s n) (squashed s n) f j c d r (by_count false some free)
+      (journal_left f j c d t (squashed s n) (squashed s n) r there same journal cut out)
 
 -- ---- listings
 

@@ -1,3 +1,4 @@
+pub mod CutLaws
 pub mod EffectLaws
 pub mod MoveLaws
 pub mod PairLaws

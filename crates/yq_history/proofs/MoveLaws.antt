@@ -22,6 +22,7 @@ use Rattle.yq_journal.proofs.HistoryLaws.{move_moves}
 use Rattle.yq_history.specs.declared.fault.Fault.{Fault}
 use Rattle.yq_history.specs.Causes.{Cause, IsFor, named}
 use Rattle.yq_store.specs.Content.{Content, get_written, get_other}
+use Rattle.yq_history.specs.Effects.{IsCutShort}
 use Rattle.yq_history.specs.Faults.{is_outside, of_fault, of_journal}
 use Rattle.yq_history.specs.Pair.{Arrives, GoodIn, IsJournal, Rest, Stands, Writes}
 use Rattle.yq_history.specs.Steps.{walk_cause, walk_next, unless_fault}
@@ -167,6 +168,7 @@ pub record IsMove {T : Type 0} (c d : Content) (f j : List ℕ) (s : State) (t u
   pub err : (h : History) → Rest c f j s t h → OnErr r (Stands d f j h ⊎ Stands d f j (after_move h step u))
   pub text : OnOk r (get d f ≡ Some u)
   pub beside : OnOk r (IsJournal (get d j) (moved s step))
+  pub cut : OnErr r (IsCutShort u (opened s step t) (moved s step) f j c d)
   pub fault : IfErr r (λ e. is_outside e ≡ false → option_map of_fault (no_way s.records s.at step) ≡ Some e)
   pub refused : (y : JournalFault) → no_way s.records s.at step ≡ Some y → r ≡ Err (of_fault y)
   pub barred : no_way s.records s.at step ≢ None → d ≡ c

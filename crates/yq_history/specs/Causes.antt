@@ -1,7 +1,6 @@
 -- Why a command is refused (own).
-use Rattle.std.specs.Prelude.{◌≡◌, ◌↔◌, ◌&&◌, ℕ, Bool, true, not, List, length, nat_le, Option, Some, None}
+use Rattle.std.specs.Prelude.{◌≡◌, ◌↔◌, ℕ, false, List, Option, Some, None}
 use Rattle.std.specs.Str.{is_utf8}
-use Rattle.yq_scalar.specs.Characters.{text_limit}
 use Rattle.yq_scalar.specs.declared.fault.FaultKind.TheVariants.{NotUtf8}
 use Rattle.yq_history.specs.declared.fault.Fault.{Fault}
 use Rattle.yq_history.specs.declared.fault.Fault.TheVariants.{Unreadable}
@@ -11,13 +10,10 @@ pub data Cause : Type 0 where
   named : Fault → Cause
   no_reading : List ℕ → Cause
 
--- bytes that aren't too many for a text and are no UTF-8 (YAML 1.2.2, section 5.2)
-abbrev pub is_no_utf8 : List ℕ → Bool
-is_no_utf8 bytes = nat_le (length bytes) text_limit && not (is_utf8 bytes)
-
--- the fault tells that bytes have no reading, and that they are no UTF-8 exactly where that is so; which other fault of reading it is, is left open
+-- the fault tells that bytes have no reading, and that they are no UTF-8 exactly where that is so, however many they are (YAML 1.2.2, section 5.2);
+-- which other fault of reading it is, is left open
 abbrev pub IsUnreadable : List ℕ → Fault → Type 0
-IsUnreadable bytes (Unreadable f) = (f.kind ≡ NotUtf8) ↔ (is_no_utf8 bytes ≡ true)
+IsUnreadable bytes (Unreadable f) = (f.kind ≡ NotUtf8) ↔ (is_utf8 bytes ≡ false)
 IsUnreadable bytes _ = ⊥
 
 -- the fault tells the cause

@@ -1,11 +1,11 @@
 -- What is done to a file and its journal, by their bytes as they are, good for a history or not (own).
-use Rattle.std.specs.Prelude.{◌≡◌, ◌==◌, ℕ, List, [], if◌then◌else◌, Option, Some, None, Result, Ok, Err, IsTrue, MatchBool}
+use Rattle.std.specs.Prelude.{◌≡◌, ◌⊎◌, ◌==◌, ℕ, List, [], if◌then◌else◌, Option, Some, None, Result, Ok, Err, IsTrue, MatchBool}
 use Rattle.std.specs.FinMap.{get}
 use Rattle.yq_journal.specs.declared.fault.JournalFault.{JournalFault}
 use Rattle.yq_journal.specs.declared.moves.Move.{Move}
 use Rattle.yq_journal.specs.Good.{journal_beside}
 use Rattle.yq_journal.specs.Refusals.{no_way, squash_fault}
-use Rattle.yq_journal.specs.State.{State, moved, moved_text, settled, squashed}
+use Rattle.yq_journal.specs.State.{State, moved, moved_text, opened, settled, squashed}
 use Rattle.yq_history.specs.declared.fault.Fault.{Fault}
 use Rattle.yq_history.specs.declared.fault.Fault.TheVariants.{NotThere, DoesNotStand, BadJournal, Unsettled}
 use Rattle.yq_store.specs.Content.{Content}
@@ -14,11 +14,12 @@ use Rattle.yq_history.specs.Faults.{is_outside, of_fault}
 use Rattle.yq_history.specs.Listing.{record_lines}
 use Rattle.yq_history.specs.Causes.{Cause, IsFor, named}
 
--- what a command does: it is refused; it writes nothing and prints these bytes; or it leaves this text in the file and this journal beside it, and prints nothing
+-- what a command does: it is refused; it writes nothing and prints these bytes; or it prints nothing, and leaves this text in the file
+-- and the second of these journals beside it, where the first one, in which its move is open, stands until the text does
 pub data Effect : Type 0 where
   refuses : Cause → Effect
   writes_nothing : List ℕ → Effect
-  leaves : List ℕ → State → Effect
+  leaves : List ℕ → State → State → Effect
 
 -- what goes on from a text and its journal, settled beside it; J5 where it can't be settled
 abbrev pub from_settled : Option State → List ℕ → (List ℕ → State → Effect) → Effect
@@ -35,24 +36,24 @@ abbrev pub from_pair : Option (List ℕ) → Option (List ℕ) → (List ℕ →
 from_pair None journal go = refuses (named NotThere)
 from_pair (Some t) journal go = from_journal (journal_beside journal) t go
 
--- what a move does, by the text to which it leads and the journal behind it; J3 where it leads nowhere
-abbrev pub leads_to : Option (List ℕ) → State → Effect
-leads_to None s = refuses (named DoesNotStand)
-leads_to (Some u) s = leaves u s
+-- what a move does, by the text to which it leads, the journal in which it is open, and that behind it; J3 where it leads nowhere
+abbrev pub leads_to : Option (List ℕ) → State → State → Effect
+leads_to None started s = refuses (named DoesNotStand)
+leads_to (Some u) started s = leaves u started s
 
 -- the same, where there may be no way for it: J1, J2 or J6 come first
-abbrev pub goes_to : Option JournalFault → Option (List ℕ) → State → Effect
-goes_to (Some f) u s = refuses (named (of_fault f))
-goes_to None u s = leads_to u s
+abbrev pub goes_to : Option JournalFault → Option (List ℕ) → State → State → Effect
+goes_to (Some f) u started s = refuses (named (of_fault f))
+goes_to None u started s = leads_to u started s
 
 -- what an undo or a redo does to a text and its settled journal
 abbrev pub walk_effect : Move → List ℕ → State → Effect
-walk_effect step t s = goes_to (no_way s.records s.at step) (moved_text s.records s.at step t) (moved s step)
+walk_effect step t s = goes_to (no_way s.records s.at step) (moved_text s.records s.at step t) (opened s step t) (moved s step)
 
--- what a squash does, by its fault: the file stays, and one edit stays as it is
+-- what a squash does, by its fault: the file stays, no move is opened, and one edit stays as it is
 abbrev pub joins_to : Option JournalFault → ℕ → List ℕ → State → Effect
 joins_to (Some f) n t s = refuses (named (of_fault f))
-joins_to None n t s = if n == 1 then writes_nothing [] else leaves t s
+joins_to None n t s = if n == 1 then writes_nothing [] else leaves t s s
 
 -- what a squash of the last n edits does to a text and its settled journal
 abbrev pub squash_effect : ℕ → List ℕ → State → Effect
@@ -67,11 +68,18 @@ abbrev pub printed_by : Effect → List ℕ
 printed_by (writes_nothing o) = o
 printed_by _ = []
 
--- the effect came about; where a call of the store failed or memory was refused, only what writes nothing wrote nothing
+-- what a command leaves that was cut short: the file as it was, and the journal so too or with the move open; or the new text in the file,
+-- and beside it the journal with the move open, or the one behind it
+abbrev pub IsCutShort : List ℕ → State → State → List ℕ → List ℕ → Content → Content → Type 0
+IsCutShort u started s file name old new =
+    ((get new file ≡ get old file) × ((get new name ≡ get old name) ⊎ IsJournal (get new name) started))
+    ⊎ ((get new file ≡ Some u) × (IsJournal (get new name) started ⊎ IsJournal (get new name) s))
+
+-- the effect came about; where a call of the store failed or memory was refused, what writes nothing wrote nothing, and all else was cut short
 abbrev pub Works : Effect → List ℕ → List ℕ → Content → Content → {T : Type 0} → Result T Fault → Type 0
 Works (refuses x) file name old new (Ok v) = ⊥
 Works (refuses x) file name old new (Err e) = MatchBool (is_outside e) (Unit {0}) (IsFor (Some x) e) × (new ≡ old)
 Works (writes_nothing o) file name old new (Ok v) = new ≡ old
 Works (writes_nothing o) file name old new (Err e) = IsTrue (is_outside e) × (new ≡ old)
-Works (leaves u s) file name old new (Ok v) = (get new file ≡ Some u) × IsJournal (get new name) s
-Works (leaves u s) file name old new (Err e) = IsTrue (is_outside e)
+Works (leaves u started s) file name old new (Ok v) = (get new file ≡ Some u) × IsJournal (get new name) s
+Works (leaves u started s) file name old new (Err e) = IsTrue (is_outside e) × IsCutShort u started s file name old new

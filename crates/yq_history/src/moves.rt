@@ -4,9 +4,9 @@ ghost use Rattle.std.specs.FinMap as map;
 ghost use Rattle.yq_journal.specs.Good.{after_move};
 ghost use Rattle.yq_journal.specs.History.{History};
 ghost use Rattle.yq_journal.specs.Refusals.{no_way, way_fault};
-ghost use Rattle.yq_journal.specs.State.{moved, moved_text};
+ghost use Rattle.yq_journal.specs.State.{moved, moved_text, opened};
 ghost use Rattle.yq_journal.specs.declared.fault.JournalFault.{JournalFault};
-ghost use Rattle.yq_history.specs.Effects.{Works, from_pair, walk_effect};
+ghost use Rattle.yq_history.specs.Effects.{IsCutShort, Works, from_pair, walk_effect};
 ghost use Rattle.yq_history.specs.Faults.{is_outside, is_output, counted, of_fault};
 ghost use Rattle.yq_history.specs.Pair.{Arrives, GoodIn, IsJournal, OthersStay, Rest, Stands};
 ghost use Rattle.yq_history.specs.Steps.{walk_cause, walk_next};
@@ -40,6 +40,8 @@ pub fn carry_out<D: Store>(
         OnErr result (Stands (D.content store.new) file.now name.now h ⊎ Stands (D.content store.new) file.now name.now (after_move h step new.now)) }
     ensures text { IsTrue D.keeps → file.now ≢ name.now → OnOk result (map.get (D.content store.new) file.now ≡ Some new.now) }
     ensures moved { IsTrue D.keeps → OnOk result (IsJournal (map.get (D.content store.new) name.now) (moved journal.old step)) }
+    ensures cut { IsTrue D.keeps → file.now ≢ name.now →
+        OnErr result (IsCutShort new.now (opened journal.old step old.now) (moved journal.old step) file.now name.now (D.content store.old) (D.content store.new)) }
     ensures fault { IfErr result (λ e. is_outside e ≡ false → option_map of_fault (no_way journal.old.records journal.old.at step) ≡ Some e) }
     ensures refused { (f : JournalFault) → no_way journal.old.records journal.old.at step ≡ Some f → result ≡ Err (of_fault f) }
     ensures kept { IsTrue D.keeps → IfErr result (λ e. is_outside e ≡ false → D.content store.new ≡ D.content store.old) }
@@ -75,6 +77,8 @@ fn turn<D: Store>(
     ensures err { IsTrue D.keeps → (file : List ℕ) → file ≢ name.now → (h : History) → Rest (D.content store.old) file name.now journal.old text.now h →
         OnErr result (Stands (D.content store.new) file name.now h ⊎ Stands (D.content store.new) file name.now (after_move h (step_of walk) text.now)) }
     ensures moved { IsTrue D.keeps → OnOk result (IsJournal (map.get (D.content store.new) name.now) (moved journal.old (step_of walk))) }
+    ensures cut { IsTrue D.keeps → OnErr result ((D.content store.new ≡ D.content store.old)
+        ⊎ IsJournal (map.get (D.content store.new) name.now) (moved journal.old (step_of walk))) }
     ensures outside { IfErr result (λ e. IsTrue (is_outside e)) }
     ensures others { IsTrue D.keeps → (q : List ℕ) → q ≢ name.now → map.get (D.content store.new) q ≡ map.get (D.content store.old) q }
     ensures quiet { IfErr result (λ e. is_output e ≡ false) }

@@ -10,8 +10,9 @@ use Rattle.yq_journal.specs.declared.moves.Move.TheVariants as move
 use Rattle.yq_journal.specs.Good.{Good, journal_beside}
 use Rattle.yq_journal.specs.History.{History}
 use Rattle.yq_journal.specs.Refusals.{most_records, no_way, squash_fault}
-use Rattle.yq_journal.specs.State.{State, moved, moved_text, settled, squashed}
+use Rattle.yq_journal.specs.State.{State, moved, moved_text, opened, settled, squashed}
 use Rattle.yq_commands.specs.declared.answer.Answer.{Answer}
+use Rattle.yq_commands.specs.declared.answer.Answer.TheVariants.{Done, Refused}
 use Rattle.yq_words.specs.declared.command.Command.{Command}
 use Rattle.yq_words.specs.declared.command.Command.TheVariants.{Eval, Undo, Redo, History as Lists, Squash, Help}
 use Rattle.yq_history.specs.declared.fault.Fault.{Fault}
@@ -20,18 +21,19 @@ use Rattle.yq_history.specs.Causes.{named}
 use Rattle.yq_store.specs.Content.{Content}
 use Rattle.yq_commands.specs.Editing.{EditOutcome, unreadable, refused, edited, edits, program_in}
 use Rattle.yq_history.specs.Effects.{Effect, refuses, writes_nothing, leaves, from_settled, from_journal, from_pair, leads_to, goes_to, walk_effect, joins_to, squash_effect, listing_effect, printed_by, Works}
-use Rattle.yq_commands.specs.CommandEffects.{edit_effect, update_effect, OfEffect, IsListing}
+use Rattle.yq_commands.specs.CommandEffects.{edit_effect, edit_leaves, update_effect, OfEffect, IsListing, IsUnparsed, expression_fault}
+use Rattle.yq_commands.specs.FileEdits.{HasEdited}
 use Rattle.yq_commands.specs.Edits.{edit_record}
 use Rattle.yq_history.specs.Faults.{is_outside, is_output}
 use Rattle.yq_commands.specs.CommandNames.{IsOn, IsStranger}
-use Rattle.yq_lists.specs.Lists.{IsApart, AllOnOrApart, Reply, Told, Goes, Run, TellsEffect, HasEffect, Leaves, Keeps, is_kept}
+use Rattle.yq_lists.specs.Lists.{IsApart, AllOnOrApart, Reply, Told, Goes, Run, TellsEffect, HasEffect, Leaves, Keeps, TellsUnparsed, is_kept}
 use Rattle.yq_history.specs.Pair.{GoodIn, Arrives}
 use Rattle.yq_commands.specs.Prints.{shown_of, prints, reads_journal, answer_by}
 use Rattle.yq_history.specs.Shown.{Shown, nothing}
 use Rattle.yq_commands.specs.CommandSteps.{cause_of, next_of}
 use Rattle.yq_history.proofs.EffectLaws.{on_ok}
 use Rattle.yq_history.proofs.PairLaws.{same_pair}
-use Rattle.yq_lists.proofs.ReplyLaws.{reply, reply-answer, no_refusal}
+use Rattle.yq_lists.proofs.ReplyLaws.{reply, reply-answer, reply-printed, no_refusal}
 use Rattle.yq_lists.proofs.ListLaws.{arrived, not_true}
 
 -- ---- what effects print: of these but a listing nothing
@@ -47,8 +49,8 @@ module _ (file journal : Option (List ℕ)) (go : List ℕ → State → Effect)
   ]
 
 walk_silent : (step : Move) (t : List ℕ) (s : State) → printed_by (walk_effect step t s) ≡ []
-walk_silent step t s = elim (no_way s.records s.at step) as (λ o. printed_by (goes_to o (moved_text s.records s.at step t) (moved s step)) ≡ []) [
-  | None ↦ elim (moved_text s.records s.at step t) as (λ o. printed_by (leads_to o (moved s step)) ≡ []) [ None ↦ refl | Some u ↦ refl ]
+walk_silent step t s = elim (no_way s.records s.at step) as (λ o. printed_by (goes_to o (moved_text s.records s.at step t) (opened s step t) (moved s step)) ≡ []) [
+  | None ↦ elim (moved_text s.records s.at step t) as (λ o. printed_by (leads_to o (opened s step t) (moved s step)) ≡ []) [ None ↦ refl | Some u ↦ refl ]
   | Some y ↦ refl
 ]
 
@@ -58,7 +60,7 @@ if_silent false x y p q = q
 
 squash_silent : (n : ℕ) (t : List ℕ) (s : State) → printed_by (squash_effect n t s) ≡ []
 squash_silent n t s = elim (squash_fault s n) as (λ o. printed_by (joins_to o n t (squashed s n)) ≡ []) [
-  | None ↦ if_silent (n == 1) (writes_nothing []) (leaves t (squashed s n)) refl refl
+  | None ↦ if_silent (n == 1) (writes_nothing []) (leaves t (squashed s n) (squashed s n)) refl refl
   | Some y ↦ refl
 ]
 
@@ -66,7 +68,7 @@ edit_silent : (expr : List ℕ) (o : EditOutcome) (t : List ℕ) (s : State) →
 edit_silent expr (unreadable old) t s = refl
 edit_silent expr (refused f) t s = refl
 edit_silent expr (edited u cs) t s =
-    let left = leaves u (moved s (move.Edit (edit_record expr cs (length t) (length u)))) in
+    let left = edit_leaves (edit_record expr cs (length t) (length u)) t u s in
     let full = refuses (named fault.JournalFull) in
     if_silent (bytes_eq u t) (writes_nothing []) (if nat_le most_records s.at then full else left) refl (if_silent (nat_le most_records s.at) full left refl refl)
 
@@ -91,12 +93,12 @@ shows_effect Help file journal r s silent listed = tt
 tells_done : {T : Type 0} (x : Effect) (f j : List ℕ) (c e : Content) (v : T) → Works x f j c e {T = T} (Ok v) → Works x f j c e {T = Unit {0}} (Ok tt)
 tells_done (refuses y) f j c e v p = absurd p
 tells_done (writes_nothing o) f j c e v p = p
-tells_done (leaves u s) f j c e v p = p
+tells_done (leaves u started s) f j c e v p = p
 
 tells_refused : (T : Type 0) (x : Effect) (f j : List ℕ) (c e : Content) (y : Fault) → Works x f j c e {T = T} (Err y) → Works x f j c e {T = Unit {0}} (Err y)
 tells_refused T (refuses z) f j c e y p = p
 tells_refused T (writes_nothing o) f j c e y p = p
-tells_refused T (leaves u s) f j c e y p = p
+tells_refused T (leaves u started s) f j c e y p = p
 
 module _ (x : Effect) (f j : List ℕ) (c e : Content) where
   -- what an answer tells, with the bytes that are printed if it is one of those that print
@@ -140,12 +142,26 @@ pub record IsDone {T : Type 0} (c e : Content) (cmd : Command) (r : Result T Fau
   pub kept : IfErr r (λ x. is_outside x ≡ false → e ≡ c)
   pub others : (q : List ℕ) → IsStranger q cmd → get e q ≡ get c q
   pub quiet : IfErr r (λ x. is_output x ≡ false)
+  pub edited : OnOk r (HasEdited cmd c e s.printed)
+  pub unparsed : (f : Fault) → expression_fault cmd ≡ Some f → IsUnparsed f r
 
 -- a refusal from inside left the content
 kept_by : {T : Type 0} (c e : Content) (r : Result T Fault) (a : Answer) (s : Shown) → Told r a s → s ≡ nothing → is_kept a ≡ true → IfErr r (λ x. is_outside x ≡ false → e ≡ c) → e ≡ c
 kept_by c e (Ok v) a s (inl is) silent k same = let no : false ≡ true = sym (ap is_kept is ∙ no_refusal s.is_match) ∙ k in cc
 kept_by c e (Ok v) a s (inr is) silent k same = absurd (is.1 (ap (λ (x : Shown). x.printed) silent))
 kept_by c e (Err x) a s is silent k same = same (not_true (is_outside x) (sym (ap is_kept is) ∙ k))
+
+-- what was accepted of an edit
+edited_by : {T : Type 0} (c e : Content) (cmd : Command) (r : Result T Fault) (a : Answer) (s : Shown) → Told r a s → OnOk r (HasEdited cmd c e s.printed) →
+    (reply a s.printed).answer ≡ Done → HasEdited cmd c e (reply a s.printed).printed
+edited_by c e cmd (Ok v) a s (inl is) has done = subst (HasEdited cmd c e) (sym (ap (λ y. (reply y s.printed).printed) is ∙ reply-printed s.is_match s.printed)) has
+edited_by c e cmd (Ok v) a s (inr is) has done = let no : Refused fault.OutFailed ≡ Done = sym (reply-answer a s.printed ∙ is.0) ∙ done in cc
+edited_by c e cmd (Err x) a s is has done = let no : Refused x ≡ Done = sym (reply-answer a s.printed ∙ is) ∙ done in cc
+
+-- the answer to an expression that is no program
+unparsed_by : {T : Type 0} (f : Fault) (r : Result T Fault) (a : Answer) (s : Shown) → Told r a s → IsUnparsed f r → TellsUnparsed f (reply a s.printed).answer
+unparsed_by f (Ok v) a s is no = absurd no
+unparsed_by f (Err x) a s is tells = subst (TellsUnparsed f) (sym (reply-answer a s.printed ∙ is)) tells
 
 module _ {T : Type 0} (c e : Content) (cmd : Command) (r : Result T Fault) (a : Answer) (s : Shown) (k : IsDone c e cmd r a s) where
   -- a command goes on, on the pair or apart from it
@@ -173,6 +189,8 @@ module _ {T : Type 0} (c e : Content) (cmd : Command) (r : Result T Fault) (a : 
     others = k.others;
     effect = has_effect;
     steps = λ f j apart fits h good. goes_on f j apart fits h good;
+    edited = edited_by c e cmd r a s k.told k.edited;
+    unparsed = λ f is. unparsed_by f r a s k.told (k.unparsed f is);
   }
 
 -- ---- a list of commands

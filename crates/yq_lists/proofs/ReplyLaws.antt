@@ -29,7 +29,7 @@ pub answers_more : (rs : List Reply) (as' : List Answer) (a : Answer) (o : List 
 answers_more rs as' a o is = answers_push rs (reply a o) ∙ ap₂ (λ xs x. xs ++ x ∷ []) is (reply-answer a o)
 
 -- a command that was carried out prints, and its answer tells of no failure
-reply-printed : (m : Bool) (o : List ℕ) → (reply (answer_by m) o).printed ≡ o
+pub reply-printed : (m : Bool) (o : List ℕ) → (reply (answer_by m) o).printed ≡ o
 reply-printed true o = refl
 reply-printed false o = refl
 

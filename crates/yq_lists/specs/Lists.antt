@@ -10,7 +10,8 @@ use Rattle.yq_history.specs.declared.fault.Fault.TheVariants.{OutFailed, OutOfMe
 use Rattle.yq_history.specs.Causes.{Cause, IsFor}
 use Rattle.yq_commands.specs.CommandNames.{IsOn, IsStranger}
 use Rattle.yq_store.specs.Content.{Content}
-use Rattle.yq_commands.specs.CommandEffects.{OfEffect}
+use Rattle.yq_commands.specs.CommandEffects.{OfEffect, expression_fault}
+use Rattle.yq_commands.specs.FileEdits.{HasEdited}
 use Rattle.yq_history.specs.Effects.{Effect, Works, printed_by}
 use Rattle.yq_history.specs.Faults.{is_failure, is_outside, is_output}
 use Rattle.yq_history.specs.Pair.{GoodIn}
@@ -114,12 +115,20 @@ StepsHistory c r old new =
     (file name : List ℕ) → file ≢ name → IsOn file name c ⊎ IsApart file name c → (h : Option History) → GoodIn old file name h →
     (k : Option History) × Goes file name c h r k × GoodIn new file name k
 
--- a command that prints, or is refused so, leaves every name; any other leaves the names that it doesn't name; it has its effect, and steps histories
+-- a command is refused for that fault, or for want of memory
+abbrev pub TellsUnparsed : Fault → Answer → Type 0
+TellsUnparsed f (Refused e) = e ≢ OutOfMemory → e ≡ f
+TellsUnparsed f _ = ⊥
+
+-- A command that prints, or is refused so, leaves every name; any other leaves the names that it doesn't name; it has its effect, and steps histories.
+-- What was accepted of an expression with updates has edited the file's text; an expression that is no program is refused before all else.
 pub record Leaves (c : Command) (r : Reply) (old new : Content) : Type 0 where
   pub all : (prints c || is_kept r.answer) ≡ true → new ≡ old
   pub others : (q : List ℕ) → IsStranger q c → get new q ≡ get old q
   pub effect : HasEffect c r old new
   pub steps : StepsHistory c r old new
+  pub edited : r.answer ≡ Done → HasEdited c old new r.printed
+  pub unparsed : (f : Fault) → expression_fault c ≡ Some f → TellsUnparsed f r.answer
 
 -- one command after another
 abbrev pub Keeps : Content → List Command → List Reply → Content → Type 0

@@ -50,7 +50,17 @@ pub fn read_whole<F: Read>(alloc: Global, file: &mut F) -> io::Result<Vec<u8>> {
     Err(io::Error::from(ErrorKind::FileTooLarge))
 }
 
-/// Reads an open file to its end or, of one that is too long for a text, as much as shows this.
+/// Reads an open file to its end or, of one that is too long for a text, as much as shows this: more
+/// bytes than a text may have, without the last character where that isn't whole.
 pub fn read_text<F: Read + Drop>(alloc: Global, file: F) -> io::Result<Vec<u8>> {
-    read_whole(alloc, &mut file.take(MOST_OF_TEXT))
+    let most = MOST_OF_TEXT + 3;
+    let mut bytes = read_whole(alloc, &mut file.take(most))?;
+    if bytes.len() as u64 == most {
+        if let Err(error) = std::str::from_utf8(&bytes) {
+            if error.error_len().is_none() {
+                bytes.truncate(error.valid_up_to());
+            }
+        }
+    }
+    Ok(bytes)
 }

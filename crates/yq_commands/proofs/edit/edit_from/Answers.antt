@@ -1,5 +1,8 @@
-use Rattle.std.proofs.Common.{Err, ap, ◌∙◌}
+use Rattle.std.proofs.Common.{Err, sym, ap, ◌∙◌}
 use Rattle.std.proofs.lemmas.Result.{err_from_is_err_and}
+use Rattle.std.proofs.lemmas.Slice.Eq.{bytes_eq-Decides}
+use Rattle.yq_history.proofs.MoveLaws.{on_ok_map}
+use Rattle.yq_commands.proofs.FileEditLaws.{holds_made}
 use Rattle.yq_commands.specs.Editing.{edits}
 use Rattle.yq_commands.proofs.EditEffects.{edit_not_made}
 use Rattle.yq_program.specs.View.{program_of}
@@ -26,3 +29,16 @@ returns-clause-effect g c = λ keeps apart.
     let splices = c.in_ok-made.splices-is in
     let slice = c.as_bytes-new.ensures.value in
     c.commit.ensures.effect keeps apart (program_of c.args.program.now) cc
+
+pub returns-then-eq-clause-edited : goal.returns-then-eq-clause-edited
+returns-then-eq-clause-edited g c = λ keeps apart there.
+    let made = c.in_ok-made.made-is in
+    let slice = c.as_bytes-new.ensures.value in
+    let same = (bytes_eq-Decides c.as_bytes-new.result.now c.args.text.now).0 (sym c.eq.ensures ∙ c.if-eq.true) in
+    holds_made (program_of c.args.program.now) c.args.text.now _ c.args.text.now _ c.in_ok-made.ensures.edited cc there
+
+pub returns-clause-edited : goal.returns-clause-edited
+returns-clause-edited g c = λ keeps apart there.
+    let made = c.in_ok-made.made-is in
+    let slice = c.as_bytes-new.ensures.value in
+    on_ok_map _ (c.commit.ensures.text keeps apart) (holds_made (program_of c.args.program.now) c.args.text.now _ c.as_bytes-new.result.now _ c.in_ok-made.ensures.edited cc)

@@ -1,24 +1,17 @@
-use Rattle.std.proofs.Common.{IfErr, OnErr, arith, refl, sym, subst, ◌≡◌, None}
+use Rattle.std.proofs.Common.{IfErr, OnErr, sym, subst, ◌≡◌, None}
 use Rattle.std.proofs.lemmas.Result.{err_from_is_err_and}
-use Rattle.yq_scalar.specs.declared.fault.FaultKind.TheVariants.{TooLarge}
 use Rattle.yq_documents.specs.Reading.{read_at}
-use Rattle.yq_commands.proofs.EditingLaws.{long_told, no_utf8_told, not_read, too_long}
+use Rattle.yq_commands.proofs.EditingLaws.{no_utf8_told, not_read}
 use Rattle.yq_history.specs.Causes.{IsUnreadable}
 use Rattle.yq_commands.proofs.editing.given_text.Goals as goal
-
-pub returns-then-bytes-gt-TEXT_LIMIT-clause-none : goal.returns-then-bytes-gt-TEXT_LIMIT-clause-none
-returns-then-bytes-gt-TEXT_LIMIT-clause-none c = too_long c.args.bytes.now (omega (arith, c.if-bytes-gt-TEXT_LIMIT.true))
 
 pub returns-in_err-text_of-clause-none : goal.returns-in_err-text_of-clause-none
 returns-in_err-text_of-clause-none c =
     let p = err_from_is_err_and c.from_residual.result c.from_residual.ensures.1 in
     subst (λ r. OnErr r (read_at c.args.bytes.now ≡ None)) (sym p.1) (not_read c.args.bytes.now c.in_err-text_of.ensures.0)
 
-pub returns-then-bytes-gt-TEXT_LIMIT-clause-err : goal.returns-then-bytes-gt-TEXT_LIMIT-clause-err
-returns-then-bytes-gt-TEXT_LIMIT-clause-err c = long_told c.args.bytes.now (record { kind = TooLarge; line = 1 }) (omega (arith, c.if-bytes-gt-TEXT_LIMIT.true)) refl
-
 pub returns-in_err-text_of-clause-err : goal.returns-in_err-text_of-clause-err
 returns-in_err-text_of-clause-err c =
     let p = err_from_is_err_and c.from_residual.result c.from_residual.ensures.1 in
     subst (λ r. IfErr r (IsUnreadable c.args.bytes.now)) (sym p.1)
-    (subst (IsUnreadable c.args.bytes.now) (sym p.2) (no_utf8_told c.args.bytes.now c.in_err-text_of.field-0.0 (omega (arith, c.if-bytes-gt-TEXT_LIMIT.false)) c.in_err-text_of.ensures.0 c.in_err-text_of.ensures.1))
+    (subst (IsUnreadable c.args.bytes.now) (sym p.2) (no_utf8_told c.args.bytes.now c.in_err-text_of.field-0.0 c.in_err-text_of.ensures.0 c.in_err-text_of.ensures.1))

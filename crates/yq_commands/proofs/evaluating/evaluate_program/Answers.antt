@@ -20,3 +20,6 @@ pub returns-clause-output : goal.returns-clause-output
 returns-clause-output g c = λ keeps name h good.
     shown_is (g.D.Store.content c.args.store.now) (g.D.Store.content c.args.store.now) _ _ (shows c.args.exit_status c.args.no_doc (program_of c.args.program.now)) c.deref.result.now refl
     (c.in_ok-text.ensures.found keeps ∙ ap Some (sym c.deref.ensures.value)) h good _ c.in_ok-shown.ensures.ok
+
+pub returns-clause-edited : goal.returns-clause-edited
+returns-clause-edited g c = λ keeps updates. (c.deref.result.now, c.in_ok-text.ensures.found keeps ∙ ap Some (sym c.deref.ensures.value), c.in_ok-shown.ensures.edited updates)

@@ -1,11 +1,13 @@
-use Rattle.std.proofs.Common.{ℕ, List, Err, sym, ap, ◌∙◌}
+use Rattle.std.proofs.Common.{ℕ, List, Some, Err, sym, ap, ◌∙◌}
 use Rattle.yq_journal.specs.State.{State}
 use Rattle.std.proofs.lemmas.Result.{err_from_is_err_and}
 use Rattle.yq_program.specs.View.{program_of}
 use Rattle.yq_commands.specs.Editing.{edits}
 use Rattle.yq_commands.specs.CommandEffects.{edit_effect}
 use Rattle.yq_history.proofs.EffectLaws.{not_opened, from_opened}
+use Rattle.std.specs.FinMap.{get}
 use Rattle.yq_commands.proofs.EditEffects.{not_parsed, parsed_works}
+use Rattle.yq_commands.proofs.FileEditLaws.{file_made, parsed_free, unparsed_told}
 use Rattle.yq_commands.proofs.executing.update.Goals as goal
 
 pub returns-in_err-program-clause-effect : goal.returns-in_err-program-clause-effect
@@ -27,3 +29,22 @@ returns-clause-effect g c = λ keeps apart.
     (from_opened _ _ does _ _ (g.D.Store.content c.args.store.now) _ _ c.as_slice.result.now c.in_ok-text.journal c.edit_from.result (c.in_ok-text.ensures.same keeps)
     (c.in_ok-text.ensures.found keeps does ∙ ap (λ t. does t c.in_ok-text.journal) (sym c.as_slice.ensures.value))
     (c.edit_from.ensures.effect keeps apart))
+
+pub returns-clause-edited : goal.returns-clause-edited
+returns-clause-edited g c = λ keeps apart.
+    let same = c.in_ok-text.ensures.same keeps in
+    let slice = c.as_slice.ensures.value in
+    let held = c.in_ok-text.ensures.text keeps ∙ ap Some (sym slice) in
+    file_made c.edit_from.result c.args.expr.now (program_of c.in_ok-program.program) c.as_slice.result.now _ _ c.in_ok-program.ensures.ok held
+    (c.edit_from.ensures.edited keeps apart (ap (λ m. get m c.args.file.now) same ∙ held))
+
+pub returns-in_err-program-clause-unparsed : goal.returns-in_err-program-clause-unparsed
+returns-in_err-program-clause-unparsed g c =
+    let p = err_from_is_err_and c.from_residual.result c.from_residual.ensures.1 in
+    unparsed_told c.from_residual.result c.args.expr.now _ (p.1 ∙ ap Err p.2) c.in_err-program.ensures.err
+
+pub returns-in_err-text-clause-unparsed : goal.returns-in_err-text-clause-unparsed
+returns-in_err-text-clause-unparsed g c = parsed_free c.from_residual-in_err-text.result c.args.expr.now (program_of c.in_ok-program.program) c.in_ok-program.ensures.ok
+
+pub returns-clause-unparsed : goal.returns-clause-unparsed
+returns-clause-unparsed g c = parsed_free c.edit_from.result c.args.expr.now (program_of c.in_ok-program.program) c.in_ok-program.ensures.ok

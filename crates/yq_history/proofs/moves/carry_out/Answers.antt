@@ -1,6 +1,7 @@
 use Rattle.std.proofs.Common.{inl, inr}
 use Rattle.yq_history.proofs.MoveLaws.{first_write, second_write, third_write, same_content, moved_journal, on_err, on_ok_map, on_err_map, either}
-use Rattle.std.proofs.Common.{ap, ◌∙◌}
+use Rattle.std.proofs.Common.{refl, ap, ◌∙◌}
+use Rattle.yq_history.proofs.CutLaws.{cut_unwritten, cut_opened, cut_changed, cut_settled}
 use Rattle.std.specs.FinMap.{get}
 use Rattle.yq_store.specs.Content.{get_written}
 use Rattle.yq_history.proofs.EffectLaws.{on_ok}
@@ -37,6 +38,35 @@ returns-clause-err g c = λ keeps apart h k.
     (λ x. inr (either x
     (λ same. same_content _ _ _ _ _ same (second_write _ _ apart _ _ _ _ _ _ _ k c.requires.moves _ _ c.requires.changes c.in-Ok.ensures.ok (c.in_ok-write_journal.ensures.ok keeps) put))
     (third_write _ _ apart _ _ _ _ _ _ _ k c.requires.moves _ _ _ _ c.requires.changes c.in-Ok.ensures.ok put c.in_ok-settle.ensures.ok)))
+
+pub returns-in_err-write_journal-clause-cut : goal.returns-in_err-write_journal-clause-cut
+returns-in_err-write_journal-clause-cut g c = λ keeps apart.
+    on_err _
+    (either (c.in_err-write_journal.ensures.err keeps)
+    (cut_unwritten _ _ _ _ _ _ _)
+    (λ w. cut_opened _ _ _ _ _ _ apart _ _ c.in-Ok.ensures.ok w _ refl))
+
+pub returns-in_err-replace-clause-cut : goal.returns-in_err-replace-clause-cut
+returns-in_err-replace-clause-cut g c = λ keeps apart.
+    let w = c.in_ok-write_journal.ensures.ok keeps in
+    on_err _
+    (either (c.in_err-replace.ensures.err keeps)
+    (cut_opened _ _ _ _ _ _ apart _ _ c.in-Ok.ensures.ok w _)
+    (cut_changed _ _ _ _ _ _ apart _ _ c.in-Ok.ensures.ok w _))
+
+pub returns-in_err-settle-clause-cut : goal.returns-in_err-settle-clause-cut
+returns-in_err-settle-clause-cut g c = λ keeps apart.
+    on_err _ (cut_changed _ _ _ _ _ _ apart _ _ c.in-Ok.ensures.ok (c.in_ok-write_journal.ensures.ok keeps) _ (c.in_ok-replace.ensures.written keeps))
+
+pub returns-clause-cut : goal.returns-clause-cut
+returns-clause-cut g c = λ keeps apart.
+    let put = c.in_ok-replace.ensures.written keeps in
+    let file = c.write_journal-2.ensures.others keeps c.args.file.now apart ∙ ap (λ m. get m c.args.file.now) put ∙ get_written _ c.args.file.now _ in
+    on_err_map _ (c.write_journal-2.ensures.err keeps)
+    (λ x. either x
+    (λ same. cut_changed _ _ _ _ _ _ apart _ _ c.in-Ok.ensures.ok (c.in_ok-write_journal.ensures.ok keeps) _ (same ∙ put))
+    (λ w. cut_settled _ _ _ _ _ _ _ file
+    (moved_journal _ c.args.journal.now _ _ c.args.step _ _ _ _ c.requires.moves c.requires.changes c.in-Ok.ensures.ok c.in_ok-settle.ensures.ok w)))
 
 pub returns-clause-moved : goal.returns-clause-moved
 returns-clause-moved g c = λ keeps. on_ok_map _ (c.write_journal-2.ensures.ok keeps)

@@ -2,7 +2,7 @@ use Rattle.std.proofs.Common.{Some, sym, ap, ◌∙◌}
 use Rattle.std.proofs.lemmas.Result.{err_from_is_err_and}
 use Rattle.std.proofs.lemmas.Slice.Eq.{bytes_eq-Decides}
 use Rattle.yq_journal.specs.Refusals.{way_fault}
-use Rattle.yq_journal.specs.State.{moved, moved_text}
+use Rattle.yq_journal.specs.State.{moved, moved_text, opened}
 use Rattle.yq_history.proofs.MoveLaws.{refused_walk, equal_walk, other_walk}
 use Rattle.yq_history.specs.Walks.{step_of}
 use Rattle.yq_history.proofs.EffectLaws.{walk_refused, walk_equal, walk_other, way_free}
@@ -30,6 +30,7 @@ returns-clause-arrives g c = λ keeps apart h k.
       err = e.err keeps apart;
       text = e.text keeps apart;
       beside = e.moved keeps;
+      cut = e.cut keeps apart;
       fault = e.fault;
       refused = e.refused;
       barred = e.barred keeps;
@@ -47,7 +48,8 @@ returns-then-eq-clause-effect g c = λ keeps apart there.
     let free = ap (λ x. way_fault s.records s.at x c.args.text.now) (sym c.step.ensures) ∙ c.in_ok-new.ensures.free in
     let same = ap (λ x. moved_text s.records s.at x c.args.text.now) (sym c.step.ensures) ∙ c.in_ok-new.ensures.ok ∙ ap Some (sym c.as_slice.ensures.value ∙ (bytes_eq-Decides c.as_slice.result.now c.args.text.now).0 (sym c.eq.ensures ∙ c.if-eq.true)) in
     walk_equal c.args.file.now c.args.name.now (g.D.Store.content c.args.store.now) _ c.args.journal.now c.args.text.now (step_of c.args.walk) c.turn.result
-    there (e.others keeps _ apart) (way_free s.records s.at (step_of c.args.walk) c.args.text.now c.args.text.now (moved s (step_of c.args.walk)) free same) (e.moved keeps) e.outside
+    there (e.others keeps _ apart) (way_free s.records s.at (step_of c.args.walk) c.args.text.now c.args.text.now (opened s (step_of c.args.walk) c.args.text.now) (moved s (step_of c.args.walk)) free same)
+    (e.moved keeps) (e.cut keeps) e.outside
 
 pub returns-clause-effect : goal.returns-clause-effect
 returns-clause-effect g c = λ keeps apart there.
@@ -61,6 +63,7 @@ returns-clause-effect g c = λ keeps apart there.
       err = e.err keeps apart;
       text = e.text keeps apart;
       beside = e.moved keeps;
+      cut = e.cut keeps apart;
       fault = e.fault;
       refused = e.refused;
       barred = e.barred keeps;

@@ -3,7 +3,7 @@ use Rattle.std.specs.FinMap.{get}
 use Rattle.yq_journal.specs.Good.{journal_beside}
 use Rattle.yq_journal.specs.State.{settled}
 use Rattle.yq_history.proofs.PairLaws.{opens}
-use Rattle.yq_history.proofs.EffectLaws.{opened}
+use Rattle.yq_history.proofs.EffectLaws.{settles}
 use Rattle.yq_history.proofs.pair.open_pair.Goals as goal
 
 pub returns-clause-opens : goal.returns-clause-opens
@@ -21,6 +21,6 @@ pub returns-clause-found : goal.returns-clause-found
 returns-clause-found g c = λ keeps go.
     let content = g.D.Store.content in
     let first : content c.read.new.self ≡ content c.args.store.now = c.in_ok-text.ensures.same keeps in
-    opened (get (content c.args.store.now) c.args.file.now) (get (content c.args.store.now) c.args.name.now) _ (c.in_ok-text.ensures.found keeps)
+    settles (get (content c.args.store.now) c.args.file.now) (get (content c.args.store.now) c.args.name.now) _ (c.in_ok-text.ensures.found keeps)
     _ (sym (ap (λ m. journal_beside (get m c.args.name.now)) first) ∙ c.in_ok-journal.ensures.ok keeps)
     _ (sym (ap (settled c.in_ok-journal.journal) c.deref.ensures.value) ∙ c.in_ok-settle.ensures.ok) go

@@ -1,8 +1,8 @@
-use Rattle.std.proofs.Common.{ℕ, refl}
+use Rattle.std.proofs.Common.{inl, inr, ℕ, refl}
 use Rattle.std.proofs.lemmas.Result.{err_from_is_err_and}
 use Rattle.yq_history.proofs.MoveLaws.{none_of}
 use Rattle.yq_history.proofs.SquashLaws.{squash_refused, squash_of_one, squash_ends}
-use Rattle.yq_history.proofs.MoveLaws.{journal_written, on_ok_map}
+use Rattle.yq_history.proofs.MoveLaws.{either, journal_written, on_err_map, on_ok_map}
 use Rattle.std.proofs.Common.{subst}
 use Rattle.yq_history.specs.Pair.{IsJournal}
 use Rattle.std.proofs.lemmas.Bool.{eq-eqb, ne_eqb}
@@ -35,4 +35,6 @@ returns-then-n-eq1-clause-effect g c = λ keeps file t apart there.
 pub returns-clause-effect : goal.returns-clause-effect
 returns-clause-effect g c = λ keeps file t apart there.
     squash_works file c.args.name.now (g.D.Store.content c.args.store.now) c.args.journal.now t c.args.n _ c.write_journal.result (ne_eqb c.args.n 1 c.if-n-eq1.false) c.in_ok-squash.ensures.free there (c.write_journal.ensures.others keeps file apart)
-    (on_ok_map _ (c.write_journal.ensures.ok keeps) (λ w. subst (IsJournal _) c.in_ok-squash.ensures.ok (journal_written _ _ _ _ w))) c.write_journal.ensures.outside
+    (on_ok_map _ (c.write_journal.ensures.ok keeps) (λ w. subst (IsJournal _) c.in_ok-squash.ensures.ok (journal_written _ _ _ _ w)))
+    (on_err_map _ (c.write_journal.ensures.err keeps) (λ x. either x inl (λ w. inr (subst (IsJournal _) c.in_ok-squash.ensures.ok (journal_written _ _ _ _ w)))))
+    c.write_journal.ensures.outside

@@ -64,6 +64,8 @@ commands-preserved g c =
                   kept = ran.kept keeps;
                   others = ran.others keeps;
                   quiet = ran.quiet;
+                  edited = ran.edited keeps;
+                  unparsed = ran.unparsed;
                 }))),
           );
       others = λ keeps q strangers.

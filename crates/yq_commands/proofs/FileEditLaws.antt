@@ -1,0 +1,66 @@
+-- What an accepted edit makes of a file, and an expression that is no program.
+use Rattle.std.proofs.Common.{◌≡◌, ◌≢◌, ℕ, List, false, Option, Some, Result, Ok, Err, IfOk, OnOk, MatchResult, is_ok, string_bytes, refl, sym, ap, ◌∙◌, subst, true≢false}
+use Rattle.std.proofs.lemmas.Option.{same_Some, none-some}
+use Rattle.yq_program.specs.Program.{Program, is_read}
+use Rattle.yq_script.specs.declared.edited.Edited.{Edited}
+use Rattle.yq_splice.specs.Answers.{Edits}
+use Rattle.yq_splice.specs.Carried.{edit_of}
+use Rattle.yq_splice.specs.Theorems.{IsEdited}
+use Rattle.yq_splice.specs.declared.edit_error.EditError.{EditError}
+use Rattle.yq_history.specs.declared.fault.Fault.{Fault}
+use Rattle.yq_history.specs.declared.fault.Fault.TheVariants.{OutOfMemory}
+use Rattle.yq_commands.specs.CommandEffects.{IsUnparsed, fault_of}
+use Rattle.yq_commands.specs.Editing.{program_in}
+use Rattle.yq_commands.specs.FileEdits.{HoldsEdited, IsFileEdited, IsTextEdited, PrintsEdited}
+
+-- ---- an expression that is no program
+
+-- one that is a program has no such fault
+pub parsed_free : {T : Type 0} (r : Result T Fault) (expr : List ℕ) (p : Program) → program_in expr ≡ Ok p →
+    (f : Fault) → fault_of (program_in expr) ≡ Some f → IsUnparsed f r
+parsed_free r expr p is f fault = absurd (none-some f (sym (ap fault_of is) ∙ fault))
+
+-- one that is none is refused for it
+pub unparsed_told : {T : Type 0} (r : Result T Fault) (expr : List ℕ) (e : Fault) → r ≡ Err e → (e ≢ OutOfMemory → program_in expr ≡ Err e) →
+    (f : Fault) → fault_of (program_in expr) ≡ Some f → IsUnparsed f r
+unparsed_told r expr e is why f fault =
+    subst (IsUnparsed f) (sym is) (λ other. same_Some e f (sym (ap fault_of (why other)) ∙ fault))
+
+-- ---- an accepted edit
+
+-- where an error is another one, what was given is the same
+pub given_still : {T D E : Type 0} (Q : T → Type 0) (R : E → Type 0) (r : Result T E) (s : Result T D) → MatchResult r (λ x. s ≡ Ok x) R → is_ok s ≡ is_ok r → IfOk r Q → IfOk s Q
+given_still Q R (Ok x) s is same given = subst (λ y. IfOk y Q) (sym is) given
+given_still Q R (Err e) (Ok x) is same given = absurd (true≢false same)
+given_still Q R (Err e) (Err d) is same given = tt
+
+-- of a text, by the contract of the edit
+pub text_made : (r : Result Edited EditError) (p : Program) (s t : List ℕ) → s ≡ t → Edits r (edit_of p s) →
+    IfOk r (λ e. IsEdited p s (string_bytes e.text) e.splices.items) → IfOk r (λ e. IsTextEdited p t (string_bytes e.text))
+text_made (Ok e) p s t same exact edited =
+    subst (λ x. IsTextEdited p x (string_bytes e.text)) same (record { splices = e.splices.items; exact = exact; edited = edited })
+text_made (Err e) p s t same exact edited = tt
+
+pub text_same : (p : Program) (t u v : List ℕ) → IsTextEdited p t u → v ≡ u → IsTextEdited p t v
+text_same p t u v made same = subst (IsTextEdited p t) (sym same) made
+
+-- it is there
+pub holds_made : (p : Program) (t u v : List ℕ) (new : Option (List ℕ)) → IsTextEdited p t u → v ≡ u → new ≡ Some v → HoldsEdited p t new
+holds_made p t u v new made same is = (u, is ∙ ap Some same, made)
+
+-- of a file
+pub file_made : {T : Type 0} (r : Result T Fault) (expr : List ℕ) (p : Program) (t : List ℕ) (old new : Option (List ℕ)) → program_in expr ≡ Ok p → old ≡ Some t →
+    OnOk r (HoldsEdited p t new) → OnOk r (IsFileEdited expr old new)
+file_made (Ok v) expr p t old new is there made = record { program = p; parsed = is; text = t; old_is = there; new_is = made }
+file_made (Err e) expr p t old new is there made = tt
+
+same_program : {p q : Program} → Ok {E = Fault} p ≡ Ok q → p ≡ q
+same_program e = cc
+
+-- and of one that is printed
+pub printed_made : {T : Type 0} (r : Result T Fault) (expr : List ℕ) (p : Program) (old : Option (List ℕ)) (printed : List ℕ) → program_in expr ≡ Ok p →
+    (is_read p ≡ false → OnOk r ((t : List ℕ) × (old ≡ Some t) × IsTextEdited p t printed)) → OnOk r (PrintsEdited expr old printed)
+printed_made (Ok v) expr p old printed is made = λ us again.
+    let x = made (ap is_read (same_program (sym is ∙ again))) in
+    record { program = p; parsed = is; text = x.0; old_is = x.1; new_is = (printed, refl, x.2) }
+printed_made (Err e) expr p old printed is made = tt

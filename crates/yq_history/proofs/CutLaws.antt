@@ -1,0 +1,36 @@
+-- What a move or a squash leaves that was cut short.
+use Rattle.std.proofs.Common.{◌≡◌, ◌≢◌, inl, inr, ℕ, List, Some, sym, ap, ◌∙◌, subst}
+use Rattle.std.specs.FinMap.{get, insert}
+use Rattle.yq_journal.specs.Json.{journal_text}
+use Rattle.yq_journal.specs.State.{State}
+use Rattle.yq_store.specs.Content.{Content, get_written, get_other}
+use Rattle.yq_history.specs.Effects.{IsCutShort}
+use Rattle.yq_history.specs.Pair.{IsJournal, Writes}
+use Rattle.yq_history.proofs.MoveLaws.{journal_written}
+
+module _ (f j u : List ℕ) (started s : State) (c : Content) where
+  -- nothing was written
+  pub cut_unwritten : (d : Content) → d ≡ c → IsCutShort u started s f j c d
+  cut_unwritten d same = inl (ap (λ m. get m f) same, inl (ap (λ m. get m j) same))
+
+  module _ (apart : f ≢ j) (e : Content) (z : State) (is : z ≡ started) (w : Writes c e j z) where
+    open_there : IsJournal (get e j) started
+    open_there = subst (IsJournal (get e j)) is (journal_written c e j z w)
+
+    -- the journal was, with the move open
+    pub cut_opened : (g : Content) → g ≡ e → IsCutShort u started s f j c g
+    cut_opened g same = inl (
+      ap (λ m. get m f) same ∙ ap (λ m. get m f) w.written ∙ get_other c j (journal_text z) f apart,
+      inr (subst (λ m. IsJournal (get m j) started) (sym same) open_there),
+    )
+
+    -- and the file
+    pub cut_changed : (g : Content) → g ≡ insert e f u → IsCutShort u started s f j c g
+    cut_changed g put = inr (
+      ap (λ m. get m f) put ∙ get_written e f u,
+      inl (subst (λ x. IsJournal x started) (sym (ap (λ m. get m j) put ∙ get_other e f u j (λ x. apart (sym x)))) open_there),
+    )
+
+  -- the journal behind the move was written, with the new text in the file
+  pub cut_settled : (d : Content) → get d f ≡ Some u → IsJournal (get d j) s → IsCutShort u started s f j c d
+  cut_settled d text journal = inr (text, inr journal)
