@@ -6,6 +6,7 @@ pub mod Lists
 pub mod LiteralAgain
 pub mod LiteralTakes
 pub mod Literals
+pub mod OutcomeLaws
 pub mod Outcomes
 pub mod PathAgain
 pub mod PathTakes

@@ -39,7 +39,7 @@ foreign_is foreign h = refl
 no_foreign : (t : Token) → is_foreign_token t ≡ false → t ≡ foreign → ⊥
 no_foreign t h e = false≢true (sym h ∙ ap is_foreign_token e)
 
-unread_in : (ts : List Token) (o : Bool) (a b : ℕ) → surveyed o a b ts ≡ None → AreRead ts → ⊥
+pub unread_in : (ts : List Token) (o : Bool) (a b : ℕ) → surveyed o a b ts ≡ None → AreRead ts → ⊥
 unfolding surveyed
 unread_in [] o a b h r = cc
 unread_in (t ∷ ts) o a b h r = elim (chosen (is_unread t) h) [
@@ -47,7 +47,7 @@ unread_in (t ∷ ts) o a b h r = elim (chosen (is_unread t) h) [
   | inr on ↦ unread_in ts _ _ _ on.1 r.1
 ]
 
-all_read : (ts : List Token) (o : Bool) (a b : ℕ) (x : Bool) → surveyed o a b ts ≡ Some x → AreRead ts
+pub all_read : (ts : List Token) (o : Bool) (a b : ℕ) (x : Bool) → surveyed o a b ts ≡ Some x → AreRead ts
 unfolding surveyed
 all_read [] o a b x h = tt
 all_read (t ∷ ts) o a b x h = elim (chosen (is_unread t) h) [
@@ -114,7 +114,7 @@ flag_stays (t ∷ ts) o a b h = elim (chosen (is_unread t) h) [
   | inr on ↦ (flag_down o t _ _ (flag_stays ts _ _ _ on.1)).0
 ]
 
-none_in : (ts : List Token) (o : Bool) (a b : ℕ) → surveyed o a b ts ≡ Some false → (b + 64 < a → ⊥) → (HasForeign ts → ⊥) × ((n : ℕ) → DeepFrom a b ts n → ⊥)
+pub none_in : (ts : List Token) (o : Bool) (a b : ℕ) → surveyed o a b ts ≡ Some false → (b + 64 < a → ⊥) → (HasForeign ts → ⊥) × ((n : ℕ) → DeepFrom a b ts n → ⊥)
 unfolding surveyed
 none_in [] o a b h shallow = (λ f. f, go)
   where
@@ -165,7 +165,7 @@ derives_in text p h k =
     let passes = survey_passes text h in
     (tokens text, passes.0, passes.1, passes.2, program_takes (tokens text) p k)
 
-surveys : (ts : List Token) → AreRead ts → (HasForeign ts → ⊥) → (IsTooDeep ts → ⊥) → (o : Option Bool) → surveyed false 0 0 ts ≡ o → surveyed false 0 0 ts ≡ Some false
+pub surveys : (ts : List Token) → AreRead ts → (HasForeign ts → ⊥) → (IsTooDeep ts → ⊥) → (o : Option Bool) → surveyed false 0 0 ts ≡ o → surveyed false 0 0 ts ≡ Some false
 surveys ts r f d None e = absurd (unread_in ts false 0 0 e r)
 surveys ts r f d (Some false) e = e
 surveys ts r f d (Some true) e = elim (refused_in ts false 0 0 e) [

@@ -1,5 +1,5 @@
 -- What comes of a text: its program, or the first refusal in order.
-use Rattle.std.specs.Prelude.{◌≡◌, ℕ, ◌+◌, ◌<◌, ◌⊎◌, Bool, true, false, ◌||◌, ◌==◌, List, [], ◌∷◌, take, codes, Result, Ok, Err}
+use Rattle.std.specs.Prelude.{◌≡◌, ◌≢◌, ℕ, ◌+◌, ◌<◌, ◌⊎◌, Bool, true, false, ◌||◌, ◌==◌, List, [], ◌∷◌, take, codes, Result, Ok, Err}
 use Rattle.std.specs.List.{list_any}
 use Rattle.yq_program.specs.declared.error.ParseError.{ParseError}
 use Rattle.yq_program.specs.declared.error.ParseError.TheVariants as error
@@ -107,6 +107,12 @@ IsRefused error.Memory text = Unit {0}
 pub data Outcome : Type 0 where
   parsed : Program → Outcome
   refused : ParseError → Outcome
+
+-- What a text comes to by the grammar: a program that it derives and that has no pattern, or a refusal whose cause
+-- it has. It comes to no want of memory (own).
+abbrev pub ComesTo : List ℕ → Outcome → Type 0
+ComesTo text (parsed p) = Derives text p × (has_pattern p ≡ false)
+ComesTo text (refused e) = (e ≢ error.Memory) × IsRefused e text
 
 -- An error is that refusal; want of memory says nothing (own).
 abbrev pub AnswersError : ParseError → Outcome → Type 0

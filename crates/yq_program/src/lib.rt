@@ -3,6 +3,7 @@
 
 mod error;
 mod front;
+mod laws;
 mod parse;
 mod pattern;
 mod program;
@@ -10,6 +11,7 @@ mod survey;
 mod token;
 
 pub use error::ParseError;
+pub use laws::{one_outcome, one_token_list};
 pub use parse::parse_expr;
 pub use program::{
     Assignment, Comment, CommentPlace, Comparison, Condition, Operand, Operator, Program, Stage,
