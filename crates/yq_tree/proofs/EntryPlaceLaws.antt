@@ -157,21 +157,6 @@ held_in t s ds i first d found place h there e told =
     ∙ (ap (λ (k : ℕ). place k (cut_of t) part.0.rows) same
     ∙ sym (ap (λ (o : Option Part). o >>= λ p. place (document_row i (cut_of t)) (cut_of t) p.rows) part.1))
 
-pub held_none : {A : Type 0} (c : Cut) (i : ℕ) (place : ℕ → Cut → List Row → Option A) → None ≡ first_row i c → None ≡ (slice_get (document_parts c) i >>= λ p. place (document_row i c) c p.rows)
-held_none c i place e = go (slice_get (document_parts c) i) e
-  where
-    go : (o : Option Part) → None ≡ option_map (λ p. document_row i c) o → None ≡ (o >>= λ p. place (document_row i c) c p.rows)
-    go None e = refl
-    go (Some p) e = absurd (cc)
-
--- the seat at a path, by that among the rows of its document
-pub seat_numbered : (k i : ℕ) (c : Cut) (steps : List Step) → (slice_get (document_parts c) i >>= λ p. option_map (numbers k) (seat_of steps p.rows)) ≡ option_map (numbers k) (slice_get (document_parts c) i >>= λ p. seat_of steps p.rows)
-seat_numbered k i c steps = go (slice_get (document_parts c) i)
-  where
-    go : (o : Option Part) → (o >>= λ p. option_map (numbers k) (seat_of steps p.rows)) ≡ option_map (numbers k) (o >>= λ p. seat_of steps p.rows)
-    go None = refl
-    go (Some p) = refl
-
 -- the node for which lines stand
 pub lines_none : (k : ℕ) (c : Cut) (rs : List Row) (from to : ℕ) → from ≡ to → None ≡ lines_content k c rs from to
 lines_none k c rs from to e = sym (cond-true _ None (slice_get (lines_of rs) from >>= λ l. cond (is_bare l.mark) (line_head k c rs from) (lines_place k c rs from (to - 1))) (eq-eqb from to e))

@@ -14,6 +14,3 @@ cut_held t s ds h = record { cut = h.cut; rows = h.rows; sound = h.sound }
 
 pub cut_shown : (t : List ℕ) (s : Shown) → HasCut t s → IsShown s
 cut_shown t s h = record { cut = cut_of t; is = h.rows; size = subst (λ (x : List ℕ). length x ≤ text_limit) h.cut.text h.cut.size }
-
-pub held_shown : (t : List ℕ) (s : Shown) (ds : List DocumentLines) → Holds t s ds → IsShown s
-held_shown t s ds h = cut_shown t s (cut_held t s ds h)

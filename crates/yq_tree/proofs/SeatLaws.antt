@@ -97,9 +97,6 @@ seat_later ss at left x is less =
 pub line_told : (steps : List Step) (rs : List Row) (ls : List Line) (n first : ℕ) (found : Option Numbers) → ls ≡ lines_of rs → Some n ≡ line_of steps ls → found ≡ option_map (numbers first) (seat n rs) → found ≡ option_map (numbers first) (seat_of steps rs)
 line_told steps rs ls n first found is e told = told ∙ ap (λ (o : Option ℕ). option_map (numbers first) (o >>= λ n. seat n rs)) (e ∙ ap (line_of steps) is)
 
-pub no_line_told : (steps : List Step) (rs : List Row) (ls : List Line) (first : ℕ) → ls ≡ lines_of rs → None ≡ line_of steps ls → None ≡ option_map (numbers first) (seat_of steps rs)
-no_line_told steps rs ls first is e = ap (λ (o : Option ℕ). option_map (numbers first) (o >>= λ n. seat n rs)) (e ∙ ap (line_of steps) is)
-
 -- whether a line has room, by its numbers
 pub room_told : (part : Place) (k : ℕ) (x : Numbers) (o : Option Seat) (room : Bool) → Some x ≡ option_map (numbers k) o → ((j : ℕ) (s : Seat) → x ≡ numbers j s → room ≡ line_has_room part s) → room ≡ seat_has_room part o
 room_told part k x None room e told = absurd (cc)
