@@ -1,10 +1,7 @@
 //! The program: commands over a store of files.
 #![tactic(auto)]
 
-mod output;
 mod program;
-mod run;
-mod words;
 
 use crate::program::{answer_to_words, usage_lines};
 use std::io;

@@ -4,9 +4,9 @@ use Rattle.yq_commands.specs.declared.answer.Answer.{Answer}
 use Rattle.yq_history.specs.declared.fault.Fault.{Fault}
 use Rattle.yq_store.specs.Count.{one_more}
 use Rattle.yq_history.specs.Faults.{is_output, counted}
-use Rattle.yq.specs.Lists.{Told, tells_failure, tells_output, count_told, failures_in, output_failures_in}
+use Rattle.yq_lists.specs.Lists.{Told, tells_failure, tells_output, count_told, failures_in, output_failures_in}
 use Rattle.yq_history.specs.Shown.{Shown}
-use Rattle.yq.proofs.ReplyLaws.{no_failure}
+use Rattle.yq_lists.proofs.ReplyLaws.{no_failure}
 
 -- the count of the answers that tell something, one answer more
 pub told_more : (told : Answer → Bool) (rs : List Answer) (a : Answer) → count_told told (rs ++ a ∷ []) ≡ count_told told rs + (if told a then 1 else 0)

@@ -21,13 +21,13 @@ use Rattle.yq_history.specs.Causes.{Cause, IsFor, named}
 use Rattle.yq_store.specs.Content.{Content}
 use Rattle.yq_commands.specs.Editing.{EditOutcome, unreadable, refused, edited, edits, program_in}
 use Rattle.yq_history.specs.Faults.{is_failure, is_outside, is_output, of_fault}
-use Rattle.yq.specs.Lists.{Reply, answers_in, Told, IsRefused, IsCarriedOut, Steps, Goes, Run, IsReply, GoesExactly, RunExactly, tells_failure, tells_output, count_told, failures_in, output_failures_in, is_memory, has_memory}
+use Rattle.yq_lists.specs.Lists.{Reply, answers_in, Told, IsRefused, IsCarriedOut, Steps, Goes, Run, IsReply, GoesExactly, RunExactly, tells_failure, tells_output, count_told, failures_in, output_failures_in, is_memory, has_memory}
 use Rattle.yq_history.specs.Pair.{GoodIn, Arrives}
 use Rattle.yq_commands.specs.Prints.{shown_of, answer_by}
 use Rattle.yq_history.specs.Shown.{Shown}
 use Rattle.yq_commands.specs.CommandSteps.{cause_of, next_of, edit_cause, edit_next, update_cause, update_next}
 use Rattle.yq_history.specs.Steps.{unless_fault, walk_cause, walk_next, squash_cause, squash_next}
-use Rattle.yq.proofs.ReplyLaws.{reply}
+use Rattle.yq_lists.proofs.ReplyLaws.{reply}
 
 -- a command that prints leaves its history
 printing_stays : (c : Command) (h : Option History) → (shown_of c h).printed ≢ [] → next_of c h ≡ h

@@ -24,15 +24,15 @@ use Rattle.yq_commands.specs.CommandEffects.{edit_effect, update_effect, OfEffec
 use Rattle.yq_commands.specs.Edits.{edit_record}
 use Rattle.yq_history.specs.Faults.{is_outside, is_output}
 use Rattle.yq_commands.specs.CommandNames.{IsOn, IsStranger}
-use Rattle.yq.specs.Lists.{IsApart, AllOnOrApart, Reply, Told, Goes, Run, TellsEffect, HasEffect, Leaves, Keeps, is_kept}
+use Rattle.yq_lists.specs.Lists.{IsApart, AllOnOrApart, Reply, Told, Goes, Run, TellsEffect, HasEffect, Leaves, Keeps, is_kept}
 use Rattle.yq_history.specs.Pair.{GoodIn, Arrives}
 use Rattle.yq_commands.specs.Prints.{shown_of, prints, reads_journal, answer_by}
 use Rattle.yq_history.specs.Shown.{Shown, nothing}
 use Rattle.yq_commands.specs.CommandSteps.{cause_of, next_of}
 use Rattle.yq_history.proofs.EffectLaws.{on_ok}
 use Rattle.yq_history.proofs.PairLaws.{same_pair}
-use Rattle.yq.proofs.ReplyLaws.{reply, reply-answer, no_refusal}
-use Rattle.yq.proofs.ListLaws.{arrived, not_true}
+use Rattle.yq_lists.proofs.ReplyLaws.{reply, reply-answer, no_refusal}
+use Rattle.yq_lists.proofs.ListLaws.{arrived, not_true}
 
 -- ---- what effects print: of these but a listing nothing
 

@@ -6,7 +6,7 @@ ghost use Rattle.std.specs.String.{string_bytes};
 ghost use Rattle.yq_journal.specs.History.{History};
 ghost use Rattle.yq_store.specs.Count.{one_more};
 ghost use Rattle.yq_commands.specs.CommandNames.{IsStranger};
-ghost use Rattle.yq.specs.Lists.{AllOnOrApart, Keeps, Run, RunExactly, Told, Reply, answers_in, printed_in, has_memory, failures_in, output_failures_in, tells_output};
+ghost use Rattle.yq_lists.specs.Lists.{AllOnOrApart, Keeps, Run, RunExactly, Told, Reply, answers_in, printed_in, has_memory, failures_in, output_failures_in, tells_output};
 ghost use Rattle.yq_history.specs.Pair.{GoodIn};
 ghost use Rattle.yq_commands.specs.Prints as spec;
 ghost use Rattle.yq_history.specs.Shown.{shown_by};
