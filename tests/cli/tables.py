@@ -5,7 +5,8 @@ A table is `{"about": .., "source": .., "rows": [..]}`, and a row one of
 - `{"text": T, "edit": EXPR, "gives": T2, "splices"?: [[AT, OLD, NEW], ..]}`: `yq -i EXPR f` makes T2 of the file `f`
   and prints nothing, and `yq undo f` gives T back. An edit to T itself writes nothing.
 - `{"text": T, "edit": EXPR, "refused": LINE}`: the edit is refused with the line `Error: LINE`.
-- `{"text": T, "words": [WORD, ..], "prints": OUT, "no_match"?: true}`, or with `refused`.
+- `{"text": T, "words": [WORD, ..], "prints": OUT, "no_match"?: true}`, or with `refused`; `behind` is the lines between
+  `U1 usage` and the ways to call the program.
 - `{"files": {NAME: T, ..}, "steps": [STEP, ..]}`, where a step is `{"set": {NAME: T}}` or `{"words": [..],
   "refused"?: LINE, "prints"?: OUT, "no_match"?: true, "files"?: {NAME: T}, "same"?: true | [NAME, ..]}`. A T that is null
   stands for no file.
@@ -73,7 +74,11 @@ def is_told(folder, step):
         return
     line, usage = err.split(b"\n", 1)
     equal((status, out, line), (1, b"", b"Error: " + step["refused"].encode()), step["words"])
-    equal(usage != b"", step["refused"] == "U1 usage", usage)
+    told, ways, rest = usage.decode().partition("Usage: yq ")
+    is_usage = step["refused"] == "U1 usage"
+    equal((ways != "", rest.endswith("\ntry 'yq --help'\n"), told != ""), (is_usage,) * 3, usage)
+    if "behind" in step:
+        equal(told.splitlines(), step["behind"], step["words"])
 
 
 def stays(before, after, same):
@@ -87,7 +92,7 @@ def take(folder, step):
         known(step, ["set"])
         put(folder, step["set"])
         return
-    known(step, ["words", "refused", "prints", "no_match", "files", "same"])
+    known(step, ["words", "refused", "behind", "prints", "no_match", "files", "same"])
     before = stands(folder)
     is_told(folder, step)
     stays(before, stands(folder), True if "refused" in step else step.get("same", []))
@@ -128,8 +133,8 @@ def is_so(folder, row):
         known(row, ["name", "text", "edit", "refused"])
         take(folder, {"words": ["-i", row["edit"], FILE], "refused": row["refused"]})
     else:
-        known(row, ["name", "text", "files", "words", "prints", "no_match", "refused"])
-        take(folder, {key: row[key] for key in ("words", "prints", "no_match", "refused") if key in row})
+        known(row, ["name", "text", "files", "words", "prints", "no_match", "refused", "behind"])
+        take(folder, {key: row[key] for key in ("words", "prints", "no_match", "refused", "behind") if key in row})
 
 
 def known(row, keys):

@@ -1,14 +1,16 @@
 """Runs at the same time: each has the lock of its file, and no edit is lost."""
 
+import fcntl
 import json
 import os
+import pty
 import select
 import signal
 import subprocess
 import time
 from concurrent.futures import ThreadPoolExecutor, wait
 
-from harness import each_user, equal
+from harness import SECONDS, each_user, equal
 from tracing import Held, calls_in, own_calls, traced
 
 DONE, NO_LOCK = (0, b"", b""), (1, b"", b"Error: S2 read failed\n")
@@ -220,6 +222,37 @@ def check_a_run_does_not_wait_for_ever(folder):
         equal(len(pauses) * 5, LONGEST_WAIT * 1_000)
     equal(held.sent(), DONE)
     holds_all(both, [1, 2])
+
+
+def lines_on(terminal, seconds):
+    """What a terminal gets until its other end is closed, or no more of it comes."""
+    told = b""
+    while select.select([terminal], [], [], seconds)[0]:
+        try:
+            told += os.read(terminal, 4096)
+        except OSError:
+            break
+        if told.endswith(b"\n"):
+            break
+    return told
+
+
+def check_a_wait_is_told_on_a_terminal(folder):
+    """Where standard error is one, a run that waits longer than a second says once for what."""
+    folder.write("f", b"n: 1\n")
+    ours, theirs = pty.openpty()
+    with open(folder.name("f"), "rb") as held:
+        fcntl.flock(held, fcntl.LOCK_EX)
+        begun = time.monotonic()
+        run = subprocess.Popen(
+            [folder.yq, "-i", ".n = 2", "f"], cwd=folder.path, stdin=subprocess.DEVNULL, stdout=subprocess.DEVNULL, stderr=theirs
+        )
+        os.close(theirs)
+        told = lines_on(ours, SECONDS)
+        equal(time.monotonic() - begun >= 1, True)
+    equal((told, run.wait(SECONDS), lines_on(ours, SECONDS)), (b'yq: waiting for another run at "f"\r\n', 0, b""))
+    os.close(ours)
+    equal(folder.read("f"), b"n: 2\n")
 
 
 def check_a_file_system_without_locks(folder):

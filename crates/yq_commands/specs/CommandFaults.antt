@@ -15,7 +15,7 @@ use Rattle.yq_history.specs.declared.fault.Fault.TheVariants.{Usage, Syntax, Not
 
 -- why words are no command
 abbrev pub of_words : WordsError → Fault
-of_words words.Usage = Usage
+of_words (words.Usage cause) = Usage cause
 of_words words.OutOfMemory = OutOfMemory
 
 -- why an expression has no program

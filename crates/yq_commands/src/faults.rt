@@ -12,7 +12,7 @@ pub fn words_fault(error: WordsError) -> Fault
     ensures { result ≡ of_words error }
 {
     match error {
-        WordsError::Usage => Fault::Usage,
+        WordsError::Usage(cause) => Fault::Usage(cause),
         WordsError::OutOfMemory => Fault::OutOfMemory,
     }
 }

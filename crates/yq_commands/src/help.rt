@@ -34,6 +34,10 @@ Examples:
   yq '.server.port' config.yaml
   yq -i '.server.port = 9090' config.yaml
   yq undo config.yaml
+
+Values:           \"text\" 8080 0.5 true null [1, \"b\"] {\"key\": 1} .other.path
+Selected places:  yq -i '(.jobs[] | select(.name == \"ship\") | .when) = \"tag\"' ci.yaml
+Codes (E1, Y9):   man yq, DIAGNOSTICS
 ";
 
 /// Shows the help.

@@ -2,12 +2,13 @@
 
 use thiserror::Error;
 use yq_scalar::{FaultKind, ReadFault};
+use yq_words::UsageCause;
 
 /// Why a command is refused. Its text is the line that the program prints.
 #[derive(Clone, Copy, Debug, PartialEq, Eq, Error)]
 pub enum Fault {
     #[error("U1 usage")]
-    Usage,
+    Usage(UsageCause),
     #[error("E1 syntax")]
     Syntax,
     #[error("E2 not in profile")]

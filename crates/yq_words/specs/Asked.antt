@@ -112,9 +112,14 @@ words_fit name rows =
 abbrev pub passes : Text → List Row → Bool
 passes name rows = names_fit (first_of (codes "file") rows) (first_of (codes "journal") rows) && words_fit name rows
 
+-- the words are no command, whatever the cause
+abbrev pub is_usage : WordsError → Bool
+is_usage (Usage cause) = true
+is_usage OutOfMemory = false
+
 -- memory ran out, or a text that the command needs is missing or may not stand
 abbrev pub IsMissed : Text → List Row → WordsError → Type 0
-IsMissed name rows fault = (fault ≡ OutOfMemory) ⊎ ((fault ≡ Usage) × (passes name rows ≡ false))
+IsMissed name rows fault = (fault ≡ OutOfMemory) ⊎ ((is_usage fault ≡ true) × (passes name rows ≡ false))
 
 -- clap finds a command, whose texts are there and may stand
 abbrev pub finds : Option (Text × List Row) → Bool
@@ -124,7 +129,7 @@ finds (Some found) = passes found.0 found.1
 -- memory ran out, or clap doesn't take the words, or finds no such command in them
 abbrev pub IsUnread : List Text → WordsError → Type 0
 IsUnread full fault =
-    (fault ≡ OutOfMemory) ⊎ ((fault ≡ Usage) × (takes yq full ≡ true → finds (subcommand_of yq full) ≡ false))
+    (fault ≡ OutOfMemory) ⊎ ((is_usage fault ≡ true) × (takes yq full ≡ true → finds (subcommand_of yq full) ≡ false))
 
 -- the program's own checks of the texts that clap finds: FILE isn't `-`, the journal has another name, and N is a number of 64 bits
 abbrev pub checks : List Row → Bool
@@ -134,5 +139,5 @@ checks rows =
 
 -- memory ran out, or clap doesn't take the words, or they fail the program's own checks
 abbrev pub IsRefused : List Text → WordsError → Type 0
-IsRefused full fault = (fault ≡ OutOfMemory) ⊎ ((fault ≡ Usage)
+IsRefused full fault = (fault ≡ OutOfMemory) ⊎ ((is_usage fault ≡ true)
     × (takes yq full ≡ true → option_map_or (λ found. checks found.1) (subcommand_of yq full) true ≡ false))

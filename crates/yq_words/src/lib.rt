@@ -3,9 +3,11 @@
 
 mod command;
 mod line;
+mod usage;
 mod words;
 mod words_error;
 
 pub use command::{Command, purpose_of};
+pub use usage::{UsageCause, first_name, usage_text};
 pub use words::read_words;
 pub use words_error::WordsError;

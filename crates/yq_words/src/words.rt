@@ -7,6 +7,7 @@ ghost use Rattle.yq_words.specs.Line.{yq};
 
 use crate::command::Command;
 use crate::line::matched;
+use crate::usage::UsageCause;
 use crate::words::asked::command_in;
 use crate::words_error::WordsError;
 use clap::error::ErrorKind;
@@ -22,7 +23,7 @@ fn is_command_word(word: &str) -> bool
 }
 
 /// The command's word, and the words behind it.
-fn split_command<'a, 'w>(words: &'w [&'a str]) -> (&'a str, &'w [&'a str])
+pub(crate) fn split_command<'a, 'w>(words: &'w [&'a str]) -> (&'a str, &'w [&'a str])
     ensures { result.0.now ∷ map (λ w. w.now) result.1.now ≡ spec.with_command (map (λ w. w.now) words.entry.now) }
 {
     match words.split_first() {
@@ -69,12 +70,12 @@ fn asks_help(words: &[&str]) -> bool
 fn without_matches(kind: ErrorKind, asked: bool) -> Result<Command, WordsError>
     ensures ok { IfOk result (λ c. (c ≡ Help) × (kind ≡ ErrorKind.DisplayHelp) × (asked ≡ true)) }
     ensures err { IfErr result (λ e. ((e ≡ WordsError.OutOfMemory) × (kind ≡ ErrorKind.OutOfMemory))
-        ⊎ ((e ≡ WordsError.Usage) × (kind ≢ ErrorKind.OutOfMemory) × ((kind ≡ ErrorKind.DisplayHelp) → asked ≡ false))) }
+        ⊎ ((spec.is_usage e ≡ true) × (kind ≢ ErrorKind.OutOfMemory) × ((kind ≡ ErrorKind.DisplayHelp) → asked ≡ false))) }
 {
     match kind {
         ErrorKind::DisplayHelp if asked => Ok(Command::Help),
         ErrorKind::OutOfMemory => Err(WordsError::OutOfMemory),
-        _ => Err(WordsError::Usage),
+        _ => Err(WordsError::Usage(UsageCause::Words)),
     }
 }
 
@@ -91,7 +92,7 @@ fn command_by(alloc: Global, full: &[&str], asked: bool) -> Result<Command, Word
         Err(e) => without_matches(e.kind(), asked),
         Ok(matches) => match matches.subcommand() {
             Some((name, found)) => command_in(alloc, name, found),
-            None => Err(WordsError::Usage),
+            None => Err(WordsError::Usage(UsageCause::Words)),
         },
     }
 }

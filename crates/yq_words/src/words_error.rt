@@ -1,12 +1,13 @@
 //! Why words are no command.
 
+use crate::usage::UsageCause;
 use std::alloc::AllocError;
 
 /// Why words are no command.
 #[derive(Clone, Copy, Debug, PartialEq, Eq)]
 pub enum WordsError {
     /// They are no words of the command line.
-    Usage,
+    Usage(UsageCause),
     /// Memory ran out.
     OutOfMemory,
 }

@@ -6,6 +6,7 @@ ghost use Rattle.yq_words.specs.declared.command.Command.TheVariants.{Help};
 ghost use Rattle.yq_words.specs.Asked as spec;
 
 use crate::command::Command;
+use crate::usage::UsageCause;
 use crate::words_error::WordsError;
 use clap::ArgMatches;
 use std::alloc::{AllocError, Global};
@@ -47,15 +48,18 @@ fn journal_name(alloc: Global, given: Option<&str>, file: &str) -> Result<String
 /// The names of the file and of its journal.
 fn names_of(alloc: Global, matches: &ArgMatches) -> Result<(String, String), WordsError>
     ensures ok { IfOk result (λ names. spec.HasNames (rows_of (found_of matches.now)) (string_bytes names.0) (string_bytes names.1)) }
-    ensures err { IfErr result (λ e. (e ≡ WordsError.OutOfMemory) ⊎ ((e ≡ WordsError.Usage)
+    ensures err { IfErr result (λ e. (e ≡ WordsError.OutOfMemory) ⊎ ((spec.is_usage e ≡ true)
         × (spec.names_fit (first_of (codes "file") (rows_of (found_of matches.now))) (first_of (codes "journal") (rows_of (found_of matches.now))) ≡ false))) }
 {
     let Some(file) = text_of(matches, "file") else {
-        return Err(WordsError::Usage);
+        return Err(WordsError::Usage(UsageCause::Words));
     };
     let journal = journal_name(alloc, text_of(matches, "journal"), file)?;
-    if file == "-" || journal.as_str() == file {
-        return Err(WordsError::Usage);
+    if file == "-" {
+        return Err(WordsError::Usage(UsageCause::FileIsDash));
+    }
+    if journal.as_str() == file {
+        return Err(WordsError::Usage(UsageCause::JournalIsFile));
     }
     Ok((String::from_str(alloc, file)?, journal))
 }
@@ -68,7 +72,7 @@ fn eval_in(alloc: Global, matches: &ArgMatches) -> Result<Command, WordsError>
 {
     let (file, journal) = names_of(alloc, matches)?;
     let Some(expr) = text_of(matches, "expr") else {
-        return Err(WordsError::Usage);
+        return Err(WordsError::Usage(UsageCause::Words));
     };
     Ok(Command::Eval {
         expr: String::from_str(alloc, expr)?,
@@ -89,7 +93,7 @@ fn squash_in(alloc: Global, matches: &ArgMatches) -> Result<Command, WordsError>
     let (file, journal) = names_of(alloc, matches)?;
     match text_of(matches, "n").and_then(count_of) {
         Some(n) => Ok(Command::Squash { n, file, journal }),
-        None => Err(WordsError::Usage),
+        None => Err(WordsError::Usage(UsageCause::BadCount)),
     }
 }
 
@@ -113,6 +117,6 @@ pub fn command_in(alloc: Global, name: &str, matches: &ArgMatches) -> Result<Com
     } else if name == "history" {
         Ok(Command::History { file, journal })
     } else {
-        Err(WordsError::Usage)
+        Err(WordsError::Usage(UsageCause::Words))
     }
 }
