@@ -60,6 +60,10 @@ alias_put {X} a k v o n is = go (bytes_eq a k) (bytes_eq k a) (equal_back a k) o
 pub no_aliases : {X : Type 0} (names : List Name) (m : BTreeMap (Bor (List ℕ)) X) → maps.IsEmpty m → HasAliases names m → (k : List ℕ) → list_any (refers_to k) names ≡ false
 no_aliases names m empty h k = sym (h k) ∙ ap (λ es. is_some (lookup (maps.is_at (λ j. slice_cmp nat_cmp k j.now)) es)) empty
 
+-- and is that of names without aliases
+pub without_aliases : {X : Type 0} (names : List Name) (m : BTreeMap (Bor (List ℕ)) X) → maps.IsEmpty m → ((k : List ℕ) → list_any (refers_to k) names ≡ false) → HasAliases names m
+without_aliases names m empty none k = ap (λ es. is_some (lookup (maps.is_at (λ j. slice_cmp nat_cmp k j.now)) es)) empty ∙ sym (none k)
+
 -- a view of a value, if one is put
 pub seen_put : {A B : Type 0} (f : A → B) (b : Bool) (v : A) (o : Option A) → option_map f (cond b (Some v) o) ≡ cond b (Some (f v)) (option_map f o)
 seen_put f true v o = refl

@@ -1,11 +1,13 @@
 -- Anchors that aliases name, node by node.
 use Rattle.std.proofs.Common.{◌≡◌, ℕ, Bool, true, false, ◌||◌, cond, List, [], ◌∷◌, length, Option, Some, None, refl, sym, ap, ◌∙◌}
+use Rattle.std.proofs.lemmas.Bool.{false≢true}
 use Rattle.std.proofs.lemmas.List.Folds.{list_any-append}
 use Rattle.std.specs.List.{list_any}
 use Rattle.yq_scalar.specs.Paths.{Step, To, child_at, node_at}
 use Rattle.yq_scalar.specs.Tree as tree
 use Rattle.yq_scalar.specs.Tree.{Label, Node, alias, scalar, list, Children, child, children_of}
 use Rattle.yq_scalar.specs.Anchors.{Name, Anchors, Refers, names_of, names_in}
+use Rattle.yq_lines.specs.Names.{is_reference}
 use Rattle.yq_documents.specs.Nodes.{anchor_of, kind_of, text_of}
 use Rattle.yq_documents.specs.declared.nodes.node.NodeKind.TheVariants as kinds
 use Rattle.yq_meaning.specs.Changes.{Addition, appends, overwrites, Change, replaces, adds, removes, sets_comment, allowed, is_too_deep, is_too_long, refers_to, is_used, is_used_inside, is_used_in, overwrites_used, takes_used}
@@ -25,6 +27,12 @@ used_parts names (list None cs) = refl
 used_parts names (list (Some a) cs) = refl
 used_parts names (tree.map None cs) = refl
 used_parts names (tree.map (Some a) cs) = refl
+
+-- without aliases none has a name
+pub none_refer : (ns : List Name) (k : List ℕ) → list_any is_reference ns ≡ false → list_any (refers_to k) ns ≡ false
+none_refer [] k h = refl
+none_refer (Anchors a ∷ ns) k h = none_refer ns k h
+none_refer (Refers a ∷ ns) k h = absurd (false≢true (sym h))
 
 -- without aliases no anchor is used
 pub none_used : (names ns : List Name) → ((k : List ℕ) → list_any (refers_to k) names ≡ false) → list_any (is_used names) ns ≡ false

@@ -42,11 +42,14 @@ fn put_aliases_below<'d>(node: Node<'d, '_>, aliases: &mut Aliases<'d>) -> Resul
     Ok(())
 }
 
-/// The names of the aliases in a node.
+/// The names of the aliases in a node. Few documents have any, so it is asked first whether this one may.
 pub fn aliases_of<'d>(alloc: Global, node: Node<'d, '_>) -> Result<Aliases<'d>, AllocError>
     ensures { IfOk result (λ m. HasAliases (names_of (node_of node.entry)) m) }
 {
     let mut aliases = BTreeMap::new(alloc);
+    if !node.may_refer() {
+        return Ok(aliases);
+    }
     put_aliases(node, &mut aliases)?;
     Ok(aliases)
 }
