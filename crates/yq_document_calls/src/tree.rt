@@ -4,6 +4,7 @@ mod documents;
 mod examples;
 mod inline_places;
 mod nodes;
+mod prefixes;
 mod refused_memory;
 mod room;
 mod shown;

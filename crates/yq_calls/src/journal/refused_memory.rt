@@ -1,8 +1,8 @@
 //! Each growth of a call refused in turn: it answers `Memory`, and with
 //! memory gives its answer.
 
-use crate::journal::{EDITED, FIRST, PORT};
-use std::alloc::Global;
+use crate::journal::PORT;
+use std::alloc::{AllocError, Global};
 use std::process::Abort;
 use std::test::Fail;
 use yq_expr::parse_expr;
@@ -10,25 +10,49 @@ use yq_journal::{Journal, JournalError, JournalFault, Move, Record, redo_record,
 use yq_splice::edit;
 use yq_text_calls::all_memory;
 
-/// `PORT` in version 2.
-const COUNTED: &str =
-    r#"{"at":1,"pending":null,"records":[{"after_len":28,"before_len":28,"count":1,"expr":".port = 9090","splices":[{"at":23,"new":"OTA5MA==","old":"ODA4MA=="}]}],"version":2}
-"#;
+/// A journal: its cursor, its open move, and its records.
+type State = (&'static str, &'static str, &'static str);
 
-/// The same, undone.
-const UNDONE: &str =
-    r#"{"at":0,"pending":null,"records":[{"after_len":28,"before_len":28,"count":1,"expr":".port = 9090","splices":[{"at":23,"new":"OTA5MA==","old":"ODA4MA=="}]}],"version":2}
-"#;
+/// Two edits of a digit, both done.
+const TWO: State = ("2", "null", BOTH);
 
-/// An open edit of `n: 1` and a line feed.
-const OPEN: &str =
-    r#"{"at":0,"pending":{"from":"bjogMQo=","kind":"edit","record":{"after_len":5,"before_len":5,"count":1,"expr":".n = 2","splices":[{"at":3,"new":"Mg==","old":"MQ=="}]}},"records":[],"version":2}
-"#;
+/// The same, the second one undone.
+const ONE: State = ("1", "null", BOTH);
 
-/// Two edits of a digit.
-const TWO: &str =
-    r#"{"at":2,"pending":null,"records":[{"after_len":5,"before_len":5,"count":1,"expr":".n = 2","splices":[{"at":3,"new":"Mg==","old":"MQ=="}]},{"after_len":5,"before_len":5,"count":1,"expr":".n = 3","splices":[{"at":3,"new":"Mw==","old":"Mg=="}]}],"version":2}
-"#;
+const BOTH: &str =
+    r#"{"after_len":5,"before_len":5,"count":1,"expr":".n = 2","splices":[{"at":3,"new":"Mg==","old":"MQ=="}]},{"after_len":5,"before_len":5,"count":1,"expr":".n = 3","splices":[{"at":3,"new":"Mw==","old":"Mg=="}]}"#;
+
+/// Both joined.
+const JOINED: &str =
+    r#"{"after_len":5,"before_len":5,"count":2,"expr":".n = 2 | .n = 3","splices":[{"at":3,"new":"Mg==","old":"MQ=="},{"at":3,"new":"Mw==","old":"Mg=="}]}"#;
+
+/// The first one twice.
+const AGAIN: &str =
+    r#"{"after_len":5,"before_len":5,"count":1,"expr":".n = 2","splices":[{"at":3,"new":"Mg==","old":"MQ=="}]},{"after_len":5,"before_len":5,"count":1,"expr":".n = 2","splices":[{"at":3,"new":"Mg==","old":"MQ=="}]}"#;
+
+/// Both, and a third one.
+const THREE: &str =
+    r#"{"after_len":5,"before_len":5,"count":1,"expr":".n = 2","splices":[{"at":3,"new":"Mg==","old":"MQ=="}]},{"after_len":5,"before_len":5,"count":1,"expr":".n = 3","splices":[{"at":3,"new":"Mw==","old":"Mg=="}]},{"after_len":5,"before_len":5,"count":1,"expr":".n = 2","splices":[{"at":3,"new":"Mg==","old":"MQ=="}]}"#;
+
+/// The record of `PORT`.
+const PORT_RECORD: &str =
+    r#"{"after_len":28,"before_len":28,"count":1,"expr":".port = 9090","splices":[{"at":23,"new":"OTA5MA==","old":"ODA4MA=="}]}"#;
+
+/// An open edit of `n: 1` and a line feed, an open undo of `n: 3` and one, and an open redo of `n: 2` and one.
+const OPEN_EDIT: &str =
+    r#"{"from":"bjogMQo=","kind":"edit","record":{"after_len":5,"before_len":5,"count":1,"expr":".n = 2","splices":[{"at":3,"new":"Mg==","old":"MQ=="}]}}"#;
+
+const OPEN_UNDO: &str = r#"{"from":"bjogMwo=","kind":"undo","record":null}"#;
+
+const OPEN_REDO: &str = r#"{"from":"bjogMgo=","kind":"redo","record":null}"#;
+
+/// The text of a journal.
+fn journal_text(alloc: Global, state: &State) -> Result<String, AllocError> {
+    let (at, pending, records) = state;
+    format!(in alloc;
+        "{{\"at\":{at},\"pending\":{pending},\"records\":[{records}],\"version\":2}}\n"
+    )
+}
 
 /// A call on a journal, or on its first record.
 #[derive(Clone, Copy)]
@@ -36,7 +60,7 @@ enum Call {
     Undo(&'static str),
     Redo(&'static str),
     Squash(u64),
-    StartUndo(&'static str),
+    Start(Opened, &'static str),
     Settle(&'static str),
     TargetOfUndo(&'static str),
     Push(&'static str),
@@ -44,6 +68,14 @@ enum Call {
     Read(&'static str),
     UndoRecord(&'static str),
     RedoRecord(&'static str),
+}
+
+/// A move that a call opens: an edit by its expression, an undo, or a redo.
+#[derive(Clone, Copy)]
+enum Opened {
+    Edit(&'static str),
+    Undo,
+    Redo,
 }
 
 /// What is refused where a call can't be made.
@@ -71,13 +103,28 @@ fn push(alloc: Global, journal: &mut Journal, expr: &str) -> Result<(), JournalE
     }
 }
 
-/// Opens an undo that changes a text.
-fn start_undo(alloc: Global, journal: &mut Journal, text: &[u8]) -> Result<(), JournalError> {
-    let made = journal.target(alloc, &Move::Undo, text)?;
+/// The move that a call opens.
+fn move_of(alloc: Global, opened: Opened) -> Result<Move, JournalError> {
+    match opened {
+        Opened::Edit(expr) => Ok(Move::Edit(recorded(alloc, expr)?)),
+        Opened::Undo => Ok(Move::Undo),
+        Opened::Redo => Ok(Move::Redo),
+    }
+}
+
+/// Opens a move that changes a text.
+fn start(
+    alloc: Global,
+    journal: &mut Journal,
+    opened: Opened,
+    text: &[u8],
+) -> Result<(), JournalError> {
+    let step = move_of(alloc, opened)?;
+    let made = journal.target(alloc, &step, text)?;
     if made.as_slice() == text {
         return Err(NO_CALL);
     }
-    match journal.start(Move::Undo, text) {
+    match journal.start(step, text) {
         Ok(()) => Ok(()),
         Err((_, error)) => Err(error),
     }
@@ -109,30 +156,34 @@ fn made(alloc: Global, journal: &mut Journal, call: Call) -> Result<Vec<u8>, Jou
         Call::UndoRecord(text) => return turned(alloc, journal, true, text.as_bytes()),
         Call::RedoRecord(text) => return turned(alloc, journal, false, text.as_bytes()),
         Call::Squash(count) => journal.squash(count)?,
-        Call::StartUndo(text) => start_undo(alloc, journal, text.as_bytes())?,
+        Call::Start(opened, text) => start(alloc, journal, opened, text.as_bytes())?,
         Call::Settle(text) => journal.settle(text.as_bytes())?,
         Call::Push(expr) => push(alloc, journal, expr)?,
         Call::Read(text) => *journal = Journal::from_json(alloc, text.as_bytes())?,
-        Call::Write => return Ok(journal.to_json(alloc)?),
+        Call::Write => {
+            journal.to_json(alloc)?;
+        }
     }
     Ok(Vec::new(alloc))
 }
 
-/// Refuses each growth of a call in turn, compares what it then gives, and
-/// says how many were refused.
-fn in_turn(
-    rt: &impl Abort,
-    alloc: Global,
-    text: &str,
-    call: Call,
-    wanted: &str,
-) -> Result<u32, Fail> {
+/// A journal, a call, the text that it gives, and the journal behind it.
+type Row = (State, Call, &'static str, State);
+
+/// Refuses each growth of a call in turn, compares what it then gives and leaves, and says how many growths
+/// were refused. All turns are made on one journal, so a refused one leaves it as it was.
+fn in_turn(rt: &impl Abort, alloc: Global, row: &Row) -> Result<u32, Fail> {
+    let (state, call, given, behind) = row;
+    let text = journal_text(alloc, state)?;
+    let wanted = journal_text(alloc, behind)?;
     let mut journal = Journal::from_json(alloc, text.as_bytes())?;
     let mut held = all_memory(alloc)?;
     'turns: for turn in 0..4096u32 {
-        match made(alloc, &mut journal, call) {
-            Ok(given) => {
-                assert_eq!(rt; given.as_slice(), wanted.as_bytes());
+        match made(alloc, &mut journal, *call) {
+            Ok(made) => {
+                drop(held);
+                assert_eq!(rt; made.as_slice(), given.as_bytes());
+                assert_eq!(rt; journal.to_json(alloc)?.as_slice(), wanted.as_bytes());
                 return Ok(turn);
             }
             Err(error) => {
@@ -146,21 +197,43 @@ fn in_turn(
 
 #[test]
 fn each_growth_is_refused_in_turn(rt: HostRuntime) -> Result<(), Fail> {
-    let rows = [
-        (COUNTED, Call::Undo(EDITED), FIRST),
-        (UNDONE, Call::Redo(FIRST), EDITED),
-        (COUNTED, Call::TargetOfUndo(EDITED), FIRST),
-        (COUNTED, Call::UndoRecord(EDITED), FIRST),
-        (COUNTED, Call::RedoRecord(FIRST), EDITED),
-        (TWO, Call::Squash(2), ""),
-        (COUNTED, Call::StartUndo(EDITED), ""),
-        (OPEN, Call::Settle("n: 2\n"), ""),
-        (COUNTED, Call::Push(".n = 2"), ""),
-        (COUNTED, Call::Read(PORT), ""),
-        (COUNTED, Call::Write, COUNTED),
+    let rows: [Row; 13] = [
+        (TWO, Call::Undo("n: 3\n"), "n: 2\n", ONE),
+        (ONE, Call::Redo("n: 2\n"), "n: 3\n", TWO),
+        (TWO, Call::TargetOfUndo("n: 3\n"), "n: 2\n", TWO),
+        (TWO, Call::UndoRecord("n: 2\n"), "n: 1\n", TWO),
+        (TWO, Call::RedoRecord("n: 1\n"), "n: 2\n", TWO),
+        (TWO, Call::Squash(2), "", ("1", "null", JOINED)),
+        (
+            TWO,
+            Call::Start(Opened::Edit(".n = 2"), "n: 1\n"),
+            "",
+            ("2", OPEN_EDIT, BOTH),
+        ),
+        (
+            TWO,
+            Call::Start(Opened::Undo, "n: 3\n"),
+            "",
+            ("2", OPEN_UNDO, BOTH),
+        ),
+        (
+            ONE,
+            Call::Start(Opened::Redo, "n: 2\n"),
+            "",
+            ("1", OPEN_REDO, BOTH),
+        ),
+        (
+            ("2", OPEN_EDIT, BOTH),
+            Call::Settle("n: 2\n"),
+            "",
+            ("3", "null", THREE),
+        ),
+        (ONE, Call::Push(".n = 2"), "", ("2", "null", AGAIN)),
+        (TWO, Call::Read(PORT), "", ("1", "null", PORT_RECORD)),
+        (TWO, Call::Write, "", TWO),
     ];
-    'rows: for (text, call, wanted) in rows {
-        let turns = in_turn(&rt, rt.alloc(), text, call, wanted)?;
+    'rows: for row in &rows {
+        let turns = in_turn(&rt, rt.alloc(), row)?;
         assert!(rt; turns > 0);
     }
     Ok(())
