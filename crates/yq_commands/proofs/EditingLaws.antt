@@ -33,7 +33,7 @@ unread_refuses p t e none tells = subst (λ o. Refuses o e) (sym (unread p t non
 
 -- of other bytes it tells that
 pub no_utf8_told : (t : List ℕ) (f : ReadFault) → is_utf8 t ≡ false → f.kind ≡ NotUtf8 → IsUnreadable t (Unreadable f)
-no_utf8_told t f no kind = (λ is. no, λ is. kind)
+no_utf8_told t f other kind = (λ is. other, λ is. kind)
 
 -- and of UTF-8 it doesn't
 pub unread_text : (t : List ℕ) (f : ReadFault) → is_utf8 t ≡ true → f.kind ≢ NotUtf8 → IsUnreadable t (Unreadable f)

@@ -1,7 +1,7 @@
 -- What an accepted edit makes of a file, and an expression that is no program.
 use Rattle.std.proofs.Common.{◌≡◌, ◌≢◌, ℕ, List, false, Option, Some, Result, Ok, Err, IfOk, OnOk, MatchResult, is_ok, string_bytes, refl, sym, ap, ◌∙◌, subst, true≢false}
 use Rattle.std.proofs.lemmas.Option.{same_Some, none-some}
-use Rattle.yq_program.specs.Program.{Program, is_read}
+use Rattle.yq_program.specs.Program.{Program, is_read, updates}
 use Rattle.yq_script.specs.declared.edited.Edited.{Edited}
 use Rattle.yq_splice.specs.Answers.{Edits}
 use Rattle.yq_splice.specs.Carried.{edit_of}
@@ -54,13 +54,13 @@ pub file_made : {T : Type 0} (r : Result T Fault) (expr : List ℕ) (p : Program
 file_made (Ok v) expr p t old new is there made = record { program = p; parsed = is; text = t; old_is = there; new_is = made }
 file_made (Err e) expr p t old new is there made = tt
 
-same_program : {p q : Program} → Ok {E = Fault} p ≡ Ok q → p ≡ q
-same_program e = cc
+same_program : (p q : Program) → ◌≡◌ {A = Result Program Fault} (Ok p) (Ok q) → p ≡ q
+same_program p q e = cc
 
 -- and of one that is printed
 pub printed_made : {T : Type 0} (r : Result T Fault) (expr : List ℕ) (p : Program) (old : Option (List ℕ)) (printed : List ℕ) → program_in expr ≡ Ok p →
     (is_read p ≡ false → OnOk r ((t : List ℕ) × (old ≡ Some t) × IsTextEdited p t printed)) → OnOk r (PrintsEdited expr old printed)
 printed_made (Ok v) expr p old printed is made = λ us again.
-    let x = made (ap is_read (same_program (sym is ∙ again))) in
+    let x = made (ap is_read (same_program p (updates us) (sym is ∙ again))) in
     record { program = p; parsed = is; text = x.0; old_is = x.1; new_is = (printed, refl, x.2) }
 printed_made (Err e) expr p old printed is made = tt

@@ -35,10 +35,10 @@ returns-then-eq-clause-edited g c = λ keeps apart there.
     let made = c.in_ok-made.made-is in
     let slice = c.as_bytes-new.ensures.value in
     let same = (bytes_eq-Decides c.as_bytes-new.result.now c.args.text.now).0 (sym c.eq.ensures ∙ c.if-eq.true) in
-    holds_made (program_of c.args.program.now) c.args.text.now _ c.args.text.now _ c.in_ok-made.ensures.edited cc there
+    holds_made (program_of c.args.program.now) c.args.text.now _ c.args.text.now _ c.in_ok-made.ensures.edited (cc) there
 
 pub returns-clause-edited : goal.returns-clause-edited
 returns-clause-edited g c = λ keeps apart there.
     let made = c.in_ok-made.made-is in
     let slice = c.as_bytes-new.ensures.value in
-    on_ok_map _ (c.commit.ensures.text keeps apart) (holds_made (program_of c.args.program.now) c.args.text.now _ c.as_bytes-new.result.now _ c.in_ok-made.ensures.edited cc)
+    on_ok_map _ (c.commit.ensures.text keeps apart) (holds_made (program_of c.args.program.now) c.args.text.now _ c.as_bytes-new.result.now _ c.in_ok-made.ensures.edited (cc))

@@ -20,4 +20,4 @@ returns-clause-ok c = λ exit_status no_doc.
 pub returns-clause-edited : goal.returns-clause-edited
 returns-clause-edited c =
     let made = c.in_ok-text.text-is in
-    text_same (program_of c.args.program.now) c.args.text.now _ _ c.in_ok-text.ensures.edited cc
+    text_same (program_of c.args.program.now) c.args.text.now _ _ c.in_ok-text.ensures.edited (cc)
