@@ -16,7 +16,7 @@ use yq_inline::Value;
 use yq_meaning::Op;
 use yq_scalar::block_written::break_text;
 use yq_scalar::push_spaces;
-use yq_script::{Edited, ExchangeError, Segment, exchange};
+use yq_script::{Segment, Segments};
 use yq_tree::{Documents, MarkPlace, Path};
 use yq_ways::layout_of;
 
@@ -80,45 +80,45 @@ pub(crate) fn behind_space(
 }
 
 /// A value on the lines under a key or dash.
-fn put_under(
+fn put_under<'d>(
     alloc: Global,
     layout: &Layout,
-    place: &MarkPlace<'_>,
+    place: &MarkPlace<'d>,
     value: &Value,
-) -> Result<Option<Edited>, ExchangeError>
+) -> Result<Option<Segments<'d>>, AllocError>
     ensures { Carries result (Some (spec.under_segments layout.now (node_of value.now) (mark_told place.now))) }
 {
     let column = below_mark(layout, place, value)?;
     let lines = lines_below(alloc, layout, column, value)?;
-    let segments = [
+    let segments = vec![in alloc;
         Segment::Keep(place.before),
-        Segment::Put(place.gone, ""),
+        Segment::Put(place.gone, String::new(alloc)),
         Segment::Keep(place.white),
         Segment::Keep(place.comment),
-        Segment::Put("", &lines),
+        Segment::Put("", lines),
         Segment::Keep(place.behind),
-    ];
-    Ok(Some(exchange(alloc, &segments)?))
+    ]?;
+    Ok(Some(Segments::new(segments)))
 }
 
 /// A value that begins on the line of a dash.
-fn put_behind(
+fn put_behind<'d>(
     alloc: Global,
     layout: &Layout,
-    place: &MarkPlace<'_>,
+    place: &MarkPlace<'d>,
     value: &Value,
-) -> Result<Option<Edited>, ExchangeError>
+) -> Result<Option<Segments<'d>>, AllocError>
     ensures { Carries result (Some (spec.behind_segments layout.now (node_of value.now) (mark_told place.now))) }
 {
     let text = behind_space(alloc, layout, place.column, value)?;
-    let segments = [
+    let segments = vec![in alloc;
         Segment::Keep(place.before),
-        Segment::Put(place.gone, &text),
+        Segment::Put(place.gone, text),
         Segment::Keep(place.white),
         Segment::Keep(place.comment),
         Segment::Keep(place.behind),
-    ];
-    Ok(Some(exchange(alloc, &segments)?))
+    ]?;
+    Ok(Some(Segments::new(segments)))
 }
 
 /// The key or dash behind which an inline node, or nothing, is written for the node at a path.
@@ -141,11 +141,11 @@ fn is_compact(place: &MarkPlace<'_>) -> bool
 
 /// An operation carried out by a collection in block style in the place of an inline node, or of
 /// nothing.
-pub fn replace_block_way(
+pub fn replace_block_way<'d>(
     alloc: Global,
-    documents: &Documents<'_>,
+    documents: &'d Documents<'_>,
     op: &Op,
-) -> Result<Option<Edited>, ExchangeError>
+) -> Result<Option<Segments<'d>>, AllocError>
     ensures { Carries result (spec.replace_block_way (operation_of op.now) (cut_of documents.now)) }
 {
     let Op::Replace(path, value) = op else {

@@ -18,7 +18,7 @@ use std::alloc::{AllocError, Global};
 use yq_block::{Layout, is_filled};
 use yq_inline::Value;
 use yq_meaning::Op;
-use yq_script::{Edited, ExchangeError, Segment, exchange};
+use yq_script::{Segment, Segments};
 use yq_tree::{CollectionEnd, Documents, MarkPlace, Path, split_break};
 use yq_ways::{inline_written, layout_of};
 
@@ -78,18 +78,18 @@ fn lines_under<'d>(
 }
 
 /// Texts put in the place of a block collection: one behind a key or dash, and one under it.
-fn exchange_under(
+fn exchange_under<'d>(
     alloc: Global,
-    mark: &MarkPlace<'_>,
-    end: &CollectionEnd<'_>,
-    beside: &str,
-    below: &str,
-) -> Result<Option<Edited>, ExchangeError>
+    mark: &MarkPlace<'d>,
+    end: &CollectionEnd<'d>,
+    beside: String,
+    below: String,
+) -> Result<Option<Segments<'d>>, AllocError>
     requires { spec.EndsIn mark.now.behind.now end.now.behind.now }
-    ensures { Carries result (Some (spec.exchange_segments (spec.lines_upto (mark_told mark.now) (collection_told end.now)) (spec.written_of beside.now below.now))) }
+    ensures { Carries result (Some (spec.exchange_segments (spec.lines_upto (mark_told mark.now) (collection_told end.now)) (spec.written_of (string_bytes beside) (string_bytes below)))) }
 {
     let (gone, last) = lines_upto(mark.behind, end.behind);
-    let segments = [
+    let segments = vec![in alloc;
         Segment::Keep(mark.before),
         Segment::Keep(mark.gone),
         Segment::Put("", beside),
@@ -98,17 +98,17 @@ fn exchange_under(
         Segment::Put(gone, below),
         Segment::Keep(last),
         Segment::Keep(end.behind),
-    ];
-    Ok(Some(exchange(alloc, &segments)?))
+    ]?;
+    Ok(Some(Segments::new(segments)))
 }
 
 /// A value put in the place of the block collection at a path.
-fn exchange_collection(
+fn exchange_collection<'d>(
     alloc: Global,
-    documents: &Documents<'_>,
+    documents: &'d Documents<'_>,
     path: &Path,
     value: &Value,
-) -> Result<Option<Edited>, ExchangeError>
+) -> Result<Option<Segments<'d>>, AllocError>
     ensures { Carries result (spec.collection_exchanged path.now.doc (steps_of path.now) (values.node_of value.now) (cut_of documents.now)) }
 {
     let Some((mark, end)) = lines_under(documents, path) else {
@@ -118,15 +118,15 @@ fn exchange_collection(
     let Some((beside, below)) = written_there(alloc, &layout, &mark, value)? else {
         return Ok(None);
     };
-    exchange_under(alloc, &mark, &end, &beside, &below)
+    exchange_under(alloc, &mark, &end, beside, below)
 }
 
 /// An operation carried out by a value in the place of a block collection under a key or dash.
-pub fn replace_collection_way(
+pub fn replace_collection_way<'d>(
     alloc: Global,
-    documents: &Documents<'_>,
+    documents: &'d Documents<'_>,
     op: &Op,
-) -> Result<Option<Edited>, ExchangeError>
+) -> Result<Option<Segments<'d>>, AllocError>
     ensures { Carries result (spec.replace_collection_way (operation_of op.now) (cut_of documents.now)) }
 {
     let Op::Replace(path, value) = op else {

@@ -18,7 +18,7 @@ use std::alloc::{AllocError, Global};
 use yq_block::{Layout, is_filled};
 use yq_inline::Value;
 use yq_meaning::Op;
-use yq_script::{Edited, ExchangeError, Segment, exchange};
+use yq_script::{Segment, Segments};
 use yq_tree::{CollectionEnd, DashPlace, Documents, Path};
 use yq_ways::{inline_written, layout_of};
 
@@ -72,32 +72,32 @@ fn compact_place<'d>(
 }
 
 /// A text put in the place of the compact collection behind a dash.
-fn exchange_behind(
+fn exchange_behind<'d>(
     alloc: Global,
-    dash: &DashPlace<'_>,
-    end: &CollectionEnd<'_>,
-    text: &str,
-) -> Result<Option<Edited>, ExchangeError>
+    dash: &DashPlace<'d>,
+    end: &CollectionEnd<'d>,
+    text: String,
+) -> Result<Option<Segments<'d>>, AllocError>
     requires { EndsIn dash.now.behind.now end.now.behind.now }
-    ensures { Carries result (Some (spec.compact_segments (spec.compact_upto (dash_told dash.now) (collection_told end.now)) text.now)) }
+    ensures { Carries result (Some (spec.compact_segments (spec.compact_upto (dash_told dash.now) (collection_told end.now)) (string_bytes text))) }
 {
     let (gone, last) = lines_upto(dash.behind, end.behind);
-    let segments = [
+    let segments = vec![in alloc;
         Segment::Keep(dash.before),
         Segment::Put(gone, text),
         Segment::Keep(last),
         Segment::Keep(end.behind),
-    ];
-    Ok(Some(exchange(alloc, &segments)?))
+    ]?;
+    Ok(Some(Segments::new(segments)))
 }
 
 /// A value put in the place of the compact collection at a path.
-fn exchange_compact(
+fn exchange_compact<'d>(
     alloc: Global,
-    documents: &Documents<'_>,
+    documents: &'d Documents<'_>,
     path: &Path,
     value: &Value,
-) -> Result<Option<Edited>, ExchangeError>
+) -> Result<Option<Segments<'d>>, AllocError>
     ensures { Carries result (spec.compact_exchanged path.now.doc (steps_of path.now) (values.node_of value.now) (cut_of documents.now)) }
 {
     let Some((dash, end)) = compact_place(documents, path) else {
@@ -107,15 +107,15 @@ fn exchange_compact(
     let Some(text) = value_behind(alloc, &layout, &dash, value)? else {
         return Ok(None);
     };
-    exchange_behind(alloc, &dash, &end, &text)
+    exchange_behind(alloc, &dash, &end, text)
 }
 
 /// An operation carried out by a value in the place of a compact collection.
-pub fn replace_compact_way(
+pub fn replace_compact_way<'d>(
     alloc: Global,
-    documents: &Documents<'_>,
+    documents: &'d Documents<'_>,
     op: &Op,
-) -> Result<Option<Edited>, ExchangeError>
+) -> Result<Option<Segments<'d>>, AllocError>
     ensures { Carries result (spec.replace_compact_way (operation_of op.now) (cut_of documents.now)) }
 {
     let Op::Replace(path, value) = op else {

@@ -17,7 +17,7 @@ use yq_scalar::block_written::break_text;
 use yq_scalar::lines::split_at_break;
 use yq_scalar::push_spaces;
 use yq_scalar::text::split_white;
-use yq_script::{Edited, ExchangeError, Segment, exchange};
+use yq_script::{Segment, Segments};
 use yq_tree::{Documents, ScalarPlace};
 use yq_ways::layout_of;
 
@@ -51,52 +51,52 @@ fn rows_in(
 }
 
 /// The rows of a value in the place of the lines of a block scalar, without its header.
-fn put_rows(
+fn put_rows<'d>(
     alloc: Global,
     layout: &Layout,
-    place: ScalarPlace<'_>,
+    place: ScalarPlace<'d>,
     value: &Value,
-) -> Result<Option<Edited>, ExchangeError>
+) -> Result<Option<Segments<'d>>, AllocError>
     ensures { Carries result (Some (spec.rows_segments layout.now (node_of value.now) (scalar_told place.entry))) }
 {
     let column = below_scalar(layout, place, value)?;
     let rows = rows_in(alloc, layout, column, value)?;
-    let segments = [
+    let segments = vec![in alloc;
         Segment::Keep(place.before),
-        Segment::Put(place.space, ""),
-        Segment::Put(place.header, ""),
+        Segment::Put(place.space, String::new(alloc)),
+        Segment::Put(place.header, String::new(alloc)),
         Segment::Keep(place.tail),
-        Segment::Put(place.raw, &rows),
+        Segment::Put(place.raw, rows),
         Segment::Keep(place.behind),
-    ];
-    Ok(Some(exchange(alloc, &segments)?))
+    ]?;
+    Ok(Some(Segments::new(segments)))
 }
 
 /// A value that begins on the line of a dash, in the place of a block scalar.
-fn put_on_line(
+fn put_on_line<'d>(
     alloc: Global,
     layout: &Layout,
-    place: ScalarPlace<'_>,
+    place: ScalarPlace<'d>,
     value: &Value,
-) -> Result<Option<Edited>, ExchangeError>
+) -> Result<Option<Segments<'d>>, AllocError>
     ensures { Carries result (Some (spec.dash_segments layout.now (node_of value.now) (scalar_told place.entry))) }
 {
     let text = behind_space(alloc, layout, place.column, value)?;
     let (white, rest) = split_white(place.tail);
     let (comment, header_break) = split_at_break(rest);
     let (before, lines, last) = split_lines(header_break, place.raw);
-    let segments = [
+    let segments = vec![in alloc;
         Segment::Keep(place.before),
-        Segment::Put(place.space, ""),
-        Segment::Put(place.header, &text),
+        Segment::Put(place.space, String::new(alloc)),
+        Segment::Put(place.header, text),
         Segment::Keep(white),
         Segment::Keep(comment),
-        Segment::Put(before, ""),
-        Segment::Put(lines, ""),
+        Segment::Put(before, String::new(alloc)),
+        Segment::Put(lines, String::new(alloc)),
         Segment::Keep(last),
         Segment::Keep(place.behind),
-    ];
-    Ok(Some(exchange(alloc, &segments)?))
+    ]?;
+    Ok(Some(Segments::new(segments)))
 }
 
 /// Whether a collection begins on the line of a dash.
@@ -109,12 +109,12 @@ fn begins_on_line(place: ScalarPlace<'_>) -> bool
 }
 
 /// A collection in block style in the place of a block scalar.
-fn put_collection(
+fn put_collection<'d>(
     alloc: Global,
     layout: &Layout,
-    place: ScalarPlace<'_>,
+    place: ScalarPlace<'d>,
     value: &Value,
-) -> Result<Option<Edited>, ExchangeError>
+) -> Result<Option<Segments<'d>>, AllocError>
     ensures { Carries result (Some (spec.collection_segments layout.now (node_of value.now) (scalar_told place.entry))) }
 {
     if begins_on_line(place) {
@@ -125,11 +125,11 @@ fn put_collection(
 }
 
 /// An operation carried out by a collection in block style in the place of a block scalar.
-pub fn scalar_collection_way(
+pub fn scalar_collection_way<'d>(
     alloc: Global,
-    documents: &Documents<'_>,
+    documents: &'d Documents<'_>,
     op: &Op,
-) -> Result<Option<Edited>, ExchangeError>
+) -> Result<Option<Segments<'d>>, AllocError>
     ensures { Carries result (spec.scalar_collection_way (operation_of op.now) (cut_of documents.now)) }
 {
     let Op::Replace(path, value) = op else {

@@ -17,7 +17,7 @@ use yq_meaning::Op;
 use yq_scalar::lines::split_at_break;
 use yq_scalar::text::split_white;
 use yq_scalar::{Place, Style, can_write, write_scalar};
-use yq_script::{Edited, ExchangeError, Segment, exchange};
+use yq_script::{Segment, Segments};
 use yq_tree::{Documents, Node, NodeKind, ScalarPlace, split_break};
 use yq_ways::{inline_written, is_kept};
 
@@ -73,75 +73,77 @@ pub(crate) fn split_lines<'d>(header_break: &'d str, raw: &'d str) -> (&'d str, 
 }
 
 /// A text in the place of a block scalar, on the line of its header.
-fn put_line(
+fn put_line<'d>(
     alloc: Global,
-    place: ScalarPlace<'_>,
-    text: &str,
-) -> Result<Option<Edited>, ExchangeError>
-    ensures { Carries result (Some (spec.line_segments (scalar_told place.entry) text.now)) }
+    place: ScalarPlace<'d>,
+    text: String,
+) -> Result<Option<Segments<'d>>, AllocError>
+    ensures { Carries result (Some (spec.line_segments (scalar_told place.entry) (string_bytes text))) }
 {
     let (white, rest) = split_white(place.tail);
     let (comment, header_break) = split_at_break(rest);
     let (before, lines, last) = split_lines(header_break, place.raw);
-    let segments = [
+    let segments = vec![in alloc;
         Segment::Keep(place.before),
         Segment::Keep(place.space),
         Segment::Put(place.header, text),
         Segment::Keep(white),
         Segment::Keep(comment),
-        Segment::Put(before, ""),
-        Segment::Put(lines, ""),
+        Segment::Put(before, String::new(alloc)),
+        Segment::Put(lines, String::new(alloc)),
         Segment::Keep(last),
         Segment::Keep(place.behind),
-    ];
-    Ok(Some(exchange(alloc, &segments)?))
+    ]?;
+    Ok(Some(Segments::new(segments)))
 }
 
 /// Another header and other lines in the place of those of a block scalar.
-pub(crate) fn put_scalar(
+pub(crate) fn put_scalar<'d>(
     alloc: Global,
-    place: ScalarPlace<'_>,
-    header: &str,
-    raw: &str,
-) -> Result<Option<Edited>, ExchangeError>
-    ensures { Carries result (Some (spec.scalar_segments (scalar_told place.entry) header.now raw.now)) }
+    place: ScalarPlace<'d>,
+    header: String,
+    raw: String,
+) -> Result<Option<Segments<'d>>, AllocError>
+    ensures { Carries result (Some (spec.scalar_segments (scalar_told place.entry) (string_bytes header) (string_bytes raw))) }
 {
-    let segments = [
+    let segments = vec![in alloc;
         Segment::Keep(place.before),
         Segment::Keep(place.space),
         Segment::Put(place.header, header),
         Segment::Keep(place.tail),
         Segment::Put(place.raw, raw),
         Segment::Keep(place.behind),
-    ];
-    Ok(Some(exchange(alloc, &segments)?))
+    ]?;
+    Ok(Some(Segments::new(segments)))
 }
 
 /// A value in the place of a block scalar, if it is written inline there.
-fn line_at(
+fn line_at<'d>(
     alloc: Global,
-    place: ScalarPlace<'_>,
+    place: ScalarPlace<'d>,
     kept: bool,
     text: bool,
     value: &Value,
-) -> Result<Option<Edited>, ExchangeError>
+) -> Result<Option<Segments<'d>>, AllocError>
     ensures { Carries result (spec.line_at kept text (values.node_of value.now) (scalar_told place.entry)) }
 {
     if kept {
-        return put_scalar(alloc, place, place.header, place.raw);
+        let header = String::from_str(alloc, place.header)?;
+        let raw = String::from_str(alloc, place.raw)?;
+        return put_scalar(alloc, place, header, raw);
     }
     let Some(written) = line_written(alloc, text, value)? else {
         return Ok(None);
     };
-    put_line(alloc, place, &written)
+    put_line(alloc, place, written)
 }
 
 /// An operation carried out by a value that is written inline in the place of a block scalar.
-pub fn scalar_line_way(
+pub fn scalar_line_way<'d>(
     alloc: Global,
-    documents: &Documents<'_>,
+    documents: &'d Documents<'_>,
     op: &Op,
-) -> Result<Option<Edited>, ExchangeError>
+) -> Result<Option<Segments<'d>>, AllocError>
     ensures { Carries result (spec.scalar_line_way (operation_of op.now) (cut_of documents.now)) }
 {
     let Op::Replace(path, value) = op else {

@@ -8,22 +8,22 @@ ghost use Rattle.yq_block_ways.specs.ScalarLiteral as spec;
 ghost use Rattle.yq_ways.specs.WayAnswers.{Carries};
 
 use crate::scalar_line::{has_text, put_scalar};
-use std::alloc::Global;
+use std::alloc::{AllocError, Global};
 use yq_inline::Value;
 use yq_meaning::Op;
 use yq_scalar::{Break, Place, Style, can_write, write_block};
-use yq_script::{Edited, ExchangeError};
+use yq_script::Segments;
 use yq_tree::{Documents, ScalarPlace};
 
 /// A string in the place of a block scalar, with a text line or without, if it is written as a
 /// literal one there.
-fn literal_at(
+fn literal_at<'d>(
     alloc: Global,
     br: Break,
-    place: ScalarPlace<'_>,
+    place: ScalarPlace<'d>,
     text: bool,
     value: &Value,
-) -> Result<Option<Edited>, ExchangeError>
+) -> Result<Option<Segments<'d>>, AllocError>
     ensures { Carries result (spec.literal_at text br (values.node_of value.now) (scalar_told place.entry)) }
 {
     let Value::Scalar(scalar) = value else {
@@ -36,16 +36,17 @@ fn literal_at(
         return Ok(None);
     }
     let (header, raw) = write_block(alloc, scalar.text(), place.indent, br)?;
-    put_scalar(alloc, place, header, &raw)
+    let header = String::from_str(alloc, header)?;
+    put_scalar(alloc, place, header, raw)
 }
 
 /// An operation carried out by a string that is written as a literal block scalar in the place of a
 /// block scalar.
-pub fn scalar_literal_way(
+pub fn scalar_literal_way<'d>(
     alloc: Global,
-    documents: &Documents<'_>,
+    documents: &'d Documents<'_>,
     op: &Op,
-) -> Result<Option<Edited>, ExchangeError>
+) -> Result<Option<Segments<'d>>, AllocError>
     ensures { Carries result (spec.scalar_literal_way (operation_of op.now) (cut_of documents.now)) }
 {
     let Op::Replace(path, value) = op else {

@@ -3,4 +3,4 @@
 
 mod ways;
 
-pub use ways::{carry_by_way, fitting_has_a_way, ways_carry_out};
+pub use ways::{fitting_has_a_way, op_segments, ways_carry_out};

@@ -1,18 +1,17 @@
 //! Ways to carry out operations, each for some of them.
-ghost use Rattle.std.specs.Prelude.{◌≡◌, Some};
+ghost use Rattle.std.specs.Prelude.{◌≡◌, IfOk, Some};
 ghost use Rattle.yq_rows.specs.Rows.{Cut, cut_text};
 ghost use Rattle.yq_meaning.specs.Fits.{Fits};
 ghost use Rattle.yq_meaning.specs.Operations.{Operation, operation_of};
 ghost use Rattle.yq_meaning.specs.Rooms.{room_of};
 ghost use Rattle.yq_documents.specs.Reading.{cut_of, documents, read_at};
-ghost use Rattle.yq_script.specs.Exchanging.{Exchanged, exchange_of};
 ghost use Rattle.yq_carrying.specs.Carrying as spec;
 ghost use Rattle.yq_ways.specs.Operands.{HasOperand};
 ghost use Rattle.yq_ways.specs.Serving.{IsServed};
 ghost use Rattle.yq_ways.specs.WayAnswers.{Carries};
 ghost use Rattle.yq_ways.specs.Ways.{IsWay};
 
-use std::alloc::Global;
+use std::alloc::{AllocError, Global};
 use yq_block_ways::{
     replace_block_way, replace_collection_way, replace_compact_way, scalar_collection_way,
     scalar_line_way, scalar_literal_way,
@@ -20,7 +19,7 @@ use yq_block_ways::{
 use yq_flow_ways::{emptying, flow_append_way, flow_remove_way, flow_replace_way};
 use yq_meaning::Op;
 use yq_root_ways::root_way;
-use yq_script::{Edited, ExchangeError, Segment, exchange};
+use yq_script::{Segment, Segments};
 use yq_tree::Documents;
 use yq_ways::{
     append_way, head_comment_way, line_comment_way, remove_first_way, remove_way, replace_way,
@@ -28,220 +27,220 @@ use yq_ways::{
 
 /// A comment set by the way for it.
 #[tactic(auto, unfolding(crate::specs::Carrying::comment_ways), using(crate::proofs::WayLaws::first_way_carries, crate::proofs::WayLaws::second_way_carries))]
-fn by_comment_ways(
+fn by_comment_ways<'d>(
     alloc: Global,
-    documents: &Documents<'_>,
+    documents: &'d Documents<'_>,
     op: &Op,
-) -> Result<Option<Edited>, ExchangeError>
+) -> Result<Option<Segments<'d>>, AllocError>
     ensures { Carries result (spec.comment_ways (operation_of op.now) (cut_of documents.now)) }
 {
-    if let Some(edited) = line_comment_way(alloc, documents, op)? {
-        return Ok(Some(edited));
+    if let Some(segments) = line_comment_way(alloc, documents, op)? {
+        return Ok(Some(segments));
     }
     head_comment_way(alloc, documents, op)
 }
 
 /// An item or entry taken out of a block collection by the way for it.
 #[tactic(auto, unfolding(crate::specs::Carrying::remove_ways), using(crate::proofs::WayLaws::first_way_carries, crate::proofs::WayLaws::second_way_carries))]
-fn by_remove_ways(
+fn by_remove_ways<'d>(
     alloc: Global,
-    documents: &Documents<'_>,
+    documents: &'d Documents<'_>,
     op: &Op,
-) -> Result<Option<Edited>, ExchangeError>
+) -> Result<Option<Segments<'d>>, AllocError>
     ensures { Carries result (spec.remove_ways (operation_of op.now) (cut_of documents.now)) }
 {
-    if let Some(edited) = remove_way(alloc, documents, op)? {
-        return Ok(Some(edited));
+    if let Some(segments) = remove_way(alloc, documents, op)? {
+        return Ok(Some(segments));
     }
     remove_first_way(alloc, documents, op)
 }
 
 /// An item or entry put into a block collection or taken out of one by the way for it.
 #[tactic(auto, unfolding(crate::specs::Carrying::entry_ways), using(crate::proofs::WayLaws::first_way_carries, crate::proofs::WayLaws::second_way_carries))]
-fn by_entry_ways(
+fn by_entry_ways<'d>(
     alloc: Global,
-    documents: &Documents<'_>,
+    documents: &'d Documents<'_>,
     op: &Op,
-) -> Result<Option<Edited>, ExchangeError>
+) -> Result<Option<Segments<'d>>, AllocError>
     ensures { Carries result (spec.entry_ways (operation_of op.now) (cut_of documents.now)) }
 {
-    if let Some(edited) = append_way(alloc, documents, op)? {
-        return Ok(Some(edited));
+    if let Some(segments) = append_way(alloc, documents, op)? {
+        return Ok(Some(segments));
     }
     by_remove_ways(alloc, documents, op)
 }
 
 /// An inline node, or nothing, replaced by the way for it.
 #[tactic(auto, unfolding(crate::specs::Carrying::replace_ways), using(crate::proofs::WayLaws::first_way_carries, crate::proofs::WayLaws::second_way_carries))]
-fn by_replace_ways(
+fn by_replace_ways<'d>(
     alloc: Global,
-    documents: &Documents<'_>,
+    documents: &'d Documents<'_>,
     op: &Op,
-) -> Result<Option<Edited>, ExchangeError>
+) -> Result<Option<Segments<'d>>, AllocError>
     ensures { Carries result (spec.replace_ways (operation_of op.now) (cut_of documents.now)) }
 {
-    if let Some(edited) = replace_way(alloc, documents, op)? {
-        return Ok(Some(edited));
+    if let Some(segments) = replace_way(alloc, documents, op)? {
+        return Ok(Some(segments));
     }
     replace_block_way(alloc, documents, op)
 }
 
 /// A block scalar replaced by a scalar, by the way for it.
 #[tactic(auto, unfolding(crate::specs::Carrying::string_ways), using(crate::proofs::WayLaws::first_way_carries, crate::proofs::WayLaws::second_way_carries))]
-fn by_string_ways(
+fn by_string_ways<'d>(
     alloc: Global,
-    documents: &Documents<'_>,
+    documents: &'d Documents<'_>,
     op: &Op,
-) -> Result<Option<Edited>, ExchangeError>
+) -> Result<Option<Segments<'d>>, AllocError>
     ensures { Carries result (spec.string_ways (operation_of op.now) (cut_of documents.now)) }
 {
-    if let Some(edited) = scalar_line_way(alloc, documents, op)? {
-        return Ok(Some(edited));
+    if let Some(segments) = scalar_line_way(alloc, documents, op)? {
+        return Ok(Some(segments));
     }
     scalar_literal_way(alloc, documents, op)
 }
 
 /// A block scalar replaced by the way for it.
 #[tactic(auto, unfolding(crate::specs::Carrying::scalar_ways), using(crate::proofs::WayLaws::first_way_carries, crate::proofs::WayLaws::second_way_carries))]
-fn by_scalar_ways(
+fn by_scalar_ways<'d>(
     alloc: Global,
-    documents: &Documents<'_>,
+    documents: &'d Documents<'_>,
     op: &Op,
-) -> Result<Option<Edited>, ExchangeError>
+) -> Result<Option<Segments<'d>>, AllocError>
     ensures { Carries result (spec.scalar_ways (operation_of op.now) (cut_of documents.now)) }
 {
-    if let Some(edited) = by_string_ways(alloc, documents, op)? {
-        return Ok(Some(edited));
+    if let Some(segments) = by_string_ways(alloc, documents, op)? {
+        return Ok(Some(segments));
     }
     scalar_collection_way(alloc, documents, op)
 }
 
 /// A node that is no block collection, or nothing, replaced by the way for it.
 #[tactic(auto, unfolding(crate::specs::Carrying::leaf_ways), using(crate::proofs::WayLaws::first_way_carries, crate::proofs::WayLaws::second_way_carries))]
-fn by_leaf_ways(
+fn by_leaf_ways<'d>(
     alloc: Global,
-    documents: &Documents<'_>,
+    documents: &'d Documents<'_>,
     op: &Op,
-) -> Result<Option<Edited>, ExchangeError>
+) -> Result<Option<Segments<'d>>, AllocError>
     ensures { Carries result (spec.leaf_ways (operation_of op.now) (cut_of documents.now)) }
 {
-    if let Some(edited) = by_replace_ways(alloc, documents, op)? {
-        return Ok(Some(edited));
+    if let Some(segments) = by_replace_ways(alloc, documents, op)? {
+        return Ok(Some(segments));
     }
     by_scalar_ways(alloc, documents, op)
 }
 
 /// A block collection under a key or behind a dash replaced by the way for it.
 #[tactic(auto, unfolding(crate::specs::Carrying::under_ways), using(crate::proofs::WayLaws::first_way_carries, crate::proofs::WayLaws::second_way_carries))]
-fn by_under_ways(
+fn by_under_ways<'d>(
     alloc: Global,
-    documents: &Documents<'_>,
+    documents: &'d Documents<'_>,
     op: &Op,
-) -> Result<Option<Edited>, ExchangeError>
+) -> Result<Option<Segments<'d>>, AllocError>
     ensures { Carries result (spec.under_ways (operation_of op.now) (cut_of documents.now)) }
 {
-    if let Some(edited) = replace_collection_way(alloc, documents, op)? {
-        return Ok(Some(edited));
+    if let Some(segments) = replace_collection_way(alloc, documents, op)? {
+        return Ok(Some(segments));
     }
     replace_compact_way(alloc, documents, op)
 }
 
 /// A block collection replaced by the way for it.
 #[tactic(auto, unfolding(crate::specs::Carrying::collection_ways), using(crate::proofs::WayLaws::first_way_carries, crate::proofs::WayLaws::second_way_carries))]
-fn by_collection_ways(
+fn by_collection_ways<'d>(
     alloc: Global,
-    documents: &Documents<'_>,
+    documents: &'d Documents<'_>,
     op: &Op,
-) -> Result<Option<Edited>, ExchangeError>
+) -> Result<Option<Segments<'d>>, AllocError>
     ensures { Carries result (spec.collection_ways (operation_of op.now) (cut_of documents.now)) }
 {
-    if let Some(edited) = by_under_ways(alloc, documents, op)? {
-        return Ok(Some(edited));
+    if let Some(segments) = by_under_ways(alloc, documents, op)? {
+        return Ok(Some(segments));
     }
     root_way(alloc, documents, op)
 }
 
 /// A node replaced by the way for it.
 #[tactic(auto, unfolding(crate::specs::Carrying::exchange_ways), using(crate::proofs::WayLaws::first_way_carries, crate::proofs::WayLaws::second_way_carries))]
-fn by_exchange_ways(
+fn by_exchange_ways<'d>(
     alloc: Global,
-    documents: &Documents<'_>,
+    documents: &'d Documents<'_>,
     op: &Op,
-) -> Result<Option<Edited>, ExchangeError>
+) -> Result<Option<Segments<'d>>, AllocError>
     ensures { Carries result (spec.exchange_ways (operation_of op.now) (cut_of documents.now)) }
 {
-    if let Some(edited) = by_leaf_ways(alloc, documents, op)? {
-        return Ok(Some(edited));
+    if let Some(segments) = by_leaf_ways(alloc, documents, op)? {
+        return Ok(Some(segments));
     }
     by_collection_ways(alloc, documents, op)
 }
 
 /// A node replaced, or a block collection changed, by the way for it.
 #[tactic(auto, unfolding(crate::specs::Carrying::node_ways), using(crate::proofs::WayLaws::first_way_carries, crate::proofs::WayLaws::second_way_carries))]
-fn by_node_ways(
+fn by_node_ways<'d>(
     alloc: Global,
-    documents: &Documents<'_>,
+    documents: &'d Documents<'_>,
     op: &Op,
-) -> Result<Option<Edited>, ExchangeError>
+) -> Result<Option<Segments<'d>>, AllocError>
     ensures { Carries result (spec.node_ways (operation_of op.now) (cut_of documents.now)) }
 {
-    if let Some(edited) = by_exchange_ways(alloc, documents, op)? {
-        return Ok(Some(edited));
+    if let Some(segments) = by_exchange_ways(alloc, documents, op)? {
+        return Ok(Some(segments));
     }
     by_entry_ways(alloc, documents, op)
 }
 
 /// An item or entry put into a flow collection or taken out of one by the way for it.
 #[tactic(auto, unfolding(crate::specs::Carrying::flow_entry_ways), using(crate::proofs::WayLaws::first_way_carries, crate::proofs::WayLaws::second_way_carries))]
-fn by_flow_entry_ways(
+fn by_flow_entry_ways<'d>(
     alloc: Global,
-    documents: &Documents<'_>,
+    documents: &'d Documents<'_>,
     op: &Op,
-) -> Result<Option<Edited>, ExchangeError>
+) -> Result<Option<Segments<'d>>, AllocError>
     ensures { Carries result (spec.flow_entry_ways (operation_of op.now) (cut_of documents.now)) }
 {
-    if let Some(edited) = flow_append_way(alloc, documents, op)? {
-        return Ok(Some(edited));
+    if let Some(segments) = flow_append_way(alloc, documents, op)? {
+        return Ok(Some(segments));
     }
     flow_remove_way(alloc, documents, op)
 }
 
 /// A flow collection changed by the way for it.
 #[tactic(auto, unfolding(crate::specs::Carrying::flow_ways), using(crate::proofs::WayLaws::first_way_carries, crate::proofs::WayLaws::second_way_carries))]
-fn by_flow_ways(
+fn by_flow_ways<'d>(
     alloc: Global,
-    documents: &Documents<'_>,
+    documents: &'d Documents<'_>,
     op: &Op,
-) -> Result<Option<Edited>, ExchangeError>
+) -> Result<Option<Segments<'d>>, AllocError>
     ensures { Carries result (spec.flow_ways (operation_of op.now) (cut_of documents.now)) }
 {
-    if let Some(edited) = flow_replace_way(alloc, documents, op)? {
-        return Ok(Some(edited));
+    if let Some(segments) = flow_replace_way(alloc, documents, op)? {
+        return Ok(Some(segments));
     }
     by_flow_entry_ways(alloc, documents, op)
 }
 
 /// A node replaced, or a collection changed, by the way for it.
 #[tactic(auto, unfolding(crate::specs::Carrying::tree_ways), using(crate::proofs::WayLaws::first_way_carries, crate::proofs::WayLaws::second_way_carries))]
-fn by_tree_ways(
+fn by_tree_ways<'d>(
     alloc: Global,
-    documents: &Documents<'_>,
+    documents: &'d Documents<'_>,
     op: &Op,
-) -> Result<Option<Edited>, ExchangeError>
+) -> Result<Option<Segments<'d>>, AllocError>
     ensures { Carries result (spec.tree_ways (operation_of op.now) (cut_of documents.now)) }
 {
-    if let Some(edited) = by_node_ways(alloc, documents, op)? {
-        return Ok(Some(edited));
+    if let Some(segments) = by_node_ways(alloc, documents, op)? {
+        return Ok(Some(segments));
     }
     by_flow_ways(alloc, documents, op)
 }
 
 /// A sole item or entry taken out by the way to put an empty collection in the place of its own.
-fn by_sole_ways(
+fn by_sole_ways<'d>(
     alloc: Global,
-    documents: &Documents<'_>,
+    documents: &'d Documents<'_>,
     op: &Op,
-) -> Result<Option<Edited>, ExchangeError>
+) -> Result<Option<Segments<'d>>, AllocError>
     ensures { Carries result (spec.sole_ways (operation_of op.now) (cut_of documents.now)) }
 {
     let Some(replace) = emptying(alloc, documents, op)? else {
@@ -252,47 +251,50 @@ fn by_sole_ways(
 
 /// The same, also for a sole item or entry taken out.
 #[tactic(auto, unfolding(crate::specs::Carrying::content_ways), using(crate::proofs::WayLaws::first_way_carries, crate::proofs::WayLaws::second_way_carries))]
-fn by_content_ways(
+fn by_content_ways<'d>(
     alloc: Global,
-    documents: &Documents<'_>,
+    documents: &'d Documents<'_>,
     op: &Op,
-) -> Result<Option<Edited>, ExchangeError>
+) -> Result<Option<Segments<'d>>, AllocError>
     ensures { Carries result (spec.content_ways (operation_of op.now) (cut_of documents.now)) }
 {
-    if let Some(edited) = by_tree_ways(alloc, documents, op)? {
-        return Ok(Some(edited));
+    if let Some(segments) = by_tree_ways(alloc, documents, op)? {
+        return Ok(Some(segments));
     }
     by_sole_ways(alloc, documents, op)
 }
 
 /// An operation carried out on documents by the first way that is one for it.
 #[tactic(auto, unfolding(crate::specs::Carrying::carrying), using(crate::proofs::WayLaws::first_way_carries, crate::proofs::WayLaws::second_way_carries))]
-fn by_ways(
+fn by_ways<'d>(
     alloc: Global,
-    documents: &Documents<'_>,
+    documents: &'d Documents<'_>,
     op: &Op,
-) -> Result<Option<Edited>, ExchangeError>
+) -> Result<Option<Segments<'d>>, AllocError>
     ensures { Carries result (spec.carrying (operation_of op.now) (cut_of documents.now)) }
 {
-    if let Some(edited) = by_content_ways(alloc, documents, op)? {
-        return Ok(Some(edited));
+    if let Some(segments) = by_content_ways(alloc, documents, op)? {
+        return Ok(Some(segments));
     }
     by_comment_ways(alloc, documents, op)
 }
 
-/// An operation carried out on documents by the first way that is one for it.
-/// One that fits them has a way; by one that has none the text stays.
-#[tactic(auto, using(crate::proofs::WayLaws::given_or_stays, crate::proofs::WayLaws::fails_or_stays))]
-pub fn carry_by_way(
+/// The segments of a text by which an operation is carried out on its documents, by the first way that
+/// is one for it. An operation that fits them has a way; by one that has none the text stays.
+#[tactic(auto, using(crate::proofs::WayLaws::way_given, crate::proofs::WayLaws::text_stays))]
+pub fn op_segments<'d>(
     alloc: Global,
-    documents: &Documents<'_>,
+    documents: &'d Documents<'_>,
     op: &Op,
-) -> Result<Edited, ExchangeError>
-    ensures { Exchanged result (exchange_of (spec.or_stay (cut_of documents.now) (spec.carrying (operation_of op.now) (cut_of documents.now)))) }
+) -> Result<Segments<'d>, AllocError>
+    ensures { IfOk result (λ ss. ss ≡ spec.or_stay (cut_of documents.now) (spec.carrying (operation_of op.now) (cut_of documents.now))) }
 {
     match by_ways(alloc, documents, op)? {
-        Some(edited) => Ok(edited),
-        None => exchange(alloc, &[Segment::Keep(documents.text())]),
+        Some(segments) => Ok(segments),
+        None => {
+            let whole = vec![in alloc; Segment::Keep(documents.text())]?;
+            Ok(Segments::new(whole))
+        }
     }
 }
 

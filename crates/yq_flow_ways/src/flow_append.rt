@@ -15,7 +15,7 @@ use std::alloc::{AllocError, Global};
 use yq_flow::{append_place, write_entry, write_inline};
 use yq_inline::{Form, Inline, Value};
 use yq_meaning::Op;
-use yq_script::{Edited, ExchangeError};
+use yq_script::Segments;
 use yq_tree::Documents;
 
 /// Whether a node takes an entry of a key, or an item.
@@ -40,11 +40,11 @@ fn entry_text(alloc: Global, key: Option<&str>, value: &Value) -> Result<String,
 }
 
 /// An item or entry put behind the last one of a flow collection, or right behind its bracket.
-pub fn flow_append_way(
+pub fn flow_append_way<'d>(
     alloc: Global,
-    documents: &Documents<'_>,
+    documents: &'d Documents<'_>,
     op: &Op,
-) -> Result<Option<Edited>, ExchangeError>
+) -> Result<Option<Segments<'d>>, AllocError>
     ensures { Carries result (spec.flow_append_way (operation_of op.now) (cut_of documents.now)) }
 {
     let Op::Append(path, key, value) = op else {
@@ -61,5 +61,5 @@ pub fn flow_append_way(
         return Ok(None);
     };
     let new = entry_text(alloc, key.as_deref(), value)?;
-    edit_at(alloc, text, place, &new)
+    edit_at(alloc, text, place, new)
 }

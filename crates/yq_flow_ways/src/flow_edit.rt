@@ -1,14 +1,14 @@
-//! Exchanged of flow collections, by their places in the text.
-ghost use Rattle.std.specs.Prelude.{◌≡◌, ◌≤◌, Some, drop, map, option_map, take};
+//! Edits of flow collections, by their places in the text.
+ghost use Rattle.std.specs.Prelude.{◌≡◌, ◌≤◌, Some, drop, map, option_map, string_bytes, take};
 ghost use Rattle.std.specs.Str.{IsCharBoundary};
 ghost use Rattle.yq_inline.specs.Entries.{step_of};
 ghost use Rattle.yq_flow.specs.FlowPlaces.{edit_view};
 ghost use Rattle.yq_flow_ways.specs.FlowWays as spec;
 ghost use Rattle.yq_ways.specs.WayAnswers.{Carries};
 
-use std::alloc::Global;
+use std::alloc::{AllocError, Global};
 use yq_flow::EditPlace;
-use yq_script::{Edited, ExchangeError, Segment, exchange};
+use yq_script::{Segment, Segments};
 use yq_tree::Step;
 
 /// The steps to a collection, and the last one.
@@ -22,26 +22,27 @@ pub(crate) fn last_step(steps: &[Step]) -> Option<(&[Step], &Step)>
 }
 
 /// A text in which the bytes of an edit give way to what it leads with and to what is written.
-pub(crate) fn edit_at(
+pub(crate) fn edit_at<'d>(
     alloc: Global,
-    text: &str,
+    text: &'d str,
     place: EditPlace,
-    written: &str,
-) -> Result<Option<Edited>, ExchangeError>
+    written: String,
+) -> Result<Option<Segments<'d>>, AllocError>
     requires order { place.start ≤ place.end }
     requires start { IsCharBoundary text.now place.start }
     requires end { IsCharBoundary text.now place.end }
-    ensures { Carries result (Some (spec.edit_segments text.now (edit_view place) written.now)) }
+    ensures { Carries result (Some (spec.edit_segments text.now (edit_view place) (string_bytes written))) }
 {
     let (front, behind) = text.split_at(place.end);
     let (before, old) = front.split_at(place.start);
-    let segments = [
+    let lead = String::from_str(alloc, place.lead)?;
+    let segments = vec![in alloc;
         Segment::Keep(before),
-        Segment::Put(old, place.lead),
+        Segment::Put(old, lead),
         Segment::Put("", written),
         Segment::Keep(behind),
-    ];
-    Ok(Some(exchange(alloc, &segments)?))
+    ]?;
+    Ok(Some(Segments::new(segments)))
 }
 
 /// What stands at the place of an edit.

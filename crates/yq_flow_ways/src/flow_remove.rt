@@ -5,18 +5,18 @@ ghost use Rattle.yq_flow_ways.specs.FlowWays as spec;
 ghost use Rattle.yq_ways.specs.WayAnswers.{Carries};
 
 use crate::flow_edit::{edit_at, last_step};
-use std::alloc::Global;
+use std::alloc::{AllocError, Global};
 use yq_flow::remove_place;
 use yq_meaning::Op;
-use yq_script::{Edited, ExchangeError};
+use yq_script::Segments;
 use yq_tree::Documents;
 
 /// An item or entry taken out of a flow collection, with the white space and comma that go with it.
-pub fn flow_remove_way(
+pub fn flow_remove_way<'d>(
     alloc: Global,
-    documents: &Documents<'_>,
+    documents: &'d Documents<'_>,
     op: &Op,
-) -> Result<Option<Edited>, ExchangeError>
+) -> Result<Option<Segments<'d>>, AllocError>
     ensures { Carries result (spec.flow_remove_way (operation_of op.now) (cut_of documents.now)) }
 {
     let Op::Remove(path) = op else {
@@ -32,5 +32,6 @@ pub fn flow_remove_way(
     let Some(place) = remove_place(node, text, last) else {
         return Ok(None);
     };
-    edit_at(alloc, text, place, "")
+    let nothing = String::new(alloc);
+    edit_at(alloc, text, place, nothing)
 }

@@ -13,7 +13,7 @@ use yq_flow::{replace_place, write_inline};
 use yq_inline::{Value, style_of};
 use yq_meaning::Op;
 use yq_scalar::{Place, write_scalar};
-use yq_script::{Edited, ExchangeError, Segment, exchange};
+use yq_script::{Segment, Segments};
 use yq_tree::Documents;
 use yq_ways::{is_kept, style_in};
 
@@ -32,19 +32,19 @@ fn flow_written(alloc: Global, old: &str, value: &Value) -> Result<String, Alloc
 }
 
 /// A text as it is.
-fn kept(alloc: Global, text: &str) -> Result<Option<Edited>, ExchangeError>
+fn kept(alloc: Global, text: &str) -> Result<Option<Segments<'_>>, AllocError>
     ensures { Carries result (Some (script.keep text.now ∷ [])) }
 {
-    let segments = [Segment::Keep(text)];
-    Ok(Some(exchange(alloc, &segments)?))
+    let segments = vec![in alloc; Segment::Keep(text)]?;
+    Ok(Some(Segments::new(segments)))
 }
 
 /// The content of an item or entry of a flow collection replaced, behind its anchor.
-pub fn flow_replace_way(
+pub fn flow_replace_way<'d>(
     alloc: Global,
-    documents: &Documents<'_>,
+    documents: &'d Documents<'_>,
     op: &Op,
-) -> Result<Option<Edited>, ExchangeError>
+) -> Result<Option<Segments<'d>>, AllocError>
     ensures { Carries result (spec.flow_replace_way (operation_of op.now) (cut_of documents.now)) }
 {
     let Op::Replace(path, value) = op else {
@@ -65,5 +65,5 @@ pub fn flow_replace_way(
     }
     let place = replace_place(entry.node);
     let new = flow_written(alloc, text_at(text, place), value)?;
-    edit_at(alloc, text, place, &new)
+    edit_at(alloc, text, place, new)
 }

@@ -1,5 +1,6 @@
 -- What writing a root comes to, by what the code finds.
-use Rattle.std.proofs.Common.{◌≡◌, ℕ, List, [], ◌∷◌, Bor, Bool, Option, Some, None, option_map, sym, ap, ◌∙◌}
+use Rattle.std.proofs.Common.{◌≡◌, ℕ, ◌-◌, ◌≤◌, List, [], ◌∷◌, Bor, Bool, Option, Some, None, option_map, length, slice_index_or, refl, sym, ap, ◌∙◌, arith}
+use Rattle.yq_scalar.specs.Text.{is_feed}
 use Rattle.yq_scalar.specs.Tree.{Node}
 use Rattle.yq_lines.specs.Bodies.{lent}
 use Rattle.yq_documents.specs.Located.{steps_of, located}
@@ -17,10 +18,17 @@ use Rattle.yq_ways.proofs.ReplaceAnswers.{node_located}
 
 -- ---- whether a text ends in a break
 
--- the same of the rest of a text, behind a byte or at the beginning
-abbrev pub closed_or : Bool → List ℕ → Bool
-closed_or b [] = b
-closed_or b (x ∷ t) = is_closed_text (x ∷ t)
+last_told : (x d : ℕ) (t : List ℕ) → is_feed (slice_index_or (x ∷ t) (length t) d) ≡ is_closed_text (x ∷ t)
+unfolding is_closed_text
+last_told x d [] = refl
+last_told x d (y ∷ t) = last_told y d t
+
+-- its last byte tells
+pub closed_last : (x : ℕ) (t : List ℕ) → 1 ≤ length t → x ≡ slice_index_or t (length t - 1) x → is_feed x ≡ is_closed_text t
+closed_last x [] some is = absurd (omega (arith, some))
+closed_last x (y ∷ t) some is =
+    let less : length (y ∷ t) - 1 ≡ length t = omega arith in
+    ap is_feed (is ∙ ap (λ n. slice_index_or (y ∷ t) n x) less) ∙ last_told y x t
 
 -- ---- the way
 

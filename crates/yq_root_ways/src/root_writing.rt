@@ -16,7 +16,7 @@ use yq_block::{Layout, push_block};
 use yq_inline::Value;
 use yq_meaning::Op;
 use yq_scalar::block_written::break_text;
-use yq_script::{Edited, ExchangeError, Segment, exchange};
+use yq_script::{Segment, Segments};
 use yq_tree::{Documents, RootPlace};
 use yq_ways::{is_kept, layout_of};
 
@@ -25,13 +25,10 @@ use yq_ways::{is_kept, layout_of};
 fn is_closed_text(text: &[u8]) -> bool
     ensures { result ≡ spec.is_closed_text text.now }
 {
-    let mut is_closed = true;
-    let mut rest = text;
-    'each: while let [first, after @ ..] = rest {
-        is_closed = *first == b'\n';
-        rest = after;
+    match text {
+        [] => true,
+        [.., last] => *last == b'\n',
     }
-    is_closed
 }
 
 /// A value in block style, behind the spaces before its first line.
@@ -75,48 +72,48 @@ fn put_root<'d>(
     place: RootPlace<'d>,
     old: &'d str,
     value: &Value,
-) -> Result<Option<Edited>, ExchangeError>
+) -> Result<Option<Segments<'d>>, AllocError>
     ensures { Carries result (Some (spec.root_segments layout.now (node_of value.now) (root_told place.entry) old.now)) }
 {
     let text = value_text(alloc, layout, place.column, value)?;
-    let segments = [
+    let segments = vec![in alloc;
         Segment::Keep(place.before),
-        Segment::Put(old, &text),
+        Segment::Put(old, text),
         Segment::Keep(place.behind),
-    ];
-    Ok(Some(exchange(alloc, &segments)?))
+    ]?;
+    Ok(Some(Segments::new(segments)))
 }
 
 /// A value on lines of its own in a document that has no rows, or nothing, where it is kept.
-fn put_new(
+fn put_new<'d>(
     alloc: Global,
     kept: bool,
     layout: &Layout,
-    place: &RootPlace<'_>,
+    place: &RootPlace<'d>,
     value: &Value,
-) -> Result<Option<Edited>, ExchangeError>
+) -> Result<Option<Segments<'d>>, AllocError>
     ensures { Carries result (Some (spec.new_segments kept layout.now (node_of value.now) (root_told place.now))) }
 {
     if kept {
-        let segments = [Segment::Keep(place.before), Segment::Keep(place.behind)];
-        return Ok(Some(exchange(alloc, &segments)?));
+        let segments = vec![in alloc; Segment::Keep(place.before), Segment::Keep(place.behind)]?;
+        return Ok(Some(Segments::new(segments)));
     }
     let lines = value_lines(alloc, layout, place, value)?;
-    let segments = [
+    let segments = vec![in alloc;
         Segment::Keep(place.before),
-        Segment::Put("", &lines),
+        Segment::Put("", lines),
         Segment::Keep(place.behind),
-    ];
-    Ok(Some(exchange(alloc, &segments)?))
+    ]?;
+    Ok(Some(Segments::new(segments)))
 }
 
 /// An operation carried out by a value as a root: in the place of a block collection, or where none
 /// is written.
-pub fn root_way(
+pub fn root_way<'d>(
     alloc: Global,
-    documents: &Documents<'_>,
+    documents: &'d Documents<'_>,
     op: &Op,
-) -> Result<Option<Edited>, ExchangeError>
+) -> Result<Option<Segments<'d>>, AllocError>
     ensures { Carries result (spec.root_way (operation_of op.now) (cut_of documents.now)) }
 {
     let Op::Replace(path, value) = op else {

@@ -7,14 +7,14 @@ ghost use Rattle.yq_script.specs.declared.exchange_error.ExchangeError.TheVarian
 
 use crate::edited::Edited;
 use crate::exchange_error::ExchangeError;
-use crate::segment::Segment;
+use crate::segment::{Segment, Segments};
 use crate::splice::Splice;
 use std::alloc::Global;
 use yq_scalar::characters::TEXT_LIMIT;
 
 /// What stands in the new text for a segment.
-fn new_of<'t>(segment: Segment<'t>) -> &'t str
-    ensures { (ss : List script.Segment) → script.new_text (segment_of segment.entry ∷ ss) ≡ result.now ++ script.new_text ss }
+fn new_of<'s>(segment: &'s Segment<'_>) -> &'s str
+    ensures { (ss : List script.Segment) → script.new_text (segment_of segment.now ∷ ss) ≡ result.now ++ script.new_text ss }
 {
     match segment {
         Segment::Keep(text) => text,
@@ -29,7 +29,7 @@ fn new_len(segments: &[Segment<'_>]) -> Option<usize>
     let mut len = 0;
     let mut rest = segments;
     'segments: while let [segment, after @ ..] = rest {
-        let new = new_of(*segment);
+        let new = new_of(segment);
         if new.len() > TEXT_LIMIT - len {
             return None;
         }
@@ -68,7 +68,7 @@ fn build(alloc: Global, segments: &[Segment<'_>], len: usize) -> Result<Edited, 
     let mut at = 0;
     let mut rest = segments;
     'segments: while let [segment, after @ ..] = rest {
-        match *segment {
+        match segment {
             Segment::Keep(kept) => {
                 if !kept.is_empty() {
                     push_splice(&mut splices, at, old, new)?;
@@ -95,9 +95,10 @@ fn build(alloc: Global, segments: &[Segment<'_>], len: usize) -> Result<Edited, 
 /// new text's bytes, and one moves each of them once.
 ///
 /// The new text may have 16,777,216 bytes at most ([`ExchangeError::TooLarge`]).
-pub fn exchange(alloc: Global, segments: &[Segment<'_>]) -> Result<Edited, ExchangeError>
-    ensures { Exchanged result (exchange_of (segments_of segments.now)) }
+pub fn exchange(alloc: Global, segments: &Segments<'_>) -> Result<Edited, ExchangeError>
+    ensures { Exchanged result (exchange_of segments.now) }
 {
+    let segments = segments.segments.as_slice();
     match new_len(segments) {
         Some(len) => build(alloc, segments, len),
         None => Err(ExchangeError::TooLarge),

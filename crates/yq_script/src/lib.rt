@@ -13,5 +13,5 @@ pub use edited::Edited;
 pub use exchange_error::ExchangeError;
 pub use exchanging::exchange;
 pub use laws::{changes_lead, outside_stays, touching_are_one, unchanged_stay};
-pub use segment::Segment;
+pub use segment::{Segment, Segments};
 pub use splice::{Splice, splice_exchanges, splices_invert};

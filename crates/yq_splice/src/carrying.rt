@@ -10,9 +10,9 @@ ghost use Rattle.yq_splice.specs.Theorems.{IsApplied, IsFitting, IsRefused};
 use crate::edit_error::EditError;
 use crate::operands::operand_holds;
 use std::alloc::{AllocError, Global};
-use yq_carrying::carry_by_way;
+use yq_carrying::op_segments;
 use yq_expr::Op;
-use yq_script::Edited;
+use yq_script::{Edited, exchange};
 use yq_tree::{Documents, read};
 
 /// The text as it is.
@@ -41,7 +41,8 @@ pub(crate) fn follow(done: &mut Edited, next: Edited) -> Result<(), AllocError>
 fn carry_one(alloc: Global, documents: &Documents<'_>, op: &Op) -> Result<Edited, EditError>
     ensures { Edits result (spec.carry_one (operation_of op.now) (cut_of documents.now)) }
 {
-    Ok(carry_by_way(alloc, documents, op)?)
+    let segments = op_segments(alloc, documents, op)?;
+    Ok(exchange(alloc, &segments)?)
 }
 
 /// An operation carried out on a text.

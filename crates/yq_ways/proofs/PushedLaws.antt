@@ -1,6 +1,5 @@
 -- Segments added to others.
 use Rattle.std.proofs.Common.{◌≡◌, ℕ, true, false, List, [], ◌∷◌, ◌++◌, refl, sym, ap, ◌∙◌, append_assoc, append-nil}
-use Rattle.std.proofs.lemmas.List.{map-append}
 use Rattle.yq_scalar.specs.Block.{Lines}
 use Rattle.yq_scalar.specs.BlockRepair.{is_short}
 use Rattle.yq_scalar.specs.Lines.{is_blank}
@@ -8,12 +7,7 @@ use Rattle.yq_scalar.specs.Text.{joined, lines_of}
 use Rattle.yq_scalar.proofs.LineLaws.{joined_lines}
 use Rattle.yq_tree.specs.RemovalPlaces.{Seam}
 use Rattle.yq_script.specs.Script.{Segment, keep}
-use Rattle.yq_script.specs.Segments.{segment_of, segments_of}
-use Rattle.yq_script.specs.declared.segment.Segment.{Segment as Held}
 use Rattle.yq_ways.specs.Removing.{indented, blank_mended, comment_mended, lines_mended}
-
-pub one_pushed : (a b : List Held) (x : Held) → b ≡ a ++ (x ∷ []) → segments_of b ≡ segments_of a ++ (segment_of x ∷ [])
-one_pushed a b x e = ap segments_of e ∙ map-append segment_of a (x ∷ [])
 
 -- a blank line, and then the others
 pub blank_on : (s : Seam) (l : List ℕ) (ls : Lines) → is_blank l ≡ true → lines_mended s (l ∷ ls) ≡ blank_mended s l ++ lines_mended s ls
@@ -35,26 +29,22 @@ comment_text ss after s line e =
     append_assoc ss (comment_mended s line) (keep after ∷ [])
     ∙ ap (λ (x : List Segment). ss ++ x) (ap (λ (t : List ℕ). comment_mended s line ++ (keep t ∷ [])) (sym (joined_lines after)) ∙ sym (comment_last s line (lines_of after) e))
 
-pub comment_done : (start here there last : List Held) (x : Held) (s : Seam) (gap rest line after : List ℕ) → segments_of here ++ lines_mended s (lines_of rest) ≡ segments_of start ++ lines_mended s (lines_of gap) →
-    lines_of rest ≡ line ∷ lines_of after → is_blank line ≡ false → segments_of there ≡ segments_of here ++ comment_mended s line → last ≡ there ++ (x ∷ []) → segment_of x ≡ keep after →
-    segments_of last ≡ segments_of start ++ lines_mended s (lines_of gap)
-comment_done start here there last x s gap rest line after so_far cut e added pushed is =
-    one_pushed there last x pushed
-    ∙ ((λ i. added i ++ (is i ∷ []))
-    ∙ (comment_text (segments_of here) after s line e ∙ (ap (λ (ls : Lines). segments_of here ++ lines_mended s ls) (sym cut) ∙ so_far)))
+pub comment_done : (start here there last : List Segment) (s : Seam) (gap rest line after : List ℕ) → here ++ lines_mended s (lines_of rest) ≡ start ++ lines_mended s (lines_of gap) →
+    lines_of rest ≡ line ∷ lines_of after → is_blank line ≡ false → there ≡ here ++ comment_mended s line → last ≡ there ++ (keep after ∷ []) → last ≡ start ++ lines_mended s (lines_of gap)
+comment_done start here there last s gap rest line after so_far cut e added pushed =
+    pushed
+    ∙ (ap (λ (x : List Segment). x ++ (keep after ∷ [])) added ∙ (comment_text here after s line e ∙ (ap (λ (ls : Lines). here ++ lines_mended s ls) (sym cut) ∙ so_far)))
 
-pub blank_done : (start here there : List Held) (s : Seam) (gap rest line after : List ℕ) → segments_of here ++ lines_mended s (lines_of rest) ≡ segments_of start ++ lines_mended s (lines_of gap) →
-    lines_of rest ≡ line ∷ lines_of after → is_blank line ≡ true → segments_of there ≡ segments_of here ++ blank_mended s line →
-    segments_of there ++ lines_mended s (lines_of after) ≡ segments_of start ++ lines_mended s (lines_of gap)
+pub blank_done : (start here there : List Segment) (s : Seam) (gap rest line after : List ℕ) → here ++ lines_mended s (lines_of rest) ≡ start ++ lines_mended s (lines_of gap) →
+    lines_of rest ≡ line ∷ lines_of after → is_blank line ≡ true → there ≡ here ++ blank_mended s line → there ++ lines_mended s (lines_of after) ≡ start ++ lines_mended s (lines_of gap)
 blank_done start here there s gap rest line after so_far cut e added =
     ap (λ (x : List Segment). x ++ lines_mended s (lines_of after)) added
-    ∙ (append_assoc (segments_of here) (blank_mended s line) (lines_mended s (lines_of after))
-    ∙ (ap (λ (x : List Segment). segments_of here ++ x) (sym (blank_on s line (lines_of after) e)) ∙ (ap (λ (ls : Lines). segments_of here ++ lines_mended s ls) (sym cut) ∙ so_far)))
+    ∙ (append_assoc here (blank_mended s line) (lines_mended s (lines_of after))
+    ∙ (ap (λ (x : List Segment). here ++ x) (sym (blank_on s line (lines_of after) e)) ∙ (ap (λ (ls : Lines). here ++ lines_mended s ls) (sym cut) ∙ so_far)))
 
 no_lines : (s : Seam) (t : List ℕ) → t ≡ [] → lines_mended s (lines_of t) ≡ []
 unfolding lines_of
 no_lines s t e = ap (λ (x : List ℕ). lines_mended s (lines_of x)) e
 
-pub all_done : (start here : List Held) (s : Seam) (gap rest : List ℕ) → segments_of here ++ lines_mended s (lines_of rest) ≡ segments_of start ++ lines_mended s (lines_of gap) → rest ≡ [] →
-    segments_of here ≡ segments_of start ++ lines_mended s (lines_of gap)
-all_done start here s gap rest so_far e = sym (ap (λ (x : List Segment). segments_of here ++ x) (no_lines s rest e) ∙ append-nil (segments_of here)) ∙ so_far
+pub all_done : (start here : List Segment) (s : Seam) (gap rest : List ℕ) → here ++ lines_mended s (lines_of rest) ≡ start ++ lines_mended s (lines_of gap) → rest ≡ [] → here ≡ start ++ lines_mended s (lines_of gap)
+all_done start here s gap rest so_far e = sym (ap (λ (x : List Segment). here ++ x) (no_lines s rest e) ∙ append-nil here) ∙ so_far

@@ -15,7 +15,7 @@ use yq_inline::Value;
 use yq_meaning::Op;
 use yq_scalar::block_written::break_text;
 use yq_scalar::push_spaces;
-use yq_script::{Edited, ExchangeError, Segment, exchange};
+use yq_script::{Segment, Segments};
 use yq_tree::{CollectionEnd, Documents};
 
 /// Adds the lines of an item or entry at a column, up to their last break.
@@ -57,11 +57,11 @@ fn entry_text(
 
 /// An operation that appends carried out: the item or entry stands on lines of its own behind the
 /// last line of a block collection.
-pub fn append_way(
+pub fn append_way<'d>(
     alloc: Global,
-    documents: &Documents<'_>,
+    documents: &'d Documents<'_>,
     op: &Op,
-) -> Result<Option<Edited>, ExchangeError>
+) -> Result<Option<Segments<'d>>, AllocError>
     ensures { Carries result (spec.append_way (operation_of op.now) (cut_of documents.now)) }
 {
     let Op::Append(path, key, value) = op else {
@@ -72,10 +72,10 @@ pub fn append_way(
     };
     let layout = layout_of(documents, path.doc);
     let new = entry_text(alloc, &layout, &end, key.as_deref(), value)?;
-    let segments = [
+    let segments = vec![in alloc;
         Segment::Keep(end.before),
-        Segment::Put("", &new),
+        Segment::Put("", new),
         Segment::Keep(end.behind),
-    ];
-    Ok(Some(exchange(alloc, &segments)?))
+    ]?;
+    Ok(Some(Segments::new(segments)))
 }

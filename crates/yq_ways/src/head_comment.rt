@@ -10,7 +10,7 @@ use std::alloc::{AllocError, Global};
 use yq_meaning::Op;
 use yq_scalar::block_written::break_text;
 use yq_scalar::push_spaces;
-use yq_script::{Edited, ExchangeError, Segment, exchange};
+use yq_script::{Segment, Segments};
 use yq_tree::Documents;
 
 /// Adds a line of a head comment, with its break.
@@ -45,11 +45,11 @@ fn head_lines(alloc: Global, column: usize, br: &str, text: &str) -> Result<Stri
 }
 
 /// An operation that sets a head comment carried out: other lines stand above the row.
-pub fn head_comment_way(
+pub fn head_comment_way<'d>(
     alloc: Global,
-    documents: &Documents<'_>,
+    documents: &'d Documents<'_>,
     op: &Op,
-) -> Result<Option<Edited>, ExchangeError>
+) -> Result<Option<Segments<'d>>, AllocError>
     ensures { Carries result (spec.head_comment_way (operation_of op.now) (cut_of documents.now)) }
 {
     let Op::HeadComment(path, text) = op else {
@@ -60,11 +60,10 @@ pub fn head_comment_way(
     };
     let br = break_text(documents.first_break());
     let new = head_lines(alloc, above.column, br, text)?;
-    let segments = [
+    let segments = vec![in alloc;
         Segment::Keep(above.before),
-        Segment::Put(above.run, &new),
+        Segment::Put(above.run, new),
         Segment::Keep(above.behind),
-    ];
-    let edited = exchange(alloc, &segments)?;
-    Ok(Some(edited))
+    ]?;
+    Ok(Some(Segments::new(segments)))
 }

@@ -9,15 +9,15 @@ ghost use Rattle.yq_ways.specs.WayAnswers.{Carries};
 
 use std::alloc::{AllocError, Global};
 use yq_meaning::Op;
-use yq_script::{Edited, ExchangeError, Segment, exchange};
+use yq_script::{Segment, Segments};
 use yq_tree::{Documents, LineEnd};
 
 /// The white space that ends a line: it goes with a comment that is taken away.
-fn white_segment<'t>(text: &str, end: LineEnd<'t>) -> Segment<'t>
+fn white_segment<'t>(alloc: Global, text: &str, end: LineEnd<'t>) -> Segment<'t>
     ensures { segment_of result ≡ spec.white_segment text.now (end_told end.entry) }
 {
     if text.is_empty() && !end.comment.is_empty() {
-        Segment::Put(end.white, "")
+        Segment::Put(end.white, String::new(alloc))
     } else {
         Segment::Keep(end.white)
     }
@@ -41,11 +41,11 @@ fn line_comment_text(alloc: Global, text: &str, end: LineEnd<'_>) -> Result<Stri
 
 /// An operation that sets a line comment carried out: the comment at the end of the line gives way to
 /// the new one.
-pub fn line_comment_way(
+pub fn line_comment_way<'d>(
     alloc: Global,
-    documents: &Documents<'_>,
+    documents: &'d Documents<'_>,
     op: &Op,
-) -> Result<Option<Edited>, ExchangeError>
+) -> Result<Option<Segments<'d>>, AllocError>
     ensures { Carries result (spec.line_comment_way (operation_of op.now) (cut_of documents.now)) }
 {
     let Op::LineComment(path, text) = op else {
@@ -55,12 +55,11 @@ pub fn line_comment_way(
         return Ok(None);
     };
     let new = line_comment_text(alloc, text, end)?;
-    let segments = [
+    let segments = vec![in alloc;
         Segment::Keep(end.before),
-        white_segment(text, end),
-        Segment::Put(end.comment, &new),
+        white_segment(alloc, text, end),
+        Segment::Put(end.comment, new),
         Segment::Keep(end.behind),
-    ];
-    let edited = exchange(alloc, &segments)?;
-    Ok(Some(edited))
+    ]?;
+    Ok(Some(Segments::new(segments)))
 }

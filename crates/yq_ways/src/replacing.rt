@@ -17,7 +17,7 @@ use yq_flow::write_inline;
 use yq_inline::{Value, style_of};
 use yq_meaning::Op;
 use yq_scalar::{Place, write_scalar};
-use yq_script::{Edited, ExchangeError, Segment, exchange};
+use yq_script::{Segment, Segments};
 use yq_tree::{Documents, InlinePlace, Node, NodeKind};
 
 /// Whether a value is a scalar equal to the node that is there, if one is.
@@ -83,28 +83,28 @@ pub fn inline_written(
 }
 
 /// One text in the place of another.
-fn put(
+fn put<'d>(
     alloc: Global,
-    place: &InlinePlace<'_>,
-    old: &str,
-    new: &str,
-) -> Result<Option<Edited>, ExchangeError>
-    ensures { Carries result (Some (spec.place_segments (inline_view place.now) old.now new.now)) }
+    place: &InlinePlace<'d>,
+    old: &'d str,
+    new: String,
+) -> Result<Option<Segments<'d>>, AllocError>
+    ensures { Carries result (Some (spec.place_segments (inline_view place.now) old.now (string_bytes new))) }
 {
-    let segments = [
+    let segments = vec![in alloc;
         Segment::Keep(place.before),
         Segment::Put(old, new),
         Segment::Keep(place.behind),
-    ];
-    Ok(Some(exchange(alloc, &segments)?))
+    ]?;
+    Ok(Some(Segments::new(segments)))
 }
 
 /// An operation carried out by an inline node in the place of an inline one, or of nothing.
-pub fn replace_way(
+pub fn replace_way<'d>(
     alloc: Global,
-    documents: &Documents<'_>,
+    documents: &'d Documents<'_>,
     op: &Op,
-) -> Result<Option<Edited>, ExchangeError>
+) -> Result<Option<Segments<'d>>, AllocError>
     ensures { Carries result (spec.replace_way (operation_of op.now) (cut_of documents.now)) }
 {
     let Op::Replace(path, value) = op else {
@@ -115,11 +115,12 @@ pub fn replace_way(
     };
     let old = written(place.old);
     if is_kept(documents.locate(path), value) {
-        return put(alloc, &place, old, old);
+        let same = String::from_str(alloc, old)?;
+        return put(alloc, &place, old, same);
     }
     let Some(text) = inline_written(alloc, old, place.alone, value)? else {
         return Ok(None);
     };
     let new = apart_from(alloc, place.old, &text)?;
-    put(alloc, &place, old, &new)
+    put(alloc, &place, old, new)
 }

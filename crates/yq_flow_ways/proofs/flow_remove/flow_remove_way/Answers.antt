@@ -58,4 +58,6 @@ returns c =
     removal_found t (cut_of t) c.in-Remove.path.doc (map step_of c.in-Remove.path.steps.items) (map step_of c.in-Some.above.now) s (view c.in-Some-flow_collection.node.now) (edit_view c.in-Some-remove_place.place)
     (text_read t (cut_of t) c.text-text.ensures.read) c.text-text.ensures.read (c.in-Some.ensures ∙ ap (λ xs. last_step (map step_of xs)) c.deref.ensures.value) c.in-Some-flow_collection.ensures
     (c.in-Some-remove_place.ensures ∙ ap (λ (x : List ℕ). remove_place x s (view c.in-Some-flow_collection.node.now)) c.text-text.ensures.text) in
-    rw c.in-Remove.is (subst (Carries c.edit_at.result) (sym (h.is ∙ ap (λ (x : List ℕ). Some (edit_segments x (edit_view c.in-Some-remove_place.place) [])) (sym c.text-text.ensures.text))) c.edit_at.ensures)
+    let place = edit_view c.in-Some-remove_place.place in
+    let there = ap (λ (x : List ℕ). Some (edit_segments x place [])) (sym c.text-text.ensures.text) in
+    rw c.in-Remove.is (subst (Carries c.edit_at.result) (sym (h.is ∙ there ∙ ap (λ (x : List ℕ). Some (edit_segments c.text-text.result.now place x)) (sym c.new-nothing.ensures.bytes))) c.edit_at.ensures)

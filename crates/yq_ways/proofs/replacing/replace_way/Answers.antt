@@ -22,7 +22,9 @@ returns-then-is_kept c =
     let v = values.node_of c.in-Replace.value in
     let way = replaced_at c.in-Replace.path v c.args.documents.now c.inline_place.result c.in-Some.place (option_map node_of c.locate.result) true
     c.inline_place.ensures c.in-Some.is c.locate.ensures.node (sym c.is_kept.ensures ∙ c.if-is_kept.true) in
-    let put : Carries c.put.result (replace_at true v w) = subst (λ t. Carries c.put.result (Some (place_segments w t t))) c.written-old.ensures c.put.ensures in
+    let put : Carries c.put.result (replace_at true v w) =
+    subst (λ t. Carries c.put.result (Some (place_segments w t t))) c.written-old.ensures
+    (subst (λ t. Carries c.put.result (Some (place_segments w c.written-old.result.now t))) c.in_ok-same.ensures.ok c.put.ensures) in
     rw c.in-Replace.is (subst (Carries c.put.result) (sym way) put)
 
 pub returns-in_default-2 : goal.returns-in_default-2
@@ -44,5 +46,5 @@ returns c =
     let t = string_bytes c.in-Some-2.text in
     let put : Carries c.put-2.result (Some (place_segments w (written_text w.old) (apart_from w.old t))) =
     subst (λ o. Carries c.put-2.result (Some (place_segments w o (apart_from w.old t)))) c.written-old.ensures
-    (subst (λ n. Carries c.put-2.result (Some (place_segments w c.written-old.result.now n))) (c.deref-2.ensures ∙ c.in_ok-new.ensures ∙ ap (apart_from w.old) c.deref.ensures) c.put-2.ensures) in
+    (subst (λ n. Carries c.put-2.result (Some (place_segments w c.written-old.result.now n))) (c.in_ok-new.ensures ∙ ap (apart_from w.old) c.deref.ensures) c.put-2.ensures) in
     rw c.in-Replace.is (subst (Carries c.put-2.result) (sym (way ∙ put_at v w (Some t) (sym (ap (option_map string_bytes) c.in-Some-2.is) ∙ written))) put)
