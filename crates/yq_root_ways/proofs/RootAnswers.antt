@@ -24,11 +24,11 @@ last_told x d [] = refl
 last_told x d (y ∷ t) = last_told y d t
 
 -- its last byte tells
-pub closed_last : (x : ℕ) (t : List ℕ) → 1 ≤ length t → x ≡ slice_index_or t (length t - 1) x → is_feed x ≡ is_closed_text t
-closed_last x [] some is = absurd (omega (arith, some))
-closed_last x (y ∷ t) some is =
+pub closed_last : (t : List ℕ) → 1 ≤ length t → is_feed (slice_index_or t (length t - 1) 0) ≡ is_closed_text t
+closed_last [] some = absurd (omega (arith, some))
+closed_last (y ∷ t) some =
     let less : length (y ∷ t) - 1 ≡ length t = omega arith in
-    ap is_feed (is ∙ ap (λ n. slice_index_or (y ∷ t) n x) less) ∙ last_told y x t
+    ap (λ n. is_feed (slice_index_or (y ∷ t) n 0)) less ∙ last_told y 0 t
 
 -- ---- the way
 
