@@ -160,7 +160,7 @@ edited_by c e cmd (Err x) a s is has done = let no : Refused x ≡ Done = sym (r
 
 -- the answer to an expression that is no program
 unparsed_by : {T : Type 0} (f : Fault) (r : Result T Fault) (a : Answer) (s : Shown) → Told r a s → IsUnparsed f r → TellsUnparsed f (reply a s.printed).answer
-unparsed_by f (Ok v) a s is no = absurd no
+unparsed_by f (Ok v) a s is tells = absurd tells
 unparsed_by f (Err x) a s is tells = subst (TellsUnparsed f) (sym (reply-answer a s.printed ∙ is)) tells
 
 module _ {T : Type 0} (c e : Content) (cmd : Command) (r : Result T Fault) (a : Answer) (s : Shown) (k : IsDone c e cmd r a s) where
