@@ -19,7 +19,7 @@ use yq_inline::reading::read_node;
 use yq_inline::{DEPTH_LIMIT, Form, Inline};
 use yq_scalar::lines::split_line;
 use yq_scalar::text::{ends_line, split_white};
-use yq_scalar::{FaultKind, Place, ReadError, Style, further_spaces, read_block};
+use yq_scalar::{FaultKind, Place, ReadError, ReadFault, Style, further_spaces, read_block};
 
 /// What stands behind a mark, by its pieces.
 #[derive(Clone, Copy, Debug)]
@@ -206,6 +206,23 @@ fn read_inline_content<'t>(
     }
 }
 
+/// The fault of a scalar behind white space that no tail follows: that of its last line, where this is
+/// no further line of it, or else its own.
+fn scalar_fault(
+    whole: &str,
+    mark: Mark<'_>,
+    spaces: Option<usize>,
+    space: &str,
+    text: &str,
+    head: &str,
+    behind: &str,
+) -> ReadFault {
+    match no_further_line(mark, spaces, head, behind) {
+        Some(kind) => fault(kind, whole, behind),
+        None => fault(no_tail(mark, space, "", head, behind), whole, text),
+    }
+}
+
 /// A scalar without an anchor behind white space, and its tail. Only its end is found.
 fn read_scalar_content<'t>(
     whole: &str,
@@ -234,10 +251,7 @@ fn read_scalar_content<'t>(
             alone: may_be_alone(space, false),
             rest,
         }),
-        None => {
-            let kind = no_tail(mark, space, "", head, behind);
-            Err(ReadError::Fault(fault(kind, whole, text)))
-        }
+        None => Err(ReadError::Fault(scalar_fault(whole, mark, spaces, space, text, head, behind))),
     }
 }
 
