@@ -63,9 +63,10 @@ fn in_turn(
     let mut held = all_memory(alloc)?;
     'stores: for store in stores {
         let mut out = MemoryOut::new(alloc);
+        let before = store.calls();
         match run_list(alloc, store, &mut out, commands) {
             Err(_) => {
-                assert_eq!(rt; store.calls(), 0);
+                assert_eq!(rt; store.calls(), before);
                 lists = lists.saturating_add(1);
             }
             Ok(answers) => match first_refused(rt, &answers) {
