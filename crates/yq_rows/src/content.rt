@@ -1,12 +1,13 @@
 //! What stands behind a row's mark.
 ghost use Rattle.std.specs.Option.{option_map};
-ghost use Rattle.std.specs.Prelude.{◌≡◌, ◌≤◌, ◌==◌, ◌||◌, ◌&&◌, not, length, true, false};
-ghost use Rattle.yq_scalar.specs.Answers.{Gives};
+ghost use Rattle.std.specs.Prelude.{◌≡◌, ◌≢◌, ◌≤◌, ◌==◌, ◌||◌, ◌&&◌, not, length, true, false, IfErr};
+ghost use Rattle.yq_scalar.specs.Answers.{Gives, IsOfText};
 ghost use Rattle.yq_inline.specs.Scalars as scalars;
 ghost use Rattle.yq_inline.specs.View.{view as node_view};
 ghost use Rattle.yq_rows.specs.Lending as lending;
 ghost use Rattle.yq_rows.specs.Lending.{filled_at, filling_view};
 ghost use Rattle.yq_scalar.specs.Text.{front, is_empty};
+ghost use Rattle.yq_scalar.specs.declared.fault.FaultKind.TheVariants.{NotUtf8};
 ghost use Rattle.yq_rows.specs.Reading as spec;
 
 use crate::fault::{block_fault, fault};
@@ -105,7 +106,8 @@ fn read_block_content<'t>(
     space: &'t str,
     text: &'t str,
 ) -> Result<Filling<'t>, ReadError>
-    ensures { Gives filling_view result (lending.block_lent parent space.now text.now) }
+    ensures read { Gives filling_view result (lending.block_lent parent space.now text.now) }
+    ensures fault { IfErr result IsOfText }
 {
     let (anchor, apart, rest) = split_apart(text);
     if anchor.len() == 1 {
@@ -176,7 +178,8 @@ fn read_inline_content<'t>(
     text: &'t str,
 ) -> Result<Filling<'t>, ReadError>
     requires { length text.now ≤ length whole.now }
-    ensures { Gives filling_view result (lending.inline_lent parent space.now text.now) }
+    ensures read { Gives filling_view result (lending.inline_lent parent space.now text.now) }
+    ensures fault { IfErr result IsOfText }
 {
     let spaces = further_spaces(Place::Block, parent);
     let (node, behind) = match read_node(alloc, false, spaces, whole, DEPTH_LIMIT, text) {
@@ -216,7 +219,9 @@ fn scalar_fault(
     text: &str,
     head: &str,
     behind: &str,
-) -> ReadFault {
+) -> ReadFault
+    ensures { result.kind ≢ NotUtf8 }
+{
     match no_further_line(mark, spaces, head, behind) {
         Some(kind) => fault(kind, whole, behind),
         None => fault(no_tail(mark, space, "", head, behind), whole, text),
@@ -232,7 +237,8 @@ fn read_scalar_content<'t>(
     text: &'t str,
 ) -> Result<Filling<'t>, ReadError>
     requires { (lending.begins_other text.now ≡ false) × (scalars.begins_scalar false text.now ≡ true) }
-    ensures { Gives filling_view result (lending.inline_lent parent space.now text.now) }
+    ensures read { Gives filling_view result (lending.inline_lent parent space.now text.now) }
+    ensures fault { IfErr result IsOfText }
 {
     let spaces = further_spaces(Place::Block, parent);
     let (head, behind) = match read_scalar(false, spaces, whole, text) {
@@ -264,7 +270,8 @@ pub(crate) fn read_content<'t>(
     text: &'t str,
 ) -> Result<Filling<'t>, ReadError>
     requires { length text.now ≤ length whole.now }
-    ensures { Gives filling_view result (filled_at parent text.now) }
+    ensures read { Gives filling_view result (filled_at parent text.now) }
+    ensures fault { IfErr result IsOfText }
 {
     let (space, rest) = split_white(text);
     if begins_block(rest) {

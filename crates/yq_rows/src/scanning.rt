@@ -1,7 +1,7 @@
 //! A text cut into rows and markers.
-ghost use Rattle.std.specs.Prelude.{◌≡◌, ◌<◌, ◌≤◌, ◌^◌, length, true, IfOk, Some, slice_get};
+ghost use Rattle.std.specs.Prelude.{◌≡◌, ◌<◌, ◌≤◌, ◌^◌, length, true, IfErr, IfOk, Some, slice_get};
 ghost use Rattle.std.specs.List.Sorted.{IsNonDecreasingBy};
-ghost use Rattle.yq_scalar.specs.Answers.{Gives};
+ghost use Rattle.yq_scalar.specs.Answers.{Gives, IsOfText};
 ghost use Rattle.yq_rows.specs.Grammar.{IsCut};
 ghost use Rattle.yq_rows.specs.Grammar as grammar;
 ghost use Rattle.yq_rows.specs.Lending.{shown_read};
@@ -103,7 +103,8 @@ pub fn begins_document(marker: &[u8]) -> bool
 /// The rows and markers of a text of whose characters and length nothing is asked.
 fn cut<'t>(alloc: Global, text: &'t str) -> Result<Rows<'t>, ReadError>
     requires { length text.now < 2 ^ 32 }
-    ensures { Gives (λ s. s) result (shown_read (spec.all_parts true text.now)) }
+    ensures read { Gives (λ s. s) result (shown_read (spec.all_parts true text.now)) }
+    ensures fault { IfErr result IsOfText }
 {
     let mut rows = Vec::new(alloc);
     let mut bounds = Vec::new(alloc);
@@ -141,7 +142,8 @@ fn cut<'t>(alloc: Global, text: &'t str) -> Result<Rows<'t>, ReadError>
 /// The rows and markers of a text, if it is one.
 #[tactic(auto, unfolding(crate::specs::Reading::scan_at))]
 fn scan_text(alloc: Global, text: &str) -> Result<Rows<'_>, ReadError>
-    ensures { Gives (λ s. s) result (shown_read (spec.scan_at text.now)) }
+    ensures read { Gives (λ s. s) result (shown_read (spec.scan_at text.now)) }
+    ensures fault { IfErr result IsOfText }
 {
     if text.len() > TEXT_LIMIT || !is_text(text) {
         return Err(ReadError::Fault(text_fault(text)));
@@ -157,6 +159,8 @@ pub fn scan(alloc: Global, text: &str) -> Result<Rows<'_>, ReadError>
     ensures only { (c : Cut) → IsCut text.now c → Gives (λ s. s) result (Some (shown c)) }
     // The cut is what reading from left to right gives.
     ensures exact { Gives (λ s. s) result (shown_read (spec.scan_at text.now)) }
+    // A fault is never that the bytes are not UTF-8.
+    ensures fault { IfErr result IsOfText }
 {
     scan_text(alloc, text)
 }

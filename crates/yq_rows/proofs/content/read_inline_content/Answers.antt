@@ -9,8 +9,8 @@ use Rattle.yq_rows.proofs.Failing.{fails_by}
 use Rattle.yq_rows.proofs.InlineLending.{node_read, lead_here, head_within, head_boundary, inline_some, inline_no_node, inline_no_tail}
 use Rattle.yq_rows.proofs.content.read_inline_content.Goals as goal
 
-pub returns-in-Err : goal.returns-in-Err
-returns-in-Err c =
+pub returns-in-Err-clause-read : goal.returns-in-Err-clause-read
+returns-in-Err-clause-read c =
     let spaces : c.further_spaces-spaces.result ≡ Some (deeper c.args.parent) = rw (to_z-of_z w64 c.args.parent c.ranges.parent) at c.further_spaces-spaces.ensures in
     fails_by c.in-Err.e _ _ c.in-Err.ensures.read
     (λ none. inline_no_node c.args.parent c.args.space.now c.args.text.now (length c.args.whole.now) (subst (λ (o : Option ℕ). placed_node false o (length c.args.whole.now) depth_limit c.args.text.now ≡ None) spaces none))
@@ -31,8 +31,8 @@ split_at-requires c =
     head_boundary (Some (deeper c.args.parent)) c.args.text.now c.in-Ok.found.1.now c.split_lead.result.1.now (view c.in-Ok.found.0) (node_read (Some (deeper c.args.parent)) (length c.args.whole.now) c.args.text.now c.in-Ok.found.1.now (view c.in-Ok.found.0) read)
     (ap (λ (y : List ℕ × List ℕ). y.1) lead) (search rules)
 
-pub returns-in-Some : goal.returns-in-Some
-returns-in-Some c =
+pub returns-in-Some-clause-read : goal.returns-in-Some-clause-read
+returns-in-Some-clause-read c =
     let spaces : c.further_spaces-spaces.result ≡ Some (deeper c.args.parent) = rw (to_z-of_z w64 c.args.parent c.ranges.parent) at c.further_spaces-spaces.ensures in
     let read : placed_node false (Some (deeper c.args.parent)) (length c.args.whole.now) depth_limit c.args.text.now ≡ Some (view c.in-Ok.found.0, c.in-Ok.found.1.now) = subst (λ (o : Option ℕ). placed_node false o (length c.args.whole.now) depth_limit c.args.text.now ≡ Some (view c.in-Ok.found.0, c.in-Ok.found.1.now)) spaces c.in-Ok.ensures.read in
     let node = node_read (Some (deeper c.args.parent)) (length c.args.whole.now) c.args.text.now c.in-Ok.found.1.now (view c.in-Ok.found.0) read in
@@ -41,8 +41,8 @@ returns-in-Some c =
     (inline_some c.args.parent c.args.space.now c.args.text.now _ _ _ c.split_lead.result.1.now c.in-Ok.found.1.now c.in-Some.tail.now c.in-Some.rest.now (view c.in-Ok.found.0) c.may_be_alone.result c.is_plain.result node c.split_anchor.ensures lead (sym c.in-Some.ensures) c.is_plain.ensures
     (c.may_be_alone.ensures ∙ ap (λ (b : Bool). is_empty c.args.space.now && not b) c.is_nothing-nothing.ensures))
 
-pub returns : goal.returns
-returns c =
+pub returns-clause-read : goal.returns-clause-read
+returns-clause-read c =
     let spaces : c.further_spaces-spaces.result ≡ Some (deeper c.args.parent) = rw (to_z-of_z w64 c.args.parent c.ranges.parent) at c.further_spaces-spaces.ensures in
     let read : placed_node false (Some (deeper c.args.parent)) (length c.args.whole.now) depth_limit c.args.text.now ≡ Some (view c.in-Ok.found.0, c.in-Ok.found.1.now) = subst (λ (o : Option ℕ). placed_node false o (length c.args.whole.now) depth_limit c.args.text.now ≡ Some (view c.in-Ok.found.0, c.in-Ok.found.1.now)) spaces c.in-Ok.ensures.read in
     inline_no_tail c.args.parent c.args.space.now c.args.text.now c.in-Ok.found.1.now (view c.in-Ok.found.0) (node_read (Some (deeper c.args.parent)) (length c.args.whole.now) c.args.text.now c.in-Ok.found.1.now (view c.in-Ok.found.0) read) (sym c.in-None.ensures)
