@@ -10,15 +10,15 @@ use Rattle.yq_lines.proofs.KeyLaws.{distinct_told}
 use Rattle.yq_lines.proofs.SoundLaws.{IsEntryLevel, entry_level}
 use Rattle.yq_lines.proofs.sound.+find_flaw.Goals as goal
 
-pub returns-then-not-is_entry : goal.returns-then-not-is_entry
-returns-then-not-is_entry t c =
+pub returns-then-not-is_entry-clause-sound : goal.returns-then-not-is_entry-clause-sound
+returns-then-not-is_entry-clause-sound t c =
     let ls = c.args.lines.now in
     let l = view c.index-lines-start.result in
     let is = line_at ls c.args.start c.index-lines-start.result (slice_get_read ls (length ls) c.args.start c.index-lines-start.result refl (c.if-not-is_deeper.ensures.some refl) c.index-lines-start.is) in
-    IfOk-weaker c.bare_fault.result _ _ (λ f e. e l is ∙ sym (start_bare (views ls) c.args.start c.args.floor c.args.depth l is c.if-not-is_deeper.ensures.test (bare_mark l.mark c.if-not-is_entry.ensures))) c.bare_fault.ensures
+    IfOk-weaker c.bare_fault.result _ _ (λ f e. e l is ∙ sym (start_bare (views ls) c.args.start c.args.floor c.args.depth l is c.if-not-is_deeper.ensures.test (bare_mark l.mark c.if-not-is_entry.ensures))) c.bare_fault.ensures.sound
 
-pub returns-then-depth-eq0 : goal.returns-then-depth-eq0
-returns-then-depth-eq0 t c =
+pub returns-then-depth-eq0-clause-sound : goal.returns-then-depth-eq0-clause-sound
+returns-then-depth-eq0-clause-sound t c =
     let ls = c.args.lines.now in
     let l = view c.index-lines-start.result in
     let is = line_at ls c.args.start c.index-lines-start.result (slice_get_read ls (length ls) c.args.start c.index-lines-start.result refl (c.if-not-is_deeper.ensures.some refl) c.index-lines-start.is) in
@@ -38,23 +38,23 @@ lines-init t c =
       so_far = rw (c.level-n.ensures, c.new-keys.ensures.items) (start_asked (views ls) c.args.start c.args.floor c.args.depth l is c.if-not-is_deeper.ensures.test (c.args.depth - 1) (sym c.if-not-is_entry.ensures) (omega (arith, c.if-depth-eq0.false)));
     }
 
-pub returns-in-Some : goal.returns-in-Some
-returns-in-Some t c =
+pub returns-in-Some-clause-sound : goal.returns-in-Some-clause-sound
+returns-in-Some-clause-sound t c =
     let ls = c.args.lines.now in
     let r = has_line (views ls) c.lines.at (omega (arith, c.lines-test.ensures.some refl, views-length ls)) in
     let ends = c.requires.ends c.lines.at (omega arith) (omega (arith, c.lines-test.ensures.some refl, views-length ls)) in
     one_fails (views ls) c.lines.at c.args.floor _ (c.args.depth - 1) c.level-n.result (map (λ k. k.now) c.lines.keys.items) r.0 r.1 c.lines-test.ensures.test ends c.lines.invariant.entries _ c.lines.invariant.so_far
-    (ap is_none (sym c.in-Some.is) ∙ c.in_ok-flaw.ensures r.0 r.1)
+    (ap is_none (sym c.in-Some.is) ∙ c.in_ok-flaw.ensures.sound r.0 r.1)
 
-pub returns-in-Some-2 : goal.returns-in-Some-2
-returns-in-Some-2 t c =
+pub returns-in-Some-2-clause-sound : goal.returns-in-Some-2-clause-sound
+returns-in-Some-2-clause-sound t c =
     let ls = c.args.lines.now in
     let r = has_line (views ls) c.lines.at (omega (arith, c.lines-test.ensures.some refl, views-length ls)) in
     let ends = c.requires.ends c.lines.at (omega arith) (omega (arith, c.lines-test.ensures.some refl, views-length ls)) in
-    let sound = nothing_found c.in_ok-flaw.field-0 c.in_default.not-Some ∙ c.in_ok-flaw.ensures r.0 r.1 in
+    let sound = nothing_found c.in_ok-flaw.field-0 c.in_default.not-Some ∙ c.in_ok-flaw.ensures.sound r.0 r.1 in
     let n = at_level (c.args.depth - 1) c.level-n.result r.0 _ sound in
     under_fails _ _ _ _ (c.lines.invariant.so_far ∙ one_line (views ls) c.lines.at c.args.floor _ (c.args.depth - 1) c.level-n.result (map (λ k. k.now) c.lines.keys.items) r.0 r.1 c.lines-test.ensures.test ends c.lines.invariant.entries)
-    sound (ap is_none (sym c.in-Some-2.is) ∙ (c.in_ok-flaw-2.ensures ∙ ap (λ m. is_sound (c.args.depth - 1) (part (views ls) (c.lines.at + 1) m)) (sym n)))
+    sound (ap is_none (sym c.in-Some-2.is) ∙ (c.in_ok-flaw-2.ensures.sound ∙ ap (λ m. is_sound (c.args.depth - 1) (part (views ls) (c.lines.at + 1) m)) (sym n)))
 
 pub lines-preserved : goal.lines-preserved
 lines-preserved t c =
@@ -63,9 +63,9 @@ lines-preserved t c =
     let l = view c.index-lines-at.result in
     let is = line_at ls c.lines.at c.index-lines-at.result (slice_get_read ls (length ls) c.lines.at c.index-lines-at.result refl within c.index-lines-at.is) in
     let ends = c.requires.ends c.lines.at (omega arith) (omega (arith, within, views-length ls)) in
-    let sound = nothing_found c.in_ok-flaw.field-0 c.in_default.not-Some ∙ c.in_ok-flaw.ensures l is in
+    let sound = nothing_found c.in_ok-flaw.field-0 c.in_default.not-Some ∙ c.in_ok-flaw.ensures.sound l is in
     let n = at_level (c.args.depth - 1) c.level-n.result l _ sound in
-    let under = nothing_found c.in_ok-flaw-2.field-0 c.in_default-2.not-Some ∙ (c.in_ok-flaw-2.ensures ∙ ap (λ m. is_sound (c.args.depth - 1) (part (views ls) (c.lines.at + 1) m)) (sym n)) in
+    let under = nothing_found c.in_ok-flaw-2.field-0 c.in_default-2.not-Some ∙ (c.in_ok-flaw-2.ensures.sound ∙ ap (λ m. is_sound (c.args.depth - 1) (part (views ls) (c.lines.at + 1) m)) (sym n)) in
     record {
       from = omega (arith, ends.0, c.lines.invariant.from);
       within = omega (arith, ends.1, views-length ls);
@@ -74,10 +74,10 @@ lines-preserved t c =
       so_far = rw c.in_ok-push_key.ensures (both_pass _ _ _ _ (c.lines.invariant.so_far ∙ one_line (views ls) c.lines.at c.args.floor _ (c.args.depth - 1) c.level-n.result (map (λ k. k.now) c.lines.keys.items) l is c.lines-test.ensures.test ends c.lines.invariant.entries) sound under);
     }
 
-pub returns-then-not-are_distinct : goal.returns-then-not-are_distinct
-returns-then-not-are_distinct t c =
+pub returns-then-not-are_distinct-clause-sound : goal.returns-then-not-are_distinct-clause-sound
+returns-then-not-are_distinct-clause-sound t c =
     sym (c.lines.invariant.so_far ∙ (no_more (c.args.depth - 1) _ (map (λ k. k.now) c.lines.keys.items) _ c.lines-test.ensures.test ∙ distinct_told _ _ (rw c.as_mut_slice.ensures.value at c.if-not-are_distinct.ensures)))
 
-pub returns : goal.returns
-returns t c =
+pub returns-clause-sound : goal.returns-clause-sound
+returns-clause-sound t c =
     sym (c.lines.invariant.so_far ∙ (no_more (c.args.depth - 1) _ (map (λ k. k.now) c.lines.keys.items) _ c.lines-test.ensures.test ∙ distinct_told _ _ (rw c.as_mut_slice.ensures.value at c.if-not-are_distinct.ensures)))
