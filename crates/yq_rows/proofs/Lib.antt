@@ -28,6 +28,7 @@ pub mod SliceLaws
 pub mod FrontLaws
 pub mod BeginSteps
 pub mod InlineLending
+pub mod MeasuredLending
 pub mod BlockLending
 pub mod RowLending
 pub mod PartLending

@@ -23,7 +23,6 @@ use yq_scalar::{FaultKind, ReadError, ReadFault};
 /// The row whose gap, indentation and marks are read already, what it asks of the next one, and
 /// what follows.
 fn read_marked<'t>(
-    alloc: Global,
     whole: &'t str,
     gap: &'t str,
     column: usize,
@@ -34,7 +33,7 @@ fn read_marked<'t>(
     ensures { Gives (λ x. (view x.0, limit_view x.1, x.2.now)) result (marked_lent gap.now column (begin_view begin.entry)) }
 {
     let parent = parent_of(begin.mark, column + begin.columns);
-    let content = read_content(alloc, whole, begin.mark, parent, begin.rest)?;
+    let content = read_content(whole, begin.mark, parent, begin.rest)?;
     if !(is_entry(begin.mark) || content.alone) {
         let kind = not_alone(content.space, content.head);
         return Err(ReadError::Fault(fault(kind, whole, begin.rest)));
@@ -70,7 +69,6 @@ fn may_stand(limit: Limit, column: usize, text: &[u8]) -> bool
 /// The row whose gap is read already, what it asks of the next one, and what follows.
 #[tactic(auto, unfolding(crate::specs::Reading::row_at))]
 fn read_row<'t>(
-    alloc: Global,
     whole: &'t str,
     limit: Limit,
     gap: &'t str,
@@ -85,7 +83,7 @@ fn read_row<'t>(
     if !may_stand(limit, column, rest.as_bytes()) {
         return Err(ReadError::Fault(fault(FaultKind::BadIndent, whole, text)));
     }
-    read_marked(alloc, whole, gap, column, read_begin(rest))
+    read_marked(whole, gap, column, read_begin(rest))
 }
 
 /// Whether no row follows: the end is in front, or a marker.
@@ -118,7 +116,7 @@ fn read_rows<'t>(
         if ends_part(rest.as_bytes()) {
             return Ok((rows, gap, rest));
         }
-        let (row, next, after) = match read_row(alloc, whole, limit, gap, rest) {
+        let (row, next, after) = match read_row(whole, limit, gap, rest) {
             Ok(found) => found,
             Err(e) => return Err(e),
         };
