@@ -1,6 +1,5 @@
 -- Steps of finding the ends of nodes, as the code takes them.
-use Rattle.std.proofs.Common.{◌≡◌, ℕ, zero, suc, ◌-◌, ◌<◌, Bool, true, false, cond, not, ◌&&◌, ◌||◌, eqb, List, length, drop, Option, Some, None, refl, sym, ap, ◌∙◌, subst, arith}
-use Rattle.std.proofs.lemmas.Bool.{false≢true}
+use Rattle.std.proofs.Common.{◌≡◌, ℕ, suc, ◌-◌, ◌<◌, Bool, true, false, cond, not, ◌&&◌, ◌||◌, List, length, drop, Option, Some, None, refl, ap, ◌∙◌, subst, arith}
 use Rattle.std.proofs.lemmas.Option.{same_Some}
 use Rattle.yq_scalar.specs.Answers.{◌>>=◌}
 use Rattle.yq_scalar.specs.Text.{is_empty}
@@ -8,9 +7,9 @@ use Rattle.yq_scalar.proofs.Bools.{bind_some}
 use Rattle.yq_scalar.specs.declared.piece.Piece.{Piece}
 use Rattle.yq_scalar.specs.declared.style.Style.{Style}
 use Rattle.yq_scalar.specs.declared.style.Style.TheVariants as styles
-use Rattle.yq_inline.specs.Measured.{kind_of_style, measure, measured, past, is_nothing, is_bare, may_follow}
+use Rattle.yq_inline.specs.Measured.{kind_of_style, measure, measured, past, is_bare, may_follow}
 use Rattle.yq_inline.specs.Nodes.{Node, first_is, begins_content, coll, Items}
-use Rattle.yq_inline.specs.Places.{Placed, placed, Content, nothing, name, text, sequence, mapping, Parts, end, part, with_anchor, placed_between, bare_placed, holder, key_here, locate_items}
+use Rattle.yq_inline.specs.Places.{Placed, placed, Content, nothing, name, text, sequence, mapping, Parts, part, with_anchor, placed_between, bare_placed, holder, key_here, locate_items}
 use Rattle.yq_inline.specs.PlacedReading.{content_in, placed_node, placed_items, placed_content, placed_coll, placed_item, placed_entry, seen_key, past_sep, stands_behind, then_anchored}
 use Rattle.yq_inline.specs.Reading.{gap_at, scalar_at, name_at, lead_at, coll_at, content_at, kids_of, all_items}
 use Rattle.yq_inline.specs.Scalars.{style_of, begins_scalar}

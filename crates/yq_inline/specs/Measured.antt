@@ -1,9 +1,8 @@
 -- What is told of an inline node of which only the end is found (own).
-use Rattle.std.specs.Prelude.{ℕ, Bool, true, false, ◌||◌, ◌&&◌, not, List, Option, Some, None, if◌then◌else◌}
+use Rattle.std.specs.Prelude.{ℕ, Bool, true, false, ◌||◌, ◌&&◌, not, List, Option, Some, None}
 use Rattle.yq_scalar.specs.Answers.{◌>>=◌}
 use Rattle.yq_scalar.specs.Text.{is_empty}
-use Rattle.yq_inline.specs.Places.{Placed, placed, Content, nothing, name, text, sequence, mapping, Parts}
-use Rattle.yq_inline.specs.Scalars.{is_quoted}
+use Rattle.yq_inline.specs.Places.{Placed, placed, Content, nothing, name, text, sequence, mapping}
 use Rattle.yq_inline.specs.declared.measuring.NodeKind.{NodeKind}
 use Rattle.yq_inline.specs.declared.measuring.NodeKind.TheVariants as kinds
 use Rattle.yq_inline.specs.declared.measuring.Measured.{Measured}

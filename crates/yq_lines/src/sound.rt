@@ -123,7 +123,7 @@ fn line_fault(
     requires within { at < length lines.now }
     requires each { length ends.now ≡ length lines.now }
     requires ends { AreEndsFrom 0 (views lines.now) ends.now }
-    ensures { IfOk result (λ f. (l : outline.Line) → slice_get (views lines.now) at ≡ Some l → let under = part (views lines.now) (at + 1) (outline.level l) in is_none f ≡ (spec.line_is_sound depth n l under && spec.is_sound depth under)) }
+    ensures { IfOk result (λ f. (l : outline.Line) → slice_get (views lines.now) at ≡ Some l → is_none f ≡ spec.are_sound_under depth n l (part (views lines.now) (at + 1) (outline.level l))) }
 {
     let line = &lines[at];
     if level(line) != n {
