@@ -1,5 +1,5 @@
 # make test: the whole gate: every proof from nothing, wrong bodies, tests, and the program on real files.
-# make ready: layout, links, stray sources, definitions without a section, and wrong bodies that can't be applied, in some seconds.
+# make ready: layout, links, stray sources, definitions without a section, wide clauses, and wrong bodies that can't be applied, in some seconds.
 # make demo: one edit and its undo.
 # make install, make uninstall: the program, its man page, pages for users and completions below PREFIX, or not.
 # make dist: an archive of these for those who don't build.

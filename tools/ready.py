@@ -1,5 +1,5 @@
 """Looks at what needs no proof: whether the sources are in the layout of `rt fmt`, links, sources that no check reads, definitions
-whose comments name no section, and wrong bodies of both tiers that can't be applied.
+whose comments name no section, clauses that are too wide, and wrong bodies of both tiers that can't be applied.
 
 usage: ready.py
 
@@ -14,6 +14,7 @@ import subprocess
 import sys
 import tempfile
 
+from clauses import too_wide
 from crates import ROOT, RT, libraries
 from edits import hindrance, names_in
 
@@ -100,7 +101,7 @@ def main(words):
     try:
         copy = os.path.join(room, "copy")
         shutil.copytree(ROOT, copy, symlinks=True, ignore=LEFT)
-        found = [*misplaced(copy), *badly_laid(copy), *untold_definitions(copy), *not_applied()]
+        found = [*misplaced(copy), *badly_laid(copy), *untold_definitions(copy), *too_wide(), *not_applied()]
     finally:
         shutil.rmtree(room, ignore_errors=True)
     for it in found:
