@@ -1,6 +1,6 @@
 """The whole gate: `rt ci`, with a line as each crate's proof, tests and wrong bodies begin and end, and then the program on real files.
 
-usage: gate.py PATH_OF_YQ
+usage: gate.py PATH_OF_YQ [--anew]      with --anew, `rt ci` takes nothing that an earlier run passed
 
 Where `rt ci` passes, a table tells what each crate took, or has taken where it was kept, and the longest chain of proofs; the page
 docs/GATE.md gets both. Where it doesn't pass, the reasons are told once more at the end: what the prover says of each crate that is not proved, and
@@ -73,10 +73,10 @@ def tell_times(tasks):
         write(rows)
 
 
-def prove():
+def prove(anew):
     """Runs `rt ci`, passes its lines on, and gives its status, what was seen of its checks, and why it failed."""
     how = {"cwd": ROOT, "stdout": subprocess.PIPE, "stderr": subprocess.STDOUT, "encoding": "utf-8", "errors": "replace"}
-    rt = subprocess.Popen([*RT, "ci"], **how)
+    rt = subprocess.Popen([*RT, "ci", *anew], **how)
     watch, reasons = Watch(rt.pid, begins, ends), Reasons()
     try:
         for line in each_line(rt.stdout):
@@ -119,12 +119,12 @@ def run_program(yq):
 
 
 def main(words):
-    if len(words) != 1:
+    if not words or words[1:] not in ([], ["--anew"]):
         print(__doc__.strip(), file=sys.stderr)
         return 2
     sys.stdout.reconfigure(errors="replace")
     signal.signal(signal.SIGTERM, lambda *_: sys.exit(143))
-    status, tasks, reasons = prove()
+    status, tasks, reasons = prove(words[1:])
     end = reasons.told()
     if status == 0:
         tell_times(tasks)
