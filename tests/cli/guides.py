@@ -29,6 +29,18 @@ def helped(folder):
     return commands, options
 
 
+def version_told(folder):
+    """The version that help tells of."""
+    return re.search(r"^Version: +(\S+)$", folder.accepts("--help").decode(), re.MULTILINE)[1]
+
+
+def check_the_version_is_that_of_the_man_page_and_the_changes(folder):
+    version = version_told(folder)
+    equal(re.findall(r"^\.Os yq (\S+)$", man_page(), re.MULTILINE), [version])
+    heads = [line.split()[1] for line in lines_of("CHANGELOG.md") if line.startswith("## ")]
+    equal(heads[0], version)
+
+
 def man_page():
     return "\n".join(lines_of(MAN))
 
@@ -86,7 +98,7 @@ def anchors(page):
 
 
 def check_links_lead_somewhere(_folder):
-    for page in ("README.md", "CONTRIBUTING.md", *(f"docs/{name}" for name in sorted(os.listdir(os.path.join(ROOT, "docs"))))):
+    for page in ("README.md", "CONTRIBUTING.md", "CHANGELOG.md", *(f"docs/{name}" for name in sorted(os.listdir(os.path.join(ROOT, "docs"))))):
         for link in LINK.findall("\n".join(lines_of(page))):
             if "://" not in link:
                 path, _, anchor = link.partition("#")
