@@ -40,3 +40,10 @@ pub mod EmptyTexts
 pub mod RowPlaces
 pub mod seams
 pub mod splices
+pub mod ItemLaws
+pub mod RegionLaws
+pub mod MeterLaws
+pub mod ItemSpliceLaws
+pub mod KeptLaws
+pub mod RegionEnds
+pub mod TouchedLaws
