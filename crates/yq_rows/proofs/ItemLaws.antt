@@ -7,7 +7,7 @@ use Rattle.yq_rows.specs.Rows.{Row, print_row, rows_text, Cut, last, marked, cut
 use Rattle.yq_rows.specs.View.{Slices, slices, Bound, rows_of, bounds_from, shown}
 
 -- texts
-rows_items_text : (rs : List Row) (xs : List Item) (rest : List ℕ) → items_text (rows_items rs xs) rest ≡ rows_text rs (items_text xs rest)
+pub rows_items_text : (rs : List Row) (xs : List Item) (rest : List ℕ) → items_text (rows_items rs xs) rest ≡ rows_text rs (items_text xs rest)
 rows_items_text [] xs rest = refl
 rows_items_text (r ∷ rs) xs rest = ap (print_row r) (rows_items_text rs xs rest)
 

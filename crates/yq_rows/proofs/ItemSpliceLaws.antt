@@ -14,7 +14,7 @@ rows_then : (rs : List Row) (x : Item) (xs : List Item) → rows_items rs (x ∷
 rows_then [] x xs = refl
 rows_then (r ∷ rs) x xs = ap (λ l. row_item r ∷ l) (rows_then rs x xs)
 
-rows_front : (rs : List Row) (xs : List Item) → rows_items rs xs ≡ rows_items rs [] ++ xs
+pub rows_front : (rs : List Row) (xs : List Item) → rows_items rs xs ≡ rows_items rs [] ++ xs
 rows_front [] xs = refl
 rows_front (r ∷ rs) xs = ap (λ l. row_item r ∷ l) (rows_front rs xs)
 

@@ -114,7 +114,7 @@ kept_are t front behind before after h =
     )
 
 -- Items in front of a gap, exchanged for others: the places of the rows behind it stay as they are, and so do those in front.
-near_joined : (n : ℕ) (xs ys : List Item) → near n (xs ++ ys) ≡ near n xs ++ near (n + length (items_text xs [])) ys
+pub near_joined : (n : ℕ) (xs ys : List Item) → near n (xs ++ ys) ≡ near n xs ++ near (n + length (items_text xs [])) ys
 near_joined n [] ys = ap (λ (k : ℕ). near k ys) (omega arith)
 near_joined n (row_item r ∷ xs) ys =
     let size : (n + length (print_row r [])) + length (items_text xs []) ≡ n + length (print_row r (items_text xs [])) = omega (arith, ap length (print_then r (items_text xs [])), length-append (print_row r []) (items_text xs [])) in

@@ -41,9 +41,10 @@ pub mod RowPlaces
 pub mod seams
 pub mod splices
 pub mod ItemLaws
+pub mod ItemCuts
 pub mod RegionLaws
 pub mod MeterLaws
 pub mod ItemSpliceLaws
 pub mod KeptLaws
+pub mod NearLaws
 pub mod RegionEnds
-pub mod TouchedLaws

@@ -1,5 +1,5 @@
 -- The law of regions where one ends in front of a marker: the marker's line isn't read.
-use Rattle.std.proofs.Common.{Result, ◌≡◌, inl, inr, ℕ, ℤ, Bool, true, false, not, List, [], ◌∷◌, ◌++◌, Some, refl, sym, ap, ◌∙◌, subst, ⊎_elim, append-nil}
+use Rattle.std.proofs.Common.{◌≡◌, inl, inr, ℕ, ℤ, Bool, true, false, not, List, [], ◌∷◌, ◌++◌, Some, refl, sym, ap, ◌∙◌, subst, ⊎_elim, append-nil, append_assoc}
 use Rattle.std.proofs.lemmas.Bool.{false≢true, and_parts, cases_Bool}
 use Rattle.yq_scalar.specs.Block.{ends_block, is_empty_line, keeps}
 use Rattle.yq_scalar.specs.declared.block_lines.TextIndent.{TextIndent}
@@ -7,20 +7,16 @@ use Rattle.yq_scalar.specs.Text.{is_empty, is_line, lines_of}
 use Rattle.yq_inline.specs.Alike.{Alike}
 use Rattle.yq_inline.proofs.Alikes.{alike_append}
 use Rattle.yq_rows.specs.Gap.{IsGap}
-use Rattle.yq_rows.specs.Grammar.{Limit, IsTail, IsContent, IsRow, IsMarkerLine, AreParts}
-use Rattle.yq_rows.specs.Items.{Item, row_item, end_item, items_of, items_text, Asked, nothing_asked, asked_by, asked_of, AreItems, cut_of, IsReadAlone, shown_items}
-use Rattle.yq_rows.specs.Lending.{shown_read}
-use Rattle.yq_rows.specs.Reading.{all_parts}
-use Rattle.yq_rows.specs.View.{Shown}
-use Rattle.yq_scalar.specs.Answers.{Gives}
-use Rattle.yq_scalar.specs.declared.fault.ReadError.{ReadError}
-use Rattle.yq_rows.specs.Rows.{Content, Nothing, Inline, Block, Row, parent_indent, Cut}
+use Rattle.yq_rows.specs.Grammar.{Limit, IsTail, IsContent, IsRow, IsMarkerLine}
+use Rattle.yq_rows.specs.Items.{Item, row_item, end_item, items_of, items_text, Asked, nothing_asked, asked_by, asked_of, AreItems}
+use Rattle.yq_rows.specs.Regions.{StandIn, ended, IsReadAlone}
+use Rattle.yq_rows.specs.Rows.{Content, Nothing, Inline, Block, Row, parent_indent}
 use Rattle.yq_rows.specs.Seams.{is_closed, is_seam, TakesPlace}
 use Rattle.yq_rows.proofs.AlikeRows.{marker_line_alike, row_alike, row_gap_alike, row_text_alike}
 use Rattle.yq_rows.proofs.EmptyTexts.{none_is}
 use Rattle.yq_rows.proofs.ItemLaws.{items_joined, parts_are_items}
 use Rattle.yq_rows.proofs.NothingLaws.{gap_other, some_behind}
-use Rattle.yq_rows.proofs.RegionLaws.{Ended, alone_read, cut_made, given_law, last_items, no_last, no_marker}
+use Rattle.yq_rows.proofs.ItemCuts.{Ended, alone_read, cut_made, cut_of, last_items, no_last, no_marker}
 use Rattle.yq_rows.proofs.seams.GapSeams.{gap_lines_of, lines_before}
 use Rattle.yq_rows.proofs.seams.MarkerSeams.{marker_line_is, marker_seam}
 use Rattle.yq_rows.proofs.seams.SeamLaws.{plain_before, row_seam, tail_line}
@@ -113,21 +109,23 @@ cut_items (end_item g line ∷ xs) asked gap marker back b h =
 end_last : (gap rest : List ℕ) → is_empty rest ≡ false → IsGap gap rest → IsGap gap []
 end_last gap rest some h = gap_other gap rest [] some h
 
-ended : (xs : List Item) (gap : List ℕ) → Ended (xs ++ cut_end gap)
-ended [] gap = inl (refl, refl)
-ended (row_item r ∷ xs) gap = ended xs gap
-ended (end_item g line ∷ xs) gap = inr (ended xs gap)
+end_ended : (xs : List Item) (gap : List ℕ) → Ended (xs ++ cut_end gap)
+end_ended [] gap = inl (refl, refl)
+end_ended (row_item r ∷ xs) gap = end_ended xs gap
+end_ended (end_item g line ∷ xs) gap = inr (end_ended xs gap)
 
 some_marker : (marker t : List ℕ) → IsMarkerLine marker t → is_empty (marker ++ t) ≡ false
 some_marker [] t h = absurd (false≢true (sym (no_marker [] t h)))
 some_marker (b ∷ marker) t h = refl
 
 -- Items and the end of their part, without the line of its marker, read alone.
-pub region_end : (c : Cut) (front xs : List Item) (gap marker : List ℕ) (back : List Item) → AreParts true c → items_of c ≡ front ++ (xs ++ (end_item gap marker ∷ back)) → IsReadAlone (xs ++ cut_end gap) [] (all_parts true (items_text (xs ++ cut_end gap) []))
-region_end c front xs gap marker back h e =
-    let all : AreItems nothing_asked (front ++ (xs ++ (end_item gap marker ∷ back))) [] = subst (λ (l : List Item). AreItems nothing_asked l []) e (parts_are_items c true h) in
-    let asked = asked_of nothing_asked front in
-    let behind : AreItems asked (xs ++ (end_item gap marker ∷ back)) [] = items_joined front (xs ++ (end_item gap marker ∷ back)) nothing_asked [] all in
+pub region_end : (xs back : List Item) (gap marker : List ℕ) → StandIn (ended xs gap marker) back → IsReadAlone (ended xs gap []) []
+region_end xs back gap marker s =
+    let place : (xs ++ (end_item gap marker ∷ [])) ++ back ≡ xs ++ (end_item gap marker ∷ back) = append_assoc xs (end_item gap marker ∷ []) back in
+    let own_items : items_of s.cut ≡ s.front ++ (xs ++ (end_item gap marker ∷ back)) = s.items ∙ ap (λ l. s.front ++ l) place in
+    let all : AreItems nothing_asked (s.front ++ (xs ++ (end_item gap marker ∷ back))) [] = subst (λ (l : List Item). AreItems nothing_asked l []) own_items (parts_are_items s.cut true s.is_cut.parts) in
+    let asked = asked_of nothing_asked s.front in
+    let behind : AreItems asked (xs ++ (end_item gap marker ∷ back)) [] = items_joined s.front (xs ++ (end_item gap marker ∷ back)) nothing_asked [] all in
     let own = items_joined xs (end_item gap marker ∷ back) asked [] behind in
     let mine : AreItems asked (xs ++ cut_end gap) [] = ⊎_elim {0, 0, 0}
     (λ line.
@@ -135,8 +133,4 @@ region_end c front xs gap marker back h e =
     (cut_items xs asked gap marker back before behind).0)
     (λ none. subst (λ (m : List ℕ). AreItems asked (xs ++ (end_item gap m ∷ [])) []) none.0 (subst (λ (l : List Item). AreItems asked (xs ++ (end_item gap marker ∷ l)) []) none.1 behind))
     own.0.1 in
-    record { cut = cut_of (xs ++ cut_end gap); read_is = alone_read (xs ++ cut_end gap) asked mine; text = (cut_made (xs ++ cut_end gap) asked mine).1; items = last_items (xs ++ cut_end gap) asked mine (ended xs gap) }
-
-pub given_end : {X : Type 0} (v : X → Shown) (t : List ℕ) (c : Cut) (front xs : List Item) (gap marker : List ℕ) (back : List Item) (r : Result X ReadError) → AreParts true c → items_of c ≡ front ++ (xs ++ (end_item gap marker ∷ back)) → t ≡ items_text (xs ++ cut_end gap) [] →
-    Gives v r (shown_read (all_parts true t)) → Gives v r (Some (shown_items (xs ++ cut_end gap)))
-given_end v t c front xs gap marker back r h s e g = given_law v t (xs ++ cut_end gap) [] r (region_end c front xs gap marker back h s) e g
+    record { cut = cut_of (xs ++ cut_end gap); read = alone_read (xs ++ cut_end gap) asked mine; text = (cut_made (xs ++ cut_end gap) asked mine).1; items = last_items (xs ++ cut_end gap) asked mine (end_ended xs gap) }

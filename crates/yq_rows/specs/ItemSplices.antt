@@ -24,7 +24,7 @@ first_item (r ∷ rs) gap marker = row_item r
 -- the same with another gap (own)
 abbrev pub regapped : List ℕ → List Row → (marker : List ℕ) → Item
 regapped gap [] marker = end_item gap marker
-regapped gap (r ∷ rs) marker = row (with_row_gap gap r)
+regapped gap (r ∷ rs) marker = row_item (with_row_gap gap r)
 
 -- The items of a cut, in which other rows, with a gap behind them, stand in the place of rows from i up to j of part k: those rows and the item behind
 -- them, whose gap that is, give way, and all others stay (own).

@@ -1,11 +1,12 @@
 -- Rows kept by where they stand (own; a reader of the contracts may skip it): in front of a gap by the distance from the text's beginning, behind it by
 -- that to the text's end.
-use Rattle.std.specs.Prelude.{◌≡◌, ℕ, ◌+◌, ◌-◌, ◌<◌, ◌^◌, List, [], ◌∷◌, ◌++◌, length, map, reverse}
+use Rattle.std.specs.Prelude.{◌≡◌, ℕ, ◌+◌, ◌-◌, ◌<◌, ◌^◌, List, [], ◌∷◌, ◌++◌, length, map, reverse, Option, Some}
+use Rattle.yq_scalar.specs.Answers.{◌>>=◌}
 use Rattle.std.specs.Str.{IsUtf8}
-use Rattle.yq_rows.specs.Items.{Item, row_item, end_item, items_text}
+use Rattle.yq_rows.specs.Items.{Item, row_item, end_item, items_of, items_text, rows_items, shown_items}
 use Rattle.yq_rows.specs.Offsets.{AreTexts, offsets_of}
-use Rattle.yq_rows.specs.Rows.{print_row}
-use Rattle.yq_rows.specs.View.{Slices, slices}
+use Rattle.yq_rows.specs.Rows.{print_row, Part, Cut}
+use Rattle.yq_rows.specs.View.{Slices, slices, Shown}
 use Rattle.yq_rows.specs.declared.offsets.Offsets as declared
 
 -- the rows of items, of which so many bytes stand in front (own)
@@ -13,6 +14,20 @@ abbrev pub near : ℕ → List Item → List declared.Offsets
 near n [] = []
 near n (row_item r ∷ xs) = offsets_of n (slices r) ∷ near (n + length (print_row r [])) xs
 near n (end_item gap marker ∷ xs) = near (n + length (gap ++ marker)) xs
+
+-- rows that are read behind others, of which so many bytes stand in front (own)
+abbrev pub rows_placed : List declared.Offsets → ℕ → Option (Part × List ℕ) → Option (List declared.Offsets)
+rows_placed offsets n read = read >>= λ x. Some (offsets ++ near n (rows_items x.0.rows []))
+
+-- the same of all parts (own)
+abbrev pub parts_placed : List declared.Offsets → ℕ → Option Cut → Option (List declared.Offsets)
+parts_placed offsets n read = read >>= λ c. Some (offsets ++ near n (items_of c))
+
+-- Rows stand where those of items do that follow one another from the beginning of a text (own).
+pub record AreNear (offsets : List declared.Offsets) (s : Shown) : Type 0 where
+  pub items : List Item
+  pub near_is : offsets ≡ near 0 items
+  pub shown_is : s ≡ shown_items items
 
 -- the rows of items at the end of a text, by how far from there they begin (own)
 abbrev pub far : List Item → List declared.Offsets

@@ -1,12 +1,11 @@
 //! Regions of a text: rows and ends of parts between others, read alone.
-ghost use Rattle.std.specs.Prelude.{◌≡◌, ◌<◌, ◌^◌, ℕ, List, [], ◌∷◌, ◌++◌, Some, length, true};
+ghost use Rattle.std.specs.Prelude.{◌≡◌, ◌<◌, ◌^◌, List, [], Some, length, true};
 ghost use Rattle.yq_scalar.specs.Answers.{Gives};
-ghost use Rattle.yq_rows.specs.Grammar.{IsCut};
-ghost use Rattle.yq_rows.specs.Items.{Item, StandIn, alone, end_item, items_of, items_text, shown_items};
+ghost use Rattle.yq_rows.specs.Items.{Item, items_text, shown_items};
+ghost use Rattle.yq_rows.specs.Regions.{IsReadAlone, alone};
 ghost use Rattle.yq_rows.specs.Lending.{shown_read};
 ghost use Rattle.yq_rows.specs.Meter.{counted, line_count};
 ghost use Rattle.yq_rows.specs.Reading.{all_parts};
-ghost use Rattle.yq_rows.specs.Rows.{Cut};
 
 use crate::meter::{Meter, count_lines};
 use crate::scanning::{Rows, cut};
@@ -23,10 +22,8 @@ pub fn read_region<'t>(
     requires small { length text.now < 2 ^ 32 }
     // They are what reading from left to right gives.
     ensures exact { Gives (λ s. s) result (shown_read (all_parts true text.now)) }
-    // The text of rows and ends of a cut gives these, whatever stands in front of them and behind.
-    ensures alone { (t : List ℕ) (c : Cut) (front xs back : List Item) → IsCut t c → StandIn c front xs back → text.now ≡ items_text xs [] → Gives (λ s. s) result (Some (shown_items (alone xs back))) }
-    // So does that of rows and the end of their part, without the line of its marker.
-    ensures unmarked { (t : List ℕ) (c : Cut) (front xs : List Item) (gap marker : List ℕ) (back : List Item) → IsCut t c → items_of c ≡ front ++ (xs ++ (end_item gap marker ∷ back)) → text.now ≡ items_text (xs ++ (end_item gap [] ∷ [])) [] → Gives (λ s. s) result (Some (shown_items (xs ++ (end_item gap [] ∷ [])))) }
+    // The text of items that are read alone gives these.
+    ensures alone { (xs back : List Item) → IsReadAlone xs back → text.now ≡ items_text xs [] → Gives (λ s. s) result (Some (shown_items (alone xs back))) }
     ensures counted { meter.new ≡ counted (line_count text.now) meter.old }
 {
     count_lines(text, meter);

@@ -1,12 +1,10 @@
 //! Laws of a cut as a list of rows and ends of parts, and of some of them between others.
-ghost use Rattle.std.specs.Prelude.{◌≡◌, ◌≤◌, ℕ, List, [], ◌∷◌, ◌++◌, Bool, true};
-ghost use Rattle.yq_rows.specs.Grammar.{AreParts, IsCut, unlimited};
+ghost use Rattle.std.specs.Prelude.{◌≡◌, ◌≤◌, ℕ, List, [], ◌++◌, Bool};
+ghost use Rattle.yq_rows.specs.Grammar.{AreParts, unlimited};
 ghost use Rattle.yq_rows.specs.ItemSplices.{SplicedItems};
-ghost use Rattle.yq_rows.specs.Items.{Asked, AreItems, IsReadAlone, Item, StandIn, asked_of, end_item, items_of, items_text, nothing_asked, rows_items, shown_items};
-ghost use Rattle.yq_rows.specs.Reading.{all_parts};
+ghost use Rattle.yq_rows.specs.Items.{Asked, AreItems, Item, asked_of, items_of, items_text, shown_items};
+ghost use Rattle.yq_rows.specs.Regions.{IsReadAlone, StandIn, ended};
 ghost use Rattle.yq_rows.specs.Rows.{Cut, Row, cut_text};
-ghost use Rattle.yq_rows.specs.Touched.{IsLocal, Written, touched_lines, unmarked};
-ghost use Rattle.yq_rows.specs.Meter.{line_count};
 ghost use Rattle.yq_rows.specs.View.{shown};
 
 /// The rows and ends of a cut are its text, and what the code lends of it; each is one behind those
@@ -22,17 +20,12 @@ pub fn items_are()
 /// Rows and ends of a cut, read alone, are the same, whatever stands in front of them and behind;
 /// so is the end of a part without the line of its marker.
 pub fn region_alone()
-    ensures alone { (t : List ℕ) (c : Cut) (front xs back : List Item) → IsCut t c → StandIn c front xs back → IsReadAlone xs back (all_parts true (items_text xs [])) }
-    ensures unmarked { (t : List ℕ) (c : Cut) (front xs : List Item) (gap marker : List ℕ) (back : List Item) → IsCut t c → items_of c ≡ front ++ (xs ++ (end_item gap marker ∷ back)) → IsReadAlone (xs ++ (end_item gap [] ∷ [])) [] (all_parts true (items_text (xs ++ (end_item gap [] ∷ [])) [])) }
+    ensures alone { (xs back : List Item) → StandIn xs back → IsReadAlone xs back }
+    ensures unmarked { (xs back : List Item) (gap marker : List ℕ) → StandIn (ended xs gap marker) back → IsReadAlone (ended xs gap []) [] }
 {}
 
 /// A splice of a cut, by its items: the rows that give way and the item behind them are exchanged,
 /// and all others stay.
 pub fn items_spliced()
     ensures { (k i j : ℕ) (new : List Row) (gap : List ℕ) (c : Cut) → i ≤ j → SplicedItems k i j new gap c }
-{}
-
-/// Rows and an end that are read again for new bytes have no more lines than what these bytes touch.
-pub fn touched_lines_read()
-    ensures { (old new : Cut) (ws : List Written) (h : IsLocal old new ws) → line_count (items_text (rows_items h.rows (unmarked h.last)) []) ≤ touched_lines ws 0 (items_of new) }
 {}
