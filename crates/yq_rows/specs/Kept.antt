@@ -4,9 +4,9 @@ use Rattle.std.specs.Prelude.{◌≡◌, ℕ, ◌+◌, ◌-◌, ◌<◌, ◌^◌
 use Rattle.yq_scalar.specs.Answers.{◌>>=◌}
 use Rattle.std.specs.Str.{IsUtf8}
 use Rattle.yq_rows.specs.Items.{Item, row_item, end_item, items_of, items_text, rows_items, shown_items}
-use Rattle.yq_rows.specs.Offsets.{AreTexts, offsets_of}
+use Rattle.yq_rows.specs.Offsets.{AreTexts, offsets_of, rows_in}
 use Rattle.yq_rows.specs.Rows.{print_row, Part, Cut}
-use Rattle.yq_rows.specs.View.{Slices, slices, Shown}
+use Rattle.yq_rows.specs.View.{Bound, Slices, slices, Shown}
 use Rattle.yq_rows.specs.declared.offsets.Offsets as declared
 
 -- the rows of items, of which so many bytes stand in front (own)
@@ -22,6 +22,10 @@ rows_placed offsets n read = read >>= λ x. Some (offsets ++ near n (rows_items 
 -- the same of all parts (own)
 abbrev pub parts_placed : List declared.Offsets → ℕ → Option Cut → Option (List declared.Offsets)
 parts_placed offsets n read = read >>= λ c. Some (offsets ++ near n (items_of c))
+
+-- rows of a text by where they stand in it, and where its parts end (own)
+abbrev pub shown_in : List ℕ → List declared.Offsets → List Bound → Shown
+shown_in whole offsets bounds = record { rows = rows_in whole offsets; bounds = bounds }
 
 -- Rows stand where those of items do that follow one another from the beginning of a text (own).
 pub record AreNear (offsets : List declared.Offsets) (s : Shown) : Type 0 where
