@@ -41,3 +41,11 @@ pub mod EmptyTexts
 pub mod RowPlaces
 pub mod seams
 pub mod splices
+pub mod ItemLaws
+pub mod ItemCuts
+pub mod RegionLaws
+pub mod MeterLaws
+pub mod ItemSpliceLaws
+pub mod KeptLaws
+pub mod NearLaws
+pub mod RegionEnds

@@ -1,9 +1,10 @@
 //! Rows, read one behind the other.
-ghost use Rattle.std.specs.Prelude.{◌≡◌, ◌<◌, ◌≤◌, ◌+◌, ◌^◌, ◌==◌, ◌&&◌, ◌||◌, not, length, true, IfOk};
+ghost use Rattle.std.specs.Prelude.{◌≡◌, ◌<◌, ◌≤◌, ◌+◌, ◌-◌, ◌^◌, ◌==◌, ◌&&◌, ◌||◌, not, length, true, IfOk};
 ghost use Rattle.yq_scalar.specs.Answers.{Gives, Reads};
 ghost use Rattle.yq_scalar.specs.Text;
 ghost use Rattle.yq_rows.specs.Grammar as grammar;
 ghost use Rattle.yq_rows.specs.Grammar.{unlimited, ends_part};
+ghost use Rattle.yq_rows.specs.Kept.{rows_placed};
 ghost use Rattle.yq_rows.specs.Lending.{begin_view, marked_lent, row_lent, rows_lent};
 ghost use Rattle.yq_rows.specs.Offsets.{Ends, Stand, rows_in};
 ghost use Rattle.yq_rows.specs.Reading as spec;
@@ -105,6 +106,7 @@ fn read_rows<'t>(
     requires stand { Stand whole.now rows.items }
     requires small { length whole.now < 2 ^ 32 }
     ensures found { Gives (λ x. (rows_in whole.now x.0.items, x.1.now, x.2.now)) result (rows_lent (rows_in whole.now rows.items) (spec.all_rows unlimited text.now)) }
+    ensures placed { Gives (λ x. x.0.items) result (rows_placed rows.items (length whole.now - length text.now) (spec.all_rows unlimited text.now)) }
     ensures kept { IfOk result (λ x. Stand whole.now x.0.items) }
     ensures behind { IfOk result (λ x. Ends x.2.now whole.now) }
 {
@@ -155,6 +157,7 @@ pub(crate) fn read_part<'t>(
     requires stand { Stand whole.now rows.items }
     requires small { length whole.now < 2 ^ 32 }
     ensures found { Gives (λ x. (rows_in whole.now x.0.items, x.1.now, x.2.now)) result (rows_lent (rows_in whole.now rows.items) (spec.part_at is_open text.now)) }
+    ensures placed { Gives (λ x. x.0.items) result (rows_placed rows.items (length whole.now - length text.now) (spec.part_at is_open text.now)) }
     ensures kept { IfOk result (λ x. Stand whole.now x.0.items) }
     ensures behind { IfOk result (λ x. Ends x.2.now whole.now) }
 {
