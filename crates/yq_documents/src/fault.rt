@@ -1,6 +1,7 @@
 //! Where a text is at fault.
 
 use crate::documents::first_is_document;
+use std::num::NonZeroU64;
 use yq_lines::{Flaw, Position};
 use yq_rows::{Row, Rows, begins_document};
 use yq_scalar::{FaultKind, ReadFault};
@@ -16,7 +17,7 @@ pub(crate) fn fault_at(kind: FaultKind, text: &str, at: usize) -> ReadFault {
     let count = before.filter(|b| **b == b'\n').count() as u64;
     ReadFault {
         kind,
-        line: count.saturating_add(1),
+        line: NonZeroU64::MIN.saturating_add(count),
     }
 }
 
@@ -73,28 +74,28 @@ fn breaks_before(rows: &Rows<'_>, from: usize, to: usize, line: usize) -> u64 {
     count
 }
 
-/// The line of a text, counted from 1, on which a line of a document begins, by their indexes, where the
-/// text is cut into these rows.
-fn text_line(rows: &Rows<'_>, document: usize, index: usize) -> u64 {
-    let mut line = 1u64;
+/// How many line breaks stand before a line of a document, by their indexes, where the text is cut into
+/// these rows.
+fn text_breaks(rows: &Rows<'_>, document: usize, index: usize) -> u64 {
+    let mut count = 0u64;
     let mut from = 0;
     let mut left = document;
     let mut is_document = first_is_document(rows);
     'parts: for i in 0..rows.parts() {
         let part = rows.part(i);
         if is_document && left == 0 {
-            return line.saturating_add(breaks_before(rows, from, part.rows, index));
+            return count.saturating_add(breaks_before(rows, from, part.rows, index));
         }
         if is_document {
             left = left.saturating_sub(1);
         }
-        line = line.saturating_add(breaks_before(rows, from, part.rows, usize::MAX));
-        line = line.saturating_add(breaks(part.end.as_bytes()));
-        line = line.saturating_add(breaks(part.marker.as_bytes()));
+        count = count.saturating_add(breaks_before(rows, from, part.rows, usize::MAX));
+        count = count.saturating_add(breaks(part.end.as_bytes()));
+        count = count.saturating_add(breaks(part.marker.as_bytes()));
         is_document = begins_document(part.marker.as_bytes());
         from = part.rows;
     }
-    line
+    count
 }
 
 /// A fault of a document, by its index, of a text that is cut into these rows.
@@ -108,7 +109,7 @@ pub(crate) fn document_fault(
         Position::Byte(byte) => fault_at(flaw.kind, text, byte),
         Position::Line(index) => ReadFault {
             kind: flaw.kind,
-            line: text_line(rows, document, index),
+            line: NonZeroU64::MIN.saturating_add(text_breaks(rows, document, index)),
         },
     }
 }

@@ -11,6 +11,7 @@ ghost use Rattle.yq_lines.specs.View.{head_view, head_flow};
 
 use crate::flow_keys::keys_fault;
 use std::alloc::{AllocError, Global};
+use std::num::NonZeroU64;
 use yq_inline::pieces::{first_is, is_quoted};
 use yq_inline::{Form, Inline, read_inline};
 use yq_lines::{Content, Head, content_of, plain_head};
@@ -88,7 +89,10 @@ fn read_block_head<'t>(alloc: Global, parent: i64, text: &str) -> Result<Head<'t
 {
     let piece = match read_block(text, 0, parent) {
         Ok(piece) => piece,
-        Err(kind) => return Err(ReadError::Fault(ReadFault { kind, line: 1 })),
+        Err(kind) => {
+            let line = NonZeroU64::MIN;
+            return Err(ReadError::Fault(ReadFault { kind, line }));
+        }
     };
     let text = content(alloc, text, &piece)?;
     Ok(Head::Scalar(Kind::Text, Content::Own(text)))

@@ -15,7 +15,8 @@ pub data Alike : Option Bool → List ℕ → List ℕ → Type 0 where
   stop : {f : Option Bool} {b : ℕ} {t u : List ℕ} → is_stop b ≡ true → Alike f (b ∷ t) (b ∷ u)
   colon : {flow : Bool} {t u : List ℕ} → is_safe flow t ≡ false → is_safe flow u ≡ false → Alike (Some flow) (58 ∷ t) (58 ∷ u)
   any_colon : {t u : List ℕ} → Alike None (58 ∷ t) (58 ∷ u)
-  byte : {f : Option Bool} {b : ℕ} {t u : List ℕ} → is_space (b ∷ t) ≡ false → is_space (b ∷ u) ≡ false → separates t ≡ true → separates u ≡ true → Alike f (b ∷ t) (b ∷ u)
+  byte : {f : Option Bool} {b : ℕ} {t u : List ℕ} → is_space (b ∷ t) ≡ false → is_space (b ∷ u) ≡ false → separates t ≡ true → separates u ≡ true →
+      Alike f (b ∷ t) (b ∷ u)
   after : {f : Option Bool} {b : ℕ} {t u : List ℕ} → Alike f t u → Alike f (b ∷ t) (b ∷ u)
 
 -- What stands behind an item: a gap, and a comma or the closing bracket (YAML 1.2.2, section 7.4).

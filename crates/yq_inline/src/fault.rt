@@ -1,11 +1,17 @@
 //! Where a text is at fault.
+ghost use Rattle.std.specs.Prelude.{◌≢◌};
+ghost use Rattle.yq_scalar.specs.declared.fault.FaultKind.TheVariants.{NotUtf8};
 
+use std::num::NonZeroU64;
 use yq_scalar::block_lines::behind_spaces;
 use yq_scalar::text::spaces_len;
 use yq_scalar::{FaultKind, ReadFault};
 
 /// A fault that begins where this rest of the whole text does.
-pub(crate) fn fault(kind: FaultKind, whole: &str, rest: &str) -> ReadFault {
+pub(crate) fn fault(kind: FaultKind, whole: &str, rest: &str) -> ReadFault
+    requires { kind ≢ NotUtf8 }
+    ensures { result.kind ≢ NotUtf8 }
+{
     let before = whole
         .as_bytes()
         .split_at(whole.len().saturating_sub(rest.len()))
@@ -13,7 +19,7 @@ pub(crate) fn fault(kind: FaultKind, whole: &str, rest: &str) -> ReadFault {
     let breaks = before.iter().filter(|b| **b == b'\n').count() as u64;
     ReadFault {
         kind,
-        line: breaks.saturating_add(1),
+        line: NonZeroU64::MIN.saturating_add(breaks),
     }
 }
 
@@ -39,7 +45,10 @@ fn is_unclosed(whole: &str, open: &str, rest: &str) -> bool {
 
 /// A fault in a flow collection behind whose bracket stood `open`: where this rest of the whole text
 /// begins, or, where the collection isn't closed before it, where that begins.
-pub(crate) fn flow_fault(kind: FaultKind, whole: &str, open: &str, rest: &str) -> ReadFault {
+pub(crate) fn flow_fault(kind: FaultKind, whole: &str, open: &str, rest: &str) -> ReadFault
+    requires { kind ≢ NotUtf8 }
+    ensures { result.kind ≢ NotUtf8 }
+{
     let is_unclosed = is_unclosed(whole, open, rest);
     fault(kind, whole, if is_unclosed { open } else { rest })
 }

@@ -1,6 +1,7 @@
 //! What stands between two tokens of a flow collection.
-ghost use Rattle.std.specs.Prelude.{◌≡◌, ◌∷◌, ◌≤◌, IfOk, length};
+ghost use Rattle.std.specs.Prelude.{◌≡◌, ◌≢◌, ◌∷◌, ◌≤◌, IfErr, IfOk, length};
 ghost use Rattle.yq_scalar.specs.Answers.{Reads};
+ghost use Rattle.yq_scalar.specs.declared.fault.FaultKind.TheVariants.{NotUtf8};
 ghost use Rattle.yq_inline.specs.Gaps as spec;
 ghost use Rattle.yq_inline.specs.Reading as reading;
 ghost use Rattle.yq_inline.specs.declared.gap.Before.TheVariants.{Token as token};
@@ -73,6 +74,7 @@ pub fn gap_len(text: &[u8]) -> (usize, bool)
 pub(crate) fn read_gap<'t>(whole: &str, text: &'t str) -> Result<(&'t str, &'t str), ReadFault>
     ensures read { Reads (λ x. (x.0.now, x.1.now)) result (reading.gap_at text.now) }
     ensures shorter { IfOk result (λ x. length x.1.now ≤ length text.now) }
+    ensures fault { IfErr result (λ f. f.kind ≢ NotUtf8) }
 {
     let (n, line) = gap_len(text.as_bytes());
     let (gap, rest) = text.split_at(n);

@@ -1,6 +1,7 @@
 //! The ends of inline nodes, found without their trees.
-ghost use Rattle.std.specs.Prelude.{◌≡◌, ◌<◌, ◌≤◌, IfOk, false, length};
+ghost use Rattle.std.specs.Prelude.{◌≡◌, ◌≢◌, ◌<◌, ◌≤◌, IfErr, IfOk, false, length};
 ghost use Rattle.yq_scalar.specs.Answers.{Reads};
+ghost use Rattle.yq_scalar.specs.declared.fault.FaultKind.TheVariants.{NotUtf8};
 ghost use Rattle.yq_inline.specs.Measured as spec;
 ghost use Rattle.yq_inline.specs.Measured.{measured, measured_view, past};
 ghost use Rattle.yq_inline.specs.PlacedReading as seen;
@@ -84,7 +85,9 @@ pub fn measure_node<'t>(
     text: &'t str,
 ) -> Result<Measured<'t>, ReadFault>
     ensures shorter { IfOk result (λ m. length m.rest.now ≤ length text.now) }
-    ensures read { Reads measured_view result (measured (seen.placed_node flow spaces 0 depth text.now)) }
+    ensures read { Reads measured_view result
+        (measured (seen.placed_node flow spaces 0 depth text.now)) }
+    ensures fault { IfErr result (λ f. f.kind ≢ NotUtf8) }
 {
     let Some(behind) = strip(b'&', text) else {
         return measure_content(flow, spaces, whole, depth, text);
@@ -113,7 +116,9 @@ fn measure_content<'t>(
     text: &'t str,
 ) -> Result<Measured<'t>, ReadFault>
     ensures shorter { IfOk result (λ m. length m.rest.now ≤ length text.now) }
-    ensures read { Reads measured_view result (measured (seen.placed_content flow spaces 0 depth text.now)) }
+    ensures read { Reads measured_view result
+        (measured (seen.placed_content flow spaces 0 depth text.now)) }
+    ensures fault { IfErr result (λ f. f.kind ≢ NotUtf8) }
 {
     if let Some(behind) = strip(b'*', text) {
         let (_, rest) = read_name(whole, behind)?;
@@ -140,6 +145,7 @@ fn measure_content<'t>(
 fn measure_sequence<'t>(whole: &str, depth: usize, text: &'t str) -> Result<&'t str, ReadFault>
     ensures shorter { IfOk result (λ r. length r.now ≤ length text.now) }
     ensures read { Reads (λ r. r.now) result (past (seen.placed_coll 0 depth 93 text.now)) }
+    ensures fault { IfErr result (λ f. f.kind ≢ NotUtf8) }
 {
     let (_, rest) = read_gap(whole, text)?;
     if depth == 0 {
@@ -154,6 +160,7 @@ fn measure_sequence<'t>(whole: &str, depth: usize, text: &'t str) -> Result<&'t 
 fn measure_mapping<'t>(whole: &str, depth: usize, text: &'t str) -> Result<&'t str, ReadFault>
     ensures shorter { IfOk result (λ r. length r.now ≤ length text.now) }
     ensures read { Reads (λ r. r.now) result (past (seen.placed_coll 0 depth 125 text.now)) }
+    ensures fault { IfErr result (λ f. f.kind ≢ NotUtf8) }
 {
     let (_, rest) = read_gap(whole, text)?;
     if depth == 0 {
@@ -173,6 +180,7 @@ fn measure_item<'t>(
 ) -> Result<&'t str, ReadFault>
     ensures shorter { IfOk result (λ r. length r.now < length text.now) }
     ensures read { Reads (λ r. r.now) result (past (seen.placed_item 0 depth text.now)) }
+    ensures fault { IfErr result (λ f. f.kind ≢ NotUtf8) }
 {
     let item = measure_node(true, Some(0), whole, depth, text)?;
     if is_bare(item) {
@@ -194,6 +202,7 @@ fn measure_items<'t>(
 ) -> Result<&'t str, ReadFault>
     ensures shorter { IfOk result (λ r. length r.now ≤ length text.now) }
     ensures read { Reads (λ r. r.now) result (past (seen.placed_items 0 depth 93 text.now)) }
+    ensures fault { IfErr result (λ f. f.kind ≢ NotUtf8) }
 {
     let mut rest = text;
     'each: loop {
@@ -215,6 +224,7 @@ fn measure_entry<'t>(
 ) -> Result<&'t str, ReadFault>
     ensures shorter { IfOk result (λ r. length r.now < length text.now) }
     ensures read { Reads (λ r. r.now) result (past (seen.placed_entry 0 depth text.now)) }
+    ensures fault { IfErr result (λ f. f.kind ≢ NotUtf8) }
 {
     let (_, rest) = read_key(whole, open, text)?;
     let value = measure_node(true, Some(0), whole, depth, rest)?;
@@ -233,6 +243,7 @@ fn measure_entries<'t>(
 ) -> Result<&'t str, ReadFault>
     ensures shorter { IfOk result (λ r. length r.now ≤ length text.now) }
     ensures read { Reads (λ r. r.now) result (past (seen.placed_items 0 depth 125 text.now)) }
+    ensures fault { IfErr result (λ f. f.kind ≢ NotUtf8) }
 {
     let mut rest = text;
     'each: loop {

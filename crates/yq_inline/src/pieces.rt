@@ -1,7 +1,8 @@
 //! The pieces of inline nodes, read one behind the other.
-ghost use Rattle.std.specs.Prelude.{◌≡◌, ◌<◌, ◌≤◌, IfOk, MatchOption, drop, false, length, true};
+ghost use Rattle.std.specs.Prelude.{◌≡◌, ◌≢◌, ◌<◌, ◌≤◌, IfErr, IfOk, MatchOption, drop, false, length, true};
 ghost use Rattle.yq_scalar.specs.Answers.{Reads};
 ghost use Rattle.yq_scalar.specs.Quoted.{IsQuotedText};
+ghost use Rattle.yq_scalar.specs.declared.fault.FaultKind.TheVariants.{NotUtf8};
 ghost use Rattle.yq_inline.specs.Nodes as nodes;
 ghost use Rattle.yq_inline.specs.PlacedReading as seen;
 ghost use Rattle.yq_inline.specs.Reading as spec;
@@ -28,7 +29,8 @@ pub fn first_is(k: u8, text: &[u8]) -> bool
 /// What follows this ASCII byte in front.
 pub fn strip(k: u8, text: &str) -> Option<&str>
     requires { k < 128 }
-    ensures { MatchOption result (nodes.first_is k text.now ≡ false) (λ r. (nodes.first_is k text.now ≡ true) × (r.now ≡ drop 1 text.now) × (length r.now < length text.now)) }
+    ensures { MatchOption result (nodes.first_is k text.now ≡ false)
+        (λ r. (nodes.first_is k text.now ≡ true) × (r.now ≡ drop 1 text.now) × (length r.now < length text.now)) }
 {
     if first_is(k, text.as_bytes()) {
         Some(text.split_at(1).1)
@@ -56,6 +58,7 @@ pub fn name_len(text: &[u8]) -> usize
 pub fn read_name<'t>(whole: &str, text: &'t str) -> Result<(&'t str, &'t str), ReadFault>
     ensures read { Reads (λ x. (x.0.now, x.1.now)) result (spec.name_at text.now) }
     ensures shorter { IfOk result (λ x. length x.1.now ≤ length text.now) }
+    ensures fault { IfErr result (λ f. f.kind ≢ NotUtf8) }
 {
     let n = name_len(text.as_bytes());
     if n == 0 {
@@ -89,7 +92,10 @@ pub fn begins_content(flow: bool, text: &[u8]) -> bool
 }
 
 /// Why no node begins with this text, where nothing else is known.
-pub(crate) fn no_node(text: &[u8], otherwise: FaultKind) -> FaultKind {
+pub(crate) fn no_node(text: &[u8], otherwise: FaultKind) -> FaultKind
+    requires { otherwise ≢ NotUtf8 }
+    ensures { result ≢ NotUtf8 }
+{
     match text {
         [b'!', ..] => FaultKind::Tag,
         [b'?', ..] => FaultKind::ExplicitKey,
@@ -98,7 +104,9 @@ pub(crate) fn no_node(text: &[u8], otherwise: FaultKind) -> FaultKind {
 }
 
 /// Why no key begins with this text.
-fn no_key(text: &[u8]) -> FaultKind {
+fn no_key(text: &[u8]) -> FaultKind
+    ensures { result ≢ NotUtf8 }
+{
     match text {
         [] | [b',' | b']' | b'}', ..] => FaultKind::BadFlow,
         [b'&', ..] => FaultKind::AnchorOnKey,
@@ -115,6 +123,7 @@ fn read_quoted<'t>(
 ) -> Result<(&'t str, &'t str), ReadFault>
     ensures read { Reads (λ x. (x.0.now, x.1.now)) result (spec.in_quotes_at spaces text.now) }
     ensures quoted { IfOk result (λ x. IsQuotedText x.0.now) }
+    ensures fault { IfErr result (λ f. f.kind ≢ NotUtf8) }
 {
     match split_quoted(text) {
         Ok((piece, rest)) if spaces.is_some() || !holds_break(piece) => Ok((piece, rest)),
@@ -135,6 +144,7 @@ pub fn read_scalar<'t>(
     ensures read { Reads (λ x. (x.0.now, x.1.now)) result (spec.scalar_at flow spaces text.now) }
     ensures quoted { IfOk result (λ x. scalars.is_quoted x.0.now ≡ true → IsQuotedText x.0.now) }
     ensures shorter { IfOk result (λ x. length x.1.now ≤ length text.now) }
+    ensures fault { IfErr result (λ f. f.kind ≢ NotUtf8) }
 {
     if is_quoted(text.as_bytes()) {
         return read_quoted(spaces, whole, text);
@@ -149,6 +159,7 @@ pub fn read_scalar<'t>(
 fn read_apart<'t>(flow: bool, whole: &str, text: &'t str) -> Result<(&'t str, &'t str), ReadFault>
     ensures read { Reads (λ x. (x.0.now, x.1.now)) result (spec.apart_at flow text.now) }
     ensures shorter { IfOk result (λ x. length x.1.now ≤ length text.now) }
+    ensures fault { IfErr result (λ f. f.kind ≢ NotUtf8) }
 {
     if flow {
         read_gap(whole, text)
@@ -166,6 +177,7 @@ pub(crate) fn read_lead<'t>(
 ) -> Result<(&'t str, &'t str), ReadFault>
     ensures read { Reads (λ x. (x.0.now, x.1.now)) result (spec.lead_at flow (nodes.begins_content flow) text.now) }
     ensures shorter { IfOk result (λ x. length x.1.now ≤ length text.now) }
+    ensures fault { IfErr result (λ f. f.kind ≢ NotUtf8) }
 {
     let (gap, rest) = read_apart(flow, whole, text)?;
     if begins_content(flow, rest.as_bytes()) {
@@ -180,6 +192,7 @@ pub(crate) fn read_lead<'t>(
 fn read_value_lead<'t>(whole: &str, text: &'t str) -> Result<(&'t str, &'t str), ReadFault>
     ensures read { Reads (λ x. (x.0.now, x.1.now)) result (spec.lead_at true (nodes.begins_node true) text.now) }
     ensures shorter { IfOk result (λ x. length x.1.now ≤ length text.now) }
+    ensures fault { IfErr result (λ f. f.kind ≢ NotUtf8) }
 {
     let (gap, rest) = read_gap(whole, text)?;
     if first_is(b'&', rest.as_bytes()) || begins_content(true, rest.as_bytes()) {
@@ -201,6 +214,7 @@ fn ends_key(piece: &str, text: &[u8]) -> bool
 fn read_colon<'t>(piece: &str, whole: &str, open: &str, text: &'t str) -> Result<&'t str, ReadFault>
     ensures read { Reads (λ x. x.now) result (spec.colon_at piece.now text.now) }
     ensures shorter { IfOk result (λ x. length x.now < length text.now) }
+    ensures fault { IfErr result (λ f. f.kind ≢ NotUtf8) }
 {
     match strip(b':', text) {
         Some(rest) if ends_key(piece, rest.as_bytes()) => Ok(rest),
@@ -219,6 +233,7 @@ pub(crate) fn read_sep<'t>(
 ) -> Result<&'t str, ReadFault>
     ensures read { Reads (λ x. x.now) result (seen.past_sep close text.now) }
     ensures shorter { IfOk result (λ x. length x.now ≤ length text.now) }
+    ensures fault { IfErr result (λ f. f.kind ≢ NotUtf8) }
 {
     let (_, rest) = read_gap(whole, text)?;
     if let Some(behind) = strip(b',', rest) {
@@ -244,6 +259,7 @@ pub(crate) fn read_key<'t>(
     ensures read { Reads (λ x. (x.0.now, x.1.now)) result (seen.seen_key text.now) }
     ensures quoted { IfOk result (λ x. scalars.is_quoted x.0.now ≡ true → IsQuotedText x.0.now) }
     ensures shorter { IfOk result (λ x. length x.1.now < length text.now) }
+    ensures fault { IfErr result (λ f. f.kind ≢ NotUtf8) }
 {
     let (key, rest) = match read_scalar(true, None, whole, text) {
         Ok(found) => found,

@@ -1,7 +1,7 @@
 //! The inline node at an offset of a text.
-ghost use Rattle.std.specs.Prelude.{◌≡◌, ◌⊎◌, IfOk, Some};
+ghost use Rattle.std.specs.Prelude.{◌≡◌, ◌⊎◌, IfErr, IfOk, Some};
 ghost use Rattle.std.specs.Str.{IsCharBoundary};
-ghost use Rattle.yq_scalar.specs.Answers.{Gives};
+ghost use Rattle.yq_scalar.specs.Answers.{Gives, IsOfText};
 ghost use Rattle.yq_scalar.specs.declared.style.Place.TheVariants.{Block, Flow};
 ghost use Rattle.yq_inline.specs.Inline as spec;
 ghost use Rattle.yq_inline.specs.Places.{Placed};
@@ -27,7 +27,8 @@ fn inline_at<'t>(
     depth: usize,
 ) -> Result<Inline<'t>, ReadError>
     requires { IsCharBoundary text.now at }
-    ensures { Gives view result (spec.inline_at place indent depth at text.now) }
+    ensures read { Gives view result (spec.inline_at place indent depth at text.now) }
+    ensures fault { IfErr result IsOfText }
 {
     let rest = text.split_at(at).1;
     let room = DEPTH_LIMIT.saturating_sub(depth);
@@ -72,6 +73,8 @@ pub fn read_inline<'t>(
     ensures spans { IfOk result (λ node. HasSpans text.now (view node)) }
     // Its parts lie inside it, one behind the other, each key before its value.
     ensures nested { IfOk result (λ node. IsNested (view node)) }
+    // A fault is never that the bytes are not UTF-8.
+    ensures fault { IfErr result IsOfText }
 {
     inline_at(alloc, text, at, place, indent, depth)
 }

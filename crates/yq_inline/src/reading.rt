@@ -1,7 +1,7 @@
 //! Inline nodes, read from left to right.
-ghost use Rattle.std.specs.Prelude.{◌≡◌, ◌<◌, ◌≤◌, IfOk, Some, length, true};
+ghost use Rattle.std.specs.Prelude.{◌≡◌, ◌<◌, ◌≤◌, IfErr, IfOk, Some, length, true};
 ghost use Rattle.std.specs.String.{string_bytes};
-ghost use Rattle.yq_scalar.specs.Answers.{Gives};
+ghost use Rattle.yq_scalar.specs.Answers.{Gives, IsOfText};
 ghost use Rattle.yq_inline.specs.Places as spec;
 ghost use Rattle.yq_inline.specs.PlacedReading as seen;
 ghost use Rattle.yq_inline.specs.View.{entries_end, form_view, items_end, view};
@@ -62,6 +62,7 @@ fn put_anchor<'t>(
     requires { length text.now ≤ length whole.now }
     ensures shorter { IfOk result (λ x. x.1.now ≡ rest.now) }
     ensures read { Gives (λ x. (view x.0, x.1.now)) result (seen.then_anchored (length whole.now) text.now name.now gap.now (view node.entry, rest.now)) }
+    ensures fault { IfErr result IsOfText }
 {
     if !stands_behind(gap, &node) {
         return Err(ReadError::from(fault(FaultKind::BadScalar, whole, text)));
@@ -92,6 +93,7 @@ pub fn read_node<'t>(
     requires { length text.now ≤ length whole.now }
     ensures shorter { IfOk result (λ x. length x.1.now ≤ length text.now) }
     ensures read { Gives (λ x. (view x.0, x.1.now)) result (seen.placed_node flow spaces (length whole.now) depth text.now) }
+    ensures fault { IfErr result IsOfText }
 {
     let Some(behind) = strip(b'&', text) else {
         return read_content(alloc, flow, spaces, whole, depth, text);
@@ -118,6 +120,7 @@ fn read_content<'t>(
     requires { length text.now ≤ length whole.now }
     ensures shorter { IfOk result (λ x. length x.1.now ≤ length text.now) }
     ensures read { Gives (λ x. (view x.0, x.1.now)) result (seen.placed_content flow spaces (length whole.now) depth text.now) }
+    ensures fault { IfErr result IsOfText }
 {
     if let Some(behind) = strip(b'*', text) {
         let (name, rest) = read_name(whole, behind)?;
@@ -149,6 +152,7 @@ fn read_sequence<'t>(
     requires { length text.now ≤ length whole.now }
     ensures shorter { IfOk result (λ x. length x.1.now ≤ length text.now) }
     ensures read { Gives (λ x. (form_view x.0, x.1.now)) result (seen.placed_coll (length whole.now) depth 93 text.now) }
+    ensures fault { IfErr result IsOfText }
 {
     let (_, rest) = read_gap(whole, text)?;
     if depth == 0 {
@@ -169,6 +173,7 @@ fn read_mapping<'t>(
     requires { length text.now ≤ length whole.now }
     ensures shorter { IfOk result (λ x. length x.1.now ≤ length text.now) }
     ensures read { Gives (λ x. (form_view x.0, x.1.now)) result (seen.placed_coll (length whole.now) depth 125 text.now) }
+    ensures fault { IfErr result IsOfText }
 {
     let (_, rest) = read_gap(whole, text)?;
     if depth == 0 {
@@ -190,6 +195,7 @@ fn read_item<'t>(
     requires { length text.now ≤ length whole.now }
     ensures shorter { IfOk result (λ x. length x.1.now < length text.now) }
     ensures read { Gives (λ x. (view x.0, x.1.now)) result (seen.placed_item (length whole.now) depth text.now) }
+    ensures fault { IfErr result IsOfText }
 {
     let (item, rest) = read_node(alloc, true, Some(0), whole, depth, text)?;
     if is_bare(&item) {
@@ -213,6 +219,7 @@ fn read_items<'t>(
     requires { length text.now ≤ length whole.now }
     ensures shorter { IfOk result (λ x. length x.1.now ≤ length text.now) }
     ensures read { Gives (λ x. (items_end x.0.items, x.1.now)) result (seen.placed_items (length whole.now) depth 93 text.now) }
+    ensures fault { IfErr result IsOfText }
 {
     let mut items = Vec::new(alloc);
     let mut rest = text;
@@ -239,6 +246,7 @@ fn read_entry<'t>(
     requires { length text.now ≤ length whole.now }
     ensures shorter { IfOk result (λ x. length x.1.now < length text.now) }
     ensures read { Gives (λ x. (((string_bytes x.0.0, x.0.1), view x.0.2), x.1.now)) result (seen.placed_entry (length whole.now) depth text.now) }
+    ensures fault { IfErr result IsOfText }
 {
     let (key, piece, rest) = read_entry_key(alloc, whole, open, text)?;
     let (value, rest) = read_node(alloc, true, Some(0), whole, depth, rest)?;
@@ -259,6 +267,7 @@ fn read_entries<'t>(
     requires { length text.now ≤ length whole.now }
     ensures shorter { IfOk result (λ x. length x.1.now ≤ length text.now) }
     ensures read { Gives (λ x. (entries_end x.0.items, x.1.now)) result (seen.placed_items (length whole.now) depth 125 text.now) }
+    ensures fault { IfErr result IsOfText }
 {
     let mut entries = Vec::new(alloc);
     let mut rest = text;

@@ -1,6 +1,6 @@
 //! Scalars and keys with what they stand for and their pieces.
-ghost use Rattle.std.specs.Prelude.{◌≡◌, ◌<◌, ◌≤◌, IfOk, length, string_bytes, true};
-ghost use Rattle.yq_scalar.specs.Answers.{Gives};
+ghost use Rattle.std.specs.Prelude.{◌≡◌, ◌<◌, ◌≤◌, IfErr, IfOk, length, string_bytes, true};
+ghost use Rattle.yq_scalar.specs.Answers.{Gives, IsOfText};
 ghost use Rattle.yq_scalar.specs.Quoted.{IsQuotedText};
 ghost use Rattle.yq_scalar.specs.Written.{IsInline};
 ghost use Rattle.yq_inline.specs.PlacedReading as seen;
@@ -64,6 +64,7 @@ pub(crate) fn read_text<'t>(
     requires { length text.now ≤ length whole.now }
     ensures shorter { IfOk result (λ x. length x.1.now ≤ length text.now) }
     ensures read { Gives (λ x. (form_view x.0, x.1.now)) result (seen.placed_text flow spaces (length whole.now) text.now) }
+    ensures fault { IfErr result IsOfText }
 {
     let (piece, rest) = read_scalar(flow, spaces, whole, text)?;
     let scalar = scalar_of(alloc, piece)?;
@@ -86,6 +87,7 @@ pub(crate) fn read_entry_key<'t>(
     requires { length text.now ≤ length whole.now }
     ensures shorter { IfOk result (λ x. length x.2.now < length text.now) }
     ensures read { Gives (λ x. ((string_bytes x.0, x.1), x.2.now)) result (seen.placed_key (length whole.now) text.now) }
+    ensures fault { IfErr result IsOfText }
 {
     let (piece, rest) = read_key(whole, open, text)?;
     let key = content_of(alloc, piece)?;

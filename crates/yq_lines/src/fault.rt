@@ -1,5 +1,6 @@
 //! What is asked of a document's lines.
-ghost use Rattle.std.specs.Prelude.{◌≡◌, length, is_none, IfOk};
+ghost use Rattle.std.specs.Prelude.{◌≡◌, ◌≢◌, length, is_none, IfOk, IfSome};
+ghost use Rattle.yq_scalar.specs.declared.fault.FaultKind.TheVariants.{NotUtf8};
 ghost use Rattle.yq_lines.specs.Ends.{AreEndsFrom};
 ghost use Rattle.yq_lines.specs.LinesReading as spec;
 ghost use Rattle.yq_lines.specs.Names.{HaveHeadsApart};
@@ -21,7 +22,8 @@ use yq_scalar::FaultKind;
 /// alias, or an alias without an earlier anchor of its name.
 #[tactic(auto, using(crate::proofs::AliasLaws::bound_alone))]
 fn name_fault(alloc: Global, lines: &[Line<'_>]) -> Result<Option<Flaw>, AllocError>
-    ensures { IfOk result (λ f. is_none f ≡ spec.names_are_sound (views lines.now)) }
+    ensures sound { IfOk result (λ f. is_none f ≡ spec.names_are_sound (views lines.now)) }
+    ensures fault { IfOk result (λ f. IfSome f (λ x. x.kind ≢ NotUtf8)) }
 {
     if let Some(line) = second_anchor(lines) {
         return Ok(Some(Flaw::of_line(line, FaultKind::BadScalar)));
@@ -41,7 +43,8 @@ fn flaw_of(alloc: Global, lines: &[Line<'_>], ends: &[usize]) -> Result<Option<F
     requires apart { HaveHeadsApart (views lines.now) }
     requires each { length ends.now ≡ length lines.now }
     requires ends { AreEndsFrom 0 (views lines.now) ends.now }
-    ensures { IfOk result (λ f. is_none f ≡ spec.lines_are_sound (views lines.now)) }
+    ensures sound { IfOk result (λ f. is_none f ≡ spec.lines_are_sound (views lines.now)) }
+    ensures fault { IfOk result (λ f. IfSome f (λ x. x.kind ≢ NotUtf8)) }
 {
     match find_flaw(alloc, lines, ends, 0, 0, DEPTH_LIMIT)? {
         Some(flaw) => Ok(Some(flaw)),
@@ -53,7 +56,8 @@ fn flaw_of(alloc: Global, lines: &[Line<'_>], ends: &[usize]) -> Result<Option<F
 /// that a mapping has already, anchors and aliases.
 pub fn lines_fault(alloc: Global, document: &Lined<'_>) -> Result<Option<Flaw>, AllocError>
     requires { HaveHeadsApart (views document.now) }
-    ensures { IfOk result (λ f. is_none f ≡ spec.lines_are_sound (views document.now)) }
+    ensures sound { IfOk result (λ f. is_none f ≡ spec.lines_are_sound (views document.now)) }
+    ensures fault { IfOk result (λ f. IfSome f (λ x. x.kind ≢ NotUtf8)) }
 {
     flaw_of(alloc, &document.lines, &document.ends)
 }

@@ -1,4 +1,6 @@
 //! What is at fault in a document, and where.
+ghost use Rattle.std.specs.Prelude.{◌≢◌};
+ghost use Rattle.yq_scalar.specs.declared.fault.FaultKind.TheVariants.{NotUtf8};
 
 use yq_scalar::FaultKind;
 
@@ -20,7 +22,10 @@ pub struct Flaw {
 
 impl Flaw {
     /// A fault of a line of the document, counted from 0.
-    pub(crate) fn of_line(line: usize, kind: FaultKind) -> Flaw {
+    pub(crate) fn of_line(line: usize, kind: FaultKind) -> Flaw
+        requires { kind ≢ NotUtf8 }
+        ensures { result.kind ≢ NotUtf8 }
+    {
         Flaw {
             at: Position::Line(line),
             kind,
@@ -28,7 +33,10 @@ impl Flaw {
     }
 
     /// A fault that begins at a byte of the text.
-    pub(crate) fn of_byte(byte: usize, kind: FaultKind) -> Flaw {
+    pub(crate) fn of_byte(byte: usize, kind: FaultKind) -> Flaw
+        requires { kind ≢ NotUtf8 }
+        ensures { result.kind ≢ NotUtf8 }
+    {
         Flaw {
             at: Position::Byte(byte),
             kind,

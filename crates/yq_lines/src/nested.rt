@@ -1,6 +1,7 @@
 //! What is asked of a head: how deep collections are nested in it, and the keys of each.
-ghost use Rattle.std.specs.Prelude.{◌≡◌, ◌&&◌, Some, is_none, IfOk};
+ghost use Rattle.std.specs.Prelude.{◌≡◌, ◌≢◌, ◌&&◌, Some, is_none, IfOk, IfSome};
 ghost use Rattle.yq_scalar.specs.Keys.{are_distinct, keys_of};
+ghost use Rattle.yq_scalar.specs.declared.fault.FaultKind.TheVariants.{NotUtf8};
 ghost use Rattle.yq_inline.specs.Trees.{parts_tree, placed_tree};
 ghost use Rattle.yq_inline.specs.View.{entries_end, items_end, view};
 ghost use Rattle.yq_lines.specs.Sound as spec;
@@ -20,7 +21,8 @@ pub(crate) fn head_fault(
     head: &Head<'_>,
     depth: usize,
 ) -> Result<Option<Flaw>, AllocError>
-    ensures { IfOk result (λ f. is_none f ≡ spec.head_is_sound depth (head_view head.now)) }
+    ensures sound { IfOk result (λ f. is_none f ≡ spec.head_is_sound depth (head_view head.now)) }
+    ensures fault { IfOk result (λ f. IfSome f (λ x. x.kind ≢ NotUtf8)) }
 {
     match head {
         Head::Nothing => Ok(None),
@@ -32,7 +34,8 @@ pub(crate) fn head_fault(
 /// The same of an inline node.
 #[cycle(nested)]
 fn node_fault(alloc: Global, node: &Inline<'_>, depth: usize) -> Result<Option<Flaw>, AllocError>
-    ensures { IfOk result (λ f. is_none f ≡ spec.head_is_sound depth (Some (placed_tree (view node.now)))) }
+    ensures sound { IfOk result (λ f. is_none f ≡ spec.head_is_sound depth (Some (placed_tree (view node.now)))) }
+    ensures fault { IfOk result (λ f. IfSome f (λ x. x.kind ≢ NotUtf8)) }
 {
     match &node.form {
         Form::List(items) => {
@@ -60,7 +63,8 @@ fn items_fault(
     items: &Vec<Inline<'_>>,
     depth: usize,
 ) -> Result<Option<Flaw>, AllocError>
-    ensures { IfOk result (λ f. is_none f ≡ spec.are_sound depth (parts_tree (items_end items.now.items))) }
+    ensures sound { IfOk result (λ f. is_none f ≡ spec.are_sound depth (parts_tree (items_end items.now.items))) }
+    ensures fault { IfOk result (λ f. IfSome f (λ x. x.kind ≢ NotUtf8)) }
 {
     'each: for item in items {
         if let Some(flaw) = node_fault(alloc, item, depth)? {
@@ -91,7 +95,8 @@ fn entries_fault(
     entries: &Vec<(String, Piece, Inline<'_>)>,
     depth: usize,
 ) -> Result<Option<Flaw>, AllocError>
-    ensures { let cs = parts_tree (entries_end entries.now.items) in IfOk result (λ f. is_none f ≡ (spec.are_sound depth cs && are_distinct (keys_of cs))) }
+    ensures sound { let cs = parts_tree (entries_end entries.now.items) in IfOk result (λ f. is_none f ≡ (spec.are_sound depth cs && are_distinct (keys_of cs))) }
+    ensures fault { IfOk result (λ f. IfSome f (λ x. x.kind ≢ NotUtf8)) }
 {
     let mut keys = Keys::new(alloc);
     'each: for entry in entries {

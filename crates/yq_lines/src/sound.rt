@@ -1,6 +1,7 @@
 //! What is asked of a document's lines.
-ghost use Rattle.std.specs.Prelude.{◌≡◌, ◌+◌, ◌++◌, ◌<◌, ◌&&◌, [], length, map, is_none, is_some, slice_get, Some, IfOk, OnOk};
+ghost use Rattle.std.specs.Prelude.{◌≡◌, ◌≢◌, ◌+◌, ◌++◌, ◌<◌, ◌&&◌, [], length, map, is_none, is_some, slice_get, Some, IfOk, IfSome, OnOk};
 ghost use Rattle.yq_scalar.specs.Keys.{with_key};
+ghost use Rattle.yq_scalar.specs.declared.fault.FaultKind.TheVariants.{NotUtf8};
 ghost use Rattle.yq_lines.specs.Ends.{part, is_end, AreEndsFrom};
 ghost use Rattle.yq_lines.specs.Outline as outline;
 ghost use Rattle.yq_lines.specs.Sound as spec;
@@ -46,7 +47,8 @@ fn bare_fault(
     depth: usize,
 ) -> Result<Option<Flaw>, AllocError>
     requires { at < length lines.now }
-    ensures { IfOk result (λ f. (l : outline.Line) → slice_get (views lines.now) at ≡ Some l → is_none f ≡ ((is_some l.head && is_end (part (views lines.now) (at + 1) floor)) && spec.head_is_sound depth l.head)) }
+    ensures sound { IfOk result (λ f. (l : outline.Line) → slice_get (views lines.now) at ≡ Some l → is_none f ≡ ((is_some l.head && is_end (part (views lines.now) (at + 1) floor)) && spec.head_is_sound depth l.head)) }
+    ensures fault { IfOk result (λ f. IfSome f (λ x. x.kind ≢ NotUtf8)) }
 {
     let line = &lines[at];
     if !has_head(&line.head) {
@@ -60,7 +62,9 @@ fn bare_fault(
 
 /// Why a line can't stand where others of a collection at a level do: behind neither key nor dash in the
 /// column of the keys, where its key is missing, or in another column or collection.
-fn misplaced(line: &Line<'_>, n: usize) -> FaultKind {
+fn misplaced(line: &Line<'_>, n: usize) -> FaultKind
+    ensures { result ≢ NotUtf8 }
+{
     let is_bare = matches!(line.mark, Mark::Bare);
     if is_bare && level(line).saturating_add(1) == n {
         FaultKind::BadKey
@@ -123,7 +127,9 @@ fn line_fault(
     requires within { at < length lines.now }
     requires each { length ends.now ≡ length lines.now }
     requires ends { AreEndsFrom 0 (views lines.now) ends.now }
-    ensures { IfOk result (λ f. (l : outline.Line) → slice_get (views lines.now) at ≡ Some l → is_none f ≡ spec.are_sound_under depth n l (part (views lines.now) (at + 1) (outline.level l))) }
+    ensures sound { IfOk result (λ f. (l : outline.Line) → slice_get (views lines.now) at ≡ Some l →
+        is_none f ≡ spec.are_sound_under depth n l (part (views lines.now) (at + 1) (outline.level l))) }
+    ensures fault { IfOk result (λ f. IfSome f (λ x. x.kind ≢ NotUtf8)) }
 {
     let line = &lines[at];
     if level(line) != n {
@@ -151,7 +157,8 @@ pub(crate) fn find_flaw(
 ) -> Result<Option<Flaw>, AllocError>
     requires each { length ends.now ≡ length lines.now }
     requires ends { AreEndsFrom 0 (views lines.now) ends.now }
-    ensures { IfOk result (λ f. is_none f ≡ spec.is_sound depth (part (views lines.now) start floor)) }
+    ensures sound { IfOk result (λ f. is_none f ≡ spec.is_sound depth (part (views lines.now) start floor)) }
+    ensures fault { IfOk result (λ f. IfSome f (λ x. x.kind ≢ NotUtf8)) }
 {
     if !is_deeper(lines, start, floor) {
         return Ok(None);

@@ -123,7 +123,20 @@ rest_from i (b ∷ bs) = if i == b.rows then (b.end ++ b.marker) ++ rest_from i 
 
 -- the pieces that a row of the code lends (own)
 abbrev pub view : declared.Row → Slices
-view r = record { gap = r.gap.now; column = r.column; dashes = r.dashes.now; key = r.key.now; colon = r.colon.now; space = r.space.now; anchor = r.anchor.now; apart = r.apart.now; head = r.head.now; tail = r.tail.now; raw = r.raw.now; parent = r.parent }
+view r = record {
+  gap = r.gap.now;
+  column = r.column;
+  dashes = r.dashes.now;
+  key = r.key.now;
+  colon = r.colon.now;
+  space = r.space.now;
+  anchor = r.anchor.now;
+  apart = r.apart.now;
+  head = r.head.now;
+  tail = r.tail.now;
+  raw = r.raw.now;
+  parent = r.parent;
+}
 
 -- what the code's limit asks of the next row (own)
 abbrev pub limit_view : asked.Limit → Limit
@@ -139,7 +152,8 @@ bound_views bounds = map bound_view bounds
 
 -- the text of a row by its pieces, before a rest (own)
 abbrev pub slices_text : Slices → List ℕ → List ℕ
-slices_text s rest = s.gap ++ (replicate s.column 32 ++ (s.dashes ++ (s.key ++ (s.colon ++ (s.space ++ (s.anchor ++ (s.apart ++ (s.head ++ (s.tail ++ (s.raw ++ rest))))))))))
+slices_text s rest =
+    s.gap ++ (replicate s.column 32 ++ (s.dashes ++ (s.key ++ (s.colon ++ (s.space ++ (s.anchor ++ (s.apart ++ (s.head ++ (s.tail ++ (s.raw ++ rest))))))))))
 
 -- The rows of a cut, each by its pieces, and the bounds of its parts (own).
 pub record Shown : Type 0 where

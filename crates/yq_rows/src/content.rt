@@ -1,12 +1,13 @@
 //! What stands behind a row's mark.
 ghost use Rattle.std.specs.Option.{option_map};
-ghost use Rattle.std.specs.Prelude.{◌≡◌, ◌≤◌, ◌==◌, ◌||◌, ◌&&◌, not, length, true, false};
-ghost use Rattle.yq_scalar.specs.Answers.{Gives};
+ghost use Rattle.std.specs.Prelude.{◌≡◌, ◌≢◌, ◌≤◌, ◌==◌, ◌||◌, ◌&&◌, not, length, true, false, IfErr};
+ghost use Rattle.yq_scalar.specs.Answers.{Gives, IsOfText};
 ghost use Rattle.yq_inline.specs.Measured as measured;
 ghost use Rattle.yq_inline.specs.Scalars as scalars;
 ghost use Rattle.yq_rows.specs.Lending as lending;
 ghost use Rattle.yq_rows.specs.Lending.{filled_at, filling_view};
 ghost use Rattle.yq_scalar.specs.Text.{front, is_empty};
+ghost use Rattle.yq_scalar.specs.declared.fault.FaultKind.TheVariants.{NotUtf8};
 ghost use Rattle.yq_rows.specs.Reading as spec;
 
 use crate::fault::{block_fault, fault};
@@ -104,7 +105,8 @@ fn read_block_content<'t>(
     space: &'t str,
     text: &'t str,
 ) -> Result<Filling<'t>, ReadError>
-    ensures { Gives filling_view result (lending.block_lent parent space.now text.now) }
+    ensures read { Gives filling_view result (lending.block_lent parent space.now text.now) }
+    ensures fault { IfErr result IsOfText }
 {
     let (anchor, apart, rest) = split_apart(text);
     if anchor.len() == 1 {
@@ -170,7 +172,8 @@ fn read_inline_content<'t>(
     space: &'t str,
     text: &'t str,
 ) -> Result<Filling<'t>, ReadError>
-    ensures { Gives filling_view result (lending.inline_lent parent space.now text.now) }
+    ensures read { Gives filling_view result (lending.inline_lent parent space.now text.now) }
+    ensures fault { IfErr result IsOfText }
 {
     let spaces = further_spaces(Place::Block, parent);
     let node = match measure_node(false, spaces, whole, DEPTH_LIMIT, text) {
@@ -211,7 +214,9 @@ fn scalar_fault(
     text: &str,
     head: &str,
     behind: &str,
-) -> ReadFault {
+) -> ReadFault
+    ensures { result.kind ≢ NotUtf8 }
+{
     match no_further_line(mark, spaces, head, behind) {
         Some(kind) => fault(kind, whole, behind),
         None => fault(no_tail(mark, space, "", head, behind), whole, text),
@@ -227,7 +232,8 @@ fn read_scalar_content<'t>(
     text: &'t str,
 ) -> Result<Filling<'t>, ReadError>
     requires { (lending.begins_other text.now ≡ false) × (scalars.begins_scalar false text.now ≡ true) }
-    ensures { Gives filling_view result (lending.inline_lent parent space.now text.now) }
+    ensures read { Gives filling_view result (lending.inline_lent parent space.now text.now) }
+    ensures fault { IfErr result IsOfText }
 {
     let spaces = further_spaces(Place::Block, parent);
     let (head, behind) = match read_scalar(false, spaces, whole, text) {
@@ -257,7 +263,8 @@ pub(crate) fn read_content<'t>(
     parent: i64,
     text: &'t str,
 ) -> Result<Filling<'t>, ReadError>
-    ensures { Gives filling_view result (filled_at parent text.now) }
+    ensures read { Gives filling_view result (filled_at parent text.now) }
+    ensures fault { IfErr result IsOfText }
 {
     let (space, rest) = split_white(text);
     if begins_block(rest) {

@@ -1,23 +1,36 @@
 //! Where a text is at fault.
-ghost use Rattle.std.specs.Prelude.{◌≡◌};
+ghost use Rattle.std.specs.Prelude.{◌≢◌};
+ghost use Rattle.yq_scalar.specs.declared.fault.FaultKind.TheVariants.{NotUtf8};
 
+use std::num::NonZeroU64;
 use yq_scalar::block_lines::{behind_spaces, is_blank};
 use yq_scalar::characters::{TEXT_LIMIT, is_text_char};
 use yq_scalar::lines::line_len;
 use yq_scalar::text::spaces_len;
 use yq_scalar::{FaultKind, ReadFault};
 
+/// A fault behind so many line breaks.
+fn behind(kind: FaultKind, breaks: u64) -> ReadFault
+    requires { kind ≢ NotUtf8 }
+    ensures { result.kind ≢ NotUtf8 }
+{
+    ReadFault {
+        kind,
+        line: NonZeroU64::MIN.saturating_add(breaks),
+    }
+}
+
 /// A fault that begins where this rest of the whole text does.
-pub(crate) fn fault(kind: FaultKind, whole: &str, rest: &str) -> ReadFault {
+pub(crate) fn fault(kind: FaultKind, whole: &str, rest: &str) -> ReadFault
+    requires { kind ≢ NotUtf8 }
+    ensures { result.kind ≢ NotUtf8 }
+{
     let before = whole
         .as_bytes()
         .split_at(whole.len().saturating_sub(rest.len()))
         .0;
     let breaks = before.iter().filter(|b| **b == b'\n').count() as u64;
-    ReadFault {
-        kind,
-        line: breaks.saturating_add(1),
-    }
+    behind(kind, breaks)
 }
 
 /// How many spaces the first line behind a header begins with that isn't blank; the most that there are
@@ -63,7 +76,10 @@ fn lines_before(kind: FaultKind, column: usize, raw: &[u8]) -> Option<u64> {
 
 /// A fault of the block scalar with which this rest of the whole text begins: on the line whose
 /// indentation is at fault, or else on that of the header.
-pub(crate) fn block_fault(kind: FaultKind, whole: &str, rest: &str) -> ReadFault {
+pub(crate) fn block_fault(kind: FaultKind, whole: &str, rest: &str) -> ReadFault
+    requires { kind ≢ NotUtf8 }
+    ensures { result.kind ≢ NotUtf8 }
+{
     let at_header = fault(kind, whole, rest);
     let raw = rest.as_bytes().split_at(line_len(rest.as_bytes())).1;
     let found = match lines_before(kind, text_indent(raw), raw) {
@@ -80,35 +96,25 @@ pub(crate) fn block_fault(kind: FaultKind, whole: &str, rest: &str) -> ReadFault
 }
 
 /// The first fault of a text that is too large, or that holds a character that it may not hold.
-pub(crate) fn text_fault(text: &str) -> ReadFault {
+pub(crate) fn text_fault(text: &str) -> ReadFault
+    ensures { result.kind ≢ NotUtf8 }
+{
     if text.len() > TEXT_LIMIT {
-        return ReadFault {
-            kind: FaultKind::TooLarge,
-            line: 1,
-        };
+        return behind(FaultKind::TooLarge, 0);
     }
-    let mut line = 1u64;
+    let mut breaks = 0u64;
     let mut returned = false;
     'chars: for c in text.chars() {
         if returned && c != '\n' {
-            return ReadFault {
-                kind: FaultKind::CarriageReturn,
-                line,
-            };
+            return behind(FaultKind::CarriageReturn, breaks);
         }
         if !is_text_char(c) {
-            return ReadFault {
-                kind: FaultKind::ControlCharacter,
-                line,
-            };
+            return behind(FaultKind::ControlCharacter, breaks);
         }
         if c == '\n' {
-            line = line.saturating_add(1);
+            breaks = breaks.saturating_add(1);
         }
         returned = c == '\r';
     }
-    ReadFault {
-        kind: FaultKind::CarriageReturn,
-        line,
-    }
+    behind(FaultKind::CarriageReturn, breaks)
 }

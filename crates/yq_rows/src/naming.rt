@@ -1,4 +1,6 @@
 //! Which fault a row has that can't be read.
+ghost use Rattle.std.specs.Prelude.{◌≢◌, IfSome};
+ghost use Rattle.yq_scalar.specs.declared.fault.FaultKind.TheVariants.{NotUtf8};
 
 use crate::marks::{Mark, begins_entry, is_colon};
 use yq_scalar::FaultKind;
@@ -10,7 +12,9 @@ fn holds_tab(space: &str) -> bool {
 }
 
 /// Why nothing can be read behind a mark and this white space, below a parent of this indentation.
-pub(crate) fn no_content(mark: Mark<'_>, parent: i64, space: &str, rest: &str) -> FaultKind {
+pub(crate) fn no_content(mark: Mark<'_>, parent: i64, space: &str, rest: &str) -> FaultKind
+    ensures { result ≢ NotUtf8 }
+{
     let is_bare = matches!(mark, Mark::Bare);
     if holds_tab(space) && (is_bare || begins_entry(rest)) {
         return FaultKind::TabIndent;
@@ -31,7 +35,9 @@ pub(crate) fn no_tail(
     anchor: &str,
     head: &str,
     rest: &str,
-) -> FaultKind {
+) -> FaultKind
+    ensures { result ≢ NotUtf8 }
+{
     let next = past_white(rest.as_bytes());
     if head.is_empty() && matches!(next, [b'!', ..]) {
         return FaultKind::Tag;
@@ -65,7 +71,9 @@ pub(crate) fn no_further_line(
     spaces: Option<usize>,
     head: &str,
     rest: &str,
-) -> Option<FaultKind> {
+) -> Option<FaultKind>
+    ensures { IfSome result (λ kind. kind ≢ NotUtf8) }
+{
     let (indent, key) = split_spaces(further_line(head)?);
     if matches!(mark, Mark::Bare) || !is_colon(past_white(rest.as_bytes())) {
         return None;
@@ -80,7 +88,9 @@ pub(crate) fn no_further_line(
 }
 
 /// Why this can't stand on a line of its own, behind white space.
-pub(crate) fn not_alone(space: &str, head: &str) -> FaultKind {
+pub(crate) fn not_alone(space: &str, head: &str) -> FaultKind
+    ensures { result ≢ NotUtf8 }
+{
     if !space.is_empty() {
         FaultKind::TabIndent
     } else if matches!(head.as_bytes(), [b'|' | b'>', ..]) {

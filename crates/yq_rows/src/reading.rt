@@ -1,7 +1,8 @@
 //! Rows, read one behind the other.
-ghost use Rattle.std.specs.Prelude.{◌≡◌, ◌<◌, ◌≤◌, ◌+◌, ◌-◌, ◌^◌, ◌==◌, ◌&&◌, ◌||◌, not, length, true, IfOk};
-ghost use Rattle.yq_scalar.specs.Answers.{Gives, Reads};
+ghost use Rattle.std.specs.Prelude.{◌≡◌, ◌≢◌, ◌<◌, ◌≤◌, ◌+◌, ◌-◌, ◌^◌, ◌==◌, ◌&&◌, ◌||◌, not, length, true, IfErr, IfOk};
+ghost use Rattle.yq_scalar.specs.Answers.{Gives, IsOfText, Reads};
 ghost use Rattle.yq_scalar.specs.Text;
+ghost use Rattle.yq_scalar.specs.declared.fault.FaultKind.TheVariants.{NotUtf8};
 ghost use Rattle.yq_rows.specs.Grammar as grammar;
 ghost use Rattle.yq_rows.specs.Grammar.{unlimited, ends_part};
 ghost use Rattle.yq_rows.specs.Kept.{rows_placed};
@@ -31,7 +32,8 @@ fn read_marked<'t>(
 ) -> Result<(Row<'t>, Limit, &'t str), ReadError>
     requires short { length begin.rest.now ≤ length whole.now }
     requires columns { column + begin.columns < 2 ^ 32 }
-    ensures { Gives (λ x. (view x.0, limit_view x.1, x.2.now)) result (marked_lent gap.now column (begin_view begin.entry)) }
+    ensures read { Gives (λ x. (view x.0, limit_view x.1, x.2.now)) result (marked_lent gap.now column (begin_view begin.entry)) }
+    ensures fault { IfErr result IsOfText }
 {
     let parent = parent_of(begin.mark, column + begin.columns);
     let content = read_content(whole, begin.mark, parent, begin.rest)?;
@@ -77,7 +79,8 @@ fn read_row<'t>(
 ) -> Result<(Row<'t>, Limit, &'t str), ReadError>
     requires short { length text.now ≤ length whole.now }
     requires small { length whole.now < 2 ^ 32 }
-    ensures { Gives (λ x. (view x.0, limit_view x.1, x.2.now)) result (row_lent (limit_view limit) gap.now text.now) }
+    ensures read { Gives (λ x. (view x.0, limit_view x.1, x.2.now)) result (row_lent (limit_view limit) gap.now text.now) }
+    ensures fault { IfErr result IsOfText }
 {
     let (indent, rest) = split_spaces(text);
     let column = indent.len();
@@ -105,10 +108,13 @@ fn read_rows<'t>(
     requires ends { Ends text.now whole.now }
     requires stand { Stand whole.now rows.items }
     requires small { length whole.now < 2 ^ 32 }
-    ensures found { Gives (λ x. (rows_in whole.now x.0.items, x.1.now, x.2.now)) result (rows_lent (rows_in whole.now rows.items) (spec.all_rows unlimited text.now)) }
-    ensures placed { Gives (λ x. x.0.items) result (rows_placed rows.items (length whole.now - length text.now) (spec.all_rows unlimited text.now)) }
+    ensures found { Gives (λ x. (rows_in whole.now x.0.items, x.1.now, x.2.now)) result
+        (rows_lent (rows_in whole.now rows.items) (spec.all_rows unlimited text.now)) }
+    ensures placed { Gives (λ x. x.0.items) result
+        (rows_placed rows.items (length whole.now - length text.now) (spec.all_rows unlimited text.now)) }
     ensures kept { IfOk result (λ x. Stand whole.now x.0.items) }
     ensures behind { IfOk result (λ x. Ends x.2.now whole.now) }
+    ensures fault { IfErr result IsOfText }
 {
     let mut rows = rows;
     let mut limit = Limit::none();
@@ -129,7 +135,9 @@ fn read_rows<'t>(
 }
 
 /// Why no row may stand here, where no document is open.
-fn no_document(text: &[u8]) -> FaultKind {
+fn no_document(text: &[u8]) -> FaultKind
+    ensures { result ≢ NotUtf8 }
+{
     match text {
         [b'%', ..] => FaultKind::Directive,
         _ => FaultKind::ContentOnMarkerLine,
@@ -156,10 +164,13 @@ pub(crate) fn read_part<'t>(
     requires ends { Ends text.now whole.now }
     requires stand { Stand whole.now rows.items }
     requires small { length whole.now < 2 ^ 32 }
-    ensures found { Gives (λ x. (rows_in whole.now x.0.items, x.1.now, x.2.now)) result (rows_lent (rows_in whole.now rows.items) (spec.part_at is_open text.now)) }
-    ensures placed { Gives (λ x. x.0.items) result (rows_placed rows.items (length whole.now - length text.now) (spec.part_at is_open text.now)) }
+    ensures found { Gives (λ x. (rows_in whole.now x.0.items, x.1.now, x.2.now)) result
+        (rows_lent (rows_in whole.now rows.items) (spec.part_at is_open text.now)) }
+    ensures placed { Gives (λ x. x.0.items) result
+        (rows_placed rows.items (length whole.now - length text.now) (spec.part_at is_open text.now)) }
     ensures kept { IfOk result (λ x. Stand whole.now x.0.items) }
     ensures behind { IfOk result (λ x. Ends x.2.now whole.now) }
+    ensures fault { IfErr result IsOfText }
 {
     let first = split_gap(text).1;
     if !may_begin(is_open, first.as_bytes()) {
@@ -173,7 +184,8 @@ pub(crate) fn read_part<'t>(
 #[tactic(auto, unfolding(crate::specs::Reading::marker_at))]
 pub(crate) fn read_marker<'t>(whole: &str, text: &'t str) -> Result<(&'t str, &'t str), ReadFault>
     requires { Text.is_marker text.now ≡ true }
-    ensures { Reads (λ x. (x.0.now, x.1.now)) result (spec.marker_at text.now) }
+    ensures read { Reads (λ x. (x.0.now, x.1.now)) result (spec.marker_at text.now) }
+    ensures fault { IfErr result (λ f. f.kind ≢ NotUtf8) }
 {
     match find_tail(text.split_at(3).1) {
         Some((_, rest)) => Ok((text.split_at(text.len() - rest.len()).0, rest)),

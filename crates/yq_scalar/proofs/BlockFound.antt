@@ -1,5 +1,6 @@
 -- Where the block scalar that is found stands.
-use Rattle.std.proofs.Common.{◌≡◌, ℕ, ◌+◌, ◌-◌, ◌≤◌, Bool, List, ◌++◌, length, drop, Option, Some, refl, sym, ap, ◌∙◌, arith, length-append, Result, Ok, Err, IfOk, ℤ}
+use Rattle.std.proofs.Common.{◌≡◌, ◌≢◌, ℕ, ◌+◌, ◌-◌, ◌≤◌, Bool, true, List, ◌++◌, length, drop, Option, Some, refl, sym, ap, ◌∙◌, arith, length-append, Result, Ok, Err, IfOk, ℤ}
+use Rattle.std.proofs.lemmas.Bool.{false≢true}
 use Rattle.std.proofs.lemmas.Option.{same_Some}
 use Rattle.yq_scalar.proofs.BlockLaws.{block_takes, block_again}
 use Rattle.yq_scalar.proofs.Bools.{bind_some}
@@ -7,13 +8,15 @@ use Rattle.yq_scalar.proofs.HeaderLaws.{head_length}
 use Rattle.yq_scalar.proofs.LineLaws.{joined_lines, joined-append}
 use Rattle.yq_scalar.proofs.RawLaws.{raw_split}
 use Rattle.yq_scalar.specs.Answers.{◌>>=◌, Reads}
-use Rattle.yq_scalar.specs.Block.{style_of, keeps, BlockText, block_piece, IsBlockPiece}
+use Rattle.yq_scalar.specs.Block.{style_of, is_block_fault, keeps, BlockText, block_piece, IsBlockPiece}
 use Rattle.yq_scalar.specs.BlockReading.{raw_at, len_at, indent_at, style_at, indicators_at, values, tail_at, block_behind, block_at, piece_at, block_from}
 use Rattle.yq_scalar.specs.Piece.{deeper}
 use Rattle.yq_scalar.specs.Text.{lines_of, joined}
 use Rattle.yq_scalar.specs.declared.block_header.BlockStyle.{BlockStyle}
 use Rattle.yq_scalar.specs.declared.block_header.Chomping.{Chomping}
 use Rattle.yq_scalar.specs.declared.block_lines.TextIndent.{TextIndent}
+use Rattle.yq_scalar.specs.declared.fault.FaultKind.{FaultKind}
+use Rattle.yq_scalar.specs.declared.fault.FaultKind.TheVariants.{NotUtf8}
 use Rattle.yq_scalar.specs.declared.piece.Piece.{Piece}
 use Rattle.yq_scalar.specs.declared.style.Style.{Style}
 
@@ -62,3 +65,6 @@ found_by n at text (Err e) h = tt
 pub only_by : {E : Type 0} (n : ℤ) (at : ℕ) (text : List ℕ) (r : Result Piece E) → Reads (λ p. p) r (block_from n at text) → (p : Piece) → IsBlockPiece n at text p → r ≡ Ok p
 only_by n at text (Ok q) h p i = ap Ok (same_Some _ _ (sym h ∙ from_again n at text p i))
 only_by n at text (Err e) h p i = absurd (let e = sym h ∙ from_again n at text p i in cc)
+
+pub block_of_text : (k : FaultKind) → is_block_fault k ≡ true → k ≢ NotUtf8
+block_of_text k is same = absurd (false≢true (sym (ap is_block_fault same) ∙ is))

@@ -1,5 +1,6 @@
 -- What an answer says of what reading a text gives.
-use Rattle.std.specs.Prelude.{◌≡◌, ℕ, ◌+◌, Option, Some, None, Result, Ok, Err}
+use Rattle.std.specs.Prelude.{◌≡◌, ◌≢◌, ℕ, ◌+◌, Option, Some, None, Result, Ok, Err}
+use Rattle.yq_scalar.specs.declared.fault.FaultKind.TheVariants.{NotUtf8}
 use Rattle.yq_scalar.specs.declared.fault.ReadError.{ReadError}
 use Rattle.yq_scalar.specs.declared.fault.ReadError.TheVariants as error
 
@@ -23,6 +24,11 @@ Fails (error.Fault f) read = read ≡ None
 abbrev pub Gives : {X Y : Type 0} → (X → Y) → Result X ReadError → Option Y → Type 0
 Gives view (Ok x) read = read ≡ Some (view x)
 Gives view (Err e) read = Fails e read
+
+-- An error of a text that is UTF-8: want of memory, or a fault that isn't that its bytes are not UTF-8 (own).
+abbrev pub IsOfText : ReadError → Type 0
+IsOfText error.Memory = Unit {0}
+IsOfText (error.Fault f) = f.kind ≢ NotUtf8
 
 -- The answer, as it is seen, is what reading gives; this is of functions that need no memory (own).
 abbrev pub Reads : {X Y E : Type 0} → (X → Y) → Result X E → Option Y → Type 0

@@ -5,6 +5,8 @@ use Rattle.yq_scalar.specs.declared.block_header.BlockStyle.TheVariants as style
 use Rattle.yq_scalar.specs.declared.block_header.Chomping.{Chomping}
 use Rattle.yq_scalar.specs.declared.block_header.Chomping.TheVariants as chompings
 use Rattle.yq_scalar.specs.declared.block_lines.TextIndent.{TextIndent}
+use Rattle.yq_scalar.specs.declared.fault.FaultKind.{FaultKind}
+use Rattle.yq_scalar.specs.declared.fault.FaultKind.TheVariants as fault
 use Rattle.yq_scalar.specs.declared.piece.Piece.{Piece}
 use Rattle.yq_scalar.specs.declared.style.Style.{Style}
 use Rattle.yq_scalar.specs.declared.style.Style.TheVariants as all_styles
@@ -151,6 +153,14 @@ pub record IsBlockPiece (n : ℤ) (at : ℕ) (text : List ℕ) (p : Piece) : Typ
   pub stands : drop at text ≡ block_text block rest
   pub scalar : IsBlock (deeper n) block rest
   pub piece : p ≡ block_piece at block
+
+-- the faults of a block scalar: its header, a blank line that is too long, a tab in its indentation, no final break (own)
+abbrev pub is_block_fault : FaultKind → Bool
+is_block_fault fault.BadBlockHeader = true
+is_block_fault fault.BadIndent = true
+is_block_fault fault.TabIndent = true
+is_block_fault fault.NoFinalBreak = true
+is_block_fault _ = false
 
 -- the piece is that of a block scalar of the text (own)
 abbrev pub IsBlockScalar : List ℕ → Piece → Type 0

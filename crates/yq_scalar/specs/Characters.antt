@@ -6,7 +6,9 @@ use Rattle.yq_scalar.specs.Text.{is_feed, is_return, front}
 
 -- a printable character: tab, LF, CR, and no other control or surrogate (YAML 1.2.2, section 5.1)
 abbrev pub is_printable : ℕ → Bool
-is_printable c = c == 9 || is_feed c || is_return c || (nat_le 32 c && nat_le c 126) || c == 133 || (nat_le 160 c && nat_le c 55295) || (nat_le 57344 c && nat_le c 65533) || (nat_le 65536 c && nat_le c 1114111)
+is_printable c =
+    c == 9 || is_feed c || is_return c || (nat_le 32 c && nat_le c 126) || c == 133
+    || (nat_le 160 c && nat_le c 55295) || (nat_le 57344 c && nat_le c 65533) || (nat_le 65536 c && nat_le c 1114111)
 
 -- U+FEFF, the byte order mark (YAML 1.2.2, section 5.2)
 abbrev pub is_mark : ℕ → Bool

@@ -95,6 +95,10 @@ abbrev pub before_of : Bool → Before
 before_of true = after (joined 0)
 before_of false = within
 
+-- what the rest of a scalar in these quotes stands for, perhaps behind a joined line (own)
+abbrev pub content_behind : ℕ → Bool → List ℕ → List ℕ
+content_behind quote is_joined text = content_on quote 0 (before_of is_joined) [] text
+
 -- whether a backslash in double quotes is in front (own)
 abbrev pub is_slash : ℕ → List ℕ → Bool
 is_slash quote t = quote == 34 && front (λ b. b == 92) t

@@ -11,7 +11,9 @@ is_flow_indicator b = b == 44 || b == 91 || b == 93 || b == 123 || b == 125
 -- an indicator: one of those of flow, or `-`, `?`, `:`, `#`, `&`, `*`, `!`, `|`, `>`, `'`, `"`, `%`, `@` or a backquote (YAML 1.2.2,
 -- section 5.3)
 abbrev pub is_indicator : ℕ → Bool
-is_indicator b = b == 45 || b == 63 || b == 58 || is_flow_indicator b || b == 35 || b == 38 || b == 42 || b == 33 || b == 124 || b == 62 || b == 39 || b == 34 || b == 37 || b == 64 || b == 96
+is_indicator b =
+    b == 45 || b == 63 || b == 58 || is_flow_indicator b || b == 35 || b == 38 || b == 42 || b == 33
+    || b == 124 || b == 62 || b == 39 || b == 34 || b == 37 || b == 64 || b == 96
 
 -- a safe character is in front: no white space, no break, and in flow no indicator of flow (YAML 1.2.2, section 7.3.3)
 abbrev pub is_safe : Bool → List ℕ → Bool

@@ -5,7 +5,9 @@ use Rattle.yq_scalar.specs.Text.{feed, is_white, is_break, is_marker, front}
 
 -- each letter that may follow a backslash, and the character that the two stand for (5.7)
 abbrev pub letters : List (ℕ × ℕ)
-letters = (34, 34) ∷ (92, 92) ∷ (48, 0) ∷ (97, 7) ∷ (98, 8) ∷ (116, 9) ∷ (110, 10) ∷ (118, 11) ∷ (102, 12) ∷ (114, 13) ∷ (101, 27) ∷ (78, 133) ∷ (76, 8232) ∷ (80, 8233) ∷ (95, 160) ∷ (47, 47) ∷ (32, 32) ∷ (9, 9) ∷ []
+letters =
+    (34, 34) ∷ (92, 92) ∷ (48, 0) ∷ (97, 7) ∷ (98, 8) ∷ (116, 9) ∷ (110, 10) ∷ (118, 11) ∷ (102, 12) ∷ (114, 13)
+    ∷ (101, 27) ∷ (78, 133) ∷ (76, 8232) ∷ (80, 8233) ∷ (95, 160) ∷ (47, 47) ∷ (32, 32) ∷ (9, 9) ∷ []
 
 -- the character beside the letter in a table (own)
 abbrev pub beside : ℕ → List (ℕ × ℕ) → Option ℕ
@@ -63,7 +65,8 @@ abbrev pub IsChar : ℕ → Char → List ℕ → Type 0
 IsChar quote (itself b) rest = (b == quote ≡ false) × (is_break (b ∷ rest) ≡ false) × ((quote == 34 && b == 92) ≡ false)
 IsChar quote doubled rest = quote ≡ 39
 IsChar quote (escape letter) rest = (quote ≡ 34) × ((c : ℕ) × (beside letter letters ≡ Some c))
-IsChar quote (code letter digits) rest = (quote ≡ 34) × (beside letter digit_counts ≡ Some (length digits)) × AllDigits 16 digits × (is_unicode (digits_value 16 digits) ≡ true)
+IsChar quote (code letter digits) rest =
+    (quote ≡ 34) × (beside letter digit_counts ≡ Some (length digits)) × AllDigits 16 digits × (is_unicode (digits_value 16 digits) ≡ true)
 
 -- each of these may stand there (own)
 abbrev pub AreChars : ℕ → List Char → List ℕ → Type 0
@@ -101,7 +104,8 @@ spell_lines (line cs escaped b ls) = spell_chars cs ++ (spell_end escaped b ++ s
 abbrev pub AreLines : ℕ → Lines → List ℕ → Type 0
 AreLines quote (last cs) rest = AreChars quote cs rest
 AreLines quote (line cs escaped b ls) rest =
-    AreChars quote cs (spell_end escaped b ++ (spell_lines ls ++ rest)) × (escaped ≡ true → quote ≡ 34) × (is_marker (spell_lines ls ++ rest) ≡ false) × AreLines quote ls rest
+    AreChars quote cs (spell_end escaped b ++ (spell_lines ls ++ rest)) × (escaped ≡ true → quote ≡ 34)
+    × (is_marker (spell_lines ls ++ rest) ≡ false) × AreLines quote ls rest
 
 -- white space that stands for itself (5.5)
 abbrev pub is_blank : Char → Bool

@@ -52,7 +52,8 @@ is_literal_text t =
 unfoldable pub can_write_plain : ScalarText → Bool → Bool
 can_write_plain s flow = not (is_string s.kind) || (is_string (resolve s.text) && is_plain_text flow s.text)
 
--- Single quotes write the strings of their characters; double quotes every string; and literal, outside flow and keys, the texts that it holds as they are (own).
+-- Single quotes write the strings of their characters; double quotes every string; and literal, outside flow and keys, the texts that it holds as
+-- they are (own).
 abbrev pub can_write : ScalarText → Style → Place → Bool
 can_write s styles.Plain place = can_write_plain s (in_flow place)
 can_write s styles.Single place = is_string s.kind && list_all is_single_char (chars s.text)

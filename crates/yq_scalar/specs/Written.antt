@@ -8,7 +8,9 @@ use Rattle.yq_scalar.specs.Characters.{is_text_char}
 
 -- each character that is written as a letter behind a backslash, behind its letter (own)
 abbrev pub written_letters : List (ℕ × ℕ)
-written_letters = (34, 34) ∷ (92, 92) ∷ (48, 0) ∷ (97, 7) ∷ (98, 8) ∷ (116, 9) ∷ (110, 10) ∷ (118, 11) ∷ (102, 12) ∷ (114, 13) ∷ (101, 27) ∷ (78, 133) ∷ (76, 8232) ∷ (80, 8233) ∷ []
+written_letters =
+    (34, 34) ∷ (92, 92) ∷ (48, 0) ∷ (97, 7) ∷ (98, 8) ∷ (116, 9) ∷ (110, 10) ∷ (118, 11) ∷ (102, 12) ∷ (114, 13)
+    ∷ (101, 27) ∷ (78, 133) ∷ (76, 8232) ∷ (80, 8233) ∷ []
 
 -- the letter beside the character in a table (own)
 abbrev pub letter_of : ℕ → List (ℕ × ℕ) → Option ℕ

@@ -1,5 +1,5 @@
 //! The block scalar at an offset of a text (YAML 1.2.2, section 8.1).
-ghost use Rattle.std.specs.Prelude.{◌≡◌, ◌<◌, ◌≤◌, ◌+◌, ◌^◌, length, drop, IfOk, Ok};
+ghost use Rattle.std.specs.Prelude.{◌≡◌, ◌<◌, ◌≤◌, ◌+◌, ◌^◌, length, drop, true, IfErr, IfOk, Ok};
 ghost use Rattle.std.specs.Str.{IsCharBoundary};
 ghost use Rattle.yq_scalar.specs.Answers.{Reads};
 ghost use Rattle.yq_scalar.specs.Block as spec;
@@ -26,7 +26,8 @@ fn least_indent(parent: i64) -> usize
 #[tactic(auto, unfolding(crate::specs::BlockReading::indent_at))]
 fn read_indent(least: usize, digit: Option<u8>, text: &[u8]) -> Result<TextIndent, FaultKind>
     requires { least ≤ 2 ^ 63 }
-    ensures { Reads (λ f. f) result (reading.indent_at least digit (lines_of text.now)) }
+    ensures read { Reads (λ f. f) result (reading.indent_at least digit (lines_of text.now)) }
+    ensures fault { IfErr result (λ kind. spec.is_block_fault kind ≡ true) }
 {
     match digit {
         Some(digit) => Ok(TextIndent {
@@ -42,7 +43,8 @@ fn read_indent(least: usize, digit: Option<u8>, text: &[u8]) -> Result<TextInden
 fn read_at(text: &[u8], start: usize, least: usize) -> Result<Piece, FaultKind>
     requires small { least ≤ 2 ^ 63 }
     requires fits { start + length text.now < 2 ^ 64 }
-    ensures { Reads (λ p. p) result (reading.piece_at start least text.now) }
+    ensures read { Reads (λ p. p) result (reading.piece_at start least text.now) }
+    ensures fault { IfErr result (λ kind. spec.is_block_fault kind ≡ true) }
 {
     let (style, rest) = read_style(text)?;
     let (digit, chomping, rest) = split_indicators(rest);
@@ -78,6 +80,7 @@ pub fn read_block(text: &str, at: usize, parent: i64) -> Result<Piece, FaultKind
     ensures found { IfOk result (spec.IsBlockPiece parent at text.now) }
     ensures only { (p : Piece) → spec.IsBlockPiece parent at text.now p → result ≡ Ok p }
     ensures given { IfOk result (IsGiven text.now) }
+    ensures fault { IfErr result (λ kind. spec.is_block_fault kind ≡ true) }
 {
     block_from(text, at, parent)
 }
@@ -85,7 +88,8 @@ pub fn read_block(text: &str, at: usize, parent: i64) -> Result<Piece, FaultKind
 #[tactic(auto, unfolding(crate::specs::BlockReading::block_from))]
 fn block_from(text: &str, at: usize, parent: i64) -> Result<Piece, FaultKind>
     requires { IsCharBoundary text.now at }
-    ensures { Reads (λ p. p) result (reading.block_from parent at text.now) }
+    ensures read { Reads (λ p. p) result (reading.block_from parent at text.now) }
+    ensures fault { IfErr result (λ kind. spec.is_block_fault kind ≡ true) }
 {
     read_at(text.split_at(at).1.as_bytes(), at, least_indent(parent))
 }

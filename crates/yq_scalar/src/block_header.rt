@@ -1,5 +1,5 @@
 //! The header of a block scalar (YAML 1.2.2, section 8.1.1).
-ghost use Rattle.std.specs.Prelude.{◌≡◌};
+ghost use Rattle.std.specs.Prelude.{◌≡◌, true, IfErr};
 ghost use Rattle.yq_scalar.specs.Answers.{Reads};
 ghost use Rattle.yq_scalar.specs.Block as spec;
 ghost use Rattle.yq_scalar.specs.BlockReading as reading;
@@ -33,7 +33,8 @@ pub enum Chomping {
 /// The style in front, and what follows it.
 #[tactic(auto, unfolding(crate::specs::BlockReading::style_at))]
 pub fn read_style(text: &[u8]) -> Result<(BlockStyle, &[u8]), FaultKind>
-    ensures { Reads (λ x. (x.0, x.1.now)) result (reading.style_at text.now) }
+    ensures read { Reads (λ x. (x.0, x.1.now)) result (reading.style_at text.now) }
+    ensures fault { IfErr result (λ kind. spec.is_block_fault kind ≡ true) }
 {
     match text {
         [b'|', rest @ ..] => Ok((BlockStyle::Literal, rest)),
@@ -107,7 +108,8 @@ fn is_tail(line: &[u8]) -> bool
 /// The rest of the header's line with its break, and what follows it.
 #[tactic(auto, unfolding(crate::specs::BlockReading::tail_at))]
 pub fn read_tail(text: &[u8]) -> Result<(&[u8], &[u8]), FaultKind>
-    ensures { Reads (λ x. (x.0.now, x.1.now)) result (reading.tail_at text.now) }
+    ensures read { Reads (λ x. (x.0.now, x.1.now)) result (reading.tail_at text.now) }
+    ensures fault { IfErr result (λ kind. spec.is_block_fault kind ≡ true) }
 {
     let (line, rest) = text.split_at(line_len(text));
     if is_tail(line) {

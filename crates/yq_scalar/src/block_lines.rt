@@ -1,5 +1,5 @@
 //! The lines of a block scalar, and what may stand behind them (YAML 1.2.2, sections 8.1.1 and 8.1.2).
-ghost use Rattle.std.specs.Prelude.{◌≡◌};
+ghost use Rattle.std.specs.Prelude.{◌≡◌, true, IfErr};
 ghost use Rattle.yq_scalar.specs.Answers.{Reads};
 ghost use Rattle.yq_scalar.specs.Block as spec;
 ghost use Rattle.yq_scalar.specs.BlockReading as reading;
@@ -70,7 +70,8 @@ fn is_less_indented(indent: TextIndent, line: &[u8]) -> bool
 /// The indentation that the lines give where no digit does.
 #[tactic(auto)]
 pub fn detect_indent(least: usize, text: &[u8]) -> Result<TextIndent, FaultKind>
-    ensures { Reads (λ f. f) result (reading.detected_at least 0 (lines_of text.now)) }
+    ensures read { Reads (λ f. f) result (reading.detected_at least 0 (lines_of text.now)) }
+    ensures fault { IfErr result (λ kind. spec.is_block_fault kind ≡ true) }
 {
     let mut most = 0;
     let mut rest = text;
@@ -106,7 +107,8 @@ pub fn detect_indent(least: usize, text: &[u8]) -> Result<TextIndent, FaultKind>
 /// How long the raw lines in front are, in bytes.
 #[tactic(auto)]
 pub fn raw_len(keep: bool, indent: TextIndent, text: &[u8]) -> Result<usize, FaultKind>
-    ensures { Reads (λ n. n) result (reading.len_at keep indent text.now) }
+    ensures read { Reads (λ n. n) result (reading.len_at keep indent text.now) }
+    ensures fault { IfErr result (λ kind. spec.is_block_fault kind ≡ true) }
 {
     let mut within = 0;
     let mut seen = 0;

@@ -1,6 +1,7 @@
 //! Why a text is refused.
 
 use std::alloc::{AllocError, AllocFailed};
+use std::num::NonZeroU64;
 
 /// What is at fault in a text.
 #[derive(Clone, Copy, Debug, PartialEq, Eq)]
@@ -51,7 +52,7 @@ pub enum FaultKind {
 #[derive(Clone, Copy, Debug, PartialEq, Eq)]
 pub struct ReadFault {
     pub kind: FaultKind,
-    pub line: u64,
+    pub line: NonZeroU64,
 }
 
 /// Why a text was not read.

@@ -1,9 +1,10 @@
 //! The plain scalar at an offset of a text.
-ghost use Rattle.std.specs.Prelude.{◌≡◌, IfOk, Ok};
+ghost use Rattle.std.specs.Prelude.{◌≡◌, IfErr, IfOk, Ok};
 ghost use Rattle.std.specs.Str.{IsCharBoundary};
 ghost use Rattle.yq_scalar.specs.Answers.{Reads};
 ghost use Rattle.yq_scalar.specs.Given.{IsGiven};
 ghost use Rattle.yq_scalar.specs.Piece as spec;
+ghost use Rattle.yq_scalar.specs.declared.fault.FaultKind.TheVariants.{BadScalar};
 ghost use Rattle.yq_scalar.specs.declared.piece.Piece.{Piece};
 
 use crate::fault::FaultKind;
@@ -37,6 +38,7 @@ pub fn read_plain(text: &str, at: usize, place: Place, indent: i64) -> Result<Pi
     ensures found { IfOk result (spec.IsPlainPiece place indent at text.now) }
     ensures only { (p : Piece) → spec.IsPlainPiece place indent at text.now p → result ≡ Ok p }
     ensures given { IfOk result (IsGiven text.now) }
+    ensures fault { IfErr result (λ kind. kind ≡ BadScalar) }
 {
     plain_from(text, at, place, indent)
 }
@@ -44,7 +46,8 @@ pub fn read_plain(text: &str, at: usize, place: Place, indent: i64) -> Result<Pi
 #[tactic(auto, unfolding(crate::specs::Piece::plain_from, crate::specs::Plain::plain_at))]
 fn plain_from(text: &str, at: usize, place: Place, indent: i64) -> Result<Piece, FaultKind>
     requires { IsCharBoundary text.now at }
-    ensures { Reads (λ p. p) result (spec.plain_from place indent at text.now) }
+    ensures read { Reads (λ p. p) result (spec.plain_from place indent at text.now) }
+    ensures fault { IfErr result (λ kind. kind ≡ BadScalar) }
 {
     let flow = in_flow(place);
     let rest = text.split_at(at).1;

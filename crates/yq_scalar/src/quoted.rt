@@ -1,10 +1,11 @@
 //! Quoted scalars (YAML 1.2.2, sections 5.7, 7.3.1 and 7.3.2).
-ghost use Rattle.std.specs.Prelude.{◌≡◌, ◌==◌, ◌++◌, ◌+◌, ◌*◌, ◌<◌, ◌≤◌, length, None, Some, Result, Ok, Err, IfOk};
+ghost use Rattle.std.specs.Prelude.{◌≡◌, ◌==◌, ◌++◌, ◌+◌, ◌*◌, ◌<◌, ◌≤◌, length, None, Some, Result, Ok, Err, IfErr, IfOk};
 ghost use Rattle.std.specs.Option.{IfSome, option_map};
 ghost use Rattle.yq_scalar.specs.Answers.{Reads};
 ghost use Rattle.std.specs.Str.{IsCharBoundary};
 ghost use Rattle.yq_scalar.specs.Quoted.{letters, beside, IsQuotedText};
 ghost use Rattle.yq_scalar.specs.QuotedReading as spec;
+ghost use Rattle.yq_scalar.specs.declared.fault.FaultKind.TheVariants.{BadScalar};
 
 use crate::fault::FaultKind;
 use crate::text::{is_break, is_marker};
@@ -179,6 +180,7 @@ fn cut_quoted(text: &str) -> Option<(&str, &str)>
 pub fn split_quoted(text: &str) -> Result<(&str, &str), FaultKind>
     ensures exact { Reads (λ x. (x.0.now, x.1.now)) result (spec.quoted_at text.now) }
     ensures found { IfOk result (λ x. IsQuotedText x.0.now) }
+    ensures fault { IfErr result (λ kind. kind ≡ BadScalar) }
 {
     match cut_quoted(text) {
         Some(x) => Ok(x),

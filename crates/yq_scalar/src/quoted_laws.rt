@@ -16,7 +16,8 @@ ghost use Rattle.yq_scalar.specs.Written.{double, single};
 pub fn one_quoted()
     ensures takes { (t : List ℕ) (x : List ℕ × List ℕ) → quoted_at t ≡ Some x → (t ≡ x.0 ++ x.1) × ((quote : ℕ) × ((ls : Lines) × IsQuoted quote ls x.0 x.1)) }
     ensures again { (quote : ℕ) (ls : Lines) (p rest : List ℕ) → IsQuoted quote ls p rest → quoted_at (p ++ rest) ≡ Some (p, rest) }
-    ensures one { (quote other_quote : ℕ) (ls other_ls : Lines) (p rest q other : List ℕ) → p ++ rest ≡ q ++ other → IsQuoted quote ls p rest → IsQuoted other_quote other_ls q other → (p ≡ q) × (rest ≡ other) }
+    ensures one { (quote other_quote : ℕ) (ls other_ls : Lines) (p rest q other : List ℕ) → p ++ rest ≡ q ++ other → IsQuoted quote ls p rest →
+        IsQuoted other_quote other_ls q other → (p ≡ q) × (rest ≡ other) }
 {}
 
 /// What is read as the content of a quoted scalar is what its lines stand for.
@@ -36,6 +37,7 @@ pub fn plain_folds()
 pub fn quoted_spells()
     ensures double { (t rest : List ℕ) → IsUtf8 t → ((ls : Lines) × (IsQuoted 34 ls (double t) rest × (content ls ≡ t))) }
     ensures double_line { (t : List ℕ) → IsUtf8 t → (is_text (double t) ≡ true) × (holds_break (double t) ≡ false) }
-    ensures single { (t rest : List ℕ) → IsUtf8 t → list_all is_single_char (chars t) ≡ true → front (λ b. b == 39) rest ≡ false → ((ls : Lines) × (IsQuoted 39 ls (single t) rest × (content ls ≡ t))) }
+    ensures single { (t rest : List ℕ) → IsUtf8 t → list_all is_single_char (chars t) ≡ true → front (λ b. b == 39) rest ≡ false →
+        ((ls : Lines) × (IsQuoted 39 ls (single t) rest × (content ls ≡ t))) }
     ensures single_line { (t : List ℕ) → IsUtf8 t → list_all is_single_char (chars t) ≡ true → (is_text (single t) ≡ true) × (holds_break (single t) ≡ false) }
 {}

@@ -1,9 +1,10 @@
 //! The quoted scalar at an offset of a text.
-ghost use Rattle.std.specs.Prelude.{◌≡◌, IfOk, Ok};
+ghost use Rattle.std.specs.Prelude.{◌≡◌, IfErr, IfOk, Ok};
 ghost use Rattle.std.specs.Str.{IsCharBoundary};
 ghost use Rattle.yq_scalar.specs.Answers.{Reads};
 ghost use Rattle.yq_scalar.specs.Given.{IsGiven};
 ghost use Rattle.yq_scalar.specs.QuotedPiece as spec;
+ghost use Rattle.yq_scalar.specs.declared.fault.FaultKind.TheVariants.{BadScalar};
 ghost use Rattle.yq_scalar.specs.declared.piece.Piece.{Piece};
 
 use crate::fault::FaultKind;
@@ -33,6 +34,7 @@ pub fn read_quoted(text: &str, at: usize) -> Result<Piece, FaultKind>
     ensures found { IfOk result (spec.IsQuotedPiece at text.now) }
     ensures only { (p : Piece) → spec.IsQuotedPiece at text.now p → result ≡ Ok p }
     ensures given { IfOk result (IsGiven text.now) }
+    ensures fault { IfErr result (λ kind. kind ≡ BadScalar) }
 {
     quoted_from(text, at)
 }
@@ -40,7 +42,8 @@ pub fn read_quoted(text: &str, at: usize) -> Result<Piece, FaultKind>
 #[tactic(auto, unfolding(crate::specs::QuotedPiece::quoted_from))]
 fn quoted_from(text: &str, at: usize) -> Result<Piece, FaultKind>
     requires { IsCharBoundary text.now at }
-    ensures { Reads (λ p. p) result (spec.quoted_from at text.now) }
+    ensures read { Reads (λ p. p) result (spec.quoted_from at text.now) }
+    ensures fault { IfErr result (λ kind. kind ≡ BadScalar) }
 {
     let (scalar, _) = split_quoted(text.split_at(at).1)?;
     Ok(inline_piece(style_of(scalar.as_bytes()[0]), at, at + scalar.len()))

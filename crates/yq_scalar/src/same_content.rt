@@ -1,8 +1,8 @@
 //! Plain and quoted scalars compared with what they may stand for, without memory (YAML 1.2.2, sections 5.7, 6.5 and 7.3).
-ghost use Rattle.std.specs.Prelude.{◌≡◌, ◌++◌, ◌<◌, List, ℕ, length, [], true, false, replicate, IfSome, MatchOption};
+ghost use Rattle.std.specs.Prelude.{◌≡◌, ◌<◌, length, replicate, IfSome};
 ghost use Rattle.std.specs.Str.{bytes_eq};
 ghost use Rattle.yq_scalar.specs.ContentReading as spec;
-ghost use Rattle.yq_scalar.specs.Folded.{folded_text, StripsText};
+ghost use Rattle.yq_scalar.specs.Folded.{folded_text, StripsItem, StripsText};
 ghost use Rattle.yq_scalar.specs.Quoted.{IsQuotedText};
 ghost use Rattle.yq_scalar.specs.Text.{feed};
 
@@ -46,7 +46,7 @@ fn strip_next<'w, 't>(
     joined: bool,
     text: &'t str,
 ) -> Option<(&'w str, &'t str, bool)>
-    ensures same { MatchOption result (bytes_eq (spec.content_on quote 0 (spec.before_of joined) [] text.now) wanted.now ≡ false) (λ x. bytes_eq (spec.content_on quote 0 (spec.before_of joined) [] text.now) wanted.now ≡ bytes_eq (spec.content_on quote 0 (spec.before_of x.2) [] x.1.now) x.0.now) }
+    ensures same { StripsItem quote joined text.now wanted.now result }
     ensures shorter { IfSome result (λ x. 0 < length text.now → length x.1.now < length text.now) }
 {
     let (space, next) = split_space(text);

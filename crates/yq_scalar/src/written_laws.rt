@@ -1,14 +1,12 @@
 //! What is written is read back: laws, each the contract of a function that does nothing. The readers
 //! give each of these pieces, since they give the one piece that there is.
-ghost use Rattle.std.specs.Prelude.{◌≡◌, ◌==◌, ◌≤◌, length, List, false, true, ℕ, ℤ};
+ghost use Rattle.std.specs.Prelude.{◌≡◌, ◌==◌, ◌≤◌, List, false, true, ℕ, ℤ};
 ghost use Rattle.std.specs.Str.{IsUtf8};
-ghost use Rattle.yq_scalar.specs.Block.{IsBlockPiece, ends_block, is_tail};
-ghost use Rattle.yq_scalar.specs.Given.{piece_content};
-ghost use Rattle.yq_scalar.specs.Piece.{IsPlainPiece, deeper, further_spaces};
+ghost use Rattle.yq_scalar.specs.Block.{ends_block, is_tail};
+ghost use Rattle.yq_scalar.specs.Piece.{deeper, further_spaces};
 ghost use Rattle.yq_scalar.specs.Plain.{ends_plain};
-ghost use Rattle.yq_scalar.specs.QuotedPiece.{IsQuotedPiece};
 ghost use Rattle.yq_scalar.specs.ReadBack as spec;
-ghost use Rattle.yq_scalar.specs.Scalar.{IsScalar, ScalarText, plain_of, string_of};
+ghost use Rattle.yq_scalar.specs.Scalar.{IsScalar, ScalarText};
 ghost use Rattle.yq_scalar.specs.Text.{front, lines_of};
 ghost use Rattle.yq_scalar.specs.Writable.{can_write, in_flow};
 ghost use Rattle.yq_scalar.specs.declared.block_lines.TextIndent.{TextIndent};
@@ -20,22 +18,26 @@ ghost use Rattle.yq_scalar.specs.declared.style.Style.TheVariants.{Double, Liter
 /// What is written plain, before whatever ends a plain scalar in its place, is one piece there, whose
 /// content is the scalar's text and has the scalar's kind.
 pub fn plain_is_read_back()
-    ensures { (s : ScalarText) (place : Place) (n : ℤ) (before rest : List ℕ) → IsUtf8 s.text → IsScalar s.kind s.text → can_write s Plain place ≡ true → ends_plain (in_flow place) (further_spaces place n) rest ≡ true → IsPlainPiece place n (length before) (spec.put Plain s.text before rest) (spec.put_piece Plain s.text before) × (piece_content (spec.put Plain s.text before rest) (spec.put_piece Plain s.text before) ≡ s.text) × (plain_of s.text ≡ s) }
+    ensures { (s : ScalarText) (place : Place) (n : ℤ) (before rest : List ℕ) → IsUtf8 s.text → IsScalar s.kind s.text → can_write s Plain place ≡ true →
+        ends_plain (in_flow place) (further_spaces place n) rest ≡ true → spec.PlainIsReadBack place n s before rest }
 {}
 
 /// What is written in single quotes, before anything but a further quote, is one piece there, whose
 /// content is the string.
 pub fn single_is_read_back()
-    ensures { (s : ScalarText) (place : Place) (before rest : List ℕ) → IsUtf8 s.text → can_write s Single place ≡ true → front (λ b. b == 39) rest ≡ false → IsQuotedPiece (length before) (spec.put Single s.text before rest) (spec.put_piece Single s.text before) × (piece_content (spec.put Single s.text before rest) (spec.put_piece Single s.text before) ≡ s.text) × (string_of s.text ≡ s) }
+    ensures { (s : ScalarText) (place : Place) (before rest : List ℕ) → IsUtf8 s.text → can_write s Single place ≡ true → front (λ b. b == 39) rest ≡ false →
+        spec.QuotedIsReadBack Single s before rest }
 {}
 
 /// What is written in double quotes, before anything, is one piece there, whose content is the string.
 pub fn double_is_read_back()
-    ensures { (s : ScalarText) (place : Place) (before rest : List ℕ) → IsUtf8 s.text → can_write s Double place ≡ true → IsQuotedPiece (length before) (spec.put Double s.text before rest) (spec.put_piece Double s.text before) × (piece_content (spec.put Double s.text before rest) (spec.put_piece Double s.text before) ≡ s.text) × (string_of s.text ≡ s) }
+    ensures { (s : ScalarText) (place : Place) (before rest : List ℕ) → IsUtf8 s.text → can_write s Double place ≡ true →
+        spec.QuotedIsReadBack Double s before rest }
 {}
 
 /// What is written as a literal block scalar, before whatever may stand behind one, is one piece there,
 /// whose content is the string.
 pub fn literal_is_read_back()
-    ensures { (s : ScalarText) (n : ℤ) (m : ℕ) (br : Break) (before tail rest : List ℕ) → IsUtf8 s.text → can_write s Literal Block ≡ true → deeper n ≤ m → is_tail tail ≡ true → ends_block false (record { columns = m; known = true }) (lines_of rest) ≡ true → IsBlockPiece n (length before) (spec.put_block s.text m br tail before rest) (spec.put_block_piece s.text m br tail before) × (piece_content (spec.put_block s.text m br tail before rest) (spec.put_block_piece s.text m br tail before) ≡ s.text) × (string_of s.text ≡ s) }
+    ensures { (s : ScalarText) (n : ℤ) (m : ℕ) (br : Break) (before tail rest : List ℕ) → IsUtf8 s.text → can_write s Literal Block ≡ true → deeper n ≤ m →
+        is_tail tail ≡ true → ends_block false (record { columns = m; known = true }) (lines_of rest) ≡ true → spec.BlockIsReadBack n s m br tail before rest }
 {}

@@ -12,6 +12,7 @@ ghost use Rattle.yq_documents.specs.Ready.{TextIsReady};
 
 use crate::document::Documents;
 use std::alloc::Global;
+use std::num::NonZeroU64;
 use yq_documents::{check_parts, document_lines};
 use yq_lines::lines_shaped;
 use yq_rows::scan;
@@ -29,7 +30,7 @@ pub fn text_of(bytes: &[u8]) -> Result<&str, ReadFault>
             let breaks = text.filter(|b| **b == b'\n').count() as u64;
             Err(ReadFault {
                 kind: FaultKind::NotUtf8,
-                line: breaks.saturating_add(1),
+                line: NonZeroU64::MIN.saturating_add(breaks),
             })
         }
     }

@@ -1,6 +1,7 @@
 //! Which beginnings of texts are read, and a long one that isn't.
 
 use std::alloc::{AllocError, Global};
+use std::num::NonZeroU64;
 use std::test::Fail;
 use yq_scalar::{FaultKind, ReadError, ReadFault};
 use yq_tree::read;
@@ -50,7 +51,8 @@ fn prefixes_of_texts(rt: HostRuntime) -> Result<(), Fail> {
     }
     let brackets = "[".repeat(alloc, 100_000)?;
     let kind = FaultKind::TooDeep;
-    let wanted = Some(ReadError::Fault(ReadFault { kind, line: 1 }));
+    let line = NonZeroU64::MIN;
+    let wanted = Some(ReadError::Fault(ReadFault { kind, line }));
     assert_eq!(rt; read(alloc, brackets.as_bytes()).err(), wanted);
     Ok(())
 }

@@ -14,39 +14,46 @@ ghost use Rattle.yq_rows.specs.View.{rows_of};
 /// may stand. Its text is that before those rows, the new rows with the gap behind them, and the
 /// rest.
 pub fn rows_spliced()
-    ensures cut { (t : List ℕ) (c : Cut) (k i j : ℕ) (new : List Row) (gap : List ℕ) → IsCut t c → FitsIn k i j new gap c → CutsItsText (splice k i j new gap c) }
+    ensures cut { (t : List ℕ) (c : Cut) (k i j : ℕ) (new : List Row) (gap : List ℕ) → IsCut t c → FitsIn k i j new gap c →
+        CutsItsText (splice k i j new gap c) }
     ensures old { (c : Cut) (k i j : ℕ) → i ≤ j → cut_text c ≡ before_rows k i c ++ rows_text (rows_between k i j c) (gap_before k j c ++ behind_rows k j c) }
-    ensures new { (c : Cut) (k i j : ℕ) (new : List Row) (gap : List ℕ) → cut_text (splice k i j new gap c) ≡ before_rows k i c ++ rows_text new (gap ++ behind_rows k j c) }
+    ensures new { (c : Cut) (k i j : ℕ) (new : List Row) (gap : List ℕ) →
+        cut_text (splice k i j new gap c) ≡ before_rows k i c ++ rows_text new (gap ++ behind_rows k j c) }
 {}
 
 /// Rows exchanged for others whose text begins like theirs: nothing is asked of the rows in front.
 pub fn rows_replaced()
-    ensures { (t : List ℕ) (c : Cut) (k i j : ℕ) (new : List Row) (gap : List ℕ) → IsCut t c → ReplaceFits k i j new gap c → CutsItsText (splice k i j new gap c) }
+    ensures { (t : List ℕ) (c : Cut) (k i j : ℕ) (new : List Row) (gap : List ℕ) → IsCut t c → ReplaceFits k i j new gap c →
+        CutsItsText (splice k i j new gap c) }
 {}
 
 /// One row exchanged for another one that takes its place, behind which the next row may stand.
 pub fn row_replaced()
-    ensures { (t : List ℕ) (c : Cut) (k : ℕ) (front : List Row) (r : Row) (back : List Row) (new : Row) → IsCut t c → StandsBetween k front r back c → TakesPlace (asked_at k (length front) c) r (rest_behind k back c) new (rest_behind k back c) →
-        allows_first (limit_after new) back ≡ true → CutsItsText (replace_row k front (new ∷ []) (first_gap back (nth_part k c).end) c) }
+    ensures { (t : List ℕ) (c : Cut) (k : ℕ) (front : List Row) (r : Row) (back : List Row) (new : Row) → IsCut t c → StandsBetween k front r back c →
+        TakesPlace (asked_at k (length front) c) r (rest_behind k back c) new (rest_behind k back c) → allows_first (limit_after new) back ≡ true →
+        CutsItsText (replace_row k front (new ∷ []) (first_gap back (nth_part k c).end) c) }
 {}
 
 /// One row exchanged for another one behind the same gap and at the same column: the rows in front
 /// ask no more of it.
 pub fn row_exchanged()
-    ensures { (t : List ℕ) (c : Cut) (k : ℕ) (front : List Row) (r : Row) (back : List Row) (new : Row) → IsCut t c → StandsBetween k front r back c → StandsFor (asked_at k (length front) c) r new back (rest_behind k back c) →
+    ensures { (t : List ℕ) (c : Cut) (k : ℕ) (front : List Row) (r : Row) (back : List Row) (new : Row) → IsCut t c → StandsBetween k front r back c →
+        StandsFor (asked_at k (length front) c) r new back (rest_behind k back c) →
         CutsItsText (replace_row k front (new ∷ []) (first_gap back (nth_part k c).end) c) }
 {}
 
 /// A cut, of which a row has another tail that fits, is a cut where the new text may stand.
 pub fn tail_replaced()
-    ensures { (t : List ℕ) (c : Cut) (k : ℕ) (front : List Row) (r : Row) (back : List Row) (new : List ℕ) → IsCut t c → StandsBetween k front r back c → TailFits (parent_indent r) new r.content (rest_behind k back c) →
+    ensures { (t : List ℕ) (c : Cut) (k : ℕ) (front : List Row) (r : Row) (back : List Row) (new : List ℕ) → IsCut t c → StandsBetween k front r back c →
+        TailFits (parent_indent r) new r.content (rest_behind k back c) →
         CutsItsText (replace_row k front (retail new r ∷ []) (first_gap back (nth_part k c).end) c) }
 {}
 
 /// Rows put in behind a row: what that row asks of the text behind it, and where the next row
 /// stands. Behind a tail with a break any text may stand.
 pub fn rows_inserted()
-    ensures cut { (t : List ℕ) (c : Cut) (k i : ℕ) (new : List Row) (gap : List ℕ) → IsCut t c → InsertFits k i new gap c → CutsItsText (splice k i i new gap c) }
+    ensures cut { (t : List ℕ) (c : Cut) (k i : ℕ) (new : List Row) (gap : List ℕ) → IsCut t c → InsertFits k i new gap c →
+        CutsItsText (splice k i i new gap c) }
     ensures line { (front : List Row) (u : List ℕ) → ends_in_line front ≡ true → ends_in_block front ≡ false → are_seamed front u ≡ true }
 {}
 
@@ -55,7 +62,8 @@ pub fn rows_inserted()
 /// repaired.
 pub fn rows_removed()
     ensures any { (t : List ℕ) (c : Cut) (k i j : ℕ) (gap : List ℕ) → IsCut t c → RemoveFits k i j gap c → CutsItsText (splice k i j [] gap c) }
-    ensures repaired { (t : List ℕ) (c : Cut) (k i j : ℕ) (kept run : List (List ℕ)) → IsCut t c → RepairFits k i j kept run c → CutsItsText (without_rows k i j kept c) }
+    ensures repaired { (t : List ℕ) (c : Cut) (k i j : ℕ) (kept run : List (List ℕ)) → IsCut t c → RepairFits k i j kept run c →
+        CutsItsText (without_rows k i j kept c) }
 {}
 
 /// A row counted through all parts stands in one of them between other rows.

@@ -2,6 +2,7 @@
 
 use super::reading::{in_block, in_flow};
 use std::alloc::Global;
+use std::num::NonZeroU64;
 use std::test::Fail;
 use yq_inline::{DEPTH_LIMIT, Inline};
 use yq_scalar::{FaultKind, ReadError, ReadFault};
@@ -97,7 +98,7 @@ fn ends_of_nodes(rt: HostRuntime) {
 /// A collection too many.
 const TOO_DEEP: Result<Option<usize>, ReadError> = Err(ReadError::Fault(ReadFault {
     kind: FaultKind::TooDeep,
-    line: 1,
+    line: NonZeroU64::MIN,
 }));
 
 /// What is repeated, how often, what closes each, how many collections stand round the node, and

@@ -1,6 +1,7 @@
 //! Which texts are read, and why others aren't.
 
 use std::alloc::{AllocError, Global};
+use std::num::NonZeroU64;
 use std::test::Fail;
 use yq_rows::{KEY_LIMIT, scan};
 use yq_scalar::characters::TEXT_LIMIT;
@@ -143,7 +144,10 @@ fn long_texts(rt: HostRuntime) -> Result<(), Fail> {
     let alloc = rt.alloc();
     for (front, piece, count, behind, close, want) in &LONG {
         let text = text_of(alloc, [*front, *piece, *behind, *close], *count)?;
-        let want = want.map(|(kind, line)| ReadError::Fault(ReadFault { kind, line }));
+        let want = want.map(|(kind, line)| {
+            let line = NonZeroU64::new(line).unwrap_or(NonZeroU64::MIN);
+            ReadError::Fault(ReadFault { kind, line })
+        });
         assert!(rt;
             fault_of(alloc, text.as_str()) == want,
             "{count} of {piece:?}"

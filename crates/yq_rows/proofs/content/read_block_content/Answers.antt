@@ -1,17 +1,21 @@
 use Rattle.std.proofs.Common.{rules, w64}
 use Rattle.std.proofs.lemmas.Int.{to_z-of_z}
 use Rattle.std.proofs.lemmas.Str.{IsCharBoundary-start}
+use Rattle.yq_scalar.proofs.BlockFound.{block_of_text}
 use Rattle.yq_rows.proofs.BlockLending.{anchor_missing, block_read, head_boundary, tail_boundary, raw_boundary, block_some, block_refused}
 use Rattle.yq_rows.proofs.content.read_block_content.Goals as goal
 
-pub returns-then-anchor-eq1 : goal.returns-then-anchor-eq1
-returns-then-anchor-eq1 c = anchor_missing c.args.parent c.args.space.now c.args.text.now _ _ _ c.split_apart.ensures c.if-anchor-eq1.true
+pub returns-then-anchor-eq1-clause-read : goal.returns-then-anchor-eq1-clause-read
+returns-then-anchor-eq1-clause-read c = anchor_missing c.args.parent c.args.space.now c.args.text.now _ _ _ c.split_apart.ensures c.if-anchor-eq1.true
 
 pub read_block-requires : goal.read_block-requires
 read_block-requires c = IsCharBoundary-start c.split_apart.result.2.now (search rules)
 
-pub returns-in-Err : goal.returns-in-Err
-returns-in-Err c = block_refused c.args.parent c.args.space.now c.args.text.now _ _ _ c.split_apart.ensures c.if-anchor-eq1.false (rw (to_z-of_z w64 c.args.parent c.ranges.parent) at c.in-Err.ensures.exact)
+pub block_fault-requires : goal.block_fault-requires
+block_fault-requires c = block_of_text c.in-Err.kind c.in-Err.ensures.fault
+
+pub returns-in-Err-clause-read : goal.returns-in-Err-clause-read
+returns-in-Err-clause-read c = block_refused c.args.parent c.args.space.now c.args.text.now _ _ _ c.split_apart.ensures c.if-anchor-eq1.false (rw (to_z-of_z w64 c.args.parent c.ranges.parent) at c.in-Err.ensures.exact)
 
 pub split_at-requires : goal.split_at-requires
 split_at-requires c = head_boundary c.args.parent c.split_apart.result.2.now c.in-Ok.piece (block_read c.args.parent c.split_apart.result.2.now c.in-Ok.piece (rw (to_z-of_z w64 c.args.parent c.ranges.parent) at c.in-Ok.ensures.exact))
@@ -22,7 +26,7 @@ split_at-requires-2 c = tail_boundary c.args.parent c.split_apart.result.2.now c
 pub split_at-requires-3 : goal.split_at-requires-3
 split_at-requires-3 c = raw_boundary c.args.parent c.split_apart.result.2.now c.split_at.result.1.now c.split_at-2.result.1.now c.in-Ok.piece (block_read c.args.parent c.split_apart.result.2.now c.in-Ok.piece (rw (to_z-of_z w64 c.args.parent c.ranges.parent) at c.in-Ok.ensures.exact)) c.split_at.ensures.back c.split_at-2.ensures.back (search rules)
 
-pub returns : goal.returns
-returns c =
+pub returns-clause-read : goal.returns-clause-read
+returns-clause-read c =
     block_some c.args.parent c.args.space.now c.args.text.now _ _ _ _ _ _ _ _ _ c.in-Ok.piece c.split_apart.ensures c.if-anchor-eq1.false (rw (to_z-of_z w64 c.args.parent c.ranges.parent) at c.in-Ok.ensures.exact)
     c.split_at.ensures.front c.split_at.ensures.back c.split_at-2.ensures.front c.split_at-2.ensures.back c.split_at-3.ensures.front c.split_at-3.ensures.back

@@ -8,16 +8,16 @@ use Rattle.yq_rows.proofs.ScalarLending.{other_node, no_node}
 use Rattle.yq_rows.proofs.RowLending.{content_block, content_inline, content_nothing}
 use Rattle.yq_rows.proofs.content.read_content.Goals as goal
 
-pub returns-then-begins_block : goal.returns-then-begins_block
-returns-then-begins_block c =
+pub returns-then-begins_block-clause-read : goal.returns-then-begins_block-clause-read
+returns-then-begins_block-clause-read c =
     subst (Gives filling_view c.read_block_content.result) (sym (content_block c.args.parent c.args.text.now _ _ c.split_white.ensures (sym c.begins_block.ensures ∙ c.if-begins_block.true)))
-    (rw (to_z-of_z w64 c.args.parent c.ranges.parent) at c.read_block_content.ensures)
+    (rw (to_z-of_z w64 c.args.parent c.ranges.parent) at c.read_block_content.ensures.read)
 
-pub returns-then-begins_other : goal.returns-then-begins_other
-returns-then-begins_other c =
+pub returns-then-begins_other-clause-read : goal.returns-then-begins_other-clause-read
+returns-then-begins_other-clause-read c =
     subst (Gives filling_view c.read_inline_content.result)
     (sym (content_inline c.args.parent c.args.text.now _ _ c.split_white.ensures (sym c.begins_block.ensures ∙ c.if-begins_block.false) (other_node c.split_white.result.1.now (ap begins_other (sym c.as_bytes.ensures.value) ∙ (sym c.begins_other.ensures ∙ c.if-begins_other.true)))))
-    (rw (to_z-of_z w64 c.args.parent c.ranges.parent) at c.read_inline_content.ensures)
+    (rw (to_z-of_z w64 c.args.parent c.ranges.parent) at c.read_inline_content.ensures.read)
 
 pub read_scalar_content-requires : goal.read_scalar_content-requires
 read_scalar_content-requires c = (
@@ -25,18 +25,18 @@ read_scalar_content-requires c = (
   ap (begins_scalar false) (sym c.as_bytes-2.ensures.value) ∙ (sym c.begins_scalar.ensures ∙ c.if-begins_scalar.true),
 )
 
-pub returns-then-begins_scalar : goal.returns-then-begins_scalar
-returns-then-begins_scalar c =
+pub returns-then-begins_scalar-clause-read : goal.returns-then-begins_scalar-clause-read
+returns-then-begins_scalar-clause-read c =
     subst (Gives filling_view c.read_scalar_content.result)
     (sym (content_inline c.args.parent c.args.text.now _ _ c.split_white.ensures (sym c.begins_block.ensures ∙ c.if-begins_block.false) (scalar_node c.split_white.result.1.now (ap (begins_scalar false) (sym c.as_bytes-2.ensures.value) ∙ (sym c.begins_scalar.ensures ∙ c.if-begins_scalar.true)))))
-    (rw (to_z-of_z w64 c.args.parent c.ranges.parent) at c.read_scalar_content.ensures)
+    (rw (to_z-of_z w64 c.args.parent c.ranges.parent) at c.read_scalar_content.ensures.read)
 
-pub returns-in-Some : goal.returns-in-Some
-returns-in-Some c =
+pub returns-in-Some-clause-read : goal.returns-in-Some-clause-read
+returns-in-Some-clause-read c =
     content_nothing c.args.parent c.args.text.now _ _ (Some (c.in-Some.tail.now, c.in-Some.rest.now)) c.split_white.ensures (sym c.begins_block.ensures ∙ c.if-begins_block.false)
     (no_node c.split_white.result.1.now (ap begins_other (sym c.as_bytes.ensures.value) ∙ (sym c.begins_other.ensures ∙ c.if-begins_other.false)) (ap (begins_scalar false) (sym c.as_bytes-2.ensures.value) ∙ (sym c.begins_scalar.ensures ∙ c.if-begins_scalar.false))) (sym c.in-Some.ensures)
 
-pub returns-in-None : goal.returns-in-None
-returns-in-None c =
+pub returns-in-None-clause-read : goal.returns-in-None-clause-read
+returns-in-None-clause-read c =
     content_nothing c.args.parent c.args.text.now _ _ None c.split_white.ensures (sym c.begins_block.ensures ∙ c.if-begins_block.false)
     (no_node c.split_white.result.1.now (ap begins_other (sym c.as_bytes.ensures.value) ∙ (sym c.begins_other.ensures ∙ c.if-begins_other.false)) (ap (begins_scalar false) (sym c.as_bytes-2.ensures.value) ∙ (sym c.begins_scalar.ensures ∙ c.if-begins_scalar.false))) (sym c.in-None.ensures)

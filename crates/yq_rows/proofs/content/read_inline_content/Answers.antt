@@ -6,8 +6,8 @@ use Rattle.yq_rows.proofs.InlineLending.{lead_here, head_within, head_boundary, 
 use Rattle.yq_rows.proofs.MeasuredLending.{known, none_known}
 use Rattle.yq_rows.proofs.content.read_inline_content.Goals as goal
 
-pub returns-in-Err : goal.returns-in-Err
-returns-in-Err c =
+pub returns-in-Err-clause-read : goal.returns-in-Err-clause-read
+returns-in-Err-clause-read c =
     let spaces : c.further_spaces-spaces.result ≡ Some (deeper c.args.parent) = rw (to_z-of_z w64 c.args.parent c.ranges.parent) at c.further_spaces-spaces.ensures in
     none_known c.args.parent c.further_spaces-spaces.result c.args.space.now c.args.text.now spaces c.in-Err.ensures.read
 
@@ -25,8 +25,8 @@ split_at-requires c =
     let lead = lead_here c.args.text.now _ _ _ _ _ k.node c.split_anchor.ensures (c.is_nothing-nothing.ensures ∙ k.nothing_is) c.split_lead.ensures in
     head_boundary (Some (deeper c.args.parent)) c.args.text.now c.in-Ok.node.rest.now c.split_lead.result.1.now k.node k.read (ap (λ (y : List ℕ × List ℕ). y.1) lead) (search rules)
 
-pub returns-in-Some : goal.returns-in-Some
-returns-in-Some c =
+pub returns-in-Some-clause-read : goal.returns-in-Some-clause-read
+returns-in-Some-clause-read c =
     let spaces : c.further_spaces-spaces.result ≡ Some (deeper c.args.parent) = rw (to_z-of_z w64 c.args.parent c.ranges.parent) at c.further_spaces-spaces.ensures in
     let k = known c.args.parent c.further_spaces-spaces.result c.args.text.now c.in-Ok.node.rest.now c.in-Ok.node.anchored c.in-Ok.node.kind spaces c.in-Ok.ensures.read in
     let nothing = c.is_nothing-nothing.ensures ∙ k.nothing_is in
@@ -35,8 +35,8 @@ returns-in-Some c =
     (inline_some c.args.parent c.args.space.now c.args.text.now _ _ _ c.split_lead.result.1.now c.in-Ok.node.rest.now c.in-Some.tail.now c.in-Some.rest.now k.node c.may_be_alone.result c.is_plain.result k.read c.split_anchor.ensures lead (sym c.in-Some.ensures) (c.is_plain.ensures ∙ k.plain_is)
     (c.may_be_alone.ensures ∙ ap (λ (b : Bool). is_empty c.args.space.now && not b) nothing))
 
-pub returns-in-None : goal.returns-in-None
-returns-in-None c =
+pub returns-in-None-clause-read : goal.returns-in-None-clause-read
+returns-in-None-clause-read c =
     let spaces : c.further_spaces-spaces.result ≡ Some (deeper c.args.parent) = rw (to_z-of_z w64 c.args.parent c.ranges.parent) at c.further_spaces-spaces.ensures in
     let k = known c.args.parent c.further_spaces-spaces.result c.args.text.now c.in-Ok.node.rest.now c.in-Ok.node.anchored c.in-Ok.node.kind spaces c.in-Ok.ensures.read in
     inline_no_tail c.args.parent c.args.space.now c.args.text.now c.in-Ok.node.rest.now k.node k.read (sym c.in-None.ensures)

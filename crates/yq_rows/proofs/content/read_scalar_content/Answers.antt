@@ -5,18 +5,18 @@ use Rattle.yq_inline.specs.Scalars.{is_quoted}
 use Rattle.yq_rows.proofs.ScalarLending.{scalar_none, scalar_no_tail, scalar_some}
 use Rattle.yq_rows.proofs.content.read_scalar_content.Goals as goal
 
-pub returns-in-Err : goal.returns-in-Err
-returns-in-Err c =
+pub returns-in-Err-clause-read : goal.returns-in-Err-clause-read
+returns-in-Err-clause-read c =
     let spaces : c.further_spaces-spaces.result ≡ Some (deeper c.args.parent) = rw (to_z-of_z w64 c.args.parent c.ranges.parent) at c.further_spaces-spaces.ensures in
     scalar_none c.args.parent c.args.space.now c.args.text.now c.requires.0 c.requires.1 (rw spaces at c.in-Err.ensures.read)
 
-pub returns-in-Some : goal.returns-in-Some
-returns-in-Some c =
+pub returns-in-Some-clause-read : goal.returns-in-Some-clause-read
+returns-in-Some-clause-read c =
     let spaces : c.further_spaces-spaces.result ≡ Some (deeper c.args.parent) = rw (to_z-of_z w64 c.args.parent c.ranges.parent) at c.further_spaces-spaces.ensures in
     scalar_some c.args.parent c.args.space.now c.args.text.now c.in-Ok.found.0.now c.in-Ok.found.1.now c.in-Some.tail.now c.in-Some.rest.now _ c.may_be_alone.result c.requires.0 c.requires.1 (rw spaces at c.in-Ok.ensures.read) (sym c.in-Some.ensures)
     (ap not (c.is_quoted.ensures ∙ ap is_quoted c.as_bytes.ensures.value)) c.may_be_alone.ensures
 
-pub returns-in-None : goal.returns-in-None
-returns-in-None c =
+pub returns-in-None-clause-read : goal.returns-in-None-clause-read
+returns-in-None-clause-read c =
     let spaces : c.further_spaces-spaces.result ≡ Some (deeper c.args.parent) = rw (to_z-of_z w64 c.args.parent c.ranges.parent) at c.further_spaces-spaces.ensures in
     scalar_no_tail c.args.parent c.args.space.now c.args.text.now c.in-Ok.found.0.now c.in-Ok.found.1.now c.requires.0 c.requires.1 (rw spaces at c.in-Ok.ensures.read) (sym c.in-None.ensures)

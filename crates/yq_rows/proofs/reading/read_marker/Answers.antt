@@ -8,5 +8,5 @@ overflow_sub-text c = marker_within c.args.text.now c.split_at.result.1.now _ c.
 pub split_at-requires-in-Some : goal.split_at-requires-in-Some
 split_at-requires-in-Some c = marker_boundary c.args.text.now c.split_at.result.1.now _ c.in-Some.rest.now c.split_at.ensures.back (sym c.in-Some.ensures) (search rules)
 
-pub returns-in-Some : goal.returns-in-Some
-returns-in-Some c = marker_some c.args.text.now c.split_at.result.1.now _ c.in-Some.rest.now _ c.split_at.ensures.back (sym c.in-Some.ensures) c.split_at-in-Some.ensures.front
+pub returns-in-Some-clause-read : goal.returns-in-Some-clause-read
+returns-in-Some-clause-read c = marker_some c.args.text.now c.split_at.result.1.now _ c.in-Some.rest.now _ c.split_at.ensures.back (sym c.in-Some.ensures) c.split_at-in-Some.ensures.front

@@ -26,7 +26,7 @@ pub returns-in-Err-clause-found : goal.returns-in-Err-clause-found
 returns-in-Err-clause-found c =
     let front = rows_in c.args.whole.now c.rows.rows.items in
     let more : ends_part c.split_gap.result.1.now ≡ false = ap ends_part (sym c.as_bytes.ensures.value) ∙ (sym c.ends_part.ensures ∙ c.if-ends_part.false) in
-    fails_by c.in-Err.e _ _ c.in-Err.ensures (λ none.
+    fails_by c.in-Err.e _ _ c.in-Err.ensures.read (λ none.
     sym c.rows.invariant.so_far
     ∙ (at_gap front (limit_view c.rows.limit) c.rows.at.now _ _ c.split_gap.ensures
     ∙ no_row front (limit_view c.rows.limit) c.split_gap.result.0.now c.split_gap.result.1.now more none))
@@ -34,17 +34,17 @@ returns-in-Err-clause-found c =
 pub returns-in-Err-clause-placed : goal.returns-in-Err-clause-placed
 returns-in-Err-clause-placed c =
     let more : ends_part c.split_gap.result.1.now ≡ false = ap ends_part (sym c.as_bytes.ensures.value) ∙ (sym c.ends_part.ensures ∙ c.if-ends_part.false) in
-    fails_by c.in-Err.e _ _ c.in-Err.ensures (λ none.
+    fails_by c.in-Err.e _ _ c.in-Err.ensures.read (λ none.
     rows_placed_none c.rows.rows.items (length c.args.whole.now - length c.rows.at.now) (limit_view c.rows.limit) c.rows.at.now _ _ _ c.split_gap.ensures more none c.rows.invariant.placed)
 
 pub offsets_of-requires-clause-read : goal.offsets_of-requires-clause-read
 offsets_of-requires-clause-read c =
-    (c.in-Ok.found.2.now, row_joined (limit_view c.rows.limit) (limit_view c.in-Ok.found.1) c.rows.at.now _ _ (view c.in-Ok.found.0) c.in-Ok.found.2.now c.split_gap.ensures c.in-Ok.ensures)
+    (c.in-Ok.found.2.now, row_joined (limit_view c.rows.limit) (limit_view c.in-Ok.found.1) c.rows.at.now _ _ (view c.in-Ok.found.0) c.in-Ok.found.2.now c.split_gap.ensures c.in-Ok.ensures.read)
 
 pub rows-smaller : goal.rows-smaller
 rows-smaller c =
     let more : ends_part c.split_gap.result.1.now ≡ false = ap ends_part (sym c.as_bytes.ensures.value) ∙ (sym c.ends_part.ensures ∙ c.if-ends_part.false) in
-    loop_smaller (limit_view c.rows.limit) (limit_view c.in-Ok.found.1) c.rows.at.now _ _ (view c.in-Ok.found.0) c.in-Ok.found.2.now c.split_gap.ensures more c.in-Ok.ensures
+    loop_smaller (limit_view c.rows.limit) (limit_view c.in-Ok.found.1) c.rows.at.now _ _ (view c.in-Ok.found.0) c.in-Ok.found.2.now c.split_gap.ensures more c.in-Ok.ensures.read
 
 pub rows-preserved : goal.rows-preserved
 rows-preserved c =
@@ -52,12 +52,12 @@ rows-preserved c =
     let row = view c.in-Ok.found.0 in
     let after = c.in-Ok.found.2.now in
     let more : ends_part c.split_gap.result.1.now ≡ false = ap ends_part (sym c.as_bytes.ensures.value) ∙ (sym c.ends_part.ensures ∙ c.if-ends_part.false) in
-    let joined = row_joined (limit_view c.rows.limit) (limit_view c.in-Ok.found.1) c.rows.at.now _ _ row after c.split_gap.ensures c.in-Ok.ensures in
+    let joined = row_joined (limit_view c.rows.limit) (limit_view c.in-Ok.found.1) c.rows.at.now _ _ row after c.split_gap.ensures c.in-Ok.ensures.read in
     let pushed = rows_push whole c.rows.rows.items _ c.offsets_of.result row c.in_ok-push.ensures.items c.offsets_of.ensures.same in
     record {
       text = search rules;
       ends = ends_next whole c.rows.at.now _ after c.rows.invariant.ends (joined ∙ row_then row after);
       stand = subst (Stand whole) (sym c.in_ok-push.ensures.items) (All-push (Stands whole) c.rows.rows.items c.offsets_of.result c.rows.invariant.stand c.offsets_of.ensures.stands);
-      so_far = loop_step (rows_in whole c.rows.rows.items) _ (limit_view c.rows.limit) (limit_view c.in-Ok.found.1) c.rows.at.now _ _ row after _ c.split_gap.ensures more c.in-Ok.ensures pushed c.rows.invariant.so_far;
-      placed = rows_placed_step c.rows.rows.items _ c.offsets_of.result whole (limit_view c.rows.limit) (limit_view c.in-Ok.found.1) c.rows.at.now _ _ row after _ c.rows.invariant.ends c.split_gap.ensures more c.in-Ok.ensures c.in_ok-push.ensures.items c.offsets_of.ensures.place c.rows.invariant.placed;
+      so_far = loop_step (rows_in whole c.rows.rows.items) _ (limit_view c.rows.limit) (limit_view c.in-Ok.found.1) c.rows.at.now _ _ row after _ c.split_gap.ensures more c.in-Ok.ensures.read pushed c.rows.invariant.so_far;
+      placed = rows_placed_step c.rows.rows.items _ c.offsets_of.result whole (limit_view c.rows.limit) (limit_view c.in-Ok.found.1) c.rows.at.now _ _ row after _ c.rows.invariant.ends c.split_gap.ensures more c.in-Ok.ensures.read c.in_ok-push.ensures.items c.offsets_of.ensures.place c.rows.invariant.placed;
     }

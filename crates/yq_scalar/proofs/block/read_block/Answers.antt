@@ -5,7 +5,7 @@ use Rattle.yq_scalar.proofs.GivenLaws.{block_given}
 use Rattle.yq_scalar.proofs.block.read_block.Goals as goal
 
 pub returns-clause-only : goal.returns-clause-only
-returns-clause-only c = only_by c.args.parent c.args.at c.args.text.now c.block_from.result (rw (to_z-of_z w64 c.args.parent c.ranges.parent) at c.block_from.ensures)
+returns-clause-only c = only_by c.args.parent c.args.at c.args.text.now c.block_from.result (rw (to_z-of_z w64 c.args.parent c.ranges.parent) at c.block_from.ensures.read)
 
 pub returns-clause-given : goal.returns-clause-given
-returns-clause-given c = block_given c.args.parent c.args.at c.args.text.now c.block_from.result c.requires (rw (to_z-of_z w64 c.args.parent c.ranges.parent) at c.block_from.ensures)
+returns-clause-given c = block_given c.args.parent c.args.at c.args.text.now c.block_from.result c.requires (rw (to_z-of_z w64 c.args.parent c.ranges.parent) at c.block_from.ensures.read)

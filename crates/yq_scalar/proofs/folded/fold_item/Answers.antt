@@ -1,5 +1,4 @@
-use Rattle.std.proofs.Common.{◌≡◌, false, ◌++◌, ◌∷◌, ℕ, List, [], take, drop, sym, ap, ap₂, ◌∙◌}
-use Rattle.yq_scalar.specs.Text.{upto}
+use Rattle.std.proofs.Common.{◌≡◌, false, ◌++◌, ◌∷◌, ℕ, List, [], sym, ap, ap₂, ◌∙◌}
 use Rattle.yq_scalar.specs.ContentReading.{content_on, within, is_pair, is_slash, ends_run}
 use Rattle.yq_scalar.proofs.ItemLaws.{boundary_pair, content_pair, content_run, cut_within, cut_shorter, runs_on}
 use Rattle.yq_scalar.proofs.folded.fold_item.Goals as goal

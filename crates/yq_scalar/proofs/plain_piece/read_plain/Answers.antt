@@ -5,7 +5,7 @@ use Rattle.yq_scalar.proofs.PieceLaws.{only_by}
 use Rattle.yq_scalar.proofs.plain_piece.read_plain.Goals as goal
 
 pub returns-clause-only : goal.returns-clause-only
-returns-clause-only c = only_by c.args.place c.args.indent c.args.at c.args.text.now c.plain_from.result (rw (to_z-of_z w64 c.args.indent c.ranges.indent) at c.plain_from.ensures)
+returns-clause-only c = only_by c.args.place c.args.indent c.args.at c.args.text.now c.plain_from.result (rw (to_z-of_z w64 c.args.indent c.ranges.indent) at c.plain_from.ensures.read)
 
 pub returns-clause-given : goal.returns-clause-given
-returns-clause-given c = plain_given c.args.place c.args.indent c.args.at c.args.text.now c.plain_from.result c.requires (rw (to_z-of_z w64 c.args.indent c.ranges.indent) at c.plain_from.ensures)
+returns-clause-given c = plain_given c.args.place c.args.indent c.args.at c.args.text.now c.plain_from.result c.requires (rw (to_z-of_z w64 c.args.indent c.ranges.indent) at c.plain_from.ensures.read)

@@ -3,7 +3,7 @@ use Rattle.yq_scalar.proofs.QuotedPieceLaws.{only_by}
 use Rattle.yq_scalar.proofs.quoted_piece.read_quoted.Goals as goal
 
 pub returns-clause-only : goal.returns-clause-only
-returns-clause-only c = only_by c.args.at c.args.text.now c.quoted_from.result c.quoted_from.ensures
+returns-clause-only c = only_by c.args.at c.args.text.now c.quoted_from.result c.quoted_from.ensures.read
 
 pub returns-clause-given : goal.returns-clause-given
-returns-clause-given c = quoted_given c.args.at c.args.text.now c.quoted_from.result c.requires c.quoted_from.ensures
+returns-clause-given c = quoted_given c.args.at c.args.text.now c.quoted_from.result c.requires c.quoted_from.ensures.read

@@ -1,4 +1,4 @@
-use Rattle.std.proofs.Common.{◌≡◌, ◌++◌, ℕ, List, [], sym, ap, ◌∙◌, bytes_eq}
+use Rattle.std.proofs.Common.{◌++◌, ℕ, List, [], ap, ◌∙◌, bytes_eq}
 use Rattle.yq_scalar.specs.ContentReading.{content_on, before_of, within}
 use Rattle.yq_scalar.specs.Folded.{folded_text}
 use Rattle.yq_scalar.specs.Plain.{no_gap}
