@@ -21,6 +21,7 @@ pub mod ReadLaws
 pub mod ExactReading
 pub mod ReadyLaws
 pub mod LengthLaws
+pub mod FirstLevels
 pub mod CommentPieceLaws
 pub mod CommentSpans
 pub mod CommentHolds

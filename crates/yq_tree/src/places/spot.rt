@@ -53,6 +53,9 @@ pub(crate) fn level_at(rows: &Rows<'_>, spot: Spot) -> usize
     requires shown { IsShown rows.now }
     ensures { (x : Slices) → slice_get rows.now.rows spot.row ≡ Some x → result ≡ spec.line_level spot.line x }
 {
+    if spot.line == 0 {
+        return rows.level(spot.row);
+    }
     line_level(&rows.row(spot.row), spot.line)
 }
 
