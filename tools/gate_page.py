@@ -87,8 +87,8 @@ def cell(number):
     return f"{number:,}" if number else ""
 
 
-def write(rows):
-    """Writes the page of these rows."""
+def write(rows, total):
+    """Writes the page of these rows, and of what `rt ci` took in all."""
     lines = ["| Crate | Proof | By the clock | Tests | Wrong bodies | All | Day |", "|---|---|---|---|---|---|---|"]
     for crate, row in rows.items():
         proof, tests, edits = (cell(row.seconds.get(kind, 0)) for kind in KINDS)
@@ -96,4 +96,5 @@ def write(rows):
     proof, tests, edits = (cell(sum(row.seconds.get(kind, 0) for row in rows.values())) for kind in KINDS)
     lines.append(f"| All | {proof} | | {tests} | {edits} | {cell(sum(row.all() for row in rows.values()))} | |")
     with open(PAGE, "w", encoding="utf-8") as page:
-        page.write(HEAD + "\n".join(lines) + "\n\n" + chain_line(rows, "`") + ".\n")
+        last = max((row.day for row in rows.values()), default="")
+        page.write(HEAD + "\n".join(lines) + f"\n\nThe last run, of {last}, {total}.\n\n{chain_line(rows, '`')}.\n")

@@ -97,8 +97,15 @@ def anchors(page):
     return {re.sub(r"[^\w -]", "", head).replace(" ", "-") for head in heads}
 
 
+def pages():
+    """The pages of the repository."""
+    of_docs = [f"docs/{name}" for name in sorted(os.listdir(os.path.join(ROOT, "docs")))]
+    of_crates = [f"crates/{name}/README.md" for name in sorted(os.listdir(os.path.join(ROOT, "crates")))]
+    return ["README.md", "CONTRIBUTING.md", "CHANGELOG.md", "SECURITY.md", *of_docs, *of_crates]
+
+
 def check_links_lead_somewhere(_folder):
-    for page in ("README.md", "CONTRIBUTING.md", "CHANGELOG.md", *(f"docs/{name}" for name in sorted(os.listdir(os.path.join(ROOT, "docs"))))):
+    for page in pages():
         for link in LINK.findall("\n".join(lines_of(page))):
             if "://" not in link:
                 path, _, anchor = link.partition("#")
