@@ -42,6 +42,7 @@ pub mod WalkEnds
 pub mod WalkLevels
 pub mod WalkRows
 pub mod WalkSpots
+pub mod WalkLines
 pub mod WalkNodes
 pub mod WrittenLaws
 pub mod UnderExchange
