@@ -1,8 +1,10 @@
-# make test: the whole gate: every proof from nothing, wrong bodies, tests, and the program on real files.
-# make ready: layout, links, stray sources, definitions without a section, and wrong bodies that can't be applied, in some seconds.
-# make demo: one edit and its undo.
+# make test: the whole gate: every proof from nothing, wrong bodies, tests, and the program on real files; ANEW=1: also what is kept.
+# make ready: layout, links, stray sources, definitions without a section, wide clauses, wrong bodies that can't be applied and versions
+#   that differ, in some seconds.
+# make look: an edit printed by the program as it is before any proof, in some two minutes.
+# make demo: one edit and its undo, once all is proved.
 # make install, make uninstall: the program, its man page, pages for users and completions below PREFIX, or not.
-# make dist: an archive of these for those who don't build.
+# make dist: an archive of these for those who don't build, dist/yq-VERSION-linux-x86_64.tar.gz.
 # make wrong-bodies CRATES="yq_rows yq_tree": the wrong bodies that the gate doesn't try; all crates where none is named.
 # make corpus DIR=FOLDER: edits and their undo in a copy of each YAML file of a folder.
 # make bench: time, instructions and memory of reading, editing and parsing; DIR=FOLDER names a folder of YAML files to be read too.
@@ -21,20 +23,23 @@ ZSH_WORDS := $(PLACE)/share/zsh/site-functions/_yq
 DOC := $(PLACE)/share/doc/yq
 PAGES := MANUAL.md FROM-YQ-V4.md EXPRESSIONS.md TEXT.md STYLE-AND-EXTENTS.md JOURNAL.md
 
-.PHONY: test ready wrong-bodies demo install uninstall dist bench corpus no-folder clean
+.PHONY: test ready wrong-bodies look demo install uninstall dist bench corpus no-folder clean
 
 $(YQ): $(SOURCES)
 	python3 tools/build.py
 	@touch $(YQ)
 
 test:
-	python3 tools/gate.py $(YQ)
+	python3 tools/gate.py $(YQ) $(if $(ANEW),--anew)
 
 ready:
 	@python3 tools/ready.py
 
 wrong-bodies:
 	python3 tools/wrong_bodies.py $(CRATES)
+
+look:
+	@sh examples/look.sh
 
 demo: $(YQ)
 	@sh examples/demo.sh $(YQ) examples/server.yaml

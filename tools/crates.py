@@ -3,7 +3,6 @@
 import os
 import re
 import resource
-import subprocess
 import time
 
 ROOT = os.path.dirname(os.path.dirname(os.path.abspath(__file__)))
@@ -58,14 +57,6 @@ def that_fit(memory):
 
 def folder(crate):
     return os.path.join(ROOT, "crates", crate)
-
-
-def build(crate, *words):
-    """Runs the toolchain in a crate's folder and tells whether it ended well; if it did not, prints what it said."""
-    done = subprocess.run([*RT, *words], cwd=folder(crate), stdout=subprocess.PIPE, stderr=subprocess.STDOUT, encoding="utf-8", errors="replace")
-    if done.returncode:
-        print(done.stdout, end="", flush=True)
-    return done.returncode == 0
 
 
 def kept_by_host():

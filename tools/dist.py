@@ -1,6 +1,7 @@
-"""Makes the archive for those who don't build: what `make install` puts below a prefix, a short README, the demo and checksums.
+"""Makes the archive for those who don't build: what `make install` puts below a prefix, a short README, the demo, the notices of the
+toolchain's libraries and checksums.
 
-usage: dist.py PATH_OF_YQ FOLDER      writes FOLDER/yq-linux-x86_64.tar.gz
+usage: dist.py PATH_OF_YQ FOLDER      writes FOLDER/yq-VERSION-linux-x86_64.tar.gz
 
 The same files give the same bytes.
 """
@@ -14,8 +15,11 @@ import sys
 import tarfile
 import tempfile
 
-ROOT = os.path.dirname(os.path.dirname(os.path.abspath(__file__)))
-NAME = "yq-linux-x86_64"
+from crates import ROOT
+from notices import notices
+from version import version
+
+NAME = f"yq-{version()}-linux-x86_64"
 ADDED = ("examples/demo.sh", "examples/server.yaml")
 README = """\
 # yq: edit YAML files in place, with undo
@@ -35,7 +39,8 @@ show that it is whole and works.
 Pages, in share/doc/yq: the [manual](share/doc/yq/MANUAL.md) has an example for each task;
 [FROM-YQ-V4](share/doc/yq/FROM-YQ-V4.md) is for who knows yq version 4; [EXPRESSIONS](share/doc/yq/EXPRESSIONS.md),
 [TEXT](share/doc/yq/TEXT.md), [STYLE-AND-EXTENTS](share/doc/yq/STYLE-AND-EXTENTS.md) and [JOURNAL](share/doc/yq/JOURNAL.md) tell all
-of the language, of the texts that are read, of what an edit writes, and of the journal.
+of the language, of the texts that are read, of what an edit writes, and of the journal. NOTICES has the terms of the libraries of
+which the program contains code.
 """
 
 
@@ -53,12 +58,14 @@ def files_below(top):
 
 
 def add_pages(top):
-    """Adds the README and the demo."""
+    """Adds the README, the notices and the demo."""
     for name in ADDED:
         os.makedirs(os.path.dirname(os.path.join(top, name)), exist_ok=True)
         shutil.copy(os.path.join(ROOT, name), os.path.join(top, name))
     with open(os.path.join(top, "README.md"), "w", encoding="utf-8") as page:
         page.write(README)
+    with open(os.path.join(top, "NOTICES"), "w", encoding="utf-8") as page:
+        page.write(notices())
 
 
 def add_sums(top):

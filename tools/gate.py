@@ -1,10 +1,11 @@
 """The whole gate: `rt ci`, with a line as each crate's proof, tests and wrong bodies begin and end, and then the program on real files.
 
-usage: gate.py PATH_OF_YQ
+usage: gate.py PATH_OF_YQ [--anew]      with --anew, `rt ci` takes nothing that an earlier run passed
 
-Where `rt ci` doesn't pass, the reasons are told once more at the end: what the prover says of each crate that is not proved, and
-each wrong body that is not refused. Else the last two lines are the processor seconds (user and system) that all of it took, and
-what tests/cli says last, or that it said nothing.
+Where `rt ci` passes, a table tells what each crate took, or has taken where it was kept, and the longest chain of proofs; the page
+docs/GATE.md gets both. Where it doesn't pass, the reasons are told once more at the end: what the prover says of each crate that is
+not proved, and each wrong body that is not refused. Else the last two lines are the processor seconds (user and system) that all of
+it took, and what tests/cli says last, or that it said nothing.
 The status is that of `rt ci`, or of tests/cli where `rt ci` passed.
 """
 
@@ -17,11 +18,11 @@ import sys
 import threading
 import time
 
-from crates import ROOT, RT, kept_by_host, libraries, took
+from crates import ROOT, RT, kept_by_host, took
+from gate_page import chain_line, rows_of_page, table, with_tasks, write
 from reasons import Reasons
-from watch import EDITS, PROOF, TESTS, Watch
+from watch import PROOF, TESTS, Watch
 
-KINDS = PROOF, TESTS, EDITS
 VERDICT = re.compile(r"rt: (\w+)(: its tests are)? (NOT PROVED|proved)")
 BEGAN, KEPT = time.monotonic(), kept_by_host()
 
@@ -63,21 +64,22 @@ def each_line(stream):
         yield line
 
 
-def table(tasks):
-    """The processor seconds of each crate, as they were seen each second."""
-    rows = []
-    for crate in libraries():
-        seconds = [tasks[crate, kind].seconds() if (crate, kind) in tasks else 0 for kind in KINDS]
-        rows.append((crate, *seconds, sum(seconds)))
-    rows.append(("all", *(sum(row[at] for row in rows) for at in range(1, 5))))
-    lines = [f"{'processor seconds':20}" + "".join(f"{it:>14}" for it in (*KINDS, "all"))]
-    return lines + [f"{row[0]:20}" + "".join(f"{it:14.0f}" for it in row[1:]) for row in rows]
+def tell_times(tasks):
+    """Prints what each crate took, and the longest chain, and writes the page of these where something was done."""
+    rows, done = with_tasks(rows_of_page(), tasks)
+    for line in [*table(rows, done), chain_line(rows)]:
+        say(line)
+    if done:
+        try:
+            write(rows, took(BEGAN, KEPT))
+        except OSError as why:
+            say(f"the page of the gate isn't written: {why}")
 
 
-def prove():
+def prove(anew):
     """Runs `rt ci`, passes its lines on, and gives its status, what was seen of its checks, and why it failed."""
     how = {"cwd": ROOT, "stdout": subprocess.PIPE, "stderr": subprocess.STDOUT, "encoding": "utf-8", "errors": "replace"}
-    rt = subprocess.Popen([*RT, "ci"], **how)
+    rt = subprocess.Popen([*RT, "ci", *anew], **how)
     watch, reasons = Watch(rt.pid, begins, ends), Reasons()
     try:
         for line in each_line(rt.stdout):
@@ -120,16 +122,15 @@ def run_program(yq):
 
 
 def main(words):
-    if len(words) != 1:
+    if not words or words[1:] not in ([], ["--anew"]):
         print(__doc__.strip(), file=sys.stderr)
         return 2
     sys.stdout.reconfigure(errors="replace")
     signal.signal(signal.SIGTERM, lambda *_: sys.exit(143))
-    status, tasks, reasons = prove()
+    status, tasks, reasons = prove(words[1:])
     end = reasons.told()
     if status == 0:
-        for line in table(tasks):
-            say(line)
+        tell_times(tasks)
         status, last = run_program(words[0])
         end = [last or f"tests/cli said nothing, and ended with status {status}"]
     say(took(BEGAN, KEPT))

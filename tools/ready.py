@@ -1,5 +1,5 @@
 """Looks at what needs no proof: whether the sources are in the layout of `rt fmt`, links, sources that no check reads, definitions
-whose comments name no section, and wrong bodies of both tiers that can't be applied.
+whose comments name no section, clauses that are too wide, wrong bodies of both tiers that can't be applied, and versions that differ.
 
 usage: ready.py
 
@@ -14,8 +14,10 @@ import subprocess
 import sys
 import tempfile
 
+from clauses import too_wide
 from crates import ROOT, RT, libraries
 from edits import hindrance, names_in
+from version import other_versions
 
 # Where a crate's sources stand, by their ending.
 PLACES = {".rt": ("src",), ".antt": ("specs", "proofs")}
@@ -100,7 +102,7 @@ def main(words):
     try:
         copy = os.path.join(room, "copy")
         shutil.copytree(ROOT, copy, symlinks=True, ignore=LEFT)
-        found = [*misplaced(copy), *badly_laid(copy), *untold_definitions(copy), *not_applied()]
+        found = [*misplaced(copy), *badly_laid(copy), *untold_definitions(copy), *too_wide(), *not_applied(), *other_versions()]
     finally:
         shutil.rmtree(room, ignore_errors=True)
     for it in found:

@@ -16,13 +16,13 @@ import signal
 import subprocess
 import sys
 import tempfile
-import threading
 import time
 from concurrent.futures import ThreadPoolExecutor
 
 from build import MEMORY, build_all
 from crates import ROOT, RT, folder, kept_by_host, libraries, that_fit, took
 from edits import hindrance, names_in
+from runs import Runs
 
 BEGAN, KEPT = time.monotonic(), kept_by_host()
 # A wrong body takes about as long as the proof of so many lines of code.
@@ -66,27 +66,6 @@ def work(crate):
             with open(os.path.join(top, name), "rb") as text:
                 lines += text.read().count(b"\n")
     return lines + LINES * len(names_in(crate))
-
-
-class Runs:
-    """Processes that end with this one."""
-
-    def __init__(self):
-        self.lock, self.all, self.is_over = threading.Lock(), [], False
-
-    def start(self, words, **how):
-        with self.lock:
-            if self.is_over:
-                raise InterruptedError
-            self.all.append(subprocess.Popen(words, **how))
-            return self.all[-1]
-
-    def end(self):
-        with self.lock:
-            self.is_over = True
-            for run in self.all:
-                if run.poll() is None:
-                    run.terminate()
 
 
 def tried(crate, copy, runs):

@@ -29,6 +29,18 @@ def helped(folder):
     return commands, options
 
 
+def version_told(folder):
+    """The version that help tells of."""
+    return re.search(r"^Version: +(\S+)$", folder.accepts("--help").decode(), re.MULTILINE)[1]
+
+
+def check_the_version_is_that_of_the_man_page_and_the_changes(folder):
+    version = version_told(folder)
+    equal(re.findall(r"^\.Os yq (\S+)$", man_page(), re.MULTILINE), [version])
+    heads = [line.split()[1] for line in lines_of("CHANGELOG.md") if line.startswith("## ")]
+    equal(heads[0], version)
+
+
 def man_page():
     return "\n".join(lines_of(MAN))
 
@@ -85,8 +97,15 @@ def anchors(page):
     return {re.sub(r"[^\w -]", "", head).replace(" ", "-") for head in heads}
 
 
+def pages():
+    """The pages of the repository."""
+    of_docs = [f"docs/{name}" for name in sorted(os.listdir(os.path.join(ROOT, "docs")))]
+    of_crates = [f"crates/{name}/README.md" for name in sorted(os.listdir(os.path.join(ROOT, "crates")))]
+    return ["README.md", "CONTRIBUTING.md", "CHANGELOG.md", "SECURITY.md", *of_docs, *of_crates]
+
+
 def check_links_lead_somewhere(_folder):
-    for page in ("README.md", "CONTRIBUTING.md", *(f"docs/{name}" for name in sorted(os.listdir(os.path.join(ROOT, "docs"))))):
+    for page in pages():
         for link in LINK.findall("\n".join(lines_of(page))):
             if "://" not in link:
                 path, _, anchor = link.partition("#")

@@ -1,6 +1,7 @@
 """A folder of its own for each check, and the program run in it."""
 
 import os
+import random
 import shutil
 import stat
 import subprocess
@@ -114,6 +115,11 @@ def equal(seen, wanted, what=""):
 def shown(value):
     text = repr(value)
     return text if len(text) < 400 else text[:400] + ".."
+
+
+def seed_of_run():
+    """The seed of what is tried at random: YQ_SEED of the environment, else another one in each run."""
+    return os.environ.get("YQ_SEED") or random.SystemRandom().randrange(10**9)
 
 
 class Tally:

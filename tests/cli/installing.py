@@ -2,15 +2,15 @@
 
 import hashlib
 import os
+import re
 import shutil
 import subprocess
 import sys
 import tarfile
 
-from guides import LINK
+from guides import LINK, version_told
 from harness import ROOT, SECONDS, Skip, equal
 
-ARCHIVE = "yq-linux-x86_64"
 PAGES = ("MANUAL", "FROM-YQ-V4", "EXPRESSIONS", "TEXT", "STYLE-AND-EXTENTS", "JOURNAL")
 INSTALLED = {
     "bin/yq": 0o755,
@@ -20,7 +20,7 @@ INSTALLED = {
     "share/zsh/site-functions/_yq": 0o644,
     **{f"share/doc/yq/{page}.md": 0o644 for page in PAGES},
 }
-ADDED = {"README.md", "SHA256SUMS", "examples/demo.sh", "examples/server.yaml"}
+ADDED = {"README.md", "NOTICES", "SHA256SUMS", "examples/demo.sh", "examples/server.yaml"}
 
 
 def run(folder, *words, cwd=ROOT, **environment):
@@ -68,12 +68,21 @@ def check_install_below_another_root(folder):
     equal(files_below(folder.name("root")), {f"usr/{name}" for name in INSTALLED})
 
 
+def packed(folder, to):
+    """The path of the archive, less its ending, made in a new folder."""
+    if shutil.which("rt") is None:
+        raise Skip("needs rt, beside which the notices stand")
+    os.mkdir(folder.name(to))
+    run(folder, sys.executable, os.path.join("tools", "dist.py"), folder.yq, folder.name(to))
+    return os.path.join(folder.name(to), f"yq-{version_told(folder)}-linux-x86_64")
+
+
 def unpacked(folder):
     """The archive, unpacked in an empty folder."""
-    run(folder, sys.executable, os.path.join("tools", "dist.py"), folder.yq, folder.path)
+    archive = packed(folder, "packed")
     os.mkdir(folder.name("empty"))
-    run(folder, "tar", "-xzf", folder.name(f"{ARCHIVE}.tar.gz"), cwd=folder.name("empty"))
-    return folder.name(f"empty/{ARCHIVE}")
+    run(folder, "tar", "-xzf", f"{archive}.tar.gz", cwd=folder.name("empty"))
+    return os.path.join(folder.name("empty"), os.path.basename(archive))
 
 
 def check_the_archive_is_whole(folder):
@@ -98,6 +107,13 @@ def check_the_links_of_the_archive_lead_to_its_files(folder):
                 equal(os.path.isfile(os.path.join(top, os.path.dirname(name), link)), True, (name, link))
 
 
+def check_the_archive_has_the_terms_of_the_libraries(folder):
+    with open(os.path.join(unpacked(folder), "NOTICES"), encoding="utf-8") as text:
+        notices = text.read()
+    for name in ("clap", "serde_json", "memchr", "smallvec"):
+        equal(re.search(rf"^.*\b{name}\b.*\n={{80}}\n", notices, re.MULTILINE) is not None, True, name)
+
+
 def check_the_archive_works_alone(folder):
     top = unpacked(folder)
     run(folder, "sh", "examples/demo.sh", "bin/yq", "examples/server.yaml", cwd=top)
@@ -110,12 +126,10 @@ def check_the_archive_works_alone(folder):
 
 
 def check_the_archive_is_the_same_each_time(folder):
-    archives = []
-    for name in ("one", "two"):
-        os.mkdir(folder.name(name))
-        run(folder, sys.executable, os.path.join("tools", "dist.py"), folder.yq, folder.name(name))
-        with open(folder.name(f"{name}/{ARCHIVE}.tar.gz"), "rb") as file:
+    names, archives = [f"{packed(folder, name)}.tar.gz" for name in ("one", "two")], []
+    for name in names:
+        with open(name, "rb") as file:
             archives.append(file.read())
     equal(archives[0] == archives[1], True)
-    with tarfile.open(folder.name(f"one/{ARCHIVE}.tar.gz")) as archive:
+    with tarfile.open(names[0]) as archive:
         equal({(member.uid, member.gid, member.mtime) for member in archive}, {(0, 0, 0)})

@@ -1,8 +1,9 @@
-"""What only real files show, tables of worked rows and the examples of the pages: runs the program on files in temporary
-folders.
+"""What only real files show, tables of worked rows, files of real forms, mutated texts and the examples of the pages: runs the
+program on files in temporary folders.
 
 usage: run.py PATH_OF_YQ [WORD]      with WORD, only the checks and rows whose names hold it
-Its last line is `N passed, N failed` (and `, N skipped` where the machine lacks what a check needs).
+Mutated texts and random edits of real forms have another seed in each run, which is printed; YQ_SEED in the environment sets it. Its
+last line is `N passed, N failed` (and `, N skipped` where the machine lacks what a check needs).
 """
 
 import os
@@ -15,11 +16,13 @@ import cuts
 import disks
 import edits
 import failures
+import forms
 import guides
 import installing
 import leftovers
 import links
 import memory
+import mutations
 import owners
 import random_edits
 import reads
@@ -34,7 +37,7 @@ from tables import run_tables
 
 CHECKS = [
     edits, words, completions, guides, installing, failures, links, owners, strangers, leftovers, disks, reads, shells,
-    random_edits, together, saves, cuts, memory,
+    random_edits, forms, mutations, together, saves, cuts, memory,
 ]
 
 sys.exit(run_all(CHECKS, [run_tables, run_pages], sys.argv))

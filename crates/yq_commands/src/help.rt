@@ -38,6 +38,7 @@ Examples:
 Values:           \"text\" 8080 0.5 true null [1, \"b\"] {\"key\": 1} .other.path
 Selected places:  yq -i '(.jobs[] | select(.name == \"ship\") | .when) = \"tag\"' ci.yaml
 Codes (E1, Y9):   man yq, DIAGNOSTICS
+Version:          0.1.0
 ";
 
 /// Shows the help.

@@ -7,6 +7,7 @@ pub mod NodeLaws
 pub mod Bounds
 pub mod Steps
 pub mod Loops
+pub mod MeasureSteps
 pub mod InlineLaws
 pub mod WrittenLaws
 pub mod TreeLaws

@@ -12,6 +12,7 @@ pub mod Reading
 pub mod Places
 pub mod PlacedReading
 pub mod Inline
+pub mod Measured
 pub mod View
 pub mod Values
 pub mod Written

@@ -5,6 +5,7 @@ mod fault;
 mod gap;
 mod inline;
 mod laws;
+pub mod measuring;
 mod path;
 pub mod pieces;
 mod read;

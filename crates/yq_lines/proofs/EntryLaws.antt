@@ -1,9 +1,9 @@
 -- What is asked of the lines of a collection, by their indexes.
-use Rattle.std.proofs.Common.{◌≡◌, ℕ, suc, ◌+◌, ◌<◌, ltb, List, [], Option, Some, None, is_some, is_none, Bool, true, false, not, ◌&&◌, cond, ◌⊎◌, inl, inr, refl, sym, ap, ◌∙◌, arith, append-nil}
-use Rattle.std.proofs.lemmas.Bool.{ltb-true, le-leb, ne_eqb, cases_eq, false≢true}
+use Rattle.std.proofs.Common.{◌≡◌, ℕ, suc, ◌+◌, ◌<◌, ltb, List, [], Option, Some, None, is_some, is_none, Bool, true, false, not, ◌&&◌, cond, refl, sym, ap, ◌∙◌, arith, append-nil}
+use Rattle.std.proofs.lemmas.Bool.{ltb-true, le-leb, false≢true}
 use Rattle.std.specs.List.{slice_get}
 use Rattle.yq_lines.specs.Outline.{Mark, Bare, Key, Dash, Line, level, Outline, end, row}
-use Rattle.yq_lines.specs.Group.{deeper, group, is_open, level_or}
+use Rattle.yq_lines.specs.Group.{deeper, group, level_or}
 use Rattle.yq_lines.specs.Ends.{part, is_end, IsEndOf}
 use Rattle.yq_lines.specs.Sound.{is_sound, head_is_sound, line_is_sound, is_entry}
 use Rattle.yq_scalar.specs.Keys.{are_distinct}
@@ -38,33 +38,34 @@ module _ (ls : List Line) (start floor depth : ℕ) (l : Line) (is : slice_get l
       ∙ (sound_bare depth l _ _ mark ∙ ap (λ b. (is_some l.head && b) && head_is_sound depth l.head) (lone (level l) floor (group _) first_lt))
 
 -- one line, with those under it and those behind it
-pub one_line : (ls : List Line) (at floor next d n : ℕ) (keys : List (List ℕ)) (l : Line) → slice_get ls at ≡ Some l → true ≡ not (is_end (part ls at floor)) → IsEndOf ls at next → IsEntryLevel n →
+one_line : (ls : List Line) (at floor next d n : ℕ) (keys : List (List ℕ)) (l : Line) → slice_get ls at ≡ Some l → true ≡ not (is_end (part ls at floor)) → IsEndOf ls at next → IsEntryLevel n →
     asked d n keys (part ls at floor) ≡ (line_is_sound d n l (part ls (at + 1) (level l)) && (is_sound d (part ls (at + 1) (level l)) && asked d n (keys_with keys l.mark) (part ls next floor)))
 one_line ls at floor next d n keys l is deep ends entries =
     let lt = deeper_line ls at floor l is (not_end _ deep) in
     ap (asked d n keys) (row_parts ls at floor next l is lt (ends.2 l is))
     ∙ asked_line d n keys l (part ls (at + 1) (level l)) (part ls next floor) entries (first_deeper (level l) (level l + 1) (group _) (omega arith))
 
--- a line that fails
-line_fails : (all x y z : Bool) → all ≡ (x && (y && z)) → false ≡ x → false ≡ all
-line_fails all true y z is e = absurd (false≢true e)
-line_fails all false y z is e = sym is
+-- a line that fails, or under which lines fail
+both_fail : (all x y z : Bool) → all ≡ (x && (y && z)) → false ≡ (x && y) → false ≡ all
+both_fail all true true z is e = absurd (false≢true e)
+both_fail all true false z is e = sym is
+both_fail all false y z is e = sym is
 
 pub one_fails : (ls : List Line) (at floor next d n : ℕ) (keys : List (List ℕ)) (l : Line) → slice_get ls at ≡ Some l → true ≡ not (is_end (part ls at floor)) → IsEndOf ls at next → IsEntryLevel n →
-    (all : Bool) → all ≡ asked d n keys (part ls at floor) → false ≡ line_is_sound d n l (part ls (at + 1) (level l)) → false ≡ all
+    (all : Bool) → all ≡ asked d n keys (part ls at floor) → false ≡ (line_is_sound d n l (part ls (at + 1) (level l)) && is_sound d (part ls (at + 1) (level l))) → false ≡ all
 one_fails ls at floor next d n keys l is deep ends entries all so_far e =
-    line_fails all (line_is_sound d n l (part ls (at + 1) (level l))) (is_sound d (part ls (at + 1) (level l))) (asked d n (keys_with keys l.mark) (part ls next floor)) (so_far ∙ one_line ls at floor next d n keys l is deep ends entries) e
+    both_fail all (line_is_sound d n l (part ls (at + 1) (level l))) (is_sound d (part ls (at + 1) (level l))) (asked d n (keys_with keys l.mark) (part ls next floor)) (so_far ∙ one_line ls at floor next d n keys l is deep ends entries) e
 
--- a line under which lines fail
-pub under_fails : (all x y z : Bool) → all ≡ (x && (y && z)) → true ≡ x → false ≡ y → false ≡ all
-under_fails all true true z is e f = absurd (false≢true f)
-under_fails all true false z is e f = sym is
-under_fails all false y z is e f = absurd (false≢true (sym e))
+-- a line that passes, under which lines pass
+both_pass : (all x y z : Bool) → all ≡ (x && (y && z)) → true ≡ (x && y) → all ≡ z
+both_pass all true true z is e = is
+both_pass all true false z is e = absurd (false≢true (sym e))
+both_pass all false y z is e = absurd (false≢true (sym e))
 
-pub both_pass : (all x y z : Bool) → all ≡ (x && (y && z)) → true ≡ x → true ≡ y → all ≡ z
-both_pass all true true z is e f = is
-both_pass all true false z is e f = absurd (false≢true (sym f))
-both_pass all false y z is e f = absurd (false≢true (sym e))
+pub one_passes : (ls : List Line) (at floor next d n : ℕ) (keys : List (List ℕ)) (l : Line) → slice_get ls at ≡ Some l → true ≡ not (is_end (part ls at floor)) → IsEndOf ls at next → IsEntryLevel n →
+    (all : Bool) → all ≡ asked d n keys (part ls at floor) → true ≡ (line_is_sound d n l (part ls (at + 1) (level l)) && is_sound d (part ls (at + 1) (level l))) → all ≡ asked d n (keys_with keys l.mark) (part ls next floor)
+one_passes ls at floor next d n keys l is deep ends entries all so_far e =
+    both_pass all (line_is_sound d n l (part ls (at + 1) (level l))) (is_sound d (part ls (at + 1) (level l))) (asked d n (keys_with keys l.mark) (part ls next floor)) (so_far ∙ one_line ls at floor next d n keys l is deep ends entries) e
 
 -- behind the last line the keys are left to ask of
 pub no_more : (d n : ℕ) (keys : List (List ℕ)) (o : Outline) → false ≡ not (is_end o) → asked d n keys o ≡ are_distinct keys
@@ -76,14 +77,6 @@ pub bare_mark : (m : Mark) → false ≡ is_entry m → m ≡ Bare
 bare_mark Bare e = refl
 bare_mark (Key k) e = absurd (false≢true e)
 bare_mark Dash e = absurd (false≢true e)
-
--- a line that passes is at the level of its collection
-pub at_level : (d n : ℕ) (l : Line) (u : Outline) → true ≡ line_is_sound d n l u → level l ≡ n
-at_level d n l u e = go (cases_eq (level l) n)
-  where
-    go : (level l ≡ n) ⊎ (level l ≡ n → ⊥) → level l ≡ n
-    go (inl is) = is
-    go (inr other) = absurd (false≢true (sym (e ∙ ap (λ b. b && (is_open l.head u && head_is_sound d l.head)) (ne_eqb (level l) n other))))
 
 -- nothing was found
 pub nothing_found : {A : Type 0} (o : Option A) → ((x : A) → o ≡ Some x → ⊥) → true ≡ is_none o

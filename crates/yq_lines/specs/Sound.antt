@@ -35,6 +35,10 @@ are_sound d cs = nat_le (deepest cs) d && each_has_unique_keys cs
 abbrev pub line_is_sound : ℕ → ℕ → Line → Outline → Bool
 line_is_sound d n l under = nat_eq (level l) n && (is_open l.head under && head_is_sound d l.head)
 
+-- the same of a line and of the lines under it
+abbrev pub are_sound_under : ℕ → ℕ → Line → Outline → Bool
+are_sound_under d n l under = line_is_sound d n l under && is_sound d under
+
 -- whether a line begins an item or an entry, and is no node itself
 abbrev pub is_entry : Mark → Bool
 is_entry Bare = false

@@ -73,29 +73,6 @@ fn misplaced(line: &Line<'_>, n: usize) -> FaultKind
     }
 }
 
-/// What is at fault in a line of a collection: it is to stand at the collection's level, to have no head
-/// where lines are under it, and a head that is sound.
-fn line_fault(
-    alloc: Global,
-    lines: &[Line<'_>],
-    at: usize,
-    n: usize,
-    depth: usize,
-) -> Result<Option<Flaw>, AllocError>
-    requires { at < length lines.now }
-    ensures sound { IfOk result (λ f. (l : outline.Line) → slice_get (views lines.now) at ≡ Some l → is_none f ≡ spec.line_is_sound depth n l (part (views lines.now) (at + 1) (outline.level l))) }
-    ensures fault { IfOk result (λ f. IfSome f (λ x. x.kind ≢ NotUtf8)) }
-{
-    let line = &lines[at];
-    if level(line) != n {
-        return Ok(Some(Flaw::of_line(at, misplaced(line, n))));
-    }
-    if has_head(&line.head) && is_deeper(lines, at + 1, n) {
-        return Ok(Some(Flaw::of_line(at + 1, FaultKind::BadIndent)));
-    }
-    head_fault(alloc, &line.head, depth)
-}
-
 /// Adds the key of a line, if it has one.
 fn push_key<'k>(keys: &mut Keys<'k>, mark: &'k Mark<'_>) -> Result<(), AllocError>
     ensures { OnOk result (map (λ k. k.now) keys.new.items ≡ map (λ k. k.now) keys.old.items ++ with_key (outline.key_of (mark_view mark.now)) []) }
@@ -136,8 +113,40 @@ fn repeated_line(
     Ok(start)
 }
 
+/// What is at fault in a line of a collection and in the lines under it: it is to stand at the collection's
+/// level, to have no head where lines are under it, and a head that is sound.
+#[cycle(sound)]
+fn line_fault(
+    alloc: Global,
+    lines: &[Line<'_>],
+    ends: &[usize],
+    at: usize,
+    n: usize,
+    depth: usize,
+) -> Result<Option<Flaw>, AllocError>
+    requires within { at < length lines.now }
+    requires each { length ends.now ≡ length lines.now }
+    requires ends { AreEndsFrom 0 (views lines.now) ends.now }
+    ensures sound { IfOk result (λ f. (l : outline.Line) → slice_get (views lines.now) at ≡ Some l →
+        is_none f ≡ spec.are_sound_under depth n l (part (views lines.now) (at + 1) (outline.level l))) }
+    ensures fault { IfOk result (λ f. IfSome f (λ x. x.kind ≢ NotUtf8)) }
+{
+    let line = &lines[at];
+    if level(line) != n {
+        return Ok(Some(Flaw::of_line(at, misplaced(line, n))));
+    }
+    if !is_deeper(lines, at + 1, n) {
+        return head_fault(alloc, &line.head, depth);
+    }
+    if has_head(&line.head) {
+        return Ok(Some(Flaw::of_line(at + 1, FaultKind::BadIndent)));
+    }
+    find_flaw(alloc, lines, ends, at + 1, n, depth)
+}
+
 /// What is at fault in the lines from a place on that are deeper than a level: they are to be the items
 /// or entries of one collection, in which at most so many are nested, or one node.
+#[cycle(sound)]
 pub(crate) fn find_flaw(
     alloc: Global,
     lines: &[Line<'_>],
@@ -165,10 +174,7 @@ pub(crate) fn find_flaw(
     let mut keys = Keys::new(alloc);
     let mut at = start;
     'lines: while is_deeper(lines, at, floor) {
-        if let Some(flaw) = line_fault(alloc, lines, at, n, depth - 1)? {
-            return Ok(Some(flaw));
-        }
-        if let Some(flaw) = find_flaw(alloc, lines, ends, at + 1, n, depth - 1)? {
+        if let Some(flaw) = line_fault(alloc, lines, ends, at, n, depth - 1)? {
             return Ok(Some(flaw));
         }
         let line = &lines[at];

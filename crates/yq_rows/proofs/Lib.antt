@@ -28,6 +28,7 @@ pub mod SliceLaws
 pub mod FrontLaws
 pub mod BeginSteps
 pub mod InlineLending
+pub mod MeasuredLending
 pub mod BlockLending
 pub mod RowLending
 pub mod PartLending
@@ -40,3 +41,11 @@ pub mod EmptyTexts
 pub mod RowPlaces
 pub mod seams
 pub mod splices
+pub mod ItemLaws
+pub mod ItemCuts
+pub mod RegionLaws
+pub mod MeterLaws
+pub mod ItemSpliceLaws
+pub mod KeptLaws
+pub mod NearLaws
+pub mod RegionEnds

@@ -1,9 +1,11 @@
 -- The pieces of a row, one behind the other, are the row.
-use Rattle.std.proofs.Common.{◌≡◌, ℕ, List, [], ◌∷◌, ◌++◌, Some, None, refl, sym, ap, ◌∙◌, append_assoc, replicate}
+use Rattle.std.proofs.Common.{◌≡◌, ℕ, ◌+◌, List, [], ◌∷◌, ◌++◌, length, Some, None, refl, sym, ap, ◌∙◌, arith, append_assoc, length-append, replicate}
+use Rattle.std.proofs.lemmas.List.{length-replicate}
 use Rattle.yq_inline.specs.Nodes.{Node, empty, alias, scalar, coll, anchored, node_text}
 use Rattle.yq_inline.proofs.WrittenLaws.{node_then}
+use Rattle.yq_rows.specs.Offsets.{row_length}
 use Rattle.yq_rows.specs.Rows.{Mark, Bare, Dash, Key, Content, Nothing, Inline, Block, dashes_text, mark_text, content_text, Row, print_row}
-use Rattle.yq_rows.specs.View.{last_dash, key_of, colon_of, anchor_cut, content_cut, slices, slices_text}
+use Rattle.yq_rows.specs.View.{Slices, last_dash, key_of, colon_of, anchor_cut, content_cut, slices, slices_text}
 
 anchor_slices : (node : Node) (rest : List ℕ) → (anchor_cut node).0 ++ ((anchor_cut node).1 ++ ((anchor_cut node).2 ++ rest)) ≡ node_text node rest
 unfolding node_text
@@ -31,3 +33,26 @@ slices_are r rest =
     ap (λ l. r.gap ++ (replicate r.column 32 ++ l))
     (ap (λ l. dashes_text r.dashes (last_dash r.mark) ++ (key_of r.mark ++ (colon_of r.mark ++ l))) (content_slices r.content rest)
     ∙ mark_slices r.dashes r.mark (content_text r.content rest))
+
+-- how long a row is
+slices-length : (s : Slices) (rest : List ℕ) → length (slices_text s rest) ≡ row_length s + length rest
+slices-length s rest =
+    let spaces : length (replicate s.column 32) ≡ s.column = length-replicate {A = ℕ} s.column 32 in
+    omega (
+      arith,
+      spaces,
+      length-append s.gap (replicate s.column 32 ++ (s.dashes ++ (s.key ++ (s.colon ++ (s.space ++ (s.anchor ++ (s.apart ++ (s.head ++ (s.tail ++ (s.raw ++ rest)))))))))),
+      length-append (replicate s.column 32) (s.dashes ++ (s.key ++ (s.colon ++ (s.space ++ (s.anchor ++ (s.apart ++ (s.head ++ (s.tail ++ (s.raw ++ rest))))))))),
+      length-append s.dashes (s.key ++ (s.colon ++ (s.space ++ (s.anchor ++ (s.apart ++ (s.head ++ (s.tail ++ (s.raw ++ rest)))))))),
+      length-append s.key (s.colon ++ (s.space ++ (s.anchor ++ (s.apart ++ (s.head ++ (s.tail ++ (s.raw ++ rest))))))),
+      length-append s.colon (s.space ++ (s.anchor ++ (s.apart ++ (s.head ++ (s.tail ++ (s.raw ++ rest)))))),
+      length-append s.space (s.anchor ++ (s.apart ++ (s.head ++ (s.tail ++ (s.raw ++ rest))))),
+      length-append s.anchor (s.apart ++ (s.head ++ (s.tail ++ (s.raw ++ rest)))),
+      length-append s.apart (s.head ++ (s.tail ++ (s.raw ++ rest))),
+      length-append s.head (s.tail ++ (s.raw ++ rest)),
+      length-append s.tail (s.raw ++ rest),
+      length-append s.raw rest,
+    )
+
+pub print-length : (r : Row) (rest : List ℕ) → length (print_row r rest) ≡ row_length (slices r) + length rest
+print-length r rest = ap length (sym (slices_are r rest)) ∙ slices-length (slices r) rest

@@ -5,6 +5,8 @@ use Rattle.yq_scalar.specs.Piece.{deeper}
 use Rattle.yq_scalar.specs.Text.{upto, cut, front, unless, no_white}
 use Rattle.yq_scalar.specs.declared.style.Style.{Style}
 use Rattle.yq_scalar.specs.declared.style.Style.TheVariants as styles
+use Rattle.yq_inline.specs.declared.measuring.NodeKind.{NodeKind}
+use Rattle.yq_inline.specs.declared.measuring.NodeKind.TheVariants as kinds
 use Rattle.yq_inline.specs.Nodes.{first_is, in_name}
 use Rattle.yq_inline.specs.Places.{Placed, placed, nothing, name, text, sequence, mapping, bare_in}
 use Rattle.yq_inline.specs.Places.{Content as Placement}
@@ -193,6 +195,14 @@ plain_placed (placed a s c e f) = plain_in f
 -- an anchor, an alias or a flow collection begins here (YAML 1.2.2, section 7.5)
 abbrev pub begins_other : List ℕ → Bool
 begins_other t = front (λ b. b == 38 || b == 42 || b == 91 || b == 123) t
+
+-- a plain scalar, by its kind (own)
+abbrev pub is_plain_kind : NodeKind → Bool
+is_plain_kind kinds.Nothing = false
+is_plain_kind kinds.Alias = false
+is_plain_kind kinds.Plain = true
+is_plain_kind kinds.Quoted = false
+is_plain_kind kinds.Collection = false
 
 -- an inline node behind white space, as the code lends it (own)
 abbrev pub inline_lent : ℤ → List ℕ → List ℕ → Option Filled

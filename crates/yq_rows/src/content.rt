@@ -2,8 +2,8 @@
 ghost use Rattle.std.specs.Option.{option_map};
 ghost use Rattle.std.specs.Prelude.{◌≡◌, ◌≢◌, ◌≤◌, ◌==◌, ◌||◌, ◌&&◌, not, length, true, false, IfErr};
 ghost use Rattle.yq_scalar.specs.Answers.{Gives, IsOfText};
+ghost use Rattle.yq_inline.specs.Measured as measured;
 ghost use Rattle.yq_inline.specs.Scalars as scalars;
-ghost use Rattle.yq_inline.specs.View.{view as node_view};
 ghost use Rattle.yq_rows.specs.Lending as lending;
 ghost use Rattle.yq_rows.specs.Lending.{filled_at, filling_view};
 ghost use Rattle.yq_scalar.specs.Text.{front, is_empty};
@@ -14,13 +14,12 @@ use crate::fault::{block_fault, fault};
 use crate::gap::is_hash;
 use crate::marks::Mark;
 use crate::naming::{no_content, no_further_line, no_tail};
-use std::alloc::Global;
+use yq_inline::DEPTH_LIMIT;
+use yq_inline::measuring::{Measured, NodeKind, measure_node};
 use yq_inline::pieces::{begins_scalar, first_is, is_quoted, name_len, read_scalar, strip};
-use yq_inline::reading::read_node;
-use yq_inline::{DEPTH_LIMIT, Form, Inline};
 use yq_scalar::lines::split_line;
 use yq_scalar::text::{ends_line, split_white};
-use yq_scalar::{FaultKind, Place, ReadError, ReadFault, Style, further_spaces, read_block};
+use yq_scalar::{FaultKind, Place, ReadError, ReadFault, further_spaces, read_block};
 
 /// What stands behind a mark, by its pieces.
 #[derive(Clone, Copy, Debug)]
@@ -134,20 +133,17 @@ fn read_block_content<'t>(
 }
 
 /// Whether the node is a plain scalar, perhaps behind an anchor.
-fn is_plain(node: &Inline<'_>) -> bool
-    ensures { result ≡ lending.plain_placed (node_view node.now) }
+fn is_plain(node: Measured<'_>) -> bool
+    ensures { result ≡ lending.is_plain_kind node.entry.kind }
 {
-    match &node.form {
-        Form::Scalar(_, piece) => matches!(piece.style, Style::Plain),
-        _ => false,
-    }
+    matches!(node.kind, NodeKind::Plain)
 }
 
 /// Whether the node is nothing, perhaps behind an anchor.
-fn is_nothing(node: &Inline<'_>) -> bool
-    ensures { result ≡ lending.nothing_placed (node_view node.now) }
+fn is_nothing(node: Measured<'_>) -> bool
+    ensures { result ≡ measured.is_nothing node.entry.kind }
 {
-    matches!(node.form, Form::Empty)
+    matches!(node.kind, NodeKind::Nothing)
 }
 
 /// The white space between an anchor and its node, and what follows it; before nothing stands none.
@@ -170,24 +166,23 @@ fn may_be_alone(space: &str, nothing: bool) -> bool
 
 /// A node that an anchor, an alias or a flow collection begins, behind white space, and its tail.
 fn read_inline_content<'t>(
-    alloc: Global,
-    whole: &'t str,
+    whole: &str,
     mark: Mark<'t>,
     parent: i64,
     space: &'t str,
     text: &'t str,
 ) -> Result<Filling<'t>, ReadError>
-    requires { length text.now ≤ length whole.now }
     ensures read { Gives filling_view result (lending.inline_lent parent space.now text.now) }
     ensures fault { IfErr result IsOfText }
 {
     let spaces = further_spaces(Place::Block, parent);
-    let (node, behind) = match read_node(alloc, false, spaces, whole, DEPTH_LIMIT, text) {
-        Ok(found) => found,
-        Err(e) => return Err(e),
+    let node = match measure_node(false, spaces, whole, DEPTH_LIMIT, text) {
+        Ok(node) => node,
+        Err(e) => return Err(ReadError::Fault(e)),
     };
+    let behind = node.rest;
     let (anchor, rest) = split_anchor(text);
-    let nothing = is_nothing(&node);
+    let nothing = is_nothing(node);
     let (apart, rest) = split_lead(nothing, rest);
     let head = rest.split_at(rest.len() - behind.len()).0;
     match find_tail(behind) {
@@ -198,7 +193,7 @@ fn read_inline_content<'t>(
             head,
             tail,
             raw: "",
-            plain: is_plain(&node),
+            plain: is_plain(node),
             alone: may_be_alone(space, nothing),
             rest,
         }),
@@ -263,13 +258,11 @@ fn read_scalar_content<'t>(
 
 /// What stands behind a mark, below a parent of this indentation.
 pub(crate) fn read_content<'t>(
-    alloc: Global,
-    whole: &'t str,
+    whole: &str,
     mark: Mark<'t>,
     parent: i64,
     text: &'t str,
 ) -> Result<Filling<'t>, ReadError>
-    requires { length text.now ≤ length whole.now }
     ensures read { Gives filling_view result (filled_at parent text.now) }
     ensures fault { IfErr result IsOfText }
 {
@@ -278,7 +271,7 @@ pub(crate) fn read_content<'t>(
         return read_block_content(whole, parent, space, rest);
     }
     if begins_other(rest.as_bytes()) {
-        return read_inline_content(alloc, whole, mark, parent, space, rest);
+        return read_inline_content(whole, mark, parent, space, rest);
     }
     if begins_scalar(false, rest.as_bytes()) {
         return read_scalar_content(whole, mark, parent, space, rest);

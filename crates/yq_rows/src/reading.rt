@@ -1,10 +1,11 @@
 //! Rows, read one behind the other.
-ghost use Rattle.std.specs.Prelude.{◌≡◌, ◌≢◌, ◌<◌, ◌≤◌, ◌+◌, ◌^◌, ◌==◌, ◌&&◌, ◌||◌, not, length, true, IfErr, IfOk};
+ghost use Rattle.std.specs.Prelude.{◌≡◌, ◌≢◌, ◌<◌, ◌≤◌, ◌+◌, ◌-◌, ◌^◌, ◌==◌, ◌&&◌, ◌||◌, not, length, true, IfErr, IfOk};
 ghost use Rattle.yq_scalar.specs.Answers.{Gives, IsOfText, Reads};
 ghost use Rattle.yq_scalar.specs.Text;
 ghost use Rattle.yq_scalar.specs.declared.fault.FaultKind.TheVariants.{NotUtf8};
 ghost use Rattle.yq_rows.specs.Grammar as grammar;
 ghost use Rattle.yq_rows.specs.Grammar.{unlimited, ends_part};
+ghost use Rattle.yq_rows.specs.Kept.{rows_placed};
 ghost use Rattle.yq_rows.specs.Lending.{begin_view, marked_lent, row_lent, rows_lent};
 ghost use Rattle.yq_rows.specs.Offsets.{Ends, Stand, rows_in};
 ghost use Rattle.yq_rows.specs.Reading as spec;
@@ -24,7 +25,6 @@ use yq_scalar::{FaultKind, ReadError, ReadFault};
 /// The row whose gap, indentation and marks are read already, what it asks of the next one, and
 /// what follows.
 fn read_marked<'t>(
-    alloc: Global,
     whole: &'t str,
     gap: &'t str,
     column: usize,
@@ -36,7 +36,7 @@ fn read_marked<'t>(
     ensures fault { IfErr result IsOfText }
 {
     let parent = parent_of(begin.mark, column + begin.columns);
-    let content = read_content(alloc, whole, begin.mark, parent, begin.rest)?;
+    let content = read_content(whole, begin.mark, parent, begin.rest)?;
     if !(is_entry(begin.mark) || content.alone) {
         let kind = not_alone(content.space, content.head);
         return Err(ReadError::Fault(fault(kind, whole, begin.rest)));
@@ -72,7 +72,6 @@ fn may_stand(limit: Limit, column: usize, text: &[u8]) -> bool
 /// The row whose gap is read already, what it asks of the next one, and what follows.
 #[tactic(auto, unfolding(crate::specs::Reading::row_at))]
 fn read_row<'t>(
-    alloc: Global,
     whole: &'t str,
     limit: Limit,
     gap: &'t str,
@@ -88,7 +87,7 @@ fn read_row<'t>(
     if !may_stand(limit, column, rest.as_bytes()) {
         return Err(ReadError::Fault(fault(FaultKind::BadIndent, whole, text)));
     }
-    read_marked(alloc, whole, gap, column, read_begin(rest))
+    read_marked(whole, gap, column, read_begin(rest))
 }
 
 /// Whether no row follows: the end is in front, or a marker.
@@ -111,6 +110,8 @@ fn read_rows<'t>(
     requires small { length whole.now < 2 ^ 32 }
     ensures found { Gives (λ x. (rows_in whole.now x.0.items, x.1.now, x.2.now)) result
         (rows_lent (rows_in whole.now rows.items) (spec.all_rows unlimited text.now)) }
+    ensures placed { Gives (λ x. x.0.items) result
+        (rows_placed rows.items (length whole.now - length text.now) (spec.all_rows unlimited text.now)) }
     ensures kept { IfOk result (λ x. Stand whole.now x.0.items) }
     ensures behind { IfOk result (λ x. Ends x.2.now whole.now) }
     ensures fault { IfErr result IsOfText }
@@ -123,7 +124,7 @@ fn read_rows<'t>(
         if ends_part(rest.as_bytes()) {
             return Ok((rows, gap, rest));
         }
-        let (row, next, after) = match read_row(alloc, whole, limit, gap, rest) {
+        let (row, next, after) = match read_row(whole, limit, gap, rest) {
             Ok(found) => found,
             Err(e) => return Err(e),
         };
@@ -165,6 +166,8 @@ pub(crate) fn read_part<'t>(
     requires small { length whole.now < 2 ^ 32 }
     ensures found { Gives (λ x. (rows_in whole.now x.0.items, x.1.now, x.2.now)) result
         (rows_lent (rows_in whole.now rows.items) (spec.part_at is_open text.now)) }
+    ensures placed { Gives (λ x. x.0.items) result
+        (rows_placed rows.items (length whole.now - length text.now) (spec.part_at is_open text.now)) }
     ensures kept { IfOk result (λ x. Stand whole.now x.0.items) }
     ensures behind { IfOk result (λ x. Ends x.2.now whole.now) }
     ensures fault { IfErr result IsOfText }

@@ -15,7 +15,7 @@ use Rattle.yq_lines.specs.Outline.{Line, level, flatten}
 use Rattle.yq_lines.specs.Places.{lines_before, Found, find}
 use Rattle.yq_lines.specs.Spots.{is_bare}
 use Rattle.yq_tree.specs.CollectionEnds.{CollectionEnd, is_broken, are_broken, end_of_lines, end_of_entry, end_of_found, end_in}
-use Rattle.yq_tree.specs.CollectionTelling.{lines_column, line_column, column_of}
+use Rattle.yq_tree.specs.CollectionTelling.{lines_column, under_column, column_of}
 use Rattle.yq_documents.specs.declared.path.Part.TheVariants as parts
 use Rattle.yq_documents.specs.Lines.{lines_of}
 use Rattle.yq_tree.specs.PathPieces.{BlockEntry, content_piece, PrintedDocument, found_entry, piece_in_entry, piece_in}
@@ -140,7 +140,7 @@ module _ (c : Cut) (p : Part) (more : List Row) (k : ℕ) (before behind : List 
           subst (λ ls. IsEndOf (lines_piece start ls e.behind) x) (sym h.under_is)
           (block_end (suc n) m start e.behind x rest_is h.fits (under_last f n m l e h) (sym (ap (λ ls. end_of_lines start ls e.behind) h.under_is) ∙ is))
 
-  entry_column : (f : Found) (n m : ℕ) (l : PrintedLine) (e : BlockEntry) → IsEntryAt c p more k before behind there placed_in told text fine f n m l e → line_column (lines_of p.rows) n ≡ column_at (end_of_entry e)
+  entry_column : (f : Found) (n m : ℕ) (l : PrintedLine) (e : BlockEntry) → IsEntryAt c p more k before behind there placed_in told text fine f n m l e → under_column (lines_of p.rows) n ≡ column_at (end_of_entry e)
   entry_column f n m l e h =
       let next : n + 1 ≡ suc n = omega arith in
       let under : lines_column (lines_of p.rows) (n + 1) (lines_end n (lines_of p.rows)) ≡ column_at (end_of_lines (e.before ++ print_line e.line []) e.under e.behind) =
@@ -185,7 +185,7 @@ module _ (c : Cut) (p : Part) (more : List Row) (k : ℕ) (before behind : List 
       subst (λ o. IsEndOf (o >>= piece_in_entry parts.Content []) x) (sym h.1)
       (entry_end f (length (lines_before f.place)) (length (flatten f.under)) h.2 h.0 x h.3 (ap (λ (z : BlockEntry). z.behind) own_entry) (sym (ap (λ o. o >>= end_of_entry) h.1) ∙ e))
 
-  found_column : (y : Step) (ys rest : List Step) (f : Found) → find y ys (group (map line_in (printed_lines p.rows))) ≡ Some (f, rest) → (found_line f rest >>= line_column (lines_of p.rows)) ≡ column_at (end_of_found document f rest)
+  found_column : (y : Step) (ys rest : List Step) (f : Found) → find y ys (group (map line_in (printed_lines p.rows))) ≡ Some (f, rest) → (found_line f rest >>= under_column (lines_of p.rows)) ≡ column_at (end_of_found document f rest)
   found_column y ys (t ∷ ts) f is = refl
   found_column y ys [] f is =
       let h = entry_at_line c p more k before behind there placed_in told text fine y ys [] f is in
@@ -201,8 +201,8 @@ module _ (c : Cut) (p : Part) (more : List Row) (k : ℕ) (before behind : List 
 
   pub end_column : (steps : List Step) → column_of steps (lines_of p.rows) ≡ column_at (end_in steps document)
   end_column [] = root_column
-  end_column (y ∷ ys) = ap (λ ls. line_of (y ∷ ys) ls >>= line_column (lines_of p.rows)) (sym (lines_are p.rows)) ∙ go (find y ys (group (map line_in (printed_lines p.rows)))) refl
+  end_column (y ∷ ys) = ap (λ ls. line_of (y ∷ ys) ls >>= under_column (lines_of p.rows)) (sym (lines_are p.rows)) ∙ go (find y ys (group (map line_in (printed_lines p.rows)))) refl
     where
-      go : (o : Option (Found × List Step)) → find y ys (group (map line_in (printed_lines p.rows))) ≡ o → (option_and_then (λ (x : Found × List Step). found_line x.0 x.1) o >>= line_column (lines_of p.rows)) ≡ column_at (o >>= λ f. end_of_found document f.0 f.1)
+      go : (o : Option (Found × List Step)) → find y ys (group (map line_in (printed_lines p.rows))) ≡ o → (option_and_then (λ (x : Found × List Step). found_line x.0 x.1) o >>= under_column (lines_of p.rows)) ≡ column_at (o >>= λ f. end_of_found document f.0 f.1)
       go None is = refl
       go (Some f) is = found_column y ys f.1 f.0 is

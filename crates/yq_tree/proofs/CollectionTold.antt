@@ -1,5 +1,5 @@
 -- What the code tells of the end of a block collection is what stands there.
-use Rattle.std.proofs.Common.{◌≡◌, inr, ℕ, ◌≤◌, List, ◌++◌, length, map, not, Option, Some, None, option_map, true, refl, sym, ap, ◌∙◌, subst, append_assoc, length-append}
+use Rattle.std.proofs.Common.{◌≡◌, inr, ℕ, List, ◌++◌, length, map, not, Option, Some, None, option_map, true, refl, sym, ap, ◌∙◌, subst, append_assoc, length-append}
 use Rattle.std.proofs.lemmas.Option.{none-some, same_Some}
 use Rattle.std.specs.List.{slice_get}
 use Rattle.std.specs.Str.{IsUtf8, IsCharBoundary}
@@ -8,36 +8,32 @@ use Rattle.yq_scalar.specs.Paths.{Step}
 use Rattle.yq_scalar.specs.Text.{cut_line, is_empty}
 use Rattle.yq_rows.specs.Grammar.{IsCut}
 use Rattle.yq_rows.specs.Rows.{Part, Cut, cut_text}
-use Rattle.yq_rows.specs.View.{Shown}
 use Rattle.yq_lines.specs.Group.{group, is_fine}
-use Rattle.yq_lines.specs.View.{views}
 use Rattle.yq_tree.specs.CollectionEnds.{CollectionEnd, end_in, collection_end}
 use Rattle.yq_tree.specs.CollectionTelling.{column_of}
 use Rattle.yq_documents.specs.declared.path.Part.TheVariants as parts
 use Rattle.yq_documents.specs.declared.path.Path.{Path}
-use Rattle.yq_documents.specs.declared.checks.DocumentLines.{DocumentLines}
 use Rattle.yq_documents.specs.Documents.{document_parts}
 use Rattle.yq_documents.specs.Lines.{lines_of}
 use Rattle.yq_documents.specs.Located.{steps_of}
-use Rattle.yq_documents.specs.PartReading.{Lined}
 use Rattle.yq_tree.specs.PathPieces.{PrintedDocument, printed_document, piece_in, piece_at}
 use Rattle.yq_documents.specs.Pieces.{Piece, piece_span}
 use Rattle.yq_tree.specs.PrintedLines.{printed_lines, line_in}
 use Rattle.yq_documents.specs.Reading.{all_documents, cut_of}
 use Rattle.yq_documents.specs.Seats.{document_row}
-use Rattle.yq_documents.specs.SoundReading.{Holds}
+use Rattle.yq_tree.specs.RowWalk.{document_rows as rows_there}
 use Rattle.yq_tree.proofs.CollectionSpans.{IsEndOf, column_at, end_spans, end_column}
 use Rattle.yq_tree.proofs.ContentEndLaws.{end_cut}
 use Rattle.yq_tree.proofs.EndedLines.{RowsBefore, document_rows}
 use Rattle.yq_tree.proofs.EntryPlacedLaws.{entries_placed}
 use Rattle.yq_tree.proofs.FoundLines.{each}
-use Rattle.yq_tree.proofs.PieceHolds.{no_part, spans_are}
+use Rattle.yq_tree.proofs.PieceHolds.{no_document, no_part, spans_are}
 use Rattle.yq_tree.proofs.PieceTexts.{document_text, document_whole, piece_text, piece_whole}
 use Rattle.yq_tree.proofs.PrintedLaws.{ArePrinted, lines_are, document_is}
 use Rattle.yq_tree.proofs.PrintedTexts.{map_some}
 use Rattle.yq_tree.proofs.RowPathLaws.{document_fine}
 use Rattle.yq_tree.proofs.SeatedLines.{IsPlaced, document_placed}
-use Rattle.yq_tree.proofs.SeatLaws.{part_at, part_begins, none_past}
+use Rattle.yq_tree.proofs.SeatLaws.{part_begins}
 
 -- What is told of the end of a block collection in a document of a cut.
 record IsTold (c : Cut) (p : Part) (s : PrintedDocument) (steps : List Step) : Type 0 where
@@ -71,26 +67,17 @@ document_told c doc s steps cut sound is =
       });
     }
 
--- the column, by the lines that the code holds
-pub column_held : (t : List ℕ) (s : Shown) (ds : List DocumentLines) (i : ℕ) (d : DocumentLines) (steps : List Step) → Holds t s ds → slice_get ds i ≡ Some d → column_of steps (views d.lines) ≡ column_at (collection_end i steps (cut_of t))
-column_held t s ds i d steps h there =
-    let p = part_at ds (document_parts (cut_of t)) h.lined i d there in
-    ap (λ (x : Lined). column_of steps x.1) p.2 ∙ go (printed_document i (cut_of t)) refl p.0 p.1
+-- the column, by the lines of a document that is there
+pub column_there : (c : Cut) (i : ℕ) (p : Part) (steps : List Step) → IsCut (cut_text c) c → all_documents c ≡ true → slice_get (document_parts c) i ≡ Some p → column_of steps (lines_of p.rows) ≡ column_at (collection_end i steps c)
+column_there c i p steps cut sound at = go (printed_document i c) refl
   where
-    go : (o : Option PrintedDocument) → printed_document i (cut_of t) ≡ o → (p : Part) → slice_get (document_parts (cut_of t)) i ≡ Some p → column_of steps (lines_of p.rows) ≡ column_at (o >>= end_in steps)
-    go None is p at = absurd (none-some _ (sym (no_part _ i (cut_of t) is) ∙ at))
-    go (Some d) is p at =
-        let x = document_told (cut_of t) i d steps (subst (λ y. IsCut y (cut_of t)) h.cut.text h.cut) h.sound is in
-        ap (λ (q : Part). column_of steps (lines_of q.rows)) (same_Some _ _ (sym at ∙ x.there)) ∙ x.told.column
+    go : (o : Option PrintedDocument) → printed_document i c ≡ o → column_of steps (lines_of p.rows) ≡ column_at (o >>= end_in steps)
+    go None is = absurd (none-some _ (sym (no_part _ i c is) ∙ at))
+    go (Some d) is = let x = document_told c i d steps cut sound is in ap (λ (q : Part). column_of steps (lines_of q.rows)) (same_Some _ _ (sym at ∙ x.there)) ∙ x.told.column
 
-pub none_held : (t : List ℕ) (s : Shown) (ds : List DocumentLines) (i : ℕ) (steps : List Step) → Holds t s ds → length ds ≤ i → collection_end i steps (cut_of t) ≡ None
-none_held t s ds i steps h past = go (printed_document i (cut_of t)) refl
-  where
-    go : (o : Option PrintedDocument) → printed_document i (cut_of t) ≡ o → (o >>= end_in steps) ≡ None
-    go None is = refl
-    go (Some d) is =
-        let x = document_told (cut_of t) i d steps (subst (λ y. IsCut y (cut_of t)) h.cut.text h.cut) h.sound is in
-        absurd (none-some _ (sym (none_past ds (document_parts (cut_of t)) h.lined i past) ∙ x.there))
+-- an end in another document there is none
+pub no_end_there : (c : Cut) (i : ℕ) (steps : List Step) → None ≡ rows_there i c → None ≡ collection_end i steps c
+no_end_there c i steps e = sym (ap (λ (o : Option PrintedDocument). o >>= end_in steps) (no_document i c e))
 
 -- A text cut in front of the break at the end of a block collection.
 pub record IsEndAt (t : List ℕ) (place : ℕ × ℕ) (x : CollectionEnd) : Type 0 where
@@ -132,13 +119,6 @@ end_told t path place x cut sound at e =
       before_is = h.before_is;
       broken = ends.1;
     }
-
-pub no_content : (t : List ℕ) (path : Path) → IsCut t (cut_of t) → all_documents (cut_of t) ≡ true → None ≡ option_map piece_span (piece_at path parts.Content (cut_of t)) → collection_end path.doc (steps_of path) (cut_of t) ≡ None
-no_content t path cut sound at = go (collection_end path.doc (steps_of path) (cut_of t)) refl
-  where
-    go : (o : Option CollectionEnd) → collection_end path.doc (steps_of path) (cut_of t) ≡ o → o ≡ None
-    go None e = refl
-    go (Some x) e = let h = content_is (cut_of t) path x (subst (λ y. IsCut y (cut_of t)) cut.text cut) sound e in absurd (none-some _ (at ∙ ap (option_map piece_span) h.is))
 
 -- it ends between characters
 pub end_boundary : (t : List ℕ) (path : Path) (place : ℕ × ℕ) → IsCut t (cut_of t) → all_documents (cut_of t) ≡ true → IsUtf8 t → Some place ≡ option_map piece_span (piece_at path parts.Content (cut_of t)) → IsCharBoundary t place.1

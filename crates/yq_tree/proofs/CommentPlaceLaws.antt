@@ -1,7 +1,7 @@
 -- Where the comments of a row stand, by its pieces.
-use Rattle.std.proofs.Common.{◌≡◌, ℕ, ◌+◌, ◌-◌, ◌<◌, ◌≤◌, eqb, List, [], ◌∷◌, ◌++◌, length, take, Option, Some, None, option_map, Bool, true, false, cond, refl, sym, ap, ◌∙◌, arith, length-append}
+use Rattle.std.proofs.Common.{◌≡◌, ℕ, ◌+◌, ◌-◌, ◌<◌, ◌≤◌, eqb, List, [], ◌∷◌, ◌++◌, length, Option, Some, None, option_map, Bool, true, false, cond, refl, sym, ap, ◌∙◌, arith, length-append}
 use Rattle.std.proofs.lemmas.Option.{slice_get-map}
-use Rattle.std.specs.List.{slice_get, sum_by}
+use Rattle.std.specs.List.{slice_get}
 use Rattle.yq_scalar.specs.Text.{cut, front, ends_line, no_white, past_white, is_empty, joined, lines_of}
 use Rattle.yq_rows.specs.Exchange.{before_content, behind_row}
 use Rattle.yq_rows.specs.Rows.{Row, behind_gap, Cut}
@@ -9,8 +9,7 @@ use Rattle.yq_rows.specs.View.{Slices, slices, rows_of, shown}
 use Rattle.yq_scalar.proofs.LineLaws.{joined_lines}
 use Rattle.yq_documents.specs.Pieces.{tail_comment, before_run, last_run, gap_comment, piece_span}
 use Rattle.yq_tree.specs.CommentReading.{before_tail, line_comment_in, head_comment_in, tail_span, line_comment_span, gap_span, head_comment_span, before_row}
-use Rattle.yq_rows.specs.Offsets.{row_length}
-use Rattle.yq_tree.specs.Extents.{passed_length, row_start, front_length, head_place}
+use Rattle.yq_tree.specs.Extents.{row_start, front_length, head_place}
 use Rattle.yq_tree.specs.SeatReading.{numbers}
 use Rattle.yq_documents.specs.Seats.{Seat}
 use Rattle.yq_tree.proofs.LengthLaws.{head_told}
@@ -39,7 +38,7 @@ before_length : (c : Cut) (i : ℕ) (r : Row) → slice_get (rows_of c) i ≡ So
 before_length c i r is =
     let s : Slices = slices r in
     let there : slice_get (shown c).rows i ≡ Some s = slice_get-map slices (rows_of c) i ∙ ap (option_map slices) is in
-    let told = head_told (shown c) i (sum_by row_length (take i (shown c).rows)) (sum_by (passed_length i) (shown c).bounds) (front_length s) (length s.head) s there refl refl refl refl c refl r is in
+    let told = head_told (shown c) i (row_start i (shown c)) (front_length s) (length s.head) s there refl refl refl c refl r is in
     let place : row_start i (shown c) + front_length s + length s.head ≡ (head_place i c r).1 = ap (λ (x : ℕ × ℕ). x.1) told in
     omega (
       arith,

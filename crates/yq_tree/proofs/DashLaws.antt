@@ -19,7 +19,7 @@ use Rattle.yq_rows.proofs.PlaceLaws.{dashes_then}
 use Rattle.yq_documents.specs.declared.path.Path.{Path}
 use Rattle.yq_tree.specs.CommentReading.{before_row}
 use Rattle.yq_tree.specs.DashPlaces.{DashPlace, past_dash, dash_in, dash_place, is_noted, upto_dash}
-use Rattle.yq_tree.specs.DashTelling.{dash_column}
+use Rattle.yq_tree.specs.RowWalk.{line_column}
 use Rattle.yq_tree.specs.EntryReading.{before_line, dash_at, line_begin}
 use Rattle.yq_tree.specs.Extents.{row_start}
 use Rattle.yq_documents.specs.Lines.{lines_of}
@@ -145,7 +145,7 @@ module _ (t : List ℕ) (x : Shown) (held : HasCut t x) (path : Path) (n : Numbe
           (subst (λ m. IsCharBoundary ((dash_in w).before ++ (dash_in w).behind) m) size
           (behind_ascii (dash_in w).before (dash_in w).behind (subst IsUtf8 whole u) (record { front = before_line n.0 w.line w.row c; last = 45; is = before_is; ascii = omega arith })))
 
-      column_is : dash_column s n.1 ≡ mark_column (upto_dash w.line w.row)
+      column_is : line_column n.1 s ≡ mark_column (upto_dash w.line w.row)
       column_is =
           let f : List ℕ = dashes_text (take w.line w.row.dashes) [] in
           let there : (slices w.row).column + dash_at w.line (slices w.row).dashes ≡ w.row.column + length f =
@@ -158,9 +158,9 @@ module _ (t : List ℕ) (x : Shown) (held : HasCut t x) (path : Path) (n : Numbe
             length-append w.row.gap (replicate w.row.column 32 ++ f),
             length-append (replicate w.row.column 32) f,
           ) in
-          (λ i. dash_column (sym own i) (k.line i)) ∙ (there ∙ sym (columns w.row.column (take w.line w.row.dashes)))
+          (λ i. line_column (k.line i) (sym own i)) ∙ (there ∙ sym (columns w.row.column (take w.line w.row.dashes)))
 
-      pub dash_there : (text before behind : List ℕ) (column : ℕ) (noted : Bool) → text ≡ t → before ≡ take (start + 1) text → behind ≡ drop (start + 1) text → column ≡ dash_column s n.1 → noted ≡ is_noted s →
+      pub dash_there : (text before behind : List ℕ) (column : ℕ) (noted : Bool) → text ≡ t → before ≡ take (start + 1) text → behind ≡ drop (start + 1) text → column ≡ line_column n.1 s → noted ≡ is_noted s →
           ◌≡◌ {A = Option DashPlace} (Some (record { before = before; behind = behind; column = column; noted = noted })) (dash_place path.doc (steps_of path) (cut_of t))
       dash_there text before behind column noted e front rest columns_are notes =
           let text_is : text ≡ (dash_in w).before ++ (dash_in w).behind = e ∙ whole in

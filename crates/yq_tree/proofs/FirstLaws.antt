@@ -21,6 +21,8 @@ use Rattle.yq_documents.specs.Pieces.{Piece, piece_span}
 use Rattle.yq_documents.specs.Reading.{all_documents}
 use Rattle.yq_tree.specs.SeatReading.{Numbers, numbers}
 use Rattle.yq_documents.specs.Seats.{Seat, seat_at}
+use Rattle.yq_tree.specs.EntryReading.{line_entry_at}
+use Rattle.yq_tree.proofs.EntryPlaceLaws.{seat_entry}
 use Rattle.yq_tree.proofs.EntryPlacedLaws.{entries_placed}
 use Rattle.yq_tree.proofs.PieceHolds.{spans_are}
 use Rattle.yq_tree.proofs.PieceTexts.{document_whole, piece_whole}
@@ -121,8 +123,14 @@ pub record EntryStands (t : List ℕ) (c : Cut) (path : Path) (start end : ℕ) 
   pub text_is : take (end - start) (drop start t) ≡ piece.text
   pub behind_is : drop (end - start) (drop start t) ≡ piece.behind
 
-pub entry_stands : (t : List ℕ) (c : Cut) (path : Path) (start end : ℕ) → IsUtf8 t → IsCut t c → all_documents c ≡ true → Some (start, end) ≡ option_map piece_span (piece_at path parts.Entry c) → EntryStands t c path start end
-entry_stands t c path start end u cut sound e =
+-- the place of a line's entry or item is that of the piece
+entry_is : (t : List ℕ) (c : Cut) (path : Path) (k : ℕ) (n : Numbers) → IsCut t c → all_documents c ≡ true → Some n ≡ option_map (numbers k) (seat_at path c) → line_entry_at path c ≡ option_map piece_span (piece_at path parts.Entry c)
+entry_is t c path k n cut sound there = seat_entry path c k n there ∙ sym (spans_are t c path cut sound).1
+
+pub entry_stands : (t : List ℕ) (c : Cut) (path : Path) (start end : ℕ) → IsUtf8 t → IsCut t c → all_documents c ≡ true → (k : ℕ) (n : Numbers) → Some n ≡ option_map (numbers k) (seat_at path c) → Some (start, end) ≡ line_entry_at path c →
+    EntryStands t c path start end
+entry_stands t c path start end u cut sound k n there at =
+    let e : Some (start, end) ≡ option_map piece_span (piece_at path parts.Entry c) = at ∙ entry_is t c path k n cut sound there in
     let w = map_some (piece_at path parts.Entry c) (sym e) in
     let x : Piece = w.0 in
     let s = bind_some (printed_document path.doc c) w.1 in
@@ -168,8 +176,8 @@ other_first_line path c k n e zero_is = go (seat_at path c) e
         let line : q.line ≡ 0 = ap (λ (x : Numbers). x.1) (sym (same_Some _ _ e)) ∙ zero_is in
         ap (option_map first_out) (sym (cond-true (eqb q.line 0) None (piece_at path parts.Entry c) (eq-eqb q.line 0 line)))
 
-pub no_first_entry : (path : Path) (c : Cut) → None ≡ option_map piece_span (piece_at path parts.Entry c) → None ≡ first_removal path.doc (steps_of path) c
-no_first_entry path c e = go (piece_at path parts.Entry c) e (seat_at path c)
+pub no_first_entry : (t : List ℕ) (c : Cut) (path : Path) (k : ℕ) (n : Numbers) → IsCut t c → all_documents c ≡ true → Some n ≡ option_map (numbers k) (seat_at path c) → None ≡ line_entry_at path c → None ≡ first_removal path.doc (steps_of path) c
+no_first_entry t c path k n cut sound there e = go (piece_at path parts.Entry c) (e ∙ entry_is t c path k n cut sound there) (seat_at path c)
   where
     either : (b : Bool) → None ≡ option_map first_out (cond b None None)
     either true = refl

@@ -141,7 +141,7 @@ held_collection t s ds i d steps found h there told =
     let k : ℕ = document_row i c in
     let part = part_at ds (document_parts c) h.lined i d there in
     let fine : is_fine (group (lines_of part.0.rows)) ≡ true = document_fine part.0 (each (document_parts c) h.sound i part.0 part.1) in
-    held_in t s ds i k d found (λ k c rs. rows_collection k c rs steps) h there (sym (ap (option_map (λ (p : Part). k)) part.1)) (λ u c p more cut is lines holds row. told k c p.rows lines holds)
+    held_in t s ds i d found (λ k c rs. rows_collection k c rs steps) h there told
     ∙ (ap (λ (o : Option Part). o >>= λ p. rows_collection k c p.rows steps) part.1
     ∙ (part_collection_is k c part.0 steps fine
     ∙ ((λ j. option_map (placed_collection (length (sym h.cut.text j))) (part_collection k c steps part.0))

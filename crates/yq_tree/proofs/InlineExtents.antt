@@ -1,5 +1,5 @@
 -- What the code answers for the place of an inline node, or of nothing, is its extent.
-use Rattle.std.proofs.Common.{◌≡◌, ◌⊎◌, inl, inr, ℕ, zero, suc, ◌+◌, ◌<◌, ◌≤◌, ◌||◌, not, eqb, List, [], ◌∷◌, ◌++◌, length, take, drop, map, Option, Some, None, is_some, option_map, Bool, true, false, cond, refl, sym, ap, ◌∙◌, subst, arith, append_assoc, append-nil, length-append}
+use Rattle.std.proofs.Common.{◌≡◌, ◌⊎◌, inl, inr, ℕ, zero, suc, ◌+◌, ◌<◌, ◌≤◌, ◌||◌, not, eqb, List, [], ◌∷◌, ◌++◌, length, take, drop, map, Option, Some, None, is_some, option_map, option_and_then, Bool, true, false, cond, refl, sym, ap, ◌∙◌, subst, arith, append_assoc, append-nil, length-append}
 use Rattle.std.proofs.lemmas.Bool.{cases_lt, eq-eqb, eqb-true, cond-true, cond-false}
 use Rattle.std.proofs.lemmas.Option.{slice_get-map, none-some}
 use Rattle.std.specs.List.{slice_get}
@@ -10,7 +10,7 @@ use Rattle.yq_inline.specs.Nodes.{Node, empty, alias, scalar, coll, anchored, no
 use Rattle.yq_rows.specs.Exchange.{before_content}
 use Rattle.yq_rows.specs.Rows.{Content, Nothing, Inline, Block, Row, Part, Cut, cut_text}
 use Rattle.yq_rows.specs.View.{anchor_cut, content_cut, rows_of}
-use Rattle.yq_lines.specs.Ends.{deeper_count, lines_end, reached}
+use Rattle.yq_lines.specs.Ends.{deeper_count, found_line, line_of, lines_end}
 use Rattle.yq_lines.specs.Group.{group, level_or, is_fine}
 use Rattle.yq_lines.specs.Outline.{Line, level, Outline, flatten, IsEven}
 use Rattle.yq_lines.specs.Places.{lines_before, Found, find}
@@ -19,13 +19,13 @@ use Rattle.yq_lines.proofs.Decides.{flatten-group, even_from}
 use Rattle.yq_tree.specs.Existence.{some_lines}
 use Rattle.yq_tree.specs.Extents.{head_place}
 use Rattle.yq_tree.specs.InlinePlaces.{InlinePlace, node_inline, mark_inline, lines_inline, entry_inline, inline_in_entry, inline_in}
-use Rattle.yq_tree.specs.InlineReading.{extent_of, content_extent, row_extent, line_extent, lines_extent, entry_extent, extent_from, extent_in}
+use Rattle.yq_tree.specs.InlineReading.{extent_of, content_extent, row_extent, line_extent, lines_extent, entry_extent, extent_in}
 use Rattle.yq_documents.specs.Lines.{lines_of}
 use Rattle.yq_tree.specs.PathPieces.{BlockEntry, PrintedDocument, found_entry}
 use Rattle.yq_tree.specs.PrintedLines.{PrintedLine, line_front, print_line, print_lines, printed_lines, line_in}
 use Rattle.yq_documents.specs.Seats.{Seat}
 use Rattle.yq_tree.proofs.FoundEntries.{lines_count, within_some}
-use Rattle.yq_tree.proofs.PieceSpans.{IsEntryAt, entry_at_line, bare_head, line_more, by_line}
+use Rattle.yq_tree.proofs.PieceSpans.{IsEntryAt, entry_at_line, bare_head, line_more}
 use Rattle.yq_tree.proofs.PrintedLaws.{IsValid, IsWritten, IsPrinted, ArePrinted, lines_are}
 use Rattle.yq_tree.proofs.PrintedTexts.{lines_then}
 use Rattle.yq_tree.proofs.RunSpans.{get_some, get_drop, head_front, content_size, seat_at}
@@ -196,7 +196,7 @@ module _ (c : Cut) (p : Part) (more : List Row) (k : ℕ) (before behind : List 
           ∙ sym (cond-false _ _ _ is)))
 
   from_is_at : (y : Step) (ys rest : List Step) (f : Found) → find y ys (group (map line_in (printed_lines p.rows))) ≡ Some (f, rest) →
-      option_map extent_of (found_entry document f >>= inline_in_entry rest) ≡ extent_from k c p.rows (length (lines_before f.place)) rest
+      option_map extent_of (found_entry document f >>= inline_in_entry rest) ≡ (found_line f rest >>= entry_extent k c p.rows)
   from_is_at y ys [] f is =
       let e = entry_at_line c p more k before behind there placed_in told text fine y ys [] f is in
       ap (λ o. option_map extent_of (o >>= inline_in_entry [])) e.1 ∙ entry_is_at f (length (lines_before f.place)) (length (flatten f.under)) e.2 e.0 e.3
@@ -219,9 +219,9 @@ module _ (c : Cut) (p : Part) (more : List Row) (k : ℕ) (before behind : List 
       take_whole : {A : Type 0} (xs : List A) → take (length xs) xs ≡ xs
       take_whole [] = refl
       take_whole (x ∷ xs) = ap (λ l. x ∷ l) (take_whole xs)
-  inline_is_at (y ∷ ys) = go (find y ys (group (map line_in (printed_lines p.rows)))) refl ∙ ap (λ ls. reached (y ∷ ys) ls >>= λ x. extent_from k c p.rows x.0 x.1) (lines_are p.rows)
+  inline_is_at (y ∷ ys) = go (find y ys (group (map line_in (printed_lines p.rows)))) refl ∙ ap (λ ls. line_of (y ∷ ys) ls >>= entry_extent k c p.rows) (lines_are p.rows)
     where
       go : (o : Option (Found × List Step)) → find y ys (group (map line_in (printed_lines p.rows))) ≡ o →
-          option_map extent_of (o >>= λ f. found_entry document f.0 >>= inline_in_entry f.1) ≡ (by_line o >>= λ x. extent_from k c p.rows x.0 x.1)
+          option_map extent_of (o >>= λ f. found_entry document f.0 >>= inline_in_entry f.1) ≡ (option_and_then (λ (x : Found × List Step). found_line x.0 x.1) o >>= entry_extent k c p.rows)
       go None is = refl
       go (Some f) is = from_is_at y ys f.1 f.0 is

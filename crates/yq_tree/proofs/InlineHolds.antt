@@ -12,7 +12,7 @@ use Rattle.yq_inline.specs.Spans.{IsSpan}
 use Rattle.yq_rows.specs.Grammar.{IsCut}
 use Rattle.yq_rows.specs.Rows.{Content, Nothing, Inline, Block, Row, Part, Cut, cut_text}
 use Rattle.yq_rows.specs.View.{rows_of}
-use Rattle.yq_lines.specs.Ends.{lines_end, reached}
+use Rattle.yq_lines.specs.Ends.{line_of, lines_end}
 use Rattle.yq_lines.specs.Group.{group, is_fine}
 use Rattle.yq_lines.specs.Spots.{is_bare}
 use Rattle.yq_documents.specs.declared.path.Path.{Path}
@@ -20,7 +20,7 @@ use Rattle.yq_documents.specs.Documents.{document_parts}
 use Rattle.yq_tree.specs.EntryReading.{head_end}
 use Rattle.yq_tree.specs.Extents.{head_place}
 use Rattle.yq_tree.specs.InlinePlaces.{InlinePlace, written_text, inline_in, inline_from, inline_place}
-use Rattle.yq_tree.specs.InlineReading.{InlineExtent, extent_of, content_extent, row_extent, line_extent, lines_extent, entry_extent, extent_from, extent_in, extent_at, inline_telling, if_written}
+use Rattle.yq_tree.specs.InlineReading.{InlineExtent, extent_of, content_extent, row_extent, line_extent, lines_extent, entry_extent, extent_in, extent_at, inline_telling, if_written}
 use Rattle.yq_documents.specs.Lines.{lines_of}
 use Rattle.yq_documents.specs.Located.{steps_of}
 use Rattle.yq_documents.specs.Reading.{all_documents}
@@ -97,13 +97,9 @@ module _ (c : Cut) (rs more : List Row) (k : ℕ) (u : IsUtf8 (cut_text c)) (cut
       go true e = line_spans false n x e
       go false e = lines_spans _ _ x e
 
-  from_spans : (n : ℕ) (left : List Step) (x : InlineExtent) → extent_from k c rs n left ≡ Some x → Spans x
-  from_spans n [] x e = entry_spans n x e
-  from_spans n (s ∷ ss) x e = absurd (none-some _ e)
-
   in_spans : (steps : List Step) (x : InlineExtent) → extent_in k c rs steps ≡ Some x → Spans x
   in_spans [] x e = lines_spans 0 (length (lines_of rs)) x e
-  in_spans (s ∷ ss) x e = let y = bind_some (reached (s ∷ ss) (lines_of rs)) e in from_spans y.0.0 y.0.1 x y.2
+  in_spans (s ∷ ss) x e = let y = bind_some (line_of (s ∷ ss) (lines_of rs)) e in entry_spans y.0 x y.2
 
 pub extents_span : (c : Cut) (doc : ℕ) (steps : List Step) (x : InlineExtent) → IsUtf8 (cut_text c) → IsCut (cut_text c) c → extent_at doc steps c ≡ Some x → IsSpan (cut_text c) x.0 x.1
 extents_span c doc steps x u cut e =

@@ -1,18 +1,14 @@
 -- What the code is told of the extents of inline nodes.
-use Rattle.std.proofs.Common.{◌≡◌, ℕ, ◌+◌, eqb, List, [], ◌∷◌, ◌++◌, length, drop, Option, Some, None, option_map, Bool, true, false, refl, sym, ap, ◌∙◌, arith}
-use Rattle.std.proofs.lemmas.Bool.{false≢true, eq-eqb, eqb-true}
-use Rattle.std.proofs.lemmas.Option.{slice_get-map, none-some, same_Some}
+use Rattle.std.proofs.Common.{◌≡◌, ℕ, List, Some, None, option_map, Bool, true, false, refl, sym, ap, ◌∙◌}
+use Rattle.std.proofs.lemmas.Bool.{false≢true}
+use Rattle.std.proofs.lemmas.Option.{slice_get-map, same_Some}
 use Rattle.std.specs.List.{slice_get}
-use Rattle.yq_scalar.specs.Answers.{◌>>=◌}
-use Rattle.yq_scalar.specs.Paths.{Step}
 use Rattle.yq_rows.specs.Grammar.{IsCut}
 use Rattle.yq_rows.specs.Rows.{Content, Nothing, Inline, Block, Row, Cut}
 use Rattle.yq_rows.specs.Seams.{is_block}
 use Rattle.yq_rows.specs.View.{Slices, slices, rows_of, Shown, shown}
-use Rattle.yq_lines.specs.Ends.{reached}
 use Rattle.yq_tree.specs.Extents.{head_place}
-use Rattle.yq_tree.specs.InlineReading.{InlineExtent, content_extent, row_extent, entry_extent, extent_from, extent_in}
-use Rattle.yq_documents.specs.Lines.{lines_of}
+use Rattle.yq_tree.specs.InlineReading.{content_extent, row_extent}
 use Rattle.yq_documents.specs.RowReading.{begins_block}
 use Rattle.yq_tree.proofs.HeadEnds.{block_told}
 
@@ -39,20 +35,3 @@ row_inline t c s alone i x r place cut is there row b at =
     go (Nothing tail) e = refl
     go (Inline space node tail) e = refl
     go (Block space anchor block) e = absurd (false≢true (sym e))
-
--- steps that go on in a flow collection
-in_is : (k : ℕ) (c : Cut) (rs : List Row) (steps left : List Step) (n : ℕ) → reached steps (lines_of rs) ≡ Some (n, left) → extent_from k c rs n left ≡ extent_in k c rs steps
-in_is k c rs [] left n e = absurd (none-some _ e)
-in_is k c rs (s ∷ ss) left n e = sym (ap (λ (o : Option (ℕ × List Step)). o >>= λ x. extent_from k c rs x.0 x.1) e)
-
-pub steps_left : (k : ℕ) (c : Cut) (rs : List Row) (steps left : List Step) (n : ℕ) → Some (n, left) ≡ reached steps (lines_of rs) → false ≡ eqb (length left) 0 → None ≡ extent_in k c rs steps
-steps_left k c rs steps [] n e some = absurd (false≢true (some ∙ eq-eqb 0 0 refl))
-steps_left k c rs steps (t ∷ ts) n e some = in_is k c rs steps (t ∷ ts) n (sym e)
-
-pub no_steps_left : (k : ℕ) (c : Cut) (rs : List Row) (steps left : List Step) (n : ℕ) → Some (n, left) ≡ reached steps (lines_of rs) → true ≡ eqb (length left) 0 → entry_extent k c rs n ≡ extent_in k c rs steps
-no_steps_left k c rs steps [] n e none = in_is k c rs steps [] n (sym e)
-no_steps_left k c rs steps (t ∷ ts) n e none = absurd (omega (arith, eqb-true (length (t ∷ ts)) 0 (sym none)))
-
-pub no_place : (k : ℕ) (c : Cut) (rs : List Row) (steps : List Step) → false ≡ eqb (length steps) 0 → None ≡ reached steps (lines_of rs) → None ≡ extent_in k c rs steps
-no_place k c rs [] some e = absurd (false≢true (some ∙ eq-eqb 0 0 refl))
-no_place k c rs (s ∷ ss) some e = ap (λ (o : Option (ℕ × List Step)). o >>= λ x. extent_from k c rs x.0 x.1) e

@@ -7,34 +7,12 @@ use Rattle.std.proofs.lemmas.Option.{get_or_from_slice_get, slice_get_within, sl
 use Rattle.std.specs.List.{slice_get, sum_by}
 use Rattle.yq_scalar.specs.Characters.{text_limit}
 use Rattle.yq_rows.specs.Exchange.{row_front, before_at, before_content}
-use Rattle.yq_rows.specs.Rows.{Mark, Bare, Dash, Key, Row, dashes_text, mark_text, print_row, rows_text, Part, part_text, Cut, last, marked, cut_text}
-use Rattle.yq_rows.specs.View.{Slices, slices, slices_text, last_dash, key_of, colon_of, rows_of, Bound, bounds_from, Shown, shown}
+use Rattle.yq_rows.specs.Rows.{Mark, Bare, Dash, Key, Row, dashes_text, mark_text, rows_text, Part, part_text, Cut, last, marked, cut_text}
+use Rattle.yq_rows.specs.View.{Slices, slices, last_dash, key_of, colon_of, rows_of, Bound, bounds_from, Shown, shown}
 use Rattle.yq_rows.proofs.ExchangeLaws.{slice_front, slice_back}
-use Rattle.yq_rows.proofs.SliceLaws.{slices_are}
+use Rattle.yq_rows.proofs.SliceLaws.{print-length}
 use Rattle.yq_rows.specs.Offsets.{row_length}
 use Rattle.yq_tree.specs.Extents.{bound_length, passed_length, row_start, front_length, shown_length, head_place, IsShown}
-
-slices-length : (s : Slices) (rest : List ℕ) → length (slices_text s rest) ≡ row_length s + length rest
-slices-length s rest =
-    let spaces : length (replicate s.column 32) ≡ s.column = length-replicate {A = ℕ} s.column 32 in
-    omega (
-      arith,
-      spaces,
-      length-append s.gap (replicate s.column 32 ++ (s.dashes ++ (s.key ++ (s.colon ++ (s.space ++ (s.anchor ++ (s.apart ++ (s.head ++ (s.tail ++ (s.raw ++ rest)))))))))),
-      length-append (replicate s.column 32) (s.dashes ++ (s.key ++ (s.colon ++ (s.space ++ (s.anchor ++ (s.apart ++ (s.head ++ (s.tail ++ (s.raw ++ rest))))))))),
-      length-append s.dashes (s.key ++ (s.colon ++ (s.space ++ (s.anchor ++ (s.apart ++ (s.head ++ (s.tail ++ (s.raw ++ rest)))))))),
-      length-append s.key (s.colon ++ (s.space ++ (s.anchor ++ (s.apart ++ (s.head ++ (s.tail ++ (s.raw ++ rest))))))),
-      length-append s.colon (s.space ++ (s.anchor ++ (s.apart ++ (s.head ++ (s.tail ++ (s.raw ++ rest)))))),
-      length-append s.space (s.anchor ++ (s.apart ++ (s.head ++ (s.tail ++ (s.raw ++ rest))))),
-      length-append s.anchor (s.apart ++ (s.head ++ (s.tail ++ (s.raw ++ rest)))),
-      length-append s.apart (s.head ++ (s.tail ++ (s.raw ++ rest))),
-      length-append s.head (s.tail ++ (s.raw ++ rest)),
-      length-append s.tail (s.raw ++ rest),
-      length-append s.raw rest,
-    )
-
-pub print-length : (r : Row) (rest : List ℕ) → length (print_row r rest) ≡ row_length (slices r) + length rest
-print-length r rest = ap length (sym (slices_are r rest)) ∙ slices-length (slices r) rest
 
 -- how long rows are
 abbrev rows_sum : List Row → ℕ
@@ -175,12 +153,12 @@ head_is c i r start end is e f =
     λ j. (sym before j, (f ∙ ap (λ (k : ℕ). k + length s.head) (sym before)) j)
 
 -- the same by the sums of the code
-pub head_told : (s : Shown) (i rows ends front head : ℕ) (x : Slices) → slice_get s.rows i ≡ Some x → rows ≡ sum_by row_length (take i s.rows) → ends ≡ sum_by (passed_length i) s.bounds → front ≡ front_length x → head ≡ length x.head →
-    (c : Cut) → s ≡ shown c → (r : Row) → slice_get (rows_of c) i ≡ Some r → (rows + ends + front, rows + ends + front + head) ≡ head_place i c r
-head_told s i rows ends front head x there rows_are ends_are front_is head_len c shown_is r is =
+pub head_told : (s : Shown) (i start front head : ℕ) (x : Slices) → slice_get s.rows i ≡ Some x → start ≡ row_start i s → front ≡ front_length x → head ≡ length x.head →
+    (c : Cut) → s ≡ shown c → (r : Row) → slice_get (rows_of c) i ≡ Some r → (start + front, start + front + head) ≡ head_place i c r
+head_told s i start front head x there start_is front_is head_len c shown_is r is =
     let same : x ≡ slices r = same_Some _ _ (sym there ∙ (ap (λ (y : Shown). slice_get y.rows i) shown_is ∙ (slice_get-map slices (rows_of c) i ∙ ap (option_map slices) is))) in
-    head_is c i r (rows + ends + front) (rows + ends + front + head) is
-    (omega (arith, rows_are, ends_are, front_is, ap (row_start i) shown_is, ap front_length same))
+    head_is c i r (start + front) (start + front + head) is
+    (omega (arith, start_is, front_is, ap (row_start i) shown_is, ap front_length same))
     (omega (arith, head_len, ap (λ (y : Slices). length y.head) same))
 
 -- one more row, and one more part

@@ -21,6 +21,7 @@ pub mod ReadLaws
 pub mod ExactReading
 pub mod ReadyLaws
 pub mod LengthLaws
+pub mod FirstLevels
 pub mod CommentPieceLaws
 pub mod CommentSpans
 pub mod CommentHolds
@@ -41,6 +42,7 @@ pub mod WalkEnds
 pub mod WalkLevels
 pub mod WalkRows
 pub mod WalkSpots
+pub mod WalkLines
 pub mod WalkNodes
 pub mod WrittenLaws
 pub mod UnderExchange

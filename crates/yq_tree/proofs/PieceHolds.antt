@@ -14,7 +14,7 @@ use Rattle.yq_documents.specs.declared.path.Part.{Part as WhichPart}
 use Rattle.yq_documents.specs.declared.path.Part.TheVariants as parts
 use Rattle.yq_documents.specs.declared.path.Path.{Path}
 use Rattle.yq_documents.specs.Documents.{document_parts, parts_from}
-use Rattle.yq_tree.specs.EntryReading.{content_of, content_at, entry_of, entry_at, first_row}
+use Rattle.yq_tree.specs.EntryReading.{content_of, content_at, entry_of, entry_at}
 use Rattle.yq_lines.specs.Group.{group, is_fine}
 use Rattle.yq_documents.specs.Located.{steps_of}
 use Rattle.yq_documents.specs.Pieces.{piece_span, HoldsPiece}
@@ -29,6 +29,7 @@ use Rattle.yq_tree.proofs.SeatLaws.{part_begins}
 use Rattle.yq_tree.specs.PrintedLines.{printed_lines, line_in}
 use Rattle.yq_tree.specs.PathPieces.{PrintedDocument, behind_text, printed_part, printed_document, piece_in, piece_at}
 use Rattle.yq_tree.specs.PieceLaws.{PiecesHold}
+use Rattle.yq_tree.specs.RowWalk.{document_rows}
 use Rattle.yq_tree.proofs.PieceTexts.{document_text, document_whole, whole_text}
 use Rattle.yq_tree.proofs.PrintedLaws.{ArePrinted, lines_are, document_is}
 use Rattle.yq_tree.proofs.SeatedLines.{IsPlaced, document_placed}
@@ -56,10 +57,10 @@ no_lines true zero (marked p marker c) e = cc
 no_lines true (suc n) (marked p marker c) e = ap (option_map (behind_text (part_text p marker))) (no_lines (begins_document marker) n c e)
 no_lines false n (marked p marker c) e = ap (option_map (behind_text (part_text p marker))) (no_lines (begins_document marker) n c e)
 
-pub no_document : (n : ℕ) (c : Cut) → None ≡ first_row n c → printed_document n c ≡ None
+pub no_document : (n : ℕ) (c : Cut) → None ≡ document_rows n c → printed_document n c ≡ None
 no_document n c e = go (slice_get (document_parts c) n) refl e
   where
-    go : (o : Option Part) → slice_get (document_parts c) n ≡ o → None ≡ option_map (λ p. document_row n c) o → printed_document n c ≡ None
+    go : (o : Option Part) → slice_get (document_parts c) n ≡ o → ◌≡◌ {A = Option (ℕ × ℕ)} None (option_map (λ p. (document_row n c, document_row n c + length p.rows)) o) → printed_document n c ≡ None
     go None is e = no_lines _ n c is
     go (Some p) is e = cc
 

@@ -1,7 +1,7 @@
 -- What the code answers for a part of a node is the span of its piece.
 use Rattle.std.proofs.Common.{◌≡◌, ◌⊎◌, inl, inr, ℕ, zero, suc, ◌+◌, ◌-◌, ◌<◌, ◌≤◌, eqb, List, [], ◌∷◌, ◌++◌, length, take, drop, map, Option, Some, None, is_some, option_map, option_and_then, Bool, true, false, cond, refl, sym, ap, ◌∙◌, subst, arith, append_assoc, append-nil, length-append}
 use Rattle.std.proofs.Math.Seq.{drop-append_seam}
-use Rattle.std.proofs.lemmas.Bool.{cases_lt, eqb-true, cond-true, cond-false}
+use Rattle.std.proofs.lemmas.Bool.{cases_lt, eq-eqb, eqb-true, cond-true, cond-false}
 use Rattle.std.proofs.lemmas.List.{append_cancel_left}
 use Rattle.std.proofs.lemmas.Option.{slice_get-map, slice_get_within, none-some, same_Some}
 use Rattle.std.specs.List.{slice_get}
@@ -29,7 +29,7 @@ use Rattle.yq_lines.specs.Ends.{reached}
 use Rattle.yq_documents.specs.Seats.{Seat, seat}
 use Rattle.yq_lines.specs.Spots.{is_bare}
 use Rattle.yq_lines.proofs.Decides.{flatten-group, even_from}
-use Rattle.yq_tree.proofs.EntryPlaceLaws.{row_there, lines_none}
+use Rattle.yq_tree.proofs.EntryPlaceLaws.{by_line, row_there}
 use Rattle.yq_tree.proofs.RowPathLaws.{found_lines, found_place}
 use Rattle.yq_documents.specs.Pieces.{piece_span, head_piece}
 use Rattle.yq_tree.specs.PrintedLines.{line_front, PrintedLine, print_line, print_lines, printed_lines, line_in, run_piece, lines_piece}
@@ -44,10 +44,6 @@ use Rattle.yq_tree.proofs.RunSpans.{get_some, get_drop, content_size, seat_at, r
 use Rattle.yq_tree.proofs.UnderCounts.{count_stops, count_holds, end_is}
 use Rattle.yq_tree.proofs.FlowSpans.{item_place, value_place}
 use Rattle.yq_tree.proofs.PieceSpelling.{bare_is}
-
--- where a path leads among lines, by the number of the line
-abbrev pub by_line : Option (Found × List Step) → Option (ℕ × List Step)
-by_line o = option_map (λ x. (length (lines_before x.0.place), x.1)) o
 
 -- lists
 pub line_more : (ls : List PrintedLine) (n : ℕ) (l : PrintedLine) → slice_get ls n ≡ Some l → print_lines (take (suc n) ls) [] ≡ print_lines (take n ls) (print_line l [])
@@ -93,7 +89,7 @@ module _ (c : Cut) (p : Part) (more : List Row) (k : ℕ) (before behind : List 
       ArePrinted (take m (drop from (printed_lines p.rows))) rest →
       ((j : ℕ) → m ≡ suc j → (l x : PrintedLine) → slice_get (printed_lines p.rows) (from + j) ≡ Some l → slice_get (printed_lines p.rows) (suc (from + j)) ≡ Some x → level x.line ≤ level l.line) →
       option_map piece_span (lines_piece (before ++ print_lines (take from (printed_lines p.rows)) []) (take m (drop from (printed_lines p.rows))) rest) ≡ lines_content k c p.rows from (from + m)
-  block_span from zero o e rest within even lines told_in last = lines_none k c p.rows from (from + 0) (omega arith)
+  block_span from zero o e rest within even lines told_in last = sym (cond-true _ _ _ (eq-eqb from (from + 0) (omega arith)))
   block_span from (suc j) o e rest within even lines told_in last =
       let l = within_some (printed_lines p.rows) from (omega (arith, within)) in
       let us : List PrintedLine = take j (drop (suc from) (printed_lines p.rows)) in

@@ -29,7 +29,8 @@ use Rattle.yq_tree.specs.RemovalPlaces.{OwnRows, own_rows, Removal, kept_gap, ro
 use Rattle.yq_tree.specs.RemovalReading.{Marks, marks, marks_at, gap_at, IsOwn}
 use Rattle.yq_documents.specs.Seats.{document_row}
 use Rattle.yq_tree.proofs.CommentPieceLaws.{gap_end}
-use Rattle.yq_tree.proofs.LengthLaws.{print-length}
+use Rattle.yq_tree.proofs.LengthLaws.{}
+use Rattle.yq_rows.proofs.SliceLaws.{print-length}
 use Rattle.yq_tree.proofs.PlacedPartLaws.{map_some, part_stands}
 use Rattle.yq_tree.proofs.RemovalBounds.{gap_behind, last_row, text_before}
 use Rattle.yq_tree.proofs.RemovalLines.{LineSeam, are_lines, lies_in, line_seam}

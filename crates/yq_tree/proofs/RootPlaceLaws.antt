@@ -10,31 +10,29 @@ use Rattle.std.specs.Str.{IsUtf8, IsCharBoundary}
 use Rattle.yq_scalar.specs.Answers.{◌>>=◌}
 use Rattle.yq_scalar.specs.Characters.{text_limit}
 use Rattle.yq_scalar.proofs.Bools.{bind_some, guard_then}
-use Rattle.yq_lines.specs.Comments.{head_comment}
-use Rattle.yq_lines.specs.View.{views}
 use Rattle.yq_rows.specs.Grammar.{unlimited, AreRows, begins_document, IsCut, no_rows}
 use Rattle.yq_rows.specs.Offsets.{row_length}
 use Rattle.yq_rows.specs.Rows.{Row, rows_text, Part, part_text, Cut, last, marked}
 use Rattle.yq_rows.specs.View.{Slices, slices, Bound, bounds_from, rows_of, Shown, shown}
 use Rattle.yq_documents.specs.Documents.{begins_bare, has_begin, document_parts}
 use Rattle.yq_tree.specs.Extents.{bound_length, shown_length, IsShown}
-use Rattle.yq_documents.specs.Lines.{row_lines, lines_of}
-use Rattle.yq_documents.specs.PartReading.{Lined, some_begin, first_rows}
+use Rattle.yq_documents.specs.PartReading.{some_begin, first_rows}
 use Rattle.yq_tree.specs.PlacedRows.{PlacedPart, part_behind, placed_part, placed_document}
 use Rattle.yq_documents.specs.Reading.{cut_of}
+use Rattle.yq_documents.specs.Seats.{document_row}
+use Rattle.yq_tree.specs.RowWalk.{document_rows}
+use Rattle.yq_tree.specs.declared.places.spot.Stretch.{Stretch}
 use Rattle.yq_tree.specs.RootPlaces.{RootPlace}
 use Rattle.yq_tree.specs.RootReading.{part_number, end_length, if_unwritten, unwritten_place, unwritten_at}
-use Rattle.yq_documents.specs.SoundReading.{Holds}
-use Rattle.yq_documents.specs.declared.checks.DocumentLines.{DocumentLines}
 use Rattle.yq_tree.proofs.CommentPieceLaws.{gap_end}
 use Rattle.yq_tree.proofs.LengthLaws.{part-length, shown_small}
 use Rattle.yq_documents.proofs.PartsLinedLaws.{document_is}
 use Rattle.yq_tree.proofs.PlacedPartLaws.{map_some, part_stands}
-use Rattle.yq_documents.proofs.RowFlowLaws.{lines_count}
 use Rattle.yq_tree.proofs.PlacedRowLaws.{part_of, document_placed}
 use Rattle.yq_tree.proofs.RemovalLines.{LineSeam, lies_in, seam_join}
 use Rattle.yq_tree.proofs.RemovalTold.{line_boundary}
-use Rattle.yq_tree.proofs.SeatLaws.{none_past, part_at as part_of_held}
+use Rattle.yq_tree.proofs.WalkDocuments.{Found}
+use Rattle.yq_tree.proofs.WalkRows.{rows_length}
 
 -- ---- part after part
 
@@ -185,69 +183,57 @@ told_bound s k within = go s.bounds k within
     go (b ∷ bs) zero h = (b, refl)
     go (b ∷ bs) (suc k) h = go bs k (omega (arith, h))
 
--- ---- documents that the code holds
+-- ---- documents that were found
 
 -- the place of the root of document n, by where it stands
 placed_at : (n : ℕ) (c : Cut) (d : PlacedPart) → placed_document n c ≡ Some d → unwritten_place n c ≡ if_unwritten d
 placed_at n c d e = ap (λ (o : Option PlacedPart). o >>= if_unwritten) e
 
-none_there : (n : ℕ) (c : Cut) → slice_get (document_parts c) n ≡ None → unwritten_place n c ≡ None
-none_there n c e = go (placed_document n c) refl (sym (document_placed n c) ∙ e)
+pub none_there : (n : ℕ) (c : Cut) → None ≡ document_rows n c → None ≡ unwritten_at n c
+none_there n c e = go (placed_document n c) refl
   where
-    go : (o : Option PlacedPart) → placed_document n c ≡ o → part_of o ≡ None → unwritten_place n c ≡ None
-    go None is e = ap (λ (o : Option PlacedPart). o >>= if_unwritten) is
-    go (Some d) is e = absurd (cc)
+    go : (o : Option PlacedPart) → placed_document n c ≡ o → None ≡ unwritten_at n c
+    go None is = sym (ap (λ (o : Option PlacedPart). option_map (λ (x : RootPlace). length x.before) (o >>= if_unwritten)) is)
+    go (Some d) is = let at = document_placed n c ∙ ap part_of is in absurd (none-some _ (e ∙ ap (option_map (λ (p : Part). (document_row n c, document_row n c + length p.rows))) at))
 
 part_there : (n : ℕ) (c : Cut) (p : Part) → slice_get (document_parts c) n ≡ Some p → (d : PlacedPart) × (placed_document n c ≡ Some d) × (d.part ≡ p)
 part_there n c p e = map_some (λ (d : PlacedPart). d.part) (placed_document n c) p (sym (document_placed n c) ∙ e)
 
-pub past_none : (t : List ℕ) (s : Shown) (ds : List DocumentLines) (i : ℕ) → Holds t s ds → length ds ≤ i → unwritten_place i (cut_of t) ≡ None
-past_none t s ds i h past = none_there i (cut_of t) (none_past ds (document_parts (cut_of t)) h.lined i past)
-
-lines_none : (rs : List Row) → length (lines_of rs) ≡ 0 → rs ≡ []
-lines_none [] e = refl
-lines_none (r ∷ rs) e = absurd (omega (arith, e, length-append (row_lines r) (lines_of rs), lines_count (head_comment r.gap) r.column r.dashes r.mark r.content))
-
-pub written_none : (t : List ℕ) (s : Shown) (ds : List DocumentLines) (i : ℕ) (d : DocumentLines) → Holds t s ds → slice_get ds i ≡ Some d → (length (views d.lines) ≡ 0 → ⊥) → unwritten_place i (cut_of t) ≡ None
-written_none t s ds i d h at some =
-    let p = part_of_held ds (document_parts (cut_of t)) h.lined i d at in
-    let w = part_there i (cut_of t) p.0 p.1 in
-    let lines : views d.lines ≡ lines_of p.0.rows = ap (λ (x : Lined). x.1) p.2 in
-    placed_at i (cut_of t) w.0 w.1 ∙ cond-false _ _ _ (go w.0.part.rows (ap (λ (q : Part). q.rows) w.2) lines)
+pub written_none : (s : Shown) (c : Cut) (i : ℕ) (d : Stretch) → Found s c i d → (d.first ≡ d.end → ⊥) → None ≡ unwritten_at i c
+written_none s c i d f some =
+    let w = part_there i c f.part f.there in
+    let rows : w.0.part.rows ≡ f.document.rows = ap (λ (q : Part). q.rows) w.2 ∙ sym f.rows in
+    sym (ap (option_map (λ (x : RootPlace). length x.before)) (placed_at i c w.0 w.1 ∙ cond-false _ _ _ (go w.0.part.rows rows)))
   where
-    go : (rs : List Row) → {qs : List Row} → rs ≡ qs → views d.lines ≡ lines_of qs → no_rows rs ≡ false
-    go [] is lines = absurd (some (ap length (lines ∙ ap lines_of (sym is))))
-    go (r ∷ rs) is lines = refl
+    go : (rs : List Row) → rs ≡ f.document.rows → no_rows rs ≡ false
+    go [] is = absurd (some (omega (arith, ap length is, rows_length s d f.document, f.document.order)))
+    go (r ∷ rs) is = refl
 
 -- where such a document ends
-pub end_there : (t : List ℕ) (s : Shown) (ds : List DocumentLines) (i : ℕ) (d : DocumentLines) (first : Bool) (k : ℕ) (b : Bound) → Holds t s ds → slice_get ds i ≡ Some d → length (views d.lines) ≡ 0 →
-    first ≡ (first_rows s.bounds || not (some_begin s.bounds)) → Some k ≡ part_number first i 0 s.bounds → slice_get s.bounds k ≡ Some b → Some (end_length k b s) ≡ unwritten_at i (cut_of t)
-end_there t s ds i d first k b h at none first_is number bound =
-    let c : Cut = cut_of t in
-    let p = part_of_held ds (document_parts c) h.lined i d at in
-    let w = part_there i c p.0 p.1 in
-    let no_lines : lines_of w.0.part.rows ≡ [] = ap (λ (q : Part). lines_of q.rows) w.2 ∙ (sym (ap (λ (x : Lined). x.1) p.2) ∙ nil_from_length (views d.lines) none) in
-    let rows : w.0.part.rows ≡ [] = lines_none w.0.part.rows (ap length no_lines) in
+pub end_there : (s : Shown) (c : Cut) (i : ℕ) (d : Stretch) (first : Bool) (k : ℕ) (b : Bound) → s ≡ shown c → Found s c i d → d.first ≡ d.end →
+    first ≡ (first_rows s.bounds || not (some_begin s.bounds)) → Some k ≡ part_number first i 0 s.bounds → slice_get s.bounds k ≡ Some b → Some (end_length k b s) ≡ unwritten_at i c
+end_there s c i d first k b is f none first_is number bound =
+    let w = part_there i c f.part f.there in
+    let rows : w.0.part.rows ≡ [] = ap (λ (q : Part). q.rows) w.2 ∙ (sym f.rows ∙ nil_from_length f.document.rows (omega (arith, none, rows_length s d f.document))) in
     let e = ends_at (begins_bare c || not (has_begin c)) i 0 0 c w.0 w.1 in
-    let told : Some k ≡ Some (0 + e.number) = number ∙ ((λ j. part_number ((first_is ∙ document_is c s h.rows) j) i 0 (h.rows j).bounds) ∙ e.number_is) in
+    let told : Some k ≡ Some (0 + e.number) = number ∙ ((λ j. part_number ((first_is ∙ document_is c s is) j) i 0 (is j).bounds) ∙ e.number_is) in
     let same : k ≡ e.number = same_Some _ _ told ∙ omega arith in
-    let own : b ≡ e.bound = same_Some _ _ (sym bound ∙ ((λ j. slice_get (h.rows j).bounds (same j)) ∙ e.bound_is)) in
+    let own : b ≡ e.bound = same_Some _ _ (sym bound ∙ ((λ j. slice_get (is j).bounds (same j)) ∙ e.bound_is)) in
     let size : b.rows ≡ e.size = ap (λ (x : Bound). x.rows) own ∙ (e.rows ∙ omega arith) in
     let lengths : end_length k b s ≡ length (w.0.before ++ part_text w.0.part []) =
-    (λ j. sum_by row_length (take (size j) (h.rows j).rows) + sum_by bound_length (take (same j) (h.rows j).bounds) + length (own j).end) ∙ e.length_is in
+    (λ j. sum_by row_length (take (size j) (is j).rows) + sum_by bound_length (take (same j) (is j).bounds) + length (own j).end) ∙ e.length_is in
     let text : part_text w.0.part [] ≡ w.0.part.end = ap (λ (rs : List Row). rows_text rs (w.0.part.end ++ [])) rows ∙ append-nil w.0.part.end in
     ap Some (lengths ∙ ap (λ x. length (w.0.before ++ x)) text)
     ∙ sym (ap (option_map (λ (x : RootPlace). length x.before)) (placed_at i c w.0 w.1 ∙ cond-true _ _ _ (ap no_rows rows)))
 
-pub no_end : (t : List ℕ) (s : Shown) (ds : List DocumentLines) (i : ℕ) (first : Bool) → Holds t s ds → first ≡ (first_rows s.bounds || not (some_begin s.bounds)) → None ≡ part_number first i 0 s.bounds → None ≡ unwritten_at i (cut_of t)
-no_end t s ds i first h first_is number = go (placed_document i (cut_of t)) refl
+pub no_end : (s : Shown) (c : Cut) (i : ℕ) (first : Bool) → s ≡ shown c → first ≡ (first_rows s.bounds || not (some_begin s.bounds)) → None ≡ part_number first i 0 s.bounds → None ≡ unwritten_at i c
+no_end s c i first is first_is number = go (placed_document i c) refl
   where
-    go : (o : Option PlacedPart) → placed_document i (cut_of t) ≡ o → None ≡ unwritten_at i (cut_of t)
-    go None is = sym (ap (λ (o : Option PlacedPart). option_map (λ (x : RootPlace). length x.before) (o >>= if_unwritten)) is)
-    go (Some d) is =
-        let c : Cut = cut_of t in
-        let e = ends_at (begins_bare c || not (has_begin c)) i 0 0 c d is in
-        absurd (none-some _ (number ∙ ((λ j. part_number ((first_is ∙ document_is c s h.rows) j) i 0 (h.rows j).bounds) ∙ e.number_is)))
+    go : (o : Option PlacedPart) → placed_document i c ≡ o → None ≡ unwritten_at i c
+    go None at = sym (ap (λ (o : Option PlacedPart). option_map (λ (x : RootPlace). length x.before) (o >>= if_unwritten)) at)
+    go (Some d) at =
+        let e = ends_at (begins_bare c || not (has_begin c)) i 0 0 c d at in
+        absurd (none-some _ (number ∙ ((λ j. part_number ((first_is ∙ document_is c s is) j) i 0 (is j).bounds) ∙ e.number_is)))
 
 -- ---- the place in the text
 

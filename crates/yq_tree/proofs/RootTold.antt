@@ -59,16 +59,16 @@ cut_out t path place cut sound u at =
       ends = subst (IsCharBoundary (drop place.0 t)) (sym size) (IsCharBoundary-at_seam (drop place.0 t) y.0.text y.0.behind rest (subst IsUtf8 tail (IsUtf8-drop t place.1 u span.ends)));
     }
 
-pub collection_told : (t : List ℕ) (path : Path) (place : ℕ × ℕ) (e : CollectionEnd) (before old behind : List ℕ) → IsCutOut t path place → Some e ≡ collection_end path.doc (steps_of path) (cut_of t) →
+pub collection_told : (t : List ℕ) (path : Path) (place : ℕ × ℕ) (column : ℕ) (e : CollectionEnd) (before old behind : List ℕ) → IsCutOut t path place → Some e ≡ collection_end path.doc (steps_of path) (cut_of t) → column ≡ e.column →
     before ≡ take place.0 t → old ≡ take (place.1 - place.0) (drop place.0 t) → behind ≡ drop (place.1 - place.0) (drop place.0 t) →
-    Some (record { before = before; old = Some old; behind = behind; column = e.column }) ≡ collection_place path (cut_of t)
-collection_told t path place e before old behind h at a b d =
+    Some (record { before = before; old = Some old; behind = behind; column = column }) ≡ collection_place path (cut_of t)
+collection_told t path place column e before old behind h at same a b d =
     let y : Piece = h.piece in
     let rest : drop place.0 t ≡ y.text ++ y.behind = (λ i. drop (h.from i) (h.text i)) ∙ drop-append_seam y.before (y.text ++ y.behind) in
     let first : before ≡ y.before = a ∙ ((λ i. take (h.from i) (h.text i)) ∙ take-append_seam y.before (y.text ++ y.behind)) in
     let second : old ≡ y.text = b ∙ ((λ i. take (h.size i) (rest i)) ∙ take-append_seam y.text y.behind) in
     let third : behind ≡ y.behind = d ∙ ((λ i. drop (h.size i) (rest i)) ∙ drop-append_seam y.text y.behind) in
-    (λ i. Some (record { before = first i; old = Some (second i); behind = third i; column = e.column }))
+    (λ i. Some (record { before = first i; old = Some (second i); behind = third i; column = same i }))
     ∙ ((λ i. option_map (λ (x : Piece). written_root x e.column) (sym h.is i))
     ∙ ap (λ (o : Option CollectionEnd). o >>= λ e. option_map (λ (x : Piece). written_root x e.column) (piece_at path parts.Content (cut_of t))) at)
 

@@ -2,15 +2,15 @@
 use Rattle.std.proofs.Common.{◌≡◌, ◌⊎◌, inl, inr, ℕ, zero, suc, ◌+◌, ◌-◌, ◌<◌, ◌≤◌, List, [], ◌∷◌, ◌++◌, length, take, get_or, Some, None, option_map, refl, ap, ◌∙◌, arith, length-append}
 use Rattle.std.proofs.lemmas.Bool.{cases_lt, lt-ltb, le-ltb, cond-true, cond-false}
 use Rattle.std.proofs.lemmas.Option.{slice_get_cases, slice_get-map}
-use Rattle.std.specs.List.{slice_get, sum_by}
+use Rattle.std.specs.List.{slice_get}
 use Rattle.yq_rows.specs.Exchange.{row_front, before_at, before_content}
 use Rattle.yq_rows.specs.Rows.{Row, rows_text, part_text, Cut, last, marked}
 use Rattle.yq_rows.specs.View.{Slices, slices, rows_of, Shown, shown}
 use Rattle.yq_rows.proofs.ExchangeLaws.{slice_front, slice_back}
-use Rattle.yq_rows.specs.Offsets.{row_length}
-use Rattle.yq_tree.specs.Extents.{passed_length, row_start, shown_length, front_length, head_place}
+use Rattle.yq_tree.specs.Extents.{row_start, shown_length, front_length, head_place}
 use Rattle.yq_tree.specs.CommentReading.{before_row}
-use Rattle.yq_tree.proofs.LengthLaws.{row_fits, print-length, part-length, front-length, head_told}
+use Rattle.yq_tree.proofs.LengthLaws.{row_fits, part-length, front-length, head_told}
+use Rattle.yq_rows.proofs.SliceLaws.{print-length}
 
 -- a row begins within the text
 pub start_fits : (s : Shown) (i : ℕ) → i < length s.rows → row_start i s ≤ shown_length s
@@ -55,7 +55,7 @@ pub start_told : (c : Cut) (i : ℕ) (r : Row) → slice_get (rows_of c) i ≡ S
 start_told c i r is =
     let s : Slices = slices r in
     let there : slice_get (shown c).rows i ≡ Some s = slice_get-map slices (rows_of c) i ∙ ap (option_map slices) is in
-    let told = head_told (shown c) i (sum_by row_length (take i (shown c).rows)) (sum_by (passed_length i) (shown c).bounds) (front_length s) (length s.head) s there refl refl refl refl c refl r is in
+    let told = head_told (shown c) i (row_start i (shown c)) (front_length s) (length s.head) s there refl refl refl c refl r is in
     let place : row_start i (shown c) + front_length s ≡ (head_place i c r).0 = ap (λ (x : ℕ × ℕ). x.0) told in
     omega (
       arith,

@@ -1,6 +1,6 @@
 -- What stands under a line or a document, and in which row of a cut a line is.
-use Rattle.std.proofs.Common.{◌≡◌, ◌⊎◌, inl, inr, ℕ, suc, ◌+◌, ◌-◌, ◌<◌, ◌≤◌, ltb, eqb, Bool, true, false, not, cond, ◌||◌, List, [], ◌∷◌, ◌++◌, length, drop, get_or, Option, Some, None, option_map, option_and_then, refl, sym, ap, ◌∙◌, arith}
-use Rattle.std.proofs.lemmas.Bool.{cases_Bool, cases_lt, eq-eqb, ne_eqb, eqb-true, eqb-false, lt-ltb, le-ltb, cond-true, cond-false}
+use Rattle.std.proofs.Common.{◌≡◌, ◌⊎◌, inl, inr, ℕ, suc, ◌+◌, ◌-◌, ◌<◌, ◌≤◌, ltb, eqb, Bool, true, false, cond, ◌||◌, List, [], ◌∷◌, length, drop, get_or, Option, Some, None, option_map, option_and_then, refl, sym, ap, ◌∙◌, arith}
+use Rattle.std.proofs.lemmas.Bool.{cases_Bool, cases_lt, false≢true, eq-eqb, ne_eqb, eqb-true, eqb-false, lt-ltb, le-ltb, cond-true, cond-false}
 use Rattle.std.proofs.lemmas.List.{drop_all}
 use Rattle.std.proofs.lemmas.Option.{slice_get_cases, slice_get_within}
 use Rattle.std.specs.List.{slice_get}
@@ -17,9 +17,8 @@ use Rattle.yq_lines.proofs.LinesLaws.{part-all}
 use Rattle.yq_lines.proofs.Parts.{drop_at, part_row, part_stop}
 use Rattle.yq_rows.specs.Rows.{Row, Cut}
 use Rattle.yq_rows.specs.View.{rows_of, Shown}
-use Rattle.yq_documents.specs.Lines.{lines_of}
 use Rattle.yq_documents.specs.Seats.{Seat, seat}
-use Rattle.yq_tree.specs.RowWalk.{HasDocument, InCut, IsLine, line_number}
+use Rattle.yq_tree.specs.RowWalk.{InCut, IsLine, line_number}
 use Rattle.yq_tree.specs.declared.places.spot.Spot.{Spot}
 use Rattle.yq_tree.specs.declared.places.spot.Stretch.{Stretch}
 use Rattle.yq_tree.proofs.EntryPlaceLaws.{row_there}
@@ -119,6 +118,12 @@ node_first {A = A} ls n to floor x e = go ((slice_get_cases ls n).1)
 pub no_steps : (steps : List Step) → true ≡ eqb (length steps) 0 → steps ≡ []
 no_steps [] e = refl
 no_steps (s ∷ ss) e = absurd (omega (arith, eqb-true (length (s ∷ ss)) 0 (sym e)))
+
+-- what is said of the line to which steps lead, where there are any
+pub along_line : {A : Type 0} (along : List Step → Option A) (line : ℕ → Option A) (ls : List Line) (steps : List Step) → ((s : Step) (ss : List Step) → (line_of (s ∷ ss) ls >>= line) ≡ along (s ∷ ss)) → false ≡ eqb (length steps) 0 →
+    (line_of steps ls >>= line) ≡ along steps
+along_line along line ls [] e some = absurd (false≢true (some ∙ eq-eqb 0 0 refl))
+along_line along line ls (s ∷ ss) e some = e s ss
 
 -- where steps lead nowhere, no line is
 pub no_line : (steps : List Step) (ls : List Line) → None ≡ reached steps ls → None ≡ line_of steps ls

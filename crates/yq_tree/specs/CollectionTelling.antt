@@ -17,10 +17,10 @@ abbrev pub lines_column : List Line → ℕ → ℕ → Option ℕ
 lines_column ls from to = if from == to then None else (slice_get ls from >>= λ l. if is_bare l.mark then None else Some l.column)
 
 -- the same of the lines under line n, if it has no head
-abbrev pub line_column : List Line → ℕ → Option ℕ
-line_column ls n = slice_get ls n >>= λ l. if is_some l.head then None else lines_column ls (n + 1) (lines_end n ls)
+abbrev pub under_column : List Line → ℕ → Option ℕ
+under_column ls n = slice_get ls n >>= λ l. if is_some l.head then None else lines_column ls (n + 1) (lines_end n ls)
 
 -- the same of the node to which steps lead
 abbrev pub column_of : List Step → List Line → Option ℕ
 column_of [] ls = lines_column ls 0 (length ls)
-column_of (s ∷ ss) ls = line_of (s ∷ ss) ls >>= line_column ls
+column_of (s ∷ ss) ls = line_of (s ∷ ss) ls >>= under_column ls

@@ -15,7 +15,8 @@ use Rattle.yq_documents.specs.Documents.{document_parts}
 use Rattle.yq_tree.specs.Extents.{head_place}
 use Rattle.yq_documents.specs.Lines.{tail_of, lines_of}
 use Rattle.yq_documents.specs.Located.{steps_of}
-use Rattle.yq_lines.specs.Ends.{reached, lines_end}
+use Rattle.yq_lines.specs.Outline.{Line}
+use Rattle.yq_lines.specs.Ends.{line_of, reached, lines_end}
 use Rattle.yq_documents.specs.Seats.{seat, document_row, Seat}
 use Rattle.yq_lines.specs.Spots.{is_bare}
 use Rattle.yq_documents.specs.FlowReading.{row_flow}
@@ -107,6 +108,36 @@ entry_at p c = slice_get (document_parts c) p.doc >>= λ d. entry_of (document_r
 abbrev pub content_at : Path → Cut → Option (ℕ × ℕ)
 content_at p c = slice_get (document_parts c) p.doc >>= λ d. content_of (document_row p.doc c) c d.rows (steps_of p)
 
+-- the place of the entry or item of the line to which steps lead among rows
+abbrev pub line_entry_of : ℕ → Cut → List Row → List Step → Option (ℕ × ℕ)
+line_entry_of k c rs steps = line_of steps (lines_of rs) >>= line_entry k c rs
+
+-- the place of the node of rows, or of the line to which steps lead among them
+abbrev pub line_content_of : ℕ → Cut → List Row → List Step → Option (ℕ × ℕ)
+line_content_of k c rs [] = lines_content k c rs 0 (length (lines_of rs))
+line_content_of k c rs (s ∷ ss) = line_of (s ∷ ss) (lines_of rs) >>= line_content k c rs
+
+-- the item or entry to which steps lead in the head of line n, if any are left (7.4)
+abbrev pub flow_entry_from : ℕ → Cut → List Row → ℕ → List Step → Option PlacedEntry
+flow_entry_from k c rs n [] = None
+flow_entry_from k c rs n (s ∷ ss) = flow_entry k c rs n (s ∷ ss)
+
+-- the item or entry of a flow collection to which steps lead among rows (7.4)
+abbrev pub flow_entry_of : ℕ → Cut → List Row → List Step → Option PlacedEntry
+flow_entry_of k c rs steps = reached steps (lines_of rs) >>= λ x. flow_entry_from k c rs x.0 x.1
+
+-- the place of the entry or item at a path, unless it stands in flow
+abbrev pub line_entry_at : Path → Cut → Option (ℕ × ℕ)
+line_entry_at p c = slice_get (document_parts c) p.doc >>= λ d. line_entry_of (document_row p.doc c) c d.rows (steps_of p)
+
+-- the place of the content of the node at a path, unless it stands in flow
+abbrev pub line_content_at : Path → Cut → Option (ℕ × ℕ)
+line_content_at p c = slice_get (document_parts c) p.doc >>= λ d. line_content_of (document_row p.doc c) c d.rows (steps_of p)
+
+-- the item or entry of a flow collection at a path (7.4)
+abbrev pub flow_entry_at : Path → Cut → Option PlacedEntry
+flow_entry_at p c = slice_get (document_parts c) p.doc >>= λ d. flow_entry_of (document_row p.doc c) c d.rows (steps_of p)
+
 -- how far it is in a text to the dash before which k others stand, or to the end
 unfoldable pub dash_at : ℕ → List ℕ → ℕ
 dash_at k [] = 0
@@ -120,10 +151,6 @@ line_begin start s k = start + length s.gap + s.column + dash_at k s.dashes
 abbrev pub head_finish : ℕ → Slices → ℕ
 head_finish end s = if begins_block s.head then end + length s.tail + length s.raw else end
 
--- how many rows stand before document n, if there is such a document
-abbrev pub first_row : ℕ → Cut → Option ℕ
-first_row n c = option_map (λ p. document_row n c) (slice_get (document_parts c) n)
-
 -- the item or entry to which steps lead in an alias or flow collection, if there is one
 abbrev pub entry_within : List Step → Option Placed → Option PlacedEntry
 entry_within steps flow = flow >>= λ p. placed_entry_at steps (None, p)
@@ -131,3 +158,7 @@ entry_within steps flow = flow >>= λ p. placed_entry_at steps (None, p)
 -- line by line, these are the aliases and flow collections in the heads of rows, before which k rows of a cut stand
 abbrev pub HasFlows : ℕ → Cut → List Row → List (Option Placed) → Type 0
 HasFlows k c rs fs = (n : ℕ) (s : Seat) → seat n rs ≡ Some s → s.line ≡ length s.row.dashes → slice_get fs n ≡ Some (row_flow (length (cut_text c)) s.row (behind_row (k + s.before) c))
+
+-- What is said of lines and what stands in flow in them is so of the rows of which they are, among those of a cut.
+abbrev pub HeldAs : List Line → List (Option Placed) → (ℕ → Cut → List Row → Type 0) → Type 0
+HeldAs ls fs said = (k : ℕ) (c : Cut) (rs : List Row) → ls ≡ lines_of rs → HasFlows k c rs fs → said k c rs

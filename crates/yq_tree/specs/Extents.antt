@@ -1,30 +1,19 @@
 -- Reading (own; a reader may skip it): where what a row spells stands in its text, by the pieces of rows.
-use Rattle.std.specs.Prelude.{ℕ, ◌+◌, ◌-◌, ◌≤◌, ◌≡◌, nat_le, ◌==◌, List, ◌++◌, length, take, if◌then◌else◌}
+use Rattle.std.specs.Prelude.{ℕ, ◌+◌, ◌-◌, ◌≤◌, ◌≡◌, ◌==◌, List, ◌++◌, length, if◌then◌else◌}
 use Rattle.std.specs.List.{sum_by, count_by}
 use Rattle.yq_scalar.specs.Characters.{text_limit}
 use Rattle.yq_scalar.specs.Text.{is_empty}
 use Rattle.yq_rows.specs.Exchange.{before_content}
 use Rattle.yq_rows.specs.Offsets.{row_length}
 use Rattle.yq_rows.specs.Rows.{Row, Cut, cut_text}
-use Rattle.yq_rows.specs.View.{Slices, slices, Bound, Shown, shown}
+pub use Rattle.yq_rows.specs.RowStarts.{bound_length, passed_length, row_start}
+use Rattle.yq_rows.specs.View.{Slices, slices, Shown, shown}
 
 -- The place of a row's head: behind the text before the row's content, white space, an anchor and the white space behind that.
 abbrev pub head_place : ℕ → Cut → Row → ℕ × ℕ
 head_place i c r =
     let s = slices r in
     let start = length (before_content i c ++ (s.space ++ (s.anchor ++ s.apart))) in (start, start + length s.head)
-
--- how long the end of a part is, with the marker behind it
-abbrev pub bound_length : Bound → ℕ
-bound_length b = length b.end + length b.marker
-
--- the same where that part ends before row i, else 0
-abbrev pub passed_length : ℕ → Bound → ℕ
-passed_length i b = if nat_le b.rows i then bound_length b else 0
-
--- how long the pieces of the rows and the ends of the parts before row i are
-abbrev pub row_start : ℕ → Shown → ℕ
-row_start i s = sum_by row_length (take i s.rows) + sum_by (passed_length i) s.bounds
 
 -- how long the pieces of a row before its head are
 abbrev pub front_length : Slices → ℕ

@@ -4,7 +4,7 @@ use Rattle.yq_scalar.specs.Answers.{◌>>=◌}
 use Rattle.yq_scalar.specs.Paths.{Step}
 use Rattle.yq_rows.specs.Rows.{Content, Nothing, Inline, Block, Row, Cut}
 use Rattle.yq_lines.specs.Bodies.{lent}
-use Rattle.yq_lines.specs.Ends.{lines_end, reached}
+use Rattle.yq_lines.specs.Ends.{line_of, lines_end}
 use Rattle.yq_lines.specs.Spots.{is_bare}
 use Rattle.yq_tree.specs.declared.places.inline_place.InlinePlace as declared
 use Rattle.yq_tree.specs.declared.places.inline_place.InlineSpan.{InlineSpan}
@@ -54,15 +54,10 @@ abbrev pub entry_extent : ℕ → Cut → List Row → ℕ → Option InlineExte
 entry_extent k c rs n =
     slice_get (lines_of rs) n >>= λ l. if is_some l.head || (lines_end n (lines_of rs) == suc n) then line_extent false k c rs n else lines_extent k c rs (suc n) (lines_end n (lines_of rs))
 
--- the same, where no steps are left that lead on in the line
-abbrev pub extent_from : ℕ → Cut → List Row → ℕ → List Step → Option InlineExtent
-extent_from k c rs n [] = entry_extent k c rs n
-extent_from k c rs n (s ∷ ss) = None
-
 -- the same of the node to which steps lead among rows
 abbrev pub extent_in : ℕ → Cut → List Row → List Step → Option InlineExtent
 extent_in k c rs [] = lines_extent k c rs 0 (length (lines_of rs))
-extent_in k c rs (s ∷ ss) = reached (s ∷ ss) (lines_of rs) >>= λ x. extent_from k c rs x.0 x.1
+extent_in k c rs (s ∷ ss) = line_of (s ∷ ss) (lines_of rs) >>= entry_extent k c rs
 
 -- the same of the node to which steps lead in document n of a cut
 abbrev pub extent_at : ℕ → List Step → Cut → Option InlineExtent

@@ -26,9 +26,13 @@ use Rattle.yq_tree.specs.declared.places.spot_reach.Next as nexts
 abbrev pub line_rank : ℕ → Slices → ℕ
 line_rank k s = if nat_lt (dash_at k s.dashes) (length s.dashes) then 3 else (if is_empty s.colon then 1 else 2)
 
+-- the column of line k of a row (8.2.3)
+abbrev pub line_column : ℕ → Slices → ℕ
+line_column k s = s.column + dash_at k s.dashes
+
 -- how deep line k of a row is (8.2.3)
 abbrev pub line_level : ℕ → Slices → ℕ
-line_level k s = 3 * (s.column + dash_at k s.dashes) + line_rank k s
+line_level k s = 3 * line_column k s + line_rank k s
 
 -- how many rows in front begin deeper than a level (8.2)
 abbrev pub deeper_rows : ℕ → List Slices → ℕ
@@ -63,9 +67,20 @@ pub record IsLine (s : Shown) (d : Stretch) (q : Spot) : Type 0 where
 abbrev pub line_number : Stretch → List Row → Spot → ℕ
 line_number d rs q = length (lines_of (take (q.row - d.first) rs)) + q.line
 
+-- Lines of a document from one up to another one, which is the first line of its row or the end.
+pub record AreLines (s : Shown) (d : Stretch) (p q : Spot) : Type 0 where
+  pub begin : IsSpot s d p
+  pub stop : IsSpot s d q
+  pub first : q.line ≡ 0
+  pub order : (h : HasDocument s d) → line_number d h.rows p ≤ line_number d h.rows q
+
 -- What is said of the line of a document that is there.
 abbrev pub OfLine : Shown → Stretch → Spot → (Line → Type 0) → Type 0
 OfLine s d q said = (h : HasDocument s d) (l : Line) → slice_get (lines_of h.rows) (line_number d h.rows q) ≡ Some l → said l
+
+-- What is said of the lines of a document, with their numbers.
+abbrev pub OfLines : Shown → Stretch → (List Line → (Spot → ℕ) → Type 0) → Type 0
+OfLines s d said = (h : HasDocument s d) → said (lines_of h.rows) (line_number d h.rows)
 
 -- A step leads to that line, if to any, among the lines from one on that are deeper than a level.
 abbrev pub Finds : Shown → Stretch → Spot → ℕ → Step → Option Spot → Type 0
@@ -123,3 +138,7 @@ pub record InCut (s : Shown) (d : Stretch) (c : Cut) : Type 0 where
 -- Lines from one on that are deeper than a level end before that number exactly where there are none of them.
 abbrev pub EndsAt : Stretch → List Row → Spot → ℕ → ℕ → Type 0
 EndsAt d rs under floor to = nat_eq (line_number d rs under) to ≡ is_end (part (lines_of rs) (line_number d rs under) floor)
+
+-- What is said of a document is so of its rows, with the numbers of its lines, in each cut in which these stand.
+abbrev pub InEach : Shown → Stretch → (ℕ → Cut → List Row → (Spot → ℕ) → Type 0) → Type 0
+InEach s d said = (c : Cut) (k : InCut s d c) → said d.first c k.document.rows (line_number d k.document.rows)

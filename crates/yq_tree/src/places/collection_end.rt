@@ -1,19 +1,31 @@
 //! Where one more item or entry of a block collection stands.
-ghost use Rattle.std.specs.Prelude.{◌≡◌, ◌<◌, ◌≤◌, ◌++◌, List, ℕ, length, map, not, option_map};
+ghost use Rattle.std.specs.Prelude.{◌≡◌, ◌++◌, List, ℕ, length, map, not, option_map, IfSome, Some};
 ghost use Rattle.std.specs.Str.{IsCharBoundary};
 ghost use Rattle.yq_inline.specs.Entries.{step_of};
-ghost use Rattle.yq_lines.specs.View.{views};
+ghost use Rattle.yq_rows.specs.Rows.{Cut};
 ghost use Rattle.yq_scalar.specs.Text.{cut_line, is_empty};
 ghost use Rattle.yq_tree.specs.CollectionEnds as spec;
 ghost use Rattle.yq_tree.specs.CollectionTelling as telling;
 ghost use Rattle.yq_tree.specs.CollectionTelling.{collection_told};
+ghost use Rattle.yq_tree.specs.EntryReading as reading;
+ghost use Rattle.yq_tree.specs.Extents.{IsShown};
+ghost use Rattle.yq_tree.specs.RowWalk.{AreLines, HasDocument, InEach, IsLine, OfLines};
+ghost use Rattle.yq_tree.specs.PathPieces.{piece_at};
+ghost use Rattle.yq_documents.specs.Lines.{lines_of};
 ghost use Rattle.yq_documents.specs.Located.{steps_of};
+ghost use Rattle.yq_documents.specs.Pieces.{piece_span, span};
 ghost use Rattle.yq_documents.specs.Reading.{cut_of};
+ghost use Rattle.yq_documents.specs.declared.path.Part.TheVariants as parts;
 
+use crate::cut_text::CutText;
 use crate::document::Documents;
-use yq_documents::Path;
+use crate::places::entry_place::lines_place;
+use crate::places::spot::{Spot, Stretch, all_lines, column_at, lines_under};
+use crate::places::spot_marks::{has_head, is_bare};
+use crate::places::spot_reach::line_at;
+use yq_documents::{Path, Span};
 use yq_inline::Step;
-use yq_lines::Lined;
+use yq_rows::Rows;
 use yq_scalar::lines::split_line;
 
 /// The end of a block collection in a text.
@@ -29,39 +41,61 @@ pub struct CollectionEnd<'d> {
     pub behind: &'d str,
 }
 
-/// The column of the block collection for which the lines from one up to another one stand.
-fn lines_column(lines: &Lined<'_>, from: usize, to: usize) -> Option<usize>
-    requires order { from ≤ to }
-    requires within { to ≤ length (views lines.now) }
-    ensures { result ≡ telling.lines_column (views lines.now) from to }
-{
-    if from == to || lines.is_bare(from) {
-        return None;
-    }
-    Some(lines.lines()[from].column as usize)
+/// A block collection: the column of its items or entries, and its place.
+#[derive(Clone, Copy, Debug)]
+pub(crate) struct Collection {
+    pub(crate) column: usize,
+    pub(crate) place: Span,
 }
 
-/// The same of the lines under a line, if it has no head.
-fn line_column(lines: &Lined<'_>, line: usize) -> Option<usize>
-    requires { line < length (views lines.now) }
-    ensures { result ≡ telling.line_column (views lines.now) line }
+/// The block collection for which the lines from one up to another one stand.
+fn lines_collection(rows: &Rows<'_>, document: Stretch, from: Spot, to: Spot) -> Option<Collection>
+    requires shown { IsShown rows.now }
+    requires document { HasDocument rows.now document }
+    requires lines { AreLines rows.now document from to }
+    ensures column { OfLines rows.now document (λ ls n. option_map (λ x. x.column) result ≡ telling.lines_column ls (n from) (n to)) }
+    ensures place { IfSome result (λ x. InEach rows.now document (λ first c rs n. Some (span x.place) ≡ reading.lines_content first c rs (n from) (n to))) }
 {
-    let end = lines.end_of(line);
-    if lines.has_head(line) {
+    if from.row >= to.row {
         return None;
     }
-    lines_column(lines, line + 1, end)
+    if is_bare(rows, document, from) {
+        return None;
+    }
+    Some(Collection {
+        column: column_at(rows, from),
+        place: lines_place(rows, document, from, to),
+    })
 }
 
-/// The column of the block collection to which steps lead.
-fn column_of(lines: &Lined<'_>, steps: &[Step]) -> Option<usize>
-    ensures { result ≡ telling.column_of (map step_of steps.now) (views lines.now) }
+/// The block collection under a line, if it has no head.
+fn line_collection(rows: &Rows<'_>, document: Stretch, at: Spot) -> Option<Collection>
+    requires shown { IsShown rows.now }
+    requires document { HasDocument rows.now document }
+    requires at { IsLine rows.now document at }
+    ensures column { OfLines rows.now document (λ ls n. option_map (λ x. x.column) result ≡ telling.under_column ls (n at)) }
+    ensures place { IfSome result (λ x. InEach rows.now document (λ first c rs n. Some (span x.place) ≡ reading.line_content first c rs (n at))) }
+{
+    if has_head(rows, document, at) {
+        return None;
+    }
+    let (from, to) = lines_under(rows, document, at);
+    lines_collection(rows, document, from, to)
+}
+
+/// The block collection to which steps lead.
+fn collection_of(rows: &Rows<'_>, document: Stretch, steps: &[Step]) -> Option<Collection>
+    requires shown { IsShown rows.now }
+    requires document { HasDocument rows.now document }
+    ensures column { OfLines rows.now document (λ ls n. option_map (λ x. x.column) result ≡ telling.column_of (map step_of steps.now) ls) }
+    ensures place { IfSome result (λ x. InEach rows.now document (λ first c rs n. Some (span x.place) ≡ reading.content_of first c rs (map step_of steps.now))) }
 {
     if steps.is_empty() {
-        return lines_column(lines, 0, lines.count());
+        let (from, to) = all_lines(document);
+        return lines_collection(rows, document, from, to);
     }
-    let line = lines.line_at(steps)?;
-    line_column(lines, line)
+    let at = line_at(rows, document, steps)?;
+    line_collection(rows, document, at)
 }
 
 /// The end of the block collection that ends at a place, in bytes, before its last break.
@@ -80,17 +114,32 @@ fn end_at(whole: &str, column: usize, end: usize) -> CollectionEnd<'_>
     }
 }
 
-impl Documents<'_> {
+impl<'t> CutText<'_, 't> {
+    /// The block collection at a path.
+    pub(crate) fn collection(&self, path: &Path) -> Option<Collection>
+        ensures column { option_map (λ x. x.column) result ≡ option_map (λ x. x.column) (spec.collection_end path.now.doc (steps_of path.now) (cut_of self.now)) }
+        ensures place { IfSome result (λ x. Some (span x.place) ≡ option_map piece_span (piece_at path.now parts.Content (cut_of self.now))) }
+    {
+        let document = self.stretch(path.doc)?;
+        let _whole = self.whole();
+        collection_of(self.rows(), document, &path.steps)
+    }
+
     /// The end of the block collection at a path, behind which one more item or entry would stand.
+    pub fn collection_end(&self, path: &Path) -> Option<CollectionEnd<'t>>
+        ensures { option_map collection_told result ≡ spec.collection_end path.now.doc (steps_of path.now) (cut_of self.now) }
+    {
+        let whole = self.whole();
+        let collection = self.collection(path)?;
+        Some(end_at(whole, collection.column, collection.place.end))
+    }
+}
+
+impl Documents<'_> {
+    /// The same of the text of the documents.
     pub fn collection_end(&self, path: &Path) -> Option<CollectionEnd<'_>>
         ensures { option_map collection_told result ≡ spec.collection_end path.now.doc (steps_of path.now) (cut_of self.now) }
     {
-        if path.doc >= self.documents.len() {
-            return None;
-        }
-        let whole = self.whole();
-        let column = column_of(&self.documents[path.doc].lines, &path.steps)?;
-        let place = self.content_place(path)?;
-        Some(end_at(whole, column, place.end))
+        self.cut().collection_end(path)
     }
 }

@@ -13,7 +13,7 @@ ghost use Rattle.yq_documents.specs.declared.path.Part.TheVariants as parts;
 
 use crate::cut_text::CutText;
 use crate::places::extent::{front_len, row_start};
-use crate::places::seat::Seat;
+use crate::places::spot::Seat;
 use yq_documents::{Path, Span, is_comment, last_run};
 use yq_rows::Rows;
 use yq_scalar::lines::split_at_break;

@@ -1,6 +1,5 @@
 //! Dashes with a collection behind them on their lines.
-ghost use Rattle.std.specs.Prelude.{◌≡◌, ◌≤◌, ◌+◌, length, option_map};
-ghost use Rattle.yq_scalar.specs.Characters.{text_limit};
+ghost use Rattle.std.specs.Prelude.{◌≡◌, option_map};
 ghost use Rattle.yq_rows.specs.View.{view};
 ghost use Rattle.yq_tree.specs.DashPlaces as spec;
 ghost use Rattle.yq_tree.specs.DashTelling as telling;
@@ -9,7 +8,8 @@ ghost use Rattle.yq_documents.specs.Reading.{cut_of};
 
 use crate::cut_text::CutText;
 use crate::document::Documents;
-use crate::places::row_place::{dash_at, line_start};
+use crate::places::row_place::line_start;
+use crate::places::spot::{Spot, line_column};
 use yq_documents::{Path, comment_text};
 use yq_rows::Row;
 
@@ -24,14 +24,6 @@ pub struct DashPlace<'d> {
     pub column: usize,
     /// Whether its row has an anchor or a comment.
     pub noted: bool,
-}
-
-/// The column of a line of a row.
-fn dash_column(row: &Row<'_>, line: usize) -> usize
-    requires { (view row.now).column + length (view row.now).dashes ≤ text_limit }
-    ensures { result ≡ telling.dash_column (view row.now) line }
-{
-    row.column() + dash_at(row.dashes().as_bytes(), line)
 }
 
 /// Whether a row has an anchor or a comment.
@@ -52,9 +44,13 @@ impl<'t> CutText<'_, 't> {
         if seat.line == seat.dashes {
             return None;
         }
-        let start = line_start(self.rows, seat);
+        let spot = Spot {
+            row: seat.row,
+            line: seat.line,
+        };
+        let start = line_start(self.rows, spot);
         let row = self.rows.row(seat.row);
-        let column = dash_column(&row, seat.line);
+        let column = line_column(&row, seat.line);
         let (before, behind) = whole.split_at(start + 1);
         let noted = is_noted(&row);
         Some(DashPlace {

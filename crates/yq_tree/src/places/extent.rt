@@ -4,10 +4,10 @@ ghost use Rattle.std.specs.List.{sum_by};
 ghost use Rattle.yq_scalar.specs.Characters.{text_limit};
 ghost use Rattle.yq_rows.specs.Offsets.{row_length};
 ghost use Rattle.yq_rows.specs.Rows.{Cut, Row as RowOf};
-ghost use Rattle.yq_rows.specs.View.{bound_view, rows_of, shown, view};
+ghost use Rattle.yq_rows.specs.View.{rows_of, shown, view};
 ghost use Rattle.yq_tree.specs.Extents as spec;
 
-use yq_rows::{Bound, Row, Rows};
+use yq_rows::{Row, Rows};
 
 /// How long a row is, with its gap.
 pub(crate) fn row_len(row: &Row<'_>) -> usize
@@ -55,37 +55,13 @@ pub(crate) fn rows_len(rows: &Rows<'_>, count: usize) -> usize
     len
 }
 
-/// How long the end of a part is, with the marker behind it, where that part ends before a row.
-fn passed_len(bound: &Bound<'_>, row: usize) -> usize
-    requires { spec.bound_length (bound_view bound.now) ≤ text_limit }
-    ensures { result ≡ spec.passed_length row (bound_view bound.now) }
-{
-    if bound.rows <= row {
-        bound.end.len() + bound.marker.len()
-    } else {
-        0
-    }
-}
-
-/// How long the ends and markers of the parts before a row are.
-fn ends_len(rows: &Rows<'_>, row: usize) -> usize
-    requires { spec.shown_length rows.now ≤ text_limit }
-    ensures { result ≡ sum_by (spec.passed_length row) rows.now.bounds }
-{
-    let mut len = 0;
-    'parts: for at in 0..rows.parts() {
-        len += passed_len(&rows.part(at), row);
-    }
-    len
-}
-
 /// Where row `i` begins, with its gap.
 pub(crate) fn row_start(rows: &Rows<'_>, i: usize) -> usize
     requires within { i < length rows.now.rows }
     requires shown { spec.IsShown rows.now }
     ensures { result ≡ spec.row_start i rows.now }
 {
-    rows_len(rows, i) + ends_len(rows, i)
+    rows.start(i)
 }
 
 /// Where the head of row `i` begins and ends, in bytes, or where it would begin.
@@ -95,7 +71,7 @@ pub(crate) fn head_place(rows: &Rows<'_>, i: usize) -> (usize, usize)
     ensures { (c : Cut) → rows.now ≡ shown c → (r : RowOf) → slice_get (rows_of c) i ≡ Some r → (result.0, result.1) ≡ spec.head_place i c r }
 {
     let row = rows.row(i);
-    let start = rows_len(rows, i) + ends_len(rows, i) + front_len(&row);
+    let start = rows.start(i) + front_len(&row);
     (start, start + row.head().len())
 }
 

@@ -5,6 +5,7 @@ ghost use Rattle.yq_tree.specs.FirstTelling.{first_told, piece_of};
 ghost use Rattle.yq_documents.specs.Located.{steps_of};
 ghost use Rattle.yq_documents.specs.Reading.{cut_of};
 
+use crate::cut_text::CutText;
 use crate::document::Documents;
 use crate::places::written::cut_at;
 use yq_documents::Path;
@@ -76,12 +77,12 @@ fn first_out<'d>(before: &'d str, entry: &'d str, behind: &'d str) -> FirstRemov
     }
 }
 
-impl Documents<'_> {
+impl<'t> CutText<'_, 't> {
     /// What is taken out of the text with the item or entry at a path, if it is the first one of a
     /// compact collection: up to the next one, if its line is the next one; else from behind the dash
     /// to the end of the last line, before its break. None, where its line is the first one of a row, or
     /// it stands in flow.
-    pub fn first_removal(&self, path: &Path) -> Option<FirstRemoval<'_>>
+    pub fn first_removal(&self, path: &Path) -> Option<FirstRemoval<'t>>
         ensures { option_map first_told result ≡ spec.first_removal path.now.doc (steps_of path.now) (cut_of self.now) }
     {
         let whole = self.whole();
@@ -92,5 +93,14 @@ impl Documents<'_> {
         let span = self.entry_place(path)?;
         let (before, entry, behind) = cut_at(whole, span.start, span.end);
         Some(first_out(before, entry, behind))
+    }
+}
+
+impl Documents<'_> {
+    /// The same of the text of the documents.
+    pub fn first_removal(&self, path: &Path) -> Option<FirstRemoval<'_>>
+        ensures { option_map first_told result ≡ spec.first_removal path.now.doc (steps_of path.now) (cut_of self.now) }
+    {
+        self.cut().first_removal(path)
     }
 }

@@ -9,7 +9,7 @@ ghost use Rattle.yq_lines.specs.Bodies.{lent};
 ghost use Rattle.yq_tree.specs.Extents.{IsShown};
 ghost use Rattle.yq_tree.specs.InlinePlaces as places;
 ghost use Rattle.yq_tree.specs.InlineReading as spec;
-ghost use Rattle.yq_tree.specs.RowWalk.{EndsAt, HasDocument, InCut, IsLine, IsSpot, line_number};
+ghost use Rattle.yq_tree.specs.RowWalk.{EndsAt, HasDocument, InEach, IsLine, IsSpot, line_number};
 ghost use Rattle.yq_documents.specs.Reading.{cut_of};
 
 use crate::cut_text::CutText;
@@ -17,7 +17,7 @@ use crate::document::Documents;
 use crate::places::extent::head_place;
 use crate::places::spot::{Spot, Stretch, is_deeper, level_at, next};
 use crate::places::spot_marks::has_head;
-use crate::places::spot_reach::{begins_with_node, reach};
+use crate::places::spot_reach::{begins_with_node, line_at};
 use crate::places::written::cut_at;
 use yq_documents::{Path, Span, begins_block};
 use yq_inline::Step;
@@ -65,7 +65,7 @@ fn node_extent(rows: &Rows<'_>, document: Stretch, under: Spot, floor: usize) ->
     requires shown { IsShown rows.now }
     requires document { HasDocument rows.now document }
     requires under { IsSpot rows.now document under }
-    ensures { (c : Cut) (k : InCut rows.now document c) (to : ℕ) → EndsAt document k.document.rows under floor to → option_map spec.extent_view result ≡ spec.lines_extent document.first c k.document.rows (line_number document k.document.rows under) to }
+    ensures { InEach rows.now document (λ first c rs n. (to : ℕ) → EndsAt document rs under floor to → option_map spec.extent_view result ≡ spec.lines_extent first c rs (n under) to) }
 {
     if begins_with_node(rows, document, under, floor) {
         row_extent(rows, true, under.row)
@@ -79,7 +79,7 @@ fn entry_extent(rows: &Rows<'_>, document: Stretch, at: Spot) -> Option<InlineSp
     requires shown { IsShown rows.now }
     requires document { HasDocument rows.now document }
     requires at { IsLine rows.now document at }
-    ensures { (c : Cut) (k : InCut rows.now document c) → option_map spec.extent_view result ≡ spec.entry_extent document.first c k.document.rows (line_number document k.document.rows at) }
+    ensures { InEach rows.now document (λ first c rs n. option_map spec.extent_view result ≡ spec.entry_extent first c rs (n at)) }
 {
     if has_head(rows, document, at) {
         return row_extent(rows, false, at.row);
@@ -96,7 +96,7 @@ fn entry_extent(rows: &Rows<'_>, document: Stretch, at: Spot) -> Option<InlineSp
 fn extent_in(rows: &Rows<'_>, document: Stretch, steps: &[Step]) -> Option<InlineSpan>
     requires shown { IsShown rows.now }
     requires document { HasDocument rows.now document }
-    ensures { (c : Cut) (k : InCut rows.now document c) → option_map spec.extent_view result ≡ spec.extent_in document.first c k.document.rows (map step_of steps.now) }
+    ensures { InEach rows.now document (λ first c rs n. option_map spec.extent_view result ≡ spec.extent_in first c rs (map step_of steps.now)) }
 {
     if steps.is_empty() {
         let first = Spot {
@@ -105,12 +105,8 @@ fn extent_in(rows: &Rows<'_>, document: Stretch, steps: &[Step]) -> Option<Inlin
         };
         return node_extent(rows, document, first, 0);
     }
-    let (at, left) = reach(rows, document, steps)?;
-    if left.is_empty() {
-        entry_extent(rows, document, at)
-    } else {
-        None
-    }
+    let at = line_at(rows, document, steps)?;
+    entry_extent(rows, document, at)
 }
 
 /// A text, if it has bytes.

@@ -3,11 +3,37 @@ ghost use Rattle.std.specs.Prelude.{◌≡◌, option_map};
 ghost use Rattle.yq_documents.specs.Pieces.{piece_span, span};
 ghost use Rattle.yq_tree.specs.PathPieces.{piece_at};
 ghost use Rattle.yq_documents.specs.Reading.{cut_of};
+ghost use Rattle.yq_documents.specs.declared.path.Part.TheVariants as parts;
 
 use crate::document::Documents;
+use crate::places::flow_place::{content_span, entry_span};
 use yq_documents::{Part, Path, Span};
 
 impl Documents<'_> {
+    /// The place of the entry or item at a path.
+    fn entry_place(&self, path: &Path) -> Option<Span>
+        ensures { option_map span result ≡ option_map piece_span (piece_at path.now parts.Entry (cut_of self.now)) }
+    {
+        let _whole = self.whole();
+        if let Some(place) = self.cut().entry_place(path) {
+            return Some(place);
+        }
+        let entry = self.flow_entry(path)?;
+        Some(entry_span(&entry))
+    }
+
+    /// The place of the content of the node at a path.
+    fn content_place(&self, path: &Path) -> Option<Span>
+        ensures { option_map span result ≡ option_map piece_span (piece_at path.now parts.Content (cut_of self.now)) }
+    {
+        let _whole = self.whole();
+        if let Some(place) = self.cut().content_place(path) {
+            return Some(place);
+        }
+        let entry = self.flow_entry(path)?;
+        content_span(&entry)
+    }
+
     /// The place of a part of the node at a path, in bytes from the start of the text; none, where the
     /// path leads nowhere or the node has no such part. `Content` is what stands in the head, without its
     /// anchor: a block scalar with its lines and their breaks; or a block collection, from its first key

@@ -23,7 +23,7 @@ use crate::cut_text::CutText;
 use crate::document::Documents;
 use crate::places::extent::{head_place, row_len, row_start};
 use crate::places::spot::{Stretch, behind};
-use crate::places::spot_reach::reach;
+use crate::places::spot_reach::line_at;
 use yq_documents::{Path, begins_block, last_run};
 use yq_inline::Step;
 use yq_rows::Rows;
@@ -88,10 +88,7 @@ fn own_rows(rows: &Rows<'_>, document: Stretch, steps: &[Step]) -> Option<(usize
     requires document { HasDocument rows.now document }
     ensures { (h : HasDocument rows.now document) → option_map (λ m. (m.0, m.1, m.2)) result ≡ option_map (reading.marks document.first) (spec.own_rows (map step_of steps.now) h.rows) }
 {
-    let (at, left) = reach(rows, document, steps)?;
-    if !left.is_empty() {
-        return None;
-    }
+    let at = line_at(rows, document, steps)?;
     if at.line != 0 {
         return None;
     }

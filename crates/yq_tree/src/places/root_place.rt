@@ -11,7 +11,9 @@ ghost use Rattle.yq_documents.specs.Reading.{cut_of};
 ghost use Rattle.yq_tree.specs.RootPlaces as spec;
 ghost use Rattle.yq_tree.specs.RootReading as reading;
 
+use crate::cut_text::CutText;
 use crate::document::Documents;
+use crate::places::collection_end::Collection;
 use crate::places::extent::rows_len;
 use crate::places::stretch::{is_sought, left_behind};
 use crate::places::written::cut_at;
@@ -73,20 +75,23 @@ fn end_len(rows: &Rows<'_>, part: usize) -> usize
     rows_len(rows, bound.rows) + parts_len(rows, part) + bound.end.len()
 }
 
-impl Documents<'_> {
+impl<'t> CutText<'_, 't> {
     /// Where document `doc` ends, in bytes, if it has no rows.
     fn unwritten_end(&self, doc: usize) -> Option<usize>
         ensures { result ≡ reading.unwritten_at doc (cut_of self.now) }
     {
-        if doc >= self.documents.len() || self.documents[doc].lines.count() != 0 {
+        let document = self.stretch(doc)?;
+        let _whole = self.whole();
+        let rows = self.rows();
+        if document.first != document.end {
             return None;
         }
-        let part = part_number(&self.rows, first_is_document(&self.rows), doc)?;
-        Some(end_len(&self.rows, part))
+        let part = part_number(rows, first_is_document(rows), doc)?;
+        Some(end_len(rows, part))
     }
 
     /// The place of the root of document `doc`, if it has no rows.
-    fn unwritten_place(&self, doc: usize) -> Option<RootPlace<'_>>
+    fn unwritten_place(&self, doc: usize) -> Option<RootPlace<'t>>
         ensures { option_map reading.root_told result ≡ reading.unwritten_place doc (cut_of self.now) }
     {
         let whole = self.whole();
@@ -101,24 +106,23 @@ impl Documents<'_> {
     }
 
     /// The place of the block collection at a path.
-    fn collection_place(&self, path: &Path) -> Option<RootPlace<'_>>
+    fn collection_place(&self, path: &Path) -> Option<RootPlace<'t>>
         ensures { option_map reading.root_told result ≡ reading.collection_place path.now (cut_of self.now) }
     {
         let whole = self.whole();
-        let end = self.collection_end(path)?;
-        let place = self.content_place(path)?;
+        let Collection { column, place } = self.collection(path)?;
         let (before, old, behind) = cut_at(whole, place.start, place.end);
         Some(RootPlace {
             before,
             old: Some(old),
             behind,
-            column: end.column,
+            column,
         })
     }
 
     /// The place of the root at a path that leads to none of its nodes: a block collection, or where
     /// the root of a document comes that has no rows, which is behind the document's gap.
-    pub fn root_place(&self, path: &Path) -> Option<RootPlace<'_>>
+    pub fn root_place(&self, path: &Path) -> Option<RootPlace<'t>>
         ensures { option_map reading.root_told result ≡ spec.root_place path.now.doc (steps_of path.now) (cut_of self.now) }
     {
         if !path.steps.is_empty() {
@@ -128,5 +132,14 @@ impl Documents<'_> {
             Some(place) => Some(place),
             None => self.collection_place(path),
         }
+    }
+}
+
+impl Documents<'_> {
+    /// The same of the text of the documents.
+    pub fn root_place(&self, path: &Path) -> Option<RootPlace<'_>>
+        ensures { option_map reading.root_told result ≡ spec.root_place path.now.doc (steps_of path.now) (cut_of self.now) }
+    {
+        self.cut().root_place(path)
     }
 }

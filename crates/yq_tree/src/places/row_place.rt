@@ -11,7 +11,7 @@ ghost use Rattle.yq_documents.specs.Pieces.{span};
 ghost use Rattle.yq_tree.specs.PrintedLines as lines;
 
 use crate::places::extent::{head_place, row_start};
-use crate::places::seat::Seat;
+use crate::places::spot::Spot;
 use yq_documents::{Span, begins_block};
 use yq_rows::{Row, Rows};
 
@@ -38,14 +38,14 @@ pub(crate) fn dash_at(dashes: &[u8], count: usize) -> usize
 }
 
 /// Where a line begins, in bytes: at its dash, its key or its head.
-pub(crate) fn line_start(rows: &Rows<'_>, seat: Seat) -> usize
-    requires within { seat.row < length rows.now.rows }
+pub(crate) fn line_start(rows: &Rows<'_>, spot: Spot) -> usize
+    requires within { spot.row < length rows.now.rows }
     requires shown { IsShown rows.now }
-    ensures { (x : Slices) → slice_get rows.now.rows seat.row ≡ Some x → result ≡ spec.line_begin (extents.row_start seat.row rows.now) x seat.line }
+    ensures { (x : Slices) → slice_get rows.now.rows spot.row ≡ Some x → result ≡ spec.line_begin (extents.row_start spot.row rows.now) x spot.line }
 {
-    let row = rows.row(seat.row);
-    let dash = dash_at(row.dashes().as_bytes(), seat.line);
-    row_start(rows, seat.row) + row.gap().len() + row.column() + dash
+    let row = rows.row(spot.row);
+    let dash = dash_at(row.dashes().as_bytes(), spot.line);
+    row_start(rows, spot.row) + row.gap().len() + row.column() + dash
 }
 
 /// Whether this is a break, and nothing is behind it.
@@ -61,8 +61,8 @@ fn less_break_len(text: &[u8]) -> usize
     ensures value { result ≡ length (lines.less_break text.now) }
     ensures within { result ≤ length text.now }
 {
-    let mut n = 0;
-    let mut rest = text;
+    let mut n = text.len().saturating_sub(2);
+    let (_, mut rest) = text.split_at(n);
     'each: while let [_, after @ ..] = rest {
         if is_last_break(rest) {
             return n;

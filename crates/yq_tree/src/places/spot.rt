@@ -1,12 +1,13 @@
 //! Lines of a document by their rows, and how deep they are.
-ghost use Rattle.std.specs.Prelude.{◌≡◌, ◌<◌, ◌≤◌, ◌+◌, ◌-◌, ◌^◌, drop, length, not, slice_get, take, IsTrue, Some};
-ghost use Rattle.yq_lines.specs.Ends.{IsEndOf, is_end, part};
-ghost use Rattle.yq_rows.specs.View.{view, Slices};
+ghost use Rattle.std.specs.Prelude.{◌≡◌, ◌<◌, ◌≤◌, ◌+◌, ◌-◌, ◌^◌, drop, length, not, slice_get, suc, take, IsTrue, List, Some};
+ghost use Rattle.yq_lines.specs.Ends.{IsEndOf, is_end, lines_end, part};
+ghost use Rattle.yq_rows.specs.Rows.{Row as RowOf};
+ghost use Rattle.yq_rows.specs.View.{view, Shown, Slices};
 ghost use Rattle.yq_documents.specs.Lines.{lines_of};
 ghost use Rattle.yq_scalar.specs.Characters.{text_limit};
 ghost use Rattle.yq_tree.specs.Extents.{IsShown};
 ghost use Rattle.yq_tree.specs.RowWalk as spec;
-ghost use Rattle.yq_tree.specs.RowWalk.{HasDocument, IsLine, IsSpot};
+ghost use Rattle.yq_tree.specs.RowWalk.{AreLines, HasDocument, IsLine, IsSpot, OfLines};
 
 use crate::places::extent::lines_before_mark;
 use crate::places::row_place::dash_at;
@@ -27,6 +28,17 @@ pub(crate) struct Spot {
     pub(crate) line: usize,
 }
 
+/// A line of a row.
+#[derive(Clone, Copy, Debug)]
+pub(crate) struct Seat {
+    /// How many rows of the text stand before the row.
+    pub(crate) row: usize,
+    /// How many lines of the row stand before this one.
+    pub(crate) line: usize,
+    /// How many lines of the row stand before that of its mark.
+    pub(crate) dashes: usize,
+}
+
 /// What a line of a row begins with, as the order of marks in a column: 1 for a node itself, 2 for a key,
 /// 3 for a dash.
 pub(crate) fn line_rank(row: &Row<'_>, line: usize) -> usize
@@ -38,13 +50,21 @@ pub(crate) fn line_rank(row: &Row<'_>, line: usize) -> usize
     if row.colon().is_empty() { 1 } else { 2 }
 }
 
+/// The column of a line of a row.
+pub(crate) fn line_column(row: &Row<'_>, line: usize) -> usize
+    requires { (view row.now).column + length (view row.now).dashes ≤ text_limit }
+    ensures value { result ≡ spec.line_column line (view row.now) }
+    ensures within { result ≤ (view row.now).column + length (view row.now).dashes }
+{
+    row.column() + dash_at(row.dashes().as_bytes(), line)
+}
+
 /// How deep a line of a row is: three for each column, and by what it begins with.
 fn line_level(row: &Row<'_>, line: usize) -> usize
     requires { (view row.now).column + length (view row.now).dashes ≤ text_limit }
     ensures { result ≡ spec.line_level line (view row.now) }
 {
-    let at = dash_at(row.dashes().as_bytes(), line);
-    3 * (row.column() + at) + line_rank(row, line)
+    3 * line_column(row, line) + line_rank(row, line)
 }
 
 /// How deep a line is.
@@ -53,7 +73,19 @@ pub(crate) fn level_at(rows: &Rows<'_>, spot: Spot) -> usize
     requires shown { IsShown rows.now }
     ensures { (x : Slices) → slice_get rows.now.rows spot.row ≡ Some x → result ≡ spec.line_level spot.line x }
 {
+    if spot.line == 0 {
+        return rows.level(spot.row);
+    }
     line_level(&rows.row(spot.row), spot.line)
+}
+
+/// The column of a line.
+pub(crate) fn column_at(rows: &Rows<'_>, spot: Spot) -> usize
+    requires within { spot.row < length rows.now.rows }
+    requires shown { IsShown rows.now }
+    ensures { (x : Slices) → slice_get rows.now.rows spot.row ≡ Some x → result ≡ spec.line_column spot.line x }
+{
+    line_column(&rows.row(spot.row), spot.line)
 }
 
 /// The first row from one on, before another one, that doesn't begin deeper than a level.
@@ -121,4 +153,35 @@ pub(crate) fn next(rows: &Rows<'_>, document: Stretch, spot: Spot) -> Spot
             line: 0,
         }
     }
+}
+
+/// The lines of a document: from the first one up to the end.
+pub(crate) fn all_lines(document: Stretch) -> (Spot, Spot)
+    ensures lines { (s : Shown) → HasDocument s document → AreLines s document result.0 result.1 }
+    ensures begin { (rs : List RowOf) → spec.line_number document rs result.0 ≡ 0 }
+    ensures stop { (s : Shown) → OfLines s document (λ ls n. n result.1 ≡ length ls) }
+{
+    let begin = Spot {
+        row: document.first,
+        line: 0,
+    };
+    let stop = Spot {
+        row: document.end,
+        line: 0,
+    };
+    (begin, stop)
+}
+
+/// The lines under a line: from the one behind it up to where they end.
+pub(crate) fn lines_under(rows: &Rows<'_>, document: Stretch, spot: Spot) -> (Spot, Spot)
+    requires shown { IsShown rows.now }
+    requires document { HasDocument rows.now document }
+    requires spot { IsLine rows.now document spot }
+    ensures lines { AreLines rows.now document result.0 result.1 }
+    ensures begin { OfLines rows.now document (λ ls n. n result.0 ≡ suc (n spot)) }
+    ensures stop { OfLines rows.now document (λ ls n. n result.1 ≡ lines_end (n spot) ls) }
+{
+    let begin = next(rows, document, spot);
+    let stop = behind(rows, document, spot);
+    (begin, stop)
 }

@@ -1,12 +1,12 @@
 //! The line of a document to which steps lead, and the steps that go on in its head, row by row.
 ghost use Rattle.std.specs.Prelude.{◌≡◌, ◌∷◌, map, option_map, IfSome, IsTrue, Some};
 ghost use Rattle.yq_inline.specs.Entries.{step_of};
-ghost use Rattle.yq_lines.specs.Ends.{part, reached};
+ghost use Rattle.yq_lines.specs.Ends.{line_of, part, reached};
 ghost use Rattle.yq_lines.specs.Spots as spots;
 ghost use Rattle.yq_documents.specs.Lines.{lines_of};
 ghost use Rattle.yq_tree.specs.Extents.{IsShown};
 ghost use Rattle.yq_tree.specs.RowWalk as spec;
-ghost use Rattle.yq_tree.specs.RowWalk.{HasDocument, IsLine, IsSpot, LeadsTo, line_number};
+ghost use Rattle.yq_tree.specs.RowWalk.{HasDocument, IsLine, IsSpot, LeadsTo, OfLines, line_number};
 
 use crate::places::spot::{Spot, Stretch, is_deeper, level_at, next};
 use crate::places::spot_find::find_step;
@@ -120,4 +120,15 @@ pub(crate) fn reach<'s>(
     }
     let at = found?;
     Some((at, left))
+}
+
+/// The line of a document to which steps lead, where none go on in its head.
+pub(crate) fn line_at(rows: &Rows<'_>, document: Stretch, steps: &[Step]) -> Option<Spot>
+    requires shown { IsShown rows.now }
+    requires document { HasDocument rows.now document }
+    ensures within { IfSome result (IsLine rows.now document) }
+    ensures found { OfLines rows.now document (λ ls n. option_map n result ≡ line_of (map step_of steps.now) ls) }
+{
+    let (at, left) = reach(rows, document, steps)?;
+    if left.is_empty() { Some(at) } else { None }
 }

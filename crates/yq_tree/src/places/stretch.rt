@@ -3,7 +3,6 @@ ghost use Rattle.std.specs.Prelude.{◌≡◌, ◌&&◌, ◌==◌, ◌-◌, map,
 ghost use Rattle.yq_inline.specs.Entries.{step_of};
 ghost use Rattle.yq_documents.specs.Reading.{cut_of};
 ghost use Rattle.yq_documents.specs.Seats.{document_row, seat_at, seat_of};
-ghost use Rattle.yq_tree.specs.EntryReading as reading;
 ghost use Rattle.yq_tree.specs.Extents.{IsShown};
 ghost use Rattle.yq_tree.specs.RowWalk as spec;
 ghost use Rattle.yq_tree.specs.RowWalk.{HasDocument};
@@ -11,9 +10,8 @@ ghost use Rattle.yq_tree.specs.SeatReading.{numbers, told};
 
 use crate::cut_text::CutText;
 use crate::places::extent::lines_before_mark;
-use crate::places::seat::Seat;
-use crate::places::spot::Stretch;
-use crate::places::spot_reach::reach;
+use crate::places::spot::{Seat, Stretch};
+use crate::places::spot_reach::line_at;
 use yq_documents::{Path, first_is_document};
 use yq_inline::Step;
 use yq_rows::{Rows, begins_document};
@@ -64,16 +62,12 @@ fn seat_along(rows: &Rows<'_>, document: Stretch, steps: &[Step]) -> Option<Seat
     requires document { HasDocument rows.now document }
     ensures { (h : HasDocument rows.now document) → option_map told result ≡ option_map (numbers document.first) (seat_of (map step_of steps.now) h.rows) }
 {
-    let (spot, left) = reach(rows, document, steps)?;
-    if left.is_empty() {
-        Some(Seat {
-            row: spot.row,
-            line: spot.line,
-            dashes: lines_before_mark(&rows.row(spot.row)),
-        })
-    } else {
-        None
-    }
+    let spot = line_at(rows, document, steps)?;
+    Some(Seat {
+        row: spot.row,
+        line: spot.line,
+        dashes: lines_before_mark(&rows.row(spot.row)),
+    })
 }
 
 impl<'d, 't> CutText<'d, 't> {
@@ -83,14 +77,6 @@ impl<'d, 't> CutText<'d, 't> {
     {
         let rows = self.rows();
         begin_rows(rows, first_is_document(rows), doc)
-    }
-
-    /// How many rows stand before document `doc`, counted from 0, if there is one.
-    pub(crate) fn first_row(&self, doc: usize) -> Option<usize>
-        ensures { result ≡ reading.first_row doc (cut_of self.now) }
-    {
-        let document = self.stretch(doc)?;
-        Some(document.first)
     }
 
     /// The line of the entry or item at a path, if one of a row is.

@@ -13,3 +13,6 @@ pub returns-clause-same : goal.returns-clause-same
 returns-clause-same c =
     ap (spec.slices_in c.args.whole.now) c.measure.ensures.lengths
     ∙ row_same c.args.whole.now c.args.text.now c.requires.read.0 (view c.args.row.now) c.requires.ends c.requires.read.1
+
+pub returns-clause-place : goal.returns-clause-place
+returns-clause-place c = c.measure.ensures.lengths

@@ -1,4 +1,5 @@
-use Rattle.std.proofs.Common.{◌≡◌, true, false, ◌||◌, List, ℕ, sym, ap, ◌∙◌}
+use Rattle.std.proofs.Common.{◌≡◌, ◌-◌, length, true, false, ◌||◌, List, ℕ, sym, ap, ◌∙◌}
+use Rattle.yq_rows.specs.Kept.{rows_placed}
 use Rattle.yq_rows.specs.Lending.{rows_lent}
 use Rattle.yq_rows.specs.Offsets.{rows_in}
 use Rattle.yq_rows.specs.Reading.{cut_gap}
@@ -17,3 +18,15 @@ returns-clause-found c =
     let first : (cut_gap c.args.text.now).1 ≡ c.split_gap.result.1.now = ap (λ (y : List ℕ × List ℕ). y.1) (sym c.split_gap.ensures) in
     let stands : (c.args.is_open || ends_part (cut_gap c.args.text.now).1) ≡ true = ap (λ (t : List ℕ). c.args.is_open || ends_part t) (first ∙ sym c.as_bytes.ensures.value) ∙ (sym c.may_begin.ensures ∙ c.if-not-may_begin.false) in
     rw (part_same c.args.is_open c.args.text.now stands) c.read_rows.ensures.found
+
+pub returns-then-not-may_begin-clause-placed : goal.returns-then-not-may_begin-clause-placed
+returns-then-not-may_begin-clause-placed c =
+    let first : (cut_gap c.args.text.now).1 ≡ c.split_gap.result.1.now = ap (λ (y : List ℕ × List ℕ). y.1) (sym c.split_gap.ensures) in
+    let shut : (c.args.is_open || ends_part (cut_gap c.args.text.now).1) ≡ false = ap (λ (t : List ℕ). c.args.is_open || ends_part t) (first ∙ sym c.as_bytes.ensures.value) ∙ (sym c.may_begin.ensures ∙ c.if-not-may_begin.true) in
+    ap (rows_placed c.args.rows.items (length c.args.whole.now - length c.args.text.now)) (part_shut c.args.is_open c.args.text.now shut)
+
+pub returns-clause-placed : goal.returns-clause-placed
+returns-clause-placed c =
+    let first : (cut_gap c.args.text.now).1 ≡ c.split_gap.result.1.now = ap (λ (y : List ℕ × List ℕ). y.1) (sym c.split_gap.ensures) in
+    let stands : (c.args.is_open || ends_part (cut_gap c.args.text.now).1) ≡ true = ap (λ (t : List ℕ). c.args.is_open || ends_part t) (first ∙ sym c.as_bytes.ensures.value) ∙ (sym c.may_begin.ensures ∙ c.if-not-may_begin.false) in
+    rw (part_same c.args.is_open c.args.text.now stands) c.read_rows.ensures.placed

@@ -1,8 +1,9 @@
-use Rattle.std.proofs.Common.{◌≡◌, true, false, rules, sym, subst, ap, ◌∙◌}
+use Rattle.std.proofs.Common.{◌≡◌, ◌-◌, length, true, false, rules, sym, subst, ap, ◌∙◌}
 use Rattle.std.proofs.lemmas.List.Elements.{All-push}
 use Rattle.yq_rows.specs.Offsets.{Stand, Stands, rows_in}
 use Rattle.yq_rows.specs.View.{limit_view, view}
 use Rattle.yq_rows.proofs.Failing.{fails_by}
+use Rattle.yq_rows.proofs.NearLaws.{rows_placed_end, rows_placed_none, rows_placed_step}
 use Rattle.yq_rows.proofs.OffsetLaws.{ends_next, row_then, rows_push}
 use Rattle.yq_rows.proofs.RowLending.{at_gap, loop_smaller, loop_step, no_row, row_joined, rows_end}
 use Rattle.yq_rows.proofs.reading.read_rows.Goals as goal
@@ -16,6 +17,11 @@ returns-then-ends_part-clause-found c =
     ∙ (at_gap front (limit_view c.rows.limit) c.rows.at.now _ _ c.split_gap.ensures
     ∙ rows_end front (limit_view c.rows.limit) c.split_gap.result.0.now c.split_gap.result.1.now done)
 
+pub returns-then-ends_part-clause-placed : goal.returns-then-ends_part-clause-placed
+returns-then-ends_part-clause-placed c =
+    let done : ends_part c.split_gap.result.1.now ≡ true = ap ends_part (sym c.as_bytes.ensures.value) ∙ (sym c.ends_part.ensures ∙ c.if-ends_part.true) in
+    rows_placed_end c.rows.rows.items (length c.args.whole.now - length c.rows.at.now) (limit_view c.rows.limit) c.rows.at.now _ _ _ c.split_gap.ensures done c.rows.invariant.placed
+
 pub returns-in-Err-clause-found : goal.returns-in-Err-clause-found
 returns-in-Err-clause-found c =
     let front = rows_in c.args.whole.now c.rows.rows.items in
@@ -24,6 +30,12 @@ returns-in-Err-clause-found c =
     sym c.rows.invariant.so_far
     ∙ (at_gap front (limit_view c.rows.limit) c.rows.at.now _ _ c.split_gap.ensures
     ∙ no_row front (limit_view c.rows.limit) c.split_gap.result.0.now c.split_gap.result.1.now more none))
+
+pub returns-in-Err-clause-placed : goal.returns-in-Err-clause-placed
+returns-in-Err-clause-placed c =
+    let more : ends_part c.split_gap.result.1.now ≡ false = ap ends_part (sym c.as_bytes.ensures.value) ∙ (sym c.ends_part.ensures ∙ c.if-ends_part.false) in
+    fails_by c.in-Err.e _ _ c.in-Err.ensures.read (λ none.
+    rows_placed_none c.rows.rows.items (length c.args.whole.now - length c.rows.at.now) (limit_view c.rows.limit) c.rows.at.now _ _ _ c.split_gap.ensures more none c.rows.invariant.placed)
 
 pub offsets_of-requires-clause-read : goal.offsets_of-requires-clause-read
 offsets_of-requires-clause-read c =
@@ -47,4 +59,5 @@ rows-preserved c =
       ends = ends_next whole c.rows.at.now _ after c.rows.invariant.ends (joined ∙ row_then row after);
       stand = subst (Stand whole) (sym c.in_ok-push.ensures.items) (All-push (Stands whole) c.rows.rows.items c.offsets_of.result c.rows.invariant.stand c.offsets_of.ensures.stands);
       so_far = loop_step (rows_in whole c.rows.rows.items) _ (limit_view c.rows.limit) (limit_view c.in-Ok.found.1) c.rows.at.now _ _ row after _ c.split_gap.ensures more c.in-Ok.ensures.read pushed c.rows.invariant.so_far;
+      placed = rows_placed_step c.rows.rows.items _ c.offsets_of.result whole (limit_view c.rows.limit) (limit_view c.in-Ok.found.1) c.rows.at.now _ _ row after _ c.rows.invariant.ends c.split_gap.ensures more c.in-Ok.ensures.read c.in_ok-push.ensures.items c.offsets_of.ensures.place c.rows.invariant.placed;
     }

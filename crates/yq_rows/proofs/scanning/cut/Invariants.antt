@@ -1,5 +1,6 @@
-use Rattle.std.proofs.Common.{◌≡◌, length, true}
+use Rattle.std.proofs.Common.{◌≡◌, ◌-◌, [], length, true}
 use Rattle.std.specs.Str.{IsUtf8}
+use Rattle.yq_rows.specs.Kept.{parts_placed}
 use Rattle.yq_rows.specs.Lending.{shown_read, parts_lent}
 use Rattle.yq_rows.specs.Offsets.{Ends, Stand, rows_in}
 use Rattle.yq_rows.specs.Reading.{all_parts}
@@ -15,4 +16,5 @@ invariant-parts l = record {
   ends : Ends l.rest l.text;
   stand : Stand l.text l.rows.items;
   so_far : parts_lent (rows_in l.text l.rows.items) (bound_views l.bounds.items) (all_parts l.is_open l.rest) ≡ shown_read (all_parts true l.text);
+  placed : parts_placed l.rows.items (length l.text - length l.rest) (all_parts l.is_open l.rest) ≡ parts_placed [] (length l.text - length l.text) (all_parts true l.text);
 }

@@ -27,8 +27,8 @@ row-row-requires c =
     row_within c.self.inside.text.now c.self.inside.rows.now c.args.path.now (told c.in_ok-seat.seat) c.self.invariant
     (c.in_ok-seat.ensures ∙ ap (λ t. option_map (numbers (document_row c.args.path.now.doc (cut_of t))) (seat_at c.args.path.now (cut_of t))) (sym c.self.view_is))
 
-pub dash_column-column-requires : goal.dash_column-column-requires
-dash_column-column-requires c =
+pub line_column-column-requires : goal.line_column-column-requires
+line_column-column-requires c =
     column_fits c.self.inside.text.now c.self.inside.rows.now c.self.invariant c.args.path.now (told c.in_ok-seat.seat)
     (c.in_ok-seat.ensures ∙ ap (λ t. option_map (numbers (document_row c.args.path.now.doc (cut_of t))) (seat_at c.args.path.now (cut_of t))) (sym c.self.view_is))
     (view c.row-row.result) c.row-row.ensures
@@ -52,5 +52,5 @@ returns c =
     dash_there c.self.inside.text.now c.self.inside.rows.now c.self.invariant c.args.path.now (told c.in_ok-seat.seat)
     (c.in_ok-seat.ensures ∙ ap (λ t. option_map (numbers (document_row c.args.path.now.doc (cut_of t))) (seat_at c.args.path.now (cut_of t))) (sym c.self.view_is))
     (view c.row-row.result) c.row-row.ensures c.if-seat.false c.line_start-start.result (c.line_start-start.ensures (view c.row-row.result) c.row-row.ensures)
-    c.whole-whole.result.now _ _ c.dash_column-column.result c.is_noted-noted.result (c.whole-whole.ensures.text ∙ sym c.self.view_is) c.split_at.ensures.front c.split_at.ensures.back c.dash_column-column.ensures c.is_noted-noted.ensures
+    c.whole-whole.result.now _ _ c.line_column-column.result c.is_noted-noted.result (c.whole-whole.ensures.text ∙ sym c.self.view_is) c.split_at.ensures.front c.split_at.ensures.back c.line_column-column.ensures.value c.is_noted-noted.ensures
     ∙ ap (λ t. spec.dash_place c.args.path.now.doc (steps_of c.args.path.now) (cut_of t)) c.self.view_is

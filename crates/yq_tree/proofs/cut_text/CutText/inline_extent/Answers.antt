@@ -6,7 +6,6 @@ use Rattle.yq_tree.specs.InlinePlaces.{inline_in}
 use Rattle.yq_tree.specs.InlineReading.{extent_of, extent_in}
 use Rattle.yq_documents.specs.Located.{steps_of}
 use Rattle.yq_documents.specs.Reading.{cut_of}
-use Rattle.yq_tree.proofs.EntryPlaceLaws.{first_told}
 use Rattle.yq_tree.proofs.InlineHolds.{inline_spans_are}
 use Rattle.yq_tree.proofs.PieceHolds.{no_document}
 use Rattle.yq_tree.proofs.WalkDocuments.{found_document, place_found}
@@ -16,7 +15,7 @@ pub returns-in_err-document : goal.returns-in_err-document
 returns-in_err-document c =
     let doc = c.args.path.now.doc in
     let cut = cut_of c.args.self.now in
-    rw c.from_residual.ensures (sym (ap (λ o. option_map extent_of (o >>= inline_in (steps_of c.args.path.now))) (no_document doc cut (ap (option_map (λ (x : ℕ × ℕ). x.0)) c.in_err-document.ensures ∙ first_told cut doc))))
+    rw c.from_residual.ensures (sym (ap (λ o. option_map extent_of (o >>= inline_in (steps_of c.args.path.now))) (no_document doc cut c.in_err-document.ensures)))
 
 pub extent_in-requires-clause-document : goal.extent_in-requires-clause-document
 extent_in-requires-clause-document c =

@@ -1,28 +1,31 @@
-use Rattle.std.proofs.Common.{map, option_map, refl, sym, ap, ◌∙◌}
-use Rattle.std.proofs.lemmas.Option.{slice_get_read}
-use Rattle.yq_inline.specs.Entries.{step_of}
-use Rattle.yq_documents.specs.declared.path.Part.TheVariants as parts
-use Rattle.yq_tree.specs.EntryReading.{content_of, first_row}
-use Rattle.yq_scalar.specs.Answers.{◌>>=◌}
-use Rattle.yq_documents.specs.Located.{steps_of}
-use Rattle.yq_documents.specs.Pieces.{piece_span}
-use Rattle.yq_tree.specs.PathPieces.{piece_in, piece_at}
+use Rattle.std.proofs.Common.{option_and_then, sym, ap, ◌∙◌}
+use Rattle.yq_inline.specs.Entries.{PlacedEntry, content_place}
 use Rattle.yq_documents.specs.Reading.{cut_of}
-use Rattle.yq_tree.proofs.EntryPlaceLaws.{first_within, held_in}
-use Rattle.yq_tree.proofs.PieceHolds.{no_document, spans_are}
+use Rattle.yq_tree.specs.EntryReading.{flow_entry_at, line_content_at}
+use Rattle.yq_tree.proofs.EntryPlaceLaws.{Place, or_flow, content_either}
+use Rattle.yq_tree.proofs.PieceHolds.{spans_are}
 use Rattle.yq_tree.proofs.document.Documents.content_place.Goals as goal
 
-pub returns-in_err-first : goal.returns-in_err-first
-returns-in_err-first c =
-    rw c.from_residual.ensures (sym (ap (λ o. option_map piece_span (o >>= piece_in parts.Content (steps_of c.args.path.now))) (no_document c.args.path.now.doc (cut_of c.args.self.now) c.in_err-first.ensures)))
+pub returns-in-Some : goal.returns-in-Some
+returns-in-Some c =
+    let p = c.args.path.now in
+    let cut = cut_of c.args.self.now in
+    ap (λ (o : Place). or_flow o (option_and_then (λ (e : PlacedEntry). content_place e.1) (flow_entry_at p cut))) (c.in-Some.ensures ∙ ap (λ t. line_content_at p (cut_of t)) c.cut.ensures)
+    ∙ (sym (content_either p cut) ∙ sym (spans_are c.args.self.now cut p c.whole-whole.ensures.cut c.whole-whole.ensures.documents).0)
+
+pub returns-in_err-entry : goal.returns-in_err-entry
+returns-in_err-entry c =
+    let p = c.args.path.now in
+    let cut = cut_of c.args.self.now in
+    rw c.from_residual.ensures (ap (option_and_then (λ (e : PlacedEntry). content_place e.1)) c.in_err-entry.ensures
+    ∙ (ap (λ (o : Place). or_flow o (option_and_then (λ (e : PlacedEntry). content_place e.1) (flow_entry_at p cut))) (c.in_default.ensures ∙ ap (λ t. line_content_at p (cut_of t)) c.cut.ensures)
+    ∙ (sym (content_either p cut) ∙ sym (spans_are c.args.self.now cut p c.whole-whole.ensures.cut c.whole-whole.ensures.documents).0)))
 
 pub returns : goal.returns
 returns c =
-    let first = c.in_ok-first.ensures ∙ sym (ap (λ t. first_row c.args.path.now.doc (cut_of t)) c.self.view_is) in
-    let within = first_within c.self.inside.text.now c.self.inside.rows c.self.inside.documents.items c.args.path.now.doc c.in_ok-first.first c.self.invariant first in
-    held_in c.self.inside.text.now c.self.inside.rows c.self.inside.documents.items c.args.path.now.doc c.in_ok-first.first c.index.result.now _ (λ k cut rows. content_of k cut rows (map step_of c.args.path.now.steps.items)) c.self.invariant
-    (slice_get_read c.self.inside.documents.items _ c.args.path.now.doc c.index.result.now refl within c.index.ensures)
-    first
-    (λ u k p more cut is lines held there. c.content_of.ensures u k p more cut is lines held there ∙ ap (λ xs. content_of c.in_ok-first.first k p.rows (map step_of xs)) c.deref.ensures.value)
-    ∙ (sym (spans_are c.self.inside.text.now (cut_of c.self.inside.text.now) c.args.path.now c.self.invariant.cut c.self.invariant.sound).0
-    ∙ ap (λ t. option_map piece_span (piece_at c.args.path.now parts.Content (cut_of t))) c.self.view_is)
+    let p = c.args.path.now in
+    let cut = cut_of c.args.self.now in
+    c.content_span.ensures
+    ∙ (ap (option_and_then (λ (e : PlacedEntry). content_place e.1)) c.in_ok-entry.ensures
+    ∙ (ap (λ (o : Place). or_flow o (option_and_then (λ (e : PlacedEntry). content_place e.1) (flow_entry_at p cut))) (c.in_default.ensures ∙ ap (λ t. line_content_at p (cut_of t)) c.cut.ensures)
+    ∙ (sym (content_either p cut) ∙ sym (spans_are c.args.self.now cut p c.whole-whole.ensures.cut c.whole-whole.ensures.documents).0)))

@@ -1,16 +1,10 @@
-use Rattle.std.proofs.Common.{eqb, map, sym, ap, ◌∙◌}
-use Rattle.std.proofs.lemmas.List.{length-map}
-use Rattle.yq_inline.specs.Entries.{step_of}
-use Rattle.yq_lines.specs.View.{flows}
-use Rattle.yq_lines.specs.Ends.{reached}
-use Rattle.yq_tree.proofs.EntryPlaceLaws.{entry_left}
+use Rattle.std.proofs.Common.{ℕ, Option, ap, ◌∙◌}
+use Rattle.yq_scalar.specs.Answers.{◌>>=◌}
+use Rattle.yq_tree.specs.EntryReading.{line_entry}
 use Rattle.yq_tree.proofs.places.entry_place.entry_of.Goals as goal
 
-pub returns-else-is_empty : goal.returns-else-is_empty
-returns-else-is_empty c = λ t k p more cut is lines held there.
-    let steps = map step_of c.args.steps.now in
-    let left = map step_of c.in_ok-line.left.now in
-    entry_left c.args.first k p.rows (flows c.args.lines.now) steps left c.in_ok-line.line _ held
-    (c.in_ok-line.ensures.found ∙ ap (reached steps) lines)
-    (c.if-is_empty.ensures ∙ sym (ap (λ n. eqb n 0) (length-map c.in_ok-line.left.now step_of)))
-    c.flow_entry.ensures
+pub returns-in_err-at : goal.returns-in_err-at
+returns-in_err-at c = rw c.from_residual.ensures (λ cut k. ap (λ (o : Option ℕ). o >>= line_entry c.args.document.first cut k.document.rows) (c.in_err-at.ensures.found k.document))
+
+pub returns : goal.returns
+returns c = λ cut k. c.line_entry.ensures cut k ∙ ap (λ (o : Option ℕ). o >>= line_entry c.args.document.first cut k.document.rows) (c.in_ok-at.ensures.found k.document)

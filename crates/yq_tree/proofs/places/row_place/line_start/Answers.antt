@@ -5,17 +5,17 @@ use Rattle.yq_tree.proofs.places.row_place.line_start.Goals as goal
 
 pub overflow_add-result : goal.overflow_add-result
 overflow_add-result c =
-    let f = row_fits c.args.rows.now c.args.seat.row (view c.row-row.result) c.row-row.ensures in
+    let f = row_fits c.args.rows.now c.args.spot.row (view c.row-row.result) c.row-row.ensures in
     omega (arith, f, shown_small c.args.rows.now c.requires.shown, c.row_start.ensures, ap length c.gap.ensures)
 
 pub overflow_add-result-2 : goal.overflow_add-result-2
 overflow_add-result-2 c =
-    let f = row_fits c.args.rows.now c.args.seat.row (view c.row-row.result) c.row-row.ensures in
+    let f = row_fits c.args.rows.now c.args.spot.row (view c.row-row.result) c.row-row.ensures in
     omega (arith, f, shown_small c.args.rows.now c.requires.shown, c.row_start.ensures, ap length c.gap.ensures, c.column.ensures)
 
 pub overflow_add-result-3 : goal.overflow_add-result-3
 overflow_add-result-3 c =
-    let f = row_fits c.args.rows.now c.args.seat.row (view c.row-row.result) c.row-row.ensures in
+    let f = row_fits c.args.rows.now c.args.spot.row (view c.row-row.result) c.row-row.ensures in
     omega (
       arith,
       f,

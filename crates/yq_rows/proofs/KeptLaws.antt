@@ -1,0 +1,171 @@
+-- Rows kept by their distance from the beginning of a text, or from its end.
+use Rattle.std.proofs.Common.{◌≡◌, ℕ, zero, suc, ◌+◌, ◌-◌, ◌<◌, ◌≤◌, ◌^◌, Some, get_or, List, [], ◌∷◌, ◌++◌, length, map, reverse, refl, sym, ap, ◌∙◌, subst, arith, append_assoc, length-append}
+use Rattle.std.proofs.lemmas.List.{get_or-reverse, length-map, length-reverse, map-append, reverse-reverse}
+use Rattle.std.proofs.lemmas.Option.{get_or_from_slice_get, slice_get-map, slice_get_read, slice_get_within}
+use Rattle.std.specs.List.{slice_get}
+use Rattle.std.specs.Option.{option_map}
+use Rattle.std.proofs.lemmas.List.Elements.{All-append, All-get_or, All-nil, All-cons}
+use Rattle.std.proofs.lemmas.Str.{IsUtf8-append, IsUtf8-nil}
+use Rattle.std.specs.Str.{IsUtf8}
+use Rattle.yq_rows.specs.Items.{Item, row_item, end_item, items_text, rows_in_items}
+use Rattle.yq_rows.specs.Kept.{near, far, turned, both_sides, TextsIn, Keeps}
+use Rattle.yq_rows.specs.Offsets.{Ends, Stands, Stand, slices_in, rows_in, AreTexts, offsets_of}
+use Rattle.yq_rows.specs.Rows.{Row, print_row}
+use Rattle.yq_rows.specs.View.{Slices, slices, slices_text}
+use Rattle.yq_rows.specs.declared.offsets.Offsets as declared
+use Rattle.yq_rows.proofs.FrontLaws.{front_drop, front_length}
+use Rattle.yq_rows.proofs.ItemLaws.{items_text-append}
+use Rattle.yq_rows.proofs.OffsetLaws.{row_then, row_stands, row_same, pieces_text, AreAll, pieces, texts}
+use Rattle.yq_rows.proofs.SliceLaws.{slices_are}
+
+-- texts of items
+pieces_are : (ps : List (List ℕ)) (rest : List ℕ) → AreAll ps → IsUtf8 rest → IsUtf8 (pieces_text ps rest)
+pieces_are [] rest h u = u
+pieces_are (p ∷ ps) rest h u = IsUtf8-append p (pieces_text ps rest) h.0 (pieces_are ps rest h.1 u)
+
+row_texts : (r : Row) (rest : List ℕ) → AreTexts (slices r) → IsUtf8 rest → IsUtf8 (print_row r rest)
+row_texts r rest h u = subst IsUtf8 (slices_are r rest) (pieces_are (pieces (slices r)) rest (texts (slices r) h) u)
+
+pub items_texts : (xs : List Item) (rest : List ℕ) → TextsIn xs → IsUtf8 rest → IsUtf8 (items_text xs rest)
+items_texts [] rest h u = u
+items_texts (row_item r ∷ xs) rest h u = row_texts r (items_text xs rest) h.0 (items_texts xs rest h.1 u)
+items_texts (end_item gap marker ∷ xs) rest h u = IsUtf8-append gap (marker ++ items_text xs rest) h.0 (IsUtf8-append marker (items_text xs rest) h.1 (items_texts xs rest h.2 u))
+
+print_then : (r : Row) (rest : List ℕ) → print_row r rest ≡ print_row r [] ++ rest
+print_then r rest = sym (slices_are r rest) ∙ (row_then (slices r) rest ∙ ap (λ t. t ++ rest) (slices_are r []))
+
+row_apart : (pre : List ℕ) (r : Row) (t : List ℕ) → pre ++ print_row r t ≡ (pre ++ print_row r []) ++ t
+row_apart pre r t = ap (λ u. pre ++ u) (print_then r t) ∙ sym (append_assoc pre (print_row r []) t)
+
+end_apart : (pre gap marker t : List ℕ) → pre ++ (gap ++ (marker ++ t)) ≡ (pre ++ (gap ++ marker)) ++ t
+end_apart pre gap marker t = ap (λ u. pre ++ u) (sym (append_assoc gap marker t)) ∙ sym (append_assoc pre (gap ++ marker) t)
+
+pub items_apart : (xs : List Item) (rest : List ℕ) → items_text xs rest ≡ items_text xs [] ++ rest
+items_apart [] rest = refl
+items_apart (row_item r ∷ xs) rest = ap (print_row r) (items_apart xs rest) ∙ (print_then r (items_text xs [] ++ rest) ∙ (sym (append_assoc (print_row r []) (items_text xs []) rest) ∙ ap (λ l. l ++ rest) (sym (print_then r (items_text xs [])))))
+items_apart (end_item gap marker ∷ xs) rest = ap (λ l. gap ++ (marker ++ l)) (items_apart xs rest) ∙ (ap (λ l. gap ++ l) (sym (append_assoc marker (items_text xs []) rest)) ∙ sym (append_assoc gap (marker ++ items_text xs []) rest))
+
+-- one row
+abbrev KeptRow : List ℕ → declared.Offsets → Slices → Type 0
+KeptRow whole o s = (slices_in whole o ≡ s) × Stands whole o
+
+kept_row : (pre : List ℕ) (r : Row) (t : List ℕ) → AreTexts (slices r) → IsUtf8 t → KeptRow (pre ++ print_row r t) (offsets_of (length pre) (slices r)) (slices r)
+kept_row pre r t h u =
+    let whole = pre ++ print_row r t in
+    let at : length whole - length (print_row r t) ≡ length pre = front_length whole pre (print_row r t) refl in
+    let ends : Ends (print_row r t) whole = front_drop whole pre (print_row r t) refl in
+    let spelled : print_row r t ≡ slices_text (slices r) t = sym (slices_are r t) in
+    let same = row_same whole (print_row r t) t (slices r) ends spelled in
+    let stands = row_stands whole (print_row r t) t (slices r) ends (row_texts r t h u) spelled h in (
+      subst (λ (n : ℕ). slices_in whole (offsets_of n (slices r)) ≡ slices r) at same,
+      subst (λ (n : ℕ). Stands whole (offsets_of n (slices r))) at stands,
+    )
+
+-- Rows by their distance from the beginning: whatever stands behind them.
+abbrev pub KeptRows : List ℕ → List declared.Offsets → List Slices → Type 0
+KeptRows whole os ss = (rows_in whole os ≡ ss) × Stand whole os
+
+pub near_kept : (xs : List Item) (pre rest : List ℕ) → TextsIn xs → IsUtf8 rest → KeptRows (pre ++ items_text xs rest) (near (length pre) xs) (rows_in_items xs)
+near_kept [] pre rest h u = (refl, All-nil (Stands (pre ++ rest)))
+near_kept (row_item r ∷ xs) pre rest h u =
+    let t = items_text xs rest in
+    let one = kept_row pre r t h.0 (items_texts xs rest h.1 u) in
+    let long : length (pre ++ print_row r []) ≡ length pre + length (print_row r []) = length-append pre (print_row r []) in
+    let more : KeptRows ((pre ++ print_row r []) ++ t) (near (length (pre ++ print_row r [])) xs) (rows_in_items xs) = near_kept xs (pre ++ print_row r []) rest h.1 u in
+    let moved : KeptRows (pre ++ print_row r t) (near (length pre + length (print_row r [])) xs) (rows_in_items xs) =
+    subst (λ (n : ℕ). KeptRows (pre ++ print_row r t) (near n xs) (rows_in_items xs)) long (subst (λ (w : List ℕ). KeptRows w (near (length (pre ++ print_row r [])) xs) (rows_in_items xs)) (sym (row_apart pre r t)) more) in
+    (ap (λ s. s ∷ rows_in (pre ++ print_row r t) (near (length pre + length (print_row r [])) xs)) one.0 ∙ ap (λ l. slices r ∷ l) moved.0, All-cons (Stands (pre ++ print_row r t)) (offsets_of (length pre) (slices r)) (near (length pre + length (print_row r [])) xs) one.1 moved.1)
+near_kept (end_item gap marker ∷ xs) pre rest h u =
+    let t = items_text xs rest in
+    let long : length (pre ++ (gap ++ marker)) ≡ length pre + length (gap ++ marker) = length-append pre (gap ++ marker) in
+    let more = near_kept xs (pre ++ (gap ++ marker)) rest h.2 u in
+    subst (λ (n : ℕ). KeptRows (pre ++ (gap ++ (marker ++ t))) (near n xs) (rows_in_items xs)) long (subst (λ (w : List ℕ). KeptRows w (near (length (pre ++ (gap ++ marker))) xs) (rows_in_items xs)) (sym (end_apart pre gap marker t)) more)
+
+-- Rows by their distance from the end: whatever stands in front of them.
+pub far_near : (xs : List Item) (pre whole : List ℕ) → whole ≡ pre ++ items_text xs [] → map (turned (length whole)) (far xs) ≡ near (length pre) xs
+far_near [] pre whole e = refl
+far_near (row_item r ∷ xs) pre whole e =
+    let t = items_text xs [] in
+    let size : length whole - length (print_row r t) ≡ length pre = front_length whole pre (print_row r t) e in
+    let long : length (pre ++ print_row r []) ≡ length pre + length (print_row r []) = length-append pre (print_row r []) in
+    let more : map (turned (length whole)) (far xs) ≡ near (length (pre ++ print_row r [])) xs = far_near xs (pre ++ print_row r []) whole (e ∙ row_apart pre r t) in
+    ap (λ (k : ℕ). offsets_of k (slices r) ∷ map (turned (length whole)) (far xs)) size ∙ ap (λ l. offsets_of (length pre) (slices r) ∷ l) (more ∙ ap (λ (k : ℕ). near k xs) long)
+far_near (end_item gap marker ∷ xs) pre whole e =
+    let t = items_text xs [] in
+    let long : length (pre ++ (gap ++ marker)) ≡ length pre + length (gap ++ marker) = length-append pre (gap ++ marker) in
+    far_near xs (pre ++ (gap ++ marker)) whole (e ∙ end_apart pre gap marker t) ∙ ap (λ (k : ℕ). near k xs) long
+
+pub far_kept : (xs : List Item) (pre : List ℕ) → TextsIn xs → IsUtf8 [] → KeptRows (pre ++ items_text xs []) (map (turned (length (pre ++ items_text xs []))) (far xs)) (rows_in_items xs)
+far_kept xs pre h u =
+    subst (λ (os : List declared.Offsets). KeptRows (pre ++ items_text xs []) os (rows_in_items xs)) (sym (far_near xs pre (pre ++ items_text xs []) refl)) (near_kept xs pre [] h u)
+
+-- Both sides of a gap.
+pub kept_are : (t : List ℕ) (front behind : List declared.Offsets) (before after : List Item) → Keeps t front behind before after → KeptRows t (both_sides (length t) front behind) (rows_in_items before ++ rows_in_items after)
+kept_are t front behind before after h =
+    let rest = items_text after [] in
+    let pre = items_text before [] in
+    let split : t ≡ pre ++ rest = h.text ∙ items_apart before rest in
+    let near_side : KeptRows t front (rows_in_items before) = rw (h.text, h.front_is) (near_kept before [] rest h.front_texts (items_texts after [] h.behind_texts IsUtf8-nil)) in
+    let far_side : KeptRows t (map (turned (length t)) (reverse behind)) (rows_in_items after) =
+    rw (h.behind_is, reverse-reverse (far after), far_near after pre t split)
+    (subst (λ (w : List ℕ). KeptRows w (near (length pre) after) (rows_in_items after)) (sym split) (near_kept after pre [] h.behind_texts IsUtf8-nil)) in (
+      map-append (slices_in t) front (map (turned (length t)) (reverse behind)) ∙ (ap (λ l. l ++ rows_in t (map (turned (length t)) (reverse behind))) near_side.0 ∙ ap (λ l. rows_in_items before ++ l) far_side.0),
+      All-append (Stands t) front (map (turned (length t)) (reverse behind)) near_side.1 far_side.1,
+    )
+
+-- Items in front of a gap, exchanged for others: the places of the rows behind it stay as they are, and so do those in front.
+pub near_joined : (n : ℕ) (xs ys : List Item) → near n (xs ++ ys) ≡ near n xs ++ near (n + length (items_text xs [])) ys
+near_joined n [] ys = ap (λ (k : ℕ). near k ys) (omega arith)
+near_joined n (row_item r ∷ xs) ys =
+    let size : (n + length (print_row r [])) + length (items_text xs []) ≡ n + length (print_row r (items_text xs [])) = omega (arith, ap length (print_then r (items_text xs [])), length-append (print_row r []) (items_text xs [])) in
+    ap (λ l. offsets_of n (slices r) ∷ l) (near_joined (n + length (print_row r [])) xs ys ∙ ap (λ (k : ℕ). near (n + length (print_row r [])) xs ++ near k ys) size)
+near_joined n (end_item gap marker ∷ xs) ys =
+    let size : (n + length (gap ++ marker)) + length (items_text xs []) ≡ n + length (gap ++ (marker ++ items_text xs [])) = omega (arith, ap length (append_assoc gap marker (items_text xs [])), length-append (gap ++ marker) (items_text xs [])) in
+    near_joined (n + length (gap ++ marker)) xs ys ∙ ap (λ (k : ℕ). near (n + length (gap ++ marker)) xs ++ near k ys) size
+
+texts_joined : (xs ys : List Item) → TextsIn xs → TextsIn ys → TextsIn (xs ++ ys)
+texts_joined [] ys h k = k
+texts_joined (row_item r ∷ xs) ys h k = (h.0, texts_joined xs ys h.1 k)
+texts_joined (end_item gap marker ∷ xs) ys h k = (h.0, h.1, texts_joined xs ys h.2 k)
+
+pub kept_exchanged : (t new : List ℕ) (front behind : List declared.Offsets) (before ys after : List Item) → Keeps t front behind before after → TextsIn ys → new ≡ items_text before (items_text ys (items_text after [])) → length new < 2 ^ 32 →
+    Keeps new (front ++ near (length (items_text before [])) ys) behind (before ++ ys) after
+kept_exchanged t new front behind before ys after h each e small =
+    let zero_more : 0 + length (items_text before []) ≡ length (items_text before []) = omega arith in
+    record {
+      text = e ∙ sym (items_text-append before ys (items_text after []));
+      front_is = ap (λ l. l ++ near (length (items_text before [])) ys) h.front_is ∙ sym ((near_joined 0 before ys ∙ ap (λ (k : ℕ). near 0 before ++ near k ys) zero_more));
+      behind_is = h.behind_is;
+      front_texts = texts_joined before ys h.front_texts each;
+      behind_texts = h.behind_texts;
+      small = small;
+    }
+
+-- The row at an index.
+get_left : (xs ys : List declared.Offsets) (i : ℕ) → i < length xs → slice_get (xs ++ ys) i ≡ slice_get xs i
+get_left [] ys i less = absurd (omega (arith, less))
+get_left (x ∷ xs) ys zero less = refl
+get_left (x ∷ xs) ys (suc i) less = get_left xs ys i (omega (arith, less))
+
+get_right : (xs ys : List declared.Offsets) (k : ℕ) → slice_get (xs ++ ys) (length xs + k) ≡ slice_get ys k
+get_right [] ys k = ap (slice_get ys) (omega arith)
+get_right (x ∷ xs) ys k = let next : suc (length xs) + k ≡ suc (length xs + k) = omega arith in ap (slice_get (x ∷ (xs ++ ys))) next ∙ get_right xs ys k
+
+pub at_front : (n : ℕ) (front behind : List declared.Offsets) (i : ℕ) (o : declared.Offsets) → i < length front → o ≡ get_or front i o → slice_get (both_sides n front behind) i ≡ Some o
+at_front n front behind i o less e = get_left front (map (turned n) (reverse behind)) i less ∙ slice_get_read front (length front) i o refl less e
+
+pub at_behind : (n : ℕ) (front behind : List declared.Offsets) (i : ℕ) (o : declared.Offsets) → length front ≤ i → i < length (both_sides n front behind) → o ≡ get_or behind (length behind - 1 - (i - length front)) o → slice_get (both_sides n front behind) i ≡ Some (turned n o)
+at_behind n front behind i o from less e =
+    let k = i - length front in
+    let back = map (turned n) (reverse behind) in
+    let size : length back ≡ length behind = length-map (reverse behind) (turned n) ∙ length-reverse behind in
+    let within : k < length behind = omega (arith, from, less, length-append front back, size) in
+    let place : i ≡ length front + k = omega (arith, from) in
+    let own : slice_get (reverse behind) k ≡ Some o = slice_get_read (reverse behind) (length behind) k o (sym (length-reverse behind)) within (e ∙ sym (get_or-reverse behind k o within)) in
+    ap (slice_get (front ++ back)) place ∙ (get_right front back k ∙ (slice_get-map (turned n) (reverse behind) k ∙ ap (option_map (turned n)) own))
+
+pub stands_at : (t : List ℕ) (os : List declared.Offsets) (i : ℕ) (o : declared.Offsets) → Stand t os → slice_get os i ≡ Some o → Stands t o
+stands_at t os i o h e = subst (Stands t) (get_or_from_slice_get os i o o e) (All-get_or (Stands t) os i o (slice_get_within os i o e) h)
+
+pub lent_at : (t : List ℕ) (os : List declared.Offsets) (i : ℕ) (o : declared.Offsets) → slice_get os i ≡ Some o → slice_get (rows_in t os) i ≡ Some (slices_in t o)
+lent_at t os i o e = slice_get-map (slices_in t) os i ∙ ap (option_map (slices_in t)) e

@@ -1,0 +1,195 @@
+-- Rows at their distance from the beginning of a text: as they are read, and each by its index.
+use Rattle.std.proofs.Common.{◌≡◌, ℕ, zero, suc, ◌+◌, ◌-◌, ◌<◌, Bool, true, false, List, [], ◌∷◌, ◌++◌, length, take, get_or, Option, Some, None, refl, sym, ap, ◌∙◌, subst, arith, append_assoc, append-nil, length-append}
+use Rattle.std.proofs.lemmas.Bool.{le-leb, lt-leb}
+use Rattle.std.proofs.lemmas.List.Sums.{sum_by-cons}
+use Rattle.std.proofs.lemmas.Option.{same_Some, slice_get_read, slice_get_within}
+use Rattle.std.specs.List.{slice_get, sum_by}
+use Rattle.yq_scalar.specs.Answers.{◌>>=◌}
+use Rattle.yq_scalar.specs.Text.{is_empty}
+use Rattle.yq_scalar.proofs.Bools.{bind_some}
+use Rattle.yq_rows.specs.Grammar.{Limit, limit_after, ends_part, begins_document}
+use Rattle.yq_rows.specs.Items.{Item, row_item, end_item, rows_items, items_of, items_text, rows_in_items, bounds_in_items, shown_items}
+use Rattle.yq_rows.specs.Kept.{near, rows_placed, parts_placed, AreNear}
+use Rattle.yq_rows.specs.Lending.{Lent, lent, row_lent, shown_read}
+use Rattle.yq_rows.specs.Offsets.{Ends, offsets_of, row_length}
+use Rattle.yq_rows.specs.Reading.{cut_gap, row_at, all_rows, part_at, marker_at, all_parts}
+use Rattle.yq_rows.specs.RowStarts.{bound_length, passed_length, row_start}
+use Rattle.yq_rows.specs.Rows.{Row, print_row, rows_text, Part, part_text, Cut, last, marked}
+use Rattle.yq_rows.specs.View.{Slices, slices, slices_text, Bound, Shown}
+use Rattle.yq_rows.specs.declared.offsets.Offsets as declared
+use Rattle.yq_rows.proofs.FrontLaws.{front_join, front_le}
+use Rattle.yq_rows.proofs.ItemLaws.{items_shown, rows_items_text}
+use Rattle.yq_rows.proofs.ItemSpliceLaws.{rows_front}
+use Rattle.yq_rows.proofs.KeptLaws.{items_apart, near_joined}
+use Rattle.yq_rows.proofs.OffsetLaws.{row_then}
+use Rattle.yq_rows.proofs.PartsLaws.{parts_refused, parts_last, parts_marked, part_takes, marker_takes, part_marker}
+use Rattle.yq_rows.proofs.RowLending.{row_joined}
+use Rattle.yq_rows.proofs.RowsLaws.{with_front, rows_from, rows_cut, rows_step, rows_refused, rows_done}
+use Rattle.yq_rows.proofs.SliceLaws.{slices_are, print-length}
+
+-- one row more
+front_placed : (os : List declared.Offsets) (n : ℕ) (r : Row) (o : Option (Part × List ℕ)) → rows_placed os n (with_front (r ∷ []) o) ≡ rows_placed (os ++ offsets_of n (slices r) ∷ []) (n + length (slices_text (slices r) [])) o
+front_placed os n r (Some x) =
+    let size : n + length (print_row r []) ≡ n + length (slices_text (slices r) []) = ap (λ (t : List ℕ). n + length t) (sym (slices_are r [])) in
+    ap Some (ap (λ (k : ℕ). os ++ offsets_of n (slices r) ∷ near k (rows_items x.0.rows [])) size ∙ sym (append_assoc os (offsets_of n (slices r) ∷ []) (near (n + length (slices_text (slices r) [])) (rows_items x.0.rows []))))
+front_placed os n r None = refl
+
+gap_read : (limit : Limit) (t g r : List ℕ) → (g, r) ≡ cut_gap t → all_rows limit t ≡ rows_from limit g r
+gap_read limit t g r e = rows_cut limit t ∙ ap (λ (y : List ℕ × List ℕ). rows_from limit y.0 y.1) (sym e)
+
+pub rows_placed_end : (os : List declared.Offsets) (n : ℕ) (limit : Limit) (t g r : List ℕ) (all : Option (List declared.Offsets)) → (g, r) ≡ cut_gap t → ends_part r ≡ true → rows_placed os n (all_rows limit t) ≡ all → all ≡ Some os
+rows_placed_end os n limit t g r all e none so_far = sym so_far ∙ (ap (rows_placed os n) (gap_read limit t g r e ∙ rows_done limit g r none) ∙ ap Some (append-nil os))
+
+not_read : (o : Option (Row × List ℕ)) → (o >>= λ x. Some (lent x)) ≡ None → o ≡ None
+not_read None h = refl
+not_read (Some x) h = cc
+
+pub rows_placed_none : (os : List declared.Offsets) (n : ℕ) (limit : Limit) (t g r : List ℕ) (all : Option (List declared.Offsets)) → (g, r) ≡ cut_gap t → ends_part r ≡ false → row_lent limit g r ≡ None → rows_placed os n (all_rows limit t) ≡ all → all ≡ None
+rows_placed_none os n limit t g r all e more none so_far = sym so_far ∙ ap (rows_placed os n) (gap_read limit t g r e ∙ rows_refused limit g r more (not_read (row_at limit g r) none))
+
+-- how far from the beginning the next one stands
+next_place : (whole t p rest : List ℕ) → Ends t whole → t ≡ p ++ rest → length whole - length rest ≡ (length whole - length t) + length p
+next_place whole t p rest h e =
+    let within = front_le whole _ t (front_join whole t h) in
+    omega (arith, within, ap length e, length-append p rest)
+
+pub rows_placed_step : (os items : List declared.Offsets) (o : declared.Offsets) (whole : List ℕ) (limit next : Limit) (t g r : List ℕ) (s : Slices) (after : List ℕ) (all : Option (List declared.Offsets)) → Ends t whole → (g, r) ≡ cut_gap t → ends_part r ≡ false →
+    row_lent limit g r ≡ Some (s, next, after) → items ≡ os ++ o ∷ [] → o ≡ offsets_of (length whole - length t) s → rows_placed os (length whole - length t) (all_rows limit t) ≡ all → rows_placed items (length whole - length after) (all_rows next after) ≡ all
+rows_placed_step os items o whole limit next t g r s after all ends e more h pushed place so_far =
+    let n = length whole - length t in
+    let x = bind_some (row_at limit g r) h in
+    let is : lent x.0 ≡ (s, next, after) = same_Some _ _ x.2 in
+    let read : all_rows limit t ≡ with_front (x.0.0 ∷ []) (all_rows (limit_after x.0.0) x.0.1) = gap_read limit t g r e ∙ (rows_step limit g r x.0 more x.1 ∙ ap (with_front (x.0.0 ∷ [])) (sym (rows_cut (limit_after x.0.0) x.0.1))) in
+    let one : rows_placed os n (all_rows limit t) ≡ rows_placed (os ++ offsets_of n (slices x.0.0) ∷ []) (n + length (slices_text (slices x.0.0) [])) (all_rows (limit_after x.0.0) x.0.1) = ap (rows_placed os n) read ∙ front_placed os n x.0.0 (all_rows (limit_after x.0.0) x.0.1) in
+    let same : rows_placed os n (all_rows limit t) ≡ rows_placed (os ++ offsets_of n s ∷ []) (n + length (slices_text s [])) (all_rows next after) =
+    subst (λ (y : Lent). rows_placed os n (all_rows limit t) ≡ rows_placed (os ++ offsets_of n y.0 ∷ []) (n + length (slices_text y.0 [])) (all_rows y.1 y.2)) is one in
+    let size : length whole - length after ≡ n + length (slices_text s []) = next_place whole t (slices_text s []) after ends (row_joined limit next t g r s after e h ∙ row_then s after) in
+    ap (λ (k : ℕ). rows_placed items k (all_rows next after)) size
+    ∙ (ap (λ (l : List declared.Offsets). rows_placed l (n + length (slices_text s [])) (all_rows next after)) (pushed ∙ ap (λ (p : declared.Offsets). os ++ p ∷ []) place)
+    ∙ (sym same ∙ so_far))
+
+-- parts
+pub parts_placed_none : (os : List declared.Offsets) (n : ℕ) (started : Bool) (t : List ℕ) (all : Option (List declared.Offsets)) → rows_placed os n (part_at started t) ≡ None → parts_placed os n (all_parts started t) ≡ all → all ≡ None
+parts_placed_none os n started t all none so_far = sym so_far ∙ ap (parts_placed os n) (parts_refused started t (no_part (part_at started t) none)) where
+  no_part : (o : Option (Part × List ℕ)) → rows_placed os n o ≡ None → o ≡ None
+  no_part None h = refl
+  no_part (Some x) h = cc
+
+near_part : (n : ℕ) (rs : List Row) (end marker : List ℕ) (xs : List Item) → near n (rows_items rs (end_item end marker ∷ xs)) ≡ near n (rows_items rs []) ++ near (n + length (rows_text rs (end ++ marker))) xs
+near_part n rs end marker xs =
+    let own = items_text (rows_items rs []) [] in
+    let text : rows_text rs (end ++ marker) ≡ own ++ (end ++ marker) = sym (rows_items_text rs [] (end ++ marker)) ∙ items_apart (rows_items rs []) (end ++ marker) in
+    let size : (n + length own) + length (end ++ marker) ≡ n + length (rows_text rs (end ++ marker)) = omega (arith, ap length text, length-append own (end ++ marker)) in
+    ap (near n) (rows_front rs (end_item end marker ∷ xs)) ∙ (near_joined n (rows_items rs []) (end_item end marker ∷ xs) ∙ ap (λ (k : ℕ). near n (rows_items rs []) ++ near k xs) size)
+
+pub parts_placed_end : (os items : List declared.Offsets) (n : ℕ) (started : Bool) (t after : List ℕ) (p : Part) (all : Option (List declared.Offsets)) → part_at started t ≡ Some (p, after) → is_empty after ≡ true → rows_placed os n (part_at started t) ≡ Some items →
+    parts_placed os n (all_parts started t) ≡ all → all ≡ Some items
+parts_placed_end os items n started t after p all h none placed so_far =
+    let is : Some items ≡ Some (os ++ near n (rows_items p.rows [])) = sym placed ∙ ap (rows_placed os n) h in
+    let end : near n (items_of (last p)) ≡ near n (rows_items p.rows []) = near_part n p.rows p.end [] [] ∙ append-nil (near n (rows_items p.rows [])) in
+    sym so_far ∙ (ap (parts_placed os n) (parts_last started t (p, after) h none) ∙ (ap (λ l. Some (os ++ l)) end ∙ sym is))
+
+marked_placed : (os : List declared.Offsets) (n : ℕ) (p : Part) (marker : List ℕ) (o : Option Cut) →
+    parts_placed os n (o >>= λ c. Some (marked p marker c)) ≡ parts_placed (os ++ near n (rows_items p.rows [])) (n + length (rows_text p.rows (p.end ++ marker))) o
+marked_placed os n p marker None = refl
+marked_placed os n p marker (Some c) =
+    ap (λ l. Some (os ++ l)) (near_part n p.rows p.end marker (items_of c))
+    ∙ ap Some (sym (append_assoc os (near n (rows_items p.rows [])) (near (n + length (rows_text p.rows (p.end ++ marker))) (items_of c))))
+
+part_apart : (p : Part) (marker rest : List ℕ) → part_text p (marker ++ rest) ≡ rows_text p.rows (p.end ++ marker) ++ rest
+part_apart p marker rest =
+    let own = items_text (rows_items p.rows []) [] in
+    let long : (x : List ℕ) → rows_text p.rows x ≡ own ++ x = λ x. sym (rows_items_text p.rows [] x) ∙ items_apart (rows_items p.rows []) x in
+    long (p.end ++ (marker ++ rest)) ∙ (ap (λ l. own ++ l) (sym (append_assoc p.end marker rest)) ∙ (sym (append_assoc own (p.end ++ marker) rest) ∙ ap (λ l. l ++ rest) (sym (long (p.end ++ marker)))))
+
+-- A part that was read, and the marker behind it.
+pub record ReadMarked (started : Bool) (t after marker next : List ℕ) : Type 0 where
+  pub part : Part
+  pub read : part_at started t ≡ Some (part, after)
+  pub some : is_empty after ≡ false
+  pub line : marker_at after ≡ Some (marker, next)
+
+pub parts_placed_step : (os items : List declared.Offsets) (whole : List ℕ) (started : Bool) (t after marker next : List ℕ) (all : Option (List declared.Offsets)) → Ends t whole → ReadMarked started t after marker next →
+    rows_placed os (length whole - length t) (part_at started t) ≡ Some items → parts_placed os (length whole - length t) (all_parts started t) ≡ all → parts_placed items (length whole - length next) (all_parts (begins_document marker) next) ≡ all
+parts_placed_step os items whole started t after marker next all ends m placed so_far =
+    let n = length whole - length t in
+    let p = m.part in
+    let is : Some items ≡ Some (os ++ near n (rows_items p.rows [])) = sym placed ∙ ap (rows_placed os n) m.read in
+    let joined = marker_takes after (marker, next) (part_marker started t (p, after) m.read m.some) m.line in
+    let text : t ≡ rows_text p.rows (p.end ++ marker) ++ next = (part_takes started t (p, after) m.read).text ∙ (ap (part_text p) joined.0 ∙ part_apart p marker next) in
+    let size : length whole - length next ≡ n + length (rows_text p.rows (p.end ++ marker)) = next_place whole t (rows_text p.rows (p.end ++ marker)) next ends text in
+    ap (λ (k : ℕ). parts_placed items k (all_parts (begins_document marker) next)) size
+    ∙ (ap (λ (l : List declared.Offsets). parts_placed l (n + length (rows_text p.rows (p.end ++ marker))) (all_parts (begins_document marker) next)) (same_Some _ _ is)
+    ∙ (sym (marked_placed os n p marker (all_parts (begins_document marker) next))
+    ∙ (sym (ap (parts_placed os n) (parts_marked started t (p, after) (marker, next) m.read m.some m.line)) ∙ so_far)))
+
+near_cut : (n : ℕ) (o : Option Cut) (os : List declared.Offsets) (s : Shown) → n ≡ 0 → parts_placed [] n o ≡ Some os → shown_read o ≡ Some s → AreNear os s
+near_cut n None os s zero_more h e = cc
+near_cut n (Some c) os s zero_more h e = record {
+  items = items_of c;
+  near_is = sym (same_Some _ _ h) ∙ ap (λ (k : ℕ). near k (items_of c)) zero_more;
+  shown_is = sym (same_Some _ _ e) ∙ sym (items_shown c);
+}
+
+pub near_read : (t : List ℕ) (os : List declared.Offsets) (s : Shown) → parts_placed [] (length t - length t) (all_parts true t) ≡ Some os → shown_read (all_parts true t) ≡ Some s → AreNear os s
+near_read t os s h e = near_cut (length t - length t) (all_parts true t) os s (omega arith) h e
+
+-- a row by its index
+abbrev start_in : ℕ → ℕ → ℕ → List Item → ℕ
+start_in n k i xs = n + (sum_by row_length (take i (rows_in_items xs)) + sum_by (passed_length (k + i)) (bounds_in_items k xs))
+
+none_passed : (j k : ℕ) (xs : List Item) → j < k → sum_by (passed_length j) (bounds_in_items k xs) ≡ 0
+none_passed j k [] less = refl
+none_passed j k (row_item r ∷ xs) less = none_passed j (k + 1) xs (omega (arith, less))
+none_passed j k (end_item gap marker ∷ xs) less =
+    let b : Bound = record { rows = k; end = gap; marker = marker } in
+    let own : passed_length j b ≡ 0 = rw (lt-leb k j less) refl in
+    sum_by-cons (passed_length j) b (bounds_in_items k xs) ∙ omega (arith, own, none_passed j k xs less)
+
+pub near_at : (xs : List Item) (n k i : ℕ) (s : Slices) → slice_get (rows_in_items xs) i ≡ Some s → slice_get (near n xs) i ≡ Some (offsets_of (start_in n k i xs) s)
+near_at [] n k i s h = cc
+near_at (row_item r ∷ xs) n k zero s h =
+    let none = none_passed (k + 0) (k + 1) xs (omega arith) in
+    let place : n ≡ start_in n k 0 (row_item r ∷ xs) = omega (arith, none) in
+    ap (λ (l : Slices). Some (offsets_of n l)) (same_Some _ _ h) ∙ ap (λ (m : ℕ). Some (offsets_of m s)) place
+near_at (row_item r ∷ xs) n k (suc i) s h =
+    let long = print-length r [] in
+    let first = sum_by-cons row_length (slices r) (take i (rows_in_items xs)) in
+    let index : (k + 1) + i ≡ k + suc i = omega arith in
+    let same = ap (λ (j : ℕ). sum_by (passed_length j) (bounds_in_items (k + 1) xs)) index in
+    let place : start_in (n + length (print_row r [])) (k + 1) i xs ≡ start_in n k (suc i) (row_item r ∷ xs) = omega (arith, long, first, same) in
+    near_at xs (n + length (print_row r [])) (k + 1) i s h ∙ ap (λ (m : ℕ). Some (offsets_of m s)) place
+near_at (end_item gap marker ∷ xs) n k i s h =
+    let b : Bound = record { rows = k; end = gap; marker = marker } in
+    let own : passed_length (k + i) b ≡ bound_length b = rw (le-leb k (k + i) (omega arith)) refl in
+    let first = sum_by-cons (passed_length (k + i)) b (bounds_in_items k xs) in
+    let place : start_in (n + length (gap ++ marker)) k i xs ≡ start_in n k i (end_item gap marker ∷ xs) = omega (arith, own, first, length-append gap marker) in
+    near_at xs (n + length (gap ++ marker)) k i s h ∙ ap (λ (m : ℕ). Some (offsets_of m s)) place
+
+pub row_near : (os : List declared.Offsets) (v : Shown) (i : ℕ) (s : Slices) → AreNear os v → slice_get v.rows i ≡ Some s → slice_get os i ≡ Some (offsets_of (row_start i v) s)
+row_near os v i s h there =
+    let at : slice_get (rows_in_items h.items) i ≡ Some s = sym (ap (λ (x : Shown). slice_get x.rows i) h.shown_is) ∙ there in
+    let place : start_in 0 0 i h.items ≡ row_start i (shown_items h.items) = omega (arith, ap (λ (j : ℕ). sum_by (passed_length j) (bounds_in_items 0 h.items)) (zero_plus i)) in
+    ap (λ (l : List declared.Offsets). slice_get l i) h.near_is ∙ (near_at h.items 0 0 i s at ∙ ap (λ (m : ℕ). Some (offsets_of m s)) (place ∙ ap (row_start i) (sym h.shown_is)))
+  where
+    zero_plus : (i : ℕ) → 0 + i ≡ i
+    zero_plus i = omega arith
+
+some_row : (ss : List Slices) (i : ℕ) → i < length ss → (s : Slices) × (slice_get ss i ≡ Some s)
+some_row [] i less = absurd (omega (arith, less))
+some_row (s ∷ ss) zero less = (s, refl)
+some_row (s ∷ ss) (suc i) less = some_row ss i (omega (arith, less))
+
+pub row_lengths : (os : List declared.Offsets) (v : Shown) (i : ℕ) (o : declared.Offsets) (s : Slices) → AreNear os v → slice_get v.rows i ≡ Some s → o ≡ get_or os i o → o ≡ offsets_of (row_start i v) s
+row_lengths os v i o s h there e =
+    let near_is = row_near os v i s h there in
+    let own : slice_get os i ≡ Some o = slice_get_read os (length os) i o refl (slice_get_within os i _ near_is) e in
+    same_Some _ _ (sym own ∙ near_is)
+
+pub row_starts : (os : List declared.Offsets) (v : Shown) (i : ℕ) (o : declared.Offsets) → AreNear os v → i < length v.rows → o ≡ get_or os i o → o.start ≡ row_start i v
+row_starts os v i o h less e = let s = some_row v.rows i less in ap (λ (p : declared.Offsets). p.start) (row_lengths os v i o s.0 h s.1 e)
+
+pub own_lengths : (os : List declared.Offsets) (v : Shown) (i : ℕ) (o : declared.Offsets) (s : Slices) → AreNear os v → slice_get v.rows i ≡ Some s → o ≡ get_or os i o → o ≡ offsets_of o.start s
+own_lengths os v i o s h there e =
+    let is = row_lengths os v i o s h there e in
+    is ∙ ap (λ (n : ℕ). offsets_of n s) (sym (ap (λ (p : declared.Offsets). p.start) is))

@@ -1,0 +1,86 @@
+-- Rows kept by where they stand (own; a reader of the contracts may skip it): in front of a gap by the distance from the text's beginning, behind it by
+-- that to the text's end.
+use Rattle.std.specs.Prelude.{◌≡◌, ℕ, ◌+◌, ◌-◌, ◌<◌, ◌^◌, List, [], ◌∷◌, ◌++◌, length, map, reverse, Option, Some}
+use Rattle.yq_scalar.specs.Answers.{◌>>=◌}
+use Rattle.std.specs.Str.{IsUtf8}
+use Rattle.yq_rows.specs.Items.{Item, row_item, end_item, items_of, items_text, rows_items, shown_items}
+use Rattle.yq_rows.specs.Offsets.{AreTexts, offsets_of, rows_in}
+use Rattle.yq_rows.specs.Rows.{print_row, Part, Cut}
+use Rattle.yq_rows.specs.View.{Bound, Slices, slices, Shown}
+use Rattle.yq_rows.specs.declared.offsets.Offsets as declared
+
+-- the rows of items, of which so many bytes stand in front (own)
+abbrev pub near : ℕ → List Item → List declared.Offsets
+near n [] = []
+near n (row_item r ∷ xs) = offsets_of n (slices r) ∷ near (n + length (print_row r [])) xs
+near n (end_item gap marker ∷ xs) = near (n + length (gap ++ marker)) xs
+
+-- rows that are read behind others, of which so many bytes stand in front (own)
+abbrev pub rows_placed : List declared.Offsets → ℕ → Option (Part × List ℕ) → Option (List declared.Offsets)
+rows_placed offsets n read = read >>= λ x. Some (offsets ++ near n (rows_items x.0.rows []))
+
+-- the same of all parts (own)
+abbrev pub parts_placed : List declared.Offsets → ℕ → Option Cut → Option (List declared.Offsets)
+parts_placed offsets n read = read >>= λ c. Some (offsets ++ near n (items_of c))
+
+-- rows of a text by where they stand in it, and where its parts end (own)
+abbrev pub shown_in : List ℕ → List declared.Offsets → List Bound → Shown
+shown_in whole offsets bounds = record { rows = rows_in whole offsets; bounds = bounds }
+
+-- Rows stand where those of items do that follow one another from the beginning of a text (own).
+pub record AreNear (offsets : List declared.Offsets) (s : Shown) : Type 0 where
+  pub items : List Item
+  pub near_is : offsets ≡ near 0 items
+  pub shown_is : s ≡ shown_items items
+
+-- the rows of items at the end of a text, by how far from there they begin (own)
+abbrev pub far : List Item → List declared.Offsets
+far [] = []
+far (row_item r ∷ xs) = offsets_of (length (items_text (row_item r ∷ xs) [])) (slices r) ∷ far xs
+far (end_item gap marker ∷ xs) = far xs
+
+-- the place of a row in a text of so many bytes, measured from the other end (own)
+abbrev pub turned : ℕ → declared.Offsets → declared.Offsets
+turned n o = record {
+  start = n - o.start;
+  gap = o.gap;
+  column = o.column;
+  dashes = o.dashes;
+  key = o.key;
+  colon = o.colon;
+  space = o.space;
+  anchor = o.anchor;
+  apart = o.apart;
+  head = o.head;
+  tail = o.tail;
+  raw = o.raw;
+  parent = o.parent;
+}
+
+-- the rows in front of a gap and those behind it, the last one first, by their places in a text of so many bytes (own)
+abbrev pub both_sides : ℕ → List declared.Offsets → List declared.Offsets → List declared.Offsets
+both_sides n front behind = front ++ map (turned n) (reverse behind)
+
+-- the pieces of items are characters (own)
+abbrev pub TextsIn : List Item → Type 0
+TextsIn [] = Unit {0}
+TextsIn (row_item r ∷ xs) = AreTexts (slices r) × TextsIn xs
+TextsIn (end_item gap marker ∷ xs) = IsUtf8 gap × IsUtf8 marker × TextsIn xs
+
+-- A text and its rows, kept on both sides of a gap: they are those of items, some in front of the gap and the others behind it (own).
+pub record Keeps (t : List ℕ) (front behind : List declared.Offsets) (before after : List Item) : Type 0 where
+  pub text : t ≡ items_text before (items_text after [])
+  pub front_is : front ≡ near 0 before
+  pub behind_is : behind ≡ reverse (far after)
+  pub front_texts : TextsIn before
+  pub behind_texts : TextsIn after
+  pub small : length t < 2 ^ 32
+
+-- A text and its rows (own).
+pub record KeptText : Type 0 where
+  pub text : List ℕ
+  pub rows : List Slices
+
+-- they are those of items (own)
+abbrev pub IsKept : List ℕ → List declared.Offsets → List declared.Offsets → Type 0
+IsKept t front behind = (before : List Item) × (after : List Item) × Keeps t front behind before after

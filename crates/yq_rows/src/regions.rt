@@ -1,0 +1,31 @@
+//! Regions of a text: rows and ends of parts between others, read alone.
+ghost use Rattle.std.specs.Prelude.{◌≡◌, ◌<◌, ◌^◌, List, [], Some, length, true};
+ghost use Rattle.yq_scalar.specs.Answers.{Gives};
+ghost use Rattle.yq_rows.specs.Items.{Item, items_text, shown_items};
+ghost use Rattle.yq_rows.specs.Regions.{IsReadAlone, alone};
+ghost use Rattle.yq_rows.specs.Lending.{shown_read};
+ghost use Rattle.yq_rows.specs.Meter.{counted, line_count};
+ghost use Rattle.yq_rows.specs.Reading.{all_parts};
+
+use crate::meter::{Meter, count_lines};
+use crate::scanning::{Rows, cut};
+use std::alloc::Global;
+use yq_scalar::ReadError;
+
+/// The rows and ends of parts that are read in a region of a text. Its lines are given one by one,
+/// and each is counted once.
+pub fn read_region<'t>(
+    alloc: Global,
+    text: &'t str,
+    meter: &mut Meter,
+) -> Result<Rows<'t>, ReadError>
+    requires small { length text.now < 2 ^ 32 }
+    // They are what reading from left to right gives.
+    ensures exact { Gives (λ s. s) result (shown_read (all_parts true text.now)) }
+    // The text of items that are read alone gives these.
+    ensures alone { (xs back : List Item) → IsReadAlone xs back → text.now ≡ items_text xs [] → Gives (λ s. s) result (Some (shown_items (alone xs back))) }
+    ensures counted { meter.new ≡ counted (line_count text.now) meter.old }
+{
+    count_lines(text, meter);
+    cut(alloc, text)
+}
