@@ -4,26 +4,25 @@ mod digits;
 
 use crate::failing::digits::{Asked, Digits};
 use crate::steps::{FILE, NOTHING_TO_UNDO, Step, holds, runs, store_with};
+use crate::wanted::Wanted::{Done, Refused};
+use crate::wanted::{Wanted, Why};
 use std::alloc::Global;
 use std::process::Abort;
 use std::test::Fail;
-use yq_commands::Answer;
-use yq_commands::Answer::{Done, Refused};
-use yq_history::Fault;
 use yq_lists::{MemoryOut, command_of, run_list};
 use yq_store::{Left, MemoryStore};
 use yq_words::Command;
 
-const READ_FAILED: Answer = Refused(Fault::ReadFailed);
+const READ_FAILED: Wanted = Refused(Why::ReadFailed);
 
-const WRITE_FAILED: Answer = Refused(Fault::WriteFailed);
+const WRITE_FAILED: Wanted = Refused(Why::WriteFailed);
 
 const PORT: &str = "name: web # main\nport: 8080\n";
 
 const EDITED: &str = "name: web # main\nport: 9090\n";
 
 /// An edit of which a call fails, its answer, and whether the edit is made all the same.
-type Failing = (u64, Left, Answer, bool);
+type Failing = (u64, Left, Wanted, bool);
 
 /// The five calls of an edit: two reads, and three writes, of which the second one is the file's.
 static CALLS: [Failing; 10] = [
@@ -40,7 +39,7 @@ static CALLS: [Failing; 10] = [
 ];
 
 /// The history behind the failed edit, its undo, and the history behind that.
-fn steps_behind(answer: Answer, is_made: bool) -> [Step; 4] {
+fn steps_behind(answer: Wanted, is_made: bool) -> [Step; 4] {
     let edit: &'static [&'static str] = &["-i", ".port = 9090", "f"];
     let history: &'static [&'static str] = &["history", "f"];
     let undo: &'static [&'static str] = &["undo", "f"];

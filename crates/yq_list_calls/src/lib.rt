@@ -4,11 +4,15 @@
 #[cfg(test)]
 mod failing;
 #[cfg(test)]
+mod full;
+#[cfg(test)]
 mod outputs;
 #[cfg(test)]
 mod refused_memory;
 #[cfg(test)]
 mod steps;
+#[cfg(test)]
+mod wanted;
 #[cfg(test)]
 mod words;
 #[cfg(test)]

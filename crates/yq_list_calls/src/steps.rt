@@ -1,10 +1,9 @@
 //! Lists of commands, each command with what is to be seen behind it.
 
+use crate::wanted::{Wanted, Why, answer_of};
 use std::alloc::Global;
 use std::process::Abort;
 use std::test::Fail;
-use yq_commands::Answer;
-use yq_history::Fault;
 use yq_lists::{MemoryOut, command_of, run_list};
 use yq_store::{MemoryStore, Store};
 
@@ -13,14 +12,14 @@ pub const FILE: &str = "f";
 
 pub const JOURNAL: &str = "f.undo.json";
 
-pub const NOTHING_TO_UNDO: Answer = Answer::Refused(Fault::NothingToUndo);
+pub const NOTHING_TO_UNDO: Wanted = Wanted::Refused(Why::NothingToUndo);
 
-pub const NOTHING_TO_REDO: Answer = Answer::Refused(Fault::NothingToRedo);
+pub const NOTHING_TO_REDO: Wanted = Wanted::Refused(Why::NothingToRedo);
 
-pub const DOES_NOT_STAND: Answer = Answer::Refused(Fault::DoesNotStand);
+pub const DOES_NOT_STAND: Wanted = Wanted::Refused(Why::DoesNotStand);
 
 /// A command: its words, the answer to it, what it prints, and the text that the file then holds.
-pub type Step = (&'static [&'static str], Answer, &'static str, &'static str);
+pub type Step = (&'static [&'static str], Wanted, &'static str, &'static str);
 
 /// A list behind which the journal holds this text, if one is given.
 pub type List = (&'static [Step], &'static str);
@@ -52,7 +51,7 @@ pub fn runs(
     let mut printed = String::new(alloc);
     'steps: for (words, answer, line, _) in steps {
         commands.push(command_of(alloc, words)?)?;
-        answers.push(*answer)?;
+        answers.push(answer_of(*answer))?;
         printed.push_str(line)?;
     }
     let mut out = MemoryOut::new(alloc);

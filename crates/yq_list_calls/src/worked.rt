@@ -11,7 +11,8 @@ use std::test::Fail;
 type Row = (&'static str, &'static [Step]);
 
 /// Each command of a list is answered, prints and leaves the file as is told of it, whatever stands before it
-/// in the list, and a refused one ends no list.
+/// in the list, and a refused one ends no list. So a `run_list` that answers want of memory to each command but
+/// the first, which its contract lets through, is refused here.
 #[test]
 fn lists(rt: HostRuntime) -> Result<(), Fail> {
     let rows: [Row; 8] = [

@@ -1,19 +1,18 @@
 //! Commands write no name more than they are said to, which what a store holds can't tell: so calls are counted.
 
 use crate::steps::{FILE, JOURNAL, store_with};
+use crate::wanted::Wanted::{Done, NoMatch, Refused};
+use crate::wanted::{Wanted, Why, answer_of};
 use std::alloc::Global;
 use std::process::Abort;
 use std::test::Fail;
-use yq_commands::Answer;
-use yq_commands::Answer::{Done, NoMatch, Refused};
-use yq_history::Fault;
 use yq_lists::{MemoryOut, command_of, run_list};
 use yq_store::{Left, MemoryStore};
 
 /// The words of a command, its answer, the calls of the store that it makes, and whether it changes the file and
 /// the journal. The file and the journal are read by a call each, but for an expression without `-i`, which
 /// reads the file alone; a write is one call more.
-type Row = (&'static [&'static str], Answer, u64, bool, bool);
+type Row = (&'static [&'static str], Wanted, u64, bool, bool);
 
 static ROWS: [Row; 22] = [
     // To equal bytes: nothing is written.
@@ -24,14 +23,14 @@ static ROWS: [Row; 22] = [
     (&["squash", "1", "f"], Done, 2, false, false),
     (
         &["squash", "0", "f"],
-        Refused(Fault::BadCount),
+        Refused(Why::BadCount),
         2,
         false,
         false,
     ),
     (
         &["squash", "2", "f"],
-        Refused(Fault::BadCount),
+        Refused(Why::BadCount),
         2,
         false,
         false,
@@ -42,21 +41,9 @@ static ROWS: [Row; 22] = [
     (&["history", "f"], Done, 2, false, false),
     // From a text to an equal one: the journal alone is written.
     (&["undo", "f"], Done, 3, false, true),
-    (
-        &["undo", "f"],
-        Refused(Fault::NothingToUndo),
-        2,
-        false,
-        false,
-    ),
+    (&["undo", "f"], Refused(Why::NothingToUndo), 2, false, false),
     (&["redo", "f"], Done, 3, false, true),
-    (
-        &["redo", "f"],
-        Refused(Fault::NothingToRedo),
-        2,
-        false,
-        false,
-    ),
+    (&["redo", "f"], Refused(Why::NothingToRedo), 2, false, false),
     (&["-i", ".n = 3", "f"], Done, 5, true, true),
     (&["undo", "f"], Done, 5, true, true),
     (&["redo", "f"], Done, 5, true, true),
@@ -65,17 +52,11 @@ static ROWS: [Row; 22] = [
     (&["-e", ".m", "f"], NoMatch, 1, false, false),
     (&[".n = 4", "f"], Done, 1, false, false),
     // An expression that is none is refused before the store is asked.
-    (
-        &["-i", ".n =", "f"],
-        Refused(Fault::Syntax),
-        0,
-        false,
-        false,
-    ),
-    (&[".n =", "f"], Refused(Fault::Syntax), 0, false, false),
+    (&["-i", ".n =", "f"], Refused(Why::Syntax), 0, false, false),
+    (&[".n =", "f"], Refused(Why::Syntax), 0, false, false),
     (
         &["-i", ".n.m = 1", "f"],
-        Refused(Fault::NotAMap),
+        Refused(Why::NotAMap),
         2,
         false,
         false,
@@ -98,7 +79,11 @@ fn writes(rt: &impl Abort, alloc: Global, store: &mut MemoryStore, row: &Row) ->
     let mut out = MemoryOut::new(alloc);
     store.fail_at(0, Left::OldBytes);
     let answers = run_list(alloc, store, &mut out, &commands)?;
-    assert_eq!(rt; answers.first(), Some(answer), "{words:?}");
+    assert_eq!(rt;
+        answers.as_slice(),
+        [answer_of(*answer)].as_slice(),
+        "{words:?}"
+    );
     assert_eq!(rt; store.calls(), *calls, "{words:?}");
     assert_eq!(rt; held(alloc, store, FILE)? != file, *is_edited, "{words:?}");
     assert_eq!(rt;

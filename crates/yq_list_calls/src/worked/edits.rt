@@ -1,8 +1,8 @@
 //! Lists of edits and reads.
 
 use crate::steps::{NOTHING_TO_REDO, NOTHING_TO_UNDO, Step};
-use yq_commands::Answer::{Done, NoMatch, Refused};
-use yq_history::Fault;
+use crate::wanted::Wanted::{Done, NoMatch, Refused};
+use crate::wanted::Why;
 
 /// An edit behind an undo drops what could be redone.
 pub static MOVED: [Step; 10] = [
@@ -23,7 +23,7 @@ pub static SHOWN: [Step; 9] = [
     (&["-e", ".a", "f"], NoMatch, "false\n", "a: false\nb: [1]\n"),
     (
         &["-i", ".n = 1 | .b.c = 2", "f"],
-        Refused(Fault::NotAMap),
+        Refused(Why::NotAMap),
         "",
         "a: false\nb: [1]\n",
     ),
@@ -36,13 +36,13 @@ pub static SHOWN: [Step; 9] = [
     (&["history", "f"], Done, "", "a: false\nb: [1]\n"),
     (
         &["-i", ".b", "f"],
-        Refused(Fault::NotAnUpdate),
+        Refused(Why::NotAnUpdate),
         "",
         "a: false\nb: [1]\n",
     ),
     (
         &["-i", ".a ==", "f"],
-        Refused(Fault::Syntax),
+        Refused(Why::Syntax),
         "",
         "a: false\nb: [1]\n",
     ),

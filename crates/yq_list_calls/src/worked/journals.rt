@@ -1,12 +1,11 @@
 //! Lists between which another hand writes, and the journals behind them.
 
 use crate::steps::{DOES_NOT_STAND, FILE, JOURNAL, Step, holds, runs, store_with};
+use crate::wanted::Wanted::{Done, Refused};
+use crate::wanted::{Wanted, Why};
 use std::alloc::Global;
 use std::process::Abort;
 use std::test::Fail;
-use yq_commands::Answer;
-use yq_commands::Answer::{Done, Refused};
-use yq_history::Fault;
 use yq_store::Store;
 
 /// What another hand gives a name, a list, and the journal behind it, if it is compared.
@@ -37,7 +36,7 @@ const SETTLED: &str =
     r#"{"at":0,"pending":null,"records":[{"after_len":5,"before_len":5,"count":1,"expr":".n = 2","splices":[{"at":3,"new":"Mg==","old":"MQ=="}]}],"version":2}
 "#;
 
-const UNSETTLED: Answer = Refused(Fault::Unsettled);
+const UNSETTLED: Wanted = Refused(Why::Unsettled);
 
 /// An undo stands where the recorded bytes do.
 static ELSEWHERE: [Turn; 3] = [
@@ -109,7 +108,7 @@ static FOREIGN: [Turn; 4] = [
         JOURNAL,
         "{}",
         &[
-            (&["undo", "f"], Refused(Fault::BadJournal), "", "n: 7\n"),
+            (&["undo", "f"], Refused(Why::BadJournal), "", "n: 7\n"),
             (&[".n", "f"], Done, "7\n", "n: 7\n"),
         ],
         Some("{}"),

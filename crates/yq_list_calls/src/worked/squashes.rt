@@ -1,9 +1,8 @@
 //! Lists with squashes.
 
 use crate::steps::{NOTHING_TO_UNDO, Step};
-use yq_commands::Answer;
-use yq_commands::Answer::{Done, Refused};
-use yq_history::Fault;
+use crate::wanted::Wanted::{Done, Refused};
+use crate::wanted::{Wanted, Why};
 
 /// Two edits joined are undone and redone as one.
 pub static TWO_JOINED: [Step; 6] = [
@@ -32,7 +31,7 @@ pub static WITH_ONE_UNDONE: [Step; 8] = [
     (&["undo", "f"], Done, "", "n: 1\n"),
 ];
 
-const BAD_COUNT: Answer = Refused(Fault::BadCount);
+const BAD_COUNT: Wanted = Refused(Why::BadCount);
 
 /// Edits that lead back to the first text, joined: their undo changes no byte.
 pub static COUNTS: [Step; 8] = [

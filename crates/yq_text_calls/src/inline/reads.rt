@@ -103,7 +103,7 @@ const TOO_DEEP: Result<Option<usize>, ReadError> = Err(ReadError::Fault(ReadFaul
 
 /// What is repeated, how often, what closes each, how many collections stand round the node, and
 /// where it ends.
-static DEEP: [(&str, usize, &str, usize, Result<Option<usize>, ReadError>); 7] = [
+const DEEP: [(&str, usize, &str, usize, Result<Option<usize>, ReadError>); 7] = [
     ("[", 1, "]", DEPTH_LIMIT - 1, Ok(Some(2))),
     ("[", 1, "]", DEPTH_LIMIT, TOO_DEEP),
     ("a", 1, "", 100, Ok(Some(1))),
