@@ -1,6 +1,6 @@
 //! Documents, each checked by its lines.
-ghost use Rattle.std.specs.Prelude.{◌≡◌, IfOk, Some};
-ghost use Rattle.yq_scalar.specs.Answers.{Gives};
+ghost use Rattle.std.specs.Prelude.{◌≡◌, IfErr, IfOk, Some};
+ghost use Rattle.yq_scalar.specs.Answers.{Gives, IsOfText};
 ghost use Rattle.yq_documents.specs.FlowReading as flow;
 ghost use Rattle.yq_lines.specs.Names.{HaveHeadsApart};
 ghost use Rattle.yq_documents.specs.PartReading.{document_view, lined_view, lined_views};
@@ -32,6 +32,7 @@ fn check_part<'t>(
     requires { HaveHeadsApart (views part.lines.items) }
     ensures lines { Gives document_view result (spec.if_sound (lined_view part.entry)) }
     ensures flows { IfOk result (λ d. flows d.lines ≡ flows part.entry.lines.items) }
+    ensures fault { IfErr result IsOfText }
 {
     let lines = Lined::new(alloc, part.lines)?;
     match lines_fault(alloc, &lines)? {
@@ -53,6 +54,7 @@ pub fn check_parts<'t>(
     requires { spec.AllApart (lined_views parts.items) }
     ensures lines { Gives (λ d. spec.document_views d.items) result (spec.if_all_sound (lined_views parts.entry.items)) }
     ensures flows { IfOk result (λ d. flow.lines_flows d.items ≡ flow.parts_lines_flows parts.entry.items) }
+    ensures fault { IfErr result IsOfText }
 {
     let mut documents = Vec::with_capacity(alloc, parts.len())?;
     'parts: for part in parts {

@@ -1,6 +1,6 @@
 //! The documents of a text, as lines.
-ghost use Rattle.std.specs.Prelude.{◌≡◌, ◌<◌, ◌^◌, ◌++◌, ◌||◌, not, length, [], IfOk, Some};
-ghost use Rattle.yq_scalar.specs.Answers.{Gives};
+ghost use Rattle.std.specs.Prelude.{◌≡◌, ◌<◌, ◌^◌, ◌++◌, ◌||◌, not, length, [], IfErr, IfOk, Some};
+ghost use Rattle.yq_scalar.specs.Answers.{Gives, IsOfText};
 ghost use Rattle.yq_rows.specs.Grammar as grammar;
 ghost use Rattle.yq_rows.specs.Grammar.{IsCut};
 ghost use Rattle.yq_rows.specs.Rows.{Cut};
@@ -73,6 +73,7 @@ fn chosen_lines<'t>(
     requires parts { spec.HasParts 0 rows.now.rows rows.now.bounds text.now }
     ensures lines { (h : spec.HasParts 0 rows.now.rows rows.now.bounds text.now) → Gives (λ d. spec.lined_views d.items) result (spec.chosen_made first h.parts) }
     ensures flows { (h : spec.HasParts 0 rows.now.rows rows.now.bounds text.now) → IfOk result (λ d. flow.parts_lines_flows d.items ≡ flow.parts_flows (length text.now) first h.parts) }
+    ensures fault { IfErr result IsOfText }
 {
     let mut documents = Vec::new(alloc);
     let mut is_document = first;
@@ -105,6 +106,7 @@ pub fn document_lines<'t>(
     // their rows aren't fit.
     ensures lines { (c : Cut) → IsCut text.now c → rows.now ≡ shown c → Gives (λ d. spec.lined_views d.items) result (spec.lined_parts (document_parts c)) }
     ensures flows { (c : Cut) → IsCut text.now c → rows.now ≡ shown c → IfOk result (λ d. flow.parts_lines_flows d.items ≡ flow.document_flows (length text.now) c) }
+    ensures fault { IfErr result IsOfText }
 {
     chosen_lines(alloc, text, rows, first_is_document(rows))
 }

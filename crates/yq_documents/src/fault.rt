@@ -1,4 +1,6 @@
 //! Where a text is at fault.
+ghost use Rattle.std.specs.Prelude.{◌≢◌};
+ghost use Rattle.yq_scalar.specs.declared.fault.FaultKind.TheVariants.{NotUtf8};
 
 use crate::documents::first_is_document;
 use std::num::NonZeroU64;
@@ -12,7 +14,10 @@ pub(crate) fn breaks(bytes: &[u8]) -> u64 {
 }
 
 /// A fault that begins at an offset, in bytes, of a text.
-pub(crate) fn fault_at(kind: FaultKind, text: &str, at: usize) -> ReadFault {
+pub(crate) fn fault_at(kind: FaultKind, text: &str, at: usize) -> ReadFault
+    requires { kind ≢ NotUtf8 }
+    ensures { result.kind ≢ NotUtf8 }
+{
     let before = text.as_bytes().iter().take(at);
     let count = before.filter(|b| **b == b'\n').count() as u64;
     ReadFault {
@@ -22,7 +27,10 @@ pub(crate) fn fault_at(kind: FaultKind, text: &str, at: usize) -> ReadFault {
 }
 
 /// A fault that begins behind a gap, with which this rest of the whole text begins.
-pub(crate) fn fault_behind(kind: FaultKind, whole: &str, rest: &str, gap: &str) -> ReadFault {
+pub(crate) fn fault_behind(kind: FaultKind, whole: &str, rest: &str, gap: &str) -> ReadFault
+    requires { kind ≢ NotUtf8 }
+    ensures { result.kind ≢ NotUtf8 }
+{
     let at = whole.len().saturating_sub(rest.len());
     fault_at(kind, whole, at.saturating_add(gap.len()))
 }
@@ -99,12 +107,10 @@ fn text_breaks(rows: &Rows<'_>, document: usize, index: usize) -> u64 {
 }
 
 /// A fault of a document, by its index, of a text that is cut into these rows.
-pub(crate) fn document_fault(
-    text: &str,
-    rows: &Rows<'_>,
-    document: usize,
-    flaw: Flaw,
-) -> ReadFault {
+pub(crate) fn document_fault(text: &str, rows: &Rows<'_>, document: usize, flaw: Flaw) -> ReadFault
+    requires { flaw.kind ≢ NotUtf8 }
+    ensures { result.kind ≢ NotUtf8 }
+{
     match flaw.at {
         Position::Byte(byte) => fault_at(flaw.kind, text, byte),
         Position::Line(index) => ReadFault {

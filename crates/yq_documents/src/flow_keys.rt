@@ -1,7 +1,8 @@
 //! The keys in flow collections, as they are written.
-ghost use Rattle.std.specs.Prelude.{◌≡◌, is_none};
+ghost use Rattle.std.specs.Prelude.{◌≡◌, ◌≢◌, is_none, IfSome};
 ghost use Rattle.yq_inline.specs.Spans.{HasSpans, IsSpan, PartsHaveSpans};
 ghost use Rattle.yq_inline.specs.View.{entries_end, items_end, view as node_view};
+ghost use Rattle.yq_scalar.specs.declared.fault.FaultKind.TheVariants.{NotUtf8};
 ghost use Rattle.yq_documents.specs.KeyReading as spec;
 
 use crate::fault::fault_at;
@@ -13,7 +14,8 @@ use yq_scalar::{FaultKind, Piece, ReadFault};
 /// What is at fault in the key at a place of a text: it is to be no plain `<<`, and not too long.
 fn key_fault(whole: &str, piece: &Piece) -> Option<ReadFault>
     requires { IsSpan whole.now piece.now.start piece.now.end }
-    ensures { is_none result ≡ spec.place_fits whole.now piece.now }
+    ensures fits { is_none result ≡ spec.place_fits whole.now piece.now }
+    ensures fault { IfSome result (λ f. f.kind ≢ NotUtf8) }
 {
     let key = &whole[piece.start..piece.end];
     if key == "<<" {
@@ -29,7 +31,8 @@ fn key_fault(whole: &str, piece: &Piece) -> Option<ReadFault>
 #[cycle(fits)]
 pub(crate) fn keys_fault(whole: &str, node: &Inline<'_>) -> Option<ReadFault>
     requires stand { HasSpans whole.now (node_view node.now) }
-    ensures { is_none result ≡ spec.node_fits whole.now (node_view node.now) }
+    ensures fits { is_none result ≡ spec.node_fits whole.now (node_view node.now) }
+    ensures fault { IfSome result (λ f. f.kind ≢ NotUtf8) }
 {
     match &node.form {
         Form::List(items) => items_fault(whole, items),
@@ -42,7 +45,8 @@ pub(crate) fn keys_fault(whole: &str, node: &Inline<'_>) -> Option<ReadFault>
 #[cycle(fits)]
 fn items_fault(whole: &str, items: &Vec<Inline<'_>>) -> Option<ReadFault>
     requires stand { PartsHaveSpans whole.now (items_end items.now.items) }
-    ensures { is_none result ≡ spec.parts_fit whole.now (items_end items.now.items) }
+    ensures fits { is_none result ≡ spec.parts_fit whole.now (items_end items.now.items) }
+    ensures fault { IfSome result (λ f. f.kind ≢ NotUtf8) }
 {
     'each: for item in items {
         if let Some(fault) = keys_fault(whole, item) {
@@ -56,7 +60,8 @@ fn items_fault(whole: &str, items: &Vec<Inline<'_>>) -> Option<ReadFault>
 #[cycle(fits)]
 fn entries_fault(whole: &str, entries: &Vec<(String, Piece, Inline<'_>)>) -> Option<ReadFault>
     requires stand { PartsHaveSpans whole.now (entries_end entries.now.items) }
-    ensures { is_none result ≡ spec.parts_fit whole.now (entries_end entries.now.items) }
+    ensures fits { is_none result ≡ spec.parts_fit whole.now (entries_end entries.now.items) }
+    ensures fault { IfSome result (λ f. f.kind ≢ NotUtf8) }
 {
     'each: for entry in entries {
         if let Some(fault) = key_fault(whole, &entry.1) {

@@ -1,6 +1,6 @@
 //! The heads of rows.
-ghost use Rattle.std.specs.Prelude.{◌≡◌, IfOk, None, true};
-ghost use Rattle.yq_scalar.specs.Answers.{Gives};
+ghost use Rattle.std.specs.Prelude.{◌≡◌, IfErr, IfOk, None, true};
+ghost use Rattle.yq_scalar.specs.Answers.{Gives, IsOfText};
 ghost use Rattle.yq_scalar.specs.Quoted.{IsQuotedText};
 ghost use Rattle.yq_inline.specs.Scalars.{is_quoted, content_of as content_text};
 ghost use Rattle.yq_inline.specs.View.{view as node_view};
@@ -70,6 +70,7 @@ fn read_node_head<'t>(
     requires { EndsIn whole.now text.now }
     ensures view { Gives head_view result (spec.node_head_at whole.now parent text.now) }
     ensures flow { IfOk result (λ h. head_flow h ≡ flow.node_flow_at whole.now parent text.now) }
+    ensures fault { IfErr result IsOfText }
 {
     let at = whole.len() - text.len();
     let node = match read_inline(alloc, whole, at, Place::Block, parent, 0) {
@@ -86,6 +87,7 @@ fn read_node_head<'t>(
 fn read_block_head<'t>(alloc: Global, parent: i64, text: &str) -> Result<Head<'t>, ReadError>
     ensures view { Gives head_view result (spec.block_head_at parent text.now) }
     ensures flow { IfOk result (λ h. head_flow h ≡ None) }
+    ensures fault { IfErr result IsOfText }
 {
     let piece = match read_block(text, 0, parent) {
         Ok(piece) => piece,
@@ -113,6 +115,7 @@ pub(crate) fn read_head<'t>(
     requires ends { EndsIn whole.now text.now }
     ensures view { Gives head_view result (spec.head_at whole.now parent head.now text.now) }
     ensures flow { IfOk result (λ h. head_flow h ≡ flow.head_flow_at whole.now parent head.now text.now) }
+    ensures fault { IfErr result IsOfText }
 {
     if head.is_empty() {
         return Ok(Head::Nothing);

@@ -1,10 +1,10 @@
 //! The lines of the rows of a part.
-ghost use Rattle.std.specs.Prelude.{◌<◌, ◌≤◌, ◌-◌, ◌^◌, ◌++◌, length, drop, IfOk, ◌≡◌};
+ghost use Rattle.std.specs.Prelude.{◌<◌, ◌≤◌, ◌-◌, ◌^◌, ◌++◌, length, drop, IfErr, IfOk, ◌≡◌};
 ghost use Rattle.yq_lines.specs.Comments.{head_comment};
 ghost use Rattle.yq_rows.specs.View.{bound_view};
 ghost use Rattle.yq_documents.specs.Documents.{lead_of};
 ghost use Rattle.yq_documents.specs.FlowReading as flow;
-ghost use Rattle.yq_scalar.specs.Answers.{Gives};
+ghost use Rattle.yq_scalar.specs.Answers.{Gives, IsOfText};
 ghost use Rattle.yq_documents.specs.KeyReading.{EndsIn};
 ghost use Rattle.yq_documents.specs.PartReading as spec;
 ghost use Rattle.yq_lines.specs.View.{views, flows};
@@ -43,6 +43,7 @@ pub(crate) fn part_lines<'t>(
     ensures lines { (h : spec.HasRows (to - from) (drop from rows.now.rows) text.now) → Gives (λ x. (views x.0.items, x.1.now)) result (spec.part_made h.rows (h.end ++ h.rest)) }
     ensures flows { (h : spec.HasRows (to - from) (drop from rows.now.rows) text.now) → IfOk result (λ x. flows x.0.items ≡ flow.rows_flows (length whole.now) h.rows (h.end ++ h.rest)) }
     ensures ends { IfOk result (λ x. EndsIn text.now x.1.now) }
+    ensures fault { IfErr result IsOfText }
 {
     let mut lines = Vec::with_capacity(alloc, to - from)?;
     let mut rest = text;
@@ -89,6 +90,7 @@ pub(crate) fn lined_part<'t>(
     ensures lines { (h : spec.HasPart from (drop from rows.now.rows) (bound_view bound.entry) text.now) → Gives (λ x. (spec.lined_view x.0, x.1.now)) result (spec.lined_made h.part h.behind) }
     ensures flows { (h : spec.HasPart from (drop from rows.now.rows) (bound_view bound.entry) text.now) → IfOk result (λ x. flows x.0.lines.items ≡ flow.part_flows (length whole.now) h.part ((bound_view bound.entry).marker ++ h.behind)) }
     ensures ends { IfOk result (λ x. EndsIn text.now x.1.now) }
+    ensures fault { IfErr result IsOfText }
 {
     let lead = first_gap(rows, from, bound, text);
     if !has_short_root(rows, from, bound.rows, text) {

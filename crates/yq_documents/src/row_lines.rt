@@ -1,6 +1,6 @@
 //! The lines of rows.
-ghost use Rattle.std.specs.Prelude.{◌≡◌, ◌<◌, ◌^◌, ◌++◌, length, true, [], IfOk};
-ghost use Rattle.yq_scalar.specs.Answers.{Gives};
+ghost use Rattle.std.specs.Prelude.{◌≡◌, ◌<◌, ◌^◌, ◌++◌, length, true, [], IfErr, IfOk};
+ghost use Rattle.yq_scalar.specs.Answers.{Gives, IsOfText};
 ghost use Rattle.yq_scalar.specs.Quoted.{IsQuotedText};
 ghost use Rattle.yq_inline.specs.Scalars as scalars;
 ghost use Rattle.yq_rows.specs.View.{view as row_view};
@@ -32,6 +32,7 @@ fn read_line<'t>(
     requires ends { EndsIn whole.now text.now }
     ensures line { Gives view result (spec.line_at whole.now (row_view row.now) (spec.begun [] front.entry) text.now) }
     ensures flow { IfOk result (λ l. head_flow l.head ≡ flow.head_flow_at whole.now (row_view row.now).parent (row_view row.now).head text.now) }
+    ensures fault { IfErr result IsOfText }
 {
     let mark = read_mark(alloc, row, front.last)?;
     let head = read_head(alloc, whole, row.parent_indent(), row.head(), text)?;
@@ -61,6 +62,7 @@ pub(crate) fn row_lines<'t>(
     ensures lines { (h : spec.HasRow (row_view row.now) text.now) → Gives (λ x. (views x.0.items, x.1.now)) result (spec.row_made (views lines.entry.items) h.row h.rest) }
     ensures flows { (h : spec.HasRow (row_view row.now) text.now) → IfOk result (λ x. flows x.0.items ≡ flows lines.entry.items ++ flow.row_flows (length whole.now) h.row h.rest) }
     ensures ends { IfOk result (λ x. EndsIn text.now x.1.now) }
+    ensures fault { IfErr result IsOfText }
 {
     if !key_fits(row) {
         let fault = fault_behind(FaultKind::MergeKey, whole, text, row.gap());

@@ -1,8 +1,8 @@
 //! Reading bytes as documents.
-ghost use Rattle.std.specs.Prelude.{◌≡◌, ◌≢◌, ◌↔◌, ℕ, List, IfOk, Some, MatchResult, true, false};
+ghost use Rattle.std.specs.Prelude.{◌≡◌, ◌↔◌, ℕ, List, IfErr, IfOk, Some, MatchResult, true, false};
 ghost use Rattle.std.specs.Str.{is_utf8};
 ghost use Rattle.yq_scalar.specs.declared.fault.FaultKind.TheVariants.{NotUtf8};
-ghost use Rattle.yq_scalar.specs.Answers.{Gives};
+ghost use Rattle.yq_scalar.specs.Answers.{Gives, IsOfText};
 ghost use Rattle.yq_rows.specs.Grammar.{IsCut};
 ghost use Rattle.yq_rows.specs.Rows.{Cut};
 ghost use Rattle.yq_tree.specs.Answers.{IsNotUtf8};
@@ -36,23 +36,11 @@ pub fn text_of(bytes: &[u8]) -> Result<&str, ReadFault>
     }
 }
 
-/// A fault of a text, which is never that its bytes are no text.
-fn text_fault(fault: ReadFault) -> ReadFault
-    ensures { result.kind ≢ NotUtf8 }
-{
-    match fault.kind {
-        FaultKind::NotUtf8 => ReadFault {
-            kind: FaultKind::ControlCharacter,
-            line: fault.line,
-        },
-        _ => fault,
-    }
-}
-
 /// Reads a text as documents.
 fn read_text(alloc: Global, text: &str) -> Result<Documents<'_>, ReadError>
     ensures text { IfOk result (λ d. d ≡ text.now) }
     ensures exact { Gives spec.cut_of result (spec.text_at text.now) }
+    ensures fault { IfErr result IsOfText }
 {
     let rows = match scan(alloc, text) {
         Ok(rows) => rows,
@@ -96,7 +84,7 @@ pub fn read(alloc: Global, bytes: &[u8]) -> Result<Documents<'_>, ReadError>
     match read_text(alloc, text) {
         Ok(documents) => Ok(documents),
         Err(ReadError::Memory) => Err(ReadError::Memory),
-        Err(ReadError::Fault(fault)) => Err(ReadError::Fault(text_fault(fault))),
+        Err(ReadError::Fault(fault)) => Err(ReadError::Fault(fault)),
     }
 }
 
