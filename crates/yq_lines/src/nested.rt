@@ -95,7 +95,8 @@ fn entries_fault(
     entries: &Vec<(String, Piece, Inline<'_>)>,
     depth: usize,
 ) -> Result<Option<Flaw>, AllocError>
-    ensures sound { let cs = parts_tree (entries_end entries.now.items) in IfOk result (λ f. is_none f ≡ (spec.are_sound depth cs && are_distinct (keys_of cs))) }
+    ensures sound { let cs = parts_tree (entries_end entries.now.items) in
+        IfOk result (λ f. is_none f ≡ (spec.are_sound depth cs && are_distinct (keys_of cs))) }
     ensures fault { IfOk result (λ f. IfSome f (λ x. x.kind ≢ NotUtf8)) }
 {
     let mut keys = Keys::new(alloc);

@@ -47,7 +47,8 @@ fn bare_fault(
     depth: usize,
 ) -> Result<Option<Flaw>, AllocError>
     requires { at < length lines.now }
-    ensures sound { IfOk result (λ f. (l : outline.Line) → slice_get (views lines.now) at ≡ Some l → is_none f ≡ ((is_some l.head && is_end (part (views lines.now) (at + 1) floor)) && spec.head_is_sound depth l.head)) }
+    ensures sound { IfOk result (λ f. (l : outline.Line) → slice_get (views lines.now) at ≡ Some l →
+        is_none f ≡ ((is_some l.head && is_end (part (views lines.now) (at + 1) floor)) && spec.head_is_sound depth l.head)) }
     ensures fault { IfOk result (λ f. IfSome f (λ x. x.kind ≢ NotUtf8)) }
 {
     let line = &lines[at];
