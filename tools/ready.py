@@ -1,5 +1,6 @@
-"""Looks at what needs no proof: whether the sources are in the layout of `rt fmt`, links, sources that no check reads, definitions
-whose comments name no section, clauses that are too wide, wrong bodies of both tiers that can't be applied, and versions that differ.
+"""Looks at what needs no proof: whether the sources are in the layout of `rt fmt`, symbolic links, sources that no check reads,
+definitions whose comments name no section, clauses that are too wide, wrong bodies of both tiers that can't be applied, versions that
+differ, and links of pages that lead nowhere.
 
 usage: ready.py
 
@@ -18,6 +19,10 @@ from clauses import too_wide
 from crates import ROOT, RT, libraries
 from edits import hindrance, names_in
 from version import other_versions
+
+sys.path.append(os.path.join(ROOT, "tests", "cli"))
+
+from guides import broken_links
 
 # Where a crate's sources stand, by their ending.
 PLACES = {".rt": ("src",), ".antt": ("specs", "proofs")}
@@ -94,6 +99,12 @@ def not_applied():
                     yield f"{crate}/{tier}/{name} can't be applied: {why}"
 
 
+def lost_links():
+    """Links of pages that lead nowhere."""
+    for page, link in broken_links():
+        yield f"{page}: {link} leads nowhere"
+
+
 def main(words):
     if words:
         print(__doc__.strip(), file=sys.stderr)
@@ -102,7 +113,7 @@ def main(words):
     try:
         copy = os.path.join(room, "copy")
         shutil.copytree(ROOT, copy, symlinks=True, ignore=LEFT)
-        found = [*misplaced(copy), *badly_laid(copy), *untold_definitions(copy), *too_wide(), *not_applied(), *other_versions()]
+        found = [*misplaced(copy), *badly_laid(copy), *untold_definitions(copy), *too_wide(), *not_applied(), *other_versions(), *lost_links()]
     finally:
         shutil.rmtree(room, ignore_errors=True)
     for it in found:

@@ -23,7 +23,8 @@ pub fn read_region<'t>(
     // They are what reading from left to right gives.
     ensures exact { Gives (λ s. s) result (shown_read (all_parts true text.now)) }
     // The text of items that are read alone gives these.
-    ensures alone { (xs back : List Item) → IsReadAlone xs back → text.now ≡ items_text xs [] → Gives (λ s. s) result (Some (shown_items (alone xs back))) }
+    ensures alone { (xs back : List Item) → IsReadAlone xs back → text.now ≡ items_text xs [] →
+        Gives (λ s. s) result (Some (shown_items (alone xs back))) }
     ensures counted { meter.new ≡ counted (line_count text.now) meter.old }
 {
     count_lines(text, meter);

@@ -51,13 +51,6 @@ kept_is gap run e = (λ i. take (kept_length gap run e i) (gap_is gap run e i)) 
 pub rest_is : (gap run : List ℕ) → text_lines run ≡ last_run (text_lines gap) → drop (length gap - length run) gap ≡ joined (last_run (text_lines gap))
 rest_is gap run e = (λ i. drop (kept_length gap run e i) (gap_is gap run e i)) ∙ (drop-append_seam (joined (before_run (text_lines gap))) run ∙ sym (run_is gap run e))
 
--- ---- rows that have so many lines
-
-rows_within : (n : ℕ) (rs : List Row) → row_count n rs ≤ length rs
-rows_within zero rs = omega arith
-rows_within (suc n) [] = omega arith
-rows_within (suc n) (r ∷ rs) = omega (arith, rows_within (n - length r.dashes) rs)
-
 -- ---- lists cut in two
 
 three_whole : (i n : ℕ) (rs : List Row) → rs ≡ take i rs ++ (take n (drop i rs) ++ drop n (drop i rs))

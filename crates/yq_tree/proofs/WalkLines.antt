@@ -27,7 +27,7 @@ fewer_lines [] (suc i) j h = omega arith
 fewer_lines (r ∷ rs) (suc i) zero h = absurd (omega (arith, h))
 fewer_lines (r ∷ rs) (suc i) (suc j) h = omega (arith, fewer_lines rs i j (omega (arith, h)), length-append (row_lines r) (lines_of (take i rs)), length-append (row_lines r) (lines_of (take j rs)))
 
-pub number_less : (s : Shown) (d : Stretch) (h : HasDocument s d) (p q : Spot) → IsLine s d p → p.row < q.row → line_number d h.rows p < line_number d h.rows q
+number_less : (s : Shown) (d : Stretch) (h : HasDocument s d) (p q : Spot) → IsLine s d p → p.row < q.row → line_number d h.rows p < line_number d h.rows q
 number_less s d h p q at less =
     let l = located s d h p at in
     let i : ℕ = p.row - d.first in
@@ -51,9 +51,11 @@ first_line s d p q a less = spot_line s d p a.begin (omega (arith, less, a.stop.
 pub none_said : {A : Type 0} (ls : List Line) (from to : ℕ) (said : Line → Option A) → from ≡ to → None ≡ cond (eqb from to) None (slice_get ls from >>= said)
 none_said ls from to said e = sym (cond-true _ None (slice_get ls from >>= said) (eq-eqb from to e))
 
-pub first_said : {A : Type 0} (ls : List Line) (from to : ℕ) (l : Line) (said : Line → Option A) → slice_get ls from ≡ Some l → from < to → said l ≡ cond (eqb from to) None (slice_get ls from >>= said)
-first_said ls from to l said is less =
-    ap (λ (o : Option Line). o >>= said) (sym is) ∙ sym (cond-false _ None (slice_get ls from >>= said) (ne_eqb from to (λ e. omega (arith, e, less))))
+pub first_said : {A : Type 0} (s : Shown) (d : Stretch) (h : HasDocument s d) (p q : Spot) (at : IsLine s d p) (said : Line → Option A) → p.row < q.row →
+    said (located s d h p at).line ≡ cond (eqb (line_number d h.rows p) (line_number d h.rows q)) None (slice_get (lines_of h.rows) (line_number d h.rows p) >>= said)
+first_said s d h p q at said less =
+    ap (λ (o : Option Line). o >>= said) (sym (located s d h p at).is)
+    ∙ sym (cond-false _ None (slice_get (lines_of h.rows) (line_number d h.rows p) >>= said) (ne_eqb (line_number d h.rows p) (line_number d h.rows q) (λ e. omega (arith, e, number_less s d h p q at less))))
 
 -- ---- the place of lines
 

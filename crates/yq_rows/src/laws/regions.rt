@@ -12,20 +12,25 @@ ghost use Rattle.yq_rows.specs.View.{shown};
 pub fn items_are()
     ensures text { (c : Cut) → items_text (items_of c) [] ≡ cut_text c }
     ensures lent { (c : Cut) → shown_items (items_of c) ≡ shown c }
-    ensures grammar { (c : Cut) (started : Bool) → AreParts started c → AreItems (record { limit = unlimited; started = started }) (items_of c) [] }
-    ensures joined { (xs ys : List Item) (rest : List ℕ) → items_text (xs ++ ys) rest ≡ items_text xs (items_text ys rest) }
-    ensures behind { (xs ys : List Item) (asked : Asked) (rest : List ℕ) → AreItems asked (xs ++ ys) rest → AreItems (asked_of asked xs) ys rest }
+    ensures grammar { (c : Cut) (started : Bool) → AreParts started c →
+        AreItems (record { limit = unlimited; started = started }) (items_of c) [] }
+    ensures joined { (xs ys : List Item) (rest : List ℕ) →
+        items_text (xs ++ ys) rest ≡ items_text xs (items_text ys rest) }
+    ensures behind { (xs ys : List Item) (asked : Asked) (rest : List ℕ) →
+        AreItems asked (xs ++ ys) rest → AreItems (asked_of asked xs) ys rest }
 {}
 
 /// Rows and ends of a cut, read alone, are the same, whatever stands in front of them and behind;
 /// so is the end of a part without the line of its marker.
 pub fn region_alone()
     ensures alone { (xs back : List Item) → StandIn xs back → IsReadAlone xs back }
-    ensures unmarked { (xs back : List Item) (gap marker : List ℕ) → StandIn (ended xs gap marker) back → IsReadAlone (ended xs gap []) [] }
+    ensures unmarked { (xs back : List Item) (gap marker : List ℕ) →
+        StandIn (ended xs gap marker) back → IsReadAlone (ended xs gap []) [] }
 {}
 
 /// A splice of a cut, by its items: the rows that give way and the item behind them are exchanged,
 /// and all others stay.
 pub fn items_spliced()
-    ensures { (k i j : ℕ) (new : List Row) (gap : List ℕ) (c : Cut) → i ≤ j → SplicedItems k i j new gap c }
+    ensures { (k i j : ℕ) (new : List Row) (gap : List ℕ) (c : Cut) →
+        i ≤ j → SplicedItems k i j new gap c }
 {}

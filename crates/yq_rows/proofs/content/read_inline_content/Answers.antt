@@ -35,8 +35,8 @@ returns-in-Some-clause-read c =
     (inline_some c.args.parent c.args.space.now c.args.text.now _ _ _ c.split_lead.result.1.now c.in-Ok.node.rest.now c.in-Some.tail.now c.in-Some.rest.now k.node c.may_be_alone.result c.is_plain.result k.read c.split_anchor.ensures lead (sym c.in-Some.ensures) (c.is_plain.ensures ∙ k.plain_is)
     (c.may_be_alone.ensures ∙ ap (λ (b : Bool). is_empty c.args.space.now && not b) nothing))
 
-pub returns-in-None-clause-read : goal.returns-in-None-clause-read
-returns-in-None-clause-read c =
+pub returns-after-no_further_line-clause-read : goal.returns-after-no_further_line-clause-read
+returns-after-no_further_line-clause-read c =
     let spaces : c.further_spaces-spaces.result ≡ Some (deeper c.args.parent) = rw (to_z-of_z w64 c.args.parent c.ranges.parent) at c.further_spaces-spaces.ensures in
     let k = known c.args.parent c.further_spaces-spaces.result c.args.text.now c.in-Ok.node.rest.now c.in-Ok.node.anchored c.in-Ok.node.kind spaces c.in-Ok.ensures.read in
     inline_no_tail c.args.parent c.args.space.now c.args.text.now c.in-Ok.node.rest.now k.node k.read (sym c.in-None.ensures)
