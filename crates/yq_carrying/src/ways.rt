@@ -20,7 +20,7 @@ use yq_flow_ways::{emptying, flow_append_way, flow_remove_way, flow_replace_way}
 use yq_meaning::Op;
 use yq_root_ways::root_way;
 use yq_script::{Segment, Segments};
-use yq_tree::Documents;
+use yq_tree::{CutText, Documents};
 use yq_ways::{
     append_way, head_comment_way, line_comment_way, remove_first_way, remove_way, replace_way,
 };
@@ -29,15 +29,15 @@ use yq_ways::{
 #[tactic(auto, unfolding(crate::specs::Carrying::comment_ways), using(crate::proofs::WayLaws::first_way_carries, crate::proofs::WayLaws::second_way_carries))]
 fn by_comment_ways<'d>(
     alloc: Global,
-    documents: &'d Documents<'_>,
+    cut: &CutText<'_, 'd>,
     op: &Op,
 ) -> Result<Option<Segments<'d>>, AllocError>
-    ensures { Carries result (spec.comment_ways (operation_of op.now) (cut_of documents.now)) }
+    ensures { Carries result (spec.comment_ways (operation_of op.now) (cut_of cut.now)) }
 {
-    if let Some(segments) = line_comment_way(alloc, documents, op)? {
+    if let Some(segments) = line_comment_way(alloc, cut, op)? {
         return Ok(Some(segments));
     }
-    head_comment_way(alloc, documents, op)
+    head_comment_way(alloc, cut, op)
 }
 
 /// An item or entry taken out of a block collection by the way for it.
@@ -276,7 +276,7 @@ fn by_ways<'d>(
     if let Some(segments) = by_content_ways(alloc, documents, op)? {
         return Ok(Some(segments));
     }
-    by_comment_ways(alloc, documents, op)
+    by_comment_ways(alloc, &documents.cut(), op)
 }
 
 /// The segments of a text by which an operation is carried out on its documents, by the first way that

@@ -11,7 +11,7 @@ use yq_meaning::Op;
 use yq_scalar::block_written::break_text;
 use yq_scalar::push_spaces;
 use yq_script::{Segment, Segments};
-use yq_tree::Documents;
+use yq_tree::CutText;
 
 /// Adds a line of a head comment, with its break.
 fn push_line(out: &mut String, column: usize, br: &str, text: &str) -> Result<(), AllocError>
@@ -45,20 +45,20 @@ fn head_lines(alloc: Global, column: usize, br: &str, text: &str) -> Result<Stri
 }
 
 /// An operation that sets a head comment carried out: other lines stand above the row.
-pub fn head_comment_way<'d>(
+pub fn head_comment_way<'t>(
     alloc: Global,
-    documents: &'d Documents<'_>,
+    cut: &CutText<'_, 't>,
     op: &Op,
-) -> Result<Option<Segments<'d>>, AllocError>
-    ensures { Carries result (spec.head_comment_way (operation_of op.now) (cut_of documents.now)) }
+) -> Result<Option<Segments<'t>>, AllocError>
+    ensures { Carries result (spec.head_comment_way (operation_of op.now) (cut_of cut.now)) }
 {
     let Op::HeadComment(path, text) = op else {
         return Ok(None);
     };
-    let Some(above) = documents.lines_above(path) else {
+    let Some(above) = cut.lines_above(path) else {
         return Ok(None);
     };
-    let br = break_text(documents.first_break());
+    let br = break_text(cut.first_break());
     let new = head_lines(alloc, above.column, br, text)?;
     let segments = vec![in alloc;
         Segment::Keep(above.before),

@@ -10,7 +10,7 @@ ghost use Rattle.yq_ways.specs.WayAnswers.{Carries};
 use std::alloc::{AllocError, Global};
 use yq_meaning::Op;
 use yq_script::{Segment, Segments};
-use yq_tree::{Documents, LineEnd};
+use yq_tree::{CutText, LineEnd};
 
 /// The white space that ends a line: it goes with a comment that is taken away.
 fn white_segment<'t>(alloc: Global, text: &str, end: LineEnd<'t>) -> Segment<'t>
@@ -41,17 +41,17 @@ fn line_comment_text(alloc: Global, text: &str, end: LineEnd<'_>) -> Result<Stri
 
 /// An operation that sets a line comment carried out: the comment at the end of the line gives way to
 /// the new one.
-pub fn line_comment_way<'d>(
+pub fn line_comment_way<'t>(
     alloc: Global,
-    documents: &'d Documents<'_>,
+    cut: &CutText<'_, 't>,
     op: &Op,
-) -> Result<Option<Segments<'d>>, AllocError>
-    ensures { Carries result (spec.line_comment_way (operation_of op.now) (cut_of documents.now)) }
+) -> Result<Option<Segments<'t>>, AllocError>
+    ensures { Carries result (spec.line_comment_way (operation_of op.now) (cut_of cut.now)) }
 {
     let Op::LineComment(path, text) = op else {
         return Ok(None);
     };
-    let Some(end) = documents.line_end(path) else {
+    let Some(end) = cut.line_end(path) else {
         return Ok(None);
     };
     let new = line_comment_text(alloc, text, end)?;
