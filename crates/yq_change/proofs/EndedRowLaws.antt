@@ -33,6 +33,13 @@ row_there limit (x ∷ others) r back gap rest h = row_there (limit_after x) oth
 row_lf : (r : Row) → IsLf (content_text r.content []) → IsLf (print_row r [])
 row_lf r h = subst IsLf (sym (row_front-append r [])) (append_lf (row_front r) (content_text r.content []) h)
 
+pub row_ended : (limit : Limit) (r : Row) (rest : List ℕ) → IsRow limit r rest → Ended (print_row r []) rest
+row_ended limit r rest h = go (content_ended _ r.content rest h.content)
+  where
+    go : Ended (content_text r.content []) rest → Ended (print_row r []) rest
+    go (inl lf) = inl (row_lf r lf)
+    go (inr none) = inr none
+
 pub rows_ended : (limit : Limit) (others : List Row) (r : Row) (back : List Row) (gap rest : List ℕ) → AreRows limit (others ++ (r ∷ back)) gap rest → Ended (rows_text (others ++ (r ∷ [])) []) (rows_text back (gap ++ rest))
 rows_ended limit others r back gap rest h = go (content_ended _ r.content _ (row_there limit others r back gap rest h).1.content)
   where

@@ -53,6 +53,11 @@ front_then r ns t =
     ap (λ (x : List ℕ). r.gap ++ (replicate r.column 32 ++ x)) (dashes_then ns t)
     ∙ (ap (λ (x : List ℕ). r.gap ++ x) (sym (append_assoc (replicate r.column 32) (dashes_text ns []) t)) ∙ sym (append_assoc r.gap (replicate r.column 32 ++ dashes_text ns []) t))
 
+pub row_from : (r : Row) (ns es u : List ℕ) → r.dashes ≡ ns ++ es → print_row r u ≡ dashes_front r ns ++ dashes_text es (behind_dashes r u)
+row_from r ns es u e =
+    ap (λ (ds : List ℕ). r.gap ++ (replicate r.column 32 ++ dashes_text ds (behind_dashes r u))) e
+    ∙ (ap (λ (x : List ℕ). r.gap ++ (replicate r.column 32 ++ x)) (dashes_text-append ns es (behind_dashes r u)) ∙ front_then r ns (dashes_text es (behind_dashes r u)))
+
 pub moved_text : (r b : Row) (ns u : List ℕ) → print_row (moved_up r ns b) u ≡ dashes_front r ns ++ behind_indent b u
 moved_text r b ns u = ap (λ (x : List ℕ). r.gap ++ (replicate r.column 32 ++ x)) (dashes_text-append ns b.dashes (behind_dashes b u)) ∙ front_then r ns (behind_indent b u)
 

@@ -1,7 +1,7 @@
 -- The first item or entry of a compact collection taken out of a text.
-use Rattle.std.proofs.Common.{◌≡◌, ℕ, ◌+◌, ◌<◌, ◌≤◌, Bool, true, false, cond, not, ◌||◌, List, [], ◌∷◌, ◌++◌, length, replicate, take, drop, Option, Some, None, refl, sym, ap, ◌∙◌, subst, arith, append_assoc}
+use Rattle.std.proofs.Common.{◌≡◌, ◌⊎◌, inl, inr, ℕ, ◌+◌, ◌<◌, ◌≤◌, Bool, true, false, cond, not, ◌||◌, List, [], ◌∷◌, ◌++◌, length, replicate, take, drop, Option, Some, None, refl, sym, ap, ◌∙◌, subst, arith, append_assoc}
 use Rattle.std.proofs.Math.Seq.{take-append_seam}
-use Rattle.std.proofs.lemmas.List.{take-append-drop, length-take-le}
+use Rattle.std.proofs.lemmas.List.{take-append-drop, length-append, length-take-le}
 use Rattle.std.proofs.lemmas.Str.{IsUtf8-take, is_utf8-from_IsUtf8}
 use Rattle.std.specs.Str.{IsUtf8}
 use Rattle.yq_scalar.specs.Answers.{◌>>=◌}
@@ -15,13 +15,14 @@ use Rattle.yq_lines.specs.Group.{group, level_or, is_fine}
 use Rattle.yq_lines.specs.Places.{plug, content}
 use Rattle.yq_rows.specs.Exchange.{asked_behind}
 use Rattle.yq_rows.specs.Grammar.{unlimited, AreRows, limit_after}
-use Rattle.yq_rows.specs.Rows.{Row, behind_columns, behind_indent, rows_text, Part, Cut, cut_text}
+use Rattle.yq_rows.specs.Rows.{Row, behind_columns, dashes_text, behind_dashes, behind_indent, behind_gap, print_row, rows_text, Part, part_text, Cut, cut_text}
 use Rattle.yq_rows.proofs.NodePieces.{BeginsAscii, before_ascii}
-use Rattle.yq_rows.proofs.splices.SpliceTexts.{own_gap}
+use Rattle.yq_rows.proofs.PlaceLaws.{row_then}
+use Rattle.yq_rows.proofs.splices.SpliceTexts.{own_gap, own_end}
 use Rattle.yq_rows.specs.Reading.{begins_gap}
 use Rattle.yq_documents.specs.declared.path.Part.TheVariants.{Entry}
 use Rattle.yq_documents.specs.Documents.{begins_bare, has_begin, document_parts, lead_of}
-use Rattle.yq_tree.specs.FirstPlaces.{less_spaces, end_spaces, FirstOut, first_out}
+use Rattle.yq_tree.specs.FirstPlaces.{less_spaces, end_spaces, FirstOut, first_out, first_removal}
 use Rattle.yq_documents.specs.Lines.{lines_from, lines_of}
 use Rattle.yq_tree.specs.PathPieces.{PrintedDocument, piece_in}
 use Rattle.yq_documents.specs.Reading.{outline_of, read_at, root_of}
@@ -40,8 +41,8 @@ use Rattle.yq_change.specs.RemovalChanges.{IsTakenOut, MayTakeOut, FirstTakenOut
 use Rattle.yq_change.specs.Siblings.{HasEntries}
 use Rattle.yq_change.specs.TextPieces.{IsPiece}
 use Rattle.yq_change.proofs.AfterLaws.{end_is_change}
-use Rattle.yq_change.proofs.FirstBreakLaws.{break_ascii, break_cut}
-use Rattle.yq_change.proofs.FirstChangeLaws.{dash_front, dash_less, dashes_front, dropped_changed, dropped_text, front_text, inserted_text, moved_changed, moved_text, NoGap, no_gap}
+use Rattle.yq_change.proofs.FirstBreakLaws.{IsOneBreak, break_ascii, break_cut}
+use Rattle.yq_change.proofs.FirstChangeLaws.{dash_front, dash_less, dashes_front, dropped_changed, dropped_text, front_text, inserted_text, moved_changed, moved_text, NoGap, no_gap, row_from}
 use Rattle.yq_change.proofs.FirstEntryLaws.{FirstRows, first_rows}
 use Rattle.yq_change.proofs.FirstLineLaws.{ascii_break, dash_first, dashes_first, entries_first, first_stays, last_dash}
 use Rattle.yq_change.proofs.FirstOutLaws.{IsFirstOut, out_is, piece_stands}
@@ -54,6 +55,33 @@ use Rattle.yq_change.proofs.PlaceTextLaws.{IsAround, around}
 use Rattle.yq_change.proofs.RemovalChangeLaws.{snoc, may_go, FirstEntry, first_group, group_begins, keeps, root_entries}
 use Rattle.yq_change.proofs.RemovalPieceLaws.{piece_back, spaces_piece}
 use Rattle.yq_change.proofs.TextPieceLaws.{cut_behind, pieces_joined, text_is_piece}
+
+-- bytes that end the last one of rows (own)
+abbrev pub EndLastRow : List ℕ → List Row → Type 0
+EndLastRow trail rows = (init : List Row) × (last : Row) × (rows ≡ init ++ (last ∷ [])) × (length trail ≤ length (print_row last []))
+
+-- The rows that go with the first item or entry of a compact collection, and the row that stands in their place.
+pub record IsRowLeft (c : Cut) (k : ℕ) (x : FirstOut) (old new : Part) : Type 0 where
+  pub front : List Row
+  pub first : Row
+  pub others : List Row
+  pub row : Row
+  pub back : List Row
+  pub rows_are : old.rows ≡ front ++ ((first ∷ others) ++ back)
+  pub new_are : new.rows ≡ front ++ (row ∷ back)
+  pub end_is : new.end ≡ old.end
+  pub start : List ℕ
+  pub put : (q : Part) → cut_text (put_document k q c) ≡ start ++ part_text q (behind_document k c)
+  pub lead : List ℕ
+  pub trail : List ℕ
+  pub before_is : x.before ≡ (start ++ rows_text front []) ++ lead
+  pub behind_is : x.behind ≡ trail ++ rows_text back (old.end ++ behind_document k c)
+  pub begins : length lead ≤ length (print_row first [])
+  pub ends : IsOneBreak trail ⊎ EndLastRow trail (first ∷ others)
+
+-- What is taken out, with its rows.
+abbrev pub IsFirstGone : Cut → ℕ → List Step → FirstOut → Type 0
+IsFirstGone c k steps x = (out : IsTakenOut c k steps (x.before ++ x.behind)) × IsRowLeft c k x out.old out.new
 
 module _ (c : Cut) (k : ℕ) (y : Step) (ys ss : List Step) (s : Step) (x : FirstOut) (same : y ∷ ys ≡ ss ++ (s ∷ [])) (read : read_at (cut_text c) ≡ Some c) (e : IsFirstOut c k (y ∷ ys) x)
     (may : MayTakeOut c k (ss ++ (s ∷ []))) (size : length (x.before ++ x.behind) ≤ text_limit) where
@@ -163,6 +191,11 @@ module _ (c : Cut) (k : ℕ) (y : Step) (ys ss : List Step) (s : Step) (x : Firs
     size = subst (λ (v : List ℕ). length v ≤ text_limit) (sym is) less;
   }
 
+  -- what is taken out, by whether a gap stands before the next row
+  abbrev either : Bool → FirstOut
+  either b = cond b (record { before = less_spaces e.piece.before; space = end_spaces e.piece.before; entry = e.piece.text; break = []; indent = []; behind = e.piece.behind })
+      (record { before = e.piece.before; space = []; entry = e.piece.text; break = ft.break; indent = (cut no_space next).0; behind = (cut no_space next).1 })
+
   -- a row in the place of others
   taken : (new : Row) (back : List Row) (u : List ℕ) → cut_text (put_document k (inserted fr.front (new ∷ []) back p) c) ≡ u → FirstEntry (lines_of (new ∷ back)) →
       IsChanged c (put_document k (inserted fr.front (new ∷ []) back p) c) k (lead_of (inserted fr.front (new ∷ []) back p)) (change ss (within (remove_child s))) → IsTakenOut c k (ss ++ (s ∷ [])) u
@@ -186,7 +219,18 @@ module _ (c : Cut) (k : ℕ) (y : Step) (ys ss : List Step) (s : Step) (x : Firs
         new_entries = first_group (lines_of n.rows) new_first;
       }
 
-  dropped : length (less_spaces e.piece.before ++ e.piece.behind) ≤ text_limit → IsTakenOut c k (ss ++ (s ∷ [])) (less_spaces e.piece.before ++ e.piece.behind)
+  -- the text up to the row
+  front_row : (u : List ℕ) → a.start ++ rows_text fr.front u ≡ (a.start ++ rows_text fr.front []) ++ u
+  front_row u = front_text a.start fr.front [] u
+
+  own_dashes : r.dashes ≡ ns ++ es
+  own_dashes = sym (take-append-drop q.line r.dashes)
+
+  row_long : length (dashes_front r ns) ≤ length (print_row r [])
+  row_long = omega (arith, ap length (row_from r ns es [] own_dashes), length-append (dashes_front r ns) (dashes_text es (behind_dashes r [])))
+
+  dropped : length (less_spaces e.piece.before ++ e.piece.behind) ≤ text_limit → IsFirstGone c k (ss ++ (s ∷ [])) (either true)
+  unfolding taken
   dropped less =
       let new : Row = emptied r dash.0 ft.break in
       let back : List Row = fr.next ∷ fr.back in
@@ -196,16 +240,43 @@ module _ (c : Cut) (k : ℕ) (y : Step) (ys ss : List Step) (s : Step) (x : Firs
       ∙ (ap (λ (u : List ℕ). a.start ++ u) (inserted_text fr.front back new p rest ∙ ap (rows_text fr.front) (dropped_text r dash.0 ft.break next))
       ∙ (front_text a.start fr.front (dashes_front r dash.0) (45 ∷ (ft.break ++ next)) ∙ (sym (append_assoc upto_dash (45 ∷ []) (ft.break ++ next)) ∙ (λ i. sym front i ++ sym ft.behind i)))) in
       let piece : IsPiece (less_spaces e.piece.before ++ e.piece.behind) = pieces_joined (less_spaces e.piece.before) e.piece.behind (subst IsPiece (sym front) dash_piece) behind_piece in
-      taken new back _ text (dash_first _ r.column dash.0 new.content (lines_of back))
-      (dropped_changed t c k p ss s w.h w.f old w.entry go.0 go.1 fr.front fr.gone back r dash.0 es ft.break dash.1 fr.rows_are
-      (sym (take-append-drop q.line r.dashes) ∙ ap (λ ds. ds ++ es) dash.2) ft.one
-      (record {
-        before_are = ap (λ ds. length (lines_of fr.front) + length ds) (sym dash.2) ∙ fr.before;
-        size_is = ap (λ ds. length (lines_from [] (behind_columns r.column ds) es r.mark r.content ++ lines_of fr.gone)) (sym dash.2) ∙ fr.size;
-      })
-      (readable _ _ text piece less))
+      let lead : List ℕ = dashes_front r dash.0 ++ (45 ∷ []) in (
+        taken new back _ text (dash_first _ r.column dash.0 new.content (lines_of back))
+            (dropped_changed t c k p ss s w.h w.f old w.entry go.0 go.1 fr.front fr.gone back r dash.0 es ft.break dash.1 fr.rows_are
+            (sym (take-append-drop q.line r.dashes) ∙ ap (λ ds. ds ++ es) dash.2) ft.one
+            (record {
+              before_are = ap (λ ds. length (lines_of fr.front) + length ds) (sym dash.2) ∙ fr.before;
+              size_is = ap (λ ds. length (lines_from [] (behind_columns r.column ds) es r.mark r.content ++ lines_of fr.gone)) (sym dash.2) ∙ fr.size;
+            })
+            (readable _ _ text piece less)),
+        record {
+          front = fr.front;
+          first = r;
+          others = fr.gone;
+          row = new;
+          back = back;
+          rows_are = fr.rows_are;
+          new_are = ap (λ (rs : List Row). fr.front ++ (new ∷ rs)) (own_gap back p.end);
+          end_is = own_end back p.end;
+          start = a.start;
+          put = a.put;
+          lead = lead;
+          trail = ft.break;
+          before_is = front ∙ (ap (λ (u : List ℕ). u ++ (45 ∷ [])) (front_row (dashes_front r dash.0)) ∙ append_assoc (a.start ++ rows_text fr.front []) (dashes_front r dash.0) (45 ∷ []));
+          behind_is = ft.behind;
+          begins = omega (
+            arith,
+            row_long,
+            ap length (ap (dashes_front r) dash.2 ∙ dash_front r dash.0 dash.1),
+            length-append (dashes_front r dash.0) (45 ∷ replicate dash.1 32),
+            length-append (dashes_front r dash.0) (45 ∷ []),
+          );
+          ends = inl ft.one;
+        },
+      )
 
-  moved : begins_gap next ≡ false → length (e.piece.before ++ (cut no_space next).1) ≤ text_limit → IsTakenOut c k (ss ++ (s ∷ [])) (e.piece.before ++ (cut no_space next).1)
+  moved : begins_gap next ≡ false → length (e.piece.before ++ (cut no_space next).1) ≤ text_limit → IsFirstGone c k (ss ++ (s ∷ [])) (either false)
+  unfolding taken
   moved none less =
       let b : Row = fr.next in
       let new : Row = moved_up r ns b in
@@ -222,15 +293,30 @@ module _ (c : Cut) (k : ℕ) (y : Step) (ys ss : List Step) (s : Step) (x : Firs
       let indented : IsPiece (replicate b.column 32 ++ behind_indent b u) = subst (λ (v : List ℕ). IsPiece (v ++ (replicate b.column 32 ++ behind_indent b u))) g.gap lines in
       let piece : IsPiece (e.piece.before ++ (cut no_space next).1) =
       pieces_joined e.piece.before (cut no_space next).1 before_piece (subst IsPiece (sym after) (piece_back (replicate b.column 32) (behind_indent b u) (spaces_piece b.column).utf8 indented)) in
-      taken new fr.back _ text (dashes_first _ r.column ns b.dashes b.mark b.content (lines_of fr.back) ns_some)
-      (moved_changed t c k p ss s w.h w.f old w.entry go.0 go.1 fr.front fr.gone fr.back r b ns es fr.rows_are
-      (record { dashes = sym (take-append-drop q.line r.dashes); some = ns_some; column = fr.column; entry = fr.entry }) g.gap (record { before_are = fr.before; size_is = fr.size })
-      (readable _ _ text piece less))
-
-  -- what is taken out, by whether a gap stands before the next row
-  abbrev either : Bool → FirstOut
-  either b = cond b (record { before = less_spaces e.piece.before; space = end_spaces e.piece.before; entry = e.piece.text; break = []; indent = []; behind = e.piece.behind })
-      (record { before = e.piece.before; space = []; entry = e.piece.text; break = ft.break; indent = (cut no_space next).0; behind = (cut no_space next).1 })
+      let own_next : behind_indent b u ≡ behind_indent b [] ++ u = row_then (record b { gap = []; column = 0 }) [] u in (
+        taken new fr.back _ text (dashes_first _ r.column ns b.dashes b.mark b.content (lines_of fr.back) ns_some)
+            (moved_changed t c k p ss s w.h w.f old w.entry go.0 go.1 fr.front fr.gone fr.back r b ns es fr.rows_are
+            (record { dashes = sym (take-append-drop q.line r.dashes); some = ns_some; column = fr.column; entry = fr.entry }) g.gap (record { before_are = fr.before; size_is = fr.size })
+            (readable _ _ text piece less)),
+        record {
+          front = fr.front;
+          first = r;
+          others = fr.gone ++ (b ∷ []);
+          row = new;
+          back = fr.back;
+          rows_are = fr.rows_are ∙ ap (λ (rs : List Row). fr.front ++ (r ∷ rs)) (sym (append_assoc fr.gone (b ∷ []) fr.back));
+          new_are = ap (λ (rs : List Row). fr.front ++ (new ∷ rs)) (own_gap fr.back p.end);
+          end_is = own_end fr.back p.end;
+          start = a.start;
+          put = a.put;
+          lead = dashes_front r ns;
+          trail = behind_indent b [];
+          before_is = ft.before ∙ front_row (dashes_front r ns);
+          behind_is = after ∙ own_next;
+          begins = row_long;
+          ends = inr (r ∷ fr.gone, b, refl, omega (arith, length-append b.gap (behind_gap b []), length-append (replicate b.column 32) (behind_indent b [])));
+        },
+      )
 
   out_as : first_out e.piece ≡ either (begins_gap next)
   out_as =
@@ -238,22 +324,25 @@ module _ (c : Cut) (k : ℕ) (y : Step) (ys ss : List Step) (s : Step) (x : Firs
       (record { before = e.piece.before; space = []; entry = e.piece.text; break = l.0; indent = (cut no_space l.1).0; behind = (cut no_space l.1).1 }))
       (ap cut_line ft.behind ∙ break_cut ft.break next ft.one)
 
-  left_is : (b : Bool) → begins_gap next ≡ b → (either b).before ++ (either b).behind ≡ x.before ++ x.behind
-  left_is b is = sym (ap (λ (o : FirstOut). o.before ++ o.behind) (sym e.out ∙ (out_as ∙ ap either is)))
+  out_is_so : (b : Bool) → begins_gap next ≡ b → x ≡ either b
+  out_is_so b is = sym e.out ∙ (out_as ∙ ap either is)
 
-  by_gap : (b : Bool) → begins_gap next ≡ b → IsTakenOut c k (ss ++ (s ∷ [])) (x.before ++ x.behind)
-  by_gap true is = subst (IsTakenOut c k (ss ++ (s ∷ []))) (left_is true is) (dropped (subst (λ (v : List ℕ). length v ≤ text_limit) (sym (left_is true is)) size))
-  by_gap false is = subst (IsTakenOut c k (ss ++ (s ∷ []))) (left_is false is) (moved is (subst (λ (v : List ℕ). length v ≤ text_limit) (sym (left_is false is)) size))
+  by_gap : (b : Bool) → begins_gap next ≡ b → IsFirstGone c k (ss ++ (s ∷ [])) x
+  by_gap true is = subst (IsFirstGone c k (ss ++ (s ∷ []))) (sym (out_is_so true is)) (dropped (subst (λ (o : FirstOut). length (o.before ++ o.behind) ≤ text_limit) (out_is_so true is) size))
+  by_gap false is = subst (IsFirstGone c k (ss ++ (s ∷ []))) (sym (out_is_so false is)) (moved is (subst (λ (o : FirstOut). length (o.before ++ o.behind) ≤ text_limit) (out_is_so false is) size))
 
-  pub first_taken : IsTakenOut c k (ss ++ (s ∷ [])) (x.before ++ x.behind)
+  pub first_taken : IsFirstGone c k (ss ++ (s ∷ [])) x
   first_taken = by_gap (begins_gap next) refl
 
-pub first_taken_out : FirstTakenOut
-first_taken_out c k steps x read e may size = go steps refl (out_is c k steps x e)
+pub first_gone : (c : Cut) (k : ℕ) (steps : List Step) (x : FirstOut) → read_at (cut_text c) ≡ Some c → first_removal k steps c ≡ Some x → MayTakeOut c k steps → length (x.before ++ x.behind) ≤ text_limit → IsFirstGone c k steps x
+first_gone c k steps x read e may size = go steps refl (out_is c k steps x e)
   where
-    go : (ts : List Step) → steps ≡ ts → IsFirstOut c k steps x → IsTakenOut c k steps (x.before ++ x.behind)
+    go : (ts : List Step) → steps ≡ ts → IsFirstOut c k steps x → IsFirstGone c k steps x
     go [] is h = absurd (let none : None ≡ Some h.number = ap (λ (ts : List Step). line_of ts (lines_of h.part.rows)) (sym is) ∙ h.line in cc)
     go (y ∷ ys) is h =
         let v = snoc y ys in
-        subst (λ (zs : List Step). IsTakenOut c k zs (x.before ++ x.behind)) (sym (is ∙ v.2))
+        subst (λ (zs : List Step). IsFirstGone c k zs x) (sym (is ∙ v.2))
         (first_taken c k y ys v.0 v.1 x v.2 read (subst (λ (zs : List Step). IsFirstOut c k zs x) is h) (subst (MayTakeOut c k) (is ∙ v.2) may) size)
+
+pub first_taken_out : FirstTakenOut
+first_taken_out c k steps x read e may size = (first_gone c k steps x read e may size).0

@@ -66,3 +66,5 @@ pub mod FlowKeptLaws
 pub mod FlowStandLaws
 pub mod UnderLaws
 pub mod UnbrokenLaws
+pub mod DocumentItemLaws
+pub mod ItemLaws

@@ -6,33 +6,34 @@ use Rattle.std.proofs.lemmas.Option.{none-some, same_Some}
 use Rattle.std.proofs.lemmas.Str.{is_utf8-from_IsUtf8}
 use Rattle.yq_scalar.specs.Characters.{text_limit}
 use Rattle.yq_scalar.specs.Paths.{Step, is_here, further, child_at, node_at, remove_child}
-use Rattle.yq_scalar.specs.Tree.{Node, alias, scalar, list, map, Children, children_of}
+use Rattle.yq_scalar.specs.Tree.{Node, Children, children_of}
 use Rattle.yq_scalar.proofs.Bools.{bind_some, guard_then}
 use Rattle.yq_scalar.specs.Anchors.{names_of}
 use Rattle.yq_lines.specs.Counts.{count}
 use Rattle.yq_lines.specs.Group.{group, level_or}
 use Rattle.yq_lines.specs.Laws.{with_lines}
-use Rattle.yq_lines.specs.Outline.{Mark, Bare, Key, Dash, Line, level, Outline, end, row, flatten, IsEven, anchored, head_or, label, collection, children, value}
+use Rattle.yq_lines.specs.Outline.{Mark, Bare, Key, Dash, Line, level, Outline, end, row, flatten, IsEven, head_or, label, collection, children, value}
 use Rattle.yq_lines.specs.Places.{Place, here, below, beside, plug, lines_before, lines_after, Found, next_to, find_row, find, content}
 use Rattle.yq_lines.specs.Sound.{is_entry}
 use Rattle.yq_lines.proofs.Finding.{IsFoundIn, path_node, path_whole, row_child}
 use Rattle.yq_lines.proofs.PlaceLaws.{at}
 use Rattle.yq_lines.proofs.ChildLaws.{anchored_children}
 use Rattle.yq_rows.specs.Grammar.{no_rows}
-use Rattle.yq_rows.specs.Rows.{Row, Part, Cut, cut_text}
+use Rattle.yq_rows.specs.Rows.{Row, rows_text, Part, part_text, Cut, cut_text}
+use Rattle.yq_rows.specs.Splices.{first_gap, behind_first}
 use Rattle.yq_documents.specs.Documents.{begins_bare, has_begin, lead_of}
 use Rattle.yq_documents.specs.Lines.{lines_of}
 use Rattle.yq_documents.specs.Reading.{outline_of, read_at, root_of}
 use Rattle.yq_documents.specs.Ready.{begins_no_node}
 use Rattle.yq_tree.specs.PlacedRows.{PlacedPart, placed_document}
-use Rattle.yq_tree.specs.RemovalPlaces.{OwnRows, own_rows, Removal, rows_out, removal_place, has_several}
+use Rattle.yq_tree.specs.RemovalPlaces.{OwnRows, own_rows, kept_gap, Removal, rows_out, removal_place, has_several}
 use Rattle.yq_tree.specs.RowPaths.{IsReadable}
 use Rattle.yq_tree.proofs.PlacedPartLaws.{map_some}
 use Rattle.yq_tree.proofs.ReadLaws.{text_takes}
 use Rattle.yq_tree.proofs.RemovalTexts.{old_text}
 use Rattle.yq_change.specs.Changed.{IsChanged, KeepsRows, put_document}
 use Rattle.yq_change.specs.Conditions.{AreSpared}
-use Rattle.yq_change.specs.DocumentRows.{IsDocumentPart}
+use Rattle.yq_change.specs.DocumentRows.{IsDocumentPart, behind_document}
 use Rattle.yq_change.specs.RemovalChanges.{mended, HasOwnRows, RemovalStands, IsTakenOut, MayTakeOut, EntryTakenOut}
 use Rattle.yq_change.specs.Removes.{without}
 use Rattle.yq_change.specs.Siblings.{IsEntry, HasEntries, IsEntryAt, NodeLines, lines_at, put_lines}
@@ -264,8 +265,23 @@ may_go t c k p ss s h f old entry may =
     subst (λ (n : Node). AreSpared (names_of n) [] (names_of (root_of p))) (sym node_same) (subst (λ (y : Part). AreSpared (names_of may.node) [] (names_of (root_of y))) same may.spared) in
     (left, spared)
 
+-- The rows that go with what is taken out stand between those in front and those behind, and part of the gap in front of the first one stays.
+pub record AreRowsTaken (c : Cut) (k : ℕ) (x : Removal) (old new : Part) : Type 0 where
+  pub front : List Row
+  pub first : Row
+  pub others : List Row
+  pub back : List Row
+  pub rows_are : old.rows ≡ front ++ ((first ∷ others) ++ back)
+  pub new_is : new ≡ without front (first ∷ others) back old
+  pub start : List ℕ
+  pub put : (q : Part) → cut_text (put_document k q c) ≡ start ++ part_text q (behind_document k c)
+  pub before_is : x.before ≡ start ++ rows_text front (kept_gap (first ∷ others) old.end)
+  pub behind_is : x.behind ≡ behind_first back old.end (behind_document k c)
+  pub gap_is : x.gap ≡ first_gap back old.end
+
 taken_at : (c : Cut) (k : ℕ) (ss : List Step) (s : Step) (x : Removal) → read_at (cut_text c) ≡ Some c → IsRowsOut c k (ss ++ (s ∷ [])) x → MayTakeOut c k (ss ++ (s ∷ [])) →
-    length (x.before ++ (mended x.seam x.gap ++ x.behind)) ≤ text_limit → IsTakenOut c k (ss ++ (s ∷ [])) (x.before ++ (mended x.seam x.gap ++ x.behind))
+    length (x.before ++ (mended x.seam x.gap ++ x.behind)) ≤ text_limit →
+    (out : IsTakenOut c k (ss ++ (s ∷ [])) (x.before ++ (mended x.seam x.gap ++ x.behind))) × AreRowsTaken c k x out.old out.new
 taken_at c k ss s x read h may size =
     let t : List ℕ = cut_text c in
     let st = document_stands_at c k h.d h.is in
@@ -287,24 +303,44 @@ taken_at c k ss s x read h may size =
     } in
     let gone = block_gone t c k p ss s w.h w.f h.own.front h.own.own h.own.back old w.entry go.0 w.rows go.1 readable in
     let entries : FirstEntry (lines_of q.rows) = subst FirstEntry (sym gone.1) (left_first ss s o w.h w.f w.entry go.0) in
-    record {
-      old = p;
-      new = q;
-      there = st.there;
-      rows = keeps p q entries;
-      text = text;
-      changed = subst (IsChanged c (put_document k q c) k (lead_of q)) (λ i n. sym (end_is_change remove_child ss s n) i) gone.0;
-      old_block = group_begins (lines_of p.rows) (root_entries ss o w.h w.entry.place_is w.entry.block);
-      new_block = group_begins (lines_of q.rows) (first_group (lines_of q.rows) entries);
-      new_entries = first_group (lines_of q.rows) entries;
-    }
+    let own_is : h.own.own ≡ first.first ∷ first.others = first.own_are in (
+      record {
+        old = p;
+        new = q;
+        there = st.there;
+        rows = keeps p q entries;
+        text = text;
+        changed = subst (IsChanged c (put_document k q c) k (lead_of q)) (λ i n. sym (end_is_change remove_child ss s n) i) gone.0;
+        old_block = group_begins (lines_of p.rows) (root_entries ss o w.h w.entry.place_is w.entry.block);
+        new_block = group_begins (lines_of q.rows) (first_group (lines_of q.rows) entries);
+        new_entries = first_group (lines_of q.rows) entries;
+      },
+      record {
+        front = h.own.front;
+        first = first.first;
+        others = first.others;
+        back = h.own.back;
+        rows_are = first.rows_are;
+        new_is = ap (λ (rs : List Row). without h.own.front rs h.own.back p) own_is;
+        start = h.d.before;
+        put = λ q. st.put q ∙ ap (λ u. h.d.before ++ part_text q u) (sym st.behind);
+        before_is = sym (ap (λ (y : Removal). y.before) h.out) ∙ ap (λ (rs : List Row). h.d.before ++ rows_text h.own.front (kept_gap rs p.end)) own_is;
+        behind_is = sym (ap (λ (y : Removal). y.behind) h.out) ∙ ap (behind_first h.own.back p.end) (sym st.behind);
+        gap_is = sym (ap (λ (y : Removal). y.gap) h.out);
+      },
+    )
 
-pub entry_taken_out : EntryTakenOut
-entry_taken_out c k steps x read e may size = go steps refl (out_is c k steps x e)
+pub entry_taken : (c : Cut) (k : ℕ) (steps : List Step) (x : Removal) → read_at (cut_text c) ≡ Some c → removal_place k steps c ≡ Some x → MayTakeOut c k steps →
+    length (x.before ++ (mended x.seam x.gap ++ x.behind)) ≤ text_limit → (out : IsTakenOut c k steps (x.before ++ (mended x.seam x.gap ++ x.behind))) × AreRowsTaken c k x out.old out.new
+entry_taken c k steps x read e may size = go steps refl (out_is c k steps x e)
   where
-    go : (ts : List Step) → steps ≡ ts → IsRowsOut c k steps x → IsTakenOut c k steps (x.before ++ (mended x.seam x.gap ++ x.behind))
+    go : (ts : List Step) → steps ≡ ts → IsRowsOut c k steps x → (out : IsTakenOut c k steps (x.before ++ (mended x.seam x.gap ++ x.behind))) × AreRowsTaken c k x out.old out.new
     go [] is h = absurd (none-some _ (ap (λ (ts : List Step). own_rows ts h.d.part.rows) (sym is) ∙ h.rows))
     go (t ∷ ts) is h =
         let y = snoc t ts in
         let same : steps ≡ y.0 ++ (y.1 ∷ []) = is ∙ y.2 in
-        subst (λ (zs : List Step). IsTakenOut c k zs (x.before ++ (mended x.seam x.gap ++ x.behind))) (sym same) (taken_at c k y.0 y.1 x read (subst (λ (zs : List Step). IsRowsOut c k zs x) same h) (subst (MayTakeOut c k) same may) size)
+        subst (λ (zs : List Step). (out : IsTakenOut c k zs (x.before ++ (mended x.seam x.gap ++ x.behind))) × AreRowsTaken c k x out.old out.new) (sym same)
+        (taken_at c k y.0 y.1 x read (subst (λ (zs : List Step). IsRowsOut c k zs x) same h) (subst (MayTakeOut c k) same may) size)
+
+pub entry_taken_out : EntryTakenOut
+entry_taken_out c k steps x read e may size = (entry_taken c k steps x read e may size).0

@@ -32,3 +32,5 @@ pub mod CollectionPlaces
 pub mod FlowRows
 pub mod FlowKept
 pub mod Unders
+pub mod DocumentItems
+pub mod Items

@@ -1,5 +1,6 @@
 //! Laws on leads, on the room for comments, and on pieces of texts.
 ghost use Rattle.yq_change.specs.CollectionPlaces.{CollectionPlaces};
+ghost use Rattle.yq_change.specs.DocumentItems.{DocumentHasItems};
 ghost use Rattle.yq_change.specs.Rooms.{BlockLeadGoes, KeptLeadGoes, SameLeadGoes, ShapeTells};
 ghost use Rattle.yq_change.specs.TextPieces.{ByteCut, LineCut, PiecesCut, PiecesJoined, TextIsPiece};
 
@@ -27,4 +28,9 @@ pub fn pieces_of_texts()
 /// Rows stand in front of the end of a block collection and behind it.
 pub fn collections_end()
     ensures { CollectionPlaces }
+{}
+
+/// Each document of a cut stands among its rows and ends of parts.
+pub fn documents_have_items()
+    ensures { DocumentHasItems }
 {}

@@ -1,5 +1,5 @@
 -- One item or entry more at the end of a text that has no final break: the break comes first.
-use Rattle.std.proofs.Common.{inr, ◌≡◌, ℕ, ◌+◌, ◌≤◌, true, false, List, [], ◌∷◌, ◌++◌, length, Option, Some, refl, sym, ap, ◌∙◌, subst, append_assoc, append-nil, replicate}
+use Rattle.std.proofs.Common.{arith, inr, ◌≡◌, ℕ, ◌+◌, ◌≤◌, true, false, List, [], ◌∷◌, ◌++◌, length, Option, Some, refl, sym, ap, ◌∙◌, subst, append_assoc, append-nil, replicate}
 use Rattle.yq_scalar.specs.declared.block_written.Break.{Break}
 use Rattle.yq_scalar.specs.declared.block_written.Break.TheVariants as breaks
 use Rattle.yq_scalar.specs.BlockWritten.{break_text}
@@ -8,7 +8,7 @@ use Rattle.yq_scalar.specs.Paths.{Step}
 use Rattle.yq_scalar.specs.Tree.{Node}
 use Rattle.yq_scalar.specs.Text.{is_line}
 use Rattle.yq_lines.specs.Outline.{flatten}
-use Rattle.yq_rows.specs.Rows.{Row, rows_text, Part, Cut, cut_text}
+use Rattle.yq_rows.specs.Rows.{print_row, Row, rows_text, Part, Cut, cut_text}
 use Rattle.yq_tree.specs.CollectionEnds.{CollectionEnd, collection_end}
 use Rattle.yq_documents.specs.Lines.{lines_of}
 use Rattle.yq_documents.specs.Reading.{read_at}
@@ -23,7 +23,14 @@ use Rattle.yq_change.specs.CollectionPlaces.{IsCollectionEnd}
 use Rattle.yq_change.specs.DocumentRows.{behind_document}
 use Rattle.yq_change.proofs.TextPieceLaws.{pieces_joined}
 use Rattle.yq_meaning.specs.Operations.{append}
-use Rattle.yq_script.specs.Script.{new_text}
+use Rattle.yq_script.specs.Script.{Segment, new_text}
+use Rattle.yq_rows.specs.Appending.{closed_by}
+use Rattle.yq_rows.proofs.PlaceLaws.{row_then}
+use Rattle.yq_rows.proofs.seams.SeamLaws.{rows_text-append}
+use Rattle.yq_tree.proofs.RunSpans.{rows_then}
+use Rattle.yq_change.specs.Items.{rows_items}
+use Rattle.yq_ways.specs.Local.{IsLocal, IsLocalTo}
+use Rattle.yq_ways.proofs.LocalLaws.{first_within, last_nothing, cut_known, RowsGiveWay, rows_local}
 use Rattle.yq_ways.specs.Layouts.{layout_of}
 use Rattle.yq_ways.specs.AppendWay.{entry_lines, put_segments}
 use Rattle.yq_ways.specs.Ways.{ReadsAfter}
@@ -34,9 +41,9 @@ use Rattle.yq_rows.specs.Appending.{is_one_break}
 use Rattle.yq_block.specs.BlockValues.{IsEnd}
 use Rattle.yq_change.specs.Ends.{TakesRowsLast, closed_with}
 use Rattle.yq_change.proofs.EndLaws.{end_of_text_appended}
-use Rattle.yq_change.proofs.UnbrokenLaws.{EndsText, ends_text, closed_text, closed_root, closed_lead, some_closed}
+use Rattle.yq_change.proofs.UnbrokenLaws.{EndsText, ends_text, closed_row, closed_text, closed_root, closed_lead, some_closed}
 use Rattle.yq_ways.proofs.AppendEntryLaws.{none_quiet}
-use Rattle.yq_ways.proofs.AppendPlaces.{p, there, e, allows_there, kept_pieces, IsAsked, entry, written, new_rows_are, entry_piece, filled, finished}
+use Rattle.yq_ways.proofs.AppendPlaces.{old_is, p, there, e, allows_there, kept_pieces, IsAsked, entry, written, new_rows_are, entry_piece, filled, finished}
 use Rattle.yq_block.proofs.LaidRows.{no_gap_here}
 use Rattle.yq_lines.specs.Places.{lines_before}
 
@@ -107,12 +114,50 @@ module _ (doc : ℕ) (steps : List Step) (key : Option (List ℕ)) (v : Node) (c
   count : length (lines_of part.rows) ≡ length (lines_before place.h.place) + length (flatten place.h.lines)
   count = ap (λ rs. length (lines_of rs)) (ends.rows_are ∙ sym place.front_is) ∙ place.count
 
-  pub end_reads : length (new_text (put_segments x (break_text l.br ++ lines))) ≤ text_limit → ReadsAfter (append doc steps key v) c (new_text (put_segments x (break_text l.br ++ lines)))
-  end_reads size =
+  -- the last row gets a break, and the text up to there is its own
+  before_last : x.before ≡ (place.start ++ rows_text place.others []) ++ print_row place.last []
+  before_last =
+      place.before_is
+      ∙ (ap (λ rs. place.start ++ rows_text rs []) place.front_is
+      ∙ (ap (λ t. place.start ++ t) (rows_text-append place.others (place.last ∷ []) [] ∙ rows_then place.others (print_row place.last [])) ∙ sym (append_assoc place.start (rows_text place.others []) (print_row place.last []))))
+
+  longer : length (print_row place.last []) ≤ length (print_row (closed_by (break_text l.br) place.last) [])
+  longer = first_within _ (print_row place.last []) (break_text l.br) (closed_row place.last (break_text l.br) [] ends.inline ∙ (ap (print_row place.last) (append-nil (break_text l.br)) ∙ row_then place.last [] (break_text l.br)))
+
+  nothing_behind : x.behind ≡ [] ++ rows_text [] (part.end ++ behind_document doc c)
+  nothing_behind = ends.behind_is ∙ sym (λ i. ends.end_is i ++ ends.rest_is i)
+
+  pub end_both : length (new_text (put_segments x (break_text l.br ++ lines))) ≤ text_limit →
+      ReadsAfter (append doc steps key v) c (new_text (put_segments x (break_text l.br ++ lines))) × IsLocalTo (put_segments x (break_text l.br ++ lines)) c
+  end_both size =
       let w = entry doc steps key v c x read at g [] none_quiet in
       let changed =
       end_of_text_appended (cut_text c) c doc part steps place.h place.others new place.last (break_text l.br) w.deep.0 w.line w.under (there doc steps c x read at) place.collection count
       (written doc steps key v c x read at g [] none_quiet) takes (readable size) in
-      subst (ReadsAfter (append doc steps key v) c) new_is
-      (finished doc steps key v c x read at g q [] none_quiet changed (closed_lead part place.others new place.last (break_text l.br) ends.rows_are) (closed_root part place.others new place.last (break_text l.br) ends.rows_are)
-      (some_closed place.others new place.last (break_text l.br)))
+      let ss : List Segment = put_segments x (break_text l.br ++ lines) in
+      let local : IsLocal ss c (put_document doc q c) =
+      rows_local ss c doc q (record {
+        p = part;
+        there = (there doc steps c x read at).there;
+        start = place.start;
+        put = place.new_text;
+        front = place.others;
+        gone = place.last ∷ [];
+        come = closed_by (break_text l.br) place.last ∷ new;
+        back = [];
+        rows_are = ends.rows_are;
+        come_are = refl;
+        end_is = sym ends.end_is;
+        lead = print_row place.last [];
+        trail = [];
+        before_is = append-nil x.before ∙ before_last;
+        behind_is = append-nil x.behind ∙ nothing_behind;
+        puts = refl;
+        old_is = ap (λ z. x.before ++ z) (append-nil x.behind) ∙ old_is doc steps c x read at;
+        new_is = sym new_is;
+      }) (omega arith) longer (omega arith) (last_nothing (rows_items (closed_by (break_text l.br) place.last ∷ new) [])) in (
+        subst (ReadsAfter (append doc steps key v) c) new_is
+            (finished doc steps key v c x read at g q [] none_quiet changed (closed_lead part place.others new place.last (break_text l.br) ends.rows_are) (closed_root part place.others new place.last (break_text l.br) ends.rows_are)
+            (some_closed place.others new place.last (break_text l.br))),
+        cut_known ss c (put_document doc q c) changed.read new_is local,
+      )

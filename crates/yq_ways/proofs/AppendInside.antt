@@ -37,13 +37,16 @@ use Rattle.yq_change.proofs.EndedRowLaws.{rows_then}
 use Rattle.yq_change.proofs.TextPieceLaws.{pieces_joined}
 use Rattle.yq_block.proofs.LineLaws.{break_quiet}
 use Rattle.yq_meaning.specs.Operations.{append}
-use Rattle.yq_script.specs.Script.{new_text}
+use Rattle.yq_script.specs.Script.{Segment, new_text}
+use Rattle.yq_change.specs.Items.{rows_items}
+use Rattle.yq_ways.specs.Local.{IsLocal, IsLocalTo}
+use Rattle.yq_ways.proofs.LocalLaws.{first_nothing, last_nothing, cut_known, RowsGiveWay, rows_local}
 use Rattle.yq_ways.specs.Layouts.{layout_of}
 use Rattle.yq_ways.specs.AppendWay.{entry_lines, put_segments}
 use Rattle.yq_ways.specs.Ways.{ReadsAfter}
 use Rattle.yq_ways.proofs.CommentPieceLaws.{break_piece}
 use Rattle.yq_ways.proofs.SegmentLaws.{segments_readable}
-use Rattle.yq_ways.proofs.AppendPlaces.{p, there, e, allows_there, kept_pieces, IsAsked, entry, written, new_rows_are, entry_piece, filled, finished}
+use Rattle.yq_ways.proofs.AppendPlaces.{old_is, p, there, e, allows_there, kept_pieces, IsAsked, entry, written, new_rows_are, entry_piece, filled, finished}
 
 last_closed : (others : List Row) (r : Row) → is_broken r.content ≡ true → ends_in_block (others ++ (r ∷ [])) ≡ false → ends_in_line (others ++ (r ∷ [])) ≡ true
 last_closed [] r e inside = last r.content e inside
@@ -146,12 +149,38 @@ module _ (doc : ℕ) (steps : List Step) (key : Option (List ℕ)) (v : Node) (c
       ap (λ rs. comments.head_comment (first_gap rs q.end)) q_split
       ∙ (ap comments.head_comment (first_same place.others place.last (new ++ place.back) place.back q.end part.end) ∙ ap (λ rs. comments.head_comment (first_gap rs part.end)) (sym p_split))
 
-  pub inside_reads : x.broken ≡ true → length (new_text (put_segments x (lines ++ break_text l.br))) ≤ text_limit → ReadsAfter (append doc steps key v) c (new_text (put_segments x (lines ++ break_text l.br)))
-  inside_reads broken size =
+  pub inside_both : x.broken ≡ true → length (new_text (put_segments x (lines ++ break_text l.br))) ≤ text_limit →
+      ReadsAfter (append doc steps key v) c (new_text (put_segments x (lines ++ break_text l.br))) × IsLocalTo (put_segments x (lines ++ break_text l.br)) c
+  inside_both broken size =
       let quiet = break_quiet l.br in
       let w = entry doc steps key v c x read at g (break_text l.br) quiet in
       let changed =
       block_appended (cut_text c) c doc part steps place.h place.front place.back new w.deep.0 w.line w.under (there doc steps c x read at) place.collection place.count
       (written doc steps key v c x read at g (break_text l.br) quiet) (takes broken) (readable size) in
-      subst (ReadsAfter (append doc steps key v) c) new_is
-      (finished doc steps key v c x read at g q (break_text l.br) quiet changed same_lead same_block (ap no_rows q_split ∙ some_rows place.others place.last (new ++ place.back)))
+      let ss : List Segment = put_segments x (lines ++ break_text l.br) in
+      let before_is : x.before ≡ (place.start ++ rows_text place.front []) ++ [] = place.before_is ∙ sym (append-nil (place.start ++ rows_text place.front [])) in
+      let local : IsLocal ss c (put_document doc q c) =
+      rows_local ss c doc q (record {
+        p = part;
+        there = (there doc steps c x read at).there;
+        start = place.start;
+        put = place.new_text;
+        front = place.front;
+        gone = [];
+        come = new;
+        back = place.back;
+        rows_are = place.rows_are;
+        come_are = q_rows;
+        end_is = own_end place.back part.end;
+        lead = [];
+        trail = [];
+        before_is = append-nil x.before ∙ before_is;
+        behind_is = append-nil x.behind ∙ place.behind_is;
+        puts = refl;
+        old_is = ap (λ z. x.before ++ z) (append-nil x.behind) ∙ old_is doc steps c x read at;
+        new_is = sym new_is;
+      }) refl (first_nothing (rows_items new [])) refl (last_nothing (rows_items new [])) in (
+        subst (ReadsAfter (append doc steps key v) c) new_is
+            (finished doc steps key v c x read at g q (break_text l.br) quiet changed same_lead same_block (ap no_rows q_split ∙ some_rows place.others place.last (new ++ place.back))),
+        cut_known ss c (put_document doc q c) changed.read new_is local,
+      )

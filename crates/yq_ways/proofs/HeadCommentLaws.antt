@@ -1,8 +1,8 @@
 -- A head comment set: the text reads as the documents after that.
-use Rattle.std.proofs.Common.{◌≡◌, ◌⊎◌, inl, inr, ℕ, zero, suc, ◌≤◌, Bool, true, false, cond, eqb, List, [], ◌∷◌, ◌++◌, length, map, take, drop, replicate, Option, Some, option_map, refl, sym, ap, ◌∙◌, subst, append_assoc, append-nil}
+use Rattle.std.proofs.Common.{arith, ◌≡◌, ◌⊎◌, inl, inr, ℕ, zero, suc, ◌≤◌, Bool, true, false, cond, eqb, List, [], ◌∷◌, ◌++◌, length, map, take, drop, replicate, Option, Some, option_map, refl, sym, ap, ◌∙◌, subst, append_assoc, append-nil}
 use Rattle.std.proofs.Math.Seq.{take-append_seam}
 use Rattle.std.proofs.lemmas.Bool.{false≢true, eqb-true, and_parts, cases_Bool}
-use Rattle.std.proofs.lemmas.List.{map-append}
+use Rattle.std.proofs.lemmas.List.{map-append, length-append}
 use Rattle.std.proofs.lemmas.Option.{none-some, same_Some}
 use Rattle.std.proofs.lemmas.Str.{IsUtf8-take}
 use Rattle.std.specs.Str.{IsUtf8}
@@ -16,9 +16,10 @@ use Rattle.yq_scalar.proofs.Bools.{bind_some, guard_then}
 use Rattle.yq_lines.specs.Comments.{are_comments}
 use Rattle.yq_lines.specs.Group.{group}
 use Rattle.yq_rows.specs.Grammar.{IsCut}
-use Rattle.yq_rows.specs.Rows.{Row, behind_gap, behind_indent, print_row, rows_text, Part, Cut, cut_text}
+use Rattle.yq_rows.specs.Rows.{Row, behind_gap, behind_indent, print_row, rows_text, Part, part_text, Cut, cut_text}
 use Rattle.yq_rows.specs.Splices.{with_row_gap}
 use Rattle.yq_rows.proofs.Fronts.{Starts}
+use Rattle.yq_rows.proofs.PlaceLaws.{row_then}
 use Rattle.yq_rows.proofs.NodePieces.{before_ascii}
 use Rattle.yq_rows.proofs.RowAgain.{row_starts}
 use Rattle.yq_tree.specs.CommentPlaces.{LinesAbove, above_row, lines_above}
@@ -56,9 +57,11 @@ use Rattle.yq_meaning.specs.Rooms.{room_of}
 use Rattle.yq_program.specs.declared.program.CommentPlace.TheVariants as comments
 use Rattle.yq_rows.proofs.NodeExchange.{starts_no_feed}
 use Rattle.yq_rows.proofs.splices.ContentPlaces.{count_front}
-use Rattle.yq_script.specs.Script.{Segment, old_text, new_text}
+use Rattle.yq_script.specs.Script.{Segment, keep, put, old_text, new_text}
 use Rattle.yq_ways.specs.CommentWays.{head_lines, head_comment_segments, head_comment_way}
 use Rattle.yq_ways.specs.Operands.{HasOperand}
+use Rattle.yq_ways.specs.Local.{IsLocal, IsLocalTo, IsLocalWay}
+use Rattle.yq_ways.proofs.LocalLaws.{cut_known, RowsGiveWay, row_local}
 use Rattle.yq_ways.specs.Ways.{IsWay, ReadsAfter}
 use Rattle.yq_ways.proofs.CommentPieceLaws.{AreParts, head_parts, lines_piece}
 use Rattle.yq_ways.proofs.CommentReadLaws.{lines_tell, lines_gap, lines_stand}
@@ -157,9 +160,9 @@ has_entries front r back q e block = go (block_entries (lines.lines_of q.rows) b
     go (inl h) = h
     go (inr h) = absurd (lines_some front r back (sym (ap lines.lines_of e) ∙ h))
 
-reads : (doc : ℕ) (steps : List Step) (text : List ℕ) (br : Break) (c : Cut) (e : LinesAbove) → read_at (cut_text c) ≡ Some c → lines_above doc steps c ≡ Some e → IsUtf8 text → is_comment comments.Head text ≡ true →
-    length (new_text (head_comment_segments (break_text br) text e)) ≤ text_limit → ReadsAfter (head_comment doc steps text) c (new_text (head_comment_segments (break_text br) text e))
-reads doc steps text br c e read is utf8 fit size =
+both : (doc : ℕ) (steps : List Step) (text : List ℕ) (br : Break) (c : Cut) (e : LinesAbove) → read_at (cut_text c) ≡ Some c → lines_above doc steps c ≡ Some e → IsUtf8 text → is_comment comments.Head text ≡ true →
+    length (new_text (head_comment_segments (break_text br) text e)) ≤ text_limit → ReadsAfter (head_comment doc steps text) c (new_text (head_comment_segments (break_text br) text e)) × IsLocalTo (head_comment_segments (break_text br) text e) c
+both doc steps text br c e read is utf8 fit size =
     let a : IsAbove doc steps c e = above doc steps c e is in
     let w : PlacedRow = a.w in
     let f : IsFound doc steps c w = a.found in
@@ -193,18 +196,47 @@ reads doc steps text br c e read is utf8 fit size =
     (count_front p.rows i r f.row) (subst IsReadable (sym text_then) readable) in
     let shapes = shape_tells p q (shapes_same front_rows r back (with_run r run) p q f.rows_are refl) in
     let block : is_block_root p ≡ true = seat_is_block steps p.rows f.x f.seat_is in
-    subst (ReadsAfter (head_comment doc steps text) c) text_then
-    (document_done (head_comment doc steps text) c p q (lead_of q) _ (record {
-      read = read;
+    let kept : List ℕ = joined (before_run (lines_of r.gap)) in
+    let ss : List Segment = head_comment_segments (break_text br) text e in
+    let before_is : e.before ≡ (f.s.before ++ rows_text front_rows []) ++ kept = sym (ap (λ (x : LinesAbove). x.before) above_is) in
+    let behind_is : e.behind ≡ behind_gap r (rows_text back (p.end ++ behind_document doc c)) =
+    sym (ap (λ (x : LinesAbove). x.behind) above_is) ∙ ap (λ u. behind_gap r (rows_text back (p.end ++ u))) (sym f.stands.behind) in
+    let behind_row : e.behind ≡ behind_gap r [] ++ rows_text back (p.end ++ behind_document doc c) = behind_is ∙ row_then (with_row_gap [] r) [] (rows_text back (p.end ++ behind_document doc c)) in
+    let local : IsLocal ss c new =
+    row_local ss c doc q (record {
+      p = p;
       there = f.stands.there;
-      rows = λ none. absurd (false≢true (sym (rows_before_some front_rows (with_row_gap (with_run r run) r ∷ back) refl) ∙ none));
-      changed = changed;
-      root = ap (λ o. change steps_are.0 (within (relabel_child steps_are.1 (with_head_comment o))) (root_of p)) (lines_tell r.column br (head_of text) parts)
-          ∙ (sym (end_is_change (λ s. relabel_child s (with_head_comment (head_of text))) steps_are.0 steps_are.1 (root_of p)) ∙ ap (λ (s : List Step). at_end (λ s. relabel_child s (with_head_comment (head_of text))) s (root_of p)) (sym steps_are.2));
-      lead_goes = block_lead_goes p q block (has_entries front_rows (with_row_gap (with_run r run) r) back q refl (shapes.1 ∙ block));
-      block = λ x. shapes.1;
-      seats = λ x. shapes.0;
-    }))
+      start = f.s.before;
+      put = λ x. f.stands.put x ∙ ap (λ u. f.s.before ++ part_text x u) (sym f.stands.behind);
+      front = front_rows;
+      gone = r ∷ [];
+      come = with_row_gap (with_run r run) r ∷ [];
+      back = back;
+      rows_are = f.rows_are;
+      come_are = refl;
+      end_is = refl;
+      lead = kept;
+      trail = behind_gap r [];
+      before_is = append-nil e.before ∙ before_is;
+      behind_is = append-nil e.behind ∙ behind_row;
+      puts = refl;
+      old_is = segments_old (break_text br) text e ∙ sym (above_text doc steps c e a);
+      new_is = sym text_then;
+    }) r (with_row_gap (with_run r run) r) refl refl in (
+      subst (ReadsAfter (head_comment doc steps text) c) text_then
+          (document_done (head_comment doc steps text) c p q (lead_of q) _ (record {
+            read = read;
+            there = f.stands.there;
+            rows = λ none. absurd (false≢true (sym (rows_before_some front_rows (with_row_gap (with_run r run) r ∷ back) refl) ∙ none));
+            changed = changed;
+            root = ap (λ o. change steps_are.0 (within (relabel_child steps_are.1 (with_head_comment o))) (root_of p)) (lines_tell r.column br (head_of text) parts)
+                ∙ (sym (end_is_change (λ s. relabel_child s (with_head_comment (head_of text))) steps_are.0 steps_are.1 (root_of p)) ∙ ap (λ (s : List Step). at_end (λ s. relabel_child s (with_head_comment (head_of text))) s (root_of p)) (sym steps_are.2));
+            lead_goes = block_lead_goes p q block (has_entries front_rows (with_row_gap (with_run r run) r) back q refl (shapes.1 ∙ block));
+            block = λ x. shapes.1;
+            seats = λ x. shapes.0;
+          })),
+      cut_known ss c new changed.read text_then local,
+    )
   where
     regroup : (s f k u b : List ℕ) → s ++ (f ++ ((k ++ u) ++ b)) ≡ ((s ++ f) ++ k) ++ (u ++ b)
     regroup s f k u b = ap (λ l. s ++ (f ++ l)) (append_assoc k u b) ∙ (sym (append_assoc s f (k ++ (u ++ b))) ∙ sym (append_assoc (s ++ f) k (u ++ b)))
@@ -233,4 +265,14 @@ head_comment_is_way = record { old = olds; reads = news }
     news (head_comment doc steps text) c ss read h operand fits size =
         let x = segments_of (break_text (first_break (cut_text c))) text (lines_above doc steps c) ss h in
         subst (λ (ss : List Segment). ReadsAfter (head_comment doc steps text) c (new_text ss)) x.2
-        (reads doc steps text (first_break (cut_text c)) c x.0 read x.1 operand fits.2.1 (subst (λ (ss : List Segment). length (new_text ss) ≤ text_limit) (sym x.2) size))
+        (both doc steps text (first_break (cut_text c)) c x.0 read x.1 operand fits.2.1 (subst (λ (ss : List Segment). length (new_text ss) ≤ text_limit) (sym x.2) size)).0
+
+pub head_comment_local : IsLocalWay head_comment_way
+head_comment_local (replace doc steps v) c ss read h operand fits size = absurd (none-some _ h)
+head_comment_local (append doc steps key v) c ss read h operand fits size = absurd (none-some _ h)
+head_comment_local (remove doc steps) c ss read h operand fits size = absurd (none-some _ h)
+head_comment_local (line_comment doc steps text) c ss read h operand fits size = absurd (none-some _ h)
+head_comment_local (head_comment doc steps text) c ss read h operand fits size =
+    let x = segments_of (break_text (first_break (cut_text c))) text (lines_above doc steps c) ss h in
+    inl (subst (λ (ss : List Segment). IsLocalTo ss c) x.2
+    (both doc steps text (first_break (cut_text c)) c x.0 read x.1 operand fits.2.1 (subst (λ (ss : List Segment). length (new_text ss) ≤ text_limit) (sym x.2) size)).1)

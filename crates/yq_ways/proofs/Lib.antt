@@ -33,3 +33,10 @@ pub mod BreakLaws
 pub mod PrintedDocuments
 pub mod AppendServed
 pub mod CommentServed
+pub mod KeptSegments
+pub mod CarriedLaws
+pub mod OneLines
+pub mod LocalLaws
+pub mod LastRows
+pub mod GapLaws
+pub mod TouchLaws

@@ -17,7 +17,7 @@ use Rattle.yq_lines.specs.Comments.{line_comment as comment_in, head_comment as 
 use Rattle.yq_rows.specs.Exchange.{with_content}
 use Rattle.yq_rows.specs.Gap.{IsWhite, IsBreak, IsComment}
 use Rattle.yq_rows.specs.Grammar.{IsTail, IsContent, IsRow, Limit, no_rows}
-use Rattle.yq_rows.specs.Rows.{Content, Nothing, Inline, Block, Row, parent_indent, print_row, rows_text, Part, Cut, cut_text}
+use Rattle.yq_rows.specs.Rows.{Content, Nothing, Inline, Block, Row, parent_indent, print_row, rows_text, Part, Cut, cut_text, part_text}
 use Rattle.yq_rows.specs.Splices.{first_gap}
 use Rattle.yq_rows.specs.View.{content_cut, slices}
 use Rattle.yq_rows.proofs.CharacterLaws.{pairs_back}
@@ -55,14 +55,17 @@ use Rattle.yq_meaning.specs.Rooms.{room_of}
 use Rattle.yq_program.specs.declared.program.CommentPlace.TheVariants as comments
 use Rattle.yq_rows.proofs.splices.ContentPlaces.{count_front}
 use Rattle.yq_script.specs.Script.{Segment, keep, put, old_text, new_text}
-use Rattle.yq_ways.specs.CommentWays.{white_segment, line_comment_segments, line_comment_way}
+use Rattle.yq_ways.specs.CommentWays.{white_segment, line_comment_text, line_comment_segments, line_comment_way}
 use Rattle.yq_ways.specs.Done.{ArePieces}
 use Rattle.yq_ways.specs.Operands.{HasOperand}
+use Rattle.yq_ways.specs.Local.{are_kept, kept_front, kept_back, IsLocal, IsLocalTo, IsLocalWay}
 use Rattle.yq_ways.specs.Ways.{IsWay, ReadsAfter}
 use Rattle.yq_ways.proofs.CommentPieceLaws.{nothing, byte_then, line_text_is}
 use Rattle.yq_ways.proofs.CommentReadLaws.{quiet_none, comment_behind, comment_is}
 use Rattle.yq_ways.proofs.CommentRowLaws.{rows_front, IsFound, row_found, found_text, found_row, cut_is, HasRow, line_whole, end_parts, line_some, some_steps}
 use Rattle.yq_ways.proofs.DoneLaws.{document_done}
+use Rattle.yq_ways.proofs.KeptSegments.{front_round, back_round, round_puts}
+use Rattle.yq_ways.proofs.LocalLaws.{cut_known, RowsGiveWay, row_local}
 use Rattle.yq_ways.proofs.SegmentLaws.{segments_readable}
 
 -- ---- the place
@@ -100,6 +103,14 @@ white_old text e ss = go (is_empty text) (is_empty e.comment)
 
 segments_old : (text : List ℕ) (e : LineEnd) → old_text (line_comment_segments text e) ≡ e.before ++ (e.white ++ (e.comment ++ e.behind))
 segments_old text e = ap (λ l. e.before ++ l) (white_old text e _ ∙ ap (λ l. e.white ++ (e.comment ++ l)) (append-nil e.behind))
+
+white_puts : (text : List ℕ) (e : LineEnd) (w : List ℕ) → are_kept (white_segment text e ∷ (put e.comment w ∷ [])) ≡ false
+white_puts text e w = go (is_empty text) (is_empty e.comment)
+  where
+    go : (a b : Bool) → are_kept (cond a (cond b (keep e.white) (put e.white [])) (keep e.white) ∷ (put e.comment w ∷ [])) ≡ false
+    go true true = refl
+    go true false = refl
+    go false b = refl
 
 -- ---- what stands there then
 
@@ -331,9 +342,9 @@ text_segments text e b w z t = (b, go (is_empty text) (is_empty e.comment))
 
 -- ---- the law
 
-reads : (doc : ℕ) (steps : List Step) (text : List ℕ) (c : Cut) (e : LineEnd) → read_at (cut_text c) ≡ Some c → line_end doc steps c ≡ Some e → IsUtf8 text → is_comment comments.Line text ≡ true →
-    length (new_text (line_comment_segments text e)) ≤ text_limit → ReadsAfter (line_comment doc steps text) c (new_text (line_comment_segments text e))
-reads doc steps text c e read is utf8 fit size =
+both : (doc : ℕ) (steps : List Step) (text : List ℕ) (c : Cut) (e : LineEnd) → read_at (cut_text c) ≡ Some c → line_end doc steps c ≡ Some e → IsUtf8 text → is_comment comments.Line text ≡ true →
+    length (new_text (line_comment_segments text e)) ≤ text_limit → ReadsAfter (line_comment doc steps text) c (new_text (line_comment_segments text e)) × IsLocalTo (line_comment_segments text e) c
+both doc steps text c e read is utf8 fit size =
     let a : IsPlace doc steps c e = place doc steps c e is in
     let w : PlacedRow = a.w in
     let f : IsFound doc steps c w = a.found in
@@ -373,24 +384,57 @@ reads doc steps text c e read is utf8 fit size =
     (ap (λ (x : PlacedRow). x.line) f.is ∙ (a.last ∙ sym (ap (λ (x : PlacedRow). length x.row.dashes) f.is)))
     (record { rows_are = f.rows_are; fits = fits }) (count_front p.rows i r f.row) (subst IsReadable (sym text_then) readable) in
     let shapes = shape_tells p q (shapes_same front_rows r back tail p q f.rows_are rows_then) in
-    subst (ReadsAfter (line_comment doc steps text) c) text_then
-    (document_done (line_comment doc steps text) c p q (lead_of p) _ (record {
-      read = read;
+    let trail : List ℕ = h.line.break ++ (slices r).raw in
+    let middle : List Segment = white_segment text e ∷ (put e.comment (line_comment_text text e) ∷ []) in
+    let puts : are_kept middle ≡ false = white_puts text e (line_comment_text text e) in
+    let before_is : e.before ≡ (f.s.before ++ rows_text front_rows []) ++ line_text r = sym (ap (λ (x : LineEnd). x.before) end_is) in
+    let behind_is : e.behind ≡ trail ++ rows_text back (p.end ++ behind_document doc c) =
+    sym (ap (λ (x : LineEnd). x.behind) end_is) ∙ (sym (append_assoc h.line.break (slices r).raw rest) ∙ ap (λ u. trail ++ rows_text back (p.end ++ u)) (sym f.stands.behind)) in
+    let local : IsLocal (line_comment_segments text e) c new =
+    row_local (line_comment_segments text e) c doc q (record {
+      p = p;
       there = f.stands.there;
-      rows = λ none. absurd (false≢true (sym (rows_before_some front_rows (tailed tail r ∷ back) refl) ∙ (sym (ap no_rows rows_then) ∙ none)));
-      changed = changed;
-      root = ap (λ o. change steps_are.0 (within (relabel_child steps_are.1 (with_line_comment o))) (root_of p)) (new_comment_is text (slices r).tail ((slices r).raw ++ rest) h quiet.0)
-          ∙ (sym (end_is_change (λ s. relabel_child s (with_line_comment (line_of text))) steps_are.0 steps_are.1 (root_of p)) ∙ ap (λ (s : List Step). at_end (λ s. relabel_child s (with_line_comment (line_of text))) s (root_of p)) (sym steps_are.2));
-      lead_goes = same_lead_goes p q (lead_same front_rows r back tail p q f.rows_are rows_then) shapes.1;
-      block = λ x. shapes.1;
-      seats = λ x. shapes.0;
-    }))
+      start = f.s.before;
+      put = λ x. f.stands.put x ∙ ap (λ u. f.s.before ++ part_text x u) (sym f.stands.behind);
+      front = front_rows;
+      gone = r ∷ [];
+      come = tailed tail r ∷ [];
+      back = back;
+      rows_are = f.rows_are;
+      come_are = rows_then;
+      end_is = ending;
+      lead = line_text r ++ kept_front middle;
+      trail = kept_back middle ++ trail;
+      before_is = front_round e.before middle e.behind puts ∙ (ap (λ l. l ++ kept_front middle) before_is ∙ append_assoc (f.s.before ++ rows_text front_rows []) (line_text r) (kept_front middle));
+      behind_is = back_round e.before middle e.behind puts ∙ (ap (λ l. kept_back middle ++ l) behind_is ∙ sym (append_assoc (kept_back middle) trail (rows_text back (p.end ++ behind_document doc c))));
+      puts = round_puts e.before middle e.behind puts;
+      old_is = segments_old text e ∙ sym (place_text doc steps c e a);
+      new_is = sym text_then;
+    }) r (tailed tail r) refl refl in (
+      subst (ReadsAfter (line_comment doc steps text) c) text_then
+          (document_done (line_comment doc steps text) c p q (lead_of p) _ (record {
+            read = read;
+            there = f.stands.there;
+            rows = λ none. absurd (false≢true (sym (rows_before_some front_rows (tailed tail r ∷ back) refl) ∙ (sym (ap no_rows rows_then) ∙ none)));
+            changed = changed;
+            root = ap (λ o. change steps_are.0 (within (relabel_child steps_are.1 (with_line_comment o))) (root_of p)) (new_comment_is text (slices r).tail ((slices r).raw ++ rest) h quiet.0)
+                ∙ (sym (end_is_change (λ s. relabel_child s (with_line_comment (line_of text))) steps_are.0 steps_are.1 (root_of p)) ∙ ap (λ (s : List Step). at_end (λ s. relabel_child s (with_line_comment (line_of text))) s (root_of p)) (sym steps_are.2));
+            lead_goes = same_lead_goes p q (lead_same front_rows r back tail p q f.rows_are rows_then) shapes.1;
+            block = λ x. shapes.1;
+            seats = λ x. shapes.0;
+          })),
+      cut_known (line_comment_segments text e) c new changed.read text_then local,
+    )
   where
     assoc : (a b l z : List ℕ) → a ++ (b ++ (l ++ z)) ≡ ((a ++ b) ++ l) ++ z
     assoc a b l z = sym (append_assoc a b (l ++ z)) ∙ sym (append_assoc (a ++ b) l z)
 
     tail_parts : (a b d z : List ℕ) → (a ++ (b ++ d)) ++ z ≡ a ++ (b ++ (d ++ z))
     tail_parts a b d z = append_assoc a (b ++ d) z ∙ ap (λ l. a ++ l) (append_assoc b d z)
+
+reads : (doc : ℕ) (steps : List Step) (text : List ℕ) (c : Cut) (e : LineEnd) → read_at (cut_text c) ≡ Some c → line_end doc steps c ≡ Some e → IsUtf8 text → is_comment comments.Line text ≡ true →
+    length (new_text (line_comment_segments text e)) ≤ text_limit → ReadsAfter (line_comment doc steps text) c (new_text (line_comment_segments text e))
+reads doc steps text c e read is utf8 fit size = (both doc steps text c e read is utf8 fit size).0
 
 segments_of : (text : List ℕ) (o : Option LineEnd) (ss : List Segment) → option_map (line_comment_segments text) o ≡ Some ss → (e : LineEnd) × (o ≡ Some e) × (line_comment_segments text e ≡ ss)
 segments_of text o ss h = map_some o h
@@ -417,3 +461,12 @@ line_comment_is_way = record { old = olds; reads = news }
         let x = segments_of text (line_end doc steps c) ss h in
         subst (λ (ss : List Segment). ReadsAfter (line_comment doc steps text) c (new_text ss)) x.2
         (reads doc steps text c x.0 read x.1 operand fits.2.1 (subst (λ (ss : List Segment). length (new_text ss) ≤ text_limit) (sym x.2) size))
+
+pub line_comment_local : IsLocalWay line_comment_way
+line_comment_local (replace doc steps v) c ss read h operand fits size = absurd (none-some _ h)
+line_comment_local (append doc steps key v) c ss read h operand fits size = absurd (none-some _ h)
+line_comment_local (remove doc steps) c ss read h operand fits size = absurd (none-some _ h)
+line_comment_local (head_comment doc steps text) c ss read h operand fits size = absurd (none-some _ h)
+line_comment_local (line_comment doc steps text) c ss read h operand fits size =
+    let x = segments_of text (line_end doc steps c) ss h in
+    inl (subst (λ (ss : List Segment). IsLocalTo ss c) x.2 (both doc steps text c x.0 read x.1 operand fits.2.1 (subst (λ (ss : List Segment). length (new_text ss) ≤ text_limit) (sym x.2) size)).1)

@@ -1,6 +1,6 @@
 -- One of several items or entries taken out of a text, by its segments.
-use Rattle.std.proofs.Common.{◌≡◌, ℕ, zero, suc, ◌-◌, ◌≤◌, Bool, true, false, cond, List, [], ◌∷◌, ◌++◌, length, take, map, replicate, Option, Some, None, refl, sym, ap, ◌∙◌, subst, append_assoc, append-nil}
-use Rattle.std.proofs.lemmas.List.{take-append-drop}
+use Rattle.std.proofs.Common.{inl, arith, ◌≡◌, ℕ, zero, suc, ◌-◌, ◌≤◌, Bool, true, false, cond, List, [], ◌∷◌, ◌++◌, length, take, map, replicate, Option, Some, None, refl, sym, ap, ◌∙◌, subst, append_assoc, append-nil}
+use Rattle.std.proofs.lemmas.List.{take-append-drop, length-append}
 use Rattle.std.proofs.lemmas.Option.{none-some, same_Some}
 use Rattle.std.specs.List.{slice_get}
 use Rattle.yq_scalar.specs.Answers.{◌>>=◌}
@@ -14,16 +14,21 @@ use Rattle.yq_scalar.specs.Tree.{Node}
 use Rattle.yq_scalar.proofs.Bools.{bind_some, guard_then}
 use Rattle.yq_scalar.proofs.LineLaws.{joined_lines}
 use Rattle.yq_scalar.specs.Anchors.{names_of}
-use Rattle.yq_rows.specs.Rows.{Part, Cut, cut_text}
+use Rattle.yq_rows.specs.Rows.{Row, print_row, behind_gap, rows_text, Part, Cut, cut_text}
+use Rattle.yq_rows.specs.Splices.{first_gap}
 use Rattle.yq_documents.specs.Documents.{Document, document_parts, lead_of}
 use Rattle.yq_documents.specs.Reading as reading
 use Rattle.yq_documents.specs.Reading.{documents, read_at, root_of}
-use Rattle.yq_tree.specs.RemovalPlaces.{Seam, Removal, removal_place, has_several, has_others, has_others_at}
+use Rattle.yq_tree.specs.RemovalPlaces.{kept_gap, Seam, Removal, removal_place, has_several, has_others, has_others_at}
 use Rattle.yq_documents.specs.TreeEdits.{at_end}
 use Rattle.yq_change.specs.Conditions.{AreSpared}
 use Rattle.yq_change.specs.RemovalChanges.{mended, MayTakeOut, IsTakenOut}
 use Rattle.yq_change.proofs.LeadLaws.{block_lead_goes}
-use Rattle.yq_change.proofs.RemovalChangeLaws.{removal_stands, entry_taken_out}
+use Rattle.yq_change.proofs.RemovalChangeLaws.{AreRowsTaken, removal_stands, entry_taken}
+use Rattle.yq_change.specs.Changed.{put_document}
+use Rattle.yq_change.specs.Removes.{left_gap, without}
+use Rattle.yq_documents.specs.Pieces.{before_run, last_run}
+use Rattle.yq_documents.proofs.RunLaws.{run_split}
 use Rattle.yq_meaning.specs.Fits.{Fits}
 use Rattle.yq_meaning.specs.Operations.{Operation, replace, append, remove, line_comment, head_comment}
 use Rattle.yq_meaning.specs.Rooms.{room_of}
@@ -31,7 +36,11 @@ use Rattle.yq_script.specs.Script.{Segment, keep, put, old_text, new_text}
 use Rattle.yq_ways.specs.Done.{IsDone}
 use Rattle.yq_ways.specs.Operands.{HasOperand}
 use Rattle.yq_ways.specs.Removing.{indented, lines_mended, gap_mended, removed, removed_at, remove_way}
+use Rattle.yq_ways.specs.Local.{kept_back, IsLocal, IsLocalTo, IsLocalWay}
 use Rattle.yq_ways.specs.Ways.{ReadsAfter, IsWay}
+use Rattle.yq_ways.proofs.KeptSegments.{IsBehind, behind, back_last}
+use Rattle.yq_ways.proofs.GapLaws.{RowsGoOut, out_local}
+use Rattle.yq_ways.proofs.LocalLaws.{at_row, last_within, cut_known}
 use Rattle.yq_ways.proofs.DoneLaws.{document_done}
 use Rattle.yq_ways.proofs.FitLaws.{not_used}
 
@@ -154,13 +163,53 @@ taken_reads doc steps c t read out =
     } in
     subst (ReadsAfter (remove doc steps) c) out.text (document_done (remove doc steps) c out.old out.new (lead_of out.new) (at_end remove_child steps) done)
 
-reads_after : (doc : ℕ) (steps : List Step) (c : Cut) (ss : List Segment) → read_at (cut_text c) ≡ Some c → IsRemoval doc steps c ss → Fits (room_of (cut_text c)) (remove doc steps) (documents c) →
-    length (new_text ss) ≤ text_limit → ReadsAfter (remove doc steps) c (new_text ss)
-reads_after doc steps c ss read h fits size =
+-- ---- the items that go
+
+shown_gap : (rs : List Row) (end : List ℕ) (first : Row) (others : List Row) → rs ≡ first ∷ others → length (kept_gap rs end) ≤ length (print_row first [])
+shown_gap rs end first others e =
+    let parts : joined (before_run (lines_of first.gap)) ++ joined (last_run (lines_of first.gap)) ≡ first.gap = run_split (lines_of first.gap) ∙ joined_lines first.gap in
+    let kept : length (kept_gap rs end) ≡ length (joined (before_run (lines_of first.gap))) = ap (λ (xs : List Row). length (kept_gap xs end)) e in
+    omega (arith, kept, length-append (joined (before_run (lines_of first.gap))) (joined (last_run (lines_of first.gap))), ap length parts, length-append first.gap (behind_gap first []))
+
+taken_local : (doc : ℕ) (steps : List Step) (c : Cut) (x : Removal) → old_text (removed x) ≡ cut_text c → (out : IsTakenOut c doc steps (x.before ++ (mended x.seam x.gap ++ x.behind))) → AreRowsTaken c doc x out.old out.new →
+    IsLocalTo (removed x) c
+taken_local doc steps c x old out a =
+    let p : Part = out.old in
+    let own : List Row = a.first ∷ a.others in
+    let kept : List ℕ = kept_gap own p.end in
+    let m : IsBehind (gap_mended x.seam x.gap) = behind (gap_mended x.seam x.gap) in
+    let u : List ℕ = kept_back (gap_mended x.seam x.gap) in
+    let new : cut_text (put_document doc (without a.front own a.back p) c) ≡ new_text (removed x) = ap (λ (q : Part). cut_text (put_document doc q c)) (sym a.new_is) ∙ (out.text ∙ sym (removed_new x)) in
+    let local : IsLocal (removed x) c (put_document doc (without a.front own a.back p) c) =
+    out_local (removed x) c doc p (record {
+      there = out.there;
+      start = a.start;
+      put = a.put;
+      front = a.front;
+      first = a.first;
+      others = a.others;
+      back = a.back;
+      gap = left_gap a.front own a.back p;
+      rows_are = a.rows_are;
+      lead = kept;
+      end' = u;
+      before_is = append-nil x.before ∙ (a.before_is ∙ at_row a.start a.front kept);
+      behind_is = back_last (gap_mended x.seam x.gap) x.behind ∙ ap (λ t. u ++ t) a.behind_is;
+      begins = shown_gap own p.end a.first a.others refl;
+      ends = last_within (first_gap a.back p.end) m.old u (sym a.gap_is ∙ (sym (gap_old x.seam x.gap) ∙ m.old_is));
+      puts = refl;
+      old_is = old;
+      new_is = sym new;
+    }) in
+    cut_known (removed x) c (put_document doc out.new c) out.changed.read (out.text ∙ sym (removed_new x)) (subst (λ (q : Part). IsLocal (removed x) c (put_document doc q c)) (sym a.new_is) local)
+
+reads_both : (doc : ℕ) (steps : List Step) (c : Cut) (ss : List Segment) → read_at (cut_text c) ≡ Some c → IsRemoval doc steps c ss → Fits (room_of (cut_text c)) (remove doc steps) (documents c) →
+    length (new_text ss) ≤ text_limit → ReadsAfter (remove doc steps) c (new_text ss) × IsLocalTo ss c
+reads_both doc steps c ss read h fits size =
     let x : Removal = h.x in
     let new : new_text ss ≡ x.before ++ (mended x.seam x.gap ++ x.behind) = ap new_text (sym h.are) ∙ removed_new x in
-    let out = entry_taken_out c doc steps x read h.place (may_take doc steps c h.others fits) (subst (λ (t : List ℕ). length t ≤ text_limit) new size) in
-    subst (ReadsAfter (remove doc steps) c) (sym new) (taken_reads doc steps c (x.before ++ (mended x.seam x.gap ++ x.behind)) read out)
+    let both = entry_taken c doc steps x read h.place (may_take doc steps c h.others fits) (subst (λ (t : List ℕ). length t ≤ text_limit) new size) in
+    (subst (ReadsAfter (remove doc steps) c) (sym new) (taken_reads doc steps c (x.before ++ (mended x.seam x.gap ++ x.behind)) read both.0), subst (λ (zs : List Segment). IsLocalTo zs c) h.are (taken_local doc steps c x (removed_old x ∙ sym (removal_stands c doc steps x read h.place)) both.0 both.1))
 
 pub remove_is_way : IsWay remove_way
 remove_is_way = record {
@@ -180,6 +229,13 @@ remove_is_way = record {
         length (new_text ss) ≤ text_limit → ReadsAfter op c (new_text ss)
     reads (replace doc steps v) c ss read e holds fits size = absurd (none-some _ e)
     reads (append doc steps key v) c ss read e holds fits size = absurd (none-some _ e)
-    reads (remove doc steps) c ss read e holds fits size = reads_after doc steps c ss read (removal_is doc steps c ss e) fits size
+    reads (remove doc steps) c ss read e holds fits size = (reads_both doc steps c ss read (removal_is doc steps c ss e) fits size).0
     reads (line_comment doc steps text) c ss read e holds fits size = absurd (none-some _ e)
     reads (head_comment doc steps text) c ss read e holds fits size = absurd (none-some _ e)
+
+pub remove_local : IsLocalWay remove_way
+remove_local (replace doc steps v) c ss read e holds fits size = absurd (none-some _ e)
+remove_local (append doc steps key v) c ss read e holds fits size = absurd (none-some _ e)
+remove_local (remove doc steps) c ss read e holds fits size = inl (reads_both doc steps c ss read (removal_is doc steps c ss e) fits size).1
+remove_local (line_comment doc steps text) c ss read e holds fits size = absurd (none-some _ e)
+remove_local (head_comment doc steps text) c ss read e holds fits size = absurd (none-some _ e)

@@ -1,0 +1,64 @@
+-- A cut as a list: its rows and the ends of its parts, one behind the other.
+use Rattle.std.specs.Prelude.{◌≡◌, ◌⊎◌, ℕ, Bool, true, List, [], ◌∷◌, ◌++◌}
+use Rattle.yq_rows.specs.Gap.{IsGap}
+use Rattle.yq_rows.specs.Grammar.{IsRow, Limit, unlimited, limit_after, begins_document, IsMarkerLine}
+use Rattle.yq_rows.specs.Rows.{Row, print_row, Cut, last, marked}
+
+-- a row, or the end of a part (YAML 1.2.2, section 9.1; own)
+pub data Item : Type 0 where
+  row_item : Row → Item
+  end_item : (gap marker : List ℕ) → Item
+
+-- rows before other items (own)
+abbrev pub rows_items : List Row → List Item → List Item
+rows_items [] xs = xs
+rows_items (r ∷ rs) xs = row_item r ∷ rows_items rs xs
+
+-- the rows and ends of a cut in order; the last one is the end of the last part (own)
+abbrev pub items_of : Cut → List Item
+items_of (last p) = rows_items p.rows (end_item p.end [] ∷ [])
+items_of (marked p marker c) = rows_items p.rows (end_item p.end marker ∷ items_of c)
+
+-- the text of items, before a rest (own)
+abbrev pub items_text : List Item → List ℕ → List ℕ
+items_text [] rest = rest
+items_text (row_item r ∷ xs) rest = print_row r (items_text xs rest)
+items_text (end_item gap marker ∷ xs) rest = gap ++ (marker ++ items_text xs rest)
+
+-- the first item of rows and of the end behind them (own)
+abbrev pub first_item : List Row → (gap marker : List ℕ) → Item
+first_item [] gap marker = end_item gap marker
+first_item (r ∷ rs) gap marker = row_item r
+
+-- What items in front ask of the next one: where a row may stand, and whether one may, since a document is open (YAML 1.2.2, section 9.1.3; own).
+pub record Asked : Type 0 where
+  pub limit : Limit
+  pub started : Bool
+
+-- what is asked of the first item of a text: nothing (own)
+abbrev pub nothing_asked : Asked
+nothing_asked = record { limit = unlimited; started = true }
+
+-- what is asked behind an item of which that was asked (own)
+abbrev pub asked_by : Asked → Item → Asked
+asked_by asked (row_item r) = record { limit = limit_after r; started = asked.started }
+asked_by asked (end_item gap marker) = record { limit = unlimited; started = begins_document marker }
+
+-- the same of several items (own)
+abbrev pub asked_of : Asked → List Item → Asked
+asked_of asked [] = asked
+asked_of asked (x ∷ xs) = asked_of (asked_by asked x) xs
+
+-- What stands behind the gap of a part's end: the line of a marker, or nothing, at the end of the text (YAML 1.2.2, section 9.1).
+abbrev pub IsPartEnd : List ℕ → List Item → List ℕ → Type 0
+IsPartEnd marker xs rest = IsMarkerLine marker (items_text xs rest) ⊎ ((marker ≡ []) × (xs ≡ []) × (rest ≡ []))
+
+-- an item before others and a rest, where that is asked of it (own)
+abbrev pub IsItem : Asked → Item → List Item → List ℕ → Type 0
+IsItem asked (row_item r) xs rest = (asked.started ≡ true) × IsRow asked.limit r (items_text xs rest)
+IsItem asked (end_item gap marker) xs rest = IsGap gap (marker ++ items_text xs rest) × IsPartEnd marker xs rest
+
+-- items one behind the other, before a rest (own)
+abbrev pub AreItems : Asked → List Item → List ℕ → Type 0
+AreItems asked [] rest = Unit {0}
+AreItems asked (x ∷ xs) rest = IsItem asked x xs rest × AreItems (asked_by asked x) xs rest

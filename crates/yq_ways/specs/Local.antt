@@ -1,0 +1,100 @@
+-- Which rows and ends of parts of a text an operation exchanges: those that it touches (own).
+use Rattle.std.specs.Prelude.{◌≡◌, ◌⊎◌, ℕ, ◌≤◌, ◌-◌, nat_lt, Bool, true, false, List, [], ◌∷◌, ◌++◌, length, Some, if◌then◌else◌}
+use Rattle.yq_scalar.specs.Characters.{text_limit}
+use Rattle.yq_change.specs.Items.{Item, row_item, end_item, items_of, items_text}
+use Rattle.yq_rows.specs.Rows.{print_row, Cut, cut_text}
+use Rattle.yq_documents.specs.Reading.{documents, read_at}
+use Rattle.yq_meaning.specs.Fits.{Fits}
+use Rattle.yq_meaning.specs.Operations.{Operation}
+use Rattle.yq_meaning.specs.Rooms.{room_of}
+use Rattle.yq_script.specs.Script.{Segment, keep, put, new_text, AllStay}
+use Rattle.yq_ways.specs.Operands.{HasOperand}
+use Rattle.yq_ways.specs.Ways.{Way, or_else}
+
+-- whether segments are all kept ones (own)
+abbrev pub are_kept : List Segment → Bool
+are_kept [] = true
+are_kept (keep t ∷ ss) = are_kept ss
+are_kept (put o w ∷ ss) = false
+
+-- the text of the kept segments in front of the first one that gives way (own)
+abbrev pub kept_front : List Segment → List ℕ
+kept_front [] = []
+kept_front (keep t ∷ ss) = t ++ kept_front ss
+kept_front (put o w ∷ ss) = []
+
+-- the text of the kept segments behind the last one that gives way (own)
+abbrev pub kept_back : List Segment → List ℕ
+kept_back [] = []
+kept_back (keep t ∷ ss) = if are_kept ss then t ++ kept_back ss else kept_back ss
+kept_back (put o w ∷ ss) = kept_back ss
+
+-- the text of an item (own)
+abbrev pub item_text : Item → List ℕ
+item_text (row_item r) = print_row r []
+item_text (end_item gap marker) = gap ++ marker
+
+-- these bytes lie in the first of items, from its beginning on (own)
+abbrev pub InFirst : List ℕ → List Item → Type 0
+InFirst lead [] = lead ≡ []
+InFirst lead (i ∷ is) = length lead ≤ length (item_text i)
+
+-- these bytes lie in the last of items, up to its end (own)
+abbrev pub InLast : List ℕ → List Item → Type 0
+InLast trail [] = trail ≡ []
+InLast trail (i ∷ []) = length trail ≤ length (item_text i)
+InLast trail (i ∷ (j ∷ is)) = InLast trail (j ∷ is)
+
+-- Segments of the text of a cut exchange items between those in front and those behind, which stay: what is kept in front ends in the first item that
+-- goes, or comes, or at its edge, and what is kept behind begins in the last one, or at its edge (own).
+pub record IsLocal (ss : List Segment) (c new : Cut) : Type 0 where
+  pub front : List Item
+  pub gone : List Item
+  pub come : List Item
+  pub back : List Item
+  pub lead : List ℕ
+  pub trail : List ℕ
+  pub old_are : items_of c ≡ front ++ (gone ++ back)
+  pub new_are : items_of new ≡ front ++ (come ++ back)
+  pub before_is : kept_front ss ≡ items_text front lead
+  pub behind_is : kept_back ss ≡ trail ++ items_text back []
+  pub begins : InFirst lead gone × InFirst lead come
+  pub ends : InLast trail gone × InLast trail come
+
+-- Segments exchange items so in the cut of the text that they make, if that has one (own).
+abbrev pub IsLocalTo : List Segment → Cut → Type 0
+IsLocalTo ss c = (new : Cut) → read_at (new_text ss) ≡ Some new → IsLocal ss c new
+
+-- A way is local: what it makes of a text is cut as that is, but for the items that it touches; or all bytes stay (own).
+abbrev pub IsLocalWay : Way → Type 0
+IsLocalWay way =
+    (op : Operation) (c : Cut) (ss : List Segment) → read_at (cut_text c) ≡ Some c → way op c ≡ Some ss →
+    HasOperand op → Fits (room_of (cut_text c)) op (documents c) → length (new_text ss) ≤ text_limit → IsLocalTo ss c ⊎ AllStay ss
+
+-- The first of two local ways that is one for an operation is local (own).
+abbrev pub LocalJoined : Type 0
+LocalJoined = (f g : Way) → IsLocalWay f → IsLocalWay g → IsLocalWay (or_else f g)
+
+-- the items that end in front of an offset of their text (own)
+abbrev pub in_front : ℕ → List Item → List Item
+in_front n [] = []
+in_front n (i ∷ is) = if nat_lt (length (item_text i)) n then i ∷ in_front (n - length (item_text i)) is else []
+
+-- the items that begin behind the place that is so many bytes in front of the end of their text (own)
+abbrev pub in_back : ℕ → List Item → List Item
+in_back n [] = []
+in_back n (i ∷ is) = if nat_lt (length (items_text (i ∷ is) [])) n then i ∷ is else in_back n is
+
+-- Segments exchange the items of a cut that they touch, and no others: those that neither end in front of the end of what is kept in front, nor begin
+-- behind the beginning of what is kept behind; the other ones are those of the new cut that do so (own).
+pub record TouchesOnly (ss : List Segment) (c new : Cut) : Type 0 where
+  pub touched : List Item
+  pub written : List Item
+  pub old_are : items_of c ≡ in_front (length (kept_front ss)) (items_of c) ++ (touched ++ in_back (length (kept_back ss)) (items_of c))
+  pub new_are : items_of new ≡ in_front (length (kept_front ss)) (items_of c) ++ (written ++ in_back (length (kept_back ss)) (items_of c))
+  pub front_same : in_front (length (kept_front ss)) (items_of new) ≡ in_front (length (kept_front ss)) (items_of c)
+  pub back_same : in_back (length (kept_back ss)) (items_of new) ≡ in_back (length (kept_back ss)) (items_of c)
+
+-- Segments that are local touch only what they exchange (own).
+abbrev pub LocalTouches : Type 0
+LocalTouches = (ss : List Segment) (c new : Cut) → IsLocal ss c new → TouchesOnly ss c new
