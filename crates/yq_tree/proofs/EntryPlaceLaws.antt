@@ -1,5 +1,5 @@
 -- The places of entries and of their contents, line by line.
-use Rattle.std.proofs.Common.{◌≡◌, ℕ, zero, suc, ◌+◌, ◌-◌, ◌<◌, ◌≤◌, eqb, ltb, List, [], ◌∷◌, ◌++◌, length, drop, Option, Some, None, option_map, option_and_then, Bool, true, false, cond, not, ◌||◌, refl, sym, ap, ◌∙◌, subst, arith}
+use Rattle.std.proofs.Common.{◌≡◌, ℕ, suc, ◌+◌, ◌-◌, ◌<◌, ◌≤◌, eqb, ltb, List, [], ◌∷◌, ◌++◌, length, drop, Option, Some, None, option_map, option_and_then, Bool, true, false, cond, refl, sym, ap, ◌∙◌, subst, arith}
 use Rattle.std.proofs.lemmas.Bool.{ltb-false, eq-eqb, ne_eqb, cond-true, cond-false, false≢true}
 use Rattle.std.proofs.lemmas.List.{length-map}
 use Rattle.std.proofs.lemmas.Option.{slice_get_within, slice_get-map, same_Some}
@@ -23,7 +23,7 @@ use Rattle.yq_lines.specs.Outline.{Line}
 use Rattle.yq_documents.specs.PartReading.{Lined, lined, document_view}
 use Rattle.yq_documents.specs.Reading.{cut_of}
 use Rattle.yq_tree.specs.SeatReading.{Numbers, numbers}
-use Rattle.yq_documents.specs.Seats.{Seat, behind_one, seat, seat_of, document_row}
+use Rattle.yq_documents.specs.Seats.{Seat, behind_one, seat, document_row}
 use Rattle.yq_lines.specs.Ends.{reached, lines_end}
 use Rattle.yq_documents.specs.SoundReading.{Holds}
 use Rattle.yq_lines.specs.Spots.{is_bare}

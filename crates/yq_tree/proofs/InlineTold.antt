@@ -1,5 +1,5 @@
 -- What the code is told of the extents of inline nodes.
-use Rattle.std.proofs.Common.{◌≡◌, ℕ, ◌+◌, eqb, List, [], ◌∷◌, ◌++◌, length, drop, Option, Some, None, option_map, Bool, true, false, refl, sym, ap, ◌∙◌, arith}
+use Rattle.std.proofs.Common.{◌≡◌, ℕ, eqb, List, [], ◌∷◌, length, Option, Some, None, option_map, Bool, true, false, refl, sym, ap, ◌∙◌, arith}
 use Rattle.std.proofs.lemmas.Bool.{false≢true, eq-eqb, eqb-true}
 use Rattle.std.proofs.lemmas.Option.{slice_get-map, none-some, same_Some}
 use Rattle.std.specs.List.{slice_get}
@@ -11,13 +11,13 @@ use Rattle.yq_rows.specs.Seams.{is_block}
 use Rattle.yq_rows.specs.View.{Slices, slices, rows_of, Shown, shown}
 use Rattle.yq_lines.specs.Ends.{reached}
 use Rattle.yq_tree.specs.Extents.{head_place}
-use Rattle.yq_tree.specs.InlineReading.{InlineExtent, content_extent, row_extent, entry_extent, extent_from, extent_in}
+use Rattle.yq_tree.specs.InlineReading.{content_extent, row_extent, entry_extent, extent_from, extent_in}
 use Rattle.yq_documents.specs.Lines.{lines_of}
 use Rattle.yq_documents.specs.RowReading.{begins_block}
 use Rattle.yq_tree.proofs.HeadEnds.{block_told}
 
 -- the pieces of a row that is shown
-slices_are : (c : Cut) (s : Shown) (i : ℕ) (x : Slices) (r : Row) → s ≡ shown c → slice_get s.rows i ≡ Some x → slice_get (rows_of c) i ≡ Some r → x ≡ slices r
+pub slices_are : (c : Cut) (s : Shown) (i : ℕ) (x : Slices) (r : Row) → s ≡ shown c → slice_get s.rows i ≡ Some x → slice_get (rows_of c) i ≡ Some r → x ≡ slices r
 slices_are c s i x r is there row = same_Some _ _ (sym there ∙ (ap (λ (y : Shown). slice_get y.rows i) is ∙ (slice_get-map slices (rows_of c) i ∙ ap (option_map slices) row)))
 
 -- a block scalar has none

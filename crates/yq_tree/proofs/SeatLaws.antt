@@ -1,7 +1,7 @@
 -- Which line of which row a line is, by the pieces of rows, and where the rows of a document begin.
-use Rattle.std.proofs.Common.{◌≡◌, ℕ, zero, suc, ◌+◌, ◌-◌, ◌<◌, ◌≤◌, ltb, eqb, List, [], ◌∷◌, ◌++◌, length, map, drop, Option, Some, None, option_map, Bool, true, false, cond, not, ◌||◌, ◌&&◌, refl, sym, ap, ◌∙◌, subst, arith, append-nil, length-append}
+use Rattle.std.proofs.Common.{◌≡◌, ℕ, zero, suc, ◌+◌, ◌-◌, ◌<◌, ◌≤◌, ltb, List, [], ◌∷◌, ◌++◌, length, map, drop, Option, Some, None, option_map, Bool, true, false, cond, not, ◌||◌, refl, sym, ap, ◌∙◌, subst, arith, append-nil, length-append}
 use Rattle.std.proofs.Math.Seq.{drop-append-add}
-use Rattle.std.proofs.lemmas.Bool.{lt-ltb, le-ltb, eq-eqb, eqb-true, ltb-true, cond-true, cond-false, false≢true}
+use Rattle.std.proofs.lemmas.Bool.{lt-ltb, le-ltb, ltb-true, cond-true, cond-false}
 use Rattle.std.proofs.lemmas.List.{drop-map}
 use Rattle.std.proofs.lemmas.Option.{same_Some}
 use mathlib.Core.List.{tail-eq_of_cons-eq}
@@ -18,11 +18,9 @@ use Rattle.yq_tree.specs.Extents.{lines_before_mark}
 use Rattle.yq_documents.specs.Lines.{row_lines, lines_of}
 use Rattle.yq_lines.specs.Outline.{Line}
 use Rattle.yq_documents.specs.PartReading.{lined, document_view}
-use Rattle.yq_documents.specs.Reading.{cut_of}
 use Rattle.yq_lines.specs.Ends.{line_of}
 use Rattle.yq_tree.specs.SeatReading.{Numbers, behind, slices_seat, numbers}
 use Rattle.yq_documents.specs.Seats.{Seat, behind_one, seat, seat_of, rows_before, document_row, line_has_room, seat_has_room}
-use Rattle.yq_documents.specs.SoundReading.{Holds}
 use Rattle.yq_tree.proofs.CountLaws.{AreCounted, cut_counted}
 use Rattle.yq_lines.proofs.Parts.{drop_at}
 use Rattle.yq_documents.specs.declared.checks.DocumentLines.{DocumentLines}

@@ -1,22 +1,22 @@
 -- The rows of documents among those of a text.
-use Rattle.std.proofs.Common.{◌≡◌, ℕ, zero, suc, ◌+◌, ◌-◌, ◌<◌, ◌≤◌, eqb, ltb, List, [], ◌∷◌, ◌++◌, length, map, take, drop, Option, Some, None, option_map, Bool, true, false, cond, ◌&&◌, ◌||◌, not, refl, sym, ap, ◌∙◌, subst, arith, length-append}
+use Rattle.std.proofs.Common.{◌≡◌, ℕ, zero, suc, ◌+◌, ◌-◌, ◌<◌, ◌≤◌, eqb, List, [], ◌∷◌, ◌++◌, length, map, take, drop, Option, Some, None, option_map, Bool, true, false, cond, ◌&&◌, ◌||◌, not, refl, sym, ap, ◌∙◌, subst, arith, length-append}
 use Rattle.std.proofs.lemmas.Bool.{eq-eqb, eqb-true, lt-ltb, le-ltb, cond-true, cond-false, false≢true}
 use Rattle.std.proofs.lemmas.List.{drop-map, length-map, length-drop, take_at, map-append}
-use Rattle.std.proofs.lemmas.Option.{same_Some, slice_get_within}
+use Rattle.std.proofs.lemmas.Option.{same_Some}
 use Rattle.std.specs.List.{slice_get}
 use Rattle.yq_lines.specs.Comments as comments
 use Rattle.yq_scalar.specs.Answers.{◌>>=◌}
 use Rattle.yq_scalar.specs.Paths.{Step}
 use Rattle.yq_lines.specs.Ends.{line_of}
-use Rattle.yq_rows.specs.Grammar.{IsCut, Limit, unlimited, AreRows, AreParts, begins_document}
+use Rattle.yq_rows.specs.Grammar.{IsCut, unlimited, AreRows, AreParts, begins_document}
 use Rattle.yq_rows.specs.Rows.{Row, Part, Cut, last, marked, cut_text}
-use Rattle.yq_rows.specs.View.{Slices, slices, Bound, bounds_from, rows_of, Shown, shown}
+use Rattle.yq_rows.specs.View.{slices, Bound, bounds_from, rows_of, Shown, shown}
 use Rattle.yq_documents.specs.Documents.{parts_from, document_parts, begins_bare, has_begin}
 use Rattle.yq_documents.specs.Lines.{row_lines, lines_of}
 use Rattle.yq_documents.specs.PartReading.{some_begin, first_rows}
 use Rattle.yq_documents.proofs.PartsLinedLaws.{document_is}
 use Rattle.yq_documents.proofs.RowFlowLaws.{lines_count}
-use Rattle.yq_documents.specs.Seats.{Seat, behind_one, seat, seat_of, seat_at, rows_before, document_row}
+use Rattle.yq_documents.specs.Seats.{behind_one, seat, seat_of, seat_at, rows_before, document_row}
 use Rattle.yq_documents.specs.declared.path.Path.{Path}
 use Rattle.yq_documents.specs.Located.{steps_of}
 use Rattle.yq_tree.specs.RowWalk.{HasDocument, InCut, stretch_told, begin_rows, document_rows}
@@ -140,7 +140,7 @@ found_document t s c n d cut is e = go (slice_get (document_parts c) n) refl e
         record { part = p; there = at; first = ap (λ (y : ℕ × ℕ). y.0) same; document = x.0; rows = x.1 }
 
 -- its rows stand among those of the cut
-found_in_cut : (t : List ℕ) (s : Shown) (c : Cut) (n : ℕ) (d : Stretch) → IsCut t c → s ≡ shown c → (f : Found s c n d) → (k : InCut s d c) × (k.document.rows ≡ f.part.rows)
+pub found_in_cut : (t : List ℕ) (s : Shown) (c : Cut) (n : ℕ) (d : Stretch) → IsCut t c → s ≡ shown c → (f : Found s c n d) → (k : InCut s d c) × (k.document.rows ≡ f.part.rows)
 found_in_cut t s c n d cut is f =
     let b = part_begins c n f.part f.there in (
       record {

@@ -1,5 +1,5 @@
 -- What stands under a line or a document, and in which row of a cut a line is.
-use Rattle.std.proofs.Common.{◌≡◌, ◌⊎◌, inl, inr, ℕ, suc, ◌+◌, ◌-◌, ◌<◌, ◌≤◌, ltb, eqb, Bool, true, false, not, cond, ◌||◌, List, [], ◌∷◌, ◌++◌, length, drop, get_or, Option, Some, None, option_map, option_and_then, refl, sym, ap, ◌∙◌, arith}
+use Rattle.std.proofs.Common.{◌≡◌, ◌⊎◌, inl, inr, ℕ, suc, ◌+◌, ◌-◌, ◌<◌, ◌≤◌, ltb, eqb, Bool, true, false, cond, ◌||◌, List, [], ◌∷◌, length, drop, get_or, Option, Some, None, option_map, option_and_then, refl, sym, ap, ◌∙◌, arith}
 use Rattle.std.proofs.lemmas.Bool.{cases_Bool, cases_lt, eq-eqb, ne_eqb, eqb-true, eqb-false, lt-ltb, le-ltb, cond-true, cond-false}
 use Rattle.std.proofs.lemmas.List.{drop_all}
 use Rattle.std.proofs.lemmas.Option.{slice_get_cases, slice_get_within}
@@ -17,9 +17,8 @@ use Rattle.yq_lines.proofs.LinesLaws.{part-all}
 use Rattle.yq_lines.proofs.Parts.{drop_at, part_row, part_stop}
 use Rattle.yq_rows.specs.Rows.{Row, Cut}
 use Rattle.yq_rows.specs.View.{rows_of, Shown}
-use Rattle.yq_documents.specs.Lines.{lines_of}
 use Rattle.yq_documents.specs.Seats.{Seat, seat}
-use Rattle.yq_tree.specs.RowWalk.{HasDocument, InCut, IsLine, line_number}
+use Rattle.yq_tree.specs.RowWalk.{InCut, IsLine, line_number}
 use Rattle.yq_tree.specs.declared.places.spot.Spot.{Spot}
 use Rattle.yq_tree.specs.declared.places.spot.Stretch.{Stretch}
 use Rattle.yq_tree.proofs.EntryPlaceLaws.{row_there}
@@ -137,7 +136,7 @@ module _ (s : Shown) (d : Stretch) (c : Cut) (k : InCut s d c) (q : Spot) (at : 
   pub seat_is : seat (line_number d k.document.rows q) k.document.rows ≡ Some (record { before = q.row - d.first; row = row_is; line = q.line })
   seat_is = let l = located s d k.document q at in seat_number k.document.rows (q.row - d.first) q.line l.row l.there l.within
 
-  before_is : d.first + (q.row - d.first) ≡ q.row
+  pub before_is : d.first + (q.row - d.first) ≡ q.row
   before_is = omega (arith, at.from)
 
   pub row_in_cut : slice_get (rows_of c) q.row ≡ Some row_is

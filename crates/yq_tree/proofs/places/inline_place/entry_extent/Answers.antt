@@ -1,12 +1,10 @@
-use Rattle.std.proofs.Common.{◌≡◌, ◌||◌, ◌+◌, cond, eqb, suc, true, false, Bool, List, Option, ℕ, sym, ap, ◌∙◌, arith}
-use Rattle.std.specs.Prelude.{is_some}
+use Rattle.std.proofs.Common.{◌≡◌, ◌+◌, suc, true, false, ℕ, sym, ap, ◌∙◌, arith}
 use Rattle.yq_documents.specs.Lines.{lines_of}
 use Rattle.yq_lines.specs.Ends.{is_end, part, lines_end}
-use Rattle.yq_lines.specs.Outline.{Line, level}
+use Rattle.yq_lines.specs.Outline.{level}
 use Rattle.yq_lines.proofs.EndsLaws.{is_at_end, not_end}
 use Rattle.yq_rows.specs.View.{slices}
-use Rattle.yq_scalar.specs.Answers.{◌>>=◌}
-use Rattle.yq_tree.specs.InlineReading.{line_extent, lines_extent, row_extent}
+use Rattle.yq_tree.specs.InlineReading.{lines_extent, row_extent}
 use Rattle.yq_tree.specs.RowWalk.{line_number}
 use Rattle.yq_tree.proofs.WalkNodes.{ends_here, ends_under, row_told, with_head, without_lines, with_lines}
 use Rattle.yq_tree.proofs.WalkSpots.{located}

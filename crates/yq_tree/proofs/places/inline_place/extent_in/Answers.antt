@@ -1,9 +1,8 @@
-use Rattle.std.proofs.Common.{◌≡◌, eqb, length, map, ℕ, [], List, sym, ap, ◌∙◌}
+use Rattle.std.proofs.Common.{◌≡◌, eqb, length, map, ℕ, [], sym, ap, ◌∙◌}
 use Rattle.std.proofs.lemmas.List.{length-map}
 use Rattle.yq_documents.specs.Lines.{lines_of}
 use Rattle.yq_inline.specs.Entries.{step_of}
 use Rattle.yq_lines.specs.Ends.{is_end, part}
-use Rattle.yq_scalar.specs.Paths.{Step}
 use Rattle.yq_tree.specs.InlineReading.{extent_in, lines_extent}
 use Rattle.yq_tree.specs.RowWalk.{line_number}
 use Rattle.yq_tree.proofs.InlineTold.{steps_left, no_steps_left, no_place}

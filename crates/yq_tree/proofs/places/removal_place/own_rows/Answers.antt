@@ -1,4 +1,4 @@
-use Rattle.std.proofs.Common.{◌≡◌, ◌-◌, ◌<◌, ◌≤◌, ℕ, eqb, length, map, sym, ap, ◌∙◌, arith}
+use Rattle.std.proofs.Common.{◌-◌, eqb, map, sym, ap, ◌∙◌, arith}
 use Rattle.std.proofs.lemmas.List.{length-map}
 use Rattle.yq_inline.specs.Entries.{step_of}
 use Rattle.yq_documents.specs.Lines.{lines_of}
