@@ -60,7 +60,8 @@ use Rattle.yq_meaning.specs.Operations.{Operation, replace, append, remove, line
 use Rattle.yq_meaning.specs.Rooms.{room_of}
 use Rattle.yq_script.specs.Script.{Segment, old_text, new_text}
 use Rattle.yq_ways.specs.Operands.{HasOperand}
-use Rattle.yq_ways.specs.Replacing.{node_in, scalar_in, are_same, is_kept, value_written}
+use Rattle.yq_tree.specs.NodesAt.{node_in, scalar_in}
+use Rattle.yq_ways.specs.Replacing.{are_same, is_kept, value_written}
 use Rattle.yq_block_ways.specs.ScalarReplacing.{has_text, header_end, final_break, line_written, line_segments, scalar_segments, line_at, scalar_line_way}
 use Rattle.yq_ways.specs.Ways.{IsWay, ReadsAfter}
 use Rattle.yq_ways.proofs.BrokenTails.{broken_tail, broken_comment}

@@ -62,7 +62,7 @@ use Rattle.yq_meaning.specs.Operations.{Operation, replace, append, remove, line
 use Rattle.yq_meaning.specs.Rooms.{room_of}
 use Rattle.yq_script.specs.Script.{Segment, old_text, new_text}
 use Rattle.yq_ways.specs.Operands.{HasOperand}
-use Rattle.yq_ways.specs.Replacing.{node_in, scalar_in}
+use Rattle.yq_tree.specs.NodesAt.{node_in, scalar_in}
 use Rattle.yq_block_ways.specs.ScalarLiteral.{literal_text, literal_segments, literal_at, scalar_literal_way}
 use Rattle.yq_block_ways.specs.ScalarReplacing.{has_text, holds_text}
 use Rattle.yq_ways.specs.Ways.{IsWay, ReadsAfter}

@@ -14,7 +14,7 @@ use Rattle.yq_tree.specs.FirstBreak.{first_break}
 use Rattle.yq_tree.specs.ScalarPlaces.{ScalarPlace, scalar_place}
 use Rattle.yq_meaning.specs.Operations.{replace, append, remove, line_comment, head_comment}
 use Rattle.yq_script.specs.Script.{Segment}
-use Rattle.yq_ways.specs.Replacing.{node_in, scalar_in}
+use Rattle.yq_tree.specs.NodesAt.{node_in, scalar_in}
 use Rattle.yq_block_ways.specs.ScalarReplacing.{has_text, scalar_segments}
 use Rattle.yq_ways.specs.Ways.{Way}
 

@@ -14,7 +14,8 @@ use Rattle.yq_tree.specs.PrintedLines.{less_break, last_break}
 use Rattle.yq_tree.specs.ScalarPlaces.{ScalarPlace, scalar_place}
 use Rattle.yq_meaning.specs.Operations.{replace, append, remove, line_comment, head_comment}
 use Rattle.yq_script.specs.Script.{Segment, keep, put}
-use Rattle.yq_ways.specs.Replacing.{node_in, scalar_in, is_kept, value_written}
+use Rattle.yq_tree.specs.NodesAt.{node_in, scalar_in}
+use Rattle.yq_ways.specs.Replacing.{is_kept, value_written}
 use Rattle.yq_ways.specs.Ways.{Way}
 
 -- whether there is a scalar, and it holds more than line breaks: a block scalar that does has a text line (8.1)

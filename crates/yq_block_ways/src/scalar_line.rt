@@ -4,7 +4,8 @@ ghost use Rattle.std.specs.Prelude.{◌≡◌, [], IfOk, Some, if◌then◌else�
 ghost use Rattle.yq_meaning.specs.Operations.{operation_of};
 ghost use Rattle.yq_inline.specs.Values as values;
 ghost use Rattle.yq_scalar.specs.Text.{is_empty, is_feed};
-ghost use Rattle.yq_documents.specs.Nodes.{node_of};
+ghost use Rattle.yq_documents.specs.Located.{steps_of};
+ghost use Rattle.yq_tree.specs.NodesAt.{node_in};
 ghost use Rattle.yq_tree.specs.PrintedLines as lines;
 ghost use Rattle.yq_documents.specs.Reading.{cut_of};
 ghost use Rattle.yq_tree.specs.ScalarTelling.{scalar_told};
@@ -18,7 +19,7 @@ use yq_scalar::lines::split_at_break;
 use yq_scalar::text::split_white;
 use yq_scalar::{Place, Style, can_write, write_scalar};
 use yq_script::{Segment, Segments};
-use yq_tree::{Documents, Node, NodeKind, ScalarPlace, split_break};
+use yq_tree::{CutText, Documents, Path, ScalarPlace, split_break};
 use yq_ways::{inline_written, is_kept};
 
 /// Whether a text holds more than line breaks.
@@ -28,17 +29,19 @@ fn holds_text(text: &str) -> bool
     text.as_bytes().iter().any(|b| *b != b'\n')
 }
 
-/// Whether a node, if there is one, is a scalar that holds more than line breaks.
-pub(crate) fn has_text(node: Option<Node<'_, '_>>) -> bool
-    ensures { result ≡ spec.has_text (option_map node_of node.entry) }
+/// Whether the node at a path, if one is there, is a scalar that holds more than line breaks.
+pub(crate) fn has_text(
+    alloc: Global,
+    text: &CutText<'_, '_>,
+    path: &Path,
+) -> Result<bool, AllocError>
+    ensures { IfOk result (λ b. b ≡ spec.has_text (node_in path.now.doc (steps_of path.now) (cut_of text.now))) }
 {
-    let Some(node) = node else {
-        return false;
+    let found = text.scalar_at(alloc, path)?;
+    let Some((_, old)) = found else {
+        return Ok(false);
     };
-    let NodeKind::Scalar(_) = node.kind() else {
-        return false;
-    };
-    holds_text(node.text())
+    Ok(holds_text(old.text()))
 }
 
 /// How a value is written in the place of a block scalar, with a text line or without, if it is
@@ -152,7 +155,8 @@ pub fn scalar_line_way<'d>(
     let Some(place) = documents.scalar_place(path) else {
         return Ok(None);
     };
-    let kept = is_kept(documents.locate(path), value);
-    let text = has_text(documents.locate(path));
+    let cut = documents.cut();
+    let kept = is_kept(alloc, &cut, path, value)?;
+    let text = has_text(alloc, &cut, path)?;
     line_at(alloc, place, kept, text, value)
 }

@@ -55,6 +55,7 @@ pub fn scalar_literal_way<'d>(
     let Some(place) = documents.scalar_place(path) else {
         return Ok(None);
     };
-    let text = has_text(documents.locate(path));
+    let cut = documents.cut();
+    let text = has_text(alloc, &cut, path)?;
     literal_at(alloc, documents.first_break(), place, text, value)
 }

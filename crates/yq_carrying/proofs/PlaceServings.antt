@@ -39,7 +39,8 @@ use Rattle.yq_block_ways.specs.BlockWriting.{below_mark, block_mark, block_segme
 use Rattle.yq_carrying.specs.Carrying.{replace_ways, scalar_ways, string_ways}
 use Rattle.yq_block_ways.specs.CollectionReplacing.{LinesUnder, Written, beside_mark, exchange_segments, lines_under, lines_upto, replace_collection_way, written_of, written_there}
 use Rattle.yq_ways.specs.Layouts.{layout_of}
-use Rattle.yq_ways.specs.Replacing.{is_kept, node_in, place_segments, replace_at, replace_way, scalar_in, value_written}
+use Rattle.yq_tree.specs.NodesAt.{node_in, scalar_in}
+use Rattle.yq_ways.specs.Replacing.{is_kept, place_segments, replace_at, replace_way, value_written}
 use Rattle.yq_block_ways.specs.ScalarCollection.{collection_segments, scalar_collection_way}
 use Rattle.yq_block_ways.specs.ScalarLiteral.{literal_at, literal_segments, literal_text, scalar_literal_way}
 use Rattle.yq_block_ways.specs.ScalarReplacing.{has_text, in_quotes, is_literal, is_text, line_at, line_segments, line_written, scalar_line_way}

@@ -37,7 +37,7 @@ use Rattle.yq_carrying.specs.Carrying.{remove_ways}
 use Rattle.yq_flow_ways.specs.FlowWays.{last_step}
 use Rattle.yq_ways.specs.Removing.{remove_way, removed}
 use Rattle.yq_ways.specs.RemovingFirst.{first_removed, remove_first_way}
-use Rattle.yq_ways.specs.Replacing.{node_in}
+use Rattle.yq_tree.specs.NodesAt.{node_in}
 use Rattle.yq_ways.specs.Serving.{IsServed}
 use Rattle.yq_flow_ways.specs.SoleRemoving.{emptied, emptying, emptying_at, sole_by}
 use Rattle.yq_ways.specs.Ways.{Way}

@@ -24,7 +24,7 @@ use Rattle.yq_documents.specs.FlowReading.{kept, node_flow_at, head_flow_at, cor
 use Rattle.yq_documents.specs.KeyReading.{EndsIn}
 use Rattle.yq_documents.specs.Lines.{tail_of, mark_line, lines_from}
 use Rattle.yq_lines.specs.Outline.{Line}
-use Rattle.yq_documents.specs.RowReading.{is_short_plain, begins_block, Begun, dashes_at, from_head, HasRow}
+use Rattle.yq_documents.specs.RowReading.{is_short_plain, begins_block, Begun, dashes_at, from_head, HasRow, HasHead}
 use Rattle.yq_lines.specs.View.{views, head_flow, flows}
 use Rattle.yq_documents.proofs.HeadLaws.{ends_drop, head_text, opens, block_marks, scalar_some_is}
 use Rattle.yq_documents.proofs.RowLineLaws.{finish, dashes_are}
@@ -167,3 +167,7 @@ of_row whole before after x line r limit rest h b n lines begun pushed ends here
 
 pub row_flows_are : (whole : List ℕ) (s : Slices) (t : List ℕ) (h : HasRow s t) (before after : List declared.Line) (x : List ℕ) (line : declared.Line) → Flows whole before after x line h.row h.rest s
 row_flows_are whole s t h before after x line = subst (Flows whole before after x line h.row h.rest) (sym h.pieces) (of_row whole before after x line h.row h.limit h.rest h.valid)
+
+-- the alias or flow collection in a row's head that is read again
+pub flow_again : (whole : List ℕ) (s : Slices) (t : List ℕ) (h : HasHead s t) → EndsIn whole t → head_flow_at whole s.parent s.head t ≡ row_flow (length whole) h.row h.rest
+flow_again whole s t h ends = (λ i. head_flow_at whole (h.pieces i).parent (h.pieces i).head (h.text i)) ∙ head_is whole (parent_indent h.row) h.row.content h.rest (subst (EndsIn whole) h.text ends) h.valid.content

@@ -31,7 +31,7 @@ use Rattle.yq_lines.specs.Outline.{Mark, Bare, Key, Dash, Line}
 use Rattle.yq_documents.specs.FitReading.{key_fits}
 use Rattle.yq_documents.specs.KeyReading.{EndsIn}
 use Rattle.yq_documents.specs.Reading.{mark_is_fit, content_is_fit}
-use Rattle.yq_documents.specs.RowReading.{name_in, Begun, dashes_at, mark_at, line_with, line_at, from_head, head_at, HasRow, row_fits, row_made}
+use Rattle.yq_documents.specs.RowReading.{name_in, Begun, dashes_at, mark_at, line_with, line_at, from_head, head_at, HasRow, HasHead, row_fits, row_made}
 use Rattle.yq_documents.proofs.FlowKeyLaws.{past}
 use Rattle.yq_documents.proofs.HeadLaws.{fitting, head_is, opens}
 
@@ -237,3 +237,13 @@ front_within gap column dashes behind =
 
 pub column_within : (s : Slices) (t : List ℕ) → HasRow s t → s.column + length s.dashes ≤ length t
 column_within s t h = rw (pieces_text s t h) (front_within s.gap s.column s.dashes _)
+
+-- the head of a row is read again
+pub quoted_again : (s : Slices) (t : List ℕ) → HasHead s t → is_quoted s.head ≡ true → IsQuotedText s.head
+quoted_again s t h =
+    subst (λ (x : Slices). is_quoted x.head ≡ true → IsQuotedText x.head) (sym h.pieces) (content_quoted (parent_indent h.row) h.row.content h.rest h.valid.content)
+
+pub head_again : (whole : List ℕ) (s : Slices) (t : List ℕ) (h : HasHead s t) → EndsIn whole t → head_at whole s.parent s.head t ≡ Some (head_of h.row.content)
+head_again whole s t h ends =
+    (λ i. head_at whole (h.pieces i).parent (h.pieces i).head (h.text i))
+    ∙ (head_is whole (parent_indent h.row) h.row.content h.rest (subst (EndsIn whole) h.text ends) h.valid.content ∙ ap (λ b. fitting b (head_of h.row.content)) h.fit)

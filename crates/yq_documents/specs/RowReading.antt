@@ -1,5 +1,5 @@
 -- Reading (own; a reader may skip it: the grammar is what is believed, and the clauses `found` and `only` tie the two): the lines of a row by its pieces.
-use Rattle.std.specs.Prelude.{◌≡◌, ℕ, suc, ◌-◌, ◌==◌, Bool, ◌||◌, ◌&&◌, not, List, [], ◌∷◌, ◌++◌, length, drop, Option, Some, None, if◌then◌else◌, ℤ}
+use Rattle.std.specs.Prelude.{◌≡◌, ℕ, suc, ◌-◌, ◌==◌, Bool, true, ◌||◌, ◌&&◌, not, List, [], ◌∷◌, ◌++◌, length, drop, Option, Some, None, if◌then◌else◌, ℤ}
 use Rattle.yq_scalar.specs.declared.kind.Kind.TheVariants.{Text}
 use Rattle.yq_scalar.specs.declared.style.Place.TheVariants as places
 use Rattle.yq_scalar.specs.Answers.{◌>>=◌}
@@ -118,6 +118,16 @@ pub record HasRow (s : Slices) (t : List ℕ) : Type 0 where
   pub pieces : s ≡ slices row
   pub text : t ≡ print_row row rest
   pub valid : IsRow limit row rest
+
+-- The pieces are those of a row whose head, in which keys are fit, is in front of a text (own).
+pub record HasHead (s : Slices) (t : List ℕ) : Type 0 where
+  pub row : Row
+  pub limit : Limit
+  pub rest : List ℕ
+  pub pieces : s ≡ slices row
+  pub text : t ≡ from_head (slices row) rest
+  pub valid : IsRow limit row rest
+  pub fit : content_is_fit row.content ≡ true
 
 -- the keys in a row are fit (own)
 abbrev pub row_fits : Row → Bool

@@ -1,11 +1,13 @@
 //! The heads of rows.
-ghost use Rattle.std.specs.Prelude.{◌≡◌, IfErr, IfOk, None, true};
+ghost use Rattle.std.specs.Prelude.{◌≡◌, IfErr, IfOk, None, length, true};
 ghost use Rattle.yq_scalar.specs.Answers.{Gives, IsOfText};
 ghost use Rattle.yq_scalar.specs.Quoted.{IsQuotedText};
 ghost use Rattle.yq_inline.specs.Scalars.{is_quoted, content_of as content_text};
 ghost use Rattle.yq_inline.specs.View.{view as node_view};
+ghost use Rattle.yq_rows.specs.View.{view as row_view};
 ghost use Rattle.yq_documents.specs.FlowReading as flow;
 ghost use Rattle.yq_documents.specs.KeyReading.{EndsIn};
+ghost use Rattle.yq_documents.specs.Lines.{head_of};
 ghost use Rattle.yq_documents.specs.RowReading as spec;
 ghost use Rattle.yq_lines.specs.View.{head_view, head_flow};
 
@@ -15,6 +17,7 @@ use std::num::NonZeroU64;
 use yq_inline::pieces::{first_is, is_quoted};
 use yq_inline::{Form, Inline, read_inline};
 use yq_lines::{Content, Head, content_of, plain_head};
+use yq_rows::Row;
 use yq_scalar::plain::holds_break;
 use yq_scalar::{Kind, Place, ReadError, ReadFault, content, read_block};
 
@@ -130,4 +133,23 @@ pub(crate) fn read_head<'t>(
         return Ok(plain_head(head));
     }
     read_node_head(alloc, whole, parent, text)
+}
+
+/// The head of a row whose keys are fit, read again: the text from there on ends where the whole one
+/// does.
+pub fn row_head<'t>(
+    alloc: Global,
+    whole: &'t str,
+    row: &Row<'t>,
+    text: &'t str,
+) -> Result<Head<'t>, AllocError>
+    requires ends { EndsIn whole.now text.now }
+    requires row { spec.HasHead (row_view row.now) text.now }
+    ensures view { (h : spec.HasHead (row_view row.now) text.now) → IfOk result (λ x. head_view x ≡ head_of h.row.content) }
+    ensures flow { (h : spec.HasHead (row_view row.now) text.now) → IfOk result (λ x. head_flow x ≡ flow.row_flow (length whole.now) h.row h.rest) }
+{
+    match read_head(alloc, whole, row.parent_indent(), row.head(), text) {
+        Ok(head) => Ok(head),
+        Err(_) => Err(AllocError),
+    }
 }

@@ -15,7 +15,7 @@ mod row_lines;
 
 pub use checks::{DocumentLines, check_parts};
 pub use documents::{document_lines, first_is_document};
-pub use head::begins_block;
+pub use head::{begins_block, row_head};
 pub use nodes::children::Children;
 pub use nodes::comments::{Comments, comment_text, is_comment, last_run};
 pub use nodes::node::{Node, NodeKind};

@@ -1,5 +1,5 @@
 -- What the code finds of flow collections is what the ways inside them take.
-use Rattle.std.proofs.Common.{◌≡◌, ℕ, ◌-◌, ◌≤◌, Bool, true, false, cond, List, [], ◌∷◌, ◌++◌, length, map, take, drop, slice_index_or, Option, Some, None, option_map, refl, sym, ap, ◌∙◌, subst, arith, append_assoc, length-append}
+use Rattle.std.proofs.Common.{◌≡◌, ℕ, ◌-◌, ◌≤◌, Bool, true, false, cond, List, [], ◌∷◌, ◌++◌, length, map, take, drop, slice_index_or, Option, Some, None, option_and_then, option_map, refl, sym, ap, ◌∙◌, subst, arith, append_assoc, length-append}
 use Rattle.std.proofs.Math.Seq.{take-append_seam, drop-append_seam}
 use Rattle.std.proofs.lemmas.Option.{none-some, same_Some}
 use Rattle.std.specs.Str.{IsCharBoundary}
@@ -19,7 +19,7 @@ use Rattle.yq_inline.proofs.TreeLaws.{key_tree}
 use Rattle.yq_rows.specs.Rows.{Cut, cut_text}
 use Rattle.yq_tree.specs.FlowNodes.{flow_collection}
 use Rattle.yq_tree.specs.FlowTold.{placed_collection, behind_anchor, collection_of}
-use Rattle.yq_documents.specs.Reading.{read_at}
+use Rattle.yq_documents.specs.Reading.{cut_of, read_at}
 use Rattle.yq_tree.proofs.FlowToldLaws.{node_collection}
 use Rattle.yq_change.proofs.FlowPathLaws.{flow_found}
 use Rattle.yq_change.proofs.FlowStandLaws.{coll_stands}
@@ -29,6 +29,13 @@ use Rattle.yq_flow_ways.specs.FlowWays.{edit_segments, flow_remove_way, flow_seg
 use Rattle.yq_flow_ways.proofs.FlowPieceLaws.{removed_empty}
 use Rattle.yq_flow_ways.proofs.FlowRemoveLaws.{bounds, texts}
 use Rattle.yq_flow_ways.proofs.FlowStandings.{EntryAt}
+
+-- ---- the flow collection in a head that was read
+
+pub found_along : {A : Type 0} (along : A → Option Placed) (t u : List ℕ) (doc : ℕ) (steps : List Step) (o : Option A) (x : A) (q : Placed) → u ≡ t →
+    option_and_then along o ≡ option_map (placed_collection (length u)) (flow_collection doc steps (cut_of u)) → o ≡ Some x → Some (behind_anchor q) ≡ along x → Some (behind_anchor q) ≡ option_map (placed_collection (length t)) (flow_collection doc steps (cut_of t))
+found_along along t u doc steps o x q same told is node =
+    node ∙ (ap (option_and_then along) (sym is) ∙ (told ∙ ap (λ (y : List ℕ). option_map (placed_collection (length y)) (flow_collection doc steps (cut_of y))) same))
 
 -- ---- the last step
 

@@ -24,7 +24,8 @@ use Rattle.yq_documents.specs.Reading.{cut_of, read_at}
 use Rattle.yq_meaning.specs.Operations.{replace}
 use Rattle.yq_script.specs.Script.{Segment, keep}
 use Rattle.yq_flow_ways.specs.FlowWays.{edit_segments, flow_replace_way, flow_value, in_flow_at, last_step, replaced_at, replaced_by, value_text}
-use Rattle.yq_ways.specs.Replacing.{is_kept, node_in}
+use Rattle.yq_tree.specs.NodesAt.{node_in}
+use Rattle.yq_ways.specs.Replacing.{is_kept}
 use Rattle.yq_flow_ways.proofs.CutLaws.{text_read}
 use Rattle.yq_flow_ways.proofs.FlowAnswers.{coll_found, edit_order, segments_at}
 use Rattle.yq_flow_ways.proofs.FlowReplaceLaws.{bounds, e, m, stands, there, x}

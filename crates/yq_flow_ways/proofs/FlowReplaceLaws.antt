@@ -46,7 +46,8 @@ use Rattle.yq_meaning.specs.Rooms.{room_of}
 use Rattle.yq_script.specs.Script.{Segment, old_text, new_text}
 use Rattle.yq_flow_ways.specs.FlowWays.{content_written, flow_replace_way, flow_segments, flow_value, last_step, replaced_by}
 use Rattle.yq_ways.specs.Operands.{HasOperand}
-use Rattle.yq_ways.specs.Replacing.{are_same, is_kept, node_in, scalar_in}
+use Rattle.yq_tree.specs.NodesAt.{node_in, scalar_in}
+use Rattle.yq_ways.specs.Replacing.{are_same, is_kept}
 use Rattle.yq_ways.specs.Style.{style_in}
 use Rattle.yq_ways.specs.Ways.{IsWay, ReadsAfter}
 use Rattle.yq_ways.proofs.FitLaws.{FitsReplace, fits_replace}

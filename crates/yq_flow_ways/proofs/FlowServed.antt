@@ -21,7 +21,8 @@ use Rattle.yq_meaning.specs.Fits.{Takes}
 use Rattle.yq_meaning.specs.Operations.{replace, append, remove}
 use Rattle.yq_script.specs.Script.{Segment}
 use Rattle.yq_flow_ways.specs.FlowWays.{appended_at, flow_append_way, flow_remove_way, flow_replace_way, flow_segments, in_flow_at, last_step, replaced_by, takes_key}
-use Rattle.yq_ways.specs.Replacing.{is_kept, node_in}
+use Rattle.yq_tree.specs.NodesAt.{node_in}
+use Rattle.yq_ways.specs.Replacing.{is_kept}
 use Rattle.yq_ways.specs.Serving.{IsServed}
 use Rattle.yq_flow_ways.proofs.FlowServedLines.{flow_there}
 use Rattle.yq_flow_ways.proofs.FlowServedNodes.{Held, entry_tree, held, item_child}

@@ -35,7 +35,7 @@ use Rattle.yq_meaning.specs.RoomsKept.{HasSome}
 use Rattle.yq_script.specs.Script.{Segment, old_text, new_text}
 use Rattle.yq_flow_ways.specs.FlowWays.{last_step}
 use Rattle.yq_ways.specs.Operands.{HasOperand}
-use Rattle.yq_ways.specs.Replacing.{node_in}
+use Rattle.yq_tree.specs.NodesAt.{node_in}
 use Rattle.yq_flow_ways.specs.SoleRemoving.{emptied, emptying, emptying_at, sole_by}
 use Rattle.yq_ways.specs.Ways.{Way, IsWay, ReadsAfter}
 use Rattle.yq_ways.proofs.DoneLaws.{read_cut}

@@ -18,7 +18,8 @@ use Rattle.yq_rows.specs.Rows.{Cut, cut_text}
 use Rattle.yq_tree.specs.FlowNodes.{flow_collection}
 use Rattle.yq_meaning.specs.Operations.{replace, append, remove, line_comment, head_comment}
 use Rattle.yq_script.specs.Script.{Segment, keep, put, text_before}
-use Rattle.yq_ways.specs.Replacing.{node_in, is_kept}
+use Rattle.yq_tree.specs.NodesAt.{node_in}
+use Rattle.yq_ways.specs.Replacing.{is_kept}
 use Rattle.yq_ways.specs.Style.{style_in}
 use Rattle.yq_ways.specs.Ways.{Way}
 

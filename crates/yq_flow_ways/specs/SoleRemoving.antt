@@ -7,7 +7,8 @@ use Rattle.yq_rows.specs.Rows.{Cut}
 use Rattle.yq_tree.specs.RemovalPlaces.{has_others_at}
 use Rattle.yq_meaning.specs.Operations.{Operation, replace, append, remove, line_comment, head_comment}
 use Rattle.yq_flow_ways.specs.FlowWays.{last_step}
-use Rattle.yq_ways.specs.Replacing.{node_in}
+use Rattle.yq_tree.specs.NodesAt as nodes
+use Rattle.yq_tree.specs.NodesAt.{NodeAt, node_in}
 use Rattle.yq_ways.specs.Ways.{Way}
 
 -- the empty collection of the kind of a collection
@@ -16,6 +17,13 @@ emptied (alias name) = None
 emptied (scalar anchor kind text) = None
 emptied (list anchor cs) = Some (list None none)
 emptied (map anchor cs) = Some (map None none)
+
+-- the same by what is told of the node
+abbrev pub told_emptied : NodeAt → Option Node
+told_emptied nodes.alias = None
+told_emptied (nodes.scalar s) = None
+told_emptied (nodes.list several) = Some (list None none)
+told_emptied (nodes.map several) = Some (map None none)
 
 -- the operation that puts an empty collection in the place of the one in which a path ends, if that isn't the root's path
 abbrev pub emptying_at : ℕ → Cut → Option (List Step × Step) → Option Operation

@@ -16,7 +16,7 @@ use yq_flow::{append_place, write_entry, write_inline};
 use yq_inline::{Form, Inline, Value};
 use yq_meaning::Op;
 use yq_script::Segments;
-use yq_tree::Documents;
+use yq_tree::{Documents, collection_along};
 
 /// Whether a node takes an entry of a key, or an item.
 fn takes(node: &Inline<'_>, key: Option<&str>) -> bool
@@ -50,7 +50,12 @@ pub fn flow_append_way<'d>(
     let Op::Append(path, key, value) = op else {
         return Ok(None);
     };
-    let Some(node) = documents.flow_collection(path.doc, &path.steps) else {
+    let cut = documents.cut();
+    let found = cut.flow_head(alloc, path.doc, &path.steps)?;
+    let Some((head, left)) = found else {
+        return Ok(None);
+    };
+    let Some(node) = collection_along(&head, left) else {
         return Ok(None);
     };
     let text = documents.text();

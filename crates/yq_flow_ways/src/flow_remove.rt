@@ -9,7 +9,7 @@ use std::alloc::{AllocError, Global};
 use yq_flow::remove_place;
 use yq_meaning::Op;
 use yq_script::Segments;
-use yq_tree::Documents;
+use yq_tree::{Documents, collection_along};
 
 /// An item or entry taken out of a flow collection, with the white space and comma that go with it.
 pub fn flow_remove_way<'d>(
@@ -25,7 +25,12 @@ pub fn flow_remove_way<'d>(
     let Some((above, last)) = last_step(&path.steps) else {
         return Ok(None);
     };
-    let Some(node) = documents.flow_collection(path.doc, above) else {
+    let cut = documents.cut();
+    let found = cut.flow_head(alloc, path.doc, above)?;
+    let Some((head, left)) = found else {
+        return Ok(None);
+    };
+    let Some(node) = collection_along(&head, left) else {
         return Ok(None);
     };
     let text = documents.text();

@@ -14,7 +14,7 @@ use yq_inline::{Value, style_of};
 use yq_meaning::Op;
 use yq_scalar::{Place, write_scalar};
 use yq_script::{Segment, Segments};
-use yq_tree::Documents;
+use yq_tree::{Documents, collection_along};
 use yq_ways::{is_kept, style_in};
 
 /// A value as it is written in flow, in the place of what is written there.
@@ -53,14 +53,20 @@ pub fn flow_replace_way<'d>(
     let Some((above, last)) = last_step(&path.steps) else {
         return Ok(None);
     };
-    let Some(node) = documents.flow_collection(path.doc, above) else {
+    let cut = documents.cut();
+    let found = cut.flow_head(alloc, path.doc, above)?;
+    let Some((head, left)) = found else {
+        return Ok(None);
+    };
+    let Some(node) = collection_along(&head, left) else {
         return Ok(None);
     };
     let text = documents.text();
     let Some(entry) = node.part(last) else {
         return Ok(None);
     };
-    if is_kept(documents.locate(path), value) {
+    let stays = is_kept(alloc, &cut, path, value)?;
+    if stays {
         return kept(alloc, text);
     }
     let place = replace_place(entry.node);

@@ -3,7 +3,7 @@
 ghost use Rattle.std.specs.Prelude.{◌≡◌, IfOk, option_map};
 ghost use Rattle.yq_meaning.specs.Operations.{operation_of};
 ghost use Rattle.yq_inline.specs.Values as values;
-ghost use Rattle.yq_documents.specs.Nodes.{node_of};
+ghost use Rattle.yq_tree.specs.NodesAt.{node_view};
 ghost use Rattle.yq_documents.specs.Reading.{cut_of};
 ghost use Rattle.yq_flow_ways.specs.SoleRemoving as spec;
 
@@ -11,17 +11,16 @@ use crate::flow_edit::last_step;
 use std::alloc::{AllocError, Global};
 use yq_inline::Value;
 use yq_meaning::{Op, copied_steps};
-use yq_tree::{Documents, Node, NodeKind, Path};
+use yq_tree::{Documents, NodeAt, Path};
 
 /// The empty collection of the kind of this one.
-fn emptied(alloc: Global, node: Node<'_, '_>) -> Option<Value>
-    ensures { option_map values.node_of result ≡ spec.emptied (node_of node.entry) }
+fn emptied(alloc: Global, node: &NodeAt<'_>) -> Option<Value>
+    ensures { option_map values.node_of result ≡ spec.told_emptied (node_view node.now) }
 {
-    match node.kind() {
-        NodeKind::List => Some(Value::List(Vec::new(alloc))),
-        NodeKind::Map => Some(Value::Map(Vec::new(alloc))),
-        NodeKind::Alias => None,
-        NodeKind::Scalar(_) => None,
+    match node {
+        NodeAt::List(_) => Some(Value::List(Vec::new(alloc))),
+        NodeAt::Map(_) => Some(Value::Map(Vec::new(alloc))),
+        NodeAt::Alias | NodeAt::Scalar(..) => None,
     }
 }
 
@@ -33,21 +32,24 @@ pub fn emptying(alloc: Global, documents: &Documents<'_>, op: &Op) -> Result<Opt
     let Op::Remove(path) = op else {
         return Ok(None);
     };
-    if documents.has_others(path) {
+    let cut = documents.cut();
+    let others = cut.has_others(alloc, path)?;
+    if others {
         return Ok(None);
     }
     let Some((above, _)) = last_step(&path.steps) else {
         return Ok(None);
     };
+    let found = cut.node_at(alloc, path.doc, above)?;
+    let Some(node) = found else {
+        return Ok(None);
+    };
+    let Some(value) = emptied(alloc, &node) else {
+        return Ok(None);
+    };
     let place = Path {
         doc: path.doc,
         steps: copied_steps(alloc, above)?,
-    };
-    let Some(node) = documents.locate(&place) else {
-        return Ok(None);
-    };
-    let Some(value) = emptied(alloc, node) else {
-        return Ok(None);
     };
     Ok(Some(Op::Replace(place, value)))
 }

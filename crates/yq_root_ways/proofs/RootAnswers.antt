@@ -3,7 +3,7 @@ use Rattle.std.proofs.Common.{◌≡◌, ℕ, ◌-◌, ◌≤◌, List, [], ◌�
 use Rattle.yq_scalar.specs.Text.{is_feed}
 use Rattle.yq_scalar.specs.Tree.{Node}
 use Rattle.yq_lines.specs.Bodies.{lent}
-use Rattle.yq_documents.specs.Located.{steps_of, located}
+use Rattle.yq_documents.specs.Located.{steps_of}
 use Rattle.yq_documents.specs.Reading.{cut_of}
 use Rattle.yq_tree.specs.RootPlaces.{RootPlace, root_place}
 use Rattle.yq_tree.specs.RootReading.{root_told}
@@ -12,9 +12,9 @@ use Rattle.yq_tree.specs.declared.places.root_place.RootPlace as declared
 use Rattle.yq_block.specs.declared.layout.Layout.{Layout}
 use Rattle.yq_meaning.specs.Operations.{replace}
 use Rattle.yq_ways.specs.Layouts.{layout_of}
-use Rattle.yq_ways.specs.Replacing.{node_in, is_kept}
+use Rattle.yq_tree.specs.NodesAt.{node_in}
+use Rattle.yq_ways.specs.Replacing.{is_kept}
 use Rattle.yq_root_ways.specs.RootWriting.{is_closed_text, root_segments, new_segments, root_at, root_way}
-use Rattle.yq_ways.proofs.ReplaceAnswers.{node_located}
 
 -- ---- whether a text ends in a break
 
@@ -50,9 +50,9 @@ module _ (p : Path) (v : Node) (t : List ℕ) (r : Option declared.RootPlace) (t
       ∙ (ap (λ (o : Option (Bor (List ℕ))). Some (root_at (is_kept (node_in p.doc (steps_of p) (cut_of t)) v) (layout_of p.doc (cut_of t)) v (root_told w) (lent o))) there ∙ ap (λ (m : Layout). Some (root_segments m v (root_told w) old.now)) (sym same))
 
   -- nothing is written there
-  pub nothing_there : (w : declared.RootPlace) (k : Layout) (kept : Bool) (n : Option Node) → r ≡ Some w → w.old ≡ None → k ≡ layout_of p.doc (cut_of t) → n ≡ located p t → kept ≡ is_kept n v →
+  pub nothing_there : (w : declared.RootPlace) (k : Layout) (kept : Bool) → r ≡ Some w → w.old ≡ None → k ≡ layout_of p.doc (cut_of t) → kept ≡ is_kept (node_in p.doc (steps_of p) (cut_of t)) v →
       root_way (replace p.doc (steps_of p) v) (cut_of t) ≡ Some (new_segments kept k v (root_told w))
-  nothing_there w k kept n is none same node keeps =
+  nothing_there w k kept is none same keeps =
       by_place (Some w) is
       ∙ (ap (λ (o : Option (Bor (List ℕ))). Some (root_at (is_kept (node_in p.doc (steps_of p) (cut_of t)) v) (layout_of p.doc (cut_of t)) v (root_told w) (lent o))) none
-      ∙ (λ i. Some (new_segments ((ap (λ m. is_kept m v) (sym (node_located p t) ∙ sym node) ∙ sym keeps) i) (sym same i) v (root_told w))))
+      ∙ (λ i. Some (new_segments (sym keeps i) (sym same i) v (root_told w))))

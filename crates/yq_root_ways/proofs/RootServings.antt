@@ -5,7 +5,8 @@ use Rattle.yq_rows.specs.Rows.{Cut}
 use Rattle.yq_tree.specs.RootPlaces.{RootPlace, root_place}
 use Rattle.yq_meaning.specs.Operations.{replace}
 use Rattle.yq_ways.specs.Layouts.{layout_of}
-use Rattle.yq_ways.specs.Replacing.{node_in, is_kept}
+use Rattle.yq_tree.specs.NodesAt.{node_in}
+use Rattle.yq_ways.specs.Replacing.{is_kept}
 use Rattle.yq_root_ways.specs.RootWriting.{root_at, root_way}
 use Rattle.yq_ways.specs.Serving.{IsServed}
 

@@ -26,7 +26,8 @@ use Rattle.yq_script.specs.Script.{Segment, old_text, new_text}
 use Rattle.yq_ways.specs.AppendWay.{lines_put_behind}
 use Rattle.yq_ways.specs.Layouts.{layout_of}
 use Rattle.yq_ways.specs.Operands.{HasOperand}
-use Rattle.yq_ways.specs.Replacing.{node_in, is_kept}
+use Rattle.yq_tree.specs.NodesAt.{node_in}
+use Rattle.yq_ways.specs.Replacing.{is_kept}
 use Rattle.yq_root_ways.specs.RootWriting.{is_closed_text, root_segments, new_segments, root_at, root_way}
 use Rattle.yq_ways.specs.Ways.{IsWay, ReadsAfter}
 use Rattle.yq_root_ways.proofs.BlockRootLaws.{IsBlockRoot, block_root, takes_value, before_piece, behind_piece}

@@ -10,7 +10,8 @@ use Rattle.yq_meaning.specs.Operations.{replace, append, remove, line_comment, h
 use Rattle.yq_script.specs.Script.{Segment, keep, put}
 use Rattle.yq_ways.specs.AppendWay.{lines_put_behind}
 use Rattle.yq_ways.specs.Layouts.{layout_of}
-use Rattle.yq_ways.specs.Replacing.{node_in, is_kept}
+use Rattle.yq_tree.specs.NodesAt.{node_in}
+use Rattle.yq_ways.specs.Replacing.{is_kept}
 use Rattle.yq_ways.specs.Ways.{Way}
 
 -- whether a text is empty or ends in a break (5.4)

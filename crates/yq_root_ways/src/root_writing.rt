@@ -126,6 +126,7 @@ pub fn root_way<'d>(
     if let Some(old) = place.old {
         return put_root(alloc, &layout, place, old, value);
     }
-    let kept = is_kept(documents.locate(path), value);
+    let cut = documents.cut();
+    let kept = is_kept(alloc, &cut, path, value)?;
     put_new(alloc, kept, &layout, &place, value)
 }

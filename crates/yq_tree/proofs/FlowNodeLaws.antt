@@ -1,37 +1,28 @@
 -- The flow collection at a path is the one that the code finds in the head of a line.
-use Rattle.std.proofs.Common.{◌≡◌, inl, inr, ℕ, suc, ◌+◌, ltb, Bool, true, false, cond, List, [], ◌∷◌, ◌++◌, length, Option, Some, None, option_map, refl, sym, ap, ◌∙◌, subst}
+use Rattle.std.proofs.Common.{◌≡◌, ℕ, ◌+◌, List, [], ◌∷◌, ◌++◌, length, Option, Some, None, option_map, refl, sym, ap, ◌∙◌}
 use Rattle.std.specs.List.{slice_get}
-use Rattle.std.specs.Prelude.{is_some}
 use Rattle.yq_scalar.specs.Answers.{◌>>=◌}
 use Rattle.yq_scalar.specs.Paths.{Step}
-use Rattle.yq_scalar.proofs.Bools.{bind_some}
 use Rattle.yq_inline.specs.Nodes.{Node, empty, alias, scalar, coll, anchored}
 use Rattle.yq_inline.specs.Places.{Placed, placed, nothing, name, text, sequence, mapping, with_anchor, locate}
 use Rattle.yq_rows.specs.Exchange.{behind_row}
 use Rattle.yq_rows.specs.Rows.{Content, Nothing, Inline, Block, Row, Part, Cut, cut_text}
 use Rattle.yq_rows.specs.View.{Shown}
-use Rattle.yq_lines.specs.Ends.{lines_end, reached}
-use Rattle.yq_lines.specs.Group.{group, is_fine}
 use Rattle.yq_lines.specs.Outline.{Line}
 use Rattle.yq_lines.specs.Places.{lines_before, Found}
-use Rattle.yq_lines.specs.Spots.{is_bare}
-use Rattle.yq_lines.specs.View.{flows, views}
-use Rattle.yq_documents.specs.declared.checks.DocumentLines.{DocumentLines}
 use Rattle.yq_documents.specs.Documents.{document_parts}
-use Rattle.yq_tree.specs.EntryReading.{HasFlows}
-use Rattle.yq_tree.specs.FlowNodes.{content_flow, find_head, flow_collection, line_collection, part_collection}
 use Rattle.yq_documents.specs.FlowReading.{kept, core, content_core, row_flow}
-use Rattle.yq_tree.specs.FlowTold.{placed_collection, collection_along, bare_at, head_from, head_at}
 use Rattle.yq_documents.specs.Lines.{tail_of, lines_of}
-use Rattle.yq_documents.specs.Reading.{cut_of, outline_of}
+use Rattle.yq_documents.specs.Reading.{outline_of}
 use Rattle.yq_documents.specs.Seats.{Seat, document_row}
-use Rattle.yq_documents.specs.SoundReading.{Holds}
-use Rattle.yq_tree.proofs.EntryPlaceLaws.{held_in}
-use Rattle.yq_tree.proofs.FlowPlaceLaws.{MarkSeat, mark_seat, reached_seat}
+use Rattle.yq_tree.specs.FlowNodes.{content_flow, find_head, flow_collection, line_collection, part_collection}
+use Rattle.yq_tree.specs.FlowTold.{placed_collection, collection_along}
+use Rattle.yq_tree.specs.NodeReading.{NodePlace, with_steps, node_place, place_line, head_at}
+use Rattle.yq_tree.specs.RowWalk.{InCut, IsLine, line_number}
+use Rattle.yq_tree.specs.declared.places.spot.Spot.{Spot}
+use Rattle.yq_tree.specs.declared.places.spot.Stretch.{Stretch}
 use Rattle.yq_tree.proofs.FlowToldLaws.{collection_placed, head_found, numbered}
-use Rattle.yq_tree.proofs.FoundLines.{each}
-use Rattle.yq_tree.proofs.RowPathLaws.{document_fine}
-use Rattle.yq_tree.proofs.SeatLaws.{part_at}
+use Rattle.yq_tree.proofs.WalkNodes.{row_is, seat_is, before_is}
 
 -- ---- the head of a row
 
@@ -72,37 +63,6 @@ row_along total r rest ss = kept_along ss (locate total (content_core r.content)
     go (Inline space node tail) = core_along total node (tail ++ rest) ss ∙ sym (collection_placed total ss node (tail ++ rest))
     go (Block space anchor block) = nothing_along total (tail_of (Block space anchor block) ++ rest) ss
 
--- ---- the row of the line
-
-place_same : {x y : ℕ × List Step} → Some x ≡ Some y → x.0 ≡ y.0
-place_same e = cc
-
-bare_seat : (rs : List Row) (m n : ℕ) (left : List Step) → bare_at m (lines_of rs) ≡ Some (n, left) → MarkSeat rs n
-bare_seat rs m n left e = let l = bind_some (slice_get (lines_of rs) m) e in go l.0 l.1 (is_bare l.0.mark) refl l.2
-  where
-    go : (l : Line) → slice_get (lines_of rs) m ≡ Some l → (b : Bool) → is_bare l.mark ≡ b → cond {A = Option (ℕ × List Step)} b (Some (m, [])) None ≡ Some (n, left) → MarkSeat rs n
-    go l there true bare e = subst (MarkSeat rs) (place_same e) (mark_seat rs m l there (inl bare))
-    go l there false bare e = absurd (cc)
-
-from_seat : (rs : List Row) (m n : ℕ) (left : List Step) → head_from m [] (lines_of rs) ≡ Some (n, left) → MarkSeat rs n
-from_seat rs m n left e = let l = bind_some (slice_get (lines_of rs) m) e in go l.0 l.1 (is_some l.0.head) refl l.2
-  where
-    under : (b : Bool) → cond b (bare_at (suc m) (lines_of rs)) None ≡ Some (n, left) → MarkSeat rs n
-    under true e = bare_seat rs (suc m) n left e
-    under false e = absurd (cc)
-
-    go : (l : Line) → slice_get (lines_of rs) m ≡ Some l → (b : Bool) → is_some l.head ≡ b → cond {A = Option (ℕ × List Step)} b (Some (m, [])) (cond (ltb (suc m) (lines_end m (lines_of rs))) (bare_at (suc m) (lines_of rs)) None) ≡ Some (n, left) → MarkSeat rs n
-    go l there true head e = subst (MarkSeat rs) (place_same e) (mark_seat rs m l there (inr head))
-    go l there false head e = under (ltb (suc m) (lines_end m (lines_of rs))) e
-
-head_seat : (rs : List Row) (steps left : List Step) (n : ℕ) → head_at steps (lines_of rs) ≡ Some (n, left) → MarkSeat rs n
-head_seat rs [] left n e = bare_seat rs 0 n left e
-head_seat rs (s ∷ ss) left n e = let x = bind_some (reached (s ∷ ss) (lines_of rs)) e in go x.0.0 x.0.1 x.1 x.2
-  where
-    go : (m : ℕ) (on : List Step) → reached (s ∷ ss) (lines_of rs) ≡ Some (m, on) → head_from m on (lines_of rs) ≡ Some (n, left) → MarkSeat rs n
-    go m [] is e = from_seat rs m n left e
-    go m (t ∷ ts) is e = subst (MarkSeat rs) (place_same e) (reached_seat rs (s ∷ ss) m t ts is)
-
 -- ---- the collection
 
 -- the flow collection to which steps lead among rows, before which k rows of a cut stand, with its places in the text
@@ -112,37 +72,43 @@ rows_collection k c rs steps = head_at steps (lines_of rs) >>= λ x. option_map 
 pub no_collection : (k : ℕ) (c : Cut) (rs : List Row) (steps : List Step) → None ≡ head_at steps (lines_of rs) → None ≡ rows_collection k c rs steps
 no_collection k c rs steps e = ap (λ (o : Option (ℕ × List Step)). o >>= λ x. option_map (placed_collection (length (cut_text c))) (line_collection k c rs x.0 x.1)) e
 
-pub collection_told : (k : ℕ) (c : Cut) (rs : List Row) (fs : List (Option Placed)) (steps left : List Step) (n : ℕ) → HasFlows k c rs fs → head_at steps (lines_of rs) ≡ Some (n, left) →
-    (f : Option Placed) × (slice_get fs n ≡ Some f) × ((f >>= collection_along left) ≡ rows_collection k c rs steps)
-collection_told k c rs fs steps left n holds e =
-    let q = head_seat rs steps left n e in
-    let total : ℕ = length (cut_text c) in (
-      row_flow total q.0.row (behind_row (k + q.0.before) c),
-      holds n q.0 q.1 q.2,
-      row_along total q.0.row (behind_row (k + q.0.before) c) left
-          ∙ (sym (ap (λ (o : Option Seat). option_map (placed_collection total) (o >>= λ s. content_flow left s.row.content (behind_row (k + s.before) c))) q.1)
-          ∙ sym (ap (λ (o : Option (ℕ × List Step)). o >>= λ x. option_map (placed_collection total) (line_collection k c rs x.0 x.1)) e)),
-    )
+-- the collection in the head of a line, by its row
+pub collection_told : (s : Shown) (d : Stretch) (c : Cut) (k : InCut s d c) (q : Spot) (at : IsLine s d q) (steps left : List Step) → head_at steps (lines_of k.document.rows) ≡ Some (line_number d k.document.rows q, left) →
+    (row_flow (length (cut_text c)) (row_is s d c k q at) (behind_row q.row c) >>= collection_along left) ≡ rows_collection d.first c k.document.rows steps
+collection_told s d c k q at steps left e =
+    let total : ℕ = length (cut_text c) in
+    row_along total (row_is s d c k q at) (behind_row q.row c) left
+    ∙ (ap (λ (i : ℕ). option_map (placed_collection total) (content_flow left (row_is s d c k q at).content (behind_row i c))) (sym (before_is s d c k q at))
+    ∙ (sym (ap (λ (o : Option Seat). option_map (placed_collection total) (o >>= λ x. content_flow left x.row.content (behind_row (d.first + x.before) c))) (seat_is s d c k q at))
+    ∙ sym (ap (λ (o : Option (ℕ × List Step)). o >>= λ x. option_map (placed_collection total) (line_collection d.first c k.document.rows x.0 x.1)) e)))
 
-part_collection_is : (k : ℕ) (c : Cut) (p : Part) (steps : List Step) → is_fine (group (lines_of p.rows)) ≡ true → rows_collection k c p.rows steps ≡ option_map (placed_collection (length (cut_text c))) (part_collection k c steps p)
-part_collection_is k c p steps fine =
-    ap (λ (o : Option (ℕ × List Step)). o >>= λ x. option_map (placed_collection (length (cut_text c))) (line_collection k c p.rows x.0 x.1)) (sym (head_found (lines_of p.rows) steps fine)) ∙ go (find_head steps (outline_of p))
+pub flow_told : (t : List ℕ) (s : Shown) (d : Stretch) (c : Cut) (k : InCut s d c) (q : Spot) (at : IsLine s d q) (steps left : List Step) (f : Option Placed) → t ≡ cut_text c → Some (line_number d k.document.rows q, left) ≡ head_at steps (lines_of k.document.rows) →
+    f ≡ row_flow (length t) (row_is s d c k q at) (behind_row q.row c) → (f >>= collection_along left) ≡ rows_collection d.first c k.document.rows steps
+flow_told t s d c k q at steps left f whole e flow =
+    ap (λ (o : Option Placed). o >>= collection_along left) (flow ∙ ap (λ (y : List ℕ). row_flow (length y) (row_is s d c k q at) (behind_row q.row c)) whole) ∙ collection_told s d c k q at steps left (sym e)
+
+-- the line in whose head it is
+pub head_line_at : (ls : List Line) (steps left : List Step) (p : NodePlace) (o : Option ℕ) → Some (p, left) ≡ node_place steps ls → o ≡ place_line ls p → with_steps left o ≡ head_at steps ls
+head_line_at ls steps left p o e found =
+    ap (with_steps left) found ∙ ap (λ (x : Option (NodePlace × List Step)). x >>= λ y. with_steps y.1 (place_line ls y.0)) e
+
+pub no_head_at : (ls : List Line) (steps : List Step) → None ≡ node_place steps ls → None ≡ head_at steps ls
+no_head_at ls steps e = ap (λ (x : Option (NodePlace × List Step)). x >>= λ y. with_steps y.1 (place_line ls y.0)) e
+
+part_collection_is : (k : ℕ) (c : Cut) (p : Part) (steps : List Step) → rows_collection k c p.rows steps ≡ option_map (placed_collection (length (cut_text c))) (part_collection k c steps p)
+part_collection_is k c p steps =
+    ap (λ (o : Option (ℕ × List Step)). o >>= λ x. option_map (placed_collection (length (cut_text c))) (line_collection k c p.rows x.0 x.1)) (sym (head_found (lines_of p.rows) steps)) ∙ go (find_head steps (outline_of p))
   where
     go : (o : Option (Found × List Step)) → (option_map numbered o >>= λ x. option_map (placed_collection (length (cut_text c))) (line_collection k c p.rows x.0 x.1)) ≡
         option_map (placed_collection (length (cut_text c))) (o >>= λ x. line_collection k c p.rows (length (lines_before x.0.place)) x.1)
     go None = refl
     go (Some x) = refl
 
-pub held_collection : (t : List ℕ) (s : Shown) (ds : List DocumentLines) (i : ℕ) (d : DocumentLines) (steps : List Step) (found : Option Placed) → Holds t s ds → slice_get ds i ≡ Some d →
-    ((k : ℕ) (c : Cut) (rs : List Row) → views d.lines ≡ lines_of rs → HasFlows k c rs (flows d.lines) → found ≡ rows_collection k c rs steps) →
-    found ≡ option_map (placed_collection (length t)) (flow_collection i steps (cut_of t))
-held_collection t s ds i d steps found h there told =
-    let c : Cut = cut_of t in
-    let k : ℕ = document_row i c in
-    let part = part_at ds (document_parts c) h.lined i d there in
-    let fine : is_fine (group (lines_of part.0.rows)) ≡ true = document_fine part.0 (each (document_parts c) h.sound i part.0 part.1) in
-    held_in t s ds i d found (λ k c rs. rows_collection k c rs steps) h there told
-    ∙ (ap (λ (o : Option Part). o >>= λ p. rows_collection k c p.rows steps) part.1
-    ∙ (part_collection_is k c part.0 steps fine
-    ∙ ((λ j. option_map (placed_collection (length (sym h.cut.text j))) (part_collection k c steps part.0))
-    ∙ ap (λ (o : Option Part). option_map (placed_collection (length t)) (o >>= part_collection k c steps)) (sym part.1))))
+-- the collection in a document of a text
+pub collection_is : (t : List ℕ) (c : Cut) (n : ℕ) (steps : List Step) → t ≡ cut_text c →
+    (slice_get (document_parts c) n >>= λ p. rows_collection (document_row n c) c p.rows steps) ≡ option_map (placed_collection (length t)) (flow_collection n steps c)
+collection_is t c n steps whole = go (slice_get (document_parts c) n) ∙ ap (λ (y : List ℕ). option_map (placed_collection (length y)) (flow_collection n steps c)) (sym whole)
+  where
+    go : (o : Option Part) → (o >>= λ p. rows_collection (document_row n c) c p.rows steps) ≡ option_map (placed_collection (length (cut_text c))) (o >>= part_collection (document_row n c) c steps)
+    go None = refl
+    go (Some p) = part_collection_is (document_row n c) c p steps

@@ -127,7 +127,7 @@ module _ (c : Cut) (i : ℕ) (r : Row) (u : IsUtf8 (cut_text c)) (cut : IsCut (c
   abbrev start : ℕ
   start = length (before_content i c ++ ((slices r).space ++ ((slices r).anchor ++ (slices r).apart)))
 
-  start_text : cut_text c ≡ (before_content i c ++ ((slices r).space ++ ((slices r).anchor ++ (slices r).apart))) ++ ((slices r).head ++ ((slices r).tail ++ ((slices r).raw ++ behind_row i c)))
+  pub start_text : cut_text c ≡ (before_content i c ++ ((slices r).space ++ ((slices r).anchor ++ (slices r).apart))) ++ ((slices r).head ++ ((slices r).tail ++ ((slices r).raw ++ behind_row i c)))
   start_text = tail_place c i r is ∙ regroup (before_content i c) (slices r).space (slices r).anchor (slices r).apart (slices r).head ((slices r).tail ++ ((slices r).raw ++ behind_row i c))
 
   start_ascii : BeginsAscii ((slices r).head ++ ((slices r).tail ++ ((slices r).raw ++ behind_row i c))) → IsCharBoundary (cut_text c) start

@@ -13,7 +13,7 @@ use Rattle.yq_documents.specs.RowReading.{begins_block}
 use Rattle.yq_tree.proofs.HeadEnds.{block_told}
 
 -- the pieces of a row that is shown
-slices_are : (c : Cut) (s : Shown) (i : ℕ) (x : Slices) (r : Row) → s ≡ shown c → slice_get s.rows i ≡ Some x → slice_get (rows_of c) i ≡ Some r → x ≡ slices r
+pub slices_are : (c : Cut) (s : Shown) (i : ℕ) (x : Slices) (r : Row) → s ≡ shown c → slice_get s.rows i ≡ Some x → slice_get (rows_of c) i ≡ Some r → x ≡ slices r
 slices_are c s i x r is there row = same_Some _ _ (sym there ∙ (ap (λ (y : Shown). slice_get y.rows i) is ∙ (slice_get-map slices (rows_of c) i ∙ ap (option_map slices) row)))
 
 -- a block scalar has none

@@ -76,9 +76,12 @@ pub mod BlockRowLaws
 pub mod RemovalBounds
 pub mod RemovalTold
 pub mod FirstLaws
-pub mod OthersLaws
 pub mod FirstExamples
 pub mod StepLaws
+pub mod SeenLaws
+pub mod NodePlaceLaws
+pub mod RowHeads
+pub mod NodeAtLaws
 pub mod LastBreakLaws
 pub mod ContentEndLaws
 pub mod EndedLines

@@ -140,7 +140,7 @@ found_document t s c n d cut is e = go (slice_get (document_parts c) n) refl e
         record { part = p; there = at; first = ap (λ (y : ℕ × ℕ). y.0) same; document = x.0; rows = x.1 }
 
 -- its rows stand among those of the cut
-found_in_cut : (t : List ℕ) (s : Shown) (c : Cut) (n : ℕ) (d : Stretch) → IsCut t c → s ≡ shown c → (f : Found s c n d) → (k : InCut s d c) × (k.document.rows ≡ f.part.rows)
+pub found_in_cut : (t : List ℕ) (s : Shown) (c : Cut) (n : ℕ) (d : Stretch) → IsCut t c → s ≡ shown c → (f : Found s c n d) → (k : InCut s d c) × (k.document.rows ≡ f.part.rows)
 found_in_cut t s c n d cut is f =
     let b = part_begins c n f.part f.there in (
       record {

@@ -142,7 +142,7 @@ module _ (s : Shown) (d : Stretch) (c : Cut) (k : InCut s d c) (q : Spot) (at : 
   pub seat_is : seat (line_number d k.document.rows q) k.document.rows ≡ Some (record { before = q.row - d.first; row = row_is; line = q.line })
   seat_is = let l = located s d k.document q at in seat_number k.document.rows (q.row - d.first) q.line l.row l.there l.within
 
-  before_is : d.first + (q.row - d.first) ≡ q.row
+  pub before_is : d.first + (q.row - d.first) ≡ q.row
   before_is = omega (arith, at.from)
 
   pub row_in_cut : slice_get (rows_of c) q.row ≡ Some row_is

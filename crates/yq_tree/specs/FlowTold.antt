@@ -1,14 +1,11 @@
 -- Reading (own; a reader may skip it: the grammar is what is believed, and the clauses `found` and `only` tie the two): flow collections at paths, as the code finds them.
-use Rattle.std.specs.Prelude.{ℕ, suc, List, [], ◌∷◌, nat_lt, slice_get, Option, Some, None, is_some, if◌then◌else◌}
+use Rattle.std.specs.Prelude.{ℕ, List, Option, Some, None}
 use Rattle.yq_scalar.specs.Answers.{◌>>=◌}
 use Rattle.yq_scalar.specs.Paths.{Step}
 use Rattle.yq_inline.specs.Collections.{CollPieces}
 use Rattle.yq_inline.specs.Entries.{placed_entry_at}
 use Rattle.yq_inline.specs.Nodes.{coll}
 use Rattle.yq_inline.specs.Places.{Placed, placed, Content, nothing, name, text, sequence, mapping, locate}
-use Rattle.yq_lines.specs.Ends.{lines_end, reached}
-use Rattle.yq_lines.specs.Outline.{Line}
-use Rattle.yq_lines.specs.Spots.{is_bare}
 
 -- a collection with its places in a text so long (7.4)
 abbrev pub placed_collection : ℕ → CollPieces → Placed
@@ -33,17 +30,3 @@ collection_of (placed a s c e f) = if_collection (behind_anchor (placed a s c e 
 -- the collection to which steps lead in a node
 abbrev pub collection_along : List Step → Placed → Option Placed
 collection_along steps p = placed_entry_at steps (None, p) >>= λ e. collection_of e.1
-
--- line n, if it is a node itself
-abbrev pub bare_at : ℕ → List Line → Option (ℕ × List Step)
-bare_at n ls = slice_get ls n >>= λ l. if is_bare l.mark then Some (n, []) else None
-
--- line n, if it has a head, else the line under it that is a node itself; where steps go on in the head, line n
-abbrev pub head_from : ℕ → List Step → List Line → Option (ℕ × List Step)
-head_from n (s ∷ ss) ls = Some (n, s ∷ ss)
-head_from n [] ls = slice_get ls n >>= λ l. if is_some l.head then Some (n, []) else (if nat_lt (suc n) (lines_end n ls) then bare_at (suc n) ls else None)
-
--- the line in whose head the node at a path stands, and the steps that go on in the head
-abbrev pub head_at : List Step → List Line → Option (ℕ × List Step)
-head_at [] ls = bare_at 0 ls
-head_at (s ∷ ss) ls = reached (s ∷ ss) ls >>= λ x. head_from x.0 x.1 ls

@@ -17,7 +17,8 @@ use Rattle.yq_change.specs.Changed.{changed, IsChanged, put_document}
 use Rattle.yq_change.specs.Rooms.{is_block_root}
 use Rattle.yq_change.proofs.LeadLaws.{same_lead_goes}
 use Rattle.yq_meaning.specs.Operations.{replace}
-use Rattle.yq_ways.specs.Replacing.{scalar_in, are_same}
+use Rattle.yq_tree.specs.NodesAt.{scalar_in}
+use Rattle.yq_ways.specs.Replacing.{are_same}
 use Rattle.yq_ways.specs.Ways.{ReadsAfter}
 use Rattle.yq_ways.proofs.DoneLaws.{nth_map, document_done}
 use Rattle.yq_ways.proofs.SameLaws.{same_is}

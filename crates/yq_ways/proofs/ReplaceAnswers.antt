@@ -3,7 +3,7 @@ use Rattle.std.proofs.Common.{◌≡◌, ℕ, List, [], ◌∷◌, map, length, 
 use Rattle.std.specs.Prelude.{Vec, vec_len, if◌then◌else◌}
 use Rattle.std.specs.declared.alloc.Global.{Global}
 use Rattle.yq_scalar.specs.Answers.{◌>>=◌}
-use Rattle.yq_scalar.specs.Paths.{node_at}
+use Rattle.yq_scalar.specs.Scalar.{ScalarText}
 use Rattle.yq_scalar.specs.Tree.{Node, Children, none, child}
 use Rattle.yq_inline.specs.declared.value.Value.{Value}
 use Rattle.yq_inline.specs.declared.value.Value.TheVariants as values
@@ -12,14 +12,14 @@ use Rattle.yq_inline.specs.Written.{flow_text}
 use Rattle.yq_inline.proofs.WrittenLaws.{node_list, node_map}
 use Rattle.yq_documents.specs.declared.path.Path.{Path}
 use Rattle.yq_tree.specs.declared.places.inline_place.InlinePlace as declared
-use Rattle.yq_documents.specs.Documents.{Document}
 use Rattle.yq_tree.specs.InlinePlaces.{InlinePlace, written_text, apart_from, inline_place}
 use Rattle.yq_tree.specs.InlineReading.{InlineTelling, inline_telling, inline_told}
-use Rattle.yq_documents.specs.Located.{steps_of, document_at, located}
+use Rattle.yq_documents.specs.Located.{steps_of}
 use Rattle.yq_documents.specs.Reading.{cut_of}
 use Rattle.yq_meaning.specs.Operations.{replace}
 use Rattle.yq_ways.specs.PlaceViews.{inline_view}
-use Rattle.yq_ways.specs.Replacing.{node_in, is_kept, value_written, collection_written, place_segments, replace_at, replace_way}
+use Rattle.yq_tree.specs.NodesAt.{node_in, scalar_in}
+use Rattle.yq_ways.specs.Replacing.{are_same, is_kept, value_written, collection_written, place_segments, replace_at, replace_way}
 
 -- the place that is told
 place_told : InlineTelling → InlinePlace
@@ -33,13 +33,14 @@ view_is None (Some w) e = absurd (let x = e in cc)
 view_is (Some p) None e = absurd (let x = e in cc)
 view_is (Some p) (Some w) e = sym (ap (option_map place_told) e)
 
--- the node at a path is the one to which its steps lead
-pub node_located : (p : Path) (t : List ℕ) → located p t ≡ node_in p.doc (steps_of p) (cut_of t)
-node_located p t = go (document_at t p.doc)
-  where
-    go : (o : Option Document) → option_and_then (λ d. node_at (steps_of p) d.root) o ≡ (o >>= λ d. node_at (steps_of p) d.root)
-    go None = refl
-    go (Some d) = refl
+-- whether a value is kept, by the scalar that is there
+pub not_kept : (o : Option Node) (v : Node) → None ≡ option_and_then scalar_in o → false ≡ is_kept o v
+not_kept None v e = refl
+not_kept (Some n) v e = ap (λ x. are_same x (scalar_in v)) e
+
+pub kept_told : (o : Option Node) (v : Node) (s : ScalarText) (b : Bool) → Some s ≡ option_and_then scalar_in o → b ≡ are_same (Some s) (scalar_in v) → b ≡ is_kept o v
+kept_told None v s b e same = absurd (cc)
+kept_told (Some n) v s b e same = same ∙ ap (λ x. are_same x (scalar_in v)) e
 
 -- that the code finds the place at a path in a text, or none
 abbrev pub FindsPlace : Option declared.InlinePlace → Path → List ℕ → Type 0
@@ -51,13 +52,11 @@ unfolding replace_way
 none_at p v t r told is = ap (λ o. o >>= replace_at (is_kept (node_in p.doc (steps_of p) (cut_of t)) v) v) (view_is r _ told ∙ ap (option_map inline_view) is)
 
 -- a place, and a value that is kept or not
-pub replaced_at : (p : Path) (v : Node) (t : List ℕ) (r : Option declared.InlinePlace) (w : declared.InlinePlace) (n : Option Node) (kept : Bool) →
-    FindsPlace r p t → r ≡ Some w → n ≡ located p t → is_kept n v ≡ kept →
-    replace_way (replace p.doc (steps_of p) v) (cut_of t) ≡ replace_at kept v (inline_view w)
+pub replaced_at : (p : Path) (v : Node) (t : List ℕ) (r : Option declared.InlinePlace) (w : declared.InlinePlace) (kept : Bool) →
+    FindsPlace r p t → r ≡ Some w → is_kept (node_in p.doc (steps_of p) (cut_of t)) v ≡ kept → replace_way (replace p.doc (steps_of p) v) (cut_of t) ≡ replace_at kept v (inline_view w)
 unfolding replace_way
-replaced_at p v t r w n kept told is node same =
-    ap (λ o. o >>= replace_at (is_kept (node_in p.doc (steps_of p) (cut_of t)) v) v) (view_is r _ told ∙ ap (option_map inline_view) is)
-    ∙ ap (λ k. replace_at k v (inline_view w)) (ap (λ m. is_kept m v) (sym (node_located p t) ∙ sym node) ∙ same)
+replaced_at p v t r w kept told is same =
+    ap (λ o. o >>= replace_at (is_kept (node_in p.doc (steps_of p) (cut_of t)) v) v) (view_is r _ told ∙ ap (option_map inline_view) is) ∙ ap (λ k. replace_at k v (inline_view w)) same
 
 -- a value that is written there, or isn't
 pub put_at : (v : Node) (w : InlinePlace) (o : Option (List ℕ)) → o ≡ value_written w.alone (written_text w.old) v →

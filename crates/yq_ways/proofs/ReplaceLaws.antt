@@ -47,7 +47,8 @@ use Rattle.yq_meaning.specs.Operations.{Operation, replace, append, remove, line
 use Rattle.yq_meaning.specs.Rooms.{room_of}
 use Rattle.yq_script.specs.Script.{Segment, keep, put, old_text, new_text, AllStay}
 use Rattle.yq_ways.specs.Operands.{HasOperand}
-use Rattle.yq_ways.specs.Replacing.{place_segments, node_in, scalar_in, are_same, is_kept, collection_written, value_written, replace_at, replace_way}
+use Rattle.yq_tree.specs.NodesAt.{node_in, scalar_in}
+use Rattle.yq_ways.specs.Replacing.{place_segments, are_same, is_kept, collection_written, value_written, replace_at, replace_way}
 use Rattle.yq_ways.specs.Style.{new_style}
 use Rattle.yq_ways.specs.Local.{IsLocal, IsLocalTo, IsLocalWay}
 use Rattle.yq_ways.specs.Ways.{IsWay, ReadsAfter}

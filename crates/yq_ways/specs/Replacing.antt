@@ -1,7 +1,6 @@
 -- A way to replace nodes: an inline one takes the place of an inline one outside flow collections, or of nothing.
-use Rattle.std.specs.Prelude.{ℕ, List, [], ◌∷◌, Option, Some, None, option_map, slice_get, Bool, true, false, if◌then◌else◌}
+use Rattle.std.specs.Prelude.{ℕ, List, [], ◌∷◌, Option, Some, None, option_map, Bool, true, false, if◌then◌else◌}
 use Rattle.yq_scalar.specs.Answers.{◌>>=◌}
-use Rattle.yq_scalar.specs.Paths.{Step, node_at}
 use Rattle.yq_scalar.specs.Scalar.{ScalarText}
 use Rattle.yq_scalar.specs.Tree.{Node, alias, scalar, list, map, Children, none, child}
 use Rattle.yq_scalar.specs.Written.{written}
@@ -9,22 +8,11 @@ use Rattle.yq_inline.specs.Scalars.{style_of}
 use Rattle.yq_inline.specs.Written.{flow_text}
 use Rattle.yq_rows.specs.Rows.{Cut}
 use Rattle.yq_tree.specs.InlinePlaces.{InlinePlace, written_text, apart_from, inline_from}
-use Rattle.yq_documents.specs.Reading.{documents}
+use Rattle.yq_tree.specs.NodesAt.{node_in, scalar_in}
 use Rattle.yq_meaning.specs.Operations.{replace, append, remove, line_comment, head_comment}
 use Rattle.yq_script.specs.Script.{Segment, keep, put}
 use Rattle.yq_ways.specs.Style.{is_same, new_style}
 use Rattle.yq_ways.specs.Ways.{Way}
-
--- the node to which steps lead in document n of a cut (own)
-abbrev pub node_in : ℕ → List Step → Cut → Option Node
-node_in n steps c = slice_get (documents c) n >>= λ d. node_at steps d.root
-
--- the scalar that a node is (YAML 1.2.2, section 3.2.1)
-abbrev pub scalar_in : Node → Option ScalarText
-scalar_in (alias name) = None
-scalar_in (scalar anchor kind text) = Some (record { kind = kind; text = text })
-scalar_in (list anchor cs) = None
-scalar_in (map anchor cs) = None
 
 -- whether there are two scalars, and they are equal (own)
 abbrev pub are_same : Option ScalarText → Option ScalarText → Bool

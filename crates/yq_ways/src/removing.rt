@@ -142,7 +142,9 @@ pub fn remove_way<'d>(
     let Op::Remove(path) = op else {
         return Ok(None);
     };
-    if !documents.has_others(path) {
+    let cut = documents.cut();
+    let others = cut.has_others(alloc, path)?;
+    if !others {
         return Ok(None);
     }
     let Some(removal) = documents.removal(path) else {

@@ -37,7 +37,9 @@ pub fn remove_first_way<'d>(
     let Op::Remove(path) = op else {
         return Ok(None);
     };
-    if !documents.has_others(path) {
+    let cut = documents.cut();
+    let others = cut.has_others(alloc, path)?;
+    if !others {
         return Ok(None);
     }
     let Some(removal) = documents.first_removal(path) else {

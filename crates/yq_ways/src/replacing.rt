@@ -4,7 +4,8 @@ ghost use Rattle.std.specs.Prelude.{◌≡◌, IfOk, Some, option_map, string_by
 ghost use Rattle.yq_inline.specs.Values as values;
 ghost use Rattle.yq_lines.specs.Bodies.{lent};
 ghost use Rattle.yq_tree.specs.InlinePlaces as places;
-ghost use Rattle.yq_documents.specs.Nodes.{node_of};
+ghost use Rattle.yq_tree.specs.NodesAt.{node_in, scalar_in};
+ghost use Rattle.yq_documents.specs.Located.{steps_of};
 ghost use Rattle.yq_documents.specs.Reading.{cut_of};
 ghost use Rattle.yq_meaning.specs.Operations.{operation_of};
 ghost use Rattle.yq_ways.specs.PlaceViews.{inline_view};
@@ -16,24 +17,34 @@ use std::alloc::{AllocError, Global};
 use yq_flow::write_inline;
 use yq_inline::{Value, style_of};
 use yq_meaning::Op;
-use yq_scalar::{Place, write_scalar};
+use yq_scalar::{Kind, Place, write_scalar};
 use yq_script::{Segment, Segments};
-use yq_tree::{Documents, InlinePlace, Node, NodeKind};
+use yq_tree::{CutText, Documents, InlinePlace, Path};
 
-/// Whether a value is a scalar equal to the node that is there, if one is.
-pub fn is_kept(node: Option<Node<'_, '_>>, value: &Value) -> bool
-    ensures { result ≡ spec.is_kept (option_map node_of node.entry) (values.node_of value.now) }
+/// Whether a value is a scalar of that kind and that text.
+fn is_scalar(kind: Kind, text: &str, value: &Value) -> bool
+    ensures { result ≡ spec.are_same (Some (record { kind = kind; text = text.now })) (scalar_in (values.node_of value.now)) }
 {
-    let Some(node) = node else {
-        return false;
-    };
-    let NodeKind::Scalar(kind) = node.kind() else {
-        return false;
-    };
     let Value::Scalar(scalar) = value else {
         return false;
     };
-    is_same(kind, node.text(), scalar)
+    is_same(kind, text, scalar)
+}
+
+/// Whether a value is a scalar equal to the node at a path, if one is there.
+pub fn is_kept(
+    alloc: Global,
+    text: &CutText<'_, '_>,
+    path: &Path,
+    value: &Value,
+) -> Result<bool, AllocError>
+    ensures { IfOk result (λ b. b ≡ spec.is_kept (node_in path.now.doc (steps_of path.now) (cut_of text.now)) (values.node_of value.now)) }
+{
+    let found = text.scalar_at(alloc, path)?;
+    let Some((kind, old)) = found else {
+        return Ok(false);
+    };
+    Ok(is_scalar(kind, old.text(), value))
 }
 
 /// The text that is written in a place, or nothing.
@@ -114,7 +125,9 @@ pub fn replace_way<'d>(
         return Ok(None);
     };
     let old = written(place.old);
-    if is_kept(documents.locate(path), value) {
+    let cut = documents.cut();
+    let stays = is_kept(alloc, &cut, path, value)?;
+    if stays {
         let same = String::from_str(alloc, old)?;
         return put(alloc, &place, old, same);
     }

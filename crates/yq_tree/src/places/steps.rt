@@ -1,11 +1,17 @@
 //! By how many columns the collections of a document stand deeper than their keys.
-ghost use Rattle.std.specs.Prelude.{◌≡◌, length, Bool};
-ghost use Rattle.yq_lines.specs.View.{mark_view, view, views};
+ghost use Rattle.std.specs.Prelude.{◌≡◌, Bool};
+ghost use Rattle.yq_documents.specs.Lines.{lines_of};
 ghost use Rattle.yq_documents.specs.Reading.{cut_of};
+ghost use Rattle.yq_tree.specs.Extents.{IsShown};
+ghost use Rattle.yq_tree.specs.RowWalk.{HasDocument};
+ghost use Rattle.yq_tree.specs.StepReading as reading;
 ghost use Rattle.yq_tree.specs.Steps as spec;
 
+use crate::cut_text::CutText;
 use crate::document::Documents;
-use yq_lines::{Line, Mark, level};
+use crate::places::extent::lines_before_mark;
+use crate::places::spot::{Spot, Stretch, level_at};
+use yq_rows::Rows;
 
 /// How much deeper than its key a mapping, and a sequence, stands in a document.
 #[derive(Clone, Copy, Debug)]
@@ -14,67 +20,68 @@ pub struct Steps {
     pub sequence: usize,
 }
 
-/// Whether a line begins with a key.
-fn is_key(mark: &Mark<'_>) -> bool
-    ensures { result ≡ spec.is_key (mark_view mark.now) }
+/// Whether of two lines of these levels, one right behind the other, the first is a key and the other
+/// begins a collection under it, one of dashes or of keys.
+fn begins_under(above: usize, level: usize, dashes: bool) -> bool
+    ensures { result ≡ reading.begins_under dashes above level }
 {
-    match mark {
-        Mark::Bare => false,
-        Mark::Dash => false,
-        Mark::Key(_) => true,
-    }
-}
-
-/// Whether a line begins with a dash, or with a key.
-fn is_kind(mark: &Mark<'_>, dashes: bool) -> bool
-    ensures { result ≡ spec.is_kind dashes (mark_view mark.now) }
-{
-    match mark {
-        Mark::Bare => false,
-        Mark::Dash => dashes,
-        Mark::Key(_) => !dashes,
-    }
-}
-
-/// Whether a line begins a collection that stands under the key of the line before it.
-fn begins_under(above: &Line<'_>, line: &Line<'_>, dashes: bool) -> bool
-    ensures { result ≡ spec.begins_under (spec.is_kind dashes) (view above.now) (view line.now) }
-{
-    is_key(&above.mark) && is_kind(&line.mark, dashes) && level(above) < level(line)
+    let kind = if dashes { 0 } else { 2 };
+    above % 3 == 2 && (level % 3 == kind && above < level)
 }
 
 /// By how many columns the first sequence, or mapping, that stands under a key is deeper than that
-/// key.
-fn first_step(lines: &[Line<'_>], dashes: bool) -> usize
-    ensures { result ≡ spec.first_step (spec.is_kind dashes) (views lines.now) }
+/// key. It begins a row, since a key ends one.
+fn first_step(rows: &Rows<'_>, document: Stretch, dashes: bool) -> usize
+    requires shown { IsShown rows.now }
+    requires document { HasDocument rows.now document }
+    ensures { (h : HasDocument rows.now document) → result ≡ spec.first_step (spec.is_kind dashes) (lines_of h.rows) }
 {
-    let mut rest = lines;
-    'lines: while let [above, line, ..] = rest {
-        if begins_under(above, line, dashes) {
-            return (line.column as usize).saturating_sub(above.column as usize);
+    let mut above = 0;
+    'rows: for at in document.first..document.end {
+        let first = level_at(rows, Spot { row: at, line: 0 });
+        if begins_under(above, first, dashes) {
+            return (first - above) / 3;
         }
-        rest = &rest[1..];
+        let last = lines_before_mark(&rows.row(at));
+        above = level_at(
+            rows,
+            Spot {
+                row: at,
+                line: last,
+            },
+        );
     }
     2
 }
 
-impl Documents<'_> {
+impl CutText<'_, '_> {
     /// The steps of document `doc`, counted from 0; 2 where it has no collections under keys, or
     /// isn't there.
     pub fn steps(&self, doc: usize) -> Steps
         ensures mapping { result.mapping ≡ (spec.document_steps doc (cut_of self.now)).mapping }
         ensures sequence { result.sequence ≡ (spec.document_steps doc (cut_of self.now)).sequence }
     {
-        if doc >= self.documents.len() {
+        let _whole = self.whole();
+        let rows = self.rows();
+        let Some(document) = self.stretch(doc) else {
             return Steps {
                 mapping: 2,
                 sequence: 2,
             };
-        }
-        let lines = self.documents[doc].lines.lines();
+        };
         Steps {
-            mapping: first_step(lines, false),
-            sequence: first_step(lines, true),
+            mapping: first_step(rows, document, false),
+            sequence: first_step(rows, document, true),
         }
+    }
+}
+
+impl Documents<'_> {
+    /// The same of the text of the documents.
+    pub fn steps(&self, doc: usize) -> Steps
+        ensures mapping { result.mapping ≡ (spec.document_steps doc (cut_of self.now)).mapping }
+        ensures sequence { result.sequence ≡ (spec.document_steps doc (cut_of self.now)).sequence }
+    {
+        self.cut().steps(doc)
     }
 }

@@ -1,7 +1,10 @@
-use Rattle.std.proofs.Common.{rules, sym, option_map, subst}
+use Rattle.std.proofs.Common.{rules, ℕ, List, sym, ap, ◌∙◌, subst}
 use Rattle.yq_inline.specs.Values as values
-use Rattle.yq_documents.specs.Nodes.{node_of}
-use Rattle.yq_block_ways.specs.ScalarReplacing.{scalar_line_way}
+use Rattle.yq_documents.specs.Located.{steps_of}
+use Rattle.yq_documents.specs.Reading.{cut_of}
+use Rattle.yq_tree.specs.NodesAt.{node_in}
+use Rattle.yq_ways.specs.Replacing.{is_kept}
+use Rattle.yq_block_ways.specs.ScalarReplacing.{has_text, scalar_line_way}
 use Rattle.yq_ways.specs.WayAnswers.{Carries}
 use Rattle.yq_block_ways.proofs.ScalarAnswers.{no_line, line_there}
 use Rattle.yq_block_ways.proofs.scalar_line.scalar_line_way.Goals as goal
@@ -16,6 +19,9 @@ returns-in_default-scalar_place c =
 
 pub returns : goal.returns
 returns c =
-    let way = line_there c.in-Replace.path (values.node_of c.in-Replace.value) c.args.documents.now c.scalar_place.result c.scalar_place.ensures c.in-Some.place (option_map node_of c.locate.result) (option_map node_of c.locate-2.result)
-    c.is_kept-kept.result c.has_text-text.result c.in-Some.is c.locate.ensures.node c.is_kept-kept.ensures c.locate-2.ensures.node c.has_text-text.ensures in
+    let p = c.in-Replace.path in
+    let v = values.node_of c.in-Replace.value in
+    let way = line_there p v c.args.documents.now c.scalar_place.result c.scalar_place.ensures c.in-Some.place c.in_ok-kept.kept c.in_ok-text.text c.in-Some.is
+    (c.in_ok-kept.ensures ∙ ap (λ (t : List ℕ). is_kept (node_in p.doc (steps_of p) (cut_of t)) v) c.cut-cut.ensures)
+    (c.in_ok-text.ensures ∙ ap (λ (t : List ℕ). has_text (node_in p.doc (steps_of p) (cut_of t))) c.cut-cut.ensures) in
     rw c.in-Replace.is (subst (Carries c.line_at.result) (sym way) c.line_at.ensures)

@@ -1,6 +1,9 @@
-use Rattle.std.proofs.Common.{rules, sym, option_map, subst}
+use Rattle.std.proofs.Common.{rules, ℕ, List, sym, ap, ◌∙◌, subst}
 use Rattle.yq_inline.specs.Values as values
-use Rattle.yq_documents.specs.Nodes.{node_of}
+use Rattle.yq_documents.specs.Located.{steps_of}
+use Rattle.yq_documents.specs.Reading.{cut_of}
+use Rattle.yq_tree.specs.NodesAt.{node_in}
+use Rattle.yq_block_ways.specs.ScalarReplacing.{has_text}
 use Rattle.yq_block_ways.specs.ScalarLiteral.{scalar_literal_way}
 use Rattle.yq_ways.specs.WayAnswers.{Carries}
 use Rattle.yq_block_ways.proofs.ScalarAnswers.{no_literal, literal_there}
@@ -16,6 +19,7 @@ returns-in_default-scalar_place c =
 
 pub returns : goal.returns
 returns c =
-    let way = literal_there c.in-Replace.path (values.node_of c.in-Replace.value) c.args.documents.now c.scalar_place.result c.scalar_place.ensures c.in-Some.place (option_map node_of c.locate.result)
-    c.has_text-text.result c.first_break.result c.in-Some.is c.locate.ensures.node c.has_text-text.ensures c.first_break.ensures in
+    let p = c.in-Replace.path in
+    let way = literal_there p (values.node_of c.in-Replace.value) c.args.documents.now c.scalar_place.result c.scalar_place.ensures c.in-Some.place c.in_ok-text.text c.first_break.result c.in-Some.is
+    (c.in_ok-text.ensures ∙ ap (λ (t : List ℕ). has_text (node_in p.doc (steps_of p) (cut_of t))) c.cut-cut.ensures) c.first_break.ensures in
     rw c.in-Replace.is (subst (Carries c.literal_at.result) (sym way) c.literal_at.ensures)

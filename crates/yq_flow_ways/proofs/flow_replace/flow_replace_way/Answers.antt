@@ -9,42 +9,44 @@ use Rattle.yq_inline.specs.Values.{node_of}
 use Rattle.yq_inline.specs.View.{view}
 use Rattle.yq_documents.specs.Reading.{cut_of}
 use Rattle.yq_script.specs.Script.{keep}
+use Rattle.yq_tree.specs.FlowTold.{collection_along}
 use Rattle.yq_flow_ways.specs.FlowWays.{edit_segments, last_step, value_text}
+use Rattle.yq_tree.specs.NodesAt.{node_in}
 use Rattle.yq_ways.specs.Replacing.{is_kept}
 use Rattle.yq_ways.specs.WayAnswers.{Carries}
 use Rattle.yq_flow_ways.proofs.FlowReplaceAnswers.{Finds, content_kept, content_missing, content_told}
-use Rattle.yq_ways.proofs.ReplaceAnswers.{node_located}
+use Rattle.yq_flow_ways.proofs.FlowAnswers.{found_along}
 use Rattle.yq_flow_ways.proofs.flow_replace.flow_replace_way.Goals as goal
 
 pub returns-in_default-part : goal.returns-in_default-part
 returns-in_default-part c =
     let t : List ℕ = c.args.documents.now in
     let s : Step = step_of c.in-Some.last.now in
-    let q : Placed = view c.in-Some-flow_collection.node.now in
+    let q : Placed = view c.in-Some-collection_along.node.now in
     let path : List Step = map step_of c.in-Replace.path.steps.items in
     let v : Node = node_of c.in-Replace.value in
     let finds : Finds t (cut_of t) c.in-Replace.path.doc path (map step_of c.in-Some.above.now) s q None = record {
       read = c.text-text.ensures.read;
       last = c.in-Some.ensures ∙ ap (λ xs. last_step (map step_of xs)) c.deref.ensures.value;
-      found = c.in-Some-flow_collection.ensures;
+      found = (found_along _ t c.cut-cut.result c.in-Replace.path.doc (map step_of c.in-Some.above.now) c.in_ok-found.found (c.in-Some-found.head, c.in-Some-found.left) (view c.in-Some-collection_along.node.now) c.cut-cut.ensures c.in_ok-found.ensures c.in-Some-found.is (c.in-Some-collection_along.ensures ∙ ap (λ y. collection_along (map step_of c.in-Some-found.left.now) (view y)) c.deref-2.ensures));
       part = c.in_default-part.ensures;
     } in
     rw c.in-Replace.is (content_missing t c.in-Replace.path.doc path (map step_of c.in-Some.above.now) s q v finds)
 
-pub returns-then-is_kept : goal.returns-then-is_kept
-returns-then-is_kept c =
+pub returns-then-stays : goal.returns-then-stays
+returns-then-stays c =
     let t : List ℕ = c.args.documents.now in
     let s : Step = step_of c.in-Some.last.now in
-    let q : Placed = view c.in-Some-flow_collection.node.now in
+    let q : Placed = view c.in-Some-collection_along.node.now in
     let path : List Step = map step_of c.in-Replace.path.steps.items in
     let v : Node = node_of c.in-Replace.value in
     let finds : Finds t (cut_of t) c.in-Replace.path.doc path (map step_of c.in-Some.above.now) s q (Some (entry_view c.in-Some-part.entry)) = record {
       read = c.text-text.ensures.read;
       last = c.in-Some.ensures ∙ ap (λ xs. last_step (map step_of xs)) c.deref.ensures.value;
-      found = c.in-Some-flow_collection.ensures;
+      found = (found_along _ t c.cut-cut.result c.in-Replace.path.doc (map step_of c.in-Some.above.now) c.in_ok-found.found (c.in-Some-found.head, c.in-Some-found.left) (view c.in-Some-collection_along.node.now) c.cut-cut.ensures c.in_ok-found.ensures c.in-Some-found.is (c.in-Some-collection_along.ensures ∙ ap (λ y. collection_along (map step_of c.in-Some-found.left.now) (view y)) c.deref-2.ensures));
       part = c.in-Some-part.ensures;
     } in
-    let kept = ap (λ (m : Option Node). is_kept m v) (sym (node_located c.in-Replace.path t) ∙ sym c.locate.ensures.node) ∙ (sym c.is_kept.ensures ∙ c.if-is_kept.true) in
+    let kept = ap (λ (y : List ℕ). is_kept (node_in c.in-Replace.path.doc path (cut_of y)) v) (sym c.cut-cut.ensures) ∙ (sym c.in_ok-stays.ensures ∙ c.if-stays.true) in
     let way = content_kept t c.in-Replace.path.doc path (map step_of c.in-Some.above.now) s q (entry_view c.in-Some-part.entry) v finds kept in
     rw c.in-Replace.is (subst (Carries c.kept.result) (sym (way ∙ ap (λ (x : List ℕ). Some (keep x ∷ [])) (sym c.text-text.ensures.text))) c.kept.ensures)
 
@@ -52,13 +54,13 @@ pub text_at-requires-clause-order : goal.text_at-requires-clause-order
 text_at-requires-clause-order c =
     let t : List ℕ = c.args.documents.now in
     let s : Step = step_of c.in-Some.last.now in
-    let q : Placed = view c.in-Some-flow_collection.node.now in
+    let q : Placed = view c.in-Some-collection_along.node.now in
     let path : List Step = map step_of c.in-Replace.path.steps.items in
     let v : Node = node_of c.in-Replace.value in
     let finds : Finds t (cut_of t) c.in-Replace.path.doc path (map step_of c.in-Some.above.now) s q (Some (entry_view c.in-Some-part.entry)) = record {
       read = c.text-text.ensures.read;
       last = c.in-Some.ensures ∙ ap (λ xs. last_step (map step_of xs)) c.deref.ensures.value;
-      found = c.in-Some-flow_collection.ensures;
+      found = (found_along _ t c.cut-cut.result c.in-Replace.path.doc (map step_of c.in-Some.above.now) c.in_ok-found.found (c.in-Some-found.head, c.in-Some-found.left) (view c.in-Some-collection_along.node.now) c.cut-cut.ensures c.in_ok-found.ensures c.in-Some-found.is (c.in-Some-collection_along.ensures ∙ ap (λ y. collection_along (map step_of c.in-Some-found.left.now) (view y)) c.deref-2.ensures));
       part = c.in-Some-part.ensures;
     } in
     let h = content_told t c.in-Replace.path.doc path (map step_of c.in-Some.above.now) s q (entry_view c.in-Some-part.entry) v (edit_view c.replace_place-place.result) finds c.replace_place-place.ensures in
@@ -68,13 +70,13 @@ pub text_at-requires-clause-start : goal.text_at-requires-clause-start
 text_at-requires-clause-start c =
     let t : List ℕ = c.args.documents.now in
     let s : Step = step_of c.in-Some.last.now in
-    let q : Placed = view c.in-Some-flow_collection.node.now in
+    let q : Placed = view c.in-Some-collection_along.node.now in
     let path : List Step = map step_of c.in-Replace.path.steps.items in
     let v : Node = node_of c.in-Replace.value in
     let finds : Finds t (cut_of t) c.in-Replace.path.doc path (map step_of c.in-Some.above.now) s q (Some (entry_view c.in-Some-part.entry)) = record {
       read = c.text-text.ensures.read;
       last = c.in-Some.ensures ∙ ap (λ xs. last_step (map step_of xs)) c.deref.ensures.value;
-      found = c.in-Some-flow_collection.ensures;
+      found = (found_along _ t c.cut-cut.result c.in-Replace.path.doc (map step_of c.in-Some.above.now) c.in_ok-found.found (c.in-Some-found.head, c.in-Some-found.left) (view c.in-Some-collection_along.node.now) c.cut-cut.ensures c.in_ok-found.ensures c.in-Some-found.is (c.in-Some-collection_along.ensures ∙ ap (λ y. collection_along (map step_of c.in-Some-found.left.now) (view y)) c.deref-2.ensures));
       part = c.in-Some-part.ensures;
     } in
     let h = content_told t c.in-Replace.path.doc path (map step_of c.in-Some.above.now) s q (entry_view c.in-Some-part.entry) v (edit_view c.replace_place-place.result) finds c.replace_place-place.ensures in
@@ -84,13 +86,13 @@ pub text_at-requires-clause-end : goal.text_at-requires-clause-end
 text_at-requires-clause-end c =
     let t : List ℕ = c.args.documents.now in
     let s : Step = step_of c.in-Some.last.now in
-    let q : Placed = view c.in-Some-flow_collection.node.now in
+    let q : Placed = view c.in-Some-collection_along.node.now in
     let path : List Step = map step_of c.in-Replace.path.steps.items in
     let v : Node = node_of c.in-Replace.value in
     let finds : Finds t (cut_of t) c.in-Replace.path.doc path (map step_of c.in-Some.above.now) s q (Some (entry_view c.in-Some-part.entry)) = record {
       read = c.text-text.ensures.read;
       last = c.in-Some.ensures ∙ ap (λ xs. last_step (map step_of xs)) c.deref.ensures.value;
-      found = c.in-Some-flow_collection.ensures;
+      found = (found_along _ t c.cut-cut.result c.in-Replace.path.doc (map step_of c.in-Some.above.now) c.in_ok-found.found (c.in-Some-found.head, c.in-Some-found.left) (view c.in-Some-collection_along.node.now) c.cut-cut.ensures c.in_ok-found.ensures c.in-Some-found.is (c.in-Some-collection_along.ensures ∙ ap (λ y. collection_along (map step_of c.in-Some-found.left.now) (view y)) c.deref-2.ensures));
       part = c.in-Some-part.ensures;
     } in
     let h = content_told t c.in-Replace.path.doc path (map step_of c.in-Some.above.now) s q (entry_view c.in-Some-part.entry) v (edit_view c.replace_place-place.result) finds c.replace_place-place.ensures in
@@ -100,13 +102,13 @@ pub edit_at-requires-clause-order : goal.edit_at-requires-clause-order
 edit_at-requires-clause-order c =
     let t : List ℕ = c.args.documents.now in
     let s : Step = step_of c.in-Some.last.now in
-    let q : Placed = view c.in-Some-flow_collection.node.now in
+    let q : Placed = view c.in-Some-collection_along.node.now in
     let path : List Step = map step_of c.in-Replace.path.steps.items in
     let v : Node = node_of c.in-Replace.value in
     let finds : Finds t (cut_of t) c.in-Replace.path.doc path (map step_of c.in-Some.above.now) s q (Some (entry_view c.in-Some-part.entry)) = record {
       read = c.text-text.ensures.read;
       last = c.in-Some.ensures ∙ ap (λ xs. last_step (map step_of xs)) c.deref.ensures.value;
-      found = c.in-Some-flow_collection.ensures;
+      found = (found_along _ t c.cut-cut.result c.in-Replace.path.doc (map step_of c.in-Some.above.now) c.in_ok-found.found (c.in-Some-found.head, c.in-Some-found.left) (view c.in-Some-collection_along.node.now) c.cut-cut.ensures c.in_ok-found.ensures c.in-Some-found.is (c.in-Some-collection_along.ensures ∙ ap (λ y. collection_along (map step_of c.in-Some-found.left.now) (view y)) c.deref-2.ensures));
       part = c.in-Some-part.ensures;
     } in
     let h = content_told t c.in-Replace.path.doc path (map step_of c.in-Some.above.now) s q (entry_view c.in-Some-part.entry) v (edit_view c.replace_place-place.result) finds c.replace_place-place.ensures in
@@ -116,13 +118,13 @@ pub edit_at-requires-clause-start : goal.edit_at-requires-clause-start
 edit_at-requires-clause-start c =
     let t : List ℕ = c.args.documents.now in
     let s : Step = step_of c.in-Some.last.now in
-    let q : Placed = view c.in-Some-flow_collection.node.now in
+    let q : Placed = view c.in-Some-collection_along.node.now in
     let path : List Step = map step_of c.in-Replace.path.steps.items in
     let v : Node = node_of c.in-Replace.value in
     let finds : Finds t (cut_of t) c.in-Replace.path.doc path (map step_of c.in-Some.above.now) s q (Some (entry_view c.in-Some-part.entry)) = record {
       read = c.text-text.ensures.read;
       last = c.in-Some.ensures ∙ ap (λ xs. last_step (map step_of xs)) c.deref.ensures.value;
-      found = c.in-Some-flow_collection.ensures;
+      found = (found_along _ t c.cut-cut.result c.in-Replace.path.doc (map step_of c.in-Some.above.now) c.in_ok-found.found (c.in-Some-found.head, c.in-Some-found.left) (view c.in-Some-collection_along.node.now) c.cut-cut.ensures c.in_ok-found.ensures c.in-Some-found.is (c.in-Some-collection_along.ensures ∙ ap (λ y. collection_along (map step_of c.in-Some-found.left.now) (view y)) c.deref-2.ensures));
       part = c.in-Some-part.ensures;
     } in
     let h = content_told t c.in-Replace.path.doc path (map step_of c.in-Some.above.now) s q (entry_view c.in-Some-part.entry) v (edit_view c.replace_place-place.result) finds c.replace_place-place.ensures in
@@ -132,13 +134,13 @@ pub edit_at-requires-clause-end : goal.edit_at-requires-clause-end
 edit_at-requires-clause-end c =
     let t : List ℕ = c.args.documents.now in
     let s : Step = step_of c.in-Some.last.now in
-    let q : Placed = view c.in-Some-flow_collection.node.now in
+    let q : Placed = view c.in-Some-collection_along.node.now in
     let path : List Step = map step_of c.in-Replace.path.steps.items in
     let v : Node = node_of c.in-Replace.value in
     let finds : Finds t (cut_of t) c.in-Replace.path.doc path (map step_of c.in-Some.above.now) s q (Some (entry_view c.in-Some-part.entry)) = record {
       read = c.text-text.ensures.read;
       last = c.in-Some.ensures ∙ ap (λ xs. last_step (map step_of xs)) c.deref.ensures.value;
-      found = c.in-Some-flow_collection.ensures;
+      found = (found_along _ t c.cut-cut.result c.in-Replace.path.doc (map step_of c.in-Some.above.now) c.in_ok-found.found (c.in-Some-found.head, c.in-Some-found.left) (view c.in-Some-collection_along.node.now) c.cut-cut.ensures c.in_ok-found.ensures c.in-Some-found.is (c.in-Some-collection_along.ensures ∙ ap (λ y. collection_along (map step_of c.in-Some-found.left.now) (view y)) c.deref-2.ensures));
       part = c.in-Some-part.ensures;
     } in
     let h = content_told t c.in-Replace.path.doc path (map step_of c.in-Some.above.now) s q (entry_view c.in-Some-part.entry) v (edit_view c.replace_place-place.result) finds c.replace_place-place.ensures in
@@ -148,17 +150,17 @@ pub returns : goal.returns
 returns c =
     let t : List ℕ = c.args.documents.now in
     let s : Step = step_of c.in-Some.last.now in
-    let q : Placed = view c.in-Some-flow_collection.node.now in
+    let q : Placed = view c.in-Some-collection_along.node.now in
     let path : List Step = map step_of c.in-Replace.path.steps.items in
     let v : Node = node_of c.in-Replace.value in
     let finds : Finds t (cut_of t) c.in-Replace.path.doc path (map step_of c.in-Some.above.now) s q (Some (entry_view c.in-Some-part.entry)) = record {
       read = c.text-text.ensures.read;
       last = c.in-Some.ensures ∙ ap (λ xs. last_step (map step_of xs)) c.deref.ensures.value;
-      found = c.in-Some-flow_collection.ensures;
+      found = (found_along _ t c.cut-cut.result c.in-Replace.path.doc (map step_of c.in-Some.above.now) c.in_ok-found.found (c.in-Some-found.head, c.in-Some-found.left) (view c.in-Some-collection_along.node.now) c.cut-cut.ensures c.in_ok-found.ensures c.in-Some-found.is (c.in-Some-collection_along.ensures ∙ ap (λ y. collection_along (map step_of c.in-Some-found.left.now) (view y)) c.deref-2.ensures));
       part = c.in-Some-part.ensures;
     } in
     let h = content_told t c.in-Replace.path.doc path (map step_of c.in-Some.above.now) s q (entry_view c.in-Some-part.entry) v (edit_view c.replace_place-place.result) finds c.replace_place-place.ensures in
-    let kept = ap (λ (m : Option Node). is_kept m v) (sym (node_located c.in-Replace.path t) ∙ sym c.locate.ensures.node) ∙ (sym c.is_kept.ensures ∙ c.if-is_kept.false) in
+    let kept = ap (λ (y : List ℕ). is_kept (node_in c.in-Replace.path.doc path (cut_of y)) v) (sym c.cut-cut.ensures) ∙ (sym c.in_ok-stays.ensures ∙ c.if-stays.false) in
     let old = c.text_at.ensures ∙ ap (λ (x : List ℕ). drop c.replace_place-place.result.start (take c.replace_place-place.result.end x)) c.text-text.ensures.text in
     let written = c.in_ok-new.ensures ∙ ap (λ (x : List ℕ). value_text x v) old in
     let place = edit_view c.replace_place-place.result in

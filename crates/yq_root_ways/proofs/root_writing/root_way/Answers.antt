@@ -1,6 +1,9 @@
-use Rattle.std.proofs.Common.{rules, option_map, sym, subst}
+use Rattle.std.proofs.Common.{rules, ℕ, List, sym, ap, ◌∙◌, subst}
 use Rattle.yq_inline.specs.Values as values
-use Rattle.yq_documents.specs.Nodes.{node_of}
+use Rattle.yq_documents.specs.Located.{steps_of}
+use Rattle.yq_documents.specs.Reading.{cut_of}
+use Rattle.yq_tree.specs.NodesAt.{node_in}
+use Rattle.yq_ways.specs.Replacing.{is_kept}
 use Rattle.yq_root_ways.specs.RootWriting.{root_way}
 use Rattle.yq_ways.specs.WayAnswers.{Carries}
 use Rattle.yq_root_ways.proofs.RootAnswers.{no_place, collection_there, nothing_there}
@@ -22,6 +25,8 @@ returns-in-Some-old c =
 
 pub returns : goal.returns
 returns c =
-    let way = nothing_there c.in-Replace.path (values.node_of c.in-Replace.value) c.args.documents.now c.root_place.result c.root_place.ensures c.in-Some.place c.layout_of-layout.result c.is_kept-kept.result (option_map node_of c.locate.result)
-    c.in-Some.is c.in_default-old.is c.layout_of-layout.ensures c.locate.ensures.node c.is_kept-kept.ensures in
+    let p = c.in-Replace.path in
+    let v = values.node_of c.in-Replace.value in
+    let way = nothing_there p v c.args.documents.now c.root_place.result c.root_place.ensures c.in-Some.place c.layout_of-layout.result c.in_ok-kept.kept c.in-Some.is c.in_default-old.is c.layout_of-layout.ensures
+    (c.in_ok-kept.ensures ∙ ap (λ (t : List ℕ). is_kept (node_in p.doc (steps_of p) (cut_of t)) v) c.cut-cut.ensures) in
     rw c.in-Replace.is (subst (Carries c.put_new.result) (sym way) c.put_new.ensures)

@@ -1,8 +1,10 @@
-use Rattle.std.proofs.Common.{rules, Some, None, true, false, option_map, string_bytes, sym, ap, ◌∙◌, subst}
+use Rattle.std.proofs.Common.{rules, ℕ, List, Some, None, true, false, option_map, string_bytes, sym, ap, ◌∙◌, subst}
 use Rattle.yq_inline.specs.Values as values
-use Rattle.yq_documents.specs.Nodes.{node_of}
+use Rattle.yq_documents.specs.Located.{steps_of}
+use Rattle.yq_documents.specs.Reading.{cut_of}
 use Rattle.yq_tree.specs.InlinePlaces.{apart_from, written_text}
-use Rattle.yq_ways.specs.Replacing.{replace_way, place_segments, replace_at}
+use Rattle.yq_tree.specs.NodesAt.{node_in}
+use Rattle.yq_ways.specs.Replacing.{is_kept, replace_way, place_segments, replace_at}
 use Rattle.yq_ways.specs.WayAnswers.{Carries}
 use Rattle.yq_ways.specs.PlaceViews.{inline_view}
 use Rattle.yq_ways.proofs.ReplaceAnswers.{none_at, replaced_at, put_at}
@@ -16,12 +18,13 @@ pub returns-in_default-inline_place : goal.returns-in_default-inline_place
 returns-in_default-inline_place c =
     rw c.in-Replace.is (none_at c.in-Replace.path (values.node_of c.in-Replace.value) c.args.documents.now c.inline_place.result c.inline_place.ensures c.in_default-inline_place.is)
 
-pub returns-then-is_kept : goal.returns-then-is_kept
-returns-then-is_kept c =
+pub returns-then-stays : goal.returns-then-stays
+returns-then-stays c =
     let w = inline_view c.in-Some.place in
     let v = values.node_of c.in-Replace.value in
-    let way = replaced_at c.in-Replace.path v c.args.documents.now c.inline_place.result c.in-Some.place (option_map node_of c.locate.result) true
-    c.inline_place.ensures c.in-Some.is c.locate.ensures.node (sym c.is_kept.ensures ∙ c.if-is_kept.true) in
+    let p = c.in-Replace.path in
+    let kept = ap (λ (t : List ℕ). is_kept (node_in p.doc (steps_of p) (cut_of t)) v) (sym c.cut-cut.ensures) ∙ (sym c.in_ok-stays.ensures ∙ c.if-stays.true) in
+    let way = replaced_at p v c.args.documents.now c.inline_place.result c.in-Some.place true c.inline_place.ensures c.in-Some.is kept in
     let put : Carries c.put.result (replace_at true v w) =
     subst (λ t. Carries c.put.result (Some (place_segments w t t))) c.written-old.ensures
     (subst (λ t. Carries c.put.result (Some (place_segments w c.written-old.result.now t))) c.in_ok-same.ensures.ok c.put.ensures) in
@@ -31,8 +34,9 @@ pub returns-in_default-2 : goal.returns-in_default-2
 returns-in_default-2 c =
     let w = inline_view c.in-Some.place in
     let v = values.node_of c.in-Replace.value in
-    let way = replaced_at c.in-Replace.path v c.args.documents.now c.inline_place.result c.in-Some.place (option_map node_of c.locate.result) false
-    c.inline_place.ensures c.in-Some.is c.locate.ensures.node (sym c.is_kept.ensures ∙ c.if-is_kept.false) in
+    let p = c.in-Replace.path in
+    let kept = ap (λ (t : List ℕ). is_kept (node_in p.doc (steps_of p) (cut_of t)) v) (sym c.cut-cut.ensures) ∙ (sym c.in_ok-stays.ensures ∙ c.if-stays.false) in
+    let way = replaced_at p v c.args.documents.now c.inline_place.result c.in-Some.place false c.inline_place.ensures c.in-Some.is kept in
     let written = rw c.written-old.ensures at c.in_ok-text.ensures in
     rw c.in-Replace.is (way ∙ put_at v w None (sym (ap (option_map string_bytes) c.in_default-2.is) ∙ written))
 
@@ -40,8 +44,9 @@ pub returns : goal.returns
 returns c =
     let w = inline_view c.in-Some.place in
     let v = values.node_of c.in-Replace.value in
-    let way = replaced_at c.in-Replace.path v c.args.documents.now c.inline_place.result c.in-Some.place (option_map node_of c.locate.result) false
-    c.inline_place.ensures c.in-Some.is c.locate.ensures.node (sym c.is_kept.ensures ∙ c.if-is_kept.false) in
+    let p = c.in-Replace.path in
+    let kept = ap (λ (t : List ℕ). is_kept (node_in p.doc (steps_of p) (cut_of t)) v) (sym c.cut-cut.ensures) ∙ (sym c.in_ok-stays.ensures ∙ c.if-stays.false) in
+    let way = replaced_at p v c.args.documents.now c.inline_place.result c.in-Some.place false c.inline_place.ensures c.in-Some.is kept in
     let written = rw c.written-old.ensures at c.in_ok-text.ensures in
     let t = string_bytes c.in-Some-2.text in
     let put : Carries c.put-2.result (Some (place_segments w (written_text w.old) (apart_from w.old t))) =

@@ -1,7 +1,22 @@
-use Rattle.std.proofs.Common.{sym, ◌∙◌}
-use Rattle.yq_tree.specs.Steps.{is_kind}
-use Rattle.yq_tree.proofs.StepLaws.{first_short}
+use Rattle.std.proofs.Common.{◌≡◌, ◌-◌, drop, sym, ap, ◌∙◌, arith}
+use Rattle.std.proofs.lemmas.Option.{same_Some}
+use Rattle.yq_documents.specs.Lines.{lines_of}
+use Rattle.yq_tree.specs.Extents.{lines_before_mark}
+use Rattle.yq_tree.proofs.StepLaws.{step_behind, steps_told, step_here, step_on}
 use Rattle.yq_tree.proofs.places.steps.first_step.Goals as goal
 
-pub returns : goal.returns
-returns c = sym (first_short (is_kind c.args.dashes) c.lines.rest.now c.in_default.len_below) ∙ c.lines.invariant
+pub rows-init : goal.rows-init
+rows-init c = λ h.
+    let none : c.args.document.first - c.args.document.first ≡ 0 = omega arith in
+    ap (λ k. step_behind c.args.dashes 0 (lines_of (drop k h.rows))) none ∙ steps_told c.args.dashes (lines_of h.rows)
+
+pub returns-then-begins_under : goal.returns-then-begins_under
+returns-then-begins_under c = λ h.
+    step_here c.args.rows.now c.args.document h c.args.dashes c.rows.at c.rows.above c.level_at-first.result (omega arith) c.rows-test.true c.level_at-first.ensures (sym c.begins_under.ensures ∙ c.if-begins_under.true)
+    ∙ c.rows.invariant h
+
+pub rows-preserved : goal.rows-preserved
+rows-preserved c = λ h.
+    step_on c.args.rows.now c.args.document h c.args.dashes c.rows.at c.rows.above c.level_at-first.result (omega arith) c.rows-test.true c.level_at-first.ensures
+    c.lines_before_mark-last.result c.level_at-above.result (sym c.begins_under.ensures ∙ c.if-begins_under.false) (λ x e. c.lines_before_mark-last.ensures ∙ ap lines_before_mark (same_Some _ _ (sym c.row.ensures ∙ e))) c.level_at-above.ensures
+    ∙ c.rows.invariant h
