@@ -17,7 +17,7 @@ use yq_meaning::Op;
 use yq_scalar::block_written::break_text;
 use yq_scalar::push_spaces;
 use yq_script::{Segment, Segments};
-use yq_tree::{Documents, MarkPlace, Path};
+use yq_tree::{CutText, MarkPlace, Path};
 use yq_ways::layout_of;
 
 /// The column behind a dash and a space, where there could be so many spaces.
@@ -122,14 +122,14 @@ fn put_behind<'d>(
 }
 
 /// The key or dash behind which an inline node, or nothing, is written for the node at a path.
-fn block_mark<'d>(documents: &'d Documents<'_>, path: &Path) -> Option<MarkPlace<'d>>
-    ensures { option_map mark_told result ≡ spec.block_mark path.now.doc (steps_of path.now) (cut_of documents.now) }
+fn block_mark<'d>(cut: &CutText<'_, 'd>, path: &Path) -> Option<MarkPlace<'d>>
+    ensures { option_map mark_told result ≡ spec.block_mark path.now.doc (steps_of path.now) (cut_of cut.now) }
 {
-    let place = documents.inline_place(path)?;
+    let place = cut.inline_place(path)?;
     if place.alone {
         return None;
     }
-    documents.mark_place(path)
+    cut.mark_place(path)
 }
 
 /// Whether a collection begins on the line of a dash.
@@ -143,10 +143,10 @@ fn is_compact(place: &MarkPlace<'_>) -> bool
 /// nothing.
 pub fn replace_block_way<'d>(
     alloc: Global,
-    documents: &'d Documents<'_>,
+    cut: &CutText<'_, 'd>,
     op: &Op,
 ) -> Result<Option<Segments<'d>>, AllocError>
-    ensures { Carries result (spec.replace_block_way (operation_of op.now) (cut_of documents.now)) }
+    ensures { Carries result (spec.replace_block_way (operation_of op.now) (cut_of cut.now)) }
 {
     let Op::Replace(path, value) = op else {
         return Ok(None);
@@ -154,10 +154,10 @@ pub fn replace_block_way<'d>(
     if !is_filled(value) {
         return Ok(None);
     }
-    let Some(place) = block_mark(documents, path) else {
+    let Some(place) = block_mark(cut, path) else {
         return Ok(None);
     };
-    let layout = layout_of(documents, path.doc);
+    let layout = layout_of(cut, path.doc);
     if is_compact(&place) {
         put_behind(alloc, &layout, &place, value)
     } else {

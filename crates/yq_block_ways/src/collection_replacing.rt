@@ -19,7 +19,7 @@ use yq_block::{Layout, is_filled};
 use yq_inline::Value;
 use yq_meaning::Op;
 use yq_script::{Segment, Segments};
-use yq_tree::{CollectionEnd, Documents, MarkPlace, Path, split_break};
+use yq_tree::{CollectionEnd, CutText, MarkPlace, Path, split_break};
 use yq_ways::{inline_written, layout_of};
 
 /// A text up to the rest in which it ends, less its last break, and that break.
@@ -64,16 +64,13 @@ fn written_there(
 }
 
 /// The key or dash of the entry or item at a path, and the end of the block collection under it.
-fn lines_under<'d>(
-    documents: &'d Documents<'_>,
-    path: &Path,
-) -> Option<(MarkPlace<'d>, CollectionEnd<'d>)>
+fn lines_under<'d>(cut: &CutText<'_, 'd>, path: &Path) -> Option<(MarkPlace<'d>, CollectionEnd<'d>)>
     ensures ends { (w : MarkPlaceOf) (x : CollectionEndOf) → result ≡ Some (w, x) → spec.EndsIn w.behind.now x.behind.now }
-    ensures place { option_map (λ p. spec.lines_upto (mark_told p.0) (collection_told p.1)) result ≡ spec.lines_under path.now.doc (steps_of path.now) (cut_of documents.now) }
+    ensures place { option_map (λ p. spec.lines_upto (mark_told p.0) (collection_told p.1)) result ≡ spec.lines_under path.now.doc (steps_of path.now) (cut_of cut.now) }
 {
-    let _whole = documents.whole();
-    let mark = documents.mark_place(path)?;
-    let end = documents.collection_end(path)?;
+    let _whole = cut.whole();
+    let mark = cut.mark_place(path)?;
+    let end = cut.collection_end(path)?;
     Some((mark, end))
 }
 
@@ -105,16 +102,16 @@ fn exchange_under<'d>(
 /// A value put in the place of the block collection at a path.
 fn exchange_collection<'d>(
     alloc: Global,
-    documents: &'d Documents<'_>,
+    cut: &CutText<'_, 'd>,
     path: &Path,
     value: &Value,
 ) -> Result<Option<Segments<'d>>, AllocError>
-    ensures { Carries result (spec.collection_exchanged path.now.doc (steps_of path.now) (values.node_of value.now) (cut_of documents.now)) }
+    ensures { Carries result (spec.collection_exchanged path.now.doc (steps_of path.now) (values.node_of value.now) (cut_of cut.now)) }
 {
-    let Some((mark, end)) = lines_under(documents, path) else {
+    let Some((mark, end)) = lines_under(cut, path) else {
         return Ok(None);
     };
-    let layout = layout_of(documents, path.doc);
+    let layout = layout_of(cut, path.doc);
     let Some((beside, below)) = written_there(alloc, &layout, &mark, value)? else {
         return Ok(None);
     };
@@ -124,13 +121,13 @@ fn exchange_collection<'d>(
 /// An operation carried out by a value in the place of a block collection under a key or dash.
 pub fn replace_collection_way<'d>(
     alloc: Global,
-    documents: &'d Documents<'_>,
+    cut: &CutText<'_, 'd>,
     op: &Op,
 ) -> Result<Option<Segments<'d>>, AllocError>
-    ensures { Carries result (spec.replace_collection_way (operation_of op.now) (cut_of documents.now)) }
+    ensures { Carries result (spec.replace_collection_way (operation_of op.now) (cut_of cut.now)) }
 {
     let Op::Replace(path, value) = op else {
         return Ok(None);
     };
-    exchange_collection(alloc, documents, path, value)
+    exchange_collection(alloc, cut, path, value)
 }

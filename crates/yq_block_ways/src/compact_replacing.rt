@@ -19,7 +19,7 @@ use yq_block::{Layout, is_filled};
 use yq_inline::Value;
 use yq_meaning::Op;
 use yq_script::{Segment, Segments};
-use yq_tree::{CollectionEnd, DashPlace, Documents, Path};
+use yq_tree::{CollectionEnd, CutText, DashPlace, Path};
 use yq_ways::{inline_written, layout_of};
 
 /// What is written of a collection with items or entries behind a dash, or on lines under it.
@@ -59,15 +59,15 @@ fn value_behind(
 
 /// The dash of the item at a path, and the end of the compact collection behind it.
 fn compact_place<'d>(
-    documents: &'d Documents<'_>,
+    cut: &CutText<'_, 'd>,
     path: &Path,
 ) -> Option<(DashPlace<'d>, CollectionEnd<'d>)>
     ensures ends { (d : DashPlaceOf) (x : CollectionEndOf) → result ≡ Some (d, x) → EndsIn d.behind.now x.behind.now }
-    ensures place { option_map (λ p. spec.compact_upto (dash_told p.0) (collection_told p.1)) result ≡ spec.compact_place path.now.doc (steps_of path.now) (cut_of documents.now) }
+    ensures place { option_map (λ p. spec.compact_upto (dash_told p.0) (collection_told p.1)) result ≡ spec.compact_place path.now.doc (steps_of path.now) (cut_of cut.now) }
 {
-    let _whole = documents.whole();
-    let dash = documents.dash_place(path)?;
-    let end = documents.collection_end(path)?;
+    let _whole = cut.whole();
+    let dash = cut.dash_place(path)?;
+    let end = cut.collection_end(path)?;
     Some((dash, end))
 }
 
@@ -94,16 +94,16 @@ fn exchange_behind<'d>(
 /// A value put in the place of the compact collection at a path.
 fn exchange_compact<'d>(
     alloc: Global,
-    documents: &'d Documents<'_>,
+    cut: &CutText<'_, 'd>,
     path: &Path,
     value: &Value,
 ) -> Result<Option<Segments<'d>>, AllocError>
-    ensures { Carries result (spec.compact_exchanged path.now.doc (steps_of path.now) (values.node_of value.now) (cut_of documents.now)) }
+    ensures { Carries result (spec.compact_exchanged path.now.doc (steps_of path.now) (values.node_of value.now) (cut_of cut.now)) }
 {
-    let Some((dash, end)) = compact_place(documents, path) else {
+    let Some((dash, end)) = compact_place(cut, path) else {
         return Ok(None);
     };
-    let layout = layout_of(documents, path.doc);
+    let layout = layout_of(cut, path.doc);
     let Some(text) = value_behind(alloc, &layout, &dash, value)? else {
         return Ok(None);
     };
@@ -113,13 +113,13 @@ fn exchange_compact<'d>(
 /// An operation carried out by a value in the place of a compact collection.
 pub fn replace_compact_way<'d>(
     alloc: Global,
-    documents: &'d Documents<'_>,
+    cut: &CutText<'_, 'd>,
     op: &Op,
 ) -> Result<Option<Segments<'d>>, AllocError>
-    ensures { Carries result (spec.replace_compact_way (operation_of op.now) (cut_of documents.now)) }
+    ensures { Carries result (spec.replace_compact_way (operation_of op.now) (cut_of cut.now)) }
 {
     let Op::Replace(path, value) = op else {
         return Ok(None);
     };
-    exchange_compact(alloc, documents, path, value)
+    exchange_compact(alloc, cut, path, value)
 }

@@ -18,7 +18,7 @@ use yq_scalar::lines::split_at_break;
 use yq_scalar::push_spaces;
 use yq_scalar::text::split_white;
 use yq_script::{Segment, Segments};
-use yq_tree::{Documents, ScalarPlace};
+use yq_tree::{CutText, ScalarPlace};
 use yq_ways::layout_of;
 
 /// The column of a collection below a key or dash, where there could be so many spaces.
@@ -127,10 +127,10 @@ fn put_collection<'d>(
 /// An operation carried out by a collection in block style in the place of a block scalar.
 pub fn scalar_collection_way<'d>(
     alloc: Global,
-    documents: &'d Documents<'_>,
+    cut: &CutText<'_, 'd>,
     op: &Op,
 ) -> Result<Option<Segments<'d>>, AllocError>
-    ensures { Carries result (spec.scalar_collection_way (operation_of op.now) (cut_of documents.now)) }
+    ensures { Carries result (spec.scalar_collection_way (operation_of op.now) (cut_of cut.now)) }
 {
     let Op::Replace(path, value) = op else {
         return Ok(None);
@@ -138,9 +138,9 @@ pub fn scalar_collection_way<'d>(
     if !is_filled(value) {
         return Ok(None);
     }
-    let Some(place) = documents.scalar_place(path) else {
+    let Some(place) = cut.scalar_place(path) else {
         return Ok(None);
     };
-    let layout = layout_of(documents, path.doc);
+    let layout = layout_of(cut, path.doc);
     put_collection(alloc, &layout, place, value)
 }

@@ -19,7 +19,7 @@ use yq_scalar::lines::split_at_break;
 use yq_scalar::text::split_white;
 use yq_scalar::{Place, Style, can_write, write_scalar};
 use yq_script::{Segment, Segments};
-use yq_tree::{CutText, Documents, Path, ScalarPlace, split_break};
+use yq_tree::{CutText, Path, ScalarPlace, split_break};
 use yq_ways::{inline_written, is_kept};
 
 /// Whether a text holds more than line breaks.
@@ -144,19 +144,18 @@ fn line_at<'d>(
 /// An operation carried out by a value that is written inline in the place of a block scalar.
 pub fn scalar_line_way<'d>(
     alloc: Global,
-    documents: &'d Documents<'_>,
+    cut: &CutText<'_, 'd>,
     op: &Op,
 ) -> Result<Option<Segments<'d>>, AllocError>
-    ensures { Carries result (spec.scalar_line_way (operation_of op.now) (cut_of documents.now)) }
+    ensures { Carries result (spec.scalar_line_way (operation_of op.now) (cut_of cut.now)) }
 {
     let Op::Replace(path, value) = op else {
         return Ok(None);
     };
-    let Some(place) = documents.scalar_place(path) else {
+    let Some(place) = cut.scalar_place(path) else {
         return Ok(None);
     };
-    let cut = documents.cut();
-    let kept = is_kept(alloc, &cut, path, value)?;
-    let text = has_text(alloc, &cut, path)?;
+    let kept = is_kept(alloc, cut, path, value)?;
+    let text = has_text(alloc, cut, path)?;
     line_at(alloc, place, kept, text, value)
 }

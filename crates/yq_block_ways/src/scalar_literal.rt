@@ -13,7 +13,7 @@ use yq_inline::Value;
 use yq_meaning::Op;
 use yq_scalar::{Break, Place, Style, can_write, write_block};
 use yq_script::Segments;
-use yq_tree::{Documents, ScalarPlace};
+use yq_tree::{CutText, ScalarPlace};
 
 /// A string in the place of a block scalar, with a text line or without, if it is written as a
 /// literal one there.
@@ -44,18 +44,17 @@ fn literal_at<'d>(
 /// block scalar.
 pub fn scalar_literal_way<'d>(
     alloc: Global,
-    documents: &'d Documents<'_>,
+    cut: &CutText<'_, 'd>,
     op: &Op,
 ) -> Result<Option<Segments<'d>>, AllocError>
-    ensures { Carries result (spec.scalar_literal_way (operation_of op.now) (cut_of documents.now)) }
+    ensures { Carries result (spec.scalar_literal_way (operation_of op.now) (cut_of cut.now)) }
 {
     let Op::Replace(path, value) = op else {
         return Ok(None);
     };
-    let Some(place) = documents.scalar_place(path) else {
+    let Some(place) = cut.scalar_place(path) else {
         return Ok(None);
     };
-    let cut = documents.cut();
-    let text = has_text(alloc, &cut, path)?;
-    literal_at(alloc, documents.first_break(), place, text, value)
+    let text = has_text(alloc, cut, path)?;
+    literal_at(alloc, cut.first_break(), place, text, value)
 }

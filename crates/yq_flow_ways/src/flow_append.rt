@@ -16,7 +16,7 @@ use yq_flow::{append_place, write_entry, write_inline};
 use yq_inline::{Form, Inline, Value};
 use yq_meaning::Op;
 use yq_script::Segments;
-use yq_tree::{Documents, collection_along};
+use yq_tree::{CutText, collection_along};
 
 /// Whether a node takes an entry of a key, or an item.
 fn takes(node: &Inline<'_>, key: Option<&str>) -> bool
@@ -42,15 +42,14 @@ fn entry_text(alloc: Global, key: Option<&str>, value: &Value) -> Result<String,
 /// An item or entry put behind the last one of a flow collection, or right behind its bracket.
 pub fn flow_append_way<'d>(
     alloc: Global,
-    documents: &'d Documents<'_>,
+    cut: &CutText<'_, 'd>,
     op: &Op,
 ) -> Result<Option<Segments<'d>>, AllocError>
-    ensures { Carries result (spec.flow_append_way (operation_of op.now) (cut_of documents.now)) }
+    ensures { Carries result (spec.flow_append_way (operation_of op.now) (cut_of cut.now)) }
 {
     let Op::Append(path, key, value) = op else {
         return Ok(None);
     };
-    let cut = documents.cut();
     let found = cut.flow_head(alloc, path.doc, &path.steps)?;
     let Some((head, left)) = found else {
         return Ok(None);
@@ -58,7 +57,7 @@ pub fn flow_append_way<'d>(
     let Some(node) = collection_along(&head, left) else {
         return Ok(None);
     };
-    let text = documents.text();
+    let text = cut.text();
     if !takes(node, key.as_deref()) {
         return Ok(None);
     }

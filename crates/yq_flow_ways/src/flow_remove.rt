@@ -9,15 +9,15 @@ use std::alloc::{AllocError, Global};
 use yq_flow::remove_place;
 use yq_meaning::Op;
 use yq_script::Segments;
-use yq_tree::{Documents, collection_along};
+use yq_tree::{CutText, collection_along};
 
 /// An item or entry taken out of a flow collection, with the white space and comma that go with it.
 pub fn flow_remove_way<'d>(
     alloc: Global,
-    documents: &'d Documents<'_>,
+    cut: &CutText<'_, 'd>,
     op: &Op,
 ) -> Result<Option<Segments<'d>>, AllocError>
-    ensures { Carries result (spec.flow_remove_way (operation_of op.now) (cut_of documents.now)) }
+    ensures { Carries result (spec.flow_remove_way (operation_of op.now) (cut_of cut.now)) }
 {
     let Op::Remove(path) = op else {
         return Ok(None);
@@ -25,7 +25,6 @@ pub fn flow_remove_way<'d>(
     let Some((above, last)) = last_step(&path.steps) else {
         return Ok(None);
     };
-    let cut = documents.cut();
     let found = cut.flow_head(alloc, path.doc, above)?;
     let Some((head, left)) = found else {
         return Ok(None);
@@ -33,7 +32,7 @@ pub fn flow_remove_way<'d>(
     let Some(node) = collection_along(&head, left) else {
         return Ok(None);
     };
-    let text = documents.text();
+    let text = cut.text();
     let Some(place) = remove_place(node, text, last) else {
         return Ok(None);
     };

@@ -14,7 +14,7 @@ use yq_inline::{Value, style_of};
 use yq_meaning::Op;
 use yq_scalar::{Place, write_scalar};
 use yq_script::{Segment, Segments};
-use yq_tree::{Documents, collection_along};
+use yq_tree::{CutText, collection_along};
 use yq_ways::{is_kept, style_in};
 
 /// A value as it is written in flow, in the place of what is written there.
@@ -42,10 +42,10 @@ fn kept(alloc: Global, text: &str) -> Result<Option<Segments<'_>>, AllocError>
 /// The content of an item or entry of a flow collection replaced, behind its anchor.
 pub fn flow_replace_way<'d>(
     alloc: Global,
-    documents: &'d Documents<'_>,
+    cut: &CutText<'_, 'd>,
     op: &Op,
 ) -> Result<Option<Segments<'d>>, AllocError>
-    ensures { Carries result (spec.flow_replace_way (operation_of op.now) (cut_of documents.now)) }
+    ensures { Carries result (spec.flow_replace_way (operation_of op.now) (cut_of cut.now)) }
 {
     let Op::Replace(path, value) = op else {
         return Ok(None);
@@ -53,7 +53,6 @@ pub fn flow_replace_way<'d>(
     let Some((above, last)) = last_step(&path.steps) else {
         return Ok(None);
     };
-    let cut = documents.cut();
     let found = cut.flow_head(alloc, path.doc, above)?;
     let Some((head, left)) = found else {
         return Ok(None);
@@ -61,11 +60,11 @@ pub fn flow_replace_way<'d>(
     let Some(node) = collection_along(&head, left) else {
         return Ok(None);
     };
-    let text = documents.text();
+    let text = cut.text();
     let Some(entry) = node.part(last) else {
         return Ok(None);
     };
-    let stays = is_kept(alloc, &cut, path, value)?;
+    let stays = is_kept(alloc, cut, path, value)?;
     if stays {
         return kept(alloc, text);
     }

@@ -11,7 +11,7 @@ use crate::flow_edit::last_step;
 use std::alloc::{AllocError, Global};
 use yq_inline::Value;
 use yq_meaning::{Op, copied_steps};
-use yq_tree::{Documents, NodeAt, Path};
+use yq_tree::{CutText, NodeAt, Path};
 
 /// The empty collection of the kind of this one.
 fn emptied(alloc: Global, node: &NodeAt<'_>) -> Option<Value>
@@ -26,13 +26,12 @@ fn emptied(alloc: Global, node: &NodeAt<'_>) -> Option<Value>
 
 /// The operation that puts an empty collection in the place of the one from which this takes the
 /// sole item or entry.
-pub fn emptying(alloc: Global, documents: &Documents<'_>, op: &Op) -> Result<Option<Op>, AllocError>
-    ensures { IfOk result (λ o. option_map operation_of o ≡ spec.emptying (operation_of op.now) (cut_of documents.now)) }
+pub fn emptying(alloc: Global, cut: &CutText<'_, '_>, op: &Op) -> Result<Option<Op>, AllocError>
+    ensures { IfOk result (λ o. option_map operation_of o ≡ spec.emptying (operation_of op.now) (cut_of cut.now)) }
 {
     let Op::Remove(path) = op else {
         return Ok(None);
     };
-    let cut = documents.cut();
     let others = cut.has_others(alloc, path)?;
     if others {
         return Ok(None);

@@ -17,7 +17,7 @@ use yq_inline::Value;
 use yq_meaning::Op;
 use yq_scalar::block_written::break_text;
 use yq_script::{Segment, Segments};
-use yq_tree::{Documents, RootPlace};
+use yq_tree::{CutText, RootPlace};
 use yq_ways::{is_kept, layout_of};
 
 /// Whether a text is empty or ends in a break.
@@ -111,22 +111,21 @@ fn put_new<'d>(
 /// is written.
 pub fn root_way<'d>(
     alloc: Global,
-    documents: &'d Documents<'_>,
+    cut: &CutText<'_, 'd>,
     op: &Op,
 ) -> Result<Option<Segments<'d>>, AllocError>
-    ensures { Carries result (spec.root_way (operation_of op.now) (cut_of documents.now)) }
+    ensures { Carries result (spec.root_way (operation_of op.now) (cut_of cut.now)) }
 {
     let Op::Replace(path, value) = op else {
         return Ok(None);
     };
-    let Some(place) = documents.root_place(path) else {
+    let Some(place) = cut.root_place(path) else {
         return Ok(None);
     };
-    let layout = layout_of(documents, path.doc);
+    let layout = layout_of(cut, path.doc);
     if let Some(old) = place.old {
         return put_root(alloc, &layout, place, old, value);
     }
-    let cut = documents.cut();
-    let kept = is_kept(alloc, &cut, path, value)?;
+    let kept = is_kept(alloc, cut, path, value)?;
     put_new(alloc, kept, &layout, &place, value)
 }

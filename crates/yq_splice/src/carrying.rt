@@ -41,7 +41,7 @@ pub(crate) fn follow(done: &mut Edited, next: Edited) -> Result<(), AllocError>
 fn carry_one(alloc: Global, documents: &Documents<'_>, op: &Op) -> Result<Edited, EditError>
     ensures { Edits result (spec.carry_one (operation_of op.now) (cut_of documents.now)) }
 {
-    let segments = op_segments(alloc, documents, op)?;
+    let segments = op_segments(alloc, &documents.cut(), op)?;
     Ok(exchange(alloc, &segments)?)
 }
 

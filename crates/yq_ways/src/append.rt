@@ -16,7 +16,7 @@ use yq_meaning::Op;
 use yq_scalar::block_written::break_text;
 use yq_scalar::push_spaces;
 use yq_script::{Segment, Segments};
-use yq_tree::{CollectionEnd, Documents};
+use yq_tree::{CollectionEnd, CutText};
 
 /// Adds the lines of an item or entry at a column, up to their last break.
 fn push_lines(
@@ -59,18 +59,18 @@ fn entry_text(
 /// last line of a block collection.
 pub fn append_way<'d>(
     alloc: Global,
-    documents: &'d Documents<'_>,
+    cut: &CutText<'_, 'd>,
     op: &Op,
 ) -> Result<Option<Segments<'d>>, AllocError>
-    ensures { Carries result (spec.append_way (operation_of op.now) (cut_of documents.now)) }
+    ensures { Carries result (spec.append_way (operation_of op.now) (cut_of cut.now)) }
 {
     let Op::Append(path, key, value) = op else {
         return Ok(None);
     };
-    let Some(end) = documents.collection_end(path) else {
+    let Some(end) = cut.collection_end(path) else {
         return Ok(None);
     };
-    let layout = layout_of(documents, path.doc);
+    let layout = layout_of(cut, path.doc);
     let new = entry_text(alloc, &layout, &end, key.as_deref(), value)?;
     let segments = vec![in alloc;
         Segment::Keep(end.before),

@@ -15,7 +15,7 @@ use yq_scalar::lines::split_line;
 use yq_scalar::push_spaces;
 use yq_scalar::text::split_white;
 use yq_script::{Segment, Segments};
-use yq_tree::{Documents, Removal, Seam};
+use yq_tree::{CutText, Removal, Seam};
 
 /// So many spaces.
 fn spaces(alloc: Global, count: usize) -> Result<String, AllocError>
@@ -134,20 +134,19 @@ fn take_out<'d>(alloc: Global, removal: &Removal<'d>) -> Result<Segments<'d>, Al
 /// One of several items or entries that has whole rows taken out of a text.
 pub fn remove_way<'d>(
     alloc: Global,
-    documents: &'d Documents<'_>,
+    cut: &CutText<'_, 'd>,
     op: &Op,
 ) -> Result<Option<Segments<'d>>, AllocError>
-    ensures { Carries result (spec.remove_way (operation_of op.now) (cut_of documents.now)) }
+    ensures { Carries result (spec.remove_way (operation_of op.now) (cut_of cut.now)) }
 {
     let Op::Remove(path) = op else {
         return Ok(None);
     };
-    let cut = documents.cut();
     let others = cut.has_others(alloc, path)?;
     if !others {
         return Ok(None);
     }
-    let Some(removal) = documents.removal(path) else {
+    let Some(removal) = cut.removal(path) else {
         return Ok(None);
     };
     Ok(Some(take_out(alloc, &removal)?))

@@ -9,7 +9,7 @@ ghost use Rattle.yq_ways.specs.WayAnswers.{Carries};
 use std::alloc::{AllocError, Global};
 use yq_meaning::Op;
 use yq_script::{Segment, Segments};
-use yq_tree::{Documents, FirstRemoval};
+use yq_tree::{CutText, FirstRemoval};
 
 /// What is taken out of a text is gone.
 fn take_out<'d>(alloc: Global, removal: &FirstRemoval<'d>) -> Result<Segments<'d>, AllocError>
@@ -29,20 +29,19 @@ fn take_out<'d>(alloc: Global, removal: &FirstRemoval<'d>) -> Result<Segments<'d
 /// The first of several items or entries of a compact collection taken out of a text.
 pub fn remove_first_way<'d>(
     alloc: Global,
-    documents: &'d Documents<'_>,
+    cut: &CutText<'_, 'd>,
     op: &Op,
 ) -> Result<Option<Segments<'d>>, AllocError>
-    ensures { Carries result (spec.remove_first_way (operation_of op.now) (cut_of documents.now)) }
+    ensures { Carries result (spec.remove_first_way (operation_of op.now) (cut_of cut.now)) }
 {
     let Op::Remove(path) = op else {
         return Ok(None);
     };
-    let cut = documents.cut();
     let others = cut.has_others(alloc, path)?;
     if !others {
         return Ok(None);
     }
-    let Some(removal) = documents.first_removal(path) else {
+    let Some(removal) = cut.first_removal(path) else {
         return Ok(None);
     };
     Ok(Some(take_out(alloc, &removal)?))

@@ -19,7 +19,7 @@ use yq_inline::{Value, style_of};
 use yq_meaning::Op;
 use yq_scalar::{Kind, Place, write_scalar};
 use yq_script::{Segment, Segments};
-use yq_tree::{CutText, Documents, InlinePlace, Path};
+use yq_tree::{CutText, InlinePlace, Path};
 
 /// Whether a value is a scalar of that kind and that text.
 fn is_scalar(kind: Kind, text: &str, value: &Value) -> bool
@@ -113,20 +113,19 @@ fn put<'d>(
 /// An operation carried out by an inline node in the place of an inline one, or of nothing.
 pub fn replace_way<'d>(
     alloc: Global,
-    documents: &'d Documents<'_>,
+    cut: &CutText<'_, 'd>,
     op: &Op,
 ) -> Result<Option<Segments<'d>>, AllocError>
-    ensures { Carries result (spec.replace_way (operation_of op.now) (cut_of documents.now)) }
+    ensures { Carries result (spec.replace_way (operation_of op.now) (cut_of cut.now)) }
 {
     let Op::Replace(path, value) = op else {
         return Ok(None);
     };
-    let Some(place) = documents.inline_place(path) else {
+    let Some(place) = cut.inline_place(path) else {
         return Ok(None);
     };
     let old = written(place.old);
-    let cut = documents.cut();
-    let stays = is_kept(alloc, &cut, path, value)?;
+    let stays = is_kept(alloc, cut, path, value)?;
     if stays {
         let same = String::from_str(alloc, old)?;
         return put(alloc, &place, old, same);

@@ -103,7 +103,7 @@ fn places_of_inline_nodes(rt: HostRuntime) -> Result<(), Fail> {
     'rows: for (text, words, wanted) in &PLACES {
         let documents = read(rt.alloc(), text.as_bytes())?;
         let path = path(rt.alloc(), 0, words)?;
-        let got = documents.inline_place(&path).map(|place| (
+        let got = documents.cut().inline_place(&path).map(|place| (
             place.before,
             place.old,
             place.behind,

@@ -18,7 +18,6 @@ ghost use Rattle.yq_documents.specs.Reading.{cut_of};
 ghost use Rattle.yq_documents.specs.declared.path.Part.TheVariants as parts;
 
 use crate::cut_text::CutText;
-use crate::document::Documents;
 use crate::places::entry_place::lines_place;
 use crate::places::spot::{Spot, Stretch, all_lines, column_at, lines_under};
 use crate::places::spot_marks::{has_head, is_bare};
@@ -132,14 +131,5 @@ impl<'t> CutText<'_, 't> {
         let whole = self.whole();
         let collection = self.collection(path)?;
         Some(end_at(whole, collection.column, collection.place.end))
-    }
-}
-
-impl Documents<'_> {
-    /// The same of the text of the documents.
-    pub fn collection_end(&self, path: &Path) -> Option<CollectionEnd<'_>>
-        ensures { option_map collection_told result ≡ spec.collection_end path.now.doc (steps_of path.now) (cut_of self.now) }
-    {
-        self.cut().collection_end(path)
     }
 }

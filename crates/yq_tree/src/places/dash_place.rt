@@ -7,7 +7,6 @@ ghost use Rattle.yq_documents.specs.Located.{steps_of};
 ghost use Rattle.yq_documents.specs.Reading.{cut_of};
 
 use crate::cut_text::CutText;
-use crate::document::Documents;
 use crate::places::row_place::line_start;
 use crate::places::spot::{Spot, line_column};
 use yq_documents::{Path, comment_text};
@@ -59,14 +58,5 @@ impl<'t> CutText<'_, 't> {
             column,
             noted,
         })
-    }
-}
-
-impl Documents<'_> {
-    /// The same of the text of the documents.
-    pub fn dash_place(&self, path: &Path) -> Option<DashPlace<'_>>
-        ensures { option_map telling.dash_told result ≡ spec.dash_place path.now.doc (steps_of path.now) (cut_of self.now) }
-    {
-        self.cut().dash_place(path)
     }
 }

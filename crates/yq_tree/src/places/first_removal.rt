@@ -6,7 +6,6 @@ ghost use Rattle.yq_documents.specs.Located.{steps_of};
 ghost use Rattle.yq_documents.specs.Reading.{cut_of};
 
 use crate::cut_text::CutText;
-use crate::document::Documents;
 use crate::places::written::cut_at;
 use yq_documents::Path;
 use yq_rows::begins_gap;
@@ -93,14 +92,5 @@ impl<'t> CutText<'_, 't> {
         let span = self.entry_place(path)?;
         let (before, entry, behind) = cut_at(whole, span.start, span.end);
         Some(first_out(before, entry, behind))
-    }
-}
-
-impl Documents<'_> {
-    /// The same of the text of the documents.
-    pub fn first_removal(&self, path: &Path) -> Option<FirstRemoval<'_>>
-        ensures { option_map first_told result ≡ spec.first_removal path.now.doc (steps_of path.now) (cut_of self.now) }
-    {
-        self.cut().first_removal(path)
     }
 }

@@ -13,7 +13,6 @@ ghost use Rattle.yq_tree.specs.RowWalk.{EndsAt, HasDocument, InEach, IsLine, IsS
 ghost use Rattle.yq_documents.specs.Reading.{cut_of};
 
 use crate::cut_text::CutText;
-use crate::document::Documents;
 use crate::places::extent::head_place;
 use crate::places::spot::{Spot, Stretch, is_deeper, level_at, next};
 use crate::places::spot_marks::has_head;
@@ -141,14 +140,5 @@ impl<'t> CutText<'_, 't> {
             behind,
             alone,
         })
-    }
-}
-
-impl Documents<'_> {
-    /// The same of the text of the documents.
-    pub fn inline_place(&self, path: &Path) -> Option<InlinePlace<'_>>
-        ensures { option_map spec.inline_told result ≡ option_map spec.inline_telling (places.inline_place path.now (cut_of self.now)) }
-    {
-        self.cut().inline_place(path)
     }
 }

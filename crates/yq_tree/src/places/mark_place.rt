@@ -8,7 +8,6 @@ ghost use Rattle.yq_tree.specs.MarkTelling.{mark_told, EndsBehindMark};
 ghost use Rattle.yq_documents.specs.Reading.{cut_of};
 
 use crate::cut_text::CutText;
-use crate::document::Documents;
 use crate::places::line_end::LineEnd;
 use yq_documents::Path;
 use yq_rows::Row;
@@ -83,14 +82,5 @@ impl<'t> CutText<'_, 't> {
         let end = self.line_end(path)?;
         let seat = self.seat(path)?;
         Some(mark_at(end, &self.rows.row(seat.row)))
-    }
-}
-
-impl Documents<'_> {
-    /// The same of the text of the documents.
-    pub fn mark_place(&self, path: &Path) -> Option<MarkPlace<'_>>
-        ensures { option_map mark_told result ≡ spec.mark_place path.now.doc (steps_of path.now) (cut_of self.now) }
-    {
-        self.cut().mark_place(path)
     }
 }

@@ -20,7 +20,6 @@ ghost use Rattle.yq_tree.specs.RemovalReading as reading;
 ghost use Rattle.yq_tree.specs.RowWalk.{HasDocument};
 
 use crate::cut_text::CutText;
-use crate::document::Documents;
 use crate::places::extent::{head_place, row_len, row_start};
 use crate::places::spot::{Stretch, behind};
 use crate::places::spot_reach::line_at;
@@ -219,14 +218,5 @@ impl<'t> CutText<'_, 't> {
         let whole = self.whole();
         let marks = self.own(path)?;
         Some(rows_out(self.rows(), whole, marks))
-    }
-}
-
-impl Documents<'_> {
-    /// The same of the text of the documents.
-    pub fn removal(&self, path: &Path) -> Option<Removal<'_>>
-        ensures { option_map reading.removal_told result ≡ spec.removal_place path.now.doc (steps_of path.now) (cut_of self.now) }
-    {
-        self.cut().removal(path)
     }
 }

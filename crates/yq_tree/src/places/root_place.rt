@@ -12,7 +12,6 @@ ghost use Rattle.yq_tree.specs.RootPlaces as spec;
 ghost use Rattle.yq_tree.specs.RootReading as reading;
 
 use crate::cut_text::CutText;
-use crate::document::Documents;
 use crate::places::collection_end::Collection;
 use crate::places::extent::rows_len;
 use crate::places::stretch::{is_sought, left_behind};
@@ -132,14 +131,5 @@ impl<'t> CutText<'_, 't> {
             Some(place) => Some(place),
             None => self.collection_place(path),
         }
-    }
-}
-
-impl Documents<'_> {
-    /// The same of the text of the documents.
-    pub fn root_place(&self, path: &Path) -> Option<RootPlace<'_>>
-        ensures { option_map reading.root_told result ≡ spec.root_place path.now.doc (steps_of path.now) (cut_of self.now) }
-    {
-        self.cut().root_place(path)
     }
 }

@@ -9,7 +9,6 @@ ghost use Rattle.yq_tree.specs.ScalarPlaces as spec;
 ghost use Rattle.yq_tree.specs.ScalarTelling.{scalar_told, StandsAt};
 
 use crate::cut_text::CutText;
-use crate::document::Documents;
 use crate::places::extent::head_place;
 use crate::places::mark_place::column_of;
 use crate::places::removal_place::block_in;
@@ -109,14 +108,5 @@ impl<'t> CutText<'_, 't> {
         let (_, indent) = block_in(self.rows, whole, seat.row)?;
         let (start, _) = head_place(self.rows, seat.row);
         Some(place_at(whole, &self.rows.row(seat.row), start, indent))
-    }
-}
-
-impl Documents<'_> {
-    /// The same of the text of the documents.
-    pub fn scalar_place(&self, path: &Path) -> Option<ScalarPlace<'_>>
-        ensures { option_map scalar_told result ≡ spec.scalar_place path.now.doc (steps_of path.now) (cut_of self.now) }
-    {
-        self.cut().scalar_place(path)
     }
 }

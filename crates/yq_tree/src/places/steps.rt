@@ -8,7 +8,6 @@ ghost use Rattle.yq_tree.specs.StepReading as reading;
 ghost use Rattle.yq_tree.specs.Steps as spec;
 
 use crate::cut_text::CutText;
-use crate::document::Documents;
 use crate::places::extent::lines_before_mark;
 use crate::places::spot::{Spot, Stretch, level_at};
 use yq_rows::Rows;
@@ -73,15 +72,5 @@ impl CutText<'_, '_> {
             mapping: first_step(rows, document, false),
             sequence: first_step(rows, document, true),
         }
-    }
-}
-
-impl Documents<'_> {
-    /// The same of the text of the documents.
-    pub fn steps(&self, doc: usize) -> Steps
-        ensures mapping { result.mapping ≡ (spec.document_steps doc (cut_of self.now)).mapping }
-        ensures sequence { result.sequence ≡ (spec.document_steps doc (cut_of self.now)).sequence }
-    {
-        self.cut().steps(doc)
     }
 }

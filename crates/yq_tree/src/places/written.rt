@@ -1,8 +1,8 @@
 //! The text of documents and its pieces.
-ghost use Rattle.std.specs.Prelude.{◌≡◌, ◌≤◌, ◌-◌, Some, drop, take, true};
+ghost use Rattle.std.specs.Prelude.{◌≡◌, ◌≤◌, ◌-◌, drop, take, true};
 ghost use Rattle.std.specs.Str.{IsCharBoundary};
 ghost use Rattle.yq_rows.specs.Grammar.{IsCut};
-ghost use Rattle.yq_documents.specs.Reading.{all_documents, cut_of, read_at};
+ghost use Rattle.yq_documents.specs.Reading.{all_documents, cut_of};
 
 use crate::document::Documents;
 
@@ -28,13 +28,5 @@ impl<'t> Documents<'t> {
         ensures documents { all_documents (cut_of self.now) ≡ true }
     {
         self.text
-    }
-
-    /// The text, of which the documents are read.
-    pub fn text(&self) -> &str
-        ensures text { result.now ≡ self.now }
-        ensures read { read_at self.now ≡ Some (cut_of self.now) }
-    {
-        self.whole()
     }
 }

@@ -15,13 +15,13 @@ returns-in_default c = search rules
 
 pub returns-in_default-scalar_place : goal.returns-in_default-scalar_place
 returns-in_default-scalar_place c =
-    rw c.in-Replace.is (no_line c.in-Replace.path (values.node_of c.in-Replace.value) c.args.documents.now c.scalar_place.result c.scalar_place.ensures c.in_default-scalar_place.is)
+    rw c.in-Replace.is (no_line c.in-Replace.path (values.node_of c.in-Replace.value) c.args.cut.now c.scalar_place.result c.scalar_place.ensures c.in_default-scalar_place.is)
 
 pub returns : goal.returns
 returns c =
     let p = c.in-Replace.path in
     let v = values.node_of c.in-Replace.value in
-    let way = line_there p v c.args.documents.now c.scalar_place.result c.scalar_place.ensures c.in-Some.place c.in_ok-kept.kept c.in_ok-text.text c.in-Some.is
-    (c.in_ok-kept.ensures ∙ ap (λ (t : List ℕ). is_kept (node_in p.doc (steps_of p) (cut_of t)) v) c.cut-cut.ensures)
-    (c.in_ok-text.ensures ∙ ap (λ (t : List ℕ). has_text (node_in p.doc (steps_of p) (cut_of t))) c.cut-cut.ensures) in
+    let way = line_there p v c.args.cut.now c.scalar_place.result c.scalar_place.ensures c.in-Some.place c.in_ok-kept.kept c.in_ok-text.text c.in-Some.is
+    (c.in_ok-kept.ensures)
+    (c.in_ok-text.ensures) in
     rw c.in-Replace.is (subst (Carries c.line_at.result) (sym way) c.line_at.ensures)

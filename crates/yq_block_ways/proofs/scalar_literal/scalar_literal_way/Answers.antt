@@ -15,11 +15,11 @@ returns-in_default c = search rules
 
 pub returns-in_default-scalar_place : goal.returns-in_default-scalar_place
 returns-in_default-scalar_place c =
-    rw c.in-Replace.is (no_literal c.in-Replace.path (values.node_of c.in-Replace.value) c.args.documents.now c.scalar_place.result c.scalar_place.ensures c.in_default-scalar_place.is)
+    rw c.in-Replace.is (no_literal c.in-Replace.path (values.node_of c.in-Replace.value) c.args.cut.now c.scalar_place.result c.scalar_place.ensures c.in_default-scalar_place.is)
 
 pub returns : goal.returns
 returns c =
     let p = c.in-Replace.path in
-    let way = literal_there p (values.node_of c.in-Replace.value) c.args.documents.now c.scalar_place.result c.scalar_place.ensures c.in-Some.place c.in_ok-text.text c.first_break.result c.in-Some.is
-    (c.in_ok-text.ensures ∙ ap (λ (t : List ℕ). has_text (node_in p.doc (steps_of p) (cut_of t))) c.cut-cut.ensures) c.first_break.ensures in
+    let way = literal_there p (values.node_of c.in-Replace.value) c.args.cut.now c.scalar_place.result c.scalar_place.ensures c.in-Some.place c.in_ok-text.text c.first_break.result c.in-Some.is
+    (c.in_ok-text.ensures) c.first_break.ensures in
     rw c.in-Replace.is (subst (Carries c.literal_at.result) (sym way) c.literal_at.ensures)

@@ -19,12 +19,12 @@ use Rattle.yq_flow_ways.proofs.flow_append.flow_append_way.Goals as goal
 
 pub returns-then-not-takes : goal.returns-then-not-takes
 returns-then-not-takes c =
-    let t : List ℕ = c.args.documents.now in
+    let t : List ℕ = c.args.cut.now in
     let q : Placed = view c.in-Some-collection_along.node.now in
     let steps : List Step = map step_of c.in-Append.path.steps.items in
     let finds : FindsColl t (cut_of t) c.in-Append.path.doc steps q = record {
       read = c.text-text.ensures.read;
-      found = found_along _ t c.cut-cut.result c.in-Append.path.doc (map step_of c.deref.result.now) c.in_ok-found.found (c.in-Some.head, c.in-Some.left) q c.cut-cut.ensures c.in_ok-found.ensures c.in-Some.is (c.in-Some-collection_along.ensures ∙ ap (λ y. collection_along (map step_of c.in-Some.left.now) (view y)) c.deref-2.ensures) ∙ ap (λ xs. option_map (placed_collection (length t)) (flow_collection c.in-Append.path.doc (map step_of xs) (cut_of t))) c.deref.ensures.value;
+      found = found_along _ t c.args.cut.now c.in-Append.path.doc (map step_of c.deref.result.now) c.in_ok-found.found (c.in-Some.head, c.in-Some.left) q refl c.in_ok-found.ensures c.in-Some.is (c.in-Some-collection_along.ensures ∙ ap (λ y. collection_along (map step_of c.in-Some.left.now) (view y)) c.deref-2.ensures) ∙ ap (λ xs. option_map (placed_collection (length t)) (flow_collection c.in-Append.path.doc (map step_of xs) (cut_of t))) c.deref.ensures.value;
     } in
     let key : Option (List ℕ) = option_map string_bytes c.in-Append.key in
     let takes = ap (placed_takes q) (sym c.as_deref.ensures.value) ∙ (sym c.takes.ensures ∙ c.if-not-takes.true) in
@@ -32,12 +32,12 @@ returns-then-not-takes c =
 
 pub edit_at-requires-clause-start : goal.edit_at-requires-clause-start
 edit_at-requires-clause-start c =
-    let t : List ℕ = c.args.documents.now in
+    let t : List ℕ = c.args.cut.now in
     let q : Placed = view c.in-Some-collection_along.node.now in
     let steps : List Step = map step_of c.in-Append.path.steps.items in
     let finds : FindsColl t (cut_of t) c.in-Append.path.doc steps q = record {
       read = c.text-text.ensures.read;
-      found = found_along _ t c.cut-cut.result c.in-Append.path.doc (map step_of c.deref.result.now) c.in_ok-found.found (c.in-Some.head, c.in-Some.left) q c.cut-cut.ensures c.in_ok-found.ensures c.in-Some.is (c.in-Some-collection_along.ensures ∙ ap (λ y. collection_along (map step_of c.in-Some.left.now) (view y)) c.deref-2.ensures) ∙ ap (λ xs. option_map (placed_collection (length t)) (flow_collection c.in-Append.path.doc (map step_of xs) (cut_of t))) c.deref.ensures.value;
+      found = found_along _ t c.args.cut.now c.in-Append.path.doc (map step_of c.deref.result.now) c.in_ok-found.found (c.in-Some.head, c.in-Some.left) q refl c.in_ok-found.ensures c.in-Some.is (c.in-Some-collection_along.ensures ∙ ap (λ y. collection_along (map step_of c.in-Some.left.now) (view y)) c.deref-2.ensures) ∙ ap (λ xs. option_map (placed_collection (length t)) (flow_collection c.in-Append.path.doc (map step_of xs) (cut_of t))) c.deref.ensures.value;
     } in
     let key : Option (List ℕ) = option_map string_bytes c.in-Append.key in
     let takes = ap (placed_takes q) (sym c.as_deref.ensures.value) ∙ (sym c.takes.ensures ∙ c.if-not-takes.false) in
@@ -46,12 +46,12 @@ edit_at-requires-clause-start c =
 
 pub edit_at-requires-clause-end : goal.edit_at-requires-clause-end
 edit_at-requires-clause-end c =
-    let t : List ℕ = c.args.documents.now in
+    let t : List ℕ = c.args.cut.now in
     let q : Placed = view c.in-Some-collection_along.node.now in
     let steps : List Step = map step_of c.in-Append.path.steps.items in
     let finds : FindsColl t (cut_of t) c.in-Append.path.doc steps q = record {
       read = c.text-text.ensures.read;
-      found = found_along _ t c.cut-cut.result c.in-Append.path.doc (map step_of c.deref.result.now) c.in_ok-found.found (c.in-Some.head, c.in-Some.left) q c.cut-cut.ensures c.in_ok-found.ensures c.in-Some.is (c.in-Some-collection_along.ensures ∙ ap (λ y. collection_along (map step_of c.in-Some.left.now) (view y)) c.deref-2.ensures) ∙ ap (λ xs. option_map (placed_collection (length t)) (flow_collection c.in-Append.path.doc (map step_of xs) (cut_of t))) c.deref.ensures.value;
+      found = found_along _ t c.args.cut.now c.in-Append.path.doc (map step_of c.deref.result.now) c.in_ok-found.found (c.in-Some.head, c.in-Some.left) q refl c.in_ok-found.ensures c.in-Some.is (c.in-Some-collection_along.ensures ∙ ap (λ y. collection_along (map step_of c.in-Some.left.now) (view y)) c.deref-2.ensures) ∙ ap (λ xs. option_map (placed_collection (length t)) (flow_collection c.in-Append.path.doc (map step_of xs) (cut_of t))) c.deref.ensures.value;
     } in
     let key : Option (List ℕ) = option_map string_bytes c.in-Append.key in
     let takes = ap (placed_takes q) (sym c.as_deref.ensures.value) ∙ (sym c.takes.ensures ∙ c.if-not-takes.false) in
@@ -60,12 +60,12 @@ edit_at-requires-clause-end c =
 
 pub returns : goal.returns
 returns c =
-    let t : List ℕ = c.args.documents.now in
+    let t : List ℕ = c.args.cut.now in
     let q : Placed = view c.in-Some-collection_along.node.now in
     let steps : List Step = map step_of c.in-Append.path.steps.items in
     let finds : FindsColl t (cut_of t) c.in-Append.path.doc steps q = record {
       read = c.text-text.ensures.read;
-      found = found_along _ t c.cut-cut.result c.in-Append.path.doc (map step_of c.deref.result.now) c.in_ok-found.found (c.in-Some.head, c.in-Some.left) q c.cut-cut.ensures c.in_ok-found.ensures c.in-Some.is (c.in-Some-collection_along.ensures ∙ ap (λ y. collection_along (map step_of c.in-Some.left.now) (view y)) c.deref-2.ensures) ∙ ap (λ xs. option_map (placed_collection (length t)) (flow_collection c.in-Append.path.doc (map step_of xs) (cut_of t))) c.deref.ensures.value;
+      found = found_along _ t c.args.cut.now c.in-Append.path.doc (map step_of c.deref.result.now) c.in_ok-found.found (c.in-Some.head, c.in-Some.left) q refl c.in_ok-found.ensures c.in-Some.is (c.in-Some-collection_along.ensures ∙ ap (λ y. collection_along (map step_of c.in-Some.left.now) (view y)) c.deref-2.ensures) ∙ ap (λ xs. option_map (placed_collection (length t)) (flow_collection c.in-Append.path.doc (map step_of xs) (cut_of t))) c.deref.ensures.value;
     } in
     let key : Option (List ℕ) = option_map string_bytes c.in-Append.key in
     let takes = ap (placed_takes q) (sym c.as_deref.ensures.value) ∙ (sym c.takes.ensures ∙ c.if-not-takes.false) in

@@ -20,7 +20,7 @@ use Rattle.yq_flow_ways.proofs.flow_replace.flow_replace_way.Goals as goal
 
 pub returns-in_default-part : goal.returns-in_default-part
 returns-in_default-part c =
-    let t : List ℕ = c.args.documents.now in
+    let t : List ℕ = c.args.cut.now in
     let s : Step = step_of c.in-Some.last.now in
     let q : Placed = view c.in-Some-collection_along.node.now in
     let path : List Step = map step_of c.in-Replace.path.steps.items in
@@ -28,14 +28,14 @@ returns-in_default-part c =
     let finds : Finds t (cut_of t) c.in-Replace.path.doc path (map step_of c.in-Some.above.now) s q None = record {
       read = c.text-text.ensures.read;
       last = c.in-Some.ensures ∙ ap (λ xs. last_step (map step_of xs)) c.deref.ensures.value;
-      found = (found_along _ t c.cut-cut.result c.in-Replace.path.doc (map step_of c.in-Some.above.now) c.in_ok-found.found (c.in-Some-found.head, c.in-Some-found.left) (view c.in-Some-collection_along.node.now) c.cut-cut.ensures c.in_ok-found.ensures c.in-Some-found.is (c.in-Some-collection_along.ensures ∙ ap (λ y. collection_along (map step_of c.in-Some-found.left.now) (view y)) c.deref-2.ensures));
+      found = (found_along _ t c.args.cut.now c.in-Replace.path.doc (map step_of c.in-Some.above.now) c.in_ok-found.found (c.in-Some-found.head, c.in-Some-found.left) (view c.in-Some-collection_along.node.now) refl c.in_ok-found.ensures c.in-Some-found.is (c.in-Some-collection_along.ensures ∙ ap (λ y. collection_along (map step_of c.in-Some-found.left.now) (view y)) c.deref-2.ensures));
       part = c.in_default-part.ensures;
     } in
     rw c.in-Replace.is (content_missing t c.in-Replace.path.doc path (map step_of c.in-Some.above.now) s q v finds)
 
 pub returns-then-stays : goal.returns-then-stays
 returns-then-stays c =
-    let t : List ℕ = c.args.documents.now in
+    let t : List ℕ = c.args.cut.now in
     let s : Step = step_of c.in-Some.last.now in
     let q : Placed = view c.in-Some-collection_along.node.now in
     let path : List Step = map step_of c.in-Replace.path.steps.items in
@@ -43,16 +43,16 @@ returns-then-stays c =
     let finds : Finds t (cut_of t) c.in-Replace.path.doc path (map step_of c.in-Some.above.now) s q (Some (entry_view c.in-Some-part.entry)) = record {
       read = c.text-text.ensures.read;
       last = c.in-Some.ensures ∙ ap (λ xs. last_step (map step_of xs)) c.deref.ensures.value;
-      found = (found_along _ t c.cut-cut.result c.in-Replace.path.doc (map step_of c.in-Some.above.now) c.in_ok-found.found (c.in-Some-found.head, c.in-Some-found.left) (view c.in-Some-collection_along.node.now) c.cut-cut.ensures c.in_ok-found.ensures c.in-Some-found.is (c.in-Some-collection_along.ensures ∙ ap (λ y. collection_along (map step_of c.in-Some-found.left.now) (view y)) c.deref-2.ensures));
+      found = (found_along _ t c.args.cut.now c.in-Replace.path.doc (map step_of c.in-Some.above.now) c.in_ok-found.found (c.in-Some-found.head, c.in-Some-found.left) (view c.in-Some-collection_along.node.now) refl c.in_ok-found.ensures c.in-Some-found.is (c.in-Some-collection_along.ensures ∙ ap (λ y. collection_along (map step_of c.in-Some-found.left.now) (view y)) c.deref-2.ensures));
       part = c.in-Some-part.ensures;
     } in
-    let kept = ap (λ (y : List ℕ). is_kept (node_in c.in-Replace.path.doc path (cut_of y)) v) (sym c.cut-cut.ensures) ∙ (sym c.in_ok-stays.ensures ∙ c.if-stays.true) in
+    let kept = (sym c.in_ok-stays.ensures ∙ c.if-stays.true) in
     let way = content_kept t c.in-Replace.path.doc path (map step_of c.in-Some.above.now) s q (entry_view c.in-Some-part.entry) v finds kept in
     rw c.in-Replace.is (subst (Carries c.kept.result) (sym (way ∙ ap (λ (x : List ℕ). Some (keep x ∷ [])) (sym c.text-text.ensures.text))) c.kept.ensures)
 
 pub text_at-requires-clause-order : goal.text_at-requires-clause-order
 text_at-requires-clause-order c =
-    let t : List ℕ = c.args.documents.now in
+    let t : List ℕ = c.args.cut.now in
     let s : Step = step_of c.in-Some.last.now in
     let q : Placed = view c.in-Some-collection_along.node.now in
     let path : List Step = map step_of c.in-Replace.path.steps.items in
@@ -60,7 +60,7 @@ text_at-requires-clause-order c =
     let finds : Finds t (cut_of t) c.in-Replace.path.doc path (map step_of c.in-Some.above.now) s q (Some (entry_view c.in-Some-part.entry)) = record {
       read = c.text-text.ensures.read;
       last = c.in-Some.ensures ∙ ap (λ xs. last_step (map step_of xs)) c.deref.ensures.value;
-      found = (found_along _ t c.cut-cut.result c.in-Replace.path.doc (map step_of c.in-Some.above.now) c.in_ok-found.found (c.in-Some-found.head, c.in-Some-found.left) (view c.in-Some-collection_along.node.now) c.cut-cut.ensures c.in_ok-found.ensures c.in-Some-found.is (c.in-Some-collection_along.ensures ∙ ap (λ y. collection_along (map step_of c.in-Some-found.left.now) (view y)) c.deref-2.ensures));
+      found = (found_along _ t c.args.cut.now c.in-Replace.path.doc (map step_of c.in-Some.above.now) c.in_ok-found.found (c.in-Some-found.head, c.in-Some-found.left) (view c.in-Some-collection_along.node.now) refl c.in_ok-found.ensures c.in-Some-found.is (c.in-Some-collection_along.ensures ∙ ap (λ y. collection_along (map step_of c.in-Some-found.left.now) (view y)) c.deref-2.ensures));
       part = c.in-Some-part.ensures;
     } in
     let h = content_told t c.in-Replace.path.doc path (map step_of c.in-Some.above.now) s q (entry_view c.in-Some-part.entry) v (edit_view c.replace_place-place.result) finds c.replace_place-place.ensures in
@@ -68,7 +68,7 @@ text_at-requires-clause-order c =
 
 pub text_at-requires-clause-start : goal.text_at-requires-clause-start
 text_at-requires-clause-start c =
-    let t : List ℕ = c.args.documents.now in
+    let t : List ℕ = c.args.cut.now in
     let s : Step = step_of c.in-Some.last.now in
     let q : Placed = view c.in-Some-collection_along.node.now in
     let path : List Step = map step_of c.in-Replace.path.steps.items in
@@ -76,7 +76,7 @@ text_at-requires-clause-start c =
     let finds : Finds t (cut_of t) c.in-Replace.path.doc path (map step_of c.in-Some.above.now) s q (Some (entry_view c.in-Some-part.entry)) = record {
       read = c.text-text.ensures.read;
       last = c.in-Some.ensures ∙ ap (λ xs. last_step (map step_of xs)) c.deref.ensures.value;
-      found = (found_along _ t c.cut-cut.result c.in-Replace.path.doc (map step_of c.in-Some.above.now) c.in_ok-found.found (c.in-Some-found.head, c.in-Some-found.left) (view c.in-Some-collection_along.node.now) c.cut-cut.ensures c.in_ok-found.ensures c.in-Some-found.is (c.in-Some-collection_along.ensures ∙ ap (λ y. collection_along (map step_of c.in-Some-found.left.now) (view y)) c.deref-2.ensures));
+      found = (found_along _ t c.args.cut.now c.in-Replace.path.doc (map step_of c.in-Some.above.now) c.in_ok-found.found (c.in-Some-found.head, c.in-Some-found.left) (view c.in-Some-collection_along.node.now) refl c.in_ok-found.ensures c.in-Some-found.is (c.in-Some-collection_along.ensures ∙ ap (λ y. collection_along (map step_of c.in-Some-found.left.now) (view y)) c.deref-2.ensures));
       part = c.in-Some-part.ensures;
     } in
     let h = content_told t c.in-Replace.path.doc path (map step_of c.in-Some.above.now) s q (entry_view c.in-Some-part.entry) v (edit_view c.replace_place-place.result) finds c.replace_place-place.ensures in
@@ -84,7 +84,7 @@ text_at-requires-clause-start c =
 
 pub text_at-requires-clause-end : goal.text_at-requires-clause-end
 text_at-requires-clause-end c =
-    let t : List ℕ = c.args.documents.now in
+    let t : List ℕ = c.args.cut.now in
     let s : Step = step_of c.in-Some.last.now in
     let q : Placed = view c.in-Some-collection_along.node.now in
     let path : List Step = map step_of c.in-Replace.path.steps.items in
@@ -92,7 +92,7 @@ text_at-requires-clause-end c =
     let finds : Finds t (cut_of t) c.in-Replace.path.doc path (map step_of c.in-Some.above.now) s q (Some (entry_view c.in-Some-part.entry)) = record {
       read = c.text-text.ensures.read;
       last = c.in-Some.ensures ∙ ap (λ xs. last_step (map step_of xs)) c.deref.ensures.value;
-      found = (found_along _ t c.cut-cut.result c.in-Replace.path.doc (map step_of c.in-Some.above.now) c.in_ok-found.found (c.in-Some-found.head, c.in-Some-found.left) (view c.in-Some-collection_along.node.now) c.cut-cut.ensures c.in_ok-found.ensures c.in-Some-found.is (c.in-Some-collection_along.ensures ∙ ap (λ y. collection_along (map step_of c.in-Some-found.left.now) (view y)) c.deref-2.ensures));
+      found = (found_along _ t c.args.cut.now c.in-Replace.path.doc (map step_of c.in-Some.above.now) c.in_ok-found.found (c.in-Some-found.head, c.in-Some-found.left) (view c.in-Some-collection_along.node.now) refl c.in_ok-found.ensures c.in-Some-found.is (c.in-Some-collection_along.ensures ∙ ap (λ y. collection_along (map step_of c.in-Some-found.left.now) (view y)) c.deref-2.ensures));
       part = c.in-Some-part.ensures;
     } in
     let h = content_told t c.in-Replace.path.doc path (map step_of c.in-Some.above.now) s q (entry_view c.in-Some-part.entry) v (edit_view c.replace_place-place.result) finds c.replace_place-place.ensures in
@@ -100,7 +100,7 @@ text_at-requires-clause-end c =
 
 pub edit_at-requires-clause-order : goal.edit_at-requires-clause-order
 edit_at-requires-clause-order c =
-    let t : List ℕ = c.args.documents.now in
+    let t : List ℕ = c.args.cut.now in
     let s : Step = step_of c.in-Some.last.now in
     let q : Placed = view c.in-Some-collection_along.node.now in
     let path : List Step = map step_of c.in-Replace.path.steps.items in
@@ -108,7 +108,7 @@ edit_at-requires-clause-order c =
     let finds : Finds t (cut_of t) c.in-Replace.path.doc path (map step_of c.in-Some.above.now) s q (Some (entry_view c.in-Some-part.entry)) = record {
       read = c.text-text.ensures.read;
       last = c.in-Some.ensures ∙ ap (λ xs. last_step (map step_of xs)) c.deref.ensures.value;
-      found = (found_along _ t c.cut-cut.result c.in-Replace.path.doc (map step_of c.in-Some.above.now) c.in_ok-found.found (c.in-Some-found.head, c.in-Some-found.left) (view c.in-Some-collection_along.node.now) c.cut-cut.ensures c.in_ok-found.ensures c.in-Some-found.is (c.in-Some-collection_along.ensures ∙ ap (λ y. collection_along (map step_of c.in-Some-found.left.now) (view y)) c.deref-2.ensures));
+      found = (found_along _ t c.args.cut.now c.in-Replace.path.doc (map step_of c.in-Some.above.now) c.in_ok-found.found (c.in-Some-found.head, c.in-Some-found.left) (view c.in-Some-collection_along.node.now) refl c.in_ok-found.ensures c.in-Some-found.is (c.in-Some-collection_along.ensures ∙ ap (λ y. collection_along (map step_of c.in-Some-found.left.now) (view y)) c.deref-2.ensures));
       part = c.in-Some-part.ensures;
     } in
     let h = content_told t c.in-Replace.path.doc path (map step_of c.in-Some.above.now) s q (entry_view c.in-Some-part.entry) v (edit_view c.replace_place-place.result) finds c.replace_place-place.ensures in
@@ -116,7 +116,7 @@ edit_at-requires-clause-order c =
 
 pub edit_at-requires-clause-start : goal.edit_at-requires-clause-start
 edit_at-requires-clause-start c =
-    let t : List ℕ = c.args.documents.now in
+    let t : List ℕ = c.args.cut.now in
     let s : Step = step_of c.in-Some.last.now in
     let q : Placed = view c.in-Some-collection_along.node.now in
     let path : List Step = map step_of c.in-Replace.path.steps.items in
@@ -124,7 +124,7 @@ edit_at-requires-clause-start c =
     let finds : Finds t (cut_of t) c.in-Replace.path.doc path (map step_of c.in-Some.above.now) s q (Some (entry_view c.in-Some-part.entry)) = record {
       read = c.text-text.ensures.read;
       last = c.in-Some.ensures ∙ ap (λ xs. last_step (map step_of xs)) c.deref.ensures.value;
-      found = (found_along _ t c.cut-cut.result c.in-Replace.path.doc (map step_of c.in-Some.above.now) c.in_ok-found.found (c.in-Some-found.head, c.in-Some-found.left) (view c.in-Some-collection_along.node.now) c.cut-cut.ensures c.in_ok-found.ensures c.in-Some-found.is (c.in-Some-collection_along.ensures ∙ ap (λ y. collection_along (map step_of c.in-Some-found.left.now) (view y)) c.deref-2.ensures));
+      found = (found_along _ t c.args.cut.now c.in-Replace.path.doc (map step_of c.in-Some.above.now) c.in_ok-found.found (c.in-Some-found.head, c.in-Some-found.left) (view c.in-Some-collection_along.node.now) refl c.in_ok-found.ensures c.in-Some-found.is (c.in-Some-collection_along.ensures ∙ ap (λ y. collection_along (map step_of c.in-Some-found.left.now) (view y)) c.deref-2.ensures));
       part = c.in-Some-part.ensures;
     } in
     let h = content_told t c.in-Replace.path.doc path (map step_of c.in-Some.above.now) s q (entry_view c.in-Some-part.entry) v (edit_view c.replace_place-place.result) finds c.replace_place-place.ensures in
@@ -132,7 +132,7 @@ edit_at-requires-clause-start c =
 
 pub edit_at-requires-clause-end : goal.edit_at-requires-clause-end
 edit_at-requires-clause-end c =
-    let t : List ℕ = c.args.documents.now in
+    let t : List ℕ = c.args.cut.now in
     let s : Step = step_of c.in-Some.last.now in
     let q : Placed = view c.in-Some-collection_along.node.now in
     let path : List Step = map step_of c.in-Replace.path.steps.items in
@@ -140,7 +140,7 @@ edit_at-requires-clause-end c =
     let finds : Finds t (cut_of t) c.in-Replace.path.doc path (map step_of c.in-Some.above.now) s q (Some (entry_view c.in-Some-part.entry)) = record {
       read = c.text-text.ensures.read;
       last = c.in-Some.ensures ∙ ap (λ xs. last_step (map step_of xs)) c.deref.ensures.value;
-      found = (found_along _ t c.cut-cut.result c.in-Replace.path.doc (map step_of c.in-Some.above.now) c.in_ok-found.found (c.in-Some-found.head, c.in-Some-found.left) (view c.in-Some-collection_along.node.now) c.cut-cut.ensures c.in_ok-found.ensures c.in-Some-found.is (c.in-Some-collection_along.ensures ∙ ap (λ y. collection_along (map step_of c.in-Some-found.left.now) (view y)) c.deref-2.ensures));
+      found = (found_along _ t c.args.cut.now c.in-Replace.path.doc (map step_of c.in-Some.above.now) c.in_ok-found.found (c.in-Some-found.head, c.in-Some-found.left) (view c.in-Some-collection_along.node.now) refl c.in_ok-found.ensures c.in-Some-found.is (c.in-Some-collection_along.ensures ∙ ap (λ y. collection_along (map step_of c.in-Some-found.left.now) (view y)) c.deref-2.ensures));
       part = c.in-Some-part.ensures;
     } in
     let h = content_told t c.in-Replace.path.doc path (map step_of c.in-Some.above.now) s q (entry_view c.in-Some-part.entry) v (edit_view c.replace_place-place.result) finds c.replace_place-place.ensures in
@@ -148,7 +148,7 @@ edit_at-requires-clause-end c =
 
 pub returns : goal.returns
 returns c =
-    let t : List ℕ = c.args.documents.now in
+    let t : List ℕ = c.args.cut.now in
     let s : Step = step_of c.in-Some.last.now in
     let q : Placed = view c.in-Some-collection_along.node.now in
     let path : List Step = map step_of c.in-Replace.path.steps.items in
@@ -156,11 +156,11 @@ returns c =
     let finds : Finds t (cut_of t) c.in-Replace.path.doc path (map step_of c.in-Some.above.now) s q (Some (entry_view c.in-Some-part.entry)) = record {
       read = c.text-text.ensures.read;
       last = c.in-Some.ensures ∙ ap (λ xs. last_step (map step_of xs)) c.deref.ensures.value;
-      found = (found_along _ t c.cut-cut.result c.in-Replace.path.doc (map step_of c.in-Some.above.now) c.in_ok-found.found (c.in-Some-found.head, c.in-Some-found.left) (view c.in-Some-collection_along.node.now) c.cut-cut.ensures c.in_ok-found.ensures c.in-Some-found.is (c.in-Some-collection_along.ensures ∙ ap (λ y. collection_along (map step_of c.in-Some-found.left.now) (view y)) c.deref-2.ensures));
+      found = (found_along _ t c.args.cut.now c.in-Replace.path.doc (map step_of c.in-Some.above.now) c.in_ok-found.found (c.in-Some-found.head, c.in-Some-found.left) (view c.in-Some-collection_along.node.now) refl c.in_ok-found.ensures c.in-Some-found.is (c.in-Some-collection_along.ensures ∙ ap (λ y. collection_along (map step_of c.in-Some-found.left.now) (view y)) c.deref-2.ensures));
       part = c.in-Some-part.ensures;
     } in
     let h = content_told t c.in-Replace.path.doc path (map step_of c.in-Some.above.now) s q (entry_view c.in-Some-part.entry) v (edit_view c.replace_place-place.result) finds c.replace_place-place.ensures in
-    let kept = ap (λ (y : List ℕ). is_kept (node_in c.in-Replace.path.doc path (cut_of y)) v) (sym c.cut-cut.ensures) ∙ (sym c.in_ok-stays.ensures ∙ c.if-stays.false) in
+    let kept = (sym c.in_ok-stays.ensures ∙ c.if-stays.false) in
     let old = c.text_at.ensures ∙ ap (λ (x : List ℕ). drop c.replace_place-place.result.start (take c.replace_place-place.result.end x)) c.text-text.ensures.text in
     let written = c.in_ok-new.ensures ∙ ap (λ (x : List ℕ). value_text x v) old in
     let place = edit_view c.replace_place-place.result in

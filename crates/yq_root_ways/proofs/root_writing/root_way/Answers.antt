@@ -15,11 +15,11 @@ returns-in_default c = search rules
 
 pub returns-in_default-root_place : goal.returns-in_default-root_place
 returns-in_default-root_place c =
-    rw c.in-Replace.is (no_place c.in-Replace.path (values.node_of c.in-Replace.value) c.args.documents.now c.root_place.result c.root_place.ensures c.in_default-root_place.is)
+    rw c.in-Replace.is (no_place c.in-Replace.path (values.node_of c.in-Replace.value) c.args.cut.now c.root_place.result c.root_place.ensures c.in_default-root_place.is)
 
 pub returns-in-Some-old : goal.returns-in-Some-old
 returns-in-Some-old c =
-    let way = collection_there c.in-Replace.path (values.node_of c.in-Replace.value) c.args.documents.now c.root_place.result c.root_place.ensures c.in-Some.place c.in-Some-old.old c.layout_of-layout.result
+    let way = collection_there c.in-Replace.path (values.node_of c.in-Replace.value) c.args.cut.now c.root_place.result c.root_place.ensures c.in-Some.place c.in-Some-old.old c.layout_of-layout.result
     c.in-Some.is c.in-Some-old.is c.layout_of-layout.ensures in
     rw c.in-Replace.is (subst (Carries c.put_root.result) (sym way) c.put_root.ensures)
 
@@ -27,6 +27,6 @@ pub returns : goal.returns
 returns c =
     let p = c.in-Replace.path in
     let v = values.node_of c.in-Replace.value in
-    let way = nothing_there p v c.args.documents.now c.root_place.result c.root_place.ensures c.in-Some.place c.layout_of-layout.result c.in_ok-kept.kept c.in-Some.is c.in_default-old.is c.layout_of-layout.ensures
-    (c.in_ok-kept.ensures ∙ ap (λ (t : List ℕ). is_kept (node_in p.doc (steps_of p) (cut_of t)) v) c.cut-cut.ensures) in
+    let way = nothing_there p v c.args.cut.now c.root_place.result c.root_place.ensures c.in-Some.place c.layout_of-layout.result c.in_ok-kept.kept c.in-Some.is c.in_default-old.is c.layout_of-layout.ensures
+    (c.in_ok-kept.ensures) in
     rw c.in-Replace.is (subst (Carries c.put_new.result) (sym way) c.put_new.ensures)

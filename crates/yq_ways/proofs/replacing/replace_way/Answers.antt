@@ -16,15 +16,15 @@ returns-in_default c = search rules
 
 pub returns-in_default-inline_place : goal.returns-in_default-inline_place
 returns-in_default-inline_place c =
-    rw c.in-Replace.is (none_at c.in-Replace.path (values.node_of c.in-Replace.value) c.args.documents.now c.inline_place.result c.inline_place.ensures c.in_default-inline_place.is)
+    rw c.in-Replace.is (none_at c.in-Replace.path (values.node_of c.in-Replace.value) c.args.cut.now c.inline_place.result c.inline_place.ensures c.in_default-inline_place.is)
 
 pub returns-then-stays : goal.returns-then-stays
 returns-then-stays c =
     let w = inline_view c.in-Some.place in
     let v = values.node_of c.in-Replace.value in
     let p = c.in-Replace.path in
-    let kept = ap (λ (t : List ℕ). is_kept (node_in p.doc (steps_of p) (cut_of t)) v) (sym c.cut-cut.ensures) ∙ (sym c.in_ok-stays.ensures ∙ c.if-stays.true) in
-    let way = replaced_at p v c.args.documents.now c.inline_place.result c.in-Some.place true c.inline_place.ensures c.in-Some.is kept in
+    let kept = (sym c.in_ok-stays.ensures ∙ c.if-stays.true) in
+    let way = replaced_at p v c.args.cut.now c.inline_place.result c.in-Some.place true c.inline_place.ensures c.in-Some.is kept in
     let put : Carries c.put.result (replace_at true v w) =
     subst (λ t. Carries c.put.result (Some (place_segments w t t))) c.written-old.ensures
     (subst (λ t. Carries c.put.result (Some (place_segments w c.written-old.result.now t))) c.in_ok-same.ensures.ok c.put.ensures) in
@@ -35,8 +35,8 @@ returns-in_default-2 c =
     let w = inline_view c.in-Some.place in
     let v = values.node_of c.in-Replace.value in
     let p = c.in-Replace.path in
-    let kept = ap (λ (t : List ℕ). is_kept (node_in p.doc (steps_of p) (cut_of t)) v) (sym c.cut-cut.ensures) ∙ (sym c.in_ok-stays.ensures ∙ c.if-stays.false) in
-    let way = replaced_at p v c.args.documents.now c.inline_place.result c.in-Some.place false c.inline_place.ensures c.in-Some.is kept in
+    let kept = (sym c.in_ok-stays.ensures ∙ c.if-stays.false) in
+    let way = replaced_at p v c.args.cut.now c.inline_place.result c.in-Some.place false c.inline_place.ensures c.in-Some.is kept in
     let written = rw c.written-old.ensures at c.in_ok-text.ensures in
     rw c.in-Replace.is (way ∙ put_at v w None (sym (ap (option_map string_bytes) c.in_default-2.is) ∙ written))
 
@@ -45,8 +45,8 @@ returns c =
     let w = inline_view c.in-Some.place in
     let v = values.node_of c.in-Replace.value in
     let p = c.in-Replace.path in
-    let kept = ap (λ (t : List ℕ). is_kept (node_in p.doc (steps_of p) (cut_of t)) v) (sym c.cut-cut.ensures) ∙ (sym c.in_ok-stays.ensures ∙ c.if-stays.false) in
-    let way = replaced_at p v c.args.documents.now c.inline_place.result c.in-Some.place false c.inline_place.ensures c.in-Some.is kept in
+    let kept = (sym c.in_ok-stays.ensures ∙ c.if-stays.false) in
+    let way = replaced_at p v c.args.cut.now c.inline_place.result c.in-Some.place false c.inline_place.ensures c.in-Some.is kept in
     let written = rw c.written-old.ensures at c.in_ok-text.ensures in
     let t = string_bytes c.in-Some-2.text in
     let put : Carries c.put-2.result (Some (place_segments w (written_text w.old) (apart_from w.old t))) =

@@ -4,7 +4,7 @@ use Rattle.std.proofs.lemmas.Str.{is_utf8-from_IsUtf8}
 use Rattle.std.specs.Str.{IsUtf8}
 use Rattle.yq_documents.specs.Reading.{cut_of, read_at}
 use Rattle.yq_tree.proofs.ReadLaws.{text_again}
-use Rattle.yq_tree.proofs.document.Documents.text.Goals as goal
+use Rattle.yq_tree.proofs.cut_text.CutText.text.Goals as goal
 
 pub returns-clause-read : goal.returns-clause-read
 unfolding read_at
