@@ -52,8 +52,10 @@ fn push_document<'t>(
     is_document: bool,
     part: PartLines<'t>,
 ) -> Result<Vec<PartLines<'t>>, AllocError>
-    ensures lines { IfOk result (λ d. spec.lined_views d.items ≡ spec.lined_views documents.entry.items ++ spec.if_document is_document (spec.lined_view part.entry)) }
-    ensures flows { IfOk result (λ d. flow.parts_lines_flows d.items ≡ flow.parts_lines_flows documents.entry.items ++ flow.with_flows is_document (flows part.entry.lines.items) []) }
+    ensures lines { IfOk result (λ d. spec.lined_views d.items ≡
+        spec.lined_views documents.entry.items ++ spec.if_document is_document (spec.lined_view part.entry)) }
+    ensures flows { IfOk result (λ d. flow.parts_lines_flows d.items ≡
+        flow.parts_lines_flows documents.entry.items ++ flow.with_flows is_document (flows part.entry.lines.items) []) }
 {
     let mut documents = documents;
     if is_document {
@@ -71,8 +73,11 @@ fn chosen_lines<'t>(
 ) -> Result<Vec<PartLines<'t>>, ReadError>
     requires small { length text.now < 2 ^ 32 }
     requires parts { spec.HasParts 0 rows.now.rows rows.now.bounds text.now }
-    ensures lines { (h : spec.HasParts 0 rows.now.rows rows.now.bounds text.now) → Gives (λ d. spec.lined_views d.items) result (spec.chosen_made first h.parts) }
-    ensures flows { (h : spec.HasParts 0 rows.now.rows rows.now.bounds text.now) → IfOk result (λ d. flow.parts_lines_flows d.items ≡ flow.parts_flows (length text.now) first h.parts) }
+    ensures lines { (h : spec.HasParts 0 rows.now.rows rows.now.bounds text.now) →
+        Gives (λ d. spec.lined_views d.items) result (spec.chosen_made first h.parts) }
+    ensures flows { (h : spec.HasParts 0 rows.now.rows rows.now.bounds text.now) →
+        IfOk result (λ d. flow.parts_lines_flows d.items ≡
+        flow.parts_flows (length text.now) first h.parts) }
     ensures fault { IfErr result IsOfText }
 {
     let mut documents = Vec::new(alloc);
@@ -104,8 +109,11 @@ pub fn document_lines<'t>(
     requires { (c : Cut) × IsCut text.now c × (rows.now ≡ shown c) }
     // The documents are those of the text, with their leads and lines, and a fault comes exactly where
     // their rows aren't fit.
-    ensures lines { (c : Cut) → IsCut text.now c → rows.now ≡ shown c → Gives (λ d. spec.lined_views d.items) result (spec.lined_parts (document_parts c)) }
-    ensures flows { (c : Cut) → IsCut text.now c → rows.now ≡ shown c → IfOk result (λ d. flow.parts_lines_flows d.items ≡ flow.document_flows (length text.now) c) }
+    ensures lines { (c : Cut) → IsCut text.now c → rows.now ≡ shown c →
+        Gives (λ d. spec.lined_views d.items) result (spec.lined_parts (document_parts c)) }
+    ensures flows { (c : Cut) → IsCut text.now c → rows.now ≡ shown c →
+        IfOk result (λ d. flow.parts_lines_flows d.items ≡
+        flow.document_flows (length text.now) c) }
     ensures fault { IfErr result IsOfText }
 {
     chosen_lines(alloc, text, rows, first_is_document(rows))

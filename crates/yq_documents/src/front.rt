@@ -49,7 +49,8 @@ pub(crate) fn push_dashes<'t>(
     dashes: &'t str,
 ) -> Result<(Vec<Line<'t>>, Front<'t>), AllocError>
     requires { column + length dashes.now < 2 ^ 32 }
-    ensures lines { IfOk result (λ x. spec.begun (views x.0.items) x.1 ≡ spec.dashes_at (views lines.entry.items) gap.now column dashes.now) }
+    ensures lines { IfOk result (λ x. spec.begun (views x.0.items) x.1 ≡
+        spec.dashes_at (views lines.entry.items) gap.now column dashes.now) }
     ensures column { IfOk result (λ x. x.1.column < 2 ^ 32) }
     ensures flows { IfOk result (λ x. (n : ℕ) × (flows x.0.items ≡ flows lines.entry.items ++ replicate n None)) }
 {
@@ -130,7 +131,8 @@ fn behind_spaces(text: &str, n: usize) -> &str
 /// The text from a row's head on.
 pub(crate) fn at_head<'t>(row: &Row<'t>, text: &'t str) -> &'t str
     requires { (rest : List ℕ) × (text.now ≡ slices_text (row_view row.now) rest) }
-    ensures { (rest : List ℕ) → text.now ≡ slices_text (row_view row.now) rest → result.now ≡ spec.from_head (row_view row.now) rest }
+    ensures { (rest : List ℕ) → text.now ≡ slices_text (row_view row.now) rest → result.now ≡
+        spec.from_head (row_view row.now) rest }
 {
     let text = behind(text, row.gap());
     let text = behind_spaces(text, row.column());

@@ -146,7 +146,8 @@ pub fn row_head<'t>(
     requires ends { EndsIn whole.now text.now }
     requires row { spec.HasHead (row_view row.now) text.now }
     ensures view { (h : spec.HasHead (row_view row.now) text.now) → IfOk result (λ x. head_view x ≡ head_of h.row.content) }
-    ensures flow { (h : spec.HasHead (row_view row.now) text.now) → IfOk result (λ x. head_flow x ≡ flow.row_flow (length whole.now) h.row h.rest) }
+    ensures flow { (h : spec.HasHead (row_view row.now) text.now) →
+        IfOk result (λ x. head_flow x ≡ flow.row_flow (length whole.now) h.row h.rest) }
 {
     match read_head(alloc, whole, row.parent_indent(), row.head(), text) {
         Ok(head) => Ok(head),

@@ -40,8 +40,11 @@ pub(crate) fn part_lines<'t>(
     requires order { from ≤ to }
     requires rows { spec.HasRows (to - from) (drop from rows.now.rows) text.now }
     // The lines are those of the rows, and a fault comes exactly where a key isn't fit.
-    ensures lines { (h : spec.HasRows (to - from) (drop from rows.now.rows) text.now) → Gives (λ x. (views x.0.items, x.1.now)) result (spec.part_made h.rows (h.end ++ h.rest)) }
-    ensures flows { (h : spec.HasRows (to - from) (drop from rows.now.rows) text.now) → IfOk result (λ x. flows x.0.items ≡ flow.rows_flows (length whole.now) h.rows (h.end ++ h.rest)) }
+    ensures lines { (h : spec.HasRows (to - from) (drop from rows.now.rows) text.now) →
+        Gives (λ x. (views x.0.items, x.1.now)) result (spec.part_made h.rows (h.end ++ h.rest)) }
+    ensures flows { (h : spec.HasRows (to - from) (drop from rows.now.rows) text.now) →
+        IfOk result (λ x. flows x.0.items ≡
+        flow.rows_flows (length whole.now) h.rows (h.end ++ h.rest)) }
     ensures ends { IfOk result (λ x. EndsIn text.now x.1.now) }
     ensures fault { IfErr result IsOfText }
 {
@@ -65,7 +68,8 @@ pub(crate) fn part_lines<'t>(
 /// The gap before the first row of a part, or that behind its rows where it has none.
 fn first_gap<'t>(rows: &Rows<'t>, from: usize, bound: Bound<'t>, text: &str) -> &'t str
     requires { spec.HasPart from (drop from rows.now.rows) (bound_view bound) text.now }
-    ensures { (h : spec.HasPart from (drop from rows.now.rows) (bound_view bound.entry) text.now) → head_comment result.now ≡ lead_of h.part }
+    ensures { (h : spec.HasPart from (drop from rows.now.rows) (bound_view bound.entry) text.now) →
+        head_comment result.now ≡ lead_of h.part }
 {
     if from < bound.rows {
         return rows.row(from).gap();
@@ -87,8 +91,13 @@ pub(crate) fn lined_part<'t>(
     requires ends { EndsIn whole.now text.now }
     requires part { spec.HasPart from (drop from rows.now.rows) (bound_view bound) text.now }
     // The lead and the lines are those of the part, and a fault comes exactly where its rows aren't fit.
-    ensures lines { (h : spec.HasPart from (drop from rows.now.rows) (bound_view bound.entry) text.now) → Gives (λ x. (spec.lined_view x.0, x.1.now)) result (spec.lined_made h.part h.behind) }
-    ensures flows { (h : spec.HasPart from (drop from rows.now.rows) (bound_view bound.entry) text.now) → IfOk result (λ x. flows x.0.lines.items ≡ flow.part_flows (length whole.now) h.part ((bound_view bound.entry).marker ++ h.behind)) }
+    ensures lines { (h : spec.HasPart from (drop from rows.now.rows)
+        (bound_view bound.entry) text.now) →
+        Gives (λ x. (spec.lined_view x.0, x.1.now)) result (spec.lined_made h.part h.behind) }
+    ensures flows { (h : spec.HasPart from (drop from rows.now.rows)
+        (bound_view bound.entry) text.now) →
+        IfOk result (λ x. flows x.0.lines.items ≡
+        flow.part_flows (length whole.now) h.part ((bound_view bound.entry).marker ++ h.behind)) }
     ensures ends { IfOk result (λ x. EndsIn text.now x.1.now) }
     ensures fault { IfErr result IsOfText }
 {

@@ -31,7 +31,8 @@ fn read_line<'t>(
     requires column { front.column < 2 ^ 32 }
     requires ends { EndsIn whole.now text.now }
     ensures line { Gives view result (spec.line_at whole.now (row_view row.now) (spec.begun [] front.entry) text.now) }
-    ensures flow { IfOk result (λ l. head_flow l.head ≡ flow.head_flow_at whole.now (row_view row.now).parent (row_view row.now).head text.now) }
+    ensures flow { IfOk result (λ l. head_flow l.head ≡
+        flow.head_flow_at whole.now (row_view row.now).parent (row_view row.now).head text.now) }
     ensures fault { IfErr result IsOfText }
 {
     let mark = read_mark(alloc, row, front.last)?;
@@ -59,8 +60,11 @@ pub(crate) fn row_lines<'t>(
     requires ends { EndsIn whole.now text.now }
     requires row { spec.HasRow (row_view row.now) text.now }
     // The lines are those of the row, and a fault comes exactly where a key isn't fit.
-    ensures lines { (h : spec.HasRow (row_view row.now) text.now) → Gives (λ x. (views x.0.items, x.1.now)) result (spec.row_made (views lines.entry.items) h.row h.rest) }
-    ensures flows { (h : spec.HasRow (row_view row.now) text.now) → IfOk result (λ x. flows x.0.items ≡ flows lines.entry.items ++ flow.row_flows (length whole.now) h.row h.rest) }
+    ensures lines { (h : spec.HasRow (row_view row.now) text.now) →
+        Gives (λ x. (views x.0.items, x.1.now)) result (spec.row_made (views lines.entry.items) h.row h.rest) }
+    ensures flows { (h : spec.HasRow (row_view row.now) text.now) →
+        IfOk result (λ x. flows x.0.items ≡
+        flows lines.entry.items ++ flow.row_flows (length whole.now) h.row h.rest) }
     ensures ends { IfOk result (λ x. EndsIn text.now x.1.now) }
     ensures fault { IfErr result IsOfText }
 {

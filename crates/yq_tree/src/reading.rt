@@ -21,7 +21,8 @@ use yq_scalar::{FaultKind, ReadError, ReadFault};
 /// The text that bytes are in UTF-8. Bytes that are none are refused as
 /// `NotUtf8`, on the line of the first byte that isn't UTF-8.
 pub fn text_of(bytes: &[u8]) -> Result<&str, ReadFault>
-    ensures { MatchResult result (λ s. (is_utf8 bytes.now ≡ true) × (s.now ≡ bytes.now)) (λ f. (is_utf8 bytes.now ≡ false) × (f.kind ≡ NotUtf8)) }
+    ensures { MatchResult result (λ s. (is_utf8 bytes.now ≡ true) × (s.now ≡ bytes.now))
+        (λ f. (is_utf8 bytes.now ≡ false) × (f.kind ≡ NotUtf8)) }
 {
     match std::str::from_utf8(bytes) {
         Ok(text) => Ok(text),

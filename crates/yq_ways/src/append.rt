@@ -27,7 +27,9 @@ fn push_lines(
     key: Option<&str>,
     value: &Value,
 ) -> Result<(), AllocError>
-    ensures { OnOk result (string_bytes out.new ≡ string_bytes out.old ++ spec.entry_lines layout.now column (lent key.entry) (node_of value.now)) }
+    ensures { OnOk result (string_bytes out.new ≡
+        string_bytes out.old ++ spec.entry_lines layout.now column (lent key.entry)
+        (node_of value.now)) }
 {
     push_spaces(out, column)?;
     push_entry(alloc, out, layout, column, key, value)
@@ -42,7 +44,9 @@ fn entry_text(
     key: Option<&str>,
     value: &Value,
 ) -> Result<String, AllocError>
-    ensures { IfOk result (λ s. string_bytes s ≡ spec.lines_put_behind end.now.broken (break_text layout.now.br) (spec.entry_lines layout.now end.now.column (lent key.entry) (node_of value.now))) }
+    ensures { IfOk result (λ s. string_bytes s ≡
+        spec.lines_put_behind end.now.broken (break_text layout.now.br)
+        (spec.entry_lines layout.now end.now.column (lent key.entry) (node_of value.now))) }
 {
     let mut out = String::new(alloc);
     if end.broken {

@@ -38,7 +38,9 @@ pub fn is_kept(
     path: &Path,
     value: &Value,
 ) -> Result<bool, AllocError>
-    ensures { IfOk result (λ b. b ≡ spec.is_kept (node_in path.now.doc (steps_of path.now) (cut_of text.now)) (values.node_of value.now)) }
+    ensures { IfOk result (λ b. b ≡
+        spec.is_kept (node_in path.now.doc (steps_of path.now) (cut_of text.now))
+        (values.node_of value.now)) }
 {
     let found = text.scalar_at(alloc, path)?;
     let Some((kind, old)) = found else {

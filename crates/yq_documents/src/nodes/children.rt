@@ -86,7 +86,8 @@ pub(crate) fn next_line<'d, 't>(
     document: &'d Lined<'t>,
     under: Under,
 ) -> Option<(Node<'d, 't>, Under)>
-    ensures gives { spec.Gives (spec.rest_of (views document.now) (spec.lines_rest under)) (λ u. spec.rest_of (views document.now) (spec.lines_rest u)) result }
+    ensures gives { spec.Gives (spec.rest_of (views document.now) (spec.lines_rest under))
+        (λ u. spec.rest_of (views document.now) (spec.lines_rest u)) result }
     ensures behind { IfSome result (λ x. (under.first < x.1.first) × (under.first < length (views document.now))) }
 {
     let at = under.first;

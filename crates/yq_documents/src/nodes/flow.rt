@@ -57,7 +57,8 @@ pub(crate) fn inline_anchor<'t>(before: Option<&'t str>, node: &Inline<'t>) -> O
 
 /// The item of an index.
 pub(crate) fn item_at<'d, 't>(items: &'d [Inline<'t>], index: usize) -> Option<&'d Inline<'t>>
-    ensures { option_map (λ n. (inner None, placed_tree (view n.now))) result ≡ labelled_at (Nth index) (parts_tree (items_end items.now)) }
+    ensures { option_map (λ n. (inner None, placed_tree (view n.now))) result ≡
+        labelled_at (Nth index) (parts_tree (items_end items.now)) }
 {
     match items.get(index) {
         Some(item) => Some(item),
@@ -70,7 +71,8 @@ pub(crate) fn entry_at<'d, 't>(
     entries: &'d [(String, Piece, Inline<'t>)],
     key: &str,
 ) -> Option<(&'d str, &'d Inline<'t>)>
-    ensures { option_map (λ e. (inner (Some e.0.now), placed_tree (view e.1.now))) result ≡ labelled_at (To key.now) (parts_tree (entries_end entries.now)) }
+    ensures { option_map (λ e. (inner (Some e.0.now), placed_tree (view e.1.now))) result ≡
+        labelled_at (To key.now) (parts_tree (entries_end entries.now)) }
 {
     'each: for entry in entries {
         if entry.0.as_str() == key {

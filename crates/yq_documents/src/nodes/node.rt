@@ -79,7 +79,8 @@ impl<'d, 't> Node<'d, 't> {
     /// The node of a line's entry or item.
     pub(crate) fn of_line(document: &'d Lined<'t>, at: usize) -> Node<'d, 't>
         requires { at < length (views document.now) }
-        ensures node { (l : outline.Line) → slice_get (views document.now) at ≡ Some l → spec.node_of result ≡ content l (lines_under (views document.now) at l) }
+        ensures node { (l : outline.Line) → slice_get (views document.now) at ≡ Some l →
+            spec.node_of result ≡ content l (lines_under (views document.now) at l) }
         ensures label { (l : outline.Line) → slice_get (views document.now) at ≡ Some l → spec.label_of result ≡ label l }
     {
         Node {

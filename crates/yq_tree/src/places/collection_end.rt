@@ -52,7 +52,8 @@ fn lines_collection(rows: &Rows<'_>, document: Stretch, from: Spot, to: Spot) ->
     requires shown { IsShown rows.now }
     requires document { HasDocument rows.now document }
     requires lines { AreLines rows.now document from to }
-    ensures column { OfLines rows.now document (λ ls n. option_map (λ x. x.column) result ≡ telling.lines_column ls (n from) (n to)) }
+    ensures column { OfLines rows.now document (λ ls n. option_map (λ x. x.column) result ≡
+        telling.lines_column ls (n from) (n to)) }
     ensures place { IfSome result (λ x. InEach rows.now document (λ first c rs n. Some (span x.place) ≡ reading.lines_content first c rs (n from) (n to))) }
 {
     if from.row >= to.row {
@@ -86,8 +87,10 @@ fn line_collection(rows: &Rows<'_>, document: Stretch, at: Spot) -> Option<Colle
 fn collection_of(rows: &Rows<'_>, document: Stretch, steps: &[Step]) -> Option<Collection>
     requires shown { IsShown rows.now }
     requires document { HasDocument rows.now document }
-    ensures column { OfLines rows.now document (λ ls n. option_map (λ x. x.column) result ≡ telling.column_of (map step_of steps.now) ls) }
-    ensures place { IfSome result (λ x. InEach rows.now document (λ first c rs n. Some (span x.place) ≡ reading.content_of first c rs (map step_of steps.now))) }
+    ensures column { OfLines rows.now document (λ ls n. option_map (λ x. x.column) result ≡
+        telling.column_of (map step_of steps.now) ls) }
+    ensures place { IfSome result (λ x. InEach rows.now document (λ first c rs n.
+        Some (span x.place) ≡ reading.content_of first c rs (map step_of steps.now))) }
 {
     if steps.is_empty() {
         let (from, to) = all_lines(document);
@@ -100,7 +103,9 @@ fn collection_of(rows: &Rows<'_>, document: Stretch, steps: &[Step]) -> Option<C
 /// The end of the block collection that ends at a place, in bytes, before its last break.
 fn end_at(whole: &str, column: usize, end: usize) -> CollectionEnd<'_>
     requires { IsCharBoundary whole.now end }
-    ensures { (before last rest : List ℕ) → whole.now ≡ before ++ (last ++ rest) → end ≡ length before → cut_line (last ++ rest) ≡ (last, rest) → collection_told result ≡ record { column = column; before = before ++ last; broken = not (is_empty last); behind = rest } }
+    ensures { (before last rest : List ℕ) → whole.now ≡ before ++ (last ++ rest) → end ≡
+        length before → cut_line (last ++ rest) ≡ (last, rest) → collection_told result ≡
+        record { column = column; before = before ++ last; broken = not (is_empty last); behind = rest } }
 {
     let (_, rest) = whole.split_at(end);
     let (line_break, _) = split_line(rest);
@@ -116,8 +121,11 @@ fn end_at(whole: &str, column: usize, end: usize) -> CollectionEnd<'_>
 impl<'t> CutText<'_, 't> {
     /// The block collection at a path.
     pub(crate) fn collection(&self, path: &Path) -> Option<Collection>
-        ensures column { option_map (λ x. x.column) result ≡ option_map (λ x. x.column) (spec.collection_end path.now.doc (steps_of path.now) (cut_of self.now)) }
-        ensures place { IfSome result (λ x. Some (span x.place) ≡ option_map piece_span (piece_at path.now parts.Content (cut_of self.now))) }
+        ensures column { option_map (λ x. x.column) result ≡
+            option_map (λ x. x.column)
+            (spec.collection_end path.now.doc (steps_of path.now) (cut_of self.now)) }
+        ensures place { IfSome result (λ x. Some (span x.place) ≡
+            option_map piece_span (piece_at path.now parts.Content (cut_of self.now))) }
     {
         let document = self.stretch(path.doc)?;
         let _whole = self.whole();

@@ -37,7 +37,8 @@ fn tail_comment(start: usize, tail: &str) -> Option<Span>
 fn line_comment_in(rows: &Rows<'_>, seat: Seat) -> Option<Span>
     requires within { seat.row < length rows.now.rows }
     requires shown { IsShown rows.now }
-    ensures { (x : Slices) → slice_get rows.now.rows seat.row ≡ Some x → option_map span result ≡ spec.line_comment_span (extents.row_start seat.row rows.now) x (told seat) }
+    ensures { (x : Slices) → slice_get rows.now.rows seat.row ≡ Some x → option_map span result ≡
+        spec.line_comment_span (extents.row_start seat.row rows.now) x (told seat) }
 {
     if seat.line != seat.dashes {
         return None;
@@ -65,7 +66,8 @@ fn gap_comment(start: usize, gap: &str) -> Option<Span>
 fn head_comment_in(rows: &Rows<'_>, seat: Seat) -> Option<Span>
     requires within { seat.row < length rows.now.rows }
     requires shown { IsShown rows.now }
-    ensures { (x : Slices) → slice_get rows.now.rows seat.row ≡ Some x → option_map span result ≡ spec.head_comment_span (extents.row_start seat.row rows.now) x (told seat) }
+    ensures { (x : Slices) → slice_get rows.now.rows seat.row ≡ Some x → option_map span result ≡
+        spec.head_comment_span (extents.row_start seat.row rows.now) x (told seat) }
 {
     if seat.line != 0 {
         return None;

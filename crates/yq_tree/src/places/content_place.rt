@@ -53,7 +53,8 @@ fn line_content(rows: &Rows<'_>, document: Stretch, at: Spot) -> Option<Span>
 fn content_of(rows: &Rows<'_>, document: Stretch, steps: &[Step]) -> Option<Span>
     requires shown { IsShown rows.now }
     requires document { HasDocument rows.now document }
-    ensures { InEach rows.now document (λ first c rs n. option_map span result ≡ spec.line_content_of first c rs (map step_of steps.now)) }
+    ensures { InEach rows.now document (λ first c rs n. option_map span result ≡
+        spec.line_content_of first c rs (map step_of steps.now)) }
 {
     if steps.is_empty() {
         let (from, to) = all_lines(document);

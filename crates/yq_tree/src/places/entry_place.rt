@@ -44,7 +44,8 @@ fn line_entry(rows: &Rows<'_>, document: Stretch, at: Spot) -> Span
 fn entry_of(rows: &Rows<'_>, document: Stretch, steps: &[Step]) -> Option<Span>
     requires shown { IsShown rows.now }
     requires document { HasDocument rows.now document }
-    ensures { InEach rows.now document (λ first c rs n. option_map span result ≡ spec.line_entry_of first c rs (map step_of steps.now)) }
+    ensures { InEach rows.now document (λ first c rs n. option_map span result ≡
+        spec.line_entry_of first c rs (map step_of steps.now)) }
 {
     let at = line_at(rows, document, steps)?;
     Some(line_entry(rows, document, at))

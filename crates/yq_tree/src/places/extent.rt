@@ -68,7 +68,8 @@ pub(crate) fn row_start(rows: &Rows<'_>, i: usize) -> usize
 pub(crate) fn head_place(rows: &Rows<'_>, i: usize) -> (usize, usize)
     requires within { i < length rows.now.rows }
     requires shown { spec.IsShown rows.now }
-    ensures { (c : Cut) → rows.now ≡ shown c → (r : RowOf) → slice_get (rows_of c) i ≡ Some r → (result.0, result.1) ≡ spec.head_place i c r }
+    ensures { (c : Cut) → rows.now ≡ shown c → (r : RowOf) → slice_get (rows_of c) i ≡ Some r →
+        (result.0, result.1) ≡ spec.head_place i c r }
 {
     let row = rows.row(i);
     let start = rows.start(i) + front_len(&row);

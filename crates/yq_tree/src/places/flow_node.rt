@@ -14,7 +14,8 @@ use yq_lines::Head;
 
 /// The flow collection to which steps lead in a node.
 pub fn collection_along<'d, 't>(node: &'d Inline<'t>, steps: &[Step]) -> Option<&'d Inline<'t>>
-    ensures { option_map (λ n. spec.behind_anchor (view n.now)) result ≡ spec.collection_along (map step_of steps.now) (view node.now) }
+    ensures { option_map (λ n. spec.behind_anchor (view n.now)) result ≡
+        spec.collection_along (map step_of steps.now) (view node.now) }
 {
     let entry = node.entry(steps)?;
     match &entry.node.form {
@@ -35,7 +36,10 @@ impl<'t> CutText<'_, 't> {
         doc: usize,
         steps: &'s [Step],
     ) -> Result<Option<(Box<Inline<'t>>, &'s [Step])>, AllocError>
-        ensures { IfOk result (λ o. option_and_then (λ x. spec.collection_along (map step_of x.1.now) (view x.0.value)) o ≡ option_map (spec.placed_collection (length self.now)) (flow_collection doc (map step_of steps.now) (cut_of self.now))) }
+        ensures { IfOk result (λ o.
+            option_and_then (λ x. spec.collection_along (map step_of x.1.now) (view x.0.value)) o ≡
+            option_map (spec.placed_collection (length self.now))
+            (flow_collection doc (map step_of steps.now) (cut_of self.now))) }
     {
         let _whole = self.whole();
         let rows = self.rows();

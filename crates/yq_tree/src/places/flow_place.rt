@@ -27,7 +27,8 @@ fn head_entry<'d, 't>(head: &'d Head<'t>, steps: &[Step]) -> Option<Entry<'d, 't
 /// The item or entry to which steps lead in the head of line `at`.
 fn line_entry<'d, 't>(lines: &'d [Line<'t>], at: usize, steps: &[Step]) -> Option<Entry<'d, 't>>
     requires { at < length lines.now }
-    ensures { (f : Option Placed) → slice_get (flows lines.now) at ≡ Some f → option_map entry_view result ≡ spec.entry_within (map step_of steps.now) f }
+    ensures { (f : Option Placed) → slice_get (flows lines.now) at ≡ Some f →
+        option_map entry_view result ≡ spec.entry_within (map step_of steps.now) f }
 {
     let line = &lines[at];
     head_entry(&line.head, steps)
@@ -51,7 +52,9 @@ pub(crate) fn content_span(entry: &Entry<'_, '_>) -> Option<Span>
 
 /// The item or entry of a flow collection to which steps lead, if they lead to one.
 fn flow_entry<'d, 't>(lines: &'d Lined<'t>, steps: &[Step]) -> Option<Entry<'d, 't>>
-    ensures { HeldAs (views lines.now) (flows lines.now) (λ k c rs. option_map entry_view result ≡ spec.flow_entry_of k c rs (map step_of steps.now)) }
+    ensures { HeldAs (views lines.now) (flows lines.now)
+        (λ k c rs. option_map entry_view result ≡
+        spec.flow_entry_of k c rs (map step_of steps.now)) }
 {
     let (line, left) = lines.reach(steps)?;
     if left.is_empty() {

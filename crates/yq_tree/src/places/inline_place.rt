@@ -46,7 +46,9 @@ pub(crate) struct InlineSpan {
 fn row_extent(rows: &Rows<'_>, alone: bool, i: usize) -> Option<InlineSpan>
     requires within { i < length rows.now.rows }
     requires shown { IsShown rows.now }
-    ensures { (t : List ℕ) (c : Cut) → IsCut t c → rows.now ≡ shown c → (r : RowOf) → slice_get (rows_of c) i ≡ Some r → option_map spec.extent_view result ≡ spec.row_extent alone i r c }
+    ensures { (t : List ℕ) (c : Cut) → IsCut t c → rows.now ≡ shown c → (r : RowOf) →
+        slice_get (rows_of c) i ≡ Some r → option_map spec.extent_view result ≡
+        spec.row_extent alone i r c }
 {
     if begins_block(rows.row(i).head().as_bytes()) {
         return None;
@@ -64,7 +66,9 @@ fn node_extent(rows: &Rows<'_>, document: Stretch, under: Spot, floor: usize) ->
     requires shown { IsShown rows.now }
     requires document { HasDocument rows.now document }
     requires under { IsSpot rows.now document under }
-    ensures { InEach rows.now document (λ first c rs n. (to : ℕ) → EndsAt document rs under floor to → option_map spec.extent_view result ≡ spec.lines_extent first c rs (n under) to) }
+    ensures { InEach rows.now document (λ first c rs n. (to : ℕ) →
+        EndsAt document rs under floor to → option_map spec.extent_view result ≡
+        spec.lines_extent first c rs (n under) to) }
 {
     if begins_with_node(rows, document, under, floor) {
         row_extent(rows, true, under.row)
@@ -78,7 +82,8 @@ fn entry_extent(rows: &Rows<'_>, document: Stretch, at: Spot) -> Option<InlineSp
     requires shown { IsShown rows.now }
     requires document { HasDocument rows.now document }
     requires at { IsLine rows.now document at }
-    ensures { InEach rows.now document (λ first c rs n. option_map spec.extent_view result ≡ spec.entry_extent first c rs (n at)) }
+    ensures { InEach rows.now document (λ first c rs n. option_map spec.extent_view result ≡
+        spec.entry_extent first c rs (n at)) }
 {
     if has_head(rows, document, at) {
         return row_extent(rows, false, at.row);
@@ -95,7 +100,8 @@ fn entry_extent(rows: &Rows<'_>, document: Stretch, at: Spot) -> Option<InlineSp
 fn extent_in(rows: &Rows<'_>, document: Stretch, steps: &[Step]) -> Option<InlineSpan>
     requires shown { IsShown rows.now }
     requires document { HasDocument rows.now document }
-    ensures { InEach rows.now document (λ first c rs n. option_map spec.extent_view result ≡ spec.extent_in first c rs (map step_of steps.now)) }
+    ensures { InEach rows.now document (λ first c rs n. option_map spec.extent_view result ≡
+        spec.extent_in first c rs (map step_of steps.now)) }
 {
     if steps.is_empty() {
         let first = Spot {
@@ -118,7 +124,8 @@ fn if_written(text: &str) -> Option<&str>
 impl<'t> CutText<'_, 't> {
     /// The place, in bytes, of the inline node at a path, or of nothing.
     fn inline_extent(&self, path: &Path) -> Option<InlineSpan>
-        ensures { option_map spec.extent_view result ≡ option_map spec.extent_of (places.inline_place path.now (cut_of self.now)) }
+        ensures { option_map spec.extent_view result ≡
+            option_map spec.extent_of (places.inline_place path.now (cut_of self.now)) }
     {
         let document = self.stretch(path.doc)?;
         let _whole = self.whole();
@@ -129,7 +136,8 @@ impl<'t> CutText<'_, 't> {
     /// or dash, on a line of its own, or a root; or where nothing but perhaps an anchor is written for
     /// it behind a key or dash.
     pub fn inline_place(&self, path: &Path) -> Option<InlinePlace<'t>>
-        ensures { option_map spec.inline_told result ≡ option_map spec.inline_telling (places.inline_place path.now (cut_of self.now)) }
+        ensures { option_map spec.inline_told result ≡
+            option_map spec.inline_telling (places.inline_place path.now (cut_of self.now)) }
     {
         let whole = self.whole();
         let InlineSpan { span, alone } = self.inline_extent(path)?;

@@ -58,7 +58,8 @@ fn split_mark<'d>(text: &'d str, row: &Row<'_>) -> (&'d str, &'d str)
 /// The key or dash of a row, by the end of its line.
 fn mark_at<'d>(end: LineEnd<'d>, row: &Row<'_>) -> MarkPlace<'d>
     requires { EndsBehindMark end.before.now (view row.now) }
-    ensures { (h : EndsBehindMark end.entry.before.now (view row.now)) → mark_told result ≡ spec.mark_at h.before (view row.now) (end_told end.entry) }
+    ensures { (h : EndsBehindMark end.entry.before.now (view row.now)) → mark_told result ≡
+        spec.mark_at h.before (view row.now) (end_told end.entry) }
 {
     let (before, gone) = split_mark(end.before, row);
     MarkPlace {

@@ -82,7 +82,8 @@ fn head_node<'t>(
     head: Head<'t>,
     steps: &[Step],
 ) -> Result<Option<NodeAt<'t>>, AllocError>
-    ensures { IfOk result (λ o. option_map spec.node_view o ≡ reading.told_in_head (map step_of steps.now) (head_view head.entry)) }
+    ensures { IfOk result (λ o. option_map spec.node_view o ≡
+        reading.told_in_head (map step_of steps.now) (head_view head.entry)) }
 {
     match head {
         Head::Nothing => Ok(None),
@@ -145,7 +146,9 @@ impl<'t> CutText<'_, 't> {
         doc: usize,
         steps: &[Step],
     ) -> Result<Option<NodeAt<'t>>, AllocError>
-        ensures { IfOk result (λ o. option_map spec.node_view o ≡ option_map spec.node_told (spec.node_in doc (map step_of steps.now) (cut_of self.now))) }
+        ensures { IfOk result (λ o. option_map spec.node_view o ≡
+            option_map spec.node_told (spec.node_in doc (map step_of steps.now)
+            (cut_of self.now))) }
     {
         let _whole = self.whole();
         let rows = self.rows();
@@ -168,7 +171,9 @@ impl<'t> CutText<'_, 't> {
         alloc: Global,
         path: &Path,
     ) -> Result<Option<(Kind, Content<'t>)>, AllocError>
-        ensures { IfOk result (λ o. option_map spec.scalar_view o ≡ option_and_then spec.scalar_in (spec.node_in path.now.doc (steps_of path.now) (cut_of self.now))) }
+        ensures { IfOk result (λ o. option_map spec.scalar_view o ≡
+            option_and_then spec.scalar_in (spec.node_in path.now.doc (steps_of path.now)
+            (cut_of self.now))) }
     {
         match self.node_at(alloc, path.doc, &path.steps)? {
             Some(node) => Ok(node.scalar()),

@@ -50,7 +50,9 @@ pub(crate) fn node_place<'s>(
     requires shown { IsShown rows.now }
     requires document { HasDocument rows.now document }
     ensures within { IfSome result (λ x. spec.IsPlace rows.now document x.0) }
-    ensures found { (h : HasDocument rows.now document) → option_map (spec.node_place_told document h.rows) result ≡ spec.node_place (map step_of steps.now) (lines_of h.rows) }
+    ensures found { (h : HasDocument rows.now document) →
+        option_map (spec.node_place_told document h.rows) result ≡
+        spec.node_place (map step_of steps.now) (lines_of h.rows) }
 {
     if steps.is_empty() {
         let first = Spot {
@@ -69,7 +71,9 @@ pub(crate) fn place_line(rows: &Rows<'_>, document: Stretch, place: NodePlace) -
     requires document { HasDocument rows.now document }
     requires place { spec.IsPlace rows.now document place }
     ensures within { IfSome result (IsLine rows.now document) }
-    ensures found { (h : HasDocument rows.now document) → option_map (line_number document h.rows) result ≡ spec.place_line (lines_of h.rows) (spec.place_told document h.rows place) }
+    ensures found { (h : HasDocument rows.now document) →
+        option_map (line_number document h.rows) result ≡
+        spec.place_line (lines_of h.rows) (spec.place_told document h.rows place) }
 {
     match place {
         NodePlace::Head(at) => Some(at),

@@ -85,7 +85,8 @@ fn holds_comment(gap: &str) -> bool
 fn own_rows(rows: &Rows<'_>, document: Stretch, steps: &[Step]) -> Option<(usize, usize, usize)>
     requires shown { IsShown rows.now }
     requires document { HasDocument rows.now document }
-    ensures { (h : HasDocument rows.now document) → option_map (λ m. (m.0, m.1, m.2)) result ≡ option_map (reading.marks document.first) (spec.own_rows (map step_of steps.now) h.rows) }
+    ensures { (h : HasDocument rows.now document) → option_map (λ m. (m.0, m.1, m.2)) result ≡
+        option_map (reading.marks document.first) (spec.own_rows (map step_of steps.now) h.rows) }
 {
     let at = line_at(rows, document, steps)?;
     if at.line != 0 {
@@ -122,7 +123,8 @@ fn row_stop(rows: &Rows<'_>, i: usize) -> usize
 /// its text is indented.
 fn scalar_at(whole: &str, start: usize, parent: i64) -> Option<(bool, usize)>
     requires { IsCharBoundary whole.now start }
-    ensures { (b : BlockText) → IsBlockPiece parent start whole.now (block_piece start b) → option_map (λ b. (b.0, b.1)) result ≡ Some (reading.block_numbers b) }
+    ensures { (b : BlockText) → IsBlockPiece parent start whole.now (block_piece start b) →
+        option_map (λ b. (b.0, b.1)) result ≡ Some (reading.block_numbers b) }
 {
     match read_block(whole, start, parent) {
         Ok(piece) => Some((piece.keep, piece.indent)),
@@ -135,7 +137,9 @@ pub(crate) fn block_in(rows: &Rows<'_>, whole: &str, i: usize) -> Option<(bool, 
     requires within { i < length rows.now.rows }
     requires shown { rows.now ≡ shown (cut_of whole.now) }
     requires cut { IsCut whole.now (cut_of whole.now) }
-    ensures { (r : RowOf) → slice_get (rows_of (cut_of whole.now)) i ≡ Some r → option_map (λ b. (b.0, b.1)) result ≡ option_map reading.block_numbers (block_of r.content) }
+    ensures { (r : RowOf) → slice_get (rows_of (cut_of whole.now)) i ≡ Some r →
+        option_map (λ b. (b.0, b.1)) result ≡
+        option_map reading.block_numbers (block_of r.content) }
 {
     let row = rows.row(i);
     if !begins_block(row.head().as_bytes()) {
@@ -151,7 +155,9 @@ fn block_before(rows: &Rows<'_>, whole: &str, first: usize, at: usize) -> Option
     requires within { at < length rows.now.rows }
     requires shown { rows.now ≡ shown (cut_of whole.now) }
     requires cut { IsCut whole.now (cut_of whole.now) }
-    ensures { (p : Part) (more : List RowOf) → drop first (rows_of (cut_of whole.now)) ≡ p.rows ++ more → at - first ≤ length p.rows → option_map (λ b. (b.0, b.1)) result ≡ option_map reading.block_numbers (last_block (take (at - first) p.rows)) }
+    ensures { (p : Part) (more : List RowOf) → drop first (rows_of (cut_of whole.now)) ≡
+        p.rows ++ more → at - first ≤ length p.rows → option_map (λ b. (b.0, b.1)) result ≡
+        option_map reading.block_numbers (last_block (take (at - first) p.rows)) }
 {
     if at == first {
         None
@@ -162,7 +168,9 @@ fn block_before(rows: &Rows<'_>, whole: &str, first: usize, at: usize) -> Option
 
 /// The seam behind a block scalar, where no comment line stays behind it.
 fn seam_of(block: Option<(bool, usize)>, column: usize, kept: &str) -> Option<Seam>
-    ensures { (b : Option BlockText) → option_map (λ b. (b.0, b.1)) block ≡ option_map reading.block_numbers b → option_map reading.seam_told result ≡ spec.seam_behind b column kept.now }
+    ensures { (b : Option BlockText) → option_map (λ b. (b.0, b.1)) block ≡
+        option_map reading.block_numbers b → option_map reading.seam_told result ≡
+        spec.seam_behind b column kept.now }
 {
     let (keeps, indent) = block?;
     if holds_comment(kept) {
@@ -178,7 +186,9 @@ fn seam_of(block: Option<(bool, usize)>, column: usize, kept: &str) -> Option<Se
 /// What is taken out of a text with these rows of a document.
 fn rows_out<'d>(rows: &Rows<'d>, whole: &'d str, marks: (usize, usize, usize)) -> Removal<'d>
     requires { reading.HasOwn whole.now rows.now (marks.0, marks.1, marks.2) }
-    ensures { (d : PlacedPart) (x : spec.OwnRows) → reading.IsOwn whole.now rows.now d x (marks.0, marks.1, marks.2) → reading.removal_told result ≡ spec.rows_out d x }
+    ensures { (d : PlacedPart) (x : spec.OwnRows) →
+        reading.IsOwn whole.now rows.now d x (marks.0, marks.1, marks.2) →
+        reading.removal_told result ≡ spec.rows_out d x }
 {
     let (first, at, end) = marks;
     let (kept, _) = split_run(rows.row(at).gap());

@@ -19,8 +19,11 @@ impl<'t> CutText<'_, 't> {
     pub(crate) fn row_head(&self, alloc: Global, i: usize) -> Result<Head<'t>, AllocError>
         requires within { i < length (rows_of (cut_of self.now)) }
         requires fit { (r : RowOf) → slice_get (rows_of (cut_of self.now)) i ≡ Some r → content_is_fit r.content ≡ true }
-        ensures view { (r : RowOf) → slice_get (rows_of (cut_of self.now)) i ≡ Some r → IfOk result (λ h. head_view h ≡ head_of r.content) }
-        ensures flow { (r : RowOf) → slice_get (rows_of (cut_of self.now)) i ≡ Some r → IfOk result (λ h. head_flow h ≡ row_flow (length self.now) r (behind_row i (cut_of self.now))) }
+        ensures view { (r : RowOf) → slice_get (rows_of (cut_of self.now)) i ≡ Some r →
+            IfOk result (λ h. head_view h ≡ head_of r.content) }
+        ensures flow { (r : RowOf) → slice_get (rows_of (cut_of self.now)) i ≡ Some r →
+            IfOk result (λ h. head_flow h ≡
+            row_flow (length self.now) r (behind_row i (cut_of self.now))) }
     {
         let whole = self.whole();
         let rows = self.rows();

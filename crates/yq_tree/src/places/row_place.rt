@@ -41,7 +41,8 @@ pub(crate) fn dash_at(dashes: &[u8], count: usize) -> usize
 pub(crate) fn line_start(rows: &Rows<'_>, spot: Spot) -> usize
     requires within { spot.row < length rows.now.rows }
     requires shown { IsShown rows.now }
-    ensures { (x : Slices) → slice_get rows.now.rows spot.row ≡ Some x → result ≡ spec.line_begin (extents.row_start spot.row rows.now) x spot.line }
+    ensures { (x : Slices) → slice_get rows.now.rows spot.row ≡ Some x → result ≡
+        spec.line_begin (extents.row_start spot.row rows.now) x spot.line }
 {
     let row = rows.row(spot.row);
     let dash = dash_at(row.dashes().as_bytes(), spot.line);
@@ -98,7 +99,8 @@ fn ending_len(row: &Row<'_>) -> usize
 pub(crate) fn row_end(rows: &Rows<'_>, i: usize) -> usize
     requires within { i < length rows.now.rows }
     requires shown { IsShown rows.now }
-    ensures { (c : Cut) → rows.now ≡ shown c → (r : RowOf) → slice_get (rows_of c) i ≡ Some r → result ≡ length (spec.through_row i r c) }
+    ensures { (c : Cut) → rows.now ≡ shown c → (r : RowOf) → slice_get (rows_of c) i ≡ Some r →
+        result ≡ length (spec.through_row i r c) }
 {
     let (_, end) = head_place(rows, i);
     end + ending_len(&rows.row(i))
@@ -121,7 +123,8 @@ fn head_end(row: &Row<'_>, end: usize) -> usize
 pub(crate) fn head_extent(rows: &Rows<'_>, i: usize) -> Span
     requires within { i < length rows.now.rows }
     requires shown { IsShown rows.now }
-    ensures { (t : List ℕ) (c : Cut) → IsCut t c → rows.now ≡ shown c → (r : RowOf) → slice_get (rows_of c) i ≡ Some r → span result ≡ spec.head_extent i r c }
+    ensures { (t : List ℕ) (c : Cut) → IsCut t c → rows.now ≡ shown c → (r : RowOf) →
+        slice_get (rows_of c) i ≡ Some r → span result ≡ spec.head_extent i r c }
 {
     let (start, end) = head_place(rows, i);
     let row = rows.row(i);

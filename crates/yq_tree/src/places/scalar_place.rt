@@ -75,7 +75,8 @@ fn space_before<'d>(row: &Row<'d>) -> &'d str
 /// The block scalar of a row, the header of which begins at an offset.
 fn place_at<'d>(whole: &'d str, row: &Row<'d>, start: usize, indent: usize) -> ScalarPlace<'d>
     requires { StandsAt whole.now start (view row.now) }
-    ensures { (h : StandsAt whole.now start (view row.now)) → scalar_told result ≡ spec.scalar_by h.before (view row.now) h.behind indent }
+    ensures { (h : StandsAt whole.now start (view row.now)) → scalar_told result ≡
+        spec.scalar_by h.before (view row.now) h.behind indent }
 {
     let space = space_before(row);
     let (front, rest) = whole.split_at(start);

@@ -110,7 +110,8 @@ pub(crate) fn is_deeper(rows: &Rows<'_>, document: Stretch, spot: Spot, floor: u
     requires document { HasDocument rows.now document }
     requires spot { IsSpot rows.now document spot }
     ensures some { IsTrue result → spot.row < document.end }
-    ensures test { (h : HasDocument rows.now document) → result ≡ not (is_end (part (lines_of h.rows) (spec.line_number document h.rows spot) floor)) }
+    ensures test { (h : HasDocument rows.now document) → result ≡
+        not (is_end (part (lines_of h.rows) (spec.line_number document h.rows spot) floor)) }
 {
     if spot.row >= document.end {
         return false;
@@ -123,7 +124,9 @@ pub(crate) fn behind(rows: &Rows<'_>, document: Stretch, spot: Spot) -> Spot
     requires shown { IsShown rows.now }
     requires document { HasDocument rows.now document }
     requires spot { IsLine rows.now document spot }
-    ensures end { (h : HasDocument rows.now document) → IsEndOf (lines_of h.rows) (spec.line_number document h.rows spot) (spec.line_number document h.rows result) }
+    ensures end { (h : HasDocument rows.now document) →
+        IsEndOf (lines_of h.rows) (spec.line_number document h.rows spot)
+        (spec.line_number document h.rows result) }
     ensures spot { IsSpot rows.now document result }
     ensures line { result.line ≡ 0 }
     ensures later { spot.row < result.row }
@@ -139,7 +142,8 @@ pub(crate) fn behind(rows: &Rows<'_>, document: Stretch, spot: Spot) -> Spot
 pub(crate) fn next(rows: &Rows<'_>, document: Stretch, spot: Spot) -> Spot
     requires document { HasDocument rows.now document }
     requires spot { IsLine rows.now document spot }
-    ensures number { (h : HasDocument rows.now document) → spec.line_number document h.rows result ≡ spec.line_number document h.rows spot + 1 }
+    ensures number { (h : HasDocument rows.now document) → spec.line_number document h.rows result ≡
+        spec.line_number document h.rows spot + 1 }
     ensures spot { IsSpot rows.now document result }
 {
     if spot.line < lines_before_mark(&rows.row(spot.row)) {

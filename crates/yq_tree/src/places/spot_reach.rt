@@ -34,7 +34,8 @@ pub(crate) fn begins_with_node(
     requires document { HasDocument rows.now document }
     requires under { IsSpot rows.now document under }
     ensures some { IsTrue result → IsLine rows.now document under }
-    ensures test { (h : HasDocument rows.now document) → result ≡ spots.begins_with_node (part (lines_of h.rows) (line_number document h.rows under) floor) }
+    ensures test { (h : HasDocument rows.now document) → result ≡
+        spots.begins_with_node (part (lines_of h.rows) (line_number document h.rows under) floor) }
 {
     if !is_deeper(rows, document, under, floor) {
         return false;
@@ -69,7 +70,8 @@ fn next_from(rows: &Rows<'_>, document: Stretch, at: Spot, step: &Step) -> Optio
     requires document { HasDocument rows.now document }
     requires at { IsLine rows.now document at }
     ensures within { IfSome result (λ x. IsLine rows.now document (spec.next_spot x)) }
-    ensures found { LeadsTo rows.now document (λ ls n ss. spots.reach_from ls (Some (n at)) (step_of step.now ∷ ss)) (step_of step.now) result }
+    ensures found { LeadsTo rows.now document (λ ls n ss. spots.reach_from ls (Some (n at))
+        (step_of step.now ∷ ss)) (step_of step.now) result }
 {
     if has_head(rows, document, at) {
         return Some(Next::Head(at));
@@ -84,7 +86,8 @@ fn next_at(rows: &Rows<'_>, document: Stretch, from: Option<Spot>, step: &Step) 
     requires document { HasDocument rows.now document }
     requires from { IfSome from (IsLine rows.now document) }
     ensures within { IfSome result (λ x. IsLine rows.now document (spec.next_spot x)) }
-    ensures found { LeadsTo rows.now document (λ ls n ss. spots.reach_from ls (option_map n from) (step_of step.now ∷ ss)) (step_of step.now) result }
+    ensures found { LeadsTo rows.now document (λ ls n ss. spots.reach_from ls (option_map n from)
+        (step_of step.now ∷ ss)) (step_of step.now) result }
 {
     match from {
         Some(at) => next_from(rows, document, at, step),
@@ -107,7 +110,9 @@ pub(crate) fn reach<'s>(
     requires shown { IsShown rows.now }
     requires document { HasDocument rows.now document }
     ensures within { IfSome result (λ x. IsLine rows.now document x.0) }
-    ensures found { (h : HasDocument rows.now document) → option_map (spec.reached_told document h.rows) result ≡ reached (map step_of steps.now) (lines_of h.rows) }
+    ensures found { (h : HasDocument rows.now document) →
+        option_map (spec.reached_told document h.rows) result ≡
+        reached (map step_of steps.now) (lines_of h.rows) }
 {
     let mut found = None;
     let mut left = steps;

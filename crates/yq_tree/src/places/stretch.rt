@@ -60,7 +60,8 @@ fn begin_rows(rows: &Rows<'_>, first: bool, i: usize) -> Option<Stretch>
 fn seat_along(rows: &Rows<'_>, document: Stretch, steps: &[Step]) -> Option<Seat>
     requires shown { IsShown rows.now }
     requires document { HasDocument rows.now document }
-    ensures { (h : HasDocument rows.now document) → option_map told result ≡ option_map (numbers document.first) (seat_of (map step_of steps.now) h.rows) }
+    ensures { (h : HasDocument rows.now document) → option_map told result ≡
+        option_map (numbers document.first) (seat_of (map step_of steps.now) h.rows) }
 {
     let spot = line_at(rows, document, steps)?;
     Some(Seat {
@@ -81,7 +82,9 @@ impl<'d, 't> CutText<'d, 't> {
 
     /// The line of the entry or item at a path, if one of a row is.
     pub(crate) fn seat(&self, path: &Path) -> Option<Seat>
-        ensures { option_map told result ≡ option_map (numbers (document_row path.now.doc (cut_of self.now))) (seat_at path.now (cut_of self.now)) }
+        ensures { option_map told result ≡
+            option_map (numbers (document_row path.now.doc (cut_of self.now)))
+            (seat_at path.now (cut_of self.now)) }
     {
         let document = self.stretch(path.doc)?;
         let _whole = self.whole();
