@@ -55,7 +55,9 @@ pub fn push_entry(
     key: Option<&str>,
     value: &Value,
 ) -> Result<(), AllocError>
-    ensures { OnOk result (string_bytes out.new ≡ string_bytes out.old ++ block_value layout.now column (alone (lent key.entry) (node_of value.now))) }
+    ensures { OnOk result (string_bytes out.new ≡
+        string_bytes out.old ++ block_value layout.now column (alone (lent key.entry)
+        (node_of value.now))) }
 {
     match key {
         Some(key) => push_pair(alloc, out, layout, column, key, value),

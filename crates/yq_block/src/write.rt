@@ -72,7 +72,8 @@ fn push_items(
     column: usize,
     items: &Vec<Value>,
 ) -> Result<(), AllocError>
-    ensures text { OnOk result (string_bytes out.new ≡ string_bytes out.old ++ spec.block_list layout.now column (map node_of items.now.items)) }
+    ensures text { OnOk result (string_bytes out.new ≡
+        string_bytes out.old ++ spec.block_list layout.now column (map node_of items.now.items)) }
     ensures valid { IfOk result (λ x. AreValueTrees false (items_of items.now.items)) }
 {
     if items.is_empty() {
@@ -101,7 +102,8 @@ fn push_entries(
     column: usize,
     entries: &Vec<(String, Value)>,
 ) -> Result<(), AllocError>
-    ensures text { OnOk result (string_bytes out.new ≡ string_bytes out.old ++ spec.block_map layout.now column (map field_of entries.now.items)) }
+    ensures text { OnOk result (string_bytes out.new ≡
+        string_bytes out.old ++ spec.block_map layout.now column (map field_of entries.now.items)) }
     ensures valid { IfOk result (λ x. AreValueTrees true (entries_of entries.now.items)) }
 {
     if entries.is_empty() {

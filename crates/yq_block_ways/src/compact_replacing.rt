@@ -63,7 +63,9 @@ fn compact_place<'d>(
     path: &Path,
 ) -> Option<(DashPlace<'d>, CollectionEnd<'d>)>
     ensures ends { (d : DashPlaceOf) (x : CollectionEndOf) → result ≡ Some (d, x) → EndsIn d.behind.now x.behind.now }
-    ensures place { option_map (λ p. spec.compact_upto (dash_told p.0) (collection_told p.1)) result ≡ spec.compact_place path.now.doc (steps_of path.now) (cut_of cut.now) }
+    ensures place { option_map (λ p. spec.compact_upto (dash_told p.0)
+        (collection_told p.1)) result ≡
+        spec.compact_place path.now.doc (steps_of path.now) (cut_of cut.now) }
 {
     let _whole = cut.whole();
     let dash = cut.dash_place(path)?;
@@ -79,7 +81,8 @@ fn exchange_behind<'d>(
     text: String,
 ) -> Result<Option<Segments<'d>>, AllocError>
     requires { EndsIn dash.now.behind.now end.now.behind.now }
-    ensures { Carries result (Some (spec.compact_segments (spec.compact_upto (dash_told dash.now) (collection_told end.now)) (string_bytes text))) }
+    ensures { Carries result (Some (spec.compact_segments (spec.compact_upto (dash_told dash.now)
+        (collection_told end.now)) (string_bytes text))) }
 {
     let (gone, last) = lines_upto(dash.behind, end.behind);
     let segments = vec![in alloc;

@@ -306,5 +306,6 @@ pub fn ways_carry_out()
 
 /// Every operation that fits the documents of a text has a way.
 pub fn fitting_has_a_way()
-    ensures { (op : Operation) (c : Cut) → read_at (cut_text c) ≡ Some c → HasOperand op → Fits (room_of (cut_text c)) op (documents c) → IsServed spec.carrying op c }
+    ensures { (op : Operation) (c : Cut) → read_at (cut_text c) ≡ Some c → HasOperand op →
+        Fits (room_of (cut_text c)) op (documents c) → IsServed spec.carrying op c }
 {}

@@ -34,7 +34,8 @@ fn show_read(
 ) -> Result<Shown, Fault>
     requires { is_read (program_of program.now) ≡ true }
     ensures ok { IfOk result (λ s. shows exit_status no_doc (program_of program.now) text.now ≡ Ok (shown_by s)) }
-    ensures err { IfErr result (λ e. e ≢ Fault.OutOfMemory → IsFor (cause_in (shows exit_status no_doc (program_of program.now) text.now)) e) }
+    ensures err { IfErr result (λ e. e ≢ Fault.OutOfMemory →
+        IsFor (cause_in (shows exit_status no_doc (program_of program.now) text.now)) e) }
     ensures inside { IfErr result (λ e. is_failure e ≡ false) }
     ensures quiet { IfErr result (λ e. is_output e ≡ false) }
 {
@@ -51,8 +52,12 @@ fn show_read(
 fn show_edit(alloc: Global, program: &Program, text: &[u8]) -> Result<Shown, Fault>
     requires { is_read (program_of program.now) ≡ false }
     ensures edited { IfOk result (λ s. IsTextEdited (program_of program.now) text.now (string_bytes s.text)) }
-    ensures ok { (exit_status no_doc : Bool) → IfOk result (λ s. shows exit_status no_doc (program_of program.now) text.now ≡ Ok (shown_by s)) }
-    ensures err { (exit_status no_doc : Bool) → IfErr result (λ e. e ≢ Fault.OutOfMemory → IsFor (cause_in (shows exit_status no_doc (program_of program.now) text.now)) e) }
+    ensures ok { (exit_status no_doc : Bool) →
+        IfOk result (λ s. shows exit_status no_doc (program_of program.now) text.now ≡
+        Ok (shown_by s)) }
+    ensures err { (exit_status no_doc : Bool) →
+        IfErr result (λ e. e ≢ Fault.OutOfMemory →
+        IsFor (cause_in (shows exit_status no_doc (program_of program.now) text.now)) e) }
     ensures inside { IfErr result (λ e. is_failure e ≡ false) }
     ensures quiet { IfErr result (λ e. is_output e ≡ false) }
 {
@@ -71,9 +76,11 @@ fn show(
     exit_status: bool,
     no_doc: bool,
 ) -> Result<Shown, Fault>
-    ensures edited { is_read (program_of program.now) ≡ false → IfOk result (λ s. IsTextEdited (program_of program.now) text.now (string_bytes s.text)) }
+    ensures edited { is_read (program_of program.now) ≡ false →
+        IfOk result (λ s. IsTextEdited (program_of program.now) text.now (string_bytes s.text)) }
     ensures ok { IfOk result (λ s. shows exit_status no_doc (program_of program.now) text.now ≡ Ok (shown_by s)) }
-    ensures err { IfErr result (λ e. e ≢ Fault.OutOfMemory → IsFor (cause_in (shows exit_status no_doc (program_of program.now) text.now)) e) }
+    ensures err { IfErr result (λ e. e ≢ Fault.OutOfMemory →
+        IsFor (cause_in (shows exit_status no_doc (program_of program.now) text.now)) e) }
     ensures inside { IfErr result (λ e. is_failure e ≡ false) }
     ensures quiet { IfErr result (λ e. is_output e ≡ false) }
 {
@@ -124,7 +131,9 @@ pub fn evaluate<D: Store>(
         Arrives (D.content store.new) file.now name (cause_in (evaluated exit_status no_doc (program_in expr.now) h)) h h result }
     ensures output { IsTrue D.keeps → (name : List ℕ) → (h : Option History) → GoodIn (D.content store.old) file.now name h →
         OnOk result (shown_by shown.new ≡ shown_in (evaluated exit_status no_doc (program_in expr.now) h)) }
-    ensures edited { IsTrue D.keeps → OnOk result (PrintsEdited expr.now (map.get (D.content store.old) file.now) (string_bytes shown.new.text)) }
+    ensures edited { IsTrue D.keeps →
+        OnOk result (PrintsEdited expr.now (map.get (D.content store.old) file.now)
+        (string_bytes shown.new.text)) }
     ensures unparsed { (f : Fault) → fault_of (program_in expr.now) ≡ Some f → IsUnparsed f result }
     ensures same { IsTrue D.keeps → D.content store.new ≡ D.content store.old }
     ensures quiet { IfErr result (λ e. is_output e ≡ false) }

@@ -75,13 +75,16 @@ pub fn execute<D: Store>(
         OnOk result (shown_by shown.new ≡ shown_of command.now h) }
     ensures listed { IsTrue D.keeps → (file name : List ℕ) → IsOn file name command.now →
         OnOk result (IsListing command.now (map.get (D.content store.old) file) (map.get (D.content store.old) name) (string_bytes shown.new.text)) }
-    ensures edited { IsTrue D.keeps → OnOk result (HasEdited command.now (D.content store.old) (D.content store.new) (string_bytes shown.new.text)) }
+    ensures edited { IsTrue D.keeps →
+        OnOk result (HasEdited command.now (D.content store.old) (D.content store.new)
+        (string_bytes shown.new.text)) }
     ensures unparsed { (f : Fault) → expression_fault command.now ≡ Some f → IsUnparsed f result }
     ensures silent { prints command.now ≡ false → shown_by shown.new ≡ nothing }
     ensures matched { reads_journal command.now ≡ true → shown.new.is_match ≡ true }
     ensures still { IsTrue D.keeps → prints command.now ≡ true → D.content store.new ≡ D.content store.old }
     ensures kept { IsTrue D.keeps → IfErr result (λ e. is_outside e ≡ false → D.content store.new ≡ D.content store.old) }
-    ensures others { IsTrue D.keeps → (q : List ℕ) → IsStranger q command.now → map.get (D.content store.new) q ≡ map.get (D.content store.old) q }
+    ensures others { IsTrue D.keeps → (q : List ℕ) → IsStranger q command.now →
+        map.get (D.content store.new) q ≡ map.get (D.content store.old) q }
     ensures quiet { IfErr result (λ e. is_output e ≡ false) }
     ensures count { D.failures store.new ≡ counted result (D.failures store.old) }
 {

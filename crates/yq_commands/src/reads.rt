@@ -37,7 +37,8 @@ fn push_match(
     last: Option<usize>,
     found: &Match,
 ) -> Result<(), AllocError>
-    ensures { OnOk result (string_bytes printed.new ≡ (string_bytes printed.old ++ spec.marker_before no_doc last found.now.doc) ++ print_text (node_of found.now.value)) }
+    ensures { OnOk result (string_bytes printed.new ≡
+        (string_bytes printed.old ++ spec.marker_before no_doc last found.now.doc) ++ print_text (node_of found.now.value)) }
 {
     push_marker(printed, no_doc, last, found.doc)?;
     let text = print(alloc, &found.value)?;

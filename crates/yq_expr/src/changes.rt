@@ -38,7 +38,9 @@ fn push_change(
     change: Change,
     changes: &mut Vec<Changed>,
 ) -> Result<(), MatchError>
-    ensures { (root : TreeNode) → HasAliases (names_of root) aliases.now → IsIn root (place_of place.entry) → Matches (λ _. map changed_of changes.new.items) result (put_behind (map changed_of changes.old.items) (spec.all_allowed root (placed_change (place_of place.entry) change))) }
+    ensures { (root : TreeNode) → HasAliases (names_of root) aliases.now →
+        IsIn root (place_of place.entry) →
+        Matches (λ _. map changed_of changes.new.items) result (put_behind (map changed_of changes.old.items) (spec.all_allowed root (placed_change (place_of place.entry) change))) }
 {
     let path = path_steps(alloc, place.path)?;
     allow(alloc, aliases, place.node, path.len(), &change)?;
@@ -57,7 +59,9 @@ fn push_effect<'a, 't>(
     changes: &mut Vec<Changed>,
 ) -> Result<(), MatchError>
     requires { HasScalars (place_of place).node }
-    ensures { (root : TreeNode) → HasAliases (names_of root) aliases.now → IsIn root (place_of place.entry) → Matches (λ _. map changed_of changes.new.items) result (put_behind (map changed_of changes.old.items) (and_then (spec.all_allowed root) (effect_at doc (room_of documents.now doc) effect.entry (place_of place.entry)))) }
+    ensures { (root : TreeNode) → HasAliases (names_of root) aliases.now →
+        IsIn root (place_of place.entry) →
+        Matches (λ _. map changed_of changes.new.items) result (put_behind (map changed_of changes.old.items) (and_then (spec.all_allowed root) (effect_at doc (room_of documents.now doc) effect.entry (place_of place.entry)))) }
 {
     match change_at(alloc, documents, doc, effect, place)? {
         None => Ok(()),
@@ -75,7 +79,9 @@ fn at_each<'a, 't>(
     places: &[Place<'a, 't>],
 ) -> Result<Vec<Changed>, MatchError>
     requires { HaveScalars (places_of places.now) }
-    ensures { (root : TreeNode) → HasAliases (names_of root) aliases.now → AreIn root (places_of places.now) → Matches (λ v. map changed_of v.items) result (spec.at_each root (effect_at doc (room_of documents.now doc) effect.entry) (places_of places.now)) }
+    ensures { (root : TreeNode) → HasAliases (names_of root) aliases.now →
+        AreIn root (places_of places.now) →
+        Matches (λ v. map changed_of v.items) result (spec.at_each root (effect_at doc (room_of documents.now doc) effect.entry) (places_of places.now)) }
 {
     let mut changes = Vec::new(alloc);
     'places: for place in places {
@@ -130,7 +136,9 @@ fn set_each<'a, 't>(
     requires within { AreIn (node_of root) (places_of places.now) }
     requires aliases { HasAliases (names_of (node_of root)) aliases.now }
     requires some { 0 < length places.now }
-    ensures { Matches (λ v. map changed_of v.items) result (spec.with_value (node_of root.entry) (right_sum doc (map term_of right.now) (root_place (node_of root.entry))) spec.put_at (places_of places.now)) }
+    ensures { Matches (λ v. map changed_of v.items) result (spec.with_value (node_of root.entry)
+        (right_sum doc (map term_of right.now)
+        (root_place (node_of root.entry))) spec.put_at (places_of places.now)) }
 {
     let value = right_value(alloc, doc, right, Place::of_root(root))?;
     at_each(alloc, documents, doc, aliases, Effect::Put(&value), places)
@@ -152,7 +160,9 @@ fn add_each<'a, 't>(
     requires within { AreIn (node_of root) (places_of places.now) }
     requires aliases { HasAliases (names_of (node_of root)) aliases.now }
     requires some { 0 < length places.now }
-    ensures { Matches (λ v. map changed_of v.items) result (spec.with_value (node_of root.entry) (right_sum doc (map term_of right.now) (root_place (node_of root.entry))) spec.add_at (places_of places.now)) }
+    ensures { Matches (λ v. map changed_of v.items) result (spec.with_value (node_of root.entry)
+        (right_sum doc (map term_of right.now)
+        (root_place (node_of root.entry))) spec.add_at (places_of places.now)) }
 {
     let value = right_value(alloc, doc, right, Place::of_root(root))?;
     at_each(alloc, documents, doc, aliases, Effect::Add(&value), places)
@@ -224,7 +234,8 @@ fn all_changes(
     update: &Update,
     documents: &Documents<'_>,
 ) -> Result<Vec<Vec<Changed>>, MatchError>
-    ensures { Matches (λ v. all_changed_of v.items) result (spec.changes_from (update_of update.now) (room_of documents.now) 0 (roots_of (documents_of documents.now))) }
+    ensures { Matches (λ v. all_changed_of v.items) result (spec.changes_from (update_of update.now)
+        (room_of documents.now) 0 (roots_of (documents_of documents.now))) }
 {
     documents.are_ready();
     let mut changes = Vec::new(alloc);
@@ -240,7 +251,8 @@ pub(crate) fn changes(
     update: &Update,
     documents: &Documents<'_>,
 ) -> Result<Vec<Vec<Changed>>, PlanError>
-    ensures { Plans (λ v. all_changed_of v.items) result (spec.changes_of (update_of update.now) (room_of documents.now) (roots_of (documents_of documents.now))) }
+    ensures { Plans (λ v. all_changed_of v.items) result (spec.changes_of (update_of update.now)
+        (room_of documents.now) (roots_of (documents_of documents.now))) }
 {
     if !has_comment(update) {
         return Err(PlanError::Refused(Refusal::BadCommentText));

@@ -101,7 +101,8 @@ pub fn matches(
 ) -> Result<Vec<Match>, MatchError>
     requires { is_read (program_of program.now) ≡ true }
     // The copies of what the pipe finds, or the first refusal.
-    ensures exact { (pipe : List PipeStage) → program_of program.now ≡ read pipe → Matches (λ v. matches_of v.items) result (spec.matches pipe (documents_of documents.now)) }
+    ensures exact { (pipe : List PipeStage) → program_of program.now ≡ read pipe →
+        Matches (λ v. matches_of v.items) result (spec.matches pipe (documents_of documents.now)) }
     // Each copy is a tree, in which the keys of a mapping differ, with no more collections nested than may be.
     ensures trees { IfOk result (λ v. AreMatches (matches_of v.items)) }
 {

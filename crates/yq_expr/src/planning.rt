@@ -30,7 +30,8 @@ fn plan_update(
     update: &Update,
     documents: &Documents<'_>,
 ) -> Result<Vec<Op>, PlanError>
-    ensures { Plans (λ v. operations_of v.items) result (plans.plan (update_of update.now) (room_of documents.now) (documents_of documents.now)) }
+    ensures { Plans (λ v. operations_of v.items) result (plans.plan (update_of update.now)
+        (room_of documents.now) (documents_of documents.now)) }
 {
     let changes = changes(alloc, update, documents)?;
     Ok(operations(alloc, is_removal(update), changes)?)
@@ -44,7 +45,9 @@ fn planned(
     documents: &Documents<'_>,
 ) -> Result<Vec<Op>, PlanError>
     requires { nth < spec.update_count (program_of program.now) }
-    ensures { (u : spec.Update) → spec.update_at nth (program_of program.now) ≡ Some u → Plans (λ v. operations_of v.items) result (plans.plan u (room_of documents.now) (documents_of documents.now)) }
+    ensures { (u : spec.Update) → spec.update_at nth (program_of program.now) ≡ Some u →
+        Plans (λ v. operations_of v.items) result (plans.plan u (room_of documents.now)
+        (documents_of documents.now)) }
 {
     match program.syntax() {
         Syntax::Read(_) => Ok(Vec::new(alloc)),
@@ -62,15 +65,28 @@ pub fn plan(
 ) -> Result<Vec<Op>, PlanError>
     requires { nth < spec.update_count (program_of program.now) }
     // The operations, or why there are none.
-    ensures exact { (u : spec.Update) → spec.update_at nth (program_of program.now) ≡ Some u → Plans (λ v. operations_of v.items) result (plans.plan u (room_of documents.now) (documents_of documents.now)) }
+    ensures exact { (u : spec.Update) → spec.update_at nth (program_of program.now) ≡ Some u →
+        Plans (λ v. operations_of v.items) result (plans.plan u (room_of documents.now)
+        (documents_of documents.now)) }
     // The operations, one after the other, make what the update means.
-    ensures meaning { (u : spec.Update) → spec.update_at nth (program_of program.now) ≡ Some u → IfOk result (λ ops. meaning u (room_of documents.now) (documents_of documents.now) ≡ gives (all_after (room_of documents.now) (operations_of ops.items) (documents_of documents.now))) }
+    ensures meaning { (u : spec.Update) → spec.update_at nth (program_of program.now) ≡ Some u →
+        IfOk result (λ ops. meaning u (room_of documents.now) (documents_of documents.now) ≡
+        gives (all_after (room_of documents.now) (operations_of ops.items)
+        (documents_of documents.now))) }
     // Each fits at its turn.
-    ensures fits { (u : spec.Update) → spec.update_at nth (program_of program.now) ≡ Some u → IfOk result (λ ops. AllFit (room_of documents.now) (operations_of ops.items) (documents_of documents.now)) }
+    ensures fits { (u : spec.Update) → spec.update_at nth (program_of program.now) ≡ Some u →
+        IfOk result (λ ops. AllFit (room_of documents.now) (operations_of ops.items)
+        (documents_of documents.now)) }
     // A refusal is that of what the update means.
-    ensures refused { (u : spec.Update) (why : Refusal) → spec.update_at nth (program_of program.now) ≡ Some u → result ≡ Err (PlanError.Refused why) → meaning u (room_of documents.now) (documents_of documents.now) ≡ refuses why }
+    ensures refused { (u : spec.Update) (why : Refusal) →
+        spec.update_at nth (program_of program.now) ≡ Some u → result ≡
+        Err (PlanError.Refused why) →
+        meaning u (room_of documents.now) (documents_of documents.now) ≡ refuses why }
     // What the update means is refused only with that refusal.
-    ensures refuses { (u : spec.Update) (why : Refusal) → spec.update_at nth (program_of program.now) ≡ Some u → meaning u (room_of documents.now) (documents_of documents.now) ≡ refuses why → (result ≡ Err (PlanError.Refused why)) ⊎ (result ≡ Err PlanError.Memory) }
+    ensures refuses { (u : spec.Update) (why : Refusal) →
+        spec.update_at nth (program_of program.now) ≡ Some u →
+        meaning u (room_of documents.now) (documents_of documents.now) ≡ refuses why →
+        (result ≡ Err (PlanError.Refused why)) ⊎ (result ≡ Err PlanError.Memory) }
 {
     documents.are_ready();
     program.literals_hold();

@@ -32,8 +32,12 @@ fn answer_by(is_match: bool) -> Answer
 /// The answer to a command that came to this: where it was carried out, what it prints is put.
 fn answer_of<W: Out>(out: &mut W, done: Result<(), Fault>, shown: &Shown) -> Answer
     ensures told { Told done result (shown_by shown.now) }
-    ensures taken { IsTrue W.tells → MatchResult done (λ _. tells_output result ≡ false → W.taken out.new ≡ W.taken out.old ++ string_bytes shown.now.text) (λ _. W.taken out.new ≡ W.taken out.old) }
-    ensures count { MatchResult done (λ _. W.failures out.new ≡ (if tells_output result then one_more (W.failures out.old) else W.failures out.old)) (λ _. W.failures out.new ≡ W.failures out.old) }
+    ensures taken { IsTrue W.tells →
+        MatchResult done (λ _. tells_output result ≡ false → W.taken out.new ≡
+        W.taken out.old ++ string_bytes shown.now.text) (λ _. W.taken out.new ≡ W.taken out.old) }
+    ensures count { MatchResult done (λ _. W.failures out.new ≡
+        (if tells_output result then one_more (W.failures out.old) else W.failures out.old))
+        (λ _. W.failures out.new ≡ W.failures out.old) }
 {
     if let Err(fault) = done {
         return Answer::Refused(fault);
@@ -67,9 +71,14 @@ pub fn run_list<D: Store, W: Out>(
         × (IsTrue W.tells → W.taken out.new ≡ W.taken out.old ++ printed_in replies)
         × ((file name : List ℕ) → file ≢ name → AllOnOrApart file name commands.now → (h : Option History) → GoodIn (D.content store.old) file name h →
         (k : Option History) × RunExactly file name h commands.now replies k × GoodIn (D.content store.new) file name k)) }
-    ensures others { IsTrue D.keeps → (q : List ℕ) → All (IsStranger q) commands.now → map.get (D.content store.new) q ≡ map.get (D.content store.old) q }
-    ensures count { D.failures store.old < 2 ^ 64 → IfOk result (λ answers. D.failures store.new ≡ min (D.failures store.old + failures_in answers.items) (2 ^ 64 - 1)) }
-    ensures out_count { W.failures out.old < 2 ^ 64 → IfOk result (λ answers. W.failures out.new ≡ min (W.failures out.old + output_failures_in answers.items) (2 ^ 64 - 1)) }
+    ensures others { IsTrue D.keeps → (q : List ℕ) → All (IsStranger q) commands.now →
+        map.get (D.content store.new) q ≡ map.get (D.content store.old) q }
+    ensures count { D.failures store.old < 2 ^ 64 →
+        IfOk result (λ answers. D.failures store.new ≡
+        min (D.failures store.old + failures_in answers.items) (2 ^ 64 - 1)) }
+    ensures out_count { W.failures out.old < 2 ^ 64 →
+        IfOk result (λ answers. W.failures out.new ≡
+        min (W.failures out.old + output_failures_in answers.items) (2 ^ 64 - 1)) }
     ensures one_each { IfOk result (λ answers. length answers.items ≡ length commands.now) }
     ensures err { OnErr result ((store.new ≡ store.old) × (out.new ≡ out.old)) }
 {

@@ -25,7 +25,8 @@ pub fn command_of(alloc: Global, words: &[&str]) -> Result<Command, Fault>
     // Help is answered where `-h` or `--help` is a word and clap reads a call for help, and not else.
     ensures only { result ≡ Ok Help → spec.MayCallHelp (map (λ w. w.now) words.now) }
     ensures called { spec.CallsHelp (map (λ w. w.now) words.now) → MatchResult result (λ c. c ≡ Help) (λ e. e ≡ Fault.OutOfMemory) }
-    ensures err { IfErr result (λ fault. (e : WordsError) × (fault ≡ of_words e) × spec.IsRefused (spec.full_words (map (λ w. w.now) words.now)) e) }
+    ensures err { IfErr result (λ fault. (e : WordsError) × (fault ≡ of_words e) ×
+        spec.IsRefused (spec.full_words (map (λ w. w.now) words.now)) e) }
 {
     match read_words(alloc, words) {
         Ok(command) => Ok(command),

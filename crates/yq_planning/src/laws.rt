@@ -34,50 +34,69 @@ pub fn rooms_ready()
 /// No two of the places to which a pipe leads in a tree are the same, and none
 /// lies in another; the node of each is the one at its path.
 pub fn places_apart()
-    ensures { (doc : ℕ) (pipe : List PipeStage) (root : Node) (ps : List Place) → IsTree root → places doc pipe root ≡ gives ps → AreApart ps × AreIn root ps }
+    ensures { (doc : ℕ) (pipe : List PipeStage) (root : Node) (ps : List Place) → IsTree root →
+        places doc pipe root ≡ gives ps → AreApart ps × AreIn root ps }
 {}
 
 /// A change of one node leaves the node at a path that is apart as it is, and
 /// two such changes may be made in either order.
 pub fn changes_apart()
     ensures kept { (p q : List TreeStep) (g : Node → Node) (n : Node) → IsTree n → Apart p q → node_at p (change q g n) ≡ node_at p n }
-    ensures commute { (p q : List TreeStep) (f g : Node → Node) (n : Node) → IsTree n → Apart p q → change p f (change q g n) ≡ change q g (change p f n) }
+    ensures commute { (p q : List TreeStep) (f g : Node → Node) (n : Node) → IsTree n → Apart p q →
+        change p f (change q g n) ≡ change q g (change p f n) }
 {}
 
 /// The operations of a plan, one after the other, make of documents what the
 /// update means.
 pub fn plan_means()
-    ensures { (u : Change) (rooms : ℕ → Room) (docs : List Document) (ops : List Operation) → AreReady rooms 0 docs → plans.plan u rooms docs ≡ gives ops → meaning u rooms docs ≡ gives (all_after rooms ops docs) }
+    ensures { (u : Change) (rooms : ℕ → Room) (docs : List Document) (ops : List Operation) →
+        AreReady rooms 0 docs → plans.plan u rooms docs ≡ gives ops → meaning u rooms docs ≡
+        gives (all_after rooms ops docs) }
 {}
 
 /// A plan is refused as the update is, and only then.
 pub fn plan_refused()
-    ensures refused { (u : Change) (rooms : ℕ → Room) (docs : List Document) (why : Why) → plans.plan u rooms docs ≡ refuses why → meaning u rooms docs ≡ refuses why }
-    ensures only { (u : Change) (rooms : ℕ → Room) (docs : List Document) (why : Why) → meaning u rooms docs ≡ refuses why → plans.plan u rooms docs ≡ refuses why }
+    ensures refused { (u : Change) (rooms : ℕ → Room) (docs : List Document) (why : Why) →
+        plans.plan u rooms docs ≡ refuses why → meaning u rooms docs ≡ refuses why }
+    ensures only { (u : Change) (rooms : ℕ → Room) (docs : List Document) (why : Why) →
+        meaning u rooms docs ≡ refuses why → plans.plan u rooms docs ≡ refuses why }
 {}
 
 /// Each operation of a plan fits at its turn, where each literal is a value, as
 /// those of a parsed expression are.
 pub fn plan_fits()
-    ensures { (u : Change) (rooms : ℕ → Room) (docs : List Document) (ops : List Operation) → AreReady rooms 0 docs → UpdatesHold (u ∷ []) → plans.plan u rooms docs ≡ gives ops → AllFit rooms ops docs }
+    ensures { (u : Change) (rooms : ℕ → Room) (docs : List Document) (ops : List Operation) →
+        AreReady rooms 0 docs → UpdatesHold (u ∷ []) → plans.plan u rooms docs ≡ gives ops →
+        AllFit rooms ops docs }
 {}
 
 /// The operations of a plan may be carried out one after the other: each fits at
 /// its turn, and the room that they ask for lasts.
 pub fn plan_rooms()
-    ensures { (u : Change) (rooms : ℕ → Room) (docs : List Document) (ops : List Operation) → AreReady rooms 0 docs → UpdatesHold (u ∷ []) → plans.plan u rooms docs ≡ gives ops → MayFollow rooms ops docs }
+    ensures { (u : Change) (rooms : ℕ → Room) (docs : List Document) (ops : List Operation) →
+        AreReady rooms 0 docs → UpdatesHold (u ∷ []) → plans.plan u rooms docs ≡ gives ops →
+        MayFollow rooms ops docs }
 {}
 
 /// By rooms that are alike for an operation it fits the same documents, and
 /// makes the same of them.
 pub fn rooms_alike()
-    ensures fits { (old new : ℕ → Room) (op : Operation) (docs : List Document) → AlikeFor op (old (document_of op)) (new (document_of op)) → Fits old op docs → Fits new op docs }
-    ensures after { (old new : ℕ → Room) (op : Operation) (docs : List Document) → AlikeFor op (old (document_of op)) (new (document_of op)) → after_op new op docs ≡ after_op old op docs }
+    ensures fits { (old new : ℕ → Room) (op : Operation) (docs : List Document) →
+        AlikeFor op (old (document_of op)) (new (document_of op)) → Fits old op docs →
+        Fits new op docs }
+    ensures after { (old new : ℕ → Room) (op : Operation) (docs : List Document) →
+        AlikeFor op (old (document_of op)) (new (document_of op)) → after_op new op docs ≡
+        after_op old op docs }
 {}
 
 /// Once the first of operations is carried out, the others may follow by the
 /// room that it leaves, and make the same of documents.
 pub fn rest_follows()
-    ensures follow { (op : Operation) (ops : List Operation) (old new : ℕ → Room) (docs : List Document) → LeavesRooms op old new (after_op old op docs) → MayFollow old (op ∷ ops) docs → MayFollow new ops (after_op old op docs) }
-    ensures after { (op : Operation) (ops : List Operation) (old new : ℕ → Room) (docs : List Document) → LeavesRooms op old new (after_op old op docs) → MayFollow old (op ∷ ops) docs → all_after new ops (after_op old op docs) ≡ all_after old (op ∷ ops) docs }
+    ensures follow { (op : Operation) (ops : List Operation) (old new : ℕ → Room)
+        (docs : List Document) → LeavesRooms op old new (after_op old op docs) →
+        MayFollow old (op ∷ ops) docs → MayFollow new ops (after_op old op docs) }
+    ensures after { (op : Operation) (ops : List Operation) (old new : ℕ → Room)
+        (docs : List Document) → LeavesRooms op old new (after_op old op docs) →
+        MayFollow old (op ∷ ops) docs → all_after new ops (after_op old op docs) ≡
+        all_after old (op ∷ ops) docs }
 {}

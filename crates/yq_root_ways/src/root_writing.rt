@@ -52,7 +52,9 @@ fn value_lines(
     place: &RootPlace<'_>,
     value: &Value,
 ) -> Result<String, AllocError>
-    ensures { IfOk result (λ s. string_bytes s ≡ lines_put_behind (spec.is_closed_text place.now.before.now) (break_text layout.now.br) (block_value layout.now place.now.column (node_of value.now))) }
+    ensures { IfOk result (λ s. string_bytes s ≡
+        lines_put_behind (spec.is_closed_text place.now.before.now) (break_text layout.now.br)
+        (block_value layout.now place.now.column (node_of value.now))) }
 {
     let mut text = String::new(alloc);
     if is_closed_text(place.before.as_bytes()) {

@@ -25,7 +25,8 @@ fn update_text(
 ) -> Result<Edited, EditError>
     requires within { nth < update_count (program_of program.now) }
     requires literals { LiteralsHold (program_of program.now) }
-    ensures ok { (u : Update) → update_at nth (program_of program.now) ≡ Some u → IfOk result (λ e. IsStep u text.now (string_bytes e.text) e.splices.items) }
+    ensures ok { (u : Update) → update_at nth (program_of program.now) ≡ Some u →
+        IfOk result (λ e. IsStep u text.now (string_bytes e.text) e.splices.items) }
     ensures err { (u : Update) → update_at nth (program_of program.now) ≡ Some u → IfErr result (λ e. FailsAt e u text.now) }
 {
     let documents = read(alloc, text.as_bytes())?;
@@ -38,8 +39,12 @@ fn update_text(
 fn step(alloc: Global, done: &mut Edited, program: &Program, nth: usize) -> Result<(), EditError>
     requires within { nth < update_count (program_of program.now) }
     requires literals { LiteralsHold (program_of program.now) }
-    ensures ok { (u : Update) → update_at nth (program_of program.now) ≡ Some u → OnOk result ((cs : List Splice) × IsStep u (string_bytes done.old.text) (string_bytes done.new.text) cs × (done.new.splices.items ≡ done.old.splices.items ++ cs)) }
-    ensures err { (u : Update) → update_at nth (program_of program.now) ≡ Some u → IfErr result (λ e. FailsAt e u (string_bytes done.old.text)) }
+    ensures ok { (u : Update) → update_at nth (program_of program.now) ≡ Some u →
+        OnOk result ((cs : List Splice) ×
+        IsStep u (string_bytes done.old.text) (string_bytes done.new.text) cs ×
+        (done.new.splices.items ≡ done.old.splices.items ++ cs)) }
+    ensures err { (u : Update) → update_at nth (program_of program.now) ≡ Some u →
+        IfErr result (λ e. FailsAt e u (string_bytes done.old.text)) }
 {
     let next = update_text(alloc, &done.text, program, nth)?;
     follow(done, next)?;
@@ -49,7 +54,8 @@ fn step(alloc: Global, done: &mut Edited, program: &Program, nth: usize) -> Resu
 /// The updates of a program carried out on a text, one after the other.
 fn update_each(alloc: Global, text: &str, program: &Program) -> Result<Edited, EditError>
     requires { LiteralsHold (program_of program.now) }
-    ensures ok { IfOk result (λ e. (us : List Update) → program_of program.now ≡ updates us → InOrder IsStep us text.now (string_bytes e.text) e.splices.items) }
+    ensures ok { IfOk result (λ e. (us : List Update) → program_of program.now ≡ updates us →
+        InOrder IsStep us text.now (string_bytes e.text) e.splices.items) }
     ensures err { IfErr result (λ e. (us : List Update) → program_of program.now ≡ updates us → FailsEach e us text.now) }
 {
     let mut done = unchanged(alloc, text)?;

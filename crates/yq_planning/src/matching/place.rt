@@ -73,7 +73,8 @@ impl<'a, 't> Place<'a, 't> {
         step: NodeStep<'a>,
         node: Node<'a, 't>,
     ) -> Place<'a, 't>
-        ensures { (p : spec.Place) → p.path ≡ path_of path.now → place_of result ≡ spec.child_place p (node_step_of step.entry, node_of node.entry) }
+        ensures { (p : spec.Place) → p.path ≡ path_of path.now → place_of result ≡
+            spec.child_place p (node_step_of step.entry, node_of node.entry) }
     {
         Place {
             path: NodePath::Below(path, step),

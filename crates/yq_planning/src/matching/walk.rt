@@ -46,7 +46,9 @@ fn push_found<'a, 't>(
     found: Option<(NodeStep<'a>, Node<'a, 't>)>,
     places: &mut Vec<Place<'a, 't>>,
 ) -> Result<(), AllocError>
-    ensures { OnOk result (places_of places.new.items ≡ places_of places.old.items ++ spec.found_place (step_of step.now) (place_of place.entry) (found_of found.entry)) }
+    ensures { OnOk result (places_of places.new.items ≡
+        places_of places.old.items ++ spec.found_place (step_of step.now) (place_of place.entry)
+        (found_of found.entry)) }
 {
     match found {
         None => push_missing(bump, step, place, places),
@@ -73,7 +75,9 @@ fn push_children<'a, 't>(
     place: Place<'a, 't>,
     places: &mut Vec<Place<'a, 't>>,
 ) -> Result<(), AllocError>
-    ensures { OnOk result (places_of places.new.items ≡ places_of places.old.items ++ map (spec.child_place (place_of place.entry)) (spec.stepped 0 (children_of (node_of place.entry.node)))) }
+    ensures { OnOk result (places_of places.new.items ≡
+        places_of places.old.items ++ map (spec.child_place (place_of place.entry))
+        (spec.stepped 0 (children_of (node_of place.entry.node)))) }
 {
     let path: &'a NodePath<'a> = bump.try_alloc(place.path)?;
     let count = place.node.count();

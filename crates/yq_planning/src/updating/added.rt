@@ -68,7 +68,8 @@ fn entry(
     key: &str,
     value: &Value,
 ) -> Result<Addition, AllocError>
-    ensures { (cs : Children) → IsIndex cs index.now → IfOk result (λ x. addition_of x ≡ spec.addition cs (Some key.now) (value_node value.now)) }
+    ensures { (cs : Children) → IsIndex cs index.now →
+        IfOk result (λ x. addition_of x ≡ spec.addition cs (Some key.now) (value_node value.now)) }
 {
     let owned = String::from_str(alloc, key)?;
     let value = copied(alloc, value)?;
@@ -84,7 +85,9 @@ fn entries(
     index: &EntryIndex<'_, '_>,
     others: &Vec<(String, Value)>,
 ) -> Result<Vec<Addition>, AllocError>
-    ensures { (cs : Children) → IsIndex cs index.now → IfOk result (λ v. map addition_of v.items ≡ spec.additions cs (entries_of others.now.items)) }
+    ensures { (cs : Children) → IsIndex cs index.now →
+        IfOk result (λ v. map addition_of v.items ≡
+        spec.additions cs (entries_of others.now.items)) }
 {
     let mut additions = Vec::new(alloc);
     'each: for other in others {

@@ -22,7 +22,8 @@ use yq_meaning::{MatchError, Refusal};
 /// Whether what is overwritten by an addition to a mapping holds an anchor that
 /// an alias names.
 fn overwrites_used(aliases: &Aliases<'_>, index: &EntryIndex<'_, '_>, addition: &Addition) -> bool
-    ensures { (names : List Name) (cs : Children) → HasAliases names aliases.now → IsIndex cs index.now → result ≡ overwrites_at names cs (addition_of addition.now) }
+    ensures { (names : List Name) (cs : Children) → HasAliases names aliases.now →
+        IsIndex cs index.now → result ≡ overwrites_at names cs (addition_of addition.now) }
 {
     let Addition::Overwrites(key, _) = addition else {
         return false;
@@ -40,7 +41,9 @@ fn some_overwrites_used(
     node: Node<'_, '_>,
     additions: &[Addition],
 ) -> Result<bool, AllocError>
-    ensures { (names : List Name) → HasAliases names aliases.now → IfOk result (λ b. b ≡ list_any (λ x. overwrites_at names (children_of (node_of node.entry)) (addition_of x)) additions.now) }
+    ensures { (names : List Name) → HasAliases names aliases.now →
+        IfOk result (λ b. b ≡ list_any (λ x. overwrites_at names (children_of (node_of node.entry))
+        (addition_of x)) additions.now) }
 {
     let index = index_of(alloc, node)?;
     'each: for addition in additions {
@@ -58,7 +61,8 @@ fn takes_used(
     node: Node<'_, '_>,
     change: &Change,
 ) -> Result<bool, AllocError>
-    ensures { (names : List Name) → HasAliases names aliases.now → IfOk result (λ b. b ≡ takes_at names (node_of node.entry) (change_of change.now)) }
+    ensures { (names : List Name) → HasAliases names aliases.now →
+        IfOk result (λ b. b ≡ takes_at names (node_of node.entry) (change_of change.now)) }
 {
     if aliases.is_empty() {
         return Ok(false);
@@ -81,7 +85,9 @@ pub fn allow(
     outer: usize,
     change: &Change,
 ) -> Result<(), MatchError>
-    ensures { (root : TreeNode) (x : List TreeStep) → HasAliases (names_of root) aliases.now → node_at x root ≡ Some (node_of node.entry) → length x ≡ outer → Matches (λ _. (x, change_of change.now)) result (spec.allowed root (x, change_of change.now)) }
+    ensures { (root : TreeNode) (x : List TreeStep) → HasAliases (names_of root) aliases.now →
+        node_at x root ≡ Some (node_of node.entry) → length x ≡ outer →
+        Matches (λ _. (x, change_of change.now)) result (spec.allowed root (x, change_of change.now)) }
 {
     if is_too_long(alloc, change)? {
         return Err(MatchError::Refused(Refusal::KeyTooLong));

@@ -18,7 +18,9 @@ pub type Aliases<'d> = BTreeMap<&'d str, ()>;
 /// Puts the names of the aliases in a node among others.
 #[cycle(aliases)]
 fn put_aliases<'d>(node: Node<'d, '_>, aliases: &mut Aliases<'d>) -> Result<(), AllocError>
-    ensures { OnOk result ((k : List ℕ) → is_some (text_at k aliases.new) ≡ (is_some (text_at k aliases.old) || list_any (spec.refers_to k) (names_of (node_of node.entry)))) }
+    ensures { OnOk result ((k : List ℕ) → is_some (text_at k aliases.new) ≡
+        (is_some (text_at k aliases.old) || list_any (spec.refers_to k)
+        (names_of (node_of node.entry)))) }
 {
     match node.kind() {
         NodeKind::Alias => {
@@ -33,7 +35,9 @@ fn put_aliases<'d>(node: Node<'d, '_>, aliases: &mut Aliases<'d>) -> Result<(), 
 /// Puts the names of the aliases in a node's items or values among others.
 #[cycle(aliases)]
 fn put_aliases_below<'d>(node: Node<'d, '_>, aliases: &mut Aliases<'d>) -> Result<(), AllocError>
-    ensures { OnOk result ((k : List ℕ) → is_some (text_at k aliases.new) ≡ (is_some (text_at k aliases.old) || list_any (spec.refers_to k) (names_in (children_of (node_of node.entry))))) }
+    ensures { OnOk result ((k : List ℕ) → is_some (text_at k aliases.new) ≡
+        (is_some (text_at k aliases.old) || list_any (spec.refers_to k)
+        (names_in (children_of (node_of node.entry))))) }
 {
     let mut children = node.children();
     'each: while let Some(child) = children.next() {
@@ -75,7 +79,8 @@ pub(crate) fn is_used_in(aliases: &Aliases<'_>, node: Node<'_, '_>) -> bool
 /// The same, its own excepted.
 #[cycle(used)]
 pub(crate) fn is_used_inside(aliases: &Aliases<'_>, node: Node<'_, '_>) -> bool
-    ensures { (names : List Name) → HasAliases names aliases.now → result ≡ list_any (spec.is_used names) (names_in (children_of (node_of node.entry))) }
+    ensures { (names : List Name) → HasAliases names aliases.now → result ≡
+        list_any (spec.is_used names) (names_in (children_of (node_of node.entry))) }
 {
     let mut children = node.children();
     'each: while let Some(child) = children.next() {

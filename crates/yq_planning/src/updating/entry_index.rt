@@ -14,7 +14,9 @@ pub(crate) type EntryIndex<'d, 't> = BTreeMap<&'d str, Node<'d, 't>>;
 
 /// Keeps the value of an entry, if there is none for its key.
 fn keep<'d, 't>(index: &mut EntryIndex<'d, 't>, entry: Node<'d, 't>) -> Result<(), AllocError>
-    ensures { OnOk result ((k : List ℕ) → option_map node_of (text_at k index.new) ≡ kept_first k (option_map node_of (text_at k index.old)) (label_of entry.entry) (node_of entry.entry)) }
+    ensures { OnOk result ((k : List ℕ) → option_map node_of (text_at k index.new) ≡
+        kept_first k (option_map node_of (text_at k index.old)) (label_of entry.entry)
+        (node_of entry.entry)) }
 {
     let Some(key) = entry.key() else {
         return Ok(());

@@ -34,7 +34,9 @@ fn push_adds(
     additions: Vec<Addition>,
     ops: &mut Vec<Op>,
 ) -> Result<(), AllocError>
-    ensures { OnOk result (operations_of ops.new.items ≡ operations_of ops.old.items ++ map (spec.add_op path.now.doc (steps_of path.now)) (map addition_of additions.items)) }
+    ensures { OnOk result (operations_of ops.new.items ≡
+        operations_of ops.old.items ++ map (spec.add_op path.now.doc (steps_of path.now))
+        (map addition_of additions.items)) }
 {
     'each: for addition in additions {
         ops.push(add_op(alloc, path, addition)?)?;

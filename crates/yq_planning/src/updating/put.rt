@@ -84,7 +84,9 @@ fn made(
     others: &[&Step],
     value: Value,
 ) -> Result<Change, AllocError>
-    ensures { IfOk result (λ c. change_of c ≡ spec.made (node_of node.entry) (step_of first.now) (map (λ s. step_of s.now) others.now) (value_node value)) }
+    ensures { IfOk result (λ c. change_of c ≡
+        spec.made (node_of node.entry) (step_of first.now) (map (λ s. step_of s.now) others.now)
+        (value_node value)) }
 {
     let below = nested(alloc, others, value)?;
     if node.kind() == NodeKind::Map {

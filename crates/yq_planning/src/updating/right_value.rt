@@ -89,7 +89,8 @@ fn with_terms<'a, 't>(
     place: Place<'a, 't>,
 ) -> Result<Value, MatchError>
     requires { HasScalars (place_of place).node }
-    ensures { Matches node_of result (in_turn (λ t v. and_then (spec.sum v) (spec.term_value doc (place_of place.entry) t)) (map term_of terms.now) (node_of first)) }
+    ensures { Matches node_of result (in_turn (λ t v. and_then (spec.sum v)
+        (spec.term_value doc (place_of place.entry) t)) (map term_of terms.now) (node_of first)) }
 {
     let mut total = first;
     'terms: for term in terms {

@@ -107,7 +107,8 @@ fn put_entry(
     value: Value,
 ) -> Result<(), AllocError>
     requires { AreNumbered (map field_of entries.old.items) numbers.old }
-    ensures entries { OnOk result (entries_of entries.new.items ≡ spec.with_entry (Some (string_bytes key)) (node_of value) (entries_of entries.old.items)) }
+    ensures entries { OnOk result (entries_of entries.new.items ≡
+        spec.with_entry (Some (string_bytes key)) (node_of value) (entries_of entries.old.items)) }
     ensures numbers { OnOk result (AreNumbered (map field_of entries.new.items) numbers.new) }
 {
     match number_of(numbers, key.as_str()) {
