@@ -18,3 +18,4 @@ pub mod FlowAnswers
 pub mod FlowReplaceAnswers
 pub mod FlowAppendAnswers
 pub mod SoleLaws
+pub mod FlowRests
