@@ -25,7 +25,6 @@ use Rattle.yq_tree.specs.DashPlaces.{DashPlace, dash_place}
 use Rattle.yq_tree.specs.PlacedRows.{row_of_path}
 use Rattle.yq_tree.specs.PrintedLines.{less_break, last_break}
 use Rattle.yq_documents.specs.Reading.{documents, outline_of, read_at, root_of}
-use Rattle.yq_tree.specs.RowPaths.{IsReadable}
 use Rattle.yq_tree.proofs.PrintedTexts.{less_is, map_some}
 use Rattle.yq_change.specs.Appends.{inserted}
 use Rattle.yq_change.specs.Changed.{put_document}

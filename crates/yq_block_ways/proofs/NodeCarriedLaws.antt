@@ -20,7 +20,7 @@ use Rattle.yq_ways.proofs.CarriedLaws.{CarriedOut}
 use Rattle.yq_ways.proofs.LastRows.{lines_local}
 use Rattle.yq_ways.proofs.OneLines.{is_one_line}
 use Rattle.yq_ways.proofs.LocalLaws.{RowsGiveWay, cut_known}
-use Rattle.yq_block_ways.proofs.NodeRowLaws.{NodeRows, TakesNode, q, q_rows, node_changed, node_reads}
+use Rattle.yq_block_ways.proofs.NodeRowLaws.{NodeRows, TakesNode, q_rows, node_changed, node_reads}
 
 -- Segments of the text keep it up to bytes of the first one of these rows, and from the end of the line that ends them on.
 pub record KeepsNode (doc : ℕ) (s : Step) (ss : List Step) (c : Cut) (h : NodeRows doc s ss c) (us : List Segment) : Type 0 where

@@ -24,7 +24,6 @@ use Rattle.yq_rows.proofs.PlaceLaws.{row_front-append}
 use Rattle.yq_documents.specs.Lines.{block_anchor, content_anchor, tail_of}
 use Rattle.yq_documents.specs.Nodes.{anchor_of}
 use Rattle.yq_documents.specs.Reading.{root_of}
-use Rattle.yq_tree.specs.RowPaths.{IsReadable}
 use Rattle.yq_tree.specs.ScalarPlaces.{ScalarPlace, anchor_before, space_before}
 use Rattle.yq_tree.proofs.LineEndLaws.{header_tail}
 use Rattle.yq_change.specs.Appends.{inserted}

@@ -1,5 +1,5 @@
 -- A block scalar gives way to a value that is written inline on the line of its header.
-use Rattle.std.proofs.Common.{arith, ◌+◌, length-append, inr, ◌≡◌, inl, ℕ, ◌≤◌, cond, not, List, [], ◌∷◌, ◌++◌, length, Option, Some, None, Bool, true, false, refl, sym, ap, ◌∙◌, subst, append_assoc, append-nil}
+use Rattle.std.proofs.Common.{arith, length-append, inr, ◌≡◌, inl, ℕ, ◌≤◌, cond, not, List, [], ◌∷◌, ◌++◌, length, Option, Some, None, Bool, true, false, refl, sym, ap, ◌∙◌, subst, append_assoc, append-nil}
 use Rattle.std.proofs.lemmas.Option.{none-some, same_Some}
 use Rattle.std.proofs.lemmas.Str.{is_utf8-from_IsUtf8}
 use Rattle.yq_scalar.specs.Block.{block_text}
@@ -13,7 +13,6 @@ use Rattle.yq_scalar.specs.Tree as tree
 use Rattle.yq_scalar.specs.Tree.{Node}
 use Rattle.yq_scalar.specs.Writable.{can_write, is_string}
 use Rattle.yq_scalar.specs.Written.{double}
-use Rattle.yq_scalar.specs.declared.block_header.BlockStyle.TheVariants as block_styles
 use Rattle.yq_scalar.specs.declared.style.Place.TheVariants as places
 use Rattle.yq_scalar.specs.declared.style.Style.TheVariants as styles
 use Rattle.yq_scalar.proofs.Bools.{bind_some}
