@@ -10,6 +10,9 @@ use Rattle.yq_rows.specs.Rows.{Row, behind_dashes, behind_indent, dashes_text, m
 use Rattle.yq_rows.proofs.seams.JoinLaws.{dashes_text-append}
 use Rattle.yq_rows.proofs.PlaceLaws.{dashes_then}
 use Rattle.yq_documents.specs.Documents.{HaveFitKeys}
+use Rattle.yq_change.specs.Items.{rows_items}
+use Rattle.yq_ways.specs.Local.{InFirst}
+use Rattle.yq_ways.proofs.LocalLaws.{first_within}
 use Rattle.yq_block.specs.BlockPlaces.{compact_rows}
 use Rattle.yq_block.proofs.LineLaws.{BeginAt}
 use Rattle.yq_block_ways.proofs.MarkRowLaws.{is_key}
@@ -56,3 +59,9 @@ behind_text column row (q ∷ qs) u z b is e =
     append_cancel_left (replicate column 32) (behind_indent q (rows_text qs z)) u (sym (λ i. b.0 i ++ (replicate (b.1 i) 32 ++ behind_indent q (rows_text qs z))) ∙ e) in
     ap (λ l. row.gap ++ (replicate row.column 32 ++ l)) (dashes_text-append row.dashes (1 ∷ q.dashes) (behind_dashes q (rows_text qs z)))
     ∙ (ap (λ l. row.gap ++ (replicate row.column 32 ++ dashes_text row.dashes (45 ∷ (32 ∷ l)))) inner ∙ dash_front row (32 ∷ u) is)
+
+-- the first of them begins as the row does up to its dash
+pub behind_lead : (column : ℕ) (row : Row) (rs : List Row) → BeginAt column rs → row.mark ≡ rows.Dash → InFirst (row_front row) (rows_items (compact_rows row rs) [])
+behind_lead column row [] b is = absurd b
+behind_lead column row (q ∷ qs) b is =
+    first_within _ (row_front row) (32 ∷ behind_indent q []) (behind_text column row (q ∷ []) (behind_indent q []) [] b is (λ i. b.0 i ++ (replicate (b.1 i) 32 ++ behind_indent q [])))

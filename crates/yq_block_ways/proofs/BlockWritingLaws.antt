@@ -22,7 +22,6 @@ use Rattle.yq_documents.specs.Lines.{tail_of}
 use Rattle.yq_tree.specs.MarkPlaces.{MarkPlace}
 use Rattle.yq_documents.specs.Reading.{documents, outline_of, read_at, root_of}
 use Rattle.yq_documents.proofs.RowLineLaws.{tail_is}
-use Rattle.yq_tree.specs.RowPaths.{IsReadable}
 use Rattle.yq_tree.proofs.PrintedTexts.{map_some}
 use Rattle.yq_change.specs.Appends.{inserted}
 use Rattle.yq_change.specs.Changed.{put_document}
@@ -45,9 +44,12 @@ use Rattle.yq_block_ways.specs.BlockWriting.{below_mark, lines_below, under_segm
 use Rattle.yq_ways.specs.Done.{ArePieces}
 use Rattle.yq_ways.specs.Layouts.{layout_of}
 use Rattle.yq_ways.specs.Operands.{HasOperand}
+use Rattle.yq_ways.specs.Local.{InFirst, IsLocalWay}
 use Rattle.yq_ways.specs.Ways.{IsWay, ReadsAfter}
+use Rattle.yq_ways.proofs.CarriedLaws.{CarriedOut}
+use Rattle.yq_ways.proofs.OneLines.{break_line, tail_is_line}
 use Rattle.yq_block_ways.proofs.BehindDashLaws.{is_dash}
-use Rattle.yq_block_ways.proofs.DashValueLaws.{behind_rows, behind_spelled, takes_behind}
+use Rattle.yq_block_ways.proofs.DashValueLaws.{behind_first, behind_rows, behind_spelled, takes_behind}
 use Rattle.yq_ways.proofs.BrokenTails.{broken_comment, broken_tail, end_tail, quiet_tail}
 use Rattle.yq_ways.proofs.CommentPieceLaws.{nothing, byte_then, break_piece}
 use Rattle.yq_ways.proofs.FitLaws.{fits_replace}
@@ -57,7 +59,11 @@ use Rattle.yq_block_ways.proofs.MarkContentLaws.{anchor_left, unnamed}
 use Rattle.yq_block_ways.proofs.MarkFacts.{column_is, entry, key_is, named, node, own, p, pairs, parted, r, rest, row_is, tail, there, there_is}
 use Rattle.yq_block_ways.proofs.MarkPieceLaws.{MarkPieces, mark_pieces}
 use Rattle.yq_block_ways.proofs.MarkRowLaws.{HasMark, is_key, mark_has}
-use Rattle.yq_block_ways.proofs.NodeRowLaws.{NodeRows, TakesNode, node_reads, q_text}
+use Rattle.yq_tree.specs.ScalarPlaces.{anchor_before}
+use Rattle.yq_block_ways.proofs.NodeCarriedLaws.{KeepsNode, node_carried}
+use Rattle.yq_block_ways.proofs.NodeLeads.{upto_lead, own_lead, upto_long, first_lead}
+use Rattle.yq_change.specs.Items.{rows_items}
+use Rattle.yq_block_ways.proofs.NodeRowLaws.{NodeRows, TakesNode, q_text}
 use Rattle.yq_block_ways.proofs.NodeValueLaws.{IsHolding, end_is, mark_key, rows_under, takes_under}
 use Rattle.yq_ways.proofs.SegmentLaws.{segments_readable}
 
@@ -94,12 +100,47 @@ module _ (doc : ℕ) (s : Step) (ss : List Step) (c : Cut) (w : MarkPlace) (h : 
       let parts : (t.white ++ (t.comment ++ t.line.break)) ++ z ≡ t.white ++ (t.comment ++ ((t.line.break ++ z) ++ [])) = simp (append_assoc, append-nil) refl in
       ap (λ x. x ++ z) t.line.spelled ∙ parts
 
+  all_there : place.before ++ (place.gone ++ (place.white ++ (place.comment ++ (place.behind ++ [])))) ≡ cut_text c
+  all_there = sym (parted doc s ss c w h ∙ ap (λ x. place.before ++ (place.gone ++ x)) split)
+
   old_there : old_text (block_segments l v place) ≡ cut_text c
-  old_there = go (is_compact place) ∙ sym (parted doc s ss c w h ∙ ap (λ x. place.before ++ (place.gone ++ x)) split)
+  old_there = go (is_compact place) ∙ all_there
     where
       go : (b : Bool) → old_text (cond b (behind_segments l v place) (under_segments l v place)) ≡ place.before ++ (place.gone ++ (place.white ++ (place.comment ++ (place.behind ++ []))))
       go true = refl
       go false = refl
+
+  -- what is kept
+  abbrev row : Row
+  row = r doc s ss c w h
+
+  abbrev keeps_under : KeepsNode doc s ss c (node doc s ss c w h) (under_segments l v place)
+  keeps_under =
+      let k : NodeRows doc s ss c = node doc s ss c w h in
+      record {
+        lead = row_front row ++ anchor_before (slices row);
+        trail = (tail doc s ss c w h).line.break;
+        before_is = append-nil place.before ∙ upto_lead (k.start ++ rows_text k.front []) (row_front row) (slices row);
+        behind_is = append-nil place.behind;
+        one = break_line (tail doc s ss c w h).line.break (rest doc s ss c w h) (tail doc s ss c w h).line.ends;
+        begins = own_lead row;
+        puts = refl;
+        old_is = all_there;
+      }
+
+  abbrev keeps_behind : is_empty (slices (r doc s ss c w h)).anchor ≡ true → KeepsNode doc s ss c (node doc s ss c w h) (behind_segments l v place)
+  keeps_behind bare =
+      let before : List ℕ = (own doc s ss c w h).before ++ row_front row in
+      record {
+        lead = row_front row;
+        trail = (slices row).tail;
+        before_is = append-nil place.before ∙ ap (λ e. cond e before (before ++ ((slices row).space ++ (slices row).anchor))) bare;
+        behind_is = sym split;
+        one = tail_is_line (slices row).tail (rest doc s ss c w h) (tail doc s ss c w h);
+        begins = upto_long (node doc s ss c w h).upto;
+        puts = refl;
+        old_is = all_there;
+      }
 
   -- what is written is made of pieces
   module _ (value_tree : IsValueTree v) where
@@ -123,8 +164,8 @@ module _ (doc : ℕ) (s : Step) (ss : List Step) (c : Cut) (w : MarkPlace) (h : 
       may_there = subst (λ x. MayReplace v x (root_of (p doc s ss c w h)) (length (s ∷ ss))) (same_Some _ _ (sym at ∙ (path_node s ss (outline_of (p doc s ss c w h)) ∙ ap FoundNode h.leads.is))) may
 
       -- on the lines under the key or dash
-      under_reads : length (new_text (under_segments l v place)) ≤ text_limit → ReadsAfter op c (new_text (under_segments l v place))
-      under_reads size =
+      under_carried : length (new_text (under_segments l v place)) ≤ text_limit → CarriedOut op c (under_segments l v place)
+      under_carried size =
           let k : NodeRows doc s ss c = node doc s ss c w h in
           let row : Row = r doc s ss c w h in
           let z : List ℕ = rest doc s ss c w h in
@@ -148,11 +189,13 @@ module _ (doc : ℕ) (s : Step) (ss : List Step) (c : Cut) (w : MarkPlace) (h : 
           ∙ (ap (λ u. place.before ++ (held ++ u)) (value_spelled v l below last z filled.filled filled.value)
           ∙ (parts ∙ ap (λ n. place.before ++ (t.white ++ (t.comment ++ (lines_below l n v ++ ((last ++ z) ++ []))))) (sym column))) in
           let same : cut_text (put_document doc (inserted k.front new k.back k.p) c) ≡ new_text (under_segments l v place) = q_text doc s ss c k v new takes ∙ text in
-          subst (ReadsAfter op c) same (node_reads doc s ss c k v new takes may_there (subst IsReadable (sym same) (segments_readable (under_segments l v place) under_pieces size)))
+          let begins : InFirst (row_front row ++ anchor_before (slices row)) (rows_items new []) =
+          first_lead k.start (rows_text k.front []) _ place.before (held ++ []) (row_front row ++ anchor_before (slices row)) (left_rows doc s ss c k h.inline held [] []) (upto_lead (k.start ++ rows_text k.front []) (row_front row) (slices row)) in
+          node_carried doc s ss c k v new takes (under_segments l v place) keeps_under may_there (segments_readable (under_segments l v place) under_pieces size) same begins
 
       -- on the line of a dash
-      behind_reads : is_compact place ≡ true → length (new_text (behind_segments l v place)) ≤ text_limit → ReadsAfter op c (new_text (behind_segments l v place))
-      behind_reads is size =
+      behind_carried : is_compact place ≡ true → length (new_text (behind_segments l v place)) ≤ text_limit → CarriedOut op c (behind_segments l v place)
+      behind_carried is size =
           let both = and_parts (not (place.keyed || place.named)) (is_empty place.comment) is in
           let free = or_parts place.keyed place.named (not-true (place.keyed || place.named) both.0) in
           let k : NodeRows doc s ss c = node doc s ss c w h in
@@ -180,14 +223,15 @@ module _ (doc : ℕ) (s : Step) (ss : List Step) (c : Cut) (w : MarkPlace) (h : 
           ∙ (ap (λ u. a ++ (b ++ (d ++ (32 ∷ (x ++ (u ++ z)))))) t.line.spelled
           ∙ (parts ∙ (λ i. sym before_is i ++ ((32 ∷ block_value l (item_column (sym (column_is doc s ss c w h) i)) v) ++ (t.white ++ (t.comment ++ ((t.line.break ++ z) ++ []))))))) in
           let same : cut_text (put_document doc (inserted k.front new k.back k.p) c) ≡ new_text (behind_segments l v place) = q_text doc s ss c k v new takes ∙ text in
-          subst (ReadsAfter op c) same (node_reads doc s ss c k v new takes may_there (subst IsReadable (sym same) (segments_readable (behind_segments l v place) behind_pieces size)))
+          node_carried doc s ss c k v new takes (behind_segments l v place) (keeps_behind bare) may_there (segments_readable (behind_segments l v place) behind_pieces size) same
+          (behind_first doc s ss c k l (mapping_least doc c) v filled near last dash ends quiet none no_name)
 
-      block_reads : length (new_text (block_segments l v place)) ≤ text_limit → ReadsAfter op c (new_text (block_segments l v place))
-      block_reads = go (is_compact place) refl
+      block_carried : length (new_text (block_segments l v place)) ≤ text_limit → CarriedOut op c (block_segments l v place)
+      block_carried = go (is_compact place) refl
         where
-          go : (b : Bool) → is_compact place ≡ b → length (new_text (cond b (behind_segments l v place) (under_segments l v place))) ≤ text_limit → ReadsAfter op c (new_text (cond b (behind_segments l v place) (under_segments l v place)))
-          go true is size = behind_reads is size
-          go false is size = under_reads size
+          go : (b : Bool) → is_compact place ≡ b → length (new_text (cond b (behind_segments l v place) (under_segments l v place))) ≤ text_limit → CarriedOut op c (cond b (behind_segments l v place) (under_segments l v place))
+          go true is size = behind_carried is size
+          go false is size = under_carried size
 
 -- ---- the way
 
@@ -202,27 +246,27 @@ block_old doc steps v c us read is =
     let h = mark_has doc steps c x.1 read x.2 in
     ap old_text (sym x.3) ∙ subst (λ (w : MarkPlace). old_text (block_segments (layout_of doc c) v w) ≡ cut_text c) (there_is doc h.0 h.1 c x.1 h.3) (old_there doc h.0 h.1 c x.1 h.3 v)
 
-reads_there : (doc : ℕ) (s : Step) (ss : List Step) (v : Node) (c : Cut) (w : MarkPlace) → HasMark doc s ss c w → is_filled v ≡ true → IsValueTree v → Fits (room_of (cut_text c)) (replace doc (s ∷ ss) v) (documents c) →
-    length (new_text (block_segments (layout_of doc c) v w)) ≤ text_limit → ReadsAfter (replace doc (s ∷ ss) v) c (new_text (block_segments (layout_of doc c) v w))
-reads_there doc s ss v c w h full value_tree fits =
+carried_there : (doc : ℕ) (s : Step) (ss : List Step) (v : Node) (c : Cut) (w : MarkPlace) → HasMark doc s ss c w → is_filled v ≡ true → IsValueTree v → Fits (room_of (cut_text c)) (replace doc (s ∷ ss) v) (documents c) →
+    length (new_text (block_segments (layout_of doc c) v w)) ≤ text_limit → CarriedOut (replace doc (s ∷ ss) v) c (block_segments (layout_of doc c) v w)
+carried_there doc s ss v c w h full value_tree fits =
     let part : Part = p doc s ss c w h in
     let f = fits_replace doc (s ∷ ss) v c part h.old.there value_tree fits in
-    subst (λ (y : MarkPlace). length (new_text (block_segments (layout_of doc c) v y)) ≤ text_limit → ReadsAfter (replace doc (s ∷ ss) v) c (new_text (block_segments (layout_of doc c) v y))) (there_is doc s ss c w h)
-    (block_reads doc s ss c w h v value_tree (record { filled = filled_is v full; value = value_tree }) f.near f.node f.there f.may)
+    subst (λ (y : MarkPlace). length (new_text (block_segments (layout_of doc c) v y)) ≤ text_limit → CarriedOut (replace doc (s ∷ ss) v) c (block_segments (layout_of doc c) v y)) (there_is doc s ss c w h)
+    (block_carried doc s ss c w h v value_tree (record { filled = filled_is v full; value = value_tree }) f.near f.node f.there f.may)
 
-block_way_reads : (doc : ℕ) (steps : List Step) (v : Node) (c : Cut) (us : List Segment) → read_at (cut_text c) ≡ Some c → replace_block_way (replace doc steps v) c ≡ Some us → IsValueTree v → Fits (room_of (cut_text c)) (replace doc steps v) (documents c) →
-    length (new_text us) ≤ text_limit → ReadsAfter (replace doc steps v) c (new_text us)
-block_way_reads doc steps v c us read is value_tree fits size =
+block_way_carried : (doc : ℕ) (steps : List Step) (v : Node) (c : Cut) (us : List Segment) → read_at (cut_text c) ≡ Some c → replace_block_way (replace doc steps v) c ≡ Some us → IsValueTree v → Fits (room_of (cut_text c)) (replace doc steps v) (documents c) →
+    length (new_text us) ≤ text_limit → CarriedOut (replace doc steps v) c us
+block_way_carried doc steps v c us read is value_tree fits size =
     let x = block_at doc steps v c us is in
     let h = mark_has doc steps c x.1 read x.2 in
-    subst (λ z. ReadsAfter (replace doc steps v) c (new_text z)) x.3
+    subst (λ z. CarriedOut (replace doc steps v) c z) x.3
     (by steps h.0 h.1 h.2 x.1 h.3 x.0 fits (subst (λ z. length (new_text z) ≤ text_limit) (sym x.3) size))
   where
     by : (steps : List Step) (s : Step) (ss : List Step) → steps ≡ s ∷ ss → (w : MarkPlace) → HasMark doc s ss c w → is_filled v ≡ true → Fits (room_of (cut_text c)) (replace doc steps v) (documents c) →
-        length (new_text (block_segments (layout_of doc c) v w)) ≤ text_limit → ReadsAfter (replace doc steps v) c (new_text (block_segments (layout_of doc c) v w))
+        length (new_text (block_segments (layout_of doc c) v w)) ≤ text_limit → CarriedOut (replace doc steps v) c (block_segments (layout_of doc c) v w)
     by steps s ss same w h full fits size =
-        subst (λ (y : List Step). ReadsAfter (replace doc y v) c (new_text (block_segments (layout_of doc c) v w))) (sym same)
-        (reads_there doc s ss v c w h full value_tree (subst (λ (y : List Step). Fits (room_of (cut_text c)) (replace doc y v) (documents c)) same fits) size)
+        subst (λ (y : List Step). CarriedOut (replace doc y v) c (block_segments (layout_of doc c) v w)) (sym same)
+        (carried_there doc s ss v c w h full value_tree (subst (λ (y : List Step). Fits (room_of (cut_text c)) (replace doc y v) (documents c)) same fits) size)
 
 pub replace_block_is : IsWay replace_block_way
 unfolding replace_block_way
@@ -237,8 +281,16 @@ replace_block_is = record { old = old; reads = reads }
 
     reads : (op : Operation) (c : Cut) (us : List Segment) → read_at (cut_text c) ≡ Some c → replace_block_way op c ≡ Some us → HasOperand op → Fits (room_of (cut_text c)) op (documents c) →
         length (new_text us) ≤ text_limit → ReadsAfter op c (new_text us)
-    reads (replace doc steps v) c us read is operand fits size = block_way_reads doc steps v c us read is operand fits size
+    reads (replace doc steps v) c us read is operand fits size = (block_way_carried doc steps v c us read is operand fits size).reads
     reads (append doc steps key v) c us read is operand fits size = absurd (none-some _ is)
     reads (remove doc steps) c us read is operand fits size = absurd (none-some _ is)
     reads (line_comment doc steps text) c us read is operand fits size = absurd (none-some _ is)
     reads (head_comment doc steps text) c us read is operand fits size = absurd (none-some _ is)
+
+pub replace_block_local : IsLocalWay replace_block_way
+unfolding replace_block_way
+replace_block_local (replace doc steps v) c us read is operand fits size = (block_way_carried doc steps v c us read is operand fits size).local
+replace_block_local (append doc steps key v) c us read is operand fits size = absurd (none-some _ is)
+replace_block_local (remove doc steps) c us read is operand fits size = absurd (none-some _ is)
+replace_block_local (line_comment doc steps text) c us read is operand fits size = absurd (none-some _ is)
+replace_block_local (head_comment doc steps text) c us read is operand fits size = absurd (none-some _ is)

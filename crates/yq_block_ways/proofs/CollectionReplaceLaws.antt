@@ -12,7 +12,10 @@ use Rattle.yq_lines.specs.Comments as comments
 use Rattle.yq_lines.specs.Places.{content}
 use Rattle.yq_lines.proofs.Finding.{FoundNode, path_node}
 use Rattle.yq_rows.specs.Grammar.{IsTail}
-use Rattle.yq_rows.specs.Rows.{Content, Row, mark_column, rows_text, Cut, cut_text}
+use Rattle.yq_inline.specs.Nodes.{node_text}
+use Rattle.yq_change.proofs.CoreLaws.{put_core}
+use Rattle.yq_rows.specs.Exchange.{row_front, with_content}
+use Rattle.yq_rows.specs.Rows.{Content, Row, mark_column, rows_text, Cut, cut_text, print_row}
 use Rattle.yq_rows.specs.Seams.{is_block}
 use Rattle.yq_rows.specs.View.{slices}
 use Rattle.yq_tree.specs.CollectionEnds.{CollectionEnd, collection_end}
@@ -20,9 +23,7 @@ use Rattle.yq_tree.specs.CommentPlaces.{line_end}
 use Rattle.yq_tree.specs.MarkPlaces.{MarkPlace, mark_place}
 use Rattle.yq_tree.specs.PlacedRows.{row_of_path}
 use Rattle.yq_tree.specs.PrintedLines.{less_break, last_break}
-use Rattle.yq_documents.specs.Reading as reading
 use Rattle.yq_documents.specs.Reading.{documents, outline_of, read_at, root_of}
-use Rattle.yq_tree.specs.RowPaths.{IsReadable}
 use Rattle.yq_tree.proofs.PrintedTexts.{less_is, map_some}
 use Rattle.yq_change.specs.Appends.{inserted}
 use Rattle.yq_change.specs.Changed.{put_document}
@@ -47,7 +48,14 @@ use Rattle.yq_ways.specs.Done.{ArePieces}
 use Rattle.yq_ways.specs.Layouts.{layout_of}
 use Rattle.yq_ways.specs.Operands.{HasOperand}
 use Rattle.yq_ways.specs.Replacing.{value_written}
+use Rattle.yq_ways.specs.Local.{InFirst, IsLocalWay}
 use Rattle.yq_ways.specs.Ways.{IsWay, ReadsAfter}
+use Rattle.yq_ways.proofs.CarriedLaws.{CarriedOut}
+use Rattle.yq_ways.proofs.OneLines.{break_line}
+use Rattle.yq_change.specs.Items.{rows_items}
+use Rattle.yq_tree.specs.ScalarPlaces.{anchor_before}
+use Rattle.yq_block_ways.proofs.NodeCarriedLaws.{KeepsNode, node_carried}
+use Rattle.yq_block_ways.proofs.NodeLeads.{upto_lead, own_lead, first_lead}
 use Rattle.yq_ways.proofs.AppendPlaces.{kept_pieces}
 use Rattle.yq_block_ways.proofs.BlockWritingLaws.{filled_is, same_below}
 use Rattle.yq_ways.proofs.BreakLaws.{IsLfOrCrLf, last_is}
@@ -58,7 +66,7 @@ use Rattle.yq_ways.proofs.FitLaws.{FitsReplace, fits_replace}
 use Rattle.yq_ways.proofs.LayoutLaws.{mapping_least}
 use Rattle.yq_block_ways.proofs.LeftRows.{holding, left_row, left_rows}
 use Rattle.yq_block_ways.proofs.MarkContentLaws.{anchor_left}
-use Rattle.yq_block_ways.proofs.NodeRowLaws.{NodeRows, TakesNode, entry, node_reads, q_text}
+use Rattle.yq_block_ways.proofs.NodeRowLaws.{NodeRows, TakesNode, entry, q_text}
 use Rattle.yq_block_ways.proofs.NodeRowLaws as rowed
 use Rattle.yq_block_ways.proofs.NodeValueLaws.{IsHolding, end_is, mark_key, rows_beside, rows_under, takes_beside, takes_under}
 use Rattle.yq_ways.proofs.ReplaceLaws.{IsWrittenFor, written_for}
@@ -96,6 +104,22 @@ module _ (doc : ℕ) (s : Step) (ss : List Step) (c : Cut) (w : MarkPlace) (x : 
       let parts : front ++ (t.white ++ (t.comment ++ (less_break own ++ (last_break own ++ (x.behind ++ []))))) ≡ front ++ (t.white ++ (t.comment ++ ((less_break own ++ last_break own) ++ x.behind))) = simp (append_assoc, append-nil) refl in
       parts ∙ (ap (λ o. front ++ (t.white ++ (t.comment ++ (o ++ x.behind)))) (less_is own) ∙ sym (parted doc s ss c w x read at ends))
 
+  -- what is kept
+  own_behind : x.behind ≡ z
+  own_behind = behind_is doc s ss c w x read at ends
+
+  abbrev keeps : (y : Written) → KeepsNode doc s ss c h (exchange_segments u y)
+  keeps y = record {
+    lead = row_front h.mark ++ anchor_before (slices h.mark);
+    trail = last;
+    before_is = append-nil front ∙ upto_lead (h.start ++ rows_text h.front []) (row_front h.mark) (slices h.mark);
+    behind_is = ap (λ b. last ++ b) (append-nil x.behind ∙ own_behind);
+    one = break_line last z (last_ends_line doc s ss c w x read at ends);
+    begins = own_lead h.row;
+    puts = refl;
+    old_is = old_there y;
+  }
+
   -- it is in pieces
   break_is_piece : (b : List ℕ) → (b ≡ []) ⊎ IsLfOrCrLf b → IsPiece b
   break_is_piece b (inl e) = subst IsPiece (sym e) no_text
@@ -122,11 +146,15 @@ module _ (doc : ℕ) (s : Step) (ss : List Step) (c : Cut) (w : MarkPlace) (x : 
   held = holding doc s ss c h block (rowed.rows_there doc s ss c h).0 (own_anchor doc s ss c w x read at ends)
 
   -- a text for which the document is known reads, where it may be read
-  reads_as : (new : List Row) → TakesNode doc s ss c h v new → (y : Written) → MayReplace v (content h.found.line h.found.under) (root_of h.p) (length (s ∷ ss)) → h.start ++ (rows_text h.front [] ++ rows_text new z) ≡ new_text (exchange_segments u y) →
-      IsPiece y.beside → IsPiece y.below → length (new_text (exchange_segments u y)) ≤ text_limit → ReadsAfter op c (new_text (exchange_segments u y))
-  reads_as new takes y may text beside below size =
+  carried_as : (new : List Row) → TakesNode doc s ss c h v new → (y : Written) → MayReplace v (content h.found.line h.found.under) (root_of h.p) (length (s ∷ ss)) → h.start ++ (rows_text h.front [] ++ rows_text new z) ≡ new_text (exchange_segments u y) →
+      InFirst (row_front h.mark ++ anchor_before (slices h.mark)) (rows_items new []) → IsPiece y.beside → IsPiece y.below → length (new_text (exchange_segments u y)) ≤ text_limit → CarriedOut op c (exchange_segments u y)
+  carried_as new takes y may text begins beside below size =
       let same : cut_text (put_document doc (inserted h.front new h.back h.p) c) ≡ new_text (exchange_segments u y) = q_text doc s ss c h v new takes ∙ text in
-      subst (ReadsAfter op c) same (node_reads doc s ss c h v new takes may (subst IsReadable (sym same) (segments_readable (exchange_segments u y) (new_pieces y beside below) size)))
+      node_carried doc s ss c h v new takes (exchange_segments u y) (keeps y) may (segments_readable (exchange_segments u y) (new_pieces y beside below) size) same begins
+
+  -- where its first row begins with the text up to there
+  first_there : (first : Row) (rest : List ℕ) (more : List Row) → h.start ++ (rows_text h.front [] ++ print_row first []) ≡ front ++ rest → InFirst (row_front h.mark ++ anchor_before (slices h.mark)) (rows_items (first ∷ more) [])
+  first_there first rest more e = first_lead h.start (rows_text h.front []) (print_row first []) front rest _ e (upto_lead (h.start ++ rows_text h.front []) (row_front h.mark) (slices h.mark))
 
   -- ---- lines under the key or dash
 
@@ -169,9 +197,9 @@ module _ (doc : ℕ) (s : Step) (ss : List Step) (c : Cut) (w : MarkPlace) (x : 
         let e = value_sound v l below value_tree in
         pieces_joined (break_text l.br) (replicate below 32 ++ block_value l below v) (break_piece l.br) (pieces_joined (replicate below 32) (block_value l below v) (spaces_piece below) (record { utf8 = e.0; characters = e.1 }))
 
-    pub lines_read : length (new_text (exchange_segments u y)) ≤ text_limit → ReadsAfter op c (new_text (exchange_segments u y))
-    lines_read =
-        reads_as new (takes_under doc s ss c h l (mapping_least doc c) v filled near (left held_under) last held_is (end_is doc s ss c h last last_tail) (quiet_tail last z last_tail refl)) y may lines_text no_text lines_piece
+    pub lines_carried : length (new_text (exchange_segments u y)) ≤ text_limit → CarriedOut op c (exchange_segments u y)
+    lines_carried =
+        carried_as new (takes_under doc s ss c h l (mapping_least doc c) v filled near (left held_under) last held_is (end_is doc s ss c h last last_tail) (quiet_tail last z last_tail refl)) y may lines_text (first_there (with_content (anchor_left h.mark.content held_under) h.mark) (held_under ++ []) value_rows (left_rows doc s ss c h block held_under [] [])) no_text lines_piece
 
   -- ---- a text behind it
 
@@ -196,9 +224,9 @@ module _ (doc : ℕ) (s : Step) (ss : List Step) (c : Cut) (w : MarkPlace) (x : 
         ∙ (ap (λ r. front ++ (32 ∷ r)) (node_then for.node (held_text ++ z) ∙ ap (λ r. r ++ (held_text ++ z)) for.text)
         ∙ (ap (λ r. front ++ (32 ∷ (text ++ (held_text ++ r)))) (sym (behind_is doc s ss c w x read at ends)) ∙ parts))
 
-    pub beside_reads : length (new_text (exchange_segments u (beside_mark text))) ≤ text_limit → ReadsAfter op c (new_text (exchange_segments u (beside_mark text)))
-    beside_reads =
-        reads_as beside_rows (takes_beside doc s ss c h v for.node for.is (left held_text) beside_held) (beside_mark text) may beside_text
+    pub beside_carried : length (new_text (exchange_segments u (beside_mark text))) ≤ text_limit → CarriedOut op c (exchange_segments u (beside_mark text))
+    beside_carried =
+        carried_as beside_rows (takes_beside doc s ss c h v for.node for.is (left held_text) beside_held) (beside_mark text) may beside_text (first_there (with_content (put_core for.node (anchor_left h.mark.content held_text)) h.mark) (32 ∷ node_text for.node (held_text ++ [])) [] (left_row doc s ss c h block for.node held_text []))
         (byte_then 32 text refl for.piece) no_text
 
 -- ---- the way
@@ -243,11 +271,11 @@ collection_old doc steps v c us read e =
     ap old_text (sym k.are)
     ∙ subst (λ (q : MarkPlace). old_text (exchange_segments (lines_upto q k.x) k.y) ≡ cut_text c) (there_is doc k.s k.ss c k.w k.x read k.at k.ends) (old_there doc k.s k.ss c k.w k.x read k.at k.ends v k.y)
 
-reads_there : (doc : ℕ) (s : Step) (ss : List Step) (v : Node) (c : Cut) (w : MarkPlace) (x : CollectionEnd) (y : Written) → read_at (cut_text c) ≡ Some c → mark_place doc (s ∷ ss) c ≡ Some w → collection_end doc (s ∷ ss) c ≡ Some x →
+carried_there : (doc : ℕ) (s : Step) (ss : List Step) (v : Node) (c : Cut) (w : MarkPlace) (x : CollectionEnd) (y : Written) → read_at (cut_text c) ≡ Some c → mark_place doc (s ∷ ss) c ≡ Some w → collection_end doc (s ∷ ss) c ≡ Some x →
     written_there (layout_of doc c) v w ≡ Some y → IsValueTree v → Fits (room_of (cut_text c)) (replace doc (s ∷ ss) v) (documents c) → length (new_text (exchange_segments (lines_upto w x) y)) ≤ text_limit →
-    ReadsAfter (replace doc (s ∷ ss) v) c (new_text (exchange_segments (lines_upto w x) y))
-reads_there doc s ss v c w x y read at ends written value_tree fits =
-    subst (λ (q : MarkPlace). written_there (layout_of doc c) v q ≡ Some y → length (new_text (exchange_segments (lines_upto q x) y)) ≤ text_limit → ReadsAfter (replace doc (s ∷ ss) v) c (new_text (exchange_segments (lines_upto q x) y)))
+    CarriedOut (replace doc (s ∷ ss) v) c (exchange_segments (lines_upto w x) y)
+carried_there doc s ss v c w x y read at ends written value_tree fits =
+    subst (λ (q : MarkPlace). written_there (layout_of doc c) v q ≡ Some y → length (new_text (exchange_segments (lines_upto q x) y)) ≤ text_limit → CarriedOut (replace doc (s ∷ ss) v) c (exchange_segments (lines_upto q x) y))
     (there_is doc s ss c w x read at ends) (λ e. by (is_filled v) refl e) written
   where
     h : NodeRows doc s ss c
@@ -266,22 +294,22 @@ reads_there doc s ss v c w x y read at ends written value_tree fits =
     q = there doc s ss c w x read at ends
 
     by : (b : Bool) → is_filled v ≡ b → cond b (Some (written_of [] (lines_below (layout_of doc c) (below_mark (layout_of doc c) q v) v))) (Rattle.std.proofs.Common.option_map beside_mark (value_written false [] v)) ≡ Some y →
-        length (new_text (exchange_segments (lines_upto q x) y)) ≤ text_limit → ReadsAfter (replace doc (s ∷ ss) v) c (new_text (exchange_segments (lines_upto q x) y))
+        length (new_text (exchange_segments (lines_upto q x) y)) ≤ text_limit → CarriedOut (replace doc (s ∷ ss) v) c (exchange_segments (lines_upto q x) y)
     by true full e =
-        subst (λ (z : Written). length (new_text (exchange_segments (lines_upto q x) z)) ≤ text_limit → ReadsAfter (replace doc (s ∷ ss) v) c (new_text (exchange_segments (lines_upto q x) z))) (same_Some _ _ e)
-        (lines_read doc s ss c w x read at ends v value_tree (record { filled = filled_is v full; value = value_tree }) f.near may)
+        subst (λ (z : Written). length (new_text (exchange_segments (lines_upto q x) z)) ≤ text_limit → CarriedOut (replace doc (s ∷ ss) v) c (exchange_segments (lines_upto q x) z)) (same_Some _ _ e)
+        (lines_carried doc s ss c w x read at ends v value_tree (record { filled = filled_is v full; value = value_tree }) f.near may)
     by false full e =
         let m = map_some (value_written false [] v) e in
-        subst (λ (z : Written). length (new_text (exchange_segments (lines_upto q x) z)) ≤ text_limit → ReadsAfter (replace doc (s ∷ ss) v) c (new_text (exchange_segments (lines_upto q x) z))) m.2
-        (beside_reads doc s ss c w x read at ends v m.0 (written_for false [] v m.0 value_tree f.deep f.long m.1) may)
+        subst (λ (z : Written). length (new_text (exchange_segments (lines_upto q x) z)) ≤ text_limit → CarriedOut (replace doc (s ∷ ss) v) c (exchange_segments (lines_upto q x) z)) m.2
+        (beside_carried doc s ss c w x read at ends v m.0 (written_for false [] v m.0 value_tree f.deep f.long m.1) may)
 
-collection_reads : (doc : ℕ) (steps : List Step) (v : Node) (c : Cut) (us : List Segment) → read_at (cut_text c) ≡ Some c → replace_collection_way (replace doc steps v) c ≡ Some us → IsValueTree v → Fits (room_of (cut_text c)) (replace doc steps v) (documents c) →
-    length (new_text us) ≤ text_limit → ReadsAfter (replace doc steps v) c (new_text us)
-collection_reads doc steps v c us read e value_tree fits size =
+collection_carried : (doc : ℕ) (steps : List Step) (v : Node) (c : Cut) (us : List Segment) → read_at (cut_text c) ≡ Some c → replace_collection_way (replace doc steps v) c ≡ Some us → IsValueTree v → Fits (room_of (cut_text c)) (replace doc steps v) (documents c) →
+    length (new_text us) ≤ text_limit → CarriedOut (replace doc steps v) c us
+collection_carried doc steps v c us read e value_tree fits size =
     let k = collection_way doc steps v c us e in
-    subst (λ z. ReadsAfter (replace doc steps v) c (new_text z)) k.are
-    (subst (λ (p : List Step). ReadsAfter (replace doc p v) c (new_text (exchange_segments (lines_upto k.w k.x) k.y))) (sym k.steps_are)
-    (reads_there doc k.s k.ss v c k.w k.x k.y read k.at k.ends k.written value_tree (subst (λ (p : List Step). Fits (room_of (cut_text c)) (replace doc p v) (documents c)) k.steps_are fits)
+    subst (λ z. CarriedOut (replace doc steps v) c z) k.are
+    (subst (λ (p : List Step). CarriedOut (replace doc p v) c (exchange_segments (lines_upto k.w k.x) k.y)) (sym k.steps_are)
+    (carried_there doc k.s k.ss v c k.w k.x k.y read k.at k.ends k.written value_tree (subst (λ (p : List Step). Fits (room_of (cut_text c)) (replace doc p v) (documents c)) k.steps_are fits)
     (subst (λ z. length (new_text z) ≤ text_limit) (sym k.are) size)))
 
 pub replace_collection_is : IsWay replace_collection_way
@@ -297,8 +325,16 @@ replace_collection_is = record { old = old; reads = reads }
 
     reads : (op : Operation) (c : Cut) (us : List Segment) → read_at (cut_text c) ≡ Some c → replace_collection_way op c ≡ Some us → HasOperand op → Fits (room_of (cut_text c)) op (documents c) →
         length (new_text us) ≤ text_limit → ReadsAfter op c (new_text us)
-    reads (replace doc steps v) c us read is operand fits size = collection_reads doc steps v c us read is operand fits size
+    reads (replace doc steps v) c us read is operand fits size = (collection_carried doc steps v c us read is operand fits size).reads
     reads (append doc steps key v) c us read is operand fits size = absurd (none-some _ is)
     reads (remove doc steps) c us read is operand fits size = absurd (none-some _ is)
     reads (line_comment doc steps text) c us read is operand fits size = absurd (none-some _ is)
     reads (head_comment doc steps text) c us read is operand fits size = absurd (none-some _ is)
+
+pub replace_collection_local : IsLocalWay replace_collection_way
+unfolding replace_collection_way
+replace_collection_local (replace doc steps v) c us read is operand fits size = (collection_carried doc steps v c us read is operand fits size).local
+replace_collection_local (append doc steps key v) c us read is operand fits size = absurd (none-some _ is)
+replace_collection_local (remove doc steps) c us read is operand fits size = absurd (none-some _ is)
+replace_collection_local (line_comment doc steps text) c us read is operand fits size = absurd (none-some _ is)
+replace_collection_local (head_comment doc steps text) c us read is operand fits size = absurd (none-some _ is)

@@ -25,7 +25,6 @@ use Rattle.yq_tree.specs.DashPlaces.{DashPlace, dash_place}
 use Rattle.yq_tree.specs.PlacedRows.{row_of_path}
 use Rattle.yq_tree.specs.PrintedLines.{less_break, last_break}
 use Rattle.yq_documents.specs.Reading.{documents, outline_of, read_at, root_of}
-use Rattle.yq_tree.specs.RowPaths.{IsReadable}
 use Rattle.yq_tree.proofs.PrintedTexts.{less_is, map_some}
 use Rattle.yq_change.specs.Appends.{inserted}
 use Rattle.yq_change.specs.Changed.{put_document}
@@ -51,7 +50,13 @@ use Rattle.yq_ways.specs.Done.{ArePieces}
 use Rattle.yq_ways.specs.Layouts.{layout_of}
 use Rattle.yq_ways.specs.Operands.{HasOperand}
 use Rattle.yq_ways.specs.Replacing.{value_written}
+use Rattle.yq_ways.specs.Local.{InFirst, IsLocalWay}
 use Rattle.yq_ways.specs.Ways.{IsWay, ReadsAfter}
+use Rattle.yq_ways.proofs.CarriedLaws.{CarriedOut}
+use Rattle.yq_ways.proofs.OneLines.{break_line}
+use Rattle.yq_change.specs.Items.{rows_items}
+use Rattle.yq_block_ways.proofs.NodeCarriedLaws.{KeepsNode, node_carried}
+use Rattle.yq_block_ways.proofs.NodeLeads.{content_first, upto_long}
 use Rattle.yq_ways.proofs.AppendPlaces.{kept_pieces}
 use Rattle.yq_block_ways.proofs.BlockWritingLaws.{filled_is}
 use Rattle.yq_ways.proofs.BreakLaws.{IsLfOrCrLf, last_is}
@@ -59,11 +64,11 @@ use Rattle.yq_ways.proofs.BrokenTails.{quiet_tail}
 use Rattle.yq_ways.proofs.CommentPieceLaws.{nothing, byte_then, break_piece}
 use Rattle.yq_ways.proofs.CommentRowLaws.{row_found}
 use Rattle.yq_block_ways.proofs.CompactRows.{IsCompact, before_is, behind_is, column_is, dash_last, ends_in, inner_is, last_ends_line, node, unnamed, whole_text}
-use Rattle.yq_block_ways.proofs.DashValueLaws.{behind_rows, behind_spelled, takes_behind}
+use Rattle.yq_block_ways.proofs.DashValueLaws.{behind_first, behind_rows, behind_spelled, takes_behind}
 use Rattle.yq_ways.proofs.FitLaws.{FitsReplace, fits_replace}
 use Rattle.yq_ways.proofs.LayoutLaws.{mapping_least}
 use Rattle.yq_block_ways.proofs.MarkPieceLaws.{last_cut}
-use Rattle.yq_block_ways.proofs.NodeRowLaws.{NodeRows, TakesNode, no_comment, node_reads, q_text}
+use Rattle.yq_block_ways.proofs.NodeRowLaws.{NodeRows, TakesNode, no_comment, q_text}
 use Rattle.yq_block_ways.proofs.NodeRowLaws as rowed
 use Rattle.yq_block_ways.proofs.NodeValueLaws.{IsHolding, end_is, rows_beside, rows_under, takes_beside, takes_under}
 use Rattle.yq_ways.proofs.ReplaceLaws.{IsWrittenFor, written_for}
@@ -108,6 +113,19 @@ module _ (doc : ℕ) (s : Step) (ss : List Step) (c : Cut) (k : IsCompact doc s 
       ∙ (ap (λ o. k.d.before ++ (o ++ k.x.behind)) (less_is own ∙ inner_is doc s ss c k)
       ∙ (ap (λ b. k.d.before ++ b) (sym (ends_in doc s ss c k)) ∙ sym (whole_text doc s ss c k)))
 
+  -- what is kept
+  abbrev pub keeps : (t : List ℕ) → KeepsNode doc s ss c h (compact_segments p t)
+  keeps t = record {
+    lead = row_front h.mark;
+    trail = last;
+    before_is = append-nil k.d.before ∙ before_is doc s ss c k;
+    behind_is = ap (λ b. last ++ b) (append-nil k.x.behind ∙ behind_is doc s ss c k);
+    one = break_line last z (last_ends_line doc s ss c k);
+    begins = upto_long h.upto;
+    puts = refl;
+    old_is = old_there t;
+  }
+
   -- it is in pieces
   front_piece : IsPiece k.d.before
   front_piece =
@@ -140,15 +158,15 @@ module _ (doc : ℕ) (s : Step) (ss : List Step) (c : Cut) (k : IsCompact doc s 
     op = replace doc (s ∷ ss) v
 
     -- a text for which the document is known reads, where it may be read
-    reads_as : (new : List Row) → TakesNode doc s ss c h v new → (t : List ℕ) → rows_text new z ≡ row_front h.mark ++ (t ++ (last ++ z)) → IsPiece t →
-        length (new_text (compact_segments p t)) ≤ text_limit → ReadsAfter op c (new_text (compact_segments p t))
-    reads_as new takes t text piece size =
+    carried_as : (new : List Row) → TakesNode doc s ss c h v new → (t : List ℕ) → rows_text new z ≡ row_front h.mark ++ (t ++ (last ++ z)) → InFirst (row_front h.mark) (rows_items new []) → IsPiece t →
+        length (new_text (compact_segments p t)) ≤ text_limit → CarriedOut op c (compact_segments p t)
+    carried_as new takes t text begins piece size =
         let e : List ℕ = rows_text h.front [] in
         let m : List ℕ = row_front h.mark in
         let parts : h.start ++ (e ++ (m ++ (t ++ (last ++ z)))) ≡ ((h.start ++ e) ++ m) ++ (t ++ (last ++ z)) = simp append_assoc refl in
         let same : cut_text (put_document doc (inserted h.front new h.back h.p) c) ≡ new_text (compact_segments p t) =
         q_text doc s ss c h v new takes ∙ (ap (λ r. h.start ++ (e ++ r)) text ∙ (parts ∙ new_there t)) in
-        subst (ReadsAfter op c) same (node_reads doc s ss c h v new takes may (subst IsReadable (sym same) (segments_readable (compact_segments p t) (new_pieces t piece) size)))
+        node_carried doc s ss c h v new takes (compact_segments p t) (keeps t) may (segments_readable (compact_segments p t) (new_pieces t piece) size) same begins
 
     -- ---- inline behind the dash
 
@@ -161,9 +179,9 @@ module _ (doc : ℕ) (s : Step) (ss : List Step) (c : Cut) (k : IsCompact doc s 
           row_front-append (with_content (spaced for.node last) h.mark) z
           ∙ ap (λ r. row_front h.mark ++ (32 ∷ r)) (node_then for.node (last ++ z) ∙ ap (λ r. r ++ (last ++ z)) for.text)
 
-      pub beside_reads : length (new_text (compact_segments p (32 ∷ text))) ≤ text_limit → ReadsAfter op c (new_text (compact_segments p (32 ∷ text)))
-      beside_reads =
-          reads_as beside (takes_beside doc s ss c h v for.node for.is (Nothing last) (holding last z last_tail quiet)) (32 ∷ text) beside_text (byte_then 32 text refl for.piece)
+      pub beside_carried : length (new_text (compact_segments p (32 ∷ text))) ≤ text_limit → CarriedOut op c (compact_segments p (32 ∷ text))
+      beside_carried =
+          carried_as beside (takes_beside doc s ss c h v for.node for.is (Nothing last) (holding last z last_tail quiet)) (32 ∷ text) beside_text (content_first (spaced for.node last) h.mark) (byte_then 32 text refl for.piece)
 
     -- ---- in rows
 
@@ -178,10 +196,11 @@ module _ (doc : ℕ) (s : Step) (ss : List Step) (c : Cut) (k : IsCompact doc s 
       abbrev behind : List Row
       behind = behind_rows doc s ss c h l (mapping_least doc c) v filled near last refl (end_is doc s ss c h last last_tail) quiet no_comment (unnamed doc s ss c k)
 
-      compact_reads_so : length (new_text (compact_segments p (behind_space l (mark_column h.mark) v))) ≤ text_limit → ReadsAfter op c (new_text (compact_segments p (behind_space l (mark_column h.mark) v)))
-      compact_reads_so =
-          reads_as behind (takes_behind doc s ss c h l (mapping_least doc c) v filled near last refl (end_is doc s ss c h last last_tail) quiet no_comment (unnamed doc s ss c k)) (behind_space l (mark_column h.mark) v)
-          (behind_spelled doc s ss c h l (mapping_least doc c) v filled near last refl (end_is doc s ss c h last last_tail) quiet no_comment (unnamed doc s ss c k)) (byte_then 32 (block_value l column v) refl value_piece)
+      behind_carried : length (new_text (compact_segments p (behind_space l (mark_column h.mark) v))) ≤ text_limit → CarriedOut op c (compact_segments p (behind_space l (mark_column h.mark) v))
+      behind_carried =
+          carried_as behind (takes_behind doc s ss c h l (mapping_least doc c) v filled near last refl (end_is doc s ss c h last last_tail) quiet no_comment (unnamed doc s ss c k)) (behind_space l (mark_column h.mark) v)
+          (behind_spelled doc s ss c h l (mapping_least doc c) v filled near last refl (end_is doc s ss c h last last_tail) quiet no_comment (unnamed doc s ss c k))
+          (behind_first doc s ss c h l (mapping_least doc c) v filled near last refl (end_is doc s ss c h last last_tail) quiet no_comment (unnamed doc s ss c k)) (byte_then 32 (block_value l column v) refl value_piece)
 
       -- all on lines under it
       abbrev held : List ℕ
@@ -205,19 +224,19 @@ module _ (doc : ℕ) (s : Step) (ss : List Step) (c : Cut) (k : IsCompact doc s 
       lines_piece : IsPiece (lines_below l column v)
       lines_piece = pieces_joined held (replicate column 32 ++ block_value l column v) (break_piece l.br) (pieces_joined (replicate column 32) (block_value l column v) (spaces_piece column) value_piece)
 
-      under_reads : length (new_text (compact_segments p (lines_below l column v))) ≤ text_limit → ReadsAfter op c (new_text (compact_segments p (lines_below l column v)))
-      under_reads =
-          reads_as under (takes_under doc s ss c h l (mapping_least doc c) v filled near (Nothing held) last break_holds (end_is doc s ss c h last last_tail) quiet) (lines_below l column v) under_text lines_piece
+      under_carried : length (new_text (compact_segments p (lines_below l column v))) ≤ text_limit → CarriedOut op c (compact_segments p (lines_below l column v))
+      under_carried =
+          carried_as under (takes_under doc s ss c h l (mapping_least doc c) v filled near (Nothing held) last break_holds (end_is doc s ss c h last last_tail) quiet) (lines_below l column v) under_text (content_first (Nothing held) h.mark) lines_piece
 
-      pub filled_reads : length (new_text (compact_segments p (filled_behind l v k.d))) ≤ text_limit → ReadsAfter op c (new_text (compact_segments p (filled_behind l v k.d)))
-      filled_reads =
-          subst (λ n. length (new_text (compact_segments p (cond k.d.noted (lines_below l (item_column n) v) (behind_space l n v)))) ≤ text_limit → ReadsAfter op c (new_text (compact_segments p (cond k.d.noted (lines_below l (item_column n) v) (behind_space l n v)))))
+      pub filled_carried : length (new_text (compact_segments p (filled_behind l v k.d))) ≤ text_limit → CarriedOut op c (compact_segments p (filled_behind l v k.d))
+      filled_carried =
+          subst (λ n. length (new_text (compact_segments p (cond k.d.noted (lines_below l (item_column n) v) (behind_space l n v)))) ≤ text_limit → CarriedOut op c (compact_segments p (cond k.d.noted (lines_below l (item_column n) v) (behind_space l n v))))
           (sym (column_is doc s ss c k)) (go k.d.noted)
         where
           go : (b : Bool) → length (new_text (compact_segments p (cond b (lines_below l column v) (behind_space l (mark_column h.mark) v)))) ≤ text_limit →
-              ReadsAfter op c (new_text (compact_segments p (cond b (lines_below l column v) (behind_space l (mark_column h.mark) v))))
-          go true = under_reads
-          go false = compact_reads_so
+              CarriedOut op c (compact_segments p (cond b (lines_below l column v) (behind_space l (mark_column h.mark) v)))
+          go true = under_carried
+          go false = behind_carried
 
 -- ---- the way
 
@@ -254,9 +273,9 @@ compact_old doc steps v c us read e =
     let k = compact_way doc steps v c us read e in
     ap old_text (sym k.are) ∙ old_there doc k.s k.ss c k.there k.text
 
-reads_there : (doc : ℕ) (s : Step) (ss : List Step) (v : Node) (c : Cut) (k : IsCompact doc s ss c) (t : List ℕ) → value_behind (layout_of doc c) v k.d ≡ Some t → IsValueTree v → Fits (room_of (cut_text c)) (replace doc (s ∷ ss) v) (documents c) →
-    length (new_text (compact_segments (compact_upto k.d k.x) t)) ≤ text_limit → ReadsAfter (replace doc (s ∷ ss) v) c (new_text (compact_segments (compact_upto k.d k.x) t))
-reads_there doc s ss v c k t written value_tree fits = by (is_filled v) refl written
+carried_there : (doc : ℕ) (s : Step) (ss : List Step) (v : Node) (c : Cut) (k : IsCompact doc s ss c) (t : List ℕ) → value_behind (layout_of doc c) v k.d ≡ Some t → IsValueTree v → Fits (room_of (cut_text c)) (replace doc (s ∷ ss) v) (documents c) →
+    length (new_text (compact_segments (compact_upto k.d k.x) t)) ≤ text_limit → CarriedOut (replace doc (s ∷ ss) v) c (compact_segments (compact_upto k.d k.x) t)
+carried_there doc s ss v c k t written value_tree fits = by (is_filled v) refl written
   where
     h : NodeRows doc s ss c
     h = node doc s ss c k
@@ -270,23 +289,23 @@ reads_there doc s ss v c k t written value_tree fits = by (is_filled v) refl wri
     may : MayReplace v (content h.found.line h.found.under) (root_of h.p) (length (s ∷ ss))
     may = subst (λ q. MayReplace v q (root_of h.p) (length (s ∷ ss))) node_is f.may
 
-    ReadsSo : List ℕ → Type 0
-    ReadsSo t = length (new_text (compact_segments (compact_upto k.d k.x) t)) ≤ text_limit → ReadsAfter (replace doc (s ∷ ss) v) c (new_text (compact_segments (compact_upto k.d k.x) t))
+    CarriedSo : List ℕ → Type 0
+    CarriedSo t = length (new_text (compact_segments (compact_upto k.d k.x) t)) ≤ text_limit → CarriedOut (replace doc (s ∷ ss) v) c (compact_segments (compact_upto k.d k.x) t)
 
     by : (b : Bool) → is_filled v ≡ b → cond b (Some (filled_behind (layout_of doc c) v k.d)) (option_map (λ t. 32 ∷ t) (value_written false [] v)) ≡ Some t →
-        length (new_text (compact_segments (compact_upto k.d k.x) t)) ≤ text_limit → ReadsAfter (replace doc (s ∷ ss) v) c (new_text (compact_segments (compact_upto k.d k.x) t))
-    by true full e = subst ReadsSo (same_Some _ _ e) (filled_reads doc s ss c k v may value_tree (record { filled = filled_is v full; value = value_tree }) f.near)
+        length (new_text (compact_segments (compact_upto k.d k.x) t)) ≤ text_limit → CarriedOut (replace doc (s ∷ ss) v) c (compact_segments (compact_upto k.d k.x) t)
+    by true full e = subst CarriedSo (same_Some _ _ e) (filled_carried doc s ss c k v may value_tree (record { filled = filled_is v full; value = value_tree }) f.near)
     by false full e =
         let m = map_some (value_written false [] v) e in
-        subst ReadsSo m.2 (beside_reads doc s ss c k v may m.0 (written_for false [] v m.0 value_tree f.deep f.long m.1))
+        subst CarriedSo m.2 (beside_carried doc s ss c k v may m.0 (written_for false [] v m.0 value_tree f.deep f.long m.1))
 
-compact_reads : (doc : ℕ) (steps : List Step) (v : Node) (c : Cut) (us : List Segment) → read_at (cut_text c) ≡ Some c → replace_compact_way (replace doc steps v) c ≡ Some us → IsValueTree v → Fits (room_of (cut_text c)) (replace doc steps v) (documents c) →
-    length (new_text us) ≤ text_limit → ReadsAfter (replace doc steps v) c (new_text us)
-compact_reads doc steps v c us read e value_tree fits size =
+compact_carried : (doc : ℕ) (steps : List Step) (v : Node) (c : Cut) (us : List Segment) → read_at (cut_text c) ≡ Some c → replace_compact_way (replace doc steps v) c ≡ Some us → IsValueTree v → Fits (room_of (cut_text c)) (replace doc steps v) (documents c) →
+    length (new_text us) ≤ text_limit → CarriedOut (replace doc steps v) c us
+compact_carried doc steps v c us read e value_tree fits size =
     let k = compact_way doc steps v c us read e in
-    subst (λ z. ReadsAfter (replace doc steps v) c (new_text z)) k.are
-    (subst (λ (p : List Step). ReadsAfter (replace doc p v) c (new_text (compact_segments (compact_upto k.there.d k.there.x) k.text))) (sym k.steps_are)
-    (reads_there doc k.s k.ss v c k.there k.text k.written value_tree (subst (λ (p : List Step). Fits (room_of (cut_text c)) (replace doc p v) (documents c)) k.steps_are fits)
+    subst (λ z. CarriedOut (replace doc steps v) c z) k.are
+    (subst (λ (p : List Step). CarriedOut (replace doc p v) c (compact_segments (compact_upto k.there.d k.there.x) k.text)) (sym k.steps_are)
+    (carried_there doc k.s k.ss v c k.there k.text k.written value_tree (subst (λ (p : List Step). Fits (room_of (cut_text c)) (replace doc p v) (documents c)) k.steps_are fits)
     (subst (λ z. length (new_text z) ≤ text_limit) (sym k.are) size)))
 
 pub replace_compact_is : IsWay replace_compact_way
@@ -302,8 +321,16 @@ replace_compact_is = record { old = old; reads = reads }
 
     reads : (op : Operation) (c : Cut) (us : List Segment) → read_at (cut_text c) ≡ Some c → replace_compact_way op c ≡ Some us → HasOperand op → Fits (room_of (cut_text c)) op (documents c) →
         length (new_text us) ≤ text_limit → ReadsAfter op c (new_text us)
-    reads (replace doc steps v) c us read is operand fits size = compact_reads doc steps v c us read is operand fits size
+    reads (replace doc steps v) c us read is operand fits size = (compact_carried doc steps v c us read is operand fits size).reads
     reads (append doc steps key v) c us read is operand fits size = absurd (none-some _ is)
     reads (remove doc steps) c us read is operand fits size = absurd (none-some _ is)
     reads (line_comment doc steps text) c us read is operand fits size = absurd (none-some _ is)
     reads (head_comment doc steps text) c us read is operand fits size = absurd (none-some _ is)
+
+pub replace_compact_local : IsLocalWay replace_compact_way
+unfolding replace_compact_way
+replace_compact_local (replace doc steps v) c us read is operand fits size = (compact_carried doc steps v c us read is operand fits size).local
+replace_compact_local (append doc steps key v) c us read is operand fits size = absurd (none-some _ is)
+replace_compact_local (remove doc steps) c us read is operand fits size = absurd (none-some _ is)
+replace_compact_local (line_comment doc steps text) c us read is operand fits size = absurd (none-some _ is)
+replace_compact_local (head_comment doc steps text) c us read is operand fits size = absurd (none-some _ is)

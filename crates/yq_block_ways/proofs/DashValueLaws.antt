@@ -26,7 +26,9 @@ use Rattle.yq_block.proofs.LineLaws.{BeginAt, lines_deeper, node_begun, node_sta
 use Rattle.yq_block.proofs.PlaceLaws.{behind_laid, compact_lines}
 use Rattle.yq_block.proofs.RowLaws.{deeper_laid}
 use Rattle.yq_block.proofs.TextLaws.{value_spelled}
-use Rattle.yq_block_ways.proofs.BehindDashLaws.{behind_text, first_row, gap_same, keys_same, more_rows, rows_are}
+use Rattle.yq_change.specs.Items.{rows_items}
+use Rattle.yq_ways.specs.Local.{InFirst}
+use Rattle.yq_block_ways.proofs.BehindDashLaws.{behind_lead, behind_text, first_row, gap_same, keys_same, more_rows, rows_are}
 use Rattle.yq_block_ways.proofs.NodeRowLaws.{NodeRows, TakesNode, limit, rest, rows_there}
 use Rattle.yq_block_ways.proofs.NodeValueLaws.{upto_gap}
 
@@ -99,3 +101,6 @@ module _ (doc : ℕ) (s : Step) (ss : List Step) (c : Cut) (h : NodeRows doc s s
   -- their text
   pub behind_spelled : rows_text behind_rows (rest doc s ss c h) ≡ row_front h.mark ++ (32 ∷ (block_value l (item_column (mark_column h.mark)) v ++ (last ++ rest doc s ss c h)))
   behind_spelled = behind_text below h.mark rs (block_value l below v ++ (last ++ z)) z begun dash (value_spelled v l below last z filled.filled filled.value)
+
+  pub behind_first : InFirst (row_front h.mark) (rows_items behind_rows [])
+  behind_first = behind_lead below h.mark rs begun dash

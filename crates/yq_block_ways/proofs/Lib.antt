@@ -26,3 +26,6 @@ pub mod CompactAnswers
 pub mod CompactServing
 pub mod KeptAnchors
 pub mod ScalarCollectionRows
+pub mod NodeCarriedLaws
+pub mod NodeLeads
+pub mod ScalarCarriedLaws

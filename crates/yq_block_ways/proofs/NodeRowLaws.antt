@@ -253,7 +253,7 @@ module _ (doc : ℕ) (s : Step) (ss : List Step) (c : Cut) (h : NodeRows doc s s
     node_is = λ i. anchored (t.anchor i) (t.value_is i);
   }
 
-  q_rows : q.rows ≡ h.front ++ (new ++ h.back)
+  pub q_rows : q.rows ≡ h.front ++ (new ++ h.back)
   q_rows = ap (λ rs. h.front ++ (new ++ rs)) (own_gap h.back h.p.end)
 
   -- the text
@@ -279,12 +279,16 @@ module _ (doc : ℕ) (s : Step) (ss : List Step) (c : Cut) (h : NodeRows doc s s
       ap begins_no_node lines
       ∙ (no_node_first (lines_of h.front ++ dashes_of h.mark) now was (flatten t.under ++ lines_of h.back) ((lines_upto h.upto h.under).0 ++ lines_of h.back) refl ∙ sym (ap begins_no_node (old_lines doc s ss c h)))
 
+  pub node_changed : MayReplace v (content h.found.line h.found.under) (root_of h.p) (length (s ∷ ss)) → IsReadable (cut_text (put_document doc (inserted h.front new h.back h.p) c)) →
+      IsChanged c (put_document doc (inserted h.front new h.back h.p) c) doc (lead_of h.p) (change (s ∷ ss) (replaced v))
+  node_changed may readable =
+      node_rows_replaced (cut_text c) c doc h.p s ss h.found v h.front (h.row ∷ h.under) new h.back (dashes_of h.mark) (line_with h.mark h.mark.content ∷ (lines_upto h.upto h.under).0) t.level (line_with h.mark t.content) t.under h.old h.is
+      replace_rows takes_lines fits may readable
+
   pub node_reads : MayReplace v (content h.found.line h.found.under) (root_of h.p) (length (s ∷ ss)) → IsReadable (cut_text (put_document doc (inserted h.front new h.back h.p) c)) →
       ReadsAfter (replace doc (s ∷ ss) v) c (cut_text (put_document doc (inserted h.front new h.back h.p) c))
   node_reads may readable =
-      let changed : IsChanged c (put_document doc q c) doc (lead_of h.p) (change (s ∷ ss) (replaced v)) =
-      node_rows_replaced (cut_text c) c doc h.p s ss h.found v h.front (h.row ∷ h.under) new h.back (dashes_of h.mark) (line_with h.mark h.mark.content ∷ (lines_upto h.upto h.under).0) t.level (line_with h.mark t.content) t.under h.old h.is
-      replace_rows takes_lines fits may readable in
+      let changed : IsChanged c (put_document doc q c) doc (lead_of h.p) (change (s ∷ ss) (replaced v)) = node_changed may readable in
       document_done (replace doc (s ∷ ss) v) c h.p q (lead_of h.p) (change (s ∷ ss) (replaced v)) (record {
         read = h.old.read;
         there = h.old.there;

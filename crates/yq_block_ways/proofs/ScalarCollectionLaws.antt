@@ -20,13 +20,15 @@ use Rattle.yq_script.specs.Script.{Segment, old_text, new_text}
 use Rattle.yq_ways.specs.Layouts.{layout_of}
 use Rattle.yq_ways.specs.Operands.{HasOperand}
 use Rattle.yq_block_ways.specs.ScalarCollection.{collection_segments, scalar_collection_way}
+use Rattle.yq_ways.specs.Local.{IsLocalWay}
 use Rattle.yq_ways.specs.Ways.{IsWay, ReadsAfter}
+use Rattle.yq_ways.proofs.CarriedLaws.{CarriedOut}
 use Rattle.yq_block_ways.proofs.BlockWritingLaws.{filled_is}
 use Rattle.yq_ways.proofs.FitLaws.{fits_replace}
 use Rattle.yq_ways.proofs.LayoutLaws.{mapping_least}
 use Rattle.yq_block_ways.proofs.ScalarRowLaws.{HasScalar, scalar_has, p, node_there}
 use Rattle.yq_block_ways.proofs.ScalarTextLaws.{there_is}
-use Rattle.yq_block_ways.proofs.ScalarCollectionRows.{old_there, collection_reads}
+use Rattle.yq_block_ways.proofs.ScalarCollectionRows.{old_there, collection_carried}
 
 -- ---- the way
 
@@ -42,9 +44,9 @@ way_old doc steps v c us read is =
     let n = scalar_has doc steps c a.1 read a.2 in
     ap old_text (sym a.3) ∙ subst (λ (y : ScalarPlace). old_text (collection_segments (layout_of doc c) v y) ≡ cut_text c) (there_is doc n.0 n.1 c a.1 n.3) (old_there doc n.0 n.1 c a.1 n.3 (layout_of doc c) v)
 
-way_reads : (doc : ℕ) (steps : List Step) (v : Node) (c : Cut) (us : List Segment) → read_at (cut_text c) ≡ Some c → scalar_collection_way (replace doc steps v) c ≡ Some us → IsValueTree v → Fits (room_of (cut_text c)) (replace doc steps v) (documents c) →
-    length (new_text us) ≤ text_limit → ReadsAfter (replace doc steps v) c (new_text us)
-way_reads doc steps v c us read is value_tree fits size =
+way_carried : (doc : ℕ) (steps : List Step) (v : Node) (c : Cut) (us : List Segment) → read_at (cut_text c) ≡ Some c → scalar_collection_way (replace doc steps v) c ≡ Some us → IsValueTree v → Fits (room_of (cut_text c)) (replace doc steps v) (documents c) →
+    length (new_text us) ≤ text_limit → CarriedOut (replace doc steps v) c us
+way_carried doc steps v c us read is value_tree fits size =
     let a = scalar_at doc steps v c us is in
     let n = scalar_has doc steps c a.1 read a.2 in
     let y : HasScalar doc n.0 n.1 c a.1 = n.3 in
@@ -53,9 +55,9 @@ way_reads doc steps v c us read is value_tree fits size =
     let at : node_at (n.0 ∷ n.1) (root_of part) ≡ Some f.node = ap (λ q. node_at q (root_of part)) (sym n.2) ∙ f.there in
     let may : MayReplace v (content y.leads.found.line y.leads.found.under) (root_of part) (length (n.0 ∷ n.1)) =
     subst (λ q. MayReplace v q (root_of part) (length (n.0 ∷ n.1))) (sym (node_there doc n.0 n.1 c a.1 y f.node at)) (subst (λ q. MayReplace v f.node (root_of part) (length q)) n.2 f.may) in
-    let done = collection_reads doc n.0 n.1 c a.1 y (layout_of doc c) (mapping_least doc c) v value_tree (record { filled = filled_is v a.0; value = value_tree }) f.near may in
-    subst (λ q. ReadsAfter (replace doc q v) c (new_text us)) (sym n.2)
-    (subst (λ q. length (new_text q) ≤ text_limit → ReadsAfter (replace doc (n.0 ∷ n.1) v) c (new_text q)) (ap (collection_segments (layout_of doc c) v) (there_is doc n.0 n.1 c a.1 y) ∙ a.3) done size)
+    let done = collection_carried doc n.0 n.1 c a.1 y (layout_of doc c) (mapping_least doc c) v value_tree (record { filled = filled_is v a.0; value = value_tree }) f.near may in
+    subst (λ q. CarriedOut (replace doc q v) c us) (sym n.2)
+    (subst (λ q. length (new_text q) ≤ text_limit → CarriedOut (replace doc (n.0 ∷ n.1) v) c q) (ap (collection_segments (layout_of doc c) v) (there_is doc n.0 n.1 c a.1 y) ∙ a.3) done size)
 
 pub scalar_collection_is : IsWay scalar_collection_way
 unfolding scalar_collection_way
@@ -70,8 +72,16 @@ scalar_collection_is = record { old = old; reads = reads }
 
     reads : (op : Operation) (c : Cut) (us : List Segment) → read_at (cut_text c) ≡ Some c → scalar_collection_way op c ≡ Some us → HasOperand op → Fits (room_of (cut_text c)) op (documents c) →
         length (new_text us) ≤ text_limit → ReadsAfter op c (new_text us)
-    reads (replace doc steps v) c us read is operand fits size = way_reads doc steps v c us read is operand fits size
+    reads (replace doc steps v) c us read is operand fits size = (way_carried doc steps v c us read is operand fits size).reads
     reads (append doc steps key v) c us read is operand fits size = absurd (none-some _ is)
     reads (remove doc steps) c us read is operand fits size = absurd (none-some _ is)
     reads (line_comment doc steps text) c us read is operand fits size = absurd (none-some _ is)
     reads (head_operation doc steps text) c us read is operand fits size = absurd (none-some _ is)
+
+pub scalar_collection_local : IsLocalWay scalar_collection_way
+unfolding scalar_collection_way
+scalar_collection_local (replace doc steps v) c us read is operand fits size = (way_carried doc steps v c us read is operand fits size).local
+scalar_collection_local (append doc steps key v) c us read is operand fits size = absurd (none-some _ is)
+scalar_collection_local (remove doc steps) c us read is operand fits size = absurd (none-some _ is)
+scalar_collection_local (line_comment doc steps text) c us read is operand fits size = absurd (none-some _ is)
+scalar_collection_local (head_operation doc steps text) c us read is operand fits size = absurd (none-some _ is)

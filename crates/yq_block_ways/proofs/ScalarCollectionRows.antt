@@ -17,14 +17,13 @@ use Rattle.yq_rows.specs.Exchange.{row_front, with_content}
 use Rattle.yq_rows.specs.Gap.{IsWhite}
 use Rattle.yq_rows.specs.Grammar.{IsTail}
 use Rattle.yq_rows.specs.Rows as rows
-use Rattle.yq_rows.specs.Rows.{Anchor, Content, Nothing, Inline, Block, anchor_text, content_text, Row, mark_column, parent_indent, rows_text, Part, part_text, Cut, cut_text}
+use Rattle.yq_rows.specs.Rows.{Anchor, Content, Nothing, Inline, Block, anchor_text, content_text, Row, print_row, mark_column, parent_indent, rows_text, Part, part_text, Cut, cut_text}
 use Rattle.yq_rows.specs.View.{slices}
 use Rattle.yq_rows.proofs.NodeExchange.{mark_apart}
 use Rattle.yq_rows.proofs.PlaceLaws.{row_front-append}
 use Rattle.yq_documents.specs.Lines.{block_anchor, content_anchor, tail_of}
 use Rattle.yq_documents.specs.Nodes.{anchor_of}
 use Rattle.yq_documents.specs.Reading.{root_of}
-use Rattle.yq_tree.specs.RowPaths.{IsReadable}
 use Rattle.yq_tree.specs.ScalarPlaces.{ScalarPlace, anchor_before, space_before}
 use Rattle.yq_tree.proofs.LineEndLaws.{header_tail}
 use Rattle.yq_change.specs.Appends.{inserted}
@@ -44,9 +43,15 @@ use Rattle.yq_meaning.specs.Operations.{replace}
 use Rattle.yq_script.specs.Script.{Segment, old_text, new_text}
 use Rattle.yq_block_ways.specs.ScalarCollection.{below_scalar, rows_in, rows_segments, dash_segments, begins_on_line, collection_segments}
 use Rattle.yq_block_ways.specs.ScalarReplacing.{header_end, break_before, final_break}
-use Rattle.yq_ways.specs.Ways.{ReadsAfter}
+use Rattle.yq_tree.specs.ScalarPlaces.{anchor_before}
+use Rattle.yq_change.specs.Items.{rows_items}
+use Rattle.yq_ways.specs.Local.{InFirst}
+use Rattle.yq_ways.proofs.CarriedLaws.{CarriedOut}
+use Rattle.yq_ways.proofs.OneLines.{is_one_line}
+use Rattle.yq_block_ways.proofs.NodeCarriedLaws.{KeepsNode, node_carried}
+use Rattle.yq_block_ways.proofs.NodeLeads.{own_lead, upto_long, first_lead}
 use Rattle.yq_block_ways.proofs.BehindDashLaws.{is_dash}
-use Rattle.yq_block_ways.proofs.DashValueLaws.{behind_rows, behind_spelled, takes_behind}
+use Rattle.yq_block_ways.proofs.DashValueLaws.{behind_first, behind_rows, behind_spelled, takes_behind}
 use Rattle.yq_block_ways.proofs.BlockWritingLaws.{same_below}
 use Rattle.yq_ways.proofs.BreakLaws.{IsLfOrCrLf}
 use Rattle.yq_ways.proofs.BrokenTails.{quiet_tail}
@@ -54,11 +59,11 @@ use Rattle.yq_ways.proofs.CommentPieceLaws.{break_piece, byte_then}
 use Rattle.yq_block_ways.proofs.EntryRows.{entry_named, entry_rows}
 use Rattle.yq_block_ways.proofs.KeptAnchors.{kept, kept_holds, kept_tail, kept_anchor, kept_stands, kept_apart, front_kept, white_begins, white_before, none_anchor, nothing_before}
 use Rattle.yq_block_ways.proofs.MarkRowLaws.{indent_column, keyed_is}
-use Rattle.yq_block_ways.proofs.NodeRowLaws.{NodeRows, TakesNode, node_reads, q_text}
+use Rattle.yq_block_ways.proofs.NodeRowLaws.{NodeRows, TakesNode, q_text}
 use Rattle.yq_block_ways.proofs.NodeValueLaws.{IsHolding, end_is, mark_key, rows_under, takes_under}
 use Rattle.yq_block_ways.proofs.ScalarLineLaws.{mark_is, new_tail, same_comment, tail_stands}
 use Rattle.yq_block_ways.proofs.ScalarRowLaws.{HasScalar, p, front, r, back, rest, rows_there, entry, valid}
-use Rattle.yq_block_ways.proofs.ScalarTextLaws.{base, there, row_is, old_is, tail, header_is, lines_are, is_break_line, head_is_piece, end_piece, final_piece, own_tail_piece, rest_piece}
+use Rattle.yq_block_ways.proofs.ScalarTextLaws.{base, there, row_is, old_is, final_there, tail, header_is, lines_are, is_break_line, head_is_piece, end_piece, final_piece, own_tail_piece, rest_piece}
 
 either_break : (br : Break) → IsLfOrCrLf (break_text br)
 either_break Lf = inl refl
@@ -66,6 +71,10 @@ either_break CrLf = inr refl
 
 abbrev end_of_break : (br : Break) (u : List ℕ) → IsTail (break_text br) u
 end_of_break br u = record { white = []; comment = []; line = record { break = break_text br; spelled = refl; blank = tt; remark = tt; ends = inl (is_break_line (break_text br) (either_break br)) }; apart = refl }
+
+break_of_line : (b : List ℕ) → IsLfOrCrLf b → is_one_line b ≡ true
+break_of_line b (inl e) = ap is_one_line e
+break_of_line b (inr e) = ap is_one_line e
 
 -- ---- the rows of the entry or item
 
@@ -133,20 +142,20 @@ module _ (doc : ℕ) (s : Step) (ss : List Step) (c : Cut) (w : ScalarPlace) (h 
 
   -- ---- the old text
 
+  rows_old : (l : Layout) (v : Node) → old_text (rows_segments l v k) ≡ cut_text c
+  rows_old l v = ap (λ u. k.before ++ (k.space ++ (k.header ++ (k.tail ++ (k.raw ++ u))))) (append-nil z) ∙ sym (old_is doc s ss c w h)
+
+  dash_old : (l : Layout) (v : Node) → old_text (dash_segments l v k) ≡ cut_text c
+  dash_old l v =
+      ap (λ u. k.before ++ (k.space ++ (k.header ++ ((header_end k).white ++ ((header_end k).comment ++ (break_before k ++ (Rattle.yq_tree.specs.PrintedLines.less_break k.raw ++ (final_break k ++ u)))))))) (append-nil z)
+      ∙ (ap (λ u. k.before ++ (k.space ++ (k.header ++ u))) (lines_are doc s ss c w h) ∙ sym (old_is doc s ss c w h))
+
   pub old_there : (l : Layout) (v : Node) → old_text (collection_segments l v k) ≡ cut_text c
   old_there l v = go (begins_on_line k)
     where
-      rows_old : old_text (rows_segments l v k) ≡ cut_text c
-      rows_old = ap (λ u. k.before ++ (k.space ++ (k.header ++ (k.tail ++ (k.raw ++ u))))) (append-nil z) ∙ sym (old_is doc s ss c w h)
-
-      dash_old : old_text (dash_segments l v k) ≡ cut_text c
-      dash_old =
-          ap (λ u. k.before ++ (k.space ++ (k.header ++ ((header_end k).white ++ ((header_end k).comment ++ (break_before k ++ (Rattle.yq_tree.specs.PrintedLines.less_break k.raw ++ (final_break k ++ u)))))))) (append-nil z)
-          ∙ (ap (λ u. k.before ++ (k.space ++ (k.header ++ u))) (lines_are doc s ss c w h) ∙ sym (old_is doc s ss c w h))
-
       go : (b : Bool) → old_text (cond b (dash_segments l v k) (rows_segments l v k)) ≡ cut_text c
-      go true = dash_old
-      go false = rows_old
+      go true = dash_old l v
+      go false = rows_old l v
 
   -- ---- rows
 
@@ -154,12 +163,11 @@ module _ (doc : ℕ) (s : Step) (ss : List Step) (c : Cut) (w : ScalarPlace) (h 
     value_piece : (column : ℕ) → IsPiece (block_value l column v)
     value_piece column = let e = value_sound v l column value_tree in record { utf8 = e.0; characters = e.1 }
 
-    reads_as : (new : List Row) → TakesNode doc s ss c own_rows v new → (us : List Segment) → h.found.s.before ++ (rows_text (front doc s ss c w h) [] ++ rows_text new zr) ≡ new_text us → IsPiece (new_text us) →
-        length (new_text us) ≤ text_limit → ReadsAfter (replace doc (s ∷ ss) v) c (new_text us)
-    reads_as new takes us text piece size =
+    carried_as : (new : List Row) → TakesNode doc s ss c own_rows v new → (us : List Segment) (n : KeepsNode doc s ss c own_rows us) → h.found.s.before ++ (rows_text (front doc s ss c w h) [] ++ rows_text new zr) ≡ new_text us →
+        InFirst n.lead (rows_items new []) → IsPiece (new_text us) → length (new_text us) ≤ text_limit → CarriedOut (replace doc (s ∷ ss) v) c us
+    carried_as new takes us n text begins piece size =
         let same : cut_text (put_document doc (inserted (front doc s ss c w h) new (back doc s ss c w h) d) c) ≡ new_text us = q_text doc s ss c own_rows v new takes ∙ text in
-        subst (ReadsAfter (replace doc (s ∷ ss) v) c) same
-        (node_reads doc s ss c own_rows v new takes may (subst IsReadable (sym same) (record { utf8 = is_utf8-from_IsUtf8 (new_text us) piece.utf8; characters = piece.characters; size = size })))
+        node_carried doc s ss c own_rows v new takes us n may (record { utf8 = is_utf8-from_IsUtf8 (new_text us) piece.utf8; characters = piece.characters; size = size }) same begins
 
     -- under the key or dash
     abbrev below : ℕ
@@ -200,8 +208,30 @@ module _ (doc : ℕ) (s : Step) (ss : List Step) (c : Cut) (w : ScalarPlace) (h 
         let lines : IsPiece (rows_in l b v) = pieces_joined (replicate b 32) (block_value l b v ++ break_text l.br) (spaces_piece b) (pieces_joined (block_value l b v) (break_text l.br) (value_piece b) (break_piece l.br)) in
         subst IsPiece parts (pieces_joined k.before (t ++ (rows_in l b v ++ z)) before_piece (pieces_joined t (rows_in l b v ++ z) (own_tail_piece doc s ss c w h) (pieces_joined (rows_in l b v) z lines (rest_piece doc s ss c w h))))
 
-    pub rows_read : length (new_text (rows_segments l v k)) ≤ text_limit → ReadsAfter (replace doc (s ∷ ss) v) c (new_text (rows_segments l v k))
-    rows_read = reads_as new_rows (takes_under doc s ss c own_rows l step v filled near x last (holding (rows_text (node_rows l below last v) zr)) last_end quiet_last) (rows_segments l v k) rows_text_is rows_piece
+    abbrev rows_kept : KeepsNode doc s ss c own_rows (rows_segments l v k)
+    rows_kept = record {
+      lead = row_front row ++ anchor_before (slices row);
+      trail = [];
+      before_is = append-nil k.before ∙ append_assoc (h.found.s.before ++ rows_text (front doc s ss c w h) []) (row_front row) (anchor_before (slices row));
+      behind_is = append-nil z ∙ sym rest_same;
+      one = refl;
+      begins = own_lead row;
+      puts = refl;
+      old_is = rows_old l v;
+    }
+
+    rows_first : InFirst (row_front row ++ anchor_before (slices row)) (rows_items (with_content x row ∷ node_rows l below last v) [])
+    rows_first =
+        let a : List ℕ = h.found.s.before in
+        let b : List ℕ = rows_text (front doc s ss c w h) [] in
+        let text : a ++ (b ++ print_row (with_content x row) []) ≡ k.before ++ (t ++ []) =
+        ap (λ y. a ++ (b ++ y)) (row_front-append (with_content x row) [])
+        ∙ (sym (append_assoc a b (row_front row ++ content_text x [])) ∙ (sym (append_assoc (a ++ b) (row_front row) (content_text x [])) ∙ sym (text_kept []))) in
+        first_lead a b (print_row (with_content x row) []) k.before (t ++ []) _ text (append_assoc (a ++ b) (row_front row) (anchor_before (slices row)))
+
+    pub rows_carried : length (new_text (rows_segments l v k)) ≤ text_limit → CarriedOut (replace doc (s ∷ ss) v) c (rows_segments l v k)
+    rows_carried =
+        carried_as new_rows (takes_under doc s ss c own_rows l step v filled near x last (holding (rows_text (node_rows l below last v) zr)) last_end quiet_last) (rows_segments l v k) rows_kept rows_text_is rows_first rows_piece
 
     -- on the line of a dash
     module _ (on_line : begins_on_line k ≡ true) where
@@ -271,12 +301,26 @@ module _ (doc : ℕ) (s : Step) (ss : List Step) (c : Cut) (w : ScalarPlace) (h 
           (pieces_joined (32 ∷ q) ((e ++ f) ++ (g ++ z)) (byte_then 32 q refl (value_piece (item_column k.column)))
           (pieces_joined (e ++ f) (g ++ z) (end_piece doc s ss c w h) (pieces_joined g z (final_piece doc s ss c w h) (rest_piece doc s ss c w h)))))
 
-      dash_reads : length (new_text (dash_segments l v k)) ≤ text_limit → ReadsAfter (replace doc (s ∷ ss) v) c (new_text (dash_segments l v k))
-      dash_reads = reads_as dash_rows (takes_behind doc s ss c own_rows l step v filled near nt dash ends quiet_new no_old unnamed) (dash_segments l v k) dash_text_is dash_piece
+      abbrev dash_kept : KeepsNode doc s ss c own_rows (dash_segments l v k)
+      dash_kept = record {
+        lead = row_front row;
+        trail = final_break k;
+        before_is = append-nil k.before ∙ before_is;
+        behind_is = ap (λ y. final_break k ++ y) (append-nil z ∙ sym rest_same);
+        one = break_of_line (final_break k) (final_there doc s ss c w h);
+        begins = upto_long own_rows.upto;
+        puts = refl;
+        old_is = dash_old l v;
+      }
 
-    pub collection_reads : length (new_text (collection_segments l v k)) ≤ text_limit → ReadsAfter (replace doc (s ∷ ss) v) c (new_text (collection_segments l v k))
-    collection_reads = go (begins_on_line k) refl
+      dash_carried : length (new_text (dash_segments l v k)) ≤ text_limit → CarriedOut (replace doc (s ∷ ss) v) c (dash_segments l v k)
+      dash_carried =
+          carried_as dash_rows (takes_behind doc s ss c own_rows l step v filled near nt dash ends quiet_new no_old unnamed) (dash_segments l v k) dash_kept dash_text_is
+          (behind_first doc s ss c own_rows l step v filled near nt dash ends quiet_new no_old unnamed) dash_piece
+
+    pub collection_carried : length (new_text (collection_segments l v k)) ≤ text_limit → CarriedOut (replace doc (s ∷ ss) v) c (collection_segments l v k)
+    collection_carried = go (begins_on_line k) refl
       where
-        go : (b : Bool) → begins_on_line k ≡ b → length (new_text (cond b (dash_segments l v k) (rows_segments l v k))) ≤ text_limit → ReadsAfter (replace doc (s ∷ ss) v) c (new_text (cond b (dash_segments l v k) (rows_segments l v k)))
-        go true e = dash_reads e
-        go false e = rows_read
+        go : (b : Bool) → begins_on_line k ≡ b → length (new_text (cond b (dash_segments l v k) (rows_segments l v k))) ≤ text_limit → CarriedOut (replace doc (s ∷ ss) v) c (cond b (dash_segments l v k) (rows_segments l v k))
+        go true e = dash_carried e
+        go false e = rows_carried

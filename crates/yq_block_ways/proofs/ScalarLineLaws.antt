@@ -1,5 +1,5 @@
 -- A block scalar gives way to a value that is written inline on the line of its header.
-use Rattle.std.proofs.Common.{◌≡◌, inl, ℕ, ◌≤◌, cond, not, List, [], ◌∷◌, ◌++◌, length, Option, Some, None, Bool, true, false, refl, sym, ap, ◌∙◌, subst, append_assoc, append-nil}
+use Rattle.std.proofs.Common.{arith, length-append, inr, ◌≡◌, inl, ℕ, ◌≤◌, cond, not, List, [], ◌∷◌, ◌++◌, length, Option, Some, None, Bool, true, false, refl, sym, ap, ◌∙◌, subst, append_assoc, append-nil}
 use Rattle.std.proofs.lemmas.Option.{none-some, same_Some}
 use Rattle.std.proofs.lemmas.Str.{is_utf8-from_IsUtf8}
 use Rattle.yq_scalar.specs.Block.{block_text}
@@ -13,7 +13,6 @@ use Rattle.yq_scalar.specs.Tree as tree
 use Rattle.yq_scalar.specs.Tree.{Node}
 use Rattle.yq_scalar.specs.Writable.{can_write, is_string}
 use Rattle.yq_scalar.specs.Written.{double}
-use Rattle.yq_scalar.specs.declared.block_header.BlockStyle.TheVariants as block_styles
 use Rattle.yq_scalar.specs.declared.style.Place.TheVariants as places
 use Rattle.yq_scalar.specs.declared.style.Style.TheVariants as styles
 use Rattle.yq_scalar.proofs.Bools.{bind_some}
@@ -38,7 +37,7 @@ use Rattle.yq_documents.specs.Lines.{block_anchor}
 use Rattle.yq_documents.specs.Reading as reading
 use Rattle.yq_documents.specs.Reading.{documents, read_at, root_of}
 use Rattle.yq_tree.specs.RowPaths.{IsReadable}
-use Rattle.yq_tree.specs.ScalarPlaces.{ScalarPlace, scalar_place}
+use Rattle.yq_tree.specs.ScalarPlaces.{anchor_before, ScalarPlace, scalar_place}
 use Rattle.yq_documents.specs.TreeEdits.{led, replaced}
 use Rattle.yq_tree.proofs.PrintedTexts.{map_some}
 use Rattle.yq_tree.proofs.WrittenLaws.{may_follow}
@@ -58,19 +57,22 @@ use Rattle.yq_meaning.specs.Changes.{has_long_key}
 use Rattle.yq_meaning.specs.Fits.{Fits}
 use Rattle.yq_meaning.specs.Operations.{Operation, replace, append, remove, line_comment, head_comment}
 use Rattle.yq_meaning.specs.Rooms.{room_of}
-use Rattle.yq_script.specs.Script.{Segment, old_text, new_text}
+use Rattle.yq_script.specs.Script.{AllStay, Segment, old_text, new_text}
 use Rattle.yq_ways.specs.Operands.{HasOperand}
 use Rattle.yq_tree.specs.NodesAt.{node_in, scalar_in}
 use Rattle.yq_ways.specs.Replacing.{are_same, is_kept, value_written}
 use Rattle.yq_block_ways.specs.ScalarReplacing.{has_text, header_end, final_break, line_written, line_segments, scalar_segments, line_at, scalar_line_way}
+use Rattle.yq_ways.specs.Local.{IsLocalWay}
 use Rattle.yq_ways.specs.Ways.{IsWay, ReadsAfter}
+use Rattle.yq_ways.proofs.CarriedLaws.{CarriedOut}
+use Rattle.yq_block_ways.proofs.ScalarCarriedLaws.{KeepsScalar, scalar_carried}
 use Rattle.yq_ways.proofs.BrokenTails.{broken_tail, broken_comment}
 use Rattle.yq_ways.proofs.DoneLaws.{nth_map, document_done}
 use Rattle.yq_ways.proofs.FitLaws.{fits_replace}
 use Rattle.yq_ways.proofs.KeptLaws.{same_node}
 use Rattle.yq_ways.proofs.ReplaceLaws.{IsWrittenFor, scalar_for, written_for}
 use Rattle.yq_ways.proofs.SamePlaceLaws.{put_own, nth_own, change_own}
-use Rattle.yq_block_ways.proofs.ScalarRowLaws.{HasScalar, scalar_has, p, front, r, back, beyond, rest, rows_there, entry, near, valid, TakesScalar, part_with, text_with, scalar_reads}
+use Rattle.yq_block_ways.proofs.ScalarRowLaws.{HasScalar, scalar_has, p, front, r, back, beyond, rest, rows_there, entry, near, valid, TakesScalar, part_with, text_with}
 use Rattle.yq_block_ways.proofs.ScalarTextLaws.{base, there, there_is, row_is, front_text, old_is, tail, break_of, header_is, final_there, lines_are, head_is_piece, end_piece, rest_piece, final_piece, tail_pairs}
 
 -- ---- an inline node behind the anchor of a block scalar
@@ -185,12 +187,30 @@ module _ (doc : ℕ) (s : Step) (ss : List Step) (c : Cut) (w : ScalarPlace) (h 
       (pieces_joined t ((e ++ f) ++ (g ++ z)) piece (pieces_joined (e ++ f) (g ++ z) (end_piece doc s ss c w h) (pieces_joined g z (final_piece doc s ss c w h) (rest_piece doc s ss c w h))))) in
       record { utf8 = is_utf8-from_IsUtf8 _ whole.utf8; characters = whole.characters; size = size }
 
-  pub line_reads : (v n : Node) (t : List ℕ) → IsWrittenFor v t → node_at (s ∷ ss) (root_of (p doc s ss c w h)) ≡ Some n → Rattle.yq_change.specs.SoundRoots.MayReplace v n (root_of (p doc s ss c w h)) (length (s ∷ ss)) →
-      length (new_text (line_segments k t)) ≤ text_limit → ReadsAfter (replace doc (s ∷ ss) v) c (new_text (line_segments k t))
-  line_reads v n t x there' may size =
+  pub line_old_text : (t : List ℕ) → old_text (line_segments k t) ≡ cut_text c
+  line_old_text t =
+      ap (λ u. k.before ++ (k.space ++ (k.header ++ ((header_end k).white ++ ((header_end k).comment ++ (Rattle.yq_block_ways.specs.ScalarReplacing.break_before k ++ (Rattle.yq_tree.specs.PrintedLines.less_break k.raw ++ (final_break k ++ u)))))))) (append-nil z)
+      ∙ (ap (λ u. k.before ++ (k.space ++ (k.header ++ u))) (lines_are doc s ss c w h) ∙ sym (old_is doc s ss c w h))
+
+  -- what is kept in front ends behind the row's beginning
+  pub front_kept : length (h.found.s.before ++ rows_text (front doc s ss c w h) []) ≤ length (k.before ++ (k.space ++ []))
+  front_kept =
+      let a : List ℕ = h.found.s.before ++ rows_text (front doc s ss c w h) [] in
+      omega (arith, length-append k.before (k.space ++ []), length-append (a ++ row_front row) (anchor_before (slices row)), length-append a (row_front row))
+
+  line_kept : (t : List ℕ) → KeepsScalar doc s ss c w h (line_segments k t)
+  line_kept t = record {
+    before = front_kept;
+    behind = omega (arith, length-append (final_break k) (z ++ []), length-append z []);
+    puts = refl;
+    old_is = line_old_text t;
+  }
+
+  pub line_carried : (v n : Node) (t : List ℕ) → IsWrittenFor v t → node_at (s ∷ ss) (root_of (p doc s ss c w h)) ≡ Some n → Rattle.yq_change.specs.SoundRoots.MayReplace v n (root_of (p doc s ss c w h)) (length (s ∷ ss)) →
+      length (new_text (line_segments k t)) ≤ text_limit → CarriedOut (replace doc (s ∷ ss) v) c (line_segments k t)
+  line_carried v n t x there' may size =
       let own = text_is x.node ∙ ap (λ u. new_text (line_segments k u)) x.text in
-      subst (ReadsAfter (replace doc (s ∷ ss) v) c) own
-      (scalar_reads doc s ss c w h v n (content_with x.node) (takes v x.node x.is) there' may (subst IsReadable (sym own) (readable t x.piece size)))
+      scalar_carried doc s ss c w h (line_segments k t) (line_kept t) v n (content_with x.node) (takes v x.node x.is) there' may own (readable t x.piece size)
 
   -- the scalar that is there
   led_below : (block : Bool) (lead : List (List ℕ)) (v : Node) → led block lead (s ∷ ss) v ≡ v
@@ -242,30 +262,27 @@ module _ (doc : ℕ) (s : Step) (ss : List Step) (c : Cut) (w : ScalarPlace) (h 
   abbrev k2 : ScalarPlace
   k2 = there doc s ss c w h
 
-  segments_old : (t : List ℕ) → old_text (line_segments k2 t) ≡ cut_text c
-  segments_old t =
-      let rest' : List ℕ = rest doc s ss c w h in
-      ap (λ u. k2.before ++ (k2.space ++ (k2.header ++ ((header_end k2).white ++ ((header_end k2).comment ++ (Rattle.yq_block_ways.specs.ScalarReplacing.break_before k2 ++ (Rattle.yq_tree.specs.PrintedLines.less_break k2.raw ++ (final_break k2 ++ u)))))))) (append-nil rest')
-      ∙ (ap (λ u. k2.before ++ (k2.space ++ (k2.header ++ u))) (lines_are doc s ss c w h) ∙ sym (old_is doc s ss c w h))
-
   pub same_old : (header raw : List ℕ) → old_text (scalar_segments k2 header raw) ≡ cut_text c
   same_old header raw = ap (λ u. k2.before ++ (k2.space ++ (k2.header ++ (k2.tail ++ (k2.raw ++ u))))) (append-nil (rest doc s ss c w h)) ∙ sym (old_is doc s ss c w h)
 
   pub line_old : (kept text : Bool) (v : Node) (qs : List Segment) → line_at kept text v k2 ≡ Some qs → old_text qs ≡ cut_text c
   line_old true text v qs e = ap old_text (sym (same_Some _ _ e)) ∙ same_old k2.header k2.raw
-  line_old false text v qs e = let m = map_some (line_written text v) e in ap old_text (sym m.2) ∙ segments_old m.0
+  line_old false text v qs e = let m = map_some (line_written text v) e in ap old_text (sym m.2) ∙ line_old_text doc s ss c w h m.0
 
   same_new : new_text (scalar_segments k2 k2.header k2.raw) ≡ cut_text c
   same_new = same_old k2.header k2.raw
 
   pub line_done : (kept text : Bool) (v n : Node) (qs : List Segment) → IsValueTree v → depth v ≤ depth_limit → has_long_key v ≡ false → node_at (s ∷ ss) (root_of (p doc s ss c w h)) ≡ Some n →
       Rattle.yq_change.specs.SoundRoots.MayReplace v n (root_of (p doc s ss c w h)) (length (s ∷ ss)) → are_same (scalar_in n) (scalar_in v) ≡ kept → line_at kept text v k2 ≡ Some qs →
-      length (new_text qs) ≤ text_limit → ReadsAfter (replace doc (s ∷ ss) v) c (new_text qs)
-  line_done true text v n qs tree deep long there' may same e size = subst (ReadsAfter (replace doc (s ∷ ss) v) c) (sym (ap new_text (sym (same_Some _ _ e)) ∙ same_new)) (kept_reads doc s ss c w h v n tree there' same)
+      length (new_text qs) ≤ text_limit → CarriedOut (replace doc (s ∷ ss) v) c qs
+  line_done true text v n qs tree deep long there' may same e size = record {
+    reads = subst (ReadsAfter (replace doc (s ∷ ss) v) c) (sym (ap new_text (sym (same_Some _ _ e)) ∙ same_new)) (kept_reads doc s ss c w h v n tree there' same);
+    local = inr (subst AllStay (same_Some _ _ e) (tt, (tt, (refl, (tt, (refl, (tt, tt)))))));
+  }
   line_done false text v n qs tree deep long there' may same e size =
       let m = map_some (line_written text v) e in
-      subst (λ q. ReadsAfter (replace doc (s ∷ ss) v) c (new_text q)) m.2
-      (line_reads doc s ss c w h v n m.0 (line_for text v m.0 tree deep long m.1) there' may (subst (λ q. length (new_text q) ≤ text_limit) (sym m.2) size))
+      subst (CarriedOut (replace doc (s ∷ ss) v) c) m.2
+      (line_carried doc s ss c w h v n m.0 (line_for text v m.0 tree deep long m.1) there' may (subst (λ q. length (new_text q) ≤ text_limit) (sym m.2) size))
 
 way_old : (doc : ℕ) (steps : List Step) (v : Node) (c : Cut) (qs : List Segment) → read_at (cut_text c) ≡ Some c → scalar_line_way (replace doc steps v) c ≡ Some qs → old_text qs ≡ cut_text c
 unfolding scalar_line_way
@@ -274,15 +291,15 @@ way_old doc steps v c qs read is =
     let k = scalar_has doc steps c x.0 read x.1 in
     line_old doc k.0 k.1 c x.0 k.3 (is_kept (node_in doc steps c) v) (has_text (node_in doc steps c)) v qs (subst (λ y. line_at (is_kept (node_in doc steps c) v) (has_text (node_in doc steps c)) v y ≡ Some qs) (sym (there_is doc k.0 k.1 c x.0 k.3)) x.2)
 
-way_reads : (doc : ℕ) (steps : List Step) (v : Node) (c : Cut) (qs : List Segment) → read_at (cut_text c) ≡ Some c → scalar_line_way (replace doc steps v) c ≡ Some qs → IsValueTree v → Fits (room_of (cut_text c)) (replace doc steps v) (documents c) →
-    length (new_text qs) ≤ text_limit → ReadsAfter (replace doc steps v) c (new_text qs)
+way_carried : (doc : ℕ) (steps : List Step) (v : Node) (c : Cut) (qs : List Segment) → read_at (cut_text c) ≡ Some c → scalar_line_way (replace doc steps v) c ≡ Some qs → IsValueTree v → Fits (room_of (cut_text c)) (replace doc steps v) (documents c) →
+    length (new_text qs) ≤ text_limit → CarriedOut (replace doc steps v) c qs
 unfolding scalar_line_way
-way_reads doc steps v c qs read is tree fits size =
+way_carried doc steps v c qs read is tree fits size =
     let x = bind_some (scalar_place doc steps c) is in
     let k = scalar_has doc steps c x.0 read x.1 in
     let y : HasScalar doc k.0 k.1 c x.0 = k.3 in
     let f = fits_replace doc steps v c (p doc k.0 k.1 c x.0 y) y.old.there tree fits in
-    subst (λ q. ReadsAfter (replace doc q v) c (new_text qs)) (sym k.2)
+    subst (λ q. CarriedOut (replace doc q v) c qs) (sym k.2)
     (line_done doc k.0 k.1 c x.0 y (is_kept (node_in doc steps c) v) (has_text (node_in doc steps c)) v f.node qs tree f.deep f.long (ap (λ q. node_at q (root_of (p doc k.0 k.1 c x.0 y))) (sym k.2) ∙ f.there)
     (subst (λ q. Rattle.yq_change.specs.SoundRoots.MayReplace v f.node (root_of (p doc k.0 k.1 c x.0 y)) (length q)) k.2 f.may) (sym (ap (λ o. is_kept o v) f.known))
     (subst (λ g. line_at (is_kept (node_in doc steps c) v) (has_text (node_in doc steps c)) v g ≡ Some qs) (sym (there_is doc k.0 k.1 c x.0 y)) x.2) size)
@@ -300,8 +317,16 @@ scalar_line_is = record { old = old; reads = reads }
 
     reads : (op : Operation) (c : Cut) (qs : List Segment) → read_at (cut_text c) ≡ Some c → scalar_line_way op c ≡ Some qs → HasOperand op → Fits (room_of (cut_text c)) op (documents c) →
         length (new_text qs) ≤ text_limit → ReadsAfter op c (new_text qs)
-    reads (replace doc steps v) c qs read is operand fits size = way_reads doc steps v c qs read is operand fits size
+    reads (replace doc steps v) c qs read is operand fits size = (way_carried doc steps v c qs read is operand fits size).reads
     reads (append doc steps key v) c qs read is operand fits size = absurd (none-some _ is)
     reads (remove doc steps) c qs read is operand fits size = absurd (none-some _ is)
     reads (line_comment doc steps text) c qs read is operand fits size = absurd (none-some _ is)
     reads (head_comment doc steps text) c qs read is operand fits size = absurd (none-some _ is)
+
+pub scalar_line_local : IsLocalWay scalar_line_way
+unfolding scalar_line_way
+scalar_line_local (replace doc steps v) c qs read is operand fits size = (way_carried doc steps v c qs read is operand fits size).local
+scalar_line_local (append doc steps key v) c qs read is operand fits size = absurd (none-some _ is)
+scalar_line_local (remove doc steps) c qs read is operand fits size = absurd (none-some _ is)
+scalar_line_local (line_comment doc steps text) c qs read is operand fits size = absurd (none-some _ is)
+scalar_line_local (head_comment doc steps text) c qs read is operand fits size = absurd (none-some _ is)

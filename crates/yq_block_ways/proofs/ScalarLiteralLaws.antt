@@ -1,5 +1,5 @@
 -- A block scalar gives way to a string that is written as a literal block scalar.
-use Rattle.std.proofs.Common.{◌≡◌, ◌⊎◌, inl, inr, ℕ, zero, suc, ◌+◌, ◌≤◌, cond, eqb, not, ◌&&◌, ◌||◌, List, [], ◌∷◌, ◌++◌, length, replicate, Option, Some, None, Bool, true, false, refl, sym, ap, ◌∙◌, subst, arith, append_assoc, append-nil, eqb-true}
+use Rattle.std.proofs.Common.{length-append, ◌≡◌, ◌⊎◌, inl, inr, ℕ, zero, suc, ◌+◌, ◌≤◌, cond, eqb, not, ◌&&◌, ◌||◌, List, [], ◌∷◌, ◌++◌, length, replicate, Option, Some, None, Bool, true, false, refl, sym, ap, ◌∙◌, subst, arith, append_assoc, append-nil, eqb-true}
 use Rattle.std.proofs.lemmas.Bool.{false≢true, and_parts, cases_Bool}
 use Rattle.std.proofs.lemmas.List.Folds.{list_all-append}
 use Rattle.std.proofs.lemmas.Option.{none-some, same_Some}
@@ -65,11 +65,14 @@ use Rattle.yq_ways.specs.Operands.{HasOperand}
 use Rattle.yq_tree.specs.NodesAt.{node_in, scalar_in}
 use Rattle.yq_block_ways.specs.ScalarLiteral.{literal_text, literal_segments, literal_at, scalar_literal_way}
 use Rattle.yq_block_ways.specs.ScalarReplacing.{has_text, holds_text}
+use Rattle.yq_ways.specs.Local.{IsLocalWay}
 use Rattle.yq_ways.specs.Ways.{IsWay, ReadsAfter}
+use Rattle.yq_ways.proofs.CarriedLaws.{CarriedOut}
+use Rattle.yq_block_ways.proofs.ScalarCarriedLaws.{KeepsScalar, scalar_carried}
 use Rattle.yq_ways.proofs.CommentPieceLaws.{break_piece, byte_then, front_piece, no_return, nothing, text_piece}
 use Rattle.yq_ways.proofs.FitLaws.{fits_replace}
-use Rattle.yq_block_ways.proofs.ScalarLineLaws.{mark_is, same_old}
-use Rattle.yq_block_ways.proofs.ScalarRowLaws.{HasScalar, scalar_has, p, front, r, back, rest, entry, node_there, valid, TakesScalar, part_with, text_with, scalar_reads}
+use Rattle.yq_block_ways.proofs.ScalarLineLaws.{front_kept, mark_is, same_old}
+use Rattle.yq_block_ways.proofs.ScalarRowLaws.{HasScalar, scalar_has, p, front, r, back, rest, entry, node_there, valid, TakesScalar, part_with, text_with}
 use Rattle.yq_block_ways.proofs.ScalarTextLaws.{there, there_is, row_is, front_text, head_is_piece, own_tail_piece, rest_piece}
 
 -- ---- without a known indentation a block scalar holds line breaks alone
@@ -309,10 +312,17 @@ module _ (doc : ℕ) (s : Step) (ss : List Step) (c : Cut) (w : ScalarPlace) (h 
         (pieces_joined k.tail (g ++ z) (own_tail_piece doc s ss c w h) (pieces_joined g z (raw_piece m br x u can) (rest_piece doc s ss c w h))))) in
         record { utf8 = is_utf8-from_IsUtf8 _ whole.utf8; characters = whole.characters; size = size }
 
-    pub literal_reads : (v n : Node) → v ≡ tree.scalar None kinds.Text x.text → node_at (s ∷ ss) (root_of d) ≡ Some n → MayReplace v n (root_of d) (length (s ∷ ss)) →
-        length (new_text (literal_segments br k x.text)) ≤ text_limit → ReadsAfter (replace doc (s ∷ ss) v) c (new_text (literal_segments br k x.text))
-    literal_reads v n is there' may size =
-        subst (ReadsAfter (replace doc (s ∷ ss) v) c) text_is (scalar_reads doc s ss c w h v n new_content (takes v is) there' may (subst IsReadable (sym text_is) (readable size)))
+    kept_there : KeepsScalar doc s ss c w h (literal_segments br k x.text)
+    kept_there = record {
+      before = front_kept doc s ss c w h;
+      behind = omega (arith, length-append z []);
+      puts = refl;
+      old_is = same_old doc s ss c w h (header_text (chomping_of (lines_of x.text))) (joined (written m (break_text br) (lines_of x.text)));
+    }
+
+    pub literal_carried : (v n : Node) → v ≡ tree.scalar None kinds.Text x.text → node_at (s ∷ ss) (root_of d) ≡ Some n → MayReplace v n (root_of d) (length (s ∷ ss)) →
+        length (new_text (literal_segments br k x.text)) ≤ text_limit → CarriedOut (replace doc (s ∷ ss) v) c (literal_segments br k x.text)
+    literal_carried v n is there' may size = scalar_carried doc s ss c w h (literal_segments br k x.text) kept_there v n new_content (takes v is) there' may text_is (readable size)
 
   -- ---- a value
 
@@ -335,14 +345,14 @@ module _ (doc : ℕ) (s : Step) (ss : List Step) (c : Cut) (w : ScalarPlace) (h 
       record { scalar = x; utf8 = h.1.utf8; can = g.0; is = (λ i. tree.scalar (h.0 i) (string_kind kind string i) y); text = same_Some _ _ g.1 }
 
   pub literal_done : (text : Bool) (br : Break) (v n : Node) (qs : List Segment) → IsValueTree v → has_text (Some n) ≡ text → node_at (s ∷ ss) (root_of d) ≡ Some n → MayReplace v n (root_of d) (length (s ∷ ss)) →
-      literal_at text br v k ≡ Some qs → length (new_text qs) ≤ text_limit → ReadsAfter (replace doc (s ∷ ss) v) c (new_text qs)
+      literal_at text br v k ≡ Some qs → length (new_text qs) ≤ text_limit → CarriedOut (replace doc (s ∷ ss) v) c qs
   literal_done false br v n qs tree' has there' may e size = absurd (none-some _ e)
   literal_done true br v n qs tree' has there' may e size =
       let m = map_some (literal_text (scalar_in v)) e in
       let x = literal_value v m.0 tree' m.1 in
       let are : literal_segments br k x.scalar.text ≡ qs = ap (literal_segments br k) x.text ∙ m.2 in
-      subst (λ q. ReadsAfter (replace doc (s ∷ ss) v) c (new_text q)) are
-      (literal_reads br x.scalar x.utf8 x.can (known n there' has) v n x.is there' may (subst (λ q. length (new_text q) ≤ text_limit) (sym are) size))
+      subst (CarriedOut (replace doc (s ∷ ss) v) c) are
+      (literal_carried br x.scalar x.utf8 x.can (known n there' has) v n x.is there' may (subst (λ q. length (new_text q) ≤ text_limit) (sym are) size))
 
   pub literal_old : (text : Bool) (br : Break) (v : Node) (qs : List Segment) → literal_at text br v k ≡ Some qs → old_text qs ≡ cut_text c
   literal_old false br v qs e = absurd (none-some _ e)
@@ -357,15 +367,15 @@ way_old doc steps v c qs read is =
     let k = scalar_has doc steps c x.0 read x.1 in
     literal_old doc k.0 k.1 c x.0 k.3 (has_text (node_in doc steps c)) (first_break (cut_text c)) v qs (subst (λ y. literal_at (has_text (node_in doc steps c)) (first_break (cut_text c)) v y ≡ Some qs) (sym (there_is doc k.0 k.1 c x.0 k.3)) x.2)
 
-way_reads : (doc : ℕ) (steps : List Step) (v : Node) (c : Cut) (qs : List Segment) → read_at (cut_text c) ≡ Some c → scalar_literal_way (replace doc steps v) c ≡ Some qs → IsValueTree v → Fits (room_of (cut_text c)) (replace doc steps v) (documents c) →
-    length (new_text qs) ≤ text_limit → ReadsAfter (replace doc steps v) c (new_text qs)
+way_carried : (doc : ℕ) (steps : List Step) (v : Node) (c : Cut) (qs : List Segment) → read_at (cut_text c) ≡ Some c → scalar_literal_way (replace doc steps v) c ≡ Some qs → IsValueTree v → Fits (room_of (cut_text c)) (replace doc steps v) (documents c) →
+    length (new_text qs) ≤ text_limit → CarriedOut (replace doc steps v) c qs
 unfolding scalar_literal_way
-way_reads doc steps v c qs read is tree' fits size =
+way_carried doc steps v c qs read is tree' fits size =
     let x = bind_some (scalar_place doc steps c) is in
     let k = scalar_has doc steps c x.0 read x.1 in
     let y : HasScalar doc k.0 k.1 c x.0 = k.3 in
     let f = fits_replace doc steps v c (p doc k.0 k.1 c x.0 y) y.old.there tree' fits in
-    subst (λ q. ReadsAfter (replace doc q v) c (new_text qs)) (sym k.2)
+    subst (λ q. CarriedOut (replace doc q v) c qs) (sym k.2)
     (literal_done doc k.0 k.1 c x.0 y (has_text (node_in doc steps c)) (first_break (cut_text c)) v f.node qs tree' (sym (ap has_text f.known))
     (ap (λ q. node_at q (root_of (p doc k.0 k.1 c x.0 y))) (sym k.2) ∙ f.there) (subst (λ q. MayReplace v f.node (root_of (p doc k.0 k.1 c x.0 y)) (length q)) k.2 f.may)
     (subst (λ g. literal_at (has_text (node_in doc steps c)) (first_break (cut_text c)) v g ≡ Some qs) (sym (there_is doc k.0 k.1 c x.0 y)) x.2) size)
@@ -383,8 +393,16 @@ scalar_literal_is = record { old = old; reads = reads }
 
     reads : (op : Operation) (c : Cut) (qs : List Segment) → read_at (cut_text c) ≡ Some c → scalar_literal_way op c ≡ Some qs → HasOperand op → Fits (room_of (cut_text c)) op (documents c) →
         length (new_text qs) ≤ text_limit → ReadsAfter op c (new_text qs)
-    reads (replace doc steps v) c qs read is operand fits size = way_reads doc steps v c qs read is operand fits size
+    reads (replace doc steps v) c qs read is operand fits size = (way_carried doc steps v c qs read is operand fits size).reads
     reads (append doc steps key v) c qs read is operand fits size = absurd (none-some _ is)
     reads (remove doc steps) c qs read is operand fits size = absurd (none-some _ is)
     reads (line_comment doc steps text) c qs read is operand fits size = absurd (none-some _ is)
     reads (head_comment doc steps text) c qs read is operand fits size = absurd (none-some _ is)
+
+pub scalar_literal_local : IsLocalWay scalar_literal_way
+unfolding scalar_literal_way
+scalar_literal_local (replace doc steps v) c qs read is operand fits size = (way_carried doc steps v c qs read is operand fits size).local
+scalar_literal_local (append doc steps key v) c qs read is operand fits size = absurd (none-some _ is)
+scalar_literal_local (remove doc steps) c qs read is operand fits size = absurd (none-some _ is)
+scalar_literal_local (line_comment doc steps text) c qs read is operand fits size = absurd (none-some _ is)
+scalar_literal_local (head_comment doc steps text) c qs read is operand fits size = absurd (none-some _ is)

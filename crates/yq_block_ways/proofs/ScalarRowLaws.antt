@@ -205,7 +205,7 @@ module _ (doc : ℕ) (s : Step) (ss : List Step) (c : Cut) (w : ScalarPlace) (h 
   abbrev pub part_with : Content → Part
   part_with new = recontent front r back new p
 
-  with_rows : (new : Content) → (part_with new).rows ≡ front ++ (with_content new r ∷ back)
+  pub with_rows : (new : Content) → (part_with new).rows ≡ front ++ (with_content new r ∷ back)
   with_rows new = ap (λ (rs : List Row). front ++ (with_content new r ∷ rs)) (own_gap back p.end)
 
   pub text_with : (new : Content) → cut_text (put_document doc (part_with new) c) ≡ h.found.s.before ++ (rows_text front [] ++ (row_front r ++ content_text new rest))
@@ -225,12 +225,11 @@ module _ (doc : ℕ) (s : Step) (ss : List Step) (c : Cut) (w : ScalarPlace) (h 
   led_below true lead v = refl
   led_below false lead v = refl
 
-  pub scalar_reads : (v n : Node) (new : Content) → TakesScalar v new → node_at (s ∷ ss) (root_of p) ≡ Some n → MayReplace v n (root_of p) (length (s ∷ ss)) →
-      IsReadable (cut_text (put_document doc (part_with new) c)) → ReadsAfter (replace doc (s ∷ ss) v) c (cut_text (put_document doc (part_with new) c))
-  scalar_reads v n new t there may readable =
+  pub scalar_changed : (v n : Node) (new : Content) → TakesScalar v new → node_at (s ∷ ss) (root_of p) ≡ Some n → MayReplace v n (root_of p) (length (s ∷ ss)) →
+      IsReadable (cut_text (put_document doc (part_with new) c)) → IsChanged c (put_document doc (part_with new) c) doc (lead_of p) (change (s ∷ ss) (replaced v))
+  scalar_changed v n new t there may readable =
       let behind = h.found.stands.behind in
       let one : TakesPlace limit r rest (with_content new r) rest = one_row limit r new rest rest rows_there.0 entry t.stands t.apart in
-      let changed : IsChanged c (put_document doc (part_with new) c) doc (lead_of p) (change (s ∷ ss) (replaced v)) =
       entry_content_replaced (cut_text c) c doc p front back r v new s ss h.leads.found (record {
         old = h.old;
         rows_are = h.found.rows_are;
@@ -241,13 +240,17 @@ module _ (doc : ℕ) (s : Step) (ss : List Step) (c : Cut) (w : ScalarPlace) (h 
         keys = t.keys;
         short = entry_short r.mark new entry;
         text = readable;
-      }) h.leads.is h.leads.under h.leads.number (subst (λ m. MayReplace v m (root_of p) (length (s ∷ ss))) (sym (node_there n there)) may) in
+      }) h.leads.is h.leads.under h.leads.number (subst (λ m. MayReplace v m (root_of p) (length (s ∷ ss))) (sym (node_there n there)) may)
+
+  pub scalar_reads : (v n : Node) (new : Content) → TakesScalar v new → node_at (s ∷ ss) (root_of p) ≡ Some n → MayReplace v n (root_of p) (length (s ∷ ss)) →
+      IsReadable (cut_text (put_document doc (part_with new) c)) → ReadsAfter (replace doc (s ∷ ss) v) c (cut_text (put_document doc (part_with new) c))
+  scalar_reads v n new t there may readable =
       let kept = under_kept p front r [] back new h.found.rows_are in
       document_done (replace doc (s ∷ ss) v) c p (part_with new) (lead_of p) (change (s ∷ ss) (replaced v)) (record {
         read = h.old.read;
         there = h.old.there;
         rows = λ none. absurd (false≢true (sym (ap no_rows (with_rows new) ∙ front_some front (with_content new r) back) ∙ none));
-        changed = changed;
+        changed = scalar_changed v n new t there may readable;
         root = ap (λ m. change (s ∷ ss) (replaced m) (root_of p)) (sym (led_below (Rattle.yq_change.specs.Rooms.is_block_root p) (lead_of p) v));
         lead_goes = same_lead_goes p (part_with new) kept.0 kept.1;
         block = λ keeps. kept.1;

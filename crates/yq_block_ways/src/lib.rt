@@ -4,6 +4,7 @@
 mod block_writing;
 mod collection_replacing;
 mod compact_replacing;
+pub mod locality;
 mod scalar_collection;
 mod scalar_line;
 mod scalar_literal;

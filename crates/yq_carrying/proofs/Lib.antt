@@ -6,3 +6,4 @@ pub mod AloneLaws
 pub mod NodePlaces
 pub mod RemoveServed
 pub mod ReplaceServed
+pub mod CarryingLocalLaws

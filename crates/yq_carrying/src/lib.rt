@@ -3,4 +3,4 @@
 
 mod ways;
 
-pub use ways::{fitting_has_a_way, op_segments, ways_carry_out};
+pub use ways::{fitting_has_a_way, op_segments, ways_are_local, ways_carry_out};

@@ -6,6 +6,7 @@ ghost use Rattle.yq_meaning.specs.Operations.{Operation, operation_of};
 ghost use Rattle.yq_meaning.specs.Rooms.{room_of};
 ghost use Rattle.yq_documents.specs.Reading.{cut_of, documents, read_at};
 ghost use Rattle.yq_carrying.specs.Carrying as spec;
+ghost use Rattle.yq_ways.specs.Local.{IsLocalWay};
 ghost use Rattle.yq_ways.specs.Operands.{HasOperand};
 ghost use Rattle.yq_ways.specs.Serving.{IsServed};
 ghost use Rattle.yq_ways.specs.WayAnswers.{Carries};
@@ -302,6 +303,12 @@ pub fn op_segments<'d>(
 /// make of it reads as the documents after it, where it fits.
 pub fn ways_carry_out()
     ensures { IsWay spec.carrying }
+{}
+
+/// Segments that carry out an operation exchange the rows and ends of parts that they touch, and
+/// no others; or all bytes stay.
+pub fn ways_are_local()
+    ensures { IsLocalWay spec.carrying }
 {}
 
 /// Every operation that fits the documents of a text has a way.

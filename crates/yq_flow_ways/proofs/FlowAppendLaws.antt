@@ -27,7 +27,7 @@ use Rattle.yq_tree.specs.FlowNodes.{flow_collection}
 use Rattle.yq_documents.specs.Reading as reading
 use Rattle.yq_documents.specs.Reading.{documents, read_at, root_of}
 use Rattle.yq_documents.specs.TreeEdits.{new_label}
-use Rattle.yq_change.specs.FlowRows.{FlowAt}
+use Rattle.yq_change.specs.FlowRows.{behind_node, FlowAt}
 use Rattle.yq_change.specs.SoundRoots.{IsNewKey, IsNewValue, IsSoundRoot}
 use Rattle.yq_change.specs.TextPieces.{IsPiece}
 use Rattle.yq_change.proofs.FlowKeptLaws.{flow_keys}
@@ -39,7 +39,10 @@ use Rattle.yq_meaning.specs.Rooms.{room_of}
 use Rattle.yq_script.specs.Script.{Segment, old_text, new_text}
 use Rattle.yq_flow_ways.specs.FlowWays.{flow_append_way, flow_segments, takes_key}
 use Rattle.yq_ways.specs.Operands.{HasOperand, KeyIsUtf8}
+use Rattle.yq_ways.specs.Local.{IsLocalWay}
 use Rattle.yq_ways.specs.Ways.{IsWay, ReadsAfter}
+use Rattle.yq_ways.proofs.CarriedLaws.{CarriedOut}
+use Rattle.yq_flow_ways.proofs.FlowRests.{along_rest, item_rest, appended_rest, removed_rest}
 use Rattle.yq_ways.proofs.DoneLaws.{nth_map}
 use Rattle.yq_ways.proofs.FitLaws.{new_key, new_value, tree_unique}
 use Rattle.yq_flow_ways.proofs.FlowPieceLaws.{edit_pieces, nothing_piece}
@@ -186,9 +189,9 @@ module _ (c : Cut) (doc : ℕ) (steps : List Step) (key : Option (List ℕ)) (v 
   )
 
   -- one that fits
-  pub append_reads : KeyIsUtf8 key → IsValueTree v → takes_key w.close key ≡ true → Fits (room_of (cut_text c)) (append doc steps key v) (documents c) → length (new_text (flow_segments (cut_text c) e)) ≤ text_limit →
-      ReadsAfter (append doc steps key v) c (new_text (flow_segments (cut_text c) e))
-  append_reads u h takes fits size =
+  pub append_carried : KeyIsUtf8 key → IsValueTree v → takes_key w.close key ≡ true → Fits (room_of (cut_text c)) (append doc steps key v) (documents c) → length (new_text (flow_segments (cut_text c) e)) ≤ text_limit →
+      CarriedOut (append doc steps key v) c (flow_segments (cut_text c) e)
+  append_carried u h takes fits size =
       let known = document_known (cut_text c) c doc at.part (standing.old c doc steps w read found) in
       let old : IsSoundRoot (root_of at.part) = record { unique = known.document.unique; nested = known.document.nested; bound = known.document.bound } in
       let root : fits.0.root ≡ root_of at.part = ap (λ (d : Document). d.root) (same_Some _ _ (sym fits.1 ∙ nth_map doc at.part reading.document_of (document_parts c) at.there)) in
@@ -209,6 +212,7 @@ module _ (c : Cut) (doc : ℕ) (steps : List Step) (key : Option (List ℕ)) (v 
             (subst IsPiece (sym (written_is (flow_key key) (flow_of v) w)) (key_piece (eqb w.close 125) (new_label key) (node_text (flow_of v) []) (label_is w.close key u takes) (flow_piece v h)), (parts.1, tt)),
           ),
         );
+        stays = omega (arith, along_rest at.rest at.row.node (behind_node c doc at.part at.row) w at.at.along, appended_rest (flow_key key) (flow_of v) w);
       }) size
 
 -- ---- the way
@@ -227,8 +231,19 @@ appended_is c doc steps key v ss way = let w = bind_some (flow_collection doc st
     go w found true takes e = record { coll = w; found = found; takes = takes; is = same_Some _ _ e }
     go w found false takes e = absurd (none-some _ e)
 
+flow_append_carried : (op : Operation) (c : Cut) (ss : List Segment) → read_at (cut_text c) ≡ Some c → flow_append_way op c ≡ Some ss → HasOperand op → Fits (room_of (cut_text c)) op (documents c) →
+    length (new_text ss) ≤ text_limit → CarriedOut op c ss
+flow_append_carried (replace doc steps v) c ss read way operand fits size = absurd (none-some _ way)
+flow_append_carried (append doc steps key v) c ss read way operand fits size =
+    let a = appended_is c doc steps key v ss way in
+    subst (CarriedOut (append doc steps key v) c) a.is
+    (append_carried c doc steps key v a.coll read a.found operand.0 operand.1 a.takes fits (subst (λ (s : List Segment). length (new_text s) ≤ text_limit) (sym a.is) size))
+flow_append_carried (remove doc steps) c ss read way operand fits size = absurd (none-some _ way)
+flow_append_carried (line_comment doc steps note) c ss read way operand fits size = absurd (none-some _ way)
+flow_append_carried (head_comment doc steps note) c ss read way operand fits size = absurd (none-some _ way)
+
 pub flow_append_is : IsWay flow_append_way
-flow_append_is = record { old = old_is; reads = reads_is }
+flow_append_is = record { old = old_is; reads = λ op c ss read way operand fits size. (flow_append_carried op c ss read way operand fits size).reads }
   where
     old_is : (op : Operation) (c : Cut) (ss : List Segment) → read_at (cut_text c) ≡ Some c → flow_append_way op c ≡ Some ss → old_text ss ≡ cut_text c
     old_is (replace doc steps v) c ss read way = absurd (none-some _ way)
@@ -240,13 +255,5 @@ flow_append_is = record { old = old_is; reads = reads_is }
     old_is (line_comment doc steps note) c ss read way = absurd (none-some _ way)
     old_is (head_comment doc steps note) c ss read way = absurd (none-some _ way)
 
-    reads_is : (op : Operation) (c : Cut) (ss : List Segment) → read_at (cut_text c) ≡ Some c → flow_append_way op c ≡ Some ss → HasOperand op → Fits (room_of (cut_text c)) op (documents c) →
-        length (new_text ss) ≤ text_limit → ReadsAfter op c (new_text ss)
-    reads_is (replace doc steps v) c ss read way operand fits size = absurd (none-some _ way)
-    reads_is (append doc steps key v) c ss read way operand fits size =
-        let a = appended_is c doc steps key v ss way in
-        subst (λ (s : List Segment). ReadsAfter (append doc steps key v) c (new_text s)) a.is
-        (append_reads c doc steps key v a.coll read a.found operand.0 operand.1 a.takes fits (subst (λ (s : List Segment). length (new_text s) ≤ text_limit) (sym a.is) size))
-    reads_is (remove doc steps) c ss read way operand fits size = absurd (none-some _ way)
-    reads_is (line_comment doc steps note) c ss read way operand fits size = absurd (none-some _ way)
-    reads_is (head_comment doc steps note) c ss read way operand fits size = absurd (none-some _ way)
+pub flow_append_local : IsLocalWay flow_append_way
+flow_append_local op c ss read way operand fits size = (flow_append_carried op c ss read way operand fits size).local

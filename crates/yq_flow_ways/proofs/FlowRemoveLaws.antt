@@ -1,5 +1,5 @@
 -- An item or entry taken out of a flow collection.
-use Rattle.std.proofs.Common.{◌≡◌, true, ℕ, ◌-◌, ◌≤◌, List, [], ◌∷◌, ◌++◌, length, map, Option, Some, option_map, refl, sym, ap, ◌∙◌, subst}
+use Rattle.std.proofs.Common.{arith, ◌≡◌, true, ℕ, ◌-◌, ◌≤◌, List, [], ◌∷◌, ◌++◌, length, map, Option, Some, option_map, refl, sym, ap, ◌∙◌, subst}
 use Rattle.std.proofs.lemmas.Option.{none-some}
 use Rattle.std.specs.List.{slice_get}
 use Rattle.std.specs.Str.{IsCharBoundary}
@@ -22,7 +22,7 @@ use Rattle.yq_documents.specs.Documents.{Document, document_parts}
 use Rattle.yq_documents.specs.Reading as reading
 use Rattle.yq_documents.specs.Reading.{documents, read_at, root_of}
 use Rattle.yq_change.specs.Changed.{put_document}
-use Rattle.yq_change.specs.FlowRows.{with_node, FlowAt, NodeStands}
+use Rattle.yq_change.specs.FlowRows.{behind_node, with_node, FlowAt, NodeStands}
 use Rattle.yq_change.specs.SoundRoots.{IsSoundRoot}
 use Rattle.yq_change.specs.TextPieces.{IsPiece}
 use Rattle.yq_change.proofs.FlowKeptLaws.{flow_keys, left_keys}
@@ -33,7 +33,10 @@ use Rattle.yq_meaning.specs.Rooms.{room_of}
 use Rattle.yq_script.specs.Script.{Segment, old_text, new_text}
 use Rattle.yq_flow_ways.specs.FlowWays.{flow_segments, flow_remove_way}
 use Rattle.yq_ways.specs.Operands.{HasOperand}
+use Rattle.yq_ways.specs.Local.{IsLocalWay}
 use Rattle.yq_ways.specs.Ways.{IsWay, ReadsAfter}
+use Rattle.yq_ways.proofs.CarriedLaws.{CarriedOut}
+use Rattle.yq_flow_ways.proofs.FlowRests.{along_rest, item_rest, appended_rest, removed_rest}
 use Rattle.yq_flow_ways.proofs.FlowPieceLaws.{edit_pieces, lead_piece, nothing_piece, removed_empty}
 use Rattle.yq_flow_ways.proofs.FlowStandings as standing
 use Rattle.yq_flow_ways.proofs.FlowStandings.{EntryAt, Made, entry_made}
@@ -68,7 +71,7 @@ module _ (c : Cut) (doc : ℕ) (path : List Step) (read : read_at (cut_text c) �
   edited : IsEdited x e (change at.rest (within (remove_child a.step)))
   edited = removed x a.step a.item stands a.at (pairs_behind row_text.before (node_text x.node x.rest) pairs)
 
-  pub texts : FlowTexts c (put_document doc (with_node at.part at.row (edited_at c doc a.init a.coll at e)) c) e
+  pub texts : FlowTexts c (put_document doc (with_node at.part at.row (edited_at c doc a.init a.coll at e)) c) e (node_text at.row.node (behind_node c doc at.part at.row))
   texts = flow_texts c doc a.init a.coll at e (remove_child a.step) edited
 
   pub bounds : IsCharBoundary (cut_text c) (length (cut_text c) - length (e.old ++ e.behind)) × IsCharBoundary (cut_text c) (length (cut_text c) - length e.behind)
@@ -77,8 +80,8 @@ module _ (c : Cut) (doc : ℕ) (path : List Step) (read : read_at (cut_text c) �
       remove_spans (cut_text c) a.step (locate (length (cut_text c)) cs.node cs.rest) (place_edit (length (cut_text c)) e) cs.spans
       (remove_placed cs.valid.flow cs.valid.spaces cs.valid.depth (cut_text c) cs.before cs.node cs.rest a.coll a.step a.item cs.valid.is cs.is a.at cs.text)
 
-  removed_reads : Fits (room_of (cut_text c)) (remove doc path) (documents c) → length (new_text (flow_segments (cut_text c) e)) ≤ text_limit → ReadsAfter (remove doc path) c (new_text (flow_segments (cut_text c) e))
-  removed_reads fits size =
+  removed_carried : Fits (room_of (cut_text c)) (remove doc path) (documents c) → length (new_text (flow_segments (cut_text c) e)) ≤ text_limit → CarriedOut (remove doc path) c (flow_segments (cut_text c) e)
+  removed_carried fits size =
       let old = standing.old c doc a.init a.coll read a.found in
       let piece = standing.piece c doc a.init a.coll read a.found in
       let known = document_known (cut_text c) c doc at.part old in
@@ -96,14 +99,26 @@ module _ (c : Cut) (doc : ℕ) (path : List Step) (read : read_at (cut_text c) �
           subst IsPiece (sym (before_is (cut_text c) texts.before (e.old ++ e.behind) texts.old)) parts.0,
           (lead_piece a.step a.coll (around_is x stands).closes, (subst IsPiece (sym (removed_empty a.step a.coll)) nothing_piece, (parts.1, tt))),
         );
+        stays = omega (arith, along_rest at.rest at.row.node (behind_node c doc at.part at.row) a.coll at.at.along, removed_rest a.step a.coll);
       }) size
 
 -- what is taken out, in a text
 abbrev removal_of : Cut → Made
 removal_of c s w y = flow_segments (cut_text c) (removing s w)
 
+flow_remove_carried : (op : Operation) (c : Cut) (ss : List Segment) → read_at (cut_text c) ≡ Some c → flow_remove_way op c ≡ Some ss → HasOperand op → Fits (room_of (cut_text c)) op (documents c) →
+    length (new_text ss) ≤ text_limit → CarriedOut op c ss
+flow_remove_carried (replace doc steps v) c ss read way operand fits size = absurd (none-some _ way)
+flow_remove_carried (append doc steps key v) c ss read way operand fits size = absurd (none-some _ way)
+flow_remove_carried (remove doc steps) c ss read way operand fits size =
+    let a = entry_made (removal_of c) c doc steps ss way in
+    subst (CarriedOut (remove doc steps) c) a.1
+    (removed_carried c doc steps read a.0 fits (subst (λ (s : List Segment). length (new_text s) ≤ text_limit) (sym a.1) size))
+flow_remove_carried (line_comment doc steps text) c ss read way operand fits size = absurd (none-some _ way)
+flow_remove_carried (head_comment doc steps text) c ss read way operand fits size = absurd (none-some _ way)
+
 pub flow_remove_is : IsWay flow_remove_way
-flow_remove_is = record { old = old_is; reads = reads_is }
+flow_remove_is = record { old = old_is; reads = λ op c ss read way operand fits size. (flow_remove_carried op c ss read way operand fits size).reads }
   where
     old_is : (op : Operation) (c : Cut) (ss : List Segment) → read_at (cut_text c) ≡ Some c → flow_remove_way op c ≡ Some ss → old_text ss ≡ cut_text c
     old_is (replace doc steps v) c ss read way = absurd (none-some _ way)
@@ -115,13 +130,5 @@ flow_remove_is = record { old = old_is; reads = reads_is }
     old_is (line_comment doc steps text) c ss read way = absurd (none-some _ way)
     old_is (head_comment doc steps text) c ss read way = absurd (none-some _ way)
 
-    reads_is : (op : Operation) (c : Cut) (ss : List Segment) → read_at (cut_text c) ≡ Some c → flow_remove_way op c ≡ Some ss → HasOperand op → Fits (room_of (cut_text c)) op (documents c) →
-        length (new_text ss) ≤ text_limit → ReadsAfter op c (new_text ss)
-    reads_is (replace doc steps v) c ss read way operand fits size = absurd (none-some _ way)
-    reads_is (append doc steps key v) c ss read way operand fits size = absurd (none-some _ way)
-    reads_is (remove doc steps) c ss read way operand fits size =
-        let a = entry_made (removal_of c) c doc steps ss way in
-        subst (λ (s : List Segment). ReadsAfter (remove doc steps) c (new_text s)) a.1
-        (removed_reads c doc steps read a.0 fits (subst (λ (s : List Segment). length (new_text s) ≤ text_limit) (sym a.1) size))
-    reads_is (line_comment doc steps text) c ss read way operand fits size = absurd (none-some _ way)
-    reads_is (head_comment doc steps text) c ss read way operand fits size = absurd (none-some _ way)
+pub flow_remove_local : IsLocalWay flow_remove_way
+flow_remove_local op c ss read way operand fits size = (flow_remove_carried op c ss read way operand fits size).local

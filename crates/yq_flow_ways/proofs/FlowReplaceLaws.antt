@@ -1,5 +1,5 @@
 -- The content of an item or entry of a flow collection gives way to a value.
-use Rattle.std.proofs.Common.{◌≡◌, ℕ, ◌-◌, ◌≤◌, Bool, true, false, List, [], ◌∷◌, ◌++◌, length, Option, Some, None, refl, sym, ap, ◌∙◌, subst, arith, ◌+◌, append-nil, length-append}
+use Rattle.std.proofs.Common.{inr, ◌≡◌, ℕ, ◌-◌, ◌≤◌, Bool, true, false, List, [], ◌∷◌, ◌++◌, length, Option, Some, None, refl, sym, ap, ◌∙◌, subst, arith, ◌+◌, append-nil, length-append}
 use Rattle.std.proofs.lemmas.Bool.{cond_both}
 use Rattle.std.proofs.lemmas.Option.{none-some}
 use Rattle.std.specs.Str.{IsCharBoundary}
@@ -32,7 +32,7 @@ use Rattle.yq_documents.specs.Reading as reading
 use Rattle.yq_documents.specs.Reading.{documents, read_at, root_of}
 use Rattle.yq_documents.specs.TreeEdits.{replaced}
 use Rattle.yq_tree.proofs.FlowPieces.{named_is, none_anchored}
-use Rattle.yq_change.specs.FlowRows.{FlowAt}
+use Rattle.yq_change.specs.FlowRows.{behind_node, FlowAt}
 use Rattle.yq_change.specs.Rooms.{is_block_root}
 use Rattle.yq_change.specs.SoundRoots.{IsSoundRoot}
 use Rattle.yq_change.specs.TextPieces.{IsPiece}
@@ -49,7 +49,10 @@ use Rattle.yq_ways.specs.Operands.{HasOperand}
 use Rattle.yq_tree.specs.NodesAt.{node_in, scalar_in}
 use Rattle.yq_ways.specs.Replacing.{are_same, is_kept}
 use Rattle.yq_ways.specs.Style.{style_in}
+use Rattle.yq_ways.specs.Local.{IsLocalWay}
 use Rattle.yq_ways.specs.Ways.{IsWay, ReadsAfter}
+use Rattle.yq_ways.proofs.CarriedLaws.{CarriedOut}
+use Rattle.yq_flow_ways.proofs.FlowRests.{along_rest, item_rest, appended_rest, removed_rest}
 use Rattle.yq_ways.proofs.FitLaws.{FitsReplace, fits_replace}
 use Rattle.yq_flow_ways.proofs.FlowPieceLaws.{edit_pieces, nothing_piece, one_space}
 use Rattle.yq_flow_ways.proofs.FlowSoundLaws.{last_is}
@@ -193,8 +196,8 @@ module _ (c : Cut) (doc : ℕ) (path : List Step) (v : tree.Node) (read : read_a
         subst (λ (f : tree.Node → tree.Node). IsSoundRoot (f (root_of at.part))) (sym (step_change path a.init a.step (replaced v) a.last))
         (replace_keeps path (root_of at.part) given.node v old given.there given.may)
 
-    pub replaced_reads : length (new_text (flow_segments (cut_text c) e)) ≤ text_limit → ReadsAfter (replace doc path v) c (new_text (flow_segments (cut_text c) e))
-    replaced_reads size =
+    pub replaced_carried : length (new_text (flow_segments (cut_text c) e)) ≤ text_limit → CarriedOut (replace doc path v) c (flow_segments (cut_text c) e)
+    replaced_carried size =
         let p = standing.piece c doc a.init a.coll read a.found in
         let parts = edit_pieces (cut_text c) there.before e p there.text bounds.0 bounds.1 there.whole in
         flow_made (replace doc path v) c a.init a.coll at e (change_child a.step (replaced v)) read (record {
@@ -205,6 +208,11 @@ module _ (c : Cut) (doc : ℕ) (path : List Step) (v : tree.Node) (read : read_a
               ap (λ (f : tree.Node → tree.Node). f (root_of at.part)) (step_change path a.init a.step (replaced v) a.last)
               ∙ ap (λ n. change path (replaced n) (root_of at.part)) (sym (led_same (is_block_root at.part) (lead_of at.part) path v (below_root (is_block_root at.part) path a.init a.step a.last)));
           pieces = (subst IsPiece (sym (before_is (cut_text c) there.before (e.old ++ e.behind) there.text)) parts.0, (space_there (content_node a.item.node), (written_piece (content_written a.item.node) v h, (parts.1, tt))));
+          stays = omega (
+            arith,
+            along_rest at.rest at.row.node (behind_node c doc at.part at.row) a.coll at.at.along,
+            item_rest a.coll.close a.step a.coll.items a.coll.rest a.item a.at,
+          );
         }) size
 
 -- ---- the way
@@ -213,12 +221,12 @@ replaced_old : (kept : Bool) (v : tree.Node) (c : Cut) (doc : ℕ) (path : List 
 replaced_old true v c doc path read a = append-nil (cut_text c)
 replaced_old false v c doc path read a = let w = there c doc path v read a in segments_old (cut_text c) w.before (e c doc path v read a) w.text
 
-by_reads : (kept : Bool) (v : tree.Node) (c : Cut) (doc : ℕ) (path : List Step) (read : read_at (cut_text c) ≡ Some c) (a : EntryAt c doc path) → (h : IsValueTree v) (fits : Fits (room_of (cut_text c)) (replace doc path v) (documents c)) →
-    are_same (scalar_in (given c doc path v read a h fits).node) (scalar_in v) ≡ kept → length (new_text (replaced_by kept v c a.step a.coll a.item)) ≤ text_limit → ReadsAfter (replace doc path v) c (new_text (replaced_by kept v c a.step a.coll a.item))
-by_reads true v c doc path read a h fits same size =
+by_carried : (kept : Bool) (v : tree.Node) (c : Cut) (doc : ℕ) (path : List Step) (read : read_at (cut_text c) ≡ Some c) (a : EntryAt c doc path) → (h : IsValueTree v) (fits : Fits (room_of (cut_text c)) (replace doc path v) (documents c)) →
+    are_same (scalar_in (given c doc path v read a h fits).node) (scalar_in v) ≡ kept → length (new_text (replaced_by kept v c a.step a.coll a.item)) ≤ text_limit → CarriedOut (replace doc path v) c (replaced_by kept v c a.step a.coll a.item)
+by_carried true v c doc path read a h fits same size =
     let f = given c doc path v read a h fits in
-    subst (ReadsAfter (replace doc path v) c) (sym (append-nil (cut_text c))) (kept_reads doc path v c (at c doc path v read a).part read (at c doc path v read a).there f.node h f.there same)
-by_reads false v c doc path read a h fits same size = replaced_reads c doc path v read a h fits size
+    record { reads = subst (ReadsAfter (replace doc path v) c) (sym (append-nil (cut_text c))) (kept_reads doc path v c (at c doc path v read a).part read (at c doc path v read a).there f.node h f.there same); local = inr (tt, tt) }
+by_carried false v c doc path read a h fits same size = replaced_carried c doc path v read a h fits size
 
 replace_old : (doc : ℕ) (path : List Step) (v : tree.Node) (c : Cut) (ss : List Segment) → read_at (cut_text c) ≡ Some c → flow_replace_way (replace doc path v) c ≡ Some ss → old_text ss ≡ cut_text c
 replace_old doc path v c ss read way =
@@ -226,16 +234,24 @@ replace_old doc path v c ss read way =
     let a = entry_made (replaced_by kept v c) c doc path ss way in
     ap old_text (sym a.1) ∙ replaced_old kept v c doc path read a.0
 
-replace_reads : (doc : ℕ) (path : List Step) (v : tree.Node) (c : Cut) (ss : List Segment) → read_at (cut_text c) ≡ Some c → flow_replace_way (replace doc path v) c ≡ Some ss → IsValueTree v → Fits (room_of (cut_text c)) (replace doc path v) (documents c) →
-    length (new_text ss) ≤ text_limit → ReadsAfter (replace doc path v) c (new_text ss)
-replace_reads doc path v c ss read way h fits size =
+replace_carried : (doc : ℕ) (path : List Step) (v : tree.Node) (c : Cut) (ss : List Segment) → read_at (cut_text c) ≡ Some c → flow_replace_way (replace doc path v) c ≡ Some ss → IsValueTree v → Fits (room_of (cut_text c)) (replace doc path v) (documents c) →
+    length (new_text ss) ≤ text_limit → CarriedOut (replace doc path v) c ss
+replace_carried doc path v c ss read way h fits size =
     let kept : Bool = is_kept (node_in doc path c) v in
     let a = entry_made (replaced_by kept v c) c doc path ss way in
-    subst (λ (s : List Segment). ReadsAfter (replace doc path v) c (new_text s)) a.1
-    (by_reads kept v c doc path read a.0 h fits (sym (ap (λ o. is_kept o v) (given c doc path v read a.0 h fits).known)) (subst (λ (s : List Segment). length (new_text s) ≤ text_limit) (sym a.1) size))
+    subst (CarriedOut (replace doc path v) c) a.1
+    (by_carried kept v c doc path read a.0 h fits (sym (ap (λ o. is_kept o v) (given c doc path v read a.0 h fits).known)) (subst (λ (s : List Segment). length (new_text s) ≤ text_limit) (sym a.1) size))
+
+flow_replace_carried : (op : Operation) (c : Cut) (ss : List Segment) → read_at (cut_text c) ≡ Some c → flow_replace_way op c ≡ Some ss → HasOperand op → Fits (room_of (cut_text c)) op (documents c) →
+    length (new_text ss) ≤ text_limit → CarriedOut op c ss
+flow_replace_carried (replace doc steps v) c ss read way operand fits size = replace_carried doc steps v c ss read way operand fits size
+flow_replace_carried (append doc steps key v) c ss read way operand fits size = absurd (none-some _ way)
+flow_replace_carried (remove doc steps) c ss read way operand fits size = absurd (none-some _ way)
+flow_replace_carried (line_comment doc steps text) c ss read way operand fits size = absurd (none-some _ way)
+flow_replace_carried (head_comment doc steps text) c ss read way operand fits size = absurd (none-some _ way)
 
 pub flow_replace_is : IsWay flow_replace_way
-flow_replace_is = record { old = old_is; reads = reads_is }
+flow_replace_is = record { old = old_is; reads = λ op c ss read way operand fits size. (flow_replace_carried op c ss read way operand fits size).reads }
   where
     old_is : (op : Operation) (c : Cut) (ss : List Segment) → read_at (cut_text c) ≡ Some c → flow_replace_way op c ≡ Some ss → old_text ss ≡ cut_text c
     old_is (replace doc steps v) c ss read way = replace_old doc steps v c ss read way
@@ -244,10 +260,5 @@ flow_replace_is = record { old = old_is; reads = reads_is }
     old_is (line_comment doc steps text) c ss read way = absurd (none-some _ way)
     old_is (head_comment doc steps text) c ss read way = absurd (none-some _ way)
 
-    reads_is : (op : Operation) (c : Cut) (ss : List Segment) → read_at (cut_text c) ≡ Some c → flow_replace_way op c ≡ Some ss → HasOperand op → Fits (room_of (cut_text c)) op (documents c) →
-        length (new_text ss) ≤ text_limit → ReadsAfter op c (new_text ss)
-    reads_is (replace doc steps v) c ss read way operand fits size = replace_reads doc steps v c ss read way operand fits size
-    reads_is (append doc steps key v) c ss read way operand fits size = absurd (none-some _ way)
-    reads_is (remove doc steps) c ss read way operand fits size = absurd (none-some _ way)
-    reads_is (line_comment doc steps text) c ss read way operand fits size = absurd (none-some _ way)
-    reads_is (head_comment doc steps text) c ss read way operand fits size = absurd (none-some _ way)
+pub flow_replace_local : IsLocalWay flow_replace_way
+flow_replace_local op c ss read way operand fits size = (flow_replace_carried op c ss read way operand fits size).local

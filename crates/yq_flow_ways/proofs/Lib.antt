@@ -19,3 +19,4 @@ pub mod FlowReplaceAnswers
 pub mod FlowAppendAnswers
 pub mod SoleLaws
 pub mod SoleAnswers
+pub mod FlowRests

@@ -37,6 +37,7 @@ use Rattle.yq_flow_ways.specs.FlowWays.{last_step}
 use Rattle.yq_ways.specs.Operands.{HasOperand}
 use Rattle.yq_tree.specs.NodesAt.{node_in}
 use Rattle.yq_flow_ways.specs.SoleRemoving.{emptied, emptying, emptying_at, sole_by}
+use Rattle.yq_ways.specs.Local.{IsLocalWay}
 use Rattle.yq_ways.specs.Ways.{Way, IsWay, ReadsAfter}
 use Rattle.yq_ways.proofs.DoneLaws.{read_cut}
 use Rattle.yq_flow_ways.proofs.FlowSoundLaws.{above_is, last_is}
@@ -281,6 +282,19 @@ module _ (way : Way) (is_way : IsWay way) where
 
   pub sole_is : IsWay (sole_by way)
   sole_is = record { old = old_is; reads = reads_is }
+
+module _ (way : Way) (local : IsLocalWay way) where
+  pub sole_local : IsLocalWay (sole_by way)
+  sole_local (replace doc steps v) c ss read e operand fits_it size = absurd (none-some _ e)
+  sole_local (append doc steps key v) c ss read e operand fits_it size = absurd (none-some _ e)
+  sole_local (remove doc steps) c ss read e operand fits_it size =
+      let r = bind_some (emptying (remove doc steps) c) e in
+      let x = emptying_is doc steps c r.0 r.1 in
+      let h = stands_for doc steps c r.0 x read fits_it in
+      let taken : way (replace doc x.init x.new) c ≡ Some ss = ap (λ o. way o c) x.is ∙ r.2 in
+      local (replace doc x.init x.new) c ss read taken x.empty.value (fits doc x.init x.step x.new c h) size
+  sole_local (line_comment doc steps text) c ss read e operand fits_it size = absurd (none-some _ e)
+  sole_local (head_comment doc steps text) c ss read e operand fits_it size = absurd (none-some _ e)
 
 -- ---- by what the code finds
 

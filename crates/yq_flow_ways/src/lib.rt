@@ -5,6 +5,7 @@ mod flow_append;
 mod flow_edit;
 mod flow_remove;
 mod flow_replace;
+pub mod locality;
 mod sole_removing;
 
 pub use flow_append::flow_append_way;

@@ -12,3 +12,4 @@ pub mod OpenRootLaws
 pub mod RootWayLaws
 pub mod RootServings
 pub mod RootAnswers
+pub mod RootLocalLaws

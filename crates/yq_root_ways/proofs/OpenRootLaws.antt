@@ -15,7 +15,7 @@ use Rattle.yq_lines.specs.Comments.{head_comment}
 use Rattle.yq_rows.specs.Appending.{last_marker, with_last_part, PartFits}
 use Rattle.yq_rows.specs.Gap.{IsGap}
 use Rattle.yq_rows.specs.Grammar.{IsCut}
-use Rattle.yq_rows.specs.Rows.{Cut, cut_text}
+use Rattle.yq_rows.specs.Rows.{Row, Part, part_text, Cut, cut_text}
 use Rattle.yq_rows.proofs.CharacterLaws.{pairs_back}
 use Rattle.yq_rows.proofs.splices.MarkerLaws.{marker_appended}
 use Rattle.yq_rows.proofs.GapLaws.{some_more}
@@ -34,7 +34,15 @@ use Rattle.yq_change.proofs.PlacedPartLaws.{document_stands_at}
 use Rattle.yq_change.proofs.TextPieceLaws.{pieces_joined}
 use Rattle.yq_meaning.specs.Operations.{replace}
 use Rattle.yq_root_ways.specs.RootWriting.{is_closed_text}
+use Rattle.yq_change.specs.Changed.{put_document}
+use Rattle.yq_change.specs.Items.{Item, end_item, rows_items, items_of, items_text}
+use Rattle.yq_change.specs.Replaces.{rooted}
+use Rattle.yq_change.proofs.ItemLaws.{items_of_text, items_text-append}
+use Rattle.yq_script.specs.Script.{Segment, new_text}
+use Rattle.yq_ways.specs.Local.{kept_front, kept_back, IsLocal}
 use Rattle.yq_ways.specs.Ways.{ReadsAfter}
+use Rattle.yq_ways.proofs.CarriedLaws.{CarriedOut}
+use Rattle.yq_ways.proofs.LocalLaws.{cut_known, last_nothing}
 use Rattle.yq_ways.proofs.AppendAtEnd.{nothing_tail}
 use Rattle.yq_ways.proofs.AppendEntryLaws.{none_quiet}
 use Rattle.yq_root_ways.proofs.BlockRootLaws.{empty_cases}
@@ -44,10 +52,12 @@ use Rattle.yq_ways.proofs.CommentPieceLaws.{break_piece}
 use Rattle.yq_ways.proofs.CommentReadLaws.{break_is}
 use Rattle.yq_root_ways.proofs.OpenGapLaws.{open_gap}
 use Rattle.yq_root_ways.proofs.OpenMarkerLaws.{broken_before, IsBehindMarker, behind_marker}
-use Rattle.yq_root_ways.proofs.RootFits.{FitsPart, value_reads}
-use Rattle.yq_root_ways.proofs.RootReadLaws.{TakesValue}
-use Rattle.yq_root_ways.proofs.RootRows.{HasRoom}
+use Rattle.yq_root_ways.proofs.RootFits.{FitsPart, value_carried}
+use Rattle.yq_root_ways.proofs.RootLocalLaws.{gap_moves}
+use Rattle.yq_root_ways.proofs.RootReadLaws.{TakesValue, are, text_is, root_read, root_reads}
+use Rattle.yq_root_ways.proofs.RootRows.{root_rows, HasRoom}
 use Rattle.yq_root_ways.proofs.SameDocuments.{same_reads}
+use Rattle.yq_root_ways.proofs.UnwrittenRootLaws as unwritten_root
 use Rattle.yq_root_ways.proofs.UnwrittenRootLaws.{IsUnwrittenRoot, long_some, stands, there, cut, gap_is, part_is, seam, pieces, no_rows_there, lead_is, starts_at, takes_unwritten}
 
 -- rows come behind a gap, at the end of a text
@@ -167,27 +177,69 @@ module _ (n : ℕ) (c : Cut) (w : RootPlace) (read : read_at (cut_text c) ≡ So
 
   -- ---- both
 
-  module _ (v : Node) (l : Layout) (step : 1 ≤ l.mapping) (value_tree : IsValueTree v) (fits : FitsPart v h.d.part) (new : List ℕ)
-      (is : new ≡ h.d.before ++ (h.d.part.end ++ (break_text br ++ (block_value l 0 v ++ h.d.behind)))) (readable : IsReadable new) where
-    reads_behind_marker : h.d.part.end ≡ [] → ReadsAfter (replace n [] v) c new
-    reads_behind_marker none =
-        let text : (h.d.before ++ break_text br) ++ (h.d.part.end ++ (block_value l 0 v ++ [])) ≡ new =
+  module _ (v : Node) (l : Layout) (step : 1 ≤ l.mapping) (value_tree : IsValueTree v) (fits : FitsPart v h.d.part) (ss : List Segment) (before : kept_front ss ≡ w.before) (behind : kept_back ss ≡ w.behind)
+      (is : new_text ss ≡ h.d.before ++ (h.d.part.end ++ (break_text br ++ (block_value l 0 v ++ h.d.behind)))) (readable : IsReadable (new_text ss)) where
+    -- the marker gets a break, and rows come behind it
+    carried_behind_marker : h.d.part.end ≡ [] → CarriedOut (replace n [] v) c ss
+    carried_behind_marker none =
+        let text : (h.d.before ++ break_text br) ++ (h.d.part.end ++ (block_value l 0 v ++ [])) ≡ new_text ss =
         (λ i. (h.d.before ++ break_text br) ++ (none i ++ (block_value l 0 v ++ [])))
         ∙ (append_assoc h.d.before (break_text br) (block_value l 0 v ++ [])
         ∙ sym (is ∙ (λ i. h.d.before ++ (none i ++ (break_text br ++ (block_value l 0 v ++ nothing_behind i)))))) in
         let size : length (h.d.before ++ break_text br) ≤ text_limit =
         front_short (h.d.before ++ break_text br) (h.d.part.end ++ (block_value l 0 v ++ [])) text_limit (subst (λ t. length t ≤ text_limit) (sym text) readable.size) in
-        same_reads (replace n [] v) (with_last_part (break_text br) h.d.part c) c new (other_read none size) read (marker none).parts_are
-        (value_reads n (with_last_part (break_text br) h.d.part c) (broken_before (break_text br) h.d) h.d.part.end [] [] v l 0 new (takes_behind_marker none size) step value_tree fits text readable)
+        let takes = takes_behind_marker none size in
+        let d2 : PlacedPart = broken_before (break_text br) h.d in
+        let c2 : Cut = with_last_part (break_text br) h.d.part c in
+        let m = marker none in
+        let rs : List Row = root_rows l h.d.part.end 0 [] v in
+        let q : Part = rooted rs [] h.d.part in
+        let whole : cut_text (put_document n q c2) ≡ new_text ss = text_is n c2 d2 h.d.part.end [] [] takes v l 0 step value_tree fits.near ∙ text in
+        let there : IsReadable (cut_text (put_document n q c2)) = subst IsReadable (sym whole) readable in
+        let last : List Item = rows_items rs (end_item [] [] ∷ []) in
+        let front : List Item = m.above in
+        let lead : List ℕ = m.gap ++ last_marker c in
+        let old_are : items_of c ≡ front ++ (end_item m.gap (last_marker c) ∷ (end_item [] [] ∷ [])) =
+        m.old_are
+        ∙ (ap (λ xs. front ++ (end_item m.gap (last_marker c) ∷ rows_items xs (end_item h.d.part.end [] ∷ []))) h.rows_are
+        ∙ ap (λ e. front ++ (end_item m.gap (last_marker c) ∷ (end_item e [] ∷ []))) none) in
+        let front_text : items_text (front ++ (end_item m.gap (last_marker c) ∷ (end_item [] [] ∷ []))) [] ≡ items_text front lead =
+        items_text-append front (end_item m.gap (last_marker c) ∷ (end_item [] [] ∷ [])) [] ∙ ap (λ t. items_text front (m.gap ++ t)) (append-nil (last_marker c)) in
+        let local : IsLocal ss c (put_document n q c2) = record {
+          front = front;
+          gone = end_item m.gap (last_marker c) ∷ (end_item [] [] ∷ []);
+          come = end_item m.gap (last_marker c ++ break_text br) ∷ last;
+          back = [];
+          lead = lead;
+          trail = [];
+          old_are = old_are;
+          new_are = ap items_of (m.put q)
+              ∙ (m.new_are q
+              ∙ ap (λ xs. front ++ xs) (ap (λ xs. end_item m.gap (last_marker c ++ break_text br) ∷ rows_items xs (end_item [] [] ∷ [])) (append-nil rs) ∙ sym (append-nil (end_item m.gap (last_marker c ++ break_text br) ∷ last))));
+          before_is = before ∙ (sym (append-nil w.before) ∙ (ap (λ t. w.before ++ t) (sym (h.behind_is ∙ nothing_behind)) ∙ (unwritten_root.whole n c w read h ∙ (sym (items_of_text c) ∙ (ap (λ xs. items_text xs []) old_are ∙ front_text)))));
+          behind_is = behind ∙ (h.behind_is ∙ nothing_behind);
+          begins = (omega arith, omega (arith, length-append m.gap (last_marker c), length-append m.gap (last_marker c ++ break_text br), length-append (last_marker c) (break_text br)));
+          ends = (omega arith, last_nothing (end_item m.gap (last_marker c ++ break_text br) ∷ last));
+        } in
+        record {
+          reads = same_reads (replace n [] v) c2 c (new_text ss) (other_read none size) read m.parts_are
+              (subst (ReadsAfter (replace n [] v) c2) whole (root_reads n c2 d2 h.d.part.end [] [] takes v l 0 step value_tree fits.near fits.value_is fits.spared there));
+          local = inl (cut_known ss c (put_document n q c2) (root_read n c2 d2 h.d.part.end [] [] takes v l 0 step value_tree fits.near fits.value_is fits.spared there) whole local);
+        }
 
-    reads_behind_gap : is_empty h.d.part.end ≡ false → ReadsAfter (replace n [] v) c new
-    reads_behind_gap some =
-        value_reads n c h.d (h.d.part.end ++ break_text br) [] [] v l 0 new (takes_behind_gap some) step value_tree fits
+    carried_behind_gap : is_empty h.d.part.end ≡ false → CarriedOut (replace n [] v) c ss
+    carried_behind_gap some =
+        let takes = takes_behind_gap some in
+        let st = stands n c w read h in
+        let rows = are n c h.d (h.d.part.end ++ break_text br) [] [] takes v l 0 step value_tree fits.near in
+        value_carried n c h.d (h.d.part.end ++ break_text br) [] [] v l 0 ss takes step value_tree fits
         (ap (λ t. h.d.before ++ t) (append_assoc h.d.part.end (break_text br) (block_value l 0 v ++ h.d.behind)) ∙ sym is) readable
+        (λ new there. gap_moves n c h.d.part st.there h.d.before (λ x. st.put x ∙ ap (λ t. h.d.before ++ part_text x t) (sym st.behind)) ss (root_rows l (h.d.part.end ++ break_text br) 0 [] v) (break_text br) h.rows_are rows.some rows.first
+        (before ∙ h.before_is) (behind ∙ (h.behind_is ∙ sym st.behind)))
 
-    pub open_reads : ReadsAfter (replace n [] v) c new
-    open_reads = go (empty_cases h.d.part.end)
+    pub open_carried : CarriedOut (replace n [] v) c ss
+    open_carried = go (empty_cases h.d.part.end)
       where
-        go : (h.d.part.end ≡ []) ⊎ (is_empty h.d.part.end ≡ false) → ReadsAfter (replace n [] v) c new
-        go (inl none) = reads_behind_marker none
-        go (inr some) = reads_behind_gap some
+        go : (h.d.part.end ≡ []) ⊎ (is_empty h.d.part.end ≡ false) → CarriedOut (replace n [] v) c ss
+        go (inl none) = carried_behind_marker none
+        go (inr some) = carried_behind_gap some

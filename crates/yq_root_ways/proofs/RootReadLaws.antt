@@ -1,5 +1,5 @@
 -- A value as the root of a document in which that is a block collection, or isn't written: what the text then reads as.
-use Rattle.std.proofs.Common.{◌≡◌, ℕ, ◌+◌, ◌≤◌, List, [], ◌∷◌, ◌++◌, map, replicate, None, true, false, refl, sym, ap, ◌∙◌, subst, append-nil}
+use Rattle.std.proofs.Common.{Some, ◌≡◌, ℕ, ◌+◌, ◌≤◌, List, [], ◌∷◌, ◌++◌, map, replicate, None, true, false, refl, sym, ap, ◌∙◌, subst, append-nil}
 use Rattle.std.proofs.lemmas.Bool.{false≢true}
 use Rattle.yq_scalar.specs.Paths.{within}
 use Rattle.yq_scalar.specs.Tree as tree
@@ -22,7 +22,7 @@ use Rattle.yq_documents.specs.Lines.{lines_of}
 use Rattle.yq_documents.specs.Nodes.{anchor_of}
 use Rattle.yq_tree.specs.PlacedRows.{PlacedPart}
 use Rattle.yq_documents.specs.Reading as reading
-use Rattle.yq_documents.specs.Reading.{root_of}
+use Rattle.yq_documents.specs.Reading.{root_of, read_at}
 use Rattle.yq_documents.specs.Ready.{begins_no_node}
 use Rattle.yq_tree.specs.RowPaths.{IsReadable}
 use Rattle.yq_documents.specs.TreeEdits.{headed, lead_by, led, replaced}
@@ -100,7 +100,7 @@ module _ (n : ℕ) (c : Cut) (d : PlacedPart) (gap last back : List ℕ) (h : Ta
   abbrev new : Node
   new = within (headed (lead_of d.part)) v
 
-  are : AreRootRows v gap (replicate column 32 ++ (block_value l column v ++ (last ++ (back ++ d.behind)))) rs back d.behind
+  pub are : AreRootRows v gap (replicate column 32 ++ (block_value l column v ++ (last ++ (back ++ d.behind)))) rs back d.behind
   are = value_root_rows v l gap column last back d.behind step value_tree near h.room
 
   -- the new text
@@ -145,6 +145,9 @@ module _ (n : ℕ) (c : Cut) (d : PlacedPart) (gap last back : List ℕ) (h : Ta
 
     lead_goes : LeadGoes p q
     lead_goes = lead_is ∙ (sym (headed_lead lead v) ∙ (λ i. lead_by (sym h.block i) (children_of (sym root_is i)) lead))
+
+    pub root_read : read_at (cut_text (put_document n q c)) ≡ Some (put_document n q c)
+    root_read = changed.read
 
     pub root_reads : ReadsAfter (replace n [] v) c (cut_text (put_document n q c))
     root_reads =

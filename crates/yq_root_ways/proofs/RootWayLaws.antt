@@ -1,5 +1,5 @@
 -- Writing a root in the place of a block collection, or where none is written, is a way.
-use Rattle.std.proofs.Common.{◌≡◌, ◌⊎◌, inl, inr, ℕ, ◌≤◌, Bool, true, false, List, [], ◌∷◌, ◌++◌, length, replicate, Option, Some, None, refl, sym, ap, ◌∙◌, subst, append_assoc, append-nil}
+use Rattle.std.proofs.Common.{arith, ◌+◌, length-append, ◌≡◌, ◌⊎◌, inl, inr, ℕ, ◌≤◌, Bool, true, false, List, [], ◌∷◌, ◌++◌, length, replicate, Option, Some, None, refl, sym, ap, ◌∙◌, subst, append_assoc, append-nil}
 use Rattle.std.proofs.lemmas.Option.{none-some}
 use Rattle.yq_scalar.specs.Answers.{◌>>=◌}
 use Rattle.yq_scalar.specs.BlockWritten.{break_text}
@@ -7,7 +7,7 @@ use Rattle.yq_scalar.specs.Characters.{text_limit}
 use Rattle.yq_scalar.specs.Paths.{Step, node_at}
 use Rattle.yq_scalar.specs.Tree.{Node}
 use Rattle.yq_flow.specs.Valued.{IsValueTree}
-use Rattle.yq_rows.specs.Rows.{Cut, cut_text}
+use Rattle.yq_rows.specs.Rows.{behind_gap, behind_indent, print_row, part_text, Cut, cut_text}
 use Rattle.yq_documents.specs.Documents.{Document, document_parts}
 use Rattle.yq_documents.specs.Reading as reading
 use Rattle.yq_documents.specs.Reading.{documents, read_at, root_of}
@@ -29,14 +29,23 @@ use Rattle.yq_ways.specs.Operands.{HasOperand}
 use Rattle.yq_tree.specs.NodesAt.{node_in}
 use Rattle.yq_ways.specs.Replacing.{is_kept}
 use Rattle.yq_root_ways.specs.RootWriting.{is_closed_text, root_segments, new_segments, root_at, root_way}
+use Rattle.yq_change.specs.Replaces.{rooted}
+use Rattle.yq_change.proofs.FirstBreakLaws.{IsOneBreak}
+use Rattle.yq_ways.specs.Local.{IsLocalWay}
 use Rattle.yq_ways.specs.Ways.{IsWay, ReadsAfter}
+use Rattle.yq_ways.proofs.CarriedLaws.{CarriedOut}
+use Rattle.yq_ways.proofs.LastRows.{lines_local}
+use Rattle.yq_ways.proofs.OneLines.{is_one_line}
+use Rattle.yq_root_ways.proofs.RootLocalLaws.{gap_moves, root_first}
+use Rattle.yq_root_ways.proofs.RootReadLaws.{are}
+use Rattle.yq_root_ways.proofs.RootRows.{root_rows}
 use Rattle.yq_root_ways.proofs.BlockRootLaws.{IsBlockRoot, block_root, takes_value, before_piece, behind_piece}
 use Rattle.yq_ways.proofs.CommentPieceLaws.{break_piece}
 use Rattle.yq_ways.proofs.DoneLaws.{nth_map}
 use Rattle.yq_ways.proofs.KeptLaws.{kept_reads}
 use Rattle.yq_ways.proofs.LayoutLaws.{mapping_least}
-use Rattle.yq_root_ways.proofs.OpenRootLaws.{open_reads}
-use Rattle.yq_root_ways.proofs.RootFits.{FitsPart, fits_part, value_reads}
+use Rattle.yq_root_ways.proofs.OpenRootLaws.{open_carried}
+use Rattle.yq_root_ways.proofs.RootFits.{FitsPart, LocalRoot, fits_part, value_carried}
 use Rattle.yq_ways.proofs.SegmentLaws.{segments_readable}
 use Rattle.yq_root_ways.proofs.UnwrittenRootLaws.{IsUnwrittenRoot, unwritten, stands, whole, pieces, takes_unwritten}
 
@@ -62,12 +71,53 @@ module _ (n : ℕ) (v : Node) (c : Cut) (w : RootPlace) (old : List ℕ) (read :
         front_is : (h.d.before ++ h.row.gap) ++ replicate w.column 32 ≡ w.before
         front_is = ap (λ k. (h.d.before ++ h.row.gap) ++ replicate k 32) h.column_is ∙ (append_assoc h.d.before h.row.gap (replicate h.row.column 32) ∙ sym h.before_is)
 
-    reads : length (new_text (root_segments l v w old)) ≤ text_limit → ReadsAfter (replace n [] v) c (new_text (root_segments l v w old))
-    reads size =
+    local : LocalRoot n c h.d (root_rows (layout_of n c) h.row.gap w.column h.last v) h.d.part.end (root_segments (layout_of n c) v w old)
+    local new there =
+        let st = (takes_value n c w old read h).stands in
+        let lead : List ℕ = h.row.gap ++ replicate w.column 32 in
+        let same : replicate {A = ℕ} h.row.column 32 ≡ replicate w.column 32 = ap (λ k. replicate k 32) (sym h.column_is) in
+        lines_local (root_segments l v w old) c n (rooted (root_rows l h.row.gap w.column h.last v) h.d.part.end h.d.part) (record {
+          p = h.d.part;
+          there = st.there;
+          start = h.d.before;
+          put = λ x. st.put x ∙ ap (λ t. h.d.before ++ part_text x t) (sym st.behind);
+          front = [];
+          gone = h.row ∷ h.others;
+          come = root_rows l h.row.gap w.column h.last v;
+          back = [];
+          rows_are = h.rows_are ∙ sym (append-nil (h.row ∷ h.others));
+          come_are = refl;
+          end_is = refl;
+          lead = lead;
+          trail = h.last;
+          before_is = append-nil w.before ∙ (h.before_is ∙ (λ i. sym (append-nil h.d.before) i ++ (h.row.gap ++ same i)));
+          behind_is = append-nil w.behind ∙ (h.behind_is ∙ ap (λ t. h.last ++ (h.d.part.end ++ t)) (sym st.behind));
+          puts = refl;
+          old_is = old_is;
+          new_is = new;
+        }) read there (one h.ends) begins (root_first v l h.row.gap w.column h.last value_tree)
+      where
+        one : (IsOneBreak h.last) ⊎ ((h.last ≡ []) × (h.d.part.end ++ h.d.behind ≡ [])) → is_one_line h.last ≡ true
+        one (inl (inl e)) = ap is_one_line e
+        one (inl (inr e)) = ap is_one_line e
+        one (inr e) = ap is_one_line e.0
+
+        begins : length (h.row.gap ++ replicate w.column 32) ≤ length (print_row h.row [])
+        begins =
+            omega (
+              arith,
+              ap (λ (k : ℕ). length (replicate {A = ℕ} k 32)) h.column_is,
+              length-append h.row.gap (replicate {A = ℕ} w.column 32),
+              length-append h.row.gap (behind_gap h.row []),
+              length-append (replicate h.row.column 32) (behind_indent h.row []),
+            )
+
+    carried : length (new_text (root_segments l v w old)) ≤ text_limit → CarriedOut (replace n [] v) c (root_segments l v w old)
+    carried size =
         let takes = takes_value n c w old read h in
         let readable : IsReadable (new_text (root_segments l v w old)) =
         segments_readable (root_segments l v w old) (before_piece n c w old read h, (value_piece v l w.column value_tree, (behind_piece n c w old read h, tt))) size in
-        value_reads n c h.d h.row.gap h.last h.d.part.end v l w.column (new_text (root_segments l v w old)) takes (mapping_least n c) value_tree (fits_part n v c h.d.part takes.old.there value_tree fits) text_there readable
+        value_carried n c h.d h.row.gap h.last h.d.part.end v l w.column (root_segments l v w old) takes (mapping_least n c) value_tree (fits_part n v c h.d.part takes.old.there value_tree fits) text_there readable local
 
 -- ---- where none is written
 
@@ -95,16 +145,21 @@ module _ (n : ℕ) (v : Node) (c : Cut) (w : RootPlace) (read : read_at (cut_tex
         (λ i. h.before_is i ++ (lines_put_behind (is_closed_text w.before) br (block_value (layout_of n c) (h.column_is i) v) ++ (append-nil w.behind ∙ h.behind_is) i))
         ∙ append_assoc h.d.before h.d.part.end (lines_put_behind (is_closed_text w.before) br lines ++ h.d.behind)
 
-    by_break : (closed : Bool) → is_closed_text w.before ≡ closed → IsReadable (new_text (new_segments false (layout_of n c) v w)) → ReadsAfter (replace n [] v) c (new_text (new_segments false (layout_of n c) v w))
+    by_break : (closed : Bool) → is_closed_text w.before ≡ closed → IsReadable (new_text (new_segments false (layout_of n c) v w)) → CarriedOut (replace n [] v) c (new_segments false (layout_of n c) v w)
     by_break true e readable =
-        value_reads n c h.d h.d.part.end br [] v (layout_of n c) 0 (new_text (new_segments false (layout_of n c) v w)) (takes_unwritten n c w read h e (layout_of n c).br) (mapping_least n c) value_tree there
+        let takes = takes_unwritten n c w read h e (layout_of n c).br in
+        let st = stands n c w read h in
+        let rows = are n c h.d h.d.part.end br [] takes v (layout_of n c) 0 (mapping_least n c) value_tree there.near in
+        value_carried n c h.d h.d.part.end br [] v (layout_of n c) 0 (new_segments false (layout_of n c) v w) takes (mapping_least n c) value_tree there
         (sym (new_is ∙ ((λ i. h.d.before ++ (h.d.part.end ++ (lines_put_behind (e i) br lines ++ h.d.behind))) ∙ ap (λ t. h.d.before ++ (h.d.part.end ++ t)) (append_assoc lines br h.d.behind)))) readable
+        (λ new known. gap_moves n c h.d.part st.there h.d.before (λ x. st.put x ∙ ap (λ t. h.d.before ++ part_text x t) (sym st.behind)) (new_segments false (layout_of n c) v w) (root_rows (layout_of n c) h.d.part.end 0 br v) [] h.rows_are rows.some
+        (rows.first ∙ sym (append-nil h.d.part.end)) (append-nil w.before ∙ h.before_is) (append-nil w.behind ∙ (h.behind_is ∙ sym st.behind)))
     by_break false e readable =
-        open_reads n c w read h e (layout_of n c).br v (layout_of n c) (mapping_least n c) value_tree there (new_text (new_segments false (layout_of n c) v w))
+        open_carried n c w read h e (layout_of n c).br v (layout_of n c) (mapping_least n c) value_tree there (new_segments false (layout_of n c) v w) (append-nil w.before) (append-nil w.behind)
         (new_is ∙ ((λ i. h.d.before ++ (h.d.part.end ++ (lines_put_behind (e i) br lines ++ h.d.behind))) ∙ ap (λ t. h.d.before ++ (h.d.part.end ++ t)) (append_assoc br lines h.d.behind))) readable
 
-    new_reads : length (new_text (new_segments false (layout_of n c) v w)) ≤ text_limit → ReadsAfter (replace n [] v) c (new_text (new_segments false (layout_of n c) v w))
-    new_reads size =
+    new_carried : length (new_text (new_segments false (layout_of n c) v w)) ≤ text_limit → CarriedOut (replace n [] v) c (new_segments false (layout_of n c) v w)
+    new_carried size =
         let kept = pieces n c w read h in
         let put_there : IsPiece (lines_put_behind (is_closed_text w.before) br (block_value (layout_of n c) w.column v)) =
         put_piece (is_closed_text w.before) br (block_value (layout_of n c) w.column v) (break_piece (layout_of n c).br) (value_piece v (layout_of n c) w.column value_tree) in
@@ -116,9 +171,9 @@ module _ (n : ℕ) (v : Node) (c : Cut) (w : RootPlace) (read : read_at (cut_tex
         let known : node_in n [] c ≡ Some (root_of h.d.part) = ap (λ (o : Option Document). o >>= λ d. node_at [] d.root) (nth_map n h.d.part reading.document_of (document_parts c) at) in
         subst (ReadsAfter (replace n [] v) c) (sym (new_old true)) (kept_reads n [] v c h.d.part read at (root_of h.d.part) value_tree refl (sym (ap (λ o. is_kept o v) known) ∙ e))
 
-    by_kept : (kept : Bool) → is_kept (node_in n [] c) v ≡ kept → length (new_text (new_segments kept (layout_of n c) v w)) ≤ text_limit → ReadsAfter (replace n [] v) c (new_text (new_segments kept (layout_of n c) v w))
-    by_kept true is size = stays_reads is
-    by_kept false is size = new_reads size
+    by_kept : (kept : Bool) → is_kept (node_in n [] c) v ≡ kept → length (new_text (new_segments kept (layout_of n c) v w)) ≤ text_limit → CarriedOut (replace n [] v) c (new_segments kept (layout_of n c) v w)
+    by_kept true is size = record { reads = stays_reads is; local = inr (tt, (tt, tt)) }
+    by_kept false is size = new_carried size
 
 -- ---- the way
 
@@ -147,18 +202,18 @@ root_old n [] v c us read is = let f = root_found n v c us is in go f.0 f.1 f.2
     go w at (inl x) = ap old_text (sym x.2) ∙ old_is n v c w x.0 read (block_root n c w x.0 read at x.1)
     go w at (inr x) = ap old_text (sym x.1) ∙ new_old n v c w read (unwritten n c w at x.0) (is_kept (node_in n [] c) v)
 
-root_way_reads : (n : ℕ) (steps : List Step) (v : Node) (c : Cut) (us : List Segment) → read_at (cut_text c) ≡ Some c → root_way (replace n steps v) c ≡ Some us → IsValueTree v →
-    Fits (room_of (cut_text c)) (replace n steps v) (documents c) → length (new_text us) ≤ text_limit → ReadsAfter (replace n steps v) c (new_text us)
+root_way_carried : (n : ℕ) (steps : List Step) (v : Node) (c : Cut) (us : List Segment) → read_at (cut_text c) ≡ Some c → root_way (replace n steps v) c ≡ Some us → IsValueTree v →
+    Fits (room_of (cut_text c)) (replace n steps v) (documents c) → length (new_text us) ≤ text_limit → CarriedOut (replace n steps v) c us
 unfolding root_way
-root_way_reads n (s ∷ ss) v c us read is value_tree fits size = absurd (none-some _ is)
-root_way_reads n [] v c us read is value_tree fits size = let f = root_found n v c us is in go f.0 f.1 f.2
+root_way_carried n (s ∷ ss) v c us read is value_tree fits size = absurd (none-some _ is)
+root_way_carried n [] v c us read is value_tree fits size = let f = root_found n v c us is in go f.0 f.1 f.2
   where
-    go : (w : RootPlace) → root_place n [] c ≡ Some w → RootThere n v c us w → ReadsAfter (replace n [] v) c (new_text us)
+    go : (w : RootPlace) → root_place n [] c ≡ Some w → RootThere n v c us w → CarriedOut (replace n [] v) c us
     go w at (inl x) =
-        subst (λ z. ReadsAfter (replace n [] v) c (new_text z)) x.2
-        (reads n v c w x.0 read (block_root n c w x.0 read at x.1) value_tree fits (subst (λ z. length (new_text z) ≤ text_limit) (sym x.2) size))
+        subst (CarriedOut (replace n [] v) c) x.2
+        (carried n v c w x.0 read (block_root n c w x.0 read at x.1) value_tree fits (subst (λ z. length (new_text z) ≤ text_limit) (sym x.2) size))
     go w at (inr x) =
-        subst (λ z. ReadsAfter (replace n [] v) c (new_text z)) x.1
+        subst (CarriedOut (replace n [] v) c) x.1
         (by_kept n v c w read (unwritten n c w at x.0) value_tree fits (is_kept (node_in n [] c) v) refl (subst (λ z. length (new_text z) ≤ text_limit) (sym x.1) size))
 
 pub root_is_way : IsWay root_way
@@ -174,8 +229,16 @@ root_is_way = record { old = old; reads = reads }
 
     reads : (op : Operation) (c : Cut) (us : List Segment) → read_at (cut_text c) ≡ Some c → root_way op c ≡ Some us → HasOperand op → Fits (room_of (cut_text c)) op (documents c) →
         length (new_text us) ≤ text_limit → ReadsAfter op c (new_text us)
-    reads (replace doc steps v) c us read is operand fits size = root_way_reads doc steps v c us read is operand fits size
+    reads (replace doc steps v) c us read is operand fits size = (root_way_carried doc steps v c us read is operand fits size).reads
     reads (append doc steps key v) c us read is operand fits size = absurd (none-some _ is)
     reads (remove doc steps) c us read is operand fits size = absurd (none-some _ is)
     reads (line_comment doc steps text) c us read is operand fits size = absurd (none-some _ is)
     reads (head_comment doc steps text) c us read is operand fits size = absurd (none-some _ is)
+
+pub root_local : IsLocalWay root_way
+unfolding root_way
+root_local (replace doc steps v) c us read is operand fits size = (root_way_carried doc steps v c us read is operand fits size).local
+root_local (append doc steps key v) c us read is operand fits size = absurd (none-some _ is)
+root_local (remove doc steps) c us read is operand fits size = absurd (none-some _ is)
+root_local (line_comment doc steps text) c us read is operand fits size = absurd (none-some _ is)
+root_local (head_comment doc steps text) c us read is operand fits size = absurd (none-some _ is)
