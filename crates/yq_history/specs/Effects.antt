@@ -36,6 +36,10 @@ abbrev pub from_pair : Option (List ℕ) → Option (List ℕ) → (List ℕ →
 from_pair None journal go = refuses (named NotThere)
 from_pair (Some t) journal go = from_journal (journal_beside journal) t go
 
+-- the same, from what a store holds by the names of both
+abbrev pub from_names : Content → List ℕ → List ℕ → (List ℕ → State → Effect) → Effect
+from_names c file name go = from_pair (get c file) (get c name) go
+
 -- what a move does, by the text to which it leads, the journal in which it is open, and that behind it; J3 where it leads nowhere
 abbrev pub leads_to : Option (List ℕ) → State → State → Effect
 leads_to None started s = refuses (named DoesNotStand)
@@ -74,6 +78,10 @@ abbrev pub IsCutShort : List ℕ → State → State → List ℕ → List ℕ �
 IsCutShort u started s file name old new =
     ((get new file ≡ get old file) × ((get new name ≡ get old name) ⊎ IsJournal (get new name) started))
     ⊎ ((get new file ≡ Some u) × (IsJournal (get new name) started ⊎ IsJournal (get new name) s))
+
+-- the same of a move that leads from one text to another, by the journal in which it is opened
+abbrev pub IsMoveCutShort : State → Move → List ℕ → List ℕ → List ℕ → List ℕ → Content → Content → Type 0
+IsMoveCutShort s step t u file name old new = IsCutShort u (opened s step t) (moved s step) file name old new
 
 -- the effect came about; where a call of the store failed or memory was refused, what writes nothing wrote nothing, and all else was cut short
 abbrev pub Works : Effect → List ℕ → List ℕ → Content → Content → {T : Type 0} → Result T Fault → Type 0

@@ -4,9 +4,9 @@ ghost use Rattle.std.specs.FinMap as map;
 ghost use Rattle.yq_journal.specs.Good.{after_move};
 ghost use Rattle.yq_journal.specs.History.{History};
 ghost use Rattle.yq_journal.specs.Refusals.{no_way, way_fault};
-ghost use Rattle.yq_journal.specs.State.{moved, moved_text, opened};
+ghost use Rattle.yq_journal.specs.State.{moved, moved_text};
 ghost use Rattle.yq_journal.specs.declared.fault.JournalFault.{JournalFault};
-ghost use Rattle.yq_history.specs.Effects.{IsCutShort, Works, from_pair, walk_effect};
+ghost use Rattle.yq_history.specs.Effects.{IsMoveCutShort, Works, from_names, walk_effect};
 ghost use Rattle.yq_history.specs.Faults.{is_outside, is_output, counted, of_fault};
 ghost use Rattle.yq_history.specs.Pair.{Arrives, GoodIn, IsJournal, OthersStay, Rest, Stands};
 ghost use Rattle.yq_history.specs.Steps.{walk_cause, walk_next};
@@ -41,7 +41,7 @@ pub fn carry_out<D: Store>(
     ensures text { IsTrue D.keeps → file.now ≢ name.now → OnOk result (map.get (D.content store.new) file.now ≡ Some new.now) }
     ensures moved { IsTrue D.keeps → OnOk result (IsJournal (map.get (D.content store.new) name.now) (moved journal.old step)) }
     ensures cut { IsTrue D.keeps → file.now ≢ name.now →
-        OnErr result (IsCutShort new.now (opened journal.old step old.now) (moved journal.old step) file.now name.now (D.content store.old) (D.content store.new)) }
+        OnErr result (IsMoveCutShort journal.old step old.now new.now file.now name.now (D.content store.old) (D.content store.new)) }
     ensures fault { IfErr result (λ e. is_outside e ≡ false → option_map of_fault (no_way journal.old.records journal.old.at step) ≡ Some e) }
     ensures refused { (f : JournalFault) → no_way journal.old.records journal.old.at step ≡ Some f → result ≡ Err (of_fault f) }
     ensures kept { IsTrue D.keeps → IfErr result (λ e. is_outside e ≡ false → D.content store.new ≡ D.content store.old) }
@@ -127,7 +127,8 @@ pub fn walk_file<D: Store>(
     ensures arrives { IsTrue D.keeps → file.now ≢ name.now → (h : Option History) → GoodIn (D.content store.old) file.now name.now h →
         Arrives (D.content store.new) file.now name.now (walk_cause (step_of walk) h) h (walk_next (step_of walk) h) result }
     ensures effect { IsTrue D.keeps → file.now ≢ name.now →
-        Works (from_pair (map.get (D.content store.old) file.now) (map.get (D.content store.old) name.now) (walk_effect (step_of walk))) file.now name.now (D.content store.old) (D.content store.new) result }
+        Works (from_names (D.content store.old) file.now name.now (walk_effect (step_of walk)))
+        file.now name.now (D.content store.old) (D.content store.new) result }
     ensures kept { IsTrue D.keeps → IfErr result (λ e. is_outside e ≡ false → D.content store.new ≡ D.content store.old) }
     ensures others { IsTrue D.keeps → OthersStay (D.content store.old) (D.content store.new) file.now name.now }
     ensures quiet { IfErr result (λ e. is_output e ≡ false) }

@@ -4,7 +4,7 @@ ghost use Rattle.std.specs.FinMap as map;
 ghost use Rattle.yq_journal.specs.Good.{journal_beside};
 ghost use Rattle.yq_journal.specs.History.{History};
 ghost use Rattle.yq_journal.specs.State.{State};
-ghost use Rattle.yq_history.specs.Effects.{Effect, from_pair, refuses};
+ghost use Rattle.yq_history.specs.Effects.{Effect, from_names, refuses};
 ghost use Rattle.yq_history.specs.Faults.{is_outside, is_output, counted};
 ghost use Rattle.yq_history.specs.Pair.{GoodIn, Opens, Writes};
 ghost use Rattle.yq_history.specs.Causes.{named};
@@ -60,9 +60,9 @@ pub fn open_pair<D: Store>(
     ensures opens { IsTrue D.keeps → (h : Option History) → GoodIn (D.content store.old) file.now name.now h →
         Opens (D.content store.new) file.now name.now h result }
     ensures found { IsTrue D.keeps → IfOk result (λ p. (go : List ℕ → State → Effect) →
-        from_pair (map.get (D.content store.old) file.now) (map.get (D.content store.old) name.now) go ≡ go p.0.items p.1) }
+        from_names (D.content store.old) file.now name.now go ≡ go p.0.items p.1) }
     ensures missed { IsTrue D.keeps → IfErr result (λ e. is_outside e ≡ false → (go : List ℕ → State → Effect) →
-        from_pair (map.get (D.content store.old) file.now) (map.get (D.content store.old) name.now) go ≡ refuses (named e)) }
+        from_names (D.content store.old) file.now name.now go ≡ refuses (named e)) }
     ensures same { IsTrue D.keeps → D.content store.new ≡ D.content store.old }
     ensures text { IsTrue D.keeps → IfOk result (λ p. map.get (D.content store.old) file.now ≡ Some p.0.items) }
     ensures at_rest { IfOk result (λ p. IsNone p.1.pending) }

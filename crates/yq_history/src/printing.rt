@@ -1,10 +1,9 @@
 //! The lines of a history.
 ghost use Rattle.std.specs.Prelude.{◌≡◌, ◌∷◌, ◌++◌, [], Option, IfErr, OnOk, IfOk, IsTrue, false, true, decimal};
-ghost use Rattle.std.specs.FinMap as map;
 ghost use Rattle.std.specs.String.{string_bytes};
 ghost use Rattle.json.specs.Print as json;
 ghost use Rattle.yq_journal.specs.History.{History};
-ghost use Rattle.yq_history.specs.Effects.{Works, from_pair, listing_effect, printed_by};
+ghost use Rattle.yq_history.specs.Effects.{Works, from_names, listing_effect, printed_by};
 ghost use Rattle.yq_history.specs.Faults.{is_output, counted};
 ghost use Rattle.yq_history.specs.Pair.{Arrives, GoodIn};
 ghost use Rattle.yq_history.specs.Listing as spec;
@@ -77,9 +76,10 @@ pub fn listing<D: Store>(
     requires empty { shown_by shown.old ≡ nothing }
     ensures arrives { IsTrue D.keeps → (h : Option History) → GoodIn (D.content store.old) file.now name.now h →
         Arrives (D.content store.new) file.now name.now (listing_cause h) h h result }
-    ensures effect { IsTrue D.keeps → Works (from_pair (map.get (D.content store.old) file.now) (map.get (D.content store.old) name.now) listing_effect)
+    ensures effect { IsTrue D.keeps → Works (from_names (D.content store.old) file.now name.now listing_effect)
         file.now name.now (D.content store.old) (D.content store.new) result }
-    ensures lines { IsTrue D.keeps → OnOk result (string_bytes shown.new.text ≡ printed_by (from_pair (map.get (D.content store.old) file.now) (map.get (D.content store.old) name.now) listing_effect)) }
+    ensures lines { IsTrue D.keeps → OnOk result
+        (string_bytes shown.new.text ≡ printed_by (from_names (D.content store.old) file.now name.now listing_effect)) }
     ensures output { IsTrue D.keeps → (h : Option History) → GoodIn (D.content store.old) file.now name.now h →
         OnOk result (shown_by shown.new ≡ shown_text (spec.listing_output h)) }
     ensures matched { shown.new.is_match ≡ true }

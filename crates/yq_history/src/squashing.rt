@@ -4,7 +4,7 @@ ghost use Rattle.std.specs.FinMap as map;
 ghost use Rattle.yq_journal.specs.History.{History};
 ghost use Rattle.yq_journal.specs.Refusals.{squash_fault};
 ghost use Rattle.yq_journal.specs.declared.fault.JournalFault.{JournalFault};
-ghost use Rattle.yq_history.specs.Effects.{Works, from_pair, squash_effect};
+ghost use Rattle.yq_history.specs.Effects.{Works, from_names, squash_effect};
 ghost use Rattle.yq_history.specs.Faults.{is_outside, is_output, counted, of_fault};
 ghost use Rattle.yq_history.specs.Pair.{Arrives, GoodIn, Rest};
 ghost use Rattle.yq_history.specs.Steps.{squash_cause, squash_next};
@@ -53,7 +53,7 @@ pub fn squash<D: Store>(
     ensures arrives { IsTrue D.keeps → file.now ≢ name.now → (h : Option History) → GoodIn (D.content store.old) file.now name.now h →
         Arrives (D.content store.new) file.now name.now (squash_cause n h) h (squash_next n h) result }
     ensures effect { IsTrue D.keeps → file.now ≢ name.now →
-        Works (from_pair (map.get (D.content store.old) file.now) (map.get (D.content store.old) name.now) (squash_effect n)) file.now name.now (D.content store.old) (D.content store.new) result }
+        Works (from_names (D.content store.old) file.now name.now (squash_effect n)) file.now name.now (D.content store.old) (D.content store.new) result }
     ensures kept { IsTrue D.keeps → IfErr result (λ e. is_outside e ≡ false → D.content store.new ≡ D.content store.old) }
     ensures one { IsTrue D.keeps → n ≡ 1 → D.content store.new ≡ D.content store.old }
     ensures others { IsTrue D.keeps → (q : List ℕ) → q ≢ name.now → map.get (D.content store.new) q ≡ map.get (D.content store.old) q }
