@@ -40,9 +40,9 @@ use Rattle.yq_script.specs.Script.{Segment, old_text, new_text}
 use Rattle.yq_flow_ways.specs.FlowWays.{flow_append_way, flow_segments, takes_key}
 use Rattle.yq_ways.specs.Operands.{HasOperand, KeyIsUtf8}
 use Rattle.yq_ways.specs.Local.{IsLocalWay}
-use Rattle.yq_ways.specs.Ways.{IsWay, ReadsAfter}
+use Rattle.yq_ways.specs.Ways.{IsWay}
 use Rattle.yq_ways.proofs.CarriedLaws.{CarriedOut}
-use Rattle.yq_flow_ways.proofs.FlowRests.{along_rest, item_rest, appended_rest, removed_rest}
+use Rattle.yq_flow_ways.proofs.FlowRests.{along_rest, appended_rest}
 use Rattle.yq_ways.proofs.DoneLaws.{nth_map}
 use Rattle.yq_ways.proofs.FitLaws.{new_key, new_value, tree_unique}
 use Rattle.yq_flow_ways.proofs.FlowPieceLaws.{edit_pieces, nothing_piece}

@@ -34,9 +34,9 @@ use Rattle.yq_script.specs.Script.{Segment, old_text, new_text}
 use Rattle.yq_flow_ways.specs.FlowWays.{flow_segments, flow_remove_way}
 use Rattle.yq_ways.specs.Operands.{HasOperand}
 use Rattle.yq_ways.specs.Local.{IsLocalWay}
-use Rattle.yq_ways.specs.Ways.{IsWay, ReadsAfter}
+use Rattle.yq_ways.specs.Ways.{IsWay}
 use Rattle.yq_ways.proofs.CarriedLaws.{CarriedOut}
-use Rattle.yq_flow_ways.proofs.FlowRests.{along_rest, item_rest, appended_rest, removed_rest}
+use Rattle.yq_flow_ways.proofs.FlowRests.{along_rest, removed_rest}
 use Rattle.yq_flow_ways.proofs.FlowPieceLaws.{edit_pieces, lead_piece, nothing_piece, removed_empty}
 use Rattle.yq_flow_ways.proofs.FlowStandings as standing
 use Rattle.yq_flow_ways.proofs.FlowStandings.{EntryAt, Made, entry_made}

@@ -28,7 +28,6 @@ use Rattle.yq_lines.specs.Outline.{anchored}
 use Rattle.yq_rows.specs.Rows.{Cut, cut_text}
 use Rattle.yq_documents.specs.Documents.{EachHasFitKeys, HasFitKey, HasFitKeys, lead_of}
 use Rattle.yq_documents.specs.Nodes.{anchor_of}
-use Rattle.yq_documents.specs.Reading as reading
 use Rattle.yq_documents.specs.Reading.{documents, read_at, root_of}
 use Rattle.yq_documents.specs.TreeEdits.{replaced}
 use Rattle.yq_tree.proofs.FlowPieces.{named_is, none_anchored}
@@ -52,7 +51,7 @@ use Rattle.yq_ways.specs.Style.{style_in}
 use Rattle.yq_ways.specs.Local.{IsLocalWay}
 use Rattle.yq_ways.specs.Ways.{IsWay, ReadsAfter}
 use Rattle.yq_ways.proofs.CarriedLaws.{CarriedOut}
-use Rattle.yq_flow_ways.proofs.FlowRests.{along_rest, item_rest, appended_rest, removed_rest}
+use Rattle.yq_flow_ways.proofs.FlowRests.{along_rest, item_rest}
 use Rattle.yq_ways.proofs.FitLaws.{FitsReplace, fits_replace}
 use Rattle.yq_flow_ways.proofs.FlowPieceLaws.{edit_pieces, nothing_piece, one_space}
 use Rattle.yq_flow_ways.proofs.FlowSoundLaws.{last_is}
