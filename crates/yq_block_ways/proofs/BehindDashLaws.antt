@@ -10,7 +10,7 @@ use Rattle.yq_rows.specs.Rows.{Row, behind_dashes, behind_indent, dashes_text, m
 use Rattle.yq_rows.proofs.seams.JoinLaws.{dashes_text-append}
 use Rattle.yq_rows.proofs.PlaceLaws.{dashes_then}
 use Rattle.yq_documents.specs.Documents.{HaveFitKeys}
-use Rattle.yq_change.specs.Items.{rows_items}
+use Rattle.yq_rows.specs.Items.{rows_items}
 use Rattle.yq_ways.specs.Local.{InFirst}
 use Rattle.yq_ways.proofs.LocalLaws.{first_within}
 use Rattle.yq_block.specs.BlockPlaces.{compact_rows}

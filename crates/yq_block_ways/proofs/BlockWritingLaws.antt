@@ -62,7 +62,7 @@ use Rattle.yq_block_ways.proofs.MarkRowLaws.{HasMark, is_key, mark_has}
 use Rattle.yq_tree.specs.ScalarPlaces.{anchor_before}
 use Rattle.yq_block_ways.proofs.NodeCarriedLaws.{KeepsNode, node_carried}
 use Rattle.yq_block_ways.proofs.NodeLeads.{upto_lead, own_lead, upto_long, first_lead}
-use Rattle.yq_change.specs.Items.{rows_items}
+use Rattle.yq_rows.specs.Items.{rows_items}
 use Rattle.yq_block_ways.proofs.NodeRowLaws.{NodeRows, TakesNode, q_text}
 use Rattle.yq_block_ways.proofs.NodeValueLaws.{IsHolding, end_is, mark_key, rows_under, takes_under}
 use Rattle.yq_ways.proofs.SegmentLaws.{segments_readable}

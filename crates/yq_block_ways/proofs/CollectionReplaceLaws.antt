@@ -52,7 +52,7 @@ use Rattle.yq_ways.specs.Local.{InFirst, IsLocalWay}
 use Rattle.yq_ways.specs.Ways.{IsWay, ReadsAfter}
 use Rattle.yq_ways.proofs.CarriedLaws.{CarriedOut}
 use Rattle.yq_ways.proofs.OneLines.{break_line}
-use Rattle.yq_change.specs.Items.{rows_items}
+use Rattle.yq_rows.specs.Items.{rows_items}
 use Rattle.yq_tree.specs.ScalarPlaces.{anchor_before}
 use Rattle.yq_block_ways.proofs.NodeCarriedLaws.{KeepsNode, node_carried}
 use Rattle.yq_block_ways.proofs.NodeLeads.{upto_lead, own_lead, first_lead}

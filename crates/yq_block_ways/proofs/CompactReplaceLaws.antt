@@ -54,7 +54,7 @@ use Rattle.yq_ways.specs.Local.{InFirst, IsLocalWay}
 use Rattle.yq_ways.specs.Ways.{IsWay, ReadsAfter}
 use Rattle.yq_ways.proofs.CarriedLaws.{CarriedOut}
 use Rattle.yq_ways.proofs.OneLines.{break_line}
-use Rattle.yq_change.specs.Items.{rows_items}
+use Rattle.yq_rows.specs.Items.{rows_items}
 use Rattle.yq_block_ways.proofs.NodeCarriedLaws.{KeepsNode, node_carried}
 use Rattle.yq_block_ways.proofs.NodeLeads.{content_first, upto_long}
 use Rattle.yq_ways.proofs.AppendPlaces.{kept_pieces}

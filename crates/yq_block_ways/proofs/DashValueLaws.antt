@@ -26,7 +26,7 @@ use Rattle.yq_block.proofs.LineLaws.{BeginAt, lines_deeper, node_begun, node_sta
 use Rattle.yq_block.proofs.PlaceLaws.{behind_laid, compact_lines}
 use Rattle.yq_block.proofs.RowLaws.{deeper_laid}
 use Rattle.yq_block.proofs.TextLaws.{value_spelled}
-use Rattle.yq_change.specs.Items.{rows_items}
+use Rattle.yq_rows.specs.Items.{rows_items}
 use Rattle.yq_ways.specs.Local.{InFirst}
 use Rattle.yq_block_ways.proofs.BehindDashLaws.{behind_lead, behind_text, first_row, gap_same, keys_same, more_rows, rows_are}
 use Rattle.yq_block_ways.proofs.NodeRowLaws.{NodeRows, TakesNode, limit, rest, rows_there}

@@ -10,7 +10,7 @@ use Rattle.yq_tree.specs.RowPaths.{IsReadable}
 use Rattle.yq_change.specs.Appends.{inserted}
 use Rattle.yq_change.specs.Changed.{put_document}
 use Rattle.yq_change.specs.DocumentRows.{behind_document}
-use Rattle.yq_change.specs.Items.{rows_items}
+use Rattle.yq_rows.specs.Items.{rows_items}
 use Rattle.yq_change.specs.SoundRoots.{MayReplace}
 use Rattle.yq_meaning.specs.Operations.{replace}
 use Rattle.yq_script.specs.Script.{Segment, old_text, new_text}

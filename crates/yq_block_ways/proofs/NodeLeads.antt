@@ -10,7 +10,7 @@ use Rattle.yq_rows.proofs.seams.JoinLaws.{dashes_text-append}
 use Rattle.yq_rows.proofs.SliceLaws.{content_slices}
 use Rattle.yq_tree.specs.MarkPlaces.{upto_anchor}
 use Rattle.yq_tree.specs.ScalarPlaces.{anchor_before}
-use Rattle.yq_change.specs.Items.{rows_items}
+use Rattle.yq_rows.specs.Items.{rows_items}
 use Rattle.yq_block.specs.BlockPlaces.{IsUpto, at_mark, at_dash}
 use Rattle.yq_ways.specs.Local.{InFirst}
 use Rattle.yq_ways.proofs.LocalLaws.{first_within}

@@ -44,7 +44,7 @@ use Rattle.yq_script.specs.Script.{Segment, old_text, new_text}
 use Rattle.yq_block_ways.specs.ScalarCollection.{below_scalar, rows_in, rows_segments, dash_segments, begins_on_line, collection_segments}
 use Rattle.yq_block_ways.specs.ScalarReplacing.{header_end, break_before, final_break}
 use Rattle.yq_tree.specs.ScalarPlaces.{anchor_before}
-use Rattle.yq_change.specs.Items.{rows_items}
+use Rattle.yq_rows.specs.Items.{rows_items}
 use Rattle.yq_ways.specs.Local.{InFirst}
 use Rattle.yq_ways.proofs.CarriedLaws.{CarriedOut}
 use Rattle.yq_ways.proofs.OneLines.{is_one_line}

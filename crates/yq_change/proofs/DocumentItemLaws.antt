@@ -3,10 +3,10 @@ use Rattle.std.proofs.Common.{◌≡◌, ℕ, zero, suc, List, [], ◌∷◌, �
 use Rattle.std.proofs.lemmas.Option.{none-some, same_Some}
 use Rattle.std.specs.List.{slice_get}
 use Rattle.yq_rows.specs.Grammar.{begins_document}
-use Rattle.yq_change.specs.Items.{Item, row_item, end_item, rows_items, items_of, items_text}
+use Rattle.yq_rows.specs.Items.{Item, row_item, end_item, rows_items, items_of, items_text}
 use Rattle.yq_rows.specs.Rows.{Row, rows_text, Part, Cut, last, marked}
 use Rattle.yq_rows.specs.Splices.{behind_part}
-use Rattle.yq_change.proofs.ItemLaws.{items_of_text}
+use Rattle.yq_rows.proofs.ItemLaws.{items_of_text}
 use Rattle.yq_documents.specs.Documents.{parts_from}
 use Rattle.yq_change.specs.Changed.{put_from}
 use Rattle.yq_change.specs.DocumentRows.{number_from}

@@ -67,4 +67,3 @@ pub mod FlowStandLaws
 pub mod UnderLaws
 pub mod UnbrokenLaws
 pub mod DocumentItemLaws
-pub mod ItemLaws

@@ -33,4 +33,3 @@ pub mod FlowRows
 pub mod FlowKept
 pub mod Unders
 pub mod DocumentItems
-pub mod Items

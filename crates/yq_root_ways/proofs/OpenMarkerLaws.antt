@@ -11,7 +11,7 @@ use Rattle.yq_documents.specs.Documents.{begins_bare, has_begin, with_part, part
 use Rattle.yq_tree.specs.PlacedRows.{PlacedPart, part_behind, placed_part, placed_document}
 use Rattle.yq_tree.proofs.PlacedPartLaws.{map_some}
 use Rattle.yq_change.specs.Changed.{put_document, put_from}
-use Rattle.yq_change.specs.Items.{Item, end_item, rows_items, items_of}
+use Rattle.yq_rows.specs.Items.{Item, end_item, rows_items, items_of}
 use Rattle.yq_change.proofs.DocumentItemLaws.{rows_before}
 
 -- a document behind a text with a break more, at the end of a text

@@ -35,9 +35,9 @@ use Rattle.yq_change.proofs.TextPieceLaws.{pieces_joined}
 use Rattle.yq_meaning.specs.Operations.{replace}
 use Rattle.yq_root_ways.specs.RootWriting.{is_closed_text}
 use Rattle.yq_change.specs.Changed.{put_document}
-use Rattle.yq_change.specs.Items.{Item, end_item, rows_items, items_of, items_text}
+use Rattle.yq_rows.specs.Items.{Item, end_item, rows_items, items_of, items_text}
 use Rattle.yq_change.specs.Replaces.{rooted}
-use Rattle.yq_change.proofs.ItemLaws.{items_of_text, items_text-append}
+use Rattle.yq_rows.proofs.ItemLaws.{items_of_text, items_text-append}
 use Rattle.yq_script.specs.Script.{Segment, new_text}
 use Rattle.yq_ways.specs.Local.{kept_front, kept_back, IsLocal}
 use Rattle.yq_ways.specs.Ways.{ReadsAfter}

@@ -11,7 +11,7 @@ use Rattle.yq_rows.specs.Splices.{first_gap, with_first_gap}
 use Rattle.yq_documents.specs.Documents.{document_parts}
 use Rattle.yq_change.specs.Changed.{put_document}
 use Rattle.yq_change.specs.DocumentRows.{behind_document}
-use Rattle.yq_change.specs.Items.{end_item, rows_items}
+use Rattle.yq_rows.specs.Items.{end_item, rows_items}
 use Rattle.yq_change.specs.Replaces.{rooted}
 use Rattle.yq_block.specs.BlockRows.{node_rows}
 use Rattle.yq_block.specs.declared.layout.Layout.{Layout}
@@ -23,7 +23,7 @@ use Rattle.yq_root_ways.proofs.RootRows.{lone_row, root_rows}
 use Rattle.yq_change.proofs.DocumentItemLaws.{rows_before}
 use Rattle.yq_inline.specs.Nodes as inline
 use Rattle.yq_rows.specs.Splices.{with_row_gap}
-use Rattle.yq_change.specs.Items.{Item}
+use Rattle.yq_rows.specs.Items.{Item}
 use Rattle.std.specs.List.{slice_get}
 use Rattle.std.proofs.Common.{Some}
 

@@ -28,7 +28,7 @@ use Rattle.yq_rows.specs.Appending.{closed_by}
 use Rattle.yq_rows.proofs.PlaceLaws.{row_then}
 use Rattle.yq_rows.proofs.seams.SeamLaws.{rows_text-append}
 use Rattle.yq_tree.proofs.RunSpans.{rows_then}
-use Rattle.yq_change.specs.Items.{rows_items}
+use Rattle.yq_rows.specs.Items.{rows_items}
 use Rattle.yq_ways.specs.Local.{IsLocal, IsLocalTo}
 use Rattle.yq_ways.proofs.LocalLaws.{first_within, last_nothing, cut_known, RowsGiveWay, rows_local}
 use Rattle.yq_ways.specs.Layouts.{layout_of}

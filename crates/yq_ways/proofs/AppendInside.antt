@@ -38,7 +38,7 @@ use Rattle.yq_change.proofs.TextPieceLaws.{pieces_joined}
 use Rattle.yq_block.proofs.LineLaws.{break_quiet}
 use Rattle.yq_meaning.specs.Operations.{append}
 use Rattle.yq_script.specs.Script.{Segment, new_text}
-use Rattle.yq_change.specs.Items.{rows_items}
+use Rattle.yq_rows.specs.Items.{rows_items}
 use Rattle.yq_ways.specs.Local.{IsLocal, IsLocalTo}
 use Rattle.yq_ways.proofs.LocalLaws.{first_nothing, last_nothing, cut_known, RowsGiveWay, rows_local}
 use Rattle.yq_ways.specs.Layouts.{layout_of}

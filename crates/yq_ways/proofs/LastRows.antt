@@ -7,10 +7,10 @@ use Rattle.yq_scalar.specs.Text.{is_empty}
 use Rattle.yq_scalar.proofs.BlockPieceLaws.{IsLf}
 use Rattle.yq_scalar.proofs.Bools.{guard_then}
 use Rattle.yq_rows.specs.Grammar.{Limit, limit_after, IsRow}
-use Rattle.yq_change.specs.Items.{Item, row_item, rows_items, items_of, items_text, Asked, nothing_asked, asked_by, asked_of, AreItems}
+use Rattle.yq_rows.specs.Items.{Item, row_item, rows_items, items_of, items_text, Asked, nothing_asked, asked_by, asked_of, AreItems}
 use Rattle.yq_rows.specs.Rows.{Row, print_row, behind_gap, rows_text, Part, Cut, cut_text}
 use Rattle.yq_rows.specs.Splices.{with_row_gap}
-use Rattle.yq_change.proofs.ItemLaws.{items_joined, parts_are_items}
+use Rattle.yq_rows.proofs.ItemLaws.{items_joined, parts_are_items}
 use Rattle.yq_rows.proofs.PlaceLaws.{row_then}
 use Rattle.yq_rows.proofs.RowLaws.{row_longer}
 use Rattle.yq_rows.proofs.seams.FrontSeams.{row_some}

@@ -4,10 +4,10 @@ use mathlib.Core.List.{head-eq_of_cons-eq, tail-eq_of_cons-eq}
 use Rattle.std.proofs.lemmas.List.{append_cancel_left, append_cancel_right, length-append}
 use Rattle.std.proofs.lemmas.Option.{same_Some}
 use Rattle.std.specs.List.{slice_get}
-use Rattle.yq_change.specs.Items.{Item, row_item, end_item, rows_items, items_of, items_text}
+use Rattle.yq_rows.specs.Items.{Item, row_item, end_item, rows_items, items_of, items_text}
 use Rattle.yq_rows.specs.Rows.{Row, print_row, rows_text, Part, part_text, Cut, cut_text}
-use Rattle.yq_change.proofs.ItemLaws.{items_of_text, items_text-append}
-use Rattle.yq_change.proofs.ItemLaws.{items_apart}
+use Rattle.yq_rows.proofs.ItemLaws.{items_of_text, items_text-append}
+use Rattle.yq_rows.proofs.KeptLaws.{items_apart}
 use Rattle.yq_rows.proofs.PlaceLaws.{row_then}
 use Rattle.yq_documents.specs.Documents.{document_parts}
 use Rattle.yq_documents.specs.Reading.{read_at}

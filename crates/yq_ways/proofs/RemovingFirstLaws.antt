@@ -9,7 +9,7 @@ use Rattle.yq_tree.specs.FirstPlaces.{FirstOut, first_removal}
 use Rattle.yq_documents.specs.Reading.{documents, read_at}
 use Rattle.yq_tree.specs.RemovalPlaces.{has_others_at}
 use Rattle.yq_change.specs.Changed.{put_document}
-use Rattle.yq_change.specs.Items.{row_item, rows_items}
+use Rattle.yq_rows.specs.Items.{row_item, rows_items}
 use Rattle.yq_change.specs.RemovalChanges.{IsTakenOut}
 use Rattle.yq_change.proofs.DocumentItemLaws.{rows_joined}
 use Rattle.yq_change.proofs.FirstBreakLaws.{IsOneBreak}

@@ -3,9 +3,9 @@ use Rattle.std.proofs.Common.{◌≡◌, ℕ, ◌+◌, ◌-◌, ◌≤◌, ltb, 
 use Rattle.std.proofs.lemmas.Bool.{le-ltb}
 use Rattle.std.proofs.lemmas.List.{length-append}
 use Rattle.std.specs.Option.{option_or}
-use Rattle.yq_change.specs.Items.{Item, items_of, items_text}
-use Rattle.yq_change.proofs.ItemLaws.{items_text-append}
-use Rattle.yq_change.proofs.ItemLaws.{items_apart}
+use Rattle.yq_rows.specs.Items.{Item, items_of, items_text}
+use Rattle.yq_rows.proofs.ItemLaws.{items_text-append}
+use Rattle.yq_rows.proofs.KeptLaws.{items_apart}
 use Rattle.yq_script.specs.Script.{Segment, AllStay}
 use Rattle.yq_ways.specs.Local.{kept_front, kept_back, item_text, InFirst, InLast, IsLocalTo, in_front, in_back, LocalTouches, LocalJoined}
 use Rattle.yq_ways.proofs.LocalLaws.{first_nothing, item_apart}

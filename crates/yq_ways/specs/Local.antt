@@ -1,7 +1,7 @@
 -- Which rows and ends of parts of a text an operation exchanges: those that it touches (own).
 use Rattle.std.specs.Prelude.{◌≡◌, ◌⊎◌, ℕ, ◌≤◌, ◌-◌, nat_lt, Bool, true, false, List, [], ◌∷◌, ◌++◌, length, Some, if◌then◌else◌}
 use Rattle.yq_scalar.specs.Characters.{text_limit}
-use Rattle.yq_change.specs.Items.{Item, row_item, end_item, items_of, items_text}
+use Rattle.yq_rows.specs.Items.{Item, row_item, end_item, items_of, items_text}
 use Rattle.yq_rows.specs.Rows.{print_row, Cut, cut_text}
 use Rattle.yq_documents.specs.Reading.{documents, read_at}
 use Rattle.yq_meaning.specs.Fits.{Fits}
