@@ -1,4 +1,4 @@
-use Rattle.std.proofs.Common.{◌∙◌, ℕ, List, length, map, Option, Some, option_map, string_bytes, sym, ap, subst}
+use Rattle.std.proofs.Common.{◌∙◌, ℕ, List, length, map, Option, Some, option_map, string_bytes, sym, ap, subst, refl}
 use Rattle.std.specs.Str.{IsCharBoundary}
 use Rattle.yq_scalar.specs.Paths.{Step}
 use Rattle.yq_inline.specs.Entries.{step_of}
