@@ -26,6 +26,6 @@ fn times_refused(alloc: Global) -> Result<Option<u32>, AllocError> {
 
 #[test]
 fn memory_is_refused_in_turn(rt: HostRuntime) -> Result<(), Fail> {
-    assert!(rt; matches!(times_refused(rt.alloc())?, Some(times) if times > 3));
+    assert!(rt; matches!(times_refused(rt.alloc())?, Some(times) if times > 0));
     Ok(())
 }
