@@ -31,7 +31,7 @@ items_texts [] rest h u = u
 items_texts (row_item r ∷ xs) rest h u = row_texts r (items_text xs rest) h.0 (items_texts xs rest h.1 u)
 items_texts (end_item gap marker ∷ xs) rest h u = IsUtf8-append gap (marker ++ items_text xs rest) h.0 (IsUtf8-append marker (items_text xs rest) h.1 (items_texts xs rest h.2 u))
 
-print_then : (r : Row) (rest : List ℕ) → print_row r rest ≡ print_row r [] ++ rest
+pub print_then : (r : Row) (rest : List ℕ) → print_row r rest ≡ print_row r [] ++ rest
 print_then r rest = sym (slices_are r rest) ∙ (row_then (slices r) rest ∙ ap (λ t. t ++ rest) (slices_are r []))
 
 row_apart : (pre : List ℕ) (r : Row) (t : List ℕ) → pre ++ print_row r t ≡ (pre ++ print_row r []) ++ t

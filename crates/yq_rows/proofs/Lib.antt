@@ -48,4 +48,6 @@ pub mod MeterLaws
 pub mod ItemSpliceLaws
 pub mod KeptLaws
 pub mod NearLaws
+pub mod EndPlaceLaws
+pub mod EndsNear
 pub mod RegionEnds

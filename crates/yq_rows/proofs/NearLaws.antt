@@ -9,22 +9,24 @@ use Rattle.yq_scalar.specs.Text.{is_empty}
 use Rattle.yq_scalar.proofs.Bools.{bind_some}
 use Rattle.yq_rows.specs.Grammar.{Limit, limit_after, ends_part, begins_document}
 use Rattle.yq_rows.specs.Items.{Item, row_item, end_item, rows_items, items_of, items_text, rows_in_items, bounds_in_items, shown_items}
-use Rattle.yq_rows.specs.Kept.{near, rows_placed, parts_placed, AreNear}
+use Rattle.yq_rows.specs.Kept.{near, ends_near, rows_placed, parts_placed, ends_placed, AreNear}
 use Rattle.yq_rows.specs.Lending.{Lent, lent, row_lent, shown_read}
 use Rattle.yq_rows.specs.Offsets.{Ends, offsets_of, row_length}
 use Rattle.yq_rows.specs.Reading.{cut_gap, row_at, all_rows, part_at, marker_at, all_parts}
 use Rattle.yq_rows.specs.RowStarts.{bound_length, passed_length, row_start}
-use Rattle.yq_rows.specs.Rows.{Row, print_row, rows_text, Part, part_text, Cut, last, marked}
+use Rattle.yq_rows.specs.Rows.{Row, print_row, rows_text, Part, part_text, Cut, last, marked, cut_text}
 use Rattle.yq_rows.specs.View.{Slices, slices, slices_text, Bound, Shown}
+use Rattle.yq_rows.specs.declared.ends.EndPlace.{EndPlace}
 use Rattle.yq_rows.specs.declared.offsets.Offsets as declared
 use Rattle.yq_rows.proofs.FrontLaws.{front_join, front_le}
-use Rattle.yq_rows.proofs.ItemLaws.{items_shown, rows_items_text}
+use Rattle.yq_rows.proofs.ItemLaws.{items_of_text, items_shown, rows_items_text}
 use Rattle.yq_rows.proofs.ItemSpliceLaws.{rows_front}
 use Rattle.yq_rows.proofs.KeptLaws.{items_apart, near_joined}
 use Rattle.yq_rows.proofs.OffsetLaws.{row_then}
 use Rattle.yq_rows.proofs.PartsLaws.{parts_refused, parts_last, parts_marked, part_takes, marker_takes, part_marker}
 use Rattle.yq_rows.proofs.RowLending.{row_joined}
 use Rattle.yq_rows.proofs.RowsLaws.{with_front, rows_from, rows_cut, rows_step, rows_refused, rows_done}
+use Rattle.yq_rows.proofs.ScanLaws.{parts_take}
 use Rattle.yq_rows.proofs.SliceLaws.{slices_are, print-length}
 
 -- one row more
@@ -48,7 +50,7 @@ pub rows_placed_none : (os : List declared.Offsets) (n : ℕ) (limit : Limit) (t
 rows_placed_none os n limit t g r all e more none so_far = sym so_far ∙ ap (rows_placed os n) (gap_read limit t g r e ∙ rows_refused limit g r more (not_read (row_at limit g r) none))
 
 -- how far from the beginning the next one stands
-next_place : (whole t p rest : List ℕ) → Ends t whole → t ≡ p ++ rest → length whole - length rest ≡ (length whole - length t) + length p
+pub next_place : (whole t p rest : List ℕ) → Ends t whole → t ≡ p ++ rest → length whole - length rest ≡ (length whole - length t) + length p
 next_place whole t p rest h e =
     let within = front_le whole _ t (front_join whole t h) in
     omega (arith, within, ap length e, length-append p rest)
@@ -96,7 +98,7 @@ marked_placed os n p marker (Some c) =
     ap (λ l. Some (os ++ l)) (near_part n p.rows p.end marker (items_of c))
     ∙ ap Some (sym (append_assoc os (near n (rows_items p.rows [])) (near (n + length (rows_text p.rows (p.end ++ marker))) (items_of c))))
 
-part_apart : (p : Part) (marker rest : List ℕ) → part_text p (marker ++ rest) ≡ rows_text p.rows (p.end ++ marker) ++ rest
+pub part_apart : (p : Part) (marker rest : List ℕ) → part_text p (marker ++ rest) ≡ rows_text p.rows (p.end ++ marker) ++ rest
 part_apart p marker rest =
     let own = items_text (rows_items p.rows []) [] in
     let long : (x : List ℕ) → rows_text p.rows x ≡ own ++ x = λ x. sym (rows_items_text p.rows [] x) ∙ items_apart (rows_items p.rows []) x in
@@ -123,16 +125,19 @@ parts_placed_step os items whole started t after marker next all ends m placed s
     ∙ (sym (marked_placed os n p marker (all_parts (begins_document marker) next))
     ∙ (sym (ap (parts_placed os n) (parts_marked started t (p, after) (marker, next) m.read m.some m.line)) ∙ so_far)))
 
-near_cut : (n : ℕ) (o : Option Cut) (os : List declared.Offsets) (s : Shown) → n ≡ 0 → parts_placed [] n o ≡ Some os → shown_read o ≡ Some s → AreNear os s
-near_cut n None os s zero_more h e = cc
-near_cut n (Some c) os s zero_more h e = record {
+near_cut : (t : List ℕ) (n : ℕ) (o : Option Cut) (os : List declared.Offsets) (es : List EndPlace) (s : Shown) → n ≡ 0 → ((c : Cut) → o ≡ Some c → t ≡ cut_text c) → parts_placed [] n o ≡ Some os → ends_placed [] n 0 o ≡ Some es → shown_read o ≡ Some s → AreNear t os es s
+near_cut t n None os es s zero_more text h g e = cc
+near_cut t n (Some c) os es s zero_more text h g e = record {
   items = items_of c;
+  text_is = text c refl ∙ sym (items_of_text c);
   near_is = sym (same_Some _ _ h) ∙ ap (λ (k : ℕ). near k (items_of c)) zero_more;
+  ends_is = sym (same_Some _ _ g) ∙ ap (λ (k : ℕ). ends_near k 0 (items_of c)) zero_more;
   shown_is = sym (same_Some _ _ e) ∙ sym (items_shown c);
 }
 
-pub near_read : (t : List ℕ) (os : List declared.Offsets) (s : Shown) → parts_placed [] (length t - length t) (all_parts true t) ≡ Some os → shown_read (all_parts true t) ≡ Some s → AreNear os s
-near_read t os s h e = near_cut (length t - length t) (all_parts true t) os s (omega arith) h e
+pub near_read : (t : List ℕ) (os : List declared.Offsets) (es : List EndPlace) (s : Shown) → parts_placed [] (length t - length t) (all_parts true t) ≡ Some os → ends_placed [] (length t - length t) 0 (all_parts true t) ≡ Some es →
+    shown_read (all_parts true t) ≡ Some s → AreNear t os es s
+near_read t os es s h g e = near_cut t (length t - length t) (all_parts true t) os es s (omega arith) (λ c read. (parts_take (suc (length t)) true t c read).0) h g e
 
 -- a row by its index
 abbrev start_in : ℕ → ℕ → ℕ → List Item → ℕ
@@ -166,8 +171,8 @@ near_at (end_item gap marker ∷ xs) n k i s h =
     let place : start_in (n + length (gap ++ marker)) k i xs ≡ start_in n k i (end_item gap marker ∷ xs) = omega (arith, own, first, length-append gap marker) in
     near_at xs (n + length (gap ++ marker)) k i s h ∙ ap (λ (m : ℕ). Some (offsets_of m s)) place
 
-pub row_near : (os : List declared.Offsets) (v : Shown) (i : ℕ) (s : Slices) → AreNear os v → slice_get v.rows i ≡ Some s → slice_get os i ≡ Some (offsets_of (row_start i v) s)
-row_near os v i s h there =
+pub row_near : (t : List ℕ) (os : List declared.Offsets) (es : List EndPlace) (v : Shown) (i : ℕ) (s : Slices) → AreNear t os es v → slice_get v.rows i ≡ Some s → slice_get os i ≡ Some (offsets_of (row_start i v) s)
+row_near t os es v i s h there =
     let at : slice_get (rows_in_items h.items) i ≡ Some s = sym (ap (λ (x : Shown). slice_get x.rows i) h.shown_is) ∙ there in
     let place : start_in 0 0 i h.items ≡ row_start i (shown_items h.items) = omega (arith, ap (λ (j : ℕ). sum_by (passed_length j) (bounds_in_items 0 h.items)) (zero_plus i)) in
     ap (λ (l : List declared.Offsets). slice_get l i) h.near_is ∙ (near_at h.items 0 0 i s at ∙ ap (λ (m : ℕ). Some (offsets_of m s)) (place ∙ ap (row_start i) (sym h.shown_is)))
@@ -180,16 +185,16 @@ some_row [] i less = absurd (omega (arith, less))
 some_row (s ∷ ss) zero less = (s, refl)
 some_row (s ∷ ss) (suc i) less = some_row ss i (omega (arith, less))
 
-pub row_lengths : (os : List declared.Offsets) (v : Shown) (i : ℕ) (o : declared.Offsets) (s : Slices) → AreNear os v → slice_get v.rows i ≡ Some s → o ≡ get_or os i o → o ≡ offsets_of (row_start i v) s
-row_lengths os v i o s h there e =
-    let near_is = row_near os v i s h there in
+pub row_lengths : (t : List ℕ) (os : List declared.Offsets) (es : List EndPlace) (v : Shown) (i : ℕ) (o : declared.Offsets) (s : Slices) → AreNear t os es v → slice_get v.rows i ≡ Some s → o ≡ get_or os i o → o ≡ offsets_of (row_start i v) s
+row_lengths t os es v i o s h there e =
+    let near_is = row_near t os es v i s h there in
     let own : slice_get os i ≡ Some o = slice_get_read os (length os) i o refl (slice_get_within os i _ near_is) e in
     same_Some _ _ (sym own ∙ near_is)
 
-pub row_starts : (os : List declared.Offsets) (v : Shown) (i : ℕ) (o : declared.Offsets) → AreNear os v → i < length v.rows → o ≡ get_or os i o → o.start ≡ row_start i v
-row_starts os v i o h less e = let s = some_row v.rows i less in ap (λ (p : declared.Offsets). p.start) (row_lengths os v i o s.0 h s.1 e)
+pub row_starts : (t : List ℕ) (os : List declared.Offsets) (es : List EndPlace) (v : Shown) (i : ℕ) (o : declared.Offsets) → AreNear t os es v → i < length v.rows → o ≡ get_or os i o → o.start ≡ row_start i v
+row_starts t os es v i o h less e = let s = some_row v.rows i less in ap (λ (p : declared.Offsets). p.start) (row_lengths t os es v i o s.0 h s.1 e)
 
-pub own_lengths : (os : List declared.Offsets) (v : Shown) (i : ℕ) (o : declared.Offsets) (s : Slices) → AreNear os v → slice_get v.rows i ≡ Some s → o ≡ get_or os i o → o ≡ offsets_of o.start s
-own_lengths os v i o s h there e =
-    let is = row_lengths os v i o s h there e in
+pub own_lengths : (t : List ℕ) (os : List declared.Offsets) (es : List EndPlace) (v : Shown) (i : ℕ) (o : declared.Offsets) (s : Slices) → AreNear t os es v → slice_get v.rows i ≡ Some s → o ≡ get_or os i o → o ≡ offsets_of o.start s
+own_lengths t os es v i o s h there e =
+    let is = row_lengths t os es v i o s h there e in
     is ∙ ap (λ (n : ℕ). offsets_of n s) (sym (ap (λ (p : declared.Offsets). p.start) is))

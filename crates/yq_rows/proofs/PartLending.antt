@@ -10,10 +10,16 @@ use Rattle.yq_scalar.proofs.Bools.{bind_some}
 use Rattle.yq_rows.specs.Grammar.{begins_document}
 use Rattle.yq_rows.specs.Lending.{PartLent, part_behind, rows_lent, behind_parts, parts_lent}
 use Rattle.yq_rows.specs.Reading.{tail_at, marker_at, part_at, all_parts}
-use Rattle.yq_rows.specs.Rows.{Part, Cut, last, marked}
-use Rattle.yq_rows.specs.View.{Slices, slices, Bound, Shown, rows_of, bounds_from, bound_view, bound_views}
-use Rattle.yq_rows.specs.declared.scanning.Bound as ends
-use Rattle.yq_rows.proofs.PartsLaws.{parts_refused, parts_last, parts_no_marker, parts_marked, part_marker, parts_smaller}
+use Rattle.yq_rows.specs.Rows.{rows_text, Part, Cut, last, marked}
+use Rattle.yq_rows.specs.View.{Slices, slices, Bound, Shown, rows_of, bounds_from}
+use Rattle.yq_rows.specs.Ends.{bound_in, bounds_in}
+use Rattle.yq_rows.specs.Items.{items_text, rows_items}
+use Rattle.yq_rows.specs.Offsets.{Ends}
+use Rattle.yq_rows.specs.declared.ends.EndPlace as ends
+use Rattle.yq_rows.proofs.PartsLaws.{parts_refused, parts_last, parts_no_marker, parts_marked, part_marker, parts_smaller, part_takes}
+use Rattle.yq_rows.proofs.ItemLaws.{rows_items_text}
+use Rattle.yq_rows.proofs.KeptLaws.{items_apart}
+use Rattle.yq_rows.proofs.OffsetLaws.{ends_next}
 use Rattle.yq_rows.proofs.PieceLaws.{tail_takes}
 use Rattle.yq_rows.proofs.FrontLaws.{front_take, front_boundary, front_le}
 
@@ -104,17 +110,20 @@ parts_more rows bounds started t found end after marker next k h some m e =
     ap (parts_lent rows bounds) (parts_marked started t (p.part, after) (marker, next) p.read some m)
     ∙ more_shown rows bounds p.part found end marker k (all_parts (begins_document marker) next) (e ∙ p.count) p.rows_is p.end_is e
 
-pub bounds_push : (bounds items : List ends.Bound) (b : ends.Bound) → items ≡ bounds ++ b ∷ [] → bound_views items ≡ bound_views bounds ++ bound_view b ∷ []
-bounds_push bounds items b e = ap bound_views e ∙ map-append bound_view bounds (b ∷ [])
+pub bounds_push : (t : List ℕ) (old items : List ends.EndPlace) (e : ends.EndPlace) (b : Bound) → items ≡ old ++ e ∷ [] → bound_in t e ≡ b → bounds_in t items ≡ bounds_in t old ++ b ∷ []
+bounds_push t old items e b pushed same = ap (bounds_in t) pushed ∙ (map-append (bound_in t) old (e ∷ []) ∙ ap (λ (x : Bound). bounds_in t old ++ x ∷ []) same)
 
-pub parts_end : (rows found : List Slices) (bounds items : List ends.Bound) (started : Bool) (t after : List ℕ) (b : ends.Bound) (all : Option Shown) → rows_lent rows (part_at started t) ≡ Some (found, b.end.now, after) → is_empty after ≡ true → b.rows ≡ length found → b.marker.now ≡ [] →
-    items ≡ bounds ++ b ∷ [] → parts_lent rows (bound_views bounds) (all_parts started t) ≡ all → all ≡ Some (record { rows = found; bounds = bound_views items })
-parts_end rows found bounds items started t after b all h none count unmarked pushed so_far =
-    let b_is : record { rows = b.rows; end = b.end.now; marker = [] } ≡ bound_view b = ap (λ (m : List ℕ). record { rows = b.rows; end = b.end.now; marker = m }) (sym unmarked) in
-    let bounds_here : bound_views bounds ++ record { rows = b.rows; end = b.end.now; marker = [] } ∷ [] ≡ bound_views items = ap (λ (x : Bound). bound_views bounds ++ x ∷ []) b_is ∙ sym (bounds_push bounds items b pushed) in
-    sym so_far
-    ∙ (parts_done rows (bound_views bounds) started t found b.end.now after b.rows h none count
-    ∙ ap (λ (l : List Bound). Some (record { rows = found; bounds = l })) bounds_here)
+pub parts_end : (rows found : List Slices) (bounds items : List Bound) (started : Bool) (t after end : List ℕ) (k : ℕ) (all : Option Shown) → rows_lent rows (part_at started t) ≡ Some (found, end, after) → is_empty after ≡ true → k ≡ length found →
+    items ≡ bounds ++ record { rows = k; end = end; marker = [] } ∷ [] → parts_lent rows bounds (all_parts started t) ≡ all → all ≡ Some (record { rows = found; bounds = items })
+parts_end rows found bounds items started t after end k all h none count pushed so_far =
+    sym so_far ∙ (parts_done rows bounds started t found end after k h none count ∙ ap (λ (l : List Bound). Some (record { rows = found; bounds = l })) (sym pushed))
+
+-- what follows the rows of a part is an end of the text, as the part is
+pub end_ends : (whole t end after : List ℕ) (started : Bool) (p : Part) → Ends t whole → part_at started t ≡ Some (p, after) → end ≡ p.end → Ends (end ++ after) whole
+end_ends whole t end after started p h read e =
+    let text : t ≡ rows_text p.rows (p.end ++ after) = (part_takes started t (p, after) read).text in
+    let front : t ≡ items_text (rows_items p.rows []) [] ++ (end ++ after) = text ∙ (sym (rows_items_text p.rows [] (p.end ++ after)) ∙ (items_apart (rows_items p.rows []) (p.end ++ after) ∙ ap (λ (l : List ℕ). items_text (rows_items p.rows []) [] ++ (l ++ after)) (sym e))) in
+    ends_next whole t (items_text (rows_items p.rows []) []) (end ++ after) h front
 
 pub empty_by : (t : List ℕ) (b c : Bool) → b ≡ eqb (length t) 0 → b ≡ c → is_empty t ≡ c
 empty_by [] b c e f = sym e ∙ f

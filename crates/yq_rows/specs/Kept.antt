@@ -2,11 +2,14 @@
 -- that to the text's end.
 use Rattle.std.specs.Prelude.{◌≡◌, ℕ, ◌+◌, ◌-◌, ◌<◌, ◌^◌, List, [], ◌∷◌, ◌++◌, length, map, reverse, Option, Some}
 use Rattle.yq_scalar.specs.Answers.{◌>>=◌}
+use Rattle.std.specs.List.Sorted.{IsNonDecreasingBy}
 use Rattle.std.specs.Str.{IsUtf8}
+use Rattle.yq_rows.specs.Ends.{EndsStand, bounds_in, end_at}
 use Rattle.yq_rows.specs.Items.{Item, row_item, end_item, items_of, items_text, rows_items, shown_items}
-use Rattle.yq_rows.specs.Offsets.{AreTexts, offsets_of, rows_in}
+use Rattle.yq_rows.specs.Offsets.{AreTexts, Stand, offsets_of, rows_in}
 use Rattle.yq_rows.specs.Rows.{print_row, Part, Cut}
 use Rattle.yq_rows.specs.View.{Bound, Slices, slices, Shown}
+use Rattle.yq_rows.specs.declared.ends.EndPlace.{EndPlace}
 use Rattle.yq_rows.specs.declared.offsets.Offsets as declared
 
 -- the rows of items, of which so many bytes stand in front (own)
@@ -14,6 +17,12 @@ abbrev pub near : ℕ → List Item → List declared.Offsets
 near n [] = []
 near n (row_item r ∷ xs) = offsets_of n (slices r) ∷ near (n + length (print_row r [])) xs
 near n (end_item gap marker ∷ xs) = near (n + length (gap ++ marker)) xs
+
+-- the ends of parts among items, of which so many bytes and so many rows stand in front (own)
+abbrev pub ends_near : ℕ → ℕ → List Item → List EndPlace
+ends_near n k [] = []
+ends_near n k (row_item r ∷ xs) = ends_near (n + length (print_row r [])) (k + 1) xs
+ends_near n k (end_item gap marker ∷ xs) = end_at n k gap marker ∷ ends_near (n + length (gap ++ marker)) k xs
 
 -- rows that are read behind others, of which so many bytes stand in front (own)
 abbrev pub rows_placed : List declared.Offsets → ℕ → Option (Part × List ℕ) → Option (List declared.Offsets)
@@ -23,15 +32,26 @@ rows_placed offsets n read = read >>= λ x. Some (offsets ++ near n (rows_items 
 abbrev pub parts_placed : List declared.Offsets → ℕ → Option Cut → Option (List declared.Offsets)
 parts_placed offsets n read = read >>= λ c. Some (offsets ++ near n (items_of c))
 
+-- the ends of all parts, behind others (own)
+abbrev pub ends_placed : List EndPlace → ℕ → ℕ → Option Cut → Option (List EndPlace)
+ends_placed ends n k read = read >>= λ c. Some (ends ++ ends_near n k (items_of c))
+
 -- rows of a text by where they stand in it, and where its parts end (own)
 abbrev pub shown_in : List ℕ → List declared.Offsets → List Bound → Shown
 shown_in whole offsets bounds = record { rows = rows_in whole offsets; bounds = bounds }
 
--- Rows stand where those of items do that follow one another from the beginning of a text (own).
-pub record AreNear (offsets : List declared.Offsets) (s : Shown) : Type 0 where
+-- Rows and ends of parts stand where those of items do that are a text, one behind the other (own).
+pub record AreNear (whole : List ℕ) (offsets : List declared.Offsets) (ends : List EndPlace) (s : Shown) : Type 0 where
   pub items : List Item
+  pub text_is : whole ≡ items_text items []
   pub near_is : offsets ≡ near 0 items
+  pub ends_is : ends ≡ ends_near 0 0 items
   pub shown_is : s ≡ shown_items items
+
+-- Where rows and ends of parts are kept, they stand in the text, as those of items that are the text; and the ends are in order (own).
+abbrev pub HavePlaces : List ℕ → List declared.Offsets → List EndPlace → Type 0
+HavePlaces whole offsets ends =
+    IsNonDecreasingBy (λ e. e.rows) ends × Stand whole offsets × EndsStand whole ends × AreNear whole offsets ends (shown_in whole offsets (bounds_in whole ends))
 
 -- the rows of items at the end of a text, by how far from there they begin (own)
 abbrev pub far : List Item → List declared.Offsets

@@ -7,7 +7,7 @@ use Rattle.yq_rows.specs.Rows.{Mark, Bare, Dash, Key, Anchor, Content, Nothing, 
 use Rattle.yq_rows.specs.Grammar.{Limit}
 use Rattle.yq_rows.specs.declared.row.Row as declared
 use Rattle.yq_rows.specs.declared.row.Limit as asked
-use Rattle.yq_rows.specs.declared.scanning.Bound as ends
+use Rattle.yq_rows.specs.declared.ends.Bound as ends
 
 -- The pieces of a row as texts: its gap, its column, its dashes, its key and what stands behind it up to the `:`, the white space behind these, an
 -- anchor, the white space behind it, the head, the tail, and the raw lines of a block scalar; and the parent indentation of what stands behind its
@@ -110,16 +110,6 @@ bounds_of c = bounds_from 0 c
 abbrev pub bounds_at : ℕ → List Bound → List Bound
 bounds_at i [] = []
 bounds_at i (b ∷ bs) = if i == b.rows then b ∷ bounds_at i bs else bounds_at i bs
-
--- the texts of the ends and markers of bounds (own)
-abbrev pub bounds_text : List Bound → List ℕ
-bounds_text [] = []
-bounds_text (b ∷ bs) = (b.end ++ b.marker) ++ bounds_text bs
-
--- the texts of the ends and markers of those bounds before which i rows stand (own)
-abbrev pub rest_from : ℕ → List Bound → List ℕ
-rest_from i [] = []
-rest_from i (b ∷ bs) = if i == b.rows then (b.end ++ b.marker) ++ rest_from i bs else rest_from i bs
 
 -- the pieces that a row of the code lends (own)
 abbrev pub view : declared.Row → Slices

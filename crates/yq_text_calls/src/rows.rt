@@ -4,4 +4,5 @@ mod ends;
 mod memory;
 mod neighbours;
 mod pieces;
+mod regions;
 mod texts;

@@ -2,7 +2,7 @@
 use Rattle.std.proofs.Common.{◌≡◌, ◌⊎◌, inl, inr, ℕ, zero, suc, ◌+◌, ◌-◌, ◌<◌, ◌≤◌, leb, List, [], ◌∷◌, ◌++◌, length, map, take, replicate, Some, option_map, Bool, true, false, cond, refl, sym, ap, ◌∙◌, arith, length-append}
 use Rattle.std.proofs.lemmas.Bool.{cases_lt, lt-ltb, le-ltb, le-leb, lt-leb, cond-true, cond-false}
 use Rattle.std.proofs.lemmas.List.{length-replicate, length-map, map-append, take-append-le}
-use Rattle.std.proofs.lemmas.List.Sums.{sum_by-cons, sum_by-append, sum_by_more, sum_by_more_le, sum_by_more_le_part, sum_by-le-sum_by}
+use Rattle.std.proofs.lemmas.List.Sums.{sum_by-cons, sum_by-append, sum_by_more, sum_by_more_le, sum_by-le-sum_by}
 use Rattle.std.proofs.lemmas.Option.{get_or_from_slice_get, slice_get_within, slice_get-map, same_Some}
 use Rattle.std.specs.List.{slice_get, sum_by}
 use Rattle.yq_scalar.specs.Characters.{text_limit}
@@ -178,17 +178,6 @@ passed_less i b = go (leb b.rows i)
     go : (x : Bool) → cond x (bound_length b) 0 ≤ bound_length b
     go true = omega arith
     go false = omega arith
-
-pub ends_more : (s : Shown) (i at : ℕ) (b : Bound) → slice_get s.bounds at ≡ Some b →
-    (sum_by (passed_length i) (take (at + 1) s.bounds) ≡ sum_by (passed_length i) (take at s.bounds) + passed_length i b) × (sum_by (passed_length i) (take at s.bounds) + bound_length b ≤ shown_length s) × (passed_length i b ≤ bound_length b)
-ends_more s i at b is =
-    let within = slice_get_within s.bounds at b is in
-    let there = get_or_from_slice_get s.bounds at b b is in
-    let most = sum_by_more_le_part (passed_length i) bound_length s.bounds at b within (passed_less i) in (
-      sum_by_more (passed_length i) s.bounds at b within ∙ ap (λ y. sum_by (passed_length i) (take at s.bounds) + passed_length i y) there,
-      omega (arith, ap bound_length there, most),
-      passed_less i b,
-    )
 
 -- what stands before a row and the row are within the whole
 pub row_fits : (s : Shown) (i : ℕ) (x : Slices) → slice_get s.rows i ≡ Some x → row_start i s + row_length x ≤ shown_length s

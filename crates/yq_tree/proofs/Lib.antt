@@ -22,6 +22,7 @@ pub mod ExactReading
 pub mod ReadyLaws
 pub mod LengthLaws
 pub mod FirstLevels
+pub mod GapRanges
 pub mod CommentPieceLaws
 pub mod CommentSpans
 pub mod CommentHolds

@@ -1,24 +1,16 @@
 -- Where rows begin, by their pieces.
-use Rattle.std.proofs.Common.{◌≡◌, ◌⊎◌, inl, inr, ℕ, zero, suc, ◌+◌, ◌-◌, ◌<◌, ◌≤◌, List, [], ◌∷◌, ◌++◌, length, take, get_or, Some, None, option_map, refl, ap, ◌∙◌, arith, length-append}
+use Rattle.std.proofs.Common.{◌≡◌, ◌⊎◌, inl, inr, ℕ, zero, suc, ◌+◌, ◌-◌, ◌<◌, ◌≤◌, List, [], ◌∷◌, ◌++◌, length, take, Some, option_map, refl, ap, ◌∙◌, arith, length-append}
 use Rattle.std.proofs.lemmas.Bool.{cases_lt, lt-ltb, le-ltb, cond-true, cond-false}
-use Rattle.std.proofs.lemmas.Option.{slice_get_cases, slice_get-map}
+use Rattle.std.proofs.lemmas.Option.{slice_get-map}
 use Rattle.std.specs.List.{slice_get}
 use Rattle.yq_rows.specs.Exchange.{row_front, before_at, before_content}
 use Rattle.yq_rows.specs.Rows.{Row, rows_text, part_text, Cut, last, marked}
 use Rattle.yq_rows.specs.View.{Slices, slices, rows_of, Shown, shown}
 use Rattle.yq_rows.proofs.ExchangeLaws.{slice_front, slice_back}
-use Rattle.yq_tree.specs.Extents.{row_start, shown_length, front_length, head_place}
+use Rattle.yq_tree.specs.Extents.{row_start, front_length, head_place}
 use Rattle.yq_tree.specs.CommentReading.{before_row}
-use Rattle.yq_tree.proofs.LengthLaws.{row_fits, part-length, front-length, head_told}
+use Rattle.yq_tree.proofs.LengthLaws.{part-length, front-length, head_told}
 use Rattle.yq_rows.proofs.SliceLaws.{print-length}
-
--- a row begins within the text
-pub start_fits : (s : Shown) (i : ℕ) → i < length s.rows → row_start i s ≤ shown_length s
-start_fits s i within = go (slice_get_cases s.rows i).1
-  where
-    go : ((x : Slices) × (i < length s.rows) × (slice_get s.rows i ≡ Some x) × (get_or s.rows i x ≡ x)) ⊎ ((length s.rows ≤ i) × (slice_get s.rows i ≡ None)) → row_start i s ≤ shown_length s
-    go (inl x) = omega (arith, row_fits s i x.0 x.2)
-    go (inr past) = absurd (omega (arith, within, past.0))
 
 -- the text before a row's content is that before the row, and the row's front
 front_at : (rows : List Row) (i : ℕ) (r : Row) → slice_get rows i ≡ Some r → length (before_at i rows) ≡ length (rows_text (take i rows) []) + length (row_front r)

@@ -75,7 +75,9 @@ fn are_parts(rows: &Rows<'_>, wanted: &[(usize, &str, &str)]) -> bool {
 /// What stands before the gap of a row, or at the end.
 fn text_before(alloc: Global, rows: &Rows<'_>, i: usize) -> Result<String, AllocError> {
     let mut text = String::new(alloc);
-    for part in rows.rest(i) {
+    let (from, to) = rows.rest(i);
+    for at in from..to {
+        let part = rows.part(at);
         text.push_str(part.end)?;
         text.push_str(part.marker)?;
     }

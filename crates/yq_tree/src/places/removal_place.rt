@@ -99,8 +99,9 @@ fn own_rows(rows: &Rows<'_>, document: Stretch, steps: &[Step]) -> Option<(usize
 fn gap_before<'t>(rows: &Rows<'t>, i: usize) -> (&'t str, usize)
     ensures { (result.0.now, result.1) ≡ reading.gap_at i rows.now }
 {
-    if let [bound, ..] = rows.rest(i) {
-        return (bound.end, 0);
+    let (from, to) = rows.rest(i);
+    if from < to {
+        return (rows.part(from).end, 0);
     }
     if i < rows.len() {
         let row = rows.row(i);

@@ -1,37 +1,52 @@
-use Rattle.std.proofs.Common.{◌≡◌, true, false, ◌-◌, length, rules, refl, sym, ap, ◌∙◌}
+use Rattle.std.proofs.Common.{◌≡◌, ℕ, ◌+◌, List, [], ◌++◌, true, false, ◌-◌, length, rules, refl, sym, subst, ap, ◌∙◌}
+use Rattle.std.proofs.lemmas.List.Elements.{All-push}
 use Rattle.yq_scalar.specs.Text.{is_empty}
 use Rattle.yq_rows.specs.Grammar.{begins_document}
-use Rattle.yq_rows.specs.Offsets.{rows_in}
-use Rattle.yq_rows.specs.View.{bound_views}
+use Rattle.yq_rows.specs.Offsets.{Ends, rows_in}
+use Rattle.yq_rows.specs.Ends.{EndStands, EndsStand, bounds_in}
+use Rattle.yq_rows.proofs.EndsNear.{ends_placed_end, ends_placed_step, kept_part}
 use Rattle.yq_rows.proofs.Failing.{fails_by}
 use Rattle.yq_rows.proofs.NearLaws.{near_read, parts_placed_end, parts_placed_step}
 use Rattle.yq_rows.proofs.OffsetLaws.{ends_next, rows_length}
-use Rattle.yq_rows.proofs.PartLending.{one_part, empty_by, bounds_push, part_is_marker, part_smaller, parts_none, parts_unmarked, parts_end, parts_more}
+use Rattle.yq_rows.proofs.PartLending.{one_part, end_ends, empty_by, bounds_push, part_is_marker, part_smaller, parts_none, parts_unmarked, parts_end, parts_more}
 use Rattle.yq_rows.proofs.PartsLaws.{marker_takes}
 use Rattle.yq_rows.proofs.RestLending.{read_rises}
 use Rattle.yq_rows.proofs.scanning.cut.Goals as goal
 
 pub returns-in-Err-clause-read : goal.returns-in-Err-clause-read
-returns-in-Err-clause-read c = fails_by c.in-Err.e _ _ c.in-Err.ensures.found (λ none. sym c.parts.invariant.so_far ∙ parts_none (rows_in c.args.text.now c.parts.rows.items) (bound_views c.parts.bounds.items) c.parts.is_open c.parts.rest.now none)
+returns-in-Err-clause-read c = fails_by c.in-Err.e _ _ c.in-Err.ensures.found (λ none. sym c.parts.invariant.so_far ∙ parts_none (rows_in c.args.text.now c.parts.rows.items) (bounds_in c.args.text.now c.parts.ends.items) c.parts.is_open c.parts.rest.now none)
+
+pub end_of-requires-clause-ends : goal.end_of-requires-clause-ends
+end_of-requires-clause-ends c =
+    let part = one_part (rows_in c.args.text.now c.parts.rows.items) c.parts.is_open c.parts.rest.now (rows_in c.args.text.now c.in-Ok.part.0.items) c.in-Ok.part.1.now c.in-Ok.part.2.now c.in-Ok.ensures.found in
+    end_ends c.args.text.now c.parts.rest.now c.in-Ok.part.1.now c.in-Ok.part.2.now c.parts.is_open part.part c.parts.invariant.ends part.read part.end_is
 
 pub invariant_of-result : goal.invariant_of-result
 invariant_of-result c =
+    let whole = c.args.text.now in
     let none : is_empty c.in-Ok.part.2.now ≡ true = empty_by c.in-Ok.part.2.now _ true c.is_empty.ensures c.if-is_empty.true in
-    let count : c.len-count.result ≡ length (rows_in c.args.text.now c.in-Ok.part.0.items) = c.len-count.ensures ∙ (c.in-Ok.part.0.ok.0 ∙ rows_length c.args.text.now c.in-Ok.part.0.items) in
-    let part = one_part (rows_in c.args.text.now c.parts.rows.items) c.parts.is_open c.parts.rest.now (rows_in c.args.text.now c.in-Ok.part.0.items) c.in-Ok.part.1.now c.in-Ok.part.2.now c.in-Ok.ensures.found in
-    let read = parts_end _ (rows_in c.args.text.now c.in-Ok.part.0.items) _ _ _ _ _ _ _ c.in-Ok.ensures.found none count refl c.in_ok-push.ensures.items c.parts.invariant.so_far in (
-      read_rises _ (rows_in c.args.text.now c.in-Ok.part.0.items) _ read,
+    let count : c.len-count.result ≡ length (rows_in whole c.in-Ok.part.0.items) = c.len-count.ensures ∙ (c.in-Ok.part.0.ok.0 ∙ rows_length whole c.in-Ok.part.0.items) in
+    let part = one_part (rows_in whole c.parts.rows.items) c.parts.is_open c.parts.rest.now (rows_in whole c.in-Ok.part.0.items) c.in-Ok.part.1.now c.in-Ok.part.2.now c.in-Ok.ensures.found in
+    let pushed = bounds_push whole c.parts.ends.items _ c.end_of.result _ c.in_ok-push.ensures.items c.end_of.ensures.same in
+    let rows : c.len-count.result ≡ length c.parts.rows.items + length part.part.rows = count ∙ (part.count ∙ ap (λ (n : ℕ). n + length part.part.rows) (sym (rows_length whole c.parts.rows.items))) in
+    let kept = kept_part c.parts.is_open whole c.parts.rest.now c.in-Ok.part.2.now [] c.in-Ok.part.2.now c.in-Ok.part.1.now (length c.parts.rows.items) c.len-count.result part.part c.end_of.result c.parts.invariant.ends part.read part.end_is refl rows c.end_of.ensures.place in
+    let read = parts_end _ (rows_in whole c.in-Ok.part.0.items) _ _ _ _ _ _ _ _ c.in-Ok.ensures.found none count pushed c.parts.invariant.so_far in (
+      read_rises whole _ (rows_in whole c.in-Ok.part.0.items) _ read,
       c.in-Ok.ensures.kept,
-      near_read c.args.text.now c.in-Ok.part.0.items _
-          (parts_placed_end c.parts.rows.items c.in-Ok.part.0.items (length c.args.text.now - length c.parts.rest.now) c.parts.is_open c.parts.rest.now c.in-Ok.part.2.now part.part _ part.read none c.in-Ok.ensures.placed c.parts.invariant.placed)
+      subst (EndsStand whole) (sym c.in_ok-push.ensures.items) (All-push (EndStands whole) c.parts.ends.items c.end_of.result c.parts.invariant.ends_stand c.end_of.ensures.stands),
+      near_read whole c.in-Ok.part.0.items _ _
+          (parts_placed_end c.parts.rows.items c.in-Ok.part.0.items (length whole - length c.parts.rest.now) c.parts.is_open c.parts.rest.now c.in-Ok.part.2.now part.part _ part.read none c.in-Ok.ensures.placed c.parts.invariant.placed)
+          (ends_placed_end c.parts.ends.items _ c.end_of.result whole c.parts.rest.now c.in-Ok.part.2.now (length c.parts.rows.items) c.parts.is_open part.part _ part.read none kept c.in_ok-push.ensures.items c.parts.invariant.ends_placed)
           read,
     )
 
 pub returns-then-is_empty-clause-read : goal.returns-then-is_empty-clause-read
 returns-then-is_empty-clause-read c =
+    let whole = c.args.text.now in
     let none : is_empty c.in-Ok.part.2.now ≡ true = empty_by c.in-Ok.part.2.now _ true c.is_empty.ensures c.if-is_empty.true in
-    let count : c.len-count.result ≡ length (rows_in c.args.text.now c.in-Ok.part.0.items) = c.len-count.ensures ∙ (c.in-Ok.part.0.ok.0 ∙ rows_length c.args.text.now c.in-Ok.part.0.items) in
-    parts_end _ (rows_in c.args.text.now c.in-Ok.part.0.items) _ _ _ _ _ _ _ c.in-Ok.ensures.found none count refl c.in_ok-push.ensures.items c.parts.invariant.so_far
+    let count : c.len-count.result ≡ length (rows_in whole c.in-Ok.part.0.items) = c.len-count.ensures ∙ (c.in-Ok.part.0.ok.0 ∙ rows_length whole c.in-Ok.part.0.items) in
+    let pushed = bounds_push whole c.parts.ends.items _ c.end_of.result _ c.in_ok-push.ensures.items c.end_of.ensures.same in
+    parts_end _ (rows_in whole c.in-Ok.part.0.items) _ _ _ _ _ _ _ _ c.in-Ok.ensures.found none count pushed c.parts.invariant.so_far
 
 pub read_marker-requires : goal.read_marker-requires
 read_marker-requires c =
@@ -42,7 +57,16 @@ pub returns-in-Err-read_marker-clause-read : goal.returns-in-Err-read_marker-cla
 returns-in-Err-read_marker-clause-read c =
     let some : is_empty c.in-Ok.part.2.now ≡ false = empty_by c.in-Ok.part.2.now _ false c.is_empty.ensures c.if-is_empty.false in
     sym c.parts.invariant.so_far
-    ∙ parts_unmarked (rows_in c.args.text.now c.parts.rows.items) (bound_views c.parts.bounds.items) c.parts.is_open c.parts.rest.now (rows_in c.args.text.now c.in-Ok.part.0.items) c.in-Ok.part.1.now c.in-Ok.part.2.now c.in-Ok.ensures.found some c.in-Err-read_marker.ensures.read
+    ∙ parts_unmarked (rows_in c.args.text.now c.parts.rows.items) (bounds_in c.args.text.now c.parts.ends.items) c.parts.is_open c.parts.rest.now (rows_in c.args.text.now c.in-Ok.part.0.items) c.in-Ok.part.1.now c.in-Ok.part.2.now c.in-Ok.ensures.found some c.in-Err-read_marker.ensures.read
+
+pub end_of-requires-in-parts-clause-ends : goal.end_of-requires-in-parts-clause-ends
+end_of-requires-in-parts-clause-ends c =
+    let some : is_empty c.in-Ok.part.2.now ≡ false = empty_by c.in-Ok.part.2.now _ false c.is_empty.ensures c.if-is_empty.false in
+    let marker = part_is_marker (rows_in c.args.text.now c.parts.rows.items) c.parts.is_open c.parts.rest.now (rows_in c.args.text.now c.in-Ok.part.0.items) c.in-Ok.part.1.now c.in-Ok.part.2.now c.in-Ok.ensures.found some in
+    let line = marker_takes c.in-Ok.part.2.now (c.in-Ok-read_marker.line.0.now, c.in-Ok-read_marker.line.1.now) marker c.in-Ok-read_marker.ensures.read in
+    let part = one_part (rows_in c.args.text.now c.parts.rows.items) c.parts.is_open c.parts.rest.now (rows_in c.args.text.now c.in-Ok.part.0.items) c.in-Ok.part.1.now c.in-Ok.part.2.now c.in-Ok.ensures.found in
+    subst (λ (l : List ℕ). Ends (c.in-Ok.part.1.now ++ l) c.args.text.now) line.0
+    (end_ends c.args.text.now c.parts.rest.now c.in-Ok.part.1.now c.in-Ok.part.2.now c.parts.is_open part.part c.parts.invariant.ends part.read part.end_is)
 
 pub parts-smaller : goal.parts-smaller
 parts-smaller c =
@@ -56,14 +80,19 @@ parts-preserved c =
     let marker = part_is_marker (rows_in c.args.text.now c.parts.rows.items) c.parts.is_open c.parts.rest.now (rows_in c.args.text.now c.in-Ok.part.0.items) c.in-Ok.part.1.now c.in-Ok.part.2.now c.in-Ok.ensures.found some in
     let part = one_part (rows_in c.args.text.now c.parts.rows.items) c.parts.is_open c.parts.rest.now (rows_in c.args.text.now c.in-Ok.part.0.items) c.in-Ok.part.1.now c.in-Ok.part.2.now c.in-Ok.ensures.found in
     let line = marker_takes c.in-Ok.part.2.now (c.in-Ok-read_marker.line.0.now, c.in-Ok-read_marker.line.1.now) marker c.in-Ok-read_marker.ensures.read in
+    let rows : c.len-count.result ≡ length c.parts.rows.items + length part.part.rows = count ∙ (part.count ∙ ap (λ (n : ℕ). n + length part.part.rows) (sym (rows_length c.args.text.now c.parts.rows.items))) in
+    let kept = kept_part c.parts.is_open c.args.text.now c.parts.rest.now c.in-Ok.part.2.now c.in-Ok-read_marker.line.0.now c.in-Ok-read_marker.line.1.now c.in-Ok.part.1.now (length c.parts.rows.items) c.len-count.result part.part c.end_of-in-parts.result c.parts.invariant.ends part.read part.end_is line.0 rows c.end_of-in-parts.ensures.place in
     let is_open : c.begins_document-is_open.result ≡ begins_document c.in-Ok-read_marker.line.0.now = c.begins_document-is_open.ensures ∙ ap begins_document c.as_bytes.ensures.value in
     record {
       text = search rules;
       ends = ends_next c.args.text.now c.in-Ok.part.2.now c.in-Ok-read_marker.line.0.now c.in-Ok-read_marker.line.1.now c.in-Ok.ensures.behind line.0;
       stand = c.in-Ok.ensures.kept;
-      so_far = rw (is_open, bounds_push c.parts.bounds.items c.push-in-parts.new.self.items _ c.in_ok-push-2.ensures.items)
-          (sym (parts_more (rows_in c.args.text.now c.parts.rows.items) (bound_views c.parts.bounds.items) c.parts.is_open c.parts.rest.now (rows_in c.args.text.now c.in-Ok.part.0.items) c.in-Ok.part.1.now c.in-Ok.part.2.now c.in-Ok-read_marker.line.0.now c.in-Ok-read_marker.line.1.now c.len-count.result c.in-Ok.ensures.found some c.in-Ok-read_marker.ensures.read count)
+      ends_stand = subst (EndsStand c.args.text.now) (sym c.in_ok-push-2.ensures.items) (All-push (EndStands c.args.text.now) c.parts.ends.items c.end_of-in-parts.result c.parts.invariant.ends_stand c.end_of-in-parts.ensures.stands);
+      so_far = rw (is_open, bounds_push c.args.text.now c.parts.ends.items c.push-in-parts.new.self.items c.end_of-in-parts.result _ c.in_ok-push-2.ensures.items c.end_of-in-parts.ensures.same)
+          (sym (parts_more (rows_in c.args.text.now c.parts.rows.items) (bounds_in c.args.text.now c.parts.ends.items) c.parts.is_open c.parts.rest.now (rows_in c.args.text.now c.in-Ok.part.0.items) c.in-Ok.part.1.now c.in-Ok.part.2.now c.in-Ok-read_marker.line.0.now c.in-Ok-read_marker.line.1.now c.len-count.result c.in-Ok.ensures.found some c.in-Ok-read_marker.ensures.read count)
           ∙ c.parts.invariant.so_far);
       placed = rw is_open (parts_placed_step c.parts.rows.items c.in-Ok.part.0.items c.args.text.now c.parts.is_open c.parts.rest.now c.in-Ok.part.2.now c.in-Ok-read_marker.line.0.now c.in-Ok-read_marker.line.1.now _ c.parts.invariant.ends
           (record { part = part.part; read = part.read; some = some; line = c.in-Ok-read_marker.ensures.read }) c.in-Ok.ensures.placed c.parts.invariant.placed);
+      ends_placed = rw is_open (ends_placed_step c.parts.ends.items _ c.end_of-in-parts.result c.args.text.now c.parts.is_open c.parts.rest.now c.in-Ok.part.2.now c.in-Ok-read_marker.line.0.now c.in-Ok-read_marker.line.1.now (length c.parts.rows.items) (length c.in-Ok.part.0.items) _
+          (record { part = part.part; read = part.read; some = some; line = c.in-Ok-read_marker.ensures.read }) kept c.in_ok-push-2.ensures.items (sym (c.in-Ok.part.0.ok.0) ∙ (sym c.len-count.ensures ∙ rows)) c.parts.invariant.ends_placed);
     }

@@ -1,10 +1,10 @@
 use Rattle.std.proofs.Common.{◌≡◌, ◌-◌, [], length, true}
 use Rattle.std.specs.Str.{IsUtf8}
-use Rattle.yq_rows.specs.Kept.{parts_placed}
+use Rattle.yq_rows.specs.Ends.{EndsStand, bounds_in}
+use Rattle.yq_rows.specs.Kept.{ends_placed, parts_placed}
 use Rattle.yq_rows.specs.Lending.{shown_read, parts_lent}
 use Rattle.yq_rows.specs.Offsets.{Ends, Stand, rows_in}
 use Rattle.yq_rows.specs.Reading.{all_parts}
-use Rattle.yq_rows.specs.View.{bound_views}
 use Rattle.yq_rows.proofs.scanning.cut.Given as goal
 
 abbrev pub decreases-parts : goal.decreases-parts
@@ -15,6 +15,8 @@ invariant-parts l = record {
   text : IsUtf8 l.rest;
   ends : Ends l.rest l.text;
   stand : Stand l.text l.rows.items;
-  so_far : parts_lent (rows_in l.text l.rows.items) (bound_views l.bounds.items) (all_parts l.is_open l.rest) ≡ shown_read (all_parts true l.text);
+  ends_stand : EndsStand l.text l.ends.items;
+  so_far : parts_lent (rows_in l.text l.rows.items) (bounds_in l.text l.ends.items) (all_parts l.is_open l.rest) ≡ shown_read (all_parts true l.text);
   placed : parts_placed l.rows.items (length l.text - length l.rest) (all_parts l.is_open l.rest) ≡ parts_placed [] (length l.text - length l.text) (all_parts true l.text);
+  ends_placed : ends_placed l.ends.items (length l.text - length l.rest) (length l.rows.items) (all_parts l.is_open l.rest) ≡ ends_placed [] (length l.text - length l.text) 0 (all_parts true l.text);
 }

@@ -1,0 +1,62 @@
+//! Where the parts of a text end in it.
+ghost use Rattle.std.specs.Prelude.{◌≡◌, ◌<◌, ◌-◌, ◌^◌, ◌++◌, length};
+ghost use Rattle.yq_rows.specs.Ends as spec;
+ghost use Rattle.yq_rows.specs.Offsets.{Ends};
+ghost use Rattle.yq_rows.specs.View.{bound_view};
+
+/// The end of a part: the rows between two markers or the ends of the text.
+#[derive(Clone, Copy, Debug)]
+pub struct Bound<'t> {
+    /// How many rows stand before it, from the beginning of the text.
+    pub rows: usize,
+    /// The gap behind the part's last row.
+    pub end: &'t str,
+    /// The line of the marker behind that gap; behind the last part there is none.
+    pub marker: &'t str,
+}
+
+/// Where a part ends in its text: how many rows stand before it, where the gap there begins, and how
+/// long that gap and the line of the marker are, in bytes, each below the limit of a text's length,
+/// which a `u32` holds.
+#[derive(Clone, Copy, Debug)]
+pub(crate) struct EndPlace {
+    pub(crate) rows: usize,
+    start: u32,
+    gap: u32,
+    marker: u32,
+}
+
+impl EndPlace {
+    /// The end that stands there in its text.
+    #[tactic(auto, unfolding(crate::specs::Ends::EndStands))]
+    pub(crate) fn bound(self, whole: &str) -> Bound<'_>
+        requires { spec.EndStands whole.now self }
+        ensures { bound_view result ≡ spec.bound_in whole.now self }
+    {
+        let text = whole.split_at(self.start as usize).1;
+        let (end, text) = text.split_at(self.gap as usize);
+        Bound {
+            rows: self.rows,
+            end,
+            marker: text.split_at(self.marker as usize).0,
+        }
+    }
+}
+
+/// Where a part ends in the whole text, of which this rest follows.
+pub(crate) fn end_of(whole: &str, rows: usize, end: &str, marker: &str, rest: &str) -> EndPlace
+    requires small { length whole.now < 2 ^ 32 }
+    requires ends { Ends (end.now ++ (marker.now ++ rest.now)) whole.now }
+    ensures stands { spec.EndStands whole.now result }
+    ensures same { spec.bound_in whole.now result ≡
+        record { rows = rows; end = end.now; marker = marker.now } }
+    ensures place { result ≡
+        spec.end_at (length whole.now - length (end.now ++ (marker.now ++ rest.now))) rows end.now marker.now }
+{
+    EndPlace {
+        rows,
+        start: (whole.len() - rest.len() - marker.len() - end.len()) as u32,
+        gap: end.len() as u32,
+        marker: marker.len() as u32,
+    }
+}
