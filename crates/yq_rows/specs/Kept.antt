@@ -11,6 +11,7 @@ use Rattle.yq_rows.specs.Rows.{print_row, Part, Cut}
 use Rattle.yq_rows.specs.View.{Bound, Slices, slices, Shown}
 use Rattle.yq_rows.specs.declared.ends.EndPlace.{EndPlace}
 use Rattle.yq_rows.specs.declared.offsets.Offsets as declared
+use Rattle.yq_rows.specs.declared.places.Places.{Places}
 
 -- the rows of items, of which so many bytes stand in front (own)
 abbrev pub near : ℕ → List Item → List declared.Offsets
@@ -87,20 +88,15 @@ TextsIn [] = Unit {0}
 TextsIn (row_item r ∷ xs) = AreTexts (slices r) × TextsIn xs
 TextsIn (end_item gap marker ∷ xs) = IsUtf8 gap × IsUtf8 marker × TextsIn xs
 
--- A text and its rows, kept on both sides of a gap: they are those of items, some in front of the gap and the others behind it (own).
-pub record Keeps (t : List ℕ) (front behind : List declared.Offsets) (before after : List Item) : Type 0 where
-  pub text : t ≡ items_text before (items_text after [])
-  pub front_is : front ≡ near 0 before
-  pub behind_is : behind ≡ reverse (far after)
-  pub front_texts : TextsIn before
-  pub behind_texts : TextsIn after
-  pub small : length t < 2 ^ 32
+-- the rows of a text of so many bytes, by where they are kept (own)
+abbrev pub placed_rows : ℕ → Places → List declared.Offsets
+placed_rows n p = both_sides n p.front.items p.behind.items
 
--- A text and its rows (own).
-pub record KeptText : Type 0 where
-  pub text : List ℕ
-  pub rows : List Slices
-
--- they are those of items (own)
-abbrev pub IsKept : List ℕ → List declared.Offsets → List declared.Offsets → Type 0
-IsKept t front behind = (before : List Item) × (after : List Item) × Keeps t front behind before after
+-- Rows and ends of parts are kept where those of items stand, one behind the other; these are the rows and ends of a text, whose pieces are characters (own).
+pub record IsPlaced (p : Places) (s : Shown) : Type 0 where
+  pub items : List Item
+  pub shown_is : s ≡ shown_items items
+  pub rows_are : placed_rows (length (items_text items [])) p ≡ near 0 items
+  pub ends_are : p.ends.items ≡ ends_near 0 0 items
+  pub texts : TextsIn items
+  pub small : length (items_text items []) < 2 ^ 32

@@ -19,7 +19,7 @@ pub struct Bound<'t> {
 /// long that gap and the line of the marker are, in bytes, each below the limit of a text's length,
 /// which a `u32` holds.
 #[derive(Clone, Copy, Debug)]
-pub(crate) struct EndPlace {
+pub struct EndPlace {
     pub(crate) rows: usize,
     start: u32,
     gap: u32,

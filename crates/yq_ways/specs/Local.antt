@@ -1,8 +1,9 @@
 -- Which rows and ends of parts of a text an operation exchanges: those that it touches (own).
 use Rattle.std.specs.Prelude.{◌≡◌, ◌⊎◌, ℕ, ◌≤◌, ◌-◌, nat_lt, Bool, true, false, List, [], ◌∷◌, ◌++◌, length, Some, if◌then◌else◌}
 use Rattle.yq_scalar.specs.Characters.{text_limit}
-use Rattle.yq_rows.specs.Items.{Item, row_item, end_item, items_of, items_text}
-use Rattle.yq_rows.specs.Rows.{print_row, Cut, cut_text}
+use Rattle.yq_rows.specs.Items.{Item, items_of, items_text}
+use Rattle.yq_rows.specs.Rows.{Cut, cut_text}
+use Rattle.yq_rows.specs.Touched.{item_text, TouchesOnly}
 use Rattle.yq_documents.specs.Reading.{documents, read_at}
 use Rattle.yq_meaning.specs.Fits.{Fits}
 use Rattle.yq_meaning.specs.Operations.{Operation}
@@ -28,11 +29,6 @@ abbrev pub kept_back : List Segment → List ℕ
 kept_back [] = []
 kept_back (keep t ∷ ss) = if are_kept ss then t ++ kept_back ss else kept_back ss
 kept_back (put o w ∷ ss) = kept_back ss
-
--- the text of an item (own)
-abbrev pub item_text : Item → List ℕ
-item_text (row_item r) = print_row r []
-item_text (end_item gap marker) = gap ++ marker
 
 -- these bytes lie in the first of items, from its beginning on (own)
 abbrev pub InFirst : List ℕ → List Item → Type 0
@@ -75,26 +71,6 @@ IsLocalWay way =
 abbrev pub LocalJoined : Type 0
 LocalJoined = (f g : Way) → IsLocalWay f → IsLocalWay g → IsLocalWay (or_else f g)
 
--- the items that end in front of an offset of their text (own)
-abbrev pub in_front : ℕ → List Item → List Item
-in_front n [] = []
-in_front n (i ∷ is) = if nat_lt (length (item_text i)) n then i ∷ in_front (n - length (item_text i)) is else []
-
--- the items that begin behind the place that is so many bytes in front of the end of their text (own)
-abbrev pub in_back : ℕ → List Item → List Item
-in_back n [] = []
-in_back n (i ∷ is) = if nat_lt (length (items_text (i ∷ is) [])) n then i ∷ is else in_back n is
-
--- Segments exchange the items of a cut that they touch, and no others: those that neither end in front of the end of what is kept in front, nor begin
--- behind the beginning of what is kept behind; the other ones are those of the new cut that do so (own).
-pub record TouchesOnly (ss : List Segment) (c new : Cut) : Type 0 where
-  pub touched : List Item
-  pub written : List Item
-  pub old_are : items_of c ≡ in_front (length (kept_front ss)) (items_of c) ++ (touched ++ in_back (length (kept_back ss)) (items_of c))
-  pub new_are : items_of new ≡ in_front (length (kept_front ss)) (items_of c) ++ (written ++ in_back (length (kept_back ss)) (items_of c))
-  pub front_same : in_front (length (kept_front ss)) (items_of new) ≡ in_front (length (kept_front ss)) (items_of c)
-  pub back_same : in_back (length (kept_back ss)) (items_of new) ≡ in_back (length (kept_back ss)) (items_of c)
-
 -- Segments that are local touch only what they exchange (own).
 abbrev pub LocalTouches : Type 0
-LocalTouches = (ss : List Segment) (c new : Cut) → IsLocal ss c new → TouchesOnly ss c new
+LocalTouches = (ss : List Segment) (c new : Cut) → IsLocal ss c new → TouchesOnly (length (kept_front ss)) (length (kept_back ss)) c new

@@ -1,0 +1,62 @@
+//! Where the rows of a text and the ends of its parts stand, kept without the text.
+ghost use Rattle.std.specs.Prelude.{◌≡◌, ◌<◌, ◌^◌, ◌×◌, Some, length, slice_get};
+ghost use Rattle.yq_rows.specs.Grammar.{IsCut};
+ghost use Rattle.yq_rows.specs.Kept.{IsPlaced, placed_rows};
+ghost use Rattle.yq_rows.specs.Rows.{Cut};
+ghost use Rattle.yq_rows.specs.View.{shown};
+
+use crate::ends::EndPlace;
+use crate::offsets::Offsets;
+use crate::scanning::Rows;
+use std::alloc::Global;
+
+/// Where the rows of a text and the ends of its parts stand, on both sides of a gap. Rows in front of
+/// it are kept by how far from the text's beginning they stand, those behind it by how far from its
+/// end, the last one first: so that rows stay as they are where the text changes between the two.
+#[derive(Debug, Drop)]
+pub struct Places {
+    /// The rows in front of the gap, each by how far from the beginning of the text it begins.
+    pub front: Vec<Offsets>,
+    /// The rows behind the gap, the last one first, each by how far from the end of the text it begins.
+    pub behind: Vec<Offsets>,
+    /// The ends of all parts, each by how far from the beginning of the text it begins.
+    pub ends: Vec<EndPlace>,
+}
+
+impl Places {
+    /// No rows, and no ends of parts.
+    pub fn new(alloc: Global) -> Places {
+        Places {
+            front: Vec::new(alloc),
+            behind: Vec::new(alloc),
+            ends: Vec::new(alloc),
+        }
+    }
+
+    /// How many rows there are.
+    pub(crate) fn len(&self) -> usize
+        ensures { (n : ℕ) → result ≡ length (placed_rows n self.now) }
+    {
+        self.front.len() + self.behind.len()
+    }
+
+    /// Where row `i`, counted from 0, stands in the text of so many bytes.
+    pub(crate) fn place(&self, i: usize, len: usize) -> Offsets
+        requires small { len < 2 ^ 32 }
+        requires within { i < length (placed_rows len self.now) }
+        ensures { slice_get (placed_rows len self.now) i ≡ Some result }
+    {
+        if i < self.front.len() {
+            return self.front[i];
+        }
+        self.behind[self.behind.len() - 1 - (i - self.front.len())].turned(len)
+    }
+
+    /// The rows of the text in which they stand.
+    pub fn rows<'t>(self, text: &'t str) -> Rows<'t>
+        requires { (c : Cut) × IsCut text.now c × IsPlaced self.entry (shown c) }
+        ensures { (c : Cut) → IsCut text.now c → result ≡ shown c }
+    {
+        Rows { text, places: self }
+    }
+}
