@@ -20,8 +20,8 @@ use Rattle.yq_flow_ways.proofs.CutLaws.{cut_same}
 use Rattle.yq_splice.specs.Carried.{carry_all}
 use Rattle.yq_splice.specs.Edit.{Edit, unreadable, refuses, gives}
 use Rattle.yq_splice.specs.Theorems.{IsUpdated, UpdateRefused}
-use Rattle.yq_splice.specs.Valid.{HaveOperands}
-use Rattle.yq_splice.proofs.ServeLaws.{Serves, OperationsCome, all_come}
+use Rattle.yq_splice.specs.Valid.{HaveOperands, Serves}
+use Rattle.yq_splice.proofs.ServeLaws.{OperationsCome, all_come}
 
 -- the documents of a text that reads are ready for updates
 ready : (t : List ℕ) (c : Cut) → read_at t ≡ Some c → AreReady (room_of t) 0 (documents c)
