@@ -1,5 +1,5 @@
 -- Rows and ends of parts that are kept by their places alone, lent in their text again.
-use Rattle.std.proofs.Common.{◌≡◌, ℕ, zero, suc, ◌+◌, ◌-◌, ◌<◌, ◌≤◌, ◌^◌, true, List, [], ◌∷◌, ◌++◌, length, map, take, drop, Option, Some, None, refl, sym, ap, ◌∙◌, subst, arith, append-nil, length-append}
+use Rattle.std.proofs.Common.{◌≡◌, ℕ, ◌+◌, ◌-◌, ◌<◌, ◌≤◌, ◌^◌, List, [], ◌∷◌, ◌++◌, length, Some, refl, sym, ap, ◌∙◌, subst, arith, append-nil, length-append}
 use Rattle.std.proofs.lemmas.List.Elements.{All-cons, All-head, All-map, All-nil, All-tail, All-weaker}
 use Rattle.std.proofs.lemmas.Str.{IsUtf8-drop, IsUtf8-nil, IsUtf8-take}
 use Rattle.std.specs.List.{All}
@@ -9,7 +9,7 @@ use Rattle.yq_rows.specs.Grammar.{IsCut}
 use Rattle.yq_rows.specs.Items.{Item, row_item, end_item, items_of, items_text, rows_in_items, bounds_in_items, shown_items}
 use Rattle.yq_rows.specs.Kept.{AreNear, HavePlaces, IsPlaced, TextsIn, both_sides, ends_near, near, placed_rows, shown_in}
 use Rattle.yq_rows.specs.Offsets.{AreTexts, Ends, Stand, Stands, offsets_of, rows_in, slices_in}
-use Rattle.yq_rows.specs.Rows.{Row, Cut, cut_text, print_row}
+use Rattle.yq_rows.specs.Rows.{Row, Cut, print_row}
 use Rattle.yq_rows.specs.View.{Bound, Shown, Slices, shown, slices, slices_text}
 use Rattle.yq_rows.specs.declared.ends.EndPlace.{EndPlace}
 use Rattle.yq_rows.specs.declared.offsets.Offsets as declared
@@ -17,7 +17,7 @@ use Rattle.yq_rows.specs.declared.places.Places.{Places}
 use Rattle.yq_rows.proofs.EndPlaceLaws.{end_same, end_stands}
 use Rattle.yq_rows.proofs.FrontLaws.{front_drop, front_length}
 use Rattle.yq_rows.proofs.ItemLaws.{items_of_text, items_shown}
-use Rattle.yq_rows.proofs.KeptLaws.{KeptRows, end_apart, items_texts, near_kept, print_then, row_apart}
+use Rattle.yq_rows.proofs.KeptLaws.{KeptRows, end_apart, items_texts, near_kept, row_apart}
 use Rattle.yq_rows.proofs.RestLending.{read_rises}
 use Rattle.yq_rows.proofs.ScanLaws.{one_cut}
 use Rattle.yq_rows.proofs.SliceLaws.{slices_are}
