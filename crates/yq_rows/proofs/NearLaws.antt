@@ -1,8 +1,8 @@
 -- Rows at their distance from the beginning of a text: as they are read, and each by its index.
-use Rattle.std.proofs.Common.{◌≡◌, ℕ, zero, suc, ◌+◌, ◌-◌, ◌<◌, ◌^◌, Bool, true, false, List, [], ◌∷◌, ◌++◌, length, take, get_or, Option, Some, None, refl, sym, ap, ◌∙◌, subst, arith, append_assoc, append-nil, length-append}
+use Rattle.std.proofs.Common.{◌≡◌, ℕ, zero, suc, ◌+◌, ◌-◌, ◌<◌, ◌^◌, Bool, true, false, List, [], ◌∷◌, ◌++◌, length, take, Option, Some, None, refl, sym, ap, ◌∙◌, subst, arith, append_assoc, append-nil, length-append}
 use Rattle.std.proofs.lemmas.Bool.{le-leb, lt-leb}
 use Rattle.std.proofs.lemmas.List.Sums.{sum_by-cons}
-use Rattle.std.proofs.lemmas.Option.{same_Some, slice_get_read, slice_get_within}
+use Rattle.std.proofs.lemmas.Option.{same_Some}
 use Rattle.std.specs.List.{slice_get, sum_by}
 use Rattle.yq_scalar.specs.Answers.{◌>>=◌}
 use Rattle.yq_scalar.specs.Text.{is_empty}
@@ -187,16 +187,13 @@ some_row [] i less = absurd (omega (arith, less))
 some_row (s ∷ ss) zero less = (s, refl)
 some_row (s ∷ ss) (suc i) less = some_row ss i (omega (arith, less))
 
-pub row_lengths : (t : List ℕ) (os : List declared.Offsets) (es : List EndPlace) (v : Shown) (i : ℕ) (o : declared.Offsets) (s : Slices) → AreNear t os es v → slice_get v.rows i ≡ Some s → o ≡ get_or os i o → o ≡ offsets_of (row_start i v) s
-row_lengths t os es v i o s h there e =
-    let near_is = row_near t os es v i s h there in
-    let own : slice_get os i ≡ Some o = slice_get_read os (length os) i o refl (slice_get_within os i _ near_is) e in
-    same_Some _ _ (sym own ∙ near_is)
+pub row_lengths : (t : List ℕ) (os : List declared.Offsets) (es : List EndPlace) (v : Shown) (i : ℕ) (o : declared.Offsets) (s : Slices) → AreNear t os es v → slice_get v.rows i ≡ Some s → slice_get os i ≡ Some o → o ≡ offsets_of (row_start i v) s
+row_lengths t os es v i o s h there own = same_Some _ _ (sym own ∙ row_near t os es v i s h there)
 
-pub row_starts : (t : List ℕ) (os : List declared.Offsets) (es : List EndPlace) (v : Shown) (i : ℕ) (o : declared.Offsets) → AreNear t os es v → i < length v.rows → o ≡ get_or os i o → o.start ≡ row_start i v
+pub row_starts : (t : List ℕ) (os : List declared.Offsets) (es : List EndPlace) (v : Shown) (i : ℕ) (o : declared.Offsets) → AreNear t os es v → i < length v.rows → slice_get os i ≡ Some o → o.start ≡ row_start i v
 row_starts t os es v i o h less e = let s = some_row v.rows i less in ap (λ (p : declared.Offsets). p.start) (row_lengths t os es v i o s.0 h s.1 e)
 
-pub own_lengths : (t : List ℕ) (os : List declared.Offsets) (es : List EndPlace) (v : Shown) (i : ℕ) (o : declared.Offsets) (s : Slices) → AreNear t os es v → slice_get v.rows i ≡ Some s → o ≡ get_or os i o → o ≡ offsets_of o.start s
+pub own_lengths : (t : List ℕ) (os : List declared.Offsets) (es : List EndPlace) (v : Shown) (i : ℕ) (o : declared.Offsets) (s : Slices) → AreNear t os es v → slice_get v.rows i ≡ Some s → slice_get os i ≡ Some o → o ≡ offsets_of o.start s
 own_lengths t os es v i o s h there e =
     let is = row_lengths t os es v i o s h there e in
     is ∙ ap (λ (n : ℕ). offsets_of n s) (sym (ap (λ (p : declared.Offsets). p.start) is))

@@ -1,5 +1,5 @@
 -- Rows and ends of parts that are kept by their places alone, lent in their text again.
-use Rattle.std.proofs.Common.{◌≡◌, ℕ, zero, suc, ◌+◌, ◌-◌, ◌<◌, ◌≤◌, ◌^◌, true, List, [], ◌∷◌, ◌++◌, length, map, take, drop, Option, Some, None, refl, sym, ap, ◌∙◌, subst, arith, append_assoc, length-append}
+use Rattle.std.proofs.Common.{◌≡◌, ℕ, ◌+◌, ◌-◌, ◌<◌, ◌≤◌, ◌^◌, List, [], ◌∷◌, ◌++◌, length, Some, refl, sym, ap, ◌∙◌, subst, arith, append-nil, length-append}
 use Rattle.std.proofs.lemmas.List.Elements.{All-cons, All-head, All-map, All-nil, All-tail, All-weaker}
 use Rattle.std.proofs.lemmas.Str.{IsUtf8-drop, IsUtf8-nil, IsUtf8-take}
 use Rattle.std.specs.List.{All}
@@ -7,9 +7,9 @@ use Rattle.std.specs.Str.{IsUtf8}
 use Rattle.yq_rows.specs.Ends.{EndStands, EndsStand, bound_in, bounds_in, end_at}
 use Rattle.yq_rows.specs.Grammar.{IsCut}
 use Rattle.yq_rows.specs.Items.{Item, row_item, end_item, items_of, items_text, rows_in_items, bounds_in_items, shown_items}
-use Rattle.yq_rows.specs.Kept.{AreNear, HavePlaces, IsPlaced, TextsIn, ends_near, near, placed_rows, shown_in}
-use Rattle.yq_rows.specs.Offsets.{AreTexts, Ends, Stand, Stands, rows_in, slices_in}
-use Rattle.yq_rows.specs.Rows.{Cut, cut_text, print_row}
+use Rattle.yq_rows.specs.Kept.{AreNear, HavePlaces, IsPlaced, TextsIn, both_sides, ends_near, near, placed_rows, shown_in}
+use Rattle.yq_rows.specs.Offsets.{AreTexts, Ends, Stand, Stands, offsets_of, rows_in, slices_in}
+use Rattle.yq_rows.specs.Rows.{Row, Cut, print_row}
 use Rattle.yq_rows.specs.View.{Bound, Shown, Slices, shown, slices, slices_text}
 use Rattle.yq_rows.specs.declared.ends.EndPlace.{EndPlace}
 use Rattle.yq_rows.specs.declared.offsets.Offsets as declared
@@ -17,7 +17,7 @@ use Rattle.yq_rows.specs.declared.places.Places.{Places}
 use Rattle.yq_rows.proofs.EndPlaceLaws.{end_same, end_stands}
 use Rattle.yq_rows.proofs.FrontLaws.{front_drop, front_length}
 use Rattle.yq_rows.proofs.ItemLaws.{items_of_text, items_shown}
-use Rattle.yq_rows.proofs.KeptLaws.{KeptRows, end_apart, items_texts, near_kept, print_then, row_apart}
+use Rattle.yq_rows.proofs.KeptLaws.{KeptRows, end_apart, items_texts, near_kept, row_apart}
 use Rattle.yq_rows.proofs.RestLending.{read_rises}
 use Rattle.yq_rows.proofs.ScanLaws.{one_cut}
 use Rattle.yq_rows.proofs.SliceLaws.{slices_are}
@@ -71,8 +71,8 @@ texts_by (end_item gap marker ∷ xs) k rows ends =
 pub texts_stand : (t : List ℕ) (os : List declared.Offsets) (es : List EndPlace) (xs : List Item) → IsUtf8 t → Stand t os → EndsStand t es → shown_in t os (bounds_in t es) ≡ shown_items xs → TextsIn xs
 texts_stand t os es xs u rows ends e =
     texts_by xs 0
-        (subst (All AreTexts) (ap (λ (s : Shown). s.rows) e) (All-map AreTexts (slices_in t) os (All-weaker (Stands t) (λ o. AreTexts (slices_in t o)) (λ o h. row_texts_in t o u h) os rows)))
-        (subst (All AreEndTexts) (ap (λ (s : Shown). s.bounds) e) (All-map AreEndTexts (bound_in t) es (All-weaker (EndStands t) (λ o. AreEndTexts (bound_in t o)) (λ o h. end_texts_in t o u h) es ends)))
+    (subst (All AreTexts) (ap (λ (s : Shown). s.rows) e) (All-map AreTexts (slices_in t) os (All-weaker (Stands t) (λ o. AreTexts (slices_in t o)) (λ o h. row_texts_in t o u h) os rows)))
+    (subst (All AreEndTexts) (ap (λ (s : Shown). s.bounds) e) (All-map AreEndTexts (bound_in t) es (All-weaker (EndStands t) (λ o. AreEndTexts (bound_in t o)) (λ o h. end_texts_in t o u h) es ends)))
 
 -- Ends of parts by their distance from the beginning: whatever stands behind them.
 abbrev KeptEnds : List ℕ → List EndPlace → List Bound → Type 0
@@ -114,31 +114,63 @@ later k [] b bs e = absurd cc
 later k (row_item r ∷ xs) b bs e = let more = later (k + 1) xs b bs e in omega (arith, more)
 later k (end_item gap marker ∷ xs) b bs e = let same : record { rows = k; end = gap; marker = marker } ≡ b = cc in let count = ap (λ (x : Bound). x.rows) same in omega (arith, count)
 
-pub text_same : (xs ys : List Item) (k : ℕ) (rest : List ℕ) → rows_in_items xs ≡ rows_in_items ys → bounds_in_items k xs ≡ bounds_in_items k ys → items_text xs rest ≡ items_text ys rest
-text_same [] [] k rest rows ends = refl
-text_same [] (row_item r ∷ ys) k rest rows ends = absurd cc
-text_same [] (end_item gap marker ∷ ys) k rest rows ends = absurd cc
-text_same (row_item r ∷ xs) [] k rest rows ends = absurd cc
-text_same (end_item gap marker ∷ xs) [] k rest rows ends = absurd cc
-text_same (row_item r ∷ xs) (row_item q ∷ ys) k rest rows ends =
+-- Items that are alike in all that is kept and lent of them.
+pub record SameItems (n k : ℕ) (rest : List ℕ) (xs ys : List Item) : Type 0 where
+  pub text : items_text xs rest ≡ items_text ys rest
+  pub near : near n xs ≡ near n ys
+  pub ends : ends_near n k xs ≡ ends_near n k ys
+  pub texts : TextsIn xs → TextsIn ys
+
+row_alike : (r q : Row) (xs ys : List Item) (n k : ℕ) (rest : List ℕ) → slices r ≡ slices q → SameItems (n + length (print_row r [])) (k + 1) rest xs ys → SameItems n k rest (row_item r ∷ xs) (row_item q ∷ ys)
+row_alike r q xs ys n k rest own more =
+    let spelled : (t : List ℕ) → print_row r t ≡ print_row q t = λ t. sym (slices_are r t) ∙ (ap (λ s. slices_text s t) own ∙ slices_are q t) in
+    record {
+      text = spelled (items_text xs rest) ∙ ap (print_row q) more.text;
+      near = ap (λ s. offsets_of n s ∷ near (n + length (print_row r [])) xs) own ∙ ap (λ l. offsets_of n (slices q) ∷ l) (more.near ∙ ap (λ (t : List ℕ). near (n + length t) ys) (spelled []));
+      ends = more.ends ∙ ap (λ (t : List ℕ). ends_near (n + length t) (k + 1) ys) (spelled []);
+      texts = λ h. (subst AreTexts own h.0, more.texts h.1);
+    }
+
+end_alike : (gap marker g m : List ℕ) (xs ys : List Item) (n k : ℕ) (rest : List ℕ) → gap ≡ g → marker ≡ m → SameItems (n + length (gap ++ marker)) k rest xs ys → SameItems n k rest (end_item gap marker ∷ xs) (end_item g m ∷ ys)
+end_alike gap marker g m xs ys n k rest first second more =
+    let long : gap ++ marker ≡ g ++ m = ap (λ l. l ++ marker) first ∙ ap (λ l. g ++ l) second in
+    let spelled : (t : List ℕ) → gap ++ (marker ++ t) ≡ g ++ (m ++ t) = λ t. ap (λ l. l ++ (marker ++ t)) first ∙ ap (λ l. g ++ (l ++ t)) second in
+    let own : end_at n k gap marker ≡ end_at n k g m = ap (λ l. end_at n k l marker) first ∙ ap (λ l. end_at n k g l) second in
+    record {
+      text = spelled (items_text xs rest) ∙ ap (λ t. g ++ (m ++ t)) more.text;
+      near = more.near ∙ ap (λ (t : List ℕ). near (n + length t) ys) long;
+      ends = ap (λ e. e ∷ ends_near (n + length (gap ++ marker)) k xs) own ∙ ap (λ l. end_at n k g m ∷ l) (more.ends ∙ ap (λ (t : List ℕ). ends_near (n + length t) k ys) long);
+      texts = λ h. (subst IsUtf8 first h.0, subst IsUtf8 second h.1, more.texts h.2);
+    }
+
+same_from : (xs ys : List Item) (n k : ℕ) (rest : List ℕ) → rows_in_items xs ≡ rows_in_items ys → bounds_in_items k xs ≡ bounds_in_items k ys → SameItems n k rest xs ys
+same_from [] [] n k rest rows ends = record { text = refl; near = refl; ends = refl; texts = λ h. h }
+same_from [] (row_item r ∷ ys) n k rest rows ends = absurd cc
+same_from [] (end_item gap marker ∷ ys) n k rest rows ends = absurd cc
+same_from (row_item r ∷ xs) [] n k rest rows ends = absurd cc
+same_from (end_item gap marker ∷ xs) [] n k rest rows ends = absurd cc
+same_from (row_item r ∷ xs) (row_item q ∷ ys) n k rest rows ends =
     let own : slices r ≡ slices q = cc in
     let behind : rows_in_items xs ≡ rows_in_items ys = cc in
-    let more = text_same xs ys (k + 1) rest behind ends in
-    sym (slices_are r (items_text xs rest)) ∙ (ap (λ s. slices_text s (items_text xs rest)) own ∙ (slices_are q (items_text xs rest) ∙ ap (print_row q) more))
-text_same (row_item r ∷ xs) (end_item gap marker ∷ ys) k rest rows ends = absurd (let low = later (k + 1) xs (record { rows = k; end = gap; marker = marker }) (bounds_in_items k ys) ends in omega (arith, low))
-text_same (end_item gap marker ∷ xs) (row_item r ∷ ys) k rest rows ends = absurd (let low = later (k + 1) ys (record { rows = k; end = gap; marker = marker }) (bounds_in_items k xs) (sym ends) in omega (arith, low))
-text_same (end_item gap marker ∷ xs) (end_item g m ∷ ys) k rest rows ends =
-    let own : record { rows = k; end = gap; marker = marker } ≡ record { rows = k; end = g; marker = m } = cc in
+    row_alike r q xs ys n k rest own (same_from xs ys (n + length (print_row r [])) (k + 1) rest behind ends)
+same_from (row_item r ∷ xs) (end_item gap marker ∷ ys) n k rest rows ends = absurd (let low = later (k + 1) xs (record { rows = k; end = gap; marker = marker }) (bounds_in_items k ys) ends in omega (arith, low))
+same_from (end_item gap marker ∷ xs) (row_item r ∷ ys) n k rest rows ends = absurd (let low = later (k + 1) ys (record { rows = k; end = gap; marker = marker }) (bounds_in_items k xs) (sym ends) in omega (arith, low))
+same_from (end_item gap marker ∷ xs) (end_item g m ∷ ys) n k rest rows ends =
+    let b : Bound = record { rows = k; end = gap; marker = marker } in
+    let d : Bound = record { rows = k; end = g; marker = m } in
     let behind : bounds_in_items k xs ≡ bounds_in_items k ys = cc in
-    let more = text_same xs ys k rest rows behind in
-    ap (λ (b : Bound). b.end ++ (b.marker ++ items_text xs rest)) own ∙ ap (λ t. g ++ (m ++ t)) more
+    let own : b ≡ d = cc in
+    end_alike gap marker g m xs ys n k rest (ap (λ (b : Bound). b.end) own) (ap (λ (b : Bound). b.marker) own) (same_from xs ys (n + length (gap ++ marker)) k rest rows behind)
+
+pub same_shown : (xs ys : List Item) (n : ℕ) (rest : List ℕ) → shown_items xs ≡ shown_items ys → SameItems n 0 rest xs ys
+same_shown xs ys n rest e = same_from xs ys n 0 rest (ap (λ (s : Shown). s.rows) e) (ap (λ (s : Shown). s.bounds) e)
 
 -- the places of a text's items, lent in it
 pub placed : (t : List ℕ) (c : Cut) (p : Places) → IsCut t c → IsPlaced p (shown c) → HavePlaces t (placed_rows (length t) p) p.ends.items
 placed t c p cut h =
     let items = h.items in
     let lent : shown_items (items_of c) ≡ shown_items items = items_shown c ∙ h.shown_is in
-    let text : t ≡ items_text items [] = cut.text ∙ (sym (items_of_text c) ∙ text_same (items_of c) items 0 [] (ap (λ (s : Shown). s.rows) lent) (ap (λ (s : Shown). s.bounds) lent)) in
+    let text : t ≡ items_text items [] = cut.text ∙ (sym (items_of_text c) ∙ (same_shown (items_of c) items 0 [] lent).text) in
     let near_is : placed_rows (length t) p ≡ near 0 items = ap (λ (w : List ℕ). placed_rows (length w) p) text ∙ h.rows_are in
     let rows : KeptRows t (placed_rows (length t) p) (rows_in_items items) = subst (λ (os : List declared.Offsets). KeptRows t os (rows_in_items items)) (sym near_is) (subst (λ (w : List ℕ). KeptRows w (near 0 items) (rows_in_items items)) (sym text) (near_kept items [] [] h.texts IsUtf8-nil)) in
     let ends : KeptEnds t p.ends.items (bounds_in_items 0 items) = subst (λ (es : List EndPlace). KeptEnds t es (bounds_in_items 0 items)) (sym h.ends_are) (subst (λ (w : List ℕ). KeptEnds w (ends_near 0 0 items) (bounds_in_items 0 items)) (sym text) (ends_kept items [] [] 0 h.texts IsUtf8-nil)) in
@@ -150,6 +182,7 @@ placed t c p cut h =
     )
 
 pub placed_shown : (t : List ℕ) (c d : Cut) (p : Places) → IsCut t c → IsCut t d → IsPlaced p (shown c) → shown_in t (placed_rows (length t) p) (bounds_in t p.ends.items) ≡ shown d
+unfolding placed
 placed_shown t c d p cut other h = (placed t c p cut h).3.shown_is ∙ (sym h.shown_is ∙ ap shown (one_cut t c d cut other))
 
 -- and back
@@ -162,3 +195,7 @@ places_of t p s h = record {
   texts = h.texts;
   small = subst (λ (w : List ℕ). length w < 2 ^ 32) h.text_is h.small;
 }
+
+-- rows that are all in front of their gap
+pub one_side : (n : ℕ) (front behind : List declared.Offsets) → behind ≡ [] → both_sides n front behind ≡ front
+one_side n front behind none = ap (both_sides n front) none ∙ append-nil front

@@ -37,14 +37,14 @@ impl Places {
     }
 
     /// How many rows there are.
-    pub(crate) fn len(&self) -> usize
+    pub fn len(&self) -> usize
         ensures { (n : ℕ) → result ≡ length (placed_rows n self.now) }
     {
         self.front.len() + self.behind.len()
     }
 
     /// Where row `i`, counted from 0, stands in the text of so many bytes.
-    pub(crate) fn place(&self, i: usize, len: usize) -> Offsets
+    pub fn place(&self, i: usize, len: usize) -> Offsets
         requires small { len < 2 ^ 32 }
         requires within { i < length (placed_rows len self.now) }
         ensures { slice_get (placed_rows len self.now) i ≡ Some result }
