@@ -1,0 +1,3 @@
+pub mod SplitLaws
+pub mod BeginLaws
+pub mod GapLaws
