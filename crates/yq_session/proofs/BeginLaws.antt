@@ -62,13 +62,15 @@ pub record FrontFound (n at : ℕ) (xs : List Item) : Type 0 where
 
 pub front_found : (xs : List Item) (n at : ℕ) → 0 < at → at ≤ text_length xs → FrontFound n at xs
 front_found [] n at some within = absurd (omega (arith, some, within))
-front_found (i ∷ xs) n at some within = go (ltb (length (item_text i)) at) refl where
+front_found (i ∷ xs) n at some within =
+    go (λ less. front_found xs (n + length (item_text i)) (at - length (item_text i)) (omega (arith, less)) (omega (arith, within, first_long i xs))) (ltb (length (item_text i)) at) refl
+  where
   own : ℕ
   own = length (item_text i)
-  go : (b : Bool) → ltb own at ≡ b → FrontFound n at (i ∷ xs)
-  go true e =
+  go : (own < at → FrontFound (n + own) (at - own) xs) → (b : Bool) → ltb own at ≡ b → FrontFound n at (i ∷ xs)
+  go next true e =
       let less : own < at = ltb-true own at e in
-      let more = front_found xs (n + own) (at - own) (omega (arith, less)) (omega (arith, within, first_long i xs)) in
+      let more = next less in
       let here : (n + own) + (at - own) ≡ n + at = omega (arith, less) in
       let f : List Item = more.front ++ (more.first ∷ []) in
       let size : (n + own) + text_length f ≡ n + text_length (i ∷ f) = omega (arith, first_long i f) in
@@ -81,7 +83,7 @@ front_found (i ∷ xs) n at some within = go (ltb (length (item_text i)) at) ref
         begun = (omega (arith, some), subst (λ (a : ℕ). AllBegin (λ s. s < a) (n + own) f) here more.begun);
         later = subst (λ (m : ℕ). AllBegin (λ s. n + at ≤ s) m more.rest) size (subst (λ (a : ℕ). AllBegin (λ s. a ≤ s) ((n + own) + text_length f) more.rest) here more.later);
       }
-  go false e =
+  go next false e =
       let long : at ≤ own = ltb-false own at e in
       record {
         front = [];
@@ -105,11 +107,12 @@ pub record BackFound (n back : ℕ) (xs : List Item) : Type 0 where
 
 pub back_found : (xs : List Item) (n back : ℕ) → BackFound n back xs
 back_found [] n back = record { front = []; behind = []; is_front = refl; is_behind = refl; split = refl; begun = tt; later = tt }
-back_found (i ∷ xs) n back = go (ltb (text_length (i ∷ xs)) back) refl where
+back_found (i ∷ xs) n back = go (back_found xs (n + length (item_text i)) back) (ltb (text_length (i ∷ xs)) back) refl
+  where
   own : ℕ
   own = length (item_text i)
-  go : (b : Bool) → ltb (text_length (i ∷ xs)) back ≡ b → BackFound n back (i ∷ xs)
-  go true e =
+  go : BackFound (n + own) back xs → (b : Bool) → ltb (text_length (i ∷ xs)) back ≡ b → BackFound n back (i ∷ xs)
+  go more true e =
       let less : text_length (i ∷ xs) < back = ltb-true (text_length (i ∷ xs)) back e in
       let all : AllBegin (λ s. n ≤ s) (n + text_length []) (i ∷ xs) = begin_from n (n + text_length []) (i ∷ xs) (omega arith) in
       record {
@@ -121,9 +124,8 @@ back_found (i ∷ xs) n back = go (ltb (text_length (i ∷ xs)) back) refl where
         begun = tt;
         later = begin_where (λ s. n ≤ s) (λ s. n + text_length (i ∷ xs) < s + back) (λ s h. omega (arith, h, less)) (n + text_length []) (i ∷ xs) all;
       }
-  go false e =
+  go more false e =
       let long : back ≤ text_length (i ∷ xs) = ltb-false (text_length (i ∷ xs)) back e in
-      let more = back_found xs (n + own) back in
       let here : (n + own) + text_length xs ≡ n + text_length (i ∷ xs) = omega (arith, first_long i xs) in
       let size : (n + own) + text_length more.front ≡ n + text_length (i ∷ more.front) = omega (arith, first_long i more.front) in
       record {

@@ -16,9 +16,15 @@ LastIs P os = (o : declared.Offsets) → slice_get os (length os - 1) ≡ Some o
 abbrev pub FirstIs : (declared.Offsets → Type 0) → List declared.Offsets → Type 0
 FirstIs P os = (o : declared.Offsets) → slice_get os 0 ≡ Some o → P o
 
+one_less : (n : ℕ) → suc (suc n) - 1 ≡ suc (suc n - 1)
+one_less n = omega arith
+
+last_deeper : (o p : declared.Offsets) (os : List declared.Offsets) → slice_get (o ∷ (p ∷ os)) (length (o ∷ (p ∷ os)) - 1) ≡ slice_get (p ∷ os) (length (p ∷ os) - 1)
+last_deeper o p os = ap (λ (n : ℕ). slice_get (o ∷ (p ∷ os)) n) (one_less (length os))
+
 last_found : (Q : declared.Offsets → Type 0) (o : declared.Offsets) (os rest : List declared.Offsets) → All Q ((o ∷ os) ++ rest) → (x : declared.Offsets) × (slice_get (o ∷ os) (length (o ∷ os) - 1) ≡ Some x) × Q x
 last_found Q o [] rest h = (o, refl, All-head Q o rest h)
-last_found Q o (p ∷ os) rest h = last_found Q p os rest (All-tail Q o ((p ∷ os) ++ rest) h)
+last_found Q o (p ∷ os) rest h = let x = last_found Q p os rest (All-tail Q o ((p ∷ os) ++ rest) h) in (x.0, last_deeper o p os ∙ x.1, x.2)
 
 -- Of two splits, the one whose first part ends with a place that the other's second part has not is the shorter one.
 pub record IsPrefix (a b c d : List declared.Offsets) : Type 0 where
@@ -31,7 +37,7 @@ longer o a b c d h = record { more = h.more; first = ap (λ l. o ∷ l) h.first;
 
 last_later : (P : declared.Offsets → Type 0) (o : declared.Offsets) (a : List declared.Offsets) → LastIs P (o ∷ a) → LastIs P a
 last_later P o [] h x e = absurd cc
-last_later P o (p ∷ a) h x e = h x e
+last_later P o (p ∷ a) h x e = h x (last_deeper o p a ∙ e)
 
 pub prefix : (P Q : declared.Offsets → Type 0) → ((o : declared.Offsets) → P o → Q o → ⊥) → (a b c d : List declared.Offsets) → a ++ b ≡ c ++ d → LastIs P a → All Q d → IsPrefix a b c d
 prefix P Q apart [] b c d e last all = record { more = c; first = refl; second = e }

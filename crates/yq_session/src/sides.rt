@@ -80,6 +80,7 @@ pub(crate) fn side_before(places: &Places, at: usize) -> Side
 /// What stands in front of the first row or end of a part that is nearer to the end of the text, which has
 /// so many bytes, than `back` bytes.
 pub(crate) fn side_behind(places: &Places, len: usize, back: usize) -> Side
+    requires small { len < 2 ^ 32 }
     requires within { back ≤ len }
     ensures { (xs : List Item) (at : ℕ) → ArePlaced places.now xs → IsGapAt at len places.now → at + back ≤ len → len ≡ spec.text_length xs →
         result ≡ side_of (spec.not_in_back back xs) }
@@ -94,7 +95,7 @@ pub(crate) fn side_behind(places: &Places, len: usize, back: usize) -> Side
         bytes = bytes.min(places.ends[ends].start());
     }
     Side {
-        rows: places.len() - rows,
+        rows: places.front.len() + (places.behind.len() - rows),
         ends,
         bytes,
     }
