@@ -76,7 +76,7 @@ pub(crate) fn carry_all(
 ) -> Result<Edited, EditError>
     requires places { HasPlaces (string_bytes text) places }
     requires serves { AreServed (operations_of ops.now) (string_bytes text) }
-    ensures { Edits result (behind splices.entry.items (spec.carry_all (operations_of ops.now) (string_bytes text.entry))) }
+    ensures { Edits result (behind splices.items (spec.carry_all (operations_of ops.now) (string_bytes text))) }
 {
     let mut session = Session::of(alloc, text, places);
     let mut splices = splices;

@@ -33,10 +33,10 @@ fn step(alloc: Global, done: Edited, program: &Program, nth: usize) -> Result<Ed
     requires literals { LiteralsHold (program_of program.now) }
     ensures ok { (u : Update) → update_at nth (program_of program.now) ≡ Some u →
         IfOk result (λ e. (cs : List Splice) ×
-        IsStep u (string_bytes done.entry.text) (string_bytes e.text) cs ×
-        (e.splices.items ≡ done.entry.splices.items ++ cs)) }
+        IsStep u (string_bytes done.text) (string_bytes e.text) cs ×
+        (e.splices.items ≡ done.splices.items ++ cs)) }
     ensures err { (u : Update) → update_at nth (program_of program.now) ≡ Some u →
-        IfErr result (λ e. FailsAt e u (string_bytes done.entry.text)) }
+        IfErr result (λ e. FailsAt e u (string_bytes done.text)) }
 {
     let Edited { text, splices } = done;
     let documents = read(alloc, text.as_bytes())?;

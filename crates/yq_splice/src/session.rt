@@ -72,7 +72,7 @@ impl Session {
     /// Begins with a text whose rows stand there, of which no line was counted.
     pub(crate) fn of(alloc: Global, text: String, places: Places) -> Session
         requires { HasPlaces (string_bytes text) places }
-        ensures { result.text ≡ string_bytes text.entry }
+        ensures { result.text ≡ string_bytes text }
     {
         Session {
             alloc,
@@ -144,14 +144,14 @@ impl Session {
 
     /// The text, where the session ends.
     pub fn close(self) -> String
-        ensures { string_bytes result ≡ self.entry.text }
+        ensures { string_bytes result ≡ self.text }
     {
         self.text
     }
 
     /// Ends the session by an operation, whose splices come behind others. The rows need not follow it.
     pub(crate) fn close_by(mut self, op: &Op, splices: Vec<Splice>) -> Result<Edited, EditError>
-        ensures { Edits result (behind splices.entry.items (carried (operation_of op.now) self.entry.text)) }
+        ensures { Edits result (behind splices.items (carried (operation_of op.now) self.text)) }
     {
         let (edited, _) = self.carry(op)?;
         let Edited {
