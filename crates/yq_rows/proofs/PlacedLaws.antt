@@ -1,5 +1,5 @@
 -- Rows and ends of parts that are kept by their places alone, lent in their text again.
-use Rattle.std.proofs.Common.{◌≡◌, ℕ, zero, suc, ◌+◌, ◌-◌, ◌<◌, ◌≤◌, ◌^◌, true, List, [], ◌∷◌, ◌++◌, length, map, take, drop, Option, Some, None, refl, sym, ap, ◌∙◌, subst, arith, append-nil, length-append}
+use Rattle.std.proofs.Common.{◌≡◌, ℕ, ◌+◌, ◌-◌, ◌<◌, ◌≤◌, ◌^◌, List, [], ◌∷◌, ◌++◌, length, Some, refl, sym, ap, ◌∙◌, subst, arith, append-nil, length-append}
 use Rattle.std.proofs.lemmas.List.Elements.{All-cons, All-head, All-map, All-nil, All-tail, All-weaker}
 use Rattle.std.proofs.lemmas.Str.{IsUtf8-drop, IsUtf8-nil, IsUtf8-take}
 use Rattle.std.specs.List.{All}
@@ -9,7 +9,7 @@ use Rattle.yq_rows.specs.Grammar.{IsCut}
 use Rattle.yq_rows.specs.Items.{Item, row_item, end_item, items_of, items_text, rows_in_items, bounds_in_items, shown_items}
 use Rattle.yq_rows.specs.Kept.{AreNear, HavePlaces, IsPlaced, TextsIn, both_sides, ends_near, near, placed_rows, shown_in}
 use Rattle.yq_rows.specs.Offsets.{AreTexts, Ends, Stand, Stands, offsets_of, rows_in, slices_in}
-use Rattle.yq_rows.specs.Rows.{Row, Cut, cut_text, print_row}
+use Rattle.yq_rows.specs.Rows.{Row, Cut, print_row}
 use Rattle.yq_rows.specs.View.{Bound, Shown, Slices, shown, slices, slices_text}
 use Rattle.yq_rows.specs.declared.ends.EndPlace.{EndPlace}
 use Rattle.yq_rows.specs.declared.offsets.Offsets as declared
@@ -17,7 +17,7 @@ use Rattle.yq_rows.specs.declared.places.Places.{Places}
 use Rattle.yq_rows.proofs.EndPlaceLaws.{end_same, end_stands}
 use Rattle.yq_rows.proofs.FrontLaws.{front_drop, front_length}
 use Rattle.yq_rows.proofs.ItemLaws.{items_of_text, items_shown}
-use Rattle.yq_rows.proofs.KeptLaws.{KeptRows, end_apart, items_texts, near_kept, print_then, row_apart}
+use Rattle.yq_rows.proofs.KeptLaws.{KeptRows, end_apart, items_texts, near_kept, row_apart}
 use Rattle.yq_rows.proofs.RestLending.{read_rises}
 use Rattle.yq_rows.proofs.ScanLaws.{one_cut}
 use Rattle.yq_rows.proofs.SliceLaws.{slices_are}
@@ -71,8 +71,8 @@ texts_by (end_item gap marker ∷ xs) k rows ends =
 pub texts_stand : (t : List ℕ) (os : List declared.Offsets) (es : List EndPlace) (xs : List Item) → IsUtf8 t → Stand t os → EndsStand t es → shown_in t os (bounds_in t es) ≡ shown_items xs → TextsIn xs
 texts_stand t os es xs u rows ends e =
     texts_by xs 0
-        (subst (All AreTexts) (ap (λ (s : Shown). s.rows) e) (All-map AreTexts (slices_in t) os (All-weaker (Stands t) (λ o. AreTexts (slices_in t o)) (λ o h. row_texts_in t o u h) os rows)))
-        (subst (All AreEndTexts) (ap (λ (s : Shown). s.bounds) e) (All-map AreEndTexts (bound_in t) es (All-weaker (EndStands t) (λ o. AreEndTexts (bound_in t o)) (λ o h. end_texts_in t o u h) es ends)))
+    (subst (All AreTexts) (ap (λ (s : Shown). s.rows) e) (All-map AreTexts (slices_in t) os (All-weaker (Stands t) (λ o. AreTexts (slices_in t o)) (λ o h. row_texts_in t o u h) os rows)))
+    (subst (All AreEndTexts) (ap (λ (s : Shown). s.bounds) e) (All-map AreEndTexts (bound_in t) es (All-weaker (EndStands t) (λ o. AreEndTexts (bound_in t o)) (λ o h. end_texts_in t o u h) es ends)))
 
 -- Ends of parts by their distance from the beginning: whatever stands behind them.
 abbrev KeptEnds : List ℕ → List EndPlace → List Bound → Type 0
@@ -156,8 +156,10 @@ same_from (row_item r ∷ xs) (row_item q ∷ ys) n k rest rows ends =
 same_from (row_item r ∷ xs) (end_item gap marker ∷ ys) n k rest rows ends = absurd (let low = later (k + 1) xs (record { rows = k; end = gap; marker = marker }) (bounds_in_items k ys) ends in omega (arith, low))
 same_from (end_item gap marker ∷ xs) (row_item r ∷ ys) n k rest rows ends = absurd (let low = later (k + 1) ys (record { rows = k; end = gap; marker = marker }) (bounds_in_items k xs) (sym ends) in omega (arith, low))
 same_from (end_item gap marker ∷ xs) (end_item g m ∷ ys) n k rest rows ends =
-    let own : record { rows = k; end = gap; marker = marker } ≡ record { rows = k; end = g; marker = m } = cc in
+    let b : Bound = record { rows = k; end = gap; marker = marker } in
+    let d : Bound = record { rows = k; end = g; marker = m } in
     let behind : bounds_in_items k xs ≡ bounds_in_items k ys = cc in
+    let own : b ≡ d = cc in
     end_alike gap marker g m xs ys n k rest (ap (λ (b : Bound). b.end) own) (ap (λ (b : Bound). b.marker) own) (same_from xs ys (n + length (gap ++ marker)) k rest rows behind)
 
 pub same_shown : (xs ys : List Item) (n : ℕ) (rest : List ℕ) → shown_items xs ≡ shown_items ys → SameItems n 0 rest xs ys

@@ -8,7 +8,7 @@ use Rattle.yq_rows.specs.Ends.{EndsStand, bounds_in, end_at}
 use Rattle.yq_rows.specs.Items.{Item, row_item, end_item, items_of, items_text, rows_items, shown_items}
 use Rattle.yq_rows.specs.Offsets.{AreTexts, Stand, offsets_of, rows_in}
 use Rattle.yq_rows.specs.Rows.{print_row, Part, Cut}
-use Rattle.yq_rows.specs.View.{Bound, Slices, slices, Shown}
+use Rattle.yq_rows.specs.View.{Bound, slices, Shown}
 use Rattle.yq_rows.specs.declared.ends.EndPlace.{EndPlace}
 use Rattle.yq_rows.specs.declared.offsets.Offsets as declared
 use Rattle.yq_rows.specs.declared.places.Places.{Places}

@@ -1,5 +1,5 @@
 use Rattle.std.proofs.Common.{subst}
-use Rattle.yq_rows.specs.Kept.{AreNear, IsPlaced}
+use Rattle.yq_rows.specs.Kept.{IsPlaced}
 use Rattle.yq_rows.proofs.PlacedLaws.{places_of}
 use Rattle.yq_rows.proofs.scanning.Rows.into_places.Goals as goal
 
