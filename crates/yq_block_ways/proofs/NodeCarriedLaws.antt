@@ -13,8 +13,8 @@ use Rattle.yq_change.specs.DocumentRows.{behind_document}
 use Rattle.yq_rows.specs.Items.{rows_items}
 use Rattle.yq_change.specs.SoundRoots.{MayReplace}
 use Rattle.yq_meaning.specs.Operations.{replace}
-use Rattle.yq_script.specs.Script.{Segment, old_text, new_text}
-use Rattle.yq_ways.specs.Local.{are_kept, kept_front, kept_back, InFirst}
+use Rattle.yq_script.specs.Script.{Segment, old_text, new_text, are_kept, kept_front, kept_back}
+use Rattle.yq_ways.specs.Local.{InFirst}
 use Rattle.yq_ways.specs.Ways.{ReadsAfter}
 use Rattle.yq_ways.proofs.CarriedLaws.{CarriedOut}
 use Rattle.yq_ways.proofs.LastRows.{lines_local}

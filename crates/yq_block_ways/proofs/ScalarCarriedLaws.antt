@@ -11,8 +11,7 @@ use Rattle.yq_tree.specs.ScalarPlaces.{ScalarPlace}
 use Rattle.yq_change.specs.Changed.{put_document}
 use Rattle.yq_change.specs.SoundRoots.{MayReplace}
 use Rattle.yq_meaning.specs.Operations.{replace}
-use Rattle.yq_script.specs.Script.{Segment, old_text, new_text}
-use Rattle.yq_ways.specs.Local.{are_kept, kept_front, kept_back}
+use Rattle.yq_script.specs.Script.{Segment, old_text, new_text, are_kept, kept_front, kept_back}
 use Rattle.yq_ways.specs.Ways.{ReadsAfter}
 use Rattle.yq_ways.proofs.CarriedLaws.{CarriedOut}
 use Rattle.yq_ways.proofs.LocalLaws.{cut_known, row_by_size}

@@ -28,10 +28,10 @@ use Rattle.yq_change.proofs.FlowRowLaws.{flow_edited}
 use Rattle.yq_change.proofs.LeadLaws.{same_lead_goes}
 use Rattle.yq_meaning.specs.After.{document_of, root_after}
 use Rattle.yq_meaning.specs.Operations.{Operation}
-use Rattle.yq_script.specs.Script.{old_text, new_text, text_before}
+use Rattle.yq_script.specs.Script.{old_text, new_text, text_before, kept_front, kept_back}
 use Rattle.yq_ways.specs.Done.{ArePieces}
 use Rattle.yq_flow_ways.specs.FlowWays.{flow_segments}
-use Rattle.yq_ways.specs.Local.{kept_front, kept_back, IsLocal}
+use Rattle.yq_ways.specs.Local.{IsLocal}
 use Rattle.yq_ways.specs.Ways.{ReadsAfter}
 use Rattle.yq_ways.proofs.CarriedLaws.{CarriedOut}
 use Rattle.yq_ways.proofs.LocalLaws.{at_row, cut_known, row_by_size}

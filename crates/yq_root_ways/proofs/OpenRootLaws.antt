@@ -38,8 +38,8 @@ use Rattle.yq_change.specs.Changed.{put_document}
 use Rattle.yq_rows.specs.Items.{Item, end_item, rows_items, items_of, items_text}
 use Rattle.yq_change.specs.Replaces.{rooted}
 use Rattle.yq_rows.proofs.ItemLaws.{items_of_text, items_text-append}
-use Rattle.yq_script.specs.Script.{Segment, new_text}
-use Rattle.yq_ways.specs.Local.{kept_front, kept_back, IsLocal}
+use Rattle.yq_script.specs.Script.{Segment, new_text, kept_front, kept_back}
+use Rattle.yq_ways.specs.Local.{IsLocal}
 use Rattle.yq_ways.specs.Ways.{ReadsAfter}
 use Rattle.yq_ways.proofs.CarriedLaws.{CarriedOut}
 use Rattle.yq_ways.proofs.LocalLaws.{cut_known, last_nothing}

@@ -16,8 +16,8 @@ use Rattle.yq_change.specs.Replaces.{rooted}
 use Rattle.yq_block.specs.BlockRows.{node_rows}
 use Rattle.yq_block.specs.declared.layout.Layout.{Layout}
 use Rattle.yq_block.proofs.LineLaws.{BeginAt, node_begun}
-use Rattle.yq_script.specs.Script.{Segment, old_text, new_text}
-use Rattle.yq_ways.specs.Local.{are_kept, kept_front, kept_back, InFirst, IsLocal}
+use Rattle.yq_script.specs.Script.{Segment, old_text, new_text, are_kept, kept_front, kept_back}
+use Rattle.yq_ways.specs.Local.{InFirst, IsLocal}
 use Rattle.yq_ways.proofs.LocalLaws.{above_is, rows_last, h}
 use Rattle.yq_root_ways.proofs.RootRows.{lone_row, root_rows}
 use Rattle.yq_change.proofs.DocumentItemLaws.{rows_before}

@@ -1,20 +1,19 @@
 -- Rows kept by their distance from the beginning of a text, or from its end.
-use Rattle.std.proofs.Common.{◌≡◌, ℕ, zero, suc, ◌+◌, ◌-◌, ◌<◌, ◌≤◌, ◌^◌, Some, get_or, List, [], ◌∷◌, ◌++◌, length, map, reverse, refl, sym, ap, ◌∙◌, subst, arith, append_assoc, length-append}
-use Rattle.std.proofs.lemmas.List.{get_or-reverse, length-map, length-reverse, map-append, reverse-reverse}
+use Rattle.std.proofs.Common.{◌≡◌, ℕ, zero, suc, ◌+◌, ◌-◌, ◌<◌, ◌≤◌, Some, get_or, List, [], ◌∷◌, ◌++◌, length, map, reverse, refl, sym, ap, ◌∙◌, subst, arith, append_assoc, length-append}
+use Rattle.std.proofs.lemmas.List.{get_or-reverse, length-map, length-reverse}
 use Rattle.std.proofs.lemmas.Option.{get_or_from_slice_get, slice_get-map, slice_get_read, slice_get_within}
 use Rattle.std.specs.List.{slice_get}
 use Rattle.std.specs.Option.{option_map}
-use Rattle.std.proofs.lemmas.List.Elements.{All-append, All-get_or, All-nil, All-cons}
-use Rattle.std.proofs.lemmas.Str.{IsUtf8-append, IsUtf8-nil}
+use Rattle.std.proofs.lemmas.List.Elements.{All-get_or, All-nil, All-cons}
+use Rattle.std.proofs.lemmas.Str.{IsUtf8-append}
 use Rattle.std.specs.Str.{IsUtf8}
 use Rattle.yq_rows.specs.Items.{Item, row_item, end_item, items_text, rows_in_items}
-use Rattle.yq_rows.specs.Kept.{near, far, turned, both_sides, TextsIn, Keeps}
+use Rattle.yq_rows.specs.Kept.{near, far, turned, both_sides, TextsIn}
 use Rattle.yq_rows.specs.Offsets.{Ends, Stands, Stand, slices_in, rows_in, AreTexts, offsets_of}
 use Rattle.yq_rows.specs.Rows.{Row, print_row}
 use Rattle.yq_rows.specs.View.{Slices, slices, slices_text}
 use Rattle.yq_rows.specs.declared.offsets.Offsets as declared
 use Rattle.yq_rows.proofs.FrontLaws.{front_drop, front_length}
-use Rattle.yq_rows.proofs.ItemLaws.{items_text-append}
 use Rattle.yq_rows.proofs.OffsetLaws.{row_then, row_stands, row_same, pieces_text, AreAll, pieces, texts}
 use Rattle.yq_rows.proofs.SliceLaws.{slices_are}
 
@@ -34,10 +33,10 @@ items_texts (end_item gap marker ∷ xs) rest h u = IsUtf8-append gap (marker ++
 pub print_then : (r : Row) (rest : List ℕ) → print_row r rest ≡ print_row r [] ++ rest
 print_then r rest = sym (slices_are r rest) ∙ (row_then (slices r) rest ∙ ap (λ t. t ++ rest) (slices_are r []))
 
-row_apart : (pre : List ℕ) (r : Row) (t : List ℕ) → pre ++ print_row r t ≡ (pre ++ print_row r []) ++ t
+pub row_apart : (pre : List ℕ) (r : Row) (t : List ℕ) → pre ++ print_row r t ≡ (pre ++ print_row r []) ++ t
 row_apart pre r t = ap (λ u. pre ++ u) (print_then r t) ∙ sym (append_assoc pre (print_row r []) t)
 
-end_apart : (pre gap marker t : List ℕ) → pre ++ (gap ++ (marker ++ t)) ≡ (pre ++ (gap ++ marker)) ++ t
+pub end_apart : (pre gap marker t : List ℕ) → pre ++ (gap ++ (marker ++ t)) ≡ (pre ++ (gap ++ marker)) ++ t
 end_apart pre gap marker t = ap (λ u. pre ++ u) (sym (append_assoc gap marker t)) ∙ sym (append_assoc pre (gap ++ marker) t)
 
 pub items_apart : (xs : List Item) (rest : List ℕ) → items_text xs rest ≡ items_text xs [] ++ rest
@@ -95,25 +94,7 @@ far_near (end_item gap marker ∷ xs) pre whole e =
     let long : length (pre ++ (gap ++ marker)) ≡ length pre + length (gap ++ marker) = length-append pre (gap ++ marker) in
     far_near xs (pre ++ (gap ++ marker)) whole (e ∙ end_apart pre gap marker t) ∙ ap (λ (k : ℕ). near k xs) long
 
-pub far_kept : (xs : List Item) (pre : List ℕ) → TextsIn xs → IsUtf8 [] → KeptRows (pre ++ items_text xs []) (map (turned (length (pre ++ items_text xs []))) (far xs)) (rows_in_items xs)
-far_kept xs pre h u =
-    subst (λ (os : List declared.Offsets). KeptRows (pre ++ items_text xs []) os (rows_in_items xs)) (sym (far_near xs pre (pre ++ items_text xs []) refl)) (near_kept xs pre [] h u)
-
--- Both sides of a gap.
-pub kept_are : (t : List ℕ) (front behind : List declared.Offsets) (before after : List Item) → Keeps t front behind before after → KeptRows t (both_sides (length t) front behind) (rows_in_items before ++ rows_in_items after)
-kept_are t front behind before after h =
-    let rest = items_text after [] in
-    let pre = items_text before [] in
-    let split : t ≡ pre ++ rest = h.text ∙ items_apart before rest in
-    let near_side : KeptRows t front (rows_in_items before) = rw (h.text, h.front_is) (near_kept before [] rest h.front_texts (items_texts after [] h.behind_texts IsUtf8-nil)) in
-    let far_side : KeptRows t (map (turned (length t)) (reverse behind)) (rows_in_items after) =
-    rw (h.behind_is, reverse-reverse (far after), far_near after pre t split)
-    (subst (λ (w : List ℕ). KeptRows w (near (length pre) after) (rows_in_items after)) (sym split) (near_kept after pre [] h.behind_texts IsUtf8-nil)) in (
-      map-append (slices_in t) front (map (turned (length t)) (reverse behind)) ∙ (ap (λ l. l ++ rows_in t (map (turned (length t)) (reverse behind))) near_side.0 ∙ ap (λ l. rows_in_items before ++ l) far_side.0),
-      All-append (Stands t) front (map (turned (length t)) (reverse behind)) near_side.1 far_side.1,
-    )
-
--- Items in front of a gap, exchanged for others: the places of the rows behind it stay as they are, and so do those in front.
+-- Items behind others.
 pub near_joined : (n : ℕ) (xs ys : List Item) → near n (xs ++ ys) ≡ near n xs ++ near (n + length (items_text xs [])) ys
 near_joined n [] ys = ap (λ (k : ℕ). near k ys) (omega arith)
 near_joined n (row_item r ∷ xs) ys =
@@ -123,23 +104,10 @@ near_joined n (end_item gap marker ∷ xs) ys =
     let size : (n + length (gap ++ marker)) + length (items_text xs []) ≡ n + length (gap ++ (marker ++ items_text xs [])) = omega (arith, ap length (append_assoc gap marker (items_text xs [])), length-append (gap ++ marker) (items_text xs [])) in
     near_joined (n + length (gap ++ marker)) xs ys ∙ ap (λ (k : ℕ). near (n + length (gap ++ marker)) xs ++ near k ys) size
 
-texts_joined : (xs ys : List Item) → TextsIn xs → TextsIn ys → TextsIn (xs ++ ys)
+pub texts_joined : (xs ys : List Item) → TextsIn xs → TextsIn ys → TextsIn (xs ++ ys)
 texts_joined [] ys h k = k
 texts_joined (row_item r ∷ xs) ys h k = (h.0, texts_joined xs ys h.1 k)
 texts_joined (end_item gap marker ∷ xs) ys h k = (h.0, h.1, texts_joined xs ys h.2 k)
-
-pub kept_exchanged : (t new : List ℕ) (front behind : List declared.Offsets) (before ys after : List Item) → Keeps t front behind before after → TextsIn ys → new ≡ items_text before (items_text ys (items_text after [])) → length new < 2 ^ 32 →
-    Keeps new (front ++ near (length (items_text before [])) ys) behind (before ++ ys) after
-kept_exchanged t new front behind before ys after h each e small =
-    let zero_more : 0 + length (items_text before []) ≡ length (items_text before []) = omega arith in
-    record {
-      text = e ∙ sym (items_text-append before ys (items_text after []));
-      front_is = ap (λ l. l ++ near (length (items_text before [])) ys) h.front_is ∙ sym ((near_joined 0 before ys ∙ ap (λ (k : ℕ). near 0 before ++ near k ys) zero_more));
-      behind_is = h.behind_is;
-      front_texts = texts_joined before ys h.front_texts each;
-      behind_texts = h.behind_texts;
-      small = small;
-    }
 
 -- The row at an index.
 get_left : (xs ys : List declared.Offsets) (i : ℕ) → i < length xs → slice_get (xs ++ ys) i ≡ slice_get xs i

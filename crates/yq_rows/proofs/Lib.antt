@@ -50,4 +50,5 @@ pub mod KeptLaws
 pub mod NearLaws
 pub mod EndPlaceLaws
 pub mod EndsNear
+pub mod PlacedLaws
 pub mod RegionEnds

@@ -8,7 +8,7 @@ use Rattle.yq_rows.specs.Ends.{EndsStand, bounds_in, end_at}
 use Rattle.yq_rows.specs.Items.{Item, row_item, end_item, items_of, items_text, rows_items, shown_items}
 use Rattle.yq_rows.specs.Offsets.{AreTexts, Stand, offsets_of, rows_in}
 use Rattle.yq_rows.specs.Rows.{print_row, Part, Cut}
-use Rattle.yq_rows.specs.View.{Bound, Slices, slices, Shown}
+use Rattle.yq_rows.specs.View.{Bound, slices, Shown}
 use Rattle.yq_rows.specs.declared.ends.EndPlace.{EndPlace}
 use Rattle.yq_rows.specs.declared.offsets.Offsets as declared
 use Rattle.yq_rows.specs.declared.places.Places.{Places}
@@ -41,13 +41,21 @@ ends_placed ends n k read = read >>= λ c. Some (ends ++ ends_near n k (items_of
 abbrev pub shown_in : List ℕ → List declared.Offsets → List Bound → Shown
 shown_in whole offsets bounds = record { rows = rows_in whole offsets; bounds = bounds }
 
--- Rows and ends of parts stand where those of items do that are a text, one behind the other (own).
+-- the pieces of items are characters (own)
+abbrev pub TextsIn : List Item → Type 0
+TextsIn [] = Unit {0}
+TextsIn (row_item r ∷ xs) = AreTexts (slices r) × TextsIn xs
+TextsIn (end_item gap marker ∷ xs) = IsUtf8 gap × IsUtf8 marker × TextsIn xs
+
+-- Rows and ends of parts stand where those of items do that are a text, one behind the other, whose pieces are characters (own).
 pub record AreNear (whole : List ℕ) (offsets : List declared.Offsets) (ends : List EndPlace) (s : Shown) : Type 0 where
   pub items : List Item
   pub text_is : whole ≡ items_text items []
   pub near_is : offsets ≡ near 0 items
   pub ends_is : ends ≡ ends_near 0 0 items
   pub shown_is : s ≡ shown_items items
+  pub texts : TextsIn items
+  pub small : length whole < 2 ^ 32
 
 -- Where rows and ends of parts are kept, they stand in the text, as those of items that are the text; and the ends are in order (own).
 abbrev pub HavePlaces : List ℕ → List declared.Offsets → List EndPlace → Type 0
@@ -62,31 +70,19 @@ far (end_item gap marker ∷ xs) = far xs
 
 -- the place of a row in a text of so many bytes, measured from the other end (own)
 abbrev pub turned : ℕ → declared.Offsets → declared.Offsets
-turned n o = record {
-  start = n - o.start;
-  gap = o.gap;
-  column = o.column;
-  dashes = o.dashes;
-  key = o.key;
-  colon = o.colon;
-  space = o.space;
-  anchor = o.anchor;
-  apart = o.apart;
-  head = o.head;
-  tail = o.tail;
-  raw = o.raw;
-  parent = o.parent;
-}
+turned n o = record o { start = n - o.start }
+
+-- the place of a row before which so many bytes more stand (own)
+abbrev pub raised : ℕ → declared.Offsets → declared.Offsets
+raised n o = record o { start = o.start + n }
+
+-- the end of a part before which so many rows and so many bytes stand, by the lengths of another one (own)
+abbrev pub moved : ℕ → ℕ → EndPlace → EndPlace
+moved rows start e = record e { rows = rows; start = start }
 
 -- the rows in front of a gap and those behind it, the last one first, by their places in a text of so many bytes (own)
 abbrev pub both_sides : ℕ → List declared.Offsets → List declared.Offsets → List declared.Offsets
 both_sides n front behind = front ++ map (turned n) (reverse behind)
-
--- the pieces of items are characters (own)
-abbrev pub TextsIn : List Item → Type 0
-TextsIn [] = Unit {0}
-TextsIn (row_item r ∷ xs) = AreTexts (slices r) × TextsIn xs
-TextsIn (end_item gap marker ∷ xs) = IsUtf8 gap × IsUtf8 marker × TextsIn xs
 
 -- the rows of a text of so many bytes, by where they are kept (own)
 abbrev pub placed_rows : ℕ → Places → List declared.Offsets

@@ -1,6 +1,7 @@
 //! Where the parts of a text end in it.
 ghost use Rattle.std.specs.Prelude.{◌≡◌, ◌<◌, ◌-◌, ◌^◌, ◌++◌, length};
 ghost use Rattle.yq_rows.specs.Ends as spec;
+ghost use Rattle.yq_rows.specs.Kept.{moved};
 ghost use Rattle.yq_rows.specs.Offsets.{Ends};
 ghost use Rattle.yq_rows.specs.View.{bound_view};
 
@@ -20,13 +21,33 @@ pub struct Bound<'t> {
 /// which a `u32` holds.
 #[derive(Clone, Copy, Debug)]
 pub struct EndPlace {
-    pub(crate) rows: usize,
+    /// How many rows stand before it, from the beginning of the text.
+    pub rows: usize,
     start: u32,
     gap: u32,
     marker: u32,
 }
 
 impl EndPlace {
+    /// How many bytes stand before the end, which begins with its gap.
+    pub fn start(self) -> usize
+        ensures { result ≡ self.start }
+    {
+        self.start as usize
+    }
+
+    /// The same end where so many rows and so many bytes stand before it.
+    pub fn moved(self, rows: usize, start: usize) -> EndPlace
+        requires { start < 2 ^ 32 }
+        ensures { result ≡ moved rows start self }
+    {
+        EndPlace {
+            rows,
+            start: start as u32,
+            ..self
+        }
+    }
+
     /// The end that stands there in its text.
     #[tactic(auto, unfolding(crate::specs::Ends::EndStands))]
     pub(crate) fn bound(self, whole: &str) -> Bound<'_>

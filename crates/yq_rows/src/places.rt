@@ -1,6 +1,7 @@
 //! Where the rows of a text and the ends of its parts stand, kept without the text.
-ghost use Rattle.std.specs.Prelude.{◌≡◌, ◌<◌, ◌^◌, ◌×◌, Some, length, slice_get};
+ghost use Rattle.std.specs.Prelude.{◌≡◌, ◌<◌, ◌^◌, ℕ, [], Some, length, slice_get};
 ghost use Rattle.yq_rows.specs.Grammar.{IsCut};
+ghost use Rattle.yq_rows.specs.Items.{shown_items};
 ghost use Rattle.yq_rows.specs.Kept.{IsPlaced, placed_rows};
 ghost use Rattle.yq_rows.specs.Rows.{Cut};
 ghost use Rattle.yq_rows.specs.View.{shown};
@@ -25,7 +26,9 @@ pub struct Places {
 
 impl Places {
     /// No rows, and no ends of parts.
-    pub fn new(alloc: Global) -> Places {
+    pub fn new(alloc: Global) -> Places
+        ensures { IsPlaced result (shown_items []) }
+    {
         Places {
             front: Vec::new(alloc),
             behind: Vec::new(alloc),
@@ -34,14 +37,14 @@ impl Places {
     }
 
     /// How many rows there are.
-    pub(crate) fn len(&self) -> usize
+    pub fn len(&self) -> usize
         ensures { (n : ℕ) → result ≡ length (placed_rows n self.now) }
     {
         self.front.len() + self.behind.len()
     }
 
     /// Where row `i`, counted from 0, stands in the text of so many bytes.
-    pub(crate) fn place(&self, i: usize, len: usize) -> Offsets
+    pub fn place(&self, i: usize, len: usize) -> Offsets
         requires small { len < 2 ^ 32 }
         requires within { i < length (placed_rows len self.now) }
         ensures { slice_get (placed_rows len self.now) i ≡ Some result }
@@ -54,7 +57,7 @@ impl Places {
 
     /// The rows of the text in which they stand.
     pub fn rows<'t>(self, text: &'t str) -> Rows<'t>
-        requires { (c : Cut) × IsCut text.now c × IsPlaced self.entry (shown c) }
+        requires { (c : Cut) × IsCut text.now c × IsPlaced self (shown c) }
         ensures { (c : Cut) → IsCut text.now c → result ≡ shown c }
     {
         Rows { text, places: self }

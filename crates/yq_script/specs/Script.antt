@@ -1,5 +1,5 @@
 -- What an edit keeps of a text and what it exchanges, in order, and the splices of that.
-use Rattle.std.specs.Prelude.{◌≡◌, ℕ, ◌+◌, ◌-◌, List, [], ◌∷◌, ◌++◌, length, take, drop, if◌then◌else◌, ⊤}
+use Rattle.std.specs.Prelude.{◌≡◌, ℕ, ◌+◌, ◌-◌, Bool, true, false, List, [], ◌∷◌, ◌++◌, length, take, drop, if◌then◌else◌, ⊤}
 use Rattle.std.specs.Str.{bytes_eq}
 use Rattle.yq_script.specs.Splice.{Splice}
 
@@ -68,6 +68,24 @@ abbrev pub kept_text : List Segment → List ℕ
 kept_text [] = []
 kept_text (keep t ∷ ss) = t ++ kept_text ss
 kept_text (put o w ∷ ss) = kept_text ss
+
+-- whether segments are all kept ones (own)
+abbrev pub are_kept : List Segment → Bool
+are_kept [] = true
+are_kept (keep t ∷ ss) = are_kept ss
+are_kept (put o w ∷ ss) = false
+
+-- the text of the kept segments in front of the first one that gives way (own)
+abbrev pub kept_front : List Segment → List ℕ
+kept_front [] = []
+kept_front (keep t ∷ ss) = t ++ kept_front ss
+kept_front (put o w ∷ ss) = []
+
+-- the text of the kept segments behind the last one that gives way (own)
+abbrev pub kept_back : List Segment → List ℕ
+kept_back [] = []
+kept_back (keep t ∷ ss) = if are_kept ss then t ++ kept_back ss else kept_back ss
+kept_back (put o w ∷ ss) = kept_back ss
 
 -- A range of a text: from an offset up to another one (own).
 pub record Extent : Type 0 where

@@ -5,14 +5,15 @@ use Rattle.yq_rows.specs.Items.{Item, end_item, rows_items, items_text}
 use Rattle.yq_rows.specs.ItemSplices.{first_item}
 use Rattle.yq_rows.specs.Rows.{Row, print_row, behind_gap, rows_text, Part, part_text, Cut, cut_text}
 use Rattle.yq_rows.specs.Splices.{with_row_gap, first_gap, with_first_gap, end_gap, behind_first}
+use Rattle.yq_rows.specs.Touched.{item_text}
 use Rattle.yq_rows.proofs.PlaceLaws.{row_then}
 use Rattle.yq_change.specs.Changed.{put_document}
 use Rattle.yq_change.specs.DocumentRows.{behind_document, put_rows}
 use Rattle.yq_change.proofs.DocumentItemLaws.{rows_before, rows_spell}
-use Rattle.yq_script.specs.Script.{Segment, old_text, new_text}
+use Rattle.yq_script.specs.Script.{Segment, old_text, new_text, are_kept, kept_front, kept_back}
 use Rattle.yq_documents.specs.Documents.{document_parts}
 use Rattle.std.specs.List.{slice_get}
-use Rattle.yq_ways.specs.Local.{are_kept, kept_front, kept_back, item_text, InFirst, IsLocal}
+use Rattle.yq_ways.specs.Local.{InFirst, IsLocal}
 use Rattle.yq_ways.proofs.LocalLaws.{rows_last, h, front_items, back_items, around, front_text, ItemsGiveWay, come_inside, items_local, one_first, one_last}
 
 -- the items behind the first one of rows and of the end behind them

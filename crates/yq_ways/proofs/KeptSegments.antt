@@ -1,8 +1,7 @@
 -- What segments keep in front and behind.
 use Rattle.std.proofs.Common.{◌≡◌, ℕ, Bool, true, false, cond, List, [], ◌∷◌, ◌++◌, refl, sym, ap, ◌∙◌, append_assoc, append-nil}
 use Rattle.std.proofs.lemmas.Bool.{false≢true}
-use Rattle.yq_script.specs.Script.{Segment, keep, put, old_text, new_text}
-use Rattle.yq_ways.specs.Local.{are_kept, kept_front, kept_back}
+use Rattle.yq_script.specs.Script.{Segment, keep, put, old_text, new_text, are_kept, kept_front, kept_back}
 
 -- ---- kept segments
 

@@ -54,11 +54,11 @@ use Rattle.yq_meaning.specs.Operations.{Operation, replace, append, remove, line
 use Rattle.yq_meaning.specs.Rooms.{room_of}
 use Rattle.yq_program.specs.declared.program.CommentPlace.TheVariants as comments
 use Rattle.yq_rows.proofs.splices.ContentPlaces.{count_front}
-use Rattle.yq_script.specs.Script.{Segment, keep, put, old_text, new_text}
+use Rattle.yq_script.specs.Script.{Segment, keep, put, old_text, new_text, are_kept, kept_front, kept_back}
 use Rattle.yq_ways.specs.CommentWays.{white_segment, line_comment_text, line_comment_segments, line_comment_way}
 use Rattle.yq_ways.specs.Done.{ArePieces}
 use Rattle.yq_ways.specs.Operands.{HasOperand}
-use Rattle.yq_ways.specs.Local.{are_kept, kept_front, kept_back, IsLocal, IsLocalTo, IsLocalWay}
+use Rattle.yq_ways.specs.Local.{IsLocal, IsLocalTo, IsLocalWay}
 use Rattle.yq_ways.specs.Ways.{IsWay, ReadsAfter}
 use Rattle.yq_ways.proofs.CommentPieceLaws.{nothing, byte_then, line_text_is}
 use Rattle.yq_ways.proofs.CommentReadLaws.{quiet_none, comment_behind, comment_is}

@@ -6,6 +6,7 @@ use Rattle.std.proofs.lemmas.Option.{same_Some}
 use Rattle.std.specs.List.{slice_get}
 use Rattle.yq_rows.specs.Items.{Item, row_item, end_item, rows_items, items_of, items_text}
 use Rattle.yq_rows.specs.Rows.{Row, print_row, rows_text, Part, part_text, Cut, cut_text}
+use Rattle.yq_rows.specs.Touched.{item_text}
 use Rattle.yq_rows.proofs.ItemLaws.{items_of_text, items_text-append}
 use Rattle.yq_rows.proofs.KeptLaws.{items_apart}
 use Rattle.yq_rows.proofs.PlaceLaws.{row_then}
@@ -16,8 +17,8 @@ use Rattle.yq_change.specs.Changed.{put_document}
 use Rattle.yq_change.specs.DocumentItems.{HasItems}
 use Rattle.yq_change.specs.DocumentRows.{behind_document}
 use Rattle.yq_change.proofs.DocumentItemLaws.{rows_before, rows_joined, rows_spell, document_has_items}
-use Rattle.yq_script.specs.Script.{Segment, old_text, new_text}
-use Rattle.yq_ways.specs.Local.{are_kept, kept_front, kept_back, item_text, InFirst, InLast, IsLocal, IsLocalTo}
+use Rattle.yq_script.specs.Script.{Segment, old_text, new_text, are_kept, kept_front, kept_back}
+use Rattle.yq_ways.specs.Local.{InFirst, InLast, IsLocal, IsLocalTo}
 use Rattle.yq_ways.proofs.KeptSegments.{IsBetween, between}
 
 -- the new text has one cut

@@ -32,11 +32,11 @@ use Rattle.yq_documents.proofs.RunLaws.{run_split}
 use Rattle.yq_meaning.specs.Fits.{Fits}
 use Rattle.yq_meaning.specs.Operations.{Operation, replace, append, remove, line_comment, head_comment}
 use Rattle.yq_meaning.specs.Rooms.{room_of}
-use Rattle.yq_script.specs.Script.{Segment, keep, put, old_text, new_text}
+use Rattle.yq_script.specs.Script.{Segment, keep, put, old_text, new_text, kept_back}
 use Rattle.yq_ways.specs.Done.{IsDone}
 use Rattle.yq_ways.specs.Operands.{HasOperand}
 use Rattle.yq_ways.specs.Removing.{indented, lines_mended, gap_mended, removed, removed_at, remove_way}
-use Rattle.yq_ways.specs.Local.{kept_back, IsLocal, IsLocalTo, IsLocalWay}
+use Rattle.yq_ways.specs.Local.{IsLocal, IsLocalTo, IsLocalWay}
 use Rattle.yq_ways.specs.Ways.{ReadsAfter, IsWay}
 use Rattle.yq_ways.proofs.KeptSegments.{IsBehind, behind, back_last}
 use Rattle.yq_ways.proofs.GapLaws.{RowsGoOut, out_local}

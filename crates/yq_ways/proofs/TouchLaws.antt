@@ -6,9 +6,9 @@ use Rattle.std.specs.Option.{option_or}
 use Rattle.yq_rows.specs.Items.{Item, items_of, items_text}
 use Rattle.yq_rows.proofs.ItemLaws.{items_text-append}
 use Rattle.yq_rows.proofs.KeptLaws.{items_apart}
-use Rattle.yq_script.specs.Script.{Segment, AllStay}
+use Rattle.yq_script.specs.Script.{Segment, AllStay, kept_front, kept_back}
 use Rattle.yq_rows.specs.Touched.{item_text, in_front, in_back}
-use Rattle.yq_ways.specs.Local.{kept_front, kept_back, InFirst, InLast, IsLocalTo, LocalTouches, LocalJoined}
+use Rattle.yq_ways.specs.Local.{InFirst, InLast, IsLocalTo, LocalTouches, LocalJoined}
 use Rattle.yq_ways.proofs.LocalLaws.{first_nothing, item_apart}
 
 -- ---- lengths

@@ -1,5 +1,5 @@
 -- Which rows and ends of parts of a text an operation exchanges: those that it touches (own).
-use Rattle.std.specs.Prelude.{◌≡◌, ◌⊎◌, ℕ, ◌≤◌, ◌-◌, nat_lt, Bool, true, false, List, [], ◌∷◌, ◌++◌, length, Some, if◌then◌else◌}
+use Rattle.std.specs.Prelude.{◌≡◌, ◌⊎◌, ℕ, ◌≤◌, List, [], ◌∷◌, ◌++◌, length, Some}
 use Rattle.yq_scalar.specs.Characters.{text_limit}
 use Rattle.yq_rows.specs.Items.{Item, items_of, items_text}
 use Rattle.yq_rows.specs.Rows.{Cut, cut_text}
@@ -8,27 +8,9 @@ use Rattle.yq_documents.specs.Reading.{documents, read_at}
 use Rattle.yq_meaning.specs.Fits.{Fits}
 use Rattle.yq_meaning.specs.Operations.{Operation}
 use Rattle.yq_meaning.specs.Rooms.{room_of}
-use Rattle.yq_script.specs.Script.{Segment, keep, put, new_text, AllStay}
+use Rattle.yq_script.specs.Script.{Segment, new_text, AllStay, kept_front, kept_back}
 use Rattle.yq_ways.specs.Operands.{HasOperand}
 use Rattle.yq_ways.specs.Ways.{Way, or_else}
-
--- whether segments are all kept ones (own)
-abbrev pub are_kept : List Segment → Bool
-are_kept [] = true
-are_kept (keep t ∷ ss) = are_kept ss
-are_kept (put o w ∷ ss) = false
-
--- the text of the kept segments in front of the first one that gives way (own)
-abbrev pub kept_front : List Segment → List ℕ
-kept_front [] = []
-kept_front (keep t ∷ ss) = t ++ kept_front ss
-kept_front (put o w ∷ ss) = []
-
--- the text of the kept segments behind the last one that gives way (own)
-abbrev pub kept_back : List Segment → List ℕ
-kept_back [] = []
-kept_back (keep t ∷ ss) = if are_kept ss then t ++ kept_back ss else kept_back ss
-kept_back (put o w ∷ ss) = kept_back ss
 
 -- these bytes lie in the first of items, from its beginning on (own)
 abbrev pub InFirst : List ℕ → List Item → Type 0

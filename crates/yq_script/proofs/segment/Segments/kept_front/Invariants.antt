@@ -1,0 +1,13 @@
+use Rattle.std.proofs.Common.{◌≡◌, ◌+◌, length}
+use Rattle.yq_script.specs.Script.{old_text, kept_front}
+use Rattle.yq_script.specs.Segments.{segments_of}
+use Rattle.yq_script.proofs.segment.Segments.kept_front.Given as goal
+
+abbrev pub invariant-segments : goal.invariant-segments
+invariant-segments l = record {
+  front : l.len + length (kept_front (segments_of l.rest)) ≡ length (kept_front l.fn.self);
+  all : l.len + length (old_text (segments_of l.rest)) ≡ length (old_text l.fn.self);
+}
+
+abbrev pub decreases-segments : goal.decreases-segments
+decreases-segments l = length l.rest
