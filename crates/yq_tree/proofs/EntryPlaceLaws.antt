@@ -19,7 +19,7 @@ use Rattle.yq_lines.specs.Places.{lines_before, Found, find}
 use Rattle.yq_documents.specs.Lines.{lines_of}
 use Rattle.yq_tree.specs.SeatReading.{Numbers, numbers}
 use Rattle.yq_documents.specs.Seats.{Seat, behind_one, seat, seat_of, seat_at, document_row}
-use Rattle.yq_lines.specs.Ends.{found_line, line_of, reached}
+use Rattle.yq_lines.specs.Ends.{found_line, reached}
 use Rattle.yq_tree.proofs.FlowPlaceLaws.{flow_told}
 use Rattle.yq_lines.proofs.Values.{If}
 use Rattle.yq_tree.proofs.SeatedLaws.{get_drop, get_front}

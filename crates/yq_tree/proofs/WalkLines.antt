@@ -1,12 +1,10 @@
 -- Lines of a document from one up to another one, and their place.
-use Rattle.std.proofs.Common.{◌≡◌, ℕ, zero, suc, ◌+◌, ◌-◌, ◌<◌, ◌≤◌, eqb, List, [], ◌∷◌, length, take, Option, Some, None, cond, sym, ap, ◌∙◌, arith, length-append}
-use Rattle.std.proofs.lemmas.Bool.{eq-eqb, ne_eqb, cond-true, cond-false}
+use Rattle.std.proofs.Common.{◌≡◌, ℕ, suc, ◌+◌, ◌-◌, ◌<◌, List, length, take, Option, Some, sym, ap, ◌∙◌, arith}
 use Rattle.std.specs.List.{slice_get}
 use Rattle.yq_scalar.specs.Answers.{◌>>=◌}
-use Rattle.yq_lines.specs.Outline.{Line}
 use Rattle.yq_rows.specs.Rows.{Row, Cut}
 use Rattle.yq_rows.specs.View.{Slices, slices, rows_of, Shown}
-use Rattle.yq_documents.specs.Lines.{row_lines, lines_of}
+use Rattle.yq_documents.specs.Lines.{lines_of}
 use Rattle.yq_documents.specs.Seats.{Seat, seat}
 use Rattle.yq_tree.specs.EntryReading.{before_line, through_row, lines_place, line_begin}
 use Rattle.yq_tree.specs.Extents.{row_start}

@@ -22,4 +22,4 @@ returns c =
     let d = c.in_ok-document.document in
     let f = found_document c.args.self.now c.rows-rows.result.now cut c.args.doc d c.whole-whole.ensures.cut c.rows-rows.ensures c.in_ok-document.ensures in
     let b = told_bound c.rows-rows.result.now c.in_ok-part.part c.in_ok-part.ensures.within in
-    ap Some (c.end_len.ensures b.0 b.1) ∙ end_there c.rows-rows.result.now cut c.args.doc d c.first_is_document.result c.in_ok-part.part b.0 c.rows-rows.ensures f c.if-document.false c.first_is_document.ensures c.in_ok-part.ensures.value b.1
+    ap Some (c.part_end.ensures b.0 b.1) ∙ end_there c.rows-rows.result.now cut c.args.doc d c.first_is_document.result c.in_ok-part.part b.0 c.rows-rows.ensures f c.if-document.false c.first_is_document.ensures c.in_ok-part.ensures.value b.1
