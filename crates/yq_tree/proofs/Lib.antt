@@ -83,6 +83,7 @@ pub mod SeenLaws
 pub mod NodePlaceLaws
 pub mod RowHeads
 pub mod NodeAtLaws
+pub mod KeptLines
 pub mod LastBreakLaws
 pub mod ContentEndLaws
 pub mod EndedLines

@@ -3,6 +3,7 @@ use Rattle.std.specs.Prelude.{◌≡◌, ℕ, zero, suc, Bool, true, false, ◌+
 use denote.Bor.{Bor}
 use Rattle.yq_inline.specs.declared.path.Step as declared
 use Rattle.yq_inline.specs.Entries.{step_of}
+use Rattle.yq_inline.specs.Places.{Placed}
 use Rattle.yq_scalar.specs.Paths.{Step}
 use Rattle.yq_scalar.specs.Text.{is_empty}
 use Rattle.yq_lines.specs.Ends.{is_end, part}
@@ -16,7 +17,7 @@ use Rattle.yq_documents.specs.Documents.{document_parts}
 use Rattle.yq_documents.specs.Lines.{lines_of}
 use Rattle.yq_documents.specs.Reading.{all_documents, cut_of}
 use Rattle.yq_documents.specs.Seats.{document_row}
-use Rattle.yq_tree.specs.EntryReading.{dash_at}
+use Rattle.yq_tree.specs.EntryReading.{dash_at, HasFlows}
 use Rattle.yq_tree.specs.Extents.{lines_before_mark}
 use Rattle.yq_tree.specs.declared.places.spot.Spot.{Spot}
 use Rattle.yq_tree.specs.declared.places.spot.Stretch.{Stretch}
@@ -49,6 +50,15 @@ pub record HasDocument (s : Shown) (d : Stretch) : Type 0 where
   pub within : d.end ≤ length s.rows
   pub pieces : take (d.end - d.first) (drop d.first s.rows) ≡ map slices rows
   pub valid : AreRows limit rows end rest
+
+-- The lines that are kept of a document are those of its rows.
+pub record HasLines (s : Shown) (d : Stretch) (ls : List Line) : Type 0 where
+  pub document : HasDocument s d
+  pub lines : ls ≡ lines_of document.rows
+
+-- What is said of lines that are kept, and of what stands in flow in them, is so of the rows of the document, among those of a cut.
+abbrev pub HeldAs : Shown → Stretch → List Line → List (Option Placed) → (ℕ → Cut → List Row → Type 0) → Type 0
+HeldAs s d ls fs said = (k : ℕ) (c : Cut) (h : HasDocument s d) → ls ≡ lines_of h.rows → HasFlows k c h.rows fs → said k c h.rows
 
 -- A line of a document, or the end behind its rows.
 pub record IsSpot (s : Shown) (d : Stretch) (q : Spot) : Type 0 where

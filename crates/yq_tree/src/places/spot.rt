@@ -41,7 +41,7 @@ pub(crate) struct Seat {
 
 /// What a line of a row begins with, as the order of marks in a column: 1 for a node itself, 2 for a key,
 /// 3 for a dash.
-pub(crate) fn line_rank(row: &Row<'_>, line: usize) -> usize
+fn line_rank(row: &Row<'_>, line: usize) -> usize
     ensures { result ≡ spec.line_rank line (view row.now) }
 {
     if dash_at(row.dashes().as_bytes(), line) < row.dashes().len() {
@@ -77,6 +77,18 @@ pub(crate) fn level_at(rows: &Rows<'_>, spot: Spot) -> usize
         return rows.level(spot.row);
     }
     line_level(&rows.row(spot.row), spot.line)
+}
+
+/// What a line begins with, as the order of marks in a column.
+pub(crate) fn rank_at(rows: &Rows<'_>, spot: Spot) -> usize
+    requires within { spot.row < length rows.now.rows }
+    requires shown { IsShown rows.now }
+    ensures { (x : Slices) → slice_get rows.now.rows spot.row ≡ Some x → result ≡ spec.line_rank spot.line x }
+{
+    match level_at(rows, spot) % 3 {
+        0 => 3,
+        rank => rank,
+    }
 }
 
 /// The column of a line.
