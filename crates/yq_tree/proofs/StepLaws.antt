@@ -127,10 +127,3 @@ module _ (s : Shown) (d : Stretch) (h : HasDocument s d) (dashes : Bool) (i abov
 -- the steps of a document that was found, and of one that isn't there
 pub steps_found : (s : Shown) (c : Cut) (n : ℕ) (d : Stretch) (f : Found s c n d) → steps_in (lines_of f.document.rows) ≡ document_steps n c
 steps_found s c n d f = ap (λ (rs : List Row). steps_in (lines_of rs)) f.rows ∙ ap steps_of_part (sym f.there)
-
-pub no_steps_found : (c : Cut) (n : ℕ) → None ≡ document_rows n c → steps_of_part None ≡ document_steps n c
-no_steps_found c n e = go (slice_get (document_parts c) n) e
-  where
-    go : (o : Option Part) → ◌≡◌ {A = Option (ℕ × ℕ)} None (option_map (λ p. (document_row n c, document_row n c + length p.rows)) o) → steps_of_part None ≡ steps_of_part o
-    go None e = refl
-    go (Some p) e = absurd (cc)

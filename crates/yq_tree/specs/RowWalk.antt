@@ -6,7 +6,7 @@ use Rattle.yq_inline.specs.Entries.{step_of}
 use Rattle.yq_inline.specs.Places.{Placed}
 use Rattle.yq_scalar.specs.Paths.{Step}
 use Rattle.yq_scalar.specs.Text.{is_empty}
-use Rattle.yq_lines.specs.Ends.{is_end, part}
+use Rattle.yq_lines.specs.Ends.{deeper_count, is_end, part}
 use Rattle.yq_lines.specs.Outline.{Line}
 use Rattle.yq_lines.specs.Places.{find_row}
 use Rattle.yq_lines.specs.Spots.{reach_from, seen, spot}
@@ -83,6 +83,10 @@ pub record AreLines (s : Shown) (d : Stretch) (p q : Spot) : Type 0 where
   pub stop : IsSpot s d q
   pub first : q.line ≡ 0
   pub order : (h : HasDocument s d) → line_number d h.rows p ≤ line_number d h.rows q
+
+-- the number of the line behind those from one on that are deeper than a level (8.2)
+abbrev pub lines_stop : ℕ → ℕ → List Line → ℕ
+lines_stop n floor ls = n + deeper_count floor (drop n ls)
 
 -- What is said of the line of a document that is there.
 abbrev pub OfLine : Shown → Stretch → Spot → (Line → Type 0) → Type 0
