@@ -4,3 +4,4 @@ pub mod GapLaws
 pub mod CountLaws
 pub mod SideLaws
 pub mod BackLaws
+pub mod ExchangeLaws

@@ -20,12 +20,11 @@ fn push_moved(
     requires { All (IsMovable from to) ends.now }
     ensures { OnOk result (joined.new.items ≡ joined.old.items ++ map (moved_from from to) ends.now) }
 {
-    let mut rest = ends;
-    'ends: while let [end, after @ ..] = rest {
+    'ends: for i in 0..ends.len() {
+        let end = ends[i];
         let rows = end.rows.saturating_sub(from.rows) + to.rows;
         let start = end.start().saturating_sub(from.bytes) + to.bytes;
         joined.push(end.moved(rows, start))?;
-        rest = after;
     }
     Ok(())
 }
@@ -84,23 +83,23 @@ pub(crate) fn exchange(
     ensures ok { OnOk result ((h : GivesWay places.old found.now front old len) → ArePlaced places.new (h.before ++ (h.written ++ h.behind))) }
     ensures err { OnErr result (SamePlaces places.old places.new) }
 {
-    let rows = found.len();
-    let new = Side {
-        rows: front.rows + rows,
-        ends: 0,
-        bytes: front.bytes + len,
-    };
     let kept = places.len() - old.rows;
-    let is_last = kept == 0 && old.ends == places.ends.len();
+    let later = places.ends.len() - old.ends;
     // What is read of a text that isn't the last one has an empty end behind it.
-    let count = if is_last {
+    let count = if kept + later == 0 {
         found.ends.len()
     } else {
         found.ends.len() - 1
     };
     let come = &found.ends.as_slice()[..count];
-    let ends = join_ends(alloc, places.ends.as_slice(), come, front, old, new)?;
+    let rows = found.len();
     places.front.reserve(rows)?;
+    let new = Side {
+        rows: front.rows + rows,
+        ends: 0,
+        bytes: front.bytes + len,
+    };
+    let ends = join_ends(alloc, places.ends.as_slice(), come, front, old, new)?;
     places.front.truncate(front.rows);
     push_rows(&mut places.front, found, len, front.bytes);
     places.behind.truncate(kept);
