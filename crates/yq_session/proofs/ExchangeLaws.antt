@@ -58,12 +58,12 @@ moved_near from to n k (end_item gap marker ∷ xs) =
     (λ i. one i ∷ map (moved_from from to) (ends_near (a i) (from.rows + k) xs)) ∙ ap (λ l. end_at (to.bytes + n) (to.rows + k) gap marker ∷ l) (moved_near from to (n + own) k xs ∙ ap (λ (m : ℕ). ends_near m (to.rows + k) xs) c)
 
 -- texts
-texts_first : (xs ys : List Item) → TextsIn (xs ++ ys) → TextsIn xs
+pub texts_first : (xs ys : List Item) → TextsIn (xs ++ ys) → TextsIn xs
 texts_first [] ys h = tt
 texts_first (row_item r ∷ xs) ys h = (h.0, texts_first xs ys h.1)
 texts_first (end_item gap marker ∷ xs) ys h = (h.0, h.1, texts_first xs ys h.2)
 
-texts_second : (xs ys : List Item) → TextsIn (xs ++ ys) → TextsIn ys
+pub texts_second : (xs ys : List Item) → TextsIn (xs ++ ys) → TextsIn ys
 texts_second [] ys h = h
 texts_second (row_item r ∷ xs) ys h = texts_second xs ys h.1
 texts_second (end_item gap marker ∷ xs) ys h = texts_second xs ys h.2

@@ -5,3 +5,5 @@ pub mod CountLaws
 pub mod SideLaws
 pub mod BackLaws
 pub mod ExchangeLaws
+pub mod ItemPlaces
+pub mod FollowLaws

@@ -42,7 +42,7 @@ pub fn follow(
 ) -> Result<(), AllocError>
     requires { Follows places.old len new.now kept }
     ensures placed { OnOk result ((d : Cut) → IsCut new.now d → IsPlaced places.new (shown d)) }
-    ensures counted { OnOk result (CountsWritten places.old new.now kept meter.old meter.new) }
+    ensures counted { OnOk result (CountsWritten new.now kept meter.old meter.new) }
     ensures kept { OnErr result ((c : Cut) → len ≡ length (cut_text c) → IsPlaced places.old (shown c) → IsPlaced places.new (shown c)) }
 {
     move_gap(places, len, kept.front)?;
