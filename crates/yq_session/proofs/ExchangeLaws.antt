@@ -1,12 +1,12 @@
 -- Rows and ends of parts of items between others that give way to those of other items, by their places.
-use Rattle.std.proofs.Common.{◌≡◌, ◌⊎◌, inl, inr, ⊎_elim, ℕ, zero, suc, ◌+◌, ◌-◌, ◌<◌, ◌≤◌, ◌^◌, Bool, true, false, List, [], ◌∷◌, ◌++◌, length, map, reverse, take, drop, drop_at, get_or, Some, slice_get, refl, sym, ap, ◌∙◌, subst, arith, append_assoc, append-nil, length-append, length-take, take_all}
+use Rattle.std.proofs.Common.{◌≡◌, ◌⊎◌, inl, inr, ℕ, suc, ◌+◌, ◌-◌, ◌<◌, ◌≤◌, ◌^◌, List, [], ◌∷◌, ◌++◌, length, map, reverse, take, drop, drop_at, Some, slice_get, refl, sym, ap, ◌∙◌, arith, append_assoc, append-nil, length-append, length-take, take_all}
 use Rattle.std.proofs.lemmas.List.{length-map, length-reverse, map_more, take_at}
 use Rattle.std.proofs.lemmas.List.Elements.{All-weaker}
 use Rattle.std.proofs.lemmas.Option.{get_or_from_slice_get, slice_get_within}
 use Rattle.std.specs.List.{All}
 use Rattle.yq_rows.specs.Ends.{end_at}
 use Rattle.yq_rows.specs.Items.{Item, row_item, end_item, items_text}
-use Rattle.yq_rows.specs.Kept.{far, near, ends_near, moved, raised, turned, placed_rows, both_sides, TextsIn}
+use Rattle.yq_rows.specs.Kept.{far, near, ends_near, raised, turned, placed_rows, both_sides, TextsIn}
 use Rattle.yq_rows.specs.Offsets.{offsets_of}
 use Rattle.yq_rows.specs.Regions.{alone}
 use Rattle.yq_rows.specs.Rows.{print_row}
@@ -17,9 +17,9 @@ use Rattle.yq_rows.specs.declared.places.Places.{Places}
 use Rattle.yq_rows.proofs.ItemLaws.{items_text-append}
 use Rattle.yq_rows.proofs.KeptLaws.{far_near, items_apart, near_joined, texts_joined}
 use Rattle.yq_session.specs.Exchanging.{GivesWay, IsMovable, moved_from}
-use Rattle.yq_session.specs.Sides.{ArePlaced, origin, side_of, text_length}
+use Rattle.yq_session.specs.Sides.{ArePlaced, origin, text_length}
 use Rattle.yq_session.specs.declared.sides.Side.{Side}
-use Rattle.yq_session.proofs.BeginLaws.{begin_from, begin_within, ends_begin, first_long, joined_long, rows_begin}
+use Rattle.yq_session.proofs.BeginLaws.{begin_within, ends_begin, joined_long, rows_begin}
 use Rattle.yq_session.proofs.CountLaws.{ends_count, ends_joined, ends_rows, near_count}
 
 -- one place more

@@ -1,13 +1,13 @@
 -- Places that follow a change: what stands in the new text, and what is exchanged.
-use Rattle.std.proofs.Common.{◌≡◌, Ok, Err, Result, OnOk, OnErr, ltb, cond, Bool, true, false, ℕ, zero, suc, ◌+◌, ◌-◌, ◌<◌, ◌≤◌, ◌^◌, List, [], ◌∷◌, ◌++◌, length, map, reverse, take, drop, take_at, drop_at, Some, refl, sym, ap, ◌∙◌, subst, arith, append_assoc, append-nil, length-append, ltb-true}
+use Rattle.std.proofs.Common.{◌≡◌, Ok, Err, Result, OnOk, OnErr, ltb, cond, Bool, true, false, ℕ, ◌+◌, ◌-◌, ◌<◌, ◌≤◌, ◌^◌, List, [], ◌∷◌, ◌++◌, length, reverse, take, drop, take_at, drop_at, refl, sym, ap, ◌∙◌, subst, arith, append_assoc, append-nil, length-append, ltb-true}
 use Rattle.std.proofs.lemmas.List.{append_cancel_left, append_cancel_right, length-map, length-reverse, reverse-append, reverse-reverse}
 use Rattle.std.proofs.lemmas.Str.{IsCharBoundary-from_take, IsUtf8-nil, IsUtf8-take}
 use Rattle.std.specs.Str.{IsCharBoundary, IsUtf8}
 use Rattle.yq_rows.specs.Grammar.{IsCut}
-use Rattle.yq_rows.specs.Items.{Item, row_item, end_item, items_of, items_text, rows_items}
+use Rattle.yq_rows.specs.Items.{Item, end_item, items_of, items_text, rows_items}
 use Rattle.yq_rows.specs.Kept.{far, near, placed_rows, turned, TextsIn}
-use Rattle.yq_rows.specs.Regions.{IsReadAlone, StandIn, alone, no_items}
-use Rattle.yq_rows.specs.Rows.{Row, Cut, last, marked, cut_text}
+use Rattle.yq_rows.specs.Regions.{IsReadAlone, alone, no_items}
+use Rattle.yq_rows.specs.Rows.{Row, Cut, last, marked}
 use Rattle.yq_rows.specs.Touched.{TouchesOnly, in_back, in_front, item_text}
 use Rattle.yq_rows.specs.declared.offsets.Offsets as declared
 use Rattle.yq_rows.specs.declared.places.Places.{Places}
@@ -17,7 +17,7 @@ use Rattle.yq_rows.proofs.KeptLaws.{items_apart, items_texts}
 use Rattle.yq_rows.proofs.RegionLaws.{region}
 use Rattle.yq_rows.proofs.ScanLaws.{one_cut}
 use Rattle.yq_session.specs.Exchanging.{GivesWay}
-use Rattle.yq_session.specs.Following.{CountsWritten, Follows}
+use Rattle.yq_session.specs.Following.{Follows}
 use Rattle.yq_session.specs.Sides.{ArePlaced, IsGapAt, not_in_back, side_of, text_length}
 use Rattle.yq_session.specs.declared.kept.Kept.{Kept}
 use Rattle.yq_session.specs.declared.sides.Side.{Side}

@@ -1,12 +1,11 @@
 -- Places of the items of a cut, by what is lent of them.
-use Rattle.std.proofs.Common.{◌≡◌, ℕ, ◌+◌, ◌-◌, ◌<◌, ◌≤◌, ◌^◌, List, [], ◌∷◌, ◌++◌, length, map, reverse, refl, sym, ap, ◌∙◌, subst, arith}
+use Rattle.std.proofs.Common.{◌≡◌, ℕ, ◌<◌, ◌≤◌, ◌^◌, List, [], length, sym, ap, ◌∙◌, subst, arith}
 use Rattle.std.specs.List.{All}
-use Rattle.yq_rows.specs.Items.{Item, items_of, items_text, shown_items}
+use Rattle.yq_rows.specs.Items.{Item, items_of, shown_items}
 use Rattle.yq_rows.specs.Kept.{IsPlaced, both_sides, placed_rows}
 use Rattle.yq_rows.specs.Rows.{Cut, cut_text}
 use Rattle.yq_rows.specs.View.{Shown, shown}
 use Rattle.yq_rows.specs.declared.places.Places.{Places}
-use Rattle.yq_rows.specs.declared.offsets.Offsets as declared
 use Rattle.yq_rows.proofs.ItemLaws.{items_of_text, items_shown}
 use Rattle.yq_rows.proofs.PlacedLaws.{same_shown}
 use Rattle.yq_session.specs.Exchanging.{SamePlaces}

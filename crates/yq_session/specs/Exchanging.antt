@@ -1,5 +1,5 @@
 -- Rows and ends of parts that give way to others, by their places (own; a reader of the contracts may skip it).
-use Rattle.std.specs.Prelude.{◌≡◌, ℕ, ◌+◌, ◌-◌, ◌<◌, ◌≤◌, ◌^◌, List, [], ◌∷◌, ◌++◌, length, reverse, take}
+use Rattle.std.specs.Prelude.{◌≡◌, ℕ, ◌+◌, ◌-◌, ◌<◌, ◌^◌, List, ◌++◌, length, reverse, take}
 use Rattle.yq_rows.specs.Items.{Item}
 use Rattle.yq_rows.specs.Kept.{near, far, moved}
 use Rattle.yq_rows.specs.Regions.{alone}

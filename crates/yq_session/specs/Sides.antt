@@ -1,8 +1,8 @@
 -- What stands in front of items that a change touches, and in front of those behind them, by the places of rows and of ends of parts (own; a reader of the
 -- contracts may skip it).
-use Rattle.std.specs.Prelude.{◌≡◌, ℕ, zero, suc, ◌+◌, ◌-◌, ◌<◌, ◌≤◌, ◌^◌, nat_lt, nat_le, List, [], ◌∷◌, length, reverse, Some, slice_get, if◌then◌else◌}
+use Rattle.std.specs.Prelude.{◌≡◌, ℕ, suc, ◌-◌, ◌<◌, ◌≤◌, ◌^◌, nat_lt, List, [], ◌∷◌, length, Some, slice_get, if◌then◌else◌}
 use Rattle.yq_rows.specs.Items.{Item, items_text}
-use Rattle.yq_rows.specs.Kept.{near, ends_near, placed_rows, turned, TextsIn}
+use Rattle.yq_rows.specs.Kept.{near, ends_near, placed_rows, TextsIn}
 use Rattle.yq_rows.specs.declared.ends.EndPlace.{EndPlace}
 use Rattle.yq_rows.specs.declared.offsets.Offsets as declared
 use Rattle.yq_rows.specs.declared.places.Places.{Places}

@@ -1,12 +1,11 @@
-use Rattle.std.proofs.Common.{◌≡◌, ◌⊎◌, inl, inr, ◌≤◌, ◌+◌, ◌-◌, ◌<◌, ◌^◌, ℕ, List, [], ◌++◌, length, map, take, drop, refl, ap, sym, subst, ◌∙◌, arith}
+use Rattle.std.proofs.Common.{◌≡◌, inl, inr, ◌+◌, ◌-◌, ◌<◌, ◌^◌, List, ◌++◌, length, map, take, drop, refl, ap, sym, subst, ◌∙◌, arith}
 use Rattle.std.specs.List.{All}
 use Rattle.yq_rows.specs.Kept.{near, ends_near, raised, placed_rows}
-use Rattle.yq_rows.specs.declared.ends.EndPlace.{EndPlace}
 use Rattle.yq_rows.specs.declared.offsets.Offsets as declared
-use Rattle.yq_session.specs.Exchanging.{GivesWay, IsMovable, moved_from}
+use Rattle.yq_session.specs.Exchanging.{IsMovable, moved_from}
 use Rattle.yq_session.specs.Sides.{origin}
 use Rattle.yq_session.specs.declared.sides.Side.{Side}
-use Rattle.yq_session.proofs.ExchangeLaws.{EndCount, Numbers, ends_behind, ends_kept, ends_movable, exchanged, found_near, numbers, rows_movable, some_end}
+use Rattle.yq_session.proofs.ExchangeLaws.{EndCount, ends_behind, ends_kept, ends_movable, exchanged, found_near, numbers, rows_movable, some_end}
 use Rattle.yq_session.proofs.exchanging.exchange.Goals.{then-kept-later-eq0, else-kept-later-eq0}
 use Rattle.yq_session.proofs.exchanging.exchange.Goals as goal
 

@@ -1,4 +1,4 @@
-use Rattle.std.proofs.Common.{◌≡◌, ◌≤◌, ◌+◌, ◌-◌, ◌++◌, ◌∷◌, [], List, length, map, take, is_ok, true, vec_len, vec_capacity, ap, sym, ◌∙◌, append_assoc, arith}
+use Rattle.std.proofs.Common.{◌≡◌, ◌+◌, ◌++◌, ◌∷◌, [], List, map, take, is_ok, true, vec_len, ap, sym, ◌∙◌, append_assoc, arith}
 use Rattle.yq_rows.specs.Kept.{placed_rows, raised}
 use Rattle.yq_rows.specs.declared.offsets.Offsets as declared
 use Rattle.yq_session.proofs.ExchangeLaws.{row_more}
