@@ -1,14 +1,13 @@
 -- Rows kept by their distance from the beginning of a text, or from its end.
-use Rattle.std.proofs.Common.{◌≡◌, ℕ, zero, suc, ◌+◌, ◌-◌, ◌<◌, ◌≤◌, Some, get_or, List, [], ◌∷◌, ◌++◌, length, map, reverse, refl, sym, ap, ◌∙◌, subst, arith, append_assoc, length-append}
-use Rattle.std.proofs.lemmas.List.{get_or-reverse, length-map, length-reverse}
-use Rattle.std.proofs.lemmas.Option.{get_or_from_slice_get, slice_get-map, slice_get_read, slice_get_within}
+use Rattle.std.proofs.Common.{◌≡◌, ℕ, ◌+◌, ◌-◌, Some, List, [], ◌∷◌, ◌++◌, length, map, refl, sym, ap, ◌∙◌, subst, arith, append_assoc, length-append}
+use Rattle.std.proofs.lemmas.Option.{get_or_from_slice_get, slice_get-map, slice_get_within}
 use Rattle.std.specs.List.{slice_get}
 use Rattle.std.specs.Option.{option_map}
 use Rattle.std.proofs.lemmas.List.Elements.{All-get_or, All-nil, All-cons}
 use Rattle.std.proofs.lemmas.Str.{IsUtf8-append}
 use Rattle.std.specs.Str.{IsUtf8}
 use Rattle.yq_rows.specs.Items.{Item, row_item, end_item, items_text, rows_in_items}
-use Rattle.yq_rows.specs.Kept.{near, far, turned, both_sides, TextsIn}
+use Rattle.yq_rows.specs.Kept.{near, far, turned, TextsIn}
 use Rattle.yq_rows.specs.Offsets.{Ends, Stands, Stand, slices_in, rows_in, AreTexts, offsets_of}
 use Rattle.yq_rows.specs.Rows.{Row, print_row}
 use Rattle.yq_rows.specs.View.{Slices, slices, slices_text}
@@ -110,28 +109,6 @@ texts_joined (row_item r ∷ xs) ys h k = (h.0, texts_joined xs ys h.1 k)
 texts_joined (end_item gap marker ∷ xs) ys h k = (h.0, h.1, texts_joined xs ys h.2 k)
 
 -- The row at an index.
-get_left : (xs ys : List declared.Offsets) (i : ℕ) → i < length xs → slice_get (xs ++ ys) i ≡ slice_get xs i
-get_left [] ys i less = absurd (omega (arith, less))
-get_left (x ∷ xs) ys zero less = refl
-get_left (x ∷ xs) ys (suc i) less = get_left xs ys i (omega (arith, less))
-
-get_right : (xs ys : List declared.Offsets) (k : ℕ) → slice_get (xs ++ ys) (length xs + k) ≡ slice_get ys k
-get_right [] ys k = ap (slice_get ys) (omega arith)
-get_right (x ∷ xs) ys k = let next : suc (length xs) + k ≡ suc (length xs + k) = omega arith in ap (slice_get (x ∷ (xs ++ ys))) next ∙ get_right xs ys k
-
-pub at_front : (n : ℕ) (front behind : List declared.Offsets) (i : ℕ) (o : declared.Offsets) → i < length front → o ≡ get_or front i o → slice_get (both_sides n front behind) i ≡ Some o
-at_front n front behind i o less e = get_left front (map (turned n) (reverse behind)) i less ∙ slice_get_read front (length front) i o refl less e
-
-pub at_behind : (n : ℕ) (front behind : List declared.Offsets) (i : ℕ) (o : declared.Offsets) → length front ≤ i → i < length (both_sides n front behind) → o ≡ get_or behind (length behind - 1 - (i - length front)) o → slice_get (both_sides n front behind) i ≡ Some (turned n o)
-at_behind n front behind i o from less e =
-    let k = i - length front in
-    let back = map (turned n) (reverse behind) in
-    let size : length back ≡ length behind = length-map (reverse behind) (turned n) ∙ length-reverse behind in
-    let within : k < length behind = omega (arith, from, less, length-append front back, size) in
-    let place : i ≡ length front + k = omega (arith, from) in
-    let own : slice_get (reverse behind) k ≡ Some o = slice_get_read (reverse behind) (length behind) k o (sym (length-reverse behind)) within (e ∙ sym (get_or-reverse behind k o within)) in
-    ap (slice_get (front ++ back)) place ∙ (get_right front back k ∙ (slice_get-map (turned n) (reverse behind) k ∙ ap (option_map (turned n)) own))
-
 pub stands_at : (t : List ℕ) (os : List declared.Offsets) (i : ℕ) (o : declared.Offsets) → Stand t os → slice_get os i ≡ Some o → Stands t o
 stands_at t os i o h e = subst (Stands t) (get_or_from_slice_get os i o o e) (All-get_or (Stands t) os i o (slice_get_within os i o e) h)
 

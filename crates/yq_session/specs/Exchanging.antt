@@ -1,0 +1,37 @@
+-- Rows and ends of parts that give way to others, by their places (own; a reader of the contracts may skip it).
+use Rattle.std.specs.Prelude.{◌≡◌, ℕ, ◌+◌, ◌-◌, ◌<◌, ◌^◌, List, ◌++◌, length, reverse, take}
+use Rattle.yq_rows.specs.Items.{Item}
+use Rattle.yq_rows.specs.Kept.{near, far, moved}
+use Rattle.yq_rows.specs.Regions.{alone}
+use Rattle.yq_rows.specs.declared.ends.EndPlace.{EndPlace}
+use Rattle.yq_rows.specs.declared.places.Places.{Places}
+use Rattle.yq_session.specs.Sides.{ArePlaced, side_of, text_length}
+use Rattle.yq_session.specs.declared.sides.Side.{Side}
+
+-- the end of a part that stood behind one place, behind another (own)
+abbrev pub moved_from : Side → Side → EndPlace → EndPlace
+moved_from from to e = moved ((e.rows - from.rows) + to.rows) ((e.start - from.bytes) + to.bytes) e
+
+-- it has a place there (own)
+abbrev pub IsMovable : Side → Side → EndPlace → Type 0
+IsMovable from to e = ((e.rows - from.rows) + to.rows < 2 ^ 64) × ((e.start - from.bytes) + to.bytes < 2 ^ 32)
+
+-- Rows and ends of parts of items between others, and those that were read in a text of so many bytes, in front of which `front` stands; `old` is what
+-- stands in front of the items behind (own).
+pub record GivesWay (p found : Places) (front old : Side) (len : ℕ) : Type 0 where
+  pub before : List Item
+  pub touched : List Item
+  pub written : List Item
+  pub behind : List Item
+  pub placed : ArePlaced p (before ++ (touched ++ behind))
+  pub found_are : ArePlaced found (alone written behind)
+  pub front_is : front ≡ side_of before
+  pub old_is : old ≡ side_of (before ++ touched)
+  pub long : len ≡ text_length written
+  pub front_rows : take front.rows p.front.items ≡ near 0 before
+  pub back_rows : reverse (take (length (near 0 behind)) p.behind.items) ≡ far behind
+  pub small : text_length (before ++ (written ++ behind)) < 2 ^ 32
+
+-- both keep rows and ends of parts at the same places (own)
+abbrev pub SamePlaces : Places → Places → Type 0
+SamePlaces old new = (new.front.items ≡ old.front.items) × (new.behind.items ≡ old.behind.items) × (new.ends.items ≡ old.ends.items)

@@ -1,0 +1,57 @@
+//! Places that follow a change of their text.
+ghost use Rattle.std.specs.Prelude.{◌≡◌, ◌<◌, ◌≤◌, ◌+◌, ◌-◌, ◌^◌, OnOk, OnErr, length, take, drop};
+ghost use Rattle.std.specs.Str.{IsCharBoundary};
+ghost use Rattle.yq_rows.specs.Grammar.{IsCut};
+ghost use Rattle.yq_rows.specs.Kept.{IsPlaced};
+ghost use Rattle.yq_rows.specs.Rows.{Cut, cut_text};
+ghost use Rattle.yq_rows.specs.View.{shown};
+ghost use Rattle.yq_session.specs.Following.{Follows, CountsWritten};
+
+use crate::exchanging::exchange;
+use crate::gap::move_gap;
+use crate::kept::Kept;
+use crate::sides::{side_before, side_behind};
+use std::alloc::{AllocError, Global};
+use yq_rows::{Meter, Places, read_region};
+
+/// What stands between so many bytes at the beginning of a text and so many at its end.
+fn between(text: &str, front: usize, back: usize) -> &str
+    requires within { front + back ≤ length text.now }
+    requires end { IsCharBoundary text.now (length text.now - back) }
+    requires begin { IsCharBoundary (take (length text.now - back) text.now) front }
+    ensures { result.now ≡ drop front (take (length text.now - back) text.now) }
+{
+    let (text, _) = text.split_at(text.len() - back);
+    text.split_at(front).1
+}
+
+/// Places of a text of `len` bytes, which come to be those of the new text; the rows that were read for it
+/// are counted by their lines. What stands in front of the touched rows and ends of parts, and the rows
+/// behind them, stay as they are: the time goes to the touched rows, the ends of parts, and the rows between
+/// this change and the one before.
+///
+/// # Errors
+/// Want of memory alone. The places are then those of the old text.
+pub fn follow(
+    alloc: Global,
+    places: &mut Places,
+    len: usize,
+    new: &str,
+    kept: Kept,
+    meter: &mut Meter,
+) -> Result<(), AllocError>
+    requires { Follows places.old len new.now kept }
+    ensures placed { OnOk result ((d : Cut) → IsCut new.now d → IsPlaced places.new (shown d)) }
+    ensures counted { OnOk result (CountsWritten new.now kept meter.old meter.new) }
+    ensures kept { OnErr result ((c : Cut) → len ≡ length (cut_text c) → IsPlaced places.old (shown c) → IsPlaced places.new (shown c)) }
+{
+    move_gap(places, len, kept.front)?;
+    let front = side_before(places, kept.front);
+    let old = side_behind(places, len, kept.back);
+    let region = between(new, front.bytes, len - old.bytes);
+    let found = match read_region(alloc, region, meter) {
+        Ok(rows) => rows.into_places(),
+        Err(_) => return Err(AllocError),
+    };
+    exchange(alloc, places, front, old, &found, region.len())
+}
