@@ -6,7 +6,7 @@ use Rattle.std.specs.Str.{IsCharBoundary, IsUtf8}
 use Rattle.yq_rows.specs.Grammar.{IsCut}
 use Rattle.yq_rows.specs.Items.{Item, end_item, items_of, items_text, rows_items}
 use Rattle.yq_rows.specs.Kept.{far, near, placed_rows, turned, TextsIn}
-use Rattle.yq_rows.specs.Regions.{IsReadAlone, alone, no_items}
+use Rattle.yq_rows.specs.Regions.{alone, no_items}
 use Rattle.yq_rows.specs.Rows.{Row, Cut, last, marked}
 use Rattle.yq_rows.specs.Touched.{TouchesOnly, in_back, in_front, item_text}
 use Rattle.yq_rows.specs.declared.offsets.Offsets as declared
@@ -18,7 +18,7 @@ use Rattle.yq_rows.proofs.RegionLaws.{region}
 use Rattle.yq_rows.proofs.ScanLaws.{one_cut}
 use Rattle.yq_session.specs.Exchanging.{GivesWay}
 use Rattle.yq_session.specs.Following.{Change, Follows}
-use Rattle.yq_session.specs.Sides.{ArePlaced, IsGapAt, not_in_back, side_of, text_length}
+use Rattle.yq_session.specs.Sides.{ArePlaced, IsGapAt, IsSideBefore, IsSideBehind, not_in_back, side_of, text_length}
 use Rattle.yq_session.specs.declared.kept.Kept.{Kept}
 use Rattle.yq_session.specs.declared.sides.Side.{Side}
 use Rattle.yq_session.proofs.BackLaws.{back_kept}
@@ -46,9 +46,11 @@ all_in_front [] n all some = absurd cc
 all_in_front (i ∷ xs) n all some = go (λ rest more. all_in_front xs (n - length (item_text i)) rest more) (ltb (length (item_text i)) n) refl where
   tail : (j k : Item) (ys zs : List Item) → j ∷ ys ≡ k ∷ zs → ys ≡ zs
   tail j k ys zs e = cc
+
   one : (ys : List Item) → (no_items ys ≡ false → text_length ys < n - length (item_text i)) → length (item_text i) < n → text_length (i ∷ ys) < n
   one [] more less = omega (arith, less, first_long i [])
   one (j ∷ ys) more less = omega (arith, more refl, less, first_long i (j ∷ ys))
+
   go : (in_front (n - length (item_text i)) xs ≡ xs → no_items xs ≡ false → text_length xs < n - length (item_text i)) → (b : Bool) → ltb (length (item_text i)) n ≡ b → text_length (i ∷ xs) < n
   go next true e =
       let is : i ∷ in_front (n - length (item_text i)) xs ≡ i ∷ xs = sym (ap (λ (b : Bool). cond b (i ∷ in_front (n - length (item_text i)) xs) []) e) ∙ all in
@@ -160,13 +162,13 @@ found q p new front old len back kept h placed long gap front_is old_is back_is 
     whole is =
         let same : in_front kept.front (items_of h.new_cut) ≡ items_of h.new_cut = h.touches.front_same ∙ (sym (append-nil (in_front kept.front (items_of h.old_cut))) ∙ sym is) in
         omega (arith, all_in_front (items_of h.new_cut) kept.front same (cut_some h.new_cut), h.new_within, ap length (h.new_is.text ∙ sym (items_of_text h.new_cut)))
+
     some_left : (l : List Item) → items_of h.new_cut ≡ in_front kept.front (items_of h.old_cut) ++ l → no_items l ≡ false
     some_left [] is = absurd (whole is)
     some_left (i ∷ l) is = refl
 
 pub found_by : (q p : Places) (new : List ℕ) (front old : Side) (len back : ℕ) (kept : Kept) → Follows q len new kept → placed_rows len p ≡ placed_rows len q → p.ends.items ≡ q.ends.items → IsGapAt kept.front len p →
-    ((xs : List Item) → ArePlaced p xs → IsGapAt kept.front (text_length xs) p → kept.front ≤ text_length xs → front ≡ side_of (in_front kept.front xs)) →
-    ((xs : List Item) (at : ℕ) → ArePlaced p xs → IsGapAt at len p → at + kept.back ≤ len → len ≡ text_length xs → old ≡ side_of (not_in_back kept.back xs)) → back ≡ len - old.bytes → Found p new front old back kept
+    IsSideBefore p kept.front front → IsSideBehind p len kept.back old → back ≡ len - old.bytes → Found p new front old back kept
 found_by q p new front old len back kept h rows ends gap before behind back_is =
     let xs = items_of h.old_cut in
     let long : len ≡ text_length xs = h.long ∙ cut_long h.old_cut in
@@ -199,22 +201,22 @@ part_small p new part front old kept k = omega (arith, ap length k.part_is, k.sm
 -- what gives way
 pub gives_way : (p found : Places) (new part : List ℕ) (front old : Side) (kept : Kept) (k : Change p new kept front old part) → ArePlaced found (alone k.written k.behind) → (h : GivesWay p found front old (length part)) × (h.before ++ (h.written ++ h.behind) ≡ k.before ++ (k.written ++ k.behind))
 gives_way p found new part front old kept k there = (
-      record {
-        before = k.before;
-        touched = k.touched;
-        written = k.written;
-        behind = k.behind;
-        placed = k.placed;
-        found_are = there;
-        front_is = k.front_is;
-        old_is = k.old_is;
-        long = ap length k.part_is;
-        front_rows = k.front_rows;
-        back_rows = k.back_rows;
-        small = k.small;
-      },
-      refl,
-    )
+  record {
+    before = k.before;
+    touched = k.touched;
+    written = k.written;
+    behind = k.behind;
+    placed = k.placed;
+    found_are = there;
+    front_is = k.front_is;
+    old_is = k.old_is;
+    long = ap length k.part_is;
+    front_rows = k.front_rows;
+    back_rows = k.back_rows;
+    small = k.small;
+  },
+  refl,
+)
 
 pub on_err : {T E P : Type 0} (r : Result T E) → P → OnErr r P
 on_err (Ok x) p = tt

@@ -29,14 +29,15 @@ pub record Follows (places : Places) (len : ℕ) (new : List ℕ) (kept : Kept) 
 
 -- a count that rose by the lines of what was written in the place of what a change touched (own)
 abbrev pub CountsWritten : List ℕ → Kept → ℕ → ℕ → Type 0
-CountsWritten new kept before after = (c d : Cut) → IsCut new d → (h : TouchesOnly kept.front kept.back c d) → after ≡ counted (line_count (items_text h.written [])) before
+CountsWritten new kept before after =
+    (c d : Cut) → IsCut new d → (h : TouchesOnly kept.front kept.back c d) → after ≡ counted (line_count (items_text h.written [])) before
 
 -- whatever was kept of a text of so many bytes is kept still (own)
 abbrev pub StaysPlaced : ℕ → Places → Places → Type 0
 StaysPlaced len old new = (c : Cut) → len ≡ length (cut_text c) → IsPlaced old (shown c) → IsPlaced new (shown c)
 
--- The items that a change touches, between the others, and those that are written in their place, whose text is a part of the new one; `front` is what
--- stands in front of the touched ones, and `old` what stands in front of those behind them (own).
+-- The items that a change touches, between the others, and those that are written in their place, whose text is a part of the new one; `front` stands
+-- in front of the touched ones, and `old` in front of those behind them (own).
 pub record Change (p : Places) (new : List ℕ) (kept : Kept) (front old : Side) (part : List ℕ) : Type 0 where
   pub before : List Item
   pub touched : List Item

@@ -25,8 +25,8 @@ fn between(text: &str, front: usize, back: usize) -> &str
     text.split_at(front).1
 }
 
-/// What stands in front of the rows and ends of parts that a change touches, what stands in front of those
-/// behind them, and the text that is written in their place; the gap is then where they begin.
+/// What stands in front of the rows and ends of parts that a change touches, what stands in front of
+/// those behind them, and the text that is written in their place; the gap is then where they begin.
 fn find<'t>(
     places: &mut Places,
     len: usize,
@@ -44,10 +44,10 @@ fn find<'t>(
     Ok((front, old, part))
 }
 
-/// Places of a text of `len` bytes, which come to be those of the new text; the rows that were read for it
-/// are counted by their lines. What stands in front of the touched rows and ends of parts, and the rows
-/// behind them, stay as they are: the time goes to the touched rows, the ends of parts, and the rows between
-/// this change and the one before.
+/// Places of a text of `len` bytes come to be those of the new text, of which no more is read than what
+/// is written in the place of the touched rows and ends of parts: the lines of that are counted. Other
+/// rows stay as they are, in front and behind: the time goes to the touched rows, the ends of parts,
+/// and the rows between this change and the one before.
 ///
 /// # Errors
 /// Want of memory alone. The places are then those of the old text.

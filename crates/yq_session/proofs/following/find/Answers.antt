@@ -1,6 +1,6 @@
-use Rattle.std.proofs.Common.{◌≡◌, ◌≤◌, ℕ, List, sym, subst, ◌∙◌, arith}
+use Rattle.std.proofs.Common.{◌≡◌, ℕ, sym, subst, ◌∙◌, arith}
 use Rattle.std.specs.List.{All}
-use Rattle.yq_rows.specs.Items.{Item, items_of}
+use Rattle.yq_rows.specs.Items.{items_of}
 use Rattle.yq_rows.specs.Kept.{placed_rows}
 use Rattle.yq_session.specs.Sides.{text_length}
 use Rattle.yq_session.proofs.FollowLaws.{found_by, part_begins, part_changes, part_ends, part_within}

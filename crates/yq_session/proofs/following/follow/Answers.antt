@@ -1,4 +1,4 @@
-use Rattle.std.proofs.Common.{◌≡◌, List, ℕ, [], length, sym, ap, subst, ◌∙◌}
+use Rattle.std.proofs.Common.{List, ℕ, [], sym, ap, subst, ◌∙◌}
 use Rattle.std.proofs.lemmas.Option.{same_Some}
 use Rattle.std.proofs.lemmas.Result.{on_err_weaker, on_ok_weaker}
 use Rattle.yq_rows.specs.Items.{Item, items_text}
