@@ -16,7 +16,7 @@ use Rattle.yq_rows.specs.declared.offsets.Offsets as declared
 use Rattle.yq_rows.specs.declared.places.Places.{Places}
 use Rattle.yq_rows.proofs.ItemLaws.{items_text-append}
 use Rattle.yq_rows.proofs.KeptLaws.{far_near, items_apart, near_joined, texts_joined}
-use Rattle.yq_session.specs.Exchanging.{GivesWay, IsMovable, moved_from}
+use Rattle.yq_session.specs.Exchanging.{GivesWay, IsMovable, joined_ends, moved_from}
 use Rattle.yq_session.specs.Sides.{ArePlaced, origin, text_length}
 use Rattle.yq_session.specs.declared.sides.Side.{Side}
 use Rattle.yq_session.proofs.BeginLaws.{begin_within, ends_begin, joined_long, rows_begin}
@@ -189,7 +189,7 @@ found_near p found front old len h =
 
 pub exchanged : (p new found : Places) (front old next : Side) (len kept : ℕ) (come : List EndPlace) (h : GivesWay p found front old len) → kept ≡ length (near 0 h.behind) → come ≡ ends_near 0 0 h.written →
     next.rows ≡ front.rows + length (placed_rows len found) → next.bytes ≡ front.bytes + len → new.front.items ≡ take front.rows p.front.items ++ map (raised front.bytes) (placed_rows len found) → new.behind.items ≡ take kept p.behind.items →
-    new.ends.items ≡ take front.ends p.ends.items ++ (map (moved_from origin front) come ++ map (moved_from old next) (drop old.ends p.ends.items)) → ArePlaced new (h.before ++ (h.written ++ h.behind))
+    new.ends.items ≡ joined_ends front old next p.ends.items come → ArePlaced new (h.before ++ (h.written ++ h.behind))
 exchanged p new found front old next len kept come h kept_is come_is rows_is bytes_is front_now behind_now ends_now =
     let b = h.before in
     let w = h.written in

@@ -6,7 +6,7 @@ use Rattle.std.specs.Str.{IsCharBoundary, IsUtf8}
 use Rattle.yq_rows.specs.Grammar.{IsCut}
 use Rattle.yq_rows.specs.Items.{Item, end_item, items_of, items_text, rows_items}
 use Rattle.yq_rows.specs.Kept.{far, near, placed_rows, turned, TextsIn}
-use Rattle.yq_rows.specs.Regions.{IsReadAlone, alone, no_items}
+use Rattle.yq_rows.specs.Regions.{alone, no_items}
 use Rattle.yq_rows.specs.Rows.{Row, Cut, last, marked}
 use Rattle.yq_rows.specs.Touched.{TouchesOnly, in_back, in_front, item_text}
 use Rattle.yq_rows.specs.declared.offsets.Offsets as declared
@@ -17,8 +17,8 @@ use Rattle.yq_rows.proofs.KeptLaws.{items_apart, items_texts}
 use Rattle.yq_rows.proofs.RegionLaws.{region}
 use Rattle.yq_rows.proofs.ScanLaws.{one_cut}
 use Rattle.yq_session.specs.Exchanging.{GivesWay}
-use Rattle.yq_session.specs.Following.{Follows}
-use Rattle.yq_session.specs.Sides.{ArePlaced, IsGapAt, not_in_back, side_of, text_length}
+use Rattle.yq_session.specs.Following.{Change, Follows}
+use Rattle.yq_session.specs.Sides.{ArePlaced, IsGapAt, IsSideBefore, IsSideBehind, not_in_back, side_of, text_length}
 use Rattle.yq_session.specs.declared.kept.Kept.{Kept}
 use Rattle.yq_session.specs.declared.sides.Side.{Side}
 use Rattle.yq_session.proofs.BackLaws.{back_kept}
@@ -46,9 +46,11 @@ all_in_front [] n all some = absurd cc
 all_in_front (i ∷ xs) n all some = go (λ rest more. all_in_front xs (n - length (item_text i)) rest more) (ltb (length (item_text i)) n) refl where
   tail : (j k : Item) (ys zs : List Item) → j ∷ ys ≡ k ∷ zs → ys ≡ zs
   tail j k ys zs e = cc
+
   one : (ys : List Item) → (no_items ys ≡ false → text_length ys < n - length (item_text i)) → length (item_text i) < n → text_length (i ∷ ys) < n
   one [] more less = omega (arith, less, first_long i [])
   one (j ∷ ys) more less = omega (arith, more refl, less, first_long i (j ∷ ys))
+
   go : (in_front (n - length (item_text i)) xs ≡ xs → no_items xs ≡ false → text_length xs < n - length (item_text i)) → (b : Bool) → ltb (length (item_text i)) n ≡ b → text_length (i ∷ xs) < n
   go next true e =
       let is : i ∷ in_front (n - length (item_text i)) xs ≡ i ∷ xs = sym (ap (λ (b : Bool). cond b (i ∷ in_front (n - length (item_text i)) xs) []) e) ∙ all in
@@ -112,26 +114,15 @@ written_once new kept c d e k cut other h j =
 -- ---- what follows
 
 -- What is in front, touched, written and behind, where places follow a change, once the gap is at the first byte that isn't kept.
-pub record Change (p : Places) (new : List ℕ) (front old : Side) (len : ℕ) (kept : Kept) : Type 0 where
-  pub before : List Item
-  pub touched : List Item
-  pub written : List Item
-  pub behind : List Item
-  pub placed : ArePlaced p (before ++ (touched ++ behind))
-  pub front_is : front ≡ side_of before
-  pub old_is : old ≡ side_of (before ++ touched)
-  pub front_rows : take front.rows p.front.items ≡ near 0 before
-  pub back_rows : reverse (take (length (near 0 behind)) p.behind.items) ≡ far behind
-  pub text : NewText new before written behind
-  pub back_bytes : len - old.bytes ≡ text_length behind
-  pub old_within : old.bytes ≤ len
-  pub read : IsReadAlone written behind
-  pub items : (d : Cut) → IsCut new d → before ++ (written ++ behind) ≡ items_of d
-  pub once : (c d : Cut) → IsCut new d → (h : TouchesOnly kept.front kept.back c d) → written ≡ h.written
+pub record Found (p : Places) (new : List ℕ) (front old : Side) (back : ℕ) (kept : Kept) : Type 0 where
+  pub part : List ℕ
+  pub change : Change p new kept front old part
+  pub text : NewText new change.before change.written change.behind
+  pub back_bytes : back ≡ text_length change.behind
 
-pub change : (q p : Places) (new : List ℕ) (front old : Side) (len : ℕ) (kept : Kept) (h : Follows q len new kept) → ArePlaced p (items_of h.old_cut) → len ≡ text_length (items_of h.old_cut) → IsGapAt kept.front len p →
-    front ≡ side_of (in_front kept.front (items_of h.old_cut)) → old ≡ side_of (not_in_back kept.back (items_of h.old_cut)) → Change p new front old len kept
-change q p new front old len kept h placed long gap front_is old_is =
+found : (q p : Places) (new : List ℕ) (front old : Side) (len back : ℕ) (kept : Kept) (h : Follows q len new kept) → ArePlaced p (items_of h.old_cut) → len ≡ text_length (items_of h.old_cut) → IsGapAt kept.front len p →
+    front ≡ side_of (in_front kept.front (items_of h.old_cut)) → old ≡ side_of (not_in_back kept.back (items_of h.old_cut)) → back ≡ len - old.bytes → Found p new front old back kept
+found q p new front old len back kept h placed long gap front_is old_is back_is =
     let xs = items_of h.old_cut in
     let f = in_front kept.front xs in
     let z = in_back kept.back xs in
@@ -140,86 +131,97 @@ change q p new front old len kept h placed long gap front_is old_is =
     let b = back_found xs 0 kept.back in
     let y : List Item = not_in_back kept.back xs in
     let all : y ++ z ≡ (f ++ t) ++ z = (λ i. b.is_front i ++ b.is_behind i) ∙ (sym b.split ∙ (h.touches.old_are ∙ sym (append_assoc f t z))) in
-    let first : y ≡ f ++ t = append_cancel_right y (f ++ t) z all in
     let here : IsGapAt kept.front (text_length xs) p = subst (λ (n : ℕ). IsGapAt kept.front n p) long gap in
     let fits : kept.front + kept.back ≤ text_length xs = omega (arith, h.old_within, long) in
-    let within : kept.front ≤ text_length xs = omega (arith, fits) in
-    let own : old ≡ side_of (f ++ t) = old_is ∙ ap side_of first in
-    let bytes : old.bytes ≡ text_length (f ++ t) = ap (λ (s : Side). s.bytes) own in
+    let own : old ≡ side_of (f ++ t) = old_is ∙ ap side_of (append_cancel_right y (f ++ t) z all) in
     let size : text_length xs ≡ text_length (f ++ t) + text_length z = ap text_length (h.touches.old_are ∙ sym (append_assoc f t z)) ∙ joined_long (f ++ t) z in
-    let some : no_items (w ++ z) ≡ false = some_left (w ++ z) h.touches.new_are in
+    let text : NewText new f w z = new_text new h.new_cut f w z h.new_is h.touches.new_are in
     record {
-      before = f;
-      touched = t;
-      written = w;
-      behind = z;
-      placed = subst (ArePlaced p) h.touches.old_are placed;
-      front_is = front_is;
-      old_is = own;
-      front_rows = ap (λ (n : ℕ). take n p.front.items) (ap (λ (s : Side). s.rows) front_is) ∙ front_taken p xs kept.front placed here within;
-      back_rows = back_taken p xs kept.front kept.back placed here fits;
-      text = new_text new h.new_cut f w z h.new_is h.touches.new_are;
-      back_bytes = omega (arith, long, size, bytes);
-      old_within = omega (arith, long, size, bytes);
-      read = region w z (record { text = new; cut = h.new_cut; is_cut = h.new_is; front = f; items = h.touches.new_are; some = some });
-      items = λ d cut. sym h.touches.new_are ∙ ap items_of (one_cut new h.new_cut d h.new_is cut);
-      once = λ c d cut j. written_once new kept h.old_cut h.new_cut c d h.new_is cut h.touches j;
+      part = items_text w [];
+      change = record {
+        before = f;
+        touched = t;
+        written = w;
+        behind = z;
+        placed = subst (ArePlaced p) h.touches.old_are placed;
+        front_is = front_is;
+        old_is = own;
+        front_rows = ap (λ (n : ℕ). take n p.front.items) (ap (λ (s : Side). s.rows) front_is) ∙ front_taken p xs kept.front placed here (omega (arith, fits));
+        back_rows = back_taken p xs kept.front kept.back placed here fits;
+        part_is = refl;
+        read = region w z (record { text = new; cut = h.new_cut; is_cut = h.new_is; front = f; items = h.touches.new_are; some = some_left (w ++ z) h.touches.new_are });
+        items = λ d cut. sym h.touches.new_are ∙ ap items_of (one_cut new h.new_cut d h.new_is cut);
+        once = λ c d cut j. written_once new kept h.old_cut h.new_cut c d h.new_is cut h.touches j;
+        small = omega (arith, h.small, text.long, joined_long f (w ++ z), joined_long w z);
+      };
+      text = text;
+      back_bytes = omega (arith, long, size, back_is, ap (λ (s : Side). s.bytes) own);
     }
   where
     whole : items_of h.new_cut ≡ in_front kept.front (items_of h.old_cut) ++ [] → ⊥
     whole is =
         let same : in_front kept.front (items_of h.new_cut) ≡ items_of h.new_cut = h.touches.front_same ∙ (sym (append-nil (in_front kept.front (items_of h.old_cut))) ∙ sym is) in
         omega (arith, all_in_front (items_of h.new_cut) kept.front same (cut_some h.new_cut), h.new_within, ap length (h.new_is.text ∙ sym (items_of_text h.new_cut)))
+
     some_left : (l : List Item) → items_of h.new_cut ≡ in_front kept.front (items_of h.old_cut) ++ l → no_items l ≡ false
     some_left [] is = absurd (whole is)
     some_left (i ∷ l) is = refl
 
-pub change_of : (q p : Places) (new : List ℕ) (front old : Side) (len : ℕ) (kept : Kept) → Follows q len new kept → placed_rows len p ≡ placed_rows len q → p.ends.items ≡ q.ends.items → IsGapAt kept.front len p →
-    ((xs : List Item) → ArePlaced p xs → IsGapAt kept.front (text_length xs) p → kept.front ≤ text_length xs → front ≡ side_of (in_front kept.front xs)) →
-    ((xs : List Item) (at : ℕ) → ArePlaced p xs → IsGapAt at len p → at + kept.back ≤ len → len ≡ text_length xs → old ≡ side_of (not_in_back kept.back xs)) → Change p new front old len kept
-change_of q p new front old len kept h rows ends gap before behind =
+pub found_by : (q p : Places) (new : List ℕ) (front old : Side) (len back : ℕ) (kept : Kept) → Follows q len new kept → placed_rows len p ≡ placed_rows len q → p.ends.items ≡ q.ends.items → IsGapAt kept.front len p →
+    IsSideBefore p kept.front front → IsSideBehind p len kept.back old → back ≡ len - old.bytes → Found p new front old back kept
+found_by q p new front old len back kept h rows ends gap before behind back_is =
     let xs = items_of h.old_cut in
     let long : len ≡ text_length xs = h.long ∙ cut_long h.old_cut in
     let placed : ArePlaced p xs = still_placed q p xs len long rows ends (cut_places q h.old_cut h.placed) in
-    change q p new front old len kept h placed long gap (before xs placed (subst (λ (n : ℕ). IsGapAt kept.front n p) long gap) (omega (arith, h.old_within, long))) (behind xs kept.front placed gap h.old_within long)
+    found q p new front old len back kept h placed long gap (before xs placed (subst (λ (n : ℕ). IsGapAt kept.front n p) long gap) (omega (arith, h.old_within, long))) (behind xs kept.front placed gap h.old_within long) back_is
 
-pub gives_way : (p found : Places) (new : List ℕ) (front old : Side) (len region : ℕ) (kept : Kept) (k : Change p new front old len kept) → length new < 2 ^ 32 → region ≡ text_length k.written → ArePlaced found (alone k.written k.behind) →
-    (h : GivesWay p found front old region) × (h.before ++ (h.written ++ h.behind) ≡ k.before ++ (k.written ++ k.behind))
-gives_way p found new front old len region kept k small long there = (
-      record {
-        before = k.before;
-        touched = k.touched;
-        written = k.written;
-        behind = k.behind;
-        placed = k.placed;
-        found_are = there;
-        front_is = k.front_is;
-        old_is = k.old_is;
-        long = long;
-        front_rows = k.front_rows;
-        back_rows = k.back_rows;
-        small = omega (arith, small, k.text.long, joined_long k.before (k.written ++ k.behind), joined_long k.written k.behind);
-      },
-      refl,
-    )
+-- the part of the new text
+pub part_within : (p : Places) (new : List ℕ) (front old : Side) (back : ℕ) (kept : Kept) (k : Found p new front old back kept) → front.bytes + back ≤ length new
+part_within p new front old back kept k = omega (arith, k.text.long, k.back_bytes, ap (λ (s : Side). s.bytes) k.change.front_is)
 
-pub region_is : (p : Places) (new : List ℕ) (front old : Side) (len : ℕ) (kept : Kept) (k : Change p new front old len kept) → drop front.bytes (take (length new - (len - old.bytes)) new) ≡ items_text k.written []
-region_is p new front old len kept k = written_part new k.before k.written k.behind front.bytes (len - old.bytes) k.text (ap (λ (s : Side). s.bytes) k.front_is) k.back_bytes
+behind_texts : (p : Places) (new : List ℕ) (front old : Side) (back : ℕ) (kept : Kept) (k : Found p new front old back kept) → TextsIn k.change.behind
+behind_texts p new front old back kept k = let x = k.change in texts_second x.touched x.behind (texts_second x.before (x.touched ++ x.behind) x.placed.texts)
 
-pub region_within : (p : Places) (new : List ℕ) (front old : Side) (len : ℕ) (kept : Kept) (k : Change p new front old len kept) → front.bytes + (len - old.bytes) ≤ length new
-region_within p new front old len kept k = omega (arith, k.text.long, k.back_bytes, ap (λ (s : Side). s.bytes) k.front_is)
+pub part_ends : (p : Places) (new : List ℕ) (front old : Side) (back : ℕ) (kept : Kept) (k : Found p new front old back kept) → IsCharBoundary new (length new - back)
+part_ends p new front old back kept k = let x = k.change in end_boundary new x.before x.written x.behind back k.text (behind_texts p new front old back kept k) k.back_bytes
 
-pub region_ends : (p : Places) (new : List ℕ) (front old : Side) (len : ℕ) (kept : Kept) (k : Change p new front old len kept) → IsCharBoundary new (length new - (len - old.bytes))
-region_ends p new front old len kept k = end_boundary new k.before k.written k.behind (len - old.bytes) k.text (texts_second k.touched k.behind (texts_second k.before (k.touched ++ k.behind) k.placed.texts)) k.back_bytes
+pub part_begins : (p : Places) (new : List ℕ) (front old : Side) (back : ℕ) (kept : Kept) (k : Found p new front old back kept) → IsUtf8 new → IsCharBoundary (take (length new - back) new) front.bytes
+part_begins p new front old back kept k utf8 =
+    let x = k.change in
+    begin_boundary new x.before x.written x.behind front.bytes back k.text (texts_first x.before (x.touched ++ x.behind) x.placed.texts) (behind_texts p new front old back kept k) utf8 (ap (λ (s : Side). s.bytes) x.front_is) k.back_bytes
 
-pub region_begins : (p : Places) (new : List ℕ) (front old : Side) (len : ℕ) (kept : Kept) (k : Change p new front old len kept) → IsUtf8 new → IsCharBoundary (take (length new - (len - old.bytes)) new) front.bytes
-region_begins p new front old len kept k utf8 =
-    begin_boundary new k.before k.written k.behind front.bytes (len - old.bytes) k.text (texts_first k.before (k.touched ++ k.behind) k.placed.texts) (texts_second k.touched k.behind (texts_second k.before (k.touched ++ k.behind) k.placed.texts)) utf8 (ap (λ (s : Side). s.bytes) k.front_is) k.back_bytes
+pub part_changes : (p : Places) (new part : List ℕ) (front old : Side) (back : ℕ) (kept : Kept) (k : Found p new front old back kept) → part ≡ drop front.bytes (take (length new - back) new) → Change p new kept front old part
+part_changes p new part front old back kept k is =
+    let x = k.change in
+    subst (Change p new kept front old) (x.part_is ∙ (sym (written_part new x.before x.written x.behind front.bytes back k.text (ap (λ (s : Side). s.bytes) x.front_is) k.back_bytes) ∙ sym is)) x
 
-pub on_ok : {T E P : Type 0} (r : Result T E) → P → OnOk r P
-on_ok (Ok x) p = p
-on_ok (Err e) p = tt
+pub part_small : (p : Places) (new part : List ℕ) (front old : Side) (kept : Kept) → Change p new kept front old part → length part < 2 ^ 32
+part_small p new part front old kept k = omega (arith, ap length k.part_is, k.small, joined_long k.before (k.written ++ k.behind), joined_long k.written k.behind)
+
+-- what gives way
+pub gives_way : (p found : Places) (new part : List ℕ) (front old : Side) (kept : Kept) (k : Change p new kept front old part) → ArePlaced found (alone k.written k.behind) → (h : GivesWay p found front old (length part)) × (h.before ++ (h.written ++ h.behind) ≡ k.before ++ (k.written ++ k.behind))
+gives_way p found new part front old kept k there = (
+  record {
+    before = k.before;
+    touched = k.touched;
+    written = k.written;
+    behind = k.behind;
+    placed = k.placed;
+    found_are = there;
+    front_is = k.front_is;
+    old_is = k.old_is;
+    long = ap length k.part_is;
+    front_rows = k.front_rows;
+    back_rows = k.back_rows;
+    small = k.small;
+  },
+  refl,
+)
 
 pub on_err : {T E P : Type 0} (r : Result T E) → P → OnErr r P
 on_err (Ok x) p = tt
 on_err (Err e) p = p
+
+pub on_ok : {T E P : Type 0} (r : Result T E) → P → OnOk r P
+on_ok (Ok x) p = p
+on_ok (Err e) p = tt

@@ -9,6 +9,7 @@ use Rattle.yq_rows.specs.declared.places.Places.{Places}
 use Rattle.yq_rows.proofs.ItemLaws.{items_of_text, items_shown}
 use Rattle.yq_rows.proofs.PlacedLaws.{same_shown}
 use Rattle.yq_session.specs.Exchanging.{SamePlaces}
+use Rattle.yq_session.specs.Following.{StaysPlaced}
 use Rattle.yq_session.specs.Sides.{ArePlaced, text_length}
 use Rattle.yq_session.proofs.BeginLaws.{begin_within, rows_begin}
 use Rattle.yq_session.proofs.SplitLaws.{Within}
@@ -44,12 +45,11 @@ still_placed p q xs len long rows ends h = record {
   small = h.small;
 }
 
--- what is placed stays so
-abbrev pub StaysPlaced : ℕ → Places → Places → Type 0
-StaysPlaced len p q = (c : Cut) → len ≡ length (cut_text c) → IsPlaced p (shown c) → IsPlaced q (shown c)
-
 pub stays_placed : (p q : Places) (len : ℕ) → placed_rows len q ≡ placed_rows len p → q.ends.items ≡ p.ends.items → StaysPlaced len p q
 stays_placed p q len rows ends c long h = places_of_cut q c (still_placed p q (items_of c) len (long ∙ cut_long c) rows ends (cut_places p c h))
 
 pub same_rows : (p q : Places) (len : ℕ) → SamePlaces p q → placed_rows len q ≡ placed_rows len p
 same_rows p q len h = λ i. both_sides len (h.0 i) (h.1 i)
+
+pub stays_so : (p q r : Places) (len : ℕ) → StaysPlaced len p q → SamePlaces q r → StaysPlaced len p r
+stays_so p q r len h same c long placed = stays_placed q r len (same_rows q r len same) same.2 c long (h c long placed)

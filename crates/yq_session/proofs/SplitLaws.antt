@@ -57,6 +57,7 @@ one_split P Q apart a b c d e last first front back = go (prefix P Q apart a b c
       held : (a : List declared.Offsets) → All P (a ++ (o ∷ more)) → P o
       held [] all = All-head P o more all
       held (p ∷ a) all = held a (All-tail P p (a ++ (o ∷ more)) all)
+
   go : IsPrefix a b c d → a ≡ c
   go h = none c b h.more front h.first h.second first
 

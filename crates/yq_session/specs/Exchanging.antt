@@ -1,11 +1,11 @@
 -- Rows and ends of parts that give way to others, by their places (own; a reader of the contracts may skip it).
-use Rattle.std.specs.Prelude.{◌≡◌, ℕ, ◌+◌, ◌-◌, ◌<◌, ◌^◌, List, ◌++◌, length, reverse, take}
+use Rattle.std.specs.Prelude.{◌≡◌, ℕ, ◌+◌, ◌-◌, ◌<◌, ◌^◌, List, ◌++◌, drop, length, map, reverse, take}
 use Rattle.yq_rows.specs.Items.{Item}
 use Rattle.yq_rows.specs.Kept.{near, far, moved}
 use Rattle.yq_rows.specs.Regions.{alone}
 use Rattle.yq_rows.specs.declared.ends.EndPlace.{EndPlace}
 use Rattle.yq_rows.specs.declared.places.Places.{Places}
-use Rattle.yq_session.specs.Sides.{ArePlaced, side_of, text_length}
+use Rattle.yq_session.specs.Sides.{ArePlaced, origin, side_of, text_length}
 use Rattle.yq_session.specs.declared.sides.Side.{Side}
 
 -- the end of a part that stood behind one place, behind another (own)
@@ -16,8 +16,8 @@ moved_from from to e = moved ((e.rows - from.rows) + to.rows) ((e.start - from.b
 abbrev pub IsMovable : Side → Side → EndPlace → Type 0
 IsMovable from to e = ((e.rows - from.rows) + to.rows < 2 ^ 64) × ((e.start - from.bytes) + to.bytes < 2 ^ 32)
 
--- Rows and ends of parts of items between others, and those that were read in a text of so many bytes, in front of which `front` stands; `old` is what
--- stands in front of the items behind (own).
+-- Rows and ends of parts of items between others, and those that were read in a text of so many bytes; `front` stands in front of them, and `old` in
+-- front of the items behind (own).
 pub record GivesWay (p found : Places) (front old : Side) (len : ℕ) : Type 0 where
   pub before : List Item
   pub touched : List Item
@@ -35,3 +35,11 @@ pub record GivesWay (p found : Places) (front old : Side) (len : ℕ) : Type 0 w
 -- both keep rows and ends of parts at the same places (own)
 abbrev pub SamePlaces : Places → Places → Type 0
 SamePlaces old new = (new.front.items ≡ old.front.items) × (new.behind.items ≡ old.behind.items) × (new.ends.items ≡ old.ends.items)
+
+-- the ends of parts in front of those that give way, those that were read, and those behind, each where it then stands (own)
+abbrev pub joined_ends : Side → Side → Side → List EndPlace → List EndPlace → List EndPlace
+joined_ends front old new ends found = take front.ends ends ++ (map (moved_from origin front) found ++ map (moved_from old new) (drop old.ends ends))
+
+-- rows and ends of parts are kept where they stand once those that were found have the place of the touched ones (own)
+abbrev pub Exchanged : Places → Places → Places → Side → Side → ℕ → Type 0
+Exchanged p found new front old len = (h : GivesWay p found front old len) → ArePlaced new (h.before ++ (h.written ++ h.behind))

@@ -2,7 +2,7 @@ use Rattle.std.proofs.Common.{◌≡◌, inl, inr, ◌+◌, ◌-◌, ◌<◌, �
 use Rattle.std.specs.List.{All}
 use Rattle.yq_rows.specs.Kept.{near, ends_near, raised, placed_rows}
 use Rattle.yq_rows.specs.declared.offsets.Offsets as declared
-use Rattle.yq_session.specs.Exchanging.{IsMovable, moved_from}
+use Rattle.yq_session.specs.Exchanging.{IsMovable, joined_ends}
 use Rattle.yq_session.specs.Sides.{origin}
 use Rattle.yq_session.specs.declared.sides.Side.{Side}
 use Rattle.yq_session.proofs.ExchangeLaws.{EndCount, ends_behind, ends_kept, ends_movable, exchanged, found_near, numbers, rows_movable, some_end}
@@ -84,5 +84,5 @@ returns-clause-ok c h =
     let come = ends_kept found.ends.items h.written h.behind kept later c.if-kept-later-eq0.count h.found_are.ends_are kept_is later_is count in
     let next : Side = record { rows = front.rows + c.len-rows.result; ends = 0; bytes = front.bytes + len } in
     let front_now = c.push_rows.ensures ∙ ap (λ (l : List declared.Offsets). l ++ map (raised front.bytes) (placed_rows len found)) (c.truncate.ensures.items ∙ ap (take front.rows) c.reserve.ensures.items) in
-    let ends_now = c.in_ok-ends.ensures ∙ (λ i. take front.ends (c.as_slice-2.ensures.value i) ++ (map (moved_from origin front) (take c.if-kept-later-eq0.count (c.as_slice.ensures.value i)) ++ map (moved_from old next) (drop old.ends (c.as_slice-2.ensures.value i)))) in
+    let ends_now = c.in_ok-ends.ensures ∙ (λ i. joined_ends front old next (c.as_slice-2.ensures.value i) (take c.if-kept-later-eq0.count (c.as_slice.ensures.value i))) in
     exchanged p _ found front old next len kept (take c.if-kept-later-eq0.count found.ends.items) h kept_is come (omega (arith, c.len-rows.ensures len)) refl front_now c.truncate-2.ensures.items ends_now
