@@ -16,7 +16,7 @@ use Rattle.yq_session.specs.Sides.{ArePlaced, IsGapAt, ends_before, nearer, not_
 use Rattle.yq_session.proofs.BeginLaws.{BackFound, back_found, begin_from, begin_where, ends_begin, first_long, joined_long, rows_begin}
 use Rattle.yq_session.proofs.CountLaws.{ends_joined}
 use Rattle.yq_session.proofs.SideLaws.{sides_same}
-use Rattle.yq_session.proofs.SplitLaws.{Within, ends_counted, nearer_are, prefix, turned_twice}
+use Rattle.yq_session.proofs.SplitLaws.{Within, ends_counted, nearer_split, prefix, turned_twice}
 
 -- lists
 pub record MapSplit (n : ℕ) (os xs ys : List declared.Offsets) : Type 0 where
@@ -94,7 +94,7 @@ back_kept p xs at back placed gap apart h =
       before = two.first;
       rows = two.second;
       split = two.split;
-      rows_are = ap (nearer back) {y = two.first ++ two.second} two.split ∙ nearer_are back two.first two.second low high;
+      rows_are = nearer_split back (reverse p.behind.items) two.first two.second two.split low high;
       front_rows = cut.first ∙ ap (λ l. p.front.items ++ l) {y = map (turned len) two.first} (sym two.first_is);
       back_rows = mine;
       far_rows = sym (turned_twice len two.second within) ∙ (ap (map (turned len)) (mine ∙ sym turned_far) ∙ turned_twice len (far h.behind) (far_within len h.behind size));

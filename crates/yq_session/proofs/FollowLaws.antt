@@ -16,8 +16,8 @@ use Rattle.yq_rows.proofs.ItemLaws.{items_of_text, items_text-append}
 use Rattle.yq_rows.proofs.KeptLaws.{items_apart, items_texts}
 use Rattle.yq_rows.proofs.RegionLaws.{region}
 use Rattle.yq_rows.proofs.ScanLaws.{one_cut}
-use Rattle.yq_session.specs.Exchanging.{GivesWay}
-use Rattle.yq_session.specs.Following.{Change, Follows}
+use Rattle.yq_session.specs.Exchanging.{Change, GivesWay}
+use Rattle.yq_session.specs.Following.{Follows}
 use Rattle.yq_session.specs.Sides.{ArePlaced, IsGapAt, IsSideBefore, IsSideBehind, not_in_back, side_of, text_length}
 use Rattle.yq_session.specs.declared.kept.Kept.{Kept}
 use Rattle.yq_session.specs.declared.sides.Side.{Side}
@@ -199,8 +199,8 @@ pub part_small : (p : Places) (new part : List ℕ) (front old : Side) (kept : K
 part_small p new part front old kept k = omega (arith, ap length k.part_is, k.small, joined_long k.before (k.written ++ k.behind), joined_long k.written k.behind)
 
 -- what gives way
-pub gives_way : (p found : Places) (new part : List ℕ) (front old : Side) (kept : Kept) (k : Change p new kept front old part) → ArePlaced found (alone k.written k.behind) → (h : GivesWay p found front old (length part)) × (h.before ++ (h.written ++ h.behind) ≡ k.before ++ (k.written ++ k.behind))
-gives_way p found new part front old kept k there = (
+pub gives_way : (p q : Places) (new part : List ℕ) (front old : Side) (kept : Kept) (k : Change p new kept front old part) → ArePlaced q (alone k.written k.behind) → (h : GivesWay p q front old (length part)) × (h.before ++ (h.written ++ h.behind) ≡ k.before ++ (k.written ++ k.behind))
+gives_way p q new part front old kept k there = (
   record {
     before = k.before;
     touched = k.touched;

@@ -84,10 +84,13 @@ ends_counted at [] [] h k = refl
 ends_counted at [] (e ∷ b) h k = rw (le-ltb e.start at (All-head (λ (e : EndPlace). at ≤ e.start) e b k)) refl
 ends_counted at (e ∷ a) b h k = rw (lt-ltb e.start at (All-head (λ (e : EndPlace). e.start < at) e a h)) (ap suc (ends_counted at a b (All-tail (λ (e : EndPlace). e.start < at) e a h) k))
 
-pub nearer_are : (back : ℕ) (a b : List declared.Offsets) → All (λ o. back ≤ o.start) a → All (λ o. o.start < back) b → nearer back (a ++ b) ≡ b
+nearer_are : (back : ℕ) (a b : List declared.Offsets) → All (λ o. back ≤ o.start) a → All (λ o. o.start < back) b → nearer back (a ++ b) ≡ b
 nearer_are back [] [] h k = refl
 nearer_are back [] (o ∷ b) h k = rw (lt-ltb o.start back (All-head (λ (o : declared.Offsets). o.start < back) o b k)) refl
 nearer_are back (o ∷ a) b h k = rw (le-ltb o.start back (All-head (λ (o : declared.Offsets). back ≤ o.start) o a h)) (nearer_are back a b (All-tail (λ (o : declared.Offsets). back ≤ o.start) o a h) k)
+
+pub nearer_split : (back : ℕ) (os a b : List declared.Offsets) → os ≡ a ++ b → All (λ o. back ≤ o.start) a → All (λ o. o.start < back) b → nearer back os ≡ b
+nearer_split back os a b e h k = ap (nearer back) e ∙ nearer_are back a b h k
 
 -- places measured from the other end, twice
 abbrev pub Within : ℕ → declared.Offsets → Type 0

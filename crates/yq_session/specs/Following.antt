@@ -1,17 +1,14 @@
 -- Places of rows and of ends of parts that follow a change of their text (own).
-use Rattle.std.specs.Prelude.{◌≡◌, ℕ, ◌+◌, ◌<◌, ◌≤◌, ◌^◌, List, [], ◌++◌, length, reverse, take}
+use Rattle.std.specs.Prelude.{◌≡◌, ℕ, ◌+◌, ◌<◌, ◌≤◌, ◌^◌, List, [], length}
 use Rattle.yq_rows.specs.Grammar.{IsCut}
-use Rattle.yq_rows.specs.Items.{Item, items_of, items_text}
-use Rattle.yq_rows.specs.Kept.{IsPlaced, far, near}
+use Rattle.yq_rows.specs.Items.{items_text}
+use Rattle.yq_rows.specs.Kept.{IsPlaced}
 use Rattle.yq_rows.specs.Meter.{counted, line_count}
-use Rattle.yq_rows.specs.Regions.{IsReadAlone}
 use Rattle.yq_rows.specs.Rows.{Cut, cut_text}
 use Rattle.yq_rows.specs.Touched.{TouchesOnly}
 use Rattle.yq_rows.specs.View.{shown}
 use Rattle.yq_rows.specs.declared.places.Places.{Places}
-use Rattle.yq_session.specs.Sides.{ArePlaced, side_of, text_length}
 use Rattle.yq_session.specs.declared.kept.Kept.{Kept}
-use Rattle.yq_session.specs.declared.sides.Side.{Side}
 
 -- Places of a text of so many bytes, another text, and how many bytes both keep in front and behind: only what lies neither in front of the first of
 -- these nor behind the last ones is exchanged (own).
@@ -35,21 +32,3 @@ CountsWritten new kept before after =
 -- whatever was kept of a text of so many bytes is kept still (own)
 abbrev pub StaysPlaced : ℕ → Places → Places → Type 0
 StaysPlaced len old new = (c : Cut) → len ≡ length (cut_text c) → IsPlaced old (shown c) → IsPlaced new (shown c)
-
--- The items that a change touches, between the others, and those that are written in their place, whose text is a part of the new one; `front` stands
--- in front of the touched ones, and `old` in front of those behind them (own).
-pub record Change (p : Places) (new : List ℕ) (kept : Kept) (front old : Side) (part : List ℕ) : Type 0 where
-  pub before : List Item
-  pub touched : List Item
-  pub written : List Item
-  pub behind : List Item
-  pub placed : ArePlaced p (before ++ (touched ++ behind))
-  pub front_is : front ≡ side_of before
-  pub old_is : old ≡ side_of (before ++ touched)
-  pub front_rows : take front.rows p.front.items ≡ near 0 before
-  pub back_rows : reverse (take (length (near 0 behind)) p.behind.items) ≡ far behind
-  pub part_is : part ≡ items_text written []
-  pub read : IsReadAlone written behind
-  pub items : (d : Cut) → IsCut new d → before ++ (written ++ behind) ≡ items_of d
-  pub once : (c d : Cut) → IsCut new d → (h : TouchesOnly kept.front kept.back c d) → written ≡ h.written
-  pub small : text_length (before ++ (written ++ behind)) < 2 ^ 32

@@ -5,7 +5,8 @@ ghost use Rattle.yq_rows.specs.Grammar.{IsCut};
 ghost use Rattle.yq_rows.specs.Kept.{IsPlaced};
 ghost use Rattle.yq_rows.specs.Rows.{Cut};
 ghost use Rattle.yq_rows.specs.View.{shown};
-ghost use Rattle.yq_session.specs.Following.{Change, CountsWritten, Follows, StaysPlaced};
+ghost use Rattle.yq_session.specs.Exchanging.{Change};
+ghost use Rattle.yq_session.specs.Following.{CountsWritten, Follows, StaysPlaced};
 
 use crate::exchanging::exchange;
 use crate::gap::move_gap;
