@@ -1,12 +1,12 @@
 -- A walk to an item goes on from an item that is known.
-use Rattle.std.proofs.Common.{◌≡◌, ◌⊎◌, inl, inr, ℕ, zero, suc, ◌+◌, ◌-◌, ◌<◌, ◌≤◌, ltb, eqb, cond, Bool, true, false, not, ◌&&◌, List, [], ◌∷◌, length, take, drop, Some, refl, sym, ap, ◌∙◌, subst, arith}
+use Rattle.std.proofs.Common.{◌≡◌, ◌⊎◌, inl, inr, ℕ, zero, suc, ◌+◌, ◌-◌, ◌<◌, ◌≤◌, ltb, eqb, cond, Bool, true, false, not, ◌&&◌, List, [], ◌∷◌, length, take, drop, Option, Some, refl, sym, ap, ◌∙◌, subst, arith}
 use Rattle.std.proofs.lemmas.Bool.{cases_lt, cond-true, cond-false, lt-ltb, le-ltb, eq-eqb, ne_eqb}
 use Rattle.std.proofs.lemmas.List.{drop-drop, drop-take, take-take, length-take-le, length-drop}
 use Rattle.std.proofs.lemmas.Option.{same_Some, slice_get_within}
 use Rattle.std.specs.List.{slice_get}
 use Rattle.yq_scalar.specs.Paths.{Nth, is_here, is_item}
 use Rattle.yq_lines.specs.Ends.{IsEndOf, is_end, part}
-use Rattle.yq_lines.specs.Outline.{Line, key_of, label}
+use Rattle.yq_lines.specs.Outline.{Line, Outline, key_of, label}
 use Rattle.yq_lines.specs.Places.{find_row}
 use Rattle.yq_lines.specs.Spots.{spot}
 use Rattle.yq_lines.proofs.SpotLaws.{spot_passed, here_item, further_item}
@@ -16,13 +16,16 @@ use Rattle.yq_tree.specs.RowWalk.{line_level, level_count, deeper_rows, AreDeep,
 use Rattle.yq_tree.specs.declared.places.spot.KnownItem.{KnownItem}
 use Rattle.yq_tree.specs.declared.places.spot.Spot.{Spot}
 use Rattle.yq_tree.specs.declared.places.spot.Stretch.{Stretch}
-use Rattle.yq_tree.proofs.WalkSpots.{Located, located, deeper_told, behind_told, spot_line}
+use Rattle.yq_tree.proofs.KnownLaws.{one_there}
+use Rattle.yq_tree.proofs.WalkSpots.{located, deeper_told, behind_told, spot_line}
 
 get_dropped : (ss : List Slices) (n i : ℕ) → slice_get (drop n ss) i ≡ slice_get ss (n + i)
 get_dropped [] zero i = refl
 get_dropped [] (suc n) i = refl
 get_dropped (x ∷ ss) zero i = ap (slice_get (x ∷ ss)) (omega arith)
-get_dropped (x ∷ ss) (suc n) i = get_dropped ss n i
+get_dropped (x ∷ ss) (suc n) i =
+    let sum : suc (n + i) ≡ suc n + i = omega arith in
+    get_dropped ss n i ∙ ap (slice_get (x ∷ ss)) sum
 
 get_taken : (ss : List Slices) (n i : ℕ) → i < n → slice_get (take n ss) i ≡ slice_get ss i
 get_taken [] zero i h = refl
@@ -80,7 +83,7 @@ siblings n (y ∷ ys) h = go (cases_lt n (line_level 0 y)) (siblings n ys h.1)
 
 module _ (s : Shown) (d : Stretch) (h : HasDocument s d) (floor row n : ℕ) (y : Slices) (within : row < d.end) (last : slice_get s.rows row ≡ Some y) (low : line_level 0 y ≤ n) (deeper : floor < n) where
   -- where the walk to an item is
-  abbrev seen : Spot → ℕ → Option (ℕ × Line × Rattle.yq_lines.specs.Outline.Outline)
+  abbrev seen : Spot → ℕ → Option (ℕ × Line × Outline)
   seen q i = spot (line_number d h.rows q) (find_row (Nth i) (part (lines_of h.rows) (line_number d h.rows q) floor))
 
   abbrev stop : Spot
@@ -154,7 +157,7 @@ module _ (s : Shown) (d : Stretch) (h : HasDocument s d) (floor row n : ℕ) (y 
   over_all zero q h i = go (siblings n (behind q) h.deep)
     where
       go : ((deeper_rows n (behind q) ≡ length (behind q)) × (level_count n (behind q) ≡ 0)) ⊎ Sibling n (behind q) → seen q (suc 0 + i) ≡ seen stop i
-      go (inl z) = over q stop h.piece h.at h.there h.same (omega (arith, z.0, total q h.less, size q h.less, h.less)) refl i
+      go (inl z) = let one : suc 0 + i ≡ suc i = omega arith in ap (seen q) one ∙ over q stop h.piece h.at h.there h.same (omega (arith, z.0, total q h.less, size q h.less, h.less)) refl i
       go (inr z) = absurd (omega (arith, z.count, h.count))
   over_all (suc p) q h i = go (siblings n (behind q) h.deep) (λ e g. over_all p e g i)
     where
@@ -162,7 +165,8 @@ module _ (s : Shown) (d : Stretch) (h : HasDocument s d) (floor row n : ℕ) (y 
       go (inl z) later = absurd (omega (arith, z.1, h.count))
       go (inr z) later =
           let e : Spot = record { row = (q.row + 1) + z.before; line = 0 } in
-          over q e h.piece h.at h.there h.same (omega (arith, z.is, total q h.less)) refl (suc p + i) ∙ later e (next_item q p h z)
+          let one : suc (suc p) + i ≡ suc (suc p + i) = omega arith in
+          ap (seen q) one ∙ (over q e h.piece h.at h.there h.same (omega (arith, z.is, total q h.less)) refl (suc p + i) ∙ later e (next_item q p h z))
 
 -- a walk goes on from a known item
 pub goes_on : (s : Shown) (d : Stretch) (under : Spot) (floor index : ℕ) (k : KnownItem) (at : Spot) (left : ℕ) → IsSpot s d under → IsKnown s.rows k → k.under ≡ under → k.floor ≡ floor → k.index ≤ index → k.row < d.end →
@@ -172,7 +176,7 @@ goes_on s d under floor index k at left start known same_under same_floor more w
     let less : k.under.row < k.row = omega (arith, slice_get_within (take k.row s.rows) k.under.row known.piece known.there, size) in
     let begin : IsSpot s d k.under = subst (IsSpot s d) (sym same_under) start in
     let there : slice_get s.rows k.under.row ≡ Some known.piece = sym (get_taken s.rows k.row k.under.row less) ∙ known.there in
-    let y = Rattle.yq_tree.proofs.KnownLaws.one_there s.rows k.row (omega (arith, within, h.within)) in
+    let y = one_there s.rows k.row (omega (arith, within, h.within)) in
     let p : ℕ = level_count k.level (drop (k.under.row + 1) (take k.row s.rows)) in
     let first : Passing s d h k.floor k.row k.level y.0 within y.1 (low y.0 y.1) known.deeper k.under p =
     record { piece = known.piece; at = spot_line s d k.under begin (omega (arith, less, within)); there = there; same = sym known.level; less = less; deep = known.deep; count = refl } in
