@@ -18,6 +18,8 @@ use yq_rows::{Row, Rows};
 pub(crate) struct Stretch {
     pub(crate) first: usize,
     pub(crate) end: usize,
+    /// An item of the text from which a walk may go on.
+    pub(crate) known: Option<KnownItem>,
 }
 
 /// A line of a document by its row, of those of the text, and by how many lines of that row stand
@@ -26,6 +28,22 @@ pub(crate) struct Stretch {
 pub(crate) struct Spot {
     pub(crate) row: usize,
     pub(crate) line: usize,
+}
+
+/// An item of a collection of rows, from which a walk over the items behind it may go on: how many
+/// of them stand before its row.
+#[derive(Clone, Copy, Debug)]
+pub struct KnownItem {
+    /// The line of the collection's first item.
+    pub(crate) under: Spot,
+    /// How deep the collection is; its items are deeper.
+    pub(crate) floor: usize,
+    /// How deep its items are.
+    pub(crate) level: usize,
+    /// How many of its items begin before the row.
+    pub(crate) index: usize,
+    /// How many rows of the text stand before the item's.
+    pub(crate) row: usize,
 }
 
 /// A line of a row.

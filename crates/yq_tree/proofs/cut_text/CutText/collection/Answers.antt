@@ -17,17 +17,17 @@ use Rattle.yq_tree.proofs.cut_text.CutText.collection.Goals as goal
 
 pub returns-in_err-document-clause-column : goal.returns-in_err-document-clause-column
 returns-in_err-document-clause-column c =
-    rw c.from_residual.ensures (ap (option_map (λ (x : CollectionEnd). x.column)) (no_end_there (cut_of c.args.self.now) c.args.path.now.doc (steps_of c.args.path.now) c.in_err-document.ensures))
+    rw c.from_residual.ensures (ap (option_map (λ (x : CollectionEnd). x.column)) (no_end_there (cut_of c.args.self.now) c.args.path.now.doc (steps_of c.args.path.now) c.in_err-document.ensures.place))
 
 pub collection_of-requires-clause-document : goal.collection_of-requires-clause-document
 collection_of-requires-clause-document c =
-    (found_document c.args.self.now c.rows.result.now (cut_of c.args.self.now) c.args.path.now.doc c.in_ok-document.document c.whole-whole.ensures.cut c.rows.ensures c.in_ok-document.ensures).document
+    (found_document c.args.self.now c.rows.result.now (cut_of c.args.self.now) c.args.path.now.doc c.in_ok-document.document c.whole-whole.ensures.cut c.rows.ensures c.in_ok-document.ensures.place c.in_ok-document.ensures.known).document
 
 pub returns-clause-column : goal.returns-clause-column
 returns-clause-column c =
     let t : List ℕ = c.args.self.now in
     let cut : IsCut t (cut_of t) = c.whole-whole.ensures.cut in
-    let f = found_document t c.rows.result.now (cut_of t) c.args.path.now.doc c.in_ok-document.document cut c.rows.ensures c.in_ok-document.ensures in
+    let f = found_document t c.rows.result.now (cut_of t) c.args.path.now.doc c.in_ok-document.document cut c.rows.ensures c.in_ok-document.ensures.place c.in_ok-document.ensures.known in
     c.collection_of.ensures.column f.document
     ∙ ((λ i. column_of (map step_of (c.deref.ensures.value i)) (lines_of (f.rows i)))
     ∙ column_there (cut_of t) c.args.path.now.doc f.part (steps_of c.args.path.now) (subst (λ y. IsCut y (cut_of t)) cut.text cut) c.whole-whole.ensures.documents f.there)
