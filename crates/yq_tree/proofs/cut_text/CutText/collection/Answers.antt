@@ -36,6 +36,6 @@ pub returns-clause-place : goal.returns-clause-place
 returns-clause-place c = IfSome_then c.collection_of.result c.collection_of.ensures.place (λ x told.
     let t : List ℕ = c.args.self.now in
     content_here c.args.path.now (cut_of t) (span x.place)
-    (place_found t c.rows.result.now (cut_of t) c.args.path.now.doc c.in_ok-document.document _ (λ k cut rows. line_content_of k cut rows (steps_of c.args.path.now)) c.whole-whole.ensures.cut c.rows.ensures c.in_ok-document.ensures
+    (place_found t c.rows.result.now (cut_of t) c.args.path.now.doc c.in_ok-document.document _ (λ k cut rows. line_content_of k cut rows (steps_of c.args.path.now)) c.whole-whole.ensures.cut c.rows.ensures c.in_ok-document.ensures.place c.in_ok-document.ensures.known
     (λ k. told (cut_of t) k ∙ ap (λ xs. line_content_of c.in_ok-document.document.first (cut_of t) k.document.rows (map step_of xs)) c.deref.ensures.value))
     ∙ sym (spans_are t (cut_of t) c.args.path.now c.whole-whole.ensures.cut c.whole-whole.ensures.documents).0)
