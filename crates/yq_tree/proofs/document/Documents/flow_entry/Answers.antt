@@ -22,8 +22,11 @@ pub index-requires : goal.index-requires
 index-requires c =
     let t = c.self.inside.text.now in
     let same : c.cut-cut.result ≡ t = c.cut-cut.ensures ∙ sym c.self.view_is in
-    omega (arith, held_within t c.self.inside.rows (shown (cut_of t)) c.self.inside.documents.items c.args.path.now.doc c.in_ok-document.document c.self.invariant refl (c.in_ok-document.ensures.place ∙ ap (λ x. document_rows c.args.path.now.doc (cut_of x)) same)
-    (subst (λ x. IfSome c.in_ok-document.document.known (IsKnown (shown (cut_of x)).rows)) same c.in_ok-document.ensures.known))
+    omega (
+      arith,
+      held_within t c.self.inside.rows (shown (cut_of t)) c.self.inside.documents.items c.args.path.now.doc c.in_ok-document.document c.self.invariant refl (c.in_ok-document.ensures.place ∙ ap (λ x. document_rows c.args.path.now.doc (cut_of x)) same)
+          (subst (λ x. IfSome c.in_ok-document.document.known (IsKnown (shown (cut_of x)).rows)) same c.in_ok-document.ensures.known),
+    )
 
 pub flow_entry-requires-clause-lines : goal.flow_entry-requires-clause-lines
 flow_entry-requires-clause-lines c =
