@@ -37,12 +37,7 @@ pub(crate) fn left_behind(is_document: bool, left: usize) -> usize
 
 /// The rows of document `i`, where it is known of the first part whether it is one, with an item that
 /// is known.
-fn begin_rows(
-    rows: &Rows<'_>,
-    first: bool,
-    i: usize,
-    known: Option<KnownItem>,
-) -> Option<Stretch>
+fn begin_rows(rows: &Rows<'_>, first: bool, i: usize, known: Option<KnownItem>) -> Option<Stretch>
     ensures place { option_map spec.stretch_told result ≡ spec.begin_rows first i 0 rows.now.bounds }
     ensures known { IfSome result (λ d. d.known ≡ known) }
 {

@@ -17,7 +17,7 @@ rows-preserved c =
     let x = one_there ss (c.rows.row - 1) (omega (arith, c.rows-test.true, c.saturating_sub.ensures, c.rows.invariant.upto, c.requires.within)) in
     record {
       known =
-      known_less ss (moved_to k k.index c.rows.row) x.0 k.index (c.rows.row - 1) c.rows.invariant.known x.1 (omega (arith, c.rows-test.true, c.saturating_sub.ensures)) (omega (arith, c.rows-test.true, c.saturating_sub.ensures))
-      (omega (arith, none_as_deep k.level x.0 (λ e. c.if-level_at-known.false (c.level_at.ensures x.0 x.1 ∙ e))));
+          known_less ss (moved_to k k.index c.rows.row) x.0 k.index (c.rows.row - 1) c.rows.invariant.known x.1 (omega (arith, c.rows-test.true, c.saturating_sub.ensures)) (omega (arith, c.rows-test.true, c.saturating_sub.ensures))
+          (omega (arith, none_as_deep k.level x.0 (λ e. c.if-level_at-known.false (c.level_at.ensures x.0 x.1 ∙ e))));
       upto = omega (arith, c.rows.invariant.upto);
     }
