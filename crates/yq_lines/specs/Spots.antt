@@ -1,12 +1,7 @@
 -- Reading (own; a reader may skip it: the grammar is what is believed, and the clauses `found` and `only` tie the two): where a step leads among lines, by their indexes.
-use Rattle.std.specs.Prelude.{ℕ, ◌+◌, List, [], ◌∷◌, length, map, slice_get, Option, Some, None, option_map, option_and_then, Bool, true, false}
-use denote.Bor.{Bor}
-use Rattle.yq_inline.specs.declared.path.Step as declared
-use Rattle.yq_inline.specs.Entries.{step_of}
+use Rattle.std.specs.Prelude.{ℕ, ◌+◌, List, [], ◌∷◌, length, slice_get, Option, Some, None, option_map, option_and_then, Bool, true, false}
 use Rattle.yq_scalar.specs.Paths.{Step}
 use Rattle.yq_scalar.specs.Tree.{Node}
-use Rattle.yq_lines.specs.declared.line_at.Next.{Next}
-use Rattle.yq_lines.specs.declared.line_at.Next.TheVariants as next
 use Rattle.yq_lines.specs.Ends.{part}
 use Rattle.yq_lines.specs.Outline.{Mark, Bare, Key, Dash, Line, level, Outline, end, row}
 use Rattle.yq_lines.specs.Places.{lines_before, Found, find}
@@ -50,17 +45,3 @@ reach_from ls None [] = None
 reach_from ls None (s ∷ ss) = reach_in ls 0 0 s ss
 reach_from ls (Some i) [] = Some (i, [])
 reach_from ls (Some i) (s ∷ ss) = option_and_then (reach_under ls i s ss) (slice_get ls i)
-
--- where steps lead whose first one leads there
-abbrev pub reach_next : List Line → Step → List Step → Next → Option (ℕ × List Step)
-reach_next ls s ss (next.Line i) = reach_from ls (Some i) ss
-reach_next ls s ss (next.Head i) = Some (i, s ∷ ss)
-
--- the number of the line where a step leads
-abbrev pub next_line : Next → ℕ
-next_line (next.Line i) = i
-next_line (next.Head i) = i
-
--- where the code's steps lead, and on
-abbrev pub reached_view : ℕ × Bor (List declared.Step) → ℕ × List Step
-reached_view x = (x.0, map step_of x.1.now)

@@ -1,18 +1,14 @@
-//! Where a step of a path leads among lines.
+//! Where a key or an index leads among lines.
 ghost use Rattle.std.specs.Prelude.{◌≡◌, ◌<◌, ◌&&◌, length, nat_eq, IfSome};
-ghost use Rattle.yq_inline.specs.Entries.{step_of};
 ghost use Rattle.yq_scalar.specs.Paths as steps;
 ghost use Rattle.yq_lines.specs.Ends.{part, AreEndsFrom};
-ghost use Rattle.yq_lines.specs.Bodies.{under_of};
 ghost use Rattle.yq_lines.specs.Outline.{key_of};
 ghost use Rattle.yq_lines.specs.Places.{find_row};
 ghost use Rattle.yq_lines.specs.Spots.{spot, seen};
 ghost use Rattle.yq_lines.specs.View.{mark_view, views};
 
-use crate::body::Under;
 use crate::ends::is_deeper;
 use crate::line::{Line, Mark};
-use yq_inline::Step;
 
 /// Whether a line is the entry of a key.
 fn is_key(mark: &Mark<'_>, key: &str) -> bool
@@ -91,22 +87,4 @@ pub fn find_item(
         at = ends[at];
     }
     None
-}
-
-/// The line to which a step leads among some lines.
-pub(crate) fn find_step(
-    lines: &[Line<'_>],
-    ends: &[usize],
-    under: Under,
-    step: &Step,
-) -> Option<usize>
-    requires each { length ends.now ≡ length lines.now }
-    requires ends { AreEndsFrom 0 (views lines.now) ends.now }
-    ensures within { IfSome result (λ i. i < length lines.now) }
-    ensures found { spot under.first (find_row (step_of step.now) (under_of (views lines.now) under)) ≡ seen (views lines.now) result }
-{
-    match step {
-        Step::Key(key) => find_key(lines, ends, under.first, under.floor, key.as_str()),
-        Step::Index(index) => find_item(lines, ends, under.first, under.floor, *index),
-    }
 }

@@ -13,8 +13,6 @@ mod flaw;
 mod keys;
 mod laws;
 mod line;
-mod line_at;
-mod line_in;
 mod lined;
 mod names;
 mod nested;

@@ -1,5 +1,5 @@
 -- What stands in front of the items that are near the end of a text, by the places that are kept.
-use Rattle.std.proofs.Common.{◌≡◌, ◌⊎◌, inl, inr, ⊎_elim, ℕ, zero, suc, ◌+◌, ◌-◌, ◌<◌, ◌≤◌, min, List, [], ◌∷◌, ◌++◌, length, map, reverse, get_or, refl, sym, ap, ◌∙◌, subst, arith, append_assoc, append-nil, length-append}
+use Rattle.std.proofs.Common.{◌≡◌, ◌⊎◌, inl, inr, ⊎_elim, ℕ, ◌+◌, ◌-◌, ◌<◌, ◌≤◌, min, List, [], ◌∷◌, ◌++◌, length, map, reverse, get_or, refl, sym, ap, ◌∙◌, subst, arith, append_assoc, append-nil, length-append}
 use Rattle.std.proofs.lemmas.List.{get_or_at, length-map, length-reverse, reverse-append, reverse-reverse}
 use Rattle.std.proofs.lemmas.List.Elements.{All-cons, All-head, All-nil, All-tail, All-weaker}
 use Rattle.std.specs.List.{All}
@@ -16,7 +16,7 @@ use Rattle.yq_session.specs.Sides.{ArePlaced, IsGapAt, ends_before, nearer, not_
 use Rattle.yq_session.proofs.BeginLaws.{BackFound, back_found, begin_from, begin_where, ends_begin, first_long, joined_long, rows_begin}
 use Rattle.yq_session.proofs.CountLaws.{ends_joined}
 use Rattle.yq_session.proofs.SideLaws.{sides_same}
-use Rattle.yq_session.proofs.SplitLaws.{Within, ends_counted, nearer_are, prefix, turned_twice}
+use Rattle.yq_session.proofs.SplitLaws.{Within, ends_counted, nearer_split, prefix, turned_twice}
 
 -- lists
 pub record MapSplit (n : ℕ) (os xs ys : List declared.Offsets) : Type 0 where
@@ -26,20 +26,22 @@ pub record MapSplit (n : ℕ) (os xs ys : List declared.Offsets) : Type 0 where
   pub first_is : map (turned n) first ≡ xs
   pub second_is : map (turned n) second ≡ ys
 
+split_more : (n : ℕ) (o x : declared.Offsets) (os xs ys : List declared.Offsets) → turned n o ≡ x → MapSplit n os xs ys → MapSplit n (o ∷ os) (x ∷ xs) ys
+split_more n o x os xs ys one more = record {
+  first = o ∷ more.first;
+  second = more.second;
+  split = ap (λ l. o ∷ l) more.split;
+  first_is = (λ i. one i ∷ more.first_is i);
+  second_is = more.second_is;
+}
+
 map_split : (n : ℕ) (os xs ys : List declared.Offsets) → map (turned n) os ≡ xs ++ ys → MapSplit n os xs ys
 map_split n os [] ys e = record { first = []; second = os; split = refl; first_is = refl; second_is = e }
 map_split n [] (x ∷ xs) ys e = absurd cc
 map_split n (o ∷ os) (x ∷ xs) ys e =
     let one : turned n o ≡ x = cc in
     let rest : map (turned n) os ≡ xs ++ ys = cc in
-    let more = map_split n os xs ys rest in
-    record {
-      first = o ∷ more.first;
-      second = more.second;
-      split = ap (λ l. o ∷ l) more.split;
-      first_is = ap (λ p. p ∷ map (turned n) more.first) one ∙ ap (λ l. x ∷ l) more.first_is;
-      second_is = more.second_is;
-    }
+    split_more n o x os xs ys one (map_split n os xs ys rest)
 
 all_second : (P : declared.Offsets → Type 0) (xs ys : List declared.Offsets) → All P (xs ++ ys) → All P ys
 all_second P [] ys h = h
@@ -92,8 +94,8 @@ back_kept p xs at back placed gap apart h =
       before = two.first;
       rows = two.second;
       split = two.split;
-      rows_are = ap (nearer back) two.split ∙ nearer_are back two.first two.second low high;
-      front_rows = cut.first ∙ ap (λ l. p.front.items ++ l) (sym two.first_is);
+      rows_are = nearer_split back (reverse p.behind.items) two.first two.second two.split low high;
+      front_rows = cut.first ∙ ap (λ l. p.front.items ++ l) {y = map (turned len) two.first} (sym two.first_is);
       back_rows = mine;
       far_rows = sym (turned_twice len two.second within) ∙ (ap (map (turned len)) (mine ∙ sym turned_far) ∙ turned_twice len (far h.behind) (far_within len h.behind size));
       ends_are = ends ∙ (ap (λ (n : ℕ). ends_near 0 0 h.front ++ ends_near n (0 + length (near 0 h.front)) h.behind) bytes ∙ ap (λ (k : ℕ). ends_near 0 0 h.front ++ ends_near (text_length h.front) k h.behind) count);
@@ -132,15 +134,20 @@ pub first_bytes : (m len k : ℕ) (z : List Item) (rows ends bytes : ℕ) → m 
 first_bytes m len k z rows ends bytes long h = go z long h.rows_are h.ends_are h.by_rows h.by_ends where
   AtRow : List Item → Type 0
   AtRow z = ((rows ≡ 0) × (h.row_bytes ≡ len)) ⊎ ((o : declared.Offsets) × (rest : List declared.Offsets) × (near m z ≡ turned len o ∷ rest) × (h.row_bytes ≡ len - o.start))
+
   AtEnd : List Item → Type 0
   AtEnd z = ((ends ≡ 0) × (bytes ≡ h.row_bytes)) ⊎ ((e : EndPlace) × (rest : List EndPlace) × (ends_near m k z ≡ e ∷ rest) × (bytes ≡ min h.row_bytes e.start))
+
   row_low : (z : List Item) (o : declared.Offsets) (rest : List declared.Offsets) → near m z ≡ turned len o ∷ rest → m ≤ len - o.start
   row_low z o rest is = All-head (λ (x : declared.Offsets). m ≤ x.start) (turned len o) rest (subst (All (λ (x : declared.Offsets). m ≤ x.start)) is (rows_begin (λ s. m ≤ s) m z (begin_from m m z (omega arith))))
+
   end_low : (z : List Item) (e : EndPlace) (rest : List EndPlace) → ends_near m k z ≡ e ∷ rest → m ≤ e.start
   end_low z e rest is = All-head (λ (x : EndPlace). m ≤ x.start) e rest (subst (All (λ (x : EndPlace). m ≤ x.start)) is (ends_begin (λ s. m ≤ s) m k z (begin_from m m z (omega arith))))
+
   low : (z : List Item) → m + text_length z ≡ len → AtRow z → m ≤ h.row_bytes
   low z long (inl r) = omega (arith, r.1, long)
   low z long (inr r) = omega (arith, row_low z r.0 r.1 r.2, r.3)
+
   go : (z : List Item) → m + text_length z ≡ len → rows ≡ length (near m z) → ends ≡ length (ends_near m k z) → AtRow z → AtEnd z → bytes ≡ m
   go [] long some_rows some_ends (inl r) (inl e) = omega (arith, long, r.1, e.1)
   go [] long some_rows some_ends (inl r) (inr e) = absurd (let x = e.2 in cc)

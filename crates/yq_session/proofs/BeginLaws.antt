@@ -1,10 +1,10 @@
 -- Where items begin, and with them their rows and ends of parts.
-use Rattle.std.proofs.Common.{◌≡◌, ℕ, zero, suc, ◌+◌, ◌-◌, ◌<◌, ◌≤◌, ltb, cond, Bool, true, false, List, [], ◌∷◌, ◌++◌, length, map, refl, sym, ap, ◌∙◌, subst, arith, append_assoc, append-nil, length-append, ltb-true, ltb-false}
+use Rattle.std.proofs.Common.{◌≡◌, ℕ, ◌+◌, ◌-◌, ◌<◌, ◌≤◌, ltb, cond, Bool, true, false, List, [], ◌∷◌, ◌++◌, length, refl, sym, ap, ◌∙◌, subst, arith, append_assoc, length-append, ltb-true, ltb-false}
 use Rattle.std.proofs.lemmas.List.Elements.{All-cons, All-nil}
 use Rattle.std.specs.List.{All}
 use Rattle.yq_rows.specs.Ends.{end_at}
 use Rattle.yq_rows.specs.Items.{Item, row_item, end_item, items_text}
-use Rattle.yq_rows.specs.Kept.{near, ends_near, far}
+use Rattle.yq_rows.specs.Kept.{near, ends_near}
 use Rattle.yq_rows.specs.Offsets.{offsets_of}
 use Rattle.yq_rows.specs.Rows.{print_row}
 use Rattle.yq_rows.specs.Touched.{item_text, in_front, in_back}
@@ -12,7 +12,7 @@ use Rattle.yq_rows.specs.View.{slices}
 use Rattle.yq_rows.specs.declared.ends.EndPlace.{EndPlace}
 use Rattle.yq_rows.specs.declared.offsets.Offsets as declared
 use Rattle.yq_rows.proofs.ItemLaws.{items_text-append}
-use Rattle.yq_rows.proofs.KeptLaws.{items_apart, near_joined, print_then}
+use Rattle.yq_rows.proofs.KeptLaws.{items_apart, print_then}
 use Rattle.yq_session.specs.Sides.{not_in_back, text_length}
 
 -- lengths
@@ -65,35 +65,36 @@ front_found [] n at some within = absurd (omega (arith, some, within))
 front_found (i ∷ xs) n at some within =
     go (λ less. front_found xs (n + length (item_text i)) (at - length (item_text i)) (omega (arith, less)) (omega (arith, within, first_long i xs))) (ltb (length (item_text i)) at) refl
   where
-  own : ℕ
-  own = length (item_text i)
-  go : (own < at → FrontFound (n + own) (at - own) xs) → (b : Bool) → ltb own at ≡ b → FrontFound n at (i ∷ xs)
-  go next true e =
-      let less : own < at = ltb-true own at e in
-      let more = next less in
-      let here : (n + own) + (at - own) ≡ n + at = omega (arith, less) in
-      let f : List Item = more.front ++ (more.first ∷ []) in
-      let size : (n + own) + text_length f ≡ n + text_length (i ∷ f) = omega (arith, first_long i f) in
-      record {
-        front = i ∷ more.front;
-        first = more.first;
-        rest = more.rest;
-        is = ap (λ (b : Bool). cond b (i ∷ in_front (at - own) xs) []) e ∙ ap (λ (l : List Item). i ∷ l) more.is;
-        split = ap (λ (l : List Item). i ∷ l) more.split;
-        begun = (omega (arith, some), subst (λ (a : ℕ). AllBegin (λ s. s < a) (n + own) f) here more.begun);
-        later = subst (λ (m : ℕ). AllBegin (λ s. n + at ≤ s) m more.rest) size (subst (λ (a : ℕ). AllBegin (λ s. a ≤ s) ((n + own) + text_length f) more.rest) here more.later);
-      }
-  go next false e =
-      let long : at ≤ own = ltb-false own at e in
-      record {
-        front = [];
-        first = i;
-        rest = xs;
-        is = ap (λ (b : Bool). cond b (i ∷ in_front (at - own) xs) []) e;
-        split = refl;
-        begun = (omega (arith, some), tt);
-        later = begin_from (n + at) (n + text_length (i ∷ [])) xs (omega (arith, long, first_long i []));
-      }
+    own : ℕ
+    own = length (item_text i)
+
+    go : (own < at → FrontFound (n + own) (at - own) xs) → (b : Bool) → ltb own at ≡ b → FrontFound n at (i ∷ xs)
+    go next true e =
+        let less : own < at = ltb-true own at e in
+        let more = next less in
+        let here : (n + own) + (at - own) ≡ n + at = omega (arith, less) in
+        let f : List Item = more.front ++ (more.first ∷ []) in
+        let size : (n + own) + text_length f ≡ n + text_length (i ∷ f) = omega (arith, first_long i f) in
+        record {
+          front = i ∷ more.front;
+          first = more.first;
+          rest = more.rest;
+          is = ap (λ (b : Bool). cond b (i ∷ in_front (at - own) xs) []) e ∙ ap (λ (l : List Item). i ∷ l) more.is;
+          split = ap (λ (l : List Item). i ∷ l) more.split;
+          begun = (omega (arith, some), subst (λ (a : ℕ). AllBegin (λ s. s < a) (n + own) f) here more.begun);
+          later = subst (λ (m : ℕ). AllBegin (λ s. n + at ≤ s) m more.rest) size (subst (λ (a : ℕ). AllBegin (λ s. a ≤ s) ((n + own) + text_length f) more.rest) here more.later);
+        }
+    go next false e =
+        let long : at ≤ own = ltb-false own at e in
+        record {
+          front = [];
+          first = i;
+          rest = xs;
+          is = ap (λ (b : Bool). cond b (i ∷ in_front (at - own) xs) []) e;
+          split = refl;
+          begun = (omega (arith, some), tt);
+          later = begin_from (n + at) (n + text_length (i ∷ [])) xs (omega (arith, long, first_long i []));
+        }
 
 -- The items that are nearer to the end than so many bytes, and those in front of them.
 pub record BackFound (n back : ℕ) (xs : List Item) : Type 0 where
@@ -109,31 +110,32 @@ pub back_found : (xs : List Item) (n back : ℕ) → BackFound n back xs
 back_found [] n back = record { front = []; behind = []; is_front = refl; is_behind = refl; split = refl; begun = tt; later = tt }
 back_found (i ∷ xs) n back = go (back_found xs (n + length (item_text i)) back) (ltb (text_length (i ∷ xs)) back) refl
   where
-  own : ℕ
-  own = length (item_text i)
-  go : BackFound (n + own) back xs → (b : Bool) → ltb (text_length (i ∷ xs)) back ≡ b → BackFound n back (i ∷ xs)
-  go more true e =
-      let less : text_length (i ∷ xs) < back = ltb-true (text_length (i ∷ xs)) back e in
-      let all : AllBegin (λ s. n ≤ s) (n + text_length []) (i ∷ xs) = begin_from n (n + text_length []) (i ∷ xs) (omega arith) in
-      record {
-        front = [];
-        behind = i ∷ xs;
-        is_front = ap (λ (b : Bool). cond b [] (i ∷ not_in_back back xs)) e;
-        is_behind = ap (λ (b : Bool). cond b (i ∷ xs) (in_back back xs)) e;
-        split = refl;
-        begun = tt;
-        later = begin_where (λ s. n ≤ s) (λ s. n + text_length (i ∷ xs) < s + back) (λ s h. omega (arith, h, less)) (n + text_length []) (i ∷ xs) all;
-      }
-  go more false e =
-      let long : back ≤ text_length (i ∷ xs) = ltb-false (text_length (i ∷ xs)) back e in
-      let here : (n + own) + text_length xs ≡ n + text_length (i ∷ xs) = omega (arith, first_long i xs) in
-      let size : (n + own) + text_length more.front ≡ n + text_length (i ∷ more.front) = omega (arith, first_long i more.front) in
-      record {
-        front = i ∷ more.front;
-        behind = more.behind;
-        is_front = ap (λ (b : Bool). cond b [] (i ∷ not_in_back back xs)) e ∙ ap (λ (l : List Item). i ∷ l) more.is_front;
-        is_behind = ap (λ (b : Bool). cond b (i ∷ xs) (in_back back xs)) e ∙ more.is_behind;
-        split = ap (λ (l : List Item). i ∷ l) more.split;
-        begun = (omega (arith, long), subst (λ (a : ℕ). AllBegin (λ s. s + back ≤ a) (n + own) more.front) here more.begun);
-        later = subst (λ (m : ℕ). AllBegin (λ s. n + text_length (i ∷ xs) < s + back) m more.behind) size (subst (λ (a : ℕ). AllBegin (λ s. a < s + back) ((n + own) + text_length more.front) more.behind) here more.later);
-      }
+    own : ℕ
+    own = length (item_text i)
+
+    go : BackFound (n + own) back xs → (b : Bool) → ltb (text_length (i ∷ xs)) back ≡ b → BackFound n back (i ∷ xs)
+    go more true e =
+        let less : text_length (i ∷ xs) < back = ltb-true (text_length (i ∷ xs)) back e in
+        let all : AllBegin (λ s. n ≤ s) (n + text_length []) (i ∷ xs) = begin_from n (n + text_length []) (i ∷ xs) (omega arith) in
+        record {
+          front = [];
+          behind = i ∷ xs;
+          is_front = ap (λ (b : Bool). cond b [] (i ∷ not_in_back back xs)) e;
+          is_behind = ap (λ (b : Bool). cond b (i ∷ xs) (in_back back xs)) e;
+          split = refl;
+          begun = tt;
+          later = begin_where (λ s. n ≤ s) (λ s. n + text_length (i ∷ xs) < s + back) (λ s h. omega (arith, h, less)) (n + text_length []) (i ∷ xs) all;
+        }
+    go more false e =
+        let long : back ≤ text_length (i ∷ xs) = ltb-false (text_length (i ∷ xs)) back e in
+        let here : (n + own) + text_length xs ≡ n + text_length (i ∷ xs) = omega (arith, first_long i xs) in
+        let size : (n + own) + text_length more.front ≡ n + text_length (i ∷ more.front) = omega (arith, first_long i more.front) in
+        record {
+          front = i ∷ more.front;
+          behind = more.behind;
+          is_front = ap (λ (b : Bool). cond b [] (i ∷ not_in_back back xs)) e ∙ ap (λ (l : List Item). i ∷ l) more.is_front;
+          is_behind = ap (λ (b : Bool). cond b (i ∷ xs) (in_back back xs)) e ∙ more.is_behind;
+          split = ap (λ (l : List Item). i ∷ l) more.split;
+          begun = (omega (arith, long), subst (λ (a : ℕ). AllBegin (λ s. s + back ≤ a) (n + own) more.front) here more.begun);
+          later = subst (λ (m : ℕ). AllBegin (λ s. n + text_length (i ∷ xs) < s + back) m more.behind) size (subst (λ (a : ℕ). AllBegin (λ s. a < s + back) ((n + own) + text_length more.front) more.behind) here more.later);
+        }

@@ -4,3 +4,6 @@ pub mod GapLaws
 pub mod CountLaws
 pub mod SideLaws
 pub mod BackLaws
+pub mod ExchangeLaws
+pub mod ItemPlaces
+pub mod FollowLaws

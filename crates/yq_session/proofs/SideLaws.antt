@@ -1,9 +1,8 @@
 -- What stands in front of the items that a change touches, by the places that are kept.
-use Rattle.std.proofs.Common.{◌≡◌, ◌⊎◌, inl, inr, ⊎_elim, le-ltb, ℕ, zero, suc, ◌+◌, ◌-◌, ◌<◌, ◌≤◌, List, [], ◌∷◌, ◌++◌, length, map, reverse, get_or, refl, sym, ap, ◌∙◌, subst, arith, append_assoc, append-nil, length-append}
+use Rattle.std.proofs.Common.{◌≡◌, ◌⊎◌, inl, inr, ⊎_elim, le-ltb, ℕ, zero, suc, ◌+◌, ◌-◌, ◌<◌, ◌≤◌, List, [], ◌∷◌, ◌++◌, length, map, reverse, get_or, refl, sym, ap, ◌∙◌, subst, arith, append_assoc, append-nil, length-append, take, take_at}
 use Rattle.std.proofs.lemmas.List.{get_or_append_left, get_or_at}
 use Rattle.std.proofs.lemmas.List.Elements.{All-get_or}
 use Rattle.std.proofs.lemmas.Option.{slice_get-get_or}
-use Rattle.std.specs.List.{All}
 use Rattle.yq_rows.specs.Ends.{end_at}
 use Rattle.yq_rows.specs.Items.{Item, row_item, end_item}
 use Rattle.yq_rows.specs.Kept.{near, ends_near, turned}
@@ -170,4 +169,12 @@ before_none p xs at n count placed gap within long many empty none =
     ⊎_elim {0, 0, 0}
     (λ (no : Nothing p xs at). ap side_of (sym no.2))
     (λ (k : Kept p xs at). absurd (at_none k.0 k.1 p.front.items p.ends.items n count (subst (FrontKept k.0 k.1 p.front.items p.ends.items) (sym many) k.3) long empty none))
+    (found p xs at placed gap within)
+
+-- the rows that stay in front
+pub front_taken : (p : Places) (xs : List Item) (at : ℕ) → ArePlaced p xs → IsGapAt at (text_length xs) p → at ≤ text_length xs → take (length (near 0 (in_front at xs))) p.front.items ≡ near 0 (in_front at xs)
+front_taken p xs at placed gap within =
+    ⊎_elim {0, 0, 0}
+    (λ (k : Nothing p xs at). ap (λ (l : List Item). take (length (near 0 l)) p.front.items) k.2 ∙ ap (near 0) (sym k.2))
+    (λ (k : Kept p xs at). ap (λ (l : List Item). take (length (near 0 l)) p.front.items) k.2 ∙ (ap (take (length (near 0 k.0))) (k.3.rows_are ∙ near_joined 0 k.0 (k.1 ∷ [])) ∙ (take_at (near 0 k.0) (near (0 + text_length k.0) (k.1 ∷ [])) (length (near 0 k.0)) refl ∙ ap (near 0) (sym k.2))))
     (found p xs at placed gap within)

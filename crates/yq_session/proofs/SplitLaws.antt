@@ -1,12 +1,12 @@
 -- A list of places that is split in two ways.
-use Rattle.std.proofs.Common.{◌≡◌, ℕ, zero, suc, ◌+◌, ◌-◌, ◌<◌, ◌≤◌, nat_lt, Some, List, [], ◌∷◌, ◌++◌, length, map, reverse, slice_get, refl, sym, ap, ◌∙◌, subst, arith, append_assoc, append-nil, length-append, lt-ltb, le-ltb}
-use Rattle.std.proofs.lemmas.List.{map-append, reverse-append, reverse-reverse, length-map, length-reverse}
-use Rattle.std.proofs.lemmas.List.Elements.{All-cons, All-head, All-nil, All-tail}
+use Rattle.std.proofs.Common.{◌≡◌, ℕ, suc, ◌-◌, ◌<◌, ◌≤◌, Some, List, [], ◌∷◌, ◌++◌, length, map, reverse, slice_get, refl, sym, ap, ◌∙◌, subst, arith, append-nil, length-append, lt-ltb, le-ltb}
+use Rattle.std.proofs.lemmas.List.{reverse-append, reverse-reverse}
+use Rattle.std.proofs.lemmas.List.Elements.{All-head, All-tail}
 use Rattle.std.specs.List.{All}
 use Rattle.yq_rows.specs.Kept.{turned}
 use Rattle.yq_rows.specs.declared.ends.EndPlace.{EndPlace}
 use Rattle.yq_rows.specs.declared.offsets.Offsets as declared
-use Rattle.yq_session.specs.Sides.{FirstFrom, LastBefore, ends_before, nearer}
+use Rattle.yq_session.specs.Sides.{FirstFrom, ends_before, nearer}
 
 -- the last place of a list
 abbrev pub LastIs : (declared.Offsets → Type 0) → List declared.Offsets → Type 0
@@ -57,6 +57,7 @@ one_split P Q apart a b c d e last first front back = go (prefix P Q apart a b c
       held : (a : List declared.Offsets) → All P (a ++ (o ∷ more)) → P o
       held [] all = All-head P o more all
       held (p ∷ a) all = held a (All-tail P p (a ++ (o ∷ more)) all)
+
   go : IsPrefix a b c d → a ≡ c
   go h = none c b h.more front h.first h.second first
 
@@ -83,10 +84,13 @@ ends_counted at [] [] h k = refl
 ends_counted at [] (e ∷ b) h k = rw (le-ltb e.start at (All-head (λ (e : EndPlace). at ≤ e.start) e b k)) refl
 ends_counted at (e ∷ a) b h k = rw (lt-ltb e.start at (All-head (λ (e : EndPlace). e.start < at) e a h)) (ap suc (ends_counted at a b (All-tail (λ (e : EndPlace). e.start < at) e a h) k))
 
-pub nearer_are : (back : ℕ) (a b : List declared.Offsets) → All (λ o. back ≤ o.start) a → All (λ o. o.start < back) b → nearer back (a ++ b) ≡ b
+nearer_are : (back : ℕ) (a b : List declared.Offsets) → All (λ o. back ≤ o.start) a → All (λ o. o.start < back) b → nearer back (a ++ b) ≡ b
 nearer_are back [] [] h k = refl
 nearer_are back [] (o ∷ b) h k = rw (lt-ltb o.start back (All-head (λ (o : declared.Offsets). o.start < back) o b k)) refl
 nearer_are back (o ∷ a) b h k = rw (le-ltb o.start back (All-head (λ (o : declared.Offsets). back ≤ o.start) o a h)) (nearer_are back a b (All-tail (λ (o : declared.Offsets). back ≤ o.start) o a h) k)
+
+pub nearer_split : (back : ℕ) (os a b : List declared.Offsets) → os ≡ a ++ b → All (λ o. back ≤ o.start) a → All (λ o. o.start < back) b → nearer back os ≡ b
+nearer_split back os a b e h k = ap (nearer back) e ∙ nearer_are back a b h k
 
 -- places measured from the other end, twice
 abbrev pub Within : ℕ → declared.Offsets → Type 0

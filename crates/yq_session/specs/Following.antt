@@ -24,7 +24,11 @@ pub record Follows (places : Places) (len : ℕ) (new : List ℕ) (kept : Kept) 
   pub new_within : kept.front + kept.back ≤ length new
   pub small : length new < 2 ^ 32
 
--- a count that rose by the lines of what was written in the place of what the change touches (own)
-abbrev pub CountsWritten : Places → List ℕ → Kept → ℕ → ℕ → Type 0
-CountsWritten places new kept before after =
-    (c d : Cut) → IsCut (cut_text c) c → IsPlaced places (shown c) → IsCut new d → (h : TouchesOnly kept.front kept.back c d) → after ≡ counted (line_count (items_text h.written [])) before
+-- a count that rose by the lines of what was written in the place of what a change touched (own)
+abbrev pub CountsWritten : List ℕ → Kept → ℕ → ℕ → Type 0
+CountsWritten new kept before after =
+    (c d : Cut) → IsCut new d → (h : TouchesOnly kept.front kept.back c d) → after ≡ counted (line_count (items_text h.written [])) before
+
+-- whatever was kept of a text of so many bytes is kept still (own)
+abbrev pub StaysPlaced : ℕ → Places → Places → Type 0
+StaysPlaced len old new = (c : Cut) → len ≡ length (cut_text c) → IsPlaced old (shown c) → IsPlaced new (shown c)

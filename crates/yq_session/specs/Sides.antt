@@ -1,8 +1,8 @@
--- What stands in front of items that a change touches, and in front of those behind them, by the places of rows and of ends of parts (own; a reader of the
--- contracts may skip it).
-use Rattle.std.specs.Prelude.{◌≡◌, ℕ, zero, suc, ◌+◌, ◌-◌, ◌<◌, ◌≤◌, ◌^◌, nat_lt, nat_le, List, [], ◌∷◌, length, reverse, Some, slice_get, if◌then◌else◌}
+-- What stands in front of items that a change touches, and in front of those behind them, by places (own; a reader of the contracts may skip it).
+use Rattle.std.specs.Prelude.{◌≡◌, ℕ, suc, ◌+◌, ◌-◌, ◌<◌, ◌≤◌, ◌^◌, nat_lt, List, [], ◌∷◌, length, Some, slice_get, if◌then◌else◌}
 use Rattle.yq_rows.specs.Items.{Item, items_text}
-use Rattle.yq_rows.specs.Kept.{near, ends_near, placed_rows, turned, TextsIn}
+use Rattle.yq_rows.specs.Kept.{near, ends_near, placed_rows, TextsIn}
+use Rattle.yq_rows.specs.Touched.{in_front}
 use Rattle.yq_rows.specs.declared.ends.EndPlace.{EndPlace}
 use Rattle.yq_rows.specs.declared.offsets.Offsets as declared
 use Rattle.yq_rows.specs.declared.places.Places.{Places}
@@ -53,3 +53,11 @@ side_of xs = record { rows = length (near 0 xs); ends = length (ends_near 0 0 xs
 -- nothing in front (own)
 abbrev pub origin : Side
 origin = record { rows = 0; ends = 0; bytes = 0 }
+
+-- this is what stands in front of the last item that begins in front of an offset, at which the gap is (own)
+abbrev pub IsSideBefore : Places → ℕ → Side → Type 0
+IsSideBefore p at side = (xs : List Item) → ArePlaced p xs → IsGapAt at (text_length xs) p → at ≤ text_length xs → side ≡ side_of (in_front at xs)
+
+-- this is what stands in front of the first item that is nearer to the end than so many bytes, where the gap is in front of it (own)
+abbrev pub IsSideBehind : Places → (len back : ℕ) → Side → Type 0
+IsSideBehind p len back side = (xs : List Item) (at : ℕ) → ArePlaced p xs → IsGapAt at len p → at + back ≤ len → len ≡ text_length xs → side ≡ side_of (not_in_back back xs)

@@ -1,10 +1,10 @@
 //! Rows and ends of parts that give way to others.
-ghost use Rattle.std.specs.Prelude.{◌≡◌, ◌<◌, ◌≤◌, ◌+◌, ◌^◌, List, [], ◌++◌, IfOk, OnOk, OnErr, length, map, take, drop};
+ghost use Rattle.std.specs.Prelude.{◌≡◌, ◌<◌, ◌≤◌, ◌+◌, ◌^◌, ◌++◌, IfOk, OnOk, OnErr, length, map, drop};
 ghost use Rattle.std.specs.List.{All};
 ghost use Rattle.std.specs.Vec.{vec_capacity, vec_len};
 ghost use Rattle.yq_rows.specs.Kept.{placed_rows, raised};
-ghost use Rattle.yq_session.specs.Exchanging.{GivesWay, IsMovable, moved_from, SamePlaces};
-ghost use Rattle.yq_session.specs.Sides.{ArePlaced, origin};
+ghost use Rattle.yq_session.specs.Exchanging.{Exchanged, GivesWay, IsMovable, SamePlaces, joined_ends, moved_from};
+ghost use Rattle.yq_session.specs.Sides.{origin};
 
 use crate::sides::Side;
 use std::alloc::{AllocError, Global};
@@ -18,14 +18,14 @@ fn push_moved(
     to: Side,
 ) -> Result<(), AllocError>
     requires { All (IsMovable from to) ends.now }
-    ensures { OnOk result (joined.new.items ≡ joined.old.items ++ map (moved_from from to) ends.now) }
+    ensures { OnOk result (joined.new.items ≡
+        joined.old.items ++ map (moved_from from to) ends.now) }
 {
-    let mut rest = ends;
-    'ends: while let [end, after @ ..] = rest {
+    'ends: for i in 0..ends.len() {
+        let end = ends[i];
         let rows = end.rows.saturating_sub(from.rows) + to.rows;
         let start = end.start().saturating_sub(from.bytes) + to.bytes;
         joined.push(end.moved(rows, start))?;
-        rest = after;
     }
     Ok(())
 }
@@ -43,7 +43,7 @@ fn join_ends(
     requires old { old.ends ≤ length ends.now }
     requires found { All (IsMovable origin front) found.now }
     requires behind { All (IsMovable old new) (drop old.ends ends.now) }
-    ensures { IfOk result (λ v. v.items ≡ take front.ends ends.now ++ (map (moved_from origin front) found.now ++ map (moved_from old new) (drop old.ends ends.now))) }
+    ensures { IfOk result (λ v. v.items ≡ joined_ends front old new ends.now found.now) }
 {
     let mut joined = Vec::new(alloc);
     joined.extend_from_slice(&ends[..front.ends])?;
@@ -70,8 +70,8 @@ fn push_rows(rows: &mut Vec<Offsets>, found: &Places, len: usize, by: usize)
     }
 }
 
-/// Rows and ends of parts that stand behind `front`, up to `old`, give way to those that were found in a
-/// text of `len` bytes; those behind them stand behind these.
+/// Rows and ends of parts that stand behind `front`, up to `old`, give way to those that were found in
+/// a text of `len` bytes; those behind them stand behind these.
 pub(crate) fn exchange(
     alloc: Global,
     places: &mut Places,
@@ -81,26 +81,26 @@ pub(crate) fn exchange(
     len: usize,
 ) -> Result<(), AllocError>
     requires { GivesWay places.old found.now front old len }
-    ensures ok { OnOk result ((h : GivesWay places.old found.now front old len) → ArePlaced places.new (h.before ++ (h.written ++ h.behind))) }
+    ensures ok { OnOk result (Exchanged places.old found.now places.new front old len) }
     ensures err { OnErr result (SamePlaces places.old places.new) }
 {
-    let rows = found.len();
-    let new = Side {
-        rows: front.rows + rows,
-        ends: 0,
-        bytes: front.bytes + len,
-    };
     let kept = places.len() - old.rows;
-    let is_last = kept == 0 && old.ends == places.ends.len();
+    let later = places.ends.len() - old.ends;
     // What is read of a text that isn't the last one has an empty end behind it.
-    let count = if is_last {
+    let count = if kept + later == 0 {
         found.ends.len()
     } else {
         found.ends.len() - 1
     };
     let come = &found.ends.as_slice()[..count];
-    let ends = join_ends(alloc, places.ends.as_slice(), come, front, old, new)?;
+    let rows = found.len();
     places.front.reserve(rows)?;
+    let new = Side {
+        rows: front.rows + rows,
+        ends: 0,
+        bytes: front.bytes + len,
+    };
+    let ends = join_ends(alloc, places.ends.as_slice(), come, front, old, new)?;
     places.front.truncate(front.rows);
     push_rows(&mut places.front, found, len, front.bytes);
     places.behind.truncate(kept);

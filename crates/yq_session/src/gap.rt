@@ -16,7 +16,8 @@ fn to_behind(
 ) -> Result<(), AllocError>
     requires small { len < 2 ^ 32 }
     requires within { All (λ o. o.start ≤ len) front.old.items }
-    ensures same { both_sides len front.new.items behind.new.items ≡ both_sides len front.old.items behind.old.items }
+    ensures same { both_sides len front.new.items behind.new.items ≡
+        both_sides len front.old.items behind.old.items }
     ensures ok { OnOk result (LastBefore at front.new.items) }
 {
     'rows: while front.len() > 0 {
@@ -39,7 +40,8 @@ fn to_front(
 ) -> Result<(), AllocError>
     requires small { len < 2 ^ 32 }
     requires last { LastBefore at front.old.items }
-    ensures same { both_sides len front.new.items behind.new.items ≡ both_sides len front.old.items behind.old.items }
+    ensures same { both_sides len front.new.items behind.new.items ≡
+        both_sides len front.old.items behind.old.items }
     ensures last { LastBefore at front.new.items }
     ensures ok { OnOk result (FirstFrom at len behind.new.items) }
 {
@@ -54,8 +56,8 @@ fn to_front(
     Ok(())
 }
 
-/// Moves the gap to an offset: the rows that begin in front of it come to stand in front of the gap, in
-/// a text of so many bytes.
+/// Moves the gap to an offset, in a text of so many bytes: the rows that begin in front of it come to
+/// stand in front of the gap.
 pub(crate) fn move_gap(places: &mut Places, len: usize, at: usize) -> Result<(), AllocError>
     requires small { len < 2 ^ 32 }
     requires within { All (λ o. o.start ≤ len) (placed_rows len places.old) }

@@ -1,9 +1,6 @@
-//! What stands in front of the rows and ends of parts that a change touches, and in front of those behind.
-ghost use Rattle.std.specs.Prelude.{◌≡◌, ◌<◌, ◌≤◌, ◌+◌, ◌^◌, ℕ, List, length, reverse};
-ghost use Rattle.yq_rows.specs.Items.{Item};
-ghost use Rattle.yq_rows.specs.Touched.{in_front};
+//! What stands in front of what a change touches, and in front of what stands behind that.
+ghost use Rattle.std.specs.Prelude.{◌≡◌, ◌<◌, ◌≤◌, ◌^◌, length, reverse};
 ghost use Rattle.yq_session.specs.Sides as spec;
-ghost use Rattle.yq_session.specs.Sides.{ArePlaced, IsGapAt, side_of};
 
 use yq_rows::{EndPlace, Offsets, Places};
 
@@ -31,7 +28,7 @@ fn ends_before(ends: &[EndPlace], at: usize) -> usize
     count
 }
 
-/// How many rows, of those that are kept last first, are nearer to the end of the text than so many bytes.
+/// How many rows, of those kept last first, are nearer to the end of the text than so many bytes.
 fn rows_nearer(behind: &[Offsets], back: usize) -> usize
     ensures within { result ≤ length behind.now }
     ensures count { result ≡ length (spec.nearer back (reverse behind.now)) }
@@ -45,11 +42,10 @@ fn rows_nearer(behind: &[Offsets], back: usize) -> usize
     rest.len()
 }
 
-/// What stands in front of the last row or end of a part that begins in front of an offset, at which the
-/// gap is.
+/// What stands in front of the last row or end of a part that begins in front of an offset, at which
+/// the gap is.
 pub(crate) fn side_before(places: &Places, at: usize) -> Side
-    ensures { (xs : List Item) → ArePlaced places.now xs → IsGapAt at (spec.text_length xs) places.now → at ≤ spec.text_length xs →
-        result ≡ side_of (in_front at xs) }
+    ensures { spec.IsSideBefore places.now at result }
 {
     let rows = places.front.len();
     let ends = ends_before(places.ends.as_slice(), at);
@@ -77,13 +73,12 @@ pub(crate) fn side_before(places: &Places, at: usize) -> Side
     }
 }
 
-/// What stands in front of the first row or end of a part that is nearer to the end of the text, which has
-/// so many bytes, than `back` bytes.
+/// What stands in front of the first row or end of a part that is nearer than `back` bytes to the end of
+/// the text, which has `len` bytes; the gap is in front of it.
 pub(crate) fn side_behind(places: &Places, len: usize, back: usize) -> Side
     requires small { len < 2 ^ 32 }
     requires within { back ≤ len }
-    ensures { (xs : List Item) (at : ℕ) → ArePlaced places.now xs → IsGapAt at len places.now → at + back ≤ len → len ≡ spec.text_length xs →
-        result ≡ side_of (spec.not_in_back back xs) }
+    ensures { spec.IsSideBehind places.now len back result }
 {
     let rows = rows_nearer(places.behind.as_slice(), back);
     let ends = ends_before(places.ends.as_slice(), len - back + 1);

@@ -8,27 +8,20 @@ use Rattle.yq_scalar.specs.Paths.{Step}
 use Rattle.yq_inline.specs.Entries.{PlacedEntry, entry_place, content_place}
 use Rattle.yq_inline.specs.Places.{Placed}
 use Rattle.yq_rows.specs.Rows.{Row, Part, Cut}
-use Rattle.yq_rows.specs.View.{rows_of, Shown}
+use Rattle.yq_rows.specs.View.{rows_of}
 use Rattle.yq_documents.specs.Documents.{document_parts}
 use Rattle.yq_documents.specs.declared.path.Path.{Path}
 use Rattle.yq_documents.specs.Located.{steps_of}
 use Rattle.yq_tree.specs.EntryReading.{line_entry, line_content, entry_from, content_from, entry_of, content_of, entry_at, content_at, entry_within, HasFlows}
 use Rattle.yq_tree.specs.EntryReading.{line_entry_of, line_content_of, flow_entry_from, flow_entry_of, line_entry_at, line_content_at, flow_entry_at}
-use Rattle.yq_lines.specs.View.{flows, views}
 use Rattle.yq_lines.specs.Group.{group}
 use Rattle.yq_lines.specs.Places.{lines_before, Found, find}
 use Rattle.yq_documents.specs.Lines.{lines_of}
-use Rattle.yq_documents.specs.PartReading.{Lined}
-use Rattle.yq_documents.specs.Reading.{cut_of}
 use Rattle.yq_tree.specs.SeatReading.{Numbers, numbers}
 use Rattle.yq_documents.specs.Seats.{Seat, behind_one, seat, seat_of, seat_at, document_row}
-use Rattle.yq_lines.specs.Ends.{found_line, line_of, reached}
-use Rattle.yq_documents.specs.SoundReading.{Holds}
+use Rattle.yq_lines.specs.Ends.{found_line, reached}
 use Rattle.yq_tree.proofs.FlowPlaceLaws.{flow_told}
-use Rattle.yq_tree.proofs.HeldFlows.{held_flows}
-use Rattle.yq_tree.proofs.SeatLaws.{part_at}
 use Rattle.yq_lines.proofs.Values.{If}
-use Rattle.yq_documents.specs.declared.checks.DocumentLines.{DocumentLines}
 use Rattle.yq_tree.proofs.SeatedLaws.{get_drop, get_front}
 
 -- a line is one of its row, and that is one of the rows
@@ -56,16 +49,9 @@ pub row_there : (c : Cut) (rs more : List Row) (first n : ℕ) (s : Seat) → dr
 row_there c rs more first n s there e =
     sym (get_drop first (rows_of c) s.before) ∙ (ap (λ (xs : List Row). slice_get xs s.before) there ∙ get_front rs more s.before s.row (seat_is n rs s e).0)
 
--- a place in a document that is held
+-- a place in a text
 abbrev pub Place : Type 0
 Place = Option (ℕ × ℕ)
-
-pub held_in : {A : Type 0} (t : List ℕ) (s : Shown) (ds : List DocumentLines) (i : ℕ) (d : DocumentLines) (found : Option A) (place : ℕ → Cut → List Row → Option A) → Holds t s ds → slice_get ds i ≡ Some d →
-    ((k : ℕ) (c : Cut) (rs : List Row) → views d.lines ≡ lines_of rs → HasFlows k c rs (flows d.lines) → found ≡ place k c rs) → found ≡ (slice_get (document_parts (cut_of t)) i >>= λ p. place (document_row i (cut_of t)) (cut_of t) p.rows)
-held_in t s ds i d found place h there told =
-    let part = part_at ds (document_parts (cut_of t)) h.lined i d there in
-    told (document_row i (cut_of t)) (cut_of t) part.0.rows (ap (λ (x : Lined). x.1) part.2) (held_flows t s ds i d part.0 h there part.1)
-    ∙ sym (ap (λ (o : Option Part). o >>= λ p. place (document_row i (cut_of t)) (cut_of t) p.rows) part.1)
 
 -- where steps go on in the head of a line
 pub flow_left : (k : ℕ) (c : Cut) (rs : List Row) (fs : List (Option Placed)) (steps left : List Step) (n : ℕ) (found : Option PlacedEntry) → HasFlows k c rs fs → Some (n, left) ≡ reached steps (lines_of rs) → false ≡ eqb (length left) 0 →
@@ -157,12 +143,6 @@ seat_entry p c first x e = go (slice_get (document_parts c) p.doc) e
     go None e = refl
     go (Some d) e = line_entry_is k c d.rows (steps_of p) first x e
 
--- the place of the node of a line to which steps lead
-pub line_content_is : (k : ℕ) (c : Cut) (rs : List Row) (steps : List Step) (n : ℕ) → Some n ≡ line_of steps (lines_of rs) → line_content k c rs n ≡ content_of k c rs steps
-line_content_is k c rs [] n e = absurd (cc)
-line_content_is k c rs (s ∷ ss) n e = go (find s ss (group (lines_of rs))) e
-  where
-    go : (o : Option (Found × List Step)) → Some n ≡ option_and_then (λ (x : Found × List Step). found_line x.0 x.1) o → line_content k c rs n ≡ (by_line o >>= λ x. content_from k c rs x.0 x.1)
-    go None e = absurd (cc)
-    go (Some (f, [])) e = ap (line_content k c rs) (same_Some _ _ e)
-    go (Some (f, t ∷ ts)) e = absurd (cc)
+-- the place of the content that doesn't stand in flow
+pub content_here : (p : Path) (c : Cut) (x : ℕ × ℕ) → Some x ≡ line_content_at p c → Some x ≡ content_at p c
+content_here p c x e = ap (λ (o : Place). or_flow o (option_and_then (λ (e : PlacedEntry). content_place e.1) (flow_entry_at p c))) e ∙ sym (content_either p c)

@@ -1,21 +1,29 @@
 -- The aliases and flow collections that documents hold are those of their rows.
 use Rattle.std.proofs.Common.{◌≡◌, ◌⊎◌, inl, inr, ℕ, zero, suc, ◌+◌, ◌-◌, ◌<◌, ◌≤◌, List, [], ◌∷◌, ◌++◌, length, replicate, Option, Some, None, option_map, Bool, true, false, not, ◌||◌, refl, sym, ap, ◌∙◌, subst, arith}
 use Rattle.std.proofs.lemmas.Bool.{cases_lt, lt-ltb, le-ltb, cond-true, cond-false}
-use Rattle.std.proofs.lemmas.Option.{slice_get-map, same_Some}
+use Rattle.std.proofs.lemmas.Option.{none-some, slice_get-map, same_Some}
 use Rattle.std.specs.List.{slice_get}
+use Rattle.std.specs.Prelude.{IfSome}
 use Rattle.yq_inline.specs.Places.{Placed}
 use Rattle.yq_rows.specs.Exchange.{behind_at, behind_row}
 use Rattle.yq_rows.specs.Grammar.{begins_document}
 use Rattle.yq_rows.specs.Rows.{Row, rows_text, Part, Cut, last, marked, cut_text}
-use Rattle.yq_rows.specs.View.{Shown}
+use Rattle.yq_rows.specs.View.{Shown, shown}
+use Rattle.yq_scalar.specs.Answers.{◌>>=◌}
 use Rattle.yq_documents.specs.Documents.{parts_from, document_parts, begins_bare, has_begin}
 use Rattle.yq_tree.specs.EntryReading.{HasFlows}
 use Rattle.yq_documents.specs.FlowReading.{row_flow, rows_flows, cut_flows, lines_flows}
-use Rattle.yq_lines.specs.View.{flows}
+use Rattle.yq_lines.specs.View.{flows, views}
+use Rattle.yq_documents.specs.Lines.{lines_of}
+use Rattle.yq_documents.specs.PartReading.{Lined, lined, document_view}
 use Rattle.yq_documents.specs.Reading.{cut_of}
 use Rattle.yq_documents.specs.Seats.{Seat, behind_one, seat, rows_before, document_row}
 use Rattle.yq_documents.specs.SoundReading.{Holds}
 use Rattle.yq_documents.specs.declared.checks.DocumentLines.{DocumentLines}
+use Rattle.yq_tree.specs.RowWalk.{HasLines, HeldAs, IsKnown, document_rows, stretch_told}
+use Rattle.yq_tree.specs.declared.places.spot.Stretch.{Stretch}
+use Rattle.yq_tree.proofs.SeatLaws.{none_past, part_at}
+use Rattle.yq_tree.proofs.WalkDocuments.{Found, found_document}
 
 -- lists, one behind another
 get_back : {A : Type 0} (xs ys : List A) (n : ℕ) → length xs ≤ n → slice_get (xs ++ ys) n ≡ slice_get ys (n - length xs)
@@ -106,3 +114,35 @@ held_flows t s ds i d p h there at n q is mark =
     ap (λ (fs : List (Option Placed)). slice_get fs n) same
     ∙ (told.1
     ∙ λ j. Some (row_flow (length (h.cut.text j)) q.row (sym (o.behind q.before told.0) j)))
+
+-- a document of a text whose documents are held
+module _ (t : List ℕ) (held s : Shown) (ds : List DocumentLines) (i : ℕ) (d : Stretch) (h : Holds t held ds) (is : s ≡ shown (cut_of t)) (e : Some (stretch_told d) ≡ document_rows i (cut_of t)) (known : IfSome d.known (IsKnown (shown (cut_of t)).rows)) where
+  abbrev document : Found s (cut_of t) i d
+  document = found_document t s (cut_of t) i d h.cut is e known
+
+  pub held_within : i < length ds
+  held_within = go (cases_lt i (length ds))
+    where
+      go : (i < length ds) ⊎ (length ds ≤ i) → i < length ds
+      go (inl less) = less
+      go (inr past) = absurd (none-some _ (sym (none_past ds (document_parts (cut_of t)) h.lined i past) ∙ document.there))
+
+  module _ (x : DocumentLines) (there : slice_get ds i ≡ Some x) where
+    abbrev part : (p : Part) × (slice_get (document_parts (cut_of t)) i ≡ Some p) × (document_view x ≡ lined p)
+    part = part_at ds (document_parts (cut_of t)) h.lined i x there
+
+    rows : part.0.rows ≡ document.document.rows
+    rows = ap (λ (p : Part). p.rows) (same_Some _ _ (sym part.1 ∙ document.there)) ∙ sym document.rows
+
+    own : views x.lines ≡ lines_of document.document.rows
+    own = ap (λ (y : Lined). y.1) part.2 ∙ ap lines_of rows
+
+    pub held_lines : HasLines s d (views x.lines)
+    held_lines = record { document = document.document; lines = own }
+
+    pub held_in : {A : Type 0} (found : Option A) (place : ℕ → Cut → List Row → Option A) → HeldAs s d (views x.lines) (flows x.lines) (λ k c rs. found ≡ place k c rs) →
+        found ≡ (slice_get (document_parts (cut_of t)) i >>= λ p. place (document_row i (cut_of t)) (cut_of t) p.rows)
+    held_in found place told =
+        told (document_row i (cut_of t)) (cut_of t) document.document own (subst (λ (rs : List Row). HasFlows (document_row i (cut_of t)) (cut_of t) rs (flows x.lines)) rows (held_flows t held ds i x part.0 h there part.1))
+        ∙ (ap (place (document_row i (cut_of t)) (cut_of t)) (sym rows)
+        ∙ sym (ap (λ (o : Option Part). o >>= λ p. place (document_row i (cut_of t)) (cut_of t) p.rows) part.1))

@@ -83,6 +83,7 @@ pub mod SeenLaws
 pub mod NodePlaceLaws
 pub mod RowHeads
 pub mod NodeAtLaws
+pub mod KeptLines
 pub mod LastBreakLaws
 pub mod ContentEndLaws
 pub mod EndedLines
@@ -94,3 +95,6 @@ pub mod FlowNodeLaws
 pub mod MarkLaws
 pub mod DashLaws
 pub mod ScalarPlaceLaws
+pub mod KnownLaws
+pub mod KnownWalks
+pub mod KnownFronts

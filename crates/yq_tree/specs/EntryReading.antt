@@ -15,7 +15,6 @@ use Rattle.yq_documents.specs.Documents.{document_parts}
 use Rattle.yq_tree.specs.Extents.{head_place}
 use Rattle.yq_documents.specs.Lines.{tail_of, lines_of}
 use Rattle.yq_documents.specs.Located.{steps_of}
-use Rattle.yq_lines.specs.Outline.{Line}
 use Rattle.yq_lines.specs.Ends.{line_of, reached, lines_end}
 use Rattle.yq_documents.specs.Seats.{seat, document_row, Seat}
 use Rattle.yq_lines.specs.Spots.{is_bare}
@@ -158,7 +157,3 @@ entry_within steps flow = flow >>= λ p. placed_entry_at steps (None, p)
 -- line by line, these are the aliases and flow collections in the heads of rows, before which k rows of a cut stand
 abbrev pub HasFlows : ℕ → Cut → List Row → List (Option Placed) → Type 0
 HasFlows k c rs fs = (n : ℕ) (s : Seat) → seat n rs ≡ Some s → s.line ≡ length s.row.dashes → slice_get fs n ≡ Some (row_flow (length (cut_text c)) s.row (behind_row (k + s.before) c))
-
--- What is said of lines and what stands in flow in them is so of the rows of which they are, among those of a cut.
-abbrev pub HeldAs : List Line → List (Option Placed) → (ℕ → Cut → List Row → Type 0) → Type 0
-HeldAs ls fs said = (k : ℕ) (c : Cut) (rs : List Row) → ls ≡ lines_of rs → HasFlows k c rs fs → said k c rs

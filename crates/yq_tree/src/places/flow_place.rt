@@ -1,17 +1,42 @@
 //! Where items and entries stand in flow collections, and their contents.
-ghost use Rattle.std.specs.Prelude.{◌≡◌, ◌<◌, length, map, option_map, slice_get, Option, Some};
+ghost use Rattle.std.specs.Prelude.{◌≡◌, map, option_map, slice_get, Some};
 ghost use Rattle.yq_inline.specs.Entries.{content_place, entry_place, entry_view, step_of};
-ghost use Rattle.yq_inline.specs.Places.{Placed};
 ghost use Rattle.yq_tree.specs.EntryReading as spec;
-ghost use Rattle.yq_tree.specs.EntryReading.{HeldAs};
+ghost use Rattle.yq_tree.specs.Extents.{IsShown};
+ghost use Rattle.yq_tree.specs.RowWalk.{HasDocument, HasLines, HeldAs, IsLine, line_number};
+ghost use Rattle.yq_documents.specs.Lines.{lines_of};
 ghost use Rattle.yq_documents.specs.Pieces.{span};
 ghost use Rattle.yq_documents.specs.Reading.{cut_of};
 ghost use Rattle.yq_lines.specs.View.{flows, head_flow, views};
 
 use crate::document::Documents;
+use crate::places::extent::lines_before_mark;
+use crate::places::spot::{Spot, Stretch};
+use crate::places::spot_reach::reach;
 use yq_documents::{Path, Span};
 use yq_inline::{Entry, Step};
-use yq_lines::{Head, Line, Lined};
+use yq_lines::{Head, Line};
+use yq_rows::Rows;
+
+/// The line of a document at a spot, of those that are kept.
+fn line_kept<'d, 't>(
+    rows: &Rows<'_>,
+    document: Stretch,
+    lines: &'d [Line<'t>],
+    at: Spot,
+) -> &'d Line<'t>
+    requires lines { HasLines rows.now document (views lines.now) }
+    requires at { IsLine rows.now document at }
+    ensures { (h : HasDocument rows.now document) → views lines.now ≡ lines_of h.rows →
+        slice_get (flows lines.now) (line_number document h.rows at) ≡ Some (head_flow result.now.head) }
+{
+    let mut count = 0;
+    'rows: for row in document.first..at.row {
+        let dashes = lines_before_mark(&rows.row(row));
+        count = count + dashes + 1;
+    }
+    &lines[count + at.line]
+}
 
 /// The item or entry to which steps lead in a head.
 fn head_entry<'d, 't>(head: &'d Head<'t>, steps: &[Step]) -> Option<Entry<'d, 't>>
@@ -22,16 +47,6 @@ fn head_entry<'d, 't>(head: &'d Head<'t>, steps: &[Step]) -> Option<Entry<'d, 't
         Head::Scalar(..) => None,
         Head::Inline(node) => node.entry(steps),
     }
-}
-
-/// The item or entry to which steps lead in the head of line `at`.
-fn line_entry<'d, 't>(lines: &'d [Line<'t>], at: usize, steps: &[Step]) -> Option<Entry<'d, 't>>
-    requires { at < length lines.now }
-    ensures { (f : Option Placed) → slice_get (flows lines.now) at ≡ Some f →
-        option_map entry_view result ≡ spec.entry_within (map step_of steps.now) f }
-{
-    let line = &lines[at];
-    head_entry(&line.head, steps)
 }
 
 /// The place of an item or entry in a flow collection.
@@ -51,17 +66,24 @@ pub(crate) fn content_span(entry: &Entry<'_, '_>) -> Option<Span>
 }
 
 /// The item or entry of a flow collection to which steps lead, if they lead to one.
-fn flow_entry<'d, 't>(lines: &'d Lined<'t>, steps: &[Step]) -> Option<Entry<'d, 't>>
-    ensures { HeldAs (views lines.now) (flows lines.now)
+fn flow_entry<'d, 't>(
+    rows: &Rows<'_>,
+    document: Stretch,
+    lines: &'d [Line<'t>],
+    steps: &[Step],
+) -> Option<Entry<'d, 't>>
+    requires shown { IsShown rows.now }
+    requires lines { HasLines rows.now document (views lines.now) }
+    ensures { HeldAs rows.now document (views lines.now) (flows lines.now)
         (λ k c rs. option_map entry_view result ≡
         spec.flow_entry_of k c rs (map step_of steps.now)) }
 {
-    let (line, left) = lines.reach(steps)?;
+    let (at, left) = reach(rows, document, steps)?;
     if left.is_empty() {
-        None
-    } else {
-        line_entry(lines.lines(), line, left)
+        return None;
     }
+    let line = line_kept(rows, document, lines, at);
+    head_entry(&line.head, left)
 }
 
 impl<'t> Documents<'t> {
@@ -69,9 +91,10 @@ impl<'t> Documents<'t> {
     pub(crate) fn flow_entry(&self, path: &Path) -> Option<Entry<'_, 't>>
         ensures { option_map entry_view result ≡ spec.flow_entry_at path.now (cut_of self.now) }
     {
-        if path.doc >= self.documents.len() {
-            return None;
-        }
-        flow_entry(&self.documents[path.doc].lines, &path.steps)
+        let cut = self.cut();
+        let _whole = cut.whole();
+        let document = cut.stretch(path.doc)?;
+        let lines = self.documents[path.doc].lines.lines();
+        flow_entry(cut.rows(), document, lines, &path.steps)
     }
 }

@@ -3,42 +3,45 @@ ghost use Rattle.std.specs.Prelude.{◌≡◌, ◌&&◌, is_some, nat_eq};
 ghost use Rattle.yq_lines.specs.Outline as outline;
 ghost use Rattle.yq_lines.specs.Spots as spots;
 ghost use Rattle.yq_scalar.specs.Paths as steps;
+ghost use Rattle.yq_tree.specs.Extents.{IsShown};
 ghost use Rattle.yq_tree.specs.RowWalk.{HasDocument, IsLine, OfLine};
 
 use crate::places::extent::lines_before_mark;
-use crate::places::spot::{Spot, Stretch, line_rank};
+use crate::places::spot::{Spot, Stretch, rank_at};
 use crate::places::written_key::is_written;
 use yq_rows::Rows;
 
 /// Whether a line is a node itself.
 pub(crate) fn is_bare(rows: &Rows<'_>, document: Stretch, spot: Spot) -> bool
+    requires shown { IsShown rows.now }
     requires document { HasDocument rows.now document }
     requires spot { IsLine rows.now document spot }
     ensures { OfLine rows.now document spot (λ l. result ≡ spots.is_bare l.mark) }
 {
-    line_rank(&rows.row(spot.row), spot.line) == 1
+    rank_at(rows, spot) == 1
 }
 
 /// Whether a line is the item of an index, counted from this line.
 pub(crate) fn is_item_at(rows: &Rows<'_>, document: Stretch, spot: Spot, index: usize) -> bool
+    requires shown { IsShown rows.now }
     requires document { HasDocument rows.now document }
     requires spot { IsLine rows.now document spot }
     ensures { OfLine rows.now document spot (λ l. result ≡ (nat_eq index 0 && steps.is_item (outline.key_of l.mark))) }
 {
-    index == 0 && line_rank(&rows.row(spot.row), spot.line) != 2
+    index == 0 && rank_at(rows, spot) != 2
 }
 
 /// Whether a line is the entry of a key.
 pub(crate) fn is_key(rows: &Rows<'_>, document: Stretch, spot: Spot, key: &str) -> bool
+    requires shown { IsShown rows.now }
     requires document { HasDocument rows.now document }
     requires spot { IsLine rows.now document spot }
     ensures { OfLine rows.now document spot (λ l. result ≡ steps.key_is key.now (outline.key_of l.mark)) }
 {
-    let row = rows.row(spot.row);
-    if line_rank(&row, spot.line) != 2 {
+    if rank_at(rows, spot) != 2 {
         return false;
     }
-    is_written(row.key(), key)
+    is_written(rows.key(spot.row), key)
 }
 
 /// Whether a line has a head.

@@ -1,5 +1,4 @@
-use Rattle.std.proofs.Common.{◌≡◌, ◌≤◌, ◌∙◌, ◌++◌, ◌∷◌, [], List, ap, sym, subst, arith}
-use Rattle.std.specs.List.{All}
+use Rattle.std.proofs.Common.{◌≡◌, ◌∙◌, ◌++◌, ◌∷◌, [], List, ap, sym, arith}
 use Rattle.yq_rows.specs.Kept.{both_sides}
 use Rattle.yq_rows.specs.declared.offsets.Offsets as declared
 use Rattle.yq_session.proofs.GapLaws.{all_popped, passed_behind, popped}

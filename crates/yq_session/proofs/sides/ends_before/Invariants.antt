@@ -1,4 +1,4 @@
-use Rattle.std.proofs.Common.{◌≡◌, ◌+◌, ◌≤◌, length}
+use Rattle.std.proofs.Common.{◌≡◌, ◌+◌, length}
 use Rattle.yq_session.specs.Sides.{ends_before}
 use Rattle.yq_session.proofs.sides.ends_before.Given as goal
 

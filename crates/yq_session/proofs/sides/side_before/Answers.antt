@@ -1,8 +1,5 @@
-use Rattle.std.proofs.Common.{◌≡◌, ◌-◌, ◌<◌, ℕ, List, length, get_or, ap, sym, subst, ◌∙◌, arith}
-use Rattle.yq_rows.specs.declared.ends.EndPlace.{EndPlace}
-use Rattle.yq_rows.specs.declared.offsets.Offsets as declared
-use Rattle.yq_session.specs.Sides.{ends_before, side_of}
-use Rattle.yq_session.specs.declared.sides.Side.{Side}
+use Rattle.std.proofs.Common.{◌-◌, ℕ, ap, ◌∙◌, arith}
+use Rattle.yq_session.specs.Sides.{ends_before}
 use Rattle.yq_session.proofs.SideLaws.{NoEndBehind, before_end, before_none, before_row}
 use Rattle.yq_session.proofs.sides.side_before.Goals.{then-ends-gt0+else-end-rows, else-ends-gt0}
 use Rattle.yq_session.proofs.sides.side_before.Goals as goal

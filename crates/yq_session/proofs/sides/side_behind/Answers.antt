@@ -1,5 +1,4 @@
-use Rattle.std.proofs.Common.{◌≡◌, inl, inr, ◌+◌, ◌-◌, min, ℕ, List, length, reverse, ap, subst, ◌∙◌, arith}
-use Rattle.yq_rows.specs.declared.ends.EndPlace.{EndPlace}
+use Rattle.std.proofs.Common.{◌≡◌, inl, inr, ◌+◌, ◌-◌, ℕ, List, length, reverse, ap, subst, ◌∙◌, arith}
 use Rattle.yq_rows.specs.declared.offsets.Offsets as declared
 use Rattle.yq_session.specs.Sides.{IsGapAt, ends_before, nearer, not_in_back, side_of, text_length}
 use Rattle.yq_session.specs.declared.sides.Side.{Side}
@@ -20,5 +19,6 @@ returns c xs at placed gap apart long =
     let by_rows : ByRows p len rows c.if-rows-gt0.bytes = elim c.if-rows-gt0.branch [ then-rows-gt0 w ↦ inr (w.index.result.now, omega arith, w.index.ensures, omega arith) | else-rows-gt0 w ↦ inl (omega arith, omega arith) ] in
     let by_ends : ByEnds p ends c.if-rows-gt0.bytes c.if-ends-len.bytes = elim c.if-ends-len.branch [ then-ends-len w ↦ inr (w.index-then-ends-len.result.now, omega arith, w.index-then-ends-len.ensures, omega arith) | else-ends-len w ↦ inl (omega arith, omega arith) ] in
     let first : c.len-2.result + (c.len-3.result - rows) ≡ length p.front.items + (length p.behind.items - rows) = omega arith in
-    ap (λ (n : ℕ). record { rows = n; ends = ends; bytes = c.if-ends-len.bytes }) first
-    ∙ behind_is p xs at back rows ends c.if-rows-gt0.bytes c.if-ends-len.bytes placed (subst (λ (n : ℕ). IsGapAt at n p) long gap) (omega arith) many count by_rows by_ends
+    let side : Side = record { rows = length p.front.items + (length p.behind.items - rows); ends = ends; bytes = c.if-ends-len.bytes } in
+    let all : side ≡ side_of (not_in_back back xs) = behind_is p xs at back rows ends c.if-rows-gt0.bytes c.if-ends-len.bytes placed (subst (λ (n : ℕ). IsGapAt at n p) long gap) (omega arith) many count by_rows by_ends in
+    ap (λ (n : ℕ). record { rows = n; ends = ends; bytes = c.if-ends-len.bytes }) first ∙ all
