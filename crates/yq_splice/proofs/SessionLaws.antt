@@ -112,10 +112,6 @@ not_opened (reading.Fault fault) bytes t same utf8 h = let k = text_unread bytes
 
 -- ---- places
 
--- those of a text that was read
-pub places_read : (t d : List ℕ) (p : Places) (s : Shown) → read_at t ≡ Some (cut_of d) → s ≡ shown (cut_of d) → IsPlaced p s → HasPlaces t p
-places_read t d p s is shows placed = record { cut = cut_of d; read = is; placed = subst (IsPlaced p) shows placed }
-
 -- those that are lent on the text, and the rows there
 pub places_lent : (t u : List ℕ) (p q : Places) → u ≡ t → q ≡ p → HasPlaces t p → (c : Cut) × IsCut u c × IsPlaced q (shown c)
 places_lent t u p q text same h = (h.cut, subst (λ (x : List ℕ). IsCut x h.cut) (sym text) (cut_read t h.cut h.read), subst (λ (x : Places). IsPlaced x (shown h.cut)) (sym same) h.placed)
@@ -243,10 +239,10 @@ module _ (op : Operation) (t new : List ℕ) (cs : List Splice) (operand : HasOp
         small = omega (arith, a.reads.cut.size, ap length same);
       }
 
-      pub scans : (count before after : ℕ) → count ≡ before → CountsWritten p u kept count after → Scans op t new before after
+      pub scans : (count before after : ℕ) → count ≡ before → CountsWritten u kept count after → Scans op t new before after
       scans count before after is counts =
           let exact : after ≡ counted (line_count (items_text touches.written [])) before =
-          counts c new_cut (cut_read (cut_text c) c again) h.placed (own_cut new_cut a.reads.cut) told.0
+          counts c new_cut (own_cut new_cut a.reads.cut) told.0
           ∙ (λ i. counted (line_count (items_text (told.1 i) [])) (is i)) in
           inr (record {
             cut = c;
