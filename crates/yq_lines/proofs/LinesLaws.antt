@@ -16,7 +16,7 @@ use Rattle.yq_lines.proofs.NameLaws.{names_lines}
 use Rattle.yq_lines.proofs.NodeLaws.{anchored_none}
 use Rattle.yq_lines.proofs.Values.{rank_small}
 
-above : (l : Line) → 0 < level l
+pub above : (l : Line) → 0 < level l
 unfolding level
 above l = omega (arith, rank_small l.mark)
 

@@ -1,5 +1,5 @@
 -- Reading (own; a reader may skip it: the grammar is what is believed, and the clauses `found` and `only` tie the two): where a step leads among lines, by their indexes.
-use Rattle.std.specs.Prelude.{ℕ, ◌+◌, List, [], ◌∷◌, length, map, slice_get, Option, Some, None, option_map, option_and_then, Bool, true, false}
+use Rattle.std.specs.Prelude.{ℕ, ◌+◌, List, [], ◌∷◌, length, slice_get, Option, Some, None, option_map, option_and_then, Bool, true, false}
 use Rattle.yq_scalar.specs.Paths.{Step}
 use Rattle.yq_scalar.specs.Tree.{Node}
 use Rattle.yq_lines.specs.Ends.{part}

@@ -1,18 +1,25 @@
--- Ends of parts at their distance from the beginning of a text, as they are read.
-use Rattle.std.proofs.Common.{◌≡◌, ℕ, suc, ◌+◌, ◌-◌, Bool, true, List, [], ◌∷◌, ◌++◌, length, Option, Some, None, refl, sym, ap, ◌∙◌, arith, append_assoc, length-append}
+-- Ends of parts at their distance from the beginning of a text, as they are read, and each by its index.
+use Rattle.std.proofs.Common.{◌≡◌, ℕ, zero, suc, ◌+◌, ◌-◌, ◌≤◌, Bool, true, List, [], ◌∷◌, ◌++◌, length, take, get_or, Option, Some, None, refl, sym, ap, ◌∙◌, arith, append_assoc, length-append}
+use Rattle.std.proofs.lemmas.List.Sums.{sum_by-cons}
+use Rattle.std.proofs.lemmas.Option.{same_Some, slice_get_read, slice_get_within}
+use Rattle.std.specs.List.{slice_get, sum_by}
 use Rattle.yq_scalar.specs.Answers.{◌>>=◌}
 use Rattle.yq_scalar.specs.Text.{is_empty}
 use Rattle.yq_rows.specs.Ends.{end_at}
 use Rattle.yq_rows.specs.Grammar.{begins_document}
-use Rattle.yq_rows.specs.Items.{Item, end_item, rows_items, items_of}
-use Rattle.yq_rows.specs.Kept.{ends_near, ends_placed}
-use Rattle.yq_rows.specs.Offsets.{Ends}
+use Rattle.yq_rows.specs.Items.{Item, row_item, end_item, rows_items, items_of, rows_in_items, bounds_in_items, shown_items}
+use Rattle.yq_rows.specs.Kept.{ends_near, ends_placed, AreNear}
+use Rattle.yq_rows.specs.Offsets.{Ends, row_length}
+use Rattle.yq_rows.specs.RowStarts.{bound_length, part_end}
+use Rattle.yq_rows.specs.View.{Bound, Shown, slices}
 use Rattle.yq_rows.specs.Reading.{part_at, all_parts}
 use Rattle.yq_rows.specs.Rows.{Row, print_row, rows_text, Part, Cut, marked}
 use Rattle.yq_rows.specs.declared.ends.EndPlace.{EndPlace}
+use Rattle.yq_rows.specs.declared.offsets.Offsets.{Offsets}
 use Rattle.yq_rows.proofs.KeptLaws.{print_then}
 use Rattle.yq_rows.proofs.NearLaws.{ReadMarked, next_place, part_apart}
 use Rattle.yq_rows.proofs.PartsLaws.{parts_last, parts_marked, part_takes}
+use Rattle.yq_rows.proofs.SliceLaws.{print-length}
 
 -- the end of a part, behind its rows
 ends_part : (n k : ℕ) (rs : List Row) (end marker : List ℕ) (xs : List Item) →
@@ -90,3 +97,40 @@ ends_placed_step es items e whole started t after marker next k j all m kept pus
     ∙ (ap (λ (l : List EndPlace). ends_placed l (n + length (rows_text p.rows (p.end ++ marker))) (k + length p.rows) (all_parts (begins_document marker) next)) (pushed ∙ ap (λ (x : EndPlace). es ++ x ∷ []) own)
     ∙ (sym (marked_ends es n k p marker (all_parts (begins_document marker) next))
     ∙ (sym (ap (ends_placed es n k) (parts_marked started t (p, after) (marker, next) m.read m.some m.line)) ∙ so_far))))
+
+-- an end by its index
+abbrev end_in : ℕ → ℕ → ℕ → Bound → List Item → ℕ
+end_in n k i b xs = n + (sum_by row_length (take (b.rows - k) (rows_in_items xs)) + sum_by bound_length (take i (bounds_in_items k xs)))
+
+bound_least : (xs : List Item) (k i : ℕ) (b : Bound) → slice_get (bounds_in_items k xs) i ≡ Some b → k ≤ b.rows
+bound_least [] k i b h = cc
+bound_least (row_item r ∷ xs) k i b h = omega (arith, bound_least xs (k + 1) i b h)
+bound_least (end_item gap marker ∷ xs) k zero b h = omega (arith, ap (λ (x : Bound). x.rows) (same_Some _ _ h))
+bound_least (end_item gap marker ∷ xs) k (suc i) b h = bound_least xs k i b h
+
+ends_at : (xs : List Item) (n k i : ℕ) (b : Bound) → slice_get (bounds_in_items k xs) i ≡ Some b → slice_get (ends_near n k xs) i ≡ Some (end_at (end_in n k i b xs) b.rows b.end b.marker)
+ends_at [] n k i b h = cc
+ends_at (row_item r ∷ xs) n k i b h =
+    let index : b.rows - k ≡ suc (b.rows - (k + 1)) = omega (arith, bound_least xs (k + 1) i b h) in
+    let rows = ap (λ (j : ℕ). sum_by row_length (take j (slices r ∷ rows_in_items xs))) index in
+    let first = sum_by-cons row_length (slices r) (take (b.rows - (k + 1)) (rows_in_items xs)) in
+    let place : end_in (n + length (print_row r [])) (k + 1) i b xs ≡ end_in n k i b (row_item r ∷ xs) = omega (arith, print-length r [], first, rows) in
+    ends_at xs (n + length (print_row r [])) (k + 1) i b h ∙ ap (λ (m : ℕ). Some (end_at m b.rows b.end b.marker)) place
+ends_at (end_item gap marker ∷ xs) n k zero b h =
+    let same : record { rows = k; end = gap; marker = marker } ≡ b = same_Some _ _ h in
+    let none : b.rows - k ≡ 0 = omega (arith, ap (λ (x : Bound). x.rows) same) in
+    let place : n ≡ end_in n k 0 b (end_item gap marker ∷ xs) = omega (arith, ap (λ (j : ℕ). sum_by row_length (take j (rows_in_items xs))) none) in
+    ap (λ (x : Bound). Some (end_at n x.rows x.end x.marker)) same ∙ ap (λ (m : ℕ). Some (end_at m b.rows b.end b.marker)) place
+ends_at (end_item gap marker ∷ xs) n k (suc i) b h =
+    let first = sum_by-cons bound_length (record { rows = k; end = gap; marker = marker }) (take i (bounds_in_items k xs)) in
+    let place : end_in (n + length (gap ++ marker)) k i b xs ≡ end_in n k (suc i) b (end_item gap marker ∷ xs) = omega (arith, first, length-append gap marker) in
+    ends_at xs (n + length (gap ++ marker)) k i b h ∙ ap (λ (m : ℕ). Some (end_at m b.rows b.end b.marker)) place
+
+pub part_ends : (t : List ℕ) (os : List Offsets) (es : List EndPlace) (v : Shown) (i : ℕ) (b : Bound) (e : EndPlace) → AreNear t os es v → slice_get v.bounds i ≡ Some b → e ≡ get_or es i e → e.start + e.gap ≡ part_end i b v
+part_ends t os es v i b e h there is =
+    let at : slice_get (bounds_in_items 0 h.items) i ≡ Some b = sym (ap (λ (x : Shown). slice_get x.bounds i) h.shown_is) ∙ there in
+    let near : slice_get es i ≡ Some (end_at (end_in 0 0 i b h.items) b.rows b.end b.marker) = ap (λ (l : List EndPlace). slice_get l i) h.ends_is ∙ ends_at h.items 0 0 i b at in
+    let own : e ≡ end_at (end_in 0 0 i b h.items) b.rows b.end b.marker = same_Some _ _ (sym (slice_get_read es (length es) i e refl (slice_get_within es i _ near) is) ∙ near) in
+    let none : b.rows - 0 ≡ b.rows = omega arith in
+    let place : end_in 0 0 i b h.items + length b.end ≡ part_end i b (shown_items h.items) = omega (arith, ap (λ (j : ℕ). sum_by row_length (take j (rows_in_items h.items))) none) in
+    ap (λ (x : EndPlace). x.start + x.gap) own ∙ (place ∙ ap (part_end i b) (sym h.shown_is))

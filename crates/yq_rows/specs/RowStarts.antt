@@ -17,6 +17,10 @@ passed_length i b = if nat_le b.rows i then bound_length b else 0
 abbrev pub row_start : ℕ → Shown → ℕ
 row_start i s = sum_by row_length (take i s.rows) + sum_by (passed_length i) s.bounds
 
+-- how long the pieces of the rows and the ends of the parts before the end of part i are, with its own gap (own)
+abbrev pub part_end : ℕ → Bound → Shown → ℕ
+part_end i b s = sum_by row_length (take b.rows s.rows) + sum_by bound_length (take i s.bounds) + length b.end
+
 -- how deep a row begins: three for each column, and 3 for a dash, 2 for a key, or 1 for a node itself (YAML 1.2.2, section 8.2.3; own)
 abbrev pub row_level : Slices → ℕ
 row_level s = 3 * s.column + (if is_empty s.dashes then (if is_empty s.colon then 1 else 2) else 3)

@@ -1,5 +1,5 @@
 //! Where the parts of a text end in it.
-ghost use Rattle.std.specs.Prelude.{◌≡◌, ◌<◌, ◌-◌, ◌^◌, ◌++◌, length};
+ghost use Rattle.std.specs.Prelude.{◌≡◌, ◌<◌, ◌+◌, ◌-◌, ◌^◌, ◌++◌, length};
 ghost use Rattle.yq_rows.specs.Ends as spec;
 ghost use Rattle.yq_rows.specs.Kept.{moved};
 ghost use Rattle.yq_rows.specs.Offsets.{Ends};
@@ -34,6 +34,13 @@ impl EndPlace {
         ensures { result ≡ self.start }
     {
         self.start as usize
+    }
+
+    /// How many bytes stand before what is behind its gap.
+    pub(crate) fn stop(self) -> usize
+        ensures { result ≡ self.start + self.gap }
+    {
+        self.start as usize + self.gap as usize
     }
 
     /// The same end where so many rows and so many bytes stand before it.

@@ -142,12 +142,11 @@ module _ (c : Cut) (p : Part) (more : List Row) (k : ℕ) (before behind : List 
 
   entry_column : (f : Found) (n m : ℕ) (l : PrintedLine) (e : BlockEntry) → IsEntryAt c p more k before behind there placed_in told text fine f n m l e → under_column (lines_of p.rows) n ≡ column_at (end_of_entry e)
   entry_column f n m l e h =
-      let next : n + 1 ≡ suc n = omega arith in
-      let under : lines_column (lines_of p.rows) (n + 1) (lines_end n (lines_of p.rows)) ≡ column_at (end_of_lines (e.before ++ print_line e.line []) e.under e.behind) =
-      (λ i. lines_column (lines_of p.rows) (next i) (h.ends i))
+      let under : lines_column (lines_of p.rows) (suc n) (lines_end n (lines_of p.rows)) ≡ column_at (end_of_lines (e.before ++ print_line e.line []) e.under e.behind) =
+      ap (lines_column (lines_of p.rows) (suc n)) h.ends
       ∙ (block_column (suc n) m (e.before ++ print_line e.line []) e.behind h.fits ∙ ap (λ ls. column_at (end_of_lines (e.before ++ print_line e.line []) ls e.behind)) (sym h.under_is)) in
-      ap (λ (o : Option Line). o >>= λ y. cond (is_some y.head) None (lines_column (lines_of p.rows) (n + 1) (lines_end n (lines_of p.rows)))) (line_at n l h.line)
-      ∙ (ap (λ (y : PrintedLine). cond (is_some y.line.head) None (lines_column (lines_of p.rows) (n + 1) (lines_end n (lines_of p.rows)))) (sym h.line_in_it) ∙ go (is_some e.line.line.head) _ _ under)
+      ap (λ (o : Option Line). o >>= λ y. cond (is_some y.head) None (lines_column (lines_of p.rows) (suc n) (lines_end n (lines_of p.rows)))) (line_at n l h.line)
+      ∙ (ap (λ (y : PrintedLine). cond (is_some y.line.head) None (lines_column (lines_of p.rows) (suc n) (lines_end n (lines_of p.rows)))) (sym h.line_in_it) ∙ go (is_some e.line.line.head) _ _ under)
     where
       go : (b : Bool) (o : Option ℕ) (y : Option CollectionEnd) → o ≡ column_at y → cond b None o ≡ column_at (cond b None y)
       go true o y is = refl

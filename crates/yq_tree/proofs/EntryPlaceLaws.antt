@@ -19,7 +19,7 @@ use Rattle.yq_lines.specs.Places.{lines_before, Found, find}
 use Rattle.yq_documents.specs.Lines.{lines_of}
 use Rattle.yq_tree.specs.SeatReading.{Numbers, numbers}
 use Rattle.yq_documents.specs.Seats.{Seat, behind_one, seat, seat_of, seat_at, document_row}
-use Rattle.yq_lines.specs.Ends.{found_line, line_of, reached}
+use Rattle.yq_lines.specs.Ends.{found_line, reached}
 use Rattle.yq_tree.proofs.FlowPlaceLaws.{flow_told}
 use Rattle.yq_lines.proofs.Values.{If}
 use Rattle.yq_tree.proofs.SeatedLaws.{get_drop, get_front}
@@ -143,12 +143,6 @@ seat_entry p c first x e = go (slice_get (document_parts c) p.doc) e
     go None e = refl
     go (Some d) e = line_entry_is k c d.rows (steps_of p) first x e
 
--- the place of the node of a line to which steps lead
-pub line_content_is : (k : ℕ) (c : Cut) (rs : List Row) (steps : List Step) (n : ℕ) → Some n ≡ line_of steps (lines_of rs) → line_content k c rs n ≡ content_of k c rs steps
-line_content_is k c rs [] n e = absurd (cc)
-line_content_is k c rs (s ∷ ss) n e = go (find s ss (group (lines_of rs))) e
-  where
-    go : (o : Option (Found × List Step)) → Some n ≡ option_and_then (λ (x : Found × List Step). found_line x.0 x.1) o → line_content k c rs n ≡ (by_line o >>= λ x. content_from k c rs x.0 x.1)
-    go None e = absurd (cc)
-    go (Some (f, [])) e = ap (line_content k c rs) (same_Some _ _ e)
-    go (Some (f, t ∷ ts)) e = absurd (cc)
+-- the place of the content that doesn't stand in flow
+pub content_here : (p : Path) (c : Cut) (x : ℕ × ℕ) → Some x ≡ line_content_at p c → Some x ≡ content_at p c
+content_here p c x e = ap (λ (o : Place). or_flow o (option_and_then (λ (e : PlacedEntry). content_place e.1) (flow_entry_at p c))) e ∙ sym (content_either p c)

@@ -1,5 +1,5 @@
 -- The lines that are kept of a document, counted by its rows.
-use Rattle.std.proofs.Common.{◌≡◌, ℕ, ◌+◌, ◌-◌, ◌<◌, ◌≤◌, List, length, take, get_or, Some, option_map, refl, sym, ap, ◌∙◌, arith}
+use Rattle.std.proofs.Common.{◌≡◌, ℕ, ◌+◌, ◌-◌, ◌<◌, ◌≤◌, List, length, take, get_or, Some, option_map, refl, ap, ◌∙◌, arith}
 use Rattle.std.proofs.lemmas.Option.{slice_get-map, slice_get_read, slice_get_within}
 use Rattle.std.specs.List.{slice_get}
 use Rattle.yq_lines.specs.View.{flows, head_flow, views}
@@ -8,7 +8,7 @@ use Rattle.yq_lines.proofs.EndsLaws.{views-length}
 use Rattle.yq_rows.specs.View.{Slices, Shown}
 use Rattle.yq_documents.specs.Lines.{lines_of}
 use Rattle.yq_tree.specs.Extents.{lines_before_mark}
-use Rattle.yq_tree.specs.RowWalk.{HasDocument, HasLines, IsLine, line_number}
+use Rattle.yq_tree.specs.RowWalk.{HasDocument, IsLine, line_number}
 use Rattle.yq_tree.specs.declared.places.spot.Spot.{Spot}
 use Rattle.yq_tree.specs.declared.places.spot.Stretch.{Stretch}
 use Rattle.yq_tree.proofs.WalkSpots.{located, next_row}

@@ -2,7 +2,7 @@
 use Rattle.std.proofs.Common.{◌≡◌, ◌⊎◌, inl, inr, ℕ, zero, suc, ◌+◌, ◌-◌, ◌<◌, ◌≤◌, leb, List, [], ◌∷◌, ◌++◌, length, map, take, replicate, Some, option_map, Bool, true, false, cond, refl, sym, ap, ◌∙◌, arith, length-append}
 use Rattle.std.proofs.lemmas.Bool.{cases_lt, lt-ltb, le-ltb, le-leb, lt-leb, cond-true, cond-false}
 use Rattle.std.proofs.lemmas.List.{length-replicate, length-map, map-append, take-append-le}
-use Rattle.std.proofs.lemmas.List.Sums.{sum_by-cons, sum_by-append, sum_by_more, sum_by_more_le, sum_by-le-sum_by}
+use Rattle.std.proofs.lemmas.List.Sums.{sum_by-cons, sum_by-append, sum_by_more_le, sum_by-le-sum_by}
 use Rattle.std.proofs.lemmas.Option.{get_or_from_slice_get, slice_get_within, slice_get-map, same_Some}
 use Rattle.std.specs.List.{slice_get, sum_by}
 use Rattle.yq_scalar.specs.Characters.{text_limit}
@@ -160,17 +160,6 @@ head_told s i start front head x there start_is front_is head_len c shown_is r i
     head_is c i r (start + front) (start + front + head) is
     (omega (arith, start_is, front_is, ap (row_start i) shown_is, ap front_length same))
     (omega (arith, head_len, ap (λ (y : Slices). length y.head) same))
-
--- one more row, and one more part
-pub rows_more : (s : Shown) (at : ℕ) (x : Slices) → slice_get s.rows at ≡ Some x →
-    (sum_by row_length (take (at + 1) s.rows) ≡ sum_by row_length (take at s.rows) + row_length x) × (sum_by row_length (take at s.rows) + row_length x ≤ shown_length s)
-rows_more s at x is =
-    let within = slice_get_within s.rows at x is in
-    let there = get_or_from_slice_get s.rows at x x is in
-    let most = sum_by_more_le row_length s.rows at x within in (
-      sum_by_more row_length s.rows at x within ∙ ap (λ y. sum_by row_length (take at s.rows) + row_length y) there,
-      omega (arith, ap row_length there, most),
-    )
 
 passed_less : (i : ℕ) (b : Bound) → passed_length i b ≤ bound_length b
 passed_less i b = go (leb b.rows i)

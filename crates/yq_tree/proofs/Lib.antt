@@ -95,3 +95,6 @@ pub mod FlowNodeLaws
 pub mod MarkLaws
 pub mod DashLaws
 pub mod ScalarPlaceLaws
+pub mod KnownLaws
+pub mod KnownWalks
+pub mod KnownFronts

@@ -107,10 +107,6 @@ pub lines_place : (n m floor : ℕ) (left : List Step) (l : Line) → left ≡ [
 lines_place n m floor left l none head next deep =
     (λ i. at_lines (next i) (deep i)) ∙ (ap (λ b. cond b (at_head n) (at_lines (n + 1) (level l))) head ∙ ap (λ ss. line_place n ss l) (sym none))
 
-pub steps_place : (n : ℕ) (left : List Step) (l : Line) → false ≡ eqb (length left) 0 → at_head n ≡ line_place n left l
-steps_place n [] l some = absurd (false≢true (some ∙ eq-eqb 0 0 refl))
-steps_place n (s ∷ ss) l some = refl
-
 pub placed_at : (ls : List Line) (steps left : List Step) (n : ℕ) (l : Line) (p : NodePlace) → Some (n, left) ≡ reached steps ls → slice_get ls n ≡ Some l → p ≡ line_place n left l → Some (p, left) ≡ node_place steps ls
 placed_at ls [] left n l p e is place = absurd (cc)
 placed_at ls (s ∷ ss) left n l p e is place =

@@ -3,19 +3,18 @@ use Rattle.std.proofs.Common.{◌≡◌, ℕ, zero, suc, ◌+◌, ◌-◌, ◌<�
 use Rattle.std.proofs.Math.Seq.{drop-append_seam, take-append_seam, take-append-add}
 use Rattle.std.proofs.lemmas.Bool.{false≢true, eq-eqb, eqb-true, cond-true, cond-false}
 use Rattle.std.proofs.lemmas.List.{length-map, map-append, nil_from_length}
-use Rattle.std.proofs.lemmas.List.Sums.{sum_by-cons, sum_by-append, sum_by_more, sum_by_more_le}
-use Rattle.std.proofs.lemmas.Option.{get_or_from_slice_get, slice_get_within, none-some, same_Some}
+use Rattle.std.proofs.lemmas.List.Sums.{sum_by-cons, sum_by-append}
+use Rattle.std.proofs.lemmas.Option.{none-some, same_Some}
 use Rattle.std.specs.List.{slice_get, sum_by}
 use Rattle.std.specs.Str.{IsUtf8, IsCharBoundary}
 use Rattle.yq_scalar.specs.Answers.{◌>>=◌}
-use Rattle.yq_scalar.specs.Characters.{text_limit}
 use Rattle.yq_scalar.proofs.Bools.{bind_some, guard_then}
 use Rattle.yq_rows.specs.Grammar.{unlimited, AreRows, begins_document, IsCut, no_rows}
 use Rattle.yq_rows.specs.Offsets.{row_length}
 use Rattle.yq_rows.specs.Rows.{Row, rows_text, Part, part_text, Cut, last, marked}
 use Rattle.yq_rows.specs.View.{Slices, slices, Bound, bounds_from, rows_of, Shown, shown}
 use Rattle.yq_documents.specs.Documents.{begins_bare, has_begin, document_parts}
-use Rattle.yq_tree.specs.Extents.{bound_length, shown_length, IsShown}
+use Rattle.yq_tree.specs.Extents.{bound_length}
 use Rattle.yq_documents.specs.PartReading.{some_begin, first_rows}
 use Rattle.yq_tree.specs.PlacedRows.{PlacedPart, part_behind, placed_part, placed_document}
 use Rattle.yq_documents.specs.Reading.{cut_of}
@@ -23,9 +22,10 @@ use Rattle.yq_documents.specs.Seats.{document_row}
 use Rattle.yq_tree.specs.RowWalk.{document_rows}
 use Rattle.yq_tree.specs.declared.places.spot.Stretch.{Stretch}
 use Rattle.yq_tree.specs.RootPlaces.{RootPlace}
-use Rattle.yq_tree.specs.RootReading.{part_number, end_length, if_unwritten, unwritten_place, unwritten_at}
+use Rattle.yq_rows.specs.RowStarts.{part_end}
+use Rattle.yq_tree.specs.RootReading.{part_number, if_unwritten, unwritten_place, unwritten_at}
 use Rattle.yq_tree.proofs.CommentPieceLaws.{gap_end}
-use Rattle.yq_tree.proofs.LengthLaws.{part-length, shown_small}
+use Rattle.yq_tree.proofs.LengthLaws.{part-length}
 use Rattle.yq_documents.proofs.PartsLinedLaws.{document_is}
 use Rattle.yq_tree.proofs.PlacedPartLaws.{map_some, part_stands}
 use Rattle.yq_tree.proofs.PlacedRowLaws.{part_of, document_placed}
@@ -51,18 +51,6 @@ part_later is n k b bs rest e other = ap (part_number is n k) e ∙ go is n othe
     go true zero f = absurd (false≢true (f ∙ eq-eqb 0 0 refl))
     go true (suc n) f = ap (λ (j : ℕ). part_number (begins_document b.marker) j (k + 1) rest) (omega arith)
     go false n f = refl
-
--- one part more
-pub parts_more : (s : Shown) (at : ℕ) (b : Bound) → slice_get s.bounds at ≡ Some b →
-    (sum_by bound_length (take (at + 1) s.bounds) ≡ sum_by bound_length (take at s.bounds) + bound_length b) × (sum_by bound_length (take at s.bounds) + bound_length b ≤ shown_length s) × (sum_by bound_length (take at s.bounds) + bound_length b ≤ sum_by bound_length s.bounds)
-parts_more s at b is =
-    let within = slice_get_within s.bounds at b is in
-    let there = get_or_from_slice_get s.bounds at b b is in
-    let most = sum_by_more_le bound_length s.bounds at b within in (
-      sum_by_more bound_length s.bounds at b within ∙ ap (λ y. sum_by bound_length (take at s.bounds) + bound_length y) there,
-      omega (arith, ap bound_length there, most),
-      omega (arith, ap bound_length there, most),
-    )
 
 -- ---- the sums of the code
 
@@ -155,25 +143,6 @@ ends_at false k n j (marked p marker c) d e =
     let x = map_some (part_behind (part_text p marker)) (placed_part (begins_document marker) k c) d e in
     subst (EndsAt false k n j (marked p marker c)) x.2 (ends_later false k n j p marker c x.0 (ends_at (begins_document marker) k (n + length p.rows) (j + 1) c x.0 x.1) (λ m is. is))
 
--- a part ends behind no more rows than there are
-bound_rows : (n : ℕ) (c : Cut) (k : ℕ) (b : Bound) → slice_get (bounds_from n c) k ≡ Some b → b.rows ≤ n + length (rows_of c)
-bound_rows n (last p) zero b e = omega (arith, ap (λ (x : Bound). x.rows) (same_Some _ _ e))
-bound_rows n (last p) (suc k) b e = absurd (cc)
-bound_rows n (marked p marker c) zero b e = omega (arith, ap (λ (x : Bound). x.rows) (same_Some _ _ e), length-append p.rows (rows_of c))
-bound_rows n (marked p marker c) (suc k) b e = omega (arith, bound_rows (n + length p.rows) c k b e, length-append p.rows (rows_of c))
-
-first_less : {A : Type 0} (f : A → ℕ) (n : ℕ) (xs : List A) → sum_by f (take n xs) ≤ sum_by f xs
-first_less f zero xs = omega arith
-first_less f (suc n) [] = omega arith
-first_less f (suc n) (x ∷ xs) = omega (arith, sum_by-cons f x (take n xs), sum_by-cons f x xs, first_less f n xs)
-
-pub end_fits : (s : Shown) (k : ℕ) (b : Bound) → IsShown s → slice_get s.bounds k ≡ Some b → (b.rows ≤ length s.rows) × (end_length k b s ≤ text_limit)
-end_fits s k b h e =
-    let at : slice_get (shown h.cut).bounds k ≡ Some b = sym (ap (λ (x : Shown). slice_get x.bounds k) h.is) ∙ e in (
-      omega (arith, bound_rows 0 h.cut k b at, ap (λ (x : Shown). length x.rows) h.is, length-map (rows_of h.cut) slices),
-      omega (arith, (parts_more s k b e).2, first_less row_length b.rows s.rows, shown_small s h),
-    )
-
 -- a bound by its number
 pub told_bound : (s : Shown) (k : ℕ) → k < length s.bounds → (b : Bound) × (slice_get s.bounds k ≡ Some b)
 told_bound s k within = go s.bounds k within
@@ -211,7 +180,7 @@ written_none s c i d f some =
 
 -- where such a document ends
 pub end_there : (s : Shown) (c : Cut) (i : ℕ) (d : Stretch) (first : Bool) (k : ℕ) (b : Bound) → s ≡ shown c → Found s c i d → d.first ≡ d.end →
-    first ≡ (first_rows s.bounds || not (some_begin s.bounds)) → Some k ≡ part_number first i 0 s.bounds → slice_get s.bounds k ≡ Some b → Some (end_length k b s) ≡ unwritten_at i c
+    first ≡ (first_rows s.bounds || not (some_begin s.bounds)) → Some k ≡ part_number first i 0 s.bounds → slice_get s.bounds k ≡ Some b → Some (part_end k b s) ≡ unwritten_at i c
 end_there s c i d first k b is f none first_is number bound =
     let w = part_there i c f.part f.there in
     let rows : w.0.part.rows ≡ [] = ap (λ (q : Part). q.rows) w.2 ∙ (sym f.rows ∙ nil_from_length f.document.rows (omega (arith, none, rows_length s d f.document))) in
@@ -220,7 +189,7 @@ end_there s c i d first k b is f none first_is number bound =
     let same : k ≡ e.number = same_Some _ _ told ∙ omega arith in
     let own : b ≡ e.bound = same_Some _ _ (sym bound ∙ ((λ j. slice_get (is j).bounds (same j)) ∙ e.bound_is)) in
     let size : b.rows ≡ e.size = ap (λ (x : Bound). x.rows) own ∙ (e.rows ∙ omega arith) in
-    let lengths : end_length k b s ≡ length (w.0.before ++ part_text w.0.part []) =
+    let lengths : part_end k b s ≡ length (w.0.before ++ part_text w.0.part []) =
     (λ j. sum_by row_length (take (size j) (is j).rows) + sum_by bound_length (take (same j) (is j).bounds) + length (own j).end) ∙ e.length_is in
     let text : part_text w.0.part [] ≡ w.0.part.end = ap (λ (rs : List Row). rows_text rs (w.0.part.end ++ [])) rows ∙ append-nil w.0.part.end in
     ap Some (lengths ∙ ap (λ x. length (w.0.before ++ x)) text)

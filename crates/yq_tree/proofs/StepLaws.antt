@@ -1,18 +1,16 @@
 -- The steps of a document, row by row.
-use Rattle.std.proofs.Common.{◌≡◌, ◌⊎◌, inl, inr, ℕ, suc, ◌+◌, ◌-◌, ◌*◌, ◌/◌, ◌%◌, ◌<◌, ◌≤◌, eqb, ltb, ◌&&◌, Bool, true, false, cond, List, [], ◌∷◌, ◌++◌, length, drop, Option, Some, None, option_map, refl, sym, ap, ◌∙◌, arith}
+use Rattle.std.proofs.Common.{◌≡◌, ◌⊎◌, inl, inr, ℕ, suc, ◌+◌, ◌-◌, ◌*◌, ◌/◌, ◌%◌, ◌<◌, ◌≤◌, eqb, ltb, ◌&&◌, Bool, true, false, cond, List, [], ◌∷◌, ◌++◌, length, drop, Some, refl, sym, ap, ◌∙◌, arith}
 use Rattle.std.proofs.lemmas.Bool.{cases_Bool, eq-eqb, ne_eqb, ltb-true}
 use Rattle.std.proofs.lemmas.Option.{same_Some}
 use Rattle.std.specs.List.{slice_get}
 use Rattle.yq_lines.specs.Comments as comments
 use Rattle.yq_lines.specs.Outline.{Mark, Bare, Key, Dash, Line, level, rank}
 use Rattle.yq_rows.specs.Rows as rows
-use Rattle.yq_rows.specs.Rows.{Content, Row, Part, Cut}
+use Rattle.yq_rows.specs.Rows.{Content, Row, Cut}
 use Rattle.yq_rows.specs.View.{Slices, slices, Shown}
-use Rattle.yq_documents.specs.Documents.{document_parts}
 use Rattle.yq_documents.specs.Lines.{dash_line, lines_from, row_lines, lines_of}
-use Rattle.yq_documents.specs.Seats.{document_row}
 use Rattle.yq_tree.specs.Extents.{lines_before_mark}
-use Rattle.yq_tree.specs.RowWalk.{HasDocument, document_rows, line_level}
+use Rattle.yq_tree.specs.RowWalk.{HasDocument, line_level}
 use Rattle.yq_tree.specs.StepReading.{begins_under}
 use Rattle.yq_tree.specs.Steps as spec
 use Rattle.yq_tree.specs.Steps.{Steps, steps_in, steps_of_part, document_steps, is_key, is_kind, first_step}
@@ -127,10 +125,3 @@ module _ (s : Shown) (d : Stretch) (h : HasDocument s d) (dashes : Bool) (i abov
 -- the steps of a document that was found, and of one that isn't there
 pub steps_found : (s : Shown) (c : Cut) (n : ℕ) (d : Stretch) (f : Found s c n d) → steps_in (lines_of f.document.rows) ≡ document_steps n c
 steps_found s c n d f = ap (λ (rs : List Row). steps_in (lines_of rs)) f.rows ∙ ap steps_of_part (sym f.there)
-
-pub no_steps_found : (c : Cut) (n : ℕ) → None ≡ document_rows n c → steps_of_part None ≡ document_steps n c
-no_steps_found c n e = go (slice_get (document_parts c) n) e
-  where
-    go : (o : Option Part) → ◌≡◌ {A = Option (ℕ × ℕ)} None (option_map (λ p. (document_row n c, document_row n c + length p.rows)) o) → steps_of_part None ≡ steps_of_part o
-    go None e = refl
-    go (Some p) e = absurd (cc)

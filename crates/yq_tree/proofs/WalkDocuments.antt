@@ -4,6 +4,7 @@ use Rattle.std.proofs.lemmas.Bool.{eq-eqb, eqb-true, lt-ltb, le-ltb, cond-true, 
 use Rattle.std.proofs.lemmas.List.{drop-map, length-map, length-drop, take_at, map-append}
 use Rattle.std.proofs.lemmas.Option.{same_Some}
 use Rattle.std.specs.List.{slice_get}
+use Rattle.std.specs.Prelude.{IfSome}
 use Rattle.yq_lines.specs.Comments as comments
 use Rattle.yq_scalar.specs.Answers.{◌>>=◌}
 use Rattle.yq_scalar.specs.Paths.{Step}
@@ -19,7 +20,7 @@ use Rattle.yq_documents.proofs.RowFlowLaws.{lines_count}
 use Rattle.yq_documents.specs.Seats.{behind_one, seat, seat_of, seat_at, rows_before, document_row}
 use Rattle.yq_documents.specs.declared.path.Path.{Path}
 use Rattle.yq_documents.specs.Located.{steps_of}
-use Rattle.yq_tree.specs.RowWalk.{HasDocument, InCut, stretch_told, begin_rows, document_rows}
+use Rattle.yq_tree.specs.RowWalk.{HasDocument, IsKnown, InCut, stretch_told, begin_rows, document_rows}
 use Rattle.yq_tree.specs.SeatReading.{Numbers, numbers}
 use Rattle.yq_tree.specs.declared.places.spot.Stretch.{Stretch}
 use Rattle.yq_tree.proofs.SeatLaws.{part_begins}
@@ -84,9 +85,9 @@ before_within true (suc n) (marked q marker c) = omega (arith, before_within (be
 before_within false n (marked q marker c) = omega (arith, before_within (begins_document marker) n c, length-append q.rows (rows_of c))
 
 -- the document of a text with its cut
-pub document_has : (t : List ℕ) (s : Shown) (c : Cut) (n : ℕ) (p : Part) (d : Stretch) → IsCut t c → s ≡ shown c → slice_get (document_parts c) n ≡ Some p → d.first ≡ document_row n c → d.end ≡ document_row n c + length p.rows →
+pub document_has : (t : List ℕ) (s : Shown) (c : Cut) (n : ℕ) (p : Part) (d : Stretch) → IsCut t c → s ≡ shown c → slice_get (document_parts c) n ≡ Some p → d.first ≡ document_row n c → d.end ≡ document_row n c + length p.rows → IfSome d.known (IsKnown (shown c).rows) →
     (h : HasDocument s d) × (h.rows ≡ p.rows)
-document_has t s c n p d cut is at first end =
+document_has t s c n p d cut is at first end known =
     let b = part_begins c n p at in
     let v = part_rows true (begins_bare c || not (has_begin c)) n c p cut.parts at in
     let k : ℕ = document_row n c in
@@ -98,7 +99,7 @@ document_has t s c n p d cut is at first end =
     let long : length s.rows - d.first ≡ length p.rows + length b.0 = sym (length-drop d.first s.rows) ∙ (ap length there ∙ (length-append (map slices p.rows) (map slices b.0) ∙ (λ i. length-map p.rows slices i + length-map b.0 slices i))) in
     let all : length s.rows ≡ length (rows_of c) = ap (λ (x : Shown). length x.rows) is ∙ length-map (rows_of c) slices in
     let upto : k ≤ length (rows_of c) = before_within (begins_bare c || not (has_begin c)) n c in (
-      record { rows = p.rows; limit = unlimited; end = p.end; rest = v.0; order = omega (arith, first, end); within = omega (arith, first, end, long, all, upto); pieces = pieces; valid = v.1 },
+      record { rows = p.rows; limit = unlimited; end = p.end; rest = v.0; order = omega (arith, first, end); within = omega (arith, first, end, long, all, upto); pieces = pieces; valid = v.1; known = subst (λ (x : Shown). IfSome d.known (IsKnown x.rows)) (sym is) known },
       refl,
     )
 
@@ -129,14 +130,14 @@ pub record Found (s : Shown) (c : Cut) (n : ℕ) (d : Stretch) : Type 0 where
   pub document : HasDocument s d
   pub rows : document.rows ≡ part.rows
 
-pub found_document : (t : List ℕ) (s : Shown) (c : Cut) (n : ℕ) (d : Stretch) → IsCut t c → s ≡ shown c → Some (stretch_told d) ≡ document_rows n c → Found s c n d
-found_document t s c n d cut is e = go (slice_get (document_parts c) n) refl e
+pub found_document : (t : List ℕ) (s : Shown) (c : Cut) (n : ℕ) (d : Stretch) → IsCut t c → s ≡ shown c → Some (stretch_told d) ≡ document_rows n c → IfSome d.known (IsKnown (shown c).rows) → Found s c n d
+found_document t s c n d cut is e known = go (slice_get (document_parts c) n) refl e
   where
     go : (o : Option Part) → slice_get (document_parts c) n ≡ o → Some (stretch_told d) ≡ option_map (λ p. (document_row n c, document_row n c + length p.rows)) o → Found s c n d
     go None at e = absurd (cc)
     go (Some p) at e =
         let same : (d.first, d.end) ≡ (document_row n c, document_row n c + length p.rows) = same_Some _ _ e in
-        let x = document_has t s c n p d cut is at (ap (λ (y : ℕ × ℕ). y.0) same) (ap (λ (y : ℕ × ℕ). y.1) same) in
+        let x = document_has t s c n p d cut is at (ap (λ (y : ℕ × ℕ). y.0) same) (ap (λ (y : ℕ × ℕ). y.1) same) known in
         record { part = p; there = at; first = ap (λ (y : ℕ × ℕ). y.0) same; document = x.0; rows = x.1 }
 
 -- its rows stand among those of the cut
@@ -155,10 +156,10 @@ found_in_cut t s c n d cut is f =
     )
 
 -- a place in a document that was found
-pub place_found : {A : Type 0} (t : List ℕ) (s : Shown) (c : Cut) (n : ℕ) (d : Stretch) (found : Option A) (place : ℕ → Cut → List Row → Option A) → IsCut t c → s ≡ shown c → Some (stretch_told d) ≡ document_rows n c →
+pub place_found : {A : Type 0} (t : List ℕ) (s : Shown) (c : Cut) (n : ℕ) (d : Stretch) (found : Option A) (place : ℕ → Cut → List Row → Option A) → IsCut t c → s ≡ shown c → Some (stretch_told d) ≡ document_rows n c → IfSome d.known (IsKnown (shown c).rows) →
     ((k : InCut s d c) → found ≡ place d.first c k.document.rows) → found ≡ (slice_get (document_parts c) n >>= λ p. place (document_row n c) c p.rows)
-place_found t s c n d found place cut is e told =
-    let f = found_document t s c n d cut is e in
+place_found t s c n d found place cut is e known told =
+    let f = found_document t s c n d cut is e known in
     let k = found_in_cut t s c n d cut is f in
     told k.0
     ∙ ((λ i. place (f.first i) c (k.1 i))

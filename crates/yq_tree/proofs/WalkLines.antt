@@ -1,12 +1,10 @@
 -- Lines of a document from one up to another one, and their place.
-use Rattle.std.proofs.Common.{◌≡◌, ℕ, zero, suc, ◌+◌, ◌-◌, ◌<◌, ◌≤◌, eqb, List, [], ◌∷◌, length, take, Option, Some, None, cond, sym, ap, ◌∙◌, arith, length-append}
-use Rattle.std.proofs.lemmas.Bool.{eq-eqb, ne_eqb, cond-true, cond-false}
+use Rattle.std.proofs.Common.{◌≡◌, ℕ, suc, ◌+◌, ◌-◌, ◌<◌, List, length, take, Option, Some, sym, ap, ◌∙◌, arith}
 use Rattle.std.specs.List.{slice_get}
 use Rattle.yq_scalar.specs.Answers.{◌>>=◌}
-use Rattle.yq_lines.specs.Outline.{Line}
 use Rattle.yq_rows.specs.Rows.{Row, Cut}
 use Rattle.yq_rows.specs.View.{Slices, slices, rows_of, Shown}
-use Rattle.yq_documents.specs.Lines.{row_lines, lines_of}
+use Rattle.yq_documents.specs.Lines.{lines_of}
 use Rattle.yq_documents.specs.Seats.{Seat, seat}
 use Rattle.yq_tree.specs.EntryReading.{before_line, through_row, lines_place, line_begin}
 use Rattle.yq_tree.specs.Extents.{row_start}
@@ -19,45 +17,9 @@ use Rattle.yq_tree.proofs.WalkEnds.{lines_upto}
 use Rattle.yq_tree.proofs.WalkNodes.{seat_is, row_in_cut}
 use Rattle.yq_tree.proofs.WalkSpots.{located, spot_line}
 
--- ---- the order of lines
-
-fewer_lines : (rs : List Row) (i j : ℕ) → i ≤ j → length (lines_of (take i rs)) ≤ length (lines_of (take j rs))
-fewer_lines rs zero j h = omega arith
-fewer_lines [] (suc i) j h = omega arith
-fewer_lines (r ∷ rs) (suc i) zero h = absurd (omega (arith, h))
-fewer_lines (r ∷ rs) (suc i) (suc j) h = omega (arith, fewer_lines rs i j (omega (arith, h)), length-append (row_lines r) (lines_of (take i rs)), length-append (row_lines r) (lines_of (take j rs)))
-
-number_less : (s : Shown) (d : Stretch) (h : HasDocument s d) (p q : Spot) → IsLine s d p → p.row < q.row → line_number d h.rows p < line_number d h.rows q
-number_less s d h p q at less =
-    let l = located s d h p at in
-    let i : ℕ = p.row - d.first in
-    let next : suc i ≡ suc i + 0 = omega arith in
-    omega (
-      arith,
-      l.within,
-      ap (λ (k : ℕ). length (lines_of (take k h.rows))) next,
-      lines_upto h.rows i 0 l.row l.there,
-      fewer_lines h.rows (suc i) (q.row - d.first) (omega (arith, less, at.from)),
-    )
-
-pub none_between : (s : Shown) (d : Stretch) (h : HasDocument s d) (p q : Spot) → AreLines s d p q → q.row ≤ p.row → line_number d h.rows p ≡ line_number d h.rows q
-none_between s d h p q a past = omega (arith, a.order h, a.first, fewer_lines h.rows (q.row - d.first) (p.row - d.first) (omega (arith, past)))
-
 -- the first of lines is one, where there are any
-pub first_line : (s : Shown) (d : Stretch) (p q : Spot) → AreLines s d p q → p.row < q.row → IsLine s d p
+first_line : (s : Shown) (d : Stretch) (p q : Spot) → AreLines s d p q → p.row < q.row → IsLine s d p
 first_line s d p q a less = spot_line s d p a.begin (omega (arith, less, a.stop.upto))
-
--- what is said of it
-pub none_said : {A : Type 0} (ls : List Line) (from to : ℕ) (said : Line → Option A) → from ≡ to → None ≡ cond (eqb from to) None (slice_get ls from >>= said)
-none_said ls from to said e = sym (cond-true _ None (slice_get ls from >>= said) (eq-eqb from to e))
-
-pub first_said : {A : Type 0} (s : Shown) (d : Stretch) (h : HasDocument s d) (p q : Spot) (at : IsLine s d p) (said : Line → Option A) → p.row < q.row →
-    said (located s d h p at).line ≡ cond (eqb (line_number d h.rows p) (line_number d h.rows q)) None (slice_get (lines_of h.rows) (line_number d h.rows p) >>= said)
-first_said s d h p q at said less =
-    ap (λ (o : Option Line). o >>= said) (sym (located s d h p at).is)
-    ∙ sym (cond-false _ None (slice_get (lines_of h.rows) (line_number d h.rows p) >>= said) (ne_eqb (line_number d h.rows p) (line_number d h.rows q) (λ e. omega (arith, e, number_less s d h p q at less))))
-
--- ---- the place of lines
 
 -- the line before the first one of a row is the last one of the row before
 module _ (s : Shown) (d : Stretch) (h : HasDocument s d) (q : Spot) where

@@ -1,8 +1,8 @@
 -- What stands under a line or a document, and in which row of a cut a line is.
-use Rattle.std.proofs.Common.{◌≡◌, ◌⊎◌, inl, inr, ℕ, suc, ◌+◌, ◌-◌, ◌<◌, ◌≤◌, ltb, eqb, Bool, true, false, cond, ◌||◌, List, [], ◌∷◌, length, drop, get_or, Option, Some, None, option_map, option_and_then, refl, sym, ap, ◌∙◌, arith}
+use Rattle.std.proofs.Common.{◌≡◌, ◌⊎◌, inl, inr, ℕ, suc, ◌+◌, ◌-◌, ◌<◌, ◌≤◌, eqb, Bool, true, false, cond, not, ◌||◌, List, [], ◌∷◌, length, drop, get_or, Option, Some, None, option_map, option_and_then, refl, sym, ap, ◌∙◌, arith}
 use Rattle.std.proofs.lemmas.Bool.{cases_Bool, cases_lt, false≢true, eq-eqb, ne_eqb, eqb-true, eqb-false, lt-ltb, le-ltb, cond-true, cond-false}
 use Rattle.std.proofs.lemmas.List.{drop_all}
-use Rattle.std.proofs.lemmas.Option.{slice_get_cases, slice_get_within}
+use Rattle.std.proofs.lemmas.Option.{slice_get_cases}
 use Rattle.std.specs.List.{slice_get}
 use Rattle.std.specs.Prelude.{is_some}
 use Rattle.yq_scalar.specs.Answers.{◌>>=◌}
@@ -12,47 +12,19 @@ use Rattle.yq_lines.specs.Group.{deeper, group}
 use Rattle.yq_lines.specs.Outline.{Line, level}
 use Rattle.yq_lines.specs.Places.{lines_before, Found, find}
 use Rattle.yq_lines.specs.Spots.{is_bare, begins_with_node}
-use Rattle.yq_lines.proofs.LineEnds.{end_counted, end_told}
-use Rattle.yq_lines.proofs.LinesLaws.{part-all}
+use Rattle.yq_lines.proofs.EndsLaws.{not_end}
+use Rattle.yq_lines.proofs.LineEnds.{end_line}
+use Rattle.yq_lines.proofs.LinesLaws.{above}
 use Rattle.yq_lines.proofs.Parts.{drop_at, part_row, part_stop}
 use Rattle.yq_rows.specs.Rows.{Row, Cut}
 use Rattle.yq_rows.specs.View.{rows_of, Shown}
 use Rattle.yq_documents.specs.Seats.{Seat, seat}
-use Rattle.yq_tree.specs.RowWalk.{InCut, IsLine, line_number}
+use Rattle.yq_tree.specs.RowWalk.{InCut, IsLine, line_number, lines_stop}
 use Rattle.yq_tree.specs.declared.places.spot.Spot.{Spot}
 use Rattle.yq_tree.specs.declared.places.spot.Stretch.{Stretch}
 use Rattle.yq_tree.proofs.EntryPlaceLaws.{row_there}
 use Rattle.yq_tree.proofs.WalkDocuments.{seat_number}
 use Rattle.yq_tree.proofs.WalkSpots.{located}
-
--- no lines stand under a line exactly where its end is right behind it
-pub ends_here : (ls : List Line) (n : ℕ) (l : Line) → slice_get ls n ≡ Some l → eqb (lines_end n ls) (suc n) ≡ is_end (part ls (n + 1) (level l))
-ends_here ls n l is = go ((slice_get_cases ls (suc n)).1)
-  where
-    end : suc n + deeper_count (level l) (drop (suc n) ls) ≡ lines_end n ls
-    end = end_told ls n (suc n + deeper_count (level l) (drop (suc n) ls)) (slice_get_within ls n l is) (end_counted ls n l is)
-
-    next : suc n ≡ n + 1
-    next = omega arith
-
-    go : ((x : Line) × (suc n < length ls) × (slice_get ls (suc n) ≡ Some x) × (get_or ls (suc n) x ≡ x)) ⊎ ((length ls ≤ suc n) × (slice_get ls (suc n) ≡ None)) → eqb (lines_end n ls) (suc n) ≡ is_end (part ls (n + 1) (level l))
-    go (inr past) =
-        let none : drop (suc n) ls ≡ [] = drop_all (suc n) ls past.0 in
-        eq-eqb (lines_end n ls) (suc n) (omega (arith, end, ap (deeper_count (level l)) none)) ∙ sym (ap is_end (ap (λ (k : ℕ). part ls k (level l)) (sym next) ∙ ap (λ (ms : List Line). deeper (level l) (group ms)) none))
-    go (inl there) =
-        let m : Line = there.0 in
-        let count : deeper_count (level l) (drop (suc n) ls) ≡ cond (ltb (level l) (level m)) (suc (deeper_count (level l) (drop (suc n + 1) ls))) 0 = ap (deeper_count (level l)) (drop_at ls (suc n) m there.2) in
-        let at : slice_get ls (n + 1) ≡ Some m = ap (slice_get ls) (sym next) ∙ there.2 in
-        go2 m count at (cases_lt (level l) (level m))
-      where
-        go2 : (m : Line) → deeper_count (level l) (drop (suc n) ls) ≡ cond (ltb (level l) (level m)) (suc (deeper_count (level l) (drop (suc n + 1) ls))) 0 → slice_get ls (n + 1) ≡ Some m → (level l < level m) ⊎ (level m ≤ level l) →
-            eqb (lines_end n ls) (suc n) ≡ is_end (part ls (n + 1) (level l))
-        go2 m count at (inl deep) =
-            let more = count ∙ cond-true _ (suc (deeper_count (level l) (drop (suc n + 1) ls))) 0 (lt-ltb (level l) (level m) deep) in
-            ne_eqb (lines_end n ls) (suc n) (λ e. omega (arith, e, end, more)) ∙ sym (ap is_end (part_row ls (n + 1) (level l) m at deep))
-        go2 m count at (inr low) =
-            let none = count ∙ cond-false _ (suc (deeper_count (level l) (drop (suc n + 1) ls))) 0 (le-ltb (level l) (level m) low) in
-            eq-eqb (lines_end n ls) (suc n) (omega (arith, end, none)) ∙ sym (ap is_end (part_stop ls (n + 1) (level l) m at low))
 
 turned : (a b : ℕ) → eqb a b ≡ eqb b a
 turned a b = elim (cases_Bool (eqb a b)) [
@@ -60,11 +32,57 @@ turned a b = elim (cases_Bool (eqb a b)) [
   | inr e ↦ e ∙ sym (ne_eqb b a (λ same. eqb-false a b e (sym same)))
 ]
 
--- the lines under a line end before that number
+-- lines that are deeper than a level end where they begin exactly where there are none
+pub stops_here : (ls : List Line) (n floor : ℕ) → eqb n (lines_stop n floor ls) ≡ is_end (part ls n floor)
+stops_here ls n floor = go ((slice_get_cases ls n).1)
+  where
+    go2 : (m : Line) → slice_get ls n ≡ Some m → (floor < level m) ⊎ (level m ≤ floor) → eqb n (lines_stop n floor ls) ≡ is_end (part ls n floor)
+    go2 m at (inl deep) =
+        let more = ap (deeper_count floor) (drop_at ls n m at) ∙ cond-true _ (suc (deeper_count floor (drop (n + 1) ls))) 0 (lt-ltb floor (level m) deep) in
+        ne_eqb n (lines_stop n floor ls) (λ e. omega (arith, e, more)) ∙ sym (ap is_end (part_row ls n floor m at deep))
+    go2 m at (inr low) =
+        let none = ap (deeper_count floor) (drop_at ls n m at) ∙ cond-false _ (suc (deeper_count floor (drop (n + 1) ls))) 0 (le-ltb floor (level m) low) in
+        eq-eqb n (lines_stop n floor ls) (omega (arith, none)) ∙ sym (ap is_end (part_stop ls n floor m at low))
+
+    go : ((x : Line) × (n < length ls) × (slice_get ls n ≡ Some x) × (get_or ls n x ≡ x)) ⊎ ((length ls ≤ n) × (slice_get ls n ≡ None)) → eqb n (lines_stop n floor ls) ≡ is_end (part ls n floor)
+    go (inr past) =
+        let none : drop n ls ≡ [] = drop_all n ls past.0 in
+        eq-eqb n (lines_stop n floor ls) (omega (arith, ap (deeper_count floor) none)) ∙ sym (ap is_end (ap (λ (ms : List Line). deeper floor (group ms)) none))
+    go (inl there) = go2 there.0 there.2 (cases_lt floor (level there.0))
+
+-- what is said of the first of them
+module _ {A : Type 0} (ls : List Line) (n floor : ℕ) (said : Line → Option A) where
+  pub none_here : false ≡ not (is_end (part ls n floor)) → None ≡ cond (eqb n (lines_stop n floor ls)) None (slice_get ls n >>= said)
+  none_here none = sym (cond-true _ None (slice_get ls n >>= said) (stops_here ls n floor ∙ ends (is_end (part ls n floor)) none))
+    where
+      ends : (b : Bool) → false ≡ not b → b ≡ true
+      ends true e = refl
+      ends false e = absurd (false≢true e)
+
+  pub first_here : (l : Line) → slice_get ls n ≡ Some l → true ≡ not (is_end (part ls n floor)) → said l ≡ cond (eqb n (lines_stop n floor ls)) None (slice_get ls n >>= said)
+  first_here l is some = ap (λ (o : Option Line). o >>= said) (sym is) ∙ sym (cond-false _ None (slice_get ls n >>= said) (stops_here ls n floor ∙ not_end _ some))
+
+-- where the lines under a line end, and those of a document
+pub line_stop : (ls : List Line) (n : ℕ) (l : Line) → slice_get ls n ≡ Some l → lines_stop (suc n) (level l) ls ≡ lines_end n ls
+line_stop ls n l is = sym (end_line ls n l is)
+
+pub all_stop : (ls : List Line) → lines_stop 0 0 ls ≡ length ls
+all_stop ls = omega (arith, all ls)
+  where
+    all : (ls : List Line) → deeper_count 0 ls ≡ length ls
+    all [] = refl
+    all (l ∷ ls) = cond-true _ (suc (deeper_count 0 ls)) 0 (lt-ltb 0 (level l) (above l)) ∙ ap suc (all ls)
+
+-- no lines stand under a line exactly where its end is right behind it
 pub ends_under : (ls : List Line) (n m floor : ℕ) (l : Line) → slice_get ls n ≡ Some l → m ≡ n + 1 → floor ≡ level l → eqb m (lines_end n ls) ≡ is_end (part ls m floor)
 ends_under ls n m floor l is next deep =
-    let same : m ≡ suc n = omega (arith, next) in
-    ap (λ (k : ℕ). eqb k (lines_end n ls)) same ∙ (turned (suc n) (lines_end n ls) ∙ (ends_here ls n l is ∙ (λ i. is_end (part ls (sym next i) (sym deep i)))))
+    let same : suc n ≡ m = omega (arith, next) in
+    ap (eqb m) (sym (line_stop ls n l is) ∙ (λ i. lines_stop (same i) (sym deep i) ls)) ∙ stops_here ls m floor
+
+pub ends_here : (ls : List Line) (n : ℕ) (l : Line) → slice_get ls n ≡ Some l → eqb (lines_end n ls) (suc n) ≡ is_end (part ls (n + 1) (level l))
+ends_here ls n l is =
+    let next : suc n ≡ n + 1 = omega arith in
+    turned (lines_end n ls) (suc n) ∙ (ap (λ (k : ℕ). eqb k (lines_end n ls)) next ∙ ends_under ls n (n + 1) (level l) l is refl refl)
 
 -- what is said of the node of a line, by whether it has a head and lines under it
 module _ {A : Type 0} (ls : List Line) (n : ℕ) (l : Line) (x y : Option A) (is : slice_get ls n ≡ Some l) where
@@ -89,8 +107,7 @@ module _ {A : Type 0} (ls : List Line) (n : ℕ) (l : Line) (x y : Option A) (is
 
 -- a document has no lines exactly where it has none that are deeper than 0
 pub no_lines : (ls : List Line) → eqb 0 (length ls) ≡ is_end (part ls 0 0)
-no_lines [] = eq-eqb 0 0 refl
-no_lines (l ∷ ls) = ne_eqb 0 (length (l ∷ ls)) (λ e. omega (arith, e)) ∙ sym (ap is_end (part-all (l ∷ ls)))
+no_lines ls = ap (eqb 0) (sym (all_stop ls)) ∙ stops_here ls 0 0
 
 -- what the lines under a line, or of a document, begin with
 pub node_first : {A : Type 0} (ls : List Line) (n to floor : ℕ) (x : Option A) → eqb n to ≡ is_end (part ls n floor) →

@@ -1,5 +1,5 @@
 -- What the code tells of the end of a block collection, and of its column (own).
-use Rattle.std.specs.Prelude.{ℕ, ◌+◌, List, [], ◌∷◌, length, slice_get, Option, Some, None, is_some, ◌==◌, if◌then◌else◌}
+use Rattle.std.specs.Prelude.{ℕ, suc, List, [], ◌∷◌, length, slice_get, Option, Some, None, is_some, ◌==◌, if◌then◌else◌}
 use Rattle.yq_scalar.specs.Answers.{◌>>=◌}
 use Rattle.yq_scalar.specs.Paths.{Step}
 use Rattle.yq_lines.specs.Ends.{line_of, lines_end}
@@ -18,7 +18,7 @@ lines_column ls from to = if from == to then None else (slice_get ls from >>= λ
 
 -- the same of the lines under line n, if it has no head
 abbrev pub under_column : List Line → ℕ → Option ℕ
-under_column ls n = slice_get ls n >>= λ l. if is_some l.head then None else lines_column ls (n + 1) (lines_end n ls)
+under_column ls n = slice_get ls n >>= λ l. if is_some l.head then None else lines_column ls (suc n) (lines_end n ls)
 
 -- the same of the node to which steps lead
 abbrev pub column_of : List Step → List Line → Option ℕ

@@ -12,7 +12,7 @@ use Rattle.yq_lines.specs.Spots.{begins_with_node}
 use Rattle.yq_rows.specs.Rows.{Row}
 use Rattle.yq_rows.specs.View.{Shown}
 use Rattle.yq_tree.specs.NodesAt.{NodeAt, node_told}
-use Rattle.yq_tree.specs.RowWalk.{IsLine, IsSpot, line_number}
+use Rattle.yq_tree.specs.RowWalk.{IsLine, IsSpot, line_number, lines_stop}
 use Rattle.yq_tree.specs.declared.places.node_place.NodePlace as declared
 use Rattle.yq_tree.specs.declared.places.spot.Stretch.{Stretch}
 
@@ -34,6 +34,12 @@ with_line n ss l = option_map (λ l. (line_place n ss l, ss)) l
 abbrev pub node_place : List Step → List Line → Option (NodePlace × List Step)
 node_place [] ls = Some (at_lines 0 0, [])
 node_place (s ∷ ss) ls = reached (s ∷ ss) ls >>= λ x. with_line x.0 x.1 (slice_get ls x.0)
+
+-- what is said of the node that is written there, where no steps go on: of the head of a line, or of the lines from one up to another one
+abbrev pub said_at : {A : Type 0} → (ℕ → Option A) → (ℕ → ℕ → Option A) → List Line → NodePlace × List Step → Option A
+said_at head lines ls (p, s ∷ ss) = None
+said_at head lines ls (at_head n, []) = head n
+said_at head lines ls (at_lines n floor, []) = lines n (lines_stop n floor ls)
 
 -- the line in whose head a node is written, if it is in one: that line, or the first one, if that is a node itself
 abbrev pub place_line : List Line → NodePlace → Option ℕ

@@ -1,14 +1,11 @@
 -- Reading (own; a reader may skip it): where the root of a document stands, by the bounds of parts, as the code counts, and by pieces; and what the code tells of it.
-use Rattle.std.specs.Prelude.{ℕ, zero, suc, ◌+◌, Bool, true, false, List, [], ◌∷◌, length, take, Option, Some, None, option_map, if◌then◌else◌}
-use Rattle.std.specs.List.{sum_by}
+use Rattle.std.specs.Prelude.{ℕ, zero, suc, ◌+◌, Bool, true, false, List, [], ◌∷◌, length, Option, Some, None, option_map, if◌then◌else◌}
 use Rattle.yq_scalar.specs.Answers.{◌>>=◌}
 use Rattle.yq_rows.specs.Grammar.{begins_document, no_rows}
-use Rattle.yq_rows.specs.Offsets.{row_length}
 use Rattle.yq_rows.specs.Rows.{Cut}
-use Rattle.yq_rows.specs.View.{Bound, Shown}
+use Rattle.yq_rows.specs.View.{Bound}
 use Rattle.yq_lines.specs.Bodies.{lent}
 use Rattle.yq_tree.specs.CollectionEnds.{collection_end}
-use Rattle.yq_tree.specs.Extents.{bound_length}
 use Rattle.yq_documents.specs.Located.{steps_of}
 use Rattle.yq_tree.specs.PathPieces.{piece_at}
 use Rattle.yq_tree.specs.PlacedRows.{PlacedPart, placed_document}
@@ -23,10 +20,6 @@ part_number is n k [] = None
 part_number true zero k (b ∷ bs) = Some k
 part_number true (suc n) k (b ∷ bs) = part_number (begins_document b.marker) n (k + 1) bs
 part_number false n k (b ∷ bs) = part_number (begins_document b.marker) n (k + 1) bs
-
--- how long the text is up to the end of part k, which has this bound
-abbrev pub end_length : ℕ → Bound → Shown → ℕ
-end_length k b s = sum_by row_length (take b.rows s.rows) + sum_by bound_length (take k s.bounds) + length b.end
 
 -- the place of the root of a document, if that has no rows
 abbrev pub if_unwritten : PlacedPart → Option RootPlace

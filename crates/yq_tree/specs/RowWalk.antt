@@ -1,17 +1,18 @@
 -- Reading (own; a reader may skip it): where steps lead in a document, row by row, by the pieces of rows, as the code goes.
-use Rattle.std.specs.Prelude.{◌≡◌, ℕ, zero, suc, Bool, true, false, ◌+◌, ◌-◌, ◌*◌, ◌<◌, ◌≤◌, nat_eq, nat_lt, List, [], ◌∷◌, ◌++◌, length, map, take, drop, slice_get, Option, Some, None, option_and_then, option_map, if◌then◌else◌}
+use Rattle.std.specs.Prelude.{◌≡◌, ℕ, zero, suc, Bool, true, false, ◌+◌, ◌-◌, ◌*◌, ◌==◌, ◌<◌, ◌≤◌, nat_eq, nat_lt, IfSome, List, [], ◌∷◌, ◌++◌, length, map, take, drop, slice_get, Option, Some, None, option_and_then, option_map, if◌then◌else◌}
 use denote.Bor.{Bor}
 use Rattle.yq_inline.specs.declared.path.Step as declared
 use Rattle.yq_inline.specs.Entries.{step_of}
 use Rattle.yq_inline.specs.Places.{Placed}
-use Rattle.yq_scalar.specs.Paths.{Step}
+use Rattle.yq_scalar.specs.Paths.{Step, Nth}
 use Rattle.yq_scalar.specs.Text.{is_empty}
-use Rattle.yq_lines.specs.Ends.{is_end, part}
+use Rattle.yq_lines.specs.Ends.{deeper_count, is_end, part}
 use Rattle.yq_lines.specs.Outline.{Line}
 use Rattle.yq_lines.specs.Places.{find_row}
 use Rattle.yq_lines.specs.Spots.{reach_from, seen, spot}
 use Rattle.yq_rows.specs.Grammar.{Limit, AreRows, IsCut, begins_document}
 use Rattle.yq_rows.specs.Rows.{Row, Cut}
+use Rattle.yq_rows.specs.Touched.{TouchesOnly}
 use Rattle.yq_rows.specs.View.{Slices, slices, rows_of, Bound, Shown, shown}
 use Rattle.yq_documents.specs.Documents.{document_parts}
 use Rattle.yq_documents.specs.Lines.{lines_of}
@@ -19,6 +20,7 @@ use Rattle.yq_documents.specs.Reading.{all_documents, cut_of}
 use Rattle.yq_documents.specs.Seats.{document_row}
 use Rattle.yq_tree.specs.EntryReading.{dash_at, HasFlows}
 use Rattle.yq_tree.specs.Extents.{lines_before_mark}
+use Rattle.yq_tree.specs.declared.places.spot.KnownItem.{KnownItem}
 use Rattle.yq_tree.specs.declared.places.spot.Spot.{Spot}
 use Rattle.yq_tree.specs.declared.places.spot.Stretch.{Stretch}
 use Rattle.yq_tree.specs.declared.places.spot_reach.Next as nexts
@@ -40,7 +42,34 @@ abbrev pub deeper_rows : ℕ → List Slices → ℕ
 deeper_rows n [] = 0
 deeper_rows n (s ∷ ss) = if nat_lt n (line_level 0 s) then suc (deeper_rows n ss) else 0
 
--- The rows of a text from one up to another one are those of a document.
+-- how many rows begin at a level (8.2)
+abbrev pub level_count : ℕ → List Slices → ℕ
+level_count n [] = 0
+level_count n (s ∷ ss) = if line_level 0 s == n then suc (level_count n ss) else level_count n ss
+
+-- no rows begin less deep than a level (8.2)
+abbrev pub AreDeep : ℕ → List Slices → Type 0
+AreDeep n [] = Unit {0}
+AreDeep n (s ∷ ss) = (n ≤ line_level 0 s) × AreDeep n ss
+
+-- Behind the line of a first item, which is deeper than a level, no row in front begins less deep than it; and so many items begin as deep, it among them (8.2).
+pub record ArePassed (front : List Slices) (k : KnownItem) : Type 0 where
+  pub piece : Slices
+  pub there : slice_get front k.under.row ≡ Some piece
+  pub level : k.level ≡ line_level k.under.line piece
+  pub deeper : k.floor < k.level
+  pub deep : AreDeep k.level (drop (k.under.row + 1) front)
+  pub index : k.index ≡ suc (level_count k.level (drop (k.under.row + 1) front))
+
+-- The items before one that is known are those in front of its row.
+abbrev pub IsKnown : List Slices → KnownItem → Type 0
+IsKnown ss k = ArePassed (take k.row ss) k
+
+-- An item stays known in each text in which the items of its cut stay that end in front of so many bytes.
+abbrev pub StaysKnown : ℕ → Cut → KnownItem → Type 0
+StaysKnown front c k = (new : Cut) (back : ℕ) → TouchesOnly front back c new → IsKnown (shown new).rows k
+
+-- The rows of a text from one up to another one are those of a document; an item that is known is one of the text.
 pub record HasDocument (s : Shown) (d : Stretch) : Type 0 where
   pub rows : List Row
   pub limit : Limit
@@ -50,6 +79,7 @@ pub record HasDocument (s : Shown) (d : Stretch) : Type 0 where
   pub within : d.end ≤ length s.rows
   pub pieces : take (d.end - d.first) (drop d.first s.rows) ≡ map slices rows
   pub valid : AreRows limit rows end rest
+  pub known : IfSome d.known (IsKnown s.rows)
 
 -- The lines that are kept of a document are those of its rows.
 pub record HasLines (s : Shown) (d : Stretch) (ls : List Line) : Type 0 where
@@ -84,6 +114,10 @@ pub record AreLines (s : Shown) (d : Stretch) (p q : Spot) : Type 0 where
   pub first : q.line ≡ 0
   pub order : (h : HasDocument s d) → line_number d h.rows p ≤ line_number d h.rows q
 
+-- the number of the line behind those from one on that are deeper than a level (8.2)
+abbrev pub lines_stop : ℕ → ℕ → List Line → ℕ
+lines_stop n floor ls = n + deeper_count floor (drop n ls)
+
 -- What is said of the line of a document that is there.
 abbrev pub OfLine : Shown → Stretch → Spot → (Line → Type 0) → Type 0
 OfLine s d q said = (h : HasDocument s d) (l : Line) → slice_get (lines_of h.rows) (line_number d h.rows q) ≡ Some l → said l
@@ -96,6 +130,11 @@ OfLines s d said = (h : HasDocument s d) → said (lines_of h.rows) (line_number
 abbrev pub Finds : Shown → Stretch → Spot → ℕ → Step → Option Spot → Type 0
 Finds s d under floor step found =
     (h : HasDocument s d) → spot (line_number d h.rows under) (find_row step (part (lines_of h.rows) (line_number d h.rows under) floor)) ≡ seen (lines_of h.rows) (option_map (line_number d h.rows) found)
+
+-- Among the lines from one on that are deeper than a level, a walk to an item goes on from another line, by the item's index from there on.
+abbrev pub GoesOn : Shown → Stretch → ℕ → Spot → ℕ → Spot → ℕ → Type 0
+GoesOn s d floor under index at left =
+    (h : HasDocument s d) → spot (line_number d h.rows under) (find_row (Nth index) (part (lines_of h.rows) (line_number d h.rows under) floor)) ≡ spot (line_number d h.rows at) (find_row (Nth left) (part (lines_of h.rows) (line_number d h.rows at) floor))
 
 -- where steps lead whose first one leads there, with a line by its number
 abbrev pub next_reached : Stretch → List Row → Step → List Step → nexts.Next → Option (ℕ × List Step)

@@ -9,7 +9,7 @@ ghost use Rattle.yq_tree.specs.CollectionTelling as telling;
 ghost use Rattle.yq_tree.specs.CollectionTelling.{collection_told};
 ghost use Rattle.yq_tree.specs.EntryReading as reading;
 ghost use Rattle.yq_tree.specs.Extents.{IsShown};
-ghost use Rattle.yq_tree.specs.RowWalk.{AreLines, HasDocument, InEach, IsLine, OfLines};
+ghost use Rattle.yq_tree.specs.RowWalk.{HasDocument, InEach, IsSpot, OfLines, lines_stop};
 ghost use Rattle.yq_tree.specs.PathPieces.{piece_at};
 ghost use Rattle.yq_documents.specs.Lines.{lines_of};
 ghost use Rattle.yq_documents.specs.Located.{steps_of};
@@ -19,9 +19,9 @@ ghost use Rattle.yq_documents.specs.declared.path.Part.TheVariants as parts;
 
 use crate::cut_text::CutText;
 use crate::places::entry_place::lines_place;
-use crate::places::spot::{Spot, Stretch, all_lines, column_at, lines_under};
-use crate::places::spot_marks::{has_head, is_bare};
-use crate::places::spot_reach::line_at;
+use crate::places::node_place::{NodePlace, node_place};
+use crate::places::spot::{Spot, Stretch, behind_all, column_at, is_deeper};
+use crate::places::spot_marks::is_bare;
 use yq_documents::{Path, Span};
 use yq_inline::Step;
 use yq_rows::Rows;
@@ -47,40 +47,32 @@ pub(crate) struct Collection {
     pub(crate) place: Span,
 }
 
-/// The block collection for which the lines from one up to another one stand.
-fn lines_collection(rows: &Rows<'_>, document: Stretch, from: Spot, to: Spot) -> Option<Collection>
+/// The block collection for which the lines stand, from one on, that are deeper than a level.
+fn lines_collection(
+    rows: &Rows<'_>,
+    document: Stretch,
+    from: Spot,
+    floor: usize,
+) -> Option<Collection>
     requires shown { IsShown rows.now }
     requires document { HasDocument rows.now document }
-    requires lines { AreLines rows.now document from to }
+    requires from { IsSpot rows.now document from }
     ensures column { OfLines rows.now document (λ ls n. option_map (λ x. x.column) result ≡
-        telling.lines_column ls (n from) (n to)) }
-    ensures place { IfSome result (λ x. InEach rows.now document (λ first c rs n. Some (span x.place) ≡ reading.lines_content first c rs (n from) (n to))) }
+        telling.lines_column ls (n from) (lines_stop (n from) floor ls)) }
+    ensures place { IfSome result (λ x. InEach rows.now document (λ first c rs n.
+        Some (span x.place) ≡ reading.lines_content first c rs (n from) (lines_stop (n from) floor (lines_of rs)))) }
 {
-    if from.row >= to.row {
+    if !is_deeper(rows, document, from, floor) {
         return None;
     }
     if is_bare(rows, document, from) {
         return None;
     }
+    let to = behind_all(rows, document, from, floor);
     Some(Collection {
         column: column_at(rows, from),
         place: lines_place(rows, document, from, to),
     })
-}
-
-/// The block collection under a line, if it has no head.
-fn line_collection(rows: &Rows<'_>, document: Stretch, at: Spot) -> Option<Collection>
-    requires shown { IsShown rows.now }
-    requires document { HasDocument rows.now document }
-    requires at { IsLine rows.now document at }
-    ensures column { OfLines rows.now document (λ ls n. option_map (λ x. x.column) result ≡ telling.under_column ls (n at)) }
-    ensures place { IfSome result (λ x. InEach rows.now document (λ first c rs n. Some (span x.place) ≡ reading.line_content first c rs (n at))) }
-{
-    if has_head(rows, document, at) {
-        return None;
-    }
-    let (from, to) = lines_under(rows, document, at);
-    lines_collection(rows, document, from, to)
 }
 
 /// The block collection to which steps lead.
@@ -90,14 +82,16 @@ fn collection_of(rows: &Rows<'_>, document: Stretch, steps: &[Step]) -> Option<C
     ensures column { OfLines rows.now document (λ ls n. option_map (λ x. x.column) result ≡
         telling.column_of (map step_of steps.now) ls) }
     ensures place { IfSome result (λ x. InEach rows.now document (λ first c rs n.
-        Some (span x.place) ≡ reading.content_of first c rs (map step_of steps.now))) }
+        Some (span x.place) ≡ reading.line_content_of first c rs (map step_of steps.now))) }
 {
-    if steps.is_empty() {
-        let (from, to) = all_lines(document);
-        return lines_collection(rows, document, from, to);
+    let (place, left) = node_place(rows, document, steps)?;
+    if !left.is_empty() {
+        return None;
     }
-    let at = line_at(rows, document, steps)?;
-    line_collection(rows, document, at)
+    match place {
+        NodePlace::Head(_) => None,
+        NodePlace::Lines(from, floor) => lines_collection(rows, document, from, floor),
+    }
 }
 
 /// The end of the block collection that ends at a place, in bytes, before its last break.

@@ -4,64 +4,54 @@ ghost use Rattle.yq_inline.specs.Entries.{step_of};
 ghost use Rattle.yq_rows.specs.Rows.{Cut};
 ghost use Rattle.yq_tree.specs.EntryReading as spec;
 ghost use Rattle.yq_tree.specs.Extents.{IsShown};
-ghost use Rattle.yq_tree.specs.RowWalk.{AreLines, HasDocument, InEach, IsLine, line_number};
+ghost use Rattle.yq_tree.specs.RowWalk.{HasDocument, InEach, IsSpot, line_number, lines_stop};
+ghost use Rattle.yq_documents.specs.Lines.{lines_of};
 ghost use Rattle.yq_documents.specs.Pieces.{span};
 ghost use Rattle.yq_documents.specs.Reading.{cut_of};
 
 use crate::cut_text::CutText;
 use crate::places::entry_place::lines_place;
+use crate::places::node_place::{NodePlace, node_place};
 use crate::places::row_place::head_extent;
-use crate::places::spot::{Spot, Stretch, all_lines, lines_under};
-use crate::places::spot_marks::{has_head, is_bare};
-use crate::places::spot_reach::line_at;
+use crate::places::spot::{Spot, Stretch, behind_all, is_deeper};
+use crate::places::spot_marks::is_bare;
 use yq_documents::{Path, Span};
 use yq_inline::Step;
 use yq_rows::Rows;
 
-/// The place of the node for which the lines from one up to another one stand.
-fn lines_content(rows: &Rows<'_>, document: Stretch, from: Spot, to: Spot) -> Option<Span>
+/// The place of the node for which the lines stand, from one on, that are deeper than a level.
+fn lines_content(rows: &Rows<'_>, document: Stretch, from: Spot, floor: usize) -> Option<Span>
     requires shown { IsShown rows.now }
     requires document { HasDocument rows.now document }
-    requires lines { AreLines rows.now document from to }
-    ensures { InEach rows.now document (λ first c rs n. option_map span result ≡ spec.lines_content first c rs (n from) (n to)) }
+    requires from { IsSpot rows.now document from }
+    ensures { InEach rows.now document (λ first c rs n. option_map span result ≡
+        spec.lines_content first c rs (n from) (lines_stop (n from) floor (lines_of rs))) }
 {
-    if from.row >= to.row {
+    if !is_deeper(rows, document, from, floor) {
         return None;
     }
     if is_bare(rows, document, from) {
-        Some(head_extent(rows, from.row))
-    } else {
-        Some(lines_place(rows, document, from, to))
+        return Some(head_extent(rows, from.row));
     }
+    let to = behind_all(rows, document, from, floor);
+    Some(lines_place(rows, document, from, to))
 }
 
-/// The place of the node of a line.
-fn line_content(rows: &Rows<'_>, document: Stretch, at: Spot) -> Option<Span>
-    requires shown { IsShown rows.now }
-    requires document { HasDocument rows.now document }
-    requires at { IsLine rows.now document at }
-    ensures { InEach rows.now document (λ first c rs n. option_map span result ≡ spec.line_content first c rs (n at)) }
-{
-    if has_head(rows, document, at) {
-        return Some(head_extent(rows, at.row));
-    }
-    let (from, to) = lines_under(rows, document, at);
-    lines_content(rows, document, from, to)
-}
-
-/// The place of the node of a document, or of the line to which steps lead.
+/// The place of the node to which steps lead, unless they go on in a head.
 fn content_of(rows: &Rows<'_>, document: Stretch, steps: &[Step]) -> Option<Span>
     requires shown { IsShown rows.now }
     requires document { HasDocument rows.now document }
     ensures { InEach rows.now document (λ first c rs n. option_map span result ≡
         spec.line_content_of first c rs (map step_of steps.now)) }
 {
-    if steps.is_empty() {
-        let (from, to) = all_lines(document);
-        return lines_content(rows, document, from, to);
+    let (place, left) = node_place(rows, document, steps)?;
+    if !left.is_empty() {
+        return None;
     }
-    let at = line_at(rows, document, steps)?;
-    line_content(rows, document, at)
+    match place {
+        NodePlace::Head(at) => Some(head_extent(rows, at.row)),
+        NodePlace::Lines(from, floor) => lines_content(rows, document, from, floor),
+    }
 }
 
 impl CutText<'_, '_> {

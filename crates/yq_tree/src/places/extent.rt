@@ -1,6 +1,5 @@
 //! Where what rows spell stands in their text.
-ghost use Rattle.std.specs.Prelude.{◌≡◌, ◌<◌, ◌≤◌, length, take, slice_get, Some};
-ghost use Rattle.std.specs.List.{sum_by};
+ghost use Rattle.std.specs.Prelude.{◌≡◌, ◌<◌, ◌≤◌, length, slice_get, Some};
 ghost use Rattle.yq_scalar.specs.Characters.{text_limit};
 ghost use Rattle.yq_rows.specs.Offsets.{row_length};
 ghost use Rattle.yq_rows.specs.Rows.{Cut, Row as RowOf};
@@ -40,19 +39,6 @@ pub(crate) fn front_len(row: &Row<'_>) -> usize
         + row.space().len()
         + row.anchor().len()
         + row.apart().len()
-}
-
-/// How long the first rows are.
-pub(crate) fn rows_len(rows: &Rows<'_>, count: usize) -> usize
-    requires within { count ≤ length rows.now.rows }
-    requires short { spec.shown_length rows.now ≤ text_limit }
-    ensures { result ≡ sum_by row_length (take count rows.now.rows) }
-{
-    let mut len = 0;
-    'rows: for at in 0..count {
-        len += row_len(&rows.row(at));
-    }
-    len
 }
 
 /// Where row `i` begins, with its gap.

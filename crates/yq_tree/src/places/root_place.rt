@@ -1,11 +1,6 @@
 //! Where the root of a document stands that is a block collection, or would stand where none is
 //! written.
-ghost use Rattle.std.specs.Prelude.{◌≡◌, ◌<◌, ◌≤◌, ℕ, IfSome, Some, length, option_map, slice_get, take};
-ghost use Rattle.std.specs.List.{sum_by};
-ghost use Rattle.yq_rows.specs.View.{Bound};
-ghost use Rattle.yq_scalar.specs.Characters.{text_limit};
-ghost use Rattle.yq_tree.specs.Extents as extents;
-ghost use Rattle.yq_tree.specs.Extents.{IsShown};
+ghost use Rattle.std.specs.Prelude.{◌≡◌, ◌<◌, IfSome, length, option_map};
 ghost use Rattle.yq_documents.specs.Located.{steps_of};
 ghost use Rattle.yq_documents.specs.Reading.{cut_of};
 ghost use Rattle.yq_tree.specs.RootPlaces as spec;
@@ -13,7 +8,6 @@ ghost use Rattle.yq_tree.specs.RootReading as reading;
 
 use crate::cut_text::CutText;
 use crate::places::collection_end::Collection;
-use crate::places::extent::rows_len;
 use crate::places::stretch::{is_sought, left_behind};
 use crate::places::written::cut_at;
 use yq_documents::{Path, first_is_document};
@@ -50,30 +44,6 @@ fn part_number(rows: &Rows<'_>, first: bool, i: usize) -> Option<usize>
     None
 }
 
-/// How long the ends of the first parts are, with the markers behind them.
-fn parts_len(rows: &Rows<'_>, count: usize) -> usize
-    requires within { count ≤ length rows.now.bounds }
-    requires short { extents.shown_length rows.now ≤ text_limit }
-    ensures { result ≡ sum_by extents.bound_length (take count rows.now.bounds) }
-{
-    let mut len = 0;
-    'parts: for at in 0..count {
-        let bound = rows.part(at);
-        len += bound.end.len() + bound.marker.len();
-    }
-    len
-}
-
-/// Where a part ends, in bytes, behind its last gap.
-fn end_len(rows: &Rows<'_>, part: usize) -> usize
-    requires within { part < length rows.now.bounds }
-    requires shown { IsShown rows.now }
-    ensures { (b : Bound) → slice_get rows.now.bounds part ≡ Some b → result ≡ reading.end_length part b rows.now }
-{
-    let bound = rows.part(part);
-    rows_len(rows, bound.rows) + parts_len(rows, part) + bound.end.len()
-}
-
 impl<'t> CutText<'_, 't> {
     /// Where document `doc` ends, in bytes, if it has no rows.
     fn unwritten_end(&self, doc: usize) -> Option<usize>
@@ -86,7 +56,7 @@ impl<'t> CutText<'_, 't> {
             return None;
         }
         let part = part_number(rows, first_is_document(rows), doc)?;
-        Some(end_len(rows, part))
+        Some(rows.part_end(part))
     }
 
     /// The place of the root of document `doc`, if it has no rows.

@@ -1,13 +1,13 @@
 //! Lines of a document by their rows, and how deep they are.
-ghost use Rattle.std.specs.Prelude.{◌≡◌, ◌<◌, ◌≤◌, ◌+◌, ◌-◌, ◌^◌, drop, length, not, slice_get, suc, take, IsTrue, List, Some};
-ghost use Rattle.yq_lines.specs.Ends.{IsEndOf, is_end, lines_end, part};
-ghost use Rattle.yq_rows.specs.Rows.{Row as RowOf};
-ghost use Rattle.yq_rows.specs.View.{view, Shown, Slices};
+ghost use Rattle.std.specs.Prelude.{◌≡◌, ◌<◌, ◌≤◌, ◌+◌, ◌-◌, drop, length, not, slice_get, take, IsTrue, Some};
+ghost use Rattle.yq_lines.specs.Ends.{IsEndOf, is_end, part};
+ghost use Rattle.yq_lines.specs.Outline.{level};
+ghost use Rattle.yq_rows.specs.View.{view, Slices};
 ghost use Rattle.yq_documents.specs.Lines.{lines_of};
 ghost use Rattle.yq_scalar.specs.Characters.{text_limit};
 ghost use Rattle.yq_tree.specs.Extents.{IsShown};
 ghost use Rattle.yq_tree.specs.RowWalk as spec;
-ghost use Rattle.yq_tree.specs.RowWalk.{AreLines, HasDocument, IsLine, IsSpot, OfLines};
+ghost use Rattle.yq_tree.specs.RowWalk.{HasDocument, IsLine, IsSpot, OfLine, OfLines, lines_stop};
 
 use crate::places::extent::lines_before_mark;
 use crate::places::row_place::dash_at;
@@ -18,6 +18,8 @@ use yq_rows::{Row, Rows};
 pub(crate) struct Stretch {
     pub(crate) first: usize,
     pub(crate) end: usize,
+    /// An item of the text from which a walk may go on.
+    pub(crate) known: Option<KnownItem>,
 }
 
 /// A line of a document by its row, of those of the text, and by how many lines of that row stand
@@ -26,6 +28,22 @@ pub(crate) struct Stretch {
 pub(crate) struct Spot {
     pub(crate) row: usize,
     pub(crate) line: usize,
+}
+
+/// An item of a collection of rows, from which a walk over the items behind it may go on: how many
+/// of them stand before its row.
+#[derive(Clone, Copy, Debug)]
+pub struct KnownItem {
+    /// The line of the collection's first item.
+    pub(crate) under: Spot,
+    /// How deep the collection is; its items are deeper.
+    pub(crate) floor: usize,
+    /// How deep its items are.
+    pub(crate) level: usize,
+    /// How many of its items begin before the row.
+    pub(crate) index: usize,
+    /// How many rows of the text stand before the item's.
+    pub(crate) row: usize,
 }
 
 /// A line of a row.
@@ -171,33 +189,19 @@ pub(crate) fn next(rows: &Rows<'_>, document: Stretch, spot: Spot) -> Spot
     }
 }
 
-/// The lines of a document: from the first one up to the end.
-pub(crate) fn all_lines(document: Stretch) -> (Spot, Spot)
-    ensures lines { (s : Shown) → HasDocument s document → AreLines s document result.0 result.1 }
-    ensures begin { (rs : List RowOf) → spec.line_number document rs result.0 ≡ 0 }
-    ensures stop { (s : Shown) → OfLines s document (λ ls n. n result.1 ≡ length ls) }
-{
-    let begin = Spot {
-        row: document.first,
-        line: 0,
-    };
-    let stop = Spot {
-        row: document.end,
-        line: 0,
-    };
-    (begin, stop)
-}
-
-/// The lines under a line: from the one behind it up to where they end.
-pub(crate) fn lines_under(rows: &Rows<'_>, document: Stretch, spot: Spot) -> (Spot, Spot)
+/// What is behind the lines from one on that are deeper than a level, of which that is one.
+pub(crate) fn behind_all(rows: &Rows<'_>, document: Stretch, from: Spot, floor: usize) -> Spot
     requires shown { IsShown rows.now }
     requires document { HasDocument rows.now document }
-    requires spot { IsLine rows.now document spot }
-    ensures lines { AreLines rows.now document result.0 result.1 }
-    ensures begin { OfLines rows.now document (λ ls n. n result.0 ≡ suc (n spot)) }
-    ensures stop { OfLines rows.now document (λ ls n. n result.1 ≡ lines_end (n spot) ls) }
+    requires from { IsLine rows.now document from }
+    requires deeper { OfLine rows.now document from (λ l. floor < level l) }
+    ensures number { OfLines rows.now document (λ ls n. n result ≡ lines_stop (n from) floor ls) }
+    ensures spot { IsSpot rows.now document result }
+    ensures line { result.line ≡ 0 }
+    ensures later { from.row < result.row }
 {
-    let begin = next(rows, document, spot);
-    let stop = behind(rows, document, spot);
-    (begin, stop)
+    Spot {
+        row: rows_under(rows, from.row + 1, document.end, floor),
+        line: 0,
+    }
 }

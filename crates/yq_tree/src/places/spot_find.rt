@@ -5,6 +5,7 @@ ghost use Rattle.yq_scalar.specs.Paths as steps;
 ghost use Rattle.yq_tree.specs.Extents.{IsShown};
 ghost use Rattle.yq_tree.specs.RowWalk.{Finds, HasDocument, IsLine, IsSpot};
 
+use crate::places::known_item::walk_begin;
 use crate::places::spot::{Spot, Stretch, behind, is_deeper};
 use crate::places::spot_marks::{is_item_at, is_key};
 use yq_inline::Step;
@@ -49,8 +50,9 @@ fn find_item(
     ensures within { IfSome result (IsLine rows.now document) }
     ensures found { Finds rows.now document under floor (steps.Nth index) result }
 {
-    let mut at = under;
-    let mut left = index;
+    let begin = walk_begin(rows, document, under, floor, index);
+    let mut at = begin.0;
+    let mut left = begin.1;
     'lines: while is_deeper(rows, document, at, floor) {
         if is_item_at(rows, document, at, left) {
             return Some(at);

@@ -81,7 +81,12 @@ fn next_from(rows: &Rows<'_>, document: Stretch, at: Spot, step: &Step) -> Optio
 }
 
 /// Where a step leads from a line, or from the root.
-fn next_at(rows: &Rows<'_>, document: Stretch, from: Option<Spot>, step: &Step) -> Option<Next>
+pub(crate) fn next_at(
+    rows: &Rows<'_>,
+    document: Stretch,
+    from: Option<Spot>,
+    step: &Step,
+) -> Option<Next>
     requires shown { IsShown rows.now }
     requires document { HasDocument rows.now document }
     requires from { IfSome from (IsLine rows.now document) }

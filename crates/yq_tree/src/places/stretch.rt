@@ -1,16 +1,17 @@
 //! The rows of documents among those of a text, and lines of them at paths.
-ghost use Rattle.std.specs.Prelude.{◌≡◌, ◌&&◌, ◌==◌, ◌-◌, map, option_map, if◌then◌else◌};
+ghost use Rattle.std.specs.Prelude.{◌≡◌, ◌&&◌, ◌==◌, ◌-◌, map, option_map, if◌then◌else◌, IfSome};
 ghost use Rattle.yq_inline.specs.Entries.{step_of};
+ghost use Rattle.yq_rows.specs.View.{shown};
 ghost use Rattle.yq_documents.specs.Reading.{cut_of};
 ghost use Rattle.yq_documents.specs.Seats.{document_row, seat_at, seat_of};
 ghost use Rattle.yq_tree.specs.Extents.{IsShown};
 ghost use Rattle.yq_tree.specs.RowWalk as spec;
-ghost use Rattle.yq_tree.specs.RowWalk.{HasDocument};
+ghost use Rattle.yq_tree.specs.RowWalk.{HasDocument, IsKnown};
 ghost use Rattle.yq_tree.specs.SeatReading.{numbers, told};
 
 use crate::cut_text::CutText;
 use crate::places::extent::lines_before_mark;
-use crate::places::spot::{Seat, Stretch};
+use crate::places::spot::{KnownItem, Seat, Stretch};
 use crate::places::spot_reach::line_at;
 use yq_documents::{Path, first_is_document};
 use yq_inline::Step;
@@ -34,9 +35,11 @@ pub(crate) fn left_behind(is_document: bool, left: usize) -> usize
     }
 }
 
-/// The rows of document `i`, where it is known of the first part whether it is one.
-fn begin_rows(rows: &Rows<'_>, first: bool, i: usize) -> Option<Stretch>
-    ensures { option_map spec.stretch_told result ≡ spec.begin_rows first i 0 rows.now.bounds }
+/// The rows of document `i`, where it is known of the first part whether it is one, with an item that
+/// is known.
+fn begin_rows(rows: &Rows<'_>, first: bool, i: usize, known: Option<KnownItem>) -> Option<Stretch>
+    ensures place { option_map spec.stretch_told result ≡ spec.begin_rows first i 0 rows.now.bounds }
+    ensures known { IfSome result (λ d. d.known ≡ known) }
 {
     let mut is_document = first;
     let mut left = i;
@@ -47,6 +50,7 @@ fn begin_rows(rows: &Rows<'_>, first: bool, i: usize) -> Option<Stretch>
             return Some(Stretch {
                 first: from,
                 end: bound.rows,
+                known,
             });
         }
         left = left_behind(is_document, left);
@@ -74,10 +78,12 @@ fn seat_along(rows: &Rows<'_>, document: Stretch, steps: &[Step]) -> Option<Seat
 impl<'d, 't> CutText<'d, 't> {
     /// The rows of document `doc`, counted from 0, if there is one.
     pub(crate) fn stretch(&self, doc: usize) -> Option<Stretch>
-        ensures { option_map spec.stretch_told result ≡ spec.document_rows doc (cut_of self.now) }
+        ensures place { option_map spec.stretch_told result ≡ spec.document_rows doc (cut_of self.now) }
+        ensures known { IfSome result (λ d. IfSome d.known (IsKnown (shown (cut_of self.now)).rows)) }
     {
         let rows = self.rows();
-        begin_rows(rows, first_is_document(rows), doc)
+        let known = self.known();
+        begin_rows(rows, first_is_document(rows), doc, known)
     }
 
     /// The line of the entry or item at a path, if one of a row is.

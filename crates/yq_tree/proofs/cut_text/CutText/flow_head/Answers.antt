@@ -14,20 +14,20 @@ use Rattle.yq_tree.proofs.WalkNodes.{row_is, row_in_cut}
 use Rattle.yq_tree.proofs.cut_text.CutText.flow_head.Goals as goal
 
 pub node_place-requires-clause-document : goal.node_place-requires-clause-document
-node_place-requires-clause-document c = (found_document c.args.self.now c.rows-rows.result.now (cut_of c.args.self.now) c.args.doc c.in-Some.document c.whole-whole.ensures.cut c.rows-rows.ensures c.in-Some.ensures).document
+node_place-requires-clause-document c = (found_document c.args.self.now c.rows-rows.result.now (cut_of c.args.self.now) c.args.doc c.in-Some.document c.whole-whole.ensures.cut c.rows-rows.ensures c.in-Some.ensures.place c.in-Some.ensures.known).document
 
 pub place_line-requires-clause-document : goal.place_line-requires-clause-document
-place_line-requires-clause-document c = (found_document c.args.self.now c.rows-rows.result.now (cut_of c.args.self.now) c.args.doc c.in-Some.document c.whole-whole.ensures.cut c.rows-rows.ensures c.in-Some.ensures).document
+place_line-requires-clause-document c = (found_document c.args.self.now c.rows-rows.result.now (cut_of c.args.self.now) c.args.doc c.in-Some.document c.whole-whole.ensures.cut c.rows-rows.ensures c.in-Some.ensures.place c.in-Some.ensures.known).document
 
 pub row_head-requires-clause-within : goal.row_head-requires-clause-within
 row_head-requires-clause-within c =
-    let f = found_document c.args.self.now c.rows-rows.result.now (cut_of c.args.self.now) c.args.doc c.in-Some.document c.whole-whole.ensures.cut c.rows-rows.ensures c.in-Some.ensures in
+    let f = found_document c.args.self.now c.rows-rows.result.now (cut_of c.args.self.now) c.args.doc c.in-Some.document c.whole-whole.ensures.cut c.rows-rows.ensures c.in-Some.ensures.place c.in-Some.ensures.known in
     let k = found_in_cut c.args.self.now c.rows-rows.result.now (cut_of c.args.self.now) c.args.doc c.in-Some.document c.whole-whole.ensures.cut c.rows-rows.ensures f in
     line_within c.rows-rows.result.now c.in-Some.document (cut_of c.args.self.now) k.0 c.in-Some-place_line.at c.in-Some-place_line.ensures.within
 
 pub row_head-requires-clause-fit : goal.row_head-requires-clause-fit
 row_head-requires-clause-fit c =
-    let f = found_document c.args.self.now c.rows-rows.result.now (cut_of c.args.self.now) c.args.doc c.in-Some.document c.whole-whole.ensures.cut c.rows-rows.ensures c.in-Some.ensures in
+    let f = found_document c.args.self.now c.rows-rows.result.now (cut_of c.args.self.now) c.args.doc c.in-Some.document c.whole-whole.ensures.cut c.rows-rows.ensures c.in-Some.ensures.place c.in-Some.ensures.known in
     let k = found_in_cut c.args.self.now c.rows-rows.result.now (cut_of c.args.self.now) c.args.doc c.in-Some.document c.whole-whole.ensures.cut c.rows-rows.ensures f in
     line_fit c.rows-rows.result.now (cut_of c.args.self.now) c.args.doc c.in-Some.document f k.0 c.in-Some-place_line.at k.1 c.whole-whole.ensures.documents c.in-Some-place_line.ensures.within
 
@@ -37,7 +37,7 @@ returns-in_default-node_place c =
     let steps : List Step = map step_of c.args.steps.now in
     let rows = c.rows-rows.result.now in
     let d = c.in-Some.document in
-    place_found t rows (cut_of t) c.args.doc d None (λ k x rs. rows_collection k x rs steps) c.whole-whole.ensures.cut c.rows-rows.ensures c.in-Some.ensures
+    place_found t rows (cut_of t) c.args.doc d None (λ k x rs. rows_collection k x rs steps) c.whole-whole.ensures.cut c.rows-rows.ensures c.in-Some.ensures.place c.in-Some.ensures.known
     (λ k. no_collection d.first (cut_of t) k.document.rows steps (no_head_at (lines_of k.document.rows) steps (c.in_default-node_place.ensures.found k.document)))
     ∙ collection_is t (cut_of t) c.args.doc steps c.whole-whole.ensures.cut.text
 
@@ -47,7 +47,7 @@ returns-in_default-place_line c =
     let steps : List Step = map step_of c.args.steps.now in
     let rows = c.rows-rows.result.now in
     let d = c.in-Some.document in
-    place_found t rows (cut_of t) c.args.doc d None (λ k x rs. rows_collection k x rs steps) c.whole-whole.ensures.cut c.rows-rows.ensures c.in-Some.ensures
+    place_found t rows (cut_of t) c.args.doc d None (λ k x rs. rows_collection k x rs steps) c.whole-whole.ensures.cut c.rows-rows.ensures c.in-Some.ensures.place c.in-Some.ensures.known
     (λ k. no_collection d.first (cut_of t) k.document.rows steps (head_line_at (lines_of k.document.rows) steps (map step_of c.in-Some-node_place.left.now) (place_told d k.document.rows c.in-Some-node_place.place) None (c.in-Some-node_place.ensures.found k.document) (c.in_default-place_line.ensures.found k.document)))
     ∙ collection_is t (cut_of t) c.args.doc steps c.whole-whole.ensures.cut.text
 
@@ -57,7 +57,7 @@ returns-in-Nothing c =
     let steps : List Step = map step_of c.args.steps.now in
     let rows = c.rows-rows.result.now in
     let d = c.in-Some.document in
-    place_found t rows (cut_of t) c.args.doc d None (λ k x rs. rows_collection k x rs steps) c.whole-whole.ensures.cut c.rows-rows.ensures c.in-Some.ensures
+    place_found t rows (cut_of t) c.args.doc d None (λ k x rs. rows_collection k x rs steps) c.whole-whole.ensures.cut c.rows-rows.ensures c.in-Some.ensures.place c.in-Some.ensures.known
     (λ k. flow_told t rows d (cut_of t) k c.in-Some-place_line.at c.in-Some-place_line.ensures.within steps (map step_of c.in-Some-node_place.left.now) None c.whole-whole.ensures.cut.text
     (head_line_at (lines_of k.document.rows) steps (map step_of c.in-Some-node_place.left.now) (place_told d k.document.rows c.in-Some-node_place.place) (Some (line_number d k.document.rows c.in-Some-place_line.at)) (c.in-Some-node_place.ensures.found k.document) (c.in-Some-place_line.ensures.found k.document))
     (ap head_flow (sym c.in-Nothing.is) ∙ c.in_ok-head.ensures.flow (row_is rows d (cut_of t) k c.in-Some-place_line.at c.in-Some-place_line.ensures.within) (row_in_cut rows d (cut_of t) k c.in-Some-place_line.at c.in-Some-place_line.ensures.within)))
@@ -69,7 +69,7 @@ returns-in-Scalar c =
     let steps : List Step = map step_of c.args.steps.now in
     let rows = c.rows-rows.result.now in
     let d = c.in-Some.document in
-    place_found t rows (cut_of t) c.args.doc d None (λ k x rs. rows_collection k x rs steps) c.whole-whole.ensures.cut c.rows-rows.ensures c.in-Some.ensures
+    place_found t rows (cut_of t) c.args.doc d None (λ k x rs. rows_collection k x rs steps) c.whole-whole.ensures.cut c.rows-rows.ensures c.in-Some.ensures.place c.in-Some.ensures.known
     (λ k. flow_told t rows d (cut_of t) k c.in-Some-place_line.at c.in-Some-place_line.ensures.within steps (map step_of c.in-Some-node_place.left.now) None c.whole-whole.ensures.cut.text
     (head_line_at (lines_of k.document.rows) steps (map step_of c.in-Some-node_place.left.now) (place_told d k.document.rows c.in-Some-node_place.place) (Some (line_number d k.document.rows c.in-Some-place_line.at)) (c.in-Some-node_place.ensures.found k.document) (c.in-Some-place_line.ensures.found k.document))
     (ap head_flow (sym c.in-Scalar.is) ∙ c.in_ok-head.ensures.flow (row_is rows d (cut_of t) k c.in-Some-place_line.at c.in-Some-place_line.ensures.within) (row_in_cut rows d (cut_of t) k c.in-Some-place_line.at c.in-Some-place_line.ensures.within)))
@@ -81,7 +81,7 @@ returns c =
     let steps : List Step = map step_of c.args.steps.now in
     let rows = c.rows-rows.result.now in
     let d = c.in-Some.document in
-    place_found t rows (cut_of t) c.args.doc d _ (λ k x rs. rows_collection k x rs steps) c.whole-whole.ensures.cut c.rows-rows.ensures c.in-Some.ensures
+    place_found t rows (cut_of t) c.args.doc d _ (λ k x rs. rows_collection k x rs steps) c.whole-whole.ensures.cut c.rows-rows.ensures c.in-Some.ensures.place c.in-Some.ensures.known
     (λ k. flow_told t rows d (cut_of t) k c.in-Some-place_line.at c.in-Some-place_line.ensures.within steps (map step_of c.in-Some-node_place.left.now) (Some (view c.in-Inline.node.value)) c.whole-whole.ensures.cut.text
     (head_line_at (lines_of k.document.rows) steps (map step_of c.in-Some-node_place.left.now) (place_told d k.document.rows c.in-Some-node_place.place) (Some (line_number d k.document.rows c.in-Some-place_line.at)) (c.in-Some-node_place.ensures.found k.document) (c.in-Some-place_line.ensures.found k.document))
     (ap head_flow (sym c.in-Inline.is) ∙ c.in_ok-head.ensures.flow (row_is rows d (cut_of t) k c.in-Some-place_line.at c.in-Some-place_line.ensures.within) (row_in_cut rows d (cut_of t) k c.in-Some-place_line.at c.in-Some-place_line.ensures.within)))

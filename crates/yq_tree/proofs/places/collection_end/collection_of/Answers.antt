@@ -1,46 +1,54 @@
-use Rattle.std.proofs.Common.{◌≡◌, [], eqb, map, refl, ℕ, Option, sym, ap, ◌∙◌}
+use Rattle.std.proofs.Common.{◌≡◌, ℕ, eqb, map, Option, None, Some, refl, sym, ap, ◌∙◌}
 use Rattle.std.proofs.lemmas.List.{length-map}
 use Rattle.std.proofs.lemmas.Option.{IfSome_then}
 use Rattle.yq_documents.specs.Lines.{lines_of}
 use Rattle.yq_inline.specs.Entries.{step_of}
-use Rattle.yq_scalar.specs.Answers.{◌>>=◌}
-use Rattle.yq_tree.specs.CollectionTelling.{column_of, lines_column, under_column}
-use Rattle.yq_tree.specs.EntryReading.{content_of, lines_content}
+use Rattle.yq_tree.specs.CollectionTelling.{column_of, lines_column}
+use Rattle.yq_tree.specs.EntryReading.{line_content_of, line_head, lines_content}
+use Rattle.yq_tree.specs.NodeReading.{at_head, at_lines, node_place, place_told}
 use Rattle.yq_tree.specs.RowWalk.{line_number}
-use Rattle.yq_tree.proofs.EntryPlaceLaws.{line_content_is}
-use Rattle.yq_tree.proofs.WalkNodes.{along_line, no_steps}
+use Rattle.yq_tree.proofs.NodePlaceLaws.{said_further, said_nowhere, said_there}
 use Rattle.yq_tree.proofs.places.collection_end.collection_of.Goals as goal
 
-pub returns-then-is_empty-clause-column : goal.returns-then-is_empty-clause-column
-returns-then-is_empty-clause-column c = λ h.
-    let none : map step_of c.args.steps.now ≡ [] = no_steps (map step_of c.args.steps.now) (c.if-is_empty.ensures ∙ sym (ap (λ n. eqb n 0) (length-map c.args.steps.now step_of))) in
-    c.lines_collection.ensures.column h
-    ∙ ((λ i. lines_column (lines_of h.rows) (c.all_lines.ensures.begin h.rows i) (c.all_lines.ensures.stop c.args.rows.now h i)) ∙ ap (λ steps. column_of steps (lines_of h.rows)) (sym none))
+-- a node in a head is no block collection
+abbrev no_column : ℕ → Option ℕ
+no_column n = None
 
-pub returns-then-is_empty-clause-place : goal.returns-then-is_empty-clause-place
-returns-then-is_empty-clause-place c = IfSome_then c.lines_collection.result c.lines_collection.ensures.place (λ x told cut k.
+pub returns-in_err-place-clause-column : goal.returns-in_err-place-clause-column
+returns-in_err-place-clause-column c = rw c.from_residual.ensures (λ h.
+    said_nowhere no_column (lines_column (lines_of h.rows)) (lines_of h.rows) (λ ss. column_of ss (lines_of h.rows)) refl (λ s ss. refl) (map step_of c.args.steps.now) (c.in_err-place.ensures.found h))
+
+pub returns-then-not-is_empty-clause-column : goal.returns-then-not-is_empty-clause-column
+returns-then-not-is_empty-clause-column c = λ h.
+    said_further no_column (lines_column (lines_of h.rows)) (lines_of h.rows) (λ ss. column_of ss (lines_of h.rows)) refl (λ s ss. refl) (map step_of c.args.steps.now)
+    (place_told c.args.document h.rows c.in_ok-place.place) (map step_of c.in_ok-place.left.now) (c.in_ok-place.ensures.found h) (c.if-not-is_empty.ensures ∙ sym (ap (λ n. eqb n 0) (length-map c.in_ok-place.left.now step_of)))
+
+pub returns-in-Head-clause-column : goal.returns-in-Head-clause-column
+returns-in-Head-clause-column c = λ h.
+    let ls = lines_of h.rows in
+    let left = map step_of c.in_ok-place.left.now in
+    let n = line_number c.args.document h.rows c.in-Head.field-0 in
+    let found : Some (at_head n, left) ≡ node_place (map step_of c.args.steps.now) ls = ap (λ p. Some (place_told c.args.document h.rows p, left)) (sym c.in-Head.is) ∙ c.in_ok-place.ensures.found h in
+    said_there no_column (lines_column ls) ls (λ ss. column_of ss ls) refl (λ s ss. refl) (map step_of c.args.steps.now) (at_head n) left found
+    (c.if-not-is_empty.ensures ∙ sym (ap (λ m. eqb m 0) (length-map c.in_ok-place.left.now step_of)))
+
+pub returns-in-Lines-clause-column : goal.returns-in-Lines-clause-column
+returns-in-Lines-clause-column c = λ h.
+    let ls = lines_of h.rows in
+    let left = map step_of c.in_ok-place.left.now in
+    let n = line_number c.args.document h.rows c.in-Lines.from in
+    let found : Some (at_lines n c.in-Lines.floor, left) ≡ node_place (map step_of c.args.steps.now) ls = ap (λ p. Some (place_told c.args.document h.rows p, left)) (sym c.in-Lines.is) ∙ c.in_ok-place.ensures.found h in
+    c.lines_collection.ensures.column h
+    ∙ said_there no_column (lines_column ls) ls (λ ss. column_of ss ls) refl (λ s ss. refl) (map step_of c.args.steps.now) (at_lines n c.in-Lines.floor) left found
+    (c.if-not-is_empty.ensures ∙ sym (ap (λ m. eqb m 0) (length-map c.in_ok-place.left.now step_of)))
+
+pub returns-in-Lines-clause-place : goal.returns-in-Lines-clause-place
+returns-in-Lines-clause-place c = IfSome_then c.lines_collection.result c.lines_collection.ensures.place (λ x told cut k.
     let d = c.args.document in
     let rs = k.document.rows in
-    let none : map step_of c.args.steps.now ≡ [] = no_steps (map step_of c.args.steps.now) (c.if-is_empty.ensures ∙ sym (ap (λ n. eqb n 0) (length-map c.args.steps.now step_of))) in
+    let n = line_number d rs c.in-Lines.from in
+    let left = map step_of c.in_ok-place.left.now in
+    let found : Some (at_lines n c.in-Lines.floor, left) ≡ node_place (map step_of c.args.steps.now) (lines_of rs) = ap (λ p. Some (place_told d rs p, left)) (sym c.in-Lines.is) ∙ c.in_ok-place.ensures.found k.document in
     told cut k
-    ∙ ((λ i. lines_content d.first cut rs (c.all_lines.ensures.begin rs i) (c.all_lines.ensures.stop c.args.rows.now k.document i)) ∙ ap (content_of d.first cut rs) (sym none)))
-
-pub returns-clause-column : goal.returns-clause-column
-returns-clause-column c = λ h.
-    let ls = lines_of h.rows in
-    let some = c.if-is_empty.ensures ∙ sym (ap (λ n. eqb n 0) (length-map c.args.steps.now step_of)) in
-    c.line_collection.ensures.column h
-    ∙ (ap (λ (o : Option ℕ). o >>= under_column ls) (c.in_ok-at.ensures.found h) ∙ along_line (λ steps. column_of steps ls) (under_column ls) ls (map step_of c.args.steps.now) (λ s ss. refl) some)
-
-pub returns-clause-place : goal.returns-clause-place
-returns-clause-place c = IfSome_then c.line_collection.result c.line_collection.ensures.place (λ x told cut k.
-    told cut k ∙ line_content_is c.args.document.first cut k.document.rows (map step_of c.args.steps.now) (line_number c.args.document k.document.rows c.in_ok-at.at) (c.in_ok-at.ensures.found k.document))
-
-pub returns-in_err-at-clause-column : goal.returns-in_err-at-clause-column
-returns-in_err-at-clause-column c = rw c.from_residual.ensures (λ h.
-    let ls = lines_of h.rows in
-    let some = c.if-is_empty.ensures ∙ sym (ap (λ n. eqb n 0) (length-map c.args.steps.now step_of)) in
-    ap (λ (o : Option ℕ). o >>= under_column ls) (c.in_err-at.ensures.found h) ∙ along_line (λ steps. column_of steps ls) (under_column ls) ls (map step_of c.args.steps.now) (λ s ss. refl) some)
-
-pub lines_collection-requires-clause-lines : goal.lines_collection-requires-clause-lines
-lines_collection-requires-clause-lines c = c.all_lines.ensures.lines c.args.rows.now c.requires.document
+    ∙ said_there (line_head d.first cut rs) (lines_content d.first cut rs) (lines_of rs) (line_content_of d.first cut rs) refl (λ s ss. refl) (map step_of c.args.steps.now) (at_lines n c.in-Lines.floor) left found
+    (c.if-not-is_empty.ensures ∙ sym (ap (λ m. eqb m 0) (length-map c.in_ok-place.left.now step_of))))

@@ -6,6 +6,3 @@ pub returns-in-0 : goal.returns-in-0
 returns-in-0 c = λ x e.
     let none : c.level_at.result % 3 ≡ 0 = search rules in
     (rank_of_level c.args.spot.line x c.level_at.result (c.level_at.ensures x e)).0 none
-
-pub returns-in-rank : goal.returns-in-rank
-returns-in-rank c = λ x e. let i = c.in-rank in ?

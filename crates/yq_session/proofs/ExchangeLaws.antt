@@ -1,0 +1,226 @@
+-- Rows and ends of parts of items between others that give way to those of other items, by their places.
+use Rattle.std.proofs.Common.{◌≡◌, ◌⊎◌, inl, inr, ℕ, suc, ◌+◌, ◌-◌, ◌<◌, ◌≤◌, ◌^◌, List, [], ◌∷◌, ◌++◌, length, map, reverse, take, drop, drop_at, Some, slice_get, refl, sym, ap, ◌∙◌, arith, append_assoc, append-nil, length-append, length-take, take_all}
+use Rattle.std.proofs.lemmas.List.{length-map, length-reverse, map_more, take_at}
+use Rattle.std.proofs.lemmas.List.Elements.{All-weaker}
+use Rattle.std.proofs.lemmas.Option.{get_or_from_slice_get, slice_get_within}
+use Rattle.std.specs.List.{All}
+use Rattle.yq_rows.specs.Ends.{end_at}
+use Rattle.yq_rows.specs.Items.{Item, row_item, end_item, items_text}
+use Rattle.yq_rows.specs.Kept.{far, near, ends_near, raised, turned, placed_rows, both_sides, TextsIn}
+use Rattle.yq_rows.specs.Offsets.{offsets_of}
+use Rattle.yq_rows.specs.Regions.{alone}
+use Rattle.yq_rows.specs.Rows.{print_row}
+use Rattle.yq_rows.specs.View.{slices}
+use Rattle.yq_rows.specs.declared.ends.EndPlace.{EndPlace}
+use Rattle.yq_rows.specs.declared.offsets.Offsets as declared
+use Rattle.yq_rows.specs.declared.places.Places.{Places}
+use Rattle.yq_rows.proofs.ItemLaws.{items_text-append}
+use Rattle.yq_rows.proofs.KeptLaws.{far_near, items_apart, near_joined, texts_joined}
+use Rattle.yq_session.specs.Exchanging.{GivesWay, IsMovable, joined_ends, moved_from}
+use Rattle.yq_session.specs.Sides.{ArePlaced, origin, text_length}
+use Rattle.yq_session.specs.declared.sides.Side.{Side}
+use Rattle.yq_session.proofs.BeginLaws.{begin_within, ends_begin, joined_long, rows_begin}
+use Rattle.yq_session.proofs.CountLaws.{ends_count, ends_joined, ends_rows, near_count}
+
+-- one place more
+pub row_more : (by i : ℕ) (os : List declared.Offsets) (o : declared.Offsets) → slice_get os i ≡ Some o → map (raised by) (take (i + 1) os) ≡ map (raised by) (take i os) ++ raised by o ∷ []
+row_more by i os o e =
+    map_more (raised by) os i o (slice_get_within os i o e) ∙ ap (λ (p : declared.Offsets). map (raised by) (take i os) ++ raised by p ∷ []) (get_or_from_slice_get os i o o e)
+
+-- places of items, behind other ones
+pub raised_near : (by n : ℕ) (xs : List Item) → map (raised by) (near n xs) ≡ near (n + by) xs
+raised_near by n [] = refl
+raised_near by n (row_item r ∷ xs) =
+    let own = length (print_row r []) in
+    let next : (n + own) + by ≡ (n + by) + own = omega arith in
+    ap (λ l. offsets_of (n + by) (slices r) ∷ l) (raised_near by (n + own) xs ∙ ap (λ (m : ℕ). near m xs) next)
+raised_near by n (end_item gap marker ∷ xs) =
+    let own = length (gap ++ marker) in
+    let next : (n + own) + by ≡ (n + by) + own = omega arith in
+    raised_near by (n + own) xs ∙ ap (λ (m : ℕ). near m xs) next
+
+pub moved_near : (from to : Side) (n k : ℕ) (xs : List Item) → map (moved_from from to) (ends_near (from.bytes + n) (from.rows + k) xs) ≡ ends_near (to.bytes + n) (to.rows + k) xs
+moved_near from to n k [] = refl
+moved_near from to n k (row_item r ∷ xs) =
+    let own = length (print_row r []) in
+    let a : (from.bytes + n) + own ≡ from.bytes + (n + own) = omega arith in
+    let b : (from.rows + k) + 1 ≡ from.rows + (k + 1) = omega arith in
+    let c : to.bytes + (n + own) ≡ (to.bytes + n) + own = omega arith in
+    let d : to.rows + (k + 1) ≡ (to.rows + k) + 1 = omega arith in
+    ap (map (moved_from from to)) (λ i. ends_near (a i) (b i) xs) ∙ (moved_near from to (n + own) (k + 1) xs ∙ (λ i. ends_near (c i) (d i) xs))
+moved_near from to n k (end_item gap marker ∷ xs) =
+    let own = length (gap ++ marker) in
+    let a : (from.bytes + n) + own ≡ from.bytes + (n + own) = omega arith in
+    let c : to.bytes + (n + own) ≡ (to.bytes + n) + own = omega arith in
+    let start : ((from.bytes + n) - from.bytes) + to.bytes ≡ to.bytes + n = omega arith in
+    let rows : ((from.rows + k) - from.rows) + to.rows ≡ to.rows + k = omega arith in
+    let one : moved_from from to (end_at (from.bytes + n) (from.rows + k) gap marker) ≡ end_at (to.bytes + n) (to.rows + k) gap marker = λ i. end_at (start i) (rows i) gap marker in
+    (λ i. one i ∷ map (moved_from from to) (ends_near (a i) (from.rows + k) xs)) ∙ ap (λ l. end_at (to.bytes + n) (to.rows + k) gap marker ∷ l) (moved_near from to (n + own) k xs ∙ ap (λ (m : ℕ). ends_near m (to.rows + k) xs) c)
+
+-- texts
+pub texts_first : (xs ys : List Item) → TextsIn (xs ++ ys) → TextsIn xs
+texts_first [] ys h = tt
+texts_first (row_item r ∷ xs) ys h = (h.0, texts_first xs ys h.1)
+texts_first (end_item gap marker ∷ xs) ys h = (h.0, h.1, texts_first xs ys h.2)
+
+pub texts_second : (xs ys : List Item) → TextsIn (xs ++ ys) → TextsIn ys
+texts_second [] ys h = h
+texts_second (row_item r ∷ xs) ys h = texts_second xs ys h.1
+texts_second (end_item gap marker ∷ xs) ys h = texts_second xs ys h.2
+
+-- items that were read alone, and the empty end behind them
+pub record AloneAre (w z : List Item) : Type 0 where
+  pub long : text_length (alone w z) ≡ text_length w
+  pub rows : near 0 (alone w z) ≡ near 0 w
+  pub texts : TextsIn (alone w z) → TextsIn w
+
+pub alone_are : (w z : List Item) → AloneAre w z
+alone_are w [] = record { long = refl; rows = refl; texts = λ t. t }
+alone_are w (i ∷ z) = record {
+  long = joined_long w (end_item [] [] ∷ []) ∙ (let n : text_length w + 0 ≡ text_length w = omega arith in n);
+  rows = near_joined 0 w (end_item [] [] ∷ []) ∙ append-nil (near 0 w);
+  texts = texts_first w (end_item [] [] ∷ []);
+}
+
+-- how many of the ends that were read are kept
+abbrev pub EndCount : ℕ → ℕ → ℕ → ℕ → Type 0
+EndCount kept later all count = ((kept + later ≡ 0) × (count ≡ all)) ⊎ ((kept + later ≡ 0 → ⊥) × (count ≡ all - 1))
+
+some_behind : (i : Item) (z : List Item) → length (near 0 (i ∷ z)) + length (ends_near 0 0 (i ∷ z)) ≡ 0 → ⊥
+some_behind (row_item r) z h = omega (arith, h)
+some_behind (end_item gap marker) z h = omega (arith, h)
+
+pub ends_kept : (es : List EndPlace) (w z : List Item) (kept later count : ℕ) → es ≡ ends_near 0 0 (alone w z) → kept ≡ length (near 0 z) → later ≡ length (ends_near 0 0 z) → EndCount kept later (length es) count → take count es ≡ ends_near 0 0 w
+ends_kept es w [] kept later count all rows ends (inl n) = ap (λ (k : ℕ). take k es) n.1 ∙ (take_all (length es) es (omega arith) ∙ all)
+ends_kept es w [] kept later count all rows ends (inr n) = absurd (n.0 (omega (arith, rows, ends)))
+ends_kept es w (i ∷ z) kept later count all rows ends (inl n) = absurd (some_behind i z (omega (arith, n.0, rows, ends)))
+ends_kept es w (i ∷ z) kept later count all rows ends (inr n) =
+    let e = end_at (0 + text_length w) (0 + length (near 0 w)) [] [] in
+    let list : es ≡ ends_near 0 0 w ++ e ∷ [] = all ∙ ends_joined 0 0 w (end_item [] [] ∷ []) in
+    let size : length (ends_near 0 0 w) ≡ count = omega (arith, n.1, ap length list, length-append (ends_near 0 0 w) (e ∷ [])) in
+    ap (take count) list ∙ take_at (ends_near 0 0 w) (e ∷ []) count size
+
+pub some_end : (es : List EndPlace) (w z : List Item) (kept later : ℕ) → es ≡ ends_near 0 0 (alone w z) → kept ≡ length (near 0 z) → later ≡ length (ends_near 0 0 z) → (kept + later ≡ 0 → ⊥) → 1 ≤ length es
+some_end es w [] kept later all rows ends more = absurd (more (omega (arith, rows, ends)))
+some_end es w (i ∷ z) kept later all rows ends more = let e = end_at (0 + text_length w) (0 + length (near 0 w)) [] [] in omega (arith, ap length (all ∙ ends_joined 0 0 w (end_item [] [] ∷ [])), length-append (ends_near 0 0 w) (e ∷ []))
+
+-- ---- what gives way, in numbers
+
+pub record Numbers (p found : Places) (front old : Side) (len : ℕ) (written behind : List Item) : Type 0 where
+  pub front_rows : front.rows ≤ length p.front.items
+  pub all_rows : (n : ℕ) → length (placed_rows n p) ≡ old.rows + length (near 0 behind)
+  pub back_rows : length (near 0 behind) ≤ length p.behind.items
+  pub all_ends : length p.ends.items ≡ old.ends + length (ends_near 0 0 behind)
+  pub front_ends : front.ends ≤ length p.ends.items
+  pub found_rows : (n : ℕ) → length (placed_rows n found) ≡ length (near 0 written)
+  pub bytes : (front.bytes + len) + text_length behind < 2 ^ 32
+
+far_count : (xs : List Item) → length (far xs) ≡ length (near 0 xs)
+far_count [] = refl
+far_count (row_item r ∷ xs) = ap suc (far_count xs ∙ near_count 0 (0 + length (print_row r [])) xs)
+far_count (end_item gap marker ∷ xs) = far_count xs ∙ near_count 0 (0 + length (gap ++ marker)) xs
+
+sides_count : (n m : ℕ) (front behind : List declared.Offsets) → length (both_sides n front behind) ≡ length (both_sides m front behind)
+sides_count n m front behind =
+    length-append front (map (turned n) (reverse behind)) ∙ (ap (λ (k : ℕ). length front + k) (length-map (reverse behind) (turned n) ∙ sym (length-map (reverse behind) (turned m))) ∙ sym (length-append front (map (turned m) (reverse behind))))
+
+pub numbers : (p found : Places) (front old : Side) (len : ℕ) (h : GivesWay p found front old len) → Numbers p found front old len h.written h.behind
+numbers p found front old len h =
+    let bt : List Item = h.before ++ h.touched in
+    let all : h.before ++ (h.touched ++ h.behind) ≡ bt ++ h.behind = sym (append_assoc h.before h.touched h.behind) in
+    let rows : near 0 (h.before ++ (h.touched ++ h.behind)) ≡ near 0 bt ++ near (0 + text_length bt) h.behind = ap (near 0) all ∙ near_joined 0 bt h.behind in
+    let ends : ends_near 0 0 (h.before ++ (h.touched ++ h.behind)) ≡ ends_near 0 0 bt ++ ends_near (0 + text_length bt) (0 + length (near 0 bt)) h.behind = ap (ends_near 0 0) all ∙ ends_joined 0 0 bt h.behind in
+    let later = near_count (0 + text_length bt) 0 h.behind in
+    let ends_later = ends_count (0 + text_length bt) (0 + length (near 0 bt)) 0 0 h.behind in
+    let old_rows : old.rows ≡ length (near 0 bt) = ap (λ (s : Side). s.rows) h.old_is in
+    let old_ends : old.ends ≡ length (ends_near 0 0 bt) = ap (λ (s : Side). s.ends) h.old_is in
+    let front_rows : front.rows ≡ length (near 0 h.before) = ap (λ (s : Side). s.rows) h.front_is in
+    let front_ends : front.ends ≡ length (ends_near 0 0 h.before) = ap (λ (s : Side). s.ends) h.front_is in
+    let front_bytes : front.bytes ≡ text_length h.before = ap (λ (s : Side). s.bytes) h.front_is in
+    let n : ℕ = length (near 0 h.behind) in
+    let whole : ℕ = text_length (h.before ++ (h.touched ++ h.behind)) in
+    let told : length (placed_rows whole p) ≡ length (near 0 bt) + length (near (0 + text_length bt) h.behind) = ap length h.placed.rows_are ∙ (ap length rows ∙ length-append (near 0 bt) (near (0 + text_length bt) h.behind)) in
+    let ends_told : length p.ends.items ≡ length (ends_near 0 0 bt) + length (ends_near (0 + text_length bt) (0 + length (near 0 bt)) h.behind) =
+    ap length h.placed.ends_are ∙ (ap length ends ∙ length-append (ends_near 0 0 bt) (ends_near (0 + text_length bt) (0 + length (near 0 bt)) h.behind)) in
+    let first_ends : length (ends_near 0 0 bt) ≡ length (ends_near 0 0 h.before) + length (ends_near (0 + text_length h.before) (0 + length (near 0 h.before)) h.touched) =
+    ap length (ends_joined 0 0 h.before h.touched) ∙ length-append (ends_near 0 0 h.before) (ends_near (0 + text_length h.before) (0 + length (near 0 h.before)) h.touched) in
+    let a = alone_are h.written h.behind in
+    record {
+      front_rows = omega (arith, front_rows, ap length h.front_rows, length-take front.rows p.front.items);
+      all_rows = λ k. sides_count k whole p.front.items p.behind.items ∙ omega (arith, told, old_rows, later);
+      back_rows = omega (arith, ap length h.back_rows, length-reverse (take n p.behind.items), length-take n p.behind.items, far_count h.behind);
+      all_ends = omega (arith, ends_told, old_ends, ends_later);
+      front_ends = omega (arith, ends_told, first_ends, front_ends);
+      found_rows = λ k. sides_count k (text_length (alone h.written h.behind)) found.front.items found.behind.items ∙ (ap length h.found_are.rows_are ∙ ap length a.rows);
+      bytes = omega (arith, h.small, front_bytes, h.long, joined_long h.before (h.written ++ h.behind), joined_long h.written h.behind);
+    }
+
+-- ---- they may be moved
+
+pub rows_movable : (n by : ℕ) (xs : List Item) → text_length xs + by < n → All (λ o. o.start + by < n) (near 0 xs)
+rows_movable n by xs h = All-weaker (λ o. o.start ≤ text_length xs) (λ o. o.start + by < n) (λ o l. omega (arith, l, h)) (near 0 xs) (rows_begin (λ s. s ≤ text_length xs) 0 xs (begin_within (text_length xs) 0 xs (omega arith)))
+
+pub ends_movable : (from to : Side) (xs : List Item) → to.rows + length (near 0 xs) < 2 ^ 64 → to.bytes + text_length xs < 2 ^ 32 → All (IsMovable from to) (ends_near (from.bytes + 0) (from.rows + 0) xs)
+ends_movable from to xs rows bytes =
+    let high : ℕ = from.rows + length (near 0 xs) in
+    let last : ℕ = from.bytes + text_length xs in
+    let all : List EndPlace = ends_near (from.bytes + 0) (from.rows + 0) xs in
+    let a = ends_rows (from.bytes + 0) (from.rows + 0) high xs (omega (arith, near_count (from.bytes + 0) 0 xs)) in
+    let b = ends_begin (λ s. s ≤ last) (from.bytes + 0) (from.rows + 0) xs (begin_within last (from.bytes + 0) xs (omega arith)) in
+    λ k d l. (let r = a k d l in omega (arith, r, rows), let s = b k d l in omega (arith, s, bytes))
+
+pub ends_behind : (p found : Places) (front old : Side) (len : ℕ) (h : GivesWay p found front old len) → drop old.ends p.ends.items ≡ ends_near (old.bytes + 0) (old.rows + 0) h.behind
+ends_behind p found front old len h =
+    let bt : List Item = h.before ++ h.touched in
+    let m : ℕ = 0 + text_length bt in
+    let k : ℕ = 0 + length (near 0 bt) in
+    let ends : p.ends.items ≡ ends_near 0 0 bt ++ ends_near m k h.behind = h.placed.ends_are ∙ (ap (ends_near 0 0) (sym (append_assoc h.before h.touched h.behind)) ∙ ends_joined 0 0 bt h.behind) in
+    let count : length (ends_near 0 0 bt) ≡ old.ends = sym (ap (λ (s : Side). s.ends) h.old_is) in
+    let bytes : m ≡ old.bytes + 0 = omega (arith, ap (λ (s : Side). s.bytes) h.old_is) in
+    let rows : k ≡ old.rows + 0 = omega (arith, ap (λ (s : Side). s.rows) h.old_is) in
+    ap (drop old.ends) ends ∙ (drop_at (ends_near 0 0 bt) (ends_near m k h.behind) old.ends count ∙ (λ i. ends_near (bytes i) (rows i) h.behind))
+
+-- ---- what stands there then
+
+pub found_near : (p found : Places) (front old : Side) (len : ℕ) (h : GivesWay p found front old len) → placed_rows len found ≡ near 0 h.written
+found_near p found front old len h =
+    let a = alone_are h.written h.behind in
+    ap (λ (n : ℕ). placed_rows n found) (h.long ∙ sym a.long) ∙ (h.found_are.rows_are ∙ a.rows)
+
+pub exchanged : (p new found : Places) (front old next : Side) (len kept : ℕ) (come : List EndPlace) (h : GivesWay p found front old len) → kept ≡ length (near 0 h.behind) → come ≡ ends_near 0 0 h.written →
+    next.rows ≡ front.rows + length (placed_rows len found) → next.bytes ≡ front.bytes + len → new.front.items ≡ take front.rows p.front.items ++ map (raised front.bytes) (placed_rows len found) → new.behind.items ≡ take kept p.behind.items →
+    new.ends.items ≡ joined_ends front old next p.ends.items come → ArePlaced new (h.before ++ (h.written ++ h.behind))
+exchanged p new found front old next len kept come h kept_is come_is rows_is bytes_is front_now behind_now ends_now =
+    let b = h.before in
+    let w = h.written in
+    let z = h.behind in
+    let n : ℕ = 0 + text_length b in
+    let k : ℕ = 0 + length (near 0 b) in
+    let whole : List ℕ = items_text (b ++ (w ++ z)) [] in
+    let front_rows : front.rows ≡ length (near 0 b) = ap (λ (s : Side). s.rows) h.front_is in
+    let front_ends : front.ends ≡ length (ends_near 0 0 b) = ap (λ (s : Side). s.ends) h.front_is in
+    let front_bytes : front.bytes ≡ text_length b = ap (λ (s : Side). s.bytes) h.front_is in
+    let came : map (raised front.bytes) (placed_rows len found) ≡ near n w = ap (map (raised front.bytes)) (found_near p found front old len h) ∙ (raised_near front.bytes 0 w ∙ ap (λ (m : ℕ). near (0 + m) w) front_bytes) in
+    let first : new.front.items ≡ near 0 b ++ near n w = front_now ∙ (λ i. h.front_rows i ++ came i) in
+    let back : reverse new.behind.items ≡ far z = ap reverse behind_now ∙ (ap (λ (m : ℕ). reverse (take m p.behind.items)) kept_is ∙ h.back_rows) in
+    let split : whole ≡ items_text (b ++ w) [] ++ items_text z [] = ap (λ (l : List Item). items_text l []) (sym (append_assoc b w z)) ∙ (items_text-append (b ++ w) z [] ∙ items_apart (b ++ w) (items_text z [])) in
+    let size : length (items_text (b ++ w) []) ≡ n + text_length w = omega (arith, joined_long b w) in
+    let last : map (turned (length whole)) (reverse new.behind.items) ≡ near (n + text_length w) z = ap (map (turned (length whole))) back ∙ (far_near z (items_text (b ++ w) []) whole split ∙ ap (λ (m : ℕ). near m z) size) in
+    let rows : near 0 (b ++ (w ++ z)) ≡ near 0 b ++ (near n w ++ near (n + text_length w) z) = near_joined 0 b (w ++ z) ∙ ap (λ l. near 0 b ++ l) (near_joined n w z) in
+    let ends : ends_near 0 0 (b ++ (w ++ z)) ≡ ends_near 0 0 b ++ (ends_near n k w ++ ends_near (n + text_length w) (k + length (near n w)) z) = ends_joined 0 0 b (w ++ z) ∙ ap (λ l. ends_near 0 0 b ++ l) (ends_joined n k w z) in
+    let one : front.bytes + 0 ≡ n = omega (arith, front_bytes) in
+    let two : front.rows + 0 ≡ k = omega (arith, front_rows) in
+    let ends_come : map (moved_from origin front) come ≡ ends_near n k w = ap (map (moved_from origin front)) come_is ∙ (moved_near origin front 0 0 w ∙ (λ i. ends_near (one i) (two i) w)) in
+    let three : next.bytes + 0 ≡ n + text_length w = omega (arith, front_bytes, bytes_is, h.long) in
+    let four : next.rows + 0 ≡ k + length (near n w) = omega (arith, front_rows, rows_is, ap length (found_near p found front old len h), near_count n 0 w) in
+    let ends_last : map (moved_from old next) (drop old.ends p.ends.items) ≡ ends_near (n + text_length w) (k + length (near n w)) z = ap (map (moved_from old next)) (ends_behind p found front old len h) ∙ (moved_near old next 0 0 z ∙ (λ i. ends_near (three i) (four i) z)) in
+    let tail : List Item = h.touched ++ z in
+    let old_ends : p.ends.items ≡ ends_near 0 0 b ++ ends_near n k tail = h.placed.ends_are ∙ ends_joined 0 0 b tail in
+    let ends_first : take front.ends p.ends.items ≡ ends_near 0 0 b = ap (take front.ends) old_ends ∙ take_at (ends_near 0 0 b) (ends_near n k tail) front.ends (sym front_ends) in
+    let a = alone_are w z in
+    record {
+      rows_are = (λ i. first i ++ last i) ∙ (append_assoc (near 0 b) (near n w) (near (n + text_length w) z) ∙ sym rows);
+      ends_are = ends_now ∙ ((λ i. ends_first i ++ (ends_come i ++ ends_last i)) ∙ sym ends);
+      texts = texts_joined b (w ++ z) (texts_first b tail h.placed.texts) (texts_joined w z (a.texts h.found_are.texts) (texts_second h.touched z (texts_second b tail h.placed.texts)));
+      small = h.small;
+    }

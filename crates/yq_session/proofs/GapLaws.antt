@@ -1,0 +1,29 @@
+-- One row more, moved over the gap.
+use Rattle.std.proofs.Common.{◌≡◌, ℕ, ◌-◌, ◌<◌, Option, Some, List, [], ◌∷◌, ◌++◌, map, reverse, slice_index_or, option_to_list, sym, ap, ◌∙◌, subst, append_assoc}
+use Rattle.std.proofs.lemmas.List.{reverse-append}
+use Rattle.std.proofs.lemmas.List.Elements.{All-pop}
+use Rattle.std.specs.List.{All}
+use Rattle.yq_rows.specs.Kept.{both_sides, turned}
+use Rattle.yq_rows.specs.declared.offsets.Offsets as declared
+use Rattle.yq_session.specs.Sides.{LastBefore}
+use Rattle.yq_session.proofs.SplitLaws.{Within, last_of_joined, turned_one}
+
+pub popped : (old new : List declared.Offsets) (n m : ℕ) (r : Option declared.Offsets) (o : declared.Offsets) → old ≡ new ++ option_to_list r → ((d : declared.Offsets) → 0 < n → r ≡ Some (slice_index_or old (n - 1) d)) →
+    m ≡ n → 0 < n → o ≡ slice_index_or old (m - 1) o → old ≡ new ++ o ∷ []
+popped old new n m r o all last same some own =
+    let is : r ≡ Some o = last o some ∙ ap Some (ap (λ (k : ℕ). slice_index_or old (k - 1) o) (sym same) ∙ sym own) in
+    all ∙ ap (λ (r : Option declared.Offsets). new ++ option_to_list r) is
+
+pub passed_front : (n : ℕ) (front behind : List declared.Offsets) (o : declared.Offsets) → both_sides n (front ++ turned n o ∷ []) behind ≡ both_sides n front (behind ++ o ∷ [])
+passed_front n front behind o = append_assoc front (turned n o ∷ []) (map (turned n) (reverse behind)) ∙ ap (λ l. front ++ map (turned n) l) (sym (reverse-append behind (o ∷ [])))
+
+pub passed_behind : (n : ℕ) (front behind : List declared.Offsets) (o : declared.Offsets) → Within n o → both_sides n front (behind ++ turned n o ∷ []) ≡ both_sides n (front ++ o ∷ []) behind
+passed_behind n front behind o h = sym (passed_front n front behind (turned n o)) ∙ ap (λ (p : declared.Offsets). both_sides n (front ++ p ∷ []) behind) (turned_one n o h)
+
+pub last_pushed : (at : ℕ) (front : List declared.Offsets) (o : declared.Offsets) → o.start < at → LastBefore at (front ++ o ∷ [])
+last_pushed at front o less x e =
+    let same : o ≡ x = let own = last_of_joined front o in cc in
+    subst (λ (y : declared.Offsets). y.start < at) same less
+
+pub all_popped : (P : declared.Offsets → Type 0) (old new : List declared.Offsets) (o : declared.Offsets) → old ≡ new ++ o ∷ [] → All P old → All P new × P o
+all_popped P old new o e h = let r = All-pop P old new (Some o) e h in (r.0, r.1)

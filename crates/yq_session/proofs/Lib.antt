@@ -1,0 +1,9 @@
+pub mod SplitLaws
+pub mod BeginLaws
+pub mod GapLaws
+pub mod CountLaws
+pub mod SideLaws
+pub mod BackLaws
+pub mod ExchangeLaws
+pub mod ItemPlaces
+pub mod FollowLaws

@@ -1,0 +1,3 @@
+pub mod Sides
+pub mod Exchanging
+pub mod Following
