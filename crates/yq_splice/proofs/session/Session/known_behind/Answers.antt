@@ -1,4 +1,4 @@
-use Rattle.std.proofs.Common.{string_bytes, IfSome, ap, sym, ◌∙◌, subst, List, ℕ}
+use Rattle.std.proofs.Common.{string_bytes, IfSome, ap, ◌∙◌, subst, List, ℕ}
 use Rattle.yq_documents.specs.Reading.{cut_of}
 use Rattle.yq_tree.specs.RowWalk.{StaysKnown}
 use Rattle.yq_splice.specs.Session.{SessionState}
