@@ -250,19 +250,22 @@ module _ (op : Operation) (t new : List ℕ) (cs : List Splice) (operand : HasOp
       pub kept_after : (q : Places) (k : Option KnownItem) → ((d : Cut) → IsCut u d → IsPlaced q (shown d)) → IfSome k (StaysKnown kept.front (cut_of t)) → HasPlaces new q × KnowsItem new k
       kept_after q k placed stays = (record { cut = new_cut; read = new_read; placed = placed new_cut (own_cut new_cut a.reads.cut) }, known_by k stays)
 
-      pub scans : (count before after : ℕ) → count ≡ before → CountsWritten u kept count after → Scans op t new before after
+      pub scans : (count before after : ℕ) → count ≡ before → CountsWritten u kept count after → Scans op t new cs before after
       scans count before after is counts =
           let exact : after ≡ counted (line_count (items_text touches.written [])) before =
           counts c new_cut (own_cut new_cut a.reads.cut) told.0
           ∙ (λ i. counted (line_count (items_text (told.1 i) [])) (is i)) in
-          inr (record {
-            cut = c;
-            new_cut = new_cut;
-            segments = ss;
-            read = h.read;
-            new_read = new_read;
-            way = way;
-            touches = touches;
-            exact = exact;
-            most = omega (arith, exact, counted_within (line_count (items_text touches.written [])) before);
-          })
+          inr (
+            some,
+            record {
+              cut = c;
+              new_cut = new_cut;
+              segments = ss;
+              read = h.read;
+              new_read = new_read;
+              way = way;
+              touches = touches;
+              exact = exact;
+              most = omega (arith, exact, counted_within (line_count (items_text touches.written [])) before);
+            },
+          )

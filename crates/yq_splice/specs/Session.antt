@@ -15,6 +15,7 @@ use Rattle.yq_tree.specs.RowWalk.{IsKnown}
 use Rattle.yq_tree.specs.declared.places.spot.KnownItem.{KnownItem}
 use Rattle.yq_meaning.specs.Operations.{Operation}
 use Rattle.yq_script.specs.Script.{Segment, kept_front, kept_back}
+use Rattle.yq_script.specs.Splice.{Splice}
 use Rattle.yq_carrying.specs.Carrying.{carrying}
 use Rattle.yq_splice.specs.Theorems.{HasReading}
 
@@ -50,6 +51,7 @@ pub record IsScanned (op : Operation) (t new : List ℕ) (before after : ℕ) : 
   pub exact : after ≡ counted (line_count (items_text touches.written [])) before
   pub most : after ≤ before + line_count (items_text touches.written [])
 
--- what an operation adds to the count of lines: those that it wrote, or none, where all bytes stay (own)
-abbrev pub Scans : Operation → List ℕ → List ℕ → ℕ → ℕ → Type 0
-Scans op t new before after = ((new ≡ t) × (after ≡ before)) ⊎ IsScanned op t new before after
+-- what an operation adds to the count of lines: where it gives splices, those that it wrote; none, where all bytes stay (own)
+abbrev pub Scans : Operation → (t new : List ℕ) → List Splice → (before after : ℕ) → Type 0
+Scans op t new cs before after =
+    ((cs ≡ []) × (new ≡ t) × (after ≡ before)) ⊎ ((cs ≢ []) × IsScanned op t new before after)

@@ -20,6 +20,7 @@ use std::marker::Model;
 use std::mem;
 use yq_documents::Path;
 use yq_expr::Op;
+use yq_inline::Step;
 use yq_rows::{Meter, Places, count_lines};
 use yq_scalar::ReadError;
 use yq_script::{Edited, Splice};
@@ -35,6 +36,11 @@ fn path_of(op: &Op) -> &Path {
         Op::LineComment(path, _) => path,
         Op::HeadComment(path, _) => path,
     }
+}
+
+/// Whether one of the steps of a path is an index.
+fn goes_by_index(path: &Path) -> bool {
+    path.steps.iter().any(|step| matches!(step, Step::Index(_)))
 }
 
 /// A text that reads, kept with where its rows stand, so that operations are applied to it one after the
@@ -57,7 +63,8 @@ impl Model for Session {
 
     ghost view = { λ s. record { text = string_bytes s.text; scanned = s.meter } };
 
-    ghost invariant = { λ s. HasPlaces (string_bytes s.text) s.places × KnowsItem (string_bytes s.text) s.known };
+    ghost invariant = { λ s. HasPlaces (string_bytes s.text) s.places ×
+        KnowsItem (string_bytes s.text) s.known };
 }
 
 impl Session {
@@ -116,11 +123,14 @@ impl Session {
     }
 
     /// An item on the way of an operation from which the next one may go on, where so many bytes stay in
-    /// front.
+    /// front. A path that goes by keys alone has none.
     fn known_behind(&mut self, op: &Op, front: usize) -> Option<KnownItem>
         ensures same { self.new ≡ self.old }
         ensures known { IfSome result (StaysKnown front (cut_of self.old.text)) }
     {
+        if !goes_by_index(path_of(op)) {
+            return None;
+        }
         let places = mem::replace(&mut self.places, Places::new(self.alloc));
         let rows = places.rows(&self.text);
         let cut = CutText::resumed(&self.text, &rows, self.known);
@@ -130,19 +140,23 @@ impl Session {
     }
 
     /// Applies an operation that fits the documents of the text. Each byte that it doesn't name stays as
-    /// it is, and of the rows those that it wrote are read, and their lines are counted.
+    /// it is, and of the rows and ends of parts those that it wrote are read, and their lines are counted.
     ///
+    /// # Errors
     /// It is refused where the new text would be larger than 16,777,216 bytes
     /// ([`Refusal::TooLarge`](yq_expr::Refusal::TooLarge)), and for no other reason but memory.
     pub fn apply(&mut self, op: &Op) -> Result<Vec<Splice>, EditError>
         requires { IsFitting (operation_of op.now) self.old.text }
         // What the operation comes to by itself.
-        ensures ok { IfOk result (λ cs. carried (operation_of op.now) self.old.text ≡ gives self.new.text cs.items) }
+        ensures ok { IfOk result (λ cs. carried (operation_of op.now) self.old.text ≡
+            gives self.new.text cs.items) }
         ensures err { IfErr result (λ e. Fails e (carried (operation_of op.now) self.old.text)) }
-        ensures done { IfOk result (λ cs. IsApplied (operation_of op.now) self.old.text self.new.text cs.items) }
+        ensures done { IfOk result (λ cs.
+            IsApplied (operation_of op.now) self.old.text self.new.text cs.items) }
         ensures refused { IfErr result (λ e. IsRefused e (operation_of op.now) self.old.text) }
-        // At most the lines of the rows and ends of parts that it touches are counted.
-        ensures scanned { OnOk result (Scans (operation_of op.now) self.old.text self.new.text
+        // At most the lines of the rows and ends of parts that it touches are counted; none, where no
+        // splice comes.
+        ensures scanned { IfOk result (λ cs. Scans (operation_of op.now) self.old.text self.new.text cs.items
             self.old.scanned self.new.scanned) }
         // What is refused leaves the session as it is.
         ensures kept { OnErr result (self.new ≡ self.old) }

@@ -1,4 +1,4 @@
-use Rattle.std.proofs.Common.{◌≡◌, ℕ, List, length, IfSome, string_bytes, sym, ap, ◌∙◌, subst}
+use Rattle.std.proofs.Common.{◌≡◌, inl, ℕ, List, length, IfSome, string_bytes, sym, ap, ◌∙◌, subst}
 use Rattle.std.proofs.lemmas.Result.{err_from_is_err_and}
 use Rattle.yq_meaning.specs.Operations.{operation_of}
 use Rattle.yq_documents.specs.Reading.{cut_of}
@@ -27,6 +27,10 @@ returns-then-is_empty-clause-done c =
     let a = applied_by (operation_of c.args.op.now) c.args.self.now.text c.operand_holds.ensures c.requires (string_bytes c.in_ok-edited.edited.text) c.in_ok-edited.edited.splices.items c.in_ok-edited.ensures.ok in
     let stays = text_stays (operation_of c.args.op.now) c.args.self.now.text (string_bytes c.in_ok-edited.edited.text) c.in_ok-edited.edited.splices.items a (no_splices c.in_ok-edited.edited.splices (sym c.is_empty.ensures ∙ c.if-is_empty.true)) in
     subst (λ (x : List ℕ). IsApplied (operation_of c.args.op.now) c.args.self.now.text x c.in_ok-edited.edited.splices.items) (stays ∙ ap (λ (s : SessionState). s.text) (sym c.in_ok-edited.ensures.same)) a
+
+pub returns-then-is_empty-clause-scanned : goal.returns-then-is_empty-clause-scanned
+returns-then-is_empty-clause-scanned c =
+    inl (no_splices c.in_ok-edited.edited.splices (sym c.is_empty.ensures ∙ c.if-is_empty.true), ap (λ (s : SessionState). s.text) c.in_ok-edited.ensures.same, ap (λ (s : SessionState). s.scanned) c.in_ok-edited.ensures.same)
 
 pub follow-requires : goal.follow-requires
 follow-requires c =
