@@ -49,7 +49,7 @@ module _ (op : Operation) (t : List ℕ) (operand : HasOperand op) (k : IsFittin
   again : read_at (cut_text cut) ≡ Some cut
   again = ap read_at text ∙ is.0
 
-  fits : Fits (room_of (cut_text cut)) op (documents cut)
+  pub fits : Fits (room_of (cut_text cut)) op (documents cut)
   fits =
       subst (λ (x : List ℕ). Fits (room_of x) op (documents cut)) (sym text)
       (subst (Fits (room_of t) op) (sym is.1) k.fits)

@@ -5,5 +5,6 @@ pub mod ApplyLaws
 pub mod ServeLaws
 pub mod MeaningLaws
 pub mod UpdateLaws
+pub mod SessionLaws
 pub mod AnswerLaws
 pub mod PrintLaws

@@ -20,8 +20,8 @@ use Rattle.yq_flow_ways.proofs.CutLaws.{cut_same}
 use Rattle.yq_splice.specs.Carried.{carry_all}
 use Rattle.yq_splice.specs.Edit.{Edit, unreadable, refuses, gives}
 use Rattle.yq_splice.specs.Theorems.{IsUpdated, UpdateRefused}
-use Rattle.yq_splice.specs.Valid.{HaveOperands}
-use Rattle.yq_splice.proofs.ServeLaws.{Serves, OperationsCome, all_come}
+use Rattle.yq_splice.specs.Valid.{HaveOperands, Serves}
+use Rattle.yq_splice.proofs.ServeLaws.{OperationsCome, all_come}
 
 -- the documents of a text that reads are ready for updates
 ready : (t : List ℕ) (c : Cut) → read_at t ≡ Some c → AreReady (room_of t) 0 (documents c)
@@ -60,10 +60,12 @@ module _ (u : Update) (t : List ℕ) (c : Cut) (read : read_at t ≡ Some c) whe
       reads = h.1;
     }
 
+    pub plan_serves : HaveOperands ops → UpdatesHold (u ∷ []) → Serves (documents c) ops t
+    plan_serves operands holds = record {
+      read = read_takes t c read;
+      operands = operands;
+      follow = plan_follows u (room_of t) (documents c) ops (ready t c read) holds planned;
+    }
+
     pub plan_comes : HaveOperands ops → UpdatesHold (u ∷ []) → UpdateComes u t (carry_all ops t)
-    plan_comes operands holds =
-        let serves : Serves (documents c) ops t = record {
-          read = read_takes t c read;
-          operands = operands;
-          follow = plan_follows u (room_of t) (documents c) ops (ready t c read) holds planned;
-        } in update_by (carry_all ops t) (all_come (documents c) ops t serves)
+    plan_comes operands holds = update_by (carry_all ops t) (all_come (documents c) ops t (plan_serves operands holds))

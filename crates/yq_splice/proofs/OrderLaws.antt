@@ -2,7 +2,7 @@
 use Rattle.std.proofs.Common.{◌≡◌, inl, inr, ℕ, List, [], ◌∷◌, ◌++◌, refl, sym, ap, ◌∙◌, subst, append_assoc, append-nil}
 use Rattle.yq_script.specs.Splice.{Splice}
 use Rattle.yq_splice.specs.Answers.{Fails}
-use Rattle.yq_splice.specs.Edit.{Edit, gives, behind, and_then, in_order}
+use Rattle.yq_splice.specs.Edit.{Edit, unreadable, refuses, gives, behind, and_then, in_order}
 use Rattle.yq_splice.specs.Theorems.{InOrder, Leading, StopsInOrder}
 use Rattle.yq_splice.specs.declared.edit_error.EditError.{EditError}
 use Rattle.yq_splice.specs.declared.edit_error.EditError.TheVariants as error
@@ -35,6 +35,22 @@ pub fails_behind : (e : EditError) (cs : List Splice) (r : Edit) → Fails e r �
 fails_behind (error.Read fault) cs r h = (ap (behind cs) h.0, h.1)
 fails_behind (error.Refused why) cs r h = ap (behind cs) h
 fails_behind error.Memory cs r h = tt
+
+-- and without these
+pub fails_itself : (e : EditError) (cs : List Splice) (r : Edit) → Fails e (behind cs r) → Fails e r
+fails_itself (error.Read fault) cs unreadable h = h
+fails_itself (error.Read fault) cs (refuses why) h = absurd (let f = h.0 in cc)
+fails_itself (error.Read fault) cs (gives t ds) h = absurd (let f = h.0 in cc)
+fails_itself (error.Refused why) cs unreadable h = absurd (cc)
+fails_itself (error.Refused why) cs (refuses other) h = h
+fails_itself (error.Refused why) cs (gives t ds) h = absurd (cc)
+fails_itself error.Memory cs r h = tt
+
+-- an edit behind splices, behind others
+pub behind_both : (bs cs : List Splice) (r : Edit) → behind (bs ++ cs) r ≡ behind bs (behind cs r)
+behind_both bs cs unreadable = refl
+behind_both bs cs (refuses why) = refl
+behind_both bs cs (gives t ds) = ap (gives t) (append_assoc bs cs ds)
 
 -- a step that fails fails all that come after it
 pub fails_on : (e : EditError) (g : List ℕ → Edit) (r : Edit) → Fails e r → Fails e (and_then g r)

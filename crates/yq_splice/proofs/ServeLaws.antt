@@ -5,21 +5,15 @@ use Rattle.yq_tree.proofs.ReadLaws.{one_reading}
 use Rattle.yq_meaning.specs.After.{after_op, all_after}
 use Rattle.yq_meaning.specs.Operations.{Operation}
 use Rattle.yq_meaning.specs.Rooms.{room_of}
-use Rattle.yq_meaning.specs.RoomsKept.{LeavesRooms, MayFollow}
+use Rattle.yq_meaning.specs.RoomsKept.{LeavesRooms}
 use Rattle.yq_meaning.specs.declared.refusal.Refusal.TheVariants.{TooLarge}
 use Rattle.yq_planning.proofs.updates.AlikeRooms.{rest_follow, rest_after}
 use Rattle.yq_script.specs.Splice.{Splice}
 use Rattle.yq_splice.specs.Carried.{carried, carry_all}
 use Rattle.yq_splice.specs.Edit.{Edit, unreadable, refuses, gives, behind, and_then}
 use Rattle.yq_splice.specs.Theorems.{IsFitting, IsApplied, IsLarge, InOrder, StopsInOrder}
-use Rattle.yq_splice.specs.Valid.{HaveOperands}
+use Rattle.yq_splice.specs.Valid.{Serves}
 use Rattle.yq_splice.proofs.ApplyLaws.{OperationComes, operation_comes}
-
--- A text reads as documents, on which operations with valid operands may follow one another, with the room that it has.
-pub record Serves (docs : List Document) (ops : List Operation) (t : List ℕ) : Type 0 where
-  pub read : Reads t docs
-  pub operands : HaveOperands ops
-  pub follow : MayFollow (room_of t) ops docs
 
 -- what operations come to on a text: one that reads so, in their order; or one of them makes too large a text
 abbrev pub OperationsCome : List Document → List Operation → List ℕ → Edit → Type 0
@@ -34,7 +28,7 @@ module _ (docs : List Document) (op : Operation) (ops : List Operation) (t : Lis
   abbrev last : List Document
   last = all_after (room_of t) (op ∷ ops) docs
 
-  fits : IsFitting op t
+  pub fits : IsFitting op t
   fits = record { before = docs; read = s.read; fits = s.follow.fit.0 }
 
   module _ (m : List ℕ) (cs : List Splice) (a : IsApplied op t m cs) where
@@ -44,7 +38,7 @@ module _ (docs : List Document) (op : Operation) (ops : List Operation) (t : Lis
     left : LeavesRooms op (room_of t) (room_of m) next
     left = subst (λ (ds : List Document). LeavesRooms op (room_of t) (room_of m) (after_op (room_of t) op ds)) same a.room
 
-    others_serve : Serves next ops m
+    pub others_serve : Serves next ops m
     others_serve = record {
       read = subst (λ (ds : List Document). Reads m (after_op (room_of t) op ds)) same a.reads;
       operands = s.operands.1;

@@ -1,5 +1,5 @@
 -- An update that is planned on the documents of a text and carried out.
-use Rattle.std.proofs.Common.{◌≡◌, ◌≢◌, ℕ, zero, suc, List, [], ◌∷◌, slice_get, Some, None, Result, Ok, Err, IfOk, IfErr, string_bytes, sym, ap, ◌∙◌, subst}
+use Rattle.std.proofs.Common.{◌≡◌, ◌≢◌, ℕ, zero, suc, List, [], ◌∷◌, ◌++◌, slice_get, Some, None, Result, Ok, Err, IfOk, IfErr, string_bytes, sym, ap, ◌∙◌, subst}
 use Rattle.std.proofs.lemmas.Option.{none-some, same_Some}
 use Rattle.std.specs.Str.{IsUtf8}
 use Rattle.yq_scalar.specs.declared.ReadFault.{ReadFault}
@@ -22,12 +22,13 @@ use Rattle.yq_script.specs.Splice.{Splice}
 use Rattle.yq_script.specs.declared.edited.Edited.{Edited}
 use Rattle.yq_splice.specs.Answers.{Edits, Fails, of_planning, of_reading}
 use Rattle.yq_splice.specs.Carried.{carry_all, carry_out, updated}
-use Rattle.yq_splice.specs.Edit.{unreadable, by_reading}
-use Rattle.yq_splice.specs.Theorems.{HasReading}
+use Rattle.yq_splice.specs.Edit.{Edit, unreadable, refuses, gives, behind, by_reading}
+use Rattle.yq_splice.specs.Theorems.{HasReading, IsUpdated}
 use Rattle.yq_splice.specs.Valid.{HaveOperands, IsStep, UpdateFails, FailsAt}
 use Rattle.yq_splice.specs.declared.edit_error.EditError.{EditError}
 use Rattle.yq_splice.specs.declared.edit_error.EditError.TheVariants as error
 use Rattle.yq_splice.proofs.MeaningLaws.{UpdateComes, plan_comes, plan_stops}
+use Rattle.yq_splice.proofs.OrderLaws.{fails_itself}
 use Rattle.yq_splice.proofs.TextFaults.{FailsToRead, text_unread}
 
 -- a text that isn't read has no reading
@@ -50,18 +51,27 @@ module _ (u : Update) (t : List ℕ) (c : Cut) (ops : List Operation) (is : read
   comes : UpdateComes u t (carry_all ops t)
   comes = plan_comes u t c is ops planned operands holds
 
-  pub update_ok : (r : Result Edited EditError) → Edits r (carry_all ops t) → IfOk r (λ e. IsStep u t (string_bytes e.text) e.splices.items)
-  update_ok (Ok e) h = record { exact = done ∙ h; is = subst (UpdateComes u t) h comes }
-  update_ok (Err e) h = tt
+  step_so : (ds : List Splice) (x : Edit) (new : List ℕ) (all : List Splice) → updated u t ≡ x → UpdateComes u t x → behind ds x ≡ gives new all → (cs : List Splice) × IsStep u t new cs × (all ≡ ds ++ cs)
+  step_so ds unreadable new all is_done means h = absurd (cc)
+  step_so ds (refuses why) new all is_done means h = absurd (cc)
+  step_so ds (gives m cs) new all is_done means h =
+      let text : m ≡ new = cc in
+      let splices : ds ++ cs ≡ all = cc in
+      (cs, record { exact = is_done ∙ ap (λ (x : List ℕ). gives x cs) text; is = subst (λ (x : List ℕ). IsUpdated u t x cs) text means }, sym splices)
+
+  pub update_ok : (r : Result Edited EditError) (ds : List Splice) → Edits r (behind ds (carry_all ops t)) →
+      IfOk r (λ e. (cs : List Splice) × IsStep u t (string_bytes e.text) cs × (e.splices.items ≡ ds ++ cs))
+  update_ok (Ok e) ds h = step_so ds (carry_all ops t) (string_bytes e.text) e.splices.items done comes h
+  update_ok (Err e) ds h = tt
 
   fails_so : (e : EditError) → Fails e (carry_all ops t) → UpdateFails e u t
   fails_so (error.Read fault) h = absurd (subst (UpdateComes u t) h.0 comes)
   fails_so (error.Refused why) h = subst (UpdateComes u t) h comes
   fails_so error.Memory h = tt
 
-  pub update_err : (r : Result Edited EditError) → Edits r (carry_all ops t) → IfErr r (λ e. FailsAt e u t)
-  update_err (Ok e) h = tt
-  update_err (Err e) h = record { fails = subst (Fails e) (sym done) h; why = fails_so e h }
+  pub update_err : (r : Result Edited EditError) (ds : List Splice) → Edits r (behind ds (carry_all ops t)) → IfErr r (λ e. FailsAt e u t)
+  update_err (Ok e) ds h = tt
+  update_err (Err e) ds h = let own = fails_itself e ds (carry_all ops t) h in record { fails = subst (Fails e) (sym done) own; why = fails_so e own }
 
 -- an update that is refused
 update_refused : (u : Update) (t : List ℕ) (c : Cut) (why : Refusal) → read_at t ≡ Some c → plan u (room_of t) (documents c) ≡ judgement.refuses why → FailsAt (error.Refused why) u t
@@ -90,10 +100,6 @@ update_unplanned view u t d planning.Memory is same h = update_refused_memory u 
 pub update_planned : (u : Update) (t d : List ℕ) (ops : List Operation) → d ≡ t → plan u (room_of d) (documents_of d) ≡ judgement.gives ops →
     plan u (room_of t) (documents (cut_of d)) ≡ judgement.gives ops
 update_planned u t d ops same h = ap (λ (x : List ℕ). plan u (room_of x) (documents_of d)) (sym same) ∙ h
-
--- the step that an update is, between texts that are known to be the same
-pub step_between : (u : Update) (s t m n : List ℕ) (cs : List Splice) → s ≡ t → n ≡ m → IsStep u s m cs → IsStep u t n cs
-step_between u s t m n cs old new h = subst (λ (x : List ℕ). IsStep u x n cs) old (subst (λ (x : List ℕ). IsStep u s x cs) (sym new) h)
 
 -- ---- literals
 

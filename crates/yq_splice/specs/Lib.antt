@@ -3,4 +3,5 @@ pub mod Carried
 pub mod Answers
 pub mod Valid
 pub mod Theorems
+pub mod Session
 pub mod Print

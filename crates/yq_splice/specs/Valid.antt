@@ -1,8 +1,15 @@
--- What private functions hand on: operands are valid, and how an update ended.
-use Rattle.std.specs.Prelude.{◌≡◌, ℕ, List, [], ◌∷◌, ⊤}
+-- What private functions hand on: operands are valid, operations may follow one another, what stays of a text, and how an update ended.
+use Rattle.std.specs.Prelude.{◌≡◌, ℕ, List, [], ◌∷◌, length, ⊤}
+use Rattle.yq_rows.specs.Rows.{Cut}
+use Rattle.yq_documents.specs.Documents.{Document, Reads}
 use Rattle.yq_meaning.specs.Operations.{Operation}
+use Rattle.yq_meaning.specs.Rooms.{room_of}
+use Rattle.yq_meaning.specs.RoomsKept.{MayFollow}
 use Rattle.yq_program.specs.Program.{Update, updates}
 use Rattle.yq_script.specs.Splice.{Splice}
+use Rattle.yq_script.specs.Script.{Segment, kept_front, kept_back}
+use Rattle.yq_session.specs.declared.kept.Kept.{Kept}
+use Rattle.yq_carrying.specs.Carrying.{carrying, or_stay}
 use Rattle.yq_ways.specs.Operands.{HasOperand}
 use Rattle.yq_splice.specs.Answers.{Fails}
 use Rattle.yq_splice.specs.Carried.{updated}
@@ -16,6 +23,25 @@ use Rattle.yq_splice.specs.declared.edit_error.EditError.TheVariants as error
 abbrev pub HaveOperands : List Operation → Type 0
 HaveOperands [] = ⊤
 HaveOperands (op ∷ ops) = HasOperand op × HaveOperands ops
+
+-- A text reads as documents, on which operations with valid operands may follow one another, with the room that it has (own).
+pub record Serves (docs : List Document) (ops : List Operation) (t : List ℕ) : Type 0 where
+  pub read : Reads t docs
+  pub operands : HaveOperands ops
+  pub follow : MayFollow (room_of t) ops docs
+
+-- the same of some documents (own)
+abbrev pub AreServed : List Operation → List ℕ → Type 0
+AreServed ops t = (docs : List Document) × Serves docs ops t
+
+-- the segments of a cut's text by which an operation is carried out; the text stays where there are none (own)
+abbrev pub segments_by : Operation → Cut → List Segment
+segments_by op c = or_stay c (carrying op c)
+
+-- So many bytes are kept in front of what an operation exchanges in a cut's text, and behind it (own).
+pub record KeepsEnds (kept : Kept) (op : Operation) (c : Cut) : Type 0 where
+  pub front : kept.front ≡ length (kept_front (segments_by op c))
+  pub back : kept.back ≡ length (kept_back (segments_by op c))
 
 -- An update is carried out, as it comes to and as it means (own).
 pub record IsStep (u : Update) (t new : List ℕ) (cs : List Splice) : Type 0 where

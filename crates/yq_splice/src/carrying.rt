@@ -1,48 +1,43 @@
 //! Carrying out: operations done on a text, one after the other.
-ghost use Rattle.std.specs.Prelude.{◌≡◌, ◌++◌, [], IfErr, IfOk, OnOk, Some, string_bytes};
+ghost use Rattle.std.specs.Prelude.{◌≡◌, IfErr, IfOk, string_bytes};
 ghost use Rattle.yq_meaning.specs.Operations.{operation_of, operations_of};
-ghost use Rattle.yq_documents.specs.Reading.{cut_of, read_at};
-ghost use Rattle.yq_splice.specs.Answers.{Edits};
+ghost use Rattle.yq_documents.specs.Reading.{cut_of};
+ghost use Rattle.yq_splice.specs.Answers.{Edits, Fails};
 ghost use Rattle.yq_splice.specs.Carried as spec;
-ghost use Rattle.yq_splice.specs.Edit.{behind};
+ghost use Rattle.yq_splice.specs.Edit.{behind, gives};
+ghost use Rattle.yq_splice.specs.Session.{HasPlaces};
 ghost use Rattle.yq_splice.specs.Theorems.{IsApplied, IsFitting, IsRefused};
+ghost use Rattle.yq_splice.specs.Valid.{AreServed, KeepsEnds};
 
 use crate::edit_error::EditError;
 use crate::operands::operand_holds;
-use std::alloc::{AllocError, Global};
+use crate::session::Session;
+use std::alloc::Global;
 use yq_carrying::op_segments;
 use yq_expr::Op;
-use yq_script::{Edited, exchange};
-use yq_tree::{Documents, read};
+use yq_rows::Places;
+use yq_script::{Edited, Splice, exchange};
+use yq_session::Kept;
+use yq_tree::{CutText, read};
 
-/// The text as it is.
-pub(crate) fn unchanged(alloc: Global, text: &str) -> Result<Edited, AllocError>
-    ensures { IfOk result (λ e. (string_bytes e.text ≡ text.now) × (e.splices.items ≡ [])) }
+/// An operation carried out on a text with its cut, and how much of the text stays in front and behind.
+pub(crate) fn carry_one(
+    alloc: Global,
+    cut: &CutText<'_, '_>,
+    op: &Op,
+) -> Result<(Edited, Kept), EditError>
+    ensures ok { IfOk result (λ x. spec.carry_one (operation_of op.now) (cut_of cut.now) ≡ gives (string_bytes x.0.text) x.0.splices.items) }
+    ensures err { IfErr result (λ e. Fails e (spec.carry_one (operation_of op.now) (cut_of cut.now))) }
+    ensures kept { IfOk result (λ x. KeepsEnds x.1 (operation_of op.now) (cut_of cut.now)) }
 {
-    Ok(Edited {
-        text: String::from_str(alloc, text)?,
-        splices: Vec::new(alloc),
-    })
-}
-
-/// Puts an edit of the text that others gave behind those: its text, and the
-/// splices of all.
-pub(crate) fn follow(done: &mut Edited, next: Edited) -> Result<(), AllocError>
-    ensures text { OnOk result (string_bytes done.new.text ≡ string_bytes next.text) }
-    ensures splices { OnOk result (done.new.splices.items ≡ done.old.splices.items ++ next.splices.items) }
-{
-    let Edited { text, mut splices } = next;
-    done.splices.append(&mut splices)?;
-    done.text = text;
-    Ok(())
-}
-
-/// An operation carried out on documents.
-fn carry_one(alloc: Global, documents: &Documents<'_>, op: &Op) -> Result<Edited, EditError>
-    ensures { Edits result (spec.carry_one (operation_of op.now) (cut_of documents.now)) }
-{
-    let segments = op_segments(alloc, &documents.cut(), op)?;
-    Ok(exchange(alloc, &segments)?)
+    let _text = cut.text();
+    let segments = op_segments(alloc, cut, op)?;
+    let edited = exchange(alloc, &segments)?;
+    let kept = Kept {
+        front: segments.kept_front(),
+        back: segments.kept_back(),
+    };
+    Ok((edited, kept))
 }
 
 /// An operation carried out on a text.
@@ -50,7 +45,8 @@ fn carry(alloc: Global, text: &str, op: &Op) -> Result<Edited, EditError>
     ensures { Edits result (spec.carried (operation_of op.now) text.now) }
 {
     let documents = read(alloc, text.as_bytes())?;
-    carry_one(alloc, &documents, op)
+    let (edited, _) = carry_one(alloc, &documents.cut(), op)?;
+    Ok(edited)
 }
 
 /// Carries out an operation on a text that has a reading and whose documents
@@ -69,33 +65,34 @@ pub fn apply_op(alloc: Global, text: &str, op: &Op) -> Result<Edited, EditError>
     carry(alloc, text, op)
 }
 
-/// Operations carried out on the text that others gave.
-fn carry_more(alloc: Global, done: Edited, ops: &[Op]) -> Result<Edited, EditError>
-    ensures { Edits result (behind done.splices.items (spec.carry_all (operations_of ops.now) (string_bytes done.text))) }
-{
-    let mut done = done;
-    let mut rest = ops;
-    'operations: while let [op, after @ ..] = rest {
-        let next = carry(alloc, &done.text, op)?;
-        follow(&mut done, next)?;
-        rest = after;
-    }
-    Ok(done)
-}
-
-/// Operations carried out on a text, whose documents are these.
+/// Operations carried out on a text, whose rows stand there; their splices come behind others. The rows
+/// follow each operation but the last one.
 pub(crate) fn carry_all(
     alloc: Global,
-    text: &str,
-    documents: &Documents<'_>,
+    text: String,
+    places: Places,
+    splices: Vec<Splice>,
     ops: &[Op],
 ) -> Result<Edited, EditError>
-    requires { read_at text.now ≡ Some (cut_of documents.now) }
-    ensures { Edits result (spec.carry_all (operations_of ops.now) text.now) }
+    requires places { HasPlaces (string_bytes text) places }
+    requires serves { AreServed (operations_of ops.now) (string_bytes text) }
+    ensures { Edits result (behind splices.items (spec.carry_all (operations_of ops.now) (string_bytes text))) }
 {
-    let [first, others @ ..] = ops else {
-        return Ok(unchanged(alloc, text)?);
-    };
-    let done = carry_one(alloc, documents, first)?;
-    carry_more(alloc, done, others)
+    let mut session = Session::of(alloc, text, places);
+    let mut splices = splices;
+    let mut rest = ops;
+    'operations: while let [op, after @ ..] = rest
+        && !after.is_empty()
+    {
+        let mut next = session.apply(op)?;
+        splices.append(&mut next)?;
+        rest = after;
+    }
+    match rest {
+        [last, ..] => session.close_by(last, splices),
+        [] => Ok(Edited {
+            text: session.close(),
+            splices,
+        }),
+    }
 }

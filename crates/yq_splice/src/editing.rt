@@ -1,5 +1,5 @@
 //! Editing: a program carried out on a text.
-ghost use Rattle.std.specs.Prelude.{◌≡◌, ◌++◌, ◌<◌, List, Some, IfErr, IfOk, OnOk, string_bytes};
+ghost use Rattle.std.specs.Prelude.{◌≡◌, ◌++◌, ◌<◌, List, [], Some, IfErr, IfOk, string_bytes};
 ghost use Rattle.yq_program.specs.Program.{LiteralsHold, Update, update_at, update_count, updates};
 ghost use Rattle.yq_program.specs.View.{program_of};
 ghost use Rattle.yq_script.specs.Splice.{Splice};
@@ -8,47 +8,42 @@ ghost use Rattle.yq_splice.specs.Carried as spec;
 ghost use Rattle.yq_splice.specs.Theorems.{AreSplices, EditRefused, InOrder, IsEdited};
 ghost use Rattle.yq_splice.specs.Valid.{FailsAt, FailsEach, IsStep};
 
-use crate::carrying::{carry_all, follow, unchanged};
+use crate::carrying::carry_all;
 use crate::edit_error::EditError;
 use crate::operands::operands_hold;
-use std::alloc::Global;
+use std::alloc::{AllocError, Global};
 use yq_expr::{Program, Refusal, plan};
 use yq_script::Edited;
 use yq_tree::read;
 
-/// Update `nth` of a program carried out on a text.
-fn update_text(
-    alloc: Global,
-    text: &str,
-    program: &Program,
-    nth: usize,
-) -> Result<Edited, EditError>
+/// The text as it is.
+fn unchanged(alloc: Global, text: &str) -> Result<Edited, AllocError>
+    ensures { IfOk result (λ e. (string_bytes e.text ≡ text.now) × (e.splices.items ≡ [])) }
+{
+    Ok(Edited {
+        text: String::from_str(alloc, text)?,
+        splices: Vec::new(alloc),
+    })
+}
+
+/// Update `nth` of a program carried out on the text that those before gave: what the reading says of
+/// rows, by which it is planned, is kept for its operations.
+fn step(alloc: Global, done: Edited, program: &Program, nth: usize) -> Result<Edited, EditError>
     requires within { nth < update_count (program_of program.now) }
     requires literals { LiteralsHold (program_of program.now) }
     ensures ok { (u : Update) → update_at nth (program_of program.now) ≡ Some u →
-        IfOk result (λ e. IsStep u text.now (string_bytes e.text) e.splices.items) }
-    ensures err { (u : Update) → update_at nth (program_of program.now) ≡ Some u → IfErr result (λ e. FailsAt e u text.now) }
+        IfOk result (λ e. (cs : List Splice) ×
+        IsStep u (string_bytes done.text) (string_bytes e.text) cs ×
+        (e.splices.items ≡ done.splices.items ++ cs)) }
+    ensures err { (u : Update) → update_at nth (program_of program.now) ≡ Some u →
+        IfErr result (λ e. FailsAt e u (string_bytes done.text)) }
 {
+    let Edited { text, splices } = done;
     let documents = read(alloc, text.as_bytes())?;
     let ops = plan(alloc, program, nth, &documents)?;
     operands_hold(&ops);
-    carry_all(alloc, text, &documents, &ops)
-}
-
-/// Update `nth` of a program carried out on the text that those before gave.
-fn step(alloc: Global, done: &mut Edited, program: &Program, nth: usize) -> Result<(), EditError>
-    requires within { nth < update_count (program_of program.now) }
-    requires literals { LiteralsHold (program_of program.now) }
-    ensures ok { (u : Update) → update_at nth (program_of program.now) ≡ Some u →
-        OnOk result ((cs : List Splice) ×
-        IsStep u (string_bytes done.old.text) (string_bytes done.new.text) cs ×
-        (done.new.splices.items ≡ done.old.splices.items ++ cs)) }
-    ensures err { (u : Update) → update_at nth (program_of program.now) ≡ Some u →
-        IfErr result (λ e. FailsAt e u (string_bytes done.old.text)) }
-{
-    let next = update_text(alloc, &done.text, program, nth)?;
-    follow(done, next)?;
-    Ok(())
+    let places = documents.into_rows().into_places();
+    carry_all(alloc, text, places, splices, &ops)
 }
 
 /// The updates of a program carried out on a text, one after the other.
@@ -62,7 +57,7 @@ fn update_each(alloc: Global, text: &str, program: &Program) -> Result<Edited, E
     let count = program.updates();
     let mut nth = 0;
     'updates: while nth < count {
-        step(alloc, &mut done, program, nth)?;
+        done = step(alloc, done, program, nth)?;
         nth += 1;
     }
     Ok(done)
@@ -101,8 +96,8 @@ fn edit_text(alloc: Global, text: &str, program: &Program) -> Result<Edited, Edi
 /// The errors, in their order: the text has no reading; the program is a read
 /// ([`Refusal::NotAnUpdate`]); an update is refused, as its plan on the text
 /// that the one before gave; a new text would be larger than 16,777,216 bytes
-/// ([`Refusal::TooLarge`]). The text is read once for each update, and once more
-/// for each operation but the first of one.
+/// ([`Refusal::TooLarge`]). The text is read once for each update; of an update's operations
+/// each but the last one reads the rows that it wrote.
 pub fn edit(alloc: Global, text: &str, program: &Program) -> Result<Edited, EditError>
     // The new text, or why there is none.
     ensures exact { Edits result (spec.edit_of (program_of program.now) text.now) }

@@ -3,11 +3,13 @@ use Rattle.std.specs.String.{string_bytes}
 use Rattle.yq_meaning.specs.Operations.{operations_of}
 use Rattle.yq_splice.specs.Carried.{carry_all}
 use Rattle.yq_splice.specs.Edit.{behind}
-use Rattle.yq_splice.proofs.carrying.carry_more.Given as goal
+use Rattle.yq_splice.specs.Valid.{AreServed}
+use Rattle.yq_splice.proofs.carrying.carry_all.Given as goal
 
 abbrev pub invariant-operations : goal.invariant-operations
 invariant-operations l = record {
-  whole : behind l.done.splices.items (carry_all (operations_of l.rest) (string_bytes l.done.text)) ≡ behind l.fn.done.splices.items (carry_all (operations_of l.fn.ops) (string_bytes l.fn.done.text));
+  whole : behind l.splices.items (carry_all (operations_of l.rest) l.session.text) ≡ behind l.fn.splices.items (carry_all (operations_of l.fn.ops) (string_bytes l.fn.text));
+  serves : AreServed (operations_of l.rest) l.session.text;
 }
 
 abbrev pub decreases-operations : goal.decreases-operations

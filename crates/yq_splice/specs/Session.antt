@@ -1,0 +1,49 @@
+-- What a session is known by, and what an operation applied to it adds to its count.
+use Rattle.std.specs.Prelude.{◌≡◌, ◌≢◌, ◌⊎◌, ⊤, ℕ, ◌+◌, ◌≤◌, List, [], length, Some}
+use Rattle.yq_scalar.specs.declared.fault.FaultKind.TheVariants.{NotUtf8}
+use Rattle.yq_scalar.specs.declared.fault.ReadError.{ReadError}
+use Rattle.yq_scalar.specs.declared.fault.ReadError.TheVariants as reading
+use Rattle.yq_rows.specs.Items.{items_text}
+use Rattle.yq_rows.specs.Kept.{IsPlaced}
+use Rattle.yq_rows.specs.Meter.{counted, line_count}
+use Rattle.yq_rows.specs.Rows.{Cut}
+use Rattle.yq_rows.specs.Touched.{TouchesOnly}
+use Rattle.yq_rows.specs.View.{shown}
+use Rattle.yq_rows.specs.declared.places.Places.{Places}
+use Rattle.yq_documents.specs.Reading.{read_at}
+use Rattle.yq_meaning.specs.Operations.{Operation}
+use Rattle.yq_script.specs.Script.{Segment, kept_front, kept_back}
+use Rattle.yq_carrying.specs.Carrying.{carrying}
+use Rattle.yq_splice.specs.Theorems.{HasReading}
+
+-- What a session is known by: its text, and how many lines were counted (own).
+pub record SessionState : Type 0 where
+  pub text : List ℕ
+  pub scanned : ℕ
+
+-- A text reads, and these are the places of the rows of its cut and of the ends of its parts (own).
+pub record HasPlaces (t : List ℕ) (places : Places) : Type 0 where
+  pub cut : Cut
+  pub read : read_at t ≡ Some cut
+  pub placed : IsPlaced places (shown cut)
+
+-- why no session of a text is opened: it has no reading, or memory ran out (own)
+abbrev pub NotOpened : ReadError → List ℕ → Type 0
+NotOpened (reading.Fault fault) t = (¬ HasReading t) × (fault.kind ≢ NotUtf8)
+NotOpened reading.Memory t = ⊤
+
+-- The lines of the rows and ends of parts that an operation wrote, in the place of those that its segments touch, were counted, and no others (own).
+pub record IsScanned (op : Operation) (t new : List ℕ) (before after : ℕ) : Type 0 where
+  pub cut : Cut
+  pub new_cut : Cut
+  pub segments : List Segment
+  pub read : read_at t ≡ Some cut
+  pub new_read : read_at new ≡ Some new_cut
+  pub way : carrying op cut ≡ Some segments
+  pub touches : TouchesOnly (length (kept_front segments)) (length (kept_back segments)) cut new_cut
+  pub exact : after ≡ counted (line_count (items_text touches.written [])) before
+  pub most : after ≤ before + line_count (items_text touches.written [])
+
+-- what an operation adds to the count of lines: those that it wrote, or none, where all bytes stay (own)
+abbrev pub Scans : Operation → List ℕ → List ℕ → ℕ → ℕ → Type 0
+Scans op t new before after = ((new ≡ t) × (after ≡ before)) ⊎ IsScanned op t new before after
