@@ -13,6 +13,7 @@ use Rattle.yq_meaning.specs.Operations.{Operation}
 use Rattle.yq_meaning.specs.Rooms.{room_of}
 use Rattle.yq_meaning.specs.RoomsKept.{LeavesRooms}
 use Rattle.yq_meaning.specs.declared.refusal.Refusal.TheVariants.{TooLarge}
+use Rattle.yq_script.specs.Splice.{Splice}
 use Rattle.yq_script.specs.Script.{Segment, new_text, changes}
 use Rattle.yq_script.specs.declared.edited.Edited.{Edited}
 use Rattle.yq_script.specs.Exchanging as exchange
@@ -99,11 +100,14 @@ module _ (op : Operation) (t : List ℕ) (operand : HasOperand op) (k : IsFittin
   pub operation_comes : OperationComes op t (carried op t)
   operation_comes = subst (OperationComes op t) (sym comes) (by_size (leb (length made) text_limit) refl)
 
+  pub applied_by : (new : List ℕ) (cs : List Splice) → carried op t ≡ gives new cs → IsApplied op t new cs
+  applied_by new cs h = subst (OperationComes op t) h operation_comes
+
   pub op_applied : (r : Result Edited EditError) → Edits r (carried op t) → IfOk r (λ e. IsApplied op t (string_bytes e.text) e.splices.items)
-  op_applied (Ok e) h = subst (OperationComes op t) h operation_comes
+  op_applied (Ok e) h = applied_by (string_bytes e.text) e.splices.items h
   op_applied (Err e) h = tt
 
-  refused_by : (e : EditError) → Fails e (carried op t) → IsRefused e op t
+  pub refused_by : (e : EditError) → Fails e (carried op t) → IsRefused e op t
   refused_by (error.Read fault) h = subst (OperationComes op t) h.0 operation_comes
   refused_by (error.Refused why) h = subst (OperationComes op t) h operation_comes
   refused_by error.Memory h = tt

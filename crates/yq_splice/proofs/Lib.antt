@@ -6,5 +6,6 @@ pub mod ServeLaws
 pub mod MeaningLaws
 pub mod UpdateLaws
 pub mod SessionLaws
+pub mod OperationsLaws
 pub mod AnswerLaws
 pub mod PrintLaws

@@ -1,14 +1,16 @@
 -- What a session keeps while operations are applied to it, and what they add to its count.
-use Rattle.std.proofs.Common.{◌≡◌, ◌⊎◌, inl, inr, ℕ, ◌+◌, ◌≤◌, Bool, true, false, ◌<◌, ◌^◌, List, [], ◌∷◌, ◌++◌, length, Option, Some, None, refl, sym, ap, ◌∙◌, subst, arith, append-nil}
+use Rattle.std.proofs.Common.{◌≡◌, ◌⊎◌, inl, inr, ℕ, ◌+◌, ◌≤◌, Bool, true, false, ◌<◌, ◌^◌, List, [], ◌∷◌, ◌++◌, length, Option, Some, None, refl, sym, ap, ◌∙◌, subst, arith, append-nil, eqb, eqb-true, Vec, vec_len}
+use Rattle.std.proofs.lemmas.Bool.{false≢true}
 use Rattle.std.proofs.lemmas.List.{length-append}
 use Rattle.std.proofs.lemmas.Option.{same_Some}
 use Rattle.std.specs.Str.{IsUtf8, is_utf8}
+use Rattle.std.specs.declared.alloc.Global.{Global}
 use Rattle.yq_scalar.specs.declared.fault.ReadError.{ReadError}
 use Rattle.yq_scalar.specs.declared.fault.ReadError.TheVariants as reading
 use Rattle.yq_scalar.specs.Characters.{text_limit}
 use Rattle.yq_scalar.proofs.Bools.{guard_then}
 use Rattle.yq_rows.specs.Grammar.{IsCut}
-use Rattle.yq_rows.specs.Items.{Item, items_text}
+use Rattle.yq_rows.specs.Items.{items_text}
 use Rattle.yq_rows.specs.Kept.{IsPlaced}
 use Rattle.yq_rows.specs.Meter.{counted, line_count}
 use Rattle.yq_rows.specs.Rows.{Cut, cut_text}
@@ -38,11 +40,11 @@ use Rattle.yq_ways.proofs.KeptSegments.{IsBetween, between}
 use Rattle.yq_ways.proofs.TouchLaws.{local_touches}
 use Rattle.yq_flow_ways.proofs.CutLaws.{cut_read, cut_same, text_read}
 use Rattle.yq_splice.specs.Carried.{carry_one, carried}
-use Rattle.yq_splice.specs.Edit.{by_reading}
-use Rattle.yq_splice.specs.Session.{HasPlaces, NotOpened, Scans}
+use Rattle.yq_splice.specs.Edit.{gives, by_reading}
+use Rattle.yq_splice.specs.Session.{SessionState, HasPlaces, NotOpened, Scans}
 use Rattle.yq_splice.specs.Theorems.{HasReading, IsFitting, IsApplied}
 use Rattle.yq_splice.specs.Valid.{KeepsEnds, segments_by}
-use Rattle.yq_splice.proofs.ApplyLaws.{fits}
+use Rattle.yq_splice.proofs.ApplyLaws.{fits, applied_by}
 use Rattle.yq_splice.proofs.TextFaults.{FailsToRead, text_unread}
 use Rattle.yq_splice.proofs.UpdateLaws.{no_reading}
 
@@ -52,14 +54,15 @@ documents_sound : (t : List ℕ) (c : Cut) → read_at t ≡ Some c → all_docu
 unfolding read_at
 documents_sound t c is = (text_takes t c (guard_then (is_utf8 t) is).1).1
 
-pub has_cut : (t : List ℕ) (c : Cut) (s : Shown) → read_at t ≡ Some c → s ≡ shown c → HasCut t s
+has_cut : (t : List ℕ) (c : Cut) (s : Shown) → read_at t ≡ Some c → s ≡ shown c → HasCut t s
 has_cut t c s is shows =
     let same : c ≡ cut_of t = sym (cut_same t c is) in
     record { cut = subst (IsCut t) same (cut_read t c is); rows = shows ∙ ap shown same; sound = ap all_documents (sym same) ∙ documents_sound t c is }
 
 -- an operation is carried out on the cut of a text that reads
-pub carried_by : (op : Operation) (t : List ℕ) (c : Cut) → read_at t ≡ Some c → carried op t ≡ carry_one op (cut_of t)
-carried_by op t c is = ap (by_reading (carry_one op)) is ∙ ap (carry_one op) (sym (cut_same t c is))
+pub carried_on : (op : Operation) (t x : List ℕ) (p : Places) (s : SessionState) → x ≡ t → HasPlaces t p → t ≡ s.text → carry_one op (cut_of x) ≡ carried op s.text
+carried_on op t x p s same h text =
+    ap (λ (y : List ℕ). carry_one op (cut_of y)) same ∙ (ap (carry_one op) (cut_same t h.cut h.read) ∙ (sym (ap (by_reading (carry_one op)) h.read) ∙ ap (carried op) text))
 
 -- ---- segments
 
@@ -83,18 +86,12 @@ segments_short op t ss read is =
     let old : old_text ss ≡ t = ap old_text is ∙ (old_by op (cut_of t) (ap read_at text ∙ read) ∙ text) in
     omega (arith, size, ap length old)
 
-pub ends_kept : (op : Operation) (c : Cut) (ss : List Segment) (kept : Kept) → ss ≡ segments_by op c → kept.front ≡ length (kept_front ss) → kept.back ≡ length (kept_back ss) → KeepsEnds kept op c
-ends_kept op c ss kept is front back = record {
-  front = front ∙ ap (λ (x : List Segment). length (kept_front x)) is;
-  back = back ∙ ap (λ (x : List Segment). length (kept_back x)) is;
-}
-
 -- segments of which not all bytes stay exchange some
 some_given : (ss : List Segment) → ¬ AllStay ss → are_kept ss ≡ false
-some_given ss no = go (are_kept ss) refl
+some_given ss change = go (are_kept ss) refl
   where
     go : (b : Bool) → are_kept ss ≡ b → are_kept ss ≡ false
-    go true e = absurd (no (all_stay ss e))
+    go true e = absurd (change (all_stay ss e))
     go false e = e
 
 -- the same at numbers that are known otherwise, with the same items written
@@ -115,13 +112,20 @@ not_opened (reading.Fault fault) bytes t same utf8 h = let k = text_unread bytes
 
 -- ---- places
 
--- those of a text that was read
-pub places_read : (t d : List ℕ) (p : Places) (s : Shown) → read_at t ≡ Some (cut_of d) → s ≡ shown (cut_of d) → IsPlaced p s → HasPlaces t p
-places_read t d p s is shows placed = record { cut = cut_of d; read = is; placed = subst (IsPlaced p) shows placed }
+-- those that are lent on the text, and the rows there
+pub places_lent : (t u : List ℕ) (p q : Places) → u ≡ t → q ≡ p → HasPlaces t p → (c : Cut) × IsCut u c × IsPlaced q (shown c)
+places_lent t u p q text same h = (h.cut, subst (λ (x : List ℕ). IsCut x h.cut) (sym text) (cut_read t h.cut h.read), subst (λ (x : Places). IsPlaced x (shown h.cut)) (sym same) h.placed)
 
--- those that were lent on the text and given back
-pub places_back : (t : List ℕ) (p q : Places) (s : Shown) → HasPlaces t p → ((c : Cut) → IsCut t c → s ≡ shown c) → IsPlaced q s → HasPlaces t q
-places_back t p q s h shows placed = record { cut = h.cut; read = h.read; placed = subst (IsPlaced q) (shows h.cut (cut_read t h.cut h.read)) placed }
+module _ (t u : List ℕ) (p : Places) (s : Shown) (text : u ≡ t) (h : HasPlaces t p) (shows : (c : Cut) → IsCut u c → s ≡ shown c) where
+  own : s ≡ shown h.cut
+  own = shows h.cut (subst (λ (x : List ℕ). IsCut x h.cut) (sym text) (cut_read t h.cut h.read))
+
+  pub cut_lent : (v : List ℕ) → v ≡ t → HasCut v s
+  cut_lent v same = subst (λ (x : List ℕ). HasCut x s) (sym same) (has_cut t h.cut s h.read own)
+
+  -- and given back
+  pub places_back : (q : Places) → IsPlaced q s → HasPlaces t q
+  places_back q placed = record { cut = h.cut; read = h.read; placed = subst (IsPlaced q) own placed }
 
 -- those that stay where memory ran out
 pub places_stay : (t : List ℕ) (p q : Places) → HasPlaces t p → ((c : Cut) → length t ≡ length (cut_text c) → IsPlaced p (shown c) → IsPlaced q (shown c)) → HasPlaces t q
@@ -129,28 +133,45 @@ places_stay t p q h stay = record { cut = h.cut; read = h.read; placed = stay h.
 
 -- ---- an operation that is carried out by segments
 
+-- whether there are splices, by their number
+pub no_splices : (cs : Vec Splice Global) → eqb (vec_len cs) 0 ≡ true → cs.items ≡ []
+no_splices cs h = go cs.items (sym cs.ok.0 ∙ eqb-true (vec_len cs) 0 h)
+  where
+    go : (xs : List Splice) → length xs ≡ 0 → xs ≡ []
+    go [] e = refl
+    go (x ∷ xs) e = absurd (omega (arith, e))
+
+pub some_splices : (cs : Vec Splice Global) → eqb (vec_len cs) 0 ≡ false → ¬ (cs.items ≡ [])
+some_splices cs h none = absurd (false≢true (sym h ∙ ap (λ (n : ℕ). eqb n 0) (cs.ok.0 ∙ ap length none)))
+
 -- where it makes no splice, the text stays
 pub text_stays : (op : Operation) (t new : List ℕ) (cs : List Splice) → IsApplied op t new cs → cs ≡ [] → new ≡ t
 text_stays op t new cs a none =
     let lead : Some (old_text a.segments) ≡ Some (new_text a.segments) = sym (ap (λ (xs : List Splice). all_done xs (old_text a.segments)) (a.splices ∙ none)) ∙ changes_lead a.segments in
     sym a.new_is ∙ (sym (same_Some _ _ lead) ∙ a.old_is)
 
--- one that makes some
-module _ (op : Operation) (t new : List ℕ) (cs : List Splice) (operand : HasOperand op) (fitting : IsFitting op t) (a : IsApplied op t new cs) (some : ¬ (cs ≡ [])) (c : Cut) (is : read_at t ≡ Some c) where
+-- one that makes some, on a text whose rows have these places
+module _ (op : Operation) (t new : List ℕ) (cs : List Splice) (operand : HasOperand op) (fitting : IsFitting op t) (made : carried op t ≡ gives new cs) (some : ¬ (cs ≡ [])) (p : Places) (h : HasPlaces t p) where
+  a : IsApplied op t new cs
+  a = applied_by op t operand fitting new cs made
+
   abbrev ss : List Segment
   ss = a.segments
+
+  abbrev c : Cut
+  c = h.cut
 
   abbrev new_cut : Cut
   new_cut = a.reads.parts
 
   text : cut_text c ≡ t
-  text = text_read t c is
+  text = text_read t c h.read
 
   again : read_at (cut_text c) ≡ Some c
-  again = ap read_at text ∙ is
+  again = ap read_at text ∙ h.read
 
-  cut_known : (docs : List Document) (h : Reads t docs) → h.parts ≡ c
-  cut_known docs h = same_Some _ _ (sym (parts_read t docs h).0 ∙ is)
+  cut_known : (docs : List Document) (d : Reads t docs) → d.parts ≡ c
+  cut_known docs d = same_Some _ _ (sym (parts_read t docs d).0 ∙ h.read)
 
   way : carrying op c ≡ Some ss
   way = subst (λ (x : Cut). carrying op x ≡ Some ss) (cut_known a.before a.read) a.way
@@ -165,11 +186,11 @@ module _ (op : Operation) (t new : List ℕ) (cs : List Splice) (operand : HasOp
   new_read = (parts_read new _ a.reads).0
 
   changed : ¬ AllStay ss
-  changed h = some (sym a.splices ∙ kept_changes ss h)
+  changed stay = some (sym a.splices ∙ kept_changes ss stay)
 
   by_local : IsLocalTo ss c ⊎ AllStay ss → IsLocalTo ss c
-  by_local (inl h) = h
-  by_local (inr h) = absurd (changed h)
+  by_local (inl local) = local
+  by_local (inr stay) = absurd (changed stay)
 
   touches : TouchesOnly (length (kept_front ss)) (length (kept_back ss)) c new_cut
   touches = local_touches ss c new_cut (by_local (carrying_local op c ss again way operand fit size) new_cut (ap read_at a.new_is ∙ new_read))
@@ -183,48 +204,54 @@ module _ (op : Operation) (t new : List ℕ) (cs : List Splice) (operand : HasOp
   new_within : length (kept_front ss) + length (kept_back ss) ≤ length new
   new_within = omega (arith, ap length a.new_is, ap length room.new_is, length-append (kept_front ss) (room.new ++ kept_back ss), length-append room.new (kept_back ss))
 
-  pub places_after : (p : Places) → ((d : Cut) → IsCut new d → IsPlaced p (shown d)) → HasPlaces new p
-  places_after p placed = record { cut = new_cut; read = new_read; placed = placed new_cut a.reads.cut }
+  -- the new text as it is lent
+  module _ (u : List ℕ) (same : u ≡ new) where
+    own_cut : (d : Cut) → IsCut new d → IsCut u d
+    own_cut d = subst (λ (x : List ℕ). IsCut x d) (sym same)
 
-  module _ (kept : Kept) (ends : KeepsEnds kept op (cut_of t)) (p : Places) (placed : IsPlaced p (shown c)) where
-    by_way : segments_by op (cut_of t) ≡ ss
-    by_way = ap (segments_by op) (cut_same t c is) ∙ ap (or_stay c) way
+    pub places_after : (q : Places) → ((d : Cut) → IsCut u d → IsPlaced q (shown d)) → HasPlaces new q
+    places_after q placed = record { cut = new_cut; read = new_read; placed = placed new_cut (own_cut new_cut a.reads.cut) }
 
-    front : kept.front ≡ length (kept_front ss)
-    front = ends.front ∙ ap (λ (x : List Segment). length (kept_front x)) by_way
+    module _ (kept : Kept) (ends : KeepsEnds kept op (cut_of t)) where
+      by_way : segments_by op (cut_of t) ≡ ss
+      by_way = ap (segments_by op) (cut_same t c h.read) ∙ ap (or_stay c) way
 
-    back : kept.back ≡ length (kept_back ss)
-    back = ends.back ∙ ap (λ (x : List Segment). length (kept_back x)) by_way
+      front : kept.front ≡ length (kept_front ss)
+      front = ends.front ∙ ap (λ (x : List Segment). length (kept_front x)) by_way
 
-    told : (h : TouchesOnly kept.front kept.back c new_cut) × (h.written ≡ touches.written)
-    told = touches_at (length (kept_front ss)) (length (kept_back ss)) kept.front kept.back c new_cut front back touches
+      back : kept.back ≡ length (kept_back ss)
+      back = ends.back ∙ ap (λ (x : List Segment). length (kept_back x)) by_way
 
-    pub follows : Follows p (length t) new kept
-    follows = record {
-      old_cut = c;
-      new_cut = new_cut;
-      old_is = cut_read (cut_text c) c again;
-      placed = placed;
-      long = sym (ap length text);
-      new_is = a.reads.cut;
-      touches = told.0;
-      old_within = omega (arith, front, back, old_within);
-      new_within = omega (arith, front, back, new_within);
-      small = omega (arith, a.reads.cut.size);
-    }
+      told : (k : TouchesOnly kept.front kept.back c new_cut) × (k.written ≡ touches.written)
+      told = touches_at (length (kept_front ss)) (length (kept_back ss)) kept.front kept.back c new_cut front back touches
 
-    pub scans : (before after : ℕ) → CountsWritten p new kept before after → Scans op t new before after
-    scans before after counts =
-        let exact : after ≡ counted (line_count (items_text touches.written [])) before =
-        counts c new_cut (cut_read (cut_text c) c again) placed a.reads.cut told.0 ∙ ap (λ (w : List Item). counted (line_count (items_text w [])) before) told.1 in
-        inr (record {
-          cut = c;
-          new_cut = new_cut;
-          segments = ss;
-          read = is;
-          new_read = new_read;
-          way = way;
-          touches = touches;
-          exact = exact;
-          most = omega (arith, exact, counted_within (line_count (items_text touches.written [])) before);
-        })
+      pub follows : (len : ℕ) → len ≡ length t → Follows p len u kept
+      follows len long = record {
+        old_cut = c;
+        new_cut = new_cut;
+        old_is = cut_read (cut_text c) c again;
+        placed = h.placed;
+        long = long ∙ sym (ap length text);
+        new_is = own_cut new_cut a.reads.cut;
+        touches = told.0;
+        old_within = omega (arith, front, back, old_within, long);
+        new_within = omega (arith, front, back, new_within, ap length same);
+        small = omega (arith, a.reads.cut.size, ap length same);
+      }
+
+      pub scans : (count before after : ℕ) → count ≡ before → CountsWritten u kept count after → Scans op t new before after
+      scans count before after is counts =
+          let exact : after ≡ counted (line_count (items_text touches.written [])) before =
+          counts c new_cut (own_cut new_cut a.reads.cut) told.0
+          ∙ (λ i. counted (line_count (items_text (told.1 i) [])) (is i)) in
+          inr (record {
+            cut = c;
+            new_cut = new_cut;
+            segments = ss;
+            read = h.read;
+            new_read = new_read;
+            way = way;
+            touches = touches;
+            exact = exact;
+            most = omega (arith, exact, counted_within (line_count (items_text touches.written [])) before);
+          })

@@ -1,5 +1,5 @@
 -- An update that is planned on the documents of a text and carried out.
-use Rattle.std.proofs.Common.{◌≡◌, ◌≢◌, ℕ, zero, suc, List, [], ◌∷◌, ◌++◌, slice_get, Some, None, Result, Ok, Err, IfOk, IfErr, string_bytes, sym, ap, ◌∙◌, subst}
+use Rattle.std.proofs.Common.{◌≡◌, ◌≢◌, ℕ, zero, suc, ◌<◌, List, [], ◌∷◌, ◌++◌, slice_get, Some, None, Result, Ok, Err, IfOk, IfErr, string_bytes, sym, ap, ◌∙◌, subst, arith}
 use Rattle.std.proofs.lemmas.Option.{none-some, same_Some}
 use Rattle.std.specs.Str.{IsUtf8}
 use Rattle.yq_scalar.specs.declared.ReadFault.{ReadFault}
@@ -13,12 +13,13 @@ use Rattle.yq_meaning.specs.Judgement as judgement
 use Rattle.yq_meaning.specs.Judgement.{Plans}
 use Rattle.yq_meaning.specs.Operations.{Operation}
 use Rattle.yq_planning.specs.Plans.{plan}
-use Rattle.yq_program.specs.Program.{Program, Update, assign, delete, comment, read, updates, update_at, UpdatesHold, LiteralsHold}
+use Rattle.yq_program.specs.Program.{Program, Update, assign, delete, comment, read, updates, update_at, update_count, UpdatesHold, LiteralsHold}
 use Rattle.yq_meaning.specs.Rooms.{room_of}
 use Rattle.yq_meaning.specs.declared.refusal.Refusal.{Refusal}
 use Rattle.yq_meaning.specs.declared.plan_error.PlanError.{PlanError}
 use Rattle.yq_meaning.specs.declared.plan_error.PlanError.TheVariants as planning
 use Rattle.yq_script.specs.Splice.{Splice}
+use Rattle.yq_script.proofs.PlaceInList.{get_some}
 use Rattle.yq_script.specs.declared.edited.Edited.{Edited}
 use Rattle.yq_splice.specs.Answers.{Edits, Fails, of_planning, of_reading}
 use Rattle.yq_splice.specs.Carried.{carry_all, carry_out, updated}
@@ -123,3 +124,8 @@ nth_holds (x ∷ us) (suc n) u h at = nth_holds us n u (others_hold x us h) at
 pub update_holds : (p : Program) (n : ℕ) (u : Update) → LiteralsHold p → update_at n p ≡ Some u → UpdatesHold (u ∷ [])
 update_holds (read stages) n u h at = absurd (none-some _ at)
 update_holds (updates us) n u h at = nth_holds us n u h at
+
+-- an update of that number
+pub update_there : (p : Program) (n : ℕ) → n < update_count p → (u : Update) × (update_at n p ≡ Some u)
+update_there (read stages) n h = absurd (omega (arith, h))
+update_there (updates us) n h = get_some us n h

@@ -81,18 +81,16 @@ pub(crate) fn carry_all(
     let mut session = Session::of(alloc, text, places);
     let mut splices = splices;
     let mut rest = ops;
-    'operations: while let [op, after @ ..] = rest
-        && !after.is_empty()
-    {
+    'operations: while let [op, after @ ..] = rest {
+        if after.is_empty() {
+            return session.close_by(op, splices);
+        }
         let mut next = session.apply(op)?;
         splices.append(&mut next)?;
         rest = after;
     }
-    match rest {
-        [last, ..] => session.close_by(last, splices),
-        [] => Ok(Edited {
-            text: session.close(),
-            splices,
-        }),
-    }
+    Ok(Edited {
+        text: session.close(),
+        splices,
+    })
 }

@@ -39,7 +39,7 @@ fn step(alloc: Global, done: Edited, program: &Program, nth: usize) -> Result<Ed
         IfErr result (λ e. FailsAt e u (string_bytes done.text)) }
 {
     let Edited { text, splices } = done;
-    let documents = read(alloc, text.as_bytes())?;
+    let documents = read(alloc, text.as_str().as_bytes())?;
     let ops = plan(alloc, program, nth, &documents)?;
     operands_hold(&ops);
     let places = documents.into_rows().into_places();

@@ -6,13 +6,13 @@ use Rattle.yq_program.specs.View.{program_of}
 use Rattle.yq_splice.proofs.AnswerLaws.{step_more, step_fails, all_done_so}
 use Rattle.yq_splice.proofs.editing.update_each.Goals as goal
 
-pub returns-in_err-step-clause-err : goal.returns-in_err-step-clause-err
-returns-in_err-step-clause-err c =
-    let p = err_from_is_err_and c.from_residual-in_err-step.result c.from_residual-in_err-step.ensures.1 in
+pub returns-in_err-done-2-clause-err : goal.returns-in_err-done-2-clause-err
+returns-in_err-done-2-clause-err c =
+    let p = err_from_is_err_and c.from_residual-in_err-done-2.result c.from_residual-in_err-done-2.ensures.1 in
     rw (p.1, p.2)
     (λ us is.
     let below : c.updates.nth < length us = omega (arith, c.updates-test.true, c.updates.invariant.count ∙ ap update_count is) in
-    step_fails (program_of c.args.program.now) us c.updates.nth c.args.text.now (string_bytes c.updates.done.text) c.updates.done.splices.items _ is below (c.updates.invariant.leads us is) c.in_err-step.ensures.err)
+    step_fails (program_of c.args.program.now) us c.updates.nth c.args.text.now (string_bytes c.updates.done.text) c.updates.done.splices.items _ is below (c.updates.invariant.leads us is) c.in_err-done-2.ensures.err)
 
 pub updates-preserved : goal.updates-preserved
 updates-preserved c = record {
@@ -20,8 +20,8 @@ updates-preserved c = record {
   bound = omega (arith, c.updates-test.true);
   leads = λ us is.
       let below : c.updates.nth < length us = omega (arith, c.updates-test.true, c.updates.invariant.count ∙ ap update_count is) in
-      step_more (program_of c.args.program.now) us c.updates.nth c.args.text.now (string_bytes c.updates.done.text) (string_bytes c.step.new.done.text) c.updates.done.splices.items c.step.new.done.splices.items
-      is below (c.updates.invariant.leads us is) c.in_ok-step.ensures.ok;
+      step_more (program_of c.args.program.now) us c.updates.nth c.args.text.now (string_bytes c.updates.done.text) (string_bytes c.in_ok-done-2.done.text) c.updates.done.splices.items c.in_ok-done-2.done.splices.items
+      is below (c.updates.invariant.leads us is) c.in_ok-done-2.ensures.ok;
 }
 
 pub returns-clause-ok : goal.returns-clause-ok
