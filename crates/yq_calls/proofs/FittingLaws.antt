@@ -7,7 +7,8 @@ use Rattle.yq_documents.specs.Ready.{TextIsReady}
 use Rattle.yq_tree.proofs.ReadLaws.{one_reading}
 use Rattle.yq_meaning.specs.After.{after_op}
 use Rattle.yq_meaning.specs.Judgement.{gives}
-use Rattle.yq_meaning.specs.Operations.{Operation}
+use Rattle.yq_meaning.specs.Operations.{Operation, operation_of, operations_of}
+use Rattle.yq_meaning.specs.declared.op.Op.{Op}
 use Rattle.yq_meaning.specs.Rooms.{room_of}
 use Rattle.yq_meaning.specs.RoomsKept.{LeavesRooms, MayFollow}
 use Rattle.yq_program.specs.Program.{Program, Update, LiteralsHold, delete, read, updates, update_at, update_count}
@@ -37,19 +38,35 @@ plan_fits t b d p n ops text same reads ready literals within planned =
       follow = subst (λ (x : List ℕ). MayFollow (room_of x) ops (documents_of d)) (same ∙ text) follow;
     }
 
-module _ (op : Operation) (ops : List Operation) (t : List ℕ) (fit : AreFitting (op ∷ ops) t) where
+later : List Op → List Op
+later os = take (length os - 1) (drop 1 os)
+
+first_apart : (os : List Op) (op : Op) → 1 ≤ length os → op ≡ slice_index_or os 0 op → os ≡ op ∷ later os
+first_apart [] op some at = absurd (omega (arith, some))
+first_apart (x ∷ os) op some at = (λ i. sym at i ∷ sym (take_all (length (x ∷ os) - 1) os (omega arith)) i)
+
+module _ (os : List Op) (op : Op) (t : List ℕ) (some : 1 ≤ length os) (at : op ≡ slice_index_or os 0 op) (fitting : AreFitting (operations_of os) t) where
+  abbrev first : Operation
+  first = operation_of op
+
+  abbrev others : List Operation
+  others = operations_of (later os)
+
+  fit : AreFitting (first ∷ others) t
+  fit = subst (λ (x : List Op). AreFitting (operations_of x) t) (first_apart os op some at) fitting
+
   -- the first one
-  pub first_fits : IsFitting op t
+  pub first_fits : IsFitting first t
   first_fits = record { before = fit.before; read = fit.read; fits = fit.follow.fit.0 }
 
   -- those behind it, on the text that it makes
-  pub others_fit : (m : List ℕ) (cs : List Splice) → IsApplied op t m cs → AreFitting ops m
+  pub others_fit : (m : List ℕ) (cs : List Splice) → IsApplied first t m cs → AreFitting others m
   others_fit m cs a =
       let same : a.before ≡ fit.before = one_reading t a.before fit.before a.read fit.read in
-      let left : LeavesRooms op (room_of t) (room_of m) (after_op (room_of t) op fit.before) =
-      subst (λ (ds : List Document). LeavesRooms op (room_of t) (room_of m) (after_op (room_of t) op ds)) same a.room in
+      let left : LeavesRooms first (room_of t) (room_of m) (after_op (room_of t) first fit.before) =
+      subst (λ (ds : List Document). LeavesRooms first (room_of t) (room_of m) (after_op (room_of t) first ds)) same a.room in
       record {
-        before = after_op (room_of t) op fit.before;
-        read = subst (λ (ds : List Document). Reads m (after_op (room_of t) op ds)) same a.reads;
-        follow = rest_follow op ops (room_of t) (room_of m) fit.before left fit.follow;
+        before = after_op (room_of t) first fit.before;
+        read = subst (λ (ds : List Document). Reads m (after_op (room_of t) first ds)) same a.reads;
+        follow = rest_follow first others (room_of t) (room_of m) fit.before left fit.follow;
       }
