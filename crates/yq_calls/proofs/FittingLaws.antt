@@ -1,5 +1,5 @@
 -- Operations that fit a text one after the other: those of a plan, and those behind one that was applied.
-use Rattle.std.proofs.Common.{◌≡◌, ℕ, ◌<◌, List, [], ◌∷◌, get_or, slice_get, Some, ◌∙◌, subst, arith}
+use Rattle.std.proofs.Common.{◌≡◌, ℕ, ◌-◌, ◌<◌, ◌≤◌, List, [], ◌∷◌, length, take, drop, get_or, slice_index_or, Some, sym, ◌∙◌, subst, take_all, arith}
 use Rattle.std.proofs.lemmas.Option.{slice_get-get_or}
 use Rattle.yq_documents.specs.Documents.{Document, Reads}
 use Rattle.yq_documents.specs.Reading.{documents_of}
@@ -38,7 +38,7 @@ plan_fits t b d p n ops text same reads ready literals within planned =
       follow = subst (λ (x : List ℕ). MayFollow (room_of x) ops (documents_of d)) (same ∙ text) follow;
     }
 
-later : List Op → List Op
+abbrev later : List Op → List Op
 later os = take (length os - 1) (drop 1 os)
 
 first_apart : (os : List Op) (op : Op) → 1 ≤ length os → op ≡ slice_index_or os 0 op → os ≡ op ∷ later os
