@@ -1,5 +1,5 @@
 -- What a session keeps while operations are applied to it, and what they add to its count.
-use Rattle.std.proofs.Common.{◌≡◌, ◌⊎◌, inl, inr, ℕ, ◌+◌, ◌≤◌, Bool, true, false, ◌<◌, ◌^◌, List, [], ◌∷◌, ◌++◌, length, Option, Some, None, refl, sym, ap, ◌∙◌, subst, arith, append-nil, eqb, eqb-true, Vec, vec_len}
+use Rattle.std.proofs.Common.{◌≡◌, ◌⊎◌, inl, inr, ℕ, ◌+◌, ◌≤◌, Bool, true, false, ◌<◌, ◌^◌, List, [], ◌∷◌, ◌++◌, length, Option, Some, None, IfSome, refl, sym, ap, ◌∙◌, subst, arith, append-nil, eqb, eqb-true, Vec, vec_len}
 use Rattle.std.proofs.lemmas.Bool.{false≢true}
 use Rattle.std.proofs.lemmas.List.{length-append}
 use Rattle.std.proofs.lemmas.Option.{same_Some}
@@ -20,7 +20,8 @@ use Rattle.yq_rows.specs.declared.places.Places.{Places}
 use Rattle.yq_rows.proofs.MeterLaws.{counted_within}
 use Rattle.yq_documents.specs.Documents.{Document, Reads}
 use Rattle.yq_documents.specs.Reading.{all_documents, documents, cut_of, read_at}
-use Rattle.yq_tree.specs.RowWalk.{HasCut}
+use Rattle.yq_tree.specs.RowWalk.{HasCut, IsKnown, StaysKnown}
+use Rattle.yq_tree.specs.declared.places.spot.KnownItem.{KnownItem}
 use Rattle.yq_tree.proofs.ExactReading.{parts_read}
 use Rattle.yq_tree.proofs.ReadLaws.{text_takes, read_takes}
 use Rattle.yq_meaning.specs.Fits.{Fits}
@@ -41,7 +42,7 @@ use Rattle.yq_ways.proofs.TouchLaws.{local_touches}
 use Rattle.yq_flow_ways.proofs.CutLaws.{cut_read, cut_same, text_read}
 use Rattle.yq_splice.specs.Carried.{carry_one, carried}
 use Rattle.yq_splice.specs.Edit.{gives, by_reading}
-use Rattle.yq_splice.specs.Session.{SessionState, HasPlaces, NotOpened, Scans}
+use Rattle.yq_splice.specs.Session.{SessionState, HasPlaces, KnowsItem, NotOpened, Scans}
 use Rattle.yq_splice.specs.Theorems.{HasReading, IsFitting, IsApplied}
 use Rattle.yq_splice.specs.Valid.{KeepsEnds, segments_by}
 use Rattle.yq_splice.proofs.ApplyLaws.{fits, applied_by}
@@ -122,6 +123,10 @@ module _ (t u : List ℕ) (p : Places) (s : Shown) (text : u ≡ t) (h : HasPlac
 
   pub cut_lent : (v : List ℕ) → v ≡ t → HasCut v s
   cut_lent v same = subst (λ (x : List ℕ). HasCut x s) (sym same) (has_cut t h.cut s h.read own)
+
+  -- an item that is known
+  pub known_lent : (k : Option KnownItem) → KnowsItem t k → IfSome k (IsKnown s.rows)
+  known_lent k is = subst (λ (x : Shown). IfSome k (IsKnown x.rows)) (sym (own ∙ ap shown (sym (cut_same t h.cut h.read)))) is
 
   -- and given back
   pub places_back : (q : Places) → IsPlaced q s → HasPlaces t q
@@ -209,9 +214,6 @@ module _ (op : Operation) (t new : List ℕ) (cs : List Splice) (operand : HasOp
     own_cut : (d : Cut) → IsCut new d → IsCut u d
     own_cut d = subst (λ (x : List ℕ). IsCut x d) (sym same)
 
-    pub places_after : (q : Places) → ((d : Cut) → IsCut u d → IsPlaced q (shown d)) → HasPlaces new q
-    places_after q placed = record { cut = new_cut; read = new_read; placed = placed new_cut (own_cut new_cut a.reads.cut) }
-
     module _ (kept : Kept) (ends : KeepsEnds kept op (cut_of t)) where
       by_way : segments_by op (cut_of t) ≡ ss
       by_way = ap (segments_by op) (cut_same t c h.read) ∙ ap (or_stay c) way
@@ -238,6 +240,15 @@ module _ (op : Operation) (t new : List ℕ) (cs : List Splice) (operand : HasOp
         new_within = omega (arith, front, back, new_within, ap length same);
         small = omega (arith, a.reads.cut.size, ap length same);
       }
+
+      known_by : (k : Option KnownItem) → IfSome k (StaysKnown kept.front (cut_of t)) → KnowsItem new k
+      known_by None stays = tt
+      known_by (Some k) stays =
+          subst (λ (d : Cut). IsKnown (shown d).rows k) (sym (cut_same new new_cut new_read))
+          (stays new_cut kept.back (subst (λ (d : Cut). TouchesOnly kept.front kept.back d new_cut) (sym (cut_same t c h.read)) told.0))
+
+      pub kept_after : (q : Places) (k : Option KnownItem) → ((d : Cut) → IsCut u d → IsPlaced q (shown d)) → IfSome k (StaysKnown kept.front (cut_of t)) → HasPlaces new q × KnowsItem new k
+      kept_after q k placed stays = (record { cut = new_cut; read = new_read; placed = placed new_cut (own_cut new_cut a.reads.cut) }, known_by k stays)
 
       pub scans : (count before after : ℕ) → count ≡ before → CountsWritten u kept count after → Scans op t new before after
       scans count before after is counts =

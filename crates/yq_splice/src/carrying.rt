@@ -26,7 +26,8 @@ pub(crate) fn carry_one(
     cut: &CutText<'_, '_>,
     op: &Op,
 ) -> Result<(Edited, Kept), EditError>
-    ensures ok { IfOk result (λ x. spec.carry_one (operation_of op.now) (cut_of cut.now) ≡ gives (string_bytes x.0.text) x.0.splices.items) }
+    ensures ok { IfOk result (λ x. spec.carry_one (operation_of op.now) (cut_of cut.now) ≡
+        gives (string_bytes x.0.text) x.0.splices.items) }
     ensures err { IfErr result (λ e. Fails e (spec.carry_one (operation_of op.now) (cut_of cut.now))) }
     ensures kept { IfOk result (λ x. KeepsEnds x.1 (operation_of op.now) (cut_of cut.now)) }
 {

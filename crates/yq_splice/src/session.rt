@@ -1,9 +1,10 @@
 //! Sessions: operations applied to one text, whose rows are kept.
-ghost use Rattle.std.specs.Prelude.{◌≡◌, IfErr, IfOk, OnErr, OnOk, length, string_bytes};
+ghost use Rattle.std.specs.Prelude.{◌≡◌, IfErr, IfOk, IfSome, OnErr, OnOk, string_bytes};
 ghost use Rattle.yq_documents.specs.Reading.{cut_of, read_at};
 ghost use Rattle.yq_meaning.specs.Operations.{operation_of};
 ghost use Rattle.yq_rows.specs.Meter.{counted, line_count};
 ghost use Rattle.yq_scalar.specs.Answers.{Gives};
+ghost use Rattle.yq_tree.specs.RowWalk.{StaysKnown};
 ghost use Rattle.yq_splice.specs.Answers.{Edits, Fails};
 ghost use Rattle.yq_splice.specs.Carried.{carried};
 ghost use Rattle.yq_splice.specs.Edit.{behind, gives};
@@ -17,32 +18,46 @@ use crate::operands::operand_holds;
 use std::alloc::Global;
 use std::marker::Model;
 use std::mem;
+use yq_documents::Path;
 use yq_expr::Op;
 use yq_rows::{Meter, Places, count_lines};
 use yq_scalar::ReadError;
 use yq_script::{Edited, Splice};
 use yq_session::{Kept, follow};
-use yq_tree::{CutText, read};
+use yq_tree::{CutText, KnownItem, read};
+
+/// The path at which an operation acts.
+fn path_of(op: &Op) -> &Path {
+    match op {
+        Op::Replace(path, _) => path,
+        Op::Append(path, _, _) => path,
+        Op::Remove(path) => path,
+        Op::LineComment(path, _) => path,
+        Op::HeadComment(path, _) => path,
+    }
+}
 
 /// A text that reads, kept with where its rows stand, so that operations are applied to it one after the
-/// other and of the rows only those that one touches are read again.
+/// other and of the rows only those that one touches are read again. The way to the next one's place goes on
+/// from an item on the way of the last one.
 #[derive(Debug, Drop)]
 pub struct Session {
     alloc: Global,
     text: String,
     places: Places,
+    known: Option<KnownItem>,
     meter: Meter,
 }
 
 impl Model for Session {
     ghost use Rattle.std.specs.String.{string_bytes};
-    ghost use Rattle.yq_splice.specs.Session.{SessionState, HasPlaces};
+    ghost use Rattle.yq_splice.specs.Session.{SessionState, HasPlaces, KnowsItem};
 
     ghost Value = { SessionState };
 
     ghost view = { λ s. record { text = string_bytes s.text; scanned = s.meter } };
 
-    ghost invariant = { λ s. HasPlaces (string_bytes s.text) s.places };
+    ghost invariant = { λ s. HasPlaces (string_bytes s.text) s.places × KnowsItem (string_bytes s.text) s.known };
 }
 
 impl Session {
@@ -65,6 +80,7 @@ impl Session {
             alloc,
             text,
             places,
+            known: None,
             meter,
         })
     }
@@ -78,6 +94,7 @@ impl Session {
             alloc,
             text,
             places,
+            known: None,
             meter: Meter::new(),
         }
     }
@@ -85,15 +102,31 @@ impl Session {
     /// What an operation makes of the text, and how much of it stays in front and behind.
     fn carry(&mut self, op: &Op) -> Result<(Edited, Kept), EditError>
         ensures same { self.new ≡ self.old }
-        ensures ok { IfOk result (λ x. carried (operation_of op.now) self.old.text ≡ gives (string_bytes x.0.text) x.0.splices.items) }
+        ensures ok { IfOk result (λ x. carried (operation_of op.now) self.old.text ≡
+            gives (string_bytes x.0.text) x.0.splices.items) }
         ensures err { IfErr result (λ e. Fails e (carried (operation_of op.now) self.old.text)) }
         ensures kept { IfOk result (λ x. KeepsEnds x.1 (operation_of op.now) (cut_of self.old.text)) }
     {
         let places = mem::replace(&mut self.places, Places::new(self.alloc));
         let rows = places.rows(&self.text);
-        let made = carry_one(self.alloc, &CutText::new(&self.text, &rows), op);
+        let cut = CutText::resumed(&self.text, &rows, self.known);
+        let made = carry_one(self.alloc, &cut, op);
         self.places = rows.into_places();
         made
+    }
+
+    /// An item on the way of an operation from which the next one may go on, where so many bytes stay in
+    /// front.
+    fn known_behind(&mut self, op: &Op, front: usize) -> Option<KnownItem>
+        ensures same { self.new ≡ self.old }
+        ensures known { IfSome result (StaysKnown front (cut_of self.old.text)) }
+    {
+        let places = mem::replace(&mut self.places, Places::new(self.alloc));
+        let rows = places.rows(&self.text);
+        let cut = CutText::resumed(&self.text, &rows, self.known);
+        let known = cut.known_at(path_of(op), front);
+        self.places = rows.into_places();
+        known
     }
 
     /// Applies an operation that fits the documents of the text. Each byte that it doesn't name stays as
@@ -109,7 +142,8 @@ impl Session {
         ensures done { IfOk result (λ cs. IsApplied (operation_of op.now) self.old.text self.new.text cs.items) }
         ensures refused { IfErr result (λ e. IsRefused e (operation_of op.now) self.old.text) }
         // At most the lines of the rows and ends of parts that it touches are counted.
-        ensures scanned { OnOk result (Scans (operation_of op.now) self.old.text self.new.text self.old.scanned self.new.scanned) }
+        ensures scanned { OnOk result (Scans (operation_of op.now) self.old.text self.new.text
+            self.old.scanned self.new.scanned) }
         // What is refused leaves the session as it is.
         ensures kept { OnErr result (self.new ≡ self.old) }
     {
@@ -119,10 +153,12 @@ impl Session {
         if splices.is_empty() {
             return Ok(splices);
         }
+        let known = self.known_behind(op, kept.front);
         let len = self.text.len();
         let mut meter = self.meter;
         follow(self.alloc, &mut self.places, len, &text, kept, &mut meter)?;
         self.text = text;
+        self.known = known;
         self.meter = meter;
         Ok(splices)
     }

@@ -1,7 +1,6 @@
-use Rattle.std.proofs.Common.{◌≡◌, ap, sym, ◌∙◌, subst, eqb-true}
-use Rattle.yq_meaning.specs.Operations.{operation_of, operations_of}
+use Rattle.std.proofs.Common.{ap, sym, ◌∙◌, subst, eqb-true}
 use Rattle.yq_splice.specs.Answers.{Edits}
-use Rattle.yq_splice.specs.Edit.{Edit, behind}
+use Rattle.yq_splice.specs.Edit.{behind}
 use Rattle.yq_splice.proofs.OperationsLaws.{last_comes, others_come, others_served}
 use Rattle.yq_splice.proofs.carrying.carry_all.Goals as goal
 
