@@ -8,7 +8,7 @@ static REGIONS: [(&str, usize, u64); 4] = [
     ("b:\n  # c\n  c: 2\n", 2, 3),
     ("", 0, 0),
     ("\n# c\n", 0, 2),
-    ("a: |\n  x\n  y", 1, 3),
+    ("a: |\n  x\n  y\n", 1, 3),
 ];
 
 /// Where each row of a text begins, how deep, and its key.
