@@ -1,5 +1,5 @@
-//! Tests of the public calls on block values, edits and journals: what their
-//! contracts leave open.
+//! Tests of the public calls on block values, edits, operations, sessions and
+//! journals: what their contracts leave open.
 #![tactic(auto)]
 
 #[cfg(test)]
