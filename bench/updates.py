@@ -18,6 +18,9 @@ from measured import used_by
 from services import services
 
 COUNTS = (1_000, 10_000, 25_000, 100_000)
+LONGEST = 131_072
+# A longer word can't be handed to a process.
+LONGEST = 131_072
 
 # What is asked of the items of a text, which stand at the root.
 IN_ALL = (".[] = 77", ".[] |= . + 1", "del(.[])", "del(.[] | select(. % 2 == 0))")
@@ -50,7 +53,9 @@ def cases(n):
         for update in IN_ALL + (() if name == "flow sequence" else IN_BLOCK):
             yield name, text, update
     yield "mappings", lists(n), ".[].x = 1"
-    yield "a block sequence of one", *appended(n)
+    text, update = appended(n)
+    if len(update) < LONGEST:
+        yield "a block sequence of one", text, update
 
 
 def seconds(folder, yq, expression):
