@@ -14,6 +14,7 @@ use crate::kept::Kept;
 use crate::sides::{Side, side_before, side_behind};
 use std::alloc::{AllocError, Global};
 use yq_rows::{Meter, Places, read_region};
+use yq_scalar::ReadError;
 
 /// What stands between so many bytes at the beginning of a text and so many at its end.
 fn between(text: &str, front: usize, back: usize) -> &str
@@ -68,7 +69,9 @@ pub fn follow(
     let (front, old, part) = find(places, len, new, kept)?;
     let found = match read_region(alloc, part, meter) {
         Ok(rows) => rows.into_places(),
-        Err(_) => return Err(AllocError),
+        Err(ReadError::Memory) => return Err(AllocError),
+        // The part is read alone as the rows and ends of the new text that it is.
+        Err(ReadError::Fault(_)) => unreachable!(),
     };
     exchange(alloc, places, front, old, &found, part.len())
 }
