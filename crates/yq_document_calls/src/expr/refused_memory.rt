@@ -74,7 +74,7 @@ fn plan_in_turn(
 fn of_plans(rt: HostRuntime) -> Result<(), Fail> {
     'plans: for (expr, nth, text, wanted) in &PLANS {
         let turns = plan_in_turn(&rt, rt.alloc(), expr, *nth, text, *wanted)?;
-        assert!(rt; turns > 3, "{expr:?}");
+        assert!(rt; turns > 0, "{expr:?}");
     }
     Ok(())
 }
