@@ -1,0 +1,8 @@
+//! Texts that are kept in two halves, so that an edit between them moves no other byte.
+#![tactic(auto)]
+
+mod halves;
+mod split_text;
+
+pub use halves::Halves;
+pub use split_text::SplitText;

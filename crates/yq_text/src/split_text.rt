@@ -1,0 +1,134 @@
+//! A text that is kept in two halves, with room between them.
+ghost use Rattle.std.specs.Prelude.{◌≡◌, ◌+◌, ◌-◌, ◌≤◌, ◌<◌, ◌^◌, ◌++◌, [], drop, length, take, OnOk, OnErr, string_bytes};
+ghost use Rattle.std.specs.Str.{IsCharBoundary};
+ghost use Rattle.yq_text.specs.Split.{Split, joined};
+
+use crate::halves::Halves;
+use std::alloc::AllocError;
+use std::marker::Model;
+
+/// A text that is kept in two halves with room between them: what is written there moves no other byte,
+/// and to move the split costs the bytes between its old place and its new one.
+#[derive(Debug, Drop)]
+pub struct SplitText {
+    bytes: Vec<u8>,
+    /// How many bytes stand in front of the split.
+    front: usize,
+    /// Where the bytes behind it begin.
+    back: usize,
+}
+
+impl Model for SplitText {
+    ghost use Rattle.std.specs.Prelude.{◌≤◌, ◌-◌, take, drop, length};
+    ghost use Rattle.std.specs.Str.{IsUtf8};
+    ghost use Rattle.yq_text.specs.Split.{Split};
+
+    ghost Value = { Split };
+
+    ghost view = { λ t. record { front = take t.front t.bytes.items; back = drop t.back t.bytes.items; room = t.back - t.front } };
+
+    ghost invariant = { λ t. (t.front ≤ t.back) × (t.back ≤ length t.bytes.items) ×
+        IsUtf8 (take t.front t.bytes.items) × IsUtf8 (drop t.back t.bytes.items) };
+}
+
+impl SplitText {
+    /// A text with the split at its end, and no room there. No memory is asked for.
+    pub fn of(text: String) -> SplitText
+        ensures front { result.front ≡ string_bytes text }
+        ensures back { result.back ≡ [] }
+    {
+        let bytes = text.into_bytes();
+        let len = bytes.len();
+        SplitText {
+            bytes,
+            front: len,
+            back: len,
+        }
+    }
+
+    /// Both halves.
+    pub fn halves(&self) -> Halves<'_>
+        ensures front { result.front.now ≡ self.now.front }
+        ensures back { result.back.now ≡ self.now.back }
+    {
+        let bytes = self.bytes.as_slice();
+        Halves {
+            front: unsafe { std::str::from_utf8_unchecked(&bytes[..self.front]) },
+            back: unsafe { std::str::from_utf8_unchecked(&bytes[self.back..]) },
+        }
+    }
+
+    /// How long the text is, in bytes.
+    pub fn len(&self) -> usize
+        ensures { result ≡ length (joined self.now) }
+    {
+        self.front + (self.bytes.len() - self.back)
+    }
+
+    /// Makes room for so many bytes at the split.
+    ///
+    /// # Errors
+    /// Want of memory. The text is as it was.
+    pub fn reserve(&mut self, more: usize) -> Result<(), AllocError>
+        ensures front { self.new.front ≡ self.old.front }
+        ensures back { self.new.back ≡ self.old.back }
+        ensures room { OnOk result (more ≤ self.new.room) }
+    {
+        Err(AllocError)
+    }
+
+    /// Moves the split to a place in the text, in bytes.
+    pub fn move_split(&mut self, at: usize)
+        requires { IsCharBoundary (joined self.old) at }
+        ensures front { self.new.front ≡ take at (joined self.old) }
+        ensures back { self.new.back ≡ drop at (joined self.old) }
+        ensures room { self.new.room ≡ self.old.room }
+    {
+        if at < self.front {
+            let count = self.front - at;
+            self.bytes.as_mut_slice().copy_within(at..self.front, self.back - count);
+            self.front = at;
+            self.back -= count;
+        } else {
+            let count = at - self.front;
+            self.bytes.as_mut_slice().copy_within(self.back..self.back + count, self.front);
+            self.front = at;
+            self.back += count;
+        }
+    }
+
+    /// So many bytes behind the split give way to a text, which comes to stand in front of it; there is
+    /// room for it.
+    pub fn exchange(&mut self, gone: usize, text: &str)
+        requires gone { IsCharBoundary self.old.back gone }
+        requires room { length text.now ≤ self.old.room + gone }
+        ensures front { self.new.front ≡ self.old.front ++ text.now }
+        ensures back { self.new.back ≡ drop gone self.old.back }
+    {
+        let end = self.front + text.len();
+        self.bytes.as_mut_slice()[self.front..end].copy_from_slice(text.as_bytes());
+        self.front = end;
+        self.back += gone;
+    }
+
+    /// The text; the split is then at its end.
+    pub fn text(&mut self) -> &str
+        ensures text { result.now ≡ joined self.old }
+    {
+        let len = self.len();
+        self.move_split(len);
+        self.halves().front
+    }
+
+    /// The text, where it is kept no longer. No memory is asked for.
+    pub fn into_string(self) -> String
+        ensures { string_bytes result ≡ joined self.entry }
+    {
+        let mut kept = self;
+        let len = kept.len();
+        kept.move_split(len);
+        let SplitText { mut bytes, front, .. } = kept;
+        bytes.truncate(front);
+        unsafe { String::from_utf8_unchecked(bytes) }
+    }
+}
