@@ -50,5 +50,6 @@ pub mod KeptLaws
 pub mod NearLaws
 pub mod EndPlaceLaws
 pub mod EndsNear
+pub mod HalfLaws
 pub mod PlacedLaws
 pub mod RegionEnds

@@ -1,7 +1,7 @@
 //! Where the parts of a text end in it.
 ghost use Rattle.std.specs.Prelude.{◌≡◌, ◌∷◌, ◌<◌, ◌+◌, ◌-◌, ◌^◌, ◌++◌, [], length};
 ghost use Rattle.yq_rows.specs.Ends as spec;
-ghost use Rattle.yq_rows.specs.Kept.{moved};
+ghost use Rattle.yq_rows.specs.Kept.{marked, moved};
 ghost use Rattle.yq_rows.specs.Offsets.{AreCuts, Ends};
 ghost use Rattle.yq_rows.specs.View.{bound_view};
 
@@ -51,6 +51,16 @@ impl EndPlace {
         EndPlace {
             rows,
             start: start as u32,
+            ..self
+        }
+    }
+
+    /// The same end before a marker that is as long as that of another one.
+    pub fn marked(self, other: &EndPlace) -> EndPlace
+        ensures { result ≡ marked other.now self }
+    {
+        EndPlace {
+            marker: other.marker,
             ..self
         }
     }
