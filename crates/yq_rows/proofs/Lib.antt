@@ -1,5 +1,6 @@
 pub mod AlikeBlocks
 pub mod AlikeRows
+pub mod BlockNumberLaws
 pub mod CharacterLaws
 pub mod ContentEnds
 pub mod ContentLaws

@@ -61,10 +61,6 @@ raised n o = record o { start = o.start + n }
 abbrev pub moved : ℕ → ℕ → EndPlace → EndPlace
 moved rows start e = record e { rows = rows; start = start }
 
--- the end of a part before a marker that is as long as that of another one (own)
-abbrev pub marked : EndPlace → EndPlace → EndPlace
-marked other e = record e { marker = other.marker }
-
 -- the rows in front of the split and those behind it, as they are kept (own)
 abbrev pub kept_rows : Places → List declared.Offsets
 kept_rows p = p.front.items ++ reverse p.behind.items
