@@ -52,5 +52,6 @@ pub mod NearLaws
 pub mod EndPlaceLaws
 pub mod EndsNear
 pub mod HalfLaws
+pub mod KeptPlaces
 pub mod PlacedLaws
 pub mod RegionEnds

@@ -3,7 +3,7 @@ use Rattle.std.specs.Str.{IsCharBoundary}
 use Rattle.yq_rows.specs.Kept.{turned}
 use Rattle.yq_rows.specs.Offsets.{AreCuts, lengths, pieces_of}
 use Rattle.yq_rows.specs.View.{Shown}
-use Rattle.yq_rows.proofs.HalfLaws.{back_found, back_within, front_found, row_back, row_front}
+use Rattle.yq_rows.proofs.KeptPlaces.{back_found, back_within, front_found, row_back, row_front}
 use Rattle.yq_rows.proofs.scanning.Rows.found.Goals as goal
 
 pub split_at-requires : goal.split_at-requires

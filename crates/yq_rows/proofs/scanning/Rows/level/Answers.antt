@@ -1,6 +1,6 @@
 use Rattle.std.proofs.Common.{ap, slice_get, ◌∙◌}
 use Rattle.yq_rows.specs.View.{Shown}
-use Rattle.yq_rows.proofs.HalfLaws.{kept_lengths}
+use Rattle.yq_rows.proofs.KeptPlaces.{kept_lengths}
 use Rattle.yq_rows.proofs.scanning.Rows.level.Goals as goal
 
 pub returns : goal.returns

@@ -3,7 +3,7 @@ use Rattle.std.specs.Str.{IsCharBoundary}
 use Rattle.yq_rows.specs.Ends.{bound_at}
 use Rattle.yq_rows.specs.Offsets.{AreCuts}
 use Rattle.yq_rows.specs.View.{Bound, Shown}
-use Rattle.yq_rows.proofs.HalfLaws.{end_at_index, end_cuts, from_back, from_front}
+use Rattle.yq_rows.proofs.KeptPlaces.{end_at_index, end_cuts, from_back, from_front}
 use Rattle.yq_rows.proofs.scanning.Rows.part.Goals as goal
 
 pub split_at-requires : goal.split_at-requires

@@ -1,7 +1,7 @@
 use Rattle.std.proofs.Common.{◌-◌, ◌<◌, ◌∙◌, ap, arith, length, length-append, subst, sym}
 use Rattle.yq_rows.specs.RowStarts.{row_start}
 use Rattle.yq_rows.specs.View.{Shown}
-use Rattle.yq_rows.proofs.HalfLaws.{back_within, halves_small, start_back, start_front}
+use Rattle.yq_rows.proofs.KeptPlaces.{back_within, halves_small, start_back, start_front}
 use Rattle.yq_rows.proofs.scanning.Rows.start.Goals as goal
 
 pub returns-then-i-len : goal.returns-then-i-len
