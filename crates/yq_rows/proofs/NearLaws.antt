@@ -71,12 +71,6 @@ rows_placed_step os items o whole limit next t g r s after all ends e more h pus
     ∙ (sym same ∙ so_far))
 
 -- parts
-pub parts_placed_none : (os : List declared.Offsets) (n : ℕ) (started : Bool) (t : List ℕ) (all : Option (List declared.Offsets)) → rows_placed os n (part_at started t) ≡ None → parts_placed os n (all_parts started t) ≡ all → all ≡ None
-parts_placed_none os n started t all none so_far = sym so_far ∙ ap (parts_placed os n) (parts_refused started t (no_part (part_at started t) none)) where
-  no_part : (o : Option (Part × List ℕ)) → rows_placed os n o ≡ None → o ≡ None
-  no_part None h = refl
-  no_part (Some x) h = cc
-
 near_part : (n : ℕ) (rs : List Row) (end marker : List ℕ) (xs : List Item) → near n (rows_items rs (end_item end marker ∷ xs)) ≡ near n (rows_items rs []) ++ near (n + length (rows_text rs (end ++ marker))) xs
 near_part n rs end marker xs =
     let own = items_text (rows_items rs []) [] in
