@@ -99,7 +99,7 @@ fn collection_of(rows: &Rows<'_>, document: Stretch, steps: &[Step]) -> Option<C
 /// The end of the block collection that ends at a place, in bytes, before its last break.
 fn end_at(text: Halves<'_>, column: usize, end: usize) -> CollectionEnd<'_>
     requires { IsCharBoundary (whole text) end }
-    ensures { (before last rest : List ℕ) → whole text ≡ before ++ (last ++ rest) → end ≡
+    ensures { (before last rest : List ℕ) → whole text.entry ≡ before ++ (last ++ rest) → end ≡
         length before → cut_line (last ++ rest) ≡ (last, rest) → collection_told result ≡
         record { column = column; before = before ++ last; broken = not (is_empty last); behind = rest } }
 {

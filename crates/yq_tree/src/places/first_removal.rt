@@ -30,8 +30,8 @@ pub struct FirstRemoval<'d> {
 }
 
 /// What is taken out with an item or entry between two texts.
-fn first_out<'d>(before: Halves<'d>, entry: Halves<'d>, behind: Halves<'d>) -> FirstRemoval<'d>
-    ensures { first_told result ≡ spec.first_out (piece_of (whole before) (whole entry) (whole behind)) }
+fn first_out<'d>(before: Halves<'d>, own: Halves<'d>, behind: Halves<'d>) -> FirstRemoval<'d>
+    ensures { first_told result ≡ spec.first_out (piece_of (whole before.entry) (whole own.entry) (whole behind.entry)) }
 {
     let (line, next) = split_line(behind);
     if begins_gap(next) {
@@ -39,7 +39,7 @@ fn first_out<'d>(before: Halves<'d>, entry: Halves<'d>, behind: Halves<'d>) -> F
         return FirstRemoval {
             before,
             space,
-            entry,
+            entry: own,
             line: Halves::of(""),
             indent: Halves::of(""),
             behind,
@@ -49,7 +49,7 @@ fn first_out<'d>(before: Halves<'d>, entry: Halves<'d>, behind: Halves<'d>) -> F
     FirstRemoval {
         before,
         space: Halves::of(""),
-        entry,
+        entry: own,
         line,
         indent,
         behind,

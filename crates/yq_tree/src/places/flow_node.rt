@@ -8,6 +8,7 @@ ghost use Rattle.yq_tree.specs.FlowTold as spec;
 
 use crate::cut_text::CutText;
 use crate::places::node_place::{node_place, place_line};
+use crate::places::row_head::RowHead;
 use std::alloc::{AllocError, Global};
 use yq_inline::{Form, Inline, Step};
 use yq_lines::Head;
@@ -62,15 +63,15 @@ impl<'t> CutText<'_, 't> {
         let Some(at) = place_line(rows, document, place) else {
             return Ok(None);
         };
-        let head = self.row_head(alloc, at.row)?;
-        match head.head {
+        let RowHead { head, text, before } = self.row_head(alloc, at.row)?;
+        match head {
             Head::Nothing => Ok(None),
             Head::Scalar(..) => Ok(None),
             Head::Inline(node) => Ok(Some(FlowHead {
                 node,
                 left,
-                text: head.text,
-                before: head.before,
+                text,
+                before,
             })),
         }
     }

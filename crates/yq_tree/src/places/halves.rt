@@ -13,7 +13,7 @@ use yq_text::Halves;
 
 /// The byte at a place, if there is one.
 fn byte_at(text: Halves<'_>, at: usize) -> Option<u8>
-    ensures { result ≡ slice_get (whole text) at }
+    ensures { result ≡ slice_get (whole text.entry) at }
 {
     let front = text.front.as_bytes();
     if at < front.len() {
@@ -25,7 +25,7 @@ fn byte_at(text: Halves<'_>, at: usize) -> Option<u8>
 
 /// How many spaces are in front.
 fn front_spaces(text: Halves<'_>) -> usize
-    ensures { result ≡ prefix_len (λ b. b == 32) (whole text) }
+    ensures { result ≡ prefix_len (λ b. b == 32) (whole text.entry) }
 {
     let count = spaces_len(text.front.as_bytes());
     if count < text.front.len() {
@@ -37,7 +37,7 @@ fn front_spaces(text: Halves<'_>) -> usize
 
 /// How many spaces and tabs are in front.
 fn front_whites(text: Halves<'_>) -> usize
-    ensures { result ≡ prefix_len scan.is_white (whole text) }
+    ensures { result ≡ prefix_len scan.is_white (whole text.entry) }
 {
     let count = whites_len(text.front.as_bytes());
     if count < text.front.len() {
@@ -49,14 +49,14 @@ fn front_whites(text: Halves<'_>) -> usize
 
 /// The text cut behind the spaces in front.
 pub(crate) fn split_spaces<'t>(text: Halves<'t>) -> (Halves<'t>, Halves<'t>)
-    ensures { (whole result.0, whole result.1) ≡ scan.cut scan.no_space (whole text) }
+    ensures { (whole result.0, whole result.1) ≡ scan.cut scan.no_space (whole text.entry) }
 {
     text.split_at(front_spaces(text))
 }
 
 /// Whether a blank line or a comment line is in front (YAML 1.2.2, sections 6.4 and 6.6).
 pub(crate) fn begins_gap(text: Halves<'_>) -> bool
-    ensures { result ≡ reading.begins_gap (whole text) }
+    ensures { result ≡ reading.begins_gap (whole text.entry) }
 {
     if text.is_empty() {
         return false;
@@ -72,7 +72,7 @@ pub(crate) fn begins_gap(text: Halves<'_>) -> bool
 
 /// How long the line in front is with its break, in bytes.
 fn front_line(text: Halves<'_>) -> usize
-    ensures { result ≡ scan.line_len (whole text) }
+    ensures { result ≡ scan.line_len (whole text.entry) }
 {
     let front = text.front.as_bytes();
     let len = line_len(front);
@@ -85,15 +85,15 @@ fn front_line(text: Halves<'_>) -> usize
 
 /// The text cut behind the line in front and its break.
 pub(crate) fn split_line<'t>(text: Halves<'t>) -> (Halves<'t>, Halves<'t>)
-    ensures { (whole result.0, whole result.1) ≡ scan.cut_line (whole text) }
+    ensures { (whole result.0, whole result.1) ≡ scan.cut_line (whole text.entry) }
 {
     text.split_at(front_line(text))
 }
 
 /// How long a text is less the break that ends it, in bytes.
 pub(crate) fn less_break_len(text: Halves<'_>) -> usize
-    ensures value { result ≡ length (lines.less_break (whole text)) }
-    ensures within { result ≤ length (whole text) }
+    ensures value { result ≡ length (lines.less_break (whole text.entry)) }
+    ensures within { result ≤ length (whole text.entry) }
 {
     let len = text.len();
     let at = len.saturating_sub(2);
@@ -107,8 +107,8 @@ pub(crate) fn less_break_len(text: Halves<'_>) -> usize
 
 /// A text cut before the break that ends it, if one does.
 pub fn split_break<'t>(text: Halves<'t>) -> (Halves<'t>, Halves<'t>)
-    ensures line { whole result.0 ≡ lines.less_break (whole text) }
-    ensures rest { whole result.1 ≡ lines.last_break (whole text) }
+    ensures line { whole result.0 ≡ lines.less_break (whole text.entry) }
+    ensures rest { whole result.1 ≡ lines.last_break (whole text.entry) }
 {
     text.split_at(less_break_len(text))
 }
@@ -127,8 +127,8 @@ fn less_spaces_len(text: &[u8]) -> usize
 
 /// A text cut before the spaces that end it.
 pub(crate) fn split_end_spaces<'t>(text: Halves<'t>) -> (Halves<'t>, Halves<'t>)
-    ensures front { whole result.0 ≡ spaces.less_spaces (whole text) }
-    ensures spaces { whole result.1 ≡ spaces.end_spaces (whole text) }
+    ensures front { whole result.0 ≡ spaces.less_spaces (whole text.entry) }
+    ensures spaces { whole result.1 ≡ spaces.end_spaces (whole text.entry) }
 {
     let len = less_spaces_len(text.back.as_bytes());
     if len > 0 {

@@ -46,7 +46,7 @@ pub(crate) fn column_of(parent: i64) -> usize
 /// stands there, behind the anchor.
 fn split_mark<'d>(text: Halves<'d>, row: &Row<'_>) -> (Halves<'d>, Halves<'d>)
     requires { EndsBehindMark (whole text) (view row.now) }
-    ensures before { (h : EndsBehindMark (whole text) (view row.now)) → whole result.0 ≡ spec.upto_anchor h.before (view row.now) }
+    ensures before { (h : EndsBehindMark (whole text.entry) (view row.now)) → whole result.0 ≡ spec.upto_anchor h.before (view row.now) }
     ensures behind { whole result.1 ≡ spec.behind_anchor (view row.now) }
 {
     let behind = row.apart().len() + row.head().len();

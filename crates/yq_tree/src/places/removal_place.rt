@@ -168,7 +168,7 @@ fn seam_of(block: Option<(bool, usize)>, column: usize, kept: &str) -> Option<Se
 fn rows_out<'d>(rows: &Rows<'d>, text: Halves<'d>, marks: (usize, usize, usize)) -> Removal<'d>
     requires { reading.HasOwn (whole text) rows.now (marks.0, marks.1, marks.2) }
     ensures { (d : PlacedPart) (x : spec.OwnRows) →
-        reading.IsOwn (whole text) rows.now d x (marks.0, marks.1, marks.2) →
+        reading.IsOwn (whole text.entry) rows.now d x (marks.0, marks.1, marks.2) →
         reading.removal_told result ≡ spec.rows_out d x }
 {
     let (first, at, end) = marks;

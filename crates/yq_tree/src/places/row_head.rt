@@ -26,7 +26,7 @@ pub(crate) struct RowHead<'t> {
 
 /// A text of which one half is empty, as one. A row has no split inside.
 fn in_one(text: Halves<'_>) -> Option<&str>
-    ensures { IfSome result (λ t. t.now ≡ whole text) }
+    ensures { IfSome result (λ t. t.now ≡ whole text.entry) }
 {
     if text.front.is_empty() {
         return Some(text.back);

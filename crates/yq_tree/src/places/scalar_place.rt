@@ -77,7 +77,7 @@ fn space_before<'d>(row: &Row<'d>) -> &'d str
 /// The block scalar of a row, the header of which begins at an offset.
 fn place_at<'d>(text: Halves<'d>, row: &Row<'d>, start: usize, indent: usize) -> ScalarPlace<'d>
     requires { StandsAt (whole text) start (view row.now) }
-    ensures { (h : StandsAt (whole text) start (view row.now)) → scalar_told result ≡
+    ensures { (h : StandsAt (whole text.entry) start (view row.now)) → scalar_told result ≡
         spec.scalar_by h.before (view row.now) h.behind indent }
 {
     let space = space_before(row);

@@ -17,9 +17,9 @@ pub(crate) fn cut_at<'t>(
     requires order { start ≤ end }
     requires start { IsCharBoundary (whole text) start }
     requires end { IsCharBoundary (drop start (whole text)) (end - start) }
-    ensures before { whole result.0 ≡ take start (whole text) }
-    ensures middle { whole result.1 ≡ take (end - start) (drop start (whole text)) }
-    ensures behind { whole result.2 ≡ drop (end - start) (drop start (whole text)) }
+    ensures before { whole result.0 ≡ take start (whole text.entry) }
+    ensures middle { whole result.1 ≡ take (end - start) (drop start (whole text.entry)) }
+    ensures behind { whole result.2 ≡ drop (end - start) (drop start (whole text.entry)) }
 {
     let (before, rest) = text.split_at(start);
     let (middle, behind) = rest.split_at(end - start);
