@@ -98,3 +98,5 @@ pub mod ScalarPlaceLaws
 pub mod KnownLaws
 pub mod KnownWalks
 pub mod KnownFronts
+mod HalvesLaws
+mod TailLaws
