@@ -73,7 +73,6 @@ pub mod PlacedPartLaws
 pub mod RemovalTexts
 pub mod RemovalLines
 pub mod RemovalPlaceLaws
-pub mod BlockRowLaws
 pub mod RemovalBounds
 pub mod RemovalTold
 pub mod FirstLaws
@@ -99,3 +98,6 @@ pub mod EntryKeys
 pub mod KnownLaws
 pub mod KnownWalks
 pub mod KnownFronts
+mod HalvesLaws
+mod TailLaws
+mod FirstBreakLaws
