@@ -1,5 +1,5 @@
 -- A walk to an item or entry goes on from one that is known.
-use Rattle.std.proofs.Common.{◌≡◌, ◌⊎◌, inl, inr, ℕ, zero, suc, ◌+◌, ◌-◌, ◌<◌, ◌≤◌, ltb, eqb, cond, Bool, true, false, not, ◌&&◌, List, [], ◌∷◌, length, take, drop, Option, Some, option_map, refl, sym, ap, ◌∙◌, subst, arith}
+use Rattle.std.proofs.Common.{◌≡◌, ◌⊎◌, inl, inr, ℕ, zero, suc, ◌+◌, ◌-◌, ◌<◌, ◌≤◌, ltb, cond, Bool, true, false, not, ◌&&◌, List, [], ◌∷◌, length, take, drop, Option, Some, option_map, refl, sym, ap, ◌∙◌, subst, arith}
 use Rattle.std.proofs.lemmas.Bool.{cases_lt, cond-true, cond-false, lt-ltb, le-ltb, eq-eqb, ne_eqb}
 use Rattle.std.proofs.lemmas.List.{drop-drop, drop-take, take-take, length-take-le, length-drop}
 use Rattle.std.proofs.lemmas.Option.{same_Some, slice_get_within}
@@ -12,7 +12,7 @@ use Rattle.yq_lines.specs.Spots as lines
 use Rattle.yq_lines.proofs.SpotLaws.{spot_here, spot_passed, here_item}
 use Rattle.yq_rows.specs.View.{Slices, Shown}
 use Rattle.yq_documents.specs.Lines.{lines_of}
-use Rattle.yq_tree.specs.RowWalk.{line_level, level_count, deeper_rows, AreDeep, ArePassed, IsKnown, HasDocument, IsSpot, IsLine, IsAmong, IsKeyed, HaveKeys, Finds, GoesOn, found_from, line_number}
+use Rattle.yq_tree.specs.RowWalk.{line_level, level_count, deeper_rows, AreDeep, HasDocument, IsSpot, IsLine, IsAmong, IsKeyed, HaveKeys, Finds, GoesOn, found_from, line_number}
 use Rattle.yq_tree.specs.declared.places.spot.KnownItem.{KnownItem}
 use Rattle.yq_tree.specs.declared.places.spot.Spot.{Spot}
 use Rattle.yq_tree.specs.declared.places.spot.Stretch.{Stretch}

@@ -6,7 +6,7 @@ use Rattle.yq_inline.specs.Entries.{step_of}
 use Rattle.yq_inline.specs.Inline.{depth_limit}
 use Rattle.yq_inline.specs.Places.{Placed}
 use Rattle.yq_scalar.specs.Keys.{are_distinct, keys_of}
-use Rattle.yq_scalar.specs.Paths.{Step, To, Nth, key_is}
+use Rattle.yq_scalar.specs.Paths.{Step, Nth, key_is}
 use Rattle.yq_scalar.specs.Text.{is_empty}
 use Rattle.yq_lines.specs.Ends.{deeper_count, is_end, part}
 use Rattle.yq_lines.specs.Group.{group}
