@@ -1,8 +1,8 @@
 //! Where the parts of a text end in it.
-ghost use Rattle.std.specs.Prelude.{◌≡◌, ◌<◌, ◌+◌, ◌-◌, ◌^◌, ◌++◌, length};
+ghost use Rattle.std.specs.Prelude.{◌≡◌, ◌∷◌, ◌<◌, ◌+◌, ◌-◌, ◌^◌, ◌++◌, [], length};
 ghost use Rattle.yq_rows.specs.Ends as spec;
 ghost use Rattle.yq_rows.specs.Kept.{moved};
-ghost use Rattle.yq_rows.specs.Offsets.{Ends};
+ghost use Rattle.yq_rows.specs.Offsets.{AreCuts, Ends};
 ghost use Rattle.yq_rows.specs.View.{bound_view};
 
 /// The end of a part: the rows between two markers or the ends of the text.
@@ -37,10 +37,17 @@ impl EndPlace {
     }
 
     /// How many bytes stand before what is behind its gap.
-    pub(crate) fn stop(self) -> usize
+    pub fn stop(self) -> usize
         ensures { result ≡ self.start + self.gap }
     {
         self.start as usize + self.gap as usize
+    }
+
+    /// How long the line of the marker behind its gap is, in bytes; behind the last part there is none.
+    pub fn marker(self) -> usize
+        ensures { result ≡ self.marker }
+    {
+        self.marker as usize
     }
 
     /// The same end where so many rows and so many bytes stand before it.
@@ -55,13 +62,21 @@ impl EndPlace {
         }
     }
 
-    /// The end that stands there in its text.
-    #[tactic(auto, unfolding(crate::specs::Ends::EndStands))]
-    pub(crate) fn bound(self, whole: &str) -> Bound<'_>
-        requires { spec.EndStands whole.now self }
-        ensures { bound_view result ≡ spec.bound_in whole.now self }
+    /// The same end before a marker that is as long as that of another one.
+    pub fn marked_as(self, other: EndPlace) -> EndPlace
+        ensures { result ≡ record self { marker = other.marker } }
     {
-        let text = whole.split_at(self.start as usize).1;
+        EndPlace {
+            marker: other.marker,
+            ..self
+        }
+    }
+
+    /// The end in front of a text.
+    pub(crate) fn bound<'t>(&self, text: &'t str) -> Bound<'t>
+        requires { AreCuts text.now (self.now.gap ∷ self.now.marker ∷ []) }
+        ensures { bound_view result ≡ spec.bound_at text.now self.now }
+    {
         let (end, text) = text.split_at(self.gap as usize);
         Bound {
             rows: self.rows,
