@@ -99,3 +99,6 @@ pub mod EntryKeys
 pub mod KnownLaws
 pub mod KnownWalks
 pub mod KnownFronts
+mod HalvesLaws
+mod TailLaws
+mod FirstBreakLaws
