@@ -71,12 +71,7 @@ fn with_item(rows: &Rows<'_>, known: KnownItems, more: Option<KnownItem>) -> Kno
 
 /// The item or entry of a line under another one, or of the root, as one that is known, unless it
 /// begins in the row of the first one.
-fn known_by(
-    rows: &Rows<'_>,
-    document: Stretch,
-    from: Option<Spot>,
-    at: Spot,
-) -> Option<KnownItem>
+fn known_by(rows: &Rows<'_>, document: Stretch, from: Option<Spot>, at: Spot) -> Option<KnownItem>
     requires shown { IsShown rows.now }
     requires document { HasDocument rows.now document }
     requires from { IfSome from (IsLine rows.now document) }

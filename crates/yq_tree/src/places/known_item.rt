@@ -87,8 +87,7 @@ pub(crate) fn item_before(rows: &Rows<'_>, known: KnownItem) -> Option<KnownItem
     item_back(rows, known, known.index - 1)
 }
 
-/// The item that is known, or one before it, if a walk to an item goes on from there: where the way
-/// back is no longer than that from the first one.
+/// The item that is known, or one before it, if the way to an item from there is no longer.
 fn known_for(
     rows: &Rows<'_>,
     document: Stretch,
