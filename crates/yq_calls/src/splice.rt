@@ -4,4 +4,5 @@ mod edits;
 mod operations;
 mod planned;
 mod sessions;
+mod texts;
 mod worked;

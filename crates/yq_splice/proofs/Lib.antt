@@ -6,6 +6,7 @@ pub mod ServeLaws
 pub mod MeaningLaws
 pub mod UpdateLaws
 pub mod SessionLaws
+pub mod FollowLaws
 pub mod OperationsLaws
 pub mod AnswerLaws
 pub mod PrintLaws

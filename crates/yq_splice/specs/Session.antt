@@ -3,7 +3,6 @@ use Rattle.std.specs.Prelude.{◌≡◌, ◌≢◌, ◌⊎◌, ⊤, ℕ, ◌+◌
 use Rattle.yq_scalar.specs.declared.fault.FaultKind.TheVariants.{NotUtf8}
 use Rattle.yq_scalar.specs.declared.fault.ReadError.{ReadError}
 use Rattle.yq_scalar.specs.declared.fault.ReadError.TheVariants as reading
-use Rattle.yq_rows.specs.Items.{items_text}
 use Rattle.yq_rows.specs.Kept.{IsPlaced}
 use Rattle.yq_rows.specs.Meter.{counted, line_count}
 use Rattle.yq_rows.specs.Rows.{Cut}
@@ -16,6 +15,8 @@ use Rattle.yq_tree.specs.declared.places.spot.KnownItem.{KnownItem}
 use Rattle.yq_meaning.specs.Operations.{Operation}
 use Rattle.yq_script.specs.Script.{Segment, kept_front, kept_back}
 use Rattle.yq_script.specs.Splice.{Splice}
+use Rattle.yq_session.specs.Following.{read_text}
+use Rattle.yq_session.specs.declared.kept.Kept.{Kept}
 use Rattle.yq_carrying.specs.Carrying.{carrying}
 use Rattle.yq_splice.specs.Theorems.{HasReading}
 
@@ -39,7 +40,8 @@ abbrev pub NotOpened : ReadError → List ℕ → Type 0
 NotOpened (reading.Fault fault) t = (¬ HasReading t) × (fault.kind ≢ NotUtf8)
 NotOpened reading.Memory t = ⊤
 
--- The lines of the rows and ends of parts that an operation wrote, in the place of those that its segments touch, were counted, and no others (own).
+-- The lines were counted that are read where an operation exchanges rows and ends of parts: of those that it wrote, in the place of those that its
+-- segments touch, without the line of a marker that stays; and no others (own).
 pub record IsScanned (op : Operation) (t new : List ℕ) (before after : ℕ) : Type 0 where
   pub cut : Cut
   pub new_cut : Cut
@@ -47,9 +49,12 @@ pub record IsScanned (op : Operation) (t new : List ℕ) (before after : ℕ) : 
   pub read : read_at t ≡ Some cut
   pub new_read : read_at new ≡ Some new_cut
   pub way : carrying op cut ≡ Some segments
-  pub touches : TouchesOnly (length (kept_front segments)) (length (kept_back segments)) cut new_cut
-  pub exact : after ≡ counted (line_count (items_text touches.written [])) before
-  pub most : after ≤ before + line_count (items_text touches.written [])
+  pub kept : Kept
+  pub front : kept.front ≡ length (kept_front segments)
+  pub back : kept.back ≡ length (kept_back segments)
+  pub touches : TouchesOnly kept.front kept.back cut new_cut
+  pub exact : after ≡ counted (line_count (read_text kept cut new_cut touches)) before
+  pub most : after ≤ before + line_count (read_text kept cut new_cut touches)
 
 -- what an operation adds to the count of lines: where it gives splices, those that it wrote; none, where all bytes stay (own)
 abbrev pub Scans : Operation → (t new : List ℕ) → List Splice → (before after : ℕ) → Type 0

@@ -1,5 +1,5 @@
--- What private functions hand on: operands are valid, operations may follow one another, what stays of a text, and how an update ended.
-use Rattle.std.specs.Prelude.{◌≡◌, ℕ, List, [], ◌∷◌, length, ⊤}
+-- What private functions hand on: operands are valid, operations may follow one another, the segments of one, and how an update ended.
+use Rattle.std.specs.Prelude.{◌≡◌, ℕ, List, [], ◌∷◌, ⊤}
 use Rattle.yq_rows.specs.Rows.{Cut}
 use Rattle.yq_documents.specs.Documents.{Document, Reads}
 use Rattle.yq_meaning.specs.Operations.{Operation}
@@ -7,8 +7,7 @@ use Rattle.yq_meaning.specs.Rooms.{room_of}
 use Rattle.yq_meaning.specs.RoomsKept.{MayFollow}
 use Rattle.yq_program.specs.Program.{Update, updates}
 use Rattle.yq_script.specs.Splice.{Splice}
-use Rattle.yq_script.specs.Script.{Segment, kept_front, kept_back}
-use Rattle.yq_session.specs.declared.kept.Kept.{Kept}
+use Rattle.yq_script.specs.Script.{Segment}
 use Rattle.yq_carrying.specs.Carrying.{carrying, or_stay}
 use Rattle.yq_ways.specs.Operands.{HasOperand}
 use Rattle.yq_splice.specs.Answers.{Fails}
@@ -37,11 +36,6 @@ AreServed ops t = (docs : List Document) × Serves docs ops t
 -- the segments of a cut's text by which an operation is carried out; the text stays where there are none (own)
 abbrev pub segments_by : Operation → Cut → List Segment
 segments_by op c = or_stay c (carrying op c)
-
--- So many bytes are kept in front of what an operation exchanges in a cut's text, and behind it (own).
-pub record KeepsEnds (kept : Kept) (op : Operation) (c : Cut) : Type 0 where
-  pub front : kept.front ≡ length (kept_front (segments_by op c))
-  pub back : kept.back ≡ length (kept_back (segments_by op c))
 
 -- An update is carried out, as it comes to and as it means (own).
 pub record IsStep (u : Update) (t new : List ℕ) (cs : List Splice) : Type 0 where

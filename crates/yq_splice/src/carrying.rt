@@ -1,44 +1,63 @@
 //! Carrying out: operations done on a text, one after the other.
-ghost use Rattle.std.specs.Prelude.{◌≡◌, IfErr, IfOk, string_bytes};
+ghost use Rattle.std.specs.Prelude.{◌≡◌, IfErr, IfOk, IfSome, string_bytes};
 ghost use Rattle.yq_meaning.specs.Operations.{operation_of, operations_of};
 ghost use Rattle.yq_documents.specs.Reading.{cut_of};
+ghost use Rattle.yq_script.specs.Changing.{IsChange};
+ghost use Rattle.yq_tree.specs.RowWalk.{StaysKnown};
 ghost use Rattle.yq_splice.specs.Answers.{Edits, Fails};
 ghost use Rattle.yq_splice.specs.Carried as spec;
-ghost use Rattle.yq_splice.specs.Edit.{behind, gives};
+ghost use Rattle.yq_splice.specs.Edit.{behind};
 ghost use Rattle.yq_splice.specs.Session.{HasPlaces};
 ghost use Rattle.yq_splice.specs.Theorems.{IsApplied, IsFitting, IsRefused};
-ghost use Rattle.yq_splice.specs.Valid.{AreServed, KeepsEnds};
+ghost use Rattle.yq_splice.specs.Valid.{AreServed, segments_by};
 
 use crate::edit_error::EditError;
 use crate::operands::operand_holds;
 use crate::session::Session;
 use std::alloc::Global;
 use yq_carrying::op_segments;
+use yq_documents::Path;
 use yq_expr::Op;
 use yq_rows::Places;
-use yq_script::{Edited, Splice, exchange};
-use yq_session::Kept;
-use yq_tree::{CutText, read};
+use yq_script::{Changed, Edited, Splice, changes, exchange};
+use yq_tree::{CutText, KnownItem, read};
 
-/// An operation carried out on a text with its cut, and how much of the text stays in front and behind.
-pub(crate) fn carry_one(
+/// The path at which an operation acts.
+fn path_of(op: &Op) -> &Path {
+    match op {
+        Op::Replace(path, _) => path,
+        Op::Append(path, _, _) => path,
+        Op::Remove(path) => path,
+        Op::LineComment(path, _) => path,
+        Op::HeadComment(path, _) => path,
+    }
+}
+
+/// What an operation changes in a text with its cut, and an item on its way from which a walk may go on
+/// behind it.
+pub(crate) fn change_one(
     alloc: Global,
     cut: &CutText<'_, '_>,
     op: &Op,
-) -> Result<(Edited, Kept), EditError>
-    ensures ok { IfOk result (λ x. spec.carry_one (operation_of op.now) (cut_of cut.now) ≡
-        gives (string_bytes x.0.text) x.0.splices.items) }
+) -> Result<(Changed, Option<KnownItem>), EditError>
+    ensures ok { IfOk result (λ x. IsChange (segments_by (operation_of op.now) (cut_of cut.now)) x.0) }
+    ensures known { IfOk result (λ x. IfSome x.1 (StaysKnown x.0.front (cut_of cut.now))) }
     ensures err { IfErr result (λ e. Fails e (spec.carry_one (operation_of op.now) (cut_of cut.now))) }
-    ensures kept { IfOk result (λ x. KeepsEnds x.1 (operation_of op.now) (cut_of cut.now)) }
 {
+    let cut = cut.along(path_of(op));
+    let segments = op_segments(alloc, &cut, op)?;
     let _text = cut.text();
-    let segments = op_segments(alloc, cut, op)?;
-    let edited = exchange(alloc, &segments)?;
-    let kept = Kept {
-        front: segments.kept_front(),
-        back: segments.kept_back(),
-    };
-    Ok((edited, kept))
+    let changed = changes(alloc, &segments)?;
+    let known = cut.known_in_front(changed.front);
+    Ok((changed, known))
+}
+
+/// An operation carried out on a text with its cut.
+pub(crate) fn carry_one(alloc: Global, cut: &CutText<'_, '_>, op: &Op) -> Result<Edited, EditError>
+    ensures { Edits result (spec.carry_one (operation_of op.now) (cut_of cut.now)) }
+{
+    let segments = op_segments(alloc, &cut.along(path_of(op)), op)?;
+    Ok(exchange(alloc, &segments)?)
 }
 
 /// An operation carried out on a text.
@@ -46,8 +65,7 @@ fn carry(alloc: Global, text: &str, op: &Op) -> Result<Edited, EditError>
     ensures { Edits result (spec.carried (operation_of op.now) text.now) }
 {
     let documents = read(alloc, text.as_bytes())?;
-    let (edited, _) = carry_one(alloc, &documents.cut(), op)?;
-    Ok(edited)
+    carry_one(alloc, &documents.cut(), op)
 }
 
 /// Carries out an operation on a text that has a reading and whose documents

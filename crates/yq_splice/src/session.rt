@@ -4,67 +4,52 @@ ghost use Rattle.yq_documents.specs.Reading.{cut_of, read_at};
 ghost use Rattle.yq_meaning.specs.Operations.{operation_of};
 ghost use Rattle.yq_rows.specs.Meter.{counted, line_count};
 ghost use Rattle.yq_scalar.specs.Answers.{Gives};
+ghost use Rattle.yq_script.specs.Changing.{IsChange};
+ghost use Rattle.yq_text.specs.Halves.{whole};
 ghost use Rattle.yq_tree.specs.RowWalk.{StaysKnown};
 ghost use Rattle.yq_splice.specs.Answers.{Edits, Fails};
 ghost use Rattle.yq_splice.specs.Carried.{carried};
 ghost use Rattle.yq_splice.specs.Edit.{behind, gives};
 ghost use Rattle.yq_splice.specs.Session.{HasPlaces, NotOpened, Scans};
 ghost use Rattle.yq_splice.specs.Theorems.{HasReading, IsApplied, IsFitting, IsRefused};
-ghost use Rattle.yq_splice.specs.Valid.{KeepsEnds};
+ghost use Rattle.yq_splice.specs.Valid.{segments_by};
 
-use crate::carrying::carry_one;
+use crate::carrying::{carry_one, change_one};
 use crate::edit_error::EditError;
 use crate::operands::operand_holds;
 use std::alloc::Global;
 use std::marker::Model;
 use std::mem;
-use yq_documents::Path;
 use yq_expr::Op;
-use yq_inline::Step;
 use yq_rows::{Meter, Places, count_lines};
 use yq_scalar::ReadError;
-use yq_script::{Edited, Splice};
+use yq_script::{Changed, Edited, Splice};
 use yq_session::{Kept, follow};
+use yq_text::{Halves, SplitText};
 use yq_tree::{CutText, KnownItem, read};
 
-/// The path at which an operation acts.
-fn path_of(op: &Op) -> &Path {
-    match op {
-        Op::Replace(path, _) => path,
-        Op::Append(path, _, _) => path,
-        Op::Remove(path) => path,
-        Op::LineComment(path, _) => path,
-        Op::HeadComment(path, _) => path,
-    }
-}
-
-/// Whether one of the steps of a path is an index.
-fn goes_by_index(path: &Path) -> bool {
-    path.steps.iter().any(|step| matches!(step, Step::Index(_)))
-}
-
-/// A text that reads, kept with where its rows stand, so that operations are applied to it one after the
-/// other and of the rows only those that one touches are read again. The way to the next one's place goes on
+/// A text that reads, kept with where its rows stand, both on two sides of where it was changed last: so that
+/// operations are applied to it one after the other, each passes what stands between its place and the last
+/// one's, and of the rows only those that it touches are read again. The way to the next one's place goes on
 /// from an item on the way of the last one.
 #[derive(Debug, Drop)]
 pub struct Session {
     alloc: Global,
-    text: String,
+    text: SplitText,
     places: Places,
     known: Option<KnownItem>,
     meter: Meter,
 }
 
 impl Model for Session {
-    ghost use Rattle.std.specs.String.{string_bytes};
+    ghost use Rattle.yq_text.specs.Split.{joined};
     ghost use Rattle.yq_splice.specs.Session.{SessionState, HasPlaces, KnowsItem};
 
     ghost Value = { SessionState };
 
-    ghost view = { λ s. record { text = string_bytes s.text; scanned = s.meter } };
+    ghost view = { λ s. record { text = joined s.text; scanned = s.meter } };
 
-    ghost invariant = { λ s. HasPlaces (string_bytes s.text) s.places ×
-        KnowsItem (string_bytes s.text) s.known };
+    ghost invariant = { λ s. HasPlaces (joined s.text) s.places × KnowsItem (joined s.text) s.known };
 }
 
 impl Session {
@@ -82,7 +67,7 @@ impl Session {
         let places = documents.into_rows().into_places();
         let mut meter = Meter::new();
         count_lines(text, &mut meter);
-        let text = String::from_str(alloc, text)?;
+        let text = SplitText::of(String::from_str(alloc, text)?);
         Ok(Session {
             alloc,
             text,
@@ -99,44 +84,28 @@ impl Session {
     {
         Session {
             alloc,
-            text,
+            text: SplitText::of(text),
             places,
             known: None,
             meter: Meter::new(),
         }
     }
 
-    /// What an operation makes of the text, and how much of it stays in front and behind.
-    fn carry(&mut self, op: &Op) -> Result<(Edited, Kept), EditError>
+    /// What an operation changes in the text, and an item on its way from which the next one may go on.
+    fn change(&mut self, op: &Op) -> Result<(Changed, Option<KnownItem>), EditError>
         ensures same { self.new ≡ self.old }
-        ensures ok { IfOk result (λ x. carried (operation_of op.now) self.old.text ≡
-            gives (string_bytes x.0.text) x.0.splices.items) }
+        ensures ok { IfOk result (λ x. IsChange (segments_by (operation_of op.now) (cut_of self.old.text)) x.0) }
+        ensures known { IfOk result (λ x. IfSome x.1 (StaysKnown x.0.front (cut_of self.old.text))) }
         ensures err { IfErr result (λ e. Fails e (carried (operation_of op.now) self.old.text)) }
-        ensures kept { IfOk result (λ x. KeepsEnds x.1 (operation_of op.now) (cut_of self.old.text)) }
     {
         let places = mem::replace(&mut self.places, Places::new(self.alloc));
-        let rows = places.rows(&self.text);
-        let cut = CutText::resumed(&self.text, &rows, self.known);
-        let made = carry_one(self.alloc, &cut, op);
+        self.text.move_split(places.split);
+        let text = self.text.halves();
+        let rows = places.rows(text);
+        let cut = CutText::resumed(text, &rows, self.known);
+        let changed = change_one(self.alloc, &cut, op);
         self.places = rows.into_places();
-        made
-    }
-
-    /// An item on the way of an operation from which the next one may go on, where so many bytes stay in
-    /// front. A path that goes by keys alone has none.
-    fn known_behind(&mut self, op: &Op, front: usize) -> Option<KnownItem>
-        ensures same { self.new ≡ self.old }
-        ensures known { IfSome result (StaysKnown front (cut_of self.old.text)) }
-    {
-        if !goes_by_index(path_of(op)) {
-            return None;
-        }
-        let places = mem::replace(&mut self.places, Places::new(self.alloc));
-        let rows = places.rows(&self.text);
-        let cut = CutText::resumed(&self.text, &rows, self.known);
-        let known = cut.known_at(path_of(op), front);
-        self.places = rows.into_places();
-        known
+        changed
     }
 
     /// Applies an operation that fits the documents of the text. Each byte that it doesn't name stays as
@@ -154,35 +123,47 @@ impl Session {
         ensures done { IfOk result (λ cs.
             IsApplied (operation_of op.now) self.old.text self.new.text cs.items) }
         ensures refused { IfErr result (λ e. IsRefused e (operation_of op.now) self.old.text) }
-        // At most the lines of the rows and ends of parts that it touches are counted; none, where no
-        // splice comes.
+        // At most the lines of the rows and end gaps that it touches are counted; none, where no splice
+        // comes.
         ensures scanned { IfOk result (λ cs. Scans (operation_of op.now) self.old.text self.new.text cs.items
             self.old.scanned self.new.scanned) }
         // What is refused leaves the session as it is.
         ensures kept { OnErr result (self.new ≡ self.old) }
     {
         operand_holds(op);
-        let (edited, kept) = self.carry(op)?;
-        let Edited { text, splices } = edited;
+        let (changed, known) = self.change(op)?;
+        let Changed {
+            front,
+            back,
+            new,
+            splices,
+        } = changed;
         if splices.is_empty() {
+            self.known = known;
             return Ok(splices);
         }
-        let known = self.known_behind(op, kept.front);
-        let len = self.text.len();
+        let kept = Kept { front, back };
         let mut meter = self.meter;
-        follow(self.alloc, &mut self.places, len, &text, kept, &mut meter)?;
-        self.text = text;
+        follow(
+            self.alloc,
+            &mut self.text,
+            &mut self.places,
+            kept,
+            &new,
+            &mut meter,
+        )?;
         self.known = known;
         self.meter = meter;
         Ok(splices)
     }
 
-    /// The text as it stands.
-    pub fn text(&self) -> &str
-        ensures text { result.now ≡ self.now.text }
+    /// The text as it stands, in the two halves in which it is kept: to lend it as one `&str` would move one
+    /// of them, which an operation behind that would have to move back.
+    pub fn text(&self) -> Halves<'_>
+        ensures text { whole result ≡ self.now.text }
         ensures read { HasReading self.now.text }
     {
-        self.text.as_str()
+        self.text.halves()
     }
 
     /// How many lines were counted, up to the last value of a `u64`.
@@ -196,14 +177,24 @@ impl Session {
     pub fn close(self) -> String
         ensures { string_bytes result ≡ self.text }
     {
-        self.text
+        self.text.into_string()
     }
 
     /// Ends the session by an operation, whose splices come behind others. The rows need not follow it.
-    pub(crate) fn close_by(mut self, op: &Op, splices: Vec<Splice>) -> Result<Edited, EditError>
+    pub(crate) fn close_by(self, op: &Op, splices: Vec<Splice>) -> Result<Edited, EditError>
         ensures { Edits result (behind splices.items (carried (operation_of op.now) self.text)) }
     {
-        let (edited, _) = self.carry(op)?;
+        let Session {
+            alloc,
+            mut text,
+            places,
+            known,
+            ..
+        } = self;
+        text.move_split(places.split);
+        let halves = text.halves();
+        let rows = places.rows(halves);
+        let edited = carry_one(alloc, &CutText::resumed(halves, &rows, known), op)?;
         let Edited {
             text,
             splices: mut last,

@@ -3,6 +3,7 @@ ghost use Rattle.std.specs.Prelude.{IfOk};
 ghost use Rattle.yq_meaning.specs.Operations.{operation_of};
 ghost use Rattle.yq_splice.specs.Theorems.{IsApplied, IsFitting};
 
+use super::texts::{has_text, text_of};
 use std::alloc::Global;
 use std::process::Abort;
 use std::test::Fail;
@@ -57,7 +58,7 @@ pub(super) fn in_session(
     ensures { IfOk result (λ cs. IsApplied (operation_of op.now) session.old.text session.new.text
         cs.items) }
 {
-    let text = String::from_str(alloc, session.text())?;
+    let text = text_of(alloc, session)?;
     let scanned = session.scanned();
     let mut held = all_memory(alloc)?;
     'turns: for turn in 0..4096u32 {
@@ -68,7 +69,7 @@ pub(super) fn in_session(
             }
             Err(error) => {
                 assert_eq!(rt; error, EditError::Memory);
-                assert_eq!(rt; session.text(), text.as_str());
+                assert!(rt; has_text(session, &text));
                 assert_eq!(rt; session.scanned(), scanned);
                 let _ = held.pop();
             }

@@ -6,6 +6,7 @@ ghost use Rattle.yq_calls.specs.Fitting.{AreFitting};
 
 use super::operations::{by_itself, in_session, opened};
 use super::planned::planned;
+use super::texts::{has_text, text_of};
 use super::worked::{ROWS, TEXTS, are_spliced};
 use std::alloc::Global;
 use std::process::Abort;
@@ -28,10 +29,10 @@ fn applied(
     if !refused {
         return Ok(session.apply(op)?);
     }
-    let text = String::from_str(alloc, session.text())?;
+    let text = text_of(alloc, session)?;
     let edited = by_itself(rt, alloc, &text, op)?;
     let splices = in_session(rt, alloc, session, op)?;
-    assert_eq!(rt; edited.text.as_str(), session.text());
+    assert!(rt; has_text(session, &edited.text));
     assert_eq!(rt; edited.splices.len(), splices.len());
     Ok(splices)
 }
@@ -67,7 +68,8 @@ fn carry_out(
     let mut splices = Vec::new(alloc);
     'updates: for nth in 0..program.updates() {
         assert!(rt; nth < program.updates());
-        let ops = planned(alloc, session.text(), program, nth)?;
+        let text = text_of(alloc, session)?;
+        let ops = planned(alloc, &text, program, nth)?;
         let mut next = apply_each(rt, alloc, session, &ops, refused)?;
         splices.append(&mut next)?;
     }
@@ -130,6 +132,30 @@ fn many_rows(rt: HostRuntime) -> Result<(), Fail> {
     Ok(())
 }
 
+/// A text, an update of it, and how many lines of rows and end gaps it touches.
+static TOUCHED: [(&str, &str, u64); 6] = [
+    ("a: 1\nb: 2\n---\n", "del(.b)", 1),
+    ("a: 1\n# end\n---\nb: 2\n", ".a = 3", 1),
+    ("a: 1\n# end\n---\nb: 2\n", ".c = 3", 3),
+    ("a: 1\n---\nb: 2\n", ".a line_comment = \"x\"", 1),
+    ("a: 1\n# b\nb: 2\nc: 3\n", "del(.b)", 2),
+    ("a: 1\nb: 2\n", ".a = 1", 0),
+];
+
+/// The lines of these are counted at most: that of a marker that stays isn't.
+#[test]
+fn touched_lines(rt: HostRuntime) -> Result<(), Fail> {
+    let alloc = rt.alloc();
+    'rows: for (text, expr, most) in &TOUCHED {
+        let program = parse_expr(alloc, expr)?;
+        let mut session = Session::open(alloc, text)?;
+        let before = session.scanned();
+        let _splices = carry_out(&rt, alloc, &mut session, &program, false)?;
+        assert!(rt; session.scanned() <= before.saturating_add(*most), "{expr} on {text:?}");
+    }
+    Ok(())
+}
+
 /// An operation makes a larger text than may be: it is refused, and the session stays.
 fn is_too_large(
     rt: &impl Abort,
@@ -139,13 +165,14 @@ fn is_too_large(
     program: &Program,
 ) -> Result<(), Fail> {
     assert!(rt; program.updates() > 0);
-    let ops = planned(alloc, session.text(), program, 0)?;
+    let own = text_of(alloc, session)?;
+    let ops = planned(alloc, &own, program, 0)?;
     let scanned = session.scanned();
     match ops.as_slice() {
         [op] => {
             let answer = session.apply(op).err();
             assert_eq!(rt; answer, Some(EditError::Refused(Refusal::TooLarge)));
-            assert_eq!(rt; session.text(), text);
+            assert!(rt; has_text(session, text));
             assert_eq!(rt; session.scanned(), scanned);
             Ok(())
         }

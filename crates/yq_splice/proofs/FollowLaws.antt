@@ -1,0 +1,260 @@
+-- The text and the rows of a session follow an operation that is carried out by segments.
+use Rattle.std.proofs.Common.{◌≡◌, ◌⊎◌, inl, inr, ℕ, ◌+◌, ◌-◌, ◌≤◌, Bool, true, false, cond, ltb, List, [], ◌∷◌, ◌++◌, length, take, drop, Option, Some, None, IfSome, string_bytes, refl, sym, ap, ◌∙◌, subst, arith, append-nil, eqb, eqb-true, Vec, vec_len}
+use Rattle.std.proofs.lemmas.Bool.{false≢true, le-ltb}
+use Rattle.std.proofs.lemmas.List.{length-append}
+use Rattle.std.proofs.lemmas.Option.{same_Some}
+use Rattle.std.specs.Str.{IsCharBoundary, IsUtf8}
+use Rattle.std.specs.declared.alloc.Global.{Global}
+use Rattle.yq_scalar.specs.Characters.{text_limit}
+use Rattle.yq_rows.specs.Grammar.{IsCut}
+use Rattle.yq_rows.specs.Items.{Item, items_of, items_text}
+use Rattle.yq_rows.specs.Kept.{IsPlaced}
+use Rattle.yq_rows.specs.Meter.{counted, line_count}
+use Rattle.yq_rows.specs.Rows.{Cut, cut_text}
+use Rattle.yq_rows.specs.Touched.{TouchesOnly, in_back, in_front, item_text}
+use Rattle.yq_rows.specs.View.{shown}
+use Rattle.yq_rows.specs.declared.places.Places.{Places}
+use Rattle.yq_rows.proofs.MeterLaws.{counted_within}
+use Rattle.yq_documents.specs.Documents.{Document, Reads}
+use Rattle.yq_documents.specs.Reading.{documents, cut_of, read_at}
+use Rattle.yq_tree.specs.RowWalk.{IsKnown, StaysKnown}
+use Rattle.yq_tree.specs.declared.places.spot.KnownItem.{KnownItem}
+use Rattle.yq_tree.proofs.ExactReading.{parts_read}
+use Rattle.yq_meaning.specs.Fits.{Fits}
+use Rattle.yq_meaning.specs.Operations.{Operation}
+use Rattle.yq_meaning.specs.Rooms.{room_of}
+use Rattle.yq_script.specs.Changing.{IsChange}
+use Rattle.yq_script.specs.Script.{Segment, keep, put, old_text, new_text, AllStay, are_kept, kept_front, kept_back}
+use Rattle.yq_script.specs.Splice.{Splice, all_done}
+use Rattle.yq_script.specs.declared.changed.Changed.{Changed}
+use Rattle.yq_script.proofs.ChangeLaws.{cut_back, cut_front}
+use Rattle.yq_script.proofs.ScriptLaws.{changes_lead, kept_changes}
+use Rattle.yq_session.specs.Following.{ArePlacesOf, CountsWritten, Follows, exchanged, read_text}
+use Rattle.yq_session.specs.declared.kept.Kept.{Kept}
+use Rattle.yq_carrying.specs.Carrying.{carrying, or_stay}
+use Rattle.yq_carrying.proofs.CarryingLocalLaws.{carrying_local}
+use Rattle.yq_ways.specs.Local.{IsLocalTo}
+use Rattle.yq_ways.specs.Operands.{HasOperand}
+use Rattle.yq_ways.proofs.KeptSegments.{IsBetween, between}
+use Rattle.yq_ways.proofs.TouchLaws.{local_touches}
+use Rattle.yq_flow_ways.proofs.CutLaws.{cut_read, cut_same, text_read}
+use Rattle.yq_splice.specs.Carried.{carried}
+use Rattle.yq_splice.specs.Edit.{gives}
+use Rattle.yq_splice.specs.Session.{HasPlaces, KnowsItem, Scans}
+use Rattle.yq_splice.specs.Theorems.{IsFitting, IsApplied}
+use Rattle.yq_splice.specs.Valid.{segments_by}
+use Rattle.yq_splice.proofs.ApplyLaws.{fits, applied_by}
+use Rattle.yq_splice.proofs.SessionLaws.{carried_by, text_utf8}
+
+-- ---- whether there are splices, by their number
+
+pub no_splices : (cs : Vec Splice Global) → eqb (vec_len cs) 0 ≡ true → cs.items ≡ []
+no_splices cs h = go cs.items (sym cs.ok.0 ∙ eqb-true (vec_len cs) 0 h)
+  where
+    go : (xs : List Splice) → length xs ≡ 0 → xs ≡ []
+    go [] e = refl
+    go (x ∷ xs) e = absurd (omega (arith, e))
+
+pub some_splices : (cs : Vec Splice Global) → eqb (vec_len cs) 0 ≡ false → ¬ (cs.items ≡ [])
+some_splices cs h none = absurd (false≢true (sym h ∙ ap (λ (n : ℕ). eqb n 0) (cs.ok.0 ∙ ap length none)))
+
+-- ---- a change that keeps all
+
+-- the items in front of an offset are the first ones
+front_part : (n : ℕ) (xs : List Item) → (ys : List Item) × (xs ≡ in_front n xs ++ ys)
+front_part n [] = ([], refl)
+front_part n (i ∷ xs) = go (front_part (n - length (item_text i)) xs) (ltb (length (item_text i)) n) refl
+  where
+    go : ((ys : List Item) × (xs ≡ in_front (n - length (item_text i)) xs ++ ys)) → (b : Bool) → ltb (length (item_text i)) n ≡ b → (ys : List Item) × (i ∷ xs ≡ in_front n (i ∷ xs) ++ ys)
+    go more true e = (more.0, ap (λ (l : List Item). i ∷ l) more.1 ∙ ap (λ (b : Bool). cond b (i ∷ in_front (n - length (item_text i)) xs) [] ++ more.0) (sym e))
+    go more false e = (i ∷ xs, ap (λ (b : Bool). cond b (i ∷ in_front (n - length (item_text i)) xs) [] ++ (i ∷ xs)) (sym e))
+
+none_behind : (xs : List Item) → in_back 0 xs ≡ []
+none_behind [] = refl
+none_behind (i ∷ xs) = rw (le-ltb (length (items_text (i ∷ xs) [])) 0 (omega arith)) (none_behind xs)
+
+touches_itself : (n : ℕ) (c : Cut) → TouchesOnly n 0 c c
+touches_itself n c =
+    let xs = items_of c in
+    let rest = front_part n xs in
+    let all : xs ≡ in_front n xs ++ (rest.0 ++ in_back 0 xs) =
+    rest.1 ∙ ap (λ (l : List Item). in_front n xs ++ l) (sym (append-nil rest.0) ∙ ap (λ (l : List Item). rest.0 ++ l) (sym (none_behind xs))) in
+    record { touched = rest.0; written = rest.0; old_are = all; new_are = all; front_same = refl; back_same = refl }
+
+-- an item that stays known is so in the text itself
+pub known_here : (n : ℕ) (t : List ℕ) (k : Option KnownItem) → IfSome k (StaysKnown n (cut_of t)) → KnowsItem t k
+known_here n t None stays = tt
+known_here n t (Some k) stays = stays (cut_of t) 0 (touches_itself n (cut_of t))
+
+-- ---- an operation by its segments
+
+all_stay : (ss : List Segment) → are_kept ss ≡ true → AllStay ss
+all_stay [] e = tt
+all_stay (keep t ∷ ss) e = (tt, all_stay ss e)
+all_stay (put o w ∷ ss) e = absurd (cc)
+
+-- segments of which not all bytes stay exchange some
+some_given : (ss : List Segment) → ¬ AllStay ss → are_kept ss ≡ false
+some_given ss change = go (are_kept ss) refl
+  where
+    go : (b : Bool) → are_kept ss ≡ b → are_kept ss ≡ false
+    go true e = absurd (change (all_stay ss e))
+    go false e = e
+
+-- what it changes of a text
+module _ (op : Operation) (t : List ℕ) (operand : HasOperand op) (fitting : IsFitting op t) (p : Places) (h : HasPlaces t p) (x : Changed) (change : IsChange (segments_by op (cut_of t)) x) where
+  abbrev own : List Segment
+  own = segments_by op (cut_of t)
+
+  abbrev made : List ℕ
+  made = new_text own
+
+  a : IsApplied op t made x.splices.items
+  a = applied_by op t operand fitting made x.splices.items (carried_by op t p x h change)
+
+  -- where it makes no splice, the text stays
+  module _ (none : x.splices.items ≡ []) where
+    stays : made ≡ t
+    stays =
+        let lead : Some (old_text a.segments) ≡ Some (new_text a.segments) = sym (ap (λ (xs : List Splice). all_done xs (old_text a.segments)) (a.splices ∙ none)) ∙ changes_lead a.segments in
+        sym a.new_is ∙ (sym (same_Some _ _ lead) ∙ a.old_is)
+
+    pub carried_none : carried op t ≡ gives t x.splices.items
+    carried_none = carried_by op t p x h change ∙ ap (λ (y : List ℕ). gives y x.splices.items) stays
+
+    pub applied_none : IsApplied op t t x.splices.items
+    applied_none = subst (λ (y : List ℕ). IsApplied op t y x.splices.items) stays a
+
+  -- where it makes some
+  module _ (some : ¬ (x.splices.items ≡ [])) where
+    abbrev ss : List Segment
+    ss = a.segments
+
+    abbrev c : Cut
+    c = h.cut
+
+    abbrev new_cut : Cut
+    new_cut = a.reads.parts
+
+    text : cut_text c ≡ t
+    text = text_read t c h.read
+
+    again : read_at (cut_text c) ≡ Some c
+    again = ap read_at text ∙ h.read
+
+    cut_known : (docs : List Document) (d : Reads t docs) → d.parts ≡ c
+    cut_known docs d = same_Some _ _ (sym (parts_read t docs d).0 ∙ h.read)
+
+    way : carrying op c ≡ Some ss
+    way = subst (λ (x : Cut). carrying op x ≡ Some ss) (cut_known a.before a.read) a.way
+
+    by_way : own ≡ ss
+    by_way = ap (segments_by op) (cut_same t c h.read) ∙ ap (or_stay c) way
+
+    fit : Fits (room_of (cut_text c)) op (documents c)
+    fit = subst (λ (x : Cut). Fits (room_of (cut_text x)) op (documents x)) (cut_known fitting.before fitting.read) (fits op t operand fitting)
+
+    size : length (new_text ss) ≤ text_limit
+    size = omega (arith, a.reads.cut.size, ap length a.new_is)
+
+    made_read : read_at made ≡ Some new_cut
+    made_read = (parts_read made _ a.reads).0
+
+    changed : ¬ AllStay ss
+    changed stay = some (sym a.splices ∙ kept_changes ss stay)
+
+    by_local : IsLocalTo ss c ⊎ AllStay ss → IsLocalTo ss c
+    by_local (inl local) = local
+    by_local (inr stay) = absurd (changed stay)
+
+    touches : TouchesOnly (length (kept_front ss)) (length (kept_back ss)) c new_cut
+    touches = local_touches ss c new_cut (by_local (carrying_local op c ss again way operand fit size) new_cut (ap read_at a.new_is ∙ made_read))
+
+    some_given_way : are_kept ss ≡ false
+    some_given_way = some_given ss changed
+
+    room : IsBetween ss
+    room = between ss some_given_way
+
+    abbrev kept : Kept
+    kept = record { front = x.front; back = x.back }
+
+    front : kept.front ≡ length (kept_front ss)
+    front = change.front ∙ ap (λ (y : List Segment). length (kept_front y)) by_way
+
+    back : kept.back ≡ length (kept_back ss)
+    back = change.back ∙ ap (λ (y : List Segment). length (kept_back y)) by_way
+
+    told : TouchesOnly kept.front kept.back c new_cut
+    told = subst (λ (n : ℕ). TouchesOnly n kept.back c new_cut) (sym front) (subst (λ (n : ℕ). TouchesOnly (length (kept_front ss)) n c new_cut) (sym back) touches)
+
+    of_text : old_text own ≡ t
+    of_text = ap old_text by_way ∙ a.old_is
+
+    utf8 : IsUtf8 (old_text own)
+    utf8 = subst IsUtf8 (sym of_text) (text_utf8 t c h.read)
+
+    made_is : made ≡ exchanged kept t (string_bytes x.new)
+    made_is = change.text (ap are_kept by_way ∙ some_given_way) ∙ ap (λ (y : List ℕ). exchanged kept y (string_bytes x.new)) of_text
+
+    -- the text and the rows follow
+    pub follows : Follows t p kept (string_bytes x.new)
+    follows = record {
+      old_cut = c;
+      new_cut = new_cut;
+      old_is = cut_read t c h.read;
+      placed = h.placed;
+      new_is = subst (λ (y : List ℕ). IsCut y new_cut) made_is a.reads.cut;
+      touches = told;
+      within = omega (arith, front, back, ap length a.old_is, ap length room.old_is, length-append (kept_front ss) (room.old ++ kept_back ss), length-append room.old (kept_back ss));
+      front_edge = subst (λ (y : List ℕ). IsCharBoundary y x.front) of_text (subst (IsCharBoundary (old_text own)) (sym change.front) (cut_front own utf8 change.front_text));
+      back_edge = subst (λ (y : List ℕ). IsCharBoundary y (length y - x.back)) of_text (subst (λ (n : ℕ). IsCharBoundary (old_text own) (length (old_text own) - n)) (sym change.back) (cut_back own change.back_text));
+    }
+
+    -- and behind that
+    module _ (new : List ℕ) (becomes : new ≡ exchanged kept t (string_bytes x.new)) where
+      text_after : made ≡ new
+      text_after = made_is ∙ sym becomes
+
+      pub carried_some : carried op t ≡ gives new x.splices.items
+      carried_some = carried_by op t p x h change ∙ ap (λ (y : List ℕ). gives y x.splices.items) text_after
+
+      pub applied_some : IsApplied op t new x.splices.items
+      applied_some = subst (λ (y : List ℕ). IsApplied op t y x.splices.items) text_after a
+
+      is_cut : IsCut new new_cut
+      is_cut = subst (λ (y : List ℕ). IsCut y new_cut) text_after a.reads.cut
+
+      read_after : read_at new ≡ Some new_cut
+      read_after = ap read_at (sym text_after) ∙ made_read
+
+      known_by : (k : Option KnownItem) → IfSome k (StaysKnown kept.front (cut_of t)) → KnowsItem new k
+      known_by None stays = tt
+      known_by (Some k) stays =
+          subst (λ (d : Cut). IsKnown (shown d).rows k) (sym (cut_same new new_cut read_after))
+          (stays new_cut kept.back (subst (λ (d : Cut). TouchesOnly kept.front kept.back d new_cut) (sym (cut_same t c h.read)) told))
+
+      pub kept_after : (q : Places) (k : Option KnownItem) → ArePlacesOf new q → IfSome k (StaysKnown kept.front (cut_of t)) → HasPlaces new q × KnowsItem new k
+      kept_after q k placed stays = (record { cut = new_cut; read = read_after; placed = placed new_cut is_cut }, known_by k stays)
+
+      pub scans : (count before after : ℕ) → count ≡ before → CountsWritten t new kept count after → Scans op t new x.splices.items before after
+      scans count before after is counts =
+          let lines : ℕ = line_count (read_text kept c new_cut told) in
+          let exact : after ≡ counted lines before = counts c new_cut (cut_read t c h.read) is_cut told ∙ ap (counted lines) is in
+          inr (
+            some,
+            record {
+              cut = c;
+              new_cut = new_cut;
+              segments = ss;
+              read = h.read;
+              new_read = read_after;
+              way = way;
+              kept = kept;
+              front = front;
+              back = back;
+              touches = told;
+              exact = exact;
+              most = omega (arith, exact, counted_within lines before);
+            },
+          )
