@@ -18,7 +18,7 @@ use Rattle.yq_rows.proofs.RegionLaws.{region}
 use Rattle.yq_rows.proofs.ScanLaws.{one_cut}
 use Rattle.yq_session.specs.Exchanging.{Change, GivesWay}
 use Rattle.yq_session.specs.Following.{Follows}
-use Rattle.yq_session.specs.Sides.{ArePlaced, IsGapAt, IsSideBefore, IsSideBehind, not_in_back, side_of, text_length}
+use Rattle.yq_session.specs.Sides.{AreAt, IsSplitAt, IsSideBefore, IsSideBehind, not_in_back, side_of, text_length}
 use Rattle.yq_session.specs.declared.kept.Kept.{Kept}
 use Rattle.yq_session.specs.declared.sides.Side.{Side}
 use Rattle.yq_session.proofs.BackLaws.{back_kept}
@@ -29,7 +29,7 @@ use Rattle.yq_session.proofs.ItemPlaces.{cut_long, cut_places, still_placed}
 use Rattle.yq_session.proofs.SideLaws.{front_taken}
 
 -- the rows that stay on either side
-pub back_taken : (p : Places) (xs : List Item) (at back : ℕ) → ArePlaced p xs → IsGapAt at (text_length xs) p → at + back ≤ text_length xs → reverse (take (length (near 0 (in_back back xs))) p.behind.items) ≡ far (in_back back xs)
+pub back_taken : (p : Places) (xs : List Item) (at back : ℕ) → AreAt p xs → IsSplitAt at (text_length xs) p → at + back ≤ text_length xs → reverse (take (length (near 0 (in_back back xs))) p.behind.items) ≡ far (in_back back xs)
 back_taken p xs at back placed gap apart =
     let h = back_found xs 0 back in
     let k = back_kept p xs at back placed gap apart h in
@@ -120,7 +120,7 @@ pub record Found (p : Places) (new : List ℕ) (front old : Side) (back : ℕ) (
   pub text : NewText new change.before change.written change.behind
   pub back_bytes : back ≡ text_length change.behind
 
-found : (q p : Places) (new : List ℕ) (front old : Side) (len back : ℕ) (kept : Kept) (h : Follows q len new kept) → ArePlaced p (items_of h.old_cut) → len ≡ text_length (items_of h.old_cut) → IsGapAt kept.front len p →
+found : (q p : Places) (new : List ℕ) (front old : Side) (len back : ℕ) (kept : Kept) (h : Follows q len new kept) → AreAt p (items_of h.old_cut) → len ≡ text_length (items_of h.old_cut) → IsSplitAt kept.front len p →
     front ≡ side_of (in_front kept.front (items_of h.old_cut)) → old ≡ side_of (not_in_back kept.back (items_of h.old_cut)) → back ≡ len - old.bytes → Found p new front old back kept
 found q p new front old len back kept h placed long gap front_is old_is back_is =
     let xs = items_of h.old_cut in
@@ -131,7 +131,7 @@ found q p new front old len back kept h placed long gap front_is old_is back_is 
     let b = back_found xs 0 kept.back in
     let y : List Item = not_in_back kept.back xs in
     let all : y ++ z ≡ (f ++ t) ++ z = (λ i. b.is_front i ++ b.is_behind i) ∙ (sym b.split ∙ (h.touches.old_are ∙ sym (append_assoc f t z))) in
-    let here : IsGapAt kept.front (text_length xs) p = subst (λ (n : ℕ). IsGapAt kept.front n p) long gap in
+    let here : IsSplitAt kept.front (text_length xs) p = subst (λ (n : ℕ). IsSplitAt kept.front n p) long gap in
     let fits : kept.front + kept.back ≤ text_length xs = omega (arith, h.old_within, long) in
     let own : old ≡ side_of (f ++ t) = old_is ∙ ap side_of (append_cancel_right y (f ++ t) z all) in
     let size : text_length xs ≡ text_length (f ++ t) + text_length z = ap text_length (h.touches.old_are ∙ sym (append_assoc f t z)) ∙ joined_long (f ++ t) z in
@@ -143,7 +143,7 @@ found q p new front old len back kept h placed long gap front_is old_is back_is 
         touched = t;
         written = w;
         behind = z;
-        placed = subst (ArePlaced p) h.touches.old_are placed;
+        placed = subst (AreAt p) h.touches.old_are placed;
         front_is = front_is;
         old_is = own;
         front_rows = ap (λ (n : ℕ). take n p.front.items) (ap (λ (s : Side). s.rows) front_is) ∙ front_taken p xs kept.front placed here (omega (arith, fits));
@@ -167,13 +167,13 @@ found q p new front old len back kept h placed long gap front_is old_is back_is 
     some_left [] is = absurd (whole is)
     some_left (i ∷ l) is = refl
 
-pub found_by : (q p : Places) (new : List ℕ) (front old : Side) (len back : ℕ) (kept : Kept) → Follows q len new kept → placed_rows len p ≡ placed_rows len q → p.ends.items ≡ q.ends.items → IsGapAt kept.front len p →
+pub found_by : (q p : Places) (new : List ℕ) (front old : Side) (len back : ℕ) (kept : Kept) → Follows q len new kept → placed_rows len p ≡ placed_rows len q → p.ends.items ≡ q.ends.items → IsSplitAt kept.front len p →
     IsSideBefore p kept.front front → IsSideBehind p len kept.back old → back ≡ len - old.bytes → Found p new front old back kept
 found_by q p new front old len back kept h rows ends gap before behind back_is =
     let xs = items_of h.old_cut in
     let long : len ≡ text_length xs = h.long ∙ cut_long h.old_cut in
-    let placed : ArePlaced p xs = still_placed q p xs len long rows ends (cut_places q h.old_cut h.placed) in
-    found q p new front old len back kept h placed long gap (before xs placed (subst (λ (n : ℕ). IsGapAt kept.front n p) long gap) (omega (arith, h.old_within, long))) (behind xs kept.front placed gap h.old_within long) back_is
+    let placed : AreAt p xs = still_placed q p xs len long rows ends (cut_places q h.old_cut h.placed) in
+    found q p new front old len back kept h placed long gap (before xs placed (subst (λ (n : ℕ). IsSplitAt kept.front n p) long gap) (omega (arith, h.old_within, long))) (behind xs kept.front placed gap h.old_within long) back_is
 
 -- the part of the new text
 pub part_within : (p : Places) (new : List ℕ) (front old : Side) (back : ℕ) (kept : Kept) (k : Found p new front old back kept) → front.bytes + back ≤ length new
@@ -199,7 +199,7 @@ pub part_small : (p : Places) (new part : List ℕ) (front old : Side) (kept : K
 part_small p new part front old kept k = omega (arith, ap length k.part_is, k.small, joined_long k.before (k.written ++ k.behind), joined_long k.written k.behind)
 
 -- what gives way
-pub gives_way : (p q : Places) (new part : List ℕ) (front old : Side) (kept : Kept) (k : Change p new kept front old part) → ArePlaced q (alone k.written k.behind) → (h : GivesWay p q front old (length part)) × (h.before ++ (h.written ++ h.behind) ≡ k.before ++ (k.written ++ k.behind))
+pub gives_way : (p q : Places) (new part : List ℕ) (front old : Side) (kept : Kept) (k : Change p new kept front old part) → AreAt q (alone k.written k.behind) → (h : GivesWay p q front old (length part)) × (h.before ++ (h.written ++ h.behind) ≡ k.before ++ (k.written ++ k.behind))
 gives_way p q new part front old kept k there = (
   record {
     before = k.before;

@@ -1,6 +1,6 @@
 pub mod SplitLaws
 pub mod BeginLaws
-pub mod GapLaws
+pub mod PassingLaws
 pub mod CountLaws
 pub mod SideLaws
 pub mod BackLaws

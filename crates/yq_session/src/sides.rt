@@ -1,7 +1,10 @@
 //! What stands in front of what a change touches, and in front of what stands behind that.
-ghost use Rattle.std.specs.Prelude.{◌≡◌, ◌<◌, ◌≤◌, ◌^◌, length, reverse};
+ghost use Rattle.std.specs.Prelude.{◌≡◌, ◌<◌, ◌≤◌, ◌^◌, List, ℕ, length, reverse};
+ghost use Rattle.yq_session.specs.Exchanging.{Change};
+ghost use Rattle.yq_session.specs.Following.{Follows};
 ghost use Rattle.yq_session.specs.Sides as spec;
 
+use crate::kept::Kept;
 use yq_rows::{EndPlace, Offsets, Places};
 
 /// How many rows, ends of parts and bytes stand in front of a place in a text.
@@ -10,6 +13,19 @@ pub(crate) struct Side {
     pub rows: usize,
     pub ends: usize,
     pub bytes: usize,
+}
+
+/// The rows and ends of parts that a change touches.
+#[derive(Clone, Copy, Debug)]
+pub(crate) struct Touched {
+    /// What stands in front of them.
+    pub front: Side,
+    /// What stands in front of those behind them.
+    pub old: Side,
+    /// Whether others stand behind them.
+    pub more: bool,
+    /// The last of them, where that is the end of a part and the change keeps the line of its marker.
+    pub marked: Option<EndPlace>,
 }
 
 /// How many ends of parts begin in front of an offset, up to the first one that doesn't.
@@ -43,8 +59,8 @@ fn rows_nearer(behind: &[Offsets], back: usize) -> usize
 }
 
 /// What stands in front of the last row or end of a part that begins in front of an offset, at which
-/// the gap is.
-pub(crate) fn side_before(places: &Places, at: usize) -> Side
+/// the split is.
+fn side_before(places: &Places, at: usize) -> Side
     ensures { spec.IsSideBefore places.now at result }
 {
     let rows = places.front.len();
@@ -74,8 +90,8 @@ pub(crate) fn side_before(places: &Places, at: usize) -> Side
 }
 
 /// What stands in front of the first row or end of a part that is nearer than `back` bytes to the end of
-/// the text, which has `len` bytes; the gap is in front of it.
-pub(crate) fn side_behind(places: &Places, len: usize, back: usize) -> Side
+/// the text, which has `len` bytes; the split is in front of it.
+fn side_behind(places: &Places, len: usize, back: usize) -> Side
     requires small { len < 2 ^ 32 }
     requires within { back ≤ len }
     ensures { spec.IsSideBehind places.now len back result }
@@ -93,5 +109,48 @@ pub(crate) fn side_behind(places: &Places, len: usize, back: usize) -> Side
         rows: places.front.len() + (places.behind.len() - rows),
         ends,
         bytes,
+    }
+}
+
+/// The last end of a part among those that a change touches, where no row stands behind it and the line of
+/// its marker is among so many bytes that are kept at the end of a text of `len` bytes.
+fn marked_end(
+    places: &Places,
+    front: Side,
+    old: Side,
+    len: usize,
+    back: usize,
+) -> Option<EndPlace>
+    ensures { result ≡ spec.marked_end places.now.ends.items front old len back }
+{
+    if old.ends <= front.ends || old.ends > places.ends.len() {
+        return None;
+    }
+    let end = places.ends[old.ends - 1];
+    if end.rows == old.rows && end.marker() > 0 && len - back <= end.stop() {
+        Some(end)
+    } else {
+        None
+    }
+}
+
+/// The rows and ends of parts that a change of a text of `len` bytes touches; the split is where the
+/// first byte is that the change doesn't keep.
+pub(crate) fn find_touched(places: &Places, len: usize, kept: Kept) -> Touched
+    requires small { len < 2 ^ 32 }
+    requires within { kept.back ≤ len }
+    requires split { spec.IsSplitAt kept.front len places.now }
+    ensures { (t new : List ℕ) → len ≡ length t → (h : Follows t places.now kept new) →
+        Change t new kept places.now result }
+{
+    let front = side_before(places, kept.front);
+    let old = side_behind(places, len, kept.back);
+    let rows = places.len() - old.rows;
+    let ends = places.ends.len() - old.ends;
+    Touched {
+        front,
+        old,
+        more: rows + ends > 0,
+        marked: marked_end(places, front, old, len, kept.back),
     }
 }

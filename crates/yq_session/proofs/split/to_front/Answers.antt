@@ -1,9 +1,8 @@
 use Rattle.std.proofs.Common.{◌≡◌, ◌<◌, ◌∙◌, ◌++◌, ◌∷◌, [], List, ap, sym, subst, arith}
-use Rattle.yq_rows.specs.Kept.{both_sides}
 use Rattle.yq_rows.specs.declared.offsets.Offsets as declared
-use Rattle.yq_session.specs.Sides.{LastBefore}
-use Rattle.yq_session.proofs.GapLaws.{last_pushed, passed_front, popped}
-use Rattle.yq_session.proofs.gap.to_front.Goals as goal
+use Rattle.yq_session.specs.Sides.{LastBefore, both_sides}
+use Rattle.yq_session.proofs.PassingLaws.{last_pushed, passed_front, popped}
+use Rattle.yq_session.proofs.split.to_front.Goals as goal
 
 pub rows-preserved : goal.rows-preserved
 rows-preserved c =

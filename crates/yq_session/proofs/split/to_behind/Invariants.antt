@@ -1,7 +1,7 @@
 use Rattle.std.proofs.Common.{◌≡◌, ◌≤◌, length}
 use Rattle.std.specs.List.{All}
-use Rattle.yq_rows.specs.Kept.{both_sides}
-use Rattle.yq_session.proofs.gap.to_behind.Given as goal
+use Rattle.yq_session.specs.Sides.{both_sides}
+use Rattle.yq_session.proofs.split.to_behind.Given as goal
 
 abbrev pub invariant-rows : goal.invariant-rows
 invariant-rows l = record {

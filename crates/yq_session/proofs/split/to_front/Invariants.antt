@@ -1,7 +1,6 @@
 use Rattle.std.proofs.Common.{◌≡◌, length}
-use Rattle.yq_rows.specs.Kept.{both_sides}
-use Rattle.yq_session.specs.Sides.{LastBefore}
-use Rattle.yq_session.proofs.gap.to_front.Given as goal
+use Rattle.yq_session.specs.Sides.{LastBefore, both_sides}
+use Rattle.yq_session.proofs.split.to_front.Given as goal
 
 abbrev pub invariant-rows : goal.invariant-rows
 invariant-rows l = record {

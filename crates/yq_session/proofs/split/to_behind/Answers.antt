@@ -1,9 +1,9 @@
 use Rattle.std.proofs.Common.{◌≡◌, ◌∙◌, ◌++◌, ◌∷◌, [], List, ap, sym, arith}
-use Rattle.yq_rows.specs.Kept.{both_sides}
+use Rattle.yq_session.specs.Sides.{both_sides}
 use Rattle.yq_rows.specs.declared.offsets.Offsets as declared
-use Rattle.yq_session.proofs.GapLaws.{all_popped, passed_behind, popped}
+use Rattle.yq_session.proofs.PassingLaws.{all_popped, passed_behind, popped}
 use Rattle.yq_session.proofs.SplitLaws.{Within}
-use Rattle.yq_session.proofs.gap.to_behind.Goals as goal
+use Rattle.yq_session.proofs.split.to_behind.Goals as goal
 
 pub rows-preserved : goal.rows-preserved
 rows-preserved c =
