@@ -15,6 +15,7 @@ use Rattle.yq_rows.proofs.KeptLaws.{far_near, items_apart, near_joined}
 use Rattle.yq_session.specs.Sides.{AreAt, IsSplitAt, ends_before, nearer, not_in_back, side_of, text_length}
 use Rattle.yq_session.proofs.BeginLaws.{BackFound, back_found, begin_from, begin_where, ends_begin, first_long, joined_long, rows_begin}
 use Rattle.yq_session.proofs.CountLaws.{ends_joined}
+use Rattle.yq_session.proofs.ItemPlaces.{far_within}
 use Rattle.yq_session.proofs.SideLaws.{sides_same}
 use Rattle.yq_session.proofs.SplitLaws.{Within, ends_counted, nearer_split, prefix, turned_twice}
 
@@ -50,11 +51,6 @@ all_second P (x ∷ xs) ys h = all_second P xs ys (All-tail P x (xs ++ ys) h)
 all_unmapped : (n : ℕ) (P Q : declared.Offsets → Type 0) → ((o : declared.Offsets) → P (turned n o) → Q o) → (os : List declared.Offsets) → All P (map (turned n) os) → All Q os
 all_unmapped n P Q f [] h = All-nil Q
 all_unmapped n P Q f (o ∷ os) h = All-cons Q o os (f o (All-head P (turned n o) (map (turned n) os) h)) (all_unmapped n P Q f os (All-tail P (turned n o) (map (turned n) os) h))
-
-pub far_within : (n : ℕ) (xs : List Item) → text_length xs ≤ n → All (Within n) (far xs)
-far_within n [] h = All-nil (Within n)
-far_within n (row_item r ∷ xs) h = All-cons (Within n) (offsets_of (text_length (row_item r ∷ xs)) (slices r)) (far xs) h (far_within n xs (omega (arith, h, first_long (row_item r) xs)))
-far_within n (end_item gap marker ∷ xs) h = far_within n xs (omega (arith, h, first_long (end_item gap marker) xs))
 
 -- Items near the end of their text, by the rows behind the gap, which stand there as they do at the end of any text, and by the ends of parts.
 pub record BackKept (p : Places) (front behind : List Item) (len back : ℕ) : Type 0 where

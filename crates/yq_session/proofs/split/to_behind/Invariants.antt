@@ -7,6 +7,7 @@ abbrev pub invariant-rows : goal.invariant-rows
 invariant-rows l = record {
   same : both_sides l.len l.front.items l.behind.items ≡ both_sides l.fn.len l.fn.front.items l.fn.behind.items;
   within : All (λ o. o.start ≤ l.len) l.front.items;
+  later : All (λ o. o.start ≤ l.len) l.behind.items;
 }
 
 abbrev pub decreases-rows : goal.decreases-rows

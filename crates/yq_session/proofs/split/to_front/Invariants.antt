@@ -1,4 +1,5 @@
-use Rattle.std.proofs.Common.{◌≡◌, length}
+use Rattle.std.proofs.Common.{◌≡◌, ◌≤◌, length}
+use Rattle.std.specs.List.{All}
 use Rattle.yq_session.specs.Sides.{LastBefore, both_sides}
 use Rattle.yq_session.proofs.split.to_front.Given as goal
 
@@ -6,6 +7,7 @@ abbrev pub invariant-rows : goal.invariant-rows
 invariant-rows l = record {
   same : both_sides l.len l.front.items l.behind.items ≡ both_sides l.fn.len l.fn.front.items l.fn.behind.items;
   last : LastBefore l.at l.front.items;
+  later : All (λ o. o.start ≤ l.len) l.behind.items;
 }
 
 abbrev pub decreases-rows : goal.decreases-rows
