@@ -6,4 +6,5 @@ pub mod SideLaws
 pub mod BackLaws
 pub mod ExchangeLaws
 pub mod ItemPlaces
+pub mod ReadLaws
 pub mod FollowLaws

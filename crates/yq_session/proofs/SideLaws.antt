@@ -53,10 +53,10 @@ rows_row front r = near_joined 0 front (row_item r ∷ []) ∙ ap (λ (n : ℕ).
 ends_row : (front : List Item) (r : Row) → ends_near 0 0 (front ++ (row_item r ∷ [])) ≡ ends_near 0 0 front
 ends_row front r = ends_joined 0 0 front (row_item r ∷ []) ∙ append-nil (ends_near 0 0 front)
 
-rows_end : (front : List Item) (gap marker : List ℕ) → near 0 (front ++ (end_item gap marker ∷ [])) ≡ near 0 front
+pub rows_end : (front : List Item) (gap marker : List ℕ) → near 0 (front ++ (end_item gap marker ∷ [])) ≡ near 0 front
 rows_end front gap marker = near_joined 0 front (end_item gap marker ∷ []) ∙ append-nil (near 0 front)
 
-ends_end : (front : List Item) (gap marker : List ℕ) → ends_near 0 0 (front ++ (end_item gap marker ∷ [])) ≡ ends_near 0 0 front ++ end_at (text_length front) (length (near 0 front)) gap marker ∷ []
+pub ends_end : (front : List Item) (gap marker : List ℕ) → ends_near 0 0 (front ++ (end_item gap marker ∷ [])) ≡ ends_near 0 0 front ++ end_at (text_length front) (length (near 0 front)) gap marker ∷ []
 ends_end front gap marker =
     ends_joined 0 0 front (end_item gap marker ∷ [])
     ∙ (ap (λ (n : ℕ). ends_near 0 0 front ++ end_at n (0 + length (near 0 front)) gap marker ∷ []) (let n : 0 + text_length front ≡ text_length front = omega arith in n)

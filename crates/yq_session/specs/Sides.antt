@@ -1,5 +1,5 @@
 -- What stands in front of items that a change touches, and in front of those behind them, by places (own; a reader of the contracts may skip it).
-use Rattle.std.specs.Prelude.{◌≡◌, ◌==◌, ◌&&◌, ℕ, suc, ◌+◌, ◌-◌, ◌<◌, ◌≤◌, ◌^◌, nat_le, nat_lt, List, [], ◌∷◌, ◌++◌, length, map, reverse, take, Option, Some, None, slice_get, if◌then◌else◌}
+use Rattle.std.specs.Prelude.{◌≡◌, ◌==◌, ◌&&◌, Bool, ℕ, suc, ◌+◌, ◌-◌, ◌<◌, ◌≤◌, ◌^◌, nat_le, nat_lt, List, [], ◌∷◌, ◌++◌, length, map, reverse, take, Option, Some, None, slice_get, if◌then◌else◌}
 use Rattle.yq_scalar.specs.Answers.{◌>>=◌}
 use Rattle.yq_rows.specs.Items.{Item, items_text}
 use Rattle.yq_rows.specs.Kept.{near, ends_near, placed_rows, turned, TextsIn}
@@ -56,12 +56,15 @@ abbrev pub not_in_back : ℕ → List Item → List Item
 not_in_back n [] = []
 not_in_back n (i ∷ is) = if nat_lt (text_length (i ∷ is)) n then [] else i ∷ not_in_back n is
 
--- the last end of a part in front of a side and behind another one, where no row stands behind it and the line of its marker is among so many bytes at the
--- end of a text (own)
-abbrev pub marked_end : List EndPlace → (front old : Side) → (len back : ℕ) → Option EndPlace
-marked_end ends front old len back =
-    slice_get (take old.ends ends) (old.ends - 1) >>= λ e.
-    if nat_lt front.ends old.ends && e.rows == old.rows && nat_lt 0 e.marker && nat_le (len - back) (e.start + e.gap) then Some e else None
+-- so many rows stand before the end of a part, and the line of its marker, if there is one, begins at an offset or behind it (own)
+abbrev pub keeps_marker : EndPlace → (rows at : ℕ) → Bool
+keeps_marker e rows at = e.rows == rows && nat_lt 0 e.marker && nat_le at (e.start + e.gap)
+
+-- the last end of a part behind one place and in front of another one, where it is the last item there and keeps its marker (own)
+abbrev pub marked_end : List EndPlace → (front old : Side) → ℕ → Option EndPlace
+marked_end ends front old at =
+    if nat_le old.ends front.ends then None
+    else (slice_get ends (old.ends - 1) >>= λ e. if keeps_marker e old.rows at then Some e else None)
 
 -- how many rows, ends of parts and bytes items are (own)
 abbrev pub side_of : List Item → Side

@@ -2,7 +2,7 @@
 ghost use Rattle.std.specs.Prelude.{◌≡◌, ◌<◌, ◌≤◌, ◌+◌, ◌^◌, ◌++◌, IfOk, OnOk, OnErr, length, map, drop};
 ghost use Rattle.std.specs.List.{All};
 ghost use Rattle.std.specs.Vec.{vec_capacity, vec_len};
-ghost use Rattle.yq_rows.specs.Kept.{placed_rows, raised};
+ghost use Rattle.yq_rows.specs.Kept.{kept_rows, placed_rows, raised};
 ghost use Rattle.yq_session.specs.Exchanging.{Exchanged, GivesWay, IsMovable, SamePlaces, joined_ends, moved_from};
 ghost use Rattle.yq_session.specs.Sides.{origin};
 
@@ -61,7 +61,7 @@ fn join_ends(
 /// Adds rows of a text of `len` bytes, before which so many more stand; there is room for them.
 fn push_rows(rows: &mut Vec<Offsets>, found: &Places, len: usize, by: usize)
     requires small { len < 2 ^ 32 }
-    requires room { vec_len rows.old + length (placed_rows len found.now) ≤ vec_capacity rows.old }
+    requires room { vec_len rows.old + length (kept_rows found.now) ≤ vec_capacity rows.old }
     requires within { All (λ o. o.start + by < 2 ^ 32) (placed_rows len found.now) }
     ensures { rows.new.items ≡ rows.old.items ++ map (raised by) (placed_rows len found.now) }
 {

@@ -1,5 +1,5 @@
 //! What is read where rows and ends of parts are exchanged.
-ghost use Rattle.std.specs.Prelude.{◌≡◌, ◌-◌, ◌≤◌, IfOk, OnOk, length, take, drop, string_bytes};
+ghost use Rattle.std.specs.Prelude.{◌≡◌, ◌-◌, ◌≤◌, ◌<◌, ◌^◌, IfOk, IfSome, OnOk, length, take, drop, string_bytes};
 ghost use Rattle.std.specs.Str.{IsCharBoundary};
 ghost use Rattle.yq_text.specs.Halves.{whole};
 ghost use Rattle.yq_rows.specs.Meter.{counted, line_count};
@@ -40,12 +40,13 @@ pub(crate) fn region(
     kept: Kept,
     new: &str,
 ) -> Result<String, AllocError>
-    requires { spec.AreEdges (whole text) touched kept }
+    requires edges { spec.AreEdges (whole text) touched kept }
+    requires small { length (spec.region_text (whole text) touched kept new.now) < 2 ^ 32 }
     ensures { IfOk result (λ s. string_bytes s ≡
         spec.region_text (whole text.entry) touched kept new.now) }
 {
     let front = between(text, touched.front.bytes, kept.front);
-    let back = between(text, text.len() - kept.back, touched.old.bytes);
+    let back = between(text, text.len().saturating_sub(kept.back), touched.old.bytes);
     let mut region = String::with_capacity(alloc, front.len() + new.len() + back.len())?;
     region.push_str(front.front)?;
     region.push_str(front.back)?;
@@ -69,6 +70,34 @@ fn unread(region: &str, marked: Option<EndPlace>) -> Option<EndPlace>
     }
 }
 
+/// What is read of a region at whose end the line of this one's marker needn't be.
+fn read_part(region: &str, unread: Option<EndPlace>) -> &str
+    requires { IfSome unread (λ e. IsCharBoundary region.now (length region.now - e.marker)) }
+    ensures { result.now ≡ spec.without_marker region.now unread }
+{
+    match unread {
+        Some(end) => {
+            let at = region.len().saturating_sub(end.marker());
+            region.split_at(at).0
+        }
+        None => region,
+    }
+}
+
+/// The ends of parts that were read come to be those of a region: the last one is given the marker that
+/// wasn't read, or, where others stand behind the region, the empty one behind it goes.
+fn settle(ends: &mut Vec<EndPlace>, unread: Option<EndPlace>, more: bool)
+    requires { 1 ≤ length ends.old.items }
+    ensures { ends.new.items ≡ spec.settled ends.old.items unread more }
+{
+    let last = ends.len() - 1;
+    match unread {
+        Some(end) => ends[last] = ends[last].marked_as(end),
+        None if more => ends.truncate(last),
+        None => {}
+    }
+}
+
 /// The rows and ends of parts of a region, which come in the place of those that are touched. The lines
 /// that are read are counted: all but that of a marker which stays.
 ///
@@ -86,23 +115,14 @@ pub(crate) fn read(
         counted (line_count (spec.read_part region.now touched.marked)) meter.old) }
 {
     let unread = unread(region, touched.marked);
-    let text = match unread {
-        Some(end) => region.split_at(region.len() - end.marker()).0,
-        None => region,
-    };
+    let text = read_part(region, unread);
     let mut places = match read_region(alloc, text, meter) {
         Ok(rows) => rows.into_places(),
         Err(ReadError::Memory) => return Err(AllocError),
         // The region is read alone as the rows and ends of the new text that it is.
         Err(ReadError::Fault(_)) => unreachable!(),
     };
-    let ends = places.ends.len();
-    match unread {
-        Some(end) => places.ends[ends - 1] = places.ends[ends - 1].marked_as(end),
-        // What is read of a text that isn't the last one has an empty end behind it.
-        None if touched.more => places.ends.truncate(ends - 1),
-        None => {}
-    }
+    settle(&mut places.ends, unread, touched.more);
     Ok(Come {
         places,
         read: text.len(),

@@ -112,22 +112,24 @@ fn side_behind(places: &Places, len: usize, back: usize) -> Side
     }
 }
 
-/// The last end of a part among those that a change touches, where no row stands behind it and the line of
-/// its marker is among so many bytes that are kept at the end of a text of `len` bytes.
-fn marked_end(
-    places: &Places,
-    front: Side,
-    old: Side,
-    len: usize,
-    back: usize,
-) -> Option<EndPlace>
-    ensures { result ≡ spec.marked_end places.now.ends.items front old len back }
+/// Whether so many rows stand before an end of a part, and the line of its marker, if there is one, begins
+/// at an offset or behind it.
+fn keeps_marker(end: EndPlace, rows: usize, at: usize) -> bool
+    ensures { result ≡ spec.keeps_marker end rows at }
 {
-    if old.ends <= front.ends || old.ends > places.ends.len() {
+    end.rows == rows && end.marker() > 0 && at <= end.stop()
+}
+
+/// The last end of a part among those that a change touches, where no row stands behind it there and the
+/// line of its marker begins at an offset or behind it.
+fn marked_end(ends: &[EndPlace], front: Side, old: Side, at: usize) -> Option<EndPlace>
+    ensures { result ≡ spec.marked_end ends.now front old at }
+{
+    if old.ends <= front.ends {
         return None;
     }
-    let end = places.ends[old.ends - 1];
-    if end.rows == old.rows && end.marker() > 0 && len - back <= end.stop() {
+    let end = *ends.get(old.ends - 1)?;
+    if keeps_marker(end, old.rows, at) {
         Some(end)
     } else {
         None
@@ -151,6 +153,6 @@ pub(crate) fn find_touched(places: &Places, len: usize, kept: Kept) -> Touched
         front,
         old,
         more: rows + ends > 0,
-        marked: marked_end(places, front, old, len, kept.back),
+        marked: marked_end(places.ends.as_slice(), front, old, len - kept.back),
     }
 }
