@@ -95,6 +95,7 @@ pub mod FlowNodeLaws
 pub mod MarkLaws
 pub mod DashLaws
 pub mod ScalarPlaceLaws
+pub mod EntryKeys
 pub mod KnownLaws
 pub mod KnownWalks
 pub mod KnownFronts
